@@ -1,1 +1,6 @@
+pub mod Ascending
+pub mod Bags
+pub mod NameLemmas
 pub mod NumberLemmas
+pub mod RowLemmas
+pub mod Rows
