@@ -1,4 +1,7 @@
 pub mod Bags
+pub mod Grew
+pub mod Held
+pub mod Keyed
 pub mod Listed
 pub mod Name
 pub mod Number

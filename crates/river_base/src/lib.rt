@@ -4,6 +4,8 @@
 mod duplicate;
 mod gate;
 mod item;
+mod kind;
+pub mod laws;
 mod listed;
 mod memory;
 mod name;
@@ -13,6 +15,7 @@ mod row;
 pub use duplicate::Duplicate;
 pub use gate::{Gate, NoGate};
 pub use item::{Batch, Flat, Flats, Item, Items, Rows, TimedFiles, TimedRows};
+pub use kind::{FlatType, QueueType};
 pub use listed::{Bytes, Listed, Numbers, Text};
 pub use memory::NoMemory;
 pub use name::{MAX_NAME, Name};
