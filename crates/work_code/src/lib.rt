@@ -1,7 +1,9 @@
-//! Tokens and units of a program's text.
+//! Tokens and units of a program's text, and expressions and statements as data.
 #![tactic(auto)]
 
 mod byte;
+mod code;
+mod expr;
 mod fault;
 mod lexer;
 mod piece;
@@ -9,6 +11,8 @@ mod sign;
 mod token;
 mod tokens;
 
+pub use code::{Code, Stmt, Stmts};
+pub use expr::{BinOp, Expr, Exprs};
 pub use fault::LexFault;
 pub use lexer::lex;
 pub use sign::Symbol;
