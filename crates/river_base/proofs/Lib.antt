@@ -1,1 +1,11 @@
+pub mod Ascending
+pub mod Bags
+pub mod HeldLemmas
+pub mod Keyed
+pub mod KeyedLookups
+pub mod LoopLemmas
+pub mod NameLemmas
 pub mod NumberLemmas
+pub mod OrderLemmas
+pub mod RowLemmas
+pub mod Rows

@@ -1,2 +1,9 @@
+pub mod Bags
+pub mod Grew
+pub mod Held
+pub mod Keyed
 pub mod Listed
+pub mod Name
 pub mod Number
+pub mod Row
+pub mod Short

@@ -1,12 +1,23 @@
 //! What all crates of river speak of: numbers, lists, and the gate of a firing.
 #![tactic(auto)]
 
+mod duplicate;
 mod gate;
+mod item;
+mod kind;
+pub mod laws;
 mod listed;
 mod memory;
+mod name;
 mod number;
+mod row;
 
+pub use duplicate::Duplicate;
 pub use gate::{Gate, NoGate};
+pub use item::{Batch, Flat, Flats, Item, Items, Rows, TimedFiles, TimedRows};
+pub use kind::{FlatType, QueueType};
 pub use listed::{Bytes, Listed, Numbers, Text};
 pub use memory::NoMemory;
+pub use name::{MAX_NAME, Name};
 pub use number::{add, mul, quot, rem, sub};
+pub use row::{MAX_ROW, Row, compare};

@@ -4,8 +4,14 @@ ghost use Rattle.std.specs.Borrow.{sem};
 ghost use Rattle.std.specs.Slice.Iter.{iter_rest};
 ghost use Rattle.std.specs.Iterator.Adapters.{IterYieldsInOrder, IterYieldsInReverse};
 
-use crate::NoMemory;
+ghost use Rattle.std.specs.Cmp.Lexicographic.{pointwise, lists_per};
+ghost use Rattle.std.specs.List.Sorted.{IsPermutation, IsSorted};
+ghost use Rattle.std.proofs.lemmas.Cmp.{lists_equiv};
+ghost use Rattle.river_base.specs.Row.{row_cmp, in_order};
+
+use crate::{NoMemory, Row};
 use std::alloc::Global;
+use std::fmt;
 use std::marker::Model;
 use std::slice;
 
@@ -143,5 +149,39 @@ impl Listed<u8> {
     {
         self.items.extend_from_slice(bytes)?;
         Ok(())
+    }
+}
+
+impl Listed<Row> {
+    /// Puts the rows in ascending order; changes nothing where there is no memory.
+    #[tactic(auto, using(crate::proofs::Rows::in_order_from_sort))]
+    pub fn sort(&mut self) -> Result<(), NoMemory>
+        ensures same_bag { IsPermutation self.old self.new }
+        ensures ok { OnOk result (self.new ≡ in_order self.old) }
+        ensures ascending { OnOk result (IsSorted row_cmp self.new) }
+        ensures err { OnErr result (self.new ≡ self.old) }
+    {
+        self.items.sort()?;
+        Ok(())
+    }
+}
+
+impl<T: PartialEq> PartialEq for Listed<T> {
+    ghost eq = { pointwise T.eq };
+
+    ghost laws = { lists_per T.laws };
+
+    fn eq(&self, other: &Listed<T>) -> bool {
+        self.items == other.items
+    }
+}
+
+impl<T: Eq> Eq for Listed<T> {
+    ghost laws = { lists_equiv T.Eq.laws };
+}
+
+impl<T: fmt::Debug> fmt::Debug for Listed<T> {
+    fn fmt<W: fmt::Write>(&self, f: &mut fmt::Formatter<W>) -> fmt::Result {
+        f.debug_list().entries(self.items.as_slice()).finish()
     }
 }

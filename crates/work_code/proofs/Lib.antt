@@ -1,4 +1,7 @@
+<<<<<<< HEAD
 pub mod Cuts
+=======
+>>>>>>> origin/main
 pub mod Lists
 pub mod Marks
 pub mod Pieces

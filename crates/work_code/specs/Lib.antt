@@ -1,5 +1,8 @@
 pub mod Classes
+<<<<<<< HEAD
 pub mod Cut
+=======
+>>>>>>> origin/main
 pub mod Lent
 pub mod Lexis
 pub mod Pieces

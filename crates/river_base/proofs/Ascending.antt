@@ -1,0 +1,76 @@
+-- A list in ascending order is a function of the bag.
+use Rattle.std.proofs.Common.{◌≡◌, suc, Bool, true, false, cond, List, [], ◌∷◌, refl, sym, ap, ◌∙◌, arith}
+use Rattle.std.specs.Cmp.{IsStrictWeakOrder}
+use Rattle.std.specs.List.Sorted.{IsPermutation, IsSortedBy}
+use native.Mathlib.Numerals.{unary_clauses}
+use Rattle.std.proofs.lemmas.Bool.{true≢false}
+use Rattle.river_base.specs.Bags.{place, ascending}
+use Rattle.river_base.proofs.Bags.{fold-IsPermutation, fold_first}
+
+module _ {K : Type 0} (lt : K → K → Bool) (o : IsStrictWeakOrder lt) (exact : (x y : K) → lt x y ≡ false → lt y x ≡ false → x ≡ y) where
+  above : (x y z : K) (b : Bool) → lt y x ≡ b → lt z x ≡ true → lt z y ≡ false → b ≡ true
+  above x y z true e h g = refl
+  above x y z false e h g = sym (o.chain z y x g e) ∙ h
+
+  in_turn : (x y : K) (rest : List K) (b c : Bool) → lt y x ≡ b → lt x y ≡ c → cond b (y ∷ (x ∷ rest)) (x ∷ (y ∷ rest)) ≡ cond c (x ∷ (y ∷ rest)) (y ∷ (x ∷ rest))
+  in_turn x y rest true true h g = absurd (true≢false (sym g ∙ o.one_way y x h))
+  in_turn x y rest true false h g = refl
+  in_turn x y rest false true h g = refl
+  in_turn x y rest false false h g = let e : x ≡ y = exact x y g h in λ i. e i ∷ (sym e i ∷ rest)
+
+  past : (x z : K) (zs : List K) → lt z x ≡ true → place lt x (z ∷ zs) ≡ z ∷ place lt x zs
+  past x z zs h = ap (λ b. cond b (z ∷ place lt x zs) (x ∷ (z ∷ zs))) h
+
+  here : (x z : K) (zs : List K) → lt z x ≡ false → place lt x (z ∷ zs) ≡ x ∷ (z ∷ zs)
+  here x z zs h = ap (λ b. cond b (z ∷ place lt x zs) (x ∷ (z ∷ zs))) h
+
+  mixed : (x y z : K) (zs : List K) → lt z y ≡ true → lt z x ≡ false → place lt x (place lt y (z ∷ zs)) ≡ place lt y (place lt x (z ∷ zs))
+  mixed x y z zs h g =
+      ap (place lt x) (past y z zs h) ∙ here x z (place lt y zs) g
+      ∙ sym (ap (place lt y) (here x z zs g) ∙ past y x (z ∷ zs) (above y x z (lt x y) refl h g) ∙ ap (λ l. x ∷ l) (past y z zs h))
+
+  -- to put x in its place, and then y, or the other way round
+  pub place-place : (x y : K) (zs : List K) → place lt x (place lt y zs) ≡ place lt y (place lt x zs)
+  place-place x y [] = in_turn x y [] (lt y x) (lt x y) refl refl
+  place-place x y (z ∷ zs) = step (place-place x y zs) (lt z y) (lt z x) refl refl where
+    step : place lt x (place lt y zs) ≡ place lt y (place lt x zs) → (p q : Bool) → lt z y ≡ p → lt z x ≡ q → place lt x (place lt y (z ∷ zs)) ≡ place lt y (place lt x (z ∷ zs))
+    step same true true h g =
+        ap (place lt x) (past y z zs h) ∙ past x z (place lt y zs) g ∙ ap (λ l. z ∷ l) same
+        ∙ sym (ap (place lt y) (past x z zs g) ∙ past y z (place lt x zs) h)
+    step same true false h g = mixed x y z zs h g
+    step same false true h g = sym (mixed y x z zs g h)
+    step same false false h g =
+        ap (place lt x) (here y z zs h)
+        ∙ ap (λ l. cond (lt y x) (y ∷ l) (x ∷ (y ∷ (z ∷ zs)))) (here x z zs g)
+        ∙ in_turn x y (z ∷ zs) (lt y x) (lt x y) refl refl
+        ∙ sym (ap (place lt y) (here x z zs g) ∙ ap (λ l. cond (lt x y) (x ∷ l) (y ∷ (x ∷ (z ∷ zs)))) (here y z zs h))
+
+  commutes : (b : List K) (x y : K) → place lt y (place lt x b) ≡ place lt x (place lt y b)
+  commutes b x y = place-place y x b
+
+  -- the ascending list of a bag
+  pub ascending-IsPermutation : (xs ys : List K) → IsPermutation xs ys → ascending lt xs ≡ ascending lt ys
+  ascending-IsPermutation xs ys h = fold-IsPermutation (λ done x. place lt x done) commutes [] xs ys h
+
+  pub ascending-cons : (x : K) (xs : List K) → ascending lt (x ∷ xs) ≡ place lt x (ascending lt xs)
+  ascending-cons x xs = fold_first (λ done y. place lt y done) commutes [] x xs
+
+  first_stays : (x : K) (xs : List K) → IsSortedBy lt (x ∷ xs) → place lt x xs ≡ x ∷ xs
+  first_stays x [] h = refl
+  first_stays x (y ∷ ys) h = here x y ys (h 0 x (omega arith) (omega arith))
+
+  later : (x : K) (xs : List K) → IsSortedBy lt (x ∷ xs) → IsSortedBy lt xs
+  later x xs h k d low high = simp unary_clauses (simp unary_clauses at (h (suc k) d (omega arith) (omega arith)))
+
+  -- a list in order is its own ascending list
+  pub ascending_sorted : (xs : List K) → IsSortedBy lt xs → ascending lt xs ≡ xs
+  ascending_sorted [] h = refl
+  ascending_sorted (x ∷ xs) h = ascending-cons x xs ∙ ap (place lt x) (ascending_sorted xs (later x xs h)) ∙ first_stays x xs h
+
+  -- so two lists in order with the same bag are one list
+  pub same_from_sorted : (xs ys : List K) → IsPermutation xs ys → IsSortedBy lt xs → IsSortedBy lt ys → xs ≡ ys
+  same_from_sorted xs ys h s t = sym (ascending_sorted xs s) ∙ ascending-IsPermutation xs ys h ∙ ascending_sorted ys t
+
+  -- and what a sort leaves is the ascending list
+  pub ascending_from_sort : (xs ys : List K) → IsPermutation xs ys → IsSortedBy lt ys → ys ≡ ascending lt xs
+  ascending_from_sort xs ys h t = sym (ascending-IsPermutation xs ys h ∙ ascending_sorted ys t)

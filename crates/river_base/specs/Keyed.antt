@@ -1,0 +1,18 @@
+-- Tables that keep a value for each key.
+use Rattle.std.specs.Prelude.{List, [], ◌∷◌, fold, Option, Some, None, unwrap_or, if◌then◌else◌}
+use Rattle.std.specs.Ordering.{match_ordering, is_eq}
+use Rattle.std.specs.declared.cmp.Ordering.{Ordering}
+
+module _ {K V W : Type 0} (cmp : K → K → Ordering) (start : V) (merge : V → W → V) where
+  -- w is merged into the value of the key, or into `start` at a new key
+  abbrev pub put : List (K × V) → K × W → List (K × V)
+  put [] a = (a.0, merge start a.1) ∷ []
+  put (e ∷ es) a = match_ordering (cmp a.0 e.0) ((a.0, merge start a.1) ∷ (e ∷ es)) ((e.0, merge e.1 a.1) ∷ es) (e ∷ put es a)
+
+  -- the table of the pairs that were added
+  abbrev pub keyed : List (K × W) → List (K × V)
+  keyed adds = fold put [] adds
+
+  -- what was merged at a key, in the order of the adds; None where nothing was added there
+  abbrev pub merged : K → List (K × W) → Option V
+  merged k adds = fold (λ so_far a. if is_eq (cmp k a.0) then Some (merge (unwrap_or so_far start) a.1) else so_far) None adds

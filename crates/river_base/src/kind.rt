@@ -1,0 +1,17 @@
+// Types of queues.
+
+/// What a queue without packs carries: rows, batches in which each instant of a stream has its rows, or batches of which each is
+/// the whole content of a relation. The number is the width of the rows, 1 to 16 in a valid plan.
+#[derive(Clone, Copy, Debug, PartialEq, Eq)]
+pub enum FlatType {
+    Rows(u32),
+    Stream(u32),
+    Relation(u32),
+}
+
+/// What a queue carries: items of a type, or packs of them.
+#[derive(Clone, Copy, Debug, PartialEq, Eq)]
+pub enum QueueType {
+    Flat(FlatType),
+    Pack(FlatType),
+}

@@ -1,0 +1,117 @@
+// Rows of values.
+ghost use Rattle.std.specs.Prelude.{◌≡◌, ◌≤◌, ◌<◌, All, length, Some};
+ghost use Rattle.std.specs.Cmp.{partial_equiv_from_equiv, partial_order_from_agreeing_total};
+ghost use Rattle.std.proofs.Common.{refl};
+ghost use Rattle.river_base.specs.Number.{IsValue};
+ghost use Rattle.river_base.specs.Row.{row_eq, row_cmp, row_equiv, row_total, row_ties};
+
+use std::cmp::Ordering;
+use std::marker::Model;
+
+/// How many values a row has at most.
+pub const MAX_ROW: usize = 16;
+
+/// A row of 1 to 16 values, which contracts see as the list of its values.
+#[derive(Clone, Copy, Debug)]
+pub struct Row {
+    width: usize,
+    values: [i64; 16],
+}
+
+impl Model for Row {
+    ghost use Rattle.std.specs.Prelude.{ℤ, pos, List, length, take};
+    ghost use Rattle.river_base.specs.Row.{IsRow};
+    ghost use Rattle.river_base.specs.Short.{padded, rebuilt};
+
+    ghost Value = { List ℤ };
+
+    ghost view = { λ r. take r.width r.values };
+
+    ghost invariant = { λ r. IsRow r.width r.values };
+
+    ghost inverse = { λ xs. record { width = length xs; values = padded 16 (pos 0) xs } };
+
+    ghost inverse_ok = { λ a h. rebuilt 16 (pos 0) (λ w v. record { width = w; values = v }) a.width a.values h.short };
+}
+
+impl Row {
+    /// The row of these values, of which there are 1 to 16.
+    pub fn from_slice(values: &[i64]) -> Row
+        requires some { 1 ≤ length values.now }
+        requires at_most { length values.now ≤ 16 }
+        ensures { result ≡ values.now }
+    {
+        let mut all = [0; 16];
+        for i in 0..values.len() {
+            all[i] = values[i];
+        }
+        Row {
+            width: values.len(),
+            values: all,
+        }
+    }
+
+    /// The values, from left to right.
+    pub fn values(&self) -> &[i64]
+        ensures values { result.now ≡ self.now }
+        ensures in_range { All IsValue self.now }
+        ensures some { 1 ≤ length self.now }
+        ensures at_most { length self.now ≤ 16 }
+    {
+        &self.values[..self.width]
+    }
+
+    /// How many values there are, 1 to 16.
+    pub fn width(&self) -> usize
+        ensures width { result ≡ length self.now }
+        ensures some { 1 ≤ length self.now }
+        ensures at_most { length self.now ≤ 16 }
+    {
+        self.width
+    }
+}
+
+/// The order of rows: by their values from left to right; a proper prefix comes first.
+pub fn compare(a: &Row, b: &Row) -> Ordering
+    ensures { result ≡ row_cmp a.now b.now }
+{
+    a.values().cmp(b.values())
+}
+
+impl PartialEq for Row {
+    ghost eq = { row_eq };
+
+    ghost laws = { partial_equiv_from_equiv row_equiv };
+
+    fn eq(&self, other: &Row) -> bool {
+        self.values() == other.values()
+    }
+}
+
+impl Eq for Row {
+    ghost laws = { row_equiv };
+}
+
+impl PartialOrd for Row {
+    ghost partial_cmp = { λ a b. Some (row_cmp a b) };
+
+    ghost laws = { partial_order_from_agreeing_total row_cmp row_total (λ a b. refl) row_ties };
+
+    fn partial_cmp(&self, other: &Row) -> Option<Ordering> {
+        Some(compare(self, other))
+    }
+}
+
+impl Ord for Row {
+    ghost cmp = { row_cmp };
+
+    ghost total = { row_total };
+
+    ghost matches_partial_cmp = { λ a b. refl };
+
+    ghost matches_eq = { row_ties };
+
+    fn cmp(&self, other: &Row) -> Ordering {
+        compare(self, other)
+    }
+}

@@ -1,0 +1,6 @@
+pub mod Causes
+pub mod Fetched
+pub mod Files
+pub mod Held
+pub mod Memory
+pub mod Taken

@@ -1,0 +1,114 @@
+-- Lists of items, up to what stops them.
+use Rattle.std.proofs.Common.{◌≡◌, ℕ, ◌<◌, ◌+◌, List, [], ◌∷◌, ◌++◌, length, Bool, true, false, cond, Option, Some, None, refl, sym, ap, ◌∙◌, subst, arith, append_assoc, append-nil, length-append}
+use Rattle.std.specs.Prelude.{not}
+use Rattle.work_code.specs.Tok.{Tok, symbol}
+use Rattle.work_code.specs.declared.sign.Symbol.TheVariants.{Comma}
+use Rattle.text_forms.specs.Repeat.{Turn, Stop, Fail, Next, repeated}
+use Rattle.text_forms.specs.Parse as parse
+use Rattle.text_forms.specs.Forms as form
+use Rattle.text_forms.proofs.Pairs.{some_inj, pair_inj}
+use Rattle.text_forms.proofs.Symbols.{begins_with-symbol}
+use Rattle.text_forms.proofs.Repeat.{Shortens, repeated-next, repeated-stop, repeated-keeps}
+use Rattle.text_forms.proofs.Exact.{Exact, Front, Any, exact-both, exact-after, exact-seen, exact-less}
+
+-- items of a list: each has a token and begins with nothing that stops, and what comes behind one is allowed there
+pub record Listed {A : Type 0} (stop : List Tok → Bool) (F : A → List Tok → Type 0) (E : List Tok → Type 0) : Type 0 where
+  pub some : (v : A) (s : List Tok) → F v s → 0 < length s
+  pub begins : (v : A) (s rest : List Tok) → F v s → stop (s ++ rest) ≡ false
+  pub follows : (v : A) (s rest : List Tok) → F v s → E (s ++ rest)
+
+-- one more item at the end
+pub Each-more : {A : Type 0} (F : A → List Tok → Type 0) (vs : List A) (front : List Tok) (v : A) (s : List Tok) → form.Each F vs front → F v s → form.Each F (vs ++ v ∷ []) (front ++ s)
+Each-more F [] front v s h f = (s, [], ap (λ (l : List Tok). l ++ s) h ∙ sym (append-nil s), f, refl)
+Each-more F (w ∷ ws) front v s h f =
+    (h.0, h.1 ++ s, ap (λ (l : List Tok). l ++ s) h.2 ∙ append_assoc h.0 h.1 s, h.3, Each-more F ws h.1 v s h.4 f)
+
+module _ {A : Type 0} {F : A → List Tok → Type 0} {p : parse.Parse A} {E : List Tok → Type 0} (stop : List Tok → Bool) (x : Exact F p E) (listed : Listed stop F E) where
+  -- how a turn went on
+  turned : (done : List A) (b : Bool) (r : Option (A × List Tok)) (y : List A) (us : List Tok) → cond b Stop (parse.item_turn done r) ≡ Next y us → (b ≡ false) × (q : A × List Tok) × (r ≡ Some q) × (y ≡ done ++ q.0 ∷ []) × (us ≡ q.1)
+  turned done true r y us e = cc
+  turned done false None y us e = cc
+  turned done false (Some q) y us e = (refl, q, refl, sym (next_value e), sym (next_rest e)) where
+    next_value : Next (done ++ q.0 ∷ []) q.1 ≡ Next y us → done ++ q.0 ∷ [] ≡ y
+    next_value same = cc
+
+    next_rest : Next (done ++ q.0 ∷ []) q.1 ≡ Next y us → q.1 ≡ us
+    next_rest same = cc
+
+  pub many-shortens : Shortens (parse.many_turn stop p)
+  many-shortens done ts y us e =
+      let t = turned done (stop ts) (p ts) y us e in
+      let f = x.sound ts t.1.0 t.1.1 t.2 in
+      let size : length ts ≡ length f.front + length t.1.1 = ap length f.is ∙ length-append f.front t.1.1 in
+      let some : 0 < length f.front = listed.some t.1.0 f.front f.formed in
+      let end : length us ≡ length t.1.1 = ap length t.4 in
+      omega arith
+
+  -- what was read so far
+  SoFar : List Tok → List A → List Tok → Type 0
+  SoFar ts done us = (front : List Tok) × (ts ≡ front ++ us) × form.Each F done front
+
+  keeps : (ts : List Tok) (done : List A) (us : List Tok) (y : List A) (vs : List Tok) → SoFar ts done us → parse.many_turn stop p done us ≡ Next y vs → SoFar ts y vs
+  unfolding SoFar
+  keeps ts done us y vs so e =
+      let t = turned done (stop us) (p us) y vs e in
+      let f = x.sound us t.1.0 t.1.1 t.2 in
+      let all : ts ≡ (so.0 ++ f.front) ++ vs = so.1 ∙ ap (λ (l : List Tok). so.0 ++ l) (f.is ∙ ap (λ (l : List Tok). f.front ++ l) (sym t.4)) ∙ sym (append_assoc so.0 f.front vs) in
+      (so.0 ++ f.front, all, subst (λ (w : List A). form.Each F w (so.0 ++ f.front)) (sym t.3) (Each-more F done so.0 t.1.0 f.front so.2 f.formed))
+
+  stopped : (b : Bool) (t : Turn (List A)) → cond b Stop t ≡ Stop → (t ≡ Stop → ⊥) → b ≡ true
+  stopped true t e goes = refl
+  stopped false t e goes = absurd (goes e)
+
+  goes_on : (done : List A) (r : Option (A × List Tok)) → parse.item_turn done r ≡ Stop → ⊥
+  goes_on done None e = cc
+  goes_on done (Some q) e = cc
+
+  many-sound : (ts : List Tok) (v : List A) (rest : List Tok) → parse.many stop p ts ≡ Some (v, rest) → Front (form.Each F) v ts rest × (stop rest ≡ true)
+  unfolding SoFar
+  many-sound ts v rest e =
+      let end = repeated-keeps (parse.many_turn stop p) (SoFar ts) (keeps ts) [] ts v rest ([], refl, refl) e in
+      (record { front = end.0.0; is = end.0.1; formed = end.0.2 }, stopped (stop rest) (parse.item_turn v (p rest)) end.1 (goes_on v (p rest)))
+
+  many-complete : (done vs : List A) (s rest : List Tok) → form.Each F vs s → E rest → stop rest ≡ true → repeated (parse.many_turn stop p) done (s ++ rest) ≡ Some (done ++ vs, rest)
+  many-complete done [] s rest h allowed stops =
+      rw h (repeated-stop (parse.many_turn stop p) done rest (ap (λ (b : Bool). cond b Stop (parse.item_turn done (p rest))) stops) ∙ ap (λ (l : List A). Some (l, rest)) (sym (append-nil done)))
+  many-complete done (v ∷ vs) s rest h allowed stops =
+      let split : s ++ rest ≡ h.0 ++ (h.1 ++ rest) = ap (λ (l : List Tok). l ++ rest) h.2 ∙ append_assoc h.0 h.1 rest in
+      let turn : parse.many_turn stop p done (h.0 ++ (h.1 ++ rest)) ≡ Next (done ++ v ∷ []) (h.1 ++ rest) =
+      rw (listed.begins v h.0 (h.1 ++ rest) h.3, x.complete v h.0 (h.1 ++ rest) h.3 (behind vs h.1 h.4)) refl in
+      ap (λ (l : List Tok). repeated (parse.many_turn stop p) done l) split
+      ∙ repeated-next (parse.many_turn stop p) many-shortens done (h.0 ++ (h.1 ++ rest)) (done ++ v ∷ []) (h.1 ++ rest) turn
+      ∙ many-complete (done ++ v ∷ []) vs h.1 rest h.4 allowed stops ∙ ap (λ (l : List A). Some (l, rest)) (append_assoc done (v ∷ []) vs)
+    where
+      behind : (ws : List A) (back : List Tok) → form.Each F ws back → E (back ++ rest)
+      behind [] back g = subst (λ (l : List Tok). E (l ++ rest)) (sym g) allowed
+      behind (w ∷ ws) back g = subst (λ (l : List Tok). E l) (sym (ap (λ (l : List Tok). l ++ rest) g.2 ∙ append_assoc g.0 g.1 rest)) (listed.follows w g.0 (g.1 ++ rest) g.3)
+
+  -- items until what stops them
+  pub exact-many : Exact (form.Each F) (parse.many stop p) (λ rest. E rest × (stop rest ≡ true))
+  exact-many = record {
+    sound = λ ts v rest e. (many-sound ts v rest e).0;
+    complete = λ v s rest h d. many-complete [] v s rest h d.0 d.1;
+  }
+
+-- items with commas between them
+module _ {A : Type 0} {F : A → List Tok → Type 0} {p : parse.Parse A} {E : List Tok → Type 0} (x : Exact F p E) (comma : (rest : List Tok) → E (symbol Comma ∷ rest)) where
+  begins_comma : (v : A) (s rest : List Tok) → form.After (Comma ∷ []) F v s → (t : List Tok) × (s ++ rest ≡ symbol Comma ∷ t)
+  begins_comma v s rest h = (h.back ++ rest, ap (λ (l : List Tok). l ++ rest) h.is)
+
+  listed_commas : Listed parse.no_comma (form.After (Comma ∷ []) F) E
+  listed_commas = record {
+    some = λ v s h. rw h.is (omega arith);
+    begins = λ v s rest h. rw (begins_comma v s rest h).1 refl;
+    follows = λ v s rest h. subst E (sym (begins_comma v s rest h).1) (comma (begins_comma v s rest h).0);
+  }
+
+  behind_first : (vs : List A) (s rest : List Tok) → form.Each (form.After (Comma ∷ []) F) vs s → E rest × (parse.no_comma rest ≡ true) → E (s ++ rest)
+  behind_first [] s rest h d = subst (λ (l : List Tok). E (l ++ rest)) (sym h) d.0
+  behind_first (w ∷ ws) s rest h d =
+      subst (λ (l : List Tok). E l) (sym (ap (λ (l : List Tok). l ++ rest) h.2 ∙ append_assoc h.0 h.1 rest)) (listed_commas.follows w h.0 (h.1 ++ rest) h.3)
+
+  pub exact-commas : Exact (form.Commas F) (parse.commas p) (λ rest. E rest × (parse.no_comma rest ≡ true))
+  exact-commas =
+      exact-seen (λ (v : A × List A). v.0 ∷ v.1) (exact-both x (exact-many parse.no_comma (exact-after (Comma ∷ []) x) listed_commas) behind_first)

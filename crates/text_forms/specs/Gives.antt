@@ -1,0 +1,17 @@
+-- How a method of a reader stands to a reading function.
+use Rattle.std.specs.Prelude.{◌≡◌, List, Option, None, Some, Result, Ok, Err}
+use Rattle.work_code.specs.Tok.{Tok}
+use Rattle.text_forms.specs.declared.fault.Fault.{Fault}
+use Rattle.text_forms.specs.declared.fault.Fault.TheVariants.{Syntax, NoMemory}
+
+-- the method gives a value, of which this is the view, and leaves the tokens behind it
+abbrev pub Gives : {X A : Type 0} → (X → A) → Result X Fault → List Tok → Option (A × List Tok) → Type 0
+Gives view (Ok x) rest read = read ≡ Some (view x, rest)
+Gives view (Err Syntax) rest read = read ≡ None
+Gives view (Err NoMemory) rest read = Unit {0}
+
+-- the method passes over tokens
+abbrev pub Passes : {X : Type 0} → Result X Fault → List Tok → Option (List Tok) → Type 0
+Passes (Ok x) rest read = read ≡ Some rest
+Passes (Err Syntax) rest read = read ≡ None
+Passes (Err NoMemory) rest read = Unit {0}

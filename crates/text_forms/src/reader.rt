@@ -1,0 +1,158 @@
+// A reader of tokens.
+ghost use Rattle.std.specs.Prelude.{◌≡◌, MatchOption, List, [], ◌∷◌, if◌then◌else◌, IsTrue, ◌↔◌};
+ghost use Rattle.text_forms.specs.Tail.{tail};
+ghost use Rattle.text_forms.specs.Parse.{begins_with, is_word_at, word_at, run_at, name_at, var_at, number_at, count_at};
+ghost use Rattle.text_forms.specs.Gives.{Gives, Passes};
+
+use crate::Fault;
+use std::marker::Model;
+use work_code::{Lexeme, Symbol, Token};
+
+/// A reader of tokens, which contracts see as the tokens that are left.
+#[derive(Drop)]
+pub struct Reader<'a> {
+    rest: &'a [Lexeme<'a>],
+}
+
+impl<'a> Model for Reader<'a> {
+    ghost use Rattle.std.specs.Prelude.{List};
+    ghost use Rattle.work_code.specs.Tok.{Tok, tokens_of};
+
+    ghost Value = { List Tok };
+
+    ghost view = { λ r. tokens_of r.rest.now };
+}
+
+impl<'a> Reader<'a> {
+    ghost use Rattle.work_code.specs.Tok.{token_of, tokens_of};
+
+    /// A reader of these tokens.
+    pub fn new(tokens: &'a [Lexeme<'a>]) -> Self
+        ensures { result ≡ tokens_of tokens.now }
+    {
+        Reader { rest: tokens }
+    }
+
+    /// The next token.
+    pub fn peek(&self) -> Option<Token<'a>>
+        ensures { MatchOption result (self.now ≡ []) (λ t. self.now ≡ token_of t ∷ tail self.now) }
+    {
+        Some(self.rest.first()?.token)
+    }
+
+    /// Passes over the next token.
+    pub fn skip(&mut self)
+        ensures { self.new ≡ tail self.old }
+    {
+        if let [_, rest @ ..] = self.rest {
+            self.rest = rest;
+        }
+    }
+
+    /// Whether no token is left.
+    pub fn is_at_end(&self) -> bool
+        ensures { IsTrue result ↔ (self.now ≡ []) }
+    {
+        self.rest.is_empty()
+    }
+
+    /// Whether this symbol comes next.
+    pub fn is_at(&self, symbol: Symbol) -> bool
+        ensures { result ≡ begins_with symbol self.now }
+    {
+        let Some(Token::Sign(next)) = self.peek() else {
+            return false;
+        };
+        next == symbol
+    }
+
+    /// Passes over this symbol where it comes next, and says whether it did.
+    pub fn takes(&mut self, symbol: Symbol) -> bool
+        ensures taken { result ≡ begins_with symbol self.old }
+        ensures rest { self.new ≡ (if result then tail self.old else self.old) }
+    {
+        let taken = self.is_at(symbol);
+        if taken {
+            self.skip();
+        }
+        taken
+    }
+
+    /// Passes over these symbols, which have to come next.
+    pub fn expect(&mut self, run: &[Symbol]) -> Result<(), Fault>
+        ensures { Passes result self.new (run_at run.now self.old) }
+    {
+        for symbol in run {
+            if !self.takes(*symbol) {
+                return Err(Fault::Syntax);
+            }
+        }
+        Ok(())
+    }
+
+    /// Whether this word comes next.
+    pub fn is_at_word(&self, word: &[u8]) -> bool
+        ensures { result ≡ is_word_at word.now self.now }
+    {
+        let Some(Token::Name(next)) = self.peek() else {
+            return false;
+        };
+        next == word
+    }
+
+    /// Passes over this word, which has to come next.
+    pub fn word(&mut self, word: &[u8]) -> Result<(), Fault>
+        ensures { Passes result self.new (word_at word.now self.old) }
+    {
+        if self.is_at_word(word) {
+            self.skip();
+            Ok(())
+        } else {
+            Err(Fault::Syntax)
+        }
+    }
+
+    /// The name that has to come next.
+    pub fn name(&mut self) -> Result<&'a [u8], Fault>
+        ensures { Gives (λ text. text.now) result self.new (name_at self.old) }
+    {
+        let Some(Token::Name(text)) = self.peek() else {
+            return Err(Fault::Syntax);
+        };
+        self.skip();
+        Ok(text)
+    }
+
+    /// The variable that has to come next, without its `$`.
+    pub fn var(&mut self) -> Result<&'a [u8], Fault>
+        ensures { Gives (λ text. text.now) result self.new (var_at self.old) }
+    {
+        let Some(Token::Var(text)) = self.peek() else {
+            return Err(Fault::Syntax);
+        };
+        self.skip();
+        Ok(text)
+    }
+
+    /// The number that has to come next.
+    pub fn number(&mut self) -> Result<u64, Fault>
+        ensures { Gives (λ value. value) result self.new (number_at self.old) }
+    {
+        let Some(Token::Number(value)) = self.peek() else {
+            return Err(Fault::Syntax);
+        };
+        self.skip();
+        Ok(value)
+    }
+
+    /// The number that has to come next, which counts something: at most 2^32 - 1.
+    pub fn count(&mut self) -> Result<u32, Fault>
+        ensures { Gives (λ value. value) result self.new (count_at self.old) }
+    {
+        let value = self.number()?;
+        match u32::try_from(value) {
+            Ok(count) => Ok(count),
+            Err(_) => Err(Fault::Syntax),
+        }
+    }
+}
