@@ -1,7 +1,4 @@
-<<<<<<< HEAD
 pub mod Cuts
-=======
->>>>>>> origin/main
 pub mod Lists
 pub mod Marks
 pub mod Pieces

@@ -1,8 +1,5 @@
 pub mod Classes
-<<<<<<< HEAD
 pub mod Cut
-=======
->>>>>>> origin/main
 pub mod Lent
 pub mod Lexis
 pub mod Pieces
