@@ -2,7 +2,11 @@
 #![tactic(auto)]
 
 mod fault;
+mod language;
 mod reader;
+mod tree;
 
 pub use fault::Fault;
+pub use language::Language;
 pub use reader::Reader;
+pub use tree::Tree;
