@@ -78,7 +78,7 @@ exact-nothing {A} x = record { sound = sound; complete = complete } where
   complete v s rest f any = rw (f.0, f.1) refl
 
 -- how a reading that went on began
-then_read-some : {A B : Type 0} (r : Option (A × List Tok)) (more : A → List Tok → Option (B × List Tok)) (v : B × List Tok) → parse.then_read r more ≡ Some v → (q : A × List Tok) × (r ≡ Some q) × (more q.0 q.1 ≡ Some v)
+pub then_read-some : {A B : Type 0} (r : Option (A × List Tok)) (more : A → List Tok → Option (B × List Tok)) (v : B × List Tok) → parse.then_read r more ≡ Some v → (q : A × List Tok) × (r ≡ Some q) × (more q.0 q.1 ≡ Some v)
 then_read-some None more v e = cc
 then_read-some (Some q) more v e = (q, refl, e)
 
@@ -86,7 +86,7 @@ then_rest-some : {B : Type 0} (r : Option (List Tok)) (more : List Tok → Optio
 then_rest-some None more v e = cc
 then_rest-some (Some q) more v e = (q, refl, e)
 
-if-some : {B : Type 0} (b : Bool) (r : Option B) (v : B) → cond b r None ≡ Some v → (b ≡ true) × (r ≡ Some v)
+pub if-some : {B : Type 0} (b : Bool) (r : Option B) (v : B) → cond b r None ≡ Some v → (b ≡ true) × (r ≡ Some v)
 if-some true r v e = (refl, e)
 if-some false r v e = cc
 

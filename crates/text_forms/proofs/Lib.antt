@@ -1,4 +1,5 @@
 pub mod Exact
+pub mod Ladder
 pub mod Many
 pub mod Pairs
 pub mod Repeat
