@@ -129,31 +129,31 @@ module _ (l : Language) where
     named-sound room text ts t rest e =
         choose (has_input l && bytes_eq text (codes "input")) _ _ (t, rest) e
         (λ b r.
-          let is = text-is text (codes "input") (has_input l) b in
-          put room text t ts rest ((exact-seen tree.Input (exact-place n)).sound ts t rest r)
-            (λ front h. subst (λ (u : Spoken). IsTerm l n 0 (suc room) u (name text ∷ front)) (sym h.is) (input-term n room h.value text front is.0 is.1 h.formed)))
+        let is = text-is text (codes "input") (has_input l) b in
+        put room text t ts rest ((exact-seen tree.Input (exact-place n)).sound ts t rest r)
+        (λ front h. subst (λ (u : Spoken). IsTerm l n 0 (suc room) u (name text ∷ front)) (sym h.is) (input-term n room h.value text front is.0 is.1 h.formed)))
         (λ _ e1. choose (has_slot l && bytes_eq text (codes "slot")) _ _ (t, rest) e1
         (λ b r.
-          let is = text-is text (codes "slot") (has_slot l) b in
-          put room text t ts rest ((exact-seen tree.Slot (exact-place n)).sound ts t rest r)
-            (λ front h. subst (λ (u : Spoken). IsTerm l n 0 (suc room) u (name text ∷ front)) (sym h.is) (slot-term n room h.value text front is.0 is.1 h.formed)))
+        let is = text-is text (codes "slot") (has_slot l) b in
+        put room text t ts rest ((exact-seen tree.Slot (exact-place n)).sound ts t rest r)
+        (λ front h. subst (λ (u : Spoken). IsTerm l n 0 (suc room) u (name text ∷ front)) (sym h.is) (slot-term n room h.value text front is.0 is.1 h.formed)))
         (λ _ e2. choose (has_reads l && bytes_eq text (codes "peek")) _ _ (t, rest) e2
         (λ b r.
-          let is = text-is text (codes "peek") (has_reads l) b in
-          put room text t ts rest ((exact-seen tree.Peek (exact-after (s.Open ∷ []) (exact-open room))).sound ts t rest r)
-            (λ front h. subst (λ (u : Spoken). IsTerm l n 0 (suc room) u (name text ∷ front)) (sym h.is) (peek-term n room h.value text front is.0 is.1 h.formed)))
+        let is = text-is text (codes "peek") (has_reads l) b in
+        put room text t ts rest ((exact-seen tree.Peek (exact-after (s.Open ∷ []) (exact-open room))).sound ts t rest r)
+        (λ front h. subst (λ (u : Spoken). IsTerm l n 0 (suc room) u (name text ∷ front)) (sym h.is) (peek-term n room h.value text front is.0 is.1 h.formed)))
         (λ _ e3. choose (has_reads l && bytes_eq text (codes "pop")) _ _ (t, rest) e3
         (λ b r.
-          let is = text-is text (codes "pop") (has_reads l) b in
-          pop-sound n room t text ts rest is.0 is.1 r)
+        let is = text-is text (codes "pop") (has_reads l) b in
+        pop-sound n room t text ts rest is.0 is.1 r)
         (λ _ e4. choose (names_values l text) (Some (tree.Name text, ts)) None (t, rest) e4
         (λ b r.
-          let same = pair_inj r in
-          record {
-            front = name text ∷ [];
-            is = ap (λ (us : List Tok). name text ∷ us) same.1;
-            formed = subst (λ (u : Spoken). IsTerm l n 0 (suc room) u (name text ∷ [])) same.0 (rule.name n text b, omega arith);
-          })
+        let same = pair_inj r in
+        record {
+          front = name text ∷ [];
+          is = ap (λ (us : List Tok). name text ∷ us) same.1;
+          formed = subst (λ (u : Spoken). IsTerm l n 0 (suc room) u (name text ∷ [])) same.0 (rule.name n text b, omega arith);
+        })
         (λ _ r. cc)))))
 
     leaf-sound : (room : ℕ) (ts : List Tok) (t : Spoken) (rest : List Tok) → leaf_at l n (i room) ts ≡ Some (t, rest) → Front (IsTerm l n 0 (suc room)) t ts rest
@@ -188,10 +188,10 @@ module _ (l : Language) where
         let below = λ (us : List Tok) (u : Spoken) (vs : List Tok) (g : unary l n i room us ≡ Some (u, vs)). unary-sound room us u vs g in
         choose (parse.begins_with s.Minus ts) _ _ (t, rest) e
         (λ b r. behind (suc room) s.Minus t ts rest b (signed room tree.Neg (unary l n i room) (tail ts) t rest below r)
-          (λ front h. subst (λ (u : Spoken). IsTerm l n 0 (suc room) u (symbol s.Minus ∷ front)) (sym h.is) (rule.neg n h.value front h.formed.0, omega (arith, h.formed.1))))
+        (λ front h. subst (λ (u : Spoken). IsTerm l n 0 (suc room) u (symbol s.Minus ∷ front)) (sym h.is) (rule.neg n h.value front h.formed.0, omega (arith, h.formed.1))))
         (λ _ e1. choose (parse.begins_with s.Not ts) _ _ (t, rest) e1
         (λ b r. behind (suc room) s.Not t ts rest b (signed room tree.Not (unary l n i room) (tail ts) t rest below r)
-          (λ front h. subst (λ (u : Spoken). IsTerm l n 0 (suc room) u (symbol s.Not ∷ front)) (sym h.is) (rule.not n h.value front h.formed.0, omega (arith, h.formed.1))))
+        (λ front h. subst (λ (u : Spoken). IsTerm l n 0 (suc room) u (symbol s.Not ∷ front)) (sym h.is) (rule.not n h.value front h.formed.0, omega (arith, h.formed.1))))
         (λ _ e2. choose (parse.begins_with s.Open ts) _ _ (t, rest) e2
         (λ b r. behind (suc room) s.Open t ts rest b ((exact-open (suc room)).sound (tail ts) t rest r) (λ front h. open-term n (suc room) t front h))
         (λ _ r. leaf-sound room ts t rest r)))
@@ -274,7 +274,7 @@ module _ (l : Language) where
       named-slot (suc m) (i room) (symbol s.OpenBracket ∷ number v ∷ symbol s.CloseBracket ∷ rest) h ∙ rw (place-there m v rest c) refl
   unary-complete n k (suc room) t ts i x (rule.peek m u us h g) at d rest =
       let read : parse.before (i room) (s.Close ∷ []) ((us ++ symbol s.Close ∷ []) ++ rest) ≡ Some (u, rest) =
-        (exact-before (s.Close ∷ []) (x room) (λ rest j h. refl)).complete u (us ++ symbol s.Close ∷ []) rest (record { front = us; is = refl; formed = (g, omega arith) }) tt in
+      (exact-before (s.Close ∷ []) (x room) (λ rest j h. refl)).complete u (us ++ symbol s.Close ∷ []) rest (record { front = us; is = refl; formed = (g, omega arith) }) tt in
       named-peek (suc m) (i room) (symbol s.Open ∷ ((us ++ symbol s.Close ∷ []) ++ rest)) h ∙ rw read refl
   unary-complete n k (suc room) t ts i x (rule.pop m h) at d rest = named-pop (suc m) (i room) (symbol s.Open ∷ symbol s.Close ∷ rest) h
   unary-complete n k (suc room) t ts i x (rule.neg m u us g) at d rest =
@@ -369,6 +369,7 @@ module _ (l : Language) (n rank : ℕ) (below : ℕ → parse.Parse Spoken) (x :
   join_on o left ts y us (Some q) e = (q, refl, first e, second e) where
     first : Next (tree.Bin o left q.0) q.1 ≡ Next y us → y ≡ tree.Bin o left q.0
     first f = cc
+
     second : Next (tree.Bin o left q.0) q.1 ≡ Next y us → us ≡ q.1
     second f = cc
 
@@ -393,7 +394,7 @@ module _ (l : Language) (n rank : ℕ) (below : ℕ → parse.Parse Spoken) (x :
     by (Some o) is f = goes_on left ts y us o (nat_lt (depth_of left) room) is refl f
 
   -- each turn takes a token
-  chain-shortens : Shortens turn
+  pub chain-shortens : Shortens turn
   chain-shortens left ts y us e =
       let t = turned left ts y us e in
       let f = (x (room - 1)).sound (tail ts) t.right us t.read in

@@ -4,5 +4,6 @@ pub mod Many
 pub mod Pairs
 pub mod Repeat
 pub mod Runs
+pub mod Steps
 pub mod Symbols
 pub mod Texts

@@ -79,8 +79,12 @@ impl Language {
     {
         match self {
             Language::River => text.len() <= 64,
-            Language::StreamIt => text.len() <= 40 && !text.contains(&b'@') && !is_streamit_word(text),
-            Language::Sawzall => text.len() <= 40 && !text.contains(&b'@') && !is_sawzall_word(text),
+            Language::StreamIt => text.len() <= 40
+                && !text.contains(&b'@')
+                && !is_streamit_word(text),
+            Language::Sawzall => text.len() <= 40
+                && !text.contains(&b'@')
+                && !is_sawzall_word(text),
         }
     }
 

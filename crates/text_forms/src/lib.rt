@@ -1,8 +1,11 @@
 //! The forms of grammars and readers that all text formats share.
 #![tactic(auto)]
 
+mod expression;
 mod fault;
 mod language;
+mod measured;
+mod operator;
 mod reader;
 mod tree;
 
