@@ -5,3 +5,4 @@ pub mod Repeat
 pub mod Runs
 pub mod Symbols
 pub mod Texts
+pub mod Tokens

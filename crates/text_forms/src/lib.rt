@@ -2,7 +2,9 @@
 #![tactic(auto)]
 
 mod fault;
+mod names;
 mod reader;
 
 pub use fault::Fault;
+pub use names::is_plain;
 pub use reader::Reader;
