@@ -7,7 +7,7 @@ use Rattle.river_outside.specs.Held.{Held}
 use Rattle.river_outside.specs.Fetched.{FetchesAll, IsLarger}
 use Rattle.river_order.specs.Text.{failed_text, absent_text}
 use Rattle.river_order.specs.Order.{Order, Fetch, Refused, Unread, Done, EndsIn, Comes}
-use Rattle.river_order.specs.Decides.{Decides, Stops}
+use Rattle.river_order.specs.Decides.{Decides, IsEnd, Stops}
 use Rattle.river_order.specs.declared.stop.Stop.{Stop}
 use Rattle.river_order.specs.declared.stop.Stop.TheVariants as stop
 use Rattle.river_order.proofs.Comes.{Comes-same, EndsIn-later, Reaches-later}
@@ -81,3 +81,12 @@ cause-absent (Some h) rose name c = tt
 pub Stops-absent : (held : Option Held) (rose : Type 0) (name : List ℕ) (limit : ℕ) (large : List ℕ) (next : List ℕ → Order) (text : List ℕ) → text ≡ absent_text name → MatchOption held rose (λ h. h name ≡ None) → Stops (Some (Fetch name limit large next)) held rose (stop.Absent text)
 Stops-absent held rose name limit large next text says none =
     record { file = name; says = says; turn = inl refl; end = EndsIn-absent held rose name limit large next none; cause = cause-absent held rose name none }
+
+-- the points are at their end
+pub Decides-end : (held : Option Held) (rose : Type 0) (order : Order) (outcome : Result (List ℕ) Stop) → IsEnd order outcome → Decides (Some order) held rose outcome
+Decides-end held rose order (Ok text) is = rw is refl
+Decides-end held rose order (Err stop.Usage) is = absurd is
+Decides-end held rose order (Err (stop.Refused text)) is = rw is refl
+Decides-end held rose order (Err (stop.Failed text)) is = absurd is
+Decides-end held rose order (Err (stop.Absent text)) is = absurd is
+Decides-end held rose order (Err stop.NoMemory) is = tt

@@ -2,7 +2,7 @@
 use Rattle.std.specs.Prelude.{◌≡◌, ⊤, ℕ, List, Option, None, MatchOption, Result, Ok, Err}
 use Rattle.river_outside.specs.Held.{Held}
 use Rattle.river_order.specs.Text.{failed_text, absent_text}
-use Rattle.river_order.specs.Order.{Order, IsVerdict, IsTurn, Refused, Unread, Done}
+use Rattle.river_order.specs.Order.{Order, Ends, IsVerdict, IsTurn, Refused, Unread, Done}
 use Rattle.river_order.specs.declared.stop.Stop.{Stop}
 use Rattle.river_order.specs.declared.stop.Stop.TheVariants as stop
 
@@ -33,3 +33,12 @@ Stops points held rose stop.NoMemory = ⊤
 abbrev pub Decides : Option Order → Option Held → Type 0 → Result (List ℕ) Stop → Type 0
 Decides points held rose (Ok text) = IsVerdict points held (Done text)
 Decides points held rose (Err stop) = Stops points held rose stop
+
+-- the points are at an end, which the outcome has
+abbrev pub IsEnd : Order → Result (List ℕ) Stop → Type 0
+IsEnd order (Ok text) = order ≡ Ends (Done text)
+IsEnd order (Err (stop.Refused text)) = order ≡ Ends (Refused text)
+IsEnd order (Err stop.NoMemory) = ⊤
+IsEnd order (Err stop.Usage) = ⊥
+IsEnd order (Err (stop.Failed text)) = ⊥
+IsEnd order (Err (stop.Absent text)) = ⊥
