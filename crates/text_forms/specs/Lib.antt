@@ -1,6 +1,10 @@
+pub mod Expressions
 pub mod Forms
 pub mod Gives
+pub mod Ladder
+pub mod Language
 pub mod Parse
 pub mod Repeat
 pub mod Tail
 pub mod Texts
+pub mod Tree

@@ -2,9 +2,13 @@
 #![tactic(auto)]
 
 mod fault;
+mod language;
 mod names;
 mod reader;
+mod tree;
 
 pub use fault::Fault;
+pub use language::Language;
 pub use names::is_plain;
 pub use reader::Reader;
+pub use tree::Tree;

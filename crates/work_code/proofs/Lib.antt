@@ -1,3 +1,4 @@
+pub mod Cuts
 pub mod Lists
 pub mod Marks
 pub mod Pieces

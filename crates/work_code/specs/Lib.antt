@@ -1,4 +1,5 @@
 pub mod Classes
+pub mod Cut
 pub mod Lent
 pub mod Lexis
 pub mod Pieces

@@ -1,8 +1,9 @@
-//! Tokens and units of a program's text, and expressions and statements as data.
+//! Work code: the tokens of all the languages, the units of a text, and expressions and statements as data.
 #![tactic(auto)]
 
 mod byte;
 mod code;
+mod cut;
 mod expr;
 mod fault;
 mod lexer;
@@ -10,11 +11,14 @@ mod piece;
 mod sign;
 mod token;
 mod tokens;
+mod unit;
 
 pub use code::{Code, Stmt, Stmts};
+pub use cut::Units;
 pub use expr::{BinOp, Expr, Exprs};
 pub use fault::LexFault;
 pub use lexer::lex;
 pub use sign::Symbol;
 pub use token::{Lexeme, Token};
 pub use tokens::Tokens;
+pub use unit::units;
