@@ -11,7 +11,7 @@ mod sign;
 mod token;
 mod tokens;
 
-pub use code::{Code, Stmt, Stmts};
+pub use code::{Code, Emitted, Stmt, Stmts};
 pub use expr::{BinOp, Expr, Exprs};
 pub use fault::LexFault;
 pub use lexer::lex;
