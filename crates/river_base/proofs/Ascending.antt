@@ -1,5 +1,6 @@
 -- A list in ascending order is a function of the bag.
-use Rattle.std.proofs.Common.{◌≡◌, suc, Bool, true, false, cond, List, [], ◌∷◌, refl, sym, ap, ◌∙◌, arith}
+use Rattle.std.proofs.Common.{◌≡◌, ◌<◌, zero, suc, Bool, true, false, cond, List, [], ◌∷◌, length, get_or, refl, sym, ap, subst, ◌∙◌, arith}
+use Rattle.std.proofs.lemmas.List.Sorted.{IsPermutation-refl, IsPermutation-trans, IsPermutation-swap, IsPermutation-cons}
 use Rattle.std.specs.Cmp.{IsStrictWeakOrder}
 use Rattle.std.specs.List.Sorted.{IsPermutation, IsSortedBy}
 use native.Mathlib.Numerals.{unary_clauses}
@@ -74,3 +75,45 @@ module _ {K : Type 0} (lt : K → K → Bool) (o : IsStrictWeakOrder lt) (exact 
   -- and what a sort leaves is the ascending list
   pub ascending_from_sort : (xs ys : List K) → IsPermutation xs ys → IsSortedBy lt ys → ys ≡ ascending lt xs
   ascending_from_sort xs ys h t = sym (ascending-IsPermutation xs ys h ∙ ascending_sorted ys t)
+
+  sorted_cons : (x : K) (xs : List K) → IsSortedBy lt xs → ((d : K) → 0 < length xs → lt (get_or xs 0 d) x ≡ false) → IsSortedBy lt (x ∷ xs)
+  sorted_cons x xs s low zero d from to = low d (omega arith)
+  sorted_cons x xs s low (suc k) d from to = simp unary_clauses (simp unary_clauses at (s k d (omega arith) (omega arith)))
+
+  -- what is first after x is put in its place
+  first_of : (x : K) (ys : List K) (P : K → Type 0) → P x → ((d : K) → 0 < length ys → P (get_or ys 0 d)) → (d : K) → P (get_or (place lt x ys) 0 d)
+  first_of x [] P p q d = p
+  first_of x (z ∷ zs) P p q d = step (lt z x) refl where
+    step : (b : Bool) → lt z x ≡ b → P (get_or (place lt x (z ∷ zs)) 0 d)
+    step true h = subst (λ l. P (get_or l 0 d)) (sym (past x z zs h)) (q z (omega arith))
+    step false h = subst (λ l. P (get_or l 0 d)) (sym (here x z zs h)) p
+
+  place_sorted : (x : K) (ys : List K) → IsSortedBy lt ys → IsSortedBy lt (place lt x ys)
+  place_sorted x [] s = λ k d from to. absurd (omega arith)
+  place_sorted x (y ∷ ys) s = step (place_sorted x ys (later y ys s)) (lt y x) refl where
+    step : IsSortedBy lt (place lt x ys) → (b : Bool) → lt y x ≡ b → IsSortedBy lt (place lt x (y ∷ ys))
+    step more true h =
+        subst (IsSortedBy lt) (sym (past x y ys h)) (sorted_cons y (place lt x ys) more (λ d some.
+        first_of x ys (λ z. lt z y ≡ false) (o.one_way y x h) (λ e there. s 0 e (omega arith) (omega arith)) d))
+    step more false h = subst (IsSortedBy lt) (sym (here x y ys h)) (sorted_cons x (y ∷ ys) s (λ d some. h))
+
+  place_bag : (x : K) (ys : List K) → IsPermutation (x ∷ ys) (place lt x ys)
+  place_bag x [] = IsPermutation-refl (x ∷ [])
+  place_bag x (y ∷ ys) = step (place_bag x ys) (lt y x) refl where
+    step : IsPermutation (x ∷ ys) (place lt x ys) → (b : Bool) → lt y x ≡ b → IsPermutation (x ∷ (y ∷ ys)) (place lt x (y ∷ ys))
+    step more true h =
+        subst (IsPermutation (x ∷ (y ∷ ys))) (sym (past x y ys h)) (IsPermutation-trans (x ∷ (y ∷ ys)) (y ∷ (x ∷ ys)) (y ∷ place lt x ys)
+        (IsPermutation-swap (x ∷ (y ∷ ys)) (y ∷ (x ∷ ys)) 0 1 (omega arith) (omega arith) refl) (IsPermutation-cons y (x ∷ ys) (place lt x ys) more))
+    step more false h = subst (IsPermutation (x ∷ (y ∷ ys))) (sym (here x y ys h)) (IsPermutation-refl (x ∷ (y ∷ ys)))
+
+  -- the ascending list is in order
+  pub ascending_ascends : (xs : List K) → IsSortedBy lt (ascending lt xs)
+  ascending_ascends [] = λ k d from to. absurd (omega arith)
+  ascending_ascends (x ∷ xs) = subst (IsSortedBy lt) (sym (ascending-cons x xs)) (place_sorted x (ascending lt xs) (ascending_ascends xs))
+
+  -- and it has the same elements
+  pub ascending_bag : (xs : List K) → IsPermutation xs (ascending lt xs)
+  ascending_bag [] = IsPermutation-refl []
+  ascending_bag (x ∷ xs) =
+      subst (IsPermutation (x ∷ xs)) (sym (ascending-cons x xs))
+      (IsPermutation-trans (x ∷ xs) (x ∷ ascending lt xs) (place lt x (ascending lt xs)) (IsPermutation-cons x xs (ascending lt xs) (ascending_bag xs)) (place_bag x (ascending lt xs)))

@@ -1,5 +1,5 @@
 -- A table by keys has at each key what was merged there, and its keys rise.
-use Rattle.std.proofs.Common.{◌≡◌, ℕ, Bool, true, false, cond, List, [], ◌∷◌, Option, Some, None, unwrap_or, Ordering, refl, sym, ap, ◌∙◌, fold, arith}
+use Rattle.std.proofs.Common.{◌≡◌, Bool, true, false, cond, List, [], ◌∷◌, Option, Some, None, unwrap_or, Ordering, refl, sym, ap, ◌∙◌, fold, arith}
 use Rattle.std.specs.declared.cmp.Ordering.TheVariants.{Less, Equal, Greater}
 use Rattle.std.specs.Ordering.{match_ordering, ordering_reverse, is_eq}
 use Rattle.std.specs.Cmp.{IsTotalOrder}

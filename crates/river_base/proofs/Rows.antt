@@ -35,7 +35,7 @@ apart {K} {R} o exact x y h g = step (R x y) refl h where
   step Equal e l = exact x y e
   step Greater e l = let back : R y x ≡ Less = o.antisymm y x ∙ ap ordering_reverse e in absurd (true≢false (sym (ap is_lt back) ∙ g))
 
-apart_rows : (x y : List ℤ) → row_lt x y ≡ false → row_lt y x ≡ false → x ≡ y
+pub apart_rows : (x y : List ℤ) → row_lt x y ≡ false → row_lt y x ≡ false → x ≡ y
 apart_rows = apart row_total exact_rows
 
 -- what a sort leaves
@@ -49,3 +49,15 @@ same_from_sorted = order.same_from_sorted row_lt rows_ranked apart_rows
 -- the order is a function of the bag
 pub in_order-IsPermutation : (xs ys : List (List ℤ)) → IsPermutation xs ys → in_order xs ≡ in_order ys
 in_order-IsPermutation = order.ascending-IsPermutation row_lt rows_ranked apart_rows
+
+-- the order is ascending
+pub in_order_ascends : (xs : List (List ℤ)) → IsSorted row_cmp (in_order xs)
+in_order_ascends = order.ascending_ascends row_lt rows_ranked apart_rows
+
+-- and has the same rows
+pub in_order_bag : (xs : List (List ℤ)) → IsPermutation xs (in_order xs)
+in_order_bag = order.ascending_bag row_lt rows_ranked apart_rows
+
+-- rows in order stay as they are
+pub in_order_sorted : (xs : List (List ℤ)) → IsSorted row_cmp xs → in_order xs ≡ xs
+in_order_sorted = order.ascending_sorted row_lt rows_ranked apart_rows

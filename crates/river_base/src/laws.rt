@@ -26,7 +26,9 @@ pub fn ascending_lists_are_unique()
     ensures { (xs ys : List (List ℤ)) → IsPermutation xs ys → IsSorted row_cmp xs → IsSorted row_cmp ys → xs ≡ ys }
 {}
 
-/// The ascending list of a bag of rows is a function of the bag.
+/// The rows in order are ascending, are the same bag, and are a function of the bag.
 pub fn order_depends_on_bag()
-    ensures { (xs ys : List (List ℤ)) → IsPermutation xs ys → in_order xs ≡ in_order ys }
+    ensures ascends { (xs : List (List ℤ)) → IsSorted row_cmp (in_order xs) }
+    ensures same_bag { (xs : List (List ℤ)) → IsPermutation xs (in_order xs) }
+    ensures of_bag { (xs ys : List (List ℤ)) → IsPermutation xs ys → in_order xs ≡ in_order ys }
 {}

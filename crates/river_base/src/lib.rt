@@ -11,6 +11,8 @@ mod memory;
 mod name;
 mod number;
 mod row;
+#[cfg(test)]
+mod tests;
 
 pub use duplicate::Duplicate;
 pub use gate::{Gate, NoGate};

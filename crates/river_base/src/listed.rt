@@ -3,7 +3,6 @@ ghost use Rattle.std.specs.Prelude.{◌≡◌, ◌<◌, ◌≤◌, ◌^◌, List
 ghost use Rattle.std.specs.Borrow.{sem};
 ghost use Rattle.std.specs.Slice.Iter.{iter_rest};
 ghost use Rattle.std.specs.Iterator.Adapters.{IterYieldsInOrder, IterYieldsInReverse};
-
 ghost use Rattle.std.specs.Cmp.Lexicographic.{pointwise, lists_per};
 ghost use Rattle.std.specs.List.Sorted.{IsPermutation, IsSorted};
 ghost use Rattle.std.proofs.lemmas.Cmp.{lists_equiv};
@@ -11,9 +10,8 @@ ghost use Rattle.river_base.specs.Row.{row_cmp, in_order};
 
 use crate::{NoMemory, Row};
 use std::alloc::Global;
-use std::fmt;
 use std::marker::Model;
-use std::slice;
+use std::{fmt, slice};
 
 /// A list, which contracts see as the list of its elements.
 #[derive(Drop)]

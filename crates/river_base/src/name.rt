@@ -43,7 +43,11 @@ impl Name {
     pub fn from_slice(bytes: &[u8]) -> Option<Name>
         ensures { SomeIff result (IsTrue (is_name bytes.now)) bytes.now }
     {
-        if is_word(bytes) { Some(Name::of_word(bytes)) } else { None }
+        if is_word(bytes) {
+            Some(Name::of_word(bytes))
+        } else {
+            None
+        }
     }
 
     // The name of bytes that are one.

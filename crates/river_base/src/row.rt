@@ -1,5 +1,5 @@
 // Rows of values.
-ghost use Rattle.std.specs.Prelude.{◌≡◌, ◌≤◌, ◌<◌, All, length, Some};
+ghost use Rattle.std.specs.Prelude.{◌≡◌, ◌≤◌, ◌<◌, ◌+◌, [], ◌∷◌, ◌++◌, All, length, Some};
 ghost use Rattle.std.specs.Cmp.{partial_equiv_from_equiv, partial_order_from_agreeing_total};
 ghost use Rattle.std.proofs.Common.{refl};
 ghost use Rattle.river_base.specs.Number.{IsValue};
@@ -49,6 +49,38 @@ impl Row {
             width: values.len(),
             values: all,
         }
+    }
+
+    /// The row of one value.
+    pub fn one(value: i64) -> Row
+        ensures { result ≡ value ∷ [] }
+    {
+        Row::from_slice(&[value])
+    }
+
+    /// The row with one more value at its end; the row has fewer than 16.
+    pub fn pushed(&self, value: i64) -> Row
+        requires { length self.now < 16 }
+        ensures { result ≡ self.now ++ value ∷ [] }
+    {
+        let mut values = self.values;
+        values[self.width] = value;
+        Row {
+            width: self.width + 1,
+            values,
+        }
+    }
+
+    /// The values of this row, then those of the other; they are at most 16.
+    pub fn joined(&self, other: &Row) -> Row
+        requires { length self.now + length other.now ≤ 16 }
+        ensures { result ≡ self.now ++ other.now }
+    {
+        let mut all = *self;
+        for value in other.values() {
+            all = all.pushed(*value);
+        }
+        all
     }
 
     /// The values, from left to right.

@@ -1,5 +1,6 @@
 -- A reading function is exact for a form: it gives what the tokens stand for, and reads all that stands for something.
 use Rattle.std.proofs.Common.{◌≡◌, ℕ, zero, suc, ◌<◌, ◌+◌, List, [], ◌∷◌, ◌++◌, length, Bool, true, false, cond, Option, Some, None, refl, sym, ap, ◌∙◌, subst, inl, inr, ◌⊎◌, arith, append_assoc, append-nil, length-append}
+use Rattle.std.specs.Prelude.{ℤ, pos}
 use Rattle.std.specs.Str.{bytes_eq}
 use Rattle.std.proofs.lemmas.Slice.Eq.{bytes_eq-Decides}
 use Rattle.work_code.specs.Tok.{Tok, name, var, number, symbol}
@@ -272,3 +273,15 @@ module _ {A : Type 0} {F G : A → List Tok → Type 0} {p q : parse.Parse A} {E
     complete : (v : A) (s rest : List Tok) → form.Merged F G v s → E rest × D rest → parse.merged test p q (s ++ rest) ≡ Some (v, rest)
     complete v s rest (inl h) d = rw (left v s rest h d.0) (f.complete v s rest h d.0)
     complete v s rest (inr h) d = rw (right v s rest h d.1) (g.complete v s rest h d.1)
+
+-- a number as a value
+pub exact-value : Exact form.Value parse.value_at Any
+exact-value = record { sound = sound; complete = complete } where
+  x : Exact (form.Seen (λ n. pos n) (form.Tested parse.is_value form.Number)) parse.value_at Any
+  x = exact-seen (λ n. pos n) (exact-tested parse.is_value exact-number)
+  sound : (ts : List Tok) (v : ℤ) (rest : List Tok) → parse.value_at ts ≡ Some (v, rest) → Front form.Value v ts rest
+  sound ts v rest e =
+      let f = x.sound ts v rest e in
+      record { front = f.front; is = f.is; formed = record { number = f.formed.value; fits = f.formed.formed.passes; is = f.formed.is; formed = f.formed.formed.formed } }
+  complete : (v : ℤ) (s rest : List Tok) → form.Value v s → Any rest → parse.value_at (s ++ rest) ≡ Some (v, rest)
+  complete v s rest h any = x.complete v s rest (record { value = h.number; is = h.is; formed = record { passes = h.fits; formed = h.formed } }) any

@@ -7,3 +7,4 @@ pub mod Runs
 pub mod Steps
 pub mod Symbols
 pub mod Texts
+pub mod Tokens

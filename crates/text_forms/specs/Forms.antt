@@ -1,5 +1,7 @@
 -- Grammars: a form says which tokens stand for a value.
 use Rattle.std.specs.Prelude.{◌≡◌, ◌⊎◌, ℕ, List, [], ◌∷◌, ◌++◌, map, Option, None, Some, Bool, true}
+use Rattle.std.specs.Prelude.{ℤ, pos}
+use Rattle.text_forms.specs.Parse.{is_value}
 use Rattle.work_code.specs.Tok.{Tok, name, var, number, symbol}
 use Rattle.work_code.specs.declared.sign.Symbol.{Symbol}
 use Rattle.work_code.specs.declared.sign.Symbol.TheVariants.{Comma}
@@ -20,6 +22,13 @@ Var text ts = ts ≡ var text ∷ []
 
 abbrev pub Number : ℕ → List Tok → Type 0
 Number value ts = ts ≡ number value ∷ []
+
+-- a number as a value: at most 2^63 - 1, as every number of a text is
+pub record Value (value : ℤ) (ts : List Tok) : Type 0 where
+  pub number : ℕ
+  pub fits : is_value number ≡ true
+  pub is : value ≡ pos number
+  pub formed : Number number ts
 
 -- no tokens stand for this value
 abbrev pub Nothing : {A : Type 0} → A → A → List Tok → Type 0

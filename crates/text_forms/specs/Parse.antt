@@ -1,5 +1,7 @@
 -- Reading functions: what is at the front of some tokens, and the tokens behind it.
 use Rattle.std.specs.Prelude.{ℕ, nat_le, length, List, [], ◌∷◌, ◌++◌, Option, None, Some, Bool, true, false, ◌==◌, not, if◌then◌else◌}
+use Rattle.std.specs.Prelude.{◌&&◌, ℤ, pos}
+use Rattle.std.specs.List.{list_all, list_any}
 use Rattle.std.specs.Str.{bytes_eq}
 use Rattle.text_forms.specs.Tail.{tail}
 use Rattle.work_code.specs.Tok.{Tok, name, var, number, symbol}
@@ -75,9 +77,23 @@ is_count n = nat_le n 4294967295
 abbrev pub count_at : Parse ℕ
 count_at ts = tested is_count number_at ts
 
+-- a number as a value: at most 2^63 - 1, as every number of a text is
+abbrev pub is_value : ℕ → Bool
+is_value n = nat_le n 9223372036854775807
+
+abbrev pub value_at : Parse ℤ
+value_at ts = then_read (tested is_value number_at ts) (λ n us. Some (pos n, us))
+
 -- a name of at most so many bytes
 abbrev pub is_short : ℕ → List ℕ → Bool
 is_short most text = nat_le (length text) most
+
+-- a name that users may give: at most 40 bytes, no @, and none of the language's keywords
+abbrev pub is_plain : List (List ℕ) → List ℕ → Bool
+is_plain keywords text = is_short 40 text && (list_all (λ c. not (c == 64)) text && not (list_any (λ word. bytes_eq text word) keywords))
+
+abbrev pub plain_name_at : List (List ℕ) → Parse (List ℕ)
+plain_name_at keywords ts = tested (is_plain keywords) name_at ts
 
 -- nothing, which always is there
 abbrev pub nothing_at : {A : Type 0} → A → Parse A

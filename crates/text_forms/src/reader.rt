@@ -1,10 +1,10 @@
 // A reader of tokens.
-ghost use Rattle.std.specs.Prelude.{◌≡◌, MatchOption, List, [], ◌∷◌, if◌then◌else◌, IsTrue, ◌↔◌};
+ghost use Rattle.std.specs.Prelude.{◌≡◌, MatchOption, List, [], ◌∷◌, map, if◌then◌else◌, IsTrue, ◌↔◌};
 ghost use Rattle.text_forms.specs.Tail.{tail};
-ghost use Rattle.text_forms.specs.Parse.{begins_with, is_word_at, word_at, run_at, name_at, var_at, number_at, count_at};
+ghost use Rattle.text_forms.specs.Parse.{begins_with, is_word_at, word_at, run_at, name_at, var_at, number_at, count_at, plain_name_at, value_at};
 ghost use Rattle.text_forms.specs.Gives.{Gives, Passes};
 
-use crate::Fault;
+use crate::{Fault, is_plain};
 use std::marker::Model;
 use work_code::{Lexeme, Symbol, Token};
 
@@ -152,6 +152,29 @@ impl<'a> Reader<'a> {
         let value = self.number()?;
         match u32::try_from(value) {
             Ok(count) => Ok(count),
+            Err(_) => Err(Fault::Syntax),
+        }
+    }
+
+    /// The name that has to come next, which is one that users may give in a language with these keywords.
+    pub fn plain_name(&mut self, keywords: &[&[u8]]) -> Result<&'a [u8], Fault>
+        ensures { Gives (λ text. text.now) result self.new (plain_name_at (map (λ word. word.now) keywords.now) self.old) }
+    {
+        let text = self.name()?;
+        if is_plain(text, keywords) {
+            Ok(text)
+        } else {
+            Err(Fault::Syntax)
+        }
+    }
+
+    /// The number that has to come next, as a value.
+    pub fn value(&mut self) -> Result<i64, Fault>
+        ensures { Gives (λ value. value) result self.new (value_at self.old) }
+    {
+        let value = self.number()?;
+        match i64::try_from(value) {
+            Ok(value) => Ok(value),
             Err(_) => Err(Fault::Syntax),
         }
     }

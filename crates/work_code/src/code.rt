@@ -7,7 +7,7 @@ ghost use Rattle.work_code.specs.Lent.{LendsStmt};
 ghost use Rattle.work_code.specs.Steps.{step, steps, statements, in_turn, body_of};
 
 use crate::{Expr, Exprs};
-use river_base::NoMemory;
+use river_base::{Listed, NoMemory, Row};
 use std::alloc::Global;
 use std::slice;
 
@@ -164,3 +164,6 @@ impl Code {
         })
     }
 }
+
+/// What runs of bodies give: for each push its port and its row.
+pub type Emitted = Listed<(u32, Row)>;

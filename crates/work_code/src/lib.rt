@@ -13,7 +13,7 @@ mod token;
 mod tokens;
 mod unit;
 
-pub use code::{Code, Stmt, Stmts};
+pub use code::{Code, Emitted, Stmt, Stmts};
 pub use cut::Units;
 pub use expr::{BinOp, Expr, Exprs};
 pub use fault::LexFault;

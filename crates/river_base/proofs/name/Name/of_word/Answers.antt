@@ -1,7 +1,7 @@
 use Rattle.std.proofs.Math.ListN.{set}
-use Rattle.std.proofs.Common.{ap, ◌∙◌, get_or, arith, ◌≡◌, length, refl, rules, sym, subst, IsTrue}
+use Rattle.std.proofs.Common.{ap, ◌∙◌, get_or, arith, sym, subst, IsTrue}
 use Rattle.river_base.specs.Name.{is_name}
-use Rattle.river_base.proofs.RowLemmas.{filled_more, filled_all, shown, short}
+use Rattle.river_base.proofs.RowLemmas.{filled_more, shown, short}
 use Rattle.river_base.proofs.NameLemmas.{name_at_most}
 use Rattle.river_base.proofs.name.Name.of_word.Goals as goal
 

@@ -1,0 +1,155 @@
+-- The records of a text, read one after another.
+use Rattle.std.proofs.Common.{◌≡◌, ℕ, zero, suc, ◌+◌, ◌-◌, ◌≤◌, List, [], ◌∷◌, ◌++◌, length, Bool, true, false, cond, refl, sym, ◌∙◌, ap, arith}
+use Rattle.std.specs.Prelude.{Option, None, Some, Result, Ok, Err, ℤ, option_and_then}
+use Rattle.std.proofs.lemmas.List.{append-nil}
+use Rattle.csv.specs.Machine.{Read, next_record, step, is_end, fields_after, field_after, ends_at_end}
+use Rattle.csv.specs.Reading.{Reached, records_from, records_next, strip_bom, default_config, is_bom}
+use Rattle.csv.specs.Records.{field_at}
+use Rattle.csv.specs.declared.parser.Config.{Config}
+use Rattle.csv.specs.declared.parser.State.{State}
+use Rattle.csv.specs.declared.parser.State.TheVariants as st
+use Rattle.csv_streams.specs.Number.{number_of}
+use Rattle.csv_streams.specs.Column.{csv_records, number_in, put_first, column_from}
+
+-- how many bytes a read leaves, and in which state
+abbrev bytes_after : Option Read → ℕ
+bytes_after None = 0
+bytes_after (Some p) = length p.2
+
+abbrev rest_of : Option Read → List ℕ
+rest_of None = []
+rest_of (Some p) = p.2
+
+abbrev state_of : Option Read → State
+state_of None = st.StartRecord
+state_of (Some p) = p.1
+
+-- the read of a byte that may end the record
+one_byte : (b : Bool) (r : Read) (more : Option Read) (rest : List ℕ) (p : Read) → r.2 ≡ rest → (more ≡ Some p → length p.2 ≤ length rest) → cond b (Some r) more ≡ Some p → length p.2 ≤ length rest
+one_byte true r more rest p is later e = omega (arith, ap bytes_after e, ap length is)
+one_byte false r more rest p is later e = later e
+
+at_end : (b : Bool) (fields : List (List ℕ)) (p : Read) → cond b (Some (fields, st.StartRecord, [])) None ≡ Some p → (p.1 ≡ st.StartRecord) × (p.2 ≡ [])
+at_end true fields p e = (sym (ap state_of e), sym (ap rest_of e))
+at_end false fields p e = cc
+
+ends : (cfg : Config) (s : State) (fields : List (List ℕ)) (field : List ℕ) (p : Read) → next_record cfg s fields field [] ≡ Some p → (p.1 ≡ st.StartRecord) × (p.2 ≡ [])
+unfolding next_record
+ends cfg s fields field p e = at_end (ends_at_end s) (fields ++ (field ∷ [])) p e
+
+no_longer : (cfg : Config) (s : State) (fields : List (List ℕ)) (field xs : List ℕ) (p : Read) → next_record cfg s fields field xs ≡ Some p → length p.2 ≤ length xs
+unfolding next_record
+no_longer cfg s fields field [] p e = omega (arith, ap length (at_end (ends_at_end s) (fields ++ (field ∷ [])) p e).1)
+no_longer cfg s fields field (c ∷ rest) p e =
+    let le : length p.2 ≤ length rest = one_byte (is_end (step cfg s c).1) (fields_after (step cfg s c).1 fields field, (step cfg s c).0, rest) _ rest p refl (no_longer cfg (step cfg s c).0 (fields_after (step cfg s c).1 fields field) (field_after (step cfg s c).1 c field) rest p) e in
+    omega arith
+
+shorter : (cfg : Config) (s : State) (c : ℕ) (rest : List ℕ) (p : Read) → next_record cfg s [] [] (c ∷ rest) ≡ Some p → length p.2 ≤ length rest
+unfolding next_record
+shorter cfg s c rest p e =
+    one_byte (is_end (step cfg s c).1) (fields_after (step cfg s c).1 [] [], (step cfg s c).0, rest) _ rest p refl (no_longer cfg (step cfg s c).0 (fields_after (step cfg s c).1 [] []) (field_after (step cfg s c).1 c []) rest p) e
+
+-- there is no record at the end of a text that has ended one
+nothing : (cfg : Config) (p : Read) → next_record cfg st.StartRecord [] [] [] ≡ Some p → ⊥
+unfolding next_record
+nothing cfg p e = cc
+
+-- there are at most as many records as bytes, and one
+pub reached-length : (cfg : Config) (s : State) (xs : List ℕ) (rows : List (List (List ℕ))) (s2 : State) (ys : List ℕ) → Reached cfg s xs rows s2 ys → length rows ≤ length xs + 1
+unfolding Reached
+reached-length cfg s xs [] s2 ys r = omega arith
+reached-length cfg s (c ∷ rest) (row ∷ rows) s2 ys r =
+    let le : length r.0.2 ≤ length rest = shorter cfg s c rest r.0 r.1 in
+    let ih : length rows ≤ length r.0.2 + 1 = reached-length cfg r.0.1 r.0.2 rows s2 ys r.3 in
+    omega arith
+reached-length cfg s [] (row ∷ []) s2 ys r = omega arith
+reached-length cfg s [] (row ∷ next ∷ rows) s2 ys r =
+    let e = ends cfg s [] [] r.0 r.1 in
+    absurd (nothing cfg r.3.0 (rw (e.0, e.1) at r.3.1))
+
+-- the records that were reached are the first of all
+pub reached-records : (cfg : Config) (s : State) (xs : List ℕ) (rows : List (List (List ℕ))) (s2 : State) (ys : List ℕ) (m : ℕ) → Reached cfg s xs rows s2 ys → records_from cfg (length rows + m) s xs ≡ rows ++ records_from cfg m s2 ys
+unfolding Reached records_from
+reached-records cfg s xs [] s2 ys m r = rw (r.0, r.1) (ap (λ (k : ℕ). records_from cfg k s2 ys) (omega arith))
+reached-records cfg s xs (row ∷ rows) s2 ys m r =
+    let more : suc (length rows) + m ≡ suc (length rows + m) = omega arith in
+    ap (λ (k : ℕ). records_from cfg k s xs) more
+    ∙ ap (λ (o : Option Read). records_next (records_from cfg (length rows + m)) o) r.1
+    ∙ ap (λ (l : List (List (List ℕ))). r.0.0 ∷ l) (reached-records cfg r.0.1 r.0.2 rows s2 ys m r.3)
+    ∙ ap (λ (f : List (List ℕ)). f ∷ (rows ++ records_from cfg m s2 ys)) (sym r.2)
+
+pub one-field : (fields : List (List ℕ)) (o : Option (List ℕ)) → length fields ≡ 1 → o ≡ field_at fields 0 → option_and_then number_of o ≡ number_in fields
+unfolding field_at
+one-field [] o one is = absurd (omega arith)
+one-field (f ∷ []) o one is = rw is refl
+one-field (f ∷ g ∷ fs) o one is = absurd (omega arith)
+
+first_and_others : (k : ℕ) (o : Option ℤ) (r : Result (List ℤ) ℕ) (xs : List ℤ) → put_first k o r ≡ Ok xs → (y : ℤ) × (ys : List ℤ) × (o ≡ Some y) × (r ≡ Ok ys) × (xs ≡ y ∷ ys)
+first_and_others k None r xs e = cc
+first_and_others k (Some y) (Ok ys) xs e = let is : xs ≡ y ∷ ys = cc in (y, ys, refl, refl, is)
+first_and_others k (Some y) (Err f) xs e = cc
+
+abbrev pub column : List ℤ → Result (List ℤ) ℕ
+column xs = Ok xs
+
+abbrev pub fault : ℕ → Result (List ℤ) ℕ
+fault rec = Err rec
+
+-- one record more
+pub column-push : (k : ℕ) (rows : List (List (List ℕ))) (fields : List (List ℕ)) (xs : List ℤ) (x : ℤ) → column_from k rows ≡ Ok xs → number_in fields ≡ Some x → column_from k (rows ++ fields ∷ []) ≡ Ok (xs ++ x ∷ [])
+column-push k [] fields xs x e is =
+    let none : [] ≡ xs = cc in
+    ap (λ (o : Option ℤ). put_first k o (column [])) is ∙ ap (λ (l : List ℤ). column (l ++ x ∷ [])) none
+column-push k (row ∷ rows) fields xs x e is =
+    let (y, ys, first, others, parts) = first_and_others k (number_in row) (column_from (k + 1) rows) xs e in
+    ap (λ (o : Option ℤ). put_first k o (column_from (k + 1) (rows ++ fields ∷ []))) first
+    ∙ ap (λ (r : Result (List ℤ) ℕ). put_first k (Some y) r) (column-push (k + 1) rows fields ys x others is)
+    ∙ ap (λ (l : List ℤ). column (l ++ x ∷ [])) (sym parts)
+
+-- the first record that is no number
+pub column-fault : (k : ℕ) (rows : List (List (List ℕ))) (fields : List (List ℕ)) (more : List (List (List ℕ))) (xs : List ℤ) → column_from k rows ≡ Ok xs → number_in fields ≡ None → column_from k (rows ++ fields ∷ more) ≡ Err (k + length rows)
+column-fault k [] fields more xs e is = ap (λ (o : Option ℤ). put_first k o (column_from (k + 1) more)) is ∙ ap fault (omega arith)
+column-fault k (row ∷ rows) fields more xs e is =
+    let (y, ys, first, others, parts) = first_and_others k (number_in row) (column_from (k + 1) rows) xs e in
+    ap (λ (o : Option ℤ). put_first k o (column_from (k + 1) (rows ++ fields ∷ more))) first
+    ∙ ap (λ (r : Result (List ℤ) ℕ). put_first k (Some y) r) (column-fault (k + 1) rows fields more ys others is)
+    ∙ ap fault (omega arith)
+
+strip-length : (xs : List ℕ) → length (strip_bom xs) ≤ length xs
+unfolding strip_bom
+strip-length [] = omega arith
+strip-length (a ∷ []) = omega arith
+strip-length (a ∷ b ∷ []) = omega arith
+strip-length (a ∷ b ∷ c ∷ rest) = shorter_or_same (is_bom a b c)
+  where
+    shorter_or_same : (t : Bool) → length (cond t rest (a ∷ b ∷ c ∷ rest)) ≤ length (a ∷ b ∷ c ∷ rest)
+    shorter_or_same true = omega arith
+    shorter_or_same false = omega arith
+
+-- all the records of a text, of which these are the first
+pub all-from_reached : (text : List ℕ) (rows : List (List (List ℕ))) (s2 : State) (ys : List ℕ) → Reached default_config st.StartRecord (strip_bom text) rows s2 ys → (more : List (List (List ℕ))) × (csv_records text ≡ rows ++ more) × (length rows ≤ length text + 1)
+all-from_reached text rows s2 ys r =
+    let xs = strip_bom text in
+    let few = reached-length default_config st.StartRecord xs rows s2 ys r in
+    let size : length xs + 1 ≡ length rows + (length xs + 1 - length rows) = omega arith in (
+      records_from default_config (length xs + 1 - length rows) s2 ys,
+      ap (λ (n : ℕ). records_from default_config n st.StartRecord xs) size ∙ reached-records default_config st.StartRecord xs rows s2 ys (length xs + 1 - length rows) r,
+      omega (arith, strip-length text),
+    )
+
+-- no record from here on
+none_from : (cfg : Config) (m : ℕ) (s : State) (ys : List ℕ) → next_record cfg s [] [] ys ≡ None → records_from cfg m s ys ≡ []
+unfolding records_from
+none_from cfg zero s ys none = refl
+none_from cfg (suc m) s ys none = ap (λ (o : Option Read). records_next (records_from cfg m) o) none
+
+-- all the records of a text, where there is no other
+pub all-records : (text : List ℕ) (rows : List (List (List ℕ))) (s2 : State) (ys : List ℕ) → Reached default_config st.StartRecord (strip_bom text) rows s2 ys → next_record default_config s2 [] [] ys ≡ None → csv_records text ≡ rows
+all-records text rows s2 ys r none =
+    let xs = strip_bom text in
+    let few = reached-length default_config st.StartRecord xs rows s2 ys r in
+    let size : length xs + 1 ≡ length rows + (length xs + 1 - length rows) = omega arith in
+    ap (λ (n : ℕ). records_from default_config n st.StartRecord xs) size
+    ∙ reached-records default_config st.StartRecord xs rows s2 ys (length xs + 1 - length rows) r
+    ∙ ap (λ (l : List (List (List ℕ))). rows ++ l) (none_from default_config (length xs + 1 - length rows) s2 ys none)
+    ∙ append-nil rows

@@ -1,0 +1,4 @@
+pub mod Column
+pub mod Fault
+pub mod Number
+pub mod Print

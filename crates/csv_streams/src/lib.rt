@@ -1,0 +1,10 @@
+//! Files of numbers as CSV, and the printed text of outputs.
+#![tactic(auto)]
+
+mod column;
+mod number;
+mod print;
+
+pub use column::{ColumnFault, read_column};
+pub use number::read_number;
+pub use print::print_values;

@@ -1,0 +1,6 @@
+//! Kernels on bags of rows: windows, products and streamers of continuous queries.
+#![tactic(auto)]
+
+mod kernel;
+
+pub use kernel::{Cross, Streamer, Window};

@@ -1,0 +1,25 @@
+-- The kernels on rows as plain data.
+use Rattle.std.specs.Prelude.{ℕ, ℤ, List}
+use Rattle.work_code.specs.Steps.{Body, body_of}
+use Rattle.kern_rows.specs.declared.kernel.CodeKernel.{CodeKernel}
+use Rattle.kern_rows.specs.declared.kernel.Filter.{Filter}
+
+-- a body that is run on each row; the width of each output port; the kept slots at the start
+pub record CodeForm : Type 0 where
+  pub body : Body
+  pub outs : List ℤ
+  pub starts : List ℤ
+
+abbrev pub code_form : CodeKernel → CodeForm
+code_form k = record { body = body_of k.code; outs = k.outs; starts = k.starts }
+
+-- a body that is run on the first `peek` values of a buffer, from which `pop` are taken; it gives `push` values
+pub record FilterForm : Type 0 where
+  pub peek : ℕ
+  pub pop : ℕ
+  pub push : ℕ
+  pub body : Body
+  pub starts : List ℤ
+
+abbrev pub filter_form : Filter → FilterForm
+filter_form f = record { peek = f.peek; pop = f.pop; push = f.push; body = body_of f.code; starts = f.starts }

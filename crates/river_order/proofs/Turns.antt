@@ -1,0 +1,92 @@
+-- How the points go on at a fetch.
+use Rattle.std.proofs.Common.{◌≡◌, ℕ, ◌+◌, ◌<◌, ◌≤◌, List, length, true, false, refl, sym, ap, inl, inr, IfSome, arith, nat_lt}
+use Rattle.std.specs.Prelude.{Option, None, Some, MatchOption, Result, Ok, Err, replicate}
+use Rattle.std.proofs.lemmas.List.{length-replicate}
+use Rattle.std.proofs.lemmas.Bool.Decides.{nat_tests}
+use Rattle.river_outside.specs.Held.{Held}
+use Rattle.river_outside.specs.Fetched.{FetchesAll, IsLarger}
+use Rattle.river_order.specs.Text.{failed_text, absent_text}
+use Rattle.river_order.specs.Order.{Order, Fetch, Refused, Unread, Done, EndsIn, Comes}
+use Rattle.river_order.specs.Decides.{Decides, IsEnd, Stops}
+use Rattle.river_order.specs.declared.stop.Stop.{Stop}
+use Rattle.river_order.specs.declared.stop.Stop.TheVariants as stop
+use Rattle.river_order.proofs.Comes.{Comes-same, EndsIn-later, Reaches-later}
+
+held_all : (held : Option Held) (name : List ℕ) (limit : ℕ) (bytes : List ℕ) → IfSome held (λ h. FetchesAll (h name) limit bytes) → IfSome held (λ h. h name ≡ Some bytes)
+held_all None name limit bytes all = tt
+held_all (Some h) name limit bytes all = some (h name) all
+  where
+    some : (p : Option (List ℕ)) → FetchesAll p limit bytes → p ≡ Some bytes
+    some None all = absurd all
+    some (Some b) all = ap (λ (l : List ℕ). Some l) (sym all.0)
+
+not_over : (limit n : ℕ) → n ≤ limit → nat_lt limit n ≡ false
+not_over limit n le = grind (arith, nat_tests)
+
+over : (limit n : ℕ) → limit < n → nat_lt limit n ≡ true
+over limit n lt = grind (arith, nat_tests)
+
+-- a fetch that gave the bytes comes to the points after it
+pub Comes-fetched : (held : Option Held) (name : List ℕ) (limit : ℕ) (large : List ℕ) (next : List ℕ → Order) (bytes : List ℕ) → IfSome held (λ h. FetchesAll (h name) limit bytes) → length bytes ≤ limit → Comes (Fetch name limit large next) held (next bytes)
+Comes-fetched held name limit large next bytes all le = inr (bytes, held_all held name limit bytes all, not_over limit (length bytes) le, Comes-same (next bytes) held)
+
+-- what decides the later points decides the earlier ones
+cause-sooner : (held : Option Held) (early late : Type 0) → (late → early) → MatchOption held late (λ _. Unit {0}) → MatchOption held early (λ _. Unit {0})
+cause-sooner None early late sooner c = sooner c
+cause-sooner (Some h) early late sooner c = tt
+
+Stops-later : (from later : Order) (held : Option Held) (early late : Type 0) → (late → early) → (s : Stop) → Comes from held later → Stops (Some later) held late s → Stops (Some from) held early s
+Stops-later from later held early late sooner stop.Usage far here = cc
+Stops-later from later held early late sooner (stop.Refused text) far here = EndsIn-later from later held (Refused text) far here
+Stops-later from later held early late sooner (stop.Failed text) far here =
+    record { file = here.file; says = here.says; turn = Reaches-later from later held here.file far here.turn; counted = sooner here.counted }
+Stops-later from later held early late sooner (stop.Absent text) far here =
+    record { file = here.file; says = here.says; turn = Reaches-later from later held here.file far here.turn; end = EndsIn-later from later held (Unread here.file) far here.end; cause = cause-sooner held early late sooner here.cause }
+Stops-later from later held early late sooner stop.NoMemory far here = tt
+
+pub Decides-later : (from later : Order) (held : Option Held) (early late : Type 0) → (late → early) → (outcome : Result (List ℕ) Stop) → Comes from held later → Decides (Some later) held late outcome → Decides (Some from) held early outcome
+Decides-later from later held early late sooner (Ok text) far here = EndsIn-later from later held (Done text) far here
+Decides-later from later held early late sooner (Err s) far here = Stops-later from later held early late sooner s far here
+
+-- the fetch gave the bytes, and the points after it decide
+pub Decides-fetched : (held : Option Held) (early late : Type 0) → (late → early) → (name : List ℕ) (limit : ℕ) (large : List ℕ) (next : List ℕ → Order) (bytes : List ℕ) (outcome : Result (List ℕ) Stop) → IfSome held (λ h. FetchesAll (h name) limit bytes) → length bytes ≤ limit → Decides (Some (next bytes)) held late outcome → Decides (Some (Fetch name limit large next)) held early outcome
+Decides-fetched held early late sooner name limit large next bytes outcome all le here =
+    Decides-later (Fetch name limit large next) (next bytes) held early late sooner outcome (Comes-fetched held name limit large next bytes all le) here
+
+-- the fetch found too many bytes
+large_end : (held : Option Held) (name : List ℕ) (limit : ℕ) (large : List ℕ) (next : List ℕ → Order) (bytes : List ℕ) → IfSome held (λ h. h name ≡ Some bytes) → limit < length bytes → EndsIn (Fetch name limit large next) held (Refused large)
+large_end held name limit large next bytes is more = (Some bytes, is, rw (over limit (length bytes) more) refl)
+
+pub EndsIn-large : (held : Option Held) (name : List ℕ) (limit : ℕ) (large : List ℕ) (next : List ℕ → Order) → IfSome held (λ h. IsLarger (h name) limit) → EndsIn (Fetch name limit large next) held (Refused large)
+EndsIn-large None name limit large next more = large_end None name limit large next (replicate (limit + 1) 0) tt (let zero : ℕ = 0 in omega (arith, length-replicate (limit + 1) zero))
+EndsIn-large (Some h) name limit large next more = some (h name) refl more
+  where
+    some : (p : Option (List ℕ)) → h name ≡ p → IsLarger p limit → EndsIn (Fetch name limit large next) (Some h) (Refused large)
+    some None is more = absurd more
+    some (Some b) is more = large_end (Some h) name limit large next b is more
+
+-- the fetch failed
+pub Stops-failed : (held : Option Held) (rose : Type 0) (name : List ℕ) (limit : ℕ) (large : List ℕ) (next : List ℕ → Order) (text : List ℕ) → text ≡ failed_text name → rose → Stops (Some (Fetch name limit large next)) held rose (stop.Failed text)
+Stops-failed held rose name limit large next text says counted = record { file = name; says = says; turn = inl refl; counted = counted }
+
+-- the fetch found no file
+EndsIn-absent : (held : Option Held) (rose : Type 0) (name : List ℕ) (limit : ℕ) (large : List ℕ) (next : List ℕ → Order) → MatchOption held rose (λ h. h name ≡ None) → EndsIn (Fetch name limit large next) held (Unread name)
+EndsIn-absent None rose name limit large next is = (None, tt, refl)
+EndsIn-absent (Some h) rose name limit large next is = (None, is, refl)
+
+cause-absent : (held : Option Held) (rose : Type 0) (name : List ℕ) → MatchOption held rose (λ h. h name ≡ None) → MatchOption held rose (λ _. Unit {0})
+cause-absent None rose name c = c
+cause-absent (Some h) rose name c = tt
+
+pub Stops-absent : (held : Option Held) (rose : Type 0) (name : List ℕ) (limit : ℕ) (large : List ℕ) (next : List ℕ → Order) (text : List ℕ) → text ≡ absent_text name → MatchOption held rose (λ h. h name ≡ None) → Stops (Some (Fetch name limit large next)) held rose (stop.Absent text)
+Stops-absent held rose name limit large next text says none =
+    record { file = name; says = says; turn = inl refl; end = EndsIn-absent held rose name limit large next none; cause = cause-absent held rose name none }
+
+-- the points are at their end
+pub Decides-end : (held : Option Held) (rose : Type 0) (order : Order) (outcome : Result (List ℕ) Stop) → IsEnd order outcome → Decides (Some order) held rose outcome
+Decides-end held rose order (Ok text) is = rw is refl
+Decides-end held rose order (Err stop.Usage) is = absurd is
+Decides-end held rose order (Err (stop.Refused text)) is = rw is refl
+Decides-end held rose order (Err (stop.Failed text)) is = absurd is
+Decides-end held rose order (Err (stop.Absent text)) is = absurd is
+Decides-end held rose order (Err stop.NoMemory) is = tt

@@ -1,0 +1,4 @@
+pub mod Decides
+pub mod Laws
+pub mod Order
+pub mod Text

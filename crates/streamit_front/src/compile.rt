@@ -1,0 +1,52 @@
+// From the text of a program to its tree.
+ghost use Rattle.std.specs.Prelude.{◌≡◌, ◌<◌, ◌^◌, length, IfOk, IfErr, Some};
+ghost use Rattle.streamit_front.specs.Program.{program_of};
+ghost use Rattle.streamit_front.specs.Reading.{compiled};
+ghost use Rattle.streamit_front.specs.Refusals.{Refuses};
+ghost use Rattle.streamit_front.specs.Reading.{program_at};
+ghost use Rattle.text_forms.specs.Texts.{whole};
+ghost use Rattle.work_code.specs.Tok.{toks};
+
+use crate::StreamitProgram;
+use crate::fault::StreamitFault;
+use crate::reading::program;
+use river_base::Bytes;
+use std::alloc::Global;
+use text_forms::{Fault, Reader};
+use work_code::{LexFault, Tokens, lex};
+
+/// The program of a text.
+///
+/// # Errors
+///
+/// `Syntax` with unit 1 where the text is no program, one whose bytes have no tokens included.
+pub fn compile_streamit(alloc: Global, text: &Bytes) -> Result<StreamitProgram, StreamitFault>
+    requires { length text.now < 2 ^ 32 }
+    ensures read { IfOk result (λ p. compiled text.now ≡ Some (program_of p)) }
+    ensures refused { IfErr result (Refuses (compiled text.now)) }
+{
+    match lex(alloc, text) {
+        Ok(tokens) => read(alloc, &tokens),
+        Err(LexFault::BadByte { .. }) => Err(StreamitFault::Syntax { unit: 1 }),
+        Err(LexFault::BigNumber { .. }) => Err(StreamitFault::Syntax { unit: 1 }),
+        Err(LexFault::NoMemory) => Err(StreamitFault::NoMemory),
+    }
+}
+
+fn read(alloc: Global, tokens: &Tokens<'_>) -> Result<StreamitProgram, StreamitFault>
+    ensures read { IfOk result (λ p. whole program_at (toks tokens.now) ≡ Some (program_of p)) }
+    ensures refused { IfErr result (Refuses (whole program_at (toks tokens.now))) }
+{
+    let mut reader = Reader::new(tokens.as_slice());
+    match program(&mut reader, alloc) {
+        Ok(program) => {
+            if reader.is_at_end() {
+                Ok(program)
+            } else {
+                Err(StreamitFault::Syntax { unit: 1 })
+            }
+        }
+        Err(Fault::Syntax) => Err(StreamitFault::Syntax { unit: 1 }),
+        Err(Fault::NoMemory) => Err(StreamitFault::NoMemory),
+    }
+}

@@ -1,0 +1,100 @@
+// Reads a program from its tokens.
+ghost use Rattle.std.specs.Prelude.{◌≡◌, codes, map};
+ghost use Rattle.text_forms.specs.Gives.{Gives};
+ghost use Rattle.text_forms.specs.Parse.{tested, number_at};
+ghost use Rattle.streamit_front.specs.Grammar.{is_one};
+ghost use Rattle.streamit_front.specs.Reading.{body_at, work_at, program_at};
+ghost use Rattle.streamit_front.specs.Program.{program_of};
+
+use crate::StreamitProgram;
+use river_base::Bytes;
+use std::alloc::Global;
+use text_forms::{Fault, Reader};
+use work_code::Symbol;
+
+// Words that are no names.
+const KEYWORDS: &[&[u8]] = &[
+    b"int",
+    b"filter",
+    b"pipeline",
+    b"splitjoin",
+    b"init",
+    b"work",
+    b"prework",
+    b"push",
+    b"pop",
+    b"peek",
+    b"add",
+    b"split",
+    b"join",
+    b"duplicate",
+    b"roundrobin",
+    b"if",
+    b"else",
+    b"for",
+];
+
+// "push" "(" NUMBER "*" "pop" "(" ")" ")" ";" "}" "}"
+#[tactic(auto, unfolding(crate::specs::Reading::body_at))]
+fn body(reader: &mut Reader<'_>) -> Result<i64, Fault>
+    ensures { Gives (λ n. n) result reader.new (body_at reader.old) }
+{
+    reader.word(b"push")?;
+    reader.expect(&[Symbol::Open])?;
+    let factor = reader.value()?;
+    reader.expect(&[Symbol::Star])?;
+    reader.word(b"pop")?;
+    reader.expect(&[
+        Symbol::Open,
+        Symbol::Close,
+        Symbol::Close,
+        Symbol::Semicolon,
+        Symbol::CloseBrace,
+        Symbol::CloseBrace,
+    ])?;
+    Ok(factor)
+}
+
+// "push" 1 "pop" 1 "{" body
+#[tactic(auto, unfolding(crate::specs::Reading::work_at))]
+fn work(reader: &mut Reader<'_>) -> Result<i64, Fault>
+    ensures { Gives (λ n. n) result reader.new (work_at reader.old) }
+{
+    reader.word(b"push")?;
+    one(reader)?;
+    reader.word(b"pop")?;
+    one(reader)?;
+    reader.expect(&[Symbol::OpenBrace])?;
+    body(reader)
+}
+
+// the number 1
+fn one(reader: &mut Reader<'_>) -> Result<u64, Fault>
+    ensures { Gives (λ n. n) result reader.new (tested is_one number_at reader.old) }
+{
+    let value = reader.number()?;
+    if value == 1 {
+        Ok(value)
+    } else {
+        Err(Fault::Syntax)
+    }
+}
+
+// "int" "->" "int" "filter" NAME "{" "work" work
+#[tactic(auto, unfolding(crate::specs::Reading::program_at))]
+pub fn program(reader: &mut Reader<'_>, alloc: Global) -> Result<StreamitProgram, Fault>
+    ensures { Gives program_of result reader.new (program_at reader.old) }
+{
+    reader.word(b"int")?;
+    reader.expect(&[Symbol::Arrow])?;
+    reader.word(b"int")?;
+    reader.word(b"filter")?;
+    let name = reader.plain_name(KEYWORDS)?;
+    reader.expect(&[Symbol::OpenBrace])?;
+    reader.word(b"work")?;
+    let factor = work(reader)?;
+    Ok(StreamitProgram {
+        name: Bytes::from_slice(alloc, name)?,
+        factor,
+    })
+}
