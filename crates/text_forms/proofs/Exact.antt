@@ -279,9 +279,11 @@ pub exact-value : Exact form.Value parse.value_at Any
 exact-value = record { sound = sound; complete = complete } where
   x : Exact (form.Seen (λ n. pos n) (form.Tested parse.is_value form.Number)) parse.value_at Any
   x = exact-seen (λ n. pos n) (exact-tested parse.is_value exact-number)
+
   sound : (ts : List Tok) (v : ℤ) (rest : List Tok) → parse.value_at ts ≡ Some (v, rest) → Front form.Value v ts rest
   sound ts v rest e =
       let f = x.sound ts v rest e in
       record { front = f.front; is = f.is; formed = record { number = f.formed.value; fits = f.formed.formed.passes; is = f.formed.is; formed = f.formed.formed.formed } }
+
   complete : (v : ℤ) (s rest : List Tok) → form.Value v s → Any rest → parse.value_at (s ++ rest) ≡ Some (v, rest)
   complete v s rest h any = x.complete v s rest (record { value = h.number; is = h.is; formed = record { passes = h.fits; formed = h.formed } }) any

@@ -11,7 +11,7 @@ use Rattle.work_code.specs.declared.expr.BinOp.{BinOp}
 use Rattle.work_code.specs.declared.expr.BinOp.TheVariants as op
 use Rattle.text_forms.specs.declared.language.Language.{Language}
 use Rattle.text_forms.specs.declared.language.Language.TheVariants as lang
-use Rattle.text_forms.specs.Language.{has_input, has_slot, has_reads, names_values, is_plain, is_streamit_word, is_early_word, is_late_word, is_sawzall_word}
+use Rattle.text_forms.specs.Language.{has_input, has_slot, has_reads, names_values, is_plain}
 use Rattle.text_forms.specs.Expressions.{Spells, IsTerm, IsExpr, sign_of, rank_of}
 use Rattle.text_forms.specs.Expressions as rule
 use Rattle.text_forms.specs.Ladder.{op_of, of_rank, operator_at, joined, chain_on, chain_turn, place_at, pop_at, named, leaf_at, ahead, unary, ladder, within, expr_at}
@@ -204,15 +204,15 @@ differs l text word is_leaf is_none = by (bytes_eq text word) refl where
   by true e = let same : names_values l text ≡ false = ap (names_values l) ((bytes_eq-Decides text word).0 e) ∙ is_none in cc
 
 no_input : names_values lang.Sawzall (codes "input") ≡ false
-unfolding is_plain is_sawzall_word
+unfolding is_plain
 no_input = refl
 
 no_peek : names_values lang.StreamIt (codes "peek") ≡ false
-unfolding is_plain is_streamit_word is_early_word is_late_word
+unfolding is_plain
 no_peek = refl
 
 no_pop : names_values lang.StreamIt (codes "pop") ≡ false
-unfolding is_plain is_streamit_word is_early_word is_late_word
+unfolding is_plain
 no_pop = refl
 
 not-input : (l : Language) (text : List ℕ) → names_values l text ≡ true → (has_input l && bytes_eq text (codes "input")) ≡ false

@@ -5,13 +5,12 @@ mod expression;
 mod fault;
 mod language;
 mod measured;
-mod operator;
 mod names;
+mod operator;
 mod reader;
 mod tree;
 
 pub use fault::Fault;
 pub use language::Language;
-pub use names::is_plain;
 pub use reader::Reader;
 pub use tree::Tree;
