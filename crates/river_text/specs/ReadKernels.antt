@@ -115,10 +115,13 @@ filter_at n ts = seen made_filter (both (rates_at n) (both (starts_at n) (body_a
 unfoldable pub fused_at : Parse Kern → ℕ → Parse Kern
 fused_at braced n ts = seen made_fused (both (number_at n) (both braced braced)) ts
 
+unfoldable pub range_at : ℕ → Parse ℤ
+range_at n ts = round (λ m. value_at) n ts
+
 unfoldable pub bag_after : ℕ → List ℕ → Parse Kern
 bag_after n w ts =
     if bytes_eq w (codes "now") then Some (kern.window Now, ts)
-    else if bytes_eq w (codes "range") then seen (λ t. kern.window (Range t)) (round (λ m. value_at) n) ts
+    else if bytes_eq w (codes "range") then seen (λ t. kern.window (Range t)) (range_at n) ts
     else if bytes_eq w (codes "unbounded") then Some (kern.window Unbounded, ts)
     else if bytes_eq w (codes "latest") then seen (λ k. kern.window (Latest k)) (number_at n) ts
     else if bytes_eq w (codes "select") then seen kern.select (round_term_at n) ts

@@ -2,5 +2,6 @@
 #![tactic(auto)]
 
 mod body;
+mod kernel;
 mod number;
 mod term;

@@ -133,3 +133,20 @@ pub fn pair(reader: &mut Reader<'_>, brackets: u32) -> Result<(u32, u32), Fault>
     reader.expect(&[Symbol::Close])?;
     Ok((first, second))
 }
+
+/// `(N, N, N, N)`
+#[tactic(auto, unfolding(crate::specs::ReadKernels::rates_at))]
+pub fn rates(reader: &mut Reader<'_>, brackets: u32) -> Result<(u32, u32, u32, u32), Fault>
+    ensures { Gives (λ value. (value.0, (value.1, (value.2, value.3)))) result reader.new (rates_at brackets reader.old) }
+{
+    reader.opens(Symbol::Open, brackets)?;
+    let first = reader.count()?;
+    reader.expect(&[Symbol::Comma])?;
+    let second = reader.count()?;
+    reader.expect(&[Symbol::Comma])?;
+    let third = reader.count()?;
+    reader.expect(&[Symbol::Comma])?;
+    let fourth = reader.count()?;
+    reader.expect(&[Symbol::Close])?;
+    Ok((first, second, third, fourth))
+}

@@ -1,0 +1,17 @@
+-- The steps by which code reads kernels in braces.
+use Rattle.std.proofs.Common.{◌≡◌, ℕ, zero, suc, ◌<◌, ◌-◌, List, [], ◌∷◌, Option, Some, None, refl, sym, ap, ◌∙◌, arith}
+use Rattle.work_code.specs.Tok.{Tok}
+use Rattle.work_code.specs.declared.sign.Symbol.TheVariants as s
+use Rattle.text_forms.specs.Parse as parse
+use Rattle.river_text.specs.ReadKernels.{braced_at, kernel_at, kernel_after}
+
+less-one : (n : ℕ) → suc n - 1 ≡ n
+less-one n = omega arith
+
+pub braced-at : (n : ℕ) (ts : List Tok) → braced_at n ts ≡ parse.then_rest (parse.open_at s.OpenBrace n ts) (parse.before (kernel_at (n - 1)) (s.CloseBrace ∷ []))
+unfolding braced_at kernel_at parse.open_at
+braced-at zero ts = refl
+braced-at (suc n) ts =
+    ap (λ (k : ℕ). parse.then_rest (parse.run_at (s.OpenBrace ∷ []) ts) (parse.before (parse.headed (kernel_after (braced_at k) k)) (s.CloseBrace ∷ []))) (sym (less-one n))
+
+pub ruleset braces = (braced-at, braced-at)

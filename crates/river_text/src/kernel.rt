@@ -1,0 +1,181 @@
+// Kernels read.
+ghost use Rattle.std.specs.Prelude.{◌≡◌};
+ghost use Rattle.text_forms.specs.Gives.{Gives};
+ghost use Rattle.river_kernels.specs.Kern.{kern_of};
+ghost use Rattle.river_text.specs.ReadKernels.{code_at, filter_at, fused_at, bag_after, range_at, kernel_after, braced_at, kernel_at};
+
+use crate::body::body;
+use crate::number::{number, pair, rates, starts, weights, widths};
+use crate::term::{exprs, round_expr};
+use kern_bags::{Streamer, Window};
+use kern_rows::{CodeKernel, Filter};
+use river_kernels::Kernel;
+use std::alloc::Global;
+use text_forms::{Fault, Reader};
+use work_code::{Code, Symbol};
+
+// How deep `if` may nest.
+const NEST: u32 = 16;
+
+// What stands behind `code`.
+#[tactic(auto, unfolding(crate::specs::ReadKernels::code_at))]
+fn code(reader: &mut Reader<'_>, alloc: Global, brackets: u32) -> Result<Kernel, Fault>
+    ensures { Gives kern_of result reader.new (code_at brackets reader.old) }
+{
+    let (inputs, slots) = pair(reader, brackets)?;
+    let outs = widths(reader, alloc, brackets)?;
+    let starts = starts(reader, alloc, brackets)?;
+    let body = body(reader, alloc, NEST, brackets)?;
+    let code = Code {
+        inputs,
+        slots,
+        body,
+    };
+    Ok(Kernel::Code(CodeKernel { code, outs, starts }))
+}
+
+// What stands behind `filter`.
+#[tactic(auto, unfolding(crate::specs::ReadKernels::filter_at))]
+fn filter(reader: &mut Reader<'_>, alloc: Global, brackets: u32) -> Result<Kernel, Fault>
+    ensures { Gives kern_of result reader.new (filter_at brackets reader.old) }
+{
+    let (peek, pop, push, slots) = rates(reader, brackets)?;
+    let starts = starts(reader, alloc, brackets)?;
+    let body = body(reader, alloc, NEST, brackets)?;
+    let code = Code {
+        inputs: peek,
+        slots,
+        body,
+    };
+    Ok(Kernel::Filter(Filter {
+        peek,
+        pop,
+        push,
+        code,
+        starts,
+    }))
+}
+
+// What stands behind `range`.
+#[tactic(auto, unfolding(crate::specs::ReadKernels::range_at))]
+fn range(reader: &mut Reader<'_>, brackets: u32) -> Result<i64, Fault>
+    ensures { Gives (λ value. value) result reader.new (range_at brackets reader.old) }
+{
+    reader.opens(Symbol::Open, brackets)?;
+    let value = reader.value()?;
+    reader.expect(&[Symbol::Close])?;
+    Ok(value)
+}
+
+// What stands behind the word of a kernel on bags of rows.
+#[tactic(auto, unfolding(crate::specs::ReadKernels::bag_after))]
+fn bag_after(reader: &mut Reader<'_>, alloc: Global, brackets: u32, word: &[u8]) -> Result<Kernel, Fault>
+    ensures { Gives kern_of result reader.new (bag_after brackets word.now reader.old) }
+{
+    if word == b"now".as_slice() {
+        return Ok(Kernel::Window(Window::Now));
+    }
+    if word == b"range".as_slice() {
+        return Ok(Kernel::Window(Window::Range(range(reader, brackets)?)));
+    }
+    if word == b"unbounded".as_slice() {
+        return Ok(Kernel::Window(Window::Unbounded));
+    }
+    if word == b"latest".as_slice() {
+        return Ok(Kernel::Window(Window::Latest(number(reader, brackets)?)));
+    }
+    if word == b"select".as_slice() {
+        return Ok(Kernel::Select(round_expr(reader, alloc, brackets)?));
+    }
+    if word == b"project".as_slice() {
+        return Ok(Kernel::Project(exprs(reader, alloc, brackets)?));
+    }
+    if word == b"cross".as_slice() {
+        return Ok(Kernel::Cross);
+    }
+    if word == b"istream".as_slice() {
+        return Ok(Kernel::Streamer(Streamer::Istream));
+    }
+    if word == b"dstream".as_slice() {
+        return Ok(Kernel::Streamer(Streamer::Dstream));
+    }
+    if word == b"rstream".as_slice() {
+        return Ok(Kernel::Streamer(Streamer::Rstream));
+    }
+    if word == b"tally".as_slice() {
+        return Ok(Kernel::Tally);
+    }
+    Err(Fault::Syntax)
+}
+
+// What stands behind `fused`.
+#[cycle(kernel)]
+#[tactic(auto, unfolding(crate::specs::ReadKernels::fused_at))]
+fn fused(reader: &mut Reader<'_>, alloc: Global, brackets: u32) -> Result<Kernel, Fault>
+    ensures { Gives kern_of result reader.new (fused_at (braced_at brackets) brackets reader.old) }
+{
+    let at = number(reader, brackets)?;
+    let first = braced(reader, alloc, brackets)?;
+    let second = braced(reader, alloc, brackets)?;
+    Ok(Kernel::Fused {
+        first: Box::new(alloc, first)?,
+        second: Box::new(alloc, second)?,
+        at,
+    })
+}
+
+// What stands behind the word of a kernel.
+#[cycle(kernel)]
+#[tactic(auto, unfolding(crate::specs::ReadKernels::kernel_after))]
+fn kernel_after(reader: &mut Reader<'_>, alloc: Global, brackets: u32, word: &[u8]) -> Result<Kernel, Fault>
+    ensures { Gives kern_of result reader.new (kernel_after (braced_at brackets) brackets word.now reader.old) }
+{
+    if word == b"code".as_slice() {
+        return code(reader, alloc, brackets);
+    }
+    if word == b"filter".as_slice() {
+        return filter(reader, alloc, brackets);
+    }
+    if word == b"duplicate".as_slice() {
+        return Ok(Kernel::Duplicate(number(reader, brackets)?));
+    }
+    if word == b"deal".as_slice() {
+        return Ok(Kernel::Deal(weights(reader, alloc, brackets)?));
+    }
+    if word == b"collect".as_slice() {
+        return Ok(Kernel::Collect(weights(reader, alloc, brackets)?));
+    }
+    if word == b"packed".as_slice() {
+        let inner = braced(reader, alloc, brackets)?;
+        return Ok(Kernel::Packed(Box::new(alloc, inner)?));
+    }
+    if word == b"unpack".as_slice() {
+        return Ok(Kernel::Unpack(number(reader, brackets)?));
+    }
+    if word == b"fused".as_slice() {
+        return fused(reader, alloc, brackets);
+    }
+    bag_after(reader, alloc, brackets, word)
+}
+
+// `{` kernel `}`
+#[cycle(kernel)]
+#[tactic(auto, using(crate::proofs::Braces::braces))]
+fn braced(reader: &mut Reader<'_>, alloc: Global, brackets: u32) -> Result<Kernel, Fault>
+    ensures { Gives kern_of result reader.new (braced_at brackets reader.old) }
+{
+    let inner = reader.opens(Symbol::OpenBrace, brackets)?;
+    let kernel = kernel(reader, alloc, inner)?;
+    reader.expect(&[Symbol::CloseBrace])?;
+    Ok(kernel)
+}
+
+/// A kernel, where `brackets` more brackets may be open.
+#[cycle(kernel)]
+#[tactic(auto, unfolding(crate::specs::ReadKernels::kernel_at))]
+pub fn kernel(reader: &mut Reader<'_>, alloc: Global, brackets: u32) -> Result<Kernel, Fault>
+    ensures { Gives kern_of result reader.new (kernel_at brackets reader.old) }
+{
+    let word = reader.name()?;
+    kernel_after(reader, alloc, brackets, word)
+}
