@@ -5,13 +5,14 @@ use Rattle.work_code.specs.Tok.{Tok, Mark, toks}
 use Rattle.work_code.specs.Lexis.{tokens_in}
 use Rattle.work_code.specs.declared.fault.LexFault.{LexFault}
 use Rattle.work_code.specs.declared.sign.Symbol.TheVariants.{Arrow, Open, Close, OpenBrace, CloseBrace, Semicolon, Star}
-use Rattle.text_forms.specs.Parse.{is_plain}
+use Rattle.text_forms.specs.declared.language.Language.TheVariants.{StreamIt}
+use Rattle.text_forms.specs.Language.{is_plain}
 use Rattle.text_forms.specs.Texts.{whole}
 use Rattle.text_forms.proofs.Pairs.{some_inj}
 use Rattle.text_forms.proofs.Exact.{Exact, Any, exact-name, exact-number, exact-value, exact-nothing, exact-both, exact-after, exact-after_word, exact-tested, exact-seen}
 use Rattle.text_forms.proofs.Texts.{whole-sound, whole-complete}
 use Rattle.streamit_front.specs.Program.{Program}
-use Rattle.streamit_front.specs.Grammar.{keywords, is_one, made, IsBody, IsWork, IsProgram, IsText}
+use Rattle.streamit_front.specs.Grammar.{is_one, made, IsBody, IsWork, IsProgram, IsText}
 use Rattle.streamit_front.specs.Reading.{body_at, work_at, program_at, read_marks, compiled}
 use Rattle.streamit_front.specs.Laws.{ReadsWhatIsWritten, ReadsAllThatIsWritten, OneProgram}
 
@@ -31,7 +32,7 @@ pub exact-program : Exact IsProgram program_at Any
 unfolding program_at
 exact-program =
     exact-seen made (exact-after_word (codes "int") (exact-after (Arrow ∷ []) (exact-after_word (codes "int") (exact-after_word (codes "filter")
-    (exact-both (exact-tested (is_plain keywords) exact-name) (exact-after (OpenBrace ∷ []) (exact-after_word (codes "work") exact-work)) (λ y s rest g d. tt))))))
+    (exact-both (exact-tested (is_plain StreamIt) exact-name) (exact-after (OpenBrace ∷ []) (exact-after_word (codes "work") exact-work)) (λ y s rest g d. tt))))))
 
 from_marks : (r : Result (List Mark) LexFault) (p : Program) → read_marks r ≡ Some p → (marks : List Mark) × (r ≡ Ok marks) × IsProgram p (toks marks)
 from_marks (Ok marks) p e = (marks, refl, whole-sound exact-program (toks marks) p e)

@@ -4,15 +4,10 @@ use Rattle.work_code.specs.Tok.{Tok, Mark, toks}
 use Rattle.work_code.specs.Lexis.{tokens_in}
 use Rattle.work_code.specs.declared.fault.LexFault.{LexFault}
 use Rattle.work_code.specs.declared.sign.Symbol.TheVariants.{Arrow, Open, Close, OpenBrace, CloseBrace, Semicolon, Star}
-use Rattle.text_forms.specs.Parse.{is_plain}
+use Rattle.text_forms.specs.declared.language.Language.TheVariants.{StreamIt}
+use Rattle.text_forms.specs.Language.{is_plain}
 use Rattle.text_forms.specs.Forms.{Name, Number, Value, Nothing, Both, After, AfterWord, Tested, Seen}
 use Rattle.streamit_front.specs.Program.{Program}
-
--- words that are no names
-abbrev pub keywords : List (List ℕ)
-keywords =
-    codes "int" ∷ codes "filter" ∷ codes "pipeline" ∷ codes "splitjoin" ∷ codes "init" ∷ codes "work" ∷ codes "prework" ∷ codes "push" ∷ codes "pop"
-    ∷ codes "peek" ∷ codes "add" ∷ codes "split" ∷ codes "join" ∷ codes "duplicate" ∷ codes "roundrobin" ∷ codes "if" ∷ codes "else" ∷ codes "for" ∷ []
 
 -- the number 1
 abbrev pub is_one : ℕ → Bool
@@ -37,7 +32,7 @@ made v = record { name = v.0; factor = v.1 }
 abbrev pub IsProgram : Program → List Tok → Type 0
 IsProgram =
     Seen made (AfterWord (codes "int") (After (Arrow ∷ []) (AfterWord (codes "int") (AfterWord (codes "filter")
-    (Both (Tested (is_plain keywords) Name) (After (OpenBrace ∷ []) (AfterWord (codes "work") IsWork)))))))
+    (Both (Tested (is_plain StreamIt) Name) (After (OpenBrace ∷ []) (AfterWord (codes "work") IsWork)))))))
 
 -- the text has tokens, without a fault, and they stand for the program
 pub record IsText (text : List ℕ) (p : Program) : Type 0 where

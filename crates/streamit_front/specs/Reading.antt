@@ -4,9 +4,11 @@ use Rattle.work_code.specs.Tok.{Tok, Mark, toks}
 use Rattle.work_code.specs.Lexis.{tokens_in}
 use Rattle.work_code.specs.declared.fault.LexFault.{LexFault}
 use Rattle.work_code.specs.declared.sign.Symbol.TheVariants.{Arrow, Open, Close, OpenBrace, CloseBrace, Semicolon, Star}
-use Rattle.text_forms.specs.Parse.{Parse, plain_name_at, number_at, value_at, nothing_at, both, after, after_word, tested, seen}
+use Rattle.text_forms.specs.declared.language.Language.TheVariants.{StreamIt}
+use Rattle.text_forms.specs.Language.{plain_name_at}
+use Rattle.text_forms.specs.Parse.{Parse, number_at, value_at, nothing_at, both, after, after_word, tested, seen}
 use Rattle.text_forms.specs.Texts.{whole}
-use Rattle.streamit_front.specs.Grammar.{keywords, is_one, made}
+use Rattle.streamit_front.specs.Grammar.{is_one, made}
 use Rattle.streamit_front.specs.Program.{Program}
 
 unfoldable pub body_at : Parse ℤ
@@ -21,7 +23,7 @@ work_at ts =
 unfoldable pub program_at : Parse Program
 program_at ts =
     seen made (after_word (codes "int") (after (Arrow ∷ []) (after_word (codes "int") (after_word (codes "filter")
-    (both (plain_name_at keywords) (after (OpenBrace ∷ []) (after_word (codes "work") work_at))))))) ts
+    (both (plain_name_at StreamIt) (after (OpenBrace ∷ []) (after_word (codes "work") work_at))))))) ts
 
 abbrev pub read_marks : Result (List Mark) LexFault → Option Program
 read_marks (Ok marks) = whole program_at (toks marks)

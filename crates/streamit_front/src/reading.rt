@@ -1,5 +1,5 @@
 // Reads a program from its tokens.
-ghost use Rattle.std.specs.Prelude.{◌≡◌, codes, map};
+ghost use Rattle.std.specs.Prelude.{◌≡◌, codes};
 ghost use Rattle.text_forms.specs.Gives.{Gives};
 ghost use Rattle.text_forms.specs.Parse.{tested, number_at};
 ghost use Rattle.streamit_front.specs.Grammar.{is_one};
@@ -9,30 +9,8 @@ ghost use Rattle.streamit_front.specs.Program.{program_of};
 use crate::StreamitProgram;
 use river_base::Bytes;
 use std::alloc::Global;
-use text_forms::{Fault, Reader};
+use text_forms::{Fault, Language, Reader};
 use work_code::Symbol;
-
-// Words that are no names.
-const KEYWORDS: &[&[u8]] = &[
-    b"int",
-    b"filter",
-    b"pipeline",
-    b"splitjoin",
-    b"init",
-    b"work",
-    b"prework",
-    b"push",
-    b"pop",
-    b"peek",
-    b"add",
-    b"split",
-    b"join",
-    b"duplicate",
-    b"roundrobin",
-    b"if",
-    b"else",
-    b"for",
-];
 
 // "push" "(" NUMBER "*" "pop" "(" ")" ")" ";" "}" "}"
 #[tactic(auto, unfolding(crate::specs::Reading::body_at))]
@@ -89,7 +67,7 @@ pub fn program(reader: &mut Reader<'_>, alloc: Global) -> Result<StreamitProgram
     reader.expect(&[Symbol::Arrow])?;
     reader.word(b"int")?;
     reader.word(b"filter")?;
-    let name = reader.plain_name(KEYWORDS)?;
+    let name = reader.plain_name(Language::StreamIt)?;
     reader.expect(&[Symbol::OpenBrace])?;
     reader.word(b"work")?;
     let factor = work(reader)?;

@@ -79,7 +79,7 @@ exact-nothing {A} x = record { sound = sound; complete = complete } where
   complete v s rest f any = rw (f.0, f.1) refl
 
 -- how a reading that went on began
-then_read-some : {A B : Type 0} (r : Option (A × List Tok)) (more : A → List Tok → Option (B × List Tok)) (v : B × List Tok) → parse.then_read r more ≡ Some v → (q : A × List Tok) × (r ≡ Some q) × (more q.0 q.1 ≡ Some v)
+pub then_read-some : {A B : Type 0} (r : Option (A × List Tok)) (more : A → List Tok → Option (B × List Tok)) (v : B × List Tok) → parse.then_read r more ≡ Some v → (q : A × List Tok) × (r ≡ Some q) × (more q.0 q.1 ≡ Some v)
 then_read-some None more v e = cc
 then_read-some (Some q) more v e = (q, refl, e)
 
@@ -87,7 +87,7 @@ then_rest-some : {B : Type 0} (r : Option (List Tok)) (more : List Tok → Optio
 then_rest-some None more v e = cc
 then_rest-some (Some q) more v e = (q, refl, e)
 
-if-some : {B : Type 0} (b : Bool) (r : Option B) (v : B) → cond b r None ≡ Some v → (b ≡ true) × (r ≡ Some v)
+pub if-some : {B : Type 0} (b : Bool) (r : Option B) (v : B) → cond b r None ≡ Some v → (b ≡ true) × (r ≡ Some v)
 if-some true r v e = (refl, e)
 if-some false r v e = cc
 
@@ -279,9 +279,11 @@ pub exact-value : Exact form.Value parse.value_at Any
 exact-value = record { sound = sound; complete = complete } where
   x : Exact (form.Seen (λ n. pos n) (form.Tested parse.is_value form.Number)) parse.value_at Any
   x = exact-seen (λ n. pos n) (exact-tested parse.is_value exact-number)
+
   sound : (ts : List Tok) (v : ℤ) (rest : List Tok) → parse.value_at ts ≡ Some (v, rest) → Front form.Value v ts rest
   sound ts v rest e =
       let f = x.sound ts v rest e in
       record { front = f.front; is = f.is; formed = record { number = f.formed.value; fits = f.formed.formed.passes; is = f.formed.is; formed = f.formed.formed.formed } }
+
   complete : (v : ℤ) (s rest : List Tok) → form.Value v s → Any rest → parse.value_at (s ++ rest) ≡ Some (v, rest)
   complete v s rest h any = x.complete v s rest (record { value = h.number; is = h.is; formed = record { passes = h.fits; formed = h.formed } }) any

@@ -1,8 +1,10 @@
 pub mod Exact
+pub mod Ladder
 pub mod Many
 pub mod Pairs
 pub mod Repeat
 pub mod Runs
+pub mod Steps
 pub mod Symbols
 pub mod Texts
 pub mod Tokens

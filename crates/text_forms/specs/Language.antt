@@ -1,43 +1,33 @@
 -- Names and leaves of the languages whose expressions share a ladder.
-use Rattle.std.specs.Prelude.{ℕ, Bool, true, false, not, ◌&&◌, ◌||◌, ◌==◌, nat_le, length, List, codes, nat_eq}
-use Rattle.std.specs.List.{list_any}
+use Rattle.std.specs.Prelude.{ℕ, Bool, true, false, not, ◌&&◌, ◌==◌, List, [], ◌∷◌, codes}
+use Rattle.std.specs.List.{list_all, list_any}
 use Rattle.std.specs.Str.{bytes_eq}
 use Rattle.text_forms.specs.declared.language.Language.{Language}
 use Rattle.text_forms.specs.declared.language.Language.TheVariants.{River, StreamIt, Sawzall}
+use Rattle.text_forms.specs.Parse.{Parse, is_short, tested, name_at}
 
--- the keywords of StreamIt
-unfoldable pub is_early_word : List ℕ → Bool
-is_early_word text =
-    bytes_eq text (codes "int") || bytes_eq text (codes "filter") || bytes_eq text (codes "pipeline")
-    || bytes_eq text (codes "splitjoin") || bytes_eq text (codes "init") || bytes_eq text (codes "work")
-    || bytes_eq text (codes "prework") || bytes_eq text (codes "push") || bytes_eq text (codes "pop")
+-- the words that are no names
+abbrev pub keywords : Language → List (List ℕ)
+keywords River = []
+keywords StreamIt =
+    codes "int" ∷ codes "filter" ∷ codes "pipeline" ∷ codes "splitjoin" ∷ codes "init" ∷ codes "work" ∷ codes "prework" ∷ codes "push" ∷ codes "pop"
+    ∷ codes "peek" ∷ codes "add" ∷ codes "split" ∷ codes "join" ∷ codes "duplicate" ∷ codes "roundrobin" ∷ codes "if" ∷ codes "else" ∷ codes "for" ∷ []
+keywords Sawzall =
+    codes "table" ∷ codes "of" ∷ codes "weight" ∷ codes "int" ∷ codes "sum" ∷ codes "collection" ∷ codes "maximum" ∷ codes "emit" ∷ codes "input"
+    ∷ codes "if" ∷ codes "else" ∷ []
 
-unfoldable pub is_late_word : List ℕ → Bool
-is_late_word text =
-    bytes_eq text (codes "peek") || bytes_eq text (codes "add") || bytes_eq text (codes "split")
-    || bytes_eq text (codes "join") || bytes_eq text (codes "duplicate") || bytes_eq text (codes "roundrobin")
-    || bytes_eq text (codes "if") || bytes_eq text (codes "else") || bytes_eq text (codes "for")
+-- at most 40 bytes, no @, and none of these words
+abbrev pub is_free : List (List ℕ) → List ℕ → Bool
+is_free words text = is_short 40 text && (list_all (λ c. not (c == 64)) text && not (list_any (λ word. bytes_eq text word) words))
 
-unfoldable pub is_streamit_word : List ℕ → Bool
-is_streamit_word text = is_early_word text || is_late_word text
-
--- the keywords of Sawzall
-unfoldable pub is_sawzall_word : List ℕ → Bool
-is_sawzall_word text =
-    bytes_eq text (codes "table") || bytes_eq text (codes "of") || bytes_eq text (codes "weight")
-    || bytes_eq text (codes "int") || bytes_eq text (codes "sum") || bytes_eq text (codes "collection")
-    || bytes_eq text (codes "maximum") || bytes_eq text (codes "emit") || bytes_eq text (codes "input")
-    || bytes_eq text (codes "if") || bytes_eq text (codes "else")
-
--- a name of a front: at most 40 bytes and no @
-abbrev pub is_short_plain : List ℕ → Bool
-is_short_plain text = nat_le (length text) 40 && not (list_any (λ b. nat_eq b 64) text)
-
--- the text may be a name in this language
+-- a name that users may give: in River text at most 64 bytes, otherwise at most 40, without @, and no keyword
 unfoldable pub is_plain : Language → List ℕ → Bool
-is_plain River text = nat_le (length text) 64
-is_plain StreamIt text = is_short_plain text && not (is_streamit_word text)
-is_plain Sawzall text = is_short_plain text && not (is_sawzall_word text)
+is_plain River text = is_short 64 text
+is_plain StreamIt text = is_free (keywords StreamIt) text
+is_plain Sawzall text = is_free (keywords Sawzall) text
+
+abbrev pub plain_name_at : Language → Parse (List ℕ)
+plain_name_at l ts = tested (is_plain l) name_at ts
 
 -- input[N] is a leaf
 abbrev pub has_input : Language → Bool

@@ -3,6 +3,7 @@ pub mod Forms
 pub mod Gives
 pub mod Ladder
 pub mod Language
+pub mod Measure
 pub mod Parse
 pub mod Repeat
 pub mod Tail

@@ -88,13 +88,6 @@ value_at ts = then_read (tested is_value number_at ts) (λ n us. Some (pos n, us
 abbrev pub is_short : ℕ → List ℕ → Bool
 is_short most text = nat_le (length text) most
 
--- a name that users may give: at most 40 bytes, no @, and none of the language's keywords
-abbrev pub is_plain : List (List ℕ) → List ℕ → Bool
-is_plain keywords text = is_short 40 text && (list_all (λ c. not (c == 64)) text && not (list_any (λ word. bytes_eq text word) keywords))
-
-abbrev pub plain_name_at : List (List ℕ) → Parse (List ℕ)
-plain_name_at keywords ts = tested (is_plain keywords) name_at ts
-
 -- nothing, which always is there
 abbrev pub nothing_at : {A : Type 0} → A → Parse A
 nothing_at v ts = Some (v, ts)

@@ -1,6 +1,8 @@
 // The languages whose expressions share a ladder.
 ghost use Rattle.std.specs.Prelude.{◌≡◌};
-ghost use Rattle.text_forms.specs.Language.{is_early_word, is_late_word, is_streamit_word, is_sawzall_word, is_plain, has_input, has_slot, has_reads, names_values};
+ghost use Rattle.text_forms.specs.Language.{is_plain, has_input, has_slot, has_reads, names_values};
+
+use crate::names::is_free;
 
 /// A language whose expressions have the shared operators; the leaves and the words that are no names differ.
 #[derive(Clone, Copy, Debug, PartialEq, Eq)]
@@ -13,63 +15,40 @@ pub enum Language {
     Sawzall,
 }
 
-// Whether this is one of the first of StreamIt's keywords.
-#[tactic(auto, unfolding(crate::specs::Language::is_early_word))]
-fn is_early_word(text: &[u8]) -> bool
-    ensures { result ≡ is_early_word text.now }
-{
-    text == b"int".as_slice()
-        || text == b"filter".as_slice()
-        || text == b"pipeline".as_slice()
-        || text == b"splitjoin".as_slice()
-        || text == b"init".as_slice()
-        || text == b"work".as_slice()
-        || text == b"prework".as_slice()
-        || text == b"push".as_slice()
-        || text == b"pop".as_slice()
-}
+const STREAMIT_WORDS: &[&[u8]] = &[
+    b"int",
+    b"filter",
+    b"pipeline",
+    b"splitjoin",
+    b"init",
+    b"work",
+    b"prework",
+    b"push",
+    b"pop",
+    b"peek",
+    b"add",
+    b"split",
+    b"join",
+    b"duplicate",
+    b"roundrobin",
+    b"if",
+    b"else",
+    b"for",
+];
 
-// Whether this is one of the last of StreamIt's keywords.
-#[tactic(auto, unfolding(crate::specs::Language::is_late_word))]
-fn is_late_word(text: &[u8]) -> bool
-    ensures { result ≡ is_late_word text.now }
-{
-    text == b"peek".as_slice()
-        || text == b"add".as_slice()
-        || text == b"split".as_slice()
-        || text == b"join".as_slice()
-        || text == b"duplicate".as_slice()
-        || text == b"roundrobin".as_slice()
-        || text == b"if".as_slice()
-        || text == b"else".as_slice()
-        || text == b"for".as_slice()
-}
-
-// Whether this is a keyword of StreamIt.
-#[tactic(auto, unfolding(crate::specs::Language::is_streamit_word))]
-fn is_streamit_word(text: &[u8]) -> bool
-    ensures { result ≡ is_streamit_word text.now }
-{
-    is_early_word(text) || is_late_word(text)
-}
-
-// Whether this is a keyword of Sawzall.
-#[tactic(auto, unfolding(crate::specs::Language::is_sawzall_word))]
-fn is_sawzall_word(text: &[u8]) -> bool
-    ensures { result ≡ is_sawzall_word text.now }
-{
-    text == b"table".as_slice()
-        || text == b"of".as_slice()
-        || text == b"weight".as_slice()
-        || text == b"int".as_slice()
-        || text == b"sum".as_slice()
-        || text == b"collection".as_slice()
-        || text == b"maximum".as_slice()
-        || text == b"emit".as_slice()
-        || text == b"input".as_slice()
-        || text == b"if".as_slice()
-        || text == b"else".as_slice()
-}
+const SAWZALL_WORDS: &[&[u8]] = &[
+    b"table",
+    b"of",
+    b"weight",
+    b"int",
+    b"sum",
+    b"collection",
+    b"maximum",
+    b"emit",
+    b"input",
+    b"if",
+    b"else",
+];
 
 impl Language {
     /// Whether this may be a name: in River text at most 64 bytes, in the others at most 40 bytes, no `@` and no keyword.
@@ -79,8 +58,8 @@ impl Language {
     {
         match self {
             Language::River => text.len() <= 64,
-            Language::StreamIt => text.len() <= 40 && !text.contains(&b'@') && !is_streamit_word(text),
-            Language::Sawzall => text.len() <= 40 && !text.contains(&b'@') && !is_sawzall_word(text),
+            Language::StreamIt => is_free(text, STREAMIT_WORDS),
+            Language::Sawzall => is_free(text, SAWZALL_WORDS),
         }
     }
 

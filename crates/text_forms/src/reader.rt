@@ -1,10 +1,11 @@
 // A reader of tokens.
-ghost use Rattle.std.specs.Prelude.{◌≡◌, MatchOption, List, [], ◌∷◌, map, if◌then◌else◌, IsTrue, ◌↔◌};
+ghost use Rattle.std.specs.Prelude.{◌≡◌, MatchOption, List, [], ◌∷◌, if◌then◌else◌, IsTrue, ◌↔◌};
 ghost use Rattle.text_forms.specs.Tail.{tail};
-ghost use Rattle.text_forms.specs.Parse.{begins_with, is_word_at, word_at, run_at, name_at, var_at, number_at, count_at, plain_name_at, value_at};
+ghost use Rattle.text_forms.specs.Parse.{begins_with, is_word_at, word_at, run_at, name_at, var_at, number_at, count_at, value_at};
+ghost use Rattle.text_forms.specs.Language.{plain_name_at};
 ghost use Rattle.text_forms.specs.Gives.{Gives, Passes};
 
-use crate::{Fault, is_plain};
+use crate::{Fault, Language};
 use std::marker::Model;
 use work_code::{Lexeme, Symbol, Token};
 
@@ -156,12 +157,12 @@ impl<'a> Reader<'a> {
         }
     }
 
-    /// The name that has to come next, which is one that users may give in a language with these keywords.
-    pub fn plain_name(&mut self, keywords: &[&[u8]]) -> Result<&'a [u8], Fault>
-        ensures { Gives (λ text. text.now) result self.new (plain_name_at (map (λ word. word.now) keywords.now) self.old) }
+    /// The name that has to come next, which is one that users may give in this language.
+    pub fn plain_name(&mut self, language: Language) -> Result<&'a [u8], Fault>
+        ensures { Gives (λ text. text.now) result self.new (plain_name_at language self.old) }
     {
         let text = self.name()?;
-        if is_plain(text, keywords) {
+        if language.is_plain(text) {
             Ok(text)
         } else {
             Err(Fault::Syntax)
