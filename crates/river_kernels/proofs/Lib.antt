@@ -1,0 +1,2 @@
+pub mod FitsLaw
+pub mod TypeLemmas

@@ -1,1 +1,4 @@
+pub mod Fits
+pub mod Formed
 pub mod Kern
+pub mod Types

@@ -2,5 +2,7 @@
 #![tactic(auto)]
 
 mod kernel;
+mod types;
 
 pub use kernel::Kernel;
+pub use types::{Types, VarKind};
