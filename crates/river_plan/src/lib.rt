@@ -1,0 +1,10 @@
+//! Plans: queues, variables and operators, and the check of a plan.
+#![tactic(auto)]
+
+mod fault;
+mod op;
+mod plan;
+
+pub use fault::{Limit, Named, PlanFault};
+pub use op::{Names, Op, Ops};
+pub use plan::{Decl, Decls, RawPlan, TableDecl, TableDecls};
