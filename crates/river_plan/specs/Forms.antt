@@ -1,5 +1,5 @@
 -- Plans as plain data, keyed by names: all definitions speak of these.
-use Rattle.std.specs.Prelude.{ℕ, List, [], map}
+use Rattle.std.specs.Prelude.{ℕ, List, [], ◌++◌, map}
 use Rattle.river_kernels.specs.Kern.{Kern, kern_of}
 use Rattle.river_plan.specs.declared.op.Op.{Op}
 use Rattle.river_plan.specs.declared.plan.Decl.{Decl}
@@ -38,3 +38,21 @@ plan_form p = record { outputs = p.outputs; inputs = p.inputs; queues = p.queues
 
 abbrev pub empty_form : PlanForm
 empty_form = record { outputs = []; inputs = []; queues = []; tables = []; vars = []; ops = [] }
+
+-- the names of the declarations
+abbrev pub decl_names : List Decl → List Name
+decl_names ds = map (λ d. d.name) ds
+
+abbrev pub table_names : List TableDecl → List Name
+table_names ts = map (λ t. t.name) ts
+
+abbrev pub labels : List OpForm → List Name
+labels ops = map (λ op. op.label) ops
+
+-- the queues: the outputs, the inputs, the others
+abbrev pub queue_names : PlanForm → List Name
+queue_names p = decl_names p.outputs ++ (decl_names p.inputs ++ decl_names p.queues)
+
+-- the variables: the tables, the others
+abbrev pub variable_names : PlanForm → List Name
+variable_names p = table_names p.tables ++ p.vars

@@ -2,8 +2,12 @@
 #![tactic(auto)]
 
 mod fault;
+mod lists;
+mod name_set;
 mod op;
 mod plan;
+mod search;
+
 
 pub use fault::{Limit, Named, PlanFault};
 pub use op::{Names, Op, Ops};
