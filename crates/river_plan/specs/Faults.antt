@@ -12,7 +12,7 @@ use Rattle.river_plan.specs.declared.plan.TableDecl.{TableDecl}
 use Rattle.river_plan.specs.declared.fault.Named.{Named}
 use Rattle.river_plan.specs.declared.fault.Named.TheVariants.{Queue, Variable, Label}
 use Rattle.river_plan.specs.Forms.{Name, OpForm, PlanForm, decl_names, queue_names, variable_names, labels}
-use Rattle.river_plan.specs.Names.{count}
+use Rattle.river_plan.specs.Names.{count, IsUsedOnce}
 use Rattle.river_plan.specs.First.{OrElse, As, IsFirst, Along}
 use Rattle.river_plan.specs.Uses.{Each, total, writes_it, reads_it, vars_it}
 
@@ -30,18 +30,14 @@ Repeated p =
 abbrev pub IsIn : List Name → List Name → Name → Type 0
 IsIn declared before w = 0 < count w declared
 
-abbrev pub UndeclaredAt : PlanForm → OpForm → Option Named → Type 0
-UndeclaredAt p op =
-    OrElse (As Queue (IsFirst (IsIn (queue_names p)) op.reads))
-    (OrElse (As Queue (IsFirst (IsIn (queue_names p)) op.writes))
-    (As Variable (IsFirst (IsIn (variable_names p)) op.vars)))
+abbrev pub UndeclaredAt : (queues variables : List Name) → OpForm → Option Named → Type 0
+UndeclaredAt queues variables op =
+    OrElse (As Queue (IsFirst (IsIn queues) op.reads))
+    (OrElse (As Queue (IsFirst (IsIn queues) op.writes))
+    (As Variable (IsFirst (IsIn variables) op.vars)))
 
 abbrev pub Undeclared : PlanForm → Option Named → Type 0
-Undeclared p = Along (λ before op. UndeclaredAt p op) [] p.ops
-
--- at most once, and never where it is given
-abbrev pub IsUsedOnce : (given uses : ℕ) → Type 0
-IsUsedOnce given uses = (uses ≤ 1) × (0 < given → uses ≡ 0)
+Undeclared p = Along (λ before op. UndeclaredAt (queue_names p) (variable_names p) op) [] p.ops
 
 -- P3: the first queue that is written twice, or that is an input and written
 abbrev pub WrittenTwice : PlanForm → Option Named → Type 0
@@ -52,11 +48,14 @@ abbrev pub ReadTwice : PlanForm → Option Named → Type 0
 ReadTwice p = As Queue (IsFirst (λ before q. IsUsedOnce (count q (decl_names p.outputs)) (total (reads_it q) p.ops)) (queue_names p))
 
 -- P5: the first queue that an operator reads, and that is neither an input nor written by an operator listed before
-abbrev pub IsWritten : PlanForm → List OpForm → Name → Type 0
-IsWritten p before r = 0 < count r (decl_names p.inputs) + total (writes_it r) before
+abbrev pub IsWritten : (inputs : List Name) → List OpForm → Name → Type 0
+IsWritten inputs before r = 0 < count r inputs + total (writes_it r) before
+
+abbrev pub ReadTooEarlyAt : (inputs : List Name) → List OpForm → OpForm → Option Named → Type 0
+ReadTooEarlyAt inputs before op = As Queue (IsFirst (λ before_it r. IsWritten inputs before r) op.reads)
 
 abbrev pub ReadTooEarly : PlanForm → Option Named → Type 0
-ReadTooEarly p = Along (λ before op. As Queue (IsFirst (λ before_it r. IsWritten p before r) op.reads)) [] p.ops
+ReadTooEarly p = Along (ReadTooEarlyAt (decl_names p.inputs)) [] p.ops
 
 -- P6: the first queue with a width that is not 1 to 16, or that is an output or input and of another type than rows or
 -- a stream; then the first table with more than 8 keys, or that keeps no row
@@ -92,12 +91,15 @@ IsTable (Maximum best keys) = (keys ≤ 8) × (1 ≤ best)
 abbrev pub MistypedQueue : (Decl → Type 0) → List Decl → Option Named → Type 0
 MistypedQueue good ds = As (λ d. Queue d.name) (IsFirst (λ before d. good d) ds)
 
+abbrev pub MistypedTable : List TableDecl → Option Named → Type 0
+MistypedTable ts = As (λ t. Variable t.name) (IsFirst (λ before t. IsTable t.kind) ts)
+
 abbrev pub Mistyped : PlanForm → Option Named → Type 0
 Mistyped p =
     OrElse (MistypedQueue IsOuter p.outputs)
     (OrElse (MistypedQueue IsOuter p.inputs)
     (OrElse (MistypedQueue HasWidth p.queues)
-    (As (λ t. Variable t.name) (IsFirst (λ before t. IsTable t.kind) p.tables))))
+    (MistypedTable p.tables)))
 
 -- P9: the first variable that stands twice in one operator, or that is private and stands in two
 abbrev pub IsApart : PlanForm → Name → Type 0

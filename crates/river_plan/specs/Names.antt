@@ -1,5 +1,5 @@
 -- How often names stand in lists.
-use Rattle.std.specs.Prelude.{◌≡◌, ℕ, ◌+◌, ◌<◌, ◌↔◌, Bool, true, false, List, [], ◌∷◌, ◌++◌, nat_lt, if◌then◌else◌}
+use Rattle.std.specs.Prelude.{◌≡◌, ℕ, ◌+◌, ◌<◌, ◌≤◌, Bool, true, false, List, [], ◌∷◌, ◌++◌, nat_lt, if◌then◌else◌}
 use Rattle.river_base.specs.Name.{name_eq}
 use Rattle.river_plan.specs.Forms.{Name}
 
@@ -20,3 +20,12 @@ with_name ws w = if nat_lt 0 (count w ws) then ws else ws ++ w ∷ []
 pub record SameNames (ws vs : List Name) : Type 0 where
   pub there : (q : Name) → 0 < count q ws → 0 < count q vs
   pub back : (q : Name) → 0 < count q vs → 0 < count q ws
+
+-- at most once, and never where it is given
+abbrev pub IsUsedOnce : (given uses : ℕ) → Type 0
+IsUsedOnce given uses = (uses ≤ 1) × (0 < given → uses ≡ 0)
+
+-- the names that are used twice, or that are given and used
+pub record AreDoubled (given uses names : List Name) : Type 0 where
+  pub there : (q : Name) → 0 < count q names → IsUsedOnce (count q given) (count q uses) → ⊥
+  pub back : (q : Name) → count q names ≡ 0 → IsUsedOnce (count q given) (count q uses)
