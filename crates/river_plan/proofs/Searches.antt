@@ -1,5 +1,6 @@
 -- Searches for the same thing find the same.
-use Rattle.std.proofs.Common.{◌≡◌, ◌⊎◌, List, [], ◌∷◌, ◌++◌, Option, Some, None, inl, inr, ⊎_elim}
+use Rattle.std.specs.Option.{option_map}
+use Rattle.std.proofs.Common.{refl, ◌≡◌, ◌⊎◌, List, [], ◌∷◌, ◌++◌, Option, Some, None, inl, inr, ⊎_elim}
 use Rattle.river_plan.specs.First.{OrElse, As, Unless, Along, IsFirst}
 
 pub or_else-cong : {B : Type 0} (s s' t t' : Option B → Type 0) → ((o : Option B) → s o → s' o) → ((o : Option B) → t o → t' o) → (o : Option B) → OrElse s t o → OrElse s' t' o
@@ -22,3 +23,8 @@ along-cong s s' f before (y ∷ ys) o h =
 
 pub first-cong : {A : Type 0} (P Q : List A → A → Type 0) → ((b : List A) (y : A) → P b y → Q b y) → ((b : List A) (y : A) → Q b y → P b y) → (xs : List A) (o : Option A) → IsFirst P xs o → IsFirst Q xs o
 first-cong P Q f g xs o h = along-cong (λ b y. Unless (P b y) y) (λ b y. Unless (Q b y) y) (λ b y. unless-cong (P b y) (Q b y) y (f b y) (g b y)) [] xs o h
+
+-- what is found, under f
+pub as-map : {A B : Type 0} (f : A → B) (s : Option A → Type 0) (o : Option A) → s o → As f s (option_map f o)
+as-map f s None h = h
+as-map f s (Some x) h = (x, refl, h)

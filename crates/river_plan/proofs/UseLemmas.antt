@@ -8,10 +8,12 @@ use Rattle.river_plan.specs.declared.op.Op.{Op}
 use Rattle.river_plan.specs.Forms.{Name, OpForm, op_form, op_forms}
 use Rattle.river_plan.specs.Names.{one_if, count, with_name, SameNames, IsUsedOnce, AreDoubled}
 use Rattle.river_plan.specs.Uses.{total, writes_it, reads_it, all_writes, all_reads}
-use Rattle.river_plan.specs.First.{IsFirst}
-use Rattle.river_plan.specs.Faults.{IsIn, IsWritten}
+use Rattle.river_plan.specs.First.{IsFirst, Along}
+use Rattle.river_plan.specs.declared.fault.Named.{Named}
+use Rattle.river_plan.specs.declared.fault.Named.TheVariants.{Queue, Variable}
+use Rattle.river_plan.specs.Faults.{IsIn, IsWritten, UndeclaredAt}
 use Rattle.river_plan.proofs.NameLemmas.{cases_bool, cases_name, count-append, one_same, nat_zero, more_or_zero, with_name-same, same-trans, same-append}
-use Rattle.river_plan.proofs.Searches.{first-cong}
+use Rattle.river_plan.proofs.Searches.{first-cong, along-cong, or_else-cong, as-cong}
 
 -- the sums over operators are counts in all that they write or read
 pub total-writes : (q : Name) (ops : List OpForm) → total (writes_it q) ops ≡ count q (all_writes ops)
@@ -95,3 +97,30 @@ written-first inputs before known reads s = first-cong (IsIn known) (λ before_i
     (λ b r h. let t = s.there r h in let a = count-append r inputs (all_writes before) in let w = total-writes r before in omega (arith, t, a, w))
     (λ b r h. s.back r (let a = count-append r inputs (all_writes before) in let w = total-writes r before in omega (arith, h, a, w)))
     reads
+
+-- the first doubled name is the first that is not used once
+pub twice-first : (given uses set names : List Name) → AreDoubled given uses set → (o : Option Name) → IsFirst (λ before w. count w set ≡ 0) names o → IsFirst (λ before q. IsUsedOnce (count q given) (count q uses)) names o
+twice-first given uses set names d = first-cong (λ before w. count w set ≡ 0) (λ before q. IsUsedOnce (count q given) (count q uses))
+    (λ b q z. d.back q z) (λ b q u. nat_zero (λ lt. d.there q lt u)) names
+
+pub written-once : (given set names : List Name) (ops : List OpForm) → AreDoubled given (all_writes ops) set → (o : Option Name) → IsFirst (λ before w. count w set ≡ 0) names o → IsFirst (λ before q. IsUsedOnce (count q given) (total (writes_it q) ops)) names o
+written-once given set names ops d o h = first-cong (λ before q. IsUsedOnce (count q given) (count q (all_writes ops))) (λ before q. IsUsedOnce (count q given) (total (writes_it q) ops))
+    (λ b q u. subst (IsUsedOnce (count q given)) (sym (total-writes q ops)) u) (λ b q u. subst (IsUsedOnce (count q given)) (total-writes q ops) u) names o
+    (twice-first given (all_writes ops) set names d o h)
+
+pub read-once : (given set names : List Name) (ops : List OpForm) → AreDoubled given (all_reads ops) set → (o : Option Name) → IsFirst (λ before w. count w set ≡ 0) names o → IsFirst (λ before q. IsUsedOnce (count q given) (total (reads_it q) ops)) names o
+read-once given set names ops d o h = first-cong (λ before q. IsUsedOnce (count q given) (count q (all_reads ops))) (λ before q. IsUsedOnce (count q given) (total (reads_it q) ops))
+    (λ b q u. subst (IsUsedOnce (count q given)) (sym (total-reads q ops)) u) (λ b q u. subst (IsUsedOnce (count q given)) (total-reads q ops) u) names o
+    (twice-first given (all_reads ops) set names d o h)
+
+-- what is in neither of two lists is in neither of two with the same names
+pub undeclared-same : (queues queues' variables variables' : List Name) (ops : List OpForm) → SameNames queues queues' → SameNames variables variables' → (o : Option Named)
+    → Along (λ before op. UndeclaredAt queues variables op) [] ops o → Along (λ before op. UndeclaredAt queues' variables' op) [] ops o
+undeclared-same queues queues' variables variables' ops s t = along-cong (λ b op. UndeclaredAt queues variables op) (λ b op. UndeclaredAt queues' variables' op)
+    (λ b op. or_else-cong _ _ _ _ (as-cong Queue _ _ (first_in op.reads))
+      (or_else-cong _ _ _ _ (as-cong Queue _ _ (first_in op.writes)) (as-cong Variable _ _ (first_var op.vars)))) [] ops
+  where
+    first_in : (names : List Name) (o : Option Name) → IsFirst (IsIn queues) names o → IsFirst (IsIn queues') names o
+    first_in names = first-cong (IsIn queues) (IsIn queues') (λ b q h. s.there q h) (λ b q h. s.back q h) names
+    first_var : (names : List Name) (o : Option Name) → IsFirst (IsIn variables) names o → IsFirst (IsIn variables') names o
+    first_var names = first-cong (IsIn variables) (IsIn variables') (λ b q h. t.there q h) (λ b q h. t.back q h) names

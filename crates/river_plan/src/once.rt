@@ -6,7 +6,7 @@ ghost use Rattle.river_plan.specs.Faults.{WrittenTwice, ReadTwice};
 
 use crate::lists::{all_reads, all_writes, names_of, queue_names};
 use crate::name_set::NameSet;
-use crate::search::{first_member, set_of};
+use crate::search::{as_queue, first_member, set_of};
 use crate::{Named, Names, RawPlan};
 use river_base::{Name, NoMemory};
 use std::alloc::Global;
@@ -19,7 +19,7 @@ pub(crate) fn written_twice(alloc: Global, raw: &RawPlan) -> Result<Option<Named
     let writes = all_writes(alloc, &raw.ops)?;
     let doubled = doubled(alloc, &inputs, &writes)?;
     let queues = queue_names(alloc, raw)?;
-    Ok(first_member(&queues, &doubled).map(Named::Queue))
+    Ok(as_queue(first_member(&queues, &doubled)))
 }
 
 /// The first queue that is read twice, or that is an output and read.
@@ -30,7 +30,7 @@ pub(crate) fn read_twice(alloc: Global, raw: &RawPlan) -> Result<Option<Named>, 
     let reads = all_reads(alloc, &raw.ops)?;
     let doubled = doubled(alloc, &outputs, &reads)?;
     let queues = queue_names(alloc, raw)?;
-    Ok(first_member(&queues, &doubled).map(Named::Queue))
+    Ok(as_queue(first_member(&queues, &doubled)))
 }
 
 /// The names that are used twice, or that are given and used.

@@ -1,10 +1,12 @@
 // The first name of a list at which something is found.
 ghost use Rattle.std.specs.Prelude.{◌≡◌, ◌++◌, [], IfOk, OnOk};
+ghost use Rattle.std.specs.Option.{option_map};
+ghost use Rattle.river_plan.specs.declared.fault.Named.TheVariants.{Queue, Variable};
 ghost use Rattle.river_plan.specs.First.{IsFirst};
 ghost use Rattle.river_plan.specs.Faults.{IsNew, IsIn};
 ghost use Rattle.river_plan.specs.Names.{count, SameNames};
 
-use crate::Names;
+use crate::{Named, Names};
 use crate::name_set::NameSet;
 use river_base::{Name, NoMemory};
 use std::alloc::Global;
@@ -63,4 +65,18 @@ pub(crate) fn add_all(set: &mut NameSet, names: &Names) -> Result<(), NoMemory>
         let _ = set.insert(*name)?;
     }
     Ok(())
+}
+
+/// The name, as one of a queue.
+pub(crate) fn as_queue(name: Option<Name>) -> Option<Named>
+    ensures { result ≡ option_map Queue name }
+{
+    name.map(Named::Queue)
+}
+
+/// The name, as one of a variable.
+pub(crate) fn as_variable(name: Option<Name>) -> Option<Named>
+    ensures { result ≡ option_map Variable name }
+{
+    name.map(Named::Variable)
 }
