@@ -1,0 +1,4 @@
+pub mod NameLemmas
+pub mod Remains
+pub mod Searches
+pub mod UseLemmas
