@@ -1,2 +1,5 @@
+pub mod EqualLemmas
 pub mod FitsLaw
+pub mod FoundLemmas
 pub mod TypeLemmas
+pub mod KernLemmas

@@ -1,8 +1,12 @@
 //! The kernels of operators as data, their parts, and when they are well formed.
 #![tactic(auto)]
 
+mod fitting;
+mod formed;
+mod inference;
 mod kernel;
 mod types;
 
+pub use fitting::fits;
 pub use kernel::Kernel;
 pub use types::{Types, VarKind};
