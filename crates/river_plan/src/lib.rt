@@ -11,6 +11,7 @@ mod order;
 mod plan;
 mod repeated;
 mod search;
+mod shared;
 mod types;
 
 pub use fault::{Limit, Named, PlanFault};
