@@ -1,2 +1,3 @@
 pub mod FitsLaw
+pub mod LimitLemmas
 pub mod TypeLemmas

@@ -1,7 +1,6 @@
 -- When the bodies and expressions of kernels are well formed.
 use Rattle.std.specs.Prelude.{ℕ, zero, suc, ℤ, pos, negsuc, ◌+◌, Bool, true, false, ◌&&◌, nat_lt, nat_le, nat_eq, if◌then◌else◌, Option, Some, None, List, [], ◌∷◌, length}
 use Rattle.std.specs.List.{list_all}
-
 use Rattle.work_code.specs.Term.{Term, Const, Input, Slot, Neg, Not, Bin, depth_of}
 use Rattle.work_code.specs.Steps.{Step, Steps, Set, Push, If, Done, Then}
 use Rattle.kern_rows.specs.Forms.{CodeForm, FilterForm}

@@ -2,7 +2,9 @@
 #![tactic(auto)]
 
 mod kernel;
+mod limit;
 mod types;
 
 pub use kernel::Kernel;
+pub use limit::{Limit, first_above, nesting};
 pub use types::{Types, VarKind};
