@@ -5,8 +5,10 @@ mod fitting;
 mod formed;
 mod inference;
 mod kernel;
+mod limit;
 mod types;
 
 pub use fitting::fits;
 pub use kernel::Kernel;
+pub use limit::{Limit, first_above, nesting};
 pub use types::{Types, VarKind};

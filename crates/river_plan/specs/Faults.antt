@@ -1,12 +1,13 @@
 -- The faults of a plan's lists. Each is a search in the order of the lists: queues (outputs, inputs, others), variables
 -- (tables, others), operators with their reads, writes and variables.
-use Rattle.std.specs.Prelude.{◌≡◌, ℕ, ◌+◌, ◌<◌, ◌≤◌, List, [], Option}
-use Rattle.river_base.specs.declared.kind.FlatType.{FlatType}
+use Rattle.std.specs.Prelude.{◌≡◌, ℕ, ◌+◌, ◌<◌, ◌≤◌, List, [], Option, IsTrue}
 use Rattle.river_base.specs.declared.kind.FlatType.TheVariants.{Rows, Stream, Relation}
 use Rattle.river_base.specs.declared.kind.QueueType.{QueueType}
 use Rattle.river_base.specs.declared.kind.QueueType.TheVariants.{Flat, Pack}
 use Rattle.kern_tables.specs.declared.kind.TableKind.{TableKind}
 use Rattle.kern_tables.specs.declared.kind.TableKind.TheVariants.{Sum, Collection, Maximum}
+use Rattle.river_kernels.specs.Formed.{is_width}
+use Rattle.river_kernels.specs.Fits.{width_of}
 use Rattle.river_plan.specs.declared.plan.Decl.{Decl}
 use Rattle.river_plan.specs.declared.plan.TableDecl.{TableDecl}
 use Rattle.river_plan.specs.declared.fault.Named.{Named}
@@ -14,6 +15,7 @@ use Rattle.river_plan.specs.declared.fault.Named.TheVariants.{Queue, Variable, L
 use Rattle.river_plan.specs.Forms.{Name, OpForm, PlanForm, decl_names, queue_names, variable_names, labels}
 use Rattle.river_plan.specs.Names.{count, IsUsedOnce}
 use Rattle.river_plan.specs.First.{OrElse, As, IsFirst, Along}
+use Rattle.river_plan.specs.Kinds.{IsFit}
 use Rattle.river_plan.specs.Uses.{Each, total, writes_it, reads_it, vars_it}
 
 -- P1: the first name that stood before it among the queues, among the variables, or among the labels
@@ -59,20 +61,12 @@ ReadTooEarly p = Along (ReadTooEarlyAt (decl_names p.inputs)) [] p.ops
 
 -- P6: the first queue with a width that is not 1 to 16, or that is an output or input and of another type than rows or
 -- a stream; then the first table with more than 8 keys, or that keeps no row
-abbrev pub flat_width : FlatType → ℕ
-flat_width (Rows w) = w
-flat_width (Stream w) = w
-flat_width (Relation w) = w
-
-abbrev pub width_of : QueueType → ℕ
-width_of (Flat t) = flat_width t
-width_of (Pack t) = flat_width t
-
-abbrev pub IsWidth : ℕ → Type 0
-IsWidth w = (1 ≤ w) × (w ≤ 16)
+abbrev pub type_width : QueueType → ℕ
+type_width (Flat t) = width_of t
+type_width (Pack t) = width_of t
 
 abbrev pub HasWidth : Decl → Type 0
-HasWidth d = IsWidth (width_of d.kind)
+HasWidth d = IsTrue (is_width (type_width d.kind))
 
 abbrev pub IsRowsOrStream : QueueType → Type 0
 IsRowsOrStream (Flat (Rows w)) = Unit {0}
@@ -100,6 +94,10 @@ Mistyped p =
     (OrElse (MistypedQueue IsOuter p.inputs)
     (OrElse (MistypedQueue HasWidth p.queues)
     (MistypedTable p.tables)))
+
+-- P7: the label of the first operator whose kernel does not fit its queues and variables, or is badly formed
+abbrev pub Misfit : PlanForm → Option Named → Type 0
+Misfit p = As (λ op. Label op.label) (IsFirst (λ before op. IsFit p op) p.ops)
 
 -- P9: the first variable that stands twice in one operator, or that is private and stands in two
 abbrev pub IsApart : PlanForm → Name → Type 0

@@ -49,7 +49,11 @@ table_names ts = map (λ t. t.name) ts
 abbrev pub labels : List OpForm → List Name
 labels ops = map (λ op. op.label) ops
 
--- the queues: the outputs, the inputs, the others
+-- all queues that are declared
+abbrev pub all_decls : PlanForm → List Decl
+all_decls p = p.outputs ++ (p.inputs ++ p.queues)
+
+-- the names of the queues: the outputs, the inputs, the others
 abbrev pub queue_names : PlanForm → List Name
 queue_names p = decl_names p.outputs ++ (decl_names p.inputs ++ decl_names p.queues)
 

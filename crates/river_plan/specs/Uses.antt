@@ -1,7 +1,8 @@
 -- What operators use.
 use Rattle.std.specs.Prelude.{ℕ, ◌+◌, ◌<◌, List, [], ◌∷◌, flat_map}
+use Rattle.river_base.specs.Name.{name_eq}
 use Rattle.river_plan.specs.Forms.{Name, OpForm}
-use Rattle.river_plan.specs.Names.{count}
+use Rattle.river_plan.specs.Names.{count, one_if}
 
 -- the fact holds of each operator
 abbrev pub Each : (OpForm → Type 0) → List OpForm → Type 0
@@ -23,6 +24,10 @@ reads_it q op = count q op.reads
 abbrev pub vars_it : Name → OpForm → ℕ
 vars_it v op = count v op.vars
 
+-- how often it has this label
+abbrev pub named_it : Name → OpForm → ℕ
+named_it l op = one_if (name_eq op.label l)
+
 -- each of these names is known
 abbrev pub Known : (Name → ℕ) → List Name → Type 0
 Known known rs = (q : Name) → 0 < count q rs → 0 < known q
@@ -42,3 +47,6 @@ all_writes ops = flat_map (λ op. op.writes) ops
 
 abbrev pub all_reads : List OpForm → List Name
 all_reads ops = flat_map (λ op. op.reads) ops
+
+abbrev pub all_vars : List OpForm → List Name
+all_vars ops = flat_map (λ op. op.vars) ops

@@ -1,6 +1,7 @@
 // What the check of a plan may find.
 
 use river_base::{Name, NoMemory};
+use river_kernels::Limit;
 
 /// A name at fault, with what it is the name of.
 #[derive(Clone, Copy, Debug)]
@@ -8,35 +9,6 @@ pub enum Named {
     Queue(Name),
     Variable(Name),
     Label(Name),
-}
-
-/// What is limited in a plan.
-#[derive(Clone, Copy, Debug, PartialEq, Eq)]
-pub enum Limit {
-    /// The inputs of the plan: 8.
-    Inputs,
-    /// The operators: 256.
-    Operators,
-    /// The queues of all kinds: 512.
-    Queues,
-    /// The variables, private ones and tables: 256.
-    Variables,
-    /// The queues that one operator reads, and those that it writes: 64.
-    Ports,
-    /// The statements of one body, each in each branch counted: 16,384.
-    Statements,
-    /// The slots of one body: 256.
-    Slots,
-    /// Each rate of a filter: 65,536.
-    Rates,
-    /// The sum of the weights of one splitter or joiner: 65,536.
-    Weights,
-    /// How deep kernels stand in one another: 32.
-    Nesting,
-    /// The rows of a window of the latest rows: 1,000,000.
-    Latest,
-    /// The rows that a table keeps for each key: 1,000,000.
-    Best,
 }
 
 /// Why lists are no valid plan.
@@ -57,7 +29,7 @@ pub enum PlanFault {
     P6(Named),
     /// The kernel of the operator of this label does not fit its queues and variables, or is badly formed.
     P7(Named),
-    /// This number is above its limit.
+    /// This number is above its limit; 2^128 - 1 stands for what is greater.
     P8 { limit: Limit, number: u128 },
     /// This variable is private and stands twice, or stands twice in one operator.
     P9(Named),

@@ -3,6 +3,8 @@
 
 mod declared;
 mod fault;
+pub mod laws;
+mod limit;
 mod lists;
 mod name_set;
 mod once;
@@ -11,8 +13,11 @@ mod order;
 mod plan;
 mod repeated;
 mod search;
+mod shared;
 mod types;
 
-pub use fault::{Limit, Named, PlanFault};
+pub use fault::{Named, PlanFault};
 pub use op::{Names, Op, Ops};
+pub use river_base::{FlatType, QueueType};
+pub use river_kernels::{Kernel, Limit};
 pub use plan::{Decl, Decls, RawPlan, TableDecl, TableDecls};

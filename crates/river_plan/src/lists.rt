@@ -1,7 +1,7 @@
 // The names in the lists of a plan.
 ghost use Rattle.std.specs.Prelude.{◌≡◌, ◌++◌, ◌∷◌, [], IfOk, OnOk, map};
 ghost use Rattle.river_plan.specs.Forms.{plan_form, op_forms, decl_names, table_names, labels, queue_names, variable_names};
-ghost use Rattle.river_plan.specs.Uses.{all_writes, all_reads};
+ghost use Rattle.river_plan.specs.Uses.{all_writes, all_reads, all_vars};
 
 use crate::{Decls, Names, Ops, RawPlan, TableDecls};
 use river_base::NoMemory;
@@ -57,6 +57,17 @@ pub(crate) fn all_reads(alloc: Global, ops: &Ops) -> Result<Names, NoMemory>
     let mut names = Names::new(alloc);
     for op in ops.as_slice() {
         add_names(&mut names, &op.reads)?;
+    }
+    Ok(names)
+}
+
+/// All variables that the operators use.
+pub(crate) fn all_vars(alloc: Global, ops: &Ops) -> Result<Names, NoMemory>
+    ensures { IfOk result (λ names. names ≡ all_vars (op_forms ops.now)) }
+{
+    let mut names = Names::new(alloc);
+    for op in ops.as_slice() {
+        add_names(&mut names, &op.vars)?;
     }
     Ok(names)
 }

@@ -1,7 +1,8 @@
 // Queues and tables whose types no plan may have.
 ghost use Rattle.std.specs.Prelude.{IsTrue, ◌↔◌, ◌≡◌};
+ghost use Rattle.river_kernels.specs.Fits as fits;
 ghost use Rattle.river_plan.specs.Forms.{plan_form};
-ghost use Rattle.river_plan.specs.Faults.{Mistyped, MistypedQueue, MistypedTable, IsOuter, HasWidth, IsTable, IsRowsOrStream, IsWidth, width_of, flat_width};
+ghost use Rattle.river_plan.specs.Faults.{Mistyped, MistypedQueue, MistypedTable, IsOuter, HasWidth, IsTable, IsRowsOrStream, type_width};
 
 use crate::{Decl, Decls, Named, RawPlan, TableDecls};
 use kern_tables::TableKind;
@@ -73,13 +74,13 @@ fn is_outer(decl: &Decl) -> bool
 fn has_width(decl: &Decl) -> bool
     ensures { IsTrue result ↔ HasWidth decl.now }
 {
-    let width = width_of(decl.kind);
+    let width = type_width(decl.kind);
     1 <= width && width <= 16
 }
 
 // How many values the rows of a queue have.
-fn width_of(kind: QueueType) -> u32
-    ensures { result ≡ width_of kind }
+fn type_width(kind: QueueType) -> u32
+    ensures { result ≡ type_width kind }
 {
     match kind {
         QueueType::Flat(flat) => flat_width(flat),
@@ -89,7 +90,7 @@ fn width_of(kind: QueueType) -> u32
 
 // How many values the rows of this type have.
 fn flat_width(flat: FlatType) -> u32
-    ensures { result ≡ flat_width flat }
+    ensures { result ≡ fits.width_of flat }
 {
     match flat {
         FlatType::Rows(width) => width,
