@@ -1,1 +1,5 @@
+pub mod Fits
+pub mod Formed
 pub mod Kern
+pub mod Limits
+pub mod Types

@@ -1,0 +1,45 @@
+//! The program river: the top call over the real files and streams.
+#![tactic(auto)]
+
+use river_base::{Bytes, NoGate, NoMemory, Text};
+use river_cli::river;
+use river_outside::{FileShelf, StdSink};
+use std::alloc::Global;
+use std::env;
+use std::io::ErrorKind;
+use std::process::ExitCode;
+
+fn main(rt: HostRuntime) -> ExitCode {
+    let alloc = rt.alloc();
+    let Ok(words) = words_of(&rt, alloc) else {
+        return ExitCode::from(5);
+    };
+    let mut shelf = FileShelf::new(&rt, alloc);
+    let mut out = StdSink::new(rt.stdout());
+    let mut err = StdSink::new(rt.stderr());
+    let status = river(
+        &rt,
+        alloc,
+        words.as_slice(),
+        &mut shelf,
+        &mut out,
+        &mut err,
+        &NoGate,
+    );
+    ExitCode::from(status)
+}
+
+// The words without the program's name; the one empty word, which is no sentence, where they cannot be had as text.
+fn words_of(rt: &HostRuntime, alloc: Global) -> Result<Vec<Text>, NoMemory> {
+    let mut words = Vec::new(alloc);
+    match env::args(rt) {
+        Ok(args) => {
+            for arg in args.skip(1) {
+                words.push(Bytes::from_slice(alloc, arg.as_bytes())?)?;
+            }
+        }
+        Err(e) if e.kind() == ErrorKind::OutOfMemory => return Err(NoMemory),
+        Err(_) => words.push(Bytes::new(alloc))?,
+    }
+    Ok(words)
+}

@@ -1,0 +1,36 @@
+-- The points of the words, in order.
+use Rattle.std.specs.Prelude.{ℕ, ℤ, List, Option, None, Some, Result, Ok, Err, option_map, codes}
+use Rattle.river_order.specs.Order.{Order, Ends, Fetch, Refused, Done}
+use Rattle.csv_streams.specs.Column.{column_of}
+use Rattle.csv_streams.specs.Print.{printed}
+use Rattle.streamit_front.specs.Program.{Program}
+use Rattle.streamit_front.specs.Reading.{compiled}
+use Rattle.streamit_front.specs.Meaning.{outputs_of}
+use Rattle.river_cli.specs.Text.{large_program, syntax_text, large_input, not_number}
+use Rattle.river_cli.specs.Commands.{command_of}
+use Rattle.river_cli.specs.declared.words.Lang.{Lang}
+use Rattle.river_cli.specs.declared.words.Lang.TheVariants as lang
+use Rattle.river_cli.specs.declared.words.InWord.{InWord}
+use Rattle.river_cli.specs.declared.words.Run.{Run}
+
+-- after the input was read as CSV: the output is printed, or the first record that is no number refuses it
+unfoldable pub of_column : Program → List ℕ → Result (List ℤ) ℕ → Order
+of_column program name (Ok xs) = Ends (Done (printed (codes "out") (outputs_of program xs)))
+of_column program name (Err rec) = Ends (Refused (not_number name rec))
+
+-- after the program was compiled: the input is fetched
+unfoldable pub of_program : InWord → Option Program → Order
+of_program input None = Ends (Refused (syntax_text 1))
+of_program input (Some program) = Fetch input.file 67108864 (large_input input.name) (λ bytes. of_column program input.name (column_of bytes))
+
+-- after the program was fetched: it is compiled
+unfoldable pub of_source : Lang → InWord → List ℕ → Order
+of_source lang.Streamit input text = of_program input (compiled text)
+
+-- after the words: the program is fetched
+unfoldable pub of_run : Run → Order
+of_run run = Fetch run.file 1048576 large_program (λ text. of_source run.lang run.input text)
+
+-- the points of the words, if they are a sentence
+unfoldable pub points_of : List (List ℕ) → Option Order
+points_of words = option_map of_run (command_of words)

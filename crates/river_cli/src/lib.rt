@@ -1,0 +1,10 @@
+//! The top call of river: all that the program does, over a shelf and two sinks that are handed in.
+#![tactic(auto)]
+
+mod decide;
+mod text;
+mod top;
+mod words;
+
+pub use top::river;
+pub use words::{InWord, Lang, Run, WordFault, read_words};

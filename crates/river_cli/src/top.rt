@@ -1,0 +1,100 @@
+// The top call.
+ghost use Rattle.std.specs.Prelude.{◌≡◌, ◌≤◌, ◌⊎◌, MatchResult, IfSome, None};
+ghost use Rattle.river_outside.specs.Causes.{Rose};
+ghost use Rattle.river_order.specs.Order.{verdict, Done, Refused};
+ghost use Rattle.river_cli.specs.Points.{points_of};
+ghost use Rattle.river_cli.specs.Answer.{Kept, Wrote, WroteUsage, WroteFault, Stopped, StoppedUsage, HasStatus};
+
+use crate::decide::decide;
+use crate::text::USAGE;
+use river_base::{Gate, Text};
+use river_order::Stop;
+use river_outside::{Failed, Shelf, Sink, put_all};
+use std::alloc::Global;
+use std::thread::Threads;
+
+/// Does what the words say, and answers the status to end with.
+pub fn river<R: Threads, S: Shelf, O: Sink, E: Sink, G: Gate + Sync>(
+    _rt: &R,
+    alloc: Global,
+    words: &[Text],
+    shelf: &mut S,
+    out: &mut O,
+    err: &mut E,
+    _gate: &G,
+) -> u8
+    // 0: the run is done, and the output took exactly its text.
+    ensures done { result ≡ 0
+        → Wrote (points_of words.now) (S.held shelf.old) Done (O.taken out.old) (O.taken out.new)
+        × Kept (E.taken err.old) (E.taken err.new) }
+
+    // 1: it is refused, and the error output took exactly the refusal.
+    ensures refused { result ≡ 1
+        → Wrote (points_of words.now) (S.held shelf.old) Refused (E.taken err.old) (E.taken err.new)
+        × Kept (O.taken out.old) (O.taken out.new) }
+
+    // 2: the words are no sentence, and the shelf was not read.
+    ensures usage { result ≡ 2
+        → WroteUsage (points_of words.now) (E.taken err.old) (E.taken err.new)
+        × Kept (O.taken out.old) (O.taken out.new) × (shelf.new ≡ shelf.old) }
+
+    // 3: a file whose turn came could not be read.
+    ensures fault { result ≡ 3
+        → WroteFault (points_of words.now) (S.held shelf.old) (Rose (S.faults shelf.old) (S.faults shelf.new))
+        (E.taken err.old) (E.taken err.new) (Rose (E.faults err.old) (E.faults err.new))
+        × Kept (O.taken out.old) (O.taken out.new) }
+
+    // 4: a sink failed within its text.
+    ensures stopped { result ≡ 4
+        → (Stopped (points_of words.now) (S.held shelf.old) Done (O.taken out.old) (O.taken out.new)
+        (Rose (O.faults out.old) (O.faults out.new))
+        × Kept (E.taken err.old) (E.taken err.new))
+        ⊎ (Stopped (points_of words.now) (S.held shelf.old) Refused (E.taken err.old) (E.taken err.new)
+        (Rose (E.faults err.old) (E.faults err.new))
+        × Kept (O.taken out.old) (O.taken out.new))
+        ⊎ (StoppedUsage (points_of words.now) (E.taken err.old) (E.taken err.new)
+        (Rose (E.faults err.old) (E.faults err.new))
+        × Kept (O.taken out.old) (O.taken out.new)) }
+
+    // 5: memory was wanting, and nothing was written.
+    ensures memory { result ≡ 5
+        → Kept (O.taken out.old) (O.taken out.new) × Kept (E.taken err.old) (E.taken err.new) }
+
+    ensures only { result ≤ 5 }
+
+    // Words that are no sentence are told, whatever the shelf.
+    ensures no_sentence { points_of words.now ≡ None
+        → (Rose (E.faults err.old) (E.faults err.new) → ⊥) → (result ≡ 2) ⊎ (result ≡ 5) }
+
+    // Where no count rose, what is held decides.
+    ensures complete { (Rose (S.faults shelf.old) (S.faults shelf.new) → ⊥)
+        → (Rose (O.faults out.old) (O.faults out.new) → ⊥)
+        → (Rose (E.faults err.old) (E.faults err.new) → ⊥)
+        → IfSome (S.held shelf.old) (λ held. HasStatus (verdict (points_of words.now) held) result) }
+{
+    match decide(alloc, words, shelf) {
+        Ok(text) => status(put_all(out, text.as_slice()), 0),
+        Err(Stop::Refused(text)) => status(put_all(err, text.as_slice()), 1),
+        Err(Stop::Usage) => status(put_all(err, USAGE), 2),
+        Err(Stop::Failed(text)) => status_of_fault(put_all(err, text.as_slice())),
+        Err(Stop::Absent(text)) => status_of_fault(put_all(err, text.as_slice())),
+        Err(Stop::NoMemory) => 5,
+    }
+}
+
+fn status(wrote: Result<(), Failed>, done: u8) -> u8
+    ensures { MatchResult wrote (λ _. result ≡ done) (λ _. result ≡ 4) }
+{
+    match wrote {
+        Ok(()) => done,
+        Err(Failed) => 4,
+    }
+}
+
+// A fault of the shelf is told by its status alone where it could not be written.
+fn status_of_fault(wrote: Result<(), Failed>) -> u8
+    ensures { result ≡ 3 }
+{
+    let _ = wrote;
+    3
+}

@@ -1,0 +1,123 @@
+-- Names, and how often they stand in lists.
+use Rattle.std.proofs.lemmas.Bool.Decides.{nat_tests}
+use borrow.Author.Tests.{ltb-true}
+use Rattle.std.proofs.lemmas.List.{take_more, take_all}
+use Rattle.std.proofs.Common.{zero, suc, IsTrue, not, length, take, get_or, append_assoc, append-nil, ◌≡◌, ℕ, ◌+◌, ◌<◌, ◌≤◌, ◌⊎◌, inl, inr, Bool, true, false, List, [], ◌∷◌, ◌++◌, refl, sym, ap, ◌∙◌, subst, arith, nat_eq, ⊎_elim}
+use Rattle.std.specs.Prelude.{if◌then◌else◌, nat_lt}
+use Rattle.std.specs.List.{list_any}
+use Rattle.std.proofs.lemmas.Bool.{cases_eq}
+use Rattle.river_base.specs.Name.{name_eq}
+use Rattle.river_plan.specs.Forms.{Name}
+use Rattle.river_plan.specs.Names.{one_if, count, with_name, SameNames}
+
+pub name_same : (a : Name) → name_eq a a ≡ true
+name_same [] = refl
+name_same (x ∷ xs) = let e = name_same xs in grind (arith, e)
+
+pub cases_bool : (b : Bool) → (b ≡ true) ⊎ (b ≡ false)
+cases_bool true = inl refl
+cases_bool false = inr refl
+
+pub name_is : (a b : Name) → name_eq a b ≡ true → a ≡ b
+name_is [] [] h = refl
+name_is [] (y ∷ ys) h = absurd (cc h)
+name_is (x ∷ xs) [] h = absurd (cc h)
+name_is (x ∷ xs) (y ∷ ys) h =
+    ⊎_elim
+    (λ e. let t : name_eq xs ys ≡ true = grind (arith, e, h) in ap (λ z. z ∷ xs) e ∙ ap (λ zs. y ∷ zs) (name_is xs ys t))
+    (λ n. absurd (let t : false ≡ true = grind (arith, n, h) in cc t))
+    (cases_eq x y)
+
+pub true_false : true ≡ false → ⊥
+true_false h = cc h
+
+-- two names are one or not
+pub cases_name : (a b : Name) → ((a ≡ b) × (name_eq a b ≡ true)) ⊎ ((a ≡ b → ⊥) × (name_eq a b ≡ false))
+cases_name a b = ⊎_elim
+    (λ t. inl (name_is a b t, t))
+    (λ f. inr ((λ e. true_false (sym (subst (λ c. name_eq a c ≡ true) e (name_same a)) ∙ f)), f))
+    (cases_bool (name_eq a b))
+
+pub name_sym : (a b : Name) → name_eq a b ≡ name_eq b a
+name_sym a b = ⊎_elim
+    (λ c. c.1 ∙ sym (subst (λ x. name_eq x a ≡ true) c.0 (name_same a)))
+    (λ c. ⊎_elim (λ d. absurd (c.0 (sym d.0))) (λ d. c.1 ∙ sym d.1) (cases_name b a))
+    (cases_name a b)
+
+pub count-append : (q : Name) (xs ys : List Name) → count q (xs ++ ys) ≡ count q xs + count q ys
+count-append q [] ys = omega arith
+count-append q (x ∷ xs) ys = let e = count-append q xs ys in omega (arith, e)
+
+pub one_same : (a : Name) → one_if (name_eq a a) ≡ 1
+one_same a = ap one_if (name_same a)
+
+-- a name is in a list where it stands there at least once
+pub any-count : (k : Name) (ws : List Name) → list_any (name_eq k) ws ≡ nat_lt 0 (count k ws)
+any-count k [] = refl
+any-count k (w ∷ ws) = ⊎_elim
+    (λ c. let e = ap one_if (name_sym w k ∙ c.1) in let f = any-count k ws in grind (arith, e, f, c.1))
+    (λ c. let e = ap one_if (name_sym w k ∙ c.1) in let f = any-count k ws in grind (arith, e, f, c.1))
+    (cases_name k w)
+
+pub member-count : (k : Name) (ws keys : List Name) (r : Bool) → keys ≡ ws → r ≡ list_any (name_eq k) keys → (IsTrue r → 0 < count k ws) × (0 < count k ws → IsTrue r)
+member-count k ws keys r v h =
+    let e : r ≡ nat_lt 0 (count k ws) = h ∙ ap (λ l. list_any (name_eq k) l) v ∙ any-count k ws in
+    rw e (grind (arith, nat_tests))
+
+pub fresh-count : (k : Name) (ws keys : List Name) (r : Bool) → keys ≡ ws → r ≡ not (list_any (name_eq k) keys) → (IsTrue r → count k ws ≡ 0) × (count k ws ≡ 0 → IsTrue r)
+fresh-count k ws keys r v h =
+    let e : r ≡ not (nat_lt 0 (count k ws)) = h ∙ ap (λ l. not (list_any (name_eq k) l)) v ∙ ap not (any-count k ws) in
+    rw e (grind (arith, nat_tests))
+
+pub with_name-is : (k : Name) (ws keys new : List Name) → keys ≡ ws → new ≡ (if list_any (name_eq k) keys then keys else keys ++ k ∷ []) → new ≡ with_name ws k
+with_name-is k ws keys new v h = h ∙ ap (λ l. if list_any (name_eq k) l then l else l ++ k ∷ []) v ∙ ap (λ b. if b then ws else ws ++ k ∷ []) (any-count k ws)
+
+pub nat_zero : {n : ℕ} → (0 < n → ⊥) → n ≡ 0
+nat_zero {n = n} h = omega (arith, h)
+
+pub not_false : IsTrue false → ⊥
+not_false h = cc h
+
+pub same_refl : (ws : List Name) → SameNames ws ws
+same_refl ws = record { there = λ q h. h; back = λ q h. h }
+
+-- a name more makes no difference where it was there
+pub with_name-same : (ws : List Name) (w : Name) → SameNames (with_name ws w) (ws ++ w ∷ [])
+with_name-same ws w = ⊎_elim
+    (λ t. subst (λ (l : List Name). SameNames l (ws ++ w ∷ [])) (sym (ap (λ b. if b then ws else ws ++ w ∷ []) t)) (record {
+      there = λ q h. let e = count-append q ws (w ∷ []) in omega (arith, e, h);
+      back = λ q h. let e = count-append q ws (w ∷ []) in ⊎_elim
+        (λ c. let z : 0 < count w ws = ltb-true 0 (count w ws) t in subst (λ x. 0 < count x ws) c.0 z)
+        (λ c. let o = ap one_if c.1 in omega (arith, e, o, h))
+        (cases_name w q);
+    }))
+    (λ f. subst (λ (l : List Name). SameNames l (ws ++ w ∷ [])) (sym (ap (λ b. if b then ws else ws ++ w ∷ []) f)) (same_refl (ws ++ w ∷ [])))
+    (cases_bool (nat_lt 0 (count w ws)))
+
+pub more_or_zero : (n : ℕ) → (0 < n) ⊎ (n ≡ 0)
+more_or_zero zero = inr refl
+more_or_zero (suc n) = inl (omega arith)
+
+pub same-append : (ws vs us : List Name) → SameNames ws vs → SameNames (ws ++ us) (vs ++ us)
+same-append ws vs us s = record {
+  there = λ q h. let a = count-append q ws us in let b = count-append q vs us in
+    ⊎_elim (λ lt. let t = s.there q lt in omega (arith, a, b, t)) (λ z. omega (arith, a, b, z, h)) (more_or_zero (count q ws));
+  back = λ q h. let a = count-append q ws us in let b = count-append q vs us in
+    ⊎_elim (λ lt. let t = s.back q lt in omega (arith, a, b, t)) (λ z. omega (arith, a, b, z, h)) (more_or_zero (count q vs));
+}
+
+pub same-trans : (ws vs us : List Name) → SameNames ws vs → SameNames vs us → SameNames ws us
+same-trans ws vs us s t = record { there = λ q h. t.there q (s.there q h); back = λ q h. s.back q (t.back q h) }
+
+-- a loop that adds names to a set: its start, its step and its end
+pub same-start : (ws : List Name) → SameNames ws (ws ++ [])
+same-start ws = subst (λ (l : List Name). SameNames ws l) (sym (append-nil ws)) (same_refl ws)
+
+pub same-next : (ws set set' xs : List Name) (i : ℕ) (x : Name) → set' ≡ with_name set x → i < length xs → x ≡ get_or xs i x → SameNames set (ws ++ take i xs) → SameNames set' (ws ++ take (i + 1) xs)
+same-next ws set set' xs i x e lt g s =
+    subst (λ (l : List Name). SameNames set' l) (append_assoc ws (take i xs) (x ∷ []) ∙ ap (λ l. ws ++ l) (ap (λ y. take i xs ++ y ∷ []) g ∙ sym (take_more xs i x lt)))
+    (subst (λ (l : List Name). SameNames l ((ws ++ take i xs) ++ x ∷ [])) (sym e)
+    (same-trans (with_name set x) (set ++ x ∷ []) ((ws ++ take i xs) ++ x ∷ []) (with_name-same set x) (same-append set (ws ++ take i xs) (x ∷ []) s)))
+
+pub same-end : (ws set xs ys : List Name) (i : ℕ) → length xs ≤ i → xs ≡ ys → SameNames set (ws ++ take i xs) → SameNames set (ws ++ ys)
+same-end ws set xs ys i le e s = subst (λ (l : List Name). SameNames set (ws ++ l)) (take_all i xs le ∙ e) s

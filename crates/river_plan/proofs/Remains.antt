@@ -1,0 +1,61 @@
+-- Searches along a list, one element at a time.
+use Rattle.std.proofs.Common.{◌≡◌, ℕ, suc, ◌+◌, ◌<◌, ◌≤◌, List, [], ◌∷◌, ◌++◌, Option, Some, None, length, take, drop, get_or, map, refl, sym, ap, subst, arith, inl, inr, ◌∙◌}
+use Rattle.std.proofs.lemmas.List.{take_more, drop_more, drop_all, map-append}
+use Rattle.river_plan.specs.First.{OrElse, Along, Unless}
+
+-- what is found from place i on is what is found in the whole list
+pub record Remains {A B : Type 0} (s : List A → A → Option B → Type 0) (xs : List A) (i : ℕ) : Type 0 where
+  pub rest : (o : Option B) → Along s (take i xs) (drop i xs) o → Along s [] xs o
+
+pub remains-start : {A B : Type 0} (s : List A → A → Option B → Type 0) (xs : List A) → Remains s xs 0
+remains-start s xs = record { rest = λ o h. h }
+
+-- the search found nothing at this place
+pub remains-next : {A B : Type 0} (s : List A → A → Option B → Type 0) (xs : List A) (i : ℕ) (x : A) → i < length xs → x ≡ get_or xs i x → s (take i xs) x None → Remains s xs i → Remains s xs (i + 1)
+remains-next {B = B} s xs i x lt e n r = record {
+  rest = λ o h. r.rest o (subst (λ l. Along s (take i xs) l o) (sym (drop_more xs i x lt ∙ ap (λ y. y ∷ drop (i + 1) xs) (sym e)))
+    (skipped o (subst (λ l. Along s l (drop (i + 1) xs) o) (take_more xs i x lt ∙ ap (λ y. take i xs ++ y ∷ []) (sym e)) h)));
+}
+  where
+    skipped : (o : Option B) → Along s (take i xs ++ x ∷ []) (drop (i + 1) xs) o → OrElse (s (take i xs) x) (Along s (take i xs ++ x ∷ []) (drop (i + 1) xs)) o
+    skipped None h = (n, h)
+    skipped (Some b) h = inr (n, h)
+
+-- the search found this at this place
+pub remains-found : {A B : Type 0} (s : List A → A → Option B → Type 0) (xs : List A) (i : ℕ) (x : A) (b : B) → i < length xs → x ≡ get_or xs i x → s (take i xs) x (Some b) → Remains s xs i → Along s [] xs (Some b)
+remains-found s xs i x b lt e f r =
+    r.rest (Some b) (subst (λ l. Along s (take i xs) l (Some b)) (sym (drop_more xs i x lt ∙ ap (λ y. y ∷ drop (i + 1) xs) (sym e))) (inl f))
+
+-- nothing is left
+pub remains-end : {A B : Type 0} (s : List A → A → Option B → Type 0) (xs : List A) (i : ℕ) → length xs ≤ i → Remains s xs i → Along s [] xs None
+remains-end s xs i le r = r.rest None (subst (λ l. Along s (take i xs) l None) (sym (drop_all i xs le)) tt)
+
+-- the same along a list of which each element is seen under f
+pub record RemainsBy {A B C : Type 0} (f : C → A) (s : List A → A → Option B → Type 0) (xs : List C) (i : ℕ) : Type 0 where
+  pub rest : (o : Option B) → Along s (map f (take i xs)) (map f (drop i xs)) o → Along s [] (map f xs) o
+
+pub remains_by-start : {A B C : Type 0} (f : C → A) (s : List A → A → Option B → Type 0) (xs : List C) → RemainsBy f s xs 0
+remains_by-start f s xs = record { rest = λ o h. h }
+
+mapped_drop : {A C : Type 0} (f : C → A) (xs : List C) (i : ℕ) (x : C) → i < length xs → x ≡ get_or xs i x → map f (drop i xs) ≡ f x ∷ map f (drop (i + 1) xs)
+mapped_drop f xs i x lt e = ap (map f) (drop_more xs i x lt ∙ ap (λ y. y ∷ drop (i + 1) xs) (sym e))
+
+mapped_take : {A C : Type 0} (f : C → A) (xs : List C) (i : ℕ) (x : C) → i < length xs → x ≡ get_or xs i x → map f (take (i + 1) xs) ≡ map f (take i xs) ++ f x ∷ []
+mapped_take f xs i x lt e = ap (map f) (take_more xs i x lt ∙ ap (λ y. take i xs ++ y ∷ []) (sym e)) ∙ map-append f (take i xs) (x ∷ [])
+
+pub remains_by-next : {A B C : Type 0} (f : C → A) (s : List A → A → Option B → Type 0) (xs : List C) (i : ℕ) (x : C) → i < length xs → x ≡ get_or xs i x → s (map f (take i xs)) (f x) None → RemainsBy f s xs i → RemainsBy f s xs (i + 1)
+remains_by-next {B = B} f s xs i x lt e n r = record {
+  rest = λ o h. r.rest o (subst (λ l. Along s (map f (take i xs)) l o) (sym (mapped_drop f xs i x lt e))
+    (skipped o (subst (λ l. Along s l (map f (drop (i + 1) xs)) o) (mapped_take f xs i x lt e) h)));
+}
+  where
+    skipped : (o : Option B) → Along s (map f (take i xs) ++ f x ∷ []) (map f (drop (i + 1) xs)) o → OrElse (s (map f (take i xs)) (f x)) (Along s (map f (take i xs) ++ f x ∷ []) (map f (drop (i + 1) xs))) o
+    skipped None h = (n, h)
+    skipped (Some b) h = inr (n, h)
+
+pub remains_by-found : {A B C : Type 0} (f : C → A) (s : List A → A → Option B → Type 0) (xs : List C) (i : ℕ) (x : C) (b : B) → i < length xs → x ≡ get_or xs i x → s (map f (take i xs)) (f x) (Some b) → RemainsBy f s xs i → Along s [] (map f xs) (Some b)
+remains_by-found f s xs i x b lt e g r =
+    r.rest (Some b) (subst (λ l. Along s (map f (take i xs)) l (Some b)) (sym (mapped_drop f xs i x lt e)) (inl g))
+
+pub remains_by-end : {A B C : Type 0} (f : C → A) (s : List A → A → Option B → Type 0) (xs : List C) (i : ℕ) → length xs ≤ i → RemainsBy f s xs i → Along s [] (map f xs) None
+remains_by-end f s xs i le r = r.rest None (subst (λ l. Along s (map f (take i xs)) l None) (sym (ap (map f) (drop_all i xs le))) tt)

@@ -1,0 +1,7 @@
+use Rattle.std.proofs.Common.{◌≡◌, ◌++◌, take, map}
+use Rattle.river_plan.specs.Forms.{op_forms, decl_names, table_names, labels}
+use Rattle.river_plan.specs.Uses.{all_writes, all_reads}
+use Rattle.river_plan.proofs.lists.labels.Given as goal
+
+abbrev pub invariant-loop-op : goal.invariant-loop-op
+invariant-loop-op l = l.names ≡ labels (op_forms (take l.op-index l.op-items))

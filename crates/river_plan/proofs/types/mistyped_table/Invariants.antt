@@ -1,0 +1,8 @@
+use Rattle.std.proofs.Common.{List}
+use Rattle.river_plan.specs.First.{Unless}
+use Rattle.river_plan.specs.Faults.{IsOuter, HasWidth, IsTable}
+use Rattle.river_plan.proofs.Remains.{Remains}
+use Rattle.river_plan.proofs.types.mistyped_table.Given as goal
+
+abbrev pub invariant-loop-table : goal.invariant-loop-table
+invariant-loop-table l = Remains (λ before d. Unless (IsTable d.kind) d) l.table-items l.table-index

@@ -1,0 +1,36 @@
+-- The types of queues and the kinds of variables, looked up by name.
+use Rattle.std.specs.Prelude.{ℕ, ◌+◌, List, [], ◌∷◌, ◌++◌, map, nat_lt, if◌then◌else◌}
+use Rattle.river_base.specs.Name.{name_eq}
+use Rattle.river_base.specs.declared.kind.QueueType.{QueueType}
+use Rattle.kern_tables.specs.declared.kind.TableKind.{TableKind}
+use Rattle.kern_tables.specs.declared.kind.TableKind.TheVariants.{Sum, Collection, Maximum}
+use Rattle.river_kernels.specs.Fits.{Fits, rows}
+use Rattle.river_kernels.specs.declared.types.VarKind.{VarKind}
+use Rattle.river_kernels.specs.declared.types.VarKind.TheVariants.{Private, Table}
+use Rattle.river_plan.specs.declared.plan.Decl.{Decl}
+use Rattle.river_plan.specs.declared.plan.TableDecl.{TableDecl}
+use Rattle.river_plan.specs.Forms.{Name, OpForm, PlanForm, all_decls}
+use Rattle.river_plan.specs.Names.{count}
+
+-- the type of a queue, by its first declaration; of one that is not declared, a type without width, which no kernel fits
+abbrev pub kind_of : List Decl → Name → QueueType
+kind_of [] q = rows 0
+kind_of (d ∷ ds) q = if name_eq d.name q then d.kind else kind_of ds q
+
+-- how many values a row of a table has: the keys, the value, and for a maximum the weight
+abbrev pub table_width : TableKind → ℕ
+table_width (Sum keys) = keys + 1
+table_width (Collection keys) = keys + 1
+table_width (Maximum best keys) = keys + 2
+
+-- what a variable is, by its first declaration; one that is not declared is a table without width, which no kernel fits
+abbrev pub var_kind : List TableDecl → List Name → Name → VarKind
+var_kind [] vars v = if nat_lt 0 (count v vars) then Private else Table 0
+var_kind (t ∷ ts) vars v = if name_eq t.name v then Table (table_width t.kind) else var_kind ts vars v
+
+-- the kernel fits the types of the operator's queues and the kinds of its variables
+abbrev pub FitsAt : (Name → QueueType) → (Name → VarKind) → OpForm → Type 0
+FitsAt kind var op = Fits op.kernel (map kind op.reads) (map kind op.writes) (map var op.vars)
+
+abbrev pub IsFit : PlanForm → OpForm → Type 0
+IsFit p op = FitsAt (kind_of (all_decls p)) (var_kind p.tables p.vars) op

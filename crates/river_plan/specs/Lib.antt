@@ -1,0 +1,9 @@
+pub mod Faults
+pub mod First
+pub mod Forms
+pub mod Kinds
+pub mod Limits
+pub mod Names
+pub mod Shares
+pub mod Uses
+pub mod Valid

@@ -1,0 +1,31 @@
+-- How often names stand in lists.
+use Rattle.std.specs.Prelude.{◌≡◌, ℕ, ◌+◌, ◌<◌, ◌≤◌, Bool, true, false, List, [], ◌∷◌, ◌++◌, nat_lt, if◌then◌else◌}
+use Rattle.river_base.specs.Name.{name_eq}
+use Rattle.river_plan.specs.Forms.{Name}
+
+abbrev pub one_if : Bool → ℕ
+one_if true = 1
+one_if false = 0
+
+-- how often the name stands in the list
+abbrev pub count : Name → List Name → ℕ
+count q [] = 0
+count q (w ∷ ws) = one_if (name_eq w q) + count q ws
+
+-- the names, with this one behind them where it is not there yet
+abbrev pub with_name : List Name → Name → List Name
+with_name ws w = if nat_lt 0 (count w ws) then ws else ws ++ w ∷ []
+
+-- the two lists have the same names
+pub record SameNames (ws vs : List Name) : Type 0 where
+  pub there : (q : Name) → 0 < count q ws → 0 < count q vs
+  pub back : (q : Name) → 0 < count q vs → 0 < count q ws
+
+-- at most once, and never where it is given
+abbrev pub IsUsedOnce : (given uses : ℕ) → Type 0
+IsUsedOnce given uses = (uses ≤ 1) × (0 < given → uses ≡ 0)
+
+-- the names that are used twice, or that are given and used
+pub record AreDoubled (given uses names : List Name) : Type 0 where
+  pub there : (q : Name) → 0 < count q names → IsUsedOnce (count q given) (count q uses) → ⊥
+  pub back : (q : Name) → count q names ≡ 0 → IsUsedOnce (count q given) (count q uses)

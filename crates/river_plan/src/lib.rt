@@ -1,0 +1,23 @@
+//! Plans: queues, variables and operators, and the check of a plan.
+#![tactic(auto)]
+
+mod declared;
+mod fault;
+pub mod laws;
+mod limit;
+mod lists;
+mod name_set;
+mod once;
+mod op;
+mod order;
+mod plan;
+mod repeated;
+mod search;
+mod shared;
+mod types;
+
+pub use fault::{Named, PlanFault};
+pub use op::{Names, Op, Ops};
+pub use river_base::{FlatType, QueueType};
+pub use river_kernels::{Kernel, Limit};
+pub use plan::{Decl, Decls, RawPlan, TableDecl, TableDecls};
