@@ -14,4 +14,8 @@ braced-at zero ts = refl
 braced-at (suc n) ts =
     ap (λ (k : ℕ). parse.then_rest (parse.run_at (s.OpenBrace ∷ []) ts) (parse.before (parse.headed (kernel_after (braced_at k) k)) (s.CloseBrace ∷ []))) (sym (less-one n))
 
-pub ruleset braces = (braced-at, braced-at)
+pub braced-none : (ts : List Tok) → braced_at 0 ts ≡ None
+unfolding braced_at
+braced-none ts = refl
+
+pub ruleset braces = (braced-at, braced-none)

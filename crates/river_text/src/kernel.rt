@@ -164,6 +164,9 @@ fn kernel_after(reader: &mut Reader<'_>, alloc: Global, brackets: u32, word: &[u
 fn braced(reader: &mut Reader<'_>, alloc: Global, brackets: u32) -> Result<Kernel, Fault>
     ensures { Gives kern_of result reader.new (braced_at brackets reader.old) }
 {
+    if brackets == 0 {
+        return Err(Fault::Syntax);
+    }
     let inner = reader.opens(Symbol::OpenBrace, brackets)?;
     let kernel = kernel(reader, alloc, inner)?;
     reader.expect(&[Symbol::CloseBrace])?;
