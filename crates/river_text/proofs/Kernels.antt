@@ -35,7 +35,7 @@ pub exact-width : Exact Width width_at Any
 exact-width = exact-seen (λ n. pos n) exact-count
 
 -- between round brackets
-exact-round : {A : Type 0} {F : ℕ → A → List Tok → Type 0} {p : ℕ → Parse A} {E : List Tok → Type 0} → ((n : ℕ) → Exact (F n) (p n) E) → ((rest : List Tok) → E (symbol s.Close ∷ rest)) → (n : ℕ) → Exact (Round F n) (round p n) Any
+pub exact-round : {A : Type 0} {F : ℕ → A → List Tok → Type 0} {p : ℕ → Parse A} {E : List Tok → Type 0} → ((n : ℕ) → Exact (F n) (p n) E) → ((rest : List Tok) → E (symbol s.Close ∷ rest)) → (n : ℕ) → Exact (Round F n) (round p n) Any
 exact-round x follows n = exact-enclosed s.Open s.Close x follows n
 
 -- a value in its range
@@ -77,7 +77,7 @@ exact-terms : (n : ℕ) → Exact (Round (λ m. form.Commas (IsTerm m)) n) (term
 unfolding terms_at some_terms_at
 exact-terms n = exact-round (λ m. exact-commas (exact-term m) (λ rest j h. refl)) (λ rest. (λ j h. refl, refl)) n
 
-exact-counted : (n : ℕ) → Exact (Round (λ m. Count) n) (number_at n) Any
+pub exact-counted : (n : ℕ) → Exact (Round (λ m. Count) n) (number_at n) Any
 unfolding number_at
 exact-counted n = exact-round (λ m. exact-count) (λ rest. tt) n
 
@@ -158,7 +158,7 @@ exact-body : (nest n : ℕ) → Exact (IsBody nest n) (body_at nest n) Any
 unfolding body_at stmts_at
 exact-body nest n = exact-body_of nest (exact-stmt nest) n
 
-exact-pair : (n : ℕ) → Exact (Round (λ m. form.Both Count (form.After (s.Comma ∷ []) Count)) n) (pair_at n) Any
+pub exact-pair : (n : ℕ) → Exact (Round (λ m. form.Both Count (form.After (s.Comma ∷ []) Count)) n) (pair_at n) Any
 unfolding pair_at
 exact-pair n = exact-round (λ m. exact-both exact-count (exact-after (s.Comma ∷ []) exact-count) (λ y ts rest g d. tt)) (λ rest. tt) n
 
@@ -211,7 +211,7 @@ exact-after_kernel x n w =
     (exact-choose (bytes_eq w (codes "fused")) (exact-fused x n)
     (exact-bag n w))))))))
 
-exact-braced : (n : ℕ) → Exact (IsBraced n) (braced_at n) Any
+pub exact-braced : (n : ℕ) → Exact (IsBraced n) (braced_at n) Any
 unfolding IsBraced braced_at
 exact-braced zero = exact-never
 exact-braced (suc n) = exact-after (s.OpenBrace ∷ []) (exact-before (s.CloseBrace ∷ []) (exact-headed (exact-after_kernel (exact-braced n) n)) (λ rest. tt))

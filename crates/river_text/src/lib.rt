@@ -3,5 +3,6 @@
 
 mod body;
 mod kernel;
+pub mod laws;
 mod number;
 mod term;

@@ -1,0 +1,117 @@
+-- How River text is read: the grammar in the words of reading functions.
+use Rattle.std.specs.Prelude.{◌≡◌, ℕ, ◌+◌, ◌++◌, Bool, true, false, List, [], ◌∷◌, Option, None, Some, Result, Ok, Err, codes, if◌then◌else◌}
+use Rattle.std.specs.Str.{bytes_eq}
+use Rattle.work_code.specs.Tok.{Tok, name, var, number, symbol}
+use Rattle.work_code.specs.declared.sign.Symbol.TheVariants as s
+use Rattle.river_base.specs.Name.{is_name}
+use Rattle.river_base.specs.declared.kind.FlatType.{FlatType}
+use Rattle.river_base.specs.declared.kind.FlatType.TheVariants.{Rows, Stream, Relation}
+use Rattle.river_base.specs.declared.kind.QueueType.{QueueType}
+use Rattle.river_base.specs.declared.kind.QueueType.TheVariants.{Flat, Pack}
+use Rattle.kern_tables.specs.declared.kind.TableKind.{TableKind}
+use Rattle.kern_tables.specs.declared.kind.TableKind.TheVariants.{Sum, Collection}
+use Rattle.river_plan.specs.Forms.{OpForm, PlanForm}
+use Rattle.river_plan.specs.declared.plan.Decl.{Decl}
+use Rattle.river_plan.specs.declared.plan.TableDecl.{TableDecl}
+use Rattle.text_forms.specs.Parse.{Parse, name_at, var_at, both, after, before, tested, seen, known, merged, listing, headed}
+use Rattle.text_forms.specs.Texts.{whole}
+use Rattle.river_text.specs.Plans.{brackets, made_decl, made_maximum, made_table, Port, queue, variable, Ports, same_vars, made_op, Entry, output, input, inner, table, private, operator, stage_of, is_late, add}
+use Rattle.river_text.specs.ReadKernels.{round, number_at, pair_at, braced_at}
+
+unfoldable pub river_name_at : Parse (List ℕ)
+river_name_at ts = tested is_name name_at ts
+
+unfoldable pub river_var_at : Parse (List ℕ)
+river_var_at ts = tested is_name var_at ts
+
+unfoldable pub flat_after : ℕ → List ℕ → Parse FlatType
+flat_after n w ts =
+    if bytes_eq w (codes "rows") then seen Rows (number_at n) ts
+    else if bytes_eq w (codes "stream") then seen Stream (number_at n) ts
+    else if bytes_eq w (codes "relation") then seen Relation (number_at n) ts
+    else None
+
+unfoldable pub flat_at : ℕ → Parse FlatType
+flat_at n ts = headed (flat_after n) ts
+
+unfoldable pub packed_at : Parse FlatType
+packed_at ts = round flat_at brackets ts
+
+unfoldable pub type_after : List ℕ → Parse QueueType
+type_after w ts = if bytes_eq w (codes "pack") then seen Pack packed_at ts else seen Flat (flat_after brackets w) ts
+
+unfoldable pub type_at : Parse QueueType
+type_at ts = headed type_after ts
+
+unfoldable pub decl_at : Parse Decl
+decl_at ts = seen made_decl (both river_name_at (after (s.Colon ∷ []) (before type_at (s.Semicolon ∷ [])))) ts
+
+unfoldable pub kind_after : List ℕ → Parse TableKind
+kind_after w ts =
+    if bytes_eq w (codes "sum") then seen Sum (number_at brackets) ts
+    else if bytes_eq w (codes "collection") then seen Collection (number_at brackets) ts
+    else if bytes_eq w (codes "maximum") then seen made_maximum (pair_at brackets) ts
+    else None
+
+unfoldable pub kind_at : Parse TableKind
+kind_at ts = headed kind_after ts
+
+unfoldable pub table_at : Parse TableDecl
+table_at ts = seen made_table (both river_var_at (after (s.Colon ∷ []) (before kind_at (s.Semicolon ∷ [])))) ts
+
+-- a variable comes
+abbrev pub is_var_at : List Tok → Bool
+is_var_at [] = false
+is_var_at (name text ∷ ts) = false
+is_var_at (var text ∷ ts) = true
+is_var_at (number value ∷ ts) = false
+is_var_at (symbol x ∷ ts) = false
+
+unfoldable pub port_at : Parse Port
+port_at ts = merged is_var_at (seen variable river_var_at) (seen queue river_name_at) ts
+
+-- queues and then variables, behind these
+unfoldable pub split_from : (qs vs : List (List ℕ)) → List Port → Option Ports
+split_from qs vs [] = Some (qs, vs)
+split_from qs [] (queue q ∷ ps) = split_from (qs ++ q ∷ []) [] ps
+split_from qs (v ∷ vs) (queue q ∷ ps) = None
+split_from qs vs (variable v ∷ ps) = split_from qs (vs ++ v ∷ []) ps
+
+unfoldable pub port_list_at : Parse (List Port)
+port_list_at ts = listing s.Close port_at ts
+
+unfoldable pub ports_at : Parse Ports
+ports_at ts = round (λ m. known (split_from [] []) port_list_at) brackets ts
+
+unfoldable pub op_at : Parse OpForm
+op_at ts =
+    seen made_op (tested same_vars (both river_name_at (after (s.Colon ∷ []) (both ports_at
+    (after (s.Less ∷ s.Minus ∷ []) (both ports_at (braced_at brackets))))))) ts
+
+unfoldable pub private_at : Parse (List ℕ)
+private_at ts = before river_var_at (s.Semicolon ∷ []) ts
+
+unfoldable pub unit_after : List ℕ → Parse Entry
+unit_after w ts =
+    if bytes_eq w (codes "output") then seen output decl_at ts
+    else if bytes_eq w (codes "input") then seen input decl_at ts
+    else if bytes_eq w (codes "queue") then seen inner decl_at ts
+    else if bytes_eq w (codes "table") then seen table table_at ts
+    else if bytes_eq w (codes "var") then seen private private_at ts
+    else if bytes_eq w (codes "op") then seen operator op_at ts
+    else None
+
+unfoldable pub unit_at : Parse Entry
+unit_at ts = headed unit_after ts
+
+abbrev pub unit_from : ℕ → Parse Entry
+unit_from stage ts = tested (is_late stage) unit_at ts
+
+-- the plan of the units, of which the first has number n, behind what stands in p; or the first unit that is none
+abbrev pub with_entry : ℕ → (Entry → Result PlanForm ℕ) → Option Entry → Result PlanForm ℕ
+with_entry n more None = Err n
+with_entry n more (Some e) = more e
+
+unfoldable pub read_plan : (stage n : ℕ) → PlanForm → List (List Tok) → Result PlanForm ℕ
+read_plan stage n p [] = Ok p
+read_plan stage n p (u ∷ us) = with_entry n (λ e. read_plan (stage_of e) (n + 1) (add p e) us) (whole (unit_from stage) u)
