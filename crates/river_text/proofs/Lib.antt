@@ -2,6 +2,8 @@ pub mod Bodies
 pub mod Braces
 pub mod Kernels
 pub mod Plans
+pub mod Ports
 pub mod Steps
 pub mod Texts
 pub mod Trees
+pub mod Wholes

@@ -56,7 +56,7 @@ exact-table =
     (exact-choose (bytes_eq w (codes "collection")) (exact-seen Collection (exact-counted brackets))
     (exact-choose (bytes_eq w (codes "maximum")) (exact-seen made_maximum (exact-pair brackets)) exact-never)))) (λ rest. tt))) (λ y ts rest g d. tt))
 
-exact-port : Exact IsPort port_at Any
+pub exact-port : Exact IsPort port_at Any
 unfolding port_at
 exact-port = exact-less (exact-merged is_var_at (exact-seen variable exact-river_var) (exact-seen queue exact-river_name) left right) (λ rest d. (tt, tt)) where
   left : (v : Port) (ts rest : List Tok) → form.Seen variable IsVar v ts → Any rest → is_var_at (ts ++ rest) ≡ true

@@ -17,7 +17,7 @@ use Rattle.work_code.specs.Term.{Term}
 use Rattle.text_forms.proofs.Exact.{exact-value}
 
 -- what is read leaves no more tokens
-shorter : {A : Type 0} {F : A → List Tok → Type 0} {p : parse.Parse A} {E : List Tok → Type 0} → Exact F p E → (ts us : List Tok) (v : A) → p ts ≡ Some (v, us) → length us ≤ length ts
+pub shorter : {A : Type 0} {F : A → List Tok → Type 0} {p : parse.Parse A} {E : List Tok → Type 0} → Exact F p E → (ts us : List Tok) (v : A) → p ts ≡ Some (v, us) → length us ≤ length ts
 shorter x ts us v e =
     let f = x.sound ts v us e in
     let size : length ts ≡ length f.front + length us = ap length f.is ∙ length-append f.front us in

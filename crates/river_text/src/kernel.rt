@@ -158,10 +158,10 @@ fn kernel_after(reader: &mut Reader<'_>, alloc: Global, brackets: u32, word: &[u
     bag_after(reader, alloc, brackets, word)
 }
 
-// `{` kernel `}`
+/// `{` kernel `}`, where so many more brackets may be open.
 #[cycle(kernel)]
 #[tactic(auto, using(crate::proofs::Braces::braces))]
-fn braced(reader: &mut Reader<'_>, alloc: Global, brackets: u32) -> Result<Kernel, Fault>
+pub fn braced(reader: &mut Reader<'_>, alloc: Global, brackets: u32) -> Result<Kernel, Fault>
     ensures { Gives kern_of result reader.new (braced_at brackets reader.old) }
 {
     if brackets == 0 {
@@ -173,10 +173,10 @@ fn braced(reader: &mut Reader<'_>, alloc: Global, brackets: u32) -> Result<Kerne
     Ok(kernel)
 }
 
-/// A kernel, where `brackets` more brackets may be open.
+// A kernel, where `brackets` more brackets may be open.
 #[cycle(kernel)]
 #[tactic(auto, unfolding(crate::specs::ReadKernels::kernel_at))]
-pub fn kernel(reader: &mut Reader<'_>, alloc: Global, brackets: u32) -> Result<Kernel, Fault>
+fn kernel(reader: &mut Reader<'_>, alloc: Global, brackets: u32) -> Result<Kernel, Fault>
     ensures { Gives kern_of result reader.new (kernel_at brackets reader.old) }
 {
     let word = reader.name()?;

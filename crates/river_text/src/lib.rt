@@ -2,7 +2,11 @@
 #![tactic(auto)]
 
 mod body;
+mod decl;
+mod entry;
 mod kernel;
 pub mod laws;
 mod number;
+mod op;
+mod port;
 mod term;

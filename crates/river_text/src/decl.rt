@@ -1,0 +1,158 @@
+// Declarations read.
+ghost use Rattle.std.specs.Prelude.{◌≡◌};
+ghost use Rattle.text_forms.specs.Gives.{Gives};
+ghost use Rattle.river_text.specs.ReadPlans.{river_name_at, river_var_at, flat_after, flat_at, packed_at, type_after, type_at, decl_at, kind_after, kind_at, table_at, private_at};
+
+use crate::number::{number, pair};
+use kern_tables::TableKind;
+use river_base::{FlatType, Name, QueueType};
+use river_plan::{Decl, TableDecl};
+use text_forms::{Fault, Reader};
+use work_code::Symbol;
+
+/// How many brackets may be open in a unit.
+pub const BRACKETS: u32 = 128;
+
+/// A name of at most 64 bytes.
+#[tactic(auto, unfolding(crate::specs::ReadPlans::river_name_at))]
+pub fn river_name(reader: &mut Reader<'_>) -> Result<Name, Fault>
+    ensures { Gives (λ name. name) result reader.new (river_name_at reader.old) }
+{
+    let text = reader.name()?;
+    match Name::from_slice(text) {
+        Some(name) => Ok(name),
+        None => Err(Fault::Syntax),
+    }
+}
+
+/// A variable, whose name has at most 64 bytes.
+#[tactic(auto, unfolding(crate::specs::ReadPlans::river_var_at))]
+pub fn river_var(reader: &mut Reader<'_>) -> Result<Name, Fault>
+    ensures { Gives (λ name. name) result reader.new (river_var_at reader.old) }
+{
+    let text = reader.var()?;
+    match Name::from_slice(text) {
+        Some(name) => Ok(name),
+        None => Err(Fault::Syntax),
+    }
+}
+
+// What stands behind the word of a flat type.
+#[tactic(auto, unfolding(crate::specs::ReadPlans::flat_after))]
+fn flat_after(reader: &mut Reader<'_>, brackets: u32, word: &[u8]) -> Result<FlatType, Fault>
+    ensures { Gives (λ kind. kind) result reader.new (flat_after brackets word.now reader.old) }
+{
+    if word == b"rows".as_slice() {
+        return Ok(FlatType::Rows(number(reader, brackets)?));
+    }
+    if word == b"stream".as_slice() {
+        return Ok(FlatType::Stream(number(reader, brackets)?));
+    }
+    if word == b"relation".as_slice() {
+        return Ok(FlatType::Relation(number(reader, brackets)?));
+    }
+    Err(Fault::Syntax)
+}
+
+// A flat type.
+#[tactic(auto, unfolding(crate::specs::ReadPlans::flat_at))]
+fn flat(reader: &mut Reader<'_>, brackets: u32) -> Result<FlatType, Fault>
+    ensures { Gives (λ kind. kind) result reader.new (flat_at brackets reader.old) }
+{
+    let word = reader.name()?;
+    flat_after(reader, brackets, word)
+}
+
+// A flat type in brackets.
+#[tactic(auto, unfolding(crate::specs::ReadPlans::packed_at))]
+fn packed(reader: &mut Reader<'_>) -> Result<FlatType, Fault>
+    ensures { Gives (λ kind. kind) result reader.new (packed_at reader.old) }
+{
+    let inner = reader.opens(Symbol::Open, BRACKETS)?;
+    let kind = flat(reader, inner)?;
+    reader.expect(&[Symbol::Close])?;
+    Ok(kind)
+}
+
+// What stands behind the word of a type.
+#[tactic(auto, unfolding(crate::specs::ReadPlans::type_after))]
+fn type_after(reader: &mut Reader<'_>, word: &[u8]) -> Result<QueueType, Fault>
+    ensures { Gives (λ kind. kind) result reader.new (type_after word.now reader.old) }
+{
+    if word == b"pack".as_slice() {
+        return Ok(QueueType::Pack(packed(reader)?));
+    }
+    Ok(QueueType::Flat(flat_after(reader, BRACKETS, word)?))
+}
+
+// A type.
+#[tactic(auto, unfolding(crate::specs::ReadPlans::type_at))]
+fn queue_type(reader: &mut Reader<'_>) -> Result<QueueType, Fault>
+    ensures { Gives (λ kind. kind) result reader.new (type_at reader.old) }
+{
+    let word = reader.name()?;
+    type_after(reader, word)
+}
+
+/// The declaration of a queue, behind its first word.
+#[tactic(auto, unfolding(crate::specs::ReadPlans::decl_at))]
+pub fn decl(reader: &mut Reader<'_>) -> Result<Decl, Fault>
+    ensures { Gives (λ decl. decl) result reader.new (decl_at reader.old) }
+{
+    let name = river_name(reader)?;
+    reader.expect(&[Symbol::Colon])?;
+    let kind = queue_type(reader)?;
+    reader.expect(&[Symbol::Semicolon])?;
+    Ok(Decl { name, kind })
+}
+
+// What stands behind the word of a table's kind.
+#[tactic(auto, unfolding(crate::specs::ReadPlans::kind_after))]
+fn kind_after(reader: &mut Reader<'_>, word: &[u8]) -> Result<TableKind, Fault>
+    ensures { Gives (λ kind. kind) result reader.new (kind_after word.now reader.old) }
+{
+    if word == b"sum".as_slice() {
+        let keys = number(reader, BRACKETS)?;
+        return Ok(TableKind::Sum { keys });
+    }
+    if word == b"collection".as_slice() {
+        let keys = number(reader, BRACKETS)?;
+        return Ok(TableKind::Collection { keys });
+    }
+    if word == b"maximum".as_slice() {
+        let (best, keys) = pair(reader, BRACKETS)?;
+        return Ok(TableKind::Maximum { best, keys });
+    }
+    Err(Fault::Syntax)
+}
+
+// The kind of a table.
+#[tactic(auto, unfolding(crate::specs::ReadPlans::kind_at))]
+fn table_kind(reader: &mut Reader<'_>) -> Result<TableKind, Fault>
+    ensures { Gives (λ kind. kind) result reader.new (kind_at reader.old) }
+{
+    let word = reader.name()?;
+    kind_after(reader, word)
+}
+
+/// The declaration of a table, behind its first word.
+#[tactic(auto, unfolding(crate::specs::ReadPlans::table_at))]
+pub fn table(reader: &mut Reader<'_>) -> Result<TableDecl, Fault>
+    ensures { Gives (λ table. table) result reader.new (table_at reader.old) }
+{
+    let name = river_var(reader)?;
+    reader.expect(&[Symbol::Colon])?;
+    let kind = table_kind(reader)?;
+    reader.expect(&[Symbol::Semicolon])?;
+    Ok(TableDecl { name, kind })
+}
+
+/// The declaration of a private variable, behind its first word.
+#[tactic(auto, unfolding(crate::specs::ReadPlans::private_at))]
+pub fn private(reader: &mut Reader<'_>) -> Result<Name, Fault>
+    ensures { Gives (λ name. name) result reader.new (private_at reader.old) }
+{
+    let name = river_var(reader)?;
+    reader.expect(&[Symbol::Semicolon])?;
+    Ok(name)
+}

@@ -1,0 +1,107 @@
+// Units read.
+ghost use Rattle.std.specs.Prelude.{◌≡◌, OnOk};
+ghost use Rattle.text_forms.specs.Gives.{Gives};
+ghost use Rattle.text_forms.specs.Texts.{whole};
+ghost use Rattle.work_code.specs.Tok.{tokens_of};
+ghost use Rattle.river_plan.specs.Forms.{plan_form};
+ghost use Rattle.river_text.specs.Plans.{add, stage_of};
+ghost use Rattle.river_text.specs.ReadPlans.{unit_after, unit_at, unit_from};
+ghost use Rattle.river_text.specs.Entries.{entry_of};
+ghost use Rattle.river_text.specs.Made.{Makes};
+
+use crate::decl::{decl, private, table};
+use crate::op::operator;
+use river_base::{Name, NoMemory};
+use river_plan::{Decl, Op, RawPlan, TableDecl};
+use std::alloc::Global;
+use text_forms::{Fault, Reader};
+use work_code::Lexeme;
+
+/// What a unit adds to a plan.
+#[derive(Drop)]
+pub enum Entry {
+    Output(Decl),
+    Input(Decl),
+    Queue(Decl),
+    Table(TableDecl),
+    Var(Name),
+    Op(Op),
+}
+
+impl Entry {
+    /// The place of such units in a text: 0 for outputs up to 5 for operators.
+    pub fn stage(&self) -> u32
+        ensures { result ≡ stage_of (entry_of self.now) }
+    {
+        match self {
+            Entry::Output(_) => 0,
+            Entry::Input(_) => 1,
+            Entry::Queue(_) => 2,
+            Entry::Table(_) => 3,
+            Entry::Var(_) => 4,
+            Entry::Op(_) => 5,
+        }
+    }
+
+    /// Puts this at the end of its list.
+    pub fn add_to(self, plan: &mut RawPlan) -> Result<(), NoMemory>
+        ensures { OnOk result (plan_form plan.new ≡ add (plan_form plan.old) (entry_of self)) }
+    {
+        match self {
+            Entry::Output(decl) => plan.outputs.push(decl),
+            Entry::Input(decl) => plan.inputs.push(decl),
+            Entry::Queue(decl) => plan.queues.push(decl),
+            Entry::Table(table) => plan.tables.push(table),
+            Entry::Var(name) => plan.vars.push(name),
+            Entry::Op(op) => plan.ops.push(op),
+        }
+    }
+}
+
+// What stands behind the first word of a unit.
+#[tactic(auto, unfolding(crate::specs::ReadPlans::unit_after))]
+fn unit_after(reader: &mut Reader<'_>, alloc: Global, word: &[u8]) -> Result<Entry, Fault>
+    ensures { Gives entry_of result reader.new (unit_after word.now reader.old) }
+{
+    if word == b"output".as_slice() {
+        return Ok(Entry::Output(decl(reader)?));
+    }
+    if word == b"input".as_slice() {
+        return Ok(Entry::Input(decl(reader)?));
+    }
+    if word == b"queue".as_slice() {
+        return Ok(Entry::Queue(decl(reader)?));
+    }
+    if word == b"table".as_slice() {
+        return Ok(Entry::Table(table(reader)?));
+    }
+    if word == b"var".as_slice() {
+        return Ok(Entry::Var(private(reader)?));
+    }
+    if word == b"op".as_slice() {
+        return Ok(Entry::Op(operator(reader, alloc)?));
+    }
+    Err(Fault::Syntax)
+}
+
+// A unit.
+#[tactic(auto, unfolding(crate::specs::ReadPlans::unit_at))]
+fn unit(reader: &mut Reader<'_>, alloc: Global) -> Result<Entry, Fault>
+    ensures { Gives entry_of result reader.new (unit_at reader.old) }
+{
+    let word = reader.name()?;
+    unit_after(reader, alloc, word)
+}
+
+/// The entry of a whole unit that stands behind units of this stage.
+#[tactic(auto, using(crate::proofs::Wholes::wholes))]
+pub fn whole_entry(alloc: Global, tokens: &[Lexeme<'_>], stage: u32) -> Result<Entry, Fault>
+    ensures { Makes entry_of result (whole (unit_from stage) (tokens_of tokens.now)) }
+{
+    let mut reader = Reader::new(tokens);
+    let entry = unit(&mut reader, alloc)?;
+    if !reader.is_at_end() || entry.stage() < stage {
+        return Err(Fault::Syntax);
+    }
+    Ok(entry)
+}
