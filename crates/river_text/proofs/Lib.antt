@@ -1,6 +1,8 @@
 pub mod Bodies
 pub mod Braces
+pub mod Counts
 pub mod Kernels
+pub mod Loops
 pub mod Plans
 pub mod Ports
 pub mod Steps

@@ -15,7 +15,6 @@ use Rattle.text_forms.proofs.Exact.{Exact, Front, Any, exact-as, exact-less, exa
 use Rattle.text_forms.proofs.Pairs.{some_inj}
 use Rattle.std.proofs.lemmas.List.{map-append}
 use Rattle.text_forms.proofs.Choices.{exact-never, exact-choose, exact-headed, exact-known, exact-listing}
-
 use Rattle.river_text.specs.Plans.{IsName, IsVar, brackets, FlatAfter, IsFlat, IsType, made_decl, IsDecl, made_maximum, KindAfter, made_table, IsTable, Port, queue, variable, IsPort, IsPorts, Ports, same_vars, made_op, IsOp, Entry, output, input, inner, table, private, operator, UnitAfter, IsUnit, is_late, IsUnitAt}
 use Rattle.river_text.specs.ReadKernels.{round, number_at, pair_at, braced_at}
 use Rattle.river_text.specs.ReadPlans.{river_name_at, river_var_at, flat_after, flat_at, packed_at, type_after, type_at, decl_at, kind_after, kind_at, table_at, is_var_at, port_at, split_from, port_list_at, ports_at, op_at, private_at, unit_after, unit_at, unit_from}
@@ -61,6 +60,7 @@ unfolding port_at
 exact-port = exact-less (exact-merged is_var_at (exact-seen variable exact-river_var) (exact-seen queue exact-river_name) left right) (λ rest d. (tt, tt)) where
   left : (v : Port) (ts rest : List Tok) → form.Seen variable IsVar v ts → Any rest → is_var_at (ts ++ rest) ≡ true
   left v ts rest h d = rw h.formed.formed refl
+
   right : (v : Port) (ts rest : List Tok) → form.Seen queue IsName v ts → Any rest → is_var_at (ts ++ rest) ≡ false
   right v ts rest h d = rw h.formed.formed refl
 

@@ -1,4 +1,5 @@
 pub mod Entries
+pub mod Faults
 pub mod Kernels
 pub mod Laws
 pub mod Listed

@@ -100,7 +100,10 @@ pub fn whole_entry(alloc: Global, tokens: &[Lexeme<'_>], stage: u32) -> Result<E
 {
     let mut reader = Reader::new(tokens);
     let entry = unit(&mut reader, alloc)?;
-    if !reader.is_at_end() || entry.stage() < stage {
+    if !reader.is_at_end() {
+        return Err(Fault::Syntax);
+    }
+    if entry.stage() < stage {
         return Err(Fault::Syntax);
     }
     Ok(entry)

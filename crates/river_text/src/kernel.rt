@@ -69,7 +69,12 @@ fn range(reader: &mut Reader<'_>, brackets: u32) -> Result<i64, Fault>
 
 // What stands behind the word of a kernel on bags of rows.
 #[tactic(auto, unfolding(crate::specs::ReadKernels::bag_after))]
-fn bag_after(reader: &mut Reader<'_>, alloc: Global, brackets: u32, word: &[u8]) -> Result<Kernel, Fault>
+fn bag_after(
+    reader: &mut Reader<'_>,
+    alloc: Global,
+    brackets: u32,
+    word: &[u8],
+) -> Result<Kernel, Fault>
     ensures { Gives kern_of result reader.new (bag_after brackets word.now reader.old) }
 {
     if word == b"now".as_slice() {
@@ -127,7 +132,12 @@ fn fused(reader: &mut Reader<'_>, alloc: Global, brackets: u32) -> Result<Kernel
 // What stands behind the word of a kernel.
 #[cycle(kernel)]
 #[tactic(auto, unfolding(crate::specs::ReadKernels::kernel_after))]
-fn kernel_after(reader: &mut Reader<'_>, alloc: Global, brackets: u32, word: &[u8]) -> Result<Kernel, Fault>
+fn kernel_after(
+    reader: &mut Reader<'_>,
+    alloc: Global,
+    brackets: u32,
+    word: &[u8],
+) -> Result<Kernel, Fault>
     ensures { Gives kern_of result reader.new (kernel_after (braced_at brackets) brackets word.now reader.old) }
 {
     if word == b"code".as_slice() {

@@ -4,9 +4,14 @@
 mod body;
 mod decl;
 mod entry;
+mod fault;
 mod kernel;
 pub mod laws;
 mod number;
 mod op;
 mod port;
+mod read;
 mod term;
+
+pub use fault::TextFault;
+pub use read::read_river;

@@ -1,0 +1,35 @@
+-- What a refusal of River text says.
+use Rattle.std.specs.Prelude.{◌≡◌, ℕ, List, Result, Ok, Err}
+use Rattle.work_code.specs.Lexis.{tokens_in}
+use Rattle.work_code.specs.declared.fault.LexFault.{LexFault}
+use Rattle.work_code.specs.declared.fault.LexFault.TheVariants as lexical
+use Rattle.river_plan.specs.Forms.{PlanForm, plan_form}
+use Rattle.river_plan.specs.declared.plan.RawPlan.{RawPlan}
+use Rattle.river_text.specs.declared.fault.TextFault.{TextFault}
+use Rattle.river_text.specs.declared.fault.TextFault.TheVariants.{Lex, Syntax, NoMemory}
+use Rattle.river_text.specs.Laws.{IsBadAt}
+use Rattle.river_text.specs.Plans.{IsText}
+
+abbrev pub from_lexer : LexFault → TextFault
+from_lexer (lexical.BadByte at) = Lex (lexical.BadByte at)
+from_lexer (lexical.BigNumber at) = Lex (lexical.BigNumber at)
+from_lexer lexical.NoMemory = NoMemory
+
+-- no plan
+abbrev pub StandsForNone : List ℕ → Type 0
+StandsForNone text = (p : PlanForm) → IsText text p → ⊥
+
+-- the fault of the bytes is there, or the unit is the first that is not in the grammar; and the text stands for no plan
+abbrev pub Refuses : List ℕ → TextFault → Type 0
+Refuses text (Lex (lexical.BadByte at)) = (tokens_in text ≡ Err (lexical.BadByte at)) × StandsForNone text
+Refuses text (Lex (lexical.BigNumber at)) = (tokens_in text ≡ Err (lexical.BigNumber at)) × StandsForNone text
+Refuses text (Lex lexical.NoMemory) = ⊥
+Refuses text (Syntax unit) = IsBadAt text unit × StandsForNone text
+Refuses text NoMemory = Unit {0}
+
+-- the plan that was read, or the unit that is none
+abbrev pub GivesPlan : Result RawPlan TextFault → Result PlanForm ℕ → Type 0
+GivesPlan (Ok plan) read = read ≡ Ok (plan_form plan)
+GivesPlan (Err (Lex f)) read = ⊥
+GivesPlan (Err (Syntax unit)) read = read ≡ Err unit
+GivesPlan (Err NoMemory) read = Unit {0}
