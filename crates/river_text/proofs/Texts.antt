@@ -9,6 +9,7 @@ use Rattle.text_forms.specs.Texts.{whole, after_unit, put_first, read_units, All
 use Rattle.text_forms.proofs.Texts.{all-formed, formed-read, one-text, first-bad}
 use Rattle.river_text.specs.Plans.{Entry, add, add_all, stage_of, next_stage, IsUnitAt, AreUnits, IsText}
 use Rattle.river_text.specs.ReadPlans.{unit_from, with_entry, read_plan}
+use Rattle.river_text.specs.Faults.{StandsForNone}
 use Rattle.river_text.specs.Laws.{OnePlan, IsBadAt}
 use Rattle.river_text.proofs.Plans.{exact-unit_from}
 
@@ -83,3 +84,11 @@ pub unreadable : (text : List ℕ) (marks : List Mark) (m : ℕ) (p : PlanForm) 
 unreadable text marks m p lexed read t = never (sym read ∙ ap (λ (ms : List Mark). read_plan 0 1 empty_form (units_of (toks ms))) (same_marks text marks t.marks lexed t.lexed) ∙ text-reads text p t) where
   never : ◌≡◌ {A = Result PlanForm ℕ} (Err m) (Ok p) → ⊥
   never f = cc
+
+pub refused : (text : List ℕ) (marks : List Mark) (m : ℕ) → tokens_in text ≡ Ok marks → read_plan 0 1 empty_form (units_of (toks marks)) ≡ Err m → IsBadAt text m × StandsForNone text
+refused text marks m lexed read = (text-bad text marks m lexed read, λ p t. unreadable text marks m p lexed read t)
+
+pub faulted : (text : List ℕ) (fault : LexFault) → tokens_in text ≡ Err fault → (tokens_in text ≡ Err fault) × StandsForNone text
+faulted text fault e = (e, λ p t. faulty text fault p e t)
+
+pub ruleset texts = (text-read, refused, faulted)

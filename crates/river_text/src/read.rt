@@ -1,6 +1,6 @@
 // From a text to the lists of a plan.
-ghost use Rattle.std.specs.Prelude.{◌≡◌, ◌<◌, ◌^◌, length, IfOk, IfErr, map};
-ghost use Rattle.work_code.specs.Cut.{unit_tokens, units_of};
+ghost use Rattle.std.specs.Prelude.{◌≡◌, ◌<◌, ◌^◌, length, IfOk, IfErr};
+ghost use Rattle.work_code.specs.Cut.{units_of};
 ghost use Rattle.work_code.specs.Tok.{toks};
 ghost use Rattle.river_plan.specs.Forms.{plan_form, empty_form};
 ghost use Rattle.river_text.specs.Plans.{IsText};
@@ -21,6 +21,7 @@ use work_code::{Tokens, Units, lex, units};
 ///
 /// `Lex` where the text has a fault in its bytes; otherwise `Syntax` with the first unit, from 1, that is not in the
 /// grammar; `NoMemory` where there is no memory.
+#[tactic(auto, using(crate::proofs::Texts::texts, crate::proofs::Counts::counts))]
 pub fn read_river(alloc: Global, text: &Bytes) -> Result<RawPlan, TextFault>
     requires { length text.now < 2 ^ 32 }
     ensures read { IfOk result (λ plan. IsText text.now (plan_form plan)) }
@@ -30,6 +31,8 @@ pub fn read_river(alloc: Global, text: &Bytes) -> Result<RawPlan, TextFault>
     read_tokens(alloc, &tokens)
 }
 
+// The plan of the tokens of a text.
+#[tactic(auto, using(crate::proofs::Counts::counts))]
 fn read_tokens(alloc: Global, tokens: &Tokens<'_>) -> Result<RawPlan, TextFault>
     requires { length tokens.now < 2 ^ 32 }
     ensures { GivesPlan result (read_plan 0 1 empty_form (units_of (toks tokens.now))) }
@@ -38,6 +41,7 @@ fn read_tokens(alloc: Global, tokens: &Tokens<'_>) -> Result<RawPlan, TextFault>
     read_units(alloc, &units)
 }
 
+// The plan of the units of a text.
 fn read_units(alloc: Global, units: &Units<'_>) -> Result<RawPlan, TextFault>
     requires { length units.now < 2 ^ 32 }
     ensures { GivesPlan result (read_plan 0 1 empty_form units.now) }
