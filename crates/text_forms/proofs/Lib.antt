@@ -1,7 +1,9 @@
+pub mod Choices
 pub mod Exact
 pub mod Ladder
 pub mod Many
 pub mod Pairs
+pub mod PrintedExpr
 pub mod Repeat
 pub mod Runs
 pub mod Steps

@@ -4,10 +4,14 @@
 mod byte;
 mod code;
 mod cut;
+mod evaluate;
 mod expr;
 mod fault;
+pub mod laws;
 mod lexer;
 mod piece;
+mod print;
+mod printing;
 mod sign;
 mod token;
 mod tokens;
@@ -15,10 +19,16 @@ mod unit;
 
 pub use code::{Code, Emitted, Stmt, Stmts};
 pub use cut::Units;
+pub use evaluate::eval;
 pub use expr::{BinOp, Expr, Exprs};
 pub use fault::LexFault;
 pub use lexer::lex;
+pub use print::print_expr;
+pub use printing::print_code;
 pub use sign::Symbol;
 pub use token::{Lexeme, Token};
 pub use tokens::Tokens;
 pub use unit::units;
+
+#[cfg(test)]
+mod tests;
