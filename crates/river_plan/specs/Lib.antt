@@ -4,6 +4,7 @@ pub mod Forms
 pub mod Kinds
 pub mod Limits
 pub mod Names
+pub mod PlanCode
 pub mod Shares
 pub mod Uses
 pub mod Valid

@@ -15,9 +15,11 @@ mod repeated;
 mod search;
 mod shared;
 mod types;
+mod valid;
 
 pub use fault::{Named, PlanFault};
 pub use op::{Names, Op, Ops};
 pub use river_base::{FlatType, QueueType};
 pub use river_kernels::{Kernel, Limit};
+pub use valid::Plan;
 pub use plan::{Decl, Decls, RawPlan, TableDecl, TableDecls};
