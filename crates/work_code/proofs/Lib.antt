@@ -3,3 +3,4 @@ pub mod Lists
 pub mod Marks
 pub mod Pieces
 pub mod Rooms
+pub mod Spelled

@@ -27,12 +27,12 @@ step at (suc len) c cs h k =
     let e : suc len - 1 ≡ len = omega arith in
     ap (λ n. marks n (at + 1) cs) e ∙ marks-skip len (at + 1) cs (omega arith) ∙ ap (λ n. marks 0 n (drop len cs)) (omega arith)
 
-at_blank : (at len : ℕ) (s : List ℕ) → 0 < length s → piece_at s ≡ blank len → 0 < len → len ≤ length s → marks 0 at s ≡ marks 0 (at + len) (drop len s)
+pub at_blank : (at len : ℕ) (s : List ℕ) → 0 < length s → piece_at s ≡ blank len → 0 < len → len ≤ length s → marks 0 at s ≡ marks 0 (at + len) (drop len s)
 unfolding marks
 at_blank at len [] n p h k = absurd (omega arith)
 at_blank at len (c ∷ cs) n p h k = rw (p, marks) (step at len c cs h k)
 
-at_token : (at len : ℕ) (t : Tok) (s : List ℕ) → 0 < length s → piece_at s ≡ token t len → 0 < len → len ≤ length s → marks 0 at s ≡ with_mark (record { tok = t; start = at; end = at + len }) (marks 0 (at + len) (drop len s))
+pub at_token : (at len : ℕ) (t : Tok) (s : List ℕ) → 0 < length s → piece_at s ≡ token t len → 0 < len → len ≤ length s → marks 0 at s ≡ with_mark (record { tok = t; start = at; end = at + len }) (marks 0 (at + len) (drop len s))
 unfolding marks
 at_token at len t [] n p h k = absurd (omega arith)
 at_token at len t (c ∷ cs) n p h k = rw (p, marks) (ap (with_mark (record { tok = t; start = at; end = at + len })) (step at len c cs h k))

@@ -1,0 +1,277 @@
+-- Texts that are spelled token by token: what the lexer makes of them.
+use Rattle.std.proofs.Common.{◌≡◌, ◌⊎◌, inl, inr, ⊎_elim, ℕ, zero, suc, ◌+◌, ◌-◌, ◌*◌, ◌<◌, ◌≤◌, ◌^◌, Bool, true, false, cond, List, [], ◌∷◌, ◌++◌, length, drop, take, refl, sym, ap, ◌∙◌, arith, append_assoc, append-nil, length-append, eqb}
+use Rattle.std.specs.Prelude.{Option, Some, None, Result, Ok, Err, map, ◌==◌, ◌&&◌, ◌||◌, if◌then◌else◌, nat_lt, nat_le}
+use Rattle.std.specs.List.{prefix_len, list_all}
+use Rattle.std.specs.Fmt.{decimal}
+use Rattle.std.specs.Str.Parse.{AllDigits, digits_value_after}
+use Rattle.std.specs.Char.{digit_value}
+use Rattle.std.proofs.lemmas.Fmt.{decimal_is_IsNumeral}
+use Rattle.std.proofs.lemmas.Bool.{eqb-true, ne_eqb}
+use Rattle.std.proofs.lemmas.Bool.Decides.{nat_tests}
+use Rattle.std.proofs.Math.Seq.{drop-append_seam, take-append_seam}
+use Rattle.work_code.specs.Lexis.{Piece, blank, token, bad, big, marks, with_mark, piece_at, is_blank, is_in_line, is_letter, is_digit, is_word, first_is, begins_with, name_piece, var_piece, number_piece, decimal_from, most, block_piece, symbol_piece, short_piece, long_piece}
+use Rattle.work_code.specs.Symbols.{short_symbol, long_symbol}
+use Rattle.work_code.specs.Tok.{Tok, Mark, toks, name, var, number, symbol}
+use Rattle.work_code.specs.declared.sign.Symbol.{Symbol}
+use Rattle.work_code.specs.declared.fault.LexFault.{LexFault}
+use Rattle.work_code.proofs.Marks.{at_blank, at_token}
+
+-- the tokens without their places, where there is no fault
+abbrev pub spoken : Result (List Mark) LexFault → Option (List Tok)
+spoken (Ok ms) = Some (toks ms)
+spoken (Err fault) = None
+
+-- the tokens of the bytes, which begin at a place
+abbrev pub tokens_from : ℕ → List ℕ → Option (List Tok)
+tokens_from at s = spoken (marks 0 at s)
+
+-- some tokens before others
+abbrev pub before : List Tok → Option (List Tok) → Option (List Tok)
+before ts None = None
+before ts (Some us) = Some (ts ++ us)
+
+-- these bytes are these tokens, wherever they stand, before all that `ok` allows
+pub record Spells (s : List ℕ) (ts : List Tok) (ok : List ℕ → Type 0) : Type 0 where
+  pub reads : (at : ℕ) (rest : List ℕ) → ok rest → tokens_from at (s ++ rest) ≡ before ts (tokens_from (at + length s) rest)
+
+abbrev pub Anything : List ℕ → Type 0
+Anything rest = Unit {0}
+
+-- no byte of a word comes
+abbrev pub NoWord : List ℕ → Type 0
+NoWord rest = first_is is_word rest ≡ false
+
+before-before : (ts us : List Tok) (o : Option (List Tok)) → before ts (before us o) ≡ before (ts ++ us) o
+before-before ts us None = refl
+before-before ts us (Some vs) = ap (λ (l : List Tok). Some l) (sym (append_assoc ts us vs))
+
+pub spells-nothing : (ok : List ℕ → Type 0) → Spells [] [] ok
+spells-nothing ok = record { reads = λ at rest h. ap (λ (k : ℕ). tokens_from k rest) (omega arith) ∙ sym (before-nothing (tokens_from (at + 0) rest)) } where
+  before-nothing : (o : Option (List Tok)) → before [] o ≡ o
+  before-nothing None = refl
+  before-nothing (Some vs) = refl
+
+-- one text behind another
+pub spells-then : {ok then_ok : List ℕ → Type 0} (s : List ℕ) (ts : List Tok) (u : List ℕ) (us : List Tok) → Spells s ts ok → Spells u us then_ok → ((rest : List ℕ) → then_ok rest → ok (u ++ rest)) → Spells (s ++ u) (ts ++ us) then_ok
+spells-then s ts u us x y follows = record {
+  reads = λ at rest h.
+    ap (λ (l : List ℕ). tokens_from at l) (append_assoc s u rest) ∙ x.reads at (u ++ rest) (follows rest h)
+    ∙ ap (λ (o : Option (List Tok)). before ts o) (y.reads (at + length s) rest h) ∙ before-before ts us (tokens_from (at + length s + length u) rest)
+    ∙ ap (λ (k : ℕ). before (ts ++ us) (tokens_from k rest)) (omega (arith, length-append s u));
+}
+
+-- less may follow
+pub spells-less : {ok less : List ℕ → Type 0} (s : List ℕ) (ts : List Tok) → Spells s ts ok → ((rest : List ℕ) → less rest → ok rest) → Spells s ts less
+spells-less s ts x fewer = record { reads = λ at rest h. x.reads at rest (fewer rest h) }
+
+-- a whole text
+pub spells-whole : {ok : List ℕ → Type 0} (s : List ℕ) (ts : List Tok) → Spells s ts ok → ok [] → (ms : List Mark) × (marks 0 0 s ≡ Ok ms) × (toks ms ≡ ts)
+unfolding marks
+spells-whole s ts x allowed =
+    by (marks 0 0 s) refl (ap (λ (l : List ℕ). tokens_from 0 l) (sym (append-nil s)) ∙ x.reads 0 [] allowed ∙ ap (λ (l : List Tok). Some l) (append-nil ts)) where
+  by : (r : Result (List Mark) LexFault) → marks 0 0 s ≡ r → spoken r ≡ Some ts → (ms : List Mark) × (marks 0 0 s ≡ Ok ms) × (toks ms ≡ ts)
+  by (Ok ms) is e = (ms, is, same e) where
+    same : Some (toks ms) ≡ Some ts → toks ms ≡ ts
+    same f = cc
+  by (Err fault) is e = cc
+
+spoken-with : (m : Mark) (r : Result (List Mark) LexFault) → spoken (with_mark m r) ≡ before (m.tok ∷ []) (spoken r)
+spoken-with m (Ok ms) = refl
+spoken-with m (Err fault) = refl
+
+-- what the lexer finds at the front of a text is one token of all its bytes
+from_piece : {ok : List ℕ → Type 0} (s : List ℕ) (t : Tok) → 0 < length s → ((rest : List ℕ) → ok rest → piece_at (s ++ rest) ≡ token t (length s)) → Spells s (t ∷ []) ok
+from_piece s t some found = record {
+  reads = λ at rest h.
+    let size : length s ≤ length (s ++ rest) = omega (arith, length-append s rest) in
+    ap spoken (at_token at (length s) t (s ++ rest) (omega (arith, size)) (found rest h) some size)
+    ∙ spoken-with (record { tok = t; start = at; end = at + length s }) (marks 0 (at + length s) (drop (length s) (s ++ rest)))
+    ∙ ap (λ (l : List ℕ). before (t ∷ []) (tokens_from (at + length s) l)) (drop-append_seam s rest);
+}
+
+-- a separator
+blank_piece : (c : ℕ) (rest : List ℕ) → is_blank c ≡ true → piece_at (c ∷ rest) ≡ blank 1
+unfolding piece_at first_is
+blank_piece c rest is = rw is refl
+
+before-nothing : (o : Option (List Tok)) → before [] o ≡ o
+before-nothing None = refl
+before-nothing (Some vs) = refl
+
+pub spells-blank : (c : ℕ) → is_blank c ≡ true → Spells (c ∷ []) [] Anything
+spells-blank c is = record {
+  reads = λ at rest h. ap spoken (at_blank at 1 (c ∷ rest) (omega arith) (blank_piece c rest is) (omega arith) (omega arith)) ∙ sym (before-nothing (tokens_from (at + 1) rest));
+}
+
+-- a byte that begins a symbol: no other piece begins with it
+pub record IsSign (c : ℕ) : Type 0 where
+  pub no_blank : is_blank c ≡ false
+  pub no_hash : c == 35 ≡ false
+  pub no_letter : is_letter c ≡ false
+  pub no_dollar : c == 36 ≡ false
+  pub no_digit : is_digit c ≡ false
+
+-- what may come behind a symbol of one byte: no byte with which it is a longer symbol or a comment
+abbrev pub IsAlone : ℕ → List ℕ → Type 0
+IsAlone c [] = Unit {0}
+IsAlone c (d ∷ ds) = (long_symbol c d ≡ None) × ((c == 47) && (d == 47) ≡ false) × ((c == 47) && (d == 42) ≡ false)
+
+and_false : (b : Bool) → b && false ≡ false
+and_false true = refl
+and_false false = refl
+
+short_end : (c : ℕ) (x : Symbol) → IsSign c → short_symbol c ≡ Some x → piece_at (c ∷ []) ≡ token (symbol x) 1
+unfolding piece_at first_is begins_with symbol_piece
+short_end c x s is = rw (s.no_blank, s.no_hash, and_false (c == 47), s.no_letter, s.no_dollar, s.no_digit, is) refl
+
+short_on : (c d : ℕ) (ds : List ℕ) (x : Symbol) → IsSign c → short_symbol c ≡ Some x → IsAlone c (d ∷ ds) → piece_at (c ∷ (d ∷ ds)) ≡ token (symbol x) 1
+unfolding piece_at first_is begins_with symbol_piece
+short_on c d ds x s is alone = rw (s.no_blank, s.no_hash, alone.1, alone.2, s.no_letter, s.no_dollar, s.no_digit, alone.0, is) refl
+
+pub spells-short : (c : ℕ) (x : Symbol) → IsSign c → short_symbol c ≡ Some x → Spells (c ∷ []) (symbol x ∷ []) (IsAlone c)
+spells-short c x s is = from_piece (c ∷ []) (symbol x) (omega arith) found where
+  found : (rest : List ℕ) → IsAlone c rest → piece_at (c ∷ rest) ≡ token (symbol x) 1
+  found [] alone = short_end c x s is
+  found (d ∷ ds) alone = short_on c d ds x s is alone
+
+-- a symbol of two bytes
+long_piece_at : (c d : ℕ) (rest : List ℕ) (x : Symbol) → IsSign c → c == 47 ≡ false → long_symbol c d ≡ Some x → piece_at (c ∷ (d ∷ rest)) ≡ token (symbol x) 2
+unfolding piece_at first_is begins_with symbol_piece
+long_piece_at c d rest x s other is = rw (s.no_blank, s.no_hash, other, s.no_letter, s.no_dollar, s.no_digit, is) refl
+
+pub spells-long : (c d : ℕ) (x : Symbol) → IsSign c → c == 47 ≡ false → long_symbol c d ≡ Some x → Spells (c ∷ (d ∷ [])) (symbol x ∷ []) Anything
+spells-long c d x s other is = from_piece (c ∷ (d ∷ [])) (symbol x) (omega arith) (λ rest h. long_piece_at c d rest x s other is)
+
+-- the bytes of a word up to what follows
+word_len : (p : ℕ → Bool) (s rest : List ℕ) → list_all p s ≡ true → first_is p rest ≡ false → prefix_len p (s ++ rest) ≡ length s
+unfolding first_is
+word_len p [] [] all next = refl
+word_len p [] (d ∷ ds) all next = rw next refl
+word_len p (c ∷ cs) rest all next =
+    let parts = and_true (p c) (list_all p cs) all in
+    rw parts.0 (ap (λ (n : ℕ). 1 + n) (word_len p cs rest parts.1 next) ∙ omega arith)
+  where
+    and_true : (a b : Bool) → a && b ≡ true → (a ≡ true) × (b ≡ true)
+    and_true true b e = (refl, e)
+    and_true false b e = cc
+
+-- a text is a word: a letter or _, and then bytes that go on a word
+abbrev pub is_name_text : List ℕ → Bool
+is_name_text [] = false
+is_name_text (c ∷ cs) = is_letter c && list_all is_word cs
+
+letter_high : (c : ℕ) → is_letter c ≡ true → 64 < c
+unfolding is_letter
+letter_high c is = grind (arith, nat_tests)
+
+is_no : (c k : ℕ) → k < c → c == k ≡ false
+is_no c k lt = ne_eqb c k (λ e. absurd (omega arith))
+
+high_no_blank : (c : ℕ) → 32 < c → is_blank c ≡ false
+unfolding is_blank
+high_no_blank c high =
+    let a = is_no c 32 (omega arith) in
+    let b = is_no c 9 (omega arith) in
+    let d = is_no c 13 (omega arith) in
+    let e = is_no c 10 (omega arith) in
+    rw (a, b, d, e) refl
+
+name_all : (c : ℕ) (cs : List ℕ) → is_letter c ≡ true → list_all is_word cs ≡ true → list_all is_word (c ∷ cs) ≡ true
+unfolding is_word
+name_all c cs first all = rw first all
+
+name_piece_is : (c : ℕ) (cs rest : List ℕ) → is_letter c ≡ true → list_all is_word cs ≡ true → first_is is_word rest ≡ false → piece_at (c ∷ (cs ++ rest)) ≡ token (name (c ∷ cs)) (length (c ∷ cs))
+unfolding piece_at first_is begins_with
+name_piece_is c cs rest first all next =
+    let high = letter_high c first in
+    let a = high_no_blank c (omega arith) in
+    let b = is_no c 35 (omega arith) in
+    let d = is_no c 47 (omega arith) in
+    let len : prefix_len is_word (c ∷ (cs ++ rest)) ≡ length (c ∷ cs) = word_len is_word (c ∷ cs) rest (name_all c cs first all) next in
+    rw (a, b, d, first, len) (ap (λ (l : List ℕ). token (name l) (length (c ∷ cs))) (take-append_seam (c ∷ cs) rest))
+
+pub spells-name : (text : List ℕ) → is_name_text text ≡ true → Spells text (name text ∷ []) NoWord
+spells-name [] is = cc
+spells-name (c ∷ cs) is = from_piece (c ∷ cs) (name (c ∷ cs)) (omega arith) (λ rest next. name_piece_is c cs rest (parts (is_letter c) (list_all is_word cs) is).0 (parts (is_letter c) (list_all is_word cs) is).1 next) where
+  parts : (a b : Bool) → a && b ≡ true → (a ≡ true) × (b ≡ true)
+  parts true b e = (refl, e)
+  parts false b e = cc
+
+-- a variable, with its dollar sign
+var_piece_is : (c : ℕ) (cs rest : List ℕ) → is_letter c ≡ true → list_all is_word cs ≡ true → first_is is_word rest ≡ false → piece_at (36 ∷ (c ∷ (cs ++ rest))) ≡ token (var (c ∷ cs)) (length (36 ∷ (c ∷ cs)))
+unfolding piece_at first_is begins_with var_piece is_blank is_letter
+var_piece_is c cs rest first all next =
+    let len : prefix_len is_word (c ∷ (cs ++ rest)) ≡ length (c ∷ cs) = word_len is_word (c ∷ cs) rest (name_all c cs first all) next in
+    rw (first, len) (ap (λ (l : List ℕ). token (var l) (length (c ∷ cs) + 1)) (take-append_seam (c ∷ cs) rest) ∙ ap (λ (n : ℕ). token (var (c ∷ cs)) n) (omega arith))
+
+both_true : (a b : Bool) → a && b ≡ true → (a ≡ true) × (b ≡ true)
+both_true true b e = (refl, e)
+both_true false b e = cc
+
+pub spells-var : (text : List ℕ) → is_name_text text ≡ true → Spells (36 ∷ text) (var text ∷ []) NoWord
+spells-var [] is = cc
+spells-var (c ∷ cs) is =
+    let parts = both_true (is_letter c) (list_all is_word cs) is in
+    from_piece (36 ∷ (c ∷ cs)) (var (c ∷ cs)) (omega arith) (λ rest next. var_piece_is c cs rest parts.0 parts.1 next)
+
+-- a number, as it is printed
+digit_between : (c : ℕ) → digit_value c < 10 → (47 < c) × (c < 58)
+digit_between c small = (grind (arith, nat_tests), grind (arith, nat_tests))
+
+digit_is : (c : ℕ) → 47 < c → c < 58 → digit_value c ≡ c - 48
+digit_is c low high = grind (arith, nat_tests)
+
+digit_test : (c : ℕ) → 47 < c → c < 58 → is_digit c ≡ true
+unfolding is_digit
+digit_test c low high = grind (arith, nat_tests)
+
+digits_all : (ds : List ℕ) → AllDigits 10 ds → list_all is_digit ds ≡ true
+digits_all [] all = refl
+digits_all (c ∷ cs) all =
+    let d = digit_between c all.0 in
+    rw (digit_test c d.0 d.1) (digits_all cs all.1)
+
+digits_same : (n : ℕ) (ds : List ℕ) → AllDigits 10 ds → digits_value_after 10 n ds ≡ decimal_from n ds
+unfolding decimal_from
+digits_same n [] all = refl
+digits_same n (c ∷ cs) all =
+    let d = digit_between c all.0 in
+    ap (λ (v : ℕ). digits_value_after 10 (n * 10 + v) cs) (digit_is c d.0 d.1) ∙ digits_same (n * 10 + (c - 48)) cs all.1
+
+low_no_letter : (c : ℕ) → 47 < c → c < 58 → is_letter c ≡ false
+unfolding is_letter
+low_no_letter c low high = grind (arith, nat_tests)
+
+within : (n len : ℕ) → n ≤ most → number_piece n len ≡ token (number n) len
+unfolding number_piece
+within n len fits = let small : nat_lt most n ≡ false = grind (arith, nat_tests) in rw small refl
+
+-- the number at the front of digits
+number_piece_is : (c : ℕ) (cs rest : List ℕ) (n : ℕ) → 47 < c → c < 58 → list_all is_digit (c ∷ cs) ≡ true → decimal_from 0 (c ∷ cs) ≡ n → n ≤ most → first_is is_digit rest ≡ false → piece_at (c ∷ (cs ++ rest)) ≡ token (number n) (length (c ∷ cs))
+unfolding piece_at first_is begins_with
+number_piece_is c cs rest n low high all value fits next =
+    let a = high_no_blank c (omega arith) in
+    let b : c == 35 ≡ false = ne_eqb c 35 (λ e. absurd (omega arith)) in
+    let d : c == 47 ≡ false = ne_eqb c 47 (λ e. absurd (omega arith)) in
+    let f : c == 36 ≡ false = ne_eqb c 36 (λ e. absurd (omega arith)) in
+    let len : prefix_len is_digit (c ∷ (cs ++ rest)) ≡ length (c ∷ cs) = word_len is_digit (c ∷ cs) rest all next in
+    let front : take (length (c ∷ cs)) (c ∷ (cs ++ rest)) ≡ c ∷ cs = take-append_seam (c ∷ cs) rest in
+    rw (a, b, d, low_no_letter c low high, f, len, digit_test c low high) (ap (λ (l : List ℕ). number_piece (decimal_from 0 l) (length (c ∷ cs))) front ∙ ap (λ (v : ℕ). number_piece v (length (c ∷ cs))) value ∙ within n (length (c ∷ cs)) fits)
+
+word_digit : (rest : List ℕ) → first_is is_word rest ≡ false → first_is is_digit rest ≡ false
+unfolding first_is is_word
+word_digit [] next = refl
+word_digit (d ∷ ds) next = no_digit (is_letter d) (is_digit d) (d == 64) next where
+  no_digit : (a b c : Bool) → a || b || c ≡ false → b ≡ false
+  no_digit true b c e = cc
+  no_digit false true c e = cc
+  no_digit false false c e = refl
+
+pub spells-number : (n : ℕ) → n ≤ most → Spells (decimal n) (number n ∷ []) NoWord
+spells-number n fits = by (decimal n) (decimal_is_IsNumeral n (omega arith)) where
+  by : (ds : List ℕ) → (0 < length ds × AllDigits 10 ds) × (digits_value_after 10 0 ds ≡ n) → Spells ds (number n ∷ []) NoWord
+  by [] h = absurd (omega (arith, h.0.0))
+  by (c ∷ cs) h =
+      let d = digit_between c h.0.1.0 in
+      from_piece (c ∷ cs) (number n) (omega arith)
+        (λ rest next. number_piece_is c cs rest n d.0 d.1 (digits_all (c ∷ cs) h.0.1) (sym (digits_same 0 (c ∷ cs) h.0.1) ∙ h.1) fits (word_digit rest next))
