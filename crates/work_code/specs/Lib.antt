@@ -7,3 +7,4 @@ pub mod Steps
 pub mod Symbols
 pub mod Term
 pub mod Tok
+pub mod Value

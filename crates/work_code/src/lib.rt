@@ -4,6 +4,7 @@
 mod byte;
 mod code;
 mod cut;
+mod evaluate;
 mod expr;
 mod fault;
 mod lexer;
@@ -15,6 +16,7 @@ mod unit;
 
 pub use code::{Code, Emitted, Stmt, Stmts};
 pub use cut::Units;
+pub use evaluate::eval;
 pub use expr::{BinOp, Expr, Exprs};
 pub use fault::LexFault;
 pub use lexer::lex;
