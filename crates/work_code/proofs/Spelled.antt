@@ -55,9 +55,9 @@ spells-nothing ok = record { reads = λ at rest h. ap (λ (k : ℕ). tokens_from
 pub spells-then : {ok then_ok : List ℕ → Type 0} (s : List ℕ) (ts : List Tok) (u : List ℕ) (us : List Tok) → Spells s ts ok → Spells u us then_ok → ((rest : List ℕ) → then_ok rest → ok (u ++ rest)) → Spells (s ++ u) (ts ++ us) then_ok
 spells-then s ts u us x y follows = record {
   reads = λ at rest h.
-    ap (λ (l : List ℕ). tokens_from at l) (append_assoc s u rest) ∙ x.reads at (u ++ rest) (follows rest h)
-    ∙ ap (λ (o : Option (List Tok)). before ts o) (y.reads (at + length s) rest h) ∙ before-before ts us (tokens_from (at + length s + length u) rest)
-    ∙ ap (λ (k : ℕ). before (ts ++ us) (tokens_from k rest)) (omega (arith, length-append s u));
+      ap (λ (l : List ℕ). tokens_from at l) (append_assoc s u rest) ∙ x.reads at (u ++ rest) (follows rest h)
+      ∙ ap (λ (o : Option (List Tok)). before ts o) (y.reads (at + length s) rest h) ∙ before-before ts us (tokens_from (at + length s + length u) rest)
+      ∙ ap (λ (k : ℕ). before (ts ++ us) (tokens_from k rest)) (omega (arith, length-append s u));
 }
 
 -- less may follow
@@ -69,11 +69,11 @@ pub spells-whole : {ok : List ℕ → Type 0} (s : List ℕ) (ts : List Tok) →
 unfolding marks
 spells-whole s ts x allowed =
     by (marks 0 0 s) refl (ap (λ (l : List ℕ). tokens_from 0 l) (sym (append-nil s)) ∙ x.reads 0 [] allowed ∙ ap (λ (l : List Tok). Some l) (append-nil ts)) where
-  by : (r : Result (List Mark) LexFault) → marks 0 0 s ≡ r → spoken r ≡ Some ts → (ms : List Mark) × (marks 0 0 s ≡ Ok ms) × (toks ms ≡ ts)
-  by (Ok ms) is e = (ms, is, same e) where
-    same : Some (toks ms) ≡ Some ts → toks ms ≡ ts
-    same f = cc
-  by (Err fault) is e = cc
+      by : (r : Result (List Mark) LexFault) → marks 0 0 s ≡ r → spoken r ≡ Some ts → (ms : List Mark) × (marks 0 0 s ≡ Ok ms) × (toks ms ≡ ts)
+      by (Ok ms) is e = (ms, is, same e) where
+        same : Some (toks ms) ≡ Some ts → toks ms ≡ ts
+        same f = cc
+      by (Err fault) is e = cc
 
 spoken-with : (m : Mark) (r : Result (List Mark) LexFault) → spoken (with_mark m r) ≡ before (m.tok ∷ []) (spoken r)
 spoken-with m (Ok ms) = refl
@@ -83,10 +83,10 @@ spoken-with m (Err fault) = refl
 from_piece : {ok : List ℕ → Type 0} (s : List ℕ) (t : Tok) → 0 < length s → ((rest : List ℕ) → ok rest → piece_at (s ++ rest) ≡ token t (length s)) → Spells s (t ∷ []) ok
 from_piece s t some found = record {
   reads = λ at rest h.
-    let size : length s ≤ length (s ++ rest) = omega (arith, length-append s rest) in
-    ap spoken (at_token at (length s) t (s ++ rest) (omega (arith, size)) (found rest h) some size)
-    ∙ spoken-with (record { tok = t; start = at; end = at + length s }) (marks 0 (at + length s) (drop (length s) (s ++ rest)))
-    ∙ ap (λ (l : List ℕ). before (t ∷ []) (tokens_from (at + length s) l)) (drop-append_seam s rest);
+      let size : length s ≤ length (s ++ rest) = omega (arith, length-append s rest) in
+      ap spoken (at_token at (length s) t (s ++ rest) (omega (arith, size)) (found rest h) some size)
+      ∙ spoken-with (record { tok = t; start = at; end = at + length s }) (marks 0 (at + length s) (drop (length s) (s ++ rest)))
+      ∙ ap (λ (l : List ℕ). before (t ∷ []) (tokens_from (at + length s) l)) (drop-append_seam s rest);
 }
 
 -- a separator
@@ -274,4 +274,4 @@ spells-number n fits = by (decimal n) (decimal_is_IsNumeral n (omega arith)) whe
   by (c ∷ cs) h =
       let d = digit_between c h.0.1.0 in
       from_piece (c ∷ cs) (number n) (omega arith)
-        (λ rest next. number_piece_is c cs rest n d.0 d.1 (digits_all (c ∷ cs) h.0.1) (sym (digits_same 0 (c ∷ cs) h.0.1) ∙ h.1) fits (word_digit rest next))
+      (λ rest next. number_piece_is c cs rest n d.0 d.1 (digits_all (c ∷ cs) h.0.1) (sym (digits_same 0 (c ∷ cs) h.0.1) ∙ h.1) fits (word_digit rest next))

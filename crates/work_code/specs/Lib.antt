@@ -3,6 +3,7 @@ pub mod Cut
 pub mod Lent
 pub mod Lexis
 pub mod Pieces
+pub mod Printed
 pub mod Steps
 pub mod Symbols
 pub mod Term

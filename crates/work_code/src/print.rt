@@ -1,0 +1,103 @@
+// Prints expressions and bodies.
+ghost use Rattle.std.specs.Prelude.{◌≡◌, ◌++◌, OnOk, OnErr};
+ghost use Rattle.std.specs.Fmt.{decimal, signed_decimal};
+ghost use Rattle.work_code.specs.Term.{term};
+ghost use Rattle.work_code.specs.Steps.{step, steps};
+ghost use Rattle.work_code.specs.Printed.{text_of, sign_text};
+
+use crate::{BinOp, Expr};
+use river_base::{Bytes, NoMemory};
+use std::alloc::Global;
+
+/// Appends the text of an expression; nothing where there is no memory.
+pub fn print_expr(alloc: Global, e: &Expr, to: &mut Bytes) -> Result<(), NoMemory>
+    ensures ok { OnOk result (to.new ≡ to.old ++ text_of (term e.now)) }
+    ensures err { OnErr result (to.new ≡ to.old) }
+{
+    let mut text = Bytes::new(alloc);
+    write_expr(alloc, e, &mut text)?;
+    to.extend(text.as_slice())?;
+    Ok(())
+}
+
+// Appends the text of an expression; where there is no memory, maybe a part of it.
+#[tactic(auto, using(crate::proofs::Joined::joins))]
+pub fn write_expr(alloc: Global, e: &Expr, to: &mut Bytes) -> Result<(), NoMemory>
+    ensures { OnOk result (to.new ≡ to.old ++ text_of (term e.now)) }
+{
+    match e {
+        Expr::Const(value) => write_value(alloc, *value, to),
+        Expr::Input(place) => {
+            to.extend(b"input[")?;
+            write_number(alloc, *place, to)?;
+            to.extend(b"]")?;
+            Ok(())
+        }
+        Expr::Slot(slot) => {
+            to.extend(b"slot[")?;
+            write_number(alloc, *slot, to)?;
+            to.extend(b"]")?;
+            Ok(())
+        }
+        Expr::Neg(inner) => {
+            to.extend(b"(-")?;
+            write_expr(alloc, inner, to)?;
+            to.extend(b")")?;
+            Ok(())
+        }
+        Expr::Not(inner) => {
+            to.extend(b"(!")?;
+            write_expr(alloc, inner, to)?;
+            to.extend(b")")?;
+            Ok(())
+        }
+        Expr::Bin { op, left, right } => {
+            to.extend(b"(")?;
+            write_expr(alloc, left, to)?;
+            to.extend(b" ")?;
+            to.extend(sign(*op))?;
+            to.extend(b" ")?;
+            write_expr(alloc, right, to)?;
+            to.extend(b")")?;
+            Ok(())
+        }
+    }
+}
+
+// Appends a number in decimal.
+pub fn write_number(alloc: Global, number: u32, to: &mut Bytes) -> Result<(), NoMemory>
+    ensures { OnOk result (to.new ≡ to.old ++ decimal number) }
+{
+    let text = number.to_string(alloc)?;
+    to.extend(text.as_bytes())?;
+    Ok(())
+}
+
+// Appends a value in decimal, with its sign where it is below 0.
+pub fn write_value(alloc: Global, value: i64, to: &mut Bytes) -> Result<(), NoMemory>
+    ensures { OnOk result (to.new ≡ to.old ++ signed_decimal value) }
+{
+    let text = value.to_string(alloc)?;
+    to.extend(text.as_bytes())?;
+    Ok(())
+}
+
+fn sign(op: BinOp) -> &'static [u8]
+    ensures { result.now ≡ sign_text op }
+{
+    match op {
+        BinOp::Add => b"+",
+        BinOp::Sub => b"-",
+        BinOp::Mul => b"*",
+        BinOp::Quot => b"/",
+        BinOp::Rem => b"%",
+        BinOp::Eq => b"==",
+        BinOp::Ne => b"!=",
+        BinOp::Lt => b"<",
+        BinOp::Le => b"<=",
+        BinOp::Gt => b">",
+        BinOp::Ge => b">=",
+        BinOp::And => b"&&",
+        BinOp::Or => b"||",
+    }
+}
