@@ -2,6 +2,7 @@ pub mod Exact
 pub mod Ladder
 pub mod Many
 pub mod Pairs
+pub mod PrintedExpr
 pub mod Repeat
 pub mod Runs
 pub mod Steps

@@ -13,6 +13,7 @@ use Rattle.work_code.specs.Lexis.{Piece, blank, token, bad, big, marks, with_mar
 use Rattle.work_code.specs.Symbols.{short_symbol, long_symbol}
 use Rattle.work_code.specs.Tok.{Tok, Mark, toks, name, var, number, symbol}
 use Rattle.work_code.specs.declared.sign.Symbol.{Symbol}
+use Rattle.work_code.specs.declared.sign.Symbol.TheVariants as sign
 use Rattle.work_code.specs.declared.fault.LexFault.{LexFault}
 use Rattle.work_code.proofs.Marks.{at_blank, at_token}
 
@@ -275,3 +276,298 @@ spells-number n fits = by (decimal n) (decimal_is_IsNumeral n (omega arith)) whe
       let d = digit_between c h.0.1.0 in
       from_piece (c ∷ cs) (number n) (omega arith)
       (λ rest next. number_piece_is c cs rest n d.0 d.1 (digits_all (c ∷ cs) h.0.1) (sym (digits_same 0 (c ∷ cs) h.0.1) ∙ h.1) fits (word_digit rest next))
+
+-- ---- each symbol
+
+-- the bytes of a symbol
+abbrev pub symbol_bytes : Symbol → List ℕ
+symbol_bytes sign.Plus = 43 ∷ []
+symbol_bytes sign.Minus = 45 ∷ []
+symbol_bytes sign.Star = 42 ∷ []
+symbol_bytes sign.Slash = 47 ∷ []
+symbol_bytes sign.Percent = 37 ∷ []
+symbol_bytes sign.Open = 40 ∷ []
+symbol_bytes sign.Close = 41 ∷ []
+symbol_bytes sign.OpenBracket = 91 ∷ []
+symbol_bytes sign.CloseBracket = 93 ∷ []
+symbol_bytes sign.OpenBrace = 123 ∷ []
+symbol_bytes sign.CloseBrace = 125 ∷ []
+symbol_bytes sign.Comma = 44 ∷ []
+symbol_bytes sign.Semicolon = 59 ∷ []
+symbol_bytes sign.Colon = 58 ∷ []
+symbol_bytes sign.Dot = 46 ∷ []
+symbol_bytes sign.Assign = 61 ∷ []
+symbol_bytes sign.Less = 60 ∷ []
+symbol_bytes sign.Greater = 62 ∷ []
+symbol_bytes sign.Not = 33 ∷ []
+symbol_bytes sign.Equal = 61 ∷ (61 ∷ [])
+symbol_bytes sign.NotEqual = 33 ∷ (61 ∷ [])
+symbol_bytes sign.Different = 60 ∷ (62 ∷ [])
+symbol_bytes sign.LessEqual = 60 ∷ (61 ∷ [])
+symbol_bytes sign.GreaterEqual = 62 ∷ (61 ∷ [])
+symbol_bytes sign.And = 38 ∷ (38 ∷ [])
+symbol_bytes sign.Or = 124 ∷ (124 ∷ [])
+symbol_bytes sign.Increment = 43 ∷ (43 ∷ [])
+symbol_bytes sign.Arrow = 45 ∷ (62 ∷ [])
+
+-- what may come behind a symbol
+abbrev pub MayFollow : Symbol → List ℕ → Type 0
+MayFollow sign.Plus rest = IsAlone 43 rest
+MayFollow sign.Minus rest = IsAlone 45 rest
+MayFollow sign.Star rest = Anything rest
+MayFollow sign.Slash rest = IsAlone 47 rest
+MayFollow sign.Percent rest = Anything rest
+MayFollow sign.Open rest = Anything rest
+MayFollow sign.Close rest = Anything rest
+MayFollow sign.OpenBracket rest = Anything rest
+MayFollow sign.CloseBracket rest = Anything rest
+MayFollow sign.OpenBrace rest = Anything rest
+MayFollow sign.CloseBrace rest = Anything rest
+MayFollow sign.Comma rest = Anything rest
+MayFollow sign.Semicolon rest = Anything rest
+MayFollow sign.Colon rest = Anything rest
+MayFollow sign.Dot rest = Anything rest
+MayFollow sign.Assign rest = IsAlone 61 rest
+MayFollow sign.Less rest = IsAlone 60 rest
+MayFollow sign.Greater rest = IsAlone 62 rest
+MayFollow sign.Not rest = IsAlone 33 rest
+MayFollow sign.Equal rest = Anything rest
+MayFollow sign.NotEqual rest = Anything rest
+MayFollow sign.Different rest = Anything rest
+MayFollow sign.LessEqual rest = Anything rest
+MayFollow sign.GreaterEqual rest = Anything rest
+MayFollow sign.And rest = Anything rest
+MayFollow sign.Or rest = Anything rest
+MayFollow sign.Increment rest = Anything rest
+MayFollow sign.Arrow rest = Anything rest
+
+sign_33 : IsSign 33
+unfolding is_blank is_letter is_digit
+sign_33 = record { no_blank = refl; no_hash = refl; no_letter = refl; no_dollar = refl; no_digit = refl }
+
+sign_37 : IsSign 37
+unfolding is_blank is_letter is_digit
+sign_37 = record { no_blank = refl; no_hash = refl; no_letter = refl; no_dollar = refl; no_digit = refl }
+
+sign_38 : IsSign 38
+unfolding is_blank is_letter is_digit
+sign_38 = record { no_blank = refl; no_hash = refl; no_letter = refl; no_dollar = refl; no_digit = refl }
+
+sign_40 : IsSign 40
+unfolding is_blank is_letter is_digit
+sign_40 = record { no_blank = refl; no_hash = refl; no_letter = refl; no_dollar = refl; no_digit = refl }
+
+sign_41 : IsSign 41
+unfolding is_blank is_letter is_digit
+sign_41 = record { no_blank = refl; no_hash = refl; no_letter = refl; no_dollar = refl; no_digit = refl }
+
+sign_42 : IsSign 42
+unfolding is_blank is_letter is_digit
+sign_42 = record { no_blank = refl; no_hash = refl; no_letter = refl; no_dollar = refl; no_digit = refl }
+
+sign_43 : IsSign 43
+unfolding is_blank is_letter is_digit
+sign_43 = record { no_blank = refl; no_hash = refl; no_letter = refl; no_dollar = refl; no_digit = refl }
+
+sign_44 : IsSign 44
+unfolding is_blank is_letter is_digit
+sign_44 = record { no_blank = refl; no_hash = refl; no_letter = refl; no_dollar = refl; no_digit = refl }
+
+sign_45 : IsSign 45
+unfolding is_blank is_letter is_digit
+sign_45 = record { no_blank = refl; no_hash = refl; no_letter = refl; no_dollar = refl; no_digit = refl }
+
+sign_46 : IsSign 46
+unfolding is_blank is_letter is_digit
+sign_46 = record { no_blank = refl; no_hash = refl; no_letter = refl; no_dollar = refl; no_digit = refl }
+
+sign_47 : IsSign 47
+unfolding is_blank is_letter is_digit
+sign_47 = record { no_blank = refl; no_hash = refl; no_letter = refl; no_dollar = refl; no_digit = refl }
+
+sign_58 : IsSign 58
+unfolding is_blank is_letter is_digit
+sign_58 = record { no_blank = refl; no_hash = refl; no_letter = refl; no_dollar = refl; no_digit = refl }
+
+sign_59 : IsSign 59
+unfolding is_blank is_letter is_digit
+sign_59 = record { no_blank = refl; no_hash = refl; no_letter = refl; no_dollar = refl; no_digit = refl }
+
+sign_60 : IsSign 60
+unfolding is_blank is_letter is_digit
+sign_60 = record { no_blank = refl; no_hash = refl; no_letter = refl; no_dollar = refl; no_digit = refl }
+
+sign_61 : IsSign 61
+unfolding is_blank is_letter is_digit
+sign_61 = record { no_blank = refl; no_hash = refl; no_letter = refl; no_dollar = refl; no_digit = refl }
+
+sign_62 : IsSign 62
+unfolding is_blank is_letter is_digit
+sign_62 = record { no_blank = refl; no_hash = refl; no_letter = refl; no_dollar = refl; no_digit = refl }
+
+sign_91 : IsSign 91
+unfolding is_blank is_letter is_digit
+sign_91 = record { no_blank = refl; no_hash = refl; no_letter = refl; no_dollar = refl; no_digit = refl }
+
+sign_93 : IsSign 93
+unfolding is_blank is_letter is_digit
+sign_93 = record { no_blank = refl; no_hash = refl; no_letter = refl; no_dollar = refl; no_digit = refl }
+
+sign_123 : IsSign 123
+unfolding is_blank is_letter is_digit
+sign_123 = record { no_blank = refl; no_hash = refl; no_letter = refl; no_dollar = refl; no_digit = refl }
+
+sign_124 : IsSign 124
+unfolding is_blank is_letter is_digit
+sign_124 = record { no_blank = refl; no_hash = refl; no_letter = refl; no_dollar = refl; no_digit = refl }
+
+sign_125 : IsSign 125
+unfolding is_blank is_letter is_digit
+sign_125 = record { no_blank = refl; no_hash = refl; no_letter = refl; no_dollar = refl; no_digit = refl }
+
+alone_40 : (rest : List ℕ) → IsAlone 40 rest
+unfolding long_symbol
+alone_40 [] = tt
+alone_40 (d ∷ ds) = (refl, refl, refl)
+
+alone_41 : (rest : List ℕ) → IsAlone 41 rest
+unfolding long_symbol
+alone_41 [] = tt
+alone_41 (d ∷ ds) = (refl, refl, refl)
+
+alone_91 : (rest : List ℕ) → IsAlone 91 rest
+unfolding long_symbol
+alone_91 [] = tt
+alone_91 (d ∷ ds) = (refl, refl, refl)
+
+alone_93 : (rest : List ℕ) → IsAlone 93 rest
+unfolding long_symbol
+alone_93 [] = tt
+alone_93 (d ∷ ds) = (refl, refl, refl)
+
+alone_123 : (rest : List ℕ) → IsAlone 123 rest
+unfolding long_symbol
+alone_123 [] = tt
+alone_123 (d ∷ ds) = (refl, refl, refl)
+
+alone_125 : (rest : List ℕ) → IsAlone 125 rest
+unfolding long_symbol
+alone_125 [] = tt
+alone_125 (d ∷ ds) = (refl, refl, refl)
+
+alone_44 : (rest : List ℕ) → IsAlone 44 rest
+unfolding long_symbol
+alone_44 [] = tt
+alone_44 (d ∷ ds) = (refl, refl, refl)
+
+alone_59 : (rest : List ℕ) → IsAlone 59 rest
+unfolding long_symbol
+alone_59 [] = tt
+alone_59 (d ∷ ds) = (refl, refl, refl)
+
+alone_58 : (rest : List ℕ) → IsAlone 58 rest
+unfolding long_symbol
+alone_58 [] = tt
+alone_58 (d ∷ ds) = (refl, refl, refl)
+
+alone_46 : (rest : List ℕ) → IsAlone 46 rest
+unfolding long_symbol
+alone_46 [] = tt
+alone_46 (d ∷ ds) = (refl, refl, refl)
+
+alone_42 : (rest : List ℕ) → IsAlone 42 rest
+unfolding long_symbol
+alone_42 [] = tt
+alone_42 (d ∷ ds) = (refl, refl, refl)
+
+alone_37 : (rest : List ℕ) → IsAlone 37 rest
+unfolding long_symbol
+alone_37 [] = tt
+alone_37 (d ∷ ds) = (refl, refl, refl)
+
+pub spells-symbol : (x : Symbol) → Spells (symbol_bytes x) (symbol x ∷ []) (MayFollow x)
+unfolding short_symbol long_symbol
+spells-symbol sign.Plus = spells-short 43 sign.Plus sign_43 refl
+spells-symbol sign.Minus = spells-short 45 sign.Minus sign_45 refl
+spells-symbol sign.Star = spells-less (42 ∷ []) (symbol sign.Star ∷ []) (spells-short 42 sign.Star sign_42 refl) (λ rest h. alone_42 rest)
+spells-symbol sign.Slash = spells-short 47 sign.Slash sign_47 refl
+spells-symbol sign.Percent = spells-less (37 ∷ []) (symbol sign.Percent ∷ []) (spells-short 37 sign.Percent sign_37 refl) (λ rest h. alone_37 rest)
+spells-symbol sign.Open = spells-less (40 ∷ []) (symbol sign.Open ∷ []) (spells-short 40 sign.Open sign_40 refl) (λ rest h. alone_40 rest)
+spells-symbol sign.Close = spells-less (41 ∷ []) (symbol sign.Close ∷ []) (spells-short 41 sign.Close sign_41 refl) (λ rest h. alone_41 rest)
+spells-symbol sign.OpenBracket = spells-less (91 ∷ []) (symbol sign.OpenBracket ∷ []) (spells-short 91 sign.OpenBracket sign_91 refl) (λ rest h. alone_91 rest)
+spells-symbol sign.CloseBracket = spells-less (93 ∷ []) (symbol sign.CloseBracket ∷ []) (spells-short 93 sign.CloseBracket sign_93 refl) (λ rest h. alone_93 rest)
+spells-symbol sign.OpenBrace = spells-less (123 ∷ []) (symbol sign.OpenBrace ∷ []) (spells-short 123 sign.OpenBrace sign_123 refl) (λ rest h. alone_123 rest)
+spells-symbol sign.CloseBrace = spells-less (125 ∷ []) (symbol sign.CloseBrace ∷ []) (spells-short 125 sign.CloseBrace sign_125 refl) (λ rest h. alone_125 rest)
+spells-symbol sign.Comma = spells-less (44 ∷ []) (symbol sign.Comma ∷ []) (spells-short 44 sign.Comma sign_44 refl) (λ rest h. alone_44 rest)
+spells-symbol sign.Semicolon = spells-less (59 ∷ []) (symbol sign.Semicolon ∷ []) (spells-short 59 sign.Semicolon sign_59 refl) (λ rest h. alone_59 rest)
+spells-symbol sign.Colon = spells-less (58 ∷ []) (symbol sign.Colon ∷ []) (spells-short 58 sign.Colon sign_58 refl) (λ rest h. alone_58 rest)
+spells-symbol sign.Dot = spells-less (46 ∷ []) (symbol sign.Dot ∷ []) (spells-short 46 sign.Dot sign_46 refl) (λ rest h. alone_46 rest)
+spells-symbol sign.Assign = spells-short 61 sign.Assign sign_61 refl
+spells-symbol sign.Less = spells-short 60 sign.Less sign_60 refl
+spells-symbol sign.Greater = spells-short 62 sign.Greater sign_62 refl
+spells-symbol sign.Not = spells-short 33 sign.Not sign_33 refl
+spells-symbol sign.Equal = spells-long 61 61 sign.Equal sign_61 refl refl
+spells-symbol sign.NotEqual = spells-long 33 61 sign.NotEqual sign_33 refl refl
+spells-symbol sign.Different = spells-long 60 62 sign.Different sign_60 refl refl
+spells-symbol sign.LessEqual = spells-long 60 61 sign.LessEqual sign_60 refl refl
+spells-symbol sign.GreaterEqual = spells-long 62 61 sign.GreaterEqual sign_62 refl refl
+spells-symbol sign.And = spells-long 38 38 sign.And sign_38 refl refl
+spells-symbol sign.Or = spells-long 124 124 sign.Or sign_124 refl refl
+spells-symbol sign.Increment = spells-long 43 43 sign.Increment sign_43 refl refl
+spells-symbol sign.Arrow = spells-long 45 62 sign.Arrow sign_45 refl refl
+
+-- a blank may come behind every symbol
+pub blank_follows : (x : Symbol) (rest : List ℕ) → MayFollow x (32 ∷ rest)
+unfolding long_symbol
+blank_follows sign.Plus rest = (refl, refl, refl)
+blank_follows sign.Minus rest = (refl, refl, refl)
+blank_follows sign.Star rest = tt
+blank_follows sign.Slash rest = (refl, refl, refl)
+blank_follows sign.Percent rest = tt
+blank_follows sign.Open rest = tt
+blank_follows sign.Close rest = tt
+blank_follows sign.OpenBracket rest = tt
+blank_follows sign.CloseBracket rest = tt
+blank_follows sign.OpenBrace rest = tt
+blank_follows sign.CloseBrace rest = tt
+blank_follows sign.Comma rest = tt
+blank_follows sign.Semicolon rest = tt
+blank_follows sign.Colon rest = tt
+blank_follows sign.Dot rest = tt
+blank_follows sign.Assign rest = (refl, refl, refl)
+blank_follows sign.Less rest = (refl, refl, refl)
+blank_follows sign.Greater rest = (refl, refl, refl)
+blank_follows sign.Not rest = (refl, refl, refl)
+blank_follows sign.Equal rest = tt
+blank_follows sign.NotEqual rest = tt
+blank_follows sign.Different rest = tt
+blank_follows sign.LessEqual rest = tt
+blank_follows sign.GreaterEqual rest = tt
+blank_follows sign.And rest = tt
+blank_follows sign.Or rest = tt
+blank_follows sign.Increment rest = tt
+blank_follows sign.Arrow rest = tt
+
+-- what begins with no = and no > may come behind - and !
+abbrev pub NoSign : List ℕ → Type 0
+NoSign [] = Unit {0}
+NoSign (d ∷ ds) = (d == 61 ≡ false) × (d == 62 ≡ false)
+
+pub minus_follows : (rest : List ℕ) → NoSign rest → MayFollow sign.Minus rest
+unfolding long_symbol
+minus_follows [] h = tt
+minus_follows (d ∷ ds) h = (rw h.1 refl, refl, refl)
+
+pub not_follows : (rest : List ℕ) → NoSign rest → MayFollow sign.Not rest
+unfolding long_symbol
+not_follows [] h = tt
+not_follows (d ∷ ds) h = (rw h.0 refl, refl, refl)
+
+-- the first digit of a number
+pub decimal-first : (n : ℕ) (rest : List ℕ) → n ≤ most → NoSign (decimal n ++ rest)
+decimal-first n rest fits = by (decimal n) (decimal_is_IsNumeral n (omega arith)) where
+  by : (ds : List ℕ) → (0 < length ds × AllDigits 10 ds) × (digits_value_after 10 0 ds ≡ n) → NoSign (ds ++ rest)
+  by [] h = absurd (omega (arith, h.0.0))
+  by (c ∷ cs) h =
+      let d = digit_between c h.0.1.0 in
+      (ne_eqb c 61 (λ e. absurd (omega (arith, d.1))), ne_eqb c 62 (λ e. absurd (omega (arith, d.1))))

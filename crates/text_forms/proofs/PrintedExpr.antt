@@ -1,0 +1,229 @@
+-- Printed expressions: their text has tokens that stand for the expression.
+use Rattle.std.proofs.Common.{◌≡◌, ℕ, zero, suc, ◌+◌, ◌<◌, ◌≤◌, Bool, true, false, List, [], ◌∷◌, ◌++◌, length, refl, sym, ap, ◌∙◌, arith, append_assoc, max, subst}
+use Rattle.std.specs.Prelude.{ℤ, pos, negsuc, codes, nat_le}
+use Rattle.std.proofs.lemmas.Bool.Decides.{nat_tests}
+use Rattle.std.specs.Fmt.{decimal, signed_decimal}
+use Rattle.work_code.specs.declared.expr.BinOp.{BinOp}
+use Rattle.work_code.specs.declared.expr.BinOp.TheVariants as op
+use Rattle.work_code.specs.declared.sign.Symbol.{Symbol}
+use Rattle.work_code.specs.declared.sign.Symbol.TheVariants as s
+use Rattle.work_code.specs.Term.{Term, Const, Input, Slot, Neg, Not, Bin}
+use Rattle.work_code.specs.Term as term
+use Rattle.work_code.specs.Printed.{text_of, sign_text}
+use Rattle.work_code.specs.Lexis.{most, is_blank, first_is, is_word, is_letter, is_digit}
+use Rattle.work_code.specs.Tok.{Tok, name, var, number, symbol}
+use Rattle.work_code.proofs.Spelled.{Spells, Anything, NoWord, NoSign, MayFollow, symbol_bytes, is_name_text, spells-nothing, spells-then, spells-less, spells-blank, spells-symbol, spells-name, spells-number, blank_follows, minus_follows, not_follows, decimal-first}
+use Rattle.text_forms.specs.Parse.{is_count}
+use Rattle.text_forms.specs.Tree.{Spoken}
+use Rattle.text_forms.specs.Tree as tree
+use Rattle.text_forms.specs.Language.{has_input, has_slot}
+use Rattle.text_forms.specs.declared.language.Language.{Language}
+use Rattle.text_forms.specs.declared.language.Language.TheVariants.{River}
+use Rattle.text_forms.specs.Expressions as grammar
+
+-- an expression that a text can stand for: no constant below 0, and numbers that are counts
+abbrev pub IsWritten : Term → Type 0
+IsWritten (Const z) = (n : ℕ) × (z ≡ pos n) × (n ≤ most)
+IsWritten (Input place) = place < 4294967296
+IsWritten (Slot slot) = slot < 4294967296
+IsWritten (Neg t) = IsWritten t
+IsWritten (Not t) = IsWritten t
+IsWritten (Bin o l r) = IsWritten l × IsWritten r
+
+abbrev of_value : ℤ → ℕ
+of_value (pos n) = n
+of_value (negsuc n) = 0
+
+-- the expression as a tree of a text
+abbrev pub spoken_of : Term → Spoken
+spoken_of (Const z) = tree.Number (of_value z)
+spoken_of (Input place) = tree.Input place
+spoken_of (Slot slot) = tree.Slot slot
+spoken_of (Neg t) = tree.Neg (spoken_of t)
+spoken_of (Not t) = tree.Not (spoken_of t)
+spoken_of (Bin o l r) = tree.Bin o (spoken_of l) (spoken_of r)
+
+-- the tokens of its printed text
+abbrev pub printed : Term → List Tok
+printed (Const z) = number (of_value z) ∷ []
+printed (Input place) = name (codes "input") ∷ symbol s.OpenBracket ∷ number place ∷ symbol s.CloseBracket ∷ []
+printed (Slot slot) = name (codes "slot") ∷ symbol s.OpenBracket ∷ number slot ∷ symbol s.CloseBracket ∷ []
+printed (Neg t) = symbol s.Open ∷ ((symbol s.Minus ∷ printed t) ++ symbol s.Close ∷ [])
+printed (Not t) = symbol s.Open ∷ ((symbol s.Not ∷ printed t) ++ symbol s.Close ∷ [])
+printed (Bin o l r) = symbol s.Open ∷ ((printed l ++ symbol (grammar.sign_of o) ∷ printed r) ++ symbol s.Close ∷ [])
+
+pub depth_of-spoken : (t : Term) → tree.depth_of (spoken_of t) ≡ term.depth_of t
+depth_of-spoken (Const z) = refl
+depth_of-spoken (Input place) = refl
+depth_of-spoken (Slot slot) = refl
+depth_of-spoken (Neg t) = ap (λ (n : ℕ). suc n) (depth_of-spoken t)
+depth_of-spoken (Not t) = ap (λ (n : ℕ). suc n) (depth_of-spoken t)
+depth_of-spoken (Bin o l r) = rw (depth_of-spoken l, depth_of-spoken r) refl
+
+some_depth : (t : Term) → 0 < term.depth_of t
+some_depth (Const z) = omega arith
+some_depth (Input place) = omega arith
+some_depth (Slot slot) = omega arith
+some_depth (Neg t) = omega arith
+some_depth (Not t) = omega arith
+some_depth (Bin o l r) = omega arith
+
+is_count-below : (n : ℕ) → n < 4294967296 → is_count n ≡ true
+is_count-below n lt = grind (arith, nat_tests)
+
+-- what is on a line of the grammar is on each looser line
+looser : (n : ℕ) (t : Spoken) (ts : List Tok) → grammar.Spells River n 0 t ts → (k : ℕ) → grammar.Spells River n k t ts
+looser n t ts h zero = h
+looser n t ts h (suc k) = grammar.tighter n k t ts (looser n t ts h k)
+
+abbrev higher : ℕ → ℕ → ℕ
+higher zero k = k
+higher (suc j) k = suc (higher j k)
+
+up : (n j k : ℕ) (t : Spoken) (ts : List Tok) → grammar.Spells River n k t ts → grammar.Spells River n (higher j k) t ts
+up n zero k t ts h = h
+up n (suc j) k t ts h = grammar.tighter n (higher j k) t ts (up n j k t ts h)
+
+chained : (n k : ℕ) (o : BinOp) (a b : Spoken) (ts us : List Tok) → grammar.rank_of o ≡ suc k → grammar.Spells River n 0 a ts → grammar.Spells River n 0 b us → grammar.Spells River n (suc k) (tree.Bin o a b) (ts ++ symbol (grammar.sign_of o) ∷ us)
+chained n k o a b ts us is x y = grammar.chain n k o a b ts us is (looser n a ts x (suc k)) (looser n b us y k)
+
+operation : (n : ℕ) (o : BinOp) (a b : Spoken) (ts us : List Tok) → grammar.Spells River n 0 a ts → grammar.Spells River n 0 b us → grammar.Spells River n 6 (tree.Bin o a b) (ts ++ symbol (grammar.sign_of o) ∷ us)
+operation n op.Add a b ts us x y = up n 4 2 (tree.Bin op.Add a b) (ts ++ symbol (grammar.sign_of op.Add) ∷ us) (chained n 1 op.Add a b ts us refl x y)
+operation n op.Sub a b ts us x y = up n 4 2 (tree.Bin op.Sub a b) (ts ++ symbol (grammar.sign_of op.Sub) ∷ us) (chained n 1 op.Sub a b ts us refl x y)
+operation n op.Mul a b ts us x y = up n 5 1 (tree.Bin op.Mul a b) (ts ++ symbol (grammar.sign_of op.Mul) ∷ us) (chained n 0 op.Mul a b ts us refl x y)
+operation n op.Quot a b ts us x y = up n 5 1 (tree.Bin op.Quot a b) (ts ++ symbol (grammar.sign_of op.Quot) ∷ us) (chained n 0 op.Quot a b ts us refl x y)
+operation n op.Rem a b ts us x y = up n 5 1 (tree.Bin op.Rem a b) (ts ++ symbol (grammar.sign_of op.Rem) ∷ us) (chained n 0 op.Rem a b ts us refl x y)
+operation n op.Eq a b ts us x y = up n 2 4 (tree.Bin op.Eq a b) (ts ++ symbol (grammar.sign_of op.Eq) ∷ us) (chained n 3 op.Eq a b ts us refl x y)
+operation n op.Ne a b ts us x y = up n 2 4 (tree.Bin op.Ne a b) (ts ++ symbol (grammar.sign_of op.Ne) ∷ us) (chained n 3 op.Ne a b ts us refl x y)
+operation n op.Lt a b ts us x y = up n 3 3 (tree.Bin op.Lt a b) (ts ++ symbol (grammar.sign_of op.Lt) ∷ us) (chained n 2 op.Lt a b ts us refl x y)
+operation n op.Le a b ts us x y = up n 3 3 (tree.Bin op.Le a b) (ts ++ symbol (grammar.sign_of op.Le) ∷ us) (chained n 2 op.Le a b ts us refl x y)
+operation n op.Gt a b ts us x y = up n 3 3 (tree.Bin op.Gt a b) (ts ++ symbol (grammar.sign_of op.Gt) ∷ us) (chained n 2 op.Gt a b ts us refl x y)
+operation n op.Ge a b ts us x y = up n 3 3 (tree.Bin op.Ge a b) (ts ++ symbol (grammar.sign_of op.Ge) ∷ us) (chained n 2 op.Ge a b ts us refl x y)
+operation n op.And a b ts us x y = up n 1 5 (tree.Bin op.And a b) (ts ++ symbol (grammar.sign_of op.And) ∷ us) (chained n 4 op.And a b ts us refl x y)
+operation n op.Or a b ts us x y = up n 0 6 (tree.Bin op.Or a b) (ts ++ symbol (grammar.sign_of op.Or) ∷ us) (chained n 5 op.Or a b ts us refl x y)
+
+-- the tokens of the printed text stand for the expression
+pub printed-spells : (t : Term) (n : ℕ) → IsWritten t → term.depth_of t ≤ n → grammar.Spells River n 0 (spoken_of t) (printed t)
+printed-spells t zero w d = absurd (let e = some_depth t in omega arith)
+printed-spells (Const z) (suc n) w d = grammar.number (suc n) (of_value z)
+printed-spells (Input place) (suc n) w d = grammar.input n place refl (is_count-below place w)
+printed-spells (Slot slot) (suc n) w d = grammar.slot n slot refl (is_count-below slot w)
+printed-spells (Neg t) (suc n) w d =
+    grammar.bracket n (tree.Neg (spoken_of t)) (symbol s.Minus ∷ printed t)
+    (looser n (tree.Neg (spoken_of t)) (symbol s.Minus ∷ printed t) (grammar.neg n (spoken_of t) (printed t) (printed-spells t n w (omega arith))) 6)
+printed-spells (Not t) (suc n) w d =
+    grammar.bracket n (tree.Not (spoken_of t)) (symbol s.Not ∷ printed t)
+    (looser n (tree.Not (spoken_of t)) (symbol s.Not ∷ printed t) (grammar.not n (spoken_of t) (printed t) (printed-spells t n w (omega arith))) 6)
+printed-spells (Bin o l r) (suc n) w d =
+    grammar.bracket n (tree.Bin o (spoken_of l) (spoken_of r)) (printed l ++ symbol (grammar.sign_of o) ∷ printed r)
+    (operation n o (spoken_of l) (spoken_of r) (printed l) (printed r) (printed-spells l n w.0 (omega arith)) (printed-spells r n w.1 (omega arith)))
+
+-- so they are an expression, where so many more brackets may be open as the expression is deep
+pub printed-is : (t : Term) (n : ℕ) → IsWritten t → term.depth_of t ≤ 64 → term.depth_of t ≤ n → grammar.IsExpr River n (spoken_of t) (printed t)
+printed-is t n w d m = (looser n (spoken_of t) (printed t) (printed-spells t n w m) 6, omega (arith, depth_of-spoken t))
+
+-- ---- the bytes of the text have these tokens
+
+symbol-then : {ok : List ℕ → Type 0} (x : Symbol) (u : List ℕ) (us : List Tok) → Spells u us ok → ((rest : List ℕ) → ok rest → MayFollow x (u ++ rest)) → Spells (symbol_bytes x ++ u) (symbol x ∷ us) ok
+symbol-then x u us h follows = spells-then (symbol_bytes x) (symbol x ∷ []) u us (spells-symbol x) h follows
+
+-- no word goes on at these
+close_is_no_word : (rest : List ℕ) → Anything rest → NoWord (codes ")" ++ rest)
+unfolding first_is is_word is_letter is_digit
+close_is_no_word rest any = refl
+
+square_is_no_word : (rest : List ℕ) → Anything rest → NoWord (codes "]" ++ rest)
+unfolding first_is is_word is_letter is_digit
+square_is_no_word rest any = refl
+
+square_open_is_no_word : (u rest : List ℕ) → NoWord ((codes "[" ++ u) ++ rest)
+unfolding first_is is_word is_letter is_digit
+square_open_is_no_word u rest = refl
+
+blank_is_no_word : (u rest : List ℕ) → NoWord ((codes " " ++ u) ++ rest)
+unfolding first_is is_word is_letter is_digit
+blank_is_no_word u rest = refl
+
+-- a text in brackets
+in_brackets : (u : List ℕ) (us : List Tok) → Spells u us NoWord → Spells (codes "(" ++ (u ++ codes ")")) (symbol s.Open ∷ (us ++ symbol s.Close ∷ [])) Anything
+in_brackets u us h =
+    symbol-then s.Open (u ++ codes ")") (us ++ symbol s.Close ∷ []) (spells-then u us (codes ")") (symbol s.Close ∷ []) h (spells-symbol s.Close) close_is_no_word) (λ rest any. tt)
+
+-- a word before a number in square brackets
+indexed : (word : List ℕ) (n : ℕ) → is_name_text word ≡ true → n < 4294967296 → Spells (word ++ (codes "[" ++ (decimal n ++ codes "]"))) (name word ∷ symbol s.OpenBracket ∷ number n ∷ symbol s.CloseBracket ∷ []) Anything
+indexed word n is fits =
+    spells-then word (name word ∷ []) (codes "[" ++ (decimal n ++ codes "]")) (symbol s.OpenBracket ∷ number n ∷ symbol s.CloseBracket ∷ []) (spells-name word is)
+    (symbol-then s.OpenBracket (decimal n ++ codes "]") (number n ∷ symbol s.CloseBracket ∷ [])
+    (spells-then (decimal n) (number n ∷ []) (codes "]") (symbol s.CloseBracket ∷ []) (spells-number n (omega arith)) (spells-symbol s.CloseBracket) square_is_no_word) (λ rest any. tt))
+    (λ rest any. square_open_is_no_word (decimal n ++ codes "]") rest)
+
+input_is : is_name_text (codes "input") ≡ true
+unfolding is_letter is_word is_digit
+input_is = refl
+
+slot_is : is_name_text (codes "slot") ≡ true
+unfolding is_letter is_word is_digit
+slot_is = refl
+
+blank_is : is_blank 32 ≡ true
+unfolding is_blank
+blank_is = refl
+
+-- a blank before a text
+blank-then : {ok : List ℕ → Type 0} (u : List ℕ) (us : List Tok) → Spells u us ok → Spells (codes " " ++ u) us ok
+blank-then u us h = spells-then (codes " ") [] u us (spells-blank 32 blank_is) h (λ rest any. tt)
+
+sign_text-is : (o : BinOp) → symbol_bytes (grammar.sign_of o) ≡ sign_text o
+sign_text-is op.Add = refl
+sign_text-is op.Sub = refl
+sign_text-is op.Mul = refl
+sign_text-is op.Quot = refl
+sign_text-is op.Rem = refl
+sign_text-is op.Eq = refl
+sign_text-is op.Ne = refl
+sign_text-is op.Lt = refl
+sign_text-is op.Le = refl
+sign_text-is op.Gt = refl
+sign_text-is op.Ge = refl
+sign_text-is op.And = refl
+sign_text-is op.Or = refl
+
+-- an operator between blanks
+operator-then : (o : BinOp) (u : List ℕ) (us : List Tok) → Spells u us NoWord → Spells (codes " " ++ (sign_text o ++ (codes " " ++ u))) (symbol (grammar.sign_of o) ∷ us) NoWord
+operator-then o u us h =
+    subst (λ (l : List ℕ). Spells (codes " " ++ (l ++ (codes " " ++ u))) (symbol (grammar.sign_of o) ∷ us) NoWord) (sign_text-is o)
+    (blank-then (symbol_bytes (grammar.sign_of o) ++ (codes " " ++ u)) (symbol (grammar.sign_of o) ∷ us)
+    (symbol-then (grammar.sign_of o) (codes " " ++ u) us (blank-then u us h) (λ rest no. blank_follows (grammar.sign_of o) (u ++ rest))))
+
+-- an expression begins with no sign
+pub begins : (t : Term) (rest : List ℕ) → IsWritten t → NoSign (text_of t ++ rest)
+begins (Const z) rest w = rw w.1 (decimal-first w.0 rest w.2)
+begins (Input place) rest w = (refl, refl)
+begins (Slot slot) rest w = (refl, refl)
+begins (Neg t) rest w = (refl, refl)
+begins (Not t) rest w = (refl, refl)
+begins (Bin o l r) rest w = (refl, refl)
+
+bracketed : {ok : List ℕ → Type 0} (u v : List ℕ) (us : List Tok) → u ≡ v → Spells u us ok → Spells v us ok
+bracketed {ok} u v us same h = subst (λ (l : List ℕ). Spells l us ok) same h
+
+-- the printed text of an expression has its tokens
+pub spells-term : (t : Term) → IsWritten t → Spells (text_of t) (printed t) NoWord
+spells-term (Const z) w = rw w.1 (spells-number w.0 w.2)
+spells-term (Input place) w = spells-less (text_of (Input place)) (printed (Input place)) (indexed (codes "input") place input_is w) (λ rest no. tt)
+spells-term (Slot slot) w = spells-less (text_of (Slot slot)) (printed (Slot slot)) (indexed (codes "slot") slot slot_is w) (λ rest no. tt)
+spells-term (Neg t) w =
+    spells-less (text_of (Neg t)) (printed (Neg t))
+    (in_brackets (codes "-" ++ text_of t) (symbol s.Minus ∷ printed t) (symbol-then s.Minus (text_of t) (printed t) (spells-term t w) (λ rest no. minus_follows (text_of t ++ rest) (begins t rest w)))) (λ rest no. tt)
+spells-term (Not t) w =
+    spells-less (text_of (Not t)) (printed (Not t))
+    (in_brackets (codes "!" ++ text_of t) (symbol s.Not ∷ printed t) (symbol-then s.Not (text_of t) (printed t) (spells-term t w) (λ rest no. not_follows (text_of t ++ rest) (begins t rest w)))) (λ rest no. tt)
+spells-term (Bin o l r) w =
+    let inner : List ℕ = codes " " ++ (sign_text o ++ (codes " " ++ text_of r)) in
+    let regroup : codes "(" ++ ((text_of l ++ inner) ++ codes ")") ≡ text_of (Bin o l r) =
+    ap (λ (x : List ℕ). codes "(" ++ x) (append_assoc (text_of l) inner (codes ")") ∙ ap (λ (x : List ℕ). text_of l ++ (codes " " ++ x)) (append_assoc (sign_text o) (codes " " ++ text_of r) (codes ")"))) in
+    bracketed (codes "(" ++ ((text_of l ++ inner) ++ codes ")")) (text_of (Bin o l r)) (printed (Bin o l r)) regroup
+    (spells-less (codes "(" ++ ((text_of l ++ inner) ++ codes ")")) (printed (Bin o l r))
+    (in_brackets (text_of l ++ inner) (printed l ++ symbol (grammar.sign_of o) ∷ printed r)
+    (spells-then (text_of l) (printed l) inner (symbol (grammar.sign_of o) ∷ printed r) (spells-term l w.0) (operator-then o (text_of r) (printed r) (spells-term r w.1)) (λ rest no. blank_is_no_word (sign_text o ++ (codes " " ++ text_of r)) rest)))
+    (λ rest no. tt))
