@@ -33,6 +33,13 @@ Any rest = Unit {0}
 pub exact-less : {A : Type 0} {F : A → List Tok → Type 0} {p : parse.Parse A} {E D : List Tok → Type 0} → Exact F p E → ((rest : List Tok) → D rest → E rest) → Exact F p D
 exact-less e fewer = record { sound = e.sound; complete = λ v s rest f d. e.complete v s rest f (fewer rest d) }
 
+-- the same reading function, or the same form, in other words
+pub exact-as : {A : Type 0} {F G : A → List Tok → Type 0} {p q : parse.Parse A} {E : List Tok → Type 0} → Exact F p E → ((v : A) (s : List Tok) → F v s → G v s) → ((v : A) (s : List Tok) → G v s → F v s) → ((ts : List Tok) → q ts ≡ p ts) → Exact G q E
+exact-as {A} {F} {G} {p} {q} {E} x to from same = record {
+  sound = λ ts v rest e. let f = x.sound ts v rest (sym (same ts) ∙ e) in record { front = f.front; is = f.is; formed = to v f.front f.formed };
+  complete = λ v s rest g d. same (s ++ rest) ∙ x.complete v s rest (from v s g) d;
+}
+
 -- a name
 pub exact-name : Exact form.Name parse.name_at Any
 exact-name = record { sound = sound; complete = complete } where

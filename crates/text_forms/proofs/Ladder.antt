@@ -21,7 +21,7 @@ use Rattle.text_forms.specs.Repeat.{Turn, Stop, Fail, Next, repeated}
 use Rattle.text_forms.specs.Tail.{tail}
 use Rattle.text_forms.specs.Tree.{Spoken, depth_of}
 use Rattle.text_forms.specs.Tree as tree
-use Rattle.text_forms.proofs.Exact.{Exact, Front, Any, exact-less, exact-both, exact-after, exact-before, exact-tested, exact-seen, exact-merged, exact-number, exact-nothing, then_read-some}
+use Rattle.text_forms.proofs.Exact.{Exact, Front, Any, exact-as, exact-less, exact-both, exact-after, exact-before, exact-tested, exact-seen, exact-merged, exact-number, exact-nothing, then_read-some}
 use Rattle.text_forms.proofs.Pairs.{some_inj, pair_inj}
 use Rattle.text_forms.proofs.Repeat.{Shortens, repeated-next, repeated-stop, repeated-keeps}
 use Rattle.text_forms.proofs.Symbols.{begins_with-is, begins_with-symbol}
@@ -29,13 +29,6 @@ use Rattle.text_forms.proofs.Symbols.{begins_with-is, begins_with-symbol}
 -- no operator of the lines up to k comes
 abbrev pub Ends : ℕ → List Tok → Type 0
 Ends k rest = (j : ℕ) → j ≤ k → operator_at j rest ≡ None
-
--- the same reading function, or the same form, in other words
-pub exact-as : {A : Type 0} {F G : A → List Tok → Type 0} {p q : parse.Parse A} {E : List Tok → Type 0} → Exact F p E → ((v : A) (s : List Tok) → F v s → G v s) → ((v : A) (s : List Tok) → G v s → F v s) → ((ts : List Tok) → q ts ≡ p ts) → Exact G q E
-exact-as {A} {F} {G} {p} {q} {E} x to from same = record {
-  sound = λ ts v rest e. let f = x.sound ts v rest (sym (same ts) ∙ e) in record { front = f.front; is = f.is; formed = to v f.front f.formed };
-  complete = λ v s rest g d. same (s ++ rest) ∙ x.complete v s rest (from v s g) d;
-}
 
 -- the tokens of an expression behind one bracket more
 abbrev IsWithin : Language → (n room : ℕ) → Spoken → List Tok → Type 0

@@ -1,15 +1,16 @@
 -- Lists of items, up to what stops them.
-use Rattle.std.proofs.Common.{◌≡◌, ℕ, ◌<◌, ◌+◌, List, [], ◌∷◌, ◌++◌, length, Bool, true, false, cond, Option, Some, None, refl, sym, ap, ◌∙◌, subst, arith, append_assoc, append-nil, length-append}
+use Rattle.std.proofs.Common.{◌≡◌, ℕ, zero, suc, ◌<◌, ◌+◌, List, [], ◌∷◌, ◌++◌, length, Bool, true, false, cond, Option, Some, None, refl, sym, ap, ◌∙◌, subst, arith, append_assoc, append-nil, length-append}
 use Rattle.std.specs.Prelude.{not}
 use Rattle.work_code.specs.Tok.{Tok, symbol}
 use Rattle.work_code.specs.declared.sign.Symbol.TheVariants.{Comma}
-use Rattle.text_forms.specs.Repeat.{Turn, Stop, Fail, Next, repeated}
+use Rattle.text_forms.specs.Repeat.{Turn, Stop, Fail, Next, after_turn, turns, repeated}
+use Rattle.text_forms.specs.Tail.{tail}
 use Rattle.text_forms.specs.Parse as parse
 use Rattle.text_forms.specs.Forms as form
 use Rattle.text_forms.proofs.Pairs.{some_inj, pair_inj}
-use Rattle.text_forms.proofs.Symbols.{begins_with-symbol}
-use Rattle.text_forms.proofs.Repeat.{Shortens, repeated-next, repeated-stop, repeated-keeps}
-use Rattle.text_forms.proofs.Exact.{Exact, Front, Any, exact-both, exact-after, exact-seen, exact-less}
+use Rattle.text_forms.proofs.Symbols.{begins_with-is, begins_with-symbol}
+use Rattle.text_forms.proofs.Repeat.{Shortens, repeated-next, repeated-stop, repeated-fail, repeated-keeps}
+use Rattle.text_forms.proofs.Exact.{Exact, Front, Any, exact-both, exact-after, exact-seen, exact-less, exact-as}
 
 -- items of a list: each has a token and begins with nothing that stops, and what comes behind one is allowed there
 pub record Listed {A : Type 0} (stop : List Tok → Bool) (F : A → List Tok → Type 0) (E : List Tok → Type 0) : Type 0 where
@@ -92,8 +93,21 @@ module _ {A : Type 0} {F : A → List Tok → Type 0} {p : parse.Parse A} {E : L
     complete = λ v s rest h d. many-complete [] v s rest h d.0 d.1;
   }
 
+-- a turn and a reading with one item more at the front
+abbrev on_turn : {A : Type 0} → A → Turn (List A) → Turn (List A)
+on_turn first Stop = Stop
+on_turn first Fail = Fail
+on_turn first (Next done us) = Next (first ∷ done) us
+
+abbrev on_read : {A : Type 0} → A → Option (List A × List Tok) → Option (List A × List Tok)
+on_read first None = None
+on_read first (Some read) = Some (first ∷ read.0, read.1)
+
 -- items with commas between them
 module _ {A : Type 0} {F : A → List Tok → Type 0} {p : parse.Parse A} {E : List Tok → Type 0} (x : Exact F p E) (comma : (rest : List Tok) → E (symbol Comma ∷ rest)) where
+  abbrev commas_parts : parse.Parse (List A)
+  commas_parts = parse.seen (λ v. v.0 ∷ v.1) (parse.both p (parse.many parse.no_comma (parse.after (Comma ∷ []) p)))
+
   begins_comma : (v : A) (s rest : List Tok) → form.After (Comma ∷ []) F v s → (t : List Tok) × (s ++ rest ≡ symbol Comma ∷ t)
   begins_comma v s rest h = (h.back ++ rest, ap (λ (l : List Tok). l ++ rest) h.is)
 
@@ -109,6 +123,80 @@ module _ {A : Type 0} {F : A → List Tok → Type 0} {p : parse.Parse A} {E : L
   behind_first (w ∷ ws) s rest h d =
       subst (λ (l : List Tok). E l) (sym (ap (λ (l : List Tok). l ++ rest) h.2 ∙ append_assoc h.0 h.1 rest)) (listed_commas.follows w h.0 (h.1 ++ rest) h.3)
 
-  pub exact-commas : Exact (form.Commas F) (parse.commas p) (λ rest. E rest × (parse.no_comma rest ≡ true))
-  exact-commas =
+  exact-parts : Exact (form.Commas F) commas_parts (λ rest. E rest × (parse.no_comma rest ≡ true))
+  exact-parts =
       exact-seen (λ (v : A × List A). v.0 ∷ v.1) (exact-both x (exact-many parse.no_comma (exact-after (Comma ∷ []) x) listed_commas) behind_first)
+
+  -- the loop that begins with the first item
+  same_turn : (first : A) (done : List A) (ts : List Tok) → parse.comma_turn p (first ∷ done) ts ≡ on_turn first (parse.many_turn parse.no_comma (parse.after (Comma ∷ []) p) done ts)
+  unfolding parse.comma_turn
+  same_turn first done ts = by (parse.begins_with Comma ts) refl where
+    by : (b : Bool) → parse.begins_with Comma ts ≡ b → cond b (parse.item_turn (first ∷ done) (p (tail ts))) Stop ≡ on_turn first (cond (not b) Stop (parse.item_turn done (parse.after (Comma ∷ []) p ts)))
+    by false e = refl
+    by true e = rw e (item (p (tail ts))) where
+      item : (r : Option (A × List Tok)) → parse.item_turn (first ∷ done) r ≡ on_turn first (parse.item_turn done r)
+      item None = refl
+      item (Some q) = refl
+
+  same_turns : (n : ℕ) (first : A) (done : List A) (ts : List Tok) → turns (parse.comma_turn p) n (first ∷ done) ts ≡ on_read first (turns (parse.many_turn parse.no_comma (parse.after (Comma ∷ []) p)) n done ts)
+  unfolding turns
+  same_turns zero first done ts = refl
+  same_turns (suc n) first done ts =
+      ap (after_turn (turns (parse.comma_turn p) n) (first ∷ done) ts) (same_turn first done ts) ∙ by (parse.many_turn parse.no_comma (parse.after (Comma ∷ []) p) done ts) (λ more us. same_turns n first more us)
+    where
+    by : (t : Turn (List A)) → ((more : List A) (us : List Tok) → turns (parse.comma_turn p) n (first ∷ more) us ≡ on_read first (turns (parse.many_turn parse.no_comma (parse.after (Comma ∷ []) p)) n more us))
+        → after_turn (turns (parse.comma_turn p) n) (first ∷ done) ts (on_turn first t) ≡ on_read first (after_turn (turns (parse.many_turn parse.no_comma (parse.after (Comma ∷ []) p)) n) done ts t)
+    by Stop f = refl
+    by Fail f = refl
+    by (Next more us) f = f more us
+
+  same_commas : (ts : List Tok) → parse.commas p ts ≡ commas_parts ts
+  unfolding repeated
+  same_commas ts = by (p ts) where
+    loop : (a : A) (us : List Tok) → repeated (parse.comma_turn p) (a ∷ []) us ≡ on_read a (repeated (parse.many_turn parse.no_comma (parse.after (Comma ∷ []) p)) [] us)
+    loop a us = same_turns (suc (length us)) a [] us
+
+    by : (r : Option (A × List Tok)) → parse.then_read r (λ a us. repeated (parse.comma_turn p) (a ∷ []) us) ≡ parse.then_read {A = A × List A} {B = List A} (parse.then_read {A = A} {B = A × List A} r (λ a us. parse.then_read {A = List A} {B = A × List A} (parse.many parse.no_comma (parse.after (Comma ∷ []) p) us) (λ b vs. Some ((a, b), vs)))) (λ v vs. Some (v.0 ∷ v.1, vs))
+    by None = refl
+    by (Some q) = loop q.0 q.1 ∙ out (parse.many parse.no_comma (parse.after (Comma ∷ []) p) q.1) where
+      out : (r : Option (List A × List Tok)) → on_read q.0 r ≡ parse.then_read {A = A × List A} {B = List A} (parse.then_read {A = List A} {B = A × List A} r (λ b vs. Some ((q.0, b), vs))) (λ v vs. Some (v.0 ∷ v.1, vs))
+      out None = refl
+      out (Some w) = refl
+
+  pub exact-commas : Exact (form.Commas F) (parse.commas p) (λ rest. E rest × (parse.no_comma rest ≡ true))
+  exact-commas = exact-as exact-parts (λ v s h. h) (λ v s h. h) same_commas
+
+  -- how a turn went on
+  comma-turned : (done : List A) (ts : List Tok) (y : List A) (us : List Tok) → parse.comma_turn p done ts ≡ Next y us → (parse.begins_with Comma ts ≡ true) × (q : A × List Tok) × (p (tail ts) ≡ Some q) × (us ≡ q.1)
+  unfolding parse.comma_turn
+  comma-turned done ts y us e = by (parse.begins_with Comma ts) (p (tail ts)) refl refl e where
+    by : (b : Bool) (r : Option (A × List Tok)) → parse.begins_with Comma ts ≡ b → p (tail ts) ≡ r → cond b (parse.item_turn done r) Stop ≡ Next y us → (parse.begins_with Comma ts ≡ true) × (q : A × List Tok) × (p (tail ts) ≡ Some q) × (us ≡ q.1)
+    by false r b_is r_is f = cc
+    by true None b_is r_is f = cc
+    by true (Some q) b_is r_is f = (b_is, q, r_is, rest f) where
+      rest : Next (done ++ q.0 ∷ []) q.1 ≡ Next y us → us ≡ q.1
+      rest g = cc
+
+  pub comma-shortens : Shortens (parse.comma_turn p)
+  comma-shortens done ts y us e =
+      let t = comma-turned done ts y us e in
+      let f = x.sound (tail ts) t.1.0 t.1.1 t.2 in
+      let whole : length ts ≡ suc (length (tail ts)) = ap length (begins_with-is Comma ts t.0) in
+      let part : length (tail ts) ≡ length f.front + length t.1.1 = ap length f.is ∙ length-append f.front t.1.1 in
+      let end : length us ≡ length t.1.1 = ap length t.3 in
+      omega arith
+
+  -- the steps by which code reads the items
+  pub comma-next : (done : List A) (ts us : List Tok) (v : A) → parse.begins_with Comma ts ≡ true → p (tail ts) ≡ Some (v, us) → repeated (parse.comma_turn p) (done ++ v ∷ []) us ≡ repeated (parse.comma_turn p) done ts
+  unfolding parse.comma_turn
+  comma-next done ts us v comes read = sym (repeated-next (parse.comma_turn p) comma-shortens done ts (done ++ v ∷ []) us (rw (comes, read) refl))
+
+pub comma-stop : {A : Type 0} (p : parse.Parse A) (done : List A) (ts : List Tok) → parse.begins_with Comma ts ≡ false → repeated (parse.comma_turn p) done ts ≡ Some (done, ts)
+unfolding parse.comma_turn
+comma-stop p done ts none = repeated-stop (parse.comma_turn p) done ts (rw none refl)
+
+pub comma-bad : {A : Type 0} (p : parse.Parse A) (done : List A) (ts : List Tok) → parse.begins_with Comma ts ≡ true → p (tail ts) ≡ None → repeated (parse.comma_turn p) done ts ≡ None
+unfolding parse.comma_turn
+comma-bad p done ts comes read = repeated-fail (parse.comma_turn p) done ts (rw (comes, read) refl)
+
+pub ruleset comma_ends = (comma-stop, comma-bad)

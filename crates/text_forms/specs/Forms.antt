@@ -1,5 +1,5 @@
 -- Grammars: a form says which tokens stand for a value.
-use Rattle.std.specs.Prelude.{◌≡◌, ◌⊎◌, ℕ, List, [], ◌∷◌, ◌++◌, map, Option, None, Some, Bool, true}
+use Rattle.std.specs.Prelude.{◌≡◌, ◌⊎◌, ℕ, List, [], ◌∷◌, ◌++◌, map, Option, None, Some, Bool, true, false, zero, suc}
 use Rattle.std.specs.Prelude.{ℤ, pos}
 use Rattle.text_forms.specs.Parse.{is_value}
 use Rattle.work_code.specs.Tok.{Tok, name, var, number, symbol}
@@ -88,3 +88,34 @@ Each F (v ∷ vs) ts = (front : List Tok) × (back : List Tok) × (ts ≡ front 
 -- with commas between them, at least one
 abbrev pub Commas : {A : Type 0} → (A → List Tok → Type 0) → List A → List Tok → Type 0
 Commas F = Seen (λ v. v.0 ∷ v.1) (Both F (Each (After (Comma ∷ []) F)))
+
+-- nothing stands for a value
+abbrev pub Never : {A : Type 0} → A → List Tok → Type 0
+Never v ts = ⊥
+
+-- one or the other, by a test
+abbrev pub Choose : {A : Type 0} → Bool → (A → List Tok → Type 0) → (A → List Tok → Type 0) → A → List Tok → Type 0
+Choose true F G = F
+Choose false F G = G
+
+-- a word, and then what this word says
+pub record Headed {A : Type 0} (F : List ℕ → A → List Tok → Type 0) (v : A) (ts : List Tok) : Type 0 where
+  pub word : List ℕ
+  pub back : List Tok
+  pub is : ts ≡ name word ∷ back
+  pub formed : F word v back
+
+-- seen through a function that not every value has an answer of
+pub record Known {A B : Type 0} (f : A → Option B) (F : A → List Tok → Type 0) (w : B) (ts : List Tok) : Type 0 where
+  pub value : A
+  pub is : f value ≡ Some w
+  pub formed : F value ts
+
+-- between brackets, where so many more may be open
+abbrev pub Enclosed : {A : Type 0} → Symbol → Symbol → (ℕ → A → List Tok → Type 0) → ℕ → A → List Tok → Type 0
+Enclosed left right F zero v ts = ⊥
+Enclosed left right F (suc n) v ts = After (left ∷ []) (Before (F n) (right ∷ [])) v ts
+
+-- with commas between them, or none
+abbrev pub Listing : {A : Type 0} → (A → List Tok → Type 0) → List A → List Tok → Type 0
+Listing F = Merged (Nothing []) (Commas F)

@@ -1,5 +1,5 @@
 -- Reading functions: what is at the front of some tokens, and the tokens behind it.
-use Rattle.std.specs.Prelude.{ℕ, nat_le, length, List, [], ◌∷◌, ◌++◌, Option, None, Some, Bool, true, false, ◌==◌, not, if◌then◌else◌}
+use Rattle.std.specs.Prelude.{ℕ, zero, suc, ◌-◌, nat_le, length, List, [], ◌∷◌, ◌++◌, Option, None, Some, Bool, true, false, ◌==◌, not, if◌then◌else◌}
 use Rattle.std.specs.Prelude.{◌&&◌, ℤ, pos}
 use Rattle.std.specs.List.{list_all, list_any}
 use Rattle.std.specs.Str.{bytes_eq}
@@ -139,6 +139,35 @@ many stop p ts = repeated (many_turn stop p) [] ts
 abbrev pub no_comma : List Tok → Bool
 no_comma ts = not (begins_with Comma ts)
 
+-- one more item behind a comma
+unfoldable pub comma_turn : {A : Type 0} → Parse A → List A → List Tok → Turn (List A)
+comma_turn p done ts = if begins_with Comma ts then item_turn done (p (tail ts)) else Stop
+
 -- items with commas between them, at least one
 abbrev pub commas : {A : Type 0} → Parse A → Parse (List A)
-commas p = seen (λ v. v.0 ∷ v.1) (both p (many no_comma (after (Comma ∷ []) p)))
+commas p ts = then_read (p ts) (λ a us. repeated (comma_turn p) (a ∷ []) us)
+
+-- what a word at the front says
+abbrev pub headed : {A : Type 0} → (List ℕ → Parse A) → Parse A
+headed p ts = then_read (name_at ts) p
+
+-- seen through a function that not every value has an answer of
+abbrev pub given : {B : Type 0} → Option B → List Tok → Option (B × List Tok)
+given None ts = None
+given (Some b) ts = Some (b, ts)
+
+abbrev pub known : {A B : Type 0} → (A → Option B) → Parse A → Parse B
+known f p ts = then_read (p ts) (λ a us. given (f a) us)
+
+-- the tokens behind a bracket, where so many more may be open
+unfoldable pub open_at : Symbol → ℕ → List Tok → Option (List Tok)
+open_at s zero ts = None
+open_at s (suc n) ts = run_at (s ∷ []) ts
+
+-- between brackets
+abbrev pub enclosed : {A : Type 0} → Symbol → Symbol → (ℕ → Parse A) → ℕ → Parse A
+enclosed left right p n ts = then_rest (open_at left n ts) (before (p (n - 1)) (right ∷ []))
+
+-- with commas between them, or none where this symbol comes
+abbrev pub listing : {A : Type 0} → Symbol → Parse A → Parse (List A)
+listing close p ts = if begins_with close ts then Some ([], ts) else commas p ts

@@ -1,7 +1,8 @@
 // A reader of tokens.
-ghost use Rattle.std.specs.Prelude.{◌≡◌, MatchOption, List, [], ◌∷◌, if◌then◌else◌, IsTrue, ◌↔◌};
+ghost use Rattle.std.specs.Prelude.{◌≡◌, ◌-◌, IfOk, MatchOption, List, [], ◌∷◌, if◌then◌else◌, IsTrue, ◌↔◌};
+ghost use Rattle.std.specs.Int.{IsNonNegative};
 ghost use Rattle.text_forms.specs.Tail.{tail};
-ghost use Rattle.text_forms.specs.Parse.{begins_with, is_word_at, word_at, run_at, name_at, var_at, number_at, count_at, value_at};
+ghost use Rattle.text_forms.specs.Parse.{begins_with, is_word_at, word_at, run_at, name_at, var_at, number_at, count_at, open_at, value_at};
 ghost use Rattle.text_forms.specs.Language.{plain_name_at};
 ghost use Rattle.text_forms.specs.Gives.{Gives, Passes};
 
@@ -91,6 +92,20 @@ impl<'a> Reader<'a> {
         Ok(())
     }
 
+    /// Passes over this opening bracket, which has to come next, where so many more brackets may be open; gives how many
+    /// may be open behind it.
+    #[tactic(auto, using(crate::proofs::Choices::opens))]
+    pub fn opens(&mut self, symbol: Symbol, brackets: u32) -> Result<u32, Fault>
+        ensures passes { Passes result self.new (open_at symbol brackets self.old) }
+        ensures fewer { IfOk result (λ n. n ≡ brackets - 1) }
+    {
+        if brackets == 0 {
+            return Err(Fault::Syntax);
+        }
+        self.expect(&[symbol])?;
+        Ok(brackets - 1)
+    }
+
     /// Whether this word comes next.
     pub fn is_at_word(&self, word: &[u8]) -> bool
         ensures { result ≡ is_word_at word.now self.now }
@@ -171,7 +186,8 @@ impl<'a> Reader<'a> {
 
     /// The number that has to come next, as a value.
     pub fn value(&mut self) -> Result<i64, Fault>
-        ensures { Gives (λ value. value) result self.new (value_at self.old) }
+        ensures reads { Gives (λ value. value) result self.new (value_at self.old) }
+        ensures natural { IfOk result IsNonNegative }
     {
         let value = self.number()?;
         match i64::try_from(value) {
