@@ -70,7 +70,7 @@ fn unit_len(lexemes: &[Lexeme<'_>]) -> usize
 ///
 /// `NoMemory` where there is no memory.
 #[tactic(auto, using(crate::proofs::Cuts::cuts))]
-pub fn units<'a>(alloc: Global, tokens: &'a Tokens<'a>) -> Result<Units<'a>, NoMemory>
+pub fn units<'u>(alloc: Global, tokens: &'u Tokens<'_>) -> Result<Units<'u>, NoMemory>
     ensures { IfOk result (λ units. units ≡ units_of (toks tokens.now)) }
 {
     let lexemes = tokens.as_slice();
