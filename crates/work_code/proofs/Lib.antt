@@ -4,5 +4,6 @@ pub mod Lists
 pub mod Marks
 pub mod Pieces
 pub mod Rooms
+pub mod Slices
 pub mod Spelled
 pub mod Texts

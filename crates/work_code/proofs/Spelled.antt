@@ -10,7 +10,7 @@ use Rattle.std.proofs.lemmas.Bool.{eqb-true, ne_eqb}
 use Rattle.std.proofs.lemmas.Bool.Decides.{nat_tests}
 use Rattle.std.proofs.Math.Seq.{drop-append_seam, take-append_seam}
 use Rattle.work_code.specs.Lexis.{Piece, blank, token, bad, big, marks, with_mark, piece_at, is_blank, is_in_line, is_letter, is_digit, is_word, first_is, begins_with, name_piece, var_piece, number_piece, decimal_from, most, block_piece, symbol_piece, short_piece, long_piece}
-use Rattle.work_code.specs.Symbols.{short_symbol, long_symbol}
+use Rattle.work_code.specs.Symbols.{short_symbol, long_symbol, symbol_bytes}
 use Rattle.work_code.specs.Tok.{Tok, Mark, toks, name, var, number, symbol}
 use Rattle.work_code.specs.declared.sign.Symbol.{Symbol}
 use Rattle.work_code.specs.declared.sign.Symbol.TheVariants as sign
@@ -278,37 +278,6 @@ spells-number n fits = by (decimal n) (decimal_is_IsNumeral n (omega arith)) whe
       (λ rest next. number_piece_is c cs rest n d.0 d.1 (digits_all (c ∷ cs) h.0.1) (sym (digits_same 0 (c ∷ cs) h.0.1) ∙ h.1) fits (word_digit rest next))
 
 -- ---- each symbol
-
--- the bytes of a symbol
-abbrev pub symbol_bytes : Symbol → List ℕ
-symbol_bytes sign.Plus = 43 ∷ []
-symbol_bytes sign.Minus = 45 ∷ []
-symbol_bytes sign.Star = 42 ∷ []
-symbol_bytes sign.Slash = 47 ∷ []
-symbol_bytes sign.Percent = 37 ∷ []
-symbol_bytes sign.Open = 40 ∷ []
-symbol_bytes sign.Close = 41 ∷ []
-symbol_bytes sign.OpenBracket = 91 ∷ []
-symbol_bytes sign.CloseBracket = 93 ∷ []
-symbol_bytes sign.OpenBrace = 123 ∷ []
-symbol_bytes sign.CloseBrace = 125 ∷ []
-symbol_bytes sign.Comma = 44 ∷ []
-symbol_bytes sign.Semicolon = 59 ∷ []
-symbol_bytes sign.Colon = 58 ∷ []
-symbol_bytes sign.Dot = 46 ∷ []
-symbol_bytes sign.Assign = 61 ∷ []
-symbol_bytes sign.Less = 60 ∷ []
-symbol_bytes sign.Greater = 62 ∷ []
-symbol_bytes sign.Not = 33 ∷ []
-symbol_bytes sign.Equal = 61 ∷ (61 ∷ [])
-symbol_bytes sign.NotEqual = 33 ∷ (61 ∷ [])
-symbol_bytes sign.Different = 60 ∷ (62 ∷ [])
-symbol_bytes sign.LessEqual = 60 ∷ (61 ∷ [])
-symbol_bytes sign.GreaterEqual = 62 ∷ (61 ∷ [])
-symbol_bytes sign.And = 38 ∷ (38 ∷ [])
-symbol_bytes sign.Or = 124 ∷ (124 ∷ [])
-symbol_bytes sign.Increment = 43 ∷ (43 ∷ [])
-symbol_bytes sign.Arrow = 45 ∷ (62 ∷ [])
 
 -- what may come behind a symbol
 abbrev pub MayFollow : Symbol → List ℕ → Type 0

@@ -1,5 +1,6 @@
 pub mod Classes
 pub mod Cut
+pub mod Laws
 pub mod Lent
 pub mod Lexis
 pub mod Pieces

@@ -1,5 +1,5 @@
 -- The symbols of a program's text.
-use Rattle.std.specs.Prelude.{ℕ, Bool, Option, Some, None, ◌==◌, ◌&&◌, if◌then◌else◌}
+use Rattle.std.specs.Prelude.{ℕ, List, [], ◌∷◌, Bool, Option, Some, None, ◌==◌, ◌&&◌, if◌then◌else◌}
 use Rattle.work_code.specs.declared.sign.Symbol.{Symbol}
 use Rattle.work_code.specs.declared.sign.Symbol.TheVariants.{Plus, Minus, Star, Slash, Percent, Open, Close, OpenBracket, CloseBracket, OpenBrace, CloseBrace, Comma, Semicolon, Colon, Dot, Assign, Equal, NotEqual, Different, Less, LessEqual, Greater, GreaterEqual, And, Or, Not, Increment, Arrow}
 
@@ -71,3 +71,34 @@ code_of Or = 24
 code_of Not = 25
 code_of Increment = 26
 code_of Arrow = 27
+
+-- the bytes of a symbol
+abbrev pub symbol_bytes : Symbol → List ℕ
+symbol_bytes Plus = 43 ∷ []
+symbol_bytes Minus = 45 ∷ []
+symbol_bytes Star = 42 ∷ []
+symbol_bytes Slash = 47 ∷ []
+symbol_bytes Percent = 37 ∷ []
+symbol_bytes Open = 40 ∷ []
+symbol_bytes Close = 41 ∷ []
+symbol_bytes OpenBracket = 91 ∷ []
+symbol_bytes CloseBracket = 93 ∷ []
+symbol_bytes OpenBrace = 123 ∷ []
+symbol_bytes CloseBrace = 125 ∷ []
+symbol_bytes Comma = 44 ∷ []
+symbol_bytes Semicolon = 59 ∷ []
+symbol_bytes Colon = 58 ∷ []
+symbol_bytes Dot = 46 ∷ []
+symbol_bytes Assign = 61 ∷ []
+symbol_bytes Less = 60 ∷ []
+symbol_bytes Greater = 62 ∷ []
+symbol_bytes Not = 33 ∷ []
+symbol_bytes Equal = 61 ∷ (61 ∷ [])
+symbol_bytes NotEqual = 33 ∷ (61 ∷ [])
+symbol_bytes Different = 60 ∷ (62 ∷ [])
+symbol_bytes LessEqual = 60 ∷ (61 ∷ [])
+symbol_bytes GreaterEqual = 62 ∷ (61 ∷ [])
+symbol_bytes And = 38 ∷ (38 ∷ [])
+symbol_bytes Or = 124 ∷ (124 ∷ [])
+symbol_bytes Increment = 43 ∷ (43 ∷ [])
+symbol_bytes Arrow = 45 ∷ (62 ∷ [])

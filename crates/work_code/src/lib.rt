@@ -7,6 +7,7 @@ mod cut;
 mod evaluate;
 mod expr;
 mod fault;
+pub mod laws;
 mod lexer;
 mod piece;
 mod print;
