@@ -2,3 +2,4 @@ pub mod Column
 pub mod Fault
 pub mod Number
 pub mod Print
+pub mod Writing

@@ -2,6 +2,7 @@
 #![tactic(auto)]
 
 mod column;
+pub mod laws;
 mod number;
 mod print;
 
