@@ -13,7 +13,7 @@ use Rattle.river_kernels.specs.declared.types.Types.{Types}
 use Rattle.river_kernels.specs.Kern.{Kern, code, filter, duplicate, deal, collect, packed, unpack, window, select, project, cross, streamer, tally, fused}
 use Rattle.river_kernels.specs.Formed.{is_width, is_term, is_code, is_filter, are_weights, is_window}
 use Rattle.river_kernels.specs.Fits.{Fits, rows, stream, relation, width_of, is_sized, is_bag, ports, are_widths, kept, spliced}
-use Rattle.river_kernels.specs.Types.{given, gives, flat_in, rows_in, stream_in, relation_in, same_flat, same_type, flats_in, packs_in, pair_in, crossed, packed_outs, packed_of, joined, behind, fused_of, types_of}
+use Rattle.river_kernels.specs.Types.{given, gives, flat_in, rows_in, stream_in, relation_in, same_flat, same_type, flats_in, packs_in, crossed, packed_outs, packed_of, joined, behind, fused_of, types_of}
 use Rattle.river_kernels.proofs.TypeLemmas.{eq_same, same_eq, not_some, some_same, gives_if, Gives, gives_some, flat_some, rows_some, stream_some, relation_some, flats_some, packs_some, flats_all, packs_all, pair_some}
 
 -- the first part of a test of weights
@@ -112,23 +112,6 @@ two_parts : (at : ℕ) (o : Option Types) (f : List QueueType → Option Types) 
 two_parts at None f p h = absurd (not_some h)
 two_parts at (Some q) f p h = behind_middle at q (slice_get q.outs at) f p refl h
 
--- the product is of two relations
-record Sides (t u : QueueType) (p : Types) : Type 0 where
-  pub left : ℕ
-  pub right : ℕ
-  pub left_is : t ≡ relation left
-  pub right_is : u ≡ relation right
-  pub given : Gives (is_width left && (is_width right && is_width (left + right))) (relation (left + right) ∷ []) (Private ∷ []) p
-
-sides : (t u : QueueType) (p : Types) → crossed t u ≡ Some p → Sides t u p
-sides (Flat (Relation a)) (Flat (Relation b)) p h = record { left = a; right = b; left_is = refl; right_is = refl; given = gives_some (is_width a && (is_width b && is_width (a + b))) (relation (a + b) ∷ []) (Private ∷ []) p h }
-sides (Flat (Relation a)) (Flat (Rows b)) p h = absurd (not_some h)
-sides (Flat (Relation a)) (Flat (Stream b)) p h = absurd (not_some h)
-sides (Flat (Relation a)) (Pack b) p h = absurd (not_some h)
-sides (Flat (Rows a)) u p h = absurd (not_some h)
-sides (Flat (Stream a)) u p h = absurd (not_some h)
-sides (Pack a) u p h = absurd (not_some h)
-
 -- what is inferred fits
 pub types_fits : (k : Kern) (is : List QueueType) (p : Types) → types_of k is ≡ Some p → Fits k is p.outs p.vars
 types_fits (code k) is p h =
@@ -180,8 +163,8 @@ types_fits (project es) is p h =
     (b.width, a.reads ∙ ap (λ t. Flat t ∷ []) b.is, g.outs, g.vars, g.holds)
 types_fits cross is p h =
     let a = pair_some is crossed p h in
-    let s = sides a.left a.right p a.some in
-    (s.left, s.right, a.reads ∙ (λ i. s.left_is i ∷ s.right_is i ∷ []), s.given.outs, s.given.vars, s.given.holds)
+    let g = gives_some (is_width a.left && (is_width a.right && is_width (a.left + a.right))) (relation (a.left + a.right) ∷ []) (Private ∷ []) p a.some in
+    (a.left, a.right, a.reads, g.outs, g.vars, g.holds)
 types_fits (streamer s) is p h =
     let a = flat_some is (λ t. relation_in t (λ n. gives (is_width n) (stream n ∷ []) (Private ∷ []))) p h in
     let b = relation_some a.type (λ n. gives (is_width n) (stream n ∷ []) (Private ∷ [])) p a.some in

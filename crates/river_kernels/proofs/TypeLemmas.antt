@@ -10,7 +10,8 @@ use Rattle.river_base.specs.declared.kind.FlatType.TheVariants.{Rows, Stream, Re
 use Rattle.river_base.specs.declared.kind.QueueType.TheVariants.{Flat, Pack}
 use Rattle.river_kernels.specs.declared.types.VarKind.{VarKind}
 use Rattle.river_kernels.specs.declared.types.Types.{Types}
-use Rattle.river_kernels.specs.Types.{given, gives, flat_in, rows_in, stream_in, relation_in, same_flat, same_type, flats_in, packs_in, pair_in}
+use Rattle.river_kernels.specs.Fits.{relation}
+use Rattle.river_kernels.specs.Types.{given, gives, bind, flat_in, rows_in, stream_in, relation_in, same_flat, same_type, flats_in, packs_in, two_relations, IsFound}
 
 pub eq_same : (n : ℕ) → nat_eq n n ≡ true
 eq_same n = grind arith
@@ -117,9 +118,9 @@ pub record Many (n : ℕ) (of : FlatType → QueueType) (is : List QueueType) (f
   pub reads : is ≡ replicate n (of type)
   pub some : f type ≡ Some p
 
-if_some : {A : Type 0} (b : Bool) (x : Option A) (y : A) → (if b then x else None) ≡ Some y → (b ≡ true) × (x ≡ Some y)
-if_some true x y h = (refl, h)
-if_some false x y h = absurd (not_some h)
+if_some : {A B : Type 0} (b : Bool) (x : A) (f : A → Option B) (y : B) → bind (if b then Some x else None) f ≡ Some y → (b ≡ true) × (f x ≡ Some y)
+if_some true x f y h = (refl, h)
+if_some false x f y h = absurd (not_some h)
 
 many_reads : (n : ℕ) (t : QueueType) (ts : List QueueType) → (nat_eq (length ts + 1) n && list_all (same_type t) ts) ≡ true → t ∷ ts ≡ replicate n t
 many_reads n t ts h =
@@ -130,7 +131,7 @@ many_reads n t ts h =
 pub flats_some : (n : ℕ) (is : List QueueType) (f : FlatType → Option Types) (p : Types) → flats_in n is f ≡ Some p → Many n (λ t. Flat t) is f p
 flats_some n [] f p h = absurd (not_some h)
 flats_some n (Flat t ∷ ts) f p h =
-    let c = if_some (nat_eq (length ts + 1) n && list_all (same_type (Flat t)) ts) (f t) p h in
+    let c = if_some (nat_eq (length ts + 1) n && list_all (same_type (Flat t)) ts) t f p h in
     record { type = t; reads = many_reads n (Flat t) ts c.0; some = c.1 }
 flats_some n (Pack t ∷ ts) f p h = absurd (not_some h)
 
@@ -138,7 +139,7 @@ pub packs_some : (n : ℕ) (is : List QueueType) (f : FlatType → Option Types)
 packs_some n [] f p h = absurd (not_some h)
 packs_some n (Flat t ∷ ts) f p h = absurd (not_some h)
 packs_some n (Pack t ∷ ts) f p h =
-    let c = if_some (nat_eq (length ts + 1) n && list_all (same_type (Pack t)) ts) (f t) p h in
+    let c = if_some (nat_eq (length ts + 1) n && list_all (same_type (Pack t)) ts) t f p h in
     record { type = t; reads = many_reads n (Pack t) ts c.0; some = c.1 }
 
 if_true : {A : Type 0} (b : Bool) (x y : A) → b ≡ true → (if b then x else y) ≡ x
@@ -152,21 +153,34 @@ many_test m t =
 
 pub flats_all : (n : ℕ) (t : FlatType) (f : FlatType → Option Types) → 1 ≤ n → flats_in n (replicate n (Flat t)) f ≡ f t
 flats_all zero t f h = absurd (omega arith)
-flats_all (suc m) t f h = if_true (nat_eq (length (replicate m (Flat t)) + 1) (suc m) && list_all (same_type (Flat t)) (replicate m (Flat t))) (f t) None (many_test m (Flat t))
+flats_all (suc m) t f h = ap (λ o. bind o f) (if_true (nat_eq (length (replicate m (Flat t)) + 1) (suc m) && list_all (same_type (Flat t)) (replicate m (Flat t))) (Some t) None (many_test m (Flat t)))
 
 pub packs_all : (n : ℕ) (t : FlatType) (f : FlatType → Option Types) → 1 ≤ n → packs_in n (replicate n (Pack t)) f ≡ f t
 packs_all zero t f h = absurd (omega arith)
-packs_all (suc m) t f h = if_true (nat_eq (length (replicate m (Pack t)) + 1) (suc m) && list_all (same_type (Pack t)) (replicate m (Pack t))) (f t) None (many_test m (Pack t))
+packs_all (suc m) t f h = ap (λ o. bind o f) (if_true (nat_eq (length (replicate m (Pack t)) + 1) (suc m) && list_all (same_type (Pack t)) (replicate m (Pack t))) (Some t) None (many_test m (Pack t)))
 
--- two queues
-pub record Two (is : List QueueType) (f : QueueType → QueueType → Option Types) (p : Types) : Type 0 where
-  pub left : QueueType
-  pub right : QueueType
-  pub reads : is ≡ left ∷ right ∷ []
-  pub some : f left right ≡ Some p
+-- two relations
+pub record Two (is : List QueueType) (f : ℕ × ℕ → Option Types) (p : Types) : Type 0 where
+  pub left : ℕ
+  pub right : ℕ
+  pub reads : is ≡ relation left ∷ relation right ∷ []
+  pub some : f (left, right) ≡ Some p
 
-pub pair_some : (is : List QueueType) (f : QueueType → QueueType → Option Types) (p : Types) → pair_in is f ≡ Some p → Two is f p
+pub pair_some : (is : List QueueType) (f : ℕ × ℕ → Option Types) (p : Types) → bind (two_relations is) f ≡ Some p → Two is f p
 pair_some [] f p h = absurd (not_some h)
 pair_some (t ∷ []) f p h = absurd (not_some h)
-pair_some (t ∷ u ∷ []) f p h = record { left = t; right = u; reads = refl; some = h }
+pair_some (Flat (Relation a) ∷ Flat (Relation b) ∷ []) f p h = record { left = a; right = b; reads = refl; some = h }
+pair_some (Flat (Relation a) ∷ Flat (Rows b) ∷ []) f p h = absurd (not_some h)
+pair_some (Flat (Relation a) ∷ Flat (Stream b) ∷ []) f p h = absurd (not_some h)
+pair_some (Flat (Relation a) ∷ Pack b ∷ []) f p h = absurd (not_some h)
+pair_some (Flat (Rows a) ∷ u ∷ []) f p h = absurd (not_some h)
+pair_some (Flat (Stream a) ∷ u ∷ []) f p h = absurd (not_some h)
+pair_some (Pack a ∷ u ∷ []) f p h = absurd (not_some h)
 pair_some (t ∷ u ∷ v ∷ vs) f p h = absurd (not_some h)
+
+-- what is inferred may be answered
+pub found_is : (most : ℕ) (o r : Option Types) → r ≡ o → IsFound most o r
+found_is most (Some p) (Some r) h = some_same h
+found_is most (Some p) None h = absurd (not_some h)
+found_is most None (Some r) h = absurd (not_some (sym h))
+found_is most None None h = tt

@@ -1,5 +1,5 @@
 -- When the bodies and expressions of kernels are well formed.
-use Rattle.std.specs.Prelude.{ℕ, zero, suc, ℤ, pos, negsuc, ◌+◌, Bool, true, false, ◌&&◌, nat_lt, nat_le, nat_eq, if◌then◌else◌, Option, Some, None, List, [], ◌∷◌, length}
+use Rattle.std.specs.Prelude.{ℕ, zero, suc, ℤ, pos, negsuc, ◌+◌, ◌-◌, Bool, true, false, ◌&&◌, nat_lt, nat_le, nat_eq, if◌then◌else◌, Option, Some, None, List, [], ◌∷◌, length, slice_get}
 use Rattle.std.specs.List.{list_all}
 use Rattle.work_code.specs.Term.{Term, Const, Input, Slot, Neg, Not, Bin, depth_of}
 use Rattle.work_code.specs.Steps.{Step, Steps, Set, Push, If, Done, Then}
@@ -30,11 +30,14 @@ is_sound inputs slots (Bin op l r) = is_sound inputs slots l && is_sound inputs 
 abbrev pub is_term : ℕ → ℕ → Term → Bool
 is_term inputs slots t = is_sound inputs slots t && nat_le (depth_of t) 64
 
+-- the number is there, and it counts n
+abbrev pub counts : Option ℤ → ℕ → Bool
+counts (Some w) n = nat_eq (count_of w) n
+counts None n = false
+
 -- `port` is one of the ports, whose rows have these widths, and its width is n
 abbrev pub has_port : List ℤ → ℕ → ℕ → Bool
-has_port [] port n = false
-has_port (w ∷ ws) zero n = nat_eq (count_of w) n
-has_port (w ∷ ws) (suc port) n = has_port ws port n
+has_port outs port n = counts (slice_get outs port) n
 
 -- each slot that is set is there, each push names a port and has as many values as the port's width, each expression is well formed
 abbrev mutual
@@ -70,6 +73,11 @@ abbrev mutual
   pushes Done = Some 0
   pushes (Then s ss) = both (pushes_once s) (pushes ss)
 
+-- what is left of `room` where so many are taken from it; None where they are more
+abbrev pub left_of : Option ℕ → ℕ → Option ℕ
+left_of (Some n) room = if nat_le n room then Some (room - n) else None
+left_of None room = None
+
 abbrev pub is_number : Option ℕ → ℕ → Bool
 is_number (Some m) n = nat_eq m n
 is_number None n = false
@@ -78,11 +86,13 @@ is_number None n = false
 abbrev pub is_code : CodeForm → Bool
 is_code k = is_steps k.body.inputs k.body.slots k.outs k.body.steps && nat_le (length k.starts) k.body.slots
 
--- the body of a `filter` is well formed: its inputs are the first values of the buffer, and each run pushes so many rows of one value to port 0
+-- the inputs of a `filter` are the first values of the buffer; at least one value leaves it at each run, and no more than these
+abbrev pub has_rates : FilterForm → Bool
+has_rates f = nat_eq f.body.inputs f.peek && (nat_le 1 f.pop && nat_le f.pop f.peek)
+
+-- the body of a `filter` is well formed, the kept slots are among its slots, and each run pushes so many rows of one value to port 0
 abbrev pub is_filter : FilterForm → Bool
-is_filter f =
-    (nat_eq f.body.inputs f.peek && (nat_le 1 f.pop && nat_le f.pop f.peek))
-    && ((is_steps f.peek f.body.slots (pos 1 ∷ []) f.body.steps && nat_le (length f.starts) f.body.slots) && is_number (pushes f.body.steps) f.push)
+is_filter f = has_rates f && (is_steps f.peek f.body.slots (pos 1 ∷ []) f.body.steps && (nat_le (length f.starts) f.body.slots && is_number (pushes f.body.steps) f.push))
 
 -- there are weights, and each is at least 1
 abbrev pub are_weights : List ℤ → Bool

@@ -20,27 +20,45 @@ abbrev pub gives : Bool → List QueueType → List VarKind → Option Types
 gives true os vs = Some (given os vs)
 gives false os vs = None
 
--- one queue that carries no packs
+-- what f gives for the value that is there
+abbrev pub bind : {A B : Type 0} → Option A → (A → Option B) → Option B
+bind None f = None
+bind (Some x) f = f x
+
+-- the type of the only queue, where it carries no packs
+abbrev pub only : List QueueType → Option FlatType
+only [] = None
+only (Flat t ∷ []) = Some t
+only (Pack t ∷ []) = None
+only (t ∷ u ∷ us) = None
+
 abbrev pub flat_in : List QueueType → (FlatType → Option Types) → Option Types
-flat_in [] f = None
-flat_in (Flat t ∷ []) f = f t
-flat_in (Pack t ∷ []) f = None
-flat_in (t ∷ u ∷ us) f = None
+flat_in is f = bind (only is) f
+
+-- the width of rows, of a stream, of a relation
+abbrev pub rows_width : FlatType → Option ℕ
+rows_width (Rows n) = Some n
+rows_width (Stream n) = None
+rows_width (Relation n) = None
+
+abbrev pub stream_width : FlatType → Option ℕ
+stream_width (Rows n) = None
+stream_width (Stream n) = Some n
+stream_width (Relation n) = None
+
+abbrev pub relation_width : FlatType → Option ℕ
+relation_width (Rows n) = None
+relation_width (Stream n) = None
+relation_width (Relation n) = Some n
 
 abbrev pub rows_in : FlatType → (ℕ → Option Types) → Option Types
-rows_in (Rows n) f = f n
-rows_in (Stream n) f = None
-rows_in (Relation n) f = None
+rows_in t f = bind (rows_width t) f
 
 abbrev pub stream_in : FlatType → (ℕ → Option Types) → Option Types
-stream_in (Rows n) f = None
-stream_in (Stream n) f = f n
-stream_in (Relation n) f = None
+stream_in t f = bind (stream_width t) f
 
 abbrev pub relation_in : FlatType → (ℕ → Option Types) → Option Types
-relation_in (Rows n) f = None
-relation_in (Stream n) f = None
-relation_in (Relation n) f = f n
+relation_in t f = bind (relation_width t) f
 
 abbrev pub same_flat : FlatType → FlatType → Bool
 same_flat (Rows m) (Rows n) = nat_eq m n
@@ -59,27 +77,36 @@ same_type (Flat t) (Pack u) = false
 same_type (Pack t) (Flat u) = false
 same_type (Pack t) (Pack u) = same_flat t u
 
--- so many queues, all of one type
+-- the type of so many queues, where they are all of it
+abbrev pub all_flat : ℕ → List QueueType → Option FlatType
+all_flat n [] = None
+all_flat n (Flat t ∷ ts) = if nat_eq (length ts + 1) n && list_all (same_type (Flat t)) ts then Some t else None
+all_flat n (Pack t ∷ ts) = None
+
+abbrev pub all_packs : ℕ → List QueueType → Option FlatType
+all_packs n [] = None
+all_packs n (Flat t ∷ ts) = None
+all_packs n (Pack t ∷ ts) = if nat_eq (length ts + 1) n && list_all (same_type (Pack t)) ts then Some t else None
+
 abbrev pub flats_in : ℕ → List QueueType → (FlatType → Option Types) → Option Types
-flats_in n [] f = None
-flats_in n (Flat t ∷ ts) f = if nat_eq (length ts + 1) n && list_all (same_type (Flat t)) ts then f t else None
-flats_in n (Pack t ∷ ts) f = None
+flats_in n is f = bind (all_flat n is) f
 
 abbrev pub packs_in : ℕ → List QueueType → (FlatType → Option Types) → Option Types
-packs_in n [] f = None
-packs_in n (Flat t ∷ ts) f = None
-packs_in n (Pack t ∷ ts) f = if nat_eq (length ts + 1) n && list_all (same_type (Pack t)) ts then f t else None
+packs_in n is f = bind (all_packs n is) f
 
-abbrev pub pair_in : List QueueType → (QueueType → QueueType → Option Types) → Option Types
-pair_in [] f = None
-pair_in (t ∷ []) f = None
-pair_in (t ∷ u ∷ []) f = f t u
-pair_in (t ∷ u ∷ v ∷ vs) f = None
+-- the widths of two relations
+abbrev pub two_widths : QueueType → QueueType → Option (ℕ × ℕ)
+two_widths (Flat (Relation a)) (Flat (Relation b)) = Some (a, b)
+two_widths t u = None
 
--- the product of two relations
-abbrev pub crossed : QueueType → QueueType → Option Types
-crossed (Flat (Relation a)) (Flat (Relation b)) = gives (is_width a && (is_width b && is_width (a + b))) (relation (a + b) ∷ []) (Private ∷ [])
-crossed t u = None
+abbrev pub two_relations : List QueueType → Option (ℕ × ℕ)
+two_relations [] = None
+two_relations (t ∷ []) = None
+two_relations (t ∷ u ∷ []) = two_widths t u
+two_relations (t ∷ u ∷ v ∷ vs) = None
+
+abbrev pub crossed : ℕ × ℕ → Option Types
+crossed w = gives (is_width w.0 && (is_width w.1 && is_width (w.0 + w.1))) (relation (w.0 + w.1) ∷ []) (Private ∷ [])
 
 -- one pack of what the kernel inside gives at its only port
 abbrev pub packed_outs : List QueueType → List VarKind → Option Types
@@ -114,7 +141,7 @@ types_of (unpack n) is = packs_in n is (λ t. gives (is_sized t && nat_le 1 n) (
 types_of (window w) is = flat_in is (λ t. stream_in t (λ n. gives (is_width n && is_window w) (relation n ∷ []) (Private ∷ [])))
 types_of (select e) is = flat_in is (λ t. gives (is_sized t && (is_bag t && is_term (width_of t) 0 e)) (Flat t ∷ []) [])
 types_of (project es) is = flat_in is (λ t. relation_in t (λ n. gives (is_width n && (is_width (length es) && list_all (is_term n 0) es)) (relation (length es) ∷ []) []))
-types_of cross is = pair_in is crossed
+types_of cross is = bind (two_relations is) crossed
 types_of (streamer s) is = flat_in is (λ t. relation_in t (λ n. gives (is_width n) (stream n ∷ []) (Private ∷ [])))
 types_of tally is = flat_in is (λ t. rows_in t (λ n. gives (is_width n) [] (Table n ∷ [])))
 types_of (fused a b at) is = fused_of at (types_of a is) (types_of b)

@@ -1,6 +1,8 @@
 //! The kernels of operators as data, their parts, and when they are well formed.
 #![tactic(auto)]
 
+mod formed;
+mod inference;
 mod kernel;
 mod limit;
 mod types;
