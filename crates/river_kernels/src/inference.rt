@@ -8,6 +8,7 @@ ghost use Rattle.river_kernels.specs.Kern.{kern_of, code, filter, duplicate, dea
 ghost use Rattle.river_kernels.specs.Fits.{rows, stream, relation, width_of, is_sized, is_bag, ports, are_widths, kept, spliced};
 ghost use Rattle.river_kernels.specs.Types.{gives, only, rows_width, stream_width, relation_width, all_flat, all_packs, two_relations, types_of, packed_of, joined, IsFound, same_type};
 ghost use Rattle.river_kernels.specs.declared.types.VarKind.TheVariants.{Private, Table};
+ghost use Rattle.kern_bags.specs.declared.kernel.Streamer.{Streamer};
 
 use crate::formed::{
     are_formed_exprs, are_formed_weights, are_row_widths, is_formed_code, is_formed_expr,
@@ -97,4 +98,177 @@ fn both_relations(reads: &[QueueType]) -> Option<(u32, u32)>
         [QueueType::Flat(FlatType::Relation(a)), QueueType::Flat(FlatType::Relation(b))] => Some((*a, *b)),
         _ => None,
     }
+}
+
+// One private variable.
+fn private(alloc: Global) -> Result<Listed<VarKind>, NoMemory>
+    ensures { IfOk result (λ vars. vars ≡ Private ∷ []) }
+{
+    let mut vars = Listed::new(alloc);
+    vars.push(VarKind::Private)?;
+    Ok(vars)
+}
+
+// One output port and these variables, where the kernel is well formed.
+fn one_port(alloc: Global, formed: bool, out: QueueType, vars: Listed<VarKind>) -> Result<Option<Types>, NoMemory>
+    ensures { IfOk result (λ found. found ≡ gives formed (out ∷ []) vars) }
+{
+    if !formed {
+        return Ok(None);
+    }
+    let mut outs = Listed::new(alloc);
+    outs.push(out)?;
+    Ok(Some(Types { outs, vars }))
+}
+
+fn is_fit_code(k: &CodeKernel, n: u32) -> bool
+    ensures { result ≡ (nat_eq n k.now.code.inputs && (is_width k.now.code.inputs && (are_widths k.now.outs && is_code (code_form k.now)))) }
+{
+    n == k.code.inputs
+        && is_row_width(k.code.inputs as u64)
+        && are_row_widths(k.outs.as_slice())
+        && is_formed_code(k)
+}
+
+fn of_code(alloc: Global, k: &CodeKernel, reads: &[QueueType]) -> Result<Option<Types>, NoMemory>
+    ensures { IfOk result (λ found. found ≡ types_of (code (code_form k.now)) reads.now) }
+{
+    let Some(t) = only_flat(reads) else { return Ok(None) };
+    let Some(n) = width_of_rows(t) else { return Ok(None) };
+    if !is_fit_code(k, n) {
+        return Ok(None);
+    }
+    let outs = body_ports(alloc, k.outs.as_slice())?;
+    let vars = kept_slots(alloc, k.starts.as_slice())?;
+    Ok(Some(Types { outs, vars }))
+}
+
+// The variable of the slots that are kept, if there are any.
+fn kept_slots(alloc: Global, starts: &[i64]) -> Result<Listed<VarKind>, NoMemory>
+    ensures { IfOk result (λ vars. vars ≡ kept starts.now) }
+{
+    match starts {
+        [] => Ok(Listed::new(alloc)),
+        [_, ..] => private(alloc),
+    }
+}
+
+fn of_filter(alloc: Global, f: &Filter, reads: &[QueueType]) -> Result<Option<Types>, NoMemory>
+    ensures { IfOk result (λ found. found ≡ types_of (filter (filter_form f.now)) reads.now) }
+{
+    let Some(t) = only_flat(reads) else { return Ok(None) };
+    let Some(n) = width_of_rows(t) else { return Ok(None) };
+    let formed = n == 1 && is_formed_filter(f);
+    one_port(alloc, formed, QueueType::Flat(FlatType::Rows(1)), private(alloc)?)
+}
+
+fn of_duplicate(alloc: Global, n: u32, reads: &[QueueType], most: usize) -> Result<Option<Types>, NoMemory>
+    ensures { IfOk result (λ found. IsFound most (types_of (duplicate n) reads.now) found) }
+{
+    let Some(t) = only_flat(reads) else { return Ok(None) };
+    if !(is_row_type(t) && 1 <= n) {
+        return Ok(None);
+    }
+    if most < n as usize {
+        return Ok(None);
+    }
+    let outs = repeated(alloc, QueueType::Flat(t), n as usize)?;
+    Ok(Some(Types { outs, vars: Listed::new(alloc) }))
+}
+
+fn of_deal(alloc: Global, weights: &[i64], reads: &[QueueType]) -> Result<Option<Types>, NoMemory>
+    ensures { IfOk result (λ found. found ≡ types_of (deal weights.now) reads.now) }
+{
+    let Some(t) = only_flat(reads) else { return Ok(None) };
+    if !(is_row_type(t) && are_formed_weights(weights)) {
+        return Ok(None);
+    }
+    let outs = repeated(alloc, QueueType::Flat(t), weights.len())?;
+    Ok(Some(Types { outs, vars: private(alloc)? }))
+}
+
+fn of_collect(alloc: Global, weights: &[i64], reads: &[QueueType]) -> Result<Option<Types>, NoMemory>
+    ensures { IfOk result (λ found. found ≡ types_of (collect weights.now) reads.now) }
+{
+    let Some(t) = only_flats(reads, weights.len()) else { return Ok(None) };
+    let formed = is_row_type(t) && are_formed_weights(weights);
+    one_port(alloc, formed, QueueType::Flat(t), private(alloc)?)
+}
+
+fn of_unpack(alloc: Global, n: u32, reads: &[QueueType]) -> Result<Option<Types>, NoMemory>
+    ensures { IfOk result (λ found. found ≡ types_of (unpack n) reads.now) }
+{
+    let Some(t) = only_packs(reads, n as usize) else { return Ok(None) };
+    let formed = is_row_type(t) && 1 <= n;
+    one_port(alloc, formed, QueueType::Flat(t), private(alloc)?)
+}
+
+fn of_window(alloc: Global, w: &Window, reads: &[QueueType]) -> Result<Option<Types>, NoMemory>
+    ensures { IfOk result (λ found. found ≡ types_of (window w.now) reads.now) }
+{
+    let Some(t) = only_flat(reads) else { return Ok(None) };
+    let Some(n) = width_of_stream(t) else { return Ok(None) };
+    let formed = is_row_width(n as u64) && is_formed_window(w);
+    one_port(alloc, formed, QueueType::Flat(FlatType::Relation(n)), private(alloc)?)
+}
+
+fn is_bag_type(t: FlatType) -> bool
+    ensures { result ≡ is_bag t }
+{
+    match t {
+        FlatType::Rows(_) => false,
+        FlatType::Stream(_) | FlatType::Relation(_) => true,
+    }
+}
+
+fn of_select(alloc: Global, cond: &Expr, reads: &[QueueType]) -> Result<Option<Types>, NoMemory>
+    ensures { IfOk result (λ found. found ≡ types_of (select (term cond.now)) reads.now) }
+{
+    let Some(t) = only_flat(reads) else { return Ok(None) };
+    let formed = is_row_type(t) && is_bag_type(t) && is_formed_expr(cond, width(t), 0);
+    one_port(alloc, formed, QueueType::Flat(t), Listed::new(alloc))
+}
+
+fn of_project(alloc: Global, list: &Exprs, reads: &[QueueType]) -> Result<Option<Types>, NoMemory>
+    ensures { IfOk result (λ found. found ≡ types_of (project (terms list.now)) reads.now) }
+{
+    let Some(t) = only_flat(reads) else { return Ok(None) };
+    let Some(n) = width_of_relation(t) else { return Ok(None) };
+    let formed = is_row_width(n as u64) && is_row_width(list.len() as u64) && are_formed_exprs(list, n, 0);
+    if !formed {
+        return Ok(None);
+    }
+    one_port(alloc, formed, QueueType::Flat(FlatType::Relation(list.len() as u32)), Listed::new(alloc))
+}
+
+fn of_cross(alloc: Global, reads: &[QueueType]) -> Result<Option<Types>, NoMemory>
+    ensures { IfOk result (λ found. found ≡ types_of cross reads.now) }
+{
+    let Some((a, b)) = both_relations(reads) else { return Ok(None) };
+    if !(is_row_width(a as u64) && is_row_width(b as u64)) {
+        return Ok(None);
+    }
+    let formed = is_row_width((a + b) as u64);
+    one_port(alloc, formed, QueueType::Flat(FlatType::Relation(a + b)), private(alloc)?)
+}
+
+fn of_streamer(alloc: Global, reads: &[QueueType]) -> Result<Option<Types>, NoMemory>
+    ensures { IfOk result (λ found. (s : Streamer) → found ≡ types_of (streamer s) reads.now) }
+{
+    let Some(t) = only_flat(reads) else { return Ok(None) };
+    let Some(n) = width_of_relation(t) else { return Ok(None) };
+    one_port(alloc, is_row_width(n as u64), QueueType::Flat(FlatType::Stream(n)), private(alloc)?)
+}
+
+fn of_tally(alloc: Global, reads: &[QueueType]) -> Result<Option<Types>, NoMemory>
+    ensures { IfOk result (λ found. found ≡ types_of tally reads.now) }
+{
+    let Some(t) = only_flat(reads) else { return Ok(None) };
+    let Some(n) = width_of_rows(t) else { return Ok(None) };
+    if !is_row_width(n as u64) {
+        return Ok(None);
+    }
+    let mut vars = Listed::new(alloc);
+    vars.push(VarKind::Table(n as u64))?;
+    Ok(Some(Types { outs: Listed::new(alloc), vars }))
 }
