@@ -1,28 +1,27 @@
 // The types of what a kernel writes, from the types of what it reads.
-ghost use Rattle.std.specs.Prelude.{◌≡◌, IfOk, IsTrue, ◌↔◌, Option, Some, None, length, List, [], ◌∷◌, ◌++◌, ◌+◌, ◌&&◌, replicate, nat_eq, nat_le, slice_get};
+ghost use Rattle.std.specs.Prelude.{◌≡◌, ◌<◌, IfOk, OnOk, IsTrue, ◌↔◌, Option, Some, None, length, List, [], ◌∷◌, ◌++◌, ◌+◌, ◌&&◌, replicate, nat_eq, nat_le, slice_get};
 ghost use Rattle.std.specs.List.{list_all};
 ghost use Rattle.work_code.specs.Term.{term, terms};
 ghost use Rattle.kern_rows.specs.Forms.{code_form, filter_form};
 ghost use Rattle.river_kernels.specs.Formed.{is_width, is_term, is_code, is_filter, are_weights, is_window};
 ghost use Rattle.river_kernels.specs.Kern.{kern_of, code, filter, duplicate, deal, collect, packed, unpack, window, select, project, cross, streamer, tally, fused};
 ghost use Rattle.river_kernels.specs.Fits.{rows, stream, relation, width_of, is_sized, is_bag, ports, are_widths, kept, spliced};
-ghost use Rattle.river_kernels.specs.Types.{gives, only, rows_width, stream_width, relation_width, all_flat, all_packs, two_relations, types_of, packed_of, joined, IsFound, same_type};
+ghost use Rattle.river_kernels.specs.Types.{gives, only, rows_width, stream_width, relation_width, all_flat, all_packs, two_relations, types_of, packed_of, packed_outs, joined, IsFound, same_type};
 ghost use Rattle.river_kernels.specs.declared.types.VarKind.TheVariants.{Private, Table};
-ghost use Rattle.kern_bags.specs.declared.kernel.Streamer.{Streamer};
 
 use crate::formed::{
     are_formed_exprs, are_formed_weights, are_row_widths, is_formed_code, is_formed_expr,
     is_formed_filter, is_formed_window, is_row_width,
 };
 use crate::types::{Types, VarKind, are_all, body_ports, is_row_type, repeated, width};
-use kern_bags::Window;
+use kern_bags::{Streamer, Window};
 use kern_rows::{CodeKernel, Filter};
 use river_base::{FlatType, Listed, NoMemory, QueueType};
 use std::alloc::Global;
 use work_code::{Expr, Exprs};
 
 // The type of the only queue, where it carries no packs.
-fn only_flat(reads: &[QueueType]) -> Option<FlatType>
+pub(crate) fn only_flat(reads: &[QueueType]) -> Option<FlatType>
     ensures { result ≡ only reads.now }
 {
     match reads {
@@ -130,7 +129,7 @@ fn is_fit_code(k: &CodeKernel, n: u32) -> bool
         && is_formed_code(k)
 }
 
-fn of_code(alloc: Global, k: &CodeKernel, reads: &[QueueType]) -> Result<Option<Types>, NoMemory>
+pub(crate) fn of_code(alloc: Global, k: &CodeKernel, reads: &[QueueType]) -> Result<Option<Types>, NoMemory>
     ensures { IfOk result (λ found. found ≡ types_of (code (code_form k.now)) reads.now) }
 {
     let Some(t) = only_flat(reads) else { return Ok(None) };
@@ -153,7 +152,7 @@ fn kept_slots(alloc: Global, starts: &[i64]) -> Result<Listed<VarKind>, NoMemory
     }
 }
 
-fn of_filter(alloc: Global, f: &Filter, reads: &[QueueType]) -> Result<Option<Types>, NoMemory>
+pub(crate) fn of_filter(alloc: Global, f: &Filter, reads: &[QueueType]) -> Result<Option<Types>, NoMemory>
     ensures { IfOk result (λ found. found ≡ types_of (filter (filter_form f.now)) reads.now) }
 {
     let Some(t) = only_flat(reads) else { return Ok(None) };
@@ -162,7 +161,7 @@ fn of_filter(alloc: Global, f: &Filter, reads: &[QueueType]) -> Result<Option<Ty
     one_port(alloc, formed, QueueType::Flat(FlatType::Rows(1)), private(alloc)?)
 }
 
-fn of_duplicate(alloc: Global, n: u32, reads: &[QueueType], most: usize) -> Result<Option<Types>, NoMemory>
+pub(crate) fn of_duplicate(alloc: Global, n: u32, reads: &[QueueType], most: usize) -> Result<Option<Types>, NoMemory>
     ensures { IfOk result (λ found. IsFound most (types_of (duplicate n) reads.now) found) }
 {
     let Some(t) = only_flat(reads) else { return Ok(None) };
@@ -176,7 +175,7 @@ fn of_duplicate(alloc: Global, n: u32, reads: &[QueueType], most: usize) -> Resu
     Ok(Some(Types { outs, vars: Listed::new(alloc) }))
 }
 
-fn of_deal(alloc: Global, weights: &[i64], reads: &[QueueType]) -> Result<Option<Types>, NoMemory>
+pub(crate) fn of_deal(alloc: Global, weights: &[i64], reads: &[QueueType]) -> Result<Option<Types>, NoMemory>
     ensures { IfOk result (λ found. found ≡ types_of (deal weights.now) reads.now) }
 {
     let Some(t) = only_flat(reads) else { return Ok(None) };
@@ -187,7 +186,7 @@ fn of_deal(alloc: Global, weights: &[i64], reads: &[QueueType]) -> Result<Option
     Ok(Some(Types { outs, vars: private(alloc)? }))
 }
 
-fn of_collect(alloc: Global, weights: &[i64], reads: &[QueueType]) -> Result<Option<Types>, NoMemory>
+pub(crate) fn of_collect(alloc: Global, weights: &[i64], reads: &[QueueType]) -> Result<Option<Types>, NoMemory>
     ensures { IfOk result (λ found. found ≡ types_of (collect weights.now) reads.now) }
 {
     let Some(t) = only_flats(reads, weights.len()) else { return Ok(None) };
@@ -195,7 +194,7 @@ fn of_collect(alloc: Global, weights: &[i64], reads: &[QueueType]) -> Result<Opt
     one_port(alloc, formed, QueueType::Flat(t), private(alloc)?)
 }
 
-fn of_unpack(alloc: Global, n: u32, reads: &[QueueType]) -> Result<Option<Types>, NoMemory>
+pub(crate) fn of_unpack(alloc: Global, n: u32, reads: &[QueueType]) -> Result<Option<Types>, NoMemory>
     ensures { IfOk result (λ found. found ≡ types_of (unpack n) reads.now) }
 {
     let Some(t) = only_packs(reads, n as usize) else { return Ok(None) };
@@ -203,7 +202,7 @@ fn of_unpack(alloc: Global, n: u32, reads: &[QueueType]) -> Result<Option<Types>
     one_port(alloc, formed, QueueType::Flat(t), private(alloc)?)
 }
 
-fn of_window(alloc: Global, w: &Window, reads: &[QueueType]) -> Result<Option<Types>, NoMemory>
+pub(crate) fn of_window(alloc: Global, w: &Window, reads: &[QueueType]) -> Result<Option<Types>, NoMemory>
     ensures { IfOk result (λ found. found ≡ types_of (window w.now) reads.now) }
 {
     let Some(t) = only_flat(reads) else { return Ok(None) };
@@ -221,7 +220,7 @@ fn is_bag_type(t: FlatType) -> bool
     }
 }
 
-fn of_select(alloc: Global, cond: &Expr, reads: &[QueueType]) -> Result<Option<Types>, NoMemory>
+pub(crate) fn of_select(alloc: Global, cond: &Expr, reads: &[QueueType]) -> Result<Option<Types>, NoMemory>
     ensures { IfOk result (λ found. found ≡ types_of (select (term cond.now)) reads.now) }
 {
     let Some(t) = only_flat(reads) else { return Ok(None) };
@@ -229,7 +228,7 @@ fn of_select(alloc: Global, cond: &Expr, reads: &[QueueType]) -> Result<Option<T
     one_port(alloc, formed, QueueType::Flat(t), Listed::new(alloc))
 }
 
-fn of_project(alloc: Global, list: &Exprs, reads: &[QueueType]) -> Result<Option<Types>, NoMemory>
+pub(crate) fn of_project(alloc: Global, list: &Exprs, reads: &[QueueType]) -> Result<Option<Types>, NoMemory>
     ensures { IfOk result (λ found. found ≡ types_of (project (terms list.now)) reads.now) }
 {
     let Some(t) = only_flat(reads) else { return Ok(None) };
@@ -241,7 +240,7 @@ fn of_project(alloc: Global, list: &Exprs, reads: &[QueueType]) -> Result<Option
     one_port(alloc, formed, QueueType::Flat(FlatType::Relation(list.len() as u32)), Listed::new(alloc))
 }
 
-fn of_cross(alloc: Global, reads: &[QueueType]) -> Result<Option<Types>, NoMemory>
+pub(crate) fn of_cross(alloc: Global, reads: &[QueueType]) -> Result<Option<Types>, NoMemory>
     ensures { IfOk result (λ found. found ≡ types_of cross reads.now) }
 {
     let Some((a, b)) = both_relations(reads) else { return Ok(None) };
@@ -252,15 +251,15 @@ fn of_cross(alloc: Global, reads: &[QueueType]) -> Result<Option<Types>, NoMemor
     one_port(alloc, formed, QueueType::Flat(FlatType::Relation(a + b)), private(alloc)?)
 }
 
-fn of_streamer(alloc: Global, reads: &[QueueType]) -> Result<Option<Types>, NoMemory>
-    ensures { IfOk result (λ found. (s : Streamer) → found ≡ types_of (streamer s) reads.now) }
+pub(crate) fn of_streamer(alloc: Global, _s: &Streamer, reads: &[QueueType]) -> Result<Option<Types>, NoMemory>
+    ensures { IfOk result (λ found. found ≡ types_of (streamer _s.now) reads.now) }
 {
     let Some(t) = only_flat(reads) else { return Ok(None) };
     let Some(n) = width_of_relation(t) else { return Ok(None) };
     one_port(alloc, is_row_width(n as u64), QueueType::Flat(FlatType::Stream(n)), private(alloc)?)
 }
 
-fn of_tally(alloc: Global, reads: &[QueueType]) -> Result<Option<Types>, NoMemory>
+pub(crate) fn of_tally(alloc: Global, reads: &[QueueType]) -> Result<Option<Types>, NoMemory>
     ensures { IfOk result (λ found. found ≡ types_of tally reads.now) }
 {
     let Some(t) = only_flat(reads) else { return Ok(None) };
@@ -271,4 +270,43 @@ fn of_tally(alloc: Global, reads: &[QueueType]) -> Result<Option<Types>, NoMemor
     let mut vars = Listed::new(alloc);
     vars.push(VarKind::Table(n as u64))?;
     Ok(Some(Types { outs: Listed::new(alloc), vars }))
+}
+
+// One pack of what the kernel inside gives at its only port.
+pub(crate) fn one_pack(alloc: Global, within: &Types) -> Result<Option<Types>, NoMemory>
+    ensures { IfOk result (λ found. found ≡ packed_outs within.now.outs within.now.vars) }
+{
+    match (within.outs.as_slice(), within.vars.as_slice()) {
+        ([QueueType::Flat(u)], []) => {
+            one_port(alloc, true, QueueType::Pack(*u), Listed::new(alloc))
+        }
+        _ => Ok(None),
+    }
+}
+
+// Appends these.
+fn add_all<T: Copy + Drop>(list: &mut Listed<T>, more: &[T]) -> Result<(), NoMemory>
+    ensures { OnOk result (list.new ≡ list.old ++ more.now) }
+{
+    for x in more {
+        list.push(*x)?;
+    }
+    Ok(())
+}
+
+// The second kernel's ports in place of port `at` of the first; the first's variables, then the second's.
+pub(crate) fn splice(alloc: Global, first: &Types, second: &Types, at: usize) -> Result<Types, NoMemory>
+    requires { at < length first.now.outs }
+    ensures outs { IfOk result (λ both. both.outs ≡ spliced at first.now.outs second.now.outs) }
+    ensures vars { IfOk result (λ both. both.vars ≡ first.now.vars ++ second.now.vars) }
+{
+    let firsts = first.outs.as_slice();
+    let mut outs = Listed::new(alloc);
+    add_all(&mut outs, &firsts[..at])?;
+    add_all(&mut outs, second.outs.as_slice())?;
+    add_all(&mut outs, &firsts[at + 1..])?;
+    let mut vars = Listed::new(alloc);
+    add_all(&mut vars, first.vars.as_slice())?;
+    add_all(&mut vars, second.vars.as_slice())?;
+    Ok(Types { outs, vars })
 }

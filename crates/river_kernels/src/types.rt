@@ -94,3 +94,15 @@ fn rows_of(width: i64) -> QueueType
 {
     QueueType::Flat(FlatType::Rows(count(width) as u32))
 }
+
+pub(crate) fn are_same_types(a: &[QueueType], b: &[QueueType]) -> bool
+    ensures { IsTrue result ↔ (a.now ≡ b.now) }
+{
+    a == b
+}
+
+pub(crate) fn are_same_vars(a: &[VarKind], b: &[VarKind]) -> bool
+    ensures { IsTrue result ↔ (a.now ≡ b.now) }
+{
+    a == b
+}
