@@ -15,7 +15,12 @@ use std::alloc::Global;
 
 // The types of the kernel's output ports and its variables, where it is well formed, may read queues of these types, and has at
 // most so many output ports.
-fn types(alloc: Global, kernel: &Kernel, reads: &[QueueType], most: usize) -> Result<Option<Types>, NoMemory>
+fn types(
+    alloc: Global,
+    kernel: &Kernel,
+    reads: &[QueueType],
+    most: usize,
+) -> Result<Option<Types>, NoMemory>
     ensures { IfOk result (λ found. IsFound most (types_of (kern_of kernel.now) reads.now) found) }
 {
     match kernel {
@@ -25,7 +30,9 @@ fn types(alloc: Global, kernel: &Kernel, reads: &[QueueType], most: usize) -> Re
         Kernel::Deal(weights) => of_deal(alloc, weights.as_slice(), reads),
         Kernel::Collect(weights) => of_collect(alloc, weights.as_slice(), reads),
         Kernel::Packed(inner) => {
-            let Some(t) = only_flat(reads) else { return Ok(None) };
+            let Some(t) = only_flat(reads) else {
+                return Ok(None)
+            };
             match types(alloc, inner, &[QueueType::Flat(t)], 1)? {
                 None => Ok(None),
                 Some(within) => one_pack(alloc, &within),
@@ -43,9 +50,15 @@ fn types(alloc: Global, kernel: &Kernel, reads: &[QueueType], most: usize) -> Re
             if most == usize::MAX {
                 return Err(NoMemory);
             }
-            let Some(one) = types(alloc, first, reads, most + 1)? else { return Ok(None) };
-            let Some(middle) = port_type(&one, *at) else { return Ok(None) };
-            let Some(two) = types(alloc, second, &[middle], most)? else { return Ok(None) };
+            let Some(one) = types(alloc, first, reads, most + 1)? else {
+                return Ok(None)
+            };
+            let Some(middle) = port_type(&one, *at) else {
+                return Ok(None)
+            };
+            let Some(two) = types(alloc, second, &[middle], most)? else {
+                return Ok(None)
+            };
             Ok(Some(splice(alloc, &one, &two, *at as usize)?))
         }
     }
@@ -58,15 +71,27 @@ fn port_type(found: &Types, at: u32) -> Option<QueueType>
     found.outs.as_slice().get(at as usize).copied()
 }
 
+// Whether these are the types and the variables that were found.
+fn is_found(found: &Types, writes: &[QueueType], vars: &[VarKind]) -> bool
+    ensures { IsTrue result ↔ ((found.now.outs ≡ writes.now) × (found.now.vars ≡ vars.now)) }
+{
+    are_same_types(found.outs.as_slice(), writes) && are_same_vars(found.vars.as_slice(), vars)
+}
+
 /// Whether the kernel is well formed, reads queues of these types, writes queues of these types, and has these variables, in the
 /// order of its parts; all widths are 1 to 16, those of ports inside it included. Takes no more memory than the lists of types and
 /// the kernel themselves, whatever numbers the kernel has.
-pub fn fits(alloc: Global, kernel: &Kernel, reads: &[QueueType], writes: &[QueueType], vars: &[VarKind]) -> Result<bool, NoMemory>
+pub fn fits(
+    alloc: Global,
+    kernel: &Kernel,
+    reads: &[QueueType],
+    writes: &[QueueType],
+    vars: &[VarKind],
+) -> Result<bool, NoMemory>
     ensures { IfOk result (λ fit. IsTrue fit ↔ Fits (kern_of kernel.now) reads.now writes.now vars.now) }
 {
     match types(alloc, kernel, reads, writes.len())? {
         None => Ok(false),
-        Some(found) => Ok(are_same_types(found.outs.as_slice(), writes)
-            && are_same_vars(found.vars.as_slice(), vars)),
+        Some(found) => Ok(is_found(&found, writes, vars)),
     }
 }

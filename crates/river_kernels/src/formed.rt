@@ -119,7 +119,11 @@ fn left_after_one(s: &Stmt, room: u32) -> Option<u32>
         Stmt::Push { .. } => room.checked_sub(1),
         Stmt::If { yes, no, .. } => {
             let left = left_after(yes, room)?;
-            if left_after(no, room)? == left { Some(left) } else { None }
+            if left_after(no, room)? == left {
+                Some(left)
+            } else {
+                None
+            }
         }
     }
 }

@@ -94,7 +94,10 @@ fn both_relations(reads: &[QueueType]) -> Option<(u32, u32)>
     ensures { result ≡ two_relations reads.now }
 {
     match reads {
-        [QueueType::Flat(FlatType::Relation(a)), QueueType::Flat(FlatType::Relation(b))] => Some((*a, *b)),
+        [
+            QueueType::Flat(FlatType::Relation(a)),
+            QueueType::Flat(FlatType::Relation(b)),
+        ] => Some((*a, *b)),
         _ => None,
     }
 }
@@ -109,7 +112,12 @@ fn private(alloc: Global) -> Result<Listed<VarKind>, NoMemory>
 }
 
 // One output port and these variables, where the kernel is well formed.
-fn one_port(alloc: Global, formed: bool, out: QueueType, vars: Listed<VarKind>) -> Result<Option<Types>, NoMemory>
+fn one_port(
+    alloc: Global,
+    formed: bool,
+    out: QueueType,
+    vars: Listed<VarKind>,
+) -> Result<Option<Types>, NoMemory>
     ensures { IfOk result (λ found. found ≡ gives formed (out ∷ []) vars) }
 {
     if !formed {
@@ -129,11 +137,19 @@ fn is_fit_code(k: &CodeKernel, n: u32) -> bool
         && is_formed_code(k)
 }
 
-pub(crate) fn of_code(alloc: Global, k: &CodeKernel, reads: &[QueueType]) -> Result<Option<Types>, NoMemory>
+pub(crate) fn of_code(
+    alloc: Global,
+    k: &CodeKernel,
+    reads: &[QueueType],
+) -> Result<Option<Types>, NoMemory>
     ensures { IfOk result (λ found. found ≡ types_of (code (code_form k.now)) reads.now) }
 {
-    let Some(t) = only_flat(reads) else { return Ok(None) };
-    let Some(n) = width_of_rows(t) else { return Ok(None) };
+    let Some(t) = only_flat(reads) else {
+        return Ok(None)
+    };
+    let Some(n) = width_of_rows(t) else {
+        return Ok(None)
+    };
     if !is_fit_code(k, n) {
         return Ok(None);
     }
@@ -152,19 +168,39 @@ fn kept_slots(alloc: Global, starts: &[i64]) -> Result<Listed<VarKind>, NoMemory
     }
 }
 
-pub(crate) fn of_filter(alloc: Global, f: &Filter, reads: &[QueueType]) -> Result<Option<Types>, NoMemory>
+pub(crate) fn of_filter(
+    alloc: Global,
+    f: &Filter,
+    reads: &[QueueType],
+) -> Result<Option<Types>, NoMemory>
     ensures { IfOk result (λ found. found ≡ types_of (filter (filter_form f.now)) reads.now) }
 {
-    let Some(t) = only_flat(reads) else { return Ok(None) };
-    let Some(n) = width_of_rows(t) else { return Ok(None) };
+    let Some(t) = only_flat(reads) else {
+        return Ok(None)
+    };
+    let Some(n) = width_of_rows(t) else {
+        return Ok(None)
+    };
     let formed = n == 1 && is_formed_filter(f);
-    one_port(alloc, formed, QueueType::Flat(FlatType::Rows(1)), private(alloc)?)
+    one_port(
+        alloc,
+        formed,
+        QueueType::Flat(FlatType::Rows(1)),
+        private(alloc)?,
+    )
 }
 
-pub(crate) fn of_duplicate(alloc: Global, n: u32, reads: &[QueueType], most: usize) -> Result<Option<Types>, NoMemory>
+pub(crate) fn of_duplicate(
+    alloc: Global,
+    n: u32,
+    reads: &[QueueType],
+    most: usize,
+) -> Result<Option<Types>, NoMemory>
     ensures { IfOk result (λ found. IsFound most (types_of (duplicate n) reads.now) found) }
 {
-    let Some(t) = only_flat(reads) else { return Ok(None) };
+    let Some(t) = only_flat(reads) else {
+        return Ok(None)
+    };
     if !(is_row_type(t) && 1 <= n) {
         return Ok(None);
     }
@@ -172,43 +208,80 @@ pub(crate) fn of_duplicate(alloc: Global, n: u32, reads: &[QueueType], most: usi
         return Ok(None);
     }
     let outs = repeated(alloc, QueueType::Flat(t), n as usize)?;
-    Ok(Some(Types { outs, vars: Listed::new(alloc) }))
+    Ok(Some(Types {
+        outs,
+        vars: Listed::new(alloc),
+    }))
 }
 
-pub(crate) fn of_deal(alloc: Global, weights: &[i64], reads: &[QueueType]) -> Result<Option<Types>, NoMemory>
+pub(crate) fn of_deal(
+    alloc: Global,
+    weights: &[i64],
+    reads: &[QueueType],
+) -> Result<Option<Types>, NoMemory>
     ensures { IfOk result (λ found. found ≡ types_of (deal weights.now) reads.now) }
 {
-    let Some(t) = only_flat(reads) else { return Ok(None) };
+    let Some(t) = only_flat(reads) else {
+        return Ok(None)
+    };
     if !(is_row_type(t) && are_formed_weights(weights)) {
         return Ok(None);
     }
     let outs = repeated(alloc, QueueType::Flat(t), weights.len())?;
-    Ok(Some(Types { outs, vars: private(alloc)? }))
+    Ok(Some(Types {
+        outs,
+        vars: private(alloc)?,
+    }))
 }
 
-pub(crate) fn of_collect(alloc: Global, weights: &[i64], reads: &[QueueType]) -> Result<Option<Types>, NoMemory>
+pub(crate) fn of_collect(
+    alloc: Global,
+    weights: &[i64],
+    reads: &[QueueType],
+) -> Result<Option<Types>, NoMemory>
     ensures { IfOk result (λ found. found ≡ types_of (collect weights.now) reads.now) }
 {
-    let Some(t) = only_flats(reads, weights.len()) else { return Ok(None) };
+    let Some(t) = only_flats(reads, weights.len()) else {
+        return Ok(None)
+    };
     let formed = is_row_type(t) && are_formed_weights(weights);
     one_port(alloc, formed, QueueType::Flat(t), private(alloc)?)
 }
 
-pub(crate) fn of_unpack(alloc: Global, n: u32, reads: &[QueueType]) -> Result<Option<Types>, NoMemory>
+pub(crate) fn of_unpack(
+    alloc: Global,
+    n: u32,
+    reads: &[QueueType],
+) -> Result<Option<Types>, NoMemory>
     ensures { IfOk result (λ found. found ≡ types_of (unpack n) reads.now) }
 {
-    let Some(t) = only_packs(reads, n as usize) else { return Ok(None) };
+    let Some(t) = only_packs(reads, n as usize) else {
+        return Ok(None)
+    };
     let formed = is_row_type(t) && 1 <= n;
     one_port(alloc, formed, QueueType::Flat(t), private(alloc)?)
 }
 
-pub(crate) fn of_window(alloc: Global, w: &Window, reads: &[QueueType]) -> Result<Option<Types>, NoMemory>
+pub(crate) fn of_window(
+    alloc: Global,
+    w: &Window,
+    reads: &[QueueType],
+) -> Result<Option<Types>, NoMemory>
     ensures { IfOk result (λ found. found ≡ types_of (window w.now) reads.now) }
 {
-    let Some(t) = only_flat(reads) else { return Ok(None) };
-    let Some(n) = width_of_stream(t) else { return Ok(None) };
+    let Some(t) = only_flat(reads) else {
+        return Ok(None)
+    };
+    let Some(n) = width_of_stream(t) else {
+        return Ok(None)
+    };
     let formed = is_row_width(n as u64) && is_formed_window(w);
-    one_port(alloc, formed, QueueType::Flat(FlatType::Relation(n)), private(alloc)?)
+    one_port(
+        alloc,
+        formed,
+        QueueType::Flat(FlatType::Relation(n)),
+        private(alloc)?,
+    )
 }
 
 fn is_bag_type(t: FlatType) -> bool
@@ -220,56 +293,104 @@ fn is_bag_type(t: FlatType) -> bool
     }
 }
 
-pub(crate) fn of_select(alloc: Global, cond: &Expr, reads: &[QueueType]) -> Result<Option<Types>, NoMemory>
+pub(crate) fn of_select(
+    alloc: Global,
+    cond: &Expr,
+    reads: &[QueueType],
+) -> Result<Option<Types>, NoMemory>
     ensures { IfOk result (λ found. found ≡ types_of (select (term cond.now)) reads.now) }
 {
-    let Some(t) = only_flat(reads) else { return Ok(None) };
+    let Some(t) = only_flat(reads) else {
+        return Ok(None)
+    };
     let formed = is_row_type(t) && is_bag_type(t) && is_formed_expr(cond, width(t), 0);
     one_port(alloc, formed, QueueType::Flat(t), Listed::new(alloc))
 }
 
-pub(crate) fn of_project(alloc: Global, list: &Exprs, reads: &[QueueType]) -> Result<Option<Types>, NoMemory>
+pub(crate) fn of_project(
+    alloc: Global,
+    list: &Exprs,
+    reads: &[QueueType],
+) -> Result<Option<Types>, NoMemory>
     ensures { IfOk result (λ found. found ≡ types_of (project (terms list.now)) reads.now) }
 {
-    let Some(t) = only_flat(reads) else { return Ok(None) };
-    let Some(n) = width_of_relation(t) else { return Ok(None) };
-    let formed = is_row_width(n as u64) && is_row_width(list.len() as u64) && are_formed_exprs(list, n, 0);
+    let Some(t) = only_flat(reads) else {
+        return Ok(None)
+    };
+    let Some(n) = width_of_relation(t) else {
+        return Ok(None)
+    };
+    let formed = is_row_width(n as u64)
+        && is_row_width(list.len() as u64)
+        && are_formed_exprs(list, n, 0);
     if !formed {
         return Ok(None);
     }
-    one_port(alloc, formed, QueueType::Flat(FlatType::Relation(list.len() as u32)), Listed::new(alloc))
+    one_port(
+        alloc,
+        formed,
+        QueueType::Flat(FlatType::Relation(list.len() as u32)),
+        Listed::new(alloc),
+    )
 }
 
 pub(crate) fn of_cross(alloc: Global, reads: &[QueueType]) -> Result<Option<Types>, NoMemory>
     ensures { IfOk result (λ found. found ≡ types_of cross reads.now) }
 {
-    let Some((a, b)) = both_relations(reads) else { return Ok(None) };
+    let Some((a, b)) = both_relations(reads) else {
+        return Ok(None)
+    };
     if !(is_row_width(a as u64) && is_row_width(b as u64)) {
         return Ok(None);
     }
     let formed = is_row_width((a + b) as u64);
-    one_port(alloc, formed, QueueType::Flat(FlatType::Relation(a + b)), private(alloc)?)
+    one_port(
+        alloc,
+        formed,
+        QueueType::Flat(FlatType::Relation(a + b)),
+        private(alloc)?,
+    )
 }
 
-pub(crate) fn of_streamer(alloc: Global, _s: &Streamer, reads: &[QueueType]) -> Result<Option<Types>, NoMemory>
+pub(crate) fn of_streamer(
+    alloc: Global,
+    _s: &Streamer,
+    reads: &[QueueType],
+) -> Result<Option<Types>, NoMemory>
     ensures { IfOk result (λ found. found ≡ types_of (streamer _s.now) reads.now) }
 {
-    let Some(t) = only_flat(reads) else { return Ok(None) };
-    let Some(n) = width_of_relation(t) else { return Ok(None) };
-    one_port(alloc, is_row_width(n as u64), QueueType::Flat(FlatType::Stream(n)), private(alloc)?)
+    let Some(t) = only_flat(reads) else {
+        return Ok(None)
+    };
+    let Some(n) = width_of_relation(t) else {
+        return Ok(None)
+    };
+    one_port(
+        alloc,
+        is_row_width(n as u64),
+        QueueType::Flat(FlatType::Stream(n)),
+        private(alloc)?,
+    )
 }
 
 pub(crate) fn of_tally(alloc: Global, reads: &[QueueType]) -> Result<Option<Types>, NoMemory>
     ensures { IfOk result (λ found. found ≡ types_of tally reads.now) }
 {
-    let Some(t) = only_flat(reads) else { return Ok(None) };
-    let Some(n) = width_of_rows(t) else { return Ok(None) };
+    let Some(t) = only_flat(reads) else {
+        return Ok(None)
+    };
+    let Some(n) = width_of_rows(t) else {
+        return Ok(None)
+    };
     if !is_row_width(n as u64) {
         return Ok(None);
     }
     let mut vars = Listed::new(alloc);
     vars.push(VarKind::Table(n as u64))?;
-    Ok(Some(Types { outs: Listed::new(alloc), vars }))
+    Ok(Some(Types {
+        outs: Listed::new(alloc),
+        vars,
+    }))
 }
 
 // One pack of what the kernel inside gives at its only port.
@@ -295,7 +416,12 @@ fn add_all<T: Copy + Drop>(list: &mut Listed<T>, more: &[T]) -> Result<(), NoMem
 }
 
 // The second kernel's ports in place of port `at` of the first; the first's variables, then the second's.
-pub(crate) fn splice(alloc: Global, first: &Types, second: &Types, at: usize) -> Result<Types, NoMemory>
+pub(crate) fn splice(
+    alloc: Global,
+    first: &Types,
+    second: &Types,
+    at: usize,
+) -> Result<Types, NoMemory>
     requires { at < length first.now.outs }
     ensures outs { IfOk result (λ both. both.outs ≡ spliced at first.now.outs second.now.outs) }
     ensures vars { IfOk result (λ both. both.vars ≡ first.now.vars ++ second.now.vars) }

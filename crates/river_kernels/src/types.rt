@@ -66,7 +66,11 @@ pub(crate) fn are_all(kinds: &[QueueType], kind: QueueType) -> bool
 }
 
 // So many queues of one type.
-pub(crate) fn repeated(alloc: Global, kind: QueueType, n: usize) -> Result<Listed<QueueType>, NoMemory>
+pub(crate) fn repeated(
+    alloc: Global,
+    kind: QueueType,
+    n: usize,
+) -> Result<Listed<QueueType>, NoMemory>
     ensures { IfOk result (λ kinds. kinds ≡ replicate n kind) }
 {
     let mut kinds = Listed::new(alloc);
