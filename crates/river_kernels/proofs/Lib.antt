@@ -1,5 +1,6 @@
 pub mod EqualLemmas
 pub mod FitsLaw
+pub mod FoundLemmas
 pub mod LimitLemmas
 pub mod FoundLemmas
 pub mod TypeLemmas
