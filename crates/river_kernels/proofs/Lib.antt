@@ -2,6 +2,5 @@ pub mod EqualLemmas
 pub mod FitsLaw
 pub mod FoundLemmas
 pub mod LimitLemmas
-pub mod FoundLemmas
 pub mod TypeLemmas
 pub mod KernLemmas
