@@ -14,3 +14,6 @@ pub use fault::Fault;
 pub use language::Language;
 pub use reader::Reader;
 pub use tree::Tree;
+
+#[cfg(test)]
+mod tests;

@@ -1,0 +1,4 @@
+pub mod Bodies
+pub mod Kernels
+pub mod Steps
+pub mod Trees

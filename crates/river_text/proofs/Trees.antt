@@ -1,0 +1,17 @@
+-- The trees of statements that were read.
+use Rattle.std.proofs.Common.{◌≡◌, refl, sym, ap, ◌∙◌, List}
+use Rattle.std.specs.Prelude.{map}
+use Rattle.work_code.specs.declared.expr.Expr.{Expr}
+use Rattle.work_code.specs.declared.code.Stmt.{Stmt, fold-roll-Stmt}
+use Rattle.work_code.specs.declared.code.Stmt as built
+use Rattle.work_code.specs.declared.code.Stmt.TheVariants.{rolls-If}
+use Rattle.work_code.specs.declared.code.Stmt.TheOpen as layer
+use Rattle.work_code.specs.declared.code.Stmts.{Stmts, fold_out-Stmts}
+use Rattle.work_code.specs.Term.{term}
+use Rattle.work_code.specs.Steps.{Step, Steps, If, step, steps, statements, in_turn, step_at, steps_at}
+
+pub step-if : (c : Expr) (a b : Stmts) → step (built.If c a b) ≡ If (term c) (steps a) (steps b)
+step-if c a b = ap step (sym (rolls-If c a b)) ∙ fold-roll-Stmt Step Steps step_at steps_at (layer.If c a b)
+
+pub steps-list : (l : Stmts) → steps l ≡ in_turn (map step (statements l))
+steps-list l = fold_out-Stmts Step Steps step_at steps_at l

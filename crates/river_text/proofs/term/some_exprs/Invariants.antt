@@ -1,0 +1,12 @@
+use Rattle.std.proofs.Common.{◌≡◌, length}
+use Rattle.text_forms.specs.Parse.{comma_turn}
+use Rattle.text_forms.specs.Repeat.{repeated}
+use Rattle.work_code.specs.Term.{terms}
+use Rattle.river_text.specs.ReadKernels.{term_at, some_terms_at}
+use Rattle.river_text.proofs.term.some_exprs.Given as goal
+
+abbrev pub invariant-items : goal.invariant-items
+invariant-items l = repeated (comma_turn (term_at l.brackets)) (terms l.list) l.reader ≡ some_terms_at l.brackets l.fn.reader
+
+abbrev pub decreases-items : goal.decreases-items
+decreases-items l = length l.reader

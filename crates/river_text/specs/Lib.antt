@@ -1,0 +1,3 @@
+pub mod Kernels
+pub mod Made
+pub mod ReadKernels

@@ -1,0 +1,135 @@
+// Numbers read.
+ghost use Rattle.std.specs.Prelude.{◌≡◌};
+ghost use Rattle.text_forms.specs.Gives.{Gives};
+ghost use Rattle.text_forms.specs.Parse.{commas, count_at, listing};
+ghost use Rattle.work_code.specs.declared.sign.Symbol.TheVariants as s;
+ghost use Rattle.river_text.specs.ReadKernels.{kind_at, signed_at, width_at, starts_at, widths_at, weights_at, number_at, pair_at, rates_at};
+
+use river_base::Numbers;
+use std::alloc::Global;
+use text_forms::{Fault, Reader};
+use work_code::Symbol;
+
+/// What a number in a list is.
+#[derive(Clone, Copy)]
+pub enum Kind {
+    /// The width of a port.
+    Width,
+    /// A value that may be below 0, or `min`.
+    Signed,
+    /// A value as it is written.
+    Value,
+}
+
+// A number of this kind.
+fn number_of(reader: &mut Reader<'_>, kind: Kind) -> Result<i64, Fault>
+    ensures { Gives (λ value. value) result reader.new (kind_at kind reader.old) }
+{
+    match kind {
+        Kind::Width => width(reader),
+        Kind::Signed => signed(reader),
+        Kind::Value => reader.value(),
+    }
+}
+
+// The width of a port.
+fn width(reader: &mut Reader<'_>) -> Result<i64, Fault>
+    ensures { Gives (λ value. value) result reader.new (width_at reader.old) }
+{
+    Ok(i64::from(reader.count()?))
+}
+
+// A value that may be below 0, or `min`.
+#[tactic(auto, unfolding(crate::specs::ReadKernels::signed_at))]
+fn signed(reader: &mut Reader<'_>) -> Result<i64, Fault>
+    ensures { Gives (λ value. value) result reader.new (signed_at reader.old) }
+{
+    if reader.takes(Symbol::Minus) {
+        return Ok(-reader.value()?);
+    }
+    if reader.is_at_word(b"min") {
+        reader.skip();
+        return Ok(i64::MIN);
+    }
+    reader.value()
+}
+
+// Numbers of this kind with commas between them, at least one.
+#[tactic(auto, using(crate::proofs::Steps::numbers))]
+fn some_numbers(reader: &mut Reader<'_>, alloc: Global, kind: Kind) -> Result<Numbers, Fault>
+    ensures { Gives (λ list. list) result reader.new (commas (kind_at kind) reader.old) }
+{
+    let mut list = Numbers::new(alloc);
+    list.push(number_of(reader, kind)?)?;
+    'items: while reader.takes(Symbol::Comma) {
+        list.push(number_of(reader, kind)?)?;
+    }
+    Ok(list)
+}
+
+// Numbers of this kind with commas between them, or none before a closing bracket.
+fn numbers(reader: &mut Reader<'_>, alloc: Global, kind: Kind) -> Result<Numbers, Fault>
+    ensures { Gives (λ list. list) result reader.new (listing s.Close (kind_at kind) reader.old) }
+{
+    if reader.is_at(Symbol::Close) {
+        return Ok(Numbers::new(alloc));
+    }
+    some_numbers(reader, alloc, kind)
+}
+
+/// `(` the kept values at the start `)`
+#[tactic(auto, unfolding(crate::specs::ReadKernels::starts_at))]
+pub fn starts(reader: &mut Reader<'_>, alloc: Global, brackets: u32) -> Result<Numbers, Fault>
+    ensures { Gives (λ list. list) result reader.new (starts_at brackets reader.old) }
+{
+    reader.opens(Symbol::Open, brackets)?;
+    let list = numbers(reader, alloc, Kind::Signed)?;
+    reader.expect(&[Symbol::Close])?;
+    Ok(list)
+}
+
+/// `(` the widths of the output ports `)`
+#[tactic(auto, unfolding(crate::specs::ReadKernels::widths_at))]
+pub fn widths(reader: &mut Reader<'_>, alloc: Global, brackets: u32) -> Result<Numbers, Fault>
+    ensures { Gives (λ list. list) result reader.new (widths_at brackets reader.old) }
+{
+    reader.opens(Symbol::Open, brackets)?;
+    let list = numbers(reader, alloc, Kind::Width)?;
+    reader.expect(&[Symbol::Close])?;
+    Ok(list)
+}
+
+/// `(` the weights of the ports `)`
+#[tactic(auto, unfolding(crate::specs::ReadKernels::weights_at))]
+pub fn weights(reader: &mut Reader<'_>, alloc: Global, brackets: u32) -> Result<Numbers, Fault>
+    ensures { Gives (λ list. list) result reader.new (weights_at brackets reader.old) }
+{
+    reader.opens(Symbol::Open, brackets)?;
+    let list = some_numbers(reader, alloc, Kind::Value)?;
+    reader.expect(&[Symbol::Close])?;
+    Ok(list)
+}
+
+/// `(N)`
+#[tactic(auto, unfolding(crate::specs::ReadKernels::number_at))]
+pub fn number(reader: &mut Reader<'_>, brackets: u32) -> Result<u32, Fault>
+    ensures { Gives (λ value. value) result reader.new (number_at brackets reader.old) }
+{
+    reader.opens(Symbol::Open, brackets)?;
+    let value = reader.count()?;
+    reader.expect(&[Symbol::Close])?;
+    Ok(value)
+}
+
+/// `(N, N)`
+#[tactic(auto, unfolding(crate::specs::ReadKernels::pair_at))]
+pub fn pair(reader: &mut Reader<'_>, brackets: u32) -> Result<(u32, u32), Fault>
+    ensures { Gives (λ value. value) result reader.new (pair_at brackets reader.old) }
+{
+    reader.opens(Symbol::Open, brackets)?;
+    let first = reader.count()?;
+    reader.expect(&[Symbol::Comma])?;
+    let second = reader.count()?;
+    reader.expect(&[Symbol::Close])?;
+    Ok((first, second))
+}
