@@ -2,8 +2,6 @@ pub mod Codes
 pub mod EqualLemmas
 pub mod FitsLaw
 pub mod FoundLemmas
-pub mod LimitLemmas
-pub mod TypeLemmas
 pub mod KernLemmas
 pub mod LimitLemmas
 pub mod TypeLemmas
