@@ -1,3 +1,4 @@
+pub mod MapLemmas
 pub mod NameLemmas
 pub mod OverLemmas
 pub mod Remains

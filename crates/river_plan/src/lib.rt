@@ -6,6 +6,7 @@ mod fault;
 pub mod laws;
 mod limit;
 mod lists;
+mod name_map;
 mod name_set;
 mod once;
 mod op;
