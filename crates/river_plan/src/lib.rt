@@ -3,9 +3,11 @@
 
 mod declared;
 mod fault;
+mod judge;
 pub mod laws;
 mod limit;
 mod lists;
+mod misfit;
 mod name_map;
 mod name_set;
 mod once;
@@ -19,8 +21,9 @@ mod types;
 mod valid;
 
 pub use fault::{Named, PlanFault};
+pub use judge::check;
 pub use op::{Names, Op, Ops};
+pub use plan::{Decl, Decls, RawPlan, TableDecl, TableDecls};
 pub use river_base::{FlatType, QueueType};
 pub use river_kernels::{Kernel, Limit};
 pub use valid::Plan;
-pub use plan::{Decl, Decls, RawPlan, TableDecl, TableDecls};

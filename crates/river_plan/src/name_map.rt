@@ -14,7 +14,10 @@ use river_kernels::VarKind;
 use std::alloc::Global;
 
 /// The types of the queues by their names.
-pub(crate) fn queue_kinds(alloc: Global, raw: &RawPlan) -> Result<IndexMap<Name, QueueType>, NoMemory>
+pub(crate) fn queue_kinds(
+    alloc: Global,
+    raw: &RawPlan,
+) -> Result<IndexMap<Name, QueueType>, NoMemory>
     ensures { IfOk result (λ map. (q : Name) → get name_eq map q ≡ kind_in (all_decls (plan_form raw.now)) q) }
 {
     let mut map = IndexMap::new(alloc);

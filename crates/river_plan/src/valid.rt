@@ -18,7 +18,6 @@ pub struct Plan {
 impl Model for Plan {
     ghost use Rattle.river_plan.specs.Forms.{PlanForm, plan_form};
     ghost use Rattle.river_plan.specs.Valid.{IsPlan};
-
     ghost use Rattle.river_plan.specs.PlanCode.{plan_code};
 
     ghost Value = { PlanForm };
