@@ -43,15 +43,15 @@ pub exact-signed : Exact Signed signed_at Any
 unfolding signed_at
 exact-signed =
     exact-less (exact-merged (parse.begins_with s.Minus) (exact-after (s.Minus ∷ []) (exact-seen neg_ℤ exact-value))
-      (exact-merged (parse.is_word_at (codes "min")) (exact-after_word (codes "min") (exact-nothing least)) exact-value min_comes (λ v ts rest h d. rw h.formed refl))
-      (λ v ts rest h d. rw h.is refl) other) (λ rest d. (tt, (tt, tt)))
+    (exact-merged (parse.is_word_at (codes "min")) (exact-after_word (codes "min") (exact-nothing least)) exact-value min_comes (λ v ts rest h d. rw h.formed refl))
+    (λ v ts rest h d. rw h.is refl) other) (λ rest d. (tt, (tt, tt)))
   where
-  min_comes : (v : ℤ) (ts rest : List Tok) → form.AfterWord (codes "min") (form.Nothing least) v ts → Any rest → parse.is_word_at (codes "min") (ts ++ rest) ≡ true
-  min_comes v ts rest h d = rw h.is refl
+    min_comes : (v : ℤ) (ts rest : List Tok) → form.AfterWord (codes "min") (form.Nothing least) v ts → Any rest → parse.is_word_at (codes "min") (ts ++ rest) ≡ true
+    min_comes v ts rest h d = rw h.is refl
 
-  other : (v : ℤ) (ts rest : List Tok) → form.Merged (form.AfterWord (codes "min") (form.Nothing least)) form.Value v ts → Any rest × Any rest → parse.begins_with s.Minus (ts ++ rest) ≡ false
-  other v ts rest (inl h) d = rw h.is refl
-  other v ts rest (inr h) d = rw h.formed refl
+    other : (v : ℤ) (ts rest : List Tok) → form.Merged (form.AfterWord (codes "min") (form.Nothing least)) form.Value v ts → Any rest × Any rest → parse.begins_with s.Minus (ts ++ rest) ≡ false
+    other v ts rest (inl h) d = rw h.is refl
+    other v ts rest (inr h) d = rw h.formed refl
 
 signed-begins : (v : ℤ) (ts rest : List Tok) → Signed v ts → parse.begins_with s.Close (ts ++ rest) ≡ false
 signed-begins v ts rest (inl h) = rw h.is refl
@@ -104,8 +104,8 @@ unfolding else_at
 exact-else {body} {p} x n =
     exact-less (exact-seen or_done (exact-maybe (parse.is_word_at (codes "else")) (exact-after_word (codes "else") (x n)) else_comes)) (λ rest d. (tt, d))
   where
-  else_comes : (v : Steps) (ts rest : List Tok) → form.AfterWord (codes "else") (body n) v ts → parse.is_word_at (codes "else") (ts ++ rest) ≡ true
-  else_comes v ts rest h = rw h.is refl
+    else_comes : (v : Steps) (ts rest : List Tok) → form.AfterWord (codes "else") (body n) v ts → parse.is_word_at (codes "else") (ts ++ rest) ≡ true
+    else_comes v ts rest h = rw h.is refl
 
 exact-if : {body : ℕ → Steps → List Tok → Type 0} {p : ℕ → Parse Steps} → ((n : ℕ) → Exact (body n) (p n) Any) → (n : ℕ) → Exact (IsIf body n) (if_at p n) NoElse
 unfolding if_at
@@ -124,14 +124,22 @@ not-else w word other e = ap (λ (v : List ℕ). bytes_eq v (codes "else")) (wor
 
 stmt-word : (nest n : ℕ) (v : Step) (ts : List Tok) → IsStmt nest n v ts → (w : List ℕ) × (back : List Tok) × (ts ≡ name w ∷ back) × (bytes_eq w (codes "else") ≡ false)
 unfolding IsStmt
-stmt-word zero n v ts h = (h.word, h.back, h.is,
-    chosen (IsSet n) _ (bytes_eq h.word (codes "slot")) v h.back h.formed (not-else h.word (codes "slot") refl) (λ g.
-    chosen (IsPush n) _ (bytes_eq h.word (codes "push")) v h.back g (not-else h.word (codes "push") refl) (λ f.
-    chosen form.Never form.Never (bytes_eq h.word (codes "if")) v h.back f (not-else h.word (codes "if") refl) (λ never. absurd never))))
-stmt-word (suc nest) n v ts h = (h.word, h.back, h.is,
-    chosen (IsSet n) _ (bytes_eq h.word (codes "slot")) v h.back h.formed (not-else h.word (codes "slot") refl) (λ g.
-    chosen (IsPush n) _ (bytes_eq h.word (codes "push")) v h.back g (not-else h.word (codes "push") refl) (λ f.
-    chosen (IsIf (IsBodyOf (IsStmt nest)) n) form.Never (bytes_eq h.word (codes "if")) v h.back f (not-else h.word (codes "if") refl) (λ never. absurd never))))
+stmt-word zero n v ts h = (
+  h.word,
+  h.back,
+  h.is,
+  chosen (IsSet n) _ (bytes_eq h.word (codes "slot")) v h.back h.formed (not-else h.word (codes "slot") refl) (λ g.
+      chosen (IsPush n) _ (bytes_eq h.word (codes "push")) v h.back g (not-else h.word (codes "push") refl) (λ f.
+      chosen form.Never form.Never (bytes_eq h.word (codes "if")) v h.back f (not-else h.word (codes "if") refl) (λ never. absurd never))),
+)
+stmt-word (suc nest) n v ts h = (
+  h.word,
+  h.back,
+  h.is,
+  chosen (IsSet n) _ (bytes_eq h.word (codes "slot")) v h.back h.formed (not-else h.word (codes "slot") refl) (λ g.
+      chosen (IsPush n) _ (bytes_eq h.word (codes "push")) v h.back g (not-else h.word (codes "push") refl) (λ f.
+      chosen (IsIf (IsBodyOf (IsStmt nest)) n) form.Never (bytes_eq h.word (codes "if")) v h.back f (not-else h.word (codes "if") refl) (λ never. absurd never))),
+)
 
 pub listed-stmts : (nest n : ℕ) → Listed at_close (IsStmt nest n) NoElse
 listed-stmts nest n = record {

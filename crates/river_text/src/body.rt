@@ -47,7 +47,13 @@ fn stmt(reader: &mut Reader<'_>, alloc: Global, nest: u32, brackets: u32) -> Res
 // What stands behind this word of a statement.
 #[cycle(body)]
 #[tactic(auto, unfolding(crate::specs::ReadKernels::stmt_after))]
-fn stmt_after(reader: &mut Reader<'_>, alloc: Global, nest: u32, brackets: u32, word: &[u8]) -> Result<Stmt, Fault>
+fn stmt_after(
+    reader: &mut Reader<'_>,
+    alloc: Global,
+    nest: u32,
+    brackets: u32,
+    word: &[u8],
+) -> Result<Stmt, Fault>
     ensures { Gives step result reader.new (stmt_after (branch_at nest brackets) brackets word.now reader.old) }
 {
     if word == b"slot".as_slice() {
@@ -80,7 +86,12 @@ fn branch(reader: &mut Reader<'_>, alloc: Global, nest: u32, brackets: u32) -> R
 // `else` and a body, or nothing.
 #[cycle(body)]
 #[tactic(auto, unfolding(crate::specs::ReadKernels::else_at))]
-fn otherwise(reader: &mut Reader<'_>, alloc: Global, nest: u32, brackets: u32) -> Result<Stmts, Fault>
+fn otherwise(
+    reader: &mut Reader<'_>,
+    alloc: Global,
+    nest: u32,
+    brackets: u32,
+) -> Result<Stmts, Fault>
     ensures { Gives steps result reader.new (else_at (body_at nest) brackets reader.old) }
 {
     if !reader.is_at_word(b"else") {
@@ -93,7 +104,12 @@ fn otherwise(reader: &mut Reader<'_>, alloc: Global, nest: u32, brackets: u32) -
 /// `{` statements `}`, in which `if` may nest so deep.
 #[cycle(body)]
 #[tactic(auto, unfolding(crate::specs::ReadKernels::body_at))]
-pub fn body(reader: &mut Reader<'_>, alloc: Global, nest: u32, brackets: u32) -> Result<Stmts, Fault>
+pub fn body(
+    reader: &mut Reader<'_>,
+    alloc: Global,
+    nest: u32,
+    brackets: u32,
+) -> Result<Stmts, Fault>
     ensures { Gives steps result reader.new (body_at nest brackets reader.old) }
 {
     let inner = reader.opens(Symbol::OpenBrace, brackets)?;

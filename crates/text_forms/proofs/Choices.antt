@@ -74,7 +74,7 @@ unfolding parse.open_at
 exact-enclosed left right x follows zero = record { sound = λ ts v rest e. cc; complete = λ v s rest h d. absurd h }
 exact-enclosed {A} {F} {p} {E} left right x follows (suc n) =
     exact-as (exact-after (left ∷ []) (exact-before (right ∷ []) (x n) follows)) (λ v s h. h) (λ v s h. h)
-      (λ ts. ap (λ (k : ℕ). parse.then_rest (parse.run_at (left ∷ []) ts) (parse.before (p k) (right ∷ []))) (less-one n))
+    (λ ts. ap (λ (k : ℕ). parse.then_rest (parse.run_at (left ∷ []) ts) (parse.before (p k) (right ∷ []))) (less-one n))
 
 -- with commas between them, or none
 pub exact-listing : {A : Type 0} {F : A → List Tok → Type 0} {p : parse.Parse A} {E : List Tok → Type 0} (close : Symbol) → Exact F p E → ((rest : List Tok) → E (symbol Comma ∷ rest)) → ((v : A) (s rest : List Tok) → F v s → parse.begins_with close (s ++ rest) ≡ false)
@@ -82,9 +82,9 @@ pub exact-listing : {A : Type 0} {F : A → List Tok → Type 0} {p : parse.Pars
 exact-listing {A} {F} {p} {E} close x comma other =
     exact-as (exact-merged (parse.begins_with close) (exact-less (exact-nothing []) (λ rest (d : parse.begins_with close rest ≡ true). tt)) (exact-commas x comma) left right) (λ v s h. h) (λ v s h. h) (λ ts. refl)
   where
-  left : (v : List A) (s rest : List Tok) → form.Nothing [] v s → parse.begins_with close rest ≡ true → parse.begins_with close (s ++ rest) ≡ true
-  left v s rest h d = rw h.1 d
+    left : (v : List A) (s rest : List Tok) → form.Nothing [] v s → parse.begins_with close rest ≡ true → parse.begins_with close (s ++ rest) ≡ true
+    left v s rest h d = rw h.1 d
 
-  right : (v : List A) (s rest : List Tok) → form.Commas F v s → E rest × (parse.no_comma rest ≡ true) → parse.begins_with close (s ++ rest) ≡ false
-  right v s rest h d =
-      rw (h.formed.is, append_assoc h.formed.front h.formed.back rest) (other h.value.0 h.formed.front (h.formed.back ++ rest) h.formed.first)
+    right : (v : List A) (s rest : List Tok) → form.Commas F v s → E rest × (parse.no_comma rest ≡ true) → parse.begins_with close (s ++ rest) ≡ false
+    right v s rest h d =
+        rw (h.formed.is, append_assoc h.formed.front h.formed.back rest) (other h.value.0 h.formed.front (h.formed.back ++ rest) h.formed.first)

@@ -144,11 +144,11 @@ module _ {A : Type 0} {F : A → List Tok → Type 0} {p : parse.Parse A} {E : L
   same_turns (suc n) first done ts =
       ap (after_turn (turns (parse.comma_turn p) n) (first ∷ done) ts) (same_turn first done ts) ∙ by (parse.many_turn parse.no_comma (parse.after (Comma ∷ []) p) done ts) (λ more us. same_turns n first more us)
     where
-    by : (t : Turn (List A)) → ((more : List A) (us : List Tok) → turns (parse.comma_turn p) n (first ∷ more) us ≡ on_read first (turns (parse.many_turn parse.no_comma (parse.after (Comma ∷ []) p)) n more us))
-        → after_turn (turns (parse.comma_turn p) n) (first ∷ done) ts (on_turn first t) ≡ on_read first (after_turn (turns (parse.many_turn parse.no_comma (parse.after (Comma ∷ []) p)) n) done ts t)
-    by Stop f = refl
-    by Fail f = refl
-    by (Next more us) f = f more us
+      by : (t : Turn (List A)) → ((more : List A) (us : List Tok) → turns (parse.comma_turn p) n (first ∷ more) us ≡ on_read first (turns (parse.many_turn parse.no_comma (parse.after (Comma ∷ []) p)) n more us))
+          → after_turn (turns (parse.comma_turn p) n) (first ∷ done) ts (on_turn first t) ≡ on_read first (after_turn (turns (parse.many_turn parse.no_comma (parse.after (Comma ∷ []) p)) n) done ts t)
+      by Stop f = refl
+      by Fail f = refl
+      by (Next more us) f = f more us
 
   same_commas : (ts : List Tok) → parse.commas p ts ≡ commas_parts ts
   unfolding repeated

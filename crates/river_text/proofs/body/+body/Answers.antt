@@ -13,7 +13,7 @@ use Rattle.river_text.proofs.body.+body.Goals as goal
 pub branch-returns : goal.branch-returns
 branch-returns t c =
     branch-made c.args.nest c.args.brackets c.args.reader.now c.round_expr.new.reader c.body.new.reader c.otherwise.new.reader (term c.in_ok-cond.cond) (steps c.in_ok-yes.yes) (steps c.in_ok-no.no)
-      (omega (arith, c.if-nest-eq0.false)) c.in_ok-cond.ensures c.in_ok-yes.ensures c.in_ok-no.ensures
+    (omega (arith, c.if-nest-eq0.false)) c.in_ok-cond.ensures c.in_ok-yes.ensures c.in_ok-no.ensures
     ∙ ap (λ s. Some (s, c.otherwise.new.reader)) (sym (step-if c.in_ok-cond.cond c.in_ok-yes.yes c.in_ok-no.no))
 
 -- one statement more
