@@ -1,6 +1,7 @@
 -- Lists of items, up to what stops them.
 use Rattle.std.proofs.Common.{◌≡◌, ℕ, zero, suc, ◌<◌, ◌+◌, List, [], ◌∷◌, ◌++◌, length, Bool, true, false, cond, Option, Some, None, refl, sym, ap, ◌∙◌, subst, arith, append_assoc, append-nil, length-append}
-use Rattle.std.specs.Prelude.{not}
+use Rattle.std.specs.Prelude.{not, map}
+use Rattle.std.proofs.lemmas.List.{map-append}
 use Rattle.work_code.specs.Tok.{Tok, symbol}
 use Rattle.work_code.specs.declared.sign.Symbol.TheVariants.{Comma}
 use Rattle.text_forms.specs.Repeat.{Turn, Stop, Fail, Next, after_turn, turns, repeated}
@@ -190,6 +191,14 @@ module _ {A : Type 0} {F : A → List Tok → Type 0} {p : parse.Parse A} {E : L
   pub comma-next : (done : List A) (ts us : List Tok) (v : A) → parse.begins_with Comma ts ≡ true → p (tail ts) ≡ Some (v, us) → repeated (parse.comma_turn p) (done ++ v ∷ []) us ≡ repeated (parse.comma_turn p) done ts
   unfolding parse.comma_turn
   comma-next done ts us v comes read = sym (repeated-next (parse.comma_turn p) comma-shortens done ts (done ++ v ∷ []) us (rw (comes, read) refl))
+
+  -- the same, as a loop over a list of other values goes on: `b` says whether a comma was taken
+  pub comma-more : {X : Type 0} (f : X → A) (old new : List X) (i : X) (ts mid us : List Tok) (b : Bool) → new ≡ old ++ i ∷ [] → b ≡ true → b ≡ parse.begins_with Comma ts → mid ≡ cond b (tail ts) ts → p mid ≡ Some (f i, us)
+      → repeated (parse.comma_turn p) (map f new) us ≡ repeated (parse.comma_turn p) (map f old) ts
+  comma-more f old new i ts mid us b pushed holds comes taken read =
+      let rest : mid ≡ tail ts = taken ∙ ap (λ (c : Bool). cond c (tail ts) ts) holds in
+      ap (λ (l : List A). repeated (parse.comma_turn p) l us) (ap (map f) pushed ∙ map-append f old (i ∷ []))
+      ∙ comma-next (map f old) ts us (f i) (sym comes ∙ holds) (sym (ap p rest) ∙ read)
 
 pub comma-stop : {A : Type 0} (p : parse.Parse A) (done : List A) (ts : List Tok) → parse.begins_with Comma ts ≡ false → repeated (parse.comma_turn p) done ts ≡ Some (done, ts)
 unfolding parse.comma_turn

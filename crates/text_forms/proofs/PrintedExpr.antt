@@ -11,8 +11,9 @@ use Rattle.work_code.specs.Term.{Term, Const, Input, Slot, Neg, Not, Bin}
 use Rattle.work_code.specs.Term as term
 use Rattle.work_code.specs.Printed.{text_of, sign_text}
 use Rattle.work_code.specs.Lexis.{most, is_blank, first_is, is_word, is_letter, is_digit}
+use Rattle.work_code.specs.Symbols.{symbol_bytes}
 use Rattle.work_code.specs.Tok.{Tok, name, var, number, symbol}
-use Rattle.work_code.proofs.Spelled.{Spells, Anything, NoWord, NoSign, MayFollow, symbol_bytes, is_name_text, spells-nothing, spells-then, spells-less, spells-blank, spells-symbol, spells-name, spells-number, blank_follows, minus_follows, not_follows, decimal-first}
+use Rattle.work_code.proofs.Spelled.{Spells, Anything, NoWord, NoSign, MayFollow, is_name_text, spells-nothing, spells-then, spells-less, spells-blank, spells-symbol, spells-name, spells-number, blank_follows, minus_follows, not_follows, decimal-first}
 use Rattle.text_forms.specs.Parse.{is_count}
 use Rattle.text_forms.specs.Tree.{Spoken}
 use Rattle.text_forms.specs.Tree as tree
