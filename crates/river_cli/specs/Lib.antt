@@ -1,5 +1,6 @@
 pub mod Answer
 pub mod Commands
 pub mod Points
+pub mod Says
 pub mod Text
 pub mod Words

@@ -1,12 +1,12 @@
 -- The points of the words, in order.
-use Rattle.std.specs.Prelude.{ℕ, ℤ, List, Option, None, Some, Result, Ok, Err, option_map, codes}
+use Rattle.std.specs.Prelude.{ℕ, ℤ, List, Option, Result, Ok, Err, option_map, codes}
 use Rattle.river_order.specs.Order.{Order, Ends, Fetch, Refused, Done}
 use Rattle.csv_streams.specs.Column.{column_of}
 use Rattle.csv_streams.specs.Print.{printed}
 use Rattle.streamit_front.specs.Program.{Program}
-use Rattle.streamit_front.specs.Reading.{compiled}
+use Rattle.streamit_front.specs.Reading.{Refusal, compiled}
 use Rattle.streamit_front.specs.Meaning.{outputs_of}
-use Rattle.river_cli.specs.Text.{large_program, syntax_text, large_input, not_number}
+use Rattle.river_cli.specs.Text.{large_program, refusal_text, large_input, not_number}
 use Rattle.river_cli.specs.Commands.{command_of}
 use Rattle.river_cli.specs.declared.words.Lang.{Lang}
 use Rattle.river_cli.specs.declared.words.Lang.TheVariants as lang
@@ -19,9 +19,9 @@ of_column program name (Ok xs) = Ends (Done (printed (codes "out") (outputs_of p
 of_column program name (Err rec) = Ends (Refused (not_number name rec))
 
 -- after the program was compiled: the input is fetched
-unfoldable pub of_program : InWord → Option Program → Order
-of_program input None = Ends (Refused (syntax_text 1))
-of_program input (Some program) = Fetch input.file 67108864 (large_input input.name) (λ bytes. of_column program input.name (column_of bytes))
+unfoldable pub of_program : InWord → Result Program Refusal → Order
+of_program input (Err refusal) = Ends (Refused (refusal_text refusal))
+of_program input (Ok program) = Fetch input.file 67108864 (large_input input.name) (λ bytes. of_column program input.name (column_of bytes))
 
 -- after the program was fetched: it is compiled
 unfoldable pub of_source : Lang → InWord → List ℕ → Order

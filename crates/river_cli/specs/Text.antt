@@ -1,6 +1,8 @@
 -- The texts that are written besides the output of a program.
 use Rattle.std.specs.Prelude.{ℕ, List, ◌++◌, codes}
 use Rattle.std.specs.Fmt.{decimal}
+use Rattle.streamit_front.specs.Reading.{Refusal}
+use Rattle.streamit_front.specs.Reading as refusal
 
 abbrev pub usage_text : List ℕ
 usage_text = codes "usage: river run|plan|mean|load\n"
@@ -8,9 +10,15 @@ usage_text = codes "usage: river run|plan|mean|load\n"
 abbrev pub large_program : List ℕ
 large_program = codes "refused: program: Large\n"
 
--- the program's unit of this number is not in the grammar
-abbrev pub syntax_text : ℕ → List ℕ
-syntax_text unit = codes "refused: program: Syntax " ++ decimal unit ++ codes "\n"
+-- a fault of the program, with a number
+abbrev pub program_text : List ℕ → ℕ → List ℕ
+program_text fault number = codes "refused: program: " ++ fault ++ codes " " ++ decimal number ++ codes "\n"
+
+-- why a text is no StreamIt program
+abbrev pub refusal_text : Refusal → List ℕ
+refusal_text (refusal.BadByte at) = program_text (codes "BadByte") at
+refusal_text (refusal.BigNumber at) = program_text (codes "BigNumber") at
+refusal_text (refusal.Syntax unit) = program_text (codes "Syntax") unit
 
 -- what is said of an input
 abbrev pub input_text : List ℕ → List ℕ → List ℕ

@@ -3,6 +3,8 @@ ghost use Rattle.std.specs.Prelude.{◌≡◌, ◌≤◌, List, ℕ, length, Som
 ghost use Rattle.river_outside.specs.Causes.{Rose};
 ghost use Rattle.river_order.specs.Decides.{Decides, IsEnd};
 ghost use Rattle.csv_streams.specs.Column.{column_of};
+ghost use Rattle.work_code.specs.Term.{term};
+ghost use Rattle.streamit_front.specs.Meaning.{IsOnItem};
 ghost use Rattle.streamit_front.specs.Program.{program_of};
 ghost use Rattle.river_cli.specs.Points.{points_of, of_run, of_source, of_program, of_column};
 
@@ -13,7 +15,7 @@ use river_base::{Bytes, Text};
 use river_order::{Stop, take_turn};
 use river_outside::Shelf;
 use std::alloc::Global;
-use streamit_front::{StreamitFault, StreamitProgram, compile_streamit};
+use streamit_front::{StreamitProgram, compile_streamit};
 
 const MOST_PROGRAM: u64 = 1_048_576;
 
@@ -62,8 +64,7 @@ fn decide_source<S: Shelf>(
     match lang {
         Lang::Streamit => match compile_streamit(alloc, text) {
             Ok(program) => decide_program(alloc, &program, input, shelf),
-            Err(StreamitFault::Syntax { unit }) => Err(Stop::Refused(text::syntax(alloc, unit)?)),
-            Err(StreamitFault::NoMemory) => Err(Stop::NoMemory),
+            Err(fault) => Err(Stop::Refused(text::refusal(alloc, fault)?)),
         },
     }
 }
@@ -75,8 +76,9 @@ fn decide_program<S: Shelf>(
     input: &InWord,
     shelf: &mut S,
 ) -> Result<Bytes, Stop>
+    requires { IsOnItem (term program.now.value) }
     ensures later { S.faults shelf.old ≤ S.faults shelf.new }
-    ensures decided { Decides (Some (of_program input.now (Some (program_of program.now)))) (S.held shelf.old) (Rose (S.faults shelf.old) (S.faults shelf.new)) result }
+    ensures decided { Decides (Some (of_program input.now (Ok (program_of program.now)))) (S.held shelf.old) (Rose (S.faults shelf.old) (S.faults shelf.new)) result }
 {
     let large = text::large(alloc, input.name.as_slice())?;
     let bytes = take_turn(
@@ -96,6 +98,7 @@ fn decide_column(
     name: &[u8],
     bytes: &[u8],
 ) -> Result<Bytes, Stop>
+    requires { IsOnItem (term program.now.value) }
     ensures { IsEnd (of_column (program_of program.now) name.now (column_of bytes.now)) result }
 {
     match read_column(alloc, bytes) {

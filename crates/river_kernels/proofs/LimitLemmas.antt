@@ -1,15 +1,11 @@
 -- Numbers that are limited: lists that are joined, sums, and statements that are counted.
-use Rattle.std.proofs.Common.{Box, Global, ◌≡◌, ℕ, ◌+◌, ◌-◌, ◌^◌, ◌<◌, ◌≤◌, Bool, true, false, List, [], ◌∷◌, ◌++◌, Option, Some, None, length, take, get_or, refl, sym, ap, ◌∙◌, subst, arith, ⊎_elim, map, nat_lt}
+use Rattle.std.proofs.Common.{◌≡◌, ℕ, ◌+◌, ◌-◌, ◌^◌, ◌<◌, ◌≤◌, Bool, true, false, List, [], ◌∷◌, ◌++◌, Option, Some, None, length, take, get_or, refl, sym, ap, ◌∙◌, subst, arith, ⊎_elim, map, nat_lt}
 use Rattle.std.specs.Prelude.{ℤ, min, if◌then◌else◌}
 use Rattle.std.proofs.lemmas.Bool.Decides.{nat_tests}
 use Rattle.std.proofs.lemmas.List.{take_more, map-append}
 use Rattle.work_code.specs.declared.code.Stmt.{Stmt}
 use Rattle.work_code.specs.Steps.{Step, Steps, step, in_turn}
-use Rattle.river_kernels.specs.declared.kernel.Kernel.{Kernel, fold-roll-Kernel}
-use Rattle.river_kernels.specs.declared.kernel.Kernel.TheVariants as kernel
-use Rattle.river_kernels.specs.declared.kernel.Kernel.TheOpen as layer
 use Rattle.river_kernels.specs.Formed.{count_of}
-use Rattle.river_kernels.specs.Kern.{Kern, kern_of, kern_at, fused}
 use Rattle.river_kernels.specs.Limits.{told, either, first_above, size_once, size, weight_sum}
 
 pub first_above-front : (most n : ℕ) (xs ys : List ℕ) → first_above most xs ≡ Some n → first_above most (xs ++ ys) ≡ Some n
@@ -63,7 +59,3 @@ pub size-more : (xs : List Stmt) (i : ℕ) (d : Stmt) → i < length xs → size
 size-more xs i d lt = ap (λ l. size (in_turn (map step l))) (take_more xs i d lt) ∙ ap (λ l. size (in_turn l)) (map-append step (take i xs) (get_or xs i d ∷ [])) ∙ size-append (map step (take i xs)) (step (get_or xs i d) ∷ []) ∙ (omega arith)
 
 pub ruleset sizes = (size-more)
-
--- the plain form of a kernel in two parts
-pub kern_of-fused : (k : Kernel) (a b : Box Kernel Global) (at : ℕ) → k ≡ kernel.Fused a b at → kern_of k ≡ fused (kern_of a.value) (kern_of b.value) at
-kern_of-fused k a b at e = ap kern_of (e ∙ sym (kernel.rolls-Fused a b at)) ∙ fold-roll-Kernel Kern kern_at (layer.Fused a b at)

@@ -13,9 +13,9 @@ use Rattle.river_kernels.specs.Kern.{Kern, code, filter, duplicate, deal, collec
 abbrev pub told : ℕ → ℕ
 told n = min n (2 ^ 128 - 1)
 
--- the first number, or where there is none the second
-abbrev pub either : Option ℕ → Option ℕ → Option ℕ
-either (Some n) o = Some n
+-- the first, or where there is none the second
+abbrev pub either : {A : Type 0} → Option A → Option A → Option A
+either (Some x) o = Some x
 either None o = o
 
 -- the first number above the most, as it is told

@@ -1,3 +1,5 @@
+pub mod JudgeLemmas
+pub mod MapLemmas
 pub mod NameLemmas
 pub mod OverLemmas
 pub mod Remains

@@ -87,9 +87,9 @@ with_name-same ws w = ⊎_elim
     (λ t. subst (λ (l : List Name). SameNames l (ws ++ w ∷ [])) (sym (ap (λ b. if b then ws else ws ++ w ∷ []) t)) (record {
       there = λ q h. let e = count-append q ws (w ∷ []) in omega (arith, e, h);
       back = λ q h. let e = count-append q ws (w ∷ []) in ⊎_elim
-        (λ c. let z : 0 < count w ws = ltb-true 0 (count w ws) t in subst (λ x. 0 < count x ws) c.0 z)
-        (λ c. let o = ap one_if c.1 in omega (arith, e, o, h))
-        (cases_name w q);
+          (λ c. let z : 0 < count w ws = ltb-true 0 (count w ws) t in subst (λ x. 0 < count x ws) c.0 z)
+          (λ c. let o = ap one_if c.1 in omega (arith, e, o, h))
+          (cases_name w q);
     }))
     (λ f. subst (λ (l : List Name). SameNames l (ws ++ w ∷ [])) (sym (ap (λ b. if b then ws else ws ++ w ∷ []) f)) (same_refl (ws ++ w ∷ [])))
     (cases_bool (nat_lt 0 (count w ws)))
@@ -101,9 +101,9 @@ more_or_zero (suc n) = inl (omega arith)
 pub same-append : (ws vs us : List Name) → SameNames ws vs → SameNames (ws ++ us) (vs ++ us)
 same-append ws vs us s = record {
   there = λ q h. let a = count-append q ws us in let b = count-append q vs us in
-    ⊎_elim (λ lt. let t = s.there q lt in omega (arith, a, b, t)) (λ z. omega (arith, a, b, z, h)) (more_or_zero (count q ws));
+      ⊎_elim (λ lt. let t = s.there q lt in omega (arith, a, b, t)) (λ z. omega (arith, a, b, z, h)) (more_or_zero (count q ws));
   back = λ q h. let a = count-append q ws us in let b = count-append q vs us in
-    ⊎_elim (λ lt. let t = s.back q lt in omega (arith, a, b, t)) (λ z. omega (arith, a, b, z, h)) (more_or_zero (count q vs));
+      ⊎_elim (λ lt. let t = s.back q lt in omega (arith, a, b, t)) (λ z. omega (arith, a, b, z, h)) (more_or_zero (count q vs));
 }
 
 pub same-trans : (ws vs us : List Name) → SameNames ws vs → SameNames vs us → SameNames ws us

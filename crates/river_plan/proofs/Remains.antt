@@ -14,7 +14,7 @@ remains-start s xs = record { rest = λ o h. h }
 pub remains-next : {A B : Type 0} (s : List A → A → Option B → Type 0) (xs : List A) (i : ℕ) (x : A) → i < length xs → x ≡ get_or xs i x → s (take i xs) x None → Remains s xs i → Remains s xs (i + 1)
 remains-next {B = B} s xs i x lt e n r = record {
   rest = λ o h. r.rest o (subst (λ l. Along s (take i xs) l o) (sym (drop_more xs i x lt ∙ ap (λ y. y ∷ drop (i + 1) xs) (sym e)))
-    (skipped o (subst (λ l. Along s l (drop (i + 1) xs) o) (take_more xs i x lt ∙ ap (λ y. take i xs ++ y ∷ []) (sym e)) h)));
+      (skipped o (subst (λ l. Along s l (drop (i + 1) xs) o) (take_more xs i x lt ∙ ap (λ y. take i xs ++ y ∷ []) (sym e)) h)));
 }
   where
     skipped : (o : Option B) → Along s (take i xs ++ x ∷ []) (drop (i + 1) xs) o → OrElse (s (take i xs) x) (Along s (take i xs ++ x ∷ []) (drop (i + 1) xs)) o
@@ -46,7 +46,7 @@ mapped_take f xs i x lt e = ap (map f) (take_more xs i x lt ∙ ap (λ y. take i
 pub remains_by-next : {A B C : Type 0} (f : C → A) (s : List A → A → Option B → Type 0) (xs : List C) (i : ℕ) (x : C) → i < length xs → x ≡ get_or xs i x → s (map f (take i xs)) (f x) None → RemainsBy f s xs i → RemainsBy f s xs (i + 1)
 remains_by-next {B = B} f s xs i x lt e n r = record {
   rest = λ o h. r.rest o (subst (λ l. Along s (map f (take i xs)) l o) (sym (mapped_drop f xs i x lt e))
-    (skipped o (subst (λ l. Along s l (map f (drop (i + 1) xs)) o) (mapped_take f xs i x lt e) h)));
+      (skipped o (subst (λ l. Along s l (map f (drop (i + 1) xs)) o) (mapped_take f xs i x lt e) h)));
 }
   where
     skipped : (o : Option B) → Along s (map f (take i xs) ++ f x ∷ []) (map f (drop (i + 1) xs)) o → OrElse (s (map f (take i xs)) (f x)) (Along s (map f (take i xs) ++ f x ∷ []) (map f (drop (i + 1) xs))) o

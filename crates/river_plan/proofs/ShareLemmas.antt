@@ -42,27 +42,29 @@ adds-next old us seen found found' x s d e = ⊎_elim
   where
     more : (v : Name) → (0 < count v old) ⊎ (1 < count v us) → (0 < count v old) ⊎ (1 < count v (us ++ x ∷ []))
     more v h = ⊎_elim (λ o. inl o) (λ t. inr (let a = count-append v us (x ∷ []) in omega (arith, a, t))) h
+
     again : 0 < count x seen → found' ≡ with_name found x → AddsTwice old (us ++ x ∷ []) found'
     again lt e' = let w = with_name-same found x in record {
       there = λ v h. ⊎_elim
-        (λ c. let i = ap one_if c.1 in let a = count-append v us (x ∷ []) in let k : 0 < count v us = subst (λ y. 0 < count y us) c.0 (s.there x lt) in inr (omega (arith, i, a, k)))
-        (λ c. let i = ap one_if c.1 in let m : 0 < count v (found ++ x ∷ []) = w.there v (subst (λ (l : List Name). 0 < count v l) e' h) in
+          (λ c. let i = ap one_if c.1 in let a = count-append v us (x ∷ []) in let k : 0 < count v us = subst (λ y. 0 < count y us) c.0 (s.there x lt) in inr (omega (arith, i, a, k)))
+          (λ c. let i = ap one_if c.1 in let m : 0 < count v (found ++ x ∷ []) = w.there v (subst (λ (l : List Name). 0 < count v l) e' h) in
           let b = count-append v found (x ∷ []) in more v (d.there v (omega (arith, i, m, b))))
-        (cases_name x v);
+          (cases_name x v);
       old_back = λ v h. subst (λ (l : List Name). 0 < count v l) (sym e') (w.back v (let b = count-append v found (x ∷ []) in let o = d.old_back v h in omega (arith, b, o)));
       back = λ v h. subst (λ (l : List Name). 0 < count v l) (sym e') (w.back v (let b = count-append v found (x ∷ []) in ⊎_elim
-        (λ c. let i = ap one_if c.1 in omega (arith, b, i))
-        (λ c. let i = ap one_if c.1 in let a = count-append v us (x ∷ []) in let o = d.back v (omega (arith, i, a, h)) in omega (arith, b, o))
-        (cases_name x v)));
+          (λ c. let i = ap one_if c.1 in omega (arith, b, i))
+          (λ c. let i = ap one_if c.1 in let a = count-append v us (x ∷ []) in let o = d.back v (omega (arith, i, a, h)) in omega (arith, b, o))
+          (cases_name x v)));
     }
+
     fresh : count x seen ≤ 0 → found' ≡ found → AddsTwice old (us ++ x ∷ []) found'
     fresh le e' = record {
       there = λ v h. more v (d.there v (subst (λ (l : List Name). 0 < count v l) e' h));
       old_back = λ v h. subst (λ (l : List Name). 0 < count v l) (sym e') (d.old_back v h);
       back = λ v h. subst (λ (l : List Name). 0 < count v l) (sym e') (d.back v (let a = count-append v us (x ∷ []) in ⊎_elim
-        (λ c. let i = ap one_if c.1 in let z : count v us ≡ 0 = nat_zero (λ lt. let k = s.back v lt in let y = subst (λ k. count k seen ≤ 0) c.0 le in omega (arith, k, y)) in absurd (omega (arith, i, a, h, z)))
-        (λ c. let i = ap one_if c.1 in omega (arith, i, a, h))
-        (cases_name x v)));
+          (λ c. let i = ap one_if c.1 in let z : count v us ≡ 0 = nat_zero (λ lt. let k = s.back v lt in let y = subst (λ k. count k seen ≤ 0) c.0 le in omega (arith, k, y)) in absurd (omega (arith, i, a, h, z)))
+          (λ c. let i = ap one_if c.1 in omega (arith, i, a, h))
+          (cases_name x v)));
     }
 
 pub twice-none : AreTwiceInOne [] []
@@ -75,12 +77,12 @@ twice-next ops i op found found' lt e t d =
     (sym (map-append op_form (take i ops) (op ∷ [])) ∙ ap op_forms (ap (λ y. take i ops ++ y ∷ []) e ∙ sym (take_more ops i op lt)))
     (record {
       there = λ v h each. ⊎_elim
-        (λ o. t.there v o (each_front (λ x. vars_it v x ≤ 1) (op_forms (take i ops)) (op_form op ∷ []) each))
-        (λ n. let b = each_back (λ x. vars_it v x ≤ 1) (op_forms (take i ops)) (op_form op ∷ []) each in let c = b.0 in omega (arith, n, c))
-        (d.there v h);
+          (λ o. t.there v o (each_front (λ x. vars_it v x ≤ 1) (op_forms (take i ops)) (op_form op ∷ []) each))
+          (λ n. let b = each_back (λ x. vars_it v x ≤ 1) (op_forms (take i ops)) (op_form op ∷ []) each in let c = b.0 in omega (arith, n, c))
+          (d.there v h);
       back = λ v z. each_append (λ x. vars_it v x ≤ 1) (op_forms (take i ops)) (op_form op ∷ [])
-        (t.back v (nat_zero (λ o. let m = d.old_back v o in omega (arith, m, z))))
-        (le_of (λ n. let m = d.back v n in omega (arith, m, z)), tt);
+          (t.back v (nat_zero (λ o. let m = d.old_back v o in omega (arith, m, z))))
+          (le_of (λ n. let m = d.back v n in omega (arith, m, z)), tt);
     })
   where
     le_of : {n : ℕ} → (1 < n → ⊥) → n ≤ 1

@@ -37,45 +37,48 @@ doubled-next given us seen doubled doubled' x s d e = ⊎_elim
   where
     known : (q : Name) → 0 < count q seen → 0 < count q given + count q us
     known q h = let a = count-append q given us in let t = s.there q h in omega (arith, a, t)
+
     back_known : (q : Name) → 0 < count q given + count q us → 0 < count q seen
     back_known q h = let a = count-append q given us in s.back q (omega (arith, a, h))
+
     again : 0 < count x seen → doubled' ≡ with_name doubled x → AreDoubled given (us ++ x ∷ []) doubled'
     again lt e' = let w = with_name-same doubled x in record {
       there = λ q h o. ⊎_elim
-        (λ c. let i = ap one_if c.1 in let a = count-append q us (x ∷ []) in let k : 0 < count q given + count q us = subst (λ y. 0 < count y given + count y us) c.0 (known x lt) in
+          (λ c. let i = ap one_if c.1 in let a = count-append q us (x ∷ []) in let k : 0 < count q given + count q us = subst (λ y. 0 < count y given + count y us) c.0 (known x lt) in
           ⊎_elim (λ g. let z = o.1 g in omega (arith, i, a, z)) (λ z. let l = o.0 in omega (arith, i, a, z, k, l)) (more_or_zero (count q given)))
-        (λ c. let i = ap one_if c.1 in let a = count-append q us (x ∷ []) in
+          (λ c. let i = ap one_if c.1 in let a = count-append q us (x ∷ []) in
           let m : 0 < count q (doubled ++ x ∷ []) = w.there q (subst (λ (l : List Name). 0 < count q l) e' h) in
           let b = count-append q doubled (x ∷ []) in
           let f : count q (us ++ x ∷ []) ≡ count q us = omega (arith, i, a) in
           d.there q (omega (arith, i, m, b)) (subst (λ n. IsUsedOnce (count q given) n) f o))
-        (cases_name x q);
+          (cases_name x q);
       back = λ q z. ⊎_elim
-        (λ c. let i = ap one_if c.1 in let b = count-append q doubled (x ∷ []) in
+          (λ c. let i = ap one_if c.1 in let b = count-append q doubled (x ∷ []) in
           let m : 0 < count q (with_name doubled x) = w.back q (omega (arith, i, b)) in
           absurd (let z' : count q (with_name doubled x) ≡ 0 = subst (λ (l : List Name). count q l ≡ 0) e' z in omega (arith, m, z')))
-        (λ c. let i = ap one_if c.1 in let a = count-append q us (x ∷ []) in
+          (λ c. let i = ap one_if c.1 in let a = count-append q us (x ∷ []) in
           let f : count q (us ++ x ∷ []) ≡ count q us = omega (arith, i, a) in
           let z' : count q doubled ≡ 0 = nat_zero (λ lt. let b = count-append q doubled (x ∷ []) in let m : 0 < count q (with_name doubled x) = w.back q (omega (arith, b, lt)) in
-            let y : count q (with_name doubled x) ≡ 0 = subst (λ (l : List Name). count q l ≡ 0) e' z in omega (arith, m, y)) in
+          let y : count q (with_name doubled x) ≡ 0 = subst (λ (l : List Name). count q l ≡ 0) e' z in omega (arith, m, y)) in
           subst (λ n. IsUsedOnce (count q given) n) (sym f) (d.back q z'))
-        (cases_name x q);
+          (cases_name x q);
     }
+
     fresh : count x seen ≤ 0 → doubled' ≡ doubled → AreDoubled given (us ++ x ∷ []) doubled'
     fresh le e' = record {
       there = λ q h o. let h' : 0 < count q doubled = subst (λ (l : List Name). 0 < count q l) e' h in let a = count-append q us (x ∷ []) in ⊎_elim
-        (λ c. let i = ap one_if c.1 in let l = o.0 in
+          (λ c. let i = ap one_if c.1 in let l = o.0 in
           d.there q h' ((omega (arith, i, a, l)), λ g. omega (arith, i, a, l)))
-        (λ c. let i = ap one_if c.1 in let f : count q (us ++ x ∷ []) ≡ count q us = omega (arith, i, a) in
+          (λ c. let i = ap one_if c.1 in let f : count q (us ++ x ∷ []) ≡ count q us = omega (arith, i, a) in
           d.there q h' (subst (λ n. IsUsedOnce (count q given) n) f o))
-        (cases_name x q);
+          (cases_name x q);
       back = λ q z. let z' : count q doubled ≡ 0 = subst (λ (l : List Name). count q l ≡ 0) e' z in let a = count-append q us (x ∷ []) in ⊎_elim
-        (λ c. let i = ap one_if c.1 in
+          (λ c. let i = ap one_if c.1 in
           let n : count q given + count q us ≡ 0 = nat_zero (λ lt. let y = subst (λ k. count k seen ≤ 0) c.0 le in let k = back_known q lt in omega (arith, y, k)) in
           ((omega (arith, i, a, n)), λ g. absurd (omega (arith, n, g))))
-        (λ c. let i = ap one_if c.1 in let f : count q (us ++ x ∷ []) ≡ count q us = omega (arith, i, a) in
+          (λ c. let i = ap one_if c.1 in let f : count q (us ++ x ∷ []) ≡ count q us = omega (arith, i, a) in
           subst (λ n. IsUsedOnce (count q given) n) (sym f) (d.back q z'))
-        (cases_name x q);
+          (cases_name x q);
     }
 
 pub doubled-none : (given : List Name) → AreDoubled given [] []
@@ -87,8 +90,8 @@ pub known-next : (inputs : List Name) (ops : List Op) (i : ℕ) (op : Op) (known
 known-next inputs ops i op known known' lt e s t =
     subst (λ (l : List Name). SameNames known' l)
     (append_assoc inputs (all_writes (op_forms (take i ops))) op.writes ∙ ap (λ l. inputs ++ l)
-      (ap (λ l. all_writes (op_forms (take i ops)) ++ l) (sym (append-nil op.writes)) ∙ sym (all_writes-append (op_forms (take i ops)) (op_form op ∷ []))
-      ∙ ap all_writes (sym (map-append op_form (take i ops) (op ∷ []))) ∙ ap (λ l. all_writes (op_forms l)) (ap (λ y. take i ops ++ y ∷ []) e ∙ sym (take_more ops i op lt))))
+    (ap (λ l. all_writes (op_forms (take i ops)) ++ l) (sym (append-nil op.writes)) ∙ sym (all_writes-append (op_forms (take i ops)) (op_form op ∷ []))
+    ∙ ap all_writes (sym (map-append op_form (take i ops) (op ∷ []))) ∙ ap (λ l. all_writes (op_forms l)) (ap (λ y. take i ops ++ y ∷ []) e ∙ sym (take_more ops i op lt))))
     (same-trans known' (known ++ op.writes) ((inputs ++ all_writes (op_forms (take i ops))) ++ op.writes) t (same-append known (inputs ++ all_writes (op_forms (take i ops))) op.writes s))
 
 -- what is not known is not written
@@ -118,9 +121,10 @@ pub undeclared-same : (queues queues' variables variables' : List Name) (ops : L
     → Along (λ before op. UndeclaredAt queues variables op) [] ops o → Along (λ before op. UndeclaredAt queues' variables' op) [] ops o
 undeclared-same queues queues' variables variables' ops s t = along-cong (λ b op. UndeclaredAt queues variables op) (λ b op. UndeclaredAt queues' variables' op)
     (λ b op. or_else-cong _ _ _ _ (as-cong Queue _ _ (first_in op.reads))
-      (or_else-cong _ _ _ _ (as-cong Queue _ _ (first_in op.writes)) (as-cong Variable _ _ (first_var op.vars)))) [] ops
+    (or_else-cong _ _ _ _ (as-cong Queue _ _ (first_in op.writes)) (as-cong Variable _ _ (first_var op.vars)))) [] ops
   where
     first_in : (names : List Name) (o : Option Name) → IsFirst (IsIn queues) names o → IsFirst (IsIn queues') names o
     first_in names = first-cong (IsIn queues) (IsIn queues') (λ b q h. s.there q h) (λ b q h. s.back q h) names
+
     first_var : (names : List Name) (o : Option Name) → IsFirst (IsIn variables) names o → IsFirst (IsIn variables') names o
     first_var names = first-cong (IsIn variables) (IsIn variables') (λ b q h. t.there q h) (λ b q h. t.back q h) names

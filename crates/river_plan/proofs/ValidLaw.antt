@@ -22,9 +22,9 @@ new-once : (before xs : List Name) → ((q : Name) → count q before ≤ 1) →
 new-once before [] o h q = let a = o q in omega (arith, a)
 new-once before (x ∷ xs) o h q =
     let i = new-once (before ++ x ∷ []) xs (λ r. let a = count-append r before (x ∷ []) in let b = o r in ⊎_elim
-        (λ c. let s = ap one_if c.1 in let z = ap (λ y. count y before) c.0 in let n = h.0 in omega (arith, a, z, n, s))
-        (λ c. let s = ap one_if c.1 in omega (arith, a, b, s))
-        (cases_name x r)) h.1 q in
+    (λ c. let s = ap one_if c.1 in let z = ap (λ y. count y before) c.0 in let n = h.0 in omega (arith, a, z, n, s))
+    (λ c. let s = ap one_if c.1 in omega (arith, a, b, s))
+    (cases_name x r)) h.1 q in
     let a = count-append q before (x ∷ []) in omega (arith, i, a)
 
 once-new : (before xs : List Name) → ((q : Name) → count q before + count q xs ≤ 1) → Along (λ b y. Unless (IsNew b y) y) before xs None
@@ -94,9 +94,13 @@ all-declared : (queues variables : List Name) (before ops : List OpForm)
     → Along (λ b op. UndeclaredAt queues variables op) before ops None
 all-declared queues variables before [] r w v = tt
 all-declared queues variables before (op ∷ ops) r w v = (
-  (names-along (λ x. 0 < count x queues) [] op.reads (λ q lt. r q (omega (arith, lt))),
-   (names-along (λ x. 0 < count x queues) [] op.writes (λ q lt. w q (omega (arith, lt))),
-    names-along (λ x. 0 < count x variables) [] op.vars (λ q lt. v q (omega (arith, lt))))),
+  (
+    names-along (λ x. 0 < count x queues) [] op.reads (λ q lt. r q (omega (arith, lt))),
+    (
+      names-along (λ x. 0 < count x queues) [] op.writes (λ q lt. w q (omega (arith, lt))),
+      names-along (λ x. 0 < count x variables) [] op.vars (λ q lt. v q (omega (arith, lt))),
+    ),
+  ),
   all-declared queues variables (before ++ op ∷ []) ops (λ q lt. r q (omega (arith, lt))) (λ q lt. w q (omega (arith, lt))) (λ q lt. v q (omega (arith, lt))),
 )
 
@@ -150,15 +154,15 @@ no_fault-valid p h =
       writes_declared = d.1;
       vars_declared = d.2;
       written_once = λ q. let s = queue_parts p q in let o = once q in ⊎_elim
-        (λ lt. let u = along-names (λ w. IsUsedOnce (count w (decl_names p.inputs)) (total (writes_it w) p.ops)) [] (queue_names p) p3 q lt in
+          (λ lt. let u = along-names (λ w. IsUsedOnce (count w (decl_names p.inputs)) (total (writes_it w) p.ops)) [] (queue_names p) p3 q lt in
           used (count q (decl_names p.inputs)) (total (writes_it q) p.ops) (omega (arith, s, o)) u)
-        (λ z. let w : total (writes_it q) p.ops ≡ 0 = nat_zero (λ lt. let k = d.1 q lt in omega (arith, z, k)) in omega (arith, s, z, w))
-        (more_or_zero (count q (queue_names p)));
+          (λ z. let w : total (writes_it q) p.ops ≡ 0 = nat_zero (λ lt. let k = d.1 q lt in omega (arith, z, k)) in omega (arith, s, z, w))
+          (more_or_zero (count q (queue_names p)));
       read_once = λ q. let s = queue_parts p q in let o = once q in ⊎_elim
-        (λ lt. let u = along-names (λ w. IsUsedOnce (count w (decl_names p.outputs)) (total (reads_it w) p.ops)) [] (queue_names p) p4 q lt in
+          (λ lt. let u = along-names (λ w. IsUsedOnce (count w (decl_names p.outputs)) (total (reads_it w) p.ops)) [] (queue_names p) p4 q lt in
           used (count q (decl_names p.outputs)) (total (reads_it q) p.ops) (omega (arith, s, o)) u)
-        (λ z. let w : total (reads_it q) p.ops ≡ 0 = nat_zero (λ lt. let k = d.0 q lt in omega (arith, z, k)) in omega (arith, s, z, w))
-        (more_or_zero (count q (queue_names p)));
+          (λ z. let w : total (reads_it q) p.ops ≡ 0 = nat_zero (λ lt. let k = d.0 q lt in omega (arith, z, k)) in omega (arith, s, z, w))
+          (more_or_zero (count q (queue_names p)));
       in_order = order-reads (decl_names p.inputs) (λ q. count q (decl_names p.inputs)) [] p.ops (λ q. omega arith) p5;
       outputs_typed = along-all IsOuter [] p.outputs p6.0;
       inputs_typed = along-all IsOuter [] p.inputs p6.1.0;
@@ -167,18 +171,21 @@ no_fault-valid p h =
       fits = along-each (IsFit p) [] p.ops p7;
       within = λ limit. along-all (λ n. n ≤ most_of limit) [] (numbers limit p) (limit_part p limit p8);
       vars_apart = each-every p.ops (λ v. ⊎_elim
-        (λ lt. let a = along-names (IsApart p) [] (variable_names p) p9 v lt in a.0)
-        (λ z. total-each v p.ops (let w : total (vars_it v) p.ops ≡ 0 = nat_zero (λ lt. let k = d.2 v lt in omega (arith, z, k)) in omega (arith, w)))
-        (more_or_zero (count v (variable_names p))));
+          (λ lt. let a = along-names (IsApart p) [] (variable_names p) p9 v lt in a.0)
+          (λ z. total-each v p.ops (let w : total (vars_it v) p.ops ≡ 0 = nat_zero (λ lt. let k = d.2 v lt in omega (arith, z, k)) in omega (arith, w)))
+          (more_or_zero (count v (variable_names p))));
       private_once = λ v lt. let e = variable_parts p v in let a = along-names (IsApart p) [] (variable_names p) p9 v (omega (arith, e, lt)) in a.1 lt;
     }
   where
     queue_parts : (p : PlanForm) (q : Name) → count q (queue_names p) ≡ count q (decl_names p.outputs) + (count q (decl_names p.inputs) + count q (decl_names p.queues))
     queue_parts p q = let a = count-append q (decl_names p.outputs) (decl_names p.inputs ++ decl_names p.queues) in let b = count-append q (decl_names p.inputs) (decl_names p.queues) in omega (arith, a, b)
+
     variable_parts : (p : PlanForm) (v : Name) → count v (variable_names p) ≡ count v (table_names p.tables) + count v p.vars
     variable_parts p v = count-append v (table_names p.tables) p.vars
+
     used : (g u : ℕ) → g ≤ 1 → IsUsedOnce g u → g + u ≤ 1
     used g u le h = let a = h.0 in ⊎_elim (λ lt. let z = h.1 lt in omega (arith, le, z)) (λ z. omega (arith, z, a)) (more_or_zero g)
+
     limit_part : (p : PlanForm) (limit : Limit) → OverLimit p None → IsFirst (λ before n. n ≤ most_of limit) (numbers limit p) None
     limit_part p Inputs h = h.0
     limit_part p Operators h = h.1.0
@@ -196,17 +203,32 @@ no_fault-valid p h =
 pub valid-no_fault : (p : PlanForm) → IsPlan p → FirstFault p None
 valid-no_fault p v = (
   (once-names (queue_names p) v.queues_once, (once-names (variable_names p) v.variables_once, once-names (labels p.ops) (λ l. let a = v.labels_once l in let e = total-labels l p.ops in omega (arith, a, e)))),
-  (all-declared (queue_names p) (variable_names p) [] p.ops v.reads_declared v.writes_declared v.vars_declared,
-  (names-along (λ w. IsUsedOnce (count w (decl_names p.inputs)) (total (writes_it w) p.ops)) [] (queue_names p) (λ q lt. let o = v.written_once q in ((omega (arith, o)), λ g. omega (arith, o, g))),
-  (names-along (λ w. IsUsedOnce (count w (decl_names p.outputs)) (total (reads_it w) p.ops)) [] (queue_names p) (λ q lt. let o = v.read_once q in ((omega (arith, o)), λ g. omega (arith, o, g))),
-  (reads-order (decl_names p.inputs) (λ q. count q (decl_names p.inputs)) [] p.ops (λ q. omega arith) v.in_order,
-  ((all-along IsOuter [] p.outputs v.outputs_typed, (all-along IsOuter [] p.inputs v.inputs_typed, (all-along HasWidth [] p.queues v.queues_typed, all-along (λ t. IsTable t.kind) [] p.tables v.tables_typed))),
-  (each-along (IsFit p) [] p.ops v.fits,
-  (limits p v.within,
-  names-along (IsApart p) [] (variable_names p) (λ w lt. (every-each p.ops v.vars_apart w, v.private_once w))))))))),
+  (
+    all-declared (queue_names p) (variable_names p) [] p.ops v.reads_declared v.writes_declared v.vars_declared,
+    (
+      names-along (λ w. IsUsedOnce (count w (decl_names p.inputs)) (total (writes_it w) p.ops)) [] (queue_names p) (λ q lt. let o = v.written_once q in ((omega (arith, o)), λ g. omega (arith, o, g))),
+      (
+        names-along (λ w. IsUsedOnce (count w (decl_names p.outputs)) (total (reads_it w) p.ops)) [] (queue_names p) (λ q lt. let o = v.read_once q in ((omega (arith, o)), λ g. omega (arith, o, g))),
+        (
+          reads-order (decl_names p.inputs) (λ q. count q (decl_names p.inputs)) [] p.ops (λ q. omega arith) v.in_order,
+          (
+            (all-along IsOuter [] p.outputs v.outputs_typed, (all-along IsOuter [] p.inputs v.inputs_typed, (all-along HasWidth [] p.queues v.queues_typed, all-along (λ t. IsTable t.kind) [] p.tables v.tables_typed))),
+            (
+              each-along (IsFit p) [] p.ops v.fits,
+              (
+                limits p v.within,
+                names-along (IsApart p) [] (variable_names p) (λ w lt. (every-each p.ops v.vars_apart w, v.private_once w)),
+              ),
+            ),
+          ),
+        ),
+      ),
+    ),
+  ),
 )
   where
     bounded : (p : PlanForm) (limit : Limit) → ((limit : Limit) → All (λ n. n ≤ most_of limit) (numbers limit p)) → IsFirst (λ before n. n ≤ most_of limit) (numbers limit p) None
     bounded p limit h = all-along (λ n. n ≤ most_of limit) [] (numbers limit p) (h limit)
+
     limits : (p : PlanForm) → ((limit : Limit) → All (λ n. n ≤ most_of limit) (numbers limit p)) → OverLimit p None
     limits p h = (bounded p Inputs h, (bounded p Operators h, (bounded p Queues h, (bounded p Variables h, (bounded p Ports h, (bounded p Statements h, (bounded p Slots h, (bounded p Rates h, (bounded p Weights h, (bounded p Nesting h, (bounded p Latest h, (bounded p Best h, tt))))))))))))

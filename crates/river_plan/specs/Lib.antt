@@ -1,9 +1,11 @@
+pub mod ByName
 pub mod Faults
 pub mod First
 pub mod Forms
 pub mod Kinds
 pub mod Limits
 pub mod Names
+pub mod PlanCode
 pub mod Shares
 pub mod Uses
 pub mod Valid

@@ -38,6 +38,11 @@ pub enum PlanFault {
 }
 
 impl From<NoMemory> for PlanFault {
+    ghost use Rattle.std.specs.Prelude.{◌≡◌};
+    ghost use Rattle.river_plan.specs.declared.fault.PlanFault.TheVariants as fault;
+
+    ghost from_gives = { λ _ f. f ≡ fault.NoMemory };
+
     fn from(_: NoMemory) -> Self {
         PlanFault::NoMemory
     }

@@ -6,5 +6,4 @@ ghost use Rattle.river_plan.specs.Valid.{IsPlan, FirstFault};
 /// There is no fault exactly where a plan is valid.
 pub fn no_fault_where_valid()
     ensures { (p : PlanForm) → FirstFault p None ↔ IsPlan p }
-{
-}
+{}

@@ -3,9 +3,12 @@
 
 mod declared;
 mod fault;
+mod judge;
 pub mod laws;
 mod limit;
 mod lists;
+mod misfit;
+mod name_map;
 mod name_set;
 mod once;
 mod op;
@@ -15,9 +18,12 @@ mod repeated;
 mod search;
 mod shared;
 mod types;
+mod valid;
 
 pub use fault::{Named, PlanFault};
+pub use judge::check;
 pub use op::{Names, Op, Ops};
+pub use plan::{Decl, Decls, RawPlan, TableDecl, TableDecls};
 pub use river_base::{FlatType, QueueType};
 pub use river_kernels::{Kernel, Limit};
-pub use plan::{Decl, Decls, RawPlan, TableDecl, TableDecls};
+pub use valid::Plan;

@@ -107,14 +107,22 @@ fn queue_count(raw: &RawPlan) -> u128
 fn one_over(number: u128, most: u64) -> Option<u128>
     ensures { result ≡ above.first_above most (number ∷ []) }
 {
-    if (most as u128) < number { Some(number) } else { None }
+    if (most as u128) < number {
+        Some(number)
+    } else {
+        None
+    }
 }
 
 // The first of two numbers that is above the most.
 fn two_over(first: u128, second: u128, most: u64) -> Option<u128>
     ensures { result ≡ above.first_above most (first ∷ second ∷ []) }
 {
-    if (most as u128) < first { Some(first) } else { one_over(second, most) }
+    if (most as u128) < first {
+        Some(first)
+    } else {
+        one_over(second, most)
+    }
 }
 
 // The first number of ports that is above the most.

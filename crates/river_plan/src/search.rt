@@ -6,8 +6,8 @@ ghost use Rattle.river_plan.specs.First.{IsFirst};
 ghost use Rattle.river_plan.specs.Faults.{IsNew, IsIn};
 ghost use Rattle.river_plan.specs.Names.{count, SameNames};
 
-use crate::{Named, Names};
 use crate::name_set::NameSet;
+use crate::{Named, Names};
 use river_base::{Name, NoMemory};
 use std::alloc::Global;
 

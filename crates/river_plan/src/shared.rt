@@ -28,7 +28,12 @@ pub(crate) fn shared(alloc: Global, raw: &RawPlan) -> Result<Option<Named>, NoMe
 }
 
 // The first name that is within, or that is both private and across.
-fn first_shared(names: &Names, private: &NameSet, across: &NameSet, within: &NameSet) -> Option<Name>
+fn first_shared(
+    names: &Names,
+    private: &NameSet,
+    across: &NameSet,
+    within: &NameSet,
+) -> Option<Name>
     ensures { IsFirst (λ before v. IsSingle private.now across.now within.now v) names.now result }
 {
     for name in names.as_slice() {

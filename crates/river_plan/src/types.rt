@@ -103,7 +103,10 @@ fn flat_width(flat: FlatType) -> u32
 fn is_rows_or_stream(kind: QueueType) -> bool
     ensures { IsTrue result ↔ IsRowsOrStream kind }
 {
-    matches!(kind, QueueType::Flat(FlatType::Rows(_)) | QueueType::Flat(FlatType::Stream(_)))
+    matches!(
+        kind,
+        QueueType::Flat(FlatType::Rows(_)) | QueueType::Flat(FlatType::Stream(_))
+    )
 }
 
 // Whether a table has at most 8 keys and keeps a row.

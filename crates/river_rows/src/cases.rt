@@ -15,6 +15,8 @@ const ABSENT_ODD: &[u8] = b"fault: absent =n.csv\n";
 
 const MINUS_EIGHT: &[u8] = b"# out\n-8\n";
 
+const SIX_AND_SEVEN: &[u8] = b"# out\n-6\n1\n";
+
 const FAULT_BEGUN: &[u8] = b"fault: ";
 
 #[test]
@@ -130,22 +132,55 @@ fn programs(rt: HostRuntime) -> Result<(), Fail> {
         assert_eq!(rt; ran.out.taken(), NOTHING);
         assert_eq!(rt; ran.err.taken(), SYNTAX);
     }
-    let others: [&[u8]; 8] = [
-        b"int->int filter F { work push 1 pop 1 { push(2 * pop()); } } ~",
-        b"int->int filter F { work push 1 pop 1 { push(2 * pop()); } } /* open",
-        b"int->int filter F { work push 1 pop 1 { push(9223372036854775808 * pop()); } }",
-        b"int->int filter F { work push 1 pop 1 { push(2 * peek(0)); } }",
-        b"int->int filter F { work push 1 pop 1 { push(2 * pop()) } }",
-        b"int->int filter filter { work push 1 pop 1 { push(2 * pop()); } }",
-        b"int->int filter $F { work push 1 pop 1 { push(2 * pop()); } }",
-        b"int->int filter F { work push 1 pop 1 { push(2 * pop()); } } int",
+    let others: [(&[u8], &[u8]); 9] = [
+        (
+            b"int->int filter F { work push 1 pop 1 { push(2 * pop()); } } ~",
+            b"refused: program: BadByte 61\n",
+        ),
+        (
+            b"int->int filter F { work push 1 pop 1 { push(2 * pop()); } } /* open",
+            b"refused: program: BadByte 61\n",
+        ),
+        (
+            b"int->int filter F { work push 1 pop 1 { push(9223372036854775808 * pop()); } }",
+            b"refused: program: BigNumber 45\n",
+        ),
+        (
+            b"int->int filter F { work push 1 pop 1 { push(2 * peek(0)); } }",
+            SYNTAX,
+        ),
+        (
+            b"int->int filter F { work push 1 pop 1 { push(pop() * pop()); } }",
+            SYNTAX,
+        ),
+        (
+            b"int->int filter F { work push 1 pop 1 { push(2 * pop()) } }",
+            SYNTAX,
+        ),
+        (
+            b"int->int filter filter { work push 1 pop 1 { push(2 * pop()); } }",
+            SYNTAX,
+        ),
+        (
+            b"int->int filter $F { work push 1 pop 1 { push(2 * pop()); } }",
+            SYNTAX,
+        ),
+        (
+            b"int->int filter F { work push 1 pop 1 { push(2 * pop()); } } int",
+            SYNTAX,
+        ),
     ];
-    for text in others {
+    for (text, refusal) in others {
         let ran = run_plain(&rt, rt.alloc(), &WORDS, text, b"1\n")?;
         assert_eq!(rt; ran.status, 1);
         assert_eq!(rt; ran.out.taken(), NOTHING);
-        assert_eq!(rt; ran.err.taken(), SYNTAX);
+        assert_eq!(rt; ran.err.taken(), refusal);
     }
+    // The argument of `push` may be any expression with one `pop()`.
+    let text = b"int->int filter F { work push 1 pop 1 { push((pop() % 3 == 0) * -7 + 1); } }";
+    let ran = run_plain(&rt, rt.alloc(), &WORDS, text, b"6\n7\n")?;
+    assert_eq!(rt; ran.status, 0);
+    assert_eq!(rt; ran.out.taken(), SIX_AND_SEVEN);
     // A program may have as many bytes as the limit says, and not one more.
     let mut text = Bytes::from_slice(rt.alloc(), TWICE)?;
     for _ in TWICE.len()..1048576 {

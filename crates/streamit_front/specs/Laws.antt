@@ -1,16 +1,24 @@
 -- What is true of all texts.
-use Rattle.std.specs.Prelude.{◌≡◌, ℕ, List, Some}
+use Rattle.std.specs.Prelude.{◌≡◌, ℕ, List, Result, Ok, Err}
+use Rattle.work_code.specs.Tok.{Mark}
+use Rattle.work_code.specs.Lexis.{tokens_in}
+use Rattle.work_code.specs.declared.fault.LexFault.{LexFault}
 use Rattle.streamit_front.specs.Program.{Program}
 use Rattle.streamit_front.specs.Grammar.{IsText}
-use Rattle.streamit_front.specs.Reading.{compiled}
+use Rattle.streamit_front.specs.Meaning.{IsOnItem}
+use Rattle.streamit_front.specs.Reading.{Refusal, Syntax, compiled}
 
 -- the program of a text is the one that the grammar says
 abbrev pub ReadsWhatIsWritten : Type 0
-ReadsWhatIsWritten = (text : List ℕ) (p : Program) → compiled text ≡ Some p → IsText text p
+ReadsWhatIsWritten = (text : List ℕ) (p : Program) → compiled text ≡ Ok p → IsText text p
 
 abbrev pub ReadsAllThatIsWritten : Type 0
-ReadsAllThatIsWritten = (text : List ℕ) (p : Program) → IsText text p → compiled text ≡ Some p
+ReadsAllThatIsWritten = (text : List ℕ) (p : Program) → IsText text p → compiled text ≡ Ok p
 
 -- a text stands for one program at most
 abbrev pub OneProgram : Type 0
 OneProgram = (text : List ℕ) (p q : Program) → IsText text p → IsText text q → p ≡ q
+
+-- a unit that is refused is the first, of a text that has tokens and stands for no program
+abbrev pub RefusesWhatIsNotWritten : Type 0
+RefusesWhatIsNotWritten = (text : List ℕ) (unit : ℕ) → compiled text ≡ Err (Syntax unit) → (unit ≡ 1) × ((p : Program) → IsText text p → ⊥)

@@ -1,22 +1,27 @@
--- The program of a text, if it is one.
-use Rattle.std.specs.Prelude.{ℕ, ℤ, List, [], ◌∷◌, codes, Option, Some, None, Result, Ok, Err}
+-- The program of a text, or why it is none.
+use Rattle.std.specs.Prelude.{ℕ, List, [], ◌∷◌, codes, Option, Some, None, Result, Ok, Err}
 use Rattle.work_code.specs.Tok.{Tok, Mark, toks}
 use Rattle.work_code.specs.Lexis.{tokens_in}
+use Rattle.work_code.specs.Term.{Term}
 use Rattle.work_code.specs.declared.fault.LexFault.{LexFault}
-use Rattle.work_code.specs.declared.sign.Symbol.TheVariants.{Arrow, Open, Close, OpenBrace, CloseBrace, Semicolon, Star}
+use Rattle.work_code.specs.declared.fault.LexFault.TheVariants as lex
+use Rattle.work_code.specs.declared.sign.Symbol.TheVariants.{Arrow, Open, Close, OpenBrace, CloseBrace, Semicolon}
 use Rattle.text_forms.specs.declared.language.Language.TheVariants.{StreamIt}
 use Rattle.text_forms.specs.Language.{plain_name_at}
-use Rattle.text_forms.specs.Parse.{Parse, number_at, value_at, nothing_at, both, after, after_word, tested, seen}
+use Rattle.text_forms.specs.Ladder.{expr_at}
+use Rattle.text_forms.specs.Parse.{Parse, number_at, both, after, before, after_word, tested, seen, known}
 use Rattle.text_forms.specs.Texts.{whole}
 use Rattle.streamit_front.specs.Grammar.{is_one, made}
+use Rattle.streamit_front.specs.Items.{item_value}
 use Rattle.streamit_front.specs.Program.{Program}
 
-unfoldable pub body_at : Parse ℤ
-body_at ts =
-    after_word (codes "push") (after (Open ∷ []) (seen (λ v. v.0) (both {B = ℕ} value_at (after (Star ∷ []) (after_word (codes "pop")
-    (after (Open ∷ Close ∷ Close ∷ Semicolon ∷ CloseBrace ∷ CloseBrace ∷ []) (nothing_at 0))))))) ts
+unfoldable pub item_value_at : Parse Term
+item_value_at ts = known item_value (expr_at StreamIt 125) ts
 
-unfoldable pub work_at : Parse ℤ
+unfoldable pub body_at : Parse Term
+body_at ts = after_word (codes "push") (after (Open ∷ []) (before item_value_at (Close ∷ Semicolon ∷ CloseBrace ∷ CloseBrace ∷ []))) ts
+
+unfoldable pub work_at : Parse Term
 work_at ts =
     after_word (codes "push") (seen (λ v. v.1.1) (both (tested is_one number_at) (after_word (codes "pop") (both (tested is_one number_at) (after (OpenBrace ∷ []) body_at))))) ts
 
@@ -25,9 +30,26 @@ program_at ts =
     seen made (after_word (codes "int") (after (Arrow ∷ []) (after_word (codes "int") (after_word (codes "filter")
     (both (plain_name_at StreamIt) (after (OpenBrace ∷ []) (after_word (codes "work") work_at))))))) ts
 
-abbrev pub read_marks : Result (List Mark) LexFault → Option Program
-read_marks (Ok marks) = whole program_at (toks marks)
-read_marks (Err fault) = None
+-- why a text is no program: a byte where no token begins, a number that is too great, or a unit that is not in the grammar
+pub data Refusal : Type 0 where
+  BadByte : ℕ → Refusal
+  BigNumber : ℕ → Refusal
+  Syntax : ℕ → Refusal
 
-unfoldable pub compiled : List ℕ → Option Program
+-- the program of the tokens; a text has one unit
+abbrev pub or_syntax : Option Program → Result Program Refusal
+or_syntax (Some p) = Ok p
+or_syntax None = Err (Syntax 1)
+
+-- a fault of the lexer, which wants no memory here
+abbrev pub lexical : LexFault → Refusal
+lexical (lex.BadByte at) = BadByte at
+lexical (lex.BigNumber at) = BigNumber at
+lexical lex.NoMemory = Syntax 1
+
+abbrev pub read_marks : Result (List Mark) LexFault → Result Program Refusal
+read_marks (Ok marks) = or_syntax (whole program_at (toks marks))
+read_marks (Err fault) = Err (lexical fault)
+
+unfoldable pub compiled : List ℕ → Result Program Refusal
 compiled text = read_marks (tokens_in text)

@@ -1,10 +1,16 @@
--- When a text is refused.
-use Rattle.std.specs.Prelude.{◌≡◌, ℕ, Option, Some, None}
+-- Why a text is no program.
+use Rattle.std.specs.Prelude.{◌≡◌, ℕ, Result, Err}
+use Rattle.work_code.specs.declared.fault.LexFault.TheVariants as lex
 use Rattle.streamit_front.specs.declared.fault.StreamitFault.{StreamitFault}
-use Rattle.streamit_front.specs.declared.fault.StreamitFault.TheVariants.{Syntax, NoMemory}
+use Rattle.streamit_front.specs.declared.fault.StreamitFault.TheVariants.{Lex, Syntax, NoMemory}
 use Rattle.streamit_front.specs.Program.{Program}
+use Rattle.streamit_front.specs.Reading.{Refusal}
+use Rattle.streamit_front.specs.Reading as refusal
 
--- a refusal names unit 1, and only a text without a program is refused
-abbrev pub Refuses : Option Program → StreamitFault → Type 0
-Refuses read (Syntax unit) = (unit ≡ 1) × (read ≡ None)
+-- the fault is the one of the text, or there was no memory
+abbrev pub Refuses : Result Program Refusal → StreamitFault → Type 0
+Refuses read (Lex (lex.BadByte at)) = read ≡ Err (refusal.BadByte at)
+Refuses read (Lex (lex.BigNumber at)) = read ≡ Err (refusal.BigNumber at)
+Refuses read (Lex lex.NoMemory) = ⊥
+Refuses read (Syntax unit) = read ≡ Err (refusal.Syntax unit)
 Refuses read NoMemory = Unit {0}

@@ -1,9 +1,11 @@
 // From the text of a program to its tree.
-ghost use Rattle.std.specs.Prelude.{◌≡◌, ◌<◌, ◌^◌, length, IfOk, IfErr, Some};
+ghost use Rattle.std.specs.Prelude.{◌≡◌, ◌<◌, ◌^◌, length, IfOk, IfErr, Ok};
+ghost use Rattle.work_code.specs.Term.{term};
+ghost use Rattle.streamit_front.specs.Meaning.{IsOnItem};
 ghost use Rattle.streamit_front.specs.Program.{program_of};
 ghost use Rattle.streamit_front.specs.Reading.{compiled};
 ghost use Rattle.streamit_front.specs.Refusals.{Refuses};
-ghost use Rattle.streamit_front.specs.Reading.{program_at};
+ghost use Rattle.streamit_front.specs.Reading.{program_at, or_syntax};
 ghost use Rattle.text_forms.specs.Texts.{whole};
 ghost use Rattle.work_code.specs.Tok.{toks};
 
@@ -19,23 +21,26 @@ use work_code::{LexFault, Tokens, lex};
 ///
 /// # Errors
 ///
-/// `Syntax` with unit 1 where the text is no program, one whose bytes have no tokens included.
+/// `Lex` with the first fault of the text where its bytes have no tokens; otherwise `Syntax` with unit 1 where they are
+/// no program.
 pub fn compile_streamit(alloc: Global, text: &Bytes) -> Result<StreamitProgram, StreamitFault>
     requires { length text.now < 2 ^ 32 }
-    ensures read { IfOk result (λ p. compiled text.now ≡ Some (program_of p)) }
+    ensures read { IfOk result (λ p. compiled text.now ≡ Ok (program_of p)) }
+    ensures within { IfOk result (λ p. IsOnItem (term p.value)) }
     ensures refused { IfErr result (Refuses (compiled text.now)) }
 {
     match lex(alloc, text) {
         Ok(tokens) => read(alloc, &tokens),
-        Err(LexFault::BadByte { .. }) => Err(StreamitFault::Syntax { unit: 1 }),
-        Err(LexFault::BigNumber { .. }) => Err(StreamitFault::Syntax { unit: 1 }),
+        Err(LexFault::BadByte { at }) => Err(StreamitFault::Lex(LexFault::BadByte { at })),
+        Err(LexFault::BigNumber { at }) => Err(StreamitFault::Lex(LexFault::BigNumber { at })),
         Err(LexFault::NoMemory) => Err(StreamitFault::NoMemory),
     }
 }
 
 fn read(alloc: Global, tokens: &Tokens<'_>) -> Result<StreamitProgram, StreamitFault>
-    ensures read { IfOk result (λ p. whole program_at (toks tokens.now) ≡ Some (program_of p)) }
-    ensures refused { IfErr result (Refuses (whole program_at (toks tokens.now))) }
+    ensures read { IfOk result (λ p. or_syntax (whole program_at (toks tokens.now)) ≡ Ok (program_of p)) }
+    ensures within { IfOk result (λ p. IsOnItem (term p.value)) }
+    ensures refused { IfErr result (Refuses (or_syntax (whole program_at (toks tokens.now)))) }
 {
     let mut reader = Reader::new(tokens.as_slice());
     match program(&mut reader, alloc) {

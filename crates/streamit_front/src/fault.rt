@@ -1,8 +1,12 @@
 // Why a text is no program.
 
+use work_code::LexFault;
+
 /// Why a text is no program.
 #[derive(Clone, Copy, Debug, PartialEq, Eq)]
 pub enum StreamitFault {
+    /// The text has no tokens: a byte where none begins, or a number that is too great.
+    Lex(LexFault),
     /// This unit of the text, from 1, is not in the grammar.
     Syntax { unit: u32 },
     /// There was no memory.

@@ -1,10 +1,15 @@
 //! Laws over the definitions alone.
-ghost use Rattle.streamit_front.specs.Laws.{ReadsWhatIsWritten, ReadsAllThatIsWritten, OneProgram};
+ghost use Rattle.streamit_front.specs.Laws.{ReadsWhatIsWritten, ReadsAllThatIsWritten, OneProgram, RefusesWhatIsNotWritten};
 
 /// What is read of a text is what the grammar says, and there is one such program at most.
-#[tactic(auto, using(crate::proofs::Grammar::reads_what_is_written, crate::proofs::Grammar::reads_all_that_is_written, crate::proofs::Grammar::one_program))]
+#[tactic(auto, using(crate::proofs::Grammar::reads_what_is_written, crate::proofs::Grammar::reads_all_that_is_written))]
 pub fn reading_is_the_grammar()
     ensures sound { ReadsWhatIsWritten }
     ensures complete { ReadsAllThatIsWritten }
     ensures one { OneProgram }
+{}
+
+/// A text that is refused for its unit stands for no program.
+pub fn what_is_refused_is_no_program()
+    ensures { RefusesWhatIsNotWritten }
 {}

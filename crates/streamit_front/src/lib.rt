@@ -1,8 +1,9 @@
-//! StreamIt programs of one filter that pushes a number times each item.
+//! StreamIt programs of one filter that pushes the value of an expression for each item.
 #![tactic(auto)]
 
 mod compile;
 mod fault;
+mod item;
 pub mod laws;
 mod program;
 mod reading;

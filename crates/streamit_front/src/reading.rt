@@ -1,5 +1,7 @@
 // Reads a program from its tokens.
-ghost use Rattle.std.specs.Prelude.{◌≡◌, codes};
+ghost use Rattle.std.specs.Prelude.{◌≡◌, codes, IfOk};
+ghost use Rattle.work_code.specs.Term.{term};
+ghost use Rattle.streamit_front.specs.Meaning.{IsOnItem};
 ghost use Rattle.text_forms.specs.Gives.{Gives};
 ghost use Rattle.text_forms.specs.Parse.{tested, number_at};
 ghost use Rattle.streamit_front.specs.Grammar.{is_one};
@@ -7,43 +9,42 @@ ghost use Rattle.streamit_front.specs.Reading.{body_at, work_at, program_at};
 ghost use Rattle.streamit_front.specs.Program.{program_of};
 
 use crate::StreamitProgram;
+use crate::item::item_value;
 use river_base::Bytes;
 use std::alloc::Global;
 use text_forms::{Fault, Language, Reader};
-use work_code::Symbol;
+use work_code::{Expr, Symbol};
 
-// "push" "(" NUMBER "*" "pop" "(" ")" ")" ";" "}" "}"
+// "push" "(" expression ")" ";" "}" "}"
 #[tactic(auto, unfolding(crate::specs::Reading::body_at))]
-fn body(reader: &mut Reader<'_>) -> Result<i64, Fault>
-    ensures { Gives (λ n. n) result reader.new (body_at reader.old) }
+fn body(reader: &mut Reader<'_>, alloc: Global) -> Result<Expr, Fault>
+    ensures reads { Gives term result reader.new (body_at reader.old) }
+    ensures within { IfOk result (λ value. IsOnItem (term value)) }
 {
     reader.word(b"push")?;
     reader.expect(&[Symbol::Open])?;
-    let factor = reader.value()?;
-    reader.expect(&[Symbol::Star])?;
-    reader.word(b"pop")?;
+    let value = item_value(reader, alloc)?;
     reader.expect(&[
-        Symbol::Open,
-        Symbol::Close,
         Symbol::Close,
         Symbol::Semicolon,
         Symbol::CloseBrace,
         Symbol::CloseBrace,
     ])?;
-    Ok(factor)
+    Ok(value)
 }
 
 // "push" 1 "pop" 1 "{" body
 #[tactic(auto, unfolding(crate::specs::Reading::work_at))]
-fn work(reader: &mut Reader<'_>) -> Result<i64, Fault>
-    ensures { Gives (λ n. n) result reader.new (work_at reader.old) }
+fn work(reader: &mut Reader<'_>, alloc: Global) -> Result<Expr, Fault>
+    ensures reads { Gives term result reader.new (work_at reader.old) }
+    ensures within { IfOk result (λ value. IsOnItem (term value)) }
 {
     reader.word(b"push")?;
     one(reader)?;
     reader.word(b"pop")?;
     one(reader)?;
     reader.expect(&[Symbol::OpenBrace])?;
-    body(reader)
+    body(reader, alloc)
 }
 
 // the number 1
@@ -61,7 +62,8 @@ fn one(reader: &mut Reader<'_>) -> Result<u64, Fault>
 // "int" "->" "int" "filter" NAME "{" "work" work
 #[tactic(auto, unfolding(crate::specs::Reading::program_at))]
 pub fn program(reader: &mut Reader<'_>, alloc: Global) -> Result<StreamitProgram, Fault>
-    ensures { Gives program_of result reader.new (program_at reader.old) }
+    ensures reads { Gives program_of result reader.new (program_at reader.old) }
+    ensures within { IfOk result (λ p. IsOnItem (term p.value)) }
 {
     reader.word(b"int")?;
     reader.expect(&[Symbol::Arrow])?;
@@ -70,9 +72,9 @@ pub fn program(reader: &mut Reader<'_>, alloc: Global) -> Result<StreamitProgram
     let name = reader.plain_name(Language::StreamIt)?;
     reader.expect(&[Symbol::OpenBrace])?;
     reader.word(b"work")?;
-    let factor = work(reader)?;
+    let value = work(reader, alloc)?;
     Ok(StreamitProgram {
         name: Bytes::from_slice(alloc, name)?,
-        factor,
+        value,
     })
 }

@@ -69,7 +69,7 @@ some_depth (Neg t) = omega arith
 some_depth (Not t) = omega arith
 some_depth (Bin o l r) = omega arith
 
-is_count-below : (n : ℕ) → n < 4294967296 → is_count n ≡ true
+pub is_count-below : (n : ℕ) → n < 4294967296 → is_count n ≡ true
 is_count-below n lt = grind (arith, nat_tests)
 
 -- what is on a line of the grammar is on each looser line
@@ -125,15 +125,15 @@ printed-is t n w d m = (looser n (spoken_of t) (printed t) (printed-spells t n w
 
 -- ---- the bytes of the text have these tokens
 
-symbol-then : {ok : List ℕ → Type 0} (x : Symbol) (u : List ℕ) (us : List Tok) → Spells u us ok → ((rest : List ℕ) → ok rest → MayFollow x (u ++ rest)) → Spells (symbol_bytes x ++ u) (symbol x ∷ us) ok
+pub symbol-then : {ok : List ℕ → Type 0} (x : Symbol) (u : List ℕ) (us : List Tok) → Spells u us ok → ((rest : List ℕ) → ok rest → MayFollow x (u ++ rest)) → Spells (symbol_bytes x ++ u) (symbol x ∷ us) ok
 symbol-then x u us h follows = spells-then (symbol_bytes x) (symbol x ∷ []) u us (spells-symbol x) h follows
 
 -- no word goes on at these
-close_is_no_word : (rest : List ℕ) → Anything rest → NoWord (codes ")" ++ rest)
+pub close_is_no_word : (rest : List ℕ) → Anything rest → NoWord (codes ")" ++ rest)
 unfolding first_is is_word is_letter is_digit
 close_is_no_word rest any = refl
 
-square_is_no_word : (rest : List ℕ) → Anything rest → NoWord (codes "]" ++ rest)
+pub square_is_no_word : (rest : List ℕ) → Anything rest → NoWord (codes "]" ++ rest)
 unfolding first_is is_word is_letter is_digit
 square_is_no_word rest any = refl
 
@@ -166,12 +166,12 @@ slot_is : is_name_text (codes "slot") ≡ true
 unfolding is_letter is_word is_digit
 slot_is = refl
 
-blank_is : is_blank 32 ≡ true
+pub blank_is : is_blank 32 ≡ true
 unfolding is_blank
 blank_is = refl
 
 -- a blank before a text
-blank-then : {ok : List ℕ → Type 0} (u : List ℕ) (us : List Tok) → Spells u us ok → Spells (codes " " ++ u) us ok
+pub blank-then : {ok : List ℕ → Type 0} (u : List ℕ) (us : List Tok) → Spells u us ok → Spells (codes " " ++ u) us ok
 blank-then u us h = spells-then (codes " ") [] u us (spells-blank 32 blank_is) h (λ rest any. tt)
 
 sign_text-is : (o : BinOp) → symbol_bytes (grammar.sign_of o) ≡ sign_text o
@@ -205,7 +205,7 @@ begins (Neg t) rest w = (refl, refl)
 begins (Not t) rest w = (refl, refl)
 begins (Bin o l r) rest w = (refl, refl)
 
-bracketed : {ok : List ℕ → Type 0} (u v : List ℕ) (us : List Tok) → u ≡ v → Spells u us ok → Spells v us ok
+pub bracketed : {ok : List ℕ → Type 0} (u v : List ℕ) (us : List Tok) → u ≡ v → Spells u us ok → Spells v us ok
 bracketed {ok} u v us same h = subst (λ (l : List ℕ). Spells l us ok) same h
 
 -- the printed text of an expression has its tokens

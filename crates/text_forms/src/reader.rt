@@ -1,5 +1,5 @@
 // A reader of tokens.
-ghost use Rattle.std.specs.Prelude.{◌≡◌, ◌-◌, IfOk, MatchOption, List, [], ◌∷◌, if◌then◌else◌, IsTrue, ◌↔◌};
+ghost use Rattle.std.specs.Prelude.{◌≡◌, ◌-◌, ◌<◌, IfOk, OnOk, MatchOption, List, [], ◌∷◌, if◌then◌else◌, IsTrue, ◌↔◌};
 ghost use Rattle.std.specs.Int.{IsNonNegative};
 ghost use Rattle.text_forms.specs.Tail.{tail};
 ghost use Rattle.text_forms.specs.Parse.{begins_with, is_word_at, word_at, run_at, name_at, var_at, number_at, count_at, open_at, value_at};
@@ -98,6 +98,7 @@ impl<'a> Reader<'a> {
     pub fn opens(&mut self, symbol: Symbol, brackets: u32) -> Result<u32, Fault>
         ensures passes { Passes result self.new (open_at symbol brackets self.old) }
         ensures fewer { IfOk result (λ n. n ≡ brackets - 1) }
+        ensures some { OnOk result (0 < brackets) }
     {
         if brackets == 0 {
             return Err(Fault::Syntax);

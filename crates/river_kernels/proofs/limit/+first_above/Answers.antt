@@ -2,7 +2,8 @@ use Rattle.std.proofs.Common.{◌≡◌, ℕ, Option, ap, sym, ◌∙◌}
 use Rattle.river_kernels.specs.declared.kernel.Kernel.{Kernel}
 use Rattle.river_kernels.specs.Kern.{kern_of}
 use Rattle.river_kernels.specs.Limits.{either, first_above, part_numbers}
-use Rattle.river_kernels.proofs.LimitLemmas.{first_above-append, kern_of-fused}
+use Rattle.river_kernels.proofs.KernLemmas.{kern_of-fused}
+use Rattle.river_kernels.proofs.LimitLemmas.{first_above-append}
 use Rattle.river_kernels.proofs.limit.+first_above.Goals as goal
 
 pub returns-in-Fused : goal.returns-in-Fused
@@ -11,5 +12,5 @@ returns-in-Fused t c =
     let a : c.first_above-number.result ≡ found c.in-Fused.first.value = c.first_above-number.ensures ∙ ap found c.deref-in-Fused.ensures in
     let b : c.first_above-in-Fused.result ≡ found c.in-Fused.second.value = c.first_above-in-Fused.ensures ∙ ap found c.deref-in-Fused-2.ensures in
     c.either-in-Fused.ensures ∙ ap (λ o. either o c.first_above-in-Fused.result) a ∙ ap (λ o. either (found c.in-Fused.first.value) o) b
-    ∙ sym (ap (λ k. first_above c.args.most (part_numbers c.args.limit k)) (kern_of-fused c.args.kernel.now c.in-Fused.first c.in-Fused.second c.in-Fused.at c.in-Fused.is)
+    ∙ sym (ap (λ k. first_above c.args.most (part_numbers c.args.limit k)) (ap kern_of c.in-Fused.is ∙ kern_of-fused c.in-Fused.first c.in-Fused.second c.in-Fused.at)
     ∙ first_above-append c.args.most (part_numbers c.args.limit (kern_of c.in-Fused.first.value)) (part_numbers c.args.limit (kern_of c.in-Fused.second.value)))

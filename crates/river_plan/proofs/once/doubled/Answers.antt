@@ -15,10 +15,10 @@ loop-name-init c = record {
 pub loop-name-preserved : goal.loop-name-preserved
 loop-name-preserved c = record {
   seen = same-next c.args.given.now c.loop-name.seen c.note.new.seen c.as_slice-name-items.result.now c.loop-name.name-index c.name-item.result
-    c.in_ok-note.ensures.seen c.loop-name-test.true c.name-item.is c.loop-name.invariant.seen;
+      c.in_ok-note.ensures.seen c.loop-name-test.true c.name-item.is c.loop-name.invariant.seen;
   doubled = subst (λ (l : List Name). AreDoubled c.args.given.now l c.note.new.doubled)
-    (ap (λ (y : Name). take c.loop-name.name-index c.as_slice-name-items.result.now ++ y ∷ []) c.name-item.is ∙ sym (take_more c.as_slice-name-items.result.now c.loop-name.name-index c.name-item.result c.loop-name-test.true))
-    (doubled-next c.args.given.now (take c.loop-name.name-index c.as_slice-name-items.result.now) c.loop-name.seen c.loop-name.doubled c.note.new.doubled c.name-item.result
+      (ap (λ (y : Name). take c.loop-name.name-index c.as_slice-name-items.result.now ++ y ∷ []) c.name-item.is ∙ sym (take_more c.as_slice-name-items.result.now c.loop-name.name-index c.name-item.result c.loop-name-test.true))
+      (doubled-next c.args.given.now (take c.loop-name.name-index c.as_slice-name-items.result.now) c.loop-name.seen c.loop-name.doubled c.note.new.doubled c.name-item.result
       c.loop-name.invariant.seen c.loop-name.invariant.doubled c.in_ok-note.ensures.doubled);
 }
 

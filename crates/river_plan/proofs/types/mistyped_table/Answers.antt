@@ -13,8 +13,12 @@ pub loop-table-preserved : goal.loop-table-preserved
 loop-table-preserved c = remains-next _ _ _ _ c.loop-table-test.true c.table-item.is (c.if-not-is_table.ensures.0 refl) c.loop-table.invariant
 
 pub returns-then-not-is_table : goal.returns-then-not-is_table
-returns-then-not-is_table c = (c.table-item.result, refl, subst (λ (l : List TableDecl). IsFirst (λ before d. IsTable d.kind) l (Some c.table-item.result)) c.as_slice-table-items.ensures
-    (remains-found _ _ _ _ _ c.loop-table-test.true c.table-item.is ((λ g. not_false (c.if-not-is_table.ensures.1 g)), refl) c.loop-table.invariant))
+returns-then-not-is_table c = (
+  c.table-item.result,
+  refl,
+  subst (λ (l : List TableDecl). IsFirst (λ before d. IsTable d.kind) l (Some c.table-item.result)) c.as_slice-table-items.ensures
+      (remains-found _ _ _ _ _ c.loop-table-test.true c.table-item.is ((λ g. not_false (c.if-not-is_table.ensures.1 g)), refl) c.loop-table.invariant),
+)
 
 pub returns : goal.returns
 returns c = subst (λ (l : List TableDecl). IsFirst (λ before d. IsTable d.kind) l None) c.as_slice-table-items.ensures

@@ -1,0 +1,21 @@
+-- The point of a program that is refused.
+use Rattle.std.proofs.Common.{◌≡◌, ℕ, List, refl}
+use Rattle.std.specs.Prelude.{Result}
+use Rattle.work_code.specs.declared.fault.LexFault.TheVariants as lex
+use Rattle.streamit_front.specs.declared.fault.StreamitFault.{StreamitFault}
+use Rattle.streamit_front.specs.declared.fault.StreamitFault.TheVariants as fault
+use Rattle.streamit_front.specs.Program.{Program}
+use Rattle.streamit_front.specs.Reading.{Refusal}
+use Rattle.streamit_front.specs.Refusals.{Refuses}
+use Rattle.river_order.specs.Order.{Ends, Refused}
+use Rattle.river_cli.specs.declared.words.InWord.{InWord}
+use Rattle.river_cli.specs.Points.{of_program}
+use Rattle.river_cli.specs.Says.{SaysFault}
+
+pub program-refused : (input : InWord) (read : Result Program Refusal) (f : StreamitFault) (text : List ℕ) → Refuses read f → SaysFault f text → of_program input read ≡ Ends (Refused text)
+unfolding of_program
+program-refused input read (fault.Lex (lex.BadByte at)) text is says = rw (is, says) refl
+program-refused input read (fault.Lex (lex.BigNumber at)) text is says = rw (is, says) refl
+program-refused input read (fault.Lex lex.NoMemory) text is says = absurd is
+program-refused input read (fault.Syntax unit) text is says = rw (is, says) refl
+program-refused input read fault.NoMemory text is says = absurd says
