@@ -5,7 +5,9 @@ ghost use Rattle.work_code.specs.Steps.{steps};
 ghost use Rattle.river_kernels.specs.Kern.{kern_of};
 ghost use Rattle.river_print.specs.Printed.{kernel_text, code_text, filter_text, rates_text, run_text, window_text, streamer_text};
 
-use crate::items::{exprs, in_brackets, next_number, number, starts, two_in_brackets, value, values};
+use crate::items::{
+    exprs, in_brackets, next_number, number, starts, two_in_brackets, value, values,
+};
 use kern_bags::{Streamer, Window};
 use kern_rows::{CodeKernel, Filter};
 use river_base::{Bytes, NoMemory};
