@@ -6,3 +6,6 @@ mod kernel;
 mod plan;
 
 pub use plan::print_raw;
+
+#[cfg(test)]
+mod tests;
