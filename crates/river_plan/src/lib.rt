@@ -27,6 +27,3 @@ pub use plan::{Decl, Decls, RawPlan, TableDecl, TableDecls};
 pub use river_base::{FlatType, QueueType};
 pub use river_kernels::{Kernel, Limit};
 pub use valid::Plan;
-
-#[cfg(test)]
-mod tests;
