@@ -1,6 +1,7 @@
 pub mod JudgeLemmas
 pub mod MapLemmas
 pub mod NameLemmas
+pub mod OneFirst
 pub mod OverLemmas
 pub mod Remains
 pub mod Searches
