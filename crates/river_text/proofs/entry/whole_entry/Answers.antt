@@ -12,5 +12,5 @@ left e = cc
 pub returns-then-not-is_at_end : goal.returns-then-not-is_at_end
 returns-then-not-is_at_end c =
     whole-more c.args.stage (tokens_of c.args.tokens.now) c.unit.new.reader (entry_of c.in_ok-entry.entry)
-      (ap unit_at (sym c.new-reader.ensures) ∙ c.in_ok-entry.ensures)
-      (λ end. left (sym c.if-not-is_at_end.true ∙ c.is_at_end.ensures.1 end))
+    (ap unit_at (sym c.new-reader.ensures) ∙ c.in_ok-entry.ensures)
+    (λ end. left (sym c.if-not-is_at_end.true ∙ c.is_at_end.ensures.1 end))
