@@ -6,6 +6,8 @@ mod formed;
 mod inference;
 mod kernel;
 mod limit;
+#[cfg(test)]
+mod tests;
 mod types;
 
 pub use fitting::fits;

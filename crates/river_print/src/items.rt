@@ -1,0 +1,217 @@
+// Prints numbers, and items joined by a comma and a space.
+ghost use Rattle.std.specs.Prelude.{◌≡◌, ◌++◌, [], ◌∷◌, map, codes, OnOk};
+ghost use Rattle.std.specs.Fmt.{decimal, signed_decimal};
+ghost use Rattle.work_code.specs.Term.{term};
+ghost use Rattle.work_code.specs.Printed.{text_of, items_text, more_items};
+ghost use Rattle.river_print.specs.Printed.{start_text, values_text, starts_text, list_text, var_text, ports_text};
+
+use river_base::{Bytes, Name, NoMemory};
+use std::alloc::Global;
+use work_code::{Expr, print_expr};
+
+/// Appends a number in decimal.
+pub fn number(alloc: Global, number: u32, to: &mut Bytes) -> Result<(), NoMemory>
+    ensures { OnOk result (to.new ≡ to.old ++ decimal number) }
+{
+    let text = number.to_string(alloc)?;
+    to.extend(text.as_bytes())?;
+    Ok(())
+}
+
+/// Appends a value in decimal, with its sign where it is below 0.
+pub fn value(alloc: Global, value: i64, to: &mut Bytes) -> Result<(), NoMemory>
+    ensures { OnOk result (to.new ≡ to.old ++ signed_decimal value) }
+{
+    let text = value.to_string(alloc)?;
+    to.extend(text.as_bytes())?;
+    Ok(())
+}
+
+/// Appends a start; the least value is `min`.
+pub fn start(alloc: Global, start: i64, to: &mut Bytes) -> Result<(), NoMemory>
+    ensures { OnOk result (to.new ≡ to.old ++ start_text start) }
+{
+    if start == i64::MIN {
+        to.extend(b"min")?;
+        return Ok(());
+    }
+    value(alloc, start, to)?;
+    Ok(())
+}
+
+/// Appends one number in brackets.
+#[tactic(auto, using(crate::proofs::Joined::joins))]
+pub fn in_brackets(alloc: Global, n: u32, to: &mut Bytes) -> Result<(), NoMemory>
+    ensures { OnOk result (to.new ≡ to.old ++ list_text (decimal n ∷ [])) }
+{
+    to.extend(b"(")?;
+    number(alloc, n, to)?;
+    to.extend(b")")?;
+    Ok(())
+}
+
+/// Appends a number behind a comma and a space.
+#[tactic(auto, using(crate::proofs::Joined::joins))]
+pub fn next_number(alloc: Global, n: u32, to: &mut Bytes) -> Result<(), NoMemory>
+    ensures { OnOk result (to.new ≡ to.old ++ (codes ", " ++ decimal n)) }
+{
+    to.extend(b", ")?;
+    number(alloc, n, to)?;
+    Ok(())
+}
+
+/// Appends two numbers in brackets.
+#[tactic(auto, using(crate::proofs::Joined::joins))]
+pub fn two_in_brackets(alloc: Global, a: u32, b: u32, to: &mut Bytes) -> Result<(), NoMemory>
+    ensures { OnOk result (to.new ≡ to.old ++ list_text (decimal a ∷ decimal b ∷ [])) }
+{
+    to.extend(b"(")?;
+    number(alloc, a, to)?;
+    to.extend(b", ")?;
+    number(alloc, b, to)?;
+    to.extend(b")")?;
+    Ok(())
+}
+
+/// Appends values in brackets.
+#[tactic(auto, using(crate::proofs::Joined::joins))]
+pub fn values(alloc: Global, items: &[i64], to: &mut Bytes) -> Result<(), NoMemory>
+    ensures { OnOk result (to.new ≡ to.old ++ values_text items.now) }
+{
+    to.extend(b"(")?;
+    if let Some((first, rest)) = items.split_first() {
+        value(alloc, *first, to)?;
+        more_values(alloc, rest, to)?;
+    }
+    to.extend(b")")?;
+    Ok(())
+}
+
+#[tactic(auto, using(crate::proofs::Joined::joins))]
+fn more_values(alloc: Global, items: &[i64], to: &mut Bytes) -> Result<(), NoMemory>
+    ensures { OnOk result (to.new ≡ to.old ++ more_items (map signed_decimal items.now)) }
+{
+    for item in items {
+        to.extend(b", ")?;
+        value(alloc, *item, to)?;
+    }
+    Ok(())
+}
+
+/// Appends starts in brackets.
+#[tactic(auto, using(crate::proofs::Joined::joins))]
+pub fn starts(alloc: Global, items: &[i64], to: &mut Bytes) -> Result<(), NoMemory>
+    ensures { OnOk result (to.new ≡ to.old ++ starts_text items.now) }
+{
+    to.extend(b"(")?;
+    if let Some((first, rest)) = items.split_first() {
+        start(alloc, *first, to)?;
+        more_starts(alloc, rest, to)?;
+    }
+    to.extend(b")")?;
+    Ok(())
+}
+
+#[tactic(auto, using(crate::proofs::Joined::joins))]
+fn more_starts(alloc: Global, items: &[i64], to: &mut Bytes) -> Result<(), NoMemory>
+    ensures { OnOk result (to.new ≡ to.old ++ more_items (map start_text items.now)) }
+{
+    for item in items {
+        to.extend(b", ")?;
+        start(alloc, *item, to)?;
+    }
+    Ok(())
+}
+
+/// Appends expressions in brackets.
+#[tactic(auto, using(crate::proofs::Joined::joins))]
+pub fn exprs(alloc: Global, items: &[Expr], to: &mut Bytes) -> Result<(), NoMemory>
+    ensures { OnOk result (to.new ≡ to.old ++ list_text (map text_of (map term items.now))) }
+{
+    to.extend(b"(")?;
+    if let Some((first, rest)) = items.split_first() {
+        print_expr(alloc, first, to)?;
+        more_exprs(alloc, rest, to)?;
+    }
+    to.extend(b")")?;
+    Ok(())
+}
+
+#[tactic(auto, using(crate::proofs::Joined::joins))]
+fn more_exprs(alloc: Global, items: &[Expr], to: &mut Bytes) -> Result<(), NoMemory>
+    ensures { OnOk result (to.new ≡ to.old ++ more_items (map text_of (map term items.now))) }
+{
+    for item in items {
+        to.extend(b", ")?;
+        print_expr(alloc, item, to)?;
+    }
+    Ok(())
+}
+
+/// Appends the names of queues and then those of variables, in brackets.
+#[tactic(auto, using(crate::proofs::Joined::joins))]
+pub fn ports(queues: &[Name], vars: &[Name], to: &mut Bytes) -> Result<(), NoMemory>
+    ensures { OnOk result (to.new ≡ to.old ++ ports_text queues.now vars.now) }
+{
+    to.extend(b"(")?;
+    port_items(queues, vars, to)?;
+    to.extend(b")")?;
+    Ok(())
+}
+
+#[tactic(auto, using(crate::proofs::Joined::ports))]
+fn port_items(queues: &[Name], vars: &[Name], to: &mut Bytes) -> Result<(), NoMemory>
+    ensures { OnOk result (to.new ≡ to.old ++ items_text (queues.now ++ map var_text vars.now)) }
+{
+    let Some((first, rest)) = queues.split_first() else {
+        return var_items(vars, to);
+    };
+    to.extend(first.as_slice())?;
+    more_queues(rest, to)?;
+    more_vars(vars, to)?;
+    Ok(())
+}
+
+#[tactic(auto, using(crate::proofs::Joined::joins))]
+fn var_items(vars: &[Name], to: &mut Bytes) -> Result<(), NoMemory>
+    ensures { OnOk result (to.new ≡ to.old ++ items_text (map var_text vars.now)) }
+{
+    let Some((first, rest)) = vars.split_first() else {
+        return Ok(());
+    };
+    var(first, to)?;
+    more_vars(rest, to)?;
+    Ok(())
+}
+
+/// Appends a variable with its dollar sign.
+#[tactic(auto, using(crate::proofs::Joined::joins))]
+pub fn var(name: &Name, to: &mut Bytes) -> Result<(), NoMemory>
+    ensures { OnOk result (to.new ≡ to.old ++ var_text name.now) }
+{
+    to.extend(b"$")?;
+    to.extend(name.as_slice())?;
+    Ok(())
+}
+
+#[tactic(auto, using(crate::proofs::Joined::joins))]
+fn more_queues(items: &[Name], to: &mut Bytes) -> Result<(), NoMemory>
+    ensures { OnOk result (to.new ≡ to.old ++ more_items items.now) }
+{
+    for item in items {
+        to.extend(b", ")?;
+        to.extend(item.as_slice())?;
+    }
+    Ok(())
+}
+
+#[tactic(auto, using(crate::proofs::Joined::joins))]
+fn more_vars(items: &[Name], to: &mut Bytes) -> Result<(), NoMemory>
+    ensures { OnOk result (to.new ≡ to.old ++ more_items (map var_text items.now)) }
+{
+    for item in items {
+        to.extend(b", ")?;
+        var(item, to)?;
+    }
+    Ok(())
+}

@@ -1,0 +1,163 @@
+// Prints kernels.
+ghost use Rattle.std.specs.Prelude.{◌≡◌, ◌++◌, OnOk, OnErr};
+ghost use Rattle.kern_rows.specs.Forms.{code_form, filter_form};
+ghost use Rattle.work_code.specs.Steps.{steps};
+ghost use Rattle.river_kernels.specs.Kern.{kern_of};
+ghost use Rattle.river_print.specs.Printed.{kernel_text, code_text, filter_text, rates_text, run_text, window_text, streamer_text};
+
+use crate::items::{
+    exprs, in_brackets, next_number, number, starts, two_in_brackets, value, values,
+};
+use kern_bags::{Streamer, Window};
+use kern_rows::{CodeKernel, Filter};
+use river_base::{Bytes, NoMemory};
+use river_kernels::Kernel;
+use std::alloc::Global;
+use work_code::{Code, print_code, print_expr};
+
+/// Appends the text of a kernel; where there is no memory, maybe a part of it.
+#[tactic(auto, using(crate::proofs::Joined::joins))]
+pub fn print_kernel(alloc: Global, kernel: &Kernel, to: &mut Bytes) -> Result<(), NoMemory>
+    ensures { OnOk result (to.new ≡ to.old ++ kernel_text (kern_of kernel.now)) }
+{
+    match kernel {
+        Kernel::Code(code) => print_code_kernel(alloc, code, to),
+        Kernel::Filter(filter) => print_filter(alloc, filter, to),
+        Kernel::Duplicate(ports) => {
+            to.extend(b"duplicate")?;
+            in_brackets(alloc, *ports, to)?;
+            Ok(())
+        }
+        Kernel::Deal(weights) => {
+            to.extend(b"deal")?;
+            values(alloc, weights.as_slice(), to)?;
+            Ok(())
+        }
+        Kernel::Collect(weights) => {
+            to.extend(b"collect")?;
+            values(alloc, weights.as_slice(), to)?;
+            Ok(())
+        }
+        Kernel::Packed(inner) => {
+            to.extend(b"packed { ")?;
+            print_kernel(alloc, inner, to)?;
+            to.extend(b" }")?;
+            Ok(())
+        }
+        Kernel::Unpack(ports) => {
+            to.extend(b"unpack")?;
+            in_brackets(alloc, *ports, to)?;
+            Ok(())
+        }
+        Kernel::Window(window) => print_window(alloc, *window, to),
+        Kernel::Select(cond) => {
+            to.extend(b"select(")?;
+            print_expr(alloc, cond, to)?;
+            to.extend(b")")?;
+            Ok(())
+        }
+        Kernel::Project(list) => {
+            to.extend(b"project")?;
+            exprs(alloc, list.as_slice(), to)?;
+            Ok(())
+        }
+        Kernel::Cross => {
+            to.extend(b"cross")?;
+            Ok(())
+        }
+        Kernel::Streamer(streamer) => print_streamer(*streamer, to),
+        Kernel::Tally => {
+            to.extend(b"tally")?;
+            Ok(())
+        }
+        Kernel::Fused { first, second, at } => {
+            to.extend(b"fused")?;
+            in_brackets(alloc, *at, to)?;
+            to.extend(b" { ")?;
+            print_kernel(alloc, first, to)?;
+            to.extend(b" } { ")?;
+            print_kernel(alloc, second, to)?;
+            to.extend(b" }")?;
+            Ok(())
+        }
+    }
+}
+
+#[tactic(auto, using(crate::proofs::Joined::joins))]
+fn print_code_kernel(alloc: Global, kernel: &CodeKernel, to: &mut Bytes) -> Result<(), NoMemory>
+    ensures { OnOk result (to.new ≡ to.old ++ code_text (code_form kernel.now)) }
+{
+    to.extend(b"code")?;
+    two_in_brackets(alloc, kernel.code.inputs, kernel.code.slots, to)?;
+    to.extend(b" ")?;
+    values(alloc, kernel.outs.as_slice(), to)?;
+    print_run(alloc, kernel.starts.as_slice(), &kernel.code, to)?;
+    Ok(())
+}
+
+#[tactic(auto, using(crate::proofs::Joined::joins))]
+fn print_filter(alloc: Global, filter: &Filter, to: &mut Bytes) -> Result<(), NoMemory>
+    ensures { OnOk result (to.new ≡ to.old ++ filter_text (filter_form filter.now)) }
+{
+    to.extend(b"filter")?;
+    print_rates(alloc, filter, to)?;
+    print_run(alloc, filter.starts.as_slice(), &filter.code, to)?;
+    Ok(())
+}
+
+// The starts and the body, each behind a space.
+#[tactic(auto, using(crate::proofs::Joined::joins))]
+fn print_run(alloc: Global, kept: &[i64], code: &Code, to: &mut Bytes) -> Result<(), NoMemory>
+    ensures { OnOk result (to.new ≡ to.old ++ run_text kept.now (steps code.now.body)) }
+{
+    to.extend(b" ")?;
+    starts(alloc, kept, to)?;
+    to.extend(b" ")?;
+    print_code(alloc, code, to)?;
+    Ok(())
+}
+
+// The rates of a filter and how many slots it has, in brackets.
+#[tactic(auto, using(crate::proofs::Joined::joins))]
+fn print_rates(alloc: Global, filter: &Filter, to: &mut Bytes) -> Result<(), NoMemory>
+    ensures { OnOk result (to.new ≡ to.old ++ rates_text (filter_form filter.now)) }
+{
+    to.extend(b"(")?;
+    number(alloc, filter.peek, to)?;
+    next_number(alloc, filter.pop, to)?;
+    next_number(alloc, filter.push, to)?;
+    next_number(alloc, filter.code.slots, to)?;
+    to.extend(b")")?;
+    Ok(())
+}
+
+#[tactic(auto, using(crate::proofs::Joined::joins))]
+fn print_window(alloc: Global, window: Window, to: &mut Bytes) -> Result<(), NoMemory>
+    ensures { OnOk result (to.new ≡ to.old ++ window_text window) }
+{
+    match window {
+        Window::Now => to.extend(b"now"),
+        Window::Range(most) => {
+            to.extend(b"range(")?;
+            value(alloc, most, to)?;
+            to.extend(b")")?;
+            Ok(())
+        }
+        Window::Unbounded => to.extend(b"unbounded"),
+        Window::Latest(count) => {
+            to.extend(b"latest")?;
+            in_brackets(alloc, count, to)?;
+            Ok(())
+        }
+    }
+}
+
+fn print_streamer(streamer: Streamer, to: &mut Bytes) -> Result<(), NoMemory>
+    ensures { OnOk result (to.new ≡ to.old ++ streamer_text streamer) }
+{
+    match streamer {
+        Streamer::Istream => to.extend(b"istream"),
+        Streamer::Dstream => to.extend(b"dstream"),
+        Streamer::Rstream => to.extend(b"rstream"),
+    }
+}

@@ -1,0 +1,187 @@
+// Prints plans.
+ghost use Rattle.std.specs.Prelude.{◌≡◌, ◌++◌, map, IfOk, OnOk};
+ghost use Rattle.river_plan.specs.Forms.{plan_form, op_form};
+ghost use Rattle.river_print.specs.Printed.{flat_text, type_text, table_text, decl_line, table_line, var_line, op_line, head_text, lines, plan_text};
+
+use crate::items::{in_brackets, ports, two_in_brackets, var};
+use crate::kernel::print_kernel;
+use kern_tables::TableKind;
+use river_base::{Bytes, FlatType, Name, NoMemory, QueueType};
+use river_plan::{Decl, Op, RawPlan, TableDecl};
+use std::alloc::Global;
+
+/// The River text of these lists, one unit a line. Two plans with the same lists have the same text.
+#[tactic(auto, using(crate::proofs::Joined::joins))]
+pub fn print_raw(alloc: Global, plan: &RawPlan) -> Result<Bytes, NoMemory>
+    ensures { IfOk result (λ text. text ≡ plan_text (plan_form plan.now)) }
+{
+    let mut text = Bytes::new(alloc);
+    decl_lines(alloc, b"output", plan.outputs.as_slice(), &mut text)?;
+    decl_lines(alloc, b"input", plan.inputs.as_slice(), &mut text)?;
+    decl_lines(alloc, b"queue", plan.queues.as_slice(), &mut text)?;
+    table_lines(alloc, plan.tables.as_slice(), &mut text)?;
+    var_lines(plan.vars.as_slice(), &mut text)?;
+    op_lines(alloc, plan.ops.as_slice(), &mut text)?;
+    Ok(text)
+}
+
+#[tactic(auto, using(crate::proofs::Joined::joins))]
+fn decl_lines(alloc: Global, word: &[u8], decls: &[Decl], to: &mut Bytes) -> Result<(), NoMemory>
+    ensures { OnOk result (to.new ≡ to.old ++ lines (decl_line word.now) decls.now) }
+{
+    for decl in decls {
+        print_decl(alloc, word, decl, to)?;
+    }
+    Ok(())
+}
+
+#[tactic(auto, using(crate::proofs::Joined::joins))]
+fn print_decl(alloc: Global, word: &[u8], decl: &Decl, to: &mut Bytes) -> Result<(), NoMemory>
+    ensures { OnOk result (to.new ≡ to.old ++ decl_line word.now decl.now) }
+{
+    to.extend(word)?;
+    to.extend(b" ")?;
+    to.extend(decl.name.as_slice())?;
+    to.extend(b": ")?;
+    print_type(alloc, decl.kind, to)?;
+    to.extend(b";\n")?;
+    Ok(())
+}
+
+#[tactic(auto, using(crate::proofs::Joined::joins))]
+fn print_type(alloc: Global, kind: QueueType, to: &mut Bytes) -> Result<(), NoMemory>
+    ensures { OnOk result (to.new ≡ to.old ++ type_text kind) }
+{
+    match kind {
+        QueueType::Flat(flat) => print_flat(alloc, flat, to),
+        QueueType::Pack(flat) => {
+            to.extend(b"pack(")?;
+            print_flat(alloc, flat, to)?;
+            to.extend(b")")?;
+            Ok(())
+        }
+    }
+}
+
+#[tactic(auto, using(crate::proofs::Joined::joins))]
+fn print_flat(alloc: Global, flat: FlatType, to: &mut Bytes) -> Result<(), NoMemory>
+    ensures { OnOk result (to.new ≡ to.old ++ flat_text flat) }
+{
+    match flat {
+        FlatType::Rows(width) => {
+            to.extend(b"rows")?;
+            in_brackets(alloc, width, to)?;
+            Ok(())
+        }
+        FlatType::Stream(width) => {
+            to.extend(b"stream")?;
+            in_brackets(alloc, width, to)?;
+            Ok(())
+        }
+        FlatType::Relation(width) => {
+            to.extend(b"relation")?;
+            in_brackets(alloc, width, to)?;
+            Ok(())
+        }
+    }
+}
+
+#[tactic(auto, using(crate::proofs::Joined::joins))]
+fn table_lines(alloc: Global, tables: &[TableDecl], to: &mut Bytes) -> Result<(), NoMemory>
+    ensures { OnOk result (to.new ≡ to.old ++ lines table_line tables.now) }
+{
+    for table in tables {
+        print_table(alloc, table, to)?;
+    }
+    Ok(())
+}
+
+#[tactic(auto, using(crate::proofs::Joined::joins))]
+fn print_table(alloc: Global, table: &TableDecl, to: &mut Bytes) -> Result<(), NoMemory>
+    ensures { OnOk result (to.new ≡ to.old ++ table_line table.now) }
+{
+    to.extend(b"table ")?;
+    var(&table.name, to)?;
+    to.extend(b": ")?;
+    print_kind(alloc, table.kind, to)?;
+    to.extend(b";\n")?;
+    Ok(())
+}
+
+#[tactic(auto, using(crate::proofs::Joined::joins))]
+fn print_kind(alloc: Global, kind: TableKind, to: &mut Bytes) -> Result<(), NoMemory>
+    ensures { OnOk result (to.new ≡ to.old ++ table_text kind) }
+{
+    match kind {
+        TableKind::Sum { keys } => {
+            to.extend(b"sum")?;
+            in_brackets(alloc, keys, to)?;
+            Ok(())
+        }
+        TableKind::Collection { keys } => {
+            to.extend(b"collection")?;
+            in_brackets(alloc, keys, to)?;
+            Ok(())
+        }
+        TableKind::Maximum { best, keys } => {
+            to.extend(b"maximum")?;
+            two_in_brackets(alloc, best, keys, to)?;
+            Ok(())
+        }
+    }
+}
+
+#[tactic(auto, using(crate::proofs::Joined::joins))]
+fn var_lines(vars: &[Name], to: &mut Bytes) -> Result<(), NoMemory>
+    ensures { OnOk result (to.new ≡ to.old ++ lines var_line vars.now) }
+{
+    for name in vars {
+        print_var(name, to)?;
+    }
+    Ok(())
+}
+
+#[tactic(auto, using(crate::proofs::Joined::joins))]
+fn print_var(name: &Name, to: &mut Bytes) -> Result<(), NoMemory>
+    ensures { OnOk result (to.new ≡ to.old ++ var_line name.now) }
+{
+    to.extend(b"var ")?;
+    var(name, to)?;
+    to.extend(b";\n")?;
+    Ok(())
+}
+
+#[tactic(auto, using(crate::proofs::Joined::joins))]
+fn op_lines(alloc: Global, ops: &[Op], to: &mut Bytes) -> Result<(), NoMemory>
+    ensures { OnOk result (to.new ≡ to.old ++ lines op_line (map op_form ops.now)) }
+{
+    for op in ops {
+        print_op(alloc, op, to)?;
+    }
+    Ok(())
+}
+
+#[tactic(auto, using(crate::proofs::Joined::joins))]
+fn print_op(alloc: Global, op: &Op, to: &mut Bytes) -> Result<(), NoMemory>
+    ensures { OnOk result (to.new ≡ to.old ++ op_line (op_form op.now)) }
+{
+    print_head(op, to)?;
+    to.extend(b" { ")?;
+    print_kernel(alloc, &op.kernel, to)?;
+    to.extend(b" }\n")?;
+    Ok(())
+}
+
+// The operator's name and ports.
+#[tactic(auto, using(crate::proofs::Joined::joins))]
+fn print_head(op: &Op, to: &mut Bytes) -> Result<(), NoMemory>
+    ensures { OnOk result (to.new ≡ to.old ++ head_text (op_form op.now)) }
+{
+    to.extend(b"op ")?;
+    to.extend(op.label.as_slice())?;
+    to.extend(b": ")?;
+    ports(op.writes.as_slice(), op.vars.as_slice(), to)?;
+    to.extend(b" <- ")?;
+    ports(op.reads.as_slice(), op.vars.as_slice(), to)?;
+    Ok(())
+}
