@@ -15,3 +15,6 @@ mod term;
 
 pub use fault::TextFault;
 pub use read::read_river;
+
+#[cfg(test)]
+mod tests;
