@@ -9,6 +9,9 @@ const SYNTAX: StreamitFault = StreamitFault::Syntax { unit: 1 };
 
 // The output of the program for the one item 3.
 fn output_of(alloc: Global, text: &Bytes) -> Result<Numbers, StreamitFault> {
+    if text.len() > 100_000 {
+        return Err(StreamitFault::NoMemory);
+    }
     let program = compile_streamit(alloc, text)?;
     let mut values = Numbers::new(alloc);
     match values.push(3) {
