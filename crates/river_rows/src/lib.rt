@@ -12,3 +12,5 @@ mod plan_texts;
 mod plans;
 #[cfg(test)]
 mod system;
+#[cfg(test)]
+mod texts;
