@@ -1,0 +1,6 @@
+pub mod Items
+pub mod Kernels
+pub mod Pieces
+pub mod Round
+pub mod Terms
+pub mod Units

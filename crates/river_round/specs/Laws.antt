@@ -1,0 +1,13 @@
+-- Printed plans are read back as themselves.
+use Rattle.std.specs.Prelude.{◌≡◌}
+use Rattle.river_plan.specs.Forms.{PlanForm}
+use Rattle.river_print.specs.Printed.{plan_text}
+use Rattle.river_text.specs.Plans.{IsText}
+use Rattle.river_round.specs.Writable.{IsWritable}
+
+abbrev pub PrintedIsRead : Type 0
+PrintedIsRead = (p : PlanForm) → IsWritable p → IsText (plan_text p) p
+
+-- and no other plan
+abbrev pub PrintedIsAlone : Type 0
+PrintedIsAlone = (p q : PlanForm) → IsWritable p → IsText (plan_text p) q → q ≡ p

@@ -1,0 +1,9 @@
+//! Laws over the definitions alone.
+ghost use Rattle.river_round.specs.Laws.{PrintedIsRead, PrintedIsAlone};
+
+/// The printed text of a plan is in the grammar of River text and stands for the plan and for no other, wherever its names are names, its
+/// counts and values are such as a text has, no window's range is below 0, and `if` nests at most 16 deep.
+pub fn printed_is_read()
+    ensures read { PrintedIsRead }
+    ensures alone { PrintedIsAlone }
+{}
