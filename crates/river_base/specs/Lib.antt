@@ -1,9 +1,11 @@
 pub mod Bags
+pub mod Drain
 pub mod Grew
 pub mod Held
 pub mod Keyed
 pub mod Listed
 pub mod Name
 pub mod Number
+pub mod Places
 pub mod Row
 pub mod Short

@@ -5,7 +5,7 @@ use Rattle.std.proofs.lemmas.Bool.Decides.{nat_tests}
 use Rattle.std.proofs.lemmas.List.{take_more, map-append}
 use Rattle.work_code.specs.declared.code.Stmt.{Stmt}
 use Rattle.work_code.specs.Steps.{Step, Steps, step, in_turn}
-use Rattle.river_kernels.specs.Formed.{count_of}
+use Rattle.river_base.specs.Number.{count_of}
 use Rattle.river_kernels.specs.Limits.{told, either, first_above, size_once, size, weight_sum}
 
 pub first_above-front : (most n : ℕ) (xs ys : List ℕ) → first_above most xs ≡ Some n → first_above most (xs ++ ys) ≡ Some n

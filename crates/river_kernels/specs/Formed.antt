@@ -1,6 +1,7 @@
 -- When the bodies and expressions of kernels are well formed.
 use Rattle.std.specs.Prelude.{ℕ, zero, suc, ℤ, pos, negsuc, ◌+◌, ◌-◌, Bool, true, false, ◌&&◌, nat_lt, nat_le, nat_eq, if◌then◌else◌, Option, Some, None, List, [], ◌∷◌, length, slice_get}
 use Rattle.std.specs.List.{list_all}
+use Rattle.river_base.specs.Number.{count_of}
 use Rattle.work_code.specs.Term.{Term, Const, Input, Slot, Neg, Not, Bin, depth_of}
 use Rattle.work_code.specs.Steps.{Step, Steps, Set, Push, If, Done, Then}
 use Rattle.kern_rows.specs.Forms.{CodeForm, FilterForm}
@@ -10,11 +11,6 @@ use Rattle.kern_bags.specs.declared.kernel.Window.TheVariants.{Now, Range, Unbou
 -- how many values a row may have
 abbrev pub is_width : ℕ → Bool
 is_width w = nat_le 1 w && nat_le w 16
-
--- a number of ports, values or items: one below 0 counts as 0
-abbrev pub count_of : ℤ → ℕ
-count_of (pos n) = n
-count_of (negsuc n) = 0
 
 -- each index of the input and each slot is below its bound, and no constant is below 0
 abbrev pub is_sound : ℕ → ℕ → Term → Bool

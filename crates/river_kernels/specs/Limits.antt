@@ -6,7 +6,7 @@ use Rattle.kern_bags.specs.declared.kernel.Window.{Window}
 use Rattle.kern_bags.specs.declared.kernel.Window.TheVariants.{Now, Range, Unbounded, Latest as LatestRows}
 use Rattle.river_kernels.specs.declared.limit.Limit.{Limit}
 use Rattle.river_kernels.specs.declared.limit.Limit.TheVariants.{Inputs, Operators, Queues, Variables, Ports, Statements, Slots, Rates, Weights, Nesting, Latest, Best}
-use Rattle.river_kernels.specs.Formed.{count_of}
+use Rattle.river_base.specs.Number.{count_of}
 use Rattle.river_kernels.specs.Kern.{Kern, code, filter, duplicate, deal, collect, packed, unpack, window, select, project, cross, streamer, tally, fused}
 
 -- a number as it is told; from 2^128 on it is told as 2^128 - 1

@@ -2,7 +2,7 @@
 ghost use Rattle.std.specs.Prelude.{◌≡◌, [], ◌∷◌};
 ghost use Rattle.work_code.specs.Steps.{step, steps, statements, body_of};
 ghost use Rattle.kern_rows.specs.Forms.{filter_form};
-ghost use Rattle.river_kernels.specs.Formed.{count_of};
+ghost use Rattle.river_base.specs.Number.{count_of};
 ghost use Rattle.river_kernels.specs.Kern.{kern_of};
 ghost use Rattle.river_kernels.specs.Limits.{told, either, first_above, size_once, size, weight_sum, nesting, body_numbers, rate_numbers, weight_numbers, window_numbers, part_numbers};
 

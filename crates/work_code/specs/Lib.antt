@@ -5,6 +5,7 @@ pub mod Lent
 pub mod Lexis
 pub mod Pieces
 pub mod Printed
+pub mod Ran
 pub mod Steps
 pub mod Symbols
 pub mod Term

@@ -1,5 +1,5 @@
 use Rattle.std.proofs.Common.{◌≡◌, true, take, drop, map}
-use Rattle.river_kernels.specs.Formed.{count_of}
+use Rattle.river_base.specs.Number.{count_of}
 use Rattle.river_kernels.specs.Fits.{rows, are_widths}
 use Rattle.river_kernels.proofs.types.body_ports.Given as goal
 
