@@ -1,0 +1,176 @@
+-- One firing of a kernel, after the Brooklet calculus (Soulé and others, ESOP 2010): an item at a port and the states of
+-- the private variables give items at the output ports, rows for the tables, and the new states.
+use Rattle.std.specs.Prelude.{ℕ, ℤ, pos, ◌+◌, ◌-◌, List, [], ◌∷◌, ◌++◌, length, take, drop, nat_lt, if◌then◌else◌, slice_index_or}
+use Rattle.river_base.specs.declared.item.Item as item
+use Rattle.river_base.specs.declared.item.Item.TheVariants.{Flat, Pack}
+use Rattle.river_base.specs.declared.item.Flat.TheVariants.{One, Batch as Batched}
+use Rattle.river_base.specs.Held.{flats, items_of}
+use Rattle.river_base.specs.Places.{only, none}
+use Rattle.work_code.specs.Ran.{Ran}
+use Rattle.kern_rows.specs.Forms.{CodeForm, FilterForm}
+use Rattle.kern_rows.specs.Runs.{run_kept, pushed_to, Filtered, filter_start, filter_one}
+use Rattle.kern_rows.specs.Turns.{Turns, shares, ones, turns_start, next_port, next_had, joins, itself}
+use Rattle.kern_bags.specs.Steps.{Pairing, window_one, select_one, project_one, streamer_one, crosses}
+use Rattle.river_kernels.specs.Kern.{Kern, code, filter, duplicate, deal, collect, packed, unpack, window, select, project, cross, streamer, tally, fused}
+use Rattle.brooklet_model.specs.Firings.{Kept, Slots, Buffered, Turn, Joining, Received, Crossing, Fired, gives, feed, fused_of}
+
+-- how many input ports a kernel has
+abbrev pub ins : Kern → ℕ
+ins (code k) = 1
+ins (filter f) = 1
+ins (duplicate n) = 1
+ins (deal ws) = 1
+ins (collect ws) = length ws
+ins (packed k) = 1
+ins (unpack n) = n
+ins (window w) = 1
+ins (select e) = 1
+ins (project es) = 1
+ins cross = 2
+ins (streamer s) = 1
+ins tally = 1
+ins (fused a b at) = ins a
+
+-- how many output ports
+abbrev pub outs : Kern → ℕ
+outs (code k) = length k.outs
+outs (filter f) = 1
+outs (duplicate n) = n
+outs (deal ws) = length ws
+outs (collect ws) = 1
+outs (packed k) = 1
+outs (unpack n) = 1
+outs (window w) = 1
+outs (select e) = 1
+outs (project es) = 1
+outs cross = 1
+outs (streamer s) = 1
+outs tally = 0
+outs (fused a b at) = outs a + outs b - 1
+
+-- how many tables
+abbrev pub tabs : Kern → ℕ
+tabs (code k) = 0
+tabs (filter f) = 0
+tabs (duplicate n) = 0
+tabs (deal ws) = 0
+tabs (collect ws) = 0
+tabs (packed k) = 0
+tabs (unpack n) = 0
+tabs (window w) = 0
+tabs (select e) = 0
+tabs (project es) = 0
+tabs cross = 0
+tabs (streamer s) = 0
+tabs tally = 1
+tabs (fused a b at) = tabs a + tabs b
+
+-- the slots that are kept are one variable
+abbrev pub kept_vars : List ℤ → ℕ
+kept_vars [] = 0
+kept_vars (z ∷ zs) = 1
+
+-- how many private variables
+abbrev pub privates : Kern → ℕ
+privates (code k) = kept_vars k.starts
+privates (filter f) = 1
+privates (duplicate n) = 0
+privates (deal ws) = 1
+privates (collect ws) = 1
+privates (packed k) = privates k
+privates (unpack n) = 1
+privates (window w) = 1
+privates (select e) = 0
+privates (project es) = 0
+privates cross = 1
+privates (streamer s) = 1
+privates tally = 0
+privates (fused a b at) = privates a + privates b
+
+abbrev pub first_slots : List ℤ → List Kept
+first_slots [] = []
+first_slots (z ∷ zs) = Slots (z ∷ zs) ∷ []
+
+-- the states before the first firing
+abbrev pub first_kept : Kern → List Kept
+first_kept (code k) = first_slots k.starts
+first_kept (filter f) = Buffered (filter_start f) ∷ []
+first_kept (duplicate n) = []
+first_kept (deal ws) = Turn 0 0 ∷ []
+first_kept (collect ws) = Joining (turns_start (length ws)) ∷ []
+first_kept (packed k) = first_kept k
+first_kept (unpack n) = Joining (turns_start n) ∷ []
+first_kept (window w) = Received [] ∷ []
+first_kept (select e) = []
+first_kept (project es) = []
+first_kept cross = Crossing (record { left = []; right = [] }) ∷ []
+first_kept (streamer s) = Received [] ∷ []
+first_kept tally = []
+first_kept (fused a b at) = first_kept a ++ first_kept b
+
+-- the values of a row
+abbrev pub values_of : item.Item → List ℤ
+values_of (Flat (One row)) = row
+values_of (Flat (Batched b)) = []
+values_of (Pack fs) = []
+
+abbrev pub value_of : item.Item → ℤ
+value_of x = slice_index_or (values_of x) 0 (pos 0)
+
+-- what a body pushes, and its states: the slots that it keeps, or none
+abbrev pub ran_fired : Ran → List Kept → Fired
+ran_fired r ss = record { outs = λ p. pushed_to p r.pushes; adds = none; states = ss }
+
+abbrev pub code_one : CodeForm → item.Item → List Kept → Fired
+code_one k x [] = ran_fired (run_kept k.body [] (values_of x)) []
+code_one k x (Slots kept ∷ ss) = let r = run_kept k.body kept (values_of x) in ran_fired r (Slots r.slots ∷ ss)
+code_one k x (s ∷ ss) = gives 0 [] (s ∷ ss)
+
+abbrev pub filter_fired : Filtered → List Kept → Fired
+filter_fired r ss = record { outs = λ p. pushed_to p r.pushes; adds = none; states = Buffered r.after ∷ ss }
+
+abbrev pub filter_firing : FilterForm → item.Item → List Kept → Fired
+filter_firing f x (Buffered s ∷ ss) = filter_fired (filter_one f (value_of x) s) ss
+filter_firing f x ss = gives 0 [] ss
+
+abbrev pub deal_one : List ℕ → item.Item → List Kept → Fired
+deal_one ws x (Turn port had ∷ ss) = gives port (x ∷ []) (Turn (next_port ws port had) (next_had ws port had) ∷ ss)
+deal_one ws x ss = gives 0 [] ss
+
+abbrev pub joined_fired : List item.Item × Turns → List Kept → Fired
+joined_fired d ss = gives 0 d.0 (Joining d.1 ∷ ss)
+
+-- a joiner; `give` says what one item gives when it passes
+abbrev pub join_one : (item.Item → List item.Item) → List ℕ → ℕ → item.Item → List Kept → Fired
+join_one give ws p x (Joining s ∷ ss) = joined_fired (joins give ws p x s) ss
+join_one give ws p x ss = gives 0 [] ss
+
+-- a window or a streamer, whose state is all that it has received
+abbrev pub received_one : (List item.Item → item.Item → List item.Item) → item.Item → List Kept → Fired
+received_one one x (Received past ∷ ss) = gives 0 (one past x) (Received (past ++ x ∷ []) ∷ ss)
+received_one one x ss = gives 0 [] ss
+
+abbrev pub crossed_fired : List item.Item × Pairing → List Kept → Fired
+crossed_fired d ss = gives 0 d.0 (Crossing d.1 ∷ ss)
+
+abbrev pub cross_one : ℕ → item.Item → List Kept → Fired
+cross_one p x (Crossing s ∷ ss) = crossed_fired (crosses p x s) ss
+cross_one p x ss = gives 0 [] ss
+
+-- one firing of a kernel on an item at a port
+abbrev pub fire : Kern → ℕ → item.Item → List Kept → Fired
+fire (code k) p x ss = code_one k x ss
+fire (filter f) p x ss = filter_firing f x ss
+fire (duplicate n) p x ss = record { outs = λ q. if nat_lt q n then x ∷ [] else []; adds = none; states = ss }
+fire (deal ws) p x ss = deal_one (shares ws) x ss
+fire (collect ws) p x ss = join_one itself (shares ws) p x ss
+fire (packed k) p x ss = let r = fire k p x ss in gives 0 (Pack (flats (r.outs 0)) ∷ []) r.states
+fire (unpack n) p x ss = join_one items_of (ones n) p x ss
+fire (window w) p x ss = received_one (window_one w) x ss
+fire (select e) p x ss = gives 0 (select_one e x) ss
+fire (project es) p x ss = gives 0 (project_one es x) ss
+fire cross p x ss = cross_one p x ss
+fire (streamer s) p x ss = received_one (streamer_one s) x ss
+fire tally p x ss = record { outs = none; adds = only 0 (values_of x ∷ []); states = ss }
+fire (fused a b at) p x ss =
+    fused_of at (outs b) (tabs a) (fire a p x (take (privates a) ss)) (λ xs. feed (fire b 0) xs (drop (privates a) ss))

@@ -1,0 +1,7 @@
+pub mod Fire
+pub mod Firings
+pub mod Histories
+pub mod Machine
+pub mod Meaning
+pub mod Typed
+pub mod Words
