@@ -7,5 +7,6 @@ pub mod LoopLemmas
 pub mod NameLemmas
 pub mod NumberLemmas
 pub mod OrderLemmas
+pub mod PlaceLemmas
 pub mod RowLemmas
 pub mod Rows

@@ -1,5 +1,5 @@
 // Lists.
-ghost use Rattle.std.specs.Prelude.{◌≡◌, ◌<◌, ◌≤◌, ◌^◌, List, [], ◌∷◌, ◌++◌, length, take, IfOk, OnOk, OnErr, MatchOption, slice_index_or, nat_eq, IsTrue, ◌↔◌};
+ghost use Rattle.std.specs.Prelude.{◌≡◌, ◌<◌, ◌≤◌, ◌^◌, List, [], ◌∷◌, ◌++◌, length, take, replicate, IfOk, OnOk, OnErr, MatchOption, slice_index_or, nat_eq, IsTrue, ◌↔◌};
 ghost use Rattle.std.specs.Borrow.{sem};
 ghost use Rattle.std.specs.Slice.Iter.{iter_rest};
 ghost use Rattle.std.specs.Iterator.Adapters.{IterYieldsInOrder, IterYieldsInReverse};
@@ -40,7 +40,7 @@ impl<T> Model for Listed<T> {
 }
 
 impl<T: Drop> Listed<T> {
-    ghost use Rattle.river_base.specs.Listed.{LendsElement};
+    ghost use Rattle.river_base.specs.Listed.{LendsElement, LendsAll};
 
     /// The empty list.
     pub fn new(alloc: Global) -> Self
@@ -123,11 +123,63 @@ impl<T: Drop> Listed<T> {
         self.items.iter()
     }
 
+    /// Moves the elements of another list behind these.
+    pub fn append(&mut self, more: Listed<T>) -> Result<(), NoMemory>
+        ensures { OnOk result (self.new ≡ self.old ++ more) }
+    {
+        let mut more = more.items;
+        self.items.append(&mut more)?;
+        Ok(())
+    }
+
+    /// The elements, to be changed in place.
+    pub fn as_mut_slice(&mut self) -> &mut [T]
+        ensures* writes_back { sem 𝓛 (LendsAll T.row self.entry result) }
+        ensures value { result.now ≡ self.old }
+    {
+        self.items.as_mut_slice()
+    }
+
     /// The elements as a vector; takes no memory.
     pub fn into_vec(self) -> Vec<T>
         ensures { result.items ≡ self }
     {
         self.items
+    }
+}
+
+impl<T: Drop> Listed<Listed<T>> {
+    ghost use Rattle.river_base.specs.Places.{append_at};
+
+    /// So many empty lists.
+    pub fn blanks(alloc: Global, count: usize) -> Result<Self, NoMemory>
+        ensures { IfOk result (λ all. all ≡ replicate count []) }
+    {
+        let mut all = Listed::new(alloc);
+        for _i in 0..count {
+            all.push(Listed::new(alloc))?;
+        }
+        Ok(all)
+    }
+
+    /// Appends an element to the list at a place, from 0; changes nothing where there is no memory.
+    pub fn push_at(&mut self, place: usize, x: T) -> Result<(), NoMemory>
+        requires { place < length self.old }
+        ensures ok { OnOk result (self.new ≡ append_at self.old place (x ∷ [])) }
+    {
+        let inner = &mut self.items[place];
+        inner.push(x)?;
+        Ok(())
+    }
+
+    /// Moves the elements of a list behind those of the list at a place, from 0.
+    pub fn extend_at(&mut self, place: usize, more: Listed<T>) -> Result<(), NoMemory>
+        requires { place < length self.old }
+        ensures ok { OnOk result (self.new ≡ append_at self.old place more) }
+    {
+        let inner = &mut self.items[place];
+        inner.append(more)?;
+        Ok(())
     }
 }
 
