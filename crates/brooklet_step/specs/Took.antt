@@ -1,0 +1,17 @@
+-- What came to the lists of an `Emit`.
+use Rattle.std.specs.Prelude.{◌≡◌, length}
+use Rattle.river_base.specs.Places.{each_grew}
+use Rattle.river_kernels.specs.Kern.{Kern}
+use Rattle.brooklet_model.specs.Firings.{Fired}
+use Rattle.brooklet_model.specs.Fire.{outs, tabs}
+use Rattle.brooklet_step.specs.declared.emit.Emit.{Emit}
+
+-- the firing's items and rows came to what was there, each to the list of its port or table
+pub record Took (old new : Emit) (r : Fired) : Type 0 where
+  pub outs : new.outs ≡ each_grew old.outs r.outs
+  pub adds : new.adds ≡ each_grew old.adds r.adds
+
+-- there is a list for each output port and for each table
+pub record HasRoom (k : Kern) (e : Emit) : Type 0 where
+  pub outs : length e.outs ≡ outs k
+  pub adds : length e.adds ≡ tabs k

@@ -1,0 +1,7 @@
+//! Firings of kernels, and Brooklet's machine.
+#![tactic(auto)]
+
+mod counts;
+mod emit;
+
+pub use emit::{Emit, ItemLists, RowLists};
