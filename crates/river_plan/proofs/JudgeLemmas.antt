@@ -1,10 +1,10 @@
 -- The first fault, put together.
-use Rattle.std.proofs.Common.{◌≡◌, Option, Some, None, Err, Ok, inl, inr, sym, subst}
+use Rattle.std.proofs.Common.{◌≡◌, Option, Some, None, Err, inl, inr}
 use Rattle.river_plan.specs.declared.fault.PlanFault.{PlanFault}
 use Rattle.river_plan.specs.declared.fault.PlanFault.TheVariants.{P1, P2, P3, P4, P5, P6, P7, P8, P9, NoMemory}
 use Rattle.river_plan.specs.Forms.{PlanForm}
 use Rattle.river_plan.specs.Limits.{OverLimit}
-use Rattle.river_plan.specs.Faults.{Repeated, Undeclared, WrittenTwice, ReadTwice, ReadTooEarly, Mistyped, Misfit, Shared}
+use Rattle.river_plan.specs.Faults.{Repeated, Undeclared, WrittenTwice, ReadTwice, ReadTooEarly, Mistyped, Misfit}
 use Rattle.river_plan.specs.Valid.{FirstFault, IsJudged}
 use Rattle.river_plan.specs.Told.{first_fault_found, fault_of, IsTold}
 use Rattle.river_plan.proofs.OneFirst.{fault-one}

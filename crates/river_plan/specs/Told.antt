@@ -8,13 +8,13 @@ use Rattle.river_plan.specs.declared.fault.Named.{Named}
 use Rattle.river_plan.specs.declared.fault.Named.TheVariants.{Queue, Variable, Label}
 use Rattle.river_plan.specs.declared.fault.PlanFault.{PlanFault}
 use Rattle.river_plan.specs.declared.fault.PlanFault.TheVariants.{P1, P2, P3, P4, P5, P6, P7, P8, P9, NoMemory}
-use Rattle.river_plan.specs.Forms.{Name, OpForm, PlanForm, queue_names, variable_names, labels, decl_names}
+use Rattle.river_plan.specs.Forms.{Name, PlanForm, queue_names, variable_names, labels, decl_names}
 use Rattle.river_plan.specs.Names.{count, IsUsedOnce}
 use Rattle.river_plan.specs.Uses.{total, writes_it, reads_it}
 use Rattle.river_plan.specs.Kinds.{IsFit}
 use Rattle.river_plan.specs.First.{OrElse, As, Unless, Along, IsFirst}
 use Rattle.river_plan.specs.Limits.{OverLimit, OverLimitAt, most_of, numbers, limits}
-use Rattle.river_plan.specs.Faults.{IsNew, IsIn, IsWritten, IsOuter, HasWidth, IsTable, IsApart, UndeclaredAt, ReadTooEarlyAt, MistypedQueue, Repeated, Undeclared, WrittenTwice, ReadTwice, ReadTooEarly, Mistyped, Misfit, Shared}
+use Rattle.river_plan.specs.Faults.{IsNew, IsIn, IsWritten, IsOuter, HasWidth, IsTable, IsApart, UndeclaredAt, ReadTooEarlyAt, MistypedQueue, Repeated, Undeclared, ReadTooEarly, Mistyped, Misfit, Shared}
 use Rattle.river_plan.specs.Valid.{FirstFault}
 use Rattle.river_plan.specs.Decided.{Decided, less_decided, most_decided, equal_decided, once_decided, width_decided, outer_decided, table_decided, fit_decided, apart_decided}
 

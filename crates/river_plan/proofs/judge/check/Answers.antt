@@ -1,6 +1,6 @@
-use Rattle.std.proofs.Common.{Option, Some, None, refl, subst}
+use Rattle.std.proofs.Common.{None, subst}
 use Rattle.river_plan.specs.Forms.{plan_form}
-use Rattle.river_plan.specs.Valid.{FirstFault, IsJudged}
+use Rattle.river_plan.specs.Valid.{FirstFault}
 use Rattle.river_plan.proofs.JudgeLemmas.{judged-fault, told-fault, fault_of-is}
 use Rattle.river_plan.proofs.ValidLaw.{no_fault-valid}
 use Rattle.river_plan.proofs.judge.check.Goals as goal
