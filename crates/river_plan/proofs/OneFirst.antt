@@ -1,14 +1,13 @@
 -- A search finds one thing.
-use Rattle.std.proofs.Common.{◌≡◌, ℕ, ◌≤◌, ◌⊎◌, List, [], ◌∷◌, ◌++◌, Option, Some, None, inl, inr, refl, sym, ap, ◌∙◌, ⊎_elim}
+use Rattle.std.proofs.Common.{◌≡◌, ◌≤◌, List, [], ◌∷◌, ◌++◌, Option, Some, None, refl, sym, ap, ◌∙◌, ⊎_elim}
 use Rattle.river_kernels.specs.Limits.{told}
-use Rattle.river_plan.specs.declared.fault.Named.{Named}
 use Rattle.river_plan.specs.declared.fault.Named.TheVariants.{Queue, Variable, Label}
 use Rattle.river_plan.specs.declared.fault.PlanFault.{PlanFault}
 use Rattle.river_plan.specs.declared.fault.PlanFault.TheVariants.{P1, P2, P3, P4, P5, P6, P7, P8, P9}
-use Rattle.river_plan.specs.Forms.{Name, OpForm, PlanForm, queue_names, variable_names, labels, decl_names}
+use Rattle.river_plan.specs.Forms.{PlanForm, queue_names, variable_names, labels, decl_names}
 use Rattle.river_plan.specs.First.{OrElse, As, Unless, Along, IsFirst}
 use Rattle.river_plan.specs.Limits.{OverLimit, OverLimitAt, most_of, numbers, limits}
-use Rattle.river_plan.specs.Faults.{UndeclaredAt, ReadTooEarlyAt, IsWritten, IsIn, MistypedQueue, MistypedTable, IsOuter, HasWidth, Repeated, Undeclared, WrittenTwice, ReadTwice, ReadTooEarly, Mistyped, Misfit, Shared}
+use Rattle.river_plan.specs.Faults.{UndeclaredAt, ReadTooEarlyAt, IsWritten, IsIn, Repeated, Undeclared, ReadTooEarly, Mistyped}
 use Rattle.river_plan.specs.Valid.{FirstFault}
 
 -- the search finds at most one thing, and not both something and nothing

@@ -1,7 +1,7 @@
 -- Searches along a list, one element at a time.
-use Rattle.std.proofs.Common.{◌≡◌, ℕ, suc, ◌+◌, ◌<◌, ◌≤◌, List, [], ◌∷◌, ◌++◌, Option, Some, None, length, take, drop, get_or, map, refl, sym, ap, subst, arith, inl, inr, ◌∙◌}
+use Rattle.std.proofs.Common.{◌≡◌, ℕ, ◌+◌, ◌<◌, ◌≤◌, List, [], ◌∷◌, ◌++◌, Option, Some, None, length, take, drop, get_or, map, sym, ap, subst, inl, inr, ◌∙◌}
 use Rattle.std.proofs.lemmas.List.{take_more, drop_more, drop_all, map-append}
-use Rattle.river_plan.specs.First.{OrElse, Along, Unless}
+use Rattle.river_plan.specs.First.{OrElse, Along}
 
 -- what is found from place i on is what is found in the whole list
 pub record Remains {A B : Type 0} (s : List A → A → Option B → Type 0) (xs : List A) (i : ℕ) : Type 0 where

@@ -1,6 +1,6 @@
 -- Searches for the same thing find the same.
 use Rattle.std.specs.Option.{option_map}
-use Rattle.std.proofs.Common.{refl, ◌≡◌, ◌⊎◌, List, [], ◌∷◌, ◌++◌, Option, Some, None, inl, inr, ⊎_elim}
+use Rattle.std.proofs.Common.{refl, List, [], ◌∷◌, ◌++◌, Option, Some, None, inl, inr, ⊎_elim}
 use Rattle.river_plan.specs.First.{OrElse, As, Unless, Along, IsFirst}
 
 pub or_else-cong : {B : Type 0} (s s' t t' : Option B → Type 0) → ((o : Option B) → s o → s' o) → ((o : Option B) → t o → t' o) → (o : Option B) → OrElse s t o → OrElse s' t' o

@@ -1,9 +1,8 @@
 -- Names that stand twice in one operator.
-use Rattle.std.proofs.Common.{Option, ◌≡◌, ℕ, suc, ◌+◌, ◌<◌, ◌≤◌, ◌⊎◌, inl, inr, Bool, true, false, List, [], ◌∷◌, ◌++◌, length, take, get_or, refl, sym, ap, ◌∙◌, subst, arith, ⊎_elim, map}
+use Rattle.std.proofs.Common.{Option, ◌≡◌, ℕ, ◌+◌, ◌<◌, ◌≤◌, ◌⊎◌, inl, inr, List, [], ◌∷◌, ◌++◌, length, take, get_or, refl, sym, ap, ◌∙◌, subst, arith, ⊎_elim}
 use Rattle.std.specs.Prelude.{if◌then◌else◌, nat_lt}
 use Rattle.std.proofs.lemmas.List.{take_more, map-append}
 use borrow.Author.Tests.{ltb-true, ltb-false}
-use Rattle.river_base.specs.Name.{name_eq}
 use Rattle.river_plan.specs.declared.op.Op.{Op}
 use Rattle.river_plan.specs.Forms.{Name, OpForm, PlanForm, op_form, op_forms}
 use Rattle.river_plan.specs.Names.{one_if, count, with_name, SameNames, AreDoubled}

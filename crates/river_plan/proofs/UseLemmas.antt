@@ -1,9 +1,8 @@
 -- What operators use, counted.
-use Rattle.std.proofs.Common.{Option, ◌≡◌, ℕ, suc, ◌+◌, ◌<◌, ◌≤◌, ◌⊎◌, Bool, true, false, List, [], ◌∷◌, ◌++◌, length, take, get_or, refl, sym, ap, ◌∙◌, subst, arith, ⊎_elim, map, append-nil, append_assoc}
-use Rattle.std.specs.Prelude.{if◌then◌else◌, nat_lt, flat_map}
-use Rattle.std.proofs.lemmas.List.{take_more, take_all, map-append}
+use Rattle.std.proofs.Common.{Option, ◌≡◌, ℕ, ◌+◌, ◌<◌, ◌≤◌, List, [], ◌∷◌, ◌++◌, length, take, get_or, refl, sym, ap, ◌∙◌, subst, arith, ⊎_elim, append-nil, append_assoc}
+use Rattle.std.specs.Prelude.{if◌then◌else◌, nat_lt}
+use Rattle.std.proofs.lemmas.List.{take_more, map-append}
 use borrow.Author.Tests.{ltb-true, ltb-false}
-use Rattle.river_base.specs.Name.{name_eq}
 use Rattle.river_plan.specs.declared.op.Op.{Op}
 use Rattle.river_plan.specs.Forms.{Name, OpForm, op_form, op_forms}
 use Rattle.river_plan.specs.Names.{one_if, count, with_name, SameNames, IsUsedOnce, AreDoubled}
@@ -12,7 +11,7 @@ use Rattle.river_plan.specs.First.{IsFirst, Along}
 use Rattle.river_plan.specs.declared.fault.Named.{Named}
 use Rattle.river_plan.specs.declared.fault.Named.TheVariants.{Queue, Variable}
 use Rattle.river_plan.specs.Faults.{IsIn, IsWritten, UndeclaredAt}
-use Rattle.river_plan.proofs.NameLemmas.{cases_bool, cases_name, count-append, one_same, nat_zero, more_or_zero, with_name-same, same-trans, same-append}
+use Rattle.river_plan.proofs.NameLemmas.{cases_bool, cases_name, count-append, nat_zero, more_or_zero, with_name-same, same-trans, same-append}
 use Rattle.river_plan.proofs.Searches.{first-cong, along-cong, or_else-cong, as-cong}
 
 -- the sums over operators are counts in all that they write or read

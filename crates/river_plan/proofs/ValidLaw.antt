@@ -1,17 +1,16 @@
 -- There is no fault exactly where a plan is valid.
-use Rattle.std.proofs.Common.{◌≡◌, ℕ, ◌+◌, ◌<◌, ◌≤◌, ◌⊎◌, inl, inr, List, [], ◌∷◌, ◌++◌, Option, Some, None, refl, sym, ap, ◌∙◌, subst, arith, ⊎_elim, append_assoc, append-nil}
+use Rattle.std.proofs.Common.{◌≡◌, ℕ, ◌+◌, ◌<◌, ◌≤◌, List, [], ◌∷◌, ◌++◌, None, refl, ap, subst, arith, ⊎_elim}
 use Rattle.std.specs.Prelude.{All}
 use Rattle.std.proofs.lemmas.List.Elements.{All-head, All-tail, All-cons}
-use Rattle.river_base.specs.Name.{name_eq}
 use Rattle.river_kernels.specs.declared.limit.Limit.{Limit}
 use Rattle.river_kernels.specs.declared.limit.Limit.TheVariants.{Inputs, Operators, Queues, Variables, Ports, Statements, Slots, Rates, Weights, Nesting, Latest, Best}
 use Rattle.river_plan.specs.Forms.{Name, OpForm, PlanForm, decl_names, queue_names, variable_names, table_names, labels}
 use Rattle.river_plan.specs.Names.{one_if, count, IsUsedOnce}
-use Rattle.river_plan.specs.Uses.{Each, total, writes_it, reads_it, vars_it, named_it, Known, ReadsBefore}
+use Rattle.river_plan.specs.Uses.{Each, total, writes_it, reads_it, vars_it, named_it, ReadsBefore}
 use Rattle.river_plan.specs.First.{Unless, Along, IsFirst}
 use Rattle.river_plan.specs.Kinds.{IsFit}
 use Rattle.river_plan.specs.Limits.{most_of, numbers, OverLimit}
-use Rattle.river_plan.specs.Faults.{IsNew, IsIn, IsWritten, IsOuter, HasWidth, IsTable, IsApart, UndeclaredAt, ReadTooEarlyAt, Repeated, Undeclared, WrittenTwice, ReadTwice, ReadTooEarly, Mistyped, Misfit, Shared}
+use Rattle.river_plan.specs.Faults.{IsNew, IsWritten, IsOuter, HasWidth, IsTable, IsApart, UndeclaredAt, ReadTooEarlyAt}
 use Rattle.river_plan.specs.Valid.{IsPlan, FirstFault}
 use Rattle.river_plan.proofs.NameLemmas.{cases_name, count-append, one_same, nat_zero, more_or_zero}
 

@@ -1,4 +1,5 @@
 pub mod ByName
+pub mod Decided
 pub mod Faults
 pub mod First
 pub mod Forms
@@ -7,5 +8,6 @@ pub mod Limits
 pub mod Names
 pub mod PlanCode
 pub mod Shares
+pub mod Told
 pub mod Uses
 pub mod Valid

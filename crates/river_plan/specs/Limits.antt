@@ -1,5 +1,5 @@
 -- What is limited in a plan.
-use Rattle.std.specs.Prelude.{◌≡◌, ℕ, ◌+◌, ◌≤◌, List, [], ◌∷◌, Option, length, map, flat_map}
+use Rattle.std.specs.Prelude.{ℕ, ◌+◌, ◌≤◌, List, [], ◌∷◌, Option, length, map, flat_map}
 use Rattle.kern_tables.specs.declared.kind.TableKind.{TableKind}
 use Rattle.kern_tables.specs.declared.kind.TableKind.TheVariants.{Sum, Collection, Maximum}
 use Rattle.river_kernels.specs.declared.limit.Limit.{Limit}

@@ -1,6 +1,7 @@
 // The check of a plan.
 ghost use Rattle.std.specs.Prelude.{IfOk};
 ghost use Rattle.river_plan.specs.Forms.{plan_form};
+ghost use Rattle.river_plan.specs.Told.{IsTold};
 ghost use Rattle.river_plan.specs.Valid.{FirstFault, IsJudged};
 
 use crate::declared::undeclared;
@@ -18,7 +19,8 @@ use std::alloc::Global;
 /// The plan of these lists, exactly where they have no fault; otherwise their first fault: the first kind from `P1` to
 /// `P9` that holds anywhere, at the first place in the order of the lists.
 pub fn check(alloc: Global, raw: RawPlan) -> Result<Plan, PlanFault>
-    ensures { IsJudged (plan_form raw) result }
+    ensures judged { IsJudged (plan_form raw) result }
+    ensures told { IsTold (plan_form raw) result }
 {
     match first_fault(alloc, &raw)? {
         Some(fault) => Err(fault),

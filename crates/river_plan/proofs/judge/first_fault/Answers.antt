@@ -1,4 +1,4 @@
-use Rattle.std.proofs.Common.{Option, subst}
+use Rattle.std.proofs.Common.{subst}
 use Rattle.river_plan.specs.Forms.{plan_form}
 use Rattle.river_plan.specs.Faults.{Repeated, Undeclared, WrittenTwice, ReadTwice, ReadTooEarly, Misfit}
 use Rattle.river_plan.proofs.JudgeLemmas.{limit-first}

@@ -1,8 +1,7 @@
 use Rattle.std.proofs.Common.{◌≡◌, drop}
-use Rattle.std.specs.Prelude.{flat_map}
 use Rattle.river_kernels.specs.Limits.{first_above}
 use Rattle.river_plan.specs.Forms.{op_forms}
-use Rattle.river_plan.specs.Limits.{port_numbers, kernel_numbers, nestings, best_rows}
+use Rattle.river_plan.specs.Limits.{nestings}
 use Rattle.river_plan.proofs.limit.nestings_over.Given as goal
 
 abbrev pub invariant-loop-op : goal.invariant-loop-op

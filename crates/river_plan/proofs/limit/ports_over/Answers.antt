@@ -1,10 +1,8 @@
-use Rattle.std.proofs.Common.{◌≡◌, ◌∷◌, [], List, ℕ, Option, Some, None, length, refl, ap, ◌∙◌}
-use Rattle.std.specs.Prelude.{flat_map}
-use Rattle.river_kernels.specs.Kern.{kern_of}
-use Rattle.river_kernels.specs.Limits.{first_above, part_numbers, nesting}
+use Rattle.std.proofs.Common.{◌∷◌, [], List, length, refl, ap, ◌∙◌}
+use Rattle.river_kernels.specs.Limits.{first_above}
 use Rattle.river_plan.specs.declared.op.Op.{Op}
 use Rattle.river_plan.specs.Forms.{op_forms}
-use Rattle.river_plan.specs.Limits.{port_numbers, kernel_numbers, nestings, best_rows}
+use Rattle.river_plan.specs.Limits.{port_numbers}
 use Rattle.river_plan.proofs.OverLemmas.{over-next, over-found, over-end}
 use Rattle.river_plan.proofs.limit.ports_over.Goals as goal
 

@@ -1,6 +1,6 @@
-use Rattle.std.proofs.Common.{◌≡◌, ◌++◌, take, map}
-use Rattle.river_plan.specs.Forms.{op_forms, decl_names, table_names, labels}
-use Rattle.river_plan.specs.Uses.{all_writes, all_reads}
+use Rattle.std.proofs.Common.{◌≡◌, take}
+use Rattle.river_plan.specs.Forms.{op_forms}
+use Rattle.river_plan.specs.Uses.{all_reads}
 use Rattle.river_plan.proofs.lists.all_reads.Given as goal
 
 abbrev pub invariant-loop-op : goal.invariant-loop-op

@@ -1,5 +1,5 @@
-use Rattle.std.proofs.Common.{◌≡◌, ◌++◌, take, map}
-use Rattle.river_plan.specs.Forms.{op_forms, decl_names, table_names, labels}
+use Rattle.std.proofs.Common.{◌≡◌, take}
+use Rattle.river_plan.specs.Forms.{op_forms}
 use Rattle.river_plan.specs.Uses.{all_vars}
 use Rattle.river_plan.proofs.lists.all_vars.Given as goal
 

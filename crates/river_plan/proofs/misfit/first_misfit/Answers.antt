@@ -1,4 +1,4 @@
-use Rattle.std.proofs.Common.{IsTrue, [], Some, None, List, refl, subst}
+use Rattle.std.proofs.Common.{IsTrue, Some, None, List, refl, subst}
 use Rattle.river_plan.specs.declared.op.Op.{Op}
 use Rattle.river_plan.specs.Forms.{op_form, op_forms}
 use Rattle.river_plan.specs.First.{IsFirst}

@@ -1,8 +1,6 @@
-use Rattle.std.proofs.Common.{Option, refl}
+use Rattle.std.proofs.Common.{refl}
 use Rattle.indexmap.specs.IndexMap.{get}
 use Rattle.river_base.specs.Name.{name_eq}
-use Rattle.river_base.specs.declared.kind.QueueType.{QueueType}
-use Rattle.river_plan.specs.Forms.{Name}
 use Rattle.river_plan.specs.Kinds.{kind_in}
 use Rattle.river_plan.proofs.MapLemmas.{kind_in-append, map-start, map-next, map-end}
 use Rattle.river_plan.proofs.name_map.add_decls.Goals as goal

@@ -1,8 +1,6 @@
-use Rattle.std.proofs.Common.{Option, refl}
+use Rattle.std.proofs.Common.{refl}
 use Rattle.indexmap.specs.IndexMap.{get}
 use Rattle.river_base.specs.Name.{name_eq}
-use Rattle.river_kernels.specs.declared.types.VarKind.{VarKind}
-use Rattle.river_plan.specs.Forms.{Name}
 use Rattle.river_plan.specs.Kinds.{private_in}
 use Rattle.river_plan.proofs.MapLemmas.{private_in-append, map-start, map-next, map-end}
 use Rattle.river_plan.proofs.name_map.add_private.Goals as goal

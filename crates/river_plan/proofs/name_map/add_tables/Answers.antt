@@ -1,11 +1,9 @@
-use Rattle.std.proofs.Common.{Option, Some, None, refl, ap, ◌∙◌}
+use Rattle.std.proofs.Common.{Some, None, refl, ap, ◌∙◌}
 use Rattle.std.specs.Prelude.{if◌then◌else◌}
 use Rattle.river_kernels.specs.Limits.{either}
 use Rattle.river_kernels.specs.declared.types.VarKind.TheVariants.{Table}
 use Rattle.indexmap.specs.IndexMap.{get}
 use Rattle.river_base.specs.Name.{name_eq}
-use Rattle.river_kernels.specs.declared.types.VarKind.{VarKind}
-use Rattle.river_plan.specs.Forms.{Name}
 use Rattle.river_plan.specs.Kinds.{table_in}
 use Rattle.river_plan.proofs.MapLemmas.{table_in-append, map-start, map-next, map-end}
 use Rattle.river_plan.proofs.name_map.add_tables.Goals as goal

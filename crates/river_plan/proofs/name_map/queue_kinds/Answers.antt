@@ -1,12 +1,8 @@
-use Rattle.std.proofs.Common.{◌≡◌, List, Option, None, sym, ap, ◌∙◌}
+use Rattle.std.proofs.Common.{ap}
 use Rattle.std.specs.Map.{lookup}
 use Rattle.indexmap.specs.IndexMap.{get}
 use Rattle.river_base.specs.Name.{name_eq}
-use Rattle.river_kernels.specs.Limits.{either}
-use Rattle.river_plan.specs.declared.plan.Decl.{Decl}
-use Rattle.river_plan.specs.Forms.{Name}
-use Rattle.river_plan.specs.Kinds.{kind_in}
-use Rattle.river_plan.proofs.MapLemmas.{kind_in-append, three-kinds}
+use Rattle.river_plan.proofs.MapLemmas.{three-kinds}
 use Rattle.river_plan.proofs.name_map.queue_kinds.Goals as goal
 
 pub returns : goal.returns

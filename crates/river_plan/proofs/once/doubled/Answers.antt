@@ -1,7 +1,7 @@
-use Rattle.std.proofs.Common.{◌≡◌, [], ◌∷◌, ◌++◌, take, List, sym, subst, ap, ◌∙◌}
+use Rattle.std.proofs.Common.{[], ◌∷◌, ◌++◌, take, List, sym, subst, ap, ◌∙◌}
 use Rattle.std.proofs.lemmas.List.{take_more, take_all}
 use Rattle.river_plan.specs.Forms.{Name}
-use Rattle.river_plan.specs.Names.{SameNames, AreDoubled}
+use Rattle.river_plan.specs.Names.{AreDoubled}
 use Rattle.river_plan.proofs.NameLemmas.{same-start, same-trans, same-next}
 use Rattle.river_plan.proofs.UseLemmas.{doubled-next, doubled-none}
 use Rattle.river_plan.proofs.once.doubled.Goals as goal

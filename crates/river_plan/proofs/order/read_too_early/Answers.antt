@@ -1,10 +1,9 @@
-use Rattle.std.proofs.Common.{[], ◌∷◌, ◌++◌, Some, None, List, take, refl, sym, ap, ◌∙◌, subst, map}
+use Rattle.std.proofs.Common.{[], ◌++◌, Some, None, List, take, refl, subst}
 use Rattle.river_plan.specs.declared.op.Op.{Op}
-use Rattle.river_plan.specs.Forms.{Name, op_form, op_forms, decl_names}
+use Rattle.river_plan.specs.Forms.{Name, op_forms, decl_names}
 use Rattle.river_plan.specs.declared.fault.Named.TheVariants.{Queue}
 use Rattle.river_plan.specs.First.{Along}
 use Rattle.river_plan.specs.Names.{SameNames}
-use Rattle.river_plan.specs.Uses.{all_writes}
 use Rattle.river_plan.specs.Faults.{ReadTooEarlyAt}
 use Rattle.river_plan.proofs.NameLemmas.{same-start, same-trans}
 use Rattle.river_plan.proofs.Remains.{remains_by-start, remains_by-next, remains_by-found, remains_by-end}

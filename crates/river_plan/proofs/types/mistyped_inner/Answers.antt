@@ -1,7 +1,7 @@
 use Rattle.std.proofs.Common.{Some, None, List, refl, subst}
 use Rattle.river_plan.specs.declared.plan.Decl.{Decl}
 use Rattle.river_plan.specs.First.{IsFirst}
-use Rattle.river_plan.specs.Faults.{IsOuter, HasWidth, IsTable}
+use Rattle.river_plan.specs.Faults.{HasWidth}
 use Rattle.river_plan.proofs.Remains.{remains-start, remains-next, remains-found, remains-end}
 use Rattle.river_plan.proofs.NameLemmas.{not_false}
 use Rattle.river_plan.proofs.types.mistyped_inner.Goals as goal

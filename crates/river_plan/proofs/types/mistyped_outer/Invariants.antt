@@ -1,6 +1,5 @@
-use Rattle.std.proofs.Common.{List}
 use Rattle.river_plan.specs.First.{Unless}
-use Rattle.river_plan.specs.Faults.{IsOuter, HasWidth, IsTable}
+use Rattle.river_plan.specs.Faults.{IsOuter}
 use Rattle.river_plan.proofs.Remains.{Remains}
 use Rattle.river_plan.proofs.types.mistyped_outer.Given as goal
 

@@ -1,7 +1,7 @@
 use Rattle.std.proofs.Common.{Some, None, List, refl, subst}
 use Rattle.river_plan.specs.declared.plan.TableDecl.{TableDecl}
 use Rattle.river_plan.specs.First.{IsFirst}
-use Rattle.river_plan.specs.Faults.{IsOuter, HasWidth, IsTable}
+use Rattle.river_plan.specs.Faults.{IsTable}
 use Rattle.river_plan.proofs.Remains.{remains-start, remains-next, remains-found, remains-end}
 use Rattle.river_plan.proofs.NameLemmas.{not_false}
 use Rattle.river_plan.proofs.types.mistyped_table.Goals as goal
