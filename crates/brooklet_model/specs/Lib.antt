@@ -1,6 +1,7 @@
 pub mod Fire
 pub mod Firings
 pub mod Histories
+pub mod Laws
 pub mod Machine
 pub mod Meaning
 pub mod Shapes
