@@ -1,13 +1,13 @@
 -- A kernel in two parts, over any firings.
-use Rattle.std.proofs.Common.{◌≡◌, ℕ, ℤ, zero, suc, ◌+◌, ◌-◌, ◌<◌, ◌≤◌, List, [], ◌∷◌, ◌++◌, length, take, drop, refl, sym, ap, ◌∙◌, subst, arith, append_assoc, nat_lt, ⊎_elim}
+use Rattle.std.proofs.Common.{◌≡◌, ℕ, ℤ, ◌+◌, ◌-◌, List, [], ◌∷◌, ◌++◌, take, drop, sym, ap, ◌∙◌, subst, nat_lt, ⊎_elim}
 use Rattle.std.specs.Prelude.{if◌then◌else◌}
 use Rattle.std.proofs.lemmas.List.{take-append-drop}
 use Rattle.std.proofs.lemmas.Bool.{cases_lt}
 use Rattle.river_base.specs.declared.item.Item as item
 use Rattle.river_base.specs.Places.{none}
 use Rattle.river_kernels.specs.Kern.{Kern, fused}
-use Rattle.brooklet_model.specs.Firings.{Kept, Fired, feed, and_then, splice, beside, fused_of, Same}
-use Rattle.brooklet_model.specs.Fire.{fire, ins, outs, tabs, privates}
+use Rattle.brooklet_model.specs.Firings.{Kept, Fired, feed, splice, beside, fused_of, Same}
+use Rattle.brooklet_model.specs.Fire.{fire, outs, tabs, privates}
 use Rattle.brooklet_model.specs.Shapes.{IsShaped, HasShape}
 use Rattle.brooklet_model.specs.Words.{Word, run}
 use Rattle.brooklet_model.specs.Laws.{FusedRuns}

@@ -1,9 +1,6 @@
 -- The laws on the order of firings: statements over the definitions alone.
-use Rattle.std.specs.Prelude.{◌≡◌, ℕ, List, take, drop}
+use Rattle.std.specs.Prelude.{ℕ, List, take, drop}
 use Rattle.river_base.specs.declared.item.Item as item
-use Rattle.river_plan.specs.Forms.{Name, OpForm, PlanForm, decl_names}
-use Rattle.river_plan.specs.Uses.{Each, total, writes_it}
-use Rattle.river_plan.specs.Valid.{IsPlan}
 use Rattle.river_kernels.specs.Kern.{Kern, fused}
 use Rattle.brooklet_model.specs.Firings.{Kept, feed, fused_of, Same}
 use Rattle.brooklet_model.specs.Fire.{fire, ins, outs, tabs, privates}
