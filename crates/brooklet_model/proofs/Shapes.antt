@@ -1,0 +1,243 @@
+-- States keep their kernel's shape.
+use Rattle.std.proofs.Common.{◌≡◌, ℕ, zero, suc, ℤ, pos, ◌+◌, ◌-◌, ◌<◌, Bool, true, false, Some, None, List, [], ◌∷◌, ◌++◌, length, take, drop, refl, sym, ap, ◌∙◌, subst, arith, length-append, length-drop, nat_lt, ⊎_elim, replicate}
+use Rattle.std.specs.Prelude.{if◌then◌else◌, nat_le, slice_index_or}
+use Rattle.std.specs.List.{AllByRecursion}
+use Rattle.std.proofs.lemmas.List.{length-map, length-take, length-take-le, length-set, length-replicate}
+use Rattle.std.proofs.lemmas.Bool.{cases_lt}
+use Rattle.river_base.specs.declared.item.Item as item
+use Rattle.river_base.specs.Held.{items_of}
+use Rattle.river_base.specs.Number.{count_of}
+use Rattle.river_base.specs.Places.{append_at}
+use Rattle.river_base.specs.Drain.{drain, pass_on}
+use Rattle.work_code.specs.Steps.{Step, Steps, Set, Push, If, Done, Then, Body}
+use Rattle.work_code.specs.Ran.{Ran, ran, ran_once}
+use Rattle.work_code.specs.Value.{val, is_true}
+use Rattle.kern_rows.specs.Forms.{CodeForm, FilterForm}
+use Rattle.kern_rows.specs.Runs.{slots_from, run_kept, Filtering, filter_turn, filter_ran, buffer_of}
+use Rattle.kern_rows.specs.Turns.{Turns, IsTurn, shares, ones, next_port, next_had, front_of, passed, rest_at, waiting, put, itself}
+use Rattle.kern_bags.specs.Steps.{window_one, streamer_one}
+use Rattle.river_kernels.specs.Kern.{Kern, code, filter, duplicate, deal, collect, packed, unpack, window, select, project, cross, streamer, tally, fused}
+use Rattle.brooklet_model.specs.Firings.{Kept, Slots, Buffered, Turn, Joining, Received, Crossing, feed}
+use Rattle.brooklet_model.specs.Fire.{fire, privates, kept_vars, first_kept, first_slots, code_one, filter_firing, join_one, received_one, cross_one, values_of, value_of}
+use Rattle.brooklet_model.specs.Shapes.{AreShares, IsShaped, AreSlots, IsFiltering, IsDealing, IsJoined, IsJoining, IsReceived, IsCrossing, IsNone, IsOne, HasSlots, HasShape}
+use Rattle.brooklet_model.proofs.Lists.{if_lt, if_ge, take_front, drop_front, feed_kept}
+
+one_length : (P : Kept → Type 0) (ss : List Kept) → IsOne P ss → length ss ≡ 1
+one_length P [] h = absurd h
+one_length P (s ∷ []) h = refl
+one_length P (s ∷ t ∷ ts) h = absurd h
+
+none_length : (ss : List Kept) → IsNone ss → length ss ≡ 0
+none_length [] h = refl
+none_length (s ∷ ss) h = absurd h
+
+slots_length : (zs : List ℤ) (ss : List Kept) → HasSlots zs ss → length ss ≡ kept_vars zs
+slots_length [] ss h = none_length ss h
+slots_length (z ∷ zs) ss h = one_length (AreSlots (length (z ∷ zs))) ss h
+
+-- a state for each private variable
+pub shape_length : (k : Kern) (ss : List Kept) → HasShape k ss → length ss ≡ privates k
+shape_length (code k) ss h = slots_length k.starts ss h
+shape_length (filter f) ss h = one_length (IsFiltering (length f.starts)) ss h
+shape_length (duplicate n) ss h = none_length ss h
+shape_length (deal ws) ss h = one_length (IsDealing (shares ws)) ss h
+shape_length (collect ws) ss h = one_length (IsJoining (shares ws)) ss h
+shape_length (packed k) ss h = shape_length k ss h
+shape_length (unpack n) ss h = one_length (IsJoining (ones n)) ss h
+shape_length (window w) ss h = one_length IsReceived ss h
+shape_length (select e) ss h = none_length ss h
+shape_length (project es) ss h = none_length ss h
+shape_length cross ss h = one_length IsCrossing ss h
+shape_length (streamer s) ss h = one_length IsReceived ss h
+shape_length tally ss h = none_length ss h
+shape_length (fused a b at) ss h =
+    let la = shape_length a (take (privates a) ss) h.0 in
+    let lb = shape_length b (drop (privates a) ss) h.1 in
+    omega (arith, length-take (privates a) ss, length-drop (privates a) ss, la, lb)
+
+-- A BODY KEEPS THE NUMBER OF ITS SLOTS
+
+either_length : (b : Bool) (r s : Ran) (n : ℕ) → length r.slots ≡ n → length s.slots ≡ n → length (if b then r else s).slots ≡ n
+either_length true r s n e f = e
+either_length false r s n e f = f
+
+mutual
+  once_length : (s : Step) (input slots : List ℤ) → length (ran_once s input slots).slots ≡ length slots
+  once_length (Set slot t) input slots = length-set slots slot (val t input slots)
+  once_length (Push port ts) input slots = refl
+  once_length (If cond when otherwise) input slots =
+      either_length (is_true (val cond input slots)) (ran when input slots) (ran otherwise input slots) (length slots) (ran_length when input slots) (ran_length otherwise input slots)
+
+  pub ran_length : (ss : Steps) (input slots : List ℤ) → length (ran ss input slots).slots ≡ length slots
+  ran_length Done input slots = refl
+  ran_length (Then s ss) input slots = ran_length ss input (ran_once s input slots).slots ∙ once_length s input slots
+
+pub run_kept_length : (b : Body) (kept input : List ℤ) → length (run_kept b kept input).slots ≡ length kept
+run_kept_length b kept input =
+    let all = (ran b.steps input (slots_from b.slots kept)).slots in
+    let e = ran_length b.steps input (slots_from b.slots kept) in
+    let f = length-append kept (replicate (b.slots - length kept) (pos 0)) in
+    length-take-le (length kept) all (omega (arith, e, f))
+
+-- the turn after one more is a turn
+weight_at : (ws : List ℕ) (p : ℕ) → AllByRecursion (λ w. 0 < w) ws → p < length ws → 0 < slice_index_or ws p 0
+weight_at [] p h lt = absurd (omega arith)
+weight_at (w ∷ ws) zero h lt = h.0
+weight_at (w ∷ ws) (suc p) h lt = weight_at ws p h.1 (omega arith)
+
+turn_by : (ws : List ℕ) (p q p' q' : ℕ) → p ≡ p' → q ≡ q' → IsTurn ws p' q' → IsTurn ws p q
+turn_by ws p q p' q' e f h = rw (e, f) h
+
+pub next_turn : (ws : List ℕ) (port had : ℕ) → AreShares ws → IsTurn ws port had → IsTurn ws (next_port ws port had) (next_had ws port had)
+next_turn ws port had all h =
+    let other : ℕ = if nat_lt (port + 1) (length ws) then port + 1 else 0 in
+    ⊎_elim
+    (λ lt. turn_by ws _ _ port (had + 1) (if_lt (had + 1) (slice_index_or ws port 0) port other lt) (if_lt (had + 1) (slice_index_or ws port 0) (had + 1) 0 lt) (h.0, lt))
+    (λ ge. turn_by ws _ _ other 0 (if_ge (had + 1) (slice_index_or ws port 0) port other ge) (if_ge (had + 1) (slice_index_or ws port 0) (had + 1) 0 ge) (⊎_elim
+    (λ lt. turn_by ws other 0 (port + 1) 0 (if_lt (port + 1) (length ws) (port + 1) 0 lt) refl (lt, weight_at ws (port + 1) all.1 lt))
+    (λ le. turn_by ws other 0 0 0 (if_ge (port + 1) (length ws) (port + 1) 0 le) refl (all.0, weight_at ws 0 all.1 all.0))
+    (cases_lt (port + 1) (length ws))))
+    (cases_lt (had + 1) (slice_index_or ws port 0))
+
+pub first_turn : (ws : List ℕ) → AreShares ws → IsTurn ws 0 0
+first_turn ws all = (all.0, weight_at ws 0 all.1 all.0)
+
+pub length-rest_at : (ls : List (List item.Item)) (p : ℕ) → length (rest_at ls p) ≡ length ls
+length-rest_at [] p = refl
+length-rest_at (l ∷ ls) zero = refl
+length-rest_at (l ∷ ls) (suc p) = ap suc (length-rest_at ls p)
+
+pub length-append_at : {A : Type 0} (ls : List (List A)) (p : ℕ) (xs : List A) → length (append_at ls p xs) ≡ length ls
+length-append_at [] p xs = refl
+length-append_at (l ∷ ls) zero xs = refl
+length-append_at (l ∷ ls) (suc p) xs = ap suc (length-append_at ls p xs)
+
+pub drain_joined : (give : item.Item → List item.Item) (ws : List ℕ) (n : ℕ) (s : Turns) → AreShares ws → IsJoined ws s → IsJoined ws (drain (front_of give) (passed ws) n s).1
+drain_joined give ws zero s all j = j
+drain_joined give ws (suc n) s all j =
+    elim (front_of give s) as (λ o. IsJoined ws (pass_on (passed ws) s (drain (front_of give) (passed ws) n) o).1) [
+      | None ↦ j
+      | Some x ↦ drain_joined give ws n (passed ws s) all (record { turn = next_turn ws s.port s.had all j.turn; lists = length-rest_at s.lists s.port ∙ j.lists })
+    ]
+
+pub put_joined : (ws : List ℕ) (p : ℕ) (x : item.Item) (s : Turns) → IsJoined ws s → IsJoined ws (put p x s)
+put_joined ws p x s j = record { turn = j.turn; lists = length-append_at s.lists p (x ∷ []) ∙ j.lists }
+
+-- EACH KIND OF STATE AFTER A FIRING
+
+code_shape : (k : CodeForm) (x : item.Item) (zs : List ℤ) (ss : List Kept) → HasSlots zs ss → HasSlots zs (code_one k x ss).states
+code_shape k x [] [] h = tt
+code_shape k x [] (s ∷ ss) h = absurd h
+code_shape k x (z ∷ zs) [] h = absurd h
+code_shape k x (z ∷ zs) (Slots kept ∷ []) h = run_kept_length k.body kept (values_of x) ∙ h
+code_shape k x (z ∷ zs) (Buffered s ∷ []) h = absurd h
+code_shape k x (z ∷ zs) (Turn p q ∷ []) h = absurd h
+code_shape k x (z ∷ zs) (Joining s ∷ []) h = absurd h
+code_shape k x (z ∷ zs) (Received xs ∷ []) h = absurd h
+code_shape k x (z ∷ zs) (Crossing s ∷ []) h = absurd h
+code_shape k x (z ∷ zs) (s ∷ t ∷ ts) h = absurd h
+
+turn_length : (f : FilterForm) (s : Filtering) → length (filter_turn f s).after.kept ≡ length s.kept
+turn_length f s = arms (nat_le f.peek (length (buffer_of f s)))
+  where
+    arms : (b : Bool) → length (if b then filter_ran s (run_kept f.body s.kept (take f.peek (buffer_of f s))) else record { pushes = []; after = s }).after.kept ≡ length s.kept
+    arms true = run_kept_length f.body s.kept (take f.peek (buffer_of f s))
+    arms false = refl
+
+filter_shape : (f : FilterForm) (n : ℕ) (x : item.Item) (ss : List Kept) → IsOne (IsFiltering n) ss → IsOne (IsFiltering n) (filter_firing f x ss).states
+filter_shape f n x [] h = absurd h
+filter_shape f n x (Slots zs ∷ []) h = absurd h
+filter_shape f n x (Buffered s ∷ []) h = turn_length f (record { seen = s.seen ++ value_of x ∷ []; fired = s.fired; kept = s.kept }) ∙ h
+filter_shape f n x (Turn p q ∷ []) h = absurd h
+filter_shape f n x (Joining s ∷ []) h = absurd h
+filter_shape f n x (Received xs ∷ []) h = absurd h
+filter_shape f n x (Crossing s ∷ []) h = absurd h
+filter_shape f n x (s ∷ t ∷ ts) h = absurd h
+
+deal_shape : (ws : List ℤ) (p : ℕ) (x : item.Item) (ss : List Kept) → AreShares (shares ws) → HasShape (deal ws) ss → HasShape (deal ws) (fire (deal ws) p x ss).states
+deal_shape ws p x [] f h = absurd h
+deal_shape ws p x (Slots zs ∷ []) f h = absurd h
+deal_shape ws p x (Buffered s ∷ []) f h = absurd h
+deal_shape ws p x (Turn port had ∷ []) f h = next_turn (shares ws) port had f h
+deal_shape ws p x (Joining s ∷ []) f h = absurd h
+deal_shape ws p x (Received xs ∷ []) f h = absurd h
+deal_shape ws p x (Crossing s ∷ []) f h = absurd h
+deal_shape ws p x (s ∷ t ∷ ts) f h = absurd h
+
+join_shape : (give : item.Item → List item.Item) (ws : List ℕ) (p : ℕ) (x : item.Item) (ss : List Kept) → AreShares ws → IsOne (IsJoining ws) ss → IsOne (IsJoining ws) (join_one give ws p x ss).states
+join_shape give ws p x [] f h = absurd h
+join_shape give ws p x (Slots zs ∷ []) f h = absurd h
+join_shape give ws p x (Buffered s ∷ []) f h = absurd h
+join_shape give ws p x (Turn port had ∷ []) f h = absurd h
+join_shape give ws p x (Joining s ∷ []) f h = drain_joined give ws (waiting (put p x s).lists) (put p x s) f (put_joined ws p x s h)
+join_shape give ws p x (Received xs ∷ []) f h = absurd h
+join_shape give ws p x (Crossing s ∷ []) f h = absurd h
+join_shape give ws p x (s ∷ t ∷ ts) f h = absurd h
+
+received_shape : (one : List item.Item → item.Item → List item.Item) (x : item.Item) (ss : List Kept) → IsOne IsReceived ss → IsOne IsReceived (received_one one x ss).states
+received_shape one x [] h = absurd h
+received_shape one x (Slots zs ∷ []) h = absurd h
+received_shape one x (Buffered s ∷ []) h = absurd h
+received_shape one x (Turn port had ∷ []) h = absurd h
+received_shape one x (Joining s ∷ []) h = absurd h
+received_shape one x (Received xs ∷ []) h = tt
+received_shape one x (Crossing s ∷ []) h = absurd h
+received_shape one x (s ∷ t ∷ ts) h = absurd h
+
+cross_shape : (p : ℕ) (x : item.Item) (ss : List Kept) → IsOne IsCrossing ss → IsOne IsCrossing (cross_one p x ss).states
+cross_shape p x [] h = absurd h
+cross_shape p x (Slots zs ∷ []) h = absurd h
+cross_shape p x (Buffered s ∷ []) h = absurd h
+cross_shape p x (Turn port had ∷ []) h = absurd h
+cross_shape p x (Joining s ∷ []) h = absurd h
+cross_shape p x (Received xs ∷ []) h = absurd h
+cross_shape p x (Crossing s ∷ []) h = tt
+cross_shape p x (s ∷ t ∷ ts) h = absurd h
+
+-- a firing keeps the shape
+pub fire_shape : (k : Kern) (p : ℕ) (x : item.Item) (ss : List Kept) → IsShaped k → HasShape k ss → HasShape k (fire k p x ss).states
+fire_shape (code k) p x ss f h = code_shape k x k.starts ss h
+fire_shape (filter g) p x ss f h = filter_shape g (length g.starts) x ss h
+fire_shape (duplicate n) p x ss f h = h
+fire_shape (deal ws) p x ss f h = deal_shape ws p x ss f h
+fire_shape (collect ws) p x ss f h = join_shape itself (shares ws) p x ss f h
+fire_shape (packed k) p x ss f h = fire_shape k p x ss f.0 h
+fire_shape (unpack n) p x ss f h = join_shape items_of (ones n) p x ss f h
+fire_shape (window w) p x ss f h = received_shape (window_one w) x ss h
+fire_shape (select e) p x ss f h = h
+fire_shape (project es) p x ss f h = h
+fire_shape cross p x ss f h = cross_shape p x ss h
+fire_shape (streamer s) p x ss f h = received_shape (streamer_one s) x ss h
+fire_shape tally p x ss f h = h
+fire_shape (fused a b at) p x ss f h =
+    let ra = fire a p x (take (privates a) ss) in
+    let rb = feed (fire b 0) (ra.outs at) (drop (privates a) ss) in
+    let ha = fire_shape a p x (take (privates a) ss) f.0 h.0 in
+    let hb = feed_kept (fire b 0) (HasShape b) (λ y us. fire_shape b 0 y us f.1) (ra.outs at) (drop (privates a) ss) h.1 in
+    let la = shape_length a ra.states ha in
+    (subst (HasShape a) (sym (take_front ra.states rb.states (privates a) la)) ha, subst (HasShape b) (sym (drop_front ra.states rb.states (privates a) la)) hb)
+
+-- the first states have the kernel's shape
+first_slots_shape : (zs : List ℤ) → HasSlots zs (first_slots zs)
+first_slots_shape [] = tt
+first_slots_shape (z ∷ zs) = refl
+
+pub first_shape : (k : Kern) → IsShaped k → HasShape k (first_kept k)
+first_shape (code k) f = first_slots_shape k.starts
+first_shape (filter g) f = refl
+first_shape (duplicate n) f = tt
+first_shape (deal ws) f = first_turn (shares ws) f
+first_shape (collect ws) f = record { turn = first_turn (shares ws) f; lists = length-replicate (length ws) [] ∙ sym (length-map ws count_of) }
+first_shape (packed k) f = first_shape k f.0
+first_shape (unpack n) f = record { turn = first_turn (ones n) f; lists = length-replicate n [] ∙ sym (length-replicate n 1) }
+first_shape (window w) f = tt
+first_shape (select e) f = tt
+first_shape (project es) f = tt
+first_shape cross f = tt
+first_shape (streamer s) f = tt
+first_shape tally f = tt
+first_shape (fused a b at) f =
+    let ha = first_shape a f.0 in
+    let hb = first_shape b f.1 in
+    let la = shape_length a (first_kept a) ha in
+    (subst (HasShape a) (sym (take_front (first_kept a) (first_kept b) (privates a) la)) ha, subst (HasShape b) (sym (drop_front (first_kept a) (first_kept b) (privates a) la)) hb)
