@@ -1,3 +1,4 @@
+mod Running
 pub mod Cuts
 pub mod Joined
 pub mod Lists

@@ -1,7 +1,7 @@
 // What no clause says: that the tokens are those that were meant, what is printed, and that the calls succeed.
 use crate::{
-    BinOp, Code, Expr, Exprs, LexFault, Stmt, Stmts, Token, eval, lex, print_code, print_expr,
-    units,
+    BinOp, Code, Emitted, Expr, Exprs, LexFault, Stmt, Stmts, Token, eval, lex, print_code,
+    print_expr, run_code, units,
 };
 use river_base::{Bytes, NoMemory};
 use std::alloc::Global;
@@ -211,5 +211,57 @@ fn texts_of_bodies(rt: HostRuntime) -> Result<(), Fail> {
     let wanted: &[u8] =
         b"{ slot[2] = slot[1]; if (slot[2]) { push 0 (7, (-(!input[1]))); } if (slot[2]) { } else { push 0 (7, (-(!input[1]))); } }";
     assert_eq!(rt; printed.as_slice(), wanted);
+    Ok(())
+}
+
+// A body that counts its runs in slot 0, and pushes the value of its input to port 1 where it is not 0, and to port 2
+// what slot 0 counts where it is.
+fn counting(alloc: Global) -> Result<Stmts, NoMemory> {
+    let mut body = Stmts::new(alloc);
+    let one = Expr::Bin {
+        op: BinOp::Add,
+        left: boxed(alloc, Expr::Slot(0))?,
+        right: boxed(alloc, Expr::Const(1))?,
+    };
+    body.push(Stmt::Set {
+        slot: 0,
+        value: one,
+    })?;
+    let mut yes = Stmts::new(alloc);
+    let mut values = Exprs::new(alloc);
+    values.push(Expr::Input(0))?;
+    values.push(Expr::Const(7))?;
+    yes.push(Stmt::Push { port: 1, values })?;
+    let mut no = Stmts::new(alloc);
+    let mut values = Exprs::new(alloc);
+    values.push(Expr::Slot(0))?;
+    no.push(Stmt::Push { port: 2, values })?;
+    body.push(Stmt::If {
+        cond: Expr::Input(0),
+        yes,
+        no,
+    })?;
+    Ok(body)
+}
+
+#[test]
+fn runs_of_a_body(rt: HostRuntime) -> Result<(), Fail> {
+    let code = Code {
+        inputs: 1,
+        slots: 1,
+        body: counting(rt.alloc())?,
+    };
+    let mut slots = [0];
+    let mut out = Emitted::new(rt.alloc());
+    for value in [5, 0, -1] {
+        run_code(&code, &[value], &mut slots, &mut out)?;
+    }
+    assert_eq!(rt; slots[0], 3);
+    let wanted: [(u32, &[i64]); 3] = [(1, &[5, 7]), (2, &[2]), (1, &[-1, 7])];
+    assert_eq!(rt; out.len(), wanted.len());
+    for ((port, row), (p, values)) in out.iter().zip(&wanted) {
+        assert_eq!(rt; *port, *p);
+        assert_eq!(rt; row.values(), *values);
+    }
     Ok(())
 }
