@@ -1,10 +1,10 @@
-mod Running
 pub mod Cuts
 pub mod Joined
 pub mod Lists
 pub mod Marks
 pub mod Pieces
 pub mod Rooms
+pub mod Running
 pub mod Slices
 pub mod Spelled
 pub mod Texts

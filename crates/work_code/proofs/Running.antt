@@ -6,13 +6,15 @@ use Rattle.std.specs.Result.{OnErr}
 use Rattle.river_base.specs.Grew.{GrewByPrefix}
 use Rattle.work_code.specs.declared.code.Stmt.{Stmt, fold-roll-Stmt}
 use Rattle.work_code.specs.declared.code.Stmt as built
-use Rattle.work_code.specs.declared.code.Stmt.TheVariants.{rolls-Push}
+use Rattle.work_code.specs.declared.code.Stmt.TheVariants.{rolls-Push, rolls-If, rolls-Set}
 use Rattle.work_code.specs.declared.code.Stmt.TheOpen as layer
 use Rattle.work_code.specs.declared.expr.Exprs.{Exprs}
+use Rattle.work_code.specs.declared.code.Stmts.{Stmts}
 use Rattle.work_code.specs.declared.expr.Expr.{Expr}
 use Rattle.work_code.specs.Term.{Term, term, terms}
-use Rattle.work_code.specs.Steps.{Step, Steps, Push, step, in_turn, step_at, steps_at}
-use Rattle.work_code.specs.Ran.{Ran, ran, ran_once, IsStepWithin, IsBodyWithin}
+use Rattle.work_code.specs.Steps.{Step, Steps, Set, Push, If, step, steps, in_turn, step_at, steps_at}
+use Rattle.work_code.proofs.Texts.{steps-is}
+use Rattle.work_code.specs.Ran.{ran, ran_once, IsBodyWithin}
 
 abbrev pub Pushes : Type 0
 Pushes = List (ℕ × List ℤ)
@@ -56,11 +58,11 @@ so_far_refused input all s rest slots now out out' out'' f g =
     record {
       n = length f.given + length (take g.n r.pushes);
       is =
-        g.is
-        ∙ ap (λ o. o ++ take g.n r.pushes) f.grew
-        ∙ append_assoc out f.given (take g.n r.pushes)
-        ∙ ap (λ t. out ++ t) (sym (prefix_of f.given (r.pushes ++ others.pushes) (length (take g.n r.pushes)) ∙ ap (λ t. f.given ++ t) (prefix_is r.pushes others.pushes g.n)))
-        ∙ ap (λ t. out ++ take (length f.given + length (take g.n r.pushes)) t) f.pushes;
+          g.is
+          ∙ ap (λ o. o ++ take g.n r.pushes) f.grew
+          ∙ append_assoc out f.given (take g.n r.pushes)
+          ∙ ap (λ t. out ++ t) (sym (prefix_of f.given (r.pushes ++ others.pushes) (length (take g.n r.pushes)) ∙ ap (λ t. f.given ++ t) (prefix_is r.pushes others.pushes g.n)))
+          ∙ ap (λ t. out ++ take (length f.given + length (take g.n r.pushes)) t) f.pushes;
     }
   where
     prefix_is : (a b : Pushes) (n : ℕ) → take (length (take n a)) (a ++ b) ≡ take n a
@@ -83,6 +85,14 @@ none_left items i h = ap (map step) (drop_all i items h)
 
 pub step-push : (port : ℕ) (values : Exprs) → step (built.Push port values) ≡ Push port (terms values)
 step-push port values = ap step (sym (rolls-Push port values)) ∙ fold-roll-Stmt Step Steps step_at steps_at (layer.Push port values)
+
+pub step-if : (c : Expr) (a b : Stmts) → step (built.If c a b) ≡ If (term c) (steps a) (steps b)
+step-if c a b = ap step (sym (rolls-If c a b)) ∙ fold-roll-Stmt Step Steps step_at steps_at (layer.If c a b)
+
+pub step-set : (slot : ℕ) (value : Expr) → step (built.Set slot value) ≡ Set slot (term value)
+step-set slot value = ap step (sym (rolls-Set slot value)) ∙ fold-roll-Stmt Step Steps step_at steps_at (layer.Set slot value)
+
+pub ruleset step_trees = (step-push, step-if, step-set, steps-is)
 
 pub on_err : {T E P : Type 0} (r : Result T E) → P → OnErr r P
 on_err (Ok x) h = tt

@@ -46,12 +46,7 @@ fn run_steps(
 }
 
 #[cycle(run)]
-fn run_step(
-    s: &Stmt,
-    input: &[i64],
-    slots: &mut [i64],
-    out: &mut Emitted,
-) -> Result<(), NoMemory>
+fn run_step(s: &Stmt, input: &[i64], slots: &mut [i64], out: &mut Emitted) -> Result<(), NoMemory>
     requires { IsStepWithin (length input.now) (length slots.old) (step s.now) }
     ensures pushes { OnOk result (out.new ≡ out.old ++ (ran_once (step s.now) input.now slots.old).pushes) }
     ensures slots { OnOk result (slots.new ≡ (ran_once (step s.now) input.now slots.old).slots) }

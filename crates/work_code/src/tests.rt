@@ -1,4 +1,10 @@
 // What no clause says: that the tokens are those that were meant, what is printed, and that the calls succeed.
+ghost use Rattle.std.specs.Prelude.{IfOk};
+ghost use Rattle.work_code.specs.Term.{term};
+ghost use Rattle.work_code.specs.Steps.{step, steps};
+ghost use Rattle.work_code.specs.Value.{IsWithin};
+ghost use Rattle.work_code.specs.Ran.{IsStepWithin, IsBodyWithin};
+
 use crate::{
     BinOp, Code, Emitted, Expr, Exprs, LexFault, Stmt, Stmts, Token, eval, lex, print_code,
     print_expr, run_code, units,
@@ -214,50 +220,70 @@ fn texts_of_bodies(rt: HostRuntime) -> Result<(), Fail> {
     Ok(())
 }
 
-// A body that counts its runs in slot 0, and pushes the value of its input to port 1 where it is not 0, and to port 2
-// what slot 0 counts where it is.
-fn counting(alloc: Global) -> Result<Stmts, NoMemory> {
-    let mut body = Stmts::new(alloc);
-    let one = Expr::Bin {
-        op: BinOp::Add,
-        left: boxed(alloc, Expr::Slot(0))?,
-        right: boxed(alloc, Expr::Const(1))?,
-    };
-    body.push(Stmt::Set {
-        slot: 0,
-        value: one,
-    })?;
-    let mut yes = Stmts::new(alloc);
+// A push of one value.
+#[tactic(auto, using(crate::proofs::Running::step_trees))]
+fn pushing(alloc: Global, port: u32, value: Expr) -> Result<Stmt, NoMemory>
+    requires { IsWithin 1 1 (term value) }
+    ensures { IfOk result (λ s. IsStepWithin 1 1 (step s)) }
+{
     let mut values = Exprs::new(alloc);
-    values.push(Expr::Input(0))?;
-    values.push(Expr::Const(7))?;
-    yes.push(Stmt::Push { port: 1, values })?;
-    let mut no = Stmts::new(alloc);
-    let mut values = Exprs::new(alloc);
-    values.push(Expr::Slot(0))?;
-    no.push(Stmt::Push { port: 2, values })?;
-    body.push(Stmt::If {
-        cond: Expr::Input(0),
+    values.push(value)?;
+    Ok(Stmt::Push { port, values })
+}
+
+// A choice by the value of slot 0.
+#[tactic(auto, using(crate::proofs::Running::step_trees))]
+fn choice(yes: Stmts, no: Stmts) -> Stmt
+    requires yes { IsBodyWithin 1 1 (steps yes) }
+    requires no { IsBodyWithin 1 1 (steps no) }
+    ensures { IsStepWithin 1 1 (step result) }
+{
+    Stmt::If {
+        cond: Expr::Slot(0),
         yes,
         no,
-    })?;
+    }
+}
+
+// The value of the input to slot 0.
+#[tactic(auto, using(crate::proofs::Running::step_trees))]
+fn keeping() -> Stmt
+    ensures { IsStepWithin 1 1 (step result) }
+{
+    Stmt::Set {
+        slot: 0,
+        value: Expr::Input(0),
+    }
+}
+
+// One statement.
+#[tactic(auto, using(crate::proofs::Running::step_trees))]
+fn single(alloc: Global, s: Stmt) -> Result<Stmts, NoMemory>
+    requires { IsStepWithin 1 1 (step s) }
+    ensures { IfOk result (λ body. IsBodyWithin 1 1 (steps body)) }
+{
+    let mut body = Stmts::new(alloc);
+    body.push(s)?;
     Ok(body)
 }
 
 #[test]
 fn runs_of_a_body(rt: HostRuntime) -> Result<(), Fail> {
+    let alloc = rt.alloc();
+    let yes = single(alloc, pushing(alloc, 1, Expr::Input(0))?)?;
+    let no = single(alloc, keeping())?;
     let code = Code {
         inputs: 1,
         slots: 1,
-        body: counting(rt.alloc())?,
+        body: single(alloc, choice(yes, no))?,
     };
     let mut slots = [0];
-    let mut out = Emitted::new(rt.alloc());
-    for value in [5, 0, -1] {
+    let mut out = Emitted::new(alloc);
+    for value in [5, 6, -7] {
         run_code(&code, &[value], &mut slots, &mut out)?;
     }
-    assert_eq!(rt; slots[0], 3);
-    let wanted: [(u32, &[i64]); 3] = [(1, &[5, 7]), (2, &[2]), (1, &[-1, 7])];
+    assert_eq!(rt; slots[0], 5);
+    let wanted: [(u32, &[i64]); 2] = [(1, &[6]), (1, &[-7])];
     assert_eq!(rt; out.len(), wanted.len());
     for ((port, row), (p, values)) in out.iter().zip(&wanted) {
         assert_eq!(rt; *port, *p);

@@ -1,8 +1,8 @@
-use Rattle.std.proofs.Common.{◌≡◌, ◌+◌, ◌<◌, List, [], ◌∷◌, ◌++◌, drop, map, length, ap, sym, ◌∙◌, subst, arith}
+use Rattle.std.proofs.Common.{◌+◌, [], ◌∷◌, ◌++◌, drop, map, ap, sym, ◌∙◌, subst, arith}
 use Rattle.work_code.specs.Steps.{step}
-use Rattle.work_code.specs.Ran.{ran, ran_once}
+use Rattle.work_code.specs.Ran.{ran_once}
 use Rattle.work_code.proofs.Texts.{steps-is}
-use Rattle.work_code.proofs.Running.{Pushes, SoFar, so_far_end, so_far_refused, at_place, none_left, step-push, on_err}
+use Rattle.work_code.proofs.Running.{SoFar, so_far_end, so_far_refused, at_place, none_left, step-push, on_err}
 use Rattle.work_code.proofs.run.+run.Goals as goal
 
 pub run_step-returns-in_ok-push-in-Push-clause-pushes : goal.run_step-returns-in_ok-push-in-Push-clause-pushes
