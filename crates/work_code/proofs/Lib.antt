@@ -4,6 +4,7 @@ pub mod Lists
 pub mod Marks
 pub mod Pieces
 pub mod Rooms
+pub mod Running
 pub mod Slices
 pub mod Spelled
 pub mod Texts

@@ -1,4 +1,4 @@
-//! Work code: the tokens of all the languages, the units of a text, and expressions and statements as data.
+//! Work code: the tokens of all the languages, the units of a text, expressions and statements as data, and their runs.
 #![tactic(auto)]
 
 mod byte;
@@ -12,6 +12,7 @@ mod lexer;
 mod piece;
 mod print;
 mod printing;
+mod run;
 mod sign;
 mod token;
 mod tokens;
@@ -25,6 +26,7 @@ pub use fault::LexFault;
 pub use lexer::lex;
 pub use print::print_expr;
 pub use printing::print_code;
+pub use run::run_code;
 pub use sign::Symbol;
 pub use token::{Lexeme, Token};
 pub use tokens::Tokens;

@@ -1,7 +1,13 @@
 // What no clause says: that the tokens are those that were meant, what is printed, and that the calls succeed.
+ghost use Rattle.std.specs.Prelude.{IfOk};
+ghost use Rattle.work_code.specs.Term.{term};
+ghost use Rattle.work_code.specs.Steps.{step, steps};
+ghost use Rattle.work_code.specs.Value.{IsWithin};
+ghost use Rattle.work_code.specs.Ran.{IsStepWithin, IsBodyWithin};
+
 use crate::{
-    BinOp, Code, Expr, Exprs, LexFault, Stmt, Stmts, Token, eval, lex, print_code, print_expr,
-    units,
+    BinOp, Code, Emitted, Expr, Exprs, LexFault, Stmt, Stmts, Token, eval, lex, print_code,
+    print_expr, run_code, units,
 };
 use river_base::{Bytes, NoMemory};
 use std::alloc::Global;
@@ -211,5 +217,77 @@ fn texts_of_bodies(rt: HostRuntime) -> Result<(), Fail> {
     let wanted: &[u8] =
         b"{ slot[2] = slot[1]; if (slot[2]) { push 0 (7, (-(!input[1]))); } if (slot[2]) { } else { push 0 (7, (-(!input[1]))); } }";
     assert_eq!(rt; printed.as_slice(), wanted);
+    Ok(())
+}
+
+// A push of one value.
+#[tactic(auto, using(crate::proofs::Running::step_trees))]
+fn pushing(alloc: Global, port: u32, value: Expr) -> Result<Stmt, NoMemory>
+    requires { IsWithin 1 1 (term value) }
+    ensures { IfOk result (λ s. IsStepWithin 1 1 (step s)) }
+{
+    let mut values = Exprs::new(alloc);
+    values.push(value)?;
+    Ok(Stmt::Push { port, values })
+}
+
+// A choice by the value of slot 0.
+#[tactic(auto, using(crate::proofs::Running::step_trees))]
+fn choice(yes: Stmts, no: Stmts) -> Stmt
+    requires yes { IsBodyWithin 1 1 (steps yes) }
+    requires no { IsBodyWithin 1 1 (steps no) }
+    ensures { IsStepWithin 1 1 (step result) }
+{
+    Stmt::If {
+        cond: Expr::Slot(0),
+        yes,
+        no,
+    }
+}
+
+// The value of the input to slot 0.
+#[tactic(auto, using(crate::proofs::Running::step_trees))]
+fn keeping() -> Stmt
+    ensures { IsStepWithin 1 1 (step result) }
+{
+    Stmt::Set {
+        slot: 0,
+        value: Expr::Input(0),
+    }
+}
+
+// One statement.
+#[tactic(auto, using(crate::proofs::Running::step_trees))]
+fn single(alloc: Global, s: Stmt) -> Result<Stmts, NoMemory>
+    requires { IsStepWithin 1 1 (step s) }
+    ensures { IfOk result (λ body. IsBodyWithin 1 1 (steps body)) }
+{
+    let mut body = Stmts::new(alloc);
+    body.push(s)?;
+    Ok(body)
+}
+
+#[test]
+fn runs_of_a_body(rt: HostRuntime) -> Result<(), Fail> {
+    let alloc = rt.alloc();
+    let yes = single(alloc, pushing(alloc, 1, Expr::Input(0))?)?;
+    let no = single(alloc, keeping())?;
+    let code = Code {
+        inputs: 1,
+        slots: 1,
+        body: single(alloc, choice(yes, no))?,
+    };
+    let mut slots = [0];
+    let mut out = Emitted::new(alloc);
+    for value in [5, 6, -7] {
+        run_code(&code, &[value], &mut slots, &mut out)?;
+    }
+    assert_eq!(rt; slots[0], 5);
+    let wanted: [(u32, &[i64]); 2] = [(1, &[6]), (1, &[-7])];
+    assert_eq!(rt; out.len(), wanted.len());
+    for ((port, row), (p, values)) in out.iter().zip(&wanted) {
+        assert_eq!(rt; *port, *p);
+        assert_eq!(rt; row.values(), *values);
+    }
     Ok(())
 }
