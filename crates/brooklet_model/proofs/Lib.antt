@@ -5,4 +5,6 @@ pub mod Joins
 pub mod Lists
 pub mod Ports
 pub mod Shapes
+pub mod Spliced
 pub mod Swaps
+pub mod Typing

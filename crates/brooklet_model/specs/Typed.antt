@@ -1,13 +1,18 @@
 -- Items of the types of their ports, and states that keep such items.
-use Rattle.std.specs.Prelude.{◌≡◌, ℕ, List, [], ◌∷◌, All, Option, Some, None, slice_get}
+use Rattle.std.specs.Prelude.{◌≡◌, ℕ, List, [], ◌∷◌, All, Option, Some, None, slice_get, take, drop}
 use Rattle.river_base.specs.declared.item.Item as item
 use Rattle.river_base.specs.declared.kind.FlatType.TheVariants.{Rows, Stream, Relation}
 use Rattle.river_base.specs.declared.kind.QueueType.{QueueType}
 use Rattle.river_base.specs.declared.kind.QueueType.TheVariants.{Flat as FlatOf, Pack as PackOf}
 use Rattle.river_base.specs.Held.{HasType}
+use Rattle.river_base.specs.Places.{list_at}
 use Rattle.river_plan.specs.declared.plan.Decl.{Decl}
 use Rattle.river_plan.specs.Forms.{PlanForm, all_decls}
+use Rattle.river_kernels.specs.declared.types.Types.{Types}
+use Rattle.river_kernels.specs.Types.{types_of}
 use Rattle.river_kernels.specs.Kern.{Kern, code, filter, duplicate, deal, collect, packed, unpack, window, select, project, cross, streamer, tally, fused}
+use Rattle.brooklet_model.specs.Firings.{Kept, Joining}
+use Rattle.brooklet_model.specs.Fire.{privates}
 
 -- the item is one of the port at this place; beyond the ports there is none
 abbrev pub IsTyped : Option QueueType → item.Item → Type 0
@@ -46,6 +51,37 @@ IsOnRows cross = ⊥
 IsOnRows (streamer s) = ⊥
 IsOnRows tally = ⊥
 IsOnRows (fused a b at) = IsOnRows a × IsOnRows b
+
+-- what waits in a joiner is of the types of its ports
+abbrev pub AreWaiting : List QueueType → List Kept → Type 0
+AreWaiting is (Joining s ∷ ss) = AreOf is (list_at s.lists)
+AreWaiting is ss = Unit {0}
+
+-- the type of the port between two kernels, by the types that the first writes
+abbrev pub one_type : Option QueueType → List QueueType
+one_type None = []
+one_type (Some t) = t ∷ []
+
+abbrev pub between : ℕ → Option Types → List QueueType
+between at None = []
+between at (Some types) = one_type (slice_get types.outs at)
+
+-- the states of a kernel on rows that reads these types keep only items of them
+abbrev pub Holds : Kern → List QueueType → List Kept → Type 0
+Holds (code k) is ss = Unit {0}
+Holds (filter f) is ss = Unit {0}
+Holds (duplicate n) is ss = Unit {0}
+Holds (deal ws) is ss = Unit {0}
+Holds (collect ws) is ss = AreWaiting is ss
+Holds (packed k) is ss = Holds k is ss
+Holds (unpack n) is ss = AreWaiting is ss
+Holds (window w) is ss = Unit {0}
+Holds (select e) is ss = Unit {0}
+Holds (project es) is ss = Unit {0}
+Holds cross is ss = Unit {0}
+Holds (streamer s) is ss = Unit {0}
+Holds tally is ss = Unit {0}
+Holds (fused a b at) is ss = Holds a is (take (privates a) ss) × Holds b (between at (types_of a is)) (drop (privates a) ss)
 
 -- plans that the machine runs so far: their queues carry rows, or packs of rows, and they have no table
 pub record IsBuilt (p : PlanForm) : Type 0 where
