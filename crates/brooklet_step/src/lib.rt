@@ -3,5 +3,7 @@
 
 mod counts;
 mod emit;
+mod fits;
 
 pub use emit::{Emit, ItemLists, RowLists};
+pub use fits::{built, item_fits};

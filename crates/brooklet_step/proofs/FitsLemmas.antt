@@ -1,0 +1,58 @@
+-- What tests of plans and inputs say.
+use Rattle.std.proofs.Common.{◌≡◌, ℤ, ◌+◌, Bool, true, false, Some, List, [], ◌++◌, length, refl, subst, sym, ap, ◌∙◌, arith, length-append, get_or}
+use Rattle.std.specs.Prelude.{IsTrue}
+use Rattle.std.specs.declared.cmp.Ordering.{Ordering}
+use Rattle.std.specs.declared.cmp.Ordering.TheVariants.{Less, Equal, Greater}
+use Rattle.std.specs.Ordering.{is_le, is_lt, ordering_reverse, partial_le}
+use Rattle.std.specs.List.{IsAllAdjacentAnswer}
+use Rattle.river_base.specs.Row.{row_cmp, row_total}
+use Rattle.river_base.specs.Held.{IsAscending}
+use Rattle.std.specs.List.{All}
+use Rattle.std.proofs.Math.ListN.{get_or-append}
+use Rattle.std.proofs.lemmas.List.{get_or-append-add}
+use Rattle.std.proofs.lemmas.List.Elements.{All-append}
+use Rattle.river_plan.specs.declared.plan.Decl.{Decl}
+use Rattle.river_plan.specs.Forms.{PlanForm}
+use Rattle.brooklet_model.specs.Typed.{IsRows, IsBuilt}
+
+pub All-front : {X : Type 0} (P : X → Type 0) (xs ys : List X) → All P (xs ++ ys) → All P xs
+All-front P xs ys a k d lt = subst P (get_or-append xs ys d k lt) (a k d (let e = length-append xs ys in omega (arith, e, lt)))
+
+pub All-back : {X : Type 0} (P : X → Type 0) (xs ys : List X) → All P (xs ++ ys) → All P ys
+All-back P xs ys a k d lt = subst P (get_or-append-add xs ys k d) (a (length xs + k) d (let e = length-append xs ys in omega (arith, e, lt)))
+
+pub built_by : (p : PlanForm) → All (λ (d : Decl). IsRows d.kind) p.outputs → All (λ (d : Decl). IsRows d.kind) p.inputs → All (λ (d : Decl). IsRows d.kind) p.queues → p.tables ≡ [] → IsBuilt p
+built_by p o i q t = record { queues = All-append (λ (d : Decl). IsRows d.kind) p.outputs (p.inputs ++ p.queues) o (All-append (λ (d : Decl). IsRows d.kind) p.inputs p.queues i q); tables = t }
+
+pub built_outputs : (p : PlanForm) → IsBuilt p → All (λ (d : Decl). IsRows d.kind) p.outputs
+built_outputs p b = All-front (λ (d : Decl). IsRows d.kind) p.outputs (p.inputs ++ p.queues) b.queues
+
+pub built_inputs : (p : PlanForm) → IsBuilt p → All (λ (d : Decl). IsRows d.kind) p.inputs
+built_inputs p b = All-front (λ (d : Decl). IsRows d.kind) p.inputs p.queues (All-back (λ (d : Decl). IsRows d.kind) p.outputs (p.inputs ++ p.queues) b.queues)
+
+pub built_queues : (p : PlanForm) → IsBuilt p → All (λ (d : Decl). IsRows d.kind) p.queues
+built_queues p b = All-back (λ (d : Decl). IsRows d.kind) p.inputs p.queues (All-back (λ (d : Decl). IsRows d.kind) p.outputs (p.inputs ++ p.queues) b.queues)
+
+le_back : (o : Ordering) → is_le o ≡ true → is_lt (ordering_reverse o) ≡ false
+le_back Less h = refl
+le_back Equal h = refl
+le_back Greater h = absurd (cc h)
+
+gt_back : (o : Ordering) → is_le o ≡ false → is_lt (ordering_reverse o) ≡ true
+gt_back Less h = absurd (cc h)
+gt_back Equal h = absurd (cc h)
+gt_back Greater h = refl
+
+pub ascends_by : (rows : List (List ℤ)) (r : Bool) → IsAllAdjacentAnswer (λ x y b. partial_le (λ (p q : List ℤ). Some (row_cmp p q)) x y ≡ b) rows r → (IsTrue r → IsAscending rows) × (IsAscending rows → IsTrue r)
+ascends_by rows true h = (
+  (λ t k d z lt. ap is_lt (row_total.antisymm (get_or rows (k + 1) d) (get_or rows k d)) ∙ le_back (row_cmp (get_or rows k d) (get_or rows (k + 1) d)) (h k d lt)),
+  (λ a. refl),
+)
+ascends_by rows false h = (
+  (λ t. absurd (cc t)),
+  (λ a.
+      let k = h.0 in
+      let up : is_lt (row_cmp (get_or rows (k + 1) []) (get_or rows k [])) ≡ true = ap is_lt (row_total.antisymm (get_or rows (k + 1) []) (get_or rows k [])) ∙ gt_back (row_cmp (get_or rows k []) (get_or rows (k + 1) [])) (h.2 []) in
+      let down : is_lt (row_cmp (get_or rows (k + 1) []) (get_or rows k [])) ≡ false = a k [] (omega arith) h.1 in
+      absurd (let e : false ≡ true = sym down ∙ up in cc e)),
+)

@@ -1,0 +1,84 @@
+// Which plans the machine runs, and which inputs fit a plan.
+ghost use Rattle.std.specs.Prelude.{◌≡◌, ◌↔◌, IsTrue, All, length};
+ghost use Rattle.river_base.specs.Held.{HasType, HasFlatType, HaveWidth, IsAscending};
+ghost use Rattle.river_plan.specs.Forms.{plan_form};
+ghost use Rattle.brooklet_model.specs.Typed.{IsRows, IsBuilt};
+
+use river_base::{Flat, FlatType, Item, QueueType, Rows};
+use river_plan::{Decls, Plan};
+
+/// Whether the machine runs this plan so far: all its queues carry rows or packs of rows, and it has no table.
+#[tactic(auto, using(crate::proofs::FitsLemmas::built_by, crate::proofs::FitsLemmas::built_outputs, crate::proofs::FitsLemmas::built_inputs, crate::proofs::FitsLemmas::built_queues))]
+pub fn built(plan: &Plan) -> bool
+    ensures { IsTrue result ↔ IsBuilt plan.now }
+{
+    let raw = plan.raw();
+    if !are_rows(&raw.outputs) || !are_rows(&raw.inputs) || !are_rows(&raw.queues) {
+        return false;
+    }
+    raw.tables.is_empty()
+}
+
+fn are_rows(decls: &Decls) -> bool
+    ensures { IsTrue result ↔ All (λ d. IsRows d.kind) decls.now }
+{
+    decls.as_slice().iter().all(|decl| is_rows(&decl.kind))
+}
+
+fn is_rows(kind: &QueueType) -> bool
+    ensures { IsTrue result ↔ IsRows kind.now }
+{
+    match kind {
+        QueueType::Flat(FlatType::Rows(_)) | QueueType::Pack(FlatType::Rows(_)) => true,
+        QueueType::Flat(_) | QueueType::Pack(_) => false,
+    }
+}
+
+/// Whether an item has this type.
+pub fn item_fits(kind: &QueueType, item: &Item) -> bool
+    ensures { IsTrue result ↔ HasType kind.now item.now }
+{
+    match kind {
+        QueueType::Flat(kind) => match item {
+            Item::Flat(flat) => flat_fits(kind, flat),
+            Item::Pack(_) => false,
+        },
+        QueueType::Pack(kind) => match item {
+            Item::Flat(_) => false,
+            Item::Pack(flats) => flats.as_slice().iter().all(|flat| flat_fits(kind, flat)),
+        },
+    }
+}
+
+fn flat_fits(kind: &FlatType, flat: &Flat) -> bool
+    ensures { IsTrue result ↔ HasFlatType kind.now flat.now }
+{
+    match kind {
+        FlatType::Rows(width) => match flat {
+            Flat::One(row) => row.width() == *width as usize,
+            Flat::Batch(_) => false,
+        },
+        FlatType::Stream(width) => match flat {
+            Flat::One(_) => false,
+            Flat::Batch(batch) => have_width(*width, &batch.rows),
+        },
+        FlatType::Relation(width) => match flat {
+            Flat::One(_) => false,
+            Flat::Batch(batch) => have_width(*width, &batch.rows) && are_ascending(&batch.rows),
+        },
+    }
+}
+
+fn have_width(width: u32, rows: &Rows) -> bool
+    ensures { IsTrue result ↔ HaveWidth width rows.now }
+{
+    rows.as_slice()
+        .iter()
+        .all(|row| row.width() == width as usize)
+}
+
+fn are_ascending(rows: &Rows) -> bool
+    ensures { IsTrue result ↔ IsAscending rows.now }
+{
+    rows.as_slice().is_sorted()
+}
