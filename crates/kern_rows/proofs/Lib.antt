@@ -1,0 +1,3 @@
+pub mod Filtered
+pub mod Given
+pub mod Lengths

@@ -1,11 +1,11 @@
 -- What the kernels with bodies do when they take an item: a `code` with a row, a filter with a value.
-use Rattle.std.specs.Prelude.{◌≡◌, ℕ, ℤ, pos, ◌+◌, ◌-◌, ◌*◌, ◌≤◌, List, [], ◌∷◌, ◌++◌, length, take, drop, replicate, nat_le, nat_eq, if◌then◌else◌}
+use Rattle.std.specs.Prelude.{ℕ, ℤ, pos, ◌+◌, ◌-◌, ◌*◌, List, [], ◌∷◌, ◌++◌, length, take, drop, replicate, nat_le, nat_eq, if◌then◌else◌}
 use Rattle.river_base.specs.declared.item.Item as item
 use Rattle.river_base.specs.declared.item.Item.TheVariants.{Flat}
 use Rattle.river_base.specs.declared.item.Flat.TheVariants.{One}
 use Rattle.work_code.specs.Steps.{Body}
 use Rattle.work_code.specs.Ran.{Ran, ran}
-use Rattle.kern_rows.specs.Forms.{CodeForm, FilterForm}
+use Rattle.kern_rows.specs.Forms.{FilterForm}
 
 -- the slots at the start of a run: the kept ones first, the others 0
 abbrev pub slots_from : ℕ → List ℤ → List ℤ

@@ -1,5 +1,5 @@
 -- Splitters and joiners: ports that take turns.
-use Rattle.std.specs.Prelude.{◌≡◌, ℕ, zero, suc, ℤ, ◌+◌, ◌<◌, List, [], ◌∷◌, ◌++◌, length, map, replicate, nat_lt, if◌then◌else◌, Option, Some, None, slice_index_or}
+use Rattle.std.specs.Prelude.{ℕ, zero, suc, ℤ, ◌+◌, ◌<◌, List, [], ◌∷◌, length, map, replicate, nat_lt, if◌then◌else◌, Option, Some, None, slice_index_or}
 use Rattle.river_base.specs.declared.item.Item as item
 use Rattle.river_base.specs.Number.{count_of}
 use Rattle.river_base.specs.Places.{append_at}

@@ -1,6 +1,11 @@
 //! Kernels on rows: bodies of work code, and the splitters and joiners.
 #![tactic(auto)]
 
+mod body;
+mod code;
+mod filter;
 mod kernel;
+mod queue;
 
+pub use filter::FilterState;
 pub use kernel::{CodeKernel, Collect, Deal, Filter, Unpack};
