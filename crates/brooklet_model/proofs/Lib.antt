@@ -1,3 +1,4 @@
+pub mod Complete
 pub mod Drained
 pub mod Free
 pub mod FusedRun
@@ -5,6 +6,8 @@ pub mod Joins
 pub mod Lists
 pub mod Ports
 pub mod Shapes
+pub mod Solutions
 pub mod Spliced
 pub mod Swaps
+pub mod Traces
 pub mod Typing
