@@ -4,10 +4,12 @@ pub mod Free
 pub mod FusedRun
 pub mod Joins
 pub mod Lists
+pub mod OnRows
 pub mod Ports
 pub mod Shapes
 pub mod Solutions
 pub mod Spliced
 pub mod Swaps
 pub mod Traces
+pub mod TypedPlan
 pub mod Typing

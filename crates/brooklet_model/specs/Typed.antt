@@ -1,5 +1,5 @@
 -- Items of the types of their ports, and states that keep such items.
-use Rattle.std.specs.Prelude.{◌≡◌, ℕ, List, [], ◌∷◌, All, Option, Some, None, slice_get, take, drop}
+use Rattle.std.specs.Prelude.{◌≡◌, ℕ, List, [], ◌∷◌, All, Option, Some, None, slice_get, map, take, drop}
 use Rattle.river_base.specs.declared.item.Item as item
 use Rattle.river_base.specs.declared.kind.FlatType.TheVariants.{Rows, Stream, Relation}
 use Rattle.river_base.specs.declared.kind.QueueType.{QueueType}
@@ -7,12 +7,15 @@ use Rattle.river_base.specs.declared.kind.QueueType.TheVariants.{Flat as FlatOf,
 use Rattle.river_base.specs.Held.{HasType}
 use Rattle.river_base.specs.Places.{list_at}
 use Rattle.river_plan.specs.declared.plan.Decl.{Decl}
-use Rattle.river_plan.specs.Forms.{PlanForm, all_decls}
+use Rattle.river_plan.specs.Forms.{Name, OpForm, PlanForm, all_decls}
+use Rattle.river_plan.specs.Kinds.{kind_of}
 use Rattle.river_kernels.specs.declared.types.Types.{Types}
 use Rattle.river_kernels.specs.Types.{types_of}
 use Rattle.river_kernels.specs.Kern.{Kern, code, filter, duplicate, deal, collect, packed, unpack, window, select, project, cross, streamer, tally, fused}
 use Rattle.brooklet_model.specs.Firings.{Kept, Joining}
 use Rattle.brooklet_model.specs.Fire.{privates}
+use Rattle.brooklet_model.specs.Machine.{Machine}
+use Rattle.brooklet_model.specs.Shapes.{HasShape}
 
 -- the item is one of the port at this place; beyond the ports there is none
 abbrev pub IsTyped : Option QueueType → item.Item → Type 0
@@ -94,3 +97,10 @@ AreInputs [] [] = Unit {0}
 AreInputs [] (xs ∷ ls) = ⊥
 AreInputs (d ∷ ds) [] = ⊥
 AreInputs (d ∷ ds) (xs ∷ ls) = All (HasType d.kind) xs × AreInputs ds ls
+
+-- a state of the machine in which all items are of their queues' types, and each operator has states for its variables
+-- that keep items of the types of its inputs
+pub record IsTypedState (p : PlanForm) (s : Machine) : Type 0 where
+  pub queues : (q : Name) → All (HasType (kind_of (all_decls p) q)) (s.hist q)
+  pub shapes : (o : ℕ) (op : OpForm) → slice_get p.ops o ≡ Some op → HasShape op.kernel (s.kept o)
+  pub holds : (o : ℕ) (op : OpForm) → slice_get p.ops o ≡ Some op → Holds op.kernel (map (kind_of (all_decls p)) op.reads) (s.kept o)
