@@ -23,6 +23,7 @@ use Rattle.river_plan.proofs.NameLemmas.{cases_name, count-append, more_or_zero}
 use Rattle.brooklet_model.specs.Firings.{Kept}
 use Rattle.brooklet_model.specs.Fire.{fire, ins, first_kept}
 use Rattle.brooklet_model.specs.Histories.{History, lists_of, given, hist, joined, inputs_of, Lists, Solves}
+use Rattle.brooklet_model.specs.Laws.{HistoriesAreTyped}
 use Rattle.brooklet_model.specs.Machine.{Machine, at_key, fired, Step, first_of, start}
 use Rattle.brooklet_model.specs.Shapes.{HasShape}
 use Rattle.brooklet_model.specs.Typed.{IsOf, AreOf, IsRows, IsOnRows, IsBuilt, AreInputs, Holds, IsTypedState}
@@ -255,3 +256,6 @@ module _ (p : PlanForm) (v : IsPlan p) (b : IsBuilt p) where
   -- each step keeps it
   pub step_typed : (s s' : Machine) (o port : ℕ) → IsTypedState p s → Step p s o port s' → IsTypedState p s'
   step_typed s s' o port t st = subst (IsTypedState p) (sym st.after) (fired_typed o port st.op st.queue st.item s t st.op_is st.queue_is st.item_is)
+
+pub typed_law : HistoriesAreTyped
+typed_law p inputs v b a q = histories_typed p v b inputs a q

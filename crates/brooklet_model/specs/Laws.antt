@@ -1,8 +1,10 @@
 -- The laws on the order of firings: statements over the definitions alone.
-use Rattle.std.specs.Prelude.{◌≡◌, ℕ, List, take, drop, Some, slice_get}
+use Rattle.std.specs.Prelude.{◌≡◌, ℕ, List, All, take, drop, Some, slice_get}
 use Rattle.river_base.specs.declared.item.Item as item
+use Rattle.river_base.specs.Held.{HasType}
 use Rattle.river_base.specs.Places.{list_at}
-use Rattle.river_plan.specs.Forms.{Name, OpForm, PlanForm, decl_names}
+use Rattle.river_plan.specs.Forms.{Name, OpForm, PlanForm, decl_names, all_decls}
+use Rattle.river_plan.specs.Kinds.{kind_of}
 use Rattle.river_plan.specs.Uses.{Each, total, writes_it}
 use Rattle.river_plan.specs.Valid.{IsPlan}
 use Rattle.river_kernels.specs.Kern.{Kern, fused}
@@ -11,6 +13,7 @@ use Rattle.brooklet_model.specs.Fire.{fire, ins, outs, tabs, privates}
 use Rattle.brooklet_model.specs.Histories.{History, inputs_of, hist, all_adds, lengths, Solves}
 use Rattle.brooklet_model.specs.Machine.{Machine, Run, IsComplete, start, times}
 use Rattle.brooklet_model.specs.Shapes.{IsFormed, HasShape}
+use Rattle.brooklet_model.specs.Typed.{IsBuilt, AreInputs}
 use Rattle.brooklet_model.specs.Words.{Word, run, feed_all, SameBag, Alike, IsInterleaving}
 
 -- Fused kernels: over any firings, the fused kernel gives at its ports what its first part gives elsewhere and, in place of
@@ -59,3 +62,9 @@ abbrev pub RunsAgree : Type 0
 RunsAgree =
     (p : PlanForm) (inputs : List (List item.Item)) (es : List (ℕ × ℕ)) (s : Machine) → IsPlan p → Run p (start p inputs) es s → IsComplete p s
     → HasDefined p inputs es s
+
+-- Types: in a plan that is built, on inputs of the types of their queues, each item of each history is of its queue's type.
+abbrev pub HistoriesAreTyped : Type 0
+HistoriesAreTyped =
+    (p : PlanForm) (inputs : List (List item.Item)) → IsPlan p → IsBuilt p → AreInputs p.inputs inputs
+    → (q : Name) → All (HasType (kind_of (all_decls p) q)) (hist p inputs q)

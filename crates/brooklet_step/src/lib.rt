@@ -4,6 +4,7 @@
 mod counts;
 mod emit;
 mod fits;
+pub mod laws;
 
 pub use emit::{Emit, ItemLists, RowLists};
 pub use fits::{built, item_fits};
