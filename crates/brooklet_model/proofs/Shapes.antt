@@ -1,22 +1,20 @@
 -- States keep their kernel's shape.
-use Rattle.std.proofs.Common.{◌≡◌, ℕ, zero, suc, ℤ, pos, ◌+◌, ◌-◌, ◌<◌, Bool, true, false, Some, None, List, [], ◌∷◌, ◌++◌, length, take, drop, refl, sym, ap, ◌∙◌, subst, arith, length-append, length-drop, nat_lt, ⊎_elim, replicate}
+use Rattle.std.proofs.Common.{◌≡◌, ℕ, zero, suc, ℤ, ◌+◌, ◌<◌, Bool, true, false, Some, None, List, [], ◌∷◌, ◌++◌, length, take, drop, refl, sym, ap, ◌∙◌, subst, arith, length-drop, nat_lt, ⊎_elim}
 use Rattle.std.specs.Prelude.{if◌then◌else◌, nat_le, slice_index_or}
 use Rattle.std.specs.List.{AllByRecursion}
-use Rattle.std.proofs.lemmas.List.{length-map, length-take, length-take-le, length-set, length-replicate}
+use Rattle.std.proofs.lemmas.List.{length-map, length-take, length-replicate}
 use Rattle.std.proofs.lemmas.Bool.{cases_lt}
 use Rattle.river_base.specs.declared.item.Item as item
 use Rattle.river_base.specs.Held.{items_of}
 use Rattle.river_base.specs.Number.{count_of}
 use Rattle.river_base.specs.Places.{append_at}
 use Rattle.river_base.specs.Drain.{drain, pass_on}
-use Rattle.work_code.specs.Steps.{Step, Steps, Set, Push, If, Done, Then, Body}
-use Rattle.work_code.specs.Ran.{Ran, ran, ran_once}
-use Rattle.work_code.specs.Value.{val, is_true}
 use Rattle.kern_rows.specs.Forms.{CodeForm, FilterForm}
-use Rattle.kern_rows.specs.Runs.{slots_from, run_kept, Filtering, filter_turn, filter_ran, buffer_of}
+use Rattle.kern_rows.specs.Runs.{run_kept, Filtering, filter_turn, filter_ran, buffer_of}
 use Rattle.kern_rows.specs.Turns.{Turns, IsTurn, shares, ones, next_port, next_had, front_of, passed, rest_at, waiting, put, itself}
 use Rattle.kern_bags.specs.Steps.{window_one, streamer_one}
 use Rattle.river_kernels.specs.Kern.{Kern, code, filter, duplicate, deal, collect, packed, unpack, window, select, project, cross, streamer, tally, fused}
+use Rattle.kern_rows.proofs.Lengths.{run_kept_length}
 use Rattle.brooklet_model.specs.Firings.{Kept, Slots, Buffered, Turn, Joining, Received, Crossing, feed}
 use Rattle.brooklet_model.specs.Fire.{fire, privates, kept_vars, first_kept, first_slots, code_one, filter_firing, join_one, received_one, cross_one, values_of, value_of}
 use Rattle.brooklet_model.specs.Shapes.{AreShares, IsShaped, AreSlots, IsFiltering, IsDealing, IsJoined, IsJoining, IsReceived, IsCrossing, IsNone, IsOne, HasSlots, HasShape}
@@ -54,30 +52,6 @@ shape_length (fused a b at) ss h =
     let la = shape_length a (take (privates a) ss) h.0 in
     let lb = shape_length b (drop (privates a) ss) h.1 in
     omega (arith, length-take (privates a) ss, length-drop (privates a) ss, la, lb)
-
--- A BODY KEEPS THE NUMBER OF ITS SLOTS
-
-either_length : (b : Bool) (r s : Ran) (n : ℕ) → length r.slots ≡ n → length s.slots ≡ n → length (if b then r else s).slots ≡ n
-either_length true r s n e f = e
-either_length false r s n e f = f
-
-mutual
-  once_length : (s : Step) (input slots : List ℤ) → length (ran_once s input slots).slots ≡ length slots
-  once_length (Set slot t) input slots = length-set slots slot (val t input slots)
-  once_length (Push port ts) input slots = refl
-  once_length (If cond when otherwise) input slots =
-      either_length (is_true (val cond input slots)) (ran when input slots) (ran otherwise input slots) (length slots) (ran_length when input slots) (ran_length otherwise input slots)
-
-  pub ran_length : (ss : Steps) (input slots : List ℤ) → length (ran ss input slots).slots ≡ length slots
-  ran_length Done input slots = refl
-  ran_length (Then s ss) input slots = ran_length ss input (ran_once s input slots).slots ∙ once_length s input slots
-
-pub run_kept_length : (b : Body) (kept input : List ℤ) → length (run_kept b kept input).slots ≡ length kept
-run_kept_length b kept input =
-    let all = (ran b.steps input (slots_from b.slots kept)).slots in
-    let e = ran_length b.steps input (slots_from b.slots kept) in
-    let f = length-append kept (replicate (b.slots - length kept) (pos 0)) in
-    length-take-le (length kept) all (omega (arith, e, f))
 
 -- the turn after one more is a turn
 weight_at : (ws : List ℕ) (p : ℕ) → AllByRecursion (λ w. 0 < w) ws → p < length ws → 0 < slice_index_or ws p 0
