@@ -10,10 +10,11 @@ use Rattle.work_code.specs.Steps.{Step, Steps, Set, Push, If, Done, Then}
 use Rattle.kern_rows.specs.Forms.{CodeForm, FilterForm}
 use Rattle.kern_bags.specs.declared.kernel.Window.{Window}
 use Rattle.kern_bags.specs.declared.kernel.Window.TheVariants.{Now, Range, Unbounded, Latest}
+use Rattle.river_base.specs.Number.{count_of}
 use Rattle.river_base.specs.declared.kind.QueueType.{QueueType}
 use Rattle.river_base.specs.declared.kind.QueueType.TheVariants.{Flat}
 use Rattle.river_kernels.specs.declared.types.VarKind.{VarKind}
-use Rattle.river_kernels.specs.Formed.{is_width, count_of, is_sound, is_term, counts, has_port, is_step, is_steps, is_code, is_filter, has_rates, is_number, are_weights, pushes}
+use Rattle.river_kernels.specs.Formed.{is_width, is_sound, is_term, counts, has_port, is_step, is_steps, is_code, is_filter, has_rates, is_number, are_weights, pushes}
 use Rattle.river_kernels.specs.Fits.{Fits, is_sized, is_bag, are_widths, width_of}
 use Rattle.river_kernels.specs.Kern.{Kern}
 use Rattle.river_kernels.specs.Kern as kern
@@ -51,14 +52,14 @@ terms i s (t ∷ ts) h k = let a = and_parts (is_term i s t) (list_all (is_term 
 
 -- STATEMENTS
 
+abbrev IsWide : Option ℤ → Type 0
+IsWide None = Unit {0}
+IsWide (Some z) = 0 < count_of z
+
 -- the ports of a body have a width
 some_values : (outs : List ℤ) (port n : ℕ) → are_widths outs ≡ true → has_port outs port n ≡ true → 0 < n
 some_values outs port n h k = of_port (slice_get outs port) (there outs port h) k
   where
-    abbrev IsWide : Option ℤ → Type 0
-    IsWide None = Unit {0}
-    IsWide (Some z) = 0 < count_of z
-
     wide : (z : ℤ) → is_width (count_of z) ≡ true → 0 < count_of z
     wide z h = let a = and_parts (nat_le 1 (count_of z)) (nat_le (count_of z) 16) h in let b = at_most 1 (count_of z) a.0 in omega (arith, b)
 
