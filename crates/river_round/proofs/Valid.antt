@@ -1,5 +1,5 @@
 -- A valid plan that keeps the grammar's bounds can be written.
-use Rattle.std.proofs.Common.{◌≡◌, ℕ, zero, suc, ◌+◌, ◌<◌, ◌≤◌, ℤ, pos, negsuc, Bool, true, false, ◌&&◌, Option, Some, None, List, [], ◌∷◌, length, refl, sym, arith}
+use Rattle.std.proofs.Common.{◌≡◌, ℕ, zero, suc, ◌<◌, ◌≤◌, ℤ, pos, negsuc, true, ◌&&◌, Option, Some, None, List, [], ◌∷◌, length, refl, sym, arith}
 use Rattle.std.specs.Prelude.{All, nat_le, nat_lt, nat_eq, slice_get, map}
 use Rattle.std.specs.List.{list_all}
 use Rattle.std.proofs.lemmas.Bool.{and_parts, true≢false}

@@ -1,6 +1,6 @@
 -- Valid plans that River text can stand for: what the types of a plan's numbers say, and the two bounds that the grammar has and a
 -- valid plan need not meet.
-use Rattle.std.specs.Prelude.{ℕ, ◌≤◌, ℤ, pos, negsuc, List}
+use Rattle.std.specs.Prelude.{◌≤◌, pos, negsuc}
 use Rattle.work_code.specs.Term.{Term, Const, Input, Slot, Neg, Not, Bin}
 use Rattle.work_code.specs.Steps.{Step, Steps, Set, Push, If, Done, Then, Body}
 use Rattle.kern_rows.specs.Forms.{CodeForm, FilterForm}
