@@ -5,7 +5,7 @@ mod items;
 mod kernel;
 mod plan;
 
-pub use plan::print_raw;
+pub use plan::{print_raw, print_river};
 
 #[cfg(test)]
 mod tests;

@@ -7,8 +7,15 @@ use crate::items::{in_brackets, ports, two_in_brackets, var};
 use crate::kernel::print_kernel;
 use kern_tables::TableKind;
 use river_base::{Bytes, FlatType, Name, NoMemory, QueueType};
-use river_plan::{Decl, Op, RawPlan, TableDecl};
+use river_plan::{Decl, Op, Plan, RawPlan, TableDecl};
 use std::alloc::Global;
+
+/// The River text of a valid plan, one unit a line.
+pub fn print_river(alloc: Global, plan: &Plan) -> Result<Bytes, NoMemory>
+    ensures { IfOk result (λ text. text ≡ plan_text plan.now) }
+{
+    print_raw(alloc, plan.raw())
+}
 
 /// The River text of these lists, one unit a line. Two plans with the same lists have the same text.
 #[tactic(auto, using(crate::proofs::Joined::joins))]

@@ -1,20 +1,20 @@
 -- Lists of items, printed and read.
-use Rattle.std.proofs.Common.{◌≡◌, ℕ, zero, suc, ◌+◌, ◌<◌, ◌≤◌, Bool, true, false, cond, List, [], ◌∷◌, ◌++◌, length, refl, sym, ap, ◌∙◌, subst, inl, inr, arith, append_assoc, append-nil}
-use Rattle.std.specs.Prelude.{codes, map, ℤ, pos, negsuc, neg_ℤ, nat_le, ◌==◌}
+use Rattle.std.proofs.Common.{◌≡◌, ℕ, suc, ◌<◌, ◌≤◌, Bool, true, false, cond, List, [], ◌∷◌, ◌++◌, length, refl, sym, ◌∙◌, subst, inl, inr, arith}
+use Rattle.std.specs.Prelude.{codes, map, ℤ, pos, negsuc}
 use Rattle.std.specs.Ordering.{int_eq}
 use Rattle.std.specs.Fmt.{decimal, signed_decimal}
 use Rattle.std.proofs.lemmas.Bool.Decides.{nat_tests, Decides-int_eq}
 use Rattle.work_code.specs.Lexis.{most, is_letter, is_word, is_digit}
-use Rattle.work_code.specs.Tok.{Tok, name, var, number, symbol}
+use Rattle.work_code.specs.Tok.{Tok, name, number, symbol}
 use Rattle.work_code.specs.declared.sign.Symbol.TheVariants as s
-use Rattle.work_code.proofs.Spelled.{Spells, NoWord, is_name_text, spells-name, spells-number, minus_follows, decimal-first}
+use Rattle.work_code.proofs.Spelled.{is_name_text, spells-name, spells-number, minus_follows, decimal-first}
 use Rattle.text_forms.specs.Forms as form
-use Rattle.text_forms.specs.Parse.{is_count, is_value}
+use Rattle.text_forms.specs.Parse.{is_value}
 use Rattle.text_forms.proofs.PrintedExpr.{is_count-below}
-use Rattle.river_print.specs.Printed.{list_text, start_text}
+use Rattle.river_print.specs.Printed.{start_text}
 use Rattle.river_text.specs.Kernels as g
 use Rattle.river_round.specs.Writable as w
-use Rattle.river_round.proofs.Pieces.{Piece, AllPieces, more_toks, items_toks, piece-nothing, ends-nothing, symbol-first, number-first, inside-name, inside-number, plain-Minus}
+use Rattle.river_round.proofs.Pieces.{Piece, AllPieces, more_toks, items_toks, symbol-first, inside-name, inside-number, plain-Minus}
 
 -- a value whose printed text has tokens that stand for it
 pub record Item {A : Type 0} (F : A → List Tok → Type 0) (text : A → List ℕ) (tok : A → List Tok) (v : A) : Type 0 where

@@ -1,12 +1,11 @@
 -- Kernels, printed and read.
-use Rattle.std.proofs.Common.{◌≡◌, ℕ, zero, suc, ◌+◌, ◌<◌, ◌≤◌, Bool, true, false, List, [], ◌∷◌, ◌++◌, length, max, refl, sym, ap, ◌∙◌, subst, arith, append_assoc, append-nil}
-use Rattle.std.specs.Prelude.{codes, map, ℤ, pos}
+use Rattle.std.proofs.Common.{◌≡◌, ℕ, zero, suc, ◌+◌, ◌≤◌, true, List, [], ◌∷◌, ◌++◌, refl, sym, ap, subst, arith, append_assoc, append-nil}
+use Rattle.std.specs.Prelude.{codes, map, ℤ}
 use Rattle.std.specs.Fmt.{decimal, signed_decimal}
-use Rattle.work_code.specs.Lexis.{most, is_letter, is_word, is_digit}
+use Rattle.work_code.specs.Lexis.{is_letter, is_word, is_digit}
 use Rattle.work_code.specs.Printed.{text_of, body_text}
 use Rattle.work_code.specs.Steps.{Steps}
-use Rattle.work_code.specs.Term.{Term}
-use Rattle.work_code.specs.Tok.{Tok, name, var, number, symbol}
+use Rattle.work_code.specs.Tok.{Tok, name, number, symbol}
 use Rattle.work_code.specs.declared.sign.Symbol.TheVariants as s
 use Rattle.work_code.proofs.Spelled.{is_name_text}
 use Rattle.kern_rows.specs.Forms.{CodeForm, FilterForm}
@@ -19,11 +18,11 @@ use Rattle.river_kernels.specs.Kern as kern
 use Rattle.river_kernels.specs.Limits.{nesting}
 use Rattle.text_forms.specs.Forms as form
 use Rattle.text_forms.proofs.PrintedExpr.{printed}
-use Rattle.river_print.specs.Printed.{list_text, values_text, starts_text, start_text, run_text, code_text, filter_text, window_text, streamer_text, kernel_text}
+use Rattle.river_print.specs.Printed.{list_text, values_text, starts_text, start_text, run_text, window_text, streamer_text, kernel_text}
 use Rattle.river_text.specs.Kernels as g
 use Rattle.river_text.specs.Kernels.{IsBraced}
 use Rattle.river_round.specs.Writable as w
-use Rattle.river_round.proofs.Items.{pieces, items-commas, items-listing, count_tok, count-formed, count-item, value_tok, value-item, value-formed, width-item, start_tok, start-item, natural}
+use Rattle.river_round.proofs.Items.{pieces, items-commas, items-listing, count_tok, count-formed, count-item, value_tok, value-item, width-item, start_tok, start-item}
 use Rattle.river_round.proofs.Pieces.{Piece, AllPieces, EndsWord, piece-nothing, ends-nothing, piece-then, word-first, blank-first, braced, ends-blank, ends-open, items_toks, list-first}
 use Rattle.river_round.proofs.Terms.{term-item, body_toks, body-piece, body-formed, round-formed, behind_round}
 

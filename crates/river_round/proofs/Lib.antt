@@ -4,3 +4,4 @@ pub mod Pieces
 pub mod Round
 pub mod Terms
 pub mod Units
+pub mod Valid

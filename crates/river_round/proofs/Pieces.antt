@@ -1,6 +1,6 @@
 -- Pieces of a printed text: their bytes have these tokens, and within braces no unit ends in them.
-use Rattle.std.proofs.Common.{◌≡◌, ℕ, zero, suc, ◌+◌, ◌-◌, ◌<◌, ◌≤◌, Bool, true, false, cond, List, [], ◌∷◌, ◌++◌, length, refl, sym, ap, ◌∙◌, subst, arith, append_assoc, append-nil, eqb}
-use Rattle.std.specs.Prelude.{codes, map, ◌==◌, ◌&&◌, ◌||◌, not}
+use Rattle.std.proofs.Common.{◌≡◌, ℕ, suc, ◌≤◌, Bool, true, false, List, [], ◌∷◌, ◌++◌, refl, sym, ap, ◌∙◌, subst, arith, append_assoc}
+use Rattle.std.specs.Prelude.{codes, ◌==◌, ◌&&◌, ◌||◌, not}
 use Rattle.std.specs.Fmt.{decimal}
 use Rattle.std.proofs.Math.Dec.{eqb-suc-zero}
 use Rattle.std.proofs.lemmas.Bool.{ne_eqb}
@@ -11,7 +11,7 @@ use Rattle.work_code.specs.Symbols.{symbol_bytes, code_of}
 use Rattle.work_code.specs.Tok.{Tok, name, var, number, symbol}
 use Rattle.work_code.specs.declared.sign.Symbol.{Symbol}
 use Rattle.work_code.specs.declared.sign.Symbol.TheVariants as s
-use Rattle.work_code.proofs.Spelled.{Spells, Anything, NoWord, MayFollow, is_name_text, spells-nothing, spells-then, spells-less, spells-blank, spells-symbol, spells-name, spells-var, spells-number, blank_follows}
+use Rattle.work_code.proofs.Spelled.{Spells, NoWord, MayFollow, is_name_text, spells-nothing, spells-then, spells-less, spells-blank, spells-symbol, spells-name, spells-var, spells-number}
 use Rattle.text_forms.proofs.PrintedExpr.{blank-then}
 use Rattle.river_print.specs.Printed.{list_text}
 

@@ -1,19 +1,17 @@
 -- Printed plans are read back as themselves.
-use Rattle.std.proofs.Common.{◌≡◌, ℕ, zero, suc, ◌+◌, ◌<◌, ◌≤◌, Bool, true, false, List, [], ◌∷◌, ◌++◌, Result, Ok, refl, sym, ap, ◌∙◌, subst, arith, append_assoc, append-nil}
-use Rattle.std.specs.Prelude.{codes, map, nat_le}
-use Rattle.std.specs.Str.{bytes_eq}
+use Rattle.std.proofs.Common.{◌≡◌, ℕ, ◌≤◌, true, false, List, [], ◌∷◌, ◌++◌, refl, sym, ap, ◌∙◌, subst, arith, append_assoc, append-nil}
+use Rattle.std.specs.Prelude.{codes, map}
 use Rattle.std.proofs.lemmas.Bool.Decides.{nat_tests}
 use Rattle.work_code.specs.Cut.{cut, units_of, is_else}
-use Rattle.work_code.specs.Lexis.{is_letter, is_word, is_digit, tokens_in}
-use Rattle.work_code.specs.Tok.{Tok, Mark, toks, name, var, number, symbol}
-use Rattle.work_code.specs.declared.sign.Symbol.TheVariants as s
+use Rattle.work_code.specs.Lexis.{is_letter, is_word, is_digit}
+use Rattle.work_code.specs.Tok.{Tok}
 use Rattle.work_code.proofs.Spelled.{Spells, Anything, is_name_text, spells-nothing, spells-then, spells-whole}
 use Rattle.river_plan.specs.Forms.{Name, OpForm, PlanForm, empty_form}
 use Rattle.river_plan.specs.declared.plan.Decl.{Decl}
 use Rattle.river_plan.specs.declared.plan.TableDecl.{TableDecl}
 use Rattle.text_forms.specs.Texts.{AllFormed}
 use Rattle.river_print.specs.Printed.{decl_line, table_line, var_line, op_line, lines, plan_text}
-use Rattle.river_text.specs.Plans.{Entry, output, input, inner, table, private, operator, stage_of, is_late, IsUnit, IsUnitAt, next_stage, add, add_all, AreUnits, IsText}
+use Rattle.river_text.specs.Plans.{Entry, output, input, inner, table, private, operator, stage_of, is_late, IsUnit, IsUnitAt, next_stage, add, add_all, AreUnits}
 use Rattle.river_text.proofs.Texts.{one_plan}
 use Rattle.river_round.specs.Laws.{PrintedIsRead, PrintedIsAlone}
 use Rattle.river_round.specs.Writable as w

@@ -1,13 +1,13 @@
 -- Expressions and bodies, printed and read.
-use Rattle.std.proofs.Common.{◌≡◌, ℕ, zero, suc, ◌+◌, ◌<◌, ◌≤◌, Bool, true, false, cond, List, [], ◌∷◌, ◌++◌, length, max, refl, sym, ap, ◌∙◌, subst, inl, inr, arith, append_assoc, append-nil}
-use Rattle.std.specs.Prelude.{codes, map, ℤ, pos, Option, Some, None}
+use Rattle.std.proofs.Common.{◌≡◌, ℕ, zero, suc, ◌+◌, ◌<◌, ◌≤◌, true, List, [], ◌∷◌, ◌++◌, length, refl, sym, ap, subst, arith, append_assoc}
+use Rattle.std.specs.Prelude.{codes, map, Some, None}
 use Rattle.std.specs.Fmt.{decimal}
 use Rattle.std.proofs.lemmas.Bool.Decides.{nat_tests}
-use Rattle.work_code.specs.Lexis.{most, is_letter, is_word, is_digit}
+use Rattle.work_code.specs.Lexis.{is_letter, is_word, is_digit}
 use Rattle.work_code.specs.Printed.{text_of, items_text, step_text, body_text, more_text, else_text}
 use Rattle.work_code.specs.Steps.{Step, Steps, Set, Push, If, Done, Then, in_turn}
-use Rattle.work_code.specs.Term.{Term, Const, Input, Slot, Neg, Not, Bin, depth_of}
-use Rattle.work_code.specs.Tok.{Tok, name, var, number, symbol}
+use Rattle.work_code.specs.Term.{Term, Const, Input, Slot, Neg, Not, Bin}
+use Rattle.work_code.specs.Tok.{Tok, name, number, symbol}
 use Rattle.work_code.specs.declared.expr.BinOp.{BinOp}
 use Rattle.work_code.specs.declared.expr.BinOp.TheVariants as op
 use Rattle.work_code.specs.declared.sign.Symbol.TheVariants as s
@@ -20,7 +20,7 @@ use Rattle.river_text.specs.Kernels as g
 use Rattle.river_text.specs.Kernels.{IsStmt, term_of}
 use Rattle.river_round.specs.Writable as w
 use Rattle.river_round.proofs.Items.{Item, pieces, items-commas, count-formed}
-use Rattle.river_round.proofs.Pieces.{Inside, inside-then, inside-name, inside-number, inside-symbol, IsPlain, plain-Open, plain-Close, plain-OpenBracket, plain-CloseBracket, plain-Minus, plain-Assign, Piece, EndsWord, piece-nothing, ends-nothing, piece-then, symbol-first, word-first, number-first, blank-first, open-first, close-first, semicolon-first, square-first, square_close-first, braced, braced-nothing, ends-blank, ends-open, ends-close, ends-square, ends-square_close, ends-semicolon, items_toks, pieces-items}
+use Rattle.river_round.proofs.Pieces.{Inside, inside-then, inside-name, inside-number, inside-symbol, IsPlain, plain-Open, plain-Close, plain-OpenBracket, plain-CloseBracket, plain-Minus, plain-Assign, Piece, EndsWord, piece-nothing, ends-nothing, piece-then, symbol-first, word-first, number-first, blank-first, open-first, close-first, semicolon-first, square-first, square_close-first, braced, braced-nothing, ends-blank, ends-close, ends-square, ends-square_close, ends-semicolon, items_toks, pieces-items}
 
 written : (t : Term) → w.IsSpoken t → IsWritten t
 written (Const z) h = h

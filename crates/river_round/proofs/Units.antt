@@ -1,14 +1,13 @@
 -- Units, printed and read.
-use Rattle.std.proofs.Common.{◌≡◌, ℕ, zero, suc, ◌+◌, ◌<◌, ◌≤◌, Bool, true, false, cond, List, [], ◌∷◌, ◌++◌, length, refl, sym, ap, ◌∙◌, subst, inl, inr, arith, append_assoc, append-nil}
-use Rattle.std.specs.Prelude.{codes, map, ◌==◌, ◌&&◌, ◌||◌, nat_le, nat_eq}
+use Rattle.std.proofs.Common.{◌≡◌, ℕ, Bool, true, false, List, [], ◌∷◌, ◌++◌, length, refl, sym, ap, ◌∙◌, subst, inl, inr, arith, append_assoc, append-nil}
+use Rattle.std.specs.Prelude.{codes, map, ◌&&◌, nat_le}
 use Rattle.std.specs.List.{list_all}
 use Rattle.std.specs.Fmt.{decimal}
 use Rattle.std.specs.Cmp.Lexicographic.{pointwise}
 use Rattle.std.proofs.lemmas.Bool.Decides.{nat_tests}
-use Rattle.std.proofs.lemmas.List.{map-append}
 use Rattle.std.proofs.lemmas.Slice.Eq.{bytes_eq-Decides}
 use Rattle.work_code.specs.Cut.{cut, to_first, ends_unit, braces_after, is_else}
-use Rattle.work_code.specs.Lexis.{most, is_blank, first_is, is_letter, is_word, is_digit}
+use Rattle.work_code.specs.Lexis.{is_blank, first_is, is_letter, is_word, is_digit}
 use Rattle.work_code.specs.Tok.{Tok, name, var, number, symbol}
 use Rattle.work_code.specs.declared.sign.Symbol.{Symbol}
 use Rattle.work_code.specs.declared.sign.Symbol.TheVariants as s
@@ -27,12 +26,12 @@ use Rattle.river_plan.specs.Forms.{Name, OpForm}
 use Rattle.river_plan.specs.declared.plan.Decl.{Decl}
 use Rattle.river_plan.specs.declared.plan.TableDecl.{TableDecl}
 use Rattle.text_forms.specs.Forms as form
-use Rattle.river_print.specs.Printed.{list_text, flat_text, type_text, table_text, var_text, decl_line, table_line, var_line, ports_text, head_text, op_line, kernel_text}
+use Rattle.river_print.specs.Printed.{list_text, flat_text, type_text, table_text, var_text, decl_line, table_line, var_line, ports_text, op_line, kernel_text}
 use Rattle.river_text.specs.Kernels as g
 use Rattle.river_text.specs.Plans as p
 use Rattle.river_round.specs.Writable as w
 use Rattle.river_round.proofs.Items.{Item, pieces, items-listing, count_tok, count-formed, count-item}
-use Rattle.river_round.proofs.Pieces.{all_first, all_first-append, Inside, inside-name, inside-var, on, Piece, AllPieces, EndsWord, piece-nothing, ends-nothing, piece-then, symbol-first, word-first, var-first, blank-first, line-first, open-first, close-first, semicolon-first, braced, plain-Colon, plain-Less, plain-Minus, ends-blank, ends-open, ends-colon, ends-semicolon, more_toks, items_toks, list-first}
+use Rattle.river_round.proofs.Pieces.{all_first, all_first-append, Inside, inside-name, inside-var, Piece, AllPieces, braced, more_toks, items_toks}
 use Rattle.river_round.proofs.Kernels.{listed, list-last, worded, kernel_toks, kernel-piece, braced-formed}
 use Rattle.river_round.proofs.Terms.{round-formed, behind_round}
 

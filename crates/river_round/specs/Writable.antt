@@ -1,5 +1,5 @@
 -- The plans that River text can stand for.
-use Rattle.std.specs.Prelude.{◌≡◌, ℕ, zero, suc, ◌<◌, ◌≤◌, ◌+◌, ℤ, pos, negsuc, Bool, true, List, [], ◌∷◌, length, max}
+use Rattle.std.specs.Prelude.{◌≡◌, ℕ, suc, ◌<◌, ◌≤◌, ℤ, pos, negsuc, true, List, [], ◌∷◌, length, max}
 use Rattle.work_code.specs.Term.{Term, Const, Input, Slot, Neg, Not, Bin, depth_of}
 use Rattle.work_code.specs.Steps.{Step, Steps, Set, Push, If, Done, Then}
 use Rattle.river_base.specs.Name.{is_name}

@@ -1,9 +1,16 @@
 //! Laws over the definitions alone.
-ghost use Rattle.river_round.specs.Laws.{PrintedIsRead, PrintedIsAlone};
+ghost use Rattle.river_round.specs.Laws.{PrintedIsRead, PrintedIsAlone, ValidIsRead, ValidIsAlone};
 
 /// The printed text of a plan is in the grammar of River text and stands for the plan and for no other, wherever its names are names, its
 /// counts and values are such as a text has, no window's range is below 0, and `if` nests at most 16 deep.
 pub fn printed_is_read()
     ensures read { PrintedIsRead }
     ensures alone { PrintedIsAlone }
+{}
+
+/// The printed text of a valid plan whose numbers lie in the ranges of their types is in the grammar of River text and stands for
+/// the plan and for no other, wherever `if` nests at most 16 deep and no window's range is below 0.
+pub fn printed_plans_are_read()
+    ensures read { ValidIsRead }
+    ensures alone { ValidIsAlone }
 {}

@@ -1,16 +1,13 @@
 -- The steps by which code reads bodies.
-use Rattle.std.proofs.Common.{◌≡◌, ℕ, zero, suc, ◌<◌, ◌≤◌, ◌+◌, ◌-◌, List, [], ◌∷◌, ◌++◌, length, Bool, true, false, cond, Option, Some, None, refl, sym, ap, ◌∙◌, subst, arith, length-append}
-use Rattle.std.specs.Prelude.{map}
-use Rattle.std.proofs.lemmas.List.{map-append}
+use Rattle.std.proofs.Common.{◌≡◌, ℕ, zero, suc, ◌<◌, ◌+◌, ◌-◌, List, [], ◌∷◌, ◌++◌, length, true, false, cond, Some, None, refl, sym, ap, ◌∙◌, arith, length-append}
 use Rattle.work_code.specs.Tok.{Tok}
 use Rattle.work_code.specs.Steps.{Step, Steps, If, in_turn}
 use Rattle.work_code.specs.Term.{Term}
 use Rattle.text_forms.specs.Parse as parse
-use Rattle.text_forms.specs.Repeat.{Turn, Stop, Fail, Next, repeated}
-use Rattle.text_forms.proofs.Exact.{Exact, Any}
+use Rattle.text_forms.specs.Repeat.{repeated}
 use Rattle.text_forms.proofs.Many.{many-shortens}
 use Rattle.text_forms.proofs.Repeat.{repeated-next, repeated-stop, repeated-fail}
-use Rattle.river_text.specs.ReadKernels.{at_close, round_term_at, else_at, if_at, stmt_after, steps_of, stmt_at, stmts_at, body_of_at, body_at, branch_at}
+use Rattle.river_text.specs.ReadKernels.{at_close, round_term_at, else_at, if_at, stmt_after, stmt_at, stmts_at, body_at, branch_at}
 use Rattle.river_text.proofs.Kernels.{exact-stmt, listed-stmts}
 
 less-one : (n : ℕ) → suc n - 1 ≡ n

@@ -1,12 +1,10 @@
 -- The reading of kernels is exact.
-use Rattle.std.proofs.Common.{◌≡◌, ℕ, zero, suc, ◌<◌, ◌≤◌, ◌+◌, ◌-◌, ℤ, pos, neg_ℤ, List, [], ◌∷◌, ◌++◌, length, Bool, true, false, cond, Option, Some, None, refl, sym, ap, ◌∙◌, subst, inl, inr, ◌⊎◌, arith, append_assoc}
+use Rattle.std.proofs.Common.{◌≡◌, ℕ, zero, suc, ℤ, pos, neg_ℤ, List, [], ◌∷◌, ◌++◌, Bool, true, false, refl, ap, ◌∙◌, inl, inr, arith}
 use Rattle.std.specs.Prelude.{codes}
 use Rattle.std.specs.Str.{bytes_eq}
 use Rattle.std.proofs.lemmas.Slice.Eq.{bytes_eq-Decides}
-use Rattle.work_code.specs.Tok.{Tok, name, var, number, symbol}
-use Rattle.work_code.specs.Term.{Term}
+use Rattle.work_code.specs.Tok.{Tok, name, symbol}
 use Rattle.work_code.specs.Steps.{Step, Steps, in_turn}
-use Rattle.work_code.specs.declared.sign.Symbol.{Symbol}
 use Rattle.work_code.specs.declared.sign.Symbol.TheVariants as s
 use Rattle.kern_bags.specs.declared.kernel.Window.TheVariants.{Now, Range, Unbounded, Latest}
 use Rattle.kern_bags.specs.declared.kernel.Streamer.TheVariants.{Istream, Dstream, Rstream}
@@ -16,12 +14,10 @@ use Rattle.text_forms.specs.declared.language.Language.TheVariants.{River}
 use Rattle.text_forms.specs.Parse as parse
 use Rattle.text_forms.specs.Parse.{Parse}
 use Rattle.text_forms.specs.Forms as form
-use Rattle.text_forms.proofs.Exact.{Exact, Front, Any, exact-as, exact-less, exact-both, exact-after, exact-before, exact-after_word, exact-tested, exact-seen, exact-merged, exact-maybe, exact-number, exact-value, exact-nothing}
+use Rattle.text_forms.proofs.Exact.{Exact, Any, exact-less, exact-both, exact-after, exact-before, exact-after_word, exact-tested, exact-seen, exact-merged, exact-maybe, exact-number, exact-value, exact-nothing}
 use Rattle.text_forms.proofs.Many.{Listed, exact-many, exact-commas}
-use Rattle.text_forms.proofs.Choices.{nowhere, exact-never, exact-choose, exact-headed, exact-known, exact-enclosed, exact-listing}
+use Rattle.text_forms.proofs.Choices.{exact-never, exact-choose, exact-headed, exact-known, exact-enclosed, exact-listing}
 use Rattle.text_forms.proofs.Ladder.{Ends, exact-expr}
-use Rattle.text_forms.proofs.Symbols.{begins_with-symbol}
-use Rattle.river_text.specs.Kernels as form_of
 use Rattle.river_text.specs.Kernels.{term_of, least, made_set, made_push, made_if, or_done, made_code, made_filter, made_fused, IsTerm, Count, Width, Signed, Round, IsStarts, IsSet, IsPush, IsIf, IsBodyOf, IsStmt, IsBody, IsCode, IsFilter, IsFused, BagAfter, KernelAfter, IsBraced, IsKernel}
 use Rattle.river_text.specs.ReadKernels.{term_at, width_at, signed_at, round, starts_at, widths_at, weights_at, some_terms_at, terms_at, number_at, round_term_at, set_at, push_at, at_close, body_of_at, else_at, if_at, stmt_after, steps_of, stmt_at, stmts_at, body_at, pair_at, rates_at, code_at, filter_at, fused_at, range_at, bag_after, kernel_after, braced_at, kernel_at}
 

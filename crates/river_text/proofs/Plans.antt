@@ -1,8 +1,8 @@
 -- The reading of River text is exact.
-use Rattle.std.proofs.Common.{◌≡◌, ℕ, zero, suc, ◌<◌, ◌≤◌, ◌+◌, List, [], ◌∷◌, ◌++◌, length, Bool, true, false, cond, Option, Some, None, Result, Ok, Err, refl, sym, ap, ◌∙◌, subst, inl, inr, arith, append_assoc, append-nil}
+use Rattle.std.proofs.Common.{◌≡◌, ℕ, List, [], ◌∷◌, ◌++◌, true, false, Some, refl, sym, ap, ◌∙◌, subst, inl, inr, append_assoc, append-nil}
 use Rattle.std.specs.Prelude.{codes, map}
 use Rattle.std.specs.Str.{bytes_eq}
-use Rattle.work_code.specs.Tok.{Tok, name, var, number, symbol}
+use Rattle.work_code.specs.Tok.{Tok}
 use Rattle.work_code.specs.declared.sign.Symbol.TheVariants as s
 use Rattle.river_base.specs.Name.{is_name}
 use Rattle.river_base.specs.declared.kind.FlatType.TheVariants.{Rows, Stream, Relation}
@@ -11,12 +11,11 @@ use Rattle.kern_tables.specs.declared.kind.TableKind.TheVariants.{Sum, Collectio
 use Rattle.text_forms.specs.Parse as parse
 use Rattle.text_forms.specs.Parse.{Parse}
 use Rattle.text_forms.specs.Forms as form
-use Rattle.text_forms.proofs.Exact.{Exact, Front, Any, exact-as, exact-less, exact-both, exact-after, exact-before, exact-tested, exact-seen, exact-merged, exact-name, exact-var}
+use Rattle.text_forms.proofs.Exact.{Exact, Any, exact-as, exact-less, exact-both, exact-after, exact-before, exact-tested, exact-seen, exact-merged, exact-name, exact-var}
 use Rattle.text_forms.proofs.Pairs.{some_inj}
 use Rattle.std.proofs.lemmas.List.{map-append}
 use Rattle.text_forms.proofs.Choices.{exact-never, exact-choose, exact-headed, exact-known, exact-listing}
-use Rattle.river_text.specs.Plans.{IsName, IsVar, brackets, FlatAfter, IsFlat, IsType, made_decl, IsDecl, made_maximum, KindAfter, made_table, IsTable, Port, queue, variable, IsPort, IsPorts, Ports, same_vars, made_op, IsOp, Entry, output, input, inner, table, private, operator, UnitAfter, IsUnit, is_late, IsUnitAt}
-use Rattle.river_text.specs.ReadKernels.{round, number_at, pair_at, braced_at}
+use Rattle.river_text.specs.Plans.{IsName, IsVar, brackets, FlatAfter, IsFlat, IsType, made_decl, IsDecl, made_maximum, made_table, IsTable, Port, queue, variable, IsPort, IsPorts, Ports, same_vars, made_op, IsOp, output, input, inner, table, private, operator, IsUnit, is_late, IsUnitAt}
 use Rattle.river_text.specs.ReadPlans.{river_name_at, river_var_at, flat_after, flat_at, packed_at, type_after, type_at, decl_at, kind_after, kind_at, table_at, is_var_at, port_at, split_from, port_list_at, ports_at, op_at, private_at, unit_after, unit_at, unit_from}
 use Rattle.river_text.proofs.Kernels.{exact-counted, exact-pair, exact-round, exact-braced}
 

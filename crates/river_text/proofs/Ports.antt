@@ -1,14 +1,12 @@
 -- The steps by which code reads what operators read and write.
-use Rattle.std.proofs.Common.{◌≡◌, ℕ, ◌<◌, ◌≤◌, ◌+◌, List, [], ◌∷◌, ◌++◌, length, drop, get_or, Option, Some, None, refl, sym, ap, ◌∙◌, arith}
+use Rattle.std.proofs.Common.{◌≡◌, ℕ, ◌<◌, ◌≤◌, ◌+◌, List, [], ◌∷◌, ◌++◌, length, drop, get_or, Some, None, refl, sym, ap, ◌∙◌}
 use Rattle.std.specs.Prelude.{map}
 use Rattle.std.proofs.lemmas.List.{drop_more, drop_all}
 use Rattle.work_code.specs.Tok.{Tok}
-use Rattle.work_code.specs.declared.sign.Symbol.TheVariants as s
-use Rattle.text_forms.specs.Parse as parse
 use Rattle.text_forms.proofs.Many.{comma-stop, comma-bad}
 use Rattle.river_text.specs.declared.port.Port as read
 use Rattle.river_text.specs.declared.port.Port.TheVariants as kind
-use Rattle.river_text.specs.Plans.{Port, queue, variable, Ports}
+use Rattle.river_text.specs.Plans.{Port, queue, variable}
 use Rattle.river_text.specs.Listed.{port_of}
 use Rattle.river_text.specs.ReadPlans.{port_at, split_from}
 use Rattle.river_text.proofs.Plans.{exact-port}

@@ -1,12 +1,12 @@
 -- The steps by which code reads lists.
-use Rattle.std.proofs.Common.{◌≡◌, ℕ, zero, suc, ◌<◌, ◌≤◌, ◌+◌, ◌-◌, ℤ, List, [], ◌∷◌, ◌++◌, length, Bool, true, false, Option, Some, None, refl, sym, ap, ◌∙◌, subst, arith, length-append}
-use Rattle.work_code.specs.Tok.{Tok, symbol}
+use Rattle.std.proofs.Common.{◌≡◌, ℕ, suc, ◌<◌, ◌≤◌, ◌+◌, ℤ, List, [], ◌∷◌, ◌++◌, length, true, Some, refl, ap, ◌∙◌, arith, length-append}
+use Rattle.work_code.specs.Tok.{Tok}
 use Rattle.work_code.specs.declared.sign.Symbol.{Symbol}
 use Rattle.work_code.specs.declared.sign.Symbol.TheVariants as s
 use Rattle.text_forms.specs.Parse as parse
 use Rattle.text_forms.specs.Repeat.{repeated}
 use Rattle.text_forms.specs.Tail.{tail}
-use Rattle.text_forms.proofs.Exact.{Exact, Any}
+use Rattle.text_forms.proofs.Exact.{Exact}
 use Rattle.text_forms.proofs.Many.{comma-next, comma-stop, comma-bad}
 use Rattle.text_forms.proofs.Symbols.{begins_with-is}
 use Rattle.river_text.specs.declared.number.Kind.{Kind}

@@ -1,13 +1,13 @@
 -- River text as a whole.
-use Rattle.std.proofs.Common.{◌≡◌, ℕ, zero, suc, ◌<◌, ◌≤◌, ◌+◌, List, [], ◌∷◌, ◌++◌, length, Bool, true, false, cond, Option, Some, None, Result, Ok, Err, refl, sym, ap, ◌∙◌, subst, arith, append_assoc, append-nil}
-use Rattle.work_code.specs.Cut.{units_of, cut, to_first, ends_unit, braces_after}
+use Rattle.std.proofs.Common.{◌≡◌, ℕ, ◌+◌, List, [], ◌∷◌, Option, Some, None, Result, Ok, Err, refl, sym, ap, ◌∙◌}
+use Rattle.work_code.specs.Cut.{units_of}
 use Rattle.work_code.specs.Lexis.{tokens_in}
 use Rattle.work_code.specs.Tok.{Tok, Mark, toks}
 use Rattle.work_code.specs.declared.fault.LexFault.{LexFault}
 use Rattle.river_plan.specs.Forms.{PlanForm, empty_form}
-use Rattle.text_forms.specs.Texts.{whole, after_unit, put_first, read_units, AllFormed, IsFirstBad}
-use Rattle.text_forms.proofs.Texts.{all-formed, formed-read, one-text, first-bad}
-use Rattle.river_text.specs.Plans.{Entry, add, add_all, stage_of, next_stage, IsUnitAt, AreUnits, IsText}
+use Rattle.text_forms.specs.Texts.{whole, after_unit, put_first, read_units}
+use Rattle.text_forms.proofs.Texts.{all-formed, formed-read, first-bad}
+use Rattle.river_text.specs.Plans.{Entry, add, add_all, stage_of, next_stage, IsText}
 use Rattle.river_text.specs.ReadPlans.{unit_from, with_entry, read_plan}
 use Rattle.river_text.specs.Faults.{StandsForNone}
 use Rattle.river_text.specs.Laws.{OnePlan, IsBadAt}

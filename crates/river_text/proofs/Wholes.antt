@@ -1,9 +1,8 @@
 -- The steps by which code reads whole units.
-use Rattle.std.proofs.Common.{◌≡◌, ℕ, ◌<◌, ◌≤◌, List, [], ◌∷◌, Bool, true, false, cond, Option, Some, None, refl, sym, ap, ◌∙◌, arith}
+use Rattle.std.proofs.Common.{◌≡◌, ℕ, ◌<◌, ◌≤◌, List, [], ◌∷◌, Bool, true, false, cond, Some, None, refl, arith}
 use Rattle.std.specs.Prelude.{nat_le}
 use Rattle.work_code.specs.Tok.{Tok}
-use Rattle.text_forms.specs.Texts.{whole, at_end, ended}
-use Rattle.text_forms.specs.Parse as parse
+use Rattle.text_forms.specs.Texts.{whole, ended}
 use Rattle.river_text.specs.Plans.{Entry, stage_of, is_late}
 use Rattle.river_text.specs.ReadPlans.{unit_at, unit_from}
 

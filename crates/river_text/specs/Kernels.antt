@@ -1,12 +1,11 @@
 -- The grammar of kernels in River text. `n` is how many more brackets may be open.
-use Rattle.std.specs.Prelude.{◌≡◌, ℕ, zero, suc, ℤ, pos, negsuc, neg_ℤ, List, [], ◌∷◌, Option, None, Some, codes, if◌then◌else◌}
+use Rattle.std.specs.Prelude.{ℕ, zero, suc, ℤ, pos, negsuc, neg_ℤ, List, [], ◌∷◌, Option, None, Some, codes, if◌then◌else◌}
 use Rattle.std.specs.Str.{bytes_eq}
 use Rattle.work_code.specs.Tok.{Tok}
 use Rattle.work_code.specs.Term.{Term}
 use Rattle.work_code.specs.Term as term
-use Rattle.work_code.specs.Steps.{Step, Steps, Set, Push, If, Done, in_turn, Body}
+use Rattle.work_code.specs.Steps.{Step, Steps, Set, Push, If, Done, in_turn}
 use Rattle.work_code.specs.declared.sign.Symbol.TheVariants as s
-use Rattle.kern_rows.specs.Forms.{CodeForm, FilterForm}
 use Rattle.kern_bags.specs.declared.kernel.Window.TheVariants.{Now, Range, Unbounded, Latest}
 use Rattle.kern_bags.specs.declared.kernel.Streamer.TheVariants.{Istream, Dstream, Rstream}
 use Rattle.river_kernels.specs.Kern.{Kern}

@@ -1,13 +1,11 @@
 -- Laws of River text, over the definitions alone.
-use Rattle.std.specs.Prelude.{◌≡◌, ℕ, List, Result, Ok, Err}
+use Rattle.std.specs.Prelude.{◌≡◌, ℕ, List, Ok}
 use Rattle.work_code.specs.Cut.{units_of}
 use Rattle.work_code.specs.Lexis.{tokens_in}
-use Rattle.work_code.specs.Tok.{Tok, Mark, toks}
-use Rattle.work_code.specs.declared.fault.LexFault.{LexFault}
-use Rattle.work_code.specs.declared.fault.LexFault.TheVariants.{BadByte, BigNumber, NoMemory}
+use Rattle.work_code.specs.Tok.{Mark, toks}
 use Rattle.river_plan.specs.Forms.{PlanForm}
 use Rattle.text_forms.specs.Texts.{IsFirstBad}
-use Rattle.river_text.specs.Plans.{Entry, IsText, IsUnitAt, next_stage}
+use Rattle.river_text.specs.Plans.{IsText, IsUnitAt, next_stage}
 
 -- a text stands for one plan at most
 abbrev pub OnePlan : Type 0

@@ -1,5 +1,4 @@
 -- Ports that were read.
-use Rattle.std.specs.Prelude.{List}
 use Rattle.river_text.specs.declared.port.Port as read
 use Rattle.river_text.specs.declared.port.Port.TheVariants.{Queue, Variable}
 use Rattle.river_text.specs.declared.port.Ports as read_all

@@ -10,7 +10,7 @@
 --     type   = flat | "pack" "(" flat ")"
 --     flat   = ( "rows" | "stream" | "relation" ) "(" N ")"
 --     list   = NAMEs and then VARs, separated by commas, or nothing
-use Rattle.std.specs.Prelude.{◌≡◌, ℕ, ◌++◌, Bool, List, [], ◌∷◌, map, Option, None, Some, Result, Ok, Err, codes, nat_le}
+use Rattle.std.specs.Prelude.{◌≡◌, ℕ, ◌++◌, Bool, List, [], ◌∷◌, map, Ok, codes, nat_le}
 use Rattle.std.specs.Str.{bytes_eq}
 use Rattle.std.specs.Cmp.Lexicographic.{pointwise}
 use Rattle.work_code.specs.Cut.{units_of}

@@ -1,5 +1,5 @@
 -- How kernels are read: the grammar in the words of reading functions.
-use Rattle.std.specs.Prelude.{ℕ, zero, suc, ℤ, pos, neg_ℤ, Bool, List, [], ◌∷◌, Option, None, Some, codes, if◌then◌else◌}
+use Rattle.std.specs.Prelude.{ℕ, zero, suc, ℤ, pos, neg_ℤ, Bool, List, [], ◌∷◌, None, Some, codes, if◌then◌else◌}
 use Rattle.std.specs.Str.{bytes_eq}
 use Rattle.work_code.specs.Tok.{Tok}
 use Rattle.work_code.specs.Term.{Term}
@@ -11,7 +11,7 @@ use Rattle.river_kernels.specs.Kern.{Kern}
 use Rattle.river_kernels.specs.Kern as kern
 use Rattle.text_forms.specs.declared.language.Language.TheVariants.{River}
 use Rattle.text_forms.specs.Ladder.{expr_at}
-use Rattle.text_forms.specs.Parse.{Parse, begins_with, is_word_at, count_at, value_at, nothing_at, both, after, before, after_word, tested, seen, known, merged, maybe, many, commas, listing, headed, enclosed}
+use Rattle.text_forms.specs.Parse.{Parse, begins_with, is_word_at, count_at, value_at, nothing_at, both, after, before, after_word, seen, known, merged, maybe, many, commas, listing, headed, enclosed}
 use Rattle.river_text.specs.declared.number.Kind.{Kind}
 use Rattle.river_text.specs.declared.number.Kind.TheVariants.{Width as OfWidth, Signed as OfSigned, Value as OfValue}
 use Rattle.river_text.specs.Kernels.{term_of, least, made_set, made_push, made_if, or_done, made_code, made_filter, made_fused}

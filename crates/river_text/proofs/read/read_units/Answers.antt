@@ -1,4 +1,4 @@
-use Rattle.std.proofs.Common.{◌≡◌, ◌+◌, ◌<◌, ◌≤◌, length, drop, sym, ap, ◌∙◌}
+use Rattle.std.proofs.Common.{◌+◌, drop, sym, ap, ◌∙◌}
 use Rattle.std.specs.Prelude.{map}
 use Rattle.work_code.specs.Cut.{unit_tokens}
 use Rattle.river_plan.specs.Forms.{plan_form, empty_form}
