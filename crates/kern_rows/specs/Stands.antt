@@ -27,3 +27,8 @@ pub record Filters (f : FilterForm) (v : ℤ) (old new : Waiting) (out out' : Li
 -- a value came, and there was no memory: the output grew by a part
 pub record GaveUp (f : FilterForm) (v : ℤ) (old : Waiting) (out out' : List ℤ) : Type 0 where
   pub each : (s : Filtering) → StandsForFiltering f old s → GrewByPrefix out (values_of (filter_one f v s).pushes) out'
+
+-- what a splitter keeps: the port in turn, and how many items it had
+pub record Dealing : Type 0 where
+  pub port : ℕ
+  pub had : ℕ

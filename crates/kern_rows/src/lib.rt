@@ -6,6 +6,8 @@ mod code;
 mod filter;
 mod kernel;
 mod queue;
+mod turn;
 
 pub use filter::FilterState;
 pub use kernel::{CodeKernel, Collect, Deal, Filter, Unpack};
+pub use turn::DealState;
