@@ -1,3 +1,5 @@
 pub mod Filtered
+pub mod Fronts
 pub mod Given
 pub mod Lengths
+pub mod Passed

@@ -1,5 +1,6 @@
 pub mod Forms
 pub mod Needs
+pub mod Passing
 pub mod Runs
 pub mod Stands
 pub mod Turns

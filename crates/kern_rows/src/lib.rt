@@ -4,6 +4,7 @@
 mod body;
 mod code;
 mod filter;
+mod joined;
 mod kernel;
 mod queue;
 mod turn;

@@ -1,0 +1,114 @@
+// Items that wait at ports that take turns.
+ghost use Rattle.std.specs.Prelude.{◌≡◌, ◌<◌, [], ◌∷◌, ◌++◌, length, IfOk, OnOk, MatchOption};
+ghost use Rattle.kern_rows.specs.Turns.{turns_start, put as put_in};
+ghost use Rattle.kern_rows.specs.Passing.{Passes, IsStuck};
+
+use crate::turn::next_turn;
+use river_base::{Item, NoMemory};
+use std::alloc::Global;
+use std::collections::VecDeque;
+use std::marker::Model;
+
+// Items in a line, which contracts see as their list.
+#[derive(Drop)]
+struct Line {
+    items: VecDeque<Item>,
+}
+
+impl Model for Line {
+    ghost use Rattle.std.specs.Prelude.{List};
+    ghost use Rattle.river_base.specs.declared.item.Item as item;
+
+    ghost Value = { List item.Item };
+
+    ghost view = { λ l. l.items.items };
+}
+
+impl Line {
+    fn new(alloc: Global) -> Line
+        ensures { result ≡ [] }
+    {
+        Line {
+            items: VecDeque::new(alloc),
+        }
+    }
+
+    fn push(&mut self, item: Item) -> Result<(), NoMemory>
+        ensures { OnOk result (self.new ≡ self.old ++ item ∷ []) }
+    {
+        self.items.push_back(item)?;
+        Ok(())
+    }
+
+    fn pop(&mut self) -> Option<Item>
+        ensures { MatchOption result ((self.old ≡ []) × (self.new ≡ [])) (λ x. self.old ≡ x ∷ self.new) }
+    {
+        self.items.pop_front()
+    }
+}
+
+/// What a joiner keeps between items: the port in turn, how many items it had, and what waits at each port.
+#[derive(Drop)]
+pub struct Joined {
+    port: usize,
+    had: u64,
+    lines: Vec<Line>,
+}
+
+impl Model for Joined {
+    ghost use Rattle.kern_rows.specs.Turns.{Turns};
+
+    ghost Value = { Turns };
+
+    ghost view = { λ j. record { port = j.port; had = j.had; lists = j.lines.items } };
+}
+
+impl Joined {
+    /// The first of so many ports is in turn, and nothing waits.
+    pub fn start(alloc: Global, ports: usize) -> Result<Joined, NoMemory>
+        ensures { IfOk result (λ joined. joined ≡ turns_start ports) }
+    {
+        let mut lines = Vec::new(alloc);
+        for _i in 0..ports {
+            lines.push(Line::new(alloc))?;
+        }
+        Ok(Joined {
+            port: 0,
+            had: 0,
+            lines,
+        })
+    }
+
+    /// The port in turn.
+    pub fn turn(&self) -> usize
+        ensures { result ≡ self.now.port }
+    {
+        self.port
+    }
+
+    /// An item comes to a port.
+    pub fn put(&mut self, port: usize, item: Item) -> Result<(), NoMemory>
+        requires { port < length self.old.lists }
+        ensures { OnOk result (self.new ≡ put_in port item self.old) }
+    {
+        let line = &mut self.lines[port];
+        line.push(item)?;
+        Ok(())
+    }
+
+    /// The front item of the port in turn, whose share this is, passes; None where there is none.
+    pub fn pass(&mut self, share: u64) -> Option<Item>
+        requires port { self.old.port < length self.old.lists }
+        requires had { self.old.had < share }
+        ensures { MatchOption result (IsStuck self.old self.new) (λ x. Passes share self.old self.new x) }
+    {
+        let line = &mut self.lines[self.port];
+        let Some(item) = line.pop() else {
+            return None;
+        };
+        let (port, had) = next_turn(share, self.lines.len(), self.port, self.had);
+        self.port = port;
+        self.had = had;
+        Some(item)
+    }
+}
