@@ -161,3 +161,10 @@ module _ (give : item.Item → List item.Item) (ws : List ℕ) where
           ∙ ap (λ t. out ++ t) (sym (prefix_of f.given (give x ++ more) (length (take g.n (give x))) ∙ ap (λ t. f.given ++ t) (prefix_is (give x) more g.n)))
           ∙ ap (λ t. out ++ take (length f.given + length (take g.n (give x))) t) (ap (λ d. f.given ++ d.0) (sym e) ∙ f.all);
       }
+
+-- the share that was read is that of the port in turn
+pub passes_at : (ws : List ℕ) (share port : ℕ) (now next : Turns) (x : item.Item) → share ≡ slice_index_or ws port 0 → port ≡ now.port → Passes share now next x → Passes (slice_index_or ws now.port 0) now next x
+passes_at ws share port now next x s p h = subst (λ k. Passes k now next x) (s ∙ ap (λ q. slice_index_or ws q 0) p) h
+
+pub grew_by_none : {X : Type 0} (old new all : List X) → new ≡ old → GrewByPrefix old all new
+grew_by_none old new all e = record { n = 0; is = e ∙ sym (append-nil old) }

@@ -3,12 +3,16 @@
 
 mod body;
 mod code;
+mod collect;
 mod filter;
 mod joined;
 mod kernel;
 mod queue;
 mod turn;
+mod unpack;
 
+pub use collect::CollectState;
 pub use filter::FilterState;
 pub use kernel::{CodeKernel, Collect, Deal, Filter, Unpack};
 pub use turn::DealState;
+pub use unpack::UnpackState;
