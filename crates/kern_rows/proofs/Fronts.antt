@@ -1,8 +1,8 @@
 -- The front item of a line is taken.
-use Rattle.std.proofs.Common.{◌≡◌, ℕ, zero, suc, ◌<◌, List, [], ◌∷◌, length, get_or, refl, sym, ap, ◌∙◌, subst, arith}
+use Rattle.std.proofs.Common.{◌≡◌, ℕ, zero, suc, ◌<◌, List, [], ◌∷◌, length, get_or, sym, ap, ◌∙◌, subst, arith}
 use Rattle.std.proofs.Math.ListN.{set}
 use Rattle.river_base.specs.declared.item.Item as item
-use Rattle.kern_rows.specs.Passing.{Passes, IsStuck, passed_by, port_after, had_after}
+use Rattle.kern_rows.specs.Passing.{Passes, IsStuck, port_after, had_after}
 use Rattle.kern_rows.specs.Turns.{Turns, rest_at, rest_in}
 use Rattle.kern_rows.proofs.Passed.{front_is, front_none}
 
@@ -38,7 +38,7 @@ passes_is now share port had count next next_had lists line left x v lt at first
     subst (λ s. Passes share s (turns next next_had (set lists port left)) x) v (record {
       front = λ give. front_is give lists port x left less e;
       after =
-        ap (λ p. turns p next_had (set lists port left)) (n ∙ ap (λ k. port_after share k port had) c)
-        ∙ ap (λ q. turns (port_after share (length lists) port had) q (set lists port left)) h
-        ∙ ap (turns (port_after share (length lists) port had) (had_after share had)) (set_rest lists port x left less e);
+          ap (λ p. turns p next_had (set lists port left)) (n ∙ ap (λ k. port_after share k port had) c)
+          ∙ ap (λ q. turns (port_after share (length lists) port had) q (set lists port left)) h
+          ∙ ap (turns (port_after share (length lists) port had) (had_after share had)) (set_rest lists port x left less e);
     })

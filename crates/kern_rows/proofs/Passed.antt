@@ -1,5 +1,5 @@
 -- Items pass a joiner, one after another.
-use Rattle.std.proofs.Common.{◌≡◌, ℕ, zero, suc, ◌+◌, ◌-◌, ◌<◌, ◌≤◌, Option, Some, None, List, [], ◌∷◌, ◌++◌, length, take, drop, get_or, nat_lt, refl, sym, ap, ◌∙◌, subst, arith, append_assoc, ⊎_elim}
+use Rattle.std.proofs.Common.{◌≡◌, ℕ, zero, suc, ◌+◌, ◌<◌, ◌≤◌, Option, Some, None, List, [], ◌∷◌, ◌++◌, length, take, get_or, nat_lt, refl, sym, ap, ◌∙◌, subst, arith, append_assoc, ⊎_elim}
 use Rattle.std.specs.Prelude.{if◌then◌else◌, slice_index_or}
 use Rattle.std.specs.List.{AllByRecursion}
 use Rattle.std.proofs.Math.Nat.{le_refl}
@@ -8,11 +8,10 @@ use Rattle.std.proofs.lemmas.List.{append-nil}
 use Rattle.river_base.specs.declared.item.Item as item
 use Rattle.river_base.specs.Drain.{drain, pass_on}
 use Rattle.river_base.specs.Grew.{GrewByPrefix}
-use Rattle.river_base.specs.Places.{append_at}
 use Rattle.river_base.proofs.PlaceLemmas.{if_lt, if_ge, length-append_at}
 use Rattle.kern_rows.specs.Needs.{HaveShares, IsJoiner}
 use Rattle.kern_rows.specs.Passing.{Passes, IsStuck, SoFar, passed_by}
-use Rattle.kern_rows.specs.Turns.{Turns, IsTurn, next_port, next_had, front_in, front_at, rest_in, rest_at, front_of, passed, waiting, put, settled}
+use Rattle.kern_rows.specs.Turns.{Turns, IsTurn, next_port, next_had, front_in, front_at, rest_in, rest_at, front_of, passed, waiting, put, settled, ones}
 
 -- WHAT IS IN FRONT
 
@@ -155,11 +154,11 @@ module _ (give : item.Item → List item.Item) (ws : List ℕ) where
       record {
         n = length f.given + length (take g.n (give x));
         is =
-          g.is
-          ∙ ap (λ o. o ++ take g.n (give x)) f.grew
-          ∙ append_assoc out f.given (take g.n (give x))
-          ∙ ap (λ t. out ++ t) (sym (prefix_of f.given (give x ++ more) (length (take g.n (give x))) ∙ ap (λ t. f.given ++ t) (prefix_is (give x) more g.n)))
-          ∙ ap (λ t. out ++ take (length f.given + length (take g.n (give x))) t) (ap (λ d. f.given ++ d.0) (sym e) ∙ f.all);
+            g.is
+            ∙ ap (λ o. o ++ take g.n (give x)) f.grew
+            ∙ append_assoc out f.given (take g.n (give x))
+            ∙ ap (λ t. out ++ t) (sym (prefix_of f.given (give x ++ more) (length (take g.n (give x))) ∙ ap (λ t. f.given ++ t) (prefix_is (give x) more g.n)))
+            ∙ ap (λ t. out ++ take (length f.given + length (take g.n (give x))) t) (ap (λ d. f.given ++ d.0) (sym e) ∙ f.all);
       }
 
 -- the share that was read is that of the port in turn
@@ -168,3 +167,20 @@ passes_at ws share port now next x s p h = subst (λ k. Passes k now next x) (s 
 
 pub grew_by_none : {X : Type 0} (old new all : List X) → new ≡ old → GrewByPrefix old all new
 grew_by_none old new all e = record { n = 0; is = e ∙ sym (append-nil old) }
+
+-- each of n ports has one item in its turn
+one_at : (n p : ℕ) → p < length (ones n) → slice_index_or (ones n) p 0 ≡ 1
+one_at zero p h = absurd (omega (arith, h))
+one_at (suc n) zero h = refl
+one_at (suc n) (suc p) h = one_at n p (omega arith)
+
+pub passes_one : (n : ℕ) (now next : Turns) (x : item.Item) → now.port < length (ones n) → Passes 1 now next x → Passes (slice_index_or (ones n) now.port 0) now next x
+passes_one n now next x lt h = subst (λ k. Passes k now next x) (sym (one_at n now.port lt)) h
+
+are_ones : (n : ℕ) → AllByRecursion (λ w. 0 < w) (ones n)
+are_ones zero = tt
+are_ones (suc n) = (omega arith, are_ones n)
+
+pub ones_shares : (n : ℕ) → 0 < n → HaveShares (ones n)
+ones_shares zero h = absurd (omega (arith, h))
+ones_shares (suc n) h = (omega arith, are_ones (suc n))

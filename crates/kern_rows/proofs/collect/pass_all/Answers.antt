@@ -1,4 +1,3 @@
-use Rattle.std.proofs.Common.{refl}
 use Rattle.work_code.proofs.Running.{on_err}
 use Rattle.kern_rows.specs.Turns.{shares, itself}
 use Rattle.kern_rows.proofs.Passed.{so_far_step, so_far_less, so_far_refused, passes_at, grew_by_none}

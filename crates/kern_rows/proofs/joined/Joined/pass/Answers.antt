@@ -1,4 +1,4 @@
-use Rattle.std.proofs.Common.{◌≡◌, ◌∙◌}
+use Rattle.std.proofs.Common.{◌∙◌}
 use Rattle.kern_rows.proofs.Fronts.{stuck_is, passes_is}
 use Rattle.kern_rows.proofs.joined.Joined.pass.Goals as goal
 

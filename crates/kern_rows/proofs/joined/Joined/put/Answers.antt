@@ -1,6 +1,6 @@
-use Rattle.std.proofs.Common.{◌≡◌, ◌<◌, ◌∷◌, [], length, refl, ap, ◌∙◌}
+use Rattle.std.proofs.Common.{◌<◌, ◌∷◌, [], length, refl, ap, ◌∙◌}
 use Rattle.river_base.proofs.PlaceLemmas.{append_at_by}
-use Rattle.kern_rows.specs.Turns.{Turns, put}
+use Rattle.kern_rows.specs.Turns.{put}
 use Rattle.kern_rows.proofs.joined.Joined.put.Goals as goal
 
 pub returns : goal.returns

@@ -1,4 +1,4 @@
-use Rattle.std.proofs.Common.{◌≡◌, ap, ◌∙◌, sym, subst}
+use Rattle.std.proofs.Common.{ap, ◌∙◌, sym, subst}
 use Rattle.kern_rows.specs.Needs.{IsJoiner}
 use Rattle.kern_rows.specs.Turns.{shares, put}
 use Rattle.kern_rows.proofs.Passed.{joined_put}
