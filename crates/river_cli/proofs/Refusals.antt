@@ -9,7 +9,7 @@ use Rattle.streamit_front.specs.Reading.{Refusal}
 use Rattle.streamit_front.specs.Refusals.{Refuses}
 use Rattle.river_order.specs.Order.{Ends, Refused}
 use Rattle.river_cli.specs.declared.words.InWord.{InWord}
-use Rattle.river_cli.specs.Points.{of_program}
+use Rattle.river_cli.specs.Points.{of_program, of_plan}
 use Rattle.river_cli.specs.Says.{SaysFault}
 
 pub program-refused : (input : InWord) (read : Result Program Refusal) (f : StreamitFault) (text : List ℕ) → Refuses read f → SaysFault f text → of_program input read ≡ Ends (Refused text)
@@ -19,3 +19,11 @@ program-refused input read (fault.Lex (lex.BigNumber at)) text is says = rw (is,
 program-refused input read (fault.Lex lex.NoMemory) text is says = absurd is
 program-refused input read (fault.Syntax unit) text is says = rw (is, says) refl
 program-refused input read fault.NoMemory text is says = absurd says
+
+pub plan-refused : (read : Result Program Refusal) (f : StreamitFault) (text : List ℕ) → Refuses read f → SaysFault f text → of_plan read ≡ Ends (Refused text)
+unfolding of_plan
+plan-refused read (fault.Lex (lex.BadByte at)) text is says = rw (is, says) refl
+plan-refused read (fault.Lex (lex.BigNumber at)) text is says = rw (is, says) refl
+plan-refused read (fault.Lex lex.NoMemory) text is says = absurd is
+plan-refused read (fault.Syntax unit) text is says = rw (is, says) refl
+plan-refused read fault.NoMemory text is says = absurd says

@@ -5,7 +5,8 @@ use Rattle.river_cli.specs.Words.{is_nothing, is_file, name_part, rest_part}
 use Rattle.river_cli.specs.declared.words.Lang.{Lang}
 use Rattle.river_cli.specs.declared.words.Lang.TheVariants as lang
 use Rattle.river_cli.specs.declared.words.InWord.{InWord}
-use Rattle.river_cli.specs.declared.words.Run.{Run}
+use Rattle.river_cli.specs.declared.words.Command.{Command}
+use Rattle.river_cli.specs.declared.words.Command.TheVariants.{Run, Show}
 
 -- the language that a word names
 abbrev pub lang_of : List ℕ → Option Lang
@@ -25,13 +26,20 @@ input_of None = None
 input_of (Some input) = if bytes_eq input.name (codes "in") then Some input else None
 
 -- a run of a program file
-abbrev pub run_of : Option Lang → List ℕ → Option InWord → Option Run
+abbrev pub run_of : Option Lang → List ℕ → Option InWord → Option Command
 run_of None file input = None
 run_of (Some lang) file None = None
-run_of (Some lang) file (Some input) = if is_file file then Some (record { lang = lang; file = file; input = input }) else None
+run_of (Some lang) file (Some input) = if is_file file then Some (Run lang file input) else None
 
--- what the words command, if they are a sentence: `run LANG FILE in=FILE`
-abbrev pub command_of : List (List ℕ) → Option Run
+-- the plan of a program file
+abbrev pub show_of : Option Lang → List ℕ → Option Command
+show_of None file = None
+show_of (Some lang) file = if is_file file then Some (Show lang file) else None
+
+-- what the words command, if they are a sentence: `run LANG FILE in=FILE` or `plan LANG FILE`
+abbrev pub command_of : List (List ℕ) → Option Command
+command_of (verb ∷ lang ∷ file ∷ []) =
+    if bytes_eq verb (codes "plan") then show_of (lang_of lang) file else None
 command_of (verb ∷ lang ∷ file ∷ input ∷ []) =
     if bytes_eq verb (codes "run") then run_of (lang_of lang) file (input_of (in_word_of input)) else None
 command_of words = None

@@ -6,12 +6,15 @@ use Rattle.csv_streams.specs.Print.{printed}
 use Rattle.streamit_front.specs.Program.{Program}
 use Rattle.streamit_front.specs.Reading.{Refusal, compiled}
 use Rattle.streamit_front.specs.Meaning.{outputs_of}
+use Rattle.streamit_front.specs.Translation.{plan_of}
+use Rattle.river_print.specs.Printed.{plan_text}
 use Rattle.river_cli.specs.Text.{large_program, refusal_text, large_input, not_number}
 use Rattle.river_cli.specs.Commands.{command_of}
 use Rattle.river_cli.specs.declared.words.Lang.{Lang}
 use Rattle.river_cli.specs.declared.words.Lang.TheVariants as lang
 use Rattle.river_cli.specs.declared.words.InWord.{InWord}
-use Rattle.river_cli.specs.declared.words.Run.{Run}
+use Rattle.river_cli.specs.declared.words.Command.{Command}
+use Rattle.river_cli.specs.declared.words.Command.TheVariants.{Run, Show}
 
 -- after the input was read as CSV: the output is printed, or the first record that is no number refuses it
 unfoldable pub of_column : Program → List ℕ → Result (List ℤ) ℕ → Order
@@ -27,10 +30,20 @@ of_program input (Ok program) = Fetch input.file 67108864 (large_input input.nam
 unfoldable pub of_source : Lang → InWord → List ℕ → Order
 of_source lang.Streamit input text = of_program input (compiled text)
 
+-- after the program was compiled, where its plan is asked: it is printed
+unfoldable pub of_plan : Result Program Refusal → Order
+of_plan (Err refusal) = Ends (Refused (refusal_text refusal))
+of_plan (Ok program) = Ends (Done (plan_text (plan_of program)))
+
+-- after the program was fetched: it is compiled
+unfoldable pub of_shown : Lang → List ℕ → Order
+of_shown lang.Streamit text = of_plan (compiled text)
+
 -- after the words: the program is fetched
-unfoldable pub of_run : Run → Order
-of_run run = Fetch run.file 1048576 large_program (λ text. of_source run.lang run.input text)
+unfoldable pub of_command : Command → Order
+of_command (Run lang file input) = Fetch file 1048576 large_program (λ text. of_source lang input text)
+of_command (Show lang file) = Fetch file 1048576 large_program (λ text. of_shown lang text)
 
 -- the points of the words, if they are a sentence
 unfoldable pub points_of : List (List ℕ) → Option Order
-points_of words = option_map of_run (command_of words)
+points_of words = option_map of_command (command_of words)

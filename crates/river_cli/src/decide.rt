@@ -3,13 +3,13 @@ ghost use Rattle.std.specs.Prelude.{◌≡◌, ◌≤◌, List, ℕ, length, Som
 ghost use Rattle.river_outside.specs.Causes.{Rose};
 ghost use Rattle.river_order.specs.Decides.{Decides, IsEnd};
 ghost use Rattle.csv_streams.specs.Column.{column_of};
-ghost use Rattle.work_code.specs.Term.{term};
-ghost use Rattle.streamit_front.specs.Meaning.{IsOnItem};
 ghost use Rattle.streamit_front.specs.Program.{program_of};
-ghost use Rattle.river_cli.specs.Points.{points_of, of_run, of_source, of_program, of_column};
+ghost use Rattle.river_cli.specs.declared.words.Command.TheVariants.{Run, Show};
+ghost use Rattle.river_cli.specs.Points.{points_of, of_command, of_source, of_program, of_column};
 
+use crate::show::show;
 use crate::text;
-use crate::words::{InWord, Lang, Run, WordFault, read_words};
+use crate::words::{Command, InWord, Lang, WordFault, read_words};
 use csv_streams::{ColumnFault, print_values, read_column};
 use river_base::{Bytes, Text};
 use river_order::{Stop, take_turn};
@@ -28,28 +28,45 @@ pub fn decide<S: Shelf>(alloc: Global, words: &[Text], shelf: &mut S) -> Result<
     ensures decided { Decides (points_of words.now) (S.held shelf.old) (Rose (S.faults shelf.old) (S.faults shelf.new)) result }
 {
     match read_words(alloc, words) {
-        Ok(run) => decide_run(alloc, &run, shelf),
+        Ok(Command::Run { lang, file, input }) => {
+            decide_run(alloc, lang, file.as_slice(), &input, shelf)
+        }
+        Ok(Command::Show { lang, file }) => decide_show(alloc, lang, file.as_slice(), shelf),
         Err(WordFault::Usage) => Err(Stop::Usage),
         Err(WordFault::NoMemory) => Err(Stop::NoMemory),
     }
 }
 
-// The program is fetched.
-fn decide_run<S: Shelf>(alloc: Global, run: &Run, shelf: &mut S) -> Result<Bytes, Stop>
+// The program is fetched, to be run.
+fn decide_run<S: Shelf>(
+    alloc: Global,
+    lang: Lang,
+    file: &[u8],
+    input: &InWord,
+    shelf: &mut S,
+) -> Result<Bytes, Stop>
     ensures later { S.faults shelf.old ≤ S.faults shelf.new }
-    ensures decided { Decides (Some (of_run run.now)) (S.held shelf.old) (Rose (S.faults shelf.old) (S.faults shelf.new)) result }
+    ensures decided { Decides (Some (of_command (Run lang file.now input.now))) (S.held shelf.old) (Rose (S.faults shelf.old) (S.faults shelf.new)) result }
 {
-    let text = take_turn(
-        alloc,
-        shelf,
-        run.file.as_slice(),
-        MOST_PROGRAM,
-        text::LARGE_PROGRAM,
-    )?;
-    decide_source(alloc, run.lang, &run.input, &text, shelf)
+    let text = take_turn(alloc, shelf, file, MOST_PROGRAM, text::LARGE_PROGRAM)?;
+    decide_source(alloc, lang, input, &text, shelf)
 }
 
-// The program is compiled.
+// The program is fetched, and its plan printed.
+fn decide_show<S: Shelf>(
+    alloc: Global,
+    lang: Lang,
+    file: &[u8],
+    shelf: &mut S,
+) -> Result<Bytes, Stop>
+    ensures later { S.faults shelf.old ≤ S.faults shelf.new }
+    ensures decided { Decides (Some (of_command (Show lang file.now))) (S.held shelf.old) (Rose (S.faults shelf.old) (S.faults shelf.new)) result }
+{
+    let text = take_turn(alloc, shelf, file, MOST_PROGRAM, text::LARGE_PROGRAM)?;
+    show(alloc, lang, &text)
+}
+
+// The program is compiled, to be run.
 fn decide_source<S: Shelf>(
     alloc: Global,
     lang: Lang,
@@ -63,7 +80,7 @@ fn decide_source<S: Shelf>(
 {
     match lang {
         Lang::Streamit => match compile_streamit(alloc, text) {
-            Ok(program) => decide_program(alloc, &program, input, shelf),
+            Ok((program, _)) => decide_program(alloc, &program, input, shelf),
             Err(fault) => Err(Stop::Refused(text::refusal(alloc, fault)?)),
         },
     }
@@ -76,7 +93,6 @@ fn decide_program<S: Shelf>(
     input: &InWord,
     shelf: &mut S,
 ) -> Result<Bytes, Stop>
-    requires { IsOnItem (term program.now.value) }
     ensures later { S.faults shelf.old ≤ S.faults shelf.new }
     ensures decided { Decides (Some (of_program input.now (Ok (program_of program.now)))) (S.held shelf.old) (Rose (S.faults shelf.old) (S.faults shelf.new)) result }
 {
@@ -98,7 +114,6 @@ fn decide_column(
     name: &[u8],
     bytes: &[u8],
 ) -> Result<Bytes, Stop>
-    requires { IsOnItem (term program.now.value) }
     ensures { IsEnd (of_column (program_of program.now) name.now (column_of bytes.now)) result }
 {
     match read_column(alloc, bytes) {

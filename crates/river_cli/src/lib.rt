@@ -2,9 +2,10 @@
 #![tactic(auto)]
 
 mod decide;
+mod show;
 mod text;
 mod top;
 mod words;
 
 pub use top::river;
-pub use words::{InWord, Lang, Run, WordFault, read_words};
+pub use words::{Command, InWord, Lang, WordFault, read_words};

@@ -1,7 +1,7 @@
 // The words of the command line.
 ghost use Rattle.std.specs.Prelude.{◌≡◌, ◌↔◌, ◌≤◌, length, take, drop, Some, None, IfOk, IsErrOf};
 ghost use Rattle.river_cli.specs.Words.{is_file, is_nothing, name_part, rest_part};
-ghost use Rattle.river_cli.specs.Commands.{command_of, in_word_of, input_of, lang_of};
+ghost use Rattle.river_cli.specs.Commands.{command_of, in_word_of, input_of, lang_of, run_of, show_of};
 
 use river_base::{NoMemory, Text};
 use std::alloc::Global;
@@ -22,16 +22,25 @@ pub struct InWord {
     pub file: Text,
 }
 
-/// The command `run`, which is the only one so far: compile the program in a file, run it over its input, and print
-/// its output.
+/// A command.
 #[derive(Drop)]
-pub struct Run {
-    /// The language of the program.
-    pub lang: Lang,
-    /// The name of the program's file.
-    pub file: Text,
-    /// The input.
-    pub input: InWord,
+pub enum Command {
+    /// `run`: compile the program in a file, run it over its input, and print its output.
+    Run {
+        /// The language of the program.
+        lang: Lang,
+        /// The name of the program's file.
+        file: Text,
+        /// The input.
+        input: InWord,
+    },
+    /// `plan`: compile the program in a file, and print its plan.
+    Show {
+        /// The language of the program.
+        lang: Lang,
+        /// The name of the program's file.
+        file: Text,
+    },
 }
 
 /// Why the words command nothing.
@@ -55,31 +64,58 @@ impl From<NoMemory> for WordFault {
 
 const RUN: &[u8] = b"run";
 
+const PLAN: &[u8] = b"plan";
+
 const STREAMIT: &[u8] = b"streamit";
 
 const IN: &[u8] = b"in";
 
-/// The command that the words are. A sentence is `run streamit FILE in=FILE`; the first FILE is not empty and does not
-/// begin with `-`, and the second is not empty.
-pub fn read_words(alloc: Global, words: &[Text]) -> Result<Run, WordFault>
+/// The command that the words are. A sentence is `run streamit FILE in=FILE` or `plan streamit FILE`; the FILE behind
+/// the language is not empty and does not begin with `-`, and that behind `in=` is not empty.
+pub fn read_words(alloc: Global, words: &[Text]) -> Result<Command, WordFault>
     ensures ok { IfOk result (λ command. command_of words.now ≡ Some command) }
     ensures usage { IsErrOf result WordFault.Usage → command_of words.now ≡ None }
 {
-    let [verb, lang, file, input] = words else {
+    match words {
+        [verb, lang, file] if verb.as_slice() == PLAN => {
+            read_show(alloc, lang.as_slice(), file.as_slice())
+        }
+        [verb, lang, file, input] if verb.as_slice() == RUN => {
+            read_run(alloc, lang.as_slice(), file.as_slice(), input.as_slice())
+        }
+        _ => Err(WordFault::Usage),
+    }
+}
+
+// The words behind `run`.
+fn read_run(alloc: Global, lang: &[u8], file: &[u8], input: &[u8]) -> Result<Command, WordFault>
+    ensures ok { IfOk result (λ command. run_of (lang_of lang.now) file.now (input_of (in_word_of input.now)) ≡ Some command) }
+    ensures usage { IsErrOf result WordFault.Usage → run_of (lang_of lang.now) file.now (input_of (in_word_of input.now)) ≡ None }
+{
+    let Some(lang) = read_lang(lang) else {
         return Err(WordFault::Usage);
     };
-    if verb.as_slice() != RUN {
+    let input = read_input(alloc, input)?;
+    if !is_file(file) {
         return Err(WordFault::Usage);
     }
-    let Some(lang) = read_lang(lang.as_slice()) else {
+    let file = Text::from_slice(alloc, file)?;
+    Ok(Command::Run { lang, file, input })
+}
+
+// The words behind `plan`.
+fn read_show(alloc: Global, lang: &[u8], file: &[u8]) -> Result<Command, WordFault>
+    ensures ok { IfOk result (λ command. show_of (lang_of lang.now) file.now ≡ Some command) }
+    ensures usage { IsErrOf result WordFault.Usage → show_of (lang_of lang.now) file.now ≡ None }
+{
+    let Some(lang) = read_lang(lang) else {
         return Err(WordFault::Usage);
     };
-    let input = read_input(alloc, input.as_slice())?;
-    if !is_file(file.as_slice()) {
+    if !is_file(file) {
         return Err(WordFault::Usage);
     }
-    let file = Text::from_slice(alloc, file.as_slice())?;
-    Ok(Run { lang, file, input })
+    let file = Text::from_slice(alloc, file)?;
+    Ok(Command::Show { lang, file })
 }
 
 fn read_lang(word: &[u8]) -> Option<Lang>

@@ -1,1 +1,4 @@
 pub mod Grammar
+pub mod Places
+pub mod Plans
+pub mod Words

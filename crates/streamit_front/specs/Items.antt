@@ -1,5 +1,5 @@
 -- Expressions on the one item that a filter pops.
-use Rattle.std.specs.Prelude.{ℕ, ◌+◌, ◌==◌, pos, Option, None, Some, if◌then◌else◌}
+use Rattle.std.specs.Prelude.{ℕ, ◌+◌, ◌==◌, ◌&&◌, pos, Bool, true, false, IsTrue, nat_lt, Option, None, Some, if◌then◌else◌}
 use Rattle.work_code.specs.Term.{Term}
 use Rattle.work_code.specs.Term as term
 use Rattle.work_code.specs.declared.expr.BinOp.{BinOp}
@@ -43,3 +43,15 @@ on_item (tree.Bin o a b) = both_terms (term.Bin o) (on_item a) (on_item b)
 -- an expression that pops exactly one item
 abbrev pub item_value : Spoken → Option Term
 item_value t = if pops t == 1 then on_item t else None
+
+-- the expression speaks of nothing but the item
+abbrev pub is_on_item : Term → Bool
+is_on_item (term.Const z) = true
+is_on_item (term.Input place) = nat_lt place 1
+is_on_item (term.Slot slot) = false
+is_on_item (term.Neg t) = is_on_item t
+is_on_item (term.Not t) = is_on_item t
+is_on_item (term.Bin o l r) = is_on_item l && is_on_item r
+
+abbrev pub IsOnItem : Term → Type 0
+IsOnItem t = IsTrue (is_on_item t)

@@ -6,3 +6,4 @@ pub mod Meaning
 pub mod Program
 pub mod Reading
 pub mod Refusals
+pub mod Translation

@@ -2,7 +2,7 @@
 -- `push 1 pop 1`: firing j takes item j and pushes one item).
 use Rattle.std.specs.Prelude.{ℤ, List, [], ◌∷◌, map}
 use Rattle.work_code.specs.Term.{Term}
-use Rattle.work_code.specs.Value.{val, IsWithin}
+use Rattle.work_code.specs.Value.{val}
 use Rattle.streamit_front.specs.Program.{Program}
 
 -- the value of an expression for one item
@@ -12,7 +12,3 @@ value_on t x = val t (x ∷ []) []
 -- item j of the output is the value of the expression for item j of the input
 abbrev pub outputs_of : Program → List ℤ → List ℤ
 outputs_of p xs = map (value_on p.value) xs
-
--- the expression speaks of nothing but the item
-abbrev pub IsOnItem : Term → Type 0
-IsOnItem t = IsWithin 1 0 t

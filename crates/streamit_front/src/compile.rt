@@ -1,32 +1,47 @@
-// From the text of a program to its tree.
+// From the text of a program to its tree and its plan.
 ghost use Rattle.std.specs.Prelude.{◌≡◌, ◌<◌, ◌^◌, length, IfOk, IfErr, Ok};
-ghost use Rattle.work_code.specs.Term.{term};
-ghost use Rattle.streamit_front.specs.Meaning.{IsOnItem};
 ghost use Rattle.streamit_front.specs.Program.{program_of};
 ghost use Rattle.streamit_front.specs.Reading.{compiled};
 ghost use Rattle.streamit_front.specs.Refusals.{Refuses};
 ghost use Rattle.streamit_front.specs.Reading.{program_at, or_syntax};
+ghost use Rattle.streamit_front.specs.Translation.{plan_of};
 ghost use Rattle.text_forms.specs.Texts.{whole};
 ghost use Rattle.work_code.specs.Tok.{toks};
 
 use crate::StreamitProgram;
 use crate::fault::StreamitFault;
 use crate::reading::program;
+use crate::translate::plan;
 use river_base::Bytes;
+use river_plan::Plan;
 use std::alloc::Global;
 use text_forms::{Fault, Reader};
 use work_code::{LexFault, Tokens, lex};
 
-/// The program of a text.
+/// The program of a text, and its plan.
 ///
 /// # Errors
 ///
 /// `Lex` with the first fault of the text where its bytes have no tokens; otherwise `Syntax` with unit 1 where they are
 /// no program.
-pub fn compile_streamit(alloc: Global, text: &Bytes) -> Result<StreamitProgram, StreamitFault>
+pub fn compile_streamit(
+    alloc: Global,
+    text: &Bytes,
+) -> Result<(StreamitProgram, Plan), StreamitFault>
+    requires { length text.now < 2 ^ 32 }
+    ensures read { IfOk result (λ made. compiled text.now ≡ Ok (program_of made.0)) }
+    ensures plan { IfOk result (λ made. made.1 ≡ plan_of (program_of made.0)) }
+    ensures refused { IfErr result (Refuses (compiled text.now)) }
+{
+    let program = compile(alloc, text)?;
+    let plan = plan(alloc, &program)?;
+    Ok((program, plan))
+}
+
+// The program of a text.
+fn compile(alloc: Global, text: &Bytes) -> Result<StreamitProgram, StreamitFault>
     requires { length text.now < 2 ^ 32 }
     ensures read { IfOk result (λ p. compiled text.now ≡ Ok (program_of p)) }
-    ensures within { IfOk result (λ p. IsOnItem (term p.value)) }
     ensures refused { IfErr result (Refuses (compiled text.now)) }
 {
     match lex(alloc, text) {
@@ -39,7 +54,6 @@ pub fn compile_streamit(alloc: Global, text: &Bytes) -> Result<StreamitProgram, 
 
 fn read(alloc: Global, tokens: &Tokens<'_>) -> Result<StreamitProgram, StreamitFault>
     ensures read { IfOk result (λ p. or_syntax (whole program_at (toks tokens.now)) ≡ Ok (program_of p)) }
-    ensures within { IfOk result (λ p. IsOnItem (term p.value)) }
     ensures refused { IfErr result (Refuses (or_syntax (whole program_at (toks tokens.now)))) }
 {
     let mut reader = Reader::new(tokens.as_slice());

@@ -1,5 +1,6 @@
 // Why a text is no program.
 
+use river_base::NoMemory;
 use work_code::LexFault;
 
 /// Why a text is no program.
@@ -11,4 +12,15 @@ pub enum StreamitFault {
     Syntax { unit: u32 },
     /// There was no memory.
     NoMemory,
+}
+
+impl From<NoMemory> for StreamitFault {
+    ghost use Rattle.std.specs.Prelude.{◌≡◌};
+    ghost use Rattle.streamit_front.specs.declared.fault.StreamitFault.TheVariants as fault;
+
+    ghost from_gives = { λ _ f. f ≡ fault.NoMemory };
+
+    fn from(_: NoMemory) -> Self {
+        StreamitFault::NoMemory
+    }
 }

@@ -3,9 +3,8 @@ ghost use Rattle.std.specs.Prelude.{◌≡◌, min, IfOk};
 ghost use Rattle.text_forms.specs.Gives.{Gives};
 ghost use Rattle.text_forms.specs.Tree.{spoken};
 ghost use Rattle.work_code.specs.Term.{term};
-ghost use Rattle.streamit_front.specs.Items.{pops, on_item};
+ghost use Rattle.streamit_front.specs.Items.{pops, on_item, IsOnItem};
 ghost use Rattle.streamit_front.specs.Made.{Makes};
-ghost use Rattle.streamit_front.specs.Meaning.{IsOnItem};
 ghost use Rattle.streamit_front.specs.Reading.{item_value_at};
 
 use std::alloc::Global;

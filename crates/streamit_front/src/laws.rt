@@ -1,5 +1,5 @@
 //! Laws over the definitions alone.
-ghost use Rattle.streamit_front.specs.Laws.{ReadsWhatIsWritten, ReadsAllThatIsWritten, OneProgram, RefusesWhatIsNotWritten};
+ghost use Rattle.streamit_front.specs.Laws.{ReadsWhatIsWritten, ReadsAllThatIsWritten, OneProgram, RefusesWhatIsNotWritten, PlansAreValid, LabelsAreNames};
 
 /// What is read of a text is what the grammar says, and there is one such program at most.
 #[tactic(auto, using(crate::proofs::Grammar::reads_what_is_written, crate::proofs::Grammar::reads_all_that_is_written))]
@@ -12,4 +12,10 @@ pub fn reading_is_the_grammar()
 /// A text that is refused for its unit stands for no program.
 pub fn what_is_refused_is_no_program()
     ensures { RefusesWhatIsNotWritten }
+{}
+
+/// The plan of a text's program is valid, and the name of its operator is a name.
+pub fn plans_are_valid()
+    ensures valid { PlansAreValid }
+    ensures named { LabelsAreNames }
 {}

@@ -8,6 +8,7 @@ pub mod laws;
 mod program;
 mod reading;
 mod running;
+mod translate;
 
 pub use compile::compile_streamit;
 pub use fault::StreamitFault;

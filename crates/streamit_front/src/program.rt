@@ -1,4 +1,7 @@
 // The tree of a program.
+ghost use Rattle.work_code.specs.Term.{term};
+ghost use Rattle.streamit_front.specs.Items.{IsOnItem};
+
 use river_base::Bytes;
 use work_code::Expr;
 
@@ -10,4 +13,5 @@ pub struct StreamitProgram {
     pub name: Bytes,
     /// The expression that is pushed: numbers and operators, and input 0 once, which is the item that was popped.
     pub value: Expr,
+    ghost on_item: { IsOnItem (term value) },
 }

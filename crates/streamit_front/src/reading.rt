@@ -1,7 +1,7 @@
 // Reads a program from its tokens.
 ghost use Rattle.std.specs.Prelude.{◌≡◌, codes, IfOk};
 ghost use Rattle.work_code.specs.Term.{term};
-ghost use Rattle.streamit_front.specs.Meaning.{IsOnItem};
+ghost use Rattle.streamit_front.specs.Items.{IsOnItem};
 ghost use Rattle.text_forms.specs.Gives.{Gives};
 ghost use Rattle.text_forms.specs.Parse.{tested, number_at};
 ghost use Rattle.streamit_front.specs.Grammar.{is_one};
@@ -62,8 +62,7 @@ fn one(reader: &mut Reader<'_>) -> Result<u64, Fault>
 // "int" "->" "int" "filter" NAME "{" "work" work
 #[tactic(auto, unfolding(crate::specs::Reading::program_at))]
 pub fn program(reader: &mut Reader<'_>, alloc: Global) -> Result<StreamitProgram, Fault>
-    ensures reads { Gives program_of result reader.new (program_at reader.old) }
-    ensures within { IfOk result (λ p. IsOnItem (term p.value)) }
+    ensures { Gives program_of result reader.new (program_at reader.old) }
 {
     reader.word(b"int")?;
     reader.expect(&[Symbol::Arrow])?;

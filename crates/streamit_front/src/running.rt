@@ -1,18 +1,15 @@
 // Runs a program on all the items of its input.
 ghost use Rattle.std.specs.Prelude.{◌≡◌, IfOk};
-ghost use Rattle.work_code.specs.Term.{term};
 ghost use Rattle.streamit_front.specs.Program.{program_of};
-ghost use Rattle.streamit_front.specs.Meaning.{IsOnItem, outputs_of};
+ghost use Rattle.streamit_front.specs.Meaning.{outputs_of};
 
 use crate::StreamitProgram;
 use river_base::{NoMemory, Numbers};
 use std::alloc::Global;
 use work_code::eval;
 
-/// The items of the program's output, for these items of its input. The condition holds of each program that
-/// `compile_streamit` gives.
+/// The items of the program's output, for these items of its input.
 pub fn run(alloc: Global, program: &StreamitProgram, values: &Numbers) -> Result<Numbers, NoMemory>
-    requires { IsOnItem (term program.now.value) }
     ensures { IfOk result (λ out. out ≡ outputs_of (program_of program.now) values.now) }
 {
     let mut out = Numbers::new(alloc);

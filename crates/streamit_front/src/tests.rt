@@ -12,7 +12,7 @@ fn output_of(alloc: Global, text: &Bytes) -> Result<Numbers, StreamitFault> {
     if text.len() > 100_000 {
         return Err(StreamitFault::NoMemory);
     }
-    let program = compile_streamit(alloc, text)?;
+    let (program, _) = compile_streamit(alloc, text)?;
     let mut values = Numbers::new(alloc);
     match values.push(3) {
         Ok(()) => {}

@@ -2,9 +2,13 @@ use Rattle.std.proofs.Common.{refl}
 use Rattle.river_cli.specs.Points.{points_of}
 use Rattle.river_cli.proofs.decide.decide.Goals as goal
 
-pub returns-in-Ok-clause-decided : goal.returns-in-Ok-clause-decided
+pub returns-in-Ok-Run-clause-decided : goal.returns-in-Ok-Run-clause-decided
 unfolding points_of
-returns-in-Ok-clause-decided g c = rw c.in-Ok.ensures.ok c.decide_run.ensures.decided
+returns-in-Ok-Run-clause-decided g c = ?
+
+pub returns-in-Ok-Show-clause-decided : goal.returns-in-Ok-Show-clause-decided
+unfolding points_of
+returns-in-Ok-Show-clause-decided g c = ?
 
 pub returns-in-Err-Usage-clause-decided : goal.returns-in-Err-Usage-clause-decided
 unfolding points_of

@@ -1,19 +1,9 @@
-use Rattle.std.proofs.Common.{rules}
-use Rattle.streamit_front.specs.Reading.{compiled}
+use Rattle.streamit_front.specs.Program.{program_of}
+use Rattle.streamit_front.proofs.Plans.{plans_are_valid, labels_are_names}
 use Rattle.streamit_front.proofs.compile.compile_streamit.Goals as goal
 
-pub returns-in-Ok-clause-read : goal.returns-in-Ok-clause-read
-unfolding compiled
-returns-in-Ok-clause-read c = rw c.in-Ok.ensures c.read.ensures.read
+pub plan-requires-clause-named : goal.plan-requires-clause-named
+plan-requires-clause-named c = labels_are_names c.args.text.now (program_of c.in_ok-program.program) c.in_ok-program.ensures.read
 
-pub returns-in-Ok-clause-refused : goal.returns-in-Ok-clause-refused
-unfolding compiled
-returns-in-Ok-clause-refused c = rw c.in-Ok.ensures c.read.ensures.refused
-
-pub returns-in-Err-BadByte : goal.returns-in-Err-BadByte
-unfolding compiled
-returns-in-Err-BadByte c = search rules
-
-pub returns-in-Err-BigNumber : goal.returns-in-Err-BigNumber
-unfolding compiled
-returns-in-Err-BigNumber c = search rules
+pub plan-requires-clause-valid : goal.plan-requires-clause-valid
+plan-requires-clause-valid c = plans_are_valid c.args.text.now (program_of c.in_ok-program.program) c.in_ok-program.ensures.read
