@@ -1,2 +1,3 @@
+pub mod PlanTexts
 pub mod Refusals
 pub mod Told

@@ -4,8 +4,9 @@ ghost use Rattle.river_outside.specs.Causes.{Rose};
 ghost use Rattle.river_order.specs.Decides.{Decides, IsEnd};
 ghost use Rattle.csv_streams.specs.Column.{column_of};
 ghost use Rattle.streamit_front.specs.Program.{program_of};
+ghost use Rattle.streamit_front.specs.Reading.{compiled};
 ghost use Rattle.river_cli.specs.declared.words.Command.TheVariants.{Run, Show};
-ghost use Rattle.river_cli.specs.Points.{points_of, of_command, of_source, of_program, of_column};
+ghost use Rattle.river_cli.specs.Points.{points_of, of_command, of_program, of_column};
 
 use crate::show::show;
 use crate::text;
@@ -28,9 +29,7 @@ pub fn decide<S: Shelf>(alloc: Global, words: &[Text], shelf: &mut S) -> Result<
     ensures decided { Decides (points_of words.now) (S.held shelf.old) (Rose (S.faults shelf.old) (S.faults shelf.new)) result }
 {
     match read_words(alloc, words) {
-        Ok(Command::Run { lang, file, input }) => {
-            decide_run(alloc, lang, file.as_slice(), &input, shelf)
-        }
+        Ok(Command::Run { file, input }) => decide_run(alloc, file.as_slice(), &input, shelf),
         Ok(Command::Show { lang, file }) => decide_show(alloc, lang, file.as_slice(), shelf),
         Err(WordFault::Usage) => Err(Stop::Usage),
         Err(WordFault::NoMemory) => Err(Stop::NoMemory),
@@ -40,16 +39,15 @@ pub fn decide<S: Shelf>(alloc: Global, words: &[Text], shelf: &mut S) -> Result<
 // The program is fetched, to be run.
 fn decide_run<S: Shelf>(
     alloc: Global,
-    lang: Lang,
     file: &[u8],
     input: &InWord,
     shelf: &mut S,
 ) -> Result<Bytes, Stop>
     ensures later { S.faults shelf.old ≤ S.faults shelf.new }
-    ensures decided { Decides (Some (of_command (Run lang file.now input.now))) (S.held shelf.old) (Rose (S.faults shelf.old) (S.faults shelf.new)) result }
+    ensures decided { Decides (Some (of_command (Run file.now input.now))) (S.held shelf.old) (Rose (S.faults shelf.old) (S.faults shelf.new)) result }
 {
     let text = take_turn(alloc, shelf, file, MOST_PROGRAM, text::LARGE_PROGRAM)?;
-    decide_source(alloc, lang, input, &text, shelf)
+    decide_source(alloc, input, &text, shelf)
 }
 
 // The program is fetched, and its plan printed.
@@ -69,20 +67,17 @@ fn decide_show<S: Shelf>(
 // The program is compiled, to be run.
 fn decide_source<S: Shelf>(
     alloc: Global,
-    lang: Lang,
     input: &InWord,
     text: &Bytes,
     shelf: &mut S,
 ) -> Result<Bytes, Stop>
     requires { length text.now ≤ 1048576 }
     ensures later { S.faults shelf.old ≤ S.faults shelf.new }
-    ensures decided { Decides (Some (of_source lang input.now text.now)) (S.held shelf.old) (Rose (S.faults shelf.old) (S.faults shelf.new)) result }
+    ensures decided { Decides (Some (of_program input.now (compiled text.now))) (S.held shelf.old) (Rose (S.faults shelf.old) (S.faults shelf.new)) result }
 {
-    match lang {
-        Lang::Streamit => match compile_streamit(alloc, text) {
-            Ok((program, _)) => decide_program(alloc, &program, input, shelf),
-            Err(fault) => Err(Stop::Refused(text::refusal(alloc, fault)?)),
-        },
+    match compile_streamit(alloc, text) {
+        Ok(made) => decide_program(alloc, &made.0, input, shelf),
+        Err(fault) => Err(Stop::Refused(text::refusal(alloc, fault)?)),
     }
 }
 

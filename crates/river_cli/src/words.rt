@@ -9,6 +9,8 @@ use std::alloc::Global;
 /// A source language.
 #[derive(Clone, Copy, Debug, PartialEq, Eq)]
 pub enum Lang {
+    /// River text.
+    River,
     /// StreamIt.
     Streamit,
 }
@@ -25,10 +27,8 @@ pub struct InWord {
 /// A command.
 #[derive(Drop)]
 pub enum Command {
-    /// `run`: compile the program in a file, run it over its input, and print its output.
+    /// `run`: compile the StreamIt program in a file, run it over its input, and print its output.
     Run {
-        /// The language of the program.
-        lang: Lang,
         /// The name of the program's file.
         file: Text,
         /// The input.
@@ -66,12 +66,14 @@ const RUN: &[u8] = b"run";
 
 const PLAN: &[u8] = b"plan";
 
+const RIVER: &[u8] = b"river";
+
 const STREAMIT: &[u8] = b"streamit";
 
 const IN: &[u8] = b"in";
 
-/// The command that the words are. A sentence is `run streamit FILE in=FILE` or `plan streamit FILE`; the FILE behind
-/// the language is not empty and does not begin with `-`, and that behind `in=` is not empty.
+/// The command that the words are. A sentence is `run streamit FILE in=FILE`, `plan river FILE` or `plan streamit FILE`;
+/// the FILE behind the language is not empty and does not begin with `-`, and that behind `in=` is not empty.
 pub fn read_words(alloc: Global, words: &[Text]) -> Result<Command, WordFault>
     ensures ok { IfOk result (λ command. command_of words.now ≡ Some command) }
     ensures usage { IsErrOf result WordFault.Usage → command_of words.now ≡ None }
@@ -89,18 +91,15 @@ pub fn read_words(alloc: Global, words: &[Text]) -> Result<Command, WordFault>
 
 // The words behind `run`.
 fn read_run(alloc: Global, lang: &[u8], file: &[u8], input: &[u8]) -> Result<Command, WordFault>
-    ensures ok { IfOk result (λ command. run_of (lang_of lang.now) file.now (input_of (in_word_of input.now)) ≡ Some command) }
-    ensures usage { IsErrOf result WordFault.Usage → run_of (lang_of lang.now) file.now (input_of (in_word_of input.now)) ≡ None }
+    ensures ok { IfOk result (λ command. run_of lang.now file.now (input_of (in_word_of input.now)) ≡ Some command) }
+    ensures usage { IsErrOf result WordFault.Usage → run_of lang.now file.now (input_of (in_word_of input.now)) ≡ None }
 {
-    let Some(lang) = read_lang(lang) else {
-        return Err(WordFault::Usage);
-    };
     let input = read_input(alloc, input)?;
-    if !is_file(file) {
+    if lang != STREAMIT || !is_file(file) {
         return Err(WordFault::Usage);
     }
     let file = Text::from_slice(alloc, file)?;
-    Ok(Command::Run { lang, file, input })
+    Ok(Command::Run { file, input })
 }
 
 // The words behind `plan`.
@@ -121,7 +120,9 @@ fn read_show(alloc: Global, lang: &[u8], file: &[u8]) -> Result<Command, WordFau
 fn read_lang(word: &[u8]) -> Option<Lang>
     ensures { result ≡ lang_of word.now }
 {
-    if word == STREAMIT {
+    if word == RIVER {
+        Some(Lang::River)
+    } else if word == STREAMIT {
         Some(Lang::Streamit)
     } else {
         None

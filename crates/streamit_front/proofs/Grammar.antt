@@ -1,7 +1,7 @@
 -- The reading function is exact for the grammar.
 use Rattle.std.proofs.Common.{◌≡◌, ℕ, List, [], ◌∷◌, Option, Some, None, refl, sym, ap, ◌∙◌}
 use Rattle.std.specs.Prelude.{Result, Ok, Err, codes}
-use Rattle.work_code.specs.Tok.{Tok, Mark, toks}
+use Rattle.work_code.specs.Tok.{Mark, toks}
 use Rattle.work_code.specs.Lexis.{tokens_in}
 use Rattle.work_code.specs.Term.{Term}
 use Rattle.work_code.specs.declared.fault.LexFault.{LexFault}
@@ -16,7 +16,7 @@ use Rattle.text_forms.proofs.Ladder.{Ends, exact-expr}
 use Rattle.text_forms.proofs.Texts.{whole-sound, whole-complete}
 use Rattle.streamit_front.specs.Program.{Program}
 use Rattle.streamit_front.specs.Items.{item_value}
-use Rattle.streamit_front.specs.Grammar.{is_one, made, IsItemValue, IsBody, IsWork, IsProgram, IsText}
+use Rattle.streamit_front.specs.Grammar.{is_one, made, IsItemValue, IsBody, IsWork, IsProgram}
 use Rattle.streamit_front.specs.Reading.{Refusal, Syntax, item_value_at, body_at, work_at, program_at, or_syntax, read_marks, compiled}
 use Rattle.streamit_front.specs.Laws.{ReadsWhatIsWritten, ReadsAllThatIsWritten, OneProgram, RefusesWhatIsNotWritten}
 

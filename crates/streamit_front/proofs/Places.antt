@@ -1,6 +1,6 @@
 -- An expression that speaks of nothing but the item has no other place and no slot.
-use Rattle.std.proofs.Common.{◌≡◌, ℕ, ◌<◌, Bool, true, false, refl, arith}
-use Rattle.std.specs.Prelude.{◌&&◌, nat_lt}
+use Rattle.std.proofs.Common.{◌≡◌, Bool, true, false, refl, arith}
+use Rattle.std.specs.Prelude.{◌&&◌}
 use Rattle.work_code.specs.Term.{Term, Const, Input, Slot, Neg, Not, Bin}
 use Rattle.work_code.specs.Value.{IsWithin}
 use Rattle.streamit_front.specs.Items.{is_on_item, IsOnItem}

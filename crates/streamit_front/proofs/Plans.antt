@@ -1,20 +1,17 @@
 -- The plan of a text's program is valid, and the name of its operator is a name.
-use Rattle.std.proofs.Common.{◌≡◌, ℕ, suc, ◌+◌, ◌<◌, ◌≤◌, ◌⊎◌, inl, inr, Bool, true, false, List, [], ◌∷◌, ◌++◌, length, Option, Some, None, refl, sym, ap, ◌∙◌, subst, arith, ⊎_elim, length-append}
-use Rattle.std.specs.Prelude.{Result, Ok, codes, pos, IsTrue, All, max, nat_le, nat_lt, ◌&&◌, ◌||◌, ◌==◌, not, if◌then◌else◌}
-use Rattle.std.specs.List.{list_all, list_any}
-use Rattle.std.specs.Str.{bytes_eq}
+use Rattle.std.proofs.Common.{◌≡◌, ℕ, suc, ◌+◌, ◌≤◌, Bool, true, false, List, [], ◌∷◌, ◌++◌, length, Option, Some, None, refl, sym, ap, ◌∙◌, subst, arith, ⊎_elim, length-append}
+use Rattle.std.specs.Prelude.{codes, pos, IsTrue, All, max, nat_le, ◌&&◌, ◌||◌, ◌==◌, if◌then◌else◌}
+use Rattle.std.specs.List.{list_all}
 use Rattle.std.proofs.lemmas.List.Elements.{All-nil, All-cons}
 use Rattle.std.proofs.lemmas.List.Folds.{list_all-append}
 use Rattle.river_base.specs.Name as base
-use Rattle.river_kernels.specs.Formed.{is_sound, is_term, is_filter}
-use Rattle.river_kernels.specs.Fits.{Fits, rows}
-use Rattle.river_kernels.specs.Kern.{filter}
+use Rattle.river_kernels.specs.Formed.{is_sound, is_term}
 use Rattle.river_kernels.specs.declared.limit.Limit.{Limit}
 use Rattle.river_kernels.specs.declared.limit.Limit.TheVariants as limit
 use Rattle.river_kernels.specs.declared.types.VarKind.{VarKind}
 use Rattle.river_kernels.specs.declared.types.VarKind.TheVariants.{Private}
 use Rattle.river_plan.specs.Forms.{Name}
-use Rattle.river_plan.specs.Names.{one_if, count}
+use Rattle.river_plan.specs.Names.{one_if}
 use Rattle.river_plan.specs.Faults.{IsOuter, HasWidth, IsTable}
 use Rattle.river_plan.specs.Kinds.{IsFit, var_kind}
 use Rattle.river_plan.specs.Limits.{numbers, most_of}
@@ -23,20 +20,19 @@ use Rattle.river_plan.proofs.NameLemmas.{name_same, cases_name}
 use Rattle.work_code.specs.Lexis.{is_letter, is_digit, is_word, first_is}
 use Rattle.work_code.specs.Term.{Term}
 use Rattle.work_code.specs.Term as term
-use Rattle.work_code.specs.Tok.{Tok, toks, name}
+use Rattle.work_code.specs.Tok.{Tok, toks}
 use Rattle.text_forms.specs.declared.language.Language.TheVariants.{StreamIt}
-use Rattle.text_forms.specs.Language.{is_plain, is_free, keywords}
+use Rattle.text_forms.specs.Language.{is_plain}
 use Rattle.text_forms.specs.Parse.{is_value, is_short}
 use Rattle.text_forms.specs.Tree.{Spoken}
 use Rattle.text_forms.specs.Tree as tree
 use Rattle.streamit_front.specs.Grammar.{IsText, IsProgram, IsItemValue}
-use Rattle.streamit_front.specs.Items.{on_item, one_term, both_terms, pops, item_value}
+use Rattle.streamit_front.specs.Items.{on_item, one_term, both_terms, pops}
 use Rattle.streamit_front.specs.Laws.{PlansAreValid, LabelsAreNames}
 use Rattle.streamit_front.specs.Program.{Program}
-use Rattle.streamit_front.specs.Reading.{compiled}
-use Rattle.streamit_front.specs.Translation.{label_of, values_in, plan_of, op_of, filter_of}
+use Rattle.streamit_front.specs.Translation.{label_of, values_in, plan_of, op_of}
 use Rattle.streamit_front.proofs.Grammar.{reads_what_is_written}
-use Rattle.streamit_front.proofs.Words.{IsWord, AllWorded, Worded, names_are_words}
+use Rattle.streamit_front.proofs.Words.{IsWord, AllWorded, names_are_words}
 
 -- ---- THE EXPRESSION
 

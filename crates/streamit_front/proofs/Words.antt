@@ -1,12 +1,12 @@
 -- The names of a text are words: a letter or `_`, and behind it letters, digits, `_` and `@`.
-use Rattle.std.proofs.Common.{◌≡◌, ℕ, zero, suc, ◌+◌, ◌-◌, Bool, true, false, cond, List, [], ◌∷◌, take, drop, refl, sym, ap, subst, arith}
-use Rattle.std.specs.Prelude.{Option, Some, None, Result, Ok, Err, ◌&&◌, ◌||◌, ◌==◌, if◌then◌else◌, nat_lt}
+use Rattle.std.proofs.Common.{◌≡◌, ℕ, zero, suc, ◌+◌, ◌-◌, Bool, true, false, cond, List, [], ◌∷◌, take, drop, refl, sym, subst, arith}
+use Rattle.std.specs.Prelude.{Option, Some, None, Result, Ok, Err, ◌&&◌, if◌then◌else◌, nat_lt}
 use Rattle.std.specs.List.{prefix_len, list_all}
 use Rattle.work_code.specs.declared.sign.Symbol.{Symbol}
 use Rattle.work_code.specs.declared.fault.LexFault.{LexFault}
 use Rattle.work_code.specs.declared.fault.LexFault.TheVariants.{BadByte, BigNumber}
 use Rattle.work_code.specs.Symbols.{short_symbol, long_symbol}
-use Rattle.work_code.specs.Lexis.{Piece, blank, token, bad, big, marks, with_mark, piece_at, first_is, begins_with, is_blank, is_letter, is_digit, is_word, is_in_line, block_end, block_piece, name_piece, var_piece, number_piece, symbol_piece, short_piece, long_piece, decimal_from, most, tokens_in}
+use Rattle.work_code.specs.Lexis.{Piece, blank, token, bad, big, marks, with_mark, piece_at, first_is, begins_with, is_blank, is_letter, is_digit, is_word, block_end, block_piece, name_piece, var_piece, number_piece, symbol_piece, short_piece, long_piece, decimal_from, most, tokens_in}
 use Rattle.work_code.specs.Tok.{Tok, Mark, name, var, number, symbol, toks}
 
 abbrev pub IsWord : List ℕ → Type 0

@@ -1,9 +1,8 @@
 -- Which texts are programs (the StreamIt language, cut to filters of one form).
-use Rattle.std.specs.Prelude.{◌≡◌, ℕ, List, [], ◌∷◌, codes, ◌==◌, Bool, Result, Ok}
+use Rattle.std.specs.Prelude.{◌≡◌, ℕ, List, [], ◌∷◌, codes, ◌==◌, Bool, Ok}
 use Rattle.work_code.specs.Tok.{Tok, Mark, toks}
 use Rattle.work_code.specs.Lexis.{tokens_in}
 use Rattle.work_code.specs.Term.{Term}
-use Rattle.work_code.specs.declared.fault.LexFault.{LexFault}
 use Rattle.work_code.specs.declared.sign.Symbol.TheVariants.{Arrow, Open, Close, OpenBrace, CloseBrace, Semicolon}
 use Rattle.text_forms.specs.declared.language.Language.TheVariants.{StreamIt}
 use Rattle.text_forms.specs.Language.{is_plain}

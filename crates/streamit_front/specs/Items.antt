@@ -2,7 +2,6 @@
 use Rattle.std.specs.Prelude.{ℕ, ◌+◌, ◌==◌, ◌&&◌, pos, Bool, true, false, IsTrue, nat_lt, Option, None, Some, if◌then◌else◌}
 use Rattle.work_code.specs.Term.{Term}
 use Rattle.work_code.specs.Term as term
-use Rattle.work_code.specs.declared.expr.BinOp.{BinOp}
 use Rattle.text_forms.specs.Parse.{is_value}
 use Rattle.text_forms.specs.Tree.{Spoken}
 use Rattle.text_forms.specs.Tree as tree

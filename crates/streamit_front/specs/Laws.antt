@@ -1,13 +1,10 @@
 -- What is true of all texts.
-use Rattle.std.specs.Prelude.{◌≡◌, ℕ, List, Result, Ok, Err, IsTrue}
+use Rattle.std.specs.Prelude.{◌≡◌, ℕ, List, Ok, Err, IsTrue}
 use Rattle.river_base.specs.Name.{is_name}
 use Rattle.river_plan.specs.Valid.{IsPlan}
-use Rattle.work_code.specs.Tok.{Mark}
-use Rattle.work_code.specs.Lexis.{tokens_in}
-use Rattle.work_code.specs.declared.fault.LexFault.{LexFault}
 use Rattle.streamit_front.specs.Program.{Program}
 use Rattle.streamit_front.specs.Grammar.{IsText}
-use Rattle.streamit_front.specs.Reading.{Refusal, Syntax, compiled}
+use Rattle.streamit_front.specs.Reading.{Syntax, compiled}
 use Rattle.streamit_front.specs.Translation.{label_of, plan_of}
 
 -- the program of a text is the one that the grammar says

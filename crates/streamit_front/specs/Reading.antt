@@ -1,6 +1,6 @@
 -- The program of a text, or why it is none.
 use Rattle.std.specs.Prelude.{ℕ, List, [], ◌∷◌, codes, Option, Some, None, Result, Ok, Err}
-use Rattle.work_code.specs.Tok.{Tok, Mark, toks}
+use Rattle.work_code.specs.Tok.{Mark, toks}
 use Rattle.work_code.specs.Lexis.{tokens_in}
 use Rattle.work_code.specs.Term.{Term}
 use Rattle.work_code.specs.declared.fault.LexFault.{LexFault}

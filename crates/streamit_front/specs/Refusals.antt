@@ -1,5 +1,5 @@
 -- Why a text is no program.
-use Rattle.std.specs.Prelude.{◌≡◌, ℕ, Result, Err}
+use Rattle.std.specs.Prelude.{◌≡◌, Result, Err}
 use Rattle.work_code.specs.declared.fault.LexFault.TheVariants as lex
 use Rattle.streamit_front.specs.declared.fault.StreamitFault.{StreamitFault}
 use Rattle.streamit_front.specs.declared.fault.StreamitFault.TheVariants.{Lex, Syntax, NoMemory}

@@ -1,6 +1,5 @@
 -- The plan of a program: one operator, which runs the filter's expression on each row of the input.
-use Rattle.std.specs.Prelude.{◌≡◌, ℕ, List, [], ◌∷◌, ◌++◌, IsTrue, codes}
-use Rattle.river_base.specs.Name.{is_name}
+use Rattle.std.specs.Prelude.{ℕ, List, [], ◌∷◌, ◌++◌, codes}
 use Rattle.work_code.specs.Steps.{Body, Push, Done, Then}
 use Rattle.kern_rows.specs.Forms.{FilterForm}
 use Rattle.river_kernels.specs.Fits.{rows}

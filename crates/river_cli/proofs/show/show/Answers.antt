@@ -1,12 +1,10 @@
-use Rattle.std.proofs.Common.{◌≡◌, refl}
 use Rattle.river_cli.specs.Points.{of_shown}
-use Rattle.river_cli.specs.declared.words.Lang.{Lang}
-use Rattle.river_cli.specs.declared.words.Lang.TheVariants as lang
 use Rattle.river_cli.proofs.show.show.Goals as goal
 
-only : (l : Lang) → l ≡ lang.Streamit
-only lang.Streamit = refl
-
-pub returns : goal.returns
+pub returns-in-River : goal.returns-in-River
 unfolding of_shown
-returns c = rw (only c.args.lang) c.show_streamit.ensures
+returns-in-River c = rw c.in-River.is c.show_river.ensures
+
+pub returns-in-Streamit : goal.returns-in-Streamit
+unfolding of_shown
+returns-in-Streamit c = rw c.in-Streamit.is c.show_streamit.ensures
