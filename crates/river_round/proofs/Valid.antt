@@ -29,7 +29,7 @@ use Rattle.river_round.specs.Writable as w
 use Rattle.river_round.specs.Writable.{depths}
 use Rattle.river_round.specs.Printable as r
 
-at_most : (m n : ℕ) → nat_le m n ≡ true → m ≤ n
+pub at_most : (m n : ℕ) → nat_le m n ≡ true → m ≤ n
 at_most m n h = grind (arith, nat_tests)
 
 -- EXPRESSIONS

@@ -1,6 +1,7 @@
 -- Printed plans are read back as themselves.
-use Rattle.std.specs.Prelude.{◌≡◌}
+use Rattle.std.specs.Prelude.{◌≡◌, ℕ, List}
 use Rattle.river_plan.specs.Forms.{PlanForm}
+use Rattle.river_plan.specs.Valid.{IsPlan}
 use Rattle.river_print.specs.Printed.{plan_text}
 use Rattle.river_text.specs.Plans.{IsText}
 use Rattle.river_round.specs.Printable.{IsPrintable}
@@ -19,3 +20,11 @@ ValidIsRead = (p : PlanForm) → IsPrintable p → IsText (plan_text p) p
 
 abbrev pub ValidIsAlone : Type 0
 ValidIsAlone = (p q : PlanForm) → IsPrintable p → IsText (plan_text p) q → q ≡ p
+
+-- a valid plan that a text stands for has what the grammar has
+abbrev pub ReadIsPrintable : Type 0
+ReadIsPrintable = (text : List ℕ) (p : PlanForm) → IsText text p → IsPlan p → IsPrintable p
+
+-- and is printed as a text that stands for it
+abbrev pub ReadIsReadAgain : Type 0
+ReadIsReadAgain = (text : List ℕ) (p : PlanForm) → IsText text p → IsPlan p → IsText (plan_text p) p
