@@ -104,7 +104,7 @@ fn words_that_are_no_sentence(rt: HostRuntime) -> Result<(), Fail> {
         &[b"run", b"streamit", b"-", b"in=n.csv"],
         &[b"run", b"sawzall", b"twice.str", b"in=n.csv"],
         &[b"run", b"Streamit", b"twice.str", b"in=n.csv"],
-        &[b"plan", b"streamit", b"twice.str"],
+        &[b"plan", b"streamit"],
         &[b"mean", b"streamit", b"twice.str", b"in=n.csv"],
         &[b"load", b"1"],
         &[b"--help"],

@@ -1,5 +1,4 @@
-//! The worked cases of the whole path, over memory and over the system, and of plans written as River text. There is no
-//! code here besides the tests.
+//! The worked cases of the whole path, over memory and over the system. There is no code here besides the tests.
 #![tactic(auto)]
 
 #[cfg(test)]
@@ -7,10 +6,4 @@ mod cases;
 #[cfg(test)]
 mod fixture;
 #[cfg(test)]
-mod plan_texts;
-#[cfg(test)]
-mod plans;
-#[cfg(test)]
 mod system;
-#[cfg(test)]
-mod texts;
