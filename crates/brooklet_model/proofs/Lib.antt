@@ -6,6 +6,7 @@ pub mod Joins
 pub mod Lists
 pub mod OnRows
 pub mod Ports
+pub mod RunMeaning
 pub mod Shapes
 pub mod Solutions
 pub mod Spliced
