@@ -1,5 +1,6 @@
 pub mod Complete
 pub mod Drained
+pub mod Feeds
 pub mod Free
 pub mod FusedRun
 pub mod Joins
