@@ -1,11 +1,13 @@
 pub mod Complete
 pub mod Drained
+pub mod Feeds
 pub mod Free
 pub mod FusedRun
 pub mod Joins
 pub mod Lists
 pub mod OnRows
 pub mod Ports
+pub mod RunMeaning
 pub mod Shapes
 pub mod Solutions
 pub mod Spliced

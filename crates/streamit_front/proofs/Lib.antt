@@ -1,4 +1,5 @@
 pub mod Grammar
 pub mod Places
 pub mod Plans
+pub mod Translated
 pub mod Words

@@ -1,11 +1,19 @@
 -- What is true of all texts.
-use Rattle.std.specs.Prelude.{◌≡◌, ℕ, List, Ok, Err, IsTrue}
+use Rattle.std.specs.Prelude.{◌≡◌, ℕ, ℤ, List, [], ◌∷◌, length, map, min, Ok, Err, IsTrue}
+use Rattle.river_base.specs.declared.item.Item as item
+use Rattle.river_base.specs.declared.item.Item.TheVariants.{Flat}
+use Rattle.river_base.specs.declared.item.Flat.TheVariants.{One}
 use Rattle.river_base.specs.Name.{is_name}
 use Rattle.river_plan.specs.Valid.{IsPlan}
+use Rattle.brooklet_model.specs.Firings.{feed}
+use Rattle.brooklet_model.specs.Fire.{fire, first_kept}
+use Rattle.brooklet_model.specs.Histories.{most_firings, firings}
+use Rattle.brooklet_model.specs.Meaning.{meaning}
 use Rattle.streamit_front.specs.Program.{Program}
+use Rattle.streamit_front.specs.Meaning.{outputs_of}
 use Rattle.streamit_front.specs.Grammar.{IsText}
 use Rattle.streamit_front.specs.Reading.{Syntax, compiled}
-use Rattle.streamit_front.specs.Translation.{label_of, plan_of}
+use Rattle.streamit_front.specs.Translation.{label_of, op_of, plan_of}
 
 -- the program of a text is the one that the grammar says
 abbrev pub ReadsWhatIsWritten : Type 0
@@ -29,3 +37,19 @@ PlansAreValid = (text : List ℕ) (p : Program) → compiled text ≡ Ok p → I
 -- the name of its operator is a name
 abbrev pub LabelsAreNames : Type 0
 LabelsAreNames = (text : List ℕ) (p : Program) → compiled text ≡ Ok p → IsTrue (is_name (label_of p.name))
+
+-- values as the items of a queue that carries single values
+abbrev pub as_items : List ℤ → List item.Item
+as_items xs = map (λ x. Flat (One (x ∷ []))) xs
+
+-- the kernel of a program's operator, fed with all the items of an input, gives the items of the program's output
+abbrev pub KernelMeansFilter : Type 0
+KernelMeansFilter = (p : Program) (xs : List ℤ) → (feed (fire (op_of p).kernel 0) (as_items xs) (first_kept (op_of p).kernel)).outs 0 ≡ as_items (outputs_of p xs)
+
+-- the plan of a program means what the program means: one output, whose items are those of the program's output, and no table
+abbrev pub TranslationMeans : Type 0
+TranslationMeans = (p : Program) (xs : List ℤ) → meaning (plan_of p) (as_items xs ∷ []) ≡ record { outs = as_items (outputs_of p xs) ∷ []; tables = [] }
+
+-- its operator fires once for each item of the input
+abbrev pub FiresForEach : Type 0
+FiresForEach = (p : Program) (xs : List ℤ) → firings (plan_of p) (as_items xs ∷ []) ≡ min most_firings (length xs) ∷ []
