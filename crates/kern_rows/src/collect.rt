@@ -31,6 +31,7 @@ fn pass_all(weights: &Numbers, joined: &mut Joined, out: &mut Items) -> Result<(
     requires joined { IsJoiner (shares weights.now) joined.old }
     ensures given { OnOk result (out.new ≡ out.old ++ (settled itself (shares weights.now) joined.old).0) }
     ensures state { OnOk result (joined.new ≡ (settled itself (shares weights.now) joined.old).1) }
+    ensures joined { OnOk result (IsJoiner (shares weights.now) joined.new) }
     ensures err { OnErr result (GrewByPrefix out.old (settled itself (shares weights.now) joined.old).0 out.new) }
 {
     while let Some(item) = joined.pass(share(weights, joined.turn())) {
@@ -64,6 +65,7 @@ impl Collect {
         requires port { port < length weights.now }
         ensures given { OnOk result (out.new ≡ out.old ++ (joins itself (shares weights.now) port item state.old).0) }
         ensures state { OnOk result (state.new ≡ (joins itself (shares weights.now) port item state.old).1) }
+        ensures shape { OnOk result (IsJoiner (shares weights.now) state.new) }
         ensures err { OnErr result (GrewByPrefix out.old (joins itself (shares weights.now) port item state.old).0 out.new) }
     {
         state.joined.put(port as usize, item)?;

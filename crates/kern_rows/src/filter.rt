@@ -44,8 +44,7 @@ fn append_values(pushes: &Emitted, out: &mut Numbers) -> Result<(), NoMemory>
 impl Filter {
     /// The state before the first value.
     pub fn start(&self, alloc: Global) -> Result<FilterState, NoMemory>
-        requires { CanFilter (filter_form self.now) }
-        ensures stands { IfOk result (λ state. StandsForFiltering (filter_form self.now) state (filter_start (filter_form self.now))) }
+        ensures stands { IfOk result (λ state. CanFilter (filter_form self.now) → StandsForFiltering (filter_form self.now) state (filter_start (filter_form self.now))) }
         ensures shape { IfOk result (λ state. length state.kept ≡ length (filter_form self.now).starts) }
     {
         Ok(FilterState {

@@ -1,6 +1,7 @@
 // Ports that take turns.
 ghost use Rattle.std.specs.Prelude.{◌≡◌, ◌+◌, ◌<◌, ◌≤◌, ◌^◌, length, slice_index_or, nat_lt, if◌then◌else◌, IfOk};
 ghost use Rattle.river_base.specs.Number.{count_of};
+ghost use Rattle.kern_rows.specs.Needs.{HaveShares};
 ghost use Rattle.kern_rows.specs.Turns.{shares, next_port, next_had, IsTurn};
 
 use crate::Deal;
@@ -68,10 +69,12 @@ impl Deal {
     /// port is in turn, and after the last one the first. There are fewer than 2^32 ports.
     pub fn step(weights: &Numbers, state: &mut DealState) -> u32
         requires few { length weights.now < 2 ^ 32 }
+        requires weights { HaveShares (shares weights.now) }
         requires turn { IsTurn (shares weights.now) state.old.port state.old.had }
         ensures given { result ≡ state.old.port }
         ensures port { state.new.port ≡ next_port (shares weights.now) state.old.port state.old.had }
         ensures had { state.new.had ≡ next_had (shares weights.now) state.old.port state.old.had }
+        ensures turn { IsTurn (shares weights.now) state.new.port state.new.had }
     {
         let given = state.port;
         let share = share(weights, given as usize);

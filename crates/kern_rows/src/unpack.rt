@@ -3,7 +3,7 @@ ghost use Rattle.std.specs.Prelude.{◌≡◌, ◌<◌, ◌++◌, length, IfOk, 
 ghost use Rattle.river_base.specs.Grew.{GrewByPrefix};
 ghost use Rattle.river_base.specs.Held.{items_of};
 ghost use Rattle.river_base.specs.declared.item.Item.TheVariants.{Pack};
-ghost use Rattle.kern_rows.specs.Needs.{HaveShares, IsJoiner};
+ghost use Rattle.kern_rows.specs.Needs.{IsJoiner};
 ghost use Rattle.kern_rows.specs.Turns.{ones, turns_start, joins, settled};
 
 use crate::Unpack;
@@ -56,6 +56,7 @@ fn open_all(ports: u32, joined: &mut Joined, out: &mut Items) -> Result<(), NoMe
     requires joined { IsJoiner (ones ports) joined.old }
     ensures given { OnOk result (out.new ≡ out.old ++ (settled items_of (ones ports) joined.old).0) }
     ensures state { OnOk result (joined.new ≡ (settled items_of (ones ports) joined.old).1) }
+    ensures joined { OnOk result (IsJoiner (ones ports) joined.new) }
     ensures err { OnErr result (GrewByPrefix out.old (settled items_of (ones ports) joined.old).0 out.new) }
 {
     while let Some(item) = joined.pass(1) {
@@ -88,6 +89,7 @@ impl Unpack {
         requires port { port < ports }
         ensures given { OnOk result (out.new ≡ out.old ++ (joins items_of (ones ports) port (Pack pack) state.old).0) }
         ensures state { OnOk result (state.new ≡ (joins items_of (ones ports) port (Pack pack) state.old).1) }
+        ensures shape { OnOk result (IsJoiner (ones ports) state.new) }
         ensures err { OnErr result (GrewByPrefix out.old (joins items_of (ones ports) port (Pack pack) state.old).0 out.new) }
     {
         state.joined.put(port as usize, Item::Pack(pack))?;
