@@ -16,3 +16,6 @@ pub use filter::FilterState;
 pub use kernel::{CodeKernel, Collect, Deal, Filter, Unpack};
 pub use turn::DealState;
 pub use unpack::UnpackState;
+
+#[cfg(test)]
+mod tests;
