@@ -186,11 +186,7 @@ fn values(alloc: Global, items: &Items) -> Result<Numbers, NoMemory> {
 }
 
 // What a joiner gives for values, each at its port.
-fn collected(
-    alloc: Global,
-    weights: &Numbers,
-    arrivals: &[(u32, i64)],
-) -> Result<Numbers, NoMemory>
+fn collected(alloc: Global, weights: &Numbers, arrivals: &[(u32, i64)]) -> Result<Numbers, NoMemory>
     requires { HaveShares (shares weights.now) }
 {
     let mut state = Collect::start(alloc, weights)?;
