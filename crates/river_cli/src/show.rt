@@ -1,6 +1,8 @@
 // The plan of a program, printed.
 ghost use Rattle.std.specs.Prelude.{◌≡◌, ◌≤◌, length};
+ghost use Rattle.river_order.specs.Order.{Ends, Done};
 ghost use Rattle.river_order.specs.Decides.{IsEnd};
+ghost use Rattle.river_print.specs.Printed.{plan_text};
 ghost use Rattle.streamit_front.specs.Reading.{compiled};
 ghost use Rattle.river_plan.specs.Forms.{plan_form};
 ghost use Rattle.river_cli.specs.River.{plan_in, checked};
@@ -10,7 +12,7 @@ use crate::text;
 use crate::words::Lang;
 use river_base::Bytes;
 use river_order::Stop;
-use river_plan::{RawPlan, check};
+use river_plan::{Plan, RawPlan, check};
 use river_print::print_river;
 use river_text::read_river;
 use std::alloc::Global;
@@ -43,7 +45,7 @@ fn show_checked(alloc: Global, raw: RawPlan) -> Result<Bytes, Stop>
     ensures { IsEnd (of_checked (checked (plan_form raw))) result }
 {
     match check(alloc, raw) {
-        Ok(plan) => Ok(print_river(alloc, &plan)?),
+        Ok(plan) => printed(alloc, &plan),
         Err(fault) => Err(Stop::Refused(text::unfit(alloc, fault)?)),
     }
 }
@@ -54,7 +56,14 @@ fn show_streamit(alloc: Global, text: &Bytes) -> Result<Bytes, Stop>
     ensures { IsEnd (of_plan (compiled text.now)) result }
 {
     match compile_streamit(alloc, text) {
-        Ok(made) => Ok(print_river(alloc, &made.1)?),
+        Ok(made) => printed(alloc, &made.1),
         Err(fault) => Err(Stop::Refused(text::refusal(alloc, fault)?)),
     }
+}
+
+// The text of a plan.
+fn printed(alloc: Global, plan: &Plan) -> Result<Bytes, Stop>
+    ensures { IsEnd (Ends (Done (plan_text plan.now))) result }
+{
+    Ok(print_river(alloc, plan)?)
 }
