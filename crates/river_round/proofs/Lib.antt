@@ -1,3 +1,4 @@
+pub mod Fronts
 pub mod Items
 pub mod Kernels
 pub mod Pieces

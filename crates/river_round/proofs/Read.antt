@@ -34,24 +34,24 @@ use Rattle.river_round.proofs.Valid.{at_most}
 
 -- the form stands for values of which this holds alone
 pub record Gives {A : Type 0} (F : A → List Tok → Type 0) (P : A → Type 0) : Type 0 where
-  give : (v : A) (ts : List Tok) → F v ts → P v
+  pub give : (v : A) (ts : List Tok) → F v ts → P v
 
-gives-seen : {A B : Type 0} {F : A → List Tok → Type 0} {P : A → Type 0} (f : A → B) (Q : B → Type 0) → Gives F P → ((v : A) → P v → Q (f v)) → Gives (form.Seen f F) Q
+pub gives-seen : {A B : Type 0} {F : A → List Tok → Type 0} {P : A → Type 0} (f : A → B) (Q : B → Type 0) → Gives F P → ((v : A) → P v → Q (f v)) → Gives (form.Seen f F) Q
 gives-seen f Q g k = record { give = λ v ts h. subst Q (sym h.is) (k h.value (g.give h.value ts h.formed)) }
 
 gives-tested : {A : Type 0} (test : A → Bool) (F : A → List Tok → Type 0) (P : A → Type 0) → ((v : A) → test v ≡ true → P v) → Gives (form.Tested test F) P
 gives-tested test F P k = record { give = λ v ts h. k v h.passes }
 
-gives-both : {A B : Type 0} {F : A → List Tok → Type 0} {G : B → List Tok → Type 0} {P : A → Type 0} {Q : B → Type 0} → Gives F P → Gives G Q → Gives (form.Both F G) (λ v. P v.0 × Q v.1)
+pub gives-both : {A B : Type 0} {F : A → List Tok → Type 0} {G : B → List Tok → Type 0} {P : A → Type 0} {Q : B → Type 0} → Gives F P → Gives G Q → Gives (form.Both F G) (λ v. P v.0 × Q v.1)
 gives-both f g = record { give = λ v ts h. (f.give v.0 h.front h.first, g.give v.1 h.back h.second) }
 
-gives-after : {A : Type 0} {F : A → List Tok → Type 0} {P : A → Type 0} (run : List Symbol) → Gives F P → Gives (form.After run F) P
+pub gives-after : {A : Type 0} {F : A → List Tok → Type 0} {P : A → Type 0} (run : List Symbol) → Gives F P → Gives (form.After run F) P
 gives-after run f = record { give = λ v ts h. f.give v h.back h.formed }
 
-gives-before : {A : Type 0} {F : A → List Tok → Type 0} {P : A → Type 0} (run : List Symbol) → Gives F P → Gives (form.Before F run) P
+pub gives-before : {A : Type 0} {F : A → List Tok → Type 0} {P : A → Type 0} (run : List Symbol) → Gives F P → Gives (form.Before F run) P
 gives-before run f = record { give = λ v ts h. f.give v h.front h.formed }
 
-gives-after_word : {A : Type 0} {F : A → List Tok → Type 0} {P : A → Type 0} (word : List ℕ) → Gives F P → Gives (form.AfterWord word F) P
+pub gives-after_word : {A : Type 0} {F : A → List Tok → Type 0} {P : A → Type 0} (word : List ℕ) → Gives F P → Gives (form.AfterWord word F) P
 gives-after_word word f = record { give = λ v ts h. f.give v h.back h.formed }
 
 gives-merged : {A : Type 0} {F G : A → List Tok → Type 0} {P : A → Type 0} → Gives F P → Gives G P → Gives (form.Merged F G) P
@@ -59,6 +59,9 @@ gives-merged f g = record { give = λ v ts h. ⊎_elim (λ x. f.give v ts x) (λ
 
 gives-nothing : {A : Type 0} (P : A → Type 0) (v : A) → P v → Gives (form.Nothing v) P
 gives-nothing P v p = record { give = λ x ts h. subst P (sym h.0) p }
+
+pub gives-any : {A : Type 0} (F : A → List Tok → Type 0) → Gives F (λ v. Unit {0})
+gives-any F = record { give = λ v ts h. tt }
 
 gives-never : {A : Type 0} (P : A → Type 0) → Gives (form.Never {A = A}) P
 gives-never P = record { give = λ x ts h. absurd h }
@@ -126,7 +129,7 @@ starts n = gives-enclosed _ _ (λ m. gives-listing signed) n
 
 -- EXPRESSIONS
 
-number-ranged : (v : ℕ) (b : Bool) → is_value v ≡ b → (e : Term) → (if b then Some (term.Const (pos v)) else None) ≡ Some e → r.IsRangedTerm e
+pub number-ranged : (v : ℕ) (b : Bool) → is_value v ≡ b → (e : Term) → (if b then Some (term.Const (pos v)) else None) ≡ Some e → r.IsRangedTerm e
 number-ranged v true t e h = subst r.IsRangedTerm (some_same h) (at_most v 9223372036854775807 t)
 number-ranged v false t e h = absurd (not_some h)
 

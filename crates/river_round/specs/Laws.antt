@@ -1,9 +1,12 @@
 -- Printed plans are read back as themselves.
-use Rattle.std.specs.Prelude.{◌≡◌, ℕ, List}
+use Rattle.std.specs.Prelude.{◌≡◌, ℕ, List, Ok}
 use Rattle.river_plan.specs.Forms.{PlanForm}
 use Rattle.river_plan.specs.Valid.{IsPlan}
 use Rattle.river_print.specs.Printed.{plan_text}
 use Rattle.river_text.specs.Plans.{IsText}
+use Rattle.streamit_front.specs.Program.{Program}
+use Rattle.streamit_front.specs.Reading.{compiled}
+use Rattle.streamit_front.specs.Translation.{plan_of}
 use Rattle.river_round.specs.Printable.{IsPrintable}
 use Rattle.river_round.specs.Writable.{IsWritable}
 
@@ -28,3 +31,10 @@ ReadIsPrintable = (text : List ℕ) (p : PlanForm) → IsText text p → IsPlan 
 -- and is printed as a text that stands for it
 abbrev pub ReadIsReadAgain : Type 0
 ReadIsReadAgain = (text : List ℕ) (p : PlanForm) → IsText text p → IsPlan p → IsText (plan_text p) p
+
+-- so has the plan of a StreamIt program
+abbrev pub FrontsArePrintable : Type 0
+FrontsArePrintable = (text : List ℕ) (p : Program) → compiled text ≡ Ok p → IsPrintable (plan_of p)
+
+abbrev pub FrontsAreRead : Type 0
+FrontsAreRead = (text : List ℕ) (p : Program) → compiled text ≡ Ok p → IsText (plan_text (plan_of p)) (plan_of p)
