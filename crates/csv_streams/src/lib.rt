@@ -5,6 +5,7 @@ mod column;
 mod fault;
 pub mod laws;
 mod number;
+mod outcome;
 mod print;
 mod rows;
 #[cfg(test)]
@@ -13,5 +14,6 @@ mod tests;
 pub use column::{ColumnFault, read_column};
 pub use fault::InFault;
 pub use number::read_number;
+pub use outcome::print_results;
 pub use print::print_values;
 pub use rows::{MAX_ROWS, read_rows};

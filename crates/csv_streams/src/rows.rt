@@ -25,7 +25,7 @@ pub fn read_rows(alloc: Global, bytes: &Bytes, width: u32, skip_first: bool, mor
         .has_headers(false)
         .flexible(true)
         .from_reader(alloc, bytes.as_slice());
-    let header = if skip_first { 1 } else { 0 };
+    let header = headers(skip_first);
     let last = header + MAX_ROWS;
     let mut rows = Rows::new(alloc);
     let mut rec = 0u32;
@@ -41,19 +41,26 @@ pub fn read_rows(alloc: Global, bytes: &Bytes, width: u32, skip_first: bool, mor
     Ok(rows)
 }
 
+// How many records are passed over at the front.
+fn headers(skip_first: bool) -> u32
+    ensures { result ≡ headers skip_first }
+{
+    if skip_first { 1 } else { 0 }
+}
+
 // The row of record number `rec`, where `last` is the number of the last record that may be.
-fn row_in(record: &ByteRecord, rec: u32, last: u32, width: usize, more: bool) -> Result<Row, InFault>
+fn row_in(raw: &ByteRecord, rec: u32, last: u32, width: usize, more: bool) -> Result<Row, InFault>
     requires some { 1 ≤ width }
     requires at_most { width ≤ 16 }
-    ensures { result ≡ row_in width more last rec (fields_of record.now) }
+    ensures { result ≡ row_in width more last rec (fields_of raw.now) }
 {
     if rec > last {
         return Err(InFault::TooMany);
     }
-    if !has_width(record.len(), width, more) {
+    if !has_width(raw.len(), width, more) {
         return Err(InFault::Width { rec });
     }
-    row_of(record, rec, width)
+    row_of(raw, rec, width)
 }
 
 // Whether a record of so many fields has a row of this width.
@@ -64,25 +71,25 @@ fn has_width(count: usize, width: usize, more: bool) -> bool
 }
 
 // The row of the first fields, as many as `width`.
-fn row_of(record: &ByteRecord, rec: u32, width: usize) -> Result<Row, InFault>
+fn row_of(raw: &ByteRecord, rec: u32, width: usize) -> Result<Row, InFault>
     requires some { 1 ≤ width }
     requires at_most { width ≤ 16 }
-    requires within { width ≤ length (fields_of record.now) }
-    ensures { result ≡ numbered (value_in rec) 1 (take width (fields_of record.now)) }
+    requires within { width ≤ length (fields_of raw.now) }
+    ensures { result ≡ numbered (value_in rec) 1 (take width (fields_of raw.now)) }
 {
     let mut values = [0; MAX_ROW];
     for place in 0..width {
-        values[place] = value_at(record, rec, place)?;
+        values[place] = value_at(raw, rec, place)?;
     }
     Ok(Row::from_slice(&values[..width]))
 }
 
 // The value of the field at a place, from 0.
-fn value_at(record: &ByteRecord, rec: u32, place: usize) -> Result<i64, InFault>
+fn value_at(raw: &ByteRecord, rec: u32, place: usize) -> Result<i64, InFault>
     requires { place < 16 }
-    ensures { result ≡ value_or rec (place + 1) (option_and_then number_of (field_at (fields_of record.now) place)) }
+    ensures { result ≡ value_or rec (place + 1) (option_and_then number_of (field_at (fields_of raw.now) place)) }
 {
-    match record.get(place).and_then(read_number) {
+    match raw.get(place).and_then(read_number) {
         Some(x) => Ok(x),
         None => Err(InFault::NotNumber {
             rec,
