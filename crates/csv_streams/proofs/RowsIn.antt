@@ -9,6 +9,9 @@ use Rattle.csv_streams.specs.declared.fault.InFault.{InFault}
 use Rattle.csv_streams.specs.declared.fault.InFault.TheVariants as fault
 use Rattle.csv_streams.proofs.Numbered.{numbered-push, numbered-fault}
 
+abbrev pub told : List (List ℤ) → Result (List (List ℤ)) InFault
+told rows = Ok rows
+
 -- the rows of the records without the first h
 abbrev behind : ℕ → Bool → ℕ → List (List (List ℕ)) → Result (List (List ℤ)) InFault
 behind w more h recs = numbered (row_in w more (h + most_rows)) (h + 1) (drop h recs)
