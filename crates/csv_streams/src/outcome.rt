@@ -1,11 +1,13 @@
 // The printed text of what a plan gave.
-ghost use Rattle.std.specs.Prelude.{◌≡◌, ◌++◌, ◌∷◌, length, map, codes, option_map, IfOk, IfSome, OnOk};
+ghost use Rattle.std.specs.Prelude.{◌≡◌, ◌++◌, ◌∷◌, length, map, codes, option_map, Some, IfOk, IfSome, OnOk};
 ghost use Rattle.std.specs.Fmt.{signed_decimal};
 ghost use Rattle.river_base.specs.Row.{in_order};
 ghost use Rattle.river_plan.specs.Forms.{decl_names, labels, op_forms};
 ghost use Rattle.csv_streams.specs.Outcome as text;
 
-use river_base::{Batch, Bytes, Duplicate, Flat, Item, Items, Listed, Name, NoMemory, Numbers, Row};
+use river_base::{
+    Batch, Bytes, Duplicate, Flat, Item, Items, Listed, Name, NoMemory, Numbers, Row,
+};
 use river_plan::{Decl, Op, Plan};
 use std::alloc::Global;
 
@@ -32,7 +34,12 @@ pub fn print_results(
 }
 
 #[tactic(auto, using(crate::proofs::Texts::joins))]
-fn print_outputs(alloc: Global, decls: &[Decl], outs: &[Items], to: &mut Bytes) -> Result<(), NoMemory>
+fn print_outputs(
+    alloc: Global,
+    decls: &[Decl],
+    outs: &[Items],
+    to: &mut Bytes,
+) -> Result<(), NoMemory>
     requires { length outs.now ≡ length decls.now }
     ensures { OnOk result (to.new ≡ to.old ++ text.outputs_text (decl_names decls.now) outs.now) }
 {
@@ -129,15 +136,28 @@ fn print_value(alloc: Global, value: i64, to: &mut Bytes) -> Result<(), NoMemory
 }
 
 #[tactic(auto, using(crate::proofs::Texts::joins))]
-fn print_firings(alloc: Global, ops: &[Op], counts: Option<&Numbers>, to: &mut Bytes) -> Result<(), NoMemory>
+fn print_firings(
+    alloc: Global,
+    ops: &[Op],
+    counts: Option<&Numbers>,
+    to: &mut Bytes,
+) -> Result<(), NoMemory>
     requires { IfSome counts (λ c. length c.now ≡ length ops.now) }
     ensures { OnOk result (to.new ≡ to.old ++ text.firings_text (labels (op_forms ops.now)) (option_map (λ c. c.now) counts.entry)) }
 {
-    let Some(counts) = counts else {
-        return Ok(());
-    };
+    match counts {
+        Some(counts) => print_asked(alloc, ops, counts.as_slice(), to),
+        None => Ok(()),
+    }
+}
+
+fn print_asked(alloc: Global, ops: &[Op], counts: &[i64], to: &mut Bytes) -> Result<(), NoMemory>
+    requires { length counts.now ≡ length ops.now }
+    ensures { OnOk result (to.new ≡ to.old ++ text.firings_text (labels (op_forms ops.now)) (Some counts.now)) }
+{
     to.extend(b"## firings\n")?;
-    print_counts(alloc, ops, counts.as_slice(), to)
+    print_counts(alloc, ops, counts, to)?;
+    Ok(())
 }
 
 #[tactic(auto, using(crate::proofs::Texts::joins))]

@@ -16,7 +16,13 @@ pub const MAX_ROWS: u32 = 100_000;
 /// The rows of a file of rows of this width, from 1 to 16. Records are those that the crate `csv` gives, with commas and double
 /// quotes; with `skip_first` the first is a header, which is passed over. With `more` a record may have further fields, which are
 /// not looked at. The first record with a fault decides.
-pub fn read_rows(alloc: Global, bytes: &Bytes, width: u32, skip_first: bool, more: bool) -> Result<Rows, InFault>
+pub fn read_rows(
+    alloc: Global,
+    bytes: &Bytes,
+    width: u32,
+    skip_first: bool,
+    more: bool,
+) -> Result<Rows, InFault>
     requires some { 1 ≤ width }
     requires at_most { width ≤ 16 }
     ensures { IsAnswer (rows_of bytes.now width skip_first more) result }

@@ -8,7 +8,13 @@ use std::alloc::Global;
 use std::test::Fail;
 
 // What is read of a text.
-fn read(alloc: Global, text: &str, width: u32, skip_first: bool, more: bool) -> Result<Rows, InFault>
+fn read(
+    alloc: Global,
+    text: &str,
+    width: u32,
+    skip_first: bool,
+    more: bool,
+) -> Result<Rows, InFault>
     requires some { 1 ≤ width }
     requires at_most { width ≤ 16 }
 {
@@ -47,12 +53,35 @@ fn faults_are_told(rt: HostRuntime) {
         ("1,2\n3\n", true, true, InFault::Width { rec: 2 }),
         ("1,2,3\n", false, false, InFault::Width { rec: 1 }),
         ("x\n", false, false, InFault::Width { rec: 1 }),
-        ("x,y\n", false, false, InFault::NotNumber { rec: 1, field: 1 }),
-        ("a,b\n1,2\n3,\n", true, false, InFault::NotNumber { rec: 3, field: 2 }),
-        ("1,- 2\n3\n", false, false, InFault::NotNumber { rec: 1, field: 2 }),
-        ("9223372036854775808,0", false, true, InFault::NotNumber { rec: 1, field: 1 }),
+        (
+            "x,y\n",
+            false,
+            false,
+            InFault::NotNumber { rec: 1, field: 1 },
+        ),
+        (
+            "a,b\n1,2\n3,\n",
+            true,
+            false,
+            InFault::NotNumber { rec: 3, field: 2 },
+        ),
+        (
+            "1,- 2\n3\n",
+            false,
+            false,
+            InFault::NotNumber { rec: 1, field: 2 },
+        ),
+        (
+            "9223372036854775808,0",
+            false,
+            true,
+            InFault::NotNumber { rec: 1, field: 1 },
+        ),
     ] {
-        assert!(rt; read(alloc, text, 2, skip_first, more) == Err(fault), "{text}");
+        assert!(rt;
+            read(alloc, text, 2, skip_first, more) == Err(fault),
+            "{text}"
+        );
     }
 }
 

@@ -39,25 +39,25 @@ loop-record-preserved c =
     let s = rw (c.in-Some.is, c.in-Ok.is) at ((c.next.ensures.steps inv.left inv.trims).0 inv.ready) in
     let (z, at_z, more) = rows-more (λ (s : Bor (List ℕ)). Some s.now) c.loop-record.record-iterator.rdr c.next.new.self.rdr fields default_config st.StartRecord (strip_bom c.args.bytes.now) y recs inv.config source reached s.0 in
     let after : (c.loop-record.rec + 1 ≤ c.headers-header.result + 100000) × (rows_in c.args.width c.args.skip_first c.args.more (recs ++ fields ∷ []) ≡ Ok c.if-rec-header.rows) =
-        elim c.if-rec-header.branch [
-          then-rec-header+in_ok-row_in+in_ok-push w ↦
-            let row = w.in_ok-row_in.field-0 in
-            let past : c.headers-header.result < c.loop-record.rec + 1 = search (rules, arith) in
-            let found : w.row_in.result ≡ Ok row = search rules in
-            let grown : c.if-rec-header.rows ≡ c.loop-record.rows ++ row ∷ [] = search rules in
-            let is = sym w.row_in.ensures ∙ found in
-            let le : headers c.args.skip_first ≤ length recs = omega (arith, past, count, inv.header) in (
-              row_within c.args.width c.args.more (c.headers-header.result + 100000) (c.loop-record.rec + 1) fields row is,
-              rows-push c.args.width c.args.skip_first c.args.more recs fields c.loop-record.rows row le so_far (rw (sym inv.last, count) is)
-              ∙ ap (λ (l : List (List ℤ)). told l) (sym grown),
-            )
-        | else-rec-header w ↦
-            let header : c.loop-record.rec + 1 ≤ c.headers-header.result = search (rules, arith) in
-            let le : length recs + 1 ≤ headers c.args.skip_first = omega (arith, header, count, inv.header) in (
-              omega (arith, header),
-              rows-header c.args.width c.args.skip_first c.args.more recs fields le ∙ so_far ∙ ap (λ (l : List (List ℤ)). told l) (sym w.rows-is),
-            )
-        ] in
+    elim c.if-rec-header.branch [
+      | then-rec-header+in_ok-row_in+in_ok-push w ↦
+          let row = w.in_ok-row_in.field-0 in
+          let past : c.headers-header.result < c.loop-record.rec + 1 = search (rules, arith) in
+          let found : w.row_in.result ≡ Ok row = search rules in
+          let grown : c.if-rec-header.rows ≡ c.loop-record.rows ++ row ∷ [] = search rules in
+          let is = sym w.row_in.ensures ∙ found in
+          let le : headers c.args.skip_first ≤ length recs = omega (arith, past, count, inv.header) in (
+            row_within c.args.width c.args.more (c.headers-header.result + 100000) (c.loop-record.rec + 1) fields row is,
+            rows-push c.args.width c.args.skip_first c.args.more recs fields c.loop-record.rows row le so_far (rw (sym inv.last, count) is)
+                ∙ ap (λ (l : List (List ℤ)). told l) (sym grown),
+          )
+      | else-rec-header w ↦
+          let header : c.loop-record.rec + 1 ≤ c.headers-header.result = search (rules, arith) in
+          let le : length recs + 1 ≤ headers c.args.skip_first = omega (arith, header, count, inv.header) in (
+            omega (arith, header),
+            rows-header c.args.width c.args.skip_first c.args.more recs fields le ∙ so_far ∙ ap (λ (l : List (List ℤ)). told l) (sym w.rows-is),
+          )
+    ] in
     record {
       trims = s.0.3 ∙ inv.trims;
       ready = inl s.1;
