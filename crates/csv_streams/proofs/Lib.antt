@@ -1,2 +1,6 @@
+pub mod Fields
+pub mod Numbered
 pub mod Records
+pub mod RowsIn
+pub mod Texts
 pub mod Writings

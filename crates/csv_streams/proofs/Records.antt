@@ -9,7 +9,8 @@ use Rattle.csv.specs.declared.parser.Config.{Config}
 use Rattle.csv.specs.declared.parser.State.{State}
 use Rattle.csv.specs.declared.parser.State.TheVariants as st
 use Rattle.csv_streams.specs.Number.{number_of}
-use Rattle.csv_streams.specs.Column.{csv_records, number_in, put_first, column_from}
+use Rattle.csv_streams.specs.Records.{csv_records}
+use Rattle.csv_streams.specs.Column.{number_in, put_first, column_from}
 
 -- how many bytes a read leaves, and in which state
 abbrev bytes_after : Option Read → ℕ

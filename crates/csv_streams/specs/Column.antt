@@ -1,11 +1,7 @@
 -- The column of numbers that the records of a file are.
 use Rattle.std.specs.Prelude.{ℕ, ◌+◌, List, [], ◌∷◌, Option, None, Some, Result, Ok, Err, ℤ}
-use Rattle.csv.specs.Reading.{records, default_config, strip_bom}
 use Rattle.csv_streams.specs.Number.{number_of}
-
--- the records that `csv` gives for the bytes: commas, double quotes, no header, records of any length
-abbrev pub csv_records : List ℕ → List (List (List ℕ))
-csv_records bytes = records default_config (strip_bom bytes)
+use Rattle.csv_streams.specs.Records.{csv_records}
 
 -- the number of a record of one field
 abbrev pub number_in : List (List ℕ) → Option ℤ

@@ -1,0 +1,11 @@
+use Rattle.std.proofs.Common.{rules, ◌≡◌, ℕ, List, ◌++◌, ◌∙◌, ap, append_assoc, codes}
+use Rattle.river_plan.specs.Forms.{labels, op_forms}
+use Rattle.csv_streams.specs.Outcome.{count_lines}
+use Rattle.csv_streams.proofs.outcome.print_asked.Goals as goal
+
+pub returns : goal.returns
+returns c =
+    let counted = count_lines (labels (op_forms c.args.ops.now)) c.args.counts.now in
+    let head : c.extend.new.self ≡ c.args.to.now ++ codes "## firings\n" = c.in_ok-extend.ensures.ok in
+    let tail : c.print_counts.new.to ≡ c.extend.new.self ++ counted = search rules in
+    tail ∙ ap (λ (l : List ℕ). l ++ counted) head ∙ append_assoc c.args.to.now (codes "## firings\n") counted

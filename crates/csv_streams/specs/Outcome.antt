@@ -1,0 +1,64 @@
+-- The printed text of what a plan gave: the rows of its outputs, and how often each operator fired.
+use Rattle.std.specs.Prelude.{ℕ, ℤ, List, [], ◌∷◌, ◌++◌, map, codes, Option, None, Some}
+use Rattle.std.specs.Fmt.{signed_decimal}
+use Rattle.river_base.specs.declared.item.Item as item
+use Rattle.river_base.specs.declared.item.Flat.TheVariants.{One, Batch as Batched}
+use Rattle.river_base.specs.declared.item.Item.TheVariants.{Flat, Pack}
+use Rattle.river_base.specs.Row.{in_order}
+use Rattle.river_plan.specs.Forms.{Name, PlanForm, decl_names, labels}
+
+-- each value behind a comma
+abbrev pub more_values : List ℤ → List ℕ
+more_values [] = []
+more_values (x ∷ xs) = codes "," ++ (signed_decimal x ++ more_values xs)
+
+-- values in decimal, joined by commas
+abbrev pub values_text : List ℤ → List ℕ
+values_text [] = []
+values_text (x ∷ xs) = signed_decimal x ++ more_values xs
+
+abbrev pub row_line : List ℤ → List ℕ
+row_line row = values_text row ++ codes "\n"
+
+-- a text for each element, one after another
+abbrev pub lines : {A : Type 0} → (A → List ℕ) → List A → List ℕ
+lines line [] = []
+lines line (x ∷ xs) = line x ++ lines line xs
+
+-- the rows that an item prints: a row, or a batch's rows in ascending order, each behind the batch's instant. No output carries packs
+abbrev pub item_rows : item.Item → List (List ℤ)
+item_rows (Flat (One row)) = row ∷ []
+item_rows (Flat (Batched b)) = map (λ row. b.at ∷ row) (in_order b.rows)
+item_rows (Pack fs) = []
+
+abbrev pub item_text : item.Item → List ℕ
+item_text i = lines row_line (item_rows i)
+
+-- the line `# NAME`, and then the items in the order of the output's history
+abbrev pub output_text : Name → List item.Item → List ℕ
+output_text name items = codes "# " ++ (name ++ (codes "\n" ++ lines item_text items))
+
+-- the outputs, each with its items
+abbrev pub outputs_text : List Name → List (List item.Item) → List ℕ
+outputs_text [] outs = []
+outputs_text (name ∷ names) [] = []
+outputs_text (name ∷ names) (items ∷ outs) = output_text name items ++ outputs_text names outs
+
+-- the line `LABEL,COUNT`
+abbrev pub count_line : Name → ℤ → List ℕ
+count_line label count = label ++ (codes "," ++ (signed_decimal count ++ codes "\n"))
+
+-- the operators, each with its number of firings
+abbrev pub count_lines : List Name → List ℤ → List ℕ
+count_lines [] counts = []
+count_lines (label ∷ labels) [] = []
+count_lines (label ∷ labels) (count ∷ counts) = count_line label count ++ count_lines labels counts
+
+-- the firings, where they are asked for
+abbrev pub firings_text : List Name → Option (List ℤ) → List ℕ
+firings_text labels None = []
+firings_text labels (Some counts) = codes "## firings\n" ++ count_lines labels counts
+
+-- what is printed for a plan: its outputs in order, and then the firings of its operators
+abbrev pub printed_outcome : PlanForm → List (List item.Item) → Option (List ℤ) → List ℕ
+printed_outcome p outs counts = outputs_text (decl_names p.outputs) outs ++ firings_text (labels p.ops) counts

@@ -1,0 +1,183 @@
+// The printed text of what a plan gave.
+ghost use Rattle.std.specs.Prelude.{◌≡◌, ◌++◌, ◌∷◌, length, map, codes, option_map, Some, IfOk, IfSome, OnOk};
+ghost use Rattle.std.specs.Fmt.{signed_decimal};
+ghost use Rattle.river_base.specs.Row.{in_order};
+ghost use Rattle.river_plan.specs.Forms.{decl_names, labels, op_forms};
+ghost use Rattle.csv_streams.specs.Outcome as text;
+
+use river_base::{
+    Batch, Bytes, Duplicate, Flat, Item, Items, Listed, Name, NoMemory, Numbers, Row,
+};
+use river_plan::{Decl, Op, Plan};
+use std::alloc::Global;
+
+/// The text of what a plan gave: for each output in order the line `# NAME` and a line for each row, in which the values are
+/// joined by commas; and then, if counts are given, the line `## firings` and a line `LABEL,COUNT` for each operator in order.
+/// A batch prints its rows in ascending order, each behind its instant. `outs` has the items of each output, and `counts` a
+/// number for each operator.
+#[tactic(auto, using(crate::proofs::Texts::joins))]
+pub fn print_results(
+    alloc: Global,
+    plan: &Plan,
+    outs: &Listed<Items>,
+    counts: Option<&Numbers>,
+) -> Result<Bytes, NoMemory>
+    requires outs { length outs.now ≡ length plan.now.outputs }
+    requires counts { IfSome counts (λ c. length c.now ≡ length plan.now.ops) }
+    ensures { IfOk result (λ all. all ≡ text.printed_outcome plan.now outs.now (option_map (λ c. c.now) counts.entry)) }
+{
+    let raw = plan.raw();
+    let mut all = Bytes::new(alloc);
+    print_outputs(alloc, raw.outputs.as_slice(), outs.as_slice(), &mut all)?;
+    print_firings(alloc, raw.ops.as_slice(), counts, &mut all)?;
+    Ok(all)
+}
+
+#[tactic(auto, using(crate::proofs::Texts::joins))]
+fn print_outputs(
+    alloc: Global,
+    decls: &[Decl],
+    outs: &[Items],
+    to: &mut Bytes,
+) -> Result<(), NoMemory>
+    requires { length outs.now ≡ length decls.now }
+    ensures { OnOk result (to.new ≡ to.old ++ text.outputs_text (decl_names decls.now) outs.now) }
+{
+    for place in 0..decls.len() {
+        print_output(alloc, &decls[place].name, &outs[place], to)?;
+    }
+    Ok(())
+}
+
+#[tactic(auto, using(crate::proofs::Texts::joins))]
+fn print_output(alloc: Global, name: &Name, items: &Items, to: &mut Bytes) -> Result<(), NoMemory>
+    ensures { OnOk result (to.new ≡ to.old ++ text.output_text name.now items.now) }
+{
+    to.extend(b"# ")?;
+    to.extend(name.as_slice())?;
+    to.extend(b"\n")?;
+    print_items(alloc, items.as_slice(), to)
+}
+
+#[tactic(auto, using(crate::proofs::Texts::joins))]
+fn print_items(alloc: Global, items: &[Item], to: &mut Bytes) -> Result<(), NoMemory>
+    ensures { OnOk result (to.new ≡ to.old ++ text.lines text.item_text items.now) }
+{
+    for item in items {
+        print_item(alloc, item, to)?;
+    }
+    Ok(())
+}
+
+#[tactic(auto, using(crate::proofs::Texts::joins))]
+fn print_item(alloc: Global, item: &Item, to: &mut Bytes) -> Result<(), NoMemory>
+    ensures { OnOk result (to.new ≡ to.old ++ text.item_text item.now) }
+{
+    match item {
+        Item::Flat(Flat::One(row)) => print_row(alloc, row, to),
+        Item::Flat(Flat::Batch(batch)) => print_batch(alloc, batch, to),
+        Item::Pack(_) => Ok(()),
+    }
+}
+
+#[tactic(auto, using(crate::proofs::Texts::joins))]
+fn print_row(alloc: Global, row: &Row, to: &mut Bytes) -> Result<(), NoMemory>
+    ensures { OnOk result (to.new ≡ to.old ++ text.row_line row.now) }
+{
+    if let Some((first, rest)) = row.values().split_first() {
+        print_value(alloc, *first, to)?;
+        print_more(alloc, rest, to)?;
+    }
+    to.extend(b"\n")?;
+    Ok(())
+}
+
+#[tactic(auto, using(crate::proofs::Texts::joins))]
+fn print_batch(alloc: Global, batch: &Batch, to: &mut Bytes) -> Result<(), NoMemory>
+    ensures { OnOk result (to.new ≡ to.old ++ text.lines text.row_line (map (λ row. batch.now.at ∷ row) (in_order batch.now.rows))) }
+{
+    let mut rows = batch.rows.copy(alloc)?;
+    rows.sort()?;
+    for row in rows.as_slice() {
+        print_timed(alloc, batch.at, row, to)?;
+    }
+    Ok(())
+}
+
+// A row behind its instant.
+#[tactic(auto, using(crate::proofs::Texts::joins))]
+fn print_timed(alloc: Global, at: i64, row: &Row, to: &mut Bytes) -> Result<(), NoMemory>
+    ensures { OnOk result (to.new ≡ to.old ++ text.row_line (at ∷ row.now)) }
+{
+    print_value(alloc, at, to)?;
+    print_more(alloc, row.values(), to)?;
+    to.extend(b"\n")?;
+    Ok(())
+}
+
+// Each value behind a comma.
+#[tactic(auto, using(crate::proofs::Texts::joins))]
+fn print_more(alloc: Global, values: &[i64], to: &mut Bytes) -> Result<(), NoMemory>
+    ensures { OnOk result (to.new ≡ to.old ++ text.more_values values.now) }
+{
+    for value in values {
+        to.extend(b",")?;
+        print_value(alloc, *value, to)?;
+    }
+    Ok(())
+}
+
+fn print_value(alloc: Global, value: i64, to: &mut Bytes) -> Result<(), NoMemory>
+    ensures { OnOk result (to.new ≡ to.old ++ signed_decimal value) }
+{
+    let digits = value.to_string(alloc)?;
+    to.extend(digits.as_bytes())?;
+    Ok(())
+}
+
+#[tactic(auto, using(crate::proofs::Texts::joins))]
+fn print_firings(
+    alloc: Global,
+    ops: &[Op],
+    counts: Option<&Numbers>,
+    to: &mut Bytes,
+) -> Result<(), NoMemory>
+    requires { IfSome counts (λ c. length c.now ≡ length ops.now) }
+    ensures { OnOk result (to.new ≡ to.old ++ text.firings_text (labels (op_forms ops.now)) (option_map (λ c. c.now) counts.entry)) }
+{
+    match counts {
+        Some(counts) => print_asked(alloc, ops, counts.as_slice(), to),
+        None => Ok(()),
+    }
+}
+
+fn print_asked(alloc: Global, ops: &[Op], counts: &[i64], to: &mut Bytes) -> Result<(), NoMemory>
+    requires { length counts.now ≡ length ops.now }
+    ensures { OnOk result (to.new ≡ to.old ++ text.firings_text (labels (op_forms ops.now)) (Some counts.now)) }
+{
+    to.extend(b"## firings\n")?;
+    print_counts(alloc, ops, counts, to)?;
+    Ok(())
+}
+
+#[tactic(auto, using(crate::proofs::Texts::joins))]
+fn print_counts(alloc: Global, ops: &[Op], counts: &[i64], to: &mut Bytes) -> Result<(), NoMemory>
+    requires { length counts.now ≡ length ops.now }
+    ensures { OnOk result (to.new ≡ to.old ++ text.count_lines (labels (op_forms ops.now)) counts.now) }
+{
+    for place in 0..ops.len() {
+        print_count(alloc, &ops[place].label, counts[place], to)?;
+    }
+    Ok(())
+}
+
+#[tactic(auto, using(crate::proofs::Texts::joins))]
+fn print_count(alloc: Global, label: &Name, count: i64, to: &mut Bytes) -> Result<(), NoMemory>
+    ensures { OnOk result (to.new ≡ to.old ++ text.count_line label.now count) }
+{
+    to.extend(label.as_slice())?;
+    to.extend(b",")?;
+    print_value(alloc, count, to)?;
+    to.extend(b"\n")?;
+    Ok(())
+}
