@@ -1,1 +1,7 @@
+pub mod Fires
 pub mod FitsLemmas
+pub mod Formed
+pub mod Fused
+pub mod Leaves
+pub mod Size
+pub mod Standing

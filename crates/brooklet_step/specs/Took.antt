@@ -1,5 +1,5 @@
 -- What came to the lists of an `Emit`.
-use Rattle.std.specs.Prelude.{◌≡◌, length}
+use Rattle.std.specs.Prelude.{◌≡◌, [], length, replicate}
 use Rattle.river_base.specs.Places.{each_grew}
 use Rattle.river_kernels.specs.Kern.{Kern}
 use Rattle.brooklet_model.specs.Firings.{Fired}
@@ -15,3 +15,8 @@ pub record Took (old new : Emit) (r : Fired) : Type 0 where
 pub record HasRoom (k : Kern) (e : Emit) : Type 0 where
   pub outs : length e.outs ≡ outs k
   pub adds : length e.adds ≡ tabs k
+
+-- there is an empty list for each
+pub record IsBlank (k : Kern) (e : Emit) : Type 0 where
+  pub outs : e.outs ≡ replicate (outs k) []
+  pub adds : e.adds ≡ replicate (tabs k) []

@@ -1,11 +1,13 @@
 // What firings give.
-ghost use Rattle.std.specs.Prelude.{◌≡◌, ◌+◌, ◌<◌, ◌^◌, [], ◌∷◌, length, replicate, IfOk, OnOk};
+ghost use Rattle.std.specs.Prelude.{◌≡◌, ◌+◌, ◌<◌, ◌^◌, [], ◌∷◌, length, replicate, All, IfOk, OnOk};
 ghost use Rattle.river_base.specs.Places.{each_grew, none, list_at};
+ghost use Rattle.kern_rows.specs.Runs.{pushed_to};
 ghost use Rattle.brooklet_model.specs.Firings.{gives, splice as splice_lem, beside};
 ghost use Rattle.brooklet_step.specs.Took.{Took};
 
-use river_base::{Duplicate, Item, Items, Listed, NoMemory, Rows};
+use river_base::{Duplicate, Flat, Item, Items, Listed, NoMemory, Rows};
 use std::alloc::Global;
+use work_code::Emitted;
 
 /// Lists of items, one for each port.
 pub type ItemLists = Listed<Items>;
@@ -57,6 +59,19 @@ impl Emit {
     {
         for port in 0..self.outs.len() {
             self.outs.push_at(port, item.copy(alloc)?)?;
+        }
+        Ok(())
+    }
+
+    /// The rows that a body pushed, each at its port.
+    pub fn give_pushes(&mut self, pushes: &Emitted) -> Result<(), NoMemory>
+        requires { All (λ push. push.0 < length self.old.outs) pushes.now }
+        ensures outs { OnOk result (self.new.outs ≡ each_grew self.old.outs (λ port. pushed_to port pushes.now)) }
+        ensures adds { OnOk result (self.new.adds ≡ self.old.adds) }
+    {
+        for (port, row) in pushes.as_slice() {
+            self.outs
+                .push_at(*port as usize, Item::Flat(Flat::One(*row)))?;
         }
         Ok(())
     }

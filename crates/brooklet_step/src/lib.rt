@@ -3,8 +3,13 @@
 
 mod counts;
 mod emit;
+mod firing;
 mod fits;
 pub mod laws;
+mod leaf;
+mod state;
 
 pub use emit::{Emit, ItemLists, RowLists};
+pub use firing::fire;
 pub use fits::{built, item_fits};
+pub use state::{State, States};

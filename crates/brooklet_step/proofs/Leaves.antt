@@ -1,0 +1,323 @@
+-- Firings of kernels that have no kernel inside.
+use Rattle.std.proofs.Common.{◌≡◌, ℕ, zero, suc, ℤ, pos, ◌+◌, ◌≤◌, ◌<◌, false, Ok, Err, List, [], ◌∷◌, ◌++◌, length, map, take, replicate, refl, get_or, to_z, of_z, sym, ap, ◌∙◌, subst, arith, ⊎_elim}
+use Rattle.std.specs.Int.{w64}
+use Rattle.std.proofs.lemmas.Int.{to_z-of_z}
+use Rattle.river_base.specs.Number.{IsValue}
+use Rattle.std.specs.Prelude.{IsTrue, ◌↔◌, IfOk, All, slice_index_or, if◌then◌else◌, nat_eq}
+use Rattle.std.proofs.lemmas.Bool.{cases_eq, true≢false}
+use Rattle.std.proofs.Math.ListN.{set}
+use Rattle.std.proofs.lemmas.List.{take_more, length-replicate}
+use Rattle.std.proofs.lemmas.List.Elements.{All-head, All-tail, All-cons, All-nil}
+use Rattle.std.specs.declared.result.Result.{Result}
+use Rattle.river_base.specs.declared.memory.NoMemory.{NoMemory}
+use Rattle.river_base.specs.declared.item.Item as item
+use Rattle.river_base.specs.declared.item.Item.TheVariants.{Flat, Pack}
+use Rattle.river_base.specs.declared.item.Flat.TheVariants.{One, Batch}
+use Rattle.river_base.specs.declared.kind.QueueType.{QueueType}
+use Rattle.river_base.specs.Held.{HasType, items_of}
+use Rattle.river_base.specs.Places.{append_at, each_grew, only, none}
+use Rattle.river_base.proofs.PlaceLemmas.{each_grew_cong, each_grew-none, append_at-each_grew, only_same, only_other}
+use Rattle.kern_rows.specs.Forms.{CodeForm, FilterForm}
+use Rattle.kern_rows.specs.Needs.{CanCode, CanFilter, HaveShares, IsJoiner}
+use Rattle.kern_rows.specs.Runs.{run_kept, pushed_to, filter_one}
+use Rattle.kern_rows.specs.Stands.{Waiting, StandsForFiltering, Filters, Dealing, values_of as values_in}
+use Rattle.kern_rows.specs.Turns.{Turns, IsTurn, shares, ones, next_port, next_had, joins, itself, put, waiting}
+use Rattle.kern_rows.proofs.Given.{filter_values, given_items}
+use Rattle.kern_rows.proofs.Lengths.{run_kept_length}
+use Rattle.river_kernels.specs.Fits.{rows}
+use Rattle.river_kernels.specs.Kern.{code, filter, deal, collect, unpack}
+use Rattle.brooklet_model.specs.Firings.{Kept, Slots, Buffered, Turn, Joining, gives}
+use Rattle.brooklet_model.specs.Fire.{fire, code_one, values_of, value_of}
+use Rattle.brooklet_model.specs.Shapes.{IsJoined}
+use Rattle.brooklet_model.proofs.Shapes.{next_turn, put_joined, drain_joined}
+use Rattle.brooklet_model.specs.Typed.{IsOf, AreOf}
+use Rattle.brooklet_model.proofs.Lists.{if_eq, if_ne}
+use Rattle.brooklet_step.specs.declared.emit.Emit.{Emit}
+use Rattle.brooklet_step.specs.declared.state.State.{State}
+use Rattle.brooklet_step.specs.declared.state.State.TheVariants as state
+use Rattle.brooklet_step.specs.Took.{Took, HasRoom}
+use Rattle.brooklet_step.specs.Stands.{AreNone, AreSlots, StandsForSlots, StandsForFilter, StandsForTurn, StandsForJoiner, IsRow, IsSlots, RanKept, Pushed, Fires, Takes, Applies}
+use Rattle.brooklet_model.proofs.Ports.{counts, shaped}
+use Rattle.brooklet_model.proofs.Typing.{fire_typed}
+use Rattle.brooklet_step.proofs.Standing.{stands_shape}
+use Rattle.brooklet_step.proofs.Formed.{can_code, can_filter}
+
+-- ROWS
+
+row_by : (n : ℕ) (x : item.Item) → HasType (rows n) x → IsRow x × (length (values_of x) ≡ n)
+row_by n (Flat (One row)) h = (record { row = row; is = refl }, h)
+row_by n (Flat (Batch b)) h = absurd h
+row_by n (Pack fs) h = absurd h
+
+at_first : (t : QueueType) (p : ℕ) (x : item.Item) → IsOf (t ∷ []) p x → HasType t x
+at_first t zero x h = h
+at_first t (suc p) x h = absurd h
+
+-- the item is a row of the width that is read
+pub row_is : (n p : ℕ) (reads : List QueueType) (x : item.Item) → reads ≡ rows n ∷ [] → IsOf reads p x → IsRow x × (length (values_of x) ≡ n)
+row_is n p reads x e h = row_by n x (at_first (rows n) p x (subst (λ (l : List QueueType). IsOf l p x) e h))
+
+-- BODIES
+
+pub code_row : (k : CodeForm) (x : item.Item) (st : List State) → Takes (code k) 0 x st → IsRow x × (length (values_of x) ≡ k.body.inputs)
+code_row k x st t = row_is k.body.inputs 0 t.reads x t.fitted.fits.0 t.item
+
+pub code_can : (k : CodeForm) (p : ℕ) (x : item.Item) (st : List State) → Takes (code k) p x st → CanCode k
+code_can k p x st t = can_code k t.fitted.fits.3
+
+some_slots : (zs : List ℤ) (st : List State) (ks : List Kept) → (zs ≡ [] → ⊥) → StandsForSlots zs st ks → AreSlots (length zs) st ks
+some_slots [] st ks n h = absurd (n refl)
+some_slots (z ∷ zs) st ks n h = h
+
+are_slots : (zs : List ℤ) (st : List State) (ks : List Kept) → (zs ≡ [] → ⊥) → AreSlots (length zs) st ks → StandsForSlots zs st ks
+are_slots [] st ks n h = absurd (n refl)
+are_slots (z ∷ zs) st ks n h = h
+
+head_is : (s t : State) → s ∷ [] ≡ t ∷ [] → s ≡ t
+head_is s t h = cc
+
+-- the state that holds the kept slots
+pub code_state : (k : CodeForm) (x : item.Item) (st : List State) → (k.starts ≡ [] → ⊥) → Takes (code k) 0 x st → (s : State) × (st ≡ s ∷ []) × IsSlots (length k.starts) s
+code_state k x st n t =
+    let a = some_slots k.starts st t.fitted.keeps.kept n t.fitted.keeps.stands in
+    (state.Slots a.slots, a.code, record { slots = a.slots; is = refl; count = a.count })
+
+pub pushed_once : (k : CodeForm) (x : item.Item) (st : List State) (row : List ℤ) (pushes : List (ℕ × List ℤ)) → k.starts ≡ [] → row ≡ values_of x → pushes ≡ (run_kept k.body [] row).pushes → Pushed k x st st pushes
+pushed_once k x st row pushes e r p = record {
+  given = λ ks h.
+      let n : AreNone st ks = subst (λ (zs : List ℤ). StandsForSlots zs st ks) e h in
+      let after : AreNone st [] = record { code = n.code; defined = refl } in
+      let q : pushes ≡ (run_kept k.body [] (values_of x)).pushes = p ∙ ap (λ v. (run_kept k.body [] v).pushes) r in
+      subst (λ (us : List Kept). ((code_one k x us).outs ≡ (λ i. pushed_to i pushes)) × ((code_one k x us).adds ≡ none) × StandsForSlots k.starts st (code_one k x us).states) (sym n.defined)
+      (ap (λ (ps : List (ℕ × List ℤ)). λ i. pushed_to i ps) (sym q), refl, subst (λ (zs : List ℤ). StandsForSlots zs st []) (sym e) after);
+}
+
+pub pushed_kept : (k : CodeForm) (x : item.Item) (st st' : List State) (s s' : State) (row : List ℤ) (pushes : List (ℕ × List ℤ)) → (k.starts ≡ [] → ⊥) → st ≡ s ∷ [] → st' ≡ s' ∷ [] → row ≡ values_of x → RanKept k.body row s s' pushes → Pushed k x st st' pushes
+pushed_kept k x st st' s s' row pushes n e e' r ran = record {
+  given = λ ks h.
+      let a = some_slots k.starts st ks n h in
+      let one = ran.each a.slots (head_is s (state.Slots a.slots) (sym e ∙ a.code)) in
+      let R = run_kept k.body a.slots (values_of x) in
+      let q : pushes ≡ R.pushes = one.0 ∙ ap (λ v. (run_kept k.body a.slots v).pushes) r in
+      let w : st' ≡ state.Slots R.slots ∷ [] = e' ∙ ap (λ (u : State). u ∷ []) (one.1 ∙ ap (λ v. state.Slots (run_kept k.body a.slots v).slots) r) in
+      let after : AreSlots (length k.starts) st' (Slots R.slots ∷ []) = record { slots = R.slots; code = w; defined = refl; count = run_kept_length k.body a.slots (values_of x) ∙ a.count } in
+      subst (λ (us : List Kept). ((code_one k x us).outs ≡ (λ i. pushed_to i pushes)) × ((code_one k x us).adds ≡ none) × StandsForSlots k.starts st' (code_one k x us).states) (sym a.defined)
+      (ap (λ (ps : List (ℕ × List ℤ)). λ i. pushed_to i ps) (sym q), refl, are_slots k.starts st' (Slots R.slots ∷ []) n after);
+}
+
+-- what came of a body whose slots are the only state
+pub pushes_kept : (k : CodeForm) (x : item.Item) (st : List State) (d s s' : State) (row : List ℤ) (r : Result (List (ℕ × List ℤ)) NoMemory) → Takes (code k) 0 x st → (IsTrue false ↔ (k.starts ≡ [])) → s ≡ get_or st 0 d → row ≡ values_of x → IfOk r (λ pushes. RanKept k.body row s s' pushes) → IfOk r (λ pushes. Pushed k x st (set st 0 s') pushes)
+pushes_kept k x st d s s' row (Err e) t i g w h = h
+pushes_kept k x st d s s' row (Ok pushes) t i g w h =
+    let n : k.starts ≡ [] → ⊥ = λ e. true≢false (sym (i.1 e)) in
+    let c = code_state k x st n t in
+    let same : s ≡ c.0 = g ∙ ap (λ (l : List State). get_or l 0 d) c.1 in
+    let e : st ≡ s ∷ [] = c.1 ∙ ap (λ (u : State). u ∷ []) (sym same) in
+    pushed_kept k x st (set st 0 s') s s' row pushes n e (ap (λ (l : List State). set l 0 s') e) w h
+
+-- PUSHES
+
+is_below : (os : List QueueType) (p : ℕ) (x : item.Item) → IsOf os p x → p < length os
+is_below [] p x h = absurd h
+is_below (t ∷ os) zero x h = omega arith
+is_below (t ∷ os) (suc p) x h = let r = is_below os p x h in omega (arith, r)
+
+pub ports_below : (os : List QueueType) (es : List (ℕ × List ℤ)) → AreOf os (λ p. pushed_to p es) → All (λ e. e.0 < length os) es
+ports_below os [] h = All-nil (λ e. e.0 < length os)
+ports_below os (e ∷ es) h =
+    let here = subst (All (IsOf os e.0)) (if_eq e.0 e.0 (Flat (One e.1) ∷ pushed_to e.0 es) (pushed_to e.0 es) refl) (h e.0) in
+    All-cons (λ e. e.0 < length os) e es
+    (is_below os e.0 (Flat (One e.1)) (All-head (IsOf os e.0) (Flat (One e.1)) (pushed_to e.0 es) here))
+    (ports_below os es (λ q. ⊎_elim
+    (λ eq. All-tail (IsOf os q) (Flat (One e.1)) (pushed_to q es) (subst (All (IsOf os q)) (if_eq e.0 q (Flat (One e.1) ∷ pushed_to q es) (pushed_to q es) eq) (h q)))
+    (λ ne. subst (All (IsOf os q)) (if_ne e.0 q (Flat (One e.1) ∷ pushed_to q es) (pushed_to q es) ne) (h q))
+    (cases_eq e.0 q)))
+
+only_if : (n p : ℕ) (xs : List item.Item) → only n xs p ≡ (if nat_eq n p then xs else [])
+only_if n p xs = ⊎_elim
+    (λ eq. ap (λ m. only m xs p) eq ∙ only_same p xs ∙ sym (if_eq n p xs [] eq))
+    (λ ne. only_other n p xs (λ e. ne (sym e)) ∙ sym (if_ne n p xs [] ne))
+    (cases_eq n p)
+
+pushed_more : (p : ℕ) (es : List (ℕ × List ℤ)) (e : ℕ × List ℤ) → pushed_to p es ++ only e.0 (Flat (One e.1) ∷ []) p ≡ pushed_to p (es ++ e ∷ [])
+pushed_more p [] e = only_if e.0 p (Flat (One e.1) ∷ [])
+pushed_more p (d ∷ es) e =
+    let more = only e.0 (Flat (One e.1) ∷ []) p in
+    let r = pushed_more p es e in
+    ⊎_elim
+    (λ eq. ap (λ t. t ++ more) (if_eq d.0 p (Flat (One d.1) ∷ pushed_to p es) (pushed_to p es) eq) ∙ ap (λ t. Flat (One d.1) ∷ t) r ∙ sym (if_eq d.0 p (Flat (One d.1) ∷ pushed_to p (es ++ e ∷ [])) (pushed_to p (es ++ e ∷ [])) eq))
+    (λ ne. ap (λ t. t ++ more) (if_ne d.0 p (Flat (One d.1) ∷ pushed_to p es) (pushed_to p es) ne) ∙ r ∙ sym (if_ne d.0 p (Flat (One d.1) ∷ pushed_to p (es ++ e ∷ [])) (pushed_to p (es ++ e ∷ [])) ne))
+    (cases_eq d.0 p)
+
+-- one more push is given
+pub push_step : (start now new : List (List item.Item)) (es : List (ℕ × List ℤ)) (i : ℕ) (e : ℕ × List ℤ) → i < length es → e ≡ get_or es i e → now ≡ each_grew start (λ p. pushed_to p (take i es)) → new ≡ append_at now e.0 (Flat (One e.1) ∷ []) → new ≡ each_grew start (λ p. pushed_to p (take (i + 1) es))
+push_step start now new es i e lt is en ea =
+    let xs : List item.Item = Flat (One e.1) ∷ [] in
+    let more : take i es ++ e ∷ [] ≡ take (i + 1) es = ap (λ d. take i es ++ d ∷ []) is ∙ sym (take_more es i e lt) in
+    ea ∙ ap (λ t. append_at t e.0 xs) en ∙ append_at-each_grew start (λ p. pushed_to p (take i es)) e.0 xs
+    ∙ each_grew_cong start (λ p. pushed_to p (take i es) ++ only e.0 xs p) (λ p. pushed_to p (take (i + 1) es)) (λ p h. pushed_more p (take i es) e ∙ ap (pushed_to p) more)
+
+-- the pushes go to ports that are there
+pub code_below : (k : CodeForm) (x : item.Item) (st st' : List State) (out : Emit) (pushes : List (ℕ × List ℤ)) → Applies (code k) 0 x st out → Pushed k x st st' pushes → All (λ e. e.0 < length out.outs) pushes
+code_below k x st st' out pushes a p =
+    let t = a.takes.fitted in
+    let ks = t.keeps.kept in
+    let typed = fire_typed (code k) a.takes.reads t.writes t.vars 0 x ks t.on_rows t.fits (stands_shape (code k) st ks t.keeps.stands) t.keeps.holds a.takes.item in
+    let are : AreOf t.writes (λ q. pushed_to q pushes) = subst (AreOf t.writes) (p.given ks t.keeps.stands).0 typed.0 in
+    let same : length t.writes ≡ length out.outs = (counts (code k) a.takes.reads t.writes t.vars t.fits).outs ∙ sym a.room.outs in
+    subst (λ n. All (λ e. e.0 < n) pushes) same (ports_below t.writes pushes are)
+
+pub code_fires : (k : CodeForm) (x : item.Item) (st st' : List State) (out out' : Emit) (pushes : List (ℕ × List ℤ)) → Pushed k x st st' pushes → out'.outs ≡ each_grew out.outs (λ p. pushed_to p pushes) → out'.adds ≡ out.adds → Fires (code k) out out' st st' (fire (code k) 0 x)
+code_fires k x st st' out out' pushes p eo ea = record {
+  given = λ ks h.
+      let g = p.given ks h in (
+        record {
+          outs = eo ∙ ap (each_grew out.outs) (sym g.0);
+          adds = ea ∙ sym (each_grew-none out.adds) ∙ ap (each_grew out.adds) (sym g.1);
+        },
+        g.2,
+      );
+}
+
+-- FILTERS
+
+pub filter_row : (f : FilterForm) (x : item.Item) (st : List State) → Takes (filter f) 0 x st → IsRow x × (length (values_of x) ≡ 1)
+filter_row f x st t = row_is 1 0 t.reads x t.fitted.fits.0 t.item
+
+pub filter_can : (f : FilterForm) (p : ℕ) (x : item.Item) (st : List State) → Takes (filter f) p x st → CanFilter f
+filter_can f p x st t = can_filter f t.fitted.fits.3
+
+same_filter : (a b : Waiting) → state.Filter a ≡ state.Filter b → a ≡ b
+same_filter a b h = cc
+
+-- the state of a filter
+pub filter_state : (f : FilterForm) (x : item.Item) (s : State) → Takes (filter f) 0 x (s ∷ []) → (w : Waiting) × (s ≡ state.Filter w) × (length w.kept ≡ length f.starts)
+filter_state f x s t =
+    let h = t.fitted.keeps.stands in
+    (h.now, head_is s (state.Filter h.now) h.code, h.count)
+
+pub filter_count : (f : FilterForm) (x : item.Item) (s : State) (w : Waiting) → s ≡ state.Filter w → Takes (filter f) 0 x (s ∷ []) → length w.kept ≡ length f.starts
+filter_count f x s w e t =
+    let g = filter_state f x s t in
+    ap (λ (v : Waiting). length v.kept) (same_filter w g.0 (sym e ∙ g.1)) ∙ g.2
+
+pub number_is : (v : ℤ) (vals row : List ℤ) (x : item.Item) → All IsValue row → 1 ≤ length row → vals ≡ row → row ≡ values_of x → v ≡ to_z w64 (of_z w64 (slice_index_or vals 0 (pos 0))) → v ≡ value_of x
+number_is v vals row x all some ew e ev =
+    let z : ℤ = slice_index_or row 0 (pos 0) in
+    ev ∙ ap (λ (r : List ℤ). to_z w64 (of_z w64 (slice_index_or r 0 (pos 0)))) ew ∙ to_z-of_z w64 z (all 0 (pos 0) (omega (arith, some))) ∙ ap (λ (r : List ℤ). slice_index_or r 0 (pos 0)) e
+
+pub filter_fires : (f : FilterForm) (x : item.Item) (s s' : State) (old new : Waiting) (v : ℤ) (values : List ℤ) (items : List item.Item) (out out' : Emit) → CanFilter f → HasRoom (filter f) out → s ≡ state.Filter old → s' ≡ state.Filter new → v ≡ value_of x → Filters f v old new [] values → length new.kept ≡ length old.kept → items ≡ map (λ z. Flat (One (z ∷ []))) values → Took out out' (gives 0 items []) → Fires (filter f) out out' (s ∷ []) (s' ∷ []) (fire (filter f) 0 x)
+filter_fires f x s s' old new v values items out out' can room e e' ev ran len ei took = record {
+  given = λ ks h.
+      let same : old ≡ h.now = same_filter old h.now (sym e ∙ head_is s (state.Filter h.now) h.code) in
+      let stands : StandsForFiltering f old h.seen = subst (λ (w : Waiting). StandsForFiltering f w h.seen) (sym same) h.stands in
+      let one = ran.each h.seen stands in
+      let F = filter_one f (value_of x) h.seen in
+      let is : filter_one f v h.seen ≡ F = ap (λ (z : ℤ). filter_one f z h.seen) ev in
+      let given : items ≡ pushed_to 0 F.pushes = ei ∙ ap (map (λ z. Flat (One (z ∷ [])))) (one.0 ∙ ap (λ g. values_in g.pushes) is) ∙ sym (given_items F.pushes (filter_values f (value_of x) h.seen can.gives)) in
+      let after : StandsForFilter f (s' ∷ []) (Buffered F.after ∷ []) = record {
+        now = new;
+        seen = F.after;
+        code = ap (λ (u : State). u ∷ []) e';
+        defined = refl;
+        stands = subst (λ g. StandsForFiltering f new g.after) is one.1;
+        count = len ∙ ap (λ (w : Waiting). length w.kept) same ∙ h.count;
+      } in
+      let grew : Took out out' (fire (filter f) 0 x (Buffered h.seen ∷ [])) = record {
+        outs = took.outs ∙ each_grew_cong out.outs (only 0 items) (λ p. pushed_to p F.pushes) (λ p lt. at_0 p F.pushes items (let l = room.outs in omega (arith, l, lt)) given);
+        adds = took.adds;
+      } in
+      subst (λ (us : List Kept). Took out out' (fire (filter f) 0 x us) × StandsForFilter f (s' ∷ []) (fire (filter f) 0 x us).states) (sym h.defined) (grew, after);
+}
+  where
+    at_0 : (p : ℕ) (es : List (ℕ × List ℤ)) (items : List item.Item) → p < 1 → items ≡ pushed_to 0 es → only 0 items p ≡ pushed_to p es
+    at_0 zero es items lt e = e
+    at_0 (suc p) es items lt e = absurd (omega arith)
+
+-- SPLITTERS
+
+same_turn : (a b : Dealing) → state.Deal a ≡ state.Deal b → a ≡ b
+same_turn a b h = cc
+
+pub deal_turn : (ws : List ℤ) (x : item.Item) (s : State) (old : Dealing) → s ≡ state.Deal old → Takes (deal ws) 0 x (s ∷ []) → IsTurn (shares ws) old.port old.had
+deal_turn ws x s old e t =
+    let h = t.fitted.keeps.stands in
+    subst (λ (d : Dealing). IsTurn (shares ws) d.port d.had) (sym (same_turn old h.now (sym e ∙ head_is s (state.Deal h.now) h.code))) h.turn
+
+pub deal_fires : (ws : List ℤ) (x : item.Item) (s s' : State) (old new : Dealing) (out out' : Emit) (port : ℕ) → Applies (deal ws) 0 x (s ∷ []) out → s ≡ state.Deal old → s' ≡ state.Deal new → port ≡ old.port → new.port ≡ next_port (shares ws) old.port old.had → new.had ≡ next_had (shares ws) old.port old.had → Took out out' (gives port (x ∷ []) []) → Fires (deal ws) out out' (s ∷ []) (s' ∷ []) (fire (deal ws) 0 x)
+deal_fires ws x s s' old new out out' port a e e' ep np nh took = record {
+  given = λ ks h.
+      let same : old ≡ h.now = same_turn old h.now (sym e ∙ head_is s (state.Deal h.now) h.code) in
+      let f = a.takes.fitted in
+      let shares_are = shaped (deal ws) a.takes.reads f.writes f.vars f.fits in
+      let eq : ks ≡ Turn old.port old.had ∷ [] = h.defined ∙ ap (λ (d : Dealing). Turn d.port d.had ∷ []) (sym same) in
+      let turn : IsTurn (shares ws) old.port old.had = subst (λ (d : Dealing). IsTurn (shares ws) d.port d.had) (sym same) h.turn in
+      let next = next_turn (shares ws) old.port old.had shares_are turn in
+      let after : StandsForTurn (shares ws) (s' ∷ []) (Turn (next_port (shares ws) old.port old.had) (next_had (shares ws) old.port old.had) ∷ []) = record {
+        now = new;
+        code = ap (λ (u : State). u ∷ []) e';
+        defined = ap (λ n. Turn n (next_had (shares ws) old.port old.had) ∷ []) (sym np) ∙ ap (λ n. Turn new.port n ∷ []) (sym nh);
+        turn = subst (λ n. IsTurn (shares ws) n new.had) (sym np) (subst (λ n. IsTurn (shares ws) (next_port (shares ws) old.port old.had) n) (sym nh) next);
+      } in
+      let grew : Took out out' (fire (deal ws) 0 x (Turn old.port old.had ∷ [])) = record {
+        outs = took.outs ∙ ap (λ n. each_grew out.outs (only n (x ∷ []))) ep;
+        adds = took.adds;
+      } in
+      subst (λ (us : List Kept). Took out out' (fire (deal ws) 0 x us) × StandsForTurn (shares ws) (s' ∷ []) (fire (deal ws) 0 x us).states) (sym eq) (grew, after);
+}
+
+-- JOINERS
+
+joined_needs : (ws : List ℕ) (s : Turns) → IsJoined ws s → IsJoiner ws s
+joined_needs ws s j = record { turn = j.turn; lists = j.lists }
+
+pub port_below : (n : ℕ) (t : QueueType) (reads : List QueueType) (p : ℕ) (x : item.Item) → reads ≡ replicate n t → IsOf reads p x → p < n
+port_below n t reads p x e h = let l = ap length e ∙ length-replicate n t in let b = is_below reads p x h in omega (arith, l, b)
+
+same_collect : (a b : Turns) → state.Collect a ≡ state.Collect b → a ≡ b
+same_collect a b h = cc
+
+same_unpack : (a b : Turns) → state.Unpack a ≡ state.Unpack b → a ≡ b
+same_unpack a b h = cc
+
+joined_after : (give : item.Item → List item.Item) (wrap : Turns → State) (ws : List ℕ) (port : ℕ) (x : item.Item) (s' : State) (old new : Turns) → HaveShares ws → IsJoined ws old → s' ≡ wrap new → new ≡ (joins give ws port x old).1 → StandsForJoiner wrap ws (s' ∷ []) (Joining (joins give ws port x old).1 ∷ [])
+joined_after give wrap ws port x s' old new all j e en = record {
+  now = new;
+  code = ap (λ (u : State). u ∷ []) e;
+  defined = ap (λ (t : Turns). Joining t ∷ []) (sym en);
+  joined = subst (IsJoined ws) (sym en) (drain_joined give ws (waiting (put port x old).lists) (put port x old) all (put_joined ws port x old j));
+}
+
+pub collect_shares : (ws : List ℤ) (port : ℕ) (x : item.Item) (st : List State) → Takes (collect ws) port x st → HaveShares (shares ws)
+collect_shares ws port x st t = shaped (collect ws) t.reads t.fitted.writes t.fitted.vars t.fitted.fits
+
+pub collect_port : (ws : List ℤ) (port : ℕ) (x : item.Item) (st : List State) → Takes (collect ws) port x st → port < length ws
+collect_port ws port x st t = port_below (length ws) _ t.reads port x t.fitted.fits.1 t.item
+
+pub collect_joined : (ws : List ℤ) (port : ℕ) (x : item.Item) (s : State) (old : Turns) → s ≡ state.Collect old → Takes (collect ws) port x (s ∷ []) → IsJoiner (shares ws) old
+collect_joined ws port x s old e t =
+    let h = t.fitted.keeps.stands in
+    joined_needs (shares ws) old (subst (IsJoined (shares ws)) (sym (same_collect old h.now (sym e ∙ head_is s (state.Collect h.now) h.code))) h.joined)
+
+pub collect_fires : (ws : List ℤ) (port : ℕ) (x : item.Item) (s s' : State) (old new : Turns) (items : List item.Item) (out out' : Emit) → Applies (collect ws) port x (s ∷ []) out → s ≡ state.Collect old → s' ≡ state.Collect new → items ≡ (joins itself (shares ws) port x old).0 → new ≡ (joins itself (shares ws) port x old).1 → Took out out' (gives 0 items []) → Fires (collect ws) out out' (s ∷ []) (s' ∷ []) (fire (collect ws) port x)
+collect_fires ws port x s s' old new items out out' a e e' ei en took = record {
+  given = λ ks h.
+      let same : old ≡ h.now = same_collect old h.now (sym e ∙ head_is s (state.Collect h.now) h.code) in
+      let eq : ks ≡ Joining old ∷ [] = h.defined ∙ ap (λ (t : Turns). Joining t ∷ []) (sym same) in
+      let j : IsJoined (shares ws) old = subst (IsJoined (shares ws)) (sym same) h.joined in
+      let after = joined_after itself (λ t. state.Collect t) (shares ws) port x s' old new (collect_shares ws port x (s ∷ []) a.takes) j e' en in
+      let grew : Took out out' (fire (collect ws) port x (Joining old ∷ [])) = record { outs = took.outs ∙ ap (λ xs. each_grew out.outs (only 0 xs)) ei; adds = took.adds } in
+      subst (λ (us : List Kept). Took out out' (fire (collect ws) port x us) × StandsForJoiner (λ t. state.Collect t) (shares ws) (s' ∷ []) (fire (collect ws) port x us).states) (sym eq) (grew, after);
+}
+
+pub unpack_fires : (n : ℕ) (port : ℕ) (x : item.Item) (s s' : State) (old new : Turns) (items : List item.Item) (out out' : Emit) → Applies (unpack n) port x (s ∷ []) out → s ≡ state.Unpack old → s' ≡ state.Unpack new → items ≡ (joins items_of (ones n) port x old).0 → new ≡ (joins items_of (ones n) port x old).1 → Took out out' (gives 0 items []) → Fires (unpack n) out out' (s ∷ []) (s' ∷ []) (fire (unpack n) port x)
+unpack_fires n port x s s' old new items out out' a e e' ei en took = record {
+  given = λ ks h.
+      let same : old ≡ h.now = same_unpack old h.now (sym e ∙ head_is s (state.Unpack h.now) h.code) in
+      let eq : ks ≡ Joining old ∷ [] = h.defined ∙ ap (λ (t : Turns). Joining t ∷ []) (sym same) in
+      let j : IsJoined (ones n) old = subst (IsJoined (ones n)) (sym same) h.joined in
+      let f = a.takes.fitted in
+      let after = joined_after items_of (λ t. state.Unpack t) (ones n) port x s' old new (shaped (unpack n) a.takes.reads f.writes f.vars f.fits) j e' en in
+      let grew : Took out out' (fire (unpack n) port x (Joining old ∷ [])) = record { outs = took.outs ∙ ap (λ xs. each_grew out.outs (only 0 xs)) ei; adds = took.adds } in
+      subst (λ (us : List Kept). Took out out' (fire (unpack n) port x us) × StandsForJoiner (λ t. state.Unpack t) (ones n) (s' ∷ []) (fire (unpack n) port x us).states) (sym eq) (grew, after);
+}

@@ -1,0 +1,10 @@
+use Rattle.std.proofs.Common.{◌≡◌, take}
+use Rattle.river_base.specs.Places.{each_grew}
+use Rattle.kern_rows.specs.Runs.{pushed_to}
+use Rattle.brooklet_step.proofs.emit.Emit.give_pushes.Given as goal
+
+abbrev pub invariant-loop-port : goal.invariant-loop-port
+invariant-loop-port l = record {
+  outs : l.self.outs ≡ each_grew l.initial.self.outs (λ p. pushed_to p (take l.port-index l.port-items));
+  adds : l.self.adds ≡ l.initial.self.adds;
+}

@@ -1,0 +1,7 @@
+use Rattle.std.proofs.Common.{refl}
+use Rattle.brooklet_step.proofs.Leaves.{deal_fires}
+use Rattle.brooklet_step.proofs.leaf.fire_deal.Goals as goal
+
+pub returns : goal.returns
+returns c =
+    deal_fires c.args.weights.now c.args.item c.args.state.now _ c.in-Deal.state c.step-port.new.state c.args.out.now c.give.new.self c.step-port.result c.requires c.in-Deal.is refl c.step-port.ensures.given c.step-port.ensures.port c.step-port.ensures.had c.in_ok-give-in-Deal.ensures

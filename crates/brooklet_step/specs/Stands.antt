@@ -1,0 +1,140 @@
+-- What the kept states stand for, when a kernel can fire, and what a firing does.
+use Rattle.std.specs.Prelude.{◌≡◌, ℕ, ℤ, List, [], ◌∷◌, All, length, take, drop}
+use Rattle.river_base.specs.declared.item.Item as item
+use Rattle.river_base.specs.declared.item.Item.TheVariants.{Flat, Pack}
+use Rattle.river_base.specs.declared.item.Flat as flat
+use Rattle.river_base.specs.declared.item.Flat.TheVariants.{One}
+use Rattle.river_base.specs.declared.kind.QueueType.{QueueType}
+use Rattle.river_base.specs.Places.{none}
+use Rattle.work_code.specs.Steps.{Body}
+use Rattle.kern_rows.specs.Forms.{CodeForm, FilterForm}
+use Rattle.kern_rows.specs.Runs.{Filtering, run_kept, pushed_to}
+use Rattle.kern_rows.specs.Stands.{Waiting, StandsForFiltering, Dealing}
+use Rattle.kern_rows.specs.Turns.{Turns, IsTurn, shares, ones}
+use Rattle.river_kernels.specs.declared.types.VarKind.{VarKind}
+use Rattle.river_kernels.specs.Fits.{Fits}
+use Rattle.river_kernels.specs.Kern.{Kern, code, filter, duplicate, deal, collect, packed, unpack, window, select, project, cross, streamer, tally, fused}
+use Rattle.brooklet_model.specs.Firings.{Kept, Slots, Buffered, Turn, Joining, Fired}
+use Rattle.brooklet_model.specs.Fire.{privates, code_one}
+use Rattle.brooklet_model.specs.Shapes.{IsJoined}
+use Rattle.brooklet_model.specs.Typed.{IsOf, IsOnRows, Holds}
+use Rattle.brooklet_step.specs.declared.emit.Emit.{Emit}
+use Rattle.brooklet_step.specs.declared.state.State.{State}
+use Rattle.brooklet_step.specs.declared.state.State.TheVariants as state
+use Rattle.brooklet_step.specs.Took.{Took, HasRoom}
+
+-- there are no states
+pub record AreNone (st : List State) (ks : List Kept) : Type 0 where
+  pub code : st ≡ []
+  pub defined : ks ≡ []
+
+-- so many slots are kept
+pub record AreSlots (n : ℕ) (st : List State) (ks : List Kept) : Type 0 where
+  pub slots : List ℤ
+  pub code : st ≡ state.Slots slots ∷ []
+  pub defined : ks ≡ Slots slots ∷ []
+  pub count : length slots ≡ n
+
+-- the kept slots of a body are one state, where there are some
+abbrev pub StandsForSlots : List ℤ → List State → List Kept → Type 0
+StandsForSlots [] st ks = AreNone st ks
+StandsForSlots (z ∷ zs) st ks = AreSlots (length (z ∷ zs)) st ks
+
+-- the values that wait in a filter, for all that it has received
+pub record StandsForFilter (f : FilterForm) (st : List State) (ks : List Kept) : Type 0 where
+  pub now : Waiting
+  pub seen : Filtering
+  pub code : st ≡ state.Filter now ∷ []
+  pub defined : ks ≡ Buffered seen ∷ []
+  pub stands : StandsForFiltering f now seen
+  pub count : length now.kept ≡ length f.starts
+
+-- the turn of a splitter
+pub record StandsForTurn (ws : List ℕ) (st : List State) (ks : List Kept) : Type 0 where
+  pub now : Dealing
+  pub code : st ≡ state.Deal now ∷ []
+  pub defined : ks ≡ Turn now.port now.had ∷ []
+  pub turn : IsTurn ws now.port now.had
+
+-- what waits in a joiner, and its turn; `wrap` says of which kind the kept state is
+pub record StandsForJoiner (wrap : Turns → State) (ws : List ℕ) (st : List State) (ks : List Kept) : Type 0 where
+  pub now : Turns
+  pub code : st ≡ wrap now ∷ []
+  pub defined : ks ≡ Joining now ∷ []
+  pub joined : IsJoined ws now
+
+-- the states that the code keeps stand for these
+abbrev pub StandsFor : Kern → List State → List Kept → Type 0
+StandsFor (code k) st ks = StandsForSlots k.starts st ks
+StandsFor (filter f) st ks = StandsForFilter f st ks
+StandsFor (duplicate n) st ks = AreNone st ks
+StandsFor (deal ws) st ks = StandsForTurn (shares ws) st ks
+StandsFor (collect ws) st ks = StandsForJoiner (λ s. state.Collect s) (shares ws) st ks
+StandsFor (packed k) st ks = StandsFor k st ks
+StandsFor (unpack n) st ks = StandsForJoiner (λ s. state.Unpack s) (ones n) st ks
+StandsFor (window w) st ks = ⊥
+StandsFor (select e) st ks = ⊥
+StandsFor (project es) st ks = ⊥
+StandsFor cross st ks = ⊥
+StandsFor (streamer s) st ks = ⊥
+StandsFor tally st ks = ⊥
+StandsFor (fused a b at) st ks = StandsFor a (take (privates a) st) (take (privates a) ks) × StandsFor b (drop (privates a) st) (drop (privates a) ks)
+
+-- the item is a row
+pub record IsRow (x : item.Item) : Type 0 where
+  pub row : List ℤ
+  pub is : x ≡ Flat (One row)
+
+-- the item is a pack
+pub record IsPack (x : item.Item) : Type 0 where
+  pub flats : List flat.Flat
+  pub is : x ≡ Pack flats
+
+-- the state is so many slots
+pub record IsSlots (n : ℕ) (s : State) : Type 0 where
+  pub slots : List ℤ
+  pub is : s ≡ state.Slots slots
+  pub count : length slots ≡ n
+
+-- a body ran on the values of a row with the kept slots: what it pushed, and the new slots
+pub record RanKept (b : Body) (row : List ℤ) (s s' : State) (pushes : List (ℕ × List ℤ)) : Type 0 where
+  pub each : (slots : List ℤ) → s ≡ state.Slots slots → (pushes ≡ (run_kept b slots row).pushes) × (s' ≡ state.Slots (run_kept b slots row).slots)
+
+-- the body ran on the row: what it pushed, and what the new states stand for
+pub record Pushed (k : CodeForm) (x : item.Item) (st st' : List State) (pushes : List (ℕ × List ℤ)) : Type 0 where
+  pub given : (ks : List Kept) → StandsForSlots k.starts st ks → ((code_one k x ks).outs ≡ (λ p. pushed_to p pushes)) × ((code_one k x ks).adds ≡ none) × StandsForSlots k.starts st' (code_one k x ks).states
+
+-- from all states that the old ones stand for, the lists grew by what the firing gives, and the new ones stand for its states
+pub record Fires (k : Kern) (out new : Emit) (st st' : List State) (r : List Kept → Fired) : Type 0 where
+  pub given : (ks : List Kept) → StandsFor k st ks → Took out new (r ks) × StandsFor k st' (r ks).states
+
+-- the states stand for some that keep only items of these types
+pub record Keeps (k : Kern) (reads : List QueueType) (st : List State) : Type 0 where
+  pub kept : List Kept
+  pub stands : StandsFor k st kept
+  pub holds : Holds k reads kept
+
+-- a kernel on rows is well formed, and the states with what they keep fit it under these types of its input ports
+pub record Fitted (k : Kern) (reads : List QueueType) (st : List State) : Type 0 where
+  pub on_rows : IsOnRows k
+  pub writes : List QueueType
+  pub vars : List VarKind
+  pub fits : Fits k reads writes vars
+  pub keeps : Keeps k reads st
+
+-- the item and its port fit too
+pub record Takes (k : Kern) (port : ℕ) (x : item.Item) (st : List State) : Type 0 where
+  pub reads : List QueueType
+  pub fitted : Fitted k reads st
+  pub item : IsOf reads port x
+
+-- all these items fit the first port
+pub record TakesAll (k : Kern) (xs : List item.Item) (st : List State) : Type 0 where
+  pub reads : List QueueType
+  pub fitted : Fitted k reads st
+  pub items : All (IsOf reads 0) xs
+
+-- a firing can be made: the lists for what it gives are there
+pub record Applies (k : Kern) (port : ℕ) (x : item.Item) (st : List State) (out : Emit) : Type 0 where
+  pub takes : Takes k port x st
+  pub room : HasRoom k out

@@ -1,0 +1,210 @@
+// One firing of a kernel that has no kernel inside.
+ghost use Rattle.std.specs.Prelude.{◌≡◌, ◌<◌, ◌∷◌, [], length, map, OnOk, IfOk};
+ghost use Rattle.river_base.specs.declared.item.Item.TheVariants as variant;
+ghost use Rattle.river_base.specs.declared.item.Flat.TheVariants as flat;
+ghost use Rattle.kern_rows.specs.Forms.{code_form, filter_form};
+ghost use Rattle.kern_rows.specs.Needs.{CanCode};
+ghost use Rattle.kern_rows.specs.Runs.{run_kept};
+ghost use Rattle.river_kernels.specs.Kern.{code as code_kern, filter as filter_kern, deal as deal_kern, collect as collect_kern, unpack as unpack_kern};
+ghost use Rattle.brooklet_model.specs.Fire.{fire as fire_lem, values_of};
+ghost use Rattle.brooklet_step.specs.Stands.{Takes, Applies, Fires, IsRow, IsPack, IsSlots, Pushed, RanKept};
+
+use crate::emit::Emit;
+use crate::state::State;
+use kern_rows::{CodeKernel, Collect, Deal, Filter, Unpack};
+use river_base::{Flat, Flats, Item, Items, NoMemory, Numbers, Row};
+use std::alloc::Global;
+use work_code::Emitted;
+
+// The row that an item is.
+fn row_of(item: &Item) -> &Row
+    requires { IsRow item.now }
+    ensures { result.now ≡ values_of item.now }
+{
+    match item {
+        Item::Flat(Flat::One(row)) => row,
+        _ => unreachable!(),
+    }
+}
+
+// What a body without kept slots pushes.
+fn push_once(alloc: Global, kernel: &CodeKernel, row: &Row) -> Result<Emitted, NoMemory>
+    requires formed { CanCode (code_form kernel.now) }
+    requires none { (code_form kernel.now).starts ≡ [] }
+    requires row { length row.now ≡ (code_form kernel.now).body.inputs }
+    ensures { IfOk result (λ pushes. pushes ≡ (run_kept (code_form kernel.now).body [] row.now).pushes) }
+{
+    let mut none = Numbers::new(alloc);
+    let mut pushes = Emitted::new(alloc);
+    kernel.step(alloc, &mut none, row, &mut pushes)?;
+    Ok(pushes)
+}
+
+// What a body with kept slots pushes.
+fn push_kept(
+    alloc: Global,
+    kernel: &CodeKernel,
+    row: &Row,
+    state: &mut State,
+) -> Result<Emitted, NoMemory>
+    requires formed { CanCode (code_form kernel.now) }
+    requires slots { IsSlots (length (code_form kernel.now).starts) state.old }
+    requires row { length row.now ≡ (code_form kernel.now).body.inputs }
+    ensures { IfOk result (λ pushes. RanKept (code_form kernel.now).body row.now state.old state.new pushes) }
+{
+    match state {
+        State::Slots(slots) => {
+            let mut pushes = Emitted::new(alloc);
+            kernel.step(alloc, slots, row, &mut pushes)?;
+            Ok(pushes)
+        }
+        _ => unreachable!(),
+    }
+}
+
+// What a body pushes.
+fn pushes_of(
+    alloc: Global,
+    kernel: &CodeKernel,
+    item: &Item,
+    states: &mut [State],
+) -> Result<Emitted, NoMemory>
+    requires { Takes (code_kern (code_form kernel.now)) 0 item.now states.old }
+    ensures { IfOk result (λ pushes. Pushed (code_form kernel.now) item.now states.old states.new pushes) }
+{
+    if kernel.starts.is_empty() {
+        push_once(alloc, kernel, row_of(item))
+    } else {
+        push_kept(alloc, kernel, row_of(item), &mut states[0])
+    }
+}
+
+/// A body runs on a row.
+pub fn fire_code(
+    alloc: Global,
+    kernel: &CodeKernel,
+    item: &Item,
+    states: &mut [State],
+    out: &mut Emit,
+) -> Result<(), NoMemory>
+    requires { Applies (code_kern (code_form kernel.now)) 0 item.now states.old out.old }
+    ensures { OnOk result (Fires (code_kern (code_form kernel.now)) out.old out.new states.old states.new (fire_lem (code_kern (code_form kernel.now)) 0 item.now)) }
+{
+    let pushes = pushes_of(alloc, kernel, item, states)?;
+    out.give_pushes(&pushes)?;
+    Ok(())
+}
+
+// Each value as an item.
+#[tactic(auto, using(std::proofs::lemmas::List::map_more))]
+fn items_of(alloc: Global, values: &Numbers) -> Result<Items, NoMemory>
+    ensures { IfOk result (λ items. items ≡ map (λ v. variant.Flat (flat.One (v ∷ []))) values.now) }
+{
+    let mut items = Items::new(alloc);
+    for value in values.as_slice() {
+        items.push(Item::Flat(Flat::One(Row::one(*value))))?;
+    }
+    Ok(items)
+}
+
+/// A value comes to a filter.
+pub fn fire_filter(
+    alloc: Global,
+    filter: &Filter,
+    item: &Item,
+    state: &mut State,
+    out: &mut Emit,
+) -> Result<(), NoMemory>
+    requires { Applies (filter_kern (filter_form filter.now)) 0 item.now (state.old ∷ []) out.old }
+    ensures { OnOk result (Fires (filter_kern (filter_form filter.now)) out.old out.new (state.old ∷ []) (state.new ∷ []) (fire_lem (filter_kern (filter_form filter.now)) 0 item.now)) }
+{
+    match state {
+        State::Filter(state) => {
+            let mut values = Numbers::new(alloc);
+            filter.step(alloc, state, row_of(item).values()[0], &mut values)?;
+            out.give_all(0, items_of(alloc, &values)?)?;
+            Ok(())
+        }
+        _ => unreachable!(),
+    }
+}
+
+/// A splitter passes an item; a number of ports that is no u32 is want of memory.
+pub fn fire_deal(
+    weights: &Numbers,
+    item: Item,
+    state: &mut State,
+    out: &mut Emit,
+) -> Result<(), NoMemory>
+    requires { Applies (deal_kern weights.now) 0 item (state.old ∷ []) out.old }
+    ensures { OnOk result (Fires (deal_kern weights.now) out.old out.new (state.old ∷ []) (state.new ∷ []) (fire_lem (deal_kern weights.now) 0 item)) }
+{
+    if weights.len() > u32::MAX as usize {
+        return Err(NoMemory);
+    }
+    match state {
+        State::Deal(state) => {
+            let port = Deal::step(weights, state);
+            out.give(port as usize, item)?;
+            Ok(())
+        }
+        _ => unreachable!(),
+    }
+}
+
+/// An item comes to a joiner.
+pub fn fire_collect(
+    alloc: Global,
+    weights: &Numbers,
+    port: u32,
+    item: Item,
+    state: &mut State,
+    out: &mut Emit,
+) -> Result<(), NoMemory>
+    requires { Applies (collect_kern weights.now) port item (state.old ∷ []) out.old }
+    ensures { OnOk result (Fires (collect_kern weights.now) out.old out.new (state.old ∷ []) (state.new ∷ []) (fire_lem (collect_kern weights.now) port item)) }
+{
+    match state {
+        State::Collect(state) => {
+            let mut items = Items::new(alloc);
+            Collect::step(weights, state, port, item, &mut items)?;
+            out.give_all(0, items)?;
+            Ok(())
+        }
+        _ => unreachable!(),
+    }
+}
+
+// The items of a pack.
+fn pack_of(item: Item) -> Flats
+    requires { IsPack item }
+    ensures { variant.Pack result ≡ item }
+{
+    match item {
+        Item::Pack(flats) => flats,
+        _ => unreachable!(),
+    }
+}
+
+/// A pack comes to a joiner of packs.
+pub fn fire_unpack(
+    alloc: Global,
+    ports: u32,
+    port: u32,
+    item: Item,
+    state: &mut State,
+    out: &mut Emit,
+) -> Result<(), NoMemory>
+    requires { Applies (unpack_kern ports) port item (state.old ∷ []) out.old }
+    ensures { OnOk result (Fires (unpack_kern ports) out.old out.new (state.old ∷ []) (state.new ∷ []) (fire_lem (unpack_kern ports) port item)) }
+{
+    match state {
+        State::Unpack(state) => {
+            let mut items = Items::new(alloc);
+            Unpack::step(ports, state, port, pack_of(item), &mut items)?;
+            out.give_all(0, items)?;
+            Ok(())
+        }
+        _ => unreachable!(),
+    }
+}
