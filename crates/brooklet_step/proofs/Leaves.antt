@@ -244,6 +244,9 @@ deal_turn ws x s old e t =
     let h = t.fitted.keeps.stands in
     subst (λ (d : Dealing). IsTurn (shares ws) d.port d.had) (sym (same_turn old h.now (sym e ∙ head_is s (state.Deal h.now) h.code))) h.turn
 
+pub deal_shares : (ws : List ℤ) (x : item.Item) (st : List State) → Takes (deal ws) 0 x st → HaveShares (shares ws)
+deal_shares ws x st t = shaped (deal ws) t.reads t.fitted.writes t.fitted.vars t.fitted.fits
+
 pub deal_fires : (ws : List ℤ) (x : item.Item) (s s' : State) (old new : Dealing) (out out' : Emit) (port : ℕ) → Applies (deal ws) 0 x (s ∷ []) out → s ≡ state.Deal old → s' ≡ state.Deal new → port ≡ old.port → new.port ≡ next_port (shares ws) old.port old.had → new.had ≡ next_had (shares ws) old.port old.had → Took out out' (gives port (x ∷ []) []) → Fires (deal ws) out out' (s ∷ []) (s' ∷ []) (fire (deal ws) 0 x)
 deal_fires ws x s s' old new out out' port a e e' ep np nh took = record {
   given = λ ks h.

@@ -5,3 +5,4 @@ pub mod Fused
 pub mod Leaves
 pub mod Size
 pub mod Standing
+pub mod Starts

@@ -15,8 +15,8 @@ use river_base::{Duplicate, Flats, Item, Items, NoMemory};
 use river_plan::Kernel;
 use std::alloc::Global;
 
-// An empty list for each port and table of a kernel.
-fn blank_for(alloc: Global, kernel: &Kernel) -> Result<Emit, NoMemory>
+/// An empty list for each port and table of a kernel.
+pub fn blank_for(alloc: Global, kernel: &Kernel) -> Result<Emit, NoMemory>
     ensures { IfOk result (λ emit. IsBlank (kern_of kernel.now) emit) }
 {
     let ports = outs_of(kernel)?;

@@ -1,6 +1,9 @@
 use Rattle.std.proofs.Common.{refl}
-use Rattle.brooklet_step.proofs.Leaves.{deal_fires}
+use Rattle.brooklet_step.proofs.Leaves.{deal_shares, deal_fires}
 use Rattle.brooklet_step.proofs.leaf.fire_deal.Goals as goal
+
+pub step-port-requires-clause-weights : goal.step-port-requires-clause-weights
+step-port-requires-clause-weights c = deal_shares c.args.weights.now c.args.item _ c.requires.takes
 
 pub returns : goal.returns
 returns c =

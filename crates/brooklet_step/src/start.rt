@@ -1,0 +1,134 @@
+// The states before the first firing.
+ghost use Rattle.std.specs.Prelude.{◌≡◌, [], ◌∷◌, length, IfOk};
+ghost use Rattle.kern_rows.specs.Forms.{code_form, filter_form};
+ghost use Rattle.kern_rows.specs.Needs.{CanFilter, HaveShares};
+ghost use Rattle.kern_rows.specs.Runs.{filter_start};
+ghost use Rattle.kern_rows.specs.Turns.{shares, turns_start};
+ghost use Rattle.river_kernels.specs.Kern.{kern_of};
+ghost use Rattle.brooklet_model.specs.Firings.{Buffered, Turn};
+ghost use Rattle.brooklet_model.specs.Fire.{first_kept, first_slots};
+ghost use Rattle.brooklet_model.specs.Shapes.{IsFormed};
+ghost use Rattle.brooklet_model.specs.Typed.{IsOnRows};
+ghost use Rattle.brooklet_step.specs.declared.state.State.TheVariants as variant;
+ghost use Rattle.brooklet_step.specs.Took.{IsBlank};
+ghost use Rattle.brooklet_step.specs.Stands.{StandsFor, StandsForSlots, StandsForFilter, StandsForTurn};
+
+use crate::emit::Emit;
+use crate::firing::blank_for;
+use crate::state::{State, States};
+use kern_rows::{CodeKernel, Collect, Deal, Filter, Unpack};
+use river_base::{NoMemory, Numbers};
+use river_plan::Kernel;
+use std::alloc::Global;
+
+fn only(alloc: Global, state: State) -> Result<States, NoMemory>
+    ensures { IfOk result (λ states. states ≡ state ∷ []) }
+{
+    let mut states = States::new(alloc);
+    states.push(state)?;
+    Ok(states)
+}
+
+#[tactic(auto, using(crate::proofs::Starts::no_slots, crate::proofs::Starts::some_slots))]
+fn code_states(alloc: Global, code: &CodeKernel) -> Result<States, NoMemory>
+    ensures { IfOk result (λ states. StandsForSlots (code_form code.now).starts states (first_slots (code_form code.now).starts)) }
+{
+    if code.starts.is_empty() {
+        Ok(States::new(alloc))
+    } else {
+        only(alloc, State::Slots(code.start(alloc)?))
+    }
+}
+
+fn filter_states(alloc: Global, filter: &Filter) -> Result<States, NoMemory>
+    requires { CanFilter (filter_form filter.now) }
+    ensures { IfOk result (λ states. StandsForFilter (filter_form filter.now) states (Buffered (filter_start (filter_form filter.now)) ∷ [])) }
+{
+    let state = filter.start(alloc)?;
+    let states = only(alloc, State::Filter(state))?;
+    Ok(states)
+}
+
+#[tactic(auto, using(brooklet_model::proofs::Shapes::first_turn))]
+fn deal_states(alloc: Global, weights: &Numbers) -> Result<States, NoMemory>
+    requires { HaveShares (shares weights.now) }
+    ensures { IfOk result (λ states. StandsForTurn (shares weights.now) states (Turn 0 0 ∷ [])) }
+{
+    let state = Deal::start(weights)?;
+    let states = only(alloc, State::Deal(state))?;
+    Ok(states)
+}
+
+fn collect_states(alloc: Global, weights: &Numbers) -> Result<States, NoMemory>
+    ensures { IfOk result (λ states. states ≡ variant.Collect (turns_start (length weights.now)) ∷ []) }
+{
+    let state = Collect::start(alloc, weights)?;
+    let states = only(alloc, State::Collect(state))?;
+    Ok(states)
+}
+
+fn unpack_states(alloc: Global, ports: u32) -> Result<States, NoMemory>
+    ensures { IfOk result (λ states. states ≡ variant.Unpack (turns_start ports) ∷ []) }
+{
+    let state = Unpack::start(alloc, ports)?;
+    let states = only(alloc, State::Unpack(state))?;
+    Ok(states)
+}
+
+fn states_of(alloc: Global, kernel: &Kernel) -> Result<States, NoMemory>
+    requires formed { IsFormed (kern_of kernel.now) }
+    requires on_rows { IsOnRows (kern_of kernel.now) }
+    ensures { IfOk result (λ states. StandsFor (kern_of kernel.now) states (first_kept (kern_of kernel.now))) }
+{
+    match kernel {
+        Kernel::Code(code) => {
+            let states = code_states(alloc, code)?;
+            Ok(states)
+        }
+        Kernel::Filter(filter) => {
+            let states = filter_states(alloc, filter)?;
+            Ok(states)
+        }
+        Kernel::Duplicate(_) => Ok(States::new(alloc)),
+        Kernel::Deal(weights) => {
+            let states = deal_states(alloc, weights)?;
+            Ok(states)
+        }
+        Kernel::Collect(weights) => {
+            let states = collect_states(alloc, weights)?;
+            Ok(states)
+        }
+        Kernel::Unpack(ports) => {
+            let states = unpack_states(alloc, *ports)?;
+            Ok(states)
+        }
+        Kernel::Packed(inner) => {
+            let states = states_of(alloc, inner)?;
+            Ok(states)
+        }
+        Kernel::Fused { first, second, .. } => {
+            let mut states = states_of(alloc, first)?;
+            let more = states_of(alloc, second)?;
+            states.append(more)?;
+            Ok(states)
+        }
+        Kernel::Window(_)
+        | Kernel::Select(_)
+        | Kernel::Project(_)
+        | Kernel::Cross
+        | Kernel::Streamer(_)
+        | Kernel::Tally => unreachable!(),
+    }
+}
+
+/// The states of a kernel before its first firing, and an empty list for each of its ports and tables.
+pub fn first_states(alloc: Global, kernel: &Kernel) -> Result<(States, Emit), NoMemory>
+    requires formed { IsFormed (kern_of kernel.now) }
+    requires on_rows { IsOnRows (kern_of kernel.now) }
+    ensures states { IfOk result (λ both. StandsFor (kern_of kernel.now) both.0 (first_kept (kern_of kernel.now))) }
+    ensures emit { IfOk result (λ both. IsBlank (kern_of kernel.now) both.1) }
+{
+    let states = states_of(alloc, kernel)?;
+    let emit = blank_for(alloc, kernel)?;
+    Ok((states, emit))
+}
