@@ -10,7 +10,8 @@ use Rattle.river_base.specs.Places.{list_at}
 use Rattle.river_kernels.specs.Kern.{Kern, kern_of}
 use Rattle.river_plan.specs.declared.op.Op.{Op}
 use Rattle.river_plan.specs.declared.plan.Decl.{Decl}
-use Rattle.river_plan.specs.Forms.{Name, OpForm, PlanForm, op_form, op_forms, decl_names, all_decls, queue_names}
+use Rattle.river_plan.specs.declared.plan.RawPlan.{RawPlan}
+use Rattle.river_plan.specs.Forms.{Name, OpForm, PlanForm, plan_form, op_form, op_forms, decl_names, all_decls, queue_names}
 use Rattle.river_plan.specs.Kinds.{kind_of, var_kind}
 use Rattle.river_plan.specs.Names.{count}
 use Rattle.river_plan.specs.Valid.{IsPlan}
@@ -20,6 +21,7 @@ use Rattle.brooklet_model.specs.Histories.{inputs_of, most_firings}
 use Rattle.brooklet_model.specs.Machine.{start, first_of}
 use Rattle.brooklet_model.specs.Shapes.{IsFormed}
 use Rattle.brooklet_model.specs.Typed.{IsBuilt, IsOnRows, AreInputs}
+use Rattle.brooklet_model.proofs.Lists.{funext}
 use Rattle.brooklet_model.proofs.Solutions.{written_out}
 use Rattle.brooklet_model.proofs.Traces.{some_is}
 use Rattle.brooklet_model.proofs.TypedPlan.{op_fits, op_on_rows}
@@ -212,3 +214,23 @@ first p pl inputs queues taken cs states reads writes v b fit pe qe te f ce re w
         ran = record { events = []; state = start p inputs; run = refl; stands = stands; counts = cs_are };
       };
     })
+
+-- the same in the terms of the code; f is the place of a queue by a map
+pub first_by : (raw : RawPlan) (p pl : PlanForm) (inputs queues : List (List item.Item)) (a b n k : ℕ) (taken cs : List ℕ) (states : List (List State)) (f : Name → ℕ) (reads writes : List (List ℕ)) → IsPlan p → IsBuilt p → Fit p inputs → plan_form raw ≡ p → pl ≡ p
+    → a ≡ length raw.outputs → b ≡ length raw.queues → n ≡ length queues → k ≡ length raw.ops → ((q : Name) → f q ≡ place (queue_names (plan_form raw)) q)
+    → queues ≡ replicate a [] ++ (inputs ++ replicate b []) → taken ≡ replicate n 0 → AreFirst (op_forms raw.ops) states → cs ≡ replicate k 0
+    → reads ≡ map (λ (op : OpForm). map f op.reads) (op_forms raw.ops) → writes ≡ map (λ (op : OpForm). map f op.writes) (op_forms raw.ops)
+    → First p inputs (record { plan = pl; queues = queues; taken = taken; states = states; counts = cs; reads = reads; writes = writes; stopped = false })
+first_by raw p pl inputs queues a b n k taken cs states f reads writes v bu fit e pe ae be ne ke fe qe te fs ce re we =
+    let m : Parts = record { plan = pl; queues = queues; taken = taken; states = states; counts = cs; reads = reads; writes = writes; stopped = false } in
+    let same : f ≡ place (queue_names (plan_form raw)) = funext f (place (queue_names (plan_form raw))) fe in
+    subst (λ (x : PlanForm). First x inputs m) e
+    (first (plan_form raw) pl inputs queues taken cs states reads writes (subst IsPlan (sym e) v) (subst IsBuilt (sym e) bu) (subst (λ (x : PlanForm). Fit x inputs) (sym e) fit) (pe ∙ sym e)
+    (qe ∙ ap (λ (i : ℕ). replicate i [] ++ (inputs ++ replicate b [])) ae ∙ ap (λ (i : ℕ). replicate (length raw.outputs) [] ++ (inputs ++ replicate i [])) be)
+    (te ∙ ap (λ (i : ℕ). replicate i 0) ne) fs
+    (ce ∙ ap (λ (i : ℕ). replicate i 0) (ke ∙ sym (length-map raw.ops op_form)))
+    (re ∙ ap (λ (g : Name → ℕ). map (λ (op : OpForm). map g op.reads) (op_forms raw.ops)) same)
+    (we ∙ ap (λ (g : Name → ℕ). map (λ (op : OpForm). map g op.writes) (op_forms raw.ops)) same))
+
+pub can_start_by : (raw : RawPlan) (p : PlanForm) → plan_form raw ≡ p → IsPlan p → IsBuilt p → CanStart (op_forms raw.ops)
+can_start_by raw p e v b = subst (λ (x : PlanForm). CanStart x.ops) (sym e) (can_start p v b)

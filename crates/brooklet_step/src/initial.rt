@@ -6,9 +6,9 @@ ghost use Rattle.brooklet_step.specs.Fit.{Fit};
 ghost use Rattle.brooklet_step.specs.Works.{GoesOn, Starts};
 ghost use Rattle.brooklet_step.specs.Initial.{AreFirst, CanStart};
 
-use crate::firing::first_states;
 use crate::machine::Parts;
 use crate::places::{Sizes, queue_places, read_places, write_places};
+use crate::start::first_states;
 use crate::{Inputs, ItemLists, States};
 use river_base::{Listed, NoMemory};
 use river_plan::{Ops, Plan};
@@ -23,16 +23,25 @@ pub(crate) fn first_parts(alloc: Global, plan: &Plan, inputs: Inputs) -> Result<
 {
     let raw = plan.raw();
     let map = queue_places(alloc, raw)?;
-    let queues = first_queues(alloc, raw.outputs.len(), inputs, raw.queues.len())?;
-    let taken = zeros(alloc, queues.len())?;
+    let before = raw.outputs.len();
+    let after = raw.queues.len();
+    let queues = first_queues(alloc, before, inputs, after)?;
+    let queue_count = queues.len();
+    let taken = zeros(alloc, queue_count)?;
+    let states = all_states(alloc, &raw.ops)?;
+    let op_count = raw.ops.len();
+    let counts = zeros(alloc, op_count)?;
+    let reads = read_places(alloc, &map, &raw.ops)?;
+    let writes = write_places(alloc, &map, &raw.ops)?;
+    let plan = plan.copy(alloc)?;
     Ok(Parts {
-        plan: plan.copy(alloc)?,
+        plan,
         queues,
         taken,
-        states: all_states(alloc, &raw.ops)?,
-        counts: zeros(alloc, raw.ops.len())?,
-        reads: read_places(alloc, &map, &raw.ops)?,
-        writes: write_places(alloc, &map, &raw.ops)?,
+        states,
+        counts,
+        reads,
+        writes,
         stopped: false,
     })
 }

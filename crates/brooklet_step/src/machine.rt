@@ -44,11 +44,11 @@ pub struct Machine {
 impl Model for Machine {
     ghost use Rattle.brooklet_step.specs.declared.machine.Parts.{Parts};
 
-    ghost use Rattle.brooklet_step.specs.contracts.machine.Parts as parts;
-
     ghost Value = { Parts };
 
-    ghost coded = { parts.the_row.coded };
+    ghost use Rattle.brooklet_step.specs.PartsCode.{parts_code};
+
+    ghost coded = { parts_code };
 
     ghost use Rattle.brooklet_step.specs.Works.{IsMachine};
 

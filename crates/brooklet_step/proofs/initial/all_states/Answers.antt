@@ -14,4 +14,4 @@ first_states-requires-clause-on_rows c =
     (can_start_at c.as_slice-op-items.result.now c.loop-op.op-index c.op-item.result (subst (λ (l : List Op). CanStart (op_forms l)) (sym c.as_slice-op-items.ensures) c.requires) c.loop-op-test.true c.op-item.is).1
 
 pub loop-op-preserved : goal.loop-op-preserved
-loop-op-preserved c = first_next c.as_slice-op-items.result.now c.loop-op.op-index c.op-item.result c.loop-op.all c.push.new.self c.in_ok-states.states c.loop-op-test.true c.op-item.is c.loop-op.invariant c.in_ok-states.ensures.0 c.in_ok-push.ensures.ok
+loop-op-preserved c = first_next c.as_slice-op-items.result.now c.loop-op.op-index c.op-item.result c.loop-op.all c.push.new.self c.in_ok-states.states c.loop-op-test.true c.op-item.is c.loop-op.invariant c.in_ok-states.ensures.states c.in_ok-push.ensures.ok
