@@ -63,8 +63,7 @@ enabled_place m o port n ps g e pe ne = ne ∙ ap (λ (l : List ℕ). slice_inde
 
 pub front_there : (m : Parts) (o port n : ℕ) (g : GoesOn m) (e : IsEnabled m o port) → n ≡ place (queue_names m.plan) e.queue → (n < length m.queues) × (n < length m.taken) × (slice_index_or m.taken n 0 < length (list_at m.queues n))
 front_there m o port n g e at =
-    let b = place_in_queues m o port e.queue g e.reads in
-    (
+    let b = place_in_queues m o port e.queue g e.reads in (
       subst (λ i. i < length m.queues) (sym at) b.0,
       subst (λ i. i < length m.taken) (sym at) b.1,
       subst (λ i. slice_index_or m.taken i 0 < length (list_at m.queues i)) (sym at) e.item,
@@ -96,8 +95,7 @@ send_there m o port x st st' out ws g e es f we =
     let lo : length out.outs ≡ outs op.kernel = ap length t.outs ∙ length-each_grew c.blank.outs (fire op.kernel port x ks).outs ∙ ap length c.is_blank.outs ∙ length-replicate (outs op.kernel) [] in
     let is : ws ≡ places names op.writes = we ∙ places_at (λ d. d.writes) names m.writes m.plan.ops o op g.laid_out.writes e.reads.op_is in
     let lw : length ws ≡ length op.writes = ap length is ∙ length-map op.writes (place names) in
-    let wo : length op.writes ≡ outs op.kernel = sym (length-map op.writes (kind_of (all_decls m.plan))) ∙ (counts op.kernel _ _ _ (op_fits m.plan g.valid g.built o op e.reads.op_is)).outs in
-    (
+    let wo : length op.writes ≡ outs op.kernel = sym (length-map op.writes (kind_of (all_decls m.plan))) ∙ (counts op.kernel _ _ _ (op_fits m.plan g.valid g.built o op e.reads.op_is)).outs in (
       omega (arith, lo, lw, wo),
       (λ j lt.
           let w = read_of op.writes j (omega (arith, lt, lw)) in
@@ -127,7 +125,7 @@ next m o port n k x st st' out ws queues cs g e at hx ke es f we eq ec =
     let qs : queues ≡ each_grew m.queues (joined_at (places names op.writes) (list_at out.outs)) = eq ∙ ap (λ (l : List ℕ). each_grew m.queues (joined_at l (list_at out.outs))) is in
     let ks : k ≡ taken_of m e.queue + 1 = ke ∙ ap (λ i. slice_index_or m.taken i 0 + 1) at in
     let end : next_parts m o e.queue queues st' ≡ (record { plan = m.plan; queues = queues; taken = slice_set m.taken n k; states = slice_set m.states o st'; counts = cs; reads = m.reads; writes = m.writes; stopped = false }) =
-        λ i. record { plan = m.plan; queues = queues; taken = slice_set m.taken (sym at i) (sym ks i); states = slice_set m.states o st'; counts = sym ec i; reads = m.reads; writes = m.writes; stopped = false } in
+    λ i. record { plan = m.plan; queues = queues; taken = slice_set m.taken (sym at i) (sym ks i); states = slice_set m.states o st'; counts = sym ec i; reads = m.reads; writes = m.writes; stopped = false } in
     subst (λ (u : Parts). Next m u o port) end (record {
       steps = steps m o port e.queue x c.blank out st' queues g e.reads hq c.is_blank fs qs;
       goes_on = goes_on m o port e.queue x c.blank out st' queues g e.reads hq c.is_blank fs qs;

@@ -56,8 +56,8 @@ found [] q lt = absurd (omega (arith, lt))
 found (w ∷ ws) q lt = ⊎_elim
     (λ c. record { n = 0; is = if_true (name_eq w q) (Some 0) (next_place (place_in ws q)) c.1; at = ap Some c.0 })
     (λ c.
-        let r = found ws q (let e = ap one_if c.1 in omega (arith, e, lt)) in
-        record { n = suc r.n; is = if_false (name_eq w q) (Some 0) (next_place (place_in ws q)) c.1 ∙ ap next_place r.is; at = r.at })
+    let r = found ws q (let e = ap one_if c.1 in omega (arith, e, lt)) in
+    record { n = suc r.n; is = if_false (name_eq w q) (Some 0) (next_place (place_in ws q)) c.1 ∙ ap next_place r.is; at = r.at })
     (cases_name w q)
 
 pub place_at : (names : List Name) (q : Name) → 0 < count q names → slice_get names (place names q) ≡ Some q
@@ -85,8 +85,8 @@ place_front [] ys q lt = absurd (omega (arith, lt))
 place_front (x ∷ xs) ys q lt = ⊎_elim
     (λ c. place_here x (xs ++ ys) q c.1 ∙ sym (place_here x xs q c.1))
     (λ c.
-        let lx : 0 < count q xs = let e = ap one_if c.1 in omega (arith, e, lt) in
-        place_past x (xs ++ ys) q c.1 (more xs lx) ∙ ap suc (place_front xs ys q lx) ∙ sym (place_past x xs q c.1 lx))
+    let lx : 0 < count q xs = let e = ap one_if c.1 in omega (arith, e, lt) in
+    place_past x (xs ++ ys) q c.1 (more xs lx) ∙ ap suc (place_front xs ys q lx) ∙ sym (place_past x xs q c.1 lx))
     (cases_name x q)
   where
     more : (zs : List Name) → 0 < count q zs → 0 < count q (zs ++ ys)
@@ -170,6 +170,6 @@ written_found [] f h q lt = absurd (omega (arith, lt))
 written_found (w ∷ ws) f h q lt = ⊎_elim
     (λ c. if_true (name_eq w q) (f 0) (written ws (λ j. f (suc j)) h q) c.1 ∙ ap f (sym (place_here w ws q c.1)))
     (λ c.
-        let lx : 0 < count q ws = let e = ap one_if c.1 in omega (arith, e, lt) in
-        if_false (name_eq w q) (f 0) (written ws (λ j. f (suc j)) h q) c.1 ∙ written_found ws (λ j. f (suc j)) h q lx ∙ ap f (sym (place_past w ws q c.1 lx)))
+    let lx : 0 < count q ws = let e = ap one_if c.1 in omega (arith, e, lt) in
+    if_false (name_eq w q) (f 0) (written ws (λ j. f (suc j)) h q) c.1 ∙ written_found ws (λ j. f (suc j)) h q lx ∙ ap f (sym (place_past w ws q c.1 lx)))
     (cases_name w q)

@@ -83,8 +83,7 @@ same_queue p o port q q' r r' =
 pub enabled_by : (m : Parts) (o port n w : ℕ) (b : Bool) → m.stopped ≡ false → IsPlaceOf m o port n → w ≡ length (list_at m.queues n) - slice_index_or m.taken n 0 → (IsTrue b → 0 < w) × (0 < w → IsTrue b) → (IsTrue b → IsEnabled m o port) × (IsEnabled m o port → IsTrue b)
 enabled_by m o port n w b run pl e t =
     let names = queue_names m.plan in
-    let h : w ≡ length (list_at m.queues (place names pl.queue)) - slice_index_or m.taken (place names pl.queue) 0 = subst (λ i. w ≡ length (list_at m.queues i) - slice_index_or m.taken i 0) pl.place_is e in
-    (
+    let h : w ≡ length (list_at m.queues (place names pl.queue)) - slice_index_or m.taken (place names pl.queue) 0 = subst (λ i. w ≡ length (list_at m.queues i) - slice_index_or m.taken i 0) pl.place_is e in (
       (λ y. record { running = run; queue = pl.queue; reads = pl.reads; item = let g = t.0 y in omega (arith, g, h) }),
       (λ on.
           let s = same_queue m.plan o port on.queue pl.queue on.reads pl.reads in

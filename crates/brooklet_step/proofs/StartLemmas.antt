@@ -57,14 +57,14 @@ first_more ops op states st f h =
       count = omega (arith, ls, lo, c);
       stand = λ o op' g. ⊎_elim
           (λ lt.
-              let g' : slice_get ops o ≡ Some op' = sym (got_front ops (op ∷ []) o lt) ∙ g in
-              subst (λ (u : List State). StandsFor op'.kernel u (first_kept op'.kernel)) (sym (get_or-append states (st ∷ []) [] o (omega (arith, lt, c)))) (f.stand o op' g'))
+          let g' : slice_get ops o ≡ Some op' = sym (got_front ops (op ∷ []) o lt) ∙ g in
+          subst (λ (u : List State). StandsFor op'.kernel u (first_kept op'.kernel)) (sym (get_or-append states (st ∷ []) [] o (omega (arith, lt, c)))) (f.stand o op' g'))
           (λ ge.
-              let w = slice_get_within (ops ++ op ∷ []) o op' g in
-              let e : o ≡ length ops = omega (arith, w, lo, ge) in
-              let same : op ≡ op' = some_is op op' (sym (got_last ops op o e) ∙ g) in
-              subst (λ (u : List State). StandsFor op'.kernel u (first_kept op'.kernel)) (sym (get_or_push states st [] o (omega (arith, e, c))))
-              (subst (λ (d : OpForm). StandsFor d.kernel st (first_kept d.kernel)) same h))
+          let w = slice_get_within (ops ++ op ∷ []) o op' g in
+          let e : o ≡ length ops = omega (arith, w, lo, ge) in
+          let same : op ≡ op' = some_is op op' (sym (got_last ops op o e) ∙ g) in
+          subst (λ (u : List State). StandsFor op'.kernel u (first_kept op'.kernel)) (sym (get_or_push states st [] o (omega (arith, e, c))))
+          (subst (λ (d : OpForm). StandsFor d.kernel st (first_kept d.kernel)) same h))
           (cases_lt o (length ops));
     }
 
@@ -156,25 +156,25 @@ module _ (p : PlanForm) (v : IsPlan p) (inputs : List (List item.Item)) (fit : F
       let o = v.queues_once q in
       ⊎_elim
       (λ (lo : 0 < count q outs_n).
-          let pb = place_below outs_n q lo in
-          written_out ins_n (list_at inputs) (λ n. []) q (omega (arith, a, b, o, lo))
-          ∙ sym (ap (list_at first_queues) (place_front outs_n (ins_n ++ others_n) q lo)
-          ∙ get_or-append (replicate {A = List item.Item} (length p.outputs) []) (inputs ++ replicate (length p.queues) []) [] (place outs_n q) (omega (arith, pb, before))
-          ∙ blank_at (length p.outputs) (place outs_n q)))
+      let pb = place_below outs_n q lo in
+      written_out ins_n (list_at inputs) (λ n. []) q (omega (arith, a, b, o, lo))
+      ∙ sym (ap (list_at first_queues) (place_front outs_n (ins_n ++ others_n) q lo)
+      ∙ get_or-append (replicate {A = List item.Item} (length p.outputs) []) (inputs ++ replicate (length p.queues) []) [] (place outs_n q) (omega (arith, pb, before))
+      ∙ blank_at (length p.outputs) (place outs_n q)))
       (λ (zo : count q outs_n ≡ 0). ⊎_elim
-          (λ (li : 0 < count q ins_n).
-              let pb = place_below ins_n q li in
-              written_found ins_n (list_at inputs) (λ n. []) q li
-              ∙ sym (past q (place ins_n q) zo (place_back outs_n (ins_n ++ others_n) q zo (omega (arith, b, li)) ∙ ap (λ k. length outs_n + k) (place_front ins_n others_n q li))
-              ∙ get_or-append inputs (replicate (length p.queues) []) [] (place ins_n q) (omega (arith, pb, many))))
-          (λ (zi : count q ins_n ≡ 0).
-              let lq : 0 < count q others_n = omega (arith, a, b, lt, zo, zi) in
-              written_out ins_n (list_at inputs) (λ n. []) q zi
-              ∙ sym (past q (length ins_n + place others_n q) zo (place_back outs_n (ins_n ++ others_n) q zo (omega (arith, b, lq)) ∙ ap (λ k. length outs_n + k) (place_back ins_n others_n q zi lq))
-              ∙ ap (λ k. list_at (inputs ++ replicate (length p.queues) []) (k + place others_n q)) (sym many)
-              ∙ get_or-append-add inputs (replicate (length p.queues) []) (place others_n q) []
-              ∙ blank_at (length p.queues) (place others_n q)))
-          (more_or_zero (count q ins_n)))
+      (λ (li : 0 < count q ins_n).
+      let pb = place_below ins_n q li in
+      written_found ins_n (list_at inputs) (λ n. []) q li
+      ∙ sym (past q (place ins_n q) zo (place_back outs_n (ins_n ++ others_n) q zo (omega (arith, b, li)) ∙ ap (λ k. length outs_n + k) (place_front ins_n others_n q li))
+      ∙ get_or-append inputs (replicate (length p.queues) []) [] (place ins_n q) (omega (arith, pb, many))))
+      (λ (zi : count q ins_n ≡ 0).
+      let lq : 0 < count q others_n = omega (arith, a, b, lt, zo, zi) in
+      written_out ins_n (list_at inputs) (λ n. []) q zi
+      ∙ sym (past q (length ins_n + place others_n q) zo (place_back outs_n (ins_n ++ others_n) q zo (omega (arith, b, lq)) ∙ ap (λ k. length outs_n + k) (place_back ins_n others_n q zi lq))
+      ∙ ap (λ k. list_at (inputs ++ replicate (length p.queues) []) (k + place others_n q)) (sym many)
+      ∙ get_or-append-add inputs (replicate (length p.queues) []) (place others_n q) []
+      ∙ blank_at (length p.queues) (place others_n q)))
+      (more_or_zero (count q ins_n)))
       (more_or_zero (count q outs_n))
 
 -- ALL OF IT

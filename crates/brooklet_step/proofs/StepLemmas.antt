@@ -120,7 +120,6 @@ module _ (m : Parts) (o port : ℕ) (q : Name) (x : item.Item) (blank out : Emit
     (hx : slice_get (hist_of m q) (taken_of m q) ≡ Some x) (b : IsBlank r.op.kernel blank)
     (f : Fires r.op.kernel blank out (states_of m o) st (fire r.op.kernel port x))
     (eq : queues ≡ each_grew m.queues (joined_at (places (queue_names m.plan) r.op.writes) (list_at out.outs))) where
-
   abbrev names : List Name
   names = queue_names m.plan
 
@@ -142,7 +141,7 @@ module _ (m : Parts) (o port : ℕ) (q : Name) (x : item.Item) (blank out : Emit
       let f_s = (fire r.op.kernel port x (s.kept o)).outs in
       let below : place names n < length m.queues = let p = place_below names n lt in let l = g.laid_out.queues in omega (arith, p, l) in
       let port_is : (j : ℕ) → j < length r.op.writes → f_s j ≡ list_at out.outs j = λ j lj.
-          sym (ap (λ (l : List (List item.Item)). list_at l j) (t.outs ∙ ap (λ l. each_grew l f_s) b.outs) ∙ each_grew-blanks (outs r.op.kernel) f_s j [] (omega (arith, lj, writes_many))) in
+      sym (ap (λ (l : List (List item.Item)). list_at l j) (t.outs ∙ ap (λ l. each_grew l f_s) b.outs) ∙ each_grew-blanks (outs r.op.kernel) f_s j [] (omega (arith, lj, writes_many))) in
       ap (λ l. l ++ joined r.op.writes f_s n) (h.hist n lt)
       ∙ ap (λ l. list_at m.queues (place names n) ++ l) (joined_cong_below r.op.writes f_s (list_at out.outs) n port_is)
       ∙ ap (λ l. list_at m.queues (place names n) ++ l) (sym (joined_places names r.op.writes (list_at out.outs) n (write_declared m.plan g.valid o r.op r.op_is) lt))
@@ -155,11 +154,11 @@ module _ (m : Parts) (o port : ℕ) (q : Name) (x : item.Item) (blank out : Emit
       let below : place names n < length m.taken = let p = place_below names n lt in let l = g.laid_out.taken in omega (arith, p, l) in
       ⊎_elim
       (λ c.
-          if_true (name_eq q n) (s.taken q + 1) (s.taken n) c.1 ∙ ap (λ k. k + 1) (h.taken q q_there)
-          ∙ sym (ap (λ (w : Name). slice_index_or (slice_set m.taken (place names w) (taken_of m q + 1)) (place names n) 0) c.0 ∙ get_or-set_same m.taken (place names n) (taken_of m q + 1) 0 below))
+      if_true (name_eq q n) (s.taken q + 1) (s.taken n) c.1 ∙ ap (λ k. k + 1) (h.taken q q_there)
+      ∙ sym (ap (λ (w : Name). slice_index_or (slice_set m.taken (place names w) (taken_of m q + 1)) (place names n) 0) c.0 ∙ get_or-set_same m.taken (place names n) (taken_of m q + 1) 0 below))
       (λ c.
-          let other : place names n ≢ place names q = λ e. c.0 (sym (place_apart names n q lt q_there e)) in
-          if_false (name_eq q n) (s.taken q + 1) (s.taken n) c.1 ∙ h.taken n lt ∙ sym (get_or-set_other m.taken (place names q) (place names n) (taken_of m q + 1) 0 other))
+      let other : place names n ≢ place names q = λ e. c.0 (sym (place_apart names n q lt q_there e)) in
+      if_false (name_eq q n) (s.taken q + 1) (s.taken n) c.1 ∙ h.taken n lt ∙ sym (get_or-set_other m.taken (place names q) (place names n) (taken_of m q + 1) 0 other))
       (cases_name q n)
 
   -- the states of each operator
@@ -201,14 +200,14 @@ module _ (m : Parts) (o port : ℕ) (q : Name) (x : item.Item) (blank out : Emit
       let below : n < length m.counts = let l = g.laid_out.counts in omega (arith, lt, l) in
       ⊎_elim
       (λ e.
-          let c = h n lt in
-          let one : (if nat_eq o n then 1 else 0) ≡ 1 = if_eq o n 1 0 e in
-          ap (λ k. slice_index_or (slice_set m.counts k (min most_firings (count_of m k + 1))) n 0) e ∙ get_or-set_same m.counts n (min most_firings (count_of m n + 1)) 0 below
-          ∙ ap (λ k. min most_firings (k + 1)) c ∙ sum_min most_firings (times n es) ∙ ap (min most_firings) (sym (t ∙ ap (λ k. times n es + k) one)))
+      let c = h n lt in
+      let one : (if nat_eq o n then 1 else 0) ≡ 1 = if_eq o n 1 0 e in
+      ap (λ k. slice_index_or (slice_set m.counts k (min most_firings (count_of m k + 1))) n 0) e ∙ get_or-set_same m.counts n (min most_firings (count_of m n + 1)) 0 below
+      ∙ ap (λ k. min most_firings (k + 1)) c ∙ sum_min most_firings (times n es) ∙ ap (min most_firings) (sym (t ∙ ap (λ k. times n es + k) one)))
       (λ ne.
-          let c = h n lt in
-          let none : (if nat_eq o n then 1 else 0) ≡ 0 = if_ne o n 1 0 ne in
-          get_or-set_other m.counts o n (min most_firings (count_of m o + 1)) 0 (λ e. ne (sym e)) ∙ c ∙ ap (min most_firings) (sym (t ∙ ap (λ k. times n es + k) none ∙ omega arith)))
+      let c = h n lt in
+      let none : (if nat_eq o n then 1 else 0) ≡ 0 = if_ne o n 1 0 ne in
+      get_or-set_other m.counts o n (min most_firings (count_of m o + 1)) 0 (λ e. ne (sym e)) ∙ c ∙ ap (min most_firings) (sym (t ∙ ap (λ k. times n es + k) none ∙ omega arith)))
       (cases_eq o n)
 
   pub steps : Steps m m' o port

@@ -15,10 +15,7 @@ use std::alloc::Global;
 pub type Sizes = Listed<usize>;
 
 /// The place of each queue: the outputs, the inputs, the others.
-pub(crate) fn queue_places(
-    alloc: Global,
-    raw: &RawPlan,
-) -> Result<IndexMap<Name, usize>, NoMemory>
+pub(crate) fn queue_places(alloc: Global, raw: &RawPlan) -> Result<IndexMap<Name, usize>, NoMemory>
     ensures { IfOk result (λ map. (q : Name) → get name_eq map q ≡ place_in (queue_names (plan_form raw.now)) q) }
 {
     let names = names_of(alloc, raw)?;
@@ -103,11 +100,7 @@ pub(crate) fn write_places(
 
 // The places of these queues.
 #[tactic(auto, using(work_code::proofs::Lists::copies))]
-fn places_of(
-    alloc: Global,
-    map: &IndexMap<Name, usize>,
-    names: &Names,
-) -> Result<Sizes, NoMemory>
+fn places_of(alloc: Global, map: &IndexMap<Name, usize>, names: &Names) -> Result<Sizes, NoMemory>
     ensures { IfOk result (λ places. places ≡ mapped (place_by map.now) names.now) }
 {
     let mut places = Listed::new(alloc);

@@ -133,12 +133,7 @@ fn fire_op(
 }
 
 // Each port's items, at the end of its queue's.
-fn send(
-    alloc: Global,
-    queues: &mut ItemLists,
-    to: &Sizes,
-    outs: &ItemLists,
-) -> Result<(), NoMemory>
+fn send(alloc: Global, queues: &mut ItemLists, to: &Sizes, outs: &ItemLists) -> Result<(), NoMemory>
     requires ports { length to.now ≤ length outs.now }
     requires places { (j : ℕ) → j < length to.now → slice_index_or to.now j 0 < length queues.old }
     ensures { OnOk result (queues.new ≡ each_grew queues.old (joined_at to.now (list_at outs.now))) }
