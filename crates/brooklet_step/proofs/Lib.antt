@@ -3,6 +3,11 @@ pub mod FitsLemmas
 pub mod Formed
 pub mod Fused
 pub mod Leaves
+pub mod NextLemmas
+pub mod QueuePlaces
+pub mod ReadLemmas
 pub mod Size
 pub mod Standing
+pub mod StartLemmas
 pub mod Starts
+pub mod StepLemmas

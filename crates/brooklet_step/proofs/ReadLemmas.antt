@@ -1,0 +1,95 @@
+-- The places of the queues that operators read.
+use Rattle.std.proofs.Common.{◌≡◌, ℕ, zero, suc, ◌+◌, ◌-◌, ◌<◌, ◌≤◌, Some, None, Option, Bool, true, false, List, [], ◌∷◌, length, map, refl, sym, ap, ◌∙◌, subst, arith, get_or, ⊎_elim}
+use Rattle.std.specs.Prelude.{IsTrue, nat_lt, slice_get, slice_index_or}
+use Rattle.std.proofs.lemmas.Bool.{cases_lt}
+use Rattle.std.proofs.lemmas.List.{length-map}
+use Rattle.std.proofs.lemmas.Option.{slice_get-get_or, slice_get_within, get_or_from_slice_get, slice_get-map, slice_get_past}
+use Rattle.river_base.specs.declared.item.Item as item
+use Rattle.river_base.specs.Places.{list_at}
+use Rattle.river_plan.specs.Forms.{Name, OpForm, PlanForm, queue_names}
+use Rattle.river_plan.specs.Names.{count}
+use Rattle.brooklet_model.proofs.Traces.{some_is, read_of}
+use Rattle.brooklet_step.specs.declared.machine.Parts.{Parts}
+use Rattle.brooklet_step.specs.ByPlace.{place, places}
+use Rattle.brooklet_step.specs.Reading.{IsPlaceOf, IsPlaceRead}
+use Rattle.brooklet_step.specs.Works.{hist_of, taken_of, ReadsAt, IsEnabled, GoesOn}
+use Rattle.brooklet_step.proofs.QueuePlaces.{place_below}
+use Rattle.brooklet_step.proofs.StepLemmas.{read_declared}
+
+pub got_map : {A B : Type 0} (f : A → B) (xs : List A) (n : ℕ) (x : A) → slice_get xs n ≡ Some x → slice_get (map f xs) n ≡ Some (f x)
+got_map f [] n x h = absurd (cc h)
+got_map f (y ∷ ys) zero x h = let e : y ≡ x = cc in ap (λ z. Some (f z)) e
+got_map f (y ∷ ys) (suc n) x h = got_map f ys n x h
+
+pub op_at : (ops : List OpForm) (o : ℕ) → o < length ops → (op : OpForm) × (slice_get ops o ≡ Some op)
+op_at [] o lt = absurd (omega (arith, lt))
+op_at (op ∷ ops) zero lt = (op, refl)
+op_at (op ∷ ops) (suc o) lt = op_at ops o (omega (arith, lt))
+
+-- the places of what an operator reads, or writes
+pub places_at : (f : OpForm → List Name) (names : List Name) (all : List (List ℕ)) (ops : List OpForm) (o : ℕ) (op : OpForm) → all ≡ map (λ d. places names (f d)) ops → slice_get ops o ≡ Some op → list_at all o ≡ places names (f op)
+places_at f names all ops o op e g = ap (λ (l : List (List ℕ)). list_at l o) e ∙ get_or_from_slice_get (map (λ d. places names (f d)) ops) o (places names (f op)) [] (got_map (λ d. places names (f d)) ops o op g)
+
+pub place_got : (names qs : List Name) (port : ℕ) (q : Name) → slice_get qs port ≡ Some q → slice_index_or (places names qs) port 0 ≡ place names q
+place_got names qs port q g = get_or_from_slice_get (places names qs) port (place names q) 0 (got_map (place names) qs port q g)
+
+-- the place of the queue at a port
+pub place_of : (m : Parts) (o port : ℕ) (q : Name) → GoesOn m → (r : ReadsAt m.plan o port q) → slice_index_or (list_at m.reads o) port 0 ≡ place (queue_names m.plan) q
+place_of m o port q g r =
+    ap (λ (l : List ℕ). slice_index_or l port 0) (places_at (λ d. d.reads) (queue_names m.plan) m.reads m.plan.ops o r.op g.laid_out.reads r.op_is)
+    ∙ place_got (queue_names m.plan) r.op.reads port q r.queue_is
+
+pub place_in_queues : (m : Parts) (o port : ℕ) (q : Name) → GoesOn m → ReadsAt m.plan o port q → (place (queue_names m.plan) q < length m.queues) × (place (queue_names m.plan) q < length m.taken)
+place_in_queues m o port q g r =
+    let b = place_below (queue_names m.plan) q (read_declared m.plan g.valid o port q r) in
+    let k = g.laid_out.queues in
+    let t = g.laid_out.taken in
+    (omega (arith, b, k), omega (arith, b, t))
+
+pub in_reads : (m : Parts) (o port : ℕ) (q : Name) → GoesOn m → (r : ReadsAt m.plan o port q) → (o < length m.reads) × (port < length (list_at m.reads o))
+in_reads m o port q g r =
+    let l = ap length g.laid_out.reads ∙ length-map m.plan.ops (λ d. places (queue_names m.plan) d.reads) in
+    let b = slice_get_within m.plan.ops o r.op r.op_is in
+    let w = slice_get_within r.op.reads port q r.queue_is in
+    let e = ap length (places_at (λ d. d.reads) (queue_names m.plan) m.reads m.plan.ops o r.op g.laid_out.reads r.op_is) ∙ length-map r.op.reads (place (queue_names m.plan)) in
+    (omega (arith, l, b), omega (arith, w, e))
+
+-- where the place is found
+pub found_place : (m : Parts) (o port n : ℕ) → GoesOn m → o < length m.reads → port < length (list_at m.reads o) → n ≡ slice_index_or (list_at m.reads o) port 0 → IsPlaceOf m o port n
+found_place m o port n g lo lp e =
+    let l = ap length g.laid_out.reads ∙ length-map m.plan.ops (λ d. places (queue_names m.plan) d.reads) in
+    let w = op_at m.plan.ops o (omega (arith, l, lo)) in
+    let k = ap length (places_at (λ d. d.reads) (queue_names m.plan) m.reads m.plan.ops o w.0 g.laid_out.reads w.1) ∙ length-map w.0.reads (place (queue_names m.plan)) in
+    let p = read_of w.0.reads port (omega (arith, k, lp)) in
+    let r : ReadsAt m.plan o port p.0 = record { op = w.0; op_is = w.1; queue_is = p.1 } in
+    let at : n ≡ place (queue_names m.plan) p.0 = e ∙ place_of m o port p.0 g r in
+    let b = place_in_queues m o port p.0 g r in
+    record {
+      queue = p.0;
+      reads = r;
+      place_is = at;
+      declared = read_declared m.plan g.valid o port p.0 r;
+      in_queues = subst (λ i. i < length m.queues) (sym at) b.0;
+      in_taken = subst (λ i. i < length m.taken) (sym at) b.1;
+    }
+
+-- the queue at a port is one alone
+same_queue : (p : PlanForm) (o port : ℕ) (q q' : Name) → ReadsAt p o port q → ReadsAt p o port q' → q ≡ q'
+same_queue p o port q q' r r' =
+    let e : r.op ≡ r'.op = some_is r.op r'.op (sym r.op_is ∙ r'.op_is) in
+    some_is q q' (sym r.queue_is ∙ ap (λ (d : OpForm). slice_get d.reads port) e ∙ r'.queue_is)
+
+-- whether something waits there
+pub enabled_by : (m : Parts) (o port n w : ℕ) (b : Bool) → m.stopped ≡ false → IsPlaceOf m o port n → w ≡ length (list_at m.queues n) - slice_index_or m.taken n 0 → (IsTrue b → 0 < w) × (0 < w → IsTrue b) → (IsTrue b → IsEnabled m o port) × (IsEnabled m o port → IsTrue b)
+enabled_by m o port n w b run pl e t =
+    let names = queue_names m.plan in
+    let h : w ≡ length (list_at m.queues (place names pl.queue)) - slice_index_or m.taken (place names pl.queue) 0 = subst (λ i. w ≡ length (list_at m.queues i) - slice_index_or m.taken i 0) pl.place_is e in (
+      (λ y. record { running = run; queue = pl.queue; reads = pl.reads; item = let g = t.0 y in omega (arith, g, h) }),
+      (λ on.
+          let s = same_queue m.plan o port on.queue pl.queue on.reads pl.reads in
+          let i : taken_of m pl.queue < length (hist_of m pl.queue) = subst (λ (z : Name). taken_of m z < length (hist_of m z)) s on.item in
+          t.1 (omega (arith, i, h))),
+    )
+
+pub not_enabled : (m : Parts) (o port : ℕ) → ((q : Name) → ReadsAt m.plan o port q → ⊥) → IsEnabled m o port → ⊥
+not_enabled m o port h on = h on.queue on.reads

@@ -1,0 +1,236 @@
+-- A machine before its first firing.
+use Rattle.std.proofs.Common.{◌≡◌, ℕ, zero, suc, ◌+◌, ◌-◌, ◌<◌, ◌≤◌, false, Some, Option, List, [], ◌∷◌, ◌++◌, length, take, map, refl, sym, ap, ◌∙◌, subst, arith, get_or, replicate, length-append, ⊎_elim}
+use Rattle.std.specs.Prelude.{min, slice_get, slice_index_or}
+use Rattle.std.proofs.Math.ListN.{get_or-append}
+use Rattle.std.proofs.lemmas.Bool.{cases_lt}
+use Rattle.std.proofs.lemmas.List.{length-replicate, length-map, get_or-append-add, get_or_push, take_more}
+use Rattle.std.proofs.lemmas.Option.{slice_get_within, slice_get-get_or}
+use Rattle.river_base.specs.declared.item.Item as item
+use Rattle.river_base.specs.Places.{list_at}
+use Rattle.river_kernels.specs.Kern.{Kern, kern_of}
+use Rattle.river_plan.specs.declared.op.Op.{Op}
+use Rattle.river_plan.specs.declared.plan.Decl.{Decl}
+use Rattle.river_plan.specs.declared.plan.RawPlan.{RawPlan}
+use Rattle.river_plan.specs.Forms.{Name, OpForm, PlanForm, plan_form, op_form, op_forms, decl_names, all_decls, queue_names}
+use Rattle.river_plan.specs.Kinds.{kind_of, var_kind}
+use Rattle.river_plan.specs.Names.{count}
+use Rattle.river_plan.specs.Valid.{IsPlan}
+use Rattle.river_plan.proofs.NameLemmas.{count-append, more_or_zero}
+use Rattle.brooklet_model.specs.Fire.{first_kept}
+use Rattle.brooklet_model.specs.Histories.{inputs_of, most_firings}
+use Rattle.brooklet_model.specs.Machine.{start, first_of}
+use Rattle.brooklet_model.specs.Shapes.{IsFormed}
+use Rattle.brooklet_model.specs.Typed.{IsBuilt, IsOnRows, AreInputs}
+use Rattle.brooklet_model.proofs.Lists.{funext}
+use Rattle.brooklet_model.proofs.Solutions.{written_out}
+use Rattle.brooklet_model.proofs.Traces.{some_is}
+use Rattle.brooklet_model.proofs.TypedPlan.{op_fits, op_on_rows}
+use Rattle.brooklet_step.specs.declared.machine.Parts.{Parts}
+use Rattle.brooklet_step.specs.declared.state.State.{State}
+use Rattle.brooklet_step.specs.ByPlace.{place, places}
+use Rattle.brooklet_step.specs.Fit.{Fit}
+use Rattle.brooklet_step.specs.Initial.{CanStart, AreFirst}
+use Rattle.brooklet_step.specs.Stands.{StandsFor}
+use Rattle.brooklet_step.specs.Works.{Stands, Counts, GoesOn, Starts}
+use Rattle.brooklet_step.proofs.QueuePlaces.{place_below, place_front, place_back, written_found}
+use Rattle.brooklet_step.proofs.ReadLemmas.{got_map}
+
+-- THE FIRST STATES
+
+got_front : {A : Type 0} (xs ys : List A) (n : ℕ) → n < length xs → slice_get (xs ++ ys) n ≡ slice_get xs n
+got_front [] ys n lt = absurd (omega (arith, lt))
+got_front (x ∷ xs) ys zero lt = refl
+got_front (x ∷ xs) ys (suc n) lt = got_front xs ys n (omega (arith, lt))
+
+got_last : {A : Type 0} (xs : List A) (x : A) (n : ℕ) → n ≡ length xs → slice_get (xs ++ x ∷ []) n ≡ Some x
+got_last [] x zero e = refl
+got_last [] x (suc n) e = absurd (omega (arith, e))
+got_last (y ∷ ys) x zero e = absurd (omega (arith, e))
+got_last (y ∷ ys) x (suc n) e = got_last ys x n (omega (arith, e))
+
+first_more : (ops : List OpForm) (op : OpForm) (states : List (List State)) (st : List State) → AreFirst ops states → StandsFor op.kernel st (first_kept op.kernel) → AreFirst (ops ++ op ∷ []) (states ++ st ∷ [])
+first_more ops op states st f h =
+    let c = f.count in
+    let ls = length-append states (st ∷ []) in
+    let lo = length-append ops (op ∷ []) in
+    record {
+      count = omega (arith, ls, lo, c);
+      stand = λ o op' g. ⊎_elim
+          (λ lt.
+          let g' : slice_get ops o ≡ Some op' = sym (got_front ops (op ∷ []) o lt) ∙ g in
+          subst (λ (u : List State). StandsFor op'.kernel u (first_kept op'.kernel)) (sym (get_or-append states (st ∷ []) [] o (omega (arith, lt, c)))) (f.stand o op' g'))
+          (λ ge.
+          let w = slice_get_within (ops ++ op ∷ []) o op' g in
+          let e : o ≡ length ops = omega (arith, w, lo, ge) in
+          let same : op ≡ op' = some_is op op' (sym (got_last ops op o e) ∙ g) in
+          subst (λ (u : List State). StandsFor op'.kernel u (first_kept op'.kernel)) (sym (get_or_push states st [] o (omega (arith, e, c))))
+          (subst (λ (d : OpForm). StandsFor d.kernel st (first_kept d.kernel)) same h))
+          (cases_lt o (length ops));
+    }
+
+pub first_none : AreFirst [] []
+first_none = record { count = refl; stand = λ o op g. absurd (cc g) }
+
+map_more : {A B : Type 0} (f : A → B) (xs : List A) (i : ℕ) (x : A) → i < length xs → x ≡ get_or xs i x → map f (take (i + 1) xs) ≡ map f (take i xs) ++ f x ∷ []
+map_more f xs i x lt e = ap (map f) (take_more xs i x lt ∙ ap (λ y. take i xs ++ y ∷ []) (sym e)) ∙ over (take i xs)
+  where
+    over : (ys : List _) → map f (ys ++ x ∷ []) ≡ map f ys ++ f x ∷ []
+    over [] = refl
+    over (y ∷ ys) = ap (λ l. f y ∷ l) (over ys)
+
+-- a step of the loop that makes them
+pub first_next : (ops : List Op) (i : ℕ) (d : Op) (states states' : List (List State)) (st : List State) → i < length ops → d ≡ get_or ops i d → AreFirst (op_forms (take i ops)) states → StandsFor (kern_of d.kernel) st (first_kept (kern_of d.kernel)) → states' ≡ states ++ st ∷ [] → AreFirst (op_forms (take (i + 1) ops)) states'
+first_next ops i d states states' st lt e f h n =
+    subst (λ (l : List OpForm). AreFirst l states') (sym (map_more op_form ops i d lt e))
+    (subst (AreFirst (op_forms (take i ops) ++ op_form d ∷ [])) (sym n) (first_more (op_forms (take i ops)) (op_form d) states st f h))
+
+pub can_start_at : (ops : List Op) (i : ℕ) (d : Op) → CanStart (op_forms ops) → i < length ops → d ≡ get_or ops i d → IsFormed (kern_of d.kernel) × IsOnRows (kern_of d.kernel)
+can_start_at ops i d c lt e =
+    let s : slice_get ops i ≡ Some d = slice_get-get_or ops i d lt ∙ ap Some (sym e) in
+    let g = got_map op_form ops i d s in
+    (c.formed i (op_form d) g, c.on_rows i (op_form d) g)
+
+pub can_start : (p : PlanForm) → IsPlan p → IsBuilt p → CanStart p.ops
+can_start p v b = record {
+  formed = λ o op g. record { reads = map (kind_of (all_decls p)) op.reads; writes = map (kind_of (all_decls p)) op.writes; vars = map (var_kind p.tables p.vars) op.vars; fits = op_fits p v b o op g };
+  on_rows = op_on_rows p v b;
+}
+
+-- THE FIRST QUEUES
+
+blank_at : (n i : ℕ) → list_at {A = item.Item} (replicate n []) i ≡ []
+blank_at zero i = refl
+blank_at (suc n) zero = refl
+blank_at (suc n) (suc i) = blank_at n i
+
+zero_at : (n i : ℕ) → ◌≡◌ {A = ℕ} (slice_index_or (replicate n 0) i 0) 0
+zero_at zero i = refl
+zero_at (suc n) zero = refl
+zero_at (suc n) (suc i) = zero_at n i
+
+min_zero : (m : ℕ) → min m 0 ≡ 0
+min_zero m = omega arith
+
+inputs_many : (ds : List Decl) (ls : List (List item.Item)) → AreInputs ds ls → length ls ≡ length ds
+inputs_many [] [] a = refl
+inputs_many [] (xs ∷ ls) a = absurd a
+inputs_many (d ∷ ds) [] a = absurd a
+inputs_many (d ∷ ds) (xs ∷ ls) a = let e = inputs_many ds ls a.1 in omega (arith, e)
+
+module _ (p : PlanForm) (v : IsPlan p) (inputs : List (List item.Item)) (fit : Fit p inputs) where
+  abbrev outs_n : List Name
+  outs_n = decl_names p.outputs
+
+  abbrev ins_n : List Name
+  ins_n = decl_names p.inputs
+
+  abbrev others_n : List Name
+  others_n = decl_names p.queues
+
+  abbrev pub first_queues : List (List item.Item)
+  first_queues = replicate (length p.outputs) [] ++ (inputs ++ replicate (length p.queues) [])
+
+  many : length inputs ≡ length ins_n
+  many = inputs_many p.inputs inputs fit.typed ∙ sym (length-map p.inputs (λ (d : Decl). d.name))
+
+  before : length (replicate {A = List item.Item} (length p.outputs) []) ≡ length outs_n
+  before = length-replicate (length p.outputs) [] ∙ sym (length-map p.outputs (λ (d : Decl). d.name))
+
+  pub queues_many : length first_queues ≡ length (queue_names p)
+  queues_many =
+      let a = length-append (replicate {A = List item.Item} (length p.outputs) []) (inputs ++ replicate (length p.queues) []) in
+      let b = length-append inputs (replicate {A = List item.Item} (length p.queues) []) in
+      let c = length-append outs_n (ins_n ++ others_n) in
+      let d = length-append ins_n others_n in
+      let e = length-replicate {A = List item.Item} (length p.queues) [] in
+      let f = length-map p.queues (λ (x : Decl). x.name) in
+      omega (arith, a, b, c, d, e, f, before, many)
+
+  past : (q : Name) (k : ℕ) → count q outs_n ≡ 0 → place (queue_names p) q ≡ length outs_n + k → list_at first_queues (place (queue_names p) q) ≡ list_at (inputs ++ replicate (length p.queues) []) k
+  past q k z e = ap (list_at first_queues) (e ∙ ap (λ n. n + k) (sym before)) ∙ get_or-append-add (replicate {A = List item.Item} (length p.outputs) []) (inputs ++ replicate (length p.queues) []) k []
+
+  pub first_hist : (q : Name) → 0 < count q (queue_names p) → inputs_of ins_n (list_at inputs) q ≡ list_at first_queues (place (queue_names p) q)
+  first_hist q lt =
+      let a = count-append q outs_n (ins_n ++ others_n) in
+      let b = count-append q ins_n others_n in
+      let o = v.queues_once q in
+      ⊎_elim
+      (λ (lo : 0 < count q outs_n).
+      let pb = place_below outs_n q lo in
+      written_out ins_n (list_at inputs) (λ n. []) q (omega (arith, a, b, o, lo))
+      ∙ sym (ap (list_at first_queues) (place_front outs_n (ins_n ++ others_n) q lo)
+      ∙ get_or-append (replicate {A = List item.Item} (length p.outputs) []) (inputs ++ replicate (length p.queues) []) [] (place outs_n q) (omega (arith, pb, before))
+      ∙ blank_at (length p.outputs) (place outs_n q)))
+      (λ (zo : count q outs_n ≡ 0). ⊎_elim
+      (λ (li : 0 < count q ins_n).
+      let pb = place_below ins_n q li in
+      written_found ins_n (list_at inputs) (λ n. []) q li
+      ∙ sym (past q (place ins_n q) zo (place_back outs_n (ins_n ++ others_n) q zo (omega (arith, b, li)) ∙ ap (λ k. length outs_n + k) (place_front ins_n others_n q li))
+      ∙ get_or-append inputs (replicate (length p.queues) []) [] (place ins_n q) (omega (arith, pb, many))))
+      (λ (zi : count q ins_n ≡ 0).
+      let lq : 0 < count q others_n = omega (arith, a, b, lt, zo, zi) in
+      written_out ins_n (list_at inputs) (λ n. []) q zi
+      ∙ sym (past q (length ins_n + place others_n q) zo (place_back outs_n (ins_n ++ others_n) q zo (omega (arith, b, lq)) ∙ ap (λ k. length outs_n + k) (place_back ins_n others_n q zi lq))
+      ∙ ap (λ k. list_at (inputs ++ replicate (length p.queues) []) (k + place others_n q)) (sym many)
+      ∙ get_or-append-add inputs (replicate (length p.queues) []) (place others_n q) []
+      ∙ blank_at (length p.queues) (place others_n q)))
+      (more_or_zero (count q ins_n)))
+      (more_or_zero (count q outs_n))
+
+-- ALL OF IT
+
+pub record First (p : PlanForm) (inputs : List (List item.Item)) (m : Parts) : Type 0 where
+  pub starts : Starts p inputs m
+  pub goes_on : GoesOn m
+
+pub first : (p pl : PlanForm) (inputs queues : List (List item.Item)) (taken cs : List ℕ) (states : List (List State)) (reads writes : List (List ℕ)) → IsPlan p → IsBuilt p → Fit p inputs → pl ≡ p
+    → queues ≡ replicate (length p.outputs) [] ++ (inputs ++ replicate (length p.queues) []) → taken ≡ replicate (length queues) 0 → AreFirst p.ops states → cs ≡ replicate (length p.ops) 0
+    → reads ≡ map (λ op. places (queue_names p) op.reads) p.ops → writes ≡ map (λ op. places (queue_names p) op.writes) p.ops
+    → First p inputs (record { plan = pl; queues = queues; taken = taken; states = states; counts = cs; reads = reads; writes = writes; stopped = false })
+first p pl inputs queues taken cs states reads writes v b fit pe qe te f ce re we =
+    let m : Parts = record { plan = p; queues = queues; taken = taken; states = states; counts = cs; reads = reads; writes = writes; stopped = false } in
+    let many : length queues ≡ length (queue_names p) = ap length qe ∙ queues_many p v inputs fit in
+    let stands : Stands m (start p inputs) = record {
+      hist = λ q lt. first_hist p v inputs fit q lt ∙ ap (λ (l : List (List item.Item)). list_at l (place (queue_names p) q)) (sym qe);
+      taken = λ q lt. sym (ap (λ (l : List ℕ). slice_index_or l (place (queue_names p) q) 0) te ∙ zero_at (length queues) (place (queue_names p) q));
+      kept = λ o op g. subst (StandsFor op.kernel (list_at states o)) (sym (ap first_of g)) (f.stand o op g);
+    } in
+    let cs_are : Counts m [] = λ o lt. ap (λ (l : List ℕ). slice_index_or l o 0) ce ∙ zero_at (length p.ops) o ∙ sym (min_zero most_firings) in
+    subst (λ (x : PlanForm). First p inputs (record { plan = x; queues = queues; taken = taken; states = states; counts = cs; reads = reads; writes = writes; stopped = false })) (sym pe) (record {
+      starts = record { plan = refl; running = refl; stands = stands; counts = cs_are };
+      goes_on = record {
+        valid = v;
+        built = b;
+        laid_out = record {
+          queues = many;
+          taken = ap length te ∙ length-replicate (length queues) 0 ∙ many;
+          states = f.count;
+          counts = ap length ce ∙ length-replicate (length p.ops) 0;
+          reads = re;
+          writes = we;
+        };
+        inputs = inputs;
+        typed = fit.typed;
+        ran = record { events = []; state = start p inputs; run = refl; stands = stands; counts = cs_are };
+      };
+    })
+
+-- the same in the terms of the code; f is the place of a queue by a map
+pub first_by : (raw : RawPlan) (p pl : PlanForm) (inputs queues : List (List item.Item)) (a b n k : ℕ) (taken cs : List ℕ) (states : List (List State)) (f : Name → ℕ) (reads writes : List (List ℕ)) → IsPlan p → IsBuilt p → Fit p inputs → plan_form raw ≡ p → pl ≡ p
+    → a ≡ length raw.outputs → b ≡ length raw.queues → n ≡ length queues → k ≡ length raw.ops → ((q : Name) → f q ≡ place (queue_names (plan_form raw)) q)
+    → queues ≡ replicate a [] ++ (inputs ++ replicate b []) → taken ≡ replicate n 0 → AreFirst (op_forms raw.ops) states → cs ≡ replicate k 0
+    → reads ≡ map (λ (op : OpForm). map f op.reads) (op_forms raw.ops) → writes ≡ map (λ (op : OpForm). map f op.writes) (op_forms raw.ops)
+    → First p inputs (record { plan = pl; queues = queues; taken = taken; states = states; counts = cs; reads = reads; writes = writes; stopped = false })
+first_by raw p pl inputs queues a b n k taken cs states f reads writes v bu fit e pe ae be ne ke fe qe te fs ce re we =
+    let m : Parts = record { plan = pl; queues = queues; taken = taken; states = states; counts = cs; reads = reads; writes = writes; stopped = false } in
+    let same : f ≡ place (queue_names (plan_form raw)) = funext f (place (queue_names (plan_form raw))) fe in
+    subst (λ (x : PlanForm). First x inputs m) e
+    (first (plan_form raw) pl inputs queues taken cs states reads writes (subst IsPlan (sym e) v) (subst IsBuilt (sym e) bu) (subst (λ (x : PlanForm). Fit x inputs) (sym e) fit) (pe ∙ sym e)
+    (qe ∙ ap (λ (i : ℕ). replicate i [] ++ (inputs ++ replicate b [])) ae ∙ ap (λ (i : ℕ). replicate (length raw.outputs) [] ++ (inputs ++ replicate i [])) be)
+    (te ∙ ap (λ (i : ℕ). replicate i 0) ne) fs
+    (ce ∙ ap (λ (i : ℕ). replicate i 0) (ke ∙ sym (length-map raw.ops op_form)))
+    (re ∙ ap (λ (g : Name → ℕ). map (λ (op : OpForm). map g op.reads) (op_forms raw.ops)) same)
+    (we ∙ ap (λ (g : Name → ℕ). map (λ (op : OpForm). map g op.writes) (op_forms raw.ops)) same))
+
+pub can_start_by : (raw : RawPlan) (p : PlanForm) → plan_form raw ≡ p → IsPlan p → IsBuilt p → CanStart (op_forms raw.ops)
+can_start_by raw p e v b = subst (λ (x : PlanForm). CanStart x.ops) (sym e) (can_start p v b)

@@ -1,0 +1,44 @@
+-- The places of the queues that operators read, and firings of operators.
+use Rattle.std.specs.Prelude.{◌≡◌, ℕ, ◌<◌, List, Option, Some, None, length, slice_get}
+use Rattle.river_base.specs.declared.item.Item as item
+use Rattle.river_kernels.specs.Kern.{Kern}
+use Rattle.river_plan.specs.Forms.{Name, OpForm, PlanForm, queue_names}
+use Rattle.river_plan.specs.Names.{count}
+use Rattle.brooklet_model.specs.Fire.{fire}
+use Rattle.brooklet_step.specs.declared.emit.Emit.{Emit}
+use Rattle.brooklet_step.specs.declared.machine.Parts.{Parts}
+use Rattle.brooklet_step.specs.declared.state.State.{State}
+use Rattle.brooklet_step.specs.ByPlace.{place}
+use Rattle.brooklet_step.specs.Stands.{Applies, Fires}
+use Rattle.brooklet_step.specs.Took.{IsBlank}
+use Rattle.brooklet_step.specs.Works.{ReadsAt}
+
+-- the operator has this port, and this is the place of the queue that it reads there
+pub record IsPlaceOf (m : Parts) (o port n : ℕ) : Type 0 where
+  pub queue : Name
+  pub reads : ReadsAt m.plan o port queue
+  pub place_is : n ≡ place (queue_names m.plan) queue
+  pub declared : 0 < count queue (queue_names m.plan)
+  pub in_queues : n < length m.queues
+  pub in_taken : n < length m.taken
+
+-- the place, where the operator and the port are there
+abbrev pub IsPlaceRead : Parts → ℕ → ℕ → Option ℕ → Type 0
+IsPlaceRead m o port (Some n) = IsPlaceOf m o port n
+IsPlaceRead m o port None = (q : Name) → ReadsAt m.plan o port q → ⊥
+
+-- the operator can take the item at this port, whatever empty lists there are for what it gives
+pub record CanFire (p : PlanForm) (o port : ℕ) (x : item.Item) (st : List State) : Type 0 where
+  pub op : OpForm
+  pub op_is : slice_get p.ops o ≡ Some op
+  pub applies : (blank : Emit) → IsBlank op.kernel blank → Applies op.kernel port x st blank
+
+-- these lists came to empty ones by a firing of the kernel
+pub record CameOf (k : Kern) (port : ℕ) (x : item.Item) (st st' : List State) (out : Emit) : Type 0 where
+  pub blank : Emit
+  pub is_blank : IsBlank k blank
+  pub fires : Fires k blank out st st' (fire k port x)
+
+-- the operator fired
+pub record FiredOp (p : PlanForm) (o port : ℕ) (x : item.Item) (st st' : List State) (out : Emit) : Type 0 where
+  pub fired : (op : OpForm) → slice_get p.ops o ≡ Some op → CameOf op.kernel port x st st' out

@@ -1,0 +1,101 @@
+-- What a machine keeps, and the state of the definition that it stands for.
+use Rattle.std.specs.Prelude.{◌≡◌, ℕ, zero, ◌+◌, ◌-◌, ◌<◌, Bool, true, false, min, List, [], ◌∷◌, ◌++◌, length, map, Option, Some, None, slice_get, slice_index_or}
+use Rattle.river_base.specs.declared.item.Item as item
+use Rattle.river_base.specs.Places.{list_at}
+use Rattle.river_plan.specs.Forms.{Name, OpForm, PlanForm, queue_names}
+use Rattle.river_plan.specs.Names.{count}
+use Rattle.river_plan.specs.Valid.{IsPlan}
+use Rattle.brooklet_model.specs.Histories.{most_firings}
+use Rattle.brooklet_model.specs.Machine.{Machine, Step, Run, start, times}
+use Rattle.brooklet_model.specs.Typed.{IsBuilt, AreInputs}
+use Rattle.brooklet_step.specs.declared.machine.Parts.{Parts}
+use Rattle.brooklet_step.specs.declared.state.State.{State}
+use Rattle.brooklet_step.specs.ByPlace.{place, places}
+use Rattle.brooklet_step.specs.Stands.{StandsFor}
+
+-- all items ever put into a queue, and how many of them were taken
+abbrev pub hist_of : Parts → Name → List item.Item
+hist_of m q = list_at m.queues (place (queue_names m.plan) q)
+
+abbrev pub taken_of : Parts → Name → ℕ
+taken_of m q = slice_index_or m.taken (place (queue_names m.plan) q) 0
+
+-- the states of an operator, and how often it fired
+abbrev pub states_of : Parts → ℕ → List State
+states_of m o = list_at m.states o
+
+abbrev pub count_of : Parts → ℕ → ℕ
+count_of m o = slice_index_or m.counts o 0
+
+-- the machine stands for a state of the definition: its queues hold the histories, as many items were taken, and the states
+-- of each operator stand for the defined ones
+pub record Stands (m : Parts) (s : Machine) : Type 0 where
+  pub hist : (q : Name) → 0 < count q (queue_names m.plan) → s.hist q ≡ hist_of m q
+  pub taken : (q : Name) → 0 < count q (queue_names m.plan) → s.taken q ≡ taken_of m q
+  pub kept : (o : ℕ) (op : OpForm) → slice_get m.plan.ops o ≡ Some op → StandsFor op.kernel (states_of m o) (s.kept o)
+
+-- operator number o has a port of this number, which reads this queue
+pub record ReadsAt (p : PlanForm) (o port : ℕ) (queue : Name) : Type 0 where
+  pub op : OpForm
+  pub op_is : slice_get p.ops o ≡ Some op
+  pub queue_is : slice_get op.reads port ≡ Some queue
+
+-- the machine is not stopped, and the queue at the port has an item that is not taken
+pub record IsEnabled (m : Parts) (o port : ℕ) : Type 0 where
+  pub running : m.stopped ≡ false
+  pub queue : Name
+  pub reads : ReadsAt m.plan o port queue
+  pub item : taken_of m queue < length (hist_of m queue)
+
+-- the counts are those of the firings of a run
+abbrev pub Counts : Parts → List (ℕ × ℕ) → Type 0
+Counts m es = (o : ℕ) → o < length m.plan.ops → count_of m o ≡ min most_firings (times o es)
+
+-- the machine stands for the state after a run from these inputs
+pub record Ran (m : Parts) (inputs : List (List item.Item)) : Type 0 where
+  pub events : List (ℕ × ℕ)
+  pub state : Machine
+  pub run : Run m.plan (start m.plan inputs) events state
+  pub stands : Stands m state
+  pub counts : Counts m events
+
+-- there is a list for each queue and for each operator, and the places of the queues are known
+pub record IsLaidOut (m : Parts) : Type 0 where
+  pub queues : length m.queues ≡ length (queue_names m.plan)
+  pub taken : length m.taken ≡ length (queue_names m.plan)
+  pub states : length m.states ≡ length m.plan.ops
+  pub counts : length m.counts ≡ length m.plan.ops
+  pub reads : m.reads ≡ map (λ op. places (queue_names m.plan) op.reads) m.plan.ops
+  pub writes : m.writes ≡ map (λ op. places (queue_names m.plan) op.writes) m.plan.ops
+
+-- a machine that goes on stands for a state of the definition: the state after some run from some inputs of its plan
+pub record GoesOn (m : Parts) : Type 0 where
+  pub valid : IsPlan m.plan
+  pub built : IsBuilt m.plan
+  pub laid_out : IsLaidOut m
+  pub inputs : List (List item.Item)
+  pub typed : AreInputs m.plan.inputs inputs
+  pub ran : Ran m inputs
+
+abbrev pub IsMachine : Parts → Type 0
+IsMachine m = m.stopped ≡ false → GoesOn m
+
+-- the machine before the first firing
+pub record Starts (p : PlanForm) (inputs : List (List item.Item)) (m : Parts) : Type 0 where
+  pub plan : m.plan ≡ p
+  pub running : m.stopped ≡ false
+  pub stands : Stands m (start p inputs)
+  pub counts : Counts m []
+
+-- a firing, and what the new machine stands for
+pub record After (m m' : Parts) (o port : ℕ) (s : Machine) : Type 0 where
+  pub state : Machine
+  pub step : Step m.plan s o port state
+  pub stands : Stands m' state
+
+-- one firing: from every state that the old machine stands for, the new one stands for one after a step there
+pub record Steps (m m' : Parts) (o port : ℕ) : Type 0 where
+  pub plan : m'.plan ≡ m.plan
+  pub running : m'.stopped ≡ false
+  pub each : (s : Machine) → Stands m s → After m m' o port s
+  pub counts : (es : List (ℕ × ℕ)) → Counts m es → Counts m' (es ++ (o, port) ∷ [])

@@ -1,0 +1,100 @@
+// Brooklet's machine.
+ghost use Rattle.std.specs.Prelude.{◌≡◌, ◌↔◌, true, false, IsTrue, IfOk, OnOk, OnErr};
+ghost use Rattle.brooklet_model.specs.Typed.{IsBuilt};
+ghost use Rattle.brooklet_step.specs.Fit.{Fit};
+ghost use Rattle.brooklet_step.specs.Works.{GoesOn, IsEnabled, Starts, Steps};
+
+use crate::initial::first_parts;
+use crate::places::Sizes;
+use crate::step::{fire_next, is_enabled};
+use crate::{Inputs, ItemLists, States};
+use river_base::{Listed, NoMemory};
+use river_plan::Plan;
+use std::alloc::Global;
+use std::marker::Model;
+
+/// What a machine keeps.
+#[derive(Drop)]
+pub struct Parts {
+    /// The plan that it runs.
+    pub plan: Plan,
+    /// All items ever put into each queue: the outputs, the inputs, the others.
+    pub queues: ItemLists,
+    /// How many items of each queue were taken.
+    pub taken: Sizes,
+    /// The states of each operator.
+    pub states: Listed<States>,
+    /// How often each operator fired; a count of 2^63 - 1 stays there.
+    pub counts: Sizes,
+    /// The places of the queues that each operator reads, port by port.
+    pub reads: Listed<Sizes>,
+    /// The places of the queues that each operator writes, port by port.
+    pub writes: Listed<Sizes>,
+    /// Whether a firing was refused.
+    pub stopped: bool,
+}
+
+/// Brooklet's machine (Soulé and others, ESOP 2010): it fires one operator at a time, on the front item of one of its queues,
+/// as its caller chooses. Contracts see what it keeps. A machine that is not stopped stands for a state of the definition.
+#[derive(Drop)]
+pub struct Machine {
+    parts: Parts,
+}
+
+impl Model for Machine {
+    ghost use Rattle.brooklet_step.specs.declared.machine.Parts.{Parts};
+
+    ghost Value = { Parts };
+
+    ghost use Rattle.brooklet_step.specs.PartsCode.{parts_code};
+
+    ghost coded = { parts_code };
+
+    ghost use Rattle.brooklet_step.specs.Works.{IsMachine};
+
+    ghost view = { λ m. m.parts };
+
+    ghost invariant = { λ m. IsMachine m.parts };
+}
+
+impl Machine {
+    /// The machine of a plan before the first firing: the inputs have these items, the other queues none.
+    pub fn start(alloc: Global, plan: &Plan, inputs: Inputs) -> Result<Machine, NoMemory>
+        requires built { IsBuilt plan.now }
+        requires fits { Fit plan.now inputs }
+        ensures { IfOk result (λ machine. Starts plan.now inputs machine) }
+    {
+        Ok(Machine {
+            parts: first_parts(alloc, plan, inputs)?,
+        })
+    }
+
+    /// Whether a firing was refused.
+    pub fn stopped(&self) -> bool
+        ensures { result ≡ self.now.stopped }
+    {
+        self.parts.stopped
+    }
+
+    /// Whether the operator has an item at this port, and the machine is not stopped; false for an operator or a port that
+    /// is not there.
+    pub fn enabled(&self, op: u32, port: u32) -> bool
+        ensures { IsTrue result ↔ IsEnabled self.now op port }
+    {
+        if self.parts.stopped {
+            return false;
+        }
+        is_enabled(&self.parts, op as usize, port as usize)
+    }
+
+    /// One firing of an operator on the front item of the queue at one of its ports. Where it is refused for want of memory the
+    /// machine is stopped, and nothing is enabled any more.
+    pub fn step(&mut self, alloc: Global, op: u32, port: u32) -> Result<(), NoMemory>
+        requires { IsEnabled self.old op port }
+        ensures fired { OnOk result (Steps self.old self.new op port) }
+        ensures refused { OnErr result (self.new.stopped ≡ true) }
+    {
+        fire_next(alloc, &mut self.parts, op, port)?;
+        Ok(())
+    }
+}
