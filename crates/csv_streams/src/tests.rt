@@ -2,8 +2,9 @@
 
 ghost use Rattle.std.specs.Prelude.{◌≤◌};
 
-use crate::{InFault, MAX_ROWS, read_rows};
-use river_base::{Bytes, NoMemory, Row, Rows};
+use crate::{InFault, MAX_ROWS, print_results, read_rows};
+use river_base::{Batch, Bytes, Flat, Item, Items, Listed, Name, NoMemory, Numbers, Row, Rows};
+use river_plan::{Decl, FlatType, Kernel, Names, Op, Plan, QueueType, RawPlan, check};
 use std::alloc::Global;
 use std::test::Fail;
 
@@ -110,5 +111,95 @@ fn rows_have_a_limit(rt: HostRuntime) -> Result<(), Fail> {
         bytes.extend(b"x,y")?;
         assert!(rt; read_rows(alloc, &bytes, 1, header, false) == Err(InFault::TooMany));
     }
+    Ok(())
+}
+
+fn name(text: &str) -> Result<Name, Fail> {
+    Ok(Name::from_slice(text.as_bytes()).ok_or("a name")?)
+}
+
+fn decl(text: &str, flat: FlatType) -> Result<Decl, Fail> {
+    Ok(Decl {
+        name: name(text)?,
+        kind: QueueType::Flat(flat),
+    })
+}
+
+fn names(alloc: Global, text: &str) -> Result<Names, Fail> {
+    let mut names = Names::new(alloc);
+    names.push(name(text)?)?;
+    Ok(names)
+}
+
+// A plan with an output of rows, one of batches, and one operator.
+fn small_plan(alloc: Global) -> Result<Plan, Fail> {
+    let mut raw = RawPlan::new(alloc);
+    raw.outputs.push(decl("plain", FlatType::Rows(2))?)?;
+    raw.outputs.push(decl("timed", FlatType::Stream(1))?)?;
+    raw.inputs.push(decl("in", FlatType::Rows(2))?)?;
+    raw.ops.push(Op {
+        label: name("same@1")?,
+        kernel: Kernel::Duplicate(1),
+        reads: names(alloc, "in")?,
+        writes: names(alloc, "plain")?,
+        vars: Names::new(alloc),
+    })?;
+    match check(alloc, raw) {
+        Ok(plan) => Ok(plan),
+        Err(_) => Err("no plan".into()),
+    }
+}
+
+// What is printed where there are as many lists and counts as the plan wants.
+fn printed(
+    alloc: Global,
+    plan: &Plan,
+    outs: &Listed<Items>,
+    counts: Option<&Numbers>,
+) -> Result<Bytes, Fail> {
+    let raw = plan.raw();
+    if outs.len() != raw.outputs.len() {
+        return Err("other outputs".into());
+    }
+    match counts {
+        None => Ok(print_results(alloc, plan, outs, None)?),
+        Some(counts) => {
+            if counts.len() != raw.ops.len() {
+                return Err("other operators".into());
+            }
+            Ok(print_results(alloc, plan, outs, Some(counts))?)
+        }
+    }
+}
+
+#[test]
+fn outcomes_are_printed(rt: HostRuntime) -> Result<(), Fail> {
+    let alloc = rt.alloc();
+    let plan = small_plan(alloc)?;
+    let mut plain = Items::new(alloc);
+    plain.push(Item::Flat(Flat::One(Row::from_slice(&[7, -1]))))?;
+    plain.push(Item::Flat(Flat::One(Row::from_slice(&[i64::MIN, 0]))))?;
+    let mut rows = Rows::new(alloc);
+    rows.push(Row::one(5))?;
+    rows.push(Row::one(-5))?;
+    let mut timed = Items::new(alloc);
+    timed.push(Item::Flat(Flat::Batch(Batch { at: 3, rows })))?;
+    timed.push(Item::Flat(Flat::Batch(Batch {
+        at: 4,
+        rows: Rows::new(alloc),
+    })))?;
+    let mut outs = Listed::new(alloc);
+    outs.push(plain)?;
+    outs.push(timed)?;
+    let lines = b"# plain\n7,-1\n-9223372036854775808,0\n# timed\n3,-5\n3,5\n";
+    assert_eq!(rt;
+        printed(alloc, &plan, &outs, None)?.as_slice(),
+        lines.as_slice()
+    );
+    let mut counts = Numbers::new(alloc);
+    counts.push(2)?;
+    let mut counted = Bytes::from_slice(alloc, lines)?;
+    counted.extend(b"## firings\nsame@1,2\n")?;
+    assert!(rt; printed(alloc, &plan, &outs, Some(&counts))? == counted);
     Ok(())
 }
