@@ -55,7 +55,7 @@ fn print_output(alloc: Global, name: &Name, items: &Items, to: &mut Bytes) -> Re
 {
     to.extend(b"# ")?;
     to.extend(name.as_slice())?;
-    to.extend(b"\n")?;
+    to.push(b'\n')?;
     print_items(alloc, items.as_slice(), to)
 }
 
