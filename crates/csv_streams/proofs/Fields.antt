@@ -1,6 +1,6 @@
 -- The field at a place, and the fields in front of it.
 use Rattle.std.proofs.Common.{◌≡◌, ℕ, zero, suc, ◌+◌, ◌<◌, ◌≤◌, List, [], ◌∷◌, ◌++◌, length, take, refl, sym, ◌∙◌, ap, arith}
-use Rattle.std.specs.Prelude.{ℤ, Option, None, Some, Result, Ok, Err, option_and_then}
+use Rattle.std.specs.Prelude.{ℤ, Option, Some, Result, Ok, Err, option_and_then}
 use Rattle.csv.specs.Records.{field_at}
 use Rattle.csv_streams.specs.Number.{number_of}
 use Rattle.csv_streams.specs.Numbered.{numbered}

@@ -4,3 +4,4 @@ pub mod Records
 pub mod RowsIn
 pub mod Texts
 pub mod Writings
+pub mod WrittenRows

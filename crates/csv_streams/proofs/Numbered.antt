@@ -1,10 +1,10 @@
 -- One element more, of a list of which each element gives something or has a fault.
-use Rattle.std.proofs.Common.{◌≡◌, ℕ, zero, suc, ◌+◌, ◌≤◌, List, [], ◌∷◌, ◌++◌, length, refl, sym, ◌∙◌, ap, arith}
+use Rattle.std.proofs.Common.{◌≡◌, ℕ, ◌+◌, List, [], ◌∷◌, ◌++◌, length, refl, sym, ◌∙◌, ap, arith}
 use Rattle.std.specs.Prelude.{Result, Ok, Err}
 use Rattle.csv_streams.specs.Numbered.{before, numbered}
 
 -- what the first element and the later ones gave
-first_and_later : {B F : Type 0} → (r : Result B F) (later : Result (List B) F) (ys : List B) → before r later ≡ Ok ys → (y : B) × (zs : List B) × (r ≡ Ok y) × (later ≡ Ok zs) × (ys ≡ y ∷ zs)
+pub first_and_later : {B F : Type 0} → (r : Result B F) (later : Result (List B) F) (ys : List B) → before r later ≡ Ok ys → (y : B) × (zs : List B) × (r ≡ Ok y) × (later ≡ Ok zs) × (ys ≡ y ∷ zs)
 first_and_later (Ok y) (Ok zs) ys e = let is : ys ≡ y ∷ zs = cc in (y, zs, refl, refl, is)
 first_and_later (Ok y) (Err f) ys e = cc
 first_and_later (Err f) later ys e = cc

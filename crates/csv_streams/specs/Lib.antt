@@ -7,3 +7,4 @@ pub mod Print
 pub mod Records
 pub mod Rows
 pub mod Writing
+pub mod Written

@@ -1,5 +1,6 @@
 //! Laws over the definitions alone.
 ghost use Rattle.csv_streams.specs.Writing.{ReadIsWritten, WrittenIsRead};
+ghost use Rattle.csv_streams.specs.Written.{ReadRowsAreWritten, WrittenRowsAreRead};
 
 /// A field of which a value is read writes that value.
 pub fn what_is_read_is_written()
@@ -9,4 +10,14 @@ pub fn what_is_read_is_written()
 /// Of a field that writes a value that value is read.
 pub fn what_is_written_is_read()
     ensures { WrittenIsRead }
+{}
+
+/// A file of which rows are read writes these rows.
+pub fn rows_that_are_read_are_written()
+    ensures { ReadRowsAreWritten }
+{}
+
+/// Of a file that writes rows, at most 100,000, these are read.
+pub fn rows_that_are_written_are_read()
+    ensures { WrittenRowsAreRead }
 {}

@@ -1,5 +1,5 @@
-use Rattle.std.proofs.Common.{rules, arith, ◌≡◌, ◌<◌, ◌+◌, ◌∷◌, ◌++◌, [], take, length, ◌∙◌, ap, sym}
-use Rattle.std.specs.Prelude.{ℤ, List, Result, Ok, Err, option_and_then}
+use Rattle.std.proofs.Common.{rules, arith, ◌≡◌, ◌<◌, ◌+◌, take, length, sym}
+use Rattle.std.specs.Prelude.{Ok, Err, option_and_then}
 use Rattle.std.proofs.lemmas.List.{take_more_set}
 use Rattle.std.proofs.lemmas.Result.{err_from_is_err_and}
 use Rattle.csv.specs.Records.{fields_of, field_at}

@@ -1,0 +1,76 @@
+-- The rows that are read are those that are written.
+use Rattle.std.proofs.Common.{◌≡◌, ℕ, ◌+◌, ◌-◌, ◌≤◌, List, [], ◌∷◌, length, take, drop, Bool, true, false, cond, refl, ◌∙◌, ap, arith, nat_lt}
+use Rattle.std.specs.Prelude.{ℤ, Option, None, Some, Result, Ok, Err}
+use Rattle.std.proofs.lemmas.Bool.Decides.{nat_tests}
+use Rattle.csv_streams.specs.Number.{number_of}
+use Rattle.csv_streams.specs.Numbered.{before, numbered}
+use Rattle.csv_streams.specs.Records.{csv_records}
+use Rattle.csv_streams.specs.Rows.{value_or, value_in, has_width, row_in, headers, most_rows, rows_of}
+use Rattle.csv_streams.specs.Written.{AllWrite, WritesRow, WriteRows, FileWrites}
+use Rattle.csv_streams.specs.declared.fault.InFault.{InFault}
+use Rattle.csv_streams.specs.declared.fault.InFault.TheVariants as fault
+use Rattle.csv_streams.proofs.Numbered.{first_and_later}
+use Rattle.csv_streams.proofs.Writings.{read-is_written, written-is_read}
+
+-- fields
+value_some : (rec k : ℕ) (o : Option ℤ) (x : ℤ) → value_or rec k o ≡ Ok x → o ≡ Some x
+value_some rec k (Some y) x e = let is : y ≡ x = cc in ap (λ (z : ℤ). Some z) is
+value_some rec k None x e = cc
+
+values_read : (rec k : ℕ) (fields : List (List ℕ)) (xs : List ℤ) → numbered (value_in rec) k fields ≡ Ok xs → AllWrite fields xs
+values_read rec k [] [] e = tt
+values_read rec k [] (x ∷ xs) e = cc
+values_read rec k (f ∷ fs) xs e =
+    let (y, ys, first, later, parts) = first_and_later (value_in rec k f) (numbered (value_in rec) (k + 1) fs) xs e in
+    rw parts (read-is_written f y (value_some rec k (number_of f) y first), values_read rec (k + 1) fs ys later)
+
+values_written : (rec k : ℕ) (fields : List (List ℕ)) (xs : List ℤ) → AllWrite fields xs → numbered (value_in rec) k fields ≡ Ok xs
+values_written rec k [] [] all = refl
+values_written rec k [] (x ∷ xs) all = absurd all
+values_written rec k (f ∷ fs) [] all = absurd all
+values_written rec k (f ∷ fs) (x ∷ xs) all =
+    ap (λ (o : Option ℤ). before (value_or rec k o) (numbered (value_in rec) (k + 1) fs)) (written-is_read f x all.0)
+    ∙ ap (λ (r : Result (List ℤ) InFault). before (Ok x) r) (values_written rec (k + 1) fs xs all.1)
+
+-- a record
+row_by : (w : ℕ) (more : Bool) (last rec : ℕ) (fields : List (List ℕ)) (row : List ℤ) (late fits : Bool) → nat_lt last rec ≡ late → has_width w more (length fields) ≡ fits → cond late (Err fault.TooMany) (cond fits (numbered (value_in rec) 1 (take w fields)) (Err (fault.Width rec))) ≡ Ok row → (rec ≤ last) × WritesRow w more fields row
+row_by w more last rec fields row true fits is has e = cc
+row_by w more last rec fields row false true is has e = (grind (arith, nat_tests), (has, values_read rec 1 (take w fields) row e))
+row_by w more last rec fields row false false is has e = cc
+
+row_read : (w : ℕ) (more : Bool) (last rec : ℕ) (fields : List (List ℕ)) (row : List ℤ) → row_in w more last rec fields ≡ Ok row → (rec ≤ last) × WritesRow w more fields row
+row_read w more last rec fields row e = row_by w more last rec fields row (nat_lt last rec) (has_width w more (length fields)) refl refl e
+
+row_written : (w : ℕ) (more : Bool) (last rec : ℕ) (fields : List (List ℕ)) (row : List ℤ) → rec ≤ last → WritesRow w more fields row → row_in w more last rec fields ≡ Ok row
+row_written w more last rec fields row le writes =
+    let early : nat_lt last rec ≡ false = grind (arith, nat_tests) in
+    ap (λ (b : Bool). cond b (Err fault.TooMany) (cond (has_width w more (length fields)) (numbered (value_in rec) 1 (take w fields)) (Err (fault.Width rec)))) early
+    ∙ ap (λ (b : Bool). cond b (numbered (value_in rec) 1 (take w fields)) (Err (fault.Width rec))) writes.0
+    ∙ values_written rec 1 (take w fields) row writes.1
+
+-- records
+rows_read : (w : ℕ) (more : Bool) (last k : ℕ) (recs : List (List (List ℕ))) (rows : List (List ℤ)) → numbered (row_in w more last) k recs ≡ Ok rows → WriteRows w more recs rows × (length rows ≤ last + 1 - k)
+rows_read w more last k [] [] e = (tt, omega arith)
+rows_read w more last k [] (row ∷ rows) e = cc
+rows_read w more last k (fields ∷ recs) rows e =
+    let (row, others, first, later, parts) = first_and_later (row_in w more last k fields) (numbered (row_in w more last) (k + 1) recs) rows e in
+    let r = row_read w more last k fields row first in
+    let rest = rows_read w more last (k + 1) recs others later in
+    rw parts ((r.1, rest.0), omega (arith, r.0, rest.1))
+
+rows_written : (w : ℕ) (more : Bool) (last k : ℕ) (recs : List (List (List ℕ))) (rows : List (List ℤ)) → WriteRows w more recs rows → length rows + k ≤ last + 1 → numbered (row_in w more last) k recs ≡ Ok rows
+rows_written w more last k [] [] all few = refl
+rows_written w more last k [] (row ∷ rows) all few = absurd all
+rows_written w more last k (fields ∷ recs) [] all few = absurd all
+rows_written w more last k (fields ∷ recs) (row ∷ rows) all few =
+    ap (λ (r : Result (List ℤ) InFault). before r (numbered (row_in w more last) (k + 1) recs)) (row_written w more last k fields row (omega (arith, few)) all.0)
+    ∙ ap (λ (r : Result (List (List ℤ)) InFault). before (Ok row) r) (rows_written w more last (k + 1) recs rows all.1 (omega (arith, few)))
+
+pub read_rows-written : (bytes : List ℕ) (w : ℕ) (skip more : Bool) (rows : List (List ℤ)) → rows_of bytes w skip more ≡ Ok rows → FileWrites bytes w skip more rows
+read_rows-written bytes w skip more rows e =
+    let r = rows_read w more (headers skip + most_rows) (headers skip + 1) (drop (headers skip) (csv_records bytes)) rows e in
+    record { written = r.0; few = omega (arith, r.1) }
+
+pub written_rows-read : (bytes : List ℕ) (w : ℕ) (skip more : Bool) (rows : List (List ℤ)) → FileWrites bytes w skip more rows → rows_of bytes w skip more ≡ Ok rows
+written_rows-read bytes w skip more rows writes =
+    rows_written w more (headers skip + most_rows) (headers skip + 1) (drop (headers skip) (csv_records bytes)) rows writes.written (omega (arith, writes.few))
