@@ -6,6 +6,7 @@ pub mod Leaves
 pub mod NextLemmas
 pub mod QueuePlaces
 pub mod ReadLemmas
+pub mod RunLemmas
 pub mod Size
 pub mod Standing
 pub mod StartLemmas

@@ -37,7 +37,7 @@ use Rattle.brooklet_step.proofs.ReadLemmas.{got_map}
 
 -- THE FIRST STATES
 
-got_front : {A : Type 0} (xs ys : List A) (n : ℕ) → n < length xs → slice_get (xs ++ ys) n ≡ slice_get xs n
+pub got_front : {A : Type 0} (xs ys : List A) (n : ℕ) → n < length xs → slice_get (xs ++ ys) n ≡ slice_get xs n
 got_front [] ys n lt = absurd (omega (arith, lt))
 got_front (x ∷ xs) ys zero lt = refl
 got_front (x ∷ xs) ys (suc n) lt = got_front xs ys n (omega (arith, lt))

@@ -1,5 +1,5 @@
 -- What a machine keeps, and the state of the definition that it stands for.
-use Rattle.std.specs.Prelude.{◌≡◌, ℕ, zero, ◌+◌, ◌-◌, ◌<◌, Bool, true, false, min, List, [], ◌∷◌, ◌++◌, length, map, Option, Some, None, slice_get, slice_index_or}
+use Rattle.std.specs.Prelude.{◌≡◌, ℕ, ℤ, pos, zero, ◌+◌, ◌-◌, ◌<◌, Bool, true, false, min, List, [], ◌∷◌, ◌++◌, length, map, Option, Some, None, slice_get, slice_index_or}
 use Rattle.river_base.specs.declared.item.Item as item
 use Rattle.river_base.specs.Places.{list_at}
 use Rattle.river_plan.specs.Forms.{Name, OpForm, PlanForm, queue_names}
@@ -99,3 +99,8 @@ pub record Steps (m m' : Parts) (o port : ℕ) : Type 0 where
   pub running : m'.stopped ≡ false
   pub each : (s : Machine) → Stands m s → After m m' o port s
   pub counts : (es : List (ℕ × ℕ)) → Counts m es → Counts m' (es ++ (o, port) ∷ [])
+
+-- the counts of all operators, as values
+pub record AreCounts (m : Parts) (values : List ℤ) : Type 0 where
+  pub many : length values ≡ length m.plan.ops
+  pub each : (o : ℕ) → o < length m.plan.ops → slice_index_or values o (pos 0) ≡ pos (count_of m o)

@@ -3,6 +3,7 @@
 
 mod counts;
 mod emit;
+mod ending;
 mod firing;
 mod fits;
 mod initial;
@@ -10,6 +11,7 @@ pub mod laws;
 mod leaf;
 mod machine;
 mod places;
+mod run;
 mod start;
 mod state;
 mod step;
@@ -19,5 +21,6 @@ pub use firing::fire;
 pub use fits::{Inputs, built, item_fits};
 pub use machine::{Machine, Parts};
 pub use places::Sizes;
+pub use run::{Outcome, run_one};
 pub use start::first_states;
 pub use state::{State, States};

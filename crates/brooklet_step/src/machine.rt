@@ -1,13 +1,15 @@
 // Brooklet's machine.
-ghost use Rattle.std.specs.Prelude.{◌≡◌, ◌↔◌, true, false, IsTrue, IfOk, OnOk, OnErr};
+ghost use Rattle.std.specs.Prelude.{◌≡◌, ◌↔◌, true, false, map, IsTrue, IfOk, OnOk, OnErr};
+ghost use Rattle.river_plan.specs.Forms.{decl_names};
 ghost use Rattle.brooklet_model.specs.Typed.{IsBuilt};
 ghost use Rattle.brooklet_step.specs.Fit.{Fit};
-ghost use Rattle.brooklet_step.specs.Works.{GoesOn, IsEnabled, Starts, Steps};
+ghost use Rattle.brooklet_step.specs.Works.{IsEnabled, Starts, Steps, AreCounts, hist_of};
 
+use crate::ending::outcome_of;
 use crate::initial::first_parts;
 use crate::places::Sizes;
 use crate::step::{fire_next, is_enabled};
-use crate::{Inputs, ItemLists, States};
+use crate::{Inputs, ItemLists, Outcome, States};
 use river_base::{Listed, NoMemory};
 use river_plan::Plan;
 use std::alloc::Global;
@@ -96,5 +98,14 @@ impl Machine {
     {
         fire_next(alloc, &mut self.parts, op, port)?;
         Ok(())
+    }
+
+    /// What the machine gave.
+    pub(crate) fn into_outcome(self, alloc: Global) -> Result<Outcome, NoMemory>
+        requires running { self.stopped ≡ false }
+        ensures outs { IfOk result (λ outcome. outcome.outs ≡ map (hist_of self) (decl_names self.plan.outputs)) }
+        ensures counts { IfOk result (λ outcome. AreCounts self outcome.counts) }
+    {
+        outcome_of(alloc, self.parts)
     }
 }

@@ -1,0 +1,43 @@
+-- Runs in the order of the operators.
+use Rattle.std.specs.Prelude.{◌≡◌, ℕ, ◌<◌, ◌≤◌, ◌-◌, false, List, [], length, Option, Some, None, unwrap_or, slice_get}
+use Rattle.river_base.specs.declared.item.Item as item
+use Rattle.river_plan.specs.Forms.{Name, OpForm, PlanForm}
+use Rattle.brooklet_step.specs.declared.machine.Parts.{Parts}
+use Rattle.brooklet_step.specs.Works.{hist_of, taken_of, ReadsAt, Ran}
+
+-- nothing is left at this port
+abbrev pub IsDrained : Parts → ℕ → ℕ → Type 0
+IsDrained m o port = (q : Name) → ReadsAt m.plan o port q → length (hist_of m q) ≤ taken_of m q
+
+-- the queue that an operator reads at a port; an empty name where there is none
+abbrev pub read_in : Option OpForm → ℕ → Name
+read_in None port = []
+read_in (Some op) port = unwrap_or (slice_get op.reads port) []
+
+abbrev pub left_at : Parts → ℕ → ℕ → ℕ
+left_at m o port = length (hist_of m (read_in (slice_get m.plan.ops o) port)) - taken_of m (read_in (slice_get m.plan.ops o) port)
+
+-- the machine stands for the state after some run
+pub record HasRun (m : Parts) : Type 0 where
+  pub inputs : List (List item.Item)
+  pub ran : Ran m inputs
+
+-- after firings of operators from number o on: what was drained at ports of operators up to number o still is
+pub record Follows (m m' : Parts) (o : ℕ) : Type 0 where
+  pub plan : m'.plan ≡ m.plan
+  pub running : m'.stopped ≡ false
+  pub ran : (inputs : List (List item.Item)) → Ran m inputs → Ran m' inputs
+  pub drained : (inputs : List (List item.Item)) → Ran m inputs → (o' port' : ℕ) → o' ≤ o → IsDrained m o' port' → IsDrained m' o' port'
+
+-- all ports of the operators before number o are drained
+pub record DrainedBefore (m m' : Parts) (o : ℕ) : Type 0 where
+  pub plan : m'.plan ≡ m.plan
+  pub running : m'.stopped ≡ false
+  pub ran : (inputs : List (List item.Item)) → Ran m inputs → Ran m' inputs
+  pub drained : (inputs : List (List item.Item)) → Ran m inputs → (o' port' : ℕ) → o' < o → IsDrained m' o' port'
+
+-- the operator reads so many queues
+pub record HasPorts (p : PlanForm) (o n : ℕ) : Type 0 where
+  pub op : OpForm
+  pub op_is : slice_get p.ops o ≡ Some op
+  pub many : n ≡ length op.reads

@@ -1,0 +1,94 @@
+// A complete run in the order of the operators.
+ghost use Rattle.std.specs.Prelude.{◌≡◌, ℕ, pos, ◌<◌, false, length, map, IfOk, OnOk};
+ghost use Rattle.river_plan.specs.Valid.{IsPlan};
+ghost use Rattle.brooklet_model.specs.Histories.{firings};
+ghost use Rattle.brooklet_model.specs.Meaning.{meaning};
+ghost use Rattle.brooklet_model.specs.Typed.{IsBuilt};
+ghost use Rattle.brooklet_step.specs.Drained.{IsDrained, Follows, DrainedBefore, HasPorts, HasRun};
+ghost use Rattle.brooklet_step.specs.Fit.{Fit};
+
+use crate::{Inputs, ItemLists, Machine};
+use river_base::{NoMemory, Numbers};
+use river_plan::Plan;
+use std::alloc::Global;
+
+/// What a run of a plan without tables gives: the history of each output, in the order of the outputs, and how often each
+/// operator fired, a count of 2^63 - 1 standing for all that are greater.
+#[derive(Drop)]
+pub struct Outcome {
+    pub outs: ItemLists,
+    pub counts: Numbers,
+}
+
+/// Runs a plan on these inputs to the end: operator by operator in the order listed, and port by port, each for as long as there
+/// is an item.
+pub fn run_one(alloc: Global, plan: &Plan, inputs: Inputs) -> Result<Outcome, NoMemory>
+    requires built { IsBuilt plan.now }
+    requires fits { Fit plan.now inputs }
+    ensures outs { IfOk result (λ outcome. outcome.outs ≡ (meaning plan.now inputs).outs) }
+    ensures counts { IfOk result (λ outcome. outcome.counts ≡ map pos (firings plan.now inputs)) }
+{
+    let mut machine = Machine::start(alloc, plan, inputs)?;
+    run_all(alloc, plan, &mut machine)?;
+    let outcome = machine.into_outcome(alloc)?;
+    Ok(outcome)
+}
+
+// All operators, one after another.
+fn run_all(alloc: Global, plan: &Plan, machine: &mut Machine) -> Result<(), NoMemory>
+    requires plan { machine.old.plan ≡ plan.now }
+    requires running { machine.old.stopped ≡ false }
+    requires ran { HasRun machine.old }
+    ensures valid { IsPlan plan.now }
+    ensures drained { OnOk result (DrainedBefore machine.old machine.new (length plan.now.ops)) }
+{
+    for op in 0..op_count(plan) {
+        let ports = port_count(plan, op);
+        run_op(alloc, machine, op, ports)?;
+    }
+    Ok(())
+}
+
+// How many operators there are.
+fn op_count(plan: &Plan) -> u32
+    ensures count { result ≡ length plan.now.ops }
+    ensures valid { IsPlan plan.now }
+{
+    plan.raw().ops.len() as u32
+}
+
+// How many ports an operator reads.
+fn port_count(plan: &Plan, op: u32) -> u32
+    requires { op < length plan.now.ops }
+    ensures { HasPorts plan.now op result }
+{
+    plan.raw().ops.at(op as usize).reads.len() as u32
+}
+
+// All ports of an operator, one after another.
+fn run_op(alloc: Global, machine: &mut Machine, op: u32, ports: u32) -> Result<(), NoMemory>
+    requires valid { IsPlan machine.old.plan }
+    requires running { machine.old.stopped ≡ false }
+    requires ran { HasRun machine.old }
+    ensures follows { OnOk result (Follows machine.old machine.new op) }
+    ensures drained { OnOk result ((port : ℕ) → port < ports → IsDrained machine.new op port) }
+{
+    for port in 0..ports {
+        run_port(alloc, machine, op, port)?;
+    }
+    Ok(())
+}
+
+// All items at a port of an operator.
+fn run_port(alloc: Global, machine: &mut Machine, op: u32, port: u32) -> Result<(), NoMemory>
+    requires valid { IsPlan machine.old.plan }
+    requires running { machine.old.stopped ≡ false }
+    requires ran { HasRun machine.old }
+    ensures follows { OnOk result (Follows machine.old machine.new op) }
+    ensures drained { OnOk result (IsDrained machine.new op port) }
+{
+    while machine.enabled(op, port) {
+        machine.step(alloc, op, port)?;
+    }
+    Ok(())
+}
