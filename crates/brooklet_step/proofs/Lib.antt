@@ -1,4 +1,5 @@
 pub mod Fires
+pub mod FitLemmas
 pub mod FitsLemmas
 pub mod Formed
 pub mod Fused

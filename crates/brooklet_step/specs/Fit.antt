@@ -1,17 +1,23 @@
 -- Which inputs fit a plan.
-use Rattle.std.specs.Prelude.{◌≡◌, ℤ, ◌<ℤ◌, List, [], ◌∷◌, map}
+use Rattle.std.specs.Prelude.{◌≡◌, ℕ, ℤ, pos, ◌<◌, ◌<ℤ◌, List, [], ◌∷◌, Option, Some, None, length, map, slice_get}
 use Rattle.river_base.specs.declared.item.Item as item
+use Rattle.river_base.specs.declared.item.Flat.TheVariants.{One, Batch as Batched}
+use Rattle.river_base.specs.declared.item.Item.TheVariants.{Flat, Pack}
 use Rattle.river_base.specs.declared.kind.FlatType.TheVariants.{Rows, Stream, Relation}
 use Rattle.river_base.specs.declared.kind.QueueType.{QueueType}
 use Rattle.river_base.specs.declared.kind.QueueType.TheVariants.{Flat as FlatOf, Pack as PackOf}
-use Rattle.river_base.specs.Held.{batches}
 use Rattle.river_plan.specs.declared.plan.Decl.{Decl}
 use Rattle.river_plan.specs.Forms.{PlanForm}
 use Rattle.brooklet_model.specs.Typed.{AreInputs}
 
--- the instants of the batches among the items
+-- the instant of a batch; no other item has one, and 0 stands for it
+abbrev pub instant_of : item.Item → ℤ
+instant_of (Flat (One row)) = pos 0
+instant_of (Flat (Batched b)) = b.at
+instant_of (Pack fs) = pos 0
+
 abbrev pub instants : List item.Item → List ℤ
-instants xs = map (λ b. b.at) (batches xs)
+instants xs = map instant_of xs
 
 -- each is later than the one before it
 abbrev pub Rises : List ℤ → Type 0
@@ -38,3 +44,19 @@ pub record Fit (p : PlanForm) (inputs : List (List item.Item)) : Type 0 where
   pub instants_of : List ℤ
   pub ascending : Rises instants_of
   pub streams : AreInstants p.inputs instants_of inputs
+
+-- the type is that of a stream
+abbrev pub IsStream : QueueType → Type 0
+IsStream (FlatOf (Rows w)) = ⊥
+IsStream (FlatOf (Stream w)) = Unit {0}
+IsStream (FlatOf (Relation w)) = ⊥
+IsStream (PackOf t) = ⊥
+
+-- no input of the first n is a stream
+abbrev pub NoStream : ℕ → List Decl → Type 0
+NoStream n ds = (i : ℕ) (d : Decl) → i < n → slice_get ds i ≡ Some d → IsStream d.kind → ⊥
+
+-- the place of an input that is a stream, or none is one
+abbrev pub IsStreamAt : List Decl → Option ℕ → Type 0
+IsStreamAt ds None = NoStream (length ds) ds
+IsStreamAt ds (Some i) = (d : Decl) × (slice_get ds i ≡ Some d) × IsStream d.kind

@@ -1,14 +1,11 @@
-// Which plans the machine runs, and which inputs fit a plan.
+// Which plans the machine runs, and which items have a type.
 ghost use Rattle.std.specs.Prelude.{◌≡◌, ◌↔◌, IsTrue, All, length};
 ghost use Rattle.river_base.specs.Held.{HasType, HasFlatType, HaveWidth, IsAscending};
 ghost use Rattle.river_plan.specs.Forms.{plan_form};
 ghost use Rattle.brooklet_model.specs.Typed.{IsRows, IsBuilt};
 
-use river_base::{Flat, FlatType, Item, Items, Listed, QueueType, Rows};
+use river_base::{Flat, FlatType, Item, QueueType, Rows};
 use river_plan::{Decls, Plan};
-
-/// One list of items for each input of a plan.
-pub type Inputs = Listed<Items>;
 
 /// Whether the machine runs this plan so far: all its queues carry rows or packs of rows, and it has no table.
 #[tactic(auto, using(crate::proofs::FitsLemmas::built_by, crate::proofs::FitsLemmas::built_outputs, crate::proofs::FitsLemmas::built_inputs, crate::proofs::FitsLemmas::built_queues))]
