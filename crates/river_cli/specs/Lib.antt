@@ -1,6 +1,12 @@
+pub mod Added
+pub mod Agrees
 pub mod Answer
+pub mod Built
 pub mod Commands
+pub mod Gathered
+pub mod Inputs
 pub mod Points
+pub mod Printed
 pub mod River
 pub mod Says
 pub mod Text

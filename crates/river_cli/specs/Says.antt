@@ -8,8 +8,10 @@ use Rattle.river_text.specs.declared.fault.TextFault.{TextFault}
 use Rattle.river_text.specs.declared.fault.TextFault.TheVariants as text_fault
 use Rattle.river_plan.specs.declared.fault.PlanFault.{PlanFault}
 use Rattle.river_plan.specs.declared.fault.PlanFault.TheVariants as plan
+use Rattle.csv_streams.specs.declared.fault.InFault.{InFault}
+use Rattle.csv_streams.specs.declared.fault.InFault.TheVariants as in_fault
 use Rattle.river_cli.specs.River as river
-use Rattle.river_cli.specs.Text.{refusal_text, river_text, unfit_text}
+use Rattle.river_cli.specs.Text.{refusal_text, river_text, unfit_text, in_fault_text}
 
 -- of a StreamIt program
 abbrev pub SaysFault : StreamitFault → List ℕ → Type 0
@@ -31,3 +33,8 @@ SaysUnread text_fault.NoMemory text = ⊥
 abbrev pub SaysUnfit : PlanFault → List ℕ → Type 0
 SaysUnfit plan.NoMemory text = ⊥
 SaysUnfit fault text = text ≡ unfit_text fault
+
+-- of a file of an input
+abbrev pub SaysInput : List ℕ → InFault → List ℕ → Type 0
+SaysInput name in_fault.NoMemory text = ⊥
+SaysInput name fault text = text ≡ in_fault_text name fault

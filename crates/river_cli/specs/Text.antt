@@ -1,6 +1,8 @@
 -- The texts that are written besides the output of a program.
 use Rattle.std.specs.Prelude.{ℕ, List, [], ◌++◌, codes}
 use Rattle.std.specs.Fmt.{decimal}
+use Rattle.csv_streams.specs.declared.fault.InFault.{InFault}
+use Rattle.csv_streams.specs.declared.fault.InFault.TheVariants as fault
 use Rattle.river_kernels.specs.declared.limit.Limit.{Limit}
 use Rattle.river_kernels.specs.declared.limit.Limit.TheVariants as limit
 use Rattle.river_plan.specs.declared.fault.Named.{Named}
@@ -16,6 +18,10 @@ usage_text = codes "usage: river run|plan|mean|load\n"
 
 abbrev pub large_program : List ℕ
 large_program = codes "refused: program: Large\n"
+
+-- a plan of a kind that is not run so far
+abbrev pub unbuilt : List ℕ
+unbuilt = codes "refused: program: Unbuilt\n"
 
 -- a fault of the program, and what is said of it
 abbrev pub fault_text : List ℕ → List ℕ → List ℕ
@@ -83,6 +89,25 @@ input_text name fault = codes "refused: input " ++ name ++ codes ": " ++ fault +
 abbrev pub large_input : List ℕ → List ℕ
 large_input name = input_text name (codes "Large")
 
--- the record of this number is the first that is not one number
-abbrev pub not_number : List ℕ → ℕ → List ℕ
-not_number name rec = input_text name (codes "I2 " ++ decimal rec ++ codes " 1")
+-- a name of the words that is no input, and an input that no word names
+abbrev pub unknown_input : List ℕ → List ℕ
+unknown_input name = input_text name (codes "Unknown")
+
+abbrev pub missing_input : List ℕ → List ℕ
+missing_input name = input_text name (codes "Missing")
+
+-- what is told of a record, by its number
+abbrev pub record_text : List ℕ → ℕ → List ℕ
+record_text code rec = code ++ codes " " ++ decimal rec
+
+-- the first record of a file that is none of its input; want of memory is none
+abbrev pub in_fault : InFault → List ℕ
+in_fault (fault.Width rec) = record_text (codes "I1") rec
+in_fault (fault.NotNumber rec field) = record_text (codes "I2") rec ++ codes " " ++ decimal field
+in_fault (fault.Backwards rec) = record_text (codes "I3") rec
+in_fault (fault.NegativeTime rec) = record_text (codes "I4") rec
+in_fault fault.TooMany = codes "I5"
+in_fault fault.NoMemory = []
+
+abbrev pub in_fault_text : List ℕ → InFault → List ℕ
+in_fault_text name fault = input_text name (in_fault fault)

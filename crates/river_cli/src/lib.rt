@@ -2,10 +2,17 @@
 #![tactic(auto)]
 
 mod decide;
+mod fetched;
+mod gather;
+mod given;
+mod names;
+mod rows;
+mod run;
 mod show;
 mod text;
 mod top;
+mod word_set;
 mod words;
 
 pub use top::river;
-pub use words::{Command, InWord, Lang, WordFault, read_words};
+pub use words::{Command, InWord, InWords, Lang, WordFault, read_words};

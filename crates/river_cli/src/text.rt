@@ -1,8 +1,9 @@
 // The texts of refusals.
 ghost use Rattle.std.specs.Prelude.{◌≡◌, ◌++◌, codes, IfOk};
-ghost use Rattle.river_cli.specs.Says.{SaysFault, SaysUnread, SaysUnfit};
-ghost use Rattle.river_cli.specs.Text.{fault_text, program_text, name_text, limit_word, over_text, input_text, large_input, not_number};
+ghost use Rattle.river_cli.specs.Says.{SaysFault, SaysUnread, SaysUnfit, SaysInput};
+ghost use Rattle.river_cli.specs.Text.{fault_text, program_text, name_text, limit_word, over_text, input_text, large_input, unknown_input, missing_input, record_text};
 
+use csv_streams::InFault;
 use river_base::{Bytes, NoMemory};
 use river_plan::{Limit, Named, PlanFault};
 use river_text::TextFault;
@@ -12,6 +13,9 @@ use work_code::LexFault;
 
 /// What is written where the words are no sentence.
 pub const USAGE: &[u8] = b"usage: river run|plan|mean|load\n";
+
+/// What refuses a plan of a kind that is not run so far.
+pub const UNBUILT: &[u8] = b"refused: program: Unbuilt\n";
 
 /// What refuses a program of too many bytes.
 pub const LARGE_PROGRAM: &[u8] = b"refused: program: Large\n";
@@ -131,14 +135,48 @@ pub fn large(alloc: Global, name: &[u8]) -> Result<Bytes, NoMemory>
     input(alloc, name, b"Large")
 }
 
-/// Record number `rec` of an input is the first that is not one number.
-pub fn bad_record(alloc: Global, name: &[u8], rec: u64) -> Result<Bytes, NoMemory>
-    ensures { IfOk result (λ text. text ≡ not_number name.now rec) }
+/// No input of the program has this name.
+pub fn unknown(alloc: Global, name: &[u8]) -> Result<Bytes, NoMemory>
+    ensures { IfOk result (λ text. text ≡ unknown_input name.now) }
 {
-    let fault = format!(in alloc; "I2 {rec} 1")?;
-    input(alloc, name, fault.as_bytes())
+    input(alloc, name, b"Unknown")
 }
 
+/// No word names this input.
+pub fn missing(alloc: Global, name: &[u8]) -> Result<Bytes, NoMemory>
+    ensures { IfOk result (λ text. text ≡ missing_input name.now) }
+{
+    input(alloc, name, b"Missing")
+}
+
+/// What the first record at fault of an input is told as; nothing is said of want of memory.
+pub fn in_fault(alloc: Global, name: &[u8], fault: InFault) -> Result<Bytes, NoMemory>
+    ensures { IfOk result (SaysInput name.now fault) }
+{
+    match fault {
+        InFault::Width { rec } => record(alloc, name, b"I1", rec),
+        InFault::NotNumber { rec, field } => {
+            let text = format!(in alloc; "I2 {rec} {field}")?;
+            input(alloc, name, text.as_bytes())
+        }
+        InFault::Backwards { rec } => record(alloc, name, b"I3", rec),
+        InFault::NegativeTime { rec } => record(alloc, name, b"I4", rec),
+        InFault::TooMany => input(alloc, name, b"I5"),
+        InFault::NoMemory => Err(NoMemory),
+    }
+}
+
+// A fault of an input, with the number of a record.
+fn record(alloc: Global, name: &[u8], code: &[u8], rec: u32) -> Result<Bytes, NoMemory>
+    ensures { IfOk result (λ text. text ≡ input_text name.now (record_text code.now rec)) }
+{
+    let mut text = Bytes::from_slice(alloc, code)?;
+    let rest = format!(in alloc; " {rec}")?;
+    text.extend(rest.as_bytes())?;
+    input(alloc, name, text.as_slice())
+}
+
+// An input, and what is said of it.
 fn input(alloc: Global, name: &[u8], fault: &[u8]) -> Result<Bytes, NoMemory>
     ensures { IfOk result (λ text. text ≡ input_text name.now fault.now) }
 {

@@ -1,0 +1,125 @@
+// The rows of a program's inputs.
+ghost use Rattle.std.specs.Prelude.{◌≡◌, length, map, All, IsTrue, Ok, IfOk, IfErr};
+ghost use Rattle.river_kernels.specs.Formed.{is_width};
+ghost use Rattle.river_plan.specs.Faults.{type_width};
+ghost use Rattle.river_cli.specs.Inputs.{width_named, rows_read, all_read, rows_named, in_order, row_items, all_items, TellsIn};
+
+use crate::text;
+use crate::words::InWord;
+use brooklet_step::{Inputs, RowLists};
+use csv_streams::{InFault, read_rows};
+use river_base::{Bytes, Flat, FlatType, Item, Items, NoMemory, QueueType, Rows};
+use river_order::Stop;
+use river_plan::Decl;
+use std::alloc::Global;
+
+/// The rows of all files, in the order of the words; what is told of the first record at fault.
+pub fn read_all(
+    alloc: Global,
+    decls: &[Decl],
+    header: bool,
+    ins: &[InWord],
+    files: &[Bytes],
+) -> Result<RowLists, Stop>
+    requires count { length files.now ≡ length ins.now }
+    requires widths { All (λ w. IsTrue (is_width (width_named decls.now w.name))) ins.now }
+    ensures ok { IfOk result (λ all. all_read decls.now header ins.now files.now ≡ Ok all) }
+    ensures err { IfErr result (TellsIn (all_read decls.now header ins.now files.now)) }
+{
+    let mut all = RowLists::new(alloc);
+    for place in 0..ins.len() {
+        all.push(read_one(alloc, decls, header, &ins[place], &files[place])?)?;
+    }
+    Ok(all)
+}
+
+// The rows of the file of a word.
+fn read_one(
+    alloc: Global,
+    decls: &[Decl],
+    header: bool,
+    word: &InWord,
+    bytes: &Bytes,
+) -> Result<Rows, Stop>
+    requires { IsTrue (is_width (width_named decls.now word.now.name)) }
+    ensures ok { IfOk result (λ rows. rows_read decls.now header word.now bytes.now ≡ Ok rows) }
+    ensures err { IfErr result (TellsIn (rows_read decls.now header word.now bytes.now)) }
+{
+    let width = width_named(decls, word.name.as_slice());
+    match read_rows(alloc, bytes, width, header, false) {
+        Ok(rows) => Ok(rows),
+        Err(InFault::NoMemory) => Err(Stop::NoMemory),
+        Err(fault) => Err(Stop::Refused(text::in_fault(
+            alloc,
+            word.name.as_slice(),
+            fault,
+        )?)),
+    }
+}
+
+// How many values the rows of the input of this name have; 0 where there is none.
+fn width_named(decls: &[Decl], name: &[u8]) -> u32
+    ensures { result ≡ width_named decls.now name.now }
+{
+    for decl in decls {
+        if decl.name.as_slice() == name {
+            return width_of(&decl.kind);
+        }
+    }
+    0
+}
+
+fn width_of(kind: &QueueType) -> u32
+    ensures { result ≡ type_width kind.now }
+{
+    let (QueueType::Flat(flat) | QueueType::Pack(flat)) = kind;
+    match flat {
+        FlatType::Rows(width) | FlatType::Stream(width) | FlatType::Relation(width) => *width,
+    }
+}
+
+/// The items of each input, in the order of the program's inputs.
+pub fn arrange(
+    alloc: Global,
+    decls: &[Decl],
+    ins: &[InWord],
+    all: &[Rows],
+) -> Result<Inputs, NoMemory>
+    requires { length all.now ≡ length ins.now }
+    ensures { IfOk result (λ inputs. inputs ≡ all_items (in_order decls.now ins.now all.now)) }
+{
+    let mut inputs = Inputs::new(alloc);
+    for decl in decls {
+        inputs.push(items_named(alloc, ins, all, decl.name.as_slice())?)?;
+    }
+    Ok(inputs)
+}
+
+// The items that the words give to an input.
+fn items_named(
+    alloc: Global,
+    ins: &[InWord],
+    all: &[Rows],
+    name: &[u8],
+) -> Result<Items, NoMemory>
+    requires { length all.now ≡ length ins.now }
+    ensures { IfOk result (λ items. items ≡ row_items (rows_named ins.now all.now name.now)) }
+{
+    for place in 0..ins.len() {
+        if ins[place].name.as_slice() == name {
+            return items_of(alloc, &all[place]);
+        }
+    }
+    Ok(Items::new(alloc))
+}
+
+// Rows as items.
+fn items_of(alloc: Global, rows: &Rows) -> Result<Items, NoMemory>
+    ensures { IfOk result (λ items. items ≡ row_items rows.now) }
+{
+    let mut items = Items::new(alloc);
+    for row in rows.as_slice() {
+        items.push(Item::Flat(Flat::One(*row)))?;
+    }
+    Ok(items)
+}
