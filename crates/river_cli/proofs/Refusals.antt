@@ -1,6 +1,6 @@
 -- The point of a program that is refused.
 use Rattle.std.proofs.Common.{◌≡◌, ℕ, List, refl}
-use Rattle.std.specs.Prelude.{Result}
+use Rattle.std.specs.Prelude.{Result, Bool}
 use Rattle.work_code.specs.declared.fault.LexFault.TheVariants as lex
 use Rattle.streamit_front.specs.declared.fault.StreamitFault.{StreamitFault}
 use Rattle.streamit_front.specs.declared.fault.StreamitFault.TheVariants as fault
@@ -9,16 +9,16 @@ use Rattle.streamit_front.specs.Reading.{Refusal}
 use Rattle.streamit_front.specs.Refusals.{Refuses}
 use Rattle.river_order.specs.Order.{Ends, Refused}
 use Rattle.river_cli.specs.declared.words.InWord.{InWord}
-use Rattle.river_cli.specs.Points.{of_program, of_plan}
+use Rattle.river_cli.specs.Points.{of_streamit, of_plan}
 use Rattle.river_cli.specs.Says.{SaysFault}
 
-pub program-refused : (input : InWord) (read : Result Program Refusal) (f : StreamitFault) (text : List ℕ) → Refuses read f → SaysFault f text → of_program input read ≡ Ends (Refused text)
-unfolding of_program
-program-refused input read (fault.Lex (lex.BadByte at)) text is says = rw (is, says) refl
-program-refused input read (fault.Lex (lex.BigNumber at)) text is says = rw (is, says) refl
-program-refused input read (fault.Lex lex.NoMemory) text is says = absurd is
-program-refused input read (fault.Syntax unit) text is says = rw (is, says) refl
-program-refused input read fault.NoMemory text is says = absurd says
+pub run-refused : (ins : List InWord) (header counted : Bool) (read : Result Program Refusal) (f : StreamitFault) (text : List ℕ) → Refuses read f → SaysFault f text → of_streamit ins header counted read ≡ Ends (Refused text)
+unfolding of_streamit
+run-refused ins header counted read (fault.Lex (lex.BadByte at)) text is says = rw (is, says) refl
+run-refused ins header counted read (fault.Lex (lex.BigNumber at)) text is says = rw (is, says) refl
+run-refused ins header counted read (fault.Lex lex.NoMemory) text is says = absurd is
+run-refused ins header counted read (fault.Syntax unit) text is says = rw (is, says) refl
+run-refused ins header counted read fault.NoMemory text is says = absurd says
 
 pub plan-refused : (read : Result Program Refusal) (f : StreamitFault) (text : List ℕ) → Refuses read f → SaysFault f text → of_plan read ≡ Ends (Refused text)
 unfolding of_plan

@@ -20,7 +20,7 @@ of_plan p counted rows = printed_outcome p (meaning p (all_items rows)).outs (as
 -- the values of the first input, of which each row has one
 abbrev pub values : List (List (List ℤ)) → List ℤ
 values [] = []
-values (rows ∷ others) = map (λ row. slice_index_or row 0 0) rows
+values (rows ∷ others) = map (λ row. slice_index_or row 0 (pos 0)) rows
 
 -- values as rows of one
 abbrev pub as_rows : List ℤ → List (List ℤ)

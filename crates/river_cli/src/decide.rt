@@ -5,10 +5,10 @@ ghost use Rattle.river_order.specs.Decides.{Decides};
 ghost use Rattle.river_cli.specs.declared.words.Command.TheVariants.{Show};
 ghost use Rattle.river_cli.specs.Points.{points_of, of_command, of_asked};
 
-use crate::run::{Asked, run};
+use crate::run::run;
 use crate::show::show;
 use crate::text;
-use crate::words::{Command, Lang, WordFault, read_words};
+use crate::words::{Command, InWord, Lang, WordFault, read_words};
 use river_base::{Bytes, Text};
 use river_order::{Stop, take_turn};
 use river_outside::Shelf;
@@ -46,12 +46,8 @@ fn decide_command<S: Shelf>(
             header,
             counts,
         } => {
-            let asked = Asked {
-                ins: ins.as_slice(),
-                header: *header,
-                counted: *counts,
-            };
-            decide_run(alloc, *lang, file.as_slice(), asked, shelf)
+            let ins = ins.as_slice();
+            decide_run(alloc, *lang, file.as_slice(), ins, *header, *counts, shelf)
         }
         Command::Mean {
             lang,
@@ -59,12 +55,8 @@ fn decide_command<S: Shelf>(
             ins,
             header,
         } => {
-            let asked = Asked {
-                ins: ins.as_slice(),
-                header: *header,
-                counted: false,
-            };
-            decide_run(alloc, *lang, file.as_slice(), asked, shelf)
+            let ins = ins.as_slice();
+            decide_run(alloc, *lang, file.as_slice(), ins, *header, false, shelf)
         }
         Command::Show { lang, file } => decide_show(alloc, *lang, file.as_slice(), shelf),
     }
@@ -75,14 +67,16 @@ fn decide_run<S: Shelf>(
     alloc: Global,
     lang: Lang,
     file: &[u8],
-    asked: Asked<'_>,
+    ins: &[InWord],
+    header: bool,
+    counted: bool,
     shelf: &mut S,
 ) -> Result<Bytes, Stop>
     ensures later { S.faults shelf.old ≤ S.faults shelf.new }
-    ensures decided { Decides (Some (of_asked lang file.now asked.ins.now asked.header asked.counted)) (S.held shelf.old) (Rose (S.faults shelf.old) (S.faults shelf.new)) result }
+    ensures decided { Decides (Some (of_asked lang file.now ins.now header counted)) (S.held shelf.old) (Rose (S.faults shelf.old) (S.faults shelf.new)) result }
 {
     let text = take_turn(alloc, shelf, file, MOST_PROGRAM, text::LARGE_PROGRAM)?;
-    run(alloc, lang, &text, asked, shelf)
+    run(alloc, lang, &text, ins, header, counted, shelf)
 }
 
 // The program is fetched, and its plan printed.

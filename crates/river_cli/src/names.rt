@@ -1,6 +1,5 @@
 // The names of a program's inputs, and those that the words give.
-ghost use Rattle.std.specs.Prelude.{◌≡◌, ◌&◌, nat_lt, not, IfErr, OnOk, option_copied};
-ghost use Rattle.std.specs.List.{find};
+ghost use Rattle.std.specs.Prelude.{◌≡◌, nat_lt, IfErr, OnOk, None, Some, MatchOption};
 ghost use Rattle.river_plan.specs.Forms.{decl_names};
 ghost use Rattle.river_plan.specs.Names.{count};
 ghost use Rattle.river_cli.specs.Commands.{names};
@@ -29,7 +28,7 @@ pub fn check_names(alloc: Global, decls: &[Decl], ins: &[InWord]) -> Result<(), 
 
 // The first word whose name is no input.
 fn unknown<'a>(decls: &[Decl], ins: &'a [InWord]) -> Option<&'a InWord>
-    ensures { option_copied result ≡ unknown decls.now ins.now }
+    ensures { MatchOption result (unknown decls.now ins.now ≡ None) (λ w. unknown decls.now ins.now ≡ Some w.now) }
 {
     for word in ins {
         if !is_declared(decls, word.name.as_slice()) {
@@ -41,7 +40,7 @@ fn unknown<'a>(decls: &[Decl], ins: &'a [InWord]) -> Option<&'a InWord>
 
 // The first input that no word names.
 fn missing<'a>(decls: &'a [Decl], ins: &[InWord]) -> Option<&'a Decl>
-    ensures { option_copied result ≡ missing decls.now ins.now }
+    ensures { MatchOption result (missing decls.now ins.now ≡ None) (λ d. missing decls.now ins.now ≡ Some d.now) }
 {
     for decl in decls {
         if !is_named(ins, decl.name.as_slice()) {

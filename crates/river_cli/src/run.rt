@@ -24,29 +24,23 @@ use river_text::read_river;
 use std::alloc::Global;
 use streamit_front::compile_streamit;
 
-/// What is asked of a run: its inputs, whether each begins with a header, and whether the firings are printed too.
-#[derive(Clone, Copy)]
-pub struct Asked<'a> {
-    pub ins: &'a [InWord],
-    pub header: bool,
-    pub counted: bool,
-}
-
 /// The output of a program, or why it has none.
 pub fn run<S: Shelf>(
     alloc: Global,
     lang: Lang,
     text: &Bytes,
-    asked: Asked<'_>,
+    ins: &[InWord],
+    header: bool,
+    counted: bool,
     shelf: &mut S,
 ) -> Result<Bytes, Stop>
     requires { length text.now ≤ 1048576 }
     ensures later { S.faults shelf.old ≤ S.faults shelf.new }
-    ensures decided { Decides (Some (of_run lang asked.ins.now asked.header asked.counted text.now)) (S.held shelf.old) (Rose (S.faults shelf.old) (S.faults shelf.new)) result }
+    ensures decided { Decides (Some (of_run lang ins.now header counted text.now)) (S.held shelf.old) (Rose (S.faults shelf.old) (S.faults shelf.new)) result }
 {
     match lang {
-        Lang::River => run_river(alloc, text, asked, shelf),
-        Lang::Streamit => run_streamit(alloc, text, asked, shelf),
+        Lang::River => run_river(alloc, text, ins, header, counted, shelf),
+        Lang::Streamit => run_streamit(alloc, text, ins, header, counted, shelf),
     }
 }
 
@@ -54,15 +48,17 @@ pub fn run<S: Shelf>(
 fn run_river<S: Shelf>(
     alloc: Global,
     text: &Bytes,
-    asked: Asked<'_>,
+    ins: &[InWord],
+    header: bool,
+    counted: bool,
     shelf: &mut S,
 ) -> Result<Bytes, Stop>
     requires { length text.now ≤ 1048576 }
     ensures later { S.faults shelf.old ≤ S.faults shelf.new }
-    ensures decided { Decides (Some (of_river asked.ins.now asked.header asked.counted (plan_in text.now))) (S.held shelf.old) (Rose (S.faults shelf.old) (S.faults shelf.new)) result }
+    ensures decided { Decides (Some (of_river ins.now header counted (plan_in text.now))) (S.held shelf.old) (Rose (S.faults shelf.old) (S.faults shelf.new)) result }
 {
     match read_river(alloc, text) {
-        Ok(raw) => run_checked(alloc, raw, asked, shelf),
+        Ok(raw) => run_checked(alloc, raw, ins, header, counted, shelf),
         Err(fault) => Err(Stop::Refused(text::unread(alloc, fault)?)),
     }
 }
@@ -71,14 +67,16 @@ fn run_river<S: Shelf>(
 fn run_checked<S: Shelf>(
     alloc: Global,
     raw: RawPlan,
-    asked: Asked<'_>,
+    ins: &[InWord],
+    header: bool,
+    counted: bool,
     shelf: &mut S,
 ) -> Result<Bytes, Stop>
     ensures later { S.faults shelf.old ≤ S.faults shelf.new }
-    ensures decided { Decides (Some (of_river asked.ins.now asked.header asked.counted (checked (plan_form raw)))) (S.held shelf.old) (Rose (S.faults shelf.old) (S.faults shelf.new)) result }
+    ensures decided { Decides (Some (of_river ins.now header counted (checked (plan_form raw)))) (S.held shelf.old) (Rose (S.faults shelf.old) (S.faults shelf.new)) result }
 {
     match check(alloc, raw) {
-        Ok(plan) => run_if_built(alloc, &plan, asked, shelf),
+        Ok(plan) => run_if_built(alloc, &plan, ins, header, counted, shelf),
         Err(fault) => Err(Stop::Refused(text::unfit(alloc, fault)?)),
     }
 }
@@ -87,31 +85,35 @@ fn run_checked<S: Shelf>(
 fn run_if_built<S: Shelf>(
     alloc: Global,
     plan: &Plan,
-    asked: Asked<'_>,
+    ins: &[InWord],
+    header: bool,
+    counted: bool,
     shelf: &mut S,
 ) -> Result<Bytes, Stop>
     ensures later { S.faults shelf.old ≤ S.faults shelf.new }
-    ensures decided { Decides (Some (of_built plan.now asked.ins.now asked.header asked.counted (is_built plan.now))) (S.held shelf.old) (Rose (S.faults shelf.old) (S.faults shelf.new)) result }
+    ensures decided { Decides (Some (of_built plan.now ins.now header counted (is_built plan.now))) (S.held shelf.old) (Rose (S.faults shelf.old) (S.faults shelf.new)) result }
 {
     if !built(plan) {
         return Err(Stop::Refused(Bytes::from_slice(alloc, text::UNBUILT)?));
     }
-    run_plan(alloc, plan, asked, shelf)
+    run_plan(alloc, plan, ins, header, counted, shelf)
 }
 
 // That of a StreamIt program.
 fn run_streamit<S: Shelf>(
     alloc: Global,
     text: &Bytes,
-    asked: Asked<'_>,
+    ins: &[InWord],
+    header: bool,
+    counted: bool,
     shelf: &mut S,
 ) -> Result<Bytes, Stop>
     requires { length text.now ≤ 1048576 }
     ensures later { S.faults shelf.old ≤ S.faults shelf.new }
-    ensures decided { Decides (Some (of_streamit asked.ins.now asked.header asked.counted (compiled text.now))) (S.held shelf.old) (Rose (S.faults shelf.old) (S.faults shelf.new)) result }
+    ensures decided { Decides (Some (of_streamit ins.now header counted (compiled text.now))) (S.held shelf.old) (Rose (S.faults shelf.old) (S.faults shelf.new)) result }
 {
     match compile_streamit(alloc, text) {
-        Ok(made) => run_plan(alloc, &made.1, asked, shelf),
+        Ok(made) => run_plan(alloc, &made.1, ins, header, counted, shelf),
         Err(fault) => Err(Stop::Refused(text::refusal(alloc, fault)?)),
     }
 }
@@ -120,18 +122,20 @@ fn run_streamit<S: Shelf>(
 fn run_plan<S: Shelf>(
     alloc: Global,
     plan: &Plan,
-    asked: Asked<'_>,
+    ins: &[InWord],
+    header: bool,
+    counted: bool,
     shelf: &mut S,
 ) -> Result<Bytes, Stop>
     requires { IsBuilt plan.now }
     ensures later { S.faults shelf.old ≤ S.faults shelf.new }
-    ensures decided { (print : List (List (List ℤ)) → List ℕ) → Agrees plan.now asked.counted print
-        → Decides (Some (of_inputs plan.now.inputs asked.ins.now asked.header print)) (S.held shelf.old) (Rose (S.faults shelf.old) (S.faults shelf.new)) result }
+    ensures decided { (print : List (List (List ℤ)) → List ℕ) → Agrees plan.now counted print
+        → Decides (Some (of_inputs plan.now.inputs ins.now header print)) (S.held shelf.old) (Rose (S.faults shelf.old) (S.faults shelf.new)) result }
 {
     let decls = plan.raw().inputs.as_slice();
-    let inputs = gather(alloc, decls, asked.ins, asked.header, shelf)?;
+    let inputs = gather(alloc, decls, ins, header, shelf)?;
     let outcome = run_one(alloc, plan, inputs)?;
-    Ok(print_asked(alloc, plan, &outcome, asked.counted)?)
+    Ok(print_asked(alloc, plan, &outcome, counted)?)
 }
 
 // What the run gave, with its firings where they are asked for.
