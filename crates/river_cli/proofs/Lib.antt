@@ -1,3 +1,6 @@
+pub mod Fetches
+pub mod Inputs
 pub mod PlanTexts
+pub mod ReadOn
 pub mod Refusals
 pub mod Told

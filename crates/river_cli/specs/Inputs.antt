@@ -1,14 +1,10 @@
 -- The inputs of a program: their names, the files that they are, and the rows of these.
-use Rattle.std.specs.Prelude.{◌≡◌, ℕ, ℤ, ◌≤◌, List, All, IsTrue, [], ◌∷◌, map, Bool, false, not, nat_lt, if◌then◌else◌, Option, Some, None, Result, Ok, Err, codes}
+use Rattle.std.specs.Prelude.{◌≡◌, ℕ, ℤ, List, [], ◌∷◌, map, Bool, false, not, nat_lt, if◌then◌else◌, Option, Some, None, Result, Ok, Err, codes}
 use Rattle.std.specs.List.{find}
 use Rattle.river_base.specs.Name.{name_eq}
 use Rattle.river_base.specs.declared.item.Item as item
 use Rattle.river_base.specs.declared.item.Flat.TheVariants.{One}
 use Rattle.river_base.specs.declared.item.Item.TheVariants.{Flat}
-use Rattle.river_base.specs.declared.kind.FlatType.TheVariants.{Rows, Stream, Relation}
-use Rattle.river_base.specs.declared.kind.QueueType.{QueueType}
-use Rattle.river_base.specs.declared.kind.QueueType.TheVariants.{Flat as FlatOf, Pack as PackOf}
-use Rattle.river_kernels.specs.Formed.{is_width}
 use Rattle.csv_streams.specs.Rows.{rows_of}
 use Rattle.csv_streams.specs.declared.fault.InFault.{InFault}
 use Rattle.river_order.specs.Order.{Order, Fetch}
@@ -91,13 +87,6 @@ rows_named [] all name = []
 rows_named (w ∷ ins) [] name = []
 rows_named (w ∷ ins) (rows ∷ all) name = if name_eq w.name name then rows else rows_named ins all name
 
--- a queue of rows of 1 to 16 values
-abbrev pub IsRowsOf : QueueType → Type 0
-IsRowsOf (FlatOf (Rows w)) = IsTrue (is_width w)
-IsRowsOf (FlatOf (Stream w)) = ⊥
-IsRowsOf (FlatOf (Relation w)) = ⊥
-IsRowsOf (PackOf t) = ⊥
-
 -- the rows of each input, in the order of the program's inputs
 abbrev pub in_order : List Decl → List InWord → List (List (List ℤ)) → List (List (List ℤ))
 in_order decls ins all = map (rows_named ins all) (decl_names decls)
@@ -108,8 +97,3 @@ row_items rows = map (λ row. Flat (One row)) rows
 
 abbrev pub all_items : List (List (List ℤ)) → List (List item.Item)
 all_items all = map row_items all
-
--- inputs that carry rows of 1 to 16 values, each with a name of its own
-pub record TakeRows (decls : List Decl) : Type 0 where
-  pub kinds : All (λ d. IsRowsOf d.kind) decls
-  pub apart : (q : List ℕ) → count q (decl_names decls) ≤ 1

@@ -2,13 +2,13 @@
 ghost use Rattle.std.specs.Prelude.{◌≡◌, ◌≤◌, Some, IsErrOf};
 ghost use Rattle.river_outside.specs.Causes.{Rose};
 ghost use Rattle.river_order.specs.Decides.{Decides};
-ghost use Rattle.river_cli.specs.declared.words.Command.TheVariants.{Show};
-ghost use Rattle.river_cli.specs.Points.{points_of, of_command, of_asked};
+ghost use Rattle.river_cli.specs.declared.words.Command.TheVariants.{Run, Show};
+ghost use Rattle.river_cli.specs.Points.{points_of, of_command};
 
 use crate::run::run;
 use crate::show::show;
 use crate::text;
-use crate::words::{Command, InWord, Lang, WordFault, read_words};
+use crate::words::{Command, InWords, Lang, WordFault, read_words};
 use river_base::{Bytes, Text};
 use river_order::{Stop, take_turn};
 use river_outside::Shelf;
@@ -40,24 +40,11 @@ fn decide_command<S: Shelf>(
 {
     match command {
         Command::Run {
-            lang,
             file,
             ins,
             header,
             counts,
-        } => {
-            let ins = ins.as_slice();
-            decide_run(alloc, *lang, file.as_slice(), ins, *header, *counts, shelf)
-        }
-        Command::Mean {
-            lang,
-            file,
-            ins,
-            header,
-        } => {
-            let ins = ins.as_slice();
-            decide_run(alloc, *lang, file.as_slice(), ins, *header, false, shelf)
-        }
+        } => decide_run(alloc, file.as_slice(), ins, *header, *counts, shelf),
         Command::Show { lang, file } => decide_show(alloc, *lang, file.as_slice(), shelf),
     }
 }
@@ -65,18 +52,17 @@ fn decide_command<S: Shelf>(
 // The program is fetched, to be run.
 fn decide_run<S: Shelf>(
     alloc: Global,
-    lang: Lang,
     file: &[u8],
-    ins: &[InWord],
+    ins: &InWords,
     header: bool,
     counted: bool,
     shelf: &mut S,
 ) -> Result<Bytes, Stop>
     ensures later { S.faults shelf.old ≤ S.faults shelf.new }
-    ensures decided { Decides (Some (of_asked lang file.now ins.now header counted)) (S.held shelf.old) (Rose (S.faults shelf.old) (S.faults shelf.new)) result }
+    ensures decided { Decides (Some (of_command (Run file.now ins.now header counted))) (S.held shelf.old) (Rose (S.faults shelf.old) (S.faults shelf.new)) result }
 {
     let text = take_turn(alloc, shelf, file, MOST_PROGRAM, text::LARGE_PROGRAM)?;
-    run(alloc, lang, &text, ins, header, counted, shelf)
+    run(alloc, &text, ins.as_slice(), header, counted, shelf)
 }
 
 // The program is fetched, and its plan printed.

@@ -1,14 +1,13 @@
 // The rows of a program's inputs.
-ghost use Rattle.std.specs.Prelude.{◌≡◌, length, map, All, IsTrue, Ok, IfOk, IfErr};
+ghost use Rattle.std.specs.Prelude.{◌≡◌, length, All, IsTrue, Ok, IfOk, IfErr};
 ghost use Rattle.river_kernels.specs.Formed.{is_width};
 ghost use Rattle.river_plan.specs.Faults.{type_width};
-ghost use Rattle.river_cli.specs.Inputs.{width_named, rows_read, all_read, rows_named, in_order, row_items, all_items, TellsIn};
+ghost use Rattle.river_cli.specs.Inputs.{width_named, rows_read, all_read, rows_named, in_order, TellsIn};
 
 use crate::text;
 use crate::words::InWord;
-use brooklet_step::{Inputs, RowLists};
 use csv_streams::{InFault, read_rows};
-use river_base::{Bytes, Flat, FlatType, Item, Items, NoMemory, QueueType, Rows};
+use river_base::{Bytes, Duplicate, FlatType, Listed, NoMemory, QueueType, Rows};
 use river_order::Stop;
 use river_plan::Decl;
 use std::alloc::Global;
@@ -20,13 +19,13 @@ pub fn read_all(
     header: bool,
     ins: &[InWord],
     files: &[Bytes],
-) -> Result<RowLists, Stop>
+) -> Result<Listed<Rows>, Stop>
     requires count { length files.now ≡ length ins.now }
     requires widths { All (λ w. IsTrue (is_width (width_named decls.now w.name))) ins.now }
     ensures ok { IfOk result (λ all. all_read decls.now header ins.now files.now ≡ Ok all) }
     ensures err { IfErr result (TellsIn (all_read decls.now header ins.now files.now)) }
 {
-    let mut all = RowLists::new(alloc);
+    let mut all = Listed::new(alloc);
     for place in 0..ins.len() {
         all.push(read_one(alloc, decls, header, &ins[place], &files[place])?)?;
     }
@@ -78,48 +77,37 @@ fn width_of(kind: &QueueType) -> u32
     }
 }
 
-/// The items of each input, in the order of the program's inputs.
+/// The rows of each input, in the order of the program's inputs.
 pub fn arrange(
     alloc: Global,
     decls: &[Decl],
     ins: &[InWord],
     all: &[Rows],
-) -> Result<Inputs, NoMemory>
+) -> Result<Listed<Rows>, NoMemory>
     requires { length all.now ≡ length ins.now }
-    ensures { IfOk result (λ inputs. inputs ≡ all_items (in_order decls.now ins.now all.now)) }
+    ensures { IfOk result (λ rows. rows ≡ in_order decls.now ins.now all.now) }
 {
-    let mut inputs = Inputs::new(alloc);
+    let mut rows = Listed::new(alloc);
     for decl in decls {
-        inputs.push(items_named(alloc, ins, all, decl.name.as_slice())?)?;
+        rows.push(rows_named(alloc, ins, all, decl.name.as_slice())?)?;
     }
-    Ok(inputs)
+    Ok(rows)
 }
 
-// The items that the words give to an input.
-fn items_named(
+// The rows that the words give to an input.
+fn rows_named(
     alloc: Global,
     ins: &[InWord],
     all: &[Rows],
     name: &[u8],
-) -> Result<Items, NoMemory>
+) -> Result<Rows, NoMemory>
     requires { length all.now ≡ length ins.now }
-    ensures { IfOk result (λ items. items ≡ row_items (rows_named ins.now all.now name.now)) }
+    ensures { IfOk result (λ rows. rows ≡ rows_named ins.now all.now name.now) }
 {
     for place in 0..ins.len() {
         if ins[place].name.as_slice() == name {
-            return items_of(alloc, &all[place]);
+            return all[place].copy(alloc);
         }
     }
-    Ok(Items::new(alloc))
-}
-
-// Rows as items.
-fn items_of(alloc: Global, rows: &Rows) -> Result<Items, NoMemory>
-    ensures { IfOk result (λ items. items ≡ row_items rows.now) }
-{
-    let mut items = Items::new(alloc);
-    for row in rows.as_slice() {
-        items.push(Item::Flat(Flat::One(*row)))?;
-    }
-    Ok(items)
+    Ok(Rows::new(alloc))
 }

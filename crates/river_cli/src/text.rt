@@ -14,9 +14,6 @@ use work_code::LexFault;
 /// What is written where the words are no sentence.
 pub const USAGE: &[u8] = b"usage: river run|plan|mean|load\n";
 
-/// What refuses a plan of a kind that is not run so far.
-pub const UNBUILT: &[u8] = b"refused: program: Unbuilt\n";
-
 /// What refuses a program of too many bytes.
 pub const LARGE_PROGRAM: &[u8] = b"refused: program: Large\n";
 

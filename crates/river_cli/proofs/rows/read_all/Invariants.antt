@@ -1,0 +1,7 @@
+use Rattle.std.proofs.Common.{◌≡◌, drop}
+use Rattle.river_cli.specs.Inputs.{all_read}
+use Rattle.river_cli.proofs.Inputs.{put_before}
+use Rattle.river_cli.proofs.rows.read_all.Given as goal
+
+abbrev pub invariant-loop-place : goal.invariant-loop-place
+invariant-loop-place l = put_before l.all (all_read l.decls l.header (drop l.place l.ins) (drop l.place l.files)) ≡ all_read l.decls l.header l.ins l.files
