@@ -92,16 +92,12 @@ unknown_input name = input_text name (codes "Unknown")
 abbrev pub missing_input : List ℕ → List ℕ
 missing_input name = input_text name (codes "Missing")
 
--- what is told of a record, by its number
-abbrev pub record_text : List ℕ → ℕ → List ℕ
-record_text code rec = code ++ codes " " ++ decimal rec
-
--- the first record of a file that is none of its input; want of memory is none
+-- the first record of a file that is none of its input, by its number; want of memory is none
 abbrev pub in_fault : InFault → List ℕ
-in_fault (fault.Width rec) = record_text (codes "I1") rec
-in_fault (fault.NotNumber rec field) = record_text (codes "I2") rec ++ codes " " ++ decimal field
-in_fault (fault.Backwards rec) = record_text (codes "I3") rec
-in_fault (fault.NegativeTime rec) = record_text (codes "I4") rec
+in_fault (fault.Width rec) = codes "I1 " ++ decimal rec
+in_fault (fault.NotNumber rec field) = codes "I2 " ++ (decimal rec ++ (codes " " ++ decimal field))
+in_fault (fault.Backwards rec) = codes "I3 " ++ decimal rec
+in_fault (fault.NegativeTime rec) = codes "I4 " ++ decimal rec
 in_fault fault.TooMany = codes "I5"
 in_fault fault.NoMemory = []
 

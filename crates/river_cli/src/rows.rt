@@ -22,6 +22,7 @@ pub fn read_all(
 ) -> Result<Listed<Rows>, Stop>
     requires count { length files.now ≡ length ins.now }
     requires widths { All (λ w. IsTrue (is_width (width_named decls.now w.name))) ins.now }
+    ensures count { IfOk result (λ all. length all ≡ length ins.now) }
     ensures ok { IfOk result (λ all. all_read decls.now header ins.now files.now ≡ Ok all) }
     ensures err { IfErr result (TellsIn (all_read decls.now header ins.now files.now)) }
 {

@@ -78,8 +78,7 @@ fn output(
     if !counted {
         return print_results(alloc, plan, &outs, None);
     }
-    let mut counts = Numbers::new(alloc);
-    counts.push(firings(values.len()))?;
+    let counts = firings(alloc, values.len())?;
     print_results(alloc, plan, &outs, Some(&counts))
 }
 
@@ -105,8 +104,17 @@ fn items(alloc: Global, values: &Numbers) -> Result<Items, NoMemory>
     Ok(items)
 }
 
+// The firings of the one operator, which took so many items.
+fn firings(alloc: Global, taken: usize) -> Result<Numbers, NoMemory>
+    ensures { IfOk result (λ counts. counts ≡ pos (min most_firings taken) ∷ []) }
+{
+    let mut counts = Numbers::new(alloc);
+    counts.push(times(taken))?;
+    Ok(counts)
+}
+
 // How often an operator fired that took so many items; a count of 2^63 - 1 stays there.
-fn firings(taken: usize) -> i64
+fn times(taken: usize) -> i64
     ensures { result ≡ pos (min most_firings taken) }
 {
     taken.min(i64::MAX as usize) as i64

@@ -1,7 +1,8 @@
 // The texts of refusals.
 ghost use Rattle.std.specs.Prelude.{◌≡◌, ◌++◌, codes, IfOk};
+ghost use Rattle.std.specs.Fmt.{decimal};
 ghost use Rattle.river_cli.specs.Says.{SaysFault, SaysUnread, SaysUnfit, SaysInput};
-ghost use Rattle.river_cli.specs.Text.{fault_text, program_text, name_text, limit_word, over_text, input_text, large_input, unknown_input, missing_input, record_text};
+ghost use Rattle.river_cli.specs.Text.{fault_text, program_text, name_text, limit_word, over_text, input_text, large_input, unknown_input, missing_input};
 
 use csv_streams::InFault;
 use river_base::{Bytes, NoMemory};
@@ -151,26 +152,45 @@ pub fn in_fault(alloc: Global, name: &[u8], fault: InFault) -> Result<Bytes, NoM
     ensures { IfOk result (SaysInput name.now fault) }
 {
     match fault {
-        InFault::Width { rec } => record(alloc, name, b"I1", rec),
-        InFault::NotNumber { rec, field } => {
-            let text = format!(in alloc; "I2 {rec} {field}")?;
-            input(alloc, name, text.as_bytes())
-        }
-        InFault::Backwards { rec } => record(alloc, name, b"I3", rec),
-        InFault::NegativeTime { rec } => record(alloc, name, b"I4", rec),
+        InFault::Width { rec } => width(alloc, name, rec),
+        InFault::NotNumber { rec, field } => not_number(alloc, name, rec, field),
+        InFault::Backwards { rec } => backwards(alloc, name, rec),
+        InFault::NegativeTime { rec } => negative_time(alloc, name, rec),
         InFault::TooMany => input(alloc, name, b"I5"),
         InFault::NoMemory => Err(NoMemory),
     }
 }
 
-// A fault of an input, with the number of a record.
-fn record(alloc: Global, name: &[u8], code: &[u8], rec: u32) -> Result<Bytes, NoMemory>
-    ensures { IfOk result (λ text. text ≡ input_text name.now (record_text code.now rec)) }
+// A record has another number of fields.
+fn width(alloc: Global, name: &[u8], rec: u32) -> Result<Bytes, NoMemory>
+    ensures { IfOk result (λ text. text ≡ input_text name.now (codes "I1 " ++ decimal rec)) }
 {
-    let mut text = Bytes::from_slice(alloc, code)?;
-    let rest = format!(in alloc; " {rec}")?;
-    text.extend(rest.as_bytes())?;
-    input(alloc, name, text.as_slice())
+    let fault = format!(in alloc; "I1 {rec}")?;
+    input(alloc, name, fault.as_bytes())
+}
+
+// A field of a record is no number.
+fn not_number(alloc: Global, name: &[u8], rec: u32, field: u32) -> Result<Bytes, NoMemory>
+    ensures { IfOk result (λ text. text ≡ input_text name.now (codes "I2 " ++ (decimal rec ++ (codes " " ++ decimal field)))) }
+{
+    let fault = format!(in alloc; "I2 {rec} {field}")?;
+    input(alloc, name, fault.as_bytes())
+}
+
+// The timestamp of a record is below that of the record before it.
+fn backwards(alloc: Global, name: &[u8], rec: u32) -> Result<Bytes, NoMemory>
+    ensures { IfOk result (λ text. text ≡ input_text name.now (codes "I3 " ++ decimal rec)) }
+{
+    let fault = format!(in alloc; "I3 {rec}")?;
+    input(alloc, name, fault.as_bytes())
+}
+
+// The timestamp of a record is below 0.
+fn negative_time(alloc: Global, name: &[u8], rec: u32) -> Result<Bytes, NoMemory>
+    ensures { IfOk result (λ text. text ≡ input_text name.now (codes "I4 " ++ decimal rec)) }
+{
+    let fault = format!(in alloc; "I4 {rec}")?;
+    input(alloc, name, fault.as_bytes())
 }
 
 // An input, and what is said of it.

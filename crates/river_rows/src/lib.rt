@@ -6,4 +6,6 @@ mod cases;
 #[cfg(test)]
 mod fixture;
 #[cfg(test)]
+mod inputs;
+#[cfg(test)]
 mod system;
