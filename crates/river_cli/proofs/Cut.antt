@@ -1,10 +1,9 @@
 -- Words that are cut at their first `=`.
-use Rattle.std.proofs.Common.{◌≡◌, ◌⊎◌, ⊎_elim, ℕ, zero, suc, ◌+◌, ◌<◌, ◌≤◌, List, [], ◌∷◌, length, take, drop, get_or, refl, sym, ap, ◌∙◌, subst, arith}
-use Rattle.std.specs.Prelude.{Option, Some, None}
+use Rattle.std.proofs.Common.{◌≡◌, ◌⊎◌, ⊎_elim, ℕ, ◌+◌, ◌<◌, ◌≤◌, List, [], ◌∷◌, length, take, drop, get_or, refl, sym, ap, ◌∙◌, arith}
+use Rattle.std.specs.Prelude.{Some, None}
 use Rattle.std.proofs.lemmas.List.{length-drop, length-take, drop_more}
 use Rattle.river_cli.specs.Words.{name_part, rest_part}
 use Rattle.river_cli.specs.Commands.{cut_at, in_word_of}
-use Rattle.river_cli.specs.declared.words.InWord.{InWord}
 
 no_name : (rest : List ℕ) → cut_at [] rest ≡ None
 no_name [] = refl

@@ -1,12 +1,12 @@
 -- From the fetch of the first file to the points after all of them.
-use Rattle.std.proofs.Common.{◌≡◌, ℕ, ◌≤◌, ◌+◌, List, [], ◌∷◌, ◌++◌, length, refl, sym, ap, ◌∙◌, subst, inl, inr}
+use Rattle.std.proofs.Common.{◌≡◌, ℕ, ◌≤◌, List, [], ◌∷◌, ◌++◌, length, refl, sym, ap, subst, inl, inr}
 use Rattle.std.specs.Prelude.{Option, Some, Result, Ok, Err, IfSome, IfOk}
 use Rattle.std.proofs.lemmas.List.{append_assoc}
 use Rattle.brooklet_model.proofs.Lists.{funext}
 use Rattle.river_outside.specs.Held.{Held}
 use Rattle.river_outside.specs.Fetched.{FetchesAll}
 use Rattle.river_order.specs.Order.{Order, Ends, Fetch, Comes}
-use Rattle.river_order.specs.Decides.{Decides, Stops}
+use Rattle.river_order.specs.Decides.{Stops}
 use Rattle.river_order.specs.declared.stop.Stop.{Stop}
 use Rattle.river_order.proofs.Turns.{Comes-fetched, Decides-later}
 use Rattle.river_cli.specs.Inputs.{fetches}

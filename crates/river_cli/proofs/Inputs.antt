@@ -1,20 +1,18 @@
 -- The names, files and rows of inputs.
 use Rattle.std.proofs.Common.{◌≡◌, ℕ, ℤ, zero, suc, ◌+◌, ◌<◌, ◌≤◌, drop, get_or, Bool, true, false, List, [], ◌∷◌, ◌++◌, length, refl, sym, ap, ◌∙◌, subst, arith, not}
-use Rattle.std.specs.Prelude.{Option, Some, None, Result, Ok, Err, All, IsTrue, nat_lt, if◌then◌else◌, MatchOption}
-use Rattle.std.specs.List.{find}
+use Rattle.std.specs.Prelude.{Option, Some, None, Result, Ok, Err, All, IsTrue, nat_lt, if◌then◌else◌}
 use Rattle.std.proofs.lemmas.List.{append_assoc, append-nil, drop_more, drop_all}
 use Rattle.std.proofs.lemmas.Bool.Decides.{nat_tests}
 use Rattle.river_base.specs.Name.{name_eq}
-use Rattle.river_base.specs.declared.kind.QueueType.{QueueType}
 use Rattle.river_outside.specs.Held.{Held}
-use Rattle.river_order.specs.Order.{Order, Ends, Done, Refused, Comes, EndsIn}
+use Rattle.river_order.specs.Order.{Order, Ends, Done, Comes}
 use Rattle.river_order.specs.Decides.{Stops}
 use Rattle.river_order.specs.declared.stop.Stop.{Stop}
 use Rattle.river_order.specs.declared.stop.Stop.TheVariants as stop
 use Rattle.river_order.proofs.Turns.{Decides-later}
 use Rattle.river_kernels.specs.Formed.{is_width}
 use Rattle.river_plan.specs.declared.plan.Decl.{Decl}
-use Rattle.river_plan.specs.Faults.{HasWidth, type_width}
+use Rattle.river_plan.specs.Faults.{HasWidth}
 use Rattle.river_plan.specs.Forms.{decl_names}
 use Rattle.river_plan.specs.Names.{count}
 use Rattle.river_cli.specs.Inputs.{unknown, missing, first_told, names_fault, Tells, TellsIn, fetches, width_named, rows_read, with_rows, all_read, rows_named, in_order}

@@ -1,5 +1,5 @@
 -- What a StreamIt program prints is what its plan's outcome prints.
-use Rattle.std.proofs.Common.{◌≡◌, ℕ, ℤ, pos, ◌+◌, List, [], ◌∷◌, ◌++◌, map, length, min, Bool, true, false, not, refl, sym, ap, ◌∙◌, subst, arith, get_or}
+use Rattle.std.proofs.Common.{◌≡◌, ℤ, pos, ◌+◌, List, [], ◌∷◌, ◌++◌, map, length, min, true, false, sym, ap, ◌∙◌, arith, get_or}
 use Rattle.std.specs.Prelude.{Option, Some, None, codes}
 use Rattle.std.proofs.lemmas.List.{append-nil, length-map}
 use Rattle.csv_streams.specs.Outcome.{printed_outcome, output_text, firings_text}
@@ -11,7 +11,7 @@ use Rattle.streamit_front.specs.Translation.{plan_of}
 use Rattle.river_base.specs.declared.item.Flat.TheVariants.{One}
 use Rattle.river_base.specs.declared.item.Item.TheVariants.{Flat}
 use Rattle.river_cli.specs.Inputs.{row_items, all_items}
-use Rattle.river_cli.specs.Printed.{asked, values, as_rows, of_program}
+use Rattle.river_cli.specs.Printed.{values, as_rows, of_program}
 
 -- a list of one
 pub only_one : (rows : List (List (List ℤ))) (r : List (List ℤ)) → length rows ≡ 1 → r ≡ get_or rows 0 r → rows ≡ r ∷ []

@@ -1,11 +1,11 @@
 -- What the words give, read from left to right.
-use Rattle.std.proofs.Common.{◌≡◌, ◌⊎◌, ⊎_elim, ℕ, ◌+◌, ◌<◌, ◌≤◌, Bool, true, false, List, [], ◌∷◌, ◌++◌, map, refl, sym, ap, ◌∙◌, arith, not}
+use Rattle.std.proofs.Common.{◌≡◌, ℕ, ◌+◌, ◌<◌, Bool, true, false, List, [], ◌∷◌, ◌++◌, refl, sym, ap, ◌∙◌, arith}
 use Rattle.std.specs.Prelude.{Option, Some, None, nat_lt, nat_le, ◌==◌, ◌&&◌, if◌then◌else◌}
 use Rattle.std.proofs.lemmas.List.{append_assoc, append-nil, map-append}
 use Rattle.std.proofs.lemmas.Bool.Decides.{nat_tests}
 use Rattle.river_base.specs.Name.{name_eq}
 use Rattle.river_plan.specs.Names.{count, one_if}
-use Rattle.river_plan.proofs.NameLemmas.{count-append, name_sym, name_is, name_same, cases_bool}
+use Rattle.river_plan.proofs.NameLemmas.{count-append, name_sym}
 use Rattle.river_cli.specs.Commands.{Saying, Header, Counts, Input, saying, with_saying, sayings, headers, counts, inputs, names, are_apart, given_by, given_of}
 use Rattle.river_cli.specs.Added.{with_header, with_counts, with_input, added, then_on, read_on, nothing}
 use Rattle.river_cli.specs.declared.given.Given.{Given}
@@ -141,7 +141,7 @@ input-on g w (Some said) = by (nat_lt 0 (count w.name (names g.ins))) refl
     by false e =
         let i : g.ins ++ w ∷ inputs said ≡ (g.ins ++ w ∷ []) ++ inputs said = sym (append_assoc g.ins (w ∷ []) (inputs said)) in
         let n : names g.ins ++ w.name ∷ names (inputs said) ≡ names (g.ins ++ w ∷ []) ++ names (inputs said) =
-            sym (append_assoc (names g.ins) (w.name ∷ []) (names (inputs said))) ∙ ap (λ l. l ++ names (inputs said)) (sym (map-append (λ (v : InWord). v.name) g.ins (w ∷ []))) in
+        sym (append_assoc (names g.ins) (w.name ∷ []) (names (inputs said))) ∙ ap (λ l. l ++ names (inputs said)) (sym (map-append (λ (v : InWord). v.name) g.ins (w ∷ []))) in
         ap (λ l. made a b (are_apart (names g.ins ++ w.name ∷ names (inputs said))) l h c) i
         ∙ ap (λ l. made a b (are_apart l) ((g.ins ++ w ∷ []) ++ inputs said) h c) n
 

@@ -1,5 +1,5 @@
 -- One word more behind a program's file, and what the words give up to it.
-use Rattle.std.specs.Prelude.{ℕ, List, [], ◌∷◌, ◌++◌, nat_lt, Bool, true, false, Option, Some, None, if◌then◌else◌}
+use Rattle.std.specs.Prelude.{ℕ, List, [], ◌∷◌, ◌++◌, nat_lt, true, false, Option, Some, None, if◌then◌else◌}
 use Rattle.river_plan.specs.Names.{count}
 use Rattle.river_cli.specs.Commands.{Saying, Header, Counts, Input, saying, names}
 use Rattle.river_cli.specs.declared.given.Given.{Given}

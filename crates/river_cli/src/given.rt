@@ -41,12 +41,7 @@ pub fn read_given(alloc: Global, words: &[Text]) -> Result<Given, WordFault>
 }
 
 // What one word more gives.
-fn add(
-    alloc: Global,
-    word: &[u8],
-    given: Given,
-    said: &mut WordSet,
-) -> Result<Given, WordFault>
+fn add(alloc: Global, word: &[u8], given: Given, said: &mut WordSet) -> Result<Given, WordFault>
     requires { said.old ≡ names given.ins }
     ensures ok { IfOk result (λ new. added (saying word.now) given ≡ Some new) }
     ensures names { IfOk result (λ new. said.new ≡ names new.ins) }

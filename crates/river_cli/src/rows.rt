@@ -49,11 +49,7 @@ fn read_one(
     match read_rows(alloc, bytes, width, header, false) {
         Ok(rows) => Ok(rows),
         Err(InFault::NoMemory) => Err(Stop::NoMemory),
-        Err(fault) => Err(Stop::Refused(text::in_fault(
-            alloc,
-            word.name.as_slice(),
-            fault,
-        )?)),
+        Err(fault) => Err(Stop::Refused(text::in_fault(alloc, word.name.as_slice(), fault)?)),
     }
 }
 
@@ -96,12 +92,7 @@ pub fn arrange(
 }
 
 // The rows that the words give to an input.
-fn rows_named(
-    alloc: Global,
-    ins: &[InWord],
-    all: &[Rows],
-    name: &[u8],
-) -> Result<Rows, NoMemory>
+fn rows_named(alloc: Global, ins: &[InWord], all: &[Rows], name: &[u8]) -> Result<Rows, NoMemory>
     requires { length all.now ≡ length ins.now }
     ensures { IfOk result (λ rows. rows ≡ rows_named ins.now all.now name.now) }
 {

@@ -98,12 +98,7 @@ pub fn read_words(alloc: Global, words: &[Text]) -> Result<Command, WordFault>
 }
 
 // The words behind `run`.
-fn read_run(
-    alloc: Global,
-    lang: &[u8],
-    file: &[u8],
-    words: &[Text],
-) -> Result<Command, WordFault>
+fn read_run(alloc: Global, lang: &[u8], file: &[u8], words: &[Text]) -> Result<Command, WordFault>
     ensures ok { IfOk result (λ command. run_of (lang_of lang.now) file.now (given_of words.now) ≡ Some command) }
     ensures usage { IsErrOf result WordFault.Usage → run_of (lang_of lang.now) file.now (given_of words.now) ≡ None }
 {

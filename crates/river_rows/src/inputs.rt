@@ -1,5 +1,5 @@
 // Runs with options and with names of inputs. What is expected was worked out by hand.
-use crate::fixture::{TWICE, run_plain, run_over, shelf_of, sink_of};
+use crate::fixture::{TWICE, run_over, run_plain, shelf_of, sink_of};
 use river_base::{Bytes, NoMemory};
 use std::alloc::Global;
 use std::test::Fail;
@@ -15,8 +15,18 @@ fn options_and_names(rt: HostRuntime) -> Result<(), Fail> {
         (&[b"in=n.csv", b"-H"], b"a\n1\n2\n", 0, b"# out\n2\n4\n"),
         (&[b"-H", b"in=n.csv"], b"a,b,c\n5\n", 0, b"# out\n10\n"),
         (&[b"in=n.csv", b"-H"], b"", 0, b"# out\n"),
-        (&[b"in=n.csv", b"-H"], b"1\nx\n", 1, b"refused: input in: I2 2 1\n"),
-        (&[b"in=n.csv", b"-H"], b"1\n2\n3,4\n", 1, b"refused: input in: I1 3\n"),
+        (
+            &[b"in=n.csv", b"-H"],
+            b"1\nx\n",
+            1,
+            b"refused: input in: I2 2 1\n",
+        ),
+        (
+            &[b"in=n.csv", b"-H"],
+            b"1\n2\n3,4\n",
+            1,
+            b"refused: input in: I1 3\n",
+        ),
         (
             &[b"-c", b"in=n.csv"],
             b"1\n2\n",

@@ -1,4 +1,4 @@
-use Rattle.std.proofs.Common.{◌≡◌, ℕ, ℤ, List, sym, ap, ◌∙◌, subst, length}
+use Rattle.std.proofs.Common.{ℤ, List, sym, subst}
 use Rattle.std.proofs.lemmas.Result.{err_from_is_err_and}
 use Rattle.river_outside.specs.Causes.{Rose}
 use Rattle.river_order.specs.Order.{Ends, Done, Comes}
@@ -37,4 +37,4 @@ returns-clause-comes g c print =
     let read = rw c.as_slice.ensures at c.in_ok-all.ensures.ok in
     let rows = rw c.as_slice-2.ensures at c.in_ok-arrange.ensures in
     subst (λ (l : List (List (List ℤ))). Comes (of_inputs c.args.decls.now c.args.ins.now c.args.header print) held (Ends (Done (print l)))) (sym rows)
-        (gathered-comes c.args.decls.now c.args.ins.now c.args.header held c.in_ok-files.files c.in_ok-all.all c.in_ok-check_names.ensures.ok c.in_ok-files.ensures.comes read print)
+    (gathered-comes c.args.decls.now c.args.ins.now c.args.header held c.in_ok-files.files c.in_ok-all.all c.in_ok-check_names.ensures.ok c.in_ok-files.ensures.comes read print)

@@ -1,5 +1,5 @@
-use Rattle.std.proofs.Common.{◌≡◌, ◌+◌, List, ℕ, ◌∷◌, ap, sym, ◌∙◌, refl, arith}
-use Rattle.std.specs.Prelude.{Option, Some, None, drop}
+use Rattle.std.proofs.Common.{◌≡◌, ◌+◌, List, ℕ, ◌∷◌, ap, sym, ◌∙◌}
+use Rattle.std.specs.Prelude.{Option, Some, drop}
 use Rattle.std.proofs.lemmas.List.{drop_more, drop_all}
 use Rattle.std.proofs.lemmas.Result.{err_from_is_err_and}
 use Rattle.river_cli.specs.declared.given.Given.{Given}
@@ -21,5 +21,5 @@ returns-in_err-given-clause-usage c =
     let w : List ℕ = c.word-item.result in
     let left : drop i words ≡ w ∷ drop (i + 1) words = drop_more words i w c.loop-word-test.true ∙ ap (λ (y : List ℕ). y ∷ drop (i + 1) words) (sym c.word-item.is) in
     rw (p.1, p.2) (λ is.
-      let stop = rw c.as_slice.ensures at c.in_err-given.ensures.usage is in
-      sym (given-read words) ∙ sym c.loop-word.invariant.read ∙ ap (λ (l : List (List ℕ)). read_on l given) left ∙ ap (λ (o : Option Given). then_on o (read_on (drop (i + 1) words))) stop)
+    let stop = rw c.as_slice.ensures at c.in_err-given.ensures.usage is in
+    sym (given-read words) ∙ sym c.loop-word.invariant.read ∙ ap (λ (l : List (List ℕ)). read_on l given) left ∙ ap (λ (o : Option Given). then_on o (read_on (drop (i + 1) words))) stop)

@@ -1,4 +1,4 @@
-use Rattle.std.proofs.Common.{arith, ◌≡◌, ℕ, ℤ, ◌+◌, List, [], ◌∷◌, ◌++◌, length, drop, refl, sym, ap, ◌∙◌, subst}
+use Rattle.std.proofs.Common.{arith, ◌≡◌, ℕ, ℤ, ◌+◌, List, [], ◌∷◌, length, drop, refl, ap, ◌∙◌}
 use Rattle.std.specs.Prelude.{Result, Ok, Err}
 use Rattle.std.proofs.lemmas.List.{length-append}
 use Rattle.std.proofs.lemmas.Result.{err_from_is_err_and}
@@ -20,7 +20,7 @@ pub returns-in_err-read_one-clause-err : goal.returns-in_err-read_one-clause-err
 returns-in_err-read_one-clause-err c =
     let p = err_from_is_err_and c.from_residual.result c.from_residual.ensures.1 in
     rw (p.1, p.2) (read-fault c.args.decls.now c.args.header c.args.ins.now c.args.files.now c.loop-place.place c.index-ins-place.result c.index-files-place.result c.loop-place.all c.in_err-read_one.field-0.0
-        c.loop-place-test.true c.requires.count c.index-ins-place.is c.index-files-place.is c.in_err-read_one.ensures.err c.loop-place.invariant.read)
+    c.loop-place-test.true c.requires.count c.index-ins-place.is c.index-files-place.is c.in_err-read_one.ensures.err c.loop-place.invariant.read)
 
 pub loop-place-preserved : goal.loop-place-preserved
 loop-place-preserved c =
@@ -32,7 +32,7 @@ loop-place-preserved c =
       count = omega (arith, n, m, c.loop-place.invariant.count);
       read = ap (λ (l : List (List (List ℤ))). put_before l later) c.in_ok-push.ensures.ok
           ∙ read-more c.args.decls.now c.args.header c.args.ins.now c.args.files.now c.loop-place.place c.index-ins-place.result c.index-files-place.result c.loop-place.all c.in_ok-read_one.field-0 whole
-              c.loop-place-test.true c.requires.count c.index-ins-place.is c.index-files-place.is c.in_ok-read_one.ensures.ok c.loop-place.invariant.read;
+          c.loop-place-test.true c.requires.count c.index-ins-place.is c.index-files-place.is c.in_ok-read_one.ensures.ok c.loop-place.invariant.read;
     }
 
 pub returns-clause-ok : goal.returns-clause-ok

@@ -7,4 +7,4 @@ pub loop-place-preserved : goal.loop-place-preserved
 loop-place-preserved c =
     let other = rw c.as_slice.ensures at (sym c.eq.ensures ∙ c.if-eq.false) in
     rows-skip c.args.ins.now c.args.all.now c.args.name.now c.loop-place.place c.index-ins-place.result (rows_named c.args.ins.now c.args.all.now c.args.name.now)
-        c.loop-place-test.true c.requires c.index-ins-place.is other c.loop-place.invariant
+    c.loop-place-test.true c.requires c.index-ins-place.is other c.loop-place.invariant

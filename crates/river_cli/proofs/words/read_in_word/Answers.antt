@@ -1,7 +1,6 @@
-use Rattle.std.proofs.Common.{rules, arith, ◌≡◌, ◌<◌, ◌≤◌, ◌+◌, ◌-◌, ℕ, List, length, take, drop, inl, inr, sym, ap, ◌∙◌}
-use Rattle.std.specs.Prelude.{Option, Some}
+use Rattle.std.proofs.Common.{rules, arith, ◌≡◌, ◌<◌, ◌+◌, ◌-◌, ℕ, List, length, take, drop, inl, inr, ap, ◌∙◌}
+use Rattle.std.specs.Prelude.{Some}
 use Rattle.std.proofs.lemmas.List.{length-drop, take_all}
-use Rattle.river_cli.specs.declared.words.InWord.{InWord}
 use Rattle.river_cli.proofs.Cut.{cut-none, cut-some}
 use Rattle.river_cli.proofs.words.read_in_word.Goals.{then-at-eq0-via-then-at-eq0, then-at-eq0-via-else-at-eq0+then-at-word}
 use Rattle.river_cli.proofs.words.read_in_word.Goals as goal
