@@ -1,17 +1,16 @@
 -- A firing of an operator, in the terms of the code.
-use Rattle.std.proofs.Common.{◌≡◌, ℕ, zero, suc, ◌+◌, ◌-◌, ◌<◌, ◌≤◌, false, Some, Option, List, [], ◌∷◌, length, map, refl, sym, ap, ◌∙◌, subst, arith, get_or, replicate}
+use Rattle.std.proofs.Common.{◌≡◌, ℕ, ◌+◌, ◌<◌, ◌≤◌, false, Some, List, [], length, sym, ap, ◌∙◌, subst, arith, get_or, replicate}
 use Rattle.std.specs.Prelude.{min, slice_get, slice_set, slice_index_or}
 use Rattle.std.proofs.lemmas.List.{length-replicate, length-map}
-use Rattle.std.proofs.lemmas.Option.{slice_get_within, get_or_from_slice_get, slice_get-get_or}
+use Rattle.std.proofs.lemmas.Option.{slice_get_within, slice_get-get_or}
 use Rattle.river_base.specs.declared.item.Item as item
 use Rattle.river_base.specs.Places.{list_at, each_grew}
 use Rattle.river_base.proofs.PlaceLemmas.{length-each_grew}
 use Rattle.river_kernels.specs.Kern.{Kern, kern_of}
 use Rattle.river_plan.specs.declared.op.Op.{Op}
 use Rattle.river_plan.specs.declared.plan.RawPlan.{RawPlan}
-use Rattle.river_plan.specs.Forms.{Name, OpForm, PlanForm, plan_form, op_form, op_forms, all_decls, queue_names}
+use Rattle.river_plan.specs.Forms.{OpForm, PlanForm, plan_form, op_form, op_forms, all_decls, queue_names}
 use Rattle.river_plan.specs.Kinds.{kind_of}
-use Rattle.river_plan.specs.Names.{count}
 use Rattle.brooklet_model.specs.Fire.{fire, outs, tabs}
 use Rattle.brooklet_model.specs.Histories.{most_firings}
 use Rattle.brooklet_model.proofs.Ports.{counts}
@@ -23,10 +22,10 @@ use Rattle.brooklet_step.specs.declared.state.State.{State}
 use Rattle.brooklet_step.specs.ByPlace.{place, places, joined_at}
 use Rattle.brooklet_step.specs.Reading.{CanFire, CameOf, FiredOp}
 use Rattle.brooklet_step.specs.Stands.{StandsFor, Fires, Applies}
-use Rattle.brooklet_step.specs.Took.{Took, IsBlank}
-use Rattle.brooklet_step.specs.Works.{hist_of, taken_of, states_of, count_of, ReadsAt, IsEnabled, GoesOn, Steps}
+use Rattle.brooklet_step.specs.Took.{IsBlank}
+use Rattle.brooklet_step.specs.Works.{hist_of, taken_of, states_of, IsEnabled, GoesOn, Steps}
 use Rattle.brooklet_step.proofs.QueuePlaces.{place_below}
-use Rattle.brooklet_step.proofs.ReadLemmas.{places_at, place_got, place_of, place_in_queues, in_reads, got_map}
+use Rattle.brooklet_step.proofs.ReadLemmas.{places_at, place_got, place_of, place_in_queues, got_map}
 use Rattle.brooklet_step.proofs.StepLemmas.{applies, next_parts, steps, goes_on, write_declared}
 
 -- the kernel of an operator in the lists of a plan

@@ -1,17 +1,14 @@
 -- The places of the queues that operators read.
-use Rattle.std.proofs.Common.{◌≡◌, ℕ, zero, suc, ◌+◌, ◌-◌, ◌<◌, ◌≤◌, Some, None, Option, Bool, true, false, List, [], ◌∷◌, length, map, refl, sym, ap, ◌∙◌, subst, arith, get_or, ⊎_elim}
-use Rattle.std.specs.Prelude.{IsTrue, nat_lt, slice_get, slice_index_or}
-use Rattle.std.proofs.lemmas.Bool.{cases_lt}
+use Rattle.std.proofs.Common.{◌≡◌, ℕ, zero, suc, ◌-◌, ◌<◌, Some, Bool, false, List, [], ◌∷◌, length, map, refl, sym, ap, ◌∙◌, subst, arith}
+use Rattle.std.specs.Prelude.{IsTrue, slice_get, slice_index_or}
 use Rattle.std.proofs.lemmas.List.{length-map}
-use Rattle.std.proofs.lemmas.Option.{slice_get-get_or, slice_get_within, get_or_from_slice_get, slice_get-map, slice_get_past}
-use Rattle.river_base.specs.declared.item.Item as item
+use Rattle.std.proofs.lemmas.Option.{slice_get_within, get_or_from_slice_get}
 use Rattle.river_base.specs.Places.{list_at}
 use Rattle.river_plan.specs.Forms.{Name, OpForm, PlanForm, queue_names}
-use Rattle.river_plan.specs.Names.{count}
 use Rattle.brooklet_model.proofs.Traces.{some_is, read_of}
 use Rattle.brooklet_step.specs.declared.machine.Parts.{Parts}
 use Rattle.brooklet_step.specs.ByPlace.{place, places}
-use Rattle.brooklet_step.specs.Reading.{IsPlaceOf, IsPlaceRead}
+use Rattle.brooklet_step.specs.Reading.{IsPlaceOf}
 use Rattle.brooklet_step.specs.Works.{hist_of, taken_of, ReadsAt, IsEnabled, GoesOn}
 use Rattle.brooklet_step.proofs.QueuePlaces.{place_below}
 use Rattle.brooklet_step.proofs.StepLemmas.{read_declared}

@@ -1,18 +1,17 @@
 -- A run in the order of the operators is complete.
-use Rattle.std.proofs.Common.{◌≡◌, ◌≢◌, ℕ, ℤ, pos, zero, suc, ◌+◌, ◌-◌, ◌<◌, ◌≤◌, false, Some, None, Option, List, [], ◌∷◌, ◌++◌, length, take, drop, map, refl, sym, ap, ◌∙◌, subst, arith, get_or, ⊎_elim, length-append}
-use Rattle.std.specs.Prelude.{All, if◌then◌else◌, min, slice_get, slice_index_or, unwrap_or}
+use Rattle.std.proofs.Common.{◌≡◌, ℕ, ℤ, pos, zero, suc, ◌+◌, ◌-◌, ◌<◌, ◌≤◌, false, Some, List, [], ◌∷◌, ◌++◌, length, take, map, refl, sym, ap, ◌∙◌, subst, arith, get_or, ⊎_elim, length-append}
+use Rattle.std.specs.Prelude.{All, min, slice_get, unwrap_or}
 use Rattle.std.proofs.lemmas.Bool.{cases_lt}
 use Rattle.std.proofs.lemmas.List.{append-nil, length-map}
 use Rattle.std.proofs.lemmas.List.Elements.{All-head, All-tail}
-use Rattle.std.proofs.lemmas.Option.{slice_get_within, slice_get-get_or, slice_get_past, get_or_from_slice_get}
+use Rattle.std.proofs.lemmas.Option.{slice_get_within, slice_get-get_or, get_or_from_slice_get}
 use Rattle.river_base.specs.declared.item.Item as item
 use Rattle.river_base.specs.Name.{name_eq}
-use Rattle.river_base.specs.Places.{list_at}
 use Rattle.river_plan.specs.declared.plan.Decl.{Decl}
 use Rattle.river_kernels.specs.declared.limit.Limit.TheVariants.{Operators, Ports}
 use Rattle.river_plan.specs.declared.op.Op.{Op}
 use Rattle.river_plan.specs.declared.plan.RawPlan.{RawPlan}
-use Rattle.river_plan.specs.Forms.{Name, OpForm, PlanForm, plan_form, op_form, op_forms, decl_names, queue_names}
+use Rattle.river_plan.specs.Forms.{Name, OpForm, PlanForm, plan_form, op_form, decl_names, queue_names}
 use Rattle.river_plan.specs.Limits.{port_numbers}
 use Rattle.river_plan.specs.Names.{count}
 use Rattle.river_plan.specs.Uses.{total, writes_it, and_writes, ReadsBefore}
@@ -28,9 +27,8 @@ use Rattle.brooklet_model.proofs.Lists.{if_true, if_false}
 use Rattle.brooklet_model.proofs.RunMeaning.{outs_are, firings_are}
 use Rattle.brooklet_model.proofs.Traces.{some_is, at_most, got_count, joined_out}
 use Rattle.brooklet_step.specs.declared.machine.Parts.{Parts}
-use Rattle.brooklet_step.specs.ByPlace.{place}
 use Rattle.brooklet_step.specs.Drained.{IsDrained, read_in, left_at, Follows, DrainedBefore, HasPorts, HasRun}
-use Rattle.brooklet_step.specs.Works.{hist_of, taken_of, count_of, Stands, ReadsAt, IsEnabled, Counts, Ran, GoesOn, Starts, After, Steps, AreCounts}
+use Rattle.brooklet_step.specs.Works.{hist_of, taken_of, ReadsAt, IsEnabled, Ran, GoesOn, Starts, Steps, AreCounts}
 use Rattle.brooklet_step.proofs.QueuePlaces.{place_is, lists_in_order}
 use Rattle.brooklet_step.proofs.ReadLemmas.{op_at, got_map}
 use Rattle.brooklet_step.proofs.StartLemmas.{got_front}

@@ -1,10 +1,10 @@
 -- A firing of an operator, on what a machine keeps.
-use Rattle.std.proofs.Common.{◌≡◌, ◌≢◌, ℕ, zero, suc, ◌+◌, ◌-◌, ◌<◌, ◌≤◌, false, Some, List, [], ◌∷◌, ◌++◌, length, take, map, refl, sym, ap, ◌∙◌, subst, arith, get_or, nat_eq, ⊎_elim, replicate, get_or-set_same, get_or-set_other}
+use Rattle.std.proofs.Common.{◌≡◌, ◌≢◌, ℕ, zero, suc, ◌+◌, ◌<◌, false, Some, List, [], ◌∷◌, ◌++◌, length, map, refl, sym, ap, ◌∙◌, subst, arith, nat_eq, ⊎_elim, get_or-set_same, get_or-set_other}
 use Rattle.std.specs.Prelude.{if◌then◌else◌, All, min, slice_get, slice_set, slice_index_or}
 use Rattle.std.proofs.lemmas.Bool.{cases_eq}
 use Rattle.std.proofs.lemmas.List.{length-replicate, length-map, length-set}
 use Rattle.std.proofs.lemmas.List.Elements.{All-head, All-tail}
-use Rattle.std.proofs.lemmas.Option.{slice_get-get_or, slice_get_within, get_or_from_slice_get, slice_get-map}
+use Rattle.std.proofs.lemmas.Option.{slice_get_within}
 use Rattle.river_base.specs.declared.item.Item as item
 use Rattle.river_base.specs.declared.kind.QueueType.{QueueType}
 use Rattle.river_base.specs.Held.{HasType}
@@ -14,7 +14,7 @@ use Rattle.river_base.proofs.PlaceLemmas.{length-each_grew, get_or-each_grew, ea
 use Rattle.river_plan.specs.Forms.{Name, OpForm, PlanForm, all_decls, table_names, queue_names}
 use Rattle.river_plan.specs.Kinds.{kind_of, var_kind}
 use Rattle.river_plan.specs.Names.{count}
-use Rattle.river_plan.specs.Uses.{total, reads_it, writes_it}
+use Rattle.river_plan.specs.Uses.{reads_it, writes_it}
 use Rattle.river_plan.specs.Valid.{IsPlan}
 use Rattle.river_plan.proofs.NameLemmas.{cases_name}
 use Rattle.brooklet_model.specs.Fire.{fire, outs, tabs}
@@ -31,7 +31,7 @@ use Rattle.brooklet_step.specs.declared.state.State.{State}
 use Rattle.brooklet_step.specs.ByPlace.{place, places, joined_at}
 use Rattle.brooklet_step.specs.Stands.{StandsFor, Fires, Applies}
 use Rattle.brooklet_step.specs.Took.{Took, IsBlank}
-use Rattle.brooklet_step.specs.Works.{hist_of, taken_of, states_of, count_of, Stands, ReadsAt, IsEnabled, Counts, Ran, IsLaidOut, GoesOn, After, Steps}
+use Rattle.brooklet_step.specs.Works.{hist_of, taken_of, states_of, count_of, Stands, ReadsAt, Counts, GoesOn, After, Steps}
 use Rattle.brooklet_step.proofs.QueuePlaces.{place_below, place_apart, joined_places, joined_cong_below}
 
 -- RUNS

@@ -1,5 +1,5 @@
 -- Queues by their places among the names of a plan.
-use Rattle.std.specs.Prelude.{ℕ, zero, suc, List, [], ◌∷◌, ◌++◌, map, nat_eq, if◌then◌else◌, Option, Some, None, unwrap_or}
+use Rattle.std.specs.Prelude.{ℕ, suc, List, [], ◌∷◌, ◌++◌, map, nat_eq, if◌then◌else◌, Option, Some, None, unwrap_or}
 use Rattle.river_base.specs.Name.{name_eq}
 use Rattle.std.specs.HashMap.{HashMap, get}
 use Rattle.river_plan.specs.Forms.{Name, OpForm}

@@ -1,4 +1,4 @@
-use Rattle.std.proofs.Common.{◌≡◌, ◌<◌, length, List, subst, sym, ap, ◌∙◌, arith, get_or}
+use Rattle.std.proofs.Common.{List, subst, sym}
 use Rattle.river_plan.specs.declared.op.Op.{Op}
 use Rattle.river_plan.specs.Forms.{op_forms}
 use Rattle.brooklet_step.specs.Initial.{CanStart}

@@ -1,5 +1,4 @@
-use Rattle.std.proofs.Common.{◌≡◌, ℕ, suc, ◌+◌, ◌-◌, ◌<◌, ◌≤◌, ◌<ℤ◌, Some, arith, ⊎_elim, subst}
-use Rattle.std.specs.Prelude.{slice_get}
+use Rattle.std.proofs.Common.{suc, ◌-◌, arith}
 use Rattle.std.proofs.lemmas.Option.{slice_get_within}
 use Rattle.brooklet_step.proofs.FitLemmas.{never, always, not_so, later_next, not_later, rises_by}
 use Rattle.brooklet_step.proofs.inputs.rise.Goals as goal

@@ -1,4 +1,4 @@
-use Rattle.std.proofs.Common.{◌<◌, ◌^◌, arith}
+use Rattle.std.proofs.Common.{arith}
 use Rattle.brooklet_step.proofs.RunLemmas.{ops_few}
 use Rattle.brooklet_step.proofs.run.op_count.Goals as goal
 

@@ -1,4 +1,4 @@
-use Rattle.std.proofs.Common.{◌<◌, ◌^◌, arith}
+use Rattle.std.proofs.Common.{arith}
 use Rattle.brooklet_step.proofs.RunLemmas.{ops_few, ports_at}
 use Rattle.brooklet_step.proofs.run.port_count.Goals as goal
 

@@ -1,4 +1,3 @@
-use Rattle.std.proofs.Common.{sym, subst}
 use Rattle.brooklet_step.proofs.RunLemmas.{follows_step, follows_none, follows_more, step_less, plan_valid}
 use Rattle.brooklet_step.proofs.run.run_port.Goals as goal
 

@@ -1,4 +1,4 @@
-use Rattle.std.proofs.Common.{◌≡◌, ◌<◌, length, [], subst, sym, arith}
+use Rattle.std.proofs.Common.{◌<◌, length, [], subst, sym}
 use Rattle.brooklet_step.proofs.NextLemmas.{enabled_place, front_there, op_in, can_fire, send_there, next}
 use Rattle.brooklet_step.proofs.ReadLemmas.{in_reads}
 use Rattle.brooklet_step.proofs.step.fire_next.Goals as goal

@@ -1,4 +1,3 @@
-use Rattle.std.proofs.Common.{refl}
 use Rattle.river_kernels.specs.Kern.{kern_of}
 use Rattle.brooklet_step.proofs.NextLemmas.{kernel_at, blank_by, fire_applies, fired_op}
 use Rattle.brooklet_step.proofs.step.fire_op.Goals as goal

@@ -1,6 +1,5 @@
-use Rattle.std.proofs.Common.{◌≡◌, ◌<◌, length, arith, [], subst, sym, ap, ◌∙◌}
+use Rattle.std.proofs.Common.{◌<◌, length, arith, [], subst, ap, ◌∙◌}
 use Rattle.std.specs.Prelude.{slice_index_or}
-use Rattle.river_base.specs.Places.{list_at}
 use Rattle.brooklet_step.proofs.ReadLemmas.{found_place, in_reads}
 use Rattle.brooklet_step.proofs.step.place_read.Goals as goal
 
