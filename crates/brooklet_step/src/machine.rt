@@ -100,8 +100,8 @@ impl Machine {
         Ok(())
     }
 
-    /// What the machine gave.
-    pub(crate) fn into_outcome(self, alloc: Global) -> Result<Outcome, NoMemory>
+    /// What the machine gave so far: the histories of the outputs, and how often each operator fired.
+    pub fn into_outcome(self, alloc: Global) -> Result<Outcome, NoMemory>
         requires running { self.stopped ≡ false }
         ensures outs { IfOk result (λ outcome. outcome.outs ≡ map (hist_of self) (decl_names self.plan.outputs)) }
         ensures counts { IfOk result (λ outcome. AreCounts self outcome.counts) }
