@@ -1,16 +1,13 @@
 -- The records of a text, read one after another.
 use Rattle.std.proofs.Common.{◌≡◌, ℕ, zero, suc, ◌+◌, ◌-◌, ◌≤◌, List, [], ◌∷◌, ◌++◌, length, Bool, true, false, cond, refl, sym, ◌∙◌, ap, arith}
-use Rattle.std.specs.Prelude.{Option, None, Some, Result, Ok, Err, ℤ, option_and_then}
+use Rattle.std.specs.Prelude.{Option, None, Some}
 use Rattle.std.proofs.lemmas.List.{append-nil}
 use Rattle.csv.specs.Machine.{Read, next_record, step, is_end, fields_after, field_after, ends_at_end}
 use Rattle.csv.specs.Reading.{Reached, records_from, records_next, strip_bom, default_config, is_bom}
-use Rattle.csv.specs.Records.{field_at}
 use Rattle.csv.specs.declared.parser.Config.{Config}
 use Rattle.csv.specs.declared.parser.State.{State}
 use Rattle.csv.specs.declared.parser.State.TheVariants as st
-use Rattle.csv_streams.specs.Number.{number_of}
 use Rattle.csv_streams.specs.Records.{csv_records}
-use Rattle.csv_streams.specs.Column.{number_in, put_first, column_from}
 
 -- how many bytes a read leaves, and in which state
 abbrev bytes_after : Option Read → ℕ
@@ -78,43 +75,6 @@ reached-records cfg s xs (row ∷ rows) s2 ys m r =
     ∙ ap (λ (o : Option Read). records_next (records_from cfg (length rows + m)) o) r.1
     ∙ ap (λ (l : List (List (List ℕ))). r.0.0 ∷ l) (reached-records cfg r.0.1 r.0.2 rows s2 ys m r.3)
     ∙ ap (λ (f : List (List ℕ)). f ∷ (rows ++ records_from cfg m s2 ys)) (sym r.2)
-
-pub one-field : (fields : List (List ℕ)) (o : Option (List ℕ)) → length fields ≡ 1 → o ≡ field_at fields 0 → option_and_then number_of o ≡ number_in fields
-unfolding field_at
-one-field [] o one is = absurd (omega arith)
-one-field (f ∷ []) o one is = rw is refl
-one-field (f ∷ g ∷ fs) o one is = absurd (omega arith)
-
-first_and_others : (k : ℕ) (o : Option ℤ) (r : Result (List ℤ) ℕ) (xs : List ℤ) → put_first k o r ≡ Ok xs → (y : ℤ) × (ys : List ℤ) × (o ≡ Some y) × (r ≡ Ok ys) × (xs ≡ y ∷ ys)
-first_and_others k None r xs e = cc
-first_and_others k (Some y) (Ok ys) xs e = let is : xs ≡ y ∷ ys = cc in (y, ys, refl, refl, is)
-first_and_others k (Some y) (Err f) xs e = cc
-
-abbrev pub column : List ℤ → Result (List ℤ) ℕ
-column xs = Ok xs
-
-abbrev pub fault : ℕ → Result (List ℤ) ℕ
-fault rec = Err rec
-
--- one record more
-pub column-push : (k : ℕ) (rows : List (List (List ℕ))) (fields : List (List ℕ)) (xs : List ℤ) (x : ℤ) → column_from k rows ≡ Ok xs → number_in fields ≡ Some x → column_from k (rows ++ fields ∷ []) ≡ Ok (xs ++ x ∷ [])
-column-push k [] fields xs x e is =
-    let none : [] ≡ xs = cc in
-    ap (λ (o : Option ℤ). put_first k o (column [])) is ∙ ap (λ (l : List ℤ). column (l ++ x ∷ [])) none
-column-push k (row ∷ rows) fields xs x e is =
-    let (y, ys, first, others, parts) = first_and_others k (number_in row) (column_from (k + 1) rows) xs e in
-    ap (λ (o : Option ℤ). put_first k o (column_from (k + 1) (rows ++ fields ∷ []))) first
-    ∙ ap (λ (r : Result (List ℤ) ℕ). put_first k (Some y) r) (column-push (k + 1) rows fields ys x others is)
-    ∙ ap (λ (l : List ℤ). column (l ++ x ∷ [])) (sym parts)
-
--- the first record that is no number
-pub column-fault : (k : ℕ) (rows : List (List (List ℕ))) (fields : List (List ℕ)) (more : List (List (List ℕ))) (xs : List ℤ) → column_from k rows ≡ Ok xs → number_in fields ≡ None → column_from k (rows ++ fields ∷ more) ≡ Err (k + length rows)
-column-fault k [] fields more xs e is = ap (λ (o : Option ℤ). put_first k o (column_from (k + 1) more)) is ∙ ap fault (omega arith)
-column-fault k (row ∷ rows) fields more xs e is =
-    let (y, ys, first, others, parts) = first_and_others k (number_in row) (column_from (k + 1) rows) xs e in
-    ap (λ (o : Option ℤ). put_first k o (column_from (k + 1) (rows ++ fields ∷ more))) first
-    ∙ ap (λ (r : Result (List ℤ) ℕ). put_first k (Some y) r) (column-fault (k + 1) rows fields more ys others is)
-    ∙ ap fault (omega arith)
 
 strip-length : (xs : List ℕ) → length (strip_bom xs) ≤ length xs
 unfolding strip_bom

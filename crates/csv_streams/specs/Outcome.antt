@@ -1,5 +1,5 @@
 -- The printed text of what a plan gave: the rows of its outputs, and how often each operator fired.
-use Rattle.std.specs.Prelude.{ℕ, ℤ, List, [], ◌∷◌, ◌++◌, map, codes, Option, None, Some}
+use Rattle.std.specs.Prelude.{ℕ, ℤ, List, [], ◌∷◌, ◌++◌, map, codes, Option, None, Some, Bool, true, false}
 use Rattle.std.specs.Fmt.{signed_decimal}
 use Rattle.river_base.specs.declared.item.Item as item
 use Rattle.river_base.specs.declared.item.Flat.TheVariants.{One, Batch as Batched}
@@ -58,6 +58,11 @@ count_lines (label ∷ labels) (count ∷ counts) = count_line label count ++ co
 abbrev pub firings_text : List Name → Option (List ℤ) → List ℕ
 firings_text labels None = []
 firings_text labels (Some counts) = codes "## firings\n" ++ count_lines labels counts
+
+-- the counts, if they are asked for
+abbrev pub asked : Bool → List ℤ → Option (List ℤ)
+asked true counts = Some counts
+asked false counts = None
 
 -- what is printed for a plan: its outputs in order, and then the firings of its operators
 abbrev pub printed_outcome : PlanForm → List (List item.Item) → Option (List ℤ) → List ℕ

@@ -1,35 +1,36 @@
 // The printed text of what a plan gave.
-ghost use Rattle.std.specs.Prelude.{◌≡◌, ◌++◌, ◌∷◌, length, map, codes, option_map, Some, IfOk, IfSome, OnOk};
+ghost use Rattle.std.specs.Prelude.{◌≡◌, ◌++◌, ◌∷◌, true, length, map, codes, Some, IfOk, OnOk};
 ghost use Rattle.std.specs.Fmt.{signed_decimal};
 ghost use Rattle.river_base.specs.Row.{in_order};
 ghost use Rattle.river_plan.specs.Forms.{decl_names, labels, op_forms};
 ghost use Rattle.csv_streams.specs.Outcome as text;
 
-use river_base::{
-    Batch, Bytes, Duplicate, Flat, Item, Items, Listed, Name, NoMemory, Numbers, Row,
-};
+use brooklet_step::Outcome;
+use river_base::{Batch, Bytes, Duplicate, Flat, Item, Items, Name, NoMemory, Row};
 use river_plan::{Decl, Op, Plan};
 use std::alloc::Global;
 
 /// The text of what a plan gave: for each output in order the line `# NAME` and a line for each row, in which the values are
-/// joined by commas; and then, if counts are given, the line `## firings` and a line `LABEL,COUNT` for each operator in order.
-/// A batch prints its rows in ascending order, each behind its instant. `outs` has the items of each output, and `counts` a
-/// number for each operator.
+/// joined by commas; and then, if `counts` asks for them, the line `## firings` and a line `LABEL,COUNT` for each operator in
+/// order. A batch prints its rows in ascending order, each behind its instant. `outcome` has the items of each output and, where
+/// `counts` is true, a number for each operator.
 #[tactic(auto, using(crate::proofs::Texts::joins))]
-pub fn print_results(
+pub fn print_outcome(
     alloc: Global,
     plan: &Plan,
-    outs: &Listed<Items>,
-    counts: Option<&Numbers>,
+    outcome: &Outcome,
+    counts: bool,
 ) -> Result<Bytes, NoMemory>
-    requires outs { length outs.now ≡ length plan.now.outputs }
-    requires counts { IfSome counts (λ c. length c.now ≡ length plan.now.ops) }
-    ensures { IfOk result (λ all. all ≡ text.printed_outcome plan.now outs.now (option_map (λ c. c.now) counts.entry)) }
+    requires outs { length outcome.now.outs ≡ length plan.now.outputs }
+    requires counts { counts ≡ true → length outcome.now.counts ≡ length plan.now.ops }
+    ensures { IfOk result (λ all. all ≡ text.printed_outcome plan.now outcome.now.outs (text.asked counts outcome.now.counts)) }
 {
     let raw = plan.raw();
     let mut all = Bytes::new(alloc);
-    print_outputs(alloc, raw.outputs.as_slice(), outs.as_slice(), &mut all)?;
-    print_firings(alloc, raw.ops.as_slice(), counts, &mut all)?;
+    print_outputs(alloc, raw.outputs.as_slice(), outcome.outs.as_slice(), &mut all)?;
+    if counts {
+        print_firings(alloc, raw.ops.as_slice(), outcome.counts.as_slice(), &mut all)?;
+    }
     Ok(all)
 }
 
@@ -135,23 +136,7 @@ fn print_value(alloc: Global, value: i64, to: &mut Bytes) -> Result<(), NoMemory
     Ok(())
 }
 
-#[tactic(auto, using(crate::proofs::Texts::joins))]
-fn print_firings(
-    alloc: Global,
-    ops: &[Op],
-    counts: Option<&Numbers>,
-    to: &mut Bytes,
-) -> Result<(), NoMemory>
-    requires { IfSome counts (λ c. length c.now ≡ length ops.now) }
-    ensures { OnOk result (to.new ≡ to.old ++ text.firings_text (labels (op_forms ops.now)) (option_map (λ c. c.now) counts.entry)) }
-{
-    match counts {
-        Some(counts) => print_asked(alloc, ops, counts.as_slice(), to),
-        None => Ok(()),
-    }
-}
-
-fn print_asked(alloc: Global, ops: &[Op], counts: &[i64], to: &mut Bytes) -> Result<(), NoMemory>
+fn print_firings(alloc: Global, ops: &[Op], counts: &[i64], to: &mut Bytes) -> Result<(), NoMemory>
     requires { length counts.now ≡ length ops.now }
     ensures { OnOk result (to.new ≡ to.old ++ text.firings_text (labels (op_forms ops.now)) (Some counts.now)) }
 {

@@ -1,8 +1,9 @@
 // What no clause says: that the definitions mean what was meant, and that calls can succeed.
 ghost use Rattle.std.specs.Prelude.{◌≤◌};
 
-use crate::{InFault, MAX_ROWS, print_results, read_rows};
-use river_base::{Batch, Bytes, Flat, Item, Items, Listed, Name, NoMemory, Row, Rows};
+use crate::{InFault, MAX_ROWS, print_outcome, read_rows};
+use brooklet_step::Outcome;
+use river_base::{Batch, Bytes, Flat, Item, Items, Listed, Name, NoMemory, Numbers, Row, Rows};
 use river_plan::{Decl, FlatType, Plan, QueueType, RawPlan, check};
 use std::alloc::Global;
 use std::test::Fail;
@@ -125,7 +126,9 @@ fn outcomes_are_printed(rt: HostRuntime) -> Result<(), Fail> {
     if outs.len() != plan.raw().outputs.len() {
         return Err("other outputs".into());
     }
-    let text = print_results(alloc, &plan, &outs, None)?;
+    let counts = Numbers::new(alloc);
+    let outcome = Outcome { outs, counts };
+    let text = print_outcome(alloc, &plan, &outcome, false)?;
     let lines = b"# plain\n7,-1\n-9223372036854775808,0\n# timed\n3,-5\n3,5\n";
     assert_eq!(rt; text.as_slice(), lines.as_slice());
     Ok(())

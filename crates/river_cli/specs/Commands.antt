@@ -8,7 +8,7 @@ use Rattle.river_cli.specs.declared.words.Lang.{Lang}
 use Rattle.river_cli.specs.declared.words.Lang.TheVariants as lang
 use Rattle.river_cli.specs.declared.words.InWord.{InWord}
 use Rattle.river_cli.specs.declared.words.Command.{Command}
-use Rattle.river_cli.specs.declared.words.Command.TheVariants.{Run, Show}
+use Rattle.river_cli.specs.declared.words.Command.TheVariants.{Run, Mean, Show}
 
 -- the language that a word names
 abbrev pub lang_of : List ℕ → Option Lang
@@ -89,10 +89,17 @@ given_by (Some said) = if is_proper said then Some (record { ins = inputs said; 
 abbrev pub given_of : List (List ℕ) → Option Given
 given_of words = given_by (sayings words)
 
--- a run of a program file, so far of StreamIt alone
+-- a run of a program file
 abbrev pub run_of : Option Lang → List ℕ → Option Given → Option Command
-run_of (Some lang.Streamit) file (Some given) = if is_file file then Some (Run file given.ins given.header given.counted) else None
-run_of lang file given = None
+run_of None file given = None
+run_of (Some lang) file None = None
+run_of (Some lang) file (Some given) = if is_file file then Some (Run lang file given.ins given.header given.counted) else None
+
+-- the slow meaning of a program file, so far of River text alone; the firings are not counted
+abbrev pub mean_of : Option Lang → List ℕ → Option Given → Option Command
+mean_of (Some lang.River) file (Some given) =
+    if is_file file && not given.counted then Some (Mean lang.River file given.ins given.header) else None
+mean_of lang file given = None
 
 -- the plan of a program file
 abbrev pub show_of : Option Lang → List ℕ → Option Command
@@ -107,10 +114,11 @@ alone (word ∷ words) command = None
 abbrev pub spoken : List ℕ → Option Lang → List ℕ → List (List ℕ) → Option Command
 spoken verb lang file words =
     if bytes_eq verb (codes "run") then run_of lang file (given_of words)
+    else if bytes_eq verb (codes "mean") then mean_of lang file (given_of words)
     else if bytes_eq verb (codes "plan") then alone words (show_of lang file)
     else None
 
--- what the words command, if they are a sentence: `run streamit FILE` and what it is given, or `plan LANG FILE`
+-- what the words command, if they are a sentence: `run LANG FILE`, `mean LANG FILE` and what they are given, or `plan LANG FILE`
 abbrev pub command_of : List (List ℕ) → Option Command
 command_of (verb ∷ lang ∷ file ∷ words) = spoken verb (lang_of lang) file words
 command_of words = None

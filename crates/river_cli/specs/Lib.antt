@@ -1,5 +1,7 @@
 pub mod Added
+pub mod Agrees
 pub mod Answer
+pub mod Built
 pub mod Commands
 pub mod Inputs
 pub mod Points
@@ -7,4 +9,5 @@ pub mod Printed
 pub mod River
 pub mod Says
 pub mod Text
+pub mod Widths
 pub mod Words

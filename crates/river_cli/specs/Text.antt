@@ -19,6 +19,10 @@ usage_text = codes "usage: river run|plan|mean|load\n"
 abbrev pub large_program : List ℕ
 large_program = codes "refused: program: Large\n"
 
+-- a plan of a kind that is not run so far
+abbrev pub unbuilt : List ℕ
+unbuilt = codes "refused: program: Unbuilt\n"
+
 -- a fault of the program, and what is said of it
 abbrev pub fault_text : List ℕ → List ℕ → List ℕ
 fault_text fault rest = codes "refused: program: " ++ fault ++ codes " " ++ rest ++ codes "\n"

@@ -2,13 +2,13 @@
 ghost use Rattle.std.specs.Prelude.{◌≡◌, ◌≤◌, Some, IsErrOf};
 ghost use Rattle.river_outside.specs.Causes.{Rose};
 ghost use Rattle.river_order.specs.Decides.{Decides};
-ghost use Rattle.river_cli.specs.declared.words.Command.TheVariants.{Run, Show};
-ghost use Rattle.river_cli.specs.Points.{points_of, of_command};
+ghost use Rattle.river_cli.specs.declared.words.Command.TheVariants.{Show};
+ghost use Rattle.river_cli.specs.Points.{points_of, of_command, of_asked};
 
 use crate::run::run;
 use crate::show::show;
 use crate::text;
-use crate::words::{Command, InWords, Lang, WordFault, read_words};
+use crate::words::{Command, InWord, Lang, WordFault, read_words};
 use river_base::{Bytes, Text};
 use river_order::{Stop, take_turn};
 use river_outside::Shelf;
@@ -30,17 +30,34 @@ pub fn decide<S: Shelf>(alloc: Global, words: &[Text], shelf: &mut S) -> Result<
 }
 
 // What a command asks for.
-fn decide_command<S: Shelf>(alloc: Global, command: &Command, shelf: &mut S) -> Result<Bytes, Stop>
+fn decide_command<S: Shelf>(
+    alloc: Global,
+    command: &Command,
+    shelf: &mut S,
+) -> Result<Bytes, Stop>
     ensures later { S.faults shelf.old ≤ S.faults shelf.new }
     ensures decided { Decides (Some (of_command command.now)) (S.held shelf.old) (Rose (S.faults shelf.old) (S.faults shelf.new)) result }
 {
     match command {
         Command::Run {
+            lang,
             file,
             ins,
             header,
             counts,
-        } => decide_run(alloc, file.as_slice(), ins, *header, *counts, shelf),
+        } => {
+            let ins = ins.as_slice();
+            decide_run(alloc, *lang, file.as_slice(), ins, *header, *counts, shelf)
+        }
+        Command::Mean {
+            lang,
+            file,
+            ins,
+            header,
+        } => {
+            let ins = ins.as_slice();
+            decide_run(alloc, *lang, file.as_slice(), ins, *header, false, shelf)
+        }
         Command::Show { lang, file } => decide_show(alloc, *lang, file.as_slice(), shelf),
     }
 }
@@ -48,17 +65,18 @@ fn decide_command<S: Shelf>(alloc: Global, command: &Command, shelf: &mut S) -> 
 // The program is fetched, to be run.
 fn decide_run<S: Shelf>(
     alloc: Global,
+    lang: Lang,
     file: &[u8],
-    ins: &InWords,
+    ins: &[InWord],
     header: bool,
     counted: bool,
     shelf: &mut S,
 ) -> Result<Bytes, Stop>
     ensures later { S.faults shelf.old ≤ S.faults shelf.new }
-    ensures decided { Decides (Some (of_command (Run file.now ins.now header counted))) (S.held shelf.old) (Rose (S.faults shelf.old) (S.faults shelf.new)) result }
+    ensures decided { Decides (Some (of_asked lang file.now ins.now header counted)) (S.held shelf.old) (Rose (S.faults shelf.old) (S.faults shelf.new)) result }
 {
     let text = take_turn(alloc, shelf, file, MOST_PROGRAM, text::LARGE_PROGRAM)?;
-    run(alloc, &text, ins.as_slice(), header, counted, shelf)
+    run(alloc, lang, &text, ins, header, counted, shelf)
 }
 
 // The program is fetched, and its plan printed.

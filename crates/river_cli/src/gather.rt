@@ -1,9 +1,11 @@
 // From the words to the rows of a program's inputs.
-ghost use Rattle.std.specs.Prelude.{◌≡◌, ◌≤◌, List, ℕ, ℤ, Some, All, length, IfOk, IfErr};
+ghost use Rattle.std.specs.Prelude.{◌≡◌, ◌≤◌, List, ℕ, ℤ, Some, All, IfOk, IfErr};
 ghost use Rattle.river_outside.specs.Causes.{Rose};
 ghost use Rattle.river_order.specs.Order.{Ends, Done, Comes};
 ghost use Rattle.river_order.specs.Decides.{Stops};
 ghost use Rattle.river_plan.specs.Faults.{HasWidth};
+ghost use Rattle.river_cli.specs.Inputs.{width_named};
+ghost use Rattle.river_cli.specs.Widths.{HaveWidths};
 ghost use Rattle.river_cli.specs.Points.{of_inputs};
 
 use crate::fetched::fetch_all;
@@ -26,7 +28,7 @@ pub fn gather<S: Shelf>(
 ) -> Result<Listed<Rows>, Stop>
     requires { All HasWidth decls.now }
     ensures later { S.faults shelf.old ≤ S.faults shelf.new }
-    ensures count { IfOk result (λ rows. length rows ≡ length decls.now) }
+    ensures widths { IfOk result (HaveWidths (width_named decls.now) decls.now) }
     ensures comes { IfOk result (λ rows. (print : List (List (List ℤ)) → List ℕ)
         → Comes (of_inputs decls.now ins.now header print) (S.held shelf.old) (Ends (Done (print rows)))) }
     ensures stops { IfErr result (λ stop. (print : List (List (List ℤ)) → List ℕ)

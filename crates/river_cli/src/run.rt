@@ -1,28 +1,108 @@
 // A program is run, point by point in order: each function is a point, and calls that of the next.
-ghost use Rattle.std.specs.Prelude.{◌≡◌, ◌≤◌, ◌∷◌, [], map, pos, min, length, Some, IfOk, slice_index_or};
+ghost use Rattle.std.specs.Prelude.{◌≡◌, ◌≤◌, List, ℕ, ℤ, length, Some, IfOk};
 ghost use Rattle.river_outside.specs.Causes.{Rose};
 ghost use Rattle.river_order.specs.Decides.{Decides};
-ghost use Rattle.brooklet_model.specs.Histories.{most_firings};
-ghost use Rattle.streamit_front.specs.Program.{program_of};
+ghost use Rattle.river_plan.specs.Forms.{plan_form};
 ghost use Rattle.streamit_front.specs.Reading.{compiled};
-ghost use Rattle.streamit_front.specs.Translation.{plan_of};
-ghost use Rattle.river_cli.specs.Inputs.{row_items};
-ghost use Rattle.river_cli.specs.Points.{of_streamit, of_inputs};
-ghost use Rattle.river_cli.specs.Printed.{values, as_rows, of_program};
+ghost use Rattle.brooklet_model.specs.Typed.{IsBuilt, AreInputs};
+ghost use Rattle.river_cli.specs.River.{plan_in, checked};
+ghost use Rattle.river_cli.specs.Points.{of_run, of_river, of_streamit, of_built, of_inputs};
+ghost use Rattle.river_cli.specs.Built.{is_built};
+ghost use Rattle.river_cli.specs.Agrees.{Agrees};
+ghost use Rattle.river_cli.specs.Inputs.{width_named, row_items, all_items};
+ghost use Rattle.river_cli.specs.Printed.{of_plan};
+ghost use Rattle.river_cli.specs.Widths.{HaveWidths};
 
 use crate::gather::gather;
 use crate::text;
-use crate::words::InWord;
-use csv_streams::print_results;
-use river_base::{Bytes, Flat, Item, Items, Listed, NoMemory, Numbers, Row, Rows};
+use crate::words::{InWord, Lang};
+use brooklet_step::{Inputs, built, run_one};
+use csv_streams::print_outcome;
+use river_base::{Bytes, Flat, Item, Items, Listed, NoMemory, Rows};
 use river_order::Stop;
 use river_outside::Shelf;
-use river_plan::Plan;
+use river_plan::{Plan, RawPlan, check};
+use river_text::read_river;
 use std::alloc::Global;
-use streamit_front::{StreamitProgram, compile_streamit};
+use streamit_front::compile_streamit;
 
-/// The output of a StreamIt program, or why it has none.
+/// The output of a program, or why it has none.
 pub fn run<S: Shelf>(
+    alloc: Global,
+    lang: Lang,
+    text: &Bytes,
+    ins: &[InWord],
+    header: bool,
+    counted: bool,
+    shelf: &mut S,
+) -> Result<Bytes, Stop>
+    requires { length text.now ≤ 1048576 }
+    ensures later { S.faults shelf.old ≤ S.faults shelf.new }
+    ensures decided { Decides (Some (of_run lang ins.now header counted text.now)) (S.held shelf.old) (Rose (S.faults shelf.old) (S.faults shelf.new)) result }
+{
+    match lang {
+        Lang::River => run_river(alloc, text, ins, header, counted, shelf),
+        Lang::Streamit => run_streamit(alloc, text, ins, header, counted, shelf),
+    }
+}
+
+// That of a River text.
+fn run_river<S: Shelf>(
+    alloc: Global,
+    text: &Bytes,
+    ins: &[InWord],
+    header: bool,
+    counted: bool,
+    shelf: &mut S,
+) -> Result<Bytes, Stop>
+    requires { length text.now ≤ 1048576 }
+    ensures later { S.faults shelf.old ≤ S.faults shelf.new }
+    ensures decided { Decides (Some (of_river ins.now header counted (plan_in text.now))) (S.held shelf.old) (Rose (S.faults shelf.old) (S.faults shelf.new)) result }
+{
+    match read_river(alloc, text) {
+        Ok(raw) => run_checked(alloc, raw, ins, header, counted, shelf),
+        Err(fault) => Err(Stop::Refused(text::unread(alloc, fault)?)),
+    }
+}
+
+// That of lists that were read.
+fn run_checked<S: Shelf>(
+    alloc: Global,
+    raw: RawPlan,
+    ins: &[InWord],
+    header: bool,
+    counted: bool,
+    shelf: &mut S,
+) -> Result<Bytes, Stop>
+    ensures later { S.faults shelf.old ≤ S.faults shelf.new }
+    ensures decided { Decides (Some (of_river ins.now header counted (checked (plan_form raw)))) (S.held shelf.old) (Rose (S.faults shelf.old) (S.faults shelf.new)) result }
+{
+    match check(alloc, raw) {
+        Ok(plan) => run_if_built(alloc, &plan, ins, header, counted, shelf),
+        Err(fault) => Err(Stop::Refused(text::unfit(alloc, fault)?)),
+    }
+}
+
+// That of a plan, if such plans are run so far.
+fn run_if_built<S: Shelf>(
+    alloc: Global,
+    plan: &Plan,
+    ins: &[InWord],
+    header: bool,
+    counted: bool,
+    shelf: &mut S,
+) -> Result<Bytes, Stop>
+    ensures later { S.faults shelf.old ≤ S.faults shelf.new }
+    ensures decided { Decides (Some (of_built plan.now ins.now header counted (is_built plan.now))) (S.held shelf.old) (Rose (S.faults shelf.old) (S.faults shelf.new)) result }
+{
+    if !built(plan) {
+        return Err(Stop::Refused(Bytes::from_slice(alloc, text::UNBUILT)?));
+    }
+    run_plan(alloc, plan, ins, header, counted, shelf)
+}
+
+// That of a StreamIt program.
+fn run_streamit<S: Shelf>(
     alloc: Global,
     text: &Bytes,
     ins: &[InWord],
@@ -35,87 +115,65 @@ pub fn run<S: Shelf>(
     ensures decided { Decides (Some (of_streamit ins.now header counted (compiled text.now))) (S.held shelf.old) (Rose (S.faults shelf.old) (S.faults shelf.new)) result }
 {
     match compile_streamit(alloc, text) {
-        Ok(made) => run_program(alloc, &made.0, &made.1, ins, header, counted, shelf),
+        Ok(made) => run_plan(alloc, &made.1, ins, header, counted, shelf),
         Err(fault) => Err(Stop::Refused(text::refusal(alloc, fault)?)),
     }
 }
 
-// That of a program that was compiled.
-fn run_program<S: Shelf>(
+// That of a plan of rows.
+fn run_plan<S: Shelf>(
     alloc: Global,
-    program: &StreamitProgram,
     plan: &Plan,
     ins: &[InWord],
     header: bool,
     counted: bool,
     shelf: &mut S,
 ) -> Result<Bytes, Stop>
-    requires { plan.now ≡ plan_of (program_of program.now) }
+    requires { IsBuilt plan.now }
     ensures later { S.faults shelf.old ≤ S.faults shelf.new }
-    ensures decided { Decides (Some (of_inputs plan.now.inputs ins.now header (of_program (program_of program.now) counted))) (S.held shelf.old) (Rose (S.faults shelf.old) (S.faults shelf.new)) result }
+    ensures decided { (print : List (List (List ℤ)) → List ℕ) → Agrees plan.now counted print
+        → Decides (Some (of_inputs plan.now.inputs ins.now header print)) (S.held shelf.old) (Rose (S.faults shelf.old) (S.faults shelf.new)) result }
 {
     let decls = plan.raw().inputs.as_slice();
     let rows = gather(alloc, decls, ins, header, shelf)?;
-    Ok(output(alloc, program, plan, &rows, counted)?)
+    Ok(output(alloc, plan, &rows, counted)?)
 }
 
-// What a program prints for the rows of its inputs.
+// What a plan prints for the rows of its inputs.
 fn output(
     alloc: Global,
-    program: &StreamitProgram,
     plan: &Plan,
     rows: &Listed<Rows>,
     counted: bool,
 ) -> Result<Bytes, NoMemory>
-    requires plan { plan.now ≡ plan_of (program_of program.now) }
-    requires one { length rows.now ≡ 1 }
-    ensures { IfOk result (λ text. text ≡ of_program (program_of program.now) counted rows.now) }
+    requires built { IsBuilt plan.now }
+    requires widths { HaveWidths (width_named plan.now.inputs) plan.now.inputs rows.now }
+    ensures typed { AreInputs plan.now.inputs (all_items rows.now) }
+    ensures printed { IfOk result (λ text. text ≡ of_plan plan.now counted rows.now) }
 {
-    let values = values(alloc, rows.at(0))?;
-    let given = streamit_front::run(alloc, program, &values)?;
-    let mut outs = Listed::new(alloc);
-    outs.push(items(alloc, &given)?)?;
-    if !counted {
-        return print_results(alloc, plan, &outs, None);
-    }
-    let counts = firings(alloc, values.len())?;
-    print_results(alloc, plan, &outs, Some(&counts))
+    let inputs = inputs_of(alloc, rows.as_slice())?;
+    let outcome = run_one(alloc, plan, inputs)?;
+    print_outcome(alloc, plan, &outcome, counted)
 }
 
-// The first value of each row.
-fn values(alloc: Global, rows: &Rows) -> Result<Numbers, NoMemory>
-    ensures { IfOk result (λ xs. xs ≡ values (rows.now ∷ [])) }
+// The items of each input.
+fn inputs_of(alloc: Global, rows: &[Rows]) -> Result<Inputs, NoMemory>
+    ensures { IfOk result (λ inputs. inputs ≡ all_items rows.now) }
 {
-    let mut values = Numbers::new(alloc);
-    for row in rows.as_slice() {
-        values.push(row.values()[0])?;
+    let mut inputs = Inputs::new(alloc);
+    for rows in rows {
+        inputs.push(items(alloc, rows)?)?;
     }
-    Ok(values)
+    Ok(inputs)
 }
 
-// Values as items of one value each.
-fn items(alloc: Global, values: &Numbers) -> Result<Items, NoMemory>
-    ensures { IfOk result (λ items. items ≡ row_items (as_rows values.now)) }
+// Rows as items.
+fn items(alloc: Global, rows: &Rows) -> Result<Items, NoMemory>
+    ensures { IfOk result (λ items. items ≡ row_items rows.now) }
 {
     let mut items = Items::new(alloc);
-    for value in values.as_slice() {
-        items.push(Item::Flat(Flat::One(Row::from_slice(&[*value]))))?;
+    for row in rows.as_slice() {
+        items.push(Item::Flat(Flat::One(*row)))?;
     }
     Ok(items)
-}
-
-// The firings of the one operator, which took so many items.
-fn firings(alloc: Global, taken: usize) -> Result<Numbers, NoMemory>
-    ensures { IfOk result (λ counts. counts ≡ pos (min most_firings taken) ∷ []) }
-{
-    let mut counts = Numbers::new(alloc);
-    counts.push(times(taken))?;
-    Ok(counts)
-}
-
-// How often an operator fired that took so many items; a count of 2^63 - 1 stays there.
-fn times(taken: usize) -> i64
-    ensures { result ≡ pos (min most_firings taken) }
-{
-    taken.min(i64::MAX as usize) as i64
 }

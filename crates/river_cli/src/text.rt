@@ -18,6 +18,9 @@ pub const USAGE: &[u8] = b"usage: river run|plan|mean|load\n";
 /// What refuses a program of too many bytes.
 pub const LARGE_PROGRAM: &[u8] = b"refused: program: Large\n";
 
+/// What refuses a plan of a kind that is not run so far.
+pub const UNBUILT: &[u8] = b"refused: program: Unbuilt\n";
+
 // A fault of the program, and what is said of it.
 fn program(alloc: Global, fault: &[u8], rest: &[u8]) -> Result<Bytes, NoMemory>
     ensures { IfOk result (λ text. text ≡ fault_text fault.now rest.now) }

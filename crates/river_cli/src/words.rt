@@ -1,7 +1,7 @@
 // The words of the command line.
 ghost use Rattle.std.specs.Prelude.{◌≡◌, ◌↔◌, ◌≤◌, length, take, drop, Some, None, IfOk, IsErrOf};
 ghost use Rattle.river_cli.specs.Words.{is_file, name_part, rest_part};
-ghost use Rattle.river_cli.specs.Commands.{command_of, in_word_of, lang_of, run_of, show_of, given_of};
+ghost use Rattle.river_cli.specs.Commands.{command_of, in_word_of, lang_of, run_of, mean_of, show_of, given_of};
 
 use crate::given::read_given;
 use river_base::{Listed, NoMemory, Text};
@@ -31,8 +31,10 @@ pub type InWords = Listed<InWord>;
 /// A command.
 #[derive(Drop)]
 pub enum Command {
-    /// `run`: compile the StreamIt program in a file, run it over its input, and print its output.
+    /// `run`: compile the program in a file, run it over its inputs, and print its outputs.
     Run {
+        /// The language of the program.
+        lang: Lang,
         /// The name of the program's file.
         file: Text,
         /// The inputs.
@@ -41,6 +43,17 @@ pub enum Command {
         header: bool,
         /// Whether the firings of each operator are printed too.
         counts: bool,
+    },
+    /// `mean`: print the slow meaning of the program in a file, over its inputs.
+    Mean {
+        /// The language of the program.
+        lang: Lang,
+        /// The name of the program's file.
+        file: Text,
+        /// The inputs.
+        ins: InWords,
+        /// Whether each input begins with a header.
+        header: bool,
     },
     /// `plan`: compile the program in a file, and print its plan.
     Show {
@@ -72,15 +85,17 @@ impl From<NoMemory> for WordFault {
 
 const RUN: &[u8] = b"run";
 
+const MEAN: &[u8] = b"mean";
+
 const PLAN: &[u8] = b"plan";
 
 const RIVER: &[u8] = b"river";
 
 const STREAMIT: &[u8] = b"streamit";
 
-/// The command that the words are. A sentence is `run streamit FILE`, and then, in any order, words NAME=FILE, `-H` and
-/// `-c`; or `plan river FILE` or `plan streamit FILE`. FILE behind the language is not empty and does not begin with `-`;
-/// no option and no NAME stands twice.
+/// The command that the words are. A sentence is `run LANG FILE`, `mean river FILE` or `plan LANG FILE`; behind the first
+/// two there are, in any order, words NAME=FILE and `-H`, and behind `run` also `-c`. FILE behind the language is not
+/// empty and does not begin with `-`; no option and no NAME stands twice.
 pub fn read_words(alloc: Global, words: &[Text]) -> Result<Command, WordFault>
     ensures ok { IfOk result (λ command. command_of words.now ≡ Some command) }
     ensures usage { IsErrOf result WordFault.Usage → command_of words.now ≡ None }
@@ -90,6 +105,8 @@ pub fn read_words(alloc: Global, words: &[Text]) -> Result<Command, WordFault>
     };
     if verb.as_slice() == RUN {
         read_run(alloc, lang.as_slice(), file.as_slice(), rest)
+    } else if verb.as_slice() == MEAN {
+        read_mean(alloc, lang.as_slice(), file.as_slice(), rest)
     } else if verb.as_slice() == PLAN && rest.is_empty() {
         read_show(alloc, lang.as_slice(), file.as_slice())
     } else {
@@ -98,20 +115,55 @@ pub fn read_words(alloc: Global, words: &[Text]) -> Result<Command, WordFault>
 }
 
 // The words behind `run`.
-fn read_run(alloc: Global, lang: &[u8], file: &[u8], words: &[Text]) -> Result<Command, WordFault>
+fn read_run(
+    alloc: Global,
+    lang: &[u8],
+    file: &[u8],
+    words: &[Text],
+) -> Result<Command, WordFault>
     ensures ok { IfOk result (λ command. run_of (lang_of lang.now) file.now (given_of words.now) ≡ Some command) }
     ensures usage { IsErrOf result WordFault.Usage → run_of (lang_of lang.now) file.now (given_of words.now) ≡ None }
 {
     let given = read_given(alloc, words)?;
-    if lang != STREAMIT || !is_file(file) {
+    let Some(lang) = read_lang(lang) else {
+        return Err(WordFault::Usage);
+    };
+    if !is_file(file) {
         return Err(WordFault::Usage);
     }
     let file = Text::from_slice(alloc, file)?;
     Ok(Command::Run {
+        lang,
         file,
         ins: given.ins,
         header: given.header,
         counts: given.counted,
+    })
+}
+
+// The words behind `mean`.
+fn read_mean(
+    alloc: Global,
+    lang: &[u8],
+    file: &[u8],
+    words: &[Text],
+) -> Result<Command, WordFault>
+    ensures ok { IfOk result (λ command. mean_of (lang_of lang.now) file.now (given_of words.now) ≡ Some command) }
+    ensures usage { IsErrOf result WordFault.Usage → mean_of (lang_of lang.now) file.now (given_of words.now) ≡ None }
+{
+    let given = read_given(alloc, words)?;
+    let Some(Lang::River) = read_lang(lang) else {
+        return Err(WordFault::Usage);
+    };
+    if !is_file(file) || given.counted {
+        return Err(WordFault::Usage);
+    }
+    let file = Text::from_slice(alloc, file)?;
+    Ok(Command::Mean {
+        lang: Lang::River,
+        file,
+        ins: given.ins,
+        header: given.header,
     })
 }
 

@@ -1,7 +1,7 @@
 use Rattle.std.proofs.Common.{rules, ◌≡◌, ℕ, List, ◌++◌, ◌∙◌, ap, append_assoc, codes}
 use Rattle.river_plan.specs.Forms.{labels, op_forms}
 use Rattle.csv_streams.specs.Outcome.{count_lines}
-use Rattle.csv_streams.proofs.outcome.print_asked.Goals as goal
+use Rattle.csv_streams.proofs.outcome.print_firings.Goals as goal
 
 pub returns : goal.returns
 returns c =
