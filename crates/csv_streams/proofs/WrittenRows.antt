@@ -1,7 +1,10 @@
 -- The rows that are read are those that are written.
 use Rattle.std.proofs.Common.{◌≡◌, ℕ, ◌+◌, ◌-◌, ◌≤◌, List, [], ◌∷◌, length, take, drop, Bool, true, false, cond, refl, ◌∙◌, ap, arith, nat_lt}
-use Rattle.std.specs.Prelude.{ℤ, Option, None, Some, Result, Ok, Err}
+use Rattle.std.specs.Prelude.{ℤ, IsTrue, Option, None, Some, Result, Ok, Err}
 use Rattle.std.proofs.lemmas.Bool.Decides.{nat_tests}
+use Rattle.std.proofs.lemmas.List.{length-take-le}
+use Rattle.std.proofs.lemmas.List.Elements.{All-nil, All-cons}
+use Rattle.river_base.specs.Held.{HaveWidth}
 use Rattle.csv_streams.specs.Number.{number_of}
 use Rattle.csv_streams.specs.Numbered.{before, numbered}
 use Rattle.csv_streams.specs.Records.{csv_records}
@@ -74,3 +77,26 @@ read_rows-written bytes w skip more rows e =
 pub written_rows-read : (bytes : List ℕ) (w : ℕ) (skip more : Bool) (rows : List (List ℤ)) → FileWrites bytes w skip more rows → rows_of bytes w skip more ≡ Ok rows
 written_rows-read bytes w skip more rows writes =
     rows_written w more (headers skip + most_rows) (headers skip + 1) (drop (headers skip) (csv_records bytes)) rows writes.written (omega (arith, writes.few))
+
+-- as many values as fields that write them
+values-length : (fields : List (List ℕ)) (xs : List ℤ) → AllWrite fields xs → length xs ≡ length fields
+values-length [] [] all = refl
+values-length [] (x ∷ xs) all = absurd all
+values-length (f ∷ fs) [] all = absurd all
+values-length (f ∷ fs) (x ∷ xs) all = omega (arith, values-length fs xs all.1)
+
+enough : (w n : ℕ) (more : Bool) → IsTrue (has_width w more n) → w ≤ n
+enough w n true t = grind (arith, nat_tests, t)
+enough w n false t = grind (arith, nat_tests, t)
+
+row-width : (w : ℕ) (more : Bool) (fields : List (List ℕ)) (row : List ℤ) → WritesRow w more fields row → length row ≡ w
+row-width w more fields row writes = values-length (take w fields) row writes.1 ∙ length-take-le w fields (enough w (length fields) more writes.0)
+
+rows-width : (w : ℕ) (more : Bool) (recs : List (List (List ℕ))) (rows : List (List ℤ)) → WriteRows w more recs rows → HaveWidth w rows
+rows-width w more [] [] all = All-nil (λ row. length row ≡ w)
+rows-width w more [] (row ∷ rows) all = absurd all
+rows-width w more (fields ∷ recs) [] all = absurd all
+rows-width w more (fields ∷ recs) (row ∷ rows) all = All-cons (λ r. length r ≡ w) row rows (row-width w more fields row all.0) (rows-width w more recs rows all.1)
+
+pub read_rows-width : (bytes : List ℕ) (w : ℕ) (skip more : Bool) (rows : List (List ℤ)) → rows_of bytes w skip more ≡ Ok rows → HaveWidth w rows
+read_rows-width bytes w skip more rows e = rows-width w more (drop (headers skip) (csv_records bytes)) rows (read_rows-written bytes w skip more rows e).written

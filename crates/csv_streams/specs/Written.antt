@@ -1,5 +1,6 @@
 -- Which files write which rows, as a relation: each record but the header has the width, and its fields write the row's values.
 use Rattle.std.specs.Prelude.{◌≡◌, ⊤, ℕ, ℤ, ◌≤◌, Bool, IsTrue, List, [], ◌∷◌, length, take, drop, Ok}
+use Rattle.river_base.specs.Held.{HaveWidth}
 use Rattle.csv_streams.specs.Records.{csv_records}
 use Rattle.csv_streams.specs.Rows.{has_width, headers, most_rows, rows_of}
 use Rattle.csv_streams.specs.Writing.{Writes}
@@ -33,3 +34,7 @@ ReadRowsAreWritten = (bytes : List ℕ) (width : ℕ) (skip_first more : Bool) (
 
 abbrev pub WrittenRowsAreRead : Type 0
 WrittenRowsAreRead = (bytes : List ℕ) (width : ℕ) (skip_first more : Bool) (rows : List (List ℤ)) → FileWrites bytes width skip_first more rows → rows_of bytes width skip_first more ≡ Ok rows
+
+-- rows that are read have the width that was asked
+abbrev pub ReadRowsHaveWidth : Type 0
+ReadRowsHaveWidth = (bytes : List ℕ) (width : ℕ) (skip_first more : Bool) (rows : List (List ℤ)) → rows_of bytes width skip_first more ≡ Ok rows → HaveWidth width rows

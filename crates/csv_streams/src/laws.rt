@@ -1,6 +1,6 @@
 //! Laws over the definitions alone.
 ghost use Rattle.csv_streams.specs.Writing.{ReadIsWritten, WrittenIsRead};
-ghost use Rattle.csv_streams.specs.Written.{ReadRowsAreWritten, WrittenRowsAreRead};
+ghost use Rattle.csv_streams.specs.Written.{ReadRowsAreWritten, WrittenRowsAreRead, ReadRowsHaveWidth};
 
 /// A field of which a value is read writes that value.
 pub fn what_is_read_is_written()
@@ -20,4 +20,9 @@ pub fn rows_that_are_read_are_written()
 /// Of a file that writes rows, at most 100,000, these are read.
 pub fn rows_that_are_written_are_read()
     ensures { WrittenRowsAreRead }
+{}
+
+/// Rows that are read of a file have the width that was asked.
+pub fn rows_that_are_read_have_the_width()
+    ensures { ReadRowsHaveWidth }
 {}

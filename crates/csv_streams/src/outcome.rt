@@ -27,9 +27,19 @@ pub fn print_outcome(
 {
     let raw = plan.raw();
     let mut all = Bytes::new(alloc);
-    print_outputs(alloc, raw.outputs.as_slice(), outcome.outs.as_slice(), &mut all)?;
+    print_outputs(
+        alloc,
+        raw.outputs.as_slice(),
+        outcome.outs.as_slice(),
+        &mut all,
+    )?;
     if counts {
-        print_firings(alloc, raw.ops.as_slice(), outcome.counts.as_slice(), &mut all)?;
+        print_firings(
+            alloc,
+            raw.ops.as_slice(),
+            outcome.counts.as_slice(),
+            &mut all,
+        )?;
     }
     Ok(all)
 }

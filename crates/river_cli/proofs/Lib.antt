@@ -1,3 +1,4 @@
+pub mod Built
 pub mod Cut
 pub mod Fetches
 pub mod Inputs
@@ -6,3 +7,4 @@ pub mod Printed
 pub mod ReadOn
 pub mod Refusals
 pub mod Told
+pub mod Typed

@@ -1,5 +1,5 @@
 -- What is read of a River text is what the text stands for, and what refuses it is what is told.
-use Rattle.std.proofs.Common.{◌≡◌, ℕ, ◌+◌, List, [], ◌∷◌, ◌++◌, length, Option, Some, None, Result, Ok, Err, refl, sym, ap, ◌∙◌, subst, arith}
+use Rattle.std.proofs.Common.{◌≡◌, Bool, ℕ, ◌+◌, List, [], ◌∷◌, ◌++◌, length, Option, Some, None, Result, Ok, Err, refl, sym, ap, ◌∙◌, subst, arith}
 use Rattle.work_code.specs.Cut.{units_of}
 use Rattle.work_code.specs.Lexis.{tokens_in}
 use Rattle.work_code.specs.Tok.{Tok, Mark, toks}
@@ -23,9 +23,12 @@ use Rattle.river_plan.specs.Told.{fault_of, IsTold}
 use Rattle.river_plan.specs.declared.fault.PlanFault.{PlanFault}
 use Rattle.river_plan.specs.declared.fault.PlanFault.TheVariants as plan
 use Rattle.river_print.specs.Printed.{plan_text}
-use Rattle.river_cli.specs.Points.{of_checked}
-use Rattle.river_cli.specs.River.{Syntax, plan_in, checked, then_read, then_checked, lexical}
+use Rattle.river_cli.specs.Built.{is_built}
+use Rattle.river_cli.specs.Points.{of_checked, of_river, of_built}
+use Rattle.river_cli.specs.River.{Refusal, BadByte, BigNumber, Syntax, Unfit, plan_in, checked, then_read, then_checked, lexical}
 use Rattle.river_cli.specs.Says.{SaysUnread, SaysUnfit}
+use Rattle.river_cli.specs.Text.{river_text}
+use Rattle.river_cli.specs.declared.words.InWord.{InWord}
 
 -- ---- THE FIRST UNIT THAT IS NOT IN THE GRAMMAR IS ONE UNIT
 
@@ -101,32 +104,55 @@ lexer-refuses : (text : List ℕ) (f : LexFault) → tokens_in text ≡ Err f �
 unfolding plan_in
 lexer-refuses text f e = ap then_read e
 
+-- why a text stands for no plan, and what is told of it
+abbrev pub Told : Result PlanForm Refusal → List ℕ → Type 0
+Told read says = (r : Refusal) × (read ≡ Err r) × (river_text r ≡ says)
+
 -- what is told of a text that is not read
-pub text-refused : (text : List ℕ) (f : TextFault) (says : List ℕ) → Refuses text f → SaysUnread f says → of_checked (plan_in text) ≡ Ends (Refused says)
-unfolding of_checked
-text-refused text (fault.Lex (lex.BadByte at)) says r s = rw (lexer-refuses text (lex.BadByte at) r.0, s) refl
-text-refused text (fault.Lex (lex.BigNumber at)) says r s = rw (lexer-refuses text (lex.BigNumber at) r.0, s) refl
+pub text-refused : (text : List ℕ) (f : TextFault) (says : List ℕ) → Refuses text f → SaysUnread f says → Told (plan_in text) says
+text-refused text (fault.Lex (lex.BadByte at)) says r s = (BadByte at, lexer-refuses text (lex.BadByte at) r.0, sym s)
+text-refused text (fault.Lex (lex.BigNumber at)) says r s = (BigNumber at, lexer-refuses text (lex.BigNumber at) r.0, sym s)
 text-refused text (fault.Lex lex.NoMemory) says r s = absurd r
-text-refused text (fault.Syntax unit) says r s = rw (unit-is_refused text unit r.0 r.1, s) refl
+text-refused text (fault.Syntax unit) says r s = (Syntax unit, unit-is_refused text unit r.0 r.1, sym s)
 text-refused text fault.NoMemory says r s = absurd s
 
 -- ---- WHAT IS CHECKED
 
--- the plan that is found valid is printed
-pub valid-shown : (p q : PlanForm) → (q ≡ p) × (fault_of p ≡ None) → of_checked (checked p) ≡ Ends (Done (plan_text q))
-unfolding of_checked checked
-valid-shown p q h = rw (h.0, h.1) refl
+-- the plan that is found valid
+pub valid-checked : (p q : PlanForm) → (q ≡ p) × (fault_of p ≡ None) → checked p ≡ Ok q
+unfolding checked
+valid-checked p q h = rw (h.0, h.1) refl
 
 -- its first fault refuses it
-pub unfit-shown : (p : PlanForm) (f : PlanFault) (says : List ℕ) → IsTold p (Err f) → SaysUnfit f says → of_checked (checked p) ≡ Ends (Refused says)
-unfolding of_checked checked
-unfit-shown p (plan.P1 n) says t s = rw (t, s) refl
-unfit-shown p (plan.P2 n) says t s = rw (t, s) refl
-unfit-shown p (plan.P3 n) says t s = rw (t, s) refl
-unfit-shown p (plan.P4 n) says t s = rw (t, s) refl
-unfit-shown p (plan.P5 n) says t s = rw (t, s) refl
-unfit-shown p (plan.P6 n) says t s = rw (t, s) refl
-unfit-shown p (plan.P7 n) says t s = rw (t, s) refl
-unfit-shown p (plan.P8 l n) says t s = rw (t, s) refl
-unfit-shown p (plan.P9 n) says t s = rw (t, s) refl
-unfit-shown p plan.NoMemory says t s = absurd s
+pub unfit-told : (p : PlanForm) (f : PlanFault) (says : List ℕ) → IsTold p (Err f) → SaysUnfit f says → Told (checked p) says
+unfolding checked
+unfit-told p (plan.P1 n) says t s = (Unfit (plan.P1 n), rw t refl, sym s)
+unfit-told p (plan.P2 n) says t s = (Unfit (plan.P2 n), rw t refl, sym s)
+unfit-told p (plan.P3 n) says t s = (Unfit (plan.P3 n), rw t refl, sym s)
+unfit-told p (plan.P4 n) says t s = (Unfit (plan.P4 n), rw t refl, sym s)
+unfit-told p (plan.P5 n) says t s = (Unfit (plan.P5 n), rw t refl, sym s)
+unfit-told p (plan.P6 n) says t s = (Unfit (plan.P6 n), rw t refl, sym s)
+unfit-told p (plan.P7 n) says t s = (Unfit (plan.P7 n), rw t refl, sym s)
+unfit-told p (plan.P8 l n) says t s = (Unfit (plan.P8 l n), rw t refl, sym s)
+unfit-told p (plan.P9 n) says t s = (Unfit (plan.P9 n), rw t refl, sym s)
+unfit-told p plan.NoMemory says t s = absurd s
+
+-- ---- THE POINTS
+
+-- where the plan is asked
+pub shown-refused : (read : Result PlanForm Refusal) (says : List ℕ) → Told read says → of_checked read ≡ Ends (Refused says)
+unfolding of_checked
+shown-refused read says t = rw (t.1, t.2) refl
+
+pub shown-valid : (p q : PlanForm) → (q ≡ p) × (fault_of p ≡ None) → of_checked (checked p) ≡ Ends (Done (plan_text q))
+unfolding of_checked
+shown-valid p q h = rw (valid-checked p q h) refl
+
+-- where it is run
+pub run-untold : (ins : List InWord) (header counted : Bool) (read : Result PlanForm Refusal) (says : List ℕ) → Told read says → of_river ins header counted read ≡ Ends (Refused says)
+unfolding of_river
+run-untold ins header counted read says t = rw (t.1, t.2) refl
+
+pub run-valid : (ins : List InWord) (header counted : Bool) (p q : PlanForm) → (q ≡ p) × (fault_of p ≡ None) → of_river ins header counted (checked p) ≡ of_built q ins header counted (is_built q)
+unfolding of_river
+run-valid ins header counted p q h = rw (valid-checked p q h) refl

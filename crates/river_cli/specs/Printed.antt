@@ -5,9 +5,10 @@ use Rattle.river_plan.specs.Forms.{PlanForm, labels}
 use Rattle.brooklet_model.specs.Histories.{firings}
 use Rattle.brooklet_model.specs.Meaning.{meaning}
 use Rattle.streamit_front.specs.Program.{Program}
+use Rattle.streamit_front.specs.Laws.{as_items}
 use Rattle.streamit_front.specs.Meaning.{outputs_of}
 use Rattle.streamit_front.specs.Translation.{plan_of}
-use Rattle.river_cli.specs.Inputs.{row_items, all_items}
+use Rattle.river_cli.specs.Inputs.{all_items}
 
 -- the firings of a plan's operators, where they are asked for
 abbrev pub fired : Bool → PlanForm → List (List (List ℤ)) → Option (List ℤ)
@@ -22,12 +23,8 @@ abbrev pub values : List (List (List ℤ)) → List ℤ
 values [] = []
 values (rows ∷ others) = map (λ row. slice_index_or row 0 (pos 0)) rows
 
--- values as rows of one
-abbrev pub as_rows : List ℤ → List (List ℤ)
-as_rows xs = map (λ x. x ∷ []) xs
-
 -- a StreamIt program: what it gives by its own definition; its plan is spoken of only where the firings are asked for
 abbrev pub of_program : Program → Bool → List (List (List ℤ)) → List ℕ
 of_program program counted rows =
-    output_text (codes "out") (row_items (as_rows (outputs_of program (values rows))))
+    output_text (codes "out") (as_items (outputs_of program (values rows)))
     ++ firings_text (labels (plan_of program).ops) (fired counted (plan_of program) rows)

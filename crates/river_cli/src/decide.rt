@@ -30,11 +30,7 @@ pub fn decide<S: Shelf>(alloc: Global, words: &[Text], shelf: &mut S) -> Result<
 }
 
 // What a command asks for.
-fn decide_command<S: Shelf>(
-    alloc: Global,
-    command: &Command,
-    shelf: &mut S,
-) -> Result<Bytes, Stop>
+fn decide_command<S: Shelf>(alloc: Global, command: &Command, shelf: &mut S) -> Result<Bytes, Stop>
     ensures later { S.faults shelf.old ≤ S.faults shelf.new }
     ensures decided { Decides (Some (of_command command.now)) (S.held shelf.old) (Rose (S.faults shelf.old) (S.faults shelf.new)) result }
 {

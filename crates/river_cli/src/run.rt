@@ -3,6 +3,7 @@ ghost use Rattle.std.specs.Prelude.{◌≡◌, ◌≤◌, List, ℕ, ℤ, length
 ghost use Rattle.river_outside.specs.Causes.{Rose};
 ghost use Rattle.river_order.specs.Decides.{Decides};
 ghost use Rattle.river_plan.specs.Forms.{plan_form};
+ghost use Rattle.river_plan.specs.Valid.{IsPlan};
 ghost use Rattle.streamit_front.specs.Reading.{compiled};
 ghost use Rattle.brooklet_model.specs.Typed.{IsBuilt, AreInputs};
 ghost use Rattle.river_cli.specs.River.{plan_in, checked};
@@ -140,12 +141,8 @@ fn run_plan<S: Shelf>(
 }
 
 // What a plan prints for the rows of its inputs.
-fn output(
-    alloc: Global,
-    plan: &Plan,
-    rows: &Listed<Rows>,
-    counted: bool,
-) -> Result<Bytes, NoMemory>
+fn output(alloc: Global, plan: &Plan, rows: &Listed<Rows>, counted: bool) -> Result<Bytes, NoMemory>
+    requires valid { IsPlan plan.now }
     requires built { IsBuilt plan.now }
     requires widths { HaveWidths (width_named plan.now.inputs) plan.now.inputs rows.now }
     ensures typed { AreInputs plan.now.inputs (all_items rows.now) }
@@ -157,11 +154,11 @@ fn output(
 }
 
 // The items of each input.
-fn inputs_of(alloc: Global, rows: &[Rows]) -> Result<Inputs, NoMemory>
-    ensures { IfOk result (λ inputs. inputs ≡ all_items rows.now) }
+fn inputs_of(alloc: Global, all: &[Rows]) -> Result<Inputs, NoMemory>
+    ensures { IfOk result (λ inputs. inputs ≡ all_items all.now) }
 {
     let mut inputs = Inputs::new(alloc);
-    for rows in rows {
+    for rows in all {
         inputs.push(items(alloc, rows)?)?;
     }
     Ok(inputs)

@@ -115,12 +115,7 @@ pub fn read_words(alloc: Global, words: &[Text]) -> Result<Command, WordFault>
 }
 
 // The words behind `run`.
-fn read_run(
-    alloc: Global,
-    lang: &[u8],
-    file: &[u8],
-    words: &[Text],
-) -> Result<Command, WordFault>
+fn read_run(alloc: Global, lang: &[u8], file: &[u8], words: &[Text]) -> Result<Command, WordFault>
     ensures ok { IfOk result (λ command. run_of (lang_of lang.now) file.now (given_of words.now) ≡ Some command) }
     ensures usage { IsErrOf result WordFault.Usage → run_of (lang_of lang.now) file.now (given_of words.now) ≡ None }
 {
@@ -142,12 +137,7 @@ fn read_run(
 }
 
 // The words behind `mean`.
-fn read_mean(
-    alloc: Global,
-    lang: &[u8],
-    file: &[u8],
-    words: &[Text],
-) -> Result<Command, WordFault>
+fn read_mean(alloc: Global, lang: &[u8], file: &[u8], words: &[Text]) -> Result<Command, WordFault>
     ensures ok { IfOk result (λ command. mean_of (lang_of lang.now) file.now (given_of words.now) ≡ Some command) }
     ensures usage { IsErrOf result WordFault.Usage → mean_of (lang_of lang.now) file.now (given_of words.now) ≡ None }
 {

@@ -4,6 +4,7 @@ use Rattle.river_outside.specs.Causes.{Rose}
 use Rattle.river_order.specs.Order.{Ends, Done, Comes}
 use Rattle.river_cli.specs.Points.{of_inputs}
 use Rattle.river_cli.proofs.Inputs.{known-widths, gathered-comes, names-stop, fetch-stop, read-stop}
+use Rattle.river_cli.proofs.Typed.{gathered-widths}
 use Rattle.river_cli.proofs.gather.gather.Goals as goal
 
 pub returns-in_err-check_names-clause-stops : goal.returns-in_err-check_names-clause-stops
@@ -38,3 +39,9 @@ returns-clause-comes g c print =
     let rows = rw c.as_slice-2.ensures at c.in_ok-arrange.ensures in
     subst (λ (l : List (List (List ℤ))). Comes (of_inputs c.args.decls.now c.args.ins.now c.args.header print) held (Ends (Done (print l)))) (sym rows)
     (gathered-comes c.args.decls.now c.args.ins.now c.args.header held c.in_ok-files.files c.in_ok-all.all c.in_ok-check_names.ensures.ok c.in_ok-files.ensures.comes read print)
+
+pub returns-clause-widths : goal.returns-clause-widths
+returns-clause-widths g c =
+    let read = rw c.as_slice.ensures at c.in_ok-all.ensures.ok in
+    let rows = rw c.as_slice-2.ensures at c.in_ok-arrange.ensures in
+    rw rows (gathered-widths c.args.decls.now c.args.header c.args.ins.now c.in_ok-files.files c.in_ok-all.all read)
