@@ -1,6 +1,6 @@
 // Plans of a kernel or two that are run, with the firings counted. What is expected was worked out by hand.
-use crate::fixture::run;
 use crate::texts::{CHAIN, SUMS};
+use memory_runs::run;
 use std::test::Fail;
 
 const NOTHING: &[u8] = b"";

@@ -1,5 +1,5 @@
 // The most records that a file may have, and one more.
-use crate::fixture::run;
+use memory_runs::run;
 use river_base::{Bytes, NoMemory};
 use std::alloc::Global;
 use std::test::Fail;

@@ -36,28 +36,3 @@ input y: rows(1);
 var $j;
 op j: (out, $j) <- (x, y, $j) { collect(1, 2) }
 ";
-
-/// A valid plan of batches in time.
-pub const TIMED: &[u8] = b"output out: stream(1);
-input in: stream(1);
-op s: (out) <- (in) { select(input[0] > 3) }
-";
-
-/// A valid plan whose rows become batches on the way.
-pub const WINDOW: &[u8] = b"output out: rows(1);
-output late: stream(1);
-input in: rows(1);
-input S: stream(1);
-queue q: relation(1);
-var $w;
-var $i;
-op w: (q, $w) <- (S, $w) { now }
-op i: (late, $i) <- (q, $i) { istream }
-op a: (out) <- (in) { code(1, 0) (1) () { push 0 (input[0]); } }
-";
-
-/// A valid plan with a table.
-pub const TALLY: &[u8] = b"input in: rows(1);
-table $t: sum(0);
-op t: ($t) <- (in, $t) { tally }
-";

@@ -1,6 +1,6 @@
 // What is told first of a run that has several faults. What is expected was worked out by hand.
-use crate::fixture::run;
 use crate::texts::{CHAIN, PAIR, TALLY, TIMED, TURNS, TWICE, WINDOW};
+use memory_runs::run;
 use std::test::Fail;
 
 const NOTHING: &[u8] = b"";

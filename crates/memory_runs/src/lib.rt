@@ -1,4 +1,6 @@
-// Runs of the top call over memory.
+//! Runs of the top call over files and streams in memory, for the crates of worked cases.
+#![tactic(auto)]
+
 use river_base::{Bytes, NoGate, NoMemory, Numbers, Text};
 use river_cli::river;
 use river_outside::{Files, MemShelf, MemSink};
