@@ -5,6 +5,9 @@ use std::test::Fail;
 
 const NOTHING: &[u8] = b"";
 
+// Words whose name is no input, with a file that is not there.
+const STRANGE: [&[u8]; 5] = [b"run", b"river", b"p", b"none=gone", b"-c"];
+
 // Words, the files `p`, `a` and `b`, the status, and what is told.
 type Case = (
     &'static [&'static [u8]],
@@ -15,7 +18,7 @@ type Case = (
 
 #[test]
 fn names_files_and_records(rt: HostRuntime) -> Result<(), Fail> {
-    let cases: [Case; 20] = [
+    let cases: [Case; 21] = [
         (
             &[b"run", b"streamit", b"p"],
             [TWICE, b"1\n", b""],
@@ -134,6 +137,12 @@ fn names_files_and_records(rt: HostRuntime) -> Result<(), Fail> {
             b"fault: absent gone\n",
         ),
         (
+            &[b"mean", b"river", b"p", b"none=gone"],
+            [TALLY, b"", b""],
+            1,
+            b"refused: program: Unbuilt\n",
+        ),
+        (
             &[b"run", b"river", b"p", b"x=b", b"y=b"],
             [TURNS, b"", b"2,3\n"],
             1,
@@ -180,8 +189,7 @@ fn programs(rt: HostRuntime) -> Result<(), Fail> {
         (TWICE, b"refused: program: Syntax 1\n"),
     ];
     for (plan, text) in cases {
-        let words: [&[u8]; 5] = [b"run", b"river", b"p", b"none=gone", b"-c"];
-        let ran = run(&rt, rt.alloc(), &words, [plan, b"", b""])?;
+        let ran = run(&rt, rt.alloc(), &STRANGE, [plan, b"", b""])?;
         assert_eq!(rt; ran.told(), text);
         assert_eq!(rt; ran.untold(), NOTHING);
         assert_eq!(rt; ran.status, 1);

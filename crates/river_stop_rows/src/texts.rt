@@ -34,7 +34,7 @@ input in: stream(1);
 op s: (out) <- (in) { select(input[0] > 3) }
 ";
 
-/// A valid plan whose rows become batches on the way.
+/// A valid plan with an input of rows and one of batches, and a relation between two operators.
 pub const WINDOW: &[u8] = b"output out: rows(1);
 output late: stream(1);
 input in: rows(1);
