@@ -105,7 +105,7 @@ fn words_that_are_no_sentence(rt: HostRuntime) -> Result<(), Fail> {
         &[b"run", b"streamit", b"twice.str", b"-c", b"-c", b"in=n.csv"],
         &[b"run", b"streamit", b"twice.str", b"in=n.csv", b"-w", b"2"],
         &[b"run", b"streamit", b"twice.str", b"in=n.csv", b"-x=n.csv"],
-        &[b"run", b"river", b"twice.str", b"in=n.csv"],
+        &[b"run", b"cql", b"twice.str", b"in=n.csv"],
         &[b"run", b"streamit", b"", b"in=n.csv"],
         &[b"run", b"streamit", b"-x", b"in=n.csv"],
         &[b"run", b"streamit", b"-", b"in=n.csv"],

@@ -8,6 +8,121 @@ const NOTHING: &[u8] = b"";
 
 const TOO_MANY: &[u8] = b"refused: input in: I5\n";
 
+#[test]
+fn options_and_names(rt: HostRuntime) -> Result<(), Fail> {
+    // The words, the input, the status, and what is written.
+    let cases: [(&[&[u8]], &[u8], u8, &[u8]); 16] = [
+        (
+            &[b"run", b"streamit", b"twice.str", b"in=n.csv", b"-H"],
+            b"a\n1\n2\n",
+            0,
+            b"# out\n2\n4\n",
+        ),
+        (
+            &[b"run", b"streamit", b"twice.str", b"-H", b"in=n.csv"],
+            b"a,b,c\n5\n",
+            0,
+            b"# out\n10\n",
+        ),
+        (
+            &[b"run", b"streamit", b"twice.str", b"in=n.csv", b"-H"],
+            b"",
+            0,
+            b"# out\n",
+        ),
+        (
+            &[b"run", b"streamit", b"twice.str", b"in=n.csv", b"-H"],
+            b"1\nx\n",
+            1,
+            b"refused: input in: I2 2 1\n",
+        ),
+        (
+            &[b"run", b"streamit", b"twice.str", b"in=n.csv", b"-H"],
+            b"1\n2\n3,4\n",
+            1,
+            b"refused: input in: I1 3\n",
+        ),
+        (
+            &[b"run", b"streamit", b"twice.str", b"-c", b"in=n.csv"],
+            b"1\n2\n",
+            0,
+            b"# out\n2\n4\n## firings\nTwice@1,2\n",
+        ),
+        (
+            &[b"run", b"streamit", b"twice.str", b"-c", b"in=n.csv", b"-H"],
+            b"1\n2\n",
+            0,
+            b"# out\n4\n## firings\nTwice@1,1\n",
+        ),
+        (
+            &[b"run", b"streamit", b"twice.str", b"in=n.csv", b"-c"],
+            b"",
+            0,
+            b"# out\n## firings\nTwice@1,0\n",
+        ),
+        (
+            &[b"run", b"streamit", b"twice.str"],
+            b"1\n",
+            1,
+            b"refused: input in: Missing\n",
+        ),
+        (
+            &[b"run", b"streamit", b"twice.str", b"-c", b"-H"],
+            b"1\n",
+            1,
+            b"refused: input in: Missing\n",
+        ),
+        (
+            &[b"run", b"streamit", b"twice.str", b"x=n.csv"],
+            b"1\n",
+            1,
+            b"refused: input x: Unknown\n",
+        ),
+        (
+            &[b"run", b"streamit", b"twice.str", b"in=n.csv", b"x=n.csv"],
+            b"1\n",
+            1,
+            b"refused: input x: Unknown\n",
+        ),
+        (
+            &[b"run", b"streamit", b"twice.str", b"1x=none", b"in=none"],
+            b"1\n",
+            1,
+            b"refused: input 1x: Unknown\n",
+        ),
+        (
+            &[b"run", b"streamit", b"twice.str", b"In=n.csv"],
+            b"x\n",
+            1,
+            b"refused: input In: Unknown\n",
+        ),
+        (
+            &[b"run", b"streamit", b"twice.str", b"in=none"],
+            b"x\n",
+            3,
+            b"fault: absent none\n",
+        ),
+        (
+            &[b"run", b"streamit", b"twice.str", b"in==n.csv"],
+            b"x\n",
+            3,
+            b"fault: absent =n.csv\n",
+        ),
+    ];
+    for (words, input, status, text) in cases {
+        let ran = run_plain(&rt, rt.alloc(), words, TWICE, input)?;
+        assert_eq!(rt; ran.status, status);
+        if status == 0 {
+            assert_eq!(rt; ran.out.taken(), text);
+            assert_eq!(rt; ran.err.taken(), NOTHING);
+        } else {
+            assert_eq!(rt; ran.out.taken(), NOTHING);
+            assert_eq!(rt; ran.err.taken(), text);
+        }
+    }
+    Ok(())
+}
+
 // So many records of the number 3.
 fn records(alloc: Global, count: u32) -> Result<Bytes, NoMemory> {
     let mut bytes = Bytes::new(alloc);
