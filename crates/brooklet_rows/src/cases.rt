@@ -1,0 +1,129 @@
+// What no clause says: that plans mean what was meant, and that the calls succeed. What is expected was worked out by hand.
+use crate::driver::{driven, inputs_of, machine_of, plan_of, ran, stepped};
+use crate::plans::{
+    CHAIN, FIVE, FOUR, JOIN, JOIN_TEXT, NESTED, PACKS, PACKS_TEXT, SEVEN, SPLITS, SPLITS_TEXT,
+    SUMS, SUMS_TEXT, TWO,
+};
+use brooklet_step::{Inputs, fits};
+use river_base::{Flat, Item, Items, Row};
+use std::test::Fail;
+
+#[test]
+fn runs_in_the_order_of_operators(rt: HostRuntime) -> Result<(), Fail> {
+    let cases: [(&[u8], &[&[u8]], &[u8]); 6] = [
+        (CHAIN, FOUR, b"# out\n-3\n10\n## firings\na,2\nb,2\n"),
+        (CHAIN, &[b""], b"# out\n## firings\na,0\nb,0\n"),
+        (SUMS, FOUR, SUMS_TEXT),
+        (
+            NESTED,
+            &[b"5\n7\n"],
+            b"# out\n5\n10\n21\n28\n# left\n5\n7\n## firings\nall,2\n",
+        ),
+        (SPLITS, SEVEN, SPLITS_TEXT),
+        (PACKS, TWO, PACKS_TEXT),
+    ];
+    for (plan, files, wanted) in cases {
+        let text = ran(rt.alloc(), plan, files)?;
+        assert_eq!(rt; text.as_slice(), wanted);
+    }
+    Ok(())
+}
+
+#[test]
+fn runs_by_hand(rt: HostRuntime) -> Result<(), Fail> {
+    let cases: [(&[u8], &[&[u8]], &[(u32, u32)], &[u8]); 7] = [
+        (SUMS, FOUR, &[(0, 0), (0, 0), (1, 0), (1, 0)], SUMS_TEXT),
+        (SUMS, FOUR, &[(0, 0), (1, 0), (0, 0), (1, 0)], SUMS_TEXT),
+        // Steps that are not enabled are passed over.
+        (
+            SUMS,
+            FOUR,
+            &[
+                (1, 0),
+                (0, 0),
+                (7, 0),
+                (0, 1),
+                (0, 0),
+                (0, 0),
+                (1, 0),
+                (1, 0),
+            ],
+            SUMS_TEXT,
+        ),
+        (
+            JOIN,
+            FIVE,
+            &[(0, 0), (0, 0), (0, 1), (0, 1), (0, 1)],
+            JOIN_TEXT,
+        ),
+        (
+            JOIN,
+            FIVE,
+            &[(0, 1), (0, 1), (0, 1), (0, 0), (0, 0)],
+            JOIN_TEXT,
+        ),
+        (
+            JOIN,
+            FIVE,
+            &[(0, 1), (0, 0), (0, 0), (0, 1), (0, 1)],
+            JOIN_TEXT,
+        ),
+        // The items of the second port wait for one of the first.
+        (
+            JOIN,
+            FIVE,
+            &[(0, 1), (0, 1)],
+            b"# out\n## firings\njoin,2\n",
+        ),
+    ];
+    for (plan, files, steps, wanted) in cases {
+        let text = stepped(rt.alloc(), plan, files, steps)?;
+        assert_eq!(rt; text.as_slice(), wanted);
+    }
+    Ok(())
+}
+
+#[test]
+fn operators_without_an_item(rt: HostRuntime) -> Result<(), Fail> {
+    let plan = plan_of(rt.alloc(), SUMS)?;
+    let machine = machine_of(rt.alloc(), &plan, &[b"4\n"])?;
+    // An operator with an item; one without; one that is not there; a port that is not there.
+    let cases = [(0, 0, true), (1, 0, false), (2, 0, false), (0, 1, false)];
+    for (op, port, wanted) in cases {
+        assert_eq!(rt; machine.enabled(op, port), wanted);
+    }
+    Ok(())
+}
+
+#[test]
+fn runs_in_any_order(rt: HostRuntime) -> Result<(), Fail> {
+    let cases: [(&[u8], &[&[u8]]); 2] = [(SPLITS, SEVEN), (PACKS, TWO)];
+    for (plan, files) in cases {
+        let wanted = ran(rt.alloc(), plan, files)?;
+        for seed in [1, 2, 3, 77, 123456789] {
+            let text = driven(rt.alloc(), plan, files, seed)?;
+            assert_eq!(rt; text.as_slice(), wanted.as_slice());
+        }
+    }
+    Ok(())
+}
+
+#[test]
+fn inputs_that_do_not_fit(rt: HostRuntime) -> Result<(), Fail> {
+    let plan = plan_of(rt.alloc(), CHAIN)?;
+    let cases: [(&[&[u8]], bool); 3] = [
+        (&[b"1\n"], true),
+        (&[], false),
+        (&[b"1\n", b"2\n"], false),
+    ];
+    for (files, wanted) in cases {
+        let inputs = inputs_of(rt.alloc(), files)?;
+        assert_eq!(rt; fits(&plan, &inputs), wanted);
+    }
+    let mut wide = Items::new(rt.alloc());
+    wide.push(Item::Flat(Flat::One(Row::from_slice(&[1, 2]))))?;
+    let mut inputs = Inputs::new(rt.alloc());
+    inputs.push(wide)?;
+    assert!(rt; !fits(&plan, &inputs));
+    Ok(())
+}
