@@ -10,14 +10,24 @@ use std::thread::Threads;
 /// What a run ended with, and what it wrote.
 #[derive(Drop)]
 pub struct Ran {
-    pub status: u8,
+    status: u8,
     out: MemSink,
     err: MemSink,
 }
 
 impl Ran {
-    /// What was written where the status has it: the output of a run that is done, or what is told of another one.
-    pub fn told(&self) -> &[u8] {
+    /// Whether it ended with this status, told just this, and wrote nothing else.
+    pub fn tells(&self, status: u8, text: &[u8]) -> bool {
+        self.status == status && self.told() == text && self.untold().is_empty()
+    }
+
+    /// Whether it is done, the end of its output is this, and nothing else was written.
+    pub fn ends(&self, text: &[u8]) -> bool {
+        self.status == 0 && self.told().ends_with(text) && self.untold().is_empty()
+    }
+
+    // What was written where the status has it: the output of a run that is done, or what is told of another one.
+    fn told(&self) -> &[u8] {
         if self.status == 0 {
             self.out.taken()
         } else {
@@ -25,14 +35,36 @@ impl Ran {
         }
     }
 
-    /// What was written on the other side.
-    pub fn untold(&self) -> &[u8] {
+    // What was written on the other side.
+    fn untold(&self) -> &[u8] {
         if self.status == 0 {
             self.err.taken()
         } else {
             self.out.taken()
         }
     }
+}
+
+/// A run and what it gives: the words, the files `p`, `a` and `b`, the status, and what is told.
+pub type Case = (
+    &'static [&'static [u8]],
+    [&'static [u8]; 3],
+    u8,
+    &'static [u8],
+);
+
+/// The place of the first run that gives something else.
+pub fn first_wrong(
+    rt: &impl Threads,
+    alloc: Global,
+    cases: &[Case],
+) -> Result<Option<usize>, NoMemory> {
+    for (place, (words, files, status, text)) in cases.iter().enumerate() {
+        if !run(rt, alloc, words, *files)?.tells(*status, text) {
+            return Ok(Some(place));
+        }
+    }
+    Ok(None)
 }
 
 /// Runs the words over a shelf with four files: these three as `p`, `a` and `b`, and one record in the file `=f`.

@@ -4,8 +4,6 @@ use river_base::{Bytes, NoMemory};
 use std::alloc::Global;
 use std::test::Fail;
 
-const NOTHING: &[u8] = b"";
-
 /// The sum of all numbers so far.
 const SUM: &[u8] = b"output out: rows(1);
 input in: rows(1);
@@ -32,9 +30,7 @@ fn the_most_records(rt: HostRuntime) -> Result<(), Fail> {
     let words: [&[u8]; 5] = [b"run", b"river", b"p", b"-c", b"in=a"];
     let input = records(rt.alloc(), 100_000)?;
     let ran = run(&rt, rt.alloc(), &words, [SUM, input.as_slice(), b""])?;
-    assert!(rt; ran.told().ends_with(LAST));
-    assert_eq!(rt; ran.untold(), NOTHING);
-    assert_eq!(rt; ran.status, 0);
+    assert!(rt; ran.ends(LAST));
     Ok(())
 }
 
@@ -43,8 +39,6 @@ fn one_record_more(rt: HostRuntime) -> Result<(), Fail> {
     let words: [&[u8]; 4] = [b"run", b"river", b"p", b"in=a"];
     let input = records(rt.alloc(), 100_001)?;
     let ran = run(&rt, rt.alloc(), &words, [SUM, input.as_slice(), b""])?;
-    assert_eq!(rt; ran.told(), TOO_MANY);
-    assert_eq!(rt; ran.untold(), NOTHING);
-    assert_eq!(rt; ran.status, 1);
+    assert!(rt; ran.tells(1, TOO_MANY));
     Ok(())
 }

@@ -1,40 +1,56 @@
 // Words that are no sentence.
 use crate::texts::CHAIN;
-use memory_runs::run;
+use memory_runs::{Case, first_wrong};
 use std::test::Fail;
-
-const NOTHING: &[u8] = b"";
 
 const USAGE: &[u8] = b"usage: river run|plan|mean|load\n";
 
+const FILES: [&[u8]; 3] = [CHAIN, b"1\n", b"2\n"];
+
+const CASES: [Case; 19] = [
+    (&[b"run", b"river"], FILES, 2, USAGE),
+    (&[b"run", b"river", b"", b"in=a"], FILES, 2, USAGE),
+    (&[b"run", b"river", b"-p", b"in=a"], FILES, 2, USAGE),
+    (&[b"run", b"river", b"in=a", b"p"], FILES, 2, USAGE),
+    (&[b"run", b"River", b"p", b"in=a"], FILES, 2, USAGE),
+    (&[b"run", b"river", b"p", b"in="], FILES, 2, USAGE),
+    (&[b"run", b"river", b"p", b"=a"], FILES, 2, USAGE),
+    (&[b"run", b"river", b"p", b"="], FILES, 2, USAGE),
+    (&[b"run", b"river", b"p", b"in"], FILES, 2, USAGE),
+    (&[b"run", b"river", b"p", b""], FILES, 2, USAGE),
+    (&[b"run", b"river", b"p", b"in=a", b"in=a"], FILES, 2, USAGE),
+    (
+        &[b"run", b"river", b"p", b"in=a", b"y=b", b"in=b"],
+        FILES,
+        2,
+        USAGE,
+    ),
+    (
+        &[b"run", b"river", b"p", b"-H", b"in=a", b"-H"],
+        FILES,
+        2,
+        USAGE,
+    ),
+    (
+        &[b"run", b"river", b"p", b"-c", b"in=a", b"-c"],
+        FILES,
+        2,
+        USAGE,
+    ),
+    (&[b"run", b"river", b"p", b"in=a", b"-Hc"], FILES, 2, USAGE),
+    (&[b"mean", b"river"], FILES, 2, USAGE),
+    (&[b"mean", b"river", b"p", b"in=a", b"-c"], FILES, 2, USAGE),
+    (
+        &[b"mean", b"river", b"p", b"in=a", b"-H", b"-H"],
+        FILES,
+        2,
+        USAGE,
+    ),
+    (&[b"mean", b"streamit", b"p", b"in=a"], FILES, 2, USAGE),
+];
+
 #[test]
 fn words_that_are_no_sentence(rt: HostRuntime) -> Result<(), Fail> {
-    let cases: [&[&[u8]]; 19] = [
-        &[b"run", b"river"],
-        &[b"run", b"river", b"", b"in=a"],
-        &[b"run", b"river", b"-p", b"in=a"],
-        &[b"run", b"river", b"in=a", b"p"],
-        &[b"run", b"River", b"p", b"in=a"],
-        &[b"run", b"river", b"p", b"in="],
-        &[b"run", b"river", b"p", b"=a"],
-        &[b"run", b"river", b"p", b"="],
-        &[b"run", b"river", b"p", b"in"],
-        &[b"run", b"river", b"p", b""],
-        &[b"run", b"river", b"p", b"in=a", b"in=a"],
-        &[b"run", b"river", b"p", b"in=a", b"y=b", b"in=b"],
-        &[b"run", b"river", b"p", b"-H", b"in=a", b"-H"],
-        &[b"run", b"river", b"p", b"-c", b"in=a", b"-c"],
-        &[b"run", b"river", b"p", b"in=a", b"-Hc"],
-        &[b"mean", b"river"],
-        &[b"mean", b"river", b"p", b"in=a", b"-c"],
-        &[b"mean", b"river", b"p", b"in=a", b"-H", b"-H"],
-        &[b"mean", b"streamit", b"p", b"in=a"],
-    ];
-    for words in cases {
-        let ran = run(&rt, rt.alloc(), words, [CHAIN, b"1\n", b""])?;
-        assert_eq!(rt; ran.told(), USAGE);
-        assert_eq!(rt; ran.untold(), NOTHING);
-        assert_eq!(rt; ran.status, 2);
-    }
+    assert_eq!(rt; first_wrong(&rt, rt.alloc(), &CASES)?, None);
     Ok(())
 }
