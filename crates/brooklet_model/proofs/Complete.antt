@@ -18,6 +18,7 @@ use Rattle.brooklet_model.specs.Fire.{fire, ins, first_kept}
 use Rattle.brooklet_model.specs.Histories.{History, lists_of, given, histories, joined, tables_of, adds, inputs_of, lengths, Lists, Solves}
 use Rattle.brooklet_model.specs.Laws.{given_to, RunsAgree}
 use Rattle.brooklet_model.specs.Machine.{Machine, at_key, fired, Run, IsComplete, first_of, times}
+use Rattle.brooklet_model.specs.Traced.{numbered, ran, Traced}
 use Rattle.brooklet_model.specs.Words.{Word, run, at_port, PortsBelow, SameBag, Alike}
 use Rattle.brooklet_model.proofs.Free.{order_is_free, at_port-append, below-append}
 use Rattle.brooklet_model.proofs.Lists.{if_true, if_false, if_eq, if_ne, funext}
@@ -25,10 +26,8 @@ use Rattle.brooklet_model.proofs.Ports.{counts, shaped, got_below}
 use Rattle.brooklet_model.proofs.Shapes.{first_shape}
 use Rattle.brooklet_model.proofs.Solutions.{count_here, written_out, plan_unique}
 use Rattle.brooklet_model.proofs.Swaps.{count_by-append, at_port_here, at_port_past}
-use Rattle.brooklet_model.proofs.Traces.{some_is, at_most, one_place, got_count, place_once, each_at, each_of, got_read, read_of, joined_out, lists_more, joined-append, joined_none, joined_bag, joined_cong, lists_cong, lists_agree, at_key_same, at_key_other, run_more, at_same, take_next, numbered, numbered_same, numbered_more, numbered_total, adds_it, adds_total, word_lengths}
+use Rattle.brooklet_model.proofs.Traces.{some_is, at_most, one_place, got_count, place_once, each_at, each_of, got_read, read_of, joined_out, lists_more, joined-append, joined_none, joined_bag, joined_cong, lists_cong, lists_agree, at_key_same, at_key_other, run_more, at_same, take_next, numbered_same, numbered_more, numbered_total, adds_it, adds_total, word_lengths}
 
-abbrev ran : OpForm → Word → Fired
-ran op w = run (fire op.kernel) w (first_kept op.kernel)
 
 -- one more firing of the operator that fired, and of no other
 one_more : (k o : ℕ) (e : ℕ × item.Item) (ws : ℕ → Word) → length (at_key k (ws k ++ e ∷ []) ws o) ≡ length (ws o) + (if nat_eq k o then 1 else 0)
@@ -45,21 +44,12 @@ one_more k o e ws = ⊎_elim
     omega (arith, a, d))
     (cases_eq k o)
 
--- what is known of a machine after these firings of each operator
-record Traced (tables : List Name) (ops : List OpForm) (inputs : History) (s : Machine) (ws : ℕ → Word) : Type 0 where
-  kept : (o : ℕ) (op : OpForm) → slice_get ops o ≡ Some op → s.kept o ≡ (ran op (ws o)).states
-  written_by : (o : ℕ) (op : OpForm) → slice_get ops o ≡ Some op → Lists op.writes (ran op (ws o)).outs s.hist
-  unwritten : (q : Name) → total (writes_it q) ops ≡ 0 → s.hist q ≡ inputs q
-  below : (o : ℕ) (op : OpForm) → slice_get ops o ≡ Some op → PortsBelow (length op.reads) (ws o)
-  taken : (o : ℕ) (op : OpForm) → slice_get ops o ≡ Some op → (p : ℕ) (q : Name) → slice_get op.reads p ≡ Some q → (at_port p (ws o) ≡ take (s.taken q) (s.hist q)) × (s.taken q ≤ length (s.hist q))
-  rows : (t : Name) (test : List ℤ → Bool) → count_by test (s.rows t) ≡ numbered (λ o op. count_by test (joined (tables_of tables op) (ran op (ws o)).adds t)) 0 ops
-
 lists_none : (ws : List Name) (h : History) → ((q : Name) → 0 < count q ws → h q ≡ []) → Lists ws none h
 lists_none [] h e = tt
 lists_none (w ∷ ws) h e = (e w (count_here w ws), lists_none ws h (λ q lt. e q (omega (arith, lt))))
 
 -- the machine before the first firing, with these inputs
-abbrev started : PlanForm → History → Machine
+abbrev pub started : PlanForm → History → Machine
 started p h = record { hist = h; taken = λ q. 0; kept = λ o. first_of (slice_get p.ops o); rows = λ t. [] }
 
 module _ (pl : PlanForm) (inputs : History) (v : IsPlan pl) (empty : (q : Name) → count q (decl_names pl.inputs) ≡ 0 → inputs q ≡ []) where
@@ -72,7 +62,7 @@ module _ (pl : PlanForm) (inputs : History) (v : IsPlan pl) (empty : (q : Name) 
   abbrev tabs : OpForm → List Name
   tabs op = tables_of tables op
 
-  traced_start : Traced tables ops inputs (started pl inputs) (λ o. [])
+  pub traced_start : Traced tables ops inputs (started pl inputs) (λ o. [])
   traced_start = record {
     kept = λ o op g. ap first_of g;
     written_by = λ o op g. lists_none op.writes inputs (λ q lt. empty q (let m = at_most (writes_it q) ops o op g in let w = v.written_once q in omega (arith, m, w, lt)));
@@ -90,7 +80,7 @@ module _ (pl : PlanForm) (inputs : History) (v : IsPlan pl) (empty : (q : Name) 
       zeros [] = refl
       zeros (x ∷ xs) = let e = zeros xs in omega (arith, e)
 
-  traced_fired : (s : Machine) (ws : ℕ → Word) (o p : ℕ) (op : OpForm) (q : Name) (x : item.Item) → Traced tables ops inputs s ws → slice_get ops o ≡ Some op → slice_get op.reads p ≡ Some q → slice_get (s.hist q) (s.taken q) ≡ Some x → Traced tables ops inputs (fired tables o op p q x s) (at_key o (ws o ++ (p, x) ∷ []) ws)
+  pub traced_fired : (s : Machine) (ws : ℕ → Word) (o p : ℕ) (op : OpForm) (q : Name) (x : item.Item) → Traced tables ops inputs s ws → slice_get ops o ≡ Some op → slice_get op.reads p ≡ Some q → slice_get (s.hist q) (s.taken q) ≡ Some x → Traced tables ops inputs (fired tables o op p q x s) (at_key o (ws o ++ (p, x) ∷ []) ws)
   traced_fired s ws o p op q x t g pq is = record {
     kept = λ o' op' g'. ⊎_elim
         (λ e. at_same ops (λ i j. at_key o r.states s.kept i ≡ (ran j (ws' i)).states) o o' op op' g g' e
@@ -207,7 +197,7 @@ module _ (pl : PlanForm) (inputs : History) (v : IsPlan pl) (empty : (q : Name) 
           )
 
   -- the firings of each operator, as many more as it stands in the run
-  traced_run : (es : List (ℕ × ℕ)) (s s' : Machine) (ws : ℕ → Word) → Traced tables ops inputs s ws → Run pl s es s' → (ws' : ℕ → Word) × Traced tables ops inputs s' ws' × ((o : ℕ) → length (ws' o) ≡ length (ws o) + times o es)
+  pub traced_run : (es : List (ℕ × ℕ)) (s s' : Machine) (ws : ℕ → Word) → Traced tables ops inputs s ws → Run pl s es s' → (ws' : ℕ → Word) × Traced tables ops inputs s' ws' × ((o : ℕ) → length (ws' o) ≡ length (ws o) + times o es)
   traced_run [] s s' ws t r = (ws, subst (λ m. Traced tables ops inputs m ws) (sym r) t, λ o. omega arith)
   traced_run (e ∷ es) s s' ws t r =
       let st = r.1 in
@@ -270,7 +260,7 @@ module _ (pl : PlanForm) (inputs : History) (v : IsPlan pl) (empty : (q : Name) 
       )
 
 -- a name that is no input has nothing at the start
-nothing_given : (names : List Name) (f : ℕ → List item.Item) (q : Name) → count q names ≡ 0 → inputs_of names f q ≡ []
+pub nothing_given : (names : List Name) (f : ℕ → List item.Item) (q : Name) → count q names ≡ 0 → inputs_of names f q ≡ []
 nothing_given names f q z = written_out names f (λ n. []) q z
 
 pub runs_law : RunsAgree

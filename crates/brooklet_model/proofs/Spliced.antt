@@ -31,16 +31,16 @@ splice_next at n f g p = ⊎_elim
     (cases_lt (p - at) n))
     (cases_lt p at)
 
-got_append : {A : Type 0} (xs ys : List A) (j : ℕ) → j < length xs → slice_get (xs ++ ys) j ≡ slice_get xs j
+pub got_append : {A : Type 0} (xs ys : List A) (j : ℕ) → j < length xs → slice_get (xs ++ ys) j ≡ slice_get xs j
 got_append [] ys j lt = absurd (omega arith)
 got_append (x ∷ xs) ys zero lt = refl
 got_append (x ∷ xs) ys (suc j) lt = got_append xs ys j (omega (arith, lt))
 
-got_past : {A : Type 0} (xs ys : List A) (j : ℕ) → slice_get (xs ++ ys) (length xs + j) ≡ slice_get ys j
+pub got_past : {A : Type 0} (xs ys : List A) (j : ℕ) → slice_get (xs ++ ys) (length xs + j) ≡ slice_get ys j
 got_past [] ys j = let e : 0 + j ≡ j = omega arith in ap (slice_get ys) e
 got_past (x ∷ xs) ys j = let e : length (x ∷ xs) + j ≡ suc (length xs + j) = omega arith in ap (slice_get (x ∷ (xs ++ ys))) e ∙ got_past xs ys j
 
-spliced_next : {A : Type 0} (at : ℕ) (m : A) (ms bs : List A) → spliced (suc at) (m ∷ ms) bs ≡ m ∷ spliced at ms bs
+pub spliced_next : {A : Type 0} (at : ℕ) (m : A) (ms bs : List A) → spliced (suc at) (m ∷ ms) bs ≡ m ∷ spliced at ms bs
 spliced_next at m ms bs = let e : suc at + 1 ≡ suc (at + 1) = omega arith in ap (λ n. m ∷ (take at ms ++ (bs ++ drop n (m ∷ ms)))) e
 
 next_of : (m : QueueType) (ms bs : List QueueType) (at : ℕ) (f g : ℕ → List item.Item) → All (IsOf (m ∷ ms) 0) (f 0) → AreOf (spliced at ms bs) (splice at (length bs) (λ i. f (suc i)) g) → AreOf (m ∷ spliced at ms bs) (splice (suc at) (length bs) f g)

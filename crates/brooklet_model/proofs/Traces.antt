@@ -14,6 +14,7 @@ use Rattle.river_plan.proofs.NameLemmas.{cases_name, one_same}
 use Rattle.brooklet_model.specs.Firings.{Kept, Fired, and_then, Same}
 use Rattle.brooklet_model.specs.Histories.{History, lists_of, given, joined, tables_of, adds, lengths, Lists}
 use Rattle.brooklet_model.specs.Machine.{at_key}
+use Rattle.brooklet_model.specs.Traced.{numbered}
 use Rattle.brooklet_model.specs.Words.{Word, run, at_port, PortsBelow, SameBag}
 use Rattle.brooklet_model.proofs.Lists.{if_true, if_false, if_eq, if_ne}
 use Rattle.brooklet_model.proofs.Ports.{got_below}
@@ -170,11 +171,6 @@ take_next xs more n x h =
     let lt = got_below xs n x h in
     let x_is : get_or xs n x ≡ x = let g : Some (get_or xs n x) ≡ Some x = sym (slice_get-get_or xs n x lt) ∙ h in cc in
     take-append-le (n + 1) xs more (omega (arith, lt)) ∙ take_more xs n x lt ∙ ap (λ y. take n xs ++ y ∷ []) x_is
-
--- sums over the operators with their numbers
-abbrev pub numbered : (ℕ → OpForm → ℕ) → ℕ → List OpForm → ℕ
-numbered f j [] = 0
-numbered f j (op ∷ ops) = f j op + numbered f (suc j) ops
 
 pub numbered_same : (f f' : ℕ → OpForm → ℕ) (ops : List OpForm) (j : ℕ) → ((i : ℕ) (op : OpForm) → slice_get ops i ≡ Some op → f (j + i) op ≡ f' (j + i) op) → numbered f j ops ≡ numbered f' j ops
 numbered_same f f' [] j h = refl

@@ -94,11 +94,11 @@ module _ (p : PlanForm) (v : IsPlan p) (b : IsBuilt p) where
       r.0
 
 -- all items of a word are of the types of their ports
-abbrev AreAt : List QueueType → Word → Type 0
+abbrev pub AreAt : List QueueType → Word → Type 0
 AreAt is [] = Unit {0}
 AreAt is (e ∷ es) = IsOf is e.0 e.1 × AreAt is es
 
-at_append : (is : List QueueType) (u w : Word) → AreAt is u → AreAt is w → AreAt is (u ++ w)
+pub at_append : (is : List QueueType) (u w : Word) → AreAt is u → AreAt is w → AreAt is (u ++ w)
 at_append is [] w a b = b
 at_append is (e ∷ es) w a b = (a.0, at_append is es w a.1 b)
 
@@ -137,7 +137,7 @@ writes_of kind (w ∷ ws) f h t l q lt = ⊎_elim
     (λ c. writes_of kind ws (λ j. f (suc j)) h (λ j. t (suc j)) l.1 q (let e = ap one_if c.1 in omega (arith, lt, e)))
     (cases_name w q)
 
-joined_of : (kind : Name → QueueType) (ws : List Name) (f : ℕ → List item.Item) → AreOf (map kind ws) f → (q : Name) → All (HasType (kind q)) (joined ws f q)
+pub joined_of : (kind : Name → QueueType) (ws : List Name) (f : ℕ → List item.Item) → AreOf (map kind ws) f → (q : Name) → All (HasType (kind q)) (joined ws f q)
 joined_of kind [] f t q = All-nil (HasType (kind q))
 joined_of kind (w ∷ ws) f t q = All-append (HasType (kind q)) (if name_eq w q then f 0 else []) (joined ws (λ j. f (suc j)) q) (⊎_elim
     (λ c. subst (All (HasType (kind q))) (sym (if_true (name_eq w q) (f 0) [] c.1)) (subst (λ n. All (HasType (kind n)) (f 0)) c.0 (t 0)))

@@ -224,7 +224,7 @@ join_of give ws is os t p x (s ∷ u ∷ us) f e i h a = absurd h
 
 -- PACKS
 
-flats_of : (t : FlatType) (xs : List item.Item) → All (HasType (FlatOf t)) xs → All (HasFlatType t) (flats xs)
+pub flats_of : (t : FlatType) (xs : List item.Item) → All (HasType (FlatOf t)) xs → All (HasFlatType t) (flats xs)
 flats_of t [] h = All-nil (HasFlatType t)
 flats_of t (Flat f ∷ xs) h = All-cons (HasFlatType t) f (flats xs) (All-head (HasType (FlatOf t)) (Flat f) xs h) (flats_of t xs (All-tail (HasType (FlatOf t)) (Flat f) xs h))
 flats_of t (Pack fs ∷ xs) h = flats_of t xs (All-tail (HasType (FlatOf t)) (Pack fs) xs h)

@@ -5,5 +5,6 @@ pub mod Laws
 pub mod Machine
 pub mod Meaning
 pub mod Shapes
+pub mod Traced
 pub mod Typed
 pub mod Words

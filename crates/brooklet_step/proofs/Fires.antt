@@ -33,7 +33,7 @@ use Rattle.brooklet_step.proofs.Standing.{stands_shape}
 
 -- PACKS OF WHAT ITEMS ARE
 
-flats-append : (xs ys : List item.Item) → flats (xs ++ ys) ≡ flats xs ++ flats ys
+pub flats-append : (xs ys : List item.Item) → flats (xs ++ ys) ≡ flats xs ++ flats ys
 flats-append [] ys = refl
 flats-append (Flat f ∷ xs) ys = ap (λ t. f ∷ t) (flats-append xs ys)
 flats-append (Pack fs ∷ xs) ys = flats-append xs ys

@@ -21,7 +21,7 @@ use Rattle.brooklet_step.specs.Stands.{StandsFor, Fires, Takes, TakesAll, Applie
 use Rattle.brooklet_step.proofs.Standing.{stands_shape, stands_length, parts_stand}
 use Rattle.brooklet_step.proofs.Fires.{blank_room, took_room, grown_list, room_after}
 
-splice_cong : {A : Type 0} (at n m : ℕ) (f f' g g' : ℕ → A) (p : ℕ) → at < m → p + 1 < m + n → ((q : ℕ) → q < m → f q ≡ f' q) → ((q : ℕ) → q < n → g q ≡ g' q) → splice at n f g p ≡ splice at n f' g' p
+pub splice_cong : {A : Type 0} (at n m : ℕ) (f f' g g' : ℕ → A) (p : ℕ) → at < m → p + 1 < m + n → ((q : ℕ) → q < m → f q ≡ f' q) → ((q : ℕ) → q < n → g q ≡ g' q) → splice at n f g p ≡ splice at n f' g' p
 splice_cong at n m f f' g g' p hat hp hf hg = ⊎_elim
     (λ lt. if_lt p at (f p) _ lt ∙ hf p (omega arith) ∙ sym (if_lt p at (f' p) _ lt))
     (λ ge. if_ge p at (f p) _ ge ∙ ⊎_elim
@@ -31,7 +31,7 @@ splice_cong at n m f f' g g' p hat hp hf hg = ⊎_elim
     ∙ sym (if_ge p at (f' p) _ ge))
     (cases_lt p at)
 
-beside_cong : {A : Type 0} (n m : ℕ) (f f' g g' : ℕ → A) (p : ℕ) → p < m + n → ((q : ℕ) → q < m → f q ≡ f' q) → ((q : ℕ) → q < n → g q ≡ g' q) → beside m f g p ≡ beside m f' g' p
+pub beside_cong : {A : Type 0} (n m : ℕ) (f f' g g' : ℕ → A) (p : ℕ) → p < m + n → ((q : ℕ) → q < m → f q ≡ f' q) → ((q : ℕ) → q < n → g q ≡ g' q) → beside m f g p ≡ beside m f' g' p
 beside_cong n m f f' g g' p hp hf hg = ⊎_elim
     (λ lt. if_lt p m (f p) _ lt ∙ hf p lt ∙ sym (if_lt p m (f' p) _ lt))
     (λ ge. if_ge p m _ (g (p - m)) ge ∙ hg (p - m) (omega arith) ∙ sym (if_ge p m _ (g' (p - m)) ge))

@@ -3,6 +3,10 @@ pub mod FitLemmas
 pub mod FitsLemmas
 pub mod Formed
 pub mod Fused
+pub mod GivenCode
+pub mod GivenFires
+pub mod GivenLemmas
+pub mod GivenParts
 pub mod Leaves
 pub mod NextLemmas
 pub mod QueuePlaces

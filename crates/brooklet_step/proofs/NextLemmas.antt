@@ -21,12 +21,13 @@ use Rattle.brooklet_step.specs.declared.machine.Parts.{Parts}
 use Rattle.brooklet_step.specs.declared.state.State.{State}
 use Rattle.brooklet_step.specs.ByPlace.{place, places, joined_at}
 use Rattle.brooklet_step.specs.Reading.{CanFire, CameOf, FiredOp}
-use Rattle.brooklet_step.specs.Stands.{StandsFor, Fires, Applies}
+use Rattle.brooklet_step.specs.Given.{FiresAt, CanTake}
+use Rattle.brooklet_step.proofs.GivenCode.{fires_again}
 use Rattle.brooklet_step.specs.Took.{IsBlank}
 use Rattle.brooklet_step.specs.Works.{hist_of, taken_of, states_of, IsEnabled, GoesOn, Steps}
 use Rattle.brooklet_step.proofs.QueuePlaces.{place_below}
 use Rattle.brooklet_step.proofs.ReadLemmas.{places_at, place_got, place_of, place_in_queues, got_map}
-use Rattle.brooklet_step.proofs.StepLemmas.{applies, next_parts, steps, goes_on, write_declared}
+use Rattle.brooklet_step.proofs.StepLemmas.{can_take, next_parts, steps, goes_on, write_declared}
 
 -- the kernel of an operator in the lists of a plan
 pub kernel_at : (raw : RawPlan) (p : PlanForm) (o : ℕ) (d : Op) (op : OpForm) → plan_form raw ≡ p → slice_get p.ops o ≡ Some op → d ≡ get_or raw.ops o d → kern_of d.kernel ≡ op.kernel
@@ -44,14 +45,15 @@ op_there raw p o op v g =
 pub blank_by : (k k' : Kern) (n t : ℕ) (e : Emit) → k ≡ k' → n ≡ outs k → t ≡ tabs k → e.outs ≡ replicate n [] → e.adds ≡ replicate t [] → IsBlank k' e
 blank_by k k' n t e q en et o a = subst (λ j. IsBlank j e) q (record { outs = o ∙ ap (λ i. replicate i []) en; adds = a ∙ ap (λ i. replicate i []) et })
 
-pub fire_applies : (p : PlanForm) (o port : ℕ) (x : item.Item) (st : List State) (blank : Emit) (k : Kern) → (c : CanFire p o port x st) → k ≡ c.op.kernel → IsBlank c.op.kernel blank → Applies k port x st blank
-fire_applies p o port x st blank k c e b = subst (λ j. Applies j port x st blank) (sym e) (c.applies blank b)
+pub fire_applies : (p : PlanForm) (o port : ℕ) (x : item.Item) (st : List State) (blank : Emit) (k : Kern) → (c : CanFire p o port x st) → k ≡ c.op.kernel → IsBlank c.op.kernel blank → CanTake k port x st blank
+fire_applies p o port x st blank k c e b = subst (λ j. CanTake j port x st blank) (sym e) (c.applies blank b)
 
-pub fired_op : (p : PlanForm) (o port : ℕ) (x : item.Item) (st st' : List State) (blank out : Emit) (k : Kern) → (c : CanFire p o port x st) → k ≡ c.op.kernel → IsBlank c.op.kernel blank → Fires k blank out st st' (fire k port x) → FiredOp p o port x st st' out
+pub fired_op : (p : PlanForm) (o port : ℕ) (x : item.Item) (st st' : List State) (blank out : Emit) (k : Kern) → (c : CanFire p o port x st) → k ≡ c.op.kernel → IsBlank c.op.kernel blank → FiresAt k port x blank out st st' → FiredOp p o port x st st' out
 fired_op p o port x st st' blank out k c e b f = record {
   fired = λ op g.
       let same : c.op ≡ op = some_is c.op op (sym c.op_is ∙ g) in
-      subst (λ (d : OpForm). CameOf d.kernel port x st st' out) same (record { blank = blank; is_blank = b; fires = subst (λ j. Fires j blank out st st' (fire j port x)) e f });
+      let f' = subst (λ j. FiresAt j port x blank out st st') e f in
+      subst (λ (d : OpForm). CameOf d.kernel port x st st' out) same (record { blank = blank; is_blank = b; room = (fires_again c.op.kernel port x blank out st st' (c.applies blank b) f').1; fires = f' });
 }
 
 -- THE CONDITIONS OF THE CALLS
@@ -80,7 +82,7 @@ pub can_fire : (m : Parts) (o port n : ℕ) (x : item.Item) (st : List State) (g
 can_fire m o port n x st g e at hx es = record {
   op = e.reads.op;
   op_is = e.reads.op_is;
-  applies = λ blank b. applies m o port e.queue x st blank g e.reads (subst (λ i. slice_get (list_at m.queues i) (slice_index_or m.taken i 0) ≡ Some x) at hx) es b;
+  applies = λ blank b. can_take m o port e.queue x st blank g e.reads (subst (λ i. slice_get (list_at m.queues i) (slice_index_or m.taken i 0) ≡ Some x) at hx) es b;
 }
 
 -- there are as many lists as queues to write, and the queues are there
@@ -89,9 +91,7 @@ send_there m o port x st st' out ws g e es f we =
     let op = e.reads.op in
     let names = queue_names m.plan in
     let c = f.fired op e.reads.op_is in
-    let ks = g.ran.state.kept o in
-    let t = (c.fires.given ks (subst (λ u. StandsFor op.kernel u ks) (sym es) (g.ran.stands.kept o op e.reads.op_is))).0 in
-    let lo : length out.outs ≡ outs op.kernel = ap length t.outs ∙ length-each_grew c.blank.outs (fire op.kernel port x ks).outs ∙ ap length c.is_blank.outs ∙ length-replicate (outs op.kernel) [] in
+    let lo : length out.outs ≡ outs op.kernel = c.room.outs in
     let is : ws ≡ places names op.writes = we ∙ places_at (λ d. d.writes) names m.writes m.plan.ops o op g.laid_out.writes e.reads.op_is in
     let lw : length ws ≡ length op.writes = ap length is ∙ length-map op.writes (place names) in
     let wo : length op.writes ≡ outs op.kernel = sym (length-map op.writes (kind_of (all_decls m.plan))) ∙ (counts op.kernel _ _ _ (op_fits m.plan g.valid g.built o op e.reads.op_is)).outs in (
@@ -119,7 +119,7 @@ next m o port n k x st st' out ws queues cs g e at hx ke es f we eq ec =
     let op = e.reads.op in
     let c = f.fired op e.reads.op_is in
     let hq : slice_get (hist_of m e.queue) (taken_of m e.queue) ≡ Some x = subst (λ i. slice_get (list_at m.queues i) (slice_index_or m.taken i 0) ≡ Some x) at hx in
-    let fs : Fires op.kernel c.blank out (states_of m o) st' (fire op.kernel port x) = subst (λ u. Fires op.kernel c.blank out u st' (fire op.kernel port x)) es c.fires in
+    let fs : FiresAt op.kernel port x c.blank out (states_of m o) st' = subst (λ u. FiresAt op.kernel port x c.blank out u st') es c.fires in
     let is : ws ≡ places names op.writes = we ∙ places_at (λ d. d.writes) names m.writes m.plan.ops o op g.laid_out.writes e.reads.op_is in
     let qs : queues ≡ each_grew m.queues (joined_at (places names op.writes) (list_at out.outs)) = eq ∙ ap (λ (l : List ℕ). each_grew m.queues (joined_at l (list_at out.outs))) is in
     let ks : k ≡ taken_of m e.queue + 1 = ke ∙ ap (λ i. slice_index_or m.taken i 0 + 1) at in

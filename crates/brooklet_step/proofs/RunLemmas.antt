@@ -7,6 +7,7 @@ use Rattle.std.proofs.lemmas.List.Elements.{All-head, All-tail}
 use Rattle.std.proofs.lemmas.Option.{slice_get_within, slice_get-get_or, get_or_from_slice_get}
 use Rattle.river_base.specs.declared.item.Item as item
 use Rattle.river_base.specs.Name.{name_eq}
+use Rattle.river_base.proofs.HeldLemmas.{length-held, held-same}
 use Rattle.river_plan.specs.declared.plan.Decl.{Decl}
 use Rattle.river_kernels.specs.declared.limit.Limit.TheVariants.{Operators, Ports}
 use Rattle.river_plan.specs.declared.op.Op.{Op}
@@ -28,7 +29,7 @@ use Rattle.brooklet_model.proofs.RunMeaning.{outs_are, firings_are}
 use Rattle.brooklet_model.proofs.Traces.{some_is, at_most, got_count, joined_out}
 use Rattle.brooklet_step.specs.declared.machine.Parts.{Parts}
 use Rattle.brooklet_step.specs.Drained.{IsDrained, read_in, left_at, Follows, DrainedBefore, HasPorts, HasRun}
-use Rattle.brooklet_step.specs.Works.{hist_of, taken_of, ReadsAt, IsEnabled, Ran, GoesOn, Starts, Steps, AreCounts}
+use Rattle.brooklet_step.specs.Works.{hist_of, taken_of, kinds_of, Stands, ReadsAt, IsEnabled, Ran, GoesOn, Starts, Steps, AreCounts}
 use Rattle.brooklet_step.proofs.QueuePlaces.{place_is, lists_in_order}
 use Rattle.brooklet_step.proofs.ReadLemmas.{op_at, got_map}
 use Rattle.brooklet_step.proofs.StartLemmas.{got_front}
@@ -47,6 +48,10 @@ no_later q (a ∷ ops) known (suc o') zero op' op r once g' g le lt = absurd (om
 no_later q (a ∷ ops) known (suc o') (suc o) op' op r once g' g le lt = no_later q ops (and_writes known a) o' o op' op r.1 (omega (arith, once)) g' g (omega (arith, le)) lt
 
 -- WHAT A STEP LEAVES
+
+-- a queue holds as many items as its history has
+hist_length : (m : Parts) (s : Machine) → Stands m s → (q : Name) → 0 < count q (queue_names m.plan) → length (hist_of m q) ≡ length (s.hist q)
+hist_length m s h q lt = ap length (h.hist q lt) ∙ length-held (kinds_of m q) [] (s.hist q)
 
 taken_more : (k : Name) (q : Name) (f : Name → ℕ) → f q ≤ at_name k (f k + 1) f q
 taken_more k q f = ⊎_elim
@@ -91,11 +96,11 @@ follows_step m m' o port v st = record {
       let u = reads_in m.plan m'.plan o' port' q st.plan w in
       let a = st.each r.state r.stands in
       let k = read_declared m.plan v o' port' q u in
-      let h' = a.stands.hist q (declared_in m m' st.plan q k) in
+      let h' = hist_length m' a.state a.stands q (declared_in m m' st.plan q k) in
       let t' = a.stands.taken q (declared_in m m' st.plan q k) in
-      let h = r.stands.hist q k in
+      let h = hist_length m r.state r.stands q k in
       let t = r.stands.taken q k in
-      let s = ap length (sym h' ∙ hist_stays m.plan v r.state a.state o port o' port' q a.step u le ∙ h) in
+      let s : length (hist_of m' q) ≡ length (hist_of m q) = h' ∙ ap length (hist_stays m.plan v r.state a.state o port o' port' q a.step u le) ∙ sym h in
       let g = taken_grows m.plan r.state a.state o port q a.step in
       let b = d q u in
       omega (arith, s, g, b, t, t');
@@ -131,7 +136,7 @@ step_less m m' o port inputs v r e st =
     let same' = ap (λ (x : PlanForm). read_in (slice_get x.ops o) port) st.plan ∙ same in
     let ops_same : e.reads.op ≡ a.step.op = some_is e.reads.op a.step.op (sym e.reads.op_is ∙ a.step.op_is) in
     let here : q ≡ a.step.queue = some_is q a.step.queue (sym e.reads.queue_is ∙ ap (λ (d : OpForm). slice_get d.reads port) ops_same ∙ a.step.queue_is) in
-    let h : length (hist_of m' q) ≡ length (hist_of m q) = ap length (sym (a.stands.hist q k') ∙ hist_stays m.plan v r.state a.state o port o port q a.step e.reads (omega arith) ∙ r.stands.hist q k) in
+    let h : length (hist_of m' q) ≡ length (hist_of m q) = hist_length m' a.state a.stands q k' ∙ ap length (hist_stays m.plan v r.state a.state o port o port q a.step e.reads (omega arith)) ∙ sym (hist_length m r.state r.stands q k) in
     let t : taken_of m' q ≡ taken_of m q + 1 =
     sym (a.stands.taken q k') ∙ ap (λ (x : Machine). x.taken q) a.step.after
     ∙ ap (λ n. at_name n (r.state.taken n + 1) r.state.taken q) (sym here) ∙ one_taken q r.state.taken ∙ ap (λ n. n + 1) (r.stands.taken q k) in
@@ -193,7 +198,7 @@ complete m inputs v r d o port op q g w =
     let u : ReadsAt m.plan o port q = record { op = op; op_is = g; queue_is = w } in
     let k = read_declared m.plan v o port q u in
     let b = d o port q u in
-    let h = ap length (r.stands.hist q k) in
+    let h = hist_length m r.state r.stands q k in
     let t = r.stands.taken q k in
     let within = taken_within m.plan (start m.plan inputs) r.state r.events (λ n. omega arith) r.run q in
     omega (arith, b, h, t, within)
@@ -299,7 +304,7 @@ module _ (p : PlanForm) (inputs : List (List item.Item)) (m0 m : Parts) (v : IsP
 
   pub run_outs : (outs : List (List item.Item)) → outs ≡ map (hist_of m) (decl_names m.plan.outputs) → outs ≡ (meaning p inputs).outs
   run_outs outs e =
-      e ∙ map_on (hist_of m) ran.state.hist (decl_names m.plan.outputs) (λ i q g. sym (ran.stands.hist q (output_there m.plan i q g)))
+      e ∙ map_on (hist_of m) ran.state.hist (decl_names m.plan.outputs) (λ i q g. ran.stands.hist q (output_there m.plan i q g) ∙ held-same (kinds_of m q) [] (ran.state.hist q))
       ∙ outs_are m.plan inputs ran.events ran.state defined ∙ ap (λ (x : PlanForm). (meaning x inputs).outs) plan_is
 
   pub run_counts : (values : List ℤ) → AreCounts m values → values ≡ map pos (firings p inputs)

@@ -1,12 +1,16 @@
 -- A machine before its first firing.
 use Rattle.std.proofs.Common.{◌≡◌, ℕ, zero, suc, ◌+◌, ◌<◌, false, Some, List, [], ◌∷◌, ◌++◌, length, take, map, refl, sym, ap, ◌∙◌, subst, arith, get_or, replicate, length-append, ⊎_elim}
-use Rattle.std.specs.Prelude.{min, slice_get, slice_index_or}
+use Rattle.std.specs.Prelude.{All, min, slice_get, slice_index_or}
 use Rattle.std.proofs.Math.ListN.{get_or-append}
 use Rattle.std.proofs.lemmas.Bool.{cases_lt}
 use Rattle.std.proofs.lemmas.List.{length-replicate, length-map, get_or-append-add, get_or_push, take_more}
 use Rattle.std.proofs.lemmas.Option.{slice_get_within, slice_get-get_or}
 use Rattle.river_base.specs.declared.item.Item as item
+use Rattle.river_base.specs.declared.kind.QueueType.{QueueType}
+use Rattle.std.proofs.lemmas.List.Elements.{All-head, All-tail, All-cons, All-nil}
+use Rattle.river_base.specs.Held.{HasType, IsHeld}
 use Rattle.river_base.specs.Places.{list_at}
+use Rattle.river_base.proofs.HeldLemmas.{held-same, held-typed}
 use Rattle.river_kernels.specs.Kern.{kern_of}
 use Rattle.river_plan.specs.declared.op.Op.{Op}
 use Rattle.river_plan.specs.declared.plan.Decl.{Decl}
@@ -16,21 +20,21 @@ use Rattle.river_plan.specs.Kinds.{kind_of, var_kind}
 use Rattle.river_plan.specs.Names.{count}
 use Rattle.river_plan.specs.Valid.{IsPlan}
 use Rattle.river_plan.proofs.NameLemmas.{count-append, more_or_zero}
-use Rattle.brooklet_model.specs.Fire.{first_kept}
 use Rattle.brooklet_model.specs.Histories.{inputs_of, most_firings}
-use Rattle.brooklet_model.specs.Machine.{start, first_of}
+use Rattle.brooklet_model.specs.Machine.{start}
+use Rattle.brooklet_model.specs.Laws.{given_to}
 use Rattle.brooklet_model.specs.Shapes.{IsFormed}
 use Rattle.brooklet_model.specs.Typed.{IsBuilt, IsOnRows, AreInputs}
 use Rattle.brooklet_model.proofs.Lists.{funext}
 use Rattle.brooklet_model.proofs.Solutions.{written_out}
 use Rattle.brooklet_model.proofs.Traces.{some_is}
-use Rattle.brooklet_model.proofs.TypedPlan.{op_fits, op_on_rows}
+use Rattle.brooklet_model.proofs.TypedPlan.{op_fits, op_on_rows, inputs_typed}
+use Rattle.brooklet_model.proofs.Complete.{traced_start, nothing_given}
 use Rattle.brooklet_step.specs.declared.machine.Parts.{Parts}
 use Rattle.brooklet_step.specs.declared.state.State.{State}
 use Rattle.brooklet_step.specs.ByPlace.{place, places}
 use Rattle.brooklet_step.specs.Fit.{Fit}
-use Rattle.brooklet_step.specs.Initial.{CanStart, AreFirst}
-use Rattle.brooklet_step.specs.Stands.{StandsFor}
+use Rattle.brooklet_step.specs.Initial.{IsFirst, CanStart, AreFirst}
 use Rattle.brooklet_step.specs.Works.{Stands, Counts, GoesOn, Starts}
 use Rattle.brooklet_step.proofs.QueuePlaces.{place_below, place_front, place_back, written_found}
 use Rattle.brooklet_step.proofs.ReadLemmas.{got_map}
@@ -48,7 +52,7 @@ got_last [] x (suc n) e = absurd (omega (arith, e))
 got_last (y ∷ ys) x zero e = absurd (omega (arith, e))
 got_last (y ∷ ys) x (suc n) e = got_last ys x n (omega (arith, e))
 
-first_more : (ops : List OpForm) (op : OpForm) (states : List (List State)) (st : List State) → AreFirst ops states → StandsFor op.kernel st (first_kept op.kernel) → AreFirst (ops ++ op ∷ []) (states ++ st ∷ [])
+first_more : (ops : List OpForm) (op : OpForm) (states : List (List State)) (st : List State) → AreFirst ops states → IsFirst op.kernel st → AreFirst (ops ++ op ∷ []) (states ++ st ∷ [])
 first_more ops op states st f h =
     let c = f.count in
     let ls = length-append states (st ∷ []) in
@@ -58,13 +62,13 @@ first_more ops op states st f h =
       stand = λ o op' g. ⊎_elim
           (λ lt.
           let g' : slice_get ops o ≡ Some op' = sym (got_front ops (op ∷ []) o lt) ∙ g in
-          subst (λ (u : List State). StandsFor op'.kernel u (first_kept op'.kernel)) (sym (get_or-append states (st ∷ []) [] o (omega (arith, lt, c)))) (f.stand o op' g'))
+          subst (λ (u : List State). IsFirst op'.kernel u) (sym (get_or-append states (st ∷ []) [] o (omega (arith, lt, c)))) (f.stand o op' g'))
           (λ ge.
           let w = slice_get_within (ops ++ op ∷ []) o op' g in
           let e : o ≡ length ops = omega (arith, w, lo, ge) in
           let same : op ≡ op' = some_is op op' (sym (got_last ops op o e) ∙ g) in
-          subst (λ (u : List State). StandsFor op'.kernel u (first_kept op'.kernel)) (sym (get_or_push states st [] o (omega (arith, e, c))))
-          (subst (λ (d : OpForm). StandsFor d.kernel st (first_kept d.kernel)) same h))
+          subst (λ (u : List State). IsFirst op'.kernel u) (sym (get_or_push states st [] o (omega (arith, e, c))))
+          (subst (λ (d : OpForm). IsFirst d.kernel st) same h))
           (cases_lt o (length ops));
     }
 
@@ -79,7 +83,7 @@ map_more f xs i x lt e = ap (map f) (take_more xs i x lt ∙ ap (λ y. take i xs
     over (y ∷ ys) = ap (λ l. f y ∷ l) (over ys)
 
 -- a step of the loop that makes them
-pub first_next : (ops : List Op) (i : ℕ) (d : Op) (states states' : List (List State)) (st : List State) → i < length ops → d ≡ get_or ops i d → AreFirst (op_forms (take i ops)) states → StandsFor (kern_of d.kernel) st (first_kept (kern_of d.kernel)) → states' ≡ states ++ st ∷ [] → AreFirst (op_forms (take (i + 1) ops)) states'
+pub first_next : (ops : List Op) (i : ℕ) (d : Op) (states states' : List (List State)) (st : List State) → i < length ops → d ≡ get_or ops i d → AreFirst (op_forms (take i ops)) states → IsFirst (kern_of d.kernel) st → states' ≡ states ++ st ∷ [] → AreFirst (op_forms (take (i + 1) ops)) states'
 first_next ops i d states states' st lt e f h n =
     subst (λ (l : List OpForm). AreFirst l states') (sym (map_more op_form ops i d lt e))
     (subst (AreFirst (op_forms (take i ops) ++ op_form d ∷ [])) (sym n) (first_more (op_forms (take i ops)) (op_form d) states st f h))
@@ -179,6 +183,10 @@ module _ (p : PlanForm) (v : IsPlan p) (inputs : List (List item.Item)) (fit : F
 
 -- ALL OF IT
 
+all_are_held : (t : QueueType) (xs : List item.Item) → All (HasType t) xs → All (IsHeld t) xs
+all_are_held t [] h = All-nil (IsHeld t)
+all_are_held t (x ∷ xs) h = All-cons (IsHeld t) x xs (held-typed t x (All-head (HasType t) x xs h)) (all_are_held t xs (All-tail (HasType t) x xs h))
+
 pub record First (p : PlanForm) (inputs : List (List item.Item)) (m : Parts) : Type 0 where
   pub starts : Starts p inputs m
   pub goes_on : GoesOn m
@@ -190,10 +198,19 @@ pub first : (p pl : PlanForm) (inputs queues : List (List item.Item)) (taken cs 
 first p pl inputs queues taken cs states reads writes v b fit pe qe te f ce re we =
     let m : Parts = record { plan = p; queues = queues; taken = taken; states = states; counts = cs; reads = reads; writes = writes; stopped = false } in
     let many : length queues ≡ length (queue_names p) = ap length qe ∙ queues_many p v inputs fit in
+    let kinds = kind_of (all_decls p) in
+    let all_typed = inputs_typed p v inputs fit.typed in
+    let hist_is : (q : Name) → 0 < count q (queue_names p) → list_at queues (place (queue_names p) q) ≡ inputs_of (decl_names p.inputs) (list_at inputs) q =
+    λ q lt. sym (first_hist p v inputs fit q lt ∙ ap (λ (l : List (List item.Item)). list_at l (place (queue_names p) q)) (sym qe)) in
     let stands : Stands m (start p inputs) = record {
-      hist = λ q lt. first_hist p v inputs fit q lt ∙ ap (λ (l : List (List item.Item)). list_at l (place (queue_names p) q)) (sym qe);
+      hist = λ q lt. hist_is q lt ∙ sym (held-same (kinds q) [] (inputs_of (decl_names p.inputs) (list_at inputs) q));
       taken = λ q lt. sym (ap (λ (l : List ℕ). slice_index_or l (place (queue_names p) q) 0) te ∙ zero_at (length queues) (place (queue_names p) q));
-      kept = λ o op g. subst (StandsFor op.kernel (list_at states o)) (sym (ap first_of g)) (f.stand o op g);
+      typed = all_typed;
+      inputs = inputs;
+      words = λ o. [];
+      traced = traced_start p (given_to p inputs) v (λ q z. nothing_given (decl_names p.inputs) (list_at inputs) q z);
+      received = λ o op g. tt;
+      kept = λ o op g. (f.stand o op g).after;
     } in
     let cs_are : Counts m [] = λ o lt. ap (λ (l : List ℕ). slice_index_or l o 0) ce ∙ zero_at (length p.ops) o ∙ sym (min_zero most_firings) in
     subst (λ (x : PlanForm). First p inputs (record { plan = x; queues = queues; taken = taken; states = states; counts = cs; reads = reads; writes = writes; stopped = false })) (sym pe) (record {
@@ -209,6 +226,8 @@ first p pl inputs queues taken cs states reads writes v b fit pe qe te f ce re w
           reads = re;
           writes = we;
         };
+        fit = λ o op g. (f.stand o op g).again (map kinds op.reads) (map kinds op.writes) (map (var_kind p.tables p.vars) op.vars) (op_fits p v b o op g);
+        items = λ q lt. subst (λ (l : List item.Item). All (IsHeld (kinds q)) l) (sym (hist_is q lt)) (all_are_held (kinds q) (inputs_of (decl_names p.inputs) (list_at inputs) q) (all_typed q));
         inputs = inputs;
         typed = fit.typed;
         ran = record { events = []; state = start p inputs; run = refl; stands = stands; counts = cs_are };

@@ -1,44 +1,47 @@
 -- A firing of an operator, on what a machine keeps.
-use Rattle.std.proofs.Common.{◌≡◌, ◌≢◌, ℕ, zero, suc, ◌+◌, ◌<◌, false, Some, List, [], ◌∷◌, ◌++◌, length, map, refl, sym, ap, ◌∙◌, subst, arith, nat_eq, ⊎_elim, get_or-set_same, get_or-set_other}
+use Rattle.std.proofs.Common.{◌≡◌, ◌≢◌, ℕ, zero, suc, ◌+◌, ◌<◌, ◌≤◌, Bool, false, Some, List, [], ◌∷◌, ◌++◌, length, take, map, refl, sym, ap, ◌∙◌, subst, arith, nat_eq, ⊎_elim, get_or-set_same, get_or-set_other}
 use Rattle.std.specs.Prelude.{if◌then◌else◌, All, min, slice_get, slice_set, slice_index_or}
 use Rattle.std.proofs.lemmas.Bool.{cases_eq}
-use Rattle.std.proofs.lemmas.List.{length-replicate, length-map, length-set}
-use Rattle.std.proofs.lemmas.List.Elements.{All-head, All-tail}
+use Rattle.std.proofs.lemmas.List.{append-nil, length-take, length-map, length-set}
+use Rattle.std.proofs.lemmas.List.Elements.{All-head, All-tail, All-nil, All-append}
 use Rattle.std.proofs.lemmas.Option.{slice_get_within}
 use Rattle.river_base.specs.declared.item.Item as item
 use Rattle.river_base.specs.declared.kind.QueueType.{QueueType}
-use Rattle.river_base.specs.Held.{HasType}
+use Rattle.river_base.specs.Held.{held, HasType, IsHeld}
+use Rattle.river_base.proofs.HeldLemmas.{held-nil, held-append, length-held}
 use Rattle.river_base.specs.Name.{name_eq}
 use Rattle.river_base.specs.Places.{list_at, each_grew}
 use Rattle.river_base.proofs.PlaceLemmas.{length-each_grew, get_or-each_grew, each_grew-blanks}
-use Rattle.river_plan.specs.Forms.{Name, OpForm, PlanForm, all_decls, table_names, queue_names}
+use Rattle.river_plan.specs.Forms.{Name, OpForm, PlanForm, all_decls, decl_names, table_names, queue_names}
 use Rattle.river_plan.specs.Kinds.{kind_of, var_kind}
-use Rattle.river_plan.specs.Names.{count}
+use Rattle.river_plan.specs.Names.{count, one_if}
 use Rattle.river_plan.specs.Uses.{reads_it, writes_it}
 use Rattle.river_plan.specs.Valid.{IsPlan}
 use Rattle.river_plan.proofs.NameLemmas.{cases_name}
+use Rattle.river_kernels.specs.Fits.{Fits}
 use Rattle.brooklet_model.specs.Fire.{fire, outs, tabs}
-use Rattle.brooklet_model.specs.Histories.{joined, most_firings}
+use Rattle.brooklet_model.specs.Histories.{joined, most_firings, Lists}
+use Rattle.brooklet_model.specs.Laws.{given_to}
 use Rattle.brooklet_model.specs.Machine.{Machine, Step, Run, start, fired, at_key, at_name, times}
-use Rattle.brooklet_model.specs.Typed.{IsOf, IsBuilt, IsTypedState}
+use Rattle.brooklet_model.specs.Typed.{IsOf, AreOf, IsOnRows}
+use Rattle.brooklet_model.specs.Words.{Word, at_port}
 use Rattle.brooklet_model.proofs.Lists.{if_true, if_false, if_eq, if_ne}
+use Rattle.brooklet_model.proofs.Complete.{traced_fired, nothing_given}
 use Rattle.brooklet_model.proofs.Ports.{counts}
-use Rattle.brooklet_model.proofs.Traces.{some_is, at_most, got_count, at_key_same, at_key_other, at_same}
-use Rattle.brooklet_model.proofs.TypedPlan.{op_fits, op_on_rows, start_typed, step_typed}
+use Rattle.brooklet_model.proofs.Traces.{some_is, at_most, got_count, joined_out, at_key_same, at_key_other, at_same}
+use Rattle.brooklet_model.proofs.TypedPlan.{op_fits, op_on_rows, joined_of}
 use Rattle.brooklet_step.specs.declared.emit.Emit.{Emit}
 use Rattle.brooklet_step.specs.declared.machine.Parts.{Parts}
 use Rattle.brooklet_step.specs.declared.state.State.{State}
 use Rattle.brooklet_step.specs.ByPlace.{place, places, joined_at}
-use Rattle.brooklet_step.specs.Stands.{StandsFor, Fires, Applies}
-use Rattle.brooklet_step.specs.Took.{Took, IsBlank}
-use Rattle.brooklet_step.specs.Works.{hist_of, taken_of, states_of, count_of, Stands, ReadsAt, Counts, GoesOn, After, Steps}
+use Rattle.brooklet_step.specs.Given.{held_by, held_at, IsHeldBy, IsHeldOf, AreHeldOf, AreTyped, FitState, StandsAfter, ran, TookHeld, Does, FiresAt, CanTake}
+use Rattle.brooklet_step.specs.Took.{IsBlank}
+use Rattle.brooklet_step.specs.Works.{hist_of, taken_of, kinds_of, states_of, count_of, Stands, ReadsAt, Counts, GoesOn, After, Steps}
+use Rattle.brooklet_step.proofs.GivenLemmas.{typed_append, fired_typed}
+use Rattle.brooklet_step.proofs.GivenParts.{blank_room}
 use Rattle.brooklet_step.proofs.QueuePlaces.{place_below, place_apart, joined_places, joined_cong_below}
 
 -- RUNS
-
-pub run_keeps : (p : PlanForm) (v : IsPlan p) (b : IsBuilt p) (s s' : Machine) (es : List (ℕ × ℕ)) → IsTypedState p s → Run p s es s' → IsTypedState p s'
-run_keeps p v b s s' [] t r = subst (IsTypedState p) (sym r) t
-run_keeps p v b s s' (e ∷ es) t r = run_keeps p v b r.0 s' es (step_typed p v b s r.0 e.0 e.1 t r.1) r.2
 
 pub run_next : (p : PlanForm) (s m s' : Machine) (es : List (ℕ × ℕ)) (o port : ℕ) → Run p s es m → Step p m o port s' → Run p s (es ++ (o, port) ∷ []) s'
 run_next p s m s' [] o port r st = (s', subst (λ x. Step p x o port s') r st, refl)
@@ -55,13 +58,15 @@ got_of kind [] port q x g i = absurd (cc g)
 got_of kind (r ∷ rs) zero q x g i = subst (λ n. HasType (kind n) x) (sym (some_is r q g)) i
 got_of kind (r ∷ rs) (suc port) q x g i = got_of kind rs port q x g i
 
+kind_got : (kind : Name → QueueType) (rs : List Name) (port : ℕ) (q : Name) → slice_get rs port ≡ Some q → slice_get (map kind rs) port ≡ Some (kind q)
+kind_got kind [] port q g = absurd (cc g)
+kind_got kind (r ∷ rs) zero q g = ap (λ n. Some (kind n)) (some_is r q g)
+kind_got kind (r ∷ rs) (suc port) q g = kind_got kind rs port q g
+
 got_all : (P : item.Item → Type 0) (xs : List item.Item) (n : ℕ) (x : item.Item) → All P xs → slice_get xs n ≡ Some x → P x
 got_all P [] n x a g = absurd (cc g)
 got_all P (y ∷ ys) zero x a g = subst P (some_is y x g) (All-head P y ys a)
 got_all P (y ∷ ys) (suc n) x a g = got_all P ys n x (All-tail P y ys a) g
-
-pub typed_of : (m : Parts) (g : GoesOn m) → IsTypedState m.plan g.ran.state
-typed_of m g = run_keeps m.plan g.valid g.built (start m.plan g.inputs) g.ran.state g.ran.events (start_typed m.plan g.valid g.built g.inputs g.typed) g.ran.run
 
 -- what operators read and write is declared
 pub read_declared : (p : PlanForm) → IsPlan p → (o port : ℕ) (q : Name) → ReadsAt p o port q → 0 < count q (queue_names p)
@@ -75,28 +80,96 @@ write_declared p v o op g q lt =
     let m = at_most (writes_it q) p.ops o op g in
     v.writes_declared q (omega (arith, m, lt))
 
+-- an item that a queue holds is what the port that reads it may take
+item_held : (m : Parts) (o port : ℕ) (q : Name) (i : item.Item) → (g : GoesOn m) → (r : ReadsAt m.plan o port q) → slice_get (hist_of m q) (taken_of m q) ≡ Some i → IsHeldOf (map (kinds_of m) r.op.reads) port i
+item_held m o port q i g r hx =
+    subst (λ t. IsHeldBy t i) (sym (kind_got (kinds_of m) r.op.reads port q r.queue_is))
+    (got_all (IsHeld (kinds_of m q)) (hist_of m q) (taken_of m q) i (g.items q (read_declared m.plan g.valid o port q r)) hx)
+
 -- a firing can be made
-pub applies : (m : Parts) (o port : ℕ) (q : Name) (x : item.Item) (st : List State) (out : Emit) → (g : GoesOn m) → (r : ReadsAt m.plan o port q) → slice_get (hist_of m q) (taken_of m q) ≡ Some x → st ≡ states_of m o → IsBlank r.op.kernel out → Applies r.op.kernel port x st out
-applies m o port q x st out g r hx es b =
-    let kinds = kind_of (all_decls m.plan) in
-    let s = g.ran.state in
-    let t = typed_of m g in
-    let d = read_declared m.plan g.valid o port q r in
-    let item_is : slice_get (s.hist q) (s.taken q) ≡ Some x = ap (λ l. slice_get l (s.taken q)) (g.ran.stands.hist q d) ∙ ap (slice_get (hist_of m q)) (g.ran.stands.taken q d) ∙ hx in
-    record {
-      takes = record {
-        reads = map kinds r.op.reads;
-        fitted = record {
-          on_rows = op_on_rows m.plan g.valid g.built o r.op r.op_is;
-          writes = map kinds r.op.writes;
-          vars = map (var_kind m.plan.tables m.plan.vars) r.op.vars;
-          fits = op_fits m.plan g.valid g.built o r.op r.op_is;
-          keeps = record { kept = s.kept o; stands = subst (λ u. StandsFor r.op.kernel u (s.kept o)) (sym es) (g.ran.stands.kept o r.op r.op_is); holds = t.holds o r.op r.op_is };
-        };
-        item = got_of kinds r.op.reads port q x r.queue_is (got_all (HasType (kinds q)) (s.hist q) (s.taken q) x (t.queues q) item_is);
-      };
-      room = record { outs = ap length b.outs ∙ length-replicate (outs r.op.kernel) []; adds = ap length b.adds ∙ length-replicate (tabs r.op.kernel) [] };
-    }
+pub can_take : (m : Parts) (o port : ℕ) (q : Name) (i : item.Item) (st : List State) (out : Emit) → (g : GoesOn m) → (r : ReadsAt m.plan o port q) → slice_get (hist_of m q) (taken_of m q) ≡ Some i → st ≡ states_of m o → IsBlank r.op.kernel out → CanTake r.op.kernel port i st out
+can_take m o port q i st out g r hx es b = record {
+  reads = map (kinds_of m) r.op.reads;
+  fitting = record {
+    on_rows = op_on_rows m.plan g.valid g.built o r.op r.op_is;
+    writes = map (kinds_of m) r.op.writes;
+    vars = map (var_kind m.plan.tables m.plan.vars) r.op.vars;
+    fits = op_fits m.plan g.valid g.built o r.op r.op_is;
+    state = subst (FitState r.op.kernel (map (kinds_of m) r.op.reads)) (sym es) (g.fit o r.op r.op_is);
+  };
+  item = item_held m o port q i g r hx;
+  room = blank_room r.op.kernel out b;
+}
+
+-- THE ITEM OF THE HISTORY
+
+got_split : (h : List item.Item) (n : ℕ) → n < length h → (x : item.Item) × (ys : List item.Item) × (h ≡ take n h ++ x ∷ ys) × (slice_get h n ≡ Some x)
+got_split [] n lt = absurd (omega (arith, lt))
+got_split (y ∷ h) zero lt = (y, h, refl, refl)
+got_split (y ∷ h) (suc n) lt = let r = got_split h n (omega (arith, lt)) in (r.0, r.1, ap (λ l. y ∷ l) r.2, r.3)
+
+one_of : (l : List item.Item) → length l ≡ 1 → (b : item.Item) × (l ≡ b ∷ [])
+one_of [] e = absurd (omega (arith, e))
+one_of (b ∷ []) e = (b, refl)
+one_of (b ∷ c ∷ l) e = absurd (omega (arith, e))
+
+got_at : (xs : List item.Item) (y : item.Item) (ys : List item.Item) (n : ℕ) → length xs ≡ n → slice_get (xs ++ y ∷ ys) n ≡ Some y
+got_at [] y ys zero e = refl
+got_at [] y ys (suc n) e = absurd (omega (arith, e))
+got_at (x ∷ xs) y ys zero e = absurd (omega (arith, e))
+got_at (x ∷ xs) y ys (suc n) e = got_at xs y ys n (omega (arith, e))
+
+-- the item of a history for the item that a queue holds
+pub record Found (t : QueueType) (h : List item.Item) (n : ℕ) (i : item.Item) : Type 0 where
+  pub item : item.Item
+  pub item_is : slice_get h n ≡ Some item
+  pub held_is : held t (take n h) (item ∷ []) ≡ i ∷ []
+
+pub found : (t : QueueType) (h hs : List item.Item) (n : ℕ) (i : item.Item) → hs ≡ held t [] h → slice_get hs n ≡ Some i → Found t h n i
+found t h hs n i e g =
+    let lh = length-held t [] h in
+    let ls = ap length e in
+    let w = slice_get_within hs n i g in
+    let lt : n < length h = omega (arith, lh, ls, w) in
+    let s = got_split h n lt in
+    let x = s.0 in
+    let a = held t [] (take n h) in
+    let b = one_of (held t (take n h) (x ∷ [])) (length-held t (take n h) (x ∷ [])) in
+    let c = held t (take n h ++ x ∷ []) s.1 in
+    let la : length a ≡ n = length-held t [] (take n h) ∙ (let k = length-take n h in omega (arith, k, lt)) in
+    let all : hs ≡ a ++ b.0 ∷ c = e ∙ ap (held t []) s.2 ∙ held-append t [] (take n h) (x ∷ s.1) ∙ ap (λ l. a ++ l) (held-append t (take n h) (x ∷ []) s.1 ∙ ap (λ l. l ++ c) b.1) in
+    let is : Some i ≡ Some b.0 = sym g ∙ ap (λ l. slice_get l n) all ∙ got_at a b.0 c n la in
+    record { item = x; item_is = s.3; held_is = b.1 ∙ ap (λ y. y ∷ []) (sym (some_is i b.0 is)) }
+
+-- what ports may give is what their queues may hold
+joined_all : (kind : Name → QueueType) (ws : List Name) (f : ℕ → List item.Item) → AreHeldOf (map kind ws) f → (q : Name) → All (IsHeld (kind q)) (joined ws f q)
+joined_all kind [] f t q = All-nil (IsHeld (kind q))
+joined_all kind (w ∷ ws) f t q = All-append (IsHeld (kind q)) (if name_eq w q then f 0 else []) (joined ws (λ j. f (suc j)) q) (⊎_elim
+    (λ c. subst (All (IsHeld (kind q))) (sym (if_true (name_eq w q) (f 0) [] c.1)) (subst (λ n. All (IsHeld (kind n)) (f 0)) c.0 (t 0)))
+    (λ c. subst (All (IsHeld (kind q))) (sym (if_false (name_eq w q) (f 0) [] c.1)) (All-nil (IsHeld (kind q))))
+    (cases_name w q)) (joined_all kind ws (λ j. f (suc j)) (λ j. t (suc j)) q)
+
+-- what queues hold for what an operator gives at the ports that write them
+joined_held : (kind : Name → QueueType) (ws : List Name) (F f : ℕ → List item.Item) (h : Name → List item.Item) (n : Name) → count n ws ≤ 1 → Lists ws F h → joined ws (λ j. held_at (map kind ws) j (F j) (f j)) n ≡ held (kind n) (h n) (joined ws f n)
+joined_held kind [] F f h n once l = sym (held-nil (kind n) (h n))
+joined_held kind (w ∷ ws) F f h n once l =
+    let rest = joined ws (λ j. held_at (map kind ws) j (F (suc j)) (f (suc j))) n in
+    ⊎_elim
+    (λ c.
+    let z : count n ws ≡ 0 = let e = ap one_if c.1 in omega (arith, e, once) in
+    ap (λ (p : Bool). (if p then held (kind w) (F 0) (f 0) else []) ++ rest) c.1
+    ∙ ap (λ r. held (kind w) (F 0) (f 0) ++ r) (joined_out ws (λ j. held_at (map kind ws) j (F (suc j)) (f (suc j))) n z)
+    ∙ append-nil (held (kind w) (F 0) (f 0))
+    ∙ ap (λ a. held (kind w) a (f 0)) (sym l.0)
+    ∙ ap (λ u. held (kind u) (h u) (f 0)) c.0
+    ∙ sym (ap (λ (p : Bool). held (kind n) (h n) ((if p then f 0 else []) ++ joined ws (λ j. f (suc j)) n)) c.1
+    ∙ ap (λ r. held (kind n) (h n) (f 0 ++ r)) (joined_out ws (λ j. f (suc j)) n z)
+    ∙ ap (held (kind n) (h n)) (append-nil (f 0))))
+    (λ c.
+    ap (λ (p : Bool). (if p then held (kind w) (F 0) (f 0) else []) ++ rest) c.1
+    ∙ joined_held kind ws (λ j. F (suc j)) (λ j. f (suc j)) h n (let e = ap one_if c.1 in omega (arith, e, once)) l.1
+    ∙ sym (ap (λ (p : Bool). held (kind n) (h n) ((if p then f 0 else []) ++ joined ws (λ j. f (suc j)) n)) c.1))
+    (cases_name w n)
 
 -- AFTER A FIRING
 
@@ -116,12 +189,21 @@ next_parts m o q queues st = record {
   stopped = false;
 }
 
-module _ (m : Parts) (o port : ℕ) (q : Name) (x : item.Item) (blank out : Emit) (st : List State) (queues : List (List item.Item)) (g : GoesOn m) (r : ReadsAt m.plan o port q)
-    (hx : slice_get (hist_of m q) (taken_of m q) ≡ Some x) (b : IsBlank r.op.kernel blank)
-    (f : Fires r.op.kernel blank out (states_of m o) st (fire r.op.kernel port x))
+module _ (m : Parts) (o port : ℕ) (q : Name) (i : item.Item) (blank out : Emit) (st : List State) (queues : List (List item.Item)) (g : GoesOn m) (r : ReadsAt m.plan o port q)
+    (hx : slice_get (hist_of m q) (taken_of m q) ≡ Some i) (b : IsBlank r.op.kernel blank)
+    (f : FiresAt r.op.kernel port i blank out (states_of m o) st)
     (eq : queues ≡ each_grew m.queues (joined_at (places (queue_names m.plan) r.op.writes) (list_at out.outs))) where
   abbrev names : List Name
   names = queue_names m.plan
+
+  abbrev kinds : Name → QueueType
+  kinds n = kinds_of m n
+
+  abbrev reads : List QueueType
+  reads = map (kinds_of m) r.op.reads
+
+  abbrev writes : List QueueType
+  writes = map (kinds_of m) r.op.writes
 
   abbrev m' : Parts
   m' = next_parts m o q queues st
@@ -132,21 +214,33 @@ module _ (m : Parts) (o port : ℕ) (q : Name) (x : item.Item) (blank out : Emit
   o_below : o < length m.plan.ops
   o_below = slice_get_within m.plan.ops o r.op r.op_is
 
+  rows : IsOnRows r.op.kernel
+  rows = op_on_rows m.plan g.valid g.built o r.op r.op_is
+
+  fits : Fits r.op.kernel reads writes (map (var_kind m.plan.tables m.plan.vars) r.op.vars)
+  fits = op_fits m.plan g.valid g.built o r.op r.op_is
+
+  does : Does r.op.kernel reads writes port i blank out (states_of m o) st
+  does = f.each reads writes (map (var_kind m.plan.tables m.plan.vars) r.op.vars) fits (g.fit o r.op r.op_is) (item_held m o port q i g r hx)
+
   writes_many : length r.op.writes ≡ outs r.op.kernel
-  writes_many = sym (length-map r.op.writes (kind_of (all_decls m.plan))) ∙ (counts r.op.kernel _ _ _ (op_fits m.plan g.valid g.built o r.op r.op_is)).outs
+  writes_many = sym (length-map r.op.writes (kinds_of m)) ∙ (counts r.op.kernel _ _ _ fits).outs
+
+  -- what came at a port
+  out_is : (F : ℕ → List item.Item) → out.outs ≡ each_grew blank.outs F → (j : ℕ) → j < length r.op.writes → list_at out.outs j ≡ F j
+  out_is F e j lj = ap (λ (l : List (List item.Item)). list_at l j) (e ∙ ap (λ l. each_grew l F) b.outs) ∙ each_grew-blanks (outs r.op.kernel) F j [] (omega (arith, lj, writes_many))
 
   -- what a queue has
-  sent : (s : Machine) → Took blank out (fire r.op.kernel port x (s.kept o)) → Stands m s → (n : Name) → 0 < count n names → s.hist n ++ joined r.op.writes (fire r.op.kernel port x (s.kept o)).outs n ≡ list_at queues (place names n)
-  sent s t h n lt =
-      let f_s = (fire r.op.kernel port x (s.kept o)).outs in
+  queue_is : (F : ℕ → List item.Item) → out.outs ≡ each_grew blank.outs F → (n : Name) → 0 < count n names → list_at queues (place names n) ≡ hist_of m n ++ joined r.op.writes F n
+  queue_is F e n lt =
       let below : place names n < length m.queues = let p = place_below names n lt in let l = g.laid_out.queues in omega (arith, p, l) in
-      let port_is : (j : ℕ) → j < length r.op.writes → f_s j ≡ list_at out.outs j = λ j lj.
-      sym (ap (λ (l : List (List item.Item)). list_at l j) (t.outs ∙ ap (λ l. each_grew l f_s) b.outs) ∙ each_grew-blanks (outs r.op.kernel) f_s j [] (omega (arith, lj, writes_many))) in
-      ap (λ l. l ++ joined r.op.writes f_s n) (h.hist n lt)
-      ∙ ap (λ l. list_at m.queues (place names n) ++ l) (joined_cong_below r.op.writes f_s (list_at out.outs) n port_is)
-      ∙ ap (λ l. list_at m.queues (place names n) ++ l) (sym (joined_places names r.op.writes (list_at out.outs) n (write_declared m.plan g.valid o r.op r.op_is) lt))
-      ∙ sym (get_or-each_grew m.queues (joined_at (places names r.op.writes) (list_at out.outs)) (place names n) [] below)
-      ∙ ap (λ (l : List (List item.Item)). list_at l (place names n)) (sym eq)
+      ap (λ (l : List (List item.Item)). list_at l (place names n)) eq
+      ∙ get_or-each_grew m.queues (joined_at (places names r.op.writes) (list_at out.outs)) (place names n) [] below
+      ∙ ap (λ l. list_at m.queues (place names n) ++ l) (joined_places names r.op.writes (list_at out.outs) n (write_declared m.plan g.valid o r.op r.op_is) lt)
+      ∙ ap (λ l. list_at m.queues (place names n) ++ l) (joined_cong_below r.op.writes (list_at out.outs) F n (λ j lj. out_is F e j lj))
+
+  once : (n : Name) → count n r.op.writes ≤ 1
+  once n = let a = at_most (writes_it n) m.plan.ops o r.op r.op_is in let w = g.valid.written_once n in omega (arith, a, w)
 
   -- how many items were taken
   taken_next : (s : Machine) → Stands m s → (n : Name) → 0 < count n names → at_name q (s.taken q + 1) s.taken n ≡ slice_index_or (slice_set m.taken (place names q) (taken_of m q + 1)) (place names n) 0
@@ -161,36 +255,51 @@ module _ (m : Parts) (o port : ℕ) (q : Name) (x : item.Item) (blank out : Emit
       if_false (name_eq q n) (s.taken q + 1) (s.taken n) c.1 ∙ h.taken n lt ∙ sym (get_or-set_other m.taken (place names q) (place names n) (taken_of m q + 1) 0 other))
       (cases_name q n)
 
-  -- the states of each operator
-  kept_next : (s : Machine) → Stands m s → StandsFor r.op.kernel st (fire r.op.kernel port x (s.kept o)).states → (o' : ℕ) (op' : OpForm) → slice_get m.plan.ops o' ≡ Some op'
-      → StandsFor op'.kernel (list_at (slice_set m.states o st) o') (at_key o (fire r.op.kernel port x (s.kept o)).states s.kept o')
-  kept_next s h k o' op' g' =
-      let ks = (fire r.op.kernel port x (s.kept o)).states in
+  -- what holds of the operator that fired by its new word and states, and of the others by their old ones, holds of all
+  at_each : (P : (op : OpForm) → List State → Word → Type 0) (w : Word) (ws : ℕ → Word) → ((o' : ℕ) (op' : OpForm) → slice_get m.plan.ops o' ≡ Some op' → P op' (states_of m o') (ws o')) → P r.op st w
+      → (o' : ℕ) (op' : OpForm) → slice_get m.plan.ops o' ≡ Some op' → P op' (list_at (slice_set m.states o st) o') (at_key o w ws o')
+  at_each P w ws old new o' op' g' =
       let below : o < length m.states = let l = g.laid_out.states in omega (arith, o_below, l) in
       ⊎_elim
-      (λ e. at_same m.plan.ops (λ j d. StandsFor d.kernel (list_at (slice_set m.states o st) j) (at_key o ks s.kept j)) o o' r.op op' r.op_is g' e
-      (subst (λ (u : List State). StandsFor r.op.kernel u (at_key o ks s.kept o)) (sym (get_or-set_same m.states o st [] below)) (subst (StandsFor r.op.kernel st) (sym (at_key_same o ks s.kept)) k)))
-      (λ n. subst (λ (u : List State). StandsFor op'.kernel u (at_key o ks s.kept o')) (sym (get_or-set_other m.states o o' st [] (λ e. n (sym e)))) (subst (StandsFor op'.kernel (list_at m.states o')) (sym (at_key_other o ks s.kept o' n)) (h.kept o' op' g')))
+      (λ e. at_same m.plan.ops (λ j d. P d (list_at (slice_set m.states o st) j) (at_key o w ws j)) o o' r.op op' r.op_is g' e
+      (subst (λ (u : List State). P r.op u (at_key o w ws o)) (sym (get_or-set_same m.states o st [] below)) (subst (P r.op st) (sym (at_key_same o w ws)) new)))
+      (λ n. subst (λ (u : List State). P op' u (at_key o w ws o')) (sym (get_or-set_other m.states o o' st [] (λ e. n (sym e)))) (subst (P op' (list_at m.states o')) (sym (at_key_other o w ws o' n)) (old o' op' g')))
       (cases_eq o o')
 
   after : (s : Machine) → Stands m s → After m m' o port s
   after s h =
-      let fs = f.given (s.kept o) (h.kept o r.op r.op_is) in
+      let hx' : slice_get (hist_of m q) (s.taken q) ≡ Some i = ap (slice_get (hist_of m q)) (h.taken q q_there) ∙ hx in
+      let it = found (kinds q) (s.hist q) (hist_of m q) (s.taken q) i (h.hist q q_there) hx' in
+      let x = it.item in
+      let w = h.words o in
+      let before = ran r.op.kernel w in
+      let typed_w = h.received o r.op r.op_is in
+      let typed_x : IsOf reads port x = got_of kinds r.op.reads port q x r.queue_is (got_all (HasType (kinds q)) (s.hist q) (s.taken q) x (h.typed q) it.item_is) in
+      let held_x : held_at reads port (at_port port w) (x ∷ []) ≡ i ∷ [] =
+      ap (λ t. held_by t (at_port port w) (x ∷ [])) (kind_got kinds r.op.reads port q r.queue_is)
+      ∙ ap (λ l. held (kinds q) l (x ∷ [])) (h.traced.taken o r.op r.op_is port q r.queue_is).0 ∙ it.held_is in
+      let gave = does.gives.given w x typed_w typed_x (h.kept o r.op r.op_is) held_x in
+      let kept_is : before.states ≡ s.kept o = sym (h.traced.kept o r.op r.op_is) in
+      let res = fire r.op.kernel port x (s.kept o) in
+      let took : TookHeld writes before blank out res = subst (λ us. TookHeld writes before blank out (fire r.op.kernel port x us)) kept_is gave.0 in
+      let typed_out : AreOf writes res.outs = subst (λ us. AreOf writes (fire r.op.kernel port x us).outs) kept_is (fired_typed r.op.kernel reads writes _ w port x rows fits typed_w typed_x) in
+      let next = w ++ (port, x) ∷ [] in
       record {
         state = fired (table_names m.plan.tables) o r.op port q x s;
-        step = record {
-          op = r.op;
-          queue = q;
-          item = x;
-          op_is = r.op_is;
-          queue_is = r.queue_is;
-          item_is = ap (λ l. slice_get l (s.taken q)) (h.hist q q_there) ∙ ap (slice_get (hist_of m q)) (h.taken q q_there) ∙ hx;
-          after = refl;
-        };
+        step = record { op = r.op; queue = q; item = x; op_is = r.op_is; queue_is = r.queue_is; item_is = it.item_is; after = refl };
         stands = record {
-          hist = sent s fs.0 h;
+          hist = λ n lt.
+              queue_is (λ j. held_at writes j (before.outs j) (res.outs j)) took.outs n lt
+              ∙ ap (λ l. l ++ joined r.op.writes (λ j. held_at writes j (before.outs j) (res.outs j)) n) (h.hist n lt)
+              ∙ ap (λ l. held (kinds n) [] (s.hist n) ++ l) (joined_held kinds r.op.writes before.outs res.outs s.hist n (once n) (h.traced.written_by o r.op r.op_is))
+              ∙ sym (held-append (kinds n) [] (s.hist n) (joined r.op.writes res.outs n));
           taken = taken_next s h;
-          kept = kept_next s h fs.1;
+          typed = λ n. All-append (HasType (kinds n)) (s.hist n) (joined r.op.writes res.outs n) (h.typed n) (joined_of kinds r.op.writes res.outs typed_out n);
+          inputs = h.inputs;
+          words = at_key o next h.words;
+          traced = traced_fired m.plan (given_to m.plan h.inputs) g.valid (λ n z. nothing_given (decl_names m.plan.inputs) (list_at h.inputs) n z) s h.words o port r.op q x h.traced r.op_is r.queue_is it.item_is;
+          received = at_each (λ op u v. AreTyped (map (kinds_of m) op.reads) v) next h.words h.received (typed_append reads w ((port, x) ∷ []) typed_w (typed_x, tt));
+          kept = at_each (λ op u v. StandsAfter op.kernel u v) next h.words h.kept gave.1;
         };
       }
 
@@ -228,6 +337,9 @@ module _ (m : Parts) (o port : ℕ) (q : Name) (x : item.Item) (blank out : Emit
           reads = l.reads;
           writes = l.writes;
         };
+        fit = at_each (λ op u v. FitState op.kernel (map (kinds_of m) op.reads) u) [] (λ j. []) g.fit does.came.again;
+        items = λ n lt. subst (λ (l : List item.Item). All (IsHeld (kinds n)) l) (sym (queue_is does.came.outs does.came.outs_are n lt))
+            (All-append (IsHeld (kinds n)) (hist_of m n) (joined r.op.writes does.came.outs n) (g.items n lt) (joined_all kinds r.op.writes does.came.outs does.came.held n));
         inputs = g.inputs;
         typed = g.typed;
         ran = record {

@@ -1,19 +1,27 @@
 -- The first states of a plan's operators.
-use Rattle.std.specs.Prelude.{◌≡◌, ℕ, List, length, Some, slice_get}
+use Rattle.std.specs.Prelude.{◌≡◌, ℕ, List, [], length, Some, slice_get}
 use Rattle.river_base.specs.Places.{list_at}
+use Rattle.river_base.specs.declared.kind.QueueType.{QueueType}
+use Rattle.river_kernels.specs.declared.types.VarKind.{VarKind}
+use Rattle.river_kernels.specs.Fits.{Fits}
+use Rattle.river_kernels.specs.Kern.{Kern}
 use Rattle.river_plan.specs.Forms.{OpForm}
-use Rattle.brooklet_model.specs.Fire.{first_kept}
 use Rattle.brooklet_model.specs.Shapes.{IsFormed}
 use Rattle.brooklet_model.specs.Typed.{IsOnRows}
 use Rattle.brooklet_step.specs.declared.state.State.{State}
-use Rattle.brooklet_step.specs.Stands.{StandsFor}
+use Rattle.brooklet_step.specs.Given.{FitState, StandsAfter}
 
 -- each kernel is well formed, and on rows alone
 pub record CanStart (ops : List OpForm) : Type 0 where
   pub formed : (o : ℕ) (op : OpForm) → slice_get ops o ≡ Some op → IsFormed op.kernel
   pub on_rows : (o : ℕ) (op : OpForm) → slice_get ops o ≡ Some op → IsOnRows op.kernel
 
+-- the states stand for those before the first firing, and fit under each choice of types
+pub record IsFirst (k : Kern) (st : List State) : Type 0 where
+  pub after : StandsAfter k st []
+  pub again : (reads writes : List QueueType) (vars : List VarKind) → Fits k reads writes vars → FitState k reads st
+
 -- there are states for each operator, and they stand for its first ones
 pub record AreFirst (ops : List OpForm) (states : List (List State)) : Type 0 where
   pub count : length states ≡ length ops
-  pub stand : (o : ℕ) (op : OpForm) → slice_get ops o ≡ Some op → StandsFor op.kernel (list_at states o) (first_kept op.kernel)
+  pub stand : (o : ℕ) (op : OpForm) → slice_get ops o ≡ Some op → IsFirst op.kernel (list_at states o)

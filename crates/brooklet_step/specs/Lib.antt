@@ -1,6 +1,7 @@
 pub mod ByPlace
 pub mod Drained
 pub mod Fit
+pub mod Given
 pub mod Initial
 pub mod PartsCode
 pub mod Reading

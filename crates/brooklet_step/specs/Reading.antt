@@ -4,13 +4,12 @@ use Rattle.river_base.specs.declared.item.Item as item
 use Rattle.river_kernels.specs.Kern.{Kern}
 use Rattle.river_plan.specs.Forms.{Name, OpForm, PlanForm, queue_names}
 use Rattle.river_plan.specs.Names.{count}
-use Rattle.brooklet_model.specs.Fire.{fire}
 use Rattle.brooklet_step.specs.declared.emit.Emit.{Emit}
 use Rattle.brooklet_step.specs.declared.machine.Parts.{Parts}
 use Rattle.brooklet_step.specs.declared.state.State.{State}
 use Rattle.brooklet_step.specs.ByPlace.{place}
-use Rattle.brooklet_step.specs.Stands.{Applies, Fires}
-use Rattle.brooklet_step.specs.Took.{IsBlank}
+use Rattle.brooklet_step.specs.Given.{CanTake, FiresAt}
+use Rattle.brooklet_step.specs.Took.{HasRoom, IsBlank}
 use Rattle.brooklet_step.specs.Works.{ReadsAt}
 
 -- the operator has this port, and this is the place of the queue that it reads there
@@ -31,13 +30,14 @@ IsPlaceRead m o port None = (q : Name) → ReadsAt m.plan o port q → ⊥
 pub record CanFire (p : PlanForm) (o port : ℕ) (x : item.Item) (st : List State) : Type 0 where
   pub op : OpForm
   pub op_is : slice_get p.ops o ≡ Some op
-  pub applies : (blank : Emit) → IsBlank op.kernel blank → Applies op.kernel port x st blank
+  pub applies : (blank : Emit) → IsBlank op.kernel blank → CanTake op.kernel port x st blank
 
 -- these lists came to empty ones by a firing of the kernel
 pub record CameOf (k : Kern) (port : ℕ) (x : item.Item) (st st' : List State) (out : Emit) : Type 0 where
   pub blank : Emit
   pub is_blank : IsBlank k blank
-  pub fires : Fires k blank out st st' (fire k port x)
+  pub room : HasRoom k out
+  pub fires : FiresAt k port x blank out st st'
 
 -- the operator fired
 pub record FiredOp (p : PlanForm) (o port : ℕ) (x : item.Item) (st st' : List State) (out : Emit) : Type 0 where

@@ -1,17 +1,23 @@
 -- What a machine keeps, and the state of the definition that it stands for.
-use Rattle.std.specs.Prelude.{◌≡◌, ℕ, ℤ, pos, ◌<◌, false, min, List, [], ◌∷◌, ◌++◌, length, map, Some, slice_get, slice_index_or}
+use Rattle.std.specs.Prelude.{◌≡◌, ℕ, ℤ, pos, ◌<◌, false, min, List, [], ◌∷◌, ◌++◌, length, map, Some, All, slice_get, slice_index_or}
 use Rattle.river_base.specs.declared.item.Item as item
+use Rattle.river_base.specs.declared.kind.QueueType.{QueueType}
+use Rattle.river_base.specs.Held.{held, HasType, IsHeld}
 use Rattle.river_base.specs.Places.{list_at}
-use Rattle.river_plan.specs.Forms.{Name, OpForm, PlanForm, queue_names}
+use Rattle.river_plan.specs.Forms.{Name, OpForm, PlanForm, all_decls, table_names, queue_names}
+use Rattle.river_plan.specs.Kinds.{kind_of}
 use Rattle.river_plan.specs.Names.{count}
 use Rattle.river_plan.specs.Valid.{IsPlan}
 use Rattle.brooklet_model.specs.Histories.{most_firings}
 use Rattle.brooklet_model.specs.Machine.{Machine, Step, Run, start, times}
+use Rattle.brooklet_model.specs.Laws.{given_to}
+use Rattle.brooklet_model.specs.Traced.{Traced}
 use Rattle.brooklet_model.specs.Typed.{IsBuilt, AreInputs}
+use Rattle.brooklet_model.specs.Words.{Word}
 use Rattle.brooklet_step.specs.declared.machine.Parts.{Parts}
 use Rattle.brooklet_step.specs.declared.state.State.{State}
 use Rattle.brooklet_step.specs.ByPlace.{place, places}
-use Rattle.brooklet_step.specs.Stands.{StandsFor}
+use Rattle.brooklet_step.specs.Given.{AreTyped, FitState, StandsAfter}
 
 -- all items ever put into a queue, and how many of them were taken
 abbrev pub hist_of : Parts → Name → List item.Item
@@ -27,12 +33,20 @@ states_of m o = list_at m.states o
 abbrev pub count_of : Parts → ℕ → ℕ
 count_of m o = slice_index_or m.counts o 0
 
--- the machine stands for a state of the definition: its queues hold the histories, as many items were taken, and the states
--- of each operator stand for the defined ones
+abbrev pub kinds_of : Parts → Name → QueueType
+kinds_of m q = kind_of (all_decls m.plan) q
+
+-- the machine stands for a state of the definition: its queues hold what queues of their types hold for the histories, as many
+-- items were taken, and some firings of each operator led to that state, after which the operator's states stand
 pub record Stands (m : Parts) (s : Machine) : Type 0 where
-  pub hist : (q : Name) → 0 < count q (queue_names m.plan) → s.hist q ≡ hist_of m q
+  pub hist : (q : Name) → 0 < count q (queue_names m.plan) → hist_of m q ≡ held (kinds_of m q) [] (s.hist q)
   pub taken : (q : Name) → 0 < count q (queue_names m.plan) → s.taken q ≡ taken_of m q
-  pub kept : (o : ℕ) (op : OpForm) → slice_get m.plan.ops o ≡ Some op → StandsFor op.kernel (states_of m o) (s.kept o)
+  pub typed : (q : Name) → All (HasType (kinds_of m q)) (s.hist q)
+  pub inputs : List (List item.Item)
+  pub words : ℕ → Word
+  pub traced : Traced (table_names m.plan.tables) m.plan.ops (given_to m.plan inputs) s words
+  pub received : (o : ℕ) (op : OpForm) → slice_get m.plan.ops o ≡ Some op → AreTyped (map (kinds_of m) op.reads) (words o)
+  pub kept : (o : ℕ) (op : OpForm) → slice_get m.plan.ops o ≡ Some op → StandsAfter op.kernel (states_of m o) (words o)
 
 -- operator number o has a port of this number, which reads this queue
 pub record ReadsAt (p : PlanForm) (o port : ℕ) (queue : Name) : Type 0 where
@@ -73,6 +87,8 @@ pub record GoesOn (m : Parts) : Type 0 where
   pub valid : IsPlan m.plan
   pub built : IsBuilt m.plan
   pub laid_out : IsLaidOut m
+  pub fit : (o : ℕ) (op : OpForm) → slice_get m.plan.ops o ≡ Some op → FitState op.kernel (map (kinds_of m) op.reads) (states_of m o)
+  pub items : (q : Name) → 0 < count q (queue_names m.plan) → All (IsHeld (kinds_of m q)) (hist_of m q)
   pub inputs : List (List item.Item)
   pub typed : AreInputs m.plan.inputs inputs
   pub ran : Ran m inputs

@@ -2,14 +2,12 @@
 ghost use Rattle.std.specs.Prelude.{◌≡◌, ◌∷◌, [], ◌++◌, IfOk, OnOk};
 ghost use Rattle.river_base.specs.Held.{flats as flats_in};
 ghost use Rattle.river_kernels.specs.Kern.{kern_of};
-ghost use Rattle.brooklet_model.specs.Firings.{feed};
-ghost use Rattle.brooklet_model.specs.Fire.{fire as fire_lem};
-ghost use Rattle.brooklet_step.specs.Took.{HasRoom, IsBlank};
-ghost use Rattle.brooklet_step.specs.Stands.{Applies, TakesAll, Fires};
+ghost use Rattle.brooklet_step.specs.Took.{IsBlank};
+ghost use Rattle.brooklet_step.specs.Given.{CanTake, CanTakeAll, FiresAt, FiresEach};
 
 use crate::counts::{outs_of, privates_of, tabs_of};
 use crate::emit::Emit;
-use crate::leaf::{fire_code, fire_collect, fire_deal, fire_filter, fire_unpack};
+use crate::single::{fire_leaf, is_leaf};
 use crate::state::{State, States};
 use river_base::{Duplicate, Flats, Item, Items, NoMemory};
 use river_plan::Kernel;
@@ -58,8 +56,8 @@ pub fn fire(
     states: &mut States,
     out: &mut Emit,
 ) -> Result<(), NoMemory>
-    requires { Applies (kern_of kernel.now) port item states.old out.old }
-    ensures { OnOk result (Fires (kern_of kernel.now) out.old out.new states.old states.new (fire_lem (kern_of kernel.now) port item)) }
+    requires { CanTake (kern_of kernel.now) port item states.old out.old }
+    ensures { OnOk result (FiresAt (kern_of kernel.now) port item out.old out.new states.old states.new) }
 {
     fire_on(alloc, kernel, port, item, states.as_mut_slice(), out)?;
     Ok(())
@@ -74,34 +72,14 @@ fn fire_on(
     states: &mut [State],
     out: &mut Emit,
 ) -> Result<(), NoMemory>
-    requires { Applies (kern_of kernel.now) port item states.old out.old }
-    ensures { OnOk result (Fires (kern_of kernel.now) out.old out.new states.old states.new (fire_lem (kern_of kernel.now) port item)) }
+    requires { CanTake (kern_of kernel.now) port item states.old out.old }
+    ensures { OnOk result (FiresAt (kern_of kernel.now) port item out.old out.new states.old states.new) }
 {
+    if is_leaf(kernel) {
+        fire_leaf(alloc, kernel, port, item, states, out)?;
+        return Ok(());
+    }
     match kernel {
-        Kernel::Code(code) => {
-            fire_code(alloc, code, &item, states, out)?;
-            Ok(())
-        }
-        Kernel::Filter(filter) => {
-            fire_filter(alloc, filter, &item, &mut states[0], out)?;
-            Ok(())
-        }
-        Kernel::Duplicate(_) => {
-            out.give_everywhere(alloc, &item)?;
-            Ok(())
-        }
-        Kernel::Deal(weights) => {
-            fire_deal(weights, item, &mut states[0], out)?;
-            Ok(())
-        }
-        Kernel::Collect(weights) => {
-            fire_collect(alloc, weights, port, item, &mut states[0], out)?;
-            Ok(())
-        }
-        Kernel::Unpack(ports) => {
-            fire_unpack(alloc, *ports, port, item, &mut states[0], out)?;
-            Ok(())
-        }
         Kernel::Packed(inner) => {
             let mut given = Emit::blank(alloc, 1, 0)?;
             fire_on(alloc, inner, port, item, states, &mut given)?;
@@ -119,12 +97,7 @@ fn fire_on(
             out.splice(alloc, &mid, &last, *at as usize)?;
             Ok(())
         }
-        Kernel::Window(_)
-        | Kernel::Select(_)
-        | Kernel::Project(_)
-        | Kernel::Cross
-        | Kernel::Streamer(_)
-        | Kernel::Tally => unreachable!(),
+        _ => unreachable!(),
     }
 }
 
@@ -137,9 +110,8 @@ fn fire_each(
     states: &mut [State],
     out: &mut Emit,
 ) -> Result<(), NoMemory>
-    requires takes { TakesAll (kern_of kernel.now) items.now states.old }
-    requires room { HasRoom (kern_of kernel.now) out.old }
-    ensures { OnOk result (Fires (kern_of kernel.now) out.old out.new states.old states.new (feed (fire_lem (kern_of kernel.now) 0) items.now)) }
+    requires { CanTakeAll (kern_of kernel.now) items.now states.old out.old }
+    ensures { OnOk result (FiresEach (kern_of kernel.now) items.now out.old out.new states.old states.new) }
 {
     for place in 0..items.len() {
         fire_on(alloc, kernel, 0, items.at(place).copy(alloc)?, states, out)?;

@@ -5,7 +5,7 @@ ghost use Rattle.river_plan.specs.Forms.{plan_form};
 ghost use Rattle.brooklet_model.specs.Typed.{AreInputs};
 ghost use Rattle.brooklet_step.specs.Fit.{Fit, instant_of, instants, Rises, HasInstants, AreInstants, IsStream, IsStreamAt};
 
-use crate::kinds::item_fits;
+use crate::kinds::has_type;
 use river_base::{Flat, FlatType, Item, Items, Listed, QueueType};
 use river_plan::{Decls, Plan};
 
@@ -48,7 +48,7 @@ fn are_typed(decls: &Decls, inputs: &Inputs) -> bool
 fn all_fit(kind: &QueueType, items: &Items) -> bool
     ensures { IsTrue result ↔ All (HasType kind.now) items.now }
 {
-    items.as_slice().iter().all(|item| item_fits(kind, item))
+    items.as_slice().iter().all(|item| has_type(kind, item))
 }
 
 // The place of the first input that is a stream.

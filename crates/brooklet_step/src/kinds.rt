@@ -1,6 +1,6 @@
 // Which plans the machine runs, and which items have a type.
 ghost use Rattle.std.specs.Prelude.{◌≡◌, ◌↔◌, IsTrue, All, length};
-ghost use Rattle.river_base.specs.Held.{HasType, HasFlatType, HaveWidth, IsAscending};
+ghost use Rattle.river_base.specs.Held.{HasType, IsHeld, HasFlatType, HaveWidth, IsAscending};
 ghost use Rattle.river_plan.specs.Forms.{plan_form};
 ghost use Rattle.brooklet_model.specs.Typed.{IsRows, IsBuilt};
 
@@ -34,8 +34,15 @@ fn is_rows(kind: &QueueType) -> bool
     }
 }
 
-/// Whether an item has this type.
+/// Whether a queue of this type may hold the item.
 pub fn item_fits(kind: &QueueType, item: &Item) -> bool
+    ensures { IsTrue result ↔ IsHeld kind.now item.now }
+{
+    has_type(kind, item)
+}
+
+/// Whether an item has this type.
+pub(crate) fn has_type(kind: &QueueType, item: &Item) -> bool
     ensures { IsTrue result ↔ HasType kind.now item.now }
 {
     match kind {

@@ -13,6 +13,7 @@ mod leaf;
 mod machine;
 mod places;
 mod run;
+mod single;
 mod start;
 mod state;
 mod step;

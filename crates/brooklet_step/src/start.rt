@@ -11,6 +11,7 @@ ghost use Rattle.brooklet_model.specs.Shapes.{IsFormed};
 ghost use Rattle.brooklet_model.specs.Typed.{IsOnRows};
 ghost use Rattle.brooklet_step.specs.declared.state.State.TheVariants as variant;
 ghost use Rattle.brooklet_step.specs.Took.{IsBlank};
+ghost use Rattle.brooklet_step.specs.Initial.{IsFirst};
 ghost use Rattle.brooklet_step.specs.Stands.{StandsFor, StandsForSlots, StandsForFilter, StandsForTurn};
 
 use crate::emit::Emit;
@@ -125,7 +126,7 @@ fn states_of(alloc: Global, kernel: &Kernel) -> Result<States, NoMemory>
 pub fn first_states(alloc: Global, kernel: &Kernel) -> Result<(States, Emit), NoMemory>
     requires formed { IsFormed (kern_of kernel.now) }
     requires on_rows { IsOnRows (kern_of kernel.now) }
-    ensures states { IfOk result (λ both. StandsFor (kern_of kernel.now) both.0 (first_kept (kern_of kernel.now))) }
+    ensures states { IfOk result (λ both. IsFirst (kern_of kernel.now) both.0) }
     ensures emit { IfOk result (λ both. IsBlank (kern_of kernel.now) both.1) }
 {
     let states = states_of(alloc, kernel)?;

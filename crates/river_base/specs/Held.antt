@@ -39,7 +39,7 @@ unfoldable pub held : queue_type.QueueType → List item.Item → List item.Item
 held t past xs = xs
 
 -- the item is what a queue of this type may hold
-abbrev pub IsHeld : queue_type.QueueType → item.Item → Type 0
+unfoldable pub IsHeld : queue_type.QueueType → item.Item → Type 0
 IsHeld t i = HasType t i
 
 -- no relation, and no packs of one

@@ -1,0 +1,166 @@
+-- The conditions of firings, in the terms of the code.
+use Rattle.std.proofs.Common.{◌≡◌, ℕ, ◌+◌, ◌<◌, ◌≤◌, List, [], ◌∷◌, ◌++◌, length, take, drop, replicate, refl, sym, ap, ◌∙◌, subst, arith, get_or}
+use Rattle.std.specs.Prelude.{All, slice_get}
+use Rattle.std.proofs.lemmas.List.{take_more}
+use Rattle.river_base.specs.declared.item.Item as item
+use Rattle.river_base.specs.declared.item.Item.TheVariants.{Pack}
+use Rattle.river_base.specs.declared.item.Flat as flat
+use Rattle.river_base.specs.declared.kind.QueueType.{QueueType}
+use Rattle.river_base.specs.declared.kind.QueueType.TheVariants.{Flat as FlatOf}
+use Rattle.river_base.specs.Held.{flats}
+use Rattle.river_base.specs.Places.{each_grew, list_at}
+use Rattle.river_kernels.specs.Fits.{Fits}
+use Rattle.river_kernels.specs.Types.{types_of}
+use Rattle.river_kernels.specs.Kern.{Kern, packed, fused}
+use Rattle.brooklet_model.specs.Firings.{gives, splice, beside}
+use Rattle.brooklet_model.specs.Fire.{outs, tabs, privates}
+use Rattle.brooklet_model.specs.Shapes.{IsShaped}
+use Rattle.brooklet_model.specs.Typed.{between}
+use Rattle.brooklet_model.proofs.Ports.{shaped}
+use Rattle.brooklet_model.proofs.Typing.{between_is}
+use Rattle.brooklet_step.specs.declared.emit.Emit.{Emit}
+use Rattle.brooklet_step.specs.declared.state.State.{State}
+use Rattle.brooklet_step.specs.Took.{Took, HasRoom, IsBlank}
+use Rattle.brooklet_step.specs.Given.{IsHeldBy, IsHeldOf, FitState, FiresAt, FiresEach, Does, CanTake, CanTakeAll}
+use Rattle.brooklet_step.proofs.Fires.{grown_list}
+use Rattle.brooklet_step.proofs.Fused.{Parts, Rooms, mine_is, rest_is}
+use Rattle.brooklet_step.proofs.GivenLemmas.{fit_length}
+use Rattle.brooklet_step.proofs.GivenFires.{each_step}
+use Rattle.brooklet_step.proofs.GivenParts.{blank_room, came_room, packed_does, fused_does}
+
+pub one_taken : (k : Kern) (xs : List item.Item) (i : ℕ) (x : item.Item) (st : List State) (out : Emit) → CanTakeAll k xs st out → i < length xs → x ≡ get_or xs i x → CanTake k 0 x st out
+one_taken k xs i x st out t lt e = record { reads = t.reads; fitting = t.fitting; item = subst (IsHeldOf t.reads 0) (sym e) (t.items i x lt); room = t.room }
+
+-- a kernel that fired can fire again
+pub fires_again : (k : Kern) (p : ℕ) (i : item.Item) (e e' : Emit) (st st' : List State) (t : CanTake k p i st e) → FiresAt k p i e e' st st' → FitState k t.reads st' × HasRoom k e'
+fires_again k p i e e' st st' t f =
+    let d = f.each t.reads t.fitting.writes t.fitting.vars t.fitting.fits t.fitting.state t.item in
+    (d.came.again, came_room k t.reads t.fitting.writes e e' st' t.room d.came)
+
+pub all_after : (k : Kern) (xs : List item.Item) (i : ℕ) (x : item.Item) (e e' : Emit) (st st' : List State) → CanTakeAll k xs st e → i < length xs → x ≡ get_or xs i x → FiresAt k 0 x e e' st st' → CanTakeAll k xs st' e'
+unfolding one_taken
+all_after k xs i x e e' st st' t lt is f =
+    let d = fires_again k 0 x e e' st st' (one_taken k xs i x st e t lt is) f in
+    record { reads = t.reads; fitting = record { on_rows = t.fitting.on_rows; writes = t.fitting.writes; vars = t.fitting.vars; fits = t.fitting.fits; state = d.0 }; items = t.items; room = d.1 }
+
+pub each_more : (k : Kern) (xs : List item.Item) (i : ℕ) (x : item.Item) (st st1 st2 : List State) (e e' e'' : Emit) → i < length xs → x ≡ get_or xs i x → FiresEach k (take i xs) e e' st st1 → FiresAt k 0 x e' e'' st1 st2 → FiresEach k (take (i + 1) xs) e e'' st st2
+each_more k xs i x st st1 st2 e e' e'' lt is f u =
+    let more : take i xs ++ x ∷ [] ≡ take (i + 1) xs = ap (λ d. take i xs ++ d ∷ []) is ∙ sym (take_more xs i x lt) in
+    subst (λ (l : List item.Item). FiresEach k l e e'' st st2) more (each_step k (take i xs) x st st1 st2 e e' e'' f u)
+
+-- A KERNEL IN A PACK
+
+pub packed_taken : (k j j1 : Kern) (port : ℕ) (x : item.Item) (st : List State) (out e : Emit) → k ≡ packed j → j1 ≡ j → CanTake k port x st out → e.outs ≡ replicate 1 [] → e.adds ≡ replicate 0 [] → CanTake j1 port x st e
+packed_taken k j j1 port x st out e ek ej t o a =
+    let t' = subst (λ (i : Kern). CanTake i port x st out) ek t in
+    let f = t'.fitting.fits in
+    let s : IsShaped (packed j) = shaped (packed j) t'.reads t'.fitting.writes t'.fitting.vars f in
+    subst (λ (i : Kern). CanTake i port x st e) (sym ej) (record {
+      reads = t'.reads;
+      fitting = record { on_rows = t'.fitting.on_rows; writes = FlatOf f.1 ∷ []; vars = []; fits = subst (λ (l : List QueueType). Fits j l (FlatOf f.1 ∷ []) []) (sym f.2) f.5; state = t'.fitting.state };
+      item = t'.item;
+      room = record { outs = ap length o ∙ sym s.2; adds = ap length a ∙ sym s.3 };
+    })
+
+pub packed_whole : (k j j1 : Kern) (port : ℕ) (x : item.Item) (st st' : List State) (out out' e e' : Emit) (items : List item.Item) (fs : List flat.Flat) → k ≡ packed j → j1 ≡ j → CanTake k port x st out → e.outs ≡ replicate 1 [] → FiresAt j1 port x e e' st st' → items ≡ list_at e'.outs 0 → fs ≡ flats items → Took out out' (gives 0 (Pack fs ∷ []) []) → FiresAt k port x out out' st st'
+packed_whole k j j1 port x st st' out out' e e' items fs ek ej t b f ei ef took =
+    let t' = subst (λ (i : Kern). CanTake i port x st out) ek t in
+    subst (λ (i : Kern). FiresAt i port x out out' st st') (sym ek) (packed_does j port x st st' out out' e e' items fs t'.fitting.on_rows b (subst (λ (i : Kern). FiresAt i port x e e' st st') ej f) ei ef took)
+
+-- TWO KERNELS
+
+pub count_fits : (k a b : Kern) (at count port : ℕ) (x : item.Item) (st : List State) (out : Emit) → k ≡ fused a b at → count ≡ privates a → CanTake k port x st out → count ≤ length st
+count_fits k a b at count port x st out ek ec t =
+    let l = fit_length k t.reads st t.fitting.state ∙ ap privates ek in
+    omega (arith, l, ec)
+
+module _ (k a b : Kern) (at count port : ℕ) (x : item.Item) (st mine rest : List State) (out mid0 : Emit) (p : Parts k a b at count st mine rest) (t0 : CanTake k port x st out) (bm : IsBlank a mid0) where
+  abbrev t : CanTake (fused a b at) port x st out
+  t = subst (λ (j : Kern). CanTake j port x st out) p.kernel t0
+
+  first_state : FitState a t.reads mine
+  first_state = subst (FitState a t.reads) (sym (mine_is k a b at count st mine rest p)) t.fitting.state.0
+
+  is_shaped : IsShaped (fused a b at)
+  is_shaped = shaped (fused a b at) t.reads t.fitting.writes t.fitting.vars t.fitting.fits
+
+  pub first_of : CanTake a port x mine mid0
+  first_of = record {
+    reads = t.reads;
+    fitting = record { on_rows = t.fitting.on_rows.0; writes = t.fitting.fits.0; vars = t.fitting.fits.3; fits = t.fitting.fits.5; state = first_state };
+    item = t.item;
+    room = blank_room a mid0 bm;
+  }
+
+  module _ (mine' : List State) (mid : Emit) (fm : FiresAt a port x mid0 mid mine mine') where
+    abbrev da : Does a t.reads t.fitting.fits.0 port x mid0 mid mine mine'
+    da = fm.each t.reads t.fitting.fits.0 t.fitting.fits.3 t.fitting.fits.5 first_state t.item
+
+    pub first_room : HasRoom a mid
+    first_room = came_room a t.reads t.fitting.fits.0 mid0 mid mine' (blank_room a mid0 bm) da.came
+
+    pub at_below : at < length mid.outs
+    at_below = subst (λ n. at < n) (sym first_room.outs) is_shaped.2
+
+    module _ (last0 : Emit) (items : List item.Item) (is : items ≡ list_at mid.outs at) (bl : IsBlank b last0) where
+      abbrev m : QueueType
+      m = t.fitting.fits.1
+
+      second_state : FitState b (m ∷ []) rest
+      second_state = subst (FitState b (m ∷ [])) (sym (rest_is k a b at count st mine rest p))
+          (subst (λ (l : List QueueType). FitState b l (drop (privates a) st)) (between_is a t.reads t.fitting.fits.0 m t.fitting.fits.3 at t.fitting.fits.5 t.fitting.fits.6) t.fitting.state.1)
+
+      items_held : All (IsHeldOf (m ∷ []) 0) items
+      items_held =
+          let e : items ≡ da.came.outs at = is ∙ grown_list (outs a) mid0.outs mid.outs da.came.outs at bm.outs da.came.outs_are is_shaped.2 in
+          subst (λ (l : List item.Item). All (IsHeldOf (m ∷ []) 0) l) (sym e) (subst (λ o. All (IsHeldBy o) (da.came.outs at)) t.fitting.fits.6 (da.came.held at))
+
+      pub second_of : CanTakeAll b items rest last0
+      second_of = record {
+        reads = m ∷ [];
+        fitting = record { on_rows = t.fitting.on_rows.1; writes = t.fitting.fits.2; vars = t.fitting.fits.4; fits = t.fitting.fits.7; state = second_state };
+        items = items_held;
+        room = blank_room b last0 bl;
+      }
+
+      pub last_room : (rest' : List State) (last : Emit) → FiresEach b items last0 last rest rest' → HasRoom b last
+      last_room rest' last fl =
+          let d = fl.each (m ∷ []) t.fitting.fits.2 t.fitting.fits.4 t.fitting.fits.7 second_state items_held in
+          came_room b (m ∷ []) t.fitting.fits.2 last0 last rest' (blank_room b last0 bl) d.came
+
+      pub rooms_of : (rest' : List State) (last : Emit) → FiresEach b items last0 last rest rest' → Rooms a b at out mid last
+      rooms_of rest' last fl =
+          let l = last_room rest' last fl in
+          let lo = l.outs in
+          let la = l.adds in
+          let fo = first_room.outs in
+          let fa = first_room.adds in
+          let ro = t.room.outs in
+          let ra = t.room.adds in
+          let lt = is_shaped.2 in
+          record { place = at_below; outs = omega (arith, lo, fo, ro, lt); adds = omega (arith, la, fa, ra) }
+
+pub first_taken : (k a b : Kern) (at count port : ℕ) (x : item.Item) (st mine rest : List State) (out mid0 : Emit) → Parts k a b at count st mine rest → CanTake k port x st out → IsBlank a mid0 → CanTake a port x mine mid0
+first_taken k a b at count port x st mine rest out mid0 p t bm = first_of k a b at count port x st mine rest out mid0 p t bm
+
+pub at_fits : (k a b : Kern) (at count port : ℕ) (x : item.Item) (st mine rest mine' : List State) (out mid0 mid : Emit) → Parts k a b at count st mine rest → CanTake k port x st out → IsBlank a mid0 → FiresAt a port x mid0 mid mine mine' → at < length mid.outs
+at_fits k a b at count port x st mine rest mine' out mid0 mid p t bm fm = at_below k a b at count port x st mine rest out mid0 p t bm mine' mid fm
+
+pub second_taken : (k a b : Kern) (at count port : ℕ) (x : item.Item) (st mine rest mine' : List State) (out mid0 mid last0 : Emit) (items : List item.Item) → Parts k a b at count st mine rest → CanTake k port x st out → IsBlank a mid0 → FiresAt a port x mid0 mid mine mine' → items ≡ list_at mid.outs at → IsBlank b last0 → CanTakeAll b items rest last0
+second_taken k a b at count port x st mine rest mine' out mid0 mid last0 items p t bm fm is bl = second_of k a b at count port x st mine rest out mid0 p t bm mine' mid fm last0 items is bl
+
+pub rooms : (k a b : Kern) (at count port : ℕ) (x : item.Item) (st mine rest mine' rest' : List State) (out mid0 mid last0 last : Emit) (items : List item.Item) → Parts k a b at count st mine rest → CanTake k port x st out → IsBlank a mid0 → FiresAt a port x mid0 mid mine mine' → IsBlank b last0 → items ≡ list_at mid.outs at → FiresEach b items last0 last rest rest' → Rooms a b at out mid last
+rooms k a b at count port x st mine rest mine' rest' out mid0 mid last0 last items p t bm fm bl is fl = rooms_of k a b at count port x st mine rest out mid0 p t bm mine' mid fm last0 items is bl rest' last fl
+
+pub parts_fire : (k a b : Kern) (at count port : ℕ) (x : item.Item) (st mine rest mine' rest' : List State) (out new mid0 mid last0 last : Emit) (items : List item.Item) → Parts k a b at count st mine rest → CanTake k port x st out → IsBlank a mid0 → FiresAt a port x mid0 mid mine mine' → IsBlank b last0 → items ≡ list_at mid.outs at → FiresEach b items last0 last rest rest' → new.outs ≡ each_grew out.outs (splice at (length last.outs) (list_at mid.outs) (list_at last.outs)) → new.adds ≡ each_grew out.adds (beside (length mid.adds) (list_at mid.adds) (list_at last.adds)) → FiresAt k port x out new st (mine' ++ rest')
+parts_fire k a b at count port x st mine rest mine' rest' out new mid0 mid last0 last items p t bm fm bl is fl eo ea =
+    let fm' = subst (λ (l : List State). FiresAt a port x mid0 mid l mine') (mine_is k a b at count st mine rest p) fm in
+    let fl' = subst (λ (l : List State). FiresEach b items last0 last l rest') (rest_is k a b at count st mine rest p) fl in
+    let t' = subst (λ (j : Kern). CanTake j port x st out) p.kernel t in
+    subst (λ (j : Kern). FiresAt j port x out new st (mine' ++ rest')) (sym p.kernel) (fused_does a b at port x st mine' rest' out new mid0 mid last0 last items t'.fitting.on_rows t'.room bm fm' bl is fl' eo ea)
+
+-- a kernel that fired can take another item of the same types
+pub takes_again : (k : Kern) (p q : ℕ) (i j : item.Item) (e e' : Emit) (st st' : List State) (t : CanTake k p i st e) → FiresAt k p i e e' st st' → IsHeldOf t.reads q j → CanTake k q j st' e'
+takes_again k p q i j e e' st st' t f h =
+    let d = fires_again k p i e e' st st' t f in
+    record { reads = t.reads; fitting = record { on_rows = t.fitting.on_rows; writes = t.fitting.writes; vars = t.fitting.vars; fits = t.fitting.fits; state = d.0 }; item = h; room = d.1 }

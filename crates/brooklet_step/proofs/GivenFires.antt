@@ -1,0 +1,221 @@
+-- Firings after others: kernels without a kernel inside, packs, and firings one after another.
+use Rattle.std.proofs.Common.{◌≡◌, ℕ, ◌+◌, ◌-◌, ◌<◌, ◌≤◌, List, [], ◌∷◌, ◌++◌, length, take, drop, replicate, refl, sym, ap, ◌∙◌, subst, arith, get_or, append_assoc, length-append}
+use Rattle.std.specs.Prelude.{All, slice_get, Some}
+use Rattle.std.proofs.lemmas.List.{take_more, append-nil, length-take, take-append-drop}
+use Rattle.std.proofs.lemmas.List.Elements.{All-head, All-tail, All-cons, All-nil, All-append}
+use Rattle.river_base.specs.declared.item.Item as item
+use Rattle.river_base.specs.declared.item.Item.TheVariants.{Flat, Pack}
+use Rattle.river_base.specs.declared.item.Flat as flat
+use Rattle.river_base.specs.declared.kind.FlatType.{FlatType}
+use Rattle.river_base.specs.declared.kind.QueueType.{QueueType}
+use Rattle.river_base.specs.declared.kind.QueueType.TheVariants.{Flat as FlatOf, Pack as PackOf}
+use Rattle.river_base.specs.Held.{held, HasType, IsHeld, flats, as_items, opened, items_of}
+use Rattle.river_base.specs.Places.{each_grew, only, none, list_at}
+use Rattle.river_base.proofs.HeldLemmas.{held-pack, flats-as_items}
+use Rattle.river_base.proofs.PlaceLemmas.{each_grew_cong, each_grew-none, each_grew-each_grew, length-each_grew}
+use Rattle.river_kernels.specs.declared.types.VarKind.{VarKind}
+use Rattle.river_kernels.specs.Fits.{Fits}
+use Rattle.river_kernels.specs.Kern.{Kern, code, filter, duplicate, deal, collect, packed, unpack, window, select, project, cross, streamer, tally, fused}
+use Rattle.brooklet_model.specs.Firings.{Kept, Fired, Same, feed, and_then, gives}
+use Rattle.brooklet_model.specs.Fire.{fire, first_kept, outs, tabs}
+use Rattle.brooklet_model.specs.Shapes.{IsShaped}
+use Rattle.brooklet_model.specs.Typed.{IsOf, AreOf, IsOnRows}
+use Rattle.brooklet_model.specs.Words.{Word, run, at_port, word_of}
+use Rattle.brooklet_model.proofs.Lists.{feed-append, feed_one}
+use Rattle.brooklet_model.proofs.Ports.{shaped}
+use Rattle.brooklet_model.proofs.Feeds.{feed_word}
+use Rattle.brooklet_model.proofs.Free.{at_port-append}
+use Rattle.brooklet_model.proofs.Typing.{fire_typed, flats_of}
+use Rattle.brooklet_step.specs.declared.emit.Emit.{Emit}
+use Rattle.brooklet_step.specs.declared.state.State.{State}
+use Rattle.brooklet_step.specs.Stands.{StandsFor, Fires, Applies, Keeps}
+use Rattle.brooklet_step.specs.Took.{Took, HasRoom, IsBlank}
+use Rattle.brooklet_step.specs.Given.{held_at, IsHeldOf, AreHeldOf, AreTyped, FitState, IsLeaf, ran, StandsAfter, TookHeld, Gives, Came, Does, FiresAt, GivesAll, DoesAll, FiresEach, Fitting, CanTake, CanTakeAll}
+use Rattle.brooklet_step.proofs.Standing.{stands_shape}
+use Rattle.brooklet_step.proofs.Fires.{grown_list}
+use Rattle.brooklet_step.proofs.GivenLemmas.{at-nil, at-append, at-length, at-same, of_held, held_of, all_held, typed_append, typed_word, at_word, word_append, at_next, ran_more, ran_typed, fired_typed, fit_of, leaf_kept, fit_length, leaf_to, leaf_from}
+
+-- KERNELS WITHOUT A KERNEL INSIDE
+
+leaf_rows : (k : Kern) → IsLeaf k → IsOnRows k
+leaf_rows (code k) l = tt
+leaf_rows (filter f) l = tt
+leaf_rows (duplicate n) l = tt
+leaf_rows (deal ws) l = tt
+leaf_rows (collect ws) l = tt
+leaf_rows (packed k) l = absurd l
+leaf_rows (unpack n) l = tt
+leaf_rows (window w) l = absurd l
+leaf_rows (select e) l = absurd l
+leaf_rows (project es) l = absurd l
+leaf_rows cross l = absurd l
+leaf_rows (streamer s) l = absurd l
+leaf_rows tally l = absurd l
+leaf_rows (fused a b at) l = absurd l
+
+head_item : (x i : item.Item) → x ∷ [] ≡ i ∷ [] → x ≡ i
+head_item x i e = cc
+
+-- the condition of a kernel without a kernel inside, in the terms of the definition's states
+pub leaf_applies : (k : Kern) (port : ℕ) (i : item.Item) (st : List State) (out : Emit) → IsLeaf k → CanTake k port i st out → Applies k port i st out
+leaf_applies k port i st out l t =
+    let s = leaf_kept k t.reads st l t.fitting.state in
+    record {
+      takes = record {
+        reads = t.reads;
+        fitted = record { on_rows = t.fitting.on_rows; writes = t.fitting.writes; vars = t.fitting.vars; fits = t.fitting.fits; keeps = record { kept = s.0; stands = s.1; holds = s.2 } };
+        item = of_held t.reads port i t.item;
+      };
+      room = t.room;
+    }
+
+-- and what it does. Here alone queues hold items as they are
+pub leaf_does : (k : Kern) (port : ℕ) (i : item.Item) (out out' : Emit) (st st' : List State) → IsLeaf k → Fires k out out' st st' (fire k port i) → FiresAt k port i out out' st st'
+leaf_does k port i out out' st st' l f = record {
+  each = λ reads writes vars fits fs hi.
+      let s = leaf_kept k reads st l fs in
+      let g = f.given s.0 s.1 in
+      let t = fire_typed k reads writes vars port i s.0 (leaf_rows k l) fits (stands_shape k st s.0 s.1) s.2 (of_held reads port i hi) in
+      record {
+        gives = record {
+          given = λ w x tw tx sa h.
+              let e : x ≡ i = head_item x i (sym (at-same reads port (at_port port w) (x ∷ [])) ∙ h) in
+              let ss = (ran k w).states in
+              let one : Took out out' (fire k port x ss) × StandsFor k st' (fire k port x ss).states =
+              subst (λ y. Took out out' (fire k port y ss) × StandsFor k st' (fire k port y ss).states) (sym e) (f.given ss (leaf_to k st w l sa)) in
+              let r = fire k port x ss in (
+                record {
+                  outs = one.0.outs ∙ each_grew_cong out.outs r.outs (λ p. held_at writes p ((ran k w).outs p) (r.outs p)) (λ p lt. sym (at-same writes p ((ran k w).outs p) (r.outs p)));
+                  adds = one.0.adds;
+                },
+                leaf_from k st' (w ++ (port, x) ∷ []) l (subst (StandsFor k st') (sym (ran_more k w port x).states) one.1),
+              );
+        };
+        came = record {
+          outs = (fire k port i s.0).outs;
+          adds = (fire k port i s.0).adds;
+          outs_are = g.0.outs;
+          adds_are = g.0.adds;
+          held = λ p. all_held writes p ((fire k port i s.0).outs p) (t.0 p);
+          again = fit_of k reads st' (fire k port i s.0).states g.1 t.1;
+        };
+      };
+}
+
+-- ONE AFTER ANOTHER
+
+run-append : (f : ℕ → item.Item → List Kept → Fired) (u v : Word) (ss : List Kept) → Same (run f (u ++ v) ss) (and_then (run f u ss) (run f v (run f u ss).states))
+run-append f [] v ss = record { outs = λ p. refl; adds = λ t. refl; states = refl }
+run-append f (e ∷ u) v ss =
+    let r = f e.0 e.1 ss in
+    let h = run-append f u v r.states in
+    record {
+      outs = λ p. ap (λ l. r.outs p ++ l) (h.outs p) ∙ sym (append_assoc (r.outs p) ((run f u r.states).outs p) ((run f v (run f u r.states).states).outs p));
+      adds = λ t. ap (λ l. r.adds t ++ l) (h.adds t) ∙ sym (append_assoc (r.adds t) ((run f u r.states).adds t) ((run f v (run f u r.states).states).adds t));
+      states = h.states;
+    }
+
+-- the firings of a word and then of a list at the first port
+pub ran_feed : (k : Kern) (u : Word) (zs : List item.Item) → Same (ran k (u ++ word_of 0 zs)) (and_then (ran k u) (feed (fire k 0) zs (ran k u).states))
+ran_feed k u zs = subst (λ (r : Fired). Same (ran k (u ++ word_of 0 zs)) (and_then (ran k u) r)) (feed_word (fire k) 0 zs (ran k u).states) (run-append (fire k) u (word_of 0 zs) (first_kept k))
+
+pub each_start : (k : Kern) (out : Emit) (st : List State) → FiresEach k [] out out st st
+each_start k out st = record {
+  each = λ reads writes vars fits fs hs. record {
+      gives = record { given = λ w xs tw txs sa h. nothing writes w xs sa (len reads w xs h) };
+      came = record { outs = none; adds = none; outs_are = sym (each_grew-none out.outs); adds_are = sym (each_grew-none out.adds); held = λ p. All-nil (IsHeldOf writes p); again = fs };
+    };
+}
+  where
+    len : (reads : List QueueType) (w : Word) (xs : List item.Item) → held_at reads 0 (at_port 0 w) xs ≡ [] → length xs ≡ 0
+    len reads w xs h = sym (at-length reads 0 (at_port 0 w) xs) ∙ ap length h
+
+    nothing : (writes : List QueueType) (w : Word) (xs : List item.Item) → StandsAfter k st w → length xs ≡ 0 → TookHeld writes (ran k w) out out (feed (fire k 0) xs (ran k w).states) × StandsAfter k st (w ++ word_of 0 xs)
+    nothing writes w [] sa e = (
+      record {
+        outs = sym (each_grew-none out.outs) ∙ each_grew_cong out.outs none (λ p. held_at writes p ((ran k w).outs p) []) (λ p lt. sym (at-nil writes p ((ran k w).outs p)));
+        adds = sym (each_grew-none out.adds);
+      },
+      subst (StandsAfter k st) (sym (append-nil w)) sa,
+    )
+    nothing writes w (x ∷ xs) sa e = absurd (omega (arith, e))
+
+-- two lists in a row that are as long as two others in a row are the same, part by part
+pub split_same : {A : Type 0} (a b c d : List A) → length a ≡ length c → a ++ b ≡ c ++ d → (a ≡ c) × (b ≡ d)
+split_same [] b [] d l e = (refl, e)
+split_same [] b (y ∷ c) d l e = absurd (omega (arith, l))
+split_same (x ∷ a) b [] d l e = absurd (omega (arith, l))
+split_same (x ∷ a) b (y ∷ c) d l e =
+    let r = split_same a b c d (omega (arith, l)) (let t : a ++ b ≡ c ++ d = cc in t) in
+    ((let h : x ≡ y = cc in ap (λ z. z ∷ a) h ∙ ap (λ m. y ∷ m) r.0), r.1)
+
+-- the last of a list that is not empty
+last_split : {A : Type 0} (xs : List A) (n : ℕ) → length xs ≡ n + 1 → (ys : List A) × (y : A) × (xs ≡ ys ++ y ∷ []) × (length ys ≡ n)
+last_split [] n e = absurd (omega (arith, e))
+last_split (x ∷ []) n e = ([], x, refl, omega (arith, e))
+last_split (x ∷ z ∷ xs) n e =
+    let r = last_split (z ∷ xs) (n - 1) (omega (arith, e)) in
+    (x ∷ r.0, r.1, ap (λ l. x ∷ l) r.2, (let l = r.3 in omega (arith, l, e)))
+
+all_left : (P : item.Item → Type 0) (xs ys : List item.Item) → All P (xs ++ ys) → All P xs
+all_left P [] ys h = All-nil P
+all_left P (x ∷ xs) ys h = All-cons P x xs (All-head P x (xs ++ ys) h) (all_left P xs ys (All-tail P x (xs ++ ys) h))
+
+all_last : (P : item.Item → Type 0) (xs : List item.Item) (y : item.Item) → All P (xs ++ y ∷ []) → P y
+all_last P [] y h = All-head P y [] h
+all_last P (x ∷ xs) y h = all_last P xs y (All-tail P x (xs ++ y ∷ []) h)
+
+-- one more item is fired
+pub each_step : (k : Kern) (is : List item.Item) (i : item.Item) (st st1 st2 : List State) (e e' e'' : Emit) → FiresEach k is e e' st st1 → FiresAt k 0 i e' e'' st1 st2 → FiresEach k (is ++ i ∷ []) e e'' st st2
+each_step k is i st st1 st2 e e' e'' f u = record {
+  each = λ reads writes vars fits fs hs.
+      let a = f.each reads writes vars fits fs (all_left (IsHeldOf reads 0) is (i ∷ []) hs) in
+      let b = u.each reads writes vars fits a.came.again (all_last (IsHeldOf reads 0) is i hs) in
+      record {
+        gives = record {
+          given = λ w xs tw txs sa h.
+              let n : length xs ≡ length is + 1 = sym (at-length reads 0 (at_port 0 w) xs) ∙ ap length h ∙ length-append is (i ∷ []) in
+              let s = last_split xs (length is) n in
+              subst (λ (l : List item.Item). TookHeld writes (ran k w) e e'' (feed (fire k 0) l (ran k w).states) × StandsAfter k st2 (w ++ word_of 0 l)) (sym s.2)
+              (more reads writes w s.0 s.1 tw (subst (All (IsOf reads 0)) s.2 txs) sa (ap (held_at reads 0 (at_port 0 w)) (sym s.2) ∙ h) s.3 a.gives b.gives);
+        };
+        came = record {
+          outs = λ p. a.came.outs p ++ b.came.outs p;
+          adds = λ t. a.came.adds t ++ b.came.adds t;
+          outs_are = b.came.outs_are ∙ ap (λ l. each_grew l b.came.outs) a.came.outs_are ∙ each_grew-each_grew e.outs a.came.outs b.came.outs;
+          adds_are = b.came.adds_are ∙ ap (λ l. each_grew l b.came.adds) a.came.adds_are ∙ each_grew-each_grew e.adds a.came.adds b.came.adds;
+          held = λ p. All-append (IsHeldOf writes p) (a.came.outs p) (b.came.outs p) (a.came.held p) (b.came.held p);
+          again = b.came.again;
+        };
+      };
+}
+  where
+    more : (reads writes : List QueueType) (w : Word) (ys : List item.Item) (y : item.Item) → AreTyped reads w → All (IsOf reads 0) (ys ++ y ∷ []) → StandsAfter k st w → held_at reads 0 (at_port 0 w) (ys ++ y ∷ []) ≡ is ++ i ∷ [] → length ys ≡ length is
+        → GivesAll k reads writes is e e' st st1 → Gives k reads writes 0 i e' e'' st1 st2
+        → TookHeld writes (ran k w) e e'' (feed (fire k 0) (ys ++ y ∷ []) (ran k w).states) × StandsAfter k st2 (w ++ word_of 0 (ys ++ y ∷ []))
+    more reads writes w ys y tw txs sa h l ga gb =
+        let past = at_port 0 w in
+        let parts = split_same (held_at reads 0 past ys) (held_at reads 0 (past ++ ys) (y ∷ [])) is (i ∷ []) (at-length reads 0 past ys ∙ l) (sym (at-append reads 0 past ys (y ∷ [])) ∙ h) in
+        let one = ga.given w ys tw (all_left (IsOf reads 0) ys (y ∷ []) txs) sa parts.0 in
+        let w1 = w ++ word_of 0 ys in
+        let port_is : at_port 0 w1 ≡ past ++ ys = at_port-append 0 w (word_of 0 ys) ∙ ap (λ m. past ++ m) (at_word 0 ys) in
+        let two = gb.given w1 y (typed_append reads w (word_of 0 ys) tw (typed_word reads 0 ys (all_left (IsOf reads 0) ys (y ∷ []) txs))) (all_last (IsOf reads 0) ys y txs) one.1 (ap (λ m. held_at reads 0 m (y ∷ [])) port_is ∙ parts.1) in
+        let r = feed (fire k 0) ys (ran k w).states in
+        let mid : Same (ran k w1) (and_then (ran k w) r) = ran_feed k w ys in
+        let last = fire k 0 y r.states in
+        let all = feed-append (fire k 0) ys (y ∷ []) (ran k w).states in
+        let fone = feed_one (fire k 0) y r.states in
+        let two' : TookHeld writes (ran k w1) e' e'' last = subst (λ us. TookHeld writes (ran k w1) e' e'' (fire k 0 y us)) mid.states two.0 in
+        let whole = feed (fire k 0) (ys ++ y ∷ []) (ran k w).states in (
+          record {
+            outs = two'.outs ∙ ap (λ m. each_grew m (λ p. held_at writes p ((ran k w1).outs p) (last.outs p))) one.0.outs
+                ∙ each_grew-each_grew e.outs (λ p. held_at writes p ((ran k w).outs p) (r.outs p)) (λ p. held_at writes p ((ran k w1).outs p) (last.outs p))
+                ∙ each_grew_cong e.outs (λ p. held_at writes p ((ran k w).outs p) (r.outs p) ++ held_at writes p ((ran k w1).outs p) (last.outs p)) (λ p. held_at writes p ((ran k w).outs p) (whole.outs p))
+                (λ p lt. ap (λ m. held_at writes p ((ran k w).outs p) (r.outs p) ++ held_at writes p m (last.outs p)) (mid.outs p)
+                ∙ sym (at-append writes p ((ran k w).outs p) (r.outs p) (last.outs p))
+                ∙ ap (held_at writes p ((ran k w).outs p)) (ap (λ m. r.outs p ++ m) (sym (fone.outs p)) ∙ sym (all.outs p)));
+            adds = two'.adds ∙ ap (λ m. each_grew m last.adds) one.0.adds ∙ each_grew-each_grew e.adds r.adds last.adds
+                ∙ each_grew_cong e.adds (λ p. r.adds p ++ last.adds p) whole.adds (λ p lt. ap (λ m. r.adds p ++ m) (sym (fone.adds p)) ∙ sym (all.adds p));
+          },
+          subst (StandsAfter k st2) (append_assoc w (word_of 0 ys) ((0, y) ∷ []) ∙ ap (λ m. w ++ m) (sym (word_append 0 ys (y ∷ [])))) two.1,
+        )

@@ -1,0 +1,291 @@
+-- Words, what queues at ports hold, and what states are.
+use Rattle.std.proofs.Common.{◌≡◌, ℕ, ℤ, zero, suc, ◌+◌, ◌*◌, ◌<◌, Option, Some, None, List, [], ◌∷◌, ◌++◌, length, take, drop, refl, sym, ap, ◌∙◌, subst, arith, append_assoc, length-drop}
+use Rattle.std.specs.Prelude.{All, slice_get}
+use Rattle.std.proofs.lemmas.List.{append-nil, length-take}
+use Rattle.std.proofs.lemmas.List.Elements.{All-head, All-tail, All-cons, All-nil, All-append}
+use Rattle.river_base.specs.declared.item.Item as item
+use Rattle.river_base.specs.declared.kind.QueueType.{QueueType}
+use Rattle.river_base.specs.Held.{held, HasType, IsHeld}
+use Rattle.river_base.specs.Places.{list_at}
+use Rattle.river_base.proofs.HeldLemmas.{held-nil, held-append, length-held, held-same, held-typed, typed-held}
+use Rattle.kern_rows.specs.Turns.{Turns, shares, ones}
+use Rattle.river_kernels.specs.declared.types.VarKind.{VarKind}
+use Rattle.river_kernels.specs.Fits.{Fits}
+use Rattle.river_kernels.specs.Types.{types_of}
+use Rattle.river_kernels.specs.Kern.{Kern, code, filter, duplicate, deal, collect, packed, unpack, window, select, project, cross, streamer, tally, fused}
+use Rattle.brooklet_model.specs.Firings.{Kept, Slots, Buffered, Turn, Joining, Fired, Same, and_then}
+use Rattle.brooklet_model.specs.Fire.{fire, first_kept, privates, kept_vars}
+use Rattle.brooklet_model.specs.Shapes.{IsFormed, IsShaped, HasShape}
+use Rattle.brooklet_model.specs.Typed.{IsTyped, IsOf, AreOf, IsOnRows, AreWaiting, Holds, between}
+use Rattle.brooklet_model.specs.Words.{Word, run, at_port, word_of}
+use Rattle.brooklet_model.proofs.Lists.{take_front, drop_front}
+use Rattle.brooklet_model.proofs.Ports.{shaped, formed_shaped}
+use Rattle.brooklet_model.proofs.Shapes.{first_shape, fire_shape, shape_length}
+use Rattle.brooklet_model.proofs.Swaps.{at_port_here}
+use Rattle.brooklet_model.proofs.Free.{at_port-append}
+use Rattle.brooklet_model.proofs.Traces.{run_more}
+use Rattle.brooklet_model.proofs.Typing.{first_holds}
+use Rattle.brooklet_model.proofs.TypedPlan.{AreAt, at_append, run_typed}
+use Rattle.brooklet_step.specs.declared.state.State.{State}
+use Rattle.brooklet_step.specs.declared.state.State.TheVariants as state
+use Rattle.brooklet_step.specs.Initial.{IsFirst}
+use Rattle.brooklet_step.specs.Stands.{StandsFor, StandsForSlots}
+use Rattle.brooklet_step.specs.Given.{held_by, held_at, IsHeldBy, IsHeldOf, AreHeldOf, AreTyped, FitSlots, FitState, IsLeaf, ran, StandsAfter}
+
+-- QUEUES AT PORTS
+
+by-nil : (o : Option QueueType) (past : List item.Item) → held_by o past [] ≡ []
+by-nil None past = refl
+by-nil (Some t) past = held-nil t past
+
+by-append : (o : Option QueueType) (past xs ys : List item.Item) → held_by o past (xs ++ ys) ≡ held_by o past xs ++ held_by o (past ++ xs) ys
+by-append None past xs ys = refl
+by-append (Some t) past xs ys = held-append t past xs ys
+
+by-length : (o : Option QueueType) (past xs : List item.Item) → length (held_by o past xs) ≡ length xs
+by-length None past xs = refl
+by-length (Some t) past xs = length-held t past xs
+
+by-same : (o : Option QueueType) (past xs : List item.Item) → held_by o past xs ≡ xs
+by-same None past xs = refl
+by-same (Some t) past xs = held-same t past xs
+
+pub at-nil : (ts : List QueueType) (p : ℕ) (past : List item.Item) → held_at ts p past [] ≡ []
+at-nil ts p past = by-nil (slice_get ts p) past
+
+pub at-append : (ts : List QueueType) (p : ℕ) (past xs ys : List item.Item) → held_at ts p past (xs ++ ys) ≡ held_at ts p past xs ++ held_at ts p (past ++ xs) ys
+at-append ts p past xs ys = by-append (slice_get ts p) past xs ys
+
+pub at-length : (ts : List QueueType) (p : ℕ) (past xs : List item.Item) → length (held_at ts p past xs) ≡ length xs
+at-length ts p past xs = by-length (slice_get ts p) past xs
+
+-- until relation queues carry changes
+pub at-same : (ts : List QueueType) (p : ℕ) (past xs : List item.Item) → held_at ts p past xs ≡ xs
+at-same ts p past xs = by-same (slice_get ts p) past xs
+
+held_typed : (o : Option QueueType) (x : item.Item) → IsTyped o x → IsHeldBy o x
+held_typed None x h = h
+held_typed (Some t) x h = held-typed t x h
+
+typed_held : (o : Option QueueType) (x : item.Item) → IsHeldBy o x → IsTyped o x
+typed_held None x h = h
+typed_held (Some t) x h = typed-held t x h
+
+pub of_held : (ts : List QueueType) (p : ℕ) (x : item.Item) → IsHeldOf ts p x → IsOf ts p x
+of_held ts p x h = typed_held (slice_get ts p) x h
+
+pub held_of : (ts : List QueueType) (p : ℕ) (x : item.Item) → IsOf ts p x → IsHeldOf ts p x
+held_of ts p x h = held_typed (slice_get ts p) x h
+
+pub all_held : (ts : List QueueType) (p : ℕ) (xs : List item.Item) → All (IsOf ts p) xs → All (IsHeldOf ts p) xs
+all_held ts p [] h = All-nil (IsHeldOf ts p)
+all_held ts p (x ∷ xs) h = All-cons (IsHeldOf ts p) x xs (held_of ts p x (All-head (IsOf ts p) x xs h)) (all_held ts p xs (All-tail (IsOf ts p) x xs h))
+
+pub all_typed : (ts : List QueueType) (p : ℕ) (xs : List item.Item) → All (IsHeldOf ts p) xs → All (IsOf ts p) xs
+all_typed ts p [] h = All-nil (IsOf ts p)
+all_typed ts p (x ∷ xs) h = All-cons (IsOf ts p) x xs (of_held ts p x (All-head (IsHeldOf ts p) x xs h)) (all_typed ts p xs (All-tail (IsHeldOf ts p) x xs h))
+
+-- WORDS
+
+pub typed_append : (ts : List QueueType) (u w : Word) → AreTyped ts u → AreTyped ts w → AreTyped ts (u ++ w)
+typed_append ts [] w a b = b
+typed_append ts (e ∷ es) w a b = (a.0, typed_append ts es w a.1 b)
+
+pub typed_word : (ts : List QueueType) (p : ℕ) (xs : List item.Item) → All (IsOf ts p) xs → AreTyped ts (word_of p xs)
+typed_word ts p [] h = tt
+typed_word ts p (x ∷ xs) h = (All-head (IsOf ts p) x xs h, typed_word ts p xs (All-tail (IsOf ts p) x xs h))
+
+typed_at : (ts : List QueueType) (w : Word) → AreTyped ts w → AreAt ts w
+typed_at ts [] a = tt
+typed_at ts (e ∷ es) a = (a.0, typed_at ts es a.1)
+
+pub at_word : (p : ℕ) (xs : List item.Item) → at_port p (word_of p xs) ≡ xs
+at_word p [] = refl
+at_word p (x ∷ xs) = at_port_here p (p, x) (word_of p xs) refl ∙ ap (λ l. x ∷ l) (at_word p xs)
+
+pub word_append : (p : ℕ) (xs ys : List item.Item) → word_of p (xs ++ ys) ≡ word_of p xs ++ word_of p ys
+word_append p [] ys = refl
+word_append p (x ∷ xs) ys = ap (λ l. (p, x) ∷ l) (word_append p xs ys)
+
+-- the items at the port, with one more there
+pub at_next : (p : ℕ) (w : Word) (x : item.Item) → at_port p (w ++ (p, x) ∷ []) ≡ at_port p w ++ x ∷ []
+at_next p w x = at_port-append p w ((p, x) ∷ []) ∙ ap (λ l. at_port p w ++ l) (at_word p (x ∷ []))
+
+-- one more firing
+pub ran_more : (k : Kern) (w : Word) (p : ℕ) (x : item.Item) → Same (ran k (w ++ (p, x) ∷ [])) (and_then (ran k w) (fire k p x (ran k w).states))
+ran_more k w p x = run_more (fire k) w p x (first_kept k)
+
+all_right : (P : item.Item → Type 0) (xs ys : List item.Item) → All P (xs ++ ys) → All P ys
+all_right P [] ys h = h
+all_right P (x ∷ xs) ys h = all_right P xs ys (All-tail P x (xs ++ ys) h)
+
+-- what is given for typed items is typed
+pub ran_typed : (k : Kern) (is os : List QueueType) (vs : List VarKind) (w : Word) → IsOnRows k → Fits k is os vs → AreTyped is w → AreOf os (ran k w).outs
+ran_typed k is os vs w r f a = run_typed k is os vs w (first_kept k) r f (first_shape k (shaped k is os vs f)) (first_holds k is (shaped k is os vs f)) (typed_at is w a)
+
+pub fired_typed : (k : Kern) (is os : List QueueType) (vs : List VarKind) (w : Word) (p : ℕ) (x : item.Item) → IsOnRows k → Fits k is os vs → AreTyped is w → IsOf is p x → AreOf os (fire k p x (ran k w).states).outs
+fired_typed k is os vs w p x r f a i q =
+    let all = ran_typed k is os vs (w ++ (p, x) ∷ []) r f (typed_append is w ((p, x) ∷ []) a (i, tt)) q in
+    all_right (IsOf os q) ((ran k w).outs q) ((fire k p x (ran k w).states).outs q) (subst (All (IsOf os q)) ((ran_more k w p x).outs q) all)
+
+-- WHAT STATES ARE
+
+fit_slots : (zs : List ℤ) (st : List State) (ks : List Kept) → StandsForSlots zs st ks → FitSlots zs st
+fit_slots [] st ks h = h.code
+fit_slots (z ∷ zs) st ks h = record { slots = h.slots; code = h.code; count = h.count }
+
+fit_joined : (is : List QueueType) (s : Turns) (ks : List Kept) → ks ≡ Joining s ∷ [] → AreWaiting is ks → AreHeldOf is (list_at s.lists)
+fit_joined is s ks e h = let w : AreWaiting is (Joining s ∷ []) = subst (AreWaiting is) e h in λ p. all_held is p (list_at s.lists p) (w p)
+
+-- states that stand for some fit
+pub fit_of : (k : Kern) (is : List QueueType) (st : List State) (ks : List Kept) → StandsFor k st ks → Holds k is ks → FitState k is st
+fit_of (code k) is st ks h t = fit_slots k.starts st ks h
+fit_of (filter f) is st ks h t = record { now = h.now; code = h.code; count = h.count; few = h.stands.few }
+fit_of (duplicate n) is st ks h t = h.code
+fit_of (deal ws) is st ks h t = record { now = h.now; code = h.code; turn = h.turn }
+fit_of (collect ws) is st ks h t = record { now = h.now; code = h.code; joined = h.joined; items = fit_joined is h.now ks h.defined t }
+fit_of (packed k) is st ks h t = fit_of k is st ks h t
+fit_of (unpack n) is st ks h t = record { now = h.now; code = h.code; joined = h.joined; items = fit_joined is h.now ks h.defined t }
+fit_of (window w) is st ks h t = h
+fit_of (select e) is st ks h t = h
+fit_of (project es) is st ks h t = h
+fit_of cross is st ks h t = h
+fit_of (streamer s) is st ks h t = h
+fit_of tally is st ks h t = h
+fit_of (fused a b at) is st ks h t = (fit_of a is (take (privates a) st) (take (privates a) ks) h.0 t.0, fit_of b (between at (types_of a is)) (drop (privates a) st) (drop (privates a) ks) h.1 t.1)
+
+kept_slots : (zs : List ℤ) (st : List State) → FitSlots zs st → (ks : List Kept) × StandsForSlots zs st ks
+kept_slots [] st h = ([], record { code = h; defined = refl })
+kept_slots (z ∷ zs) st h = (Slots h.slots ∷ [], record { slots = h.slots; code = h.code; defined = refl; count = h.count })
+
+-- and states that fit stand for some, where the kernel is on rows
+pub leaf_kept : (k : Kern) (is : List QueueType) (st : List State) → IsLeaf k → FitState k is st → (ks : List Kept) × StandsFor k st ks × Holds k is ks
+leaf_kept (code k) is st l h = let s = kept_slots k.starts st h in (s.0, s.1, tt)
+leaf_kept (filter f) is st l h =
+    let z : 0 * f.pop ≡ 0 = omega arith in (
+      Buffered (record { seen = h.now.buffer; fired = 0; kept = h.now.kept }) ∷ [],
+      record {
+        now = h.now;
+        seen = record { seen = h.now.buffer; fired = 0; kept = h.now.kept };
+        code = h.code;
+        defined = refl;
+        stands = record { buffer = ap (λ n. drop n h.now.buffer) (sym z); kept = refl; taken = omega (arith, z); few = h.few };
+        count = h.count;
+      },
+      tt,
+    )
+leaf_kept (duplicate n) is st l h = ([], record { code = h; defined = refl }, tt)
+leaf_kept (deal ws) is st l h = (Turn h.now.port h.now.had ∷ [], record { now = h.now; code = h.code; defined = refl; turn = h.turn }, tt)
+leaf_kept (collect ws) is st l h = (Joining h.now ∷ [], record { now = h.now; code = h.code; defined = refl; joined = h.joined }, (λ p. all_typed is p (list_at h.now.lists p) (h.items p)))
+leaf_kept (packed k) is st l h = absurd l
+leaf_kept (unpack n) is st l h = (Joining h.now ∷ [], record { now = h.now; code = h.code; defined = refl; joined = h.joined }, (λ p. all_typed is p (list_at h.now.lists p) (h.items p)))
+leaf_kept (window w) is st l h = absurd l
+leaf_kept (select e) is st l h = absurd l
+leaf_kept (project es) is st l h = absurd l
+leaf_kept cross is st l h = absurd l
+leaf_kept (streamer s) is st l h = absurd l
+leaf_kept tally is st l h = absurd l
+leaf_kept (fused a b at) is st l h = absurd l
+
+fit_slots_length : (zs : List ℤ) (st : List State) → FitSlots zs st → length st ≡ kept_vars zs
+fit_slots_length [] st h = ap length h
+fit_slots_length (z ∷ zs) st h = ap length h.code
+
+-- there is a state for each private variable
+pub fit_length : (k : Kern) (is : List QueueType) (st : List State) → FitState k is st → length st ≡ privates k
+fit_length (code k) is st h = fit_slots_length k.starts st h
+fit_length (filter f) is st h = ap length h.code
+fit_length (duplicate n) is st h = ap length h
+fit_length (deal ws) is st h = ap length h.code
+fit_length (collect ws) is st h = ap length h.code
+fit_length (packed k) is st h = fit_length k is st h
+fit_length (unpack n) is st h = ap length h.code
+fit_length (window w) is st h = absurd h
+fit_length (select e) is st h = absurd h
+fit_length (project es) is st h = absurd h
+fit_length cross is st h = absurd h
+fit_length (streamer s) is st h = absurd h
+fit_length tally is st h = absurd h
+fit_length (fused a b at) is st h =
+    let la = fit_length a is (take (privates a) st) h.0 in
+    let lb = fit_length b (between at (types_of a is)) (drop (privates a) st) h.1 in
+    omega (arith, length-take (privates a) st, length-drop (privates a) st, la, lb)
+
+-- the states of two kernels
+pub parts_fit : (a b : Kern) (at : ℕ) (is : List QueueType) (st st' : List State) → FitState a is st → FitState b (between at (types_of a is)) st' → FitState (fused a b at) is (st ++ st')
+parts_fit a b at is st st' h h' =
+    let l = fit_length a is st h in
+    (subst (FitState a is) (sym (take_front st st' (privates a) l)) h, subst (FitState b (between at (types_of a is))) (sym (drop_front st st' (privates a) l)) h')
+
+pub parts_after : (a b : Kern) (at : ℕ) (is : List QueueType) (st st' : List State) (w : Word) → FitState a is st → StandsAfter a st w → StandsAfter b st' (word_of 0 ((ran a w).outs at)) → StandsAfter (fused a b at) (st ++ st') w
+parts_after a b at is st st' w f h h' =
+    let l = fit_length a is st f in
+    (subst (λ (u : List State). StandsAfter a u w) (sym (take_front st st' (privates a) l)) h, subst (λ (u : List State). StandsAfter b u (word_of 0 ((ran a w).outs at))) (sym (drop_front st st' (privates a) l)) h')
+
+-- LEAVES
+
+pub leaf_to : (k : Kern) (st : List State) (w : Word) → IsLeaf k → StandsAfter k st w → StandsFor k st (ran k w).states
+leaf_to (code k) st w l h = h
+leaf_to (filter f) st w l h = h
+leaf_to (duplicate n) st w l h = h
+leaf_to (deal ws) st w l h = h
+leaf_to (collect ws) st w l h = h
+leaf_to (packed k) st w l h = absurd l
+leaf_to (unpack n) st w l h = h
+leaf_to (window v) st w l h = absurd l
+leaf_to (select e) st w l h = absurd l
+leaf_to (project es) st w l h = absurd l
+leaf_to cross st w l h = absurd l
+leaf_to (streamer s) st w l h = absurd l
+leaf_to tally st w l h = absurd l
+leaf_to (fused a b at) st w l h = absurd l
+
+pub leaf_from : (k : Kern) (st : List State) (w : Word) → IsLeaf k → StandsFor k st (ran k w).states → StandsAfter k st w
+leaf_from (code k) st w l h = h
+leaf_from (filter f) st w l h = h
+leaf_from (duplicate n) st w l h = h
+leaf_from (deal ws) st w l h = h
+leaf_from (collect ws) st w l h = h
+leaf_from (packed k) st w l h = absurd l
+leaf_from (unpack n) st w l h = h
+leaf_from (window v) st w l h = absurd l
+leaf_from (select e) st w l h = absurd l
+leaf_from (project es) st w l h = absurd l
+leaf_from cross st w l h = absurd l
+leaf_from (streamer s) st w l h = absurd l
+leaf_from tally st w l h = absurd l
+leaf_from (fused a b at) st w l h = absurd l
+
+shape_ran : (k : Kern) (w : Word) (ss : List Kept) → IsShaped k → HasShape k ss → HasShape k (run (fire k) w ss).states
+shape_ran k [] ss s h = h
+shape_ran k (e ∷ es) ss s h = shape_ran k es (fire k e.0 e.1 ss).states s (fire_shape k e.0 e.1 ss s h)
+
+pub ran_length : (k : Kern) (w : Word) → IsShaped k → length (ran k w).states ≡ privates k
+ran_length k w s = shape_length k (ran k w).states (shape_ran k w (first_kept k) s (first_shape k s))
+
+-- states that stand for the first ones stand for those after no firing
+first_after : (k : Kern) (st : List State) → IsShaped k → StandsFor k st (first_kept k) → StandsAfter k st []
+first_after (code k) st s h = h
+first_after (filter f) st s h = h
+first_after (duplicate n) st s h = h
+first_after (deal ws) st s h = h
+first_after (collect ws) st s h = h
+first_after (packed k) st s h = first_after k st s.0 h
+first_after (unpack n) st s h = h
+first_after (window v) st s h = h
+first_after (select e) st s h = h
+first_after (project es) st s h = h
+first_after cross st s h = h
+first_after (streamer v) st s h = h
+first_after tally st s h = h
+first_after (fused a b at) st s h =
+    let la = shape_length a (first_kept a) (first_shape a s.0) in (
+      first_after a (take (privates a) st) s.0 (subst (λ (us : List Kept). StandsFor a (take (privates a) st) us) (take_front (first_kept a) (first_kept b) (privates a) la) h.0),
+      first_after b (drop (privates a) st) s.1 (subst (λ (us : List Kept). StandsFor b (drop (privates a) st) us) (drop_front (first_kept a) (first_kept b) (privates a) la) h.1),
+    )
+
+pub first_is : (k : Kern) (st : List State) → IsFormed k → StandsFor k st (first_kept k) → IsFirst k st
+first_is k st f h = record {
+  after = first_after k st (formed_shaped k f) h;
+  again = λ reads writes vars fits. fit_of k reads st (first_kept k) h (first_holds k reads (formed_shaped k f));
+}

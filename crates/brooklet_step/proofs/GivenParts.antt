@@ -1,0 +1,282 @@
+-- Firings after others: packs, and two kernels as one.
+use Rattle.std.proofs.Common.{◌≡◌, ℕ, zero, suc, ◌+◌, ◌-◌, ◌<◌, ◌≤◌, List, [], ◌∷◌, ◌++◌, length, take, drop, replicate, refl, sym, ap, ◌∙◌, subst, arith, append_assoc, ⊎_elim}
+use Rattle.std.specs.Prelude.{All, slice_get, Some}
+use Rattle.std.proofs.lemmas.Bool.{cases_lt}
+use Rattle.std.proofs.lemmas.List.{append-nil, length-replicate}
+use Rattle.std.proofs.lemmas.List.Elements.{All-head, All-tail, All-cons, All-nil, All-append}
+use Rattle.river_base.specs.declared.item.Item as item
+use Rattle.river_base.specs.declared.item.Item.TheVariants.{Flat, Pack}
+use Rattle.river_base.specs.declared.item.Flat as flat
+use Rattle.river_base.specs.declared.kind.FlatType.{FlatType}
+use Rattle.river_base.specs.declared.kind.QueueType.{QueueType}
+use Rattle.river_base.specs.declared.kind.QueueType.TheVariants.{Flat as FlatOf, Pack as PackOf}
+use Rattle.river_base.specs.Held.{held, HasType, IsHeld, flats, as_items, opened}
+use Rattle.river_base.specs.Places.{each_grew, only, none, list_at}
+use Rattle.river_base.proofs.HeldLemmas.{held-pack, is_held-pack}
+use Rattle.river_base.proofs.PlaceLemmas.{each_grew_cong, length-each_grew}
+use Rattle.river_kernels.specs.declared.types.VarKind.{VarKind}
+use Rattle.river_kernels.specs.Fits.{Fits, spliced}
+use Rattle.river_kernels.specs.Types.{types_of}
+use Rattle.river_kernels.specs.Kern.{Kern, packed, fused}
+use Rattle.brooklet_model.specs.Firings.{Kept, Fired, Same, feed, and_then, splice, beside, fused_of, gives}
+use Rattle.brooklet_model.specs.Fire.{fire, first_kept, outs, tabs, privates}
+use Rattle.brooklet_model.specs.Shapes.{IsShaped, HasShape}
+use Rattle.brooklet_model.specs.Typed.{IsOf, AreOf, IsTyped, IsOnRows, between}
+use Rattle.brooklet_model.specs.Words.{Word, run, at_port, word_of}
+use Rattle.brooklet_model.proofs.Lists.{take_front, drop_front}
+use Rattle.brooklet_model.proofs.Feeds.{feed_word}
+use Rattle.brooklet_model.proofs.FusedRun.{fused_runs}
+use Rattle.brooklet_model.proofs.Ports.{shaped, counts}
+use Rattle.brooklet_model.proofs.Shapes.{first_shape, shape_length}
+use Rattle.brooklet_model.proofs.Spliced.{splice_first, splice_second, splice_last, splice_next, got_append, got_past, spliced_next}
+use Rattle.brooklet_model.proofs.Typing.{between_is}
+use Rattle.brooklet_step.specs.declared.emit.Emit.{Emit}
+use Rattle.brooklet_step.specs.declared.state.State.{State}
+use Rattle.brooklet_step.specs.Took.{Took, HasRoom, IsBlank}
+use Rattle.brooklet_step.specs.Given.{held_by, held_at, IsHeldBy, IsHeldOf, AreHeldOf, AreTyped, FitState, ran, StandsAfter, TookHeld, Gives, Came, Does, FiresAt, GivesAll, DoesAll, FiresEach, Fitting, CanTake, CanTakeAll}
+use Rattle.brooklet_step.proofs.Fires.{grown_list, flats-append}
+use Rattle.brooklet_step.proofs.Fused.{splice_cong, beside_cong}
+use Rattle.brooklet_step.proofs.GivenLemmas.{typed_append, typed_word, at_word, word_append, ran_more, ran_length, ran_typed, fired_typed, fit_length, parts_fit, parts_after}
+
+-- ROOM
+
+pub blank_room : (k : Kern) (e : Emit) → IsBlank k e → HasRoom k e
+blank_room k e b = record { outs = ap length b.outs ∙ length-replicate (outs k) []; adds = ap length b.adds ∙ length-replicate (tabs k) [] }
+
+pub came_room : (k : Kern) (reads writes : List QueueType) (e e' : Emit) (st' : List State) → HasRoom k e → Came k reads writes e e' st' → HasRoom k e'
+came_room k reads writes e e' st' h c = record { outs = ap length c.outs_are ∙ length-each_grew e.outs c.outs ∙ h.outs; adds = ap length c.adds_are ∙ length-each_grew e.adds c.adds ∙ h.adds }
+
+-- PACKS
+
+as_items-append : (fs gs : List flat.Flat) → as_items (fs ++ gs) ≡ as_items fs ++ as_items gs
+as_items-append [] gs = refl
+as_items-append (f ∷ fs) gs = ap (λ l. Flat f ∷ l) (as_items-append fs gs)
+
+-- items that are no packs
+items-flats : (t : FlatType) (xs : List item.Item) → All (HasType (FlatOf t)) xs → as_items (flats xs) ≡ xs
+items-flats t [] h = refl
+items-flats t (Flat f ∷ xs) h = ap (λ l. Flat f ∷ l) (items-flats t xs (All-tail (HasType (FlatOf t)) (Flat f) xs h))
+items-flats t (Pack fs ∷ xs) h = absurd (All-head (HasType (FlatOf t)) (Pack fs) xs h)
+
+flats_held : (t : FlatType) (xs : List item.Item) → All (IsHeld (FlatOf t)) xs → All (λ f. IsHeld (FlatOf t) (Flat f)) (flats xs)
+flats_held t [] h = All-nil (λ f. IsHeld (FlatOf t) (Flat f))
+flats_held t (Flat f ∷ xs) h = All-cons (λ g. IsHeld (FlatOf t) (Flat g)) f (flats xs) (All-head (IsHeld (FlatOf t)) (Flat f) xs h) (flats_held t xs (All-tail (IsHeld (FlatOf t)) (Flat f) xs h))
+flats_held t (Pack fs ∷ xs) h = flats_held t xs (All-tail (IsHeld (FlatOf t)) (Pack fs) xs h)
+
+-- a kernel in a pack has the states of the kernel, and gives its items in packs
+packed_states : (k : Kern) (w : Word) (ss : List Kept) → (run (fire (packed k)) w ss).states ≡ (run (fire k) w ss).states
+packed_states k [] ss = refl
+packed_states k (e ∷ es) ss = packed_states k es (fire k e.0 e.1 ss).states
+
+packed_items : (k : Kern) (w : Word) (ss : List Kept) → opened ((run (fire (packed k)) w ss).outs 0) ≡ as_items (flats ((run (fire k) w ss).outs 0))
+packed_items k [] ss = refl
+packed_items k (e ∷ es) ss =
+    let r = fire k e.0 e.1 ss in
+    let rest = run (fire k) es r.states in
+    ap (λ l. as_items (flats (r.outs 0)) ++ l) (packed_items k es r.states)
+    ∙ sym (as_items-append (flats (r.outs 0)) (flats (rest.outs 0)))
+    ∙ ap as_items (sym (flats-append (r.outs 0) (rest.outs 0)))
+
+pub packed_does : (j : Kern) (port : ℕ) (i : item.Item) (st st' : List State) (out out' e e' : Emit) (items : List item.Item) (fs : List flat.Flat) → IsOnRows (packed j) → e.outs ≡ replicate 1 [] → FiresAt j port i e e' st st' → items ≡ list_at e'.outs 0 → fs ≡ flats items → Took out out' (gives 0 (Pack fs ∷ []) []) → FiresAt (packed j) port i out out' st st'
+packed_does j port i st st' out out' e e' items fs rows b f ei ef took = record {
+  each = λ reads writes vars fits fst hi.
+      let t = fits.0 in
+      let u = fits.1 in
+      let fj : Fits j reads (FlatOf u ∷ []) [] = subst (λ (l : List QueueType). Fits j l (FlatOf u ∷ []) []) (sym fits.2) fits.5 in
+      let d = f.each reads (FlatOf u ∷ []) [] fj fst hi in
+      let is : items ≡ d.came.outs 0 = ei ∙ grown_list 1 e.outs e'.outs d.came.outs 0 b d.came.outs_are (omega arith) in
+      subst (λ (os : List QueueType). Does (packed j) reads os port i out out' st st') (sym fits.3) (record {
+        gives = record {
+          given = λ w x tw tx sa h.
+              let g = d.gives.given w x tw tx sa h in
+              let sj = (ran j w).states in
+              let r = fire j port x sj in
+              let past = (ran j w).outs 0 in
+              let xs = r.outs 0 in
+              let typed_past : All (HasType (FlatOf u)) past = ran_typed j reads (FlatOf u ∷ []) [] w rows fj tw 0 in
+              let typed_xs : All (HasType (FlatOf u)) xs = fired_typed j reads (FlatOf u ∷ []) [] w port x rows fj tw tx 0 in
+              let came : items ≡ held (FlatOf u) past xs = ei ∙ grown_list 1 e.outs e'.outs (λ p. held_at (FlatOf u ∷ []) p ((ran j w).outs p) (r.outs p)) 0 b g.0.outs (omega arith) in
+              let whole = ran (packed j) w in
+              let states : whole.states ≡ sj = packed_states j w (first_kept j) in
+              let opens : opened (whole.outs 0) ≡ past = packed_items j w (first_kept j) ∙ items-flats u past typed_past in
+              let pack : held (PackOf u) (whole.outs 0) (Pack (flats xs) ∷ []) ≡ Pack fs ∷ [] =
+              held-pack u (whole.outs 0) (flats xs)
+              ∙ ap (λ (l : List item.Item). Pack (flats (held (FlatOf u) l (as_items (flats xs)))) ∷ []) opens
+              ∙ ap (λ (l : List item.Item). Pack (flats (held (FlatOf u) past l)) ∷ []) (items-flats u xs typed_xs)
+              ∙ ap (λ (l : List item.Item). Pack (flats l) ∷ []) (sym came)
+              ∙ ap (λ (l : List flat.Flat). Pack l ∷ []) (sym ef) in
+              let now : TookHeld (PackOf u ∷ []) whole out out' (fire (packed j) port x sj) = record {
+                outs = took.outs ∙ each_grew_cong out.outs (only 0 (Pack fs ∷ [])) (λ p. held_at (PackOf u ∷ []) p (whole.outs p) (only 0 (Pack (flats xs) ∷ []) p)) (λ p lt. at_pack u fs xs whole pack p);
+                adds = took.adds;
+              } in
+              (subst (λ (us : List Kept). TookHeld (PackOf u ∷ []) whole out out' (fire (packed j) port x us)) (sym states) now, g.1);
+        };
+        came = record {
+          outs = only 0 (Pack fs ∷ []);
+          adds = none;
+          outs_are = took.outs;
+          adds_are = took.adds;
+          held = λ p. held_pack u (subst (λ (l : List item.Item). All (IsHeld (FlatOf u)) l) (sym is) (d.came.held 0)) p;
+          again = d.came.again;
+        };
+      });
+}
+  where
+    held_pack : (u : FlatType) → All (IsHeld (FlatOf u)) items → (p : ℕ) → All (IsHeldOf (PackOf u ∷ []) p) (only 0 (Pack fs ∷ []) p)
+    held_pack u h zero = All-cons (IsHeldOf (PackOf u ∷ []) 0) (Pack fs) [] (subst (λ (l : List flat.Flat). IsHeld (PackOf u) (Pack l)) (sym ef) (is_held-pack u (flats items) (flats_held u items h))) (All-nil (IsHeldOf (PackOf u ∷ []) 0))
+    held_pack u h (suc p) = All-nil (IsHeldOf (PackOf u ∷ []) (suc p))
+
+    at_pack : (u : FlatType) (fs : List flat.Flat) (xs : List item.Item) (whole : Fired) → held (PackOf u) (whole.outs 0) (Pack (flats xs) ∷ []) ≡ Pack fs ∷ [] → (p : ℕ) → only 0 (Pack fs ∷ []) p ≡ held_at (PackOf u ∷ []) p (whole.outs p) (only 0 (Pack (flats xs) ∷ []) p)
+    at_pack u fs xs whole e zero = sym e
+    at_pack u fs xs whole e (suc p) = refl
+
+-- TWO KERNELS
+
+spliced_got : (ms bs : List QueueType) (at p : ℕ) → at < length ms → slice_get (spliced at ms bs) p ≡ splice at (length bs) (slice_get ms) (slice_get bs) p
+spliced_got [] bs at p lt = absurd (omega (arith, lt))
+spliced_got (m ∷ ms) bs zero p lt = ⊎_elim
+    (λ l.
+    let z : p - 0 ≡ p = omega arith in
+    got_append bs ms p l ∙ sym (splice_second 0 (length bs) (slice_get (m ∷ ms)) (slice_get bs) p (omega arith) (omega (arith, l)) ∙ ap (slice_get bs) z))
+    (λ ge.
+    let i : ℕ = p - length bs in
+    let e : length bs + i ≡ p = omega (arith, ge) in
+    let d : p - length bs + 1 ≡ suc i = omega arith in
+    ap (slice_get (bs ++ ms)) (sym e) ∙ got_past bs ms i ∙ ap (slice_get (m ∷ ms)) (sym d)
+    ∙ sym (splice_last 0 (length bs) (slice_get (m ∷ ms)) (slice_get bs) p (omega arith) (omega (arith, ge))))
+    (cases_lt p (length bs))
+spliced_got (m ∷ ms) bs (suc at) zero lt =
+    ap (λ (l : List QueueType). slice_get l 0) (spliced_next at m ms bs) ∙ sym (splice_first (suc at) (length bs) (slice_get (m ∷ ms)) (slice_get bs) 0 (omega arith))
+spliced_got (m ∷ ms) bs (suc at) (suc p) lt =
+    ap (λ (l : List QueueType). slice_get l (suc p)) (spliced_next at m ms bs) ∙ spliced_got ms bs at p (omega (arith, lt)) ∙ splice_next at (length bs) (slice_get (m ∷ ms)) (slice_get bs) p
+
+-- what the queues of both kernels hold is what the queues of the two as one hold
+splice_held : (ms bs : List QueueType) (at p : ℕ) (P R Q S : ℕ → List item.Item) → at < length ms
+    → splice at (length bs) (λ q. held_at ms q (P q) (R q)) (λ q. held_at bs q (Q q) (S q)) p ≡ held_at (spliced at ms bs) p (splice at (length bs) P Q p) (splice at (length bs) R S p)
+splice_held ms bs at p P R Q S lt = by_place (length bs) ∙ ap (λ o. held_by o (splice at (length bs) P Q p) (splice at (length bs) R S p)) (sym (spliced_got ms bs at p lt))
+  where
+    by_place : (n : ℕ) → splice at n (λ q. held_at ms q (P q) (R q)) (λ q. held_at bs q (Q q) (S q)) p ≡ held_by (splice at n (slice_get ms) (slice_get bs) p) (splice at n P Q p) (splice at n R S p)
+    by_place n = ⊎_elim
+        (λ l. splice_first at n (λ q. held_at ms q (P q) (R q)) (λ q. held_at bs q (Q q) (S q)) p l
+        ∙ sym (ap (λ o. held_by o (splice at n P Q p) (splice at n R S p)) (splice_first at n (slice_get ms) (slice_get bs) p l)
+        ∙ ap (λ a. held_by (slice_get ms p) a (splice at n R S p)) (splice_first at n P Q p l)
+        ∙ ap (held_by (slice_get ms p) (P p)) (splice_first at n R S p l)))
+        (λ ge. ⊎_elim
+        (λ l. splice_second at n (λ q. held_at ms q (P q) (R q)) (λ q. held_at bs q (Q q) (S q)) p ge l
+        ∙ sym (ap (λ o. held_by o (splice at n P Q p) (splice at n R S p)) (splice_second at n (slice_get ms) (slice_get bs) p ge l)
+        ∙ ap (λ a. held_by (slice_get bs (p - at)) a (splice at n R S p)) (splice_second at n P Q p ge l)
+        ∙ ap (held_by (slice_get bs (p - at)) (Q (p - at))) (splice_second at n R S p ge l)))
+        (λ le. splice_last at n (λ q. held_at ms q (P q) (R q)) (λ q. held_at bs q (Q q) (S q)) p ge le
+        ∙ sym (ap (λ o. held_by o (splice at n P Q p) (splice at n R S p)) (splice_last at n (slice_get ms) (slice_get bs) p ge le)
+        ∙ ap (λ a. held_by (slice_get ms (p - n + 1)) a (splice at n R S p)) (splice_last at n P Q p ge le)
+        ∙ ap (held_by (slice_get ms (p - n + 1)) (P (p - n + 1))) (splice_last at n R S p ge le)))
+        (cases_lt (p - at) n))
+        (cases_lt p at)
+
+-- what queues of both kernels may hold is what queues of the two as one may hold
+splice_all : (ms bs : List QueueType) (at p : ℕ) (f g : ℕ → List item.Item) → at < length ms → AreHeldOf ms f → AreHeldOf bs g → All (IsHeldOf (spliced at ms bs) p) (splice at (length bs) f g p)
+splice_all ms bs at p f g lt a b = subst (λ o. All (IsHeldBy o) (splice at (length bs) f g p)) (sym (spliced_got ms bs at p lt)) (by_place (length bs))
+  where
+    by_place : (n : ℕ) → All (IsHeldBy (splice at n (slice_get ms) (slice_get bs) p)) (splice at n f g p)
+    by_place n = ⊎_elim
+        (λ l. subst (λ o. All (IsHeldBy o) (splice at n f g p)) (sym (splice_first at n (slice_get ms) (slice_get bs) p l))
+        (subst (All (IsHeldOf ms p)) (sym (splice_first at n f g p l)) (a p)))
+        (λ ge. ⊎_elim
+        (λ l. subst (λ o. All (IsHeldBy o) (splice at n f g p)) (sym (splice_second at n (slice_get ms) (slice_get bs) p ge l))
+        (subst (All (IsHeldOf bs (p - at))) (sym (splice_second at n f g p ge l)) (b (p - at))))
+        (λ le. subst (λ o. All (IsHeldBy o) (splice at n f g p)) (sym (splice_last at n (slice_get ms) (slice_get bs) p ge le))
+        (subst (All (IsHeldOf ms (p - n + 1))) (sym (splice_last at n f g p ge le)) (a (p - n + 1))))
+        (cases_lt (p - at) n))
+        (cases_lt p at)
+
+-- all that two kernels as one gave, part by part
+pub fused_ran : (a b : Kern) (at : ℕ) (w : Word) → IsShaped (fused a b at) → Same (ran (fused a b at) w) (fused_of at (outs b) (tabs a) (ran a w) (λ xs. ran b (word_of 0 xs)))
+fused_ran a b at w s =
+    let k = fused a b at in
+    let sa = first_kept a in
+    let sb = first_kept b in
+    let la = shape_length a sa (first_shape a s.0) in
+    let h = fused_runs a b at w (sa ++ sb) s (first_shape k s) in
+    let h1 : Same (ran k w) (fused_of at (outs b) (tabs a) (run (fire a) w sa) (λ xs. feed (fire b 0) xs (drop (privates a) (sa ++ sb)))) =
+    subst (λ us. Same (ran k w) (fused_of at (outs b) (tabs a) (run (fire a) w us) (λ xs. feed (fire b 0) xs (drop (privates a) (sa ++ sb))))) (take_front sa sb (privates a) la) h in
+    let h2 : Same (ran k w) (fused_of at (outs b) (tabs a) (ran a w) (λ xs. feed (fire b 0) xs sb)) =
+    subst (λ us. Same (ran k w) (fused_of at (outs b) (tabs a) (ran a w) (λ xs. feed (fire b 0) xs us))) (drop_front sa sb (privates a) la) h1 in
+    subst (λ (r : Fired). Same (ran k w) (fused_of at (outs b) (tabs a) (ran a w) (λ xs. r))) (sym (feed_word (fire b) 0 ((ran a w).outs at) sb)) h2
+
+pub fused_does : (a b : Kern) (at port : ℕ) (i : item.Item) (st mine' rest' : List State) (out new mid0 mid last0 last : Emit) (items : List item.Item) → IsOnRows (fused a b at) → HasRoom (fused a b at) out → IsBlank a mid0 → FiresAt a port i mid0 mid (take (privates a) st) mine' → IsBlank b last0 → items ≡ list_at mid.outs at → FiresEach b items last0 last (drop (privates a) st) rest' → new.outs ≡ each_grew out.outs (splice at (length last.outs) (list_at mid.outs) (list_at last.outs)) → new.adds ≡ each_grew out.adds (beside (length mid.adds) (list_at mid.adds) (list_at last.adds)) → FiresAt (fused a b at) port i out new st (mine' ++ rest')
+fused_does a b at port i st mine' rest' out new mid0 mid last0 last items rows room bm fm bl is fl eo ea = record {
+  each = λ reads writes vars f fs hi.
+      subst (λ (os : List QueueType). Does (fused a b at) reads os port i out new st (mine' ++ rest')) (sym f.8) (both reads f.0 f.1 f.2 f.3 f.4 f.5 f.6 f.7 (shaped (fused a b at) reads writes vars f) fs hi);
+}
+  where
+    both : (reads ms : List QueueType) (m : QueueType) (bs : List QueueType) (us ws : List VarKind) → Fits a reads ms us → slice_get ms at ≡ Some m → Fits b (m ∷ []) bs ws → IsShaped (fused a b at) → FitState (fused a b at) reads st → IsHeldOf reads port i
+        → Does (fused a b at) reads (spliced at ms bs) port i out new st (mine' ++ rest')
+    both reads ms m bs us ws fa g fb s fs hi =
+        let k = fused a b at in
+        let ca = counts a reads ms us fa in
+        let cb = counts b (m ∷ []) bs ws fb in
+        let at_ms : at < length ms = let e = ca.outs in omega (arith, e, s.2) in
+        let da = fm.each reads ms us fa fs.0 hi in
+        let mid_is : between at (types_of a reads) ≡ m ∷ [] = between_is a reads ms m us at fa g in
+        let items_are : items ≡ da.came.outs at = is ∙ grown_list (outs a) mid0.outs mid.outs da.came.outs at bm.outs da.came.outs_are s.2 in
+        let items_held : All (IsHeldOf (m ∷ []) 0) items = subst (λ (l : List item.Item). All (IsHeldOf (m ∷ []) 0) l) (sym items_are) (subst (λ o. All (IsHeldBy o) (da.came.outs at)) g (da.came.held at)) in
+        let db = fl.each (m ∷ []) bs ws fb (subst (λ (l : List QueueType). FitState b l (drop (privates a) st)) mid_is fs.1) items_held in
+        let mid_room : HasRoom a mid = came_room a reads ms mid0 mid mine' (blank_room a mid0 bm) da.came in
+        let last_room : HasRoom b last = came_room b (m ∷ []) bs last0 last rest' (blank_room b last0 bl) db.came in
+        let cut : (fa fb : ℕ → List item.Item) → mid.outs ≡ each_grew mid0.outs fa → last.outs ≡ each_grew last0.outs fb → new.outs ≡ each_grew out.outs (splice at (length bs) fa fb) = λ ga gb ema emb.
+        eo ∙ ap (λ n. each_grew out.outs (splice at n (list_at mid.outs) (list_at last.outs))) (last_room.outs ∙ sym cb.outs)
+        ∙ each_grew_cong out.outs (splice at (length bs) (list_at mid.outs) (list_at last.outs)) (splice at (length bs) ga gb) (λ p h. splice_cong at (length bs) (outs a) (list_at mid.outs) ga (list_at last.outs) gb p s.2
+        (let e = room.outs in let e2 = cb.outs in omega (arith, h, s.2, e, e2))
+        (λ q hq. grown_list (outs a) mid0.outs mid.outs ga q bm.outs ema hq)
+        (λ q hq. grown_list (outs b) last0.outs last.outs gb q bl.outs emb (let e2 = cb.outs in omega (arith, hq, e2)))) in
+        let cut_adds : (fa fb : ℕ → List (List _)) → mid.adds ≡ each_grew mid0.adds fa → last.adds ≡ each_grew last0.adds fb → new.adds ≡ each_grew out.adds (beside (tabs a) fa fb) = λ ga gb ema emb.
+        ea ∙ ap (λ n. each_grew out.adds (beside n (list_at mid.adds) (list_at last.adds))) mid_room.adds
+        ∙ each_grew_cong out.adds (beside (tabs a) (list_at mid.adds) (list_at last.adds)) (beside (tabs a) ga gb) (λ p h. beside_cong (tabs b) (tabs a) (list_at mid.adds) ga (list_at last.adds) gb p
+        (let e = room.adds in omega (arith, h, e))
+        (λ q hq. grown_list (tabs a) mid0.adds mid.adds ga q bm.adds ema hq)
+        (λ q hq. grown_list (tabs b) last0.adds last.adds gb q bl.adds emb hq)) in
+        record {
+          gives = record {
+            given = λ w x tw tx sa h.
+                let one = da.gives.given w x tw tx sa.0 h in
+                let wa = ran a w in
+                let past = wa.outs at in
+                let ra = fire a port x wa.states in
+                let xs = ra.outs at in
+                let wb = word_of 0 past in
+                let typed_past : All (HasType m) past = subst (λ o. All (IsTyped o) past) g (ran_typed a reads ms us w rows.0 fa tw at) in
+                let typed_xs : All (HasType m) xs = subst (λ o. All (IsTyped o) xs) g (fired_typed a reads ms us w port x rows.0 fa tw tx at) in
+                let came : items ≡ held m past xs = is ∙ grown_list (outs a) mid0.outs mid.outs (λ p. held_at ms p (wa.outs p) (ra.outs p)) at bm.outs one.0.outs s.2 ∙ ap (λ o. held_by o past xs) g in
+                let two = db.gives.given wb xs (typed_word (m ∷ []) 0 past typed_past) typed_xs sa.1 (ap (λ l. held m l xs) (at_word 0 past) ∙ sym came) in
+                let rb = feed (fire b 0) xs (ran b wb).states in
+                let whole = ran k w in
+                let parts = fused_ran a b at w s in
+                let la : length wa.states ≡ privates a = ran_length a w s.0 in
+                let ta : take (privates a) whole.states ≡ wa.states = ap (take (privates a)) parts.states ∙ take_front wa.states (ran b wb).states (privates a) la in
+                let tb : drop (privates a) whole.states ≡ (ran b wb).states = ap (drop (privates a)) parts.states ∙ drop_front wa.states (ran b wb).states (privates a) la in
+                let r_is : fused_of at (outs b) (tabs a) ra (λ l. feed (fire b 0) l (ran b wb).states) ≡ fire k port x whole.states =
+                ap (λ us. fused_of at (outs b) (tabs a) (fire a port x us) (λ l. feed (fire b 0) l (ran b wb).states)) (sym ta)
+                ∙ ap (λ us. fused_of at (outs b) (tabs a) (fire a port x (take (privates a) whole.states)) (λ l. feed (fire b 0) l us)) (sym tb) in
+                let now : TookHeld (spliced at ms bs) whole out new (fused_of at (outs b) (tabs a) ra (λ l. feed (fire b 0) l (ran b wb).states)) = record {
+                  outs = cut (λ p. held_at ms p (wa.outs p) (ra.outs p)) (λ p. held_at bs p ((ran b wb).outs p) (rb.outs p)) one.0.outs two.0.outs
+                      ∙ each_grew_cong out.outs (splice at (length bs) (λ p. held_at ms p (wa.outs p) (ra.outs p)) (λ p. held_at bs p ((ran b wb).outs p) (rb.outs p)))
+                      (λ p. held_at (spliced at ms bs) p (whole.outs p) (splice at (outs b) ra.outs rb.outs p))
+                      (λ p lt. splice_held ms bs at p wa.outs ra.outs (ran b wb).outs rb.outs at_ms
+                      ∙ ap (λ n. held_at (spliced at ms bs) p (splice at n wa.outs (ran b wb).outs p) (splice at n ra.outs rb.outs p)) cb.outs
+                      ∙ ap (λ l. held_at (spliced at ms bs) p l (splice at (outs b) ra.outs rb.outs p)) (sym (parts.outs p)));
+                  adds = cut_adds ra.adds rb.adds one.0.adds two.0.adds;
+                } in
+                let more = ran_more a w port x in (
+                  subst (λ (r : Fired). TookHeld (spliced at ms bs) whole out new r) r_is now,
+                  parts_after a b at reads mine' rest' (w ++ (port, x) ∷ []) da.came.again one.1 (subst (StandsAfter b rest') (sym (word_append 0 past xs) ∙ ap (word_of 0) (sym (more.outs at))) two.1),
+                );
+          };
+          came = record {
+            outs = splice at (length bs) da.came.outs db.came.outs;
+            adds = beside (tabs a) da.came.adds db.came.adds;
+            outs_are = cut da.came.outs db.came.outs da.came.outs_are db.came.outs_are;
+            adds_are = cut_adds da.came.adds db.came.adds da.came.adds_are db.came.adds_are;
+            held = λ p. splice_all ms bs at p da.came.outs db.came.outs at_ms da.came.held db.came.held;
+            again = parts_fit a b at reads mine' rest' da.came.again (subst (λ (l : List QueueType). FitState b l rest') (sym mid_is) db.came.again);
+          };
+        }

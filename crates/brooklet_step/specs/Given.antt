@@ -1,0 +1,199 @@
+-- Firings after others: what a firing gives where what was received and given before it is known.
+use Rattle.std.specs.Prelude.{◌≡◌, ℕ, ℤ, ◌<◌, Option, Some, None, List, [], ◌∷◌, ◌++◌, All, length, take, drop, slice_get}
+use Rattle.river_base.specs.declared.item.Item as item
+use Rattle.river_base.specs.declared.kind.QueueType.{QueueType}
+use Rattle.river_base.specs.Held.{held, IsHeld}
+use Rattle.river_base.specs.Places.{each_grew, list_at}
+use Rattle.kern_rows.specs.Forms.{FilterForm}
+use Rattle.kern_rows.specs.Stands.{Waiting, Dealing}
+use Rattle.kern_rows.specs.Turns.{Turns, IsTurn, shares, ones}
+use Rattle.river_kernels.specs.declared.types.VarKind.{VarKind}
+use Rattle.river_kernels.specs.Fits.{Fits}
+use Rattle.river_kernels.specs.Types.{types_of}
+use Rattle.river_kernels.specs.Kern.{Kern, code, filter, duplicate, deal, collect, packed, unpack, window, select, project, cross, streamer, tally, fused}
+use Rattle.brooklet_model.specs.Firings.{Fired, feed}
+use Rattle.brooklet_model.specs.Fire.{fire, first_kept, privates}
+use Rattle.brooklet_model.specs.Shapes.{IsJoined}
+use Rattle.brooklet_model.specs.Typed.{IsOf, IsOnRows, between}
+use Rattle.brooklet_model.specs.Words.{Word, run, at_port, word_of}
+use Rattle.brooklet_step.specs.declared.emit.Emit.{Emit}
+use Rattle.brooklet_step.specs.declared.state.State.{State}
+use Rattle.brooklet_step.specs.declared.state.State.TheVariants as state
+use Rattle.brooklet_step.specs.Stands.{StandsFor}
+use Rattle.brooklet_step.specs.Took.{HasRoom}
+
+-- QUEUES AT PORTS
+
+-- what the queue at a port holds; beyond the ports the items themselves
+abbrev pub held_by : Option QueueType → List item.Item → List item.Item → List item.Item
+held_by None past xs = xs
+held_by (Some t) past xs = held t past xs
+
+abbrev pub held_at : List QueueType → ℕ → List item.Item → List item.Item → List item.Item
+held_at types p past xs = held_by (slice_get types p) past xs
+
+-- the item is what the queue at a port may hold
+abbrev pub IsHeldBy : Option QueueType → item.Item → Type 0
+IsHeldBy None i = ⊥
+IsHeldBy (Some t) i = IsHeld t i
+
+abbrev pub IsHeldOf : List QueueType → ℕ → item.Item → Type 0
+IsHeldOf types p i = IsHeldBy (slice_get types p) i
+
+abbrev pub AreHeldOf : List QueueType → (ℕ → List item.Item) → Type 0
+AreHeldOf types f = (p : ℕ) → All (IsHeldOf types p) (f p)
+
+-- all items of a word are of the types of their ports
+abbrev pub AreTyped : List QueueType → Word → Type 0
+AreTyped types [] = Unit {0}
+AreTyped types (e ∷ es) = IsOf types e.0 e.1 × AreTyped types es
+
+-- WHAT STATES ARE
+
+-- so many slots
+pub record FitsSlots (n : ℕ) (st : List State) : Type 0 where
+  pub slots : List ℤ
+  pub code : st ≡ state.Slots slots ∷ []
+  pub count : length slots ≡ n
+
+abbrev pub FitSlots : List ℤ → List State → Type 0
+FitSlots [] st = st ≡ []
+FitSlots (z ∷ zs) st = FitsSlots (length (z ∷ zs)) st
+
+pub record FitFilter (f : FilterForm) (st : List State) : Type 0 where
+  pub now : Waiting
+  pub code : st ≡ state.Filter now ∷ []
+  pub count : length now.kept ≡ length f.starts
+  pub few : length now.buffer < f.peek
+
+pub record FitTurn (ws : List ℕ) (st : List State) : Type 0 where
+  pub now : Dealing
+  pub code : st ≡ state.Deal now ∷ []
+  pub turn : IsTurn ws now.port now.had
+
+pub record FitJoiner (wrap : Turns → State) (ws : List ℕ) (reads : List QueueType) (st : List State) : Type 0 where
+  pub now : Turns
+  pub code : st ≡ wrap now ∷ []
+  pub joined : IsJoined ws now
+  pub items : AreHeldOf reads (list_at now.lists)
+
+-- the states are the kernel's own, and what they keep is what queues of these types may hold. It speaks of the states alone: of
+-- no state of the definition and of no word, since a task also fires on items of which it does not yet know what they stand for
+abbrev pub FitState : Kern → List QueueType → List State → Type 0
+FitState (code k) reads st = FitSlots k.starts st
+FitState (filter f) reads st = FitFilter f st
+FitState (duplicate n) reads st = st ≡ []
+FitState (deal ws) reads st = FitTurn (shares ws) st
+FitState (collect ws) reads st = FitJoiner (λ s. state.Collect s) (shares ws) reads st
+FitState (packed k) reads st = FitState k reads st
+FitState (unpack n) reads st = FitJoiner (λ s. state.Unpack s) (ones n) reads st
+FitState (window w) reads st = ⊥
+FitState (select e) reads st = ⊥
+FitState (project es) reads st = ⊥
+FitState cross reads st = ⊥
+FitState (streamer s) reads st = ⊥
+FitState tally reads st = ⊥
+FitState (fused a b at) reads st = FitState a reads (take (privates a) st) × FitState b (between at (types_of a reads)) (drop (privates a) st)
+
+-- kernels without a kernel inside
+abbrev pub IsLeaf : Kern → Type 0
+IsLeaf (code k) = Unit {0}
+IsLeaf (filter f) = Unit {0}
+IsLeaf (duplicate n) = Unit {0}
+IsLeaf (deal ws) = Unit {0}
+IsLeaf (collect ws) = Unit {0}
+IsLeaf (packed k) = ⊥
+IsLeaf (unpack n) = Unit {0}
+IsLeaf (window w) = ⊥
+IsLeaf (select e) = ⊥
+IsLeaf (project es) = ⊥
+IsLeaf cross = ⊥
+IsLeaf (streamer s) = ⊥
+IsLeaf tally = ⊥
+IsLeaf (fused a b at) = ⊥
+
+-- WHAT STATES STAND FOR
+
+-- all that a kernel gives in the firings of a word, and the states after them
+abbrev pub ran : Kern → Word → Fired
+ran k w = run (fire k) w (first_kept k)
+
+-- the states stand for those after this word
+abbrev pub StandsAfter : Kern → List State → Word → Type 0
+StandsAfter (code k) st w = StandsFor (code k) st (ran (code k) w).states
+StandsAfter (filter f) st w = StandsFor (filter f) st (ran (filter f) w).states
+StandsAfter (duplicate n) st w = StandsFor (duplicate n) st (ran (duplicate n) w).states
+StandsAfter (deal ws) st w = StandsFor (deal ws) st (ran (deal ws) w).states
+StandsAfter (collect ws) st w = StandsFor (collect ws) st (ran (collect ws) w).states
+StandsAfter (packed k) st w = StandsAfter k st w
+StandsAfter (unpack n) st w = StandsFor (unpack n) st (ran (unpack n) w).states
+StandsAfter (window v) st w = ⊥
+StandsAfter (select e) st w = ⊥
+StandsAfter (project es) st w = ⊥
+StandsAfter cross st w = ⊥
+StandsAfter (streamer s) st w = ⊥
+StandsAfter tally st w = ⊥
+StandsAfter (fused a b at) st w = StandsAfter a (take (privates a) st) w × StandsAfter b (drop (privates a) st) (word_of 0 ((ran a w).outs at))
+
+-- FIRINGS
+
+-- a firing after which `before` had been given: what queues hold for its items came to what was there
+pub record TookHeld (writes : List QueueType) (before : Fired) (old new : Emit) (r : Fired) : Type 0 where
+  pub outs : new.outs ≡ each_grew old.outs (λ p. held_at writes p (before.outs p) (r.outs p))
+  pub adds : new.adds ≡ each_grew old.adds r.adds
+
+-- whatever was received: where the states stand for it, and the item i is what the queue holds for the item x after it, what came
+-- is what queues hold for what the firing on x gives, and the new states stand for what was received with x
+pub record Gives (k : Kern) (reads writes : List QueueType) (port : ℕ) (i : item.Item) (out new : Emit) (st st' : List State) : Type 0 where
+  pub given : (w : Word) (x : item.Item) → AreTyped reads w → IsOf reads port x → StandsAfter k st w → held_at reads port (at_port port w) (x ∷ []) ≡ i ∷ []
+      → TookHeld writes (ran k w) out new (fire k port x (ran k w).states) × StandsAfter k st' (w ++ (port, x) ∷ [])
+
+-- whatever was received: what came is what queues may hold, and the states fit again
+pub record Came (k : Kern) (reads writes : List QueueType) (out new : Emit) (st' : List State) : Type 0 where
+  pub outs : ℕ → List item.Item
+  pub adds : ℕ → List (List ℤ)
+  pub outs_are : new.outs ≡ each_grew out.outs outs
+  pub adds_are : new.adds ≡ each_grew out.adds adds
+  pub held : AreHeldOf writes outs
+  pub again : FitState k reads st'
+
+pub record Does (k : Kern) (reads writes : List QueueType) (port : ℕ) (i : item.Item) (out new : Emit) (st st' : List State) : Type 0 where
+  pub gives : Gives k reads writes port i out new st st'
+  pub came : Came k reads writes out new st'
+
+-- under each choice of types for the ports
+pub record FiresAt (k : Kern) (port : ℕ) (i : item.Item) (out new : Emit) (st st' : List State) : Type 0 where
+  pub each : (reads writes : List QueueType) (vars : List VarKind) → Fits k reads writes vars → FitState k reads st → IsHeldOf reads port i → Does k reads writes port i out new st st'
+
+-- the same of the items of a list, one after another at the first port
+pub record GivesAll (k : Kern) (reads writes : List QueueType) (is : List item.Item) (out new : Emit) (st st' : List State) : Type 0 where
+  pub given : (w : Word) (xs : List item.Item) → AreTyped reads w → All (IsOf reads 0) xs → StandsAfter k st w → held_at reads 0 (at_port 0 w) xs ≡ is
+      → TookHeld writes (ran k w) out new (feed (fire k 0) xs (ran k w).states) × StandsAfter k st' (w ++ word_of 0 xs)
+
+pub record DoesAll (k : Kern) (reads writes : List QueueType) (is : List item.Item) (out new : Emit) (st st' : List State) : Type 0 where
+  pub gives : GivesAll k reads writes is out new st st'
+  pub came : Came k reads writes out new st'
+
+pub record FiresEach (k : Kern) (is : List item.Item) (out new : Emit) (st st' : List State) : Type 0 where
+  pub each : (reads writes : List QueueType) (vars : List VarKind) → Fits k reads writes vars → FitState k reads st → All (IsHeldOf reads 0) is → DoesAll k reads writes is out new st st'
+
+-- WHEN FIRINGS CAN BE MADE
+
+pub record Fitting (k : Kern) (reads : List QueueType) (st : List State) : Type 0 where
+  pub on_rows : IsOnRows k
+  pub writes : List QueueType
+  pub vars : List VarKind
+  pub fits : Fits k reads writes vars
+  pub state : FitState k reads st
+
+pub record CanTake (k : Kern) (port : ℕ) (i : item.Item) (st : List State) (out : Emit) : Type 0 where
+  pub reads : List QueueType
+  pub fitting : Fitting k reads st
+  pub item : IsHeldOf reads port i
+  pub room : HasRoom k out
+
+pub record CanTakeAll (k : Kern) (is : List item.Item) (st : List State) (out : Emit) : Type 0 where
+  pub reads : List QueueType
+  pub fitting : Fitting k reads st
+  pub items : All (IsHeldOf reads 0) is
+  pub room : HasRoom k out

@@ -1,0 +1,84 @@
+// One firing of a kernel that has no kernel inside.
+ghost use Rattle.std.specs.Prelude.{◌≡◌, ◌↔◌, IsTrue, OnOk};
+ghost use Rattle.river_kernels.specs.Kern.{kern_of};
+ghost use Rattle.brooklet_model.specs.Fire.{fire as fire_lem};
+ghost use Rattle.brooklet_step.specs.Given.{IsLeaf};
+ghost use Rattle.brooklet_step.specs.Stands.{Applies, Fires};
+
+use crate::emit::Emit;
+use crate::leaf::{fire_code, fire_collect, fire_deal, fire_filter, fire_unpack};
+use crate::state::State;
+use river_base::{Item, NoMemory};
+use river_plan::Kernel;
+use std::alloc::Global;
+
+/// Whether a kernel is on rows and has no kernel inside.
+pub fn is_leaf(kernel: &Kernel) -> bool
+    ensures { IsTrue result ↔ IsLeaf (kern_of kernel.now) }
+{
+    match kernel {
+        Kernel::Code(_)
+        | Kernel::Filter(_)
+        | Kernel::Duplicate(_)
+        | Kernel::Deal(_)
+        | Kernel::Collect(_)
+        | Kernel::Unpack(_) => true,
+        Kernel::Packed(_)
+        | Kernel::Fused { .. }
+        | Kernel::Window(_)
+        | Kernel::Select(_)
+        | Kernel::Project(_)
+        | Kernel::Cross
+        | Kernel::Streamer(_)
+        | Kernel::Tally => false,
+    }
+}
+
+/// Such a kernel fires.
+pub fn fire_leaf(
+    alloc: Global,
+    kernel: &Kernel,
+    port: u32,
+    item: Item,
+    states: &mut [State],
+    out: &mut Emit,
+) -> Result<(), NoMemory>
+    requires leaf { IsLeaf (kern_of kernel.now) }
+    requires applies { Applies (kern_of kernel.now) port item states.old out.old }
+    ensures { OnOk result (Fires (kern_of kernel.now) out.old out.new states.old states.new (fire_lem (kern_of kernel.now) port item)) }
+{
+    match kernel {
+        Kernel::Code(code) => {
+            fire_code(alloc, code, &item, states, out)?;
+            Ok(())
+        }
+        Kernel::Filter(filter) => {
+            fire_filter(alloc, filter, &item, &mut states[0], out)?;
+            Ok(())
+        }
+        Kernel::Duplicate(_) => {
+            out.give_everywhere(alloc, &item)?;
+            Ok(())
+        }
+        Kernel::Deal(weights) => {
+            fire_deal(weights, item, &mut states[0], out)?;
+            Ok(())
+        }
+        Kernel::Collect(weights) => {
+            fire_collect(alloc, weights, port, item, &mut states[0], out)?;
+            Ok(())
+        }
+        Kernel::Unpack(ports) => {
+            fire_unpack(alloc, *ports, port, item, &mut states[0], out)?;
+            Ok(())
+        }
+        Kernel::Packed(_)
+        | Kernel::Fused { .. }
+        | Kernel::Window(_)
+        | Kernel::Select(_)
+        | Kernel::Project(_)
+        | Kernel::Cross
+        | Kernel::Streamer(_)
+        | Kernel::Tally => unreachable!(),
+    }
+}
