@@ -4,8 +4,10 @@ use crate::plans::{
     CHAIN, FIVE, FOUR, JOIN, JOIN_TEXT, NESTED, PACKS, PACKS_TEXT, SEVEN, SPLITS, SPLITS_TEXT,
     SUMS, SUMS_TEXT, TWO,
 };
-use brooklet_step::{Inputs, fits};
+use brooklet_step::{Inputs, Machine, fits};
 use river_base::{Flat, Item, Items, Row};
+use river_plan::Plan;
+use std::alloc::Global;
 use std::test::Fail;
 
 #[test]
@@ -86,13 +88,24 @@ fn runs_by_hand(rt: HostRuntime) -> Result<(), Fail> {
 #[test]
 fn operators_without_an_item(rt: HostRuntime) -> Result<(), Fail> {
     let plan = plan_of(rt.alloc(), SUMS)?;
-    let machine = machine_of(rt.alloc(), &plan, &[b"4\n"])?;
+    assert!(rt; is_enabled_at_start(rt.alloc(), &plan)?);
+    Ok(())
+}
+
+fn is_enabled_at_start(alloc: Global, plan: &Plan) -> Result<bool, Fail> {
+    let machine = machine_of(alloc, plan, &[b"4\n"])?;
+    Ok(is_enabled_as_wanted(&machine))
+}
+
+fn is_enabled_as_wanted(machine: &Machine) -> bool {
     // An operator with an item; one without; one that is not there; a port that is not there.
     let cases = [(0, 0, true), (1, 0, false), (2, 0, false), (0, 1, false)];
     for (op, port, wanted) in cases {
-        assert_eq!(rt; machine.enabled(op, port), wanted);
+        if machine.enabled(op, port) != wanted {
+            return false;
+        }
     }
-    Ok(())
+    true
 }
 
 #[test]
@@ -111,19 +124,34 @@ fn runs_in_any_order(rt: HostRuntime) -> Result<(), Fail> {
 #[test]
 fn inputs_that_do_not_fit(rt: HostRuntime) -> Result<(), Fail> {
     let plan = plan_of(rt.alloc(), CHAIN)?;
+    assert!(rt; fit_as_wanted(rt.alloc(), &plan)?);
+    assert!(rt; !fits_wide(rt.alloc(), &plan)?);
+    Ok(())
+}
+
+fn fit_as_wanted(alloc: Global, plan: &Plan) -> Result<bool, Fail> {
     let cases: [(&[&[u8]], bool); 3] = [
         (&[b"1\n"], true),
         (&[], false),
         (&[b"1\n", b"2\n"], false),
     ];
     for (files, wanted) in cases {
-        let inputs = inputs_of(rt.alloc(), files)?;
-        assert_eq!(rt; fits(&plan, &inputs), wanted);
+        if fit(alloc, plan, files)? != wanted {
+            return Ok(false);
+        }
     }
-    let mut wide = Items::new(rt.alloc());
+    Ok(true)
+}
+
+fn fit(alloc: Global, plan: &Plan, files: &[&[u8]]) -> Result<bool, Fail> {
+    let inputs = inputs_of(alloc, files)?;
+    Ok(fits(plan, &inputs))
+}
+
+fn fits_wide(alloc: Global, plan: &Plan) -> Result<bool, Fail> {
+    let mut wide = Items::new(alloc);
     wide.push(Item::Flat(Flat::One(Row::from_slice(&[1, 2]))))?;
-    let mut inputs = Inputs::new(rt.alloc());
+    let mut inputs = Inputs::new(alloc);
     inputs.push(wide)?;
-    assert!(rt; !fits(&plan, &inputs));
-    Ok(())
+    Ok(fits(plan, &inputs))
 }

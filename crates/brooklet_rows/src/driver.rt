@@ -64,12 +64,16 @@ fn text_of(alloc: Global, plan: &Plan, outcome: &Outcome) -> Result<Bytes, Fail>
 /// What is printed of the run in the order of the operators.
 pub fn ran(alloc: Global, text: &[u8], files: &[&[u8]]) -> Result<Bytes, Fail> {
     let plan = plan_of(alloc, text)?;
+    ran_of(alloc, &plan, files)
+}
+
+fn ran_of(alloc: Global, plan: &Plan, files: &[&[u8]]) -> Result<Bytes, Fail> {
     let inputs = inputs_of(alloc, files)?;
-    if !built(&plan) || !fits(&plan, &inputs) {
+    if !built(plan) || !fits(plan, &inputs) {
         return Err("inputs that do not fit".into());
     }
-    let outcome = run_one(alloc, &plan, inputs)?;
-    text_of(alloc, &plan, &outcome)
+    let outcome = run_one(alloc, plan, inputs)?;
+    text_of(alloc, plan, &outcome)
 }
 
 /// The machine before its first firing.
@@ -106,11 +110,25 @@ pub fn stepped(
     steps: &[(u32, u32)],
 ) -> Result<Bytes, Fail> {
     let plan = plan_of(alloc, text)?;
-    let mut machine = machine_of(alloc, &plan, files)?;
+    stepped_of(alloc, &plan, files, steps)
+}
+
+fn stepped_of(
+    alloc: Global,
+    plan: &Plan,
+    files: &[&[u8]],
+    steps: &[(u32, u32)],
+) -> Result<Bytes, Fail> {
+    let mut machine = machine_of(alloc, plan, files)?;
+    take_steps(alloc, &mut machine, steps)?;
+    finish(alloc, plan, machine)
+}
+
+fn take_steps(alloc: Global, machine: &mut Machine, steps: &[(u32, u32)]) -> Result<(), NoMemory> {
     for (op, port) in steps {
-        step_at(alloc, &mut machine, *op, *port)?;
+        step_at(alloc, machine, *op, *port)?;
     }
-    finish(alloc, &plan, machine)
+    Ok(())
 }
 
 // The next of a row of numbers that look as if drawn at random.
@@ -134,7 +152,11 @@ fn drive(alloc: Global, machine: &mut Machine, seed: u64) -> Result<(), NoMemory
 /// What is printed of a machine that is driven by a seed.
 pub fn driven(alloc: Global, text: &[u8], files: &[&[u8]], seed: u64) -> Result<Bytes, Fail> {
     let plan = plan_of(alloc, text)?;
-    let mut machine = machine_of(alloc, &plan, files)?;
+    driven_of(alloc, &plan, files, seed)
+}
+
+fn driven_of(alloc: Global, plan: &Plan, files: &[&[u8]], seed: u64) -> Result<Bytes, Fail> {
+    let mut machine = machine_of(alloc, plan, files)?;
     drive(alloc, &mut machine, seed)?;
-    finish(alloc, &plan, machine)
+    finish(alloc, plan, machine)
 }

@@ -1,7 +1,8 @@
 // Variables that are shared.
-ghost use Rattle.std.specs.Prelude.{◌≡◌, IfOk, OnOk, ◌++◌, IsTrue, ◌↔◌};
+ghost use Rattle.std.specs.Prelude.{◌≡◌, [], IfOk, OnOk, ◌++◌, IsTrue, ◌↔◌};
 ghost use Rattle.river_plan.specs.Forms.{plan_form, op_forms};
-ghost use Rattle.river_plan.specs.Names.{count};
+ghost use Rattle.river_plan.specs.Names.{count, AreDoubled, SameNames};
+ghost use Rattle.river_plan.specs.Uses.{all_vars as used_in};
 ghost use Rattle.river_plan.specs.Shares.{AreTwiceInOne, AddsTwice, IsSingle};
 ghost use Rattle.river_plan.specs.First.{IsFirst};
 ghost use Rattle.river_plan.specs.Faults.{Shared, IsApart};
@@ -19,12 +20,41 @@ pub(crate) fn shared(alloc: Global, raw: &RawPlan) -> Result<Option<Named>, NoMe
     ensures { IfOk result (Shared (plan_form raw.now)) }
 {
     let private = set_of(alloc, &raw.vars)?;
-    let none = Names::new(alloc);
-    let uses = all_vars(alloc, &raw.ops)?;
-    let across = doubled(alloc, &none, &uses)?;
-    let within = twice_in_one(alloc, &raw.ops)?;
+    shared_of(alloc, raw, &private)
+}
+
+// The same, where the private ones are known.
+fn shared_of(alloc: Global, raw: &RawPlan, private: &NameSet) -> Result<Option<Named>, NoMemory>
+    requires { SameNames private.now raw.now.vars }
+    ensures { IfOk result (Shared (plan_form raw.now)) }
+{
+    let across = reused(alloc, &raw.ops)?;
+    shared_across(alloc, raw, private, &across)
+}
+
+// The same, where those in two operators are known too.
+fn shared_across(
+    alloc: Global,
+    raw: &RawPlan,
+    private: &NameSet,
+    across: &NameSet,
+) -> Result<Option<Named>, NoMemory>
+    requires private { SameNames private.now raw.now.vars }
+    requires across { AreDoubled [] (used_in (op_forms raw.now.ops)) across.now }
+    ensures { IfOk result (Shared (plan_form raw.now)) }
+{
     let names = variable_names(alloc, raw)?;
-    Ok(as_variable(first_shared(&names, &private, &across, &within)))
+    let within = twice_in_one(alloc, &raw.ops)?;
+    Ok(as_variable(first_shared(&names, private, across, &within)))
+}
+
+// The names that stand twice among the variables of all operators.
+fn reused(alloc: Global, ops: &Ops) -> Result<NameSet, NoMemory>
+    ensures { IfOk result (AreDoubled [] (used_in (op_forms ops.now))) }
+{
+    let uses = all_vars(alloc, ops)?;
+    let across = doubled(alloc, &Names::new(alloc), &uses)?;
+    Ok(across)
 }
 
 // The first name that is within, or that is both private and across.

@@ -1,9 +1,11 @@
 // Prints kernels.
-ghost use Rattle.std.specs.Prelude.{◌≡◌, ◌++◌, OnOk, OnErr};
+ghost use Rattle.std.specs.Prelude.{◌≡◌, ◌++◌, [], ◌∷◌, codes, OnOk, OnErr};
+ghost use Rattle.std.specs.Fmt.{decimal};
+ghost use Rattle.work_code.specs.Term.{term, terms};
 ghost use Rattle.kern_rows.specs.Forms.{code_form, filter_form};
 ghost use Rattle.work_code.specs.Steps.{steps};
-ghost use Rattle.river_kernels.specs.Kern.{kern_of};
-ghost use Rattle.river_print.specs.Printed.{kernel_text, code_text, filter_text, rates_text, run_text, window_text, streamer_text};
+ghost use Rattle.river_kernels.specs.Kern.{kern_of, select, project};
+ghost use Rattle.river_print.specs.Printed.{kernel_text, list_text, values_text, code_text, filter_text, rates_text, run_text, window_text, streamer_text};
 
 use crate::items::{
     exprs, in_brackets, next_number, number, starts, two_in_brackets, value, values,
@@ -13,7 +15,7 @@ use kern_rows::{CodeKernel, Filter};
 use river_base::{Bytes, NoMemory};
 use river_kernels::Kernel;
 use std::alloc::Global;
-use work_code::{Code, print_code, print_expr};
+use work_code::{Code, Expr, Exprs, print_code, print_expr};
 
 /// Appends the text of a kernel; where there is no memory, maybe a part of it.
 #[tactic(auto, using(crate::proofs::Joined::joins))]
@@ -23,64 +25,84 @@ pub fn print_kernel(alloc: Global, kernel: &Kernel, to: &mut Bytes) -> Result<()
     match kernel {
         Kernel::Code(code) => print_code_kernel(alloc, code, to),
         Kernel::Filter(filter) => print_filter(alloc, filter, to),
-        Kernel::Duplicate(ports) => {
-            to.extend(b"duplicate")?;
-            in_brackets(alloc, *ports, to)?;
-            Ok(())
-        }
-        Kernel::Deal(weights) => {
-            to.extend(b"deal")?;
-            values(alloc, weights.as_slice(), to)?;
-            Ok(())
-        }
-        Kernel::Collect(weights) => {
-            to.extend(b"collect")?;
-            values(alloc, weights.as_slice(), to)?;
-            Ok(())
-        }
+        Kernel::Duplicate(ports) => print_counted(alloc, b"duplicate", *ports, to),
+        Kernel::Deal(weights) => print_weights(alloc, b"deal", weights.as_slice(), to),
+        Kernel::Collect(weights) => print_weights(alloc, b"collect", weights.as_slice(), to),
         Kernel::Packed(inner) => {
             to.extend(b"packed { ")?;
             print_kernel(alloc, inner, to)?;
-            to.extend(b" }")?;
-            Ok(())
+            to.extend(b" }")
         }
-        Kernel::Unpack(ports) => {
-            to.extend(b"unpack")?;
-            in_brackets(alloc, *ports, to)?;
-            Ok(())
-        }
+        Kernel::Unpack(ports) => print_counted(alloc, b"unpack", *ports, to),
         Kernel::Window(window) => print_window(alloc, *window, to),
-        Kernel::Select(cond) => {
-            to.extend(b"select(")?;
-            print_expr(alloc, cond, to)?;
-            to.extend(b")")?;
-            Ok(())
-        }
-        Kernel::Project(list) => {
-            to.extend(b"project")?;
-            exprs(alloc, list.as_slice(), to)?;
-            Ok(())
-        }
-        Kernel::Cross => {
-            to.extend(b"cross")?;
-            Ok(())
-        }
+        Kernel::Select(cond) => print_select(alloc, cond, to),
+        Kernel::Project(list) => print_project(alloc, list, to),
+        Kernel::Cross => to.extend(b"cross"),
         Kernel::Streamer(streamer) => print_streamer(*streamer, to),
-        Kernel::Tally => {
-            to.extend(b"tally")?;
-            Ok(())
-        }
+        Kernel::Tally => to.extend(b"tally"),
         Kernel::Fused { first, second, at } => {
-            to.extend(b"fused")?;
-            in_brackets(alloc, *at, to)?;
-            to.extend(b" { ")?;
+            begin_fused(alloc, *at, to)?;
             print_kernel(alloc, first, to)?;
             to.extend(b" } { ")?;
             print_kernel(alloc, second, to)?;
-            to.extend(b" }")?;
-            Ok(())
+            to.extend(b" }")
         }
     }
+}
+
+// A word and a number in brackets.
+#[tactic(auto, using(crate::proofs::Joined::joins))]
+fn print_counted(alloc: Global, word: &[u8], count: u32, to: &mut Bytes) -> Result<(), NoMemory>
+    ensures { OnOk result (to.new ≡ to.old ++ (word.now ++ list_text (decimal count ∷ []))) }
+{
+    to.extend(word)?;
+    in_brackets(alloc, count, to)?;
+    Ok(())
+}
+
+// A word and values in brackets.
+#[tactic(auto, using(crate::proofs::Joined::joins))]
+fn print_weights(
+    alloc: Global,
+    word: &[u8],
+    weights: &[i64],
+    to: &mut Bytes,
+) -> Result<(), NoMemory>
+    ensures { OnOk result (to.new ≡ to.old ++ (word.now ++ values_text weights.now)) }
+{
+    to.extend(word)?;
+    values(alloc, weights, to)?;
+    Ok(())
+}
+
+#[tactic(auto, using(crate::proofs::Joined::joins))]
+fn print_select(alloc: Global, cond: &Expr, to: &mut Bytes) -> Result<(), NoMemory>
+    ensures { OnOk result (to.new ≡ to.old ++ kernel_text (select (term cond.now))) }
+{
+    to.extend(b"select(")?;
+    print_expr(alloc, cond, to)?;
+    to.extend(b")")?;
+    Ok(())
+}
+
+#[tactic(auto, using(crate::proofs::Joined::joins))]
+fn print_project(alloc: Global, list: &Exprs, to: &mut Bytes) -> Result<(), NoMemory>
+    ensures { OnOk result (to.new ≡ to.old ++ kernel_text (project (terms list.now))) }
+{
+    to.extend(b"project")?;
+    exprs(alloc, list.as_slice(), to)?;
+    Ok(())
+}
+
+// What stands before the two kernels of a fused one.
+#[tactic(auto, using(crate::proofs::Joined::joins))]
+fn begin_fused(alloc: Global, at: u32, to: &mut Bytes) -> Result<(), NoMemory>
+    ensures { OnOk result (to.new ≡ to.old ++ (codes "fused" ++ (list_text (decimal at ∷ []) ++ codes " { "))) }
+{
+    to.extend(b"fused")?;
+    in_brackets(alloc, at, to)?;
+    to.extend(b" { ")?;
+    Ok(())
 }
 
 #[tactic(auto, using(crate::proofs::Joined::joins))]

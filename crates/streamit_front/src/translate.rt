@@ -1,12 +1,12 @@
 // From a program to its plan.
-ghost use Rattle.std.specs.Prelude.{◌≡◌, ◌≤◌, IsTrue, IfOk, [], ◌∷◌, length};
+ghost use Rattle.std.specs.Prelude.{◌≡◌, ◌≤◌, IsTrue, IfOk, [], ◌∷◌, ◌++◌, OnOk, codes, length};
 ghost use Rattle.river_base.specs.Name.{is_name};
 ghost use Rattle.work_code.specs.Steps.{body_of as tree_of};
 ghost use Rattle.kern_rows.specs.Forms.{filter_form};
 ghost use Rattle.river_plan.specs.Forms.{plan_form, op_form};
 ghost use Rattle.river_plan.specs.Valid.{IsPlan};
 ghost use Rattle.streamit_front.specs.Program.{program_of};
-ghost use Rattle.streamit_front.specs.Translation.{label_of, values_in, body_of, filter_of, op_of, plan_of};
+ghost use Rattle.streamit_front.specs.Translation.{label_of, values_in as queue_of, body_of, filter_of, op_of, plan_of};
 
 use crate::StreamitProgram;
 use kern_rows::Filter;
@@ -37,11 +37,24 @@ fn lists(alloc: Global, program: &StreamitProgram) -> Result<RawPlan, NoMemory>
     let label = label(alloc, program)?;
     let op = op(alloc, program, label)?;
     let mut raw = RawPlan::new(alloc);
+    fill(label, op, &mut raw)?;
+    Ok(raw)
+}
+
+// Fills empty lists.
+fn fill(label: Name, op: Op, raw: &mut RawPlan) -> Result<(), NoMemory>
+    ensures outputs { OnOk result (raw.new.outputs ≡ raw.old.outputs ++ (queue_of (codes "out") ∷ [])) }
+    ensures inputs { OnOk result (raw.new.inputs ≡ raw.old.inputs ++ (queue_of (codes "in") ∷ [])) }
+    ensures vars { OnOk result (raw.new.vars ≡ raw.old.vars ++ (label ∷ [])) }
+    ensures ops { OnOk result (raw.new.ops ≡ raw.old.ops ++ (op ∷ [])) }
+    ensures queues { OnOk result (raw.new.queues ≡ raw.old.queues) }
+    ensures tables { OnOk result (raw.new.tables ≡ raw.old.tables) }
+{
+    raw.ops.push(op)?;
     raw.outputs.push(values_in(name(b"out")))?;
     raw.inputs.push(values_in(name(b"in")))?;
     raw.vars.push(label)?;
-    raw.ops.push(op)?;
-    Ok(raw)
+    Ok(())
 }
 
 // The name of the operator and of its variable.
@@ -67,7 +80,7 @@ fn name(bytes: &[u8]) -> Name
 
 // A queue of single values.
 fn values_in(name: Name) -> Decl
-    ensures { result ≡ values_in name }
+    ensures { result ≡ queue_of name }
 {
     Decl {
         name,

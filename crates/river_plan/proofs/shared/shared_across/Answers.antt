@@ -9,16 +9,15 @@ use Rattle.river_plan.specs.First.{IsFirst}
 use Rattle.river_plan.specs.Faults.{Shared, IsApart}
 use Rattle.river_plan.proofs.Searches.{as-map}
 use Rattle.river_plan.proofs.ShareLemmas.{shared-first}
-use Rattle.river_plan.proofs.shared.shared.Goals as goal
+use Rattle.river_plan.proofs.shared.shared_across.Goals as goal
 
 pub returns : goal.returns
 returns c =
     let p = plan_form c.args.raw.now in
-    let private = c.in_ok-private.private in
-    let across = c.in_ok-across.across in
+    let private = c.args.private.now in
+    let across = c.args.across.now in
     let within = c.in_ok-within.within in
     let names = variable_names p in
-    let d : AreDoubled [] (all_vars p.ops) across = subst (λ (l : List Name). AreDoubled l (all_vars p.ops) across) c.new-none.ensures (subst (λ (l : List Name). AreDoubled c.new-none.result l across) c.in_ok-uses.ensures c.in_ok-across.ensures) in
     let f : IsFirst (λ before v. IsSingle private across within v) names c.first_shared.result = subst (λ (l : List Name). IsFirst (λ before v. IsSingle private across within v) l c.first_shared.result) c.in_ok-names.ensures c.first_shared.ensures in
     subst (λ (o : Option Named). Shared p o) (sym c.as_variable.ensures)
-    (as-map Variable (IsFirst (λ before v. IsApart p v) names) c.first_shared.result (shared-first p private across within names c.in_ok-private.ensures d c.in_ok-within.ensures c.first_shared.result f))
+    (as-map Variable (IsFirst (λ before v. IsApart p v) names) c.first_shared.result (shared-first p private across within names c.requires.private c.requires.across c.in_ok-within.ensures c.first_shared.result f))
