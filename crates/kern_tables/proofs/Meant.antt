@@ -1,10 +1,10 @@
 -- What stands at a key, and what is kept of a maximum.
-use Rattle.std.proofs.Common.{inl, inr, ◌≡◌, ℕ, zero, suc, ◌+ℤ◌, ◌+◌, ◌-◌, ◌<◌, ◌≤◌, ℤ, pos, Bool, true, false, cond, List, [], ◌∷◌, ◌++◌, refl, sym, ap, ◌∙◌, subst, arith, fold, map, take, drop, length, Option, Some, None}
+use Rattle.std.proofs.Common.{inl, inr, ◌≡◌, ℕ, zero, suc, ℤ, pos, Bool, true, false, cond, List, [], ◌∷◌, ◌++◌, refl, sym, ap, ◌∙◌, subst, arith, fold, map, take, drop, Some, None}
 use Rattle.std.specs.Prelude.{flat_map, min, All, AllPairs, ◌||◌, ◌<ℤ◌, ◌≤ℤ◌}
 use Rattle.std.specs.Int.{int_wrap}
 use Rattle.std.specs.declared.cmp.Ordering.{Ordering}
 use Rattle.std.specs.declared.cmp.Ordering.TheVariants.{Less, Equal, Greater}
-use Rattle.std.specs.Ordering.{int_cmp, ordering_then, is_lt, is_eq, MatchOrdering}
+use Rattle.std.specs.Ordering.{int_cmp, ordering_then, is_lt, MatchOrdering}
 use Rattle.std.specs.Cmp.{int_ranks}
 use Rattle.std.proofs.lemmas.Int.{ints}
 use Rattle.std.proofs.lemmas.List.Kept.{AllPairs-cons}
@@ -13,23 +13,22 @@ use Rattle.std.specs.List.Sorted.{IsPermutation, IsStrictlySortedBy}
 use Rattle.std.specs.Map as table
 use Rattle.std.specs.BTreeMap.{is_at}
 use Rattle.std.proofs.lemmas.Bool.{true≢false}
-use Rattle.std.proofs.lemmas.List.{take-append-drop, length-take, length-map}
-use Rattle.std.proofs.lemmas.List.Elements.{All-cons, All-nil, All-head, All-tail}
-use Rattle.std.proofs.lemmas.List.Sorted.{list_any-IsPermutation, IsPermutation-sym, length_permutation}
-use Rattle.kern_tables.specs.declared.kind.TableKind.TheVariants.{Sum, Maximum}
-use Rattle.river_base.specs.Bags.{ascending, place}
+use Rattle.std.proofs.lemmas.List.{take-append-drop, length-take}
+use Rattle.std.proofs.lemmas.List.Elements.{All-cons, All-nil}
+use Rattle.std.proofs.lemmas.List.Sorted.{list_any-IsPermutation, length_permutation}
+use Rattle.river_base.specs.Bags.{ascending}
 use Rattle.kern_tables.specs.Entries.{best_more}
 use Rattle.river_base.specs.Number.{wrap}
 use Rattle.river_base.specs.Row.{row_eq, row_cmp, row_ties, in_order}
 use Rattle.river_base.proofs.Ascending as order
 use Rattle.river_base.proofs.Rows.{in_order_bag}
 use Rattle.kern_tables.specs.declared.ranked.Ranked.{Ranked}
-use Rattle.kern_tables.specs.Laws.{total_of, IsSums, SumsAre, IsAhead, AreBest, AreMaxima, MaximaAre}
-use Rattle.kern_tables.specs.Tables.{tab, once_after, each_once, keys_of, under, has_key, value_in, ranked_in, add_value, sum_of, ranks_before, best_of, sum_row, ranked_row}
+use Rattle.kern_tables.specs.Laws.{SumsAre, IsAhead, AreBest, MaximaAre}
+use Rattle.kern_tables.specs.Tables.{once_after, each_once, keys_of, under, has_key, ranked_in, add_value, sum_of, ranks_before, best_of, sum_row, ranked_row}
 use Rattle.river_base.proofs.Counts.{same_row, row_itself}
-use Rattle.kern_tables.proofs.Keyed.{keys_rise, value_at}
-use Rattle.kern_tables.proofs.Ranking.{Rises, Empty, More, rises, stays}
-use Rattle.kern_tables.proofs.Tabs.{sums_commute, maxima_commute, wrapped_sum, ranked_weakly, apart_ranks, best_is}
+use Rattle.kern_tables.proofs.Keyed.{keys_rise}
+use Rattle.kern_tables.proofs.Ranking.{Rises, Empty, More, rises}
+use Rattle.kern_tables.proofs.Tabs.{sums_commute, maxima_commute, wrapped_sum, ranked_weakly, apart_ranks}
 
 -- A KEY OCCURS WHERE A ROW HAS IT
 

@@ -1,32 +1,27 @@
 -- Tables as tables by keys, and what follows.
-use Rattle.std.proofs.Common.{◌≡◌, ℕ, zero, suc, ◌+ℤ◌, ◌+◌, ◌-◌, ◌<◌, ◌≤◌, ℤ, pos, Bool, true, false, cond, List, [], ◌∷◌, ◌++◌, refl, sym, ap, ◌∙◌, subst, arith, fold, map, take, drop, length, Option, Some, None}
-use Rattle.std.specs.Prelude.{flat_map, min, All, slice_index_or}
+use Rattle.std.proofs.Common.{◌≡◌, ℕ, zero, suc, ◌+ℤ◌, ℤ, pos, Bool, true, false, cond, List, [], ◌∷◌, ◌++◌, refl, sym, ap, ◌∙◌, arith, fold, map, take}
+use Rattle.std.specs.Prelude.{flat_map}
 use Rattle.std.specs.Int.{w64, int_wrap}
 use Rattle.std.specs.declared.cmp.Ordering.{Ordering}
 use Rattle.std.specs.declared.cmp.Ordering.TheVariants.{Less, Equal, Greater}
-use Rattle.std.specs.Ordering.{int_cmp, ordering_then, is_lt, is_eq, ordering_reverse}
-use Rattle.std.specs.Cmp.{IsTotalOrder, IsStrictWeakOrder}
-use Rattle.std.specs.List.{AllByRecursion, list_any}
-use Rattle.std.specs.List.Sorted.{IsPermutation, IsSortedBy, IsStrictlySortedBy}
-use Rattle.std.specs.Map as map
-use Rattle.std.specs.BTreeMap.{is_at}
+use Rattle.std.specs.Ordering.{int_cmp, ordering_then, is_lt, ordering_reverse}
+use Rattle.std.specs.Cmp.{IsStrictWeakOrder}
+use Rattle.std.specs.List.Sorted.{IsPermutation}
 use Rattle.std.proofs.lemmas.Bool.{true≢false}
-use Rattle.std.proofs.lemmas.Cmp.{then_total, on_total, back_total, int_cmp_total}
 use Rattle.std.proofs.lemmas.Int.{int_wrap-add_left, ints}
-use Rattle.std.proofs.lemmas.List.{take-append-drop}
-use Rattle.std.proofs.lemmas.List.Sorted.{ranks_by, IsPermutation-map, list_any-IsPermutation, IsPermutation-sym}
+use Rattle.std.proofs.lemmas.List.Sorted.{ranks_by, IsPermutation-map}
 use Rattle.std.proofs.lemmas.Map.Lookups.{CmpEqualImpliesEq, exact_signed}
 use Rattle.kern_tables.specs.declared.kind.TableKind.{TableKind}
 use Rattle.kern_tables.specs.declared.kind.TableKind.TheVariants.{Sum, Collection, Maximum}
-use Rattle.river_base.specs.Bags.{place, ascending}
+use Rattle.river_base.specs.Bags.{place}
 use Rattle.river_base.specs.Keyed.{keyed, put}
 use Rattle.std.proofs.lemmas.List.{map-append}
 use Rattle.std.proofs.lemmas.List.Sums.{fold-append}
 use Rattle.kern_tables.specs.Kept.{kept_of, added, rows_of, kind_of}
 use Rattle.kern_tables.specs.declared.kept.Kept.{Kept}
 use Rattle.kern_tables.specs.declared.kept.Kept.TheVariants.{Sums, Rows, Maxima}
-use Rattle.river_base.specs.Number.{add, wrap}
-use Rattle.river_base.specs.Row.{row_eq, row_cmp, row_lt, row_total, row_ties, in_order}
+use Rattle.river_base.specs.Number.{wrap}
+use Rattle.river_base.specs.Row.{row_eq, row_cmp, row_lt, row_total, in_order}
 use Rattle.river_base.proofs.Ascending as order
 use Rattle.river_base.proofs.Keyed as tables
 use Rattle.river_base.proofs.Rows.{exact_rows, in_order-IsPermutation, in_order_bag, in_order_ascends}
@@ -37,7 +32,7 @@ use Rattle.kern_tables.specs.Entries.{split, splits, best_more, sum_rows, maximu
 use Rattle.kern_tables.specs.Ranks.{rank_total}
 use Rattle.kern_tables.specs.Tables.{tab, keys_of, under, value_in, ranked_in, add_value, sum_of, rank_cmp, ranks_before, best_of, sum_row, ranked_row}
 use Rattle.river_base.proofs.Counts.{permutation_from_bag, bag_from_permutation}
-use Rattle.kern_tables.proofs.Keyed.{with_value, value_at, grouped, grouped_keyed}
+use Rattle.kern_tables.proofs.Keyed.{with_value, grouped_keyed}
 
 -- RANKS
 

@@ -1,5 +1,5 @@
 -- Keys with what stands at them.
-use Rattle.std.specs.Prelude.{◌≡◌, ℕ, ℤ, ◌≤◌, List, ◌++◌, map, flat_map, take, drop, length}
+use Rattle.std.specs.Prelude.{ℕ, ℤ, ◌≤◌, List, map, flat_map, take, drop, length}
 use Rattle.std.specs.List.{AllByRecursion}
 use Rattle.river_base.specs.Bags.{place}
 use Rattle.kern_tables.specs.declared.ranked.Ranked.{Ranked}

@@ -1,6 +1,5 @@
 -- What a table keeps: what stands at each key.
-use Rattle.std.specs.Prelude.{◌≡◌, ℕ, ℤ, pos, ◌+◌, ◌≤◌, List, [], ◌∷◌, ◌++◌, map, flat_map, take, drop, length}
-use Rattle.std.specs.List.{AllByRecursion}
+use Rattle.std.specs.Prelude.{ℕ, ℤ, pos, List, []}
 use Rattle.kern_tables.specs.declared.kind.TableKind.{TableKind}
 use Rattle.kern_tables.specs.declared.kind.TableKind.TheVariants.{Sum, Collection, Maximum}
 use Rattle.river_base.specs.Bags.{place}
@@ -8,9 +7,8 @@ use Rattle.river_base.specs.Keyed.{put, keyed}
 use Rattle.river_base.specs.Row.{row_cmp, row_lt, in_order}
 use Rattle.kern_tables.specs.declared.kept.Kept.{Kept}
 use Rattle.kern_tables.specs.declared.kept.Kept.TheVariants.{Sums, Rows, Maxima}
-use Rattle.kern_tables.specs.declared.ranked.Ranked.{Ranked}
 use Rattle.kern_tables.specs.Entries.{split, splits, best_more, sum_rows, maximum_rows}
-use Rattle.kern_tables.specs.Tables.{table_width, add_value, ranked_in, ranks_before, sum_row, ranked_row}
+use Rattle.kern_tables.specs.Tables.{table_width, add_value}
 
 -- what a table keeps after these rows were added
 abbrev pub kept_of : TableKind → List (List ℤ) → Kept

@@ -1,6 +1,6 @@
 -- The order by rank.
 use Rattle.std.specs.Prelude.{◌≡◌, Bool}
-use Rattle.std.specs.Ordering.{int_cmp, eq_by_cmp}
+use Rattle.std.specs.Ordering.{eq_by_cmp}
 use Rattle.std.specs.Cmp.{IsEquivalence, IsTotalOrder}
 use Rattle.std.proofs.Common.{refl}
 use Rattle.std.proofs.lemmas.Cmp.{then_total, on_total, back_total, int_cmp_total, eq_by_cmp_equiv}

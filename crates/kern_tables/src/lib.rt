@@ -11,11 +11,11 @@ mod ranked;
 mod sums;
 mod table;
 
-pub use best::Best;
+use best::Best;
 pub use kept::Kept;
-pub use key::Key;
+use key::Key;
 pub use kind::TableKind;
-pub use maxima::Maxima;
+use maxima::Maxima;
 pub use ranked::Ranked;
-pub use sums::Sums;
+use sums::Sums;
 pub use table::Table;

@@ -2,8 +2,7 @@
 ghost use Rattle.std.specs.Prelude.{◌≡◌, [], length, IfOk, OnOk, OnErr};
 ghost use Rattle.kern_tables.specs.Kept.{kept_of, added, rows_of, kind_of, width_of};
 
-use crate::{Kept, Maxima, Sums};
-use crate::TableKind;
+use crate::{Kept, Maxima, Sums, TableKind};
 use river_base::{Duplicate, NoMemory, Row, Rows};
 use std::alloc::Global;
 use std::marker::Model;

@@ -1,4 +1,4 @@
-use Rattle.std.proofs.Common.{rules, ◌≡◌, ◌<◌, ◌∙◌, sym, ap, take, arith, length}
+use Rattle.std.proofs.Common.{◌≡◌, ◌<◌, ◌∙◌, sym, ap, take, arith, length}
 use Rattle.std.specs.BinaryHeap.{heap_items, heap_len}
 use Rattle.river_base.specs.Bags.{place}
 use Rattle.kern_tables.specs.Tables.{ranks_before}

@@ -1,4 +1,4 @@
-use Rattle.std.proofs.Common.{◌≡◌, ℕ, take}
+use Rattle.std.proofs.Common.{◌≡◌, take}
 use Rattle.std.specs.BinaryHeap.{heap_items, heap_len, IsHeap}
 use Rattle.river_base.specs.Bags.{place, ascending}
 use Rattle.kern_tables.specs.Tables.{rank_cmp, ranks_before}
