@@ -1,8 +1,9 @@
 // The files and the standard streams of the system, which no contract can speak of.
-use crate::fixture::TWICE;
 use river_outside::{FetchFault, FileShelf, ReadFault, Shelf, StdSink, fetch, put_all};
 use std::test::Fail;
 use std::{env, fs, process};
+
+const TWICE: &[u8] = b"int->int filter Twice { work push 1 pop 1 { push(2 * pop()); } }";
 
 const TWICE_8_TO_16: &[u8] = b" filter ";
 
@@ -13,7 +14,7 @@ fn files_of_the_system(rt: HostRuntime) -> Result<(), Fail> {
     let alloc = rt.alloc();
     let folder = env::temp_dir(&rt)?;
     let folder = folder.to_str().ok_or("no text")?;
-    let name = format!(in alloc; "{folder}/river_rows_{}", process::id(rt.process()))?;
+    let name = format!(in alloc; "{folder}/system_rows_{}", process::id(rt.process()))?;
     fs::write(&rt, name.as_str(), TWICE)?;
     let absent = format!(in alloc; "{}_absent", name.as_str())?;
 
