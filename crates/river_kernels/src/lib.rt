@@ -6,6 +6,7 @@ mod formed;
 mod inference;
 mod kernel;
 mod limit;
+mod shape;
 #[cfg(test)]
 mod tests;
 mod types;
@@ -13,4 +14,5 @@ mod types;
 pub use fitting::fits;
 pub use kernel::Kernel;
 pub use limit::{Limit, first_above, nesting};
+pub use shape::Shape;
 pub use types::{Types, VarKind};
