@@ -7,8 +7,6 @@ mod inference;
 mod kernel;
 mod limit;
 mod shape;
-#[cfg(test)]
-mod tests;
 mod types;
 
 pub use fitting::fits;
