@@ -1,10 +1,15 @@
+pub mod Collected
 pub mod Complete
+pub mod Cycles
+pub mod Dealt
 pub mod Drained
 pub mod Feeds
 pub mod Free
 pub mod FusedRun
+pub mod JoinKeeps
 pub mod Joins
 pub mod Lists
+pub mod Longest
 pub mod OnRows
 pub mod Ports
 pub mod RunMeaning
@@ -13,5 +18,6 @@ pub mod Solutions
 pub mod Spliced
 pub mod Swaps
 pub mod Traces
+pub mod Turned
 pub mod TypedPlan
 pub mod Typing
