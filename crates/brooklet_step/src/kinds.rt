@@ -2,7 +2,7 @@
 ghost use Rattle.std.specs.Prelude.{◌≡◌, ◌↔◌, IsTrue, All, length};
 ghost use Rattle.river_base.specs.Held.{HasType, IsHeld, HasFlatType, HaveWidth, IsAscending};
 ghost use Rattle.river_plan.specs.Forms.{plan_form};
-ghost use Rattle.brooklet_model.specs.Typed.{IsRows, IsBuilt};
+ghost use Rattle.brooklet_step.specs.Built.{IsRows, IsBuilt};
 
 use river_base::{Flat, FlatType, Item, QueueType, Rows};
 use river_plan::{Decls, Plan};
