@@ -26,7 +26,7 @@ pub struct Emit {
 
 impl Emit {
     /// Empty lists, for so many ports and tables.
-    pub fn blank(alloc: Global, ports: usize, tables: usize) -> Result<Emit, NoMemory>
+    pub(crate) fn blank(alloc: Global, ports: usize, tables: usize) -> Result<Emit, NoMemory>
         ensures outs { IfOk result (λ emit. emit.outs ≡ replicate ports []) }
         ensures adds { IfOk result (λ emit. emit.adds ≡ replicate tables []) }
     {
@@ -37,7 +37,7 @@ impl Emit {
     }
 
     /// One more item at a port.
-    pub fn give(&mut self, port: usize, item: Item) -> Result<(), NoMemory>
+    pub(crate) fn give(&mut self, port: usize, item: Item) -> Result<(), NoMemory>
         requires { port < length self.old.outs }
         ensures { OnOk result (Took self.old self.new (gives port (item ∷ []) [])) }
     {
@@ -46,7 +46,7 @@ impl Emit {
     }
 
     /// These items at a port.
-    pub fn give_all(&mut self, port: usize, items: Items) -> Result<(), NoMemory>
+    pub(crate) fn give_all(&mut self, port: usize, items: Items) -> Result<(), NoMemory>
         requires { port < length self.old.outs }
         ensures { OnOk result (Took self.old self.new (gives port items [])) }
     {
@@ -55,7 +55,7 @@ impl Emit {
     }
 
     /// An item for every port: copies, and the item itself at the last.
-    pub fn give_everywhere(&mut self, alloc: Global, item: Item) -> Result<(), NoMemory>
+    pub(crate) fn give_everywhere(&mut self, alloc: Global, item: Item) -> Result<(), NoMemory>
         ensures outs { OnOk result (self.new.outs ≡ each_grew self.old.outs (λ port. item ∷ [])) }
         ensures adds { OnOk result (self.new.adds ≡ self.old.adds) }
     {
@@ -70,7 +70,7 @@ impl Emit {
     }
 
     /// The rows that a body pushed, each at its port.
-    pub fn give_pushes(&mut self, pushes: &Emitted) -> Result<(), NoMemory>
+    pub(crate) fn give_pushes(&mut self, pushes: &Emitted) -> Result<(), NoMemory>
         requires { All (λ push. push.0 < length self.old.outs) pushes.now }
         ensures outs { OnOk result (self.new.outs ≡ each_grew self.old.outs (λ port. pushed_to port pushes.now)) }
         ensures adds { OnOk result (self.new.adds ≡ self.old.adds) }
@@ -83,7 +83,7 @@ impl Emit {
     }
 
     /// What was given at a port, in a line; nothing is left there.
-    pub fn take_port(&mut self, alloc: Global, port: usize) -> Line
+    pub(crate) fn take_port(&mut self, alloc: Global, port: usize) -> Line
         requires { port < length self.old.outs }
         ensures taken { result ≡ list_at self.old.outs port }
         ensures outs { self.new.outs ≡ slice_set self.old.outs port [] }
@@ -94,7 +94,7 @@ impl Emit {
 
     /// The items of the ports of a first kernel, with those of a second one in place of port `at`, and the rows of both. They are
     /// moved, and nothing is said of what is left of the two.
-    pub fn splice(
+    pub(crate) fn splice(
         &mut self,
         alloc: Global,
         first: &mut Emit,
