@@ -1,3 +1,4 @@
+pub mod BagTypes
 pub mod Collected
 pub mod Complete
 pub mod Cycles
@@ -10,7 +11,6 @@ pub mod JoinKeeps
 pub mod Joins
 pub mod Lists
 pub mod Longest
-pub mod OnRows
 pub mod Ports
 pub mod RunMeaning
 pub mod Shapes
@@ -21,3 +21,4 @@ pub mod Traces
 pub mod Turned
 pub mod TypedPlan
 pub mod Typing
+pub mod WideAdds
