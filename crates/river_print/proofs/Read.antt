@@ -26,9 +26,9 @@ use Rattle.river_plan.specs.Forms.{OpForm, PlanForm, empty_form}
 use Rattle.river_plan.specs.Valid.{IsPlan}
 use Rattle.river_text.specs.Kernels as g
 use Rattle.river_text.specs.Plans as t
-use Rattle.river_round.specs.Writable as w
-use Rattle.river_round.specs.Printable as r
-use Rattle.river_round.proofs.Valid.{at_most}
+use Rattle.river_print.specs.Writable as w
+use Rattle.river_print.specs.Printable as r
+use Rattle.river_print.proofs.Valid.{at_most}
 
 -- FORMS
 

@@ -13,8 +13,8 @@ use Rattle.text_forms.specs.Parse.{is_value}
 use Rattle.text_forms.proofs.PrintedExpr.{is_count-below}
 use Rattle.river_print.specs.Printed.{start_text}
 use Rattle.river_text.specs.Kernels as g
-use Rattle.river_round.specs.Writable as w
-use Rattle.river_round.proofs.Pieces.{Piece, AllPieces, more_toks, items_toks, symbol-first, inside-name, inside-number, plain-Minus}
+use Rattle.river_print.specs.Writable as w
+use Rattle.river_print.proofs.Pieces.{Piece, AllPieces, more_toks, items_toks, symbol-first, inside-name, inside-number, plain-Minus}
 
 -- a value whose printed text has tokens that stand for it
 pub record Item {A : Type 0} (F : A → List Tok → Type 0) (text : A → List ℕ) (tok : A → List Tok) (v : A) : Type 0 where

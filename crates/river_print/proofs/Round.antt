@@ -11,11 +11,11 @@ use Rattle.river_plan.specs.declared.plan.Decl.{Decl}
 use Rattle.river_plan.specs.declared.plan.TableDecl.{TableDecl}
 use Rattle.text_forms.specs.Texts.{AllFormed}
 use Rattle.river_print.specs.Printed.{decl_line, table_line, var_line, op_line, lines, plan_text}
-use Rattle.river_text.specs.Plans.{Entry, output, input, inner, table, private, operator, stage_of, is_late, IsUnit, IsUnitAt, next_stage, add, add_all, AreUnits}
+use Rattle.river_text.specs.Plans.{Entry, output, input, inner, table, private, operator, stage_of, is_late, IsUnit, IsUnitAt, next_stage, add, add_all, AreUnits, IsText}
 use Rattle.river_text.proofs.Texts.{one_plan}
-use Rattle.river_round.specs.Laws.{PrintedIsRead, PrintedIsAlone}
-use Rattle.river_round.specs.Writable as w
-use Rattle.river_round.proofs.Units.{UnitPiece, decl_toks, decl-unit, decl-formed, table_toks, table-unit, table-formed, var_toks, var-unit, var-formed, op_toks, op-unit, op-formed}
+use Rattle.river_print.specs.Laws.{PrintedIsRead}
+use Rattle.river_print.specs.Writable as w
+use Rattle.river_print.proofs.Units.{UnitPiece, decl_toks, decl-unit, decl-formed, table_toks, table-unit, table-formed, var_toks, var-unit, var-formed, op_toks, op-unit, op-formed}
 
 -- the tokens of some units
 abbrev joined : List (List Tok) → List Tok
@@ -197,8 +197,8 @@ cut-nothing : cut 0 [] ≡ []
 unfolding cut
 cut-nothing = refl
 
-pub printed_is_read : PrintedIsRead
-printed_is_read p h =
+stands : (p : PlanForm) → w.IsWritable p → IsText (plan_text p) p
+stands p h =
     let chunk = plan-chunk p h in
     let (ms, lexed, same) = spells-whole (plan_text p) (joined (units p)) chunk.spells tt in
     let whole : units_of (joined (units p)) ≡ units p =
@@ -211,5 +211,5 @@ printed_is_read p h =
       is = sym (made p);
     }
 
-pub printed_is_alone : PrintedIsAlone
-printed_is_alone p q h t = one_plan (plan_text p) q p t (printed_is_read p h)
+pub printed_is_read : PrintedIsRead
+printed_is_read p h = (stands p h, λ q t. one_plan (plan_text p) q p t (stands p h))

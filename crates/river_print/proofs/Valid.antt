@@ -25,9 +25,9 @@ use Rattle.river_plan.specs.Forms.{OpForm, PlanForm, all_decls}
 use Rattle.river_plan.specs.Uses.{Each}
 use Rattle.river_plan.specs.Kinds.{IsFit, kind_of, var_kind}
 use Rattle.river_plan.specs.Limits.{nestings}
-use Rattle.river_round.specs.Writable as w
-use Rattle.river_round.specs.Writable.{depths}
-use Rattle.river_round.specs.Printable as r
+use Rattle.river_print.specs.Writable as w
+use Rattle.river_print.specs.Writable.{depths}
+use Rattle.river_print.specs.Printable as r
 
 pub at_most : (m n : ℕ) → nat_le m n ≡ true → m ≤ n
 at_most m n h = grind (arith, nat_tests)

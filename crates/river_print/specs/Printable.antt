@@ -10,7 +10,7 @@ use Rattle.river_kernels.specs.Kern.{Kern}
 use Rattle.river_kernels.specs.Kern as kern
 use Rattle.river_plan.specs.Forms.{OpForm, PlanForm}
 use Rattle.river_plan.specs.Valid.{IsPlan}
-use Rattle.river_round.specs.Writable.{IsCount, IsStart, IsNamed, IsDecl, IsTable, Every, depths}
+use Rattle.river_print.specs.Writable.{IsCount, IsStart, IsNamed, IsDecl, IsTable, Every, depths}
 
 -- RANGES: counts have 32 bits, values have 64 bits and a sign
 

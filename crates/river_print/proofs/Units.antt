@@ -29,11 +29,11 @@ use Rattle.text_forms.specs.Forms as form
 use Rattle.river_print.specs.Printed.{list_text, flat_text, type_text, table_text, var_text, decl_line, table_line, var_line, ports_text, op_line, kernel_text}
 use Rattle.river_text.specs.Kernels as g
 use Rattle.river_text.specs.Plans as p
-use Rattle.river_round.specs.Writable as w
-use Rattle.river_round.proofs.Items.{Item, pieces, items-listing, count_tok, count-formed, count-item}
-use Rattle.river_round.proofs.Pieces.{all_first, all_first-append, Inside, inside-name, inside-var, Piece, AllPieces, braced, more_toks, items_toks}
-use Rattle.river_round.proofs.Kernels.{listed, list-last, worded, kernel_toks, kernel-piece, braced-formed}
-use Rattle.river_round.proofs.Terms.{round-formed, behind_round}
+use Rattle.river_print.specs.Writable as w
+use Rattle.river_print.proofs.Listings.{Item, pieces, items-listing, count_tok, count-formed, count-item}
+use Rattle.river_print.proofs.Pieces.{all_first, all_first-append, Inside, inside-name, inside-var, Piece, AllPieces, braced, more_toks, items_toks}
+use Rattle.river_print.proofs.Kernels.{listed, list-last, worded, kernel_toks, kernel-piece, braced-formed}
+use Rattle.river_print.proofs.Terms.{round-formed, behind_round}
 
 -- ---- names
 

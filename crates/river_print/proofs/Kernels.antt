@@ -21,10 +21,10 @@ use Rattle.text_forms.proofs.PrintedExpr.{printed}
 use Rattle.river_print.specs.Printed.{list_text, values_text, starts_text, start_text, run_text, window_text, streamer_text, kernel_text}
 use Rattle.river_text.specs.Kernels as g
 use Rattle.river_text.specs.Kernels.{IsBraced}
-use Rattle.river_round.specs.Writable as w
-use Rattle.river_round.proofs.Items.{pieces, items-commas, items-listing, count_tok, count-formed, count-item, value_tok, value-item, width-item, start_tok, start-item}
-use Rattle.river_round.proofs.Pieces.{Piece, AllPieces, EndsWord, piece-nothing, ends-nothing, piece-then, word-first, blank-first, braced, ends-blank, ends-open, items_toks, list-first}
-use Rattle.river_round.proofs.Terms.{term-item, body_toks, body-piece, body-formed, round-formed, behind_round}
+use Rattle.river_print.specs.Writable as w
+use Rattle.river_print.proofs.Listings.{pieces, items-commas, items-listing, count_tok, count-formed, count-item, value_tok, value-item, width-item, start_tok, start-item}
+use Rattle.river_print.proofs.Pieces.{Piece, AllPieces, EndsWord, piece-nothing, ends-nothing, piece-then, word-first, blank-first, braced, ends-blank, ends-open, items_toks, list-first}
+use Rattle.river_print.proofs.Terms.{term-item, body_toks, body-piece, body-formed, round-formed, behind_round}
 
 -- items in round brackets at the end
 pub list-last : (bs : List (List ℕ)) (ts : List (List Tok)) → AllPieces bs ts → Piece (list_text bs) (symbol s.Open ∷ (items_toks ts ++ symbol s.Close ∷ []))

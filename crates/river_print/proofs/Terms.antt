@@ -18,9 +18,9 @@ use Rattle.text_forms.specs.Parse.{is_value}
 use Rattle.text_forms.proofs.PrintedExpr.{IsWritten, printed, spoken_of, printed-is, spells-term}
 use Rattle.river_text.specs.Kernels as g
 use Rattle.river_text.specs.Kernels.{IsStmt, term_of}
-use Rattle.river_round.specs.Writable as w
-use Rattle.river_round.proofs.Items.{Item, pieces, items-commas, count-formed}
-use Rattle.river_round.proofs.Pieces.{Inside, inside-then, inside-name, inside-number, inside-symbol, IsPlain, plain-Open, plain-Close, plain-OpenBracket, plain-CloseBracket, plain-Minus, plain-Assign, Piece, EndsWord, piece-nothing, ends-nothing, piece-then, symbol-first, word-first, number-first, blank-first, open-first, close-first, semicolon-first, square-first, square_close-first, braced, braced-nothing, ends-blank, ends-close, ends-square, ends-square_close, ends-semicolon, items_toks, pieces-items}
+use Rattle.river_print.specs.Writable as w
+use Rattle.river_print.proofs.Listings.{Item, pieces, items-commas, count-formed}
+use Rattle.river_print.proofs.Pieces.{Inside, inside-then, inside-name, inside-number, inside-symbol, IsPlain, plain-Open, plain-Close, plain-OpenBracket, plain-CloseBracket, plain-Minus, plain-Assign, Piece, EndsWord, piece-nothing, ends-nothing, piece-then, symbol-first, word-first, number-first, blank-first, open-first, close-first, semicolon-first, square-first, square_close-first, braced, braced-nothing, ends-blank, ends-close, ends-square, ends-square_close, ends-semicolon, items_toks, pieces-items}
 
 written : (t : Term) → w.IsSpoken t → IsWritten t
 written (Const z) h = h
