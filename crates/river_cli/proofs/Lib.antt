@@ -1,10 +1,9 @@
 pub mod Built
+pub mod Compiled
 pub mod Cut
 pub mod Fetches
 pub mod Inputs
-pub mod PlanTexts
-pub mod Printed
 pub mod ReadOn
-pub mod Refusals
+pub mod Road
 pub mod Told
 pub mod Typed
