@@ -5,16 +5,20 @@ mod body;
 mod decl;
 mod entry;
 mod fault;
+mod front;
 mod kernel;
 pub mod laws;
 mod number;
 mod op;
 mod port;
 mod read;
+mod river_fault;
 mod term;
 
 pub use fault::TextFault;
+pub use front::compile_river;
 pub use read::read_river;
+pub use river_fault::RiverFault;
 
 #[cfg(test)]
 mod tests;

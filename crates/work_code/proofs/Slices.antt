@@ -235,7 +235,7 @@ tokens_are_slices text ms e = slices text 0 0 text ms refl e
 abbrev IsThere : List ℕ → LexFault → Type 0
 IsThere text (BadByte at) = (at < length text) × (piece_at (drop at text) ≡ bad)
 IsThere text (BigNumber at) = (at < length text) × (piece_at (drop at text) ≡ big)
-IsThere text NoMemory = Unit {0}
+IsThere text NoMemory = ⊥
 
 from_fault : (text : List ℕ) (at c : ℕ) (cs : List ℕ) (p : Piece) (fault : LexFault) → c ∷ cs ≡ drop at text → piece_at (c ∷ cs) ≡ p
     → ((skip : ℕ) → marks skip (at + 1) cs ≡ Err fault → IsThere text fault)
@@ -262,3 +262,7 @@ faults text zero at (c ∷ cs) fault here e =
 
 pub faults_are_there : FaultsAreThere
 faults_are_there text at = (λ e. faults text 0 0 text (BadByte at) refl e, λ e. faults text 0 0 text (BigNumber at) refl e)
+
+-- the tokens of a text are no matter of memory
+pub no_want : (text : List ℕ) → tokens_in text ≡ Err NoMemory → ⊥
+no_want text e = faults text 0 0 text NoMemory refl e
