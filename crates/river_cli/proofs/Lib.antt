@@ -3,7 +3,7 @@ pub mod Compiled
 pub mod Cut
 pub mod Fetches
 pub mod Inputs
+pub mod Points
 pub mod ReadOn
-pub mod Road
 pub mod Told
 pub mod Typed

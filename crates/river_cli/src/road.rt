@@ -60,12 +60,12 @@ fn compiled<S: Shelf>(
     ensures later { S.faults shelf.old ≤ S.faults shelf.new }
     ensures passes { Passes (of_text job.now text.now) (S.held shelf.old) (Rose (S.faults shelf.old) (S.faults shelf.new)) result }
 {
-    let compiled = rewritten(job.options, compile(alloc, job.lang, text)?);
+    let compiled = rewritten(&job.options, compile(alloc, job.lang, text)?);
     command(alloc, job, &compiled.plan, shelf)
 }
 
 // The program with its plan rewritten; no option asks for that, so far.
-fn rewritten(_options: Options, compiled: Compiled) -> Compiled
+fn rewritten(_options: &Options, compiled: Compiled) -> Compiled
     ensures { result ≡ compiled }
 {
     compiled

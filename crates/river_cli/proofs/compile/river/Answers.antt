@@ -1,5 +1,5 @@
 use Rattle.river_text.specs.Meaning.{plan_in}
-use Rattle.river_cli.proofs.Compiled.{river-compiled, river-refused}
+use Rattle.river_cli.proofs.Compiled.{river-compiled}
 use Rattle.river_cli.proofs.compile.river.Goals as goal
 
 pub returns-in-Ok : goal.returns-in-Ok

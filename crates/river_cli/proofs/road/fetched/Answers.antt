@@ -3,7 +3,7 @@ use Rattle.std.proofs.lemmas.Result.{err_from_is_err_and}
 use Rattle.river_outside.specs.Causes.{Rose}
 use Rattle.river_order.specs.Order.{Ends, Done}
 use Rattle.river_cli.specs.Points.{of_job, of_text}
-use Rattle.river_cli.proofs.Road.{job-decides}
+use Rattle.river_cli.proofs.Points.{job-decides}
 use Rattle.river_cli.proofs.road.fetched.Goals as goal
 
 pub returns-in_err-text-clause-decided : goal.returns-in_err-text-clause-decided

@@ -1,7 +1,9 @@
 -- The points of a job, and the calls that do them.
-use Rattle.std.proofs.Common.{◌≡◌, ℕ, ℤ, List, Bool, refl, sym, ap, ◌∙◌, subst}
-use Rattle.std.specs.Prelude.{Option, Some, Result, Ok, Err, pos, map}
+use Rattle.std.proofs.Common.{◌≡◌, ℕ, ℤ, List, ◌++◌, Bool, false, refl, sym, ap, ◌∙◌, subst}
+use Rattle.std.specs.Prelude.{Option, Some, Result, Ok, Err, IfOk, pos, map}
 use Rattle.csv_streams.specs.Outcome.{outputs_text, firings_text, asked, printed_outcome}
+use Rattle.river_base.specs.declared.item.Item as item
+use Rattle.river_base.specs.declared.memory.NoMemory.{NoMemory}
 use Rattle.river_outside.specs.Held.{Held}
 use Rattle.river_order.specs.Order.{Order, Ends, Fetch, Done, Comes}
 use Rattle.river_order.specs.Decides.{Decides, Stops}
@@ -19,6 +21,7 @@ use Rattle.river_cli.specs.Points.{runs, of_run, of_command, of_text, of_job}
 use Rattle.river_cli.specs.Source.{Source, source_of, IsPlanOf, IsCompiled, printed}
 use Rattle.river_cli.specs.Text.{large_program}
 use Rattle.river_cli.specs.declared.compile.Compiled.{Compiled}
+use Rattle.river_cli.specs.declared.job.Command.TheVariants.{Run, Mean, Show}
 use Rattle.river_cli.specs.declared.job.Job.{Job}
 
 -- the program was fetched
@@ -41,11 +44,25 @@ pub text-stops : (job : Job) (text : List ℕ) (held : Option Held) (rose : Type
 unfolding of_text
 text-stops job text held rose s told next = past-refused (source_of job.lang text) s held rose told (λ source. of_command job source next)
 
--- the plan is printed
-pub shown-passes : (source : Source) (plan : PlanForm) (held : Option Held) (text : List ℕ) → IsPlanOf source plan → text ≡ plan_text plan → (next : List ℕ → Order) → Comes (next (plan_text source.plan)) held (next text)
-shown-passes source plan held text is says next =
-    let same : text ≡ plan_text source.plan = says ∙ ap plan_text is.plan in
-    subst (λ t. Comes (next (plan_text source.plan)) held (next t)) (sym same) (Comes-same (next (plan_text source.plan)) held)
+-- ---- THE COMMANDS
+
+module _ (job : Job) (source : Source) (held : Option Held) (rose : Type 0) where
+  pub run-passes : (result : Result (List ℕ) Stop) → job.command ≡ Run → Passes (of_run job job.options.counts source) held rose result → Passes (of_command job source) held rose result
+  unfolding of_command of_run
+  run-passes (Ok text) is passed = λ next. rw is (passed next)
+  run-passes (Err s) is passed = λ next. rw is (passed next)
+
+  pub mean-passes : (result : Result (List ℕ) Stop) → job.command ≡ Mean → Passes (of_run job false source) held rose result → Passes (of_command job source) held rose result
+  unfolding of_command of_run
+  mean-passes (Ok text) is passed = λ next. rw is (passed next)
+  mean-passes (Err s) is passed = λ next. rw is (passed next)
+
+  -- the plan is printed
+  pub show-passes : (plan : PlanForm) (text : List ℕ) → job.command ≡ Show → IsPlanOf source plan → text ≡ plan_text plan → Passes (of_command job source) held rose (Ok text)
+  unfolding of_command
+  show-passes plan text is of says = λ next. rw is (
+    let same : text ≡ plan_text source.plan = says ∙ ap plan_text of.plan in
+    subst (λ t. Comes (next (plan_text source.plan)) held (next t)) (sym same) (Comes-same (next (plan_text source.plan)) held))
 
 module _ (job : Job) (counted : Bool) (source : Source) (plan : PlanForm) (held : Option Held) (is : IsPlanOf source plan) where
   abbrev from_inputs : (List ℕ → Order) → Order
@@ -85,3 +102,10 @@ output-printed source plan counted all is typed =
   where
     fired : PlanForm → List ℕ
     fired q = firings_text (labels q.ops) (asked counted (map pos (firings q (all_items all))))
+
+pub output-says : (plan : PlanForm) (counted : Bool) (all : List (List (List ℤ))) (outs : List (List item.Item)) (counts : List ℤ) (result : Result (List ℕ) NoMemory)
+    → IfOk result (λ text. text ≡ printed_outcome plan outs (asked counted counts)) → outs ≡ (meaning plan (all_items all)).outs → counts ≡ map pos (firings plan (all_items all)) → AreInputs plan.inputs (all_items all)
+    → IfOk result (λ text. (source : Source) → IsPlanOf source plan → text ≡ printed source counted all)
+output-says plan counted all outs counts (Ok text) says outs_is counts_is typed = λ source is.
+    says ∙ ap (λ o. printed_outcome plan o (asked counted counts)) outs_is ∙ ap (λ n. printed_outcome plan (meaning plan (all_items all)).outs (asked counted n)) counts_is ∙ output-printed source plan counted all is typed
+output-says plan counted all outs counts (Err e) says outs_is counts_is typed = tt
