@@ -19,6 +19,3 @@ pub use fault::TextFault;
 pub use front::compile_river;
 pub use read::read_river;
 pub use river_fault::RiverFault;
-
-#[cfg(test)]
-mod tests;

@@ -16,6 +16,3 @@ pub use language::Language;
 pub use reader::Reader;
 pub use refusal::Refusal;
 pub use tree::Tree;
-
-#[cfg(test)]
-mod tests;

@@ -1,8 +1,7 @@
-use Rattle.std.proofs.Common.{◌≡◌, ◌+◌, sym, ap, ◌∙◌, subst, Some, None, List, [], ◌∷◌}
+use Rattle.std.proofs.Common.{◌≡◌, ◌+◌, sym, ap, ◌∙◌, subst, Some, None, [], ◌∷◌}
 use Rattle.std.specs.Prelude.{slice_get}
-use Rattle.river_kernels.specs.Kern.{kern_of, fused}
-use Rattle.river_kernels.specs.declared.types.Types.{Types}
-use Rattle.river_kernels.specs.Types.{types_of, fused_of, IsFound}
+use Rattle.river_kernels.specs.Kern.{kern_of}
+use Rattle.river_kernels.specs.Types.{types_of, IsFound}
 use Rattle.river_kernels.proofs.FoundLemmas.{fused_none, fused_no_port, fused_second, fused_both, get_below}
 use Rattle.river_kernels.proofs.KernLemmas.{kern_of-fused}
 use Rattle.river_kernels.proofs.fitting.+types.Goals as goal
