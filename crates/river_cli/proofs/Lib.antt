@@ -1,4 +1,3 @@
-pub mod Built
 pub mod Compiled
 pub mod Cut
 pub mod Fetches

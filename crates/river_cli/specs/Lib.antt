@@ -1,5 +1,4 @@
 pub mod Answer
-pub mod Built
 pub mod Inputs
 pub mod Jobs
 pub mod Phrases

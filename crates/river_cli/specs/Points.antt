@@ -4,7 +4,7 @@ use Rattle.river_order.specs.Order.{Order, Ends, Fetch, Done}
 use Rattle.river_order.specs.Passes.{past}
 use Rattle.river_plan.specs.Forms.{PlanForm}
 use Rattle.river_print.specs.Printed.{plan_text}
-use Rattle.river_cli.specs.Built.{is_built}
+use Rattle.brooklet_step.specs.Built.{is_built}
 use Rattle.river_cli.specs.Inputs.{of_inputs}
 use Rattle.river_cli.specs.Jobs.{job_of}
 use Rattle.river_cli.specs.Source.{Source, source_of, printed}

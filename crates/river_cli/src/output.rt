@@ -1,7 +1,7 @@
 // What a plan prints.
 ghost use Rattle.std.specs.Prelude.{◌≡◌, IfOk};
 ghost use Rattle.river_plan.specs.Valid.{IsPlan};
-ghost use Rattle.brooklet_model.specs.Typed.{IsBuilt};
+ghost use Rattle.brooklet_step.specs.Built.{IsBuilt};
 ghost use Rattle.river_cli.specs.Inputs.{width_named, row_items, all_items};
 ghost use Rattle.river_cli.specs.Source.{Source, IsPlanOf, printed};
 ghost use Rattle.river_cli.specs.Widths.{HaveWidths};

@@ -4,7 +4,7 @@ ghost use Rattle.river_outside.specs.Causes.{Rose};
 ghost use Rattle.river_order.specs.Decides.{Decides};
 ghost use Rattle.river_order.specs.Passes.{Answers, Passes, AnswersAs};
 ghost use Rattle.river_plan.specs.Valid.{IsPlan};
-ghost use Rattle.brooklet_model.specs.Typed.{IsBuilt};
+ghost use Rattle.brooklet_step.specs.Built.{IsBuilt};
 ghost use Rattle.river_cli.specs.Inputs.{width_named};
 ghost use Rattle.river_cli.specs.Points.{points_of, of_job, of_text, of_command, of_run, runs};
 ghost use Rattle.river_cli.specs.Source.{Source, IsPlanOf, IsCompiled, printed};
