@@ -1,3 +1,4 @@
+pub mod BagTypes
 pub mod Collected
 pub mod Complete
 pub mod Cycles
@@ -6,11 +7,9 @@ pub mod Drained
 pub mod Feeds
 pub mod Free
 pub mod FusedRun
-pub mod JoinKeeps
 pub mod Joins
 pub mod Lists
 pub mod Longest
-pub mod OnRows
 pub mod Ports
 pub mod RunMeaning
 pub mod Shapes
@@ -21,3 +20,4 @@ pub mod Traces
 pub mod Turned
 pub mod TypedPlan
 pub mod Typing
+pub mod WideAdds

@@ -1,4 +1,3 @@
-pub mod Built
 pub mod Cut
 pub mod Fetches
 pub mod Inputs

@@ -23,7 +23,7 @@ use Rattle.river_plan.specs.Told.{fault_of, IsTold}
 use Rattle.river_plan.specs.declared.fault.PlanFault.{PlanFault}
 use Rattle.river_plan.specs.declared.fault.PlanFault.TheVariants as plan
 use Rattle.river_print.specs.Printed.{plan_text}
-use Rattle.river_cli.specs.Built.{is_built}
+use Rattle.brooklet_step.specs.Built.{is_built}
 use Rattle.river_cli.specs.Points.{of_checked, of_river, of_built}
 use Rattle.river_cli.specs.River.{Refusal, BadByte, BigNumber, Syntax, Unfit, plan_in, checked, then_read, then_checked, lexical}
 use Rattle.river_cli.specs.Says.{SaysUnread, SaysUnfit}

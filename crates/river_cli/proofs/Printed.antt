@@ -13,7 +13,7 @@ use Rattle.river_plan.specs.declared.plan.Decl.{Decl}
 use Rattle.river_plan.specs.Forms.{PlanForm, labels}
 use Rattle.brooklet_model.specs.Histories.{firings}
 use Rattle.brooklet_model.specs.Meaning.{Results, meaning}
-use Rattle.brooklet_model.specs.Typed.{IsRows, IsBuilt}
+use Rattle.brooklet_step.specs.Built.{IsBuilt}
 use Rattle.streamit_front.specs.Laws.{as_items}
 use Rattle.streamit_front.specs.Program.{Program}
 use Rattle.streamit_front.specs.Meaning.{outputs_of}
@@ -25,9 +25,7 @@ use Rattle.river_cli.specs.Printed.{values, fired, of_program}
 
 -- the plan of a program is one that is run
 pub program-built : (p : Program) → IsBuilt (plan_of p)
-program-built p =
-    let rest = All-cons (λ (d : Decl). IsRows d.kind) (values_in (codes "in")) [] tt (All-nil (λ (d : Decl). IsRows d.kind)) in
-    record { queues = All-cons (λ (d : Decl). IsRows d.kind) (values_in (codes "out")) (values_in (codes "in") ∷ []) tt rest; tables = refl }
+program-built p = refl
 
 -- a row of one value, and its value
 one_value : (row : List ℤ) → length row ≡ 1 → (x : ℤ) × (row ≡ x ∷ [])

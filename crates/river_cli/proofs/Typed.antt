@@ -17,7 +17,8 @@ use Rattle.river_plan.specs.Kinds.{kind_in}
 use Rattle.river_plan.specs.Names.{one_if, count}
 use Rattle.river_plan.specs.Valid.{IsPlan}
 use Rattle.river_plan.proofs.NameLemmas.{cases_name, count-append}
-use Rattle.brooklet_model.specs.Typed.{IsRows, IsBuilt, AreInputs}
+use Rattle.brooklet_model.specs.Typed.{AreInputs}
+use Rattle.brooklet_step.specs.Built.{IsRows, IsBuilt}
 use Rattle.brooklet_step.proofs.FitsLemmas.{built_inputs}
 use Rattle.csv_streams.specs.Rows.{rows_of}
 use Rattle.csv_streams.specs.declared.fault.InFault.{InFault}
@@ -87,8 +88,8 @@ known_all (d ∷ ds) apart =
 
 kind_rows : (t : QueueType) (rs : List (List ℤ)) → IsRows t → IsRowsOrStream t → HaveWidth (type_width t) rs → All (HasType t) (row_items rs)
 kind_rows (FlatOf (Rows w)) rs r o h = All-map (HasType (FlatOf (Rows w))) (λ row. Flat (One row)) rs h
-kind_rows (FlatOf (Stream w)) rs r o h = absurd r
-kind_rows (FlatOf (Relation w)) rs r o h = absurd r
+kind_rows (FlatOf (Stream w)) rs r o h = absurd (cc r)
+kind_rows (FlatOf (Relation w)) rs r o h = absurd (cc r)
 kind_rows (PackOf t) rs r o h = absurd o
 
 are_typed : (width : List ℕ → ℕ) (ds : List Decl) (all : List (List (List ℤ))) → All (λ d. IsRows d.kind) ds → All IsOuter ds → Known width ds → HaveWidths width ds all → AreInputs ds (all_items all)

@@ -1,7 +1,6 @@
 pub mod Added
 pub mod Agrees
 pub mod Answer
-pub mod Built
 pub mod Commands
 pub mod Inputs
 pub mod Points

@@ -7,7 +7,7 @@ use Rattle.streamit_front.specs.Translation.{plan_of, values_in}
 use Rattle.river_plan.specs.declared.plan.Decl.{Decl}
 use Rattle.river_plan.specs.Forms.{PlanForm}
 use Rattle.river_print.specs.Printed.{plan_text}
-use Rattle.river_cli.specs.Built.{is_built}
+use Rattle.brooklet_step.specs.Built.{is_built}
 use Rattle.river_cli.specs.Inputs.{names_fault, fetches, all_read, in_order}
 use Rattle.river_cli.specs.Printed as printed
 use Rattle.river_cli.specs.River.{plan_in}

@@ -5,7 +5,7 @@ use Rattle.river_order.specs.Order.{Order}
 use Rattle.river_order.specs.Decides.{Decides}
 use Rattle.streamit_front.specs.Program.{program_of}
 use Rattle.streamit_front.specs.Reading.{compiled}
-use Rattle.brooklet_model.specs.Typed.{IsBuilt}
+use Rattle.brooklet_step.specs.Built.{IsBuilt}
 use Rattle.river_plan.specs.Forms.{PlanForm}
 use Rattle.river_cli.specs.Agrees.{Agrees}
 use Rattle.river_cli.specs.Printed.{of_program}
