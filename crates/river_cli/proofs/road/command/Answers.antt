@@ -15,4 +15,4 @@ returns-in-Mean-clause-passes g c source is =
 pub returns-in_ok-print_river-in-Show-clause-passes : goal.returns-in_ok-print_river-in-Show-clause-passes
 returns-in_ok-print_river-in-Show-clause-passes g c source is =
     let rose = Rose (g.S.Shelf.faults c.args.shelf.now) (g.S.Shelf.faults c.args.shelf.now) in
-    show-passes c.args.job.now source (g.S.Shelf.held c.args.shelf.now) rose c.args.plan.now c.in_ok-print_river-in-Show.field-0 c.in-Show.is is c.in_ok-print_river-in-Show.ensures
+    show-passes c.args.job.now source (g.S.Shelf.held c.args.shelf.now) rose c.args.plan.now c.in_ok-print_river-in-Show.field-0 c.in-Show.is is c.in_ok-print_river-in-Show.ensures.text
