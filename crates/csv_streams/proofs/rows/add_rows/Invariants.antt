@@ -4,7 +4,7 @@ use Rattle.csv.specs.Reading.{Reached, Ready, default_config, source_of, strip_b
 use Rattle.csv.specs.declared.parser.State.TheVariants as st
 use Rattle.csv.specs.declared.reader.Trim.TheVariants as trim
 use Rattle.csv_streams.specs.Rows.{rows_in, headers, most_rows}
-use Rattle.csv_streams.proofs.rows.read_rows.Given as goal
+use Rattle.csv_streams.proofs.rows.add_rows.Given as goal
 
 abbrev pub invariant-loop-record : goal.invariant-loop-record
 invariant-loop-record l = record {

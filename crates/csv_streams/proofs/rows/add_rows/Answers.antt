@@ -6,10 +6,10 @@ use Rattle.csv.specs.Records.{fields_of}
 use Rattle.csv.specs.declared.parser.State.TheVariants as st
 use Rattle.csv.proofs.ReadFacts.{rows-end, rows-more}
 use Rattle.csv_streams.proofs.Records.{all-from_reached, all-records}
-use Rattle.csv_streams.specs.Rows.{rows_in, rows_of, headers}
-use Rattle.csv_streams.proofs.RowsIn.{told, rows-none, rows-header, rows-push, rows-fault, row_within, fault_answers}
-use Rattle.csv_streams.proofs.rows.read_rows.Goals as goal
-use Rattle.csv_streams.proofs.rows.read_rows.Goals.{then-rec-header+in_ok-row_in+in_ok-push, else-rec-header}
+use Rattle.csv_streams.specs.Rows.{row_in, rows_in, rows_of, headers, Appends, IsFaultTold}
+use Rattle.csv_streams.proofs.RowsIn.{told, rows-none, rows-header, rows-push, rows-fault, row_within, fault_passes}
+use Rattle.csv_streams.proofs.rows.add_rows.Goals as goal
+use Rattle.csv_streams.proofs.rows.add_rows.Goals.{then-rec-header+in_ok-add_row, else-rec-header}
 
 pub loop-record-init : goal.loop-record-init
 unfolding Reached
@@ -20,7 +20,7 @@ loop-record-init c =
     let left = c.into_byte_records-record-items.ensures.left in
     let e = c.has_headers.ensures in
     let f = c.flexible.ensures in
-    rw (start, rdr, c.new-rows.ensures) record {
+    rw (start, rdr) record {
       trims = rw (f, e) at fr.trim ∙ c.new.ensures.trim;
       ready = inr (inr (rw (f, e) at fr.has_headers, fr.headers));
       left = left;
@@ -28,7 +28,7 @@ loop-record-init c =
       header = c.headers-header.ensures;
       last = ap (λ (n : ℕ). n + 100000) c.headers-header.ensures;
       few = omega arith;
-      read = (strip_bom c.args.bytes.now, [], fr.source, (sym fr.state, refl), rows-none c.args.width c.args.skip_first c.args.more, refl);
+      read = (strip_bom c.args.bytes.now, [], fr.source, (sym fr.state, refl), rows-none c.args.width c.args.skip_first c.args.more ∙ ap (λ (l : List (List ℤ)). told l) (sym c.requires.none), refl);
     }
 
 pub loop-record-preserved : goal.loop-record-preserved
@@ -40,12 +40,12 @@ loop-record-preserved c =
     let (z, at_z, more) = rows-more (λ (s : Bor (List ℕ)). Some s.now) c.loop-record.record-iterator.rdr c.next.new.self.rdr fields default_config st.StartRecord (strip_bom c.args.bytes.now) y recs inv.config source reached s.0 in
     let after : (c.loop-record.rec + 1 ≤ c.headers-header.result + 100000) × (rows_in c.args.width c.args.skip_first c.args.more (recs ++ fields ∷ []) ≡ Ok c.if-rec-header.rows) =
     elim c.if-rec-header.branch [
-      | then-rec-header+in_ok-row_in+in_ok-push w ↦
-          let row = w.in_ok-row_in.field-0 in
+      | then-rec-header+in_ok-add_row w ↦
           let past : c.headers-header.result < c.loop-record.rec + 1 = search (rules, arith) in
-          let found : w.row_in.result ≡ Ok row = search rules in
-          let grown : c.if-rec-header.rows ≡ c.loop-record.rows ++ row ∷ [] = search rules in
-          let is = sym w.row_in.ensures ∙ found in
+          let one : Appends (row_in c.args.width c.args.more (c.headers-header.result + 100000) (c.loop-record.rec + 1) fields) c.loop-record.rows c.if-rec-header.rows = search rules in
+          let row = one.row in
+          let grown = one.grown in
+          let is = one.is in
           let le : headers c.args.skip_first ≤ length recs = omega (arith, past, count, inv.header) in (
             row_within c.args.width c.args.more (c.headers-header.result + 100000) (c.loop-record.rec + 1) fields row is,
             rows-push c.args.width c.args.skip_first c.args.more recs fields c.loop-record.rows row le so_far (rw (sym inv.last, count) is)
@@ -69,26 +69,27 @@ loop-record-preserved c =
       read = (z, recs ++ fields ∷ [], at_z, more, after.1, omega (arith, length-append recs (fields ∷ []), count));
     }
 
-pub returns-in_err-row_in : goal.returns-in_err-row_in
-returns-in_err-row_in c =
+pub returns-in_err-add_row-clause-fault : goal.returns-in_err-add_row-clause-fault
+returns-in_err-add_row-clause-fault c =
     let inv = c.loop-record.invariant in
     let (y, recs, source, reached, so_far, count) = inv.read in
     let fields = fields_of c.in-Ok.record in
     let s = rw (c.in-Some.is, c.in-Ok.is) at ((c.next.ensures.steps inv.left inv.trims).0 inv.ready) in
     let (z, at_z, more) = rows-more (λ (s : Bor (List ℕ)). Some s.now) c.loop-record.record-iterator.rdr c.next.new.self.rdr fields default_config st.StartRecord (strip_bom c.args.bytes.now) y recs inv.config source reached s.0 in
     let all = all-from_reached c.args.bytes.now (recs ++ fields ∷ []) c.next.new.self.rdr.state z more in
-    let f = c.in_err-row_in.field-0.0 in
+    let f = c.in_err-add_row.field-0.0 in
+    let one = row_in c.args.width c.args.more (c.headers-header.result + 100000) (c.loop-record.rec + 1) fields in
     let past : c.headers-header.result < c.loop-record.rec + 1 = search (rules, arith) in
-    let found : c.row_in.result ≡ Err f = search rules in
-    let is = sym c.row_in.ensures ∙ found in
+    let is_told : IsFaultTold one f = search rules in
     let le : headers c.args.skip_first ≤ length recs = omega (arith, past, count, inv.header) in
-    let faulty = rows-fault c.args.width c.args.skip_first c.args.more recs fields all.0 c.loop-record.rows f le so_far (rw (sym inv.last, count) is) in
-    let file = rows_of c.args.bytes.now c.args.width c.args.skip_first c.args.more in
+    let faulty : one ≡ Err f → rows_of c.args.bytes.now c.args.width c.args.skip_first c.args.more ≡ Err f = λ is.
+    ap (rows_in c.args.width c.args.skip_first c.args.more) (all.1 ∙ append_assoc recs (fields ∷ []) all.0)
+    ∙ rows-fault c.args.width c.args.skip_first c.args.more recs fields all.0 c.loop-record.rows f le so_far (rw (sym inv.last, count) is) in
     let p = err_from_is_err_and c.from_residual.result c.from_residual.ensures.1 in
-    rw (p.1, p.2) (fault_answers file f (ap (rows_in c.args.width c.args.skip_first c.args.more) (all.1 ∙ append_assoc recs (fields ∷ []) all.0) ∙ faulty))
+    rw (p.1, p.2) (fault_passes one (rows_of c.args.bytes.now c.args.width c.args.skip_first c.args.more) f is_told faulty)
 
-pub returns : goal.returns
-returns c =
+pub returns-clause-ok : goal.returns-clause-ok
+returns-clause-ok c =
     let inv = c.loop-record.invariant in
     let (y, recs, source, reached, so_far, count) = inv.read in
     let s = rw c.in-None.is at ((c.next.ensures.steps inv.left inv.trims).0 inv.ready) in
