@@ -61,8 +61,8 @@ module _ (job : Job) (source : Source) (held : Option Held) (rose : Type 0) wher
   pub show-passes : (plan : PlanForm) (text : List ℕ) → job.command ≡ Show → IsPlanOf source plan → text ≡ plan_text plan → Passes (of_command job source) held rose (Ok text)
   unfolding of_command
   show-passes plan text is of says = λ next. rw is (
-    let same : text ≡ plan_text source.plan = says ∙ ap plan_text of.plan in
-    subst (λ t. Comes (next (plan_text source.plan)) held (next t)) (sym same) (Comes-same (next (plan_text source.plan)) held))
+      let same : text ≡ plan_text source.plan = says ∙ ap plan_text of.plan in
+      subst (λ t. Comes (next (plan_text source.plan)) held (next t)) (sym same) (Comes-same (next (plan_text source.plan)) held))
 
 module _ (job : Job) (counted : Bool) (source : Source) (plan : PlanForm) (held : Option Held) (is : IsPlanOf source plan) where
   abbrev from_inputs : (List ℕ → Order) → Order

@@ -1,6 +1,7 @@
 pub mod Answer
 pub mod Inputs
 pub mod Jobs
+pub mod Laws
 pub mod Phrases
 pub mod Points
 pub mod Said

@@ -5,6 +5,7 @@ mod compile;
 mod fetched;
 mod gather;
 mod job;
+pub mod laws;
 mod names;
 mod output;
 mod phrases;

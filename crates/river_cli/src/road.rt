@@ -50,12 +50,7 @@ fn fetched<S: Shelf>(alloc: Global, job: &Job, shelf: &mut S) -> Result<Bytes, S
 }
 
 // It is compiled, and its plan is rewritten.
-fn compiled<S: Shelf>(
-    alloc: Global,
-    job: &Job,
-    text: &Bytes,
-    shelf: &mut S,
-) -> Result<Bytes, Stop>
+fn compiled<S: Shelf>(alloc: Global, job: &Job, text: &Bytes, shelf: &mut S) -> Result<Bytes, Stop>
     requires { length text.now ≤ 1048576 }
     ensures later { S.faults shelf.old ≤ S.faults shelf.new }
     ensures passes { Passes (of_text job.now text.now) (S.held shelf.old) (Rose (S.faults shelf.old) (S.faults shelf.new)) result }
@@ -98,13 +93,7 @@ fn run<S: Shelf>(
 {
     check_runs(alloc, plan)?;
     let decls = plan.raw().inputs.as_slice();
-    let rows = gather(
-        alloc,
-        decls,
-        job.ins.as_slice(),
-        job.options.header,
-        shelf,
-    )?;
+    let rows = gather(alloc, decls, job.ins.as_slice(), job.options.header, shelf)?;
     Ok(output(alloc, plan, &rows, counted)?)
 }
 
