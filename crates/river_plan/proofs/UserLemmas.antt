@@ -1,5 +1,5 @@
 -- The lists in which places stand, one list and one place at a time.
-use Rattle.std.proofs.Common.{◌≡◌, ℕ, suc, ◌+◌, ◌<◌, ◌≤◌, List, [], ◌∷◌, ◌++◌, length, take, get_or, replicate, refl, sym, ap, ◌∙◌, subst, arith, append_assoc, append-nil}
+use Rattle.std.proofs.Common.{◌≡◌, ℕ, suc, ◌+◌, ◌<◌, ◌≤◌, List, [], ◌∷◌, ◌++◌, length, take, get_or, replicate, sym, ap, ◌∙◌, subst, arith, append_assoc, append-nil}
 use Rattle.std.proofs.lemmas.List.{take_more, length-take-le, length-replicate}
 use Rattle.river_base.specs.Places.{only, none, each_grew}
 use Rattle.river_base.proofs.PlaceLemmas.{each_grew_cong, each_grew-none, each_grew-each_grew, each_grew-blanks, length-each_grew, only_other}
@@ -26,7 +26,8 @@ users-more n (m ∷ ms) l i =
 pub often-start : (ls : List (List ℕ)) (n : ℕ) → ls ≡ each_grew ls (as_often [] n)
 often-start ls n = sym (each_grew-none ls)
 
-pub often-next : (start now new : List (List ℕ)) (xs : List ℕ) (k x n : ℕ) → k < length xs → x ≡ get_or xs k x → now ≡ each_grew start (as_often (take k xs) n) → new ≡ each_grew now (only x (n ∷ [])) → new ≡ each_grew start (as_often (take (k + 1) xs) n)
+pub often-next : (start now new : List (List ℕ)) (xs : List ℕ) (k x n : ℕ) → k < length xs → x ≡ get_or xs k x
+    → now ≡ each_grew start (as_often (take k xs) n) → new ≡ each_grew now (only x (n ∷ [])) → new ≡ each_grew start (as_often (take (k + 1) xs) n)
 often-next start now new xs k x n lt e h a =
     a ∙ ap (λ l. each_grew l (only x (n ∷ []))) h ∙ each_grew-each_grew start (as_often (take k xs) n) (only x (n ∷ []))
     ∙ each_grew_cong start (λ i. as_often (take k xs) n i ++ only x (n ∷ []) i) (as_often (take k xs ++ x ∷ []) n) (λ i _. sym (often-more (take k xs) x n i))
@@ -36,7 +37,8 @@ often-next start now new xs k x n lt e h a =
 pub users-start : (m : ℕ) (all : List (List ℕ)) → all ≡ replicate m [] → all ≡ users m []
 users-start m all e = e ∙ sym (each_grew-none (replicate m []))
 
-pub users-next : (m k : ℕ) (now new ls : List (List ℕ)) (l : List ℕ) → k < length ls → l ≡ get_or ls k l → now ≡ users m (take k ls) → new ≡ each_grew now (as_often l k) → new ≡ users m (take (k + 1) ls)
+pub users-next : (m k : ℕ) (now new ls : List (List ℕ)) (l : List ℕ) → k < length ls → l ≡ get_or ls k l → now ≡ users m (take k ls)
+    → new ≡ each_grew now (as_often l k) → new ≡ users m (take (k + 1) ls)
 users-next m k now new ls l lt e h a =
     let len : k ≡ 0 + length (take k ls) = (let t = length-take-le k ls (omega (arith, lt)) in omega (arith, t)) in
     a ∙ ap (λ x. each_grew x (as_often l k)) h ∙ each_grew-each_grew (replicate m []) (users_from 0 (take k ls)) (as_often l k)

@@ -4,7 +4,7 @@ use Rattle.river_plan.specs.Names.{SameNames}
 use Rattle.river_plan.specs.Uses.{all_writes}
 use Rattle.river_plan.specs.Faults.{ReadTooEarlyAt}
 use Rattle.river_plan.proofs.Remains.{RemainsBy}
-use Rattle.river_plan.proofs.order.read_too_early.Given as goal
+use Rattle.river_plan.proofs.order.first_early.Given as goal
 
 abbrev pub invariant-loop-op : goal.invariant-loop-op
 invariant-loop-op l = record {
