@@ -1,5 +1,5 @@
 -- Every complete run has the plan's histories.
-use Rattle.std.proofs.Common.{◌≡◌, ◌≢◌, ℕ, ℤ, ◌+◌, ◌<◌, ◌≤◌, Bool, Some, List, [], ◌∷◌, ◌++◌, length, take, refl, sym, ap, ◌∙◌, subst, arith, length-append, ⊎_elim, nat_eq, false}
+use Rattle.std.proofs.Common.{◌≡◌, ◌≢◌, ℕ, ◌+◌, ◌<◌, ◌≤◌, Some, List, [], ◌∷◌, ◌++◌, length, take, refl, sym, ap, ◌∙◌, subst, arith, length-append, ⊎_elim, nat_eq, false}
 use Rattle.std.specs.Prelude.{if◌then◌else◌, count_by, slice_get}
 use Rattle.std.proofs.lemmas.Bool.{cases_eq}
 use Rattle.std.proofs.lemmas.List.{append-nil, take-append-le, length-map}
@@ -18,7 +18,7 @@ use Rattle.brooklet_model.specs.Fire.{fire, ins, first_kept}
 use Rattle.brooklet_model.specs.Histories.{History, lists_of, given, histories, joined, tables_of, adds, inputs_of, lengths, Lists, Solves}
 use Rattle.brooklet_model.specs.Laws.{given_to, RunsAgree}
 use Rattle.brooklet_model.specs.Machine.{Machine, at_key, fired, Run, IsComplete, first_of, times}
-use Rattle.brooklet_model.specs.Traced.{numbered, ran, Traced}
+use Rattle.brooklet_model.specs.Traced.{ran, Traced}
 use Rattle.brooklet_model.specs.Words.{Word, run, at_port, PortsBelow, SameBag, Alike}
 use Rattle.brooklet_model.proofs.Free.{order_is_free, at_port-append, below-append}
 use Rattle.brooklet_model.proofs.Lists.{if_true, if_false, if_eq, if_ne, funext}

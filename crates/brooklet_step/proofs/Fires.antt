@@ -1,36 +1,29 @@
 -- What firings give, and the plain forms of kernels.
-use Rattle.std.proofs.Common.{◌≡◌, ℕ, ◌+◌, ◌<◌, List, [], ◌∷◌, ◌++◌, length, take, replicate, refl, sym, ap, ◌∙◌, subst, arith, get_or, nat_lt, append_assoc, Global, Box}
+use Rattle.std.proofs.Common.{◌≡◌, ℕ, ◌<◌, Ok, Err, List, [], ◌∷◌, ◌++◌, length, replicate, refl, sym, ap, ◌∙◌, subst, arith, get_or, nat_lt, append_assoc, Global, Box}
 use Rattle.std.specs.Prelude.{if◌then◌else◌}
+use Rattle.std.specs.Result.{OnOk}
+use Rattle.std.specs.declared.result.Result.{Result}
+use Rattle.river_base.specs.declared.memory.NoMemory.{NoMemory}
 use Rattle.std.proofs.Math.ListN.{set}
-use Rattle.std.proofs.lemmas.List.{take_more, length-replicate}
+use Rattle.std.proofs.lemmas.List.{length-replicate}
 use Rattle.river_base.specs.declared.item.Flat as flat
 use Rattle.river_base.specs.declared.item.Item as item
 use Rattle.river_base.specs.declared.item.Item.TheVariants.{Flat, Pack}
-use Rattle.river_base.specs.declared.kind.QueueType.{QueueType}
-use Rattle.river_base.specs.declared.kind.QueueType.TheVariants.{Flat as FlatOf}
 use Rattle.river_base.specs.Held.{flats}
-use Rattle.river_base.specs.Places.{each_grew, only, list_at}
-use Rattle.river_base.proofs.PlaceLemmas.{if_lt, each_grew_cong, each_grew-none, each_grew-each_grew, length-each_grew, each_grew-blanks}
+use Rattle.river_base.specs.Places.{each_grew, list_at}
+use Rattle.river_base.proofs.PlaceLemmas.{if_lt, each_grew_cong, each_grew-none, each_grew-blanks}
 use Rattle.river_kernels.specs.declared.kernel.Kernel.{Kernel, fold-roll-Kernel}
 use Rattle.river_kernels.specs.declared.kernel.Kernel.TheVariants as kernel
 use Rattle.river_kernels.specs.declared.kernel.Kernel.TheOpen as layer
-use Rattle.river_kernels.specs.Fits.{Fits}
 use Rattle.river_kernels.specs.Kern.{Kern, kern_of, kern_at, filter, duplicate, packed}
 use Rattle.kern_rows.specs.declared.kernel.Filter.{Filter}
 use Rattle.kern_rows.specs.Forms.{FilterForm, filter_form}
-use Rattle.brooklet_model.specs.Firings.{Kept, Fired, Same, gives, feed, and_then}
 use Rattle.brooklet_model.specs.Fire.{fire, outs, tabs}
-use Rattle.brooklet_model.specs.Shapes.{IsShaped}
-use Rattle.brooklet_model.specs.Typed.{IsOf}
-use Rattle.brooklet_model.proofs.Lists.{feed-append, feed_one}
-use Rattle.brooklet_model.proofs.Ports.{shaped}
-use Rattle.brooklet_model.proofs.Typing.{fire_typed}
 use Rattle.brooklet_step.specs.declared.emit.Emit.{Emit}
 use Rattle.brooklet_step.specs.declared.state.State.{State}
 use Rattle.brooklet_step.specs.declared.state.State.TheVariants as state
-use Rattle.brooklet_step.specs.Took.{Took, HasRoom, IsBlank}
+use Rattle.brooklet_step.specs.Took.{HasRoom, IsBlank}
 use Rattle.brooklet_step.specs.Stands.{StandsFor, Fires, Takes}
-use Rattle.brooklet_step.proofs.Standing.{stands_shape}
 
 -- PACKS OF WHAT ITEMS ARE
 
@@ -61,6 +54,16 @@ blank_room k e b = record { outs = ap length b.outs ∙ length-replicate (outs k
 -- what is in lists that were empty
 pub grown_list : {A : Type 0} (n : ℕ) (ls ls' : List (List A)) (f : ℕ → List A) (p : ℕ) → ls ≡ replicate n [] → ls' ≡ each_grew ls f → p < n → list_at ls' p ≡ f p
 grown_list n ls ls' f p b t h = ap (λ l. list_at l p) (t ∙ ap (λ l. each_grew l f) b) ∙ each_grew-blanks n f p [] h
+
+-- ANSWERS WITHOUT A VALUE
+
+pub on_ok : (P Q : Type 0) (r : Result Unit NoMemory) → (P → Q) → OnOk r P → OnOk r Q
+on_ok P Q (Ok x) f h = f h
+on_ok P Q (Err e) f h = h
+
+pub on_both : (P Q R : Type 0) (r : Result Unit NoMemory) → (P → Q → R) → OnOk r P → OnOk r Q → OnOk r R
+on_both P Q R (Ok x) f h g = f h g
+on_both P Q R (Err e) f h g = h
 
 -- A FILTER, AND COPIES
 

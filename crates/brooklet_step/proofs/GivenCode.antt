@@ -1,6 +1,6 @@
 -- The conditions of firings, in the terms of the code.
-use Rattle.std.proofs.Common.{◌≡◌, ℕ, ◌+◌, ◌<◌, ◌≤◌, List, [], ◌∷◌, ◌++◌, length, take, drop, replicate, refl, sym, ap, ◌∙◌, subst, arith, append_assoc}
-use Rattle.std.specs.Prelude.{All, slice_get}
+use Rattle.std.proofs.Common.{◌≡◌, ℕ, ◌<◌, ◌≤◌, List, [], ◌∷◌, ◌++◌, length, drop, replicate, refl, sym, ap, ◌∙◌, subst, arith, append_assoc}
+use Rattle.std.specs.Prelude.{All}
 use Rattle.std.proofs.lemmas.List.{append-nil}
 use Rattle.std.proofs.lemmas.List.Elements.{All-head, All-tail}
 use Rattle.river_base.specs.declared.item.Item as item
@@ -11,12 +11,10 @@ use Rattle.river_base.specs.declared.kind.QueueType.TheVariants.{Flat as FlatOf}
 use Rattle.river_base.specs.Held.{flats}
 use Rattle.river_base.specs.Places.{each_grew, list_at}
 use Rattle.river_kernels.specs.Fits.{Fits}
-use Rattle.river_kernels.specs.Types.{types_of}
 use Rattle.river_kernels.specs.Kern.{Kern, packed, fused}
 use Rattle.brooklet_model.specs.Firings.{gives, splice, beside}
-use Rattle.brooklet_model.specs.Fire.{outs, tabs, privates}
+use Rattle.brooklet_model.specs.Fire.{outs, privates}
 use Rattle.brooklet_model.specs.Shapes.{IsShaped}
-use Rattle.brooklet_model.specs.Typed.{between}
 use Rattle.brooklet_model.proofs.Ports.{shaped}
 use Rattle.brooklet_model.proofs.Typing.{between_is}
 use Rattle.brooklet_step.specs.declared.emit.Emit.{Emit}

@@ -1,40 +1,29 @@
 -- Firings after others: kernels without a kernel inside, packs, and firings one after another.
-use Rattle.std.proofs.Common.{◌≡◌, ℕ, ◌+◌, ◌-◌, ◌<◌, ◌≤◌, List, [], ◌∷◌, ◌++◌, length, take, drop, replicate, refl, sym, ap, ◌∙◌, subst, arith, get_or, append_assoc, length-append}
-use Rattle.std.specs.Prelude.{All, slice_get, Some}
-use Rattle.std.proofs.lemmas.List.{take_more, append-nil, length-take, take-append-drop}
+use Rattle.std.proofs.Common.{◌≡◌, ℕ, ◌+◌, ◌-◌, List, [], ◌∷◌, ◌++◌, length, refl, sym, ap, ◌∙◌, subst, arith, append_assoc, length-append}
+use Rattle.std.specs.Prelude.{All, slice_get}
+use Rattle.std.proofs.lemmas.List.{append-nil}
 use Rattle.std.proofs.lemmas.List.Elements.{All-head, All-tail, All-cons, All-nil, All-append}
 use Rattle.river_base.specs.declared.item.Item as item
-use Rattle.river_base.specs.declared.item.Item.TheVariants.{Flat, Pack}
-use Rattle.river_base.specs.declared.item.Flat as flat
-use Rattle.river_base.specs.declared.kind.FlatType.{FlatType}
 use Rattle.river_base.specs.declared.kind.QueueType.{QueueType}
-use Rattle.river_base.specs.declared.kind.QueueType.TheVariants.{Flat as FlatOf, Pack as PackOf}
-use Rattle.river_base.specs.Held.{held, HasType, IsHeld, flats, as_items, opened, items_of}
-use Rattle.river_base.specs.Places.{each_grew, only, none, list_at}
-use Rattle.river_base.proofs.HeldLemmas.{held-pack, flats-as_items}
-use Rattle.river_base.proofs.PlaceLemmas.{each_grew_cong, each_grew-none, each_grew-each_grew, length-each_grew}
-use Rattle.river_kernels.specs.declared.types.VarKind.{VarKind}
-use Rattle.river_kernels.specs.Fits.{Fits}
-use Rattle.river_kernels.specs.Kern.{Kern, code, filter, duplicate, deal, collect, packed, unpack, window, select, project, cross, streamer, tally, fused}
-use Rattle.brooklet_model.specs.Firings.{Kept, Fired, Same, feed, and_then, gives}
-use Rattle.brooklet_model.specs.Fire.{fire, first_kept, outs, tabs}
-use Rattle.brooklet_model.specs.Shapes.{IsShaped}
-use Rattle.brooklet_model.specs.Typed.{IsOf, AreOf, widths_in, IsWide, AreWide}
+use Rattle.river_base.specs.Places.{each_grew, none}
+use Rattle.river_base.proofs.PlaceLemmas.{each_grew_cong, each_grew-none, each_grew-each_grew}
+use Rattle.river_kernels.specs.Kern.{Kern}
+use Rattle.brooklet_model.specs.Firings.{Kept, Fired, Same, feed, and_then}
+use Rattle.brooklet_model.specs.Fire.{fire, first_kept}
+use Rattle.brooklet_model.specs.Typed.{IsOf, widths_in, IsWide}
 use Rattle.brooklet_model.specs.Words.{Word, run, at_port, word_of}
 use Rattle.brooklet_model.proofs.Lists.{feed-append, feed_one}
-use Rattle.brooklet_model.proofs.Ports.{shaped}
 use Rattle.brooklet_model.proofs.Feeds.{feed_word}
 use Rattle.brooklet_model.proofs.Free.{at_port-append}
 use Rattle.brooklet_model.proofs.Typing.{fire_typed}
 use Rattle.brooklet_model.proofs.WideAdds.{fire_wide}
 use Rattle.brooklet_step.specs.declared.emit.Emit.{Emit}
 use Rattle.brooklet_step.specs.declared.state.State.{State}
-use Rattle.brooklet_step.specs.Stands.{StandsFor, Fires, Applies, Keeps}
-use Rattle.brooklet_step.specs.Took.{Took, HasRoom, IsBlank}
-use Rattle.brooklet_step.specs.Given.{held_at, IsHeldOf, AreHeldOf, AreTyped, FitState, IsLeaf, ran, StandsAfter, TookHeld, Gives, Came, Does, FiresAt, GivesAll, DoesAll, FiresEach, Fitting, CanTake, CanTakeAll}
+use Rattle.brooklet_step.specs.Stands.{StandsFor, Fires, Applies}
+use Rattle.brooklet_step.specs.Took.{Took}
+use Rattle.brooklet_step.specs.Given.{held_at, IsHeldOf, AreTyped, IsLeaf, ran, StandsAfter, TookHeld, Gives, FiresAt, GivesAll, FiresEach, CanTake}
 use Rattle.brooklet_step.proofs.Standing.{stands_shape}
-use Rattle.brooklet_step.proofs.Fires.{grown_list}
-use Rattle.brooklet_step.proofs.GivenLemmas.{at-nil, at-append, at-length, at-same, of_held, held_of, all_held, typed_append, typed_word, at_word, word_append, at_next, ran_more, ran_typed, fired_typed, fit_of, leaf_kept, fit_length, leaf_to, leaf_from}
+use Rattle.brooklet_step.proofs.GivenLemmas.{at-nil, at-append, at-length, at-same, of_held, all_held, typed_append, typed_word, at_word, word_append, ran_more, fit_of, leaf_kept, leaf_to, leaf_from}
 
 -- KERNELS WITHOUT A KERNEL INSIDE
 

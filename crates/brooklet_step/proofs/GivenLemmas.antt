@@ -1,34 +1,31 @@
 -- Words, what queues at ports hold, and what states are.
-use Rattle.std.proofs.Common.{◌≡◌, ℕ, ℤ, zero, suc, ◌+◌, ◌*◌, ◌<◌, Option, Some, None, List, [], ◌∷◌, ◌++◌, length, take, drop, refl, sym, ap, ◌∙◌, subst, arith, append_assoc, length-drop}
+use Rattle.std.proofs.Common.{◌≡◌, ℕ, ℤ, ◌*◌, Option, Some, None, List, [], ◌∷◌, ◌++◌, length, take, drop, refl, sym, ap, ◌∙◌, subst, arith, length-drop}
 use Rattle.std.specs.Prelude.{All, slice_get}
-use Rattle.std.proofs.lemmas.List.{append-nil, length-take}
-use Rattle.std.proofs.lemmas.List.Elements.{All-head, All-tail, All-cons, All-nil, All-append}
+use Rattle.std.proofs.lemmas.List.{length-take}
+use Rattle.std.proofs.lemmas.List.Elements.{All-head, All-tail, All-cons, All-nil}
 use Rattle.river_base.specs.declared.item.Item as item
 use Rattle.river_base.specs.declared.kind.QueueType.{QueueType}
-use Rattle.river_base.specs.Held.{held, HasType, IsHeld}
 use Rattle.river_base.specs.Places.{list_at}
 use Rattle.river_base.proofs.HeldLemmas.{held-nil, held-append, length-held, held-same, held-typed, typed-held}
-use Rattle.kern_rows.specs.Turns.{Turns, shares, ones}
+use Rattle.kern_rows.specs.Turns.{Turns}
 use Rattle.river_kernels.specs.declared.types.VarKind.{VarKind}
 use Rattle.river_kernels.specs.Fits.{Fits}
 use Rattle.river_kernels.specs.Types.{types_of}
 use Rattle.river_kernels.specs.Kern.{Kern, code, filter, duplicate, deal, collect, packed, unpack, window, select, project, cross, streamer, tally, fused}
-use Rattle.brooklet_model.specs.Firings.{Kept, Slots, Buffered, Turn, Joining, Fired, Same, and_then}
+use Rattle.brooklet_model.specs.Firings.{Kept, Slots, Buffered, Turn, Joining, Same, and_then}
 use Rattle.brooklet_model.specs.Fire.{fire, first_kept, privates, kept_vars}
-use Rattle.brooklet_model.specs.Shapes.{IsFormed, IsShaped, HasShape}
+use Rattle.brooklet_model.specs.Shapes.{IsShaped, HasShape}
 use Rattle.brooklet_model.specs.Typed.{IsTyped, IsOf, AreOf, AreWaiting, Holds, between}
 use Rattle.brooklet_model.specs.Words.{Word, run, at_port, word_of}
 use Rattle.brooklet_model.proofs.Lists.{take_front, drop_front}
-use Rattle.brooklet_model.proofs.Ports.{shaped, formed_shaped}
+use Rattle.brooklet_model.proofs.Ports.{shaped}
 use Rattle.brooklet_model.proofs.Shapes.{first_shape, fire_shape, shape_length}
 use Rattle.brooklet_model.proofs.Swaps.{at_port_here}
 use Rattle.brooklet_model.proofs.Free.{at_port-append}
 use Rattle.brooklet_model.proofs.Traces.{run_more}
 use Rattle.brooklet_model.proofs.Typing.{first_holds}
-use Rattle.brooklet_model.proofs.TypedPlan.{AreAt, at_append, run_typed}
+use Rattle.brooklet_model.proofs.TypedPlan.{AreAt, run_typed}
 use Rattle.brooklet_step.specs.declared.state.State.{State}
-use Rattle.brooklet_step.specs.declared.state.State.TheVariants as state
-use Rattle.brooklet_step.specs.Initial.{IsFirst}
 use Rattle.brooklet_step.specs.Stands.{StandsFor, StandsForSlots}
 use Rattle.brooklet_step.specs.Given.{held_by, held_at, IsHeldBy, IsHeldOf, AreHeldOf, AreTyped, FitSlots, FitState, IsLeaf, ran, StandsAfter}
 

@@ -1,9 +1,8 @@
 -- Firings after others: packs, and two kernels as one.
-use Rattle.std.proofs.Common.{◌≡◌, ℕ, zero, suc, ◌+◌, ◌-◌, ◌<◌, ◌≤◌, List, [], ◌∷◌, ◌++◌, length, take, drop, replicate, refl, sym, ap, ◌∙◌, subst, arith, append_assoc, ⊎_elim}
+use Rattle.std.proofs.Common.{◌≡◌, ℕ, zero, suc, ◌+◌, ◌-◌, ◌<◌, List, [], ◌∷◌, ◌++◌, length, take, drop, replicate, refl, sym, ap, ◌∙◌, subst, arith, ⊎_elim}
 use Rattle.std.specs.Prelude.{All, slice_get, Some}
 use Rattle.std.proofs.lemmas.Bool.{cases_lt}
-use Rattle.std.proofs.lemmas.List.{append-nil, length-replicate}
-use Rattle.std.proofs.lemmas.List.Elements.{All-head, All-tail, All-cons, All-nil, All-append}
+use Rattle.std.proofs.lemmas.List.Elements.{All-head, All-tail, All-cons, All-nil}
 use Rattle.river_base.specs.declared.item.Item as item
 use Rattle.river_base.specs.declared.item.Item.TheVariants.{Flat, Pack}
 use Rattle.river_base.specs.declared.item.Flat as flat
@@ -18,11 +17,11 @@ use Rattle.river_kernels.specs.declared.types.VarKind.{VarKind}
 use Rattle.river_kernels.specs.Fits.{Fits, spliced}
 use Rattle.river_kernels.specs.Types.{types_of}
 use Rattle.river_kernels.specs.Kern.{Kern, packed, fused}
-use Rattle.brooklet_model.specs.Firings.{Kept, Fired, Same, feed, and_then, splice, beside, fused_of, gives}
+use Rattle.brooklet_model.specs.Firings.{Kept, Fired, Same, feed, splice, beside, fused_of, gives}
 use Rattle.brooklet_model.specs.Fire.{fire, first_kept, outs, tabs, privates}
-use Rattle.brooklet_model.specs.Shapes.{IsShaped, HasShape}
-use Rattle.brooklet_model.specs.Typed.{IsOf, AreOf, IsTyped, between, widths_in, IsWide}
-use Rattle.brooklet_model.specs.Words.{Word, run, at_port, word_of}
+use Rattle.brooklet_model.specs.Shapes.{IsShaped}
+use Rattle.brooklet_model.specs.Typed.{IsTyped, between, widths_in, IsWide}
+use Rattle.brooklet_model.specs.Words.{Word, run, word_of}
 use Rattle.brooklet_model.proofs.Lists.{take_front, drop_front}
 use Rattle.brooklet_model.proofs.Feeds.{feed_word}
 use Rattle.brooklet_model.proofs.FusedRun.{fused_runs}
@@ -34,10 +33,10 @@ use Rattle.brooklet_model.proofs.WideAdds.{fused_wide}
 use Rattle.brooklet_step.specs.declared.emit.Emit.{Emit}
 use Rattle.brooklet_step.specs.declared.state.State.{State}
 use Rattle.brooklet_step.specs.Took.{Took, HasRoom, IsBlank}
-use Rattle.brooklet_step.specs.Given.{held_by, held_at, IsHeldBy, IsHeldOf, AreHeldOf, AreTyped, FitState, ran, StandsAfter, TookHeld, Gives, Came, Does, FiresAt, GivesAll, DoesAll, FiresEach, Fitting, CanTake, CanTakeAll}
+use Rattle.brooklet_step.specs.Given.{held_by, held_at, IsHeldBy, IsHeldOf, FitState, ran, StandsAfter, TookHeld, Came, Does, FiresAt, FiresEach}
 use Rattle.brooklet_step.proofs.Fires.{grown_list, flats-append, blank_room}
 use Rattle.brooklet_step.proofs.Fused.{splice_cong, beside_cong}
-use Rattle.brooklet_step.proofs.GivenLemmas.{typed_append, typed_word, at_word, word_append, ran_more, ran_length, ran_typed, fired_typed, fit_length, parts_fit, parts_after}
+use Rattle.brooklet_step.proofs.GivenLemmas.{typed_word, at_word, word_append, ran_more, ran_length, ran_typed, fired_typed, parts_fit, parts_after}
 
 -- ROOM
 

@@ -1,17 +1,16 @@
 -- A firing of an operator, in the terms of the code.
 use Rattle.std.proofs.Common.{◌≡◌, ℕ, ◌+◌, ◌<◌, ◌≤◌, false, Some, List, [], ◌∷◌, length, sym, ap, ◌∙◌, subst, arith, get_or, replicate}
 use Rattle.std.specs.Prelude.{min, slice_get, slice_set, slice_index_or}
-use Rattle.std.proofs.lemmas.List.{length-replicate, length-map, length-set}
+use Rattle.std.proofs.lemmas.List.{length-map, length-set}
 use Rattle.std.proofs.lemmas.Option.{slice_get_within, slice_get-get_or}
 use Rattle.river_base.specs.declared.item.Item as item
 use Rattle.river_base.specs.Places.{list_at, each_grew}
-use Rattle.river_base.proofs.PlaceLemmas.{length-each_grew}
 use Rattle.river_kernels.specs.Kern.{Kern, kern_of}
 use Rattle.river_plan.specs.declared.op.Op.{Op}
 use Rattle.river_plan.specs.declared.plan.RawPlan.{RawPlan}
 use Rattle.river_plan.specs.Forms.{OpForm, PlanForm, plan_form, op_form, op_forms, all_decls, queue_names}
 use Rattle.river_plan.specs.Kinds.{kind_of}
-use Rattle.brooklet_model.specs.Fire.{fire, outs, tabs}
+use Rattle.brooklet_model.specs.Fire.{outs, tabs}
 use Rattle.brooklet_model.specs.Histories.{most_firings}
 use Rattle.brooklet_model.proofs.Ports.{counts}
 use Rattle.brooklet_model.proofs.Traces.{some_is, got_count, read_of}

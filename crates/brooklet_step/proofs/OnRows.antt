@@ -1,6 +1,6 @@
 -- Kernels that read rows, or packs of rows, and have no table, are kernels on rows; and what they write are rows, or packs of rows.
 use Rattle.std.proofs.Common.{◌≡◌, ℕ, zero, suc, ℤ, ◌+◌, ◌<◌, ◌≤◌, Bool, true, false, ◌&&◌, Some, List, [], ◌∷◌, ◌++◌, length, map, take, drop, refl, sym, ap, ◌∙◌, subst, arith, replicate, ⊎_elim}
-use Rattle.std.specs.Prelude.{if◌then◌else◌, All, slice_get, unwrap_or}
+use Rattle.std.specs.Prelude.{All, slice_get, unwrap_or}
 use Rattle.std.proofs.lemmas.Bool.{and_parts, true≢false}
 use Rattle.std.proofs.lemmas.List.Elements.{All-head, All-tail, All-cons, All-nil, All-append, All-replicate}
 use Rattle.river_base.specs.declared.kind.FlatType.{FlatType}

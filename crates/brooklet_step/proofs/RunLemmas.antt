@@ -20,7 +20,7 @@ use Rattle.river_plan.specs.Uses.{total, reads_it, writes_it, and_writes, ReadsB
 use Rattle.river_plan.specs.Valid.{IsPlan}
 use Rattle.river_plan.proofs.NameLemmas.{cases_name, count-append, more_or_zero}
 use Rattle.brooklet_model.specs.Fire.{fire}
-use Rattle.brooklet_model.specs.Histories.{joined, most_firings, firings}
+use Rattle.brooklet_model.specs.Histories.{most_firings, firings}
 use Rattle.brooklet_model.specs.Laws.{HasDefined}
 use Rattle.brooklet_model.specs.Machine.{Machine, Step, Run, IsComplete, start, at_name, times}
 use Rattle.brooklet_model.specs.Meaning.{meaning}

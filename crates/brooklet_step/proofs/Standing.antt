@@ -1,13 +1,9 @@
 -- States that stand for some: their shape.
-use Rattle.std.proofs.Common.{◌≡◌, ℕ, ℤ, List, [], ◌∷◌, ◌++◌, length, take, drop, sym, ap, ◌∙◌, subst, arith, length-drop}
-use Rattle.std.proofs.lemmas.List.{length-take}
+use Rattle.std.proofs.Common.{ℤ, List, [], ◌∷◌, length, sym, ap, ◌∙◌, subst}
 use Rattle.kern_rows.specs.Turns.{shares, ones}
 use Rattle.river_kernels.specs.Kern.{Kern, code, filter, duplicate, deal, collect, packed, unpack, window, select, project, cross, streamer, tally, fused}
 use Rattle.brooklet_model.specs.Firings.{Kept}
-use Rattle.brooklet_model.specs.Fire.{privates, kept_vars}
 use Rattle.brooklet_model.specs.Shapes.{AreSlots as AreKept, IsFiltering, IsDealing, IsJoining, IsNone, IsOne, HasSlots, HasShape}
-use Rattle.brooklet_model.proofs.Lists.{take_front, drop_front}
-use Rattle.brooklet_model.proofs.Shapes.{shape_length}
 use Rattle.brooklet_step.specs.declared.state.State.{State}
 use Rattle.brooklet_step.specs.Stands.{StandsForSlots, StandsFor}
 

@@ -1,5 +1,5 @@
 -- The first states of kernels.
-use Rattle.std.proofs.Common.{◌≡◌, ℕ, ℤ, ◌*◌, ◌≤◌, ◌<◌, Ok, Err, List, [], ◌∷◌, ◌++◌, length, take, drop, replicate, refl, sym, ap, ◌∙◌, subst, arith, IfOk, Global, Box}
+use Rattle.std.proofs.Common.{◌≡◌, ℕ, ℤ, Ok, Err, List, [], ◌∷◌, ◌++◌, length, refl, sym, ap, ◌∙◌, subst, IfOk}
 use Rattle.std.proofs.lemmas.List.{length-map, length-replicate}
 use Rattle.std.specs.declared.result.Result.{Result}
 use Rattle.river_base.specs.declared.memory.NoMemory.{NoMemory}
@@ -7,17 +7,16 @@ use Rattle.river_base.specs.Number.{count_of}
 use Rattle.river_base.specs.declared.kind.QueueType.{QueueType}
 use Rattle.river_base.specs.declared.kind.QueueType.TheVariants.{Flat as FlatOf}
 use Rattle.kern_rows.specs.declared.kernel.CodeKernel.{CodeKernel}
-use Rattle.kern_rows.specs.Forms.{CodeForm, FilterForm, code_form}
+use Rattle.kern_rows.specs.Forms.{FilterForm, code_form}
 use Rattle.kern_rows.specs.Needs.{CanFilter, HaveShares}
-use Rattle.kern_rows.specs.Turns.{Turns, shares, ones, turns_start}
-use Rattle.river_kernels.specs.declared.kernel.Kernel.{Kernel, fold-roll-Kernel}
+use Rattle.kern_rows.specs.Turns.{shares, ones, turns_start}
+use Rattle.river_kernels.specs.declared.kernel.Kernel.{fold-roll-Kernel}
 use Rattle.river_kernels.specs.declared.kernel.Kernel.TheVariants as kernel
 use Rattle.river_kernels.specs.declared.kernel.Kernel.TheOpen as layer
-use Rattle.river_kernels.specs.Kern.{Kern, kern_of, kern_at, code, filter, duplicate, deal, collect, packed, unpack, fused}
-use Rattle.brooklet_model.specs.Firings.{Kept, Buffered, Turn, Joining}
-use Rattle.brooklet_model.specs.Fire.{first_kept, first_slots, privates}
+use Rattle.river_kernels.specs.Kern.{Kern, kern_of, kern_at, code, filter, deal, collect, packed, unpack, fused}
+use Rattle.brooklet_model.specs.Fire.{first_kept, first_slots}
 use Rattle.brooklet_model.specs.Shapes.{IsFormed}
-use Rattle.brooklet_model.proofs.Ports.{shaped, formed_shaped}
+use Rattle.brooklet_model.proofs.Ports.{formed_shaped}
 use Rattle.brooklet_model.proofs.Shapes.{first_turn}
 use Rattle.brooklet_model.proofs.Typing.{between_is, first_holds}
 use Rattle.river_kernels.specs.Fits.{Fits}
@@ -25,7 +24,7 @@ use Rattle.brooklet_step.specs.declared.state.State.{State}
 use Rattle.brooklet_step.specs.declared.state.State.TheVariants as state
 use Rattle.brooklet_step.specs.Given.{FitState, IsLeaf}
 use Rattle.brooklet_step.specs.Initial.{IsFirst}
-use Rattle.brooklet_step.specs.Stands.{AreNone, AreSlots, StandsForSlots, StandsForFilter, StandsForTurn, StandsForJoiner, StandsFor}
+use Rattle.brooklet_step.specs.Stands.{StandsForSlots, StandsFor}
 use Rattle.brooklet_step.proofs.Formed.{can_filter}
 use Rattle.brooklet_step.proofs.GivenLemmas.{fit_of, leaf_from, parts_fit, parts_after}
 

@@ -1,9 +1,9 @@
 -- A firing of an operator, on what a machine keeps.
-use Rattle.std.proofs.Common.{◌≡◌, ◌≢◌, ℕ, zero, suc, ◌+◌, ◌<◌, ◌≤◌, Bool, false, Some, List, [], ◌∷◌, ◌++◌, length, length-append, take, drop, map, refl, sym, ap, ◌∙◌, subst, arith, nat_eq, ⊎_elim, get_or-set_same, get_or-set_other}
+use Rattle.std.proofs.Common.{◌≡◌, ℕ, zero, suc, ◌+◌, ◌<◌, ◌≤◌, Bool, false, Some, List, [], ◌∷◌, ◌++◌, length, length-append, take, drop, map, refl, sym, ap, ◌∙◌, subst, arith, nat_eq, ⊎_elim, get_or-set_same, get_or-set_other}
 use Rattle.std.specs.Prelude.{if◌then◌else◌, All, min, slice_get, slice_set, slice_index_or}
 use Rattle.std.proofs.lemmas.Bool.{cases_eq}
 use Rattle.std.proofs.lemmas.List.{append-nil, drop-append-le, length-take, length-map, length-set}
-use Rattle.std.proofs.lemmas.List.Elements.{All-head, All-tail, All-nil, All-append}
+use Rattle.std.proofs.lemmas.List.Elements.{All-head, All-tail, All-append}
 use Rattle.std.proofs.lemmas.Option.{slice_get_within}
 use Rattle.river_base.specs.declared.item.Item as item
 use Rattle.river_base.specs.declared.kind.QueueType.{QueueType}
@@ -12,14 +12,14 @@ use Rattle.river_base.proofs.HeldLemmas.{held-nil, held-append, length-held}
 use Rattle.river_base.specs.Name.{name_eq}
 use Rattle.river_base.specs.Places.{list_at, each_grew}
 use Rattle.river_base.proofs.PlaceLemmas.{length-each_grew, get_or-each_grew, each_grew-blanks}
-use Rattle.river_plan.specs.Forms.{Name, OpForm, PlanForm, all_decls, decl_names, table_names, queue_names}
-use Rattle.river_plan.specs.Kinds.{kind_of, var_kind}
+use Rattle.river_plan.specs.Forms.{Name, OpForm, PlanForm, decl_names, table_names, queue_names}
+use Rattle.river_plan.specs.Kinds.{var_kind}
 use Rattle.river_plan.specs.Names.{count, one_if}
 use Rattle.river_plan.specs.Uses.{total, reads_it, writes_it}
 use Rattle.river_plan.specs.Valid.{IsPlan}
 use Rattle.river_plan.proofs.NameLemmas.{cases_name}
 use Rattle.river_kernels.specs.Fits.{Fits}
-use Rattle.brooklet_model.specs.Fire.{fire, outs, tabs}
+use Rattle.brooklet_model.specs.Fire.{fire, outs}
 use Rattle.brooklet_model.specs.Histories.{joined, most_firings, Lists}
 use Rattle.brooklet_model.specs.Laws.{given_to}
 use Rattle.brooklet_model.specs.Machine.{Machine, Step, Run, start, fired, at_key, at_name, times}
@@ -34,7 +34,7 @@ use Rattle.brooklet_step.specs.declared.emit.Emit.{Emit}
 use Rattle.brooklet_step.specs.declared.machine.Parts.{Parts}
 use Rattle.brooklet_step.specs.declared.state.State.{State}
 use Rattle.brooklet_step.specs.ByPlace.{place, places, joined_at}
-use Rattle.brooklet_step.specs.Given.{held_by, held_at, IsHeldBy, IsHeldOf, AreHeldOf, AreTyped, FitState, StandsAfter, ran, TookHeld, Does, FiresAt, CanTake}
+use Rattle.brooklet_step.specs.Given.{held_by, held_at, IsHeldBy, IsHeldOf, AreTyped, FitState, StandsAfter, ran, TookHeld, Does, FiresAt, CanTake}
 use Rattle.brooklet_step.specs.Took.{IsBlank}
 use Rattle.brooklet_step.specs.Works.{queue_of, kinds_of, states_of, count_of, Stands, ReadsAt, Counts, GoesOn, After, Steps}
 use Rattle.brooklet_step.proofs.GivenLemmas.{typed_append, fired_typed}

@@ -1,5 +1,5 @@
 -- What the kept states stand for, when a kernel can fire, and what a firing does.
-use Rattle.std.specs.Prelude.{◌≡◌, ℕ, ℤ, List, [], ◌∷◌, All, length, take, drop}
+use Rattle.std.specs.Prelude.{◌≡◌, ℕ, ℤ, List, [], ◌∷◌, length}
 use Rattle.river_base.specs.declared.item.Item as item
 use Rattle.river_base.specs.declared.item.Item.TheVariants.{Flat, Pack}
 use Rattle.river_base.specs.declared.item.Flat as flat
@@ -16,7 +16,7 @@ use Rattle.river_kernels.specs.declared.types.VarKind.{VarKind}
 use Rattle.river_kernels.specs.Fits.{Fits}
 use Rattle.river_kernels.specs.Kern.{Kern, code, filter, duplicate, deal, collect, packed, unpack, window, select, project, cross, streamer, tally, fused}
 use Rattle.brooklet_model.specs.Firings.{Kept, Slots, Buffered, Turn, Joining, Fired}
-use Rattle.brooklet_model.specs.Fire.{privates, code_one}
+use Rattle.brooklet_model.specs.Fire.{code_one}
 use Rattle.brooklet_model.specs.Typed.{IsOf, Holds}
 use Rattle.brooklet_step.specs.declared.emit.Emit.{Emit}
 use Rattle.brooklet_step.specs.declared.state.State.{State}

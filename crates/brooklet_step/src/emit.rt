@@ -1,6 +1,6 @@
 // What firings give.
-ghost use Rattle.std.specs.Prelude.{◌≡◌, ◌+◌, ◌<◌, ◌^◌, [], ◌∷◌, length, replicate, slice_set, All, IfOk, OnOk};
-ghost use Rattle.river_base.specs.Places.{each_grew, none, list_at};
+ghost use Rattle.std.specs.Prelude.{◌≡◌, ◌+◌, ◌<◌, ◌≤◌, ◌^◌, [], ◌∷◌, length, replicate, slice_set, All, IfOk, OnOk};
+ghost use Rattle.river_base.specs.Places.{each_grew, upto, none, list_at};
 ghost use Rattle.kern_rows.specs.Runs.{pushed_to};
 ghost use Rattle.brooklet_model.specs.Firings.{gives, splice as splice_lem, beside};
 ghost use Rattle.brooklet_step.specs.Took.{Took, StayApart};
@@ -60,9 +60,7 @@ impl Emit {
         ensures adds { OnOk result (self.new.adds ≡ self.old.adds) }
     {
         let last = self.outs.len().saturating_sub(1);
-        for port in 0..last {
-            self.outs.push_at(port, item.copy(alloc)?)?;
-        }
+        copy_below(alloc, &mut self.outs, last, &item)?;
         if last < self.outs.len() {
             self.outs.push_at(last, item)?;
         }
@@ -111,6 +109,22 @@ impl Emit {
         join_rows(alloc, &mut self.adds, &mut first.adds, &mut second.adds)?;
         Ok(())
     }
+}
+
+// A copy of the item for each port below this one.
+fn copy_below(
+    alloc: Global,
+    outs: &mut ItemLists,
+    ports: usize,
+    item: &Item,
+) -> Result<(), NoMemory>
+    requires { ports ≤ length outs.old }
+    ensures { OnOk result (outs.new ≡ each_grew outs.old (upto ports (λ port. item.now ∷ []))) }
+{
+    for port in 0..ports {
+        outs.push_at(port, item.copy(alloc)?)?;
+    }
+    Ok(())
 }
 
 // The list at a place; nothing is left there.

@@ -1,4 +1,4 @@
-use Rattle.std.proofs.Common.{◌≡◌, ◌+◌, ◌<◌, length, sym, ap, ◌∙◌, arith, subst}
+use Rattle.std.proofs.Common.{◌≡◌, length, sym, ap, ◌∙◌, arith, subst}
 use Rattle.river_base.specs.Places.{list_at}
 use Rattle.river_base.proofs.PlaceLemmas.{each_grew-upto_none, upto_step, upto_length, each_grew-upto_all}
 use Rattle.brooklet_model.specs.Firings.{splice}

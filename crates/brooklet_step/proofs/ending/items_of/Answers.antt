@@ -1,5 +1,4 @@
 use Rattle.std.proofs.Common.{length, ◌++◌, ◌∷◌, [], ap, sym, ◌∙◌, append_assoc, arith}
-use Rattle.std.proofs.lemmas.List.{append-nil}
 use Rattle.brooklet_step.proofs.ending.items_of.Goals as goal
 
 pub loop-item-smaller : goal.loop-item-smaller

@@ -1,17 +1,16 @@
 use Rattle.std.specs.Result.{OnOk}
-use Rattle.std.proofs.Common.{◌≡◌, ℕ, ℤ, ◌<◌, List, [], length, refl, sym, ap, ◌∙◌, subst, arith}
+use Rattle.std.proofs.Common.{◌≡◌, ℤ, List, [], length, refl, sym, ap, ◌∙◌, subst, arith}
 use Rattle.std.proofs.lemmas.List.{length-set}
 use Rattle.river_base.specs.Places.{each_grew, list_at}
 use Rattle.river_kernels.specs.Kern.{kern_of, fused, packed}
 use Rattle.river_kernels.proofs.KernLemmas.{kern_of-fused}
 use Rattle.brooklet_model.specs.Firings.{beside}
-use Rattle.brooklet_step.specs.Took.{HasRoom, IsBlank}
-use Rattle.brooklet_step.specs.Given.{CanTake, CanTakeAll, FiresAt, FiresEach}
+use Rattle.brooklet_step.specs.Given.{CanTake, FiresAt}
 use Rattle.brooklet_step.proofs.Fires.{kern_of-packed}
 use Rattle.brooklet_step.proofs.Size.{size}
-use Rattle.brooklet_step.proofs.Fused.{Parts, Rooms, spliced_taken}
+use Rattle.brooklet_step.proofs.Fused.{Parts, spliced_taken}
 use Rattle.brooklet_step.proofs.GivenFires.{leaf_applies, leaf_does}
-use Rattle.brooklet_step.proofs.GivenCode.{so_far_start, so_far_takes, so_far_step, so_far_end, packed_taken, packed_port, packed_whole, count_fits, first_taken, second_taken, at_fits, rooms, parts_fire}
+use Rattle.brooklet_step.proofs.GivenCode.{so_far_start, so_far_takes, so_far_step, packed_taken, packed_port, packed_whole, count_fits, first_taken, second_taken, at_fits, rooms, parts_fire}
 use Rattle.brooklet_step.proofs.firing.+fire_on.Goals as goal
 
 pub fire_each-loop-item-init : goal.fire_each-loop-item-init

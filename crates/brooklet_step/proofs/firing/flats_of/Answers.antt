@@ -1,6 +1,4 @@
-use Rattle.std.proofs.Common.{◌++◌, ◌∷◌, [], length, sym, ap, ◌∙◌, arith}
-use Rattle.std.proofs.lemmas.List.{append-nil}
-use Rattle.river_base.specs.Held.{flats}
+use Rattle.std.proofs.Common.{length, ap, arith}
 use Rattle.brooklet_step.proofs.Fires.{flats_next}
 use Rattle.brooklet_step.proofs.firing.flats_of.Goals as goal
 

@@ -1,4 +1,4 @@
-use Rattle.std.proofs.Common.{length, sym, ap, ◌∙◌, ◌++◌, arith, ◌<◌}
+use Rattle.std.proofs.Common.{sym, ap, ◌∙◌, ◌++◌, arith}
 use Rattle.std.proofs.lemmas.List.{append-nil, take_all}
 use Rattle.brooklet_step.proofs.Moving.{untouched, untouched_next, moved_next}
 use Rattle.brooklet_step.proofs.initial.add_lists.Goals as goal

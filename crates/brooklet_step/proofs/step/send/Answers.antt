@@ -1,4 +1,4 @@
-use Rattle.std.proofs.Common.{ap, ◌∙◌, ◌<◌, ◌≤◌, arith, take, length, []}
+use Rattle.std.proofs.Common.{ap, ◌∙◌, arith, take, length}
 use Rattle.std.proofs.lemmas.List.{take_all}
 use Rattle.river_base.specs.Places.{each_grew, list_at}
 use Rattle.river_base.proofs.PlaceLemmas.{length-each_grew}
