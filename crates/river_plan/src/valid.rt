@@ -48,7 +48,7 @@ impl Plan {
     }
 
     // The plan of lists that are valid.
-    pub(crate) fn of_valid(raw: RawPlan) -> Plan
+    pub fn of_valid(raw: RawPlan) -> Plan
         requires { IsPlan (plan_form raw) }
         ensures { result ≡ plan_form raw }
     {

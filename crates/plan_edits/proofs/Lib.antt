@@ -1,0 +1,13 @@
+pub mod Edit
+pub mod KindLoops
+pub mod Lookups
+pub mod MeaningSame
+pub mod NameLoops
+pub mod OpLoops
+pub mod Surgery
+pub mod Swap
+pub mod Tables
+pub mod TypedAll
+pub mod Types
+pub mod Typing
+pub mod WideAdds

@@ -1,0 +1,548 @@
+-- A kernel that fits types gives items of them, and keeps such items.
+use Rattle.std.proofs.Common.{◌≡◌, ℕ, zero, suc, ℤ, pos, ◌<◌, Bool, true, false, ◌&&◌, Option, Some, None, List, [], ◌∷◌, ◌++◌, length, map, take, drop, refl, sym, ap, ◌∙◌, subst, arith, ⊎_elim, nat_lt, replicate, ◌+◌, length-append}
+use Rattle.std.specs.Prelude.{if◌then◌else◌, nat_le, All, slice_get, flat_map, filter as keep, fold, int_lt}
+use Rattle.std.specs.List.{list_all}
+use Rattle.std.proofs.lemmas.Bool.{cases_lt, cases_eq, and_parts, true≢false}
+use Rattle.std.proofs.lemmas.List.{length-map}
+use Rattle.std.proofs.lemmas.List.Elements.{All-head, All-tail, All-cons, All-nil, All-append, All-map, All-filter}
+use Rattle.river_base.specs.declared.item.Item as item
+use Rattle.river_base.specs.declared.item.Item.TheVariants.{Flat, Pack}
+use Rattle.river_base.specs.declared.item.Flat.TheVariants.{One, Batch as Batched}
+use Rattle.river_base.specs.declared.kind.FlatType.{FlatType}
+use Rattle.river_base.specs.declared.kind.QueueType.{QueueType}
+use Rattle.river_base.specs.declared.kind.QueueType.TheVariants.{Flat as FlatOf, Pack as PackOf}
+use Rattle.river_base.specs.Drain.{drain, pass_on}
+use Rattle.river_base.specs.Held.{HasType, HasFlatType, items_of, flats, HaveWidth, batches}
+use Rattle.river_base.specs.Number.{count_of}
+use Rattle.river_base.specs.Places.{only, none, list_at, append_at}
+use Rattle.work_code.specs.Steps.{Step, Steps, Set, Push, If, Done, Then, Body}
+use Rattle.work_code.specs.Ran.{Ran, ran, ran_once}
+use Rattle.work_code.specs.Value.{val, is_true}
+use Rattle.kern_rows.specs.Forms.{CodeForm, FilterForm}
+use Rattle.kern_rows.specs.Runs.{slots_from, run_kept, pushed_to, Filtering, filter_turn, filter_ran, buffer_of}
+use Rattle.kern_rows.specs.Turns.{Turns, shares, ones, front_in, rest_in, front_at, rest_at, front_of, passed, put, waiting, itself}
+use Rattle.river_kernels.specs.declared.types.VarKind.{VarKind}
+use Rattle.river_kernels.specs.Formed.{is_width, is_term, is_step, is_steps, has_port, is_code, has_rates, is_number, pushes}
+use Rattle.river_kernels.specs.Fits.{Fits, rows, ports, are_widths, spliced, relation, stream}
+use Rattle.river_kernels.specs.Types.{types_of}
+use Rattle.river_kernels.specs.Kern.{Kern, code, filter, duplicate, deal, collect, packed, unpack, window, select, project, cross, streamer, tally, fused}
+use Rattle.river_kernels.proofs.FitsLaw.{fits_types}
+use Rattle.brooklet_model.specs.Firings.{Kept, Slots, Buffered, Turn, Joining, Received, Crossing, Fired, feed, splice}
+use Rattle.brooklet_model.specs.Fire.{fire, outs, privates, first_kept, code_one, filter_firing, deal_one, join_one, values_of, value_of, received_one, cross_one}
+use Rattle.brooklet_model.specs.Shapes.{IsOne, HasSlots, IsDealing, IsJoining, HasShape, IsShaped, IsReceived, IsCrossing}
+use Rattle.brooklet_model.specs.Typed.{IsTyped, IsOf, AreOf, AreWaiting, one_type, between}
+use Rattle.plan_edits.specs.Kept.{Keeps, AreReceived, AreCrossing}
+use Rattle.std.proofs.lemmas.List.Kept.{IsSortedBy-filter}
+use Rattle.std.proofs.lemmas.List.Sorted.{All-permutation}
+use Rattle.river_base.specs.Row.{row_eq, row_lt, in_order as row_order}
+use Rattle.river_base.specs.declared.item.Batch.{Batch}
+use Rattle.river_base.specs.declared.kind.FlatType.TheVariants.{Rows, Stream, Relation}
+use Rattle.river_base.proofs.Rows.{rows_ranked, in_order_ascends, in_order_bag}
+use Rattle.work_code.specs.Term.{Term}
+use Rattle.kern_bags.specs.Contents.{take_out, without, selected, projected, product, greatest, rows_where, put_batch, by_instant, in_window, content_of}
+use Rattle.kern_bags.specs.Steps.{last_rows, window_one, select_one, project_one, streamed, streamer_one, Pairing, joined_batch, front_pair, front_of_pair, without_first, rest_of_pair, put_pair}
+use Rattle.kern_bags.specs.declared.kernel.Window.{Window}
+use Rattle.kern_bags.specs.declared.kernel.Window.TheVariants.{Now, Range, Unbounded, Latest}
+use Rattle.kern_bags.specs.declared.kernel.Streamer.{Streamer}
+use Rattle.kern_bags.specs.declared.kernel.Streamer.TheVariants.{Istream, Dstream, Rstream}
+use Rattle.river_plan.proofs.NameLemmas.{cases_bool}
+use Rattle.brooklet_model.proofs.Lists.{if_true, if_false, if_lt, if_ge, if_eq, if_ne, take_front, drop_front}
+use Rattle.brooklet_model.proofs.Ports.{counts as numbers, got_below, shaped}
+use Rattle.brooklet_model.proofs.Shapes.{fire_shape, first_shape, shape_length}
+use Rattle.brooklet_model.proofs.Spliced.{spliced_of}
+
+-- ITEMS AT PORTS
+
+only_of : (P : ℕ → item.Item → Type 0) (port : ℕ) (xs : List item.Item) → All (P port) xs → (q : ℕ) → All (P q) (only port xs q)
+only_of P zero xs h zero = h
+only_of P zero xs h (suc q) = All-nil (P (suc q))
+only_of P (suc p) xs h zero = All-nil (P 0)
+only_of P (suc p) xs h (suc q) = only_of (λ i. P (suc i)) p xs h q
+
+none_of : (types : List QueueType) → AreOf types none
+none_of types q = All-nil (IsOf types q)
+
+one_of : (t : QueueType) (os : List QueueType) (xs : List item.Item) → os ≡ t ∷ [] → All (HasType t) xs → AreOf os (only 0 xs)
+one_of t os xs e h = only_of (IsOf os) 0 xs (subst (λ (l : List QueueType). All (IsOf l 0) xs) (sym e) h)
+
+at_one : (t : QueueType) (p : ℕ) (x : item.Item) → IsOf (t ∷ []) p x → HasType t x
+at_one t zero x h = h
+at_one t (suc p) x h = absurd h
+
+of_one : (t : QueueType) (is : List QueueType) (p : ℕ) (x : item.Item) → is ≡ t ∷ [] → IsOf is p x → HasType t x
+of_one t is p x e h = at_one t p x (subst (λ (l : List QueueType). IsOf l p x) e h)
+
+at_many : (n : ℕ) (t : QueueType) (p : ℕ) (x : item.Item) → IsOf (replicate n t) p x → HasType t x
+at_many zero t p x h = absurd h
+at_many (suc n) t zero x h = h
+at_many (suc n) t (suc p) x h = at_many n t p x h
+
+of_many : (n : ℕ) (t : QueueType) (is : List QueueType) (p : ℕ) (x : item.Item) → is ≡ replicate n t → IsOf is p x → HasType t x
+of_many n t is p x e h = at_many n t p x (subst (λ (l : List QueueType). IsOf l p x) e h)
+
+to_many : (n : ℕ) (t : QueueType) (p : ℕ) (x : item.Item) → p < n → HasType t x → IsOf (replicate n t) p x
+to_many zero t p x lt h = absurd (omega (arith, lt))
+to_many (suc n) t zero x lt h = h
+to_many (suc n) t (suc p) x lt h = to_many n t p x (omega (arith, lt)) h
+
+one_item : (P : item.Item → Type 0) (x : item.Item) → P x → All P (x ∷ [])
+one_item P x h = All-cons P x [] h (All-nil P)
+
+copies_of : (P : item.Item → Type 0) (x : item.Item) (q n : ℕ) → (q < n → P x) → All P (if nat_lt q n then x ∷ [] else [])
+copies_of P x q n h = ⊎_elim
+    (λ lt. subst (All P) (sym (if_lt q n (x ∷ []) [] lt)) (one_item P x (h lt)))
+    (λ ge. subst (All P) (sym (if_ge q n (x ∷ []) [] ge)) (All-nil P))
+    (cases_lt q n)
+
+-- BODIES
+
+abbrev IsPushed : List ℤ → ℕ × List ℤ → Type 0
+IsPushed outs e = has_port outs e.0 (length e.1) ≡ true
+
+either_well : (outs : List ℤ) (b : Bool) (r s : Ran) → All (IsPushed outs) r.pushes → All (IsPushed outs) s.pushes → All (IsPushed outs) (if b then r else s).pushes
+either_well outs true r s h k = h
+either_well outs false r s h k = k
+
+mutual
+  once_well : (inputs slots : ℕ) (outs : List ℤ) (s : Step) (input kept : List ℤ) → is_step inputs slots outs s ≡ true → All (IsPushed outs) (ran_once s input kept).pushes
+  once_well inputs slots outs (Set slot t) input kept h = All-nil (IsPushed outs)
+  once_well inputs slots outs (Push port ts) input kept h =
+      let p = and_parts (has_port outs port (length ts)) (list_all (is_term inputs slots) ts) h in
+      All-cons (IsPushed outs) (port, map (λ t. val t input kept) ts) []
+      (ap (has_port outs port) (length-map ts (λ t. val t input kept)) ∙ p.0)
+      (All-nil (IsPushed outs))
+  once_well inputs slots outs (If cond when otherwise) input kept h =
+      let p = and_parts (is_term inputs slots cond) (is_steps inputs slots outs when && is_steps inputs slots outs otherwise) h in
+      let q = and_parts (is_steps inputs slots outs when) (is_steps inputs slots outs otherwise) p.1 in
+      either_well outs (is_true (val cond input kept)) (ran when input kept) (ran otherwise input kept) (ran_well inputs slots outs when input kept q.0) (ran_well inputs slots outs otherwise input kept q.1)
+
+  ran_well : (inputs slots : ℕ) (outs : List ℤ) (ss : Steps) (input kept : List ℤ) → is_steps inputs slots outs ss ≡ true → All (IsPushed outs) (ran ss input kept).pushes
+  ran_well inputs slots outs Done input kept h = All-nil (IsPushed outs)
+  ran_well inputs slots outs (Then s ss) input kept h =
+      let p = and_parts (is_step inputs slots outs s) (is_steps inputs slots outs ss) h in
+      let first = ran_once s input kept in
+      All-append (IsPushed outs) first.pushes (ran ss input first.slots).pushes (once_well inputs slots outs s input kept p.0) (ran_well inputs slots outs ss input first.slots p.1)
+
+port_of : (outs : List ℤ) (port : ℕ) (row : List ℤ) → has_port outs port (length row) ≡ true → IsOf (ports outs) port (Flat (One row))
+port_of [] port row h = absurd (true≢false (sym h))
+port_of (w ∷ ws) zero row h = grind (arith, h)
+port_of (w ∷ ws) (suc p) row h = port_of ws p row h
+
+pushes_of : (outs : List ℤ) (ps : List (ℕ × List ℤ)) → All (IsPushed outs) ps → AreOf (ports outs) (λ q. pushed_to q ps)
+pushes_of outs [] h q = All-nil (IsOf (ports outs) q)
+pushes_of outs (e ∷ es) h q =
+    let P = IsOf (ports outs) q in
+    let rest = pushes_of outs es (All-tail (IsPushed outs) e es h) q in
+    ⊎_elim
+    (λ eq. subst (All P) (sym (if_eq e.0 q (Flat (One e.1) ∷ pushed_to q es) (pushed_to q es) eq))
+    (All-cons P (Flat (One e.1)) (pushed_to q es) (subst (λ j. IsOf (ports outs) j (Flat (One e.1))) eq (port_of outs e.0 e.1 (All-head (IsPushed outs) e es h))) rest))
+    (λ ne. subst (All P) (sym (if_ne e.0 q (Flat (One e.1) ∷ pushed_to q es) (pushed_to q es) ne)) rest)
+    (cases_eq e.0 q)
+
+kept_of : (b : Body) (inputs : ℕ) (outs : List ℤ) (kept input : List ℤ) → is_steps inputs b.slots outs b.steps ≡ true → AreOf (ports outs) (λ q. pushed_to q (run_kept b kept input).pushes)
+kept_of b inputs outs kept input h = pushes_of outs (run_kept b kept input).pushes (ran_well inputs b.slots outs b.steps input (slots_from b.slots kept) h)
+
+code_of : (k : CodeForm) (x : item.Item) (ss : List Kept) → is_steps k.body.inputs k.body.slots k.outs k.body.steps ≡ true → HasSlots k.starts ss → AreOf (ports k.outs) (code_one k x ss).outs
+code_of k x [] f h = kept_of k.body k.body.inputs k.outs [] (values_of x) f
+code_of k x (Slots kept ∷ ss) f h = kept_of k.body k.body.inputs k.outs kept (values_of x) f
+code_of k x (Buffered s ∷ ss) f h = only_of (IsOf (ports k.outs)) 0 [] (All-nil (IsOf (ports k.outs) 0))
+code_of k x (Turn p q ∷ ss) f h = only_of (IsOf (ports k.outs)) 0 [] (All-nil (IsOf (ports k.outs) 0))
+code_of k x (Joining s ∷ ss) f h = only_of (IsOf (ports k.outs)) 0 [] (All-nil (IsOf (ports k.outs) 0))
+code_of k x (Received xs ∷ ss) f h = only_of (IsOf (ports k.outs)) 0 [] (All-nil (IsOf (ports k.outs) 0))
+code_of k x (Crossing s ∷ ss) f h = only_of (IsOf (ports k.outs)) 0 [] (All-nil (IsOf (ports k.outs) 0))
+
+nothing_of : (types : List QueueType) → AreOf types (only 0 [])
+nothing_of types = only_of (IsOf types) 0 [] (All-nil (IsOf types 0))
+
+turn_of : (f : FilterForm) (s : Filtering) → is_steps f.peek f.body.slots (pos 1 ∷ []) f.body.steps ≡ true → AreOf (rows 1 ∷ []) (λ q. pushed_to q (filter_turn f s).pushes)
+turn_of f s h = arms (nat_le f.peek (length (buffer_of f s)))
+  where
+    arms : (b : Bool) → AreOf (rows 1 ∷ []) (λ q. pushed_to q (if b then filter_ran s (run_kept f.body s.kept (take f.peek (buffer_of f s))) else record { pushes = []; after = s }).pushes)
+    arms true = kept_of f.body f.peek (pos 1 ∷ []) s.kept (take f.peek (buffer_of f s)) h
+    arms false = none_of (rows 1 ∷ [])
+
+filter_of : (f : FilterForm) (x : item.Item) (ss : List Kept) → is_steps f.peek f.body.slots (pos 1 ∷ []) f.body.steps ≡ true → AreOf (rows 1 ∷ []) (filter_firing f x ss).outs
+filter_of f x [] h = nothing_of (rows 1 ∷ [])
+filter_of f x (Slots zs ∷ ss) h = nothing_of (rows 1 ∷ [])
+filter_of f x (Buffered s ∷ ss) h = turn_of f (record { seen = s.seen ++ value_of x ∷ []; fired = s.fired; kept = s.kept }) h
+filter_of f x (Turn p q ∷ ss) h = nothing_of (rows 1 ∷ [])
+filter_of f x (Joining s ∷ ss) h = nothing_of (rows 1 ∷ [])
+filter_of f x (Received xs ∷ ss) h = nothing_of (rows 1 ∷ [])
+filter_of f x (Crossing s ∷ ss) h = nothing_of (rows 1 ∷ [])
+
+-- SPLITTERS AND JOINERS
+
+deal_of : (ws : List ℕ) (t : QueueType) (x : item.Item) (ss : List Kept) → HasType t x → IsOne (IsDealing ws) ss → AreOf (replicate (length ws) t) (deal_one ws x ss).outs
+deal_of ws t x [] i h = absurd h
+deal_of ws t x (Slots zs ∷ []) i h = absurd h
+deal_of ws t x (Buffered s ∷ []) i h = absurd h
+deal_of ws t x (Turn port had ∷ []) i h = only_of (IsOf (replicate (length ws) t)) port (x ∷ []) (one_item (IsOf (replicate (length ws) t) port) x (to_many (length ws) t port x h.0 i))
+deal_of ws t x (Joining s ∷ []) i h = absurd h
+deal_of ws t x (Received xs ∷ []) i h = absurd h
+deal_of ws t x (Crossing s ∷ []) i h = absurd h
+deal_of ws t x (s ∷ u ∷ us) i h = absurd h
+
+-- at each place what this says
+abbrev EachPlace : (ℕ → item.Item → Type 0) → List (List item.Item) → Type 0
+EachPlace P ls = (q : ℕ) → All (P q) (list_at ls q)
+
+rest_all : (P : item.Item → Type 0) (l : List item.Item) → All P l → All P (rest_in l)
+rest_all P [] h = h
+rest_all P (x ∷ xs) h = All-tail P x xs h
+
+rest_each : (P : ℕ → item.Item → Type 0) (ls : List (List item.Item)) (p : ℕ) → EachPlace P ls → EachPlace P (rest_at ls p)
+rest_each P [] p h q = h q
+rest_each P (l ∷ ls) zero h zero = rest_all (P 0) l (h 0)
+rest_each P (l ∷ ls) zero h (suc q) = h (suc q)
+rest_each P (l ∷ ls) (suc p) h zero = h 0
+rest_each P (l ∷ ls) (suc p) h (suc q) = rest_each (λ i. P (suc i)) ls p (λ i. h (suc i)) q
+
+put_each : (P : ℕ → item.Item → Type 0) (ls : List (List item.Item)) (p : ℕ) (x : item.Item) → EachPlace P ls → P p x → EachPlace P (append_at ls p (x ∷ []))
+put_each P [] p x h k q = h q
+put_each P (l ∷ ls) zero x h k zero = All-append (P 0) l (x ∷ []) (h 0) (one_item (P 0) x k)
+put_each P (l ∷ ls) zero x h k (suc q) = h (suc q)
+put_each P (l ∷ ls) (suc p) x h k zero = h 0
+put_each P (l ∷ ls) (suc p) x h k (suc q) = put_each (λ i. P (suc i)) ls p x (λ i. h (suc i)) k q
+
+front_in_all : (P Q : item.Item → Type 0) (give : item.Item → List item.Item) → ((x : item.Item) → P x → All Q (give x)) → (l o : List item.Item) → All P l → front_in give l ≡ Some o → All Q o
+front_in_all P Q give f [] o h e = absurd (cc e)
+front_in_all P Q give f (x ∷ xs) o h e = let g : give x ≡ o = cc in subst (All Q) g (f x (All-head P x xs h))
+
+front_all : (P : ℕ → item.Item → Type 0) (Q : item.Item → Type 0) (give : item.Item → List item.Item) → ((p : ℕ) (x : item.Item) → P p x → All Q (give x)) → (ls : List (List item.Item)) (p : ℕ) (o : List item.Item) → EachPlace P ls → front_at give ls p ≡ Some o → All Q o
+front_all P Q give f [] p o h e = absurd (cc e)
+front_all P Q give f (l ∷ ls) zero o h e = front_in_all (P 0) Q give (f 0) l o (h 0) e
+front_all P Q give f (l ∷ ls) (suc p) o h e = front_all (λ i. P (suc i)) Q give (λ i. f (suc i)) ls p o (λ i. h (suc i)) e
+
+drain_all : (P : ℕ → item.Item → Type 0) (Q : item.Item → Type 0) (give : item.Item → List item.Item) (ws : List ℕ) → ((p : ℕ) (x : item.Item) → P p x → All Q (give x)) → (n : ℕ) (s : Turns) → EachPlace P s.lists
+    → All Q (drain (front_of give) (passed ws) n s).0 × EachPlace P (drain (front_of give) (passed ws) n s).1.lists
+drain_all P Q give ws f zero s h = (All-nil Q, h)
+drain_all P Q give ws f (suc n) s h = go (front_of give s) refl (drain_all P Q give ws f n (passed ws s) (rest_each P s.lists s.port h))
+  where
+    go : (o : Option (List item.Item)) → front_of give s ≡ o → All Q (drain (front_of give) (passed ws) n (passed ws s)).0 × EachPlace P (drain (front_of give) (passed ws) n (passed ws s)).1.lists
+        → All Q (pass_on (passed ws) s (drain (front_of give) (passed ws) n) o).0 × EachPlace P (pass_on (passed ws) s (drain (front_of give) (passed ws) n) o).1.lists
+    go None e r = (All-nil Q, h)
+    go (Some o) e r = (All-append Q o _ (front_all P Q give f s.lists s.port o h e) r.0, r.1)
+
+join_of : (give : item.Item → List item.Item) (ws : List ℕ) (is os : List QueueType) (t : QueueType) (p : ℕ) (x : item.Item) (ss : List Kept)
+    → ((q : ℕ) (y : item.Item) → IsOf is q y → All (HasType t) (give y)) → os ≡ t ∷ [] → IsOf is p x → IsOne (IsJoining ws) ss → AreWaiting is ss
+    → AreOf os (join_one give ws p x ss).outs × AreWaiting is (join_one give ws p x ss).states
+join_of give ws is os t p x [] f e i h a = absurd h
+join_of give ws is os t p x (Slots zs ∷ []) f e i h a = absurd h
+join_of give ws is os t p x (Buffered s ∷ []) f e i h a = absurd h
+join_of give ws is os t p x (Turn port had ∷ []) f e i h a = absurd h
+join_of give ws is os t p x (Joining s ∷ []) f e i h a =
+    let d = drain_all (IsOf is) (HasType t) give ws f (waiting (put p x s).lists) (put p x s) (put_each (IsOf is) s.lists p x a i) in
+    (one_of t os (drain (front_of give) (passed ws) (waiting (put p x s).lists) (put p x s)).0 e d.0, d.1)
+join_of give ws is os t p x (Received xs ∷ []) f e i h a = absurd h
+join_of give ws is os t p x (Crossing s ∷ []) f e i h a = absurd h
+join_of give ws is os t p x (s ∷ u ∷ us) f e i h a = absurd h
+
+-- PACKS
+
+flats_of : (t : FlatType) (xs : List item.Item) → All (HasType (FlatOf t)) xs → All (HasFlatType t) (flats xs)
+flats_of t [] h = All-nil (HasFlatType t)
+flats_of t (Flat f ∷ xs) h = All-cons (HasFlatType t) f (flats xs) (All-head (HasType (FlatOf t)) (Flat f) xs h) (flats_of t xs (All-tail (HasType (FlatOf t)) (Flat f) xs h))
+flats_of t (Pack fs ∷ xs) h = flats_of t xs (All-tail (HasType (FlatOf t)) (Pack fs) xs h)
+
+opened_of : (t : FlatType) (x : item.Item) → HasType (PackOf t) x → All (HasType (FlatOf t)) (items_of x)
+opened_of t (Flat f) h = absurd h
+opened_of t (Pack fs) h = All-map (HasType (FlatOf t)) (λ f. Flat f) fs h
+
+-- TWO KERNELS
+
+feed_of : (P : List Kept → Type 0) (m : QueueType) (bs : List QueueType) (f : item.Item → List Kept → Fired) → ((x : item.Item) (ss : List Kept) → HasType m x → P ss → AreOf bs (f x ss).outs × P (f x ss).states)
+    → (xs : List item.Item) (ss : List Kept) → All (HasType m) xs → P ss → AreOf bs (feed f xs ss).outs × P (feed f xs ss).states
+feed_of P m bs f step [] ss a h = ((λ j. All-nil (IsOf bs j)), h)
+feed_of P m bs f step (x ∷ xs) ss a h =
+    let one = step x ss (All-head (HasType m) x xs a) h in
+    let rest = feed_of P m bs f step xs (f x ss).states (All-tail (HasType m) x xs a) one.1 in
+    ((λ j. All-append (IsOf bs j) ((f x ss).outs j) ((feed f xs (f x ss).states).outs j) (one.0 j) (rest.0 j)), rest.1)
+
+-- the port between two kernels has the type that it is said to have
+pub between_is : (a : Kern) (is ms : List QueueType) (m : QueueType) (us : List VarKind) (at : ℕ) → Fits a is ms us → slice_get ms at ≡ Some m → between at (types_of a is) ≡ m ∷ []
+between_is a is ms m us at f g = ap (between at) (fits_types a is ms us f) ∙ ap one_type g
+
+-- BAGS
+
+widths_at : (n : ℕ) (q : ℤ → Bool) (bs : List Batch) → All (λ b. HaveWidth n b.rows) bs → HaveWidth n (rows_where q bs)
+widths_at n q [] h = All-nil (λ row. length row ≡ n)
+widths_at n q (b ∷ bs) h =
+    let W : List ℤ → Type 0 = λ row. length row ≡ n in
+    let B : Batch → Type 0 = λ c. HaveWidth n c.rows in
+    let rest = widths_at n q bs (All-tail B b bs h) in
+    ⊎_elim
+    (λ e. subst (λ l. All W (flat_map (λ c. c.rows) l)) (sym (if_true (q b.at) (b ∷ keep (λ c. q c.at) bs) (keep (λ c. q c.at) bs) e)) (All-append W b.rows (rows_where q bs) (All-head B b bs h) rest))
+    (λ e. subst (λ l. All W (flat_map (λ c. c.rows) l)) (sym (if_false (q b.at) (b ∷ keep (λ c. q c.at) bs) (keep (λ c. q c.at) bs) e)) rest)
+    (cases_bool (q b.at))
+
+all_drop : {A : Type 0} (P : A → Type 0) (n : ℕ) (xs : List A) → All P xs → All P (drop n xs)
+all_drop P zero xs h = h
+all_drop P (suc n) [] h = h
+all_drop P (suc n) (x ∷ xs) h = all_drop P n xs (All-tail P x xs h)
+
+put_all : (P : Batch → Type 0) (b : Batch) (bs : List Batch) → P b → All P bs → All P (put_batch b bs)
+put_all P b [] p h = All-cons P b [] p (All-nil P)
+put_all P b (c ∷ cs) p h = ⊎_elim
+    (λ e. subst (All P) (sym (if_true (int_lt b.at c.at) (b ∷ (c ∷ cs)) (c ∷ put_batch b cs) e)) (All-cons P b (c ∷ cs) p h))
+    (λ e. subst (All P) (sym (if_false (int_lt b.at c.at) (b ∷ (c ∷ cs)) (c ∷ put_batch b cs) e)) (All-cons P c (put_batch b cs) (All-head P c cs h) (put_all P b cs p (All-tail P c cs h))))
+    (cases_bool (int_lt b.at c.at))
+
+by_instant_all : (P : Batch → Type 0) (done bs : List Batch) → All P done → All P bs → All P (fold (λ d b. put_batch b d) done bs)
+by_instant_all P done [] d h = d
+by_instant_all P done (b ∷ bs) d h = by_instant_all P (put_batch b done) bs (put_all P b done (All-head P b bs h) d) (All-tail P b bs h)
+
+window_widths : (n : ℕ) (w : Window) (u : ℤ) (bs : List Batch) → All (λ b. HaveWidth n b.rows) bs → HaveWidth n (in_window w u bs)
+window_widths n Now u bs h = widths_at n _ bs h
+window_widths n (Range span) u bs h = widths_at n _ bs h
+window_widths n Unbounded u bs h = widths_at n _ bs h
+window_widths n (Latest k) u bs h = all_drop (λ row. length row ≡ n) _ _ (widths_at n _ (by_instant bs) (by_instant_all (λ b. HaveWidth n b.rows) [] bs (All-nil (λ b. HaveWidth n b.rows)) h))
+
+-- rows in order
+ordered : (n : ℕ) (rs : List (List ℤ)) → HaveWidth n rs → HasFlatType (Relation n) (Batched (record { at = pos 0; rows = row_order rs }))
+ordered n rs h = (All-permutation (λ row. length row ≡ n) rs (row_order rs) (in_order_bag rs) h, in_order_ascends rs)
+
+batch_widths : (t : FlatType) (n : ℕ) → ((b : Batch) → HasFlatType t (Batched b) → HaveWidth n b.rows) → (xs : List item.Item) → All (HasType (FlatOf t)) xs → All (λ b. HaveWidth n b.rows) (batches xs)
+batch_widths t n f [] h = All-nil (λ b. HaveWidth n b.rows)
+batch_widths t n f (Flat (Batched b) ∷ xs) h = All-cons (λ b. HaveWidth n b.rows) b (batches xs) (f b (All-head (HasType (FlatOf t)) (Flat (Batched b)) xs h)) (batch_widths t n f xs (All-tail (HasType (FlatOf t)) (Flat (Batched b)) xs h))
+batch_widths t n f (Flat (One row) ∷ xs) h = batch_widths t n f xs (All-tail (HasType (FlatOf t)) (Flat (One row)) xs h)
+batch_widths t n f (Pack fs ∷ xs) h = batch_widths t n f xs (All-tail (HasType (FlatOf t)) (Pack fs) xs h)
+
+window_of : (w : Window) (n : ℕ) (past : List item.Item) (x : item.Item) → All (HasType (stream n)) past → HasType (stream n) x → All (HasType (relation n)) (window_one w past x)
+window_of w n past (Flat (Batched b)) a i =
+    let all = All-append (HasType (stream n)) past (Flat (Batched b) ∷ []) a (one_item (HasType (stream n)) (Flat (Batched b)) i) in
+    let bs = batches (past ++ Flat (Batched b) ∷ []) in
+    one_item (HasType (relation n)) (Flat (Batched (record { at = b.at; rows = content_of w bs })))
+    (ordered n (in_window w (greatest bs) bs) (window_widths n w (greatest bs) bs (batch_widths (Stream n) n (λ c k. k) (past ++ Flat (Batched b) ∷ []) all)))
+window_of w n past (Flat (One row)) a i = absurd i
+window_of w n past (Pack fs) a i = absurd i
+
+select_of : (e : Term) (t : FlatType) (x : item.Item) → HasType (FlatOf t) x → All (HasType (FlatOf t)) (select_one e x)
+select_of e (Stream n) (Flat (Batched b)) i = one_item (HasType (stream n)) (Flat (Batched (record { at = b.at; rows = selected e b.rows }))) (All-filter (λ row. is_true (val e row [])) (λ row. length row ≡ n) b.rows i)
+select_of e (Relation n) (Flat (Batched b)) i = one_item (HasType (relation n)) (Flat (Batched (record { at = b.at; rows = selected e b.rows })))
+    (All-filter (λ row. is_true (val e row [])) (λ row. length row ≡ n) b.rows i.0, IsSortedBy-filter row_lt rows_ranked (λ row. is_true (val e row [])) b.rows i.1)
+select_of e (Rows n) (Flat (Batched b)) i = absurd i
+select_of e t (Flat (One row)) i = All-nil (HasType (FlatOf t))
+select_of e t (Pack fs) i = All-nil (HasType (FlatOf t))
+
+project_of : (es : List Term) (x : item.Item) → All (HasType (relation (length es))) (project_one es x)
+project_of es (Flat (Batched b)) = one_item (HasType (relation (length es))) (Flat (Batched (record { at = b.at; rows = projected es b.rows })))
+    (ordered (length es) (map (λ row. map (λ t. val t row []) es) b.rows) (all_mapped b.rows))
+  where
+    all_mapped : (rs : List (List ℤ)) → HaveWidth (length es) (map (λ row. map (λ t. val t row []) es) rs)
+    all_mapped [] = All-nil (λ row. length row ≡ length es)
+    all_mapped (r ∷ rs) = All-cons (λ row. length row ≡ length es) (map (λ t. val t r []) es) (map (λ row. map (λ t. val t row []) es) rs) (length-map es (λ t. val t r [])) (all_mapped rs)
+project_of es (Flat (One row)) = All-nil (HasType (relation (length es)))
+project_of es (Pack fs) = All-nil (HasType (relation (length es)))
+
+take_out_all : (P : List ℤ → Type 0) (y : List ℤ) (xs : List (List ℤ)) → All P xs → All P (take_out y xs)
+take_out_all P y [] h = h
+take_out_all P y (x ∷ xs) h = ⊎_elim
+    (λ e. subst (All P) (sym (if_true (row_eq x y) xs (x ∷ take_out y xs) e)) (All-tail P x xs h))
+    (λ e. subst (All P) (sym (if_false (row_eq x y) xs (x ∷ take_out y xs) e)) (All-cons P x (take_out y xs) (All-head P x xs h) (take_out_all P y xs (All-tail P x xs h))))
+    (cases_bool (row_eq x y))
+
+without_all : (P : List ℤ → Type 0) (xs ys : List (List ℤ)) → All P xs → All P (without xs ys)
+without_all P xs [] h = h
+without_all P xs (y ∷ ys) h = without_all P (take_out y xs) ys (take_out_all P y xs h)
+
+last_widths : (n : ℕ) (bs : List Batch) → All (λ b. HaveWidth n b.rows) bs → HaveWidth n (last_rows bs)
+last_widths n [] h = All-nil (λ row. length row ≡ n)
+last_widths n (b ∷ []) h = All-head (λ c. HaveWidth n c.rows) b [] h
+last_widths n (b ∷ c ∷ bs) h = last_widths n (c ∷ bs) (All-tail (λ d. HaveWidth n d.rows) b (c ∷ bs) h)
+
+streamed_of : (s : Streamer) (n : ℕ) (before rs : List (List ℤ)) → HaveWidth n before → HaveWidth n rs → HaveWidth n (streamed s before rs)
+streamed_of Istream n before rs a b = (ordered n (without rs before) (without_all (λ row. length row ≡ n) rs before b)).0
+streamed_of Dstream n before rs a b = (ordered n (without before rs) (without_all (λ row. length row ≡ n) before rs a)).0
+streamed_of Rstream n before rs a b = b
+
+streamer_of : (s : Streamer) (n : ℕ) (past : List item.Item) (x : item.Item) → All (HasType (relation n)) past → HasType (relation n) x → All (HasType (stream n)) (streamer_one s past x)
+streamer_of s n past (Flat (Batched b)) a i = one_item (HasType (stream n)) (Flat (Batched (record { at = b.at; rows = streamed s (last_rows (batches past)) b.rows })))
+    (streamed_of s n (last_rows (batches past)) b.rows (last_widths n (batches past) (batch_widths (Relation n) n (λ c k. k.0) past a)) i.0)
+streamer_of s n past (Flat (One row)) a i = absurd i
+streamer_of s n past (Pack fs) a i = absurd i
+
+-- a window or a streamer
+received_of : (one : List item.Item → item.Item → List item.Item) (is os : List QueueType) (t u : QueueType) (p : ℕ) (x : item.Item) (ss : List Kept) → is ≡ t ∷ [] → os ≡ u ∷ []
+    → ((past : List item.Item) (y : item.Item) → All (HasType t) past → HasType t y → All (HasType u) (one past y)) → IsOne IsReceived ss → IsOf is p x → AreReceived is ss
+    → AreOf os (received_one one x ss).outs × AreReceived is (received_one one x ss).states
+received_of one is os t u p x [] e f g h i a = absurd h
+received_of one is os t u p x (Slots zs ∷ []) e f g h i a = absurd h
+received_of one is os t u p x (Buffered s ∷ []) e f g h i a = absurd h
+received_of one is os t u p x (Turn port had ∷ []) e f g h i a = absurd h
+received_of one is os t u p x (Joining s ∷ []) e f g h i a = absurd h
+received_of one is os t u p x (Crossing s ∷ []) e f g h i a = absurd h
+received_of one is os t u p x (s ∷ r ∷ rs) e f g h i a = absurd h
+received_of one is os t u p x (Received past ∷ []) e f g h i a =
+    let y : HasType t x = of_one t is p x e i in
+    let b : All (HasType t) past = subst (λ (l : List QueueType). All (IsOf l 0) past) e a in (
+      one_of u os (one past x) f (g past x b y),
+      subst (λ (l : List QueueType). All (IsOf l 0) (past ++ x ∷ [])) (sym e) (All-append (HasType t) past (x ∷ []) b (one_item (HasType t) x y)),
+    )
+
+-- PRODUCTS
+
+product_widths : (a b : ℕ) (xs ys : List (List ℤ)) → HaveWidth a xs → HaveWidth b ys → HaveWidth (a + b) (flat_map (λ x. map (λ y. x ++ y) ys) xs)
+product_widths a b [] ys h k = All-nil (λ row. length row ≡ a + b)
+product_widths a b (x ∷ xs) ys h k = All-append (λ row. length row ≡ a + b) (map (λ y. x ++ y) ys) (flat_map (λ z. map (λ y. z ++ y) ys) xs)
+    (side ys k) (product_widths a b xs ys (All-tail (λ row. length row ≡ a) x xs h) k)
+  where
+    side : (zs : List (List ℤ)) → HaveWidth b zs → HaveWidth (a + b) (map (λ y. x ++ y) zs)
+    side [] q = All-nil (λ row. length row ≡ a + b)
+    side (z ∷ zs) q =
+        let l = length-append x z in
+        let p = All-head (λ row. length row ≡ a) x xs h in
+        let r = All-head (λ row. length row ≡ b) z zs q in
+        All-cons (λ row. length row ≡ a + b) (x ++ z) (map (λ y. x ++ y) zs) (omega (arith, l, p, r)) (side zs (All-tail (λ row. length row ≡ b) z zs q))
+
+pair_of : (a b : ℕ) (x y : item.Item) → HasType (relation a) x → HasType (relation b) y → All (HasType (relation (a + b))) (joined_batch x y)
+pair_of a b (Flat (Batched c)) (Flat (Batched d)) h k = one_item (HasType (relation (a + b))) (Flat (Batched (record { at = c.at; rows = product c.rows d.rows }))) (ordered (a + b) (flat_map (λ x. map (λ y. x ++ y) d.rows) c.rows) (product_widths a b c.rows d.rows h.0 k.0))
+pair_of a b x (Flat (One row)) h k = absurd k
+pair_of a b x (Pack fs) h k = absurd k
+pair_of a b (Flat (One row)) y h k = absurd h
+pair_of a b (Pack fs) y h k = absurd h
+
+abbrev ArePairs : ℕ → ℕ → Pairing → Type 0
+ArePairs a b s = All (HasType (relation a)) s.left × All (HasType (relation b)) s.right
+
+less_all : (P : item.Item → Type 0) (xs : List item.Item) → All P xs → All P (without_first xs)
+less_all P [] h = h
+less_all P (x ∷ xs) h = All-tail P x xs h
+
+front_typed : (a b : ℕ) (xs ys o : List item.Item) → All (HasType (relation a)) xs → All (HasType (relation b)) ys → front_pair xs ys ≡ Some o → All (HasType (relation (a + b))) o
+front_typed a b [] ys o h k e = absurd (cc e)
+front_typed a b (x ∷ xs) [] o h k e = absurd (cc e)
+front_typed a b (x ∷ xs) (y ∷ ys) o h k e = let g : joined_batch x y ≡ o = cc e in subst (All (HasType (relation (a + b)))) g (pair_of a b x y (All-head (HasType (relation a)) x xs h) (All-head (HasType (relation b)) y ys k))
+
+drain_pairs : (a b n : ℕ) (s : Pairing) → ArePairs a b s → All (HasType (relation (a + b))) (drain front_of_pair rest_of_pair n s).0 × ArePairs a b (drain front_of_pair rest_of_pair n s).1
+drain_pairs a b zero s h = (All-nil (HasType (relation (a + b))), h)
+drain_pairs a b (suc n) s h = go (front_of_pair s) refl (drain_pairs a b n (rest_of_pair s) (less_all (HasType (relation a)) s.left h.0, less_all (HasType (relation b)) s.right h.1))
+  where
+    go : (o : Option (List item.Item)) → front_of_pair s ≡ o → All (HasType (relation (a + b))) (drain front_of_pair rest_of_pair n (rest_of_pair s)).0 × ArePairs a b (drain front_of_pair rest_of_pair n (rest_of_pair s)).1
+        → All (HasType (relation (a + b))) (pass_on rest_of_pair s (drain front_of_pair rest_of_pair n) o).0 × ArePairs a b (pass_on rest_of_pair s (drain front_of_pair rest_of_pair n) o).1
+    go None e r = (All-nil (HasType (relation (a + b))), h)
+    go (Some o) e r = (All-append (HasType (relation (a + b))) o _ (front_typed a b s.left s.right o h.0 h.1 e) r.0, r.1)
+
+put_typed : (a b p : ℕ) (x : item.Item) (s : Pairing) → IsOf (relation a ∷ relation b ∷ []) p x → ArePairs a b s → ArePairs a b (put_pair p x s)
+put_typed a b zero x s i h = (All-append (HasType (relation a)) s.left (x ∷ []) h.0 (one_item (HasType (relation a)) x i), h.1)
+put_typed a b (suc zero) x s i h = (h.0, All-append (HasType (relation b)) s.right (x ∷ []) h.1 (one_item (HasType (relation b)) x i))
+put_typed a b (suc (suc p)) x s i h = absurd i
+
+cross_of : (a b : ℕ) (is os : List QueueType) (p : ℕ) (x : item.Item) (ss : List Kept) → is ≡ relation a ∷ relation b ∷ [] → os ≡ relation (a + b) ∷ [] → IsOne IsCrossing ss → AreCrossing is ss → IsOf is p x
+    → AreOf os (cross_one p x ss).outs × AreCrossing is (cross_one p x ss).states
+cross_of a b is os p x [] e f h t i = absurd h
+cross_of a b is os p x (Slots zs ∷ []) e f h t i = absurd h
+cross_of a b is os p x (Buffered s ∷ []) e f h t i = absurd h
+cross_of a b is os p x (Turn port had ∷ []) e f h t i = absurd h
+cross_of a b is os p x (Joining s ∷ []) e f h t i = absurd h
+cross_of a b is os p x (Received xs ∷ []) e f h t i = absurd h
+cross_of a b is os p x (s ∷ r ∷ rs) e f h t i = absurd h
+cross_of a b is os p x (Crossing s ∷ []) e f h t i =
+    let y : IsOf (relation a ∷ relation b ∷ []) p x = subst (λ (l : List QueueType). IsOf l p x) e i in
+    let w : ArePairs a b s = subst (λ (l : List QueueType). All (IsOf l 0) s.left × All (IsOf l 1) s.right) e t in
+    let now = put_pair p x s in
+    let n = length now.left + length now.right in
+    let d = drain_pairs a b n now (put_typed a b p x s y w) in (
+      one_of (relation (a + b)) os (drain front_of_pair rest_of_pair n now).0 f d.0,
+      subst (λ (l : List QueueType). All (IsOf l 0) (drain front_of_pair rest_of_pair n now).1.left × All (IsOf l 1) (drain front_of_pair rest_of_pair n now).1.right) (sym e) d.1,
+    )
+
+-- a firing of a kernel on rows on an item of its port's type gives items of its ports' types, and so are those that its states keep
+pub fire_typed : (k : Kern) (is os : List QueueType) (vs : List VarKind) (p : ℕ) (x : item.Item) (ss : List Kept) → Fits k is os vs → HasShape k ss → Keeps k is ss → IsOf is p x
+    → AreOf os (fire k p x ss).outs × Keeps k is (fire k p x ss).states
+fire_typed (code k) is os vs p x ss f h t i =
+    let c = and_parts (is_width k.body.inputs) (are_widths k.outs && is_code k) f.3 in
+    let d = and_parts (are_widths k.outs) (is_code k) c.1 in
+    let e = and_parts (is_steps k.body.inputs k.body.slots k.outs k.body.steps) (nat_le (length k.starts) k.body.slots) d.1 in
+    (subst (λ (l : List QueueType). AreOf l (code_one k x ss).outs) (sym f.1) (code_of k x ss e.0 h), tt)
+fire_typed (filter g) is os vs p x ss f h t i =
+    let c = and_parts (has_rates g) (is_steps g.peek g.body.slots (pos 1 ∷ []) g.body.steps && (nat_le (length g.starts) g.body.slots && is_number (pushes g.body.steps) g.push)) f.3 in
+    let d = and_parts (is_steps g.peek g.body.slots (pos 1 ∷ []) g.body.steps) (nat_le (length g.starts) g.body.slots && is_number (pushes g.body.steps) g.push) c.1 in
+    (subst (λ (l : List QueueType). AreOf l (filter_firing g x ss).outs) (sym f.1) (filter_of g x ss d.0), tt)
+fire_typed (duplicate n) is os vs p x ss f h t i = (
+  (λ q. subst (λ (l : List QueueType). All (IsOf l q) (if nat_lt q n then x ∷ [] else [])) (sym f.2)
+      (copies_of (IsOf (replicate n (FlatOf f.0)) q) x q n (λ lt. to_many n (FlatOf f.0) q x lt (of_one (FlatOf f.0) is p x f.1 i)))),
+  tt,
+)
+fire_typed (deal ws) is os vs p x ss f h t i = (
+  subst (λ (l : List QueueType). AreOf l (deal_one (shares ws) x ss).outs) (ap (λ n. replicate n (FlatOf f.0)) (length-map ws count_of) ∙ sym f.2)
+      (deal_of (shares ws) (FlatOf f.0) x ss (of_one (FlatOf f.0) is p x f.1 i) h),
+  tt,
+)
+fire_typed (collect ws) is os vs p x ss f h t i =
+    join_of itself (shares ws) is os (FlatOf f.0) p x ss (λ q y j. one_item (HasType (FlatOf f.0)) y (of_many (length ws) (FlatOf f.0) is q y f.1 j)) f.2 i h t
+fire_typed (packed k) is os vs p x ss f h t i =
+    let ft : Fits k is (FlatOf f.1 ∷ []) [] = subst (λ (l : List QueueType). Fits k l (FlatOf f.1 ∷ []) []) (sym f.2) f.5 in
+    let one = fire_typed k is (FlatOf f.1 ∷ []) [] p x ss ft h t i in
+    let xs = (fire k p x ss).outs 0 in
+    (one_of (PackOf f.1) os (Pack (flats xs) ∷ []) f.3 (one_item (HasType (PackOf f.1)) (Pack (flats xs)) (flats_of f.1 xs (one.0 0))), one.1)
+fire_typed (unpack n) is os vs p x ss f h t i =
+    join_of items_of (ones n) is os (FlatOf f.0) p x ss (λ q y j. opened_of f.0 y (of_many n (PackOf f.0) is q y f.1 j)) f.2 i h t
+fire_typed (window w) is os vs p x ss f h t i =
+    received_of (window_one w) is os (stream f.0) (relation f.0) p x ss f.1 f.2 (λ past y a j. window_of w f.0 past y a j) h i t
+fire_typed (select e) is os vs p x ss f h t i = (one_of (FlatOf f.0) os (select_one e x) f.2 (select_of e f.0 x (of_one (FlatOf f.0) is p x f.1 i)), tt)
+fire_typed (project es) is os vs p x ss f h t i = (one_of (relation (length es)) os (project_one es x) f.2 (project_of es x), tt)
+fire_typed cross is os vs p x ss f h t i = cross_of f.0 f.1 is os p x ss f.2 f.3 h t i
+fire_typed (streamer s) is os vs p x ss f h t i =
+    received_of (streamer_one s) is os (relation f.0) (stream f.0) p x ss f.1 f.2 (λ past y a j. streamer_of s f.0 past y a j) h i t
+fire_typed tally is os vs p x ss f h t i = (none_of os, tt)
+fire_typed (fused a b at) is os vs p x ss f h t i =
+    let ms = f.0 in
+    let m = f.1 in
+    let bs = f.2 in
+    let us = f.3 in
+    let ws = f.4 in
+    let fa : Fits a is ms us = f.5 in
+    let fb : Fits b (m ∷ []) bs ws = f.7 in
+    let here : IsShaped a = shaped a is ms us fa in
+    let there : IsShaped b = shaped b (m ∷ []) bs ws fb in
+    let mid : between at (types_of a is) ≡ m ∷ [] = between_is a is ms m us at fa f.6 in
+    let sa = take (privates a) ss in
+    let sb = drop (privates a) ss in
+    let ra = fire a p x sa in
+    let ia = fire_typed a is ms us p x sa fa h.0 t.0 i in
+    let rb = feed (fire b 0) (ra.outs at) sb in
+    let items : All (HasType m) (ra.outs at) = subst (λ o. All (IsTyped o) (ra.outs at)) f.6 (ia.0 at) in
+    let ib = feed_of (λ (u : List Kept). HasShape b u × Keeps b (m ∷ []) u) m bs (fire b 0)
+    (λ y u iy hy. let o = fire_typed b (m ∷ []) bs ws 0 y u fb hy.0 hy.1 iy in (o.0, (fire_shape b 0 y u there hy.0, o.1)))
+    (ra.outs at) sb items (h.1, subst (λ (l : List QueueType). Keeps b l sb) mid t.1) in
+    let la = shape_length a ra.states (fire_shape a p x sa here h.0) in
+    let cb = numbers b (m ∷ []) bs ws fb in (
+      subst (λ (l : List QueueType). AreOf l (splice at (outs b) ra.outs rb.outs)) (sym f.8)
+          (subst (λ n. AreOf (spliced at ms bs) (splice at n ra.outs rb.outs)) cb.outs (spliced_of ms bs at ra.outs rb.outs (got_below ms at m f.6) ia.0 ib.0)),
+      (
+        subst (Keeps a is) (sym (take_front ra.states rb.states (privates a) la)) ia.1,
+        subst (λ (l : List QueueType). Keeps b l (drop (privates a) (ra.states ++ rb.states))) (sym mid)
+            (subst (Keeps b (m ∷ [])) (sym (drop_front ra.states rb.states (privates a) la)) ib.1.1),
+      ),
+    )
+
+-- the first states keep nothing
+waits_none : (is : List QueueType) (n p : ℕ) → All (IsOf is p) (list_at (replicate n []) p)
+waits_none is zero p = All-nil (IsOf is p)
+waits_none is (suc n) zero = All-nil (IsOf is 0)
+waits_none is (suc n) (suc p) = go n p
+  where
+    go : (n q : ℕ) → All (IsOf is (suc p)) (list_at (replicate n []) q)
+    go zero q = All-nil (IsOf is (suc p))
+    go (suc n) zero = All-nil (IsOf is (suc p))
+    go (suc n) (suc q) = go n q
+
+pub first_keeps : (k : Kern) (is : List QueueType) → IsShaped k → Keeps k is (first_kept k)
+first_keeps (code k) is f = tt
+first_keeps (filter g) is f = tt
+first_keeps (duplicate n) is f = tt
+first_keeps (deal ws) is f = tt
+first_keeps (collect ws) is f = λ p. waits_none is (length ws) p
+first_keeps (packed k) is f = first_keeps k is f.0
+first_keeps (unpack n) is f = λ p. waits_none is n p
+first_keeps (window w) is f = All-nil (IsOf is 0)
+first_keeps (select e) is f = tt
+first_keeps (project es) is f = tt
+first_keeps cross is f = (All-nil (IsOf is 0), All-nil (IsOf is 1))
+first_keeps (streamer s) is f = All-nil (IsOf is 0)
+first_keeps tally is f = tt
+first_keeps (fused a b at) is f =
+    let la = shape_length a (first_kept a) (first_shape a f.0) in (
+      subst (Keeps a is) (sym (take_front (first_kept a) (first_kept b) (privates a) la)) (first_keeps a is f.0),
+      subst (Keeps b (between at (types_of a is))) (sym (drop_front (first_kept a) (first_kept b) (privates a) la)) (first_keeps b (between at (types_of a is)) f.1),
+    )

@@ -1,0 +1,4 @@
+pub mod Fuse
+pub mod FuseCode
+pub mod Hoist
+pub mod HoistCode
