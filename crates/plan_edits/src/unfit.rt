@@ -1,4 +1,7 @@
 // Why a rewrite is refused.
+ghost use Rattle.std.specs.Prelude.{◌≡◌};
+ghost use Rattle.plan_edits.specs.Words.{unfit_word};
+
 use river_base::NoMemory;
 
 /// The condition of a rewrite that fails first, or want of memory.
@@ -44,5 +47,30 @@ impl From<NoMemory> for Unfit {
 
     fn from(_: NoMemory) -> Self {
         Unfit::NoMemory
+    }
+}
+
+impl Unfit {
+    /// Its name.
+    pub fn word(self) -> &'static [u8]
+        ensures { result.now ≡ unfit_word self }
+    {
+        match self {
+            Unfit::U1 => b"U1",
+            Unfit::U2 => b"U2",
+            Unfit::U3 => b"U3",
+            Unfit::U4 => b"U4",
+            Unfit::U5 => b"U5",
+            Unfit::H1 => b"H1",
+            Unfit::H2 => b"H2",
+            Unfit::H3 => b"H3",
+            Unfit::H4 => b"H4",
+            Unfit::N1 => b"N1",
+            Unfit::N2 => b"N2",
+            Unfit::N3 => b"N3",
+            Unfit::N4 => b"N4",
+            Unfit::N5 => b"N5",
+            Unfit::NoMemory => b"NoMemory",
+        }
     }
 }

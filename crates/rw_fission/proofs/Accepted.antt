@@ -14,7 +14,7 @@ use Rattle.river_plan.specs.Kinds.{kind_of}
 use Rattle.river_plan.specs.Names.{count, one_if}
 use Rattle.river_plan.specs.Uses.{named_it}
 use Rattle.river_plan.proofs.NameLemmas.{cases_bool, cases_name}
-use Rattle.rw_fission.specs.Asked.{packs_to, packs_way, is_nil, blocks_way, adds_way, way_of, all_made, are_short, by_way, by_reads, by_op}
+use Rattle.rw_fission.specs.Asked.{packs_to, packs_way, is_nil, blocks_way, adds_way, way_of, all_made, are_short, by_way, by_reads, by_op, fission_of}
 use Rattle.plan_edits.specs.declared.unfit.Unfit.{Unfit}
 use Rattle.plan_edits.specs.declared.unfit.Unfit.TheVariants.{N2, N5}
 use Rattle.rw_fission.specs.Fission.{Way, by_packs, by_blocks, by_adds, split_by}

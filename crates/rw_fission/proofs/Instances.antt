@@ -9,7 +9,7 @@ use Rattle.kern_bags.specs.declared.kernel.Streamer.TheVariants.{Rstream}
 use Rattle.river_plan.specs.Forms.{Name, OpForm, PlanForm}
 use Rattle.work_code.specs.Steps.{Push, Done, Then}
 use Rattle.work_code.specs.Term.{Input, Const}
-use Rattle.rw_fission.specs.Asked.{fission}
+use Rattle.rw_fission.specs.Asked.{fission_of}
 use Rattle.plan_edits.specs.declared.unfit.Unfit.{Unfit}
 use Rattle.plan_edits.specs.declared.unfit.Unfit.TheVariants.{N1, N2, N4, N5}
 
@@ -43,17 +43,17 @@ vars_of (Ok p) = p.vars
 vars_of (Err e) = []
 
 -- F@d, F@1, F@2, F@j
-blocks_step : vars_of (fission (filters 2 2) F 2) ≡ (70 ∷ 64 ∷ 100 ∷ []) ∷ (70 ∷ 64 ∷ 49 ∷ []) ∷ (70 ∷ 64 ∷ 50 ∷ []) ∷ (70 ∷ 64 ∷ 106 ∷ []) ∷ []
+blocks_step : vars_of (fission_of (filters 2 2) F 2) ≡ (70 ∷ 64 ∷ 100 ∷ []) ∷ (70 ∷ 64 ∷ 49 ∷ []) ∷ (70 ∷ 64 ∷ 50 ∷ []) ∷ (70 ∷ 64 ∷ 106 ∷ []) ∷ []
 blocks_step = refl
 
 -- peek above pop
-peeks : fission (filters 2 1) F 2 ≡ Err N4
+peeks : fission_of (filters 2 1) F 2 ≡ Err N4
 peeks = refl
 
-no_such : fission (filters 2 2) in_name 2 ≡ Err N1
+no_such : fission_of (filters 2 2) in_name 2 ≡ Err N1
 no_such = refl
 
-too_many : fission (filters 2 2) F 17 ≡ Err N2
+too_many : fission_of (filters 2 2) F 17 ≡ Err N2
 too_many = refl
 
 abbrev codes : List Name → PlanForm
@@ -68,11 +68,11 @@ codes more = record (filters 2 2) {
   } ∷ [];
 }
 
-packs_step : vars_of (fission (codes []) F 2) ≡ (70 ∷ 64 ∷ 100 ∷ []) ∷ (70 ∷ 64 ∷ 106 ∷ []) ∷ []
+packs_step : vars_of (fission_of (codes []) F 2) ≡ (70 ∷ 64 ∷ 100 ∷ []) ∷ (70 ∷ 64 ∷ 106 ∷ []) ∷ []
 packs_step = refl
 
 -- a variable has the name of a made one
-twice : fission (codes ((70 ∷ 64 ∷ 106 ∷ []) ∷ [])) F 2 ≡ Err N5
+twice : fission_of (codes ((70 ∷ 64 ∷ 106 ∷ []) ∷ [])) F 2 ≡ Err N5
 twice = refl
 
 abbrev adds : PlanForm
@@ -85,7 +85,7 @@ adds = record {
   ops = record { label = F; kernel = tally; reads = in_name ∷ []; writes = []; vars = out_name ∷ [] } ∷ [];
 }
 
-adds_step : vars_of (fission adds F 16) ≡ (70 ∷ 64 ∷ 100 ∷ []) ∷ []
+adds_step : vars_of (fission_of adds F 16) ≡ (70 ∷ 64 ∷ 100 ∷ []) ∷ []
 adds_step = refl
 
 abbrev queries : PlanForm
@@ -103,7 +103,7 @@ queries = record {
 }
 
 -- on relations
-query_step : vars_of (fission queries F 2) ≡ (119 ∷ []) ∷ (115 ∷ []) ∷ (70 ∷ 64 ∷ 100 ∷ []) ∷ (70 ∷ 64 ∷ 106 ∷ []) ∷ []
+query_step : vars_of (fission_of queries F 2) ≡ (119 ∷ []) ∷ (115 ∷ []) ∷ (70 ∷ 64 ∷ 100 ∷ []) ∷ (70 ∷ 64 ∷ 106 ∷ []) ∷ []
 query_step = refl
 
 -- THE PLAN OF `fission map 3` ON A FUSED MAP THAT COUNTS AND SUMS
@@ -130,7 +130,7 @@ map_at t = map_name ++ 64 ∷ t
 abbrev map_copy : ℕ → OpForm
 map_copy d = record { label = map_at (d ∷ []); kernel = k_map; reads = map_at (97 ∷ d ∷ []) ∷ []; writes = []; vars = (99 ∷ []) ∷ (116 ∷ []) ∷ [] }
 
-map_step : fission map_plan map_name 3 ≡ Ok (record map_plan {
+map_step : fission_of map_plan map_name 3 ≡ Ok (record map_plan {
   queues = record { name = map_at (97 ∷ 49 ∷ []); kind = rows 2 } ∷ record { name = map_at (97 ∷ 50 ∷ []); kind = rows 2 } ∷ record { name = map_at (97 ∷ 51 ∷ []); kind = rows 2 } ∷ [];
   vars = map_at (100 ∷ []) ∷ [];
   ops =
@@ -149,5 +149,5 @@ map_step = refl
 abbrev own_name : PlanForm
 own_name = record (filters 2 2) { vars = (70 ∷ 64 ∷ 49 ∷ []) ∷ []; ops = map (λ (o : OpForm). record o { vars = (70 ∷ 64 ∷ 49 ∷ []) ∷ [] }) (filters 2 2).ops }
 
-own_step : vars_of (fission own_name F 2) ≡ (70 ∷ 64 ∷ 100 ∷ []) ∷ (70 ∷ 64 ∷ 49 ∷ []) ∷ (70 ∷ 64 ∷ 50 ∷ []) ∷ (70 ∷ 64 ∷ 106 ∷ []) ∷ []
+own_step : vars_of (fission_of own_name F 2) ≡ (70 ∷ 64 ∷ 100 ∷ []) ∷ (70 ∷ 64 ∷ 49 ∷ []) ∷ (70 ∷ 64 ∷ 50 ∷ []) ∷ (70 ∷ 64 ∷ 106 ∷ []) ∷ []
 own_step = refl

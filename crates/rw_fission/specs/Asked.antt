@@ -88,7 +88,7 @@ by_op p l n (Some op) = if nat_le 2 n && nat_le n 16 then by_reads p l op n op.r
 
 -- N1: no operator of this label. N2: n is not 2 to 16. N3: it has not one input. N4: it has none of the three forms.
 -- N5: a made name is too long or stands twice, or a number of the result is above its limit
-abbrev pub fission : PlanForm → Name → ℕ → Result PlanForm Unfit
+abbrev pub fission_of : PlanForm → Name → ℕ → Result PlanForm Unfit
 fission_of p l n = by_op p l n (first_with (named_it l) p.ops)
 
 -- this holds of what a call answers; of want of memory nothing is said

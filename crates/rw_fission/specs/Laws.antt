@@ -5,7 +5,7 @@ use Rattle.river_plan.specs.Forms.{Name, OpForm, PlanForm, all_decls}
 use Rattle.river_plan.specs.Kinds.{kind_of}
 use Rattle.river_plan.specs.Uses.{named_it}
 use Rattle.river_plan.specs.Valid.{IsPlan}
-use Rattle.rw_fission.specs.Asked.{fission, way_of}
+use Rattle.rw_fission.specs.Asked.{fission_of, way_of}
 use Rattle.rw_fission.specs.Fission.{Way, split_by}
 use Rattle.plan_edits.specs.Lists.{first_with}
 use Rattle.rw_fission.specs.Made.{made_of}

@@ -1,0 +1,6 @@
+pub mod Fronts
+pub mod Loops
+pub mod Scripts
+pub mod Steps
+pub mod Units
+pub mod Wholes
