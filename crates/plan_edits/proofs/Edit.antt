@@ -14,6 +14,7 @@ use Rattle.brooklet_model.proofs.Traces.{adds_it, adds_total}
 use Rattle.plan_edits.specs.Lists.{first_with, replaced}
 use Rattle.plan_edits.proofs.Surgery.{total-append, after, before_more, before_append, before_front, before_back, unread, found, first_past, all_agree, adds_it_same}
 
+-- two runs of operators are taken out, and others are put in the place of the first
 pub record Edit (ops ops' : List OpForm) : Type 0 where
   pub before : List OpForm
   pub first : List OpForm
@@ -29,6 +30,7 @@ abbrev pub Stays : (ops ops' : List OpForm) → Edit ops ops' → (OpForm → �
 Stays ops ops' e f = total f e.before + (total f e.middle + total f e.behind)
 
 module _ (ops ops' : List OpForm) (e : Edit ops ops') where
+  -- a sum over the operators: those that stay, and those that are taken out
   pub sum_old : (f : OpForm → ℕ) → total f ops ≡ Stays ops ops' e f + (total f e.first + total f e.second)
   sum_old f =
       let a = ap (total f) e.is ∙ total-append f e.before (e.first ++ (e.middle ++ (e.second ++ e.behind))) in
@@ -37,6 +39,7 @@ module _ (ops ops' : List OpForm) (e : Edit ops ops') where
       let d = total-append f e.second e.behind in
       omega (arith, a, b, c, d)
 
+  -- a sum over the new operators: those that stay, and those that are put
   pub sum_new : (f : OpForm → ℕ) → total f ops' ≡ Stays ops ops' e f + total f e.put
   sum_new f =
       let a = ap (total f) e.is' ∙ total-append f e.before (e.put ++ (e.middle ++ e.behind)) in
@@ -44,6 +47,7 @@ module _ (ops ops' : List OpForm) (e : Edit ops ops') where
       let c = total-append f e.middle e.behind in
       omega (arith, a, b, c)
 
+  -- a property of each of the five parts
   pub record Parts (P : OpForm → Type 0) : Type 0 where
     pub front : Each P e.before
     pub one : Each P e.first
@@ -51,6 +55,7 @@ module _ (ops ops' : List OpForm) (e : Edit ops ops') where
     pub two : Each P e.second
     pub back : Each P e.behind
 
+  -- what holds of all operators holds of the parts
   pub parts : (P : OpForm → Type 0) → Each P ops → Parts P
   parts P h =
       let h1 = subst (Each P) e.is h in
@@ -65,6 +70,7 @@ module _ (ops ops' : List OpForm) (e : Edit ops ops') where
         back = each_back P e.second e.behind h4;
       }
 
+  -- what holds of the parts that stay, and of what is put, holds of all new operators
   pub together : (P : OpForm → Type 0) → Each P e.before → Each P e.put → Each P e.middle → Each P e.behind → Each P ops'
   together P a n b c = subst (Each P) (sym e.is') (each_append P e.before (e.put ++ (e.middle ++ e.behind)) a (each_append P e.put (e.middle ++ e.behind) n (each_append P e.middle e.behind b c)))
 
@@ -93,6 +99,7 @@ module _ (p p' : PlanForm) (v : IsPlan p) (v' : IsPlan p') (e : Edit p.ops p'.op
     (same : (q : Name) → 0 < Stays p.ops p'.ops e (reads_it q) + Stays p.ops p'.ops e (writes_it q) → histories p.ops g q ≡ h' q)
     (in_put : (q : Name) → total (writes_it q) p'.ops ≡ 0 → h' q ≡ g q)
   where
+    -- histories that solve what is put, and are the old ones at all that stays, are those of the new plan
     pub edited : (q : Name) → h' q ≡ histories p'.ops g q
     edited q =
         let h = histories p.ops g in
@@ -133,6 +140,7 @@ pub record Cut (ops : List OpForm) (q : Name) (w r : OpForm) : Type 0 where
   pub behind_w : total (writes_it q) behind ≡ 0
   pub behind_r : total (reads_it q) behind ≡ 0
 
+-- in a valid plan, all that is written to a queue stands before its reader
 pub cut_of : (p : PlanForm) (q : Name) (w r : OpForm) → IsPlan p → first_with (writes_it q) p.ops ≡ Some w → first_with (reads_it q) p.ops ≡ Some r → Cut p.ops q w r
 cut_of p q w r v mw mr =
     let k : Name → ℕ = λ x. count x (decl_names p.inputs) in
@@ -188,6 +196,7 @@ replaced_all q news (x ∷ xs) a b =
     if_ge 0 (count q x.writes) _ _ (omega (arith, a)) ∙ if_ge 0 (count q x.reads) _ _ (omega (arith, b))
     ∙ ap (λ l. x ∷ l) (replaced_all q news xs (omega (arith, a)) (omega (arith, b)))
 
+-- what the replacing makes of the operators that are cut there
 pub replaced_is : (ops : List OpForm) (q : Name) (w r : OpForm) (news : List OpForm) (c : Cut ops q w r) → replaced q news ops ≡ c.before ++ (news ++ (c.middle ++ c.behind))
 replaced_is ops q w r news c =
     ap (replaced q news) c.is
@@ -198,5 +207,6 @@ replaced_is ops q w r news c =
     ∙ if_lt 0 (count q r.reads) _ _ c.r_reads
     ∙ replaced_all q news c.behind c.behind_w c.behind_r)))
 
+-- the replacing as an edit
 abbrev pub edit_of : (ops : List OpForm) (q : Name) (w r : OpForm) (news : List OpForm) → Cut ops q w r → Edit ops (replaced q news ops)
 edit_of ops q w r news c = record { before = c.before; first = w ∷ []; middle = c.middle; second = r ∷ []; behind = c.behind; put = news; is = c.is; is' = replaced_is ops q w r news c }

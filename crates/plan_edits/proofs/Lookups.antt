@@ -18,10 +18,12 @@ use Rattle.std.proofs.lemmas.List.{map-append}
 use Rattle.river_kernels.specs.Formed.{is_width}
 use Rattle.river_plan.specs.Faults.{HasWidth, type_width}
 
+-- two functions that agree on all names of a list
 pub map_agree : {A : Type 0} (f g : Name → A) (rs : List Name) → ((x : Name) → 0 < count x rs → f x ≡ g x) → map f rs ≡ map g rs
 map_agree f g [] e = refl
 map_agree f g (r ∷ rs) e = ap (λ y. y ∷ map f rs) (e r (count_here r rs)) ∙ ap (λ l. g r ∷ l) (map_agree f g rs (λ x lt. e x (omega (arith, lt))))
 
+-- a name among the tables is a table of some width
 pub table_there : (ts : List TableDecl) (v : Name) → 0 < count v (table_names ts) → (n : ℕ) × (table_in ts v ≡ Some (Table n))
 table_there [] v lt = absurd (omega (arith, lt))
 table_there (t ∷ ts) v lt = ⊎_elim
@@ -29,6 +31,7 @@ table_there (t ∷ ts) v lt = ⊎_elim
     (λ c. let i = table_there ts v (let z = ap one_if c.1 in omega (arith, z, lt)) in (i.0, if_false (name_eq t.name v) (Some (Table (table_width t.kind))) (table_in ts v) c.1 ∙ i.1))
     (cases_name t.name v)
 
+-- a name that is not among the tables is none
 pub no_table : (ts : List TableDecl) (v : Name) → count v (table_names ts) ≡ 0 → table_in ts v ≡ None
 no_table [] v z = refl
 no_table (t ∷ ts) v z = ⊎_elim
@@ -36,6 +39,7 @@ no_table (t ∷ ts) v z = ⊎_elim
     (λ c. if_false (name_eq t.name v) (Some (Table (table_width t.kind))) (table_in ts v) c.1 ∙ no_table ts v (omega (arith, z)))
     (cases_name t.name v)
 
+-- a name among the private variables is private
 pub private_there : (vs : List Name) (v : Name) → 0 < count v vs → private_in vs v ≡ Some Private
 private_there [] v lt = absurd (omega (arith, lt))
 private_there (w ∷ vs) v lt = ⊎_elim
@@ -43,9 +47,11 @@ private_there (w ∷ vs) v lt = ⊎_elim
     (λ c. if_false (name_eq w v) (Some Private) (private_in vs v) c.1 ∙ private_there vs v (let z = ap one_if c.1 in omega (arith, z, lt)))
     (cases_name w v)
 
+-- the names of two lists of declarations
 pub names_append : (xs ys : List Decl) → decl_names (xs ++ ys) ≡ decl_names xs ++ decl_names ys
 names_append xs ys = map-append (λ (d : Decl). d.name) xs ys
 
+-- a name that is declared does not see later declarations
 pub kind_front : (xs ys : List Decl) (q : Name) → 0 < count q (decl_names xs) → kind_in (xs ++ ys) q ≡ kind_in xs q
 kind_front [] ys q lt = absurd (omega (arith, lt))
 kind_front (x ∷ xs) ys q lt = ⊎_elim
@@ -53,6 +59,7 @@ kind_front (x ∷ xs) ys q lt = ⊎_elim
     (λ c. if_false (name_eq x.name q) (Some x.kind) (kind_in (xs ++ ys) q) c.1 ∙ kind_front xs ys q (let e = ap one_if c.1 in omega (arith, e, lt)) ∙ sym (if_false (name_eq x.name q) (Some x.kind) (kind_in xs q) c.1))
     (cases_name x.name q)
 
+-- a name that is not declared sees the later declarations alone
 pub kind_back : (xs ys : List Decl) (q : Name) → count q (decl_names xs) ≡ 0 → kind_in (xs ++ ys) q ≡ kind_in ys q
 kind_back [] ys q z = refl
 kind_back (x ∷ xs) ys q z = ⊎_elim

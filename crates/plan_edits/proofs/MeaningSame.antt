@@ -132,6 +132,7 @@ module _ (p p' : PlanForm) (inputs : List (List item.Item)) (v : IsPlan p) (v' :
       let rest = tables_same (front ++ td ∷ []) ts (e ∙ sym (append_assoc front (td ∷ []) ts)) in
       λ i. one i ∷ rest i
 
+  -- so both plans have the same meaning
   pub meaning_same : meaning p' inputs ≡ meaning p inputs
   meaning_same =
       let outs : map (hist p' inputs) (decl_names p'.outputs) ≡ map (hist p inputs) (decl_names p.outputs) =

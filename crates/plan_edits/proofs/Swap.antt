@@ -13,16 +13,19 @@ use Rattle.plan_edits.specs.Lists.{swapped}
 use Rattle.plan_edits.proofs.Surgery.{total-append, after, before_more, before_append, before_front, before_back, Found, all_agree, adds_it_same}
 use Rattle.river_plan.proofs.ShareLemmas.{each_append, each_front, each_back}
 
+-- operators of other labels stay
 pub swapped_past : (l : Name) (news xs ys : List OpForm) → total (named_it l) xs ≡ 0 → swapped l news (xs ++ ys) ≡ xs ++ swapped l news ys
 swapped_past l news [] ys z = refl
 swapped_past l news (x ∷ xs) ys z = if_ge 0 (named_it l x) _ _ (omega (arith, z)) ∙ ap (λ t. x ∷ t) (swapped_past l news xs ys (omega (arith, z)))
 
+-- one operator gives way to others
 pub record Swap (ops ops' : List OpForm) (op : OpForm) (put : List OpForm) : Type 0 where
   pub before : List OpForm
   pub behind : List OpForm
   pub is : ops ≡ before ++ op ∷ behind
   pub is' : ops' ≡ before ++ (put ++ behind)
 
+-- the swap at the operator that was found
 abbrev pub swap_of : (l : Name) (ops : List OpForm) (op : OpForm) (put : List OpForm) → Found (named_it l) ops op → Swap ops (swapped l put ops) op put
 swap_of l ops op put f = record {
   before = f.before;
@@ -36,12 +39,15 @@ module _ (ops ops' : List OpForm) (op : OpForm) (put : List OpForm) (e : Swap op
   abbrev pub stay : (OpForm → ℕ) → ℕ
   stay f = total f e.before + total f e.behind
 
+  -- a sum over the operators: those that stay, and the one
   pub sum_old : (f : OpForm → ℕ) → total f ops ≡ stay f + f op
   sum_old f = let a = ap (total f) e.is ∙ total-append f e.before (op ∷ e.behind) in omega (arith, a)
 
+  -- a sum over the new operators: those that stay, and those that are put
   pub sum_new : (f : OpForm → ℕ) → total f ops' ≡ stay f + total f put
   sum_new f = let a = ap (total f) e.is' ∙ total-append f e.before (put ++ e.behind) in let b = total-append f put e.behind in omega (arith, a, b)
 
+  -- what holds of all operators holds of the one
   pub it_is : (P : OpForm → Type 0) → Each P ops → P op
   it_is P h = (each_back P e.before (op ∷ e.behind) (subst (Each P) e.is h)).0
 
@@ -71,6 +77,7 @@ module _ (p p' : PlanForm) (v : IsPlan p) (v' : IsPlan p') (op : OpForm) (put : 
     (same : (q : Name) → 0 < stay p.ops p'.ops op put e (reads_it q) + stay p.ops p'.ops op put e (writes_it q) → histories p.ops g q ≡ h' q)
     (in_put : (q : Name) → total (writes_it q) p'.ops ≡ 0 → h' q ≡ g q)
   where
+    -- so these are the histories of the new plan
     pub swapped_hist : (q : Name) → h' q ≡ histories p'.ops g q
     swapped_hist q =
         let h = histories p.ops g in

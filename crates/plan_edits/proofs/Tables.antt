@@ -243,6 +243,7 @@ two_left keys (r ∷ rs) h =
     let d = length-drop keys r in
     All-cons IsTwo (drop keys r) (map (λ x. drop keys x) rs) (omega (arith, w, d)) (two_left keys rs (All-tail (λ x. length x ≡ keys + 2) r rs h))
 
+-- a table depends on the bag of its rows alone, where they have its width
 pub tab_of_bag : (k : TableKind) (xs ys : List (List ℤ)) → HaveWidth (table_width k) xs → HaveWidth (table_width k) ys → SameBag xs ys → tab k xs ≡ tab k ys
 tab_of_bag (Sum keys) xs ys a b s =
     map_same (λ key. key ++ sum_of (under keys key xs) ∷ []) (λ key. key ++ sum_of (under keys key ys) ∷ []) (λ key. ap (λ n. key ++ n ∷ []) (sum_same _ _ (under_permutes keys key xs ys s))) (keys_of keys xs)

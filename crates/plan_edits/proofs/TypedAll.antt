@@ -30,6 +30,7 @@ use Rattle.plan_edits.specs.Kept.{Keeps}
 use Rattle.plan_edits.specs.Meaning.{AreTyped}
 use Rattle.plan_edits.proofs.Typing.{fire_typed, first_keeps}
 
+-- each item of a word has the type of its port
 abbrev pub AreAt : List QueueType → Word → Type 0
 AreAt is [] = Unit {0}
 AreAt is (e ∷ es) = IsOf is e.0 e.1 × AreAt is es
@@ -42,10 +43,12 @@ at_word : (is : List QueueType) (p : ℕ) (xs : List item.Item) → All (IsOf is
 at_word is p [] h = tt
 at_word is p (x ∷ xs) h = (All-head (IsOf is p) x xs h, at_word is p xs (All-tail (IsOf is p) x xs h))
 
+-- the items of lists of their types, as a word
 pub at_order : (is : List QueueType) (n q : ℕ) (h : ℕ → List item.Item) → AreOf is h → AreAt is (in_order n q h)
 at_order is zero q h t = tt
 at_order is (suc n) q h t = at_append is (word_of q (h q)) (in_order n (suc q) h) (at_word is q (h q) (t q)) (at_order is n (suc q) h t)
 
+-- a run gives items of their types
 pub run_typed : (k : Kern) (is os : List QueueType) (vs : List VarKind) (w : Word) (ss : List Kept) → Fits k is os vs → HasShape k ss → Keeps k is ss → AreAt is w → AreOf os (run (fire k) w ss).outs
 run_typed k is os vs [] ss f h t a = λ j. All-nil (IsOf os j)
 run_typed k is os vs (e ∷ es) ss f h t a =
@@ -54,6 +57,7 @@ run_typed k is os vs (e ∷ es) ss f h t a =
     let rest = run_typed k is os vs es s.states f (fire_shape k e.0 e.1 ss (shaped k is os vs f) h) one.1 a.1 in
     λ j. All-append (IsOf os j) (s.outs j) ((run (fire k) es s.states).outs j) (one.0 j) (rest j)
 
+-- the histories of the queues that are read
 pub reads_of : (kind : Name → QueueType) (h : History) (rs : List Name) → ((q : Name) → 0 < count q rs → All (HasType (kind q)) (h q)) → AreOf (map kind rs) (lists_of h rs)
 reads_of kind h [] e p = All-nil (IsOf [] p)
 reads_of kind h (r ∷ rs) e zero = e r (count_here r rs)
@@ -77,6 +81,7 @@ module _ (p : PlanForm) (v : IsPlan p) where
       f (first_shape op.kernel s) (first_keeps op.kernel (map kinds op.reads) s)
       (at_order (map kinds op.reads) (ins op.kernel) 0 (lists_of h op.reads) (reads_of kinds h op.reads e))
 
+  -- all items in the histories of a valid plan are of their types
   pub all_typed : (inputs : List (List item.Item)) → AreInputs p.inputs inputs → AreTyped p inputs
   all_typed inputs a q =
       let g = inputs_of (decl_names p.inputs) (list_at inputs) in

@@ -29,10 +29,12 @@ fits_agree kind kind' var op e h =
     subst (λ l. Fits op.kernel l (map kind' op.writes) (map var op.vars)) (map_agree kind kind' op.reads (λ x lt. e x (omega (arith, lt))))
     (subst (λ l. Fits op.kernel (map kind op.reads) l (map var op.vars)) (map_agree kind kind' op.writes (λ x lt. e x (omega (arith, lt)))) h)
 
+-- the same for all of these operators
 pub each_fits : (kind kind' : Name → QueueType) (var : Name → VarKind) (ops : List OpForm) → ((x : Name) → 0 < total (reads_it x) ops + total (writes_it x) ops → kind x ≡ kind' x) → Each (FitsAt kind var) ops → Each (FitsAt kind' var) ops
 each_fits kind kind' var [] e h = tt
 each_fits kind kind' var (op ∷ ops) e h = (fits_agree kind kind' var op (λ x lt. e x (omega (arith, lt))) h.0, each_fits kind kind' var ops (λ x lt. e x (omega (arith, lt))) h.1)
 
+-- how often a name is still declared
 pub undeclared_count : (q x : Name) (ds : List Decl) → 0 < count q (decl_names ds) → count x (decl_names (undeclared q ds)) + one_if (name_eq q x) ≡ count x (decl_names ds)
 undeclared_count q x [] lt = absurd (omega (arith, lt))
 undeclared_count q x (d ∷ ds) lt = ⊎_elim
@@ -44,6 +46,7 @@ undeclared_count q x (d ∷ ds) lt = ⊎_elim
     omega (arith, e, i))
     (cases_name d.name q)
 
+-- the types of other names stay
 pub undeclared_kind : (q x : Name) (ds : List Decl) → name_eq q x ≡ false → kind_in (undeclared q ds) x ≡ kind_in ds x
 undeclared_kind q x [] n = refl
 undeclared_kind q x (d ∷ ds) n = ⊎_elim
@@ -58,6 +61,7 @@ kind_last os is ds ds' x e =
     λ l. kind_in-append os (is ++ l) x ∙ ap (either (kind_in os x)) (kind_in-append is l x) in
     ap (λ o. unwrap_or o (rows 0)) (f ds' ∙ ap (λ o. either (kind_in os x) (either (kind_in is x) o)) e ∙ sym (f ds))
 
+-- what holds of all declarations holds of those that are left
 pub all_undeclared : (P : Decl → Type 0) (q : Name) (ds : List Decl) → All P ds → All P (undeclared q ds)
 all_undeclared P q [] h = h
 all_undeclared P q (d ∷ ds) h = ⊎_elim
@@ -65,6 +69,7 @@ all_undeclared P q (d ∷ ds) h = ⊎_elim
     (λ c. subst (All P) (sym (if_false (name_eq d.name q) ds (d ∷ undeclared q ds) c.1)) (All-cons P d (undeclared q ds) (All-head P d ds h) (all_undeclared P q ds (All-tail P d ds h))))
     (cases_name d.name q)
 
+-- no more declarations than before
 pub undeclared_length : (q : Name) (ds : List Decl) → length (undeclared q ds) ≤ length ds
 undeclared_length q [] = omega arith
 undeclared_length q (d ∷ ds) = ⊎_elim
@@ -90,33 +95,41 @@ tables_length ts ps (v ∷ vs) d =
     ap length (if_ge 0 (count v (table_names ts)) (v ∷ rest) rest ge) ∙ i ∙ sym (ap (λ m. tables_in (m ∷ map (var_kind ts ps) vs)) k))
     (cases_lt 0 (count v (table_names ts)))
 
+-- what holds of two lists holds of the first
 pub all_here : {A : Type 0} (P : A → Type 0) (xs ys : List A) → All P (xs ++ ys) → All P xs
 all_here P [] ys h = All-nil P
 all_here P (x ∷ xs) ys h = All-cons P x xs (All-head P x (xs ++ ys) h) (all_here P xs ys (All-tail P x (xs ++ ys) h))
 
+-- what holds of two lists holds of the second
 pub all_there : {A : Type 0} (P : A → Type 0) (xs ys : List A) → All P (xs ++ ys) → All P ys
 all_there P [] ys h = h
 all_there P (x ∷ xs) ys h = all_there P xs ys (All-tail P x (xs ++ ys) h)
 
+-- what holds of all numbers holds of those of each operator
 pub flat_each : (f : OpForm → List ℕ) (P : ℕ → Type 0) (ops : List OpForm) → All P (flat_map f ops) → Each (λ op. All P (f op)) ops
 flat_each f P [] h = tt
 flat_each f P (op ∷ ops) h = (all_here P (f op) (flat_map f ops) h, flat_each f P ops (all_there P (f op) (flat_map f ops) h))
 
+-- and the other way
 pub each_flat : (f : OpForm → List ℕ) (P : ℕ → Type 0) (ops : List OpForm) → Each (λ op. All P (f op)) ops → All P (flat_map f ops)
 each_flat f P [] h = All-nil P
 each_flat f P (op ∷ ops) h = All-append P (f op) (flat_map f ops) h.0 (each_flat f P ops h.1)
 
+-- the same for one number of each operator
 pub map_each : (f : OpForm → ℕ) (P : ℕ → Type 0) (ops : List OpForm) → All P (map f ops) → Each (λ op. P (f op)) ops
 map_each f P [] h = tt
 map_each f P (op ∷ ops) h = (All-head P (f op) (map f ops) h, map_each f P ops (All-tail P (f op) (map f ops) h))
 
+-- and the other way
 pub each_map : (f : OpForm → ℕ) (P : ℕ → Type 0) (ops : List OpForm) → Each (λ op. P (f op)) ops → All P (map f ops)
 each_map f P [] h = All-nil P
 each_map f P (op ∷ ops) h = All-cons P (f op) (map f ops) h.0 (each_map f P ops h.1)
 
+-- what holds of one number
 pub all_one : (P : ℕ → Type 0) (n : ℕ) → P n → All P (n ∷ [])
 all_one P n h = All-cons P n [] h (All-nil P)
 
+-- as many as there are operators
 pub total_length : (ops : List OpForm) → total (λ op. 1) ops ≡ length ops
 total_length [] = refl
 total_length (op ∷ ops) = let e = total_length ops in omega (arith, e)

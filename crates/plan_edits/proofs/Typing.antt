@@ -527,6 +527,7 @@ waits_none is (suc n) (suc p) = go n p
     go (suc n) zero = All-nil (IsOf is (suc p))
     go (suc n) (suc q) = go n q
 
+-- the first states keep nothing
 pub first_keeps : (k : Kern) (is : List QueueType) → IsShaped k → Keeps k is (first_kept k)
 first_keeps (code k) is f = tt
 first_keeps (filter g) is f = tt

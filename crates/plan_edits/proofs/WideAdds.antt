@@ -33,6 +33,7 @@ widths_in [] = []
 widths_in (Private ∷ vs) = widths_in vs
 widths_in (Table n ∷ vs) = n ∷ widths_in vs
 
+-- rows of the width of their table
 abbrev pub IsWide : Option ℕ → List ℤ → Type 0
 IsWide None row = ⊥
 IsWide (Some n) row = length row ≡ n
@@ -146,6 +147,7 @@ feed_wide P m ns f step (x ∷ xs) ss a h =
     let rest = feed_wide P m ns f step xs (f x ss).states (All-tail (HasType m) x xs a) one.1 in
     λ j. All-append (IsWide (slice_get ns j)) ((f x ss).adds j) ((feed f xs (f x ss).states).adds j) (one.0 j) (rest j)
 
+-- the rows that a firing adds have the widths of their tables
 pub fire_wide : (k : Kern) (is os : List QueueType) (vs : List VarKind) (p : ℕ) (x : item.Item) (ss : List Kept) → Fits k is os vs → HasShape k ss → Keeps k is ss → IsOf is p x → AreWide (widths_in vs) (fire k p x ss).adds
 fire_wide (code k) is os vs p x ss f h t i = nothing_wide (widths_in vs) _ (code_none k x ss)
 fire_wide (filter g) is os vs p x ss f h t i = nothing_wide (widths_in vs) _ (filter_none g x ss)

@@ -67,6 +67,7 @@ makes-has p text = by (tokens_in text) refl where
   by (Err (lex.BigNumber at)) e = e
   by (Err lex.NoMemory) e = absurd (no_want text e)
 
+-- what a script makes is what it has
 pub makes_what_it_has : MakesWhatItHas
 makes_what_it_has p text made = (λ e. subst (Has p text) e (makes-has p text), has-makes p text made)
 
@@ -78,6 +79,7 @@ lexed-unread text (lex.BadByte at) e = λ p. lexed-makes p text (lex.BadByte at)
 lexed-unread text (lex.BigNumber at) e = λ p. lexed-makes p text (lex.BigNumber at) e
 lexed-unread text lex.NoMemory e = tt
 
+-- the reading of a text with a unit that is no step
 pub unit-unread : (text : List ℕ) (marks : List Mark) (unit : ℕ) → tokens_in text ≡ Ok marks → read_steps 1 [] (units_of (toks marks)) ≡ Err unit → IsUnread text (at_unit unit)
 unit-unread text marks unit lexed read = λ p. bad-makes p text unit (script-bad text marks unit lexed read)
 
@@ -89,14 +91,17 @@ few-steps text marks ss short lexed read =
     let c = tokens-few text marks lexed in
     omega (arith, a, b, c, short)
 
+-- the last plan of the steps
 pub ended-made : (p q : PlanForm) (text : List ℕ) (ss : List StepForm) → IsScript text ss → script_of p ss ≡ Ok q → rewritten p text ≡ Ok q
 ended-made p q text ss t e = stands-makes p text ss t ∙ ap ended e
 
+-- the first step that fails
 pub ended-refused : (p : PlanForm) (text : List ℕ) (ss : List StepForm) (f : ScriptFault) → IsScript text ss → IsEnded p ss (Err f) → Refused (rewritten p text) f
 ended-refused p text ss (Text refusal) t e = absurd e
 ended-refused p text ss (Unfit step why) t e = stands-makes p text ss t ∙ ap ended e
 ended-refused p text ss NoMemory t e = tt
 
+-- a text that is not read makes no plan
 pub unread-refused : (p : PlanForm) (text : List ℕ) (f : ScriptFault) → IsUnread text f → Refused (rewritten p text) f
 unread-refused p text (Text refusal) h = h p
 unread-refused p text (Unfit step why) h = absurd h

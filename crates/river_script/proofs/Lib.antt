@@ -1,4 +1,5 @@
 pub mod Fronts
+pub mod Instances
 pub mod Loops
 pub mod Scripts
 pub mod Steps

@@ -25,6 +25,7 @@ exact-counted : Exact Counted counted_at Any
 unfolding counted_at step_name_at
 exact-counted = exact-both (exact-tested is_name exact-name) (exact-before (s.Semicolon ∷ []) (exact-tested is_count exact-number) (λ rest. tt)) (λ y ts rest g d. tt)
 
+-- a step is read exactly
 pub exact-step : Exact IsStep step_at Any
 unfolding step_at step_after
 exact-step = exact-headed (λ w.
@@ -32,9 +33,11 @@ exact-step = exact-headed (λ w.
     (exact-choose (bytes_eq w (codes "hoist")) (exact-seen hoisting exact-named)
     (exact-choose (bytes_eq w (codes "fission")) (exact-seen split_into exact-counted) exact-never)))
 
+-- any step may follow any step
 abbrev pub in_any : Unit {0} → Parse StepForm
 in_any u = step_at
 
+-- the same, for the units of a text
 pub exact-in : (u : Unit {0}) → Exact (StepIn u) (in_any u) Any
 exact-in u = exact-step
 
@@ -63,6 +66,7 @@ added-none : (r : Result (List StepForm) ℕ) → added [] r ≡ r
 added-none (Ok ss) = refl
 added-none (Err n) = refl
 
+-- the steps of the units
 pub units-read : (units : List (List Tok)) → read_steps 1 [] units ≡ read_units in_any go_on tt 1 units
 units-read units = steps-read 1 [] units ∙ added-none (read_units in_any go_on tt 1 units)
 
@@ -80,13 +84,16 @@ steps-many n done ss (u ∷ us) e = by (whole step_at u) e (λ s f. steps-many (
     length_more [] x = refl
     length_more (y ∷ xs) x = let r = length_more xs x in omega (arith, r)
 
+-- as many steps as units
 pub script-few : (ss : List StepForm) (units : List (List Tok)) → read_steps 1 [] units ≡ Ok ss → length ss ≡ length units
 script-few ss units e = let k = steps-many 1 [] ss units e in omega (arith, k)
 
+-- what was read is in the grammar
 pub script-read : (text : List ℕ) (marks : List Mark) (ss : List StepForm) → tokens_in text ≡ Ok marks → read_steps 1 [] (units_of (toks marks)) ≡ Ok ss → IsScript text ss
 script-read text marks ss lexed read =
     record { marks = marks; lexed = lexed; formed = all-formed go_on exact-in tt 1 (units_of (toks marks)) ss (sym (units-read (units_of (toks marks))) ∙ read) }
 
+-- the unit that is told is the first that is no step
 pub script-bad : (text : List ℕ) (marks : List Mark) (m : ℕ) → tokens_in text ≡ Ok marks → read_steps 1 [] (units_of (toks marks)) ≡ Err m → IsBadAt text m
 script-bad text marks m lexed read =
     record { marks = marks; lexed = lexed; first = first-bad go_on exact-in tt (units_of (toks marks)) m (sym (units-read (units_of (toks marks))) ∙ read) }
@@ -100,6 +107,7 @@ same_marks text ms ns e f = same (sym e ∙ f) where
   same : ◌≡◌ {A = Result (List Mark) LexFault} (Ok ms) (Ok ns) → ms ≡ ns
   same g = cc
 
+-- a text stands for one script at most
 pub one_script : OneScript
 one_script text ss ts t u = same (sym (script-reads text ss t) ∙ ap (λ (ms : List Mark). read_steps 1 [] (units_of (toks ms))) (same_marks text t.marks u.marks t.lexed u.lexed) ∙ script-reads text ts u) where
   same : ◌≡◌ {A = Result (List StepForm) ℕ} (Ok ss) (Ok ts) → ss ≡ ts

@@ -25,6 +25,7 @@ outer_refl p = record { outputs = refl; inputs = refl; tables = refl }
 keeps_refl : (p : PlanForm) → IsPlan p → Keeps p p
 keeps_refl p v = (v, outer_refl p, λ inputs a. record { hist = λ q lt. refl; adds = λ t test. refl })
 
+-- one rewrite after another
 pub keeps_trans : (p q r : PlanForm) → Keeps p q → Keeps q r → Keeps p r
 keeps_trans p q r a b = (
   b.0,
@@ -38,6 +39,7 @@ keeps_trans p q r a b = (
       },
 )
 
+-- each step keeps what a plan means
 pub step_keeps : (p p' : PlanForm) (s : StepForm) → IsPlan p → step_of p s ≡ Ok p' → Keeps p p'
 step_keeps p p' (fusing q) v h = let k = fuse_law p p' q v h in (k.0, k.1, λ inputs a. k.2 inputs)
 step_keeps p p' (hoisting l) v h = let k = hoist_law p p' l v h in (k.0, k.1, λ inputs a. k.2 inputs (all_typed p v inputs a))
@@ -58,8 +60,10 @@ from_keeps : (n : ℕ) (p p' : PlanForm) (ss : List StepForm) → IsPlan p → s
 from_keeps n p p' [] v h = subst (Keeps p) (ok_script p p' (Ok p) refl h) (keeps_refl p v)
 from_keeps n p p' (s ∷ ss) v h = after_keeps n p p' s (step_of p s) ss v refl h (λ q w g. from_keeps (suc n) q p' ss w g)
 
+-- so a script does
 pub script_law : ScriptKeeps
 script_law p p' ss v h = from_keeps 1 p p' ss v h
 
+-- tables included
 pub script_means : ScriptMeans
 script_means p p' ss v h = let k = script_law p p' ss v h in (k.0, k.1, λ inputs a. meaning_same p p' inputs v k.0 k.1 a (k.2 inputs a))

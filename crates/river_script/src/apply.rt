@@ -66,8 +66,8 @@ fn apply(alloc: Global, plan: &Plan, step: Step) -> Result<Plan, Unfit>
     ensures { IsAnswered (step_of plan.now (step_form step)) result }
 {
     match step {
-        Step::Fuse(queue) => fuse(alloc, plan, queue),
-        Step::Hoist(label) => hoist(alloc, plan, label),
+        Step::Fuse(queue) => fuse(alloc, plan, &queue),
+        Step::Hoist(label) => hoist(alloc, plan, &label),
         Step::Fission { label, n } => fission(alloc, plan, &label, n),
     }
 }

@@ -54,6 +54,7 @@ pub record Accepted (p : PlanForm) (l : Name) (n : ℕ) (p' : PlanForm) : Type 0
   pub many : 2 ≤ n
   pub few : n ≤ 16
   pub reads : op.reads ≡ source ∷ []
+  -- a way that was found is one of the three
   pub way_is : way_of p op (made_of l) n (kind_of (all_decls p) source) ≡ Some way
   pub apart : is_apart (split_by p l op (made_of l) n (kind_of (all_decls p) source) way) ≡ true
   pub is : p' ≡ split_by p l op (made_of l) n (kind_of (all_decls p) source) way
@@ -94,6 +95,7 @@ op_found p l n p' (Some op) e h = ⊎_elim
     (λ f. not_ok ((sym (ap (λ b. if b then by_reads p l op n op.reads else no N2) f) ∙ h)))
     (cases_bool (nat_le 2 n && nat_le n 16))
 
+-- what an accepted step found
 pub accepted : (p : PlanForm) (l : Name) (n : ℕ) (p' : PlanForm) → fission_of p l n ≡ Ok p' → Accepted p l n p'
 accepted p l n p' h = op_found p l n p' (first_with (named_it l) p.ops) refl h
 

@@ -86,6 +86,7 @@ module _ (p : PlanForm) (l : Name) (op : OpForm) (m : Made) (n : ℕ) (source : 
       ∙ ap (weigh one) (items_turns ws 0 0 xs)
       ∙ sym (fed xs)
 
+  -- an operator that only adds may be split
   pub splits_adds : IsApart (split_by p l op m n (Flat t) w) → Splits (λ x. Unit {0}) p l op m n source (Flat t) w
   splits_adds apart = record {
     some = some;

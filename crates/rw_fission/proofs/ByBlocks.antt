@@ -45,6 +45,7 @@ module _ (p : PlanForm) (l : Name) (op : OpForm) (m : Made) (n : ℕ) (source : 
   fit = subst (λ k. Fits k (map (kind_of (all_decls p)) op.reads) (map (kind_of (all_decls p)) op.writes) (map (var_kind p.tables p.vars) op.vars)) y.kernel
       (it_is p.ops _ op (split_ops op m n w) (swap_of l p.ops op (split_ops op m n w) (found (named_it l) p.ops op here)) (IsFit p) v.fits)
 
+  -- a filter reads rows of one value
   pub kind_in : kind_of (all_decls p) source ≡ rows 1
   kind_in = let e = sym (ap (map (kind_of (all_decls p))) y.reads) ∙ fit.0 in (let i : kind_of (all_decls p) source ≡ rows 1 = cc e in i)
 
@@ -82,6 +83,7 @@ module _ (p : PlanForm) (l : Name) (op : OpForm) (m : Made) (n : ℕ) (source : 
         let a = variables (m.replica i) in let c = count_each m.replica n i lt in let d = count-append (m.replica i) (each_name m.replica n) (m.joiner ∷ []) in
         omega (arith, a, c, d)
 
+    -- a filter that takes whole blocks may be split
     pub splits_blocks : Splits (λ x. Unit {0}) p l op m n source (rows 1) w
     splits_blocks = record {
       some = some;

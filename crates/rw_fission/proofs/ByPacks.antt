@@ -38,6 +38,7 @@ module _ (p : PlanForm) (l : Name) (op : OpForm) (m : Made) (n : ℕ) (source ou
   abbrev w : Way
   w = by_packs p op m n u
 
+  -- the kernel fits
   pub fit : Fits op.kernel (Flat t ∷ []) (Flat u ∷ []) []
   fit =
       let h : IsFit p op = it_is p.ops _ op (split_ops op m n w) (swap_of l p.ops op (split_ops op m n w) (found (named_it l) p.ops op here)) (IsFit p) v.fits in
@@ -51,6 +52,7 @@ module _ (p : PlanForm) (l : Name) (op : OpForm) (m : Made) (n : ℕ) (source ou
   shape : IsShaped op.kernel
   shape = shaped op.kernel (Flat t ∷ []) (Flat u ∷ []) [] fit
 
+  -- it has no private variable
   pub no_privates : privates op.kernel ≡ 0
   no_privates = sym (counts op.kernel (Flat t ∷ []) (Flat u ∷ []) [] fit).privates
 
@@ -73,6 +75,7 @@ module _ (p : PlanForm) (l : Name) (op : OpForm) (m : Made) (n : ℕ) (source ou
       ∙ ap (λ ws. packs_of op.kernel ((feed (deal_one ws) xs (Turn 0 0 ∷ [])).outs i)) (shares_are n 1))
       ∙ ap (λ ss. (feed (fire op.kernel 0) xs ss).outs 0) (sym no_state)
 
+  -- an operator without variables may be split
   pub splits_packs : IsApart (split_by p l op m n (Flat t) w) → Splits (GivesFlat op.kernel) p l op m n source (Flat t) w
   splits_packs apart = record {
     some = some;

@@ -22,7 +22,7 @@ use Rattle.river_plan.specs.Valid.{IsPlan}
 use Rattle.brooklet_model.specs.Histories.{hist}
 use Rattle.rw_fission.specs.Fission.{Way, split_by, by_packs, by_blocks, by_adds}
 use Rattle.plan_edits.specs.Lists.{first_with}
-use Rattle.plan_edits.specs.Meaning.{AreTyped, SameMeaning}
+use Rattle.plan_edits.specs.Meaning.{SameOuter, AreTyped, SameMeaning}
 use Rattle.rw_fission.specs.Laws.{FissionKeeps, FissionApart}
 use Rattle.rw_fission.specs.Made.{Made, made_of}
 use Rattle.rw_fission.specs.May.{IsApart, is_apart, is_within, stand_once}
@@ -85,6 +85,7 @@ all_limits : (t : Limit → Bool) (ls : List Limit) → ((limit : Limit) → t l
 all_limits t [] h = refl
 all_limits t (x ∷ xs) h = and_from (t x) (list_all t xs) (h x) (all_limits t xs h)
 
+-- what the tests of a result say
 pub apart_is : (p : PlanForm) → is_apart p ≡ true → IsApart p
 apart_is p h =
     let rest2 = stand_once (labels p.ops) && list_all (is_within p) limits in
@@ -98,6 +99,7 @@ apart_is p h =
       within = λ limit. all_below (most_of limit) (numbers limit p) (limit_in (is_within p) c.1 limit);
     }
 
+-- a valid plan passes these tests
 pub is_apart_of : (p : PlanForm) → IsPlan p → is_apart p ≡ true
 is_apart_of p v =
     let rest2 = stand_once (labels p.ops) && list_all (is_within p) limits in
@@ -157,6 +159,7 @@ module _ (p : PlanForm) (l : Name) (op : OpForm) (n : ℕ) (source : Name) (v : 
         λ inputs i. law.same_meaning (λ x. Unit {0}) p l op m n source (Flat t) (by_adds p op m) v here s inputs (any_good (hist p inputs source)),
       ))
 
+  -- whatever the way, a result that passes the tests is valid, and means the same
   pub way_keeps : (w : Way) → IsWay p op m n source w → IsApart (split_by p l op m n (kind_of (all_decls p) source) w) → Keeps p (split_by p l op m n (kind_of (all_decls p) source) w)
   way_keeps w k a = ⊎_elim
       (λ s. by_type (Flat k.type) k.kind (by_packs_keeps k.type w s))
@@ -168,12 +171,14 @@ module _ (p : PlanForm) (l : Name) (op : OpForm) (n : ℕ) (source : Name) (v : 
       by_type : (t : QueueType) → kind_of (all_decls p) source ≡ t → (IsApart (split_by p l op m n t w) → Keeps p (split_by p l op m n t w)) → Keeps p (split_by p l op m n (kind_of (all_decls p) source) w)
       by_type t e f = subst (λ q. IsApart (split_by p l op m n q w) → Keeps p (split_by p l op m n q w)) (sym e) f a
 
+-- the law of fission
 pub fission_keeps : FissionKeeps
 fission_keeps p p' l n v h =
     let c = accepted p l n p' h in
     let some : 0 < n = (let a = c.many in omega (arith, a)) in
     subst (Keeps p) (sym c.is) (way_keeps p l c.op n c.source v c.here some c.way (way_is p c.op (made_of l) n c.source c.way c.reads c.way_is) (apart_is _ c.apart))
 
+-- the last condition is exact
 pub fission_apart : FissionApart
 fission_apart p l n op source w v here r some e = (
   (λ a. (way_keeps p l op n source v here some w (way_is p op (made_of l) n source w r e) (apart_is _ a)).0),

@@ -15,9 +15,11 @@ outer : (ds : List Decl) → All IsOuter ds → All HasWidth ds
 outer [] h = All-nil HasWidth
 outer (d ∷ ds) h = All-cons HasWidth d ds (All-head IsOuter d ds h).0 (outer ds (All-tail IsOuter d ds h))
 
+-- what holds of all declarations
 pub all_named : (r : PlanForm) → decl_names (all_decls r) ≡ queue_names r
 all_named r = names_append r.outputs (r.inputs ++ r.queues) ∙ ap (λ l. decl_names r.outputs ++ l) (names_append r.inputs r.queues)
 
+-- a queue that is declared has a width
 pub named_sized : (p : PlanForm) → IsPlan p → (q : Name) → 0 < count q (queue_names p) → IsTrue (is_width (type_width (kind_of (all_decls p) q)))
 named_sized p v q lt =
     kind_sized (all_decls p) q

@@ -33,15 +33,18 @@ lists_at f zero g h l i lt = absurd (omega (arith, lt))
 lists_at f (suc n) g h l zero lt = l.0
 lists_at f (suc n) g h l (suc i) lt = lists_at (λ i. f (suc i)) n (λ i. g (suc i)) h l.1 i (omega (arith, lt))
 
+-- the history at a made name
 pub read_at : (f : ℕ → Name) (n : ℕ) (h : History) (i : ℕ) → i < n → lists_of h (each_name f n) i ≡ h (f i)
 read_at f zero h i lt = absurd (omega (arith, lt))
 read_at f (suc n) h zero lt = refl
 read_at f (suc n) h (suc i) lt = read_at (λ i. f (suc i)) n h i (omega (arith, lt))
 
+-- a sum over the replicas
 pub total_copies : (f : OpForm → ℕ) (g : ℕ → OpForm) (n : ℕ) → total f (each_op g n) ≡ sum_below n (λ i. f (g i))
 total_copies f g zero = refl
 total_copies f g (suc n) = let e = total_copies f (λ i. g (suc i)) n in omega (arith, e)
 
+-- sums of equal numbers
 pub sum_same : (n : ℕ) (f g : ℕ → ℕ) → ((i : ℕ) → i < n → f i ≡ g i) → sum_below n f ≡ sum_below n g
 sum_same zero f g h = refl
 sum_same (suc n) f g h = let a = h 0 (omega arith) in let b = sum_same n (λ i. f (suc i)) (λ i. g (suc i)) (λ i lt. h (suc i) (omega (arith, lt))) in omega (arith, a, b)
@@ -154,9 +157,11 @@ module _ (Good : item.Item → Type 0) (p : PlanForm) (l : Name) (op : OpForm) (
       in_put : (q : Name) → total (writes_it q) p'.ops ≡ 0 → h' q ≡ g q
       in_put q z = let a = split.writes_more Good p l op m n source t w v here y q in old q (omega (arith, a, z)) ∙ stays p.ops g q (omega (arith, a, z))
 
+      -- these are the histories of the new plan
       pub is_hist : (q : Name) → h' q ≡ histories p'.ops g q
       is_hist q = swapped_hist p p' v (split.valid Good p l op m n source t w v here y) op put (split.e Good p l op m n source t w v here y) g h' put_solves same_h in_put q
 
+      -- the outputs are the same
       pub out_same : (q : Name) → 0 < count q (decl_names p.outputs) → histories p'.ops g q ≡ h q
       out_same q lt = sym (is_hist q) ∙ old q (split.old_named Good p l op m n source t w v here y q (let i = split.ends_named Good p l op m n source t w v here y q in omega (arith, i, lt)))
 
@@ -172,6 +177,7 @@ module _ (Good : item.Item → Type 0) (p : PlanForm) (l : Name) (op : OpForm) (
           let k = no_adds tables h' x test (record { label = m.joiner; kernel = j.0; reads = each_name m.given n; writes = op.writes; vars = m.joiner ∷ [] }) m.joiner refl (no_table m.joiner (y.joiner_new j e)) in
           omega (arith, k)
 
+      -- the bags of rows are the same
       pub adds_same : (x : Name) (test : List ℤ → Bool) → count_by test (adds tables p'.ops (histories p'.ops g) x) ≡ count_by test (adds tables p.ops h x)
       adds_same x test =
           let a = swapped_adds p p' v (split.valid Good p l op m n source t w v here y) op put (split.e Good p l op m n source t w v here y) g h' put_solves same_h in_put tables x test in
@@ -185,6 +191,7 @@ module _ (Good : item.Item → Type 0) (p : PlanForm) (l : Name) (op : OpForm) (
           let o = ap (λ r. count_by test (joined (tables_of tables op) r.adds x)) (fed_one op source h y.reads one_in) in
           omega (arith, a, b, c, d, e, f, k, o)
 
+  -- the new plan means the same
   pub same_meaning : (inputs : List (List item.Item)) → All Good (hist p inputs source) → SameMeaning p p' inputs
   same_meaning inputs good = record {
     hist = λ q lt. out_same (given_to p inputs) good q lt;

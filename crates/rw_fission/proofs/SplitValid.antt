@@ -30,11 +30,13 @@ use Rattle.rw_fission.proofs.Declared.{names_of_decls, kind_decls, count_each, m
 
 -- REPLICAS AND JOINERS
 
+-- how often replicas read a queue
 pub copies_read : (x : Name) (g : ℕ → OpForm) (a : ℕ → Name) (n : ℕ) → ((i : ℕ) → (g i).reads ≡ a i ∷ []) → total (reads_it x) (each_op g n) ≡ count x (each_name a n)
 copies_read x g a zero e = refl
 copies_read x g a (suc n) e =
     let i = copies_read x (λ i. g (suc i)) (λ i. a (suc i)) n (λ i. e (suc i)) in let h = ap (count x) (e 0) in omega (arith, i, h)
 
+-- how often replicas write a queue
 pub copies_write : (x : Name) (g : ℕ → OpForm) (b : ℕ → Name) (j : Option (Kern × QueueType)) (n : ℕ) → ((i : ℕ) → (g i).writes ≡ outs_of j (b i)) → total (writes_it x) (each_op g n) ≡ count x (given_names b n j)
 copies_write x g b None zero e = refl
 copies_write x g b (Some j) zero e = refl
@@ -43,6 +45,7 @@ copies_write x g b None (suc n) e =
 copies_write x g b (Some j) (suc n) e =
     let i = copies_write x (λ i. g (suc i)) (λ i. b (suc i)) (Some j) n (λ i. e (suc i)) in let h = ap (count x) (e 0) in omega (arith, i, h)
 
+-- what holds of each replica
 pub each_copy : (P : OpForm → Type 0) (g : ℕ → OpForm) (n : ℕ) → ((i : ℕ) → i < n → P (g i)) → Each P (each_op g n)
 each_copy P g zero h = tt
 each_copy P g (suc n) h = (h 0 (omega arith), each_copy P (λ i. g (suc i)) n (λ i lt. h (suc i) (omega (arith, lt))))
@@ -66,6 +69,7 @@ joins_before : (op : OpForm) (m : Made) (n : ℕ) (j : Option (Kern × QueueType
 joins_before op m n None known h = tt
 joins_before op m n (Some j) known h = (h, tt)
 
+-- what holds of the joiner
 pub each_join : (P : OpForm → Type 0) (op : OpForm) (m : Made) (n : ℕ) (j : Option (Kern × QueueType))
     → ((k : Kern × QueueType) → j ≡ Some k → P (record { label = m.joiner; kernel = k.0; reads = each_name m.given n; writes = op.writes; vars = m.joiner ∷ [] })) → Each P (joiner_ops op m n j)
 each_join P op m n None h = tt
@@ -88,35 +92,44 @@ one_at_most w x = ⊎_elim (λ c. let e = ap one_if c.1 in omega (arith, e)) (λ
 
 module _ (Good : item.Item → Type 0) (p : PlanForm) (l : Name) (op : OpForm) (m : Made) (n : ℕ) (source : Name) (t : QueueType) (w : Way) (v : IsPlan p)
     (here : first_with (named_it l) p.ops ≡ Some op) (y : Splits Good p l op m n source t w) where
+  -- the new plan
   abbrev pub p' : PlanForm
   p' = split_by p l op m n t w
 
+  -- the queues from the splitter
   abbrev pub da : List Name
   da = each_name m.dealt n
 
+  -- the queues to the joiner
   abbrev pub pa : List Name
   pa = given_names m.given n w.join
 
+  -- the replicas
   abbrev pub copies : List OpForm
   copies = each_op (replica_op w m) n
 
+  -- what is put in the place of the operator
   abbrev pub put : List OpForm
   put = split_ops op m n w
 
+  -- the swap
   abbrev pub e : Swap p.ops p'.ops op put
   e = swap_of l p.ops op put (found (named_it l) p.ops op here)
 
   abbrev stays : (OpForm → ℕ) → ℕ
   stays f = stay p.ops p'.ops op put e f
 
+  -- a sum over what is put
   pub put_sum : (f : OpForm → ℕ) → total f put ≡ f (splitter_op op m n w) + (total f copies + total f (joiner_ops op m n w.join))
   put_sum f = let a = total-append f copies (joiner_ops op m n w.join) in omega (arith, a)
 
   -- QUEUES
 
+  -- a queue that was written before
   pub writes_old : (x : Name) → total (writes_it x) p.ops ≡ stays (writes_it x) + count x op.writes
   writes_old x = sum_old p.ops p'.ops op put e (writes_it x)
 
+  -- a queue that was read before
   pub reads_old : (x : Name) → total (reads_it x) p.ops ≡ stays (reads_it x) + count x op.reads
   reads_old x = sum_old p.ops p'.ops op put e (reads_it x)
 
@@ -132,9 +145,11 @@ module _ (Good : item.Item → Type 0) (p : PlanForm) (l : Name) (op : OpForm) (
       let c = joins_read x op m n w.join in
       omega (arith, a, b, c)
 
+  -- how often a queue is written
   pub writes_more : (x : Name) → total (writes_it x) p'.ops ≡ total (writes_it x) p.ops + (count x da + count x pa)
   writes_more x = let a = writes_old x in let b = sum_new p.ops p'.ops op put e (writes_it x) in let c = put_writes x in omega (arith, a, b, c)
 
+  -- how often a queue is read
   pub reads_more : (x : Name) → total (reads_it x) p'.ops ≡ total (reads_it x) p.ops + (count x da + count x pa)
   reads_more x = let a = reads_old x in let b = sum_new p.ops p'.ops op put e (reads_it x) in let c = put_reads x in omega (arith, a, b, c)
 
@@ -150,6 +165,7 @@ module _ (Good : item.Item → Type 0) (p : PlanForm) (l : Name) (op : OpForm) (
   new_named : decl_names new_decls ≡ da ++ pa
   new_named = names_append (decls t da) (given_decls m n w.join) ∙ ap (λ l. l ++ decl_names (given_decls m n w.join)) (names_of_decls t da) ∙ ap (λ l. da ++ l) (given_names_of m n w.join)
 
+  -- how often a queue is declared
   pub names_more : (x : Name) → count x (queue_names p') ≡ count x (queue_names p) + (count x da + count x pa)
   names_more x =
       let a = ap (count x) (sym (all_named p') ∙ ap decl_names decls_are ∙ names_append (all_decls p) new_decls) in
@@ -158,11 +174,13 @@ module _ (Good : item.Item → Type 0) (p : PlanForm) (l : Name) (op : OpForm) (
       let d = ap (count x) new_named ∙ count-append x da pa in
       omega (arith, a, b, c, d)
 
+  -- the ends are declared
   pub ends_named : (x : Name) → count x (decl_names p.inputs) + count x (decl_names p.outputs) ≤ count x (queue_names p)
   ends_named x =
       let a = count-append x (decl_names p.outputs) (decl_names p.inputs ++ decl_names p.queues) in let b = count-append x (decl_names p.inputs) (decl_names p.queues) in
       omega (arith, a, b)
 
+  -- made names are new
   pub made_once : (x : Name) → count x da + count x pa ≤ 1
   made_once x = let b = names_more x in let o = y.queues_once x in omega (arith, b, o)
 
@@ -170,9 +188,11 @@ module _ (Good : item.Item → Type 0) (p : PlanForm) (l : Name) (op : OpForm) (
   pub old_named : (x : Name) → 0 < count x (queue_names p) → count x da + count x pa ≡ 0
   old_named x lt = let b = names_more x in let o = y.queues_once x in omega (arith, b, o, lt)
 
+  -- a queue that was written is not made
   pub old_write : (x : Name) → 0 < total (writes_it x) p.ops → count x da + count x pa ≡ 0
   old_write x lt = old_named x (v.writes_declared x lt)
 
+  -- a queue that was read is not made
   pub old_read : (x : Name) → 0 < total (reads_it x) p.ops → count x da + count x pa ≡ 0
   old_read x lt = old_named x (v.reads_declared x lt)
 
@@ -250,9 +270,11 @@ module _ (Good : item.Item → Type 0) (p : PlanForm) (l : Name) (op : OpForm) (
   var_new : (x : Name) → 0 < count x w.new → var' x ≡ Private
   var_new x lt = let o = y.variables_once x in let c = vars_named x in private_is p.tables p'.vars x (omega (arith, o, lt)) (omega (arith, c, lt))
 
+  -- tables are what they were
   pub var_tables : (x : Name) → 0 < count x (table_names p.tables) → var x ≡ var' x
   var_tables x lt = table_is p.tables p.vars p'.vars x lt
 
+  -- made variables are private
   pub var_private : (x : Name) → 0 < count x w.new → var' x ≡ Private
   var_private x lt = var_new x lt
 
@@ -313,6 +335,7 @@ module _ (Good : item.Item → Type 0) (p : PlanForm) (l : Name) (op : OpForm) (
       (subst (λ ts. Fits j.0 (replicate n j.1) ts (var' m.joiner ∷ [])) (sym b)
       (subst (λ ts. Fits j.0 (replicate n j.1) (kind out ∷ []) ts) (sym c) en.3))
 
+  -- what holds of splitter, replicas and joiner
   pub put_all : (P : OpForm → Type 0) → P (splitter_op op m n w) → ((i : ℕ) → i < n → P (replica_op w m i))
       → ((j : Kern × QueueType) → w.join ≡ Some j → P (record { label = m.joiner; kernel = j.0; reads = each_name m.given n; writes = op.writes; vars = m.joiner ∷ [] })) → Each P put
   put_all P s c j = (s, each_append P copies (joiner_ops op m n w.join) (each_copy P (replica_op w m) n c) (each_join P op m n w.join j))
@@ -338,6 +361,7 @@ module _ (Good : item.Item → Type 0) (p : PlanForm) (l : Name) (op : OpForm) (
   t_sized : IsTrue (is_width (type_width t))
   t_sized = subst (λ k. IsTrue (is_width (type_width k))) y.kind (kind_sized (all_decls p) source all_sized (let a = ap (count source) (all_named p) in let b = source_named in omega (arith, a, b)))
 
+  -- the new plan is valid
   pub valid : IsPlan p'
   valid = record {
     queues_once = y.queues_once;

@@ -62,9 +62,11 @@ ended_no true q v n = ⊎_elim
     (λ f. sym (ap (λ b. if b then yes q else no N5) f))
     (cases_bool (is_apart q))
 
+-- a valid result is accepted
 pub ended_yes : (short : Bool) (q : PlanForm) → short ≡ true → is_apart q ≡ true → yes q ≡ (if short && is_apart q then yes q else no N5)
 ended_yes short q s a = sym (ap (λ b. if b && is_apart q then yes q else no N5) s ∙ ap (λ b. if b then yes q else no N5) a)
 
+-- names that are too long are refused
 pub ended_long : (short : Bool) (q : PlanForm) → short ≡ false → no N5 ≡ (if short && is_apart q then yes q else no N5)
 ended_long short q s = sym (ap (λ b. if b && is_apart q then yes q else no N5) s)
 
@@ -87,6 +89,7 @@ judged_step short q (Err N4) s v j = absurd j
 judged_step short q (Err N5) s v j = ended_no short q v.0 j
 judged_step short q (Err NoMemory) s v j = tt
 
+-- how long a label may be
 pub short_le : (l : Name) (n : ℕ) → 1 ≤ n → are_short (all_made (made_of l) n) ≡ true → length l + longest n ≤ 64
 short_le l n some h = let e : nat_le (length l + longest n) 64 ≡ true = short_is l n (length l) (longest n) some refl refl ∙ h in grind (arith, e)
 
@@ -100,9 +103,11 @@ not_one p l op n [] h = refl
 not_one p l op n (x ∷ []) h = absurd (h refl)
 not_one p l op n (x ∷ y ∷ rs) h = refl
 
+-- not one input
 pub step_not_one : (p : PlanForm) (l : Name) (op : OpForm) (n : ℕ) → 2 ≤ n → n ≤ 16 → length op.reads ≢ 1 → no N3 ≡ by_op p l n (Some op)
 step_not_one p l op n a b h = sym (in_bounds n (by_reads p l op n op.reads) (no N2) a b ∙ not_one p l op n op.reads h)
 
+-- one input
 pub one_read : (rs : List Name) (q : Name) → length rs ≡ 1 → ((d : Name) → q ≡ slice_index_or rs 0 d) → rs ≡ q ∷ []
 one_read [] q l h = absurd (omega (arith, l))
 one_read (x ∷ []) q l h = ap (λ y. y ∷ []) (sym (h x))
@@ -117,6 +122,7 @@ step_way p l op n source t o a b r e h =
     ∙ ap (λ k. by_way p l op n k (way_of p op (made_of l) n k)) (sym e)
     ∙ ap (by_way p l op n t) h
 
+-- none of the three forms
 pub step_no_way : (p : PlanForm) (l : Name) (op : OpForm) (n : ℕ) (source : Name) (t : QueueType) → 2 ≤ n → n ≤ 16 → op.reads ≡ source ∷ [] → t ≡ kind_of (all_decls p) source → way_of p op (made_of l) n t ≡ None → no N4 ≡ by_op p l n (Some op)
 step_no_way p l op n source t a b r e h = sym (step_way p l op n source t None a b r e h)
 
@@ -128,6 +134,7 @@ module _ (p : PlanForm) (l : Name) (i : ℕ) (op : OpForm) (n : ℕ) (source : N
   split_is : split_by p l op (made_of l) n t w ≡ split_plan p i op (made_of l) n t w
   split_is = ap (λ ops. record (split_by p l op (made_of l) n t w) { ops = ops }) (place.swap (split_ops op (made_of l) n w))
 
+  -- the tests of the result
   pub apart_valid : IsPlan p → let q = split_plan p i op (made_of l) n t w in (is_apart q ≡ true → IsPlan q) × (IsPlan q → is_apart q ≡ true)
   apart_valid v =
       let here : first_with (named_it l) p.ops ≡ Some op = place.first ∙ sym place.at ∙ g in
@@ -135,6 +142,7 @@ module _ (p : PlanForm) (l : Name) (i : ℕ) (op : OpForm) (n : ℕ) (source : N
       (subst (λ k. (is_apart (split_by p l op (made_of l) n k w) ≡ true → IsPlan (split_by p l op (made_of l) n k w)) × (IsPlan (split_by p l op (made_of l) n k w) → is_apart (split_by p l op (made_of l) n k w) ≡ true)) (sym e)
       (fission_apart p l n op source w v here r (omega (arith, many)) (subst (λ k. way_of p op (made_of l) n k ≡ Some w) e h)))
 
+  -- the layers one under the other
   pub step_ends : (u : Answer) → IsStep (λ x. x ≡ (if are_short (all_made (made_of l) n) && is_apart (split_plan p i op (made_of l) n t w) then yes (split_plan p i op (made_of l) n t w) else no N5)) u → IsStep (λ x. x ≡ by_op p l n (Some op)) u
   step_ends u s =
       subst (λ y. IsStep (λ x. x ≡ y) u)
@@ -159,5 +167,6 @@ step_answered told (Err N4) h = sym h
 step_answered told (Err N5) h = sym h
 step_answered told (Err NoMemory) h = tt
 
+-- the place of a label
 pub place_below : (l : Name) (ops : List Op) (i : ℕ) → IsPlace l (op_forms ops) i → i < length ops
 place_below l ops i p = let e = length-map ops op_form in let b = p.below in omega (arith, b, e)

@@ -9,6 +9,7 @@ use Rattle.river_plan.specs.declared.plan.Decl.{Decl}
 use Rattle.river_plan.specs.Forms.{Name, OpForm, PlanForm}
 use Rattle.river_plan.specs.Names.{count}
 use Rattle.rw_fission.specs.Made.{Made, each_name}
+use Rattle.plan_edits.specs.Lists.{swapped}
 
 -- n weights
 abbrev pub weights : ℕ → ℕ → List ℤ

@@ -10,7 +10,7 @@ use Rattle.rw_fission.specs.Fission.{Way, split_by}
 use Rattle.plan_edits.specs.Lists.{first_with}
 use Rattle.rw_fission.specs.Made.{made_of}
 use Rattle.rw_fission.specs.May.{is_apart}
-use Rattle.plan_edits.specs.Meaning.{SameMeaning, AreTyped}
+use Rattle.plan_edits.specs.Meaning.{SameOuter, SameMeaning, AreTyped}
 
 -- an accepted step gives a valid plan, which means what the plan means, on all inputs on which the plan's histories are of their types
 abbrev pub FissionKeeps : Type 0

@@ -13,10 +13,10 @@ use Rattle.river_plan.specs.Names.{count, one_if}
 use Rattle.river_plan.specs.Uses.{Each, total, writes_it, reads_it}
 use Rattle.river_plan.specs.Valid.{IsPlan}
 use Rattle.river_plan.proofs.NameLemmas.{cases_bool}
+use Rattle.river_plan.proofs.ShareLemmas.{each_back}
 use Rattle.brooklet_model.proofs.Lists.{if_true, if_false, if_lt, if_ge, if_eq}
 use Rattle.plan_edits.specs.Lists.{place, undeclared, first_with, replaced}
 use Rattle.rw_local.specs.Fuse.{fused_op, fused_plan, share, is_large, fuse_found, fuse_of}
-use Rattle.rw_local.specs.FuseCode.{fused_ops, fused_lists}
 use Rattle.plan_edits.proofs.Surgery.{total-append, found}
 use Rattle.plan_edits.proofs.Types.{flat_each}
 use Rattle.rw_local.proofs.FuseLaw.{names_of, fuse_keeps}
@@ -33,14 +33,17 @@ decl_next q (x ∷ ds) (suc i) d lt e n z =
     let s = ap (λ m. count q (decl_names (take m (x ∷ ds)))) k in
     omega (arith, r, s, z)
 
+-- a declaration of another name
 pub decl_next_at : (q : Name) (ds : List Decl) (i : ℕ) (d : Decl) → i < length ds → d ≡ get_or ds i d → name_eq d.name q ≡ false → count q (decl_names (take i ds)) ≡ 0 → count q (decl_names (take (i + 1) ds)) ≡ 0
 decl_next_at q ds i d lt e n z = decl_next q ds i d lt e n z
 
+-- a name that is declared
 pub decl_there : (q : Name) (ds : List Decl) (i : ℕ) (d : Decl) → i < length ds → d ≡ get_or ds i d → name_eq d.name q ≡ true → 0 < count q (decl_names ds)
 decl_there q [] i d lt e t = absurd (omega (arith, lt))
 decl_there q (x ∷ ds) zero d lt e t = let k = ap one_if (sym (ap (λ y. name_eq y.name q) e) ∙ t) in omega (arith, k)
 decl_there q (x ∷ ds) (suc i) d lt e t = let r = decl_there q ds i d (omega (arith, lt)) e t in omega (arith, r)
 
+-- the place of the declaration
 pub decl_at : (q : Name) (ds : List Decl) (i : ℕ) (d : Decl) → i < length ds → d ≡ get_or ds i d → name_eq d.name q ≡ true → count q (decl_names (take i ds)) ≡ 0 → i ≡ place q (decl_names ds)
 decl_at q [] i d lt e t z = absurd (omega (arith, lt))
 decl_at q (x ∷ ds) zero d lt e t z = sym (if_true (name_eq x.name q) 0 (suc (place q (decl_names ds))) (sym (ap (λ y. name_eq y.name q) e) ∙ t))
@@ -49,6 +52,7 @@ decl_at q (x ∷ ds) (suc i) d lt e t z = ⊎_elim
     (λ c. ap suc (decl_at q ds i d (omega (arith, lt)) e t (omega (arith, z))) ∙ sym (if_false (name_eq x.name q) 0 (suc (place q (decl_names ds))) c))
     (cases_bool (name_eq x.name q))
 
+-- where there is none, the place is the length
 pub decl_past : (q : Name) (ds : List Decl) (i : ℕ) → length ds ≤ i → i ≤ length ds → count q (decl_names (take i ds)) ≡ 0 → i ≡ place q (decl_names ds)
 decl_past q [] i ge le z = omega (arith, le)
 decl_past q (x ∷ ds) zero ge le z = absurd (omega (arith, ge))
@@ -57,6 +61,7 @@ decl_past q (x ∷ ds) (suc i) ge le z = ⊎_elim
     (λ c. ap suc (decl_past q ds i (omega (arith, ge)) (omega (arith, le)) (omega (arith, z))) ∙ sym (if_false (name_eq x.name q) 0 (suc (place q (decl_names ds))) c))
     (cases_bool (name_eq x.name q))
 
+-- the place of a declaration that is there
 pub decl_below : (q : Name) (ds : List Decl) → 0 < count q (decl_names ds) → place q (decl_names ds) < length ds
 decl_below q [] lt = absurd (omega (arith, lt))
 decl_below q (x ∷ ds) lt = ⊎_elim
@@ -64,6 +69,7 @@ decl_below q (x ∷ ds) lt = ⊎_elim
     (λ c. let e = if_false (name_eq x.name q) 0 (suc (place q (decl_names ds))) c in let z = ap one_if c in let i = decl_below q ds (omega (arith, z, lt)) in omega (arith, e, i))
     (cases_bool (name_eq x.name q))
 
+-- the declarations without one
 pub undeclared_is : (q : Name) (ds : List Decl) (n : ℕ) → 0 < count q (decl_names ds) → n ≡ place q (decl_names ds) → take n ds ++ drop (n + 1) ds ≡ undeclared q ds
 undeclared_is q ds n lt e = ap (λ m. take m ds ++ drop (m + 1) ds) e ∙ go ds lt
   where
@@ -80,33 +86,8 @@ undeclared_is q ds n lt e = ap (λ m. take m ds ++ drop (m + 1) ds) e ∙ go ds 
 
 -- OPERATORS
 
--- where one operator writes the queue, the loop makes what is defined
-pub fused_is : (q : Name) (w r : OpForm) (ops : List OpForm) → first_with (writes_it q) ops ≡ Some w → total (writes_it q) ops ≤ 1 → fused_ops q r ops ≡ replaced q (fused_op q w r ∷ []) ops
-fused_is q w r [] h once = refl
-fused_is q w r (op ∷ ops) h once = ⊎_elim
-    (λ lt.
-    let e : op ≡ w = some_op (sym (if_lt 0 (count q op.writes) (Some op) (first_with (writes_it q) ops) lt) ∙ h) in
-    if_lt 0 (count q op.writes) _ _ lt ∙ ap (λ o. fused_op q o r ∷ fused_ops q r ops) e ∙ ap (λ l. fused_op q w r ∷ l) (rest ops (omega (arith, lt, once)))
-    ∙ sym (if_lt 0 (count q op.writes) _ _ lt))
-    (λ ge.
-    let i = fused_is q w r ops (sym (if_ge 0 (count q op.writes) (Some op) (first_with (writes_it q) ops) ge) ∙ h) (omega (arith, once)) in
-    if_ge 0 (count q op.writes) _ _ ge ∙ ap (λ l. if nat_lt 0 (count q op.reads) then l else op ∷ l) i ∙ sym (if_ge 0 (count q op.writes) _ _ ge))
-    (cases_lt 0 (count q op.writes))
-  where
-    some_op : Some op ≡ Some w → op ≡ w
-    some_op k = cc k
-
-    rest : (xs : List OpForm) → total (writes_it q) xs ≡ 0 → fused_ops q r xs ≡ replaced q (fused_op q w r ∷ []) xs
-    rest [] z = refl
-    rest (x ∷ xs) z =
-        let a : count q x.writes ≤ 0 = omega (arith, z) in
-        if_ge 0 (count q x.writes) _ _ a ∙ ap (λ l. if nat_lt 0 (count q x.reads) then l else x ∷ l) (rest xs (omega (arith, z))) ∙ sym (if_ge 0 (count q x.writes) _ _ a)
-
-few_of : (ops : List Op) → Each (λ op. All (λ n. n ≤ 64) (length op.reads ∷ length op.writes ∷ [])) (op_forms ops) → All (λ op. length op.writes < 2 ^ 32) ops
-few_of [] h = All-nil (λ op. length op.writes < 2 ^ 32)
-few_of (op ∷ ops) h = All-cons (λ o. length o.writes < 2 ^ 32) op ops (let a = h.0 1 0 (omega arith) in omega (arith, a)) (few_of ops h.1)
-
 module _ (p : PlanForm) (q : Name) (w r : OpForm) (v : IsPlan p) (hw : first_with (writes_it q) p.ops ≡ Some w) (hr : first_with (reads_it q) p.ops ≡ Some r) where
+  -- the writer writes the queue
   pub writes_there : 0 < count q w.writes
   writes_there = (found (writes_it q) p.ops w hw).has
 
@@ -116,6 +97,7 @@ module _ (p : PlanForm) (q : Name) (w r : OpForm) (v : IsPlan p) (hw : first_wit
   read : 0 < total (reads_it q) p.ops
   read = let f = found (reads_it q) p.ops r hr in let a = ap (total (reads_it q)) f.is ∙ total-append (reads_it q) f.before (r ∷ f.behind) in let b = f.has in omega (arith, a, b)
 
+  -- the queue is neither an input nor an output
   pub declared_there : 0 < count q (decl_names p.queues)
   declared_there =
       let a = v.writes_declared q written in
@@ -126,13 +108,19 @@ module _ (p : PlanForm) (q : Name) (w r : OpForm) (v : IsPlan p) (hw : first_wit
       let k = read in
       omega (arith, a, b, d, f, g, k)
 
-  pub lists_are : fused_lists q r p ≡ fused_plan p q w r
-  lists_are = ap (λ ops. record p { queues = undeclared q p.queues; ops = ops }) (fused_is q w r p.ops hw (let o = v.written_once q in omega (arith, o)))
+  -- as few outputs as a plan may have
+  pub few : length w.writes < 2 ^ 32
+  few =
+      let f = found (writes_it q) p.ops w hw in
+      let a = each_back (λ op. All (λ n. n ≤ 64) (length op.reads ∷ length op.writes ∷ [])) f.before (w ∷ f.behind) (subst (Each (λ op. All (λ n. n ≤ 64) (length op.reads ∷ length op.writes ∷ []))) f.is (flat_each (λ op. length op.reads ∷ length op.writes ∷ []) (λ n. n ≤ 64) p.ops (v.within Ports))) in
+      let b = a.0 1 0 (omega arith) in
+      omega (arith, b)
 
-  pub lists_valid : length r.reads ≡ 1 → is_large (fused_op q w r) ≡ false → share w.vars r.vars ≡ false → IsPlan (fused_lists q r p)
-  lists_valid one small none =
+  -- the new lists are valid
+  pub fused_valid : length r.reads ≡ 1 → is_large (fused_op q w r) ≡ false → share w.vars r.vars ≡ false → IsPlan (fused_plan p q w r)
+  fused_valid one small none =
       let l = or_parts (nat_lt 32 (nesting (fused_op q w r).kernel)) (nat_lt 64 (length (fused_op q w r).writes)) small in
-      subst IsPlan (sym lists_are) (fuse_keeps p q w r v (record {
+      (fuse_keeps p q w r v (record {
         writer = hw;
         reader = hr;
         only_input = one;
@@ -140,9 +128,6 @@ module _ (p : PlanForm) (q : Name) (w r : OpForm) (v : IsPlan p) (hw : first_wit
         ports = ltb-false 64 (length (fused_op q w r).writes) l.1;
         apart = shares_none w.vars r.vars none;
       })).0
-
-pub few : (p : PlanForm) (ops : List Op) → p.ops ≡ op_forms ops → IsPlan p → All (λ op. length op.writes < 2 ^ 32) ops
-few p ops e v = few_of ops (subst (Each (λ op. All (λ n. n ≤ 64) (length op.reads ∷ length op.writes ∷ []))) e (flat_each (λ op. length op.reads ∷ length op.writes ∷ []) (λ n. n ≤ 64) p.ops (v.within Ports)))
 
 -- a name among the queues of a plan
 pub in_any : (p : PlanForm) (q : Name) → (0 < count q (decl_names p.outputs) + (count q (decl_names p.inputs) + count q (decl_names p.queues)) → 0 < count q (queue_names p)) × (0 < count q (queue_names p) → 0 < count q (decl_names p.outputs) + (count q (decl_names p.inputs) + count q (decl_names p.queues)))

@@ -36,6 +36,7 @@ use Rattle.plan_edits.proofs.Surgery.{all_agree, adds_it_same}
 use Rattle.plan_edits.proofs.Types.{each_fits, undeclared_count, undeclared_kind, kind_last, all_undeclared, undeclared_length, tables_length, flat_each, each_flat, map_each, each_map, all_one, all_here, total_length}
 use Rattle.rw_local.proofs.FuseLemmas.{map-spliced, lists_spliced, place_below, place_of, list_at_place, count_spliced, joined_beside, fused_given, length_one}
 
+-- how often a name is declared in three lists
 pub names_of : (os is qs : List Name) (x : Name) → count x (os ++ (is ++ qs)) ≡ count x os + (count x is + count x qs)
 names_of os is qs x = let a = count-append x os (is ++ qs) in let b = count-append x is qs in omega (arith, a, b)
 
@@ -336,5 +337,6 @@ module _ (p : PlanForm) (q : Name) (w r : OpForm) (v : IsPlan p) (m : MayFuse p 
       adds = same_adds;
     }
 
+-- fusion keeps a plan valid, and what it means
 pub fuse_keeps : (p : PlanForm) (q : Name) (w r : OpForm) → IsPlan p → MayFuse p q w r → IsPlan (fused_plan p q w r) × ((inputs : List (List item.Item)) → SameMeaning p (fused_plan p q w r) inputs)
 fuse_keeps p q w r v m = (valid p q w r v m, same p q w r v m)

@@ -26,15 +26,18 @@ use Rattle.rw_local.specs.Fuse.{fused_op}
 
 -- SPLICED LISTS
 
+-- splicing behind the first element
 pub spliced_next : {A : Type 0} (at : ℕ) (m : A) (ms bs : List A) → spliced (suc at) (m ∷ ms) bs ≡ m ∷ spliced at ms bs
 spliced_next at m ms bs = let e : suc at + 1 ≡ suc (at + 1) = omega arith in ap (λ n. m ∷ (take at ms ++ (bs ++ drop n (m ∷ ms)))) e
 
+-- splicing and mapping
 pub map-spliced : {A B : Type 0} (f : A → B) (at : ℕ) (ms bs : List A) → at < length ms → map f (spliced at ms bs) ≡ spliced at (map f ms) (map f bs)
 map-spliced f at [] bs lt = absurd (omega (arith, lt))
 map-spliced f zero (m ∷ ms) bs lt = map-append f bs ms
 map-spliced f (suc at) (m ∷ ms) bs lt =
     ap (map f) (spliced_next at m ms bs) ∙ ap (λ l. f m ∷ l) (map-spliced f at ms bs (omega (arith, lt))) ∙ sym (spliced_next at (f m) (map f ms) (map f bs))
 
+-- the lists of two lists of names
 pub lists_append : (vs ws : List Name) (f g : ℕ → List item.Item) (h : History) → Lists vs f h → Lists ws g h → (k : ℕ → List item.Item) → ((j : ℕ) → j < length vs → k j ≡ f j) → ((j : ℕ) → k (length vs + j) ≡ g j) → Lists (vs ++ ws) k h
 lists_append [] ws f g h a b k e e' = lists_cong ws g k h (λ j. let z : j ≡ 0 + j = omega arith in sym (ap k z ∙ e' j)) b
 lists_append (v ∷ vs) ws f g h a b k e e' = (
@@ -43,6 +46,7 @@ lists_append (v ∷ vs) ws f g h a b k e e' = (
       (λ j. let z : suc (length vs + j) ≡ length (v ∷ vs) + j = omega arith in ap k z ∙ e' j),
 )
 
+-- the lists of spliced names
 pub lists_spliced : (at : ℕ) (ws vs : List Name) (f g : ℕ → List item.Item) (h : History) → at < length ws → Lists ws f h → Lists vs g h → Lists (spliced at ws vs) (splice at (length vs) f g) h
 lists_spliced at [] vs f g h lt a b = absurd (omega (arith, lt))
 lists_spliced zero (w ∷ ws) vs f g h lt a b = lists_append vs ws g (λ j. f (suc j)) h b a.1 (splice 0 (length vs) f g)
@@ -56,6 +60,7 @@ lists_spliced (suc at) (w ∷ ws) vs f g h lt a b =
 
 -- PLACES
 
+-- the place of a name that is there
 pub place_below : (ws : List Name) (q : Name) → 0 < count q ws → place q ws < length ws
 place_below [] q lt = absurd (omega (arith, lt))
 place_below (w ∷ ws) q lt = ⊎_elim
@@ -63,6 +68,7 @@ place_below (w ∷ ws) q lt = ⊎_elim
     (λ c. let e = if_false (name_eq w q) 0 (suc (place q ws)) c.1 in let z = ap one_if c.1 in let i = place_below ws q (omega (arith, z, lt)) in omega (arith, e, i))
     (cases_name w q)
 
+-- the value at the place of a name
 pub place_of : {A : Type 0} (f : Name → A) (ws : List Name) (q : Name) → 0 < count q ws → slice_get (map f ws) (place q ws) ≡ Some (f q)
 place_of f [] q lt = absurd (omega (arith, lt))
 place_of f (w ∷ ws) q lt = ⊎_elim
@@ -70,6 +76,7 @@ place_of f (w ∷ ws) q lt = ⊎_elim
     (λ c. ap (slice_get (map f (w ∷ ws))) (if_false (name_eq w q) 0 (suc (place q ws)) c.1) ∙ place_of f ws q (let z = ap one_if c.1 in omega (arith, z, lt)))
     (cases_name w q)
 
+-- the list at the place of a name
 pub list_at_place : (ws : List Name) (q : Name) (f : ℕ → List item.Item) (h : History) → 0 < count q ws → Lists ws f h → h q ≡ f (place q ws)
 list_at_place [] q f h lt l = absurd (omega (arith, lt))
 list_at_place (w ∷ ws) q f h lt l = ⊎_elim
@@ -77,6 +84,7 @@ list_at_place (w ∷ ws) q f h lt l = ⊎_elim
     (λ c. list_at_place ws q (λ j. f (suc j)) h (let e = ap one_if c.1 in omega (arith, e, lt)) l.1 ∙ ap f (sym (if_false (name_eq w q) 0 (suc (place q ws)) c.1)))
     (cases_name w q)
 
+-- how often a name stands in spliced lists
 pub count_spliced : (ws vs : List Name) (q x : Name) → 0 < count q ws → count x (spliced (place q ws) ws vs) + one_if (name_eq q x) ≡ count x ws + count x vs
 count_spliced [] vs q x lt = absurd (omega (arith, lt))
 count_spliced (w ∷ ws) vs q x lt = ⊎_elim
@@ -101,6 +109,7 @@ beside_next n f g p = ⊎_elim
     (λ ge. let e : p - n ≡ suc p - suc n = omega (arith, ge) in if_ge p n (f (suc p)) (g (p - n)) ge ∙ ap g e ∙ sym (if_ge (suc p) (suc n) (f (suc p)) (g (suc p - suc n)) (omega (arith, ge))))
     (cases_lt p n)
 
+-- the rows of two operators in one
 pub joined_beside : {A : Type 0} (ts us : List Name) (f g : ℕ → List A) (t : Name) → joined (ts ++ us) (beside (length ts) f g) t ≡ joined ts f t ++ joined us g t
 joined_beside [] us f g t = joined_cong us (beside 0 f g) g t (λ j. let e : j - 0 ≡ j = omega arith in if_ge j 0 (f j) (g (j - 0)) (omega arith) ∙ ap g e)
 joined_beside (w ∷ ts) us f g t =
@@ -129,6 +138,7 @@ fused_given q w r h f reads eq =
     (subst (λ us. Same (given (fused_op q w r) h) (fused_of at (outs b) (tabs a) (run (fire a) word us) (λ xs. feed (fire b 0) xs (drop (privates a) (fa ++ fb))))) e1 l9) in
     subst (λ s. Same (given (fused_op q w r) h) (fused_of at (outs b) (tabs a) W (λ xs. s))) second l9'
 
+-- a list of one name
 pub length_one : (rs : List Name) (q : Name) → length rs ≡ 1 → 0 < count q rs → rs ≡ q ∷ []
 length_one [] q e lt = absurd (omega (arith, e))
 length_one (r ∷ []) q e lt = ⊎_elim (λ c. ap (λ n. n ∷ []) c.0) (λ c. absurd (let z = ap one_if c.1 in omega (arith, z, lt))) (cases_name r q)

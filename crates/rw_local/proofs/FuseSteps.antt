@@ -16,9 +16,11 @@ use Rattle.plan_edits.specs.Meaning.{SameOuter, SameMeaning}
 use Rattle.rw_local.specs.Fuse.{fused_op, fused_plan, share, is_large, fuse_two, fuse_found, fuse_of, MayFuse, FuseKeeps}
 use Rattle.rw_local.proofs.FuseLaw.{fuse_keeps}
 
+-- what is refused is not accepted
 pub not_ok : {A B : Type 0} (b : B) (a : A) → Err b ≡ Ok a → ⊥
 not_ok b a h = cc
 
+-- what is accepted is one plan
 pub ok_same : (x : Result PlanForm Unfit) (a a' : PlanForm) → x ≡ Ok a → x ≡ Ok a' → a ≡ a'
 ok_same x a a' e h = cc
 
@@ -72,12 +74,14 @@ module _ (p : PlanForm) (q : Name) (p' : PlanForm) where
   found (Some w) None hw hr h = absurd (not_ok U2 p' h)
   found (Some w) (Some r) hw hr h = two w r hw hr h
 
+  -- an accepted fusion found a writer and a reader that may be fused
   pub accepted : fuse_of p q ≡ Ok p' → Accepted p q p'
   accepted h = ⊎_elim
       (λ lt. found (first_with (writes_it q) p.ops) (first_with (reads_it q) p.ops) refl refl (sym (if_lt 0 (count q (queue_names p)) _ _ lt) ∙ h))
       (λ ge. absurd (not_ok U1 p' (sym (if_ge 0 (count q (queue_names p)) _ _ ge) ∙ h)))
       (cases_lt 0 (count q (queue_names p)))
 
+-- the law of fusion
 pub fuse_law : FuseKeeps
 fuse_law p p' q v h =
     let a = accepted p q p' h in

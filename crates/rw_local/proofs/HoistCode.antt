@@ -27,26 +27,32 @@ use Rattle.rw_local.specs.Hoist.{plain_field, of_projection, width_at, first_wid
 use Rattle.plan_edits.proofs.OpLoops.{forms_next}
 use Rattle.rw_local.proofs.HoistLaw.{hoist_keeps, mid_inner}
 
+-- the field of which a field of a projection is a copy
 pub plain_at : (xs : List Expr) (i : ℕ) (x : Expr) (o : Option ℕ) → slice_get xs i ≡ Some x → o ≡ plain_field (Some (term x)) → o ≡ of_projection (map term xs) i
 plain_at xs i x o h e = e ∙ sym (ap plain_field (slice_get-map term xs i ∙ ap (option_map term) h))
 
+-- beyond a projection there is no field
 pub plain_past : (xs : List Expr) (i : ℕ) → length xs ≤ i → None ≡ of_projection (map term xs) i
 plain_past xs i ge = sym (ap plain_field (slice_get-map term xs i ∙ ap (option_map term) (slice_get_past xs i ge)))
 
 -- TYPES
 
+-- the width of the first input
 pub width_first : (kind : Name → QueueType) (rs : List Name) (r : Name) (n : ℕ) → 0 < length rs → ((d : Name) → r ≡ slice_index_or rs 0 d) → n ≡ width_at (kind r) → n ≡ first_width (map kind rs)
 width_first kind [] r n lt e h = absurd (omega (arith, lt))
 width_first kind (x ∷ rs) r n lt e h = h ∙ ap (λ m. width_at (kind m)) (e r)
 
+-- the first name
 pub got_first : (rs : List Name) (r : Name) → 0 < length rs → ((d : Name) → r ≡ slice_index_or rs 0 d) → Some r ≡ slice_get rs 0
 got_first [] r lt e = absurd (omega (arith, lt))
 got_first (x ∷ rs) r lt e = ap Some (e r)
 
+-- a list that is not empty
 pub not_empty : (rs : List Name) → (rs ≡ [] → ⊥) → 0 < length rs
 not_empty [] h = absurd (h refl)
 not_empty (x ∷ rs) h = omega arith
 
+-- the declarations with one in its place
 pub retyped_is : (q : Name) (k : QueueType) (ds : List Decl) (n : ℕ) → 0 < count q (decl_names ds) → n ≡ place q (decl_names ds) → take n ds ++ (record { name = q; kind = k } ∷ drop (n + 1) ds) ≡ retyped q k ds
 retyped_is q k ds n lt e = ap (λ m. take m ds ++ (record { name = q; kind = k } ∷ drop (m + 1) ds)) e ∙ go ds lt
   where
@@ -81,6 +87,7 @@ replaced-append q news (x ∷ xs) ys = ⊎_elim
     assoc [] b c = refl
     assoc (y ∷ a) b c = ap (λ l. y ∷ l) (assoc a b c)
 
+-- the loop that replaces, one operator further
 pub replaced_next : (q : Name) (news : List OpForm) (xs : List Op) (i : ℕ) (x : Op) (now new : List OpForm) → i < length xs → x ≡ get_or xs i x → now ≡ replaced q news (op_forms (take i xs)) → new ≡ now ++ replaced q news (op_form x ∷ []) → new ≡ replaced q news (op_forms (take (i + 1) xs))
 replaced_next q news xs i x now new lt e h s =
     s ∙ ap (λ l. l ++ replaced q news (op_form x ∷ [])) h ∙ sym (ap (replaced q news) (forms_next xs i x lt e) ∙ replaced-append q news (op_forms (take i xs)) (op_form x ∷ []))
@@ -99,6 +106,7 @@ hoist_upto p l u b t mid out width a k r w below one e =
     ap (hoist_found p) a ∙ ap (hoist_kernel p u) k ∙ between_is p u t u.reads u.writes mid out r w ∙ ap (hoist_past p u t mid out) below ∙ if_eq (length b.writes) 1 _ _ one
     ∙ ap (λ n. hoist_passed p u b mid out (passes n b.kernel t)) (sym e)
 
+-- a refusal of the operator below is that of the step
 pub passing_err : (told : Result (ℕ × Term) Unfit) (whole : Result PlanForm Unfit) (f : Unfit) → ((g : Unfit) → told ≡ Err g → whole ≡ Err g) → IsPassing told (Err f) → IsAnswered whole (Err f)
 passing_err told whole U1 g h = g U1 h
 passing_err told whole U2 g h = g U2 h
@@ -128,11 +136,14 @@ module _ (p : PlanForm) (l : Name) (u b : OpForm) (t : Term) (mid out : Name) (w
     may : MayHoist p l u b t side t' src mid out
     may = record { here = a; selects = k; reads = sym r; writes = sym w; below = below; only = one; passes = subst (λ n. passes n b.kernel t ≡ Ok (side, t')) e ps; source = source }
 
+    -- the queue between is neither an input nor an output
     pub mid_there : 0 < count mid (decl_names p.queues)
     mid_there = (mid_inner p l u b t side t' src mid out v may).2
 
+    -- the new lists are valid
     pub hoisted_valid : IsPlan (hoisted_plan p u b side t' src mid out)
     hoisted_valid = (hoist_keeps p l u b t side t' src mid out v may).0
 
+    -- the step is accepted
     pub hoist_ok : hoist_of p l ≡ Ok (hoisted_plan p u b side t' src mid out)
     hoist_ok = hoist_upto p l u b t mid out width a k r w below one e ∙ ap (hoist_passed p u b mid out) ps ∙ ap (hoist_at p u b mid out (side, t')) source

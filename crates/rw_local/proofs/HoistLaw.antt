@@ -431,5 +431,6 @@ module _ (p : PlanForm) (l : Name) (u b : OpForm) (t : Term) (side : ℕ) (t' : 
       adds = same_adds;
     }
 
+-- hoisting keeps a plan valid, and what it means
 pub hoist_keeps : (p : PlanForm) (l : Name) (u b : OpForm) (t : Term) (side : ℕ) (t' : Term) (src mid out : Name) → IsPlan p → MayHoist p l u b t side t' src mid out → IsPlan (hoisted_plan p u b side t' src mid out) × ((inputs : List (List item.Item)) → AreTyped p inputs → SameMeaning p (hoisted_plan p u b side t' src mid out) inputs)
 hoist_keeps p l u b t side t' src mid out v m = (valid p l u b t side t' src mid out v m, same p l u b t side t' src mid out v m)

@@ -29,21 +29,25 @@ some_name a b h = cc h
 
 -- ONE NAME IN THE PLACE OF ANOTHER
 
+-- a name at a place
 pub at_count : (rs : List Name) (side : ℕ) (src : Name) → slice_get rs side ≡ Some src → 0 < count src rs
 at_count [] side src h = absurd (cc h)
 at_count (r ∷ rs) zero src h = subst (λ n. 0 < count n (r ∷ rs)) (some_name r src h) (count_here r rs)
 at_count (r ∷ rs) (suc side) src h = let i = at_count rs side src h in omega (arith, i)
 
+-- how often a name is read, one in the place of another
 pub moved_count : (rs vs : List Name) (side : ℕ) (src x : Name) → slice_get rs side ≡ Some src → count x (spliced side rs vs) + one_if (name_eq src x) ≡ count x rs + count x vs
 moved_count [] vs side src x h = absurd (cc h)
 moved_count (r ∷ rs) vs zero src x h = let a = count-append x vs rs in let e = ap (λ n. one_if (name_eq n x)) (some_name r src h) in omega (arith, a, e)
 moved_count (r ∷ rs) vs (suc side) src x h = let n = ap (count x) (spliced_next side r rs vs) in let i = moved_count rs vs side src x h in omega (arith, n, i)
 
+-- the place lies below the length
 pub moved_below : {A : Type 0} (rs : List A) (side : ℕ) (src : A) → slice_get rs side ≡ Some src → side < length rs
 moved_below [] side src h = absurd (cc h)
 moved_below (r ∷ rs) zero src h = omega arith
 moved_below (r ∷ rs) (suc side) src h = let i = moved_below rs side src h in omega (arith, i)
 
+-- the value at a place
 pub got_mapped : {A : Type 0} (f : Name → A) (rs : List Name) (side : ℕ) (src : Name) → slice_get rs side ≡ Some src → slice_get (map f rs) side ≡ Some (f src)
 got_mapped f [] side src h = absurd (cc h)
 got_mapped f (r ∷ rs) zero src h = ap (λ n. Some (f n)) (some_name r src h)
@@ -55,6 +59,7 @@ spliced_same [] side x h = absurd (cc h)
 spliced_same (y ∷ ys) zero x h = let e : y ≡ x = cc h in ap (λ z. z ∷ ys) (sym e)
 spliced_same (y ∷ ys) (suc side) x h = spliced_next side y ys (x ∷ []) ∙ ap (λ l. y ∷ l) (spliced_same ys side x h)
 
+-- the list at a place
 pub lists_at : (h : History) (rs : List Name) (side : ℕ) (src : Name) → slice_get rs side ≡ Some src → lists_of h rs side ≡ h src
 lists_at h [] side src e = absurd (cc e)
 lists_at h (r ∷ rs) zero src e = ap h (some_name r src e)
@@ -94,6 +99,7 @@ only_one [] x e h = absurd (omega (arith, e))
 only_one (y ∷ []) x e h = let d : y ≡ x = cc h in ap (λ z. z ∷ []) d
 only_one (y ∷ z ∷ zs) x e h = absurd (omega (arith, e))
 
+-- one name in a list of one
 pub one_counted : (ws : List Name) (q : Name) → length ws ≡ 1 → 0 < count q ws → ws ≡ q ∷ []
 one_counted [] q e lt = absurd (omega (arith, e))
 one_counted (r ∷ []) q e lt = ⊎_elim (λ c. ap (λ n. n ∷ []) c.0) (λ c. absurd (let z = ap one_if c.1 in omega (arith, z, lt))) (cases_name r q)
@@ -101,6 +107,7 @@ one_counted (r ∷ s ∷ rs) q e lt = absurd (omega (arith, e))
 
 -- ANOTHER TYPE
 
+-- the names stay
 pub retyped_names : (q : Name) (t : QueueType) (ds : List Decl) → decl_names (retyped q t ds) ≡ decl_names ds
 retyped_names q t [] = refl
 retyped_names q t (d ∷ ds) = ⊎_elim
@@ -108,6 +115,7 @@ retyped_names q t (d ∷ ds) = ⊎_elim
     (λ c. ap decl_names (if_false (name_eq d.name q) (record d { kind = t } ∷ ds) (d ∷ retyped q t ds) c.1) ∙ ap (λ l. d.name ∷ l) (retyped_names q t ds))
     (cases_name d.name q)
 
+-- the types of other names stay
 pub retyped_other : (q : Name) (t : QueueType) (ds : List Decl) (x : Name) → name_eq q x ≡ false → kind_in (retyped q t ds) x ≡ kind_in ds x
 retyped_other q t [] x n = refl
 retyped_other q t (d ∷ ds) x n = ⊎_elim
@@ -118,6 +126,7 @@ retyped_other q t (d ∷ ds) x n = ⊎_elim
     (λ c. ap (λ l. kind_in l x) (if_false (name_eq d.name q) (record d { kind = t } ∷ ds) (d ∷ retyped q t ds) c.1) ∙ ap (λ o. if name_eq d.name x then Some d.kind else o) (retyped_other q t ds x n))
     (cases_name d.name q)
 
+-- the type of the name
 pub retyped_here : (q : Name) (t : QueueType) (ds : List Decl) → 0 < count q (decl_names ds) → kind_in (retyped q t ds) q ≡ Some t
 retyped_here q t [] lt = absurd (omega (arith, lt))
 retyped_here q t (d ∷ ds) lt = ⊎_elim
@@ -133,11 +142,13 @@ kind_none (d ∷ ds) q z = ⊎_elim
     (λ c. if_false (name_eq d.name q) (Some d.kind) (kind_in ds q) c.1 ∙ kind_none ds q (omega (arith, z)))
     (cases_name d.name q)
 
+-- a declared name
 pub kind_there : (os is ds : List Decl) (q : Name) (t : QueueType) → count q (decl_names os) ≡ 0 → count q (decl_names is) ≡ 0 → kind_in ds q ≡ Some t → kind_of (os ++ (is ++ ds)) q ≡ t
 kind_there os is ds q t a b e =
     ap (λ o. unwrap_or o (rows 0)) (kind_in-append os (is ++ ds) q ∙ ap (λ o. either o (kind_in (is ++ ds) q)) (kind_none os q a)
     ∙ kind_in-append is ds q ∙ ap (λ o. either o (kind_in ds q)) (kind_none is q b) ∙ e)
 
+-- as many declarations
 pub retyped_length : (q : Name) (t : QueueType) (ds : List Decl) → length (retyped q t ds) ≡ length ds
 retyped_length q t [] = refl
 retyped_length q t (d ∷ ds) = ⊎_elim
@@ -145,6 +156,7 @@ retyped_length q t (d ∷ ds) = ⊎_elim
     (λ c. ap length (if_false (name_eq d.name q) (record d { kind = t } ∷ ds) (d ∷ retyped q t ds) c.1) ∙ ap suc (retyped_length q t ds))
     (cases_name d.name q)
 
+-- what holds of the declarations and of the new type
 pub all_retyped : (P : Decl → Type 0) (q : Name) (t : QueueType) (ds : List Decl) → ((d : Decl) → P (record d { kind = t })) → All P ds → All P (retyped q t ds)
 all_retyped P q t [] n h = h
 all_retyped P q t (d ∷ ds) n h = ⊎_elim

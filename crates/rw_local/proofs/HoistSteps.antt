@@ -17,6 +17,7 @@ use Rattle.rw_local.specs.Hoist.{first_width, passes, hoisted_plan, hoist_at, ho
 use Rattle.rw_local.proofs.FuseSteps.{not_ok, ok_same}
 use Rattle.rw_local.proofs.HoistLaw.{hoist_keeps}
 
+-- what an accepted hoisting found
 pub record Accepted (p : PlanForm) (l : Name) (p' : PlanForm) : Type 0 where
   pub above : OpForm
   pub below : OpForm
@@ -87,9 +88,11 @@ module _ (p : PlanForm) (l : Name) (p' : PlanForm) where
   found None a h = absurd (not_ok H1 p' h)
   found (Some u) a h = kernel u u.kernel a refl h
 
+  -- an accepted hoisting found a selection that may be hoisted
   pub accepted : hoist_of p l ≡ Ok p' → Accepted p l p'
   accepted h = found (first_with (named_it l) p.ops) refl h
 
+-- the law of hoisting
 pub hoist_law : HoistKeeps
 hoist_law p p' l v h =
     let a = accepted p l p' h in

@@ -9,23 +9,8 @@ use Rattle.brooklet_model.proofs.Lists.{if_lt, if_ge}
 use Rattle.brooklet_model.proofs.Ports.{length-spliced}
 use Rattle.plan_edits.specs.Lists.{place}
 use Rattle.rw_local.specs.Fuse.{fused_op, is_large}
-use Rattle.rw_local.specs.FuseCode.{fused_ops}
 use Rattle.rw_local.proofs.FuseLemmas.{place_below}
 use Rattle.plan_edits.proofs.OpLoops.{forms_next}
-
-fused_ops-append : (q : Name) (r : OpForm) (xs ys : List OpForm) → fused_ops q r (xs ++ ys) ≡ fused_ops q r xs ++ fused_ops q r ys
-fused_ops-append q r [] ys = refl
-fused_ops-append q r (x ∷ xs) ys = ⊎_elim
-    (λ lt. if_lt 0 (count q x.writes) _ _ lt ∙ ap (λ l. fused_op q x r ∷ l) (fused_ops-append q r xs ys) ∙ sym (ap (λ l. l ++ fused_ops q r ys) (if_lt 0 (count q x.writes) _ _ lt)))
-    (λ ge. if_ge 0 (count q x.writes) _ _ ge ∙ ⊎_elim
-    (λ lt. if_lt 0 (count q x.reads) _ _ lt ∙ fused_ops-append q r xs ys ∙ sym (ap (λ l. l ++ fused_ops q r ys) (if_ge 0 (count q x.writes) _ _ ge ∙ if_lt 0 (count q x.reads) _ _ lt)))
-    (λ g. if_ge 0 (count q x.reads) _ _ g ∙ ap (λ l. x ∷ l) (fused_ops-append q r xs ys) ∙ sym (ap (λ l. l ++ fused_ops q r ys) (if_ge 0 (count q x.writes) _ _ ge ∙ if_ge 0 (count q x.reads) _ _ g)))
-    (cases_lt 0 (count q x.reads)))
-    (cases_lt 0 (count q x.writes))
-
-pub fused_next : (q : Name) (r : OpForm) (xs : List Op) (i : ℕ) (x : Op) (now new : List OpForm) → i < length xs → x ≡ get_or xs i x → now ≡ fused_ops q r (op_forms (take i xs)) → new ≡ now ++ fused_ops q r (op_form x ∷ []) → new ≡ fused_ops q r (op_forms (take (i + 1) xs))
-fused_next q r xs i x now new lt e h s =
-    s ∙ ap (λ l. l ++ fused_ops q r (op_form x ∷ [])) h ∙ sym (ap (fused_ops q r) (forms_next xs i x lt e) ∙ fused_ops-append q r (op_forms (take i xs)) (op_form x ∷ []))
 
 -- LIMITS
 
@@ -39,5 +24,6 @@ large_is q w r a b m x y there ex ey ea eb em small =
     (λ ge. le-ltb 65 (x + y) ge ∙ sym (or_from (nat_lt 32 (nesting (fused_op q w r).kernel)) (nat_lt 64 (length (fused_op q w r).writes)) (le-ltb 32 (nesting (fused_op q w r).kernel) n) (le-ltb 64 (length (fused_op q w r).writes) (omega (arith, s, ge, ex, ey)))))
     (cases_lt 65 (x + y))
 
+-- the place of a queue among the outputs
 pub place_there : (q : Name) (ws : List Name) (n : ℕ) → n ≡ place q ws → 0 < count q ws → n < length ws
 place_there q ws n e lt = subst (λ k. k < length ws) (sym e) (place_below ws q lt)

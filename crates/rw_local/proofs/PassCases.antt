@@ -71,6 +71,7 @@ window_passed (Range span) t x h = let e = ok_pair (0, t) x (Ok (0, t)) refl h i
 window_passed Unbounded t x h = let e = ok_pair (0, t) x (Ok (0, t)) refl h in (sym (ap (λ y. y.0) e), ap (λ y. y.1) e, tt)
 window_passed (Latest n) t x h = absurd (no_pair H3 x h)
 
+-- what a selection passes, by cases
 pub passed : (width : ℕ) (k : Kern) (t : Term) (x : ℕ × Term) → passes width k t ≡ Ok x → Passed width k t x.0 x.1
 passed width (code k) t x h = absurd (no_pair H3 x h)
 passed width (filter f) t x h = absurd (no_pair H3 x h)
@@ -180,6 +181,7 @@ passed_fits (fused a b at) is m vs t os us side t' s f g h e = absurd h
 abbrev pub Commutes : Kern → Term → ℕ → Term → (ℕ → List item.Item) → Type 0
 Commutes k t side t' h = sift t ((feed_all k h (first_kept k)).outs 0) ≡ (feed_all k (with_at side (sift t' (h side)) h) (first_kept k)).outs 0
 
+-- a selection and what it passes change places
 pub passed_commutes : (k : Kern) (is os : List QueueType) (vs : List VarKind) (t : Term) (side : ℕ) (t' : Term) → Fits k is os vs → Passed (first_width is) k t side t' → (h : ℕ → List item.Item) → AreOf is h → Commutes k t side t' h
 passed_commutes (code k) is os vs t side t' f p h a = absurd p
 passed_commutes (filter k) is os vs t side t' f p h a = absurd p

@@ -1,4 +1,3 @@
 pub mod Fuse
-pub mod FuseCode
 pub mod Hoist
 pub mod HoistCode

@@ -1,10 +1,9 @@
 // Fusion of the writer and the reader of a queue.
-ghost use Rattle.std.specs.Prelude.{◌≡◌, ◌<◌, ◌^◌, IfOk, OnOk, ◌++◌, IsTrue, ◌↔◌, All, length, take, drop, ◌+◌};
+ghost use Rattle.std.specs.Prelude.{◌≡◌, ◌<◌, ◌^◌, IfOk, OnOk, ◌++◌, IsTrue, ◌↔◌, length, take, drop, ◌+◌};
 ghost use Rattle.river_plan.specs.Forms.{plan_form, op_form, op_forms, decl_names, queue_names};
 ghost use Rattle.river_plan.specs.Names.{count};
 ghost use Rattle.plan_edits.specs.Lists.{place, undeclared};
-ghost use Rattle.rw_local.specs.Fuse.{fuse_of};
-ghost use Rattle.rw_local.specs.FuseCode.{fused_ops, fused_lists};
+ghost use Rattle.rw_local.specs.Fuse.{fuse_of, fused_plan};
 ghost use Rattle.plan_edits.specs.Answered.{IsAnswered};
 
 use crate::names::share;
@@ -14,8 +13,16 @@ use plan_edits::Unfit;
 use river_plan::{Decl, Decls, Op, Plan, RawPlan};
 use std::alloc::Global;
 
-/// The plan with the writer and the reader of a queue as one operator, or the first condition that fails.
-pub fn fuse(alloc: Global, plan: &Plan, queue: Name) -> Result<Plan, Unfit>
+/// Operator fusion (DEBS 2012): the plan with the writer and the reader of a queue as one operator, or the first
+/// condition that fails.
+pub fn fuse(alloc: Global, plan: &Plan, queue: &Name) -> Result<Plan, Unfit>
+    ensures { IsAnswered (fuse_of plan.now queue.now) result }
+{
+    fuse_at(alloc, plan, *queue)
+}
+
+// The same, for the name of a queue.
+fn fuse_at(alloc: Global, plan: &Plan, queue: Name) -> Result<Plan, Unfit>
     ensures { IsAnswered (fuse_of plan.now queue) result }
 {
     let raw = plan.raw();
@@ -37,15 +44,22 @@ pub fn fuse(alloc: Global, plan: &Plan, queue: Name) -> Result<Plan, Unfit>
     if share(&writer.vars, &reader.vars) {
         return Err(Unfit::U5);
     }
-    let lists = fused_lists(alloc, raw, reader, queue)?;
+    let lists = fused_lists(alloc, raw, writer, reader, queue)?;
     Ok(Plan::of_valid(lists))
 }
 
 // The lists after the step.
-fn fused_lists(alloc: Global, raw: &RawPlan, reader: &Op, queue: Name) -> Result<RawPlan, NoMemory>
+fn fused_lists(
+    alloc: Global,
+    raw: &RawPlan,
+    writer: &Op,
+    reader: &Op,
+    queue: Name,
+) -> Result<RawPlan, NoMemory>
     requires there { 0 < count queue (decl_names raw.now.queues) }
-    requires few { All (λ op. length op.writes < 2 ^ 32) raw.now.ops }
-    ensures { IfOk result (λ lists. plan_form lists ≡ fused_lists queue (op_form reader.now) (plan_form raw.now)) }
+    requires written { 0 < count queue writer.now.writes }
+    requires few { length writer.now.writes < 2 ^ 32 }
+    ensures { IfOk result (λ lists. plan_form lists ≡ fused_plan (plan_form raw.now) queue (op_form writer.now) (op_form reader.now)) }
 {
     Ok(RawPlan {
         outputs: raw.outputs.copy(alloc)?,
@@ -53,7 +67,7 @@ fn fused_lists(alloc: Global, raw: &RawPlan, reader: &Op, queue: Name) -> Result
         queues: undeclared(alloc, &raw.queues, queue)?,
         tables: raw.tables.copy(alloc)?,
         vars: raw.vars.copy(alloc)?,
-        ops: fused_ops(alloc, &raw.ops, reader, queue)?,
+        ops: fused_ops(alloc, &raw.ops, writer, reader, queue)?,
     })
 }
 

@@ -22,8 +22,16 @@ use river_plan::{Decl, Decls, Kernel, Names, Op, Ops, Plan, QueueType, RawPlan};
 use std::alloc::Global;
 use work_code::Expr;
 
-/// The plan with the selection of this label before the operator that fed it, or the first condition that fails.
-pub fn hoist(alloc: Global, plan: &Plan, label: Name) -> Result<Plan, Unfit>
+/// A selection that is pushed down (the CQL paper): the plan with the selection of this label before the operator that
+/// fed it, or the first condition that fails.
+pub fn hoist(alloc: Global, plan: &Plan, label: &Name) -> Result<Plan, Unfit>
+    ensures { IsAnswered (hoist_of plan.now label.now) result }
+{
+    hoist_at(alloc, plan, *label)
+}
+
+// The same, for the name of a selection.
+fn hoist_at(alloc: Global, plan: &Plan, label: Name) -> Result<Plan, Unfit>
     ensures { IsAnswered (hoist_of plan.now label) result }
 {
     let raw = plan.raw();
@@ -140,10 +148,10 @@ fn raised(alloc: Global, above: &Op, cond: &Expr, src: Name, mid: Name) -> Resul
 {
     Ok(Op {
         label: above.label,
-        kernel: Kernel::Select(cond.copy(alloc)?),
         reads: one(alloc, src)?,
         writes: one(alloc, mid)?,
         vars: above.vars.copy(alloc)?,
+        kernel: Kernel::Select(cond.copy(alloc)?),
     })
 }
 
@@ -155,10 +163,10 @@ fn lowered(alloc: Global, below: &Op, side: usize, mid: Name, out: Name) -> Resu
     let mid = one(alloc, mid)?;
     Ok(Op {
         label: below.label,
-        kernel: below.kernel.copy(alloc)?,
         reads: spliced(alloc, side, &below.reads, &mid)?,
         writes: one(alloc, out)?,
         vars: below.vars.copy(alloc)?,
+        kernel: below.kernel.copy(alloc)?,
     })
 }
 

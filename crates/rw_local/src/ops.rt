@@ -1,11 +1,11 @@
 // Operators that write and read a queue, and two as one.
-ghost use Rattle.std.specs.Prelude.{◌≡◌, ◌<◌, ◌≤◌, ◌^◌, IfOk, OnOk, [], ◌∷◌, ◌++◌, MatchOption, Some, None, All, length};
+ghost use Rattle.std.specs.Prelude.{◌≡◌, ◌<◌, ◌≤◌, ◌^◌, IfOk, OnOk, [], ◌∷◌, ◌++◌, MatchOption, Some, None, length};
+ghost use Rattle.river_kernels.specs.Kern.{kern_of, fused};
 ghost use Rattle.river_plan.specs.Forms.{op_form, op_forms};
 ghost use Rattle.river_plan.specs.Names.{count};
 ghost use Rattle.river_plan.specs.Uses.{writes_it, reads_it};
-ghost use Rattle.plan_edits.specs.Lists.{first_with};
+ghost use Rattle.plan_edits.specs.Lists.{first_with, replaced};
 ghost use Rattle.rw_local.specs.Fuse.{fused_op, is_large};
-ghost use Rattle.rw_local.specs.FuseCode.{fused_ops};
 
 use crate::names::{contains, joined, place, spliced};
 use river_base::{Duplicate, Name, NoMemory};
@@ -58,36 +58,63 @@ pub(crate) fn whole(alloc: Global, writer: &Op, reader: &Op, queue: Name) -> Res
     let at = place(&writer.writes, queue);
     Ok(Op {
         label: writer.label,
-        kernel: Kernel::Fused {
-            first: Box::new(alloc, writer.kernel.copy(alloc)?)?,
-            second: Box::new(alloc, reader.kernel.copy(alloc)?)?,
-            at: at as u32,
-        },
         reads: writer.reads.copy(alloc)?,
         writes: spliced(alloc, at, &writer.writes, &reader.writes)?,
         vars: joined(alloc, &writer.vars, &reader.vars)?,
+        kernel: fused_kernel(alloc, &writer.kernel, &reader.kernel, at as u32)?,
     })
 }
 
-/// The operators, each that writes the queue as one with the reader, without those that read it.
-pub(crate) fn fused_ops(alloc: Global, ops: &Ops, reader: &Op, queue: Name) -> Result<Ops, NoMemory>
-    requires { All (λ op. length op.writes < 2 ^ 32) ops.now }
-    ensures { IfOk result (λ all. op_forms all ≡ fused_ops queue (op_form reader.now) (op_forms ops.now)) }
+// The second kernel behind this output of the first.
+fn fused_kernel(
+    alloc: Global,
+    first: &Kernel,
+    second: &Kernel,
+    at: u32,
+) -> Result<Kernel, NoMemory>
+    ensures { IfOk result (λ kernel. kern_of kernel ≡ fused (kern_of first.now) (kern_of second.now) at) }
+{
+    Ok(Kernel::Fused {
+        first: Box::new(alloc, first.copy(alloc)?)?,
+        second: Box::new(alloc, second.copy(alloc)?)?,
+        at,
+    })
+}
+
+/// The operators, with the two as one in the place of what writes the queue, and nothing in the place of what reads it.
+pub(crate) fn fused_ops(
+    alloc: Global,
+    ops: &Ops,
+    writer: &Op,
+    reader: &Op,
+    queue: Name,
+) -> Result<Ops, NoMemory>
+    requires there { 0 < count queue writer.now.writes }
+    requires few { length writer.now.writes < 2 ^ 32 }
+    ensures { IfOk result (λ all. op_forms all ≡ replaced queue (fused_op queue (op_form writer.now) (op_form reader.now) ∷ []) (op_forms ops.now)) }
 {
     let mut all = Ops::new(alloc);
     for op in ops.as_slice() {
-        add(alloc, &mut all, op, reader, queue)?;
+        add(alloc, &mut all, op, writer, reader, queue)?;
     }
     Ok(all)
 }
 
-// Appends the operator, as one with the reader where it writes the queue; nothing where it only reads it.
-fn add(alloc: Global, all: &mut Ops, op: &Op, reader: &Op, queue: Name) -> Result<(), NoMemory>
-    requires { length op.now.writes < 2 ^ 32 }
-    ensures { OnOk result (op_forms all.new ≡ op_forms all.old ++ fused_ops queue (op_form reader.now) (op_form op.now ∷ [])) }
+// Appends what stands for the operator.
+fn add(
+    alloc: Global,
+    all: &mut Ops,
+    op: &Op,
+    writer: &Op,
+    reader: &Op,
+    queue: Name,
+) -> Result<(), NoMemory>
+    requires there { 0 < count queue writer.now.writes }
+    requires few { length writer.now.writes < 2 ^ 32 }
+    ensures { OnOk result (op_forms all.new ≡ op_forms all.old ++ replaced queue (fused_op queue (op_form writer.now) (op_form reader.now) ∷ []) (op_form op.now ∷ [])) }
 {
     if contains(&op.writes, queue) {
-        all.push(whole(alloc, op, reader, queue)?)?;
+        all.push(whole(alloc, writer, reader, queue)?)?;
     } else if !contains(&op.reads, queue) {
         all.push(op.copy(alloc)?)?;
     }
