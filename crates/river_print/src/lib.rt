@@ -6,6 +6,3 @@ mod kernel;
 mod plan;
 
 pub use plan::{print_raw, print_river};
-
-#[cfg(test)]
-mod tests;

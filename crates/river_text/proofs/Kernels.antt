@@ -19,7 +19,7 @@ use Rattle.text_forms.proofs.Many.{Listed, exact-many, exact-commas}
 use Rattle.text_forms.proofs.Choices.{exact-never, exact-choose, exact-headed, exact-known, exact-enclosed, exact-listing}
 use Rattle.text_forms.proofs.Ladder.{Ends, exact-expr}
 use Rattle.river_text.specs.Kernels.{term_of, least, made_set, made_push, made_if, or_done, made_code, made_filter, made_fused, IsTerm, Count, Width, Signed, Round, IsStarts, IsSet, IsPush, IsIf, IsBodyOf, IsStmt, IsBody, IsCode, IsFilter, IsFused, BagAfter, KernelAfter, IsBraced, IsKernel}
-use Rattle.river_text.specs.ReadKernels.{term_at, width_at, signed_at, round, starts_at, widths_at, weights_at, some_terms_at, terms_at, number_at, round_term_at, set_at, push_at, at_close, body_of_at, else_at, if_at, stmt_after, steps_of, stmt_at, stmts_at, body_at, pair_at, rates_at, code_at, filter_at, fused_at, range_at, bag_after, kernel_after, braced_at, kernel_at}
+use Rattle.river_text.specs.ReadKernels.{term_at, width_at, signed_at, round, starts_at, widths_at, weights_at, some_terms_at, terms_at, number_at, round_term_at, set_at, push_at, at_close, body_of_at, else_at, if_at, stmt_after, steps_of, stmt_at, stmts_at, body_at, pair_at, rates_at, code_at, filter_at, fused_at, range_at, stream_after, relation_after, bag_after, kernel_after, braced_at, kernel_at}
 
 pub exact-term : (n : ℕ) → Exact (IsTerm n) (term_at n) (Ends 6)
 exact-term n = exact-known term_of (exact-expr River n)
@@ -187,7 +187,7 @@ unfolding fused_at
 exact-fused x n = exact-seen made_fused (exact-both (exact-counted n) (exact-both x x (λ y ts rest g d. tt)) (λ y ts rest g d. tt))
 
 exact-bag : (n : ℕ) (w : List ℕ) → Exact (BagAfter n w) (bag_after n w) Any
-unfolding bag_after range_at
+unfolding bag_after relation_after stream_after range_at
 exact-bag n w =
     exact-choose (bytes_eq w (codes "now")) (exact-nothing (kern.window Now))
     (exact-choose (bytes_eq w (codes "range")) (exact-seen (λ t. kern.window (Range t)) (exact-round (λ m. exact-value) (λ rest. tt) n))

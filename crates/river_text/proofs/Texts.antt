@@ -14,12 +14,12 @@ use Rattle.river_text.specs.Laws.{OnePlan, IsBadAt}
 use Rattle.river_text.proofs.Plans.{exact-unit_from}
 
 -- the entries of a reading, added to a plan
-abbrev added : PlanForm → Result (List Entry) ℕ → Result PlanForm ℕ
+abbrev pub added : PlanForm → Result (List Entry) ℕ → Result PlanForm ℕ
 added p (Ok es) = Ok (add_all p es)
 added p (Err n) = Err n
 
 -- a plan is read as its entries are
-plan-read : (stage n : ℕ) (p : PlanForm) (units : List (List Tok)) → read_plan stage n p units ≡ added p (read_units unit_from next_stage stage n units)
+pub plan-read : (stage n : ℕ) (p : PlanForm) (units : List (List Tok)) → read_plan stage n p units ≡ added p (read_units unit_from next_stage stage n units)
 unfolding read_plan
 plan-read stage n p [] = refl
 plan-read stage n p (u ∷ us) = by (whole (unit_from stage) u) (λ e. plan-read (stage_of e) (n + 1) (add p e) us) where
@@ -59,11 +59,11 @@ text-bad text marks m lexed read =
     }
 
 -- what a text stands for is read
-text-reads : (text : List ℕ) (q : PlanForm) (t : IsText text q) → read_plan 0 1 empty_form (units_of (toks t.marks)) ≡ Ok q
+pub text-reads : (text : List ℕ) (q : PlanForm) (t : IsText text q) → read_plan 0 1 empty_form (units_of (toks t.marks)) ≡ Ok q
 text-reads text q t =
     plan-read 0 1 empty_form (units_of (toks t.marks)) ∙ ap (added empty_form) (formed-read next_stage exact-unit_from 0 1 (units_of (toks t.marks)) t.entries t.formed) ∙ ap (λ (p : PlanForm). Ok p) (sym t.is)
 
-same_marks : (text : List ℕ) (ms ns : List Mark) → tokens_in text ≡ Ok ms → tokens_in text ≡ Ok ns → ms ≡ ns
+pub same_marks : (text : List ℕ) (ms ns : List Mark) → tokens_in text ≡ Ok ms → tokens_in text ≡ Ok ns → ms ≡ ns
 same_marks text ms ns e f = same (sym e ∙ f) where
   same : ◌≡◌ {A = Result (List Mark) LexFault} (Ok ms) (Ok ns) → ms ≡ ns
   same g = cc

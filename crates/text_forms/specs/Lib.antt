@@ -5,6 +5,7 @@ pub mod Ladder
 pub mod Language
 pub mod Measure
 pub mod Parse
+pub mod Refusals
 pub mod Repeat
 pub mod Tail
 pub mod Texts

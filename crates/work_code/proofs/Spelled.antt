@@ -136,7 +136,7 @@ spells-short c x s is = from_piece (c ∷ []) (symbol x) (omega arith) found whe
   found (d ∷ ds) alone = short_on c d ds x s is alone
 
 -- a symbol of two bytes
-long_piece_at : (c d : ℕ) (rest : List ℕ) (x : Symbol) → IsSign c → c == 47 ≡ false → long_symbol c d ≡ Some x → piece_at (c ∷ (d ∷ rest)) ≡ token (symbol x) 2
+pub long_piece_at : (c d : ℕ) (rest : List ℕ) (x : Symbol) → IsSign c → c == 47 ≡ false → long_symbol c d ≡ Some x → piece_at (c ∷ (d ∷ rest)) ≡ token (symbol x) 2
 unfolding piece_at first_is begins_with symbol_piece
 long_piece_at c d rest x s other is = rw (s.no_blank, s.no_hash, other, s.no_letter, s.no_dollar, s.no_digit, is) refl
 
@@ -161,14 +161,14 @@ abbrev pub is_name_text : List ℕ → Bool
 is_name_text [] = false
 is_name_text (c ∷ cs) = is_letter c && list_all is_word cs
 
-letter_high : (c : ℕ) → is_letter c ≡ true → 64 < c
+pub letter_high : (c : ℕ) → is_letter c ≡ true → 64 < c
 unfolding is_letter
 letter_high c is = grind (arith, nat_tests)
 
-is_no : (c k : ℕ) → k < c → c == k ≡ false
+pub is_no : (c k : ℕ) → k < c → c == k ≡ false
 is_no c k lt = ne_eqb c k (λ e. absurd (omega arith))
 
-high_no_blank : (c : ℕ) → 32 < c → is_blank c ≡ false
+pub high_no_blank : (c : ℕ) → 32 < c → is_blank c ≡ false
 unfolding is_blank
 high_no_blank c high =
     let a = is_no c 32 (omega arith) in
@@ -239,7 +239,7 @@ digits_same n (c ∷ cs) all =
     let d = digit_between c all.0 in
     ap (λ (v : ℕ). digits_value_after 10 (n * 10 + v) cs) (digit_is c d.0 d.1) ∙ digits_same (n * 10 + (c - 48)) cs all.1
 
-low_no_letter : (c : ℕ) → 47 < c → c < 58 → is_letter c ≡ false
+pub low_no_letter : (c : ℕ) → 47 < c → c < 58 → is_letter c ≡ false
 unfolding is_letter
 low_no_letter c low high = grind (arith, nat_tests)
 
@@ -310,7 +310,7 @@ MayFollow sign.Or rest = Anything rest
 MayFollow sign.Increment rest = Anything rest
 MayFollow sign.Arrow rest = Anything rest
 
-sign_33 : IsSign 33
+pub sign_33 : IsSign 33
 unfolding is_blank is_letter is_digit
 sign_33 = record { no_blank = refl; no_hash = refl; no_letter = refl; no_dollar = refl; no_digit = refl }
 
@@ -318,7 +318,7 @@ sign_37 : IsSign 37
 unfolding is_blank is_letter is_digit
 sign_37 = record { no_blank = refl; no_hash = refl; no_letter = refl; no_dollar = refl; no_digit = refl }
 
-sign_38 : IsSign 38
+pub sign_38 : IsSign 38
 unfolding is_blank is_letter is_digit
 sign_38 = record { no_blank = refl; no_hash = refl; no_letter = refl; no_dollar = refl; no_digit = refl }
 
@@ -334,7 +334,7 @@ sign_42 : IsSign 42
 unfolding is_blank is_letter is_digit
 sign_42 = record { no_blank = refl; no_hash = refl; no_letter = refl; no_dollar = refl; no_digit = refl }
 
-sign_43 : IsSign 43
+pub sign_43 : IsSign 43
 unfolding is_blank is_letter is_digit
 sign_43 = record { no_blank = refl; no_hash = refl; no_letter = refl; no_dollar = refl; no_digit = refl }
 
@@ -342,7 +342,7 @@ sign_44 : IsSign 44
 unfolding is_blank is_letter is_digit
 sign_44 = record { no_blank = refl; no_hash = refl; no_letter = refl; no_dollar = refl; no_digit = refl }
 
-sign_45 : IsSign 45
+pub sign_45 : IsSign 45
 unfolding is_blank is_letter is_digit
 sign_45 = record { no_blank = refl; no_hash = refl; no_letter = refl; no_dollar = refl; no_digit = refl }
 
@@ -362,15 +362,15 @@ sign_59 : IsSign 59
 unfolding is_blank is_letter is_digit
 sign_59 = record { no_blank = refl; no_hash = refl; no_letter = refl; no_dollar = refl; no_digit = refl }
 
-sign_60 : IsSign 60
+pub sign_60 : IsSign 60
 unfolding is_blank is_letter is_digit
 sign_60 = record { no_blank = refl; no_hash = refl; no_letter = refl; no_dollar = refl; no_digit = refl }
 
-sign_61 : IsSign 61
+pub sign_61 : IsSign 61
 unfolding is_blank is_letter is_digit
 sign_61 = record { no_blank = refl; no_hash = refl; no_letter = refl; no_dollar = refl; no_digit = refl }
 
-sign_62 : IsSign 62
+pub sign_62 : IsSign 62
 unfolding is_blank is_letter is_digit
 sign_62 = record { no_blank = refl; no_hash = refl; no_letter = refl; no_dollar = refl; no_digit = refl }
 
@@ -386,7 +386,7 @@ sign_123 : IsSign 123
 unfolding is_blank is_letter is_digit
 sign_123 = record { no_blank = refl; no_hash = refl; no_letter = refl; no_dollar = refl; no_digit = refl }
 
-sign_124 : IsSign 124
+pub sign_124 : IsSign 124
 unfolding is_blank is_letter is_digit
 sign_124 = record { no_blank = refl; no_hash = refl; no_letter = refl; no_dollar = refl; no_digit = refl }
 
