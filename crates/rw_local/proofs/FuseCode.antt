@@ -1,21 +1,19 @@
 -- What the code of fusion stands on.
-use Rattle.std.proofs.Common.{◌≡◌, ℕ, zero, suc, ◌+◌, ◌<◌, ◌≤◌, ◌^◌, true, false, Some, List, [], ◌∷◌, ◌++◌, length, take, drop, get_or, refl, sym, ap, ◌∙◌, subst, arith, ⊎_elim, nat_lt}
-use Rattle.std.specs.Prelude.{if◌then◌else◌, All, Ok}
-use Rattle.std.proofs.lemmas.List.Elements.{All-cons, All-nil}
-use Rattle.std.proofs.lemmas.Bool.{cases_lt, or_parts, ltb-false}
+use Rattle.std.proofs.Common.{◌≡◌, ℕ, zero, suc, ◌+◌, ◌<◌, ◌≤◌, ◌^◌, true, false, Some, List, [], ◌∷◌, ◌++◌, length, take, drop, get_or, sym, ap, ◌∙◌, subst, arith, ⊎_elim, nat_lt}
+use Rattle.std.specs.Prelude.{All, Ok}
+use Rattle.std.proofs.lemmas.Bool.{or_parts, ltb-false}
 use Rattle.river_base.specs.Name.{name_eq}
 use Rattle.river_kernels.specs.Limits.{nesting}
 use Rattle.river_kernels.specs.declared.limit.Limit.TheVariants.{Ports}
-use Rattle.river_plan.specs.declared.op.Op.{Op}
 use Rattle.river_plan.specs.declared.plan.Decl.{Decl}
-use Rattle.river_plan.specs.Forms.{Name, OpForm, PlanForm, op_forms, decl_names, queue_names}
+use Rattle.river_plan.specs.Forms.{Name, OpForm, PlanForm, decl_names, queue_names}
 use Rattle.river_plan.specs.Names.{count, one_if}
 use Rattle.river_plan.specs.Uses.{Each, total, writes_it, reads_it}
 use Rattle.river_plan.specs.Valid.{IsPlan}
 use Rattle.river_plan.proofs.NameLemmas.{cases_bool}
 use Rattle.river_plan.proofs.ShareLemmas.{each_back}
-use Rattle.brooklet_model.proofs.Lists.{if_true, if_false, if_lt, if_ge, if_eq}
-use Rattle.plan_edits.specs.Lists.{place, undeclared, first_with, replaced}
+use Rattle.brooklet_model.proofs.Lists.{if_true, if_false, if_lt, if_eq}
+use Rattle.plan_edits.specs.Lists.{place, undeclared, first_with}
 use Rattle.rw_local.specs.Fuse.{fused_op, fused_plan, share, is_large, fuse_found, fuse_of}
 use Rattle.plan_edits.proofs.Surgery.{total-append, found}
 use Rattle.plan_edits.proofs.Types.{flat_each}

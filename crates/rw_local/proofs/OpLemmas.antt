@@ -1,16 +1,13 @@
 -- Loops over operators.
-use Rattle.std.proofs.Common.{◌≡◌, ℕ, ◌+◌, ◌<◌, ◌≤◌, List, [], ◌∷◌, ◌++◌, length, take, get_or, refl, sym, ap, ◌∙◌, subst, arith, ⊎_elim, nat_lt, max}
+use Rattle.std.proofs.Common.{◌≡◌, ℕ, ◌+◌, ◌<◌, ◌≤◌, List, length, sym, ◌∙◌, subst, arith, ⊎_elim, nat_lt, max}
 use Rattle.std.proofs.lemmas.Bool.{cases_lt, or_from, or_right, lt-ltb, le-ltb}
 use Rattle.river_kernels.specs.Limits.{told, nesting}
-use Rattle.river_plan.specs.declared.op.Op.{Op}
-use Rattle.river_plan.specs.Forms.{Name, OpForm, op_form, op_forms}
+use Rattle.river_plan.specs.Forms.{Name, OpForm}
 use Rattle.river_plan.specs.Names.{count}
-use Rattle.brooklet_model.proofs.Lists.{if_lt, if_ge}
 use Rattle.brooklet_model.proofs.Ports.{length-spliced}
 use Rattle.plan_edits.specs.Lists.{place}
 use Rattle.rw_local.specs.Fuse.{fused_op, is_large}
 use Rattle.rw_local.proofs.FuseLemmas.{place_below}
-use Rattle.plan_edits.proofs.OpLoops.{forms_next}
 
 -- LIMITS
 
