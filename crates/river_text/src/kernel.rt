@@ -140,7 +140,7 @@ fn bag_after(
 
 // The second kernel behind the first.
 fn fused_of(alloc: Global, at: u32, first: Kernel, second: Kernel) -> Result<Kernel, NoMemory>
-    ensures { IfOk result (λ k. kern_of k ≡ made_fused (at, (kern_of first.entry, kern_of second.entry))) }
+    ensures { IfOk result (λ k. kern_of k ≡ made_fused (at, (kern_of first, kern_of second))) }
 {
     Ok(Kernel::Fused {
         first: Box::new(alloc, first)?,
