@@ -28,7 +28,6 @@ use Rattle.brooklet_model.proofs.Solutions.{count_here, written_out, plan_unique
 use Rattle.brooklet_model.proofs.Swaps.{count_by-append, at_port_here, at_port_past}
 use Rattle.brooklet_model.proofs.Traces.{some_is, at_most, one_place, got_count, place_once, each_at, each_of, got_read, read_of, joined_out, lists_more, joined-append, joined_none, joined_bag, joined_cong, lists_cong, lists_agree, at_key_same, at_key_other, run_more, at_same, take_next, numbered_same, numbered_more, numbered_total, adds_it, adds_total, word_lengths}
 
-
 -- one more firing of the operator that fired, and of no other
 one_more : (k o : ℕ) (e : ℕ × item.Item) (ws : ℕ → Word) → length (at_key k (ws k ++ e ∷ []) ws o) ≡ length (ws o) + (if nat_eq k o then 1 else 0)
 one_more k o e ws = ⊎_elim

@@ -1,3 +1,4 @@
+pub mod BagTypes
 pub mod Complete
 pub mod Drained
 pub mod Feeds
@@ -5,7 +6,6 @@ pub mod Free
 pub mod FusedRun
 pub mod Joins
 pub mod Lists
-pub mod OnRows
 pub mod Ports
 pub mod RunMeaning
 pub mod Shapes
@@ -15,3 +15,4 @@ pub mod Swaps
 pub mod Traces
 pub mod TypedPlan
 pub mod Typing
+pub mod WideAdds

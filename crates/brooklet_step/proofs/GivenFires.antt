@@ -19,13 +19,14 @@ use Rattle.river_kernels.specs.Kern.{Kern, code, filter, duplicate, deal, collec
 use Rattle.brooklet_model.specs.Firings.{Kept, Fired, Same, feed, and_then, gives}
 use Rattle.brooklet_model.specs.Fire.{fire, first_kept, outs, tabs}
 use Rattle.brooklet_model.specs.Shapes.{IsShaped}
-use Rattle.brooklet_model.specs.Typed.{IsOf, AreOf, IsOnRows}
+use Rattle.brooklet_model.specs.Typed.{IsOf, AreOf, widths_in, IsWide, AreWide}
 use Rattle.brooklet_model.specs.Words.{Word, run, at_port, word_of}
 use Rattle.brooklet_model.proofs.Lists.{feed-append, feed_one}
 use Rattle.brooklet_model.proofs.Ports.{shaped}
 use Rattle.brooklet_model.proofs.Feeds.{feed_word}
 use Rattle.brooklet_model.proofs.Free.{at_port-append}
-use Rattle.brooklet_model.proofs.Typing.{fire_typed, flats_of}
+use Rattle.brooklet_model.proofs.Typing.{fire_typed}
+use Rattle.brooklet_model.proofs.WideAdds.{fire_wide}
 use Rattle.brooklet_step.specs.declared.emit.Emit.{Emit}
 use Rattle.brooklet_step.specs.declared.state.State.{State}
 use Rattle.brooklet_step.specs.Stands.{StandsFor, Fires, Applies, Keeps}
@@ -37,22 +38,6 @@ use Rattle.brooklet_step.proofs.GivenLemmas.{at-nil, at-append, at-length, at-sa
 
 -- KERNELS WITHOUT A KERNEL INSIDE
 
-leaf_rows : (k : Kern) → IsLeaf k → IsOnRows k
-leaf_rows (code k) l = tt
-leaf_rows (filter f) l = tt
-leaf_rows (duplicate n) l = tt
-leaf_rows (deal ws) l = tt
-leaf_rows (collect ws) l = tt
-leaf_rows (packed k) l = absurd l
-leaf_rows (unpack n) l = tt
-leaf_rows (window w) l = absurd l
-leaf_rows (select e) l = absurd l
-leaf_rows (project es) l = absurd l
-leaf_rows cross l = absurd l
-leaf_rows (streamer s) l = absurd l
-leaf_rows tally l = absurd l
-leaf_rows (fused a b at) l = absurd l
-
 head_item : (x i : item.Item) → x ∷ [] ≡ i ∷ [] → x ≡ i
 head_item x i e = cc
 
@@ -63,7 +48,7 @@ leaf_applies k port i st out l t =
     record {
       takes = record {
         reads = t.reads;
-        fitted = record { on_rows = t.fitting.on_rows; writes = t.fitting.writes; vars = t.fitting.vars; fits = t.fitting.fits; keeps = record { kept = s.0; stands = s.1; holds = s.2 } };
+        fitted = record { writes = t.fitting.writes; vars = t.fitting.vars; fits = t.fitting.fits; keeps = record { kept = s.0; stands = s.1; holds = s.2 } };
         item = of_held t.reads port i t.item;
       };
       room = t.room;
@@ -75,7 +60,8 @@ leaf_does k port i out out' st st' l f = record {
   each = λ reads writes vars fits fs hi.
       let s = leaf_kept k reads st l fs in
       let g = f.given s.0 s.1 in
-      let t = fire_typed k reads writes vars port i s.0 (leaf_rows k l) fits (stands_shape k st s.0 s.1) s.2 (of_held reads port i hi) in
+      let shape = stands_shape k st s.0 s.1 in
+      let t = fire_typed k reads writes vars port i s.0 fits shape s.2 (of_held reads port i hi) in
       record {
         gives = record {
           given = λ w x tw tx sa h.
@@ -97,6 +83,7 @@ leaf_does k port i out out' st st' l f = record {
           outs_are = g.0.outs;
           adds_are = g.0.adds;
           held = λ p. all_held writes p ((fire k port i s.0).outs p) (t.0 p);
+          wide = fire_wide k reads writes vars port i s.0 fits shape s.2 (of_held reads port i hi);
           again = fit_of k reads st' (fire k port i s.0).states g.1 t.1;
         };
       };
@@ -122,9 +109,9 @@ ran_feed k u zs = subst (λ (r : Fired). Same (ran k (u ++ word_of 0 zs)) (and_t
 pub each_start : (k : Kern) (out : Emit) (st : List State) → FiresEach k [] out out st st
 each_start k out st = record {
   each = λ reads writes vars fits fs hs. record {
-      gives = record { given = λ w xs tw txs sa h. nothing writes w xs sa (len reads w xs h) };
-      came = record { outs = none; adds = none; outs_are = sym (each_grew-none out.outs); adds_are = sym (each_grew-none out.adds); held = λ p. All-nil (IsHeldOf writes p); again = fs };
-    };
+    gives = record { given = λ w xs tw txs sa h. nothing writes w xs sa (len reads w xs h) };
+    came = record { outs = none; adds = none; outs_are = sym (each_grew-none out.outs); adds_are = sym (each_grew-none out.adds); held = λ p. All-nil (IsHeldOf writes p); wide = λ t. All-nil (IsWide (slice_get (widths_in vars) t)); again = fs };
+  };
 }
   where
     len : (reads : List QueueType) (w : Word) (xs : List item.Item) → held_at reads 0 (at_port 0 w) xs ≡ [] → length xs ≡ 0
@@ -185,6 +172,7 @@ each_step k is i st st1 st2 e e' e'' f u = record {
           outs_are = b.came.outs_are ∙ ap (λ l. each_grew l b.came.outs) a.came.outs_are ∙ each_grew-each_grew e.outs a.came.outs b.came.outs;
           adds_are = b.came.adds_are ∙ ap (λ l. each_grew l b.came.adds) a.came.adds_are ∙ each_grew-each_grew e.adds a.came.adds b.came.adds;
           held = λ p. All-append (IsHeldOf writes p) (a.came.outs p) (b.came.outs p) (a.came.held p) (b.came.held p);
+          wide = λ t. All-append (IsWide (slice_get (widths_in vars) t)) (a.came.adds t) (b.came.adds t) (a.came.wide t) (b.came.wide t);
           again = b.came.again;
         };
       };

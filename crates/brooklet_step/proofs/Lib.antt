@@ -9,6 +9,7 @@ pub mod GivenLemmas
 pub mod GivenParts
 pub mod Leaves
 pub mod NextLemmas
+pub mod OnRows
 pub mod QueuePlaces
 pub mod ReadLemmas
 pub mod RunLemmas

@@ -94,7 +94,7 @@ send_there m o port x st st' out ws g e es f we =
     let lo : length out.outs ≡ outs op.kernel = c.room.outs in
     let is : ws ≡ places names op.writes = we ∙ places_at (λ d. d.writes) names m.writes m.plan.ops o op g.laid_out.writes e.reads.op_is in
     let lw : length ws ≡ length op.writes = ap length is ∙ length-map op.writes (place names) in
-    let wo : length op.writes ≡ outs op.kernel = sym (length-map op.writes (kind_of (all_decls m.plan))) ∙ (counts op.kernel _ _ _ (op_fits m.plan g.valid g.built o op e.reads.op_is)).outs in (
+    let wo : length op.writes ≡ outs op.kernel = sym (length-map op.writes (kind_of (all_decls m.plan))) ∙ (counts op.kernel _ _ _ (op_fits m.plan g.valid o op e.reads.op_is)).outs in (
       omega (arith, lo, lw, wo),
       (λ j lt.
           let w = read_of op.writes j (omega (arith, lt, lw)) in

@@ -23,13 +23,13 @@ use Rattle.brooklet_model.specs.Fire.{fire, outs, tabs}
 use Rattle.brooklet_model.specs.Histories.{joined, most_firings, Lists}
 use Rattle.brooklet_model.specs.Laws.{given_to}
 use Rattle.brooklet_model.specs.Machine.{Machine, Step, Run, start, fired, at_key, at_name, times}
-use Rattle.brooklet_model.specs.Typed.{IsOf, AreOf, IsOnRows}
+use Rattle.brooklet_model.specs.Typed.{IsTyped, IsOf, AreOf}
 use Rattle.brooklet_model.specs.Words.{Word, at_port}
 use Rattle.brooklet_model.proofs.Lists.{if_true, if_false, if_eq, if_ne}
 use Rattle.brooklet_model.proofs.Complete.{traced_fired, nothing_given}
 use Rattle.brooklet_model.proofs.Ports.{counts}
 use Rattle.brooklet_model.proofs.Traces.{some_is, at_most, got_count, joined_out, at_key_same, at_key_other, at_same}
-use Rattle.brooklet_model.proofs.TypedPlan.{op_fits, op_on_rows, joined_of}
+use Rattle.brooklet_model.proofs.TypedPlan.{op_fits, kind_got, got_all, joined_all}
 use Rattle.brooklet_step.specs.declared.emit.Emit.{Emit}
 use Rattle.brooklet_step.specs.declared.machine.Parts.{Parts}
 use Rattle.brooklet_step.specs.declared.state.State.{State}
@@ -38,7 +38,8 @@ use Rattle.brooklet_step.specs.Given.{held_by, held_at, IsHeldBy, IsHeldOf, AreH
 use Rattle.brooklet_step.specs.Took.{IsBlank}
 use Rattle.brooklet_step.specs.Works.{hist_of, taken_of, kinds_of, states_of, count_of, Stands, ReadsAt, Counts, GoesOn, After, Steps}
 use Rattle.brooklet_step.proofs.GivenLemmas.{typed_append, fired_typed}
-use Rattle.brooklet_step.proofs.GivenParts.{blank_room}
+use Rattle.brooklet_step.proofs.Fires.{blank_room}
+use Rattle.brooklet_step.proofs.OnRows.{op_on_rows}
 use Rattle.brooklet_step.proofs.QueuePlaces.{place_below, place_apart, joined_places, joined_cong_below}
 
 -- RUNS
@@ -52,21 +53,6 @@ times-more o [] e = omega arith
 times-more o (d ∷ es) e = let h = times-more o es e in omega (arith, h)
 
 -- WHAT THE MACHINE'S STATE HAS
-
-got_of : (kind : Name → QueueType) (rs : List Name) (port : ℕ) (q : Name) (x : item.Item) → slice_get rs port ≡ Some q → HasType (kind q) x → IsOf (map kind rs) port x
-got_of kind [] port q x g i = absurd (cc g)
-got_of kind (r ∷ rs) zero q x g i = subst (λ n. HasType (kind n) x) (sym (some_is r q g)) i
-got_of kind (r ∷ rs) (suc port) q x g i = got_of kind rs port q x g i
-
-kind_got : (kind : Name → QueueType) (rs : List Name) (port : ℕ) (q : Name) → slice_get rs port ≡ Some q → slice_get (map kind rs) port ≡ Some (kind q)
-kind_got kind [] port q g = absurd (cc g)
-kind_got kind (r ∷ rs) zero q g = ap (λ n. Some (kind n)) (some_is r q g)
-kind_got kind (r ∷ rs) (suc port) q g = kind_got kind rs port q g
-
-got_all : (P : item.Item → Type 0) (xs : List item.Item) (n : ℕ) (x : item.Item) → All P xs → slice_get xs n ≡ Some x → P x
-got_all P [] n x a g = absurd (cc g)
-got_all P (y ∷ ys) zero x a g = subst P (some_is y x g) (All-head P y ys a)
-got_all P (y ∷ ys) (suc n) x a g = got_all P ys n x (All-tail P y ys a) g
 
 -- what operators read and write is declared
 pub read_declared : (p : PlanForm) → IsPlan p → (o port : ℕ) (q : Name) → ReadsAt p o port q → 0 < count q (queue_names p)
@@ -94,7 +80,7 @@ can_take m o port q i st out g r hx es b = record {
     on_rows = op_on_rows m.plan g.valid g.built o r.op r.op_is;
     writes = map (kinds_of m) r.op.writes;
     vars = map (var_kind m.plan.tables m.plan.vars) r.op.vars;
-    fits = op_fits m.plan g.valid g.built o r.op r.op_is;
+    fits = op_fits m.plan g.valid o r.op r.op_is;
     state = subst (FitState r.op.kernel (map (kinds_of m) r.op.reads)) (sym es) (g.fit o r.op r.op_is);
   };
   item = item_held m o port q i g r hx;
@@ -140,14 +126,6 @@ found t h hs n i e g =
     let all : hs ≡ a ++ b.0 ∷ c = e ∙ ap (held t []) s.2 ∙ held-append t [] (take n h) (x ∷ s.1) ∙ ap (λ l. a ++ l) (held-append t (take n h) (x ∷ []) s.1 ∙ ap (λ l. l ++ c) b.1) in
     let is : Some i ≡ Some b.0 = sym g ∙ ap (λ l. slice_get l n) all ∙ got_at a b.0 c n la in
     record { item = x; item_is = s.3; held_is = b.1 ∙ ap (λ y. y ∷ []) (sym (some_is i b.0 is)) }
-
--- what ports may give is what their queues may hold
-joined_all : (kind : Name → QueueType) (ws : List Name) (f : ℕ → List item.Item) → AreHeldOf (map kind ws) f → (q : Name) → All (IsHeld (kind q)) (joined ws f q)
-joined_all kind [] f t q = All-nil (IsHeld (kind q))
-joined_all kind (w ∷ ws) f t q = All-append (IsHeld (kind q)) (if name_eq w q then f 0 else []) (joined ws (λ j. f (suc j)) q) (⊎_elim
-    (λ c. subst (All (IsHeld (kind q))) (sym (if_true (name_eq w q) (f 0) [] c.1)) (subst (λ n. All (IsHeld (kind n)) (f 0)) c.0 (t 0)))
-    (λ c. subst (All (IsHeld (kind q))) (sym (if_false (name_eq w q) (f 0) [] c.1)) (All-nil (IsHeld (kind q))))
-    (cases_name w q)) (joined_all kind ws (λ j. f (suc j)) (λ j. t (suc j)) q)
 
 -- what queues hold for what an operator gives at the ports that write them
 joined_held : (kind : Name → QueueType) (ws : List Name) (F f : ℕ → List item.Item) (h : Name → List item.Item) (n : Name) → count n ws ≤ 1 → Lists ws F h → joined ws (λ j. held_at (map kind ws) j (F j) (f j)) n ≡ held (kind n) (h n) (joined ws f n)
@@ -214,13 +192,10 @@ module _ (m : Parts) (o port : ℕ) (q : Name) (i : item.Item) (blank out : Emit
   o_below : o < length m.plan.ops
   o_below = slice_get_within m.plan.ops o r.op r.op_is
 
-  rows : IsOnRows r.op.kernel
-  rows = op_on_rows m.plan g.valid g.built o r.op r.op_is
-
   fits : Fits r.op.kernel reads writes (map (var_kind m.plan.tables m.plan.vars) r.op.vars)
-  fits = op_fits m.plan g.valid g.built o r.op r.op_is
+  fits = op_fits m.plan g.valid o r.op r.op_is
 
-  does : Does r.op.kernel reads writes port i blank out (states_of m o) st
+  does : Does r.op.kernel reads writes (map (var_kind m.plan.tables m.plan.vars) r.op.vars) port i blank out (states_of m o) st
   does = f.each reads writes (map (var_kind m.plan.tables m.plan.vars) r.op.vars) fits (g.fit o r.op r.op_is) (item_held m o port q i g r hx)
 
   writes_many : length r.op.writes ≡ outs r.op.kernel
@@ -274,7 +249,7 @@ module _ (m : Parts) (o port : ℕ) (q : Name) (i : item.Item) (blank out : Emit
       let w = h.words o in
       let before = ran r.op.kernel w in
       let typed_w = h.received o r.op r.op_is in
-      let typed_x : IsOf reads port x = got_of kinds r.op.reads port q x r.queue_is (got_all (HasType (kinds q)) (s.hist q) (s.taken q) x (h.typed q) it.item_is) in
+      let typed_x : IsOf reads port x = subst (λ t. IsTyped t x) (sym (kind_got kinds r.op.reads port q r.queue_is)) (got_all (HasType (kinds q)) (s.hist q) (s.taken q) x (h.typed q) it.item_is) in
       let held_x : held_at reads port (at_port port w) (x ∷ []) ≡ i ∷ [] =
       ap (λ t. held_by t (at_port port w) (x ∷ [])) (kind_got kinds r.op.reads port q r.queue_is)
       ∙ ap (λ l. held (kinds q) l (x ∷ [])) (h.traced.taken o r.op r.op_is port q r.queue_is).0 ∙ it.held_is in
@@ -282,7 +257,7 @@ module _ (m : Parts) (o port : ℕ) (q : Name) (i : item.Item) (blank out : Emit
       let kept_is : before.states ≡ s.kept o = sym (h.traced.kept o r.op r.op_is) in
       let res = fire r.op.kernel port x (s.kept o) in
       let took : TookHeld writes before blank out res = subst (λ us. TookHeld writes before blank out (fire r.op.kernel port x us)) kept_is gave.0 in
-      let typed_out : AreOf writes res.outs = subst (λ us. AreOf writes (fire r.op.kernel port x us).outs) kept_is (fired_typed r.op.kernel reads writes _ w port x rows fits typed_w typed_x) in
+      let typed_out : AreOf writes res.outs = subst (λ us. AreOf writes (fire r.op.kernel port x us).outs) kept_is (fired_typed r.op.kernel reads writes _ w port x fits typed_w typed_x) in
       let next = w ++ (port, x) ∷ [] in
       record {
         state = fired (table_names m.plan.tables) o r.op port q x s;
@@ -294,7 +269,7 @@ module _ (m : Parts) (o port : ℕ) (q : Name) (i : item.Item) (blank out : Emit
               ∙ ap (λ l. held (kinds n) [] (s.hist n) ++ l) (joined_held kinds r.op.writes before.outs res.outs s.hist n (once n) (h.traced.written_by o r.op r.op_is))
               ∙ sym (held-append (kinds n) [] (s.hist n) (joined r.op.writes res.outs n));
           taken = taken_next s h;
-          typed = λ n. All-append (HasType (kinds n)) (s.hist n) (joined r.op.writes res.outs n) (h.typed n) (joined_of kinds r.op.writes res.outs typed_out n);
+          typed = λ n. All-append (HasType (kinds n)) (s.hist n) (joined r.op.writes res.outs n) (h.typed n) (joined_all IsTyped kinds r.op.writes res.outs typed_out n);
           inputs = h.inputs;
           words = at_key o next h.words;
           traced = traced_fired m.plan (given_to m.plan h.inputs) g.valid (λ n z. nothing_given (decl_names m.plan.inputs) (list_at h.inputs) n z) s h.words o port r.op q x h.traced r.op_is r.queue_is it.item_is;
@@ -339,7 +314,7 @@ module _ (m : Parts) (o port : ℕ) (q : Name) (i : item.Item) (blank out : Emit
         };
         fit = at_each (λ op u v. FitState op.kernel (map (kinds_of m) op.reads) u) [] (λ j. []) g.fit does.came.again;
         items = λ n lt. subst (λ (l : List item.Item). All (IsHeld (kinds n)) l) (sym (queue_is does.came.outs does.came.outs_are n lt))
-            (All-append (IsHeld (kinds n)) (hist_of m n) (joined r.op.writes does.came.outs n) (g.items n lt) (joined_all kinds r.op.writes does.came.outs does.came.held n));
+            (All-append (IsHeld (kinds n)) (hist_of m n) (joined r.op.writes does.came.outs n) (g.items n lt) (joined_all IsHeldBy kinds r.op.writes does.came.outs does.came.held n));
         inputs = g.inputs;
         typed = g.typed;
         ran = record {

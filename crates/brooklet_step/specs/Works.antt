@@ -12,10 +12,11 @@ use Rattle.brooklet_model.specs.Histories.{most_firings}
 use Rattle.brooklet_model.specs.Machine.{Machine, Step, Run, start, times}
 use Rattle.brooklet_model.specs.Laws.{given_to}
 use Rattle.brooklet_model.specs.Traced.{Traced}
-use Rattle.brooklet_model.specs.Typed.{IsBuilt, AreInputs}
+use Rattle.brooklet_model.specs.Typed.{AreInputs}
 use Rattle.brooklet_model.specs.Words.{Word}
 use Rattle.brooklet_step.specs.declared.machine.Parts.{Parts}
 use Rattle.brooklet_step.specs.declared.state.State.{State}
+use Rattle.brooklet_step.specs.Built.{IsBuilt}
 use Rattle.brooklet_step.specs.ByPlace.{place, places}
 use Rattle.brooklet_step.specs.Given.{AreTyped, FitState, StandsAfter}
 

@@ -15,7 +15,7 @@ pub(crate) fn outcome_of(alloc: Global, parts: Parts) -> Result<Outcome, NoMemor
     ensures outs { IfOk result (λ outcome. outcome.outs ≡ map (hist_of parts) (decl_names parts.plan.outputs)) }
     ensures counts { IfOk result (λ outcome. AreCounts parts outcome.counts) }
 {
-    let counts = values_of(alloc, &parts.counts)?;
+    let counts = as_values(alloc, &parts.counts)?;
     let outputs = parts.plan.raw().outputs.len();
     let mut outs = parts.queues;
     outs.truncate(outputs);
@@ -24,7 +24,7 @@ pub(crate) fn outcome_of(alloc: Global, parts: Parts) -> Result<Outcome, NoMemor
 
 // Counts as values.
 #[tactic(auto, using(work_code::proofs::Lists::copies))]
-fn values_of(alloc: Global, counts: &Sizes) -> Result<Numbers, NoMemory>
+fn as_values(alloc: Global, counts: &Sizes) -> Result<Numbers, NoMemory>
     requires { All (λ count. count < 2 ^ 63) counts.now }
     ensures { IfOk result (λ values. values ≡ map pos counts.now) }
 {

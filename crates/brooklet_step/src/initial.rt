@@ -1,7 +1,8 @@
 // A machine before its first firing.
-ghost use Rattle.std.specs.Prelude.{◌≡◌, ◌++◌, ◌∷◌, [], false, length, replicate, IfOk, OnOk};
-ghost use Rattle.river_plan.specs.Forms.{plan_form, op_forms};
-ghost use Rattle.brooklet_model.specs.Typed.{IsBuilt};
+ghost use Rattle.std.specs.Prelude.{◌≡◌, ◌++◌, ◌∷◌, [], false, length, replicate, map as mapped, IfOk, OnOk};
+ghost use Rattle.river_plan.specs.Forms.{plan_form, op_forms, queue_names};
+ghost use Rattle.brooklet_step.specs.ByPlace.{places};
+ghost use Rattle.brooklet_step.specs.Built.{IsBuilt};
 ghost use Rattle.brooklet_step.specs.Fit.{Fit};
 ghost use Rattle.brooklet_step.specs.Works.{GoesOn, Starts};
 ghost use Rattle.brooklet_step.specs.Initial.{AreFirst, CanStart};
@@ -11,7 +12,7 @@ use crate::places::{Sizes, queue_places, read_places, write_places};
 use crate::start::first_states;
 use crate::{Inputs, ItemLists, States};
 use river_base::{Listed, NoMemory};
-use river_plan::{Ops, Plan};
+use river_plan::{Ops, Plan, RawPlan};
 use std::alloc::Global;
 
 /// What a machine keeps before the first firing.
@@ -22,17 +23,9 @@ pub(crate) fn first_parts(alloc: Global, plan: &Plan, inputs: Inputs) -> Result<
     ensures goes_on { IfOk result GoesOn }
 {
     let raw = plan.raw();
-    let map = queue_places(alloc, raw)?;
-    let before = raw.outputs.len();
-    let after = raw.queues.len();
-    let queues = first_queues(alloc, before, inputs, after)?;
-    let queue_count = queues.len();
-    let taken = zeros(alloc, queue_count)?;
-    let states = all_states(alloc, &raw.ops)?;
-    let op_count = raw.ops.len();
-    let counts = zeros(alloc, op_count)?;
-    let reads = read_places(alloc, &map, &raw.ops)?;
-    let writes = write_places(alloc, &map, &raw.ops)?;
+    let (queues, taken) = queues_and_marks(alloc, raw, inputs)?;
+    let (states, counts) = states_and_counts(alloc, &raw.ops)?;
+    let (reads, writes) = all_places(alloc, raw)?;
     let plan = plan.copy(alloc)?;
     Ok(Parts {
         plan,
@@ -44,6 +37,42 @@ pub(crate) fn first_parts(alloc: Global, plan: &Plan, inputs: Inputs) -> Result<
         writes,
         stopped: false,
     })
+}
+
+// The first queues of a plan, and that nothing is taken of them.
+fn queues_and_marks(
+    alloc: Global,
+    raw: &RawPlan,
+    inputs: Inputs,
+) -> Result<(ItemLists, Sizes), NoMemory>
+    ensures queues { IfOk result (λ both. both.0 ≡ replicate (length raw.now.outputs) [] ++ (inputs ++ replicate (length raw.now.queues) [])) }
+    ensures marks { IfOk result (λ both. both.1 ≡ replicate (length both.0) 0) }
+{
+    let queues = first_queues(alloc, raw.outputs.len(), inputs, raw.queues.len())?;
+    let marks = zeros(alloc, queues.len())?;
+    Ok((queues, marks))
+}
+
+// The first states of the operators, and that none has fired.
+fn states_and_counts(alloc: Global, ops: &Ops) -> Result<(Listed<States>, Sizes), NoMemory>
+    requires { CanStart (op_forms ops.now) }
+    ensures states { IfOk result (λ both. AreFirst (op_forms ops.now) both.0) }
+    ensures counts { IfOk result (λ both. both.1 ≡ replicate (length ops.now) 0) }
+{
+    let states = all_states(alloc, ops)?;
+    let counts = zeros(alloc, ops.len())?;
+    Ok((states, counts))
+}
+
+// The places of the queues that the operators read and write.
+fn all_places(alloc: Global, raw: &RawPlan) -> Result<(Listed<Sizes>, Listed<Sizes>), NoMemory>
+    ensures reads { IfOk result (λ both. both.0 ≡ mapped (λ op. places (queue_names (plan_form raw.now)) op.reads) (op_forms raw.now.ops)) }
+    ensures writes { IfOk result (λ both. both.1 ≡ mapped (λ op. places (queue_names (plan_form raw.now)) op.writes) (op_forms raw.now.ops)) }
+{
+    let map = queue_places(alloc, raw)?;
+    let reads = read_places(alloc, &map, &raw.ops)?;
+    let writes = write_places(alloc, &map, &raw.ops)?;
+    Ok((reads, writes))
 }
 
 // The inputs, between so many empty queues.

@@ -57,7 +57,7 @@ pub fn fire_leaf(
             Ok(())
         }
         Kernel::Duplicate(_) => {
-            out.give_everywhere(alloc, &item)?;
+            out.give_everywhere(alloc, item)?;
             Ok(())
         }
         Kernel::Deal(weights) => {
