@@ -1,11 +1,16 @@
 pub mod BagTypes
+pub mod Collected
 pub mod Complete
+pub mod Cycles
+pub mod Dealt
 pub mod Drained
 pub mod Feeds
 pub mod Free
 pub mod FusedRun
+pub mod JoinKeeps
 pub mod Joins
 pub mod Lists
+pub mod Longest
 pub mod Ports
 pub mod RunMeaning
 pub mod Shapes
@@ -13,6 +18,7 @@ pub mod Solutions
 pub mod Spliced
 pub mod Swaps
 pub mod Traces
+pub mod Turned
 pub mod TypedPlan
 pub mod Typing
 pub mod WideAdds

@@ -1,9 +1,13 @@
 // Valid plans.
-ghost use Rattle.std.specs.Prelude.{◌≡◌, IfOk};
+ghost use Rattle.std.specs.Prelude.{◌≡◌, ◌<◌, IfOk, length};
+ghost use Rattle.river_base.specs.Places.{list_at};
 ghost use Rattle.river_plan.specs.Forms.{plan_form};
+ghost use Rattle.river_plan.specs.Places.{read_places, write_places, var_places};
 ghost use Rattle.river_plan.specs.Valid.{IsPlan};
+ghost use Rattle.river_plan.specs.Wired.{IsWired};
 
 use crate::RawPlan;
+use crate::wiring::Wiring;
 use river_base::NoMemory;
 use std::alloc::Global;
 use std::marker::Model;
@@ -13,11 +17,13 @@ use std::marker::Model;
 #[derive(Drop)]
 pub struct Plan {
     raw: RawPlan,
+    wiring: Wiring,
 }
 
 impl Model for Plan {
     ghost use Rattle.river_plan.specs.Forms.{PlanForm, plan_form};
     ghost use Rattle.river_plan.specs.Valid.{IsPlan};
+    ghost use Rattle.river_plan.specs.Wired.{IsWired};
     ghost use Rattle.river_plan.specs.PlanCode.{plan_code};
 
     ghost Value = { PlanForm };
@@ -26,7 +32,7 @@ impl Model for Plan {
 
     ghost view = { λ p. plan_form p.raw };
 
-    ghost invariant = { λ p. IsPlan (plan_form p.raw) };
+    ghost invariant = { λ p. IsPlan (plan_form p.raw) × IsWired (plan_form p.raw) p.wiring };
 }
 
 impl Plan {
@@ -44,14 +50,40 @@ impl Plan {
     {
         Ok(Plan {
             raw: self.raw.copy(alloc)?,
+            wiring: self.wiring.copy(alloc)?,
         })
     }
 
-    // The plan of lists that are valid.
-    pub fn of_valid(raw: RawPlan) -> Plan
-        requires { IsPlan (plan_form raw) }
+    /// The places, among the names of the queues, of those that the operator of this number reads, port by port.
+    pub fn reads_of(&self, op: usize) -> &[usize]
+        requires { op < length self.now.ops }
+        ensures { result.now ≡ list_at (read_places self.now) op }
+    {
+        self.wiring.reads.at(op).as_slice()
+    }
+
+    /// The places, among the names of the queues, of those that the operator of this number writes, port by port.
+    pub fn writes_of(&self, op: usize) -> &[usize]
+        requires { op < length self.now.ops }
+        ensures { result.now ≡ list_at (write_places self.now) op }
+    {
+        self.wiring.writes.at(op).as_slice()
+    }
+
+    /// The places, among the names of the variables, of those of the operator of this number, in its kernel's order.
+    pub fn vars_of(&self, op: usize) -> &[usize]
+        requires { op < length self.now.ops }
+        ensures { result.now ≡ list_at (var_places self.now) op }
+    {
+        self.wiring.vars.at(op).as_slice()
+    }
+
+    // The plan of lists that are valid, with their wiring.
+    pub(crate) fn of_valid(raw: RawPlan, wiring: Wiring) -> Plan
+        requires valid { IsPlan (plan_form raw) }
+        requires wired { IsWired (plan_form raw) wiring }
         ensures { result ≡ plan_form raw }
     {
-        Plan { raw }
+        Plan { raw, wiring }
     }
 }
