@@ -6,8 +6,4 @@ pub mod NameLoops
 pub mod OpLoops
 pub mod Surgery
 pub mod Swap
-pub mod Tables
-pub mod TypedAll
 pub mod Types
-pub mod Typing
-pub mod WideAdds

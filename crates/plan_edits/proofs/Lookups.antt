@@ -1,6 +1,6 @@
 -- Types of queues and kinds of variables, looked up by name.
 use Rattle.std.proofs.Common.{◌≡◌, ℕ, ◌+◌, ◌<◌, Some, None, List, [], ◌∷◌, ◌++◌, refl, sym, ap, ◌∙◌, subst, arith, ⊎_elim, map}
-use Rattle.std.specs.Prelude.{All, unwrap_or, IsTrue}
+use Rattle.std.specs.Prelude.{Bool, true, Option, if◌then◌else◌, All, unwrap_or, IsTrue}
 use Rattle.std.proofs.lemmas.List.Elements.{All-head, All-tail}
 use Rattle.river_base.specs.Name.{name_eq}
 use Rattle.river_kernels.specs.Limits.{either}
@@ -17,6 +17,15 @@ use Rattle.brooklet_model.proofs.Solutions.{count_here}
 use Rattle.std.proofs.lemmas.List.{map-append}
 use Rattle.river_kernels.specs.Formed.{is_width}
 use Rattle.river_plan.specs.Faults.{HasWidth, type_width}
+
+if_either : {A : Type 0} (b : Bool) (x : A) (o p : Option A) → (if b then Some x else either o p) ≡ either (if b then Some x else o) p
+if_either true x o p = refl
+if_either false x o p = refl
+
+-- the type of a name in two lists of declarations: the first that has it
+pub kind_in-append : (xs ys : List Decl) (q : Name) → kind_in (xs ++ ys) q ≡ either (kind_in xs q) (kind_in ys q)
+kind_in-append [] ys q = refl
+kind_in-append (x ∷ xs) ys q = ap (λ o. if name_eq x.name q then Some x.kind else o) (kind_in-append xs ys q) ∙ if_either (name_eq x.name q) x.kind (kind_in xs q) (kind_in ys q)
 
 -- two functions that agree on all names of a list
 pub map_agree : {A : Type 0} (f g : Name → A) (rs : List Name) → ((x : Name) → 0 < count x rs → f x ≡ g x) → map f rs ≡ map g rs

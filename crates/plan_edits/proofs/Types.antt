@@ -16,7 +16,7 @@ use Rattle.river_plan.specs.Names.{count, one_if}
 use Rattle.river_plan.specs.Uses.{Each, total, writes_it, reads_it}
 use Rattle.river_plan.specs.Kinds.{kind_in, kind_of, private_in, var_kind, FitsAt}
 use Rattle.river_plan.proofs.NameLemmas.{cases_name, count-append}
-use Rattle.river_plan.proofs.MapLemmas.{kind_in-append}
+use Rattle.plan_edits.proofs.Lookups.{kind_in-append}
 use Rattle.brooklet_model.proofs.Lists.{if_true, if_false, if_lt, if_ge}
 use Rattle.brooklet_model.proofs.Solutions.{count_here}
 use Rattle.brooklet_model.proofs.Ports.{tables_in}

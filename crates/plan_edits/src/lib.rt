@@ -2,7 +2,9 @@
 #![tactic(auto)]
 
 mod kinds;
+mod lists;
 mod unfit;
 
 pub use kinds::kind_of;
+pub use lists::plan_of;
 pub use unfit::Unfit;

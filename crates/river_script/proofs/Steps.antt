@@ -13,7 +13,7 @@ use Rattle.plan_edits.proofs.MeaningSame.{meaning_same}
 use Rattle.river_script.specs.Script.{StepForm, fusing, hoisting, splitting, step_of, then_all, script_from, ScriptKeeps, ScriptMeans}
 use Rattle.rw_local.proofs.FuseSteps.{fuse_law}
 use Rattle.rw_local.proofs.HoistSteps.{hoist_law}
-use Rattle.plan_edits.proofs.TypedAll.{all_typed}
+use Rattle.brooklet_model.proofs.TypedPlan.{typed_law}
 
 -- a valid plan of the same meaning, on all inputs that fit
 abbrev pub Keeps : PlanForm → PlanForm → Type 0
@@ -42,8 +42,8 @@ keeps_trans p q r a b = (
 -- each step keeps what a plan means
 pub step_keeps : (p p' : PlanForm) (s : StepForm) → IsPlan p → step_of p s ≡ Ok p' → Keeps p p'
 step_keeps p p' (fusing q) v h = let k = fuse_law p p' q v h in (k.0, k.1, λ inputs a. k.2 inputs)
-step_keeps p p' (hoisting l) v h = let k = hoist_law p p' l v h in (k.0, k.1, λ inputs a. k.2 inputs (all_typed p v inputs a))
-step_keeps p p' (splitting l n) v h = let k = fission_keeps p p' l n v h in (k.0, k.1, λ inputs a. k.2 inputs (all_typed p v inputs a))
+step_keeps p p' (hoisting l) v h = let k = hoist_law p p' l v h in (k.0, k.1, λ inputs a. k.2 inputs (typed_law p inputs v a))
+step_keeps p p' (splitting l n) v h = let k = fission_keeps p p' l n v h in (k.0, k.1, λ inputs a. k.2 inputs (typed_law p inputs v a))
 
 no_script : (f : ℕ × Unfit) (p' : PlanForm) → Err f ≡ Ok p' → ⊥
 no_script f p' h = cc h
@@ -66,4 +66,4 @@ script_law p p' ss v h = from_keeps 1 p p' ss v h
 
 -- tables included
 pub script_means : ScriptMeans
-script_means p p' ss v h = let k = script_law p p' ss v h in (k.0, k.1, λ inputs a. meaning_same p p' inputs v k.0 k.1 a (k.2 inputs a))
+script_means p p' ss v h = let k = script_law p p' ss v h in (k.0, k.1, λ inputs a. meaning_same p p' inputs k.1 (k.2 inputs a))

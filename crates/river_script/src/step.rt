@@ -77,7 +77,7 @@ fn step_after(reader: &mut Reader<'_>, word: &[u8]) -> Result<Step, Fault>
 
 // A step.
 #[tactic(auto, unfolding(crate::specs::Reading::step_at))]
-fn step(reader: &mut Reader<'_>) -> Result<Step, Fault>
+fn any_step(reader: &mut Reader<'_>) -> Result<Step, Fault>
     ensures { Gives step_form result reader.new (step_at reader.old) }
 {
     let word = reader.name()?;
@@ -90,7 +90,7 @@ pub(crate) fn whole_step(tokens: &[Lexeme<'_>]) -> Result<Step, Fault>
     ensures { MakesStep result (whole step_at (tokens_of tokens.now)) }
 {
     let mut reader = Reader::new(tokens);
-    let step = step(&mut reader)?;
+    let step = any_step(&mut reader)?;
     if !reader.is_at_end() {
         return Err(Fault::Syntax);
     }

@@ -14,7 +14,7 @@ use Rattle.brooklet_model.specs.Firings.{Same, feed, splice, beside, fused_of}
 use Rattle.brooklet_model.specs.Fire.{fire, ins, outs, tabs, privates, first_kept}
 use Rattle.brooklet_model.specs.Shapes.{IsShaped}
 use Rattle.brooklet_model.specs.Histories.{History, lists_of, given, joined, Lists}
-use Rattle.brooklet_model.specs.Words.{run, in_order, feed_all}
+use Rattle.brooklet_model.specs.Words.{run, port_by_port, feed_all}
 use Rattle.brooklet_model.proofs.Lists.{if_true, if_false, if_lt, if_ge, take_front, drop_front}
 use Rattle.brooklet_model.proofs.Feeds.{one_input}
 use Rattle.brooklet_model.proofs.FusedRun.{fused_runs}
@@ -124,7 +124,7 @@ pub fused_given : (q : Name) (w r : OpForm) (h : History) → IsShaped (fused w.
 fused_given q w r h f reads eq =
     let a = w.kernel in let b = r.kernel in let at = place q w.writes in
     let fa = first_kept a in let fb = first_kept b in
-    let word = in_order (ins a) 0 (lists_of h w.reads) in
+    let word = port_by_port (ins a) 0 (lists_of h w.reads) in
     let sh = first_shape (fused a b at) f in
     let la = shape_length a fa (first_shape a f.0) in
     let l9 = fused_runs a b at word (fa ++ fb) f sh in

@@ -14,7 +14,7 @@ use Rattle.river_plan.specs.Names.{count, one_if}
 use Rattle.river_plan.specs.Uses.{total}
 use Rattle.river_plan.specs.Kinds.{kind_in, kind_of}
 use Rattle.river_plan.proofs.NameLemmas.{cases_name, count-append}
-use Rattle.river_plan.proofs.MapLemmas.{kind_in-append}
+use Rattle.plan_edits.proofs.Lookups.{kind_in-append}
 use Rattle.brooklet_model.specs.Histories.{History, lists_of}
 use Rattle.brooklet_model.specs.Typed.{IsOf, AreOf}
 use Rattle.brooklet_model.proofs.Lists.{if_true, if_false, if_lt, if_eq, if_ne}

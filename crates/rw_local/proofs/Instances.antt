@@ -100,13 +100,3 @@ unknown = refl
 
 an_output : fuse_of fused_two (n 3) ≡ Err U2
 an_output = refl
-
--- rows of a maximum that differ beyond the weight keep the order in which they came
-abbrev row : ℕ → List ℤ
-row k = pos 1 ∷ pos 2 ∷ pos k ∷ []
-
-one_way : tab (Maximum 5 0) (row 3 ∷ row 4 ∷ []) ≡ row 4 ∷ row 3 ∷ []
-one_way = refl
-
-other_way : tab (Maximum 5 0) (row 4 ∷ row 3 ∷ []) ≡ row 3 ∷ row 4 ∷ []
-other_way = refl

@@ -9,7 +9,7 @@ ghost use Rattle.plan_edits.specs.Answered.{IsAnswered};
 use crate::names::share;
 use crate::ops::{fused_ops, is_large, reader, writer};
 use river_base::{Duplicate, Name, NoMemory};
-use plan_edits::Unfit;
+use plan_edits::{Unfit, plan_of};
 use river_plan::{Decl, Decls, Op, Plan, RawPlan};
 use std::alloc::Global;
 
@@ -45,7 +45,7 @@ fn fuse_at(alloc: Global, plan: &Plan, queue: Name) -> Result<Plan, Unfit>
         return Err(Unfit::U5);
     }
     let lists = fused_lists(alloc, raw, writer, reader, queue)?;
-    Ok(Plan::of_valid(lists))
+    Ok(plan_of(alloc, lists)?)
 }
 
 // The lists after the step.

@@ -13,7 +13,7 @@ ghost use Rattle.plan_edits.specs.Answered.{IsAnswered};
 
 use crate::fusing::{add_decls, decl_place};
 use crate::kinds::first_width;
-use plan_edits::{Unfit, kind_of};
+use plan_edits::{Unfit, kind_of, plan_of};
 use crate::names::{contains, spliced};
 use crate::ops::writer;
 use crate::past::passes;
@@ -63,7 +63,7 @@ fn hoist_at(alloc: Global, plan: &Plan, label: Name) -> Result<Plan, Unfit>
     }
     let src = *below.reads.at(side);
     let lists = hoisted_lists(alloc, raw, above, below, side, &moved, src, mid, out)?;
-    Ok(Plan::of_valid(lists))
+    Ok(plan_of(alloc, lists)?)
 }
 
 // The lists after the step.
