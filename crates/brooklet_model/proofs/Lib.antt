@@ -7,7 +7,6 @@ pub mod Drained
 pub mod Feeds
 pub mod Free
 pub mod FusedRun
-pub mod JoinKeeps
 pub mod Joins
 pub mod Lists
 pub mod Longest

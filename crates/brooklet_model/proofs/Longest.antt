@@ -4,7 +4,7 @@ use Rattle.std.specs.Prelude.{slice_get}
 use Rattle.river_base.specs.declared.item.Item as item
 use Rattle.river_base.specs.Places.{list_at}
 use Rattle.kern_rows.specs.Turns.{rest_at, waiting, itself}
-use Rattle.brooklet_model.proofs.JoinKeeps.{less_at, stuck_at}
+use Rattle.brooklet_model.proofs.Joins.{less_at, stuck_at}
 use Rattle.brooklet_model.proofs.Collected.{IsLeft, left_next, cases_list, got_none, got_some, front_at_some, waiting_is}
 use Rattle.brooklet_model.specs.ByIndex.{cycle, branch, number_at, item_at, and_more, front_of, size_of, collected}
 use Rattle.brooklet_model.proofs.Cycles.{taken_none, taken_here}

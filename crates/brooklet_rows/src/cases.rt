@@ -89,8 +89,10 @@ fn is_enabled_as_wanted(machine: &Machine) -> bool {
 
 #[test]
 fn runs_in_any_order(rt: HostRuntime) -> Result<(), Fail> {
-    let cases: [(&[u8], &[&[u8]], &[u8]); 2] =
-        [(SPLITS, SEVEN, SPLITS_TEXT), (PACKS, TWO, PACKS_TEXT)];
+    let cases: [(&[u8], &[&[u8]], &[u8]); 2] = [
+        (SPLITS, SEVEN, SPLITS_TEXT),
+        (PACKS, TWO, PACKS_TEXT),
+    ];
     for (plan, files, wanted) in cases {
         for seed in [1, 2, 3, 77, 123456789] {
             let text = driven(rt.alloc(), plan, files, seed)?;

@@ -193,20 +193,21 @@ pub record First (p : PlanForm) (inputs : List (List item.Item)) (m : Parts) : T
   pub starts : Starts p inputs m
   pub goes_on : GoesOn m
 
-pub first : (p pl : PlanForm) (inputs queues : List (List item.Item)) (taken cs : List ℕ) (states : List (List State)) (reads writes : List (List ℕ)) → IsPlan p → IsBuilt p → Fit p inputs → pl ≡ p
-    → queues ≡ replicate (length p.outputs) [] ++ (inputs ++ replicate (length p.queues) []) → taken ≡ replicate (length queues) 0 → AreFirst p.ops states → cs ≡ replicate (length p.ops) 0
+pub first : (p pl : PlanForm) (inputs queues : List (List item.Item)) (cs : List ℕ) (states : List (List State)) (reads writes : List (List ℕ)) → IsPlan p → IsBuilt p → Fit p inputs → pl ≡ p
+    → queues ≡ replicate (length p.outputs) [] ++ (inputs ++ replicate (length p.queues) []) → AreFirst p.ops states → cs ≡ replicate (length p.ops) 0
     → reads ≡ map (λ op. places (queue_names p) op.reads) p.ops → writes ≡ map (λ op. places (queue_names p) op.writes) p.ops
-    → First p inputs (record { plan = pl; queues = queues; taken = taken; states = states; counts = cs; reads = reads; writes = writes; stopped = false })
-first p pl inputs queues taken cs states reads writes v b fit pe qe te f ce re we =
-    let m : Parts = record { plan = p; queues = queues; taken = taken; states = states; counts = cs; reads = reads; writes = writes; stopped = false } in
+    → First p inputs (record { plan = pl; queues = queues; states = states; counts = cs; reads = reads; writes = writes; stopped = false })
+first p pl inputs queues cs states reads writes v b fit pe qe f ce re we =
+    let m : Parts = record { plan = p; queues = queues; states = states; counts = cs; reads = reads; writes = writes; stopped = false } in
     let many : length queues ≡ length (queue_names p) = ap length qe ∙ queues_many p v inputs fit in
     let kinds = kind_of (all_decls p) in
     let all_typed = inputs_typed p v inputs fit.typed in
     let hist_is : (q : Name) → 0 < count q (queue_names p) → list_at queues (place (queue_names p) q) ≡ inputs_of (decl_names p.inputs) (list_at inputs) q =
     λ q lt. sym (first_hist p v inputs fit q lt ∙ ap (λ (l : List (List item.Item)). list_at l (place (queue_names p) q)) (sym qe)) in
     let stands : Stands m (start p inputs) = record {
-      hist = λ q lt. hist_is q lt ∙ sym (held-same (kinds q) [] (inputs_of (decl_names p.inputs) (list_at inputs) q));
-      taken = λ q lt. sym (ap (λ (l : List ℕ). slice_index_or l (place (queue_names p) q) 0) te ∙ zero_at (length queues) (place (queue_names p) q));
+      left = λ q lt. hist_is q lt ∙ sym (held-same (kinds q) [] (inputs_of (decl_names p.inputs) (list_at inputs) q));
+      within = λ q. omega arith;
+      unread = λ q z. refl;
       typed = all_typed;
       inputs = inputs;
       words = λ o. [];
@@ -215,14 +216,13 @@ first p pl inputs queues taken cs states reads writes v b fit pe qe te f ce re w
       kept = λ o op g. (f.stand o op g).after;
     } in
     let cs_are : Counts m [] = λ o lt. ap (λ (l : List ℕ). slice_index_or l o 0) ce ∙ zero_at (length p.ops) o ∙ sym (min_zero most_firings) in
-    subst (λ (x : PlanForm). First p inputs (record { plan = x; queues = queues; taken = taken; states = states; counts = cs; reads = reads; writes = writes; stopped = false })) (sym pe) (record {
+    subst (λ (x : PlanForm). First p inputs (record { plan = x; queues = queues; states = states; counts = cs; reads = reads; writes = writes; stopped = false })) (sym pe) (record {
       starts = record { plan = refl; running = refl; stands = stands; counts = cs_are };
       goes_on = record {
         valid = v;
         built = b;
         laid_out = record {
           queues = many;
-          taken = ap length te ∙ length-replicate (length queues) 0 ∙ many;
           states = f.count;
           counts = ap length ce ∙ length-replicate (length p.ops) 0;
           reads = re;
@@ -237,15 +237,15 @@ first p pl inputs queues taken cs states reads writes v b fit pe qe te f ce re w
     })
 
 -- the same in the terms of the code
-pub first_by : (raw : RawPlan) (p pl : PlanForm) (inputs queues : List (List item.Item)) (taken cs : List ℕ) (states : List (List State)) (reads writes : List (List ℕ)) → IsPlan p → IsBuilt p → Fit p inputs → plan_form raw ≡ p → pl ≡ p
-    → queues ≡ replicate (length raw.outputs) [] ++ (inputs ++ replicate (length raw.queues) []) → taken ≡ replicate (length queues) 0 → AreFirst (op_forms raw.ops) states → cs ≡ replicate (length raw.ops) 0
+pub first_by : (raw : RawPlan) (p pl : PlanForm) (inputs queues : List (List item.Item)) (cs : List ℕ) (states : List (List State)) (reads writes : List (List ℕ)) → IsPlan p → IsBuilt p → Fit p inputs → plan_form raw ≡ p → pl ≡ p
+    → queues ≡ replicate (length raw.outputs) [] ++ (inputs ++ replicate (length raw.queues) []) → AreFirst (op_forms raw.ops) states → cs ≡ replicate (length raw.ops) 0
     → reads ≡ map (λ (op : OpForm). places (queue_names (plan_form raw)) op.reads) (op_forms raw.ops) → writes ≡ map (λ (op : OpForm). places (queue_names (plan_form raw)) op.writes) (op_forms raw.ops)
-    → First p inputs (record { plan = pl; queues = queues; taken = taken; states = states; counts = cs; reads = reads; writes = writes; stopped = false })
-first_by raw p pl inputs queues taken cs states reads writes v bu fit e pe qe te fs ce re we =
-    let m : Parts = record { plan = pl; queues = queues; taken = taken; states = states; counts = cs; reads = reads; writes = writes; stopped = false } in
+    → First p inputs (record { plan = pl; queues = queues; states = states; counts = cs; reads = reads; writes = writes; stopped = false })
+first_by raw p pl inputs queues cs states reads writes v bu fit e pe qe fs ce re we =
+    let m : Parts = record { plan = pl; queues = queues; states = states; counts = cs; reads = reads; writes = writes; stopped = false } in
     subst (λ (x : PlanForm). First x inputs m) e
-    (first (plan_form raw) pl inputs queues taken cs states reads writes (subst IsPlan (sym e) v) (subst IsBuilt (sym e) bu) (subst (λ (x : PlanForm). Fit x inputs) (sym e) fit) (pe ∙ sym e)
-    qe te fs (ce ∙ ap (λ (i : ℕ). replicate i 0) (sym (length-map raw.ops op_form))) re we)
+    (first (plan_form raw) pl inputs queues cs states reads writes (subst IsPlan (sym e) v) (subst IsBuilt (sym e) bu) (subst (λ (x : PlanForm). Fit x inputs) (sym e) fit) (pe ∙ sym e)
+    qe fs (ce ∙ ap (λ (i : ℕ). replicate i 0) (sym (length-map raw.ops op_form))) re we)
 
 pub can_start_by : (raw : RawPlan) (p : PlanForm) → plan_form raw ≡ p → IsPlan p → IsBuilt p → CanStart (op_forms raw.ops)
 can_start_by raw p e v b = subst (λ (x : PlanForm). CanStart x.ops) (sym e) (can_start p v b)

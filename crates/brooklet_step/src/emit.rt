@@ -114,7 +114,11 @@ impl Emit {
 }
 
 // The list at a place; nothing is left there.
-fn take_list<T: Drop>(alloc: Global, lists: &mut Listed<Listed<T>>, place: usize) -> Listed<T>
+pub(crate) fn take_list<T: Drop>(
+    alloc: Global,
+    lists: &mut Listed<Listed<T>>,
+    place: usize,
+) -> Listed<T>
     requires { place < length lists.old }
     ensures taken { result ≡ list_at lists.old place }
     ensures left { lists.new ≡ slice_set lists.old place [] }

@@ -7,10 +7,12 @@ ghost use Rattle.brooklet_step.specs.Fit.{Fit};
 ghost use Rattle.brooklet_step.specs.Works.{GoesOn, Starts};
 ghost use Rattle.brooklet_step.specs.Initial.{AreFirst, CanStart};
 
-use crate::machine::Parts;
+use crate::emit::take_list;
+use crate::machine::{Lines, Parts};
 use crate::places::{Sizes, queue_places, read_places, write_places};
 use crate::start::first_states;
-use crate::{Inputs, ItemLists, States};
+use crate::{Inputs, States};
+use kern_rows::Line;
 use river_base::{Listed, NoMemory};
 use river_plan::{Ops, Plan, RawPlan};
 use std::alloc::Global;
@@ -23,34 +25,19 @@ pub(crate) fn first_parts(alloc: Global, plan: &Plan, inputs: Inputs) -> Result<
     ensures goes_on { IfOk result GoesOn }
 {
     let raw = plan.raw();
-    let (queues, taken) = queues_and_marks(alloc, raw, inputs)?;
+    let queues = first_queues(alloc, raw, inputs)?;
     let (states, counts) = states_and_counts(alloc, &raw.ops)?;
     let (reads, writes) = all_places(alloc, raw)?;
     let plan = plan.copy(alloc)?;
     Ok(Parts {
         plan,
         queues,
-        taken,
         states,
         counts,
         reads,
         writes,
         stopped: false,
     })
-}
-
-// The first queues of a plan, and that nothing is taken of them.
-fn queues_and_marks(
-    alloc: Global,
-    raw: &RawPlan,
-    inputs: Inputs,
-) -> Result<(ItemLists, Sizes), NoMemory>
-    ensures queues { IfOk result (λ both. both.0 ≡ replicate (length raw.now.outputs) [] ++ (inputs ++ replicate (length raw.now.queues) [])) }
-    ensures marks { IfOk result (λ both. both.1 ≡ replicate (length both.0) 0) }
-{
-    let queues = first_queues(alloc, raw.outputs.len(), inputs, raw.queues.len())?;
-    let marks = zeros(alloc, queues.len())?;
-    Ok((queues, marks))
 }
 
 // The first states of the operators, and that none has fired.
@@ -75,20 +62,36 @@ fn all_places(alloc: Global, raw: &RawPlan) -> Result<(Listed<Sizes>, Listed<Siz
     Ok((reads, writes))
 }
 
-// The inputs, between so many empty queues.
-fn first_queues(
-    alloc: Global,
-    before: usize,
-    inputs: Inputs,
-    after: usize,
-) -> Result<ItemLists, NoMemory>
-    ensures { IfOk result (λ queues. queues ≡ replicate before [] ++ (inputs ++ replicate after [])) }
+// The first queues of a plan: the inputs' items move there, and the others are empty.
+fn first_queues(alloc: Global, raw: &RawPlan, inputs: Inputs) -> Result<Lines, NoMemory>
+    ensures { IfOk result (λ queues. queues ≡ replicate (length raw.now.outputs) [] ++ (inputs ++ replicate (length raw.now.queues) [])) }
 {
     let mut inputs = inputs;
-    let mut queues: ItemLists = Listed::blanks(alloc, before)?;
-    inputs.append(Listed::blanks(alloc, after)?)?;
-    queues.append(inputs)?;
+    let mut queues = Lines::new(alloc);
+    add_empty(alloc, &mut queues, raw.outputs.len())?;
+    add_lists(alloc, &mut queues, &mut inputs)?;
+    add_empty(alloc, &mut queues, raw.queues.len())?;
     Ok(queues)
+}
+
+// So many empty queues more.
+fn add_empty(alloc: Global, queues: &mut Lines, count: usize) -> Result<(), NoMemory>
+    ensures { OnOk result (queues.new ≡ queues.old ++ replicate count []) }
+{
+    for _i in 0..count {
+        queues.push(Line::new(alloc))?;
+    }
+    Ok(())
+}
+
+// A queue more for each list, whose items move there.
+fn add_lists(alloc: Global, queues: &mut Lines, lists: &mut Inputs) -> Result<(), NoMemory>
+    ensures { OnOk result (queues.new ≡ queues.old ++ lists.old) }
+{
+    for place in 0..lists.len() {
+        queues.push(Line::from_items(take_list(alloc, lists, place)))?;
+    }
+    Ok(())
 }
 
 // So many zeros.

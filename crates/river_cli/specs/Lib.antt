@@ -1,13 +1,10 @@
-pub mod Added
-pub mod Agrees
 pub mod Answer
-pub mod Built
-pub mod Commands
 pub mod Inputs
+pub mod Jobs
+pub mod Phrases
 pub mod Points
-pub mod Printed
-pub mod River
-pub mod Says
+pub mod Said
+pub mod Source
 pub mod Text
 pub mod Widths
 pub mod Words

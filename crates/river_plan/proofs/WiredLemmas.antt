@@ -80,17 +80,17 @@ module _ (p : PlanForm) (w : Wiring) (queues : List QueueType) (kinds : List Var
   same k is is' os os' us us' a b c h = subst (λ l. Fits k is' os' l) c (subst (λ l. Fits k is' l us) b (subst (λ l. Fits k l os us) a h))
 
   module _ (ops : List Op) (are : op_forms ops ≡ p.ops) (lt : i < length ops) (e : op ≡ get_or ops i op) where
-    reads : map (kind_at queues) (list_at w.reads i) ≡ map (kind_of (all_decls p)) op.reads
-    reads = types op.reads (list_at w.reads i) (at_places ops are lt e (λ o. places (queue_names p) o.reads) w.reads wired.reads)
+    reads : map (kind_at queues) (list_at w.reads.by_op i) ≡ map (kind_of (all_decls p)) op.reads
+    reads = types op.reads (list_at w.reads.by_op i) (at_places ops are lt e (λ o. places (queue_names p) o.reads) w.reads.by_op wired.reads.by_op)
 
-    writes : map (kind_at queues) (list_at w.writes i) ≡ map (kind_of (all_decls p)) op.writes
-    writes = types op.writes (list_at w.writes i) (at_places ops are lt e (λ o. places (queue_names p) o.writes) w.writes wired.writes)
+    writes : map (kind_at queues) (list_at w.writes.by_op i) ≡ map (kind_of (all_decls p)) op.writes
+    writes = types op.writes (list_at w.writes.by_op i) (at_places ops are lt e (λ o. places (queue_names p) o.writes) w.writes.by_op wired.writes.by_op)
 
-    vars : map (var_at kinds) (list_at w.vars i) ≡ map (var_kind p.tables p.vars) op.vars
-    vars = variables op.vars (list_at w.vars i) (at_places ops are lt e (λ o. places (variable_names p) o.vars) w.vars wired.vars)
+    vars : map (var_at kinds) (list_at w.vars.by_op i) ≡ map (var_kind p.tables p.vars) op.vars
+    vars = variables op.vars (list_at w.vars.by_op i) (at_places ops are lt e (λ o. places (variable_names p) o.vars) w.vars.by_op wired.vars.by_op)
 
-    pub fits-named : FitsPlaces queues kinds (kern_of op.kernel) (list_at w.reads i) (list_at w.writes i) (list_at w.vars i) → IsFit p (op_form op)
+    pub fits-named : FitsPlaces queues kinds (kern_of op.kernel) (list_at w.reads.by_op i) (list_at w.writes.by_op i) (list_at w.vars.by_op i) → IsFit p (op_form op)
     fits-named h = same (kern_of op.kernel) _ _ _ _ _ _ reads writes vars h
 
-    pub fits-placed : IsFit p (op_form op) → FitsPlaces queues kinds (kern_of op.kernel) (list_at w.reads i) (list_at w.writes i) (list_at w.vars i)
+    pub fits-placed : IsFit p (op_form op) → FitsPlaces queues kinds (kern_of op.kernel) (list_at w.reads.by_op i) (list_at w.writes.by_op i) (list_at w.vars.by_op i)
     fits-placed h = same (kern_of op.kernel) _ _ _ _ _ _ (sym reads) (sym writes) (sym vars) h

@@ -10,24 +10,10 @@ use Rattle.text_forms.specs.Tail.{tail}
 use Rattle.text_forms.specs.Repeat.{Turn, Stop, Fail, Next, repeated}
 use Rattle.text_forms.specs.Parse as parse
 use Rattle.text_forms.specs.Forms as form
+pub use Rattle.text_forms.specs.Exact.{Front, Exact, Any}
 use Rattle.text_forms.proofs.Symbols.{begins_with-is, begins_with-symbol}
 use Rattle.text_forms.proofs.Pairs.{some_inj, pair_inj}
 use Rattle.text_forms.proofs.Repeat.{Shortens, repeated-next, repeated-stop, repeated-fail, repeated-keeps}
-
--- the front of these tokens, up to `rest`, stands for v
-pub record Front {A : Type 0} (F : A → List Tok → Type 0) (v : A) (ts rest : List Tok) : Type 0 where
-  pub front : List Tok
-  pub is : ts ≡ front ++ rest
-  pub formed : F v front
-
--- `E` says what may follow
-pub record Exact {A : Type 0} (F : A → List Tok → Type 0) (p : parse.Parse A) (E : List Tok → Type 0) : Type 0 where
-  pub sound : (ts : List Tok) (v : A) (rest : List Tok) → p ts ≡ Some (v, rest) → Front F v ts rest
-  pub complete : (v : A) (s rest : List Tok) → F v s → E rest → p (s ++ rest) ≡ Some (v, rest)
-
--- anything may follow
-abbrev pub Any : List Tok → Type 0
-Any rest = Unit {0}
 
 -- fewer things may follow
 pub exact-less : {A : Type 0} {F : A → List Tok → Type 0} {p : parse.Parse A} {E D : List Tok → Type 0} → Exact F p E → ((rest : List Tok) → D rest → E rest) → Exact F p D

@@ -22,13 +22,10 @@ use Rattle.text_forms.specs.Tail.{tail}
 use Rattle.text_forms.specs.Tree.{Spoken, depth_of}
 use Rattle.text_forms.specs.Tree as tree
 use Rattle.text_forms.proofs.Exact.{Exact, Front, Any, exact-as, exact-less, exact-both, exact-after, exact-before, exact-tested, exact-seen, exact-merged, exact-number, exact-nothing, then_read-some}
+pub use Rattle.text_forms.specs.Exact.{Ends}
 use Rattle.text_forms.proofs.Pairs.{some_inj, pair_inj}
 use Rattle.text_forms.proofs.Repeat.{Shortens, repeated-next, repeated-stop, repeated-keeps}
 use Rattle.text_forms.proofs.Symbols.{begins_with-is, begins_with-symbol}
-
--- no operator of the lines up to k comes
-abbrev pub Ends : ℕ → List Tok → Type 0
-Ends k rest = (j : ℕ) → j ≤ k → operator_at j rest ≡ None
 
 -- the tokens of an expression behind one bracket more
 abbrev IsWithin : Language → (n room : ℕ) → Spoken → List Tok → Type 0

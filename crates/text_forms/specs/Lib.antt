@@ -1,3 +1,4 @@
+pub mod Exact
 pub mod Expressions
 pub mod Forms
 pub mod Gives

@@ -4,6 +4,7 @@
 mod expression;
 mod fault;
 mod language;
+pub mod laws;
 mod measured;
 mod names;
 mod operator;
