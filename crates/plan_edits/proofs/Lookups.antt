@@ -1,6 +1,6 @@
 -- Types of queues and kinds of variables, looked up by name.
-use Rattle.std.proofs.Common.{◌≡◌, ℕ, ◌+◌, ◌<◌, Some, None, List, [], ◌∷◌, ◌++◌, refl, sym, ap, ◌∙◌, subst, arith, ⊎_elim, map}
-use Rattle.std.specs.Prelude.{Bool, true, Option, if◌then◌else◌, All, unwrap_or, IsTrue}
+use Rattle.std.proofs.Common.{◌≡◌, ℕ, ◌<◌, Some, None, List, [], ◌∷◌, ◌++◌, refl, sym, ap, ◌∙◌, subst, arith, ⊎_elim, map}
+use Rattle.std.specs.Prelude.{Bool, true, false, Option, if◌then◌else◌, All, unwrap_or, IsTrue}
 use Rattle.std.proofs.lemmas.List.Elements.{All-head, All-tail}
 use Rattle.river_base.specs.Name.{name_eq}
 use Rattle.river_kernels.specs.Limits.{either}
