@@ -1,7 +1,5 @@
 -- Steps on small plans, computed.
-use Rattle.kern_tables.specs.Tables.{tab}
-use Rattle.kern_tables.specs.declared.kind.TableKind.TheVariants.{Maximum}
-use Rattle.std.proofs.Common.{◌≡◌, ℕ, ℤ, pos, List, [], ◌∷◌, refl}
+use Rattle.std.proofs.Common.{◌≡◌, ℕ, pos, List, [], ◌∷◌, refl}
 use Rattle.std.specs.Prelude.{Ok, Err}
 use Rattle.work_code.specs.declared.expr.BinOp.TheVariants as op
 use Rattle.work_code.specs.Term.{Term, Const, Input, Bin}
