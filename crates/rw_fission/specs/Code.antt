@@ -10,7 +10,7 @@ use Rattle.plan_edits.specs.Lists.{first_with, swapped}
 use Rattle.rw_fission.specs.Made.{Made, made_of, each_name, digits}
 use Rattle.river_plan.specs.Valid.{IsPlan}
 use Rattle.plan_edits.specs.declared.unfit.Unfit.{Unfit}
-use Rattle.plan_edits.specs.declared.unfit.Unfit.TheVariants.{N1, N2, N3, N4, N5, NoMemory}
+use Rattle.plan_edits.specs.declared.unfit.Unfit.TheVariants.{N5, NoMemory}
 use Rattle.rw_fission.specs.declared.made.MadeNames.{MadeNames}
 use Rattle.rw_fission.specs.declared.form.Form.{Form}
 use Rattle.rw_fission.specs.declared.form.Form.TheVariants.{Packs, Blocks, Adds}
