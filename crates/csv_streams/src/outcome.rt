@@ -7,7 +7,8 @@ ghost use Rattle.csv_streams.specs.Outcome as text;
 
 use brooklet_step::Outcome;
 use itoa::Buffer;
-use river_base::{Batch, Bytes, Duplicate, Flat, Item, Items, Name, NoMemory, Row};
+use kern_rows::Line;
+use river_base::{Batch, Bytes, Duplicate, Flat, Item, Name, NoMemory, Row};
 use river_plan::{Decl, Op, Plan};
 use std::alloc::Global;
 
@@ -44,7 +45,7 @@ pub fn print_outcome(
 fn print_outputs(
     alloc: Global,
     decls: &[Decl],
-    outs: &[Items],
+    outs: &[Line],
     to: &mut Bytes,
 ) -> Result<(), NoMemory>
     requires { length outs.now ≡ length decls.now }
@@ -57,21 +58,21 @@ fn print_outputs(
 }
 
 #[tactic(auto, using(crate::proofs::Texts::joins))]
-fn print_output(alloc: Global, name: &Name, items: &Items, to: &mut Bytes) -> Result<(), NoMemory>
+fn print_output(alloc: Global, name: &Name, items: &Line, to: &mut Bytes) -> Result<(), NoMemory>
     ensures { OnOk result (to.new ≡ to.old ++ text.output_text name.now items.now) }
 {
     to.extend(b"# ")?;
     to.extend(name.as_slice())?;
     to.push(b'\n')?;
-    print_items(alloc, items.as_slice(), to)
+    print_items(alloc, items, to)
 }
 
 #[tactic(auto, using(crate::proofs::Texts::joins))]
-fn print_items(alloc: Global, items: &[Item], to: &mut Bytes) -> Result<(), NoMemory>
+fn print_items(alloc: Global, items: &Line, to: &mut Bytes) -> Result<(), NoMemory>
     ensures { OnOk result (to.new ≡ to.old ++ text.lines text.item_text items.now) }
 {
-    for item in items {
-        print_item(alloc, item, to)?;
+    for place in 0..items.len() {
+        print_item(alloc, items.at(place), to)?;
     }
     Ok(())
 }
