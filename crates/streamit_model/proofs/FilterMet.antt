@@ -14,7 +14,7 @@ use Rattle.river_plan.proofs.NameLemmas.{cases_name, name_same}
 use Rattle.brooklet_model.specs.Machine.{at_name}
 use Rattle.streamit_model.specs.Source.{Block, Values, do_all}
 use Rattle.streamit_model.specs.Elaborate.{Rates, Limit, on_ok, demand, Var, Scope, find, is_new, has_slot, At, steps_of}
-use Rattle.streamit_model.specs.FilterSource.{FilterTree, nought, with_fields, at_start, initial, fires, fires_from, pushed_by, read_fields, nothing_read, starts_of, form_of, rates_of, kept_rates, elaborated}
+use Rattle.streamit_model.specs.FilterSource.{FilterTree, nought, with_fields, at_start, initial, fires, fires_from, pushed_by, read_field, read_fields, nothing_read, starts_of, form_of, rates_of, kept_rates, elaborated}
 use Rattle.streamit_model.specs.Filters.{firings_from, filtered}
 use Rattle.streamit_model.proofs.Elaborated.{fine, ok_parts, ok_is, demanded, new_is, some_is, found_here, found_other, at_here, at_other, Holds, Agrees, IsSound, Keeps, keeps_new, sound_var, steps_grow, steps_met}
 
@@ -31,9 +31,14 @@ record Field (f : Name) (fs : List Name) (s s' : At) : Type 0 where
 field : (f : Name) (fs : List Name) (s s' : At) → read_fields (f ∷ fs) s ≡ Ok s' → Field f fs s s'
 unfolding next
 field f fs s s' h =
-    let p = ok_parts (is_new (find s.scope f)) (λ u. on_ok (has_slot s) (λ w. read_fields fs (next f s))) s' h in
-    let q = ok_parts (has_slot s) (λ w. read_fields fs (next f s)) s' p.2 in
-    record { new = new_is (find s.scope f) p.0 p.1; few = demanded (nat_lt s.slots 256) Limit q.0 q.1; others = q.2 }
+    let r = ok_parts (read_field f s) (read_fields fs) s' h in
+    let p = ok_parts (is_new (find s.scope f)) (λ u. on_ok (has_slot s) (λ w. fine (next f s))) r.0 r.1 in
+    let q = ok_parts (has_slot s) (λ w. fine (next f s)) r.0 p.2 in
+    record {
+      new = new_is (find s.scope f) p.0 p.1;
+      few = demanded (nat_lt s.slots 256) Limit q.0 q.1;
+      others = ap (read_fields fs) (ok_is (next f s) r.0 q.2) ∙ r.2;
+    }
 
 pub record Read (fs : List Name) (s s' : At) : Type 0 where
   pub keeps : Keeps s.scope s'.scope
@@ -147,7 +152,7 @@ pub record AreRates (t : FilterTree) : Type 0 where
   pub pops : 1 ≤ t.pop
   pub peeks : t.pop ≤ t.peek
 
-rates_are : (t : FilterTree) (u : Unit {0}) → rates_of t ≡ Ok u → AreRates t
+rates_are : (t : FilterTree) (u : Unit {0}) → rates_of t.push t.pop t.peek ≡ Ok u → AreRates t
 rates_are t u h =
     let small = nat_le t.push 65536 && (nat_le t.pop 65536 && nat_le t.peek 65536) in
     let f1 = λ (v : Unit {0}). demand (nat_le t.pop t.peek) (Rates t.peek t.pop) in
@@ -180,15 +185,15 @@ pub record Elaborated (t : FilterTree) (f : FilterForm) : Type 0 where
 
 pub elaborated_parts : (t : FilterTree) (f : FilterForm) → elaborated t ≡ Ok f → Elaborated t f
 elaborated_parts t f h =
-    let f4 = λ (i w : Steps × At). on_ok (kept_rates t w.1) (λ v. fine (form_of t i w)) in
+    let f4 = λ (i w : Steps × At). on_ok (kept_rates t.push t.pop w.1) (λ v. fine (form_of t i w)) in
     let f3 = λ (s : At) (i : Steps × At) (u : Unit {0}). on_ok (steps_of t.peek t.work s) (f4 i) in
-    let f2 = λ (s : At) (i : Steps × At). on_ok (rates_of t) (f3 s i) in
+    let f2 = λ (s : At) (i : Steps × At). on_ok (rates_of t.push t.pop t.peek) (f3 s i) in
     let f1 = λ (s : At). on_ok (steps_of 0 t.init s) (f2 s) in
     let p = ok_parts (read_fields t.fields nothing_read) f1 f h in
     let q = ok_parts (steps_of 0 t.init p.0) (f2 p.0) f p.2 in
-    let r = ok_parts (rates_of t) (f3 p.0 q.0) f q.2 in
+    let r = ok_parts (rates_of t.push t.pop t.peek) (f3 p.0 q.0) f q.2 in
     let w = ok_parts (steps_of t.peek t.work p.0) (f4 q.0) f r.2 in
-    let k = ok_parts (kept_rates t w.0.1) (λ v. fine (form_of t q.0 w.0)) f w.2 in
+    let k = ok_parts (kept_rates t.push t.pop w.0.1) (λ v. fine (form_of t q.0 w.0)) f w.2 in
     let m = ok_parts (demand (nat_eq w.0.1.popped t.pop) (Rates t.pop w.0.1.popped)) (λ u. demand (nat_eq w.0.1.pushed t.push) (Rates t.push w.0.1.pushed)) k.0 k.1 in
     record {
       fields = p.0;
@@ -226,7 +231,7 @@ filter_met t f xs h =
     let e = elaborated_parts t f h in
     let zeros = replicate (length t.fields) (pos 0) in
     let len = length-replicate (length t.fields) (pos 0) in
-    let start : initial t ≡ starts_of t e.init = (run_met t.fields t.init 0 e.fields e.init zeros [] e.fields_are e.init_is len).fields in
+    let start : initial t ≡ starts_of (length t.fields) e.init = (run_met t.fields t.init 0 e.fields e.init zeros [] e.fields_are e.init_is len).fields in
     let kept = run_kept_length (record { inputs = 0; slots = e.init.1.slots; steps = e.init.0 }) zeros [] in
     subst (λ g. pushed_by t xs ≡ filtered g xs) e.is
-    (ap (λ k. fires_from t (length xs) 0 k xs) start ∙ firings_met t e.fields e.init e.work e.fields_are e.work_is (length xs) 0 (starts_of t e.init) xs (kept ∙ len))
+    (ap (λ k. fires_from t (length xs) 0 k xs) start ∙ firings_met t e.fields e.init e.work e.fields_are e.work_is (length xs) 0 (starts_of (length t.fields) e.init) xs (kept ∙ len))

@@ -7,6 +7,7 @@ use Rattle.work_code.specs.Term as term
 use Rattle.work_code.specs.Steps.{Step, Steps, Done}
 use Rattle.work_code.specs.Steps as steps
 use Rattle.kern_rows.specs.Forms.{FilterForm}
+use Rattle.kern_rows.specs.Needs.{CanRun}
 use Rattle.kern_rows.proofs.Lengths.{run_kept_length}
 use Rattle.river_kernels.specs.Formed.{is_sound, is_term, is_step, is_steps, is_filter, both, same, pushes_once, pushes, is_number}
 use Rattle.river_kernels.specs.Limits.{size, size_once}
@@ -15,11 +16,12 @@ use Rattle.text_forms.specs.Tree.{Spoken}
 use Rattle.text_forms.specs.Tree as tree
 use Rattle.streamit_model.specs.Stream.{IsSmallFilter}
 use Rattle.streamit_model.specs.Source.{Statement, Declare, Assign, Push, Pop, If, For, Block, End, Then, pops, turns_between}
-use Rattle.streamit_model.specs.Shallow.{IsLowFirst, IsShallow, AreShallow}
+use Rattle.streamit_model.specs.Shallow.{IsLowFirst, IsShallow, AreShallow, IsItemlessFirst, KeepsItems, KeepAll}
 use Rattle.streamit_model.specs.Elaborate.{Limit, PeekRange, on_ok, Known, Var, Turn, Scope, find, constant, named, peeked, term_of, At, first_term, first_popped, joined, one_step, Read, unrolled, step_of, steps_of}
 use Rattle.std.proofs.lemmas.List.{length-replicate}
 use Rattle.std.proofs.Math.Nat.{le_refl}
-use Rattle.streamit_model.specs.FilterSource.{FilterTree, elaborated, nothing_read, starts_of}
+use Rattle.streamit_model.specs.FilterSource.{FilterTree, elaborated, read_fields, nothing_read, starts_of}
+use Rattle.streamit_model.proofs.Formed.{steps_within}
 use Rattle.streamit_model.proofs.FilterMet.{fields_few, elaborated_parts, fields_read, sound_nothing}
 use Rattle.streamit_model.proofs.Elaborated.{ok_is, ok_parts, if_ok, IsSound, more_slots, Grown, left, at_arm, at_second, turning, grows_turn, unrolled_grows, step_grows, steps_grow, turned, declared_parts, assigned_parts, pushed_parts, forked_parts, looped_parts, followed_parts}
 
@@ -284,6 +286,57 @@ mutual
       let z = steps_formed p m e b le low.1 q.first.1 q.others q.others_is (gf.sound ok) pp' sl' in
       subst (λ (r : Steps × At). is_steps p m one_port r.0 ≡ true) (sym q.is) (steps_joined p m q.first.0 q.others.0 x z)
 
+-- WHERE NOTHING IS POPPED
+
+abbrev Same : (At → Read) → Type 0
+Same f = (s : At) (y : Steps × At) → f s ≡ Ok y → y.1.popped ≡ s.popped
+
+unrolled_same : (block : At → Read) → Same block → (n : Name) (vs : List ℕ) → Same (unrolled block n vs)
+unfolding left turning
+unrolled_same block f n [] s y h = ap (λ r. r.1.popped) (sym (ok_is (Done, s) y h))
+unrolled_same block f n (v ∷ vs) s y h =
+    let p = turned block n v vs s y h in
+    let a = f (turning n v s) p.first p.first_is in
+    let b = unrolled_same block f n vs (left s p.first.1) p.others p.others_is in
+    ap (λ r. r.1.popped) p.is ∙ b ∙ a
+
+first_same : (t : Option Spoken) → IsItemlessFirst t → first_popped t ≡ 0
+first_same None k = refl
+first_same (Some t) k = k
+
+mutual
+  unfolding left at_arm at_second
+
+  step_same : (e : ℕ) (c : Statement) → KeepsItems c → Same (step_of e c)
+  step_same e (Declare n t) k s y h = let p = declared_parts e n t s y h in ap (λ r. r.1.popped) p.is ∙ (let z = first_same t k in omega (arith, z))
+  step_same e (Assign n t) k s y h = let p = assigned_parts e n t s y h in ap (λ r. r.1.popped) p.is ∙ omega (arith, k)
+  step_same e (Push t) k s y h = absurd k
+  step_same e Pop k s y h = absurd k
+  step_same e (If t a b) k s y h =
+      let p = forked_parts e t a b s y h in
+      let z = k.0 in
+      ap (λ r. r.1.popped) p.is ∙ steps_same e b k.2 (at_second t s p.one.1) p.two p.two_is ∙ omega (arith, z)
+  step_same e (For n low upto high b) k s y h =
+      let p = looped_parts e n low upto high b s y h in
+      unrolled_same (steps_of e b) (steps_same e b k) n (turns_between p.first upto p.last) s y p.is
+
+  pub steps_same : (e : ℕ) (b : Block) → KeepAll b → Same (steps_of e b)
+  steps_same e End k s y h = ap (λ r. r.1.popped) (sym (ok_is (Done, s) y h))
+  steps_same e (Then c b) k s y h =
+      let p = followed_parts e c b s y h in
+      ap (λ r. r.1.popped) p.is ∙ steps_same e b k.1 p.first.1 p.others p.others_is ∙ step_same e c k.0 s p.first p.first_is
+
+-- what is read of `init` runs on the fields alone
+pub init_runs : (fs : List Name) (b : Block) (s : At) (y : Steps × At) → read_fields fs nothing_read ≡ Ok s → AreShallow b → KeepAll b → steps_of 0 b s ≡ Ok y → CanRun 0 (record { inputs = 0; slots = y.1.slots; steps = y.0 }) (length fs)
+init_runs fs b s y hf low k h =
+    let r = fields_read fs nothing_read s hf in
+    let g = (steps_grow 0 b s y h).slots in
+    let rs = r.slots in
+    let p = steps_same 0 b k s y h in
+    let rp = r.popped in
+    let formed = steps_formed 0 y.1.slots 0 b (omega arith) low s y h (r.sound sound_nothing) (omega (arith, p, rp)) (le_refl y.1.slots) in
+    record { within = steps_within 0 y.1.slots one_port y.0 refl formed; slots = omega (arith, g, rs) }
+
 -- THE FILTER
 
 pub filter_formed : (t : FilterTree) (f : FilterForm) → AreShallow t.work → elaborated t ≡ Ok f → (is_filter f ≡ true) × IsSmallFilter f
@@ -305,10 +358,10 @@ filter_formed t f low h =
     let more : k.more ≡ t.push = omega (arith, kp, epush, zero) in
     let g = (steps_grow t.peek t.work e.fields w e.work_is).slots in
     let rs = r.slots in
-    let kept : length (starts_of t e.init) ≡ length t.fields = run_kept_length (record { inputs = 0; slots = e.init.1.slots; steps = e.init.0 }) (replicate (length t.fields) (pos 0)) [] ∙ length-replicate (length t.fields) (pos 0) in
+    let kept : length (starts_of (length t.fields) e.init) ≡ length t.fields = run_kept_length (record { inputs = 0; slots = e.init.1.slots; steps = e.init.0 }) (replicate (length t.fields) (pos 0)) [] ∙ length-replicate (length t.fields) (pos 0) in
     subst (λ (g : FilterForm). (is_filter g ≡ true) × IsSmallFilter g) e.is (
       both_true _ _ (both_true _ _ (eq_true t.peek t.peek refl) (both_true _ _ (le_true 1 t.pop e.rates.pops) (le_true t.pop t.peek peek)))
-          (both_true _ _ formed (both_true _ _ (le_true (length (starts_of t e.init)) w.1.slots (omega (arith, kept, g, rs))) (ap (λ o. is_number o t.push) k.pushes ∙ eq_true k.more t.push more))),
+          (both_true _ _ formed (both_true _ _ (le_true (length (starts_of (length t.fields) e.init)) w.1.slots (omega (arith, kept, g, rs))) (ap (λ o. is_number o t.push) k.pushes ∙ eq_true k.more t.push more))),
       record {
         statements = omega (arith, ks, small);
         slots = k.few (fields_few t.fields nothing_read e.fields e.fields_are (omega arith));

@@ -29,7 +29,8 @@ digit_goes d lt =
     le_true : (a b : ℕ) → a ≤ b → nat_le a b ≡ true
     le_true a b h = grind arith
 
-decimal_goes : (n : ℕ) → n < 2 ^ 64 → list_all goes_on (decimal n) ≡ true
+-- the digits of a number may stand behind the first letter of a name
+pub decimal_goes : (n : ℕ) → n < 2 ^ 64 → list_all goes_on (decimal n) ≡ true
 decimal_goes n lt = decimal_by_steps (λ k ds. list_all goes_on ds ≡ true)
     (λ k small. both_true (goes_on (48 + k)) true (digit_goes k small) refl)
     (λ k ds le e. list_all-append goes_on ds ((48 + k % 10) ∷ []) ∙ both_true (list_all goes_on ds) (list_all goes_on ((48 + k % 10) ∷ [])) e (both_true (goes_on (48 + k % 10)) true (digit_goes (k % 10) (mod_below k 10 (omega arith))) refl))

@@ -54,38 +54,40 @@ pushed_by t xs = fires_from t (length xs) 0 (initial t) xs
 
 -- THE FILTER OF ITS PLAN
 
--- the fields are known, each in a slot of its own
+-- a field is known from here on, in a slot of its own
+abbrev pub read_field : Name → At → Result At Fault
+read_field f s = on_ok (is_new (find s.scope f)) (λ u. on_ok (has_slot s) (λ w. Ok (record s { scope = (f, Var s.slots) ∷ s.scope; slots = s.slots + 1 })))
+
 abbrev pub read_fields : List Name → At → Result At Fault
 read_fields [] s = Ok s
-read_fields (f ∷ fs) s =
-    on_ok (is_new (find s.scope f)) (λ u. on_ok (has_slot s) (λ w. read_fields fs (record s { scope = (f, Var s.slots) ∷ s.scope; slots = s.slots + 1 })))
+read_fields (f ∷ fs) s = on_ok (read_field f s) (read_fields fs)
 
 abbrev pub nothing_read : At
 nothing_read = record { scope = []; slots = 0; popped = 0; pushed = 0; size = 0 }
 
--- the kept slots after one run of the statements of `init`
-abbrev pub starts_of : FilterTree → Steps × At → List ℤ
-starts_of t i = (run_kept (record { inputs = 0; slots = i.1.slots; steps = i.0 }) (replicate (length t.fields) (pos 0)) []).slots
+-- the slots of n fields after one run of the statements of `init`
+abbrev pub starts_of : ℕ → Steps × At → List ℤ
+starts_of n i = (run_kept (record { inputs = 0; slots = i.1.slots; steps = i.0 }) (replicate n (pos 0)) []).slots
 
 abbrev pub form_of : FilterTree → Steps × At → Steps × At → FilterForm
-form_of t i w = record { peek = t.peek; pop = t.pop; push = t.push; body = record { inputs = t.peek; slots = w.1.slots; steps = w.0 }; starts = starts_of t i }
+form_of t i w = record { peek = t.peek; pop = t.pop; push = t.push; body = record { inputs = t.peek; slots = w.1.slots; steps = w.0 }; starts = starts_of (length t.fields) i }
 
--- no rate is above 65,536; a firing pops an item or more, and no more than it looks at
-abbrev pub rates_of : FilterTree → Result (Unit {0}) Fault
-rates_of t =
-    on_ok (demand (nat_le t.push 65536 && (nat_le t.pop 65536 && nat_le t.peek 65536)) Limit) (λ u.
-    on_ok (demand (nat_le 1 t.pop) Limit) (λ v.
-    demand (nat_le t.pop t.peek) (Rates t.peek t.pop)))
+-- rates of pushes, pops and looks: none is above 65,536; a firing pops an item or more, and no more than it looks at
+abbrev pub rates_of : ℕ → ℕ → ℕ → Result (Unit {0}) Fault
+rates_of push pop peek =
+    on_ok (demand (nat_le push 65536 && (nat_le pop 65536 && nat_le peek 65536)) Limit) (λ u.
+    on_ok (demand (nat_le 1 pop) Limit) (λ v.
+    demand (nat_le pop peek) (Rates peek pop)))
 
--- a firing pops and pushes as many items as is declared
-abbrev pub kept_rates : FilterTree → At → Result (Unit {0}) Fault
-kept_rates t s = on_ok (demand (nat_eq s.popped t.pop) (Rates t.pop s.popped)) (λ u. demand (nat_eq s.pushed t.push) (Rates t.push s.pushed))
+-- a firing pops and pushes as many items as is declared; the pops are told first
+abbrev pub kept_rates : ℕ → ℕ → At → Result (Unit {0}) Fault
+kept_rates push pop s = on_ok (demand (nat_eq s.popped pop) (Rates pop s.popped)) (λ u. demand (nat_eq s.pushed push) (Rates push s.pushed))
 
 -- in the order in which it is written: the fields, `init`, the rates, `work`, and what was counted there
 abbrev pub elaborated : FilterTree → Result FilterForm Fault
 elaborated t =
     on_ok (read_fields t.fields nothing_read) (λ s.
     on_ok (steps_of 0 t.init s) (λ i.
-    on_ok (rates_of t) (λ u.
+    on_ok (rates_of t.push t.pop t.peek) (λ u.
     on_ok (steps_of t.peek t.work s) (λ w.
-    on_ok (kept_rates t w.1) (λ v. Ok (form_of t i w))))))
+    on_ok (kept_rates t.push t.pop w.1) (λ v. Ok (form_of t i w))))))

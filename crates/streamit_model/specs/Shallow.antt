@@ -1,7 +1,7 @@
--- No expression of a block is deeper than 64, as reading has it.
-use Rattle.std.specs.Prelude.{◌≤◌, Option, Some, None}
+-- What reading a block sees to: no expression is deeper than 64, and `init` pops nothing.
+use Rattle.std.specs.Prelude.{◌≡◌, ◌≤◌, Option, Some, None}
 use Rattle.text_forms.specs.Tree.{Spoken, depth_of}
-use Rattle.streamit_model.specs.Source.{Statement, Declare, Assign, Push, Pop, If, For, Block, End, Then}
+use Rattle.streamit_model.specs.Source.{Statement, Declare, Assign, Push, Pop, If, For, Block, End, Then, pops}
 
 abbrev pub IsLow : Spoken → Type 0
 IsLow t = depth_of t ≤ 64
@@ -22,3 +22,25 @@ abbrev mutual
   pub AreShallow : Block → Type 0
   AreShallow End = Unit {0}
   AreShallow (Then c b) = IsShallow c × AreShallow b
+
+-- no item is popped in an expression
+abbrev pub IsItemless : Spoken → Type 0
+IsItemless t = pops t ≡ 0
+
+abbrev pub IsItemlessFirst : Option Spoken → Type 0
+IsItemlessFirst None = Unit {0}
+IsItemlessFirst (Some t) = IsItemless t
+
+-- a block as `init` has it: it pops nothing
+abbrev mutual
+  pub KeepsItems : Statement → Type 0
+  KeepsItems (Declare n t) = IsItemlessFirst t
+  KeepsItems (Assign n t) = IsItemless t
+  KeepsItems (Push t) = ⊥
+  KeepsItems Pop = ⊥
+  KeepsItems (If t a b) = IsItemless t × KeepAll a × KeepAll b
+  KeepsItems (For n low upto high b) = KeepAll b
+
+  pub KeepAll : Block → Type 0
+  KeepAll End = Unit {0}
+  KeepAll (Then c b) = KeepsItems c × KeepAll b

@@ -1,0 +1,3 @@
+pub mod Branches
+pub mod Lines
+pub mod Numbered
