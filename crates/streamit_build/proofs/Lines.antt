@@ -1,5 +1,5 @@
 -- A pipeline that is built child by child.
-use Rattle.std.proofs.Common.{◌≡◌, ℕ, zero, suc, ◌+◌, ◌<◌, List, [], ◌∷◌, ◌++◌, length, drop, get_or, Some, Result, Ok, Err, map, refl, sym, ap, ◌∙◌, subst, arith, append_assoc, append-nil, add-one, drop-cons}
+use Rattle.std.proofs.Common.{◌≡◌, ℕ, zero, suc, ◌+◌, ◌<◌, ◌≤◌, List, [], ◌∷◌, ◌++◌, length, drop, get_or, Some, Result, Ok, Err, map, refl, sym, ap, ◌∙◌, subst, arith, append_assoc, append-nil, add-one, drop-cons}
 use Rattle.std.specs.Prelude.{slice_get, OnOk}
 use Rattle.kern_rows.specs.Forms.{FilterForm}
 use Rattle.river_kernels.specs.Kern.{filter}
@@ -9,7 +9,7 @@ use Rattle.river_plan.specs.Forms.{Name, OpForm, op_forms}
 use Rattle.streamit_model.specs.Stream.{Splitter, Stream, Streams, Last, Then, Filter, Pipeline, SplitJoin}
 use Rattle.streamit_model.specs.Build.{numbered, with_own, queue, build, build_line, ops_in, ops_of, queues_in, queues_between}
 use Rattle.streamit_build.specs.declared.builder.Made.{Made}
-use Rattle.streamit_build.specs.Units.{UnitForm, AFilter, APipe, ASplit, unit_of, units_of, AreLower, IsLower, IsTree, AreTrees, Built}
+use Rattle.streamit_build.specs.Units.{UnitForm, AFilter, APipe, ASplit, unit_of, units_of, AreLower, IsLower, AreShort, IsShort, IsTree, AreTrees, Built}
 
 -- the streams that are still to be built
 pub record Line (us : List UnitForm) (rest : List ℕ) (last : ℕ) (ss : Streams) (old now : Made) (from start to : Name) : Type 0 where
@@ -156,3 +156,7 @@ filter_returns us i name f old new op from to (Ok x) u e o n q (Filter name' f')
     filter_same n m f g h = (cc, cc)
 filter_returns us i name f old new op from to (Ok x) u e o n q (Pipeline ss) t = absurd (filter_pipe name f t.0 t.1 (sym u ∙ t.2))
 filter_returns us i name f old new op from to (Ok x) u e o n q (SplitJoin d ss ws) t = absurd (filter_split name f d t.0 t.1 ws (sym u ∙ t.2))
+
+-- the name of a filter has at most 40 bytes
+pub short_of : (us : List UnitForm) (i : ℕ) (name : Name) (f : FilterForm) → AreShort us → slice_get us i ≡ Some (AFilter name f) → length name ≤ 40
+short_of us i name f a e = subst IsShort e (a i)

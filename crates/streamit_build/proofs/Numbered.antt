@@ -1,20 +1,28 @@
 -- Names with numbers behind them.
-use Rattle.std.proofs.Common.{◌≡◌, ℕ, zero, suc, ◌+◌, ◌^◌, ◌<◌, ◌≤◌, Bool, true, false, List, [], ◌∷◌, ◌++◌, length, refl, sym, ap, ◌∙◌, arith, length-append}
+use Rattle.std.proofs.Common.{◌≡◌, ℕ, zero, suc, ◌+◌, ◌^◌, ◌<◌, ◌≤◌, Bool, true, List, [], ◌∷◌, ◌++◌, length, sym, ap, ◌∙◌, arith, length-append, add-one, get_or, take, pos}
 use Rattle.std.specs.Prelude.{◌&&◌, codes, nat_le}
 use Rattle.std.specs.List.{list_all}
 use Rattle.std.specs.Fmt.{decimal}
 use Rattle.std.proofs.lemmas.Bool.{and_parts, true≢false}
 use Rattle.std.proofs.lemmas.Fmt.{length-decimal-le}
+use Rattle.std.proofs.lemmas.List.{take_more, map-append}
 use Rattle.std.proofs.lemmas.List.Folds.{list_all-append}
 use Rattle.river_base.specs.Name.{starts_name, goes_on, is_name}
 use Rattle.river_plan.specs.Forms.{Name}
-use Rattle.streamit_model.specs.Build.{numbered, queue, queues}
+use Rattle.streamit_model.specs.Build.{numbered, queue, queues, weights}
 use Rattle.streamit_model.proofs.Named.{decimal_goes}
+
+queues-suc : (k n : ℕ) → queues k (suc n) ≡ queues k n ++ queue (k + n) ∷ []
+queues-suc k zero = ap (λ j. queue j ∷ []) (let e : k ≡ k + 0 = omega arith in e)
+queues-suc k (suc n) = ap (λ l. queue k ∷ l) (queues-suc (suc k) n ∙ ap (λ j. queues (suc k) n ++ queue j ∷ []) (let e : suc k + n ≡ k + suc n = omega arith in e))
 
 -- one queue more
 pub queues-more : (k n : ℕ) → queues k (n + 1) ≡ queues k n ++ queue (k + n) ∷ []
-queues-more k zero = ap (λ j. queue j ∷ []) (let e : k ≡ k + 0 = omega arith in e)
-queues-more k (suc n) = ap (λ l. queue k ∷ l) (queues-more (suc k) n ∙ ap (λ j. queues (suc k) n ++ queue j ∷ []) (let e : suc k + n ≡ k + suc n = omega arith in e))
+queues-more k n = ap (queues k) (add-one n) ∙ queues-suc k n
+
+-- one weight more
+pub weights-more : (ws : List ℕ) (i w : ℕ) → i < length ws → w ≡ get_or ws i w → weights (take (i + 1) ws) ≡ weights (take i ws) ++ pos w ∷ []
+weights-more ws i w lt e = ap weights (take_more ws i w lt ∙ ap (λ x. take i ws ++ x ∷ []) (sym e)) ∙ map-append pos (take i ws) (w ∷ [])
 
 both_true : (a b : Bool) → a ≡ true → b ≡ true → a && b ≡ true
 both_true a b h k = rw h k

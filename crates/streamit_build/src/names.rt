@@ -6,7 +6,6 @@ ghost use Rattle.streamit_model.specs.Build.{numbered, queue, queues};
 use river_base::{Bytes, Name, NoMemory};
 use river_plan::Names;
 use std::alloc::Global;
-use work_code::write_number;
 
 /// A name with a number behind it.
 pub fn numbered(alloc: Global, name: &[u8], number: u32) -> Result<Name, NoMemory>
@@ -14,11 +13,27 @@ pub fn numbered(alloc: Global, name: &[u8], number: u32) -> Result<Name, NoMemor
     requires short { length name.now ≤ 40 }
     ensures { IfOk result (λ made. made ≡ numbered name.now number) }
 {
+    let text = text(alloc, name, number)?;
+    Ok(name_of(text.as_slice()))
+}
+
+// Its bytes.
+fn text(alloc: Global, name: &[u8], number: u32) -> Result<Bytes, NoMemory>
+    ensures { IfOk result (λ text. text ≡ numbered name.now number) }
+{
     let mut bytes = Bytes::from_slice(alloc, name)?;
     bytes.extend(b"@")?;
-    write_number(alloc, number, &mut bytes)?;
-    match Name::from_slice(bytes.as_slice()) {
-        Some(name) => Ok(name),
+    bytes.extend(number.to_string(alloc)?.as_bytes())?;
+    Ok(bytes)
+}
+
+// The name that has these bytes.
+fn name_of(bytes: &[u8]) -> Name
+    requires { IsTrue (is_name bytes.now) }
+    ensures { result ≡ bytes.now }
+{
+    match Name::from_slice(bytes) {
+        Some(name) => name,
         None => unreachable!(),
     }
 }

@@ -10,7 +10,7 @@ use Rattle.std.specs.Prelude.{codes}
 use Rattle.streamit_model.specs.Build.{numbered, queues, joiner, build_branches, ops_of, queues_within}
 use Rattle.streamit_build.specs.Units.{splitter_of, AreTrees, Built}
 use Rattle.streamit_build.proofs.Branches.{RestSoFar, rest_start, rest_next, rest_end, split_built}
-use Rattle.streamit_build.proofs.Lines.{lower_split, LineSoFar, line_start, line_next, at_child, unit_at, lower_of, pipe_returns, last_returns, filter_returns}
+use Rattle.streamit_build.proofs.Lines.{short_of, lower_split, LineSoFar, line_start, line_next, at_child, unit_at, lower_of, pipe_returns, last_returns, filter_returns}
 use Rattle.streamit_build.proofs.builder.+build.Goals as goal
 
 pub loop-child-init : goal.loop-child-init
@@ -48,6 +48,12 @@ build-requires-in-Pipeline t c =
     let d = c.decreases in
     let there = c.requires.there in
     (omega (arith, lt, d), (omega (arith, lt, there), (c.requires.lower, c.requires.named)))
+
+pub filter_op-requires : goal.filter_op-requires
+filter_op-requires t c =
+    let us = units_of c.args.units.now in
+    let u = unit_at c.args.units.now c.args.i c.index-units-i.result (made.Filter c.in-Filter.name c.in-Filter.filter) c.requires.there c.index-units-i.is c.in-Filter.is in
+    short_of us c.args.i c.in-Filter.name (filter_form c.in-Filter.filter) c.requires.named u
 
 pub returns-in_ok-op-in-Filter : goal.returns-in_ok-op-in-Filter
 returns-in_ok-op-in-Filter t c =
