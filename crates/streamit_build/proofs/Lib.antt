@@ -1,3 +1,5 @@
+pub mod Added
 pub mod Branches
+pub mod Knowing
 pub mod Lines
 pub mod Numbered

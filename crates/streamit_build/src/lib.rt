@@ -1,8 +1,14 @@
-//! Builds the operators of the plan of a StreamIt program from its streams, numbered in the order in which they are made.
+//! Judges the units of StreamIt programs, and builds their plans: the operators are numbered in the order in which they are made.
 #![tactic(auto)]
 
 mod builder;
 mod names;
 mod operators;
+mod program;
+mod rounds;
+mod streams;
 
 pub use builder::{Declared, Made, build};
+pub use program::{Adds, Body, Branches, Declaration, Split};
+pub use rounds::round;
+pub use streams::{Children, Entry, Known};

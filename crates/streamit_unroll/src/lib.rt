@@ -3,7 +3,7 @@
 
 mod blocks;
 mod fault;
-mod filter;
+mod filters;
 mod names;
 mod simple;
 mod term;
@@ -11,7 +11,7 @@ mod tree;
 mod unroll;
 
 pub use fault::Fault;
-pub use filter::filter;
+pub use filters::filter;
 pub use names::{Known, Names};
 pub use tree::{Block, FilterTree, Rates, Statement};
 pub use unroll::Unroller;

@@ -198,12 +198,7 @@ impl<'a> Unroller<'a> {
 }
 
 // The slots of so many fields, which were 0, after one run of the statements of `init`.
-fn after_one_run(
-    alloc: Global,
-    fields: usize,
-    slots: u32,
-    body: Stmts,
-) -> Result<Numbers, NoMemory>
+fn after_one_run(alloc: Global, fields: usize, slots: u32, body: Stmts) -> Result<Numbers, NoMemory>
     requires { CanRun 0 (record { inputs = 0; slots = slots; steps = steps body }) fields }
     ensures { IfOk result (λ kept. kept ≡ (run_kept (record { inputs = 0; slots = slots; steps = steps body }) (replicate fields (pos 0)) []).slots) }
 {
