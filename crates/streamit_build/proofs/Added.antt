@@ -1,5 +1,5 @@
 -- The streams that are added to one, so far.
-use Rattle.std.proofs.Common.{◌≡◌, ℕ, zero, suc, ◌+◌, ◌<◌, ◌≤◌, Bool, List, [], ◌∷◌, ◌++◌, length, drop, Result, Ok, Err, refl, sym, ap, ◌∙◌, subst, arith, add-one}
+use Rattle.std.proofs.Common.{◌≡◌, ℕ, zero, suc, ◌+◌, ◌<◌, ◌≤◌, Bool, List, [], ◌∷◌, ◌++◌, length, drop, Result, Ok, Err, get_or, refl, sym, ap, ◌∙◌, subst, arith, add-one, drop-cons}
 use Rattle.std.specs.Prelude.{min, max}
 use Rattle.std.specs.List.{AllByRecursion}
 use Rattle.river_plan.specs.Forms.{Name}
@@ -13,9 +13,9 @@ use Rattle.streamit_unroll.proofs.SoFar.{tells_more}
 use Rattle.streamit_build.specs.declared.streams.Entry.{Entry}
 use Rattle.streamit_build.specs.declared.streams.Children.{Children}
 use Rattle.streamit_build.specs.Units.{UnitForm, IsTree, AreTrees}
-use Rattle.streamit_build.specs.Known.{IsEntry, AddsOne, AreChildren, AddsAll}
+use Rattle.streamit_build.specs.Knowing.{IsEntry, AddsOne, AreChildren, AddsAll}
 
-abbrev fine : {A : Type 0} → A → Result A Fault
+abbrev pub fine : {A : Type 0} → A → Result A Fault
 fine x = Ok x
 
 -- streams and a last one
@@ -127,3 +127,7 @@ first_fault may known n ms f h = tells_more f (added may known 0 n) (streams_of 
 
 pub adds_end : (us : List UnitForm) (may : ℕ → Bool) (known : Streamed) (whole : Result Streams Fault) (i : ℕ) (c : Children) → SoFar us may known whole i [] c → AddsAll us (Ok c) whole
 adds_end us may known whole i c f = (chain f.prior f.last, f.whole_is ∙ onto_last f.prior f.last, f.are)
+
+-- the name at a place is the first of those from there on
+pub name_at : (ns : List Name) (i : ℕ) (n : Name) → i < length ns → n ≡ get_or ns i n → drop i ns ≡ n ∷ drop (i + 1) ns
+name_at ns i n lt e = drop-cons ns i n lt ∙ ap (λ x. x ∷ drop (suc i) ns) (sym e) ∙ ap (λ k. n ∷ drop k ns) (sym (add-one i))

@@ -1,6 +1,6 @@
 -- The streams that are known, and one more.
-use Rattle.std.proofs.Common.{◌≡◌, ℕ, zero, suc, ◌+◌, ◌<◌, ◌≤◌, Bool, true, false, List, [], ◌∷◌, ◌++◌, length, Option, Some, None, Result, Ok, Err, ⊎, inl, inr, ⊎_elim, refl, sym, ap, ◌∙◌, subst, arith, length-append, length-map, map}
-use Rattle.std.specs.Prelude.{slice_get, min, max, if◌then◌else◌}
+use Rattle.std.proofs.Common.{◌≡◌, ℕ, zero, suc, ◌+◌, ◌<◌, ◌≤◌, Bool, true, false, List, [], ◌∷◌, ◌++◌, length, Option, Some, None, Result, Ok, Err, ◌⊎◌, inl, inr, ⊎_elim, refl, sym, ap, ◌∙◌, subst, arith, length-append}
+use Rattle.std.specs.Prelude.{slice_get, min, OnOk, if◌then◌else◌}
 use Rattle.std.specs.List.{AllByRecursion}
 use Rattle.river_base.specs.Name.{name_eq}
 use Rattle.river_plan.specs.Forms.{Name}
@@ -9,8 +9,13 @@ use Rattle.streamit_model.specs.Build.{ops_in, ops_of}
 use Rattle.streamit_model.specs.Program.{look}
 use Rattle.streamit_model.specs.Judged.{Streamed}
 use Rattle.streamit_build.specs.declared.streams.Entry.{Entry}
-use Rattle.streamit_build.specs.Units.{UnitForm, AFilter, APipe, ASplit, IsLower, AreLower, IsShort, AreShort, IsTree, AreTrees}
-use Rattle.streamit_build.specs.Known.{IsEntry, IsFound}
+use Rattle.streamit_build.specs.declared.streams.Known.{Known}
+use Rattle.streamit_build.specs.declared.builder.Declared.{Declared}
+use Rattle.river_base.specs.declared.memory.NoMemory.{NoMemory}
+use Rattle.indexmap.specs.IndexMap.{get}
+use Rattle.std.proofs.lemmas.List.{map-append, length-map}
+use Rattle.streamit_build.specs.Units.{unit_of, units_of, UnitForm, AFilter, APipe, ASplit, IsLower, AreLower, IsShort, AreShort, IsTree, AreTrees}
+use Rattle.streamit_build.specs.Knowing.{IsEntry, IsFound, Knows}
 
 -- what was there is there in a longer list
 get_kept : {A : Type 0} (xs ys : List A) (i : ℕ) (x : A) → slice_get xs i ≡ Some x → slice_get (xs ++ ys) i ≡ Some x
@@ -77,3 +82,22 @@ new_entry us u k s e t o n = record {
   ops = o;
   nesting = n;
 }
+
+-- one stream more is known
+pub declares : (r : Result (Unit {0}) NoMemory) (old new : Known) (d : Declared) (k : Entry) (name : Name) (s : Stream) (known : Streamed) → OnOk r ((q : Name) → get name_eq new.entries q ≡ (if name_eq name q then Some k else get name_eq old.entries q))
+    → new.declared.items ≡ old.declared.items ++ d ∷ [] → IsLower (length old.declared.items) (Some (unit_of d)) → IsShort (Some (unit_of d)) → k.number ≡ length old.declared.items
+    → Knows old known → IsTree (units_of old.declared.items ++ unit_of d ∷ []) (length old.declared.items) s → k.ops ≡ min (ops_in s) 257 → k.nesting ≡ nesting s → OnOk r (Knows new ((name, s) ∷ known))
+declares (Err e) old new d k name s known g it lo sh nu kn t o n = tt
+declares (Ok u) old new d k name s known g it lo sh nu kn t o n =
+    let us = units_of old.declared.items in
+    let v = unit_of d in
+    let all : units_of new.declared.items ≡ us ++ v ∷ [] = ap units_of it ∙ map-append unit_of old.declared.items (d ∷ []) in
+    let len : length us ≡ length old.declared.items = length-map old.declared.items unit_of in
+    let e = new_entry us v k s (nu ∙ sym len) (subst (λ i. IsTree (us ++ v ∷ []) i s) (sym len) t) o n in
+    record {
+      entries = λ q. subst (λ ws. IsFound ws (get name_eq new.entries q) (look ((name, s) ∷ known) q)) (sym all)
+          (subst (λ x. IsFound (us ++ v ∷ []) x (look ((name, s) ∷ known) q)) (sym (g q))
+          (found_more (us ++ v ∷ []) (name_eq name q) k s (get name_eq old.entries q) (look known q) e (found_kept us (v ∷ []) (get name_eq old.entries q) (look known q) (kn.entries q))));
+      lower = subst AreLower (sym all) (lower_more us v kn.lower (subst (λ i. IsLower i (Some v)) (sym len) lo));
+      short = subst AreShort (sym all) (short_more us v kn.short sh);
+    }

@@ -3,3 +3,4 @@ pub mod Branches
 pub mod Knowing
 pub mod Lines
 pub mod Numbered
+pub mod Weights

@@ -7,7 +7,7 @@ use Rattle.streamit_build.specs.declared.program.Split.{Split}
 use Rattle.streamit_build.specs.declared.program.Split.TheVariants as split
 use Rattle.streamit_build.specs.declared.program.Adds as written
 use Rattle.streamit_build.specs.declared.program.Body as tree
-use Rattle.streamit_build.specs.declared.program.Body.TheVariants as tree
+use Rattle.streamit_build.specs.declared.program.Body.TheVariants as body
 use Rattle.streamit_build.specs.declared.program.Declaration.{Declaration}
 
 abbrev pub items_of : Vec ℕ Global → List ℕ
@@ -21,9 +21,9 @@ abbrev pub adds_of : written.Adds → Adds
 adds_of a = record { first = a.first; others = a.others.items }
 
 abbrev pub body_of : tree.Body → Body
-body_of (tree.Filter t) = AFilter (filter_tree t)
-body_of (tree.Pipeline a) = APipeline (adds_of a)
-body_of (tree.SplitJoin b) = ASplitJoin (dealing_of b.split) (adds_of b.adds) b.join.items
+body_of (body.Filter t) = AFilter (filter_tree t)
+body_of (body.Pipeline a) = APipeline (adds_of a)
+body_of (body.SplitJoin b) = ASplitJoin (dealing_of b.split) (adds_of b.adds) b.join.items
 
 abbrev pub declared_of : Declaration → Declared
 declared_of d = record { name = d.name; body = body_of d.body }

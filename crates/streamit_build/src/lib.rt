@@ -2,6 +2,7 @@
 #![tactic(auto)]
 
 mod builder;
+mod judge;
 mod names;
 mod operators;
 mod program;
@@ -9,6 +10,6 @@ mod rounds;
 mod streams;
 
 pub use builder::{Declared, Made, build};
-pub use program::{Adds, Body, Branches, Declaration, Split};
+pub use program::{Adds, Body, Declaration, Split, SplitJoin};
 pub use rounds::round;
 pub use streams::{Children, Entry, Known};

@@ -17,7 +17,7 @@ pub struct Declaration<'a> {
 pub enum Body<'a> {
     Filter(FilterTree<'a>),
     Pipeline(Adds),
-    SplitJoin(Branches),
+    SplitJoin(SplitJoin),
 }
 
 /// `add NAME;`, once or more.
@@ -29,7 +29,7 @@ pub struct Adds {
 
 /// The splitter, the branches, and the weights of the joiner as they are written.
 #[derive(Drop)]
-pub struct Branches {
+pub struct SplitJoin {
     pub split: Split,
     pub adds: Adds,
     pub join: Vec<u64>,

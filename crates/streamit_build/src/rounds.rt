@@ -1,6 +1,6 @@
 // The weights of splitters and joiners.
-ghost use Rattle.std.specs.Prelude.{◌≡◌, ◌≤◌, ◌<◌, ◌*◌, replicate, length, nat_le, IfOk, IsTrue, ◌↔◌};
-ghost use Rattle.std.specs.List.{AllByRecursion, list_all};
+ghost use Rattle.std.specs.Prelude.{◌≡◌, ◌≤◌, replicate, nat_le, false, IfOk, IsTrue, ◌↔◌};
+ghost use Rattle.std.specs.List.{list_all};
 ghost use Rattle.streamit_model.specs.Rounds.{cycle};
 ghost use Rattle.streamit_model.specs.Judged.{round_of, fitting_round};
 ghost use Rattle.streamit_unroll.specs.View.{Judges};
@@ -30,7 +30,10 @@ fn equal(alloc: Global, weight: u64, branches: usize) -> Result<Vec<u32>, Fault>
     if weight == 0 {
         return Err(Fault::Weights);
     }
-    if weight > 65536 || branches > 65536 {
+    if weight > 65536 {
+        return Err(Fault::Limit);
+    }
+    if branches > 65536 {
         return Err(Fault::Limit);
     }
     if weight * branches as u64 > 65536 {
@@ -67,7 +70,12 @@ fn each(alloc: Global, written: &[u64], branches: usize) -> Result<Vec<u32>, Fau
 fn has_zero(written: &[u64]) -> bool
     ensures { IsTrue result ↔ (list_all (λ w. nat_le 1 w) written.now ≡ false) }
 {
-    written.iter().any(|weight| *weight == 0)
+    for weight in written {
+        if *weight == 0 {
+            return true;
+        }
+    }
+    false
 }
 
 // Whether their sum is not above the limit.

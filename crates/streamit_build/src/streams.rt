@@ -7,7 +7,7 @@ ghost use Rattle.streamit_model.specs.Stream.{Stream, nesting};
 ghost use Rattle.streamit_model.specs.Build.{ops_in};
 ghost use Rattle.streamit_model.specs.Judged.{Streamed, added, streams_of};
 ghost use Rattle.streamit_build.specs.Units.{unit_of, units_of, IsTree, IsLower, IsShort};
-ghost use Rattle.streamit_build.specs.Known.{Knows, may, AddsOne, AddsAll};
+ghost use Rattle.streamit_build.specs.Knowing.{Knows, may, AddsOne, AddsAll};
 
 use crate::{Adds, Declared};
 use indexmap::IndexMap;
@@ -51,7 +51,7 @@ impl Known {
     }
 
     /// What is known of a name.
-    pub fn find(&self, name: Name) -> Option<Entry>
+    pub(crate) fn find(&self, name: Name) -> Option<Entry>
         ensures { result ≡ get name_eq self.now.entries name }
     {
         self.entries.get(&name).copied()
@@ -74,7 +74,7 @@ impl Known {
     }
 
     /// The streams that are added, one after another.
-    pub fn children(&self, alloc: Global, branch: bool, adds: &Adds) -> Result<Children, Fault>
+    pub(crate) fn children(&self, alloc: Global, branch: bool, adds: &Adds) -> Result<Children, Fault>
         ensures { (known : Streamed) → Knows self.now known → AddsAll (units_of self.now.declared.items) result (streams_of (may branch) known 0 adds.now.first adds.now.others.items) }
     {
         let first = self.added(branch, 0, adds.first)?;
@@ -87,16 +87,14 @@ impl Known {
     }
 
     /// One stream more, whose name is not known yet.
-    pub fn declare(
+    pub(crate) fn declare(
         &mut self,
         name: Name,
         stream: Declared,
         ops: u32,
-        nesting: u32,
+        depth: u32,
     ) -> Result<(), NoMemory>
-        requires lower { IsLower (length self.old.declared.items) (Some (unit_of stream)) }
-        requires short { IsShort (Some (unit_of stream)) }
-        ensures { (known : Streamed) (s : Stream) → Knows self.old known → IsTree (units_of self.old.declared.items ++ unit_of stream ∷ []) (length self.old.declared.items) s → ops ≡ min (ops_in s) 257 → nesting ≡ nesting s → OnOk result (Knows self.new ((name, s) ∷ known)) }
+        ensures { (known : Streamed) (s : Stream) → Knows self.old known → IsLower (length self.old.declared.items) (Some (unit_of stream)) → IsShort (Some (unit_of stream)) → IsTree (units_of self.old.declared.items ++ unit_of stream ∷ []) (length self.old.declared.items) s → ops ≡ min (ops_in s) 257 → depth ≡ nesting s → OnOk result (Knows self.new ((name, s) ∷ known)) }
     {
         let Ok(number) = u32::try_from(self.declared.len()) else {
             return Err(NoMemory);
@@ -105,7 +103,7 @@ impl Known {
         let entry = Entry {
             number,
             ops,
-            nesting,
+            nesting: depth,
         };
         self.note(name, entry)
     }
