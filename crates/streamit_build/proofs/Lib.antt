@@ -1,5 +1,7 @@
 pub mod Added
+pub mod AllUnits
 pub mod Branches
+pub mod Judging
 pub mod Knowing
 pub mod Lines
 pub mod Numbered

@@ -1,23 +1,51 @@
 // Judges the units of a program, one after another.
 ghost use Rattle.std.specs.Prelude.{◌≡◌, ◌≤◌, length};
-ghost use Rattle.streamit_model.specs.Judged.{Streamed, splitter_of, stream_of, unit_of as stream_declared};
+ghost use Rattle.streamit_model.specs.Judged.{Streamed, splitter_of, stream_of, unit_of as stream_declared, all_streams};
 ghost use Rattle.streamit_model.specs.Program.{AFilter, APipeline, ASplitJoin};
 ghost use Rattle.streamit_unroll.specs.Filter.{filter_tree, IsReadable};
 ghost use Rattle.streamit_unroll.specs.View.{Judges};
 ghost use Rattle.streamit_build.specs.Units.{splitter_of as splitter_by};
-ghost use Rattle.streamit_build.specs.Program.{dealing_of, adds_of, body_of, declared_of, IsReadableBody};
+ghost use Rattle.streamit_build.specs.Program.{dealing_of, adds_of, body_of, declared_of, program_of, IsReadableBody};
 ghost use Rattle.streamit_build.specs.Knowing.{Knows, Declares};
+ghost use Rattle.streamit_build.specs.Told.{AreReadable, JudgesAll};
 
 use crate::names::sum;
 use crate::rounds::round;
+use crate::streams::few;
 use crate::{Adds, Body, Declaration, Declared, Known, Split, SplitJoin};
 use river_base::Name;
 use std::alloc::Global;
 use streamit_unroll::{Fault, FilterTree, filter};
 
+/// The fault that comes first, and the number of its unit, from 1.
+#[derive(Clone, Copy)]
+pub struct Refusal {
+    pub unit: usize,
+    pub fault: Fault,
+}
+
 impl Known {
-    /// A unit of the program.
-    pub fn unit(&mut self, alloc: Global, unit: &Declaration<'_>) -> Result<(), Fault>
+    /// All units of a program, one after another.
+    pub fn units(&mut self, alloc: Global, units: &[Declaration<'_>]) -> Result<(), Refusal>
+        requires { AreReadable (program_of units.now) }
+        ensures { (start : Streamed) → Knows self.old start → JudgesAll result self.new (all_streams 1 start (program_of units.now)) }
+    {
+        for i in 0..units.len() {
+            match self.unit(alloc, &units[i]) {
+                Ok(()) => {}
+                Err(fault) => {
+                    return Err(Refusal {
+                        unit: i + 1,
+                        fault,
+                    });
+                }
+            }
+        }
+        Ok(())
+    }
+
+    // A unit of the program.
+    fn unit(&mut self, alloc: Global, unit: &Declaration<'_>) -> Result<(), Fault>
         requires { IsReadableBody (body_of unit.now.body) }
         ensures { (known : Streamed) → Knows self.old known → Declares result self.new known unit.now.name (stream_declared known (declared_of unit.now)) }
     {
@@ -74,7 +102,7 @@ impl Known {
         let children = self.children(alloc, true, &all.adds)?;
         let join = round(alloc, all.join.as_slice(), count)?;
         let depth = sum(children.deepest, 1)?;
-        let ops = children.ops.saturating_add(2).min(257);
+        let ops = few(children.ops, 2);
         let stream = Declared::SplitJoin {
             split,
             front: children.front,

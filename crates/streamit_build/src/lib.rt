@@ -10,6 +10,7 @@ mod rounds;
 mod streams;
 
 pub use builder::{Declared, Made, build};
+pub use judge::Refusal;
 pub use program::{Adds, Body, Declaration, Split, SplitJoin};
 pub use rounds::round;
 pub use streams::{Children, Entry, Known};

@@ -143,8 +143,15 @@ impl Children {
     {
         self.front.push(self.last)?;
         self.last = entry.number;
-        self.ops = self.ops.saturating_add(entry.ops).min(257);
+        self.ops = few(self.ops, entry.ops);
         self.deepest = self.deepest.max(entry.nesting);
         Ok(())
     }
+}
+
+/// The sum of two numbers of operators, where 257 stands for more.
+pub(crate) fn few(a: u32, b: u32) -> u32
+    ensures { result ≡ min (a + b) 257 }
+{
+    a.saturating_add(b).min(257)
 }
