@@ -1,5 +1,5 @@
 -- The streams that are added to one, so far.
-use Rattle.std.proofs.Common.{◌≡◌, ℕ, zero, suc, ◌+◌, ◌<◌, ◌≤◌, Bool, List, [], ◌∷◌, ◌++◌, length, drop, Result, Ok, Err, get_or, refl, sym, ap, ◌∙◌, subst, arith, add-one, drop-cons}
+use Rattle.std.proofs.Common.{◌≡◌, ℕ, suc, ◌+◌, ◌<◌, Bool, List, [], ◌∷◌, ◌++◌, length, drop, Result, Ok, Err, get_or, refl, sym, ap, ◌∙◌, subst, arith, add-one, drop-cons}
 use Rattle.std.specs.Prelude.{min, max}
 use Rattle.std.specs.List.{AllByRecursion}
 use Rattle.river_plan.specs.Forms.{Name}
@@ -13,7 +13,7 @@ use Rattle.streamit_unroll.proofs.SoFar.{tells_more}
 use Rattle.streamit_build.specs.declared.streams.Entry.{Entry}
 use Rattle.streamit_build.specs.declared.streams.Children.{Children}
 use Rattle.streamit_build.specs.Units.{UnitForm, IsTree, AreTrees}
-use Rattle.streamit_build.specs.Knowing.{IsEntry, AddsOne, AreChildren, AddsAll}
+use Rattle.streamit_build.specs.Knowing.{AddsOne, AreChildren, AddsAll}
 
 abbrev pub fine : {A : Type 0} → A → Result A Fault
 fine x = Ok x

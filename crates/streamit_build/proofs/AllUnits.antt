@@ -1,18 +1,14 @@
 -- Units that are judged one after another.
-use Rattle.std.proofs.Common.{◌≡◌, ℕ, zero, suc, ◌+◌, ◌<◌, ◌≤◌, List, [], ◌∷◌, length, drop, get_or, map, Result, Ok, Err, refl, sym, ap, ◌∙◌, subst, add-one}
-use Rattle.std.specs.List.{AllByRecursion}
+use Rattle.std.proofs.Common.{◌≡◌, ℕ, suc, ◌+◌, [], ◌∷◌, Result, Ok, Err, refl, sym, ap, ◌∙◌, add-one}
 use Rattle.streamit_model.specs.Elaborate as spec
-use Rattle.streamit_model.specs.Stream.{Stream}
 use Rattle.streamit_model.specs.Program.{Declared, Program}
 use Rattle.streamit_model.specs.Judged.{Refusal, Streamed, in_unit, unit_of, all_streams}
 use Rattle.streamit_unroll.specs.declared.fault.Fault as fault
 use Rattle.streamit_unroll.specs.declared.fault.Fault.TheVariants as faults
 use Rattle.streamit_unroll.specs.View.{Tells}
-use Rattle.streamit_build.specs.declared.judge.Refusal as code
 use Rattle.streamit_build.specs.declared.streams.Known.{Known}
-use Rattle.streamit_build.specs.Program.{IsReadableBody}
 use Rattle.streamit_build.specs.Knowing.{Knows, Declares}
-use Rattle.streamit_build.specs.Told.{refused, Told, JudgesAll, AreReadable}
+use Rattle.streamit_build.specs.Told.{refused, Told, JudgesAll}
 
 abbrev took : {A : Type 0} → A → Result A Refusal
 took x = Ok x

@@ -1,5 +1,5 @@
 -- Units that are judged.
-use Rattle.std.proofs.Common.{◌≡◌, ℕ, ◌+◌, ◌<◌, ◌≤◌, List, [], ◌∷◌, ◌++◌, length, Some, Result, Ok, Err, refl, sym, ap, ◌∙◌, subst, arith}
+use Rattle.std.proofs.Common.{◌≡◌, ℕ, ◌+◌, ◌<◌, ◌≤◌, List, [], ◌∷◌, ◌++◌, length, Some, Result, Ok, refl, sym, ap, ◌∙◌, subst, arith}
 use Rattle.std.proofs.Common.{Vec, Global}
 use Rattle.std.specs.Vec.{vec_len}
 use Rattle.std.specs.Prelude.{min}
@@ -19,9 +19,8 @@ use Rattle.streamit_unroll.proofs.SoFar.{tells_more}
 use Rattle.streamit_build.specs.declared.streams.Children.{Children}
 use Rattle.streamit_build.specs.declared.streams.Known.{Known}
 use Rattle.streamit_build.specs.declared.builder.Declared.{Declared}
-use Rattle.streamit_build.specs.declared.builder.Declared.TheVariants as made
-use Rattle.streamit_build.specs.Units.{UnitForm, AFilter as UFilter, APipe, ASplit, unit_of, units_of, IsLower, IsShort, IsTree, AreTrees}
-use Rattle.streamit_build.specs.Knowing.{Knows, AreChildren, AddsAll, Declares}
+use Rattle.streamit_build.specs.Units.{UnitForm, AFilter as UFilter, APipe, ASplit, unit_of, units_of, IsLower, IsShort, IsTree}
+use Rattle.streamit_build.specs.Knowing.{Knows, AreChildren}
 use Rattle.streamit_build.proofs.Added.{fine}
 use Rattle.streamit_build.proofs.Knowing.{get_last, trees_kept}
 

@@ -1,11 +1,10 @@
 -- The streams that are known, and one more.
-use Rattle.std.proofs.Common.{◌≡◌, ℕ, zero, suc, ◌+◌, ◌<◌, ◌≤◌, Bool, true, false, List, [], ◌∷◌, ◌++◌, length, Option, Some, None, Result, Ok, Err, ◌⊎◌, inl, inr, ⊎_elim, refl, sym, ap, ◌∙◌, subst, arith, length-append}
+use Rattle.std.proofs.Common.{◌≡◌, ℕ, zero, suc, Bool, true, false, List, [], ◌∷◌, ◌++◌, length, Option, Some, None, Result, Ok, Err, ◌⊎◌, inl, inr, ⊎_elim, refl, sym, ap, ◌∙◌, subst, arith, length-append}
 use Rattle.std.specs.Prelude.{slice_get, min, OnOk, if◌then◌else◌}
-use Rattle.std.specs.List.{AllByRecursion}
 use Rattle.river_base.specs.Name.{name_eq}
 use Rattle.river_plan.specs.Forms.{Name}
-use Rattle.streamit_model.specs.Stream.{Stream, Filter, Pipeline, SplitJoin, Streams, Last, Then, nesting, deepest}
-use Rattle.streamit_model.specs.Build.{ops_in, ops_of}
+use Rattle.streamit_model.specs.Stream.{Stream, Filter, Pipeline, SplitJoin, Streams, Last, Then, nesting}
+use Rattle.streamit_model.specs.Build.{ops_in}
 use Rattle.streamit_model.specs.Program.{look}
 use Rattle.streamit_model.specs.Judged.{Streamed}
 use Rattle.streamit_build.specs.declared.streams.Entry.{Entry}

@@ -1,11 +1,11 @@
 -- Weights that fit, and those that do not.
-use Rattle.std.proofs.Common.{◌≡◌, ◌≢◌, ℕ, zero, suc, ◌+◌, ◌*◌, ◌<◌, ◌≤◌, Bool, true, false, List, [], ◌∷◌, ◌++◌, length, take, drop, get_or, replicate, Result, Ok, Err, refl, sym, ap, ◌∙◌, subst, arith, nat_eq, nat_le}
-use Rattle.std.specs.Prelude.{◌&&◌, if◌then◌else◌}
+use Rattle.std.proofs.Common.{◌≡◌, ◌≢◌, ℕ, zero, suc, ◌+◌, ◌*◌, ◌<◌, ◌≤◌, Bool, true, false, List, [], ◌∷◌, ◌++◌, length, take, get_or, replicate, Ok, Err, refl, ap, ◌∙◌, arith, nat_eq, nat_le}
+use Rattle.std.specs.Prelude.{◌&&◌}
 use Rattle.std.specs.List.{list_all}
-use Rattle.std.proofs.lemmas.List.{length-replicate, take_more, take_all}
+use Rattle.std.proofs.lemmas.List.{length-replicate, take_more}
 use Rattle.std.proofs.lemmas.List.Folds.{list_all-append}
 use Rattle.streamit_model.specs.Rounds.{cycle}
-use Rattle.streamit_model.specs.Elaborate.{Fault, Limit, Weights, on_ok, demand}
+use Rattle.streamit_model.specs.Elaborate.{Limit, Weights, on_ok, demand}
 use Rattle.streamit_model.specs.Judged.{fitting_round}
 
 both_true : (a b : Bool) → a ≡ true → b ≡ true → a && b ≡ true

@@ -1,5 +1,4 @@
-use Rattle.std.proofs.Common.{◌≡◌, ◌≤◌, ◌<◌, ◌*◌, Ok, sym, ap, ◌∙◌, arith, rules, replicate}
-use Rattle.streamit_model.specs.Elaborate.{Fault}
+use Rattle.std.proofs.Common.{◌≤◌, ◌<◌, sym, ap, ◌∙◌, arith}
 use Rattle.streamit_build.proofs.Weights.{equal_high, equal_fits, product_above, product-comm}
 use Rattle.streamit_build.proofs.Added.{fine}
 use Rattle.streamit_build.proofs.rounds.equal.Goals as goal

@@ -1,4 +1,4 @@
-use Rattle.std.proofs.Common.{◌≡◌, ◌+◌, Ok, Err, refl, sym, subst, rules, arith}
+use Rattle.std.proofs.Common.{◌≡◌, ◌+◌, Ok, Err, refl, sym, subst, rules}
 use Rattle.streamit_model.specs.Program.{ASplitJoin, branch_count}
 use Rattle.streamit_model.specs.Judged.{splitter_of, round_of, stream_of}
 use Rattle.streamit_unroll.specs.View.{Tells}
