@@ -1,5 +1,5 @@
 -- Names with numbers behind them.
-use Rattle.std.proofs.Common.{◌≡◌, ℕ, zero, suc, ◌+◌, ◌^◌, ◌<◌, ◌≤◌, Bool, true, List, [], ◌∷◌, ◌++◌, length, sym, ap, ◌∙◌, arith, length-append, add-one, get_or, take, pos}
+use Rattle.std.proofs.Common.{◌≡◌, ℕ, zero, suc, ◌+◌, ◌^◌, ◌<◌, ◌≤◌, Bool, true, List, [], ◌∷◌, ◌++◌, length, sym, ap, ◌∙◌, arith, length-append, add-one, map, get_or, take, pos}
 use Rattle.std.specs.Prelude.{◌&&◌, codes, nat_le}
 use Rattle.std.specs.List.{list_all}
 use Rattle.std.specs.Fmt.{decimal}
@@ -9,7 +9,7 @@ use Rattle.std.proofs.lemmas.List.{take_more, map-append}
 use Rattle.std.proofs.lemmas.List.Folds.{list_all-append}
 use Rattle.river_base.specs.Name.{starts_name, goes_on, is_name}
 use Rattle.river_plan.specs.Forms.{Name}
-use Rattle.streamit_model.specs.Build.{numbered, queue, queues, weights}
+use Rattle.streamit_model.specs.Build.{numbered, queue, queues, weights, values_in}
 use Rattle.streamit_model.proofs.Named.{decimal_goes}
 
 queues-suc : (k n : ℕ) → queues k (suc n) ≡ queues k n ++ queue (k + n) ∷ []
@@ -19,6 +19,10 @@ queues-suc k (suc n) = ap (λ l. queue k ∷ l) (queues-suc (suc k) n ∙ ap (λ
 -- one queue more
 pub queues-more : (k n : ℕ) → queues k (n + 1) ≡ queues k n ++ queue (k + n) ∷ []
 queues-more k n = ap (queues k) (add-one n) ∙ queues-suc k n
+
+-- one queue more that is declared
+pub decls-more : (k n : ℕ) → map values_in (queues k (n + 1)) ≡ map values_in (queues k n) ++ values_in (queue (k + n)) ∷ []
+decls-more k n = ap (map values_in) (queues-more k n) ∙ map-append values_in (queues k n) (queue (k + n) ∷ [])
 
 -- one weight more
 pub weights-more : (ws : List ℕ) (i w : ℕ) → i < length ws → w ≡ get_or ws i w → weights (take (i + 1) ws) ≡ weights (take i ws) ++ pos w ∷ []

@@ -30,8 +30,6 @@ le_true a b h = grind arith
 le_false : (a b : ℕ) → b < a → nat_le a b ≡ false
 le_false a b h = grind arith
 
-
-
 -- another number of weights
 pub round_other : (vs : List ℕ) (n : ℕ) → length vs ≢ n → fitting_round vs n ≡ Err Weights
 round_other vs n h = ap (λ b. on_ok (demand (b && list_all (λ w. nat_le 1 w) vs) Weights) (λ u. on_ok (demand (nat_le (cycle vs) 65536) Limit) (λ v. Ok vs))) (eq_false (length vs) n h)

@@ -60,4 +60,3 @@ AddsAll us (Err f) r = Tells f r
 abbrev pub Declares : Result (Unit {0}) Fault → code.Known → Streamed → Name → Result Stream spec.Fault → Type 0
 Declares (Ok u) new known name r = (s : Stream) × (r ≡ Ok s) × Knows new ((name, s) ∷ known)
 Declares (Err f) new known name r = Tells f r
-

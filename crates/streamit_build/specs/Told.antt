@@ -1,6 +1,10 @@
 -- What judging all units answers.
-use Rattle.std.specs.Prelude.{◌≡◌, ℕ, Result, Ok, Err}
+use Rattle.std.specs.Prelude.{◌≡◌, ◌≤◌, ℕ, ◌∷◌, nat_le, Result, Ok, Err}
 use Rattle.std.specs.List.{AllByRecursion}
+use Rattle.river_plan.specs.Forms.{Name, plan_form}
+use Rattle.river_plan.specs.declared.plan.RawPlan.{RawPlan}
+use Rattle.streamit_model.specs.Stream.{Stream}
+use Rattle.streamit_model.specs.Build.{ops_in, plan_of}
 use Rattle.streamit_model.specs.Elaborate as spec
 use Rattle.streamit_model.specs.Program.{Program}
 use Rattle.streamit_model.specs.Judged.{Streamed}
@@ -35,3 +39,21 @@ JudgesAll (Err e) new r = Told e.unit e.fault r
 -- what the grammar sees to in all units
 abbrev pub AreReadable : Program → Type 0
 AreReadable p = AllByRecursion (λ d. IsReadableBody d.body) p
+
+-- the limit of a plan's operators, told at unit k
+abbrev pub few_in : ℕ → Stream → Result (Unit {0}) judged.Refusal
+few_in k s = judged.in_unit k (spec.demand (nat_le (ops_in s) 256) spec.Limit) (λ u. Ok u)
+
+-- the plan of a stream that is the last, in unit k
+abbrev pub PlansLast : Result RawPlan Refusal → ℕ → Stream → Type 0
+PlansLast (Ok raw) k s = (ops_in s ≤ 256) × (plan_form raw ≡ plan_of s)
+PlansLast (Err e) k s = Told e.unit e.fault (few_in k s)
+
+-- a stream with this name is the last that is known
+abbrev pub KnowsLast : Known → Name → Type 0
+KnowsLast ss last = (s : Stream) × (others : Streamed) × Knows ss ((last, s) ∷ others)
+
+-- the plan of the last stream of a program that is accepted, or the first fault
+abbrev pub PlansBy : Result RawPlan Refusal → Result Streamed judged.Refusal → Type 0
+PlansBy (Ok raw) r = (name : Name) × (s : Stream) × (others : Streamed) × (r ≡ Ok ((name, s) ∷ others)) × (plan_form raw ≡ plan_of s)
+PlansBy (Err e) r = Told e.unit e.fault r

@@ -34,10 +34,7 @@ impl Known {
             match self.unit(alloc, &units[i]) {
                 Ok(()) => {}
                 Err(fault) => {
-                    return Err(Refusal {
-                        unit: i + 1,
-                        fault,
-                    });
+                    return Err(Refusal { unit: i + 1, fault });
                 }
             }
         }

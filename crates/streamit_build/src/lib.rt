@@ -5,12 +5,14 @@ mod builder;
 mod judge;
 mod names;
 mod operators;
+mod planning;
 mod program;
 mod rounds;
 mod streams;
 
 pub use builder::{Declared, Made, build};
 pub use judge::Refusal;
+pub use planning::plan;
 pub use program::{Adds, Body, Declaration, Split, SplitJoin};
 pub use rounds::round;
 pub use streams::{Children, Entry, Known};

@@ -28,7 +28,7 @@ fn text(alloc: Global, name: &[u8], number: u32) -> Result<Bytes, NoMemory>
 }
 
 // The name that has these bytes.
-fn name_of(bytes: &[u8]) -> Name
+pub fn name_of(bytes: &[u8]) -> Name
     requires { IsTrue (is_name bytes.now) }
     ensures { result ≡ bytes.now }
 {

@@ -9,8 +9,8 @@ ghost use Rattle.streamit_build.specs.Units.{splitter_of};
 use crate::names::{numbered, one, queues};
 use kern_rows::Filter;
 use river_base::{Name, NoMemory, Numbers};
-use river_plan::{Names, Op};
 use river_kernels::Kernel;
+use river_plan::{Names, Op};
 use std::alloc::Global;
 
 /// The operator of a filter.

@@ -74,7 +74,12 @@ impl Known {
     }
 
     /// The streams that are added, one after another.
-    pub(crate) fn children(&self, alloc: Global, branch: bool, adds: &Adds) -> Result<Children, Fault>
+    pub(crate) fn children(
+        &self,
+        alloc: Global,
+        branch: bool,
+        adds: &Adds,
+    ) -> Result<Children, Fault>
         ensures { (known : Streamed) → Knows self.now known → AddsAll (units_of self.now.declared.items) result (streams_of (may branch) known 0 adds.now.first adds.now.others.items) }
     {
         let first = self.added(branch, 0, adds.first)?;
