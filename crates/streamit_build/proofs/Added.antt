@@ -81,6 +81,7 @@ pub record SoFar (us : List UnitForm) (may : ℕ → Bool) (known : Streamed) (w
   pub are : AreChildren us c (chain prior last)
   pub whole_is : whole ≡ onto prior (going_on may known i last rest)
 
+-- the first stream was added
 pub adds_start : (us : List UnitForm) (may : ℕ → Bool) (known : Streamed) (n : Name) (ms : List Name) (k : Entry) (c : Children) → AddsOne us (Ok k) (added may known 0 n)
     → c.front.items ≡ [] → c.last ≡ k.number → c.ops ≡ k.ops → c.deepest ≡ k.nesting → SoFar us may known (streams_of may known 0 n ms) 0 ms c
 adds_start us may known n ms k c (s, e, h) f l o d = record {
@@ -96,6 +97,7 @@ adds_start us may known n ms k c (s, e, h) f l o d = record {
   whole_is = streams_ok may known 0 n ms s e;
 }
 
+-- one stream more
 pub adds_next : (us : List UnitForm) (may : ℕ → Bool) (known : Streamed) (whole : Result Streams Fault) (i : ℕ) (m : Name) (ms : List Name) (c c' : Children) (k : Entry) → SoFar us may known whole i (m ∷ ms) c → AddsOne us (Ok k) (added may known (i + 1) m)
     → c'.front.items ≡ c.front.items ++ c.last ∷ [] → c'.last ≡ k.number → c'.ops ≡ min (c.ops + k.ops) 257 → c'.deepest ≡ max c.deepest k.nesting → SoFar us may known whole (i + 1) ms c'
 adds_next us may known whole i m ms c c' k f (s, e, h) fr la op de =
@@ -116,15 +118,18 @@ adds_next us may known whole i m ms c c' k f (s, e, h) fr la op de =
           ∙ sym (onto_more f.prior f.last (going_on may known (i + 1) s ms));
     }
 
+-- a stream that is refused
 pub adds_fault : (us : List UnitForm) (may : ℕ → Bool) (known : Streamed) (whole : Result Streams Fault) (i : ℕ) (m : Name) (ms : List Name) (c : Children) (f : fault.Fault) → SoFar us may known whole i (m ∷ ms) c → Tells f (added may known (i + 1) m) → Tells f whole
 adds_fault us may known whole i m ms c f s h =
     tells_more f (added may known (i + 1) m) whole
     (λ g e. s.whole_is ∙ ap (λ r. onto s.prior (on_ok r (λ ss. fine (Then s.last ss)))) (streams_err may known (suc i) m ms g (ap (λ j. added may known j m) (sym (add-one i)) ∙ e)) ∙ onto_err s.prior g)
     h
 
+-- the first one is refused
 pub first_fault : (may : ℕ → Bool) (known : Streamed) (n : Name) (ms : List Name) (f : fault.Fault) → Tells f (added may known 0 n) → Tells f (streams_of may known 0 n ms)
 first_fault may known n ms f h = tells_more f (added may known 0 n) (streams_of may known 0 n ms) (λ g e. streams_err may known 0 n ms g e) h
 
+-- all streams
 pub adds_end : (us : List UnitForm) (may : ℕ → Bool) (known : Streamed) (whole : Result Streams Fault) (i : ℕ) (c : Children) → SoFar us may known whole i [] c → AddsAll us (Ok c) whole
 adds_end us may known whole i c f = (chain f.prior f.last, f.whole_is ∙ onto_last f.prior f.last, f.are)
 

@@ -31,9 +31,11 @@ pub record Judging (whole : Result Streamed Refusal) (k : ℕ) (rest : Program) 
   pub knows : Knows now known
   pub whole_is : whole ≡ all_streams k known rest
 
+-- before the first unit
 pub judging_start : (start : Streamed) (p : Program) (now : Known) → Knows now start → Judging (all_streams 1 start p) 1 p now
 judging_start start p now k = record { known = start; knows = k; whole_is = refl }
 
+-- one unit more
 pub judging_next : (whole : Result Streamed Refusal) (i : ℕ) (u : Declared) (us : Program) (now next : Known) (j : Judging whole (i + 1) (u ∷ us) now) → Declares (Ok tt) next j.known u.name (unit_of j.known u) → Judging whole (i + 1 + 1) us next
 judging_next whole i u us now next j (s, e, k) = record {
   known = (u.name, s) ∷ j.known;
@@ -41,9 +43,11 @@ judging_next whole i u us now next j (s, e, k) = record {
   whole_is = j.whole_is ∙ ap (λ r. in_unit (i + 1) r (λ s. all_streams (suc (i + 1)) ((u.name, s) ∷ j.known) us)) e ∙ ap (λ n. all_streams n ((u.name, s) ∷ j.known) us) (sym (add-one (i + 1)));
 }
 
+-- a unit that is refused
 pub judging_fault : (whole : Result Streamed Refusal) (i : ℕ) (u : Declared) (us : Program) (now next : Known) (f : fault.Fault) (j : Judging whole (i + 1) (u ∷ us) now) → Tells f (unit_of j.known u) → Told (i + 1) f whole
 judging_fault whole i u us now next f j h =
     told_more (i + 1) f (unit_of j.known u) whole (λ g e. j.whole_is ∙ ap (λ r. in_unit (i + 1) r (λ s. all_streams (suc (i + 1)) ((u.name, s) ∷ j.known) us)) e) h
 
+-- all units
 pub judging_end : (whole : Result Streamed Refusal) (k : ℕ) (now : Known) → Judging whole k [] now → JudgesAll (Ok tt) now whole
 judging_end whole k now j = (j.known, j.whole_is, j.knows)

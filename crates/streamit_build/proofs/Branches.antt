@@ -23,6 +23,7 @@ pub record RestSoFar (us : List UnitForm) (front rest : List ℕ) (last i : ℕ)
   pub lower : AllByRecursion (λ j. j < i) rest
   pub branches : (ss : Streams) → AreTrees us front last ss → Rest us rest last ss old now a0 b0 a b
 
+-- no branch was built
 pub rest_start : (us : List UnitForm) (front : List ℕ) (last i : ℕ) (old : Made) (a b : ℕ) → AllByRecursion (λ j. j < i) front → RestSoFar us front front last i old old a b a b
 rest_start us front last i old a b low = record {
   lower = low;
@@ -60,6 +61,7 @@ go_on us j js last ss old now next a0 b0 a b a' b' start end (Then s left) added
       queues = omega (arith, q, n2);
     }
 
+-- one branch more
 pub rest_next : (us : List UnitForm) (front : List ℕ) (j : ℕ) (js : List ℕ) (last i : ℕ) (old now next : Made) (a0 b0 a b a' b' : ℕ) (start end : Name) → RestSoFar us front (j ∷ js) last i old now a0 b0 a b
     → start ≡ queue a → end ≡ queue b → a' ≡ a + 1 → b' ≡ b + 1
     → ((s : Stream) → IsTree us j s → Built now next (build s now.next_op now.next_queue start end) (ops_in s) (queues_in s))
@@ -88,6 +90,7 @@ end_on us last ss old now next a0 b0 a b start end (Last s) added t g al o q e1 
     }
 end_on us last ss old now next a0 b0 a b start end (Then s left) added t g al o q e1 e2 bu = absurd t
 
+-- all branches
 pub rest_end : (us : List UnitForm) (front : List ℕ) (last i : ℕ) (old now next : Made) (a0 b0 a b : ℕ) (start end : Name) (ss : Streams) → RestSoFar us front [] last i old now a0 b0 a b → AreTrees us front last ss
     → start ≡ queue a → end ≡ queue b
     → ((s : Stream) → IsTree us last s → Built now next (build s now.next_op now.next_queue start end) (ops_in s) (queues_in s))

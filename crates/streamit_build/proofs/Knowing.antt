@@ -29,29 +29,34 @@ get_more [] y (suc i) = inl refl
 get_more (x ∷ xs) y zero = inl refl
 get_more (x ∷ xs) y (suc i) = ⊎_elim (λ e. inl e) (λ e. inr (ap suc e.0, e.1)) (get_more xs y i)
 
+-- the new one stands at the end
 pub get_last : {A : Type 0} (xs : List A) (y : A) → slice_get (xs ++ y ∷ []) (length xs) ≡ Some y
 get_last [] y = refl
 get_last (x ∷ xs) y = get_last xs y
 
 -- a tree stays what it is
 mutual
+  -- of a stream
   pub tree_kept : (us vs : List UnitForm) (i : ℕ) (s : Stream) → IsTree us i s → IsTree (us ++ vs) i s
   tree_kept us vs i (Filter name f) h = get_kept us vs i (AFilter name f) h
   tree_kept us vs i (Pipeline ss) (front, last, e, ts) = (front, last, get_kept us vs i (APipe front last) e, trees_kept us vs front last ss ts)
   tree_kept us vs i (SplitJoin d ss ws) (front, last, e, ts) = (front, last, get_kept us vs i (ASplit d front last ws) e, trees_kept us vs front last ss ts)
 
+  -- of streams
   pub trees_kept : (us vs : List UnitForm) (front : List ℕ) (last : ℕ) (ss : Streams) → AreTrees us front last ss → AreTrees (us ++ vs) front last ss
   trees_kept us vs [] last (Last s) h = tree_kept us vs last s h
   trees_kept us vs (j ∷ js) last (Last s) h = absurd h
   trees_kept us vs [] last (Then s ss) h = absurd h
   trees_kept us vs (j ∷ js) last (Then s ss) h = (tree_kept us vs j s h.0, trees_kept us vs js last ss h.1)
 
+-- children are lower with one unit more
 pub lower_more : (us : List UnitForm) (u : UnitForm) → AreLower us → IsLower (length us) (Some u) → AreLower (us ++ u ∷ [])
 lower_more us u all new i = ⊎_elim
     (λ e. subst (IsLower i) (sym e) (all i))
     (λ e. subst (IsLower i) (sym e.1) (subst (λ k. IsLower k (Some u)) (sym e.0) new))
     (get_more us u i)
 
+-- names are short with one unit more
 pub short_more : (us : List UnitForm) (u : UnitForm) → AreShort us → IsShort (Some u) → AreShort (us ++ u ∷ [])
 short_more us u all new i = ⊎_elim (λ e. subst IsShort (sym e) (all i)) (λ e. subst IsShort (sym e.1) new) (get_more us u i)
 
@@ -63,12 +68,14 @@ entry_kept us vs k s e = record {
   nesting = e.nesting;
 }
 
+-- entries stay what they are
 pub found_kept : (us vs : List UnitForm) (o : Option Entry) (p : Option Stream) → IsFound us o p → IsFound (us ++ vs) o p
 found_kept us vs None None h = tt
 found_kept us vs None (Some s) h = absurd h
 found_kept us vs (Some k) None h = absurd h
 found_kept us vs (Some k) (Some s) h = entry_kept us vs k s h
 
+-- and a new name has its own
 pub found_more : (us : List UnitForm) (b : Bool) (k : Entry) (s : Stream) (o : Option Entry) (p : Option Stream) → IsEntry us k s → IsFound us o p → IsFound us (if b then Some k else o) (if b then Some s else p)
 found_more us true k s o p e h = e
 found_more us false k s o p e h = h

@@ -25,6 +25,7 @@ pub record LineSoFar (us : List UnitForm) (front rest : List ℕ) (last i : ℕ)
   pub lower : AllByRecursion (λ j. j < i) rest
   pub line : (ss : Streams) → AreTrees us front last ss → Line us rest last ss old now from start to
 
+-- no stream was built
 pub line_start : (us : List UnitForm) (front : List ℕ) (last i : ℕ) (old : Made) (from to : Name) → AllByRecursion (λ j. j < i) front → LineSoFar us front front last i old old from from to
 line_start us front last i old from to low = record {
   lower = low;
@@ -62,6 +63,7 @@ go_on us j js last ss old now mid next from start to end (Then s left) added t g
       queues = omega (arith, q, n2, k);
     }
 
+-- one stream more
 pub line_next : (us : List UnitForm) (front : List ℕ) (j : ℕ) (js : List ℕ) (last i : ℕ) (old now mid next : Made) (from start to end : Name) → LineSoFar us front (j ∷ js) last i old now from start to
     → end ≡ queue now.next_queue → mid.next_queue ≡ now.next_queue + 1 → mid.next_op ≡ now.next_op → mid.ops ≡ now.ops
     → ((s : Stream) → IsTree us j s → Built mid next (build s mid.next_op mid.next_queue start end) (ops_in s) (queues_in s))
@@ -88,11 +90,13 @@ end_on us last ss old now next from start to (Last s) added t g a o q b =
     }
 end_on us last ss old now next from start to (Then s left) added t g a o q b = absurd t
 
+-- all streams
 pub line_end : (us : List UnitForm) (front : List ℕ) (last i : ℕ) (old now next : Made) (from start to : Name) (ss : Streams) → LineSoFar us front [] last i old now from start to → AreTrees us front last ss
     → ((s : Stream) → IsTree us last s → Built now next (build s now.next_op now.next_queue start to) (ops_in s) (queues_in s))
     → Built old next (build_line ss old.next_op old.next_queue from to) (ops_of ss) (queues_between ss)
 line_end us front last i old now next from start to ss f t b = let l = f.line ss t in end_on us last ss old now next from start to l.left l.added l.trees l.grew l.all l.ops l.queues b
 
+-- the children from a place on
 pub at_child : (items : List ℕ) (i j : ℕ) → i < length items → j ≡ get_or items i j → drop i items ≡ j ∷ drop (i + 1) items
 at_child items i j lt e = drop-cons items i j lt ∙ ap (λ x. x ∷ drop (suc i) items) (sym e) ∙ ap (λ k. j ∷ drop k items) (sym (add-one i))
 
@@ -103,12 +107,15 @@ got f [] i x lt e = absurd (omega (arith, lt))
 got f (y ∷ ys) zero x lt e = ap (λ z. Some (f z)) (sym e)
 got f (y ∷ ys) (suc i) x lt e = got f ys i x (omega (arith, lt)) e
 
+-- the unit at a place
 pub unit_at : (us : List Declared) (i : ℕ) (x y : Declared) → i < length us → x ≡ get_or us i x → x ≡ y → slice_get (units_of us) i ≡ Some (unit_of y)
 unit_at us i x y lt e f = got unit_of us i x lt e ∙ ap (λ z. Some (unit_of z)) f
 
+-- the children of a pipeline are lower
 pub lower_of : (us : List UnitForm) (i : ℕ) (front : List ℕ) (last : ℕ) → AreLower us → slice_get us i ≡ Some (APipe front last) → AllByRecursion (λ j. j < i) front × (last < i)
 lower_of us i front last low e = subst (IsLower i) e (low i)
 
+-- those of a split-join are
 pub lower_split : (us : List UnitForm) (i : ℕ) (d : Splitter) (front : List ℕ) (last : ℕ) (ws : List ℕ) → AreLower us → slice_get us i ≡ Some (ASplit d front last ws) → AllByRecursion (λ j. j < i) front × (last < i)
 lower_split us i d front last ws low e = subst (IsLower i) e (low i)
 
@@ -134,12 +141,14 @@ pipe_returns us i front last old new from to r u h (Pipeline ss) t =
     h ss (subst (λ f. AreTrees us f last ss) e.0 (subst (λ l. AreTrees us t.0 l ss) e.1 t.3))
 pipe_returns us i front last old new from to r u h (SplitJoin d ss ws) t = absurd (pipe_split front last d t.0 t.1 ws (sym u ∙ t.2))
 
+-- the last stream was built
 pub last_returns : {E : Type 0} (us : List UnitForm) (front : List ℕ) (last i : ℕ) (old now next : Made) (from start to : Name) (r : Result (Unit {0}) E) → LineSoFar us front [] last i old now from start to
     → ((s : Stream) → IsTree us last s → OnOk r (Built now next (build s now.next_op now.next_queue start to) (ops_in s) (queues_in s)))
     → (ss : Streams) → AreTrees us front last ss → OnOk r (Built old next (build_line ss old.next_op old.next_queue from to) (ops_of ss) (queues_between ss))
 last_returns us front last i old now next from start to (Ok x) f b ss t = line_end us front last i old now next from start to ss f t b
 last_returns us front last i old now next from start to (Err x) f b ss t = tt
 
+-- a filter was built
 pub filter_returns : {E : Type 0} (us : List UnitForm) (i : ℕ) (name : Name) (f : FilterForm) (old new : Made) (op : OpForm) (from to : Name) (r : Result (Unit {0}) E) → slice_get us i ≡ Some (AFilter name f)
     → op ≡ with_own (numbered name old.next_op) (filter f) (from ∷ []) (to ∷ []) → OnOk r (op_forms new.ops ≡ op_forms old.ops ++ op ∷ []) → OnOk r (new.next_op ≡ old.next_op + 1) → new.next_queue ≡ old.next_queue
     → (s : Stream) → IsTree us i s → OnOk r (Built old new (build s old.next_op old.next_queue from to) (ops_in s) (queues_in s))

@@ -67,12 +67,15 @@ none-replicate : (n w : ℕ) → 1 ≤ n → w ≡ 0 → list_all (λ w. nat_le 
 none-replicate zero w h e = absurd (omega (arith, h))
 none-replicate (suc n) w h e = first_false (nat_le 1 w) (list_all (λ w. nat_le 1 w) (replicate n w)) (le_false 1 w (omega (arith, e)))
 
+-- as many zeros
 pub equal_zero : (w n : ℕ) → w ≡ 0 → 1 ≤ n → fitting_round (replicate n w) n ≡ Err Weights
 equal_zero w n e h = round_zero (replicate n w) n (none-replicate n w h e)
 
+-- as many weights, and too high
 pub equal_high : (w n : ℕ) → 1 ≤ w → 65536 < n * w → fitting_round (replicate n w) n ≡ Err Limit
 equal_high w n h lt = round_high (replicate n w) n (length-replicate n w) (ones-replicate n w h) (let c = cycle-replicate n w in omega (arith, c, lt))
 
+-- as many weights that fit
 pub equal_fits : (w n : ℕ) → 1 ≤ w → n * w ≤ 65536 → fitting_round (replicate n w) n ≡ Ok (replicate n w)
 equal_fits w n h le = round_fits (replicate n w) n (length-replicate n w) (ones-replicate n w h) (let c = cycle-replicate n w in omega (arith, c, le))
 
@@ -82,9 +85,11 @@ cycle-append : (xs ys : List ℕ) → cycle (xs ++ ys) ≡ cycle xs + cycle ys
 cycle-append [] ys = omega arith
 cycle-append (x ∷ xs) ys = let e = cycle-append xs ys in omega (arith, e)
 
+-- the sum of one weight more
 pub cycle-more : (ws : List ℕ) (i : ℕ) → i < length ws → cycle (take (i + 1) ws) ≡ cycle (take i ws) + get_or ws i 0
 cycle-more ws i lt = ap cycle (take_more ws i 0 lt) ∙ cycle-append (take i ws) (get_or ws i 0 ∷ []) ∙ (let e : cycle (take i ws) + (get_or ws i 0 + 0) ≡ cycle (take i ws) + get_or ws i 0 = omega arith in e)
 
+-- a front has no greater sum
 pub cycle_front : (ws : List ℕ) (i : ℕ) → cycle (take i ws) ≤ cycle ws
 cycle_front [] zero = omega arith
 cycle_front [] (suc i) = omega arith
@@ -99,9 +104,11 @@ weight_below ws i lt = let a = cycle-more ws i lt in let b = cycle_front ws (i +
 pub cycle_above : (ws : List ℕ) (i left w : ℕ) → i < length ws → w ≡ get_or ws i 0 → left + cycle (take i ws) ≡ 65536 → left < w → 65536 < cycle ws
 cycle_above ws i left w lt e s h = let a = cycle-more ws i lt in let b = cycle_front ws (i + 1) in omega (arith, a, b, e, s, h)
 
+-- one weight more that is not 0
 pub ones-more : (ws : List ℕ) (i : ℕ) → i < length ws → list_all (λ w. nat_le 1 w) (take i ws) ≡ true → 1 ≤ get_or ws i 0 → list_all (λ w. nat_le 1 w) (take (i + 1) ws) ≡ true
 ones-more ws i lt h le = ap (list_all (λ w. nat_le 1 w)) (take_more ws i 0 lt) ∙ list_all-append (λ w. nat_le 1 w) (take i ws) (get_or ws i 0 ∷ []) ∙ both_true (list_all (λ w. nat_le 1 w) (take i ws)) _ h (both_true (nat_le 1 (get_or ws i 0)) true (le_true 1 (get_or ws i 0) le) refl)
 
+-- a weight that is 0
 pub ones_stop : (ws : List ℕ) (i : ℕ) → i < length ws → get_or ws i 0 ≡ 0 → list_all (λ w. nat_le 1 w) ws ≡ false
 ones_stop [] i lt e = absurd (omega (arith, lt))
 ones_stop (w ∷ ws) zero lt e = first_false (nat_le 1 w) (list_all (λ w. nat_le 1 w) ws) (le_false 1 w (omega (arith, e)))
@@ -115,5 +122,6 @@ product_above k (suc m) b h lt = let e = more m b in omega (arith, e, lt)
     more : (m b : ℕ) → suc m * b ≡ b + m * b
     more m b = grind arith
 
+-- a product the other way round
 pub product-comm : (a b : ℕ) → a * b ≡ b * a
 product-comm a b = grind arith

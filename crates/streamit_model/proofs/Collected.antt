@@ -91,11 +91,13 @@ fed_joins ws n g =
 pub record IsLeft (ws : List ℕ) (ls rs : List (List item.Item)) (x : ℕ) : Type 0 where
   pub each : (p : ℕ) → list_at rs p ≡ drop (taken ws p x) (list_at ls p)
 
+-- an empty list has no first item
 pub front_at_none : (rs : List (List item.Item)) (p : ℕ) → list_at rs p ≡ [] → front_at itself rs p ≡ None
 front_at_none [] p e = refl
 front_at_none (r ∷ rs) zero e = ap (front_in itself) e
 front_at_none (r ∷ rs) (suc p) e = front_at_none rs p e
 
+-- the first item of a list that has one
 pub front_at_some : (rs : List (List item.Item)) (p : ℕ) (x : item.Item) (xs : List item.Item) → list_at rs p ≡ x ∷ xs → front_at itself rs p ≡ Some (x ∷ [])
 front_at_some [] p x xs e = absurd (cc e)
 front_at_some (r ∷ rs) zero x xs e = ap (front_in itself) e
@@ -113,11 +115,13 @@ rest_other (r ∷ rs) zero (suc q) ne = refl
 rest_other (r ∷ rs) (suc p) zero ne = refl
 rest_other (r ∷ rs) (suc p) (suc q) ne = rest_other rs p q (λ e. ne (ap suc e))
 
+-- nothing stands at the end of a list
 pub got_none : {A : Type 0} (xs : List A) (n : ℕ) → drop n xs ≡ [] → slice_get xs n ≡ None
 got_none [] n e = refl
 got_none (x ∷ xs) zero e = absurd (cc e)
 got_none (x ∷ xs) (suc n) e = got_none xs n e
 
+-- what is left of a list begins with what stands there
 pub got_some : {A : Type 0} (xs : List A) (n : ℕ) (y : A) (ys : List A) → drop n xs ≡ y ∷ ys → slice_get xs n ≡ Some y
 got_some [] zero y ys e = absurd (cc e)
 got_some [] (suc n) y ys e = absurd (cc e)
@@ -127,10 +131,12 @@ got_some (x ∷ xs) (suc n) y ys e = got_some xs n y ys e
 dropped_one : {A : Type 0} (xs : List A) (n : ℕ) (y : A) (ys : List A) → drop n xs ≡ y ∷ ys → drop (n + 1) xs ≡ ys
 dropped_one xs n y ys e = sym (drop-drop 1 n xs) ∙ ap (drop 1) e
 
+-- a list is empty or has a first item
 pub cases_list : {A B : Type 0} (l : List A) → (l ≡ [] → B) → ((y : A) (ys : List A) → l ≡ y ∷ ys → B) → B
 cases_list [] f g = f refl
 cases_list (y ∷ ys) f g = g y ys refl
 
+-- one item more was taken
 pub left_next : (ws : List ℕ) (ls rs : List (List item.Item)) (x : ℕ) (y : item.Item) (ys : List item.Item) → 0 < cycle ws → IsLeft ws ls rs x → list_at rs (branch ws x) ≡ y ∷ ys → IsLeft ws ls (rest_at rs (branch ws x)) (suc x)
 left_next ws ls rs x y ys lt left e = record {
   each = λ p. ⊎_elim
@@ -169,10 +175,12 @@ passes_front ws ls rs (suc n) x pos lt left =
     ∙ ap (λ l. y ∷ l) (passes_front ws ls (rest_at rs b) n (suc x) pos lt (left_next ws ls rs x y ys lt left e))
     ∙ sym (ap more (got_some (list_at ls b) (turn_of ws x) y ys (sym here ∙ e))))
 
+-- how many items wait
 pub waiting_is : (ls : List (List item.Item)) → waiting ls ≡ size_of ls
 waiting_is [] = refl
 waiting_is (l ∷ ls) = ap (λ n. length l + n) (waiting_is ls)
 
+-- what a joiner passes of full lists is what it collects
 pub settles : (ws : List ℕ) (ls : List (List item.Item)) → Positive ws → 0 < cycle ws → (settled itself ws (record { port = 0; had = 0; lists = ls })).0 ≡ collected ws ls
 settles ws ls pos lt =
     let f = first_turn ws pos lt in
@@ -187,11 +195,13 @@ abbrev pub map_option : {A B : Type 0} → (A → B) → Option A → Option B
 map_option f None = None
 map_option f (Some x) = Some (f x)
 
+-- what stands in a mapped list
 pub got_map : {A B : Type 0} (f : A → B) (xs : List A) (n : ℕ) → slice_get (map f xs) n ≡ map_option f (slice_get xs n)
 got_map f [] n = refl
 got_map f (x ∷ xs) zero = refl
 got_map f (x ∷ xs) (suc n) = got_map f xs n
 
+-- a list among mapped lists
 pub list_at_map : {A B : Type 0} (f : A → B) (ls : List (List A)) (p : ℕ) → list_at (map (map f) ls) p ≡ map f (list_at ls p)
 list_at_map f [] p = refl
 list_at_map f (l ∷ ls) zero = refl
@@ -212,6 +222,7 @@ size_map : {A B : Type 0} (f : A → B) (ls : List (List A)) → size_of (map (m
 size_map f [] = refl
 size_map f (l ∷ ls) = let a = length-map l f in let b = size_map f ls in omega (arith, a, b)
 
+-- collecting does not look at the items
 pub collected_map : {A B : Type 0} (f : A → B) (ws : List ℕ) (ls : List (List A)) → collected ws (map (map f) ls) ≡ map f (collected ws ls)
 collected_map f ws ls = ap (λ n. rounds.front_of (item_at ws (map (map f) ls)) n 0) (size_map f ls) ∙ front_map f ws ls (size_of ls) 0
 

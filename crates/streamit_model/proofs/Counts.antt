@@ -9,6 +9,7 @@ use Rattle.streamit_model.specs.Stream.{Splitter, Duplicate, RoundRobin, Stream,
 use Rattle.streamit_model.specs.Build.{numbered, queue, queues, ops_in, ops_of, queues_in, queues_between, queues_within, splitter, joiner, build, build_line, build_branches}
 use Rattle.streamit_model.proofs.Numbers.{number_in, sum_from, sum_split, meets, named_le, queue_count}
 
+-- a count over two lists
 pub total-append : (f : OpForm → ℕ) (xs ys : List OpForm) → total f (xs ++ ys) ≡ total f xs + total f ys
 total-append f [] ys = omega arith
 total-append f (x ∷ xs) ys = let e = total-append f xs ys in omega (arith, e)
@@ -17,6 +18,7 @@ total-append f (x ∷ xs) ys = let e = total-append f xs ys in omega (arith, e)
 abbrev pub here : Name → ℕ → ℕ
 here x j = one_if (name_eq (queue j) x)
 
+-- how often a splitter writes a queue
 pub split_writes : (d : Splitter) (n k : ℕ) (label from x : Name) → count x (splitter d n label from (queues k n)).writes ≡ sum_from (here x) k n
 split_writes Duplicate n k label from x = queue_count x n k
 split_writes (RoundRobin ws) n k label from x = queue_count x n k
@@ -25,6 +27,7 @@ split_reads : (d : Splitter) (n k : ℕ) (label from x : Name) → count x (spli
 split_reads Duplicate n k label from x = refl
 split_reads (RoundRobin ws) n k label from x = refl
 
+-- how often a splitter owns a name
 pub split_named : (d : Splitter) (n k : ℕ) (label from x : Name) → named_it x (splitter d n label from (queues k n)) ≡ one_if (name_eq label x)
 split_named Duplicate n k label from x = refl
 split_named (RoundRobin ws) n k label from x = refl
@@ -48,6 +51,7 @@ ends f c m =
     ap (sum_from f c) (let e : 1 + (m + 1) ≡ suc (m + 1) = omega arith in e) ∙ omega (arith, a)
 
 mutual
+  -- how often the operators of a stream write a queue
   pub writes : (s : Stream) (c k : ℕ) (from to x : Name) → total (writes_it x) (build s c k from to) ≡ one_if (name_eq to x) + sum_from (here x) k (queues_in s)
   writes (Filter name f) c k from to x = omega arith
   writes (Pipeline ss) c k from to x = writes_line ss c k from to x
@@ -68,6 +72,7 @@ mutual
       let q = two (here x) k (queues_in s) (queues_between ss) in
       omega (arith, a, b, t, q)
 
+  -- and those of branches
   pub writes_branches : (ss : Streams) (c k a b : ℕ) (x : Name) → total (writes_it x) (build_branches ss c k a b) ≡ sum_from (here x) b (number_of ss) + sum_from (here x) k (queues_within ss)
   writes_branches (Last s) c k a b x = let e = writes s c k (queue a) (queue b) x in omega (arith, e)
   writes_branches (Then s ss) c k a b x =
@@ -78,6 +83,7 @@ mutual
       omega (arith, e, i, t, q)
 
 mutual
+  -- how often they read it
   pub reads : (s : Stream) (c k : ℕ) (from to x : Name) → total (reads_it x) (build s c k from to) ≡ one_if (name_eq from x) + sum_from (here x) k (queues_in s)
   reads (Filter name f) c k from to x = omega arith
   reads (Pipeline ss) c k from to x = reads_line ss c k from to x
@@ -110,6 +116,7 @@ mutual
 
 -- a label stands at most where its number does
 mutual
+  -- how often they own a name, at most
   pub named : (s : Stream) (c k : ℕ) (from to x : Name) → c + ops_in s ≤ 2 ^ 64 → total (named_it x) (build s c k from to) ≤ sum_from (meets (number_in x)) c (ops_in s)
   named (Filter name f) c k from to x le = let e = named_le name x c (omega (arith, le)) in omega (arith, e)
   named (Pipeline ss) c k from to x le = named_line ss c k from to x le
@@ -144,6 +151,7 @@ mutual
 
 -- how many operators there are
 mutual
+  -- how many operators there are
   pub operators : (s : Stream) (c k : ℕ) (from to : Name) → length (build s c k from to) ≡ ops_in s
   operators (Filter name f) c k from to = refl
   operators (Pipeline ss) c k from to = operators_line ss c k from to
@@ -171,6 +179,7 @@ mutual
 
 -- there are fewer queues than two for each operator
 mutual
+  -- there are not many more queues than operators
   pub few_queues : (s : Stream) → queues_in s + 2 ≤ ops_in s + ops_in s
   few_queues (Filter name f) = omega arith
   few_queues (Pipeline ss) = few_between ss

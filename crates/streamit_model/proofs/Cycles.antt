@@ -7,9 +7,11 @@ use Rattle.std.proofs.lemmas.Nat.{mod_below, div-add-mod', div-mul-add, mod-mul-
 use Rattle.kern_rows.specs.Turns.{next_port, next_had}
 use Rattle.streamit_model.specs.Rounds.{cycle, part, place, branch, turn_of}
 
+-- a test of places that holds
 pub if_lt : {A : Type 0} (a b : ℕ) (x y : A) → a < b → (if nat_lt a b then x else y) ≡ x
 if_lt a b x y h = grind arith
 
+-- a test of places that does not
 pub if_ge : {A : Type 0} (a b : ℕ) (x y : A) → b ≤ a → (if nat_lt a b then x else y) ≡ y
 if_ge a b x y h = grind arith
 
@@ -36,6 +38,7 @@ part_below (w ∷ ws) m lt = ⊎_elim
     (λ b. let e = part_other w ws m b in let i = part_below ws (m - w) (omega (arith, lt, b)) in omega (arith, e, i))
     (cases_lt m w)
 
+-- a place is within its part
 pub place_below : (ws : List ℕ) (m : ℕ) → m < cycle ws → place ws m < slice_index_or ws (part ws m) 0
 place_below [] m lt = absurd (omega (arith, lt))
 place_below (w ∷ ws) m lt = ⊎_elim
@@ -55,6 +58,7 @@ next_by s s0 p p0 q q0 d d0 e e0 hs hp hq hd he h = rw (hs, hp, hq, hd, he) h
 abbrev Next : List ℕ → ℕ → Type 0
 Next ws m = NextAt (slice_index_or ws (part ws m) 0) (part ws m) (part ws (m + 1)) (place ws m) (place ws (m + 1))
 
+-- a cycle begins with the first part
 pub starts : (ws : List ℕ) → Positive ws → 0 < cycle ws → (part ws 0 ≡ 0) × (place ws 0 ≡ 0)
 starts [] pos lt = absurd (omega (arith, lt))
 starts (w ∷ ws) pos lt = (part_first w ws 0 pos.0, place_first w ws 0 pos.0)
@@ -112,11 +116,13 @@ stays_in w x lt =
     let e : suc x ≡ x / w * w + (x % w + 1) = (let d = div-add-mod' x w in omega (arith, d)) in
     (ap (λ y. y % w) e ∙ mod-mul-add (x / w) w (x % w + 1) lt, ap (λ y. y / w) e ∙ div-mul-add (x / w) w (x % w + 1) lt)
 
+-- behind the last place of a cycle the next begins
 pub turns_over : (w x : ℕ) → 0 < w → x % w + 1 ≡ w → (suc x % w ≡ 0) × (suc x / w ≡ x / w + 1)
 turns_over w x pos h =
     let e : suc x ≡ (x / w + 1) * w + 0 = (let d = div-add-mod' x w in omega (arith, d, h)) in
     (ap (λ y. y % w) e ∙ mod-mul-add (x / w + 1) w 0 pos, ap (λ y. y / w) e ∙ div-mul-add (x / w + 1) w 0 pos)
 
+-- an item is the last of a cycle or not
 pub cases_cycle : {B : Type 0} (w x : ℕ) → 0 < w → (x % w + 1 < w → B) → (x % w + 1 ≡ w → B) → B
 cases_cycle w x pos f g = ⊎_elim f (λ h. g (let b = mod_below x w pos in omega (arith, h, b))) (cases_lt (x % w + 1) w)
 
@@ -155,12 +161,14 @@ next_turn ws x pos lt =
       if_ge (d + 1) share (d + 1) 0 l.0 ∙ sym z.1 ∙ ap (place ws) (sym s.0),
     ))
 
+-- the turn of the first item
 pub first_turn : (ws : List ℕ) → Positive ws → 0 < cycle ws → (branch ws 0 ≡ 0) × (place ws (0 % cycle ws) ≡ 0)
 first_turn ws pos lt =
     let z = (zero_is (cycle ws) lt).0 in
     let s = starts ws pos lt in
     (ap (part ws) z ∙ s.0, ap (place ws) z ∙ s.1)
 
+-- a cycle has an item
 pub positive_cycle : (ws : List ℕ) (n p : ℕ) → Positive ws → length ws ≡ n → p < n → 0 < cycle ws
 positive_cycle [] n p pos e lt = absurd (omega (arith, e, lt))
 positive_cycle (w ∷ ws) n p pos e lt = let h = pos.0 in omega (arith, h)
@@ -219,12 +227,14 @@ before_other (w ∷ ws) (suc p) m ne = ⊎_elim
 abbrev pub taken : List ℕ → ℕ → ℕ → ℕ
 taken ws p x = x / cycle ws * slice_index_or ws p 0 + before ws p (x % cycle ws)
 
+-- nothing was taken before the first item
 pub taken_none : (ws : List ℕ) (p : ℕ) → 0 < cycle ws → taken ws p 0 ≡ 0
 taken_none ws p lt =
     let d = (zero_is (cycle ws) lt).1 in
     let m = (zero_is (cycle ws) lt).0 in
     ap (λ k. k * slice_index_or ws p 0 + before ws p (0 % cycle ws)) d ∙ ap (λ k. 0 * slice_index_or ws p 0 + before ws p k) m ∙ (let b = before_none ws p in omega (arith, b))
 
+-- what was taken of a branch in turn
 pub taken_here : (ws : List ℕ) (x : ℕ) → 0 < cycle ws → taken ws (branch ws x) x ≡ turn_of ws x
 taken_here ws x lt = ap (λ k. x / cycle ws * slice_index_or ws (branch ws x) 0 + k) (before_here ws (x % cycle ws) (mod_below x (cycle ws) lt))
 
@@ -244,8 +254,10 @@ taken_next ws p x n lt e = cases_cycle (cycle ws) x lt
     ∙ ap (λ k. (x / cycle ws + 1) * slice_index_or ws p 0 + before ws p k) s.0
     ∙ (omega (arith, e, a, b, c)))
 
+-- one more of the branch in turn
 pub taken_same : (ws : List ℕ) (p x : ℕ) → 0 < cycle ws → branch ws x ≡ p → taken ws p (suc x) ≡ taken ws p x + 1
 taken_same ws p x lt e = taken_next ws p x 1 lt (subst (λ k. before ws k (x % cycle ws + 1) ≡ before ws k (x % cycle ws) + 1) e (before_same ws (x % cycle ws) (mod_below x (cycle ws) lt)))
 
+-- no more of the others
 pub taken_other : (ws : List ℕ) (p x : ℕ) → 0 < cycle ws → branch ws x ≢ p → taken ws p (suc x) ≡ taken ws p x
 taken_other ws p x lt ne = taken_next ws p x 0 lt (let e = before_other ws p (x % cycle ws) ne in omega (arith, e)) ∙ (let z : taken ws p x + 0 ≡ taken ws p x = omega arith in z)

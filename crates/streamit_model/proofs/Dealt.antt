@@ -21,12 +21,14 @@ if_ne a b x y h = grind arith
 
 -- COPIES
 
+-- each branch gets a copy
 pub copied : (n p : ℕ) (xs : List item.Item) → p < n → (feed (fire (duplicate n) 0) xs []).outs p ≡ xs
 copied n p [] lt = refl
 copied n p (x ∷ xs) lt = ap (λ l. l ++ (feed (fire (duplicate n) 0) xs []).outs p) (if_lt p n (x ∷ []) [] lt) ∙ ap (λ l. x ∷ l) (copied n p xs lt)
 
 -- TURNS
 
+-- the shares of the weights in a kernel
 pub shares_are : (ws : List ℕ) → shares (weights ws) ≡ ws
 shares_are [] = refl
 shares_are (w ∷ ws) = ap (λ l. w ∷ l) (shares_are ws)
@@ -50,6 +52,7 @@ dealt_from ws p x (y ∷ ys) pos lt =
     ∙ sym (if_ne (branch ws x) p _ _ ne))
     (cases_eq (branch ws x) p)
 
+-- a fed splitter deals as index arithmetic says
 pub deals : (ws : List ℕ) (p : ℕ) (xs : List item.Item) → Positive ws → 0 < cycle ws → (feed (deal_one ws) xs (Turn 0 0 ∷ [])).outs p ≡ dealt ws p xs
 deals ws p xs pos lt =
     let f = first_turn ws pos lt in

@@ -16,6 +16,7 @@ pub record OfEach (P : OpForm → Type 0) : Type 0 where
   pub splits : (d : Splitter) (n k : ℕ) (label from : Name) → IsSplitter d n → IsSmallSplitter d → 0 < n → n ≤ 64 → P (splitter d n label from (queues k n))
   pub joins : (ws : List ℕ) (n k : ℕ) (label to : Name) → IsRound ws n → cycle ws ≤ 65536 → 0 < n → n ≤ 64 → P (joiner ws label (queues k n) to)
 
+-- there is a stream
 pub some_streams : (ss : Streams) → 0 < number_of ss
 some_streams (Last s) = omega arith
 some_streams (Then s ss) = omega arith

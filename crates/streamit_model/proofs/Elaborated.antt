@@ -27,13 +27,16 @@ use Rattle.streamit_model.specs.Elaborate.{Fault, Limit, BranchRates, PeekRange,
 abbrev pub fine : {A : Type 0} → A → Result A Fault
 fine x = Ok x
 
+-- equal answers have equal values
 pub ok_is : {A : Type 0} (x y : A) → fine x ≡ fine y → x ≡ y
 ok_is x y h = cc
 
+-- an answer that went on had a value
 pub ok_parts : {A B : Type 0} (r : Result A Fault) (f : A → Result B Fault) (y : B) → on_ok r f ≡ fine y → (x : A) × (r ≡ Ok x) × (f x ≡ Ok y)
 ok_parts (Ok x) f y h = (x, refl, h)
 ok_parts (Err e) f y h = absurd (cc h)
 
+-- an answer behind a test
 pub if_ok : {A : Type 0} (b : Bool) (x y : A) (e : Fault) → (if b then fine x else Err e) ≡ fine y → (b ≡ true) × (x ≡ y)
 if_ok true x y e h = (refl, ok_is x y h)
 if_ok false x y e h = absurd (cc h)
@@ -42,18 +45,23 @@ if_ok false x y e h = absurd (cc h)
 pub demanded : (b : Bool) (e : Fault) (u : Unit {0}) → demand b e ≡ fine u → b ≡ true
 demanded b e u h = (if_ok b tt u e h).0
 
+-- equal options have equal values
 pub some_is : {A : Type 0} (x y : A) → Some x ≡ Some y → x ≡ y
 some_is x y h = cc
 
+-- the value of a name that was set
 pub at_here : (n m : Name) (z : ℤ) (env : Values) → name_eq n m ≡ true → at_name n z env m ≡ z
 at_here n m z env e = ap (λ b. if b then z else env m) e
 
+-- and of another name
 pub at_other : (n m : Name) (z : ℤ) (env : Values) → name_eq n m ≡ false → at_name n z env m ≡ env m
 at_other n m z env e = ap (λ b. if b then z else env m) e
 
+-- the newest name is found
 pub found_here : (n m : Name) (b : Known) (sc : Scope) → name_eq n m ≡ true → find ((n, b) ∷ sc) m ≡ Some b
 found_here n m b sc e = ap (λ t. if t then Some b else find sc m) e
 
+-- and another name is found as before
 pub found_other : (n m : Name) (b : Known) (sc : Scope) → name_eq n m ≡ false → find ((n, b) ∷ sc) m ≡ find sc m
 found_other n m b sc e = ap (λ t. if t then Some b else find sc m) e
 
@@ -82,9 +90,11 @@ Keeps sc sc' = (n : Name) (b : Known) → find sc n ≡ Some b → find sc' n �
 agrees_within : (sc sc' : Scope) (env : Values) (mem : List ℤ) → Keeps sc sc' → Agrees sc' env mem → Agrees sc env mem
 agrees_within sc sc' env mem k a = record { each = λ n b f. a.each n b (k n b f) }
 
+-- more slots are as sound
 pub more_slots : (sc : Scope) (m n : ℕ) → m ≤ n → IsSound sc m → IsSound sc n
 more_slots sc m n le s = record { below = λ x i f. let b = s.below x i f in omega (arith, b, le); apart = s.apart }
 
+-- a new name hides nothing
 pub keeps_new : (n : Name) (b : Known) (sc : Scope) → find sc n ≡ None → Keeps sc ((n, b) ∷ sc)
 keeps_new n b sc new m c f = ⊎_elim
     (λ e. absurd (none_some (find sc m) c (subst (λ x. find sc x ≡ None) e.0 new) f))
@@ -97,6 +107,7 @@ var_is i j h = cc
 turn_var : (v j : ℕ) → Some (Turn v) ≡ Some (Var j) → ⊥
 turn_var v j h = cc h
 
+-- a new slot is one name's
 pub sound_var : (n : Name) (sc : Scope) (slots : ℕ) → IsSound sc slots → IsSound ((n, Var slots) ∷ sc) (slots + 1)
 sound_var n sc slots s = record {
   below = λ m i f. ⊎_elim
@@ -271,6 +282,7 @@ counted_room s f y h =
     below : nat_lt s.size 16384 ≡ true → s.size < 16384
     below e = grind (arith, e)
 
+-- a name that is new is not known
 pub new_is : (o : Option Known) (u : Unit {0}) → is_new o ≡ Ok u → o ≡ None
 new_is None u h = refl
 new_is (Some b) u h = absurd (cc h)
@@ -291,6 +303,7 @@ Grown f = (s : At) (y : Steps × At) → f s ≡ Ok y → Grows s y.1
 unfoldable pub turning : Name → ℕ → At → At
 turning n v s = record s { scope = (n, Turn v) ∷ s.scope; size = s.size + 1 }
 
+-- a turn begins
 pub grows_turn : (n : Name) (v : ℕ) (s : At) → find s.scope n ≡ None → Grows s (turning n v s)
 unfolding turning
 grows_turn n v s new = record { slots = omega arith; keeps = keeps_new n (Turn v) s.scope new; sound = λ h. sound_turn n v s.scope s.slots h }
@@ -304,6 +317,7 @@ pub record Turned (block : At → Read) (n : Name) (v : ℕ) (vs : List ℕ) (s 
   pub others_is : unrolled block n vs (left s first.1) ≡ Ok others
   pub is : y ≡ (joined first.0 others.0, others.1)
 
+-- the parts of a turn that was read
 pub turned : (block : At → Read) (n : Name) (v : ℕ) (vs : List ℕ) (s : At) (y : Steps × At) → unrolled block n (v ∷ vs) s ≡ Ok y → Turned block n v vs s y
 unfolding left one_more turning
 turned block n v vs s y h =
@@ -312,6 +326,7 @@ turned block n v vs s y h =
     let q = ok_parts (unrolled block n vs (record p.0.1 { scope = s.scope })) (λ b. Ok (joined p.0.0 b.0, b.1)) y p.2 in
     record { room = counted_room s (λ t. on_ok (block (record t { scope = (n, Turn v) ∷ s.scope })) (λ a. on_ok (unrolled block n vs (record a.1 { scope = s.scope })) (λ b. Ok (joined a.0 b.0, b.1)))) y h; first = p.0; others = q.0; first_is = p.1; others_is = q.1; is = sym (ok_is (joined p.0.0 q.0.0, q.0.1) y q.2) }
 
+-- turns were read
 pub unrolled_grows : (block : At → Read) → Grown block → (n : Name) (vs : List ℕ) (s : At) (y : Steps × At) → find s.scope n ≡ None → unrolled block n vs s ≡ Ok y → Grows s y.1
 unfolding left
 unrolled_grows block g n [] s y new h = grows_same s y.1 (ap (λ r. r.1.scope) (ok_is (Done, s) y h)) (ap (λ r. r.1.slots) (ok_is (Done, s) y h))
@@ -337,6 +352,7 @@ unfolding one_more
 first_more e None s = refl
 first_more e (Some t) s = refl
 
+-- of a declaration
 pub declared_parts : (e : ℕ) (n : Name) (t : Option Spoken) (s : At) (y : Steps × At) → step_of e (Declare n t) s ≡ Ok y → Declared e n t s y
 unfolding one_more
 declared_parts e n t s y h =
@@ -364,6 +380,7 @@ pub record Assigned (e : ℕ) (n : Name) (t : Spoken) (s : At) (y : Steps × At)
   pub value_is : term_of e s.scope t s.popped ≡ Ok value
   pub is : y ≡ (one_step (steps.Set slot value), record s { popped = s.popped + pops t; size = s.size + 1 })
 
+-- of an assignment
 pub assigned_parts : (e : ℕ) (n : Name) (t : Spoken) (s : At) (y : Steps × At) → step_of e (Assign n t) s ≡ Ok y → Assigned e n t s y
 unfolding one_more
 assigned_parts e n t s y h =
@@ -378,6 +395,7 @@ pub record Pushed (e : ℕ) (t : Spoken) (s : At) (y : Steps × At) : Type 0 whe
   pub value_is : term_of e s.scope t s.popped ≡ Ok value
   pub is : y ≡ (one_step (steps.Push 0 (value ∷ [])), record s { popped = s.popped + pops t; pushed = s.pushed + 1; size = s.size + 1 })
 
+-- of a push
 pub pushed_parts : (e : ℕ) (t : Spoken) (s : At) (y : Steps × At) → step_of e (Push t) s ≡ Ok y → Pushed e t s y
 unfolding one_more
 pushed_parts e t s y h =
@@ -405,6 +423,7 @@ pub record Forked (e : ℕ) (t : Spoken) (a b : Block) (s : At) (y : Steps × At
   pub pushed : one.1.pushed ≡ two.1.pushed
   pub is : y ≡ (one_step (steps.If test one.0 two.0), left s two.1)
 
+-- of an `if`
 pub forked_parts : (e : ℕ) (t : Spoken) (a b : Block) (s : At) (y : Steps × At) → step_of e (If t a b) s ≡ Ok y → Forked e t a b s y
 unfolding one_more left at_arm at_second
 forked_parts e t a b s y h =
@@ -428,6 +447,7 @@ pub record Looped (e : ℕ) (n : Name) (low : Spoken) (upto : Bool) (high : Spok
   pub last_is : constant s.scope high ≡ Ok last
   pub is : unrolled (steps_of e b) n (turns_between first upto last) s ≡ Ok y
 
+-- of a loop
 pub looped_parts : (e : ℕ) (n : Name) (low : Spoken) (upto : Bool) (high : Spoken) (b : Block) (s : At) (y : Steps × At) → step_of e (For n low upto high b) s ≡ Ok y → Looped e n low upto high b s y
 looped_parts e n low upto high b s y h =
     let f4 = λ (l m : ℕ). unrolled (steps_of e b) n (numbers l (m + (if upto then 1 else 0) - l)) s in
@@ -455,6 +475,7 @@ pub record Followed (e : ℕ) (c : Statement) (b : Block) (s : At) (y : Steps ×
   pub others_is : steps_of e b first.1 ≡ Ok others
   pub is : y ≡ (joined first.0 others.0, others.1)
 
+-- of a block
 pub followed_parts : (e : ℕ) (c : Statement) (b : Block) (s : At) (y : Steps × At) → steps_of e (Then c b) s ≡ Ok y → Followed e c b s y
 followed_parts e c b s y h =
     let p = ok_parts (step_of e c s) (λ p. on_ok (steps_of e b p.1) (λ q. Ok (joined p.0 q.0, q.1))) y h in

@@ -32,6 +32,7 @@ good x = Ok x
 abbrev pub behind : Steps → Read → Read
 behind a r = on_ok r (λ q. Ok (joined a q.0, q.1))
 
+-- behind nothing
 pub behind_none : (r : Read) → behind Done r ≡ r
 behind_none (Ok q) = refl
 behind_none (Err f) = refl
@@ -44,14 +45,17 @@ joined-done : (a : Steps) → joined a Done ≡ a
 joined-done Done = refl
 joined-done (steps.Then s a) = ap (steps.Then s) (joined-done a)
 
+-- lists of statements one behind the other
 pub joined-in_turn : (xs ys : List Step) → joined (in_turn xs) (in_turn ys) ≡ in_turn (xs ++ ys)
 joined-in_turn [] ys = refl
 joined-in_turn (x ∷ xs) ys = ap (steps.Then x) (joined-in_turn xs ys)
 
+-- behind two lists
 pub behind_both : (a b : Steps) (r : Read) → behind a (behind b r) ≡ behind (joined a b) r
 behind_both a b (Ok q) = ap (λ s. Ok (s, q.1)) (sym (joined-assoc a b q.0))
 behind_both a b (Err f) = refl
 
+-- where nothing is left
 pub behind_done : (a : Steps) (s : At) → behind a (Ok (Done, s)) ≡ Ok (a, s)
 behind_done a s = ap (λ t. Ok (t, s)) (joined-done a)
 
@@ -73,6 +77,7 @@ pub record TurnsSoFar (e : ℕ) (b : source.Block) (n : Name) (low v end : ℕ) 
   pub all_is : unrolled (steps_of e b) n (numbers low (end - low)) (at_of first) ≡ behind (in_turn (map step added)) (unrolled (steps_of e b) n (numbers v (end - v)) (at_of now))
   pub names : now.names.items.items ≡ first.names.items.items
 
+-- a front of a front
 pub prefix_trans : {A : Type 0} (xs ys zs : List A) → take (length xs) ys ≡ xs → take (length ys) zs ≡ ys → take (length xs) zs ≡ xs
 prefix_trans [] ys zs p q = refl
 prefix_trans (x ∷ xs) [] zs p q = absurd (cc p)
@@ -82,9 +87,11 @@ prefix_trans (x ∷ xs) (y ∷ ys) (z ∷ zs) p q =
     let q0 : z ≡ y = cc in let q1 : take (length ys) zs ≡ ys = cc in
     ap (λ w. w ∷ take (length xs) zs) (q0 ∙ p0) ∙ ap (λ l. x ∷ l) (prefix_trans xs ys zs p1 q1)
 
+-- the elements from a place on
 pub at_place : {X Y : Type 0} (f : X → Y) (items : List X) (i : ℕ) (s : X) → i < length items → s ≡ get_or items i s → map f (drop i items) ≡ f s ∷ map f (drop (i + 1) items)
 at_place f items i s lt e = ap (map f) (drop-cons items i s lt ∙ ap (λ x. x ∷ drop (suc i) items) (sym e) ∙ ap (λ k. s ∷ drop k items) (sym (add-one i)))
 
+-- behind the last place there is none
 pub none_left : {X Y : Type 0} (f : X → Y) (items : List X) (i : ℕ) → length items ≤ i → map f (drop i items) ≡ []
 none_left f items i h = ap (map f) (drop_all i items h)
 
@@ -106,6 +113,7 @@ steps_ok e c rest s a s' h = ap (λ r. on_ok r (λ p. on_ok (steps_of e rest p.1
 steps_err : (e : ℕ) (c : source.Statement) (rest : source.Block) (s : At) (g : Fault) → step_of e c s ≡ Err g → steps_of e (source.Then c rest) s ≡ Err g
 steps_err e c rest s g h = ap (λ r. on_ok r (λ p. on_ok (steps_of e rest p.1) (λ q. Ok (joined p.0 q.0, q.1)))) h
 
+-- one statement more
 pub block_next : (e : ℕ) (all : List source.Statement) (c : source.Statement) (rest : List source.Statement) (first now next : Unroller) (out out' out'' : Stmts) → BlockSoFar e all (c ∷ rest) first now out out' → Reads (Ok tt) out' out'' now next (step_of e c (at_of now)) → BlockSoFar e all rest first next out out''
 block_next e all c rest first now next out out' out'' f r = record {
   added = f.added ++ r.0;
@@ -119,11 +127,13 @@ block_next e all c rest first now next out out' out'' f r = record {
   written = f.written.1;
 }
 
+-- a statement that is refused
 pub block_err : (e : ℕ) (all : List source.Statement) (c : source.Statement) (rest : List source.Statement) (first now next x y : Unroller) (out out' out'' o n : Stmts) (result : Result (Unit {0}) fault.Fault) (f : fault.Fault) → result ≡ Err f → BlockSoFar e all (c ∷ rest) first now out out' → Reads (Err f) out' out'' now next (step_of e c (at_of now)) → Reads result o n x y (steps_of e (view.in_turn all) (at_of first))
 block_err e all c rest first now next x y out out' out'' o n result f is s r =
     subst (λ t. Reads t o n x y (steps_of e (view.in_turn all) (at_of first))) (sym is)
     (tells_more f (step_of e c (at_of now)) (steps_of e (view.in_turn all) (at_of first)) (λ g h. s.all_is ∙ ap (behind (in_turn (map step s.added))) (steps_err e c (view.in_turn rest) (at_of now) g h)) r)
 
+-- all statements
 pub block_end : (e : ℕ) (all : List source.Statement) (first now : Unroller) (out out' : Stmts) → BlockSoFar e all [] first now out out' → Reads (Ok tt) out out' first now (steps_of e (view.in_turn all) (at_of first))
 block_end e all first now out out' f = (f.added, f.grew, f.all_is ∙ behind_done (in_turn (map step f.added)) (at_of now), f.keeps)
 
@@ -150,9 +160,11 @@ turns_err block n v vs s g h = unrolled-turn block n v vs s ∙ ap (λ r. on_ok 
 numbers_more : (v end : ℕ) → v < end → numbers v (end - v) ≡ v ∷ numbers (v + 1) (end - (v + 1))
 numbers_more v end lt = ap (numbers v) (let e : end - v ≡ suc (end - (v + 1)) = omega (arith, lt) in e) ∙ ap (λ k. v ∷ numbers k (end - (v + 1))) (let e : suc v ≡ v + 1 = omega arith in e)
 
+-- before the first turn
 pub turns_start : (e : ℕ) (b : source.Block) (n : Name) (low end : ℕ) (first : Unroller) (out : Stmts) → TurnsSoFar e b n low low end first first out out
 turns_start e b n low end first out = record { added = []; grew = sym (append-nil (statements out)); all_is = sym (behind_none (unrolled (steps_of e b) n (numbers low (end - low)) (at_of first))); names = refl }
 
+-- one turn more
 pub turns_next : (e : ℕ) (b : source.Block) (n : Name) (low v end : ℕ) (first now next : Unroller) (out out' out'' : Stmts) → v < end → TurnsSoFar e b n low v end first now out out' → ReadsTurn (Ok tt) out' out'' now next (turn_of (steps_of e b) n v (at_of now)) → TurnsSoFar e b n low (v + 1) end first next out out''
 turns_next e b n low v end first now next out out' out'' lt f r = record {
   added = f.added ++ r.0;
@@ -167,6 +179,7 @@ turns_next e b n low v end first now next out out' out'' lt f r = record {
   names = r.3 ∙ f.names;
 }
 
+-- a turn that is refused
 pub turns_fault : (e : ℕ) (b : source.Block) (n : Name) (low v end : ℕ) (first now next x y : Unroller) (out out' out'' o k : Stmts) (whole : Read) (result : Result (Unit {0}) fault.Fault) (f : fault.Fault) → result ≡ Err f → v < end → whole ≡ unrolled (steps_of e b) n (numbers low (end - low)) (at_of first) → TurnsSoFar e b n low v end first now out out' → ReadsTurn (Err f) out' out'' now next (turn_of (steps_of e b) n v (at_of now)) → Reads result o k x y whole
 turns_fault e b n low v end first now next x y out out' out'' o k whole result f is lt w s r =
     subst (λ t. Reads t o k x y whole) (sym is)
@@ -174,6 +187,7 @@ turns_fault e b n low v end first now next x y out out' out'' o k whole result f
     (λ g h. w ∙ s.all_is ∙ ap (λ vs. behind (in_turn (map step s.added)) (unrolled (steps_of e b) n vs (at_of now))) (numbers_more v end lt) ∙ ap (behind (in_turn (map step s.added))) (turns_err (steps_of e b) n v (numbers (v + 1) (end - (v + 1))) (at_of now) g h))
     r)
 
+-- all turns
 pub turns_end : (e : ℕ) (b : source.Block) (n : Name) (low v end : ℕ) (first now : Unroller) (out out' : Stmts) (whole : Read) → end ≤ v → whole ≡ unrolled (steps_of e b) n (numbers low (end - low)) (at_of first) → TurnsSoFar e b n low v end first now out out' → Reads (Ok tt) out out' first now whole
 turns_end e b n low v end first now out out' whole le w f = (
   f.added,
@@ -261,5 +275,6 @@ if_read e t a b s s1 m1 m2 la lb cond k f g hc ht hk ha em1 hb em2 p q =
     ∙ ap (λ l. good (one_step (steps.If cond f g), record lb { scope = l })) (sym (ap (λ (m : At). m.scope) em1))
     ∙ ap (λ m. good (one_step (steps.If cond f g), m)) (sym em2)
 
+-- a list that did not change keeps its front
 pub kept_by : {A : Type 0} (xs ys : List A) → ys ≡ xs → take (length xs) ys ≡ xs
 kept_by xs ys e = ap (take (length xs)) e ∙ take_all (length xs) xs (omega arith)
