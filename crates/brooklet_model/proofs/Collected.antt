@@ -27,7 +27,8 @@ put_all (e ∷ es) s = put_all es (put e.0 e.1 s)
 abbrev settle : List ℕ → Turns → List item.Item × Turns
 settle ws s = settled itself ws s
 
-runs_settle : (ws : List ℕ) (es : Word) (s : Turns) → (settle ws s).0 ++ (run (join_one itself ws) es (Joining (settle ws s).1 ∷ [])).outs 0 ≡ (settle ws (put_all es s)).0
+runs_settle : (ws : List ℕ) (es : Word) (s : Turns)
+    → (settle ws s).0 ++ (run (join_one itself ws) es (Joining (settle ws s).1 ∷ [])).outs 0 ≡ (settle ws (put_all es s)).0
 runs_settle ws [] s = append-nil (settle ws s).0
 runs_settle ws (e ∷ es) s =
     let u = (settle ws s).1 in
@@ -56,7 +57,8 @@ put_word : (p : ℕ) (xs : List item.Item) (es : Word) (s : Turns) → put_all (
 put_word p [] es s = ap (λ ls. put_all es (with_lists s ls)) (sym (append_at-nil s.lists p))
 put_word p (x ∷ xs) es s = put_word p xs es (put p x s) ∙ ap (λ ls. put_all es (with_lists s ls)) (append_at-append s.lists p (x ∷ []) xs)
 
-put_order : (n q : ℕ) (g : ℕ → List item.Item) (base : List (List item.Item)) (s : Turns) → s.lists ≡ each_grew base (upto q g) → put_all (port_by_port n q g) s ≡ with_lists s (each_grew base (upto (q + n) g))
+put_order : (n q : ℕ) (g : ℕ → List item.Item) (base : List (List item.Item)) (s : Turns) → s.lists ≡ each_grew base (upto q g)
+    → put_all (port_by_port n q g) s ≡ with_lists s (each_grew base (upto (q + n) g))
 put_order zero q g base s e = ap (with_lists s) e ∙ ap (λ k. with_lists s (each_grew base (upto k g))) (let z : q ≡ q + 0 = omega arith in z)
 put_order (suc n) q g base s e =
     let grown : append_at s.lists q (g q) ≡ each_grew base (upto (suc q) g) = ap (λ l. append_at l q (g q)) e ∙ append_at-upto base g q ∙ ap (λ k. each_grew base (upto k g)) (let z : q + 1 ≡ suc q = omega arith in z) in
@@ -75,7 +77,8 @@ blanks_few : (n : ℕ) → length (replicate n no_items) ≤ 0 + n
 blanks_few n = let l = length-replicate n no_items in omega (arith, l)
 
 -- fed in the order of the ports, a joiner gives what passes when all lists are there
-pub fed_joins : (ws : List ℕ) (n : ℕ) (g : ℕ → List item.Item) → (run (join_one itself ws) (port_by_port n 0 g) (Joining (turns_start n) ∷ [])).outs 0 ≡ (settle ws (with_lists (turns_start n) (each_grew (replicate n []) g))).0
+pub fed_joins : (ws : List ℕ) (n : ℕ) (g : ℕ → List item.Item)
+    → (run (join_one itself ws) (port_by_port n 0 g) (Joining (turns_start n) ∷ [])).outs 0 ≡ (settle ws (with_lists (turns_start n) (each_grew (replicate n []) g))).0
 fed_joins ws n g =
     let s = turns_start n in
     let empty : settle ws s ≡ ([], s) = ap (λ k. drain (front_of itself) (passed ws) k s) (no_waiting n) in
@@ -131,7 +134,8 @@ pub cases_list : {A B : Type 0} (l : List A) → (l ≡ [] → B) → ((y : A) (
 cases_list [] f g = f refl
 cases_list (y ∷ ys) f g = g y ys refl
 
-pub left_next : (ws : List ℕ) (ls rs : List (List item.Item)) (x : ℕ) (y : item.Item) (ys : List item.Item) → 0 < cycle ws → IsLeft ws ls rs x → list_at rs (branch ws x) ≡ y ∷ ys → IsLeft ws ls (rest_at rs (branch ws x)) (suc x)
+pub left_next : (ws : List ℕ) (ls rs : List (List item.Item)) (x : ℕ) (y : item.Item) (ys : List item.Item) → 0 < cycle ws → IsLeft ws ls rs x
+    → list_at rs (branch ws x) ≡ y ∷ ys → IsLeft ws ls (rest_at rs (branch ws x)) (suc x)
 left_next ws ls rs x y ys lt left e = record {
   each = λ p. ⊎_elim
       (λ h.
@@ -145,7 +149,8 @@ left_next ws ls rs x y ys lt left e = record {
 abbrev at_turn : List ℕ → ℕ → List (List item.Item) → Turns
 at_turn ws x rs = record { port = branch ws x; had = within ws (x % cycle ws); lists = rs }
 
-next_is : (ws : List ℕ) (x : ℕ) (rs : List (List item.Item)) → Positive ws → 0 < cycle ws → passed ws (at_turn ws x rs) ≡ at_turn ws (suc x) (rest_at rs (branch ws x))
+next_is : (ws : List ℕ) (x : ℕ) (rs : List (List item.Item)) → Positive ws → 0 < cycle ws
+    → passed ws (at_turn ws x rs) ≡ at_turn ws (suc x) (rest_at rs (branch ws x))
 next_is ws x rs pos lt =
     let n = next_turn ws x pos lt in
     ap (λ a. turns a (next_had ws (branch ws x) (within ws (x % cycle ws)))) n.0 ∙ ap (turns (branch ws (suc x))) n.1
@@ -153,7 +158,8 @@ next_is ws x rs pos lt =
     turns : ℕ → ℕ → Turns
     turns a b = record { port = a; had = b; lists = rest_at rs (branch ws x) }
 
-passes_front : (ws : List ℕ) (ls rs : List (List item.Item)) (n x : ℕ) → Positive ws → 0 < cycle ws → IsLeft ws ls rs x → (drain (front_of itself) (passed ws) n (at_turn ws x rs)).0 ≡ index.front_of (item_at ws ls) n x
+passes_front : (ws : List ℕ) (ls rs : List (List item.Item)) (n x : ℕ) → Positive ws → 0 < cycle ws → IsLeft ws ls rs x
+    → (drain (front_of itself) (passed ws) n (at_turn ws x rs)).0 ≡ index.front_of (item_at ws ls) n x
 passes_front ws ls rs zero x pos lt left = refl
 passes_front ws ls rs (suc n) x pos lt left =
     let s = at_turn ws x rs in
@@ -173,7 +179,8 @@ pub waiting_is : (ls : List (List item.Item)) → waiting ls ≡ size_of ls
 waiting_is [] = refl
 waiting_is (l ∷ ls) = ap (λ n. length l + n) (waiting_is ls)
 
-pub settles : (ws : List ℕ) (ls : List (List item.Item)) → Positive ws → 0 < cycle ws → (settled itself ws (record { port = 0; had = 0; lists = ls })).0 ≡ collected ws ls
+pub settles : (ws : List ℕ) (ls : List (List item.Item)) → Positive ws → 0 < cycle ws
+    → (settled itself ws (record { port = 0; had = 0; lists = ls })).0 ≡ collected ws ls
 settles ws ls pos lt =
     let f = first_turn ws pos lt in
     let go = λ (a b : ℕ). (drain (front_of itself) (passed ws) (waiting ls) (record { port = a; had = b; lists = ls })).0 in

@@ -121,7 +121,8 @@ zero_is w pos =
     (ap (λ y. y % w) e ∙ mod-mul-add 0 w 0 pos, ap (λ y. y / w) e ∙ div-mul-add 0 w 0 pos)
 
 -- the port in turn, and how many items it had, when item x comes
-pub next_turn : (ws : List ℕ) (x : ℕ) → Positive ws → 0 < cycle ws → (next_port ws (branch ws x) (within ws (x % cycle ws)) ≡ branch ws (suc x)) × (next_had ws (branch ws x) (within ws (x % cycle ws)) ≡ within ws (suc x % cycle ws))
+pub next_turn : (ws : List ℕ) (x : ℕ) → Positive ws → 0 < cycle ws
+    → (next_port ws (branch ws x) (within ws (x % cycle ws)) ≡ branch ws (suc x)) × (next_had ws (branch ws x) (within ws (x % cycle ws)) ≡ within ws (suc x % cycle ws))
 next_turn ws x pos lt =
     let w = cycle ws in
     let m = x % w in

@@ -14,7 +14,8 @@ use Rattle.brooklet_model.proofs.Cycles.{Positive, next_turn, first_turn}
 -- TURNS
 
 -- an item that comes at the turn of item x, and those after it
-pub dealt_from : (ws : List ℕ) (p x : ℕ) (xs : List item.Item) → Positive ws → 0 < cycle ws → (feed (deal_one ws) xs (Turn (branch ws x) (within ws (x % cycle ws)) ∷ [])).outs p ≡ picked (λ y. nat_eq (branch ws y) p) x xs
+pub dealt_from : (ws : List ℕ) (p x : ℕ) (xs : List item.Item) → Positive ws → 0 < cycle ws
+    → (feed (deal_one ws) xs (Turn (branch ws x) (within ws (x % cycle ws)) ∷ [])).outs p ≡ picked (λ y. nat_eq (branch ws y) p) x xs
 dealt_from ws p x [] pos lt = refl
 dealt_from ws p x (y ∷ ys) pos lt =
     let n = next_turn ws x pos lt in

@@ -13,7 +13,8 @@ cases_option : {A B : Type 0} (o : Option A) → (o ≡ None → B) → ((x : A)
 cases_option None f g = f refl
 cases_option (Some x) f g = g x refl
 
-more_is : {A : Type 0} (f : ℕ → Option A) (o : Option A) (ys : List A) (x i : ℕ) → f x ≡ o → ((j : ℕ) → j < length ys → slice_get ys j ≡ f (suc x + j)) → i < length (and_more o ys) → slice_get (and_more o ys) i ≡ f (x + i)
+more_is : {A : Type 0} (f : ℕ → Option A) (o : Option A) (ys : List A) (x i : ℕ) → f x ≡ o → ((j : ℕ) → j < length ys → slice_get ys j ≡ f (suc x + j))
+    → i < length (and_more o ys) → slice_get (and_more o ys) i ≡ f (x + i)
 more_is f None ys x i e h lt = absurd (omega (arith, lt))
 more_is f (Some y) ys x zero e h lt = sym e ∙ ap f (let z : x ≡ x + 0 = omega arith in z)
 more_is f (Some y) ys x (suc i) e h lt = h i (omega (arith, lt)) ∙ ap f (let z : suc x + i ≡ x + suc i = omega arith in z)
@@ -23,20 +24,23 @@ front_is : {A : Type 0} (f : ℕ → Option A) (n x i : ℕ) → i < length (fro
 front_is f zero x i lt = absurd (omega (arith, lt))
 front_is f (suc n) x i lt = more_is f (f x) (front_of f n (suc x)) x i refl (λ j lj. front_is f n (suc x) j lj) lt
 
-here_is : (ws : List ℕ) (ls rs : List (List item.Item)) (x : ℕ) → 0 < cycle ws → IsLeft ws ls rs x → list_at rs (branch ws x) ≡ drop (number_at ws x) (list_at ls (branch ws x))
+here_is : (ws : List ℕ) (ls rs : List (List item.Item)) (x : ℕ) → 0 < cycle ws → IsLeft ws ls rs x
+    → list_at rs (branch ws x) ≡ drop (number_at ws x) (list_at ls (branch ws x))
 here_is ws ls rs x lt left = left.each (branch ws x) ∙ ap (λ k. drop k (list_at ls (branch ws x))) (taken_here ws x lt)
 
 stops : {A : Type 0} (f : ℕ → Option A) (n x : ℕ) → f x ≡ None → front_of f n x ≡ []
 stops f zero x e = refl
 stops f (suc n) x e = ap (λ o. and_more o (front_of f n (suc x))) e
 
-stopped : (ws : List ℕ) (ls rs : List (List item.Item)) (n x : ℕ) → 0 < cycle ws → IsLeft ws ls rs x → list_at rs (branch ws x) ≡ [] → item_at ws ls (x + length (front_of (item_at ws ls) n x)) ≡ None
+stopped : (ws : List ℕ) (ls rs : List (List item.Item)) (n x : ℕ) → 0 < cycle ws → IsLeft ws ls rs x → list_at rs (branch ws x) ≡ []
+    → item_at ws ls (x + length (front_of (item_at ws ls) n x)) ≡ None
 stopped ws ls rs n x lt left e =
     let gone = got_none (list_at ls (branch ws x)) (number_at ws x) (sym (here_is ws ls rs x lt left) ∙ e) in
     ap (λ l. item_at ws ls (x + length l)) (stops (item_at ws ls) n x gone) ∙ ap (item_at ws ls) (let z : x + 0 ≡ x = omega arith in z) ∙ gone
 
 -- with a turn for each item that is left, the items go on until one is missing
-ends : (ws : List ℕ) (ls rs : List (List item.Item)) (n x : ℕ) → 0 < cycle ws → IsLeft ws ls rs x → waiting rs ≤ n → item_at ws ls (x + length (front_of (item_at ws ls) n x)) ≡ None
+ends : (ws : List ℕ) (ls rs : List (List item.Item)) (n x : ℕ) → 0 < cycle ws → IsLeft ws ls rs x → waiting rs ≤ n
+    → item_at ws ls (x + length (front_of (item_at ws ls) n x)) ≡ None
 ends ws ls rs zero x lt left le = cases_list (list_at rs (branch ws x))
     (stopped ws ls rs zero x lt left)
     (λ y ys e. absurd (some_none (sym (front_at_some rs (branch ws x) y ys e) ∙ stuck_at itself rs (branch ws x) (omega (arith, le)))))

@@ -17,7 +17,8 @@ splice_second at n f g p ge lt = if_ge p at (f p) _ ge ∙ if_lt (p - at) n (g (
 pub splice_last : {A : Type 0} (at n : ℕ) (f g : ℕ → A) (p : ℕ) → at ≤ p → n ≤ p - at → splice at n f g p ≡ f (p - n + 1)
 splice_last at n f g p ge le = if_ge p at (f p) _ ge ∙ if_ge (p - at) n (g (p - at)) (f (p - n + 1)) le
 
-splice_next : {A : Type 0} (at n : ℕ) (f g : ℕ → A) (p : ℕ) → splice at n (λ j. f (suc j)) g p ≡ splice (suc at) n f g (suc p)
+-- splicing behind the first port
+pub splice_next : {A : Type 0} (at n : ℕ) (f g : ℕ → A) (p : ℕ) → splice at n (λ j. f (suc j)) g p ≡ splice (suc at) n f g (suc p)
 splice_next at n f g p = ⊎_elim
     (λ lt. splice_first at n (λ j. f (suc j)) g p lt ∙ sym (splice_first (suc at) n f g (suc p) (omega (arith, lt))))
     (λ ge.

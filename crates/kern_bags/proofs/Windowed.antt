@@ -1,5 +1,5 @@
 -- What a window has of the batches that came.
-use Rattle.std.proofs.Common.{◌≡◌, ℕ, zero, suc, ◌+◌, ◌-◌, ◌≤ℤ◌, ◌-ℤ◌, ℤ, pos, Bool, true, false, cond, List, [], ◌∷◌, ◌++◌, length, map, filter, fold, take, drop, refl, sym, ap, ◌∙◌, arith}
+use Rattle.std.proofs.Common.{◌⊎◌, inl, inr, ⊎_elim, ◌<ℤ◌, ◌≤◌, ◌≡◌, ℕ, zero, suc, ◌+◌, ◌-◌, ◌≤ℤ◌, ◌-ℤ◌, ℤ, pos, Bool, true, false, cond, List, [], ◌∷◌, ◌++◌, length, map, filter, fold, take, drop, refl, sym, ap, ◌∙◌, arith}
 use Rattle.std.specs.Prelude.{⊤, count_by, sum_by, flat_map, int_lt, int_le, ◌&&◌, Contains}
 use Rattle.std.specs.List.{AllByRecursion}
 use Rattle.std.specs.Ordering.{int_eq}
@@ -11,7 +11,7 @@ use Rattle.river_base.specs.declared.item.Batch.{Batch}
 use Rattle.river_base.proofs.Counts.{count_pass, bag_from_permutation}
 use Rattle.river_base.proofs.Rows.{in_order_bag}
 use Rattle.kern_bags.specs.Contents.{later, greatest, rows_where, put_batch, by_instant, last_of, in_window, content_of}
-use Rattle.kern_bags.specs.Laws.{lets_pass, ContentsAre, GreatestIsNow, stamp, timed, LatestAre}
+use Rattle.kern_bags.specs.Laws.{lets_pass, ContentsAre, GreatestIsNow, Came, came_at, came, IsLater, LatestAre}
 use Rattle.kern_bags.specs.declared.kernel.Window.TheVariants.{Now, Range, Unbounded, Latest}
 use Rattle.kern_bags.proofs.Copies.{count-append, copies-in_order, sum-cong}
 
@@ -113,105 +113,190 @@ bounded (b ∷ bs) = none_above b.at bs
 
 -- BATCHES BY INSTANT
 
--- the instants climb
-abbrev Climbs : List Batch → Type 0
-Climbs [] = Unit {0}
-Climbs (b ∷ bs) = AllByRecursion (λ (c : Batch). b.at ≤ℤ c.at) bs × Climbs bs
+-- a batch, and the place of its first row
+record Placed : Type 0 where
+  start : ℕ
+  batch : Batch
 
-all_put : (P : Batch → Type 0) (b : Batch) (cs : List Batch) → P b → AllByRecursion P cs → AllByRecursion P (put_batch b cs)
-all_put P b [] p a = (p, tt)
-all_put P b (c ∷ cs) p a = step (int_lt b.at c.at) (all_put P b cs p a.1) where
-  step : (q : Bool) → AllByRecursion P (put_batch b cs) → AllByRecursion P (cond q (b ∷ (c ∷ cs)) (c ∷ put_batch b cs))
-  step true more = (p, a)
+abbrev batch_of : Placed → Batch
+batch_of p = p.batch
+
+abbrev end_of : Placed → ℕ
+end_of p = p.start + length p.batch.rows
+
+abbrev placed : ℕ → List Batch → List Placed
+placed k [] = []
+placed k (b ∷ bs) = record { start = k; batch = b } ∷ placed (k + length b.rows) bs
+
+abbrev put : Placed → List Placed → List Placed
+put p [] = p ∷ []
+put p (q ∷ qs) = cond (int_lt p.batch.at q.batch.at) (p ∷ (q ∷ qs)) (q ∷ put p qs)
+
+abbrev put_all : List Placed → List Placed → List Placed
+put_all done ps = fold (λ done p. put p done) done ps
+
+batches_put : (p : Placed) (qs : List Placed) → map batch_of (put p qs) ≡ put_batch p.batch (map batch_of qs)
+batches_put p [] = refl
+batches_put p (q ∷ qs) = step (int_lt p.batch.at q.batch.at) (batches_put p qs) where
+  step : (b : Bool) → map batch_of (put p qs) ≡ put_batch p.batch (map batch_of qs)
+      → map batch_of (cond b (p ∷ (q ∷ qs)) (q ∷ put p qs)) ≡ cond b (p.batch ∷ (q.batch ∷ map batch_of qs)) (q.batch ∷ put_batch p.batch (map batch_of qs))
+  step true h = refl
+  step false h = ap (λ l. q.batch ∷ l) h
+
+batches_all : (done ps : List Placed) → map batch_of (put_all done ps) ≡ fold (λ done b. put_batch b done) (map batch_of done) (map batch_of ps)
+batches_all done [] = refl
+batches_all done (p ∷ ps) = batches_all (put p done) ps ∙ ap (λ l. fold (λ done b. put_batch b done) l (map batch_of ps)) (batches_put p done)
+
+batches_placed : (k : ℕ) (bs : List Batch) → map batch_of (placed k bs) ≡ bs
+batches_placed k [] = refl
+batches_placed k (b ∷ bs) = ap (λ l. b ∷ l) (batches_placed (k + length b.rows) bs)
+
+-- the batches by instant, each with its place
+abbrev sorted : List Batch → List Placed
+sorted bs = put_all [] (placed 0 bs)
+
+batches_sorted : (bs : List Batch) → map batch_of (sorted bs) ≡ by_instant bs
+batches_sorted bs = batches_all [] (placed 0 bs) ∙ ap (fold (λ done b. put_batch b done) []) (batches_placed 0 bs)
+
+all_put : (P : Placed → Type 0) (p : Placed) (qs : List Placed) → P p → AllByRecursion P qs → AllByRecursion P (put p qs)
+all_put P p [] h a = (h, tt)
+all_put P p (q ∷ qs) h a = step (int_lt p.batch.at q.batch.at) (all_put P p qs h a.1) where
+  step : (b : Bool) → AllByRecursion P (put p qs) → AllByRecursion P (cond b (p ∷ (q ∷ qs)) (q ∷ put p qs))
+  step true more = (h, a)
   step false more = (a.0, more)
 
-farther : (t u : ℤ) (cs : List Batch) → t ≤ℤ u → AllByRecursion (λ (c : Batch). u ≤ℤ c.at) cs → AllByRecursion (λ (c : Batch). t ≤ℤ c.at) cs
-farther t u [] h a = tt
-farther t u (c ∷ cs) h a = (let x = a.0 in omega (arith, ints, x, h), farther t u cs h a.1)
-
-climbs_put : (b : Batch) (cs : List Batch) → Climbs cs → Climbs (put_batch b cs)
-climbs_put b [] h = (tt, tt)
-climbs_put b (c ∷ cs) h = step (int_lt b.at c.at) refl (climbs_put b cs h.1) where
-  step : (q : Bool) → int_lt b.at c.at ≡ q → Climbs (put_batch b cs) → Climbs (cond q (b ∷ (c ∷ cs)) (c ∷ put_batch b cs))
-  step true e more = ((before b.at c.at e, farther b.at c.at cs (before b.at c.at e) h.0), h)
-  step false e more = (all_put (λ (d : Batch). c.at ≤ℤ d.at) b cs (not_before b.at c.at e) h.0, more)
-
-abbrev put_all : List Batch → List Batch → List Batch
-put_all done bs = fold (λ done b. put_batch b done) done bs
-
-climbs_all : (done bs : List Batch) → Climbs done → Climbs (put_all done bs)
-climbs_all done [] h = h
-climbs_all done (b ∷ bs) h = climbs_all (put_batch b done) bs (climbs_put b done h)
-
-all_put_all : (P : Batch → Type 0) (done bs : List Batch) → AllByRecursion P done → AllByRecursion P bs → AllByRecursion P (put_all done bs)
+all_put_all : (P : Placed → Type 0) (done ps : List Placed) → AllByRecursion P done → AllByRecursion P ps → AllByRecursion P (put_all done ps)
 all_put_all P done [] h a = h
-all_put_all P done (b ∷ bs) h a = all_put_all P (put_batch b done) bs (all_put P b done a.0 h) a.1
+all_put_all P done (p ∷ ps) h a = all_put_all P (put p done) ps (all_put P p done a.0 h) a.1
 
--- ROWS WITH THEIR INSTANTS
+all_placed : (t : ℤ) (k : ℕ) (bs : List Batch) → AllByRecursion (λ (c : Batch). c.at ≤ℤ t) bs → AllByRecursion (λ (p : Placed). p.batch.at ≤ℤ t) (placed k bs)
+all_placed t k [] a = tt
+all_placed t k (b ∷ bs) a = (a.0, all_placed t (k + length b.rows) bs a.1)
 
-abbrev stamps : Batch → List (ℤ × List ℤ)
-stamps b = map (stamp b.at) b.rows
+-- the rows of p came before those of q
+abbrev Precedes : Placed → Placed → Type 0
+Precedes p q = (p.batch.at <ℤ q.batch.at) ⊎ ((p.batch.at ≡ q.batch.at) × (end_of p ≤ q.start))
 
-count_put : (test : ℤ × List ℤ → Bool) (b : Batch) (cs : List Batch) → count_by test (timed (put_batch b cs)) ≡ count_by test (timed (b ∷ cs))
-count_put test b [] = refl
-count_put test b (c ∷ cs) = step (int_lt b.at c.at) (count_put test b cs) where
-  step : (q : Bool) → count_by test (timed (put_batch b cs)) ≡ count_by test (timed (b ∷ cs)) → count_by test (timed (cond q (b ∷ (c ∷ cs)) (c ∷ put_batch b cs))) ≡ count_by test (timed (b ∷ (c ∷ cs)))
+abbrev Climbs : List Placed → Type 0
+Climbs [] = Unit {0}
+Climbs (p ∷ ps) = AllByRecursion (Precedes p) ps × Climbs ps
+
+below : (t u : ℤ) → int_lt t u ≡ true → t <ℤ u
+below t u h = grind (arith, h)
+
+farther : (p q : Placed) (rs : List Placed) → p.batch.at <ℤ q.batch.at → AllByRecursion (Precedes q) rs → AllByRecursion (Precedes p) rs
+farther p q [] h a = tt
+farther p q (r ∷ rs) h a = (⊎_elim (λ l. inl (omega (arith, ints, l, h))) (λ e. let same = e.0 in inl (omega (arith, ints, same, h))) a.0, farther p q rs h a.1)
+
+precedes : (q p : Placed) → q.batch.at ≤ℤ p.batch.at → end_of q ≤ p.start → Precedes q p
+precedes q p h l = step (int_lt q.batch.at p.batch.at) refl where
+  step : (b : Bool) → int_lt q.batch.at p.batch.at ≡ b → Precedes q p
+  step true e = inl (below q.batch.at p.batch.at e)
+  step false e = let back = not_before q.batch.at p.batch.at e in inr (omega (arith, ints, back, h), l)
+
+climbs_put : (p : Placed) (qs : List Placed) → AllByRecursion (λ q. end_of q ≤ p.start) qs → Climbs qs → Climbs (put p qs)
+climbs_put p [] a h = (tt, tt)
+climbs_put p (q ∷ qs) a h = step (int_lt p.batch.at q.batch.at) refl (climbs_put p qs a.1 h.1) where
+  step : (b : Bool) → int_lt p.batch.at q.batch.at ≡ b → Climbs (put p qs) → Climbs (cond b (p ∷ (q ∷ qs)) (q ∷ put p qs))
+  step true e more = let l = below p.batch.at q.batch.at e in ((inl l, farther p q qs l h.0), h)
+  step false e more = (all_put (Precedes q) p qs (precedes q p (not_before p.batch.at q.batch.at e) a.0) h.0, more)
+
+ended : (k n : ℕ) (qs : List Placed) → AllByRecursion (λ q. end_of q ≤ k) qs → AllByRecursion (λ q. end_of q ≤ k + n) qs
+ended k n [] a = tt
+ended k n (q ∷ qs) a = (let l = a.0 in omega (arith, l), ended k n qs a.1)
+
+climbs_all : (done : List Placed) (k : ℕ) (bs : List Batch) → AllByRecursion (λ q. end_of q ≤ k) done → Climbs done → Climbs (put_all done (placed k bs))
+climbs_all done k [] a h = h
+climbs_all done k (b ∷ bs) a h =
+    let p : Placed = record { start = k; batch = b } in
+    climbs_all (put p done) (k + length b.rows) bs (all_put (λ q. end_of q ≤ k + length b.rows) p done (omega arith) (ended k (length b.rows) done a)) (climbs_put p done a h)
+
+-- ROWS THAT CAME
+
+abbrev rows_of : Placed → List Came
+rows_of p = came_at p.start p.batch.at p.batch.rows
+
+abbrev all_rows : List Placed → List Came
+all_rows [] = []
+all_rows (p ∷ ps) = rows_of p ++ all_rows ps
+
+came_placed : (k : ℕ) (bs : List Batch) → came k bs ≡ all_rows (placed k bs)
+came_placed k [] = refl
+came_placed k (b ∷ bs) = ap (λ l. came_at k b.at b.rows ++ l) (came_placed (k + length b.rows) bs)
+
+count_put : (test : Came → Bool) (p : Placed) (qs : List Placed) → count_by test (all_rows (put p qs)) ≡ count_by test (all_rows (p ∷ qs))
+count_put test p [] = refl
+count_put test p (q ∷ qs) = step (int_lt p.batch.at q.batch.at) (count_put test p qs) where
+  step : (b : Bool) → count_by test (all_rows (put p qs)) ≡ count_by test (all_rows (p ∷ qs)) → count_by test (all_rows (cond b (p ∷ (q ∷ qs)) (q ∷ put p qs))) ≡ count_by test (all_rows (p ∷ (q ∷ qs)))
   step true h = refl
   step false h =
-      let u = count-append test (stamps c) (timed (put_batch b cs)) in
-      let v = count-append test (stamps b) (timed cs) in
-      let w = count-append test (stamps b) (timed (c ∷ cs)) in
-      let x = count-append test (stamps c) (timed cs) in
+      let u = count-append test (rows_of q) (all_rows (put p qs)) in
+      let v = count-append test (rows_of p) (all_rows qs) in
+      let w = count-append test (rows_of p) (all_rows (q ∷ qs)) in
+      let x = count-append test (rows_of q) (all_rows qs) in
       omega (arith, h, u, v, w, x)
 
-count_put_all : (test : ℤ × List ℤ → Bool) (done bs : List Batch) → count_by test (timed (put_all done bs)) ≡ count_by test (timed done) + count_by test (timed bs)
+count_put_all : (test : Came → Bool) (done ps : List Placed) → count_by test (all_rows (put_all done ps)) ≡ count_by test (all_rows done) + count_by test (all_rows ps)
 count_put_all test done [] = omega arith
-count_put_all test done (b ∷ bs) =
-    let a = count_put_all test (put_batch b done) bs in
-    let c = count_put test b done in
-    let u = count-append test (stamps b) (timed done) in
-    let v = count-append test (stamps b) (timed bs) in
+count_put_all test done (p ∷ ps) =
+    let a = count_put_all test (put p done) ps in
+    let c = count_put test p done in
+    let u = count-append test (rows_of p) (all_rows done) in
+    let v = count-append test (rows_of p) (all_rows ps) in
     omega (arith, a, c, u, v)
 
-count_by_instant : (test : ℤ × List ℤ → Bool) (bs : List Batch) → count_by test (timed bs) ≡ count_by test (timed (by_instant bs))
-count_by_instant test bs = let a = count_put_all test [] bs in omega (arith, a)
+count_sorted : (test : Came → Bool) (bs : List Batch) → count_by test (came 0 bs) ≡ count_by test (all_rows (sorted bs))
+count_sorted test bs = ap (count_by test) (came_placed 0 bs) ∙ (let a = count_put_all test [] (placed 0 bs) in omega (arith, a))
 
-abbrev row_of : ℤ × List ℤ → List ℤ
-row_of e = e.1
+abbrev row_of : Came → List ℤ
+row_of e = e.row
 
-rows_stamped : (t : ℤ) (rows : List (List ℤ)) → map row_of (map (stamp t) rows) ≡ rows
-rows_stamped t [] = refl
-rows_stamped t (r ∷ rs) = ap (λ l. r ∷ l) (rows_stamped t rs)
+rows_came : (k : ℕ) (at : ℤ) (rows : List (List ℤ)) → map row_of (came_at k at rows) ≡ rows
+rows_came k at [] = refl
+rows_came k at (r ∷ rs) = ap (λ l. r ∷ l) (rows_came (k + 1) at rs)
 
-rows_timed : (b : Batch) (bs : List Batch) → map row_of (timed (b ∷ bs)) ≡ b.rows ++ map row_of (timed bs)
-rows_timed b bs = map-append row_of (stamps b) (timed bs) ∙ ap (λ l. l ++ map row_of (timed bs)) (rows_stamped b.at b.rows)
-
-where_all : (t : ℤ) (bs : List Batch) → AllByRecursion (λ (c : Batch). c.at ≤ℤ t) bs → rows_where (λ u. int_le u t) bs ≡ map row_of (timed bs)
+where_all : (t : ℤ) (ps : List Placed) → AllByRecursion (λ (p : Placed). p.batch.at ≤ℤ t) ps → rows_where (λ u. int_le u t) (map batch_of ps) ≡ map row_of (all_rows ps)
 where_all t [] a = refl
-where_all t (b ∷ bs) a =
-    ap (λ q. flat_map (λ (c : Batch). c.rows) (cond q (b ∷ filter (λ (c : Batch). int_le c.at t) bs) (filter (λ (c : Batch). int_le c.at t) bs))) (up_to b.at t a.0)
-    ∙ ap (λ l. b.rows ++ l) (where_all t bs a.1) ∙ sym (rows_timed b bs)
+where_all t (p ∷ ps) a =
+    ap (λ q. flat_map (λ (c : Batch). c.rows) (cond q (p.batch ∷ filter (λ (c : Batch). int_le c.at t) (map batch_of ps)) (filter (λ (c : Batch). int_le c.at t) (map batch_of ps)))) (up_to p.batch.at t a.0)
+    ∙ (λ i. sym (rows_came p.start p.batch.at p.batch.rows) i ++ where_all t ps a.1 i) ∙ sym (map-append row_of (rows_of p) (all_rows ps))
 
--- their instants climb
-abbrev ClimbTimes : List (ℤ × List ℤ) → Type 0
+-- at a later instant, or at the same and at place n or behind
+abbrev IsFrom : ℤ → ℕ → Came → Type 0
+IsFrom at n f = (at <ℤ f.at) ⊎ ((at ≡ f.at) × (n ≤ f.place))
+
+nearer : (at : ℤ) (m n : ℕ) (es : List Came) → n ≤ m → AllByRecursion (IsFrom at m) es → AllByRecursion (IsFrom at n) es
+nearer at m n [] h a = tt
+nearer at m n (e ∷ es) h a = (⊎_elim (λ l. inl l) (λ p. let q = p.1 in inr (p.0, omega (arith, q, h))) a.0, nearer at m n es h a.1)
+
+each_from : (at : ℤ) (n k : ℕ) (t : ℤ) (rows : List (List ℤ)) (rest : List Came) → (at <ℤ t) ⊎ ((at ≡ t) × (n ≤ k)) → AllByRecursion (IsFrom at n) rest → AllByRecursion (IsFrom at n) (came_at k t rows ++ rest)
+each_from at n k t [] rest h a = a
+each_from at n k t (r ∷ rs) rest h a = (h, each_from at n (k + 1) t rs rest (⊎_elim (λ l. inl l) (λ p. let q = p.1 in inr (p.0, omega (arith, q))) h) a)
+
+from_all : (p : Placed) (qs : List Placed) → AllByRecursion (Precedes p) qs → AllByRecursion (IsFrom p.batch.at (end_of p)) (all_rows qs)
+from_all p [] a = tt
+from_all p (q ∷ qs) a = each_from p.batch.at (end_of p) q.start q.batch.at q.batch.rows (all_rows qs) a.0 (from_all p qs a.1)
+
+-- each came later than those before it
+abbrev ClimbTimes : List Came → Type 0
 ClimbTimes [] = Unit {0}
-ClimbTimes (e ∷ es) = AllByRecursion (λ (f : ℤ × List ℤ). e.0 ≤ℤ f.0) es × ClimbTimes es
+ClimbTimes (e ∷ es) = AllByRecursion (λ f. IsLater f e) es × ClimbTimes es
 
-from_stamps : (t u : ℤ) (rows : List (List ℤ)) (rest : List (ℤ × List ℤ)) → t ≤ℤ u → AllByRecursion (λ (f : ℤ × List ℤ). t ≤ℤ f.0) rest → AllByRecursion (λ (f : ℤ × List ℤ). t ≤ℤ f.0) (map (stamp u) rows ++ rest)
-from_stamps t u [] rest h a = a
-from_stamps t u (r ∷ rs) rest h a = (h, from_stamps t u rs rest h a)
+all_later : (e : Came) (es : List Came) → AllByRecursion (IsFrom e.at (e.place + 1)) es → AllByRecursion (λ f. IsLater f e) es
+all_later e [] a = tt
+all_later e (f ∷ fs) a = (⊎_elim (λ l. inl l) (λ p. let q = p.1 in inr (p.0, omega (arith, q))) a.0, all_later e fs a.1)
 
-from_timed : (t : ℤ) (cs : List Batch) → AllByRecursion (λ (c : Batch). t ≤ℤ c.at) cs → AllByRecursion (λ (f : ℤ × List ℤ). t ≤ℤ f.0) (timed cs)
-from_timed t [] a = tt
-from_timed t (c ∷ cs) a = from_stamps t c.at c.rows (timed cs) a.0 (from_timed t cs a.1)
+climb_rows : (k : ℕ) (at : ℤ) (rows : List (List ℤ)) (rest : List Came) → AllByRecursion (IsFrom at (k + length rows)) rest → ClimbTimes rest → ClimbTimes (came_at k at rows ++ rest)
+climb_rows k at [] rest a h = h
+climb_rows k at (r ∷ rs) rest a h = (
+  all_later (record { at = at; place = k; row = r }) (came_at (k + 1) at rs ++ rest)
+      (each_from at (k + 1) (k + 1) at rs rest (inr (refl, omega arith)) (nearer at (k + length (r ∷ rs)) (k + 1) rest (omega arith) a)),
+  climb_rows (k + 1) at rs rest (nearer at (k + length (r ∷ rs)) (k + 1 + length rs) rest (omega arith) a) h,
+)
 
-climb_stamps : (t : ℤ) (rows : List (List ℤ)) (rest : List (ℤ × List ℤ)) → AllByRecursion (λ (f : ℤ × List ℤ). t ≤ℤ f.0) rest → ClimbTimes rest → ClimbTimes (map (stamp t) rows ++ rest)
-climb_stamps t [] rest a h = h
-climb_stamps t (r ∷ rs) rest a h = (from_stamps t t rs rest (omega (arith, ints)) a, climb_stamps t rs rest a h)
-
-climb_timed : (cs : List Batch) → Climbs cs → ClimbTimes (timed cs)
-climb_timed [] h = tt
-climb_timed (c ∷ cs) h = climb_stamps c.at c.rows (timed cs) (from_timed c.at cs h.0) (climb_timed cs h.1)
+climb_all : (ps : List Placed) → Climbs ps → ClimbTimes (all_rows ps)
+climb_all [] h = tt
+climb_all (p ∷ ps) h = climb_rows p.start p.batch.at p.batch.rows (all_rows ps) (from_all p ps h.0) (climb_all ps h.1)
 
 -- THE LATEST
 
@@ -233,34 +318,33 @@ module _ {K : Type 0} where
   count_each [] = refl
   count_each (x ∷ xs) = count_pass (λ y. true) x xs refl ∙ ap suc (count_each xs)
 
-none_later_than : (n : ℕ) (es : List (ℤ × List ℤ)) → ClimbTimes es → AllByRecursion (λ k. AllByRecursion (λ l. l.0 ≤ℤ k.0) (take n es)) (drop n es)
-none_later_than zero es h = trivially es
-none_later_than (suc n) [] h = tt
-none_later_than (suc n) (e ∷ es) h =
-    with_both (λ (k : ℤ × List ℤ). e.0 ≤ℤ k.0) (λ (k : ℤ × List ℤ). AllByRecursion (λ (l : ℤ × List ℤ). l.0 ≤ℤ k.0) (take n es)) (drop n es)
-    (all_drop (λ (k : ℤ × List ℤ). e.0 ≤ℤ k.0) n es h.0) (none_later_than n es h.1)
+later_than : (n : ℕ) (es : List Came) → ClimbTimes es → AllByRecursion (λ k. AllByRecursion (IsLater k) (take n es)) (drop n es)
+later_than zero es h = trivially es
+later_than (suc n) [] h = tt
+later_than (suc n) (e ∷ es) h =
+    with_both (λ k. IsLater k e) (λ k. AllByRecursion (IsLater k) (take n es)) (drop n es) (all_drop (λ k. IsLater k e) n es h.0) (later_than n es h.1)
 
 pub latest_are : LatestAre
 latest_are n bs =
-    let es = timed (by_instant bs) in
+    let es = all_rows (sorted bs) in
     let more = length es - n in
-    let rows : rows_where (λ u. int_le u (greatest bs)) (by_instant bs) ≡ map row_of es =
-    where_all (greatest bs) (by_instant bs) (all_put_all (λ (c : Batch). c.at ≤ℤ greatest bs) [] bs tt (bounded bs)) in
-    let last : last_of n (rows_where (λ u. int_le u (greatest bs)) (by_instant bs)) ≡ map row_of (drop more es) =
+    let passed = rows_where (λ u. int_le u (greatest bs)) (by_instant bs) in
+    let rows : passed ≡ map row_of es =
+    ap (rows_where (λ u. int_le u (greatest bs))) (sym (batches_sorted bs))
+    ∙ where_all (greatest bs) (sorted bs) (all_put_all (λ (p : Placed). p.batch.at ≤ℤ greatest bs) [] (placed 0 bs) tt (all_placed (greatest bs) 0 bs (bounded bs))) in
+    let last : last_of n passed ≡ map row_of (drop more es) =
     ap (last_of n) rows ∙ ap (λ m. drop (m - n) (map row_of es)) (length-map es row_of) ∙ drop-map row_of more es in
-    let many : length (timed bs) ≡ length es = sym (count_each (timed bs)) ∙ count_by_instant (λ e. true) bs ∙ count_each es in
+    let many : length (came 0 bs) ≡ length es = sym (count_each (came 0 bs)) ∙ count_sorted (λ e. true) bs ∙ count_each es in
     record {
       kept = drop more es;
       left = take more es;
       all_are = λ test.
-          let a = count_by_instant test bs in
+          let a = count_sorted test bs in
           let b : count_by test es ≡ count_by test (take more es ++ drop more es) = ap (count_by test) (sym (take-append-drop more es)) in
           let c = count-append test (take more es) (drop more es) in
           let d = count-append test (drop more es) (take more es) in
           omega (arith, a, b, c, d);
-      content_is = λ test.
-          sym (bag_from_permutation (last_of n (rows_where (λ u. int_le u (greatest bs)) (by_instant bs))) (content_of (Latest n) bs) (in_order_bag (last_of n (rows_where (λ u. int_le u (greatest bs)) (by_instant bs)))) test)
-          ∙ ap (count_by test) last;
+      content_is = λ test. sym (bag_from_permutation (last_of n passed) (content_of (Latest n) bs) (in_order_bag (last_of n passed)) test) ∙ ap (count_by test) last;
       number = let l = length-drop more es in omega (arith, l, many);
-      none_later = none_later_than more es (climb_timed (by_instant bs) (climbs_all [] bs tt));
+      later = later_than more es (climb_all (sorted bs) (climbs_all [] 0 bs tt tt));
     }

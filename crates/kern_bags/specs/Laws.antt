@@ -1,6 +1,6 @@
 -- The laws of bags: statements over the definitions alone, by how many copies of each row there are. The operators are those of
 -- CQL (Arasu, Babu, Widom, 2006).
-use Rattle.std.specs.Prelude.{◌≡◌, ℕ, ℤ, pos, ◌-ℤ◌, ◌≤ℤ◌, ◌-◌, ◌*◌, Bool, List, [], ◌∷◌, ◌++◌, length, min, map, flat_map, sum_by, count_by, int_le, ◌&&◌, if◌then◌else◌, Contains}
+use Rattle.std.specs.Prelude.{◌≡◌, ℕ, ℤ, pos, ◌-ℤ◌, ◌≤ℤ◌, ◌-◌, ◌*◌, Bool, List, [], ◌∷◌, ◌++◌, length, min, map, sum_by, count_by, int_le, ◌&&◌, if◌then◌else◌, Contains, ◌⊎◌, ◌+◌, ◌<ℤ◌, ◌<◌}
 use Rattle.std.specs.List.{AllByRecursion}
 use Rattle.std.specs.List.Sorted.{IsSorted}
 use Rattle.std.specs.Ordering.{int_eq}
@@ -72,21 +72,34 @@ pub record IsNow (b : Batch) (bs : List Batch) : Type 0 where
 abbrev pub GreatestIsNow : Type 0
 GreatestIsNow = (b : Batch) (bs : List Batch) → IsNow b bs
 
--- the rows of batches, each with its instant
-abbrev pub stamp : ℤ → List ℤ → ℤ × List ℤ
-stamp at row = (at, row)
+-- a row that came: the instant of its batch, its place in the order in which all rows came, and its values
+pub record Came : Type 0 where
+  pub at : ℤ
+  pub place : ℕ
+  pub row : List ℤ
 
-abbrev pub timed : List Batch → List (ℤ × List ℤ)
-timed bs = flat_map (λ b. map (stamp b.at) b.rows) bs
+-- the rows of an instant, of which the first has place k
+abbrev pub came_at : ℕ → ℤ → List (List ℤ) → List Came
+came_at k at [] = []
+came_at k at (row ∷ rows) = record { at = at; place = k; row = row } ∷ came_at (k + 1) at rows
 
--- of all rows that came, as many are kept as the window has room for, and none that is left out is later than one that is kept
+-- the rows of batches
+abbrev pub came : ℕ → List Batch → List Came
+came k [] = []
+came k (b ∷ bs) = came_at k b.at b.rows ++ came (k + length b.rows) bs
+
+-- a came later than b: at a later instant, or at the same instant and behind it
+abbrev pub IsLater : Came → Came → Type 0
+IsLater a b = (b.at <ℤ a.at) ⊎ ((b.at ≡ a.at) × (b.place < a.place))
+
+-- of all rows that came, as many are kept as the window has room for, and each that is kept came later than each that is left out
 pub record AreLatest (n : ℕ) (bs : List Batch) (content : List (List ℤ)) : Type 0 where
-  pub kept : List (ℤ × List ℤ)
-  pub left : List (ℤ × List ℤ)
-  pub all_are : SameBag (timed bs) (kept ++ left)
-  pub content_is : SameBag content (map (λ e. e.1) kept)
-  pub number : length kept ≡ min n (length (timed bs))
-  pub none_later : AllByRecursion (λ k. AllByRecursion (λ l. l.0 ≤ℤ k.0) left) kept
+  pub kept : List Came
+  pub left : List Came
+  pub all_are : SameBag (came 0 bs) (kept ++ left)
+  pub content_is : SameBag content (map (λ (e : Came). e.row) kept)
+  pub number : length kept ≡ min n (length (came 0 bs))
+  pub later : AllByRecursion (λ k. AllByRecursion (IsLater k) left) kept
 
 abbrev pub LatestAre : Type 0
 LatestAre = (n : ℕ) (bs : List Batch) → AreLatest n bs (content_of (Latest n) bs)

@@ -36,7 +36,7 @@ pub fn greatest_is_now()
     ensures { GreatestIsNow }
 {}
 
-/// The latest n are the lesser of n and all rows, and none that is left out is later than one that is kept.
+/// The latest n are the lesser of n and all rows, and each that is kept came later than each that is left out.
 pub fn latest_are()
     ensures { LatestAre }
 {}

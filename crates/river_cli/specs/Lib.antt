@@ -1,12 +1,11 @@
-pub mod Added
-pub mod Agrees
 pub mod Answer
-pub mod Commands
 pub mod Inputs
+pub mod Jobs
+pub mod Laws
+pub mod Phrases
 pub mod Points
-pub mod Printed
-pub mod River
-pub mod Says
+pub mod Said
+pub mod Source
 pub mod Text
 pub mod Widths
 pub mod Words

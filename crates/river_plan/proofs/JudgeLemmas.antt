@@ -14,7 +14,8 @@ use Rattle.river_plan.specs.Told.{first_fault_found, fault_of, IsTold}
 use Rattle.river_plan.proofs.OneFirst.{fault-one}
 
 -- where no fault of the kinds before a limit holds, the exceeded limit is the first
-pub limit-first : (p : PlanForm) (f : PlanFault) → WrittenTwice p None → ReadTwice p None → ReadTooEarly p None → Mistyped p None → Misfit p None → OverLimit p (Some f) → LaterFault p (Some f)
+pub limit-first : (p : PlanForm) (f : PlanFault) → WrittenTwice p None → ReadTwice p None → ReadTooEarly p None → Mistyped p None → Misfit p None
+    → OverLimit p (Some f) → LaterFault p (Some f)
 limit-first p f c d e g h l = inr (c, inr (d, inr (e, inr (g, inr (h, inl l)))))
 
 -- where the names are in order, the first fault is one of the later ones
@@ -27,17 +28,21 @@ fault-first p (Some f) n l = inr (n.0, inr (n.1, l))
 pub queue-again : (p : PlanForm) (q : Name) → IsFirst IsNew (queue_names p) (Some q) → FirstFault p (Some (P1 (Queue q)))
 queue-again p q h = inl (Queue q, refl, inl (q, refl, h))
 
-pub variable-again : (p : PlanForm) (v : Name) → IsFirst IsNew (queue_names p) None → IsFirst IsNew (variable_names p) (Some v) → FirstFault p (Some (P1 (Variable v)))
+pub variable-again : (p : PlanForm) (v : Name) → IsFirst IsNew (queue_names p) None → IsFirst IsNew (variable_names p) (Some v)
+    → FirstFault p (Some (P1 (Variable v)))
 variable-again p v q h = inl (Variable v, refl, inr (q, inl (v, refl, h)))
 
-pub label-again : (p : PlanForm) (l : Name) → IsFirst IsNew (queue_names p) None → IsFirst IsNew (variable_names p) None → IsFirst IsNew (labels p.ops) (Some l) → FirstFault p (Some (P1 (Label l)))
+pub label-again : (p : PlanForm) (l : Name) → IsFirst IsNew (queue_names p) None → IsFirst IsNew (variable_names p) None
+    → IsFirst IsNew (labels p.ops) (Some l) → FirstFault p (Some (P1 (Label l)))
 label-again p l q v h = inl (Label l, refl, inr (q, inr (v, (l, refl, h))))
 
-pub names-once : (p : PlanForm) → IsFirst IsNew (queue_names p) None → IsFirst IsNew (variable_names p) None → IsFirst IsNew (labels p.ops) None → Repeated p None
+pub names-once : (p : PlanForm) → IsFirst IsNew (queue_names p) None → IsFirst IsNew (variable_names p) None → IsFirst IsNew (labels p.ops) None
+    → Repeated p None
 names-once p q v l = (q, (v, l))
 
 -- a name that is in neither list is not declared
-pub undeclared-among : (p : PlanForm) (queues variables : List Name) → queues ≡ queue_names p → variables ≡ variable_names p → (o : Option Named) → Along (λ before op. UndeclaredAt queues variables op) [] p.ops o → Undeclared p o
+pub undeclared-among : (p : PlanForm) (queues variables : List Name) → queues ≡ queue_names p → variables ≡ variable_names p → (o : Option Named)
+    → Along (λ before op. UndeclaredAt queues variables op) [] p.ops o → Undeclared p o
 undeclared-among p queues variables q v o h =
     subst (λ (l : List Name). Along (λ before op. UndeclaredAt (queue_names p) l op) [] p.ops o) v (subst (λ (l : List Name). Along (λ before op. UndeclaredAt l variables op) [] p.ops o) q h)
 

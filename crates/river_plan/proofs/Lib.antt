@@ -7,5 +7,6 @@ pub mod Remains
 pub mod Searches
 pub mod ShareLemmas
 pub mod UseLemmas
+pub mod UserLemmas
 pub mod ValidLaw
 pub mod WiredLemmas

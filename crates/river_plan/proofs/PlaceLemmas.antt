@@ -29,7 +29,8 @@ place-most (w ∷ ws) q = by (name_eq w q) (place-most ws q)
     by false h = omega (arith, h)
 
 -- what a search by position finds, or the number of names
-pub place-found : (names keys : List Name) (q : Name) (o : Option ℕ) (n : ℕ) → keys ≡ names → o ≡ position (name_eq q) keys → n ≡ length keys → unwrap_or o n ≡ place names q
+pub place-found : (names keys : List Name) (q : Name) (o : Option ℕ) (n : ℕ) → keys ≡ names → o ≡ position (name_eq q) keys → n ≡ length keys
+    → unwrap_or o n ≡ place names q
 place-found names keys q o n k e l =
     ap (λ p. unwrap_or p n) e ∙ ap (λ m. unwrap_or (position (name_eq q) keys) m) l ∙ ap (λ ws. unwrap_or (position (name_eq q) ws) (length ws)) k ∙ here
   where

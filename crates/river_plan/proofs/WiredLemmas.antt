@@ -21,7 +21,8 @@ use Rattle.river_plan.specs.ByPlace.{decl_kinds, table_kinds, private_kinds, que
 use Rattle.river_plan.specs.Wired.{IsWired}
 
 -- one declaration more before those that are looked through
-found : {A : Type 0} (b : Bool) (d k : A) (ks : List A) (n : ℕ) (o : Option A) → slice_index_or ks n d ≡ unwrap_or o d → slice_index_or (k ∷ ks) (if b then 0 else suc n) d ≡ unwrap_or (if b then Some k else o) d
+found : {A : Type 0} (b : Bool) (d k : A) (ks : List A) (n : ℕ) (o : Option A) → slice_index_or ks n d ≡ unwrap_or o d
+    → slice_index_or (k ∷ ks) (if b then 0 else suc n) d ≡ unwrap_or (if b then Some k else o) d
 found true d k ks n o h = refl
 found false d k ks n o h = h
 
@@ -49,13 +50,15 @@ if_either true x o p = refl
 if_either false x o p = refl
 
 -- the kind at the place of a variable is its kind
-var_place : (ts : List TableDecl) (vs : List Name) (v : Name) → slice_index_or (table_kinds ts ++ private_kinds vs) (place (table_names ts ++ vs) v) (Table 0) ≡ unwrap_or (var_in ts vs v) (Table 0)
+var_place : (ts : List TableDecl) (vs : List Name) (v : Name)
+    → slice_index_or (table_kinds ts ++ private_kinds vs) (place (table_names ts ++ vs) v) (Table 0) ≡ unwrap_or (var_in ts vs v) (Table 0)
 var_place [] vs v = privates_in vs v
 var_place (t ∷ ts) vs v =
     found (name_eq t.name v) (Table 0) (Table (table_width t.kind)) (table_kinds ts ++ private_kinds vs) (place (table_names ts ++ vs) v) (var_in ts vs v) (var_place ts vs v)
     ∙ ap (λ (o : Option VarKind). unwrap_or o (Table 0)) (if_either (name_eq t.name v) (Table (table_width t.kind)) (table_in ts v) (private_in vs v))
 
-mapped_places : {A : Type 0} (names : List Name) (at : ℕ → A) (by : Name → A) → ((q : Name) → at (place names q) ≡ by q) → (ws : List Name) → map at (places names ws) ≡ map by ws
+mapped_places : {A : Type 0} (names : List Name) (at : ℕ → A) (by : Name → A) → ((q : Name) → at (place names q) ≡ by q) → (ws : List Name)
+    → map at (places names ws) ≡ map by ws
 mapped_places names at by h [] = refl
 mapped_places names at by h (w ∷ ws) = ap (λ x. x ∷ map at (places names ws)) (h w) ∙ ap (λ l. by w ∷ l) (mapped_places names at by h ws)
 
@@ -67,7 +70,8 @@ at_op f (x ∷ xs) (suc i) op lt e = at_op f xs i op (omega (arith, lt)) e
 
 -- an operator fits by places exactly where it fits by names
 module _ (p : PlanForm) (w : Wiring) (queues : List QueueType) (kinds : List VarKind) (i : ℕ) (op : Op) (wired : IsWired p w) (qs : queues ≡ queue_kinds p) (vs : kinds ≡ var_kinds p) where
-  at_places : (ops : List Op) → op_forms ops ≡ p.ops → i < length ops → op ≡ get_or ops i op → (f : OpForm → List ℕ) (ls : List (List ℕ)) → ls ≡ map f p.ops → list_at ls i ≡ f (op_form op)
+  at_places : (ops : List Op) → op_forms ops ≡ p.ops → i < length ops → op ≡ get_or ops i op → (f : OpForm → List ℕ) (ls : List (List ℕ)) → ls ≡ map f p.ops
+      → list_at ls i ≡ f (op_form op)
   at_places ops are lt e f ls h = ap (λ l. list_at l i) (h ∙ ap (map f) (sym are)) ∙ at_op f ops i op lt e
 
   types : (ws : List Name) (l : List ℕ) → l ≡ places (queue_names p) ws → map (kind_at queues) l ≡ map (kind_of (all_decls p)) ws
@@ -80,17 +84,19 @@ module _ (p : PlanForm) (w : Wiring) (queues : List QueueType) (kinds : List Var
   same k is is' os os' us us' a b c h = subst (λ l. Fits k is' os' l) c (subst (λ l. Fits k is' l us) b (subst (λ l. Fits k l os us) a h))
 
   module _ (ops : List Op) (are : op_forms ops ≡ p.ops) (lt : i < length ops) (e : op ≡ get_or ops i op) where
-    reads : map (kind_at queues) (list_at w.reads i) ≡ map (kind_of (all_decls p)) op.reads
-    reads = types op.reads (list_at w.reads i) (at_places ops are lt e (λ o. places (queue_names p) o.reads) w.reads wired.reads)
+    reads : map (kind_at queues) (list_at w.reads.by_op i) ≡ map (kind_of (all_decls p)) op.reads
+    reads = types op.reads (list_at w.reads.by_op i) (at_places ops are lt e (λ o. places (queue_names p) o.reads) w.reads.by_op wired.reads.by_op)
 
-    writes : map (kind_at queues) (list_at w.writes i) ≡ map (kind_of (all_decls p)) op.writes
-    writes = types op.writes (list_at w.writes i) (at_places ops are lt e (λ o. places (queue_names p) o.writes) w.writes wired.writes)
+    writes : map (kind_at queues) (list_at w.writes.by_op i) ≡ map (kind_of (all_decls p)) op.writes
+    writes = types op.writes (list_at w.writes.by_op i) (at_places ops are lt e (λ o. places (queue_names p) o.writes) w.writes.by_op wired.writes.by_op)
 
-    vars : map (var_at kinds) (list_at w.vars i) ≡ map (var_kind p.tables p.vars) op.vars
-    vars = variables op.vars (list_at w.vars i) (at_places ops are lt e (λ o. places (variable_names p) o.vars) w.vars wired.vars)
+    vars : map (var_at kinds) (list_at w.vars.by_op i) ≡ map (var_kind p.tables p.vars) op.vars
+    vars = variables op.vars (list_at w.vars.by_op i) (at_places ops are lt e (λ o. places (variable_names p) o.vars) w.vars.by_op wired.vars.by_op)
 
-    pub fits-named : FitsPlaces queues kinds (kern_of op.kernel) (list_at w.reads i) (list_at w.writes i) (list_at w.vars i) → IsFit p (op_form op)
+    pub fits-named : FitsPlaces queues kinds (kern_of op.kernel) (list_at w.reads.by_op i) (list_at w.writes.by_op i) (list_at w.vars.by_op i)
+        → IsFit p (op_form op)
     fits-named h = same (kern_of op.kernel) _ _ _ _ _ _ reads writes vars h
 
-    pub fits-placed : IsFit p (op_form op) → FitsPlaces queues kinds (kern_of op.kernel) (list_at w.reads i) (list_at w.writes i) (list_at w.vars i)
+    pub fits-placed : IsFit p (op_form op)
+        → FitsPlaces queues kinds (kern_of op.kernel) (list_at w.reads.by_op i) (list_at w.writes.by_op i) (list_at w.vars.by_op i)
     fits-placed h = same (kern_of op.kernel) _ _ _ _ _ _ (sym reads) (sym writes) (sym vars) h

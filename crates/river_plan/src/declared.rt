@@ -40,13 +40,31 @@ fn wiring_among(alloc: Global, raw: &RawPlan, queues: &NameSet) -> Result<Wiring
     if let Some(name) = add_variables(alloc, raw, &mut variables)? {
         return Err(PlanFault::P1(Named::Variable(name)));
     }
+    wiring_between(alloc, raw, queues, &variables)
+}
+
+// The same, where the variables are known too.
+fn wiring_between(
+    alloc: Global,
+    raw: &RawPlan,
+    queues: &NameSet,
+    variables: &NameSet,
+) -> Result<Wiring, PlanFault>
+    requires queues { queues.now ≡ queue_names (plan_form raw.now) }
+    requires variables { variables.now ≡ variable_names (plan_form raw.now) }
+    requires queues_once { IsFirst IsNew (queue_names (plan_form raw.now)) None }
+    requires variables_once { IsFirst IsNew (variable_names (plan_form raw.now)) None }
+    ensures wired { IfOk result (IsWired (plan_form raw.now)) }
+    ensures named { OnOk result (AreNamed (plan_form raw.now)) }
+    ensures fault { IfErr result (λ fault. IsJudged (plan_form raw.now) (Err fault)) }
+{
     if let Some(label) = label_again(alloc, &raw.ops)? {
         return Err(PlanFault::P1(Named::Label(label)));
     }
-    if let Some(named) = undeclared_in(&raw.ops, queues, &variables) {
+    if let Some(named) = undeclared_in(&raw.ops, queues, variables) {
         return Err(PlanFault::P2(named));
     }
-    Ok(wiring_by(alloc, raw, queues, &variables)?)
+    Ok(wiring_by(alloc, raw, queues, variables)?)
 }
 
 // Adds the names of the queues to the empty set; answers the first that stood before.

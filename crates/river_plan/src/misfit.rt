@@ -60,14 +60,14 @@ fn is_fit(
     queues: &[QueueType],
     vars: &[VarKind],
 ) -> Result<bool, NoMemory>
-    requires reads { op < length wiring.now.reads }
-    requires writes { op < length wiring.now.writes }
-    requires vars { op < length wiring.now.vars }
-    ensures { IfOk result (λ fit. IsTrue fit ↔ FitsPlaces queues.now vars.now (kern_of kernel.now) (list_at wiring.now.reads op) (list_at wiring.now.writes op) (list_at wiring.now.vars op)) }
+    requires reads { op < length wiring.now.reads.by_op }
+    requires writes { op < length wiring.now.writes.by_op }
+    requires vars { op < length wiring.now.vars.by_op }
+    ensures { IfOk result (λ fit. IsTrue fit ↔ FitsPlaces queues.now vars.now (kern_of kernel.now) (list_at wiring.now.reads.by_op op) (list_at wiring.now.writes.by_op op) (list_at wiring.now.vars.by_op op)) }
 {
-    let reads = kinds_at(alloc, wiring.reads.at(op), queues)?;
-    let writes = kinds_at(alloc, wiring.writes.at(op), queues)?;
-    let kinds = vars_at(alloc, wiring.vars.at(op), vars)?;
+    let reads = kinds_at(alloc, wiring.reads.by_op.at(op), queues)?;
+    let writes = kinds_at(alloc, wiring.writes.by_op.at(op), queues)?;
+    let kinds = vars_at(alloc, wiring.vars.by_op.at(op), vars)?;
     fits(
         alloc,
         kernel,

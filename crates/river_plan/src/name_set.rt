@@ -1,5 +1,5 @@
 // Sets of names.
-ghost use Rattle.std.specs.Prelude.{◌≡◌, ◌<◌, [], IsTrue, ◌↔◌, IfOk, OnOk};
+ghost use Rattle.std.specs.Prelude.{◌≡◌, ◌<◌, [], length, IsTrue, ◌↔◌, IfOk, OnOk};
 ghost use Rattle.river_plan.specs.Names.{count, with_name};
 ghost use Rattle.river_plan.specs.Places.{place};
 
@@ -39,6 +39,13 @@ impl NameSet {
     {
         let (_, fresh) = self.names.insert_full(name)?;
         Ok(fresh)
+    }
+
+    /// How many names there are.
+    pub(crate) fn len(&self) -> usize
+        ensures { result ≡ length self.now }
+    {
+        self.names.len()
     }
 
     /// Whether the name is there.

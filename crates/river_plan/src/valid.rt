@@ -1,8 +1,8 @@
 // Valid plans.
 ghost use Rattle.std.specs.Prelude.{◌≡◌, ◌<◌, IfOk, length};
 ghost use Rattle.river_base.specs.Places.{list_at};
-ghost use Rattle.river_plan.specs.Forms.{plan_form};
-ghost use Rattle.river_plan.specs.Places.{read_places, write_places, var_places};
+ghost use Rattle.river_plan.specs.Forms.{plan_form, queue_names, variable_names};
+ghost use Rattle.river_plan.specs.Places.{read_places, write_places, var_places, users_from};
 ghost use Rattle.river_plan.specs.Valid.{IsPlan};
 ghost use Rattle.river_plan.specs.Wired.{IsWired};
 
@@ -59,7 +59,7 @@ impl Plan {
         requires { op < length self.now.ops }
         ensures { result.now ≡ list_at (read_places self.now) op }
     {
-        self.wiring.reads.at(op).as_slice()
+        self.wiring.reads.by_op.at(op).as_slice()
     }
 
     /// The places, among the names of the queues, of those that the operator of this number writes, port by port.
@@ -67,7 +67,7 @@ impl Plan {
         requires { op < length self.now.ops }
         ensures { result.now ≡ list_at (write_places self.now) op }
     {
-        self.wiring.writes.at(op).as_slice()
+        self.wiring.writes.by_op.at(op).as_slice()
     }
 
     /// The places, among the names of the variables, of those of the operator of this number, in its kernel's order.
@@ -75,7 +75,31 @@ impl Plan {
         requires { op < length self.now.ops }
         ensures { result.now ≡ list_at (var_places self.now) op }
     {
-        self.wiring.vars.at(op).as_slice()
+        self.wiring.vars.by_op.at(op).as_slice()
+    }
+
+    /// The numbers of the operators that read the queue at this place among the names of the queues: one, or none.
+    pub fn readers_of(&self, queue: usize) -> &[usize]
+        requires { queue < length (queue_names self.now) }
+        ensures { result.now ≡ users_from 0 (read_places self.now) queue }
+    {
+        self.wiring.reads.by_place.at(queue).as_slice()
+    }
+
+    /// The numbers of the operators that write the queue at this place among the names of the queues: one, or none.
+    pub fn writers_of(&self, queue: usize) -> &[usize]
+        requires { queue < length (queue_names self.now) }
+        ensures { result.now ≡ users_from 0 (write_places self.now) queue }
+    {
+        self.wiring.writes.by_place.at(queue).as_slice()
+    }
+
+    /// The numbers of the operators that have the variable at this place among the names of the variables, in order.
+    pub fn users_of(&self, variable: usize) -> &[usize]
+        requires { variable < length (variable_names self.now) }
+        ensures { result.now ≡ users_from 0 (var_places self.now) variable }
+    {
+        self.wiring.vars.by_place.at(variable).as_slice()
     }
 
     // The plan of lists that are valid, with their wiring.

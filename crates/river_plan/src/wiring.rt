@@ -1,8 +1,9 @@
 // The names of a plan as places, looked up once.
-ghost use Rattle.std.specs.Prelude.{◌≡◌, IfOk, map as mapped};
+ghost use Rattle.std.specs.Prelude.{◌≡◌, [], ◌∷◌, IfOk, OnOk, map as mapped};
+ghost use Rattle.river_base.specs.Places.{only, each_grew};
 ghost use Rattle.river_plan.specs.Forms.{plan_form, op_forms, queue_names, variable_names};
-ghost use Rattle.river_plan.specs.Places.{places};
-ghost use Rattle.river_plan.specs.Wired.{IsWired};
+ghost use Rattle.river_plan.specs.Places.{places, as_often, users};
+ghost use Rattle.river_plan.specs.Wired.{AreUses, IsWired};
 
 use crate::name_set::NameSet;
 use crate::{Names, Ops, RawPlan};
@@ -12,12 +13,31 @@ use std::alloc::Global;
 /// Places among the queues, or among the variables, of a plan.
 pub(crate) type Places = Listed<usize>;
 
-/// For each operator the places of the queues that it reads and writes, port by port, and those of its variables.
+/// What operators use, both ways: the places that each operator uses, and the operators that use each place.
+#[derive(Drop)]
+pub(crate) struct Uses {
+    pub(crate) by_op: Listed<Places>,
+    pub(crate) by_place: Listed<Places>,
+}
+
+/// The queues that operators read and write, port by port, and their variables.
 #[derive(Drop)]
 pub(crate) struct Wiring {
-    pub(crate) reads: Listed<Places>,
-    pub(crate) writes: Listed<Places>,
-    pub(crate) vars: Listed<Places>,
+    pub(crate) reads: Uses,
+    pub(crate) writes: Uses,
+    pub(crate) vars: Uses,
+}
+
+impl Uses {
+    // An equal value.
+    fn copy(&self, alloc: Global) -> Result<Uses, NoMemory>
+        ensures { IfOk result (λ copy. copy ≡ self.now) }
+    {
+        Ok(Uses {
+            by_op: copy_all(alloc, &self.by_op)?,
+            by_place: copy_all(alloc, &self.by_place)?,
+        })
+    }
 }
 
 impl Wiring {
@@ -26,9 +46,9 @@ impl Wiring {
         ensures { IfOk result (λ copy. copy ≡ self.now) }
     {
         Ok(Wiring {
-            reads: copy_all(alloc, &self.reads)?,
-            writes: copy_all(alloc, &self.writes)?,
-            vars: copy_all(alloc, &self.vars)?,
+            reads: self.reads.copy(alloc)?,
+            writes: self.writes.copy(alloc)?,
+            vars: self.vars.copy(alloc)?,
         })
     }
 }
@@ -66,11 +86,56 @@ pub(crate) fn wiring_by(
     requires variables { variables.now ≡ variable_names (plan_form raw.now) }
     ensures { IfOk result (IsWired (plan_form raw.now)) }
 {
+    let reads = read_places(alloc, &raw.ops, queues)?;
+    let reads = both_ways(alloc, reads, queues.len())?;
+    let writes = write_places(alloc, &raw.ops, queues)?;
+    let writes = both_ways(alloc, writes, queues.len())?;
+    let vars = var_places(alloc, &raw.ops, variables)?;
+    let vars = both_ways(alloc, vars, variables.len())?;
     Ok(Wiring {
-        reads: read_places(alloc, &raw.ops, queues)?,
-        writes: write_places(alloc, &raw.ops, queues)?,
-        vars: var_places(alloc, &raw.ops, variables)?,
+        reads,
+        writes,
+        vars,
     })
+}
+
+// These places of each operator, and the operators of so many places.
+fn both_ways(alloc: Global, by_op: Listed<Places>, count: usize) -> Result<Uses, NoMemory>
+    ensures { IfOk result (AreUses count by_op) }
+{
+    let by_place = users(alloc, &by_op, count)?;
+    Ok(Uses { by_op, by_place })
+}
+
+// For each of so many places the numbers of the lists in which it stands, as often as it stands there.
+fn users(alloc: Global, lists: &Listed<Places>, count: usize) -> Result<Listed<Places>, NoMemory>
+    ensures { IfOk result (λ all. all ≡ users count lists.now) }
+{
+    let mut all = Listed::blanks(alloc, count)?;
+    for number in 0..lists.len() {
+        add_user(&mut all, lists.at(number), number)?;
+    }
+    Ok(all)
+}
+
+// The number comes to the lists at these places.
+fn add_user(all: &mut Listed<Places>, places: &Places, number: usize) -> Result<(), NoMemory>
+    ensures { OnOk result (all.new ≡ each_grew all.old (as_often places.now number)) }
+{
+    for port in 0..places.len() {
+        add_at(all, *places.at(port), number)?;
+    }
+    Ok(())
+}
+
+// The number comes to the list at this place, where there is one.
+fn add_at(all: &mut Listed<Places>, place: usize, number: usize) -> Result<(), NoMemory>
+    ensures { OnOk result (all.new ≡ each_grew all.old (only place (number ∷ []))) }
+{
+    if place < all.len() {
+        all.push_at(place, number)?;
+    }
+    Ok(())
 }
 
 // The places of the queues that each operator reads, port by port.

@@ -60,6 +60,7 @@ streamer_toks Istream = name (codes "istream") ∷ []
 streamer_toks Dstream = name (codes "dstream") ∷ []
 streamer_toks Rstream = name (codes "rstream") ∷ []
 
+-- the tokens of a kernel
 pub kernel_toks : Kern → List Tok
 kernel_toks (kern.code c) = name (codes "code") ∷ listed (counts (c.body.inputs ∷ c.body.slots ∷ [])) (listed (map value_tok c.outs) (run_toks c.starts c.body.steps))
 kernel_toks (kern.filter f) = name (codes "filter") ∷ listed (counts (f.peek ∷ f.pop ∷ f.push ∷ f.body.slots ∷ [])) (run_toks f.starts f.body.steps)
@@ -230,6 +231,7 @@ fused-piece a b at count p q =
     (list-first (decimal at ∷ []) (count_tok at ∷ []) (codes " { " ++ (kernel_text a ++ (codes " } { " ++ (kernel_text b ++ codes " }")))) (first_toks ++ second_toks) (one_count at count) behind)
     (ends-open _)
 
+-- the text of a kernel spells its tokens
 pub kernel-piece : (k : Kern) → w.IsKernel k → Piece (kernel_text k) (kernel_toks k)
 unfolding kernel_toks
 kernel-piece (kern.code c) h = code-piece c h

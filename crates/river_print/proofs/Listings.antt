@@ -50,9 +50,11 @@ number-piece n fits = record { spells = spells-number n fits; inside = inside-nu
 abbrev pub count_tok : ℕ → List Tok
 count_tok n = number n ∷ []
 
+-- a count is in the grammar
 pub count-formed : (n : ℕ) → w.IsCount n → g.Count n (count_tok n)
 count-formed n h = record { passes = is_count-below n h; formed = refl }
 
+-- a count
 pub count-item : (n : ℕ) → w.IsCount n → Item g.Count decimal count_tok n
 count-item n h = record { piece = number-piece n (omega arith); formed = count-formed n h }
 
@@ -69,11 +71,13 @@ is_value-below n h = grind (arith, nat_tests)
 pub value-formed : (n : ℕ) → n ≤ 9223372036854775807 → form.Value (pos n) (number n ∷ [])
 value-formed n h = record { number = n; fits = is_value-below n h; is = refl; formed = refl }
 
+-- a value from 0 on
 pub value-item : (z : ℤ) → w.IsNatural z → Item form.Value signed_decimal value_tok z
 value-item z h = subst (λ (y : ℤ). Item form.Value signed_decimal value_tok y) (sym h.1) (at h.0 h.2) where
   at : (n : ℕ) → n ≤ 9223372036854775807 → Item form.Value signed_decimal value_tok (pos n)
   at n fits = record { piece = number-piece n fits; formed = value-formed n fits }
 
+-- a width
 pub width-item : (z : ℤ) → w.IsWidth z → Item g.Width signed_decimal value_tok z
 width-item z h = subst (λ (y : ℤ). Item g.Width signed_decimal value_tok y) (sym h.1) (at h.0 h.2) where
   at : (n : ℕ) → w.IsCount n → Item g.Width signed_decimal value_tok (pos n)
@@ -94,6 +98,7 @@ min_is = refl
 min-piece : Piece (codes "min") (name (codes "min") ∷ [])
 min-piece = record { spells = spells-name (codes "min") min_is; inside = inside-name (codes "min") }
 
+-- a start, with its sign
 pub start-item : (z : ℤ) → w.IsStart z → Item g.Signed start_text start_tok z
 start-item z h = by (int_eq z (negsuc 9223372036854775807)) refl where
   least : z ≡ negsuc 9223372036854775807 → g.Signed z (name (codes "min") ∷ [])

@@ -21,6 +21,7 @@ abbrev pub all_first : List Tok → List (List Tok) → List (List Tok)
 all_first [] us = us
 all_first (t ∷ ts) us = to_first t (all_first ts us)
 
+-- tokens put before units one after another
 pub all_first-append : (ts us : List Tok) (vs : List (List Tok)) → all_first (ts ++ us) vs ≡ all_first ts (all_first us vs)
 all_first-append [] us vs = refl
 all_first-append (t ∷ ts) us vs = ap (to_first t) (all_first-append ts us vs)
@@ -31,11 +32,13 @@ pub record Inside (ts : List Tok) : Type 0 where
 pub inside-nothing : Inside []
 inside-nothing = record { goes = λ b rest. refl }
 
+-- tokens that stay inside a unit, one after another
 pub inside-then : (ts us : List Tok) → Inside ts → Inside us → Inside (ts ++ us)
 inside-then ts us x y = record {
   goes = λ b rest. ap (cut (suc b)) (append_assoc ts us rest) ∙ x.goes b (us ++ rest) ∙ ap (all_first ts) (y.goes b rest) ∙ sym (all_first-append ts us (cut (suc b) rest));
 }
 
+-- a token that ends no unit goes on it
 pub on : (b : ℕ) (t : Tok) (ts : List Tok) → ends_unit b t ts ≡ false → cut b (t ∷ ts) ≡ to_first t (cut (braces_after b t) ts)
 unfolding cut
 on b t ts e = rw e refl
@@ -60,17 +63,21 @@ same_braces : (b : ℕ) (x : Symbol) → IsPlain x → braces_after b (symbol x)
 unfolding braces_after
 same_braces b x p = rw (p.no_open, p.no_close) refl
 
+-- a symbol that is no brace and no semicolon stays inside a unit
 pub inside-symbol : (x : Symbol) → IsPlain x → Inside (symbol x ∷ [])
 inside-symbol x p = record { goes = λ b rest. on (suc b) (symbol x) rest (no_end b x rest p.no_close) ∙ ap (λ (k : ℕ). to_first (symbol x) (cut k rest)) (same_braces (suc b) x p) }
 
+-- so does a name
 pub inside-name : (text : List ℕ) → Inside (name text ∷ [])
 unfolding ends_unit braces_after
 inside-name text = record { goes = λ b rest. on (suc b) (name text) rest refl }
 
+-- so does a variable
 pub inside-var : (text : List ℕ) → Inside (var text ∷ [])
 unfolding ends_unit braces_after
 inside-var text = record { goes = λ b rest. on (suc b) (var text) rest refl }
 
+-- so does a number
 pub inside-number : (n : ℕ) → Inside (number n ∷ [])
 unfolding ends_unit braces_after
 inside-number n = record { goes = λ b rest. on (suc b) (number n) rest refl }
@@ -111,12 +118,15 @@ pub record Piece (bytes : List ℕ) (ts : List Tok) : Type 0 where
 pub record EndsWord (bytes : List ℕ) : Type 0 where
   pub ends : (rest : List ℕ) → NoWord rest → NoWord (bytes ++ rest)
 
+-- no bytes are no tokens
 pub piece-nothing : Piece [] []
 piece-nothing = record { spells = spells-nothing NoWord; inside = inside-nothing }
 
+-- no bytes end a word
 pub ends-nothing : EndsWord []
 ends-nothing = record { ends = λ rest no. no }
 
+-- one text behind another
 pub piece-then : (a : List ℕ) (ts : List Tok) (b : List ℕ) (us : List Tok) → Piece a ts → Piece b us → EndsWord b → Piece (a ++ b) (ts ++ us)
 piece-then a ts b us x y e = record { spells = spells-then a ts b us x.spells y.spells e.ends; inside = inside-then ts us x.inside y.inside }
 
@@ -127,6 +137,7 @@ symbol-first x u us p y follows = record {
   inside = inside-then (symbol x ∷ []) us (inside-symbol x p) y.inside;
 }
 
+-- a word in front
 pub word-first : (w u : List ℕ) (us : List Tok) → is_name_text w ≡ true → Piece u us → EndsWord u → Piece (w ++ u) (name w ∷ us)
 word-first w u us is y e = record {
   spells = spells-then w (name w ∷ []) u us (spells-name w is) y.spells e.ends;
@@ -139,12 +150,14 @@ var-first w u us is y e = record {
   inside = inside-then (var w ∷ []) us (inside-var w) y.inside;
 }
 
+-- a number in front
 pub number-first : (n : ℕ) (u : List ℕ) (us : List Tok) → n ≤ most → Piece u us → EndsWord u → Piece (decimal n ++ u) (number n ∷ us)
 number-first n u us fits y e = record {
   spells = spells-then (decimal n) (number n ∷ []) u us (spells-number n fits) y.spells e.ends;
   inside = inside-then (number n ∷ []) us (inside-number n) y.inside;
 }
 
+-- a space in front
 pub blank-first : (u : List ℕ) (us : List Tok) → Piece u us → Piece (codes " " ++ u) us
 blank-first u us y = record { spells = blank-then u us y.spells; inside = y.inside }
 
@@ -160,18 +173,22 @@ pub ends-blank : (u : List ℕ) → EndsWord (codes " " ++ u)
 unfolding first_is is_word is_letter is_digit
 ends-blank u = record { ends = λ rest no. refl }
 
+-- a bracket ends a word
 pub ends-open : (u : List ℕ) → EndsWord (codes "(" ++ u)
 unfolding first_is is_word is_letter is_digit
 ends-open u = record { ends = λ rest no. refl }
 
+-- a closing bracket ends a word
 pub ends-close : (u : List ℕ) → EndsWord (codes ")" ++ u)
 unfolding first_is is_word is_letter is_digit
 ends-close u = record { ends = λ rest no. refl }
 
+-- a square bracket ends a word
 pub ends-square : (u : List ℕ) → EndsWord (codes "[" ++ u)
 unfolding first_is is_word is_letter is_digit
 ends-square u = record { ends = λ rest no. refl }
 
+-- a closing square bracket ends a word
 pub ends-square_close : (u : List ℕ) → EndsWord (codes "]" ++ u)
 unfolding first_is is_word is_letter is_digit
 ends-square_close u = record { ends = λ rest no. refl }
@@ -180,6 +197,7 @@ pub ends-comma : (u : List ℕ) → EndsWord (codes "," ++ u)
 unfolding first_is is_word is_letter is_digit
 ends-comma u = record { ends = λ rest no. refl }
 
+-- a semicolon ends a word
 pub ends-semicolon : (u : List ℕ) → EndsWord (codes ";" ++ u)
 unfolding first_is is_word is_letter is_digit
 ends-semicolon u = record { ends = λ rest no. refl }
@@ -223,18 +241,22 @@ plain-Minus = record { no_open = refl; no_close = refl }
 pub open-first : (u : List ℕ) (us : List Tok) → Piece u us → Piece (codes "(" ++ u) (symbol s.Open ∷ us)
 open-first u us y = symbol-first s.Open u us plain-Open y (λ rest no. tt)
 
+-- a closing bracket in front
 pub close-first : (u : List ℕ) (us : List Tok) → Piece u us → Piece (codes ")" ++ u) (symbol s.Close ∷ us)
 close-first u us y = symbol-first s.Close u us plain-Close y (λ rest no. tt)
 
 pub comma-first : (u : List ℕ) (us : List Tok) → Piece u us → Piece (codes "," ++ u) (symbol s.Comma ∷ us)
 comma-first u us y = symbol-first s.Comma u us plain-Comma y (λ rest no. tt)
 
+-- a semicolon in front
 pub semicolon-first : (u : List ℕ) (us : List Tok) → Piece u us → Piece (codes ";" ++ u) (symbol s.Semicolon ∷ us)
 semicolon-first u us y = symbol-first s.Semicolon u us plain-Semicolon y (λ rest no. tt)
 
+-- a square bracket in front
 pub square-first : (u : List ℕ) (us : List Tok) → Piece u us → Piece (codes "[" ++ u) (symbol s.OpenBracket ∷ us)
 square-first u us y = symbol-first s.OpenBracket u us plain-OpenBracket y (λ rest no. tt)
 
+-- a closing square bracket in front
 pub square_close-first : (u : List ℕ) (us : List Tok) → Piece u us → Piece (codes "]" ++ u) (symbol s.CloseBracket ∷ us)
 square_close-first u us y = symbol-first s.CloseBracket u us plain-CloseBracket y (λ rest no. tt)
 
@@ -249,6 +271,7 @@ braced u us y = record {
     close : Spells (codes " }") (symbol s.CloseBrace ∷ []) NoWord
     close = blank-then (codes "}") (symbol s.CloseBrace ∷ []) (spells-less (codes "}") (symbol s.CloseBrace ∷ []) (spells-symbol s.CloseBrace) (λ rest no. tt))
 
+-- empty braces
 pub braced-nothing : Piece (codes "{ }") (symbol s.OpenBrace ∷ symbol s.CloseBrace ∷ [])
 braced-nothing = record {
   spells = spells-then (codes "{") (symbol s.OpenBrace ∷ []) (codes " }") (symbol s.CloseBrace ∷ []) (spells-symbol s.OpenBrace)
@@ -284,6 +307,7 @@ pieces-more (b ∷ bs) (t ∷ ts) h =
     comma-first (codes " " ++ (b ++ more_items bs)) (t ++ more_toks ts) (blank-first (b ++ more_items bs) (t ++ more_toks ts)
     (piece-then b t (more_items bs) (more_toks ts) h.0 (pieces-more bs ts h.1) (ends-more bs)))
 
+-- items with commas between them
 pub pieces-items : (bs : List (List ℕ)) (ts : List (List Tok)) → AllPieces bs ts → Piece (items_text bs) (items_toks ts)
 pieces-items [] [] h = piece-nothing
 pieces-items [] (t ∷ ts) h = absurd h

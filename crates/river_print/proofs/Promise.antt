@@ -14,9 +14,11 @@ use Rattle.river_print.proofs.Valid.{printable-writable}
 pub printable-read : (p : PlanForm) → IsPrintable p → StandsForAlone (plan_text p) p
 printable-read p h = printed_is_read p (printable-writable p h)
 
+-- the law: a valid plan is read back exactly where it keeps the grammar's bounds
 pub valid_is_read : ValidIsRead
 valid_is_read p valid = (λ s. read-printable (plan_text p) p s.0 valid, printable-read p)
 
+-- the law: a plan that was read is read back
 pub read_is_read_again : ReadIsReadAgain
 read_is_read_again text p t valid = printable-read p (read-printable text p t valid)
 

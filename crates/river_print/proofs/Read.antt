@@ -36,21 +36,26 @@ use Rattle.river_print.proofs.Valid.{at_most}
 pub record Gives {A : Type 0} (F : A → List Tok → Type 0) (P : A → Type 0) : Type 0 where
   pub give : (v : A) (ts : List Tok) → F v ts → P v
 
+-- what holds of the values of a form that is seen as another value
 pub gives-seen : {A B : Type 0} {F : A → List Tok → Type 0} {P : A → Type 0} (f : A → B) (Q : B → Type 0) → Gives F P → ((v : A) → P v → Q (f v)) → Gives (form.Seen f F) Q
 gives-seen f Q g k = record { give = λ v ts h. subst Q (sym h.is) (k h.value (g.give h.value ts h.formed)) }
 
 gives-tested : {A : Type 0} (test : A → Bool) (F : A → List Tok → Type 0) (P : A → Type 0) → ((v : A) → test v ≡ true → P v) → Gives (form.Tested test F) P
 gives-tested test F P k = record { give = λ v ts h. k v h.passes }
 
+-- of one and then the other
 pub gives-both : {A B : Type 0} {F : A → List Tok → Type 0} {G : B → List Tok → Type 0} {P : A → Type 0} {Q : B → Type 0} → Gives F P → Gives G Q → Gives (form.Both F G) (λ v. P v.0 × Q v.1)
 gives-both f g = record { give = λ v ts h. (f.give v.0 h.front h.first, g.give v.1 h.back h.second) }
 
+-- behind some symbols
 pub gives-after : {A : Type 0} {F : A → List Tok → Type 0} {P : A → Type 0} (run : List Symbol) → Gives F P → Gives (form.After run F) P
 gives-after run f = record { give = λ v ts h. f.give v h.back h.formed }
 
+-- before some symbols
 pub gives-before : {A : Type 0} {F : A → List Tok → Type 0} {P : A → Type 0} (run : List Symbol) → Gives F P → Gives (form.Before F run) P
 gives-before run f = record { give = λ v ts h. f.give v h.front h.formed }
 
+-- behind a word
 pub gives-after_word : {A : Type 0} {F : A → List Tok → Type 0} {P : A → Type 0} (word : List ℕ) → Gives F P → Gives (form.AfterWord word F) P
 gives-after_word word f = record { give = λ v ts h. f.give v h.back h.formed }
 
@@ -60,6 +65,7 @@ gives-merged f g = record { give = λ v ts h. ⊎_elim (λ x. f.give v ts x) (λ
 gives-nothing : {A : Type 0} (P : A → Type 0) (v : A) → P v → Gives (form.Nothing v) P
 gives-nothing P v p = record { give = λ x ts h. subst P (sym h.0) p }
 
+-- nothing is asked
 pub gives-any : {A : Type 0} (F : A → List Tok → Type 0) → Gives F (λ v. Unit {0})
 gives-any F = record { give = λ v ts h. tt }
 
@@ -129,6 +135,7 @@ starts n = gives-enclosed _ _ (λ m. gives-listing signed) n
 
 -- EXPRESSIONS
 
+-- a number of a text is a value of 64 bits
 pub number-ranged : (v : ℕ) (b : Bool) → is_value v ≡ b → (e : Term) → (if b then Some (term.Const (pos v)) else None) ≡ Some e → r.IsRangedTerm e
 number-ranged v true t e h = subst r.IsRangedTerm (some_same h) (at_most v 9223372036854775807 t)
 number-ranged v false t e h = absurd (not_some h)

@@ -211,5 +211,6 @@ stands p h =
       is = sym (made p);
     }
 
+-- the law: a plan that has what the grammar has is read back, and no other
 pub printed_is_read : PrintedIsRead
 printed_is_read p h = (stands p h, λ q t. one_plan (plan_text p) q p t (stands p h))

@@ -84,6 +84,7 @@ term_of-spoken (Bin o a b) h = rw (term_of-spoken a h.0, term_of-spoken b h.1) r
 pub term-formed : (n : ℕ) (t : Term) → 64 ≤ n → w.IsTerm t → g.IsTerm n t (printed t)
 term-formed n t room h = record { value = spoken_of t; is = term_of-spoken t h.0; formed = printed-is t n (written t h.0) h.1 (omega (arith, h.1)) }
 
+-- an expression
 pub term-item : (n : ℕ) → 64 ≤ n → (t : Term) → w.IsTerm t → Item (g.IsTerm n) text_of printed t
 term-item n room t h = record { piece = term-piece t h; formed = term-formed n t room h }
 
@@ -207,6 +208,7 @@ in_turn-list (Then x xs) = ap (Then x) (in_turn-list xs)
 pub round-formed : {A : Type 0} (F : ℕ → A → List Tok → Type 0) (m : ℕ) (v : A) (ts : List Tok) → F m v ts → g.Round F (suc m) v (symbol s.Open ∷ (ts ++ symbol s.Close ∷ []))
 round-formed F m v ts f = record { back = ts ++ symbol s.Close ∷ []; is = refl; formed = record { front = ts; is = refl; formed = f } }
 
+-- tokens behind a bracketed part
 pub behind_round : (ts us : List Tok) → symbol s.Open ∷ (ts ++ symbol s.Close ∷ us) ≡ (symbol s.Open ∷ (ts ++ symbol s.Close ∷ [])) ++ us
 behind_round ts us = ap (λ (l : List Tok). symbol s.Open ∷ l) (sym (append_assoc ts (symbol s.Close ∷ []) us))
 

@@ -219,6 +219,7 @@ named-formed v h = record { passes = h; formed = refl }
 variable-formed : (v : List ℕ) → is_name v ≡ true → p.IsVar v (var v ∷ [])
 variable-formed v h = record { passes = h; formed = refl }
 
+-- the declaration of a queue is in the grammar
 pub decl-formed : (d : Decl) → w.IsDecl d → p.IsDecl d (name d.name ∷ symbol s.Colon ∷ (type_toks d.kind ++ symbol s.Semicolon ∷ []))
 decl-formed d h = record {
   value = (d.name, d.kind);
@@ -232,6 +233,7 @@ decl-formed d h = record {
   };
 }
 
+-- its line spells a unit
 pub decl-unit : (word : List ℕ) (d : Decl) → is_name_text word ≡ true → bytes_eq word (codes "else") ≡ false → w.IsDecl d → UnitPiece (decl_line word d) (decl_toks word d)
 unfolding decl_toks
 decl-unit word d is other h = record { spells = decl-spells word d is h; begins = λ rest. other; whole = λ rest none. decl-whole word d.name d.kind rest }
@@ -310,10 +312,12 @@ table-spells t h =
     (now-colon (codes " " ++ kind))))
     (now-blank (var_text t.name ++ (codes ": " ++ kind)))
 
+-- the line of a table spells a unit
 pub table-unit : (t : TableDecl) → w.IsTable t → UnitPiece (table_line t) (table_toks t)
 unfolding table_toks
 table-unit t h = record { spells = table-spells t h; begins = λ rest. refl; whole = λ rest none. table-whole t.name t.kind rest }
 
+-- the declaration of a table is in the grammar
 pub table-formed : (t : TableDecl) → w.IsTable t → p.IsTable t (var t.name ∷ symbol s.Colon ∷ (kind_toks t.kind ++ symbol s.Semicolon ∷ []))
 table-formed t h = record {
   value = (t.name, t.kind);
@@ -334,6 +338,7 @@ var-whole : (v : List ℕ) (rest : List Tok) → cut 0 (name (codes "var") ∷ v
 unfolding cut ends_unit braces_after
 var-whole v rest = refl
 
+-- the line of a private variable spells a unit
 pub var-unit : (v : List ℕ) → w.IsNamed v → UnitPiece (var_line v) (var_toks v)
 unfolding var_toks
 var-unit v h = record {
@@ -343,6 +348,7 @@ var-unit v h = record {
   whole = λ rest none. var-whole v rest;
 }
 
+-- its declaration is in the grammar
 pub var-formed : (v : List ℕ) → w.IsNamed v → form.Before p.IsVar (s.Semicolon ∷ []) v (var v ∷ symbol s.Semicolon ∷ [])
 var-formed v h = record { front = var v ∷ []; is = refl; formed = variable-formed v h }
 
@@ -537,6 +543,7 @@ op-begins : (op : OpForm) (rest : List Tok) → is_else (op_toks op ++ rest) ≡
 unfolding op_toks
 op-begins op rest = refl
 
+-- the line of an operator spells a unit
 pub op-unit : (op : OpForm) → w.IsOp op → UnitPiece (op_line op) (op_toks op)
 op-unit op h = record { spells = op-spells op h; begins = op-begins op; whole = op-whole op h }
 
@@ -550,6 +557,7 @@ op_back op = name op.label ∷ symbol s.Colon ∷ listed (port_toks op.writes op
 ports-formed : (qs vs : List Name) → w.Every w.IsNamed qs → w.Every w.IsNamed vs → g.Round (λ m. p.IsPorts) 128 (qs, vs) (listed (port_toks qs vs) [])
 ports-formed qs vs h k = round-formed (λ k. p.IsPorts) 127 (qs, vs) (items_toks (port_toks qs vs)) (items-listing p.IsPort port_text port_tok IsPortNamed port-item (ports qs vs) (ports-named qs vs h k))
 
+-- an operator is in the grammar
 pub op-formed : (op : OpForm) → w.IsOp op → p.IsOp op (op_back op)
 op-formed op h =
     let i1 = items_toks (port_toks op.writes op.vars) in

@@ -29,6 +29,7 @@ use Rattle.river_print.specs.Writable as w
 use Rattle.river_print.specs.Writable.{depths}
 use Rattle.river_print.specs.Printable as r
 
+-- a comparison that holds
 pub at_most : (m n : ℕ) → nat_le m n ≡ true → m ≤ n
 at_most m n h = grind (arith, nat_tests)
 
@@ -169,6 +170,7 @@ operators p (op ∷ ops) f n k s d = (
   operators p ops f.1 (All-tail (λ m. m ≤ 32) (nesting op.kernel) (nestings ops) n) k.1 s.1 d.1,
 )
 
+-- a valid plan within the grammar's bounds has what the grammar has
 pub printable-writable : (p : PlanForm) → r.IsPrintable p → w.IsWritable p
 printable-writable p h = record {
   outputs = h.ranged.outputs;

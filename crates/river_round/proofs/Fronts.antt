@@ -56,6 +56,7 @@ program-ranged = gives-seen made (λ (p : Program). r.IsRangedTerm p.value)
     (λ v h. h.1.1))))))))))
     (λ v h. h.1)
 
+-- the law: the plan of a StreamIt program keeps the bounds of River text
 pub fronts-printable : FrontsArePrintable
 fronts-printable text p e =
     let t = reads_what_is_written text p e in

@@ -89,6 +89,7 @@ means-has text = by (tokens_in text) refl where
   by (Err (lex.BigNumber at)) e = e
   by (Err lex.NoMemory) e = absurd (no_want text e)
 
+-- the law: what is read is the grammar
 pub means_what_it_has : MeansWhatItHas
 means_what_it_has text meant = (λ e. subst (Has text) e (means-has text), has-means text meant)
 

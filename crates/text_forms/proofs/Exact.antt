@@ -39,6 +39,7 @@ exact-name = record { sound = sound; complete = complete } where
   complete : (v : List ℕ) (s rest : List Tok) → form.Name v s → Any rest → parse.name_at (s ++ rest) ≡ Some (v, rest)
   complete v s rest f any = rw f refl
 
+-- a variable
 pub exact-var : Exact form.Var parse.var_at Any
 exact-var = record { sound = sound; complete = complete } where
   sound : (ts : List Tok) (v : List ℕ) (rest : List Tok) → parse.var_at ts ≡ Some (v, rest) → Front form.Var v ts rest
@@ -51,6 +52,7 @@ exact-var = record { sound = sound; complete = complete } where
   complete : (v : List ℕ) (s rest : List Tok) → form.Var v s → Any rest → parse.var_at (s ++ rest) ≡ Some (v, rest)
   complete v s rest f any = rw f refl
 
+-- a number
 pub exact-number : Exact form.Number parse.number_at Any
 exact-number = record { sound = sound; complete = complete } where
   sound : (ts : List Tok) (v : ℕ) (rest : List Tok) → parse.number_at ts ≡ Some (v, rest) → Front form.Number v ts rest
@@ -63,6 +65,7 @@ exact-number = record { sound = sound; complete = complete } where
   complete : (v : ℕ) (s rest : List Tok) → form.Number v s → Any rest → parse.number_at (s ++ rest) ≡ Some (v, rest)
   complete v s rest f any = rw f refl
 
+-- no tokens
 pub exact-nothing : {A : Type 0} (x : A) → Exact (form.Nothing x) (parse.nothing_at x) Any
 exact-nothing {A} x = record { sound = sound; complete = complete } where
   sound : (ts : List Tok) (v : A) (rest : List Tok) → parse.nothing_at x ts ≡ Some (v, rest) → Front (form.Nothing x) v ts rest

@@ -462,11 +462,13 @@ exact-line l n i k below room = record { sound = sound; complete = complete } wh
       chain-complete l k n (suc k) room v s i below h.0 refl h.1 rest (λ j le. e j (omega arith))
       ∙ repeated-stop (chain_turn (ladder l n i k (room - 1)) (suc k) room) v rest (ended l n k (ladder l n i k) below room v rest (e (suc k) (omega arith)))
 
+-- an expression on a line of the grammar, where what stands in brackets is read exactly
 pub exact-ladder : (l : Language) (n : ℕ) (i : ℕ → parse.Parse Spoken) → ((room : ℕ) → Exact (IsWithin l n room) (i room) (Ends 6)) → (rank room : ℕ) → Exact (IsTerm l n rank room) (ladder l n i rank room) (Ends rank)
 unfolding ladder
 exact-ladder l n i x zero room = exact-as (exact-less (exact-unary l n room i x) (λ rest e. tt)) (λ v s h. h) (λ v s h. h) (λ ts. refl)
 exact-ladder l n i x (suc k) room = exact-line l n i k (λ r. exact-ladder l n i x k r) room
 
+-- an expression behind one bracket more
 pub exact-within : (l : Language) (n room : ℕ) → Exact (IsWithin l n room) (within l n room) (Ends 6)
 unfolding within
 exact-within l zero room = record { sound = λ ts v rest e. cc; complete = λ v s rest h e. absurd h }

@@ -62,5 +62,6 @@ apart text zero at (c ∷ cs) ms here within fits e =
     (from_piece text at c cs (piece_at (c ∷ cs)) ms here (piece_fits (c ∷ cs) (omega arith)) (piece-passed (c ∷ cs))
     (λ skip ks le f. apart text skip (at + 1) cs ks (next_drop text at c cs here) (omega (arith, room_left text at (c ∷ cs) here (omega arith))) le f) e)
 
+-- the law: outside the tokens are separators and comments alone
 pub tokens_are_apart : TokensAreApart
 tokens_are_apart text ms e = apart text 0 0 text ms refl (omega arith) (omega arith) e

@@ -73,5 +73,6 @@ are-units b (t ∷ ts) = by (ends_unit b t ts) refl (are-units 0 ts) (are-units 
   by true is here there = (one_unit b t (joined (cut 0 ts)) (ap (ends_unit b t) (joined-cut 0 ts) ∙ is), here)
   by false is here there = more_units b t (cut (braces_after b t) ts) (ap (ends_unit b t) (joined-cut (braces_after b t) ts) ∙ is) there
 
+-- the law: units joined are the tokens, and each but the last ends at its only end
 pub units_are_cut : UnitsAreCut
 units_are_cut ts = (joined-cut 0 ts, are-units 0 ts)

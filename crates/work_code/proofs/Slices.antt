@@ -241,6 +241,7 @@ slices text zero at (c ∷ cs) ms here e =
     sooner text (at + zero) at ms (omega arith)
     (from_piece text at c cs (piece_at (c ∷ cs)) ms here refl (piece_fits (c ∷ cs) (omega arith)) (piece_right (c ∷ cs)) (λ skip ks f. slices text skip (at + 1) cs ks (next_drop text at c cs here) f) e)
 
+-- the law: tokens ascend, and each is the slice at its span and the longest there
 pub tokens_are_slices : TokensAreSlices
 tokens_are_slices text ms e = slices text 0 0 text ms refl e
 
@@ -273,6 +274,7 @@ faults text (suc skip) at (c ∷ cs) fault here e = faults text skip (at + 1) cs
 faults text zero at (c ∷ cs) fault here e =
     from_fault text at c cs (piece_at (c ∷ cs)) fault here refl (λ skip f. faults text skip (at + 1) cs fault (next_drop text at c cs here) f) e
 
+-- the law: a fault is where it is told
 pub faults_are_there : FaultsAreThere
 faults_are_there text at = (λ e. faults text 0 0 text (BadByte at) refl e, λ e. faults text 0 0 text (BigNumber at) refl e)
 
