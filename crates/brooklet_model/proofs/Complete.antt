@@ -1,5 +1,5 @@
 -- Every complete run has the plan's histories.
-use Rattle.std.proofs.Common.{◌≡◌, ◌≢◌, ℕ, ℤ, ◌+◌, ◌<◌, ◌≤◌, Bool, Some, List, [], ◌∷◌, ◌++◌, length, take, refl, sym, ap, ◌∙◌, subst, arith, length-append, ⊎_elim, nat_eq, false}
+use Rattle.std.proofs.Common.{◌≡◌, ◌≢◌, ℕ, ◌+◌, ◌<◌, ◌≤◌, Some, List, [], ◌∷◌, ◌++◌, length, take, refl, sym, ap, ◌∙◌, subst, arith, length-append, ⊎_elim, nat_eq, false}
 use Rattle.std.specs.Prelude.{if◌then◌else◌, count_by, slice_get}
 use Rattle.std.proofs.lemmas.Bool.{cases_eq}
 use Rattle.std.proofs.lemmas.List.{append-nil, take-append-le, length-map}
@@ -18,8 +18,9 @@ use Rattle.brooklet_model.specs.Fire.{fire, ins, first_kept}
 use Rattle.brooklet_model.specs.Histories.{History, lists_of, given, histories, joined, tables_of, adds, inputs_of, lengths, Lists, Solves}
 use Rattle.brooklet_model.specs.Laws.{given_to, RunsAgree}
 use Rattle.brooklet_model.specs.Machine.{Machine, at_key, fired, Run, IsComplete, first_of, times}
-use Rattle.brooklet_model.specs.Traced.{numbered, ran, Traced}
-use Rattle.brooklet_model.specs.Words.{Word, run, at_port, PortsBelow, SameBag, Alike}
+use Rattle.brooklet_model.specs.Traced.{ran, Traced}
+use Rattle.river_base.specs.Bags.{SameBag}
+use Rattle.brooklet_model.specs.Words.{Word, run, at_port, PortsBelow, Alike}
 use Rattle.brooklet_model.proofs.Free.{order_is_free, at_port-append, below-append}
 use Rattle.brooklet_model.proofs.Lists.{if_true, if_false, if_eq, if_ne, funext}
 use Rattle.brooklet_model.proofs.Ports.{counts, shaped, got_below}
@@ -27,7 +28,6 @@ use Rattle.brooklet_model.proofs.Shapes.{first_shape}
 use Rattle.brooklet_model.proofs.Solutions.{count_here, written_out, plan_unique}
 use Rattle.brooklet_model.proofs.Swaps.{count_by-append, at_port_here, at_port_past}
 use Rattle.brooklet_model.proofs.Traces.{some_is, at_most, one_place, got_count, place_once, each_at, each_of, got_read, read_of, joined_out, lists_more, joined-append, joined_none, joined_bag, joined_cong, lists_cong, lists_agree, at_key_same, at_key_other, run_more, at_same, take_next, numbered_same, numbered_more, numbered_total, adds_it, adds_total, word_lengths}
-
 
 -- one more firing of the operator that fired, and of no other
 one_more : (k o : ℕ) (e : ℕ × item.Item) (ws : ℕ → Word) → length (at_key k (ws k ++ e ∷ []) ws o) ≡ length (ws o) + (if nat_eq k o then 1 else 0)

@@ -11,7 +11,8 @@ use Rattle.brooklet_model.specs.Firings.{Kept, Fired, feed, splice, beside, fuse
 use Rattle.brooklet_model.specs.Fire.{fire, ins, outs, tabs, privates}
 use Rattle.brooklet_model.specs.Laws.{OrderIsFree}
 use Rattle.brooklet_model.specs.Shapes.{IsShaped, HasShape}
-use Rattle.brooklet_model.specs.Words.{Word, run, at_port, PortsBelow, SameBag, Alike, word_of, in_order, feed_all, IsInterleaving}
+use Rattle.river_base.specs.Bags.{SameBag}
+use Rattle.brooklet_model.specs.Words.{Word, run, at_port, PortsBelow, Alike, word_of, port_by_port, feed_all, IsInterleaving}
 use Rattle.brooklet_model.proofs.FusedRun.{fused_runs}
 use Rattle.brooklet_model.proofs.Joins.{join_swap, cross_swap}
 use Rattle.brooklet_model.proofs.Lists.{if_lt, if_ge}
@@ -104,26 +105,26 @@ at_port-word_other : (p q : ℕ) (xs : List item.Item) → q ≢ p → at_port p
 at_port-word_other p q [] ne = refl
 at_port-word_other p q (x ∷ xs) ne = at_port_past p (q, x) (word_of q xs) ne ∙ at_port-word_other p q xs ne
 
-at_port-in_order_below : (n q : ℕ) (h : ℕ → List item.Item) (p : ℕ) → p < q → at_port p (in_order n q h) ≡ []
+at_port-in_order_below : (n q : ℕ) (h : ℕ → List item.Item) (p : ℕ) → p < q → at_port p (port_by_port n q h) ≡ []
 at_port-in_order_below zero q h p lt = refl
 at_port-in_order_below (suc n) q h p lt =
-    at_port-append p (word_of q (h q)) (in_order n (suc q) h)
-    ∙ ap (λ t. t ++ at_port p (in_order n (suc q) h)) (at_port-word_other p q (h q) (omega arith))
+    at_port-append p (word_of q (h q)) (port_by_port n (suc q) h)
+    ∙ ap (λ t. t ++ at_port p (port_by_port n (suc q) h)) (at_port-word_other p q (h q) (omega arith))
     ∙ at_port-in_order_below n (suc q) h p (omega arith)
 
-at_port-in_order : (n q : ℕ) (h : ℕ → List item.Item) (p : ℕ) → q ≤ p → p < q + n → at_port p (in_order n q h) ≡ h p
-at_port-in_order zero q h p le lt = absurd (omega arith)
-at_port-in_order (suc n) q h p le lt =
-    at_port-append p (word_of q (h q)) (in_order n (suc q) h)
+at_port-port_by_port : (n q : ℕ) (h : ℕ → List item.Item) (p : ℕ) → q ≤ p → p < q + n → at_port p (port_by_port n q h) ≡ h p
+at_port-port_by_port zero q h p le lt = absurd (omega arith)
+at_port-port_by_port (suc n) q h p le lt =
+    at_port-append p (word_of q (h q)) (port_by_port n (suc q) h)
     ∙ ⊎_elim
     (λ eq.
-    ap (λ o. at_port p (word_of o (h o)) ++ at_port p (in_order n (suc q) h)) eq
-    ∙ ap (λ t. t ++ at_port p (in_order n (suc q) h)) (at_port-word_same p (h p))
+    ap (λ o. at_port p (word_of o (h o)) ++ at_port p (port_by_port n (suc q) h)) eq
+    ∙ ap (λ t. t ++ at_port p (port_by_port n (suc q) h)) (at_port-word_same p (h p))
     ∙ ap (λ t. h p ++ t) (at_port-in_order_below n (suc q) h p (omega arith))
     ∙ append-nil (h p))
     (λ ne.
-    ap (λ t. t ++ at_port p (in_order n (suc q) h)) (at_port-word_other p q (h q) ne)
-    ∙ at_port-in_order n (suc q) h p (omega arith) (omega arith))
+    ap (λ t. t ++ at_port p (port_by_port n (suc q) h)) (at_port-word_other p q (h q) ne)
+    ∙ at_port-port_by_port n (suc q) h p (omega arith) (omega arith))
     (cases_eq q p)
 
 pub below-append : (n : ℕ) (u v : Word) → PortsBelow n u → PortsBelow n v → PortsBelow n (u ++ v)
@@ -134,14 +135,14 @@ below-word : (n p : ℕ) (xs : List item.Item) → p < n → PortsBelow n (word_
 below-word n p [] h = tt
 below-word n p (x ∷ xs) h = (h, below-word n p xs h)
 
-pub below-in_order : (m n q : ℕ) (h : ℕ → List item.Item) → q + n ≤ m → PortsBelow m (in_order n q h)
-below-in_order m zero q h le = tt
-below-in_order m (suc n) q h le = below-append m (word_of q (h q)) (in_order n (suc q) h) (below-word m q (h q) (omega arith)) (below-in_order m n (suc q) h (omega arith))
+pub below-port_by_port : (m n q : ℕ) (h : ℕ → List item.Item) → q + n ≤ m → PortsBelow m (port_by_port n q h)
+below-port_by_port m zero q h le = tt
+below-port_by_port m (suc n) q h le = below-append m (word_of q (h q)) (port_by_port n (suc q) h) (below-word m q (h q) (omega arith)) (below-port_by_port m n (suc q) h (omega arith))
 
 pub order_is_free : (k : Kern) (h : ℕ → List item.Item) (w : Word) (ss : List Kept) → IsShaped k → HasShape k ss → IsInterleaving (ins k) h w → Alike (run (fire k) w ss) (feed_all k h ss)
 order_is_free k h w ss f sh i =
-    free k w (in_order (ins k) 0 h) ss f sh i.below (below-in_order (ins k) (ins k) 0 h (omega arith))
-    (λ p lt. i.lists p lt ∙ sym (at_port-in_order (ins k) 0 h p (omega arith) (omega (arith, lt))))
+    free k w (port_by_port (ins k) 0 h) ss f sh i.below (below-port_by_port (ins k) (ins k) 0 h (omega arith))
+    (λ p lt. i.lists p lt ∙ sym (at_port-port_by_port (ins k) 0 h p (omega arith) (omega (arith, lt))))
 
 pub order_law : OrderIsFree
 order_law k h w ss f sh i = order_is_free k h w ss (formed_shaped k f) sh i

@@ -12,7 +12,8 @@ use Rattle.brooklet_model.proofs.Drained.{Keeps, two_puts}
 
 -- JOINERS
 
-stuck_at : (give : item.Item → List item.Item) (ls : List (List item.Item)) (p : ℕ) → waiting ls ≡ 0 → front_at give ls p ≡ None
+-- where nothing waits, no port has a front
+pub stuck_at : (give : item.Item → List item.Item) (ls : List (List item.Item)) (p : ℕ) → waiting ls ≡ 0 → front_at give ls p ≡ None
 stuck_at give [] p h = refl
 stuck_at give ([] ∷ ls) zero h = refl
 stuck_at give ((x ∷ xs) ∷ ls) zero h = absurd (omega arith)
@@ -22,7 +23,8 @@ less_in : (give : item.Item → List item.Item) (l : List item.Item) (o : List i
 less_in give [] o h = absurd (cc h)
 less_in give (x ∷ xs) o h = omega arith
 
-less_at : (give : item.Item → List item.Item) (ls : List (List item.Item)) (p : ℕ) (o : List item.Item) → front_at give ls p ≡ Some o → waiting (rest_at ls p) < waiting ls
+-- what is passed waits no more
+pub less_at : (give : item.Item → List item.Item) (ls : List (List item.Item)) (p : ℕ) (o : List item.Item) → front_at give ls p ≡ Some o → waiting (rest_at ls p) < waiting ls
 less_at give [] p o h = absurd (cc h)
 less_at give (l ∷ ls) zero o h = let e = less_in give l o h in omega arith
 less_at give (l ∷ ls) (suc p) o h = let e = less_at give ls p o h in omega arith
@@ -56,7 +58,8 @@ swaps_at (l ∷ ls) zero (suc q) xs ys h = refl
 swaps_at (l ∷ ls) (suc p) zero xs ys h = refl
 swaps_at (l ∷ ls) (suc p) (suc q) xs ys h = ap (λ t. l ∷ t) (swaps_at ls p q xs ys (λ e. h (ap suc e)))
 
-join_keeps : (give : item.Item → List item.Item) (ws : List ℕ) (n : ℕ) → Keeps n Turns (front_of give) (passed ws) put (λ s. waiting s.lists)
+-- a joiner passes what it can, whenever it comes
+pub join_keeps : (give : item.Item → List item.Item) (ws : List ℕ) (n : ℕ) → Keeps n Turns (front_of give) (passed ws) put (λ s. waiting s.lists)
 join_keeps give ws n = record {
   stuck = λ s h. stuck_at give s.lists s.port h;
   less = λ s o h. less_at give s.lists s.port o h;

@@ -1,11 +1,15 @@
+pub mod BagTypes
+pub mod Collected
 pub mod Complete
+pub mod Cycles
+pub mod Dealt
 pub mod Drained
 pub mod Feeds
 pub mod Free
 pub mod FusedRun
 pub mod Joins
 pub mod Lists
-pub mod OnRows
+pub mod Longest
 pub mod Ports
 pub mod RunMeaning
 pub mod Shapes
@@ -13,5 +17,7 @@ pub mod Solutions
 pub mod Spliced
 pub mod Swaps
 pub mod Traces
+pub mod Turned
 pub mod TypedPlan
 pub mod Typing
+pub mod WideAdds

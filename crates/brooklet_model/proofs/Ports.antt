@@ -7,6 +7,7 @@ use Rattle.std.proofs.lemmas.List.{length-map, length-replicate, length-take}
 use Rattle.std.proofs.lemmas.Option.{slice_get_past}
 use Rattle.river_base.specs.Number.{count_of}
 use Rattle.river_base.specs.declared.kind.QueueType.{QueueType}
+use Rattle.kern_rows.specs.Needs.{HaveShares}
 use Rattle.kern_rows.specs.Turns.{shares, ones}
 use Rattle.river_kernels.specs.declared.types.VarKind.{VarKind}
 use Rattle.river_kernels.specs.declared.types.VarKind.TheVariants.{Private, Table}
@@ -14,7 +15,7 @@ use Rattle.river_kernels.specs.Formed.{are_weights}
 use Rattle.river_kernels.specs.Fits.{Fits, rows, is_sized, kept, spliced}
 use Rattle.river_kernels.specs.Kern.{Kern, code, filter, duplicate, deal, collect, packed, unpack, window, select, project, cross, streamer, tally, fused}
 use Rattle.brooklet_model.specs.Fire.{ins, outs, tabs, privates, kept_vars}
-use Rattle.brooklet_model.specs.Shapes.{IsFormed, AreShares, IsShaped}
+use Rattle.brooklet_model.specs.Shapes.{IsFormed, IsShaped}
 
 -- how many variables are private, and how many are tables
 abbrev pub privates_in : List VarKind → ℕ
@@ -104,7 +105,7 @@ at_least (w ∷ ws) h =
     let p = and_parts (nat_le 1 (count_of w)) (list_all (λ v. nat_le 1 (count_of v)) ws) h in
     (grind (arith, p.0), at_least ws p.1)
 
-weights_shares : (b : Bool) (ws : List ℤ) → (b && are_weights ws) ≡ true → AreShares (shares ws)
+weights_shares : (b : Bool) (ws : List ℤ) → (b && are_weights ws) ≡ true → HaveShares (shares ws)
 weights_shares b ws h =
     let p = and_parts b (are_weights ws) h in
     let q = and_parts (nat_le 1 (length ws)) (list_all (λ w. nat_le 1 (count_of w)) ws) p.1 in
@@ -116,7 +117,7 @@ ones_each : (n : ℕ) → AllByRecursion (λ w. 0 < w) (ones n)
 ones_each zero = tt
 ones_each (suc n) = (omega arith, ones_each n)
 
-ones_shares : (b : Bool) (n : ℕ) → (b && nat_le 1 n) ≡ true → AreShares (ones n)
+ones_shares : (b : Bool) (n : ℕ) → (b && nat_le 1 n) ≡ true → HaveShares (ones n)
 ones_shares b n h =
     let p = and_parts b (nat_le 1 n) h in
     let some : 1 ≤ n = grind (arith, p.1) in

@@ -11,13 +11,14 @@ use Rattle.river_base.specs.Places.{append_at}
 use Rattle.river_base.specs.Drain.{drain, pass_on}
 use Rattle.kern_rows.specs.Forms.{CodeForm, FilterForm}
 use Rattle.kern_rows.specs.Runs.{run_kept, Filtering, filter_turn, filter_ran, buffer_of}
+use Rattle.kern_rows.specs.Needs.{HaveShares, IsJoiner}
 use Rattle.kern_rows.specs.Turns.{Turns, IsTurn, shares, ones, next_port, next_had, front_of, passed, rest_at, waiting, put, itself}
 use Rattle.kern_bags.specs.Steps.{window_one, streamer_one}
 use Rattle.river_kernels.specs.Kern.{Kern, code, filter, duplicate, deal, collect, packed, unpack, window, select, project, cross, streamer, tally, fused}
 use Rattle.kern_rows.proofs.Lengths.{run_kept_length}
 use Rattle.brooklet_model.specs.Firings.{Kept, Slots, Buffered, Turn, Joining, Received, Crossing, feed}
 use Rattle.brooklet_model.specs.Fire.{fire, privates, kept_vars, first_kept, first_slots, code_one, filter_firing, join_one, received_one, cross_one, values_of, value_of}
-use Rattle.brooklet_model.specs.Shapes.{AreShares, IsShaped, AreSlots, IsFiltering, IsDealing, IsJoined, IsJoining, IsReceived, IsCrossing, IsNone, IsOne, HasSlots, HasShape}
+use Rattle.brooklet_model.specs.Shapes.{IsShaped, AreSlots, IsFiltering, IsDealing, IsJoining, IsReceived, IsCrossing, IsNone, IsOne, HasSlots, HasShape}
 use Rattle.brooklet_model.proofs.Lists.{if_lt, if_ge, take_front, drop_front, feed_kept}
 
 one_length : (P : Kept → Type 0) (ss : List Kept) → IsOne P ss → length ss ≡ 1
@@ -62,7 +63,7 @@ weight_at (w ∷ ws) (suc p) h lt = weight_at ws p h.1 (omega arith)
 turn_by : (ws : List ℕ) (p q p' q' : ℕ) → p ≡ p' → q ≡ q' → IsTurn ws p' q' → IsTurn ws p q
 turn_by ws p q p' q' e f h = rw (e, f) h
 
-pub next_turn : (ws : List ℕ) (port had : ℕ) → AreShares ws → IsTurn ws port had → IsTurn ws (next_port ws port had) (next_had ws port had)
+pub next_turn : (ws : List ℕ) (port had : ℕ) → HaveShares ws → IsTurn ws port had → IsTurn ws (next_port ws port had) (next_had ws port had)
 next_turn ws port had all h =
     let other : ℕ = if nat_lt (port + 1) (length ws) then port + 1 else 0 in
     ⊎_elim
@@ -73,7 +74,7 @@ next_turn ws port had all h =
     (cases_lt (port + 1) (length ws))))
     (cases_lt (had + 1) (slice_index_or ws port 0))
 
-pub first_turn : (ws : List ℕ) → AreShares ws → IsTurn ws 0 0
+pub first_turn : (ws : List ℕ) → HaveShares ws → IsTurn ws 0 0
 first_turn ws all = (all.0, weight_at ws 0 all.1 all.0)
 
 pub length-rest_at : (ls : List (List item.Item)) (p : ℕ) → length (rest_at ls p) ≡ length ls
@@ -86,15 +87,15 @@ length-append_at [] p xs = refl
 length-append_at (l ∷ ls) zero xs = refl
 length-append_at (l ∷ ls) (suc p) xs = ap suc (length-append_at ls p xs)
 
-pub drain_joined : (give : item.Item → List item.Item) (ws : List ℕ) (n : ℕ) (s : Turns) → AreShares ws → IsJoined ws s → IsJoined ws (drain (front_of give) (passed ws) n s).1
+pub drain_joined : (give : item.Item → List item.Item) (ws : List ℕ) (n : ℕ) (s : Turns) → HaveShares ws → IsJoiner ws s → IsJoiner ws (drain (front_of give) (passed ws) n s).1
 drain_joined give ws zero s all j = j
 drain_joined give ws (suc n) s all j =
-    elim (front_of give s) as (λ o. IsJoined ws (pass_on (passed ws) s (drain (front_of give) (passed ws) n) o).1) [
+    elim (front_of give s) as (λ o. IsJoiner ws (pass_on (passed ws) s (drain (front_of give) (passed ws) n) o).1) [
       | None ↦ j
       | Some x ↦ drain_joined give ws n (passed ws s) all (record { turn = next_turn ws s.port s.had all j.turn; lists = length-rest_at s.lists s.port ∙ j.lists })
     ]
 
-pub put_joined : (ws : List ℕ) (p : ℕ) (x : item.Item) (s : Turns) → IsJoined ws s → IsJoined ws (put p x s)
+pub put_joined : (ws : List ℕ) (p : ℕ) (x : item.Item) (s : Turns) → IsJoiner ws s → IsJoiner ws (put p x s)
 put_joined ws p x s j = record { turn = j.turn; lists = length-append_at s.lists p (x ∷ []) ∙ j.lists }
 
 -- EACH KIND OF STATE AFTER A FIRING
@@ -128,7 +129,7 @@ filter_shape f n x (Received xs ∷ []) h = absurd h
 filter_shape f n x (Crossing s ∷ []) h = absurd h
 filter_shape f n x (s ∷ t ∷ ts) h = absurd h
 
-deal_shape : (ws : List ℤ) (p : ℕ) (x : item.Item) (ss : List Kept) → AreShares (shares ws) → HasShape (deal ws) ss → HasShape (deal ws) (fire (deal ws) p x ss).states
+deal_shape : (ws : List ℤ) (p : ℕ) (x : item.Item) (ss : List Kept) → HaveShares (shares ws) → HasShape (deal ws) ss → HasShape (deal ws) (fire (deal ws) p x ss).states
 deal_shape ws p x [] f h = absurd h
 deal_shape ws p x (Slots zs ∷ []) f h = absurd h
 deal_shape ws p x (Buffered s ∷ []) f h = absurd h
@@ -138,7 +139,7 @@ deal_shape ws p x (Received xs ∷ []) f h = absurd h
 deal_shape ws p x (Crossing s ∷ []) f h = absurd h
 deal_shape ws p x (s ∷ t ∷ ts) f h = absurd h
 
-join_shape : (give : item.Item → List item.Item) (ws : List ℕ) (p : ℕ) (x : item.Item) (ss : List Kept) → AreShares ws → IsOne (IsJoining ws) ss → IsOne (IsJoining ws) (join_one give ws p x ss).states
+join_shape : (give : item.Item → List item.Item) (ws : List ℕ) (p : ℕ) (x : item.Item) (ss : List Kept) → HaveShares ws → IsOne (IsJoining ws) ss → IsOne (IsJoining ws) (join_one give ws p x ss).states
 join_shape give ws p x [] f h = absurd h
 join_shape give ws p x (Slots zs ∷ []) f h = absurd h
 join_shape give ws p x (Buffered s ∷ []) f h = absurd h

@@ -1,23 +1,21 @@
--- In a plan that is built, all items in all histories are of their queues' types, and each step of the machine keeps this.
-use Rattle.std.proofs.Common.{◌≡◌, ℕ, zero, suc, ◌+◌, ◌<◌, Some, List, [], ◌∷◌, ◌++◌, map, refl, sym, ap, ◌∙◌, subst, arith, ⊎_elim}
+-- In a valid plan, on inputs of their types, all items in all histories are of their queues' types, and each step of the machine keeps this.
+use Rattle.std.proofs.Common.{◌≡◌, ℕ, zero, suc, ◌+◌, ◌<◌, Option, Some, List, [], ◌∷◌, ◌++◌, map, refl, sym, ap, ◌∙◌, subst, arith, ⊎_elim}
 use Rattle.std.specs.Prelude.{if◌then◌else◌, All, slice_get, unwrap_or}
 use Rattle.std.proofs.lemmas.Bool.{cases_eq}
-use Rattle.std.proofs.lemmas.List.Elements.{All-head, All-tail, All-cons, All-nil, All-append}
+use Rattle.std.proofs.lemmas.List.Elements.{All-head, All-tail, All-nil, All-append}
 use Rattle.river_base.specs.declared.item.Item as item
 use Rattle.river_base.specs.declared.kind.QueueType.{QueueType}
 use Rattle.river_base.specs.Held.{HasType}
 use Rattle.river_base.specs.Name.{name_eq}
 use Rattle.river_base.specs.Places.{list_at}
 use Rattle.river_kernels.specs.declared.types.VarKind.{VarKind}
-use Rattle.river_kernels.specs.declared.types.VarKind.TheVariants.{Private, Table}
 use Rattle.river_kernels.specs.Fits.{Fits, rows}
 use Rattle.river_kernels.specs.Kern.{Kern}
 use Rattle.river_plan.specs.declared.plan.Decl.{Decl}
-use Rattle.river_plan.specs.declared.plan.TableDecl.{TableDecl}
 use Rattle.river_plan.specs.Forms.{Name, OpForm, PlanForm, decl_names, table_names, all_decls}
-use Rattle.river_plan.specs.Kinds.{IsFit, kind_in, kind_of, private_in, var_kind}
+use Rattle.river_plan.specs.Kinds.{IsFit, kind_in, kind_of, var_kind}
 use Rattle.river_plan.specs.Names.{one_if, count}
-use Rattle.river_plan.specs.Uses.{Each, total, writes_it, vars_it, and_writes, ReadsBefore}
+use Rattle.river_plan.specs.Uses.{Each, total, writes_it, and_writes, ReadsBefore}
 use Rattle.river_plan.specs.Valid.{IsPlan}
 use Rattle.river_plan.proofs.NameLemmas.{cases_name, count-append, more_or_zero}
 use Rattle.brooklet_model.specs.Firings.{Kept}
@@ -26,42 +24,14 @@ use Rattle.brooklet_model.specs.Histories.{History, lists_of, given, hist, joine
 use Rattle.brooklet_model.specs.Laws.{HistoriesAreTyped}
 use Rattle.brooklet_model.specs.Machine.{Machine, at_key, fired, Step, first_of, start}
 use Rattle.brooklet_model.specs.Shapes.{HasShape}
-use Rattle.brooklet_model.specs.Typed.{IsOf, AreOf, IsRows, IsOnRows, IsBuilt, AreInputs, Holds, IsTypedState}
-use Rattle.brooklet_model.specs.Words.{Word, run, word_of, in_order}
+use Rattle.brooklet_model.specs.Typed.{IsTyped, IsOf, AreOf, AreInputs, Holds, IsTypedState}
+use Rattle.brooklet_model.specs.Words.{Word, run, word_of, port_by_port}
 use Rattle.brooklet_model.proofs.Lists.{if_true, if_false}
-use Rattle.brooklet_model.proofs.OnRows.{on_rows}
-use Rattle.brooklet_model.proofs.Ports.{tables_in, shaped}
+use Rattle.brooklet_model.proofs.Ports.{shaped}
 use Rattle.brooklet_model.proofs.Shapes.{fire_shape, first_shape}
 use Rattle.brooklet_model.proofs.Solutions.{count_here, written_out, stays, plan_solves}
-use Rattle.brooklet_model.proofs.Traces.{some_is, at_most, each_at, each_of, at_key_same, at_key_other, at_same}
+use Rattle.brooklet_model.proofs.Traces.{some_is, each_at, each_of, at_key_same, at_key_other, at_same}
 use Rattle.brooklet_model.proofs.Typing.{fire_typed, first_holds}
-
--- KERNELS ON ROWS
-
--- the first declaration of a name
-kind_rows : (ds : List Decl) (q : Name) → All (λ d. IsRows d.kind) ds → IsRows (kind_of ds q)
-kind_rows [] q h = tt
-kind_rows (d ∷ ds) q h = ⊎_elim
-    (λ c. subst (λ o. IsRows (unwrap_or o (rows 0))) (sym (if_true (name_eq d.name q) (Some d.kind) (kind_in ds q) c.1)) (All-head (λ e. IsRows e.kind) d ds h))
-    (λ c. subst (λ o. IsRows (unwrap_or o (rows 0))) (sym (if_false (name_eq d.name q) (Some d.kind) (kind_in ds q) c.1)) (kind_rows ds q (All-tail (λ e. IsRows e.kind) d ds h)))
-    (cases_name d.name q)
-
-kinds_rows : (ds : List Decl) (qs : List Name) → All (λ d. IsRows d.kind) ds → All IsRows (map (kind_of ds) qs)
-kinds_rows ds [] h = All-nil IsRows
-kinds_rows ds (q ∷ qs) h = All-cons IsRows (kind_of ds q) (map (kind_of ds) qs) (kind_rows ds q h) (kinds_rows ds qs h)
-
-private_found : (vars : List Name) (v : Name) → 0 < count v vars → private_in vars v ≡ Some Private
-private_found [] v lt = absurd (omega (arith, lt))
-private_found (w ∷ ws) v lt = ⊎_elim
-    (λ c. if_true (name_eq w v) (Some Private) (private_in ws v) c.1)
-    (λ c. if_false (name_eq w v) (Some Private) (private_in ws v) c.1 ∙ private_found ws v (let e = ap one_if c.1 in omega (arith, e, lt)))
-    (cases_name w v)
-
-no_tables : (ts : List TableDecl) (vars vs : List Name) → ts ≡ [] → ((v : Name) → 0 < count v vs → 0 < count v vars) → tables_in (map (var_kind ts vars) vs) ≡ 0
-no_tables ts vars [] e h = refl
-no_tables ts vars (v ∷ vs) e h =
-    let is : var_kind ts vars v ≡ Private = ap (λ (l : List TableDecl). var_kind l vars v) e ∙ ap (λ o. unwrap_or o (Table 0)) (private_found vars v (h v (count_here v vs))) in
-    ap (λ k. tables_in (k ∷ map (var_kind ts vars) vs)) is ∙ no_tables ts vars vs e (λ w lt. h w (omega (arith, lt)))
 
 -- what holds of the inputs, and passes from what an operator reads to what it writes, holds of all that is written
 pub by_order : (Q : Name → Type 0) (ops : List OpForm) (known : Name → ℕ) → ReadsBefore known ops → ((q : Name) → 0 < known q → Q q)
@@ -73,25 +43,10 @@ by_order Q (op ∷ ops) known r k e q lt =
     (λ w lw. ⊎_elim (λ h. k w h) (λ z. e.0 (λ x lx. k x (r.0 x lx)) w (omega (arith, lw, z))) (more_or_zero (known w)))
     e.1 q (omega (arith, lt))
 
-module _ (p : PlanForm) (v : IsPlan p) (b : IsBuilt p) where
-  abbrev kind : Name → QueueType
-  kind = kind_of (all_decls p)
-
+module _ (p : PlanForm) (v : IsPlan p) where
   -- each operator fits its queues' types
   pub op_fits : (o : ℕ) (op : OpForm) → slice_get p.ops o ≡ Some op → IsFit p op
   op_fits o op g = each_at (IsFit p) p.ops o op v.fits g
-
-  pub op_on_rows : (o : ℕ) (op : OpForm) → slice_get p.ops o ≡ Some op → IsOnRows op.kernel
-  op_on_rows o op g =
-      let none_is : table_names p.tables ≡ [] = ap table_names b.tables in
-      let r = on_rows op.kernel _ _ _ (op_fits o op g) (kinds_rows (all_decls p) op.reads b.queues)
-      (no_tables p.tables p.vars op.vars b.tables (λ w lt.
-      let m = at_most (vars_it w) p.ops o op g in
-      let d = v.vars_declared w (omega (arith, m, lt)) in
-      let s = count-append w (table_names p.tables) p.vars in
-      let z = ap (count w) none_is in
-      omega (arith, d, s, z))) in
-      r.0
 
 -- all items of a word are of the types of their ports
 abbrev pub AreAt : List QueueType → Word → Type 0
@@ -106,17 +61,17 @@ at_word : (is : List QueueType) (p : ℕ) (xs : List item.Item) → All (IsOf is
 at_word is p [] h = tt
 at_word is p (x ∷ xs) h = (All-head (IsOf is p) x xs h, at_word is p xs (All-tail (IsOf is p) x xs h))
 
-at_order : (is : List QueueType) (n q : ℕ) (h : ℕ → List item.Item) → AreOf is h → AreAt is (in_order n q h)
+at_order : (is : List QueueType) (n q : ℕ) (h : ℕ → List item.Item) → AreOf is h → AreAt is (port_by_port n q h)
 at_order is zero q h t = tt
-at_order is (suc n) q h t = at_append is (word_of q (h q)) (in_order n (suc q) h) (at_word is q (h q) (t q)) (at_order is n (suc q) h t)
+at_order is (suc n) q h t = at_append is (word_of q (h q)) (port_by_port n (suc q) h) (at_word is q (h q) (t q)) (at_order is n (suc q) h t)
 
--- firings of a kernel on rows, one after another
-pub run_typed : (k : Kern) (is os : List QueueType) (vs : List VarKind) (w : Word) (ss : List Kept) → IsOnRows k → Fits k is os vs → HasShape k ss → Holds k is ss → AreAt is w → AreOf os (run (fire k) w ss).outs
-run_typed k is os vs [] ss r f h t a = λ j. All-nil (IsOf os j)
-run_typed k is os vs (e ∷ es) ss r f h t a =
-    let one = fire_typed k is os vs e.0 e.1 ss r f h t a.0 in
+-- firings of a kernel, one after another
+pub run_typed : (k : Kern) (is os : List QueueType) (vs : List VarKind) (w : Word) (ss : List Kept) → Fits k is os vs → HasShape k ss → Holds k is ss → AreAt is w → AreOf os (run (fire k) w ss).outs
+run_typed k is os vs [] ss f h t a = λ j. All-nil (IsOf os j)
+run_typed k is os vs (e ∷ es) ss f h t a =
+    let one = fire_typed k is os vs e.0 e.1 ss f h t a.0 in
     let s = fire k e.0 e.1 ss in
-    let rest = run_typed k is os vs es s.states r f (fire_shape k e.0 e.1 ss (shaped k is os vs f) h) one.1 a.1 in
+    let rest = run_typed k is os vs es s.states f (fire_shape k e.0 e.1 ss (shaped k is os vs f) h) one.1 a.1 in
     λ j. All-append (IsOf os j) (s.outs j) ((run (fire k) es s.states).outs j) (one.0 j) (rest j)
 
 -- QUEUES BY NAME
@@ -137,12 +92,25 @@ writes_of kind (w ∷ ws) f h t l q lt = ⊎_elim
     (λ c. writes_of kind ws (λ j. f (suc j)) h (λ j. t (suc j)) l.1 q (let e = ap one_if c.1 in omega (arith, lt, e)))
     (cases_name w q)
 
-pub joined_of : (kind : Name → QueueType) (ws : List Name) (f : ℕ → List item.Item) → AreOf (map kind ws) f → (q : Name) → All (HasType (kind q)) (joined ws f q)
-joined_of kind [] f t q = All-nil (HasType (kind q))
-joined_of kind (w ∷ ws) f t q = All-append (HasType (kind q)) (if name_eq w q then f 0 else []) (joined ws (λ j. f (suc j)) q) (⊎_elim
-    (λ c. subst (All (HasType (kind q))) (sym (if_true (name_eq w q) (f 0) [] c.1)) (subst (λ n. All (HasType (kind n)) (f 0)) c.0 (t 0)))
-    (λ c. subst (All (HasType (kind q))) (sym (if_false (name_eq w q) (f 0) [] c.1)) (All-nil (HasType (kind q))))
-    (cases_name w q)) (joined_of kind ws (λ j. f (suc j)) (λ j. t (suc j)) q)
+-- whatever is said of the items at ports by the types of their queues is said of what the ports give to a queue
+pub joined_all : (B : Option QueueType → item.Item → Type 0) (kind : Name → QueueType) (ws : List Name) (f : ℕ → List item.Item) → ((p : ℕ) → All (B (slice_get (map kind ws) p)) (f p)) → (q : Name) → All (B (Some (kind q))) (joined ws f q)
+joined_all B kind [] f t q = All-nil (B (Some (kind q)))
+joined_all B kind (w ∷ ws) f t q = All-append (B (Some (kind q))) (if name_eq w q then f 0 else []) (joined ws (λ j. f (suc j)) q) (⊎_elim
+    (λ c. subst (All (B (Some (kind q)))) (sym (if_true (name_eq w q) (f 0) [] c.1)) (subst (λ n. All (B (Some (kind n))) (f 0)) c.0 (t 0)))
+    (λ c. subst (All (B (Some (kind q)))) (sym (if_false (name_eq w q) (f 0) [] c.1)) (All-nil (B (Some (kind q)))))
+    (cases_name w q)) (joined_all B kind ws (λ j. f (suc j)) (λ j. t (suc j)) q)
+
+-- the type of a port is that of its queue
+pub kind_got : (kind : Name → QueueType) (rs : List Name) (port : ℕ) (q : Name) → slice_get rs port ≡ Some q → slice_get (map kind rs) port ≡ Some (kind q)
+kind_got kind [] port q g = absurd (cc g)
+kind_got kind (r ∷ rs) zero q g = ap (λ n. Some (kind n)) (some_is r q g)
+kind_got kind (r ∷ rs) (suc port) q g = kind_got kind rs port q g
+
+-- what is said of all items of a list is said of each
+pub got_all : (P : item.Item → Type 0) (xs : List item.Item) (n : ℕ) (x : item.Item) → All P xs → slice_get xs n ≡ Some x → P x
+got_all P [] n x a g = absurd (cc g)
+got_all P (y ∷ ys) zero x a g = subst P (some_is y x g) (All-head P y ys a)
+got_all P (y ∷ ys) (suc n) x a g = got_all P ys n x (All-tail P y ys a) g
 
 -- INPUTS
 
@@ -184,17 +152,17 @@ inputs_typed p v inputs a q = ⊎_elim
 
 -- HISTORIES
 
-module _ (p : PlanForm) (v : IsPlan p) (b : IsBuilt p) where
+module _ (p : PlanForm) (v : IsPlan p) where
   abbrev kinds : Name → QueueType
   kinds = kind_of (all_decls p)
 
   -- what an operator gives on inputs of their types
   pub given_typed : (o : ℕ) (op : OpForm) (h : History) → slice_get p.ops o ≡ Some op → ((q : Name) → 0 < count q op.reads → All (HasType (kinds q)) (h q)) → AreOf (map kinds op.writes) (given op h).outs
   given_typed o op h g e =
-      let f = op_fits p v b o op g in
+      let f = op_fits p v o op g in
       let s = shaped op.kernel _ _ _ f in
-      run_typed op.kernel (map kinds op.reads) (map kinds op.writes) (map (var_kind p.tables p.vars) op.vars) (in_order (ins op.kernel) 0 (lists_of h op.reads)) (first_kept op.kernel)
-      (op_on_rows p v b o op g) f (first_shape op.kernel s) (first_holds op.kernel (map kinds op.reads) s)
+      run_typed op.kernel (map kinds op.reads) (map kinds op.writes) (map (var_kind p.tables p.vars) op.vars) (port_by_port (ins op.kernel) 0 (lists_of h op.reads)) (first_kept op.kernel)
+      f (first_shape op.kernel s) (first_holds op.kernel (map kinds op.reads) s)
       (at_order (map kinds op.reads) (ins op.kernel) 0 (lists_of h op.reads) (reads_of kinds h op.reads e))
 
   pub histories_typed : (inputs : List (List item.Item)) → AreInputs p.inputs inputs → EachQueue kinds (hist p inputs)
@@ -216,33 +184,23 @@ module _ (p : PlanForm) (v : IsPlan p) (b : IsBuilt p) where
   start_typed inputs a = record {
     queues = inputs_typed p v inputs a;
     shapes = λ o op g.
-        let s = shaped op.kernel _ _ _ (op_fits p v b o op g) in
+        let s = shaped op.kernel _ _ _ (op_fits p v o op g) in
         subst (HasShape op.kernel) (sym (ap first_of g)) (first_shape op.kernel s);
     holds = λ o op g.
-        let s = shaped op.kernel _ _ _ (op_fits p v b o op g) in
+        let s = shaped op.kernel _ _ _ (op_fits p v o op g) in
         subst (Holds op.kernel (map kinds op.reads)) (sym (ap first_of g)) (first_holds op.kernel (map kinds op.reads) s);
   }
-
-  got_of : (h : History) (rs : List Name) (port : ℕ) (q : Name) (x : item.Item) → slice_get rs port ≡ Some q → HasType (kinds q) x → IsOf (map kinds rs) port x
-  got_of h [] port q x g i = absurd (cc g)
-  got_of h (r ∷ rs) zero q x g i = subst (λ n. HasType (kinds n) x) (sym (some_is r q g)) i
-  got_of h (r ∷ rs) (suc port) q x g i = got_of h rs port q x g i
-
-  got_all : (P : item.Item → Type 0) (xs : List item.Item) (n : ℕ) (x : item.Item) → All P xs → slice_get xs n ≡ Some x → P x
-  got_all P [] n x a g = absurd (cc g)
-  got_all P (y ∷ ys) zero x a g = subst P (some_is y x g) (All-head P y ys a)
-  got_all P (y ∷ ys) (suc n) x a g = got_all P ys n x (All-tail P y ys a) g
 
   pub fired_typed : (o port : ℕ) (op : OpForm) (q : Name) (x : item.Item) (s : Machine) → IsTypedState p s → slice_get p.ops o ≡ Some op → slice_get op.reads port ≡ Some q → slice_get (s.hist q) (s.taken q) ≡ Some x
       → IsTypedState p (fired (table_names p.tables) o op port q x s)
   fired_typed o port op q x s t g qi xi =
-      let f = op_fits p v b o op g in
-      let i = got_of s.hist op.reads port q x qi (got_all (HasType (kinds q)) (s.hist q) (s.taken q) x (t.queues q) xi) in
-      let one = fire_typed op.kernel _ _ _ port x (s.kept o) (op_on_rows p v b o op g) f (t.shapes o op g) (t.holds o op g) i in
+      let f = op_fits p v o op g in
+      let i = subst (λ t. IsTyped t x) (sym (kind_got kinds op.reads port q qi)) (got_all (HasType (kinds q)) (s.hist q) (s.taken q) x (t.queues q) xi) in
+      let one = fire_typed op.kernel _ _ _ port x (s.kept o) f (t.shapes o op g) (t.holds o op g) i in
       let r = fire op.kernel port x (s.kept o) in
       let shape = fire_shape op.kernel port x (s.kept o) (shaped op.kernel _ _ _ f) (t.shapes o op g) in
       record {
-        queues = λ n. All-append (HasType (kinds n)) (s.hist n) (joined op.writes r.outs n) (t.queues n) (joined_of kinds op.writes r.outs one.0 n);
+        queues = λ n. All-append (HasType (kinds n)) (s.hist n) (joined op.writes r.outs n) (t.queues n) (joined_all IsTyped kinds op.writes r.outs one.0 n);
         shapes = λ o' op' g'. ⊎_elim
             (λ e. at_same p.ops (λ j k. HasShape k.kernel (at_key o r.states s.kept j)) o o' op op' g g' e (subst (HasShape op.kernel) (sym (at_key_same o r.states s.kept)) shape))
             (λ n. subst (HasShape op'.kernel) (sym (at_key_other o r.states s.kept o' n)) (t.shapes o' op' g'))
@@ -258,4 +216,4 @@ module _ (p : PlanForm) (v : IsPlan p) (b : IsBuilt p) where
   step_typed s s' o port t st = subst (IsTypedState p) (sym st.after) (fired_typed o port st.op st.queue st.item s t st.op_is st.queue_is st.item_is)
 
 pub typed_law : HistoriesAreTyped
-typed_law p inputs v b a q = histories_typed p v b inputs a q
+typed_law p inputs v a q = histories_typed p v inputs a q

@@ -1,5 +1,5 @@
--- A kernel on rows that fits types gives items of them.
-use Rattle.std.proofs.Common.{◌≡◌, ℕ, zero, suc, ℤ, pos, ◌<◌, Bool, true, false, ◌&&◌, Option, Some, None, List, [], ◌∷◌, ◌++◌, length, map, take, drop, refl, sym, ap, ◌∙◌, subst, arith, ⊎_elim, nat_lt, replicate}
+-- Every kernel that fits types gives items of them.
+use Rattle.std.proofs.Common.{◌≡◌, ℕ, zero, suc, ℤ, pos, ◌+◌, ◌<◌, Bool, true, false, ◌&&◌, Option, Some, None, List, [], ◌∷◌, ◌++◌, length, map, take, drop, refl, sym, ap, ◌∙◌, subst, arith, ⊎_elim, nat_lt, replicate}
 use Rattle.std.specs.Prelude.{if◌then◌else◌, nat_le, All, slice_get}
 use Rattle.std.specs.List.{list_all}
 use Rattle.std.proofs.lemmas.Bool.{cases_lt, cases_eq, and_parts, true≢false}
@@ -23,18 +23,20 @@ use Rattle.kern_rows.specs.Runs.{slots_from, run_kept, pushed_to, Filtering, fil
 use Rattle.kern_rows.specs.Turns.{Turns, shares, ones, front_in, rest_in, front_at, rest_at, front_of, passed, put, waiting, itself}
 use Rattle.river_kernels.specs.declared.types.VarKind.{VarKind}
 use Rattle.river_kernels.specs.Formed.{is_width, is_term, is_step, is_steps, has_port, is_code, has_rates, is_number, pushes}
-use Rattle.river_kernels.specs.Fits.{Fits, rows, ports, are_widths, spliced}
+use Rattle.river_kernels.specs.Fits.{Fits, rows, stream, relation, is_sized, is_bag, width_of, ports, are_widths, spliced}
 use Rattle.river_kernels.specs.Types.{types_of}
 use Rattle.river_kernels.specs.Kern.{Kern, code, filter, duplicate, deal, collect, packed, unpack, window, select, project, cross, streamer, tally, fused}
 use Rattle.river_kernels.proofs.FitsLaw.{fits_types}
 use Rattle.brooklet_model.specs.Firings.{Kept, Slots, Buffered, Turn, Joining, Received, Crossing, Fired, feed, splice}
-use Rattle.brooklet_model.specs.Fire.{fire, outs, privates, first_kept, code_one, filter_firing, deal_one, join_one, values_of, value_of}
-use Rattle.brooklet_model.specs.Shapes.{IsOne, HasSlots, IsDealing, IsJoining, HasShape, IsShaped}
-use Rattle.brooklet_model.specs.Typed.{IsTyped, IsOf, AreOf, IsOnRows, AreWaiting, one_type, between, Holds}
+use Rattle.brooklet_model.specs.Fire.{fire, outs, privates, first_kept, code_one, filter_firing, deal_one, join_one, received_one, cross_one, values_of, value_of}
+use Rattle.brooklet_model.specs.Shapes.{IsOne, HasSlots, IsDealing, IsJoining, IsReceived, IsCrossing, HasShape, IsShaped}
+use Rattle.brooklet_model.specs.Typed.{IsTyped, IsOf, AreOf, AreWaiting, AreReceived, ArePaired, one_type, between, Holds}
+use Rattle.brooklet_model.proofs.BagTypes.{window_typed, select_typed, project_typed, streamer_typed, PairTyped, cross_typed_left, cross_typed_right}
+use Rattle.kern_bags.specs.Steps.{Pairing, window_one, select_one, project_one, streamer_one, crosses}
 use Rattle.brooklet_model.proofs.Lists.{if_lt, if_ge, if_eq, if_ne, take_front, drop_front}
 use Rattle.brooklet_model.proofs.Ports.{counts as numbers, got_below, shaped}
 use Rattle.brooklet_model.proofs.Shapes.{fire_shape, first_shape, shape_length}
-use Rattle.brooklet_model.proofs.Spliced.{spliced_of}
+use Rattle.brooklet_model.proofs.Spliced.{spliced_all}
 
 -- ITEMS AT PORTS
 
@@ -247,44 +249,83 @@ feed_of P m bs f step (x ∷ xs) ss a h =
 pub between_is : (a : Kern) (is ms : List QueueType) (m : QueueType) (us : List VarKind) (at : ℕ) → Fits a is ms us → slice_get ms at ≡ Some m → between at (types_of a is) ≡ m ∷ []
 between_is a is ms m us at f g = ap (between at) (fits_types a is ms us f) ∙ ap one_type g
 
--- a firing of a kernel on rows on an item of its port's type gives items of its ports' types, and so are those that its states keep
-pub fire_typed : (k : Kern) (is os : List QueueType) (vs : List VarKind) (p : ℕ) (x : item.Item) (ss : List Kept) → IsOnRows k → Fits k is os vs → HasShape k ss → Holds k is ss → IsOf is p x
+-- BAGS
+
+received_of : (i o : QueueType) (one : List item.Item → item.Item → List item.Item) (is os : List QueueType) (p : ℕ) (x : item.Item) (ss : List Kept) → is ≡ i ∷ [] → os ≡ o ∷ []
+    → ((past : List item.Item) (y : item.Item) → All (HasType i) past → HasType i y → All (HasType o) (one past y))
+    → IsOne IsReceived ss → AreReceived is ss → IsOf is p x → AreOf os (received_one one x ss).outs × AreReceived is (received_one one x ss).states
+received_of i o one is os p x [] e g f h t k = absurd h
+received_of i o one is os p x (Slots zs ∷ []) e g f h t k = absurd h
+received_of i o one is os p x (Buffered s ∷ []) e g f h t k = absurd h
+received_of i o one is os p x (Turn port had ∷ []) e g f h t k = absurd h
+received_of i o one is os p x (Joining s ∷ []) e g f h t k = absurd h
+received_of i o one is os p x (Received past ∷ []) e g f h t k =
+    let typed : HasType i x = of_one i is p x e k in
+    let all : All (HasType i) past = subst (λ (l : List QueueType). All (IsOf l 0) past) e t in
+    (one_of o os (one past x) g (f past x all typed), subst (λ (l : List QueueType). All (IsOf l 0) (past ++ x ∷ [])) (sym e) (All-append (HasType i) past (x ∷ []) all (one_item (HasType i) x typed)))
+received_of i o one is os p x (Crossing s ∷ []) e g f h t k = absurd h
+received_of i o one is os p x (s ∷ u ∷ us) e g f h t k = absurd h
+
+pair_of : (a b p : ℕ) (x : item.Item) (s : Pairing) → PairTyped a b s → IsOf (relation a ∷ relation b ∷ []) p x → All (HasType (relation (a + b))) (crosses p x s).0 × PairTyped a b (crosses p x s).1
+pair_of a b zero x s t k = cross_typed_left a b x s t k
+pair_of a b (suc zero) x s t k = cross_typed_right a b 0 x s t k
+pair_of a b (suc (suc p)) x s t k = absurd k
+
+cross_of : (a b : ℕ) (is os : List QueueType) (p : ℕ) (x : item.Item) (ss : List Kept) → is ≡ relation a ∷ relation b ∷ [] → os ≡ relation (a + b) ∷ []
+    → IsOne IsCrossing ss → ArePaired is ss → IsOf is p x → AreOf os (cross_one p x ss).outs × ArePaired is (cross_one p x ss).states
+cross_of a b is os p x [] e g h t k = absurd h
+cross_of a b is os p x (Slots zs ∷ []) e g h t k = absurd h
+cross_of a b is os p x (Buffered s ∷ []) e g h t k = absurd h
+cross_of a b is os p x (Turn port had ∷ []) e g h t k = absurd h
+cross_of a b is os p x (Joining s ∷ []) e g h t k = absurd h
+cross_of a b is os p x (Received xs ∷ []) e g h t k = absurd h
+cross_of a b is os p x (Crossing s ∷ []) e g h t k =
+    let d = pair_of a b p x s (subst (λ (l : List QueueType). All (IsOf l 0) s.left × All (IsOf l 1) s.right) e t) (subst (λ (l : List QueueType). IsOf l p x) e k) in
+    (one_of (relation (a + b)) os (crosses p x s).0 g d.0, subst (λ (l : List QueueType). All (IsOf l 0) (crosses p x s).1.left × All (IsOf l 1) (crosses p x s).1.right) (sym e) d.1)
+cross_of a b is os p x (s ∷ u ∷ us) e g h t k = absurd h
+
+-- a firing of a kernel on an item of its port's type gives items of its ports' types, and so are those that its states keep
+pub fire_typed : (k : Kern) (is os : List QueueType) (vs : List VarKind) (p : ℕ) (x : item.Item) (ss : List Kept) → Fits k is os vs → HasShape k ss → Holds k is ss → IsOf is p x
     → AreOf os (fire k p x ss).outs × Holds k is (fire k p x ss).states
-fire_typed (code k) is os vs p x ss r f h t i =
+fire_typed (code k) is os vs p x ss f h t i =
     let c = and_parts (is_width k.body.inputs) (are_widths k.outs && is_code k) f.3 in
     let d = and_parts (are_widths k.outs) (is_code k) c.1 in
     let e = and_parts (is_steps k.body.inputs k.body.slots k.outs k.body.steps) (nat_le (length k.starts) k.body.slots) d.1 in
     (subst (λ (l : List QueueType). AreOf l (code_one k x ss).outs) (sym f.1) (code_of k x ss e.0 h), tt)
-fire_typed (filter g) is os vs p x ss r f h t i =
+fire_typed (filter g) is os vs p x ss f h t i =
     let c = and_parts (has_rates g) (is_steps g.peek g.body.slots (pos 1 ∷ []) g.body.steps && (nat_le (length g.starts) g.body.slots && is_number (pushes g.body.steps) g.push)) f.3 in
     let d = and_parts (is_steps g.peek g.body.slots (pos 1 ∷ []) g.body.steps) (nat_le (length g.starts) g.body.slots && is_number (pushes g.body.steps) g.push) c.1 in
     (subst (λ (l : List QueueType). AreOf l (filter_firing g x ss).outs) (sym f.1) (filter_of g x ss d.0), tt)
-fire_typed (duplicate n) is os vs p x ss r f h t i = (
+fire_typed (duplicate n) is os vs p x ss f h t i = (
   (λ q. subst (λ (l : List QueueType). All (IsOf l q) (if nat_lt q n then x ∷ [] else [])) (sym f.2)
       (copies_of (IsOf (replicate n (FlatOf f.0)) q) x q n (λ lt. to_many n (FlatOf f.0) q x lt (of_one (FlatOf f.0) is p x f.1 i)))),
   tt,
 )
-fire_typed (deal ws) is os vs p x ss r f h t i = (
+fire_typed (deal ws) is os vs p x ss f h t i = (
   subst (λ (l : List QueueType). AreOf l (deal_one (shares ws) x ss).outs) (ap (λ n. replicate n (FlatOf f.0)) (length-map ws count_of) ∙ sym f.2)
       (deal_of (shares ws) (FlatOf f.0) x ss (of_one (FlatOf f.0) is p x f.1 i) h),
   tt,
 )
-fire_typed (collect ws) is os vs p x ss r f h t i =
+fire_typed (collect ws) is os vs p x ss f h t i =
     join_of itself (shares ws) is os (FlatOf f.0) p x ss (λ q y j. one_item (HasType (FlatOf f.0)) y (of_many (length ws) (FlatOf f.0) is q y f.1 j)) f.2 i h t
-fire_typed (packed k) is os vs p x ss r f h t i =
+fire_typed (packed k) is os vs p x ss f h t i =
     let ft : Fits k is (FlatOf f.1 ∷ []) [] = subst (λ (l : List QueueType). Fits k l (FlatOf f.1 ∷ []) []) (sym f.2) f.5 in
-    let one = fire_typed k is (FlatOf f.1 ∷ []) [] p x ss r ft h t i in
+    let one = fire_typed k is (FlatOf f.1 ∷ []) [] p x ss ft h t i in
     let xs = (fire k p x ss).outs 0 in
     (one_of (PackOf f.1) os (Pack (flats xs) ∷ []) f.3 (one_item (HasType (PackOf f.1)) (Pack (flats xs)) (flats_of f.1 xs (one.0 0))), one.1)
-fire_typed (unpack n) is os vs p x ss r f h t i =
+fire_typed (unpack n) is os vs p x ss f h t i =
     join_of items_of (ones n) is os (FlatOf f.0) p x ss (λ q y j. opened_of f.0 y (of_many n (PackOf f.0) is q y f.1 j)) f.2 i h t
-fire_typed (window w) is os vs p x ss r f h t i = absurd r
-fire_typed (select e) is os vs p x ss r f h t i = absurd r
-fire_typed (project es) is os vs p x ss r f h t i = absurd r
-fire_typed cross is os vs p x ss r f h t i = absurd r
-fire_typed (streamer s) is os vs p x ss r f h t i = absurd r
-fire_typed tally is os vs p x ss r f h t i = absurd r
-fire_typed (fused a b at) is os vs p x ss r f h t i =
+fire_typed (window w) is os vs p x ss f h t i = received_of (stream f.0) (relation f.0) (window_one w) is os p x ss f.1 f.2 (λ past y a b. window_typed f.0 w past y a b) h t i
+fire_typed (select e) is os vs p x ss f h t i =
+    let c = and_parts (is_sized f.0) (is_bag f.0 && is_term (width_of f.0) 0 e) f.4 in
+    let d = and_parts (is_bag f.0) (is_term (width_of f.0) 0 e) c.1 in
+    (one_of (FlatOf f.0) os (select_one e x) f.2 (select_typed f.0 e x d.0 (of_one (FlatOf f.0) is p x f.1 i)), tt)
+fire_typed (project es) is os vs p x ss f h t i =
+    (one_of (relation (length es)) os (project_one es x) f.2 (project_typed f.0 es x (of_one (relation f.0) is p x f.1 i)), tt)
+fire_typed cross is os vs p x ss f h t i = cross_of f.0 f.1 is os p x ss f.2 f.3 h t i
+fire_typed (streamer s) is os vs p x ss f h t i = received_of (relation f.0) (stream f.0) (streamer_one s) is os p x ss f.1 f.2 (λ past y a b. streamer_typed f.0 s past y a b) h t i
+fire_typed tally is os vs p x ss f h t i = (none_of os, tt)
+fire_typed (fused a b at) is os vs p x ss f h t i =
     let ms = f.0 in
     let m = f.1 in
     let bs = f.2 in
@@ -298,16 +339,16 @@ fire_typed (fused a b at) is os vs p x ss r f h t i =
     let sa = take (privates a) ss in
     let sb = drop (privates a) ss in
     let ra = fire a p x sa in
-    let ia = fire_typed a is ms us p x sa r.0 fa h.0 t.0 i in
+    let ia = fire_typed a is ms us p x sa fa h.0 t.0 i in
     let rb = feed (fire b 0) (ra.outs at) sb in
     let items : All (HasType m) (ra.outs at) = subst (λ o. All (IsTyped o) (ra.outs at)) f.6 (ia.0 at) in
     let ib = feed_of (λ (u : List Kept). HasShape b u × Holds b (m ∷ []) u) m bs (fire b 0)
-    (λ y u iy hy. let o = fire_typed b (m ∷ []) bs ws 0 y u r.1 fb hy.0 hy.1 iy in (o.0, (fire_shape b 0 y u there hy.0, o.1)))
+    (λ y u iy hy. let o = fire_typed b (m ∷ []) bs ws 0 y u fb hy.0 hy.1 iy in (o.0, (fire_shape b 0 y u there hy.0, o.1)))
     (ra.outs at) sb items (h.1, subst (λ (l : List QueueType). Holds b l sb) mid t.1) in
     let la = shape_length a ra.states (fire_shape a p x sa here h.0) in
     let cb = numbers b (m ∷ []) bs ws fb in (
       subst (λ (l : List QueueType). AreOf l (splice at (outs b) ra.outs rb.outs)) (sym f.8)
-          (subst (λ n. AreOf (spliced at ms bs) (splice at n ra.outs rb.outs)) cb.outs (spliced_of ms bs at ra.outs rb.outs (got_below ms at m f.6) ia.0 ib.0)),
+          (subst (λ n. AreOf (spliced at ms bs) (splice at n ra.outs rb.outs)) cb.outs (λ q. spliced_all IsTyped ms bs at q ra.outs rb.outs (got_below ms at m f.6) ia.0 ib.0)),
       (
         subst (Holds a is) (sym (take_front ra.states rb.states (privates a) la)) ia.1,
         subst (λ (l : List QueueType). Holds b l (drop (privates a) (ra.states ++ rb.states))) (sym mid)
@@ -334,11 +375,11 @@ first_holds (deal ws) is f = tt
 first_holds (collect ws) is f = λ p. waits_none is (length ws) p
 first_holds (packed k) is f = first_holds k is f.0
 first_holds (unpack n) is f = λ p. waits_none is n p
-first_holds (window w) is f = tt
+first_holds (window w) is f = All-nil (IsOf is 0)
 first_holds (select e) is f = tt
 first_holds (project es) is f = tt
-first_holds cross is f = tt
-first_holds (streamer s) is f = tt
+first_holds cross is f = (All-nil (IsOf is 0), All-nil (IsOf is 1))
+first_holds (streamer s) is f = All-nil (IsOf is 0)
 first_holds tally is f = tt
 first_holds (fused a b at) is f =
     let la = shape_length a (first_kept a) (first_shape a f.0) in (

@@ -1,5 +1,6 @@
 -- The histories of a plan's queues, operator by operator, and what is added to its tables.
 use Rattle.std.specs.Prelude.{◌≡◌, ℕ, ℤ, zero, suc, ◌+◌, ◌-◌, ◌^◌, List, [], ◌∷◌, ◌++◌, length, map, filter, min, nat_lt, if◌then◌else◌}
+use Rattle.std.specs.List.{flat_map}
 use Rattle.river_base.specs.declared.item.Item as item
 use Rattle.river_base.specs.Name.{name_eq}
 use Rattle.river_base.specs.Places.{list_at}
@@ -42,10 +43,13 @@ joined (w ∷ ws) f t = (if name_eq w t then f 0 else []) ++ joined ws (λ j. f 
 abbrev pub tables_of : List Name → OpForm → List Name
 tables_of tables op = filter (λ v. nat_lt 0 (count v tables)) op.vars
 
--- what all operators together add to a table, on the final histories
+-- what an operator adds to a table, on these histories
+abbrev pub own_adds : List Name → History → Name → OpForm → List (List ℤ)
+own_adds tables h t op = joined (tables_of tables op) (given op h).adds t
+
+-- what all operators add to a table, one after another
 abbrev pub adds : List Name → List OpForm → History → Name → List (List ℤ)
-adds tables [] h t = []
-adds tables (op ∷ ops) h t = joined (tables_of tables op) (given op h).adds t ++ adds tables ops h t
+adds tables ops h t = flat_map (own_adds tables h t) ops
 
 -- the inputs, by name: nothing elsewhere
 abbrev pub inputs_of : List Name → (ℕ → List item.Item) → History

@@ -13,8 +13,9 @@ use Rattle.brooklet_model.specs.Fire.{fire, ins, outs, tabs, privates}
 use Rattle.brooklet_model.specs.Histories.{History, inputs_of, hist, all_adds, lengths, Solves}
 use Rattle.brooklet_model.specs.Machine.{Machine, Run, IsComplete, start, times}
 use Rattle.brooklet_model.specs.Shapes.{IsFormed, HasShape}
-use Rattle.brooklet_model.specs.Typed.{IsBuilt, AreInputs}
-use Rattle.brooklet_model.specs.Words.{Word, run, feed_all, SameBag, Alike, IsInterleaving}
+use Rattle.brooklet_model.specs.Typed.{AreInputs}
+use Rattle.river_base.specs.Bags.{SameBag}
+use Rattle.brooklet_model.specs.Words.{Word, run, feed_all, Alike, IsInterleaving}
 
 -- Fused kernels: over any firings, the fused kernel gives at its ports what its first part gives elsewhere and, in place of
 -- port `at`, what feeding its second part with all that came at that port gives. Its adds are those of the first part
@@ -63,8 +64,9 @@ RunsAgree =
     (p : PlanForm) (inputs : List (List item.Item)) (es : List (ℕ × ℕ)) (s : Machine) → IsPlan p → Run p (start p inputs) es s → IsComplete p s
     → HasDefined p inputs es s
 
--- Types: in a plan that is built, on inputs of the types of their queues, each item of each history is of its queue's type.
+-- Types: in a valid plan, on inputs of the types of their queues, each item of each history is of its queue's type: rows, packs,
+-- streams and relations.
 abbrev pub HistoriesAreTyped : Type 0
 HistoriesAreTyped =
-    (p : PlanForm) (inputs : List (List item.Item)) → IsPlan p → IsBuilt p → AreInputs p.inputs inputs
+    (p : PlanForm) (inputs : List (List item.Item)) → IsPlan p → AreInputs p.inputs inputs
     → (q : Name) → All (HasType (kind_of (all_decls p) q)) (hist p inputs q)

@@ -1,3 +1,4 @@
+pub mod ByIndex
 pub mod Fire
 pub mod Firings
 pub mod Histories

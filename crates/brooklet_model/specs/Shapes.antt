@@ -1,8 +1,8 @@
 -- Well-formed kernels, and the states that are a kernel's own: one for each private variable, of its kind.
 use Rattle.std.specs.Prelude.{◌≡◌, ℕ, ℤ, ◌<◌, List, [], ◌∷◌, length, take, drop}
-use Rattle.std.specs.List.{AllByRecursion}
 use Rattle.river_base.specs.declared.kind.QueueType.{QueueType}
-use Rattle.kern_rows.specs.Turns.{Turns, IsTurn, shares, ones}
+use Rattle.kern_rows.specs.Needs.{HaveShares, IsJoiner}
+use Rattle.kern_rows.specs.Turns.{IsTurn, shares, ones}
 use Rattle.river_kernels.specs.declared.types.VarKind.{VarKind}
 use Rattle.river_kernels.specs.Fits.{Fits}
 use Rattle.river_kernels.specs.Kern.{Kern, code, filter, duplicate, deal, collect, packed, unpack, window, select, project, cross, streamer, tally, fused}
@@ -16,20 +16,16 @@ pub record IsFormed (k : Kern) : Type 0 where
   pub vars : List VarKind
   pub fits : Fits k reads writes vars
 
--- there are shares, and each is at least 1
-abbrev pub AreShares : List ℕ → Type 0
-AreShares ws = (0 < length ws) × AllByRecursion (λ w. 0 < w) ws
-
 -- what well-formed kernels have, whatever the types: ports that take turns have shares, a pack and the second of two
 -- kernels have one input, and the port between two kernels is there
 abbrev pub IsShaped : Kern → Type 0
 IsShaped (code k) = Unit {0}
 IsShaped (filter f) = Unit {0}
 IsShaped (duplicate n) = Unit {0}
-IsShaped (deal ws) = AreShares (shares ws)
-IsShaped (collect ws) = AreShares (shares ws)
+IsShaped (deal ws) = HaveShares (shares ws)
+IsShaped (collect ws) = HaveShares (shares ws)
 IsShaped (packed k) = IsShaped k × (ins k ≡ 1) × (outs k ≡ 1) × (tabs k ≡ 0) × (privates k ≡ 0)
-IsShaped (unpack n) = AreShares (ones n)
+IsShaped (unpack n) = HaveShares (ones n)
 IsShaped (window w) = Unit {0}
 IsShaped (select e) = Unit {0}
 IsShaped (project es) = Unit {0}
@@ -65,16 +61,11 @@ IsDealing ws (Joining s) = ⊥
 IsDealing ws (Received xs) = ⊥
 IsDealing ws (Crossing s) = ⊥
 
--- a joiner's turn is a turn, and it has a list for each port
-pub record IsJoined (ws : List ℕ) (s : Turns) : Type 0 where
-  pub turn : IsTurn ws s.port s.had
-  pub lists : length s.lists ≡ length ws
-
 abbrev pub IsJoining : List ℕ → Kept → Type 0
 IsJoining ws (Slots zs) = ⊥
 IsJoining ws (Buffered s) = ⊥
 IsJoining ws (Turn port had) = ⊥
-IsJoining ws (Joining s) = IsJoined ws s
+IsJoining ws (Joining s) = IsJoiner ws s
 IsJoining ws (Received xs) = ⊥
 IsJoining ws (Crossing s) = ⊥
 

@@ -1,5 +1,5 @@
 -- The firings of each operator that led to a state of the machine.
-use Rattle.std.specs.Prelude.{◌≡◌, ℕ, ℤ, zero, suc, ◌+◌, ◌≤◌, Bool, Some, List, [], ◌∷◌, length, take, count_by, slice_get}
+use Rattle.std.specs.Prelude.{◌≡◌, ℕ, ℤ, suc, ◌+◌, ◌≤◌, Bool, Some, List, [], ◌∷◌, length, take, count_by, slice_get}
 use Rattle.river_plan.specs.Forms.{Name, OpForm}
 use Rattle.river_plan.specs.Uses.{total, writes_it}
 use Rattle.brooklet_model.specs.Firings.{Fired}

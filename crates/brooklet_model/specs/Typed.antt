@@ -1,18 +1,18 @@
 -- Items of the types of their ports, and states that keep such items.
-use Rattle.std.specs.Prelude.{◌≡◌, ℕ, List, [], ◌∷◌, All, Option, Some, None, slice_get, map, take, drop}
+use Rattle.std.specs.Prelude.{◌≡◌, ℕ, ℤ, List, [], ◌∷◌, All, Option, Some, None, length, slice_get, map, take, drop}
 use Rattle.river_base.specs.declared.item.Item as item
-use Rattle.river_base.specs.declared.kind.FlatType.TheVariants.{Rows, Stream, Relation}
 use Rattle.river_base.specs.declared.kind.QueueType.{QueueType}
-use Rattle.river_base.specs.declared.kind.QueueType.TheVariants.{Flat as FlatOf, Pack as PackOf}
 use Rattle.river_base.specs.Held.{HasType}
 use Rattle.river_base.specs.Places.{list_at}
 use Rattle.river_plan.specs.declared.plan.Decl.{Decl}
 use Rattle.river_plan.specs.Forms.{Name, OpForm, PlanForm, all_decls}
 use Rattle.river_plan.specs.Kinds.{kind_of}
 use Rattle.river_kernels.specs.declared.types.Types.{Types}
+use Rattle.river_kernels.specs.declared.types.VarKind.{VarKind}
+use Rattle.river_kernels.specs.declared.types.VarKind.TheVariants.{Private, Table}
 use Rattle.river_kernels.specs.Types.{types_of}
 use Rattle.river_kernels.specs.Kern.{Kern, code, filter, duplicate, deal, collect, packed, unpack, window, select, project, cross, streamer, tally, fused}
-use Rattle.brooklet_model.specs.Firings.{Kept, Joining}
+use Rattle.brooklet_model.specs.Firings.{Kept, Joining, Received, Crossing}
 use Rattle.brooklet_model.specs.Fire.{privates}
 use Rattle.brooklet_model.specs.Machine.{Machine}
 use Rattle.brooklet_model.specs.Shapes.{HasShape}
@@ -29,36 +29,20 @@ IsOf types p x = IsTyped (slice_get types p) x
 abbrev pub AreOf : List QueueType → (ℕ → List item.Item) → Type 0
 AreOf types f = (p : ℕ) → All (IsOf types p) (f p)
 
--- queues of rows, and of packs of rows
-abbrev pub IsRows : QueueType → Type 0
-IsRows (FlatOf (Rows w)) = Unit {0}
-IsRows (FlatOf (Stream w)) = ⊥
-IsRows (FlatOf (Relation w)) = ⊥
-IsRows (PackOf (Rows w)) = Unit {0}
-IsRows (PackOf (Stream w)) = ⊥
-IsRows (PackOf (Relation w)) = ⊥
-
--- the kernel is one on rows alone, and has no table
-abbrev pub IsOnRows : Kern → Type 0
-IsOnRows (code k) = Unit {0}
-IsOnRows (filter f) = Unit {0}
-IsOnRows (duplicate n) = Unit {0}
-IsOnRows (deal ws) = Unit {0}
-IsOnRows (collect ws) = Unit {0}
-IsOnRows (packed k) = IsOnRows k
-IsOnRows (unpack n) = Unit {0}
-IsOnRows (window w) = ⊥
-IsOnRows (select e) = ⊥
-IsOnRows (project es) = ⊥
-IsOnRows cross = ⊥
-IsOnRows (streamer s) = ⊥
-IsOnRows tally = ⊥
-IsOnRows (fused a b at) = IsOnRows a × IsOnRows b
-
 -- what waits in a joiner is of the types of its ports
 abbrev pub AreWaiting : List QueueType → List Kept → Type 0
 AreWaiting is (Joining s ∷ ss) = AreOf is (list_at s.lists)
 AreWaiting is ss = Unit {0}
+
+-- what a window or a streamer has received is of the type of its port
+abbrev pub AreReceived : List QueueType → List Kept → Type 0
+AreReceived is (Received past ∷ ss) = All (IsOf is 0) past
+AreReceived is ss = Unit {0}
+
+-- what waits at the ports of a product is of their types
+abbrev pub ArePaired : List QueueType → List Kept → Type 0
+ArePaired is (Crossing s ∷ ss) = All (IsOf is 0) s.left × All (IsOf is 1) s.right
+ArePaired is ss = Unit {0}
 
 -- the type of the port between two kernels, by the types that the first writes
 abbrev pub one_type : Option QueueType → List QueueType
@@ -78,18 +62,13 @@ Holds (deal ws) is ss = Unit {0}
 Holds (collect ws) is ss = AreWaiting is ss
 Holds (packed k) is ss = Holds k is ss
 Holds (unpack n) is ss = AreWaiting is ss
-Holds (window w) is ss = Unit {0}
+Holds (window w) is ss = AreReceived is ss
 Holds (select e) is ss = Unit {0}
 Holds (project es) is ss = Unit {0}
-Holds cross is ss = Unit {0}
-Holds (streamer s) is ss = Unit {0}
+Holds cross is ss = ArePaired is ss
+Holds (streamer s) is ss = AreReceived is ss
 Holds tally is ss = Unit {0}
 Holds (fused a b at) is ss = Holds a is (take (privates a) ss) × Holds b (between at (types_of a is)) (drop (privates a) ss)
-
--- plans that the machine runs so far: their queues carry rows, or packs of rows, and they have no table
-pub record IsBuilt (p : PlanForm) : Type 0 where
-  pub queues : All (λ d. IsRows d.kind) (all_decls p)
-  pub tables : p.tables ≡ []
 
 -- an item at each place of each list is of the type of this place
 abbrev pub AreInputs : List Decl → List (List item.Item) → Type 0
@@ -104,3 +83,17 @@ pub record IsTypedState (p : PlanForm) (s : Machine) : Type 0 where
   pub queues : (q : Name) → All (HasType (kind_of (all_decls p) q)) (s.hist q)
   pub shapes : (o : ℕ) (op : OpForm) → slice_get p.ops o ≡ Some op → HasShape op.kernel (s.kept o)
   pub holds : (o : ℕ) (op : OpForm) → slice_get p.ops o ≡ Some op → Holds op.kernel (map (kind_of (all_decls p)) op.reads) (s.kept o)
+
+-- the widths of the tables among these variables
+abbrev pub widths_in : List VarKind → List ℕ
+widths_in [] = []
+widths_in (Private ∷ vs) = widths_in vs
+widths_in (Table n ∷ vs) = n ∷ widths_in vs
+
+abbrev pub IsWide : Option ℕ → List ℤ → Type 0
+IsWide None row = ⊥
+IsWide (Some n) row = length row ≡ n
+
+-- all rows for each table are of its width
+abbrev pub AreWide : List ℕ → (ℕ → List (List ℤ)) → Type 0
+AreWide ns f = (j : ℕ) → All (IsWide (slice_get ns j)) (f j)

@@ -1,6 +1,7 @@
 -- Firings of one kernel in any order of its ports.
 use Rattle.std.specs.Prelude.{◌≡◌, ℕ, ℤ, zero, suc, ◌<◌, Bool, nat_eq, if◌then◌else◌, List, [], ◌∷◌, ◌++◌, count_by}
 use Rattle.river_base.specs.declared.item.Item as item
+use Rattle.river_base.specs.Bags.{SameBag}
 use Rattle.river_base.specs.Places.{none}
 use Rattle.river_kernels.specs.Kern.{Kern}
 use Rattle.brooklet_model.specs.Firings.{Kept, Fired, and_then}
@@ -30,17 +31,13 @@ word_of p [] = []
 word_of p (x ∷ xs) = (p, x) ∷ word_of p xs
 
 -- the whole list of port p, then of port p + 1, and so on, for n ports
-abbrev pub in_order : ℕ → ℕ → (ℕ → List item.Item) → Word
-in_order zero p h = []
-in_order (suc n) p h = word_of p (h p) ++ in_order n (suc p) h
+abbrev pub port_by_port : ℕ → ℕ → (ℕ → List item.Item) → Word
+port_by_port zero p h = []
+port_by_port (suc n) p h = word_of p (h p) ++ port_by_port n (suc p) h
 
 -- the kernel is fed with the whole list of port 0, then with that of port 1, and so on
 abbrev pub feed_all : Kern → (ℕ → List item.Item) → List Kept → Fired
-feed_all k h ss = run (fire k) (in_order (ins k) 0 h) ss
-
--- the lists are one bag: each test passes as many rows of both
-abbrev pub SameBag : List (List ℤ) → List (List ℤ) → Type 0
-SameBag xs ys = (test : List ℤ → Bool) → count_by test xs ≡ count_by test ys
+feed_all k h ss = run (fire k) (port_by_port (ins k) 0 h) ss
 
 -- the same items and states, and the same bags of rows
 pub record Alike (r s : Fired) : Type 0 where

@@ -1,5 +1,5 @@
 // Plans from texts, inputs from files, and machines that are driven.
-use brooklet_step::{Inputs, Machine, Outcome, built, fits, run_one};
+use brooklet_step::{Inputs, Machine, Outcome, built, fits};
 use csv_streams::{print_outcome, read_rows};
 use river_base::{Bytes, Flat, Item, Items, NoMemory, Rows};
 use river_plan::{Plan, check};
@@ -59,21 +59,6 @@ fn text_of(alloc: Global, plan: &Plan, outcome: &Outcome) -> Result<Bytes, Fail>
         return Err("another number of lists".into());
     }
     Ok(print_outcome(alloc, plan, outcome, true)?)
-}
-
-/// What is printed of the run in the order of the operators.
-pub fn ran(alloc: Global, text: &[u8], files: &[&[u8]]) -> Result<Bytes, Fail> {
-    let plan = plan_of(alloc, text)?;
-    ran_of(alloc, &plan, files)
-}
-
-fn ran_of(alloc: Global, plan: &Plan, files: &[&[u8]]) -> Result<Bytes, Fail> {
-    let inputs = inputs_of(alloc, files)?;
-    if !built(plan) || !fits(plan, &inputs) {
-        return Err("inputs that do not fit".into());
-    }
-    let outcome = run_one(alloc, plan, inputs)?;
-    text_of(alloc, plan, &outcome)
 }
 
 /// The machine before its first firing.

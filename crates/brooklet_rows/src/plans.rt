@@ -25,14 +25,6 @@ var $j;
 op join: (out, $j) <- (a, b, $j) { collect(1, 2) }
 ";
 
-/// Two kernels as one, twice.
-pub const NESTED: &[u8] = b"output out: rows(1);
-output left: rows(1);
-input in: rows(1);
-var $s;
-op all: (left, out, $s) <- (in, $s) { fused(1) { duplicate(2) } { fused(0) { code(1, 0) (1) () { push 0 (input[0]); push 0 (input[0]); } } { code(1, 1) (1) (0) { slot[0] = slot[0] + 1; push 0 (input[0] * slot[0]); } } } }
-";
-
 /// A split and a join with shares, and a filter. A copy of each queue between them goes to an output.
 pub const SPLITS: &[u8] = b"output out: rows(1);
 output ta: rows(1);

@@ -12,7 +12,8 @@ use Rattle.river_base.specs.Held.{HasType}
 use Rattle.river_base.specs.Places.{list_at}
 use Rattle.river_plan.specs.declared.plan.Decl.{Decl}
 use Rattle.river_plan.specs.Forms.{PlanForm}
-use Rattle.brooklet_model.specs.Typed.{IsRows, IsBuilt, AreInputs}
+use Rattle.brooklet_model.specs.Typed.{AreInputs}
+use Rattle.brooklet_step.specs.Built.{IsRows, IsBuilt}
 use Rattle.brooklet_step.specs.Fit.{Fit, instant_of, instants, Rises, HasInstants, AreInstants, IsStream, NoStream, IsStreamAt}
 use Rattle.brooklet_step.proofs.FitsLemmas.{built_inputs}
 
@@ -67,7 +68,7 @@ has_stream (PackOf t) ts xs h s = absurd s
 
 rows_none : (t : QueueType) → IsRows t → IsStream t → ⊥
 rows_none (FlatOf (Rows w)) r s = s
-rows_none (FlatOf (Stream w)) r s = r
+rows_none (FlatOf (Stream w)) r s = absurd (cc r)
 rows_none (FlatOf (Relation w)) r s = s
 rows_none (PackOf t) r s = s
 

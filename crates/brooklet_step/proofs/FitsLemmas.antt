@@ -1,19 +1,21 @@
 -- What tests of plans and inputs say.
-use Rattle.std.proofs.Common.{◌≡◌, ℤ, ◌+◌, Bool, true, false, Some, List, [], ◌++◌, length, refl, subst, sym, ap, ◌∙◌, arith, length-append, get_or}
-use Rattle.std.specs.Prelude.{IsTrue}
+use Rattle.std.proofs.Common.{◌≡◌, ℤ, ◌+◌, Bool, true, false, Some, List, [], ◌∷◌, ◌++◌, length, refl, subst, sym, ap, ◌∙◌, arith, length-append, get_or}
+use Rattle.std.specs.Prelude.{IsTrue, ◌↔◌, ◌&&◌}
 use Rattle.std.specs.declared.cmp.Ordering.{Ordering}
 use Rattle.std.specs.declared.cmp.Ordering.TheVariants.{Less, Equal, Greater}
 use Rattle.std.specs.Ordering.{is_le, is_lt, ordering_reverse, partial_le}
 use Rattle.std.specs.List.{IsAllAdjacentAnswer}
 use Rattle.river_base.specs.Row.{row_cmp, row_total}
 use Rattle.river_base.specs.Held.{IsAscending}
-use Rattle.std.specs.List.{All}
+use Rattle.std.specs.List.{All, list_all}
 use Rattle.std.proofs.Math.ListN.{get_or-append}
 use Rattle.std.proofs.lemmas.List.{get_or-append-add}
-use Rattle.std.proofs.lemmas.List.Elements.{All-append}
+use Rattle.std.proofs.lemmas.Bool.{and_parts, true≢false}
+use Rattle.std.proofs.lemmas.List.Elements.{All-head, All-tail, All-cons, All-nil, All-append}
 use Rattle.river_plan.specs.declared.plan.Decl.{Decl}
-use Rattle.river_plan.specs.Forms.{PlanForm}
-use Rattle.brooklet_model.specs.Typed.{IsRows, IsBuilt}
+use Rattle.river_plan.specs.declared.plan.TableDecl.{TableDecl}
+use Rattle.river_plan.specs.Forms.{PlanForm, all_decls}
+use Rattle.brooklet_step.specs.Built.{is_rows, has_no_table, is_built, IsRows, IsBuilt}
 
 pub All-front : {X : Type 0} (P : X → Type 0) (xs ys : List X) → All P (xs ++ ys) → All P xs
 All-front P xs ys a k d lt = subst P (get_or-append xs ys d k lt) (a k d (let e = length-append xs ys in omega (arith, e, lt)))
@@ -21,17 +23,53 @@ All-front P xs ys a k d lt = subst P (get_or-append xs ys d k lt) (a k d (let e 
 pub All-back : {X : Type 0} (P : X → Type 0) (xs ys : List X) → All P (xs ++ ys) → All P ys
 All-back P xs ys a k d lt = subst P (get_or-append-add xs ys k d) (a (length xs + k) d (let e = length-append xs ys in omega (arith, e, lt)))
 
-pub built_by : (p : PlanForm) → All (λ (d : Decl). IsRows d.kind) p.outputs → All (λ (d : Decl). IsRows d.kind) p.inputs → All (λ (d : Decl). IsRows d.kind) p.queues → p.tables ≡ [] → IsBuilt p
-built_by p o i q t = record { queues = All-append (λ (d : Decl). IsRows d.kind) p.outputs (p.inputs ++ p.queues) o (All-append (λ (d : Decl). IsRows d.kind) p.inputs p.queues i q); tables = t }
+-- THE TEST WHETHER A PLAN IS BUILT
 
-pub built_outputs : (p : PlanForm) → IsBuilt p → All (λ (d : Decl). IsRows d.kind) p.outputs
-built_outputs p b = All-front (λ (d : Decl). IsRows d.kind) p.outputs (p.inputs ++ p.queues) b.queues
+abbrev AreRows : List Decl → Type 0
+AreRows ds = All (λ (d : Decl). IsRows d.kind) ds
 
-pub built_inputs : (p : PlanForm) → IsBuilt p → All (λ (d : Decl). IsRows d.kind) p.inputs
-built_inputs p b = All-front (λ (d : Decl). IsRows d.kind) p.inputs p.queues (All-back (λ (d : Decl). IsRows d.kind) p.outputs (p.inputs ++ p.queues) b.queues)
+rows_all : (ds : List Decl) → list_all (λ d. is_rows d.kind) ds ≡ true → AreRows ds
+rows_all [] e = All-nil (λ (d : Decl). IsRows d.kind)
+rows_all (d ∷ ds) e = let p = and_parts (is_rows d.kind) (list_all (λ d. is_rows d.kind) ds) e in All-cons (λ (d : Decl). IsRows d.kind) d ds p.0 (rows_all ds p.1)
 
-pub built_queues : (p : PlanForm) → IsBuilt p → All (λ (d : Decl). IsRows d.kind) p.queues
-built_queues p b = All-back (λ (d : Decl). IsRows d.kind) p.inputs p.queues (All-back (λ (d : Decl). IsRows d.kind) p.outputs (p.inputs ++ p.queues) b.queues)
+all_rows : (ds : List Decl) → AreRows ds → list_all (λ d. is_rows d.kind) ds ≡ true
+all_rows [] a = refl
+all_rows (d ∷ ds) a = ap (λ b. b && list_all (λ d. is_rows d.kind) ds) (All-head (λ (d : Decl). IsRows d.kind) d ds a) ∙ all_rows ds (All-tail (λ (d : Decl). IsRows d.kind) d ds a)
+
+no_table : (ts : List TableDecl) → has_no_table ts ≡ true → ts ≡ []
+no_table [] e = refl
+no_table (t ∷ ts) e = absurd (true≢false (sym e))
+
+-- in a plan that is built all queues are of rows, or of packs of rows
+pub built_decls : (p : PlanForm) → IsBuilt p → AreRows (all_decls p)
+built_decls p b = rows_all (all_decls p) (and_parts (list_all (λ d. is_rows d.kind) (all_decls p)) (has_no_table p.tables) b).0
+
+-- and there is no table
+pub built_tables : (p : PlanForm) → IsBuilt p → p.tables ≡ []
+built_tables p b = no_table p.tables (and_parts (list_all (λ d. is_rows d.kind) (all_decls p)) (has_no_table p.tables) b).1
+
+pub built_by : (p : PlanForm) → AreRows p.outputs → AreRows p.inputs → AreRows p.queues → p.tables ≡ [] → IsBuilt p
+built_by p o i q t =
+    let rows = all_rows (all_decls p) (All-append (λ (d : Decl). IsRows d.kind) p.outputs (p.inputs ++ p.queues) o (All-append (λ (d : Decl). IsRows d.kind) p.inputs p.queues i q)) in
+    ap (λ b. b && has_no_table p.tables) rows ∙ ap has_no_table t
+
+pub built_outputs : (p : PlanForm) → IsBuilt p → AreRows p.outputs
+built_outputs p b = All-front (λ (d : Decl). IsRows d.kind) p.outputs (p.inputs ++ p.queues) (built_decls p b)
+
+pub built_inputs : (p : PlanForm) → IsBuilt p → AreRows p.inputs
+built_inputs p b = All-front (λ (d : Decl). IsRows d.kind) p.inputs p.queues (All-back (λ (d : Decl). IsRows d.kind) p.outputs (p.inputs ++ p.queues) (built_decls p b))
+
+pub built_queues : (p : PlanForm) → IsBuilt p → AreRows p.queues
+built_queues p b = All-back (λ (d : Decl). IsRows d.kind) p.inputs p.queues (All-back (λ (d : Decl). IsRows d.kind) p.outputs (p.inputs ++ p.queues) (built_decls p b))
+
+-- one that is asked whether a plan is built answers what is_built says
+pub same_built : (p : PlanForm) (b : Bool) → (IsTrue b ↔ IsBuilt p) → is_built p ≡ b
+same_built p true h = h.0 refl
+same_built p false h = by (is_built p) refl
+  where
+    by : (c : Bool) → is_built p ≡ c → is_built p ≡ false
+    by true e = absurd (true≢false (sym (h.1 e)))
+    by false e = e
 
 le_back : (o : Ordering) → is_le o ≡ true → is_lt (ordering_reverse o) ≡ false
 le_back Less h = refl

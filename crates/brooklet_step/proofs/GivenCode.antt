@@ -1,7 +1,8 @@
 -- The conditions of firings, in the terms of the code.
-use Rattle.std.proofs.Common.{◌≡◌, ℕ, ◌+◌, ◌<◌, ◌≤◌, List, [], ◌∷◌, ◌++◌, length, take, drop, replicate, refl, sym, ap, ◌∙◌, subst, arith, get_or}
-use Rattle.std.specs.Prelude.{All, slice_get}
-use Rattle.std.proofs.lemmas.List.{take_more}
+use Rattle.std.proofs.Common.{◌≡◌, ℕ, ◌<◌, ◌≤◌, List, [], ◌∷◌, ◌++◌, length, drop, replicate, refl, sym, ap, ◌∙◌, subst, arith, append_assoc}
+use Rattle.std.specs.Prelude.{All}
+use Rattle.std.proofs.lemmas.List.{append-nil}
+use Rattle.std.proofs.lemmas.List.Elements.{All-head, All-tail}
 use Rattle.river_base.specs.declared.item.Item as item
 use Rattle.river_base.specs.declared.item.Item.TheVariants.{Pack}
 use Rattle.river_base.specs.declared.item.Flat as flat
@@ -10,43 +11,65 @@ use Rattle.river_base.specs.declared.kind.QueueType.TheVariants.{Flat as FlatOf}
 use Rattle.river_base.specs.Held.{flats}
 use Rattle.river_base.specs.Places.{each_grew, list_at}
 use Rattle.river_kernels.specs.Fits.{Fits}
-use Rattle.river_kernels.specs.Types.{types_of}
 use Rattle.river_kernels.specs.Kern.{Kern, packed, fused}
 use Rattle.brooklet_model.specs.Firings.{gives, splice, beside}
-use Rattle.brooklet_model.specs.Fire.{outs, tabs, privates}
+use Rattle.brooklet_model.specs.Fire.{outs, privates}
 use Rattle.brooklet_model.specs.Shapes.{IsShaped}
-use Rattle.brooklet_model.specs.Typed.{between}
 use Rattle.brooklet_model.proofs.Ports.{shaped}
 use Rattle.brooklet_model.proofs.Typing.{between_is}
 use Rattle.brooklet_step.specs.declared.emit.Emit.{Emit}
 use Rattle.brooklet_step.specs.declared.state.State.{State}
 use Rattle.brooklet_step.specs.Took.{Took, HasRoom, IsBlank}
 use Rattle.brooklet_step.specs.Given.{IsHeldBy, IsHeldOf, FitState, FiresAt, FiresEach, Does, CanTake, CanTakeAll}
-use Rattle.brooklet_step.proofs.Fires.{grown_list}
+use Rattle.brooklet_step.proofs.Fires.{grown_list, blank_room}
 use Rattle.brooklet_step.proofs.Fused.{Parts, Rooms, mine_is, rest_is}
 use Rattle.brooklet_step.proofs.GivenLemmas.{fit_length}
-use Rattle.brooklet_step.proofs.GivenFires.{each_step}
-use Rattle.brooklet_step.proofs.GivenParts.{blank_room, came_room, packed_does, fused_does}
-
-pub one_taken : (k : Kern) (xs : List item.Item) (i : ℕ) (x : item.Item) (st : List State) (out : Emit) → CanTakeAll k xs st out → i < length xs → x ≡ get_or xs i x → CanTake k 0 x st out
-one_taken k xs i x st out t lt e = record { reads = t.reads; fitting = t.fitting; item = subst (IsHeldOf t.reads 0) (sym e) (t.items i x lt); room = t.room }
+use Rattle.brooklet_step.proofs.GivenFires.{each_start, each_step}
+use Rattle.brooklet_step.proofs.GivenParts.{came_room, packed_does, fused_does}
 
 -- a kernel that fired can fire again
 pub fires_again : (k : Kern) (p : ℕ) (i : item.Item) (e e' : Emit) (st st' : List State) (t : CanTake k p i st e) → FiresAt k p i e e' st st' → FitState k t.reads st' × HasRoom k e'
 fires_again k p i e e' st st' t f =
     let d = f.each t.reads t.fitting.writes t.fitting.vars t.fitting.fits t.fitting.state t.item in
-    (d.came.again, came_room k t.reads t.fitting.writes e e' st' t.room d.came)
+    (d.came.again, came_room k t.reads t.fitting.writes t.fitting.vars e e' st' t.room d.came)
 
-pub all_after : (k : Kern) (xs : List item.Item) (i : ℕ) (x : item.Item) (e e' : Emit) (st st' : List State) → CanTakeAll k xs st e → i < length xs → x ≡ get_or xs i x → FiresAt k 0 x e e' st st' → CanTakeAll k xs st' e'
-unfolding one_taken
-all_after k xs i x e e' st st' t lt is f =
-    let d = fires_again k 0 x e e' st st' (one_taken k xs i x st e t lt is) f in
-    record { reads = t.reads; fitting = record { on_rows = t.fitting.on_rows; writes = t.fitting.writes; vars = t.fitting.vars; fits = t.fitting.fits; state = d.0 }; items = t.items; room = d.1 }
+-- of the items of a list those that are left are to be fired on
+pub record SoFar (k : Kern) (all left : List item.Item) (e e' : Emit) (st st' : List State) : Type 0 where
+  pub done : List item.Item
+  pub is : all ≡ done ++ left
+  pub fires : FiresEach k done e e' st st'
+  pub takes : CanTakeAll k left st' e'
 
-pub each_more : (k : Kern) (xs : List item.Item) (i : ℕ) (x : item.Item) (st st1 st2 : List State) (e e' e'' : Emit) → i < length xs → x ≡ get_or xs i x → FiresEach k (take i xs) e e' st st1 → FiresAt k 0 x e' e'' st1 st2 → FiresEach k (take (i + 1) xs) e e'' st st2
-each_more k xs i x st st1 st2 e e' e'' lt is f u =
-    let more : take i xs ++ x ∷ [] ≡ take (i + 1) xs = ap (λ d. take i xs ++ d ∷ []) is ∙ sym (take_more xs i x lt) in
-    subst (λ (l : List item.Item). FiresEach k l e e'' st st2) more (each_step k (take i xs) x st st1 st2 e e' e'' f u)
+-- at first all are left
+pub so_far_start : (k : Kern) (all : List item.Item) (e : Emit) (st : List State) → CanTakeAll k all st e → SoFar k all all e e st st
+so_far_start k all e st t = record { done = []; is = refl; fires = each_start k e st; takes = t }
+
+-- the front one can be fired on
+pub so_far_takes : (k : Kern) (all left rest : List item.Item) (x : item.Item) (e e' : Emit) (st st' : List State) → left ≡ x ∷ rest → SoFar k all left e e' st st' → CanTake k 0 x st' e'
+so_far_takes k all left rest x e e' st st' is s =
+    record { reads = s.takes.reads; fitting = s.takes.fitting; item = All-head (IsHeldOf s.takes.reads 0) x rest (subst (All (IsHeldOf s.takes.reads 0)) is s.takes.items); room = s.takes.room }
+
+-- after a firing on the front one the others are left
+pub so_far_step : (k : Kern) (all left rest : List item.Item) (x : item.Item) (e e' e'' : Emit) (st st1 st2 : List State) → left ≡ x ∷ rest → SoFar k all left e e' st st1 → FiresAt k 0 x e' e'' st1 st2 → SoFar k all rest e e'' st st2
+unfolding so_far_takes
+so_far_step k all left rest x e e' e'' st st1 st2 is s f =
+    let d = fires_again k 0 x e' e'' st1 st2 (so_far_takes k all left rest x e e' st st1 is s) f in
+    let t = s.takes in
+    record {
+      done = s.done ++ x ∷ [];
+      is = s.is ∙ ap (λ l. s.done ++ l) is ∙ sym (append_assoc s.done (x ∷ []) rest);
+      fires = each_step k s.done x st st1 st2 e e' e'' s.fires f;
+      takes = record {
+        reads = t.reads;
+        fitting = record { on_rows = t.fitting.on_rows; writes = t.fitting.writes; vars = t.fitting.vars; fits = t.fitting.fits; state = d.0 };
+        items = All-tail (IsHeldOf t.reads 0) x rest (subst (All (IsHeldOf t.reads 0)) is t.items);
+        room = d.1;
+      };
+    }
+
+-- where none is left, all were fired on
+pub so_far_end : (k : Kern) (all left : List item.Item) (e e' : Emit) (st st' : List State) → left ≡ [] → SoFar k all left e e' st st' → FiresEach k all e e' st st'
+so_far_end k all left e e' st st' is s = subst (λ (l : List item.Item). FiresEach k l e e' st st') (sym (s.is ∙ ap (λ l. s.done ++ l) is ∙ append-nil s.done)) s.fires
 
 -- A KERNEL IN A PACK
 
@@ -62,10 +85,18 @@ packed_taken k j j1 port x st out e ek ej t o a =
       room = record { outs = ap length o ∙ sym s.2; adds = ap length a ∙ sym s.3 };
     })
 
+-- the port of the kernel inside
+pub packed_port : (j : Kern) (port : ℕ) (x : item.Item) (st st' : List State) (out e e' : Emit) → CanTake (packed j) port x st out → CanTake j port x st e → FiresAt j port x e e' st st' → 0 < length e'.outs
+packed_port j port x st st' out e e' t u f =
+    let s : IsShaped (packed j) = shaped (packed j) t.reads t.fitting.writes t.fitting.vars t.fitting.fits in
+    let r = (fires_again j port x e e' st st' u f).1 in
+    let o = r.outs in
+    omega (arith, o, s.2)
+
 pub packed_whole : (k j j1 : Kern) (port : ℕ) (x : item.Item) (st st' : List State) (out out' e e' : Emit) (items : List item.Item) (fs : List flat.Flat) → k ≡ packed j → j1 ≡ j → CanTake k port x st out → e.outs ≡ replicate 1 [] → FiresAt j1 port x e e' st st' → items ≡ list_at e'.outs 0 → fs ≡ flats items → Took out out' (gives 0 (Pack fs ∷ []) []) → FiresAt k port x out out' st st'
 packed_whole k j j1 port x st st' out out' e e' items fs ek ej t b f ei ef took =
     let t' = subst (λ (i : Kern). CanTake i port x st out) ek t in
-    subst (λ (i : Kern). FiresAt i port x out out' st st') (sym ek) (packed_does j port x st st' out out' e e' items fs t'.fitting.on_rows b (subst (λ (i : Kern). FiresAt i port x e e' st st') ej f) ei ef took)
+    subst (λ (i : Kern). FiresAt i port x out out' st st') (sym ek) (packed_does j port x st st' out out' e e' items fs b (subst (λ (i : Kern). FiresAt i port x e e' st st') ej f) ei ef took)
 
 -- TWO KERNELS
 
@@ -93,11 +124,11 @@ module _ (k a b : Kern) (at count port : ℕ) (x : item.Item) (st mine rest : Li
   }
 
   module _ (mine' : List State) (mid : Emit) (fm : FiresAt a port x mid0 mid mine mine') where
-    abbrev da : Does a t.reads t.fitting.fits.0 port x mid0 mid mine mine'
+    abbrev da : Does a t.reads t.fitting.fits.0 t.fitting.fits.3 port x mid0 mid mine mine'
     da = fm.each t.reads t.fitting.fits.0 t.fitting.fits.3 t.fitting.fits.5 first_state t.item
 
     pub first_room : HasRoom a mid
-    first_room = came_room a t.reads t.fitting.fits.0 mid0 mid mine' (blank_room a mid0 bm) da.came
+    first_room = came_room a t.reads t.fitting.fits.0 t.fitting.fits.3 mid0 mid mine' (blank_room a mid0 bm) da.came
 
     pub at_below : at < length mid.outs
     at_below = subst (λ n. at < n) (sym first_room.outs) is_shaped.2
@@ -126,7 +157,7 @@ module _ (k a b : Kern) (at count port : ℕ) (x : item.Item) (st mine rest : Li
       pub last_room : (rest' : List State) (last : Emit) → FiresEach b items last0 last rest rest' → HasRoom b last
       last_room rest' last fl =
           let d = fl.each (m ∷ []) t.fitting.fits.2 t.fitting.fits.4 t.fitting.fits.7 second_state items_held in
-          came_room b (m ∷ []) t.fitting.fits.2 last0 last rest' (blank_room b last0 bl) d.came
+          came_room b (m ∷ []) t.fitting.fits.2 t.fitting.fits.4 last0 last rest' (blank_room b last0 bl) d.came
 
       pub rooms_of : (rest' : List State) (last : Emit) → FiresEach b items last0 last rest rest' → Rooms a b at out mid last
       rooms_of rest' last fl =
@@ -157,7 +188,7 @@ parts_fire k a b at count port x st mine rest mine' rest' out new mid0 mid last0
     let fm' = subst (λ (l : List State). FiresAt a port x mid0 mid l mine') (mine_is k a b at count st mine rest p) fm in
     let fl' = subst (λ (l : List State). FiresEach b items last0 last l rest') (rest_is k a b at count st mine rest p) fl in
     let t' = subst (λ (j : Kern). CanTake j port x st out) p.kernel t in
-    subst (λ (j : Kern). FiresAt j port x out new st (mine' ++ rest')) (sym p.kernel) (fused_does a b at port x st mine' rest' out new mid0 mid last0 last items t'.fitting.on_rows t'.room bm fm' bl is fl' eo ea)
+    subst (λ (j : Kern). FiresAt j port x out new st (mine' ++ rest')) (sym p.kernel) (fused_does a b at port x st mine' rest' out new mid0 mid last0 last items t'.room bm fm' bl is fl' eo ea)
 
 -- a kernel that fired can take another item of the same types
 pub takes_again : (k : Kern) (p q : ℕ) (i j : item.Item) (e e' : Emit) (st st' : List State) (t : CanTake k p i st e) → FiresAt k p i e e' st st' → IsHeldOf t.reads q j → CanTake k q j st' e'

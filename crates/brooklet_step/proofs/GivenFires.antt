@@ -1,57 +1,31 @@
 -- Firings after others: kernels without a kernel inside, packs, and firings one after another.
-use Rattle.std.proofs.Common.{◌≡◌, ℕ, ◌+◌, ◌-◌, ◌<◌, ◌≤◌, List, [], ◌∷◌, ◌++◌, length, take, drop, replicate, refl, sym, ap, ◌∙◌, subst, arith, get_or, append_assoc, length-append}
-use Rattle.std.specs.Prelude.{All, slice_get, Some}
-use Rattle.std.proofs.lemmas.List.{take_more, append-nil, length-take, take-append-drop}
+use Rattle.std.proofs.Common.{◌≡◌, ℕ, ◌+◌, ◌-◌, List, [], ◌∷◌, ◌++◌, length, refl, sym, ap, ◌∙◌, subst, arith, append_assoc, length-append}
+use Rattle.std.specs.Prelude.{All, slice_get}
+use Rattle.std.proofs.lemmas.List.{append-nil}
 use Rattle.std.proofs.lemmas.List.Elements.{All-head, All-tail, All-cons, All-nil, All-append}
 use Rattle.river_base.specs.declared.item.Item as item
-use Rattle.river_base.specs.declared.item.Item.TheVariants.{Flat, Pack}
-use Rattle.river_base.specs.declared.item.Flat as flat
-use Rattle.river_base.specs.declared.kind.FlatType.{FlatType}
 use Rattle.river_base.specs.declared.kind.QueueType.{QueueType}
-use Rattle.river_base.specs.declared.kind.QueueType.TheVariants.{Flat as FlatOf, Pack as PackOf}
-use Rattle.river_base.specs.Held.{held, HasType, IsHeld, flats, as_items, opened, items_of}
-use Rattle.river_base.specs.Places.{each_grew, only, none, list_at}
-use Rattle.river_base.proofs.HeldLemmas.{held-pack, flats-as_items}
-use Rattle.river_base.proofs.PlaceLemmas.{each_grew_cong, each_grew-none, each_grew-each_grew, length-each_grew}
-use Rattle.river_kernels.specs.declared.types.VarKind.{VarKind}
-use Rattle.river_kernels.specs.Fits.{Fits}
-use Rattle.river_kernels.specs.Kern.{Kern, code, filter, duplicate, deal, collect, packed, unpack, window, select, project, cross, streamer, tally, fused}
-use Rattle.brooklet_model.specs.Firings.{Kept, Fired, Same, feed, and_then, gives}
-use Rattle.brooklet_model.specs.Fire.{fire, first_kept, outs, tabs}
-use Rattle.brooklet_model.specs.Shapes.{IsShaped}
-use Rattle.brooklet_model.specs.Typed.{IsOf, AreOf, IsOnRows}
+use Rattle.river_base.specs.Places.{each_grew, none}
+use Rattle.river_base.proofs.PlaceLemmas.{each_grew_cong, each_grew-none, each_grew-each_grew}
+use Rattle.river_kernels.specs.Kern.{Kern}
+use Rattle.brooklet_model.specs.Firings.{Kept, Fired, Same, feed, and_then}
+use Rattle.brooklet_model.specs.Fire.{fire, first_kept}
+use Rattle.brooklet_model.specs.Typed.{IsOf, widths_in, IsWide}
 use Rattle.brooklet_model.specs.Words.{Word, run, at_port, word_of}
 use Rattle.brooklet_model.proofs.Lists.{feed-append, feed_one}
-use Rattle.brooklet_model.proofs.Ports.{shaped}
 use Rattle.brooklet_model.proofs.Feeds.{feed_word}
 use Rattle.brooklet_model.proofs.Free.{at_port-append}
-use Rattle.brooklet_model.proofs.Typing.{fire_typed, flats_of}
+use Rattle.brooklet_model.proofs.Typing.{fire_typed}
+use Rattle.brooklet_model.proofs.WideAdds.{fire_wide}
 use Rattle.brooklet_step.specs.declared.emit.Emit.{Emit}
 use Rattle.brooklet_step.specs.declared.state.State.{State}
-use Rattle.brooklet_step.specs.Stands.{StandsFor, Fires, Applies, Keeps}
-use Rattle.brooklet_step.specs.Took.{Took, HasRoom, IsBlank}
-use Rattle.brooklet_step.specs.Given.{held_at, IsHeldOf, AreHeldOf, AreTyped, FitState, IsLeaf, ran, StandsAfter, TookHeld, Gives, Came, Does, FiresAt, GivesAll, DoesAll, FiresEach, Fitting, CanTake, CanTakeAll}
+use Rattle.brooklet_step.specs.Stands.{StandsFor, Fires, Applies}
+use Rattle.brooklet_step.specs.Took.{Took}
+use Rattle.brooklet_step.specs.Given.{held_at, IsHeldOf, AreTyped, IsLeaf, ran, StandsAfter, TookHeld, Gives, FiresAt, GivesAll, FiresEach, CanTake}
 use Rattle.brooklet_step.proofs.Standing.{stands_shape}
-use Rattle.brooklet_step.proofs.Fires.{grown_list}
-use Rattle.brooklet_step.proofs.GivenLemmas.{at-nil, at-append, at-length, at-same, of_held, held_of, all_held, typed_append, typed_word, at_word, word_append, at_next, ran_more, ran_typed, fired_typed, fit_of, leaf_kept, fit_length, leaf_to, leaf_from}
+use Rattle.brooklet_step.proofs.GivenLemmas.{at-nil, at-append, at-length, at-same, of_held, all_held, typed_append, typed_word, at_word, word_append, ran_more, fit_of, leaf_kept, leaf_to, leaf_from}
 
 -- KERNELS WITHOUT A KERNEL INSIDE
-
-leaf_rows : (k : Kern) → IsLeaf k → IsOnRows k
-leaf_rows (code k) l = tt
-leaf_rows (filter f) l = tt
-leaf_rows (duplicate n) l = tt
-leaf_rows (deal ws) l = tt
-leaf_rows (collect ws) l = tt
-leaf_rows (packed k) l = absurd l
-leaf_rows (unpack n) l = tt
-leaf_rows (window w) l = absurd l
-leaf_rows (select e) l = absurd l
-leaf_rows (project es) l = absurd l
-leaf_rows cross l = absurd l
-leaf_rows (streamer s) l = absurd l
-leaf_rows tally l = absurd l
-leaf_rows (fused a b at) l = absurd l
 
 head_item : (x i : item.Item) → x ∷ [] ≡ i ∷ [] → x ≡ i
 head_item x i e = cc
@@ -63,7 +37,7 @@ leaf_applies k port i st out l t =
     record {
       takes = record {
         reads = t.reads;
-        fitted = record { on_rows = t.fitting.on_rows; writes = t.fitting.writes; vars = t.fitting.vars; fits = t.fitting.fits; keeps = record { kept = s.0; stands = s.1; holds = s.2 } };
+        fitted = record { writes = t.fitting.writes; vars = t.fitting.vars; fits = t.fitting.fits; keeps = record { kept = s.0; stands = s.1; holds = s.2 } };
         item = of_held t.reads port i t.item;
       };
       room = t.room;
@@ -75,7 +49,8 @@ leaf_does k port i out out' st st' l f = record {
   each = λ reads writes vars fits fs hi.
       let s = leaf_kept k reads st l fs in
       let g = f.given s.0 s.1 in
-      let t = fire_typed k reads writes vars port i s.0 (leaf_rows k l) fits (stands_shape k st s.0 s.1) s.2 (of_held reads port i hi) in
+      let shape = stands_shape k st s.0 s.1 in
+      let t = fire_typed k reads writes vars port i s.0 fits shape s.2 (of_held reads port i hi) in
       record {
         gives = record {
           given = λ w x tw tx sa h.
@@ -97,6 +72,7 @@ leaf_does k port i out out' st st' l f = record {
           outs_are = g.0.outs;
           adds_are = g.0.adds;
           held = λ p. all_held writes p ((fire k port i s.0).outs p) (t.0 p);
+          wide = fire_wide k reads writes vars port i s.0 fits shape s.2 (of_held reads port i hi);
           again = fit_of k reads st' (fire k port i s.0).states g.1 t.1;
         };
       };
@@ -122,9 +98,9 @@ ran_feed k u zs = subst (λ (r : Fired). Same (ran k (u ++ word_of 0 zs)) (and_t
 pub each_start : (k : Kern) (out : Emit) (st : List State) → FiresEach k [] out out st st
 each_start k out st = record {
   each = λ reads writes vars fits fs hs. record {
-      gives = record { given = λ w xs tw txs sa h. nothing writes w xs sa (len reads w xs h) };
-      came = record { outs = none; adds = none; outs_are = sym (each_grew-none out.outs); adds_are = sym (each_grew-none out.adds); held = λ p. All-nil (IsHeldOf writes p); again = fs };
-    };
+    gives = record { given = λ w xs tw txs sa h. nothing writes w xs sa (len reads w xs h) };
+    came = record { outs = none; adds = none; outs_are = sym (each_grew-none out.outs); adds_are = sym (each_grew-none out.adds); held = λ p. All-nil (IsHeldOf writes p); wide = λ t. All-nil (IsWide (slice_get (widths_in vars) t)); again = fs };
+  };
 }
   where
     len : (reads : List QueueType) (w : Word) (xs : List item.Item) → held_at reads 0 (at_port 0 w) xs ≡ [] → length xs ≡ 0
@@ -185,6 +161,7 @@ each_step k is i st st1 st2 e e' e'' f u = record {
           outs_are = b.came.outs_are ∙ ap (λ l. each_grew l b.came.outs) a.came.outs_are ∙ each_grew-each_grew e.outs a.came.outs b.came.outs;
           adds_are = b.came.adds_are ∙ ap (λ l. each_grew l b.came.adds) a.came.adds_are ∙ each_grew-each_grew e.adds a.came.adds b.came.adds;
           held = λ p. All-append (IsHeldOf writes p) (a.came.outs p) (b.came.outs p) (a.came.held p) (b.came.held p);
+          wide = λ t. All-append (IsWide (slice_get (widths_in vars) t)) (a.came.adds t) (b.came.adds t) (a.came.wide t) (b.came.wide t);
           again = b.came.again;
         };
       };

@@ -1,34 +1,31 @@
 -- Words, what queues at ports hold, and what states are.
-use Rattle.std.proofs.Common.{◌≡◌, ℕ, ℤ, zero, suc, ◌+◌, ◌*◌, ◌<◌, Option, Some, None, List, [], ◌∷◌, ◌++◌, length, take, drop, refl, sym, ap, ◌∙◌, subst, arith, append_assoc, length-drop}
+use Rattle.std.proofs.Common.{◌≡◌, ℕ, ℤ, ◌*◌, Option, Some, None, List, [], ◌∷◌, ◌++◌, length, take, drop, refl, sym, ap, ◌∙◌, subst, arith, length-drop}
 use Rattle.std.specs.Prelude.{All, slice_get}
-use Rattle.std.proofs.lemmas.List.{append-nil, length-take}
-use Rattle.std.proofs.lemmas.List.Elements.{All-head, All-tail, All-cons, All-nil, All-append}
+use Rattle.std.proofs.lemmas.List.{length-take}
+use Rattle.std.proofs.lemmas.List.Elements.{All-head, All-tail, All-cons, All-nil}
 use Rattle.river_base.specs.declared.item.Item as item
 use Rattle.river_base.specs.declared.kind.QueueType.{QueueType}
-use Rattle.river_base.specs.Held.{held, HasType, IsHeld}
 use Rattle.river_base.specs.Places.{list_at}
 use Rattle.river_base.proofs.HeldLemmas.{held-nil, held-append, length-held, held-same, held-typed, typed-held}
-use Rattle.kern_rows.specs.Turns.{Turns, shares, ones}
+use Rattle.kern_rows.specs.Turns.{Turns}
 use Rattle.river_kernels.specs.declared.types.VarKind.{VarKind}
 use Rattle.river_kernels.specs.Fits.{Fits}
 use Rattle.river_kernels.specs.Types.{types_of}
 use Rattle.river_kernels.specs.Kern.{Kern, code, filter, duplicate, deal, collect, packed, unpack, window, select, project, cross, streamer, tally, fused}
-use Rattle.brooklet_model.specs.Firings.{Kept, Slots, Buffered, Turn, Joining, Fired, Same, and_then}
+use Rattle.brooklet_model.specs.Firings.{Kept, Slots, Buffered, Turn, Joining, Same, and_then}
 use Rattle.brooklet_model.specs.Fire.{fire, first_kept, privates, kept_vars}
-use Rattle.brooklet_model.specs.Shapes.{IsFormed, IsShaped, HasShape}
-use Rattle.brooklet_model.specs.Typed.{IsTyped, IsOf, AreOf, IsOnRows, AreWaiting, Holds, between}
+use Rattle.brooklet_model.specs.Shapes.{IsShaped, HasShape}
+use Rattle.brooklet_model.specs.Typed.{IsTyped, IsOf, AreOf, AreWaiting, Holds, between}
 use Rattle.brooklet_model.specs.Words.{Word, run, at_port, word_of}
 use Rattle.brooklet_model.proofs.Lists.{take_front, drop_front}
-use Rattle.brooklet_model.proofs.Ports.{shaped, formed_shaped}
+use Rattle.brooklet_model.proofs.Ports.{shaped}
 use Rattle.brooklet_model.proofs.Shapes.{first_shape, fire_shape, shape_length}
 use Rattle.brooklet_model.proofs.Swaps.{at_port_here}
 use Rattle.brooklet_model.proofs.Free.{at_port-append}
 use Rattle.brooklet_model.proofs.Traces.{run_more}
 use Rattle.brooklet_model.proofs.Typing.{first_holds}
-use Rattle.brooklet_model.proofs.TypedPlan.{AreAt, at_append, run_typed}
+use Rattle.brooklet_model.proofs.TypedPlan.{AreAt, run_typed}
 use Rattle.brooklet_step.specs.declared.state.State.{State}
-use Rattle.brooklet_step.specs.declared.state.State.TheVariants as state
-use Rattle.brooklet_step.specs.Initial.{IsFirst}
 use Rattle.brooklet_step.specs.Stands.{StandsFor, StandsForSlots}
 use Rattle.brooklet_step.specs.Given.{held_by, held_at, IsHeldBy, IsHeldOf, AreHeldOf, AreTyped, FitSlots, FitState, IsLeaf, ran, StandsAfter}
 
@@ -120,12 +117,12 @@ all_right P [] ys h = h
 all_right P (x ∷ xs) ys h = all_right P xs ys (All-tail P x (xs ++ ys) h)
 
 -- what is given for typed items is typed
-pub ran_typed : (k : Kern) (is os : List QueueType) (vs : List VarKind) (w : Word) → IsOnRows k → Fits k is os vs → AreTyped is w → AreOf os (ran k w).outs
-ran_typed k is os vs w r f a = run_typed k is os vs w (first_kept k) r f (first_shape k (shaped k is os vs f)) (first_holds k is (shaped k is os vs f)) (typed_at is w a)
+pub ran_typed : (k : Kern) (is os : List QueueType) (vs : List VarKind) (w : Word) → Fits k is os vs → AreTyped is w → AreOf os (ran k w).outs
+ran_typed k is os vs w f a = run_typed k is os vs w (first_kept k) f (first_shape k (shaped k is os vs f)) (first_holds k is (shaped k is os vs f)) (typed_at is w a)
 
-pub fired_typed : (k : Kern) (is os : List QueueType) (vs : List VarKind) (w : Word) (p : ℕ) (x : item.Item) → IsOnRows k → Fits k is os vs → AreTyped is w → IsOf is p x → AreOf os (fire k p x (ran k w).states).outs
-fired_typed k is os vs w p x r f a i q =
-    let all = ran_typed k is os vs (w ++ (p, x) ∷ []) r f (typed_append is w ((p, x) ∷ []) a (i, tt)) q in
+pub fired_typed : (k : Kern) (is os : List QueueType) (vs : List VarKind) (w : Word) (p : ℕ) (x : item.Item) → Fits k is os vs → AreTyped is w → IsOf is p x → AreOf os (fire k p x (ran k w).states).outs
+fired_typed k is os vs w p x f a i q =
+    let all = ran_typed k is os vs (w ++ (p, x) ∷ []) f (typed_append is w ((p, x) ∷ []) a (i, tt)) q in
     all_right (IsOf os q) ((ran k w).outs q) ((fire k p x (ran k w).states).outs q) (subst (All (IsOf os q)) ((ran_more k w p x).outs q) all)
 
 -- WHAT STATES ARE
@@ -144,7 +141,7 @@ fit_of (filter f) is st ks h t = record { now = h.now; code = h.code; count = h.
 fit_of (duplicate n) is st ks h t = h.code
 fit_of (deal ws) is st ks h t = record { now = h.now; code = h.code; turn = h.turn }
 fit_of (collect ws) is st ks h t = record { now = h.now; code = h.code; joined = h.joined; items = fit_joined is h.now ks h.defined t }
-fit_of (packed k) is st ks h t = fit_of k is st ks h t
+fit_of (packed k) is st ks h t = absurd h
 fit_of (unpack n) is st ks h t = record { now = h.now; code = h.code; joined = h.joined; items = fit_joined is h.now ks h.defined t }
 fit_of (window w) is st ks h t = h
 fit_of (select e) is st ks h t = h
@@ -152,7 +149,7 @@ fit_of (project es) is st ks h t = h
 fit_of cross is st ks h t = h
 fit_of (streamer s) is st ks h t = h
 fit_of tally is st ks h t = h
-fit_of (fused a b at) is st ks h t = (fit_of a is (take (privates a) st) (take (privates a) ks) h.0 t.0, fit_of b (between at (types_of a is)) (drop (privates a) st) (drop (privates a) ks) h.1 t.1)
+fit_of (fused a b at) is st ks h t = absurd h
 
 kept_slots : (zs : List ℤ) (st : List State) → FitSlots zs st → (ks : List Kept) × StandsForSlots zs st ks
 kept_slots [] st h = ([], record { code = h; defined = refl })
@@ -262,30 +259,3 @@ shape_ran k (e ∷ es) ss s h = shape_ran k es (fire k e.0 e.1 ss).states s (fir
 
 pub ran_length : (k : Kern) (w : Word) → IsShaped k → length (ran k w).states ≡ privates k
 ran_length k w s = shape_length k (ran k w).states (shape_ran k w (first_kept k) s (first_shape k s))
-
--- states that stand for the first ones stand for those after no firing
-first_after : (k : Kern) (st : List State) → IsShaped k → StandsFor k st (first_kept k) → StandsAfter k st []
-first_after (code k) st s h = h
-first_after (filter f) st s h = h
-first_after (duplicate n) st s h = h
-first_after (deal ws) st s h = h
-first_after (collect ws) st s h = h
-first_after (packed k) st s h = first_after k st s.0 h
-first_after (unpack n) st s h = h
-first_after (window v) st s h = h
-first_after (select e) st s h = h
-first_after (project es) st s h = h
-first_after cross st s h = h
-first_after (streamer v) st s h = h
-first_after tally st s h = h
-first_after (fused a b at) st s h =
-    let la = shape_length a (first_kept a) (first_shape a s.0) in (
-      first_after a (take (privates a) st) s.0 (subst (λ (us : List Kept). StandsFor a (take (privates a) st) us) (take_front (first_kept a) (first_kept b) (privates a) la) h.0),
-      first_after b (drop (privates a) st) s.1 (subst (λ (us : List Kept). StandsFor b (drop (privates a) st) us) (drop_front (first_kept a) (first_kept b) (privates a) la) h.1),
-    )
-
-pub first_is : (k : Kern) (st : List State) → IsFormed k → StandsFor k st (first_kept k) → IsFirst k st
-first_is k st f h = record {
-  after = first_after k st (formed_shaped k f) h;
-  again = λ reads writes vars fits. fit_of k reads st (first_kept k) h (first_holds k reads (formed_shaped k f));
-}

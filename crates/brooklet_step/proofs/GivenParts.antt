@@ -1,9 +1,8 @@
 -- Firings after others: packs, and two kernels as one.
-use Rattle.std.proofs.Common.{◌≡◌, ℕ, zero, suc, ◌+◌, ◌-◌, ◌<◌, ◌≤◌, List, [], ◌∷◌, ◌++◌, length, take, drop, replicate, refl, sym, ap, ◌∙◌, subst, arith, append_assoc, ⊎_elim}
+use Rattle.std.proofs.Common.{◌≡◌, ℕ, zero, suc, ◌+◌, ◌-◌, ◌<◌, List, [], ◌∷◌, ◌++◌, length, take, drop, replicate, refl, sym, ap, ◌∙◌, subst, arith, ⊎_elim}
 use Rattle.std.specs.Prelude.{All, slice_get, Some}
 use Rattle.std.proofs.lemmas.Bool.{cases_lt}
-use Rattle.std.proofs.lemmas.List.{append-nil, length-replicate}
-use Rattle.std.proofs.lemmas.List.Elements.{All-head, All-tail, All-cons, All-nil, All-append}
+use Rattle.std.proofs.lemmas.List.Elements.{All-head, All-tail, All-cons, All-nil}
 use Rattle.river_base.specs.declared.item.Item as item
 use Rattle.river_base.specs.declared.item.Item.TheVariants.{Flat, Pack}
 use Rattle.river_base.specs.declared.item.Flat as flat
@@ -18,33 +17,31 @@ use Rattle.river_kernels.specs.declared.types.VarKind.{VarKind}
 use Rattle.river_kernels.specs.Fits.{Fits, spliced}
 use Rattle.river_kernels.specs.Types.{types_of}
 use Rattle.river_kernels.specs.Kern.{Kern, packed, fused}
-use Rattle.brooklet_model.specs.Firings.{Kept, Fired, Same, feed, and_then, splice, beside, fused_of, gives}
+use Rattle.brooklet_model.specs.Firings.{Kept, Fired, Same, feed, splice, beside, fused_of, gives}
 use Rattle.brooklet_model.specs.Fire.{fire, first_kept, outs, tabs, privates}
-use Rattle.brooklet_model.specs.Shapes.{IsShaped, HasShape}
-use Rattle.brooklet_model.specs.Typed.{IsOf, AreOf, IsTyped, IsOnRows, between}
-use Rattle.brooklet_model.specs.Words.{Word, run, at_port, word_of}
+use Rattle.brooklet_model.specs.Shapes.{IsShaped}
+use Rattle.brooklet_model.specs.Typed.{IsTyped, between, widths_in, IsWide}
+use Rattle.brooklet_model.specs.Words.{Word, run, word_of}
 use Rattle.brooklet_model.proofs.Lists.{take_front, drop_front}
 use Rattle.brooklet_model.proofs.Feeds.{feed_word}
 use Rattle.brooklet_model.proofs.FusedRun.{fused_runs}
 use Rattle.brooklet_model.proofs.Ports.{shaped, counts}
 use Rattle.brooklet_model.proofs.Shapes.{first_shape, shape_length}
-use Rattle.brooklet_model.proofs.Spliced.{splice_first, splice_second, splice_last, splice_next, got_append, got_past, spliced_next}
+use Rattle.brooklet_model.proofs.Spliced.{splice_first, splice_second, splice_last, spliced_got, spliced_all}
 use Rattle.brooklet_model.proofs.Typing.{between_is}
+use Rattle.brooklet_model.proofs.WideAdds.{fused_wide}
 use Rattle.brooklet_step.specs.declared.emit.Emit.{Emit}
 use Rattle.brooklet_step.specs.declared.state.State.{State}
 use Rattle.brooklet_step.specs.Took.{Took, HasRoom, IsBlank}
-use Rattle.brooklet_step.specs.Given.{held_by, held_at, IsHeldBy, IsHeldOf, AreHeldOf, AreTyped, FitState, ran, StandsAfter, TookHeld, Gives, Came, Does, FiresAt, GivesAll, DoesAll, FiresEach, Fitting, CanTake, CanTakeAll}
-use Rattle.brooklet_step.proofs.Fires.{grown_list, flats-append}
+use Rattle.brooklet_step.specs.Given.{held_by, held_at, IsHeldBy, IsHeldOf, FitState, ran, StandsAfter, TookHeld, Came, Does, FiresAt, FiresEach}
+use Rattle.brooklet_step.proofs.Fires.{grown_list, flats-append, blank_room}
 use Rattle.brooklet_step.proofs.Fused.{splice_cong, beside_cong}
-use Rattle.brooklet_step.proofs.GivenLemmas.{typed_append, typed_word, at_word, word_append, ran_more, ran_length, ran_typed, fired_typed, fit_length, parts_fit, parts_after}
+use Rattle.brooklet_step.proofs.GivenLemmas.{typed_word, at_word, word_append, ran_more, ran_length, ran_typed, fired_typed, parts_fit, parts_after}
 
 -- ROOM
 
-pub blank_room : (k : Kern) (e : Emit) → IsBlank k e → HasRoom k e
-blank_room k e b = record { outs = ap length b.outs ∙ length-replicate (outs k) []; adds = ap length b.adds ∙ length-replicate (tabs k) [] }
-
-pub came_room : (k : Kern) (reads writes : List QueueType) (e e' : Emit) (st' : List State) → HasRoom k e → Came k reads writes e e' st' → HasRoom k e'
-came_room k reads writes e e' st' h c = record { outs = ap length c.outs_are ∙ length-each_grew e.outs c.outs ∙ h.outs; adds = ap length c.adds_are ∙ length-each_grew e.adds c.adds ∙ h.adds }
+pub came_room : (k : Kern) (reads writes : List QueueType) (vars : List VarKind) (e e' : Emit) (st' : List State) → HasRoom k e → Came k reads writes vars e e' st' → HasRoom k e'
+came_room k reads writes vars e e' st' h c = record { outs = ap length c.outs_are ∙ length-each_grew e.outs c.outs ∙ h.outs; adds = ap length c.adds_are ∙ length-each_grew e.adds c.adds ∙ h.adds }
 
 -- PACKS
 
@@ -77,15 +74,15 @@ packed_items k (e ∷ es) ss =
     ∙ sym (as_items-append (flats (r.outs 0)) (flats (rest.outs 0)))
     ∙ ap as_items (sym (flats-append (r.outs 0) (rest.outs 0)))
 
-pub packed_does : (j : Kern) (port : ℕ) (i : item.Item) (st st' : List State) (out out' e e' : Emit) (items : List item.Item) (fs : List flat.Flat) → IsOnRows (packed j) → e.outs ≡ replicate 1 [] → FiresAt j port i e e' st st' → items ≡ list_at e'.outs 0 → fs ≡ flats items → Took out out' (gives 0 (Pack fs ∷ []) []) → FiresAt (packed j) port i out out' st st'
-packed_does j port i st st' out out' e e' items fs rows b f ei ef took = record {
+pub packed_does : (j : Kern) (port : ℕ) (i : item.Item) (st st' : List State) (out out' e e' : Emit) (items : List item.Item) (fs : List flat.Flat) → e.outs ≡ replicate 1 [] → FiresAt j port i e e' st st' → items ≡ list_at e'.outs 0 → fs ≡ flats items → Took out out' (gives 0 (Pack fs ∷ []) []) → FiresAt (packed j) port i out out' st st'
+packed_does j port i st st' out out' e e' items fs b f ei ef took = record {
   each = λ reads writes vars fits fst hi.
       let t = fits.0 in
       let u = fits.1 in
       let fj : Fits j reads (FlatOf u ∷ []) [] = subst (λ (l : List QueueType). Fits j l (FlatOf u ∷ []) []) (sym fits.2) fits.5 in
       let d = f.each reads (FlatOf u ∷ []) [] fj fst hi in
       let is : items ≡ d.came.outs 0 = ei ∙ grown_list 1 e.outs e'.outs d.came.outs 0 b d.came.outs_are (omega arith) in
-      subst (λ (os : List QueueType). Does (packed j) reads os port i out out' st st') (sym fits.3) (record {
+      subst (λ (os : List QueueType). Does (packed j) reads os vars port i out out' st st') (sym fits.3) (record {
         gives = record {
           given = λ w x tw tx sa h.
               let g = d.gives.given w x tw tx sa h in
@@ -93,8 +90,8 @@ packed_does j port i st st' out out' e e' items fs rows b f ei ef took = record 
               let r = fire j port x sj in
               let past = (ran j w).outs 0 in
               let xs = r.outs 0 in
-              let typed_past : All (HasType (FlatOf u)) past = ran_typed j reads (FlatOf u ∷ []) [] w rows fj tw 0 in
-              let typed_xs : All (HasType (FlatOf u)) xs = fired_typed j reads (FlatOf u ∷ []) [] w port x rows fj tw tx 0 in
+              let typed_past : All (HasType (FlatOf u)) past = ran_typed j reads (FlatOf u ∷ []) [] w fj tw 0 in
+              let typed_xs : All (HasType (FlatOf u)) xs = fired_typed j reads (FlatOf u ∷ []) [] w port x fj tw tx 0 in
               let came : items ≡ held (FlatOf u) past xs = ei ∙ grown_list 1 e.outs e'.outs (λ p. held_at (FlatOf u ∷ []) p ((ran j w).outs p) (r.outs p)) 0 b g.0.outs (omega arith) in
               let whole = ran (packed j) w in
               let states : whole.states ≡ sj = packed_states j w (first_kept j) in
@@ -117,6 +114,7 @@ packed_does j port i st st' out out' e e' items fs rows b f ei ef took = record 
           outs_are = took.outs;
           adds_are = took.adds;
           held = λ p. held_pack u (subst (λ (l : List item.Item). All (IsHeld (FlatOf u)) l) (sym is) (d.came.held 0)) p;
+          wide = λ t. All-nil (IsWide (slice_get (widths_in vars) t));
           again = d.came.again;
         };
       });
@@ -131,24 +129,6 @@ packed_does j port i st st' out out' e e' items fs rows b f ei ef took = record 
     at_pack u fs xs whole e (suc p) = refl
 
 -- TWO KERNELS
-
-spliced_got : (ms bs : List QueueType) (at p : ℕ) → at < length ms → slice_get (spliced at ms bs) p ≡ splice at (length bs) (slice_get ms) (slice_get bs) p
-spliced_got [] bs at p lt = absurd (omega (arith, lt))
-spliced_got (m ∷ ms) bs zero p lt = ⊎_elim
-    (λ l.
-    let z : p - 0 ≡ p = omega arith in
-    got_append bs ms p l ∙ sym (splice_second 0 (length bs) (slice_get (m ∷ ms)) (slice_get bs) p (omega arith) (omega (arith, l)) ∙ ap (slice_get bs) z))
-    (λ ge.
-    let i : ℕ = p - length bs in
-    let e : length bs + i ≡ p = omega (arith, ge) in
-    let d : p - length bs + 1 ≡ suc i = omega arith in
-    ap (slice_get (bs ++ ms)) (sym e) ∙ got_past bs ms i ∙ ap (slice_get (m ∷ ms)) (sym d)
-    ∙ sym (splice_last 0 (length bs) (slice_get (m ∷ ms)) (slice_get bs) p (omega arith) (omega (arith, ge))))
-    (cases_lt p (length bs))
-spliced_got (m ∷ ms) bs (suc at) zero lt =
-    ap (λ (l : List QueueType). slice_get l 0) (spliced_next at m ms bs) ∙ sym (splice_first (suc at) (length bs) (slice_get (m ∷ ms)) (slice_get bs) 0 (omega arith))
-spliced_got (m ∷ ms) bs (suc at) (suc p) lt =
-    ap (λ (l : List QueueType). slice_get l (suc p)) (spliced_next at m ms bs) ∙ spliced_got ms bs at p (omega (arith, lt)) ∙ splice_next at (length bs) (slice_get (m ∷ ms)) (slice_get bs) p
 
 -- what the queues of both kernels hold is what the queues of the two as one hold
 splice_held : (ms bs : List QueueType) (at p : ℕ) (P R Q S : ℕ → List item.Item) → at < length ms
@@ -173,22 +153,6 @@ splice_held ms bs at p P R Q S lt = by_place (length bs) ∙ ap (λ o. held_by o
         (cases_lt (p - at) n))
         (cases_lt p at)
 
--- what queues of both kernels may hold is what queues of the two as one may hold
-splice_all : (ms bs : List QueueType) (at p : ℕ) (f g : ℕ → List item.Item) → at < length ms → AreHeldOf ms f → AreHeldOf bs g → All (IsHeldOf (spliced at ms bs) p) (splice at (length bs) f g p)
-splice_all ms bs at p f g lt a b = subst (λ o. All (IsHeldBy o) (splice at (length bs) f g p)) (sym (spliced_got ms bs at p lt)) (by_place (length bs))
-  where
-    by_place : (n : ℕ) → All (IsHeldBy (splice at n (slice_get ms) (slice_get bs) p)) (splice at n f g p)
-    by_place n = ⊎_elim
-        (λ l. subst (λ o. All (IsHeldBy o) (splice at n f g p)) (sym (splice_first at n (slice_get ms) (slice_get bs) p l))
-        (subst (All (IsHeldOf ms p)) (sym (splice_first at n f g p l)) (a p)))
-        (λ ge. ⊎_elim
-        (λ l. subst (λ o. All (IsHeldBy o) (splice at n f g p)) (sym (splice_second at n (slice_get ms) (slice_get bs) p ge l))
-        (subst (All (IsHeldOf bs (p - at))) (sym (splice_second at n f g p ge l)) (b (p - at))))
-        (λ le. subst (λ o. All (IsHeldBy o) (splice at n f g p)) (sym (splice_last at n (slice_get ms) (slice_get bs) p ge le))
-        (subst (All (IsHeldOf ms (p - n + 1))) (sym (splice_last at n f g p ge le)) (a (p - n + 1))))
-        (cases_lt (p - at) n))
-        (cases_lt p at)
-
 -- all that two kernels as one gave, part by part
 pub fused_ran : (a b : Kern) (at : ℕ) (w : Word) → IsShaped (fused a b at) → Same (ran (fused a b at) w) (fused_of at (outs b) (tabs a) (ran a w) (λ xs. ran b (word_of 0 xs)))
 fused_ran a b at w s =
@@ -203,14 +167,15 @@ fused_ran a b at w s =
     subst (λ us. Same (ran k w) (fused_of at (outs b) (tabs a) (ran a w) (λ xs. feed (fire b 0) xs us))) (drop_front sa sb (privates a) la) h1 in
     subst (λ (r : Fired). Same (ran k w) (fused_of at (outs b) (tabs a) (ran a w) (λ xs. r))) (sym (feed_word (fire b) 0 ((ran a w).outs at) sb)) h2
 
-pub fused_does : (a b : Kern) (at port : ℕ) (i : item.Item) (st mine' rest' : List State) (out new mid0 mid last0 last : Emit) (items : List item.Item) → IsOnRows (fused a b at) → HasRoom (fused a b at) out → IsBlank a mid0 → FiresAt a port i mid0 mid (take (privates a) st) mine' → IsBlank b last0 → items ≡ list_at mid.outs at → FiresEach b items last0 last (drop (privates a) st) rest' → new.outs ≡ each_grew out.outs (splice at (length last.outs) (list_at mid.outs) (list_at last.outs)) → new.adds ≡ each_grew out.adds (beside (length mid.adds) (list_at mid.adds) (list_at last.adds)) → FiresAt (fused a b at) port i out new st (mine' ++ rest')
-fused_does a b at port i st mine' rest' out new mid0 mid last0 last items rows room bm fm bl is fl eo ea = record {
+pub fused_does : (a b : Kern) (at port : ℕ) (i : item.Item) (st mine' rest' : List State) (out new mid0 mid last0 last : Emit) (items : List item.Item) → HasRoom (fused a b at) out → IsBlank a mid0 → FiresAt a port i mid0 mid (take (privates a) st) mine' → IsBlank b last0 → items ≡ list_at mid.outs at → FiresEach b items last0 last (drop (privates a) st) rest' → new.outs ≡ each_grew out.outs (splice at (length last.outs) (list_at mid.outs) (list_at last.outs)) → new.adds ≡ each_grew out.adds (beside (length mid.adds) (list_at mid.adds) (list_at last.adds)) → FiresAt (fused a b at) port i out new st (mine' ++ rest')
+fused_does a b at port i st mine' rest' out new mid0 mid last0 last items room bm fm bl is fl eo ea = record {
   each = λ reads writes vars f fs hi.
-      subst (λ (os : List QueueType). Does (fused a b at) reads os port i out new st (mine' ++ rest')) (sym f.8) (both reads f.0 f.1 f.2 f.3 f.4 f.5 f.6 f.7 (shaped (fused a b at) reads writes vars f) fs hi);
+      subst (λ (vs : List VarKind). Does (fused a b at) reads writes vs port i out new st (mine' ++ rest')) (sym f.9)
+      (subst (λ (os : List QueueType). Does (fused a b at) reads os (f.3 ++ f.4) port i out new st (mine' ++ rest')) (sym f.8) (both reads f.0 f.1 f.2 f.3 f.4 f.5 f.6 f.7 (shaped (fused a b at) reads writes vars f) fs hi));
 }
   where
     both : (reads ms : List QueueType) (m : QueueType) (bs : List QueueType) (us ws : List VarKind) → Fits a reads ms us → slice_get ms at ≡ Some m → Fits b (m ∷ []) bs ws → IsShaped (fused a b at) → FitState (fused a b at) reads st → IsHeldOf reads port i
-        → Does (fused a b at) reads (spliced at ms bs) port i out new st (mine' ++ rest')
+        → Does (fused a b at) reads (spliced at ms bs) (us ++ ws) port i out new st (mine' ++ rest')
     both reads ms m bs us ws fa g fb s fs hi =
         let k = fused a b at in
         let ca = counts a reads ms us fa in
@@ -221,8 +186,8 @@ fused_does a b at port i st mine' rest' out new mid0 mid last0 last items rows r
         let items_are : items ≡ da.came.outs at = is ∙ grown_list (outs a) mid0.outs mid.outs da.came.outs at bm.outs da.came.outs_are s.2 in
         let items_held : All (IsHeldOf (m ∷ []) 0) items = subst (λ (l : List item.Item). All (IsHeldOf (m ∷ []) 0) l) (sym items_are) (subst (λ o. All (IsHeldBy o) (da.came.outs at)) g (da.came.held at)) in
         let db = fl.each (m ∷ []) bs ws fb (subst (λ (l : List QueueType). FitState b l (drop (privates a) st)) mid_is fs.1) items_held in
-        let mid_room : HasRoom a mid = came_room a reads ms mid0 mid mine' (blank_room a mid0 bm) da.came in
-        let last_room : HasRoom b last = came_room b (m ∷ []) bs last0 last rest' (blank_room b last0 bl) db.came in
+        let mid_room : HasRoom a mid = came_room a reads ms us mid0 mid mine' (blank_room a mid0 bm) da.came in
+        let last_room : HasRoom b last = came_room b (m ∷ []) bs ws last0 last rest' (blank_room b last0 bl) db.came in
         let cut : (fa fb : ℕ → List item.Item) → mid.outs ≡ each_grew mid0.outs fa → last.outs ≡ each_grew last0.outs fb → new.outs ≡ each_grew out.outs (splice at (length bs) fa fb) = λ ga gb ema emb.
         eo ∙ ap (λ n. each_grew out.outs (splice at n (list_at mid.outs) (list_at last.outs))) (last_room.outs ∙ sym cb.outs)
         ∙ each_grew_cong out.outs (splice at (length bs) (list_at mid.outs) (list_at last.outs)) (splice at (length bs) ga gb) (λ p h. splice_cong at (length bs) (outs a) (list_at mid.outs) ga (list_at last.outs) gb p s.2
@@ -244,8 +209,8 @@ fused_does a b at port i st mine' rest' out new mid0 mid last0 last items rows r
                 let ra = fire a port x wa.states in
                 let xs = ra.outs at in
                 let wb = word_of 0 past in
-                let typed_past : All (HasType m) past = subst (λ o. All (IsTyped o) past) g (ran_typed a reads ms us w rows.0 fa tw at) in
-                let typed_xs : All (HasType m) xs = subst (λ o. All (IsTyped o) xs) g (fired_typed a reads ms us w port x rows.0 fa tw tx at) in
+                let typed_past : All (HasType m) past = subst (λ o. All (IsTyped o) past) g (ran_typed a reads ms us w fa tw at) in
+                let typed_xs : All (HasType m) xs = subst (λ o. All (IsTyped o) xs) g (fired_typed a reads ms us w port x fa tw tx at) in
                 let came : items ≡ held m past xs = is ∙ grown_list (outs a) mid0.outs mid.outs (λ p. held_at ms p (wa.outs p) (ra.outs p)) at bm.outs one.0.outs s.2 ∙ ap (λ o. held_by o past xs) g in
                 let two = db.gives.given wb xs (typed_word (m ∷ []) 0 past typed_past) typed_xs sa.1 (ap (λ l. held m l xs) (at_word 0 past) ∙ sym came) in
                 let rb = feed (fire b 0) xs (ran b wb).states in
@@ -276,7 +241,8 @@ fused_does a b at port i st mine' rest' out new mid0 mid last0 last items rows r
             adds = beside (tabs a) da.came.adds db.came.adds;
             outs_are = cut da.came.outs db.came.outs da.came.outs_are db.came.outs_are;
             adds_are = cut_adds da.came.adds db.came.adds da.came.adds_are db.came.adds_are;
-            held = λ p. splice_all ms bs at p da.came.outs db.came.outs at_ms da.came.held db.came.held;
+            held = λ p. spliced_all IsHeldBy ms bs at p da.came.outs db.came.outs at_ms da.came.held db.came.held;
+            wide = fused_wide a reads ms us ws da.came.adds db.came.adds fa da.came.wide db.came.wide;
             again = parts_fit a b at reads mine' rest' da.came.again (subst (λ (l : List QueueType). FitState b l rest') (sym mid_is) db.came.again);
           };
         }

@@ -20,7 +20,7 @@ use Rattle.river_base.proofs.PlaceLemmas.{each_grew_cong, each_grew-none, append
 use Rattle.kern_rows.specs.Forms.{CodeForm, FilterForm}
 use Rattle.kern_rows.specs.Needs.{CanCode, CanFilter, HaveShares, IsJoiner}
 use Rattle.kern_rows.specs.Runs.{run_kept, pushed_to, filter_one}
-use Rattle.kern_rows.specs.Stands.{Waiting, StandsForFiltering, Filters, Dealing, values_of as values_in}
+use Rattle.kern_rows.specs.Stands.{Waiting, StandsForFiltering, Filters, Dealing, first_values}
 use Rattle.kern_rows.specs.Turns.{Turns, IsTurn, shares, ones, next_port, next_had, joins, itself, put, waiting}
 use Rattle.kern_rows.proofs.Given.{filter_values, given_items}
 use Rattle.kern_rows.proofs.Lengths.{run_kept_length}
@@ -28,7 +28,6 @@ use Rattle.river_kernels.specs.Fits.{rows}
 use Rattle.river_kernels.specs.Kern.{code, filter, deal, collect, unpack}
 use Rattle.brooklet_model.specs.Firings.{Kept, Slots, Buffered, Turn, Joining, gives}
 use Rattle.brooklet_model.specs.Fire.{fire, code_one, values_of, value_of}
-use Rattle.brooklet_model.specs.Shapes.{IsJoined}
 use Rattle.brooklet_model.proofs.Shapes.{next_turn, put_joined, drain_joined}
 use Rattle.brooklet_model.specs.Typed.{IsOf, AreOf}
 use Rattle.brooklet_model.proofs.Lists.{if_eq, if_ne}
@@ -162,7 +161,7 @@ pub code_below : (k : CodeForm) (x : item.Item) (st st' : List State) (out : Emi
 code_below k x st st' out pushes a p =
     let t = a.takes.fitted in
     let ks = t.keeps.kept in
-    let typed = fire_typed (code k) a.takes.reads t.writes t.vars 0 x ks t.on_rows t.fits (stands_shape (code k) st ks t.keeps.stands) t.keeps.holds a.takes.item in
+    let typed = fire_typed (code k) a.takes.reads t.writes t.vars 0 x ks t.fits (stands_shape (code k) st ks t.keeps.stands) t.keeps.holds a.takes.item in
     let are : AreOf t.writes (λ q. pushed_to q pushes) = subst (AreOf t.writes) (p.given ks t.keeps.stands).0 typed.0 in
     let same : length t.writes ≡ length out.outs = (counts (code k) a.takes.reads t.writes t.vars t.fits).outs ∙ sym a.room.outs in
     subst (λ n. All (λ e. e.0 < n) pushes) same (ports_below t.writes pushes are)
@@ -214,7 +213,7 @@ filter_fires f x s s' old new v values items out out' can room e e' ev ran len e
       let one = ran.each h.seen stands in
       let F = filter_one f (value_of x) h.seen in
       let is : filter_one f v h.seen ≡ F = ap (λ (z : ℤ). filter_one f z h.seen) ev in
-      let given : items ≡ pushed_to 0 F.pushes = ei ∙ ap (map (λ z. Flat (One (z ∷ [])))) (one.0 ∙ ap (λ g. values_in g.pushes) is) ∙ sym (given_items F.pushes (filter_values f (value_of x) h.seen can.gives)) in
+      let given : items ≡ pushed_to 0 F.pushes = ei ∙ ap (map (λ z. Flat (One (z ∷ [])))) (one.0 ∙ ap (λ g. first_values g.pushes) is) ∙ sym (given_items F.pushes (filter_values f (value_of x) h.seen can.gives)) in
       let after : StandsForFilter f (s' ∷ []) (Buffered F.after ∷ []) = record {
         now = new;
         seen = F.after;
@@ -271,9 +270,6 @@ deal_fires ws x s s' old new out out' port a e e' ep np nh took = record {
 
 -- JOINERS
 
-joined_needs : (ws : List ℕ) (s : Turns) → IsJoined ws s → IsJoiner ws s
-joined_needs ws s j = record { turn = j.turn; lists = j.lists }
-
 pub port_below : (n : ℕ) (t : QueueType) (reads : List QueueType) (p : ℕ) (x : item.Item) → reads ≡ replicate n t → IsOf reads p x → p < n
 port_below n t reads p x e h = let l = ap length e ∙ length-replicate n t in let b = is_below reads p x h in omega (arith, l, b)
 
@@ -283,12 +279,12 @@ same_collect a b h = cc
 same_unpack : (a b : Turns) → state.Unpack a ≡ state.Unpack b → a ≡ b
 same_unpack a b h = cc
 
-joined_after : (give : item.Item → List item.Item) (wrap : Turns → State) (ws : List ℕ) (port : ℕ) (x : item.Item) (s' : State) (old new : Turns) → HaveShares ws → IsJoined ws old → s' ≡ wrap new → new ≡ (joins give ws port x old).1 → StandsForJoiner wrap ws (s' ∷ []) (Joining (joins give ws port x old).1 ∷ [])
+joined_after : (give : item.Item → List item.Item) (wrap : Turns → State) (ws : List ℕ) (port : ℕ) (x : item.Item) (s' : State) (old new : Turns) → HaveShares ws → IsJoiner ws old → s' ≡ wrap new → new ≡ (joins give ws port x old).1 → StandsForJoiner wrap ws (s' ∷ []) (Joining (joins give ws port x old).1 ∷ [])
 joined_after give wrap ws port x s' old new all j e en = record {
   now = new;
   code = ap (λ (u : State). u ∷ []) e;
   defined = ap (λ (t : Turns). Joining t ∷ []) (sym en);
-  joined = subst (IsJoined ws) (sym en) (drain_joined give ws (waiting (put port x old).lists) (put port x old) all (put_joined ws port x old j));
+  joined = subst (IsJoiner ws) (sym en) (drain_joined give ws (waiting (put port x old).lists) (put port x old) all (put_joined ws port x old j));
 }
 
 pub collect_shares : (ws : List ℤ) (port : ℕ) (x : item.Item) (st : List State) → Takes (collect ws) port x st → HaveShares (shares ws)
@@ -300,14 +296,14 @@ collect_port ws port x st t = port_below (length ws) _ t.reads port x t.fitted.f
 pub collect_joined : (ws : List ℤ) (port : ℕ) (x : item.Item) (s : State) (old : Turns) → s ≡ state.Collect old → Takes (collect ws) port x (s ∷ []) → IsJoiner (shares ws) old
 collect_joined ws port x s old e t =
     let h = t.fitted.keeps.stands in
-    joined_needs (shares ws) old (subst (IsJoined (shares ws)) (sym (same_collect old h.now (sym e ∙ head_is s (state.Collect h.now) h.code))) h.joined)
+    subst (IsJoiner (shares ws)) (sym (same_collect old h.now (sym e ∙ head_is s (state.Collect h.now) h.code))) h.joined
 
 pub collect_fires : (ws : List ℤ) (port : ℕ) (x : item.Item) (s s' : State) (old new : Turns) (items : List item.Item) (out out' : Emit) → Applies (collect ws) port x (s ∷ []) out → s ≡ state.Collect old → s' ≡ state.Collect new → items ≡ (joins itself (shares ws) port x old).0 → new ≡ (joins itself (shares ws) port x old).1 → Took out out' (gives 0 items []) → Fires (collect ws) out out' (s ∷ []) (s' ∷ []) (fire (collect ws) port x)
 collect_fires ws port x s s' old new items out out' a e e' ei en took = record {
   given = λ ks h.
       let same : old ≡ h.now = same_collect old h.now (sym e ∙ head_is s (state.Collect h.now) h.code) in
       let eq : ks ≡ Joining old ∷ [] = h.defined ∙ ap (λ (t : Turns). Joining t ∷ []) (sym same) in
-      let j : IsJoined (shares ws) old = subst (IsJoined (shares ws)) (sym same) h.joined in
+      let j : IsJoiner (shares ws) old = subst (IsJoiner (shares ws)) (sym same) h.joined in
       let after = joined_after itself (λ t. state.Collect t) (shares ws) port x s' old new (collect_shares ws port x (s ∷ []) a.takes) j e' en in
       let grew : Took out out' (fire (collect ws) port x (Joining old ∷ [])) = record { outs = took.outs ∙ ap (λ xs. each_grew out.outs (only 0 xs)) ei; adds = took.adds } in
       subst (λ (us : List Kept). Took out out' (fire (collect ws) port x us) × StandsForJoiner (λ t. state.Collect t) (shares ws) (s' ∷ []) (fire (collect ws) port x us).states) (sym eq) (grew, after);
@@ -318,7 +314,7 @@ unpack_fires n port x s s' old new items out out' a e e' ei en took = record {
   given = λ ks h.
       let same : old ≡ h.now = same_unpack old h.now (sym e ∙ head_is s (state.Unpack h.now) h.code) in
       let eq : ks ≡ Joining old ∷ [] = h.defined ∙ ap (λ (t : Turns). Joining t ∷ []) (sym same) in
-      let j : IsJoined (ones n) old = subst (IsJoined (ones n)) (sym same) h.joined in
+      let j : IsJoiner (ones n) old = subst (IsJoiner (ones n)) (sym same) h.joined in
       let f = a.takes.fitted in
       let after = joined_after items_of (λ t. state.Unpack t) (ones n) port x s' old new (shaped (unpack n) a.takes.reads f.writes f.vars f.fits) j e' en in
       let grew : Took out out' (fire (unpack n) port x (Joining old ∷ [])) = record { outs = took.outs ∙ ap (λ xs. each_grew out.outs (only 0 xs)) ei; adds = took.adds } in

@@ -8,7 +8,9 @@ pub mod GivenFires
 pub mod GivenLemmas
 pub mod GivenParts
 pub mod Leaves
+pub mod Moving
 pub mod NextLemmas
+pub mod OnRows
 pub mod QueuePlaces
 pub mod ReadLemmas
 pub mod RunLemmas

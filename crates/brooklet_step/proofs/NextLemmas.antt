@@ -1,17 +1,16 @@
 -- A firing of an operator, in the terms of the code.
-use Rattle.std.proofs.Common.{◌≡◌, ℕ, ◌+◌, ◌<◌, ◌≤◌, false, Some, List, [], length, sym, ap, ◌∙◌, subst, arith, get_or, replicate}
+use Rattle.std.proofs.Common.{◌≡◌, ℕ, ◌+◌, ◌<◌, ◌≤◌, false, Some, List, [], ◌∷◌, length, sym, ap, ◌∙◌, subst, arith, get_or, replicate}
 use Rattle.std.specs.Prelude.{min, slice_get, slice_set, slice_index_or}
-use Rattle.std.proofs.lemmas.List.{length-replicate, length-map}
+use Rattle.std.proofs.lemmas.List.{length-map, length-set}
 use Rattle.std.proofs.lemmas.Option.{slice_get_within, slice_get-get_or}
 use Rattle.river_base.specs.declared.item.Item as item
 use Rattle.river_base.specs.Places.{list_at, each_grew}
-use Rattle.river_base.proofs.PlaceLemmas.{length-each_grew}
 use Rattle.river_kernels.specs.Kern.{Kern, kern_of}
 use Rattle.river_plan.specs.declared.op.Op.{Op}
 use Rattle.river_plan.specs.declared.plan.RawPlan.{RawPlan}
 use Rattle.river_plan.specs.Forms.{OpForm, PlanForm, plan_form, op_form, op_forms, all_decls, queue_names}
 use Rattle.river_plan.specs.Kinds.{kind_of}
-use Rattle.brooklet_model.specs.Fire.{fire, outs, tabs}
+use Rattle.brooklet_model.specs.Fire.{outs, tabs}
 use Rattle.brooklet_model.specs.Histories.{most_firings}
 use Rattle.brooklet_model.proofs.Ports.{counts}
 use Rattle.brooklet_model.proofs.Traces.{some_is, got_count, read_of}
@@ -20,11 +19,11 @@ use Rattle.brooklet_step.specs.declared.emit.Emit.{Emit}
 use Rattle.brooklet_step.specs.declared.machine.Parts.{Parts}
 use Rattle.brooklet_step.specs.declared.state.State.{State}
 use Rattle.brooklet_step.specs.ByPlace.{place, places, joined_at}
-use Rattle.brooklet_step.specs.Reading.{CanFire, CameOf, FiredOp}
+use Rattle.brooklet_step.specs.Reading.{IsFront, CanFire, CameOf, FiredOp}
 use Rattle.brooklet_step.specs.Given.{FiresAt, CanTake}
 use Rattle.brooklet_step.proofs.GivenCode.{fires_again}
 use Rattle.brooklet_step.specs.Took.{IsBlank}
-use Rattle.brooklet_step.specs.Works.{hist_of, taken_of, states_of, IsEnabled, GoesOn, Steps}
+use Rattle.brooklet_step.specs.Works.{queue_of, states_of, IsEnabled, GoesOn, Steps}
 use Rattle.brooklet_step.proofs.QueuePlaces.{place_below}
 use Rattle.brooklet_step.proofs.ReadLemmas.{places_at, place_got, place_of, place_in_queues, got_map}
 use Rattle.brooklet_step.proofs.StepLemmas.{can_take, next_parts, steps, goes_on, write_declared}
@@ -62,12 +61,11 @@ fired_op p o port x st st' blank out k c e b f = record {
 pub enabled_place : (m : Parts) (o port n : ℕ) (ps : List ℕ) (g : GoesOn m) (e : IsEnabled m o port) → ps ≡ list_at m.reads o → n ≡ slice_index_or ps port 0 → n ≡ place (queue_names m.plan) e.queue
 enabled_place m o port n ps g e pe ne = ne ∙ ap (λ (l : List ℕ). slice_index_or l port 0) pe ∙ place_of m o port e.queue g e.reads
 
-pub front_there : (m : Parts) (o port n : ℕ) (g : GoesOn m) (e : IsEnabled m o port) → n ≡ place (queue_names m.plan) e.queue → (n < length m.queues) × (n < length m.taken) × (slice_index_or m.taken n 0 < length (list_at m.queues n))
+pub front_there : (m : Parts) (o port n : ℕ) (g : GoesOn m) (e : IsEnabled m o port) → n ≡ place (queue_names m.plan) e.queue → (n < length m.queues) × (0 < length (list_at m.queues n))
 front_there m o port n g e at =
     let b = place_in_queues m o port e.queue g e.reads in (
-      subst (λ i. i < length m.queues) (sym at) b.0,
-      subst (λ i. i < length m.taken) (sym at) b.1,
-      subst (λ i. slice_index_or m.taken i 0 < length (list_at m.queues i)) (sym at) e.item,
+      subst (λ i. i < length m.queues) (sym at) b,
+      subst (λ i. 0 < length (list_at m.queues i)) (sym at) e.item,
     )
 
 pub op_in : (m : Parts) (o port : ℕ) (g : GoesOn m) (e : IsEnabled m o port) → (o < length m.states) × (o < length m.writes) × (o < length m.counts)
@@ -78,30 +76,32 @@ op_in m o port g e =
     let c = g.laid_out.counts in
     (omega (arith, w, s), omega (arith, w, l), omega (arith, w, c))
 
-pub can_fire : (m : Parts) (o port n : ℕ) (x : item.Item) (st : List State) (g : GoesOn m) (e : IsEnabled m o port) → n ≡ place (queue_names m.plan) e.queue → slice_get (list_at m.queues n) (slice_index_or m.taken n 0) ≡ Some x → st ≡ list_at m.states o → CanFire m.plan o port x st
-can_fire m o port n x st g e at hx es = record {
+-- the item at the front is one that the operator can take
+pub can_fire : (m : Parts) (o port n : ℕ) (x : item.Item) (queues : List (List item.Item)) (st : List State) (g : GoesOn m) (e : IsEnabled m o port) → n ≡ place (queue_names m.plan) e.queue → IsFront m.queues n x queues → st ≡ list_at m.states o → CanFire m.plan o port x st
+can_fire m o port n x queues st g e at hx es = record {
   op = e.reads.op;
   op_is = e.reads.op_is;
-  applies = λ blank b. can_take m o port e.queue x st blank g e.reads (subst (λ i. slice_get (list_at m.queues i) (slice_index_or m.taken i 0) ≡ Some x) at hx) es b;
+  applies = λ blank b. can_take m o port e.queue x hx.rest st blank g e.reads (ap (list_at m.queues) (sym at) ∙ hx.here) es b;
 }
 
 -- there are as many lists as queues to write, and the queues are there
-pub send_there : (m : Parts) (o port : ℕ) (x : item.Item) (st st' : List State) (out : Emit) (ws : List ℕ) (g : GoesOn m) (e : IsEnabled m o port) → st ≡ list_at m.states o → FiredOp m.plan o port x st st' out → ws ≡ list_at m.writes o → (length ws ≤ length out.outs) × ((j : ℕ) → j < length ws → slice_index_or ws j 0 < length m.queues)
-send_there m o port x st st' out ws g e es f we =
+pub send_there : (m : Parts) (o port n : ℕ) (x : item.Item) (queues : List (List item.Item)) (st st' : List State) (out : Emit) (ws : List ℕ) (g : GoesOn m) (e : IsEnabled m o port) → IsFront m.queues n x queues → st ≡ list_at m.states o → FiredOp m.plan o port x st st' out → ws ≡ list_at m.writes o → (length ws ≤ length out.outs) × ((j : ℕ) → j < length ws → slice_index_or ws j 0 < length queues)
+send_there m o port n x queues st st' out ws g e hx es f we =
     let op = e.reads.op in
     let names = queue_names m.plan in
     let c = f.fired op e.reads.op_is in
     let lo : length out.outs ≡ outs op.kernel = c.room.outs in
     let is : ws ≡ places names op.writes = we ∙ places_at (λ d. d.writes) names m.writes m.plan.ops o op g.laid_out.writes e.reads.op_is in
     let lw : length ws ≡ length op.writes = ap length is ∙ length-map op.writes (place names) in
-    let wo : length op.writes ≡ outs op.kernel = sym (length-map op.writes (kind_of (all_decls m.plan))) ∙ (counts op.kernel _ _ _ (op_fits m.plan g.valid g.built o op e.reads.op_is)).outs in (
+    let wo : length op.writes ≡ outs op.kernel = sym (length-map op.writes (kind_of (all_decls m.plan))) ∙ (counts op.kernel _ _ _ (op_fits m.plan g.valid o op e.reads.op_is)).outs in (
       omega (arith, lo, lw, wo),
       (λ j lt.
           let w = read_of op.writes j (omega (arith, lt, lw)) in
           let p = place_below names w.0 (write_declared m.plan g.valid o op e.reads.op_is w.0 (got_count op.writes j w.0 w.1)) in
           let at : slice_index_or ws j 0 ≡ place names w.0 = ap (λ (l : List ℕ). slice_index_or l j 0) is ∙ place_got names op.writes j w.0 w.1 in
           let q = g.laid_out.queues in
-          omega (arith, p, at, q)),
+          let many = ap length hx.left ∙ length-set m.queues n hx.rest in
+          omega (arith, p, at, q, many)),
     )
 
 -- THE END
@@ -110,22 +110,23 @@ pub record Next (m m' : Parts) (o port : ℕ) : Type 0 where
   pub steps : Steps m m' o port
   pub goes_on : GoesOn m'
 
-pub next : (m : Parts) (o port n k : ℕ) (x : item.Item) (st st' : List State) (out : Emit) (ws : List ℕ) (queues : List (List item.Item)) (cs : List ℕ) (g : GoesOn m) (e : IsEnabled m o port)
-    → n ≡ place (queue_names m.plan) e.queue → slice_get (list_at m.queues n) (slice_index_or m.taken n 0) ≡ Some x → k ≡ slice_index_or m.taken n 0 + 1
-    → st ≡ list_at m.states o → FiredOp m.plan o port x st st' out → ws ≡ list_at m.writes o → queues ≡ each_grew m.queues (joined_at ws (list_at out.outs)) → cs ≡ slice_set m.counts o (min most_firings (slice_index_or m.counts o 0 + 1))
-    → Next m (record { plan = m.plan; queues = queues; taken = slice_set m.taken n k; states = slice_set m.states o st'; counts = cs; reads = m.reads; writes = m.writes; stopped = false }) o port
-next m o port n k x st st' out ws queues cs g e at hx ke es f we eq ec =
+pub next : (m : Parts) (o port n : ℕ) (x : item.Item) (st st' : List State) (out : Emit) (ws : List ℕ) (less queues : List (List item.Item)) (cs : List ℕ) (g : GoesOn m) (e : IsEnabled m o port)
+    → n ≡ place (queue_names m.plan) e.queue → IsFront m.queues n x less
+    → st ≡ list_at m.states o → FiredOp m.plan o port x st st' out → ws ≡ list_at m.writes o → queues ≡ each_grew less (joined_at ws (list_at out.outs)) → cs ≡ slice_set m.counts o (min most_firings (slice_index_or m.counts o 0 + 1))
+    → Next m (record { plan = m.plan; queues = queues; states = slice_set m.states o st'; counts = cs; reads = m.reads; writes = m.writes; stopped = false }) o port
+next m o port n x st st' out ws less queues cs g e at hx es f we eq ec =
     let names = queue_names m.plan in
     let op = e.reads.op in
     let c = f.fired op e.reads.op_is in
-    let hq : slice_get (hist_of m e.queue) (taken_of m e.queue) ≡ Some x = subst (λ i. slice_get (list_at m.queues i) (slice_index_or m.taken i 0) ≡ Some x) at hx in
+    let hq : queue_of m e.queue ≡ x ∷ hx.rest = ap (list_at m.queues) (sym at) ∙ hx.here in
     let fs : FiresAt op.kernel port x c.blank out (states_of m o) st' = subst (λ u. FiresAt op.kernel port x c.blank out u st') es c.fires in
     let is : ws ≡ places names op.writes = we ∙ places_at (λ d. d.writes) names m.writes m.plan.ops o op g.laid_out.writes e.reads.op_is in
-    let qs : queues ≡ each_grew m.queues (joined_at (places names op.writes) (list_at out.outs)) = eq ∙ ap (λ (l : List ℕ). each_grew m.queues (joined_at l (list_at out.outs))) is in
-    let ks : k ≡ taken_of m e.queue + 1 = ke ∙ ap (λ i. slice_index_or m.taken i 0 + 1) at in
-    let end : next_parts m o e.queue queues st' ≡ (record { plan = m.plan; queues = queues; taken = slice_set m.taken n k; states = slice_set m.states o st'; counts = cs; reads = m.reads; writes = m.writes; stopped = false }) =
-    λ i. record { plan = m.plan; queues = queues; taken = slice_set m.taken (sym at i) (sym ks i); states = slice_set m.states o st'; counts = sym ec i; reads = m.reads; writes = m.writes; stopped = false } in
+    let qs : queues ≡ each_grew (slice_set m.queues (place names e.queue) hx.rest) (joined_at (places names op.writes) (list_at out.outs)) =
+    eq ∙ ap (λ (l : List ℕ). each_grew less (joined_at l (list_at out.outs))) is
+    ∙ ap (λ (l : List (List item.Item)). each_grew l (joined_at (places names op.writes) (list_at out.outs))) (hx.left ∙ ap (λ k. slice_set m.queues k hx.rest) at) in
+    let end : next_parts m o queues st' ≡ (record { plan = m.plan; queues = queues; states = slice_set m.states o st'; counts = cs; reads = m.reads; writes = m.writes; stopped = false }) =
+    λ i. record { plan = m.plan; queues = queues; states = slice_set m.states o st'; counts = sym ec i; reads = m.reads; writes = m.writes; stopped = false } in
     subst (λ (u : Parts). Next m u o port) end (record {
-      steps = steps m o port e.queue x c.blank out st' queues g e.reads hq c.is_blank fs qs;
-      goes_on = goes_on m o port e.queue x c.blank out st' queues g e.reads hq c.is_blank fs qs;
+      steps = steps m o port e.queue x hx.rest c.blank out st' queues g e.reads hq c.is_blank fs qs;
+      goes_on = goes_on m o port e.queue x hx.rest c.blank out st' queues g e.reads hq c.is_blank fs qs;
     })

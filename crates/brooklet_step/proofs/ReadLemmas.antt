@@ -1,5 +1,5 @@
 -- The places of the queues that operators read.
-use Rattle.std.proofs.Common.{◌≡◌, ℕ, zero, suc, ◌-◌, ◌<◌, Some, Bool, false, List, [], ◌∷◌, length, map, refl, sym, ap, ◌∙◌, subst, arith}
+use Rattle.std.proofs.Common.{◌≡◌, ℕ, zero, suc, ◌<◌, Some, Bool, false, List, [], ◌∷◌, length, map, refl, sym, ap, ◌∙◌, subst, arith}
 use Rattle.std.specs.Prelude.{IsTrue, slice_get, slice_index_or}
 use Rattle.std.proofs.lemmas.List.{length-map}
 use Rattle.std.proofs.lemmas.Option.{slice_get_within, get_or_from_slice_get}
@@ -9,7 +9,7 @@ use Rattle.brooklet_model.proofs.Traces.{some_is, read_of}
 use Rattle.brooklet_step.specs.declared.machine.Parts.{Parts}
 use Rattle.brooklet_step.specs.ByPlace.{place, places}
 use Rattle.brooklet_step.specs.Reading.{IsPlaceOf}
-use Rattle.brooklet_step.specs.Works.{hist_of, taken_of, ReadsAt, IsEnabled, GoesOn}
+use Rattle.brooklet_step.specs.Works.{queue_of, ReadsAt, IsEnabled, GoesOn}
 use Rattle.brooklet_step.proofs.QueuePlaces.{place_below}
 use Rattle.brooklet_step.proofs.StepLemmas.{read_declared}
 
@@ -36,12 +36,11 @@ place_of m o port q g r =
     ap (λ (l : List ℕ). slice_index_or l port 0) (places_at (λ d. d.reads) (queue_names m.plan) m.reads m.plan.ops o r.op g.laid_out.reads r.op_is)
     ∙ place_got (queue_names m.plan) r.op.reads port q r.queue_is
 
-pub place_in_queues : (m : Parts) (o port : ℕ) (q : Name) → GoesOn m → ReadsAt m.plan o port q → (place (queue_names m.plan) q < length m.queues) × (place (queue_names m.plan) q < length m.taken)
+pub place_in_queues : (m : Parts) (o port : ℕ) (q : Name) → GoesOn m → ReadsAt m.plan o port q → place (queue_names m.plan) q < length m.queues
 place_in_queues m o port q g r =
     let b = place_below (queue_names m.plan) q (read_declared m.plan g.valid o port q r) in
     let k = g.laid_out.queues in
-    let t = g.laid_out.taken in
-    (omega (arith, b, k), omega (arith, b, t))
+    omega (arith, b, k)
 
 pub in_reads : (m : Parts) (o port : ℕ) (q : Name) → GoesOn m → (r : ReadsAt m.plan o port q) → (o < length m.reads) × (port < length (list_at m.reads o))
 in_reads m o port q g r =
@@ -66,8 +65,7 @@ found_place m o port n g lo lp e =
       reads = r;
       place_is = at;
       declared = read_declared m.plan g.valid o port p.0 r;
-      in_queues = subst (λ i. i < length m.queues) (sym at) b.0;
-      in_taken = subst (λ i. i < length m.taken) (sym at) b.1;
+      in_queues = subst (λ i. i < length m.queues) (sym at) b;
     }
 
 -- the queue at a port is one alone
@@ -77,14 +75,14 @@ same_queue p o port q q' r r' =
     some_is q q' (sym r.queue_is ∙ ap (λ (d : OpForm). slice_get d.reads port) e ∙ r'.queue_is)
 
 -- whether something waits there
-pub enabled_by : (m : Parts) (o port n w : ℕ) (b : Bool) → m.stopped ≡ false → IsPlaceOf m o port n → w ≡ length (list_at m.queues n) - slice_index_or m.taken n 0 → (IsTrue b → 0 < w) × (0 < w → IsTrue b) → (IsTrue b → IsEnabled m o port) × (IsEnabled m o port → IsTrue b)
+pub enabled_by : (m : Parts) (o port n w : ℕ) (b : Bool) → m.stopped ≡ false → IsPlaceOf m o port n → w ≡ length (list_at m.queues n) → (IsTrue b → 0 < w) × (0 < w → IsTrue b) → (IsTrue b → IsEnabled m o port) × (IsEnabled m o port → IsTrue b)
 enabled_by m o port n w b run pl e t =
     let names = queue_names m.plan in
-    let h : w ≡ length (list_at m.queues (place names pl.queue)) - slice_index_or m.taken (place names pl.queue) 0 = subst (λ i. w ≡ length (list_at m.queues i) - slice_index_or m.taken i 0) pl.place_is e in (
+    let h : w ≡ length (queue_of m pl.queue) = subst (λ i. w ≡ length (list_at m.queues i)) pl.place_is e in (
       (λ y. record { running = run; queue = pl.queue; reads = pl.reads; item = let g = t.0 y in omega (arith, g, h) }),
       (λ on.
           let s = same_queue m.plan o port on.queue pl.queue on.reads pl.reads in
-          let i : taken_of m pl.queue < length (hist_of m pl.queue) = subst (λ (z : Name). taken_of m z < length (hist_of m z)) s on.item in
+          let i : 0 < length (queue_of m pl.queue) = subst (λ (z : Name). 0 < length (queue_of m z)) s on.item in
           t.1 (omega (arith, i, h))),
     )
 

@@ -1,5 +1,5 @@
 -- A run in the order of the operators is complete.
-use Rattle.std.proofs.Common.{◌≡◌, ℕ, ℤ, pos, zero, suc, ◌+◌, ◌-◌, ◌<◌, ◌≤◌, false, Some, List, [], ◌∷◌, ◌++◌, length, take, map, refl, sym, ap, ◌∙◌, subst, arith, get_or, ⊎_elim, length-append}
+use Rattle.std.proofs.Common.{◌≡◌, ℕ, ℤ, pos, zero, suc, ◌+◌, ◌-◌, ◌<◌, ◌≤◌, false, Some, List, [], ◌∷◌, ◌++◌, length, take, drop, map, refl, sym, ap, ◌∙◌, subst, arith, get_or, ⊎_elim, length-append, length-drop}
 use Rattle.std.specs.Prelude.{All, min, slice_get, unwrap_or}
 use Rattle.std.proofs.lemmas.Bool.{cases_lt}
 use Rattle.std.proofs.lemmas.List.{append-nil, length-map}
@@ -7,6 +7,7 @@ use Rattle.std.proofs.lemmas.List.Elements.{All-head, All-tail}
 use Rattle.std.proofs.lemmas.Option.{slice_get_within, slice_get-get_or, get_or_from_slice_get}
 use Rattle.river_base.specs.declared.item.Item as item
 use Rattle.river_base.specs.Name.{name_eq}
+use Rattle.river_base.specs.Held.{held}
 use Rattle.river_base.proofs.HeldLemmas.{length-held, held-same}
 use Rattle.river_plan.specs.declared.plan.Decl.{Decl}
 use Rattle.river_kernels.specs.declared.limit.Limit.TheVariants.{Operators, Ports}
@@ -15,11 +16,11 @@ use Rattle.river_plan.specs.declared.plan.RawPlan.{RawPlan}
 use Rattle.river_plan.specs.Forms.{Name, OpForm, PlanForm, plan_form, op_form, decl_names, queue_names}
 use Rattle.river_plan.specs.Limits.{port_numbers}
 use Rattle.river_plan.specs.Names.{count}
-use Rattle.river_plan.specs.Uses.{total, writes_it, and_writes, ReadsBefore}
+use Rattle.river_plan.specs.Uses.{total, reads_it, writes_it, and_writes, ReadsBefore}
 use Rattle.river_plan.specs.Valid.{IsPlan}
-use Rattle.river_plan.proofs.NameLemmas.{cases_name, count-append}
+use Rattle.river_plan.proofs.NameLemmas.{cases_name, count-append, more_or_zero}
 use Rattle.brooklet_model.specs.Fire.{fire}
-use Rattle.brooklet_model.specs.Histories.{joined, most_firings, firings}
+use Rattle.brooklet_model.specs.Histories.{most_firings, firings}
 use Rattle.brooklet_model.specs.Laws.{HasDefined}
 use Rattle.brooklet_model.specs.Machine.{Machine, Step, Run, IsComplete, start, at_name, times}
 use Rattle.brooklet_model.specs.Meaning.{meaning}
@@ -29,7 +30,7 @@ use Rattle.brooklet_model.proofs.RunMeaning.{outs_are, firings_are}
 use Rattle.brooklet_model.proofs.Traces.{some_is, at_most, got_count, joined_out}
 use Rattle.brooklet_step.specs.declared.machine.Parts.{Parts}
 use Rattle.brooklet_step.specs.Drained.{IsDrained, read_in, left_at, Follows, DrainedBefore, HasPorts, HasRun}
-use Rattle.brooklet_step.specs.Works.{hist_of, taken_of, kinds_of, Stands, ReadsAt, IsEnabled, Ran, GoesOn, Starts, Steps, AreCounts}
+use Rattle.brooklet_step.specs.Works.{queue_of, kinds_of, Stands, ReadsAt, IsEnabled, Ran, GoesOn, Starts, Steps, AreCounts}
 use Rattle.brooklet_step.proofs.QueuePlaces.{place_is, lists_in_order}
 use Rattle.brooklet_step.proofs.ReadLemmas.{op_at, got_map}
 use Rattle.brooklet_step.proofs.StartLemmas.{got_front}
@@ -49,9 +50,9 @@ no_later q (a ∷ ops) known (suc o') (suc o) op' op r once g' g le lt = no_late
 
 -- WHAT A STEP LEAVES
 
--- a queue holds as many items as its history has
-hist_length : (m : Parts) (s : Machine) → Stands m s → (q : Name) → 0 < count q (queue_names m.plan) → length (hist_of m q) ≡ length (s.hist q)
-hist_length m s h q lt = ap length (h.hist q lt) ∙ length-held (kinds_of m q) [] (s.hist q)
+-- as many items are left as were put and not taken
+left_length : (m : Parts) (s : Machine) → Stands m s → (q : Name) → 0 < count q (queue_names m.plan) → length (queue_of m q) ≡ length (s.hist q) - s.taken q
+left_length m s h q lt = ap length (h.left q lt) ∙ length-drop (s.taken q) (held (kinds_of m q) [] (s.hist q)) ∙ ap (λ n. n - s.taken q) (length-held (kinds_of m q) [] (s.hist q))
 
 taken_more : (k : Name) (q : Name) (f : Name → ℕ) → f q ≤ at_name k (f k + 1) f q
 taken_more k q f = ⊎_elim
@@ -96,14 +97,12 @@ follows_step m m' o port v st = record {
       let u = reads_in m.plan m'.plan o' port' q st.plan w in
       let a = st.each r.state r.stands in
       let k = read_declared m.plan v o' port' q u in
-      let h' = hist_length m' a.state a.stands q (declared_in m m' st.plan q k) in
-      let t' = a.stands.taken q (declared_in m m' st.plan q k) in
-      let h = hist_length m r.state r.stands q k in
-      let t = r.stands.taken q k in
-      let s : length (hist_of m' q) ≡ length (hist_of m q) = h' ∙ ap length (hist_stays m.plan v r.state a.state o port o' port' q a.step u le) ∙ sym h in
+      let h' = left_length m' a.state a.stands q (declared_in m m' st.plan q k) in
+      let h = left_length m r.state r.stands q k in
+      let s = ap length (hist_stays m.plan v r.state a.state o port o' port' q a.step u le) in
       let g = taken_grows m.plan r.state a.state o port q a.step in
       let b = d q u in
-      omega (arith, s, g, b, t, t');
+      omega (arith, s, g, b, h, h');
 }
 
 pub follows_none : (m : Parts) (o : ℕ) → m.stopped ≡ false → Follows m m o
@@ -136,17 +135,18 @@ step_less m m' o port inputs v r e st =
     let same' = ap (λ (x : PlanForm). read_in (slice_get x.ops o) port) st.plan ∙ same in
     let ops_same : e.reads.op ≡ a.step.op = some_is e.reads.op a.step.op (sym e.reads.op_is ∙ a.step.op_is) in
     let here : q ≡ a.step.queue = some_is q a.step.queue (sym e.reads.queue_is ∙ ap (λ (d : OpForm). slice_get d.reads port) ops_same ∙ a.step.queue_is) in
-    let h : length (hist_of m' q) ≡ length (hist_of m q) = hist_length m' a.state a.stands q k' ∙ ap length (hist_stays m.plan v r.state a.state o port o port q a.step e.reads (omega arith)) ∙ sym (hist_length m r.state r.stands q k) in
-    let t : taken_of m' q ≡ taken_of m q + 1 =
-    sym (a.stands.taken q k') ∙ ap (λ (x : Machine). x.taken q) a.step.after
-    ∙ ap (λ n. at_name n (r.state.taken n + 1) r.state.taken q) (sym here) ∙ one_taken q r.state.taken ∙ ap (λ n. n + 1) (r.stands.taken q k) in
-    let l : left_at m o port ≡ length (hist_of m q) - taken_of m q = ap (λ n. length (hist_of m n) - taken_of m n) same in
-    let l' : left_at m' o port ≡ length (hist_of m' q) - taken_of m' q = ap (λ n. length (hist_of m' n) - taken_of m' n) same' in
+    let s = ap length (hist_stays m.plan v r.state a.state o port o port q a.step e.reads (omega arith)) in
+    let t : a.state.taken q ≡ r.state.taken q + 1 =
+    ap (λ (x : Machine). x.taken q) a.step.after ∙ ap (λ n. at_name n (r.state.taken n + 1) r.state.taken q) (sym here) ∙ one_taken q r.state.taken in
+    let h = left_length m r.state r.stands q k in
+    let h' = left_length m' a.state a.stands q k' in
+    let l : left_at m o port ≡ length (queue_of m q) = ap (λ n. length (queue_of m n)) same in
+    let l' : left_at m' o port ≡ length (queue_of m' q) = ap (λ n. length (queue_of m' n)) same' in
     let i = e.item in
-    omega (arith, h, t, l, l', i)
+    omega (arith, s, t, h, h', l, l', i)
 
 pub not_enabled_drained : (m : Parts) (o port : ℕ) → m.stopped ≡ false → (IsEnabled m o port → ⊥) → IsDrained m o port
-not_enabled_drained m o port run idle q r = ⊎_elim (λ lt. absurd (idle (record { running = run; queue = q; reads = r; item = lt }))) (λ ge. ge) (cases_lt (taken_of m q) (length (hist_of m q)))
+not_enabled_drained m o port run idle q r = ⊎_elim (λ lt. absurd (idle (record { running = run; queue = q; reads = r; item = lt }))) (λ z. z) (more_or_zero (length (queue_of m q)))
 
 -- OPERATOR BY OPERATOR
 
@@ -171,37 +171,15 @@ before_next m m' m'' o ports op b f g many d = record {
 
 -- THE END
 
--- no more was taken than was put
-taken_within : (p : PlanForm) (s s' : Machine) (es : List (ℕ × ℕ)) → ((q : Name) → s.taken q ≤ length (s.hist q)) → Run p s es s' → (q : Name) → s'.taken q ≤ length (s'.hist q)
-taken_within p s s' [] h r q = subst (λ (x : Machine). x.taken q ≤ length (x.hist q)) (sym r) (h q)
-taken_within p s s' (e ∷ es) h r q = taken_within p r.0 s' es (λ n. one r.1 n) r.2 q
-  where
-    one : Step p s e.0 e.1 r.0 → (n : Name) → r.0.taken n ≤ length (r.0.hist n)
-    one st n =
-        let t : r.0.taken n ≡ at_name st.queue (s.taken st.queue + 1) s.taken n = ap (λ (x : Machine). x.taken n) st.after in
-        let l : length (r.0.hist n) ≡ length (s.hist n) + length (joined st.op.writes (fire st.op.kernel e.1 st.item (s.kept e.0)).outs n) = ap (λ (x : Machine). length (x.hist n)) st.after ∙ length-append (s.hist n) (joined st.op.writes (fire st.op.kernel e.1 st.item (s.kept e.0)).outs n) in
-        let b = h n in
-        ⊎_elim
-        (λ c.
-        let u = if_true (name_eq st.queue n) (s.taken st.queue + 1) (s.taken n) c.1 in
-        let w = slice_get_within (s.hist st.queue) (s.taken st.queue) st.item st.item_is in
-        let w' : s.taken st.queue < length (s.hist n) = subst (λ (x : Name). s.taken st.queue < length (s.hist x)) c.0 w in
-        omega (arith, t, l, u, w'))
-        (λ c.
-        let u = if_false (name_eq st.queue n) (s.taken st.queue + 1) (s.taken n) c.1 in
-        omega (arith, t, l, u, b))
-        (cases_name st.queue n)
-
 -- a machine whose ports are all drained is complete
 pub complete : (m : Parts) (inputs : List (List item.Item)) → IsPlan m.plan → (r : Ran m inputs) → ((o port : ℕ) → IsDrained m o port) → IsComplete m.plan r.state
-complete m inputs v r d o port op q g w =
-    let u : ReadsAt m.plan o port q = record { op = op; op_is = g; queue_is = w } in
+complete m inputs v r d o port op q g y =
+    let u : ReadsAt m.plan o port q = record { op = op; op_is = g; queue_is = y } in
     let k = read_declared m.plan v o port q u in
     let b = d o port q u in
-    let h = hist_length m r.state r.stands q k in
-    let t = r.stands.taken q k in
-    let within = taken_within m.plan (start m.plan inputs) r.state r.events (λ n. omega arith) r.run q in
-    omega (arith, b, h, t, within)
+    let h = left_length m r.state r.stands q k in
+    let w = r.stands.within q in
+    omega (arith, b, h, w)
 
 pub ran_first : (p : PlanForm) (inputs : List (List item.Item)) (m : Parts) → Starts p inputs m → Ran m inputs
 ran_first p inputs m s = record {
@@ -270,8 +248,12 @@ output_there p i q g =
     let c = got_count (decl_names p.outputs) i q g in
     omega (arith, a, c)
 
--- the first lists are the histories of the outputs
-pub outs_taken : (m : Parts) (raw : RawPlan) (n : ℕ) (outs : List (List item.Item)) → GoesOn m → plan_form raw ≡ m.plan → n ≡ length raw.outputs → outs ≡ take n m.queues → outs ≡ map (hist_of m) (decl_names m.plan.outputs)
+-- nobody reads an output
+output_unread : (p : PlanForm) → IsPlan p → (i : ℕ) (q : Name) → slice_get (decl_names p.outputs) i ≡ Some q → total (reads_it q) p.ops ≡ 0
+output_unread p v i q g = let c = got_count (decl_names p.outputs) i q g in let o = v.read_once q in omega (arith, c, o)
+
+-- the first lists are those of the outputs
+pub outs_taken : (m : Parts) (raw : RawPlan) (n : ℕ) (outs : List (List item.Item)) → GoesOn m → plan_form raw ≡ m.plan → n ≡ length raw.outputs → outs ≡ take n m.queues → outs ≡ map (queue_of m) (decl_names m.plan.outputs)
 outs_taken m raw n outs g e ne t =
     let ws = decl_names m.plan.outputs in
     let rest = decl_names m.plan.inputs ++ decl_names m.plan.queues in
@@ -282,6 +264,15 @@ outs_taken m raw n outs g e ne t =
     ∙ sym (lists_in_order (queue_names m.plan) m.queues ws 0
     (λ i w h. place_is (queue_names m.plan) i w (g.valid.queues_once w) (output_there m.plan i w h) (got_front ws rest i (slice_get_within ws i w h) ∙ h) ∙ omega arith)
     (omega (arith, l, q)))
+
+-- and they are there
+pub outs_there : (m : Parts) (raw : RawPlan) (n : ℕ) → GoesOn m → plan_form raw ≡ m.plan → n ≡ length raw.outputs → n ≤ length m.queues
+outs_there m raw n g e ne =
+    let ws = decl_names m.plan.outputs in
+    let many : length ws ≡ n = length-map m.plan.outputs (λ (d : Decl). d.name) ∙ sym (ap (λ (x : PlanForm). length x.outputs) e) ∙ sym ne in
+    let l = length-append ws (decl_names m.plan.inputs ++ decl_names m.plan.queues) in
+    let q = g.laid_out.queues in
+    omega (arith, many, l, q)
 
 module _ (p : PlanForm) (inputs : List (List item.Item)) (m0 m : Parts) (v : IsPlan p) (st : Starts p inputs m0) (b : DrainedBefore m0 m (length p.ops)) where
   plan_is : m.plan ≡ p
@@ -302,9 +293,10 @@ module _ (p : PlanForm) (inputs : List (List item.Item)) (m0 m : Parts) (v : IsP
   defined : HasDefined m.plan inputs ran.events ran.state
   defined = runs_law m.plan inputs ran.events ran.state valid ran.run (complete m inputs valid ran all_drained)
 
-  pub run_outs : (outs : List (List item.Item)) → outs ≡ map (hist_of m) (decl_names m.plan.outputs) → outs ≡ (meaning p inputs).outs
+  pub run_outs : (outs : List (List item.Item)) → outs ≡ map (queue_of m) (decl_names m.plan.outputs) → outs ≡ (meaning p inputs).outs
   run_outs outs e =
-      e ∙ map_on (hist_of m) ran.state.hist (decl_names m.plan.outputs) (λ i q g. ran.stands.hist q (output_there m.plan i q g) ∙ held-same (kinds_of m q) [] (ran.state.hist q))
+      e ∙ map_on (queue_of m) ran.state.hist (decl_names m.plan.outputs)
+      (λ i q g. ran.stands.left q (output_there m.plan i q g) ∙ ap (λ n. drop n (held (kinds_of m q) [] (ran.state.hist q))) (ran.stands.unread q (output_unread m.plan valid i q g)) ∙ held-same (kinds_of m q) [] (ran.state.hist q))
       ∙ outs_are m.plan inputs ran.events ran.state defined ∙ ap (λ (x : PlanForm). (meaning x inputs).outs) plan_is
 
   pub run_counts : (values : List ℤ) → AreCounts m values → values ≡ map pos (firings p inputs)

@@ -1,13 +1,9 @@
--- States that stand for some: their number and their shape.
-use Rattle.std.proofs.Common.{◌≡◌, ℕ, ℤ, List, [], ◌∷◌, ◌++◌, length, take, drop, sym, ap, ◌∙◌, subst, arith, length-drop}
-use Rattle.std.proofs.lemmas.List.{length-take}
+-- States that stand for some: their shape.
+use Rattle.std.proofs.Common.{ℤ, List, [], ◌∷◌, length, sym, ap, ◌∙◌, subst}
 use Rattle.kern_rows.specs.Turns.{shares, ones}
 use Rattle.river_kernels.specs.Kern.{Kern, code, filter, duplicate, deal, collect, packed, unpack, window, select, project, cross, streamer, tally, fused}
 use Rattle.brooklet_model.specs.Firings.{Kept}
-use Rattle.brooklet_model.specs.Fire.{privates, kept_vars}
 use Rattle.brooklet_model.specs.Shapes.{AreSlots as AreKept, IsFiltering, IsDealing, IsJoining, IsNone, IsOne, HasSlots, HasShape}
-use Rattle.brooklet_model.proofs.Lists.{take_front, drop_front}
-use Rattle.brooklet_model.proofs.Shapes.{shape_length}
 use Rattle.brooklet_step.specs.declared.state.State.{State}
 use Rattle.brooklet_step.specs.Stands.{StandsForSlots, StandsFor}
 
@@ -22,7 +18,7 @@ stands_shape (filter f) st ks h = subst (IsOne (IsFiltering (length f.starts))) 
 stands_shape (duplicate n) st ks h = subst IsNone (sym h.defined) tt
 stands_shape (deal ws) st ks h = subst (IsOne (IsDealing (shares ws))) (sym h.defined) h.turn
 stands_shape (collect ws) st ks h = subst (IsOne (IsJoining (shares ws))) (sym h.defined) h.joined
-stands_shape (packed k) st ks h = stands_shape k st ks h
+stands_shape (packed k) st ks h = absurd h
 stands_shape (unpack n) st ks h = subst (IsOne (IsJoining (ones n))) (sym h.defined) h.joined
 stands_shape (window w) st ks h = absurd h
 stands_shape (select e) st ks h = absurd h
@@ -30,37 +26,4 @@ stands_shape (project es) st ks h = absurd h
 stands_shape cross st ks h = absurd h
 stands_shape (streamer s) st ks h = absurd h
 stands_shape tally st ks h = absurd h
-stands_shape (fused a b at) st ks h = (stands_shape a (take (privates a) st) (take (privates a) ks) h.0, stands_shape b (drop (privates a) st) (drop (privates a) ks) h.1)
-
-slots_number : (zs : List ℤ) (st : List State) (ks : List Kept) → StandsForSlots zs st ks → length st ≡ kept_vars zs
-slots_number [] st ks h = ap length h.code
-slots_number (z ∷ zs) st ks h = ap length h.code
-
--- there is a state for each private variable
-pub stands_length : (k : Kern) (st : List State) (ks : List Kept) → StandsFor k st ks → length st ≡ privates k
-stands_length (code k) st ks h = slots_number k.starts st ks h
-stands_length (filter f) st ks h = ap length h.code
-stands_length (duplicate n) st ks h = ap length h.code
-stands_length (deal ws) st ks h = ap length h.code
-stands_length (collect ws) st ks h = ap length h.code
-stands_length (packed k) st ks h = stands_length k st ks h
-stands_length (unpack n) st ks h = ap length h.code
-stands_length (window w) st ks h = absurd h
-stands_length (select e) st ks h = absurd h
-stands_length (project es) st ks h = absurd h
-stands_length cross st ks h = absurd h
-stands_length (streamer s) st ks h = absurd h
-stands_length tally st ks h = absurd h
-stands_length (fused a b at) st ks h =
-    let la = stands_length a (take (privates a) st) (take (privates a) ks) h.0 in
-    let lb = stands_length b (drop (privates a) st) (drop (privates a) ks) h.1 in
-    omega (arith, length-take (privates a) st, length-drop (privates a) st, la, lb)
-
--- the states of two kernels
-pub parts_stand : (a b : Kern) (at : ℕ) (st st' : List State) (ks ks' : List Kept) → StandsFor a st ks → StandsFor b st' ks' → StandsFor (fused a b at) (st ++ st') (ks ++ ks')
-parts_stand a b at st st' ks ks' h h' =
-    let l = stands_length a st ks h in
-    let m = shape_length a ks (stands_shape a st ks h) in (
-      subst (λ (us : List State). StandsFor a us (take (privates a) (ks ++ ks'))) (sym (take_front st st' (privates a) l)) (subst (λ (us : List Kept). StandsFor a st us) (sym (take_front ks ks' (privates a) m)) h),
-      subst (λ (us : List State). StandsFor b us (drop (privates a) (ks ++ ks'))) (sym (drop_front st st' (privates a) l)) (subst (λ (us : List Kept). StandsFor b st' us) (sym (drop_front ks ks' (privates a) m)) h'),
-    )
+stands_shape (fused a b at) st ks h = absurd h

@@ -24,12 +24,14 @@ use Rattle.brooklet_model.specs.Histories.{inputs_of, most_firings}
 use Rattle.brooklet_model.specs.Machine.{start}
 use Rattle.brooklet_model.specs.Laws.{given_to}
 use Rattle.brooklet_model.specs.Shapes.{IsFormed}
-use Rattle.brooklet_model.specs.Typed.{IsBuilt, IsOnRows, AreInputs}
+use Rattle.brooklet_model.specs.Typed.{AreInputs}
+use Rattle.brooklet_step.specs.Built.{IsBuilt, IsOnRows}
 use Rattle.brooklet_model.proofs.Lists.{funext}
 use Rattle.brooklet_model.proofs.Solutions.{written_out}
 use Rattle.brooklet_model.proofs.Traces.{some_is}
-use Rattle.brooklet_model.proofs.TypedPlan.{op_fits, op_on_rows, inputs_typed}
+use Rattle.brooklet_model.proofs.TypedPlan.{op_fits, inputs_typed}
 use Rattle.brooklet_model.proofs.Complete.{traced_start, nothing_given}
+use Rattle.brooklet_step.proofs.OnRows.{op_on_rows}
 use Rattle.brooklet_step.specs.declared.machine.Parts.{Parts}
 use Rattle.brooklet_step.specs.declared.state.State.{State}
 use Rattle.brooklet_step.specs.ByPlace.{place, places}
@@ -96,7 +98,7 @@ can_start_at ops i d c lt e =
 
 pub can_start : (p : PlanForm) → IsPlan p → IsBuilt p → CanStart p.ops
 can_start p v b = record {
-  formed = λ o op g. record { reads = map (kind_of (all_decls p)) op.reads; writes = map (kind_of (all_decls p)) op.writes; vars = map (var_kind p.tables p.vars) op.vars; fits = op_fits p v b o op g };
+  formed = λ o op g. record { reads = map (kind_of (all_decls p)) op.reads; writes = map (kind_of (all_decls p)) op.writes; vars = map (var_kind p.tables p.vars) op.vars; fits = op_fits p v o op g };
   on_rows = op_on_rows p v b;
 }
 
@@ -191,20 +193,21 @@ pub record First (p : PlanForm) (inputs : List (List item.Item)) (m : Parts) : T
   pub starts : Starts p inputs m
   pub goes_on : GoesOn m
 
-pub first : (p pl : PlanForm) (inputs queues : List (List item.Item)) (taken cs : List ℕ) (states : List (List State)) (reads writes : List (List ℕ)) → IsPlan p → IsBuilt p → Fit p inputs → pl ≡ p
-    → queues ≡ replicate (length p.outputs) [] ++ (inputs ++ replicate (length p.queues) []) → taken ≡ replicate (length queues) 0 → AreFirst p.ops states → cs ≡ replicate (length p.ops) 0
+pub first : (p pl : PlanForm) (inputs queues : List (List item.Item)) (cs : List ℕ) (states : List (List State)) (reads writes : List (List ℕ)) → IsPlan p → IsBuilt p → Fit p inputs → pl ≡ p
+    → queues ≡ replicate (length p.outputs) [] ++ (inputs ++ replicate (length p.queues) []) → AreFirst p.ops states → cs ≡ replicate (length p.ops) 0
     → reads ≡ map (λ op. places (queue_names p) op.reads) p.ops → writes ≡ map (λ op. places (queue_names p) op.writes) p.ops
-    → First p inputs (record { plan = pl; queues = queues; taken = taken; states = states; counts = cs; reads = reads; writes = writes; stopped = false })
-first p pl inputs queues taken cs states reads writes v b fit pe qe te f ce re we =
-    let m : Parts = record { plan = p; queues = queues; taken = taken; states = states; counts = cs; reads = reads; writes = writes; stopped = false } in
+    → First p inputs (record { plan = pl; queues = queues; states = states; counts = cs; reads = reads; writes = writes; stopped = false })
+first p pl inputs queues cs states reads writes v b fit pe qe f ce re we =
+    let m : Parts = record { plan = p; queues = queues; states = states; counts = cs; reads = reads; writes = writes; stopped = false } in
     let many : length queues ≡ length (queue_names p) = ap length qe ∙ queues_many p v inputs fit in
     let kinds = kind_of (all_decls p) in
     let all_typed = inputs_typed p v inputs fit.typed in
     let hist_is : (q : Name) → 0 < count q (queue_names p) → list_at queues (place (queue_names p) q) ≡ inputs_of (decl_names p.inputs) (list_at inputs) q =
     λ q lt. sym (first_hist p v inputs fit q lt ∙ ap (λ (l : List (List item.Item)). list_at l (place (queue_names p) q)) (sym qe)) in
     let stands : Stands m (start p inputs) = record {
-      hist = λ q lt. hist_is q lt ∙ sym (held-same (kinds q) [] (inputs_of (decl_names p.inputs) (list_at inputs) q));
-      taken = λ q lt. sym (ap (λ (l : List ℕ). slice_index_or l (place (queue_names p) q) 0) te ∙ zero_at (length queues) (place (queue_names p) q));
+      left = λ q lt. hist_is q lt ∙ sym (held-same (kinds q) [] (inputs_of (decl_names p.inputs) (list_at inputs) q));
+      within = λ q. omega arith;
+      unread = λ q z. refl;
       typed = all_typed;
       inputs = inputs;
       words = λ o. [];
@@ -213,20 +216,19 @@ first p pl inputs queues taken cs states reads writes v b fit pe qe te f ce re w
       kept = λ o op g. (f.stand o op g).after;
     } in
     let cs_are : Counts m [] = λ o lt. ap (λ (l : List ℕ). slice_index_or l o 0) ce ∙ zero_at (length p.ops) o ∙ sym (min_zero most_firings) in
-    subst (λ (x : PlanForm). First p inputs (record { plan = x; queues = queues; taken = taken; states = states; counts = cs; reads = reads; writes = writes; stopped = false })) (sym pe) (record {
+    subst (λ (x : PlanForm). First p inputs (record { plan = x; queues = queues; states = states; counts = cs; reads = reads; writes = writes; stopped = false })) (sym pe) (record {
       starts = record { plan = refl; running = refl; stands = stands; counts = cs_are };
       goes_on = record {
         valid = v;
         built = b;
         laid_out = record {
           queues = many;
-          taken = ap length te ∙ length-replicate (length queues) 0 ∙ many;
           states = f.count;
           counts = ap length ce ∙ length-replicate (length p.ops) 0;
           reads = re;
           writes = we;
         };
-        fit = λ o op g. (f.stand o op g).again (map kinds op.reads) (map kinds op.writes) (map (var_kind p.tables p.vars) op.vars) (op_fits p v b o op g);
+        fit = λ o op g. (f.stand o op g).again (map kinds op.reads) (map kinds op.writes) (map (var_kind p.tables p.vars) op.vars) (op_fits p v o op g);
         items = λ q lt. subst (λ (l : List item.Item). All (IsHeld (kinds q)) l) (sym (hist_is q lt)) (all_are_held (kinds q) (inputs_of (decl_names p.inputs) (list_at inputs) q) (all_typed q));
         inputs = inputs;
         typed = fit.typed;
@@ -234,22 +236,23 @@ first p pl inputs queues taken cs states reads writes v b fit pe qe te f ce re w
       };
     })
 
--- the same in the terms of the code; f is the place of a queue by a map
-pub first_by : (raw : RawPlan) (p pl : PlanForm) (inputs queues : List (List item.Item)) (a b n k : ℕ) (taken cs : List ℕ) (states : List (List State)) (f : Name → ℕ) (reads writes : List (List ℕ)) → IsPlan p → IsBuilt p → Fit p inputs → plan_form raw ≡ p → pl ≡ p
-    → a ≡ length raw.outputs → b ≡ length raw.queues → n ≡ length queues → k ≡ length raw.ops → ((q : Name) → f q ≡ place (queue_names (plan_form raw)) q)
-    → queues ≡ replicate a [] ++ (inputs ++ replicate b []) → taken ≡ replicate n 0 → AreFirst (op_forms raw.ops) states → cs ≡ replicate k 0
-    → reads ≡ map (λ (op : OpForm). map f op.reads) (op_forms raw.ops) → writes ≡ map (λ (op : OpForm). map f op.writes) (op_forms raw.ops)
-    → First p inputs (record { plan = pl; queues = queues; taken = taken; states = states; counts = cs; reads = reads; writes = writes; stopped = false })
-first_by raw p pl inputs queues a b n k taken cs states f reads writes v bu fit e pe ae be ne ke fe qe te fs ce re we =
-    let m : Parts = record { plan = pl; queues = queues; taken = taken; states = states; counts = cs; reads = reads; writes = writes; stopped = false } in
-    let same : f ≡ place (queue_names (plan_form raw)) = funext f (place (queue_names (plan_form raw))) fe in
+-- the same in the terms of the code
+pub first_by : (raw : RawPlan) (p pl : PlanForm) (inputs queues : List (List item.Item)) (cs : List ℕ) (states : List (List State)) (reads writes : List (List ℕ)) → IsPlan p → IsBuilt p → Fit p inputs → plan_form raw ≡ p → pl ≡ p
+    → queues ≡ replicate (length raw.outputs) [] ++ (inputs ++ replicate (length raw.queues) []) → AreFirst (op_forms raw.ops) states → cs ≡ replicate (length raw.ops) 0
+    → reads ≡ map (λ (op : OpForm). places (queue_names (plan_form raw)) op.reads) (op_forms raw.ops) → writes ≡ map (λ (op : OpForm). places (queue_names (plan_form raw)) op.writes) (op_forms raw.ops)
+    → First p inputs (record { plan = pl; queues = queues; states = states; counts = cs; reads = reads; writes = writes; stopped = false })
+first_by raw p pl inputs queues cs states reads writes v bu fit e pe qe fs ce re we =
+    let m : Parts = record { plan = pl; queues = queues; states = states; counts = cs; reads = reads; writes = writes; stopped = false } in
     subst (λ (x : PlanForm). First x inputs m) e
-    (first (plan_form raw) pl inputs queues taken cs states reads writes (subst IsPlan (sym e) v) (subst IsBuilt (sym e) bu) (subst (λ (x : PlanForm). Fit x inputs) (sym e) fit) (pe ∙ sym e)
-    (qe ∙ ap (λ (i : ℕ). replicate i [] ++ (inputs ++ replicate b [])) ae ∙ ap (λ (i : ℕ). replicate (length raw.outputs) [] ++ (inputs ++ replicate i [])) be)
-    (te ∙ ap (λ (i : ℕ). replicate i 0) ne) fs
-    (ce ∙ ap (λ (i : ℕ). replicate i 0) (ke ∙ sym (length-map raw.ops op_form)))
-    (re ∙ ap (λ (g : Name → ℕ). map (λ (op : OpForm). map g op.reads) (op_forms raw.ops)) same)
-    (we ∙ ap (λ (g : Name → ℕ). map (λ (op : OpForm). map g op.writes) (op_forms raw.ops)) same))
+    (first (plan_form raw) pl inputs queues cs states reads writes (subst IsPlan (sym e) v) (subst IsBuilt (sym e) bu) (subst (λ (x : PlanForm). Fit x inputs) (sym e) fit) (pe ∙ sym e)
+    qe fs (ce ∙ ap (λ (i : ℕ). replicate i 0) (sym (length-map raw.ops op_form))) re we)
 
 pub can_start_by : (raw : RawPlan) (p : PlanForm) → plan_form raw ≡ p → IsPlan p → IsBuilt p → CanStart (op_forms raw.ops)
 can_start_by raw p e v b = subst (λ (x : PlanForm). CanStart x.ops) (sym e) (can_start p v b)
+
+-- a place by a map is the place among the names
+pub reads_are : (raw : RawPlan) (f : Name → ℕ) (reads : List (List ℕ)) → ((q : Name) → f q ≡ place (queue_names (plan_form raw)) q) → reads ≡ map (λ (op : OpForm). map f op.reads) (op_forms raw.ops) → reads ≡ map (λ (op : OpForm). places (queue_names (plan_form raw)) op.reads) (op_forms raw.ops)
+reads_are raw f reads fe re = re ∙ ap (λ (g : Name → ℕ). map (λ (op : OpForm). map g op.reads) (op_forms raw.ops)) (funext f (place (queue_names (plan_form raw))) fe)
+
+pub writes_are : (raw : RawPlan) (f : Name → ℕ) (writes : List (List ℕ)) → ((q : Name) → f q ≡ place (queue_names (plan_form raw)) q) → writes ≡ map (λ (op : OpForm). map f op.writes) (op_forms raw.ops) → writes ≡ map (λ (op : OpForm). places (queue_names (plan_form raw)) op.writes) (op_forms raw.ops)
+writes_are raw f writes fe we = we ∙ ap (λ (g : Name → ℕ). map (λ (op : OpForm). map g op.writes) (op_forms raw.ops)) (funext f (place (queue_names (plan_form raw))) fe)

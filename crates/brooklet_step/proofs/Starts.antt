@@ -1,33 +1,44 @@
 -- The first states of kernels.
-use Rattle.std.proofs.Common.{◌≡◌, ℕ, ℤ, ◌*◌, ◌≤◌, ◌<◌, List, [], ◌∷◌, ◌++◌, length, take, drop, replicate, refl, sym, ap, ◌∙◌, subst, arith, IfOk, Global, Box}
+use Rattle.std.proofs.Common.{◌≡◌, ℕ, ℤ, Ok, Err, List, [], ◌∷◌, ◌++◌, length, refl, sym, ap, ◌∙◌, subst, IfOk}
 use Rattle.std.proofs.lemmas.List.{length-map, length-replicate}
+use Rattle.std.specs.declared.result.Result.{Result}
+use Rattle.river_base.specs.declared.memory.NoMemory.{NoMemory}
 use Rattle.river_base.specs.Number.{count_of}
+use Rattle.river_base.specs.declared.kind.QueueType.{QueueType}
 use Rattle.river_base.specs.declared.kind.QueueType.TheVariants.{Flat as FlatOf}
 use Rattle.kern_rows.specs.declared.kernel.CodeKernel.{CodeKernel}
-use Rattle.kern_rows.specs.Forms.{CodeForm, FilterForm, code_form}
+use Rattle.kern_rows.specs.Forms.{FilterForm, code_form}
 use Rattle.kern_rows.specs.Needs.{CanFilter, HaveShares}
-use Rattle.kern_rows.specs.Turns.{Turns, shares, ones, turns_start}
-use Rattle.river_kernels.specs.declared.kernel.Kernel.{Kernel, fold-roll-Kernel}
+use Rattle.kern_rows.specs.Turns.{shares, ones, turns_start}
+use Rattle.river_kernels.specs.declared.kernel.Kernel.{fold-roll-Kernel}
 use Rattle.river_kernels.specs.declared.kernel.Kernel.TheVariants as kernel
 use Rattle.river_kernels.specs.declared.kernel.Kernel.TheOpen as layer
-use Rattle.river_kernels.specs.Kern.{Kern, kern_of, kern_at, code, filter, duplicate, deal, collect, packed, unpack, fused}
-use Rattle.brooklet_model.specs.Firings.{Kept, Buffered, Turn, Joining}
-use Rattle.brooklet_model.specs.Fire.{first_kept, first_slots, privates}
-use Rattle.brooklet_model.specs.Shapes.{IsFormed, IsJoined}
-use Rattle.brooklet_model.proofs.Ports.{shaped, formed_shaped}
+use Rattle.river_kernels.specs.Kern.{Kern, kern_of, kern_at, code, filter, deal, collect, packed, unpack, fused}
+use Rattle.brooklet_model.specs.Fire.{first_kept, first_slots}
+use Rattle.brooklet_model.specs.Shapes.{IsFormed}
+use Rattle.brooklet_model.proofs.Ports.{formed_shaped}
 use Rattle.brooklet_model.proofs.Shapes.{first_turn}
+use Rattle.brooklet_model.proofs.Typing.{between_is, first_holds}
+use Rattle.river_kernels.specs.Fits.{Fits}
 use Rattle.brooklet_step.specs.declared.state.State.{State}
 use Rattle.brooklet_step.specs.declared.state.State.TheVariants as state
-use Rattle.brooklet_step.specs.Stands.{AreNone, AreSlots, StandsForSlots, StandsForFilter, StandsForTurn, StandsForJoiner, StandsFor}
+use Rattle.brooklet_step.specs.Given.{FitState, IsLeaf}
+use Rattle.brooklet_step.specs.Initial.{IsFirst}
+use Rattle.brooklet_step.specs.Stands.{StandsForSlots, StandsFor}
 use Rattle.brooklet_step.proofs.Formed.{can_filter}
-use Rattle.brooklet_step.proofs.Standing.{parts_stand}
+use Rattle.brooklet_step.proofs.GivenLemmas.{fit_of, leaf_from, parts_fit, parts_after}
+
+-- what is said of each value is said of an answer
+pub if_ok : {A : Type 0} (P Q : A → Type 0) (r : Result A NoMemory) → ((x : A) → P x → Q x) → IfOk r P → IfOk r Q
+if_ok P Q (Err e) f h = h
+if_ok P Q (Ok x) f h = f x h
 
 -- what first states are
-abbrev pub AreFirst : Kern → List State → Type 0
-AreFirst k st = StandsFor k st (first_kept k)
+abbrev pub LeafFirst : Kern → List State → Type 0
+LeafFirst k st = StandsFor k st (first_kept k)
 
-pub first_at : (k j : Kern) (st : List State) → k ≡ j → AreFirst j st → AreFirst k st
-first_at k j st e h = subst (λ (i : Kern). AreFirst i st) (sym e) h
+pub first_at : (k j : Kern) (st : List State) → k ≡ j → LeafFirst j st → LeafFirst k st
+first_at k j st e h = subst (λ (i : Kern). LeafFirst i st) (sym e) h
 
 pub no_slots : (zs : List ℤ) → zs ≡ [] → StandsForSlots zs [] (first_slots zs)
 no_slots zs e = subst (λ (l : List ℤ). StandsForSlots l [] (first_slots l)) (sym e) (record { code = refl; defined = refl })
@@ -42,7 +53,7 @@ filter_first f h = can_filter f h.fits.3
 pub deal_first : (ws : List ℤ) → IsFormed (deal ws) → HaveShares (shares ws)
 deal_first ws h = formed_shaped (deal ws) h
 
-pub collect_first : (ws : List ℤ) (st : List State) → IsFormed (collect ws) → st ≡ state.Collect (turns_start (length ws)) ∷ [] → AreFirst (collect ws) st
+pub collect_first : (ws : List ℤ) (st : List State) → IsFormed (collect ws) → st ≡ state.Collect (turns_start (length ws)) ∷ [] → LeafFirst (collect ws) st
 collect_first ws st h e = record {
   now = turns_start (length ws);
   code = e;
@@ -50,7 +61,7 @@ collect_first ws st h e = record {
   joined = record { turn = first_turn (shares ws) (formed_shaped (collect ws) h); lists = length-replicate (length ws) [] ∙ sym (length-map ws count_of) };
 }
 
-pub unpack_first : (n : ℕ) (st : List State) → IsFormed (unpack n) → st ≡ state.Unpack (turns_start n) ∷ [] → AreFirst (unpack n) st
+pub unpack_first : (n : ℕ) (st : List State) → IsFormed (unpack n) → st ≡ state.Unpack (turns_start n) ∷ [] → LeafFirst (unpack n) st
 unpack_first n st h e = record {
   now = turns_start n;
   code = e;
@@ -67,8 +78,30 @@ first_formed a b at h = record { reads = h.reads; writes = h.fits.0; vars = h.fi
 pub second_formed : (a b : Kern) (at : ℕ) → IsFormed (fused a b at) → IsFormed b
 second_formed a b at h = record { reads = h.fits.1 ∷ []; writes = h.fits.2; vars = h.fits.4; fits = h.fits.7 }
 
-pub fused_first : (a b : Kern) (at : ℕ) (st st' : List State) → AreFirst a st → AreFirst b st' → AreFirst (fused a b at) (st ++ st')
-fused_first a b at st st' h g = parts_stand a b at st st' (first_kept a) (first_kept b) h g
+-- THE FIRST STATES OF KERNELS, AFTER NO FIRING
+
+-- a kernel without a kernel inside
+pub leaf_first : (k : Kern) (st : List State) → IsLeaf k → IsFormed k → LeafFirst k st → IsFirst k st
+leaf_first k st l f h = record {
+  after = leaf_from k st [] l h;
+  again = λ reads writes vars fits. fit_of k reads st (first_kept k) h (first_holds k reads (formed_shaped k f));
+}
+
+-- a kernel whose items go into packs keeps what the kernel inside keeps
+pub packed_first : (k : Kern) (st : List State) → IsFirst k st → IsFirst (packed k) st
+packed_first k st h = record {
+  after = h.after;
+  again = λ reads writes vars fits. h.again reads (FlatOf fits.1 ∷ []) [] (subst (λ (l : List QueueType). Fits k l (FlatOf fits.1 ∷ []) []) (sym fits.2) fits.5);
+}
+
+-- two kernels keep what the first keeps and then what the second keeps
+pub fused_first : (a b : Kern) (at : ℕ) (st st' : List State) → IsFormed (fused a b at) → IsFirst a st → IsFirst b st' → IsFirst (fused a b at) (st ++ st')
+fused_first a b at st st' f h g = record {
+  after = parts_after a b at f.reads st st' [] (h.again f.reads f.fits.0 f.fits.3 f.fits.5) h.after g.after;
+  again = λ reads writes vars fits.
+      parts_fit a b at reads st st' (h.again reads fits.0 fits.3 fits.5)
+      (subst (λ (l : List QueueType). FitState b l st') (sym (between_is a reads fits.0 fits.1 fits.3 at fits.5 fits.6)) (g.again (fits.1 ∷ []) fits.2 fits.4 fits.7));
+}
 
 -- THE PLAIN FORM OF EACH KERNEL
 

@@ -1,9 +1,9 @@
 -- A firing of an operator, on what a machine keeps.
-use Rattle.std.proofs.Common.{◌≡◌, ◌≢◌, ℕ, zero, suc, ◌+◌, ◌<◌, ◌≤◌, Bool, false, Some, List, [], ◌∷◌, ◌++◌, length, take, map, refl, sym, ap, ◌∙◌, subst, arith, nat_eq, ⊎_elim, get_or-set_same, get_or-set_other}
+use Rattle.std.proofs.Common.{◌≡◌, ℕ, zero, suc, ◌+◌, ◌<◌, ◌≤◌, Bool, false, Some, List, [], ◌∷◌, ◌++◌, length, length-append, take, drop, map, refl, sym, ap, ◌∙◌, subst, arith, nat_eq, ⊎_elim, get_or-set_same, get_or-set_other}
 use Rattle.std.specs.Prelude.{if◌then◌else◌, All, min, slice_get, slice_set, slice_index_or}
 use Rattle.std.proofs.lemmas.Bool.{cases_eq}
-use Rattle.std.proofs.lemmas.List.{append-nil, length-take, length-map, length-set}
-use Rattle.std.proofs.lemmas.List.Elements.{All-head, All-tail, All-nil, All-append}
+use Rattle.std.proofs.lemmas.List.{append-nil, drop-append-le, length-take, length-map, length-set}
+use Rattle.std.proofs.lemmas.List.Elements.{All-head, All-tail, All-append}
 use Rattle.std.proofs.lemmas.Option.{slice_get_within}
 use Rattle.river_base.specs.declared.item.Item as item
 use Rattle.river_base.specs.declared.kind.QueueType.{QueueType}
@@ -12,33 +12,34 @@ use Rattle.river_base.proofs.HeldLemmas.{held-nil, held-append, length-held}
 use Rattle.river_base.specs.Name.{name_eq}
 use Rattle.river_base.specs.Places.{list_at, each_grew}
 use Rattle.river_base.proofs.PlaceLemmas.{length-each_grew, get_or-each_grew, each_grew-blanks}
-use Rattle.river_plan.specs.Forms.{Name, OpForm, PlanForm, all_decls, decl_names, table_names, queue_names}
-use Rattle.river_plan.specs.Kinds.{kind_of, var_kind}
+use Rattle.river_plan.specs.Forms.{Name, OpForm, PlanForm, decl_names, table_names, queue_names}
+use Rattle.river_plan.specs.Kinds.{var_kind}
 use Rattle.river_plan.specs.Names.{count, one_if}
-use Rattle.river_plan.specs.Uses.{reads_it, writes_it}
+use Rattle.river_plan.specs.Uses.{total, reads_it, writes_it}
 use Rattle.river_plan.specs.Valid.{IsPlan}
 use Rattle.river_plan.proofs.NameLemmas.{cases_name}
 use Rattle.river_kernels.specs.Fits.{Fits}
-use Rattle.brooklet_model.specs.Fire.{fire, outs, tabs}
+use Rattle.brooklet_model.specs.Fire.{fire, outs}
 use Rattle.brooklet_model.specs.Histories.{joined, most_firings, Lists}
 use Rattle.brooklet_model.specs.Laws.{given_to}
 use Rattle.brooklet_model.specs.Machine.{Machine, Step, Run, start, fired, at_key, at_name, times}
-use Rattle.brooklet_model.specs.Typed.{IsOf, AreOf, IsOnRows}
+use Rattle.brooklet_model.specs.Typed.{IsTyped, IsOf, AreOf}
 use Rattle.brooklet_model.specs.Words.{Word, at_port}
 use Rattle.brooklet_model.proofs.Lists.{if_true, if_false, if_eq, if_ne}
 use Rattle.brooklet_model.proofs.Complete.{traced_fired, nothing_given}
 use Rattle.brooklet_model.proofs.Ports.{counts}
 use Rattle.brooklet_model.proofs.Traces.{some_is, at_most, got_count, joined_out, at_key_same, at_key_other, at_same}
-use Rattle.brooklet_model.proofs.TypedPlan.{op_fits, op_on_rows, joined_of}
+use Rattle.brooklet_model.proofs.TypedPlan.{op_fits, kind_got, got_all, joined_all}
 use Rattle.brooklet_step.specs.declared.emit.Emit.{Emit}
 use Rattle.brooklet_step.specs.declared.machine.Parts.{Parts}
 use Rattle.brooklet_step.specs.declared.state.State.{State}
 use Rattle.brooklet_step.specs.ByPlace.{place, places, joined_at}
-use Rattle.brooklet_step.specs.Given.{held_by, held_at, IsHeldBy, IsHeldOf, AreHeldOf, AreTyped, FitState, StandsAfter, ran, TookHeld, Does, FiresAt, CanTake}
+use Rattle.brooklet_step.specs.Given.{held_by, held_at, IsHeldBy, IsHeldOf, AreTyped, FitState, StandsAfter, ran, TookHeld, Does, FiresAt, CanTake}
 use Rattle.brooklet_step.specs.Took.{IsBlank}
-use Rattle.brooklet_step.specs.Works.{hist_of, taken_of, kinds_of, states_of, count_of, Stands, ReadsAt, Counts, GoesOn, After, Steps}
+use Rattle.brooklet_step.specs.Works.{queue_of, kinds_of, states_of, count_of, Stands, ReadsAt, Counts, GoesOn, After, Steps}
 use Rattle.brooklet_step.proofs.GivenLemmas.{typed_append, fired_typed}
-use Rattle.brooklet_step.proofs.GivenParts.{blank_room}
+use Rattle.brooklet_step.proofs.Fires.{blank_room}
+use Rattle.brooklet_step.proofs.OnRows.{op_on_rows}
 use Rattle.brooklet_step.proofs.QueuePlaces.{place_below, place_apart, joined_places, joined_cong_below}
 
 -- RUNS
@@ -53,21 +54,6 @@ times-more o (d ∷ es) e = let h = times-more o es e in omega (arith, h)
 
 -- WHAT THE MACHINE'S STATE HAS
 
-got_of : (kind : Name → QueueType) (rs : List Name) (port : ℕ) (q : Name) (x : item.Item) → slice_get rs port ≡ Some q → HasType (kind q) x → IsOf (map kind rs) port x
-got_of kind [] port q x g i = absurd (cc g)
-got_of kind (r ∷ rs) zero q x g i = subst (λ n. HasType (kind n) x) (sym (some_is r q g)) i
-got_of kind (r ∷ rs) (suc port) q x g i = got_of kind rs port q x g i
-
-kind_got : (kind : Name → QueueType) (rs : List Name) (port : ℕ) (q : Name) → slice_get rs port ≡ Some q → slice_get (map kind rs) port ≡ Some (kind q)
-kind_got kind [] port q g = absurd (cc g)
-kind_got kind (r ∷ rs) zero q g = ap (λ n. Some (kind n)) (some_is r q g)
-kind_got kind (r ∷ rs) (suc port) q g = kind_got kind rs port q g
-
-got_all : (P : item.Item → Type 0) (xs : List item.Item) (n : ℕ) (x : item.Item) → All P xs → slice_get xs n ≡ Some x → P x
-got_all P [] n x a g = absurd (cc g)
-got_all P (y ∷ ys) zero x a g = subst P (some_is y x g) (All-head P y ys a)
-got_all P (y ∷ ys) (suc n) x a g = got_all P ys n x (All-tail P y ys a) g
-
 -- what operators read and write is declared
 pub read_declared : (p : PlanForm) → IsPlan p → (o port : ℕ) (q : Name) → ReadsAt p o port q → 0 < count q (queue_names p)
 read_declared p v o port q r =
@@ -81,23 +67,23 @@ write_declared p v o op g q lt =
     v.writes_declared q (omega (arith, m, lt))
 
 -- an item that a queue holds is what the port that reads it may take
-item_held : (m : Parts) (o port : ℕ) (q : Name) (i : item.Item) → (g : GoesOn m) → (r : ReadsAt m.plan o port q) → slice_get (hist_of m q) (taken_of m q) ≡ Some i → IsHeldOf (map (kinds_of m) r.op.reads) port i
-item_held m o port q i g r hx =
+item_held : (m : Parts) (o port : ℕ) (q : Name) (i : item.Item) (rest : List item.Item) → (g : GoesOn m) → (r : ReadsAt m.plan o port q) → queue_of m q ≡ i ∷ rest → IsHeldOf (map (kinds_of m) r.op.reads) port i
+item_held m o port q i rest g r hx =
     subst (λ t. IsHeldBy t i) (sym (kind_got (kinds_of m) r.op.reads port q r.queue_is))
-    (got_all (IsHeld (kinds_of m q)) (hist_of m q) (taken_of m q) i (g.items q (read_declared m.plan g.valid o port q r)) hx)
+    (All-head (IsHeld (kinds_of m q)) i rest (subst (All (IsHeld (kinds_of m q))) hx (g.items q (read_declared m.plan g.valid o port q r))))
 
 -- a firing can be made
-pub can_take : (m : Parts) (o port : ℕ) (q : Name) (i : item.Item) (st : List State) (out : Emit) → (g : GoesOn m) → (r : ReadsAt m.plan o port q) → slice_get (hist_of m q) (taken_of m q) ≡ Some i → st ≡ states_of m o → IsBlank r.op.kernel out → CanTake r.op.kernel port i st out
-can_take m o port q i st out g r hx es b = record {
+pub can_take : (m : Parts) (o port : ℕ) (q : Name) (i : item.Item) (rest : List item.Item) (st : List State) (out : Emit) → (g : GoesOn m) → (r : ReadsAt m.plan o port q) → queue_of m q ≡ i ∷ rest → st ≡ states_of m o → IsBlank r.op.kernel out → CanTake r.op.kernel port i st out
+can_take m o port q i rest st out g r hx es b = record {
   reads = map (kinds_of m) r.op.reads;
   fitting = record {
     on_rows = op_on_rows m.plan g.valid g.built o r.op r.op_is;
     writes = map (kinds_of m) r.op.writes;
     vars = map (var_kind m.plan.tables m.plan.vars) r.op.vars;
-    fits = op_fits m.plan g.valid g.built o r.op r.op_is;
+    fits = op_fits m.plan g.valid o r.op r.op_is;
     state = subst (FitState r.op.kernel (map (kinds_of m) r.op.reads)) (sym es) (g.fit o r.op r.op_is);
   };
-  item = item_held m o port q i g r hx;
+  item = item_held m o port q i rest g r hx;
   room = blank_room r.op.kernel out b;
 }
 
@@ -141,13 +127,19 @@ found t h hs n i e g =
     let is : Some i ≡ Some b.0 = sym g ∙ ap (λ l. slice_get l n) all ∙ got_at a b.0 c n la in
     record { item = x; item_is = s.3; held_is = b.1 ∙ ap (λ y. y ∷ []) (sym (some_is i b.0 is)) }
 
--- what ports may give is what their queues may hold
-joined_all : (kind : Name → QueueType) (ws : List Name) (f : ℕ → List item.Item) → AreHeldOf (map kind ws) f → (q : Name) → All (IsHeld (kind q)) (joined ws f q)
-joined_all kind [] f t q = All-nil (IsHeld (kind q))
-joined_all kind (w ∷ ws) f t q = All-append (IsHeld (kind q)) (if name_eq w q then f 0 else []) (joined ws (λ j. f (suc j)) q) (⊎_elim
-    (λ c. subst (All (IsHeld (kind q))) (sym (if_true (name_eq w q) (f 0) [] c.1)) (subst (λ n. All (IsHeld (kind n)) (f 0)) c.0 (t 0)))
-    (λ c. subst (All (IsHeld (kind q))) (sym (if_false (name_eq w q) (f 0) [] c.1)) (All-nil (IsHeld (kind q))))
-    (cases_name w q)) (joined_all kind ws (λ j. f (suc j)) (λ j. t (suc j)) q)
+-- the front of what is left of a list
+got_drop : (xs : List item.Item) (n : ℕ) (i : item.Item) (rest : List item.Item) → drop n xs ≡ i ∷ rest → slice_get xs n ≡ Some i
+got_drop [] zero i rest e = absurd (cc e)
+got_drop [] (suc n) i rest e = absurd (cc e)
+got_drop (x ∷ xs) zero i rest e = let h : x ≡ i = cc in ap Some h
+got_drop (x ∷ xs) (suc n) i rest e = got_drop xs n i rest e
+
+-- and what is left without it
+drop_next : (xs : List item.Item) (n : ℕ) (i : item.Item) (rest : List item.Item) → drop n xs ≡ i ∷ rest → drop (n + 1) xs ≡ rest
+drop_next [] zero i rest e = absurd (cc e)
+drop_next [] (suc n) i rest e = absurd (cc e)
+drop_next (x ∷ xs) zero i rest e = cc
+drop_next (x ∷ xs) (suc n) i rest e = let h : suc n + 1 ≡ suc (n + 1) = omega arith in ap (λ k. drop k (x ∷ xs)) h ∙ drop_next xs n i rest e
 
 -- what queues hold for what an operator gives at the ports that write them
 joined_held : (kind : Name → QueueType) (ws : List Name) (F f : ℕ → List item.Item) (h : Name → List item.Item) (n : Name) → count n ws ≤ 1 → Lists ws F h → joined ws (λ j. held_at (map kind ws) j (F j) (f j)) n ≡ held (kind n) (h n) (joined ws f n)
@@ -176,12 +168,11 @@ joined_held kind (w ∷ ws) F f h n once l =
 sum_min : (m n : ℕ) → min m (min m n + 1) ≡ min m (n + 1)
 sum_min m n = omega arith
 
--- the machine after operator number o took an item from queue q
-abbrev pub next_parts : Parts → ℕ → Name → List (List item.Item) → List State → Parts
-next_parts m o q queues st = record {
+-- the machine after operator number o fired
+abbrev pub next_parts : Parts → ℕ → List (List item.Item) → List State → Parts
+next_parts m o queues st = record {
   plan = m.plan;
   queues = queues;
-  taken = slice_set m.taken (place (queue_names m.plan) q) (taken_of m q + 1);
   states = slice_set m.states o st;
   counts = slice_set m.counts o (min most_firings (count_of m o + 1));
   reads = m.reads;
@@ -189,10 +180,10 @@ next_parts m o q queues st = record {
   stopped = false;
 }
 
-module _ (m : Parts) (o port : ℕ) (q : Name) (i : item.Item) (blank out : Emit) (st : List State) (queues : List (List item.Item)) (g : GoesOn m) (r : ReadsAt m.plan o port q)
-    (hx : slice_get (hist_of m q) (taken_of m q) ≡ Some i) (b : IsBlank r.op.kernel blank)
+module _ (m : Parts) (o port : ℕ) (q : Name) (i : item.Item) (rest : List item.Item) (blank out : Emit) (st : List State) (queues : List (List item.Item)) (g : GoesOn m) (r : ReadsAt m.plan o port q)
+    (hx : queue_of m q ≡ i ∷ rest) (b : IsBlank r.op.kernel blank)
     (f : FiresAt r.op.kernel port i blank out (states_of m o) st)
-    (eq : queues ≡ each_grew m.queues (joined_at (places (queue_names m.plan) r.op.writes) (list_at out.outs))) where
+    (eq : queues ≡ each_grew (slice_set m.queues (place (queue_names m.plan) q) rest) (joined_at (places (queue_names m.plan) r.op.writes) (list_at out.outs))) where
   abbrev names : List Name
   names = queue_names m.plan
 
@@ -206,7 +197,11 @@ module _ (m : Parts) (o port : ℕ) (q : Name) (i : item.Item) (blank out : Emit
   writes = map (kinds_of m) r.op.writes
 
   abbrev m' : Parts
-  m' = next_parts m o q queues st
+  m' = next_parts m o queues st
+
+  -- the queues without the item that was taken
+  abbrev base : List (List item.Item)
+  base = slice_set m.queues (place names q) rest
 
   q_there : 0 < count q names
   q_there = read_declared m.plan g.valid o port q r
@@ -214,14 +209,11 @@ module _ (m : Parts) (o port : ℕ) (q : Name) (i : item.Item) (blank out : Emit
   o_below : o < length m.plan.ops
   o_below = slice_get_within m.plan.ops o r.op r.op_is
 
-  rows : IsOnRows r.op.kernel
-  rows = op_on_rows m.plan g.valid g.built o r.op r.op_is
-
   fits : Fits r.op.kernel reads writes (map (var_kind m.plan.tables m.plan.vars) r.op.vars)
-  fits = op_fits m.plan g.valid g.built o r.op r.op_is
+  fits = op_fits m.plan g.valid o r.op r.op_is
 
-  does : Does r.op.kernel reads writes port i blank out (states_of m o) st
-  does = f.each reads writes (map (var_kind m.plan.tables m.plan.vars) r.op.vars) fits (g.fit o r.op r.op_is) (item_held m o port q i g r hx)
+  does : Does r.op.kernel reads writes (map (var_kind m.plan.tables m.plan.vars) r.op.vars) port i blank out (states_of m o) st
+  does = f.each reads writes (map (var_kind m.plan.tables m.plan.vars) r.op.vars) fits (g.fit o r.op r.op_is) (item_held m o port q i rest g r hx)
 
   writes_many : length r.op.writes ≡ outs r.op.kernel
   writes_many = sym (length-map r.op.writes (kinds_of m)) ∙ (counts r.op.kernel _ _ _ fits).outs
@@ -230,29 +222,62 @@ module _ (m : Parts) (o port : ℕ) (q : Name) (i : item.Item) (blank out : Emit
   out_is : (F : ℕ → List item.Item) → out.outs ≡ each_grew blank.outs F → (j : ℕ) → j < length r.op.writes → list_at out.outs j ≡ F j
   out_is F e j lj = ap (λ (l : List (List item.Item)). list_at l j) (e ∙ ap (λ l. each_grew l F) b.outs) ∙ each_grew-blanks (outs r.op.kernel) F j [] (omega (arith, lj, writes_many))
 
+  there : (n : Name) → 0 < count n names → place names n < length m.queues
+  there n lt = let p = place_below names n lt in let l = g.laid_out.queues in omega (arith, p, l)
+
+  base_many : length base ≡ length m.queues
+  base_many = length-set m.queues (place names q) rest
+
+  base_here : list_at base (place names q) ≡ rest
+  base_here = get_or-set_same m.queues (place names q) rest [] (there q q_there)
+
+  base_other : (n : Name) → 0 < count n names → (n ≡ q → ⊥) → list_at base (place names n) ≡ queue_of m n
+  base_other n lt ne = get_or-set_other m.queues (place names q) (place names n) rest [] (λ e. ne (place_apart names n q lt q_there e))
+
   -- what a queue has
-  queue_is : (F : ℕ → List item.Item) → out.outs ≡ each_grew blank.outs F → (n : Name) → 0 < count n names → list_at queues (place names n) ≡ hist_of m n ++ joined r.op.writes F n
+  queue_is : (F : ℕ → List item.Item) → out.outs ≡ each_grew blank.outs F → (n : Name) → 0 < count n names → list_at queues (place names n) ≡ list_at base (place names n) ++ joined r.op.writes F n
   queue_is F e n lt =
-      let below : place names n < length m.queues = let p = place_below names n lt in let l = g.laid_out.queues in omega (arith, p, l) in
+      let below : place names n < length base = let p = there n lt in omega (arith, p, base_many) in
       ap (λ (l : List (List item.Item)). list_at l (place names n)) eq
-      ∙ get_or-each_grew m.queues (joined_at (places names r.op.writes) (list_at out.outs)) (place names n) [] below
-      ∙ ap (λ l. list_at m.queues (place names n) ++ l) (joined_places names r.op.writes (list_at out.outs) n (write_declared m.plan g.valid o r.op r.op_is) lt)
-      ∙ ap (λ l. list_at m.queues (place names n) ++ l) (joined_cong_below r.op.writes (list_at out.outs) F n (λ j lj. out_is F e j lj))
+      ∙ get_or-each_grew base (joined_at (places names r.op.writes) (list_at out.outs)) (place names n) [] below
+      ∙ ap (λ l. list_at base (place names n) ++ l) (joined_places names r.op.writes (list_at out.outs) n (write_declared m.plan g.valid o r.op r.op_is) lt)
+      ∙ ap (λ l. list_at base (place names n) ++ l) (joined_cong_below r.op.writes (list_at out.outs) F n (λ j lj. out_is F e j lj))
 
   once : (n : Name) → count n r.op.writes ≤ 1
   once n = let a = at_most (writes_it n) m.plan.ops o r.op r.op_is in let w = g.valid.written_once n in omega (arith, a, w)
 
-  -- how many items were taken
-  taken_next : (s : Machine) → Stands m s → (n : Name) → 0 < count n names → at_name q (s.taken q + 1) s.taken n ≡ slice_index_or (slice_set m.taken (place names q) (taken_of m q + 1)) (place names n) 0
-  taken_next s h n lt =
-      let below : place names n < length m.taken = let p = place_below names n lt in let l = g.laid_out.taken in omega (arith, p, l) in
-      ⊎_elim
+  -- how many items were taken, and what that leaves of what was there
+  abbrev taken_next : Machine → Name → ℕ
+  taken_next s = at_name q (s.taken q + 1) s.taken
+
+  left_next : (s : Machine) → Stands m s → (n : Name) → 0 < count n names → list_at base (place names n) ≡ drop (taken_next s n) (held (kinds n) [] (s.hist n))
+  left_next s h n lt = ⊎_elim
       (λ c.
-      if_true (name_eq q n) (s.taken q + 1) (s.taken n) c.1 ∙ ap (λ k. k + 1) (h.taken q q_there)
-      ∙ sym (ap (λ (w : Name). slice_index_or (slice_set m.taken (place names w) (taken_of m q + 1)) (place names n) 0) c.0 ∙ get_or-set_same m.taken (place names n) (taken_of m q + 1) 0 below))
+      let d : drop (s.taken q + 1) (held (kinds q) [] (s.hist q)) ≡ rest = drop_next (held (kinds q) [] (s.hist q)) (s.taken q) i rest (sym (h.left q q_there) ∙ hx) in
+      ap (λ (w : Name). list_at base (place names w)) (sym c.0) ∙ base_here ∙ sym d
+      ∙ ap (λ (w : Name). drop (s.taken q + 1) (held (kinds w) [] (s.hist w))) c.0
+      ∙ ap (λ k. drop k (held (kinds n) [] (s.hist n))) (sym (if_true (name_eq q n) (s.taken q + 1) (s.taken n) c.1)))
       (λ c.
-      let other : place names n ≢ place names q = λ e. c.0 (sym (place_apart names n q lt q_there e)) in
-      if_false (name_eq q n) (s.taken q + 1) (s.taken n) c.1 ∙ h.taken n lt ∙ sym (get_or-set_other m.taken (place names q) (place names n) (taken_of m q + 1) 0 other))
+      base_other n lt (λ e. c.0 (sym e)) ∙ h.left n lt ∙ ap (λ k. drop k (held (kinds n) [] (s.hist n))) (sym (if_false (name_eq q n) (s.taken q + 1) (s.taken n) c.1)))
+      (cases_name q n)
+
+  within_next : (s : Machine) → Stands m s → s.taken q < length (s.hist q) → (n : Name) → taken_next s n ≤ length (s.hist n)
+  within_next s h w n = ⊎_elim
+      (λ c.
+      let e = if_true (name_eq q n) (s.taken q + 1) (s.taken n) c.1 in
+      let l : length (s.hist q) ≡ length (s.hist n) = ap (λ (x : Name). length (s.hist x)) c.0 in
+      omega (arith, e, l, w))
+      (λ c. let e = if_false (name_eq q n) (s.taken q + 1) (s.taken n) c.1 in let d = h.within n in omega (arith, e, d))
+      (cases_name q n)
+
+  unread_next : (s : Machine) → Stands m s → (n : Name) → total (reads_it n) m.plan.ops ≡ 0 → taken_next s n ≡ 0
+  unread_next s h n z = ⊎_elim
+      (λ c.
+      let t = at_most (reads_it q) m.plan.ops o r.op r.op_is in
+      let k = got_count r.op.reads port q r.queue_is in
+      let same : total (reads_it q) m.plan.ops ≡ total (reads_it n) m.plan.ops = ap (λ (x : Name). total (reads_it x) m.plan.ops) c.0 in
+      absurd (omega (arith, t, k, same, z)))
+      (λ c. if_false (name_eq q n) (s.taken q + 1) (s.taken n) c.1 ∙ h.unread n z)
       (cases_name q n)
 
   -- what holds of the operator that fired by its new word and states, and of the others by their old ones, holds of all
@@ -268,13 +293,14 @@ module _ (m : Parts) (o port : ℕ) (q : Name) (i : item.Item) (blank out : Emit
 
   after : (s : Machine) → Stands m s → After m m' o port s
   after s h =
-      let hx' : slice_get (hist_of m q) (s.taken q) ≡ Some i = ap (slice_get (hist_of m q)) (h.taken q q_there) ∙ hx in
-      let it = found (kinds q) (s.hist q) (hist_of m q) (s.taken q) i (h.hist q q_there) hx' in
+      let all = held (kinds q) [] (s.hist q) in
+      let it = found (kinds q) (s.hist q) all (s.taken q) i refl (got_drop all (s.taken q) i rest (sym (h.left q q_there) ∙ hx)) in
+      let more = within_next s h (slice_get_within (s.hist q) (s.taken q) it.item it.item_is) in
       let x = it.item in
       let w = h.words o in
       let before = ran r.op.kernel w in
       let typed_w = h.received o r.op r.op_is in
-      let typed_x : IsOf reads port x = got_of kinds r.op.reads port q x r.queue_is (got_all (HasType (kinds q)) (s.hist q) (s.taken q) x (h.typed q) it.item_is) in
+      let typed_x : IsOf reads port x = subst (λ t. IsTyped t x) (sym (kind_got kinds r.op.reads port q r.queue_is)) (got_all (HasType (kinds q)) (s.hist q) (s.taken q) x (h.typed q) it.item_is) in
       let held_x : held_at reads port (at_port port w) (x ∷ []) ≡ i ∷ [] =
       ap (λ t. held_by t (at_port port w) (x ∷ [])) (kind_got kinds r.op.reads port q r.queue_is)
       ∙ ap (λ l. held (kinds q) l (x ∷ [])) (h.traced.taken o r.op r.op_is port q r.queue_is).0 ∙ it.held_is in
@@ -282,19 +308,23 @@ module _ (m : Parts) (o port : ℕ) (q : Name) (i : item.Item) (blank out : Emit
       let kept_is : before.states ≡ s.kept o = sym (h.traced.kept o r.op r.op_is) in
       let res = fire r.op.kernel port x (s.kept o) in
       let took : TookHeld writes before blank out res = subst (λ us. TookHeld writes before blank out (fire r.op.kernel port x us)) kept_is gave.0 in
-      let typed_out : AreOf writes res.outs = subst (λ us. AreOf writes (fire r.op.kernel port x us).outs) kept_is (fired_typed r.op.kernel reads writes _ w port x rows fits typed_w typed_x) in
+      let typed_out : AreOf writes res.outs = subst (λ us. AreOf writes (fire r.op.kernel port x us).outs) kept_is (fired_typed r.op.kernel reads writes _ w port x fits typed_w typed_x) in
       let next = w ++ (port, x) ∷ [] in
       record {
         state = fired (table_names m.plan.tables) o r.op port q x s;
         step = record { op = r.op; queue = q; item = x; op_is = r.op_is; queue_is = r.queue_is; item_is = it.item_is; after = refl };
         stands = record {
-          hist = λ n lt.
+          left = λ n lt.
+              let before_n = held (kinds n) [] (s.hist n) in
+              let k : taken_next s n ≤ length before_n = let l = length-held (kinds n) [] (s.hist n) in let d = more n in omega (arith, l, d) in
               queue_is (λ j. held_at writes j (before.outs j) (res.outs j)) took.outs n lt
-              ∙ ap (λ l. l ++ joined r.op.writes (λ j. held_at writes j (before.outs j) (res.outs j)) n) (h.hist n lt)
-              ∙ ap (λ l. held (kinds n) [] (s.hist n) ++ l) (joined_held kinds r.op.writes before.outs res.outs s.hist n (once n) (h.traced.written_by o r.op r.op_is))
-              ∙ sym (held-append (kinds n) [] (s.hist n) (joined r.op.writes res.outs n));
-          taken = taken_next s h;
-          typed = λ n. All-append (HasType (kinds n)) (s.hist n) (joined r.op.writes res.outs n) (h.typed n) (joined_of kinds r.op.writes res.outs typed_out n);
+              ∙ ap (λ l. l ++ joined r.op.writes (λ j. held_at writes j (before.outs j) (res.outs j)) n) (left_next s h n lt)
+              ∙ ap (λ l. drop (taken_next s n) before_n ++ l) (joined_held kinds r.op.writes before.outs res.outs s.hist n (once n) (h.traced.written_by o r.op r.op_is))
+              ∙ sym (drop-append-le (taken_next s n) before_n (held (kinds n) (s.hist n) (joined r.op.writes res.outs n)) k)
+              ∙ ap (drop (taken_next s n)) (sym (held-append (kinds n) [] (s.hist n) (joined r.op.writes res.outs n)));
+          within = λ n. let l = length-append (s.hist n) (joined r.op.writes res.outs n) in let d = more n in omega (arith, l, d);
+          unread = unread_next s h;
+          typed = λ n. All-append (HasType (kinds n)) (s.hist n) (joined r.op.writes res.outs n) (h.typed n) (joined_all IsTyped kinds r.op.writes res.outs typed_out n);
           inputs = h.inputs;
           words = at_key o next h.words;
           traced = traced_fired m.plan (given_to m.plan h.inputs) g.valid (λ n z. nothing_given (decl_names m.plan.inputs) (list_at h.inputs) n z) s h.words o port r.op q x h.traced r.op_is r.queue_is it.item_is;
@@ -302,6 +332,13 @@ module _ (m : Parts) (o port : ℕ) (q : Name) (i : item.Item) (blank out : Emit
           kept = at_each (λ op u v. StandsAfter op.kernel u v) next h.words h.kept gave.1;
         };
       }
+
+  base_held : (n : Name) → 0 < count n names → All (IsHeld (kinds n)) (list_at base (place names n))
+  base_held n lt = ⊎_elim
+      (λ c. subst (λ (w : Name). All (IsHeld (kinds w)) (list_at base (place names w))) c.0
+      (subst (All (IsHeld (kinds q))) (sym base_here) (All-tail (IsHeld (kinds q)) i rest (subst (All (IsHeld (kinds q))) hx (g.items q q_there)))))
+      (λ c. subst (All (IsHeld (kinds n))) (sym (base_other n lt (λ e. c.0 (sym e)))) (g.items n lt))
+      (cases_name q n)
 
   counts_next : (es : List (ℕ × ℕ)) → Counts m es → Counts m' (es ++ (o, port) ∷ [])
   counts_next es h n lt =
@@ -330,8 +367,7 @@ module _ (m : Parts) (o port : ℕ) (q : Name) (i : item.Item) (blank out : Emit
         valid = g.valid;
         built = g.built;
         laid_out = record {
-          queues = ap length eq ∙ length-each_grew m.queues (joined_at (places names r.op.writes) (list_at out.outs)) ∙ l.queues;
-          taken = length-set m.taken (place names q) (taken_of m q + 1) ∙ l.taken;
+          queues = ap length eq ∙ length-each_grew base (joined_at (places names r.op.writes) (list_at out.outs)) ∙ base_many ∙ l.queues;
           states = length-set m.states o st ∙ l.states;
           counts = length-set m.counts o (min most_firings (count_of m o + 1)) ∙ l.counts;
           reads = l.reads;
@@ -339,7 +375,7 @@ module _ (m : Parts) (o port : ℕ) (q : Name) (i : item.Item) (blank out : Emit
         };
         fit = at_each (λ op u v. FitState op.kernel (map (kinds_of m) op.reads) u) [] (λ j. []) g.fit does.came.again;
         items = λ n lt. subst (λ (l : List item.Item). All (IsHeld (kinds n)) l) (sym (queue_is does.came.outs does.came.outs_are n lt))
-            (All-append (IsHeld (kinds n)) (hist_of m n) (joined r.op.writes does.came.outs n) (g.items n lt) (joined_all kinds r.op.writes does.came.outs does.came.held n));
+            (All-append (IsHeld (kinds n)) (list_at base (place names n)) (joined r.op.writes does.came.outs n) (base_held n lt) (joined_all IsHeldBy kinds r.op.writes does.came.outs does.came.held n));
         inputs = g.inputs;
         typed = g.typed;
         ran = record {

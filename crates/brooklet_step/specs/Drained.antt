@@ -1,21 +1,22 @@
 -- Runs in the order of the operators.
-use Rattle.std.specs.Prelude.{◌≡◌, ℕ, ◌<◌, ◌≤◌, ◌-◌, false, List, [], length, Option, Some, None, unwrap_or, slice_get}
+use Rattle.std.specs.Prelude.{◌≡◌, ℕ, ◌<◌, ◌≤◌, false, List, [], length, Option, Some, None, unwrap_or, slice_get}
 use Rattle.river_base.specs.declared.item.Item as item
 use Rattle.river_plan.specs.Forms.{Name, OpForm, PlanForm}
 use Rattle.brooklet_step.specs.declared.machine.Parts.{Parts}
-use Rattle.brooklet_step.specs.Works.{hist_of, taken_of, ReadsAt, Ran}
+use Rattle.brooklet_step.specs.Works.{queue_of, ReadsAt, Ran}
 
 -- nothing is left at this port
 abbrev pub IsDrained : Parts → ℕ → ℕ → Type 0
-IsDrained m o port = (q : Name) → ReadsAt m.plan o port q → length (hist_of m q) ≤ taken_of m q
+IsDrained m o port = (q : Name) → ReadsAt m.plan o port q → length (queue_of m q) ≡ 0
 
 -- the queue that an operator reads at a port; an empty name where there is none
 abbrev pub read_in : Option OpForm → ℕ → Name
 read_in None port = []
 read_in (Some op) port = unwrap_or (slice_get op.reads port) []
 
+-- how many items wait there
 abbrev pub left_at : Parts → ℕ → ℕ → ℕ
-left_at m o port = length (hist_of m (read_in (slice_get m.plan.ops o) port)) - taken_of m (read_in (slice_get m.plan.ops o) port)
+left_at m o port = length (queue_of m (read_in (slice_get m.plan.ops o) port))
 
 -- the machine stands for the state after some run
 pub record HasRun (m : Parts) : Type 0 where

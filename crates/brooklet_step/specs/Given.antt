@@ -5,6 +5,7 @@ use Rattle.river_base.specs.declared.kind.QueueType.{QueueType}
 use Rattle.river_base.specs.Held.{held, IsHeld}
 use Rattle.river_base.specs.Places.{each_grew, list_at}
 use Rattle.kern_rows.specs.Forms.{FilterForm}
+use Rattle.kern_rows.specs.Needs.{IsJoiner}
 use Rattle.kern_rows.specs.Stands.{Waiting, Dealing}
 use Rattle.kern_rows.specs.Turns.{Turns, IsTurn, shares, ones}
 use Rattle.river_kernels.specs.declared.types.VarKind.{VarKind}
@@ -13,12 +14,12 @@ use Rattle.river_kernels.specs.Types.{types_of}
 use Rattle.river_kernels.specs.Kern.{Kern, code, filter, duplicate, deal, collect, packed, unpack, window, select, project, cross, streamer, tally, fused}
 use Rattle.brooklet_model.specs.Firings.{Fired, feed}
 use Rattle.brooklet_model.specs.Fire.{fire, first_kept, privates}
-use Rattle.brooklet_model.specs.Shapes.{IsJoined}
-use Rattle.brooklet_model.specs.Typed.{IsOf, IsOnRows, between}
+use Rattle.brooklet_model.specs.Typed.{IsOf, between, widths_in, AreWide}
 use Rattle.brooklet_model.specs.Words.{Word, run, at_port, word_of}
 use Rattle.brooklet_step.specs.declared.emit.Emit.{Emit}
 use Rattle.brooklet_step.specs.declared.state.State.{State}
 use Rattle.brooklet_step.specs.declared.state.State.TheVariants as state
+use Rattle.brooklet_step.specs.Built.{IsOnRows}
 use Rattle.brooklet_step.specs.Stands.{StandsFor}
 use Rattle.brooklet_step.specs.Took.{HasRoom}
 
@@ -74,7 +75,7 @@ pub record FitTurn (ws : List ℕ) (st : List State) : Type 0 where
 pub record FitJoiner (wrap : Turns → State) (ws : List ℕ) (reads : List QueueType) (st : List State) : Type 0 where
   pub now : Turns
   pub code : st ≡ wrap now ∷ []
-  pub joined : IsJoined ws now
+  pub joined : IsJoiner ws now
   pub items : AreHeldOf reads (list_at now.lists)
 
 -- the states are the kernel's own, and what they keep is what queues of these types may hold. It speaks of the states alone: of
@@ -148,34 +149,35 @@ pub record Gives (k : Kern) (reads writes : List QueueType) (port : ℕ) (i : it
   pub given : (w : Word) (x : item.Item) → AreTyped reads w → IsOf reads port x → StandsAfter k st w → held_at reads port (at_port port w) (x ∷ []) ≡ i ∷ []
       → TookHeld writes (ran k w) out new (fire k port x (ran k w).states) × StandsAfter k st' (w ++ (port, x) ∷ [])
 
--- whatever was received: what came is what queues may hold, and the states fit again
-pub record Came (k : Kern) (reads writes : List QueueType) (out new : Emit) (st' : List State) : Type 0 where
+-- whatever was received: what came is what queues may hold, rows for tables have the tables' widths, and the states fit again
+pub record Came (k : Kern) (reads writes : List QueueType) (vars : List VarKind) (out new : Emit) (st' : List State) : Type 0 where
   pub outs : ℕ → List item.Item
   pub adds : ℕ → List (List ℤ)
   pub outs_are : new.outs ≡ each_grew out.outs outs
   pub adds_are : new.adds ≡ each_grew out.adds adds
   pub held : AreHeldOf writes outs
+  pub wide : AreWide (widths_in vars) adds
   pub again : FitState k reads st'
 
-pub record Does (k : Kern) (reads writes : List QueueType) (port : ℕ) (i : item.Item) (out new : Emit) (st st' : List State) : Type 0 where
+pub record Does (k : Kern) (reads writes : List QueueType) (vars : List VarKind) (port : ℕ) (i : item.Item) (out new : Emit) (st st' : List State) : Type 0 where
   pub gives : Gives k reads writes port i out new st st'
-  pub came : Came k reads writes out new st'
+  pub came : Came k reads writes vars out new st'
 
 -- under each choice of types for the ports
 pub record FiresAt (k : Kern) (port : ℕ) (i : item.Item) (out new : Emit) (st st' : List State) : Type 0 where
-  pub each : (reads writes : List QueueType) (vars : List VarKind) → Fits k reads writes vars → FitState k reads st → IsHeldOf reads port i → Does k reads writes port i out new st st'
+  pub each : (reads writes : List QueueType) (vars : List VarKind) → Fits k reads writes vars → FitState k reads st → IsHeldOf reads port i → Does k reads writes vars port i out new st st'
 
 -- the same of the items of a list, one after another at the first port
 pub record GivesAll (k : Kern) (reads writes : List QueueType) (is : List item.Item) (out new : Emit) (st st' : List State) : Type 0 where
   pub given : (w : Word) (xs : List item.Item) → AreTyped reads w → All (IsOf reads 0) xs → StandsAfter k st w → held_at reads 0 (at_port 0 w) xs ≡ is
       → TookHeld writes (ran k w) out new (feed (fire k 0) xs (ran k w).states) × StandsAfter k st' (w ++ word_of 0 xs)
 
-pub record DoesAll (k : Kern) (reads writes : List QueueType) (is : List item.Item) (out new : Emit) (st st' : List State) : Type 0 where
+pub record DoesAll (k : Kern) (reads writes : List QueueType) (vars : List VarKind) (is : List item.Item) (out new : Emit) (st st' : List State) : Type 0 where
   pub gives : GivesAll k reads writes is out new st st'
-  pub came : Came k reads writes out new st'
+  pub came : Came k reads writes vars out new st'
 
 pub record FiresEach (k : Kern) (is : List item.Item) (out new : Emit) (st st' : List State) : Type 0 where
-  pub each : (reads writes : List QueueType) (vars : List VarKind) → Fits k reads writes vars → FitState k reads st → All (IsHeldOf reads 0) is → DoesAll k reads writes is out new st st'
+  pub each : (reads writes : List QueueType) (vars : List VarKind) → Fits k reads writes vars → FitState k reads st → All (IsHeldOf reads 0) is → DoesAll k reads writes vars is out new st st'
 
 -- WHEN FIRINGS CAN BE MADE
 

@@ -1,8 +1,10 @@
+pub mod Built
 pub mod ByPlace
 pub mod Drained
 pub mod Fit
 pub mod Given
 pub mod Initial
+pub mod Laws
 pub mod PartsCode
 pub mod Reading
 pub mod Stands

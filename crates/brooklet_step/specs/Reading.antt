@@ -1,6 +1,7 @@
 -- The places of the queues that operators read, and firings of operators.
-use Rattle.std.specs.Prelude.{◌≡◌, ℕ, ◌<◌, List, Option, Some, None, length, slice_get}
+use Rattle.std.specs.Prelude.{◌≡◌, ℕ, ◌<◌, List, ◌∷◌, Option, Some, None, length, slice_get, slice_set}
 use Rattle.river_base.specs.declared.item.Item as item
+use Rattle.river_base.specs.Places.{list_at}
 use Rattle.river_kernels.specs.Kern.{Kern}
 use Rattle.river_plan.specs.Forms.{Name, OpForm, PlanForm, queue_names}
 use Rattle.river_plan.specs.Names.{count}
@@ -19,12 +20,17 @@ pub record IsPlaceOf (m : Parts) (o port n : ℕ) : Type 0 where
   pub place_is : n ≡ place (queue_names m.plan) queue
   pub declared : 0 < count queue (queue_names m.plan)
   pub in_queues : n < length m.queues
-  pub in_taken : n < length m.taken
 
 -- the place, where the operator and the port are there
 abbrev pub IsPlaceRead : Parts → ℕ → ℕ → Option ℕ → Type 0
 IsPlaceRead m o port (Some n) = IsPlaceOf m o port n
 IsPlaceRead m o port None = (q : Name) → ReadsAt m.plan o port q → ⊥
+
+-- the front item of a list, and the lists without it
+pub record IsFront (queues : List (List item.Item)) (n : ℕ) (x : item.Item) (queues' : List (List item.Item)) : Type 0 where
+  pub rest : List item.Item
+  pub here : list_at queues n ≡ x ∷ rest
+  pub left : queues' ≡ slice_set queues n rest
 
 -- the operator can take the item at this port, whatever empty lists there are for what it gives
 pub record CanFire (p : PlanForm) (o port : ℕ) (x : item.Item) (st : List State) : Type 0 where

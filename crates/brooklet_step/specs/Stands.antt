@@ -1,5 +1,5 @@
 -- What the kept states stand for, when a kernel can fire, and what a firing does.
-use Rattle.std.specs.Prelude.{◌≡◌, ℕ, ℤ, List, [], ◌∷◌, All, length, take, drop}
+use Rattle.std.specs.Prelude.{◌≡◌, ℕ, ℤ, List, [], ◌∷◌, length}
 use Rattle.river_base.specs.declared.item.Item as item
 use Rattle.river_base.specs.declared.item.Item.TheVariants.{Flat, Pack}
 use Rattle.river_base.specs.declared.item.Flat as flat
@@ -8,6 +8,7 @@ use Rattle.river_base.specs.declared.kind.QueueType.{QueueType}
 use Rattle.river_base.specs.Places.{none}
 use Rattle.work_code.specs.Steps.{Body}
 use Rattle.kern_rows.specs.Forms.{CodeForm, FilterForm}
+use Rattle.kern_rows.specs.Needs.{IsJoiner}
 use Rattle.kern_rows.specs.Runs.{Filtering, run_kept, pushed_to}
 use Rattle.kern_rows.specs.Stands.{Waiting, StandsForFiltering, Dealing}
 use Rattle.kern_rows.specs.Turns.{Turns, IsTurn, shares, ones}
@@ -15,9 +16,8 @@ use Rattle.river_kernels.specs.declared.types.VarKind.{VarKind}
 use Rattle.river_kernels.specs.Fits.{Fits}
 use Rattle.river_kernels.specs.Kern.{Kern, code, filter, duplicate, deal, collect, packed, unpack, window, select, project, cross, streamer, tally, fused}
 use Rattle.brooklet_model.specs.Firings.{Kept, Slots, Buffered, Turn, Joining, Fired}
-use Rattle.brooklet_model.specs.Fire.{privates, code_one}
-use Rattle.brooklet_model.specs.Shapes.{IsJoined}
-use Rattle.brooklet_model.specs.Typed.{IsOf, IsOnRows, Holds}
+use Rattle.brooklet_model.specs.Fire.{code_one}
+use Rattle.brooklet_model.specs.Typed.{IsOf, Holds}
 use Rattle.brooklet_step.specs.declared.emit.Emit.{Emit}
 use Rattle.brooklet_step.specs.declared.state.State.{State}
 use Rattle.brooklet_step.specs.declared.state.State.TheVariants as state
@@ -61,16 +61,17 @@ pub record StandsForJoiner (wrap : Turns → State) (ws : List ℕ) (st : List S
   pub now : Turns
   pub code : st ≡ wrap now ∷ []
   pub defined : ks ≡ Joining now ∷ []
-  pub joined : IsJoined ws now
+  pub joined : IsJoiner ws now
 
--- the states that the code keeps stand for these
+-- the states that the code keeps stand for these, of a kernel without a kernel inside. Those of other kernels stand for what they
+-- are after a word of firings, and not for states alone
 abbrev pub StandsFor : Kern → List State → List Kept → Type 0
 StandsFor (code k) st ks = StandsForSlots k.starts st ks
 StandsFor (filter f) st ks = StandsForFilter f st ks
 StandsFor (duplicate n) st ks = AreNone st ks
 StandsFor (deal ws) st ks = StandsForTurn (shares ws) st ks
 StandsFor (collect ws) st ks = StandsForJoiner (λ s. state.Collect s) (shares ws) st ks
-StandsFor (packed k) st ks = StandsFor k st ks
+StandsFor (packed k) st ks = ⊥
 StandsFor (unpack n) st ks = StandsForJoiner (λ s. state.Unpack s) (ones n) st ks
 StandsFor (window w) st ks = ⊥
 StandsFor (select e) st ks = ⊥
@@ -78,7 +79,7 @@ StandsFor (project es) st ks = ⊥
 StandsFor cross st ks = ⊥
 StandsFor (streamer s) st ks = ⊥
 StandsFor tally st ks = ⊥
-StandsFor (fused a b at) st ks = StandsFor a (take (privates a) st) (take (privates a) ks) × StandsFor b (drop (privates a) st) (drop (privates a) ks)
+StandsFor (fused a b at) st ks = ⊥
 
 -- the item is a row
 pub record IsRow (x : item.Item) : Type 0 where
@@ -114,9 +115,8 @@ pub record Keeps (k : Kern) (reads : List QueueType) (st : List State) : Type 0 
   pub stands : StandsFor k st kept
   pub holds : Holds k reads kept
 
--- a kernel on rows is well formed, and the states with what they keep fit it under these types of its input ports
+-- the kernel fits these types of its input ports, and the states keep what is of them
 pub record Fitted (k : Kern) (reads : List QueueType) (st : List State) : Type 0 where
-  pub on_rows : IsOnRows k
   pub writes : List QueueType
   pub vars : List VarKind
   pub fits : Fits k reads writes vars
@@ -127,12 +127,6 @@ pub record Takes (k : Kern) (port : ℕ) (x : item.Item) (st : List State) : Typ
   pub reads : List QueueType
   pub fitted : Fitted k reads st
   pub item : IsOf reads port x
-
--- all these items fit the first port
-pub record TakesAll (k : Kern) (xs : List item.Item) (st : List State) : Type 0 where
-  pub reads : List QueueType
-  pub fitted : Fitted k reads st
-  pub items : All (IsOf reads 0) xs
 
 -- a firing can be made: the lists for what it gives are there
 pub record Applies (k : Kern) (port : ℕ) (x : item.Item) (st : List State) (out : Emit) : Type 0 where

@@ -1,6 +1,6 @@
 -- What came to the lists of an `Emit`.
-use Rattle.std.specs.Prelude.{◌≡◌, [], length, replicate}
-use Rattle.river_base.specs.Places.{each_grew}
+use Rattle.std.specs.Prelude.{◌≡◌, ℕ, List, [], length, replicate}
+use Rattle.river_base.specs.Places.{each_grew, list_at}
 use Rattle.river_kernels.specs.Kern.{Kern}
 use Rattle.brooklet_model.specs.Firings.{Fired}
 use Rattle.brooklet_model.specs.Fire.{outs, tabs}
@@ -20,3 +20,9 @@ pub record HasRoom (k : Kern) (e : Emit) : Type 0 where
 pub record IsBlank (k : Kern) (e : Emit) : Type 0 where
   pub outs : e.outs ≡ replicate (outs k) []
   pub adds : e.adds ≡ replicate (tabs k) []
+
+-- lists of two kernels, put together by `join`, of which one was taken out: the others are as they were
+pub record StayApart {A : Type 0} (join : (ℕ → List A) → (ℕ → List A) → ℕ → List A) (taken : ℕ) (first first' second second' : List (List A)) : Type 0 where
+  pub many : length first' ≡ length first
+  pub many_more : length second' ≡ length second
+  pub others : (q : ℕ) → (q ≡ taken → ⊥) → join (list_at first') (list_at second') q ≡ join (list_at first) (list_at second) q

@@ -1,5 +1,5 @@
 -- What a machine keeps, and the state of the definition that it stands for.
-use Rattle.std.specs.Prelude.{◌≡◌, ℕ, ℤ, pos, ◌<◌, false, min, List, [], ◌∷◌, ◌++◌, length, map, Some, All, slice_get, slice_index_or}
+use Rattle.std.specs.Prelude.{◌≡◌, ℕ, ℤ, pos, ◌<◌, false, min, List, [], ◌∷◌, ◌++◌, length, map, drop, ◌≤◌, Some, All, slice_get, slice_index_or}
 use Rattle.river_base.specs.declared.item.Item as item
 use Rattle.river_base.specs.declared.kind.QueueType.{QueueType}
 use Rattle.river_base.specs.Held.{held, HasType, IsHeld}
@@ -7,24 +7,23 @@ use Rattle.river_base.specs.Places.{list_at}
 use Rattle.river_plan.specs.Forms.{Name, OpForm, PlanForm, all_decls, table_names, queue_names}
 use Rattle.river_plan.specs.Kinds.{kind_of}
 use Rattle.river_plan.specs.Names.{count}
+use Rattle.river_plan.specs.Uses.{total, reads_it}
 use Rattle.river_plan.specs.Valid.{IsPlan}
 use Rattle.brooklet_model.specs.Histories.{most_firings}
 use Rattle.brooklet_model.specs.Machine.{Machine, Step, Run, start, times}
 use Rattle.brooklet_model.specs.Laws.{given_to}
 use Rattle.brooklet_model.specs.Traced.{Traced}
-use Rattle.brooklet_model.specs.Typed.{IsBuilt, AreInputs}
+use Rattle.brooklet_model.specs.Typed.{AreInputs}
 use Rattle.brooklet_model.specs.Words.{Word}
 use Rattle.brooklet_step.specs.declared.machine.Parts.{Parts}
 use Rattle.brooklet_step.specs.declared.state.State.{State}
+use Rattle.brooklet_step.specs.Built.{IsBuilt}
 use Rattle.brooklet_step.specs.ByPlace.{place, places}
 use Rattle.brooklet_step.specs.Given.{AreTyped, FitState, StandsAfter}
 
--- all items ever put into a queue, and how many of them were taken
-abbrev pub hist_of : Parts → Name → List item.Item
-hist_of m q = list_at m.queues (place (queue_names m.plan) q)
-
-abbrev pub taken_of : Parts → Name → ℕ
-taken_of m q = slice_index_or m.taken (place (queue_names m.plan) q) 0
+-- what is kept of a queue: the items that are not taken. From an output nothing is taken, so it is the whole history
+abbrev pub queue_of : Parts → Name → List item.Item
+queue_of m q = list_at m.queues (place (queue_names m.plan) q)
 
 -- the states of an operator, and how often it fired
 abbrev pub states_of : Parts → ℕ → List State
@@ -36,11 +35,12 @@ count_of m o = slice_index_or m.counts o 0
 abbrev pub kinds_of : Parts → Name → QueueType
 kinds_of m q = kind_of (all_decls m.plan) q
 
--- the machine stands for a state of the definition: its queues hold what queues of their types hold for the histories, as many
--- items were taken, and some firings of each operator led to that state, after which the operator's states stand
+-- the machine stands for a state of the definition: of each queue it keeps what queues of its type hold for the history, without
+-- as many items as were taken, and some firings of each operator led to that state, after which the operator's states stand
 pub record Stands (m : Parts) (s : Machine) : Type 0 where
-  pub hist : (q : Name) → 0 < count q (queue_names m.plan) → hist_of m q ≡ held (kinds_of m q) [] (s.hist q)
-  pub taken : (q : Name) → 0 < count q (queue_names m.plan) → s.taken q ≡ taken_of m q
+  pub left : (q : Name) → 0 < count q (queue_names m.plan) → queue_of m q ≡ drop (s.taken q) (held (kinds_of m q) [] (s.hist q))
+  pub within : (q : Name) → s.taken q ≤ length (s.hist q)
+  pub unread : (q : Name) → total (reads_it q) m.plan.ops ≡ 0 → s.taken q ≡ 0
   pub typed : (q : Name) → All (HasType (kinds_of m q)) (s.hist q)
   pub inputs : List (List item.Item)
   pub words : ℕ → Word
@@ -59,7 +59,7 @@ pub record IsEnabled (m : Parts) (o port : ℕ) : Type 0 where
   pub running : m.stopped ≡ false
   pub queue : Name
   pub reads : ReadsAt m.plan o port queue
-  pub item : taken_of m queue < length (hist_of m queue)
+  pub item : 0 < length (queue_of m queue)
 
 -- the counts are those of the firings of a run
 abbrev pub Counts : Parts → List (ℕ × ℕ) → Type 0
@@ -76,7 +76,6 @@ pub record Ran (m : Parts) (inputs : List (List item.Item)) : Type 0 where
 -- there is a list for each queue and for each operator, and the places of the queues are known
 pub record IsLaidOut (m : Parts) : Type 0 where
   pub queues : length m.queues ≡ length (queue_names m.plan)
-  pub taken : length m.taken ≡ length (queue_names m.plan)
   pub states : length m.states ≡ length m.plan.ops
   pub counts : length m.counts ≡ length m.plan.ops
   pub reads : m.reads ≡ map (λ op. places (queue_names m.plan) op.reads) m.plan.ops
@@ -88,7 +87,7 @@ pub record GoesOn (m : Parts) : Type 0 where
   pub built : IsBuilt m.plan
   pub laid_out : IsLaidOut m
   pub fit : (o : ℕ) (op : OpForm) → slice_get m.plan.ops o ≡ Some op → FitState op.kernel (map (kinds_of m) op.reads) (states_of m o)
-  pub items : (q : Name) → 0 < count q (queue_names m.plan) → All (IsHeld (kinds_of m q)) (hist_of m q)
+  pub items : (q : Name) → 0 < count q (queue_names m.plan) → All (IsHeld (kinds_of m q)) (queue_of m q)
   pub inputs : List (List item.Item)
   pub typed : AreInputs m.plan.inputs inputs
   pub ran : Ran m inputs

@@ -1,12 +1,14 @@
 // What firings give.
-ghost use Rattle.std.specs.Prelude.{◌≡◌, ◌+◌, ◌<◌, ◌^◌, [], ◌∷◌, length, replicate, All, IfOk, OnOk};
-ghost use Rattle.river_base.specs.Places.{each_grew, none, list_at};
+ghost use Rattle.std.specs.Prelude.{◌≡◌, ◌+◌, ◌<◌, ◌≤◌, ◌^◌, [], ◌∷◌, length, replicate, slice_set, All, IfOk, OnOk};
+ghost use Rattle.river_base.specs.Places.{each_grew, upto, none, list_at};
 ghost use Rattle.kern_rows.specs.Runs.{pushed_to};
 ghost use Rattle.brooklet_model.specs.Firings.{gives, splice as splice_lem, beside};
-ghost use Rattle.brooklet_step.specs.Took.{Took};
+ghost use Rattle.brooklet_step.specs.Took.{Took, StayApart};
 
+use kern_rows::Line;
 use river_base::{Duplicate, Flat, Item, Items, Listed, NoMemory, Rows};
 use std::alloc::Global;
+use std::mem::replace;
 use work_code::Emitted;
 
 /// Lists of items, one for each port.
@@ -24,7 +26,7 @@ pub struct Emit {
 
 impl Emit {
     /// Empty lists, for so many ports and tables.
-    pub fn blank(alloc: Global, ports: usize, tables: usize) -> Result<Emit, NoMemory>
+    pub(crate) fn blank(alloc: Global, ports: usize, tables: usize) -> Result<Emit, NoMemory>
         ensures outs { IfOk result (λ emit. emit.outs ≡ replicate ports []) }
         ensures adds { IfOk result (λ emit. emit.adds ≡ replicate tables []) }
     {
@@ -35,7 +37,7 @@ impl Emit {
     }
 
     /// One more item at a port.
-    pub fn give(&mut self, port: usize, item: Item) -> Result<(), NoMemory>
+    pub(crate) fn give(&mut self, port: usize, item: Item) -> Result<(), NoMemory>
         requires { port < length self.old.outs }
         ensures { OnOk result (Took self.old self.new (gives port (item ∷ []) [])) }
     {
@@ -44,7 +46,7 @@ impl Emit {
     }
 
     /// These items at a port.
-    pub fn give_all(&mut self, port: usize, items: Items) -> Result<(), NoMemory>
+    pub(crate) fn give_all(&mut self, port: usize, items: Items) -> Result<(), NoMemory>
         requires { port < length self.old.outs }
         ensures { OnOk result (Took self.old self.new (gives port items [])) }
     {
@@ -53,18 +55,20 @@ impl Emit {
     }
 
     /// An item for every port: copies, and the item itself at the last.
-    pub fn give_everywhere(&mut self, alloc: Global, item: &Item) -> Result<(), NoMemory>
-        ensures outs { OnOk result (self.new.outs ≡ each_grew self.old.outs (λ port. item.now ∷ [])) }
+    pub(crate) fn give_everywhere(&mut self, alloc: Global, item: Item) -> Result<(), NoMemory>
+        ensures outs { OnOk result (self.new.outs ≡ each_grew self.old.outs (λ port. item ∷ [])) }
         ensures adds { OnOk result (self.new.adds ≡ self.old.adds) }
     {
-        for port in 0..self.outs.len() {
-            self.outs.push_at(port, item.copy(alloc)?)?;
+        let last = self.outs.len().saturating_sub(1);
+        copy_below(alloc, &mut self.outs, last, &item)?;
+        if last < self.outs.len() {
+            self.outs.push_at(last, item)?;
         }
         Ok(())
     }
 
     /// The rows that a body pushed, each at its port.
-    pub fn give_pushes(&mut self, pushes: &Emitted) -> Result<(), NoMemory>
+    pub(crate) fn give_pushes(&mut self, pushes: &Emitted) -> Result<(), NoMemory>
         requires { All (λ push. push.0 < length self.old.outs) pushes.now }
         ensures outs { OnOk result (self.new.outs ≡ each_grew self.old.outs (λ port. pushed_to port pushes.now)) }
         ensures adds { OnOk result (self.new.adds ≡ self.old.adds) }
@@ -76,83 +80,134 @@ impl Emit {
         Ok(())
     }
 
-    /// The items of the ports of a first kernel, with those of a second one in place of port `at`, and the rows of both.
-    pub fn splice(
-        &mut self,
-        alloc: Global,
-        first: &Emit,
-        second: &Emit,
-        at: usize,
-    ) -> Result<(), NoMemory>
-        requires place { at < length first.now.outs }
-        requires ports { length self.old.outs + 1 ≡ length first.now.outs + length second.now.outs }
-        requires tables { length self.old.adds ≡ length first.now.adds + length second.now.adds }
-        ensures outs { OnOk result (self.new.outs ≡ each_grew self.old.outs (splice_lem at (length second.now.outs) (list_at first.now.outs) (list_at second.now.outs))) }
-        ensures adds { OnOk result (self.new.adds ≡ each_grew self.old.adds (beside (length first.now.adds) (list_at first.now.adds) (list_at second.now.adds))) }
+    /// What was given at a port, in a line; nothing is left there.
+    pub(crate) fn take_port(&mut self, alloc: Global, port: usize) -> Line
+        requires { port < length self.old.outs }
+        ensures taken { result ≡ list_at self.old.outs port }
+        ensures outs { self.new.outs ≡ slice_set self.old.outs port [] }
+        ensures adds { self.new.adds ≡ self.old.adds }
     {
-        self.splice_items(alloc, first, second, at)?;
-        self.join_rows(alloc, first, second)?;
-        Ok(())
+        Line::from_items(take_list(alloc, &mut self.outs, port))
     }
 
-    fn splice_items(
+    /// The items of the ports of a first kernel, with those of a second one in place of port `at`, and the rows of both. They are
+    /// moved, and nothing is said of what is left of the two.
+    pub(crate) fn splice(
         &mut self,
         alloc: Global,
-        first: &Emit,
-        second: &Emit,
+        first: &mut Emit,
+        second: &mut Emit,
         at: usize,
     ) -> Result<(), NoMemory>
-        requires place { at < length first.now.outs }
-        requires ports { length self.old.outs + 1 ≡ length first.now.outs + length second.now.outs }
-        ensures outs { OnOk result (self.new.outs ≡ each_grew self.old.outs (splice_lem at (length second.now.outs) (list_at first.now.outs) (list_at second.now.outs))) }
-        ensures adds { OnOk result (self.new.adds ≡ self.old.adds) }
+        requires place { at < length first.old.outs }
+        requires ports { length self.old.outs + 1 ≡ length first.old.outs + length second.old.outs }
+        requires tables { length self.old.adds ≡ length first.old.adds + length second.old.adds }
+        ensures outs { OnOk result (self.new.outs ≡ each_grew self.old.outs (splice_lem at (length second.old.outs) (list_at first.old.outs) (list_at second.old.outs))) }
+        ensures adds { OnOk result (self.new.adds ≡ each_grew self.old.adds (beside (length first.old.adds) (list_at first.old.adds) (list_at second.old.adds))) }
     {
-        for port in 0..self.outs.len() {
-            self.outs
-                .extend_at(port, spliced_port(first, second, at, port).copy(alloc)?)?;
-        }
-        Ok(())
-    }
-
-    fn join_rows(&mut self, alloc: Global, first: &Emit, second: &Emit) -> Result<(), NoMemory>
-        requires { length self.old.adds ≡ length first.now.adds + length second.now.adds }
-        ensures outs { OnOk result (self.new.outs ≡ self.old.outs) }
-        ensures adds { OnOk result (self.new.adds ≡ each_grew self.old.adds (beside (length first.now.adds) (list_at first.now.adds) (list_at second.now.adds))) }
-    {
-        for table in 0..self.adds.len() {
-            self.adds
-                .extend_at(table, joined_table(first, second, table).copy(alloc)?)?;
-        }
+        splice_items(alloc, &mut self.outs, &mut first.outs, &mut second.outs, at)?;
+        join_rows(alloc, &mut self.adds, &mut first.adds, &mut second.adds)?;
         Ok(())
     }
 }
 
-// The items of one port of two kernels.
-fn spliced_port<'a>(first: &'a Emit, second: &'a Emit, at: usize, port: usize) -> &'a Items
-    requires place { at < length first.now.outs }
-    requires port { port + 1 < length first.now.outs + length second.now.outs }
+// A copy of the item for each port below this one.
+fn copy_below(
+    alloc: Global,
+    outs: &mut ItemLists,
+    ports: usize,
+    item: &Item,
+) -> Result<(), NoMemory>
+    requires { ports ≤ length outs.old }
+    ensures { OnOk result (outs.new ≡ each_grew outs.old (upto ports (λ port. item.now ∷ []))) }
+{
+    for port in 0..ports {
+        outs.push_at(port, item.copy(alloc)?)?;
+    }
+    Ok(())
+}
+
+// The list at a place; nothing is left there.
+pub(crate) fn take_list<T: Drop>(
+    alloc: Global,
+    lists: &mut Listed<Listed<T>>,
+    place: usize,
+) -> Listed<T>
+    requires { place < length lists.old }
+    ensures taken { result ≡ list_at lists.old place }
+    ensures left { lists.new ≡ slice_set lists.old place [] }
+{
+    replace(lists.at_mut(place), Listed::new(alloc))
+}
+
+// The items of the ports of two kernels move to the ports of the two as one.
+fn splice_items(
+    alloc: Global,
+    outs: &mut ItemLists,
+    first: &mut ItemLists,
+    second: &mut ItemLists,
+    at: usize,
+) -> Result<(), NoMemory>
+    requires place { at < length first.old }
+    requires ports { length outs.old + 1 ≡ length first.old + length second.old }
+    ensures { OnOk result (outs.new ≡ each_grew outs.old (splice_lem at (length second.old) (list_at first.old) (list_at second.old))) }
+{
+    for port in 0..outs.len() {
+        outs.extend_at(port, spliced_port(alloc, first, second, at, port))?;
+    }
+    Ok(())
+}
+
+// The rows for the tables of two kernels move to the tables of the two as one.
+fn join_rows(
+    alloc: Global,
+    adds: &mut RowLists,
+    first: &mut RowLists,
+    second: &mut RowLists,
+) -> Result<(), NoMemory>
+    requires { length adds.old ≡ length first.old + length second.old }
+    ensures { OnOk result (adds.new ≡ each_grew adds.old (beside (length first.old) (list_at first.old) (list_at second.old))) }
+{
+    for table in 0..adds.len() {
+        adds.extend_at(table, joined_table(alloc, first, second, table))?;
+    }
+    Ok(())
+}
+
+// The items of one port of two kernels; those of the others stay.
+fn spliced_port(
+    alloc: Global,
+    first: &mut ItemLists,
+    second: &mut ItemLists,
+    at: usize,
+    port: usize,
+) -> Items
+    requires place { at < length first.old }
+    requires port { port + 1 < length first.old + length second.old }
     requires fits { port + 1 < 2 ^ 64 }
-    ensures { result.now ≡ splice_lem at (length second.now.outs) (list_at first.now.outs) (list_at second.now.outs) port }
+    ensures taken { result ≡ splice_lem at (length second.old) (list_at first.old) (list_at second.old) port }
+    ensures left { StayApart (splice_lem at (length second.old)) port first.old first.new second.old second.new }
 {
-    let ports = second.outs.len();
+    let ports = second.len();
     if port < at {
-        first.outs.at(port)
+        take_list(alloc, first, port)
     } else if port - at < ports {
-        second.outs.at(port - at)
+        take_list(alloc, second, port - at)
     } else {
-        first.outs.at(port - ports + 1)
+        take_list(alloc, first, port - ports + 1)
     }
 }
 
-// The rows for one table of two kernels.
-fn joined_table<'a>(first: &'a Emit, second: &'a Emit, table: usize) -> &'a Rows
-    requires { table < length first.now.adds + length second.now.adds }
-    ensures { result.now ≡ beside (length first.now.adds) (list_at first.now.adds) (list_at second.now.adds) table }
+// The rows for one table of two kernels; those for the others stay.
+fn joined_table(alloc: Global, first: &mut RowLists, second: &mut RowLists, table: usize) -> Rows
+    requires { table < length first.old + length second.old }
+    ensures taken { result ≡ beside (length first.old) (list_at first.old) (list_at second.old) table }
+    ensures left { StayApart (beside (length first.old)) table first.old first.new second.old second.new }
 {
-    let tables = first.adds.len();
+    let tables = first.len();
     if table < tables {
-        first.adds.at(table)
+        take_list(alloc, first, table)
     } else {
-        second.adds.at(table - tables)
+        take_list(alloc, second, table - tables)
     }
 }

@@ -1,7 +1,7 @@
 // One firing of a kernel.
 ghost use Rattle.std.specs.Prelude.{◌≡◌, ◌∷◌, [], ◌++◌, IfOk, OnOk};
 ghost use Rattle.river_base.specs.Held.{flats as flats_in};
-ghost use Rattle.river_kernels.specs.Kern.{kern_of};
+ghost use Rattle.river_kernels.specs.Kern.{kern_of, packed, fused};
 ghost use Rattle.brooklet_step.specs.Took.{IsBlank};
 ghost use Rattle.brooklet_step.specs.Given.{CanTake, CanTakeAll, FiresAt, FiresEach};
 
@@ -9,7 +9,8 @@ use crate::counts::{outs_of, privates_of, tabs_of};
 use crate::emit::Emit;
 use crate::single::{fire_leaf, is_leaf};
 use crate::state::{State, States};
-use river_base::{Duplicate, Flats, Item, Items, NoMemory};
+use kern_rows::Line;
+use river_base::{Flats, Item, NoMemory};
 use river_plan::Kernel;
 use std::alloc::Global;
 
@@ -22,32 +23,35 @@ pub fn blank_for(alloc: Global, kernel: &Kernel) -> Result<Emit, NoMemory>
     Emit::blank(alloc, ports, tables)
 }
 
-// The items that are no packs.
-fn flats_of(alloc: Global, items: &Items) -> Result<Flats, NoMemory>
-    ensures { IfOk result (λ all. all ≡ flats_in items.now) }
+// The items that are no packs; none is left in the line.
+fn flats_of(alloc: Global, items: &mut Line) -> Result<Flats, NoMemory>
+    ensures { IfOk result (λ all. all ≡ flats_in items.old) }
 {
     let mut all = Flats::new(alloc);
-    for item in items.as_slice() {
-        add_flat(alloc, item, &mut all)?;
+    while let Some(item) = items.pop() {
+        add_flat(item, &mut all)?;
     }
     Ok(all)
 }
 
 // An item that is no pack comes to the others.
-fn add_flat(alloc: Global, item: &Item, all: &mut Flats) -> Result<(), NoMemory>
-    ensures { OnOk result (all.new ≡ all.old ++ flats_in (item.now ∷ [])) }
+fn add_flat(item: Item, all: &mut Flats) -> Result<(), NoMemory>
+    ensures { OnOk result (all.new ≡ all.old ++ flats_in (item ∷ [])) }
 {
     match item {
         Item::Flat(flat) => {
-            all.push(flat.copy(alloc)?)?;
+            all.push(flat)?;
             Ok(())
         }
         Item::Pack(_) => Ok(()),
     }
 }
 
-/// One firing of a kernel on an item at a port: what it gives is appended to the lists of `out`, and the states are
-/// those after it. Where there is no memory, nothing is said of the states and the lists.
+/// One firing of a kernel on an item at a port, appended to the lists of `out`. Whatever word of firings the states stand for,
+/// and whatever item the queue holds this one for, the lists grow by what queues hold for what the definition gives, and the
+/// states stand for that word with this firing. And of the states alone, under each choice of types that they fit: what is given
+/// may be held by queues of the output ports' types, rows for tables have their widths, and the states fit again, so that the
+/// kernel can fire on any item of its types. Where there is no memory, nothing is said of the states and the lists.
 pub fn fire(
     alloc: Global,
     kernel: &Kernel,
@@ -80,41 +84,75 @@ fn fire_on(
         return Ok(());
     }
     match kernel {
-        Kernel::Packed(inner) => {
-            let mut given = Emit::blank(alloc, 1, 0)?;
-            fire_on(alloc, inner, port, item, states, &mut given)?;
-            let pack = flats_of(alloc, given.outs.at(0))?;
-            out.give(0, Item::Pack(pack))?;
-            Ok(())
-        }
+        Kernel::Packed(inner) => fire_packed(alloc, inner, port, item, states, out),
         Kernel::Fused { first, second, at } => {
-            let count = privates_of(first)?;
-            let (mine, rest) = states.split_at_mut(count);
-            let mut mid = blank_for(alloc, first)?;
-            fire_on(alloc, first, port, item, mine, &mut mid)?;
-            let mut last = blank_for(alloc, second)?;
-            fire_each(alloc, second, mid.outs.at(*at as usize), rest, &mut last)?;
-            out.splice(alloc, &mid, &last, *at as usize)?;
-            Ok(())
+            fire_fused(alloc, first, second, *at, port, item, states, out)
         }
         _ => unreachable!(),
     }
 }
 
-// A firing on each of these items, at the first port.
+// A firing of a kernel whose items go into a pack.
+#[cycle(fire_on)]
+fn fire_packed(
+    alloc: Global,
+    inner: &Kernel,
+    port: u32,
+    item: Item,
+    states: &mut [State],
+    out: &mut Emit,
+) -> Result<(), NoMemory>
+    requires { CanTake (packed (kern_of inner.now)) port item states.old out.old }
+    ensures { OnOk result (FiresAt (packed (kern_of inner.now)) port item out.old out.new states.old states.new) }
+{
+    let mut given = Emit::blank(alloc, 1, 0)?;
+    fire_on(alloc, inner, port, item, states, &mut given)?;
+    let mut line = given.take_port(alloc, 0);
+    let pack = flats_of(alloc, &mut line)?;
+    out.give(0, Item::Pack(pack))?;
+    Ok(())
+}
+
+// A firing of two kernels, the second behind port `at` of the first.
+#[cycle(fire_on)]
+fn fire_fused(
+    alloc: Global,
+    first: &Kernel,
+    second: &Kernel,
+    at: u32,
+    port: u32,
+    item: Item,
+    states: &mut [State],
+    out: &mut Emit,
+) -> Result<(), NoMemory>
+    requires { CanTake (fused (kern_of first.now) (kern_of second.now) at) port item states.old out.old }
+    ensures { OnOk result (FiresAt (fused (kern_of first.now) (kern_of second.now) at) port item out.old out.new states.old states.new) }
+{
+    let count = privates_of(first)?;
+    let (mine, rest) = states.split_at_mut(count);
+    let mut mid = blank_for(alloc, first)?;
+    fire_on(alloc, first, port, item, mine, &mut mid)?;
+    let mut last = blank_for(alloc, second)?;
+    let mut between = mid.take_port(alloc, at as usize);
+    fire_each(alloc, second, &mut between, rest, &mut last)?;
+    out.splice(alloc, &mut mid, &mut last, at as usize)?;
+    Ok(())
+}
+
+// A firing on each of these items, at the first port; none is left in the line.
 #[cycle(fire_on)]
 fn fire_each(
     alloc: Global,
     kernel: &Kernel,
-    items: &Items,
+    items: &mut Line,
     states: &mut [State],
     out: &mut Emit,
 ) -> Result<(), NoMemory>
-    requires { CanTakeAll (kern_of kernel.now) items.now states.old out.old }
-    ensures { OnOk result (FiresEach (kern_of kernel.now) items.now out.old out.new states.old states.new) }
+    requires { CanTakeAll (kern_of kernel.now) items.old states.old out.old }
+    ensures { OnOk result (FiresEach (kern_of kernel.now) items.old out.old out.new states.old states.new) }
 {
-    for place in 0..items.len() {
-        fire_on(alloc, kernel, 0, items.at(place).copy(alloc)?, states, out)?;
+    while let Some(item) = items.pop() {
+        fire_on(alloc, kernel, 0, item, states, out)?;
     }
     Ok(())
 }

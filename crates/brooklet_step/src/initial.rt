@@ -1,17 +1,20 @@
 // A machine before its first firing.
-ghost use Rattle.std.specs.Prelude.{◌≡◌, ◌++◌, ◌∷◌, [], false, length, replicate, IfOk, OnOk};
-ghost use Rattle.river_plan.specs.Forms.{plan_form, op_forms};
-ghost use Rattle.brooklet_model.specs.Typed.{IsBuilt};
+ghost use Rattle.std.specs.Prelude.{◌≡◌, ◌++◌, ◌∷◌, [], false, length, replicate, map as mapped, IfOk, OnOk};
+ghost use Rattle.river_plan.specs.Forms.{plan_form, op_forms, queue_names};
+ghost use Rattle.brooklet_step.specs.ByPlace.{places};
+ghost use Rattle.brooklet_step.specs.Built.{IsBuilt};
 ghost use Rattle.brooklet_step.specs.Fit.{Fit};
 ghost use Rattle.brooklet_step.specs.Works.{GoesOn, Starts};
 ghost use Rattle.brooklet_step.specs.Initial.{AreFirst, CanStart};
 
-use crate::machine::Parts;
+use crate::emit::take_list;
+use crate::machine::{Lines, Parts};
 use crate::places::{Sizes, queue_places, read_places, write_places};
 use crate::start::first_states;
-use crate::{Inputs, ItemLists, States};
+use crate::{Inputs, States};
+use kern_rows::Line;
 use river_base::{Listed, NoMemory};
-use river_plan::{Ops, Plan};
+use river_plan::{Ops, Plan, RawPlan};
 use std::alloc::Global;
 
 /// What a machine keeps before the first firing.
@@ -22,22 +25,13 @@ pub(crate) fn first_parts(alloc: Global, plan: &Plan, inputs: Inputs) -> Result<
     ensures goes_on { IfOk result GoesOn }
 {
     let raw = plan.raw();
-    let map = queue_places(alloc, raw)?;
-    let before = raw.outputs.len();
-    let after = raw.queues.len();
-    let queues = first_queues(alloc, before, inputs, after)?;
-    let queue_count = queues.len();
-    let taken = zeros(alloc, queue_count)?;
-    let states = all_states(alloc, &raw.ops)?;
-    let op_count = raw.ops.len();
-    let counts = zeros(alloc, op_count)?;
-    let reads = read_places(alloc, &map, &raw.ops)?;
-    let writes = write_places(alloc, &map, &raw.ops)?;
+    let queues = first_queues(alloc, raw, inputs)?;
+    let (states, counts) = states_and_counts(alloc, &raw.ops)?;
+    let (reads, writes) = all_places(alloc, raw)?;
     let plan = plan.copy(alloc)?;
     Ok(Parts {
         plan,
         queues,
-        taken,
         states,
         counts,
         reads,
@@ -46,20 +40,58 @@ pub(crate) fn first_parts(alloc: Global, plan: &Plan, inputs: Inputs) -> Result<
     })
 }
 
-// The inputs, between so many empty queues.
-fn first_queues(
-    alloc: Global,
-    before: usize,
-    inputs: Inputs,
-    after: usize,
-) -> Result<ItemLists, NoMemory>
-    ensures { IfOk result (λ queues. queues ≡ replicate before [] ++ (inputs ++ replicate after [])) }
+// The first states of the operators, and that none has fired.
+fn states_and_counts(alloc: Global, ops: &Ops) -> Result<(Listed<States>, Sizes), NoMemory>
+    requires { CanStart (op_forms ops.now) }
+    ensures states { IfOk result (λ both. AreFirst (op_forms ops.now) both.0) }
+    ensures counts { IfOk result (λ both. both.1 ≡ replicate (length ops.now) 0) }
+{
+    let states = all_states(alloc, ops)?;
+    let counts = zeros(alloc, ops.len())?;
+    Ok((states, counts))
+}
+
+// The places of the queues that the operators read and write.
+fn all_places(alloc: Global, raw: &RawPlan) -> Result<(Listed<Sizes>, Listed<Sizes>), NoMemory>
+    ensures reads { IfOk result (λ both. both.0 ≡ mapped (λ op. places (queue_names (plan_form raw.now)) op.reads) (op_forms raw.now.ops)) }
+    ensures writes { IfOk result (λ both. both.1 ≡ mapped (λ op. places (queue_names (plan_form raw.now)) op.writes) (op_forms raw.now.ops)) }
+{
+    let map = queue_places(alloc, raw)?;
+    let reads = read_places(alloc, &map, &raw.ops)?;
+    let writes = write_places(alloc, &map, &raw.ops)?;
+    Ok((reads, writes))
+}
+
+// The first queues of a plan: the inputs' items move there, and the others are empty.
+fn first_queues(alloc: Global, raw: &RawPlan, inputs: Inputs) -> Result<Lines, NoMemory>
+    ensures { IfOk result (λ queues. queues ≡ replicate (length raw.now.outputs) [] ++ (inputs ++ replicate (length raw.now.queues) [])) }
 {
     let mut inputs = inputs;
-    let mut queues: ItemLists = Listed::blanks(alloc, before)?;
-    inputs.append(Listed::blanks(alloc, after)?)?;
-    queues.append(inputs)?;
+    let mut queues = Lines::new(alloc);
+    add_empty(alloc, &mut queues, raw.outputs.len())?;
+    add_lists(alloc, &mut queues, &mut inputs)?;
+    add_empty(alloc, &mut queues, raw.queues.len())?;
     Ok(queues)
+}
+
+// So many empty queues more.
+fn add_empty(alloc: Global, queues: &mut Lines, count: usize) -> Result<(), NoMemory>
+    ensures { OnOk result (queues.new ≡ queues.old ++ replicate count []) }
+{
+    for _i in 0..count {
+        queues.push(Line::new(alloc))?;
+    }
+    Ok(())
+}
+
+// A queue more for each list, whose items move there.
+fn add_lists(alloc: Global, queues: &mut Lines, lists: &mut Inputs) -> Result<(), NoMemory>
+    ensures { OnOk result (queues.new ≡ queues.old ++ lists.old) }
+{
+    for place in 0..lists.len() {
+        queues.push(Line::from_items(take_list(alloc, lists, place)))?;
+    }
+    Ok(())
 }
 
 // So many zeros.

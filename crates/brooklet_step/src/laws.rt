@@ -1,5 +1,6 @@
-//! Laws of firings: their order is free.
+//! Laws of firings: they chain, and their order is free.
 ghost use Rattle.brooklet_model.specs.Laws.{FusedRuns, OrderIsFree, HistoriesSolve, OneSolution, RunsAgree, HistoriesAreTyped};
+ghost use Rattle.brooklet_step.specs.Laws.{FiringsChain};
 
 /// Over any firings, a fused kernel gives what its two parts give.
 pub fn fused_runs()
@@ -26,7 +27,12 @@ pub fn runs_agree()
     ensures { RunsAgree }
 {}
 
-/// In a plan that is built, all items of all histories are of their queues' types.
+/// In a valid plan, on inputs of their types, all items of all histories are of their queues' types.
 pub fn histories_are_typed()
     ensures { HistoriesAreTyped }
+{}
+
+/// A kernel that fired can fire again: what a firing promises is what the next one asks, for any item of the same types.
+pub fn firings_chain()
+    ensures { FiringsChain }
 {}

@@ -83,14 +83,14 @@ fn pushes_of(
 pub fn fire_code(
     alloc: Global,
     kernel: &CodeKernel,
-    item: &Item,
+    item: Item,
     states: &mut [State],
     out: &mut Emit,
 ) -> Result<(), NoMemory>
-    requires { Applies (code_kern (code_form kernel.now)) 0 item.now states.old out.old }
-    ensures { OnOk result (Fires (code_kern (code_form kernel.now)) out.old out.new states.old states.new (fire_lem (code_kern (code_form kernel.now)) 0 item.now)) }
+    requires { Applies (code_kern (code_form kernel.now)) 0 item states.old out.old }
+    ensures { OnOk result (Fires (code_kern (code_form kernel.now)) out.old out.new states.old states.new (fire_lem (code_kern (code_form kernel.now)) 0 item)) }
 {
-    let pushes = pushes_of(alloc, kernel, item, states)?;
+    let pushes = pushes_of(alloc, kernel, &item, states)?;
     out.give_pushes(&pushes)?;
     Ok(())
 }
@@ -111,17 +111,18 @@ fn items_of(alloc: Global, values: &Numbers) -> Result<Items, NoMemory>
 pub fn fire_filter(
     alloc: Global,
     filter: &Filter,
-    item: &Item,
+    item: Item,
     state: &mut State,
     out: &mut Emit,
 ) -> Result<(), NoMemory>
-    requires { Applies (filter_kern (filter_form filter.now)) 0 item.now (state.old ∷ []) out.old }
-    ensures { OnOk result (Fires (filter_kern (filter_form filter.now)) out.old out.new (state.old ∷ []) (state.new ∷ []) (fire_lem (filter_kern (filter_form filter.now)) 0 item.now)) }
+    requires { Applies (filter_kern (filter_form filter.now)) 0 item (state.old ∷ []) out.old }
+    ensures { OnOk result (Fires (filter_kern (filter_form filter.now)) out.old out.new (state.old ∷ []) (state.new ∷ []) (fire_lem (filter_kern (filter_form filter.now)) 0 item)) }
 {
     match state {
         State::Filter(state) => {
+            let value = row_of(&item).values()[0];
             let mut values = Numbers::new(alloc);
-            filter.step(alloc, state, row_of(item).values()[0], &mut values)?;
+            filter.step(alloc, state, value, &mut values)?;
             out.give_all(0, items_of(alloc, &values)?)?;
             Ok(())
         }

@@ -22,7 +22,7 @@ pub use emit::{Emit, ItemLists, RowLists};
 pub use firing::fire;
 pub use inputs::{Inputs, fits};
 pub use kinds::{built, item_fits};
-pub use machine::{Machine, Parts};
+pub use machine::{Lines, Machine, Parts};
 pub use places::Sizes;
 pub use run::{Outcome, run_one};
 pub use start::first_states;

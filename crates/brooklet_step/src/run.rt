@@ -3,7 +3,7 @@ ghost use Rattle.std.specs.Prelude.{◌≡◌, ℕ, pos, ◌<◌, false, length,
 ghost use Rattle.river_plan.specs.Valid.{IsPlan};
 ghost use Rattle.brooklet_model.specs.Histories.{firings};
 ghost use Rattle.brooklet_model.specs.Meaning.{meaning};
-ghost use Rattle.brooklet_model.specs.Typed.{IsBuilt};
+ghost use Rattle.brooklet_step.specs.Built.{IsBuilt};
 ghost use Rattle.brooklet_step.specs.Drained.{IsDrained, Follows, DrainedBefore, HasPorts, HasRun};
 ghost use Rattle.brooklet_step.specs.Fit.{Fit};
 

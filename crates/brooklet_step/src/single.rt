@@ -48,30 +48,14 @@ pub fn fire_leaf(
     ensures { OnOk result (Fires (kern_of kernel.now) out.old out.new states.old states.new (fire_lem (kern_of kernel.now) port item)) }
 {
     match kernel {
-        Kernel::Code(code) => {
-            fire_code(alloc, code, &item, states, out)?;
-            Ok(())
-        }
-        Kernel::Filter(filter) => {
-            fire_filter(alloc, filter, &item, &mut states[0], out)?;
-            Ok(())
-        }
-        Kernel::Duplicate(_) => {
-            out.give_everywhere(alloc, &item)?;
-            Ok(())
-        }
-        Kernel::Deal(weights) => {
-            fire_deal(weights, item, &mut states[0], out)?;
-            Ok(())
-        }
+        Kernel::Code(code) => fire_code(alloc, code, item, states, out),
+        Kernel::Filter(filter) => fire_filter(alloc, filter, item, &mut states[0], out),
+        Kernel::Duplicate(_) => out.give_everywhere(alloc, item),
+        Kernel::Deal(weights) => fire_deal(weights, item, &mut states[0], out),
         Kernel::Collect(weights) => {
-            fire_collect(alloc, weights, port, item, &mut states[0], out)?;
-            Ok(())
+            fire_collect(alloc, weights, port, item, &mut states[0], out)
         }
-        Kernel::Unpack(ports) => {
-            fire_unpack(alloc, *ports, port, item, &mut states[0], out)?;
-            Ok(())
-        }
+        Kernel::Unpack(ports) => fire_unpack(alloc, *ports, port, item, &mut states[0], out),
         Kernel::Packed(_)
         | Kernel::Fused { .. }
         | Kernel::Window(_)

@@ -8,14 +8,16 @@ ghost use Rattle.river_kernels.specs.Kern.{kern_of};
 ghost use Rattle.brooklet_model.specs.Firings.{Buffered, Turn};
 ghost use Rattle.brooklet_model.specs.Fire.{first_kept, first_slots};
 ghost use Rattle.brooklet_model.specs.Shapes.{IsFormed};
-ghost use Rattle.brooklet_model.specs.Typed.{IsOnRows};
 ghost use Rattle.brooklet_step.specs.declared.state.State.TheVariants as variant;
+ghost use Rattle.brooklet_step.specs.Built.{IsOnRows};
+ghost use Rattle.brooklet_step.specs.Given.{IsLeaf};
 ghost use Rattle.brooklet_step.specs.Took.{IsBlank};
 ghost use Rattle.brooklet_step.specs.Initial.{IsFirst};
 ghost use Rattle.brooklet_step.specs.Stands.{StandsFor, StandsForSlots, StandsForFilter, StandsForTurn};
 
 use crate::emit::Emit;
 use crate::firing::blank_for;
+use crate::single::is_leaf;
 use crate::state::{State, States};
 use kern_rows::{CodeKernel, Collect, Deal, Filter, Unpack};
 use river_base::{NoMemory, Numbers};
@@ -76,44 +78,22 @@ fn unpack_states(alloc: Global, ports: u32) -> Result<States, NoMemory>
     Ok(states)
 }
 
-fn states_of(alloc: Global, kernel: &Kernel) -> Result<States, NoMemory>
+// The first states of a kernel without a kernel inside.
+fn leaf_states(alloc: Global, kernel: &Kernel) -> Result<States, NoMemory>
+    requires leaf { IsLeaf (kern_of kernel.now) }
     requires formed { IsFormed (kern_of kernel.now) }
-    requires on_rows { IsOnRows (kern_of kernel.now) }
     ensures { IfOk result (λ states. StandsFor (kern_of kernel.now) states (first_kept (kern_of kernel.now))) }
 {
     match kernel {
-        Kernel::Code(code) => {
-            let states = code_states(alloc, code)?;
-            Ok(states)
-        }
-        Kernel::Filter(filter) => {
-            let states = filter_states(alloc, filter)?;
-            Ok(states)
-        }
+        Kernel::Code(code) => code_states(alloc, code),
+        Kernel::Filter(filter) => filter_states(alloc, filter),
         Kernel::Duplicate(_) => Ok(States::new(alloc)),
-        Kernel::Deal(weights) => {
-            let states = deal_states(alloc, weights)?;
-            Ok(states)
-        }
-        Kernel::Collect(weights) => {
-            let states = collect_states(alloc, weights)?;
-            Ok(states)
-        }
-        Kernel::Unpack(ports) => {
-            let states = unpack_states(alloc, *ports)?;
-            Ok(states)
-        }
-        Kernel::Packed(inner) => {
-            let states = states_of(alloc, inner)?;
-            Ok(states)
-        }
-        Kernel::Fused { first, second, .. } => {
-            let mut states = states_of(alloc, first)?;
-            let more = states_of(alloc, second)?;
-            states.append(more)?;
-            Ok(states)
-        }
-        Kernel::Window(_)
+        Kernel::Deal(weights) => deal_states(alloc, weights),
+        Kernel::Collect(weights) => collect_states(alloc, weights),
+        Kernel::Unpack(ports) => unpack_states(alloc, *ports),
+        Kernel::Packed(_)
+        | Kernel::Fused { .. }
+        | Kernel::Window(_)
         | Kernel::Select(_)
         | Kernel::Project(_)
         | Kernel::Cross
@@ -122,7 +102,31 @@ fn states_of(alloc: Global, kernel: &Kernel) -> Result<States, NoMemory>
     }
 }
 
-/// The states of a kernel before its first firing, and an empty list for each of its ports and tables.
+fn states_of(alloc: Global, kernel: &Kernel) -> Result<States, NoMemory>
+    requires formed { IsFormed (kern_of kernel.now) }
+    requires on_rows { IsOnRows (kern_of kernel.now) }
+    ensures { IfOk result (IsFirst (kern_of kernel.now)) }
+{
+    if is_leaf(kernel) {
+        let states = leaf_states(alloc, kernel)?;
+        return Ok(states);
+    }
+    match kernel {
+        Kernel::Packed(inner) => {
+            let states = states_of(alloc, inner)?;
+            Ok(states)
+        }
+        Kernel::Fused { first, second, .. } => {
+            let mut states = states_of(alloc, first)?;
+            states.append(states_of(alloc, second)?)?;
+            Ok(states)
+        }
+        _ => unreachable!(),
+    }
+}
+
+/// The states of a kernel before its first firing, and an empty list for each of its ports and tables. The states stand for those
+/// of the definition after no firing, and under each choice of types that the kernel fits they fit again: the kernel can fire.
 pub fn first_states(alloc: Global, kernel: &Kernel) -> Result<(States, Emit), NoMemory>
     requires formed { IsFormed (kern_of kernel.now) }
     requires on_rows { IsOnRows (kern_of kernel.now) }

@@ -1,17 +1,17 @@
 // One firing of an operator of a machine.
-ghost use Rattle.std.specs.Prelude.{◌≡◌, ◌↔◌, ℕ, ◌+◌, ◌-◌, ◌<◌, ◌≤◌, true, false, min, length, IsTrue, Some, IfOk, OnOk, OnErr, slice_get, slice_index_or, slice_set};
-ghost use Rattle.river_base.specs.Places.{each_grew, list_at};
+ghost use Rattle.std.specs.Prelude.{◌≡◌, ◌↔◌, ℕ, ◌+◌, ◌<◌, ◌≤◌, true, false, min, length, IsTrue, IfOk, OnOk, OnErr, slice_index_or, slice_set};
+ghost use Rattle.river_base.specs.Places.{append_at, each_grew, list_at};
 ghost use Rattle.brooklet_model.specs.Histories.{most_firings};
 ghost use Rattle.brooklet_step.specs.ByPlace.{joined_at};
 ghost use Rattle.brooklet_step.specs.Works.{GoesOn, IsEnabled, Steps};
-ghost use Rattle.brooklet_step.specs.Reading.{IsPlaceRead, CanFire, FiredOp};
+ghost use Rattle.brooklet_step.specs.Reading.{IsPlaceRead, IsFront, CanFire, FiredOp};
 
-use crate::counts::{outs_of, tabs_of};
-use crate::firing::fire;
-use crate::machine::Parts;
+use crate::emit::take_list;
+use crate::firing::{blank_for, fire};
+use crate::machine::{Lines, Parts};
 use crate::places::Sizes;
 use crate::{Emit, ItemLists, States};
-use river_base::{Duplicate, Item, NoMemory};
+use river_base::{Item, Items, NoMemory};
 use river_plan::Plan;
 use std::alloc::Global;
 
@@ -25,7 +25,7 @@ pub(crate) fn is_enabled(parts: &Parts, op: usize, port: usize) -> bool
     ensures { IsTrue result ↔ IsEnabled parts.now op port }
 {
     match place_read(parts, op, port) {
-        Some(place) => waiting(parts, place) > 0,
+        Some(place) => parts.queues.at(place).len() > 0,
         None => false,
     }
 }
@@ -44,19 +44,6 @@ fn place_read(parts: &Parts, op: usize, port: usize) -> Option<usize>
     None
 }
 
-// How many items of a queue are not taken.
-fn waiting(parts: &Parts, place: usize) -> usize
-    requires queues { place < length parts.now.queues }
-    requires taken { place < length parts.now.taken }
-    ensures { result ≡ length (list_at parts.now.queues place) - slice_index_or parts.now.taken place 0 }
-{
-    parts
-        .queues
-        .at(place)
-        .len()
-        .saturating_sub(*parts.taken.at(place))
-}
-
 /// One firing of an operator on the front item of the queue at one of its ports; where it is refused the machine is stopped.
 pub(crate) fn fire_next(
     alloc: Global,
@@ -72,8 +59,8 @@ pub(crate) fn fire_next(
 {
     parts.stopped = true;
     let queue = *parts.reads.at(op as usize).at(port as usize);
-    let (item, next) = front(alloc, &parts.queues, &parts.taken, queue)?;
-    let out = fire_op(
+    let item = front(&mut parts.queues, queue);
+    let mut out = fire_op(
         alloc,
         &parts.plan,
         op,
@@ -85,33 +72,23 @@ pub(crate) fn fire_next(
         alloc,
         &mut parts.queues,
         parts.writes.at(op as usize),
-        &out.outs,
+        &mut out.outs,
     )?;
-    *parts.taken.at_mut(queue) = next;
     count_one(&mut parts.counts, op as usize);
     parts.stopped = false;
     Ok(())
 }
 
-// A copy of the front item of a queue, and how many items are taken with it.
-fn front(
-    alloc: Global,
-    queues: &ItemLists,
-    taken: &Sizes,
-    queue: usize,
-) -> Result<(Item, usize), NoMemory>
-    requires queues { queue < length queues.now }
-    requires taken { queue < length taken.now }
-    requires item { slice_index_or taken.now queue 0 < length (list_at queues.now queue) }
-    ensures item { IfOk result (λ r. slice_get (list_at queues.now queue) (slice_index_or taken.now queue 0) ≡ Some r.0) }
-    ensures next { IfOk result (λ r. r.1 ≡ slice_index_or taken.now queue 0 + 1) }
+// The front item of a queue, which leaves it.
+fn front(queues: &mut Lines, queue: usize) -> Item
+    requires queue { queue < length queues.old }
+    requires item { 0 < length (list_at queues.old queue) }
+    ensures { IsFront queues.old queue result queues.new }
 {
-    let place = *taken.at(queue);
-    let items = queues.at(queue);
-    let count = items.len();
-    prove!(place < count);
-    let item = items.at(place).copy(alloc)?;
-    Ok((item, place + 1))
+    match queues.at_mut(queue).pop() {
+        Some(item) => item,
+        None => unreachable!(),
+    }
 }
 
 // What an operator gives for an item at one of its ports.
@@ -127,20 +104,29 @@ fn fire_op(
     ensures { IfOk result (FiredOp plan.now op port item states.old states.new) }
 {
     let kernel = &plan.raw().ops.at(op as usize).kernel;
-    let mut out = Emit::blank(alloc, outs_of(kernel)?, tabs_of(kernel)?)?;
+    let mut out = blank_for(alloc, kernel)?;
     fire(alloc, kernel, port, item, states, &mut out)?;
     Ok(out)
 }
 
-// Each port's items, at the end of its queue's.
-fn send(alloc: Global, queues: &mut ItemLists, to: &Sizes, outs: &ItemLists) -> Result<(), NoMemory>
-    requires ports { length to.now ≤ length outs.now }
+// Each port's items move to the end of its queue.
+fn send(alloc: Global, queues: &mut Lines, to: &Sizes, outs: &mut ItemLists) -> Result<(), NoMemory>
+    requires ports { length to.now ≤ length outs.old }
     requires places { (j : ℕ) → j < length to.now → slice_index_or to.now j 0 < length queues.old }
-    ensures { OnOk result (queues.new ≡ each_grew queues.old (joined_at to.now (list_at outs.now))) }
+    ensures { OnOk result (queues.new ≡ each_grew queues.old (joined_at to.now (list_at outs.old))) }
 {
     for port in 0..to.len() {
-        queues.extend_at(*to.at(port), outs.at(port).copy(alloc)?)?;
+        put(queues, *to.at(port), take_list(alloc, outs, port))?;
     }
+    Ok(())
+}
+
+// Items come to the end of a queue.
+fn put(queues: &mut Lines, queue: usize, items: Items) -> Result<(), NoMemory>
+    requires { queue < length queues.old }
+    ensures { OnOk result (queues.new ≡ append_at queues.old queue items) }
+{
+    queues.at_mut(queue).append(items)?;
     Ok(())
 }
 

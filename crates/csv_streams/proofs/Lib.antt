@@ -1,3 +1,4 @@
+pub mod Faulty
 pub mod Fields
 pub mod Numbered
 pub mod Records

@@ -4,7 +4,7 @@ use Rattle.std.specs.Prelude.{ℤ, Result, Ok, Err}
 use Rattle.std.proofs.lemmas.Bool.Decides.{nat_tests}
 use Rattle.std.proofs.lemmas.List.{drop-append-le, drop_all, length-drop}
 use Rattle.csv_streams.specs.Numbered.{numbered}
-use Rattle.csv_streams.specs.Rows.{row_in, rows_in, headers, most_rows, IsAnswer}
+use Rattle.csv_streams.specs.Rows.{row_in, rows_in, headers, most_rows, IsFaultTold}
 use Rattle.csv_streams.specs.declared.fault.InFault.{InFault}
 use Rattle.csv_streams.specs.declared.fault.InFault.TheVariants as fault
 use Rattle.csv_streams.proofs.Numbered.{numbered-push, numbered-fault}
@@ -55,11 +55,11 @@ within_by last rec false others row is e = grind (arith, nat_tests)
 pub row_within : (w : ℕ) (more : Bool) (last rec : ℕ) (fields : List (List ℕ)) (row : List ℤ) → row_in w more last rec fields ≡ Ok row → rec ≤ last
 row_within w more last rec fields row e = within_by last rec (nat_lt last rec) _ row refl e
 
--- the fault of a file is an answer
-pub fault_answers : (file : Result (List (List ℤ)) InFault) (f : InFault) → file ≡ Err f → IsAnswer file (Err f)
-fault_answers file fault.NoMemory e = tt
-fault_answers file fault.TooMany e = e
-fault_answers file (fault.Width rec) e = e
-fault_answers file (fault.NotNumber rec field) e = e
-fault_answers file (fault.Backwards rec) e = e
-fault_answers file (fault.NegativeTime rec) e = e
+-- the fault of a record is that of the file
+pub fault_passes : (one : Result (List ℤ) InFault) (file : Result (List (List ℤ)) InFault) (f : InFault) → IsFaultTold one f → (one ≡ Err f → file ≡ Err f) → IsFaultTold file f
+fault_passes one file fault.NoMemory h passes = tt
+fault_passes one file fault.TooMany h passes = passes h
+fault_passes one file (fault.Width rec) h passes = passes h
+fault_passes one file (fault.NotNumber rec field) h passes = passes h
+fault_passes one file (fault.Backwards rec) h passes = passes h
+fault_passes one file (fault.NegativeTime rec) h passes = passes h

@@ -20,14 +20,14 @@ value_some : (rec k : ℕ) (o : Option ℤ) (x : ℤ) → value_or rec k o ≡ O
 value_some rec k (Some y) x e = let is : y ≡ x = cc in ap (λ (z : ℤ). Some z) is
 value_some rec k None x e = cc
 
-values_read : (rec k : ℕ) (fields : List (List ℕ)) (xs : List ℤ) → numbered (value_in rec) k fields ≡ Ok xs → AllWrite fields xs
+pub values_read : (rec k : ℕ) (fields : List (List ℕ)) (xs : List ℤ) → numbered (value_in rec) k fields ≡ Ok xs → AllWrite fields xs
 values_read rec k [] [] e = tt
 values_read rec k [] (x ∷ xs) e = cc
 values_read rec k (f ∷ fs) xs e =
     let (y, ys, first, later, parts) = first_and_later (value_in rec k f) (numbered (value_in rec) (k + 1) fs) xs e in
     rw parts (read-is_written f y (value_some rec k (number_of f) y first), values_read rec (k + 1) fs ys later)
 
-values_written : (rec k : ℕ) (fields : List (List ℕ)) (xs : List ℤ) → AllWrite fields xs → numbered (value_in rec) k fields ≡ Ok xs
+pub values_written : (rec k : ℕ) (fields : List (List ℕ)) (xs : List ℤ) → AllWrite fields xs → numbered (value_in rec) k fields ≡ Ok xs
 values_written rec k [] [] all = refl
 values_written rec k [] (x ∷ xs) all = absurd all
 values_written rec k (f ∷ fs) [] all = absurd all
@@ -52,7 +52,7 @@ row_written w more last rec fields row le writes =
     ∙ values_written rec 1 (take w fields) row writes.1
 
 -- records
-rows_read : (w : ℕ) (more : Bool) (last k : ℕ) (recs : List (List (List ℕ))) (rows : List (List ℤ)) → numbered (row_in w more last) k recs ≡ Ok rows → WriteRows w more recs rows × (length rows ≤ last + 1 - k)
+pub rows_read : (w : ℕ) (more : Bool) (last k : ℕ) (recs : List (List (List ℕ))) (rows : List (List ℤ)) → numbered (row_in w more last) k recs ≡ Ok rows → WriteRows w more recs rows × (length rows ≤ last + 1 - k)
 rows_read w more last k [] [] e = (tt, omega arith)
 rows_read w more last k [] (row ∷ rows) e = cc
 rows_read w more last k (fields ∷ recs) rows e =
@@ -61,7 +61,7 @@ rows_read w more last k (fields ∷ recs) rows e =
     let rest = rows_read w more last (k + 1) recs others later in
     rw parts ((r.1, rest.0), omega (arith, r.0, rest.1))
 
-rows_written : (w : ℕ) (more : Bool) (last k : ℕ) (recs : List (List (List ℕ))) (rows : List (List ℤ)) → WriteRows w more recs rows → length rows + k ≤ last + 1 → numbered (row_in w more last) k recs ≡ Ok rows
+pub rows_written : (w : ℕ) (more : Bool) (last k : ℕ) (recs : List (List (List ℕ))) (rows : List (List ℤ)) → WriteRows w more recs rows → length rows + k ≤ last + 1 → numbered (row_in w more last) k recs ≡ Ok rows
 rows_written w more last k [] [] all few = refl
 rows_written w more last k [] (row ∷ rows) all few = absurd all
 rows_written w more last k (fields ∷ recs) [] all few = absurd all

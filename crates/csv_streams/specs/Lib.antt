@@ -1,3 +1,4 @@
+pub mod Faults
 pub mod Number
 pub mod Numbered
 pub mod Outcome

@@ -1,5 +1,5 @@
 -- The rows that the records of a file are.
-use Rattle.std.specs.Prelude.{◌≡◌, ⊤, ℕ, ℤ, ◌+◌, ◌==◌, nat_lt, nat_le, Bool, List, length, take, drop, Option, None, Some, Result, Ok, Err, if◌then◌else◌}
+use Rattle.std.specs.Prelude.{◌≡◌, ⊤, ℕ, ℤ, ◌+◌, ◌==◌, nat_lt, nat_le, Bool, List, [], ◌∷◌, ◌++◌, length, take, drop, Option, None, Some, Result, Ok, Err, if◌then◌else◌}
 use Rattle.csv_streams.specs.Number.{number_of}
 use Rattle.csv_streams.specs.Numbered.{numbered}
 use Rattle.csv_streams.specs.Records.{csv_records}
@@ -42,12 +42,18 @@ rows_in width skip_first more recs =
 abbrev pub rows_of : List ℕ → ℕ → Bool → Bool → Result (List (List ℤ)) InFault
 rows_of bytes width skip_first more = rows_in width skip_first more (csv_records bytes)
 
+-- a fault is told: it is this one, or there was no memory
+abbrev pub IsFaultTold : {T : Type 0} → Result T InFault → InFault → Type 0
+IsFaultTold one fault.NoMemory = ⊤
+IsFaultTold one f = one ≡ Err f
+
 -- what is answered for a file: its rows, or its fault, and that there was no memory at any time
 abbrev pub IsAnswer : Result (List (List ℤ)) InFault → Result (List (List ℤ)) InFault → Type 0
 IsAnswer file (Ok rows) = file ≡ Ok rows
-IsAnswer file (Err fault.NoMemory) = ⊤
-IsAnswer file (Err fault.TooMany) = file ≡ Err fault.TooMany
-IsAnswer file (Err (fault.Width rec)) = file ≡ Err (fault.Width rec)
-IsAnswer file (Err (fault.NotNumber rec field)) = file ≡ Err (fault.NotNumber rec field)
-IsAnswer file (Err (fault.Backwards rec)) = file ≡ Err (fault.Backwards rec)
-IsAnswer file (Err (fault.NegativeTime rec)) = file ≡ Err (fault.NegativeTime rec)
+IsAnswer file (Err f) = IsFaultTold file f
+
+-- one more row, which this is
+pub record Appends (one : Result (List ℤ) InFault) (old new : List (List ℤ)) : Type 0 where
+  pub row : List ℤ
+  pub is : one ≡ Ok row
+  pub grown : new ≡ old ++ row ∷ []

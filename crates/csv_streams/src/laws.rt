@@ -1,4 +1,5 @@
 //! Laws over the definitions alone.
+ghost use Rattle.csv_streams.specs.Faults.{FaultsAre};
 ghost use Rattle.csv_streams.specs.Writing.{ReadIsWritten, WrittenIsRead};
 ghost use Rattle.csv_streams.specs.Written.{ReadRowsAreWritten, WrittenRowsAreRead, ReadRowsHaveWidth};
 
@@ -25,4 +26,9 @@ pub fn rows_that_are_written_are_read()
 /// Rows that are read of a file have the width that was asked.
 pub fn rows_that_are_read_have_the_width()
     ensures { ReadRowsHaveWidth }
+{}
+
+/// A fault is told of a file exactly where it is the first fault of the first record that has one, and each record before writes a row.
+pub fn faults_are()
+    ensures { FaultsAre }
 {}

@@ -6,8 +6,6 @@ pub mod laws;
 mod number;
 mod outcome;
 mod rows;
-#[cfg(test)]
-mod tests;
 
 pub use fault::InFault;
 pub use number::read_number;

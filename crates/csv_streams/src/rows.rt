@@ -1,9 +1,9 @@
 // A file as rows.
-ghost use Rattle.std.specs.Prelude.{◌≡◌, ◌≤◌, ◌<◌, ◌+◌, length, take, option_and_then};
+ghost use Rattle.std.specs.Prelude.{◌≡◌, ◌≤◌, ◌<◌, ◌+◌, [], length, take, option_and_then, Ok, OnOk, IfErr};
 ghost use Rattle.csv.specs.Records.{fields_of, field_at};
 ghost use Rattle.csv_streams.specs.Number.{number_of};
 ghost use Rattle.csv_streams.specs.Numbered.{numbered};
-ghost use Rattle.csv_streams.specs.Rows.{value_or, value_in, has_width, row_in, rows_of, headers, most_rows, IsAnswer};
+ghost use Rattle.csv_streams.specs.Rows.{value_or, value_in, has_width, row_in, rows_of, headers, most_rows, Appends, IsFaultTold, IsAnswer};
 
 use crate::{InFault, read_number};
 use csv::{ByteRecord, ReaderBuilder};
@@ -27,13 +27,32 @@ pub fn read_rows(
     requires at_most { width ≤ 16 }
     ensures { IsAnswer (rows_of bytes.now width skip_first more) result }
 {
+    let mut rows = Rows::new(alloc);
+    add_rows(alloc, bytes, width, skip_first, more, &mut rows)?;
+    Ok(rows)
+}
+
+// Reads the rows of a file into a list that has none.
+fn add_rows(
+    alloc: Global,
+    bytes: &Bytes,
+    width: u32,
+    skip_first: bool,
+    more: bool,
+    rows: &mut Rows,
+) -> Result<(), InFault>
+    requires some { 1 ≤ width }
+    requires at_most { width ≤ 16 }
+    requires none { rows.old ≡ [] }
+    ensures ok { OnOk result (rows_of bytes.now width skip_first more ≡ Ok rows.new) }
+    ensures fault { IfErr result (IsFaultTold (rows_of bytes.now width skip_first more)) }
+{
     let rdr = ReaderBuilder::new()
         .has_headers(false)
         .flexible(true)
         .from_reader(alloc, bytes.as_slice());
     let header = headers(skip_first);
     let last = header + MAX_ROWS;
-    let mut rows = Rows::new(alloc);
     let mut rec = 0u32;
     for record in rdr.into_byte_records() {
         let Ok(record) = record else {
@@ -41,10 +60,29 @@ pub fn read_rows(
         };
         rec += 1;
         if rec > header {
-            rows.push(row_in(&record, rec, last, width as usize, more)?)?;
+            add_row(&record, rec, last, width as usize, more, rows)?;
         }
     }
-    Ok(rows)
+    Ok(())
+}
+
+// Appends the row of record number `rec`.
+fn add_row(
+    raw: &ByteRecord,
+    rec: u32,
+    last: u32,
+    width: usize,
+    more: bool,
+    rows: &mut Rows,
+) -> Result<(), InFault>
+    requires some { 1 ≤ width }
+    requires at_most { width ≤ 16 }
+    ensures ok { OnOk result (Appends (row_in width more last rec (fields_of raw.now)) rows.old rows.new) }
+    ensures fault { IfErr result (IsFaultTold (row_in width more last rec (fields_of raw.now))) }
+{
+    let row = row_in(raw, rec, last, width, more)?;
+    rows.push(row)?;
+    Ok(())
 }
 
 // How many records are passed over at the front.

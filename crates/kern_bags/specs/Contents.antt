@@ -1,5 +1,5 @@
 -- Bags of rows, and the operators of CQL on whole contents (Arasu, Babu, Widom, 2006).
-use Rattle.std.specs.Prelude.{ℕ, ℤ, pos, ◌+◌, ◌-◌, ◌-ℤ◌, Bool, List, [], ◌∷◌, ◌++◌, length, drop, map, filter, flat_map, fold, ◌&&◌, int_le, int_lt, if◌then◌else◌}
+use Rattle.std.specs.Prelude.{ℕ, ℤ, pos, ◌-◌, ◌-ℤ◌, Bool, List, [], ◌∷◌, ◌++◌, length, drop, map, filter, flat_map, fold, ◌&&◌, int_le, int_lt, if◌then◌else◌}
 use Rattle.std.specs.Ordering.{int_eq}
 use Rattle.river_base.specs.Row.{row_eq, in_order}
 use Rattle.river_base.specs.declared.item.Batch.{Batch}

@@ -2,5 +2,6 @@
 #![tactic(auto)]
 
 mod kernel;
+pub mod laws;
 
 pub use kernel::{Cross, Streamer, Window};

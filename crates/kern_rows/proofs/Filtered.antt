@@ -6,7 +6,7 @@ use Rattle.river_base.specs.Grew.{GrewByPrefix}
 use Rattle.kern_rows.specs.Forms.{FilterForm}
 use Rattle.kern_rows.specs.Needs.{CanFilter}
 use Rattle.kern_rows.specs.Runs.{Filtering, Filtered, buffer_of, filter_one, filter_ran, run_kept}
-use Rattle.kern_rows.specs.Stands.{Waiting, StandsForFiltering, Filters, GaveUp, values_of}
+use Rattle.kern_rows.specs.Stands.{Waiting, StandsForFiltering, Filters, GaveUp, first_values}
 
 if_le : {A : Type 0} (a b : ℕ) (x y : A) → a ≤ b → (if nat_le a b then x else y) ≡ x
 if_le a b x y h = grind arith
@@ -29,7 +29,7 @@ module _ (f : FilterForm) (v : ℤ) (old : Waiting) where
         let w = buffer_is s h in
         let lt : length (buffer_of f (received v s)) < f.peek = rw w (subst (λ t. length t < f.peek) b few) in
         let one : filter_one f v s ≡ record { pushes = []; after = received v s } = if_gt f.peek (length (buffer_of f (received v s))) _ _ lt in (
-          sym (append-nil out) ∙ ap (λ r. out ++ values_of r.pushes) (sym one),
+          sym (append-nil out) ∙ ap (λ r. out ++ first_values r.pushes) (sym one),
           subst (λ r. StandsForFiltering f new r.after) (sym one) (record {
             buffer = b ∙ sym w;
             kept = k ∙ h.kept;
@@ -52,13 +52,13 @@ module _ (f : FilterForm) (v : ℤ) (old : Waiting) where
       ∙ ap (λ t. filter_ran (received v s) (run_kept f.body t (take f.peek buffer))) (sym h.kept)
 
   -- enough values wait
-  pub filter_runs : (buffer rest kept : List ℤ) (pushes : List (ℕ × List ℤ)) (out out' : List ℤ) → CanFilter f → buffer ≡ old.buffer ++ v ∷ [] → f.peek ≤ length buffer → pushes ≡ (run_kept f.body old.kept (take f.peek buffer)).pushes → kept ≡ (run_kept f.body old.kept (take f.peek buffer)).slots → rest ≡ drop f.pop buffer → out' ≡ out ++ values_of pushes → Filters f v old (record { buffer = rest; kept = kept }) out out'
+  pub filter_runs : (buffer rest kept : List ℤ) (pushes : List (ℕ × List ℤ)) (out out' : List ℤ) → CanFilter f → buffer ≡ old.buffer ++ v ∷ [] → f.peek ≤ length buffer → pushes ≡ (run_kept f.body old.kept (take f.peek buffer)).pushes → kept ≡ (run_kept f.body old.kept (take f.peek buffer)).slots → rest ≡ drop f.pop buffer → out' ≡ out ++ first_values pushes → Filters f v old (record { buffer = rest; kept = kept }) out out'
   filter_runs buffer rest kept pushes out out' can b enough p k r o = record {
     each = λ s h.
         let one = run_is buffer b enough s h in
         let w : buffer_of f (received v s) ≡ buffer = buffer_is s h ∙ sym b in
         let l : length buffer ≡ length s.seen + 1 - s.fired * f.pop = sym (ap length w) ∙ length-drop (s.fired * f.pop) (s.seen ++ v ∷ []) ∙ ap (λ n. n - s.fired * f.pop) (length-append s.seen (v ∷ [])) in (
-          o ∙ ap (λ t. out ++ values_of t) p ∙ ap (λ t. out ++ values_of t.pushes) (sym one),
+          o ∙ ap (λ t. out ++ first_values t) p ∙ ap (λ t. out ++ first_values t.pushes) (sym one),
           subst (λ t. StandsForFiltering f (record { buffer = rest; kept = kept }) t.after) (sym one) (record {
             buffer = r ∙ ap (drop f.pop) (sym w) ∙ drop-drop f.pop (s.fired * f.pop) (s.seen ++ v ∷ []) ∙ ap (λ n. drop n (s.seen ++ v ∷ [])) (let e : s.fired * f.pop + f.pop ≡ (s.fired + 1) * f.pop = omega arith in e);
             kept = k;
@@ -69,5 +69,5 @@ module _ (f : FilterForm) (v : ℤ) (old : Waiting) where
   }
 
   -- there was no memory in a run, or for what it gave
-  pub filter_refused : (buffer : List ℤ) (out out' : List ℤ) → buffer ≡ old.buffer ++ v ∷ [] → f.peek ≤ length buffer → GrewByPrefix out (values_of (run_kept f.body old.kept (take f.peek buffer)).pushes) out' → GaveUp f v old out out'
+  pub filter_refused : (buffer : List ℤ) (out out' : List ℤ) → buffer ≡ old.buffer ++ v ∷ [] → f.peek ≤ length buffer → GrewByPrefix out (first_values (run_kept f.body old.kept (take f.peek buffer)).pushes) out' → GaveUp f v old out out'
   filter_refused buffer out out' b enough g = record { each = λ s h. rw (run_is buffer b enough s h) g }

@@ -12,7 +12,7 @@ use Rattle.work_code.specs.Ran.{Ran, ran, ran_once}
 use Rattle.kern_rows.specs.Forms.{FilterForm}
 use Rattle.kern_rows.specs.Needs.{GivesOnce, GivesValues}
 use Rattle.kern_rows.specs.Runs.{pushed_to, Filtering, buffer_of, filter_one, filter_ran, run_kept}
-use Rattle.kern_rows.specs.Stands.{values_of}
+use Rattle.kern_rows.specs.Stands.{first_values}
 
 -- rows of one value for port 0
 abbrev pub AreValues : List (ℕ × List ℤ) → Type 0
@@ -59,7 +59,7 @@ to_0 zero x xs h = refl
 to_0 (suc port) x xs h = absurd (omega (arith, h))
 
 -- such rows as items are the rows of their values
-pub given_items : (es : List (ℕ × List ℤ)) → AreValues es → pushed_to 0 es ≡ map (λ v. Flat (One (v ∷ []))) (values_of es)
+pub given_items : (es : List (ℕ × List ℤ)) → AreValues es → pushed_to 0 es ≡ map (λ v. Flat (One (v ∷ []))) (first_values es)
 given_items [] h = refl
 given_items (e ∷ es) h =
     to_0 e.0 (Flat (One e.1)) (pushed_to 0 es) h.0.0

@@ -17,16 +17,16 @@ pub record StandsForFiltering (f : FilterForm) (now : Waiting) (s : Filtering) :
   pub few : length now.buffer < f.peek
 
 -- the first value of each row that is pushed
-abbrev pub values_of : List (ℕ × List ℤ) → List ℤ
-values_of es = map (λ e. slice_index_or e.1 0 (pos 0)) es
+abbrev pub first_values : List (ℕ × List ℤ) → List ℤ
+first_values es = map (λ e. slice_index_or e.1 0 (pos 0)) es
 
 -- a value came: the output grew by what is given, and the new state stands for the next one
 pub record Filters (f : FilterForm) (v : ℤ) (old new : Waiting) (out out' : List ℤ) : Type 0 where
-  pub each : (s : Filtering) → StandsForFiltering f old s → (out' ≡ out ++ values_of (filter_one f v s).pushes) × StandsForFiltering f new (filter_one f v s).after
+  pub each : (s : Filtering) → StandsForFiltering f old s → (out' ≡ out ++ first_values (filter_one f v s).pushes) × StandsForFiltering f new (filter_one f v s).after
 
 -- a value came, and there was no memory: the output grew by a part
 pub record GaveUp (f : FilterForm) (v : ℤ) (old : Waiting) (out out' : List ℤ) : Type 0 where
-  pub each : (s : Filtering) → StandsForFiltering f old s → GrewByPrefix out (values_of (filter_one f v s).pushes) out'
+  pub each : (s : Filtering) → StandsForFiltering f old s → GrewByPrefix out (first_values (filter_one f v s).pushes) out'
 
 -- what a splitter keeps: the port in turn, and how many items it had
 pub record Dealing : Type 0 where

@@ -4,7 +4,7 @@ ghost use Rattle.river_base.specs.Grew.{GrewByPrefix};
 ghost use Rattle.kern_rows.specs.Forms.{filter_form};
 ghost use Rattle.kern_rows.specs.Needs.{CanFilter};
 ghost use Rattle.kern_rows.specs.Runs.{filter_start};
-ghost use Rattle.kern_rows.specs.Stands.{StandsForFiltering, Filters, GaveUp, values_of};
+ghost use Rattle.kern_rows.specs.Stands.{StandsForFiltering, Filters, GaveUp, first_values};
 
 use crate::Filter;
 use crate::body::run_kept;
@@ -32,8 +32,8 @@ impl Model for FilterState {
 // Appends the first value of each row.
 #[tactic(auto, using(std::proofs::lemmas::List::map_more))]
 fn append_values(pushes: &Emitted, out: &mut Numbers) -> Result<(), NoMemory>
-    ensures ok { OnOk result (out.new ≡ out.old ++ values_of pushes.now) }
-    ensures err { OnErr result (GrewByPrefix out.old (values_of pushes.now) out.new) }
+    ensures ok { OnOk result (out.new ≡ out.old ++ first_values pushes.now) }
+    ensures err { OnErr result (GrewByPrefix out.old (first_values pushes.now) out.new) }
 {
     for (_, row) in pushes.as_slice() {
         out.push(row.values()[0])?;

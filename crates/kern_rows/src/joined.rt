@@ -1,51 +1,13 @@
 // Items that wait at ports that take turns.
-ghost use Rattle.std.specs.Prelude.{◌≡◌, ◌<◌, [], ◌∷◌, ◌++◌, length, IfOk, OnOk, MatchOption};
+ghost use Rattle.std.specs.Prelude.{◌≡◌, ◌<◌, length, IfOk, OnOk, MatchOption};
 ghost use Rattle.kern_rows.specs.Turns.{turns_start, put as put_in};
 ghost use Rattle.kern_rows.specs.Passing.{Passes, IsStuck};
 
+use crate::line::Line;
 use crate::turn::next_turn;
 use river_base::{Item, NoMemory};
 use std::alloc::Global;
-use std::collections::VecDeque;
 use std::marker::Model;
-
-// Items in a line, which contracts see as their list.
-#[derive(Drop)]
-struct Line {
-    items: VecDeque<Item>,
-}
-
-impl Model for Line {
-    ghost use Rattle.std.specs.Prelude.{List};
-    ghost use Rattle.river_base.specs.declared.item.Item as item;
-
-    ghost Value = { List item.Item };
-
-    ghost view = { λ l. l.items.items };
-}
-
-impl Line {
-    fn new(alloc: Global) -> Line
-        ensures { result ≡ [] }
-    {
-        Line {
-            items: VecDeque::new(alloc),
-        }
-    }
-
-    fn push(&mut self, item: Item) -> Result<(), NoMemory>
-        ensures { OnOk result (self.new ≡ self.old ++ item ∷ []) }
-    {
-        self.items.push_back(item)?;
-        Ok(())
-    }
-
-    fn pop(&mut self) -> Option<Item>
-        ensures { MatchOption result ((self.old ≡ []) × (self.new ≡ [])) (λ x. self.old ≡ x ∷ self.new) }
-    {
-        self.items.pop_front()
-    }
-}
 
 /// What a joiner keeps between items: the port in turn, how many items it had, and what waits at each port.
 #[derive(Drop)]

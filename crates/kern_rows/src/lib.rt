@@ -7,6 +7,7 @@ mod collect;
 mod filter;
 mod joined;
 mod kernel;
+mod line;
 mod queue;
 mod turn;
 mod unpack;
@@ -14,6 +15,7 @@ mod unpack;
 pub use collect::CollectState;
 pub use filter::FilterState;
 pub use kernel::{CodeKernel, Collect, Deal, Filter, Unpack};
+pub use line::Line;
 pub use turn::DealState;
 pub use unpack::UnpackState;
 

@@ -40,7 +40,7 @@ pub fn next_turn(share: u64, ports: usize, port: usize, had: u64) -> (usize, u64
 }
 
 /// What a splitter keeps between items: the port in turn, and how many items it had.
-#[derive(Clone, Copy, Debug, Drop)]
+#[derive(Debug, Drop)]
 pub struct DealState {
     port: u32,
     had: u64,

@@ -1,6 +1,21 @@
-//! The tables that rows are added to.
+//! The tables that rows are added to, and what they make of them.
 #![tactic(auto)]
 
+mod best;
+mod kept;
+mod key;
 mod kind;
+pub mod laws;
+mod maxima;
+mod ranked;
+mod sums;
+mod table;
 
+use best::Best;
+pub use kept::Kept;
+use key::Key;
 pub use kind::TableKind;
+use maxima::Maxima;
+pub use ranked::Ranked;
+use sums::Sums;
+pub use table::Table;

@@ -1,5 +1,7 @@
 pub mod Ascending
 pub mod Bags
+pub mod Counts
+pub mod Division
 pub mod HeldLemmas
 pub mod Keyed
 pub mod KeyedLookups

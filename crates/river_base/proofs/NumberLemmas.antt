@@ -15,7 +15,7 @@ cast_is_wrap (negsuc n) h =
     let e : n % 2 ^ 64 ≡ n = mod-eq_of_lt below in
     ap (cast_signed w64) (omega arith)
 
-abs_negated : (n : ℕ) → unsigned_abs (neg_ℤ (pos n)) ≡ n
+pub abs_negated : (n : ℕ) → unsigned_abs (neg_ℤ (pos n)) ≡ n
 abs_negated zero = refl
 abs_negated (suc n) = refl
 

@@ -1,5 +1,5 @@
 -- Values are the integers of 64 bits; sums, differences and products wrap.
-use Rattle.std.specs.Prelude.{ℕ, ℤ, pos, negsuc, ◌+ℤ◌, ◌-ℤ◌, ◌*ℤ◌, neg_ℤ, int_div, int_rem, if◌then◌else◌}
+use Rattle.std.specs.Prelude.{◌≡◌, ◌≢◌, ℕ, ℤ, pos, negsuc, ◌^◌, ◌-◌, ◌+ℤ◌, ◌-ℤ◌, ◌*ℤ◌, neg_ℤ, int_div, int_rem, if◌then◌else◌}
 use Rattle.std.specs.Int.{int_wrap, w64}
 use Rattle.std.specs.Int.RustNames.{FitsSigned}
 use Rattle.std.specs.Ordering.{int_eq}
@@ -31,6 +31,15 @@ quot a b = if int_eq b (pos 0) then pos 0 else wrap (int_div a b)
 -- with the sign of the left side, and 0 where the divisor is 0
 abbrev pub rem : ℤ → ℤ → ℤ
 rem a b = if int_eq b (pos 0) then pos 0 else int_rem a b
+
+-- the least value, -2^63
+abbrev pub least_value : ℤ
+least_value = negsuc (2 ^ 63 - 1)
+
+-- the quotient of integers, truncated towards zero, is a value: the divisor is not 0, and the least value is not divided by -1
+pub record HasQuotient (a b : ℤ) : Type 0 where
+  pub by_some : b ≢ pos 0
+  pub below : a ≡ least_value → b ≢ negsuc 0
 
 -- a number of ports, values or items: one below 0 counts as 0
 abbrev pub count_of : ℤ → ℕ

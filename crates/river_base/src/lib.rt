@@ -11,8 +11,6 @@ mod memory;
 mod name;
 mod number;
 mod row;
-#[cfg(test)]
-mod tests;
 
 pub use duplicate::Duplicate;
 pub use gate::{Gate, NoGate};

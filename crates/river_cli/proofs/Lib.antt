@@ -1,10 +1,8 @@
-pub mod Built
+pub mod Compiled
 pub mod Cut
 pub mod Fetches
 pub mod Inputs
-pub mod PlanTexts
-pub mod Printed
+pub mod Points
 pub mod ReadOn
-pub mod Refusals
 pub mod Told
 pub mod Typed

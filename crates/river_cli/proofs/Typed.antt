@@ -1,6 +1,6 @@
 -- The rows of a program's inputs are of the inputs' types.
 use Rattle.std.proofs.Common.{◌≡◌, ℕ, ℤ, ◌<◌, ◌≤◌, List, [], ◌∷◌, ◌++◌, length, refl, sym, ap, ◌∙◌, subst, arith, ⊎_elim, Bool, false}
-use Rattle.std.specs.Prelude.{Some, Result, Ok, Err, All, unwrap_or, if◌then◌else◌}
+use Rattle.std.specs.Prelude.{Some, Result, Ok, Err, All, IfOk, unwrap_or, if◌then◌else◌}
 use Rattle.std.proofs.lemmas.List.Elements.{All-head, All-tail, All-nil, All-map}
 use Rattle.river_base.specs.declared.item.Flat.TheVariants.{One}
 use Rattle.river_base.specs.declared.item.Item.TheVariants.{Flat}
@@ -9,6 +9,8 @@ use Rattle.river_base.specs.declared.kind.QueueType.{QueueType}
 use Rattle.river_base.specs.declared.kind.QueueType.TheVariants.{Flat as FlatOf, Pack as PackOf}
 use Rattle.river_base.specs.Held.{HaveWidth, HasType}
 use Rattle.river_base.specs.Name.{name_eq}
+use Rattle.river_order.specs.Passes.{StandsFor, AnswersAs}
+use Rattle.river_order.specs.declared.stop.Stop.{Stop}
 use Rattle.river_kernels.specs.Fits.{rows}
 use Rattle.river_plan.specs.declared.plan.Decl.{Decl}
 use Rattle.river_plan.specs.Faults.{IsOuter, IsRowsOrStream, type_width}
@@ -17,14 +19,15 @@ use Rattle.river_plan.specs.Kinds.{kind_in}
 use Rattle.river_plan.specs.Names.{one_if, count}
 use Rattle.river_plan.specs.Valid.{IsPlan}
 use Rattle.river_plan.proofs.NameLemmas.{cases_name, count-append}
-use Rattle.brooklet_model.specs.Typed.{IsRows, IsBuilt, AreInputs}
+use Rattle.brooklet_model.specs.Typed.{AreInputs}
+use Rattle.brooklet_step.specs.Built.{IsRows, IsBuilt}
 use Rattle.brooklet_step.proofs.FitsLemmas.{built_inputs}
 use Rattle.csv_streams.specs.Rows.{rows_of}
 use Rattle.csv_streams.specs.declared.fault.InFault.{InFault}
 use Rattle.csv_streams.proofs.WrittenRows.{read_rows-width}
-use Rattle.river_cli.specs.Inputs.{width_named, or_told, rows_read, with_rows, all_read, rows_named, in_order, row_items, all_items}
+use Rattle.river_cli.specs.Inputs.{width_named, or_told, row_reader, file_read, with_first, all_read, rows_named, in_order, row_items, all_items}
 use Rattle.river_cli.specs.Widths.{HaveWidths}
-use Rattle.river_cli.specs.declared.words.InWord.{InWord}
+use Rattle.river_cli.specs.declared.job.InWord.{InWord}
 
 -- ROWS THAT WERE READ HAVE THEIR WIDTH
 
@@ -32,18 +35,18 @@ told_rows : (name : List ℕ) (r : Result (List (List ℤ)) InFault) (xs : List 
 told_rows name (Ok ys) xs e = let is : ys ≡ xs = cc in ap (λ (l : List (List ℤ)). Ok l) is
 told_rows name (Err f) xs e = cc
 
-first_and_others : (r : Result (List (List ℤ)) (List ℕ)) (later : Result (List (List (List ℤ))) (List ℕ)) (all : List (List (List ℤ))) → with_rows r later ≡ Ok all
+first_and_others : (r : Result (List (List ℤ)) (List ℕ)) (later : Result (List (List (List ℤ))) (List ℕ)) (all : List (List (List ℤ))) → with_first r later ≡ Ok all
     → (xs : List (List ℤ)) × (others : List (List (List ℤ))) × (r ≡ Ok xs) × (later ≡ Ok others) × (all ≡ xs ∷ others)
 first_and_others (Err text) later all e = cc
 first_and_others (Ok xs) (Err text) all e = cc
 first_and_others (Ok xs) (Ok others) all e = let is : all ≡ xs ∷ others = cc in (xs, others, refl, refl, is)
 
 module _ (decls : List Decl) (header : Bool) where
-  named_width : (ins : List InWord) (files : List (List ℕ)) (all : List (List (List ℤ))) (name : List ℕ) → all_read decls header ins files ≡ Ok all → HaveWidth (width_named decls name) (rows_named ins all name)
+  named_width : (ins : List InWord) (files : List (List ℕ)) (all : List (List (List ℤ))) (name : List ℕ) → all_read (row_reader decls header) ins files ≡ Ok all → HaveWidth (width_named decls name) (rows_named ins all name)
   named_width [] files all name e = All-nil (λ row. length row ≡ width_named decls name)
   named_width (w ∷ ins) [] all name e = let none : all ≡ [] = cc in rw none (All-nil (λ row. length row ≡ width_named decls name))
   named_width (w ∷ ins) (b ∷ files) all name e =
-      let (xs, others, first, later, parts) = first_and_others (rows_read decls header w b) (all_read decls header ins files) all e in
+      let (xs, others, first, later, parts) = first_and_others (file_read (row_reader decls header) w b) (all_read (row_reader decls header) ins files) all e in
       let here : HaveWidth (width_named decls w.name) xs = read_rows-width b (width_named decls w.name) header false xs (told_rows w.name (rows_of b (width_named decls w.name) header false) xs first) in
       let there : HaveWidth (width_named decls name) (rows_named ins others name) = named_width ins files others name later in
       subst (λ l. HaveWidth (width_named decls name) (rows_named (w ∷ ins) l name)) (sym parts)
@@ -52,12 +55,18 @@ module _ (decls : List Decl) (header : Bool) where
       (λ c. subst (λ (b : Bool). HaveWidth (width_named decls name) (if b then xs else rows_named ins others name)) (sym c.1) there)
       (cases_name w.name name))
 
-  each_width : (ins : List InWord) (files : List (List ℕ)) (all : List (List (List ℤ))) (ds : List Decl) → all_read decls header ins files ≡ Ok all → HaveWidths (width_named decls) ds (in_order ds ins all)
+  each_width : (ins : List InWord) (files : List (List ℕ)) (all : List (List (List ℤ))) (ds : List Decl) → all_read (row_reader decls header) ins files ≡ Ok all → HaveWidths (width_named decls) ds (in_order ds ins all)
   each_width ins files all [] e = tt
   each_width ins files all (d ∷ ds) e = (named_width ins files all d.name e, each_width ins files all ds e)
 
-  pub gathered-widths : (ins : List InWord) (files : List (List ℕ)) (all : List (List (List ℤ))) → all_read decls header ins files ≡ Ok all → HaveWidths (width_named decls) decls (in_order decls ins all)
-  gathered-widths ins files all e = each_width ins files all decls e
+  pub read-widths : (ins : List InWord) (files : List (List ℕ)) (result : Result (List (List (List ℤ))) Stop) → AnswersAs (λ all rows. rows ≡ in_order decls ins all) (all_read (row_reader decls header) ins files) result
+      → IfOk result (HaveWidths (width_named decls) decls)
+  read-widths ins files (Err s) told = tt
+  read-widths ins files (Ok rows) told = by (all_read (row_reader decls header) ins files) refl told
+    where
+      by : (r : Result (List (List (List ℤ))) (List ℕ)) → all_read (row_reader decls header) ins files ≡ r → StandsFor (λ all rows. rows ≡ in_order decls ins all) r rows → HaveWidths (width_named decls) decls rows
+      by (Ok all) is told = subst (HaveWidths (width_named decls) decls) (sym told) (each_width ins files all decls is)
+      by (Err text) is told = absurd told
 
 -- THE WIDTH OF A NAME IS THAT OF ITS INPUT
 
@@ -87,8 +96,8 @@ known_all (d ∷ ds) apart =
 
 kind_rows : (t : QueueType) (rs : List (List ℤ)) → IsRows t → IsRowsOrStream t → HaveWidth (type_width t) rs → All (HasType t) (row_items rs)
 kind_rows (FlatOf (Rows w)) rs r o h = All-map (HasType (FlatOf (Rows w))) (λ row. Flat (One row)) rs h
-kind_rows (FlatOf (Stream w)) rs r o h = absurd r
-kind_rows (FlatOf (Relation w)) rs r o h = absurd r
+kind_rows (FlatOf (Stream w)) rs r o h = absurd (cc r)
+kind_rows (FlatOf (Relation w)) rs r o h = absurd (cc r)
 kind_rows (PackOf t) rs r o h = absurd o
 
 are_typed : (width : List ℕ → ℕ) (ds : List Decl) (all : List (List (List ℤ))) → All (λ d. IsRows d.kind) ds → All IsOuter ds → Known width ds → HaveWidths width ds all → AreInputs ds (all_items all)

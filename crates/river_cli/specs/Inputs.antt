@@ -1,4 +1,4 @@
--- The inputs of a program: their names, the files that they are, and the rows of these.
+-- The inputs of a program: their names, the files that they are, and what is read of these.
 use Rattle.std.specs.Prelude.{◌≡◌, ℕ, ℤ, List, [], ◌∷◌, map, Bool, false, not, nat_lt, if◌then◌else◌, Option, Some, None, Result, Ok, Err}
 use Rattle.std.specs.List.{find}
 use Rattle.river_base.specs.Name.{name_eq}
@@ -8,16 +8,19 @@ use Rattle.river_base.specs.declared.item.Item.TheVariants.{Flat}
 use Rattle.csv_streams.specs.Rows.{rows_of}
 use Rattle.csv_streams.specs.declared.fault.InFault.{InFault}
 use Rattle.river_order.specs.Order.{Order, Fetch}
-use Rattle.river_order.specs.declared.stop.Stop.{Stop}
-use Rattle.river_order.specs.declared.stop.Stop.TheVariants as stop
+use Rattle.river_order.specs.Passes.{past}
 use Rattle.river_plan.specs.declared.plan.Decl.{Decl}
 use Rattle.river_plan.specs.Forms.{decl_names}
 use Rattle.river_plan.specs.Faults.{type_width}
 use Rattle.river_plan.specs.Kinds.{kind_of}
 use Rattle.river_plan.specs.Names.{count}
-use Rattle.river_cli.specs.Commands.{names}
-use Rattle.river_cli.specs.Text.{unknown_input, missing_input, large_input, in_fault_text}
-use Rattle.river_cli.specs.declared.words.InWord.{InWord}
+use Rattle.river_cli.specs.Text.{unknown_input, missing_input, large_input, input_refused, in_words}
+use Rattle.river_cli.specs.declared.job.InWord.{InWord}
+
+-- ---- THE NAMES
+
+abbrev pub names : List InWord → List (List ℕ)
+names ins = map (λ w. w.name) ins
 
 -- the first word whose name is no input of the program
 abbrev pub unknown : List Decl → List InWord → Option InWord
@@ -27,59 +30,59 @@ unknown decls ins = find (λ w. not (nat_lt 0 (count w.name (decl_names decls)))
 abbrev pub missing : List Decl → List InWord → Option Decl
 missing decls ins = find (λ d. not (nat_lt 0 (count d.name (names ins)))) decls
 
--- what is told of the names: one that is unknown, and then one that is missing
-abbrev pub first_told : Option InWord → Option Decl → Option (List ℕ)
-first_told (Some w) missing = Some (unknown_input w.name)
-first_told None (Some d) = Some (missing_input d.name)
-first_told None None = None
+-- a name that is unknown refuses, and then one that is missing
+abbrev pub first_told : Option InWord → Option Decl → Result (Unit {0}) (List ℕ)
+first_told (Some w) missing = Err (unknown_input w.name)
+first_told None (Some d) = Err (missing_input d.name)
+first_told None None = Ok tt
 
-unfoldable pub names_fault : List Decl → List InWord → Option (List ℕ)
-names_fault decls ins = first_told (unknown decls ins) (missing decls ins)
+unfoldable pub names_fit : List Decl → List InWord → Result (Unit {0}) (List ℕ)
+names_fit decls ins = first_told (unknown decls ins) (missing decls ins)
 
--- a refusal with this text, or want of memory
-abbrev pub Tells : Option (List ℕ) → Stop → Type 0
-Tells told stop.Usage = ⊥
-Tells told (stop.Refused text) = told ≡ Some text
-Tells told (stop.Failed text) = ⊥
-Tells told (stop.Absent text) = ⊥
-Tells told stop.NoMemory = Unit {0}
-
--- a refusal with the text of a fault, or want of memory
-abbrev pub TellsIn : {A : Type 0} → Result A (List ℕ) → Stop → Type 0
-TellsIn read stop.Usage = ⊥
-TellsIn read (stop.Refused text) = read ≡ Err text
-TellsIn read (stop.Failed text) = ⊥
-TellsIn read (stop.Absent text) = ⊥
-TellsIn read stop.NoMemory = Unit {0}
+-- ---- THE FILES
 
 -- all files are fetched, in the order of the words
 unfoldable pub fetches : List InWord → (List (List ℕ) → Order) → Order
 fetches [] next = next []
 fetches (w ∷ ins) next = Fetch w.file 67108864 (large_input w.name) (λ bytes. fetches ins (λ files. next (bytes ∷ files)))
 
--- the rows of a file, or what is told of the first record at fault
-abbrev pub or_told : List ℕ → Result (List (List ℤ)) InFault → Result (List (List ℤ)) (List ℕ)
-or_told name (Ok rows) = Ok rows
-or_told name (Err fault) = Err (in_fault_text name fault)
+-- what a reader gives for the file of an input, or what is told of the first record at fault
+abbrev pub Reader : Type 0 → Type 0
+Reader A = List ℕ → List ℕ → Result A InFault
+
+abbrev pub or_told : {A : Type 0} → List ℕ → Result A InFault → Result A (List ℕ)
+or_told name (Ok x) = Ok x
+or_told name (Err fault) = Err (input_refused name (in_words fault))
+
+abbrev pub file_read : {A : Type 0} → Reader A → InWord → List ℕ → Result A (List ℕ)
+file_read reader w bytes = or_told w.name (reader w.name bytes)
+
+-- what is read first is told first
+abbrev pub with_first : {A : Type 0} → Result A (List ℕ) → Result (List A) (List ℕ) → Result (List A) (List ℕ)
+with_first (Err text) later = Err text
+with_first (Ok x) (Err text) = Err text
+with_first (Ok x) (Ok later) = Ok (x ∷ later)
+
+-- what is read of all files, in the order of the words, of which the first with a fault refuses
+abbrev pub all_read : {A : Type 0} → Reader A → List InWord → List (List ℕ) → Result (List A) (List ℕ)
+all_read reader [] files = Ok []
+all_read reader (w ∷ ins) [] = Ok []
+all_read reader (w ∷ ins) (bytes ∷ files) = with_first (file_read reader w bytes) (all_read reader ins files)
+
+-- the names of the inputs are looked at, all files are fetched, all are read, and the whole is made of what was read
+abbrev pub of_files : {A B : Type 0} → List Decl → List InWord → Reader A → (List A → B) → (B → Order) → Order
+of_files decls ins reader make next =
+    past (names_fit decls ins) (λ _. fetches ins (λ files. past (all_read reader ins files) (λ all. next (make all))))
+
+-- ---- FILES OF ROWS
 
 -- how many values the rows of this input have
 abbrev pub width_named : List Decl → List ℕ → ℕ
 width_named decls name = type_width (kind_of decls name)
 
-abbrev pub rows_read : List Decl → Bool → InWord → List ℕ → Result (List (List ℤ)) (List ℕ)
-rows_read decls header w bytes = or_told w.name (rows_of bytes (width_named decls w.name) header false)
-
--- what is read first is told first
-abbrev pub with_rows : Result (List (List ℤ)) (List ℕ) → Result (List (List (List ℤ))) (List ℕ) → Result (List (List (List ℤ))) (List ℕ)
-with_rows (Err text) later = Err text
-with_rows (Ok rows) (Err text) = Err text
-with_rows (Ok rows) (Ok later) = Ok (rows ∷ later)
-
--- the rows of all files, in the order of the words, of which the first with a fault refuses
-abbrev pub all_read : List Decl → Bool → List InWord → List (List ℕ) → Result (List (List (List ℤ))) (List ℕ)
-all_read decls header [] files = Ok []
-all_read decls header (w ∷ ins) [] = Ok []
-all_read decls header (w ∷ ins) (bytes ∷ files) = with_rows (rows_read decls header w bytes) (all_read decls header ins files)
+-- each input has rows of its width
+abbrev pub row_reader : List Decl → Bool → Reader (List (List ℤ))
+row_reader decls header name bytes = rows_of bytes (width_named decls name) header false
 
 -- the rows that the words give to an input
 abbrev pub rows_named : List InWord → List (List (List ℤ)) → List ℕ → List (List ℤ)
@@ -90,6 +93,9 @@ rows_named (w ∷ ins) (rows ∷ all) name = if name_eq w.name name then rows el
 -- the rows of each input, in the order of the program's inputs
 abbrev pub in_order : List Decl → List InWord → List (List (List ℤ)) → List (List (List ℤ))
 in_order decls ins all = map (rows_named ins all) (decl_names decls)
+
+unfoldable pub of_inputs : List Decl → List InWord → Bool → (List (List (List ℤ)) → Order) → Order
+of_inputs decls ins header next = of_files decls ins (row_reader decls header) (in_order decls ins) next
 
 -- rows as items of a queue
 abbrev pub row_items : List (List ℤ) → List item.Item

@@ -1,10 +1,26 @@
 -- What a word of the command line may be.
-use Rattle.std.specs.Prelude.{ℕ, List, [], ◌∷◌, ◌==◌, not, Bool, true, false, if◌then◌else◌}
+use Rattle.std.specs.Prelude.{ℕ, List, [], ◌∷◌, ◌==◌, ◌&&◌, not, Bool, true, false, Option, None, Some, codes, if◌then◌else◌}
+use Rattle.std.specs.Str.{bytes_eq}
+use Rattle.river_cli.specs.declared.job.Command.{Command}
+use Rattle.river_cli.specs.declared.job.Command.TheVariants.{Run, Mean, Show}
+use Rattle.river_cli.specs.declared.job.InWord.{InWord}
+use Rattle.river_cli.specs.declared.job.Lang.{Lang}
+use Rattle.river_cli.specs.declared.job.Lang.TheVariants.{River, Streamit}
 
--- there is none
-abbrev pub is_nothing : List ℕ → Bool
-is_nothing [] = true
-is_nothing (c ∷ cs) = false
+-- the command that a word names
+abbrev pub command_named : List ℕ → Option Command
+command_named word =
+    if bytes_eq word (codes "run") then Some Run
+    else if bytes_eq word (codes "mean") then Some Mean
+    else if bytes_eq word (codes "plan") then Some Show
+    else None
+
+-- the language that a word names
+abbrev pub lang_named : List ℕ → Option Lang
+lang_named word =
+    if bytes_eq word (codes "river") then Some River
+    else if bytes_eq word (codes "streamit") then Some Streamit
+    else None
 
 -- a word that may be the program's file: not empty, and it does not begin with `-`
 abbrev pub is_file : List ℕ → Bool
@@ -20,3 +36,11 @@ name_part (c ∷ cs) = if c == 61 then [] else c ∷ name_part cs
 abbrev pub rest_part : List ℕ → List ℕ
 rest_part [] = []
 rest_part (c ∷ cs) = if c == 61 then c ∷ cs else rest_part cs
+
+-- a word is NAME=FILE where neither part is empty
+abbrev pub parted : List ℕ → List ℕ → Option InWord
+parted (n ∷ name) (c ∷ d ∷ file) = Some (record { name = n ∷ name; file = d ∷ file })
+parted name rest = None
+
+abbrev pub in_word_of : List ℕ → Option InWord
+in_word_of word = parted (name_part word) (rest_part word)

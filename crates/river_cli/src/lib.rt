@@ -1,18 +1,21 @@
 //! The top call of river: all that the program does, over a shelf and two sinks that are handed in.
 #![tactic(auto)]
 
-mod decide;
+mod compile;
 mod fetched;
 mod gather;
-mod given;
+mod job;
+pub mod laws;
 mod names;
+mod output;
+mod phrases;
+mod road;
 mod rows;
-mod run;
-mod show;
 mod text;
 mod top;
 mod word_set;
 mod words;
 
+pub use job::{Command, InWord, InWords, Job, Lang, Options, WordFault};
 pub use top::river;
-pub use words::{Command, InWord, InWords, Lang, WordFault, read_words};
+pub use words::read_words;

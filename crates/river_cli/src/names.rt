@@ -1,12 +1,12 @@
 // The names of a program's inputs, and those that the words give.
-ghost use Rattle.std.specs.Prelude.{◌≡◌, nat_lt, IfErr, OnOk, None, Some, MatchOption};
+ghost use Rattle.std.specs.Prelude.{◌≡◌, nat_lt, None, Some, MatchOption};
+ghost use Rattle.river_order.specs.Passes.{Answers};
 ghost use Rattle.river_plan.specs.Forms.{decl_names};
 ghost use Rattle.river_plan.specs.Names.{count};
-ghost use Rattle.river_cli.specs.Commands.{names};
-ghost use Rattle.river_cli.specs.Inputs.{unknown, missing, names_fault, Tells};
+ghost use Rattle.river_cli.specs.Inputs.{names, unknown, missing, names_fit};
 
+use crate::job::InWord;
 use crate::text;
-use crate::words::InWord;
 use river_order::Stop;
 use river_plan::Decl;
 use std::alloc::Global;
@@ -14,8 +14,7 @@ use std::alloc::Global;
 /// Whether each name of the words is an input of the program, and each input has a word; otherwise what is told of the
 /// first word whose name is unknown, or else of the first input that is missing.
 pub fn check_names(alloc: Global, decls: &[Decl], ins: &[InWord]) -> Result<(), Stop>
-    ensures ok { OnOk result (names_fault decls.now ins.now ≡ None) }
-    ensures err { IfErr result (Tells (names_fault decls.now ins.now)) }
+    ensures { Answers (names_fit decls.now ins.now) result }
 {
     if let Some(word) = unknown(decls, ins) {
         return Err(Stop::Refused(text::unknown(alloc, word.name.as_slice())?));

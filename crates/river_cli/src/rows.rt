@@ -1,19 +1,35 @@
 // The rows of a program's inputs.
-ghost use Rattle.std.specs.Prelude.{◌≡◌, length, All, IsTrue, Ok, IfOk, IfErr};
+ghost use Rattle.std.specs.Prelude.{◌≡◌, length, All, IsTrue, IfOk};
+ghost use Rattle.river_order.specs.Passes.{Answers, AnswersAs};
 ghost use Rattle.river_kernels.specs.Formed.{is_width};
 ghost use Rattle.river_plan.specs.Faults.{type_width};
-ghost use Rattle.river_cli.specs.Inputs.{width_named, rows_read, all_read, rows_named, in_order, TellsIn};
+ghost use Rattle.river_cli.specs.Inputs.{width_named, file_read, row_reader, all_read, rows_named, in_order};
 
+use crate::job::InWord;
 use crate::text;
-use crate::words::InWord;
 use csv_streams::{InFault, read_rows};
 use river_base::{Bytes, Duplicate, FlatType, Listed, NoMemory, QueueType, Rows};
 use river_order::Stop;
 use river_plan::Decl;
 use std::alloc::Global;
 
-/// The rows of all files, in the order of the words; what is told of the first record at fault.
-pub fn read_all(
+/// The rows of each input, in the order of the program's inputs, of the files in the order of the words.
+pub fn read_inputs(
+    alloc: Global,
+    decls: &[Decl],
+    header: bool,
+    ins: &[InWord],
+    files: &[Bytes],
+) -> Result<Listed<Rows>, Stop>
+    requires count { length files.now ≡ length ins.now }
+    requires widths { All (λ w. IsTrue (is_width (width_named decls.now w.name))) ins.now }
+    ensures { AnswersAs (λ all rows. rows ≡ in_order decls.now ins.now all) (all_read (row_reader decls.now header) ins.now files.now) result }
+{
+    let all = read_all(alloc, decls, header, ins, files)?;
+    Ok(arrange(alloc, decls, ins, all.as_slice())?)
+}
+// The rows of all files, in the order of the words.
+fn read_all(
     alloc: Global,
     decls: &[Decl],
     header: bool,
@@ -23,8 +39,7 @@ pub fn read_all(
     requires count { length files.now ≡ length ins.now }
     requires widths { All (λ w. IsTrue (is_width (width_named decls.now w.name))) ins.now }
     ensures count { IfOk result (λ all. length all ≡ length ins.now) }
-    ensures ok { IfOk result (λ all. all_read decls.now header ins.now files.now ≡ Ok all) }
-    ensures err { IfErr result (TellsIn (all_read decls.now header ins.now files.now)) }
+    ensures answers { Answers (all_read (row_reader decls.now header) ins.now files.now) result }
 {
     let mut all = Listed::new(alloc);
     for place in 0..ins.len() {
@@ -42,8 +57,7 @@ fn read_one(
     bytes: &Bytes,
 ) -> Result<Rows, Stop>
     requires { IsTrue (is_width (width_named decls.now word.now.name)) }
-    ensures ok { IfOk result (λ rows. rows_read decls.now header word.now bytes.now ≡ Ok rows) }
-    ensures err { IfErr result (TellsIn (rows_read decls.now header word.now bytes.now)) }
+    ensures { Answers (file_read (row_reader decls.now header) word.now bytes.now) result }
 {
     let width = width_named(decls, word.name.as_slice());
     match read_rows(alloc, bytes, width, header, false) {
@@ -74,8 +88,8 @@ fn width_of(kind: &QueueType) -> u32
     }
 }
 
-/// The rows of each input, in the order of the program's inputs.
-pub fn arrange(
+// The rows of each input, in the order of the program's inputs.
+fn arrange(
     alloc: Global,
     decls: &[Decl],
     ins: &[InWord],

@@ -5,7 +5,7 @@ ghost use Rattle.river_order.specs.Order.{verdict, Done, Refused};
 ghost use Rattle.river_cli.specs.Points.{points_of};
 ghost use Rattle.river_cli.specs.Answer.{Kept, Wrote, WroteUsage, WroteFault, Stopped, StoppedUsage, HasStatus};
 
-use crate::decide::decide;
+use crate::road::decide;
 use crate::text::USAGE;
 use river_base::{Gate, Text};
 use river_order::Stop;

@@ -1,86 +1,35 @@
 // The words of the command line.
-ghost use Rattle.std.specs.Prelude.{◌≡◌, ◌↔◌, ◌≤◌, length, take, drop, Some, None, IfOk, IsErrOf};
-ghost use Rattle.river_cli.specs.Words.{is_file, name_part, rest_part};
-ghost use Rattle.river_cli.specs.Commands.{command_of, in_word_of, lang_of, run_of, mean_of, show_of, given_of};
+ghost use Rattle.std.specs.Prelude.{◌≡◌, Some, None, IfOk, IsErrOf};
+ghost use Rattle.river_cli.specs.Words.{command_named, lang_named, is_file};
+ghost use Rattle.river_cli.specs.Jobs.{no_options, plain, goes_with, asked, job_of};
 
-use crate::given::read_given;
-use river_base::{Listed, NoMemory, Text};
+use crate::job::{Command, InWords, Job, Lang, Options, WordFault};
+use crate::phrases::read_phrases;
+use river_base::{NoMemory, Text};
 use std::alloc::Global;
 
-/// A source language.
-#[derive(Clone, Copy, Debug, PartialEq, Eq)]
-pub enum Lang {
-    /// River text.
-    River,
-    /// StreamIt.
-    Streamit,
-}
-
-/// A word NAME=FILE: the input of this name is the file.
-#[derive(Drop)]
-pub struct InWord {
-    /// The name of the input.
-    pub name: Text,
-    /// The name of the file.
-    pub file: Text,
-}
-
-/// Words NAME=FILE, in their order.
-pub type InWords = Listed<InWord>;
-
-/// A command.
-#[derive(Drop)]
-pub enum Command {
-    /// `run`: compile the program in a file, run it over its inputs, and print its outputs.
-    Run {
-        /// The language of the program.
-        lang: Lang,
-        /// The name of the program's file.
-        file: Text,
-        /// The inputs.
-        ins: InWords,
-        /// Whether each input begins with a header.
-        header: bool,
-        /// Whether the firings of each operator are printed too.
-        counts: bool,
-    },
-    /// `mean`: print the slow meaning of the program in a file, over its inputs.
-    Mean {
-        /// The language of the program.
-        lang: Lang,
-        /// The name of the program's file.
-        file: Text,
-        /// The inputs.
-        ins: InWords,
-        /// Whether each input begins with a header.
-        header: bool,
-    },
-    /// `plan`: compile the program in a file, and print its plan.
-    Show {
-        /// The language of the program.
-        lang: Lang,
-        /// The name of the program's file.
-        file: Text,
-    },
-}
-
-/// Why the words command nothing.
-#[derive(Clone, Copy, Debug, PartialEq, Eq)]
-pub enum WordFault {
-    /// They are no sentence.
-    Usage,
-    /// There was no memory.
-    NoMemory,
-}
-
-impl From<NoMemory> for WordFault {
-    ghost use Rattle.river_cli.specs.declared.words.WordFault.TheVariants as fault;
-
-    ghost from_gives = { λ _ e. e ≡ fault.NoMemory };
-
-    fn from(_: NoMemory) -> Self {
-        WordFault::NoMemory
+/// The job that the words ask for. A sentence is `run LANG FILE`, `mean river FILE` or `plan LANG FILE`, and behind it, in
+/// any order, what the command takes: `run` and `mean` take words NAME=FILE and `-H`, and `run` also `-c`. FILE behind the
+/// language is not empty and does not begin with `-`; no option and no NAME stands twice.
+pub fn read_words(alloc: Global, words: &[Text]) -> Result<Job, WordFault>
+    ensures ok { IfOk result (λ job. job_of words.now ≡ Some job) }
+    ensures usage { IsErrOf result WordFault.Usage → job_of words.now ≡ None }
+{
+    let [command, lang, file, behind @ ..] = words else {
+        return Err(WordFault::Usage);
+    };
+    let Some(command) = command_named(command.as_slice()) else {
+        return Err(WordFault::Usage);
+    };
+    let Some(lang) = lang_named(lang.as_slice()) else {
+        return Err(WordFault::Usage);
+    };
+    if !goes_with(command, lang) || !is_file(file.as_slice()) {
+        return Err(WordFault::Usage);
     }
+    let mut job = plain(alloc, command, lang, file.as_slice())?;
+    read_phrases(alloc, command, behind, &mut job)?;
+    Ok(job)
 }
 
 const RUN: &[u8] = b"run";
@@ -93,87 +42,22 @@ const RIVER: &[u8] = b"river";
 
 const STREAMIT: &[u8] = b"streamit";
 
-/// The command that the words are. A sentence is `run LANG FILE`, `mean river FILE` or `plan LANG FILE`; behind the first
-/// two there are, in any order, words NAME=FILE and `-H`, and behind `run` also `-c`. FILE behind the language is not
-/// empty and does not begin with `-`; no option and no NAME stands twice.
-pub fn read_words(alloc: Global, words: &[Text]) -> Result<Command, WordFault>
-    ensures ok { IfOk result (λ command. command_of words.now ≡ Some command) }
-    ensures usage { IsErrOf result WordFault.Usage → command_of words.now ≡ None }
+fn command_named(word: &[u8]) -> Option<Command>
+    ensures { result ≡ command_named word.now }
 {
-    let [verb, lang, file, rest @ ..] = words else {
-        return Err(WordFault::Usage);
-    };
-    if verb.as_slice() == RUN {
-        read_run(alloc, lang.as_slice(), file.as_slice(), rest)
-    } else if verb.as_slice() == MEAN {
-        read_mean(alloc, lang.as_slice(), file.as_slice(), rest)
-    } else if verb.as_slice() == PLAN && rest.is_empty() {
-        read_show(alloc, lang.as_slice(), file.as_slice())
+    if word == RUN {
+        Some(Command::Run)
+    } else if word == MEAN {
+        Some(Command::Mean)
+    } else if word == PLAN {
+        Some(Command::Show)
     } else {
-        Err(WordFault::Usage)
+        None
     }
 }
 
-// The words behind `run`.
-fn read_run(alloc: Global, lang: &[u8], file: &[u8], words: &[Text]) -> Result<Command, WordFault>
-    ensures ok { IfOk result (λ command. run_of (lang_of lang.now) file.now (given_of words.now) ≡ Some command) }
-    ensures usage { IsErrOf result WordFault.Usage → run_of (lang_of lang.now) file.now (given_of words.now) ≡ None }
-{
-    let given = read_given(alloc, words)?;
-    let Some(lang) = read_lang(lang) else {
-        return Err(WordFault::Usage);
-    };
-    if !is_file(file) {
-        return Err(WordFault::Usage);
-    }
-    let file = Text::from_slice(alloc, file)?;
-    Ok(Command::Run {
-        lang,
-        file,
-        ins: given.ins,
-        header: given.header,
-        counts: given.counted,
-    })
-}
-
-// The words behind `mean`.
-fn read_mean(alloc: Global, lang: &[u8], file: &[u8], words: &[Text]) -> Result<Command, WordFault>
-    ensures ok { IfOk result (λ command. mean_of (lang_of lang.now) file.now (given_of words.now) ≡ Some command) }
-    ensures usage { IsErrOf result WordFault.Usage → mean_of (lang_of lang.now) file.now (given_of words.now) ≡ None }
-{
-    let given = read_given(alloc, words)?;
-    let Some(Lang::River) = read_lang(lang) else {
-        return Err(WordFault::Usage);
-    };
-    if !is_file(file) || given.counted {
-        return Err(WordFault::Usage);
-    }
-    let file = Text::from_slice(alloc, file)?;
-    Ok(Command::Mean {
-        lang: Lang::River,
-        file,
-        ins: given.ins,
-        header: given.header,
-    })
-}
-
-// The words behind `plan`.
-fn read_show(alloc: Global, lang: &[u8], file: &[u8]) -> Result<Command, WordFault>
-    ensures ok { IfOk result (λ command. show_of (lang_of lang.now) file.now ≡ Some command) }
-    ensures usage { IsErrOf result WordFault.Usage → show_of (lang_of lang.now) file.now ≡ None }
-{
-    let Some(lang) = read_lang(lang) else {
-        return Err(WordFault::Usage);
-    };
-    if !is_file(file) {
-        return Err(WordFault::Usage);
-    }
-    let file = Text::from_slice(alloc, file)?;
-    Ok(Command::Show { lang, file })
-}
-
-fn read_lang(word: &[u8]) -> Option<Lang>
-    ensures { result ≡ lang_of word.now }
+fn lang_named(word: &[u8]) -> Option<Lang>
+    ensures { result ≡ lang_named word.now }
 {
     if word == RIVER {
         Some(Lang::River)
@@ -181,6 +65,16 @@ fn read_lang(word: &[u8]) -> Option<Lang>
         Some(Lang::Streamit)
     } else {
         None
+    }
+}
+
+// Whether the command is there for the language, so far.
+fn goes_with(command: Command, lang: Lang) -> bool
+    ensures { result ≡ goes_with command lang }
+{
+    match (command, lang) {
+        (Command::Mean, Lang::Streamit) => false,
+        (Command::Run | Command::Mean | Command::Show, Lang::River | Lang::Streamit) => true,
     }
 }
 
@@ -194,28 +88,20 @@ pub(crate) fn is_file(word: &[u8]) -> bool
     }
 }
 
-// A word cut at its first `=`; None where there is none, or one of its parts is empty.
-pub(crate) fn read_in_word(alloc: Global, word: &[u8]) -> Result<Option<InWord>, NoMemory>
-    ensures { IfOk result (λ input. input ≡ in_word_of word.now) }
-{
-    let at = name_len(word);
-    if at == 0 || at + 1 >= word.len() {
-        return Ok(None);
-    }
-    let name = Text::from_slice(alloc, &word[..at])?;
-    let file = Text::from_slice(alloc, &word[at + 1..])?;
-    Ok(Some(InWord { name, file }))
-}
+const NO_OPTIONS: Options = Options {
+    header: false,
+    counts: false,
+};
 
-// Where the first `=` of a word stands, or its length.
-fn name_len(word: &[u8]) -> usize
-    ensures name { take result word.now ≡ name_part word.now }
-    ensures rest { drop result word.now ≡ rest_part word.now }
-    ensures within { result ≤ length word.now }
+// A command with a program and nothing else.
+fn plain(alloc: Global, command: Command, lang: Lang, file: &[u8]) -> Result<Job, NoMemory>
+    ensures { IfOk result (λ job. job ≡ plain command lang file.now) }
 {
-    let mut at = 0;
-    while at < word.len() && word[at] != b'=' {
-        at += 1;
-    }
-    at
+    Ok(Job {
+        command,
+        lang,
+        file: Text::from_slice(alloc, file)?,
+        ins: InWords::new(alloc),
+        options: NO_OPTIONS,
+    })
 }

@@ -5,7 +5,7 @@ use Rattle.std.specs.Coded.{Coded, code_by, coded_list, codes}
 use Rattle.std.proofs.Common.{ap, ◌∙◌}
 use Rattle.work_code.specs.declared.expr.BinOp.{BinOp}
 use Rattle.work_code.specs.Term.{Term, Const, Input, Slot, Neg, Not, Bin}
-use Rattle.work_code.specs.Steps.{Step, Steps, Set, Push, If, Done, Then, Body}
+use Rattle.work_code.specs.Steps.{Step, Steps, Set, Push, If, Done, Then}
 use Rattle.kern_rows.specs.Forms.{CodeForm, FilterForm}
 use Rattle.kern_bags.specs.declared.kernel.Window.{Window}
 use Rattle.kern_bags.specs.declared.kernel.Streamer.{Streamer}

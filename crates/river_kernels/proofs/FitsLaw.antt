@@ -1,11 +1,10 @@
 -- A kernel fits exactly the types that are inferred from what it reads.
-use Rattle.std.proofs.Common.{◌≡◌, ℤ, ℕ, zero, suc, ◌+◌, ◌-◌, ◌<◌, ◌≤◌, Bool, true, false, ◌&&◌, nat_eq, Option, Some, None, List, [], ◌∷◌, ◌++◌, length, refl, sym, ap, ◌∙◌, subst, arith, IsTrue}
-use Rattle.std.specs.Prelude.{if◌then◌else◌, nat_le, replicate, slice_get}
+use Rattle.std.proofs.Common.{◌≡◌, ℤ, ℕ, ◌+◌, ◌≤◌, Bool, true, ◌&&◌, nat_eq, Option, Some, None, List, [], ◌∷◌, ◌++◌, length, refl, sym, ap, ◌∙◌, subst, arith}
+use Rattle.std.specs.Prelude.{nat_le, replicate, slice_get}
 use Rattle.std.specs.List.{list_all}
-use Rattle.std.proofs.lemmas.Bool.{true≢false, and_from, and_parts}
+use Rattle.std.proofs.lemmas.Bool.{and_from, and_parts}
 use Rattle.river_base.specs.declared.kind.FlatType.{FlatType}
 use Rattle.river_base.specs.declared.kind.QueueType.{QueueType}
-use Rattle.river_base.specs.declared.kind.FlatType.TheVariants.{Rows, Stream, Relation}
 use Rattle.river_base.specs.declared.kind.QueueType.TheVariants.{Flat, Pack}
 use Rattle.river_kernels.specs.declared.types.VarKind.{VarKind}
 use Rattle.river_kernels.specs.declared.types.VarKind.TheVariants.{Private, Table}
@@ -13,8 +12,8 @@ use Rattle.river_kernels.specs.declared.types.Types.{Types}
 use Rattle.river_kernels.specs.Kern.{Kern, code, filter, duplicate, deal, collect, packed, unpack, window, select, project, cross, streamer, tally, fused}
 use Rattle.river_kernels.specs.Formed.{is_width, is_term, is_code, is_filter, are_weights, is_window}
 use Rattle.river_kernels.specs.Fits.{Fits, rows, stream, relation, width_of, is_sized, is_bag, ports, are_widths, kept, spliced}
-use Rattle.river_kernels.specs.Types.{given, gives, flat_in, rows_in, stream_in, relation_in, same_flat, same_type, flats_in, packs_in, crossed, packed_outs, packed_of, joined, behind, fused_of, types_of}
-use Rattle.river_kernels.proofs.TypeLemmas.{eq_same, same_eq, not_some, some_same, gives_if, Gives, gives_some, flat_some, rows_some, stream_some, relation_some, flats_some, packs_some, flats_all, packs_all, pair_some}
+use Rattle.river_kernels.specs.Types.{given, gives, rows_in, stream_in, relation_in, crossed, packed_outs, packed_of, joined, behind, fused_of, types_of}
+use Rattle.river_kernels.proofs.TypeLemmas.{eq_same, same_eq, not_some, some_same, gives_if, gives_some, flat_some, rows_some, stream_some, relation_some, flats_some, packs_some, flats_all, packs_all, pair_some}
 
 -- the first part of a test of weights
 weighed : (b : Bool) (ws : List ℤ) → (b && are_weights ws) ≡ true → 1 ≤ length ws

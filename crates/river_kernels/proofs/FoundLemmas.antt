@@ -1,6 +1,6 @@
 -- What may be answered for two kernels, from what was answered for each.
-use Rattle.std.proofs.Common.{◌≡◌, ℕ, zero, suc, ◌+◌, ◌-◌, ◌<◌, ◌≤◌, Option, Some, None, List, [], ◌∷◌, ◌++◌, length, take, drop, refl, sym, ap, ◌∙◌, subst, arith, length-append, length-drop}
-use Rattle.std.specs.Prelude.{slice_get, IsTrue, ◌↔◌}
+use Rattle.std.proofs.Common.{◌≡◌, ℕ, zero, suc, ◌+◌, ◌-◌, ◌<◌, Option, Some, None, List, [], ◌∷◌, ◌++◌, length, take, drop, refl, sym, ap, ◌∙◌, subst, arith, length-append, length-drop}
+use Rattle.std.specs.Prelude.{slice_get}
 use Rattle.std.proofs.lemmas.List.{length-take-le}
 use Rattle.river_base.specs.declared.kind.QueueType.{QueueType}
 use Rattle.river_kernels.specs.declared.types.VarKind.{VarKind}
@@ -80,6 +80,12 @@ fused_both most room at None f one m two r h e g u v = absurd h
 fused_both most room at (Some p) f one m two r h e g u v =
     behind_both most at p m (slice_get p.outs at) f two r (ap (λ (t : Types). slice_get t.outs at) (sym h) ∙ e) g
     (u ∙ ap (λ (t : Types). spliced at t.outs two.outs) h) (v ∙ ap (λ (t : Types). t.vars ++ two.vars) h)
+
+-- the first was found, and what was found of the second is put behind its port
+pub fused_joined : (most room at : ℕ) (o : Option Types) (f : List QueueType → Option Types) (one : Types) (m : QueueType) (two r : Option Types)
+    → IsFound room o (Some one) → slice_get one.outs at ≡ Some m → IsFound most (f (m ∷ [])) two → r ≡ joined at one two → IsFound most (fused_of at o f) r
+fused_joined most room at o f one m None r h e g j = subst (IsFound most (fused_of at o f)) (sym j) (fused_second most room at o f one m h e g)
+fused_joined most room at o f one m (Some two) r h e g j = subst (IsFound most (fused_of at o f)) (sym j) (fused_both most room at o f one m two (given (spliced at one.outs two.outs) (one.vars ++ two.vars)) h e g refl refl)
 
 -- what was found decides whether the kernel fits
 decided : (k : Kern) (is os : List QueueType) (vs : List VarKind) (o r : Option Types) → types_of k is ≡ o → IsFound (length os) o r → Fits k is os vs → r ≡ Some (given os vs)

@@ -1,10 +1,10 @@
 -- Numbers that are limited: lists that are joined, sums, and statements that are counted.
-use Rattle.std.proofs.Common.{◌≡◌, ℕ, ◌+◌, ◌-◌, ◌^◌, ◌<◌, ◌≤◌, Bool, true, false, List, [], ◌∷◌, ◌++◌, Option, Some, None, length, take, get_or, refl, sym, ap, ◌∙◌, subst, arith, ⊎_elim, map, nat_lt}
-use Rattle.std.specs.Prelude.{ℤ, min, if◌then◌else◌}
+use Rattle.std.proofs.Common.{◌≡◌, ℕ, ◌+◌, ◌^◌, ◌<◌, Bool, true, false, List, [], ◌∷◌, ◌++◌, Option, Some, None, length, take, get_or, refl, sym, ap, ◌∙◌, arith, map, nat_lt}
+use Rattle.std.specs.Prelude.{ℤ, if◌then◌else◌}
 use Rattle.std.proofs.lemmas.Bool.Decides.{nat_tests}
 use Rattle.std.proofs.lemmas.List.{take_more, map-append}
 use Rattle.work_code.specs.declared.code.Stmt.{Stmt}
-use Rattle.work_code.specs.Steps.{Step, Steps, step, in_turn}
+use Rattle.work_code.specs.Steps.{Step, step, in_turn}
 use Rattle.river_base.specs.Number.{count_of}
 use Rattle.river_kernels.specs.Limits.{told, either, first_above, size_once, size, weight_sum}
 

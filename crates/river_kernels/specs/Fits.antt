@@ -1,11 +1,10 @@
 -- When a kernel fits the types of its ports and its variables.
-use Rattle.std.specs.Prelude.{◌≡◌, ℕ, zero, suc, ◌+◌, Bool, true, false, ◌&&◌, nat_lt, nat_le, IsTrue, Option, Some, List, [], ◌∷◌, ◌++◌, length, map, take, drop, replicate, slice_get, ℤ}
+use Rattle.std.specs.Prelude.{◌≡◌, ℕ, ◌+◌, Bool, true, false, ◌&&◌, nat_le, IsTrue, Some, List, [], ◌∷◌, ◌++◌, length, map, take, drop, replicate, slice_get, ℤ}
 use Rattle.std.specs.List.{list_all}
 use Rattle.river_base.specs.declared.kind.FlatType.{FlatType}
 use Rattle.river_base.specs.declared.kind.QueueType.{QueueType}
 use Rattle.river_base.specs.declared.kind.FlatType.TheVariants.{Rows, Stream, Relation}
 use Rattle.river_base.specs.declared.kind.QueueType.TheVariants.{Flat, Pack}
-use Rattle.work_code.specs.Term.{Term}
 use Rattle.river_kernels.specs.Kern.{Kern, code, filter, duplicate, deal, collect, packed, unpack, window, select, project, cross, streamer, tally, fused}
 use Rattle.river_base.specs.Number.{count_of}
 use Rattle.river_kernels.specs.Formed.{is_width, is_term, is_code, is_filter, are_weights, is_window}

@@ -1,5 +1,5 @@
 -- The numbers in a kernel that are limited, in the order of its parts.
-use Rattle.std.specs.Prelude.{ℕ, suc, ◌+◌, ◌-◌, ◌^◌, ℤ, List, [], ◌∷◌, ◌++◌, Option, Some, None, min, max, nat_lt, if◌then◌else◌}
+use Rattle.std.specs.Prelude.{ℕ, ◌+◌, ◌-◌, ◌^◌, ℤ, List, [], ◌∷◌, ◌++◌, Option, Some, None, min, max, nat_lt, if◌then◌else◌}
 use Rattle.work_code.specs.Steps.{Step, Steps, Set, Push, If, Done, Then, Body}
 use Rattle.kern_rows.specs.Forms.{FilterForm}
 use Rattle.kern_bags.specs.declared.kernel.Window.{Window}

@@ -1,8 +1,8 @@
 // Whether a kernel fits the types of its ports and its variables.
-ghost use Rattle.std.specs.Prelude.{◌≡◌, slice_get, IfOk, IsTrue, ◌↔◌};
+ghost use Rattle.std.specs.Prelude.{◌≡◌, ◌<◌, length, slice_get, IfOk, IsTrue, ◌↔◌};
 ghost use Rattle.river_kernels.specs.Kern.{kern_of};
 ghost use Rattle.river_kernels.specs.Fits.{Fits};
-ghost use Rattle.river_kernels.specs.Types.{types_of, IsFound};
+ghost use Rattle.river_kernels.specs.Types.{types_of, packed_of, joined, IsFound};
 
 use crate::Kernel;
 use crate::inference::{
@@ -33,10 +33,7 @@ fn types(
             let Some(t) = only_flat(reads) else {
                 return Ok(None)
             };
-            match types(alloc, inner, &[QueueType::Flat(t)], 1)? {
-                None => Ok(None),
-                Some(within) => one_pack(alloc, &within),
-            }
+            pack_of(alloc, types(alloc, inner, &[QueueType::Flat(t)], 1)?)
         }
         Kernel::Unpack(ports) => of_unpack(alloc, *ports, reads),
         Kernel::Window(w) => of_window(alloc, w, reads),
@@ -56,11 +53,30 @@ fn types(
             let Some(middle) = port_type(&one, *at) else {
                 return Ok(None)
             };
-            let Some(two) = types(alloc, second, &[middle], most)? else {
-                return Ok(None)
-            };
-            Ok(Some(splice(alloc, &one, &two, *at as usize)?))
+            let two = types(alloc, second, &[middle], most)?;
+            both(alloc, &one, two, *at)
         }
+    }
+}
+
+// One pack of what the kernel inside gives, where it has types.
+fn pack_of(alloc: Global, within: Option<Types>) -> Result<Option<Types>, NoMemory>
+    ensures { IfOk result (λ found. found ≡ packed_of within) }
+{
+    match within {
+        None => Ok(None),
+        Some(within) => one_pack(alloc, &within),
+    }
+}
+
+// The second kernel behind a port of the first, where it has types.
+fn both(alloc: Global, one: &Types, two: Option<Types>, at: u32) -> Result<Option<Types>, NoMemory>
+    requires { at < length one.now.outs }
+    ensures { IfOk result (λ found. found ≡ joined at one.now two) }
+{
+    match two {
+        None => Ok(None),
+        Some(two) => Ok(Some(splice(alloc, one, &two, at as usize)?)),
     }
 }
 

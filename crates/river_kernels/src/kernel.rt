@@ -1,6 +1,6 @@
 // The kernels of operators.
 ghost use Rattle.std.specs.Prelude.{◌≡◌, IfOk};
-ghost use Rattle.river_kernels.specs.Kern.{kern_of};
+ghost use Rattle.river_kernels.specs.Kern.{kern_of, packed, fused};
 
 use kern_bags::{Streamer, Window};
 use kern_rows::{CodeKernel, Filter};
@@ -57,10 +57,7 @@ impl Kernel {
             Kernel::Duplicate(ports) => Ok(Kernel::Duplicate(*ports)),
             Kernel::Deal(weights) => Ok(Kernel::Deal(weights.copy(alloc)?)),
             Kernel::Collect(weights) => Ok(Kernel::Collect(weights.copy(alloc)?)),
-            Kernel::Packed(inner) => {
-                let inner = inner.copy(alloc)?;
-                Ok(Kernel::Packed(Box::new(alloc, inner)?))
-            }
+            Kernel::Packed(inner) => packed(alloc, inner.copy(alloc)?),
             Kernel::Unpack(ports) => Ok(Kernel::Unpack(*ports)),
             Kernel::Window(window) => Ok(Kernel::Window(*window)),
             Kernel::Select(cond) => Ok(Kernel::Select(cond.copy(alloc)?)),
@@ -70,13 +67,24 @@ impl Kernel {
             Kernel::Tally => Ok(Kernel::Tally),
             Kernel::Fused { first, second, at } => {
                 let first = first.copy(alloc)?;
-                let second = second.copy(alloc)?;
-                Ok(Kernel::Fused {
-                    first: Box::new(alloc, first)?,
-                    second: Box::new(alloc, second)?,
-                    at: *at,
-                })
+                fused(alloc, first, second.copy(alloc)?, *at)
             }
         }
     }
+}
+
+// A kernel that packs what this one gives.
+fn packed(alloc: Global, inner: Kernel) -> Result<Kernel, NoMemory>
+    ensures { IfOk result (λ both. kern_of both ≡ packed (kern_of inner)) }
+{
+    Ok(Kernel::Packed(Box::new(alloc, inner)?))
+}
+
+// The second kernel behind a port of the first.
+fn fused(alloc: Global, first: Kernel, second: Kernel, at: u32) -> Result<Kernel, NoMemory>
+    ensures { IfOk result (λ both. kern_of both ≡ fused (kern_of first) (kern_of second) at) }
+{
+    let first = Box::new(alloc, first)?;
+    let second = Box::new(alloc, second)?;
+    Ok(Kernel::Fused { first, second, at })
 }

@@ -6,11 +6,11 @@ mod formed;
 mod inference;
 mod kernel;
 mod limit;
-#[cfg(test)]
-mod tests;
+mod shape;
 mod types;
 
 pub use fitting::fits;
 pub use kernel::Kernel;
 pub use limit::{Limit, first_above, nesting};
+pub use shape::Shape;
 pub use types::{Types, VarKind};

@@ -1,5 +1,5 @@
 -- From some points to later ones.
-use Rattle.std.proofs.Common.{◌≡◌, ℕ, List, length, false, refl, sym, subst, inl, inr, IfSome, nat_lt}
+use Rattle.std.proofs.Common.{◌≡◌, ℕ, List, refl, sym, subst, inl, inr}
 use Rattle.std.specs.Prelude.{Option, Some}
 use Rattle.river_outside.specs.Held.{Held}
 use Rattle.river_order.specs.Order.{Order, Ends, Fetch, Verdict, EndsIn, Reaches}
@@ -9,13 +9,11 @@ pub Comes-same : (order : Order) (held : Option Held) → Comes order held order
 Comes-same (Ends v) held = refl
 Comes-same (Fetch name limit large next) held = inl refl
 
--- one fetch more
-pub Comes-more : (from : Order) (held : Option Held) (name : List ℕ) (limit : ℕ) (large : List ℕ) (next : List ℕ → Order) (bytes : List ℕ) → Comes from held (Fetch name limit large next) → IfSome held (λ h. h name ≡ Some bytes) → nat_lt limit (length bytes) ≡ false → Comes from held (next bytes)
-Comes-more (Ends v) held name limit large next bytes far is le = cc
-Comes-more (Fetch n l g k) held name limit large next bytes (inl here) is le =
-    subst (λ (o : Order). Comes o held (next bytes)) (sym here) (inr (bytes, is, le, Comes-same (next bytes) held))
-Comes-more (Fetch n l g k) held name limit large next bytes (inr far) is le =
-    inr (far.0, far.1, far.2, Comes-more (k far.0) held name limit large next bytes far.3 is le)
+-- one part of the way, and then the other
+pub Comes-on : (from mid later : Order) (held : Option Held) → Comes from held mid → Comes mid held later → Comes from held later
+Comes-on (Ends v) mid later held first second = subst (λ (o : Order). Comes o held later) (sym first) second
+Comes-on (Fetch n l g k) mid later held (inl here) second = subst (λ (o : Order). Comes o held later) (sym here) second
+Comes-on (Fetch n l g k) mid later held (inr far) second = inr (far.0, far.1, far.2, Comes-on (k far.0) mid later held far.3 second)
 
 -- an end of the later points is an end of the earlier ones
 pub EndsIn-later : (from later : Order) (held : Option Held) (v : Verdict) → Comes from held later → EndsIn later held v → EndsIn from held v

@@ -1,3 +1,4 @@
 pub mod Comes
+pub mod Passes
 pub mod Told
 pub mod Turns

@@ -1,13 +1,14 @@
 -- How the points go on at a fetch.
 use Rattle.std.proofs.Common.{◌≡◌, ℕ, ◌+◌, ◌<◌, ◌≤◌, List, length, true, false, refl, sym, ap, inl, inr, IfSome, arith, nat_lt}
-use Rattle.std.specs.Prelude.{Option, None, Some, MatchOption, Result, Ok, Err, replicate}
+use Rattle.std.specs.Prelude.{Option, None, Some, MatchOption, Ok, replicate}
 use Rattle.std.proofs.lemmas.List.{length-replicate}
 use Rattle.std.proofs.lemmas.Bool.Decides.{nat_tests}
 use Rattle.river_outside.specs.Held.{Held}
 use Rattle.river_outside.specs.Fetched.{FetchesAll, IsLarger}
 use Rattle.river_order.specs.Text.{failed_text, absent_text}
 use Rattle.river_order.specs.Order.{Order, Fetch, Refused, Unread, Done, EndsIn, Comes}
-use Rattle.river_order.specs.Decides.{Decides, IsEnd, Stops}
+use Rattle.river_order.specs.Decides.{Stops}
+use Rattle.river_order.specs.Passes.{Passes}
 use Rattle.river_order.specs.declared.stop.Stop.{Stop}
 use Rattle.river_order.specs.declared.stop.Stop.TheVariants as stop
 use Rattle.river_order.proofs.Comes.{Comes-same, EndsIn-later, Reaches-later}
@@ -35,7 +36,7 @@ cause-sooner : (held : Option Held) (early late : Type 0) → (late → early) �
 cause-sooner None early late sooner c = sooner c
 cause-sooner (Some h) early late sooner c = tt
 
-Stops-later : (from later : Order) (held : Option Held) (early late : Type 0) → (late → early) → (s : Stop) → Comes from held later → Stops (Some later) held late s → Stops (Some from) held early s
+pub Stops-later : (from later : Order) (held : Option Held) (early late : Type 0) → (late → early) → (s : Stop) → Comes from held later → Stops (Some later) held late s → Stops (Some from) held early s
 Stops-later from later held early late sooner stop.Usage far here = cc
 Stops-later from later held early late sooner (stop.Refused text) far here = EndsIn-later from later held (Refused text) far here
 Stops-later from later held early late sooner (stop.Failed text) far here =
@@ -43,15 +44,6 @@ Stops-later from later held early late sooner (stop.Failed text) far here =
 Stops-later from later held early late sooner (stop.Absent text) far here =
     record { file = here.file; says = here.says; turn = Reaches-later from later held here.file far here.turn; end = EndsIn-later from later held (Unread here.file) far here.end; cause = cause-sooner held early late sooner here.cause }
 Stops-later from later held early late sooner stop.NoMemory far here = tt
-
-pub Decides-later : (from later : Order) (held : Option Held) (early late : Type 0) → (late → early) → (outcome : Result (List ℕ) Stop) → Comes from held later → Decides (Some later) held late outcome → Decides (Some from) held early outcome
-Decides-later from later held early late sooner (Ok text) far here = EndsIn-later from later held (Done text) far here
-Decides-later from later held early late sooner (Err s) far here = Stops-later from later held early late sooner s far here
-
--- the fetch gave the bytes, and the points after it decide
-pub Decides-fetched : (held : Option Held) (early late : Type 0) → (late → early) → (name : List ℕ) (limit : ℕ) (large : List ℕ) (next : List ℕ → Order) (bytes : List ℕ) (outcome : Result (List ℕ) Stop) → IfSome held (λ h. FetchesAll (h name) limit bytes) → length bytes ≤ limit → Decides (Some (next bytes)) held late outcome → Decides (Some (Fetch name limit large next)) held early outcome
-Decides-fetched held early late sooner name limit large next bytes outcome all le here =
-    Decides-later (Fetch name limit large next) (next bytes) held early late sooner outcome (Comes-fetched held name limit large next bytes all le) here
 
 -- the fetch found too many bytes
 large_end : (held : Option Held) (name : List ℕ) (limit : ℕ) (large : List ℕ) (next : List ℕ → Order) (bytes : List ℕ) → IfSome held (λ h. h name ≡ Some bytes) → limit < length bytes → EndsIn (Fetch name limit large next) held (Refused large)
@@ -82,11 +74,8 @@ pub Stops-absent : (held : Option Held) (rose : Type 0) (name : List ℕ) (limit
 Stops-absent held rose name limit large next text says none =
     record { file = name; says = says; turn = inl refl; end = EndsIn-absent held rose name limit large next none; cause = cause-absent held rose name none }
 
--- the points are at their end
-pub Decides-end : (held : Option Held) (rose : Type 0) (order : Order) (outcome : Result (List ℕ) Stop) → IsEnd order outcome → Decides (Some order) held rose outcome
-Decides-end held rose order (Ok text) is = rw is refl
-Decides-end held rose order (Err stop.Usage) is = absurd is
-Decides-end held rose order (Err (stop.Refused text)) is = rw is refl
-Decides-end held rose order (Err (stop.Failed text)) is = absurd is
-Decides-end held rose order (Err (stop.Absent text)) is = absurd is
-Decides-end held rose order (Err stop.NoMemory) is = tt
+-- ---- THE CALL THAT FETCHES
+
+-- it gave the bytes
+pub fetched-passes : (held : Option Held) (rose : Type 0) (name : List ℕ) (limit : ℕ) (large : List ℕ) (bytes : List ℕ) → IfSome held (λ h. FetchesAll (h name) limit bytes) → length bytes ≤ limit → Passes (Fetch name limit large) held rose (Ok bytes)
+fetched-passes held rose name limit large bytes all le = λ next. Comes-fetched held name limit large next bytes all le

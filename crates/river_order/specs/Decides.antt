@@ -33,12 +33,3 @@ Stops points held rose stop.NoMemory = ⊤
 abbrev pub Decides : Option Order → Option Held → Type 0 → Result (List ℕ) Stop → Type 0
 Decides points held rose (Ok text) = IsVerdict points held (Done text)
 Decides points held rose (Err stop) = Stops points held rose stop
-
--- the points are at an end, which the outcome has
-abbrev pub IsEnd : Order → Result (List ℕ) Stop → Type 0
-IsEnd order (Ok text) = order ≡ Ends (Done text)
-IsEnd order (Err (stop.Refused text)) = order ≡ Ends (Refused text)
-IsEnd order (Err stop.NoMemory) = ⊤
-IsEnd order (Err stop.Usage) = ⊥
-IsEnd order (Err (stop.Failed text)) = ⊥
-IsEnd order (Err (stop.Absent text)) = ⊥

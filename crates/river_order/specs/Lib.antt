@@ -1,4 +1,5 @@
 pub mod Decides
 pub mod Laws
 pub mod Order
+pub mod Passes
 pub mod Text

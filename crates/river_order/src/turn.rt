@@ -1,9 +1,9 @@
 // The turn of a file.
-ghost use Rattle.std.specs.Prelude.{◌≡◌, ◌≤◌, List, ℕ, length, Some, IfSome, IfOk, IfErr};
+ghost use Rattle.std.specs.Prelude.{◌≡◌, ◌≤◌, length, IfSome, IfOk};
 ghost use Rattle.river_outside.specs.Causes.{Rose};
 ghost use Rattle.river_outside.specs.Fetched.{FetchesAll};
-ghost use Rattle.river_order.specs.Order.{Order, Fetch};
-ghost use Rattle.river_order.specs.Decides.{Stops};
+ghost use Rattle.river_order.specs.Order.{Fetch};
+ghost use Rattle.river_order.specs.Passes.{Passes};
 
 use crate::{Stop, text};
 use river_base::Bytes;
@@ -25,8 +25,7 @@ pub fn take_turn<S: Shelf>(
     ensures within { IfOk result (λ got. length got ≤ limit) }
 
     // Where there are no bytes this point decides, whatever the later ones are.
-    ensures stops { IfErr result (λ stop. (next : List ℕ → Order)
-        → Stops (Some (Fetch name.now limit large.now next)) (S.held shelf.old) (Rose (S.faults shelf.old) (S.faults shelf.new)) stop) }
+    ensures passes { Passes (Fetch name.now limit large.now) (S.held shelf.old) (Rose (S.faults shelf.old) (S.faults shelf.new)) result }
 {
     match fetch(alloc, shelf, name, limit) {
         Ok(bytes) => Ok(bytes),

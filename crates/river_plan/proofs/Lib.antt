@@ -1,10 +1,12 @@
 pub mod JudgeLemmas
-pub mod MapLemmas
 pub mod NameLemmas
 pub mod OneFirst
 pub mod OverLemmas
+pub mod PlaceLemmas
 pub mod Remains
 pub mod Searches
 pub mod ShareLemmas
 pub mod UseLemmas
+pub mod UserLemmas
 pub mod ValidLaw
+pub mod WiredLemmas

@@ -121,3 +121,16 @@ same-next ws set set' xs i x e lt g s =
 
 pub same-end : (ws set xs ys : List Name) (i : ℕ) → length xs ≤ i → xs ≡ ys → SameNames set (ws ++ take i xs) → SameNames set (ws ++ ys)
 same-end ws set xs ys i le e s = subst (λ (l : List Name). SameNames set (ws ++ l)) (take_all i xs le ∙ e) s
+
+-- a name that is not there yet comes behind the others
+pub with_name-new : (ws : List Name) (w : Name) → count w ws ≡ 0 → with_name ws w ≡ ws ++ w ∷ []
+with_name-new ws w z = by (nat_lt 0 (count w ws)) refl
+  where
+    by : (b : Bool) → nat_lt 0 (count w ws) ≡ b → (if b then ws else ws ++ w ∷ []) ≡ ws ++ w ∷ []
+    by true t = absurd (let lt = ltb-true 0 (count w ws) t in omega (arith, z, lt))
+    by false t = refl
+
+-- a loop that adds names of which none stood before: its step
+pub new-next : (xs : List Name) (i : ℕ) (x : Name) (set set' : List Name) → i < length xs → x ≡ get_or xs i x → count x set ≡ 0 → set' ≡ with_name set x → set ≡ take i xs → set' ≡ take (i + 1) xs
+new-next xs i x set set' lt e z n h =
+    n ∙ with_name-new set x z ∙ ap (λ l. l ++ x ∷ []) h ∙ ap (λ y. take i xs ++ y ∷ []) e ∙ sym (take_more xs i x lt)

@@ -1,9 +1,8 @@
 -- The types of queues and the kinds of variables, looked up by name.
-use Rattle.std.specs.Prelude.{ℕ, ◌+◌, List, [], ◌∷◌, map, if◌then◌else◌, Option, Some, None, unwrap_or}
+use Rattle.std.specs.Prelude.{List, [], ◌∷◌, map, if◌then◌else◌, Option, Some, None, unwrap_or}
 use Rattle.river_base.specs.Name.{name_eq}
 use Rattle.river_base.specs.declared.kind.QueueType.{QueueType}
-use Rattle.kern_tables.specs.declared.kind.TableKind.{TableKind}
-use Rattle.kern_tables.specs.declared.kind.TableKind.TheVariants.{Sum, Collection, Maximum}
+pub use Rattle.kern_tables.specs.Tables.{table_width}
 use Rattle.river_kernels.specs.Fits.{Fits, rows}
 use Rattle.river_kernels.specs.declared.types.VarKind.{VarKind}
 use Rattle.river_kernels.specs.declared.types.VarKind.TheVariants.{Private, Table}
@@ -20,12 +19,6 @@ kind_in (d ∷ ds) q = if name_eq d.name q then Some d.kind else kind_in ds q
 -- of a queue that is not declared, a type without width, which no kernel fits
 abbrev pub kind_of : List Decl → Name → QueueType
 kind_of ds q = unwrap_or (kind_in ds q) (rows 0)
-
--- how many values a row of a table has: the keys, the value, and for a maximum the weight
-abbrev pub table_width : TableKind → ℕ
-table_width (Sum keys) = keys + 1
-table_width (Collection keys) = keys + 1
-table_width (Maximum best keys) = keys + 2
 
 -- what a variable is, by its first declaration, the tables first
 abbrev pub table_in : List TableDecl → Name → Option VarKind

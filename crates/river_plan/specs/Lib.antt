@@ -1,4 +1,4 @@
-pub mod ByName
+pub mod ByPlace
 pub mod Decided
 pub mod Faults
 pub mod First
@@ -6,8 +6,10 @@ pub mod Forms
 pub mod Kinds
 pub mod Limits
 pub mod Names
+pub mod Places
 pub mod PlanCode
 pub mod Shares
 pub mod Told
 pub mod Uses
 pub mod Valid
+pub mod Wired

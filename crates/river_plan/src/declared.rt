@@ -1,23 +1,100 @@
-// Names that are not declared.
-ghost use Rattle.std.specs.Prelude.{[], IfOk};
-ghost use Rattle.river_plan.specs.First.{Along};
-ghost use Rattle.river_plan.specs.Forms.{plan_form, op_form, op_forms};
-ghost use Rattle.river_plan.specs.Faults.{Undeclared, UndeclaredAt};
+// The names of a plan: that none stands twice, that what operators name is declared, and their places.
+ghost use Rattle.std.specs.Prelude.{◌≡◌, [], None, Err, IfOk, OnOk, IfErr};
+ghost use Rattle.river_plan.specs.First.{Along, IsFirst};
+ghost use Rattle.river_plan.specs.Forms.{plan_form, op_form, op_forms, queue_names, variable_names, labels as labels_of};
+ghost use Rattle.river_plan.specs.Faults.{IsNew, Undeclared, UndeclaredAt};
+ghost use Rattle.river_plan.specs.Valid.{IsJudged};
+ghost use Rattle.river_plan.specs.Wired.{IsWired, AreNamed};
 
-use crate::lists::{queue_names, variable_names};
+use crate::lists::{labels, queue_names, variable_names};
 use crate::name_set::NameSet;
-use crate::search::{first_missing, set_of};
-use crate::{Named, Op, Ops, RawPlan};
-use river_base::NoMemory;
+use crate::search::{add_new, first_missing};
+use crate::wiring::{Wiring, wiring_by};
+use crate::{Named, Op, Ops, PlanFault, RawPlan};
+use river_base::{Name, NoMemory};
 use std::alloc::Global;
 
-/// The first queue or variable that an operator names and that is not declared.
-pub(crate) fn undeclared(alloc: Global, raw: &RawPlan) -> Result<Option<Named>, NoMemory>
-    ensures { IfOk result (Undeclared (plan_form raw.now)) }
+/// The wiring of lists of which no name stands twice and all that operators name are declared; otherwise the first
+/// name at fault.
+pub(crate) fn wiring_of(alloc: Global, raw: &RawPlan) -> Result<Wiring, PlanFault>
+    ensures wired { IfOk result (IsWired (plan_form raw.now)) }
+    ensures named { OnOk result (AreNamed (plan_form raw.now)) }
+    ensures fault { IfErr result (λ fault. IsJudged (plan_form raw.now) (Err fault)) }
 {
-    let queues = set_of(alloc, &queue_names(alloc, raw)?)?;
-    let variables = set_of(alloc, &variable_names(alloc, raw)?)?;
-    Ok(undeclared_in(&raw.ops, &queues, &variables))
+    let mut queues = NameSet::new(alloc);
+    if let Some(name) = add_queues(alloc, raw, &mut queues)? {
+        return Err(PlanFault::P1(Named::Queue(name)));
+    }
+    wiring_among(alloc, raw, &queues)
+}
+
+// The same, where the queues are known.
+fn wiring_among(alloc: Global, raw: &RawPlan, queues: &NameSet) -> Result<Wiring, PlanFault>
+    requires names { queues.now ≡ queue_names (plan_form raw.now) }
+    requires once { IsFirst IsNew (queue_names (plan_form raw.now)) None }
+    ensures wired { IfOk result (IsWired (plan_form raw.now)) }
+    ensures named { OnOk result (AreNamed (plan_form raw.now)) }
+    ensures fault { IfErr result (λ fault. IsJudged (plan_form raw.now) (Err fault)) }
+{
+    let mut variables = NameSet::new(alloc);
+    if let Some(name) = add_variables(alloc, raw, &mut variables)? {
+        return Err(PlanFault::P1(Named::Variable(name)));
+    }
+    wiring_between(alloc, raw, queues, &variables)
+}
+
+// The same, where the variables are known too.
+fn wiring_between(
+    alloc: Global,
+    raw: &RawPlan,
+    queues: &NameSet,
+    variables: &NameSet,
+) -> Result<Wiring, PlanFault>
+    requires queues { queues.now ≡ queue_names (plan_form raw.now) }
+    requires variables { variables.now ≡ variable_names (plan_form raw.now) }
+    requires queues_once { IsFirst IsNew (queue_names (plan_form raw.now)) None }
+    requires variables_once { IsFirst IsNew (variable_names (plan_form raw.now)) None }
+    ensures wired { IfOk result (IsWired (plan_form raw.now)) }
+    ensures named { OnOk result (AreNamed (plan_form raw.now)) }
+    ensures fault { IfErr result (λ fault. IsJudged (plan_form raw.now) (Err fault)) }
+{
+    if let Some(label) = label_again(alloc, &raw.ops)? {
+        return Err(PlanFault::P1(Named::Label(label)));
+    }
+    if let Some(named) = undeclared_in(&raw.ops, queues, variables) {
+        return Err(PlanFault::P2(named));
+    }
+    Ok(wiring_by(alloc, raw, queues, variables)?)
+}
+
+// Adds the names of the queues to the empty set; answers the first that stood before.
+fn add_queues(alloc: Global, raw: &RawPlan, queues: &mut NameSet) -> Result<Option<Name>, NoMemory>
+    requires { queues.old ≡ [] }
+    ensures first { IfOk result (IsFirst IsNew (queue_names (plan_form raw.now))) }
+    ensures all { IfOk result (λ found. found ≡ None → queues.new ≡ queue_names (plan_form raw.now)) }
+{
+    add_new(queues, &queue_names(alloc, raw)?)
+}
+
+// Adds the names of the variables to the empty set; answers the first that stood before.
+fn add_variables(
+    alloc: Global,
+    raw: &RawPlan,
+    variables: &mut NameSet,
+) -> Result<Option<Name>, NoMemory>
+    requires { variables.old ≡ [] }
+    ensures first { IfOk result (IsFirst IsNew (variable_names (plan_form raw.now))) }
+    ensures all { IfOk result (λ found. found ≡ None → variables.new ≡ variable_names (plan_form raw.now)) }
+{
+    add_new(variables, &variable_names(alloc, raw)?)
+}
+
+// The first label that stood before.
+fn label_again(alloc: Global, ops: &Ops) -> Result<Option<Name>, NoMemory>
+    ensures { IfOk result (IsFirst IsNew (labels_of (op_forms ops.now))) }
+{
+    let mut seen = NameSet::new(alloc);
+    add_new(&mut seen, &labels(alloc, ops)?)
 }
 
 // The first name in these operators that is in neither set.

@@ -1,17 +1,18 @@
 // The check of a plan.
-ghost use Rattle.std.specs.Prelude.{IfOk};
+ghost use Rattle.std.specs.Prelude.{None, Err, IfOk, OnOk, IfErr};
 ghost use Rattle.river_plan.specs.Forms.{plan_form};
 ghost use Rattle.river_plan.specs.Told.{IsTold};
 ghost use Rattle.river_plan.specs.Valid.{FirstFault, IsJudged};
+ghost use Rattle.river_plan.specs.Wired.{IsWired, LaterFault};
 
-use crate::declared::undeclared;
+use crate::declared::wiring_of;
 use crate::limit::over_limit;
 use crate::misfit::misfit;
 use crate::once::{read_twice, written_twice};
 use crate::order::read_too_early;
-use crate::repeated::repeated;
 use crate::shared::shared;
 use crate::types::mistyped;
+use crate::wiring::Wiring;
 use crate::{Plan, PlanFault, RawPlan};
 use river_base::NoMemory;
 use std::alloc::Global;
@@ -22,22 +23,30 @@ pub fn check(alloc: Global, raw: RawPlan) -> Result<Plan, PlanFault>
     ensures judged { IsJudged (plan_form raw) result }
     ensures told { IsTold (plan_form raw) result }
 {
-    match first_fault(alloc, &raw)? {
-        Some(fault) => Err(fault),
-        None => Ok(Plan::of_valid(raw)),
+    match checked(alloc, &raw) {
+        Ok(wiring) => Ok(Plan::of_valid(raw, wiring)),
+        Err(fault) => Err(fault),
     }
 }
 
-// The first fault of these lists.
-fn first_fault(alloc: Global, raw: &RawPlan) -> Result<Option<PlanFault>, NoMemory>
-    ensures { IfOk result (FirstFault (plan_form raw.now)) }
+// The wiring of lists without a fault; otherwise their first fault.
+fn checked(alloc: Global, raw: &RawPlan) -> Result<Wiring, PlanFault>
+    ensures wired { IfOk result (IsWired (plan_form raw.now)) }
+    ensures faultless { OnOk result (FirstFault (plan_form raw.now) None) }
+    ensures fault { IfErr result (λ fault. IsJudged (plan_form raw.now) (Err fault)) }
 {
-    if let Some(name) = repeated(alloc, raw)? {
-        return Ok(Some(PlanFault::P1(name)));
+    let wiring = wiring_of(alloc, raw)?;
+    match later_fault(alloc, raw, &wiring)? {
+        Some(fault) => Err(fault),
+        None => Ok(wiring),
     }
-    if let Some(name) = undeclared(alloc, raw)? {
-        return Ok(Some(PlanFault::P2(name)));
-    }
+}
+
+// The first fault of these lists, whose names are in order.
+fn later_fault(alloc: Global, raw: &RawPlan, wiring: &Wiring) -> Result<Option<PlanFault>, NoMemory>
+    requires { IsWired (plan_form raw.now) wiring.now }
+    ensures { IfOk result (LaterFault (plan_form raw.now)) }
+{
     if let Some(name) = written_twice(alloc, raw)? {
         return Ok(Some(PlanFault::P3(name)));
     }
@@ -50,7 +59,7 @@ fn first_fault(alloc: Global, raw: &RawPlan) -> Result<Option<PlanFault>, NoMemo
     if let Some(name) = mistyped(raw) {
         return Ok(Some(PlanFault::P6(name)));
     }
-    if let Some(name) = misfit(alloc, raw)? {
+    if let Some(name) = misfit(alloc, raw, wiring)? {
         return Ok(Some(PlanFault::P7(name)));
     }
     if let Some(fault) = over_limit(raw) {

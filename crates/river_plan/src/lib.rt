@@ -4,21 +4,21 @@
 mod declared;
 mod fault;
 mod judge;
+mod kinds;
 pub mod laws;
 mod limit;
 mod lists;
 mod misfit;
-mod name_map;
 mod name_set;
 mod once;
 mod op;
 mod order;
 mod plan;
-mod repeated;
 mod search;
 mod shared;
 mod types;
 mod valid;
+mod wiring;
 
 pub use fault::{Named, PlanFault};
 pub use judge::check;

@@ -1,110 +1,123 @@
 // Operators whose kernels do not fit.
-ghost use Rattle.std.specs.Prelude.{◌≡◌, IfOk, IsTrue, ◌↔◌, map as mapped};
-ghost use Rattle.river_plan.specs.Forms.{plan_form, op_form, op_forms};
-ghost use Rattle.river_plan.specs.Kinds.{FitsAt};
+ghost use Rattle.std.specs.Prelude.{◌≡◌, ◌<◌, IfOk, IsTrue, ◌↔◌, length, map as mapped};
+ghost use Rattle.river_base.specs.Places.{list_at};
+ghost use Rattle.river_kernels.specs.Kern.{kern_of};
+ghost use Rattle.river_plan.specs.Forms.{plan_form};
 ghost use Rattle.river_plan.specs.Faults.{Misfit};
-ghost use Rattle.river_plan.specs.ByName.{kind_by, var_by, MisfitBy};
+ghost use Rattle.river_plan.specs.ByPlace.{kind_at, var_at, queue_kinds, var_kinds, FitsPlaces};
+ghost use Rattle.river_plan.specs.Wired.{IsWired};
 
-use crate::name_map::{queue_kinds, var_kinds};
-use crate::{Named, Names, Op, Ops, RawPlan};
-use indexmap::IndexMap;
-use river_base::{FlatType, Listed, Name, NoMemory, QueueType};
-use river_kernels::{VarKind, fits};
+use crate::kinds::{queue_kinds, var_kinds};
+use crate::wiring::{Places, Wiring};
+use crate::{Named, RawPlan};
+use river_base::{FlatType, Listed, NoMemory, QueueType};
+use river_kernels::{Kernel, VarKind, fits};
 use std::alloc::Global;
 
 /// The label of the first operator whose kernel does not fit its queues and variables, or is badly formed.
-pub(crate) fn misfit(alloc: Global, raw: &RawPlan) -> Result<Option<Named>, NoMemory>
+pub(crate) fn misfit(
+    alloc: Global,
+    raw: &RawPlan,
+    wiring: &Wiring,
+) -> Result<Option<Named>, NoMemory>
+    requires { IsWired (plan_form raw.now) wiring.now }
     ensures { IfOk result (Misfit (plan_form raw.now)) }
 {
     let queues = queue_kinds(alloc, raw)?;
     let vars = var_kinds(alloc, raw)?;
-    let found = first_misfit(alloc, &raw.ops, &queues, &vars)?;
+    let found = first_misfit(alloc, raw, wiring, queues.as_slice(), vars.as_slice())?;
     Ok(found)
 }
 
-// The label of the first of these operators whose kernel does not fit.
+// The same, where the types of the queues and the kinds of the variables are known.
 fn first_misfit(
     alloc: Global,
-    ops: &Ops,
-    queues: &IndexMap<Name, QueueType>,
-    vars: &IndexMap<Name, VarKind>,
+    raw: &RawPlan,
+    wiring: &Wiring,
+    queues: &[QueueType],
+    vars: &[VarKind],
 ) -> Result<Option<Named>, NoMemory>
-    ensures { IfOk result (MisfitBy (kind_by queues.now) (var_by vars.now) (op_forms ops.now)) }
+    requires wired { IsWired (plan_form raw.now) wiring.now }
+    requires queues { queues.now ≡ queue_kinds (plan_form raw.now) }
+    requires vars { vars.now ≡ var_kinds (plan_form raw.now) }
+    ensures { IfOk result (Misfit (plan_form raw.now)) }
 {
-    for op in ops.as_slice() {
-        if !is_fit(alloc, op, queues, vars)? {
+    for number in 0..raw.ops.len() {
+        let op = raw.ops.at(number);
+        if !is_fit(alloc, &op.kernel, wiring, number, queues, vars)? {
             return Ok(Some(Named::Label(op.label)));
         }
     }
     Ok(None)
 }
 
-// Whether the operator's kernel fits.
+// Whether the kernel of the operator of this number fits.
 fn is_fit(
     alloc: Global,
-    op: &Op,
-    queues: &IndexMap<Name, QueueType>,
-    vars: &IndexMap<Name, VarKind>,
+    kernel: &Kernel,
+    wiring: &Wiring,
+    op: usize,
+    queues: &[QueueType],
+    vars: &[VarKind],
 ) -> Result<bool, NoMemory>
-    ensures { IfOk result (λ fit. IsTrue fit ↔ FitsAt (kind_by queues.now) (var_by vars.now) (op_form op.now)) }
+    requires reads { op < length wiring.now.reads.by_op }
+    requires writes { op < length wiring.now.writes.by_op }
+    requires vars { op < length wiring.now.vars.by_op }
+    ensures { IfOk result (λ fit. IsTrue fit ↔ FitsPlaces queues.now vars.now (kern_of kernel.now) (list_at wiring.now.reads.by_op op) (list_at wiring.now.writes.by_op op) (list_at wiring.now.vars.by_op op)) }
 {
-    let reads = kinds_of(alloc, &op.reads, queues)?;
-    let writes = kinds_of(alloc, &op.writes, queues)?;
-    let kinds = vars_of(alloc, &op.vars, vars)?;
+    let reads = kinds_at(alloc, wiring.reads.by_op.at(op), queues)?;
+    let writes = kinds_at(alloc, wiring.writes.by_op.at(op), queues)?;
+    let kinds = vars_at(alloc, wiring.vars.by_op.at(op), vars)?;
     fits(
         alloc,
-        &op.kernel,
+        kernel,
         reads.as_slice(),
         writes.as_slice(),
         kinds.as_slice(),
     )
 }
 
-// The types of these queues.
+// The types at these places.
 #[tactic(auto, using(work_code::proofs::Lists::copies))]
-fn kinds_of(
+fn kinds_at(
     alloc: Global,
-    names: &Names,
-    queues: &IndexMap<Name, QueueType>,
+    places: &Places,
+    queues: &[QueueType],
 ) -> Result<Listed<QueueType>, NoMemory>
-    ensures { IfOk result (λ kinds. kinds ≡ mapped (kind_by queues.now) names.now) }
+    ensures { IfOk result (λ kinds. kinds ≡ mapped (kind_at queues.now) places.now) }
 {
     let mut kinds = Listed::new(alloc);
-    for name in names.as_slice() {
-        kinds.push(kind_by(*name, queues))?;
+    for place in places.as_slice() {
+        kinds.push(kind_at(*place, queues))?;
     }
     Ok(kinds)
 }
 
-// The kinds of these variables.
+// The kinds at these places.
 #[tactic(auto, using(work_code::proofs::Lists::copies))]
-fn vars_of(
-    alloc: Global,
-    names: &Names,
-    vars: &IndexMap<Name, VarKind>,
-) -> Result<Listed<VarKind>, NoMemory>
-    ensures { IfOk result (λ kinds. kinds ≡ mapped (var_by vars.now) names.now) }
+fn vars_at(alloc: Global, places: &Places, vars: &[VarKind]) -> Result<Listed<VarKind>, NoMemory>
+    ensures { IfOk result (λ kinds. kinds ≡ mapped (var_at vars.now) places.now) }
 {
     let mut kinds = Listed::new(alloc);
-    for name in names.as_slice() {
-        kinds.push(var_by(*name, vars))?;
+    for place in places.as_slice() {
+        kinds.push(var_at(*place, vars))?;
     }
     Ok(kinds)
 }
 
-// The type of a queue.
-fn kind_by(name: Name, queues: &IndexMap<Name, QueueType>) -> QueueType
-    ensures { result ≡ kind_by queues.now name }
+// The type at a place; one without width beyond the last.
+fn kind_at(place: usize, queues: &[QueueType]) -> QueueType
+    ensures { result ≡ kind_at queues.now place }
 {
     queues
-        .get(&name)
+        .get(place)
         .copied()
         .unwrap_or(QueueType::Flat(FlatType::Rows(0)))
 }
 
-// The kind of a variable.
-fn var_by(name: Name, vars: &IndexMap<Name, VarKind>) -> VarKind
-    ensures { result ≡ var_by vars.now name }
+// The kind at a place; a table without width beyond the last.
+fn var_at(place: usize, vars: &[VarKind]) -> VarKind
+    ensures { result ≡ var_at vars.now place }
 {
-    vars.get(&name).copied().unwrap_or(VarKind::Table(0))
+    vars.get(place).copied().unwrap_or(VarKind::Table(0))
 }

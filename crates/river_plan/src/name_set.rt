@@ -1,6 +1,7 @@
 // Sets of names.
-ghost use Rattle.std.specs.Prelude.{◌≡◌, ◌<◌, [], IsTrue, ◌↔◌, IfOk, OnOk};
+ghost use Rattle.std.specs.Prelude.{◌≡◌, ◌<◌, [], length, IsTrue, ◌↔◌, IfOk, OnOk};
 ghost use Rattle.river_plan.specs.Names.{count, with_name};
+ghost use Rattle.river_plan.specs.Places.{place};
 
 use indexmap::IndexSet;
 use river_base::{Name, NoMemory};
@@ -40,10 +41,24 @@ impl NameSet {
         Ok(fresh)
     }
 
+    /// How many names there are.
+    pub(crate) fn len(&self) -> usize
+        ensures { result ≡ length self.now }
+    {
+        self.names.len()
+    }
+
     /// Whether the name is there.
     pub(crate) fn contains(&self, name: Name) -> bool
         ensures { IsTrue result ↔ (0 < count name self.now) }
     {
         self.names.contains(&name)
+    }
+
+    /// The place of the name, in the order in which names were added; how many there are where it is not there.
+    pub(crate) fn place(&self, name: Name) -> usize
+        ensures { result ≡ place self.now name }
+    {
+        self.names.get_index_of(&name).unwrap_or(self.names.len())
     }
 }

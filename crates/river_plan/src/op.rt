@@ -33,12 +33,15 @@ impl Op {
     pub fn copy(&self, alloc: Global) -> Result<Op, NoMemory>
         ensures { IfOk result (λ copy. op_form copy ≡ op_form self.now) }
     {
+        let reads = self.reads.copy(alloc)?;
+        let writes = self.writes.copy(alloc)?;
+        let vars = self.vars.copy(alloc)?;
         Ok(Op {
             label: self.label,
             kernel: self.kernel.copy(alloc)?,
-            reads: self.reads.copy(alloc)?,
-            writes: self.writes.copy(alloc)?,
-            vars: self.vars.copy(alloc)?,
+            reads,
+            writes,
+            vars,
         })
     }
 }

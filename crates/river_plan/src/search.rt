@@ -1,5 +1,5 @@
 // The first name of a list at which something is found.
-ghost use Rattle.std.specs.Prelude.{◌≡◌, ◌++◌, [], IfOk, OnOk};
+ghost use Rattle.std.specs.Prelude.{◌≡◌, ◌++◌, [], None, IfOk, OnOk};
 ghost use Rattle.std.specs.Option.{option_map};
 ghost use Rattle.river_plan.specs.declared.fault.Named.TheVariants.{Queue, Variable};
 ghost use Rattle.river_plan.specs.First.{IsFirst};
@@ -11,13 +11,14 @@ use crate::{Named, Names};
 use river_base::{Name, NoMemory};
 use std::alloc::Global;
 
-/// The first name that stood before.
-pub(crate) fn first_repeated(alloc: Global, names: &Names) -> Result<Option<Name>, NoMemory>
-    ensures { IfOk result (IsFirst IsNew names.now) }
+/// Adds these names to the empty set; answers the first that stood before.
+pub(crate) fn add_new(set: &mut NameSet, names: &Names) -> Result<Option<Name>, NoMemory>
+    requires { set.old ≡ [] }
+    ensures first { IfOk result (IsFirst IsNew names.now) }
+    ensures all { IfOk result (λ found. found ≡ None → set.new ≡ names.now) }
 {
-    let mut seen = NameSet::new(alloc);
     for name in names.as_slice() {
-        if !seen.insert(*name)? {
+        if !set.insert(*name)? {
             return Ok(Some(*name));
         }
     }

@@ -1,9 +1,13 @@
 // Valid plans.
-ghost use Rattle.std.specs.Prelude.{◌≡◌, IfOk};
-ghost use Rattle.river_plan.specs.Forms.{plan_form};
+ghost use Rattle.std.specs.Prelude.{◌≡◌, ◌<◌, IfOk, length};
+ghost use Rattle.river_base.specs.Places.{list_at};
+ghost use Rattle.river_plan.specs.Forms.{plan_form, queue_names, variable_names};
+ghost use Rattle.river_plan.specs.Places.{read_places, write_places, var_places, users_from};
 ghost use Rattle.river_plan.specs.Valid.{IsPlan};
+ghost use Rattle.river_plan.specs.Wired.{IsWired};
 
 use crate::RawPlan;
+use crate::wiring::Wiring;
 use river_base::NoMemory;
 use std::alloc::Global;
 use std::marker::Model;
@@ -13,11 +17,13 @@ use std::marker::Model;
 #[derive(Drop)]
 pub struct Plan {
     raw: RawPlan,
+    wiring: Wiring,
 }
 
 impl Model for Plan {
     ghost use Rattle.river_plan.specs.Forms.{PlanForm, plan_form};
     ghost use Rattle.river_plan.specs.Valid.{IsPlan};
+    ghost use Rattle.river_plan.specs.Wired.{IsWired};
     ghost use Rattle.river_plan.specs.PlanCode.{plan_code};
 
     ghost Value = { PlanForm };
@@ -26,7 +32,7 @@ impl Model for Plan {
 
     ghost view = { λ p. plan_form p.raw };
 
-    ghost invariant = { λ p. IsPlan (plan_form p.raw) };
+    ghost invariant = { λ p. IsPlan (plan_form p.raw) × IsWired (plan_form p.raw) p.wiring };
 }
 
 impl Plan {
@@ -44,14 +50,64 @@ impl Plan {
     {
         Ok(Plan {
             raw: self.raw.copy(alloc)?,
+            wiring: self.wiring.copy(alloc)?,
         })
     }
 
-    // The plan of lists that are valid.
-    pub(crate) fn of_valid(raw: RawPlan) -> Plan
-        requires { IsPlan (plan_form raw) }
+    /// The places, among the names of the queues, of those that the operator of this number reads, port by port.
+    pub fn reads_of(&self, op: usize) -> &[usize]
+        requires { op < length self.now.ops }
+        ensures { result.now ≡ list_at (read_places self.now) op }
+    {
+        self.wiring.reads.by_op.at(op).as_slice()
+    }
+
+    /// The places, among the names of the queues, of those that the operator of this number writes, port by port.
+    pub fn writes_of(&self, op: usize) -> &[usize]
+        requires { op < length self.now.ops }
+        ensures { result.now ≡ list_at (write_places self.now) op }
+    {
+        self.wiring.writes.by_op.at(op).as_slice()
+    }
+
+    /// The places, among the names of the variables, of those of the operator of this number, in its kernel's order.
+    pub fn vars_of(&self, op: usize) -> &[usize]
+        requires { op < length self.now.ops }
+        ensures { result.now ≡ list_at (var_places self.now) op }
+    {
+        self.wiring.vars.by_op.at(op).as_slice()
+    }
+
+    /// The numbers of the operators that read the queue at this place among the names of the queues: one, or none.
+    pub fn readers_of(&self, queue: usize) -> &[usize]
+        requires { queue < length (queue_names self.now) }
+        ensures { result.now ≡ users_from 0 (read_places self.now) queue }
+    {
+        self.wiring.reads.by_place.at(queue).as_slice()
+    }
+
+    /// The numbers of the operators that write the queue at this place among the names of the queues: one, or none.
+    pub fn writers_of(&self, queue: usize) -> &[usize]
+        requires { queue < length (queue_names self.now) }
+        ensures { result.now ≡ users_from 0 (write_places self.now) queue }
+    {
+        self.wiring.writes.by_place.at(queue).as_slice()
+    }
+
+    /// The numbers of the operators that have the variable at this place among the names of the variables, in order.
+    pub fn users_of(&self, variable: usize) -> &[usize]
+        requires { variable < length (variable_names self.now) }
+        ensures { result.now ≡ users_from 0 (var_places self.now) variable }
+    {
+        self.wiring.vars.by_place.at(variable).as_slice()
+    }
+
+    // The plan of lists that are valid, with their wiring.
+    pub(crate) fn of_valid(raw: RawPlan, wiring: Wiring) -> Plan
+        requires valid { IsPlan (plan_form raw) }
+        requires wired { IsWired (plan_form raw) wiring }
         ensures { result ≡ plan_form raw }
     {
-        Plan { raw }
+        Plan { raw, wiring }
     }
 }

@@ -1,1 +1,10 @@
 pub mod Joined
+pub mod Kernels
+pub mod Listings
+pub mod Pieces
+pub mod Promise
+pub mod Read
+pub mod Round
+pub mod Terms
+pub mod Units
+pub mod Valid

@@ -1,1 +1,4 @@
+pub mod Laws
+pub mod Printable
 pub mod Printed
+pub mod Writable

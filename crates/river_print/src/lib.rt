@@ -3,9 +3,7 @@
 
 mod items;
 mod kernel;
+pub mod laws;
 mod plan;
 
 pub use plan::{print_raw, print_river};
-
-#[cfg(test)]
-mod tests;

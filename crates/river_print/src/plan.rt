@@ -1,6 +1,8 @@
 // Prints plans.
-ghost use Rattle.std.specs.Prelude.{◌≡◌, ◌++◌, map, IfOk, OnOk};
+ghost use Rattle.std.specs.Prelude.{◌≡◌, ◌++◌, ◌↔◌, map, IfOk, OnOk};
 ghost use Rattle.river_plan.specs.Forms.{plan_form, op_form};
+ghost use Rattle.river_print.specs.Laws.{StandsForAlone};
+ghost use Rattle.river_print.specs.Printable.{IsPrintable};
 ghost use Rattle.river_print.specs.Printed.{flat_text, type_text, table_text, decl_line, table_line, var_line, op_line, head_text, lines, plan_text};
 
 use crate::items::{in_brackets, ports, two_in_brackets, var};
@@ -10,9 +12,12 @@ use river_base::{Bytes, FlatType, Name, NoMemory, QueueType};
 use river_plan::{Decl, Op, Plan, RawPlan, TableDecl};
 use std::alloc::Global;
 
-/// The River text of a valid plan, one unit a line.
+/// The River text of a valid plan, one unit a line. It is in the grammar and stands for the plan and for no other, exactly
+/// where the plan's numbers lie in the ranges of their types, `if` nests at most 16 deep and no window's range is below 0.
+#[tactic(auto, using(crate::proofs::Promise::promises))]
 pub fn print_river(alloc: Global, plan: &Plan) -> Result<Bytes, NoMemory>
-    ensures { IfOk result (λ text. text ≡ plan_text plan.now) }
+    ensures text { IfOk result (λ text. text ≡ plan_text plan.now) }
+    ensures read { IfOk result (λ text. StandsForAlone text plan.now ↔ IsPrintable plan.now) }
 {
     print_raw(alloc, plan.raw())
 }

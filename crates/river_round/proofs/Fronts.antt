@@ -14,8 +14,8 @@ use Rattle.streamit_front.specs.Program.{Program}
 use Rattle.streamit_front.proofs.Grammar.{reads_what_is_written}
 use Rattle.streamit_front.proofs.Plans.{plans_are_valid, labels_are_names}
 use Rattle.river_round.specs.Laws.{FrontsArePrintable}
-use Rattle.river_round.specs.Printable as r
-use Rattle.river_round.proofs.Read.{Gives, gives-seen, gives-both, gives-after, gives-before, gives-after_word, gives-any, number-ranged}
+use Rattle.river_print.specs.Printable as r
+use Rattle.river_print.proofs.Read.{Gives, gives-seen, gives-both, gives-after, gives-before, gives-after_word, gives-any, number-ranged}
 
 -- the expression
 one-ranged : (f : Term → Term) → ((x : Term) → r.IsRangedTerm x → r.IsRangedTerm (f x)) → (o : Option Term) → ((x : Term) → o ≡ Some x → r.IsRangedTerm x) → (e : Term) → one_term f o ≡ Some e → r.IsRangedTerm e
@@ -56,6 +56,7 @@ program-ranged = gives-seen made (λ (p : Program). r.IsRangedTerm p.value)
     (λ v h. h.1.1))))))))))
     (λ v h. h.1)
 
+-- the law: the plan of a StreamIt program keeps the bounds of River text
 pub fronts-printable : FrontsArePrintable
 fronts-printable text p e =
     let t = reads_what_is_written text p e in

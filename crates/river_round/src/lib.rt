@@ -1,4 +1,4 @@
-//! That printed plans are read back as themselves.
+//! That printed plans of StreamIt programs are read back as themselves.
 #![tactic(auto)]
 
 pub mod laws;

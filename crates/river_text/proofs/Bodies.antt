@@ -35,6 +35,7 @@ loop-stop nest n done ts e = repeated-stop (parse.many_turn at_close (stmt_at ne
 pub loop-bad : (nest n : ℕ) (done : List Step) (ts : List Tok) → at_close ts ≡ false → stmt_at nest n ts ≡ None → repeated (parse.many_turn at_close (stmt_at nest n)) done ts ≡ None
 loop-bad nest n done ts e bad = repeated-fail (parse.many_turn at_close (stmt_at nest n)) done ts (rw (e, bad) refl)
 
+-- one statement more
 pub loop-next : (nest n : ℕ) (done : List Step) (ts us : List Tok) (v : Step) → at_close ts ≡ false → stmt_at nest n ts ≡ Some (v, us) → repeated (parse.many_turn at_close (stmt_at nest n)) (done ++ v ∷ []) us ≡ repeated (parse.many_turn at_close (stmt_at nest n)) done ts
 loop-next nest n done ts us v e read =
     sym (repeated-next (parse.many_turn at_close (stmt_at nest n)) (many-shortens at_close (exact-stmt nest n) (listed-stmts nest n)) done ts (done ++ v ∷ []) us (rw (e, read) refl))
@@ -54,6 +55,7 @@ pub branch-made : (nest n : ℕ) (ts us vs ws : List Tok) (c : Term) (a b : Step
 unfolding if_at
 branch-made nest n ts us vs ws c a b pos cond when otherwise = rw (branch-at nest n ts pos, cond, when, otherwise) refl
 
+-- at the closing brace the statements so far are those of the body
 pub stmts-made : (nest n : ℕ) (done : List Step) (start ts : List Tok) → repeated (parse.many_turn at_close (stmt_at nest n)) done ts ≡ parse.many at_close (stmt_at nest n) start → at_close ts ≡ true → stmts_at nest n start ≡ Some (in_turn done, ts)
 unfolding stmts_at
 stmts-made nest n done start ts same stop =

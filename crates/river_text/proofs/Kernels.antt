@@ -19,14 +19,16 @@ use Rattle.text_forms.proofs.Many.{Listed, exact-many, exact-commas}
 use Rattle.text_forms.proofs.Choices.{exact-never, exact-choose, exact-headed, exact-known, exact-enclosed, exact-listing}
 use Rattle.text_forms.proofs.Ladder.{Ends, exact-expr}
 use Rattle.river_text.specs.Kernels.{term_of, least, made_set, made_push, made_if, or_done, made_code, made_filter, made_fused, IsTerm, Count, Width, Signed, Round, IsStarts, IsSet, IsPush, IsIf, IsBodyOf, IsStmt, IsBody, IsCode, IsFilter, IsFused, BagAfter, KernelAfter, IsBraced, IsKernel}
-use Rattle.river_text.specs.ReadKernels.{term_at, width_at, signed_at, round, starts_at, widths_at, weights_at, some_terms_at, terms_at, number_at, round_term_at, set_at, push_at, at_close, body_of_at, else_at, if_at, stmt_after, steps_of, stmt_at, stmts_at, body_at, pair_at, rates_at, code_at, filter_at, fused_at, range_at, bag_after, kernel_after, braced_at, kernel_at}
+use Rattle.river_text.specs.ReadKernels.{term_at, width_at, signed_at, round, starts_at, widths_at, weights_at, some_terms_at, terms_at, number_at, round_term_at, set_at, push_at, at_close, body_of_at, else_at, if_at, stmt_after, steps_of, stmt_at, stmts_at, body_at, pair_at, rates_at, code_at, filter_at, fused_at, range_at, stream_after, relation_after, bag_after, kernel_after, braced_at, kernel_at}
 
+-- an expression
 pub exact-term : (n : ℕ) → Exact (IsTerm n) (term_at n) (Ends 6)
 exact-term n = exact-known term_of (exact-expr River n)
 
 exact-count : Exact Count parse.count_at Any
 exact-count = exact-tested parse.is_count exact-number
 
+-- a width
 pub exact-width : Exact Width width_at Any
 exact-width = exact-seen (λ n. pos n) exact-count
 
@@ -73,6 +75,7 @@ exact-terms : (n : ℕ) → Exact (Round (λ m. form.Commas (IsTerm m)) n) (term
 unfolding terms_at some_terms_at
 exact-terms n = exact-round (λ m. exact-commas (exact-term m) (λ rest j h. refl)) (λ rest. (λ j h. refl, refl)) n
 
+-- a number that counts something, in brackets
 pub exact-counted : (n : ℕ) → Exact (Round (λ m. Count) n) (number_at n) Any
 unfolding number_at
 exact-counted n = exact-round (λ m. exact-count) (λ rest. tt) n
@@ -137,6 +140,7 @@ stmt-word (suc nest) n v ts h = (
       chosen (IsIf (IsBodyOf (IsStmt nest)) n) form.Never (bytes_eq h.word (codes "if")) v h.back f (not-else h.word (codes "if") refl) (λ never. absurd never))),
 )
 
+-- statements up to a closing brace
 pub listed-stmts : (nest n : ℕ) → Listed at_close (IsStmt nest n) NoElse
 listed-stmts nest n = record {
   some = λ v ts h. let w = stmt-word nest n v ts h in rw w.2 (omega arith);
@@ -147,6 +151,7 @@ listed-stmts nest n = record {
 exact-body_of : (nest : ℕ) → ((n : ℕ) → Exact (IsStmt nest n) (stmt_at nest n) NoElse) → (n : ℕ) → Exact (IsBodyOf (IsStmt nest) n) (body_of_at (steps_of (stmt_at nest)) n) Any
 exact-body_of nest x n = exact-enclosed s.OpenBrace s.CloseBrace (λ m. exact-seen in_turn (exact-many at_close (x m) (listed-stmts nest m))) (λ rest. (refl, refl)) n
 
+-- a statement, in which `if` may nest so deep
 pub exact-stmt : (nest n : ℕ) → Exact (IsStmt nest n) (stmt_at nest n) NoElse
 unfolding IsStmt stmt_at stmt_after
 exact-stmt zero n =
@@ -162,6 +167,7 @@ exact-body : (nest n : ℕ) → Exact (IsBody nest n) (body_at nest n) Any
 unfolding body_at stmts_at
 exact-body nest n = exact-body_of nest (exact-stmt nest) n
 
+-- two numbers in brackets
 pub exact-pair : (n : ℕ) → Exact (Round (λ m. form.Both Count (form.After (s.Comma ∷ []) Count)) n) (pair_at n) Any
 unfolding pair_at
 exact-pair n = exact-round (λ m. exact-both exact-count (exact-after (s.Comma ∷ []) exact-count) (λ y ts rest g d. tt)) (λ rest. tt) n
@@ -187,7 +193,7 @@ unfolding fused_at
 exact-fused x n = exact-seen made_fused (exact-both (exact-counted n) (exact-both x x (λ y ts rest g d. tt)) (λ y ts rest g d. tt))
 
 exact-bag : (n : ℕ) (w : List ℕ) → Exact (BagAfter n w) (bag_after n w) Any
-unfolding bag_after range_at
+unfolding bag_after relation_after stream_after range_at
 exact-bag n w =
     exact-choose (bytes_eq w (codes "now")) (exact-nothing (kern.window Now))
     (exact-choose (bytes_eq w (codes "range")) (exact-seen (λ t. kern.window (Range t)) (exact-round (λ m. exact-value) (λ rest. tt) n))
@@ -215,6 +221,7 @@ exact-after_kernel x n w =
     (exact-choose (bytes_eq w (codes "fused")) (exact-fused x n)
     (exact-bag n w))))))))
 
+-- a kernel in braces
 pub exact-braced : (n : ℕ) → Exact (IsBraced n) (braced_at n) Any
 unfolding IsBraced braced_at
 exact-braced zero = exact-never

@@ -1,6 +1,7 @@
 pub mod Bodies
 pub mod Braces
 pub mod Counts
+pub mod Fronts
 pub mod Kernels
 pub mod Loops
 pub mod Plans

@@ -54,6 +54,7 @@ exact-table =
     (exact-choose (bytes_eq w (codes "collection")) (exact-seen Collection (exact-counted brackets))
     (exact-choose (bytes_eq w (codes "maximum")) (exact-seen made_maximum (exact-pair brackets)) exact-never)))) (λ rest. tt))) (λ y ts rest g d. tt))
 
+-- a queue or a variable
 pub exact-port : Exact IsPort port_at Any
 unfolding port_at
 exact-port = exact-less (exact-merged is_var_at (exact-seen variable exact-river_var) (exact-seen queue exact-river_name) left right) (λ rest d. (tt, tt)) where
@@ -130,5 +131,6 @@ exact-unit =
     (exact-choose (bytes_eq w (codes "var")) (exact-seen private exact-private)
     (exact-choose (bytes_eq w (codes "op")) (exact-seen operator exact-op) exact-never))))))
 
+-- a unit that stands late enough
 pub exact-unit_from : (stage : ℕ) → Exact (IsUnitAt stage) (unit_from stage) Any
 exact-unit_from stage = exact-tested (is_late stage) exact-unit

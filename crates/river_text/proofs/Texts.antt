@@ -14,12 +14,12 @@ use Rattle.river_text.specs.Laws.{OnePlan, IsBadAt}
 use Rattle.river_text.proofs.Plans.{exact-unit_from}
 
 -- the entries of a reading, added to a plan
-abbrev added : PlanForm → Result (List Entry) ℕ → Result PlanForm ℕ
+abbrev pub added : PlanForm → Result (List Entry) ℕ → Result PlanForm ℕ
 added p (Ok es) = Ok (add_all p es)
 added p (Err n) = Err n
 
 -- a plan is read as its entries are
-plan-read : (stage n : ℕ) (p : PlanForm) (units : List (List Tok)) → read_plan stage n p units ≡ added p (read_units unit_from next_stage stage n units)
+pub plan-read : (stage n : ℕ) (p : PlanForm) (units : List (List Tok)) → read_plan stage n p units ≡ added p (read_units unit_from next_stage stage n units)
 unfolding read_plan
 plan-read stage n p [] = refl
 plan-read stage n p (u ∷ us) = by (whole (unit_from stage) u) (λ e. plan-read (stage_of e) (n + 1) (add p e) us) where
@@ -45,11 +45,13 @@ added-err p (Err n) m e = same e where
   same : added p (Err n) ≡ Err m → ◌≡◌ {A = Result (List Entry) ℕ} (Err n) (Err m)
   same f = cc
 
+-- the text stands for the lists that are read of it
 pub text-read : (text : List ℕ) (marks : List Mark) (q : PlanForm) → tokens_in text ≡ Ok marks → read_plan 0 1 empty_form (units_of (toks marks)) ≡ Ok q → IsText text q
 text-read text marks q lexed read =
     let (es, is_es, is_q) = added-ok empty_form (read_units unit_from next_stage 0 1 (units_of (toks marks))) q (sym (plan-read 0 1 empty_form (units_of (toks marks))) ∙ read) in
     record { marks = marks; lexed = lexed; entries = es; formed = all-formed next_stage exact-unit_from 0 1 (units_of (toks marks)) es is_es; is = is_q }
 
+-- the unit that is told is the first that is not in the grammar
 pub text-bad : (text : List ℕ) (marks : List Mark) (m : ℕ) → tokens_in text ≡ Ok marks → read_plan 0 1 empty_form (units_of (toks marks)) ≡ Err m → IsBadAt text m
 text-bad text marks m lexed read =
     record {
@@ -59,15 +61,16 @@ text-bad text marks m lexed read =
     }
 
 -- what a text stands for is read
-text-reads : (text : List ℕ) (q : PlanForm) (t : IsText text q) → read_plan 0 1 empty_form (units_of (toks t.marks)) ≡ Ok q
+pub text-reads : (text : List ℕ) (q : PlanForm) (t : IsText text q) → read_plan 0 1 empty_form (units_of (toks t.marks)) ≡ Ok q
 text-reads text q t =
     plan-read 0 1 empty_form (units_of (toks t.marks)) ∙ ap (added empty_form) (formed-read next_stage exact-unit_from 0 1 (units_of (toks t.marks)) t.entries t.formed) ∙ ap (λ (p : PlanForm). Ok p) (sym t.is)
 
-same_marks : (text : List ℕ) (ms ns : List Mark) → tokens_in text ≡ Ok ms → tokens_in text ≡ Ok ns → ms ≡ ns
+pub same_marks : (text : List ℕ) (ms ns : List Mark) → tokens_in text ≡ Ok ms → tokens_in text ≡ Ok ns → ms ≡ ns
 same_marks text ms ns e f = same (sym e ∙ f) where
   same : ◌≡◌ {A = Result (List Mark) LexFault} (Ok ms) (Ok ns) → ms ≡ ns
   same g = cc
 
+-- the law: a text stands for one plan at most
 pub one_plan : OnePlan
 one_plan text p q t u = same (sym (text-reads text p t) ∙ ap (λ (ms : List Mark). read_plan 0 1 empty_form (units_of (toks ms))) (same_marks text t.marks u.marks t.lexed u.lexed) ∙ text-reads text q u) where
   same : ◌≡◌ {A = Result PlanForm ℕ} (Ok p) (Ok q) → p ≡ q
@@ -85,6 +88,7 @@ unreadable text marks m p lexed read t = never (sym read ∙ ap (λ (ms : List M
   never : ◌≡◌ {A = Result PlanForm ℕ} (Err m) (Ok p) → ⊥
   never f = cc
 
+-- a text of which a unit is told stands for no plan
 pub refused : (text : List ℕ) (marks : List Mark) (m : ℕ) → tokens_in text ≡ Ok marks → read_plan 0 1 empty_form (units_of (toks marks)) ≡ Err m → IsBadAt text m × StandsForNone text
 refused text marks m lexed read = (text-bad text marks m lexed read, λ p t. unreadable text marks m p lexed read t)
 

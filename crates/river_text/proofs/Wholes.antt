@@ -21,6 +21,7 @@ whole-early stage ts rest e read early = rw read (by (nat_le stage (stage_of e))
   by true is = absurd (grind arith)
   by false is = refl
 
+-- a unit with tokens behind it is none
 pub whole-more : (stage : ℕ) (ts rest : List Tok) (e : Entry) → unit_at ts ≡ Some (e, rest) → (rest ≡ [] → ⊥) → whole (unit_from stage) ts ≡ None
 whole-more stage ts [] e read more = absurd (more refl)
 whole-more stage ts (t ∷ rest) e read more = rw read (by (is_late stage e)) where

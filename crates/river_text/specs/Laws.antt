@@ -1,11 +1,17 @@
 -- Laws of River text, over the definitions alone.
-use Rattle.std.specs.Prelude.{◌≡◌, ℕ, List, Ok}
+use Rattle.std.specs.Prelude.{◌≡◌, ◌↔◌, ℕ, List, Result, Ok, Err, Some}
 use Rattle.work_code.specs.Cut.{units_of}
 use Rattle.work_code.specs.Lexis.{tokens_in}
 use Rattle.work_code.specs.Tok.{Mark, toks}
+use Rattle.work_code.specs.declared.fault.LexFault.TheVariants as lex
 use Rattle.river_plan.specs.Forms.{PlanForm}
+use Rattle.river_plan.specs.Valid.{IsPlan, FirstFault}
 use Rattle.text_forms.specs.Texts.{IsFirstBad}
+use Rattle.text_forms.specs.declared.refusal.Refusal.TheVariants.{BadByte, BigNumber, Syntax}
+use Rattle.river_text.specs.Meaning.{plan_in}
 use Rattle.river_text.specs.Plans.{IsText, IsUnitAt, next_stage}
+use Rattle.river_text.specs.declared.river_fault.RiverFault.{RiverFault}
+use Rattle.river_text.specs.declared.river_fault.RiverFault.TheVariants.{Text, Plan, NoMemory}
 
 -- a text stands for one plan at most
 abbrev pub OnePlan : Type 0
@@ -16,3 +22,18 @@ pub record IsBadAt (text : List ℕ) (unit : ℕ) : Type 0 where
   pub marks : List Mark
   pub lexed : tokens_in text ≡ Ok marks
   pub first : IsFirstBad IsUnitAt next_stage 0 (units_of (toks marks)) unit
+
+-- What a text has, in the words of the grammar. A plan: it stands for these lists, and they are valid. A fault of its
+-- bytes: that is its first; a unit: that is the first that is not in the grammar; a fault of a plan: the text stands
+-- for lists of which it is the first. It is never want of memory.
+abbrev pub Has : List ℕ → Result PlanForm RiverFault → Type 0
+Has text (Ok p) = IsText text p × IsPlan p
+Has text (Err (Text (BadByte at))) = tokens_in text ≡ Err (lex.BadByte at)
+Has text (Err (Text (BigNumber at))) = tokens_in text ≡ Err (lex.BigNumber at)
+Has text (Err (Text (Syntax unit))) = IsBadAt text unit
+Has text (Err (Plan fault)) = (p : PlanForm) × IsText text p × FirstFault p (Some fault)
+Has text (Err NoMemory) = ⊥
+
+-- what is read is the grammar: the meaning of a text is what the text has, and nothing else
+abbrev pub MeansWhatItHas : Type 0
+MeansWhatItHas = (text : List ℕ) (meant : Result PlanForm RiverFault) → (plan_in text ≡ meant) ↔ Has text meant

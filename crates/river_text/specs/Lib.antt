@@ -4,6 +4,8 @@ pub mod Kernels
 pub mod Laws
 pub mod Listed
 pub mod Made
+pub mod Meaning
 pub mod Plans
 pub mod ReadKernels
 pub mod ReadPlans
+pub mod Words

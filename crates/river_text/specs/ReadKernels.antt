@@ -118,20 +118,31 @@ fused_at braced n ts = seen made_fused (both (number_at n) (both braced braced))
 unfoldable pub range_at : ℕ → Parse ℤ
 range_at n ts = round (λ m. value_at) n ts
 
+-- what stands behind the word of a streamer or of a tally
+unfoldable pub stream_after : List ℕ → Parse Kern
+stream_after w ts =
+    if bytes_eq w (codes "istream") then Some (kern.streamer Istream, ts)
+    else if bytes_eq w (codes "dstream") then Some (kern.streamer Dstream, ts)
+    else if bytes_eq w (codes "rstream") then Some (kern.streamer Rstream, ts)
+    else if bytes_eq w (codes "tally") then Some (kern.tally, ts)
+    else None
+
+-- that, or behind the word of a kernel on relations
+unfoldable pub relation_after : ℕ → List ℕ → Parse Kern
+relation_after n w ts =
+    if bytes_eq w (codes "select") then seen kern.select (round_term_at n) ts
+    else if bytes_eq w (codes "project") then seen kern.project (terms_at n) ts
+    else if bytes_eq w (codes "cross") then Some (kern.cross, ts)
+    else stream_after w ts
+
+-- that, or behind the word of a window
 unfoldable pub bag_after : ℕ → List ℕ → Parse Kern
 bag_after n w ts =
     if bytes_eq w (codes "now") then Some (kern.window Now, ts)
     else if bytes_eq w (codes "range") then seen (λ t. kern.window (Range t)) (range_at n) ts
     else if bytes_eq w (codes "unbounded") then Some (kern.window Unbounded, ts)
     else if bytes_eq w (codes "latest") then seen (λ k. kern.window (Latest k)) (number_at n) ts
-    else if bytes_eq w (codes "select") then seen kern.select (round_term_at n) ts
-    else if bytes_eq w (codes "project") then seen kern.project (terms_at n) ts
-    else if bytes_eq w (codes "cross") then Some (kern.cross, ts)
-    else if bytes_eq w (codes "istream") then Some (kern.streamer Istream, ts)
-    else if bytes_eq w (codes "dstream") then Some (kern.streamer Dstream, ts)
-    else if bytes_eq w (codes "rstream") then Some (kern.streamer Rstream, ts)
-    else if bytes_eq w (codes "tally") then Some (kern.tally, ts)
-    else None
+    else relation_after n w ts
 
 unfoldable pub kernel_after : Parse Kern → ℕ → List ℕ → Parse Kern
 kernel_after braced n w ts =

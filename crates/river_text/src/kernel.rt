@@ -1,14 +1,18 @@
 // Kernels read.
-ghost use Rattle.std.specs.Prelude.{◌≡◌};
+ghost use Rattle.std.specs.Prelude.{◌≡◌, IfOk};
 ghost use Rattle.text_forms.specs.Gives.{Gives};
+ghost use Rattle.text_forms.specs.Parse.{seen};
 ghost use Rattle.river_kernels.specs.Kern.{kern_of};
-ghost use Rattle.river_text.specs.ReadKernels.{code_at, filter_at, fused_at, bag_after, range_at, kernel_after, braced_at, kernel_at};
+ghost use Rattle.river_kernels.specs.Kern as kern;
+ghost use Rattle.river_text.specs.Kernels.{made_fused};
+ghost use Rattle.river_text.specs.ReadKernels.{code_at, filter_at, fused_at, stream_after, relation_after, bag_after, range_at, kernel_after, braced_at, kernel_at};
 
 use crate::body::body;
 use crate::number::{number, pair, rates, starts, weights, widths};
 use crate::term::{exprs, round_expr};
 use kern_bags::{Streamer, Window};
 use kern_rows::{CodeKernel, Filter};
+use river_base::NoMemory;
 use river_kernels::Kernel;
 use std::alloc::Global;
 use text_forms::{Fault, Reader};
@@ -67,7 +71,49 @@ fn range(reader: &mut Reader<'_>, brackets: u32) -> Result<i64, Fault>
     Ok(value)
 }
 
-// What stands behind the word of a kernel on bags of rows.
+// What stands behind the word of a streamer or of a tally.
+#[tactic(auto, unfolding(crate::specs::ReadKernels::stream_after))]
+fn stream_after(reader: &mut Reader<'_>, word: &[u8]) -> Result<Kernel, Fault>
+    ensures { Gives kern_of result reader.new (stream_after word.now reader.old) }
+{
+    if word == b"istream".as_slice() {
+        return Ok(Kernel::Streamer(Streamer::Istream));
+    }
+    if word == b"dstream".as_slice() {
+        return Ok(Kernel::Streamer(Streamer::Dstream));
+    }
+    if word == b"rstream".as_slice() {
+        return Ok(Kernel::Streamer(Streamer::Rstream));
+    }
+    if word == b"tally".as_slice() {
+        return Ok(Kernel::Tally);
+    }
+    Err(Fault::Syntax)
+}
+
+// That, or behind the word of a kernel on relations.
+#[tactic(auto, unfolding(crate::specs::ReadKernels::relation_after))]
+fn relation_after(
+    reader: &mut Reader<'_>,
+    alloc: Global,
+    brackets: u32,
+    word: &[u8],
+) -> Result<Kernel, Fault>
+    ensures { Gives kern_of result reader.new (relation_after brackets word.now reader.old) }
+{
+    if word == b"select".as_slice() {
+        return Ok(Kernel::Select(round_expr(reader, alloc, brackets)?));
+    }
+    if word == b"project".as_slice() {
+        return Ok(Kernel::Project(exprs(reader, alloc, brackets)?));
+    }
+    if word == b"cross".as_slice() {
+        return Ok(Kernel::Cross);
+    }
+    stream_after(reader, word)
+}
+
+// That, or behind the word of a window.
 #[tactic(auto, unfolding(crate::specs::ReadKernels::bag_after))]
 fn bag_after(
     reader: &mut Reader<'_>,
@@ -89,28 +135,18 @@ fn bag_after(
     if word == b"latest".as_slice() {
         return Ok(Kernel::Window(Window::Latest(number(reader, brackets)?)));
     }
-    if word == b"select".as_slice() {
-        return Ok(Kernel::Select(round_expr(reader, alloc, brackets)?));
-    }
-    if word == b"project".as_slice() {
-        return Ok(Kernel::Project(exprs(reader, alloc, brackets)?));
-    }
-    if word == b"cross".as_slice() {
-        return Ok(Kernel::Cross);
-    }
-    if word == b"istream".as_slice() {
-        return Ok(Kernel::Streamer(Streamer::Istream));
-    }
-    if word == b"dstream".as_slice() {
-        return Ok(Kernel::Streamer(Streamer::Dstream));
-    }
-    if word == b"rstream".as_slice() {
-        return Ok(Kernel::Streamer(Streamer::Rstream));
-    }
-    if word == b"tally".as_slice() {
-        return Ok(Kernel::Tally);
-    }
-    Err(Fault::Syntax)
+    relation_after(reader, alloc, brackets, word)
+}
+
+// The second kernel behind the first.
+fn fused_of(alloc: Global, at: u32, first: Kernel, second: Kernel) -> Result<Kernel, NoMemory>
+    ensures { IfOk result (λ k. kern_of k ≡ made_fused (at, (kern_of first, kern_of second))) }
+{
+    Ok(Kernel::Fused {
+        first: Box::new(alloc, first)?,
+        second: Box::new(alloc, second)?,
+        at,
+    })
 }
 
 // What stands behind `fused`.
@@ -122,11 +158,16 @@ fn fused(reader: &mut Reader<'_>, alloc: Global, brackets: u32) -> Result<Kernel
     let at = number(reader, brackets)?;
     let first = braced(reader, alloc, brackets)?;
     let second = braced(reader, alloc, brackets)?;
-    Ok(Kernel::Fused {
-        first: Box::new(alloc, first)?,
-        second: Box::new(alloc, second)?,
-        at,
-    })
+    Ok(fused_of(alloc, at, first, second)?)
+}
+
+// What stands behind `packed`.
+#[cycle(kernel)]
+fn packed(reader: &mut Reader<'_>, alloc: Global, brackets: u32) -> Result<Kernel, Fault>
+    ensures { Gives kern_of result reader.new (seen kern.packed (braced_at brackets) reader.old) }
+{
+    let inner = braced(reader, alloc, brackets)?;
+    Ok(Kernel::Packed(Box::new(alloc, inner)?))
 }
 
 // What stands behind the word of a kernel.
@@ -156,8 +197,7 @@ fn kernel_after(
         return Ok(Kernel::Collect(weights(reader, alloc, brackets)?));
     }
     if word == b"packed".as_slice() {
-        let inner = braced(reader, alloc, brackets)?;
-        return Ok(Kernel::Packed(Box::new(alloc, inner)?));
+        return packed(reader, alloc, brackets);
     }
     if word == b"unpack".as_slice() {
         return Ok(Kernel::Unpack(number(reader, brackets)?));

@@ -1,8 +1,15 @@
 //! Laws over the definitions alone.
-ghost use Rattle.river_text.specs.Laws.{OnePlan};
+ghost use Rattle.river_text.specs.Laws.{OnePlan, MeansWhatItHas};
 
 /// A text stands for one plan at most.
 #[tactic(auto, using(crate::proofs::Texts::one_plan))]
 pub fn one_plan()
     ensures { OnePlan }
+{}
+
+/// What is read is the grammar: `plan_in` gives a plan exactly where the text stands for these lists and they are
+/// valid, a fault of the bytes exactly where it is the first, a unit exactly where it is the first that is not in the
+/// grammar, and a fault of a plan exactly where the text stands for lists of which it is the first.
+pub fn means_what_it_has()
+    ensures { MeansWhatItHas }
 {}

@@ -5,16 +5,17 @@ mod body;
 mod decl;
 mod entry;
 mod fault;
+mod front;
 mod kernel;
 pub mod laws;
 mod number;
 mod op;
 mod port;
 mod read;
+mod river_fault;
 mod term;
 
 pub use fault::TextFault;
+pub use front::compile_river;
 pub use read::read_river;
-
-#[cfg(test)]
-mod tests;
+pub use river_fault::RiverFault;

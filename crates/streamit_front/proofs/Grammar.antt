@@ -10,6 +10,7 @@ use Rattle.work_code.specs.declared.sign.Symbol.TheVariants.{Arrow, Open, Close,
 use Rattle.text_forms.specs.declared.language.Language.TheVariants.{StreamIt}
 use Rattle.text_forms.specs.Language.{is_plain}
 use Rattle.text_forms.specs.Texts.{whole}
+use Rattle.text_forms.specs.declared.refusal.Refusal.TheVariants.{Syntax}
 use Rattle.text_forms.proofs.Choices.{exact-known}
 use Rattle.text_forms.proofs.Exact.{Exact, Any, exact-name, exact-number, exact-both, exact-after, exact-before, exact-after_word, exact-tested, exact-seen}
 use Rattle.text_forms.proofs.Ladder.{Ends, exact-expr}
@@ -17,7 +18,9 @@ use Rattle.text_forms.proofs.Texts.{whole-sound, whole-complete}
 use Rattle.streamit_front.specs.Program.{Program}
 use Rattle.streamit_front.specs.Items.{item_value}
 use Rattle.streamit_front.specs.Grammar.{is_one, made, IsItemValue, IsBody, IsWork, IsProgram}
-use Rattle.streamit_front.specs.Reading.{Refusal, Syntax, item_value_at, body_at, work_at, program_at, or_syntax, read_marks, compiled}
+use Rattle.streamit_front.specs.Reading.{item_value_at, body_at, work_at, program_at, or_syntax, read_marks, compiled}
+use Rattle.streamit_front.specs.declared.fault.StreamitFault.{StreamitFault}
+use Rattle.streamit_front.specs.declared.fault.StreamitFault.TheVariants.{Text}
 use Rattle.streamit_front.specs.Laws.{ReadsWhatIsWritten, ReadsAllThatIsWritten, OneProgram, RefusesWhatIsNotWritten}
 
 -- behind the expression comes a symbol that is no operator
@@ -35,7 +38,7 @@ exact-work =
     exact-after_word (codes "push") (exact-seen (λ (v : ℕ × (ℕ × Term)). v.1.1) (exact-both (exact-tested is_one exact-number) (exact-after_word (codes "pop")
     (exact-both (exact-tested is_one exact-number) (exact-after (OpenBrace ∷ []) exact-body) (λ y s rest g d. tt))) (λ y s rest g d. tt)))
 
-abbrev made_ok : Program → Result Program Refusal
+abbrev made_ok : Program → Result Program StreamitFault
 made_ok p = Ok p
 
 pub exact-program : Exact IsProgram program_at Any
@@ -66,14 +69,14 @@ same_program p q e = cc
 pub one_program : OneProgram
 one_program text p q t u = same_program p q (sym (reads_all_that_is_written text p t) ∙ reads_all_that_is_written text q u)
 
-unit_is : (o : Option Program) (unit : ℕ) → or_syntax o ≡ Err (Syntax unit) → unit ≡ 1
+unit_is : (o : Option Program) (unit : ℕ) → or_syntax o ≡ Err (Text (Syntax unit)) → unit ≡ 1
 unit_is (Some p) unit e = cc
 unit_is None unit e = cc
 
-other_end : (r : Result Program Refusal) (p : Program) (why : Refusal) → r ≡ Err why → r ≡ Ok p → ⊥
+other_end : (r : Result Program StreamitFault) (p : Program) (why : StreamitFault) → r ≡ Err why → r ≡ Ok p → ⊥
 other_end r p why e f = cc
 
-marks_unit : (r : Result (List Mark) LexFault) (unit : ℕ) → read_marks r ≡ Err (Syntax unit) → unit ≡ 1
+marks_unit : (r : Result (List Mark) LexFault) (unit : ℕ) → read_marks r ≡ Err (Text (Syntax unit)) → unit ≡ 1
 marks_unit (Ok marks) unit e = unit_is (whole program_at (toks marks)) unit e
 marks_unit (Err (lex.BadByte at)) unit e = cc
 marks_unit (Err (lex.BigNumber at)) unit e = cc
@@ -82,4 +85,4 @@ marks_unit (Err lex.NoMemory) unit e = cc
 pub refuses_what_is_not_written : RefusesWhatIsNotWritten
 unfolding compiled
 refuses_what_is_not_written text unit e =
-    (marks_unit (tokens_in text) unit e, λ p t. other_end (compiled text) p (Syntax unit) e (reads_all_that_is_written text p t))
+    (marks_unit (tokens_in text) unit e, λ p t. other_end (compiled text) p (Text (Syntax unit)) e (reads_all_that_is_written text p t))

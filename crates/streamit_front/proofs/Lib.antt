@@ -1,5 +1,4 @@
 pub mod Grammar
-pub mod Places
 pub mod Plans
 pub mod Translated
 pub mod Words

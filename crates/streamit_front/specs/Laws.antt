@@ -12,7 +12,9 @@ use Rattle.brooklet_model.specs.Meaning.{meaning}
 use Rattle.streamit_front.specs.Program.{Program}
 use Rattle.streamit_front.specs.Meaning.{outputs_of}
 use Rattle.streamit_front.specs.Grammar.{IsText}
-use Rattle.streamit_front.specs.Reading.{Syntax, compiled}
+use Rattle.text_forms.specs.declared.refusal.Refusal.TheVariants.{Syntax}
+use Rattle.streamit_front.specs.Reading.{compiled}
+use Rattle.streamit_front.specs.declared.fault.StreamitFault.TheVariants.{Text}
 use Rattle.streamit_front.specs.Translation.{label_of, op_of, plan_of}
 
 -- the program of a text is the one that the grammar says
@@ -28,7 +30,7 @@ OneProgram = (text : List ℕ) (p q : Program) → IsText text p → IsText text
 
 -- a unit that is refused is the first, of a text that has tokens and stands for no program
 abbrev pub RefusesWhatIsNotWritten : Type 0
-RefusesWhatIsNotWritten = (text : List ℕ) (unit : ℕ) → compiled text ≡ Err (Syntax unit) → (unit ≡ 1) × ((p : Program) → IsText text p → ⊥)
+RefusesWhatIsNotWritten = (text : List ℕ) (unit : ℕ) → compiled text ≡ Err (Text (Syntax unit)) → (unit ≡ 1) × ((p : Program) → IsText text p → ⊥)
 
 -- the plan of a text's program is valid
 abbrev pub PlansAreValid : Type 0

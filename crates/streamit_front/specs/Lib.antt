@@ -5,5 +5,5 @@ pub mod Made
 pub mod Meaning
 pub mod Program
 pub mod Reading
-pub mod Refusals
 pub mod Translation
+pub mod Words

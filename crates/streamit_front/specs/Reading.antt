@@ -1,19 +1,22 @@
 -- The program of a text, or why it is none.
-use Rattle.std.specs.Prelude.{ℕ, List, [], ◌∷◌, codes, Option, Some, None, Result, Ok, Err}
+use Rattle.std.specs.Prelude.{◌≡◌, ℕ, List, [], ◌∷◌, codes, Option, Some, None, Result, Ok, Err}
 use Rattle.work_code.specs.Tok.{Mark, toks}
 use Rattle.work_code.specs.Lexis.{tokens_in}
 use Rattle.work_code.specs.Term.{Term}
 use Rattle.work_code.specs.declared.fault.LexFault.{LexFault}
-use Rattle.work_code.specs.declared.fault.LexFault.TheVariants as lex
 use Rattle.work_code.specs.declared.sign.Symbol.TheVariants.{Arrow, Open, Close, OpenBrace, CloseBrace, Semicolon}
 use Rattle.text_forms.specs.declared.language.Language.TheVariants.{StreamIt}
 use Rattle.text_forms.specs.Language.{plain_name_at}
 use Rattle.text_forms.specs.Ladder.{expr_at}
 use Rattle.text_forms.specs.Parse.{Parse, number_at, both, after, before, after_word, tested, seen, known}
+use Rattle.text_forms.specs.Refusals.{of_lexer}
 use Rattle.text_forms.specs.Texts.{whole}
+use Rattle.text_forms.specs.declared.refusal.Refusal.TheVariants.{Syntax}
 use Rattle.streamit_front.specs.Grammar.{is_one, made}
 use Rattle.streamit_front.specs.Items.{item_value}
 use Rattle.streamit_front.specs.Program.{Program}
+use Rattle.streamit_front.specs.declared.fault.StreamitFault.{StreamitFault}
+use Rattle.streamit_front.specs.declared.fault.StreamitFault.TheVariants.{Text, NoMemory}
 
 unfoldable pub item_value_at : Parse Term
 item_value_at ts = known item_value (expr_at StreamIt 125) ts
@@ -30,26 +33,20 @@ program_at ts =
     seen made (after_word (codes "int") (after (Arrow ∷ []) (after_word (codes "int") (after_word (codes "filter")
     (both (plain_name_at StreamIt) (after (OpenBrace ∷ []) (after_word (codes "work") work_at))))))) ts
 
--- why a text is no program: a byte where no token begins, a number that is too great, or a unit that is not in the grammar
-pub data Refusal : Type 0 where
-  BadByte : ℕ → Refusal
-  BigNumber : ℕ → Refusal
-  Syntax : ℕ → Refusal
-
 -- the program of the tokens; a text has one unit
-abbrev pub or_syntax : Option Program → Result Program Refusal
+abbrev pub or_syntax : Option Program → Result Program StreamitFault
 or_syntax (Some p) = Ok p
-or_syntax None = Err (Syntax 1)
+or_syntax None = Err (Text (Syntax 1))
 
--- a fault of the lexer, which wants no memory here
-abbrev pub lexical : LexFault → Refusal
-lexical (lex.BadByte at) = BadByte at
-lexical (lex.BigNumber at) = BigNumber at
-lexical lex.NoMemory = Syntax 1
-
-abbrev pub read_marks : Result (List Mark) LexFault → Result Program Refusal
+abbrev pub read_marks : Result (List Mark) LexFault → Result Program StreamitFault
 read_marks (Ok marks) = or_syntax (whole program_at (toks marks))
-read_marks (Err fault) = Err (lexical fault)
+read_marks (Err fault) = Err (of_lexer Text NoMemory fault)
 
-unfoldable pub compiled : List ℕ → Result Program Refusal
+-- the program of a text, or why it is none
+unfoldable pub compiled : List ℕ → Result Program StreamitFault
 compiled text = read_marks (tokens_in text)
+
+-- this is why there is no program; want of memory says nothing
+abbrev pub Refused : Result Program StreamitFault → StreamitFault → Type 0
+Refused meant (Text refusal) = meant ≡ Err (Text refusal)
+Refused meant NoMemory = Unit {0}

@@ -1,15 +1,16 @@
-// Why a text is no program.
+// Why a text is no program, and what is told of it.
+ghost use Rattle.std.specs.Prelude.{◌≡◌, ◌++◌, OnOk};
+ghost use Rattle.streamit_front.specs.Words.{streamit_words};
 
-use river_base::NoMemory;
-use work_code::LexFault;
+use river_base::{Bytes, NoMemory};
+use std::alloc::Global;
+use text_forms::Refusal;
 
 /// Why a text is no program.
 #[derive(Clone, Copy, Debug, PartialEq, Eq)]
 pub enum StreamitFault {
-    /// The text has no tokens: a byte where none begins, or a number that is too great.
-    Lex(LexFault),
-    /// This unit of the text, from 1, is not in the grammar.
-    Syntax { unit: u32 },
+    /// The text is not read.
+    Text(Refusal),
     /// There was no memory.
     NoMemory,
 }
@@ -22,5 +23,17 @@ impl From<NoMemory> for StreamitFault {
 
     fn from(_: NoMemory) -> Self {
         StreamitFault::NoMemory
+    }
+}
+
+impl StreamitFault {
+    /// Appends what is told of it.
+    pub fn put(self, alloc: Global, to: &mut Bytes) -> Result<(), NoMemory>
+        ensures { OnOk result (to.new ≡ to.old ++ streamit_words self) }
+    {
+        match self {
+            StreamitFault::Text(refusal) => refusal.put(alloc, to),
+            StreamitFault::NoMemory => to.extend(b"NoMemory"),
+        }
     }
 }

@@ -7,13 +7,8 @@ mod item;
 pub mod laws;
 mod program;
 mod reading;
-mod running;
 mod translate;
 
 pub use compile::compile_streamit;
 pub use fault::StreamitFault;
 pub use program::StreamitProgram;
-pub use running::run;
-
-#[cfg(test)]
-mod tests;

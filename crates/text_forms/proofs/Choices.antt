@@ -14,6 +14,7 @@ use Rattle.text_forms.proofs.Symbols.{begins_with-is, begins_with-symbol}
 abbrev pub nowhere : {A : Type 0} → parse.Parse A
 nowhere ts = None
 
+-- nothing is read, as nothing is in the grammar
 pub exact-never : {A : Type 0} {E : List Tok → Type 0} → Exact (form.Never {A = A}) nowhere E
 exact-never = record { sound = λ ts v rest e. cc; complete = λ v s rest h d. absurd h }
 

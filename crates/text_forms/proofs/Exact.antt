@@ -10,24 +10,10 @@ use Rattle.text_forms.specs.Tail.{tail}
 use Rattle.text_forms.specs.Repeat.{Turn, Stop, Fail, Next, repeated}
 use Rattle.text_forms.specs.Parse as parse
 use Rattle.text_forms.specs.Forms as form
+pub use Rattle.text_forms.specs.Exact.{Front, Exact, Any}
 use Rattle.text_forms.proofs.Symbols.{begins_with-is, begins_with-symbol}
 use Rattle.text_forms.proofs.Pairs.{some_inj, pair_inj}
 use Rattle.text_forms.proofs.Repeat.{Shortens, repeated-next, repeated-stop, repeated-fail, repeated-keeps}
-
--- the front of these tokens, up to `rest`, stands for v
-pub record Front {A : Type 0} (F : A → List Tok → Type 0) (v : A) (ts rest : List Tok) : Type 0 where
-  pub front : List Tok
-  pub is : ts ≡ front ++ rest
-  pub formed : F v front
-
--- `E` says what may follow
-pub record Exact {A : Type 0} (F : A → List Tok → Type 0) (p : parse.Parse A) (E : List Tok → Type 0) : Type 0 where
-  pub sound : (ts : List Tok) (v : A) (rest : List Tok) → p ts ≡ Some (v, rest) → Front F v ts rest
-  pub complete : (v : A) (s rest : List Tok) → F v s → E rest → p (s ++ rest) ≡ Some (v, rest)
-
--- anything may follow
-abbrev pub Any : List Tok → Type 0
-Any rest = Unit {0}
 
 -- fewer things may follow
 pub exact-less : {A : Type 0} {F : A → List Tok → Type 0} {p : parse.Parse A} {E D : List Tok → Type 0} → Exact F p E → ((rest : List Tok) → D rest → E rest) → Exact F p D
@@ -53,6 +39,7 @@ exact-name = record { sound = sound; complete = complete } where
   complete : (v : List ℕ) (s rest : List Tok) → form.Name v s → Any rest → parse.name_at (s ++ rest) ≡ Some (v, rest)
   complete v s rest f any = rw f refl
 
+-- a variable
 pub exact-var : Exact form.Var parse.var_at Any
 exact-var = record { sound = sound; complete = complete } where
   sound : (ts : List Tok) (v : List ℕ) (rest : List Tok) → parse.var_at ts ≡ Some (v, rest) → Front form.Var v ts rest
@@ -65,6 +52,7 @@ exact-var = record { sound = sound; complete = complete } where
   complete : (v : List ℕ) (s rest : List Tok) → form.Var v s → Any rest → parse.var_at (s ++ rest) ≡ Some (v, rest)
   complete v s rest f any = rw f refl
 
+-- a number
 pub exact-number : Exact form.Number parse.number_at Any
 exact-number = record { sound = sound; complete = complete } where
   sound : (ts : List Tok) (v : ℕ) (rest : List Tok) → parse.number_at ts ≡ Some (v, rest) → Front form.Number v ts rest
@@ -77,6 +65,7 @@ exact-number = record { sound = sound; complete = complete } where
   complete : (v : ℕ) (s rest : List Tok) → form.Number v s → Any rest → parse.number_at (s ++ rest) ≡ Some (v, rest)
   complete v s rest f any = rw f refl
 
+-- no tokens
 pub exact-nothing : {A : Type 0} (x : A) → Exact (form.Nothing x) (parse.nothing_at x) Any
 exact-nothing {A} x = record { sound = sound; complete = complete } where
   sound : (ts : List Tok) (v : A) (rest : List Tok) → parse.nothing_at x ts ≡ Some (v, rest) → Front (form.Nothing x) v ts rest

@@ -22,13 +22,10 @@ use Rattle.text_forms.specs.Tail.{tail}
 use Rattle.text_forms.specs.Tree.{Spoken, depth_of}
 use Rattle.text_forms.specs.Tree as tree
 use Rattle.text_forms.proofs.Exact.{Exact, Front, Any, exact-as, exact-less, exact-both, exact-after, exact-before, exact-tested, exact-seen, exact-merged, exact-number, exact-nothing, then_read-some}
+pub use Rattle.text_forms.specs.Exact.{Ends}
 use Rattle.text_forms.proofs.Pairs.{some_inj, pair_inj}
 use Rattle.text_forms.proofs.Repeat.{Shortens, repeated-next, repeated-stop, repeated-keeps}
 use Rattle.text_forms.proofs.Symbols.{begins_with-is, begins_with-symbol}
-
--- no operator of the lines up to k comes
-abbrev pub Ends : ℕ → List Tok → Type 0
-Ends k rest = (j : ℕ) → j ≤ k → operator_at j rest ≡ None
 
 -- the tokens of an expression behind one bracket more
 abbrev IsWithin : Language → (n room : ℕ) → Spoken → List Tok → Type 0
@@ -465,11 +462,13 @@ exact-line l n i k below room = record { sound = sound; complete = complete } wh
       chain-complete l k n (suc k) room v s i below h.0 refl h.1 rest (λ j le. e j (omega arith))
       ∙ repeated-stop (chain_turn (ladder l n i k (room - 1)) (suc k) room) v rest (ended l n k (ladder l n i k) below room v rest (e (suc k) (omega arith)))
 
+-- an expression on a line of the grammar, where what stands in brackets is read exactly
 pub exact-ladder : (l : Language) (n : ℕ) (i : ℕ → parse.Parse Spoken) → ((room : ℕ) → Exact (IsWithin l n room) (i room) (Ends 6)) → (rank room : ℕ) → Exact (IsTerm l n rank room) (ladder l n i rank room) (Ends rank)
 unfolding ladder
 exact-ladder l n i x zero room = exact-as (exact-less (exact-unary l n room i x) (λ rest e. tt)) (λ v s h. h) (λ v s h. h) (λ ts. refl)
 exact-ladder l n i x (suc k) room = exact-line l n i k (λ r. exact-ladder l n i x k r) room
 
+-- an expression behind one bracket more
 pub exact-within : (l : Language) (n room : ℕ) → Exact (IsWithin l n room) (within l n room) (Ends 6)
 unfolding within
 exact-within l zero room = record { sound = λ ts v rest e. cc; complete = λ v s rest h e. absurd h }

@@ -200,10 +200,12 @@ module _ {A : Type 0} {F : A → List Tok → Type 0} {p : parse.Parse A} {E : L
       ap (λ (l : List A). repeated (parse.comma_turn p) l us) (ap (map f) pushed ∙ map-append f old (i ∷ []))
       ∙ comma-next (map f old) ts us (f i) (sym comes ∙ holds) (sym (ap p rest) ∙ read)
 
+-- a list ends where no comma comes
 pub comma-stop : {A : Type 0} (p : parse.Parse A) (done : List A) (ts : List Tok) → parse.begins_with Comma ts ≡ false → repeated (parse.comma_turn p) done ts ≡ Some (done, ts)
 unfolding parse.comma_turn
 comma-stop p done ts none = repeated-stop (parse.comma_turn p) done ts (rw none refl)
 
+-- there is no list where no item stands behind a comma
 pub comma-bad : {A : Type 0} (p : parse.Parse A) (done : List A) (ts : List Tok) → parse.begins_with Comma ts ≡ true → p (tail ts) ≡ None → repeated (parse.comma_turn p) done ts ≡ None
 unfolding parse.comma_turn
 comma-bad p done ts comes read = repeated-fail (parse.comma_turn p) done ts (rw (comes, read) refl)

@@ -1,8 +1,10 @@
 -- Equations of options and pairs, taken apart.
 use Rattle.std.proofs.Common.{◌≡◌, Option, Some, None, ap}
 
+-- what is there is one value
 pub some_inj : {A : Type 0} {x y : A} → Some x ≡ Some y → x ≡ y
 some_inj {A} {x} {y} e = cc
 
+-- and of a pair each part
 pub pair_inj : {A B : Type 0} {p q : A × B} → Some p ≡ Some q → (p.0 ≡ q.0) × (p.1 ≡ q.1)
 pair_inj {A} {B} {p} {q} e = let same : p ≡ q = some_inj e in (ap (λ (r : A × B). r.0) same, ap (λ (r : A × B). r.1) same)

@@ -69,6 +69,7 @@ some_depth (Neg t) = omega arith
 some_depth (Not t) = omega arith
 some_depth (Bin o l r) = omega arith
 
+-- a number below 2^32 counts something
 pub is_count-below : (n : ℕ) → n < 4294967296 → is_count n ≡ true
 is_count-below n lt = grind (arith, nat_tests)
 

@@ -21,16 +21,19 @@ enough {A} step short (suc n) (suc m) x ts a b = by (λ y us c d. enough step sh
       let less : length us < length ts = short x ts y us is in
       more y us (omega arith) (omega arith)
 
+-- a loop goes on behind a turn that gives a value
 pub repeated-next : {A : Type 0} (step : A → List Tok → Turn A) → Shortens step → (x : A) (ts : List Tok) (y : A) (us : List Tok) → step x ts ≡ Next y us → repeated step x ts ≡ repeated step y us
 unfolding repeated turns
 repeated-next step short x ts y us is =
     let less : length us < length ts = short x ts y us is in
     ap (after_turn (turns step (length ts)) x ts) is ∙ enough step short (length ts) (suc (length us)) y us less (omega arith)
 
+-- a loop ends where its turn ends it
 pub repeated-stop : {A : Type 0} (step : A → List Tok → Turn A) (x : A) (ts : List Tok) → step x ts ≡ Stop → repeated step x ts ≡ Some (x, ts)
 unfolding repeated turns
 repeated-stop step x ts is = ap (after_turn (turns step (length ts)) x ts) is
 
+-- a loop reads nothing where its turn reads nothing
 pub repeated-fail : {A : Type 0} (step : A → List Tok → Turn A) (x : A) (ts : List Tok) → step x ts ≡ Fail → repeated step x ts ≡ None
 unfolding repeated turns
 repeated-fail step x ts is = ap (after_turn (turns step (length ts)) x ts) is

@@ -83,5 +83,6 @@ begins_with-is x (var text ∷ ts) e = cc
 begins_with-is x (number value ∷ ts) e = cc
 begins_with-is x (symbol y ∷ ts) e = ap (λ (z : Symbol). symbol z ∷ ts) (same_symbol y x e)
 
+-- tokens begin with the symbol that is first
 pub begins_with-symbol : (x : Symbol) (ts : List Tok) → begins_with x (symbol x ∷ ts) ≡ true
 begins_with-symbol x ts = eq-eqb (code_of x) (code_of x) refl

@@ -114,3 +114,30 @@ module _ {S A : Type 0} {F : S → A → List Tok → Type 0} {p : S → Parse A
   first-bad s us m e =
       let (k, bad, count) = bad_from s 1 us m e in
       subst (λ (j : ℕ). IsFirstBad F next s us j) (omega (arith, count)) bad
+
+  -- a unit that stands for nothing is not read
+  nothing-read : (s : S) (u : List Tok) → ((v : A) → F s v u → ⊥) → (o : Option A) → whole (p s) u ≡ o → o ≡ None
+  nothing-read s u not None e = refl
+  nothing-read s u not (Some v) e = absurd (not v (whole-sound (x s) u v e))
+
+  bad-from : (s : S) (n : ℕ) (before : List (List Tok)) (bad : List Tok) (behind : List (List Tok)) (vs : List A)
+      → AllFormed F next s vs before → ((v : A) → F (state_after next s vs) v bad → ⊥) → read_units p next s n (before ++ (bad ∷ behind)) ≡ Err (n + length before)
+  bad-from s n [] bad behind [] h not =
+      let e = nothing-read s bad not (whole (p s) bad) refl in
+      let z : n + 0 ≡ n = omega arith in
+      rw (e, z) refl
+  bad-from s n [] bad behind (v ∷ vs) h not = absurd h
+  bad-from s n (b ∷ bs) bad behind [] h not = absurd h
+  bad-from s n (b ∷ bs) bad behind (v ∷ vs) h not =
+      let e = whole-complete (x s) b v h.0 in
+      let i = bad-from (next s v) (n + 1) bs bad behind vs h.1 not in
+      let z : n + 1 + length bs ≡ n + length (b ∷ bs) = omega arith in
+      rw (e, i, z) refl
+
+  -- the first unit that is not in the grammar is told
+  pub bad-read : (s : S) (us : List (List Tok)) (m : ℕ) → IsFirstBad F next s us m → read_units p next s 1 us ≡ Err m
+  bad-read s us m b =
+      let told : read_units p next s 1 us ≡ Err (1 + length b.before) =
+      subst (λ (l : List (List Tok)). read_units p next s 1 l ≡ Err (1 + length b.before)) (sym b.is) (bad-from s 1 b.before b.bad b.behind b.values b.formed b.not_formed) in
+      let same : 1 + length b.before ≡ m = omega (arith, b.number) in
+      told ∙ ap (λ (k : ℕ). Err k) same

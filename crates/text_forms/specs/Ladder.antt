@@ -65,12 +65,16 @@ abbrev pub pop_at : ℕ → Parse Spoken
 pop_at zero ts = None
 pop_at (suc n) ts = after (s.Open ∷ s.Close ∷ []) (nothing_at tree.Pop) ts
 
+-- what stands behind `peek`; `within` reads an expression behind one bracket more
+abbrev pub peek_at : Parse Spoken → Parse Spoken
+peek_at within ts = seen tree.Peek (after (s.Open ∷ []) (before within (s.Close ∷ []))) ts
+
 -- a leaf that begins with a name; `within` reads an expression behind one bracket more
 unfoldable pub named : Language → (brackets : ℕ) → Parse Spoken → List ℕ → Parse Spoken
 named l brackets within text ts =
     if has_input l && bytes_eq text (codes "input") then seen tree.Input (place_at brackets) ts
     else if has_slot l && bytes_eq text (codes "slot") then seen tree.Slot (place_at brackets) ts
-    else if has_reads l && bytes_eq text (codes "peek") then seen tree.Peek (after (s.Open ∷ []) (before within (s.Close ∷ []))) ts
+    else if has_reads l && bytes_eq text (codes "peek") then peek_at within ts
     else if has_reads l && bytes_eq text (codes "pop") then pop_at brackets ts
     else if names_values l text then Some (tree.Name text, ts)
     else None

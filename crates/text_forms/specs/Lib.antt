@@ -1,3 +1,4 @@
+pub mod Exact
 pub mod Expressions
 pub mod Forms
 pub mod Gives
@@ -5,6 +6,7 @@ pub mod Ladder
 pub mod Language
 pub mod Measure
 pub mod Parse
+pub mod Refusals
 pub mod Repeat
 pub mod Tail
 pub mod Texts

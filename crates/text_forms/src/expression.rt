@@ -1,10 +1,12 @@
 // Expressions read.
 ghost use Rattle.std.specs.Prelude.{◌≡◌, ◌<◌, ◌≤◌, ◌+◌, IfOk, is_some, if◌then◌else◌};
 ghost use Rattle.text_forms.specs.Gives.{Gives};
-ghost use Rattle.text_forms.specs.Ladder.{operator_at, place_at, pop_at, named, leaf_at, unary, ladder, within, expr_at};
+ghost use Rattle.text_forms.specs.Ladder.{operator_at, place_at, pop_at, peek_at, named, leaf_at, unary, ladder, within, expr_at};
 ghost use Rattle.text_forms.specs.Measure.{tree_of};
+ghost use Rattle.text_forms.specs.Parse.{seen};
 ghost use Rattle.text_forms.specs.Tail.{tail};
 ghost use Rattle.text_forms.specs.Tree.{spoken};
+ghost use Rattle.text_forms.specs.Tree as tree;
 
 use crate::measured::Measured;
 use crate::operator::{op_of, rank_of};
@@ -160,16 +162,13 @@ impl<'a> Reader<'a> {
         ensures depth { IfOk result (λ m. m.depth ≤ room + 1) }
     {
         if language.has_input() && text == b"input".as_slice() {
-            return Ok(Measured::leaf(Tree::Input(self.place(brackets)?)));
+            return self.input(brackets);
         }
         if language.has_slot() && text == b"slot".as_slice() {
-            return Ok(Measured::leaf(Tree::Slot(self.place(brackets)?)));
+            return self.slot(brackets);
         }
         if language.has_reads() && text == b"peek".as_slice() {
-            self.expect(&[Symbol::Open])?;
-            let inner = self.within(alloc, language, brackets, room)?;
-            self.expect(&[Symbol::Close])?;
-            return Ok(inner.peeked(alloc)?);
+            return self.peeked(alloc, language, brackets, room);
         }
         if language.has_reads() && text == b"pop".as_slice() {
             return self.pop(brackets);
@@ -179,6 +178,42 @@ impl<'a> Reader<'a> {
         } else {
             Err(Fault::Syntax)
         }
+    }
+
+    // What stands behind `peek`.
+    #[cycle(expression)]
+    #[tactic(auto, using(crate::proofs::Steps::steps))]
+    fn peeked(
+        &mut self,
+        alloc: Global,
+        language: Language,
+        brackets: u32,
+        room: u32,
+    ) -> Result<Measured<'a>, Fault>
+        requires room { room < 64 }
+        ensures reads { Gives tree_of result self.new (peek_at (within language brackets room) self.old) }
+        ensures depth { IfOk result (λ m. m.depth ≤ room + 1) }
+    {
+        self.expect(&[Symbol::Open])?;
+        let inner = self.within(alloc, language, brackets, room)?;
+        self.expect(&[Symbol::Close])?;
+        Ok(inner.peeked(alloc)?)
+    }
+
+    // What stands behind `input`.
+    fn input(&mut self, brackets: u32) -> Result<Measured<'a>, Fault>
+        ensures reads { Gives tree_of result self.new (seen tree.Input (place_at brackets) self.old) }
+        ensures depth { IfOk result (λ m. m.depth ≤ 1) }
+    {
+        Ok(Measured::leaf(Tree::Input(self.place(brackets)?)))
+    }
+
+    // What stands behind `slot`.
+    fn slot(&mut self, brackets: u32) -> Result<Measured<'a>, Fault>
+        ensures reads { Gives tree_of result self.new (seen tree.Slot (place_at brackets) self.old) }
+        ensures depth { IfOk result (λ m. m.depth ≤ 1) }
+    {
+        Ok(Measured::leaf(Tree::Slot(self.place(brackets)?)))
     }
 
     // A number in square brackets.

@@ -4,16 +4,16 @@
 mod expression;
 mod fault;
 mod language;
+pub mod laws;
 mod measured;
 mod names;
 mod operator;
 mod reader;
+mod refusal;
 mod tree;
 
 pub use fault::Fault;
 pub use language::Language;
 pub use reader::Reader;
+pub use refusal::Refusal;
 pub use tree::Tree;
-
-#[cfg(test)]
-mod tests;

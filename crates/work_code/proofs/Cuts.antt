@@ -83,6 +83,7 @@ cut-next at ls h =
     sym (cut-is 0 ts some ∙ ap (λ rest. take (unit_len 0 ts) ts ∷ cut 0 rest)
     (drop-map (λ (l : Lexeme). token_of l.token) (unit_len 0 ts) (drop at ls) ∙ ap tokens_of (drop-drop (unit_len 0 ts) at ls ∙ ap (λ k. drop k ls) (omega arith))))
 
+-- behind the last token there is no unit
 pub cut-end : (at : ℕ) (ls : List Lexeme) → length ls ≤ at → units_of (tokens_of (drop at ls)) ≡ []
 unfolding cut
 cut-end at ls h = ap (λ l. units_of (tokens_of l)) (drop_all at ls h)

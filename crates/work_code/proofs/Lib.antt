@@ -1,6 +1,10 @@
+pub mod Apart
 pub mod Cuts
+pub mod Ends
+pub mod Gaps
 pub mod Joined
 pub mod Lists
+pub mod Longest
 pub mod Marks
 pub mod Pieces
 pub mod Rooms

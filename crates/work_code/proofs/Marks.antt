@@ -27,11 +27,13 @@ step at (suc len) c cs h k =
     let e : suc len - 1 ≡ len = omega arith in
     ap (λ n. marks n (at + 1) cs) e ∙ marks-skip len (at + 1) cs (omega arith) ∙ ap (λ n. marks 0 n (drop len cs)) (omega arith)
 
+-- the lexer goes on behind what it passes over
 pub at_blank : (at len : ℕ) (s : List ℕ) → 0 < length s → piece_at s ≡ blank len → 0 < len → len ≤ length s → marks 0 at s ≡ marks 0 (at + len) (drop len s)
 unfolding marks
 at_blank at len [] n p h k = absurd (omega arith)
 at_blank at len (c ∷ cs) n p h k = rw (p, marks) (step at len c cs h k)
 
+-- the lexer puts the token at the front before those behind it
 pub at_token : (at len : ℕ) (t : Tok) (s : List ℕ) → 0 < length s → piece_at s ≡ token t len → 0 < len → len ≤ length s → marks 0 at s ≡ with_mark (record { tok = t; start = at; end = at + len }) (marks 0 (at + len) (drop len s))
 unfolding marks
 at_token at len t [] n p h k = absurd (omega arith)
@@ -57,6 +59,7 @@ goes_on at len text = drop-drop len at text ∙ ap (λ k. drop k text) (omega ar
 pub marks-blank : (front : List Mark) (at len : ℕ) (text : List ℕ) → at < length text → piece_at (drop at text) ≡ blank len → 0 < len → len ≤ length (drop at text) → after_marks front (marks 0 (at + len) (drop (at + len) text)) ≡ after_marks front (marks 0 at (drop at text))
 marks-blank front at len text h p pos fits = ap (after_marks front) (sym (at_blank at len (drop at text) (omega (arith, length-drop at text)) p pos fits ∙ ap (marks 0 (at + len)) (goes_on at len text)))
 
+-- the same, behind the tokens that were found so far
 pub marks-token : (front : List Mark) (at len : ℕ) (t : Tok) (text : List ℕ) → at < length text → piece_at (drop at text) ≡ token t len → 0 < len → len ≤ length (drop at text) → after_marks (front ++ record { tok = t; start = at; end = at + len } ∷ []) (marks 0 (at + len) (drop (at + len) text)) ≡ after_marks front (marks 0 at (drop at text))
 marks-token front at len t text h p pos fits =
     sym (after-with front (record { tok = t; start = at; end = at + len }) (marks 0 (at + len) (drop (at + len) text)))

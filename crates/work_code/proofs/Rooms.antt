@@ -18,7 +18,7 @@ prefix_more : (p : ℕ → Bool) (c : ℕ) (cs : List ℕ) → p c ≡ true → 
 prefix_more p c cs h = rw h (omega arith)
 
 -- a letter goes on a name
-letter_word : (c : ℕ) → is_letter c ≡ true → is_word c ≡ true
+pub letter_word : (c : ℕ) → is_letter c ≡ true → is_word c ≡ true
 unfolding is_word
 letter_word c h = rw h refl
 
@@ -27,7 +27,8 @@ unfolding first_is
 name_has [] h = cc
 name_has (c ∷ cs) h = prefix_more is_word c cs (letter_word c h)
 
-digits_has : (s : List ℕ) → first_is is_digit s ≡ true → 0 < prefix_len is_digit s
+-- a text that begins with a digit has a digit at its front
+pub digits_has : (s : List ℕ) → first_is is_digit s ≡ true → 0 < prefix_len is_digit s
 unfolding first_is
 digits_has [] h = cc
 digits_has (c ∷ cs) h = prefix_more is_digit c cs h
@@ -108,6 +109,7 @@ symbol_fits [] = tt
 symbol_fits (c ∷ []) = short_fits 1 (short_symbol c) (omega arith)
 symbol_fits (c ∷ d ∷ ds) = long_fits (length (c ∷ d ∷ ds)) c (long_symbol c d) (omega arith)
 
+-- a piece has a byte and is no longer than the text
 pub piece_fits : (s : List ℕ) → 0 < length s → FitsIn (length s) (piece_at s)
 unfolding piece_at
 piece_fits s pos =

@@ -74,6 +74,7 @@ so_far_refused input all s rest slots now out out' out'' f g =
 pub at_place : (items : List Stmt) (i : ℕ) (s : Stmt) → i < length items → s ≡ get_or items i s → map step (drop i items) ≡ step s ∷ map step (drop (i + 1) items)
 at_place items i s lt e = ap (map step) (drop-cons items i s lt ∙ ap (λ x. x ∷ drop (suc i) items) (sym e) ∙ ap (λ k. s ∷ drop k items) (sym (add-one i)))
 
+-- what holds of each of some trees holds of one of them
 pub within_at : (P : Term → Type 0) (es : List Expr) (i : ℕ) (e : Expr) → AllByRecursion P (map term es) → i < length es → e ≡ get_or es i e → P (term e)
 within_at P [] i e h lt at = absurd (omega arith)
 within_at P (x ∷ xs) zero e h lt at = subst (λ y. P (term y)) (sym at) h.0
@@ -83,6 +84,7 @@ within_at P (x ∷ xs) (suc i) e h lt at = within_at P xs i e h.1 (omega arith) 
 pub none_left : (items : List Stmt) (i : ℕ) → length items ≤ i → map step (drop i items) ≡ []
 none_left items i h = ap (map step) (drop_all i items h)
 
+-- the tree of a push
 pub step-push : (port : ℕ) (values : Exprs) → step (built.Push port values) ≡ Push port (terms values)
 step-push port values = ap step (sym (rolls-Push port values)) ∙ fold-roll-Stmt Step Steps step_at steps_at (layer.Push port values)
 
@@ -94,6 +96,7 @@ step-set slot value = ap step (sym (rolls-Set slot value)) ∙ fold-roll-Stmt St
 
 pub ruleset step_trees = (step-push, step-if, step-set, steps-is)
 
+-- what holds anyhow holds where there is an error
 pub on_err : {T E P : Type 0} (r : Result T E) → P → OnErr r P
 on_err (Ok x) h = tt
 on_err (Err e) h = h

@@ -13,8 +13,12 @@ use Rattle.work_code.specs.Symbols.{short_symbol, long_symbol, symbol_bytes}
 use Rattle.work_code.specs.Lexis.{Piece, blank, token, bad, big, marks, with_mark, piece_at, first_is, begins_with, is_blank, is_letter, is_digit, is_word, is_in_line, block_end, block_piece, name_piece, var_piece, number_piece, symbol_piece, short_piece, long_piece, decimal_from, most, tokens_in}
 use Rattle.work_code.specs.Pieces.{FitsIn}
 use Rattle.work_code.specs.Tok.{Tok, Mark, name, var, number, symbol}
-use Rattle.work_code.specs.Laws.{IsWrittenAs, IsSpan, Ascend, AllSpans, TokensAreSlices, FaultsAreThere}
-use Rattle.work_code.proofs.Rooms.{piece_fits}
+use Rattle.work_code.specs.Laws.{IsWord, IsWrittenAs, IsSmall, begins_comment, IsSpan, Ascend, AllSpans, TokensAreSlices, FaultsAreThere}
+use Rattle.work_code.proofs.Gaps.{front-all}
+use Rattle.work_code.proofs.Longest.{longest-piece, no-comment}
+use Rattle.work_code.proofs.Rooms.{piece_fits, letter_word, digits_has}
+use Rattle.std.proofs.lemmas.Bool.Decides.{nat_tests}
+use Rattle.std.proofs.lemmas.List.Folds.{length-prefix_len}
 
 -- a symbol's bytes
 chosen : (b : Bool) (x : Symbol) (o : Option Symbol) (y : Symbol) → (if b then Some x else o) ≡ Some y → (P : Symbol → Type 0) → (b ≡ true → P x) → (o ≡ Some y → P y) → P y
@@ -79,10 +83,10 @@ long-bytes c d y e =
     none : {z : Symbol} → None ≡ Some z → ⊥
     none f = cc
 
--- the token of a piece is written at the front of the text
+-- the token of a piece is written at the front of the text, and is not too great
 abbrev Right : List ℕ → Piece → Type 0
 Right s (blank len) = Unit {0}
-Right s (token t len) = IsWrittenAs t (take len s)
+Right s (token t len) = IsWrittenAs t (take len s) × IsSmall t
 Right s bad = Unit {0}
 Right s big = Unit {0}
 
@@ -100,40 +104,43 @@ unfolding begins_with
 dollar [] h = cc
 dollar (c ∷ cs) h = ap (λ (n : ℕ). n ∷ cs) (eqb-true c 36 h)
 
+-- the front of a text that begins with a letter, up to what is not of a word, is a word
+word_front : (s : List ℕ) → first_is is_letter s ≡ true → IsWord (take (prefix_len is_word s) s)
+unfolding first_is
+word_front [] h = cc
+word_front (c ∷ cs) h = (first, front-all is_word (c ∷ cs)) where
+  first : first_is is_letter (take (prefix_len is_word (c ∷ cs)) (c ∷ cs)) ≡ true
+  first = let one : 1 + prefix_len is_word cs ≡ suc (prefix_len is_word cs) = omega arith in rw (letter_word c h, one) h
+
 var_right : (cs : List ℕ) → Right (36 ∷ cs) (var_piece cs)
 unfolding var_piece
-var_right cs = choose (36 ∷ cs) (first_is is_letter cs) _ _ (λ _. taken (prefix_len is_word cs)) (λ _. tt) where
+var_right cs = choose (36 ∷ cs) (first_is is_letter cs) _ _ (λ h. ((taken (prefix_len is_word cs), word_front cs h), tt)) (λ _. tt) where
   one_more : (n : ℕ) → n + 1 ≡ suc n
   one_more n = omega arith
 
   taken : (n : ℕ) → take (n + 1) (36 ∷ cs) ≡ 36 ∷ take n cs
   taken n = ap (λ (k : ℕ). take k (36 ∷ cs)) (one_more n)
 
-digits_taken : (s : List ℕ) → list_all is_digit (take (prefix_len is_digit s) s) ≡ true
-digits_taken [] = refl
-digits_taken (c ∷ cs) = by (is_digit c) refl (digits_taken cs) where
-  one_before : (n : ℕ) → 1 + n ≡ suc n
-  one_before n = omega arith
-
-  by : (b : Bool) → is_digit c ≡ b → list_all is_digit (take (prefix_len is_digit cs) cs) ≡ true → list_all is_digit (take (cond b (1 + prefix_len is_digit cs) 0) (c ∷ cs)) ≡ true
-  by true is more = rw (one_before (prefix_len is_digit cs)) (rw is more)
-  by false is more = refl
-
-number_right : (s : List ℕ) (value len : ℕ) → list_all is_digit (take len s) ≡ true → decimal_from 0 (take len s) ≡ value → Right s (number_piece value len)
+number_right : (s : List ℕ) (value len : ℕ) → 0 < length (take len s) → list_all is_digit (take len s) ≡ true → decimal_from 0 (take len s) ≡ value → Right s (number_piece value len)
 unfolding number_piece
-number_right s value len all is = choose s (nat_lt most value) big (token (number value) len) (λ _. tt) (λ _. (all, is))
+number_right s value len some all is = choose s (nat_lt most value) big (token (number value) len) (λ _. tt) (λ h. ((some, all, is), small h)) where
+  small : nat_lt most value ≡ false → value ≤ most
+  small h = grind (arith, nat_tests)
+
+digits_right : (s : List ℕ) → first_is is_digit s ≡ true → Right s (number_piece (decimal_from 0 (take (prefix_len is_digit s) s)) (prefix_len is_digit s))
+digits_right s h = number_right s (decimal_from 0 (take (prefix_len is_digit s) s)) (prefix_len is_digit s) (omega (arith, digits_has s h, length-prefix_len is_digit s)) (front-all is_digit s) refl
 
 short_right : (c : ℕ) (cs : List ℕ) → Right (c ∷ cs) (short_piece (short_symbol c))
 short_right c cs = by (short_symbol c) refl where
   by : (o : Option Symbol) → short_symbol c ≡ o → Right (c ∷ cs) (short_piece o)
   by None is = tt
-  by (Some x) is = short-bytes c x is
+  by (Some x) is = (short-bytes c x is, tt)
 
 long_right : (c d : ℕ) (ds : List ℕ) → Right (c ∷ (d ∷ ds)) (long_piece c (long_symbol c d))
 long_right c d ds = by (long_symbol c d) refl where
   by : (o : Option Symbol) → long_symbol c d ≡ o → Right (c ∷ (d ∷ ds)) (long_piece c o)
   by None is = short_right c (d ∷ ds)
-  by (Some x) is = long-bytes c d x is
+  by (Some x) is = (long-bytes c d x is, tt)
 
 symbol_right : (s : List ℕ) → Right s (symbol_piece s)
 unfolding symbol_piece
@@ -148,13 +155,13 @@ piece_right s =
     choose s (begins_with 35 s) _ _ (λ _. tt) (λ _.
     choose s (begins_with 47 s && begins_with 47 (drop 1 s)) _ _ (λ _. tt) (λ _.
     choose s (begins_with 47 s && begins_with 42 (drop 1 s)) _ _ (λ _. block_right s (block_end 2 (drop 2 s))) (λ _.
-    choose s (first_is is_letter s) _ _ (λ _. refl) (λ _.
+    choose s (first_is is_letter s) _ _ (λ h. ((refl, word_front s h), tt)) (λ _.
     choose s (begins_with 36 s) _ _ (λ h. subst (λ (l : List ℕ). Right l (var_piece (drop 1 s))) (sym (dollar s h)) (var_right (drop 1 s))) (λ _.
-    choose s (first_is is_digit s) _ _ (λ _. number_right s (decimal_from 0 (take (prefix_len is_digit s) s)) (prefix_len is_digit s) (digits_taken s) refl) (λ _.
+    choose s (first_is is_digit s) _ _ (λ h. digits_right s h) (λ _.
     symbol_right s)))))))
 
 -- how a reading with a token in front began
-with-ok : (m : Mark) (r : Result (List Mark) LexFault) (ms : List Mark) → with_mark m r ≡ Ok ms → (rest : List Mark) × (r ≡ Ok rest) × (ms ≡ m ∷ rest)
+pub with-ok : (m : Mark) (r : Result (List Mark) LexFault) (ms : List Mark) → with_mark m r ≡ Ok ms → (rest : List Mark) × (r ≡ Ok rest) × (ms ≡ m ∷ rest)
 with-ok m (Ok rest) ms e = (rest, refl, same e) where
   same : with_mark m (Ok rest) ≡ Ok ms → ms ≡ m ∷ rest
   same f = cc
@@ -172,7 +179,8 @@ sooner : (text : List ℕ) (at later : ℕ) (ms : List Mark) → at ≤ later �
 sooner text at later [] le h = h
 sooner text at later (m ∷ ms) le h = ((omega (arith, h.0.0), h.0.1), h.1)
 
-next_drop : (text : List ℕ) (at c : ℕ) (cs : List ℕ) → c ∷ cs ≡ drop at text → cs ≡ drop (at + 1) text
+-- the text from the next place on
+pub next_drop : (text : List ℕ) (at c : ℕ) (cs : List ℕ) → c ∷ cs ≡ drop at text → cs ≡ drop (at + 1) text
 next_drop [] at c cs e = none at e where
   none : (n : ℕ) → c ∷ cs ≡ drop n [] → cs ≡ drop (n + 1) []
   none zero f = cc
@@ -182,42 +190,47 @@ next_drop (d ∷ ds) (suc n) c cs e = let more : n + 1 + 1 ≡ suc (n + 1) = ome
   shift : (k : ℕ) → suc (k + 1) ≡ suc k + 1
   shift k = omega arith
 
-room_left : (text : List ℕ) (at : ℕ) (s : List ℕ) → s ≡ drop at text → 0 < length s → at + length s ≡ length text
+-- how much of the text is left
+pub room_left : (text : List ℕ) (at : ℕ) (s : List ℕ) → s ≡ drop at text → 0 < length s → at + length s ≡ length text
 room_left text at s here some = omega (arith, ap length here, length-drop at text)
 
 -- one token before those that are known
-one_known : (text : List ℕ) (at len : ℕ) (t : Tok) (s : List ℕ) (rest : List Mark) → s ≡ drop at text → 0 < len → len ≤ length s → IsWrittenAs t (take len s) → Known text (at + len) rest → Known text at (record { tok = t; start = at; end = at + len } ∷ rest)
-one_known text at len t s rest here some fits written more =
+one_known : (text : List ℕ) (at len : ℕ) (t : Tok) (s : List ℕ) (rest : List Mark) → s ≡ drop at text → 0 < len → len ≤ length s → piece_at s ≡ token t len
+    → IsWrittenAs t (take len s) × IsSmall t → Known text (at + len) rest → Known text at (record { tok = t; start = at; end = at + len } ∷ rest)
+one_known text at len t s rest here some fits is written more =
     let size : at + len - at ≡ len = omega arith in (
       (omega arith, more.0),
       (
         record {
           some = omega arith;
           within = omega (arith, room_left text at s here (omega arith), fits);
-          written = subst (λ (n : ℕ). IsWrittenAs t (take n (drop at text))) (sym size) (subst (λ (l : List ℕ). IsWrittenAs t (take len l)) here written);
+          written = subst (λ (n : ℕ). IsWrittenAs t (take n (drop at text))) (sym size) (subst (λ (l : List ℕ). IsWrittenAs t (take len l)) here written.0);
+          small = written.1;
+          no_comment = subst (λ (l : List ℕ). begins_comment l ≡ false) here (no-comment s t len is);
+          longest = λ u bytes rest e w. subst (λ (n : ℕ). length bytes ≤ n) (sym size) (longest-piece s t len some is u bytes rest (here ∙ e) w);
         },
         more.1,
       ),
     )
 
 -- the tokens from a piece on
-abbrev after_piece : ℕ → List ℕ → Piece → Result (List Mark) LexFault
+abbrev pub after_piece : ℕ → List ℕ → Piece → Result (List Mark) LexFault
 after_piece at cs (blank len) = marks (len - 1) (at + 1) cs
 after_piece at cs (token t len) = with_mark (record { tok = t; start = at; end = at + len }) (marks (len - 1) (at + 1) cs)
 after_piece at cs bad = Err (BadByte at)
 after_piece at cs big = Err (BigNumber at)
 
 -- from a piece on
-from_piece : (text : List ℕ) (at c : ℕ) (cs : List ℕ) (p : Piece) (ms : List Mark) → c ∷ cs ≡ drop at text → FitsIn (length (c ∷ cs)) p → Right (c ∷ cs) p
+from_piece : (text : List ℕ) (at c : ℕ) (cs : List ℕ) (p : Piece) (ms : List Mark) → c ∷ cs ≡ drop at text → piece_at (c ∷ cs) ≡ p → FitsIn (length (c ∷ cs)) p → Right (c ∷ cs) p
     → ((skip : ℕ) (ks : List Mark) → marks skip (at + 1) cs ≡ Ok ks → Known text (at + 1 + skip) ks)
     → after_piece at cs p ≡ Ok ms → Known text at ms
-from_piece text at c cs (blank len) ms here fits right more e = sooner text at (at + 1 + (len - 1)) ms (omega arith) (more (len - 1) ms e)
-from_piece text at c cs (token t len) ms here fits right more e =
+from_piece text at c cs (blank len) ms here is fits right more e = sooner text at (at + 1 + (len - 1)) ms (omega arith) (more (len - 1) ms e)
+from_piece text at c cs (token t len) ms here is fits right more e =
     let w = with-ok (record { tok = t; start = at; end = at + len }) (marks (len - 1) (at + 1) cs) ms e in
     let next : at + 1 + (len - 1) ≡ at + len = omega (arith, fits.0) in
-    subst (λ (l : List Mark). Known text at l) (sym w.2) (one_known text at len t (c ∷ cs) w.0 here fits.0 fits.1 right (subst (λ (n : ℕ). Known text n w.0) next (more (len - 1) w.0 w.1)))
-from_piece text at c cs bad ms here fits right more e = cc
-from_piece text at c cs big ms here fits right more e = cc
+    subst (λ (l : List Mark). Known text at l) (sym w.2) (one_known text at len t (c ∷ cs) w.0 here fits.0 fits.1 is right (subst (λ (n : ℕ). Known text n w.0) next (more (len - 1) w.0 w.1)))
+from_piece text at c cs bad ms here is fits right more e = cc
+from_piece text at c cs big ms here is fits right more e = cc
 
 slices : (text : List ℕ) (skip at : ℕ) (s : List ℕ) (ms : List Mark) → s ≡ drop at text → marks skip at s ≡ Ok ms → Known text (at + skip) ms
 unfolding marks
@@ -226,8 +239,9 @@ slices text skip at [] (m ∷ ms) here e = cc
 slices text (suc skip) at (c ∷ cs) ms here e = sooner text (at + suc skip) (at + 1 + skip) ms (omega arith) (slices text skip (at + 1) cs ms (next_drop text at c cs here) e)
 slices text zero at (c ∷ cs) ms here e =
     sooner text (at + zero) at ms (omega arith)
-    (from_piece text at c cs (piece_at (c ∷ cs)) ms here (piece_fits (c ∷ cs) (omega arith)) (piece_right (c ∷ cs)) (λ skip ks f. slices text skip (at + 1) cs ks (next_drop text at c cs here) f) e)
+    (from_piece text at c cs (piece_at (c ∷ cs)) ms here refl (piece_fits (c ∷ cs) (omega arith)) (piece_right (c ∷ cs)) (λ skip ks f. slices text skip (at + 1) cs ks (next_drop text at c cs here) f) e)
 
+-- the law: tokens ascend, and each is the slice at its span and the longest there
 pub tokens_are_slices : TokensAreSlices
 tokens_are_slices text ms e = slices text 0 0 text ms refl e
 
@@ -235,7 +249,7 @@ tokens_are_slices text ms e = slices text 0 0 text ms refl e
 abbrev IsThere : List ℕ → LexFault → Type 0
 IsThere text (BadByte at) = (at < length text) × (piece_at (drop at text) ≡ bad)
 IsThere text (BigNumber at) = (at < length text) × (piece_at (drop at text) ≡ big)
-IsThere text NoMemory = Unit {0}
+IsThere text NoMemory = ⊥
 
 from_fault : (text : List ℕ) (at c : ℕ) (cs : List ℕ) (p : Piece) (fault : LexFault) → c ∷ cs ≡ drop at text → piece_at (c ∷ cs) ≡ p
     → ((skip : ℕ) → marks skip (at + 1) cs ≡ Err fault → IsThere text fault)
@@ -260,5 +274,10 @@ faults text (suc skip) at (c ∷ cs) fault here e = faults text skip (at + 1) cs
 faults text zero at (c ∷ cs) fault here e =
     from_fault text at c cs (piece_at (c ∷ cs)) fault here refl (λ skip f. faults text skip (at + 1) cs fault (next_drop text at c cs here) f) e
 
+-- the law: a fault is where it is told
 pub faults_are_there : FaultsAreThere
 faults_are_there text at = (λ e. faults text 0 0 text (BadByte at) refl e, λ e. faults text 0 0 text (BigNumber at) refl e)
+
+-- the tokens of a text are no matter of memory
+pub no_want : (text : List ℕ) → tokens_in text ≡ Err NoMemory → ⊥
+no_want text e = faults text 0 0 text NoMemory refl e

@@ -46,6 +46,7 @@ before-before : (ts us : List Tok) (o : Option (List Tok)) → before ts (before
 before-before ts us None = refl
 before-before ts us (Some vs) = ap (λ (l : List Tok). Some l) (sym (append_assoc ts us vs))
 
+-- no bytes are no tokens
 pub spells-nothing : (ok : List ℕ → Type 0) → Spells [] [] ok
 spells-nothing ok = record { reads = λ at rest h. ap (λ (k : ℕ). tokens_from k rest) (omega arith) ∙ sym (before-nothing (tokens_from (at + 0) rest)) } where
   before-nothing : (o : Option (List Tok)) → before [] o ≡ o
@@ -99,6 +100,7 @@ before-nothing : (o : Option (List Tok)) → before [] o ≡ o
 before-nothing None = refl
 before-nothing (Some vs) = refl
 
+-- a separator is no token
 pub spells-blank : (c : ℕ) → is_blank c ≡ true → Spells (c ∷ []) [] Anything
 spells-blank c is = record {
   reads = λ at rest h. ap spoken (at_blank at 1 (c ∷ rest) (omega arith) (blank_piece c rest is) (omega arith) (omega arith)) ∙ sym (before-nothing (tokens_from (at + 1) rest));
@@ -136,7 +138,7 @@ spells-short c x s is = from_piece (c ∷ []) (symbol x) (omega arith) found whe
   found (d ∷ ds) alone = short_on c d ds x s is alone
 
 -- a symbol of two bytes
-long_piece_at : (c d : ℕ) (rest : List ℕ) (x : Symbol) → IsSign c → c == 47 ≡ false → long_symbol c d ≡ Some x → piece_at (c ∷ (d ∷ rest)) ≡ token (symbol x) 2
+pub long_piece_at : (c d : ℕ) (rest : List ℕ) (x : Symbol) → IsSign c → c == 47 ≡ false → long_symbol c d ≡ Some x → piece_at (c ∷ (d ∷ rest)) ≡ token (symbol x) 2
 unfolding piece_at first_is begins_with symbol_piece
 long_piece_at c d rest x s other is = rw (s.no_blank, s.no_hash, other, s.no_letter, s.no_dollar, s.no_digit, is) refl
 
@@ -161,14 +163,17 @@ abbrev pub is_name_text : List ℕ → Bool
 is_name_text [] = false
 is_name_text (c ∷ cs) = is_letter c && list_all is_word cs
 
-letter_high : (c : ℕ) → is_letter c ≡ true → 64 < c
+-- letters and _ stand behind the digits and most signs
+pub letter_high : (c : ℕ) → is_letter c ≡ true → 64 < c
 unfolding is_letter
 letter_high c is = grind (arith, nat_tests)
 
-is_no : (c k : ℕ) → k < c → c == k ≡ false
+-- a byte is not one that is below it
+pub is_no : (c k : ℕ) → k < c → c == k ≡ false
 is_no c k lt = ne_eqb c k (λ e. absurd (omega arith))
 
-high_no_blank : (c : ℕ) → 32 < c → is_blank c ≡ false
+-- bytes above the space are no separators
+pub high_no_blank : (c : ℕ) → 32 < c → is_blank c ≡ false
 unfolding is_blank
 high_no_blank c high =
     let a = is_no c 32 (omega arith) in
@@ -191,6 +196,7 @@ name_piece_is c cs rest first all next =
     let len : prefix_len is_word (c ∷ (cs ++ rest)) ≡ length (c ∷ cs) = word_len is_word (c ∷ cs) rest (name_all c cs first all) next in
     rw (a, b, d, first, len) (ap (λ (l : List ℕ). token (name l) (length (c ∷ cs))) (take-append_seam (c ∷ cs) rest))
 
+-- a word is a name, where no byte of a word follows
 pub spells-name : (text : List ℕ) → is_name_text text ≡ true → Spells text (name text ∷ []) NoWord
 spells-name [] is = cc
 spells-name (c ∷ cs) is = from_piece (c ∷ cs) (name (c ∷ cs)) (omega arith) (λ rest next. name_piece_is c cs rest (parts (is_letter c) (list_all is_word cs) is).0 (parts (is_letter c) (list_all is_word cs) is).1 next) where
@@ -209,6 +215,7 @@ both_true : (a b : Bool) → a && b ≡ true → (a ≡ true) × (b ≡ true)
 both_true true b e = (refl, e)
 both_true false b e = cc
 
+-- a word behind a dollar sign is a variable
 pub spells-var : (text : List ℕ) → is_name_text text ≡ true → Spells (36 ∷ text) (var text ∷ []) NoWord
 spells-var [] is = cc
 spells-var (c ∷ cs) is =
@@ -239,7 +246,8 @@ digits_same n (c ∷ cs) all =
     let d = digit_between c all.0 in
     ap (λ (v : ℕ). digits_value_after 10 (n * 10 + v) cs) (digit_is c d.0 d.1) ∙ digits_same (n * 10 + (c - 48)) cs all.1
 
-low_no_letter : (c : ℕ) → 47 < c → c < 58 → is_letter c ≡ false
+-- a digit is no letter
+pub low_no_letter : (c : ℕ) → 47 < c → c < 58 → is_letter c ≡ false
 unfolding is_letter
 low_no_letter c low high = grind (arith, nat_tests)
 
@@ -268,6 +276,7 @@ word_digit (d ∷ ds) next = no_digit (is_letter d) (is_digit d) (d == 64) next 
   no_digit false true c e = cc
   no_digit false false c e = refl
 
+-- the decimal digits of a number are the number
 pub spells-number : (n : ℕ) → n ≤ most → Spells (decimal n) (number n ∷ []) NoWord
 spells-number n fits = by (decimal n) (decimal_is_IsNumeral n (omega arith)) where
   by : (ds : List ℕ) → (0 < length ds × AllDigits 10 ds) × (digits_value_after 10 0 ds ≡ n) → Spells ds (number n ∷ []) NoWord
@@ -310,7 +319,8 @@ MayFollow sign.Or rest = Anything rest
 MayFollow sign.Increment rest = Anything rest
 MayFollow sign.Arrow rest = Anything rest
 
-sign_33 : IsSign 33
+-- ! begins symbols alone
+pub sign_33 : IsSign 33
 unfolding is_blank is_letter is_digit
 sign_33 = record { no_blank = refl; no_hash = refl; no_letter = refl; no_dollar = refl; no_digit = refl }
 
@@ -318,7 +328,8 @@ sign_37 : IsSign 37
 unfolding is_blank is_letter is_digit
 sign_37 = record { no_blank = refl; no_hash = refl; no_letter = refl; no_dollar = refl; no_digit = refl }
 
-sign_38 : IsSign 38
+-- & begins symbols alone
+pub sign_38 : IsSign 38
 unfolding is_blank is_letter is_digit
 sign_38 = record { no_blank = refl; no_hash = refl; no_letter = refl; no_dollar = refl; no_digit = refl }
 
@@ -334,7 +345,8 @@ sign_42 : IsSign 42
 unfolding is_blank is_letter is_digit
 sign_42 = record { no_blank = refl; no_hash = refl; no_letter = refl; no_dollar = refl; no_digit = refl }
 
-sign_43 : IsSign 43
+-- + begins symbols alone
+pub sign_43 : IsSign 43
 unfolding is_blank is_letter is_digit
 sign_43 = record { no_blank = refl; no_hash = refl; no_letter = refl; no_dollar = refl; no_digit = refl }
 
@@ -342,7 +354,8 @@ sign_44 : IsSign 44
 unfolding is_blank is_letter is_digit
 sign_44 = record { no_blank = refl; no_hash = refl; no_letter = refl; no_dollar = refl; no_digit = refl }
 
-sign_45 : IsSign 45
+-- - begins symbols alone
+pub sign_45 : IsSign 45
 unfolding is_blank is_letter is_digit
 sign_45 = record { no_blank = refl; no_hash = refl; no_letter = refl; no_dollar = refl; no_digit = refl }
 
@@ -362,15 +375,18 @@ sign_59 : IsSign 59
 unfolding is_blank is_letter is_digit
 sign_59 = record { no_blank = refl; no_hash = refl; no_letter = refl; no_dollar = refl; no_digit = refl }
 
-sign_60 : IsSign 60
+-- < begins symbols alone
+pub sign_60 : IsSign 60
 unfolding is_blank is_letter is_digit
 sign_60 = record { no_blank = refl; no_hash = refl; no_letter = refl; no_dollar = refl; no_digit = refl }
 
-sign_61 : IsSign 61
+-- = begins symbols alone
+pub sign_61 : IsSign 61
 unfolding is_blank is_letter is_digit
 sign_61 = record { no_blank = refl; no_hash = refl; no_letter = refl; no_dollar = refl; no_digit = refl }
 
-sign_62 : IsSign 62
+-- > begins symbols alone
+pub sign_62 : IsSign 62
 unfolding is_blank is_letter is_digit
 sign_62 = record { no_blank = refl; no_hash = refl; no_letter = refl; no_dollar = refl; no_digit = refl }
 
@@ -386,7 +402,8 @@ sign_123 : IsSign 123
 unfolding is_blank is_letter is_digit
 sign_123 = record { no_blank = refl; no_hash = refl; no_letter = refl; no_dollar = refl; no_digit = refl }
 
-sign_124 : IsSign 124
+-- the bar begins symbols alone
+pub sign_124 : IsSign 124
 unfolding is_blank is_letter is_digit
 sign_124 = record { no_blank = refl; no_hash = refl; no_letter = refl; no_dollar = refl; no_digit = refl }
 
@@ -454,6 +471,7 @@ unfolding long_symbol
 alone_37 [] = tt
 alone_37 (d ∷ ds) = (refl, refl, refl)
 
+-- the bytes of a symbol are the symbol, where nothing follows with which they are another
 pub spells-symbol : (x : Symbol) → Spells (symbol_bytes x) (symbol x ∷ []) (MayFollow x)
 unfolding short_symbol long_symbol
 spells-symbol sign.Plus = spells-short 43 sign.Plus sign_43 refl
@@ -522,11 +540,13 @@ abbrev pub NoSign : List ℕ → Type 0
 NoSign [] = Unit {0}
 NoSign (d ∷ ds) = (d == 61 ≡ false) × (d == 62 ≡ false)
 
+-- what begins with no sign may stand behind a minus
 pub minus_follows : (rest : List ℕ) → NoSign rest → MayFollow sign.Minus rest
 unfolding long_symbol
 minus_follows [] h = tt
 minus_follows (d ∷ ds) h = (rw h.1 refl, refl, refl)
 
+-- and behind an exclamation mark
 pub not_follows : (rest : List ℕ) → NoSign rest → MayFollow sign.Not rest
 unfolding long_symbol
 not_follows [] h = tt

@@ -31,6 +31,3 @@ pub use sign::Symbol;
 pub use token::{Lexeme, Token};
 pub use tokens::Tokens;
 pub use unit::units;
-
-#[cfg(test)]
-mod tests;

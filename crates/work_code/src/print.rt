@@ -1,8 +1,7 @@
 // Prints expressions and bodies.
-ghost use Rattle.std.specs.Prelude.{◌≡◌, ◌++◌, OnOk, OnErr};
+ghost use Rattle.std.specs.Prelude.{◌≡◌, ◌++◌, codes, OnOk, OnErr};
 ghost use Rattle.std.specs.Fmt.{decimal, signed_decimal};
 ghost use Rattle.work_code.specs.Term.{term};
-ghost use Rattle.work_code.specs.Steps.{step, steps};
 ghost use Rattle.work_code.specs.Printed.{text_of, sign_text};
 
 use crate::{BinOp, Expr};
@@ -27,41 +26,46 @@ pub fn write_expr(alloc: Global, e: &Expr, to: &mut Bytes) -> Result<(), NoMemor
 {
     match e {
         Expr::Const(value) => write_value(alloc, *value, to),
-        Expr::Input(place) => {
-            to.extend(b"input[")?;
-            write_number(alloc, *place, to)?;
-            to.extend(b"]")?;
-            Ok(())
-        }
-        Expr::Slot(slot) => {
-            to.extend(b"slot[")?;
-            write_number(alloc, *slot, to)?;
-            to.extend(b"]")?;
-            Ok(())
-        }
+        Expr::Input(place) => write_place(alloc, b"input[", *place, to),
+        Expr::Slot(slot) => write_place(alloc, b"slot[", *slot, to),
         Expr::Neg(inner) => {
             to.extend(b"(-")?;
             write_expr(alloc, inner, to)?;
-            to.extend(b")")?;
-            Ok(())
+            to.extend(b")")
         }
         Expr::Not(inner) => {
             to.extend(b"(!")?;
             write_expr(alloc, inner, to)?;
-            to.extend(b")")?;
-            Ok(())
+            to.extend(b")")
         }
         Expr::Bin { op, left, right } => {
             to.extend(b"(")?;
             write_expr(alloc, left, to)?;
-            to.extend(b" ")?;
-            to.extend(sign(*op))?;
-            to.extend(b" ")?;
+            write_sign(*op, to)?;
             write_expr(alloc, right, to)?;
-            to.extend(b")")?;
-            Ok(())
+            to.extend(b")")
         }
     }
+}
+
+// Appends a word and a place behind it.
+#[tactic(auto, using(crate::proofs::Joined::joins))]
+fn write_place(alloc: Global, word: &[u8], place: u32, to: &mut Bytes) -> Result<(), NoMemory>
+    ensures { OnOk result (to.new ≡ to.old ++ (word.now ++ (decimal place ++ codes "]"))) }
+{
+    to.extend(word)?;
+    write_number(alloc, place, to)?;
+    to.extend(b"]")
+}
+
+// Appends an operator between spaces.
+#[tactic(auto, using(crate::proofs::Joined::joins))]
+fn write_sign(op: BinOp, to: &mut Bytes) -> Result<(), NoMemory>
+    ensures { OnOk result (to.new ≡ to.old ++ (codes " " ++ (sign_text op ++ codes " "))) }
+{
+    to.extend(b" ")?;
+    to.extend(sign(op))?;
+    to.extend(b" ")
 }
 
 // Appends a number in decimal.

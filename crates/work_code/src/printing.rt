@@ -1,5 +1,6 @@
 // Prints bodies.
-ghost use Rattle.std.specs.Prelude.{◌≡◌, ◌++◌, map, OnOk, OnErr};
+ghost use Rattle.std.specs.Prelude.{◌≡◌, ◌++◌, map, codes, OnOk, OnErr};
+ghost use Rattle.std.specs.Fmt.{decimal};
 ghost use Rattle.work_code.specs.Term.{term, terms};
 ghost use Rattle.work_code.specs.Steps.{step, steps};
 ghost use Rattle.work_code.specs.Printed.{text_of, items_text, more_items, step_text, body_text, more_text, else_text};
@@ -51,31 +52,48 @@ fn write_step(alloc: Global, s: &Stmt, to: &mut Bytes) -> Result<(), NoMemory>
     ensures { OnOk result (to.new ≡ to.old ++ step_text (step s.now)) }
 {
     match s {
-        Stmt::Set { slot, value } => {
-            to.extend(b"slot[")?;
-            write_number(alloc, *slot, to)?;
-            to.extend(b"] = ")?;
-            write_expr(alloc, value, to)?;
-            to.extend(b";")?;
-            Ok(())
-        }
-        Stmt::Push { port, values } => {
-            to.extend(b"push ")?;
-            write_number(alloc, *port, to)?;
-            to.extend(b" (")?;
-            write_items(alloc, values, to)?;
-            to.extend(b");")?;
-            Ok(())
-        }
+        Stmt::Set { slot, value } => write_set(alloc, *slot, value, to),
+        Stmt::Push { port, values } => write_push(alloc, *port, values, to),
         Stmt::If { cond, yes, no } => {
-            to.extend(b"if (")?;
-            write_expr(alloc, cond, to)?;
-            to.extend(b") ")?;
+            write_cond(alloc, cond, to)?;
             write_body(alloc, yes, to)?;
-            write_else(alloc, no, to)?;
-            Ok(())
+            write_else(alloc, no, to)
         }
     }
+}
+
+// Appends the setting of a slot.
+#[tactic(auto, using(crate::proofs::Joined::joins))]
+fn write_set(alloc: Global, slot: u32, value: &Expr, to: &mut Bytes) -> Result<(), NoMemory>
+    ensures { OnOk result (to.new ≡ to.old ++ (codes "slot[" ++ (decimal slot ++ (codes "] = " ++ (text_of (term value.now) ++ codes ";"))))) }
+{
+    to.extend(b"slot[")?;
+    write_number(alloc, slot, to)?;
+    to.extend(b"] = ")?;
+    write_expr(alloc, value, to)?;
+    to.extend(b";")
+}
+
+// Appends the push of a row.
+#[tactic(auto, using(crate::proofs::Joined::joins))]
+fn write_push(alloc: Global, port: u32, values: &Exprs, to: &mut Bytes) -> Result<(), NoMemory>
+    ensures { OnOk result (to.new ≡ to.old ++ (codes "push " ++ (decimal port ++ (codes " (" ++ (items_text (map text_of (terms values.now)) ++ codes ");"))))) }
+{
+    to.extend(b"push ")?;
+    write_number(alloc, port, to)?;
+    to.extend(b" (")?;
+    write_items(alloc, values, to)?;
+    to.extend(b");")
+}
+
+// Appends what stands before the first body of an `if`.
+#[tactic(auto, using(crate::proofs::Joined::joins))]
+fn write_cond(alloc: Global, cond: &Expr, to: &mut Bytes) -> Result<(), NoMemory>
+    ensures { OnOk result (to.new ≡ to.old ++ (codes "if (" ++ (text_of (term cond.now) ++ codes ") "))) }
+{
+    to.extend(b"if (")?;
+    write_expr(alloc, cond, to)?;
+    to.extend(b") ")
 }
 
 // Appends an else, unless it is empty.

@@ -1,17 +1,23 @@
-use Rattle.std.proofs.Common.{take, ◌+◌, ◌*◌}
+use Rattle.std.proofs.Common.{length, ◌+◌, ◌*◌}
 use Rattle.river_kernels.specs.Kern.{kern_of}
-use Rattle.brooklet_step.specs.Given.{FiresEach, CanTakeAll}
+use Rattle.brooklet_step.proofs.GivenCode.{SoFar}
 use Rattle.brooklet_step.proofs.Size.{size}
 use Rattle.brooklet_step.proofs.firing.+fire_on.Given as goal
 
 abbrev pub decreases-fire_on : goal.decreases-fire_on
-decreases-fire_on l = 2 * size (kern_of l.kernel.now)
+decreases-fire_on l = 3 * size (kern_of l.kernel.now)
 
 abbrev pub decreases-fire_each : goal.decreases-fire_each
-decreases-fire_each l = 2 * size (kern_of l.kernel.now) + 1
+decreases-fire_each l = 3 * size (kern_of l.kernel.now) + 1
 
-abbrev pub invariant-fire_each-loop-place : goal.invariant-fire_each-loop-place
-invariant-fire_each-loop-place l = record {
-  fires : FiresEach (kern_of l.kernel) (take l.place l.items) l.initial.out l.out l.initial.states l.states;
-  takes : CanTakeAll (kern_of l.kernel) l.items l.states l.out;
-}
+abbrev pub decreases-fire_packed : goal.decreases-fire_packed
+decreases-fire_packed l = 3 * size (kern_of l.inner.now) + 2
+
+abbrev pub decreases-fire_fused : goal.decreases-fire_fused
+decreases-fire_fused l = 3 * (size (kern_of l.first.now) + size (kern_of l.second.now)) + 2
+
+abbrev pub invariant-fire_each-loop-item : goal.invariant-fire_each-loop-item
+invariant-fire_each-loop-item l = SoFar (kern_of l.kernel) l.initial.items l.items l.initial.out l.out l.initial.states l.states
+
+abbrev pub decreases-fire_each-loop-item : goal.decreases-fire_each-loop-item
+decreases-fire_each-loop-item l = length l.items

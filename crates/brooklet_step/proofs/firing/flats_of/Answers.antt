@@ -1,8 +1,10 @@
-use Rattle.std.proofs.Common.{ap, ◌∙◌, ◌++◌, ◌∷◌, [], arith}
-use Rattle.river_base.specs.Held.{flats}
-use Rattle.brooklet_step.proofs.Fires.{flats_step}
+use Rattle.std.proofs.Common.{length, ap, arith}
+use Rattle.brooklet_step.proofs.Fires.{flats_next}
 use Rattle.brooklet_step.proofs.firing.flats_of.Goals as goal
+
+pub loop-item-smaller : goal.loop-item-smaller
+loop-item-smaller c = let e = ap length c.in-Some.ensures in omega (arith, e)
 
 pub loop-item-preserved : goal.loop-item-preserved
 loop-item-preserved c =
-    c.in_ok-add_flat.ensures ∙ ap (λ l. l ++ flats (c.item-item.result ∷ [])) c.loop-item.invariant ∙ flats_step c.as_slice-item-items.result.now c.loop-item.item-index c.item-item.result (omega arith) c.item-item.is
+    flats_next c.loop-item.all c.add_flat.new.all c.args.items.now c.loop-item.items c.pop.new.self c.in-Some.item c.loop-item.invariant c.in-Some.ensures c.in_ok-add_flat.ensures

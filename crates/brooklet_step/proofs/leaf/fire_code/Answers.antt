@@ -3,4 +3,4 @@ use Rattle.brooklet_step.proofs.Leaves.{code_below}
 use Rattle.brooklet_step.proofs.leaf.fire_code.Goals as goal
 
 pub give_pushes-requires : goal.give_pushes-requires
-give_pushes-requires c = code_below (code_form c.args.kernel.now) c.args.item.now c.args.states.now _ c.args.out.now _ c.requires c.in_ok-pushes.ensures
+give_pushes-requires c = code_below (code_form c.args.kernel.now) c.args.item c.args.states.now _ c.args.out.now _ c.requires c.in_ok-pushes.ensures

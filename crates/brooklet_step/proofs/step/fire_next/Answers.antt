@@ -6,46 +6,42 @@ use Rattle.brooklet_step.proofs.step.fire_next.Goals as goal
 pub at-queue-requires : goal.at-queue-requires
 at-queue-requires c = subst (λ l. c.args.port < length l) (sym (c.at.ensures [])) (in_reads c.args.parts.now c.args.op c.args.port c.requires.enabled.queue c.requires.goes_on c.requires.enabled.reads).1
 
-pub front-requires-clause-queues : goal.front-requires-clause-queues
-front-requires-clause-queues c = (front_there c.args.parts.now c.args.op c.args.port c.at-queue.result.now c.requires.goes_on c.requires.enabled
+pub front-item-requires-clause-queue : goal.front-item-requires-clause-queue
+front-item-requires-clause-queue c = (front_there c.args.parts.now c.args.op c.args.port c.at-queue.result.now c.requires.goes_on c.requires.enabled
     (enabled_place c.args.parts.now c.args.op c.args.port c.at-queue.result.now c.at.result.now c.requires.goes_on c.requires.enabled (c.at.ensures []) (c.at-queue.ensures 0))).0
 
-pub front-requires-clause-taken : goal.front-requires-clause-taken
-front-requires-clause-taken c = (front_there c.args.parts.now c.args.op c.args.port c.at-queue.result.now c.requires.goes_on c.requires.enabled
+pub front-item-requires-clause-item : goal.front-item-requires-clause-item
+front-item-requires-clause-item c = (front_there c.args.parts.now c.args.op c.args.port c.at-queue.result.now c.requires.goes_on c.requires.enabled
     (enabled_place c.args.parts.now c.args.op c.args.port c.at-queue.result.now c.at.result.now c.requires.goes_on c.requires.enabled (c.at.ensures []) (c.at-queue.ensures 0))).1
-
-pub front-requires-clause-item : goal.front-requires-clause-item
-front-requires-clause-item c = (front_there c.args.parts.now c.args.op c.args.port c.at-queue.result.now c.requires.goes_on c.requires.enabled
-    (enabled_place c.args.parts.now c.args.op c.args.port c.at-queue.result.now c.at.result.now c.requires.goes_on c.requires.enabled (c.at.ensures []) (c.at-queue.ensures 0))).2
 
 pub at_mut-requires : goal.at_mut-requires
 at_mut-requires c = (op_in c.args.parts.now c.args.op c.args.port c.requires.goes_on c.requires.enabled).0
 
 pub fire_op-requires : goal.fire_op-requires
-fire_op-requires c = can_fire c.args.parts.now c.args.op c.args.port c.at-queue.result.now c.in_ok-item.item c.at_mut.result.now c.requires.goes_on c.requires.enabled
+fire_op-requires c = can_fire c.args.parts.now c.args.op c.args.port c.at-queue.result.now c.front-item.result c.front-item.new.queues c.at_mut.result.now c.requires.goes_on c.requires.enabled
     (enabled_place c.args.parts.now c.args.op c.args.port c.at-queue.result.now c.at.result.now c.requires.goes_on c.requires.enabled (c.at.ensures []) (c.at-queue.ensures 0))
-    c.in_ok-item.ensures.item (c.at_mut.ensures.value [])
+    c.front-item.ensures (c.at_mut.ensures.value [])
 
 pub at-requires-2 : goal.at-requires-2
 at-requires-2 c = (op_in c.args.parts.now c.args.op c.args.port c.requires.goes_on c.requires.enabled).1
 
 pub send-requires-clause-ports : goal.send-requires-clause-ports
-send-requires-clause-ports c = (send_there c.args.parts.now c.args.op c.args.port c.in_ok-item.item c.at_mut.result.now c.fire_op.new.states c.in_ok-out.out c.at-2.result.now c.requires.goes_on c.requires.enabled (c.at_mut.ensures.value []) c.in_ok-out.ensures (c.at-2.ensures [])).0
+send-requires-clause-ports c = (send_there c.args.parts.now c.args.op c.args.port c.at-queue.result.now c.front-item.result c.front-item.new.queues c.at_mut.result.now c.fire_op.new.states c.in_ok-out.out c.at-2.result.now c.requires.goes_on c.requires.enabled c.front-item.ensures (c.at_mut.ensures.value []) c.in_ok-out.ensures (c.at-2.ensures [])).0
 
 pub send-requires-clause-places : goal.send-requires-clause-places
-send-requires-clause-places c = (send_there c.args.parts.now c.args.op c.args.port c.in_ok-item.item c.at_mut.result.now c.fire_op.new.states c.in_ok-out.out c.at-2.result.now c.requires.goes_on c.requires.enabled (c.at_mut.ensures.value []) c.in_ok-out.ensures (c.at-2.ensures [])).1
+send-requires-clause-places c = (send_there c.args.parts.now c.args.op c.args.port c.at-queue.result.now c.front-item.result c.front-item.new.queues c.at_mut.result.now c.fire_op.new.states c.in_ok-out.out c.at-2.result.now c.requires.goes_on c.requires.enabled c.front-item.ensures (c.at_mut.ensures.value []) c.in_ok-out.ensures (c.at-2.ensures [])).1
 
 pub count_one-requires : goal.count_one-requires
 count_one-requires c = (op_in c.args.parts.now c.args.op c.args.port c.requires.goes_on c.requires.enabled).2
 
 pub returns-clause-fired : goal.returns-clause-fired
 returns-clause-fired c =
-    (next c.args.parts.now c.args.op c.args.port c.at-queue.result.now c.in_ok-item.next c.in_ok-item.item c.at_mut.result.now c.fire_op.new.states c.in_ok-out.out c.at-2.result.now c.send.new.queues c.count_one.new.counts c.requires.goes_on c.requires.enabled
+    (next c.args.parts.now c.args.op c.args.port c.at-queue.result.now c.front-item.result c.at_mut.result.now c.fire_op.new.states c.in_ok-out.out c.at-2.result.now c.front-item.new.queues c.send.new.queues c.count_one.new.counts c.requires.goes_on c.requires.enabled
     (enabled_place c.args.parts.now c.args.op c.args.port c.at-queue.result.now c.at.result.now c.requires.goes_on c.requires.enabled (c.at.ensures []) (c.at-queue.ensures 0))
-    c.in_ok-item.ensures.item c.in_ok-item.ensures.next (c.at_mut.ensures.value []) c.in_ok-out.ensures (c.at-2.ensures []) c.in_ok-send.ensures c.count_one.ensures).steps
+    c.front-item.ensures (c.at_mut.ensures.value []) c.in_ok-out.ensures (c.at-2.ensures []) c.in_ok-send.ensures c.count_one.ensures).steps
 
 pub returns-clause-goes_on : goal.returns-clause-goes_on
 returns-clause-goes_on c =
-    (next c.args.parts.now c.args.op c.args.port c.at-queue.result.now c.in_ok-item.next c.in_ok-item.item c.at_mut.result.now c.fire_op.new.states c.in_ok-out.out c.at-2.result.now c.send.new.queues c.count_one.new.counts c.requires.goes_on c.requires.enabled
+    (next c.args.parts.now c.args.op c.args.port c.at-queue.result.now c.front-item.result c.at_mut.result.now c.fire_op.new.states c.in_ok-out.out c.at-2.result.now c.front-item.new.queues c.send.new.queues c.count_one.new.counts c.requires.goes_on c.requires.enabled
     (enabled_place c.args.parts.now c.args.op c.args.port c.at-queue.result.now c.at.result.now c.requires.goes_on c.requires.enabled (c.at.ensures []) (c.at-queue.ensures 0))
-    c.in_ok-item.ensures.item c.in_ok-item.ensures.next (c.at_mut.ensures.value []) c.in_ok-out.ensures (c.at-2.ensures []) c.in_ok-send.ensures c.count_one.ensures).goes_on
+    c.front-item.ensures (c.at_mut.ensures.value []) c.in_ok-out.ensures (c.at-2.ensures []) c.in_ok-send.ensures c.count_one.ensures).goes_on

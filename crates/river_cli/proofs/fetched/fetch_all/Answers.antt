@@ -2,7 +2,7 @@ use Rattle.std.proofs.Common.{arith, ◌≡◌, ℕ, ◌+◌, List, [], ◌∷�
 use Rattle.std.proofs.lemmas.List.{drop_more, drop_all, length-append}
 use Rattle.std.proofs.lemmas.Result.{err_from_is_err_and}
 use Rattle.river_outside.specs.Causes.{Rose}
-use Rattle.river_cli.specs.declared.words.InWord.{InWord}
+use Rattle.river_cli.specs.declared.job.InWord.{InWord}
 use Rattle.river_cli.proofs.Fetches.{ComesTo, comes-first, comes-more, comes-all, stops-more}
 use Rattle.river_cli.proofs.fetched.fetch_all.Goals as goal
 
@@ -16,8 +16,8 @@ loop-word-init g c =
       comes = subst (λ (l : List (List ℕ)). ComesTo c.args.ins.now held l c.args.ins.now) (sym c.new-files.ensures) (comes-first c.args.ins.now held);
     }
 
-pub returns-in_err-fetch_one-clause-stops : goal.returns-in_err-fetch_one-clause-stops
-returns-in_err-fetch_one-clause-stops g c =
+pub returns-in_err-fetch_one-clause-passes : goal.returns-in_err-fetch_one-clause-passes
+returns-in_err-fetch_one-clause-passes g c =
     let p = err_from_is_err_and c.from_residual.result c.from_residual.ensures.1 in
     let held = g.S.Shelf.held c.args.shelf.now in
     let early = Rose (g.S.Shelf.faults c.args.shelf.now) (g.S.Shelf.faults c.fetch_one.new.shelf) in
@@ -27,7 +27,7 @@ returns-in_err-fetch_one-clause-stops g c =
     let w = c.word-item.result in
     let left : drop i ins ≡ w ∷ drop (i + 1) ins = drop_more ins i w c.loop-word-test.true ∙ ap (λ (y : InWord). y ∷ drop (i + 1) ins) (sym c.word-item.is) in
     let far = subst (λ (l : List InWord). ComesTo ins held c.loop-word.files l) left c.loop-word.invariant.comes in
-    let one = rw c.loop-word.invariant.stays at c.in_err-fetch_one.ensures.stops in
+    let one = rw c.loop-word.invariant.stays at c.in_err-fetch_one.ensures.passes in
     rw (p.1, p.2) (stops-more ins held early late (λ r. omega (arith, r, c.loop-word.invariant.later)) c.loop-word.files w (drop (i + 1) ins) c.in_err-fetch_one.field-0.0 far one)
 
 pub loop-word-preserved : goal.loop-word-preserved
@@ -39,7 +39,7 @@ loop-word-preserved g c =
     let bytes = c.in_ok-fetch_one.field-0 in
     let left : drop i ins ≡ w ∷ drop (i + 1) ins = drop_more ins i w c.loop-word-test.true ∙ ap (λ (y : InWord). y ∷ drop (i + 1) ins) (sym c.word-item.is) in
     let far = subst (λ (l : List InWord). ComesTo ins held c.loop-word.files l) left c.loop-word.invariant.comes in
-    let one = rw c.loop-word.invariant.stays at c.in_ok-fetch_one.ensures.comes in
+    let one = rw c.loop-word.invariant.stays at c.in_ok-fetch_one.ensures.passes in
     let n = ap length c.in_ok-push.ensures.ok in
     let m = length-append c.loop-word.files (bytes ∷ []) in
     record {
@@ -49,7 +49,7 @@ loop-word-preserved g c =
       comes = subst (λ (l : List (List ℕ)). ComesTo ins held l (drop (i + 1) ins)) (sym c.in_ok-push.ensures.ok) (comes-more ins held c.loop-word.files w (drop (i + 1) ins) bytes far one);
     }
 
-pub returns-clause-comes : goal.returns-clause-comes
-returns-clause-comes g c =
+pub returns-clause-passes : goal.returns-clause-passes
+returns-clause-passes g c =
     let held = g.S.Shelf.held c.args.shelf.now in
     comes-all c.args.ins.now held c.loop-word.files (subst (λ (l : List InWord). ComesTo c.args.ins.now held c.loop-word.files l) (drop_all c.loop-word.word-index c.args.ins.now c.loop-word-test.false) c.loop-word.invariant.comes)

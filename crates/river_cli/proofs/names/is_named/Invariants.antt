@@ -1,6 +1,6 @@
 use Rattle.std.proofs.Common.{◌≡◌, drop}
 use Rattle.river_plan.specs.Names.{count}
-use Rattle.river_cli.specs.Commands.{names}
+use Rattle.river_cli.specs.Inputs.{names}
 use Rattle.river_cli.proofs.names.is_named.Given as goal
 
 abbrev pub invariant-loop-word : goal.invariant-loop-word

@@ -1,4 +1,4 @@
-use Rattle.std.proofs.Common.{◌≡◌, length, subst, Some, None}
+use Rattle.std.proofs.Common.{length, subst, Some, None}
 use Rattle.std.proofs.lemmas.Bool.{true≢false}
 use Rattle.std.proofs.Common.{sym}
 use Rattle.river_kernels.specs.Kern.{kern_of}

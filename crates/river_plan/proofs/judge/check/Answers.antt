@@ -1,18 +1,14 @@
-use Rattle.std.proofs.Common.{None, subst}
+use Rattle.std.proofs.Common.{None}
 use Rattle.river_plan.specs.Forms.{plan_form}
-use Rattle.river_plan.specs.Valid.{FirstFault}
-use Rattle.river_plan.proofs.JudgeLemmas.{judged-fault, told-fault, fault_of-is}
+use Rattle.river_plan.proofs.JudgeLemmas.{told-judged, fault_of-is}
 use Rattle.river_plan.proofs.ValidLaw.{no_fault-valid}
 use Rattle.river_plan.proofs.judge.check.Goals as goal
 
-pub of_valid-requires : goal.of_valid-requires
-of_valid-requires c = no_fault-valid (plan_form c.args.raw) (subst (FirstFault (plan_form c.args.raw)) c.in-None.is c.in_ok-fault.ensures)
+pub of_valid-requires-clause-valid : goal.of_valid-requires-clause-valid
+of_valid-requires-clause-valid c = no_fault-valid (plan_form c.args.raw) c.in-Ok.ensures.faultless
 
-pub returns-in-Some-clause-judged : goal.returns-in-Some-clause-judged
-returns-in-Some-clause-judged c = judged-fault (plan_form c.args.raw) c.in-Some.fault (subst (FirstFault (plan_form c.args.raw)) c.in-Some.is c.in_ok-fault.ensures)
+pub returns-in-Ok-clause-told : goal.returns-in-Ok-clause-told
+returns-in-Ok-clause-told c = (c.of_valid.ensures, fault_of-is (plan_form c.args.raw) None c.in-Ok.ensures.faultless)
 
-pub returns-in-Some-clause-told : goal.returns-in-Some-clause-told
-returns-in-Some-clause-told c = told-fault (plan_form c.args.raw) c.in-Some.fault (subst (FirstFault (plan_form c.args.raw)) c.in-Some.is c.in_ok-fault.ensures)
-
-pub returns-in-None-clause-told : goal.returns-in-None-clause-told
-returns-in-None-clause-told c = (c.of_valid.ensures, fault_of-is (plan_form c.args.raw) None (subst (FirstFault (plan_form c.args.raw)) c.in-None.is c.in_ok-fault.ensures))
+pub returns-in-Err-clause-told : goal.returns-in-Err-clause-told
+returns-in-Err-clause-told c = told-judged (plan_form c.args.raw) c.in-Err.fault c.in-Err.ensures.fault

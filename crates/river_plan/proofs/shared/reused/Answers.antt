@@ -1,7 +1,6 @@
 use Rattle.std.proofs.Common.{List, [], subst}
-use Rattle.river_plan.specs.Forms.{Name, op_forms}
+use Rattle.river_plan.specs.Forms.{Name}
 use Rattle.river_plan.specs.Names.{AreDoubled}
-use Rattle.river_plan.specs.Uses.{all_vars}
 use Rattle.river_plan.proofs.shared.reused.Goals as goal
 
 pub returns : goal.returns

@@ -1,9 +1,7 @@
-use Rattle.std.proofs.Common.{[], List, Option, subst, sym}
+use Rattle.std.proofs.Common.{List, Option, subst, sym}
 use Rattle.river_plan.specs.declared.fault.Named.{Named}
 use Rattle.river_plan.specs.declared.fault.Named.TheVariants.{Variable}
 use Rattle.river_plan.specs.Forms.{Name, variable_names, plan_form}
-use Rattle.river_plan.specs.Names.{AreDoubled}
-use Rattle.river_plan.specs.Uses.{all_vars}
 use Rattle.river_plan.specs.Shares.{IsSingle}
 use Rattle.river_plan.specs.First.{IsFirst}
 use Rattle.river_plan.specs.Faults.{Shared, IsApart}

@@ -1,7 +1,7 @@
 use Rattle.streamit_front.specs.Translation.{plan_of}
 use Rattle.river_round.proofs.Fronts.{fronts-printable}
-use Rattle.river_round.proofs.Round as round
-use Rattle.river_round.proofs.Valid.{printable-writable}
+use Rattle.river_print.proofs.Round as round
+use Rattle.river_print.proofs.Valid.{printable-writable}
 use Rattle.river_round.proofs.laws.plans_of_programs_are_read.Goals as goal
 
 pub returns-clause-bounds : goal.returns-clause-bounds

@@ -10,5 +10,8 @@ decreases-kernel_after l = l.brackets * 4 + 2
 abbrev pub decreases-fused : goal.decreases-fused
 decreases-fused l = l.brackets * 4 + 1
 
+abbrev pub decreases-packed : goal.decreases-packed
+decreases-packed l = l.brackets * 4 + 1
+
 abbrev pub decreases-braced : goal.decreases-braced
 decreases-braced l = l.brackets * 4

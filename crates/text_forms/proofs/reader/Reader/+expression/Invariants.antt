@@ -8,10 +8,13 @@ abbrev pub decreases-ladder : goal.decreases-ladder
 decreases-ladder l = l.brackets * 200 + (100 + l.rank)
 
 abbrev pub decreases-leaf : goal.decreases-leaf
-decreases-leaf l = l.brackets * 200 + 2
+decreases-leaf l = l.brackets * 200 + 3
 
 abbrev pub decreases-named : goal.decreases-named
-decreases-named l = l.brackets * 200 + 1
+decreases-named l = l.brackets * 200 + 2
+
+abbrev pub decreases-peeked : goal.decreases-peeked
+decreases-peeked l = l.brackets * 200 + 1
 
 abbrev pub decreases-unary : goal.decreases-unary
 decreases-unary l = l.brackets * 200 + (20 + l.room)

@@ -1,0 +1,5 @@
+use Rattle.brooklet_model.proofs.Turned as turned
+use Rattle.brooklet_model.proofs.laws.collects_longest.Goals as goal
+
+pub returns : goal.returns
+returns c = turned.collects_longest

@@ -1,0 +1,5 @@
+use Rattle.kern_bags.proofs.Copies.{differences_are}
+use Rattle.kern_bags.proofs.laws.differences_are.Goals as goal
+
+pub returns : goal.returns
+returns c = differences_are

@@ -1,0 +1,45 @@
+-- What a table keeps: what stands at each key.
+use Rattle.std.specs.Prelude.{ℕ, ℤ, pos, List, []}
+use Rattle.kern_tables.specs.declared.kind.TableKind.{TableKind}
+use Rattle.kern_tables.specs.declared.kind.TableKind.TheVariants.{Sum, Collection, Maximum}
+use Rattle.river_base.specs.Bags.{place}
+use Rattle.river_base.specs.Keyed.{put, keyed}
+use Rattle.river_base.specs.Row.{row_cmp, row_lt, in_order}
+use Rattle.kern_tables.specs.declared.kept.Kept.{Kept}
+use Rattle.kern_tables.specs.declared.kept.Kept.TheVariants.{Sums, Rows, Maxima}
+use Rattle.kern_tables.specs.Entries.{split, splits, best_more, sum_rows, maximum_rows}
+use Rattle.kern_tables.specs.Tables.{table_width, add_value}
+
+-- what a table keeps after these rows were added
+abbrev pub kept_of : TableKind → List (List ℤ) → Kept
+kept_of (Sum keys) adds = Sums keys (keyed row_cmp (pos 0) add_value (splits keys adds))
+kept_of (Collection keys) adds = Rows keys (in_order adds)
+kept_of (Maximum best keys) adds = Maxima best keys (keyed row_cmp [] (best_more best) (splits keys adds))
+
+-- and after one more
+abbrev pub added : Kept → List ℤ → Kept
+added (Sums keys es) row = Sums keys (put row_cmp (pos 0) add_value es (split keys row))
+added (Rows keys rows) row = Rows keys (place row_lt row rows)
+added (Maxima best keys es) row = Maxima best keys (put row_cmp [] (best_more best) es (split keys row))
+
+-- its rows
+abbrev pub rows_of : Kept → List (List ℤ)
+rows_of (Sums keys es) = sum_rows es
+rows_of (Rows keys rows) = rows
+rows_of (Maxima best keys es) = maximum_rows es
+
+-- a table that keeps rows as they came is seen with its rows in order
+abbrev pub shown : Kept → Kept
+shown (Sums keys es) = Sums keys es
+shown (Rows keys rows) = Rows keys (in_order rows)
+shown (Maxima best keys es) = Maxima best keys es
+
+-- the kind of a table
+abbrev pub kind_of : Kept → TableKind
+kind_of (Sums keys es) = Sum keys
+kind_of (Rows keys rows) = Collection keys
+kind_of (Maxima best keys es) = Maximum best keys
+
+-- how many values a row of it has
+abbrev pub width_of : Kept → ℕ
+width_of t = table_width (kind_of t)

@@ -1,0 +1,4 @@
+pub mod Answered
+pub mod Lists
+pub mod Meaning
+pub mod Words

@@ -1,0 +1,10 @@
+//! What the rewrites of plans share: why one is refused, look-ups in a plan, and the lemmas on lists that are edited.
+#![tactic(auto)]
+
+mod kinds;
+mod lists;
+mod unfit;
+
+pub use kinds::kind_of;
+pub use lists::plan_of;
+pub use unfit::Unfit;

@@ -1,0 +1,6 @@
+use Rattle.std.proofs.Common.{length}
+use Rattle.river_cases.proofs.run.+have_distinct_names.Given as goal
+
+-- The list is shorter at each call.
+abbrev pub decreases-have_distinct_names : goal.decreases-have_distinct_names
+decreases-have_distinct_names l = length l.files.now

@@ -1,0 +1,68 @@
+-- What was compiled stands for what its text means.
+use Rattle.std.proofs.Common.{◌≡◌, ℤ, List, [], ◌∷◌, length, refl, sym, ap, ◌∙◌, subst, arith}
+use Rattle.std.specs.Prelude.{Result, Ok, Err, All}
+use Rattle.std.proofs.lemmas.List.Elements.{All-head, All-tail}
+use Rattle.river_base.specs.declared.item.Flat.TheVariants.{One}
+use Rattle.river_base.specs.declared.item.Item.TheVariants.{Flat}
+use Rattle.river_base.specs.Held.{HasType}
+use Rattle.river_kernels.specs.Fits.{rows}
+use Rattle.river_order.specs.Passes.{StandsFor}
+use Rattle.river_plan.specs.Forms.{PlanForm, decl_names}
+use Rattle.river_text.specs.Meaning as river
+use Rattle.river_text.specs.Words.{river_words}
+use Rattle.river_text.specs.declared.river_fault.RiverFault.{RiverFault}
+use Rattle.river_text.specs.declared.river_fault.RiverFault.TheVariants as river_fault
+use Rattle.brooklet_model.specs.Meaning.{meaning}
+use Rattle.brooklet_model.specs.Typed.{AreInputs}
+use Rattle.streamit_front.specs.Laws.{as_items}
+use Rattle.streamit_front.specs.Program.{Program}
+use Rattle.streamit_front.specs.Reading.{Refused}
+use Rattle.streamit_front.specs.Translation.{plan_of}
+use Rattle.streamit_front.specs.Words.{streamit_words}
+use Rattle.streamit_front.specs.declared.fault.StreamitFault.{StreamitFault}
+use Rattle.streamit_front.specs.declared.fault.StreamitFault.TheVariants as streamit_fault
+use Rattle.streamit_front.proofs.Translated.{translation_means}
+use Rattle.river_cli.specs.Inputs.{row_items, all_items}
+use Rattle.river_cli.specs.Source.{Source, river_source, streamit_source, values, told, IsPlanOf, IsCompiled}
+use Rattle.river_cli.specs.Text.{program_refused}
+
+-- ---- A RIVER TEXT
+
+pub river-compiled : (meant : Result PlanForm RiverFault) (p : PlanForm) → meant ≡ Ok p → StandsFor IsCompiled (told river_source river_words meant) (record { plan = p })
+river-compiled meant p is = rw is (record { plan = refl; inputs = refl; outputs = refl; means = λ rows t. refl })
+
+pub river-refused : (meant : Result PlanForm RiverFault) (f : RiverFault) (text : List _) → (f ≡ river_fault.NoMemory → ⊥) → river.Refused meant f → text ≡ program_refused (river_words f) → told river_source river_words meant ≡ Err text
+river-refused meant (river_fault.Text refusal) text not is says = rw (is, says) refl
+river-refused meant (river_fault.Plan fault) text not is says = rw (is, says) refl
+river-refused meant river_fault.NoMemory text not is says = absurd (not refl)
+
+-- ---- A STREAMIT PROGRAM
+
+-- a row of one value, and its value
+one_value : (row : List ℤ) → length row ≡ 1 → (x : ℤ) × (row ≡ x ∷ [])
+one_value [] one = absurd (omega (arith, one))
+one_value (x ∷ []) one = (x, refl)
+one_value (x ∷ y ∷ more) one = absurd (omega (arith, one))
+
+-- rows of one value are the items of their values
+values-are : (r : List (List ℤ)) → All (HasType (rows 1)) (row_items r) → row_items r ≡ as_items (values (r ∷ []))
+values-are [] t = refl
+values-are (row ∷ r) t =
+    let (x, is) = one_value row (All-head (HasType (rows 1)) (Flat (One row)) (row_items r) t) in
+    let later : row_items r ≡ as_items (values (r ∷ [])) = values-are r (All-tail (HasType (rows 1)) (Flat (One row)) (row_items r) t) in
+    ap (λ l. Flat (One row) ∷ l) later ∙ rw is refl
+
+program_means : (p : Program) (all : List (List (List ℤ))) → AreInputs (plan_of p).inputs (all_items all) → meaning (plan_of p) (all_items all) ≡ (streamit_source p).means all
+program_means p [] t = absurd t
+program_means p (r ∷ s ∷ more) t = absurd t.1
+program_means p (r ∷ []) t = ap (λ l. meaning (plan_of p) (l ∷ [])) (values-are r t.0) ∙ translation_means p (values (r ∷ []))
+
+program_plan : (p : Program) → IsPlanOf (streamit_source p) (plan_of p)
+program_plan p = record { plan = refl; inputs = refl; outputs = refl; means = program_means p }
+
+pub streamit-compiled : (meant : Result Program StreamitFault) (p : Program) (plan : PlanForm) → meant ≡ Ok p → plan ≡ plan_of p → StandsFor IsCompiled (told streamit_source streamit_words meant) (record { plan = plan })
+streamit-compiled meant p plan is made = rw is (subst (IsPlanOf (streamit_source p)) (sym made) (program_plan p))
+
+pub streamit-refused : (meant : Result Program StreamitFault) (f : StreamitFault) (text : List _) → (f ≡ streamit_fault.NoMemory → ⊥) → Refused meant f → text ≡ program_refused (streamit_words f) → told streamit_source streamit_words meant ≡ Err text
+streamit-refused meant (streamit_fault.Text refusal) text not is says = rw (is, says) refl
+streamit-refused meant streamit_fault.NoMemory text not is says = absurd (not refl)

@@ -1,0 +1,111 @@
+-- The points of a job, and the calls that do them.
+use Rattle.std.proofs.Common.{◌≡◌, ℕ, ℤ, List, ◌++◌, Bool, false, refl, sym, ap, ◌∙◌, subst}
+use Rattle.std.specs.Prelude.{Option, Some, Result, Ok, Err, IfOk, pos, map}
+use Rattle.csv_streams.specs.Outcome.{outputs_text, firings_text, asked, printed_outcome}
+use Rattle.river_base.specs.declared.item.Item as item
+use Rattle.river_base.specs.declared.memory.NoMemory.{NoMemory}
+use Rattle.river_outside.specs.Held.{Held}
+use Rattle.river_order.specs.Order.{Order, Ends, Fetch, Done, Comes}
+use Rattle.river_order.specs.Decides.{Decides, Stops}
+use Rattle.river_order.specs.Passes.{past, Refuses, StandsFor, Passes}
+use Rattle.river_order.specs.declared.stop.Stop.{Stop}
+use Rattle.river_order.proofs.Comes.{Comes-same}
+use Rattle.river_order.proofs.Passes.{past-refused, past-as, then-passes, passed-decides}
+use Rattle.river_plan.specs.Forms.{PlanForm, decl_names, labels}
+use Rattle.river_print.specs.Printed.{plan_text}
+use Rattle.brooklet_model.specs.Histories.{firings}
+use Rattle.brooklet_model.specs.Meaning.{Results, meaning}
+use Rattle.brooklet_model.specs.Typed.{AreInputs}
+use Rattle.river_cli.specs.Inputs.{of_inputs, all_items}
+use Rattle.river_cli.specs.Points.{runs, of_run, of_command, of_text, of_job}
+use Rattle.river_cli.specs.Source.{Source, source_of, IsPlanOf, IsCompiled, printed}
+use Rattle.river_cli.specs.Text.{large_program}
+use Rattle.river_cli.specs.declared.compile.Compiled.{Compiled}
+use Rattle.river_cli.specs.declared.job.Command.TheVariants.{Run, Mean, Show}
+use Rattle.river_cli.specs.declared.job.Job.{Job}
+
+-- the program was fetched
+pub job-decides : (job : Job) (text : List ℕ) (held : Option Held) (early late : Type 0) → (late → early) → (result : Result (List ℕ) Stop)
+    → ((next : List ℕ → Order) → Comes (Fetch job.file 1048576 large_program next) held (next text)) → Passes (of_text job text) held late result → Decides (Some (of_job job)) held early result
+unfolding of_job
+job-decides job text held early late sooner result here there =
+    passed-decides (λ next. Fetch job.file 1048576 large_program (λ t. of_text job t next)) held early result
+    (then-passes (Fetch job.file 1048576 large_program) (λ t next. of_text job t next) held early late sooner text result here there)
+
+-- it was compiled
+pub text-passes : (job : Job) (text : List ℕ) (held : Option Held) (rose : Type 0) (c : Compiled) (result : Result (List ℕ) Stop) → StandsFor IsCompiled (source_of job.lang text) c
+    → ((source : Source) → IsPlanOf source c.plan → Passes (of_command job source) held rose result) → Passes (of_text job text) held rose result
+unfolding of_text
+text-passes job text held rose c (Ok out) told later = past-as IsCompiled (source_of job.lang text) c (λ source next. of_command job source next) held rose (Ok out) told later
+text-passes job text held rose c (Err s) told later = past-as IsCompiled (source_of job.lang text) c (λ source next. of_command job source next) held rose (Err s) told later
+
+-- it is refused
+pub text-stops : (job : Job) (text : List ℕ) (held : Option Held) (rose : Type 0) (s : Stop) → Refuses (source_of job.lang text) s → (next : List ℕ → Order) → Stops (Some (of_text job text next)) held rose s
+unfolding of_text
+text-stops job text held rose s told next = past-refused (source_of job.lang text) s held rose told (λ source. of_command job source next)
+
+-- ---- THE COMMANDS
+
+module _ (job : Job) (source : Source) (held : Option Held) (rose : Type 0) where
+  pub run-passes : (result : Result (List ℕ) Stop) → job.command ≡ Run → Passes (of_run job job.options.counts source) held rose result → Passes (of_command job source) held rose result
+  unfolding of_command of_run
+  run-passes (Ok text) is passed = λ next. rw is (passed next)
+  run-passes (Err s) is passed = λ next. rw is (passed next)
+
+  pub mean-passes : (result : Result (List ℕ) Stop) → job.command ≡ Mean → Passes (of_run job false source) held rose result → Passes (of_command job source) held rose result
+  unfolding of_command of_run
+  mean-passes (Ok text) is passed = λ next. rw is (passed next)
+  mean-passes (Err s) is passed = λ next. rw is (passed next)
+
+  -- the plan is printed
+  pub show-passes : (plan : PlanForm) (text : List ℕ) → job.command ≡ Show → IsPlanOf source plan → text ≡ plan_text plan → Passes (of_command job source) held rose (Ok text)
+  unfolding of_command
+  show-passes plan text is of says = λ next. rw is (
+      let same : text ≡ plan_text source.plan = says ∙ ap plan_text of.plan in
+      subst (λ t. Comes (next (plan_text source.plan)) held (next t)) (sym same) (Comes-same (next (plan_text source.plan)) held))
+
+module _ (job : Job) (counted : Bool) (source : Source) (plan : PlanForm) (held : Option Held) (is : IsPlanOf source plan) where
+  abbrev from_inputs : (List ℕ → Order) → Order
+  from_inputs next = of_inputs source.inputs job.ins job.options.header (λ rows. next (printed source counted rows))
+
+  -- such plans are not run
+  pub run-refused : (rose : Type 0) (s : Stop) → Refuses (runs plan) s → (next : List ℕ → Order) → Stops (Some (of_run job counted source next)) held rose s
+  unfolding of_run
+  run-refused rose s told next = past-refused (runs source.plan) s held rose (subst (λ q. Refuses (runs q) s) is.plan told) (λ _. from_inputs next)
+
+  past_runs : (next : List ℕ → Order) → runs plan ≡ Ok tt → of_run job counted source next ≡ from_inputs next
+  unfolding of_run
+  past_runs next told = ap (λ r. past r (λ _. from_inputs next)) (sym (ap runs is.plan) ∙ told)
+
+  -- its inputs stop it
+  pub run-stops : (rose : Type 0) (s : Stop) → runs plan ≡ Ok tt → ((next : List (List (List ℤ)) → Order) → Stops (Some (of_inputs plan.inputs job.ins job.options.header next)) held rose s)
+      → (next : List ℕ → Order) → Stops (Some (of_run job counted source next)) held rose s
+  run-stops rose s told stops next =
+      let here = subst (λ d. Stops (Some (of_inputs d job.ins job.options.header (λ rows. next (printed source counted rows)))) held rose s) is.inputs (stops (λ rows. next (printed source counted rows))) in
+      subst (λ o. Stops (Some o) held rose s) (sym (past_runs next told)) here
+
+  -- it is run
+  pub run-comes : (all : List (List (List ℤ))) (text : List ℕ) → runs plan ≡ Ok tt → ((next : List (List (List ℤ)) → Order) → Comes (of_inputs plan.inputs job.ins job.options.header next) held (next all))
+      → text ≡ printed source counted all → (next : List ℕ → Order) → Comes (of_run job counted source next) held (next text)
+  run-comes all text told comes says next =
+      let here = subst (λ d. Comes (of_inputs d job.ins job.options.header (λ rows. next (printed source counted rows))) held (next (printed source counted all))) is.inputs (comes (λ rows. next (printed source counted rows))) in
+      let there = subst (λ t. Comes (from_inputs next) held (next t)) (sym says) here in
+      subst (λ o. Comes o held (next text)) (sym (past_runs next told)) there
+
+-- what the plan prints is what the program prints
+pub output-printed : (source : Source) (plan : PlanForm) (counted : Bool) (all : List (List (List ℤ))) → IsPlanOf source plan → AreInputs plan.inputs (all_items all)
+    → printed_outcome plan (meaning plan (all_items all)).outs (asked counted (map pos (firings plan (all_items all)))) ≡ printed source counted all
+output-printed source plan counted all is typed =
+    ap (λ n. outputs_text n (meaning plan (all_items all)).outs ++ fired plan) is.outputs
+    ∙ ap (λ (m : Results). outputs_text source.outputs m.outs ++ fired plan) (is.means all typed)
+    ∙ ap (λ q. outputs_text source.outputs (source.means all).outs ++ fired q) is.plan
+  where
+    fired : PlanForm → List ℕ
+    fired q = firings_text (labels q.ops) (asked counted (map pos (firings q (all_items all))))
+
+pub output-says : (plan : PlanForm) (counted : Bool) (all : List (List (List ℤ))) (outs : List (List item.Item)) (counts : List ℤ) (result : Result (List ℕ) NoMemory)
+    → IfOk result (λ text. text ≡ printed_outcome plan outs (asked counted counts)) → outs ≡ (meaning plan (all_items all)).outs → counts ≡ map pos (firings plan (all_items all)) → AreInputs plan.inputs (all_items all)
+    → IfOk result (λ text. (source : Source) → IsPlanOf source plan → text ≡ printed source counted all)
+output-says plan counted all outs counts (Ok text) says outs_is counts_is typed = λ source is.
+    says ∙ ap (λ o. printed_outcome plan o (asked counted counts)) outs_is ∙ ap (λ n. printed_outcome plan (meaning plan (all_items all)).outs (asked counted n)) counts_is ∙ output-printed source plan counted all is typed
+output-says plan counted all outs counts (Err e) says outs_is counts_is typed = tt

@@ -1,0 +1,10 @@
+use Rattle.river_cli.specs.Source.{source_of}
+use Rattle.river_cli.proofs.compile.compile.Goals as goal
+
+pub returns-in-River : goal.returns-in-River
+unfolding source_of
+returns-in-River c = rw c.in-River.is c.river.ensures
+
+pub returns-in-Streamit : goal.returns-in-Streamit
+unfolding source_of
+returns-in-Streamit c = rw c.in-Streamit.is c.streamit.ensures

@@ -1,0 +1,22 @@
+use Rattle.std.proofs.Common.{rules, arith, ◌≡◌, ◌<◌, ◌+◌, length, drop, sym, ap, ◌∙◌}
+use Rattle.std.proofs.lemmas.Result.{err_from_is_err_and}
+use Rattle.river_cli.specs.Phrases.{phrase_of, phrases}
+use Rattle.river_cli.specs.Said.{Grown}
+use Rattle.river_cli.proofs.ReadOn.{on_by, more-words, no-words, still-apart, same-fault}
+use Rattle.river_cli.proofs.phrases.read_all.Goals as goal
+
+pub returns-in_err-taken-clause-usage : goal.returns-in_err-taken-clause-usage
+returns-in_err-taken-clause-usage c =
+    let p = err_from_is_err_and c.from_residual.result c.from_residual.ensures.1 in
+    let some : 0 < length c.loop-rest.rest.now = grind (arith, c.is_empty.ensures, c.loop-rest-test.true) in
+    rw (p.1, p.2) (λ is. sym c.loop-rest.invariant.read ∙ no-words c.args.command c.loop-rest.rest.now c.loop-rest.said c.loop-rest.job some (c.in_err-taken.ensures.usage (same-fault _ _ c.in_err-taken.field-0.0 is)))
+
+pub loop-rest-preserved : goal.loop-rest-preserved
+loop-rest-preserved c =
+    let some : 0 < length c.loop-rest.rest.now = grind (arith, c.is_empty.ensures, c.loop-rest-test.true) in
+    let g : Grown = record { takes = c.in_ok-taken.taken; said = c.read_phrase.new.said; job = c.read_phrase.new.job } in
+    record {
+      apart = still-apart c.args.command c.loop-rest.rest.now c.loop-rest.said c.loop-rest.job (phrase_of c.loop-rest.rest.now) g c.in_ok-taken.ensures.ok c.loop-rest.invariant.apart;
+      read = ap (λ l. on_by g.said g.job (phrases c.args.command 0 l)) c.behind-rest.ensures
+          ∙ sym (more-words c.args.command c.loop-rest.rest.now c.loop-rest.said c.loop-rest.job g some c.in_ok-taken.ensures.ok) ∙ c.loop-rest.invariant.read;
+    }

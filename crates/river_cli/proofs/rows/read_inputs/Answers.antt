@@ -1,0 +1,1 @@
+use Rattle.river_cli.proofs.rows.read_inputs.Goals as goal

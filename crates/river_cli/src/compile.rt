@@ -1,0 +1,74 @@
+// From the text of a program to its plan: the one place that asks for the language.
+ghost use Rattle.std.specs.Prelude.{◌≡◌, ◌≤◌, length, IfOk, IfErr};
+ghost use Rattle.river_order.specs.Passes.{AnswersAs};
+ghost use Rattle.river_text.specs.Meaning.{plan_in};
+ghost use Rattle.river_text.specs.Words.{river_words};
+ghost use Rattle.streamit_front.specs.Reading.{compiled};
+ghost use Rattle.streamit_front.specs.Words.{streamit_words};
+ghost use Rattle.river_cli.specs.Source.{river_source, streamit_source, told, source_of, IsCompiled};
+ghost use Rattle.river_cli.specs.Text.{program_refused};
+
+use crate::job::Lang;
+use crate::text;
+use river_base::{Bytes, NoMemory};
+use river_order::Stop;
+use river_plan::Plan;
+use river_text::{RiverFault, compile_river};
+use std::alloc::Global;
+use streamit_front::{StreamitFault, compile_streamit};
+
+/// A program that was compiled.
+#[derive(Drop)]
+pub struct Compiled {
+    /// Its plan.
+    pub plan: Plan,
+}
+
+/// The program of a text, or its refusal.
+pub fn compile(alloc: Global, lang: Lang, text: &Bytes) -> Result<Compiled, Stop>
+    requires { length text.now ≤ 1048576 }
+    ensures { AnswersAs IsCompiled (source_of lang text.now) result }
+{
+    match lang {
+        Lang::River => river(alloc, text),
+        Lang::Streamit => streamit(alloc, text),
+    }
+}
+
+fn river(alloc: Global, text: &Bytes) -> Result<Compiled, Stop>
+    requires { length text.now ≤ 1048576 }
+    ensures { AnswersAs IsCompiled (told river_source river_words (plan_in text.now)) result }
+{
+    match compile_river(alloc, text) {
+        Ok(plan) => Ok(Compiled { plan }),
+        Err(RiverFault::NoMemory) => Err(Stop::NoMemory),
+        Err(fault) => Err(Stop::Refused(river_refused(alloc, fault)?)),
+    }
+}
+
+fn river_refused(alloc: Global, fault: RiverFault) -> Result<Bytes, NoMemory>
+    ensures { IfOk result (λ text. text ≡ program_refused (river_words fault)) }
+{
+    let mut words = Bytes::new(alloc);
+    fault.put(alloc, &mut words)?;
+    text::program(alloc, words.as_slice())
+}
+
+fn streamit(alloc: Global, text: &Bytes) -> Result<Compiled, Stop>
+    requires { length text.now ≤ 1048576 }
+    ensures { AnswersAs IsCompiled (told streamit_source streamit_words (compiled text.now)) result }
+{
+    match compile_streamit(alloc, text) {
+        Ok((_, plan)) => Ok(Compiled { plan }),
+        Err(StreamitFault::NoMemory) => Err(Stop::NoMemory),
+        Err(fault) => Err(Stop::Refused(streamit_refused(alloc, fault)?)),
+    }
+}
+
+fn streamit_refused(alloc: Global, fault: StreamitFault) -> Result<Bytes, NoMemory>
+    ensures { IfOk result (λ text. text ≡ program_refused (streamit_words fault)) }
+{
+    let mut words = Bytes::new(alloc);
+    fault.put(alloc, &mut words)?;
+    text::program(alloc, words.as_slice())
+}

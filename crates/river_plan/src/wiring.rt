@@ -1,0 +1,187 @@
+// The names of a plan as places, looked up once.
+ghost use Rattle.std.specs.Prelude.{◌≡◌, [], ◌∷◌, IfOk, OnOk, map as mapped};
+ghost use Rattle.river_base.specs.Places.{only, each_grew};
+ghost use Rattle.river_plan.specs.Forms.{plan_form, op_forms, queue_names, variable_names};
+ghost use Rattle.river_plan.specs.Places.{places, as_often, users};
+ghost use Rattle.river_plan.specs.Wired.{AreUses, IsWired};
+
+use crate::name_set::NameSet;
+use crate::{Names, Ops, RawPlan};
+use river_base::{Listed, NoMemory};
+use std::alloc::Global;
+
+/// Places among the queues, or among the variables, of a plan.
+pub(crate) type Places = Listed<usize>;
+
+/// What operators use, both ways: the places that each operator uses, and the operators that use each place.
+#[derive(Drop)]
+pub(crate) struct Uses {
+    pub(crate) by_op: Listed<Places>,
+    pub(crate) by_place: Listed<Places>,
+}
+
+/// The queues that operators read and write, port by port, and their variables.
+#[derive(Drop)]
+pub(crate) struct Wiring {
+    pub(crate) reads: Uses,
+    pub(crate) writes: Uses,
+    pub(crate) vars: Uses,
+}
+
+impl Uses {
+    // An equal value.
+    fn copy(&self, alloc: Global) -> Result<Uses, NoMemory>
+        ensures { IfOk result (λ copy. copy ≡ self.now) }
+    {
+        Ok(Uses {
+            by_op: copy_all(alloc, &self.by_op)?,
+            by_place: copy_all(alloc, &self.by_place)?,
+        })
+    }
+}
+
+impl Wiring {
+    /// An equal wiring.
+    pub(crate) fn copy(&self, alloc: Global) -> Result<Wiring, NoMemory>
+        ensures { IfOk result (λ copy. copy ≡ self.now) }
+    {
+        Ok(Wiring {
+            reads: self.reads.copy(alloc)?,
+            writes: self.writes.copy(alloc)?,
+            vars: self.vars.copy(alloc)?,
+        })
+    }
+}
+
+// Equal lists of places.
+fn copy_all(alloc: Global, lists: &Listed<Places>) -> Result<Listed<Places>, NoMemory>
+    ensures { IfOk result (λ copies. copies ≡ lists.now) }
+{
+    let mut copies = Listed::new(alloc);
+    for places in lists.as_slice() {
+        copies.push(copy_places(alloc, places)?)?;
+    }
+    Ok(copies)
+}
+
+// Equal places.
+fn copy_places(alloc: Global, places: &Places) -> Result<Places, NoMemory>
+    ensures { IfOk result (λ copy. copy ≡ places.now) }
+{
+    let mut copy = Places::new(alloc);
+    for place in places.as_slice() {
+        copy.push(*place)?;
+    }
+    Ok(copy)
+}
+
+/// The wiring of these lists, of which the names are in sets.
+pub(crate) fn wiring_by(
+    alloc: Global,
+    raw: &RawPlan,
+    queues: &NameSet,
+    variables: &NameSet,
+) -> Result<Wiring, NoMemory>
+    requires queues { queues.now ≡ queue_names (plan_form raw.now) }
+    requires variables { variables.now ≡ variable_names (plan_form raw.now) }
+    ensures { IfOk result (IsWired (plan_form raw.now)) }
+{
+    let reads = read_places(alloc, &raw.ops, queues)?;
+    let reads = both_ways(alloc, reads, queues.len())?;
+    let writes = write_places(alloc, &raw.ops, queues)?;
+    let writes = both_ways(alloc, writes, queues.len())?;
+    let vars = var_places(alloc, &raw.ops, variables)?;
+    let vars = both_ways(alloc, vars, variables.len())?;
+    Ok(Wiring {
+        reads,
+        writes,
+        vars,
+    })
+}
+
+// These places of each operator, and the operators of so many places.
+fn both_ways(alloc: Global, by_op: Listed<Places>, count: usize) -> Result<Uses, NoMemory>
+    ensures { IfOk result (AreUses count by_op) }
+{
+    let by_place = users(alloc, &by_op, count)?;
+    Ok(Uses { by_op, by_place })
+}
+
+// For each of so many places the numbers of the lists in which it stands, as often as it stands there.
+fn users(alloc: Global, lists: &Listed<Places>, count: usize) -> Result<Listed<Places>, NoMemory>
+    ensures { IfOk result (λ all. all ≡ users count lists.now) }
+{
+    let mut all = Listed::blanks(alloc, count)?;
+    for number in 0..lists.len() {
+        add_user(&mut all, lists.at(number), number)?;
+    }
+    Ok(all)
+}
+
+// The number comes to the lists at these places.
+fn add_user(all: &mut Listed<Places>, places: &Places, number: usize) -> Result<(), NoMemory>
+    ensures { OnOk result (all.new ≡ each_grew all.old (as_often places.now number)) }
+{
+    for port in 0..places.len() {
+        add_at(all, *places.at(port), number)?;
+    }
+    Ok(())
+}
+
+// The number comes to the list at this place, where there is one.
+fn add_at(all: &mut Listed<Places>, place: usize, number: usize) -> Result<(), NoMemory>
+    ensures { OnOk result (all.new ≡ each_grew all.old (only place (number ∷ []))) }
+{
+    if place < all.len() {
+        all.push_at(place, number)?;
+    }
+    Ok(())
+}
+
+// The places of the queues that each operator reads, port by port.
+#[tactic(auto, using(work_code::proofs::Lists::copies))]
+fn read_places(alloc: Global, ops: &Ops, queues: &NameSet) -> Result<Listed<Places>, NoMemory>
+    ensures { IfOk result (λ all. all ≡ mapped (λ op. places queues.now op.reads) (op_forms ops.now)) }
+{
+    let mut all = Listed::new(alloc);
+    for op in ops.as_slice() {
+        all.push(places_in(alloc, queues, &op.reads)?)?;
+    }
+    Ok(all)
+}
+
+// The places of the queues that each operator writes, port by port.
+#[tactic(auto, using(work_code::proofs::Lists::copies))]
+fn write_places(alloc: Global, ops: &Ops, queues: &NameSet) -> Result<Listed<Places>, NoMemory>
+    ensures { IfOk result (λ all. all ≡ mapped (λ op. places queues.now op.writes) (op_forms ops.now)) }
+{
+    let mut all = Listed::new(alloc);
+    for op in ops.as_slice() {
+        all.push(places_in(alloc, queues, &op.writes)?)?;
+    }
+    Ok(all)
+}
+
+// The places of each operator's variables.
+#[tactic(auto, using(work_code::proofs::Lists::copies))]
+fn var_places(alloc: Global, ops: &Ops, variables: &NameSet) -> Result<Listed<Places>, NoMemory>
+    ensures { IfOk result (λ all. all ≡ mapped (λ op. places variables.now op.vars) (op_forms ops.now)) }
+{
+    let mut all = Listed::new(alloc);
+    for op in ops.as_slice() {
+        all.push(places_in(alloc, variables, &op.vars)?)?;
+    }
+    Ok(all)
+}
+
+// The places of these names.
+#[tactic(auto, using(work_code::proofs::Lists::copies))]
+fn places_in(alloc: Global, set: &NameSet, names: &Names) -> Result<Places, NoMemory>
+    ensures { IfOk result (λ all. all ≡ places set.now names.now) }
+{
+    let mut all = Places::new(alloc);
+    for name in names.as_slice() {
+        all.push(set.place(*name))?;
+    }
+    Ok(all)
+}

@@ -1,0 +1,403 @@
+-- What a text stands for has the ranges of numbers, and keeps the bounds of the grammar.
+use Rattle.std.proofs.Common.{◌≡◌, ℕ, zero, suc, ◌≤◌, ℤ, pos, Bool, true, false, Option, Some, None, List, [], ◌∷◌, ◌++◌, map, refl, sym, subst, arith, ⊎_elim}
+use Rattle.std.specs.Prelude.{if◌then◌else◌, neg_ℤ, codes}
+use Rattle.std.specs.Str.{bytes_eq}
+use Rattle.work_code.specs.Tok.{Tok}
+use Rattle.work_code.specs.Term.{Term}
+use Rattle.work_code.specs.Term as term
+use Rattle.work_code.specs.Steps.{Step, Steps, in_turn}
+use Rattle.work_code.specs.declared.sign.Symbol.{Symbol}
+use Rattle.work_code.specs.declared.sign.Symbol.TheVariants as s
+use Rattle.river_base.specs.Name.{is_name}
+use Rattle.river_base.specs.declared.kind.FlatType.TheVariants.{Rows, Stream, Relation}
+use Rattle.river_base.specs.declared.kind.QueueType.TheVariants.{Flat, Pack}
+use Rattle.kern_tables.specs.declared.kind.TableKind.TheVariants.{Sum, Collection}
+use Rattle.kern_bags.specs.declared.kernel.Window.TheVariants.{Range}
+use Rattle.text_forms.specs.declared.language.Language.TheVariants.{River}
+use Rattle.text_forms.specs.Expressions as rule
+use Rattle.text_forms.specs.Forms as form
+use Rattle.text_forms.specs.Parse.{is_count, is_value}
+use Rattle.text_forms.specs.Texts.{AllFormed}
+use Rattle.text_forms.specs.Tree.{Spoken}
+use Rattle.river_kernels.specs.Kern.{Kern}
+use Rattle.river_kernels.specs.Kern as kern
+use Rattle.river_kernels.proofs.TypeLemmas.{not_some, some_same}
+use Rattle.river_plan.specs.Forms.{OpForm, PlanForm, empty_form}
+use Rattle.river_plan.specs.Valid.{IsPlan}
+use Rattle.river_text.specs.Kernels as g
+use Rattle.river_text.specs.Plans as t
+use Rattle.river_print.specs.Writable as w
+use Rattle.river_print.specs.Printable as r
+use Rattle.river_print.proofs.Valid.{at_most}
+
+-- FORMS
+
+-- the form stands for values of which this holds alone
+pub record Gives {A : Type 0} (F : A → List Tok → Type 0) (P : A → Type 0) : Type 0 where
+  pub give : (v : A) (ts : List Tok) → F v ts → P v
+
+-- what holds of the values of a form that is seen as another value
+pub gives-seen : {A B : Type 0} {F : A → List Tok → Type 0} {P : A → Type 0} (f : A → B) (Q : B → Type 0) → Gives F P → ((v : A) → P v → Q (f v)) → Gives (form.Seen f F) Q
+gives-seen f Q g k = record { give = λ v ts h. subst Q (sym h.is) (k h.value (g.give h.value ts h.formed)) }
+
+gives-tested : {A : Type 0} (test : A → Bool) (F : A → List Tok → Type 0) (P : A → Type 0) → ((v : A) → test v ≡ true → P v) → Gives (form.Tested test F) P
+gives-tested test F P k = record { give = λ v ts h. k v h.passes }
+
+-- of one and then the other
+pub gives-both : {A B : Type 0} {F : A → List Tok → Type 0} {G : B → List Tok → Type 0} {P : A → Type 0} {Q : B → Type 0} → Gives F P → Gives G Q → Gives (form.Both F G) (λ v. P v.0 × Q v.1)
+gives-both f g = record { give = λ v ts h. (f.give v.0 h.front h.first, g.give v.1 h.back h.second) }
+
+-- behind some symbols
+pub gives-after : {A : Type 0} {F : A → List Tok → Type 0} {P : A → Type 0} (run : List Symbol) → Gives F P → Gives (form.After run F) P
+gives-after run f = record { give = λ v ts h. f.give v h.back h.formed }
+
+-- before some symbols
+pub gives-before : {A : Type 0} {F : A → List Tok → Type 0} {P : A → Type 0} (run : List Symbol) → Gives F P → Gives (form.Before F run) P
+gives-before run f = record { give = λ v ts h. f.give v h.front h.formed }
+
+-- behind a word
+pub gives-after_word : {A : Type 0} {F : A → List Tok → Type 0} {P : A → Type 0} (word : List ℕ) → Gives F P → Gives (form.AfterWord word F) P
+gives-after_word word f = record { give = λ v ts h. f.give v h.back h.formed }
+
+gives-merged : {A : Type 0} {F G : A → List Tok → Type 0} {P : A → Type 0} → Gives F P → Gives G P → Gives (form.Merged F G) P
+gives-merged f g = record { give = λ v ts h. ⊎_elim (λ x. f.give v ts x) (λ x. g.give v ts x) h }
+
+gives-nothing : {A : Type 0} (P : A → Type 0) (v : A) → P v → Gives (form.Nothing v) P
+gives-nothing P v p = record { give = λ x ts h. subst P (sym h.0) p }
+
+-- nothing is asked
+pub gives-any : {A : Type 0} (F : A → List Tok → Type 0) → Gives F (λ v. Unit {0})
+gives-any F = record { give = λ v ts h. tt }
+
+gives-never : {A : Type 0} (P : A → Type 0) → Gives (form.Never {A = A}) P
+gives-never P = record { give = λ x ts h. absurd h }
+
+gives-choose : {A : Type 0} {F G : A → List Tok → Type 0} {P : A → Type 0} (b : Bool) → Gives F P → Gives G P → Gives (form.Choose b F G) P
+gives-choose true f g = f
+gives-choose false f g = g
+
+gives-headed : {A : Type 0} {F : List ℕ → A → List Tok → Type 0} {P : A → Type 0} → ((word : List ℕ) → Gives (F word) P) → Gives (form.Headed F) P
+gives-headed f = record { give = λ v ts h. let g = f h.word in g.give v h.back h.formed }
+
+gives-maybe : {A : Type 0} {F : A → List Tok → Type 0} {P : A → Type 0} → Gives F P → Gives (form.Maybe F) (λ o. (v : A) → o ≡ Some v → P v)
+gives-maybe {A = A} {F = F} {P = P} f = record { give = given }
+  where
+    given : (o : Option A) (ts : List Tok) → form.Maybe F o ts → (v : A) → o ≡ Some v → P v
+    given None ts h v e = absurd (cc e)
+    given (Some x) ts h v e = let s : x ≡ v = cc in subst P s (f.give x ts h)
+
+gives-each : {A : Type 0} {F : A → List Tok → Type 0} {P : A → Type 0} → Gives F P → Gives (form.Each F) (w.Every P)
+gives-each {A = A} {F = F} {P = P} f = record { give = given }
+  where
+    given : (vs : List A) (ts : List Tok) → form.Each F vs ts → w.Every P vs
+    given [] ts h = tt
+    given (v ∷ vs) ts h = (f.give v h.0 h.3, given vs h.1 h.4)
+
+gives-commas : {A : Type 0} {F : A → List Tok → Type 0} {P : A → Type 0} → Gives F P → Gives (form.Commas F) (w.Every P)
+gives-commas {P = P} f = gives-seen (λ v. v.0 ∷ v.1) (w.Every P) (gives-both f (gives-each (gives-after _ f))) (λ v h. h)
+
+gives-listing : {A : Type 0} {F : A → List Tok → Type 0} {P : A → Type 0} → Gives F P → Gives (form.Listing F) (w.Every P)
+gives-listing {P = P} f = gives-merged (gives-nothing (w.Every P) [] tt) (gives-commas f)
+
+gives-enclosed : {A : Type 0} {F : ℕ → A → List Tok → Type 0} {P : A → Type 0} (left right : Symbol) → ((m : ℕ) → Gives (F m) P) → (n : ℕ) → Gives (form.Enclosed left right F n) P
+gives-enclosed {P = P} left right f zero = record { give = λ v ts h. absurd h }
+gives-enclosed left right f (suc n) = record { give = λ v ts h. let g = gives-after (left ∷ []) (gives-before (right ∷ []) (f n)) in g.give v ts h }
+
+-- NUMBERS
+
+count : Gives g.Count w.IsCount
+count = gives-tested is_count form.Number w.IsCount (λ n h. let a = at_most n 4294967295 h in omega (arith, a))
+
+value : Gives form.Value w.IsNatural
+value = record { give = λ v ts h. subst w.IsNatural (sym h.is) (h.number, refl, at_most h.number 9223372036854775807 h.fits) }
+
+start-natural : (z : ℤ) → w.IsNatural z → w.IsStart z
+start-natural z h = subst w.IsStart (sym h.1) h.2
+
+value-start : Gives form.Value w.IsStart
+value-start = record { give = λ v ts h. start-natural v (value.give v ts h) }
+
+width : Gives g.Width w.IsStart
+width = gives-seen (λ n. pos n) w.IsStart count (λ n h. omega (arith, h))
+
+neg-start : (z : ℤ) → w.IsNatural z → w.IsStart (neg_ℤ z)
+neg-start z h = subst (λ y. w.IsStart (neg_ℤ y)) (sym h.1) (of_pos h.0 h.2)
+  where
+    of_pos : (n : ℕ) → n ≤ 9223372036854775807 → w.IsStart (neg_ℤ (pos n))
+    of_pos zero le = omega arith
+    of_pos (suc n) le = omega (arith, le)
+
+signed : Gives g.Signed w.IsStart
+signed = gives-merged (gives-after _ (gives-seen neg_ℤ w.IsStart value neg-start)) (gives-merged (gives-after_word (codes "min") (gives-nothing w.IsStart g.least (omega arith))) value-start)
+
+starts : (n : ℕ) → Gives (g.IsStarts n) (w.Every w.IsStart)
+starts n = gives-enclosed _ _ (λ m. gives-listing signed) n
+
+-- EXPRESSIONS
+
+-- a number of a text is a value of 64 bits
+pub number-ranged : (v : ℕ) (b : Bool) → is_value v ≡ b → (e : Term) → (if b then Some (term.Const (pos v)) else None) ≡ Some e → r.IsRangedTerm e
+number-ranged v true t e h = subst r.IsRangedTerm (some_same h) (at_most v 9223372036854775807 t)
+number-ranged v false t e h = absurd (not_some h)
+
+one-ranged : (f : Term → Term) → ((x : Term) → r.IsRangedTerm x → r.IsRangedTerm (f x)) → (o : Option Term) → ((x : Term) → o ≡ Some x → r.IsRangedTerm x) → (e : Term) → g.one_term f o ≡ Some e → r.IsRangedTerm e
+one-ranged f k None x e h = absurd (not_some h)
+one-ranged f k (Some y) x e h = subst r.IsRangedTerm (some_same h) (k y (x y refl))
+
+two-ranged : (f : Term → Term → Term) → ((x y : Term) → r.IsRangedTerm x → r.IsRangedTerm y → r.IsRangedTerm (f x y)) → (o p : Option Term)
+    → ((x : Term) → o ≡ Some x → r.IsRangedTerm x) → ((x : Term) → p ≡ Some x → r.IsRangedTerm x) → (e : Term) → g.both_terms f o p ≡ Some e → r.IsRangedTerm e
+two-ranged f k None p x y e h = absurd (not_some h)
+two-ranged f k (Some a) None x y e h = absurd (not_some h)
+two-ranged f k (Some a) (Some b) x y e h = subst r.IsRangedTerm (some_same h) (k a b (x a refl) (y b refl))
+
+spelled : (n k : ℕ) (t : Spoken) (ts : List Tok) → rule.Spells River n k t ts → (e : Term) → g.term_of t ≡ Some e → r.IsRangedTerm e
+spelled n k t ts (rule.number m v) e h = number-ranged v (is_value v) refl e h
+spelled n k t ts (rule.name m text has) e h = absurd (not_some h)
+spelled n k t ts (rule.input m i has fits) e h = let a = at_most i 4294967295 fits in subst r.IsRangedTerm (some_same h) (omega (arith, a))
+spelled n k t ts (rule.slot m i has fits) e h = let a = at_most i 4294967295 fits in subst r.IsRangedTerm (some_same h) (omega (arith, a))
+spelled n k t ts (rule.peek m u us has x) e h = absurd (not_some h)
+spelled n k t ts (rule.pop m has) e h = absurd (not_some h)
+spelled n k t ts (rule.neg m u us x) e h = one-ranged term.Neg (λ y z. z) (g.term_of u) (spelled m 0 u us x) e h
+spelled n k t ts (rule.not m u us x) e h = one-ranged term.Not (λ y z. z) (g.term_of u) (spelled m 0 u us x) e h
+spelled n k t ts (rule.bracket m u us x) e h = spelled m 6 u us x e h
+spelled n k t ts (rule.tighter m j u us x) e h = spelled m j u us x e h
+spelled n k t ts (rule.chain m j o a b us vs rank x y) e h =
+    two-ranged (term.Bin o) (λ u v c d. (c, d)) (g.term_of a) (g.term_of b) (spelled m (suc j) a us x) (spelled m j b vs y) e h
+
+term_ranged : (n : ℕ) → Gives (g.IsTerm n) r.IsRangedTerm
+term_ranged n = record { give = λ v ts h. spelled n 6 h.value ts h.formed.0 v h.is }
+
+-- STATEMENTS
+
+-- a statement, and a list of statements, in which `if` nests at most so deep
+abbrev IsStep : ℕ → Step → Type 0
+IsStep nest x = r.IsRangedStep x × (w.depth_once x ≤ nest)
+
+abbrev IsSteps : ℕ → Steps → Type 0
+IsSteps nest xs = r.IsRangedSteps xs × (w.depths xs ≤ nest)
+
+turned : (nest : ℕ) (xs : List Step) → w.Every (IsStep nest) xs → IsSteps nest (in_turn xs)
+turned nest [] h = (tt, omega arith)
+turned nest (x ∷ xs) h = let t = turned nest xs h.1 in let a = h.0.1 in let b = t.1 in ((h.0.0, t.0), omega (arith, a, b))
+
+set-step : (nest n : ℕ) → Gives (g.IsSet n) (IsStep nest)
+set-step nest n = gives-seen g.made_set (IsStep nest)
+    (gives-both (gives-enclosed _ _ (λ m. count) n) (gives-after _ (gives-before _ (term_ranged n))))
+    (λ v h. (h, omega arith))
+
+push-step : (nest n : ℕ) → Gives (g.IsPush n) (IsStep nest)
+push-step nest n = gives-seen g.made_push (IsStep nest)
+    (gives-both count (gives-before _ (gives-enclosed _ _ (λ m. gives-commas (term_ranged m)) n)))
+    (λ v h. (h, omega arith))
+
+else-steps : (nest : ℕ) (o : Option Steps) → ((v : Steps) → o ≡ Some v → IsSteps nest v) → IsSteps nest (g.or_done o)
+else-steps nest None h = (tt, omega arith)
+else-steps nest (Some v) h = h v refl
+
+if-step : (nest : ℕ) (body : ℕ → Steps → List Tok → Type 0) → ((m : ℕ) → Gives (body m) (IsSteps nest)) → (n : ℕ) → Gives (g.IsIf body n) (IsStep (suc nest))
+if-step nest body f n = gives-seen g.made_if (IsStep (suc nest))
+    (gives-both (gives-enclosed _ _ term_ranged n) (gives-both (f n) (gives-seen g.or_done (IsSteps nest) (gives-maybe (gives-after_word (codes "else") (f n))) (else-steps nest))))
+    (λ v h. let a = h.1.0.1 in let b = h.1.1.1 in ((h.0, h.1.0.0, h.1.1.0), omega (arith, a, b)))
+
+body-of : (nest : ℕ) (stmt : ℕ → Step → List Tok → Type 0) → ((m : ℕ) → Gives (stmt m) (IsStep nest)) → (n : ℕ) → Gives (g.IsBodyOf stmt n) (IsSteps nest)
+body-of nest stmt f n = gives-enclosed _ _ (λ m. gives-seen in_turn (IsSteps nest) (gives-each (f m)) (turned nest)) n
+
+statement : (nest n : ℕ) → Gives (g.IsStmt nest n) (IsStep nest)
+unfolding g.IsStmt
+statement zero n = gives-headed (λ word. gives-choose (bytes_eq word (codes "slot")) (set-step zero n) (gives-choose (bytes_eq word (codes "push")) (push-step zero n)
+    (gives-choose (bytes_eq word (codes "if")) (gives-never (IsStep zero)) (gives-never (IsStep zero)))))
+statement (suc nest) n = gives-headed (λ word. gives-choose (bytes_eq word (codes "slot")) (set-step (suc nest) n) (gives-choose (bytes_eq word (codes "push")) (push-step (suc nest) n)
+    (gives-choose (bytes_eq word (codes "if")) (if-step nest (g.IsBodyOf (g.IsStmt nest)) (body-of nest (g.IsStmt nest) (statement nest)) n) (gives-never (IsStep (suc nest))))))
+
+body : (n : ℕ) → Gives (g.IsBody 16 n) (IsSteps 16)
+body n = body-of 16 (g.IsStmt 16) (statement 16) n
+
+-- KERNELS
+
+abbrev IsKernel : Kern → Type 0
+IsKernel k = r.IsRangedKernel k × r.IsShallow k × r.HasForward k
+
+code : (n : ℕ) → Gives (g.IsCode n) IsKernel
+code n = gives-seen g.made_code IsKernel
+    (gives-both (gives-enclosed _ _ (λ m. gives-both count (gives-after _ count)) n)
+    (gives-both (gives-enclosed _ _ (λ m. gives-listing width) n) (gives-both (starts n) (body n))))
+    (λ v h. (((h.0.0, h.0.1, h.1.1.1.0), h.1.0, h.1.1.0), h.1.1.1.1, tt))
+
+filter : (n : ℕ) → Gives (g.IsFilter n) IsKernel
+filter n = gives-seen g.made_filter IsKernel
+    (gives-both (gives-enclosed _ _ (λ m. gives-both count (gives-after _ (gives-both count (gives-after _ (gives-both count (gives-after _ count)))))) n)
+    (gives-both (starts n) (body n)))
+    (λ v h. ((h.0.0, h.0.1.0, h.0.1.1.0, (h.0.0, h.0.1.1.1, h.1.1.0), h.1.0), h.1.1.1, tt))
+
+-- a kernel that is one number in brackets, or some weights
+counted : (f : ℕ → Kern) → ((n : ℕ) → w.IsCount n → IsKernel (f n)) → (n : ℕ) → Gives (form.Seen f (g.Round (λ m. g.Count) n)) IsKernel
+counted f k n = gives-seen f IsKernel (gives-enclosed _ _ (λ m. count) n) k
+
+weighed : (f : List ℤ → Kern) → ((ws : List ℤ) → w.Every w.IsStart ws → IsKernel (f ws)) → (n : ℕ) → Gives (form.Seen f (g.Round (λ m. form.Commas form.Value) n)) IsKernel
+weighed f k n = gives-seen f IsKernel (gives-enclosed _ _ (λ m. gives-commas value-start) n) k
+
+fused : (braced : Kern → List Tok → Type 0) → Gives braced IsKernel → (n : ℕ) → Gives (g.IsFused braced n) IsKernel
+fused braced f n = gives-seen g.made_fused IsKernel (gives-both (gives-enclosed _ _ (λ m. count) n) (gives-both f f))
+    (λ v h. ((h.1.0.0, h.1.1.0, h.0), (h.1.0.1, h.1.1.1), (h.1.0.2, h.1.1.2)))
+
+range : (z : ℤ) → w.IsNatural z → IsKernel (kern.window (Range z))
+range z h = (start-natural z h, tt, subst (λ y. r.IsForward (Range y)) (sym h.1) tt)
+
+bag : (n : ℕ) (word : List ℕ) → Gives (g.BagAfter n word) IsKernel
+bag n word =
+    gives-choose (bytes_eq word (codes "now")) (gives-nothing IsKernel _ (tt, tt, tt))
+    (gives-choose (bytes_eq word (codes "range")) (gives-seen _ IsKernel (gives-enclosed _ _ (λ m. value) n) range)
+    (gives-choose (bytes_eq word (codes "unbounded")) (gives-nothing IsKernel _ (tt, tt, tt))
+    (gives-choose (bytes_eq word (codes "latest")) (counted _ (λ k h. (h, tt, tt)) n)
+    (gives-choose (bytes_eq word (codes "select")) (gives-seen kern.select IsKernel (gives-enclosed _ _ term_ranged n) (λ e h. (h, tt, tt)))
+    (gives-choose (bytes_eq word (codes "project")) (gives-seen kern.project IsKernel (gives-enclosed _ _ (λ m. gives-commas (term_ranged m)) n) (λ es h. (h, tt, tt)))
+    (gives-choose (bytes_eq word (codes "cross")) (gives-nothing IsKernel _ (tt, tt, tt))
+    (gives-choose (bytes_eq word (codes "istream")) (gives-nothing IsKernel _ (tt, tt, tt))
+    (gives-choose (bytes_eq word (codes "dstream")) (gives-nothing IsKernel _ (tt, tt, tt))
+    (gives-choose (bytes_eq word (codes "rstream")) (gives-nothing IsKernel _ (tt, tt, tt))
+    (gives-choose (bytes_eq word (codes "tally")) (gives-nothing IsKernel _ (tt, tt, tt))
+    (gives-never IsKernel)))))))))))
+
+kernel-after : (braced : Kern → List Tok → Type 0) → Gives braced IsKernel → (n : ℕ) (word : List ℕ) → Gives (g.KernelAfter braced n word) IsKernel
+kernel-after braced f n word =
+    gives-choose (bytes_eq word (codes "code")) (code n)
+    (gives-choose (bytes_eq word (codes "filter")) (filter n)
+    (gives-choose (bytes_eq word (codes "duplicate")) (counted kern.duplicate (λ k h. (h, tt, tt)) n)
+    (gives-choose (bytes_eq word (codes "deal")) (weighed kern.deal (λ ws h. (h, tt, tt)) n)
+    (gives-choose (bytes_eq word (codes "collect")) (weighed kern.collect (λ ws h. (h, tt, tt)) n)
+    (gives-choose (bytes_eq word (codes "packed")) (gives-seen kern.packed IsKernel f (λ k h. h))
+    (gives-choose (bytes_eq word (codes "unpack")) (counted kern.unpack (λ k h. (h, tt, tt)) n)
+    (gives-choose (bytes_eq word (codes "fused")) (fused braced f n)
+    (bag n word))))))))
+
+kernel : (n : ℕ) → Gives (g.IsBraced n) IsKernel
+unfolding g.IsBraced
+kernel zero = gives-never IsKernel
+kernel (suc n) = gives-after _ (gives-before _ (gives-headed (λ word. kernel-after (g.IsBraced n) (kernel n) n word)))
+
+-- UNITS
+
+named : Gives t.IsName w.IsNamed
+named = gives-tested is_name form.Name w.IsNamed (λ v h. h)
+
+named-var : Gives t.IsVar w.IsNamed
+named-var = gives-tested is_name form.Var w.IsNamed (λ v h. h)
+
+flat-after : (n : ℕ) (word : List ℕ) → Gives (t.FlatAfter n word) (λ x. w.IsCount (w.flat_width x))
+flat-after n word =
+    gives-choose (bytes_eq word (codes "rows")) (gives-seen Rows _ (gives-enclosed _ _ (λ m. count) n) (λ k h. h))
+    (gives-choose (bytes_eq word (codes "stream")) (gives-seen Stream _ (gives-enclosed _ _ (λ m. count) n) (λ k h. h))
+    (gives-choose (bytes_eq word (codes "relation")) (gives-seen Relation _ (gives-enclosed _ _ (λ m. count) n) (λ k h. h))
+    (gives-never _)))
+
+type : Gives t.IsType w.IsType
+type = gives-headed (λ word. gives-choose (bytes_eq word (codes "pack"))
+    (gives-seen Pack w.IsType (gives-enclosed _ _ (λ n. gives-headed (λ v. flat-after n v)) t.brackets) (λ k h. h))
+    (gives-seen Flat w.IsType (flat-after t.brackets word) (λ k h. h)))
+
+decl : Gives t.IsDecl w.IsDecl
+decl = gives-seen t.made_decl w.IsDecl (gives-both named (gives-after _ (gives-before _ type))) (λ v h. h)
+
+kind : (word : List ℕ) → Gives (t.KindAfter word) w.IsKind
+kind word =
+    gives-choose (bytes_eq word (codes "sum")) (gives-seen Sum w.IsKind (gives-enclosed _ _ (λ m. count) t.brackets) (λ k h. h))
+    (gives-choose (bytes_eq word (codes "collection")) (gives-seen Collection w.IsKind (gives-enclosed _ _ (λ m. count) t.brackets) (λ k h. h))
+    (gives-choose (bytes_eq word (codes "maximum")) (gives-seen t.made_maximum w.IsKind (gives-enclosed s.Open s.Close (λ m. gives-both count (gives-after (s.Comma ∷ []) count)) t.brackets) (λ k h. h))
+    (gives-never w.IsKind)))
+
+table : Gives t.IsTable w.IsTable
+table = gives-seen t.made_table w.IsTable (gives-both named-var (gives-after _ (gives-before _ (gives-headed kind)))) (λ v h. h)
+
+-- the names of ports
+abbrev IsPort : t.Port → Type 0
+IsPort (t.queue q) = w.IsNamed q
+IsPort (t.variable v) = w.IsNamed v
+
+port : Gives t.IsPort IsPort
+port = gives-merged (gives-seen t.variable IsPort named-var (λ v h. h)) (gives-seen t.queue IsPort named (λ v h. h))
+
+split-ports : (qs vs : List (List ℕ)) → w.Every IsPort (map t.queue qs ++ map t.variable vs) → w.Every w.IsNamed qs × w.Every w.IsNamed vs
+split-ports [] [] h = (tt, tt)
+split-ports [] (v ∷ vs) h = let s = split-ports [] vs h.1 in (tt, (h.0, s.1))
+split-ports (q ∷ qs) vs h = let s = split-ports qs vs h.1 in ((h.0, s.0), s.1)
+
+ports : Gives t.IsPorts (λ v. w.Every w.IsNamed v.0 × w.Every w.IsNamed v.1)
+ports = record { give = λ v ts h. let l = gives-listing port in split-ports v.0 v.1 (l.give (map t.queue v.0 ++ map t.variable v.1) ts h) }
+
+abbrev IsOp : OpForm → Type 0
+IsOp op = r.IsRangedOp op × r.IsShallow op.kernel × r.HasForward op.kernel
+
+operator : Gives t.IsOp IsOp
+operator = gives-seen t.made_op IsOp
+    (record {
+      give = λ v ts h.
+          let f = gives-both named (gives-after _ (gives-both (gives-enclosed _ _ (λ m. ports) t.brackets) (gives-after _ (gives-both (gives-enclosed _ _ (λ m. ports) t.brackets) (kernel t.brackets))))) in
+          f.give v ts h.formed;
+    })
+    (λ v h. ((h.0, h.1.1.1.0, h.1.1.0.0, h.1.0.0, h.1.0.1), h.1.1.1.1, h.1.1.1.2))
+
+-- PLANS
+
+abbrev IsEntry : t.Entry → Type 0
+IsEntry (t.output d) = w.IsDecl d
+IsEntry (t.input d) = w.IsDecl d
+IsEntry (t.inner d) = w.IsDecl d
+IsEntry (t.table x) = w.IsTable x
+IsEntry (t.private v) = w.IsNamed v
+IsEntry (t.operator o) = IsOp o
+
+unit : Gives t.IsUnit IsEntry
+unit = gives-headed (λ word.
+    gives-choose (bytes_eq word (codes "output")) (gives-seen t.output IsEntry decl (λ v h. h))
+    (gives-choose (bytes_eq word (codes "input")) (gives-seen t.input IsEntry decl (λ v h. h))
+    (gives-choose (bytes_eq word (codes "queue")) (gives-seen t.inner IsEntry decl (λ v h. h))
+    (gives-choose (bytes_eq word (codes "table")) (gives-seen t.table IsEntry table (λ v h. h))
+    (gives-choose (bytes_eq word (codes "var")) (gives-seen t.private IsEntry (gives-before _ named-var) (λ v h. h))
+    (gives-choose (bytes_eq word (codes "op")) (gives-seen t.operator IsEntry operator (λ v h. h))
+    (gives-never IsEntry)))))))
+
+entries : (stage : ℕ) (es : List t.Entry) (us : List (List Tok)) → AllFormed t.IsUnitAt t.next_stage stage es us → w.Every IsEntry es
+entries stage [] us h = tt
+entries stage (e ∷ es) [] h = absurd h
+entries stage (e ∷ es) (u ∷ us) h = (unit.give e u h.0.formed, entries (t.next_stage stage e) es us h.1)
+
+every-append : {A : Type 0} (P : A → Type 0) (xs : List A) (y : A) → w.Every P xs → P y → w.Every P (xs ++ y ∷ [])
+every-append P [] y h k = (k, tt)
+every-append P (x ∷ xs) y h k = (h.0, every-append P xs y h.1 k)
+
+-- the plan without its validity
+record IsSaid (p : PlanForm) : Type 0 where
+  ranged : r.IsRanged p
+  shallow : w.Every (λ op. r.IsShallow op.kernel) p.ops
+  forward : w.Every (λ op. r.HasForward op.kernel) p.ops
+
+said-empty : IsSaid empty_form
+said-empty = record { ranged = record { outputs = tt; inputs = tt; queues = tt; tables = tt; vars = tt; ops = tt }; shallow = tt; forward = tt }
+
+said-add : (p : PlanForm) (e : t.Entry) → IsSaid p → IsEntry e → IsSaid (t.add p e)
+said-add p (t.output d) s h = let k = s.ranged in
+    record { ranged = record { outputs = every-append w.IsDecl p.outputs d k.outputs h; inputs = k.inputs; queues = k.queues; tables = k.tables; vars = k.vars; ops = k.ops }; shallow = s.shallow; forward = s.forward }
+said-add p (t.input d) s h = let k = s.ranged in
+    record { ranged = record { outputs = k.outputs; inputs = every-append w.IsDecl p.inputs d k.inputs h; queues = k.queues; tables = k.tables; vars = k.vars; ops = k.ops }; shallow = s.shallow; forward = s.forward }
+said-add p (t.inner d) s h = let k = s.ranged in
+    record { ranged = record { outputs = k.outputs; inputs = k.inputs; queues = every-append w.IsDecl p.queues d k.queues h; tables = k.tables; vars = k.vars; ops = k.ops }; shallow = s.shallow; forward = s.forward }
+said-add p (t.table x) s h = let k = s.ranged in
+    record { ranged = record { outputs = k.outputs; inputs = k.inputs; queues = k.queues; tables = every-append w.IsTable p.tables x k.tables h; vars = k.vars; ops = k.ops }; shallow = s.shallow; forward = s.forward }
+said-add p (t.private v) s h = let k = s.ranged in
+    record { ranged = record { outputs = k.outputs; inputs = k.inputs; queues = k.queues; tables = k.tables; vars = every-append w.IsNamed p.vars v k.vars h; ops = k.ops }; shallow = s.shallow; forward = s.forward }
+said-add p (t.operator o) s h = let k = s.ranged in
+    record {
+      ranged = record { outputs = k.outputs; inputs = k.inputs; queues = k.queues; tables = k.tables; vars = k.vars; ops = every-append r.IsRangedOp p.ops o k.ops h.0 };
+      shallow = every-append (λ op. r.IsShallow op.kernel) p.ops o s.shallow h.1;
+      forward = every-append (λ op. r.HasForward op.kernel) p.ops o s.forward h.2;
+    }
+
+said-all : (p : PlanForm) (es : List t.Entry) → IsSaid p → w.Every IsEntry es → IsSaid (t.add_all p es)
+said-all p [] s h = s
+said-all p (e ∷ es) s h = said-all (t.add p e) es (said-add p e s h.0) h.1
+
+-- a valid plan that a text stands for can be printed
+pub read-printable : (text : List ℕ) (p : PlanForm) → t.IsText text p → IsPlan p → r.IsPrintable p
+read-printable text p h v =
+    let s = subst IsSaid (sym h.is) (said-all empty_form h.entries said-empty (entries 0 h.entries _ h.formed)) in
+    record { valid = v; ranged = s.ranged; shallow = s.shallow; forward = s.forward }

@@ -1,0 +1,27 @@
+-- Printed plans are read back as themselves.
+use Rattle.std.specs.Prelude.{◌≡◌, ◌↔◌, ℕ, List}
+use Rattle.river_plan.specs.Forms.{PlanForm}
+use Rattle.river_plan.specs.Valid.{IsPlan}
+use Rattle.river_text.specs.Plans.{IsText}
+use Rattle.river_print.specs.Printable.{IsPrintable}
+use Rattle.river_print.specs.Printed.{plan_text}
+use Rattle.river_print.specs.Writable.{IsWritable}
+
+-- the text is in the grammar and stands for this plan and for no other
+abbrev pub StandsForAlone : List ℕ → PlanForm → Type 0
+StandsForAlone text p = IsText text p × ((q : PlanForm) → IsText text q → q ≡ p)
+
+-- so does the printed text of each plan that has what the grammar has
+abbrev pub PrintedIsRead : Type 0
+PrintedIsRead = (p : PlanForm) → IsWritable p → StandsForAlone (plan_text p) p
+
+-- that of a valid plan does exactly where the plan keeps the bounds of the grammar
+abbrev pub ValidIsRead : Type 0
+ValidIsRead = (p : PlanForm) → IsPlan p → StandsForAlone (plan_text p) p ↔ IsPrintable p
+
+-- a valid plan that a text stands for keeps them, so its printed text stands for it too
+abbrev pub ReadIsPrintable : Type 0
+ReadIsPrintable = (text : List ℕ) (p : PlanForm) → IsText text p → IsPlan p → IsPrintable p
+
+abbrev pub ReadIsReadAgain : Type 0
+ReadIsReadAgain = (text : List ℕ) (p : PlanForm) → IsText text p → IsPlan p → StandsForAlone (plan_text p) p

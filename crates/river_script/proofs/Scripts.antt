@@ -1,0 +1,114 @@
+-- The reading of scripts is exact.
+use Rattle.std.proofs.Common.{◌≡◌, ℕ, ◌+◌, List, [], ◌∷◌, ◌++◌, length, Option, Some, None, Result, Ok, Err, refl, sym, ap, ◌∙◌, arith, append_assoc, append-nil}
+use Rattle.std.specs.Prelude.{codes}
+use Rattle.std.specs.Str.{bytes_eq}
+use Rattle.work_code.specs.Cut.{units_of}
+use Rattle.work_code.specs.Lexis.{tokens_in}
+use Rattle.work_code.specs.Tok.{Tok, Mark, toks}
+use Rattle.work_code.specs.declared.fault.LexFault.{LexFault}
+use Rattle.work_code.specs.declared.sign.Symbol.TheVariants as s
+use Rattle.river_base.specs.Name.{is_name}
+use Rattle.text_forms.specs.Parse.{Parse, is_count}
+use Rattle.text_forms.specs.Texts.{whole, after_unit, put_first, read_units}
+use Rattle.text_forms.proofs.Choices.{exact-never, exact-choose, exact-headed}
+use Rattle.text_forms.proofs.Exact.{Exact, Any, exact-both, exact-before, exact-tested, exact-seen, exact-name, exact-number}
+use Rattle.text_forms.proofs.Texts.{all-formed, formed-read, first-bad}
+use Rattle.river_script.specs.Script.{StepForm, fusing, hoisting}
+use Rattle.river_script.specs.Grammar.{Named, Counted, split_into, IsStep, StepIn, go_on, IsScript, IsBadAt, OneScript}
+use Rattle.river_script.specs.Reading.{step_name_at, named_at, counted_at, step_after, step_at, with_step, read_steps}
+
+exact-named : Exact Named named_at Any
+unfolding named_at step_name_at
+exact-named = exact-before (s.Semicolon ∷ []) (exact-tested is_name exact-name) (λ rest. tt)
+
+exact-counted : Exact Counted counted_at Any
+unfolding counted_at step_name_at
+exact-counted = exact-both (exact-tested is_name exact-name) (exact-before (s.Semicolon ∷ []) (exact-tested is_count exact-number) (λ rest. tt)) (λ y ts rest g d. tt)
+
+-- a step is read exactly
+pub exact-step : Exact IsStep step_at Any
+unfolding step_at step_after
+exact-step = exact-headed (λ w.
+    exact-choose (bytes_eq w (codes "fuse")) (exact-seen fusing exact-named)
+    (exact-choose (bytes_eq w (codes "hoist")) (exact-seen hoisting exact-named)
+    (exact-choose (bytes_eq w (codes "fission")) (exact-seen split_into exact-counted) exact-never)))
+
+-- any step may follow any step
+abbrev pub in_any : Unit {0} → Parse StepForm
+in_any u = step_at
+
+-- the same, for the units of a text
+pub exact-in : (u : Unit {0}) → Exact (StepIn u) (in_any u) Any
+exact-in u = exact-step
+
+-- WHOLE SCRIPTS
+
+-- steps behind others
+abbrev added : List StepForm → Result (List StepForm) ℕ → Result (List StepForm) ℕ
+added done (Ok ss) = Ok (done ++ ss)
+added done (Err n) = Err n
+
+-- a script is read as its units are
+steps-read : (n : ℕ) (done : List StepForm) (units : List (List Tok)) → read_steps n done units ≡ added done (read_units in_any go_on tt n units)
+unfolding read_steps
+steps-read n done [] = ap (λ (l : List StepForm). Ok l) (sym (append-nil done))
+steps-read n done (u ∷ us) = by (whole step_at u) (λ e. steps-read (n + 1) (done ++ e ∷ []) us) where
+  first : (e : StepForm) (r : Result (List StepForm) ℕ) → added (done ++ e ∷ []) r ≡ added done (put_first e r)
+  first e (Ok es) = ap (λ (l : List StepForm). Ok l) (append_assoc done (e ∷ []) es)
+  first e (Err m) = refl
+
+  by : (o : Option StepForm) → ((e : StepForm) → read_steps (n + 1) (done ++ e ∷ []) us ≡ added (done ++ e ∷ []) (read_units in_any go_on tt (n + 1) us))
+      → with_step n (λ e. read_steps (n + 1) (done ++ e ∷ []) us) o ≡ added done (after_unit n (λ e. read_units in_any go_on tt (n + 1) us) o)
+  by None more = refl
+  by (Some e) more = more e ∙ first e (read_units in_any go_on tt (n + 1) us)
+
+added-none : (r : Result (List StepForm) ℕ) → added [] r ≡ r
+added-none (Ok ss) = refl
+added-none (Err n) = refl
+
+-- the steps of the units
+pub units-read : (units : List (List Tok)) → read_steps 1 [] units ≡ read_units in_any go_on tt 1 units
+units-read units = steps-read 1 [] units ∙ added-none (read_units in_any go_on tt 1 units)
+
+-- as many steps as units
+steps-many : (n : ℕ) (done ss : List StepForm) (units : List (List Tok)) → read_steps n done units ≡ Ok ss → length ss ≡ length done + length units
+unfolding read_steps
+steps-many n done ss [] e = let same : length ss ≡ length done = sames e in omega (arith, same) where
+  sames : ◌≡◌ {A = Result (List StepForm) ℕ} (Ok done) (Ok ss) → length ss ≡ length done
+  sames f = cc
+steps-many n done ss (u ∷ us) e = by (whole step_at u) e (λ s f. steps-many (n + 1) (done ++ s ∷ []) ss us f) where
+  by : (o : Option StepForm) → with_step n (λ s. read_steps (n + 1) (done ++ s ∷ []) us) o ≡ Ok ss → ((s : StepForm) → read_steps (n + 1) (done ++ s ∷ []) us ≡ Ok ss → length ss ≡ length (done ++ s ∷ []) + length us) → length ss ≡ length done + length (u ∷ us)
+  by None f more = cc
+  by (Some s) f more = let k = more s f in let l = length_more done s in omega (arith, k, l) where
+    length_more : (xs : List StepForm) (x : StepForm) → length (xs ++ x ∷ []) ≡ length xs + 1
+    length_more [] x = refl
+    length_more (y ∷ xs) x = let r = length_more xs x in omega (arith, r)
+
+-- as many steps as units
+pub script-few : (ss : List StepForm) (units : List (List Tok)) → read_steps 1 [] units ≡ Ok ss → length ss ≡ length units
+script-few ss units e = let k = steps-many 1 [] ss units e in omega (arith, k)
+
+-- what was read is in the grammar
+pub script-read : (text : List ℕ) (marks : List Mark) (ss : List StepForm) → tokens_in text ≡ Ok marks → read_steps 1 [] (units_of (toks marks)) ≡ Ok ss → IsScript text ss
+script-read text marks ss lexed read =
+    record { marks = marks; lexed = lexed; formed = all-formed go_on exact-in tt 1 (units_of (toks marks)) ss (sym (units-read (units_of (toks marks))) ∙ read) }
+
+-- the unit that is told is the first that is no step
+pub script-bad : (text : List ℕ) (marks : List Mark) (m : ℕ) → tokens_in text ≡ Ok marks → read_steps 1 [] (units_of (toks marks)) ≡ Err m → IsBadAt text m
+script-bad text marks m lexed read =
+    record { marks = marks; lexed = lexed; first = first-bad go_on exact-in tt (units_of (toks marks)) m (sym (units-read (units_of (toks marks))) ∙ read) }
+
+-- what a text stands for is read
+pub script-reads : (text : List ℕ) (ss : List StepForm) (t : IsScript text ss) → read_steps 1 [] (units_of (toks t.marks)) ≡ Ok ss
+script-reads text ss t = units-read (units_of (toks t.marks)) ∙ formed-read go_on exact-in tt 1 (units_of (toks t.marks)) ss t.formed
+
+same_marks : (text : List ℕ) (ms ns : List Mark) → tokens_in text ≡ Ok ms → tokens_in text ≡ Ok ns → ms ≡ ns
+same_marks text ms ns e f = same (sym e ∙ f) where
+  same : ◌≡◌ {A = Result (List Mark) LexFault} (Ok ms) (Ok ns) → ms ≡ ns
+  same g = cc
+
+-- a text stands for one script at most
+pub one_script : OneScript
+one_script text ss ts t u = same (sym (script-reads text ss t) ∙ ap (λ (ms : List Mark). read_steps 1 [] (units_of (toks ms))) (same_marks text t.marks u.marks t.lexed u.lexed) ∙ script-reads text ts u) where
+  same : ◌≡◌ {A = Result (List StepForm) ℕ} (Ok ss) (Ok ts) → ss ≡ ts
+  same e = cc

@@ -1,0 +1,7 @@
+pub mod Grammar
+pub mod Laws
+pub mod Meaning
+pub mod Reading
+pub mod Script
+pub mod Steps
+pub mod Words

@@ -1,0 +1,38 @@
+-- How scripts are read: the grammar in the words of reading functions.
+use Rattle.std.specs.Prelude.{ℕ, ◌+◌, ◌++◌, List, [], ◌∷◌, Option, None, Some, Result, Ok, Err, codes, if◌then◌else◌}
+use Rattle.std.specs.Str.{bytes_eq}
+use Rattle.work_code.specs.Tok.{Tok}
+use Rattle.work_code.specs.declared.sign.Symbol.TheVariants as s
+use Rattle.river_base.specs.Name.{is_name}
+use Rattle.text_forms.specs.Parse.{Parse, name_at, count_at, both, before, tested, seen, headed}
+use Rattle.text_forms.specs.Texts.{whole}
+use Rattle.river_script.specs.Script.{StepForm, fusing, hoisting}
+use Rattle.river_script.specs.Grammar.{split_into}
+
+unfoldable pub step_name_at : Parse (List ℕ)
+step_name_at ts = tested is_name name_at ts
+
+unfoldable pub named_at : Parse (List ℕ)
+named_at ts = before step_name_at (s.Semicolon ∷ []) ts
+
+unfoldable pub counted_at : Parse (List ℕ × ℕ)
+counted_at ts = both step_name_at (before count_at (s.Semicolon ∷ [])) ts
+
+unfoldable pub step_after : List ℕ → Parse StepForm
+step_after w ts =
+    if bytes_eq w (codes "fuse") then seen fusing named_at ts
+    else if bytes_eq w (codes "hoist") then seen hoisting named_at ts
+    else if bytes_eq w (codes "fission") then seen split_into counted_at ts
+    else None
+
+unfoldable pub step_at : Parse StepForm
+step_at ts = headed step_after ts
+
+-- the steps of the units, of which the first has number n, behind these steps; or the first unit that is none
+abbrev pub with_step : ℕ → (StepForm → Result (List StepForm) ℕ) → Option StepForm → Result (List StepForm) ℕ
+with_step n more None = Err n
+with_step n more (Some e) = more e
+
+unfoldable pub read_steps : ℕ → List StepForm → List (List Tok) → Result (List StepForm) ℕ
+read_steps n done [] = Ok done
+read_steps n done (u ∷ us) = with_step n (λ e. read_steps (n + 1) (done ++ e ∷ []) us) (whole step_at u)

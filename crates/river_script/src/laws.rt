@@ -1,0 +1,26 @@
+//! Laws of scripts.
+ghost use Rattle.river_script.specs.Grammar.{OneScript};
+ghost use Rattle.river_script.specs.Laws.{MakesWhatItHas};
+ghost use Rattle.river_script.specs.Script.{ScriptKeeps, ScriptMeans};
+
+/// A text stands for one list of steps at most.
+pub fn one_script()
+    ensures { OneScript }
+{}
+
+/// `rewritten` gives a plan exactly where the text stands for steps of which it is the last plan, a fault of the bytes
+/// exactly where it is the first, a unit exactly where it is the first that is no step, and a step with its condition
+/// exactly where the text stands for steps of which it is the first that fails.
+pub fn makes_what_it_has()
+    ensures { MakesWhatItHas }
+{}
+
+/// A script keeps a plan valid, and its inputs, outputs and tables, and what it means on all inputs that fit.
+pub fn script_keeps()
+    ensures { ScriptKeeps }
+{}
+
+/// The plan that a script makes has the plan's meaning, tables included.
+pub fn script_means()
+    ensures { ScriptMeans }
+{}

@@ -1,0 +1,135 @@
+// Why a River text has no plan, and what is told of it.
+ghost use Rattle.std.specs.Prelude.{◌≡◌, ◌++◌, codes, OnOk};
+ghost use Rattle.std.specs.Fmt.{decimal};
+ghost use Rattle.river_text.specs.Meaning.{from_text, from_plan};
+ghost use Rattle.river_text.specs.Words.{limit_word, name_words, plan_words, river_words};
+
+use crate::TextFault;
+use river_base::{Bytes, NoMemory};
+use river_plan::{Limit, Named, PlanFault};
+use std::alloc::Global;
+use text_forms::Refusal;
+use work_code::LexFault;
+
+/// Why a River text has no plan.
+#[derive(Clone, Copy, Debug)]
+pub enum RiverFault {
+    /// The text is not read.
+    Text(Refusal),
+    /// The lists of the text are no valid plan; this is their first fault.
+    Plan(PlanFault),
+    /// There was no memory.
+    NoMemory,
+}
+
+impl From<TextFault> for RiverFault {
+    ghost from_gives = { λ fault f. f ≡ from_text fault };
+
+    fn from(fault: TextFault) -> Self {
+        match fault {
+            TextFault::Lex(LexFault::BadByte { at }) => RiverFault::Text(Refusal::BadByte { at }),
+            TextFault::Lex(LexFault::BigNumber { at }) => {
+                RiverFault::Text(Refusal::BigNumber { at })
+            }
+            TextFault::Syntax { unit } => RiverFault::Text(Refusal::Syntax { unit }),
+            TextFault::Lex(LexFault::NoMemory) | TextFault::NoMemory => RiverFault::NoMemory,
+        }
+    }
+}
+
+impl From<PlanFault> for RiverFault {
+    ghost from_gives = { λ fault f. f ≡ from_plan fault };
+
+    fn from(fault: PlanFault) -> Self {
+        match fault {
+            PlanFault::NoMemory => RiverFault::NoMemory,
+            fault => RiverFault::Plan(fault),
+        }
+    }
+}
+
+impl RiverFault {
+    /// Appends what is told of it.
+    pub fn put(self, alloc: Global, to: &mut Bytes) -> Result<(), NoMemory>
+        ensures { OnOk result (to.new ≡ to.old ++ river_words self) }
+    {
+        match self {
+            RiverFault::Text(refusal) => refusal.put(alloc, to),
+            RiverFault::Plan(fault) => put_fault(alloc, fault, to),
+            RiverFault::NoMemory => to.extend(b"NoMemory"),
+        }
+    }
+}
+
+// Appends what is told of a fault of a plan.
+fn put_fault(alloc: Global, fault: PlanFault, to: &mut Bytes) -> Result<(), NoMemory>
+    ensures { OnOk result (to.new ≡ to.old ++ plan_words fault) }
+{
+    match fault {
+        PlanFault::P1(name) => put_named(b"P1 ", name, to),
+        PlanFault::P2(name) => put_named(b"P2 ", name, to),
+        PlanFault::P3(name) => put_named(b"P3 ", name, to),
+        PlanFault::P4(name) => put_named(b"P4 ", name, to),
+        PlanFault::P5(name) => put_named(b"P5 ", name, to),
+        PlanFault::P6(name) => put_named(b"P6 ", name, to),
+        PlanFault::P7(name) => put_named(b"P7 ", name, to),
+        PlanFault::P8 { limit, number } => put_limit(alloc, limit, number, to),
+        PlanFault::P9(name) => put_named(b"P9 ", name, to),
+        PlanFault::NoMemory => to.extend(b"NoMemory"),
+    }
+}
+
+// Appends the name of a fault and the name at fault.
+#[tactic(auto, using(work_code::proofs::Joined::joins))]
+fn put_named(fault: &[u8], name: Named, to: &mut Bytes) -> Result<(), NoMemory>
+    ensures { OnOk result (to.new ≡ to.old ++ (fault.now ++ name_words name)) }
+{
+    to.extend(fault)?;
+    put_name(name, to)
+}
+
+// Appends a name; that of a variable has its dollar sign.
+#[tactic(auto, using(work_code::proofs::Joined::joins))]
+fn put_name(name: Named, to: &mut Bytes) -> Result<(), NoMemory>
+    ensures { OnOk result (to.new ≡ to.old ++ name_words name) }
+{
+    match name {
+        Named::Queue(name) | Named::Label(name) => to.extend(name.as_slice()),
+        Named::Variable(name) => {
+            to.push(b'$')?;
+            to.extend(name.as_slice())
+        }
+    }
+}
+
+// Appends a limit and the number that exceeds it.
+#[tactic(auto, using(work_code::proofs::Joined::joins))]
+fn put_limit(alloc: Global, limit: Limit, number: u128, to: &mut Bytes) -> Result<(), NoMemory>
+    ensures { OnOk result (to.new ≡ to.old ++ (codes "P8 " ++ (limit_word limit ++ (codes " " ++ decimal number)))) }
+{
+    to.extend(b"P8 ")?;
+    to.extend(limit_word(limit))?;
+    to.push(b' ')?;
+    let digits = number.to_string(alloc)?;
+    to.extend(digits.as_bytes())
+}
+
+// What is limited.
+fn limit_word(limit: Limit) -> &'static [u8]
+    ensures { result.now ≡ limit_word limit }
+{
+    match limit {
+        Limit::Inputs => b"inputs",
+        Limit::Operators => b"operators",
+        Limit::Queues => b"queues",
+        Limit::Variables => b"variables",
+        Limit::Ports => b"ports",
+        Limit::Statements => b"statements",
+        Limit::Slots => b"slots",
+        Limit::Rates => b"rates",
+        Limit::Weights => b"weights",
+        Limit::Nesting => b"nesting",
+        Limit::Latest => b"latest",
+        Limit::Best => b"best",
+    }
+}

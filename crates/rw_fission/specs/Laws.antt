@@ -1,0 +1,26 @@
+-- The laws of fission: statements over the definitions alone.
+use Rattle.std.specs.Prelude.{◌≡◌, ℕ, ◌<◌, Some, Ok, true, List, [], ◌∷◌}
+use Rattle.river_base.specs.declared.item.Item as item
+use Rattle.river_plan.specs.Forms.{Name, OpForm, PlanForm, all_decls}
+use Rattle.river_plan.specs.Kinds.{kind_of}
+use Rattle.river_plan.specs.Uses.{named_it}
+use Rattle.river_plan.specs.Valid.{IsPlan}
+use Rattle.rw_fission.specs.Asked.{fission_of, way_of}
+use Rattle.rw_fission.specs.Fission.{Way, split_by}
+use Rattle.plan_edits.specs.Lists.{first_with}
+use Rattle.rw_fission.specs.Made.{made_of}
+use Rattle.rw_fission.specs.May.{is_apart}
+use Rattle.plan_edits.specs.Meaning.{SameOuter, SameMeaning, AreTyped}
+
+-- an accepted step gives a valid plan, which means what the plan means, on all inputs on which the plan's histories are of their types
+abbrev pub FissionKeeps : Type 0
+FissionKeeps =
+    (p p' : PlanForm) (l : Name) (n : ℕ) → IsPlan p → fission_of p l n ≡ Ok p'
+    → IsPlan p' × SameOuter p p' × ((inputs : List (List item.Item)) → AreTyped p inputs → SameMeaning p p' inputs)
+
+-- of a result, a valid plan is one in which no name stands twice and no number is above its limit
+abbrev pub FissionApart : Type 0
+FissionApart =
+    (p : PlanForm) (l : Name) (n : ℕ) (op : OpForm) (source : Name) (w : Way) → IsPlan p → first_with (named_it l) p.ops ≡ Some op → op.reads ≡ source ∷ [] → 0 < n
+    → way_of p op (made_of l) n (kind_of (all_decls p) source) ≡ Some w
+    → let p' = split_by p l op (made_of l) n (kind_of (all_decls p) source) w in (is_apart p' ≡ true → IsPlan p') × (IsPlan p' → is_apart p' ≡ true)

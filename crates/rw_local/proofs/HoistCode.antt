@@ -1,0 +1,149 @@
+-- What the code of hoisting stands on.
+use Rattle.std.proofs.Common.{◌≡◌, ℕ, suc, ◌+◌, ◌<◌, ◌≤◌, length, take, drop, get_or, Some, None, List, [], ◌∷◌, ◌++◌, refl, sym, ap, ◌∙◌, subst, arith, ⊎_elim, map}
+use Rattle.std.specs.Prelude.{Option, slice_get, slice_index_or, Ok, Err, Result}
+use Rattle.std.specs.Option.{option_map}
+use Rattle.std.proofs.lemmas.Bool.{cases_lt}
+use Rattle.std.proofs.lemmas.Option.{slice_get-map, slice_get_past, slice_get_read}
+use Rattle.river_base.specs.Name.{name_eq}
+use Rattle.river_base.specs.declared.kind.QueueType.{QueueType}
+use Rattle.work_code.specs.declared.expr.Expr.{Expr}
+use Rattle.work_code.specs.Term.{Term, term}
+use Rattle.river_kernels.specs.Kern.{select}
+use Rattle.river_plan.specs.declared.op.Op.{Op}
+use Rattle.river_plan.specs.declared.plan.Decl.{Decl}
+use Rattle.river_plan.specs.Forms.{Name, OpForm, PlanForm, op_form, op_forms, decl_names, all_decls}
+use Rattle.river_plan.specs.Names.{count, one_if}
+use Rattle.river_plan.specs.Uses.{writes_it, named_it}
+use Rattle.river_plan.specs.Kinds.{kind_of}
+use Rattle.river_plan.specs.Valid.{IsPlan}
+use Rattle.river_plan.proofs.NameLemmas.{cases_bool, name_is}
+use Rattle.brooklet_model.proofs.Lists.{if_true, if_false, if_lt, if_ge, if_eq}
+use Rattle.plan_edits.specs.declared.unfit.Unfit.{Unfit}
+use Rattle.plan_edits.specs.declared.unfit.Unfit.TheVariants.{U1, U2, U3, U4, U5, H1, H2, H3, H4, N1, N2, N3, N4, N5, NoMemory}
+use Rattle.plan_edits.specs.Lists.{place, first_with, replaced, retyped}
+use Rattle.plan_edits.specs.Answered.{IsAnswered}
+use Rattle.rw_local.specs.HoistCode.{IsPassing}
+use Rattle.rw_local.specs.Hoist.{plain_field, of_projection, width_at, first_width, passes, hoisted_plan, hoist_at, hoist_passed, hoist_past, hoist_between, hoist_kernel, hoist_found, hoist_of, MayHoist}
+use Rattle.plan_edits.proofs.OpLoops.{forms_next}
+use Rattle.rw_local.proofs.HoistLaw.{hoist_keeps, mid_inner}
+
+-- the field of which a field of a projection is a copy
+pub plain_at : (xs : List Expr) (i : ℕ) (x : Expr) (o : Option ℕ) → slice_get xs i ≡ Some x → o ≡ plain_field (Some (term x)) → o ≡ of_projection (map term xs) i
+plain_at xs i x o h e = e ∙ sym (ap plain_field (slice_get-map term xs i ∙ ap (option_map term) h))
+
+-- beyond a projection there is no field
+pub plain_past : (xs : List Expr) (i : ℕ) → length xs ≤ i → None ≡ of_projection (map term xs) i
+plain_past xs i ge = sym (ap plain_field (slice_get-map term xs i ∙ ap (option_map term) (slice_get_past xs i ge)))
+
+-- TYPES
+
+-- the width of the first input
+pub width_first : (kind : Name → QueueType) (rs : List Name) (r : Name) (n : ℕ) → 0 < length rs → ((d : Name) → r ≡ slice_index_or rs 0 d) → n ≡ width_at (kind r) → n ≡ first_width (map kind rs)
+width_first kind [] r n lt e h = absurd (omega (arith, lt))
+width_first kind (x ∷ rs) r n lt e h = h ∙ ap (λ m. width_at (kind m)) (e r)
+
+-- the first name
+pub got_first : (rs : List Name) (r : Name) → 0 < length rs → ((d : Name) → r ≡ slice_index_or rs 0 d) → Some r ≡ slice_get rs 0
+got_first [] r lt e = absurd (omega (arith, lt))
+got_first (x ∷ rs) r lt e = ap Some (e r)
+
+-- a list that is not empty
+pub not_empty : (rs : List Name) → (rs ≡ [] → ⊥) → 0 < length rs
+not_empty [] h = absurd (h refl)
+not_empty (x ∷ rs) h = omega arith
+
+-- the declarations with one in its place
+pub retyped_is : (q : Name) (k : QueueType) (ds : List Decl) (n : ℕ) → 0 < count q (decl_names ds) → n ≡ place q (decl_names ds) → take n ds ++ (record { name = q; kind = k } ∷ drop (n + 1) ds) ≡ retyped q k ds
+retyped_is q k ds n lt e = ap (λ m. take m ds ++ (record { name = q; kind = k } ∷ drop (m + 1) ds)) e ∙ go ds lt
+  where
+    go : (xs : List Decl) → 0 < count q (decl_names xs) → take (place q (decl_names xs)) xs ++ (record { name = q; kind = k } ∷ drop (place q (decl_names xs) + 1) xs) ≡ retyped q k xs
+    go [] l = absurd (omega (arith, l))
+    go (x ∷ xs) l = ⊎_elim
+        (λ c.
+        ap (λ m. take m (x ∷ xs) ++ (record { name = q; kind = k } ∷ drop (m + 1) (x ∷ xs))) (if_true (name_eq x.name q) 0 (suc (place q (decl_names xs))) c)
+        ∙ ap (λ m. record { name = m; kind = k } ∷ xs) (sym (name_is x.name q c))
+        ∙ sym (if_true (name_eq x.name q) (record x { kind = k } ∷ xs) (x ∷ retyped q k xs) c))
+        (λ c.
+        let s : suc (place q (decl_names xs)) + 1 ≡ suc (place q (decl_names xs) + 1) = omega arith in
+        ap (λ m. take m (x ∷ xs) ++ (record { name = q; kind = k } ∷ drop (m + 1) (x ∷ xs))) (if_false (name_eq x.name q) 0 (suc (place q (decl_names xs))) c)
+        ∙ ap (λ m. x ∷ (take (place q (decl_names xs)) xs ++ (record { name = q; kind = k } ∷ drop m (x ∷ xs)))) s
+        ∙ ap (λ m. x ∷ m) (go xs (let z = ap one_if c in omega (arith, z, l)))
+        ∙ sym (if_false (name_eq x.name q) (record x { kind = k } ∷ xs) (x ∷ retyped q k xs) c))
+        (cases_bool (name_eq x.name q))
+
+-- OPERATORS
+
+replaced-append : (q : Name) (news xs ys : List OpForm) → replaced q news (xs ++ ys) ≡ replaced q news xs ++ replaced q news ys
+replaced-append q news [] ys = refl
+replaced-append q news (x ∷ xs) ys = ⊎_elim
+    (λ lt. if_lt 0 (count q x.writes) _ _ lt ∙ ap (λ l. news ++ l) (replaced-append q news xs ys) ∙ sym (assoc news (replaced q news xs) (replaced q news ys)) ∙ sym (ap (λ l. l ++ replaced q news ys) (if_lt 0 (count q x.writes) _ _ lt)))
+    (λ ge. if_ge 0 (count q x.writes) _ _ ge ∙ ⊎_elim
+    (λ lt. if_lt 0 (count q x.reads) _ _ lt ∙ replaced-append q news xs ys ∙ sym (ap (λ l. l ++ replaced q news ys) (if_ge 0 (count q x.writes) _ _ ge ∙ if_lt 0 (count q x.reads) _ _ lt)))
+    (λ g. if_ge 0 (count q x.reads) _ _ g ∙ ap (λ l. x ∷ l) (replaced-append q news xs ys) ∙ sym (ap (λ l. l ++ replaced q news ys) (if_ge 0 (count q x.writes) _ _ ge ∙ if_ge 0 (count q x.reads) _ _ g)))
+    (cases_lt 0 (count q x.reads)))
+    (cases_lt 0 (count q x.writes))
+  where
+    assoc : (a b c : List OpForm) → (a ++ b) ++ c ≡ a ++ (b ++ c)
+    assoc [] b c = refl
+    assoc (y ∷ a) b c = ap (λ l. y ∷ l) (assoc a b c)
+
+-- the loop that replaces, one operator further
+pub replaced_next : (q : Name) (news : List OpForm) (xs : List Op) (i : ℕ) (x : Op) (now new : List OpForm) → i < length xs → x ≡ get_or xs i x → now ≡ replaced q news (op_forms (take i xs)) → new ≡ now ++ replaced q news (op_form x ∷ []) → new ≡ replaced q news (op_forms (take (i + 1) xs))
+replaced_next q news xs i x now new lt e h s =
+    s ∙ ap (λ l. l ++ replaced q news (op_form x ∷ [])) h ∙ sym (ap (replaced q news) (forms_next xs i x lt e) ∙ replaced-append q news (op_forms (take i xs)) (op_form x ∷ []))
+
+-- THE STEP
+
+between_is : (p : PlanForm) (u : OpForm) (t : Term) (rs ws : List Name) (mid out : Name) → Some mid ≡ slice_get rs 0 → Some out ≡ slice_get ws 0 → hoist_between p u t rs ws ≡ hoist_past p u t mid out (first_with (writes_it mid) p.ops)
+between_is p u t [] ws mid out a b = absurd (cc a)
+between_is p u t (r ∷ rs) [] mid out a b = absurd (cc b)
+between_is p u t (r ∷ rs) (w ∷ ws) mid out a b = let e : mid ≡ r = cc a in let f : out ≡ w = cc b in ap (λ n. hoist_past p u t n w (first_with (writes_it n) p.ops)) (sym e) ∙ ap (λ n. hoist_past p u t mid n (first_with (writes_it mid) p.ops)) (sym f)
+
+-- as far as the operator below
+pub hoist_upto : (p : PlanForm) (l : Name) (u b : OpForm) (t : Term) (mid out : Name) (width : ℕ) → first_with (named_it l) p.ops ≡ Some u → u.kernel ≡ select t → Some mid ≡ slice_get u.reads 0 → Some out ≡ slice_get u.writes 0
+    → first_with (writes_it mid) p.ops ≡ Some b → length b.writes ≡ 1 → width ≡ first_width (map (kind_of (all_decls p)) b.reads) → hoist_of p l ≡ hoist_passed p u b mid out (passes width b.kernel t)
+hoist_upto p l u b t mid out width a k r w below one e =
+    ap (hoist_found p) a ∙ ap (hoist_kernel p u) k ∙ between_is p u t u.reads u.writes mid out r w ∙ ap (hoist_past p u t mid out) below ∙ if_eq (length b.writes) 1 _ _ one
+    ∙ ap (λ n. hoist_passed p u b mid out (passes n b.kernel t)) (sym e)
+
+-- a refusal of the operator below is that of the step
+pub passing_err : (told : Result (ℕ × Term) Unfit) (whole : Result PlanForm Unfit) (f : Unfit) → ((g : Unfit) → told ≡ Err g → whole ≡ Err g) → IsPassing told (Err f) → IsAnswered whole (Err f)
+passing_err told whole U1 g h = g U1 h
+passing_err told whole U2 g h = g U2 h
+passing_err told whole U3 g h = g U3 h
+passing_err told whole U4 g h = g U4 h
+passing_err told whole U5 g h = g U5 h
+passing_err told whole H1 g h = g H1 h
+passing_err told whole H2 g h = g H2 h
+passing_err told whole H3 g h = g H3 h
+passing_err told whole H4 g h = g H4 h
+passing_err told whole N1 g h = g N1 h
+passing_err told whole N2 g h = g N2 h
+passing_err told whole N3 g h = g N3 h
+passing_err told whole N4 g h = g N4 h
+passing_err told whole N5 g h = g N5 h
+passing_err told whole NoMemory g h = tt
+
+-- the operator below is passed
+module _ (p : PlanForm) (l : Name) (u b : OpForm) (t : Term) (mid out : Name) (width side : ℕ) (t' : Term) (src : Name) (v : IsPlan p)
+    (a : first_with (named_it l) p.ops ≡ Some u) (k : u.kernel ≡ select t) (r : Some mid ≡ slice_get u.reads 0) (w : Some out ≡ slice_get u.writes 0)
+    (below : first_with (writes_it mid) p.ops ≡ Some b) (one : length b.writes ≡ 1) (e : width ≡ first_width (map (kind_of (all_decls p)) b.reads)) (ps : passes width b.kernel t ≡ Ok (side, t'))
+    (lt : side < length b.reads) (so : (d : Name) → src ≡ slice_index_or b.reads side d)
+  where
+    source : slice_get b.reads side ≡ Some src
+    source = slice_get_read b.reads (length b.reads) side src refl lt (so src)
+
+    may : MayHoist p l u b t side t' src mid out
+    may = record { here = a; selects = k; reads = sym r; writes = sym w; below = below; only = one; passes = subst (λ n. passes n b.kernel t ≡ Ok (side, t')) e ps; source = source }
+
+    -- the queue between is neither an input nor an output
+    pub mid_there : 0 < count mid (decl_names p.queues)
+    mid_there = (mid_inner p l u b t side t' src mid out v may).2
+
+    -- the new lists are valid
+    pub hoisted_valid : IsPlan (hoisted_plan p u b side t' src mid out)
+    hoisted_valid = (hoist_keeps p l u b t side t' src mid out v may).0
+
+    -- the step is accepted
+    pub hoist_ok : hoist_of p l ≡ Ok (hoisted_plan p u b side t' src mid out)
+    hoist_ok = hoist_upto p l u b t mid out width a k r w below one e ∙ ap (hoist_passed p u b mid out) ps ∙ ap (hoist_at p u b mid out (side, t')) source

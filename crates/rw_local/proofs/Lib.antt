@@ -1,0 +1,15 @@
+pub mod CodeLemmas
+pub mod Fields
+pub mod FuseCode
+pub mod FuseLaw
+pub mod FuseLemmas
+pub mod FuseSteps
+pub mod HoistCode
+pub mod HoistLaw
+pub mod HoistLemmas
+pub mod HoistSteps
+pub mod Instances
+pub mod OpLemmas
+pub mod PassCases
+pub mod Passing
+pub mod Selected

@@ -1,0 +1,27 @@
+-- What the code of hoisting speaks of.
+use Rattle.std.specs.Prelude.{◌≡◌, ℕ, Option, Some, None, Result, Ok, Err}
+use Rattle.work_code.specs.declared.expr.Expr.{Expr}
+use Rattle.work_code.specs.Term.{Term, term, terms}
+use Rattle.river_kernels.specs.Kern.{Kern, select}
+use Rattle.river_plan.specs.Forms.{OpForm, PlanForm}
+use Rattle.plan_edits.specs.declared.unfit.Unfit.{Unfit}
+use Rattle.plan_edits.specs.declared.unfit.Unfit.TheVariants.{NoMemory, H1}
+use Rattle.rw_local.specs.declared.exprs.Fields.{Fields}
+use Rattle.rw_local.specs.declared.exprs.Fields.TheVariants.{Projection, First, Second}
+use Rattle.rw_local.specs.Hoist.{of_projection, of_first, of_second, hoist_kernel}
+
+abbrev pub field_in : Fields → ℕ → Option ℕ
+field_in (Projection es) = of_projection (terms es.now)
+field_in (First width) = of_first width
+field_in (Second width) = of_second width
+
+-- what the code may say of where a selection goes
+abbrev pub IsPassing : Result (ℕ × Term) Unfit → Result (ℕ × Expr) Unfit → Type 0
+IsPassing told (Ok x) = told ≡ Ok (x.0, term x.1)
+IsPassing told (Err NoMemory) = Unit {0}
+IsPassing told (Err f) = told ≡ Err f
+
+-- the condition of a selection; of other kernels the step is refused
+abbrev pub IsCondition : Kern → Option Expr → Type 0
+IsCondition k (Some e) = k ≡ select (term e)
+IsCondition k None = (p : PlanForm) (u : OpForm) → hoist_kernel p u k ≡ Err H1

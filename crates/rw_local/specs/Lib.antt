@@ -1,0 +1,3 @@
+pub mod Fuse
+pub mod Hoist
+pub mod HoistCode
