@@ -11,7 +11,7 @@ use Rattle.river_base.proofs.PlaceLemmas.{append_at-upto, each_grew-upto_none, e
 use Rattle.kern_rows.specs.Turns.{Turns, front_in, rest_in, front_at, rest_at, front_of, passed, put, waiting, joins, settled, turns_start, itself, next_had}
 use Rattle.brooklet_model.specs.Firings.{Joining}
 use Rattle.brooklet_model.specs.Fire.{join_one}
-use Rattle.brooklet_model.specs.Words.{Word, run, word_of, in_order}
+use Rattle.brooklet_model.specs.Words.{Word, run, word_of, port_by_port}
 use Rattle.brooklet_model.proofs.Drained.{put_drain}
 use Rattle.streamit_model.proofs.JoinKeeps.{join_keeps}
 use Rattle.streamit_model.specs.Rounds.{cycle, branch, place, turn_of, item_at, and_more, size_of, collected}
@@ -56,11 +56,11 @@ put_word : (p : ℕ) (xs : List item.Item) (es : Word) (s : Turns) → put_all (
 put_word p [] es s = ap (λ ls. put_all es (with_lists s ls)) (sym (append_at-nil s.lists p))
 put_word p (x ∷ xs) es s = put_word p xs es (put p x s) ∙ ap (λ ls. put_all es (with_lists s ls)) (append_at-append s.lists p (x ∷ []) xs)
 
-put_order : (n q : ℕ) (g : ℕ → List item.Item) (base : List (List item.Item)) (s : Turns) → s.lists ≡ each_grew base (upto q g) → put_all (in_order n q g) s ≡ with_lists s (each_grew base (upto (q + n) g))
+put_order : (n q : ℕ) (g : ℕ → List item.Item) (base : List (List item.Item)) (s : Turns) → s.lists ≡ each_grew base (upto q g) → put_all (port_by_port n q g) s ≡ with_lists s (each_grew base (upto (q + n) g))
 put_order zero q g base s e = ap (with_lists s) e ∙ ap (λ k. with_lists s (each_grew base (upto k g))) (let z : q ≡ q + 0 = omega arith in z)
 put_order (suc n) q g base s e =
     let grown : append_at s.lists q (g q) ≡ each_grew base (upto (suc q) g) = ap (λ l. append_at l q (g q)) e ∙ append_at-upto base g q ∙ ap (λ k. each_grew base (upto k g)) (let z : q + 1 ≡ suc q = omega arith in z) in
-    put_word q (g q) (in_order n (suc q) g) s
+    put_word q (g q) (port_by_port n (suc q) g) s
     ∙ put_order n (suc q) g base (with_lists s (append_at s.lists q (g q))) grown
     ∙ ap (λ k. with_lists s (each_grew base (upto k g))) (let z : suc q + n ≡ q + suc n = omega arith in z)
 
@@ -75,13 +75,13 @@ blanks_few : (n : ℕ) → length (replicate n no_items) ≤ 0 + n
 blanks_few n = let l = length-replicate n no_items in omega (arith, l)
 
 -- fed in the order of the ports, a joiner gives what passes when all lists are there
-pub fed_joins : (ws : List ℕ) (n : ℕ) (g : ℕ → List item.Item) → (run (join_one itself ws) (in_order n 0 g) (Joining (turns_start n) ∷ [])).outs 0 ≡ (settle ws (with_lists (turns_start n) (each_grew (replicate n []) g))).0
+pub fed_joins : (ws : List ℕ) (n : ℕ) (g : ℕ → List item.Item) → (run (join_one itself ws) (port_by_port n 0 g) (Joining (turns_start n) ∷ [])).outs 0 ≡ (settle ws (with_lists (turns_start n) (each_grew (replicate n []) g))).0
 fed_joins ws n g =
     let s = turns_start n in
     let empty : settle ws s ≡ ([], s) = ap (λ k. drain (front_of itself) (passed ws) k s) (no_waiting n) in
-    let after = λ (d : List item.Item × Turns). d.0 ++ (run (join_one itself ws) (in_order n 0 g) (Joining d.1 ∷ [])).outs 0 in
+    let after = λ (d : List item.Item × Turns). d.0 ++ (run (join_one itself ws) (port_by_port n 0 g) (Joining d.1 ∷ [])).outs 0 in
     ap after (sym empty)
-    ∙ runs_settle ws (in_order n 0 g) s
+    ∙ runs_settle ws (port_by_port n 0 g) s
     ∙ ap (λ t. (settle ws t).0) (put_order n 0 g (replicate n []) s (sym (each_grew-upto_none (replicate n []) g)))
     ∙ ap (λ ls. (settle ws (with_lists s ls)).0) (each_grew-upto_all (replicate n []) g (0 + n) (blanks_few n))
 

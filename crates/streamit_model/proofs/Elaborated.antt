@@ -12,7 +12,7 @@ use Rattle.work_code.specs.Steps.{Step, Steps, Done}
 use Rattle.work_code.specs.Steps as steps
 use Rattle.work_code.specs.Ran.{Ran, ran, ran_once}
 use Rattle.work_code.specs.Value.{val, applied, truth, is_true}
-use Rattle.kern_rows.specs.Stands.{values_of}
+use Rattle.kern_rows.specs.Stands.{first_values}
 use Rattle.kern_rows.proofs.Lengths.{ran_length}
 use Rattle.river_plan.specs.Forms.{Name}
 use Rattle.river_plan.proofs.NameLemmas.{cases_name, name_same as name_self}
@@ -517,7 +517,7 @@ mutual
 
 -- from n to n' the block does what the run does, and the reading ended at s'
 pub record DoesBy (r : Ran) (s' : At) (n n' : Now) : Type 0 where
-  pub pushed : n'.pushed ≡ n.pushed ++ values_of r.pushes
+  pub pushed : n'.pushed ≡ n.pushed ++ first_values r.pushes
   pub popped : n'.popped ≡ s'.popped
   pub agrees : Agrees s'.scope n'.values r.slots
 
@@ -525,7 +525,7 @@ pub record DoesBy (r : Ran) (s' : At) (n n' : Now) : Type 0 where
 abbrev pub Met : List ℤ → (At → Read) → (Now → Now) → Type 0
 Met xs f g = (s : At) (y : Steps × At) (mem : List ℤ) (n : Now) → f s ≡ Ok y → IsSound s.scope s.slots → Agrees s.scope n.values mem → n.popped ≡ s.popped → y.1.slots ≤ length mem → DoesBy (ran y.0 xs mem) y.1 n (g n)
 
-values-append : (ps qs : List (ℕ × List ℤ)) → values_of (ps ++ qs) ≡ values_of ps ++ values_of qs
+values-append : (ps qs : List (ℕ × List ℤ)) → first_values (ps ++ qs) ≡ first_values ps ++ first_values qs
 values-append ps qs = map-append (λ e. slice_index_or e.1 0 (pos 0)) ps qs
 
 -- one after another
@@ -547,13 +547,13 @@ does_both a b xs mem s t n m o f g =
     let p = (ran a xs mem).pushes in
     let q = (ran b xs (ran a xs mem).slots).pushes in
     subst (λ r. DoesBy r t n o) (sym (ran_joined a b xs mem)) (record {
-      pushed = g.pushed ∙ ap (λ l. l ++ values_of q) f.pushed ∙ append_assoc n.pushed (values_of p) (values_of q) ∙ ap (λ l. n.pushed ++ l) (sym (values-append p q));
+      pushed = g.pushed ∙ ap (λ l. l ++ first_values q) f.pushed ∙ append_assoc n.pushed (first_values p) (first_values q) ∙ ap (λ l. n.pushed ++ l) (sym (values-append p q));
       popped = g.popped;
       agrees = g.agrees;
     })
 
 does_one : (c : Step) (xs mem : List ℤ) (s : At) (n m : Now) → DoesBy (ran_once c xs mem) s n m → DoesBy (ran (one_step c) xs mem) s n m
-does_one c xs mem s n m d = record { pushed = d.pushed ∙ ap (λ l. n.pushed ++ values_of l) (sym (append-nil (ran_once c xs mem).pushes)); popped = d.popped; agrees = d.agrees }
+does_one c xs mem s n m d = record { pushed = d.pushed ∙ ap (λ l. n.pushed ++ first_values l) (sym (append-nil (ran_once c xs mem).pushes)); popped = d.popped; agrees = d.agrees }
 
 does_left : (r : Ran) (s t : At) (n m : Now) → Keeps s.scope t.scope → DoesBy r t n m → DoesBy r (left s t) n m
 unfolding left

@@ -9,7 +9,7 @@ use Rattle.river_base.specs.declared.item.Flat.TheVariants.{One}
 use Rattle.kern_rows.specs.Forms.{FilterForm}
 use Rattle.kern_rows.specs.Needs.{CanFilter}
 use Rattle.kern_rows.specs.Runs.{Filtering, pushed_to, filter_one, filter_ran, run_kept, slots_from}
-use Rattle.kern_rows.specs.Stands.{values_of}
+use Rattle.kern_rows.specs.Stands.{first_values}
 use Rattle.kern_rows.proofs.Given.{given_items, ran_values}
 use Rattle.river_kernels.specs.Kern.{filter}
 use Rattle.brooklet_model.specs.Firings.{Buffered, Fired, feed}
@@ -32,7 +32,7 @@ module _ (f : FilterForm) (can : CanFilter f) where
   none_from zero k kept xs lt = refl
   none_from (suc n) k kept xs lt = if_gt (k * f.pop + f.peek) (length xs) _ _ lt
 
-  some_from : (n k : ℕ) (kept xs : List ℤ) → k * f.pop + f.peek ≤ length xs → firings_from f (suc n) k kept xs ≡ values_of (firing f k kept xs).pushes ++ firings_from f n (suc k) (firing f k kept xs).slots xs
+  some_from : (n k : ℕ) (kept xs : List ℤ) → k * f.pop + f.peek ≤ length xs → firings_from f (suc n) k kept xs ≡ first_values (firing f k kept xs).pushes ++ firings_from f n (suc k) (firing f k kept xs).slots xs
   some_from n k kept xs le = if_le (k * f.pop + f.peek) (length xs) _ _ le
 
   -- the values that a run looks at are those of the whole list
@@ -58,7 +58,7 @@ module _ (f : FilterForm) (can : CanFilter f) where
       let p = can.peeks in let q = can.pops in
       if_gt f.peek (length (drop (k * f.pop) (ys ++ x ∷ []))) _ _ (omega (arith, l, d, lt, p, q))
 
-  pushed : (k : ℕ) (kept xs : List ℤ) → pushed_to 0 (firing f k kept xs).pushes ≡ as_items (values_of (firing f k kept xs).pushes)
+  pushed : (k : ℕ) (kept xs : List ℤ) → pushed_to 0 (firing f k kept xs).pushes ≡ as_items (first_values (firing f k kept xs).pushes)
   pushed k kept xs =
       let input = take f.peek (drop (k * f.pop) xs) in
       given_items (firing f k kept xs).pushes (ran_values f.body.steps input (slots_from f.body.slots kept) can.gives)
@@ -77,8 +77,8 @@ module _ (f : FilterForm) (can : CanFilter f) where
       ap (λ r. (filter_fired r []).outs 0 ++ (feed (fire (filter f) 0) (as_items xs) (filter_fired r []).states).outs 0) (runs k kept ys xs x enough)
       ∙ ap (λ j. pushed_to 0 r.pushes ++ (fed_on xs (state (ys ++ x ∷ []) j r.slots)).outs 0) (let e : k + 1 ≡ suc k = omega arith in e)
       ∙ ap (λ l. l ++ (fed_on xs (state (ys ++ x ∷ []) (suc k) r.slots)).outs 0) (pushed k kept (ys ++ x ∷ xs))
-      ∙ ap (λ l. as_items (values_of r.pushes) ++ l) (rest n refl)
-      ∙ sym (map-append (λ v. Flat (One (v ∷ []))) (values_of r.pushes) (firings_from f n (suc k) r.slots (ys ++ x ∷ xs)))
+      ∙ ap (λ l. as_items (first_values r.pushes) ++ l) (rest n refl)
+      ∙ sym (map-append (λ v. Flat (One (v ∷ []))) (first_values r.pushes) (firings_from f n (suc k) r.slots (ys ++ x ∷ xs)))
       ∙ ap as_items (sym (some_from n k kept (ys ++ x ∷ xs) whole))
 
   pub fed : (xs ys : List ℤ) (n k : ℕ) (kept : List ℤ) → length ys < k * f.pop + f.peek → length ys + length xs ≤ n + k → (fed_on xs (state ys k kept)).outs 0 ≡ as_items (firings_from f n k kept (ys ++ xs))

@@ -7,7 +7,7 @@ use Rattle.work_code.specs.Steps.{Steps}
 use Rattle.work_code.specs.Ran.{ran}
 use Rattle.kern_rows.specs.Forms.{FilterForm}
 use Rattle.kern_rows.specs.Runs.{run_kept, slots_from}
-use Rattle.kern_rows.specs.Stands.{values_of}
+use Rattle.kern_rows.specs.Stands.{first_values}
 use Rattle.kern_rows.proofs.Lengths.{ran_length, run_kept_length}
 use Rattle.river_plan.specs.Forms.{Name}
 use Rattle.river_plan.proofs.NameLemmas.{cases_name, name_same}
@@ -121,7 +121,7 @@ pub sound_nothing : IsSound [] 0
 sound_nothing = record { below = λ n i f. absurd (cc f); apart = λ n m i f g. absurd (cc f) }
 
 pub record RunMet (fs : List Name) (b : Block) (e : ℕ) (y : Steps × At) (kept xs : List ℤ) : Type 0 where
-  pub pushed : (do_all b xs (at_start fs kept)).pushed ≡ values_of (ran y.0 xs (slots_from y.1.slots kept)).pushes
+  pub pushed : (do_all b xs (at_start fs kept)).pushed ≡ first_values (ran y.0 xs (slots_from y.1.slots kept)).pushes
   pub fields : map (do_all b xs (at_start fs kept)).values fs ≡ take (length kept) (ran y.0 xs (slots_from y.1.slots kept)).slots
 
 run_met : (fs : List Name) (b : Block) (e : ℕ) (s : At) (y : Steps × At) (kept xs : List ℤ) → read_fields fs nothing_read ≡ Ok s → steps_of e b s ≡ Ok y → length kept ≡ length fs → RunMet fs b e y kept xs
@@ -220,10 +220,10 @@ module _ (t : FilterTree) (s : At) (i w : Steps × At) (hf : read_fields t.field
       let r = run_kept f.body kept input in
       let m = run_met t.fields t.work t.peek s w kept input hf hw len in
       let after : map (fires t j kept xs).values t.fields ≡ r.slots = m.fields in
-      let both : (fires t j kept xs).pushed ++ fires_from t n (suc j) (map (fires t j kept xs).values t.fields) xs ≡ values_of r.pushes ++ firings_from f n (suc j) r.slots xs =
+      let both : (fires t j kept xs).pushed ++ fires_from t n (suc j) (map (fires t j kept xs).values t.fields) xs ≡ first_values r.pushes ++ firings_from f n (suc j) r.slots xs =
       ap (λ l. l ++ fires_from t n (suc j) (map (fires t j kept xs).values t.fields) xs) m.pushed
-      ∙ ap (λ k. values_of r.pushes ++ fires_from t n (suc j) k xs) after
-      ∙ ap (λ l. values_of r.pushes ++ l) (firings_met n (suc j) r.slots xs (run_kept_length f.body kept input ∙ len)) in
+      ∙ ap (λ k. first_values r.pushes ++ fires_from t n (suc j) k xs) after
+      ∙ ap (λ l. first_values r.pushes ++ l) (firings_met n (suc j) r.slots xs (run_kept_length f.body kept input ∙ len)) in
       ap (λ l. if nat_le (j * t.pop + t.peek) (length xs) then l else []) both
 
 pub filter_met : (t : FilterTree) (f : FilterForm) (xs : List ℤ) → elaborated t ≡ Ok f → pushed_by t xs ≡ filtered f xs

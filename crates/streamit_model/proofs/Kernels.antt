@@ -9,7 +9,7 @@ use Rattle.river_kernels.specs.Formed.{is_filter}
 use Rattle.river_kernels.specs.Kern.{filter, duplicate, deal, collect}
 use Rattle.brooklet_model.specs.Firings.{Turn, Joining, feed}
 use Rattle.brooklet_model.specs.Fire.{fire, first_kept, deal_one, join_one}
-use Rattle.brooklet_model.specs.Words.{run, in_order, feed_all}
+use Rattle.brooklet_model.specs.Words.{run, port_by_port, feed_all}
 use Rattle.kern_rows.specs.Turns.{turns_start, settled, itself}
 use Rattle.std.proofs.lemmas.List.{length-map}
 use Rattle.brooklet_model.proofs.Feeds.{one_input}
@@ -47,8 +47,8 @@ collect_means ws g ls r e =
     let f = λ (x : ℤ). Flat (One (x ∷ [])) in
     let sh = shares_are ws in
     let len : length (weights ws) ≡ n = length-map ws pos ∙ r.number in
-    ap (λ v. (run (join_one itself v) (in_order (length (weights ws)) 0 g) (Joining (turns_start (length (weights ws))) ∷ [])).outs 0) sh
-    ∙ ap (λ k. (run (join_one itself ws) (in_order k 0 g) (Joining (turns_start k) ∷ [])).outs 0) len
+    ap (λ v. (run (join_one itself v) (port_by_port (length (weights ws)) 0 g) (Joining (turns_start (length (weights ws))) ∷ [])).outs 0) sh
+    ∙ ap (λ k. (run (join_one itself ws) (port_by_port k 0 g) (Joining (turns_start k) ∷ [])).outs 0) len
     ∙ fed_joins ws n g
     ∙ ap (λ t. (settled itself ws (record { port = 0; had = 0; lists = t })).0) (blanks_filled f ls g e)
     ∙ cases_empty ws ls r

@@ -1,17 +1,13 @@
--- The names that are made are names, and the plan is one that the machine runs.
-use Rattle.std.proofs.Common.{◌≡◌, ℕ, ◌+◌, ◌%◌, ◌^◌, ◌<◌, ◌≤◌, Bool, true, false, List, [], ◌∷◌, ◌++◌, length, map, refl, ◌∙◌, arith, length-append}
-use Rattle.std.specs.Prelude.{codes, All, ◌&&◌, ◌||◌, ◌==◌, nat_le}
+-- The names that are made are names.
+use Rattle.std.proofs.Common.{◌≡◌, ℕ, ◌+◌, ◌%◌, ◌^◌, ◌<◌, ◌≤◌, Bool, true, false, List, [], ◌∷◌, ◌++◌, length, refl, ◌∙◌, arith, length-append}
+use Rattle.std.specs.Prelude.{codes, ◌&&◌, ◌||◌, ◌==◌, nat_le}
 use Rattle.std.specs.List.{list_all}
 use Rattle.std.specs.Fmt.{decimal}
 use Rattle.std.proofs.lemmas.Fmt.{decimal_by_steps, length-decimal-le}
-use Rattle.std.proofs.lemmas.List.Elements.{All-nil, All-cons}
 use Rattle.std.proofs.lemmas.List.Folds.{list_all-append}
 use Rattle.std.proofs.lemmas.Nat.{mod_below}
 use Rattle.river_base.specs.Name.{is_letter, is_digit, starts_name, goes_on, is_name}
-use Rattle.brooklet_model.specs.Typed.{IsRows, IsBuilt}
-use Rattle.river_plan.specs.Forms.{Name}
-use Rattle.streamit_model.specs.Stream.{Stream}
-use Rattle.streamit_model.specs.Build.{numbered, queues, queues_in, values_in, plan_of}
+use Rattle.streamit_model.specs.Build.{numbered}
 
 both_true : (a b : Bool) → a ≡ true → b ≡ true → a && b ≡ true
 both_true a b h k = rw h k
@@ -47,10 +43,3 @@ numbered_name b bs k s g len lt =
   where
     le_true : (a b : ℕ) → a ≤ b → nat_le a b ≡ true
     le_true a b h = grind arith
-
-rows_all : (ns : List Name) → All (λ d. IsRows d.kind) (map values_in ns)
-rows_all [] = All-nil (λ d. IsRows d.kind)
-rows_all (n ∷ ns) = All-cons (λ d. IsRows d.kind) (values_in n) (map values_in ns) tt (rows_all ns)
-
-pub is_built : (s : Stream) → IsBuilt (plan_of s)
-is_built s = record { queues = rows_all (codes "out" ∷ codes "in" ∷ queues 1 (queues_in s)); tables = refl }
