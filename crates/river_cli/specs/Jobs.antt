@@ -11,7 +11,7 @@ use Rattle.river_cli.specs.declared.job.Options.{Options}
 
 -- no option is given
 abbrev pub no_options : Options
-no_options = record { header = false; counts = false }
+no_options = record { header = false; counts = false; script = None }
 
 -- a command with a program and nothing else
 abbrev pub plain : Command → Lang → List ℕ → Job
