@@ -64,16 +64,17 @@ module _ (file : List ℕ) (source : Source) (text : List ℕ) (held : Option He
       Stops-later (Fetch file 65536 large_script (λ t. past (with_plan source (rewritten source.plan t)) next)) (past (with_plan source (rewritten source.plan text)) next) held early late sooner s (here (λ t. past (with_plan source (rewritten source.plan t)) next))
       (past-refused (with_plan source (rewritten source.plan text)) s held late told next)
 
-  -- it cannot be fetched
-  pub fetch-stops : (rose : Type 0) (s : Stop) → ((next : List ℕ → Order) → Stops (Some (Fetch file 65536 large_script next)) held rose s) → (next : Source → Order) → Stops (Some (of_script (Some file) source next)) held rose s
-  unfolding of_script
-  fetch-stops rose s stops next = stops (λ t. past (with_plan source (rewritten source.plan t)) next)
-
   -- it was fetched, and applied or refused
   pub script-passes : (rose : Type 0) (result : Result PlanForm Stop) → ((next : List ℕ → Order) → Comes (Fetch file 65536 large_script next) held (next text)) → AnswersAs IsPlanOf (with_plan source (rewritten source.plan text)) result
       → PassesAs IsPlanOf (of_script (Some file) source) held rose result
   script-passes rose (Ok plan) here told = script-comes plan here told
   script-passes rose (Err s) here told = script-refused rose rose (λ r. r) s here told
+
+-- it cannot be fetched
+pub fetch-stops : (file : List ℕ) (source : Source) (held : Option Held) (rose : Type 0) (s : Stop) → ((next : List ℕ → Order) → Stops (Some (Fetch file 65536 large_script next)) held rose s)
+    → (next : Source → Order) → Stops (Some (of_script (Some file) source next)) held rose s
+unfolding of_script
+fetch-stops file source held rose s stops next = stops (λ t. past (with_plan source (rewritten source.plan t)) next)
 
 -- there is none
 pub no-script : (source : Source) (plan : PlanForm) (held : Option Held) → IsPlanOf source plan → (later : Source) × IsPlanOf later plan × ((next : Source → Order) → Comes (of_script None source next) held (next later))
