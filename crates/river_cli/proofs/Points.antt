@@ -1,17 +1,17 @@
 -- The points of a job, and the calls that do them.
-use Rattle.std.proofs.Common.{◌≡◌, ℕ, ℤ, List, ◌++◌, Bool, false, refl, sym, ap, ◌∙◌, subst}
+use Rattle.std.proofs.Common.{◌≡◌, ℕ, ℤ, List, ◌++◌, Bool, false, sym, ap, ◌∙◌, subst}
 use Rattle.std.specs.Prelude.{Option, Some, Result, Ok, Err, IfOk, pos, map}
 use Rattle.csv_streams.specs.Outcome.{outputs_text, firings_text, asked, printed_outcome}
 use Rattle.river_base.specs.declared.item.Item as item
 use Rattle.river_base.specs.declared.memory.NoMemory.{NoMemory}
 use Rattle.river_outside.specs.Held.{Held}
-use Rattle.river_order.specs.Order.{Order, Ends, Fetch, Done, Comes}
+use Rattle.river_order.specs.Order.{Order, Fetch, Comes}
 use Rattle.river_order.specs.Decides.{Decides, Stops}
 use Rattle.river_order.specs.Passes.{past, Refuses, StandsFor, Passes}
 use Rattle.river_order.specs.declared.stop.Stop.{Stop}
 use Rattle.river_order.proofs.Comes.{Comes-same}
 use Rattle.river_order.proofs.Passes.{past-refused, past-as, then-passes, passed-decides}
-use Rattle.river_plan.specs.Forms.{PlanForm, decl_names, labels}
+use Rattle.river_plan.specs.Forms.{PlanForm, labels}
 use Rattle.river_print.specs.Printed.{plan_text}
 use Rattle.brooklet_model.specs.Histories.{firings}
 use Rattle.brooklet_model.specs.Meaning.{Results, meaning}

@@ -6,23 +6,19 @@ use Rattle.river_order.specs.Order.{Order, Fetch, Comes}
 use Rattle.river_order.specs.Decides.{Stops}
 use Rattle.river_order.specs.Passes.{past, Refuses, StandsFor, AnswersAs, PassesAs}
 use Rattle.river_order.specs.declared.stop.Stop.{Stop}
-use Rattle.river_order.specs.declared.stop.Stop.TheVariants as stop
 use Rattle.river_order.proofs.Comes.{Comes-same, Comes-on}
 use Rattle.river_order.proofs.Passes.{past-refused}
 use Rattle.river_order.proofs.Turns.{Stops-later}
 use Rattle.river_plan.specs.Forms.{PlanForm, decl_names}
 use Rattle.river_plan.specs.Valid.{IsPlan}
 use Rattle.brooklet_model.specs.Typed.{AreInputs}
-use Rattle.river_script.specs.Meaning.{rewritten, Refused}
-use Rattle.river_script.specs.Words.{script_words}
-use Rattle.river_script.specs.declared.fault.ScriptFault.{ScriptFault}
-use Rattle.river_script.specs.declared.fault.ScriptFault.TheVariants as fault
+use Rattle.river_script.specs.Meaning.{rewritten}
 use Rattle.river_script.proofs.Fronts.{makes_what_it_has}
 use Rattle.river_script.proofs.Steps.{script_means}
 use Rattle.river_cli.specs.Inputs.{all_items}
 use Rattle.river_cli.specs.Points.{of_script, with_plan}
 use Rattle.river_cli.specs.Source.{Source, IsPlanOf}
-use Rattle.river_cli.specs.Text.{large_script, script_refused}
+use Rattle.river_cli.specs.Text.{large_script}
 
 -- the plan that a script makes means what the program means
 pub made-stands : (source : Source) (p made : PlanForm) (text : List ℕ) → IsPlan p → IsPlanOf source p → rewritten p text ≡ Ok made → StandsFor IsPlanOf (with_plan source (rewritten source.plan text)) made
@@ -35,13 +31,6 @@ made-stands source p made text v is e =
       outputs = ap decl_names k.1.outputs ∙ is.outputs;
       means = λ rows a. let b = subst (λ ds. AreInputs ds (all_items rows)) k.1.inputs a in k.2 (all_items rows) b ∙ is.means rows b;
     })
-
--- a script that makes none is refused
-pub fault-refuses : (source : Source) (p : PlanForm) (text t : List ℕ) (f : ScriptFault) → IsPlanOf source p → Refused (rewritten p text) f → (f ≡ fault.NoMemory → ⊥) → t ≡ script_refused (script_words f)
-    → Refuses (with_plan source (rewritten source.plan text)) (stop.Refused t)
-fault-refuses source p text t (fault.Text r) is told some says = ap (with_plan source) (ap (λ q. rewritten q text) (sym is.plan) ∙ told) ∙ ap (λ l. Err l) (sym says)
-fault-refuses source p text t (fault.Unfit step why) is told some says = ap (with_plan source) (ap (λ q. rewritten q text) (sym is.plan) ∙ told) ∙ ap (λ l. Err l) (sym says)
-fault-refuses source p text t fault.NoMemory is told some says = absurd (some refl)
 
 as_passed : {A B : Type 0} (stands : A → B → Type 0) (found : Result A (List ℕ)) (y : B) (held : Option Held) → StandsFor stands found y → (x : A) × stands x y × ((next : A → Order) → Comes (past found next) held (next x))
 as_passed stands (Ok x) y held told = (x, told, λ next. Comes-same (next x) held)

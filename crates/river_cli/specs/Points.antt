@@ -1,5 +1,5 @@
 -- The road from the words to the text: the points of a job, in order. Each point is told what comes after it.
-use Rattle.std.specs.Prelude.{ℕ, List, Bool, true, false, Option, Some, None, Result, Ok, Err, option_map, if◌then◌else◌}
+use Rattle.std.specs.Prelude.{ℕ, List, Bool, false, Option, Some, None, Result, Ok, Err, option_map, if◌then◌else◌}
 use Rattle.river_order.specs.Order.{Order, Ends, Fetch, Done}
 use Rattle.river_order.specs.Passes.{past}
 use Rattle.river_plan.specs.Forms.{PlanForm}

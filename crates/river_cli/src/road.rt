@@ -85,12 +85,7 @@ fn script<S: Shelf>(
 }
 
 // The script is fetched and applied.
-fn rewritten<S: Shelf>(
-    alloc: Global,
-    file: &[u8],
-    plan: &Plan,
-    shelf: &mut S,
-) -> Result<Plan, Stop>
+fn rewritten<S: Shelf>(alloc: Global, file: &[u8], plan: &Plan, shelf: &mut S) -> Result<Plan, Stop>
     ensures stays { S.held shelf.new ≡ S.held shelf.old }
     ensures later { S.faults shelf.old ≤ S.faults shelf.new }
     ensures passes { (source : Source) → IsPlanOf source plan.now
