@@ -1,9 +1,8 @@
 -- Queues by name and by place.
-use Rattle.std.proofs.Common.{◌≡◌, ℕ, suc, ◌+◌, ◌<◌, ◌≤◌, Bool, true, false, Option, Some, None, List, [], ◌∷◌, ◌++◌, length, take, drop, map, refl, sym, ap, ◌∙◌, arith, get_or, nat_eq, ⊎_elim, append_assoc}
+use Rattle.std.proofs.Common.{◌≡◌, ℕ, suc, ◌+◌, ◌<◌, ◌≤◌, true, false, Some, List, [], ◌∷◌, ◌++◌, length, take, drop, map, refl, sym, ap, ◌∙◌, arith, nat_eq, ⊎_elim, append_assoc}
 use Rattle.std.specs.Prelude.{if◌then◌else◌, slice_get, slice_index_or}
 use Rattle.std.proofs.lemmas.Bool.{cases_eq}
 use Rattle.std.proofs.lemmas.List.{append-nil, take_more, length-take-le, drop_more}
-use Rattle.std.proofs.lemmas.Option.{slice_get_within}
 use Rattle.river_base.specs.Name.{name_eq}
 use Rattle.river_base.specs.Places.{list_at, append_at, each_grew, only, none}
 use Rattle.river_base.proofs.PlaceLemmas.{each_grew_cong, each_grew-none, append_at-each_grew, only_same, only_other}
@@ -11,7 +10,7 @@ use Rattle.river_plan.specs.Forms.{Name}
 use Rattle.river_plan.specs.Names.{count, one_if}
 use Rattle.river_plan.specs.Places.{place, places}
 use Rattle.river_plan.proofs.NameLemmas.{cases_name, name_same}
-use Rattle.river_plan.proofs.PlaceLemmas.{place_at, place_below, place_apart}
+use Rattle.river_plan.proofs.PlaceLemmas.{place_at, place_apart}
 use Rattle.river_base.specs.declared.item.Item as item
 use Rattle.brooklet_model.specs.Histories.{History, joined, written}
 use Rattle.brooklet_model.proofs.Lists.{if_true, if_false, if_eq, if_ne}

@@ -28,7 +28,6 @@ use Rattle.brooklet_model.specs.Laws.{given_to}
 use Rattle.brooklet_model.specs.Shapes.{IsFormed}
 use Rattle.brooklet_model.specs.Typed.{AreInputs}
 use Rattle.brooklet_step.specs.Built.{IsBuilt, IsOnRows}
-use Rattle.brooklet_model.proofs.Lists.{funext}
 use Rattle.brooklet_model.proofs.Solutions.{written_out}
 use Rattle.brooklet_model.proofs.Traces.{some_is}
 use Rattle.brooklet_model.proofs.TypedPlan.{op_fits, inputs_typed}

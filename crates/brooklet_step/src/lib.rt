@@ -1,7 +1,6 @@
 //! Firings of kernels, and Brooklet's machine.
 #![tactic(auto)]
 
-mod counts;
 mod emit;
 mod ending;
 mod firing;

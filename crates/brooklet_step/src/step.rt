@@ -109,7 +109,12 @@ fn fire_op(
 }
 
 // Each port's items move to the end of its queue.
-fn send(alloc: Global, queues: &mut Lines, to: &[usize], outs: &mut ItemLists) -> Result<(), NoMemory>
+fn send(
+    alloc: Global,
+    queues: &mut Lines,
+    to: &[usize],
+    outs: &mut ItemLists,
+) -> Result<(), NoMemory>
     requires ports { length to.now ≤ length outs.old }
     requires places { (j : ℕ) → j < length to.now → slice_index_or to.now j 0 < length queues.old }
     ensures { OnOk result (queues.new ≡ each_grew queues.old (joined_at to.now (list_at outs.old))) }

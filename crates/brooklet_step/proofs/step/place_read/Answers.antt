@@ -1,4 +1,4 @@
-use Rattle.std.proofs.Common.{◌<◌, length, arith, ap, ◌∙◌, subst}
+use Rattle.std.proofs.Common.{◌<◌, length, arith, ap, subst}
 use Rattle.std.specs.Prelude.{slice_index_or}
 use Rattle.brooklet_step.proofs.ReadLemmas.{found_place, op_there, port_there, ops_many}
 use Rattle.brooklet_step.proofs.step.place_read.Goals as goal
