@@ -1,14 +1,12 @@
 -- The fault that is told of a file is its fault.
-use Rattle.std.proofs.Common.{◌≡◌, ◌⊎◌, inl, inr, ⊎_elim, ℕ, zero, suc, ◌+◌, ◌<◌, ◌≤◌, List, [], ◌∷◌, ◌++◌, length, take, drop, Bool, true, false, cond, refl, sym, ◌∙◌, ap, subst, arith, nat_lt, nat_le, ◌==◌}
-use Rattle.std.specs.Prelude.{ℤ, IsTrue, Option, None, Some, Result, Ok, Err}
-use Rattle.std.proofs.lemmas.Bool.{true≢false}
+use Rattle.std.proofs.Common.{◌≡◌, ◌⊎◌, inl, inr, ⊎_elim, ℕ, suc, ◌+◌, ◌<◌, List, [], ◌∷◌, ◌++◌, length, take, drop, Bool, true, false, cond, refl, sym, ◌∙◌, ap, subst, arith, nat_lt}
+use Rattle.std.specs.Prelude.{ℤ, Option, None, Some, Result, Ok, Err}
 use Rattle.std.proofs.lemmas.Bool.Decides.{nat_tests}
 use Rattle.csv_streams.specs.Number.{number_of}
 use Rattle.csv_streams.specs.Numbered.{before, numbered}
 use Rattle.csv_streams.specs.Records.{csv_records}
 use Rattle.csv_streams.specs.Rows.{value_or, value_in, has_width, row_in, headers, most_rows, rows_of}
 use Rattle.csv_streams.specs.Writing.{Writes}
-use Rattle.csv_streams.specs.Written.{AllWrite, WriteRows}
 use Rattle.csv_streams.specs.Faults.{HasWidth, IsFirstUnread, HasFault, rank, IsFirstFault, IsFaultOf, FaultsAre}
 use Rattle.csv_streams.specs.declared.fault.InFault.{InFault}
 use Rattle.csv_streams.specs.declared.fault.InFault.TheVariants as fault
