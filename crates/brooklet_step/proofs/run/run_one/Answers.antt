@@ -5,11 +5,13 @@ use Rattle.brooklet_step.proofs.run.run_one.Goals as goal
 pub returns-clause-outs : goal.returns-clause-outs
 returns-clause-outs c =
     IfOk-weaker c.into_outcome.result _ _
-    (λ o h. run_outs c.args.plan.now c.args.inputs c.in_ok-machine.machine c.run_all.new.machine c.run_all.ensures.valid c.in_ok-machine.ensures c.in_ok-run_all.ensures.drained o.outs h)
+    (λ o h. run_outs c.args.plan.now c.args.inputs c.in_ok-machine.machine c.run_all.new.machine c.run_all.ensures.valid c.in_ok-machine.ensures
+    c.in_ok-run_all.ensures.drained o.outs h)
     c.into_outcome.ensures.outs
 
 pub returns-clause-counts : goal.returns-clause-counts
 returns-clause-counts c =
     IfOk-weaker c.into_outcome.result _ _
-    (λ o h. run_counts c.args.plan.now c.args.inputs c.in_ok-machine.machine c.run_all.new.machine c.run_all.ensures.valid c.in_ok-machine.ensures c.in_ok-run_all.ensures.drained o.counts h)
+    (λ o h. run_counts c.args.plan.now c.args.inputs c.in_ok-machine.machine c.run_all.new.machine c.run_all.ensures.valid c.in_ok-machine.ensures
+    c.in_ok-run_all.ensures.drained o.counts h)
     c.into_outcome.ensures.counts

@@ -7,7 +7,8 @@ pub returns-then-port-places : goal.returns-then-port-places
 returns-then-port-places c =
     let e = c.reads_of-places.ensures in
     let m = ops_many c.raw.result.now c.args.parts.now.plan c.raw.ensures.raw in
-    found_place c.args.parts.now c.args.op c.args.port _ c.requires (omega (arith, m)) (subst (λ l. c.args.port < length l) e (omega arith)) (ap (λ l. slice_index_or l c.args.port 0) e)
+    found_place c.args.parts.now c.args.op c.args.port _ c.requires (omega (arith, m))
+    (subst (λ l. c.args.port < length l) e (omega arith)) (ap (λ l. slice_index_or l c.args.port 0) e)
 
 pub returns-else-port-places : goal.returns-else-port-places
 returns-else-port-places c = λ q r.
