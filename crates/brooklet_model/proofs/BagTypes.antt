@@ -124,6 +124,7 @@ in_window_wide n (Latest k) t bs h =
 pub content : (n : ℕ) (rows : List (List ℤ)) → HaveWidth n rows → HaveWidth n (in_order rows) × IsAscending (in_order rows)
 content n rows h = (all-in_order (IsWide n) rows h, in_order_ascends rows)
 
+-- what a window gives is a relation's content of its stream's width
 pub window_typed : (n : ℕ) (w : Window) (past : List item.Item) (x : item.Item) → All (HasType (stream n)) past → HasType (stream n) x → All (HasType (relation n)) (window_one w past x)
 window_typed n w past (Flat (Batched b)) h i =
     let bs = batches (past ++ Flat (Batched b) ∷ []) in
@@ -140,6 +141,7 @@ selected_wide n e rows h = all-filtered (IsWide n) (λ row. is_true (val e row [
 selected_up : (e : Term) (rows : List (List ℤ)) → IsAscending rows → IsAscending (selected e rows)
 selected_up e rows h = IsSortedBy-filter row_lt rows_ranked (λ row. is_true (val e row [])) rows h
 
+-- a selection gives rows of the width of what it is given, in order where they were
 pub select_typed : (t : FlatType) (e : Term) (x : item.Item) → is_bag t ≡ true → HasType (FlatOf t) x → All (HasType (FlatOf t)) (select_one e x)
 select_typed (Rows n) e x b i = absurd (cc b)
 select_typed (Stream n) e (Flat (Batched b)) g i = one_of (stream n) (Flat (Batched (record { at = b.at; rows = selected e b.rows }))) (selected_wide n e b.rows i)
@@ -153,6 +155,7 @@ images_wide : (es : List Term) (rows : List (List ℤ)) → HaveWidth (length es
 images_wide es [] = All-nil (IsWide (length es))
 images_wide es (r ∷ rs) = All-cons (IsWide (length es)) (map (λ t. val t r []) es) (map (λ row. map (λ t. val t row []) es) rs) (length-map es (λ t. val t r [])) (images_wide es rs)
 
+-- a projection gives a relation's content, of one value for each term
 pub project_typed : (n : ℕ) (es : List Term) (x : item.Item) → HasType (relation n) x → All (HasType (relation (length es))) (project_one es x)
 project_typed n es (Flat (Batched b)) i =
     one_of (relation (length es)) (Flat (Batched (record { at = b.at; rows = projected es b.rows }))) (content (length es) (map (λ row. map (λ t. val t row []) es) b.rows) (images_wide es b.rows))
@@ -174,6 +177,7 @@ streamed_wide n Istream old new a b = difference_wide n new old b
 streamed_wide n Dstream old new a b = difference_wide n old new a
 streamed_wide n Rstream old new a b = b
 
+-- a streamer gives rows of its relation's width
 pub streamer_typed : (n : ℕ) (k : Streamer) (past : List item.Item) (x : item.Item) → All (HasType (relation n)) past → HasType (relation n) x → All (HasType (stream n)) (streamer_one k past x)
 streamer_typed n k past (Flat (Batched b)) h i =
     one_of (stream n) (Flat (Batched (record { at = b.at; rows = streamed k (last_rows (batches past)) b.rows })))
@@ -229,10 +233,12 @@ drain_typed a b (suc n) s h = go (front_of_pair s) refl (drain_typed a b n (rest
   go None e r = (All-nil (HasType (relation (a + b))), h)
   go (Some o) e r = (All-append (HasType (relation (a + b))) o (drain front_of_pair rest_of_pair n (rest_of_pair s)).0 (front_typed a b s.left s.right o h.0 h.1 e) r.0, r.1)
 
+-- a product gives a relation's content of both widths together, and what waits stays of its types: an item at the left
 pub cross_typed_left : (a b : ℕ) (x : item.Item) (s : Pairing) → PairTyped a b s → HasType (relation a) x → All (HasType (relation (a + b))) (crosses 0 x s).0 × PairTyped a b (crosses 0 x s).1
 cross_typed_left a b x s h i =
     drain_typed a b (length (s.left ++ x ∷ []) + length s.right) (put_pair 0 x s) (All-append (HasType (relation a)) s.left (x ∷ []) h.0 (one_of (relation a) x i), h.1)
 
+-- and one at the right
 pub cross_typed_right : (a b p : ℕ) (x : item.Item) (s : Pairing) → PairTyped a b s → HasType (relation b) x → All (HasType (relation (a + b))) (crosses (suc p) x s).0 × PairTyped a b (crosses (suc p) x s).1
 cross_typed_right a b p x s h i =
     drain_typed a b (length s.left + length (s.right ++ x ∷ [])) (put_pair (suc p) x s) (h.0, All-append (HasType (relation b)) s.right (x ∷ []) h.1 (one_of (relation b) x i))

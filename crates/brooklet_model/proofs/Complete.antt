@@ -19,7 +19,8 @@ use Rattle.brooklet_model.specs.Histories.{History, lists_of, given, histories, 
 use Rattle.brooklet_model.specs.Laws.{given_to, RunsAgree}
 use Rattle.brooklet_model.specs.Machine.{Machine, at_key, fired, Run, IsComplete, first_of, times}
 use Rattle.brooklet_model.specs.Traced.{ran, Traced}
-use Rattle.brooklet_model.specs.Words.{Word, run, at_port, PortsBelow, SameBag, Alike}
+use Rattle.river_base.specs.Bags.{SameBag}
+use Rattle.brooklet_model.specs.Words.{Word, run, at_port, PortsBelow, Alike}
 use Rattle.brooklet_model.proofs.Free.{order_is_free, at_port-append, below-append}
 use Rattle.brooklet_model.proofs.Lists.{if_true, if_false, if_eq, if_ne, funext}
 use Rattle.brooklet_model.proofs.Ports.{counts, shaped, got_below}

@@ -11,7 +11,8 @@ use Rattle.brooklet_model.specs.Firings.{Kept, Fired, feed, splice, beside, fuse
 use Rattle.brooklet_model.specs.Fire.{fire, ins, outs, tabs, privates}
 use Rattle.brooklet_model.specs.Laws.{OrderIsFree}
 use Rattle.brooklet_model.specs.Shapes.{IsShaped, HasShape}
-use Rattle.brooklet_model.specs.Words.{Word, run, at_port, PortsBelow, SameBag, Alike, word_of, port_by_port, feed_all, IsInterleaving}
+use Rattle.river_base.specs.Bags.{SameBag}
+use Rattle.brooklet_model.specs.Words.{Word, run, at_port, PortsBelow, Alike, word_of, port_by_port, feed_all, IsInterleaving}
 use Rattle.brooklet_model.proofs.FusedRun.{fused_runs}
 use Rattle.brooklet_model.proofs.Joins.{join_swap, cross_swap}
 use Rattle.brooklet_model.proofs.Lists.{if_lt, if_ge}

@@ -5,7 +5,8 @@ use Rattle.std.proofs.lemmas.Bool.{cases_eq}
 use Rattle.std.proofs.lemmas.List.Sums.{sum_by-append}
 use Rattle.river_base.specs.declared.item.Item as item
 use Rattle.brooklet_model.specs.Firings.{Kept, Fired, and_then, Same}
-use Rattle.brooklet_model.specs.Words.{Word, run, at_port, PortsBelow, SameBag, Alike}
+use Rattle.river_base.specs.Bags.{SameBag}
+use Rattle.brooklet_model.specs.Words.{Word, run, at_port, PortsBelow, Alike}
 use Rattle.brooklet_model.proofs.Lists.{if_eq, if_ne}
 
 pub alike_refl : (r : Fired) → Alike r r

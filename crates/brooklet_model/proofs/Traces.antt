@@ -15,7 +15,8 @@ use Rattle.brooklet_model.specs.Firings.{Kept, Fired, and_then, Same}
 use Rattle.brooklet_model.specs.Histories.{History, lists_of, given, joined, tables_of, adds, lengths, Lists}
 use Rattle.brooklet_model.specs.Machine.{at_key}
 use Rattle.brooklet_model.specs.Traced.{numbered}
-use Rattle.brooklet_model.specs.Words.{Word, run, at_port, PortsBelow, SameBag}
+use Rattle.river_base.specs.Bags.{SameBag}
+use Rattle.brooklet_model.specs.Words.{Word, run, at_port, PortsBelow}
 use Rattle.brooklet_model.proofs.Lists.{if_true, if_false, if_eq, if_ne}
 use Rattle.brooklet_model.proofs.Ports.{got_below}
 use Rattle.brooklet_model.proofs.Solutions.{count_here, one_of}

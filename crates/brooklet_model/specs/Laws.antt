@@ -14,7 +14,8 @@ use Rattle.brooklet_model.specs.Histories.{History, inputs_of, hist, all_adds, l
 use Rattle.brooklet_model.specs.Machine.{Machine, Run, IsComplete, start, times}
 use Rattle.brooklet_model.specs.Shapes.{IsFormed, HasShape}
 use Rattle.brooklet_model.specs.Typed.{AreInputs}
-use Rattle.brooklet_model.specs.Words.{Word, run, feed_all, SameBag, Alike, IsInterleaving}
+use Rattle.river_base.specs.Bags.{SameBag}
+use Rattle.brooklet_model.specs.Words.{Word, run, feed_all, Alike, IsInterleaving}
 
 -- Fused kernels: over any firings, the fused kernel gives at its ports what its first part gives elsewhere and, in place of
 -- port `at`, what feeding its second part with all that came at that port gives. Its adds are those of the first part

@@ -1,6 +1,7 @@
 -- Firings of one kernel in any order of its ports.
 use Rattle.std.specs.Prelude.{◌≡◌, ℕ, ℤ, zero, suc, ◌<◌, Bool, nat_eq, if◌then◌else◌, List, [], ◌∷◌, ◌++◌, count_by}
 use Rattle.river_base.specs.declared.item.Item as item
+use Rattle.river_base.specs.Bags.{SameBag}
 use Rattle.river_base.specs.Places.{none}
 use Rattle.river_kernels.specs.Kern.{Kern}
 use Rattle.brooklet_model.specs.Firings.{Kept, Fired, and_then}
@@ -37,10 +38,6 @@ port_by_port (suc n) p h = word_of p (h p) ++ port_by_port n (suc p) h
 -- the kernel is fed with the whole list of port 0, then with that of port 1, and so on
 abbrev pub feed_all : Kern → (ℕ → List item.Item) → List Kept → Fired
 feed_all k h ss = run (fire k) (port_by_port (ins k) 0 h) ss
-
--- the lists are one bag: each test passes as many rows of both
-abbrev pub SameBag : List (List ℤ) → List (List ℤ) → Type 0
-SameBag xs ys = (test : List ℤ → Bool) → count_by test xs ≡ count_by test ys
 
 -- the same items and states, and the same bags of rows
 pub record Alike (r s : Fired) : Type 0 where

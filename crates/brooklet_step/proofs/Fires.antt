@@ -57,10 +57,12 @@ grown_list n ls ls' f p b t h = ap (λ l. list_at l p) (t ∙ ap (λ l. each_gre
 
 -- ANSWERS WITHOUT A VALUE
 
+-- what follows from what an answer says, it says too
 pub on_ok : (P Q : Type 0) (r : Result Unit NoMemory) → (P → Q) → OnOk r P → OnOk r Q
 on_ok P Q (Ok x) f h = f h
 on_ok P Q (Err e) f h = h
 
+-- the same of two things that it says
 pub on_both : (P Q R : Type 0) (r : Result Unit NoMemory) → (P → Q → R) → OnOk r P → OnOk r Q → OnOk r R
 on_both P Q R (Ok x) f h g = f h g
 on_both P Q R (Err e) f h g = h

@@ -13,6 +13,7 @@ use Rattle.brooklet_step.specs.declared.emit.Emit.{Emit}
 use Rattle.brooklet_step.specs.declared.state.State.{State}
 use Rattle.brooklet_step.specs.Took.{StayApart}
 
+-- two kernels' lists, put together, are a function of the lists at their ports
 pub splice_cong : {A : Type 0} (at n m : ℕ) (f f' g g' : ℕ → A) (p : ℕ) → at < m → p + 1 < m + n → ((q : ℕ) → q < m → f q ≡ f' q) → ((q : ℕ) → q < n → g q ≡ g' q) → splice at n f g p ≡ splice at n f' g' p
 splice_cong at n m f f' g g' p hat hp hf hg = ⊎_elim
     (λ lt. if_lt p at (f p) _ lt ∙ hf p (omega arith) ∙ sym (if_lt p at (f' p) _ lt))
@@ -125,9 +126,11 @@ pub record Leaves {A : Type 0} (join : (ℕ → List A) → (ℕ → List A) →
   pub many_more : length now_second ≡ length second
   pub rest : (q : ℕ) → done ≤ q → join (list_at now) (list_at now_second) q ≡ join (list_at first) (list_at second) q
 
+-- nothing is put together yet
 pub leaves_all : {A : Type 0} (join : (ℕ → List A) → (ℕ → List A) → ℕ → List A) (first second : List (List A)) → Leaves join 0 first first second second
 leaves_all join first second = record { many = refl; many_more = refl; rest = λ q le. refl }
 
+-- one list more is
 pub leaves_next : {A : Type 0} (join : (ℕ → List A) → (ℕ → List A) → ℕ → List A) (done : ℕ) (first now next second now_second next_second : List (List A)) → Leaves join done first now second now_second → StayApart join done now next now_second next_second → Leaves join (done + 1) first next second next_second
 leaves_next join done first now next second now_second next_second l s = record {
   many = s.many ∙ l.many;
@@ -135,6 +138,7 @@ leaves_next join done first now next second now_second next_second l s = record 
   rest = λ q le. s.others q (λ e. omega (arith, e, le)) ∙ l.rest q (omega (arith, le));
 }
 
+-- and of those for their tables
 pub beside_cong : {A : Type 0} (n m : ℕ) (f f' g g' : ℕ → A) (p : ℕ) → p < m + n → ((q : ℕ) → q < m → f q ≡ f' q) → ((q : ℕ) → q < n → g q ≡ g' q) → beside m f g p ≡ beside m f' g' p
 beside_cong n m f f' g g' p hp hf hg = ⊎_elim
     (λ lt. if_lt p m (f p) _ lt ∙ hf p lt ∙ sym (if_lt p m (f' p) _ lt))

@@ -40,6 +40,7 @@ pub record SoFar (k : Kern) (all left : List item.Item) (e e' : Emit) (st st' : 
   pub fires : FiresEach k done e e' st st'
   pub takes : CanTakeAll k left st' e'
 
+-- at first all are left
 pub so_far_start : (k : Kern) (all : List item.Item) (e : Emit) (st : List State) → CanTakeAll k all st e → SoFar k all all e e st st
 so_far_start k all e st t = record { done = []; is = refl; fires = each_start k e st; takes = t }
 
@@ -48,6 +49,7 @@ pub so_far_takes : (k : Kern) (all left rest : List item.Item) (x : item.Item) (
 so_far_takes k all left rest x e e' st st' is s =
     record { reads = s.takes.reads; fitting = s.takes.fitting; item = All-head (IsHeldOf s.takes.reads 0) x rest (subst (All (IsHeldOf s.takes.reads 0)) is s.takes.items); room = s.takes.room }
 
+-- after a firing on the front one the others are left
 pub so_far_step : (k : Kern) (all left rest : List item.Item) (x : item.Item) (e e' e'' : Emit) (st st1 st2 : List State) → left ≡ x ∷ rest → SoFar k all left e e' st st1 → FiresAt k 0 x e' e'' st1 st2 → SoFar k all rest e e'' st st2
 unfolding so_far_takes
 so_far_step k all left rest x e e' e'' st st1 st2 is s f =
@@ -65,6 +67,7 @@ so_far_step k all left rest x e e' e'' st st1 st2 is s f =
       };
     }
 
+-- where none is left, all were fired on
 pub so_far_end : (k : Kern) (all left : List item.Item) (e e' : Emit) (st st' : List State) → left ≡ [] → SoFar k all left e e' st st' → FiresEach k all e e' st st'
 so_far_end k all left e e' st st' is s = subst (λ (l : List item.Item). FiresEach k l e e' st st') (sym (s.is ∙ ap (λ l. s.done ++ l) is ∙ append-nil s.done)) s.fires
 

@@ -9,6 +9,7 @@ pub record Untouched {A : Type 0} (done : ℕ) (first now : List (List A)) : Typ
   pub many : length now ≡ length first
   pub rest : (q : ℕ) → done ≤ q → list_at now q ≡ list_at first q
 
+-- at first all are
 pub untouched : {A : Type 0} (first : List (List A)) → Untouched 0 first first
 untouched first = record { many = refl; rest = λ q le. refl }
 

@@ -3,8 +3,7 @@ ghost use Rattle.std.specs.Prelude.{◌≡◌, pos, map, take, length, IfOk, ◌
 ghost use Rattle.river_plan.specs.Forms.{decl_names};
 ghost use Rattle.brooklet_step.specs.Works.{GoesOn, AreCounts, queue_of};
 
-use crate::machine::{Lines, Parts};
-use crate::places::Sizes;
+use crate::machine::{Lines, Parts, Sizes};
 use crate::run::Outcome;
 use kern_rows::Line;
 use river_base::{NoMemory, Numbers};

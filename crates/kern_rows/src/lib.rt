@@ -18,6 +18,3 @@ pub use kernel::{CodeKernel, Collect, Deal, Filter, Unpack};
 pub use line::Line;
 pub use turn::DealState;
 pub use unpack::UnpackState;
-
-#[cfg(test)]
-mod tests;

@@ -7,7 +7,7 @@ use Rattle.river_plan.specs.declared.plan.TableDecl.{TableDecl}
 use Rattle.river_plan.specs.Forms.{Name, PlanForm, decl_names}
 use Rattle.brooklet_model.specs.Histories.{hist, all_adds}
 use Rattle.brooklet_model.specs.Meaning.{meaning}
-use Rattle.brooklet_model.specs.Words.{SameBag}
+use Rattle.river_base.specs.Bags.{SameBag}
 use Rattle.plan_edits.specs.Meaning.{SameOuter, SameMeaning}
 use Rattle.plan_edits.proofs.Lookups.{map_agree}
 

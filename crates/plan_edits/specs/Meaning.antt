@@ -5,7 +5,7 @@ use Rattle.river_base.specs.Held.{HasType}
 use Rattle.river_plan.specs.Forms.{Name, PlanForm, decl_names, all_decls}
 use Rattle.river_plan.specs.Kinds.{kind_of}
 use Rattle.river_plan.specs.Names.{count}
-use Rattle.brooklet_model.specs.Words.{SameBag}
+use Rattle.river_base.specs.Bags.{SameBag}
 use Rattle.brooklet_model.specs.Histories.{hist, all_adds}
 
 -- the plans have the same outputs, inputs and tables

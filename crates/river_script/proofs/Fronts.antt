@@ -1,5 +1,7 @@
 -- What a script makes of a plan is what it has in the grammar, and what the code answers.
-use Rattle.std.proofs.Common.{◌≡◌, ℕ, ◌<◌, ◌^◌, List, [], length, Result, Ok, Err, refl, sym, ap, ◌∙◌, subst, arith}
+use Rattle.std.proofs.Common.{◌≡◌, ℕ, ◌<◌, ◌^◌, List, [], length, Result, Ok, Err, refl, ap, ◌∙◌, subst, arith}
+use Rattle.std.specs.Prelude.{IfOk}
+use Rattle.std.proofs.lemmas.List.{length-map}
 use Rattle.work_code.specs.Cut.{units_of}
 use Rattle.work_code.specs.Lexis.{tokens_in}
 use Rattle.work_code.specs.Tok.{Mark, toks}
@@ -16,6 +18,8 @@ use Rattle.river_script.specs.Laws.{Has, MakesWhatItHas}
 use Rattle.river_script.specs.Meaning.{from_lexer, ended, then_applied, then_read, rewritten, Refused, IsEnded, IsUnread, at_unit}
 use Rattle.river_script.specs.Reading.{read_steps}
 use Rattle.river_script.specs.Script.{StepForm, script_of}
+use Rattle.river_script.specs.Steps.{step_form, step_forms, GivesSteps}
+use Rattle.river_script.specs.declared.step.Step.{Step}
 use Rattle.river_script.specs.declared.fault.ScriptFault.{ScriptFault}
 use Rattle.river_script.specs.declared.fault.ScriptFault.TheVariants.{Text, Unfit, NoMemory}
 use Rattle.river_script.proofs.Scripts.{exact-in, units-read, script-read, script-bad, script-reads, script-few}
@@ -91,6 +95,11 @@ few-steps text marks ss short lexed read =
     let c = tokens-few text marks lexed in
     omega (arith, a, b, c, short)
 
+-- the same for what was read
+pub few-read : (text : List ℕ) (marks : List Mark) (r : Result (List Step) ScriptFault) → length text < 2 ^ 32 → tokens_in text ≡ Ok marks → GivesSteps r (read_steps 1 [] (units_of (toks marks))) → IfOk r (λ steps. length steps < 2 ^ 32)
+few-read text marks (Ok steps) short lexed g = let a = few-steps text marks (step_forms steps) short lexed g in let b = length-map steps step_form in omega (arith, a, b)
+few-read text marks (Err f) short lexed g = tt
+
 -- the last plan of the steps
 pub ended-made : (p q : PlanForm) (text : List ℕ) (ss : List StepForm) → IsScript text ss → script_of p ss ≡ Ok q → rewritten p text ≡ Ok q
 ended-made p q text ss t e = stands-makes p text ss t ∙ ap ended e
@@ -109,4 +118,4 @@ unread-refused p text NoMemory h = tt
 
 pub ruleset fronts = (ended-made, ended-refused, unread-refused)
 
-pub ruleset reads = (script-read, lexed-unread, unit-unread, few-steps)
+pub ruleset reads = (script-read, lexed-unread, unit-unread, few-read)

@@ -1,5 +1,5 @@
 -- Scripts on small plans, computed: what they make, and which step is refused by which condition.
-use Rattle.std.proofs.Common.{◌≡◌, ℕ, ℤ, pos, List, [], ◌∷◌, ◌++◌, refl}
+use Rattle.std.proofs.Common.{◌≡◌, pos, List, [], ◌∷◌, refl}
 use Rattle.std.specs.Prelude.{Ok, Err, codes}
 use Rattle.river_base.specs.declared.kind.QueueType.{QueueType}
 use Rattle.work_code.specs.declared.expr.BinOp.TheVariants as op
@@ -15,7 +15,7 @@ use Rattle.river_plan.specs.Forms.{Name, OpForm, PlanForm}
 use Rattle.river_plan.specs.declared.plan.Decl.{Decl}
 use Rattle.river_plan.specs.declared.plan.TableDecl.{TableDecl}
 use Rattle.plan_edits.specs.declared.unfit.Unfit.TheVariants.{U1, U2, H3, N1, N4}
-use Rattle.river_script.specs.Script.{StepForm, fusing, hoisting, splitting, script_of}
+use Rattle.river_script.specs.Script.{fusing, hoisting, splitting, script_of}
 
 abbrev decl : Name → QueueType → Decl
 decl name kind = record { name = name; kind = kind }
@@ -142,7 +142,7 @@ summed = record {
   tables = [];
   vars = codes "Sum@1" ∷ [];
   ops = made (codes "Sum@1") (filter (record { peek = 3; pop = 1; push = 1; body = record { inputs = 3; slots = 0; steps = Then (Push 0 (Bin op.Add (Bin op.Add (Input 0) (Input 1)) (Input 2) ∷ [])) Done }; starts = [] }))
-  (codes "in" ∷ []) (codes "out" ∷ []) (codes "Sum@1" ∷ []) ∷ [];
+      (codes "in" ∷ []) (codes "out" ∷ []) (codes "Sum@1" ∷ []) ∷ [];
 }
 
 peeks_further : script_of summed (splitting (codes "Sum@1") 2 ∷ []) ≡ Err (1, N4)

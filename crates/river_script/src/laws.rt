@@ -4,7 +4,6 @@ ghost use Rattle.river_script.specs.Laws.{MakesWhatItHas};
 ghost use Rattle.river_script.specs.Script.{ScriptKeeps, ScriptMeans};
 
 /// A text stands for one list of steps at most.
-#[tactic(auto, using(crate::proofs::Scripts::one_script))]
 pub fn one_script()
     ensures { OneScript }
 {}

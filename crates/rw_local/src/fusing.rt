@@ -8,8 +8,8 @@ ghost use Rattle.plan_edits.specs.Answered.{IsAnswered};
 
 use crate::names::share;
 use crate::ops::{fused_ops, is_large, reader, writer};
-use river_base::{Duplicate, Name, NoMemory};
 use plan_edits::{Unfit, plan_of};
+use river_base::{Duplicate, Name, NoMemory};
 use river_plan::{Decl, Decls, Op, Plan, RawPlan};
 use std::alloc::Global;
 

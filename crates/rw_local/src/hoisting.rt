@@ -13,10 +13,10 @@ ghost use Rattle.plan_edits.specs.Answered.{IsAnswered};
 
 use crate::fusing::{add_decls, decl_place};
 use crate::kinds::first_width;
-use plan_edits::{Unfit, kind_of, plan_of};
 use crate::names::{contains, spliced};
 use crate::ops::writer;
 use crate::past::passes;
+use plan_edits::{Unfit, kind_of, plan_of};
 use river_base::{Duplicate, Name, NoMemory};
 use river_plan::{Decl, Decls, Kernel, Names, Op, Ops, Plan, QueueType, RawPlan};
 use std::alloc::Global;

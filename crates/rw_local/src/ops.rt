@@ -66,12 +66,7 @@ pub(crate) fn whole(alloc: Global, writer: &Op, reader: &Op, queue: Name) -> Res
 }
 
 // The second kernel behind this output of the first.
-fn fused_kernel(
-    alloc: Global,
-    first: &Kernel,
-    second: &Kernel,
-    at: u32,
-) -> Result<Kernel, NoMemory>
+fn fused_kernel(alloc: Global, first: &Kernel, second: &Kernel, at: u32) -> Result<Kernel, NoMemory>
     ensures { IfOk result (λ kernel. kern_of kernel ≡ fused (kern_of first.now) (kern_of second.now) at) }
 {
     Ok(Kernel::Fused {

@@ -6,8 +6,8 @@ ghost use Rattle.rw_local.specs.Hoist.{passes, past_window, refielded, of_projec
 ghost use Rattle.rw_local.specs.HoistCode.{IsPassing};
 
 use crate::exprs::{Fields, refielded};
-use plan_edits::Unfit;
 use kern_bags::Window;
+use plan_edits::Unfit;
 use river_plan::Kernel;
 use std::alloc::Global;
 use work_code::{Expr, Exprs};

@@ -93,40 +93,20 @@ item_term e ts h =
 
 -- ---- THE NAME
 
-letter_starts : (c : ℕ) → is_letter c ≡ true → base.starts_name c ≡ true
-unfolding is_letter
-letter_starts c h = h
-
-goes : (a u d t : Bool) → ((a || u) || d) || t ≡ true → a || (d || (u || t)) ≡ true
-goes true u d t h = refl
-goes false true true t h = refl
-goes false true false t h = refl
-goes false false true t h = refl
-goes false false false true h = refl
-goes false false false false h = h
-
-word_goes_on : (c : ℕ) → is_word c ≡ true → base.goes_on c ≡ true
-unfolding is_word is_letter is_digit
-word_goes_on c h = goes (base.is_letter c) (c == 95) (base.is_digit c) (c == 64) h
-
 and_parts : (a b : Bool) → a && b ≡ true → (a ≡ true) × (b ≡ true)
 and_parts true b h = (refl, h)
 and_parts false b h = cc
 
-all_go_on : (cs : List ℕ) → list_all is_word cs ≡ true → list_all base.goes_on cs ≡ true
-all_go_on [] h = refl
-all_go_on (c ∷ cs) h = let p = and_parts (is_word c) (list_all is_word cs) h in both_sound (base.goes_on c) (list_all base.goes_on cs) (word_goes_on c p.0) (all_go_on cs p.1)
-
 label_named : (text : List ℕ) → IsWord text → length text ≤ 40 → base.is_name (label_of text) ≡ true
-unfolding first_is
+unfolding first_is is_word is_letter is_digit
 label_named [] w short = cc
 label_named (c ∷ cs) w short =
     let p = and_parts (is_word c) (list_all is_word cs) w.1 in
-    let all : list_all base.goes_on (cs ++ codes "@1") ≡ true = list_all-append base.goes_on cs (codes "@1") ∙ both_sound (list_all base.goes_on cs) true (all_go_on cs p.1) refl in
+    let all : list_all is_word (cs ++ codes "@1") ≡ true = list_all-append is_word cs (codes "@1") ∙ both_sound (list_all is_word cs) true p.1 refl in
     let len : length (cs ++ codes "@1") ≤ 63 = omega (arith, length-append cs (codes "@1")) in
     let few : nat_le (length (cs ++ codes "@1")) 63 ≡ true = grind arith in
-    both_sound (base.starts_name c) (list_all base.goes_on (cs ++ codes "@1") && nat_le (length (cs ++ codes "@1")) 63)
-    (letter_starts c w.0) (both_sound (list_all base.goes_on (cs ++ codes "@1")) (nat_le (length (cs ++ codes "@1")) 63) all few)
+    both_sound (is_letter c) (list_all is_word (cs ++ codes "@1") && nat_le (length (cs ++ codes "@1")) 63)
+    w.0 (both_sound (list_all is_word (cs ++ codes "@1")) (nat_le (length (cs ++ codes "@1")) 63) all few)
 
 plain_short : (text : List ℕ) → is_plain StreamIt text ≡ true → length text ≤ 40
 unfolding is_plain

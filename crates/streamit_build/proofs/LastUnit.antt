@@ -1,0 +1,107 @@
+-- The last unit of a program, whose stream is planned.
+use Rattle.std.proofs.Common.{◌≡◌, ℕ, suc, ◌-◌, ◌<◌, ◌≤◌, Bool, true, false, List, [], ◌∷◌, length, map, Result, Ok, Err, refl, sym, ap, ◌∙◌, arith, nat_le}
+use Rattle.std.specs.Prelude.{slice_index_or}
+use Rattle.river_plan.specs.Forms.{Name}
+use Rattle.river_plan.specs.declared.plan.RawPlan.{RawPlan}
+use Rattle.streamit_model.specs.Elaborate as spec
+use Rattle.streamit_model.specs.Stream.{Stream}
+use Rattle.streamit_model.specs.Build.{ops_in}
+use Rattle.streamit_model.specs.Program.{Declared, Program}
+use Rattle.streamit_model.specs.Judged.{Refusal, Streamed, on_fine, in_unit, unit_of, all_streams, few_operators, judged}
+use Rattle.streamit_unroll.specs.declared.fault.Fault as fault
+use Rattle.streamit_unroll.specs.declared.fault.Fault.TheVariants as faults
+use Rattle.streamit_build.specs.declared.judge.Refusal as code
+use Rattle.streamit_build.specs.declared.program.Declaration.{Declaration}
+use Rattle.streamit_build.specs.Program.{declared_of, program_of}
+use Rattle.streamit_build.specs.Told.{refused, Told, few_in, PlansLast, PlansBy}
+
+abbrev pub took : {A : Type 0} → A → Result A Refusal
+took x = Ok x
+
+took_is : {A : Type 0} (x y : A) → took x ≡ took y → x ≡ y
+took_is x y h = cc
+
+unit_parts : {A B : Type 0} (k : ℕ) (r : Result A spec.Fault) (f : A → Result B Refusal) (y : B) → in_unit k r f ≡ took y → (x : A) × (r ≡ Ok x) × (f x ≡ took y)
+unit_parts k (Ok x) f y h = (x, refl, h)
+unit_parts k (Err e) f y h = absurd (cc h)
+
+-- a fault of a program is one of another
+told_on : {A B : Type 0} (k : ℕ) (f : fault.Fault) (r : Result A Refusal) (r' : Result B Refusal) → ((g : spec.Fault) → r ≡ refused k g → r' ≡ refused k g) → Told k f r → Told k f r'
+told_on k faults.UnknownName r r' h e = h spec.UnknownName e
+told_on k faults.NameTwice r r' h e = h spec.NameTwice e
+told_on k (faults.Rates d c) r r' h e = h (spec.Rates d c) e
+told_on k (faults.PeekRange i p) r r' h e = h (spec.PeekRange i p) e
+told_on k faults.NotConstant r r' h e = h spec.NotConstant e
+told_on k faults.BranchRates r r' h e = h spec.BranchRates e
+told_on k faults.Limit r r' h e = h spec.Limit e
+told_on k faults.Weights r r' h e = h spec.Weights e
+told_on k faults.NoMemory r r' h e = tt
+
+abbrev last_unit : Declared → Program → Declared
+last_unit u [] = u
+last_unit u (v ∷ us) = last_unit v us
+
+-- the newest stream is that of the last unit
+record Newest (u : Declared) (us : Program) (known : Streamed) : Type 0 where
+  stream : Stream
+  others : Streamed
+  is : known ≡ ((last_unit u us).name, stream) ∷ others
+
+newest : (u : Declared) (us : Program) (k : ℕ) (start known : Streamed) → all_streams k start (u ∷ us) ≡ took known → Newest u us known
+newest u [] k start known h =
+    let p = unit_parts k (unit_of start u) (λ s. all_streams (suc k) ((u.name, s) ∷ start) []) known h in
+    record { stream = p.0; others = start; is = sym (took_is ((u.name, p.0) ∷ start) known p.2) }
+newest u (v ∷ us) k start known h =
+    let p = unit_parts k (unit_of start u) (λ s. all_streams (suc k) ((u.name, s) ∷ start) (v ∷ us)) known h in
+    let n = newest v us (suc k) ((u.name, p.0) ∷ start) known p.2 in
+    record { stream = n.stream; others = n.others; is = n.is }
+
+-- it stands at the last place
+last_at : {D : Type 0} (f : D → Declared) (d : D) (ds : List D) (x : D) → f (slice_index_or (d ∷ ds) (length ds) x) ≡ last_unit (f d) (map f ds)
+last_at f d [] x = refl
+last_at f d (e ∷ ds) x = last_at f e ds x
+
+-- the stream of the last unit is the newest
+pub last_known : (units : List Declaration) (d : Declaration) (known : Streamed) → 0 < length units → all_streams 1 [] (program_of units) ≡ took known
+    → (s : Stream) × (others : Streamed) × (known ≡ ((slice_index_or units (length units - 1) d).name, s) ∷ others)
+last_known [] d known lt h = absurd (omega (arith, lt))
+last_known (u ∷ us) d known lt h =
+    let n = newest (declared_of u) (program_of us) 1 [] known h in
+    let e : length (u ∷ us) - 1 ≡ length us = omega arith in (
+      n.stream,
+      n.others,
+      n.is ∙ ap (λ (x : Declared). (x.name, n.stream) ∷ n.others) (sym (last_at declared_of u us d)) ∙ ap (λ i. ((slice_index_or (u ∷ us) i d).name, n.stream) ∷ n.others) (sym e),
+    )
+
+-- THE LIMIT OF ITS PLAN
+
+judged_ok : (p : Program) (name : Name) (s : Stream) (others : Streamed) → all_streams 1 [] p ≡ took ((name, s) ∷ others) → ops_in s ≤ 256 → judged p ≡ took ((name, s) ∷ others)
+judged_ok p name s others h le =
+    ap (λ r. on_fine r (λ known. in_unit (length p) (few_operators known) (λ u. took known))) h
+    ∙ ap (λ b. in_unit (length p) (spec.demand b spec.Limit) (λ u. took ((name, s) ∷ others))) (le_true (ops_in s) 256 le)
+  where
+    le_true : (a b : ℕ) → a ≤ b → nat_le a b ≡ true
+    le_true a b h = grind arith
+
+abbrev stopped : Refusal → Result (Unit {0}) Refusal
+stopped a = Err a
+
+err_is : (a b : Refusal) → stopped a ≡ stopped b → a ≡ b
+err_is a b h = cc
+
+few_err : {A : Type 0} (k j : ℕ) (b : Bool) (x : A) (g : spec.Fault) → in_unit k (spec.demand b spec.Limit) (λ u. took u) ≡ refused j g → in_unit k (spec.demand b spec.Limit) (λ u. took x) ≡ refused j g
+few_err k j true x g h = absurd (cc h)
+few_err k j false x g h = ap Err (err_is (record { unit = k; fault = spec.Limit }) (record { unit = j; fault = g }) h)
+
+judged_many : (p : Program) (k j : ℕ) (f : fault.Fault) (name : Name) (s : Stream) (others : Streamed) → all_streams 1 [] p ≡ took ((name, s) ∷ others) → k ≡ length p → Told j f (few_in k s) → Told j f (judged p)
+judged_many p k j f name s others h e t =
+    told_on j f (few_in k s) (judged p)
+    (λ g d. ap (λ r. on_fine r (λ known. in_unit (length p) (few_operators known) (λ u. took known))) h
+    ∙ ap (λ n. in_unit n (spec.demand (nat_le (ops_in s) 256) spec.Limit) (λ u. took ((name, s) ∷ others))) (sym e)
+    ∙ few_err k j (nat_le (ops_in s) 256) ((name, s) ∷ others) g d)
+    t
+
+-- the plan of the newest stream is the program's
+pub planned : (result : Result RawPlan code.Refusal) (p : Program) (k : ℕ) (name : Name) (s : Stream) (others : Streamed) → all_streams 1 [] p ≡ took ((name, s) ∷ others) → k ≡ length p → PlansLast result k s → PlansBy result (judged p)
+planned (Ok raw) p k name s others h e t = (name, s, others, judged_ok p name s others h t.0, t.1)
+planned (Err r) p k name s others h e t = judged_many p k r.unit r.fault name s others h e t

@@ -1,0 +1,13 @@
+use Rattle.std.proofs.Common.{◌+◌, drop}
+use Rattle.streamit_model.specs.Judged.{Streamed, all_streams}
+use Rattle.streamit_build.specs.Program.{program_of}
+use Rattle.streamit_build.specs.Knowing.{Knows}
+use Rattle.streamit_build.specs.Told.{AreReadable}
+use Rattle.streamit_build.proofs.AllUnits.{Judging}
+use Rattle.streamit_build.proofs.streams.Known.units.Given as goal
+
+abbrev pub invariant-loop-i : goal.invariant-loop-i
+invariant-loop-i l = record {
+  readable : AreReadable (program_of (drop l.i l.units));
+  judged : (start : Streamed) → Knows l.initial.self start → Judging (all_streams 1 start (program_of l.units)) (l.i + 1) (program_of (drop l.i l.units)) l.self;
+}

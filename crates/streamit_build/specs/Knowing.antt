@@ -1,0 +1,62 @@
+-- The streams that are known, by their names.
+use Rattle.std.specs.Prelude.{◌≡◌, ◌<◌, ℕ, ◌∷◌, Bool, min, List, length, Option, Some, None, Result, Ok, Err, if◌then◌else◌}
+use Rattle.std.specs.List.{AllByRecursion}
+use Rattle.indexmap.specs.IndexMap.{get}
+use Rattle.river_base.specs.Name.{name_eq}
+use Rattle.river_plan.specs.Forms.{Name}
+use Rattle.streamit_model.specs.Stream.{Stream, Streams, nesting, deepest}
+use Rattle.streamit_model.specs.Build.{ops_in, ops_of}
+use Rattle.streamit_model.specs.Elaborate as spec
+use Rattle.streamit_model.specs.Program.{look}
+use Rattle.streamit_model.specs.Judged.{Streamed, any, branches}
+use Rattle.streamit_unroll.specs.declared.fault.Fault.{Fault}
+use Rattle.streamit_unroll.specs.View.{Tells}
+use Rattle.streamit_build.specs.declared.streams.Entry.{Entry}
+use Rattle.streamit_build.specs.declared.streams.Children.{Children}
+use Rattle.streamit_build.specs.declared.streams.Known as code
+use Rattle.streamit_build.specs.Units.{UnitForm, units_of, AreLower, AreShort, IsTree, AreTrees}
+
+-- an entry says where the stream stands, how many operators it has up to 257, and how deep it is nested
+pub record IsEntry (us : List UnitForm) (k : Entry) (s : Stream) : Type 0 where
+  pub there : k.number < length us
+  pub tree : IsTree us k.number s
+  pub ops : k.ops ≡ min (ops_in s) 257
+  pub nesting : k.nesting ≡ nesting s
+
+-- a name has an entry exactly where it is known
+abbrev pub IsFound : List UnitForm → Option Entry → Option Stream → Type 0
+IsFound us None None = Unit {0}
+IsFound us None (Some s) = ⊥
+IsFound us (Some k) None = ⊥
+IsFound us (Some k) (Some s) = IsEntry us k s
+
+pub record Knows (ss : code.Known) (known : Streamed) : Type 0 where
+  pub entries : (n : Name) → IsFound (units_of ss.declared.items) (get name_eq ss.entries n) (look known n)
+  pub lower : AreLower (units_of ss.declared.items)
+  pub short : AreShort (units_of ss.declared.items)
+
+-- how many streams may be added: 64 branches, and any number in a line
+abbrev pub may : Bool → ℕ → Bool
+may b = if b then branches else any
+
+-- the stream that is added
+abbrev pub AddsOne : List UnitForm → Result Entry Fault → Result Stream spec.Fault → Type 0
+AddsOne us (Ok k) r = (s : Stream) × (r ≡ Ok s) × IsEntry us k s
+AddsOne us (Err f) r = Tells f r
+
+pub record AreChildren (us : List UnitForm) (c : Children) (ss : Streams) : Type 0 where
+  pub trees : AreTrees us c.front.items c.last ss
+  pub front : AllByRecursion (λ j. j < length us) c.front.items
+  pub last : c.last < length us
+  pub ops : c.ops ≡ min (ops_of ss) 257
+  pub deepest : c.deepest ≡ deepest ss
+
+-- the streams that are added
+abbrev pub AddsAll : List UnitForm → Result Children Fault → Result Streams spec.Fault → Type 0
+AddsAll us (Ok c) r = (ss : Streams) × (r ≡ Ok ss) × AreChildren us c ss
+AddsAll us (Err f) r = Tells f r
+
+-- a stream is known besides
+abbrev pub Declares : Result (Unit {0}) Fault → code.Known → Streamed → Name → Result Stream spec.Fault → Type 0
+Declares (Ok u) new known name r = (s : Stream) × (r ≡ Ok s) × Knows new ((name, s) ∷ known)
+Declares (Err f) new known name r = Tells f r

@@ -1,0 +1,66 @@
+-- Streams that are declared, by number, and what is built of them.
+use Rattle.std.specs.Prelude.{◌≡◌, ◌≤◌, ℕ, ◌+◌, ◌<◌, List, [], ◌∷◌, ◌++◌, map, Option, Some, None, slice_get, length}
+use Rattle.std.specs.List.{AllByRecursion}
+use Rattle.std.proofs.Common.{Vec, Global}
+use Rattle.kern_rows.specs.Forms.{FilterForm, filter_form}
+use Rattle.river_plan.specs.Forms.{Name, OpForm, op_forms}
+use Rattle.streamit_model.specs.Stream.{Splitter, Duplicate, RoundRobin, Stream, Filter, Pipeline, SplitJoin, Streams, Last, Then}
+use Rattle.streamit_build.specs.declared.builder.Declared.{Declared}
+use Rattle.streamit_build.specs.declared.builder.Declared.TheVariants as built
+use Rattle.streamit_build.specs.declared.builder.Made.{Made}
+
+-- a stream that is declared: those that it adds are named by their numbers, all but the last, and the last
+pub data UnitForm : Type 0 where
+  AFilter : Name → FilterForm → UnitForm
+  APipe : List ℕ → ℕ → UnitForm
+  ASplit : Splitter → List ℕ → ℕ → List ℕ → UnitForm
+
+abbrev pub splitter_of : Option (Vec ℕ Global) → Splitter
+splitter_of None = Duplicate
+splitter_of (Some ws) = RoundRobin ws.items
+
+abbrev pub unit_of : Declared → UnitForm
+unit_of (built.Filter name f) = AFilter name (filter_form f)
+unit_of (built.Pipeline front last) = APipe front.items last
+unit_of (built.SplitJoin split front last join) = ASplit (splitter_of split) front.items last join.items
+
+abbrev pub units_of : List Declared → List UnitForm
+units_of us = map unit_of us
+
+-- the children of unit i are below it
+abbrev pub IsLower : ℕ → Option UnitForm → Type 0
+IsLower i None = Unit {0}
+IsLower i (Some (AFilter name f)) = Unit {0}
+IsLower i (Some (APipe front last)) = AllByRecursion (λ j. j < i) front × (last < i)
+IsLower i (Some (ASplit d front last ws)) = AllByRecursion (λ j. j < i) front × (last < i)
+
+abbrev pub AreLower : List UnitForm → Type 0
+AreLower us = (i : ℕ) → IsLower i (slice_get us i)
+
+-- the names of filters have at most 40 bytes
+abbrev pub IsShort : Option UnitForm → Type 0
+IsShort None = Unit {0}
+IsShort (Some (AFilter name f)) = length name ≤ 40
+IsShort (Some (APipe front last)) = Unit {0}
+IsShort (Some (ASplit d front last ws)) = Unit {0}
+
+abbrev pub AreShort : List UnitForm → Type 0
+AreShort us = (i : ℕ) → IsShort (slice_get us i)
+
+-- unit i is this stream
+abbrev mutual
+  pub IsTree : List UnitForm → ℕ → Stream → Type 0
+  IsTree us i (Filter name f) = slice_get us i ≡ Some (AFilter name f)
+  IsTree us i (Pipeline ss) = (front : List ℕ) × (last : ℕ) × (slice_get us i ≡ Some (APipe front last)) × AreTrees us front last ss
+  IsTree us i (SplitJoin d ss ws) = (front : List ℕ) × (last : ℕ) × (slice_get us i ≡ Some (ASplit d front last ws)) × AreTrees us front last ss
+
+  pub AreTrees : List UnitForm → List ℕ → ℕ → Streams → Type 0
+  AreTrees us [] last (Last s) = IsTree us last s
+  AreTrees us (j ∷ js) last (Last s) = ⊥
+  AreTrees us [] last (Then s ss) = ⊥
+  AreTrees us (j ∷ js) last (Then s ss) = IsTree us j s × AreTrees us js last ss
+
+pub record Built (old new : Made) (added : List OpForm) (n q : ℕ) : Type 0 where
+  pub ops : op_forms new.ops ≡ op_forms old.ops ++ added
+  pub next_op : new.next_op ≡ old.next_op + n
+  pub next_queue : new.next_queue ≡ old.next_queue + q

@@ -1,0 +1,126 @@
+// Judges the units of a program, one after another.
+ghost use Rattle.std.specs.Prelude.{◌≡◌, ◌≤◌, length};
+ghost use Rattle.streamit_model.specs.Judged.{Streamed, splitter_of, stream_of, unit_of as stream_declared, all_streams};
+ghost use Rattle.streamit_model.specs.Program.{AFilter, APipeline, ASplitJoin};
+ghost use Rattle.streamit_unroll.specs.Filter.{filter_tree, IsReadable};
+ghost use Rattle.streamit_unroll.specs.View.{Judges};
+ghost use Rattle.streamit_build.specs.Units.{splitter_of as splitter_by};
+ghost use Rattle.streamit_build.specs.Program.{dealing_of, adds_of, body_of, declared_of, program_of, IsReadableBody};
+ghost use Rattle.streamit_build.specs.Knowing.{Knows, Declares};
+ghost use Rattle.streamit_build.specs.Told.{AreReadable, JudgesAll};
+
+use crate::names::sum;
+use crate::rounds::round;
+use crate::streams::few;
+use crate::{Adds, Body, Declaration, Declared, Known, Split, SplitJoin};
+use river_base::Name;
+use std::alloc::Global;
+use streamit_unroll::{Fault, FilterTree, filter};
+
+/// The fault that comes first, and the number of its unit, from 1.
+#[derive(Clone, Copy)]
+pub struct Refusal {
+    pub unit: usize,
+    pub fault: Fault,
+}
+
+impl Known {
+    /// All units of a program, one after another.
+    pub fn units(&mut self, alloc: Global, units: &[Declaration<'_>]) -> Result<(), Refusal>
+        requires { AreReadable (program_of units.now) }
+        ensures { (start : Streamed) → Knows self.old start → JudgesAll result self.new (all_streams 1 start (program_of units.now)) }
+    {
+        for i in 0..units.len() {
+            match self.unit(alloc, &units[i]) {
+                Ok(()) => {}
+                Err(fault) => {
+                    return Err(Refusal { unit: i + 1, fault });
+                }
+            }
+        }
+        Ok(())
+    }
+
+    // A unit of the program.
+    fn unit(&mut self, alloc: Global, unit: &Declaration<'_>) -> Result<(), Fault>
+        requires { IsReadableBody (body_of unit.now.body) }
+        ensures { (known : Streamed) → Knows self.old known → Declares result self.new known unit.now.name (stream_declared known (declared_of unit.now)) }
+    {
+        if self.find(unit.name).is_some() {
+            return Err(Fault::NameTwice);
+        }
+        self.body(alloc, unit.name, &unit.body)
+    }
+
+    // What is declared.
+    fn body(&mut self, alloc: Global, name: Name, body: &Body<'_>) -> Result<(), Fault>
+        requires readable { IsReadableBody (body_of body.now) }
+        requires short { length name ≤ 40 }
+        ensures { (known : Streamed) → Knows self.old known → Declares result self.new known name (stream_of known name (body_of body.now)) }
+    {
+        match body {
+            Body::Filter(tree) => self.filter(alloc, name, tree),
+            Body::Pipeline(adds) => self.pipeline(alloc, name, adds),
+            Body::SplitJoin(all) => self.split_join(alloc, name, all),
+        }
+    }
+
+    // A filter.
+    fn filter(&mut self, alloc: Global, name: Name, tree: &FilterTree<'_>) -> Result<(), Fault>
+        requires readable { IsReadable (filter_tree tree.now) }
+        requires short { length name ≤ 40 }
+        ensures { (known : Streamed) → Knows self.old known → Declares result self.new known name (stream_of known name (AFilter (filter_tree tree.now))) }
+    {
+        let filter = filter(alloc, tree)?;
+        self.declare(name, Declared::Filter { name, filter }, 1, 1)?;
+        Ok(())
+    }
+
+    // Streams in a line.
+    fn pipeline(&mut self, alloc: Global, name: Name, adds: &Adds) -> Result<(), Fault>
+        ensures { (known : Streamed) → Knows self.old known → Declares result self.new known name (stream_of known name (APipeline (adds_of adds.now))) }
+    {
+        let children = self.children(alloc, false, adds)?;
+        let depth = sum(children.deepest, 1)?;
+        let stream = Declared::Pipeline {
+            front: children.front,
+            last: children.last,
+        };
+        self.declare(name, stream, children.ops, depth)?;
+        Ok(())
+    }
+
+    // A splitter, branches and a joiner.
+    fn split_join(&mut self, alloc: Global, name: Name, all: &SplitJoin) -> Result<(), Fault>
+        ensures { (known : Streamed) → Knows self.old known → Declares result self.new known name (stream_of known name (ASplitJoin (dealing_of all.now.split) (adds_of all.now.adds) all.now.join.items)) }
+    {
+        let count = all.adds.others.len() + 1;
+        let split = splitter(alloc, &all.split, count)?;
+        let children = self.children(alloc, true, &all.adds)?;
+        let join = round(alloc, all.join.as_slice(), count)?;
+        let depth = sum(children.deepest, 1)?;
+        let ops = few(children.ops, 2);
+        let stream = Declared::SplitJoin {
+            split,
+            front: children.front,
+            last: children.last,
+            join,
+        };
+        self.declare(name, stream, ops, depth)?;
+        Ok(())
+    }
+}
+
+// The weights of a splitter, or none where it copies.
+fn splitter(alloc: Global, split: &Split, branches: usize) -> Result<Option<Vec<u32>>, Fault>
+    requires { 1 ≤ branches }
+    ensures { Judges splitter_by result (splitter_of (dealing_of split.now) branches) }
+{
+    match split {
+        Split::Duplicate => Ok(None),
+        Split::RoundRobin(weights) => {
+            let weights = round(alloc, weights.as_slice(), branches)?;
+            Ok(Some(weights))
+        }
+    }
+}

@@ -1,0 +1,18 @@
+//! Judges the units of StreamIt programs, and builds their plans: the operators are numbered in the order in which they are made.
+#![tactic(auto)]
+
+mod builder;
+mod judge;
+mod names;
+mod operators;
+mod planning;
+mod program;
+mod rounds;
+mod streams;
+
+pub use builder::{Declared, Made, build};
+pub use judge::Refusal;
+pub use planning::plan;
+pub use program::{Adds, Body, Declaration, Split, SplitJoin};
+pub use rounds::round;
+pub use streams::{Children, Entry, Known};

@@ -1,0 +1,78 @@
+// Names with numbers behind them, and lists of names.
+ghost use Rattle.std.specs.Prelude.{◌≡◌, ◌≤◌, ◌+◌, IsTrue, IfOk, [], ◌∷◌, length};
+ghost use Rattle.river_base.specs.Name.{is_name};
+ghost use Rattle.streamit_model.specs.Build.{numbered, queue, queues};
+
+use river_base::{Bytes, Name, NoMemory};
+use river_plan::Names;
+use std::alloc::Global;
+
+/// A name with a number behind it.
+pub fn numbered(alloc: Global, name: &[u8], number: u32) -> Result<Name, NoMemory>
+    requires named { IsTrue (is_name name.now) }
+    requires short { length name.now ≤ 40 }
+    ensures { IfOk result (λ made. made ≡ numbered name.now number) }
+{
+    let text = text(alloc, name, number)?;
+    Ok(name_of(text.as_slice()))
+}
+
+// Its bytes.
+fn text(alloc: Global, name: &[u8], number: u32) -> Result<Bytes, NoMemory>
+    ensures { IfOk result (λ text. text ≡ numbered name.now number) }
+{
+    let mut bytes = Bytes::from_slice(alloc, name)?;
+    bytes.extend(b"@")?;
+    bytes.extend(number.to_string(alloc)?.as_bytes())?;
+    Ok(bytes)
+}
+
+// The name that has these bytes.
+pub fn name_of(bytes: &[u8]) -> Name
+    requires { IsTrue (is_name bytes.now) }
+    ensures { result ≡ bytes.now }
+{
+    match Name::from_slice(bytes) {
+        Some(name) => name,
+        None => unreachable!(),
+    }
+}
+
+/// The queue with a number.
+#[tactic(auto, unfolding(river_base::specs::Name::is_word, river_base::specs::Name::is_letter, river_base::specs::Name::is_digit))]
+pub fn queue(alloc: Global, number: u32) -> Result<Name, NoMemory>
+    ensures { IfOk result (λ name. name ≡ queue number) }
+{
+    numbered(alloc, b"q", number)
+}
+
+/// So many queues, the first of which has this number.
+pub fn queues(alloc: Global, first: u32, count: u32) -> Result<Names, NoMemory>
+    ensures { IfOk result (λ names. names ≡ queues first count) }
+{
+    let mut names = Names::new(alloc);
+    for i in 0..count {
+        let number = sum(first, i)?;
+        names.push(queue(alloc, number)?)?;
+    }
+    Ok(names)
+}
+
+/// The list of one name.
+pub fn one(alloc: Global, name: Name) -> Result<Names, NoMemory>
+    ensures { IfOk result (λ names. names ≡ name ∷ []) }
+{
+    let mut names = Names::new(alloc);
+    names.push(name)?;
+    Ok(names)
+}
+
+/// The sum of two numbers; a plan has not so many parts that there is memory for it where this has no place.
+pub fn sum(a: u32, b: u32) -> Result<u32, NoMemory>
+    ensures { IfOk result (λ n. n ≡ a + b) }
+{
+    match a.checked_add(b) {
+        Some(n) => Ok(n),
+        None => Err(NoMemory),
+    }
+}

@@ -1,0 +1,154 @@
+// The plan of a program.
+ghost use Rattle.std.specs.Prelude.{◌≡◌, ◌<◌, ◌+◌, ◌-◌, ◌∷◌, ◌++◌, length, map, OnOk, IfOk};
+ghost use Rattle.river_plan.specs.Forms.{plan_form, op_forms};
+ghost use Rattle.river_plan.specs.Uses.{all_vars};
+ghost use Rattle.streamit_model.specs.Stream.{Stream};
+ghost use Rattle.streamit_model.specs.Build.{queues, values_in as queue_of, ops_from, queues_in, plan_of};
+ghost use Rattle.streamit_build.specs.Units.{units_of, AreLower, AreShort, IsTree};
+ghost use Rattle.streamit_model.specs.Judged.{Streamed, judged};
+ghost use Rattle.streamit_build.specs.Knowing.{IsEntry, Knows};
+ghost use Rattle.streamit_build.specs.Plans.{lists_of};
+ghost use Rattle.streamit_build.specs.Program.{program_of};
+ghost use Rattle.streamit_build.specs.Told.{AreReadable, KnowsLast, PlansLast, PlansBy};
+
+use crate::builder::build;
+use crate::names::{name_of, queue, sum};
+use crate::{Declaration, Entry, Known, Made, Refusal};
+use river_base::{FlatType, Name, NoMemory, QueueType};
+use river_plan::{Decl, Decls, Names, Ops, RawPlan};
+use std::alloc::Global;
+use streamit_unroll::Fault;
+
+/// The plan of a program, as lists: that of its last stream; or the fault that comes first, with its unit.
+pub fn plan(alloc: Global, units: &[Declaration<'_>]) -> Result<RawPlan, Refusal>
+    requires readable { AreReadable (program_of units.now) }
+    requires some { 0 < length units.now }
+    ensures { PlansBy result (judged (program_of units.now)) }
+{
+    let mut known = Known::new(alloc);
+    known.units(alloc, units)?;
+    let count = units.len();
+    known.plan_last(alloc, count, units[count - 1].name)
+}
+
+impl Known {
+    // The plan of the stream that is declared last, in this unit.
+    fn plan_last(&self, alloc: Global, unit: usize, last: Name) -> Result<RawPlan, Refusal>
+        requires { KnowsLast self.now last }
+        ensures { (s : Stream) (others : Streamed) → Knows self.now ((last, s) ∷ others) → PlansLast result unit s }
+    {
+        match self.find(last) {
+            Some(top) => self.plan_at(alloc, unit, top),
+            None => unreachable!(),
+        }
+    }
+
+    // The plan of the stream with this entry, in this unit.
+    fn plan_at(&self, alloc: Global, unit: usize, top: Entry) -> Result<RawPlan, Refusal>
+        requires there { top.number < length self.now.declared.items }
+        requires lower { AreLower (units_of self.now.declared.items) }
+        requires short { AreShort (units_of self.now.declared.items) }
+        ensures { (s : Stream) → IsEntry (units_of self.now.declared.items) top s → PlansLast result unit s }
+    {
+        if top.ops > 256 {
+            return Err(Refusal {
+                unit,
+                fault: Fault::Limit,
+            });
+        }
+        match self.plan(alloc, top.number as usize) {
+            Ok(raw) => Ok(raw),
+            Err(NoMemory) => Err(Refusal {
+                unit,
+                fault: Fault::NoMemory,
+            }),
+        }
+    }
+
+    // The plan of the stream with this number, as lists.
+    fn plan(&self, alloc: Global, top: usize) -> Result<RawPlan, NoMemory>
+        requires there { top < length self.now.declared.items }
+        requires lower { AreLower (units_of self.now.declared.items) }
+        requires short { AreShort (units_of self.now.declared.items) }
+        ensures { (s : Stream) → IsTree (units_of self.now.declared.items) top s → IfOk result (λ raw. plan_form raw ≡ plan_of s) }
+    {
+        let made = self.operators(alloc, top)?;
+        lists(alloc, made)
+    }
+
+    // Its operators, between the queues `in` and `out`.
+    #[tactic(auto, unfolding(river_base::specs::Name::is_word, river_base::specs::Name::is_letter, river_base::specs::Name::is_digit))]
+    fn operators(&self, alloc: Global, top: usize) -> Result<Made, NoMemory>
+        requires there { top < length self.now.declared.items }
+        requires lower { AreLower (units_of self.now.declared.items) }
+        requires short { AreShort (units_of self.now.declared.items) }
+        ensures ops { (s : Stream) → IsTree (units_of self.now.declared.items) top s → IfOk result (λ made. op_forms made.ops ≡ ops_from s) }
+        ensures queues { (s : Stream) → IsTree (units_of self.now.declared.items) top s → IfOk result (λ made. made.next_queue ≡ 1 + queues_in s) }
+    {
+        let mut made = Made {
+            ops: Ops::new(alloc),
+            next_op: 1,
+            next_queue: 1,
+        };
+        let from = name_of(b"in");
+        let to = name_of(b"out");
+        build(alloc, self.declared.as_slice(), top, from, to, &mut made)?;
+        Ok(made)
+    }
+}
+
+// The lists of a plan with these operators.
+#[tactic(auto, unfolding(river_base::specs::Name::is_word, river_base::specs::Name::is_letter, river_base::specs::Name::is_digit))]
+fn lists(alloc: Global, made: Made) -> Result<RawPlan, NoMemory>
+    ensures { IfOk result (λ raw. plan_form raw ≡ lists_of (op_forms made.ops) (made.next_queue - 1)) }
+{
+    let mut raw = RawPlan::new(alloc);
+    raw.outputs.push(values_in(name_of(b"out")))?;
+    raw.inputs.push(values_in(name_of(b"in")))?;
+    declare_queues(alloc, &mut raw.queues, made.next_queue.saturating_sub(1))?;
+    declare_vars(&mut raw.vars, &made.ops)?;
+    raw.ops = made.ops;
+    Ok(raw)
+}
+
+// A queue of single values.
+fn values_in(name: Name) -> Decl
+    ensures { result ≡ queue_of name }
+{
+    Decl {
+        name,
+        kind: QueueType::Flat(FlatType::Rows(1)),
+    }
+}
+
+// So many queues of its own.
+fn declare_queues(alloc: Global, to: &mut Decls, count: u32) -> Result<(), NoMemory>
+    ensures { OnOk result (to.new ≡ to.old ++ map queue_of (queues 1 count)) }
+{
+    for i in 0..count {
+        let number = sum(1, i)?;
+        let name = queue(alloc, number)?;
+        to.push(values_in(name))?;
+    }
+    Ok(())
+}
+
+// The variables of all operators.
+fn declare_vars(to: &mut Names, ops: &Ops) -> Result<(), NoMemory>
+    ensures { OnOk result (to.new ≡ to.old ++ all_vars (op_forms ops.now)) }
+{
+    for op in ops.as_slice() {
+        append(to, &op.vars)?;
+    }
+    Ok(())
+}
+
+// Names behind those that are there.
+fn append(to: &mut Names, names: &Names) -> Result<(), NoMemory>
+    ensures { OnOk result (to.new ≡ to.old ++ names.now) }
+{
+    for name in names.as_slice() {
+        to.push(*name)?;
+    }
+    Ok(())
+}

@@ -1,0 +1,82 @@
+-- What a joiner collects ends where an item is missing.
+use Rattle.std.proofs.lemmas.List.{length-map}
+use Rattle.river_base.specs.declared.item.Item.TheVariants.{Flat}
+use Rattle.river_base.specs.declared.item.Flat.TheVariants.{One}
+use Rattle.std.proofs.Common.{map, ◌≡◌, ℕ, zero, suc, ℤ, ◌+◌, ◌<◌, ◌≤◌, List, [], ◌∷◌, length, drop, Option, Some, None, refl, sym, ap, ◌∙◌, arith}
+use Rattle.std.specs.Prelude.{slice_get}
+use Rattle.river_base.specs.declared.item.Item as item
+use Rattle.river_base.specs.Places.{list_at}
+use Rattle.kern_rows.specs.Turns.{rest_at, waiting, itself}
+use Rattle.streamit_model.proofs.JoinKeeps.{less_at, stuck_at}
+use Rattle.streamit_model.proofs.Collected.{IsLeft, left_next, cases_list, got_none, got_some, front_at_some, waiting_is, map_option, got_map, list_at_map, collected_map}
+use Rattle.streamit_model.specs.Stream.{IsRound}
+use Rattle.streamit_model.specs.Rounds.{cycle, branch, turn_of, item_at, and_more, front_of, size_of, collected}
+use Rattle.streamit_model.specs.Laws.{CollectsLongest}
+use Rattle.streamit_model.proofs.Cycles.{positive_cycle, taken_none, taken_here}
+
+cases_option : {A B : Type 0} (o : Option A) → (o ≡ None → B) → ((x : A) → o ≡ Some x → B) → B
+cases_option None f g = f refl
+cases_option (Some x) f g = g x refl
+
+more_is : {A : Type 0} (f : ℕ → Option A) (o : Option A) (ys : List A) (x i : ℕ) → f x ≡ o → ((j : ℕ) → j < length ys → slice_get ys j ≡ f (suc x + j)) → i < length (and_more o ys) → slice_get (and_more o ys) i ≡ f (x + i)
+more_is f None ys x i e h lt = absurd (omega (arith, lt))
+more_is f (Some y) ys x zero e h lt = sym e ∙ ap f (let z : x ≡ x + 0 = omega arith in z)
+more_is f (Some y) ys x (suc i) e h lt = h i (omega (arith, lt)) ∙ ap f (let z : suc x + i ≡ x + suc i = omega arith in z)
+
+-- each item is the one of its place
+front_is : {A : Type 0} (f : ℕ → Option A) (n x i : ℕ) → i < length (front_of f n x) → slice_get (front_of f n x) i ≡ f (x + i)
+front_is f zero x i lt = absurd (omega (arith, lt))
+front_is f (suc n) x i lt = more_is f (f x) (front_of f n (suc x)) x i refl (λ j lj. front_is f n (suc x) j lj) lt
+
+here_is : (ws : List ℕ) (ls rs : List (List item.Item)) (x : ℕ) → 0 < cycle ws → IsLeft ws ls rs x → list_at rs (branch ws x) ≡ drop (turn_of ws x) (list_at ls (branch ws x))
+here_is ws ls rs x lt left = left.each (branch ws x) ∙ ap (λ k. drop k (list_at ls (branch ws x))) (taken_here ws x lt)
+
+stops : {A : Type 0} (f : ℕ → Option A) (n x : ℕ) → f x ≡ None → front_of f n x ≡ []
+stops f zero x e = refl
+stops f (suc n) x e = ap (λ o. and_more o (front_of f n (suc x))) e
+
+stopped : (ws : List ℕ) (ls rs : List (List item.Item)) (n x : ℕ) → 0 < cycle ws → IsLeft ws ls rs x → list_at rs (branch ws x) ≡ [] → item_at ws ls (x + length (front_of (item_at ws ls) n x)) ≡ None
+stopped ws ls rs n x lt left e =
+    let gone = got_none (list_at ls (branch ws x)) (turn_of ws x) (sym (here_is ws ls rs x lt left) ∙ e) in
+    ap (λ l. item_at ws ls (x + length l)) (stops (item_at ws ls) n x gone) ∙ ap (item_at ws ls) (let z : x + 0 ≡ x = omega arith in z) ∙ gone
+
+-- with a turn for each item that is left, the items go on until one is missing
+ends : (ws : List ℕ) (ls rs : List (List item.Item)) (n x : ℕ) → 0 < cycle ws → IsLeft ws ls rs x → waiting rs ≤ n → item_at ws ls (x + length (front_of (item_at ws ls) n x)) ≡ None
+ends ws ls rs zero x lt left le = cases_list (list_at rs (branch ws x))
+    (stopped ws ls rs zero x lt left)
+    (λ y ys e. absurd (some_none (sym (front_at_some rs (branch ws x) y ys e) ∙ stuck_at itself rs (branch ws x) (omega (arith, le)))))
+  where
+    some_none : {A : Type 0} {x : A} → Some x ≡ None → ⊥
+    some_none h = cc h
+ends ws ls rs (suc n) x lt left le = cases_list (list_at rs (branch ws x))
+    (stopped ws ls rs (suc n) x lt left)
+    (λ y ys e.
+    let b = branch ws x in
+    let there = got_some (list_at ls b) (turn_of ws x) y ys (sym (here_is ws ls rs x lt left) ∙ e) in
+    let less = less_at itself rs b (y ∷ []) (front_at_some rs b y ys e) in
+    let rest = ends ws ls (rest_at rs b) n (suc x) lt (left_next ws ls rs x y ys lt left e) (omega (arith, less, le)) in
+    ap (λ o. item_at ws ls (x + length (and_more o (front_of (item_at ws ls) n (suc x))))) there
+    ∙ ap (item_at ws ls) (let z : x + suc (length (front_of (item_at ws ls) n (suc x))) ≡ suc x + length (front_of (item_at ws ls) n (suc x)) = omega arith in z)
+    ∙ rest)
+
+none_of : {A B : Type 0} (f : A → B) (o : Option A) → map_option f o ≡ None → o ≡ None
+none_of f None h = refl
+none_of f (Some x) h = absurd (cc h)
+
+pub collects_longest : CollectsLongest
+collects_longest ws ls r = (λ x lt. front_is (item_at ws ls) (size_of ls) 0 x lt ∙ ap (item_at ws ls) (let z : 0 + x ≡ x = omega arith in z), last ws ls r)
+  where
+    last : (ws : List ℕ) (ls : List (List ℤ)) → IsRound ws (length ls) → item_at ws ls (length (collected ws ls)) ≡ None
+    last ws [] r = refl
+    last ws (l ∷ ls) r =
+        let all = l ∷ ls in
+        let f = λ (x : ℤ). Flat (One (x ∷ [])) in
+        let items = map (map f) all in
+        let lt = positive_cycle ws (length all) 0 r.each r.number (omega arith) in
+        let start : IsLeft ws items items 0 = record { each = λ p. ap (λ k. drop k (list_at items p)) (sym (taken_none ws p lt)) } in
+        let e = ends ws items items (size_of items) 0 lt start (let w = waiting_is items in omega (arith, w)) in
+        let len : 0 + length (collected ws items) ≡ length (collected ws all) = (let a = ap length (collected_map f ws all) in let b = length-map (collected ws all) f in omega (arith, a, b)) in
+        none_of f (item_at ws all (length (collected ws all)))
+        (sym (got_map f (list_at all (branch ws (length (collected ws all)))) (turn_of ws (length (collected ws all))))
+        ∙ ap (λ t. slice_get t (turn_of ws (length (collected ws all)))) (sym (list_at_map f all (branch ws (length (collected ws all)))))
+        ∙ ap (item_at ws items) (sym len) ∙ e)

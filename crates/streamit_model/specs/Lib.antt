@@ -1,0 +1,12 @@
+pub mod Build
+pub mod Elaborate
+pub mod FilterSource
+pub mod Filters
+pub mod Judged
+pub mod Laws
+pub mod Means
+pub mod Program
+pub mod Rounds
+pub mod Shallow
+pub mod Source
+pub mod Stream

@@ -1,0 +1,46 @@
+-- What reading a block sees to: no expression is deeper than 64, and `init` pops nothing.
+use Rattle.std.specs.Prelude.{◌≡◌, ◌≤◌, Option, Some, None}
+use Rattle.text_forms.specs.Tree.{Spoken, depth_of}
+use Rattle.streamit_model.specs.Source.{Statement, Declare, Assign, Push, Pop, If, For, Block, End, Then, pops}
+
+abbrev pub IsLow : Spoken → Type 0
+IsLow t = depth_of t ≤ 64
+
+abbrev pub IsLowFirst : Option Spoken → Type 0
+IsLowFirst None = Unit {0}
+IsLowFirst (Some t) = IsLow t
+
+abbrev mutual
+  pub IsShallow : Statement → Type 0
+  IsShallow (Declare n t) = IsLowFirst t
+  IsShallow (Assign n t) = IsLow t
+  IsShallow (Push t) = IsLow t
+  IsShallow Pop = Unit {0}
+  IsShallow (If t a b) = IsLow t × AreShallow a × AreShallow b
+  IsShallow (For n low upto high b) = AreShallow b
+
+  pub AreShallow : Block → Type 0
+  AreShallow End = Unit {0}
+  AreShallow (Then c b) = IsShallow c × AreShallow b
+
+-- no item is popped in an expression
+abbrev pub IsItemless : Spoken → Type 0
+IsItemless t = pops t ≡ 0
+
+abbrev pub IsItemlessFirst : Option Spoken → Type 0
+IsItemlessFirst None = Unit {0}
+IsItemlessFirst (Some t) = IsItemless t
+
+-- a block as `init` has it: it pops nothing
+abbrev mutual
+  pub KeepsItems : Statement → Type 0
+  KeepsItems (Declare n t) = IsItemlessFirst t
+  KeepsItems (Assign n t) = IsItemless t
+  KeepsItems (Push t) = ⊥
+  KeepsItems Pop = ⊥
+  KeepsItems (If t a b) = IsItemless t × KeepAll a × KeepAll b
+  KeepsItems (For n low upto high b) = KeepAll b
+
+  pub KeepAll : Block → Type 0
+  KeepAll End = Unit {0}
+  KeepAll (Then c b) = KeepsItems c × KeepAll b

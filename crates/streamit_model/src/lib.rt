@@ -1,0 +1,4 @@
+//! StreamIt programs as trees: what they mean, their plans, whether they are accepted, and what follows from that.
+#![tactic(auto)]
+
+pub mod laws;

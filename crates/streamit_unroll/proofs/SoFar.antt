@@ -1,0 +1,280 @@
+-- Statements that were read so far, and those that are read after them.
+use Rattle.std.proofs.Common.{◌≡◌, ℕ, suc, ◌+◌, ◌-◌, ◌<◌, ◌≤◌, List, [], ◌∷◌, ◌++◌, length, take, drop, map, get_or, Bool, true, Result, Ok, Err, refl, sym, ap, ◌∙◌, subst, arith, append_assoc, append-nil, drop-cons, add-one}
+use Rattle.work_code.specs.declared.code.Stmt.{Stmt}
+use Rattle.work_code.specs.declared.code.Stmts.{Stmts}
+use Rattle.work_code.specs.Steps.{Step, Steps, Done, step, statements, in_turn}
+use Rattle.work_code.specs.Steps as steps
+use Rattle.streamit_model.specs.Source as source
+use Rattle.river_plan.specs.Forms.{Name}
+use Rattle.streamit_model.specs.Source.{numbers}
+use Rattle.streamit_model.specs.Elaborate.{Fault, At, Read, on_ok, joined, step_of, steps_of, unrolled, counted, is_new, find, constant, bound_of, term_of, one_step, after_arms}
+use Rattle.streamit_model.specs.Source.{pops}
+use Rattle.text_forms.specs.Tree.{Spoken}
+use Rattle.work_code.specs.Term.{Term}
+use Rattle.std.specs.Prelude.{if◌then◌else◌, nat_eq, ◌&&◌}
+use Rattle.streamit_unroll.specs.declared.unroll.Unroller.{Unroller}
+use Rattle.std.specs.Borrow.{Bor}
+use Rattle.streamit_unroll.specs.declared.names.Known.{Known}
+use Rattle.streamit_unroll.specs.declared.names.Known.TheVariants as known
+use Rattle.streamit_unroll.specs.View.{scope_of, Tells}
+use Rattle.streamit_unroll.proofs.Scopes.{scope-push}
+use Rattle.streamit_unroll.specs.View as view
+use Rattle.streamit_unroll.specs.Unrolled.{at_of, KeepsNames, AreWritten, Reads, turn_of, ReadsTurn}
+use Rattle.streamit_unroll.specs.declared.fault.Fault as fault
+use Rattle.streamit_unroll.specs.declared.fault.Fault.TheVariants as faults
+use Rattle.streamit_model.specs.Elaborate as spec
+use Rattle.std.proofs.lemmas.List.{map-append, drop_all, take_all}
+
+abbrev pub good : {A : Type 0} → A → Result A Fault
+good x = Ok x
+
+-- behind these statements
+abbrev pub behind : Steps → Read → Read
+behind a r = on_ok r (λ q. Ok (joined a q.0, q.1))
+
+-- behind nothing
+pub behind_none : (r : Read) → behind Done r ≡ r
+behind_none (Ok q) = refl
+behind_none (Err f) = refl
+
+joined-assoc : (a b c : Steps) → joined (joined a b) c ≡ joined a (joined b c)
+joined-assoc Done b c = refl
+joined-assoc (steps.Then s a) b c = ap (steps.Then s) (joined-assoc a b c)
+
+joined-done : (a : Steps) → joined a Done ≡ a
+joined-done Done = refl
+joined-done (steps.Then s a) = ap (steps.Then s) (joined-done a)
+
+-- lists of statements one behind the other
+pub joined-in_turn : (xs ys : List Step) → joined (in_turn xs) (in_turn ys) ≡ in_turn (xs ++ ys)
+joined-in_turn [] ys = refl
+joined-in_turn (x ∷ xs) ys = ap (steps.Then x) (joined-in_turn xs ys)
+
+-- behind two lists
+pub behind_both : (a b : Steps) (r : Read) → behind a (behind b r) ≡ behind (joined a b) r
+behind_both a b (Ok q) = ap (λ s. Ok (s, q.1)) (sym (joined-assoc a b q.0))
+behind_both a b (Err f) = refl
+
+-- where nothing is left
+pub behind_done : (a : Steps) (s : At) → behind a (Ok (Done, s)) ≡ Ok (a, s)
+behind_done a s = ap (λ t. Ok (t, s)) (joined-done a)
+
+-- A BLOCK
+
+-- what was read of these statements, and what is to be read, is what is read of all
+pub record BlockSoFar (e : ℕ) (all rest : List source.Statement) (first now : Unroller) (out out' : Stmts) : Type 0 where
+  pub added : List Stmt
+  pub grew : statements out' ≡ statements out ++ added
+  pub all_is : steps_of e (view.in_turn all) (at_of first) ≡ behind (in_turn (map step added)) (steps_of e (view.in_turn rest) (at_of now))
+  pub keeps : KeepsNames first now
+  pub written : AreWritten (view.in_turn rest)
+
+-- TURNS
+
+pub record TurnsSoFar (e : ℕ) (b : source.Block) (n : Name) (low v end : ℕ) (first now : Unroller) (out out' : Stmts) : Type 0 where
+  pub added : List Stmt
+  pub grew : statements out' ≡ statements out ++ added
+  pub all_is : unrolled (steps_of e b) n (numbers low (end - low)) (at_of first) ≡ behind (in_turn (map step added)) (unrolled (steps_of e b) n (numbers v (end - v)) (at_of now))
+  pub names : now.names.items.items ≡ first.names.items.items
+
+-- a front of a front
+pub prefix_trans : {A : Type 0} (xs ys zs : List A) → take (length xs) ys ≡ xs → take (length ys) zs ≡ ys → take (length xs) zs ≡ xs
+prefix_trans [] ys zs p q = refl
+prefix_trans (x ∷ xs) [] zs p q = absurd (cc p)
+prefix_trans (x ∷ xs) (y ∷ ys) [] p q = absurd (cc q)
+prefix_trans (x ∷ xs) (y ∷ ys) (z ∷ zs) p q =
+    let p0 : y ≡ x = cc in let p1 : take (length xs) ys ≡ xs = cc in
+    let q0 : z ≡ y = cc in let q1 : take (length ys) zs ≡ ys = cc in
+    ap (λ w. w ∷ take (length xs) zs) (q0 ∙ p0) ∙ ap (λ l. x ∷ l) (prefix_trans xs ys zs p1 q1)
+
+-- the elements from a place on
+pub at_place : {X Y : Type 0} (f : X → Y) (items : List X) (i : ℕ) (s : X) → i < length items → s ≡ get_or items i s → map f (drop i items) ≡ f s ∷ map f (drop (i + 1) items)
+at_place f items i s lt e = ap (map f) (drop-cons items i s lt ∙ ap (λ x. x ∷ drop (suc i) items) (sym e) ∙ ap (λ k. s ∷ drop k items) (sym (add-one i)))
+
+-- behind the last place there is none
+pub none_left : {X Y : Type 0} (f : X → Y) (items : List X) (i : ℕ) → length items ≤ i → map f (drop i items) ≡ []
+none_left f items i h = ap (map f) (drop_all i items h)
+
+-- a fault of one reading is one of another
+pub tells_more : {A B : Type 0} (f : fault.Fault) (r : Result A Fault) (r' : Result B Fault) → ((g : Fault) → r ≡ Err g → r' ≡ Err g) → Tells f r → Tells f r'
+tells_more faults.UnknownName r r' h e = h spec.UnknownName e
+tells_more faults.NameTwice r r' h e = h spec.NameTwice e
+tells_more (faults.Rates d c) r r' h e = h (spec.Rates d c) e
+tells_more (faults.PeekRange i p) r r' h e = h (spec.PeekRange i p) e
+tells_more faults.NotConstant r r' h e = h spec.NotConstant e
+tells_more faults.BranchRates r r' h e = h spec.BranchRates e
+tells_more faults.Limit r r' h e = h spec.Limit e
+tells_more faults.Weights r r' h e = h spec.Weights e
+tells_more faults.NoMemory r r' h e = tt
+
+steps_ok : (e : ℕ) (c : source.Statement) (rest : source.Block) (s : At) (a : Steps) (s' : At) → step_of e c s ≡ Ok (a, s') → steps_of e (source.Then c rest) s ≡ behind a (steps_of e rest s')
+steps_ok e c rest s a s' h = ap (λ r. on_ok r (λ p. on_ok (steps_of e rest p.1) (λ q. Ok (joined p.0 q.0, q.1)))) h
+
+steps_err : (e : ℕ) (c : source.Statement) (rest : source.Block) (s : At) (g : Fault) → step_of e c s ≡ Err g → steps_of e (source.Then c rest) s ≡ Err g
+steps_err e c rest s g h = ap (λ r. on_ok r (λ p. on_ok (steps_of e rest p.1) (λ q. Ok (joined p.0 q.0, q.1)))) h
+
+-- one statement more
+pub block_next : (e : ℕ) (all : List source.Statement) (c : source.Statement) (rest : List source.Statement) (first now next : Unroller) (out out' out'' : Stmts) → BlockSoFar e all (c ∷ rest) first now out out' → Reads (Ok tt) out' out'' now next (step_of e c (at_of now)) → BlockSoFar e all rest first next out out''
+block_next e all c rest first now next out out' out'' f r = record {
+  added = f.added ++ r.0;
+  grew = r.1 ∙ ap (λ l. l ++ r.0) f.grew ∙ append_assoc (statements out) f.added r.0;
+  all_is =
+      f.all_is
+      ∙ ap (behind (in_turn (map step f.added))) (steps_ok e c (view.in_turn rest) (at_of now) (in_turn (map step r.0)) (at_of next) r.2)
+      ∙ behind_both (in_turn (map step f.added)) (in_turn (map step r.0)) (steps_of e (view.in_turn rest) (at_of next))
+      ∙ ap (λ a. behind a (steps_of e (view.in_turn rest) (at_of next))) (joined-in_turn (map step f.added) (map step r.0) ∙ ap in_turn (sym (map-append step f.added r.0)));
+  keeps = prefix_trans first.names.items.items now.names.items.items next.names.items.items f.keeps r.3;
+  written = f.written.1;
+}
+
+-- a statement that is refused
+pub block_err : (e : ℕ) (all : List source.Statement) (c : source.Statement) (rest : List source.Statement) (first now next x y : Unroller) (out out' out'' o n : Stmts) (result : Result (Unit {0}) fault.Fault) (f : fault.Fault) → result ≡ Err f → BlockSoFar e all (c ∷ rest) first now out out' → Reads (Err f) out' out'' now next (step_of e c (at_of now)) → Reads result o n x y (steps_of e (view.in_turn all) (at_of first))
+block_err e all c rest first now next x y out out' out'' o n result f is s r =
+    subst (λ t. Reads t o n x y (steps_of e (view.in_turn all) (at_of first))) (sym is)
+    (tells_more f (step_of e c (at_of now)) (steps_of e (view.in_turn all) (at_of first)) (λ g h. s.all_is ∙ ap (behind (in_turn (map step s.added))) (steps_err e c (view.in_turn rest) (at_of now) g h)) r)
+
+-- all statements
+pub block_end : (e : ℕ) (all : List source.Statement) (first now : Unroller) (out out' : Stmts) → BlockSoFar e all [] first now out out' → Reads (Ok tt) out out' first now (steps_of e (view.in_turn all) (at_of first))
+block_end e all first now out out' f = (f.added, f.grew, f.all_is ∙ behind_done (in_turn (map step f.added)) (at_of now), f.keeps)
+
+-- TURNS
+
+on_ok-assoc : {A B C : Type 0} (r : Result A Fault) (f : A → Result B Fault) (g : B → Result C Fault) → on_ok (on_ok r f) g ≡ on_ok r (λ x. on_ok (f x) g)
+on_ok-assoc (Ok x) f g = refl
+on_ok-assoc (Err e) f g = refl
+
+unrolled-turn : (block : At → Read) (n : Name) (v : ℕ) (vs : List ℕ) (s : At) → unrolled block n (v ∷ vs) s ≡ on_ok (turn_of block n v s) (λ p. behind p.0 (unrolled block n vs p.1))
+unrolled-turn block n v vs s =
+    let g = λ (p : Steps × At). behind p.0 (unrolled block n vs p.1) in
+    let k = λ (a : Steps × At). good (a.0, record a.1 { scope = s.scope }) in
+    let f = λ (t : At). on_ok (block (record t { scope = (n, spec.Turn v) ∷ s.scope })) k in
+    ap (on_ok (counted s)) (λ i t. sym (on_ok-assoc (block (record t { scope = (n, spec.Turn v) ∷ s.scope })) k g) i)
+    ∙ sym (on_ok-assoc (counted s) f g)
+
+turns_ok : (block : At → Read) (n : Name) (v : ℕ) (vs : List ℕ) (s : At) (a : Steps) (s' : At) → turn_of block n v s ≡ Ok (a, s') → unrolled block n (v ∷ vs) s ≡ behind a (unrolled block n vs s')
+turns_ok block n v vs s a s' h = unrolled-turn block n v vs s ∙ ap (λ r. on_ok r (λ p. behind p.0 (unrolled block n vs p.1))) h
+
+turns_err : (block : At → Read) (n : Name) (v : ℕ) (vs : List ℕ) (s : At) (g : Fault) → turn_of block n v s ≡ Err g → unrolled block n (v ∷ vs) s ≡ Err g
+turns_err block n v vs s g h = unrolled-turn block n v vs s ∙ ap (λ r. on_ok r (λ p. behind p.0 (unrolled block n vs p.1))) h
+
+numbers_more : (v end : ℕ) → v < end → numbers v (end - v) ≡ v ∷ numbers (v + 1) (end - (v + 1))
+numbers_more v end lt = ap (numbers v) (let e : end - v ≡ suc (end - (v + 1)) = omega (arith, lt) in e) ∙ ap (λ k. v ∷ numbers k (end - (v + 1))) (let e : suc v ≡ v + 1 = omega arith in e)
+
+-- before the first turn
+pub turns_start : (e : ℕ) (b : source.Block) (n : Name) (low end : ℕ) (first : Unroller) (out : Stmts) → TurnsSoFar e b n low low end first first out out
+turns_start e b n low end first out = record { added = []; grew = sym (append-nil (statements out)); all_is = sym (behind_none (unrolled (steps_of e b) n (numbers low (end - low)) (at_of first))); names = refl }
+
+-- one turn more
+pub turns_next : (e : ℕ) (b : source.Block) (n : Name) (low v end : ℕ) (first now next : Unroller) (out out' out'' : Stmts) → v < end → TurnsSoFar e b n low v end first now out out' → ReadsTurn (Ok tt) out' out'' now next (turn_of (steps_of e b) n v (at_of now)) → TurnsSoFar e b n low (v + 1) end first next out out''
+turns_next e b n low v end first now next out out' out'' lt f r = record {
+  added = f.added ++ r.0;
+  grew = r.1 ∙ ap (λ l. l ++ r.0) f.grew ∙ append_assoc (statements out) f.added r.0;
+  all_is =
+      let rest = unrolled (steps_of e b) n (numbers (v + 1) (end - (v + 1))) (at_of next) in
+      f.all_is
+      ∙ ap (λ vs. behind (in_turn (map step f.added)) (unrolled (steps_of e b) n vs (at_of now))) (numbers_more v end lt)
+      ∙ ap (behind (in_turn (map step f.added))) (turns_ok (steps_of e b) n v (numbers (v + 1) (end - (v + 1))) (at_of now) (in_turn (map step r.0)) (at_of next) r.2)
+      ∙ behind_both (in_turn (map step f.added)) (in_turn (map step r.0)) rest
+      ∙ ap (λ a. behind a rest) (joined-in_turn (map step f.added) (map step r.0) ∙ ap in_turn (sym (map-append step f.added r.0)));
+  names = r.3 ∙ f.names;
+}
+
+-- a turn that is refused
+pub turns_fault : (e : ℕ) (b : source.Block) (n : Name) (low v end : ℕ) (first now next x y : Unroller) (out out' out'' o k : Stmts) (whole : Read) (result : Result (Unit {0}) fault.Fault) (f : fault.Fault) → result ≡ Err f → v < end → whole ≡ unrolled (steps_of e b) n (numbers low (end - low)) (at_of first) → TurnsSoFar e b n low v end first now out out' → ReadsTurn (Err f) out' out'' now next (turn_of (steps_of e b) n v (at_of now)) → Reads result o k x y whole
+turns_fault e b n low v end first now next x y out out' out'' o k whole result f is lt w s r =
+    subst (λ t. Reads t o k x y whole) (sym is)
+    (tells_more f (turn_of (steps_of e b) n v (at_of now)) whole
+    (λ g h. w ∙ s.all_is ∙ ap (λ vs. behind (in_turn (map step s.added)) (unrolled (steps_of e b) n vs (at_of now))) (numbers_more v end lt) ∙ ap (behind (in_turn (map step s.added))) (turns_err (steps_of e b) n v (numbers (v + 1) (end - (v + 1))) (at_of now) g h))
+    r)
+
+-- all turns
+pub turns_end : (e : ℕ) (b : source.Block) (n : Name) (low v end : ℕ) (first now : Unroller) (out out' : Stmts) (whole : Read) → end ≤ v → whole ≡ unrolled (steps_of e b) n (numbers low (end - low)) (at_of first) → TurnsSoFar e b n low v end first now out out' → Reads (Ok tt) out out' first now whole
+turns_end e b n low v end first now out out' whole le w f = (
+  f.added,
+  f.grew,
+  w ∙ f.all_is ∙ ap (λ k. behind (in_turn (map step f.added)) (unrolled (steps_of e b) n (numbers v k) (at_of now))) (let z : end - v ≡ 0 = omega (arith, le) in z) ∙ behind_done (in_turn (map step f.added)) (at_of now),
+  ap (take (length first.names.items.items)) f.names ∙ take_all (length first.names.items.items) first.names.items.items (omega arith),
+)
+
+-- a loop whose name is new and whose bounds are there
+pub for_is : (e : ℕ) (n : Name) (lo hi : Spoken) (upto : Bool) (b : source.Block) (s : At) (l h end : ℕ) (u : Unit {0}) → is_new (find s.scope n) ≡ Ok u → on_ok (constant s.scope lo) bound_of ≡ Ok l → on_ok (constant s.scope hi) bound_of ≡ Ok h → end ≡ h + (if upto then 1 else 0) → step_of e (source.For n lo upto hi b) s ≡ unrolled (steps_of e b) n (numbers l (end - l)) s
+for_is e n lo hi upto b s l h end u new low high is =
+    let f4 = λ (l m : ℕ). unrolled (steps_of e b) n (numbers l (m + (if upto then 1 else 0) - l)) s in
+    let f3 = λ (l : ℕ). on_ok (constant s.scope hi) (λ y. on_ok (bound_of y) (f4 l)) in
+    ap (λ r. on_ok r (λ u. on_ok (constant s.scope lo) (λ x. on_ok (bound_of x) f3))) new
+    ∙ sym (on_ok-assoc (constant s.scope lo) bound_of f3)
+    ∙ ap (λ r. on_ok r f3) low
+    ∙ sym (on_ok-assoc (constant s.scope hi) bound_of (f4 l))
+    ∙ ap (λ r. on_ok r (f4 l)) high
+    ∙ ap (λ k. unrolled (steps_of e b) n (numbers l (k - l)) s) (sym is)
+
+-- a loop whose upper bound is refused
+pub for_fault : (e : ℕ) (n : Name) (lo hi : Spoken) (upto : Bool) (b : source.Block) (s : At) (l : ℕ) (u : Unit {0}) (whole : Read) (result : Result (Unit {0}) fault.Fault) (f : fault.Fault) (o k : Stmts) (x y : Unroller) → result ≡ Err f → whole ≡ step_of e (source.For n lo upto hi b) s → is_new (find s.scope n) ≡ Ok u → on_ok (constant s.scope lo) bound_of ≡ Ok l → Tells f (on_ok (constant s.scope hi) bound_of) → Reads result o k x y whole
+for_fault e n lo hi upto b s l u whole result f o k x y is w new low high =
+    let f4 = λ (l m : ℕ). unrolled (steps_of e b) n (numbers l (m + (if upto then 1 else 0) - l)) s in
+    let f3 = λ (l : ℕ). on_ok (constant s.scope hi) (λ y. on_ok (bound_of y) (f4 l)) in
+    subst (λ t. Reads t o k x y whole) (sym is)
+    (tells_more f (on_ok (constant s.scope hi) bound_of) whole
+    (λ g h.
+    w
+    ∙ ap (λ r. on_ok r (λ u. on_ok (constant s.scope lo) (λ x. on_ok (bound_of x) f3))) new
+    ∙ sym (on_ok-assoc (constant s.scope lo) bound_of f3)
+    ∙ ap (λ r. on_ok r f3) low
+    ∙ sym (on_ok-assoc (constant s.scope hi) bound_of (f4 l))
+    ∙ ap (λ r. on_ok r (f4 l)) h)
+    high)
+
+-- an `if` whose parts are there
+pub if_is : (e : ℕ) (t : Spoken) (a b : source.Block) (s s1 : At) (cond : Term) (f g : Steps) (la lb : At) → counted s ≡ Ok s1 → term_of e s1.scope t s1.popped ≡ Ok cond → steps_of e a (record s1 { popped = s1.popped + pops t }) ≡ Ok (f, la) → steps_of e b (record s1 { popped = s1.popped + pops t; slots = la.slots; size = la.size }) ≡ Ok (g, lb) → la.popped ≡ lb.popped → la.pushed ≡ lb.pushed → step_of e (source.If t a b) s ≡ Ok (one_step (steps.If cond f g), record lb { scope = s1.scope })
+if_is e t a b s s1 cond f g la lb hc ht ha hb p q =
+    let f3 = λ (c : Term) (p : Steps × At). on_ok (steps_of e b (record s1 { popped = s1.popped + pops t; slots = p.1.slots; size = p.1.size })) (after_arms s1 c p) in
+    let f2 = λ (c : Term). on_ok (steps_of e a (record s1 { popped = s1.popped + pops t })) (f3 c) in
+    ap (λ r. on_ok r (λ s. on_ok (term_of e s.scope t s.popped) (λ c. on_ok (steps_of e a (record s { popped = s.popped + pops t })) (λ p. on_ok (steps_of e b (record s { popped = s.popped + pops t; slots = p.1.slots; size = p.1.size })) (after_arms s c p))))) hc
+    ∙ ap (λ r. on_ok r f2) ht
+    ∙ ap (λ r. on_ok r (f3 cond)) ha
+    ∙ ap (λ r. on_ok r (after_arms s1 cond (f, la))) hb
+    ∙ ap (λ t. if t then good (one_step (steps.If cond f g), record lb { scope = s1.scope }) else Err spec.BranchRates) (both_true (nat_eq la.popped lb.popped) (nat_eq la.pushed lb.pushed) (eq_true la.popped lb.popped p) (eq_true la.pushed lb.pushed q))
+  where
+    both_true : (x y : Bool) → x ≡ true → y ≡ true → x && y ≡ true
+    both_true x y h k = rw h k
+
+    eq_true : (x y : ℕ) → x ≡ y → nat_eq x y ≡ true
+    eq_true x y h = grind (arith, h)
+
+abbrev Entry : Type 0
+Entry = Bor (List ℕ) × Known
+
+take_front : {A : Type 0} (xs ys : List A) → take (length xs) (xs ++ ys) ≡ xs
+take_front [] ys = refl
+take_front (x ∷ xs) ys = ap (λ l. x ∷ l) (take_front xs ys)
+
+-- one turn: the variable is the newest name, and is forgotten afterwards
+pub turn_is : (e : ℕ) (b : source.Block) (name : Bor (List ℕ)) (v : ℕ) (s0 s1 s3 : At) (i0 i1 i2 i3 i4 : List Entry) (a : Steps) → s0.scope ≡ scope_of i0 → counted s0 ≡ Ok s1 → i1 ≡ i0 → i2 ≡ i1 ++ (name, known.Turn v) ∷ [] → steps_of e b (record s1 { scope = scope_of i2 }) ≡ Ok (a, s3) → take (length i2) i3 ≡ i2 → i4 ≡ take (length i1) i3 → (turn_of (steps_of e b) name.now v s0 ≡ Ok (a, record s3 { scope = scope_of i4 })) × (i4 ≡ i0)
+turn_is e b name v s0 s1 s3 i0 i1 i2 i3 i4 a sc hc e1 e2 hb kept e4 =
+    let k = λ (p : Steps × At). good (p.0, record p.1 { scope = s0.scope }) in
+    let front : take (length i1) i2 ≡ i1 = ap (take (length i1)) e2 ∙ take_front i1 ((name, known.Turn v) ∷ []) in
+    let same : i4 ≡ i0 = e4 ∙ prefix_trans i1 i2 i3 front kept ∙ e1 in
+    let scope : scope_of i2 ≡ (name.now, spec.Turn v) ∷ s0.scope = ap scope_of e2 ∙ scope-push i1 (name, known.Turn v) ∙ ap (λ l. (name.now, spec.Turn v) ∷ scope_of l) e1 ∙ ap (λ l. (name.now, spec.Turn v) ∷ l) (sym sc) in (
+      ap (λ r. on_ok r (λ t. on_ok (steps_of e b (record t { scope = (name.now, spec.Turn v) ∷ s0.scope })) k)) hc
+          ∙ ap (λ l. on_ok (steps_of e b (record s1 { scope = l })) k) (sym scope)
+          ∙ ap (λ r. on_ok r k) hb
+          ∙ ap (λ l. good (a, record s3 { scope = l })) (sc ∙ ap scope_of (sym same)),
+      same,
+    )
+
+-- an `if` whose arms were read one after the other
+pub if_read : (e : ℕ) (t : Spoken) (a b : source.Block) (s s1 m1 m2 la lb : At) (cond : Term) (k : ℕ) (f g : Steps) → counted s ≡ Ok s1 → term_of e s1.scope t s1.popped ≡ Ok cond → k ≡ s1.popped + pops t → steps_of e a (record s1 { popped = k }) ≡ Ok (f, la) → m1 ≡ record la { scope = s1.scope } → steps_of e b (record m1 { popped = k; pushed = s1.pushed }) ≡ Ok (g, lb) → m2 ≡ record lb { scope = m1.scope } → m1.popped ≡ m2.popped → m1.pushed ≡ m2.pushed → step_of e (source.If t a b) s ≡ Ok (one_step (steps.If cond f g), m2)
+if_read e t a b s s1 m1 m2 la lb cond k f g hc ht hk ha em1 hb em2 p q =
+    let ha' = ap (λ j. steps_of e a (record s1 { popped = j })) (sym hk) ∙ ha in
+    let at : record m1 { popped = k; pushed = s1.pushed } ≡ record s1 { popped = s1.popped + pops t; slots = la.slots; size = la.size } =
+    ap (λ (m : At). record m { popped = k; pushed = s1.pushed }) em1 ∙ ap (λ j. record s1 { popped = j; slots = la.slots; size = la.size }) hk in
+    let hb' = ap (steps_of e b) (sym at) ∙ hb in
+    let p' = sym (ap (λ (m : At). m.popped) em1) ∙ p ∙ ap (λ (m : At). m.popped) em2 in
+    let q' = sym (ap (λ (m : At). m.pushed) em1) ∙ q ∙ ap (λ (m : At). m.pushed) em2 in
+    if_is e t a b s s1 cond f g la lb hc ht ha' hb' p' q'
+    ∙ ap (λ l. good (one_step (steps.If cond f g), record lb { scope = l })) (sym (ap (λ (m : At). m.scope) em1))
+    ∙ ap (λ m. good (one_step (steps.If cond f g), m)) (sym em2)
+
+-- a list that did not change keeps its front
+pub kept_by : {A : Type 0} (xs ys : List A) → ys ≡ xs → take (length xs) ys ≡ xs
+kept_by xs ys e = ap (take (length xs)) e ∙ take_all (length xs) xs (omega arith)

@@ -1,0 +1,131 @@
+// Blocks.
+ghost use Rattle.std.specs.Prelude.{◌≡◌, ◌≤◌, ◌+◌, if◌then◌else◌};
+ghost use Rattle.streamit_model.specs.Elaborate.{step_of, steps_of};
+ghost use Rattle.streamit_unroll.specs.View.{statement, block};
+ghost use Rattle.streamit_unroll.specs.Unrolled.{at_of, Reads, ReadsArm, ReadsTurn, turn_of, AreWritten, IsWritten};
+
+use crate::term::term;
+use crate::{Block, Fault, Known, Statement, Unroller};
+use std::alloc::Global;
+use work_code::{Stmt, Stmts};
+
+impl<'a> Unroller<'a> {
+    // The statements of a block, behind those that are there.
+    #[cycle(unroll)]
+    pub fn block(
+        &mut self,
+        alloc: Global,
+        peek: u32,
+        b: &Block<'a>,
+        out: &mut Stmts,
+    ) -> Result<(), Fault>
+        requires { AreWritten (block b.now) }
+        ensures { Reads result out.old out.new self.old self.new (steps_of peek (block b.now) (at_of self.old)) }
+    {
+        for s in b.items.as_slice() {
+            self.statement(alloc, peek, s, out)?;
+        }
+        Ok(())
+    }
+
+    // A statement, behind those that are there.
+    #[cycle(unroll)]
+    fn statement(
+        &mut self,
+        alloc: Global,
+        peek: u32,
+        s: &Statement<'a>,
+        out: &mut Stmts,
+    ) -> Result<(), Fault>
+        requires { IsWritten (statement s.now) }
+        ensures { Reads result out.old out.new self.old self.new (step_of peek (statement s.now) (at_of self.old)) }
+    {
+        match s {
+            Statement::Push(value) => self.push(alloc, peek, value, out),
+            Statement::Pop => self.pop(peek, out),
+            Statement::Declare { name, value } => self.declare(alloc, peek, name, value, out),
+            Statement::Assign { name, value } => self.assign(alloc, peek, name, value, out),
+            Statement::If { cond, yes, no } => {
+                self.counted()?;
+                let cond = term(alloc, &self.names, peek, cond, &mut self.popped)?;
+                let popped = self.popped;
+                let pushed = self.pushed;
+                let first = self.arm(alloc, peek, yes)?;
+                let popped_first = self.popped;
+                let pushed_first = self.pushed;
+                self.popped = popped;
+                self.pushed = pushed;
+                let second = self.arm(alloc, peek, no)?;
+                if popped_first == self.popped && pushed_first == self.pushed {
+                    out.push(Stmt::If {
+                        cond,
+                        yes: first,
+                        no: second,
+                    })?;
+                    Ok(())
+                } else {
+                    Err(Fault::BranchRates)
+                }
+            }
+            Statement::For {
+                name,
+                low,
+                upto,
+                high,
+                body,
+            } => {
+                self.new_name(name)?;
+                let low = self.bound(low)?;
+                let high = self.bound(high)?;
+                let end = end_of(high, *upto);
+                for v in low..end {
+                    self.turn(alloc, peek, name, v, body, out)?;
+                }
+                Ok(())
+            }
+        }
+    }
+
+    // The statements of an arm of an `if`; what was declared there is not known afterwards.
+    #[cycle(unroll)]
+    fn arm(&mut self, alloc: Global, peek: u32, b: &Block<'a>) -> Result<Stmts, Fault>
+        requires { AreWritten (block b.now) }
+        ensures { ReadsArm result self.old self.new (steps_of peek (block b.now) (at_of self.old)) }
+    {
+        let depth = self.names.items.len();
+        let mut body = Stmts::new(alloc);
+        self.block(alloc, peek, b, &mut body)?;
+        self.names.items.truncate(depth);
+        Ok(body)
+    }
+
+    // A block for one value of a loop's variable, behind the statements that are there.
+    #[cycle(unroll)]
+    fn turn(
+        &mut self,
+        alloc: Global,
+        peek: u32,
+        name: &'a [u8],
+        v: u32,
+        b: &Block<'a>,
+        out: &mut Stmts,
+    ) -> Result<(), Fault>
+        requires { AreWritten (block b.now) }
+        ensures { ReadsTurn result out.old out.new self.old self.new (turn_of (steps_of peek (block b.now)) name.now v (at_of self.old)) }
+    {
+        self.counted()?;
+        let depth = self.names.items.len();
+        self.names.items.push((name, Known::Turn(v)))?;
+        self.block(alloc, peek, b, out)?;
+        self.names.items.truncate(depth);
+        Ok(())
+    }
+}
+
+// Where the turns of a loop end.
+fn end_of(high: u32, upto: bool) -> u32
+    requires { high ≤ 65536 }
+    ensures { result ≡ high + (if upto then 1 else 0) }
+{
+    if upto { high + 1 } else { high }
+}

@@ -1,0 +1,234 @@
+// Filters: their fields, `init`, rates and `work`.
+ghost use Rattle.std.specs.Prelude.{◌≡◌, ◌≤◌, replicate, pos, length, [], Ok, IfOk, OnOk};
+ghost use Rattle.work_code.specs.Steps.{steps, body_of};
+ghost use Rattle.work_code.specs.Ran.{IsBodyWithin, ran};
+ghost use Rattle.kern_rows.specs.Forms.{filter_form};
+ghost use Rattle.kern_rows.specs.Needs.{CanRun};
+ghost use Rattle.kern_rows.specs.Runs.{run_kept};
+ghost use Rattle.streamit_model.specs.Elaborate.{on_ok, steps_of};
+ghost use Rattle.streamit_model.specs.FilterSource.{read_field, read_fields, nothing_read, starts_of, rates_of, kept_rates, elaborated};
+ghost use Rattle.streamit_unroll.specs.Filter.{names_of, optional, filter_tree, push_of, pop_of, peek_of, IsReadable};
+ghost use Rattle.streamit_unroll.specs.Unrolled.{at_of, Reads, AreWritten};
+ghost use Rattle.streamit_unroll.specs.View.{block, Judges};
+
+use crate::{Block, Fault, FilterTree, Known, Names, Rates, Unroller};
+use kern_rows::Filter;
+use river_base::{NoMemory, Numbers};
+use std::alloc::Global;
+use work_code::{Code, Emitted, Stmts, run_code};
+
+/// The filter of a plan for a filter as it is written, or the first fault in reading order.
+pub fn filter(alloc: Global, tree: &FilterTree<'_>) -> Result<Filter, Fault>
+    requires { IsReadable (filter_tree tree.now) }
+    ensures { Judges filter_form result (elaborated (filter_tree tree.now)) }
+{
+    let mut unroller = Unroller::new(alloc);
+    unroller.filter(alloc, tree)
+}
+
+// The rates of a filter: how many items it pushes, pops and looks at.
+#[derive(Clone, Copy)]
+struct Counts {
+    push: u32,
+    pop: u32,
+    peek: u32,
+}
+
+impl Counts {
+    // The rates, where some are written.
+    fn of(rates: Rates) -> Counts
+        ensures push { result.push ≡ push_of rates }
+        ensures pop { result.pop ≡ pop_of rates }
+        ensures peek { result.peek ≡ peek_of rates }
+    {
+        let pop = rates.pop.unwrap_or(0);
+        Counts {
+            push: rates.push.unwrap_or(0),
+            pop,
+            peek: rates.peek.unwrap_or(pop),
+        }
+    }
+
+    // Whether they may stand there.
+    fn judged(self) -> Result<(), Fault>
+        ensures { Judges (λ u. u) result (rates_of self.push self.pop self.peek) }
+    {
+        if self.push > 65536 || self.pop > 65536 || self.peek > 65536 || self.pop == 0 {
+            return Err(Fault::Limit);
+        }
+        if self.peek < self.pop {
+            return Err(Fault::Rates {
+                declared: self.peek,
+                counted: self.pop,
+            });
+        }
+        Ok(())
+    }
+}
+
+impl<'a> Unroller<'a> {
+    // Nothing was read.
+    fn new(alloc: Global) -> Unroller<'a>
+        ensures { at_of result ≡ nothing_read }
+    {
+        Unroller {
+            names: Names {
+                items: Vec::new(alloc),
+            },
+            slots: 0,
+            popped: 0,
+            pushed: 0,
+            size: 0,
+        }
+    }
+
+    // The filter, where nothing was read.
+    fn filter(&mut self, alloc: Global, tree: &FilterTree<'a>) -> Result<Filter, Fault>
+        requires nothing { at_of self.old ≡ nothing_read }
+        requires readable { IsReadable (filter_tree tree.now) }
+        ensures { Judges filter_form result (elaborated (filter_tree tree.now)) }
+    {
+        self.fields(tree.fields.as_slice())?;
+        let starts = self.starts(alloc, tree)?;
+        let rates = Counts::of(tree.rates);
+        rates.judged()?;
+        let code = self.work(alloc, rates, &tree.work)?;
+        Ok(Filter {
+            peek: rates.peek,
+            pop: rates.pop,
+            push: rates.push,
+            code,
+            starts,
+        })
+    }
+
+    // The fields, one after another.
+    fn fields(&mut self, fields: &[&'a [u8]]) -> Result<(), Fault>
+        ensures { Judges (λ _. at_of self.new) result (read_fields (names_of fields.now) (at_of self.old)) }
+    {
+        for name in fields {
+            self.field(name)?;
+        }
+        Ok(())
+    }
+
+    // A field, in the next slot.
+    fn field(&mut self, name: &'a [u8]) -> Result<(), Fault>
+        ensures { Judges (λ _. at_of self.new) result (read_field name.now (at_of self.old)) }
+    {
+        self.new_name(name)?;
+        let slot = self.slots;
+        if slot >= 256 {
+            return Err(Fault::Limit);
+        }
+        self.slots = slot + 1;
+        self.names.items.push((name, Known::Var(slot)))?;
+        Ok(())
+    }
+
+    // What the fields are after `init`; all that is known is as it was before.
+    fn starts(&mut self, alloc: Global, tree: &FilterTree<'a>) -> Result<Numbers, Fault>
+        requires fields { read_fields (filter_tree tree.now).fields nothing_read ≡ Ok (at_of self.old) }
+        requires readable { IsReadable (filter_tree tree.now) }
+        ensures starts { Judges (λ zs. zs) result (on_ok (steps_of 0 (filter_tree tree.now).init (at_of self.old)) (λ i. Ok (starts_of (length (filter_tree tree.now).fields) i))) }
+        ensures back { OnOk result (at_of self.new ≡ at_of self.old) }
+    {
+        let (slots, popped, pushed, size) = (self.slots, self.popped, self.pushed, self.size);
+        let known = self.names.items.len();
+        let mut body = Stmts::new(alloc);
+        self.optional(alloc, &tree.init, &mut body)?;
+        let starts = after_one_run(alloc, tree.fields.len(), self.slots, body)?;
+        self.names.items.truncate(known);
+        self.slots = slots;
+        self.popped = popped;
+        self.pushed = pushed;
+        self.size = size;
+        Ok(starts)
+    }
+
+    // The block of `init`, where there is one.
+    fn optional(
+        &mut self,
+        alloc: Global,
+        init: &Option<Block<'a>>,
+        out: &mut Stmts,
+    ) -> Result<(), Fault>
+        requires { AreWritten (optional init.now) }
+        ensures { Reads result out.old out.new self.old self.new (steps_of 0 (optional init.now) (at_of self.old)) }
+    {
+        match init {
+            None => Ok(()),
+            Some(block) => self.block(alloc, 0, block, out),
+        }
+    }
+
+    // The body of `work`, and whether it keeps the rates.
+    fn work(&mut self, alloc: Global, rates: Counts, work: &Block<'a>) -> Result<Code, Fault>
+        requires { AreWritten (block work.now) }
+        ensures { Judges body_of result (on_ok (steps_of rates.peek (block work.now) (at_of self.old)) (λ w. on_ok (kept_rates rates.push rates.pop w.1) (λ v. Ok (record { inputs = rates.peek; slots = w.1.slots; steps = w.0 })))) }
+    {
+        let mut body = Stmts::new(alloc);
+        self.block(alloc, rates.peek, work, &mut body)?;
+        self.kept(rates)?;
+        Ok(Code {
+            inputs: rates.peek,
+            slots: self.slots,
+            body,
+        })
+    }
+
+    // Whether as many items were popped and pushed as is declared.
+    fn kept(&self, rates: Counts) -> Result<(), Fault>
+        ensures { Judges (λ u. u) result (kept_rates rates.push rates.pop (at_of self.now)) }
+    {
+        if self.popped != rates.pop {
+            return Err(Fault::Rates {
+                declared: rates.pop,
+                counted: self.popped,
+            });
+        }
+        if self.pushed != rates.push {
+            return Err(Fault::Rates {
+                declared: rates.push,
+                counted: self.pushed,
+            });
+        }
+        Ok(())
+    }
+}
+
+// The slots of so many fields, which were 0, after one run of the statements of `init`.
+fn after_one_run(alloc: Global, fields: usize, slots: u32, body: Stmts) -> Result<Numbers, NoMemory>
+    requires { CanRun 0 (record { inputs = 0; slots = slots; steps = steps body }) fields }
+    ensures { IfOk result (λ kept. kept ≡ (run_kept (record { inputs = 0; slots = slots; steps = steps body }) (replicate fields (pos 0)) []).slots) }
+{
+    let code = Code {
+        inputs: 0,
+        slots,
+        body,
+    };
+    let mut all = zeros(alloc, slots)?;
+    run_once(alloc, &code, &mut all)?;
+    all.truncate(fields);
+    Ok(all)
+}
+
+// One run on no items.
+fn run_once(alloc: Global, code: &Code, all: &mut Numbers) -> Result<(), NoMemory>
+    requires { IsBodyWithin 0 (length all.old) (body_of code.now).steps }
+    ensures { OnOk result (all.new ≡ (ran (body_of code.now).steps [] all.old).slots) }
+{
+    let mut out = Emitted::new(alloc);
+    run_code(code, &[], all.as_mut_slice(), &mut out)
+}
+
+// So many zeros.
+fn zeros(alloc: Global, count: u32) -> Result<Numbers, NoMemory>
+    ensures { IfOk result (λ all. all ≡ replicate count (pos 0)) }
+{
+    let mut all = Numbers::new(alloc);
+    for _i in 0..count {
+        all.push(0)?;
+    }
+    Ok(all)
+}

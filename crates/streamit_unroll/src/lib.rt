@@ -1,0 +1,17 @@
+//! From the trees of StreamIt programs to their plans: unrolls filters, tells the first fault, builds.
+#![tactic(auto)]
+
+mod blocks;
+mod fault;
+mod filters;
+mod names;
+mod simple;
+mod term;
+mod tree;
+mod unroll;
+
+pub use fault::Fault;
+pub use filters::filter;
+pub use names::{Known, Names};
+pub use tree::{Block, FilterTree, Rates, Statement};
+pub use unroll::Unroller;

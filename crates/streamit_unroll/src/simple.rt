@@ -1,0 +1,148 @@
+// Statements that hold no block.
+ghost use Rattle.std.specs.Prelude.{◌≡◌, ◌<◌, ◌≤◌, ◌+◌, ◌^◌, OnOk, IfOk, length, take};
+ghost use Rattle.work_code.specs.Term.{term};
+ghost use Rattle.text_forms.specs.Tree.{spoken};
+ghost use Rattle.streamit_model.specs.Elaborate.{At, find, is_new, slot_of, step_of, constant, bound_of, on_ok, first_term, first_popped};
+ghost use Rattle.streamit_model.specs.Source.{Declare, Assign, Push, Pop};
+ghost use Rattle.streamit_unroll.specs.View.{scope_of, Judges, option_spoken};
+ghost use Rattle.streamit_unroll.specs.Unrolled.{at_of, Reads, AreOptional};
+ghost use Rattle.streamit_unroll.specs.Numbers.{AreValues};
+
+use crate::term::{constant, term};
+use crate::{Fault, Known, Unroller};
+use std::alloc::Global;
+use text_forms::Tree;
+use work_code::{Expr, Exprs, Stmt, Stmts};
+
+impl<'a> Unroller<'a> {
+    // A name is not known yet.
+    pub fn new_name(&self, name: &[u8]) -> Result<(), Fault>
+        ensures { Judges (λ u. u) result (is_new (find (at_of self.now).scope name.now)) }
+    {
+        match self.names.find(name) {
+            None => Ok(()),
+            Some(_) => Err(Fault::NameTwice),
+        }
+    }
+
+    // A bound of a loop.
+    pub fn bound(&self, tree: &Tree<'_>) -> Result<u32, Fault>
+        requires { AreValues (spoken tree.now) }
+        ensures judged { Judges (λ n. n) result (on_ok (constant (at_of self.now).scope (spoken tree.now)) bound_of) }
+        ensures small { IfOk result (λ n. n ≤ 65536) }
+    {
+        let value = constant(&self.names, tree)?;
+        if 0 <= value && value <= 65536 {
+            Ok(value as u32)
+        } else {
+            Err(Fault::Limit)
+        }
+    }
+
+    // `push(e);`
+    pub fn push(
+        &mut self,
+        alloc: Global,
+        peek: u32,
+        value: &Tree<'_>,
+        out: &mut Stmts,
+    ) -> Result<(), Fault>
+        requires { AreValues (spoken value.now) }
+        ensures { Reads result out.old out.new self.old self.new (step_of peek (Push (spoken value.now)) (at_of self.old)) }
+    {
+        self.counted()?;
+        let value = term(alloc, &self.names, peek, value, &mut self.popped)?;
+        let Some(pushed) = self.pushed.checked_add(1) else {
+            return Err(Fault::NoMemory);
+        };
+        self.pushed = pushed;
+        let mut values = Exprs::new(alloc);
+        values.push(value)?;
+        out.push(Stmt::Push { port: 0, values })?;
+        Ok(())
+    }
+
+    // `pop();`
+    pub fn pop(&mut self, peek: u32, out: &mut Stmts) -> Result<(), Fault>
+        ensures { Reads result out.old out.new self.old self.new (step_of peek Pop (at_of self.old)) }
+    {
+        let Some(popped) = self.popped.checked_add(1) else {
+            return Err(Fault::NoMemory);
+        };
+        self.popped = popped;
+        Ok(())
+    }
+
+    // `NAME = e;`
+    pub fn assign(
+        &mut self,
+        alloc: Global,
+        peek: u32,
+        name: &[u8],
+        value: &Tree<'_>,
+        out: &mut Stmts,
+    ) -> Result<(), Fault>
+        requires { AreValues (spoken value.now) }
+        ensures { Reads result out.old out.new self.old self.new (step_of peek (Assign name.now (spoken value.now)) (at_of self.old)) }
+    {
+        self.counted()?;
+        let slot = self.slot_of(name)?;
+        let value = term(alloc, &self.names, peek, value, &mut self.popped)?;
+        out.push(Stmt::Set { slot, value })?;
+        Ok(())
+    }
+
+    // The slot that an assignment sets.
+    fn slot_of(&self, name: &[u8]) -> Result<u32, Fault>
+        ensures { Judges (λ n. n) result (slot_of (find (at_of self.now).scope name.now)) }
+    {
+        match self.names.find(name) {
+            None => Err(Fault::UnknownName),
+            Some(Known::Var(slot)) => Ok(slot),
+            Some(Known::Turn(_)) => Err(Fault::NotConstant),
+        }
+    }
+
+    // `int NAME = e;`
+    pub fn declare(
+        &mut self,
+        alloc: Global,
+        peek: u32,
+        name: &'a [u8],
+        value: &Option<Tree<'a>>,
+        out: &mut Stmts,
+    ) -> Result<(), Fault>
+        requires { AreOptional (option_spoken value.now) }
+        ensures { Reads result out.old out.new self.old self.new (step_of peek (Declare name.now (option_spoken value.now)) (at_of self.old)) }
+    {
+        self.counted()?;
+        self.new_name(name)?;
+        let slot = self.slots;
+        if slot >= 256 {
+            return Err(Fault::Limit);
+        }
+        let value = self.first_term(alloc, peek, value)?;
+        self.slots = slot + 1;
+        self.names.items.push((name, Known::Var(slot)))?;
+        out.push(Stmt::Set { slot, value })?;
+        Ok(())
+    }
+
+    // The first value of a local.
+    fn first_term(
+        &mut self,
+        alloc: Global,
+        peek: u32,
+        value: &Option<Tree<'_>>,
+    ) -> Result<Expr, Fault>
+        requires { AreOptional (option_spoken value.now) }
+        ensures judged { Judges term result (first_term peek (option_spoken value.now) (at_of self.old)) }
+        ensures popped { OnOk result (at_of self.new ≡ record (at_of self.old) { popped = self.old.popped + first_popped (option_spoken value.now) }) }
+        ensures names { self.new.names ≡ self.old.names }
+    {
+        match value {
+            None => Ok(Expr::Const(0)),
+            Some(value) => term(alloc, &self.names, peek, value, &mut self.popped),
+        }
+    }
+}

@@ -1,0 +1,32 @@
+// Unrolls the blocks of a filter.
+ghost use Rattle.std.specs.Prelude.{◌≡◌};
+ghost use Rattle.streamit_model.specs.Elaborate.{counted};
+ghost use Rattle.streamit_unroll.specs.View.{Judges};
+ghost use Rattle.streamit_unroll.specs.Unrolled.{at_of};
+
+use crate::{Fault, Names};
+
+/// What is known where the reading stands, and what was counted.
+#[derive(Drop)]
+pub struct Unroller<'a> {
+    pub names: Names<'a>,
+    pub slots: u32,
+    pub popped: u32,
+    pub pushed: u32,
+    pub size: u32,
+}
+
+impl<'a> Unroller<'a> {
+    // One statement or turn more.
+    pub fn counted(&mut self) -> Result<(), Fault>
+        ensures judged { Judges (λ _. at_of self.new) result (counted (at_of self.old)) }
+        ensures names { self.new.names ≡ self.old.names }
+    {
+        if self.size < 16384 {
+            self.size += 1;
+            Ok(())
+        } else {
+            Err(Fault::Limit)
+        }
+    }
+}
