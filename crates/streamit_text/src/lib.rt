@@ -1,0 +1,2 @@
+//! Reads StreamIt programs.
+#![tactic(auto)]
