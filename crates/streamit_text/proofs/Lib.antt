@@ -1,3 +1,5 @@
+pub mod Blocks
 pub mod Statements
 pub mod Texts
+pub mod Trees
 pub mod Units

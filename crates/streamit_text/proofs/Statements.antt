@@ -17,7 +17,7 @@ use Rattle.text_forms.proofs.Ladder.{Ends, exact-expr}
 use Rattle.streamit_model.specs.Source.{Statement, Assign, Push, Block}
 use Rattle.streamit_unroll.specs.View.{in_turn}
 use Rattle.streamit_text.specs.Grammar.{Plain, has_values, Expr, Round, Empty, made_declare, IsDeclare, IsAssign, IsPush, popping, IsPop, or_end, made_if, IsIf, Upto, made_head, HeadAfter, IsHead, made_for, IsFor, IsBlockOf, StmtAfter, IsStmt, IsBlock}
-use Rattle.streamit_text.specs.Reading.{term_at, round, empty_at, round_term_at, declare_at, ended_at, assign_at, push_at, pop_at, else_at, if_at, upto_at, head_after, named_head_at, head_at, round_head_at, for_at, at_close, block_of_at, stmt_after, stmts_of, stmt_at, stmts_at, block_at}
+use Rattle.streamit_text.specs.Reading.{term_at, round, empty_at, round_term_at, first_value_at, declare_at, ended_at, assign_at, push_at, pop_at, else_at, if_at, upto_at, head_after, named_head_at, head_at, round_head_at, for_at, at_close, block_of_at, stmt_after, stmts_of, stmt_at, stmts_at, block_at}
 
 -- a name that users may give
 pub exact-plain : Exact Plain (plain_name_at StreamIt) Any
@@ -46,7 +46,7 @@ unfolding ended_at
 exact-ended n = exact-before (s.Semicolon ∷ []) (exact-term n) (λ rest j h. refl)
 
 exact-declare : (n : ℕ) → Exact (IsDeclare n) (declare_at n) Any
-unfolding declare_at
+unfolding declare_at first_value_at
 exact-declare n =
     exact-seen made_declare (exact-both exact-plain (exact-before (s.Semicolon ∷ [])
     (exact-maybe (parse.begins_with s.Assign) (exact-after (s.Assign ∷ []) (exact-term n)) (λ v ts rest h. rw h.is refl)) (λ rest. (λ j h. refl, refl))) (λ y ts rest g d. tt))

@@ -1,5 +1,5 @@
 -- How programs are read: the grammar in the words of reading functions.
-use Rattle.std.specs.Prelude.{ℕ, zero, suc, Bool, true, false, not, List, [], ◌∷◌, Some, None, Result, Err, codes, if◌then◌else◌}
+use Rattle.std.specs.Prelude.{ℕ, zero, suc, Bool, true, false, not, List, [], ◌∷◌, Option, Some, None, Result, Err, codes, if◌then◌else◌}
 use Rattle.std.specs.Str.{bytes_eq}
 use Rattle.work_code.specs.Tok.{Tok}
 use Rattle.work_code.specs.declared.sign.Symbol.TheVariants as s
@@ -27,8 +27,12 @@ empty_at n ts = round (λ m. nothing_at tt) n ts
 unfoldable pub round_term_at : ℕ → Parse Spoken
 round_term_at n ts = round term_at n ts
 
+-- "=" and an expression, or nothing
+unfoldable pub first_value_at : ℕ → Parse (Option Spoken)
+first_value_at n ts = maybe (begins_with s.Assign) (after (s.Assign ∷ []) (term_at n)) ts
+
 unfoldable pub declare_at : ℕ → Parse Statement
-declare_at n ts = seen made_declare (both (plain_name_at StreamIt) (before (maybe (begins_with s.Assign) (after (s.Assign ∷ []) (term_at n))) (s.Semicolon ∷ []))) ts
+declare_at n ts = seen made_declare (both (plain_name_at StreamIt) (before (first_value_at n) (s.Semicolon ∷ []))) ts
 
 -- an expression and a semicolon
 unfoldable pub ended_at : ℕ → Parse Spoken

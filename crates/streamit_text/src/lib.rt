@@ -1,2 +1,6 @@
 //! Reads StreamIt programs.
 #![tactic(auto)]
+
+mod block;
+pub mod laws;
+mod term;
