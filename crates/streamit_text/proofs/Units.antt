@@ -2,6 +2,7 @@
 use Rattle.std.proofs.Common.{◌≡◌, ℕ, zero, suc, List, [], ◌∷◌, ◌++◌, Bool, true, false, Option, Some, None, refl, arith, append_assoc}
 use Rattle.std.specs.Prelude.{codes}
 use Rattle.std.specs.Str.{bytes_eq}
+use Rattle.river_base.specs.Name.{is_name}
 use Rattle.work_code.specs.Tok.{Tok, name, symbol}
 use Rattle.work_code.specs.declared.sign.Symbol.TheVariants as s
 use Rattle.text_forms.specs.declared.language.Language.TheVariants.{StreamIt}
@@ -14,8 +15,8 @@ use Rattle.text_forms.proofs.Many.{Listed, exact-many}
 use Rattle.text_forms.proofs.Choices.{exact-never, exact-choose, exact-headed, exact-known, exact-enclosed, exact-listing}
 use Rattle.streamit_model.specs.Source.{Block}
 use Rattle.streamit_model.specs.Program.{Turns, Adds, Body, AFilter, APipeline, Declared}
-use Rattle.streamit_text.specs.Grammar.{Plain, Count, Weight, Round, or_end, stay, IsBlock, IsInit, IsField, Rate, push, pop, peek, RateAfter, IsRate, Rates, rates_in, unwritten, AreRates, made_filter, InFilter, Braces, none_there, Parens, the_name, Called, IsAdd, made_adds, AreAdds, or_none, Weights, copying, SplitAfter, IsSplit, IsJoin, made_both, InBoth, BodyAfter, made_unit, KindAfter, IsUnit, IsUnitAt}
-use Rattle.streamit_text.specs.Reading.{still_at, init_at, no_field, field_at, fields_at, rate_after, rate_at, at_block, rate_list_at, rates_at, block_at, in_filter_at, braces, filter_at, parens_at, called_at, add_at, no_add, more_adds_at, adds_at, weight_at, listed_at, weights_at, split_after, split_at, join_at, in_both_at, pipe_at, both_at, body_after, kind_after, unit_at, unit_from}
+use Rattle.streamit_text.specs.Grammar.{Plain, StreamName, Count, Weight, Round, or_end, stay, IsBlock, IsInit, IsField, Rate, push, pop, peek, RateAfter, IsRate, Rates, rates_in, unwritten, AreRates, made_filter, InFilter, Braces, none_there, Parens, the_name, Called, IsAdd, made_adds, AreAdds, or_none, Weights, copying, SplitAfter, IsSplit, IsJoin, made_both, InBoth, BodyAfter, made_unit, KindAfter, IsUnit, IsUnitAt}
+use Rattle.streamit_text.specs.Reading.{still_at, init_at, no_field, field_at, fields_at, rate_after, rate_at, at_block, rate_list_at, rates_at, block_at, in_filter_at, braces, filter_at, parens_at, stream_name_at, called_at, add_at, no_add, more_adds_at, adds_at, weight_at, listed_at, weights_at, split_after, split_at, join_at, in_both_at, pipe_at, both_at, body_after, kind_after, unit_at, unit_from}
 use Rattle.streamit_text.proofs.Statements.{exact-plain, exact-round, exact-empty, exact-block}
 
 exact-still : (n : ℕ) → Exact (form.Tested stay (IsBlock 16 n)) (still_at n) Any
@@ -32,7 +33,7 @@ exact-init n = exact-less (exact-seen or_end (exact-maybe (parse.is_word_at (cod
   comes : (v : Block) (ts rest : List Tok) → form.AfterWord (codes "init") (form.Tested stay (IsBlock 16 n)) v ts → parse.is_word_at (codes "init") (ts ++ rest) ≡ true
   comes v ts rest h = rw h.is refl
 
-exact-field : Exact IsField field_at Any
+pub exact-field : Exact IsField field_at Any
 unfolding field_at
 exact-field = exact-after_word (codes "int") (exact-before (s.Semicolon ∷ []) exact-plain (λ rest. tt))
 
@@ -50,7 +51,7 @@ exact-fields = exact-less (exact-many no_field exact-field listed-fields) (λ re
 exact-count : Exact Count parse.count_at Any
 exact-count = exact-tested parse.is_count exact-number
 
-exact-rate : Exact IsRate rate_at Any
+pub exact-rate : Exact IsRate rate_at Any
 unfolding rate_at rate_after
 exact-rate =
     exact-headed (λ w. exact-choose (bytes_eq w (codes "push")) (exact-seen push exact-count)
@@ -103,11 +104,15 @@ exact-parens : (n : ℕ) → Exact (Parens n) (parens_at n) NoOpen
 unfolding parens_at
 exact-parens n = exact-less (exact-seen none_there (exact-maybe (parse.begins_with s.Open) (exact-empty n) (λ v ts rest h. round-begins (λ m. form.Nothing tt) n v ts rest h))) (λ rest d. (tt, d))
 
+exact-stream_name : Exact StreamName stream_name_at Any
+unfolding stream_name_at
+exact-stream_name = exact-tested is_name exact-plain
+
 exact-called : (n : ℕ) → Exact (Called n) (called_at n) NoOpen
 unfolding called_at
-exact-called n = exact-seen the_name (exact-both exact-plain (exact-parens n) (λ y ts rest g d. tt))
+exact-called n = exact-seen the_name (exact-both exact-stream_name (exact-parens n) (λ y ts rest g d. tt))
 
-exact-add : (n : ℕ) → Exact (IsAdd n) (add_at n) Any
+pub exact-add : (n : ℕ) → Exact (IsAdd n) (add_at n) Any
 unfolding add_at
 exact-add n = exact-after_word (codes "add") (exact-before (s.Semicolon ∷ []) (exact-called n) (λ rest. refl))
 
@@ -122,7 +127,7 @@ exact-adds : (n : ℕ) → Exact (AreAdds n) (adds_at n) (λ rest. no_add rest �
 unfolding adds_at more_adds_at
 exact-adds n = exact-seen made_adds (exact-both (exact-add n) (exact-less (exact-many no_add (exact-add n) (listed-adds n)) (λ rest d. (tt, d))) (λ y ts rest g d. tt))
 
-exact-weight : Exact Weight weight_at Any
+pub exact-weight : Exact Weight weight_at Any
 unfolding weight_at
 exact-weight = exact-tested parse.is_value exact-number
 

@@ -2,6 +2,7 @@
 -- pipelines and split-joins). `n` is how many more brackets may be open.
 use Rattle.std.specs.Prelude.{◌≡◌, ℕ, zero, suc, ◌&&◌, Bool, true, false, List, [], ◌∷◌, Option, Some, None, Ok, codes}
 use Rattle.std.specs.Str.{bytes_eq}
+use Rattle.river_base.specs.Name.{is_name}
 use Rattle.work_code.specs.Cut.{units_of}
 use Rattle.work_code.specs.Lexis.{tokens_in}
 use Rattle.work_code.specs.Tok.{Tok, Mark, toks}
@@ -22,6 +23,10 @@ use Rattle.streamit_unroll.specs.View.{in_turn}
 -- NAME: at most 40 bytes, no @, and no keyword
 abbrev pub Plain : List ℕ → List Tok → Type 0
 Plain = Tested (is_plain StreamIt) Name
+
+-- a stream's NAME: as names of plans are, it begins with a letter or _
+abbrev pub StreamName : List ℕ → List Tok → Type 0
+StreamName = Tested is_name Plain
 
 -- N that counts something: at most 4294967295
 abbrev pub Count : ℕ → List Tok → Type 0
@@ -251,7 +256,7 @@ abbrev pub the_name : List ℕ × Unit {0} → List ℕ
 the_name v = v.0
 
 abbrev pub Called : ℕ → List ℕ → List Tok → Type 0
-Called n = Seen the_name (Both Plain (Parens n))
+Called n = Seen the_name (Both StreamName (Parens n))
 
 -- "add" NAME ["(" ")"] ";"
 abbrev pub IsAdd : ℕ → List ℕ → List Tok → Type 0

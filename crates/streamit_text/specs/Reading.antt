@@ -1,6 +1,7 @@
 -- How programs are read: the grammar in the words of reading functions.
 use Rattle.std.specs.Prelude.{ℕ, zero, suc, Bool, true, false, not, List, [], ◌∷◌, Option, Some, None, Result, Err, codes, if◌then◌else◌}
 use Rattle.std.specs.Str.{bytes_eq}
+use Rattle.river_base.specs.Name.{is_name}
 use Rattle.work_code.specs.Tok.{Tok}
 use Rattle.work_code.specs.declared.sign.Symbol.TheVariants as s
 use Rattle.text_forms.specs.declared.language.Language.TheVariants.{StreamIt}
@@ -8,7 +9,7 @@ use Rattle.text_forms.specs.Ladder.{expr_at}
 use Rattle.text_forms.specs.Language.{is_plain, plain_name_at}
 use Rattle.text_forms.specs.Texts.{read_units}
 use Rattle.text_forms.specs.Tree.{Spoken}
-use Rattle.text_forms.specs.Parse.{Parse, begins_with, is_word_at, is_value, count_at, number_at, nothing_at, both, after, before, after_word, tested, seen, known, merged, maybe, many, listing, headed, enclosed}
+use Rattle.text_forms.specs.Parse.{Parse, begins_with, is_word_at, is_value, count_at, number_at, nothing_at, both, after, before, after_word, tested, seen, known, merged, maybe, many, commas, listing, headed, enclosed}
 use Rattle.streamit_model.specs.Source.{Statement, Assign, Push, Block}
 use Rattle.streamit_model.specs.FilterSource.{FilterTree}
 use Rattle.streamit_model.specs.Program.{Dealing, Turns, Adds, Body, AFilter, APipeline, Declared}
@@ -162,8 +163,11 @@ filter_at n ts = braces in_filter_at n ts
 unfoldable pub parens_at : ℕ → Parse (Unit {0})
 parens_at n ts = seen none_there (maybe (begins_with s.Open) (empty_at n)) ts
 
+unfoldable pub stream_name_at : Parse (List ℕ)
+stream_name_at ts = tested is_name (plain_name_at StreamIt) ts
+
 unfoldable pub called_at : ℕ → Parse (List ℕ)
-called_at n ts = seen the_name (both (plain_name_at StreamIt) (parens_at n)) ts
+called_at n ts = seen the_name (both stream_name_at (parens_at n)) ts
 
 unfoldable pub add_at : ℕ → Parse (List ℕ)
 add_at n ts = after_word (codes "add") (before (called_at n) (s.Semicolon ∷ [])) ts
@@ -179,6 +183,9 @@ adds_at n ts = seen made_adds (both (add_at n) (more_adds_at n)) ts
 
 unfoldable pub weight_at : Parse ℕ
 weight_at ts = tested is_value number_at ts
+
+unfoldable pub some_weights_at : Parse (List ℕ)
+some_weights_at ts = commas weight_at ts
 
 unfoldable pub listed_at : ℕ → Parse (List ℕ)
 listed_at n ts = round (λ m. listing s.Close weight_at) n ts

@@ -3,4 +3,6 @@
 
 mod block;
 pub mod laws;
+mod names;
+mod rounds;
 mod term;
