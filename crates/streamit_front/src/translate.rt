@@ -42,6 +42,7 @@ fn lists(alloc: Global, program: &StreamitProgram) -> Result<RawPlan, NoMemory>
 }
 
 // Fills empty lists.
+#[tactic(auto, unfolding(river_base::specs::Name::is_word, river_base::specs::Name::is_letter, river_base::specs::Name::is_digit))]
 fn fill(label: Name, op: Op, raw: &mut RawPlan) -> Result<(), NoMemory>
     ensures outputs { OnOk result (raw.new.outputs ≡ raw.old.outputs ++ (queue_of (codes "out") ∷ [])) }
     ensures inputs { OnOk result (raw.new.inputs ≡ raw.old.inputs ++ (queue_of (codes "in") ∷ [])) }
@@ -89,6 +90,7 @@ fn values_in(name: Name) -> Decl
 }
 
 // The operator, with this name.
+#[tactic(auto, unfolding(river_base::specs::Name::is_word, river_base::specs::Name::is_letter, river_base::specs::Name::is_digit))]
 fn op(alloc: Global, program: &StreamitProgram, label: Name) -> Result<Op, NoMemory>
     requires { label ≡ label_of program.now.name }
     ensures { IfOk result (λ op. op_form op ≡ op_of (program_of program.now)) }
