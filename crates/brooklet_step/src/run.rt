@@ -7,7 +7,8 @@ ghost use Rattle.brooklet_step.specs.Built.{IsBuilt};
 ghost use Rattle.brooklet_step.specs.Drained.{IsDrained, Follows, DrainedBefore, HasPorts, HasRun};
 ghost use Rattle.brooklet_step.specs.Fit.{Fit};
 
-use crate::{Inputs, ItemLists, Machine};
+use crate::machine::Lines;
+use crate::{Inputs, Machine};
 use river_base::{NoMemory, Numbers};
 use river_plan::Plan;
 use std::alloc::Global;
@@ -16,7 +17,7 @@ use std::alloc::Global;
 /// operator fired, a count of 2^63 - 1 standing for all that are greater.
 #[derive(Drop)]
 pub struct Outcome {
-    pub outs: ItemLists,
+    pub outs: Lines,
     pub counts: Numbers,
 }
 
@@ -30,8 +31,7 @@ pub fn run_one(alloc: Global, plan: &Plan, inputs: Inputs) -> Result<Outcome, No
 {
     let mut machine = Machine::start(alloc, plan, inputs)?;
     run_all(alloc, plan, &mut machine)?;
-    let outcome = machine.into_outcome(alloc)?;
-    Ok(outcome)
+    machine.into_outcome(alloc)
 }
 
 // All operators, one after another.

@@ -94,7 +94,7 @@ fn run<S: Shelf>(
     check_runs(alloc, plan)?;
     let decls = plan.raw().inputs.as_slice();
     let rows = gather(alloc, decls, job.ins.as_slice(), job.options.header, shelf)?;
-    Ok(output(alloc, plan, &rows, counted)?)
+    Ok(output(alloc, plan, rows, counted)?)
 }
 
 // A plan is refused if such plans are not run so far.
