@@ -5,7 +5,6 @@ pub mod Fields
 pub mod Programs
 pub mod Rates
 pub mod Statements
-pub mod Still
 pub mod Texts
 pub mod Trees
 pub mod Units
