@@ -1,0 +1,7 @@
+pub mod Adding
+pub mod Blocks
+pub mod Statements
+pub mod Texts
+pub mod Trees
+pub mod Units
+pub mod Weighing

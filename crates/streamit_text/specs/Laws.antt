@@ -1,0 +1,22 @@
+-- What is true of all texts.
+use Rattle.std.specs.Prelude.{◌≡◌, ◌⊎◌, ℕ, List, [], Ok}
+use Rattle.work_code.specs.Cut.{units_of}
+use Rattle.work_code.specs.Lexis.{tokens_in}
+use Rattle.work_code.specs.Tok.{Tok, Mark, toks}
+use Rattle.text_forms.specs.Texts.{IsFirstBad}
+use Rattle.streamit_model.specs.Program.{Program}
+use Rattle.streamit_text.specs.Grammar.{IsText, IsUnitAt, next_unit}
+
+-- a text stands for one program at most
+abbrev pub OneProgram : Type 0
+OneProgram = (text : List ℕ) (p q : Program) → IsText text p → IsText text q → p ≡ q
+
+-- there is no unit, and the first is told
+abbrev pub IsEmpty : List (List Tok) → ℕ → Type 0
+IsEmpty units n = (units ≡ []) × (n ≡ 1)
+
+-- the text has tokens, and the unit with this number, from 1, is the first that is not in the grammar; of a text without a unit it is the first
+pub record IsBadAt (text : List ℕ) (n : ℕ) : Type 0 where
+  pub marks : List Mark
+  pub lexed : tokens_in text ≡ Ok marks
+  pub first : IsFirstBad IsUnitAt next_unit tt (units_of (toks marks)) n ⊎ IsEmpty (units_of (toks marks)) n

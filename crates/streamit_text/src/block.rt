@@ -1,0 +1,308 @@
+// Statements and blocks read.
+ghost use Rattle.std.specs.Prelude.{◌≡◌};
+ghost use Rattle.text_forms.specs.Gives.{Gives};
+ghost use Rattle.text_forms.specs.Tree.{spoken};
+ghost use Rattle.streamit_unroll.specs.View.{option_spoken, statement, block};
+ghost use Rattle.streamit_text.specs.Reading.{empty_at, first_value_at, declare_at, assign_at, push_at, pop_at, upto_at, head_after, named_head_at, head_at, round_head_at, stmt_at, stmts_at, stmt_after, branch_at, loop_at, else_at, block_at};
+ghost use Rattle.streamit_text.specs.View.{head_of};
+
+use crate::term::{ended, round_term, term};
+use std::alloc::Global;
+use streamit_unroll::{Block, Statement};
+use text_forms::{Fault, Language, Reader, Tree};
+use work_code::Symbol;
+
+/// `()`
+#[tactic(auto, unfolding(crate::specs::Reading::empty_at))]
+pub fn empty(reader: &mut Reader<'_>, brackets: u32) -> Result<(), Fault>
+    ensures { Gives (λ u. u) result reader.new (empty_at brackets reader.old) }
+{
+    reader.opens(Symbol::Open, brackets)?;
+    reader.expect(&[Symbol::Close])?;
+    Ok(())
+}
+
+// `= e`, or nothing.
+#[tactic(auto, unfolding(crate::specs::Reading::first_value_at))]
+fn first_value<'a>(
+    reader: &mut Reader<'a>,
+    alloc: Global,
+    brackets: u32,
+) -> Result<Option<Tree<'a>>, Fault>
+    ensures { Gives option_spoken result reader.new (first_value_at brackets reader.old) }
+{
+    if !reader.is_at(Symbol::Assign) {
+        return Ok(None);
+    }
+    reader.expect(&[Symbol::Assign])?;
+    Ok(Some(term(reader, alloc, brackets)?))
+}
+
+// What stands behind `int`.
+#[tactic(auto, unfolding(crate::specs::Reading::declare_at), using(crate::proofs::Trees::trees))]
+fn declare<'a>(
+    reader: &mut Reader<'a>,
+    alloc: Global,
+    brackets: u32,
+) -> Result<Statement<'a>, Fault>
+    ensures { Gives statement result reader.new (declare_at brackets reader.old) }
+{
+    let name = reader.plain_name(Language::StreamIt)?;
+    let value = first_value(reader, alloc, brackets)?;
+    reader.expect(&[Symbol::Semicolon])?;
+    Ok(Statement::Declare { name, value })
+}
+
+// What stands behind the name of an assignment.
+#[tactic(auto, unfolding(crate::specs::Reading::assign_at), using(crate::proofs::Trees::trees))]
+fn assign<'a>(
+    reader: &mut Reader<'a>,
+    alloc: Global,
+    brackets: u32,
+    name: &'a [u8],
+) -> Result<Statement<'a>, Fault>
+    ensures { Gives statement result reader.new (assign_at name.now brackets reader.old) }
+{
+    reader.expect(&[Symbol::Assign])?;
+    let value = ended(reader, alloc, brackets)?;
+    Ok(Statement::Assign { name, value })
+}
+
+// What stands behind `push`.
+#[tactic(auto, unfolding(crate::specs::Reading::push_at), using(crate::proofs::Trees::trees))]
+fn push<'a>(reader: &mut Reader<'a>, alloc: Global, brackets: u32) -> Result<Statement<'a>, Fault>
+    ensures { Gives statement result reader.new (push_at brackets reader.old) }
+{
+    let value = round_term(reader, alloc, brackets)?;
+    reader.expect(&[Symbol::Semicolon])?;
+    Ok(Statement::Push(value))
+}
+
+// What stands behind `pop`.
+#[tactic(auto, unfolding(crate::specs::Reading::pop_at), using(crate::proofs::Trees::trees))]
+fn pop<'a>(reader: &mut Reader<'a>, brackets: u32) -> Result<Statement<'a>, Fault>
+    ensures { Gives statement result reader.new (pop_at brackets reader.old) }
+{
+    empty(reader, brackets)?;
+    reader.expect(&[Symbol::Semicolon])?;
+    Ok(Statement::Pop)
+}
+
+// The head of a `for`.
+#[derive(Drop)]
+struct ForHead<'a> {
+    name: &'a [u8],
+    low: Tree<'a>,
+    upto: bool,
+    high: Tree<'a>,
+}
+
+// `<`, or `<=`, which stands for one turn more.
+#[tactic(auto, unfolding(crate::specs::Reading::upto_at))]
+fn upto(reader: &mut Reader<'_>) -> Result<bool, Fault>
+    ensures { Gives (λ b. b) result reader.new (upto_at reader.old) }
+{
+    if reader.is_at(Symbol::Less) {
+        reader.expect(&[Symbol::Less])?;
+        return Ok(false);
+    }
+    reader.expect(&[Symbol::LessEqual])?;
+    Ok(true)
+}
+
+// What stands behind the first name of a head.
+#[tactic(auto, unfolding(crate::specs::Reading::head_after))]
+fn head_after<'a>(
+    reader: &mut Reader<'a>,
+    alloc: Global,
+    brackets: u32,
+    name: &'a [u8],
+) -> Result<ForHead<'a>, Fault>
+    ensures { Gives head_of result reader.new (head_after brackets name.now reader.old) }
+{
+    reader.expect(&[Symbol::Assign])?;
+    let low = ended(reader, alloc, brackets)?;
+    reader.word(name)?;
+    let upto = upto(reader)?;
+    let high = ended(reader, alloc, brackets)?;
+    reader.word(name)?;
+    reader.expect(&[Symbol::Increment])?;
+    Ok(ForHead {
+        name,
+        low,
+        upto,
+        high,
+    })
+}
+
+// The head of a `for`, without its brackets.
+#[tactic(auto, unfolding(crate::specs::Reading::head_at, crate::specs::Reading::named_head_at))]
+fn head<'a>(reader: &mut Reader<'a>, alloc: Global, brackets: u32) -> Result<ForHead<'a>, Fault>
+    ensures { Gives head_of result reader.new (head_at brackets reader.old) }
+{
+    reader.word(b"int")?;
+    let name = reader.name()?;
+    if !Language::StreamIt.is_plain(name) {
+        return Err(Fault::Syntax);
+    }
+    head_after(reader, alloc, brackets, name)
+}
+
+// The head of a `for` in its brackets.
+#[tactic(auto, unfolding(crate::specs::Reading::round_head_at))]
+fn round_head<'a>(reader: &mut Reader<'a>, alloc: Global, brackets: u32) -> Result<ForHead<'a>, Fault>
+    ensures { Gives head_of result reader.new (round_head_at brackets reader.old) }
+{
+    let inner = reader.opens(Symbol::Open, brackets)?;
+    let head = head(reader, alloc, inner)?;
+    reader.expect(&[Symbol::Close])?;
+    Ok(head)
+}
+
+// A statement, in which `if` and `for` together may nest so deep.
+#[cycle(block)]
+#[tactic(auto, using(crate::proofs::Blocks::blocks))]
+fn stmt<'a>(
+    reader: &mut Reader<'a>,
+    alloc: Global,
+    nest: u32,
+    brackets: u32,
+) -> Result<Statement<'a>, Fault>
+    ensures { Gives statement result reader.new (stmt_at nest brackets reader.old) }
+{
+    let word = reader.name()?;
+    stmt_after(reader, alloc, nest, brackets, word)
+}
+
+// What stands behind this word of a statement.
+#[cycle(block)]
+#[tactic(auto, unfolding(crate::specs::Reading::stmt_after))]
+fn stmt_after<'a>(
+    reader: &mut Reader<'a>,
+    alloc: Global,
+    nest: u32,
+    brackets: u32,
+    word: &'a [u8],
+) -> Result<Statement<'a>, Fault>
+    ensures { Gives statement result reader.new (stmt_after (branch_at nest brackets) (loop_at nest brackets) brackets word.now reader.old) }
+{
+    if word == b"int".as_slice() {
+        return declare(reader, alloc, brackets);
+    }
+    if word == b"push".as_slice() {
+        return push(reader, alloc, brackets);
+    }
+    if word == b"pop".as_slice() {
+        return pop(reader, brackets);
+    }
+    if word == b"if".as_slice() {
+        return branch(reader, alloc, nest, brackets);
+    }
+    if word == b"for".as_slice() {
+        return turns(reader, alloc, nest, brackets);
+    }
+    if Language::StreamIt.is_plain(word) {
+        return assign(reader, alloc, brackets, word);
+    }
+    Err(Fault::Syntax)
+}
+
+// What stands behind `if`.
+#[cycle(block)]
+#[tactic(auto, unfolding(crate::specs::Reading::if_at), using(crate::proofs::Blocks::blocks))]
+fn branch<'a>(
+    reader: &mut Reader<'a>,
+    alloc: Global,
+    nest: u32,
+    brackets: u32,
+) -> Result<Statement<'a>, Fault>
+    ensures { Gives statement result reader.new (branch_at nest brackets reader.old) }
+{
+    if nest == 0 {
+        return Err(Fault::Syntax);
+    }
+    let cond = round_term(reader, alloc, brackets)?;
+    let yes = block(reader, alloc, nest - 1, brackets)?;
+    let no = otherwise(reader, alloc, nest - 1, brackets)?;
+    Ok(Statement::If { cond, yes, no })
+}
+
+// What stands behind `for`.
+#[cycle(block)]
+#[tactic(auto, unfolding(crate::specs::Reading::for_at), using(crate::proofs::Blocks::blocks))]
+fn turns<'a>(
+    reader: &mut Reader<'a>,
+    alloc: Global,
+    nest: u32,
+    brackets: u32,
+) -> Result<Statement<'a>, Fault>
+    ensures { Gives statement result reader.new (loop_at nest brackets reader.old) }
+{
+    if nest == 0 {
+        return Err(Fault::Syntax);
+    }
+    let head = round_head(reader, alloc, brackets)?;
+    let body = block(reader, alloc, nest - 1, brackets)?;
+    Ok(Statement::For {
+        name: head.name,
+        low: head.low,
+        upto: head.upto,
+        high: head.high,
+        body,
+    })
+}
+
+// `else` and a block, or nothing.
+#[cycle(block)]
+#[tactic(auto, unfolding(crate::specs::Reading::else_at), using(crate::proofs::Trees::trees))]
+fn otherwise<'a>(
+    reader: &mut Reader<'a>,
+    alloc: Global,
+    nest: u32,
+    brackets: u32,
+) -> Result<Block<'a>, Fault>
+    ensures { Gives block result reader.new (else_at (block_at nest) brackets reader.old) }
+{
+    if !reader.is_at_word(b"else") {
+        return Ok(Block {
+            items: Vec::new(alloc),
+        });
+    }
+    reader.skip();
+    block(reader, alloc, nest, brackets)
+}
+
+/// `{` statements `}`, in which `if` and `for` together may nest so deep.
+#[cycle(block)]
+#[tactic(auto, unfolding(crate::specs::Reading::block_at))]
+pub fn block<'a>(
+    reader: &mut Reader<'a>,
+    alloc: Global,
+    nest: u32,
+    brackets: u32,
+) -> Result<Block<'a>, Fault>
+    ensures { Gives block result reader.new (block_at nest brackets reader.old) }
+{
+    let inner = reader.opens(Symbol::OpenBrace, brackets)?;
+    let block = stmts(reader, alloc, nest, inner)?;
+    reader.expect(&[Symbol::CloseBrace])?;
+    Ok(block)
+}
+
+// Statements up to a closing brace.
+#[cycle(block)]
+#[tactic(auto, unfolding(crate::specs::Reading::stmts_at), using(crate::proofs::Blocks::loops))]
+fn stmts<'a>(
+    reader: &mut Reader<'a>,
+    alloc: Global,
+    nest: u32,
+    brackets: u32,
+) -> Result<Block<'a>, Fault>
+    ensures { Gives block result reader.new (stmts_at nest brackets reader.old) }
+{
+    let mut items = Vec::new(alloc);
+    'items: while !reader.is_at(Symbol::CloseBrace) {
+        items.push(stmt(reader, alloc, nest, brackets)?)?;
+    }
+    Ok(Block { items })
+}

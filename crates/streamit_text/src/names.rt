@@ -1,0 +1,91 @@
+// Names of streams read, and what is added by them.
+ghost use Rattle.std.specs.Prelude.{◌≡◌, ◌≤◌, length, map, IfOk};
+ghost use Rattle.text_forms.specs.Gives.{Gives};
+ghost use Rattle.streamit_build.specs.Program.{adds_of};
+ghost use Rattle.streamit_text.specs.Reading.{stream_name_at, parens_at, called_at, add_at, more_adds_at, adds_at, pipe_at};
+
+use crate::block::empty;
+use river_base::Name;
+use std::alloc::Global;
+use streamit_build::Adds;
+use text_forms::{Fault, Language, Reader};
+use work_code::Symbol;
+
+// A name that users may give to a stream.
+#[tactic(auto, unfolding(crate::specs::Reading::stream_name_at), using(crate::proofs::Adding::names))]
+fn stream_name(reader: &mut Reader<'_>) -> Result<Name, Fault>
+    ensures reads { Gives (λ name. name) result reader.new (stream_name_at reader.old) }
+    ensures short { IfOk result (λ name. length name ≤ 40) }
+{
+    let text = reader.plain_name(Language::StreamIt)?;
+    match Name::from_slice(text) {
+        Some(name) => Ok(name),
+        None => Err(Fault::Syntax),
+    }
+}
+
+/// `()`, or nothing.
+#[tactic(auto, unfolding(crate::specs::Reading::parens_at))]
+pub fn parens(reader: &mut Reader<'_>, brackets: u32) -> Result<(), Fault>
+    ensures { Gives (λ u. u) result reader.new (parens_at brackets reader.old) }
+{
+    if reader.is_at(Symbol::Open) {
+        empty(reader, brackets)?;
+    }
+    Ok(())
+}
+
+/// A stream's name, and `()` or nothing.
+#[tactic(auto, unfolding(crate::specs::Reading::called_at))]
+pub fn called(reader: &mut Reader<'_>, brackets: u32) -> Result<Name, Fault>
+    ensures reads { Gives (λ name. name) result reader.new (called_at brackets reader.old) }
+    ensures short { IfOk result (λ name. length name ≤ 40) }
+{
+    let name = stream_name(reader)?;
+    parens(reader, brackets)?;
+    Ok(name)
+}
+
+// `add NAME;`
+#[tactic(auto, unfolding(crate::specs::Reading::add_at))]
+fn add(reader: &mut Reader<'_>, brackets: u32) -> Result<Name, Fault>
+    ensures { Gives (λ name. name) result reader.new (add_at brackets reader.old) }
+{
+    reader.word(b"add")?;
+    let name = called(reader, brackets)?;
+    reader.expect(&[Symbol::Semicolon])?;
+    Ok(name)
+}
+
+// As often as `add` comes.
+#[tactic(auto, unfolding(crate::specs::Reading::more_adds_at), using(crate::proofs::Adding::more))]
+fn more_adds(reader: &mut Reader<'_>, alloc: Global, brackets: u32) -> Result<Vec<Name>, Fault>
+    ensures { Gives (λ names. names.items) result reader.new (more_adds_at brackets reader.old) }
+{
+    let mut names = Vec::new(alloc);
+    'items: while reader.is_at_word(b"add") {
+        names.push(add(reader, brackets)?)?;
+    }
+    Ok(names)
+}
+
+/// What is added, once or more.
+#[tactic(auto, unfolding(crate::specs::Reading::adds_at))]
+pub fn adds(reader: &mut Reader<'_>, alloc: Global, brackets: u32) -> Result<Adds, Fault>
+    ensures { Gives adds_of result reader.new (adds_at brackets reader.old) }
+{
+    let first = add(reader, brackets)?;
+    let others = more_adds(reader, alloc, brackets)?;
+    Ok(Adds { first, others })
+}
+
+/// `{` what is added `}`
+#[tactic(auto, unfolding(crate::specs::Reading::pipe_at))]
+pub fn pipe(reader: &mut Reader<'_>, alloc: Global, brackets: u32) -> Result<Adds, Fault>
+    ensures { Gives adds_of result reader.new (pipe_at brackets reader.old) }
+{
+    let inner = reader.opens(Symbol::OpenBrace, brackets)?;
+    let adds = adds(reader, alloc, inner)?;
+    reader.expect(&[Symbol::CloseBrace])?;
+    Ok(adds)
+}

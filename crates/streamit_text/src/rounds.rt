@@ -1,0 +1,131 @@
+// Splitters and joiners read.
+ghost use Rattle.std.specs.Prelude.{◌≡◌, map};
+ghost use Rattle.text_forms.specs.Gives.{Gives};
+ghost use Rattle.streamit_build.specs.Program.{dealing_of, body_of};
+ghost use Rattle.streamit_text.specs.Reading.{weight_at, some_weights_at, listed_at, weights_at, split_after, split_at, join_at, in_both_at, both_at};
+ghost use Rattle.streamit_text.specs.View.{split_join_of};
+
+use crate::names::{adds, parens};
+use std::alloc::Global;
+use streamit_build::{Split, SplitJoin};
+use text_forms::{Fault, Reader};
+use work_code::Symbol;
+
+// A weight.
+#[tactic(auto, unfolding(crate::specs::Reading::weight_at))]
+fn weight(reader: &mut Reader<'_>) -> Result<u64, Fault>
+    ensures { Gives (λ w. w) result reader.new (weight_at reader.old) }
+{
+    let value = reader.number()?;
+    if value <= 9_223_372_036_854_775_807 {
+        Ok(value)
+    } else {
+        Err(Fault::Syntax)
+    }
+}
+
+// Weights with commas between them, at least one.
+#[tactic(auto, unfolding(crate::specs::Reading::some_weights_at), using(crate::proofs::Weighing::weights))]
+fn some_weights(reader: &mut Reader<'_>, alloc: Global) -> Result<Vec<u64>, Fault>
+    ensures { Gives (λ ws. ws.items) result reader.new (some_weights_at reader.old) }
+{
+    let mut list = Vec::new(alloc);
+    list.push(weight(reader)?)?;
+    'items: while reader.takes(Symbol::Comma) {
+        list.push(weight(reader)?)?;
+    }
+    Ok(list)
+}
+
+// Weights in brackets, or none in them.
+#[tactic(auto, unfolding(crate::specs::Reading::listed_at, crate::specs::Reading::some_weights_at))]
+fn listed(reader: &mut Reader<'_>, alloc: Global, brackets: u32) -> Result<Vec<u64>, Fault>
+    ensures { Gives (λ ws. ws.items) result reader.new (listed_at brackets reader.old) }
+{
+    reader.opens(Symbol::Open, brackets)?;
+    let list = if reader.is_at(Symbol::Close) {
+        Vec::new(alloc)
+    } else {
+        some_weights(reader, alloc)?
+    };
+    reader.expect(&[Symbol::Close])?;
+    Ok(list)
+}
+
+// Weights in brackets, or no brackets.
+#[tactic(auto, unfolding(crate::specs::Reading::weights_at))]
+fn weights(reader: &mut Reader<'_>, alloc: Global, brackets: u32) -> Result<Vec<u64>, Fault>
+    ensures { Gives (λ ws. ws.items) result reader.new (weights_at brackets reader.old) }
+{
+    if reader.is_at(Symbol::Open) {
+        listed(reader, alloc, brackets)
+    } else {
+        Ok(Vec::new(alloc))
+    }
+}
+
+// What stands behind `split`.
+#[tactic(auto, unfolding(crate::specs::Reading::split_after))]
+fn split_after(
+    reader: &mut Reader<'_>,
+    alloc: Global,
+    brackets: u32,
+    word: &[u8],
+) -> Result<Split, Fault>
+    ensures { Gives dealing_of result reader.new (split_after brackets word.now reader.old) }
+{
+    if word == b"duplicate".as_slice() {
+        parens(reader, brackets)?;
+        return Ok(Split::Duplicate);
+    }
+    if word == b"roundrobin".as_slice() {
+        return Ok(Split::RoundRobin(weights(reader, alloc, brackets)?));
+    }
+    Err(Fault::Syntax)
+}
+
+// `split ..;`
+#[tactic(auto, unfolding(crate::specs::Reading::split_at))]
+fn split(reader: &mut Reader<'_>, alloc: Global, brackets: u32) -> Result<Split, Fault>
+    ensures { Gives dealing_of result reader.new (split_at brackets reader.old) }
+{
+    reader.word(b"split")?;
+    let word = reader.name()?;
+    let split = split_after(reader, alloc, brackets, word)?;
+    reader.expect(&[Symbol::Semicolon])?;
+    Ok(split)
+}
+
+// `join roundrobin ..;`
+#[tactic(auto, unfolding(crate::specs::Reading::join_at))]
+fn join(reader: &mut Reader<'_>, alloc: Global, brackets: u32) -> Result<Vec<u64>, Fault>
+    ensures { Gives (λ ws. ws.items) result reader.new (join_at brackets reader.old) }
+{
+    reader.word(b"join")?;
+    reader.word(b"roundrobin")?;
+    let join = weights(reader, alloc, brackets)?;
+    reader.expect(&[Symbol::Semicolon])?;
+    Ok(join)
+}
+
+// The splitter, what is added, and the joiner.
+#[tactic(auto, unfolding(crate::specs::Reading::in_both_at))]
+fn in_both(reader: &mut Reader<'_>, alloc: Global, brackets: u32) -> Result<SplitJoin, Fault>
+    ensures { Gives split_join_of result reader.new (in_both_at brackets reader.old) }
+{
+    let split = split(reader, alloc, brackets)?;
+    let adds = adds(reader, alloc, brackets)?;
+    let join = join(reader, alloc, brackets)?;
+    Ok(SplitJoin { split, adds, join })
+}
+
+/// `{` the splitter, what is added, and the joiner `}`
+#[tactic(auto, unfolding(crate::specs::Reading::both_at))]
+pub fn both(reader: &mut Reader<'_>, alloc: Global, brackets: u32) -> Result<SplitJoin, Fault>
+    ensures { Gives split_join_of result reader.new (both_at brackets reader.old) }
+{
+    let inner = reader.opens(Symbol::OpenBrace, brackets)?;
+    let all = in_both(reader, alloc, inner)?;
+    reader.expect(&[Symbol::CloseBrace])?;
+    Ok(all)
+}
