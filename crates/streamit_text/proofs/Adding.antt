@@ -1,6 +1,6 @@
 -- The steps by which code reads names of streams.
 use Rattle.std.proofs.Common.{◌≡◌, ℕ, ◌<◌, ◌≤◌, ◌+◌, List, [], ◌∷◌, ◌++◌, length, Bool, true, false, Some, None, refl, sym, ap, ◌∙◌, arith, length-append}
-use Rattle.std.specs.Prelude.{nat_le, not}
+use Rattle.std.specs.Prelude.{nat_le}
 use Rattle.std.specs.Prelude.{◌&&◌}
 use Rattle.work_code.specs.Tok.{Tok}
 use Rattle.text_forms.specs.declared.language.Language.TheVariants.{StreamIt}

@@ -1,12 +1,12 @@
 -- The steps by which code reads blocks.
-use Rattle.std.proofs.Common.{◌≡◌, ℕ, zero, suc, ◌<◌, ◌+◌, ◌-◌, List, [], ◌∷◌, ◌++◌, length, Bool, true, false, Some, None, refl, sym, ap, ◌∙◌, arith, length-append}
+use Rattle.std.proofs.Common.{◌≡◌, ℕ, zero, suc, ◌<◌, ◌+◌, ◌-◌, List, [], ◌∷◌, ◌++◌, length, true, false, Some, None, refl, sym, ap, ◌∙◌, arith, length-append}
 use Rattle.work_code.specs.Tok.{Tok}
 use Rattle.text_forms.specs.Parse as parse
 use Rattle.text_forms.specs.Repeat.{repeated}
 use Rattle.text_forms.specs.Tree.{Spoken}
 use Rattle.text_forms.proofs.Many.{many-shortens}
 use Rattle.text_forms.proofs.Repeat.{repeated-next, repeated-stop, repeated-fail}
-use Rattle.streamit_model.specs.Source.{Statement, If, For, Block}
+use Rattle.streamit_model.specs.Source.{Statement, If, Block}
 use Rattle.streamit_unroll.specs.View.{in_turn}
 use Rattle.streamit_text.specs.Grammar.{Head, made_for}
 use Rattle.streamit_text.specs.Reading.{at_close, round_term_at, round_head_at, else_at, if_at, for_at, stmt_after, stmt_at, stmts_at, block_at, branch_at, loop_at}

@@ -1,5 +1,6 @@
 pub mod Adding
 pub mod Blocks
+pub mod Fields
 pub mod Statements
 pub mod Texts
 pub mod Trees

@@ -4,12 +4,12 @@ use Rattle.work_code.specs.Cut.{units_of}
 use Rattle.work_code.specs.Lexis.{tokens_in}
 use Rattle.work_code.specs.Tok.{Tok, Mark, toks}
 use Rattle.work_code.specs.declared.fault.LexFault.{LexFault}
-use Rattle.text_forms.specs.Texts.{read_units, IsFirstBad}
+use Rattle.text_forms.specs.Texts.{IsFirstBad}
 use Rattle.text_forms.proofs.Texts.{all-formed, formed-read, first-bad}
-use Rattle.streamit_model.specs.Program.{Declared, Program}
+use Rattle.streamit_model.specs.Program.{Program}
 use Rattle.streamit_text.specs.Grammar.{AreUnits, IsSome, IsText, IsUnitAt, next_unit}
-use Rattle.streamit_text.specs.Laws.{OneProgram, IsBadAt, IsEmpty}
-use Rattle.streamit_text.specs.Reading.{unit_from, some_units}
+use Rattle.streamit_text.specs.Laws.{OneProgram, IsEmpty}
+use Rattle.streamit_text.specs.Reading.{some_units}
 use Rattle.streamit_text.proofs.Units.{exact-unit_from}
 
 -- units that were read stand for the program

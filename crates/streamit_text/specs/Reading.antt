@@ -1,5 +1,5 @@
 -- How programs are read: the grammar in the words of reading functions.
-use Rattle.std.specs.Prelude.{ℕ, zero, suc, Bool, true, false, not, List, [], ◌∷◌, Option, Some, None, Result, Err, codes, if◌then◌else◌}
+use Rattle.std.specs.Prelude.{ℕ, zero, suc, Bool, true, false, not, List, [], ◌∷◌, Option, None, Result, Err, codes, if◌then◌else◌}
 use Rattle.std.specs.Str.{bytes_eq}
 use Rattle.river_base.specs.Name.{is_name}
 use Rattle.work_code.specs.Tok.{Tok}

@@ -150,7 +150,11 @@ fn head<'a>(reader: &mut Reader<'a>, alloc: Global, brackets: u32) -> Result<For
 
 // The head of a `for` in its brackets.
 #[tactic(auto, unfolding(crate::specs::Reading::round_head_at))]
-fn round_head<'a>(reader: &mut Reader<'a>, alloc: Global, brackets: u32) -> Result<ForHead<'a>, Fault>
+fn round_head<'a>(
+    reader: &mut Reader<'a>,
+    alloc: Global,
+    brackets: u32,
+) -> Result<ForHead<'a>, Fault>
     ensures { Gives head_of result reader.new (round_head_at brackets reader.old) }
 {
     let inner = reader.opens(Symbol::Open, brackets)?;

@@ -2,6 +2,7 @@
 #![tactic(auto)]
 
 mod block;
+mod filter;
 pub mod laws;
 mod names;
 mod rounds;
