@@ -1,13 +1,10 @@
-//! StreamIt programs of one filter that pushes the value of an expression for each item.
+//! StreamIt programs: a text becomes its tree and its plan, or tells its first fault.
 #![tactic(auto)]
 
 mod compile;
 mod fault;
-mod item;
 pub mod laws;
 mod program;
-mod reading;
-mod translate;
 
 pub use compile::compile_streamit;
 pub use fault::StreamitFault;
