@@ -1,3 +1,4 @@
+pub mod Counted
 pub mod Fires
 pub mod FitLemmas
 pub mod FitsLemmas

@@ -18,13 +18,14 @@ use Rattle.brooklet_model.proofs.TypedPlan.{op_fits}
 use Rattle.brooklet_step.specs.declared.emit.Emit.{Emit}
 use Rattle.brooklet_step.specs.declared.machine.Parts.{Parts}
 use Rattle.brooklet_step.specs.declared.state.State.{State}
-use Rattle.brooklet_step.specs.ByPlace.{place, places, joined_at}
+use Rattle.river_plan.specs.Places.{place, places, read_places, write_places}
+use Rattle.brooklet_step.specs.ByPlace.{joined_at}
 use Rattle.brooklet_step.specs.Reading.{IsFront, CanFire, CameOf, FiredOp}
 use Rattle.brooklet_step.specs.Given.{FiresAt, CanTake}
 use Rattle.brooklet_step.proofs.GivenCode.{fires_again}
 use Rattle.brooklet_step.specs.Took.{IsBlank}
 use Rattle.brooklet_step.specs.Works.{queue_of, states_of, IsEnabled, GoesOn, Steps}
-use Rattle.brooklet_step.proofs.QueuePlaces.{place_below}
+use Rattle.river_plan.proofs.PlaceLemmas.{place_below}
 use Rattle.brooklet_step.proofs.ReadLemmas.{places_at, place_got, place_of, place_in_queues, got_map}
 use Rattle.brooklet_step.proofs.StepLemmas.{can_take, next_parts, steps, goes_on, write_declared}
 
@@ -58,8 +59,8 @@ fired_op p o port x st st' blank out k c e b f = record {
 -- THE CONDITIONS OF THE CALLS
 
 -- the place of the queue of an enabled port
-pub enabled_place : (m : Parts) (o port n : ℕ) (ps : List ℕ) (g : GoesOn m) (e : IsEnabled m o port) → ps ≡ list_at m.reads o → n ≡ slice_index_or ps port 0 → n ≡ place (queue_names m.plan) e.queue
-enabled_place m o port n ps g e pe ne = ne ∙ ap (λ (l : List ℕ). slice_index_or l port 0) pe ∙ place_of m o port e.queue g e.reads
+pub enabled_place : (m : Parts) (o port n : ℕ) (ps : List ℕ) (e : IsEnabled m o port) → ps ≡ list_at (read_places m.plan) o → n ≡ slice_index_or ps port 0 → n ≡ place (queue_names m.plan) e.queue
+enabled_place m o port n ps e pe ne = ne ∙ ap (λ (l : List ℕ). slice_index_or l port 0) pe ∙ place_of m.plan o port e.queue e.reads
 
 pub front_there : (m : Parts) (o port n : ℕ) (g : GoesOn m) (e : IsEnabled m o port) → n ≡ place (queue_names m.plan) e.queue → (n < length m.queues) × (0 < length (list_at m.queues n))
 front_there m o port n g e at =
@@ -68,13 +69,12 @@ front_there m o port n g e at =
       subst (λ i. 0 < length (list_at m.queues i)) (sym at) e.item,
     )
 
-pub op_in : (m : Parts) (o port : ℕ) (g : GoesOn m) (e : IsEnabled m o port) → (o < length m.states) × (o < length m.writes) × (o < length m.counts)
+pub op_in : (m : Parts) (o port : ℕ) (g : GoesOn m) (e : IsEnabled m o port) → (o < length m.states) × (o < length m.plan.ops) × (o < length m.counts)
 op_in m o port g e =
     let w = slice_get_within m.plan.ops o e.reads.op e.reads.op_is in
-    let l = ap length g.laid_out.writes ∙ length-map m.plan.ops (λ d. places (queue_names m.plan) d.writes) in
     let s = g.laid_out.states in
     let c = g.laid_out.counts in
-    (omega (arith, w, s), omega (arith, w, l), omega (arith, w, c))
+    (omega (arith, w, s), w, omega (arith, w, c))
 
 -- the item at the front is one that the operator can take
 pub can_fire : (m : Parts) (o port n : ℕ) (x : item.Item) (queues : List (List item.Item)) (st : List State) (g : GoesOn m) (e : IsEnabled m o port) → n ≡ place (queue_names m.plan) e.queue → IsFront m.queues n x queues → st ≡ list_at m.states o → CanFire m.plan o port x st
@@ -85,13 +85,13 @@ can_fire m o port n x queues st g e at hx es = record {
 }
 
 -- there are as many lists as queues to write, and the queues are there
-pub send_there : (m : Parts) (o port n : ℕ) (x : item.Item) (queues : List (List item.Item)) (st st' : List State) (out : Emit) (ws : List ℕ) (g : GoesOn m) (e : IsEnabled m o port) → IsFront m.queues n x queues → st ≡ list_at m.states o → FiredOp m.plan o port x st st' out → ws ≡ list_at m.writes o → (length ws ≤ length out.outs) × ((j : ℕ) → j < length ws → slice_index_or ws j 0 < length queues)
+pub send_there : (m : Parts) (o port n : ℕ) (x : item.Item) (queues : List (List item.Item)) (st st' : List State) (out : Emit) (ws : List ℕ) (g : GoesOn m) (e : IsEnabled m o port) → IsFront m.queues n x queues → st ≡ list_at m.states o → FiredOp m.plan o port x st st' out → ws ≡ list_at (write_places m.plan) o → (length ws ≤ length out.outs) × ((j : ℕ) → j < length ws → slice_index_or ws j 0 < length queues)
 send_there m o port n x queues st st' out ws g e hx es f we =
     let op = e.reads.op in
     let names = queue_names m.plan in
     let c = f.fired op e.reads.op_is in
     let lo : length out.outs ≡ outs op.kernel = c.room.outs in
-    let is : ws ≡ places names op.writes = we ∙ places_at (λ d. d.writes) names m.writes m.plan.ops o op g.laid_out.writes e.reads.op_is in
+    let is : ws ≡ places names op.writes = we ∙ places_at (λ d. d.writes) names m.plan.ops o op e.reads.op_is in
     let lw : length ws ≡ length op.writes = ap length is ∙ length-map op.writes (place names) in
     let wo : length op.writes ≡ outs op.kernel = sym (length-map op.writes (kind_of (all_decls m.plan))) ∙ (counts op.kernel _ _ _ (op_fits m.plan g.valid o op e.reads.op_is)).outs in (
       omega (arith, lo, lw, wo),
@@ -112,20 +112,20 @@ pub record Next (m m' : Parts) (o port : ℕ) : Type 0 where
 
 pub next : (m : Parts) (o port n : ℕ) (x : item.Item) (st st' : List State) (out : Emit) (ws : List ℕ) (less queues : List (List item.Item)) (cs : List ℕ) (g : GoesOn m) (e : IsEnabled m o port)
     → n ≡ place (queue_names m.plan) e.queue → IsFront m.queues n x less
-    → st ≡ list_at m.states o → FiredOp m.plan o port x st st' out → ws ≡ list_at m.writes o → queues ≡ each_grew less (joined_at ws (list_at out.outs)) → cs ≡ slice_set m.counts o (min most_firings (slice_index_or m.counts o 0 + 1))
-    → Next m (record { plan = m.plan; queues = queues; states = slice_set m.states o st'; counts = cs; reads = m.reads; writes = m.writes; stopped = false }) o port
+    → st ≡ list_at m.states o → FiredOp m.plan o port x st st' out → ws ≡ list_at (write_places m.plan) o → queues ≡ each_grew less (joined_at ws (list_at out.outs)) → cs ≡ slice_set m.counts o (min most_firings (slice_index_or m.counts o 0 + 1))
+    → Next m (record { plan = m.plan; queues = queues; states = slice_set m.states o st'; counts = cs; stopped = false }) o port
 next m o port n x st st' out ws less queues cs g e at hx es f we eq ec =
     let names = queue_names m.plan in
     let op = e.reads.op in
     let c = f.fired op e.reads.op_is in
     let hq : queue_of m e.queue ≡ x ∷ hx.rest = ap (list_at m.queues) (sym at) ∙ hx.here in
     let fs : FiresAt op.kernel port x c.blank out (states_of m o) st' = subst (λ u. FiresAt op.kernel port x c.blank out u st') es c.fires in
-    let is : ws ≡ places names op.writes = we ∙ places_at (λ d. d.writes) names m.writes m.plan.ops o op g.laid_out.writes e.reads.op_is in
+    let is : ws ≡ places names op.writes = we ∙ places_at (λ d. d.writes) names m.plan.ops o op e.reads.op_is in
     let qs : queues ≡ each_grew (slice_set m.queues (place names e.queue) hx.rest) (joined_at (places names op.writes) (list_at out.outs)) =
     eq ∙ ap (λ (l : List ℕ). each_grew less (joined_at l (list_at out.outs))) is
     ∙ ap (λ (l : List (List item.Item)). each_grew l (joined_at (places names op.writes) (list_at out.outs))) (hx.left ∙ ap (λ k. slice_set m.queues k hx.rest) at) in
-    let end : next_parts m o queues st' ≡ (record { plan = m.plan; queues = queues; states = slice_set m.states o st'; counts = cs; reads = m.reads; writes = m.writes; stopped = false }) =
-    λ i. record { plan = m.plan; queues = queues; states = slice_set m.states o st'; counts = sym ec i; reads = m.reads; writes = m.writes; stopped = false } in
+    let end : next_parts m o queues st' ≡ (record { plan = m.plan; queues = queues; states = slice_set m.states o st'; counts = cs; stopped = false }) =
+    λ i. record { plan = m.plan; queues = queues; states = slice_set m.states o st'; counts = sym ec i; stopped = false } in
     subst (λ (u : Parts). Next m u o port) end (record {
       steps = steps m o port e.queue x hx.rest c.blank out st' queues g e.reads hq c.is_blank fs qs;
       goes_on = goes_on m o port e.queue x hx.rest c.blank out st' queues g e.reads hq c.is_blank fs qs;

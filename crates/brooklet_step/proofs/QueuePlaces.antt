@@ -1,111 +1,32 @@
 -- Queues by name and by place.
-use Rattle.std.proofs.Common.{◌≡◌, ℕ, suc, ◌+◌, ◌<◌, ◌≤◌, Bool, true, false, Option, Some, None, List, [], ◌∷◌, ◌++◌, length, take, drop, map, refl, sym, ap, ◌∙◌, arith, get_or, nat_eq, ⊎_elim, append_assoc}
-use Rattle.std.specs.Prelude.{if◌then◌else◌, slice_get, unwrap_or}
+use Rattle.std.proofs.Common.{◌≡◌, ℕ, suc, ◌+◌, ◌<◌, ◌≤◌, true, false, Some, List, [], ◌∷◌, ◌++◌, length, take, drop, map, refl, sym, ap, ◌∙◌, arith, nat_eq, ⊎_elim, append_assoc}
+use Rattle.std.specs.Prelude.{if◌then◌else◌, slice_get, slice_index_or}
 use Rattle.std.proofs.lemmas.Bool.{cases_eq}
 use Rattle.std.proofs.lemmas.List.{append-nil, take_more, length-take-le, drop_more}
-use Rattle.std.proofs.lemmas.Option.{slice_get_within}
 use Rattle.river_base.specs.Name.{name_eq}
 use Rattle.river_base.specs.Places.{list_at, append_at, each_grew, only, none}
 use Rattle.river_base.proofs.PlaceLemmas.{each_grew_cong, each_grew-none, append_at-each_grew, only_same, only_other}
-use Rattle.river_kernels.specs.Limits.{either}
 use Rattle.river_plan.specs.Forms.{Name}
 use Rattle.river_plan.specs.Names.{count, one_if}
+use Rattle.river_plan.specs.Places.{place, places}
 use Rattle.river_plan.proofs.NameLemmas.{cases_name, name_same}
+use Rattle.river_plan.proofs.PlaceLemmas.{place_at, place_apart}
 use Rattle.river_base.specs.declared.item.Item as item
 use Rattle.brooklet_model.specs.Histories.{History, joined, written}
 use Rattle.brooklet_model.proofs.Lists.{if_true, if_false, if_eq, if_ne}
-use Rattle.brooklet_model.proofs.Traces.{some_is, place_once}
-use Rattle.brooklet_step.specs.ByPlace.{next_place, place_in, place, places, joined_at}
-
--- ONE NAME MORE
-
-next_either : (a : Option ℕ) (b : Bool) (n : ℕ) → next_place (either a (if b then Some n else None)) ≡ either (next_place a) (if b then Some (suc n) else None)
-next_either None true n = refl
-next_either None false n = refl
-next_either (Some m) b n = refl
-
-if_either : (b : Bool) (o p : Option ℕ) → (if b then Some 0 else either o p) ≡ either (if b then Some 0 else o) p
-if_either true o p = refl
-if_either false o p = refl
-
-pub place_in-more : (xs : List Name) (x q : Name) → place_in (xs ++ x ∷ []) q ≡ either (place_in xs q) (if name_eq x q then Some (length xs) else None)
-place_in-more [] x q = refl
-place_in-more (y ∷ ys) x q =
-    ap (λ o. if name_eq y q then Some 0 else next_place o) (place_in-more ys x q)
-    ∙ ap (λ o. if name_eq y q then Some 0 else o) (next_either (place_in ys q) (name_eq x q) (length ys))
-    ∙ if_either (name_eq y q) (next_place (place_in ys q)) (if name_eq x q then Some (suc (length ys)) else None)
-
--- a step of the loop that finds all places
-pub place_in-next : (old new : Option ℕ) (names : List Name) (i : ℕ) (x q : Name) → i < length names → x ≡ get_or names i x → new ≡ either old (if name_eq x q then Some i else None) → old ≡ place_in (take i names) q → new ≡ place_in (take (i + 1) names) q
-place_in-next old new names i x q lt e n h =
-    let len : length (take i names) ≡ i = length-take-le i names (omega (arith, lt)) in
-    n ∙ ap (λ o. either o (if name_eq x q then Some i else None)) h
-    ∙ ap (λ k. either (place_in (take i names) q) (if name_eq x q then Some k else None)) (sym len)
-    ∙ sym (place_in-more (take i names) x q)
-    ∙ ap (λ l. place_in l q) (ap (λ y. take i names ++ y ∷ []) e ∙ sym (take_more names i x lt))
+use Rattle.brooklet_model.proofs.Traces.{place_once}
+use Rattle.brooklet_step.specs.ByPlace.{joined_at}
 
 -- WHERE A NAME STANDS
-
-pub record Found (names : List Name) (q : Name) : Type 0 where
-  pub n : ℕ
-  pub is : place_in names q ≡ Some n
-  pub at : slice_get names n ≡ Some q
-
-pub found : (names : List Name) (q : Name) → 0 < count q names → Found names q
-found [] q lt = absurd (omega (arith, lt))
-found (w ∷ ws) q lt = ⊎_elim
-    (λ c. record { n = 0; is = if_true (name_eq w q) (Some 0) (next_place (place_in ws q)) c.1; at = ap Some c.0 })
-    (λ c.
-    let r = found ws q (let e = ap one_if c.1 in omega (arith, e, lt)) in
-    record { n = suc r.n; is = if_false (name_eq w q) (Some 0) (next_place (place_in ws q)) c.1 ∙ ap next_place r.is; at = r.at })
-    (cases_name w q)
-
-pub place_at : (names : List Name) (q : Name) → 0 < count q names → slice_get names (place names q) ≡ Some q
-place_at names q lt = let r = found names q lt in ap (λ o. slice_get names (unwrap_or o 0)) r.is ∙ r.at
-
-pub place_below : (names : List Name) (q : Name) → 0 < count q names → place names q < length names
-place_below names q lt = slice_get_within names (place names q) q (place_at names q lt)
-
-pub place_apart : (names : List Name) (w q : Name) → 0 < count w names → 0 < count q names → place names w ≡ place names q → w ≡ q
-place_apart names w q lw lq e = some_is w q (sym (place_at names w lw) ∙ ap (slice_get names) e ∙ place_at names q lq)
 
 pub place_is : (names : List Name) (i : ℕ) (q : Name) → count q names ≤ 1 → 0 < count q names → slice_get names i ≡ Some q → place names q ≡ i
 place_is names i q once lt g = place_once names (place names q) i q once (place_at names q lt) g
 
 place_here : (w : Name) (ws : List Name) (q : Name) → name_eq w q ≡ true → place (w ∷ ws) q ≡ 0
-place_here w ws q t = ap (λ o. unwrap_or o 0) (if_true (name_eq w q) (Some 0) (next_place (place_in ws q)) t)
+place_here w ws q t = if_true (name_eq w q) 0 (suc (place ws q)) t
 
-place_past : (w : Name) (ws : List Name) (q : Name) → name_eq w q ≡ false → 0 < count q ws → place (w ∷ ws) q ≡ suc (place ws q)
-place_past w ws q f lt =
-    let r = found ws q lt in
-    ap (λ o. unwrap_or o 0) (if_false (name_eq w q) (Some 0) (next_place (place_in ws q)) f ∙ ap next_place r.is) ∙ ap suc (sym (ap (λ o. unwrap_or o 0) r.is))
-
-pub place_front : (xs ys : List Name) (q : Name) → 0 < count q xs → place (xs ++ ys) q ≡ place xs q
-place_front [] ys q lt = absurd (omega (arith, lt))
-place_front (x ∷ xs) ys q lt = ⊎_elim
-    (λ c. place_here x (xs ++ ys) q c.1 ∙ sym (place_here x xs q c.1))
-    (λ c.
-    let lx : 0 < count q xs = let e = ap one_if c.1 in omega (arith, e, lt) in
-    place_past x (xs ++ ys) q c.1 (more xs lx) ∙ ap suc (place_front xs ys q lx) ∙ sym (place_past x xs q c.1 lx))
-    (cases_name x q)
-  where
-    more : (zs : List Name) → 0 < count q zs → 0 < count q (zs ++ ys)
-    more [] l = absurd (omega (arith, l))
-    more (z ∷ zs) l = ⊎_elim
-        (λ c. let e = ap one_if c.1 in omega (arith, e))
-        (λ c. let e = ap one_if c.1 in let h = more zs (omega (arith, e, l)) in omega (arith, h))
-        (cases_name z q)
-
-pub place_back : (xs ys : List Name) (q : Name) → count q xs ≡ 0 → 0 < count q ys → place (xs ++ ys) q ≡ length xs + place ys q
-place_back [] ys q z lt = omega arith
-place_back (x ∷ xs) ys q z lt = ⊎_elim
-    (λ c. absurd (let e = ap one_if c.1 in omega (arith, e, z)))
-    (λ c. let h = place_past x (xs ++ ys) q c.1 (behind xs) in let e = place_back xs ys q (omega (arith, z)) lt in omega (arith, h, e))
-    (cases_name x q)
-  where
-    behind : (zs : List Name) → 0 < count q (zs ++ ys)
-    behind [] = lt
-    behind (z ∷ zs) = let h = behind zs in omega (arith, h)
+place_past : (w : Name) (ws : List Name) (q : Name) → name_eq w q ≡ false → place (w ∷ ws) q ≡ suc (place ws q)
+place_past w ws q f = if_false (name_eq w q) 0 (suc (place ws q)) f
 
 -- WHAT COMES TO QUEUES
 
@@ -119,9 +40,10 @@ joined_at-more (v ∷ ws) w f q =
     ∙ sym (append_assoc (if nat_eq v q then f 0 else []) (joined_at ws (λ j. f (suc j)) q) (only w (f (suc (length ws))) q))
 
 -- a step of the loop that sends
-pub send_step : {A : Type 0} (to : List ℕ) (f : ℕ → List A) (n w : ℕ) (start now new : List (List A)) (xs : List A) → n < length to → w ≡ get_or to n w → now ≡ each_grew start (joined_at (take n to) f) → xs ≡ f n → new ≡ append_at now w xs → new ≡ each_grew start (joined_at (take (n + 1) to) f)
-send_step to f n w start now new xs lt is en ex e =
-    let more : take (n + 1) to ≡ take n to ++ w ∷ [] = take_more to n w lt ∙ ap (λ y. take n to ++ y ∷ []) (sym is) in
+pub send_step : {A : Type 0} (to : List ℕ) (f : ℕ → List A) (n : ℕ) (start now new : List (List A)) (xs : List A) → n < length to → now ≡ each_grew start (joined_at (take n to) f) → xs ≡ f n → new ≡ append_at now (slice_index_or to n 0) xs → new ≡ each_grew start (joined_at (take (n + 1) to) f)
+send_step to f n start now new xs lt en ex e =
+    let w = slice_index_or to n 0 in
+    let more : take (n + 1) to ≡ take n to ++ w ∷ [] = take_more to n 0 lt in
     let len : length (take n to) ≡ n = length-take-le n to (omega (arith, lt)) in
     e ∙ ap (λ l. append_at l w xs) en ∙ ap (append_at (each_grew start (joined_at (take n to) f)) w) (ex ∙ ap f (sym len))
     ∙ append_at-each_grew start (joined_at (take n to) f) w (f (length (take n to)))
@@ -171,5 +93,5 @@ written_found (w ∷ ws) f h q lt = ⊎_elim
     (λ c. if_true (name_eq w q) (f 0) (written ws (λ j. f (suc j)) h q) c.1 ∙ ap f (sym (place_here w ws q c.1)))
     (λ c.
     let lx : 0 < count q ws = let e = ap one_if c.1 in omega (arith, e, lt) in
-    if_false (name_eq w q) (f 0) (written ws (λ j. f (suc j)) h q) c.1 ∙ written_found ws (λ j. f (suc j)) h q lx ∙ ap f (sym (place_past w ws q c.1 lx)))
+    if_false (name_eq w q) (f 0) (written ws (λ j. f (suc j)) h q) c.1 ∙ written_found ws (λ j. f (suc j)) h q lx ∙ ap f (sym (place_past w ws q c.1)))
     (cases_name w q)

@@ -4,13 +4,14 @@ use Rattle.std.specs.Prelude.{IsTrue, slice_get, slice_index_or}
 use Rattle.std.proofs.lemmas.List.{length-map}
 use Rattle.std.proofs.lemmas.Option.{slice_get_within, get_or_from_slice_get}
 use Rattle.river_base.specs.Places.{list_at}
-use Rattle.river_plan.specs.Forms.{Name, OpForm, PlanForm, queue_names}
+use Rattle.river_plan.specs.declared.plan.RawPlan.{RawPlan}
+use Rattle.river_plan.specs.Forms.{Name, OpForm, PlanForm, plan_form, op_form, queue_names}
+use Rattle.river_plan.specs.Places.{place, places, read_places}
+use Rattle.river_plan.proofs.PlaceLemmas.{place_below}
 use Rattle.brooklet_model.proofs.Traces.{some_is, read_of}
 use Rattle.brooklet_step.specs.declared.machine.Parts.{Parts}
-use Rattle.brooklet_step.specs.ByPlace.{place, places}
 use Rattle.brooklet_step.specs.Reading.{IsPlaceOf}
 use Rattle.brooklet_step.specs.Works.{queue_of, ReadsAt, IsEnabled, GoesOn}
-use Rattle.brooklet_step.proofs.QueuePlaces.{place_below}
 use Rattle.brooklet_step.proofs.StepLemmas.{read_declared}
 
 pub got_map : {A B : Type 0} (f : A → B) (xs : List A) (n : ℕ) (x : A) → slice_get xs n ≡ Some x → slice_get (map f xs) n ≡ Some (f x)
@@ -24,17 +25,17 @@ op_at (op ∷ ops) zero lt = (op, refl)
 op_at (op ∷ ops) (suc o) lt = op_at ops o (omega (arith, lt))
 
 -- the places of what an operator reads, or writes
-pub places_at : (f : OpForm → List Name) (names : List Name) (all : List (List ℕ)) (ops : List OpForm) (o : ℕ) (op : OpForm) → all ≡ map (λ d. places names (f d)) ops → slice_get ops o ≡ Some op → list_at all o ≡ places names (f op)
-places_at f names all ops o op e g = ap (λ (l : List (List ℕ)). list_at l o) e ∙ get_or_from_slice_get (map (λ d. places names (f d)) ops) o (places names (f op)) [] (got_map (λ d. places names (f d)) ops o op g)
+pub places_at : (f : OpForm → List Name) (names : List Name) (ops : List OpForm) (o : ℕ) (op : OpForm) → slice_get ops o ≡ Some op → list_at (map (λ d. places names (f d)) ops) o ≡ places names (f op)
+places_at f names ops o op g = get_or_from_slice_get (map (λ d. places names (f d)) ops) o (places names (f op)) [] (got_map (λ d. places names (f d)) ops o op g)
 
 pub place_got : (names qs : List Name) (port : ℕ) (q : Name) → slice_get qs port ≡ Some q → slice_index_or (places names qs) port 0 ≡ place names q
 place_got names qs port q g = get_or_from_slice_get (places names qs) port (place names q) 0 (got_map (place names) qs port q g)
 
 -- the place of the queue at a port
-pub place_of : (m : Parts) (o port : ℕ) (q : Name) → GoesOn m → (r : ReadsAt m.plan o port q) → slice_index_or (list_at m.reads o) port 0 ≡ place (queue_names m.plan) q
-place_of m o port q g r =
-    ap (λ (l : List ℕ). slice_index_or l port 0) (places_at (λ d. d.reads) (queue_names m.plan) m.reads m.plan.ops o r.op g.laid_out.reads r.op_is)
-    ∙ place_got (queue_names m.plan) r.op.reads port q r.queue_is
+pub place_of : (p : PlanForm) (o port : ℕ) (q : Name) (r : ReadsAt p o port q) → slice_index_or (list_at (read_places p) o) port 0 ≡ place (queue_names p) q
+place_of p o port q r =
+    ap (λ (l : List ℕ). slice_index_or l port 0) (places_at (λ d. d.reads) (queue_names p) p.ops o r.op r.op_is)
+    ∙ place_got (queue_names p) r.op.reads port q r.queue_is
 
 pub place_in_queues : (m : Parts) (o port : ℕ) (q : Name) → GoesOn m → ReadsAt m.plan o port q → place (queue_names m.plan) q < length m.queues
 place_in_queues m o port q g r =
@@ -42,23 +43,28 @@ place_in_queues m o port q g r =
     let k = g.laid_out.queues in
     omega (arith, b, k)
 
-pub in_reads : (m : Parts) (o port : ℕ) (q : Name) → GoesOn m → (r : ReadsAt m.plan o port q) → (o < length m.reads) × (port < length (list_at m.reads o))
-in_reads m o port q g r =
-    let l = ap length g.laid_out.reads ∙ length-map m.plan.ops (λ d. places (queue_names m.plan) d.reads) in
-    let b = slice_get_within m.plan.ops o r.op r.op_is in
+-- the operator and the port are there
+pub op_there : (p : PlanForm) (o port : ℕ) (q : Name) → ReadsAt p o port q → o < length p.ops
+op_there p o port q r = slice_get_within p.ops o r.op r.op_is
+
+pub port_there : (p : PlanForm) (o port : ℕ) (q : Name) → ReadsAt p o port q → port < length (list_at (read_places p) o)
+port_there p o port q r =
     let w = slice_get_within r.op.reads port q r.queue_is in
-    let e = ap length (places_at (λ d. d.reads) (queue_names m.plan) m.reads m.plan.ops o r.op g.laid_out.reads r.op_is) ∙ length-map r.op.reads (place (queue_names m.plan)) in
-    (omega (arith, l, b), omega (arith, w, e))
+    let e = ap length (places_at (λ d. d.reads) (queue_names p) p.ops o r.op r.op_is) ∙ length-map r.op.reads (place (queue_names p)) in
+    omega (arith, w, e)
+
+-- as many operators stand in the lists of the code
+pub ops_many : (raw : RawPlan) (p : PlanForm) → plan_form raw ≡ p → length raw.ops ≡ length p.ops
+ops_many raw p e = sym (length-map raw.ops op_form) ∙ ap (λ (x : PlanForm). length x.ops) e
 
 -- where the place is found
-pub found_place : (m : Parts) (o port n : ℕ) → GoesOn m → o < length m.reads → port < length (list_at m.reads o) → n ≡ slice_index_or (list_at m.reads o) port 0 → IsPlaceOf m o port n
+pub found_place : (m : Parts) (o port n : ℕ) → GoesOn m → o < length m.plan.ops → port < length (list_at (read_places m.plan) o) → n ≡ slice_index_or (list_at (read_places m.plan) o) port 0 → IsPlaceOf m o port n
 found_place m o port n g lo lp e =
-    let l = ap length g.laid_out.reads ∙ length-map m.plan.ops (λ d. places (queue_names m.plan) d.reads) in
-    let w = op_at m.plan.ops o (omega (arith, l, lo)) in
-    let k = ap length (places_at (λ d. d.reads) (queue_names m.plan) m.reads m.plan.ops o w.0 g.laid_out.reads w.1) ∙ length-map w.0.reads (place (queue_names m.plan)) in
+    let w = op_at m.plan.ops o lo in
+    let k = ap length (places_at (λ d. d.reads) (queue_names m.plan) m.plan.ops o w.0 w.1) ∙ length-map w.0.reads (place (queue_names m.plan)) in
     let p = read_of w.0.reads port (omega (arith, k, lp)) in
     let r : ReadsAt m.plan o port p.0 = record { op = w.0; op_is = w.1; queue_is = p.1 } in
-    let at : n ≡ place (queue_names m.plan) p.0 = e ∙ place_of m o port p.0 g r in
+    let at : n ≡ place (queue_names m.plan) p.0 = e ∙ place_of m.plan o port p.0 r in
     let b = place_in_queues m o port p.0 g r in
     record {
       queue = p.0;

@@ -18,15 +18,16 @@ use Rattle.river_plan.specs.declared.plan.RawPlan.{RawPlan}
 use Rattle.river_plan.specs.Forms.{Name, OpForm, PlanForm, plan_form, op_form, op_forms, decl_names, all_decls, queue_names}
 use Rattle.river_plan.specs.Kinds.{kind_of, var_kind}
 use Rattle.river_plan.specs.Names.{count}
+use Rattle.river_plan.specs.Places.{place}
 use Rattle.river_plan.specs.Valid.{IsPlan}
 use Rattle.river_plan.proofs.NameLemmas.{count-append, more_or_zero}
+use Rattle.river_plan.proofs.PlaceLemmas.{place_below, place_front, place_back}
 use Rattle.brooklet_model.specs.Histories.{inputs_of, most_firings}
 use Rattle.brooklet_model.specs.Machine.{start}
 use Rattle.brooklet_model.specs.Laws.{given_to}
 use Rattle.brooklet_model.specs.Shapes.{IsFormed}
 use Rattle.brooklet_model.specs.Typed.{AreInputs}
 use Rattle.brooklet_step.specs.Built.{IsBuilt, IsOnRows}
-use Rattle.brooklet_model.proofs.Lists.{funext}
 use Rattle.brooklet_model.proofs.Solutions.{written_out}
 use Rattle.brooklet_model.proofs.Traces.{some_is}
 use Rattle.brooklet_model.proofs.TypedPlan.{op_fits, inputs_typed}
@@ -34,11 +35,10 @@ use Rattle.brooklet_model.proofs.Complete.{traced_start, nothing_given}
 use Rattle.brooklet_step.proofs.OnRows.{op_on_rows}
 use Rattle.brooklet_step.specs.declared.machine.Parts.{Parts}
 use Rattle.brooklet_step.specs.declared.state.State.{State}
-use Rattle.brooklet_step.specs.ByPlace.{place, places}
 use Rattle.brooklet_step.specs.Fit.{Fit}
 use Rattle.brooklet_step.specs.Initial.{IsFirst, CanStart, AreFirst}
 use Rattle.brooklet_step.specs.Works.{Stands, Counts, GoesOn, Starts}
-use Rattle.brooklet_step.proofs.QueuePlaces.{place_below, place_front, place_back, written_found}
+use Rattle.brooklet_step.proofs.QueuePlaces.{written_found}
 use Rattle.brooklet_step.proofs.ReadLemmas.{got_map}
 
 -- THE FIRST STATES
@@ -171,12 +171,11 @@ module _ (p : PlanForm) (v : IsPlan p) (inputs : List (List item.Item)) (fit : F
       (λ (li : 0 < count q ins_n).
       let pb = place_below ins_n q li in
       written_found ins_n (list_at inputs) (λ n. []) q li
-      ∙ sym (past q (place ins_n q) zo (place_back outs_n (ins_n ++ others_n) q zo (omega (arith, b, li)) ∙ ap (λ k. length outs_n + k) (place_front ins_n others_n q li))
+      ∙ sym (past q (place ins_n q) zo (place_back outs_n (ins_n ++ others_n) q zo ∙ ap (λ k. length outs_n + k) (place_front ins_n others_n q li))
       ∙ get_or-append inputs (replicate (length p.queues) []) [] (place ins_n q) (omega (arith, pb, many))))
       (λ (zi : count q ins_n ≡ 0).
-      let lq : 0 < count q others_n = omega (arith, a, b, lt, zo, zi) in
       written_out ins_n (list_at inputs) (λ n. []) q zi
-      ∙ sym (past q (length ins_n + place others_n q) zo (place_back outs_n (ins_n ++ others_n) q zo (omega (arith, b, lq)) ∙ ap (λ k. length outs_n + k) (place_back ins_n others_n q zi lq))
+      ∙ sym (past q (length ins_n + place others_n q) zo (place_back outs_n (ins_n ++ others_n) q zo ∙ ap (λ k. length outs_n + k) (place_back ins_n others_n q zi))
       ∙ ap (λ k. list_at (inputs ++ replicate (length p.queues) []) (k + place others_n q)) (sym many)
       ∙ get_or-append-add inputs (replicate (length p.queues) []) (place others_n q) []
       ∙ blank_at (length p.queues) (place others_n q)))
@@ -193,12 +192,11 @@ pub record First (p : PlanForm) (inputs : List (List item.Item)) (m : Parts) : T
   pub starts : Starts p inputs m
   pub goes_on : GoesOn m
 
-pub first : (p pl : PlanForm) (inputs queues : List (List item.Item)) (cs : List ℕ) (states : List (List State)) (reads writes : List (List ℕ)) → IsPlan p → IsBuilt p → Fit p inputs → pl ≡ p
+pub first : (p pl : PlanForm) (inputs queues : List (List item.Item)) (cs : List ℕ) (states : List (List State)) → IsPlan p → IsBuilt p → Fit p inputs → pl ≡ p
     → queues ≡ replicate (length p.outputs) [] ++ (inputs ++ replicate (length p.queues) []) → AreFirst p.ops states → cs ≡ replicate (length p.ops) 0
-    → reads ≡ map (λ op. places (queue_names p) op.reads) p.ops → writes ≡ map (λ op. places (queue_names p) op.writes) p.ops
-    → First p inputs (record { plan = pl; queues = queues; states = states; counts = cs; reads = reads; writes = writes; stopped = false })
-first p pl inputs queues cs states reads writes v b fit pe qe f ce re we =
-    let m : Parts = record { plan = p; queues = queues; states = states; counts = cs; reads = reads; writes = writes; stopped = false } in
+    → First p inputs (record { plan = pl; queues = queues; states = states; counts = cs; stopped = false })
+first p pl inputs queues cs states v b fit pe qe f ce =
+    let m : Parts = record { plan = p; queues = queues; states = states; counts = cs; stopped = false } in
     let many : length queues ≡ length (queue_names p) = ap length qe ∙ queues_many p v inputs fit in
     let kinds = kind_of (all_decls p) in
     let all_typed = inputs_typed p v inputs fit.typed in
@@ -216,7 +214,7 @@ first p pl inputs queues cs states reads writes v b fit pe qe f ce re we =
       kept = λ o op g. (f.stand o op g).after;
     } in
     let cs_are : Counts m [] = λ o lt. ap (λ (l : List ℕ). slice_index_or l o 0) ce ∙ zero_at (length p.ops) o ∙ sym (min_zero most_firings) in
-    subst (λ (x : PlanForm). First p inputs (record { plan = x; queues = queues; states = states; counts = cs; reads = reads; writes = writes; stopped = false })) (sym pe) (record {
+    subst (λ (x : PlanForm). First p inputs (record { plan = x; queues = queues; states = states; counts = cs; stopped = false })) (sym pe) (record {
       starts = record { plan = refl; running = refl; stands = stands; counts = cs_are };
       goes_on = record {
         valid = v;
@@ -225,8 +223,6 @@ first p pl inputs queues cs states reads writes v b fit pe qe f ce re we =
           queues = many;
           states = f.count;
           counts = ap length ce ∙ length-replicate (length p.ops) 0;
-          reads = re;
-          writes = we;
         };
         fit = λ o op g. (f.stand o op g).again (map kinds op.reads) (map kinds op.writes) (map (var_kind p.tables p.vars) op.vars) (op_fits p v o op g);
         items = λ q lt. subst (λ (l : List item.Item). All (IsHeld (kinds q)) l) (sym (hist_is q lt)) (all_are_held (kinds q) (inputs_of (decl_names p.inputs) (list_at inputs) q) (all_typed q));
@@ -237,22 +233,14 @@ first p pl inputs queues cs states reads writes v b fit pe qe f ce re we =
     })
 
 -- the same in the terms of the code
-pub first_by : (raw : RawPlan) (p pl : PlanForm) (inputs queues : List (List item.Item)) (cs : List ℕ) (states : List (List State)) (reads writes : List (List ℕ)) → IsPlan p → IsBuilt p → Fit p inputs → plan_form raw ≡ p → pl ≡ p
+pub first_by : (raw : RawPlan) (p pl : PlanForm) (inputs queues : List (List item.Item)) (cs : List ℕ) (states : List (List State)) → IsPlan p → IsBuilt p → Fit p inputs → plan_form raw ≡ p → pl ≡ p
     → queues ≡ replicate (length raw.outputs) [] ++ (inputs ++ replicate (length raw.queues) []) → AreFirst (op_forms raw.ops) states → cs ≡ replicate (length raw.ops) 0
-    → reads ≡ map (λ (op : OpForm). places (queue_names (plan_form raw)) op.reads) (op_forms raw.ops) → writes ≡ map (λ (op : OpForm). places (queue_names (plan_form raw)) op.writes) (op_forms raw.ops)
-    → First p inputs (record { plan = pl; queues = queues; states = states; counts = cs; reads = reads; writes = writes; stopped = false })
-first_by raw p pl inputs queues cs states reads writes v bu fit e pe qe fs ce re we =
-    let m : Parts = record { plan = pl; queues = queues; states = states; counts = cs; reads = reads; writes = writes; stopped = false } in
+    → First p inputs (record { plan = pl; queues = queues; states = states; counts = cs; stopped = false })
+first_by raw p pl inputs queues cs states v bu fit e pe qe fs ce =
+    let m : Parts = record { plan = pl; queues = queues; states = states; counts = cs; stopped = false } in
     subst (λ (x : PlanForm). First x inputs m) e
-    (first (plan_form raw) pl inputs queues cs states reads writes (subst IsPlan (sym e) v) (subst IsBuilt (sym e) bu) (subst (λ (x : PlanForm). Fit x inputs) (sym e) fit) (pe ∙ sym e)
-    qe fs (ce ∙ ap (λ (i : ℕ). replicate i 0) (sym (length-map raw.ops op_form))) re we)
+    (first (plan_form raw) pl inputs queues cs states (subst IsPlan (sym e) v) (subst IsBuilt (sym e) bu) (subst (λ (x : PlanForm). Fit x inputs) (sym e) fit) (pe ∙ sym e)
+    qe fs (ce ∙ ap (λ (i : ℕ). replicate i 0) (sym (length-map raw.ops op_form))))
 
 pub can_start_by : (raw : RawPlan) (p : PlanForm) → plan_form raw ≡ p → IsPlan p → IsBuilt p → CanStart (op_forms raw.ops)
 can_start_by raw p e v b = subst (λ (x : PlanForm). CanStart x.ops) (sym e) (can_start p v b)
-
--- a place by a map is the place among the names
-pub reads_are : (raw : RawPlan) (f : Name → ℕ) (reads : List (List ℕ)) → ((q : Name) → f q ≡ place (queue_names (plan_form raw)) q) → reads ≡ map (λ (op : OpForm). map f op.reads) (op_forms raw.ops) → reads ≡ map (λ (op : OpForm). places (queue_names (plan_form raw)) op.reads) (op_forms raw.ops)
-reads_are raw f reads fe re = re ∙ ap (λ (g : Name → ℕ). map (λ (op : OpForm). map g op.reads) (op_forms raw.ops)) (funext f (place (queue_names (plan_form raw))) fe)
-
-pub writes_are : (raw : RawPlan) (f : Name → ℕ) (writes : List (List ℕ)) → ((q : Name) → f q ≡ place (queue_names (plan_form raw)) q) → writes ≡ map (λ (op : OpForm). map f op.writes) (op_forms raw.ops) → writes ≡ map (λ (op : OpForm). places (queue_names (plan_form raw)) op.writes) (op_forms raw.ops)
-writes_are raw f writes fe we = we ∙ ap (λ (g : Name → ℕ). map (λ (op : OpForm). map g op.writes) (op_forms raw.ops)) (funext f (place (queue_names (plan_form raw))) fe)

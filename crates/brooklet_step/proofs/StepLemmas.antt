@@ -33,14 +33,16 @@ use Rattle.brooklet_model.proofs.TypedPlan.{op_fits, kind_got, got_all, joined_a
 use Rattle.brooklet_step.specs.declared.emit.Emit.{Emit}
 use Rattle.brooklet_step.specs.declared.machine.Parts.{Parts}
 use Rattle.brooklet_step.specs.declared.state.State.{State}
-use Rattle.brooklet_step.specs.ByPlace.{place, places, joined_at}
+use Rattle.brooklet_step.specs.ByPlace.{joined_at}
 use Rattle.brooklet_step.specs.Given.{held_by, held_at, IsHeldBy, IsHeldOf, AreTyped, FitState, StandsAfter, ran, TookHeld, Does, FiresAt, CanTake}
 use Rattle.brooklet_step.specs.Took.{IsBlank}
 use Rattle.brooklet_step.specs.Works.{queue_of, kinds_of, states_of, count_of, Stands, ReadsAt, Counts, GoesOn, After, Steps}
 use Rattle.brooklet_step.proofs.GivenLemmas.{typed_append, fired_typed}
 use Rattle.brooklet_step.proofs.Fires.{blank_room}
 use Rattle.brooklet_step.proofs.OnRows.{op_on_rows}
-use Rattle.brooklet_step.proofs.QueuePlaces.{place_below, place_apart, joined_places, joined_cong_below}
+use Rattle.river_plan.specs.Places.{place, places}
+use Rattle.river_plan.proofs.PlaceLemmas.{place_below, place_apart}
+use Rattle.brooklet_step.proofs.QueuePlaces.{joined_places, joined_cong_below}
 
 -- RUNS
 
@@ -175,8 +177,6 @@ next_parts m o queues st = record {
   queues = queues;
   states = slice_set m.states o st;
   counts = slice_set m.counts o (min most_firings (count_of m o + 1));
-  reads = m.reads;
-  writes = m.writes;
   stopped = false;
 }
 
@@ -370,8 +370,6 @@ module _ (m : Parts) (o port : ℕ) (q : Name) (i : item.Item) (rest : List item
           queues = ap length eq ∙ length-each_grew base (joined_at (places names r.op.writes) (list_at out.outs)) ∙ base_many ∙ l.queues;
           states = length-set m.states o st ∙ l.states;
           counts = length-set m.counts o (min most_firings (count_of m o + 1)) ∙ l.counts;
-          reads = l.reads;
-          writes = l.writes;
         };
         fit = at_each (λ op u v. FitState op.kernel (map (kinds_of m) op.reads) u) [] (λ j. []) g.fit does.came.again;
         items = λ n lt. subst (λ (l : List item.Item). All (IsHeld (kinds n)) l) (sym (queue_is does.came.outs does.came.outs_are n lt))

@@ -5,10 +5,10 @@ use Rattle.river_base.specs.Places.{list_at}
 use Rattle.river_kernels.specs.Kern.{Kern}
 use Rattle.river_plan.specs.Forms.{Name, OpForm, PlanForm, queue_names}
 use Rattle.river_plan.specs.Names.{count}
+use Rattle.river_plan.specs.Places.{place}
 use Rattle.brooklet_step.specs.declared.emit.Emit.{Emit}
 use Rattle.brooklet_step.specs.declared.machine.Parts.{Parts}
 use Rattle.brooklet_step.specs.declared.state.State.{State}
-use Rattle.brooklet_step.specs.ByPlace.{place}
 use Rattle.brooklet_step.specs.Given.{CanTake, FiresAt}
 use Rattle.brooklet_step.specs.Took.{HasRoom, IsBlank}
 use Rattle.brooklet_step.specs.Works.{ReadsAt}

@@ -7,6 +7,7 @@ use Rattle.river_base.specs.Places.{list_at}
 use Rattle.river_plan.specs.Forms.{Name, OpForm, PlanForm, all_decls, table_names, queue_names}
 use Rattle.river_plan.specs.Kinds.{kind_of}
 use Rattle.river_plan.specs.Names.{count}
+use Rattle.river_plan.specs.Places.{place}
 use Rattle.river_plan.specs.Uses.{total, reads_it}
 use Rattle.river_plan.specs.Valid.{IsPlan}
 use Rattle.brooklet_model.specs.Histories.{most_firings}
@@ -18,7 +19,6 @@ use Rattle.brooklet_model.specs.Words.{Word}
 use Rattle.brooklet_step.specs.declared.machine.Parts.{Parts}
 use Rattle.brooklet_step.specs.declared.state.State.{State}
 use Rattle.brooklet_step.specs.Built.{IsBuilt}
-use Rattle.brooklet_step.specs.ByPlace.{place, places}
 use Rattle.brooklet_step.specs.Given.{AreTyped, FitState, StandsAfter}
 
 -- what is kept of a queue: the items that are not taken. From an output nothing is taken, so it is the whole history
@@ -73,13 +73,11 @@ pub record Ran (m : Parts) (inputs : List (List item.Item)) : Type 0 where
   pub stands : Stands m state
   pub counts : Counts m events
 
--- there is a list for each queue and for each operator, and the places of the queues are known
+-- there is a list for each queue and for each operator
 pub record IsLaidOut (m : Parts) : Type 0 where
   pub queues : length m.queues ≡ length (queue_names m.plan)
   pub states : length m.states ≡ length m.plan.ops
   pub counts : length m.counts ≡ length m.plan.ops
-  pub reads : m.reads ≡ map (λ op. places (queue_names m.plan) op.reads) m.plan.ops
-  pub writes : m.writes ≡ map (λ op. places (queue_names m.plan) op.writes) m.plan.ops
 
 -- a machine that goes on stands for a state of the definition: the state after some run from some inputs of its plan
 pub record GoesOn (m : Parts) : Type 0 where

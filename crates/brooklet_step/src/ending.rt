@@ -4,8 +4,7 @@ ghost use Rattle.river_plan.specs.Forms.{decl_names};
 ghost use Rattle.brooklet_step.specs.Works.{GoesOn, AreCounts, queue_of};
 
 use crate::ItemLists;
-use crate::machine::{Lines, Parts};
-use crate::places::Sizes;
+use crate::machine::{Lines, Parts, Sizes};
 use crate::run::Outcome;
 use kern_rows::Line;
 use river_base::{Items, NoMemory, Numbers};

@@ -2,10 +2,10 @@
 ghost use Rattle.std.specs.Prelude.{◌≡◌, ◌∷◌, [], ◌++◌, IfOk, OnOk};
 ghost use Rattle.river_base.specs.Held.{flats as flats_in};
 ghost use Rattle.river_kernels.specs.Kern.{kern_of, packed, fused};
+ghost use Rattle.brooklet_model.specs.Fire.{privates};
 ghost use Rattle.brooklet_step.specs.Took.{IsBlank};
 ghost use Rattle.brooklet_step.specs.Given.{CanTake, CanTakeAll, FiresAt, FiresEach};
 
-use crate::counts::{outs_of, privates_of, tabs_of};
 use crate::emit::Emit;
 use crate::single::{fire_leaf, is_leaf};
 use crate::state::{State, States};
@@ -15,12 +15,21 @@ use river_plan::Kernel;
 use std::alloc::Global;
 
 /// An empty list for each port and table of a kernel.
+#[tactic(auto, using(crate::proofs::Counted::outs_told, crate::proofs::Counted::tabs_told))]
 pub fn blank_for(alloc: Global, kernel: &Kernel) -> Result<Emit, NoMemory>
     ensures { IfOk result (λ emit. IsBlank (kern_of kernel.now) emit) }
 {
-    let ports = outs_of(kernel)?;
-    let tables = tabs_of(kernel)?;
-    Emit::blank(alloc, ports, tables)
+    let shape = kernel.shape()?;
+    Emit::blank(alloc, shape.outs, shape.tables)
+}
+
+// How many private variables a kernel has.
+#[tactic(auto, using(crate::proofs::Counted::privates_told))]
+fn privates_of(kernel: &Kernel) -> Result<usize, NoMemory>
+    ensures { IfOk result (λ count. count ≡ privates (kern_of kernel.now)) }
+{
+    let shape = kernel.shape()?;
+    Ok(shape.privates)
 }
 
 // The items that are no packs; none is left in the line.

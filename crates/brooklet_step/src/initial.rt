@@ -1,15 +1,13 @@
 // A machine before its first firing.
-ghost use Rattle.std.specs.Prelude.{◌≡◌, ◌++◌, ◌∷◌, [], false, length, replicate, map as mapped, IfOk, OnOk};
-ghost use Rattle.river_plan.specs.Forms.{plan_form, op_forms, queue_names};
-ghost use Rattle.brooklet_step.specs.ByPlace.{places};
+ghost use Rattle.std.specs.Prelude.{◌≡◌, ◌++◌, ◌∷◌, [], false, length, replicate, IfOk, OnOk};
+ghost use Rattle.river_plan.specs.Forms.{op_forms};
 ghost use Rattle.brooklet_step.specs.Built.{IsBuilt};
 ghost use Rattle.brooklet_step.specs.Fit.{Fit};
 ghost use Rattle.brooklet_step.specs.Works.{GoesOn, Starts};
 ghost use Rattle.brooklet_step.specs.Initial.{AreFirst, CanStart};
 
 use crate::emit::take_list;
-use crate::machine::{Lines, Parts};
-use crate::places::{Sizes, queue_places, read_places, write_places};
+use crate::machine::{Lines, Parts, Sizes};
 use crate::start::first_states;
 use crate::{Inputs, States};
 use kern_rows::Line;
@@ -27,15 +25,12 @@ pub(crate) fn first_parts(alloc: Global, plan: &Plan, inputs: Inputs) -> Result<
     let raw = plan.raw();
     let queues = first_queues(alloc, raw, inputs)?;
     let (states, counts) = states_and_counts(alloc, &raw.ops)?;
-    let (reads, writes) = all_places(alloc, raw)?;
     let plan = plan.copy(alloc)?;
     Ok(Parts {
         plan,
         queues,
         states,
         counts,
-        reads,
-        writes,
         stopped: false,
     })
 }
@@ -49,17 +44,6 @@ fn states_and_counts(alloc: Global, ops: &Ops) -> Result<(Listed<States>, Sizes)
     let states = all_states(alloc, ops)?;
     let counts = zeros(alloc, ops.len())?;
     Ok((states, counts))
-}
-
-// The places of the queues that the operators read and write.
-fn all_places(alloc: Global, raw: &RawPlan) -> Result<(Listed<Sizes>, Listed<Sizes>), NoMemory>
-    ensures reads { IfOk result (λ both. both.0 ≡ mapped (λ op. places (queue_names (plan_form raw.now)) op.reads) (op_forms raw.now.ops)) }
-    ensures writes { IfOk result (λ both. both.1 ≡ mapped (λ op. places (queue_names (plan_form raw.now)) op.writes) (op_forms raw.now.ops)) }
-{
-    let map = queue_places(alloc, raw)?;
-    let reads = read_places(alloc, &map, &raw.ops)?;
-    let writes = write_places(alloc, &map, &raw.ops)?;
-    Ok((reads, writes))
 }
 
 // The first queues of a plan: the inputs' items move there, and the others are empty.

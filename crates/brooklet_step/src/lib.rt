@@ -1,7 +1,6 @@
 //! Firings of kernels, and Brooklet's machine.
 #![tactic(auto)]
 
-mod counts;
 mod emit;
 mod ending;
 mod firing;
@@ -11,7 +10,6 @@ mod kinds;
 pub mod laws;
 mod leaf;
 mod machine;
-mod places;
 mod run;
 mod single;
 mod start;
@@ -22,8 +20,7 @@ pub use emit::{Emit, ItemLists, RowLists};
 pub use firing::fire;
 pub use inputs::{Inputs, fits};
 pub use kinds::{built, item_fits};
-pub use machine::{Lines, Machine, Parts};
-pub use places::Sizes;
+pub use machine::{Lines, Machine, Parts, Sizes};
 pub use run::{Outcome, run_one};
 pub use start::first_states;
 pub use state::{State, States};

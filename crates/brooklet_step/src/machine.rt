@@ -7,7 +7,6 @@ ghost use Rattle.brooklet_step.specs.Works.{IsEnabled, Starts, Steps, AreCounts,
 
 use crate::ending::outcome_of;
 use crate::initial::first_parts;
-use crate::places::Sizes;
 use crate::step::{fire_next, is_enabled};
 use crate::{Inputs, Outcome, States};
 use kern_rows::Line;
@@ -18,6 +17,9 @@ use std::marker::Model;
 
 /// The items that wait in each queue.
 pub type Lines = Listed<Line>;
+
+/// A list of numbers of things in memory.
+pub type Sizes = Listed<usize>;
 
 /// What a machine keeps.
 #[derive(Drop)]
@@ -31,10 +33,6 @@ pub struct Parts {
     pub states: Listed<States>,
     /// How often each operator fired; a count of 2^63 - 1 stays there.
     pub counts: Sizes,
-    /// The places of the queues that each operator reads, port by port.
-    pub reads: Listed<Sizes>,
-    /// The places of the queues that each operator writes, port by port.
-    pub writes: Listed<Sizes>,
     /// Whether a firing was refused.
     pub stopped: bool,
 }

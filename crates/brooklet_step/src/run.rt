@@ -30,8 +30,7 @@ pub fn run_one(alloc: Global, plan: &Plan, inputs: Inputs) -> Result<Outcome, No
 {
     let mut machine = Machine::start(alloc, plan, inputs)?;
     run_all(alloc, plan, &mut machine)?;
-    let outcome = machine.into_outcome(alloc)?;
-    Ok(outcome)
+    machine.into_outcome(alloc)
 }
 
 // All operators, one after another.

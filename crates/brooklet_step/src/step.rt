@@ -8,8 +8,7 @@ ghost use Rattle.brooklet_step.specs.Reading.{IsPlaceRead, IsFront, CanFire, Fir
 
 use crate::emit::take_list;
 use crate::firing::{blank_for, fire};
-use crate::machine::{Lines, Parts};
-use crate::places::Sizes;
+use crate::machine::{Lines, Parts, Sizes};
 use crate::{Emit, ItemLists, States};
 use river_base::{Item, Items, NoMemory};
 use river_plan::Plan;
@@ -35,10 +34,10 @@ fn place_read(parts: &Parts, op: usize, port: usize) -> Option<usize>
     requires { GoesOn parts.now }
     ensures { IsPlaceRead parts.now op port result }
 {
-    if op < parts.reads.len() {
-        let places = parts.reads.at(op);
+    if op < parts.plan.raw().ops.len() {
+        let places = parts.plan.reads_of(op);
         if port < places.len() {
-            return Some(*places.at(port));
+            return Some(places[port]);
         }
     }
     None
@@ -58,7 +57,7 @@ pub(crate) fn fire_next(
     ensures refused { OnErr result (parts.new.stopped ≡ true) }
 {
     parts.stopped = true;
-    let queue = *parts.reads.at(op as usize).at(port as usize);
+    let queue = parts.plan.reads_of(op as usize)[port as usize];
     let item = front(&mut parts.queues, queue);
     let mut out = fire_op(
         alloc,
@@ -71,7 +70,7 @@ pub(crate) fn fire_next(
     send(
         alloc,
         &mut parts.queues,
-        parts.writes.at(op as usize),
+        parts.plan.writes_of(op as usize),
         &mut out.outs,
     )?;
     count_one(&mut parts.counts, op as usize);
@@ -110,13 +109,18 @@ fn fire_op(
 }
 
 // Each port's items move to the end of its queue.
-fn send(alloc: Global, queues: &mut Lines, to: &Sizes, outs: &mut ItemLists) -> Result<(), NoMemory>
+fn send(
+    alloc: Global,
+    queues: &mut Lines,
+    to: &[usize],
+    outs: &mut ItemLists,
+) -> Result<(), NoMemory>
     requires ports { length to.now ≤ length outs.old }
     requires places { (j : ℕ) → j < length to.now → slice_index_or to.now j 0 < length queues.old }
     ensures { OnOk result (queues.new ≡ each_grew queues.old (joined_at to.now (list_at outs.old))) }
 {
     for port in 0..to.len() {
-        put(queues, *to.at(port), take_list(alloc, outs, port))?;
+        put(queues, to[port], take_list(alloc, outs, port))?;
     }
     Ok(())
 }

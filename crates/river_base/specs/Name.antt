@@ -1,6 +1,7 @@
 -- Names: a letter or `_`, then letters, digits, `_` and `@`; at most 64 bytes.
 use Rattle.std.specs.Prelude.{◌≡◌, ℕ, Bool, false, List, [], ◌∷◌, length, nat_le, nat_eq, ◌&&◌, ◌||◌, ◌==◌, IsTrue, take}
 use Rattle.std.specs.List.{list_all}
+use Rattle.std.specs.Char.{is_ascii_alphabetic, is_ascii_digit}
 use Rattle.std.specs.declared.cmp.Ordering.{Ordering}
 use Rattle.std.specs.Ordering.{nat_cmp, eq_by_cmp}
 use Rattle.std.specs.Cmp.{IsEquivalence, IsTotalOrder, unsigned_ties}
@@ -8,24 +9,21 @@ use Rattle.std.specs.Cmp.Lexicographic.{slice_cmp, lists_ties, pointwise}
 use Rattle.std.proofs.lemmas.Cmp.{lists_equiv, nat_eq_equiv, lists_total, nat_cmp_total}
 use Rattle.river_base.specs.Short.{IsShort}
 
-abbrev pub is_letter : ℕ → Bool
-is_letter b = (nat_le 65 b && nat_le b 90) || (nat_le 97 b && nat_le b 122)
+-- a letter or _
+unfoldable pub is_letter : ℕ → Bool
+is_letter c = is_ascii_alphabetic c || c == 95
 
-abbrev pub is_digit : ℕ → Bool
-is_digit b = nat_le 48 b && nat_le b 57
+unfoldable pub is_digit : ℕ → Bool
+is_digit c = is_ascii_digit c
 
--- a letter or `_`
-abbrev pub starts_name : ℕ → Bool
-starts_name b = is_letter b || (b == 95)
-
--- a letter, a digit, `_` or `@`
-abbrev pub goes_on : ℕ → Bool
-goes_on b = is_letter b || (is_digit b || ((b == 95) || (b == 64)))
+-- a letter, a digit, _ or @
+unfoldable pub is_word : ℕ → Bool
+is_word c = is_letter c || is_digit c || c == 64
 
 -- the bytes are a name of at most 64 bytes
 abbrev pub is_name : List ℕ → Bool
 is_name [] = false
-is_name (b ∷ bs) = starts_name b && (list_all goes_on bs && nat_le (length bs) 63)
+is_name (b ∷ bs) = is_letter b && (list_all is_word bs && nat_le (length bs) 63)
 
 -- an array of 64 bytes whose first `len` are a name
 pub record IsName (len : ℕ) (bytes : List ℕ) : Type 0 where

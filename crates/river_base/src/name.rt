@@ -6,7 +6,7 @@ ghost use Rattle.std.specs.Cmp.{partial_equiv_from_equiv, partial_order_from_agr
 ghost use Rattle.std.specs.Cmp.Rules.{hashing};
 ghost use Rattle.std.specs.Hash as fed;
 ghost use Rattle.std.proofs.Common.{refl, rules};
-ghost use Rattle.river_base.specs.Name.{is_letter, is_digit, starts_name, goes_on, is_name, name_eq, name_cmp, name_equiv, name_total, name_ties};
+ghost use Rattle.river_base.specs.Name.{is_letter, is_word, is_name, name_eq, name_cmp, name_equiv, name_total, name_ties};
 
 use std::cmp::Ordering;
 use std::hash::{Hash, Hasher};
@@ -43,7 +43,7 @@ impl Name {
     pub fn from_slice(bytes: &[u8]) -> Option<Name>
         ensures { SomeIff result (IsTrue (is_name bytes.now)) bytes.now }
     {
-        if is_word(bytes) {
+        if is_name(bytes) {
             Some(Name::of_word(bytes))
         } else {
             None
@@ -77,39 +77,35 @@ impl Name {
 }
 
 // Whether the bytes are a name of at most 64 bytes.
-fn is_word(bytes: &[u8]) -> bool
+fn is_name(bytes: &[u8]) -> bool
     ensures { result ≡ is_name bytes.now }
 {
     match bytes.split_first() {
         None => false,
-        Some((first, rest)) => may_start(*first) && all_go_on(rest) && rest.len() < MAX_NAME,
+        Some((first, rest)) => is_letter(*first) && all_words(rest) && rest.len() < MAX_NAME,
     }
 }
 
-fn is_letter_byte(b: u8) -> bool
-    ensures { result ≡ is_letter b }
+// Whether this byte is a letter or `_`, with which a name begins.
+#[tactic(auto, unfolding(crate::specs::Name::is_letter))]
+fn is_letter(byte: u8) -> bool
+    ensures { result ≡ is_letter byte }
 {
-    (65 <= b && b <= 90) || (97 <= b && b <= 122)
-}
-
-// Whether a name may begin with this byte.
-fn may_start(b: u8) -> bool
-    ensures { result ≡ starts_name b }
-{
-    is_letter_byte(b) || b == b'_'
+    byte.is_ascii_alphabetic() || byte == b'_'
 }
 
 // Whether this byte may stand in a name after its first.
-fn may_go_on(b: u8) -> bool
-    ensures { result ≡ goes_on b }
+#[tactic(auto, unfolding(crate::specs::Name::is_word, crate::specs::Name::is_digit))]
+fn is_word(byte: u8) -> bool
+    ensures { result ≡ is_word byte }
 {
-    is_letter_byte(b) || (48 <= b && b <= 57) || b == b'_' || b == b'@'
+    is_letter(byte) || byte.is_ascii_digit() || byte == b'@'
 }
 
-fn all_go_on(bytes: &[u8]) -> bool
-    ensures { result ≡ list_all goes_on bytes.now }
+fn all_words(bytes: &[u8]) -> bool
+    ensures { result ≡ list_all is_word bytes.now }
 {
-    bytes.iter().all(|b| may_go_on(*b))
+    bytes.iter().all(|byte| is_word(*byte))
 }
 
 impl PartialEq for Name {

@@ -15,7 +15,7 @@ use Rattle.work_code.proofs.Spelled.{Spells, Anything, NoWord, MayFollow, is_nam
 use Rattle.work_code.specs.Symbols.{symbol_bytes, long_symbol}
 use Rattle.text_forms.proofs.PrintedExpr.{blank-then}
 use Rattle.std.specs.Str.{bytes_eq}
-use Rattle.river_base.specs.Name.{is_name, starts_name, goes_on, name_eq}
+use Rattle.river_base.specs.Name.{is_name, name_eq}
 use Rattle.river_base.specs.declared.kind.FlatType.{FlatType}
 use Rattle.river_base.specs.declared.kind.FlatType.TheVariants.{Rows, Stream, Relation}
 use Rattle.river_base.specs.declared.kind.QueueType.{QueueType}
@@ -37,28 +37,16 @@ use Rattle.river_print.proofs.Terms.{round-formed, behind_round}
 
 -- ---- names
 
-letter-same : (b : ℕ) → starts_name b ≡ true → is_letter b ≡ true
-unfolding is_letter
-letter-same b h = grind (arith, nat_tests)
-
-word-same : (b : ℕ) → goes_on b ≡ true → is_word b ≡ true
-unfolding is_word is_letter is_digit
-word-same b h = grind (arith, nat_tests)
-
 both : (a b : Bool) → (a && b) ≡ true → (a ≡ true) × (b ≡ true)
 both true b h = (refl, h)
 both false b h = cc
 
-words-same : (bs : List ℕ) → list_all goes_on bs ≡ true → list_all is_word bs ≡ true
-words-same [] h = refl
-words-same (b ∷ bs) h = let x = both (goes_on b) (list_all goes_on bs) h in rw (word-same b x.0, words-same bs x.1) refl
-
 pub name-text : (v : List ℕ) → is_name v ≡ true → is_name_text v ≡ true
 name-text [] h = cc
 name-text (b ∷ bs) h =
-    let x = both (starts_name b) (list_all goes_on bs && nat_le (length bs) 63) h in
-    let y = both (list_all goes_on bs) (nat_le (length bs) 63) x.1 in
-    rw (letter-same b x.0, words-same bs y.0) refl
+    let x = both (is_letter b) (list_all is_word bs && nat_le (length bs) 63) h in
+    let y = both (list_all is_word bs) (nat_le (length bs) 63) x.1 in
+    rw (x.0, y.0) refl
 
 -- ---- a unit of a text
 

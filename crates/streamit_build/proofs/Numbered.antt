@@ -7,7 +7,7 @@ use Rattle.std.proofs.lemmas.Bool.{and_parts, true≢false}
 use Rattle.std.proofs.lemmas.Fmt.{length-decimal-le}
 use Rattle.std.proofs.lemmas.List.{take_more, map-append}
 use Rattle.std.proofs.lemmas.List.Folds.{list_all-append}
-use Rattle.river_base.specs.Name.{starts_name, goes_on, is_name}
+use Rattle.river_base.specs.Name.{is_letter, is_digit, is_word, is_name}
 use Rattle.river_plan.specs.Forms.{Name}
 use Rattle.streamit_model.specs.Build.{numbered, queue, queues, weights, values_in}
 use Rattle.streamit_model.proofs.Named.{decimal_goes}
@@ -33,15 +33,16 @@ both_true a b h k = rw h k
 
 -- a name of at most 40 bytes with a number behind it is a name
 pub numbered_is_name : (name : Name) (k : ℕ) → is_name name ≡ true → length name ≤ 40 → k < 2 ^ 32 → is_name (numbered name k) ≡ true
+unfolding is_word is_letter is_digit
 numbered_is_name [] k h len lt = absurd (true≢false (sym h))
 numbered_is_name (b ∷ bs) k h len lt =
-    let p = and_parts (starts_name b) (list_all goes_on bs && nat_le (length bs) 63) h in
-    let q = and_parts (list_all goes_on bs) (nat_le (length bs) 63) p.1 in
+    let p = and_parts (is_letter b) (list_all is_word bs && nat_le (length bs) 63) h in
+    let q = and_parts (list_all is_word bs) (nat_le (length bs) 63) p.1 in
     let d = decimal_goes k (omega (arith, lt)) in
     let l = length-decimal-le 10 k (omega arith) (omega (arith, lt)) (omega (arith, lt)) in
-    let all : list_all goes_on (bs ++ (codes "@" ++ decimal k)) ≡ true = list_all-append goes_on bs (codes "@" ++ decimal k) ∙ both_true (list_all goes_on bs) (list_all goes_on (decimal k)) q.0 d in
+    let all : list_all is_word (bs ++ (codes "@" ++ decimal k)) ≡ true = list_all-append is_word bs (codes "@" ++ decimal k) ∙ both_true (list_all is_word bs) (list_all is_word (decimal k)) q.0 d in
     let few : length (bs ++ (codes "@" ++ decimal k)) ≤ 63 = (let a = length-append bs (codes "@" ++ decimal k) in omega (arith, a, l, len)) in
-    both_true (starts_name b) _ p.0 (both_true (list_all goes_on (bs ++ (codes "@" ++ decimal k))) _ all (le_true (length (bs ++ (codes "@" ++ decimal k))) 63 few))
+    both_true (is_letter b) _ p.0 (both_true (list_all is_word (bs ++ (codes "@" ++ decimal k))) _ all (le_true (length (bs ++ (codes "@" ++ decimal k))) 63 few))
   where
     le_true : (a b : ℕ) → a ≤ b → nat_le a b ≡ true
     le_true a b h = grind arith

@@ -27,13 +27,13 @@ use Rattle.streamit_build.specs.Told.{AreReadable, Told, PlansBy}
 use Rattle.streamit_text.specs.Grammar.{IsText, IsSome, IsUnitAt, next_unit}
 use Rattle.streamit_text.specs.Laws.{IsBadAt, IsEmpty}
 use Rattle.streamit_text.specs.Reading.{some_units, unit_from}
-use Rattle.streamit_text.proofs.Texts.{text-read, text-reads, units-bad}
+use Rattle.streamit_text.proofs.Texts.{text-read, text-reads, units-bad, units-read}
 use Rattle.streamit_text.proofs.Units.{exact-unit_from}
 use Rattle.streamit_front.specs.declared.fault.StreamitFault.{StreamitFault}
 use Rattle.streamit_front.specs.declared.fault.StreamitFault.TheVariants.{Text, UnknownName, NameTwice, Rates, PeekRange, NotConstant, BranchRates, Limit, Weights, NoMemory}
 use Rattle.streamit_front.specs.Laws.{HasFault, Has, MeansWhatItHas, PlansMean}
 use Rattle.streamit_front.specs.Meaning.{Accepted, fault_at, with_last, or_fault, accepted, then_judged, then_read, compiled, Plans, Refused}
-use Rattle.streamit_front.proofs.Readable.{text-fine}
+use Rattle.streamit_front.proofs.Readable.{units-fine}
 
 abbrev read_of : List Mark → Result Program ℕ
 read_of marks = some_units (cut_units (toks marks))
@@ -155,30 +155,30 @@ means_what_it_has text meant = (λ e. subst (Has text) e (means-has text), has-m
 pub plans_mean : PlansMean
 plans_mean text a xs e =
     let h : Has text (Ok a) = subst (Has text) e (means-has text) in
-    programs_mean a.program h.1 a.stream h.2 xs (text-fine text a.program h.0).1 h.3
+    programs_mean a.program h.1 a.stream h.2 xs (units-fine a.program (cut_units (toks h.0.marks)) h.0.formed).1 h.3
 
 -- ---- WHAT THE FRONT ANSWERS
 
--- a program of a text is planned and told as the text is
-pub stands-planned : (text : List ℕ) (units : List Declaration) (plan : PlanForm) → IsText text (program_of units) → Plans (accepted (program_of units)) (program_of units) plan → Plans (compiled text) (program_of units) plan
-stands-planned text units plan t h = (h.0, stands-means text (program_of units) t ∙ h.1, h.2)
+-- units that were read are planned and told as their text is
+pub read-planned : (units : List (List Tok)) (ds : List Declaration) (plan : PlanForm) → some_units units ≡ Ok (program_of ds) → Plans (accepted (program_of ds)) (program_of ds) plan → Plans (then_judged (some_units units)) (program_of ds) plan
+read-planned units ds plan e h = (h.0, ap then_judged e ∙ h.1, h.2)
 
-pub stands-refused : (text : List ℕ) (units : List Declaration) (fault : StreamitFault) → IsText text (program_of units) → Refused (accepted (program_of units)) fault → Refused (compiled text) fault
-stands-refused text units fault t h = subst (λ (r : Result Accepted StreamitFault). Refused r fault) (sym (stands-means text (program_of units) t)) h
+pub read-refused : (units : List (List Tok)) (ds : List Declaration) (fault : StreamitFault) → some_units units ≡ Ok (program_of ds) → Refused (accepted (program_of ds)) fault → Refused (then_judged (some_units units)) fault
+read-refused units ds fault e h = subst (λ (r : Result Accepted StreamitFault). Refused r fault) (sym (ap then_judged e)) h
 
-pub stands-readable : (text : List ℕ) (units : List Declaration) → IsText text (program_of units) → AreReadable (program_of units)
-stands-readable text units t = (text-fine text (program_of units) t).0
+pub read-readable : (units : List (List Tok)) (ds : List Declaration) → some_units units ≡ Ok (program_of ds) → AreReadable (program_of ds)
+read-readable units ds e = (units-fine (program_of ds) units (units-read units (program_of ds) e).0).0
 
-pub stands-shallow : (text : List ℕ) (units : List Declaration) → IsText text (program_of units) → AreShallowUnits (program_of units)
-stands-shallow text units t = (text-fine text (program_of units) t).1
+pub read-shallow : (units : List (List Tok)) (ds : List Declaration) → some_units units ≡ Ok (program_of ds) → AreShallowUnits (program_of ds)
+read-shallow units ds e = (units-fine (program_of ds) units (units-read units (program_of ds) e).0).1
 
-pub stands-some : (text : List ℕ) (units : List Declaration) → IsText text (program_of units) → 0 < length units
-stands-some text units t = by units t.some where
+pub read-some : (units : List (List Tok)) (ds : List Declaration) → some_units units ≡ Ok (program_of ds) → 0 < length ds
+read-some units ds e = by ds (units-read units (program_of ds) e).1 where
   by : (us : List Declaration) → IsSome (program_of us) → 0 < length us
   by [] h = absurd h
   by (u ∷ us) h = omega arith
 
-pub ruleset fronts = (stands-planned, stands-refused, stands-readable, stands-shallow, stands-some)
+pub ruleset fronts = (read-planned, read-refused, read-readable, read-shallow, read-some)
 
 -- the plan that was made of judged units is valid, and is the program's
 pub planned-valid : (p : Program) (raw : RawPlan) → AreShallowUnits p → PlansBy (Ok raw) (judged p) → IsPlan (plan_form raw)

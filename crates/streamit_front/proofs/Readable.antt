@@ -20,7 +20,7 @@ use Rattle.streamit_unroll.specs.Unrolled.{AreOptional, IsWritten, AreWritten}
 use Rattle.streamit_unroll.specs.View.{in_turn}
 use Rattle.streamit_build.specs.Program.{IsReadableBody}
 use Rattle.streamit_build.specs.Told.{AreReadable}
-use Rattle.streamit_text.specs.Grammar.{has_values, Expr, made_declare, IsDeclare, IsAssign, IsPush, popping, IsPop, or_end, made_if, IsIf, Head, made_head, HeadAfter, IsHead, made_for, IsFor, IsBlockOf, StmtAfter, IsStmt, IsBlock, is_still, is_still_first, stays, stay, IsInit, Rates, made_filter, InFilter, BodyAfter, made_unit, KindAfter, IsUnit, IsUnitAt, next_unit, AreUnits, IsText}
+use Rattle.streamit_text.specs.Grammar.{has_values, Expr, made_declare, IsDeclare, IsAssign, IsPush, popping, IsPop, or_end, made_if, IsIf, Head, made_head, HeadAfter, IsHead, made_for, IsFor, IsBlockOf, StmtAfter, IsStmt, IsBlock, is_still, is_still_first, stays, stay, IsInit, Rates, made_filter, InFilter, BodyAfter, made_unit, KindAfter, IsUnit, IsUnitAt, next_unit, AreUnits}
 
 -- ---- FORMS
 
@@ -225,14 +225,11 @@ unit-fine d ts h =
     let k = g.formed in
     subst (λ (e : Declared). IsFineBody e.body) (sym k.is) (body-fine 128 g.word k.value.1 k.formed.back k.formed.second)
 
-units-fine : (p : Program) (units : List (List Tok)) → AreUnits p units → AreReadable p × AreShallowUnits p
+-- units that the grammar has are readable, and their expressions are not too deep
+pub units-fine : (p : Program) (units : List (List Tok)) → AreUnits p units → AreReadable p × AreShallowUnits p
 units-fine [] units h = (tt, tt)
 units-fine (d ∷ ds) [] h = absurd h
 units-fine (d ∷ ds) (u ∷ us) h =
     let a = unit-fine d u h.0 in
     let b = units-fine ds us h.1 in
     ((a.0, b.0), (a.1, b.1))
-
--- the program of a text is readable, and its expressions are not too deep
-pub text-fine : (text : List ℕ) (p : Program) → IsText text p → AreReadable p × AreShallowUnits p
-text-fine text p t = units-fine p _ t.formed

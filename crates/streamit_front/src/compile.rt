@@ -1,14 +1,17 @@
 // From the text of a program to its tree and its plan.
-ghost use Rattle.std.specs.Prelude.{◌≡◌, ◌<◌, ◌^◌, length, IfOk, IfErr, Result};
+ghost use Rattle.std.specs.Prelude.{◌≡◌, ◌<◌, ◌^◌, length, IfOk, IfErr, Result, Ok};
+ghost use Rattle.work_code.specs.Cut.{units_of};
+ghost use Rattle.work_code.specs.Tok.{toks};
 ghost use Rattle.river_plan.specs.Forms.{plan_form};
 ghost use Rattle.river_plan.specs.Valid.{IsPlan};
+ghost use Rattle.streamit_model.specs.Build.{plan_of};
 ghost use Rattle.streamit_model.specs.Program.{Program, AreShallowUnits};
 ghost use Rattle.streamit_model.specs.Judged.{Streamed};
 ghost use Rattle.streamit_model.specs.Judged as model;
 ghost use Rattle.streamit_build.specs.Program.{program_of};
 ghost use Rattle.streamit_build.specs.Told.{AreReadable, Told};
-ghost use Rattle.streamit_text.specs.Grammar.{IsText};
-ghost use Rattle.streamit_front.specs.Meaning.{accepted, or_fault, compiled, Plans, Refused};
+ghost use Rattle.streamit_text.specs.Reading.{some_units};
+ghost use Rattle.streamit_front.specs.Meaning.{Accepted, accepted, or_fault, then_judged, compiled, Plans, Refused};
 
 use crate::StreamitProgram;
 use crate::fault::StreamitFault;
@@ -16,39 +19,68 @@ use river_base::{Bytes, NoMemory};
 use river_plan::{Plan, PlanFault, RawPlan, check};
 use std::alloc::Global;
 use streamit_build::{Declaration, Refusal, plan};
-use streamit_text::read_streamit;
+use streamit_text::{StreamitTextFault, read_streamit};
 use streamit_unroll::Fault;
+use text_forms::Refusal as TextRefusal;
+use work_code::{LexFault, Tokens, lex};
 
-/// The program of a text, and the plan of the stream that it declares last.
+/// The plan of a text: that of the stream which its program declares last.
 ///
 /// # Errors
 ///
 /// `Text` with the first fault of the bytes where they have no tokens; otherwise with `Syntax` and the first unit, from
 /// 1, that is not in the grammar; otherwise the first fault of the program in the order in which it is read, with its
 /// unit; `NoMemory` where there is no memory.
-#[tactic(auto, using(crate::proofs::Fronts::fronts))]
-pub fn compile_streamit<'a>(
-    alloc: Global,
-    text: &'a Bytes,
-) -> Result<(StreamitProgram<'a>, Plan), StreamitFault>
+#[tactic(auto, unfolding(crate::specs::Meaning::compiled), using(river_text::proofs::Counts::counts))]
+pub fn compile_streamit(alloc: Global, text: &Bytes) -> Result<Plan, StreamitFault>
     requires { length text.now < 2 ^ 32 }
-    ensures plan { IfOk result (λ made. Plans (compiled text.now) (program_of made.0.units.items) made.1) }
+    ensures plan { IfOk result (λ plan. (a : Accepted) × (compiled text.now ≡ Ok a) × (plan ≡ plan_of a.stream)) }
     ensures refused { IfErr result (Refused (compiled text.now)) }
 {
-    let units = read(alloc, text)?;
+    match lex(alloc, text) {
+        Ok(tokens) => plan_tokens(alloc, &tokens),
+        Err(LexFault::BadByte { at }) => Err(StreamitFault::Text(TextRefusal::BadByte { at })),
+        Err(LexFault::BigNumber { at }) => Err(StreamitFault::Text(TextRefusal::BigNumber { at })),
+        Err(LexFault::NoMemory) => Err(StreamitFault::NoMemory),
+    }
+}
+
+// The plan of the tokens of a text.
+fn plan_tokens(alloc: Global, tokens: &Tokens<'_>) -> Result<Plan, StreamitFault>
+    requires { length tokens.now < 2 ^ 32 }
+    ensures plan { IfOk result (λ plan. (a : Accepted) × (then_judged (some_units (units_of (toks tokens.now))) ≡ Ok a) × (plan ≡ plan_of a.stream)) }
+    ensures refused { IfErr result (Refused (then_judged (some_units (units_of (toks tokens.now))))) }
+{
+    let (_, plan) = compile_tokens(alloc, tokens)?;
+    Ok(plan)
+}
+
+/// The program of the tokens of a text, and the plan of the stream that it declares last; or why there is none, as for
+/// the text.
+#[tactic(auto, using(crate::proofs::Fronts::fronts))]
+pub fn compile_tokens<'t>(
+    alloc: Global,
+    tokens: &'t Tokens<'_>,
+) -> Result<(StreamitProgram<'t>, Plan), StreamitFault>
+    requires { length tokens.now < 2 ^ 32 }
+    ensures plan { IfOk result (λ made. Plans (then_judged (some_units (units_of (toks tokens.now)))) (program_of made.0.units.items) made.1) }
+    ensures refused { IfErr result (Refused (then_judged (some_units (units_of (toks tokens.now))))) }
+{
+    let units = read(alloc, tokens)?;
     let plan = planned(alloc, units.as_slice())?;
     Ok((StreamitProgram { units }, plan))
 }
 
-// The units of a text.
-fn read<'a>(alloc: Global, text: &'a Bytes) -> Result<Vec<Declaration<'a>>, StreamitFault>
-    requires { length text.now < 2 ^ 32 }
-    ensures read { IfOk result (λ units. IsText text.now (program_of units.items)) }
-    ensures refused { IfErr result (Refused (compiled text.now)) }
+// The units of the tokens of a text.
+fn read<'t>(alloc: Global, tokens: &'t Tokens<'_>) -> Result<Vec<Declaration<'t>>, StreamitFault>
+    requires { length tokens.now < 2 ^ 32 }
+    ensures read { IfOk result (λ units. some_units (units_of (toks tokens.now)) ≡ Ok (program_of units.items)) }
+    ensures refused { IfErr result (Refused (then_judged (some_units (units_of (toks tokens.now))))) }
 {
-    match read_streamit(alloc, text) {
+    match read_streamit(alloc, tokens) {
         Ok(units) => Ok(units),
-        Err(fault) => Err(unread(fault)),
+        Err(StreamitTextFault::Syntax { unit }) => Err(StreamitFault::Text(TextRefusal::Syntax { unit })),
+        Err(StreamitTextFault::NoMemory) => Err(StreamitFault::NoMemory),
     }
 }
 

@@ -6,40 +6,36 @@ use Rattle.std.specs.Fmt.{decimal}
 use Rattle.std.proofs.lemmas.Fmt.{decimal_by_steps, length-decimal-le}
 use Rattle.std.proofs.lemmas.List.Folds.{list_all-append}
 use Rattle.std.proofs.lemmas.Nat.{mod_below}
-use Rattle.river_base.specs.Name.{is_letter, is_digit, starts_name, goes_on, is_name}
+use Rattle.std.proofs.lemmas.Bool.Decides.{nat_tests}
+use Rattle.river_base.specs.Name.{is_letter, is_digit, is_word, is_name}
 use Rattle.streamit_model.specs.Build.{numbered}
 
 both_true : (a b : Bool) → a ≡ true → b ≡ true → a && b ≡ true
 both_true a b h k = rw h k
 
-second : (a b c : Bool) → b ≡ true → a || (b || c) ≡ true
-second true b c h = refl
-second false true c h = refl
-second false false c h = absurd (cc h)
+one_digit : (c : ℕ) → 48 ≤ c → c ≤ 57 → is_word c ≡ true
+unfolding is_word is_letter is_digit
+one_digit c a b = grind (arith, nat_tests, a, b)
 
-digit_goes : (d : ℕ) → d < 10 → goes_on (48 + d) ≡ true
-digit_goes d lt =
-    second (is_letter (48 + d)) (is_digit (48 + d)) ((48 + d == 95) || (48 + d == 64))
-    (both_true (nat_le 48 (48 + d)) (nat_le (48 + d) 57) (le_true 48 (48 + d) (omega arith)) (le_true (48 + d) 57 (omega (arith, lt))))
-  where
-    le_true : (a b : ℕ) → a ≤ b → nat_le a b ≡ true
-    le_true a b h = grind arith
+digit_goes : (d : ℕ) → d < 10 → is_word (48 + d) ≡ true
+digit_goes d lt = one_digit (48 + d) (omega arith) (omega (arith, lt))
 
 -- the digits of a number may stand behind the first letter of a name
-pub decimal_goes : (n : ℕ) → n < 2 ^ 64 → list_all goes_on (decimal n) ≡ true
-decimal_goes n lt = decimal_by_steps (λ k ds. list_all goes_on ds ≡ true)
-    (λ k small. both_true (goes_on (48 + k)) true (digit_goes k small) refl)
-    (λ k ds le e. list_all-append goes_on ds ((48 + k % 10) ∷ []) ∙ both_true (list_all goes_on ds) (list_all goes_on ((48 + k % 10) ∷ [])) e (both_true (goes_on (48 + k % 10)) true (digit_goes (k % 10) (mod_below k 10 (omega arith))) refl))
+pub decimal_goes : (n : ℕ) → n < 2 ^ 64 → list_all is_word (decimal n) ≡ true
+decimal_goes n lt = decimal_by_steps (λ k ds. list_all is_word ds ≡ true)
+    (λ k small. both_true (is_word (48 + k)) true (digit_goes k small) refl)
+    (λ k ds le e. list_all-append is_word ds ((48 + k % 10) ∷ []) ∙ both_true (list_all is_word ds) (list_all is_word ((48 + k % 10) ∷ [])) e (both_true (is_word (48 + k % 10)) true (digit_goes (k % 10) (mod_below k 10 (omega arith))) refl))
     n lt
 
 -- a name of at most 60 bytes, with a number of at most three digits behind it
-pub numbered_name : (b : ℕ) (bs : List ℕ) (k : ℕ) → starts_name b ≡ true → list_all goes_on bs ≡ true → length bs ≤ 59 → k < 1000 → is_name (numbered (b ∷ bs) k) ≡ true
+pub numbered_name : (b : ℕ) (bs : List ℕ) (k : ℕ) → is_letter b ≡ true → list_all is_word bs ≡ true → length bs ≤ 59 → k < 1000 → is_name (numbered (b ∷ bs) k) ≡ true
+unfolding is_word is_letter is_digit
 numbered_name b bs k s g len lt =
     let d = decimal_goes k (omega (arith, lt)) in
     let l = length-decimal-le 3 k (omega arith) lt (omega (arith, lt)) in
-    let all : list_all goes_on (bs ++ (codes "@" ++ decimal k)) ≡ true = list_all-append goes_on bs (codes "@" ++ decimal k) ∙ both_true (list_all goes_on bs) (list_all goes_on (decimal k)) g d in
+    let all : list_all is_word (bs ++ (codes "@" ++ decimal k)) ≡ true = list_all-append is_word bs (codes "@" ++ decimal k) ∙ both_true (list_all is_word bs) (list_all is_word (decimal k)) g d in
     let few : length (bs ++ (codes "@" ++ decimal k)) ≤ 63 = (let a = length-append bs (codes "@" ++ decimal k) in omega (arith, a, l, len)) in
-    both_true (starts_name b) _ s (both_true (list_all goes_on (bs ++ (codes "@" ++ decimal k))) _ all (le_true (length (bs ++ (codes "@" ++ decimal k))) 63 few))
+    both_true (is_letter b) _ s (both_true (list_all is_word (bs ++ (codes "@" ++ decimal k))) _ all (le_true (length (bs ++ (codes "@" ++ decimal k))) 63 few))
   where
     le_true : (a b : ℕ) → a ≤ b → nat_le a b ≡ true
     le_true a b h = grind arith

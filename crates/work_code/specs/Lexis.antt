@@ -1,7 +1,7 @@
 -- The tokens of a text.
 use Rattle.std.specs.Prelude.{◌≡◌, ℕ, ◌+◌, ◌-◌, ◌*◌, ◌<◌, ◌≤◌, ◌^◌, Bool, true, false, not, ◌==◌, ◌&&◌, ◌||◌, if◌then◌else◌, nat_lt, zero, suc, List, [], ◌∷◌, Option, Some, None, Result, Ok, Err, take, drop, length}
 use Rattle.std.specs.List.{prefix_len}
-use Rattle.std.specs.Char.{is_ascii_alphabetic, is_ascii_digit}
+unfoldable pub use Rattle.river_base.specs.Name.{is_letter, is_digit, is_word}
 use Rattle.work_code.specs.declared.sign.Symbol.{Symbol}
 use Rattle.work_code.specs.declared.fault.LexFault.{LexFault}
 use Rattle.work_code.specs.declared.fault.LexFault.TheVariants.{BadByte, BigNumber, NoMemory}
@@ -15,17 +15,6 @@ is_blank c = c == 32 || c == 9 || c == 13 || c == 10
 -- any byte but a line feed
 unfoldable pub is_in_line : ℕ → Bool
 is_in_line c = not (c == 10)
-
--- a letter or _
-unfoldable pub is_letter : ℕ → Bool
-is_letter c = is_ascii_alphabetic c || c == 95
-
-unfoldable pub is_digit : ℕ → Bool
-is_digit c = is_ascii_digit c
-
--- a letter, a digit, _ or @
-unfoldable pub is_word : ℕ → Bool
-is_word c = is_letter c || is_digit c || c == 64
 
 -- what stands at the front of a text
 pub data Piece : Type 0 where

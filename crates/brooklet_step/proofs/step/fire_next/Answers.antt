@@ -1,47 +1,48 @@
-use Rattle.std.proofs.Common.{◌<◌, length, [], subst, sym}
+use Rattle.std.proofs.Common.{[], refl}
+use Rattle.std.specs.Prelude.{slice_index_or}
 use Rattle.brooklet_step.proofs.NextLemmas.{enabled_place, front_there, op_in, can_fire, send_there, next}
-use Rattle.brooklet_step.proofs.ReadLemmas.{in_reads}
+use Rattle.brooklet_step.proofs.ReadLemmas.{op_there}
 use Rattle.brooklet_step.proofs.step.fire_next.Goals as goal
 
-pub at-queue-requires : goal.at-queue-requires
-at-queue-requires c = subst (λ l. c.args.port < length l) (sym (c.at.ensures [])) (in_reads c.args.parts.now c.args.op c.args.port c.requires.enabled.queue c.requires.goes_on c.requires.enabled.reads).1
+pub reads_of-requires : goal.reads_of-requires
+reads_of-requires c = op_there c.args.parts.now.plan c.args.op c.args.port c.requires.enabled.queue c.requires.enabled.reads
 
 pub front-item-requires-clause-queue : goal.front-item-requires-clause-queue
-front-item-requires-clause-queue c = (front_there c.args.parts.now c.args.op c.args.port c.at-queue.result.now c.requires.goes_on c.requires.enabled
-    (enabled_place c.args.parts.now c.args.op c.args.port c.at-queue.result.now c.at.result.now c.requires.goes_on c.requires.enabled (c.at.ensures []) (c.at-queue.ensures 0))).0
+front-item-requires-clause-queue c = (front_there c.args.parts.now c.args.op c.args.port (slice_index_or c.reads_of.result.now c.args.port 0) c.requires.goes_on c.requires.enabled
+    (enabled_place c.args.parts.now c.args.op c.args.port (slice_index_or c.reads_of.result.now c.args.port 0) c.reads_of.result.now c.requires.enabled c.reads_of.ensures refl)).0
 
 pub front-item-requires-clause-item : goal.front-item-requires-clause-item
-front-item-requires-clause-item c = (front_there c.args.parts.now c.args.op c.args.port c.at-queue.result.now c.requires.goes_on c.requires.enabled
-    (enabled_place c.args.parts.now c.args.op c.args.port c.at-queue.result.now c.at.result.now c.requires.goes_on c.requires.enabled (c.at.ensures []) (c.at-queue.ensures 0))).1
+front-item-requires-clause-item c = (front_there c.args.parts.now c.args.op c.args.port (slice_index_or c.reads_of.result.now c.args.port 0) c.requires.goes_on c.requires.enabled
+    (enabled_place c.args.parts.now c.args.op c.args.port (slice_index_or c.reads_of.result.now c.args.port 0) c.reads_of.result.now c.requires.enabled c.reads_of.ensures refl)).1
 
 pub at_mut-requires : goal.at_mut-requires
 at_mut-requires c = (op_in c.args.parts.now c.args.op c.args.port c.requires.goes_on c.requires.enabled).0
 
 pub fire_op-requires : goal.fire_op-requires
-fire_op-requires c = can_fire c.args.parts.now c.args.op c.args.port c.at-queue.result.now c.front-item.result c.front-item.new.queues c.at_mut.result.now c.requires.goes_on c.requires.enabled
-    (enabled_place c.args.parts.now c.args.op c.args.port c.at-queue.result.now c.at.result.now c.requires.goes_on c.requires.enabled (c.at.ensures []) (c.at-queue.ensures 0))
+fire_op-requires c = can_fire c.args.parts.now c.args.op c.args.port (slice_index_or c.reads_of.result.now c.args.port 0) c.front-item.result c.front-item.new.queues c.at_mut.result.now c.requires.goes_on c.requires.enabled
+    (enabled_place c.args.parts.now c.args.op c.args.port (slice_index_or c.reads_of.result.now c.args.port 0) c.reads_of.result.now c.requires.enabled c.reads_of.ensures refl)
     c.front-item.ensures (c.at_mut.ensures.value [])
 
-pub at-requires-2 : goal.at-requires-2
-at-requires-2 c = (op_in c.args.parts.now c.args.op c.args.port c.requires.goes_on c.requires.enabled).1
+pub writes_of-requires : goal.writes_of-requires
+writes_of-requires c = (op_in c.args.parts.now c.args.op c.args.port c.requires.goes_on c.requires.enabled).1
 
 pub send-requires-clause-ports : goal.send-requires-clause-ports
-send-requires-clause-ports c = (send_there c.args.parts.now c.args.op c.args.port c.at-queue.result.now c.front-item.result c.front-item.new.queues c.at_mut.result.now c.fire_op.new.states c.in_ok-out.out c.at-2.result.now c.requires.goes_on c.requires.enabled c.front-item.ensures (c.at_mut.ensures.value []) c.in_ok-out.ensures (c.at-2.ensures [])).0
+send-requires-clause-ports c = (send_there c.args.parts.now c.args.op c.args.port (slice_index_or c.reads_of.result.now c.args.port 0) c.front-item.result c.front-item.new.queues c.at_mut.result.now c.fire_op.new.states c.in_ok-out.out c.writes_of.result.now c.requires.goes_on c.requires.enabled c.front-item.ensures (c.at_mut.ensures.value []) c.in_ok-out.ensures c.writes_of.ensures).0
 
 pub send-requires-clause-places : goal.send-requires-clause-places
-send-requires-clause-places c = (send_there c.args.parts.now c.args.op c.args.port c.at-queue.result.now c.front-item.result c.front-item.new.queues c.at_mut.result.now c.fire_op.new.states c.in_ok-out.out c.at-2.result.now c.requires.goes_on c.requires.enabled c.front-item.ensures (c.at_mut.ensures.value []) c.in_ok-out.ensures (c.at-2.ensures [])).1
+send-requires-clause-places c = (send_there c.args.parts.now c.args.op c.args.port (slice_index_or c.reads_of.result.now c.args.port 0) c.front-item.result c.front-item.new.queues c.at_mut.result.now c.fire_op.new.states c.in_ok-out.out c.writes_of.result.now c.requires.goes_on c.requires.enabled c.front-item.ensures (c.at_mut.ensures.value []) c.in_ok-out.ensures c.writes_of.ensures).1
 
 pub count_one-requires : goal.count_one-requires
 count_one-requires c = (op_in c.args.parts.now c.args.op c.args.port c.requires.goes_on c.requires.enabled).2
 
 pub returns-clause-fired : goal.returns-clause-fired
 returns-clause-fired c =
-    (next c.args.parts.now c.args.op c.args.port c.at-queue.result.now c.front-item.result c.at_mut.result.now c.fire_op.new.states c.in_ok-out.out c.at-2.result.now c.front-item.new.queues c.send.new.queues c.count_one.new.counts c.requires.goes_on c.requires.enabled
-    (enabled_place c.args.parts.now c.args.op c.args.port c.at-queue.result.now c.at.result.now c.requires.goes_on c.requires.enabled (c.at.ensures []) (c.at-queue.ensures 0))
-    c.front-item.ensures (c.at_mut.ensures.value []) c.in_ok-out.ensures (c.at-2.ensures []) c.in_ok-send.ensures c.count_one.ensures).steps
+    (next c.args.parts.now c.args.op c.args.port (slice_index_or c.reads_of.result.now c.args.port 0) c.front-item.result c.at_mut.result.now c.fire_op.new.states c.in_ok-out.out c.writes_of.result.now c.front-item.new.queues c.send.new.queues c.count_one.new.counts c.requires.goes_on c.requires.enabled
+    (enabled_place c.args.parts.now c.args.op c.args.port (slice_index_or c.reads_of.result.now c.args.port 0) c.reads_of.result.now c.requires.enabled c.reads_of.ensures refl)
+    c.front-item.ensures (c.at_mut.ensures.value []) c.in_ok-out.ensures c.writes_of.ensures c.in_ok-send.ensures c.count_one.ensures).steps
 
 pub returns-clause-goes_on : goal.returns-clause-goes_on
 returns-clause-goes_on c =
-    (next c.args.parts.now c.args.op c.args.port c.at-queue.result.now c.front-item.result c.at_mut.result.now c.fire_op.new.states c.in_ok-out.out c.at-2.result.now c.front-item.new.queues c.send.new.queues c.count_one.new.counts c.requires.goes_on c.requires.enabled
-    (enabled_place c.args.parts.now c.args.op c.args.port c.at-queue.result.now c.at.result.now c.requires.goes_on c.requires.enabled (c.at.ensures []) (c.at-queue.ensures 0))
-    c.front-item.ensures (c.at_mut.ensures.value []) c.in_ok-out.ensures (c.at-2.ensures []) c.in_ok-send.ensures c.count_one.ensures).goes_on
+    (next c.args.parts.now c.args.op c.args.port (slice_index_or c.reads_of.result.now c.args.port 0) c.front-item.result c.at_mut.result.now c.fire_op.new.states c.in_ok-out.out c.writes_of.result.now c.front-item.new.queues c.send.new.queues c.count_one.new.counts c.requires.goes_on c.requires.enabled
+    (enabled_place c.args.parts.now c.args.op c.args.port (slice_index_or c.reads_of.result.now c.args.port 0) c.reads_of.result.now c.requires.enabled c.reads_of.ensures refl)
+    c.front-item.ensures (c.at_mut.ensures.value []) c.in_ok-out.ensures c.writes_of.ensures c.in_ok-send.ensures c.count_one.ensures).goes_on

@@ -16,13 +16,12 @@ take_list-requires c = let m = c.loop-port.invariant.left.many in let r = c.requ
 pub put-requires : goal.put-requires
 put-requires c =
     let e = ap length c.loop-port.invariant.queues ∙ length-each_grew c.args.queues.now (joined_at (take c.loop-port.port c.args.to.now) (list_at c.args.outs.now)) in
-    let w = c.at.ensures 0 in
     let q = c.requires.places c.loop-port.port (omega arith) in
-    omega (arith, e, w, q)
+    omega (arith, e, q)
 
 pub loop-port-preserved : goal.loop-port-preserved
 loop-port-preserved c = record {
-  queues = send_step c.args.to.now (list_at c.args.outs.now) c.loop-port.port c.at.result.now c.args.queues.now c.loop-port.queues c.put.new.queues c.take_list.result (omega arith) (c.at.ensures c.at.result.now) c.loop-port.invariant.queues
+  queues = send_step c.args.to.now (list_at c.args.outs.now) c.loop-port.port c.args.queues.now c.loop-port.queues c.put.new.queues c.take_list.result (omega arith) c.loop-port.invariant.queues
       (c.take_list.ensures.taken ∙ c.loop-port.invariant.left.rest c.loop-port.port (omega arith)) c.in_ok-put.ensures;
   left = untouched_next c.loop-port.port c.args.outs.now c.loop-port.outs c.take_list.new.lists _ c.loop-port.invariant.left c.take_list.ensures.left;
 }
