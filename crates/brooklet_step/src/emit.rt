@@ -1,6 +1,6 @@
 // What firings give.
-ghost use Rattle.std.specs.Prelude.{◌≡◌, ◌+◌, ◌<◌, ◌≤◌, ◌^◌, [], ◌∷◌, length, replicate, slice_set, All, IfOk, OnOk};
-ghost use Rattle.river_base.specs.Places.{each_grew, upto, none, list_at};
+ghost use Rattle.std.specs.Prelude.{◌≡◌, ◌+◌, ◌<◌, ◌≤◌, ◌^◌, [], ◌∷◌, ◌++◌, length, replicate, slice_set, All, IfOk, OnOk};
+ghost use Rattle.river_base.specs.Places.{append_at, each_grew, upto, none, list_at};
 ghost use Rattle.kern_rows.specs.Runs.{pushed_to};
 ghost use Rattle.brooklet_model.specs.Firings.{gives, splice as splice_lem, beside};
 ghost use Rattle.brooklet_step.specs.Took.{Took, StayApart};
@@ -50,7 +50,7 @@ impl Emit {
         requires { port < length self.old.outs }
         ensures { OnOk result (Took self.old self.new (gives port items [])) }
     {
-        self.outs.extend_at(port, items)?;
+        add_items(&mut self.outs, port, items)?;
         Ok(())
     }
 
@@ -109,6 +109,27 @@ impl Emit {
         join_rows(alloc, &mut self.adds, &mut first.adds, &mut second.adds)?;
         Ok(())
     }
+}
+
+// Items come to the end of the list at a place.
+fn add_items(outs: &mut ItemLists, place: usize, items: Items) -> Result<(), NoMemory>
+    requires { place < length outs.old }
+    ensures { OnOk result (outs.new ≡ append_at outs.old place items) }
+{
+    join(outs.at_mut(place), items)?;
+    Ok(())
+}
+
+// Items come to the end of a list; where it has none, it becomes theirs.
+fn join(list: &mut Items, items: Items) -> Result<(), NoMemory>
+    ensures { OnOk result (list.new ≡ list.old ++ items) }
+{
+    if list.is_empty() {
+        *list = items;
+        return Ok(());
+    }
+    list.append(items)?;
+    Ok(())
 }
 
 // A copy of the item for each port below this one.

@@ -3,12 +3,12 @@ ghost use Rattle.std.specs.Prelude.{◌≡◌, pos, map, take, length, IfOk, ◌
 ghost use Rattle.river_plan.specs.Forms.{decl_names};
 ghost use Rattle.brooklet_step.specs.Works.{GoesOn, AreCounts, queue_of};
 
-use crate::ItemLists;
 use crate::machine::{Lines, Parts, Sizes};
 use crate::run::Outcome;
 use kern_rows::Line;
-use river_base::{Items, NoMemory, Numbers};
+use river_base::{NoMemory, Numbers};
 use std::alloc::Global;
+use std::mem::replace;
 
 /// The histories of the outputs, whose items move, and the counts.
 pub(crate) fn outcome_of(alloc: Global, parts: &mut Parts) -> Result<Outcome, NoMemory>
@@ -22,27 +22,23 @@ pub(crate) fn outcome_of(alloc: Global, parts: &mut Parts) -> Result<Outcome, No
     Ok(Outcome { outs, counts })
 }
 
-// The items of the first queues.
-fn first_lists(alloc: Global, queues: &mut Lines, count: usize) -> Result<ItemLists, NoMemory>
+// The items of the first queues, which move.
+fn first_lists(alloc: Global, queues: &mut Lines, count: usize) -> Result<Lines, NoMemory>
     requires { count ≤ length queues.old }
     ensures { IfOk result (λ lists. lists ≡ take count queues.old) }
 {
-    let mut lists = ItemLists::new(alloc);
+    let mut lists = Lines::new(alloc);
     for place in 0..count {
-        lists.push(items_of(alloc, queues.at_mut(place))?)?;
+        lists.push(take_line(alloc, queues.at_mut(place)))?;
     }
     Ok(lists)
 }
 
-// The items of a queue, which move.
-fn items_of(alloc: Global, line: &mut Line) -> Result<Items, NoMemory>
-    ensures { IfOk result (λ items. items ≡ line.old) }
+// The items of a line; none is left there.
+fn take_line(alloc: Global, line: &mut Line) -> Line
+    ensures { result ≡ line.old }
 {
-    let mut items = Items::new(alloc);
-    while let Some(item) = line.pop() {
-        items.push(item)?;
-    }
-    Ok(items)
+    replace(line, Line::new(alloc))
 }
 
 // Counts as values.

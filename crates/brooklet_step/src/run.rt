@@ -7,7 +7,8 @@ ghost use Rattle.brooklet_step.specs.Built.{IsBuilt};
 ghost use Rattle.brooklet_step.specs.Drained.{IsDrained, Follows, DrainedBefore, HasPorts, HasRun};
 ghost use Rattle.brooklet_step.specs.Fit.{Fit};
 
-use crate::{Inputs, ItemLists, Machine};
+use crate::machine::Lines;
+use crate::{Inputs, Machine};
 use river_base::{NoMemory, Numbers};
 use river_plan::Plan;
 use std::alloc::Global;
@@ -16,7 +17,7 @@ use std::alloc::Global;
 /// operator fired, a count of 2^63 - 1 standing for all that are greater.
 #[derive(Drop)]
 pub struct Outcome {
-    pub outs: ItemLists,
+    pub outs: Lines,
     pub counts: Numbers,
 }
 

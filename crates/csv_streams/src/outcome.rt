@@ -6,7 +6,9 @@ ghost use Rattle.river_plan.specs.Forms.{decl_names, labels, op_forms};
 ghost use Rattle.csv_streams.specs.Outcome as text;
 
 use brooklet_step::Outcome;
-use river_base::{Batch, Bytes, Duplicate, Flat, Item, Items, Name, NoMemory, Row};
+use itoa::Buffer;
+use kern_rows::Line;
+use river_base::{Batch, Bytes, Duplicate, Flat, Item, Name, NoMemory, Row};
 use river_plan::{Decl, Op, Plan};
 use std::alloc::Global;
 
@@ -34,12 +36,7 @@ pub fn print_outcome(
         &mut all,
     )?;
     if counts {
-        print_firings(
-            alloc,
-            raw.ops.as_slice(),
-            outcome.counts.as_slice(),
-            &mut all,
-        )?;
+        print_firings(raw.ops.as_slice(), outcome.counts.as_slice(), &mut all)?;
     }
     Ok(all)
 }
@@ -48,7 +45,7 @@ pub fn print_outcome(
 fn print_outputs(
     alloc: Global,
     decls: &[Decl],
-    outs: &[Items],
+    outs: &[Line],
     to: &mut Bytes,
 ) -> Result<(), NoMemory>
     requires { length outs.now ≡ length decls.now }
@@ -61,21 +58,21 @@ fn print_outputs(
 }
 
 #[tactic(auto, using(crate::proofs::Texts::joins))]
-fn print_output(alloc: Global, name: &Name, items: &Items, to: &mut Bytes) -> Result<(), NoMemory>
+fn print_output(alloc: Global, name: &Name, items: &Line, to: &mut Bytes) -> Result<(), NoMemory>
     ensures { OnOk result (to.new ≡ to.old ++ text.output_text name.now items.now) }
 {
     to.extend(b"# ")?;
     to.extend(name.as_slice())?;
     to.push(b'\n')?;
-    print_items(alloc, items.as_slice(), to)
+    print_items(alloc, items, to)
 }
 
 #[tactic(auto, using(crate::proofs::Texts::joins))]
-fn print_items(alloc: Global, items: &[Item], to: &mut Bytes) -> Result<(), NoMemory>
+fn print_items(alloc: Global, items: &Line, to: &mut Bytes) -> Result<(), NoMemory>
     ensures { OnOk result (to.new ≡ to.old ++ text.lines text.item_text items.now) }
 {
-    for item in items {
-        print_item(alloc, item, to)?;
+    for place in 0..items.len() {
+        print_item(alloc, items.at(place), to)?;
     }
     Ok(())
 }
@@ -85,19 +82,19 @@ fn print_item(alloc: Global, item: &Item, to: &mut Bytes) -> Result<(), NoMemory
     ensures { OnOk result (to.new ≡ to.old ++ text.item_text item.now) }
 {
     match item {
-        Item::Flat(Flat::One(row)) => print_row(alloc, row, to),
+        Item::Flat(Flat::One(row)) => print_row(row, to),
         Item::Flat(Flat::Batch(batch)) => print_batch(alloc, batch, to),
         Item::Pack(_) => Ok(()),
     }
 }
 
 #[tactic(auto, using(crate::proofs::Texts::joins))]
-fn print_row(alloc: Global, row: &Row, to: &mut Bytes) -> Result<(), NoMemory>
+fn print_row(row: &Row, to: &mut Bytes) -> Result<(), NoMemory>
     ensures { OnOk result (to.new ≡ to.old ++ text.row_line row.now) }
 {
     if let Some((first, rest)) = row.values().split_first() {
-        print_value(alloc, *first, to)?;
-        print_more(alloc, rest, to)?;
+        print_value(*first, to)?;
+        print_more(rest, to)?;
     }
     to.extend(b"\n")?;
     Ok(())
@@ -110,69 +107,69 @@ fn print_batch(alloc: Global, batch: &Batch, to: &mut Bytes) -> Result<(), NoMem
     let mut rows = batch.rows.copy(alloc)?;
     rows.sort()?;
     for row in rows.as_slice() {
-        print_timed(alloc, batch.at, row, to)?;
+        print_timed(batch.at, row, to)?;
     }
     Ok(())
 }
 
 // A row behind its instant.
 #[tactic(auto, using(crate::proofs::Texts::joins))]
-fn print_timed(alloc: Global, at: i64, row: &Row, to: &mut Bytes) -> Result<(), NoMemory>
+fn print_timed(at: i64, row: &Row, to: &mut Bytes) -> Result<(), NoMemory>
     ensures { OnOk result (to.new ≡ to.old ++ text.row_line (at ∷ row.now)) }
 {
-    print_value(alloc, at, to)?;
-    print_more(alloc, row.values(), to)?;
+    print_value(at, to)?;
+    print_more(row.values(), to)?;
     to.extend(b"\n")?;
     Ok(())
 }
 
 // Each value behind a comma.
 #[tactic(auto, using(crate::proofs::Texts::joins))]
-fn print_more(alloc: Global, values: &[i64], to: &mut Bytes) -> Result<(), NoMemory>
+fn print_more(values: &[i64], to: &mut Bytes) -> Result<(), NoMemory>
     ensures { OnOk result (to.new ≡ to.old ++ text.more_values values.now) }
 {
     for value in values {
         to.extend(b",")?;
-        print_value(alloc, *value, to)?;
+        print_value(*value, to)?;
     }
     Ok(())
 }
 
-fn print_value(alloc: Global, value: i64, to: &mut Bytes) -> Result<(), NoMemory>
+fn print_value(value: i64, to: &mut Bytes) -> Result<(), NoMemory>
     ensures { OnOk result (to.new ≡ to.old ++ signed_decimal value) }
 {
-    let digits = value.to_string(alloc)?;
-    to.extend(digits.as_bytes())?;
+    let mut digits = Buffer::new();
+    to.extend(digits.format(value).as_bytes())?;
     Ok(())
 }
 
-fn print_firings(alloc: Global, ops: &[Op], counts: &[i64], to: &mut Bytes) -> Result<(), NoMemory>
+fn print_firings(ops: &[Op], counts: &[i64], to: &mut Bytes) -> Result<(), NoMemory>
     requires { length counts.now ≡ length ops.now }
     ensures { OnOk result (to.new ≡ to.old ++ text.firings_text (labels (op_forms ops.now)) (Some counts.now)) }
 {
     to.extend(b"## firings\n")?;
-    print_counts(alloc, ops, counts, to)?;
+    print_counts(ops, counts, to)?;
     Ok(())
 }
 
 #[tactic(auto, using(crate::proofs::Texts::joins))]
-fn print_counts(alloc: Global, ops: &[Op], counts: &[i64], to: &mut Bytes) -> Result<(), NoMemory>
+fn print_counts(ops: &[Op], counts: &[i64], to: &mut Bytes) -> Result<(), NoMemory>
     requires { length counts.now ≡ length ops.now }
     ensures { OnOk result (to.new ≡ to.old ++ text.count_lines (labels (op_forms ops.now)) counts.now) }
 {
     for place in 0..ops.len() {
-        print_count(alloc, &ops[place].label, counts[place], to)?;
+        print_count(&ops[place].label, counts[place], to)?;
     }
     Ok(())
 }
 
 #[tactic(auto, using(crate::proofs::Texts::joins))]
-fn print_count(alloc: Global, label: &Name, count: i64, to: &mut Bytes) -> Result<(), NoMemory>
+fn print_count(label: &Name, count: i64, to: &mut Bytes) -> Result<(), NoMemory>
     ensures { OnOk result (to.new ≡ to.old ++ text.count_line label.now count) }
 {
     to.extend(label.as_slice())?;
     to.extend(b",")?;
-    print_value(alloc, count, to)?;
+    print_value(count, to)?;
     to.extend(b"\n")?;
     Ok(())
 }

@@ -1,12 +1,15 @@
 // A file as rows.
-ghost use Rattle.std.specs.Prelude.{◌≡◌, ◌≤◌, ◌<◌, ◌+◌, [], length, take, option_and_then, Ok, OnOk, IfErr};
+ghost use Rattle.std.specs.Prelude.{◌≡◌, ◌≤◌, ◌<◌, ◌+◌, true, [], length, take, option_and_then, Some, Ok, IfOk, OnOk, IfErr};
+ghost use Rattle.csv.specs.Reading.{Ready, ReadRecord, reader_trim, took_first};
 ghost use Rattle.csv.specs.Records.{fields_of, field_at};
+ghost use Rattle.csv.specs.declared.reader.Trim.TheVariants as trim;
 ghost use Rattle.csv_streams.specs.Number.{number_of};
 ghost use Rattle.csv_streams.specs.Numbered.{numbered};
 ghost use Rattle.csv_streams.specs.Rows.{value_or, value_in, has_width, row_in, rows_of, headers, most_rows, Appends, IsFaultTold, IsAnswer};
+ghost use Rattle.csv_streams.specs.declared.fault.InFault.TheVariants as fault;
 
 use crate::{InFault, read_number};
-use csv::{ByteRecord, ReaderBuilder};
+use csv::{ByteRecord, Reader, ReaderBuilder};
 use river_base::{Bytes, MAX_ROW, Row, Rows};
 use std::alloc::Global;
 
@@ -47,23 +50,35 @@ fn add_rows(
     ensures ok { OnOk result (rows_of bytes.now width skip_first more ≡ Ok rows.new) }
     ensures fault { IfErr result (IsFaultTold (rows_of bytes.now width skip_first more)) }
 {
-    let rdr = ReaderBuilder::new()
+    let mut rdr = ReaderBuilder::new()
         .has_headers(false)
         .flexible(true)
         .from_reader(alloc, bytes.as_slice());
+    let mut record = ByteRecord::new(alloc);
     let header = headers(skip_first);
     let last = header + MAX_ROWS;
     let mut rec = 0u32;
-    for record in rdr.into_byte_records() {
-        let Ok(record) = record else {
-            return Err(InFault::NoMemory);
-        };
+    while read_record(&mut rdr, &mut record)? {
         rec += 1;
         if rec > header {
             add_row(&record, rec, last, width as usize, more, rows)?;
         }
     }
     Ok(())
+}
+
+// Reads the next record, if there is one; a reader of bytes fails for want of memory alone.
+fn read_record(rdr: &mut Reader<&[u8]>, raw: &mut ByteRecord) -> Result<bool, InFault>
+    requires trim { reader_trim rdr.old ≡ trim.None }
+    requires ready { Ready rdr.old }
+    ensures ok { IfOk result (λ found. ReadRecord (λ s. Some s.now) rdr.old rdr.new found (fields_of raw.new)) }
+    ensures first { OnOk result (took_first rdr.new ≡ true) }
+    ensures fault { IfErr result (λ f. f ≡ fault.NoMemory) }
+{
+    match rdr.read_byte_record(raw) {
+        Ok(found) => Ok(found),
+        Err(_) => Err(InFault::NoMemory),
+    }
 }
 
 // Appends the row of record number `rec`.

@@ -1,10 +1,14 @@
 // Items in a line.
-ghost use Rattle.std.specs.Prelude.{◌≡◌, [], ◌∷◌, ◌++◌, length, OnOk, MatchOption};
+ghost use Rattle.std.specs.Prelude.{◌≡◌, [], ◌∷◌, ◌++◌, ◌<◌, length, slice_index_or, OnOk, MatchOption};
+ghost use Rattle.river_base.specs.declared.item.Item as item;
 
 use river_base::{Item, Items, NoMemory};
 use std::alloc::Global;
 use std::collections::VecDeque;
 use std::marker::Model;
+
+// For how many items an empty line keeps memory.
+const KEPT: usize = 16;
 
 /// Items in a line: new ones come to its end, and each leaves at its front. Contracts see the list of those that are there.
 #[derive(Drop)]
@@ -47,6 +51,14 @@ impl Line {
         self.items.len()
     }
 
+    /// The item at a place, from 0.
+    pub fn at(&self, place: usize) -> &Item
+        requires { place < length self.now }
+        ensures { (d : item.Item) → result.now ≡ slice_index_or self.now place d }
+    {
+        &self.items[place]
+    }
+
     /// An item comes to the end.
     pub fn push(&mut self, item: Item) -> Result<(), NoMemory>
         ensures { OnOk result (self.new ≡ self.old ++ item ∷ []) }
@@ -64,10 +76,14 @@ impl Line {
         Ok(())
     }
 
-    /// The item at the front leaves; None where there is none.
+    /// The item at the front leaves; None where there is none. A line that is empty gives back its memory, but for a few items.
     pub fn pop(&mut self) -> Option<Item>
         ensures { MatchOption result ((self.old ≡ []) × (self.new ≡ [])) (λ x. self.old ≡ x ∷ self.new) }
     {
-        self.items.pop_front()
+        let item = self.items.pop_front();
+        if self.items.is_empty() {
+            self.items.shrink_to(KEPT);
+        }
+        item
     }
 }

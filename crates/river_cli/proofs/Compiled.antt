@@ -7,7 +7,7 @@ use Rattle.river_base.specs.declared.item.Item.TheVariants.{Flat}
 use Rattle.river_base.specs.Held.{HasType}
 use Rattle.river_kernels.specs.Fits.{rows}
 use Rattle.river_order.specs.Passes.{StandsFor}
-use Rattle.river_plan.specs.Forms.{PlanForm, decl_names}
+use Rattle.river_plan.specs.Forms.{PlanForm}
 use Rattle.river_text.specs.Meaning as river
 use Rattle.river_text.specs.Words.{river_words}
 use Rattle.river_text.specs.declared.river_fault.RiverFault.{RiverFault}
@@ -23,7 +23,7 @@ use Rattle.streamit_front.specs.declared.fault.StreamitFault.{StreamitFault}
 use Rattle.streamit_front.specs.declared.fault.StreamitFault.TheVariants as streamit_fault
 use Rattle.streamit_front.proofs.Translated.{translation_means}
 use Rattle.river_cli.specs.Inputs.{row_items, all_items}
-use Rattle.river_cli.specs.Source.{Source, river_source, streamit_source, values, told, IsPlanOf, IsCompiled}
+use Rattle.river_cli.specs.Source.{river_source, streamit_source, values, told, IsPlanOf, IsCompiled}
 use Rattle.river_cli.specs.Text.{program_refused}
 
 -- ---- A RIVER TEXT

@@ -1,6 +1,6 @@
 -- From the fetch of the first file to the points after all of them.
 use Rattle.std.proofs.Common.{◌≡◌, ℕ, List, [], ◌∷◌, ◌++◌, sym, ap, subst}
-use Rattle.std.specs.Prelude.{Option, Some, Err}
+use Rattle.std.specs.Prelude.{Option, Some}
 use Rattle.std.proofs.lemmas.List.{append_assoc, append-nil}
 use Rattle.brooklet_model.proofs.Lists.{funext}
 use Rattle.river_outside.specs.Held.{Held}

@@ -4,5 +4,6 @@ pub mod Fetches
 pub mod Inputs
 pub mod Points
 pub mod ReadOn
+pub mod Scripts
 pub mod Told
 pub mod Typed

@@ -1,23 +1,23 @@
 -- The points of a job, and the calls that do them.
-use Rattle.std.proofs.Common.{◌≡◌, ℕ, ℤ, List, ◌++◌, Bool, false, refl, sym, ap, ◌∙◌, subst}
+use Rattle.std.proofs.Common.{◌≡◌, ℕ, ℤ, List, ◌++◌, Bool, false, sym, ap, ◌∙◌, subst}
 use Rattle.std.specs.Prelude.{Option, Some, Result, Ok, Err, IfOk, pos, map}
 use Rattle.csv_streams.specs.Outcome.{outputs_text, firings_text, asked, printed_outcome}
 use Rattle.river_base.specs.declared.item.Item as item
 use Rattle.river_base.specs.declared.memory.NoMemory.{NoMemory}
 use Rattle.river_outside.specs.Held.{Held}
-use Rattle.river_order.specs.Order.{Order, Ends, Fetch, Done, Comes}
+use Rattle.river_order.specs.Order.{Order, Fetch, Comes}
 use Rattle.river_order.specs.Decides.{Decides, Stops}
 use Rattle.river_order.specs.Passes.{past, Refuses, StandsFor, Passes}
 use Rattle.river_order.specs.declared.stop.Stop.{Stop}
 use Rattle.river_order.proofs.Comes.{Comes-same}
 use Rattle.river_order.proofs.Passes.{past-refused, past-as, then-passes, passed-decides}
-use Rattle.river_plan.specs.Forms.{PlanForm, decl_names, labels}
+use Rattle.river_plan.specs.Forms.{PlanForm, labels}
 use Rattle.river_print.specs.Printed.{plan_text}
 use Rattle.brooklet_model.specs.Histories.{firings}
 use Rattle.brooklet_model.specs.Meaning.{Results, meaning}
 use Rattle.brooklet_model.specs.Typed.{AreInputs}
 use Rattle.river_cli.specs.Inputs.{of_inputs, all_items}
-use Rattle.river_cli.specs.Points.{runs, of_run, of_command, of_text, of_job}
+use Rattle.river_cli.specs.Points.{runs, of_run, of_command, of_script, of_text, of_job}
 use Rattle.river_cli.specs.Source.{Source, source_of, IsPlanOf, IsCompiled, printed}
 use Rattle.river_cli.specs.Text.{large_program}
 use Rattle.river_cli.specs.declared.compile.Compiled.{Compiled}
@@ -32,17 +32,27 @@ job-decides job text held early late sooner result here there =
     passed-decides (λ next. Fetch job.file 1048576 large_program (λ t. of_text job t next)) held early result
     (then-passes (Fetch job.file 1048576 large_program) (λ t next. of_text job t next) held early late sooner text result here there)
 
--- it was compiled
-pub text-passes : (job : Job) (text : List ℕ) (held : Option Held) (rose : Type 0) (c : Compiled) (result : Result (List ℕ) Stop) → StandsFor IsCompiled (source_of job.lang text) c
-    → ((source : Source) → IsPlanOf source c.plan → Passes (of_command job source) held rose result) → Passes (of_text job text) held rose result
+-- it was compiled, and its plan rewritten
+pub text-passes : (job : Job) (text : List ℕ) (held : Option Held) (early late : Type 0) → (late → early) → (c : Compiled) (plan : PlanForm) (result : Result (List ℕ) Stop) → StandsFor IsCompiled (source_of job.lang text) c
+    → ((source : Source) → IsPlanOf source c.plan → (later : Source) × IsPlanOf later plan × ((next : Source → Order) → Comes (of_script job.options.script source next) held (next later)))
+    → ((source : Source) → IsPlanOf source plan → Passes (of_command job source) held late result) → Passes (of_text job text) held early result
 unfolding of_text
-text-passes job text held rose c (Ok out) told later = past-as IsCompiled (source_of job.lang text) c (λ source next. of_command job source next) held rose (Ok out) told later
-text-passes job text held rose c (Err s) told later = past-as IsCompiled (source_of job.lang text) c (λ source next. of_command job source next) held rose (Err s) told later
+text-passes job text held early late sooner c plan (Ok out) told script command = past-as IsCompiled (source_of job.lang text) c (λ source next. of_script job.options.script source (λ later. of_command job later next)) held early (Ok out) told
+    (λ source is. let s = script source is in then-passes (of_script job.options.script source) (λ later next. of_command job later next) held early late sooner s.0 (Ok out) s.2 (command s.0 s.1))
+text-passes job text held early late sooner c plan (Err f) told script command = past-as IsCompiled (source_of job.lang text) c (λ source next. of_script job.options.script source (λ later. of_command job later next)) held early (Err f) told
+    (λ source is. let s = script source is in then-passes (of_script job.options.script source) (λ later next. of_command job later next) held early late sooner s.0 (Err f) s.2 (command s.0 s.1))
 
 -- it is refused
 pub text-stops : (job : Job) (text : List ℕ) (held : Option Held) (rose : Type 0) (s : Stop) → Refuses (source_of job.lang text) s → (next : List ℕ → Order) → Stops (Some (of_text job text next)) held rose s
 unfolding of_text
-text-stops job text held rose s told next = past-refused (source_of job.lang text) s held rose told (λ source. of_command job source next)
+text-stops job text held rose s told next = past-refused (source_of job.lang text) s held rose told (λ source. of_script job.options.script source (λ later. of_command job later next))
+
+-- its script stops it
+pub script-stops : (job : Job) (text : List ℕ) (held : Option Held) (rose : Type 0) (c : Compiled) (s : Stop) → StandsFor IsCompiled (source_of job.lang text) c
+    → ((source : Source) → IsPlanOf source c.plan → (next : Source → Order) → Stops (Some (of_script job.options.script source next)) held rose s) → (next : List ℕ → Order) → Stops (Some (of_text job text next)) held rose s
+unfolding of_text
+script-stops job text held rose c s told stops = past-as IsCompiled (source_of job.lang text) c (λ source next. of_script job.options.script source (λ later. of_command job later next)) held rose (Err s) told
+    (λ source is next. stops source is (λ later. of_command job later next))
 
 -- ---- THE COMMANDS
 

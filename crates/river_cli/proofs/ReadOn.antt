@@ -1,13 +1,13 @@
 -- Phrases that are read from left to right.
-use Rattle.std.proofs.Common.{◌≡◌, ℕ, zero, suc, ◌+◌, ◌<◌, Bool, true, false, List, [], ◌∷◌, ◌++◌, length, drop, refl, sym, ap, ◌∙◌, subst, arith}
-use Rattle.std.specs.Prelude.{Option, Some, None, Err, IsErrOf, nat_lt, ◌==◌, ◌&&◌, if◌then◌else◌, map}
+use Rattle.std.proofs.Common.{◌≡◌, ℕ, zero, suc, ◌+◌, ◌<◌, Bool, true, false, List, [], ◌∷◌, ◌++◌, length, drop, refl, sym, ap, ◌∙◌, arith}
+use Rattle.std.specs.Prelude.{Option, Some, None, Err, IsErrOf, ◌==◌, ◌&&◌, if◌then◌else◌, map}
 use Rattle.std.proofs.lemmas.List.{append_assoc, append-nil}
 use Rattle.std.proofs.lemmas.Bool.Decides.{nat_tests}
 use Rattle.river_base.specs.Name.{name_eq}
 use Rattle.river_plan.specs.Names.{count, one_if}
 use Rattle.river_plan.proofs.NameLemmas.{count-append, name_sym}
 use Rattle.river_cli.specs.Phrases.{Phrase, phrase_of, one_more, phrases, made, are_apart, with_phrases}
-use Rattle.river_cli.specs.Said.{Grown, said_once, grown, with_phrase}
+use Rattle.river_cli.specs.Said.{Grown, grown, with_phrase}
 use Rattle.river_cli.specs.declared.job.Command.{Command}
 use Rattle.river_cli.specs.declared.job.Job.{Job}
 use Rattle.river_cli.specs.declared.job.WordFault.{WordFault}

@@ -3,15 +3,15 @@ use Rattle.std.specs.Prelude.{ℕ, List, [], ◌∷◌, Bool, true, false, ◌&&
 use Rattle.river_cli.specs.Phrases.{phrases, with_phrases}
 use Rattle.river_cli.specs.Words.{command_named, lang_named, is_file}
 use Rattle.river_cli.specs.declared.job.Command.{Command}
-use Rattle.river_cli.specs.declared.job.Command.TheVariants.{Run, Mean, Show}
+use Rattle.river_cli.specs.declared.job.Command.TheVariants.{Mean}
 use Rattle.river_cli.specs.declared.job.Job.{Job}
 use Rattle.river_cli.specs.declared.job.Lang.{Lang}
-use Rattle.river_cli.specs.declared.job.Lang.TheVariants.{River, Streamit}
+use Rattle.river_cli.specs.declared.job.Lang.TheVariants.{Streamit}
 use Rattle.river_cli.specs.declared.job.Options.{Options}
 
 -- no option is given
 abbrev pub no_options : Options
-no_options = record { header = false; counts = false }
+no_options = record { header = false; counts = false; script = None }
 
 -- a command with a program and nothing else
 abbrev pub plain : Command → Lang → List ℕ → Job

@@ -21,7 +21,13 @@ pub record Phrase : Type 0 where
 abbrev pub option : List ℕ → (Command → Bool) → (Options → Options) → Option Phrase
 option word of sets = Some (record { of = of; takes = 0; once = word; makes = λ job. record job { options = sets job.options } })
 
--- the commands that read inputs, and those that count firings
+-- an option that takes the next word as it is, which is not empty
+abbrev pub taking : List ℕ → (Command → Bool) → (List ℕ → Options → Options) → List (List ℕ) → Option Phrase
+taking word of sets [] = None
+taking word of sets ([] ∷ words) = None
+taking word of sets ((c ∷ cs) ∷ words) = Some (record { of = of; takes = 1; once = word; makes = λ job. record job { options = sets (c ∷ cs) job.options } })
+
+-- the commands that read inputs, those that count firings, and those whose plan may be rewritten
 abbrev pub reads : Command → Bool
 reads Run = true
 reads Mean = true
@@ -32,10 +38,19 @@ counts Run = true
 counts Mean = false
 counts Show = false
 
+abbrev pub rewrites : Command → Bool
+rewrites Run = true
+rewrites Mean = false
+rewrites Show = true
+
 -- the file of an input
 abbrev pub input : Option InWord → Option Phrase
 input None = None
 input (Some w) = Some (record { of = reads; takes = 0; once = w.name; makes = λ job. record job { ins = job.ins ++ w ∷ [] } })
+
+-- the file of a script, which is the next word
+abbrev pub script : List (List ℕ) → Option Phrase
+script behind = taking (codes "-r") rewrites (λ file o. record o { script = Some file }) behind
 
 -- the phrase that words begin with; a word that begins with `-` is an option
 abbrev pub phrase_of : List (List ℕ) → Option Phrase
@@ -43,6 +58,7 @@ phrase_of [] = None
 phrase_of (word ∷ behind) =
     if bytes_eq word (codes "-H") then option word reads (λ o. record o { header = true })
     else if bytes_eq word (codes "-c") then option word counts (λ o. record o { counts = true })
+    else if bytes_eq word (codes "-r") then script behind
     else if is_file word then input (in_word_of word)
     else None
 

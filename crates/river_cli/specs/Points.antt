@@ -1,5 +1,5 @@
 -- The road from the words to the text: the points of a job, in order. Each point is told what comes after it.
-use Rattle.std.specs.Prelude.{ℕ, List, Bool, true, false, Option, Some, None, Result, Ok, Err, option_map, if◌then◌else◌}
+use Rattle.std.specs.Prelude.{ℕ, List, Bool, false, Option, Some, None, Result, Ok, Err, option_map, if◌then◌else◌}
 use Rattle.river_order.specs.Order.{Order, Ends, Fetch, Done}
 use Rattle.river_order.specs.Passes.{past}
 use Rattle.river_plan.specs.Forms.{PlanForm}
@@ -8,14 +8,22 @@ use Rattle.brooklet_step.specs.Built.{is_built}
 use Rattle.river_cli.specs.Inputs.{of_inputs}
 use Rattle.river_cli.specs.Jobs.{job_of}
 use Rattle.river_cli.specs.Source.{Source, source_of, printed}
-use Rattle.river_cli.specs.Text.{large_program, unbuilt}
+use Rattle.river_cli.specs.Text.{large_program, large_script, script_refused, unbuilt}
+use Rattle.river_script.specs.Meaning.{rewritten}
+use Rattle.river_script.specs.Words.{script_words}
+use Rattle.river_script.specs.declared.fault.ScriptFault.{ScriptFault}
 use Rattle.river_cli.specs.declared.job.Command.TheVariants.{Run, Mean, Show}
 use Rattle.river_cli.specs.declared.job.Job.{Job}
-use Rattle.river_cli.specs.declared.job.Options.{Options}
 
--- no option rewrites a program's plan, so far
-abbrev pub rewritten : Options → Source → (Source → Order) → Order
-rewritten options source next = next source
+-- the program with this plan in place of its own, or the text that refuses the script
+abbrev pub with_plan : Source → Result PlanForm ScriptFault → Result Source (List ℕ)
+with_plan source (Ok p) = Ok (record source { plan = p })
+with_plan source (Err fault) = Err (script_refused (script_words fault))
+
+-- the script is fetched, read and applied step by step, where one is given
+unfoldable pub of_script : Option (List ℕ) → Source → (Source → Order) → Order
+of_script None source next = next source
+of_script (Some file) source next = Fetch file 65536 large_script (λ text. past (with_plan source (rewritten source.plan text)) next)
 
 -- a plan is refused if such plans are not run so far
 abbrev pub runs : PlanForm → Result (Unit {0}) (List ℕ)
@@ -40,7 +48,7 @@ of_command job source next = elim job.command [
 unfoldable pub of_text : Job → List ℕ → (List ℕ → Order) → Order
 of_text job text next =
     past (source_of job.lang text) (λ source.
-    rewritten job.options source (λ later.
+    of_script job.options.script source (λ later.
     of_command job later next))
 
 -- the program is fetched, and at last the text is the output

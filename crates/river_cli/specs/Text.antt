@@ -14,6 +14,13 @@ program_refused words = codes "refused: program: " ++ (words ++ codes "\n")
 abbrev pub large_program : List ℕ
 large_program = codes "refused: program: Large\n"
 
+-- a script is refused, and why
+abbrev pub script_refused : List ℕ → List ℕ
+script_refused words = codes "refused: " ++ (words ++ codes "\n")
+
+abbrev pub large_script : List ℕ
+large_script = codes "refused: script: Large\n"
+
 -- a plan of a kind that is not run so far
 abbrev pub unbuilt : List ℕ
 unbuilt = codes "refused: program: Unbuilt\n"

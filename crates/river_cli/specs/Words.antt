@@ -1,5 +1,5 @@
 -- What a word of the command line may be.
-use Rattle.std.specs.Prelude.{ℕ, List, [], ◌∷◌, ◌==◌, ◌&&◌, not, Bool, true, false, Option, None, Some, codes, if◌then◌else◌}
+use Rattle.std.specs.Prelude.{ℕ, List, [], ◌∷◌, ◌==◌, not, Bool, false, Option, None, Some, codes, if◌then◌else◌}
 use Rattle.std.specs.Str.{bytes_eq}
 use Rattle.river_cli.specs.declared.job.Command.{Command}
 use Rattle.river_cli.specs.declared.job.Command.TheVariants.{Run, Mean, Show}

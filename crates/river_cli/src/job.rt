@@ -35,12 +35,14 @@ pub struct InWord {
 pub type InWords = Listed<InWord>;
 
 /// The options of a job.
-#[derive(Clone, Copy, Debug, PartialEq, Eq)]
+#[derive(Drop)]
 pub struct Options {
     /// `-H`: each input begins with a header.
     pub header: bool,
     /// `-c`: the firings of each operator are printed too.
     pub counts: bool,
+    /// `-r SCRIPT`: the plan is rewritten by the script of this file.
+    pub script: Option<Text>,
 }
 
 /// What the words ask for.

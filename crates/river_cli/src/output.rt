@@ -16,37 +16,37 @@ use std::alloc::Global;
 pub fn output(
     alloc: Global,
     plan: &Plan,
-    rows: &Listed<Rows>,
+    rows: Listed<Rows>,
     counted: bool,
 ) -> Result<Bytes, NoMemory>
     requires valid { IsPlan plan.now }
     requires built { IsBuilt plan.now }
-    requires widths { HaveWidths (width_named plan.now.inputs) plan.now.inputs rows.now }
-    ensures { IfOk result (λ text. (source : Source) → IsPlanOf source plan.now → text ≡ printed source counted rows.now) }
+    requires widths { HaveWidths (width_named plan.now.inputs) plan.now.inputs rows }
+    ensures { IfOk result (λ text. (source : Source) → IsPlanOf source plan.now → text ≡ printed source counted rows) }
 {
-    let inputs = inputs_of(alloc, rows.as_slice())?;
+    let inputs = inputs_of(alloc, rows)?;
     let outcome = run_one(alloc, plan, inputs)?;
     print_outcome(alloc, plan, &outcome, counted)
 }
 
-// The items of each input.
-fn inputs_of(alloc: Global, all: &[Rows]) -> Result<Inputs, NoMemory>
-    ensures { IfOk result (λ inputs. inputs ≡ all_items all.now) }
+// The items of each input; the rows are let go one input after another.
+fn inputs_of(alloc: Global, all: Listed<Rows>) -> Result<Inputs, NoMemory>
+    ensures { IfOk result (λ inputs. inputs ≡ all_items all) }
 {
     let mut inputs = Inputs::new(alloc);
-    for rows in all {
+    for rows in all.into_vec() {
         inputs.push(items(alloc, rows)?)?;
     }
     Ok(inputs)
 }
 
 // Rows as items.
-fn items(alloc: Global, rows: &Rows) -> Result<Items, NoMemory>
-    ensures { IfOk result (λ items. items ≡ row_items rows.now) }
+fn items(alloc: Global, rows: Rows) -> Result<Items, NoMemory>
+    ensures { IfOk result (λ items. items ≡ row_items rows) }
 {
     let mut items = Items::new(alloc);
-    for row in rows.as_slice() {
-        items.push(Item::Flat(Flat::One(*row)))?;
+    for row in rows.into_vec() {
+        items.push(Item::Flat(Flat::One(row)))?;
     }
     Ok(items)
 }

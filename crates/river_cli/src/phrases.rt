@@ -1,7 +1,7 @@
 // What stands behind a program's file: options and words NAME=FILE, in any order.
 ghost use Rattle.std.specs.Prelude.{◌≡◌, ◌≤◌, ◌+◌, [], ◌∷◌, length, take, drop, Bool, Some, None, IfOk, OnOk, IsErrOf};
 ghost use Rattle.river_cli.specs.Words.{name_part, rest_part, in_word_of};
-ghost use Rattle.river_cli.specs.Phrases.{reads, counts, phrase_of, phrases, with_phrases, input as input_phrase};
+ghost use Rattle.river_cli.specs.Phrases.{reads, counts, rewrites, phrase_of, phrases, with_phrases, input as input_phrase, script as script_phrase};
 ghost use Rattle.river_cli.specs.Said.{said_once, with_phrase};
 
 use crate::job::{Command, InWord, Job, WordFault};
@@ -56,6 +56,8 @@ const HEADER: &[u8] = b"-H";
 
 const COUNTS: &[u8] = b"-c";
 
+const SCRIPT: &[u8] = b"-r";
+
 // The phrase that the words begin with; answers how many words it takes behind its first.
 fn read_phrase(
     alloc: Global,
@@ -68,7 +70,7 @@ fn read_phrase(
     ensures ok { IfOk result (λ takes. with_phrase command (phrase_of words.now) said.old job.old ≡ Some (record { takes = takes; said = said.new; job = job.new })) }
     ensures usage { IsErrOf result WordFault.Usage → with_phrase command (phrase_of words.now) said.old job.old ≡ None }
 {
-    let [word, _behind @ ..] = words else {
+    let [word, behind @ ..] = words else {
         return Err(WordFault::Usage);
     };
     let word = word.as_slice();
@@ -80,11 +82,47 @@ fn read_phrase(
         once(alloc, word, counts(command), said)?;
         job.options.counts = true;
         Ok(0)
+    } else if word == SCRIPT {
+        add_script(alloc, command, behind, job, said)?;
+        Ok(1)
     } else if is_file(word) {
         add_input(alloc, command, word, job, said)?;
         Ok(0)
     } else {
         Err(WordFault::Usage)
+    }
+}
+
+// The file of a script, which is the next word.
+fn add_script(
+    alloc: Global,
+    command: Command,
+    behind: &[Text],
+    job: &mut Job,
+    said: &mut WordSet,
+) -> Result<(), WordFault>
+    ensures within { OnOk result (1 ≤ length behind.now) }
+    ensures ok { OnOk result (with_phrase command (script_phrase behind.now) said.old job.old ≡ Some (record { takes = 1; said = said.new; job = job.new })) }
+    ensures usage { IsErrOf result WordFault.Usage → with_phrase command (script_phrase behind.now) said.old job.old ≡ None }
+{
+    let [file, ..] = behind else {
+        return Err(WordFault::Usage);
+    };
+    if file.is_empty() {
+        return Err(WordFault::Usage);
+    }
+    once(alloc, SCRIPT, rewrites(command), said)?;
+    job.options.script = Some(Text::from_slice(alloc, file.as_slice())?);
+    Ok(())
+}
+
+// Whether the plan of the command may be rewritten.
+fn rewrites(command: Command) -> bool
+    ensures { result ≡ rewrites command }
+{
+    match command {
+        Command::Run | Command::Show => true,
+        Command::Mean => false,
     }
 }
 

@@ -2,29 +2,35 @@
 ghost use Rattle.std.specs.Prelude.{◌≡◌, ◌≤◌, length, Some, IfOk, OnOk, IsErrOf};
 ghost use Rattle.river_outside.specs.Causes.{Rose};
 ghost use Rattle.river_order.specs.Decides.{Decides};
-ghost use Rattle.river_order.specs.Passes.{Answers, Passes, AnswersAs};
+ghost use Rattle.river_order.specs.Passes.{Answers, Passes, PassesAs, AnswersAs};
 ghost use Rattle.river_plan.specs.Valid.{IsPlan};
 ghost use Rattle.brooklet_step.specs.Built.{IsBuilt};
 ghost use Rattle.river_cli.specs.Inputs.{width_named};
-ghost use Rattle.river_cli.specs.Points.{points_of, of_job, of_text, of_command, of_run, runs};
+ghost use Rattle.river_cli.specs.Points.{points_of, of_job, of_text, of_script, with_plan, of_command, of_run, runs};
+ghost use Rattle.river_script.specs.Meaning.{rewritten as rewritten_plan};
+ghost use Rattle.river_script.specs.Words.{script_words};
+ghost use Rattle.river_cli.specs.Text.{script_refused as script_text};
 ghost use Rattle.river_cli.specs.Source.{Source, IsPlanOf, IsCompiled, printed};
 ghost use Rattle.river_cli.specs.Widths.{HaveWidths};
 
-use crate::compile::{Compiled, compile};
+use crate::compile::compile;
 use crate::gather::gather;
 use crate::job::{Command, Job, Options, WordFault};
 use crate::output::output;
 use crate::text;
 use crate::words::read_words;
 use brooklet_step::built;
-use river_base::{Bytes, Text};
+use river_base::{Bytes, NoMemory, Text};
 use river_order::{Stop, take_turn};
 use river_outside::Shelf;
 use river_plan::Plan;
 use river_print::print_river;
+use river_script::{ScriptFault, apply_script};
 use std::alloc::Global;
 
 const MOST_PROGRAM: u64 = 1_048_576;
+
+const MOST_SCRIPT: u64 = 65_536;
 
 /// The text that is the output of the words, or why there is none.
 pub fn decide<S: Shelf>(alloc: Global, words: &[Text], shelf: &mut S) -> Result<Bytes, Stop>
@@ -55,15 +61,60 @@ fn compiled<S: Shelf>(alloc: Global, job: &Job, text: &Bytes, shelf: &mut S) -> 
     ensures later { S.faults shelf.old ≤ S.faults shelf.new }
     ensures passes { Passes (of_text job.now text.now) (S.held shelf.old) (Rose (S.faults shelf.old) (S.faults shelf.new)) result }
 {
-    let compiled = rewritten(&job.options, compile(alloc, job.lang, text)?);
-    command(alloc, job, &compiled.plan, shelf)
+    let compiled = compile(alloc, job.lang, text)?;
+    let plan = script(alloc, &job.options, compiled.plan, shelf)?;
+    command(alloc, job, &plan, shelf)
 }
 
-// The program with its plan rewritten; no option asks for that, so far.
-fn rewritten(_options: &Options, compiled: Compiled) -> Compiled
-    ensures { result ≡ compiled }
+// The plan that the script makes of it, where one is given.
+fn script<S: Shelf>(
+    alloc: Global,
+    options: &Options,
+    plan: Plan,
+    shelf: &mut S,
+) -> Result<Plan, Stop>
+    ensures stays { S.held shelf.new ≡ S.held shelf.old }
+    ensures later { S.faults shelf.old ≤ S.faults shelf.new }
+    ensures passes { (source : Source) → IsPlanOf source plan
+        → PassesAs IsPlanOf (of_script options.now.script source) (S.held shelf.old) (Rose (S.faults shelf.old) (S.faults shelf.new)) result }
 {
-    compiled
+    match &options.script {
+        None => Ok(plan),
+        Some(file) => rewritten(alloc, file.as_slice(), &plan, shelf),
+    }
+}
+
+// The script is fetched and applied.
+fn rewritten<S: Shelf>(alloc: Global, file: &[u8], plan: &Plan, shelf: &mut S) -> Result<Plan, Stop>
+    ensures stays { S.held shelf.new ≡ S.held shelf.old }
+    ensures later { S.faults shelf.old ≤ S.faults shelf.new }
+    ensures passes { (source : Source) → IsPlanOf source plan.now
+        → PassesAs IsPlanOf (of_script (Some file.now) source) (S.held shelf.old) (Rose (S.faults shelf.old) (S.faults shelf.new)) result }
+{
+    let text = take_turn(alloc, shelf, file, MOST_SCRIPT, text::LARGE_SCRIPT)?;
+    applied(alloc, plan, &text)
+}
+
+// The script is applied.
+fn applied(alloc: Global, plan: &Plan, text: &Bytes) -> Result<Plan, Stop>
+    requires { length text.now ≤ 65536 }
+    ensures { (source : Source) → IsPlanOf source plan.now → AnswersAs IsPlanOf (with_plan source (rewritten_plan source.plan text.now)) result }
+{
+    // The lists of a plan are valid, which the law of scripts asks for.
+    let _lists = plan.raw();
+    match apply_script(alloc, plan, text) {
+        Ok(made) => Ok(made),
+        Err(ScriptFault::NoMemory) => Err(Stop::NoMemory),
+        Err(fault) => Err(Stop::Refused(script_refused(alloc, fault)?)),
+    }
+}
+
+fn script_refused(alloc: Global, fault: ScriptFault) -> Result<Bytes, NoMemory>
+    ensures { IfOk result (λ text. text ≡ script_text (script_words fault)) }
+{
+    let mut words = Bytes::new(alloc);
+    fault.put(alloc, &mut words)?;
+    text::script(alloc, words.as_slice())
 }
 
 // What the command makes of it.
@@ -94,7 +145,7 @@ fn run<S: Shelf>(
     check_runs(alloc, plan)?;
     let decls = plan.raw().inputs.as_slice();
     let rows = gather(alloc, decls, job.ins.as_slice(), job.options.header, shelf)?;
-    Ok(output(alloc, plan, &rows, counted)?)
+    Ok(output(alloc, plan, rows, counted)?)
 }
 
 // A plan is refused if such plans are not run so far.

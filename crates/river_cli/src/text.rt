@@ -1,7 +1,7 @@
 // The texts that are written besides the output of a program.
 ghost use Rattle.std.specs.Prelude.{◌≡◌, ◌++◌, codes, IfOk};
 ghost use Rattle.std.specs.Fmt.{decimal};
-ghost use Rattle.river_cli.specs.Text.{program_refused, input_refused, in_words, large_input, unknown_input, missing_input};
+ghost use Rattle.river_cli.specs.Text.{program_refused, script_refused, input_refused, in_words, large_input, unknown_input, missing_input};
 
 use csv_streams::InFault;
 use river_base::{Bytes, NoMemory};
@@ -13,6 +13,9 @@ pub const USAGE: &[u8] = b"usage: river run|plan|mean|load\n";
 /// What refuses a program of too many bytes.
 pub const LARGE_PROGRAM: &[u8] = b"refused: program: Large\n";
 
+/// What refuses a script of too many bytes.
+pub const LARGE_SCRIPT: &[u8] = b"refused: script: Large\n";
+
 /// What refuses a plan of a kind that is not run so far.
 pub const UNBUILT: &[u8] = b"refused: program: Unbuilt\n";
 
@@ -21,6 +24,16 @@ pub fn program(alloc: Global, words: &[u8]) -> Result<Bytes, NoMemory>
     ensures { IfOk result (λ text. text ≡ program_refused words.now) }
 {
     let mut text = Bytes::from_slice(alloc, b"refused: program: ")?;
+    text.extend(words)?;
+    text.push(b'\n')?;
+    Ok(text)
+}
+
+/// A script is refused, and why.
+pub fn script(alloc: Global, words: &[u8]) -> Result<Bytes, NoMemory>
+    ensures { IfOk result (λ text. text ≡ script_refused words.now) }
+{
+    let mut text = Bytes::from_slice(alloc, b"refused: ")?;
     text.extend(words)?;
     text.push(b'\n')?;
     Ok(text)

@@ -88,10 +88,16 @@ pub(crate) fn is_file(word: &[u8]) -> bool
     }
 }
 
-const NO_OPTIONS: Options = Options {
-    header: false,
-    counts: false,
-};
+// No option is given.
+fn no_options() -> Options
+    ensures { result ≡ no_options }
+{
+    Options {
+        header: false,
+        counts: false,
+        script: None,
+    }
+}
 
 // A command with a program and nothing else.
 fn plain(alloc: Global, command: Command, lang: Lang, file: &[u8]) -> Result<Job, NoMemory>
@@ -102,6 +108,6 @@ fn plain(alloc: Global, command: Command, lang: Lang, file: &[u8]) -> Result<Job
         lang,
         file: Text::from_slice(alloc, file)?,
         ins: InWords::new(alloc),
-        options: NO_OPTIONS,
+        options: no_options(),
     })
 }

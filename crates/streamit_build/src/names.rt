@@ -39,6 +39,7 @@ pub fn name_of(bytes: &[u8]) -> Name
 }
 
 /// The queue with a number.
+#[tactic(auto, unfolding(river_base::specs::Name::is_word, river_base::specs::Name::is_letter, river_base::specs::Name::is_digit))]
 pub fn queue(alloc: Global, number: u32) -> Result<Name, NoMemory>
     ensures { IfOk result (λ name. name ≡ queue number) }
 {

@@ -39,6 +39,7 @@ pub fn filter_op(
 }
 
 /// The operator of a splitter, which writes n queues from number k on.
+#[tactic(auto, unfolding(river_base::specs::Name::is_word, river_base::specs::Name::is_letter, river_base::specs::Name::is_digit))]
 pub fn split_op(
     alloc: Global,
     split: &Option<Vec<u32>>,
@@ -93,6 +94,7 @@ fn dealing(
 }
 
 /// The operator of a joiner, which reads n queues from number k on.
+#[tactic(auto, unfolding(river_base::specs::Name::is_word, river_base::specs::Name::is_letter, river_base::specs::Name::is_digit))]
 pub fn join_op(
     alloc: Global,
     join: &Vec<u32>,

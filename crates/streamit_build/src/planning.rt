@@ -77,6 +77,7 @@ impl Known {
     }
 
     // Its operators, between the queues `in` and `out`.
+    #[tactic(auto, unfolding(river_base::specs::Name::is_word, river_base::specs::Name::is_letter, river_base::specs::Name::is_digit))]
     fn operators(&self, alloc: Global, top: usize) -> Result<Made, NoMemory>
         requires there { top < length self.now.declared.items }
         requires lower { AreLower (units_of self.now.declared.items) }
@@ -97,6 +98,7 @@ impl Known {
 }
 
 // The lists of a plan with these operators.
+#[tactic(auto, unfolding(river_base::specs::Name::is_word, river_base::specs::Name::is_letter, river_base::specs::Name::is_digit))]
 fn lists(alloc: Global, made: Made) -> Result<RawPlan, NoMemory>
     ensures { IfOk result (λ raw. plan_form raw ≡ lists_of (op_forms made.ops) (made.next_queue - 1)) }
 {

@@ -1,4 +1,4 @@
-use Rattle.std.proofs.Common.{◌≡◌, ◌<◌, ◌≤◌, ◌+◌, ℕ, List, Some, length}
+use Rattle.std.proofs.Common.{◌≡◌, ◌≤◌, ◌-◌, ◌+◌, ℕ, List, Some, length}
 use Rattle.std.specs.Prelude.{Ok}
 use Rattle.csv.specs.Reading.{Reached, Ready, default_config, source_of, strip_bom}
 use Rattle.csv.specs.declared.parser.State.TheVariants as st
@@ -8,14 +8,16 @@ use Rattle.csv_streams.proofs.rows.add_rows.Given as goal
 
 abbrev pub invariant-loop-record : goal.invariant-loop-record
 invariant-loop-record l = record {
-  trims : l.record-iterator.rdr.trim ≡ trim.None;
-  ready : Ready l.record-iterator.rdr;
-  left : 0 < l.record-iterator.left;
-  config : l.record-iterator.rdr.config ≡ default_config;
+  trims : l.rdr.trim ≡ trim.None;
+  ready : Ready l.rdr;
+  config : l.rdr.config ≡ default_config;
   header : l.header ≡ headers l.skip_first;
   last : l.last ≡ headers l.skip_first + most_rows;
   few : l.rec ≤ l.last;
-  read : (y : List ℕ) × (recs : List (List (List ℕ))) × (source_of (λ s. Some s.now) l.record-iterator.rdr ≡ Some y)
-      × Reached default_config st.StartRecord (strip_bom l.bytes) recs l.record-iterator.rdr.state y
+  read : (y : List ℕ) × (recs : List (List (List ℕ))) × (source_of (λ s. Some s.now) l.rdr ≡ Some y)
+      × Reached default_config st.StartRecord (strip_bom l.bytes) recs l.rdr.state y
       × (rows_in l.width l.skip_first l.more recs ≡ Ok l.rows) × (length recs ≡ l.rec);
 }
+
+abbrev pub decreases-loop-record : goal.decreases-loop-record
+decreases-loop-record l = l.last - l.rec

@@ -1,6 +1,6 @@
-use Rattle.std.proofs.Common.{◌≡◌, ◌++◌, drop}
+use Rattle.std.proofs.Common.{◌≡◌}
 use Rattle.river_cli.specs.Inputs.{row_items}
 use Rattle.river_cli.proofs.output.items.Given as goal
 
 abbrev pub invariant-loop-row : goal.invariant-loop-row
-invariant-loop-row l = l.items ++ row_items (drop l.row-index l.row-items) ≡ row_items l.row-items
+invariant-loop-row l = l.items ≡ row_items l.yielded

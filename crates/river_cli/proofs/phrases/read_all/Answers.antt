@@ -1,4 +1,4 @@
-use Rattle.std.proofs.Common.{rules, arith, ◌≡◌, ◌<◌, ◌+◌, length, drop, sym, ap, ◌∙◌}
+use Rattle.std.proofs.Common.{arith, ◌<◌, length, sym, ap, ◌∙◌}
 use Rattle.std.proofs.lemmas.Result.{err_from_is_err_and}
 use Rattle.river_cli.specs.Phrases.{phrase_of, phrases}
 use Rattle.river_cli.specs.Said.{Grown}

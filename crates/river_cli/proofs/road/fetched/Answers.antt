@@ -1,4 +1,4 @@
-use Rattle.std.proofs.Common.{arith, List, ℕ}
+use Rattle.std.proofs.Common.{arith}
 use Rattle.std.proofs.lemmas.Result.{err_from_is_err_and}
 use Rattle.river_outside.specs.Causes.{Rose}
 use Rattle.river_order.specs.Order.{Ends, Done}

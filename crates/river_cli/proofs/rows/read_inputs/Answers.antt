@@ -1,1 +1,0 @@
-use Rattle.river_cli.proofs.rows.read_inputs.Goals as goal

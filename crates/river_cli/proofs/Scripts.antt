@@ -1,0 +1,71 @@
+-- The script of a job.
+use Rattle.std.proofs.Common.{◌≡◌, ℕ, List, refl, sym, ap, ◌∙◌, subst}
+use Rattle.std.specs.Prelude.{Option, Some, None, Result, Ok, Err}
+use Rattle.river_outside.specs.Held.{Held}
+use Rattle.river_order.specs.Order.{Order, Fetch, Comes}
+use Rattle.river_order.specs.Decides.{Stops}
+use Rattle.river_order.specs.Passes.{past, Refuses, StandsFor, AnswersAs, PassesAs}
+use Rattle.river_order.specs.declared.stop.Stop.{Stop}
+use Rattle.river_order.proofs.Comes.{Comes-same, Comes-on}
+use Rattle.river_order.proofs.Passes.{past-refused}
+use Rattle.river_order.proofs.Turns.{Stops-later}
+use Rattle.river_plan.specs.Forms.{PlanForm, decl_names}
+use Rattle.river_plan.specs.Valid.{IsPlan}
+use Rattle.brooklet_model.specs.Typed.{AreInputs}
+use Rattle.river_script.specs.Meaning.{rewritten}
+use Rattle.river_script.proofs.Fronts.{makes_what_it_has}
+use Rattle.river_script.proofs.Steps.{script_means}
+use Rattle.river_cli.specs.Inputs.{all_items}
+use Rattle.river_cli.specs.Points.{of_script, with_plan}
+use Rattle.river_cli.specs.Source.{Source, IsPlanOf}
+use Rattle.river_cli.specs.Text.{large_script}
+
+-- the plan that a script makes means what the program means
+pub made-stands : (source : Source) (p made : PlanForm) (text : List ℕ) → IsPlan p → IsPlanOf source p → rewritten p text ≡ Ok made → StandsFor IsPlanOf (with_plan source (rewritten source.plan text)) made
+made-stands source p made text v is e =
+    let h = (makes_what_it_has p text (Ok made)).0 e in
+    let k = script_means p made h.0 v h.2 in
+    subst (λ r. StandsFor IsPlanOf (with_plan source r) made) (sym (ap (λ q. rewritten q text) (sym is.plan) ∙ e)) (record {
+      plan = refl;
+      inputs = k.1.inputs ∙ is.inputs;
+      outputs = ap decl_names k.1.outputs ∙ is.outputs;
+      means = λ rows a. let b = subst (λ ds. AreInputs ds (all_items rows)) k.1.inputs a in k.2 (all_items rows) b ∙ is.means rows b;
+    })
+
+as_passed : {A B : Type 0} (stands : A → B → Type 0) (found : Result A (List ℕ)) (y : B) (held : Option Held) → StandsFor stands found y → (x : A) × stands x y × ((next : A → Order) → Comes (past found next) held (next x))
+as_passed stands (Ok x) y held told = (x, told, λ next. Comes-same (next x) held)
+as_passed stands (Err t) y held told = absurd told
+
+module _ (file : List ℕ) (source : Source) (text : List ℕ) (held : Option Held) where
+  -- it was fetched and applied
+  pub script-comes : (plan : PlanForm) → ((next : List ℕ → Order) → Comes (Fetch file 65536 large_script next) held (next text)) → StandsFor IsPlanOf (with_plan source (rewritten source.plan text)) plan
+      → (later : Source) × IsPlanOf later plan × ((next : Source → Order) → Comes (of_script (Some file) source next) held (next later))
+  unfolding of_script
+  script-comes plan here told =
+      let s = as_passed IsPlanOf (with_plan source (rewritten source.plan text)) plan held told in
+      (s.0, s.1, λ next. Comes-on (Fetch file 65536 large_script (λ t. past (with_plan source (rewritten source.plan t)) next)) (past (with_plan source (rewritten source.plan text)) next) (next s.0) held (here (λ t. past (with_plan source (rewritten source.plan t)) next)) (s.2 next))
+
+  -- it is refused
+  pub script-refused : (early late : Type 0) → (late → early) → (s : Stop) → ((next : List ℕ → Order) → Comes (Fetch file 65536 large_script next) held (next text)) → Refuses (with_plan source (rewritten source.plan text)) s
+      → (next : Source → Order) → Stops (Some (of_script (Some file) source next)) held early s
+  unfolding of_script
+  script-refused early late sooner s here told next =
+      Stops-later (Fetch file 65536 large_script (λ t. past (with_plan source (rewritten source.plan t)) next)) (past (with_plan source (rewritten source.plan text)) next) held early late sooner s (here (λ t. past (with_plan source (rewritten source.plan t)) next))
+      (past-refused (with_plan source (rewritten source.plan text)) s held late told next)
+
+  -- it was fetched, and applied or refused
+  pub script-passes : (rose : Type 0) (result : Result PlanForm Stop) → ((next : List ℕ → Order) → Comes (Fetch file 65536 large_script next) held (next text)) → AnswersAs IsPlanOf (with_plan source (rewritten source.plan text)) result
+      → PassesAs IsPlanOf (of_script (Some file) source) held rose result
+  script-passes rose (Ok plan) here told = script-comes plan here told
+  script-passes rose (Err s) here told = script-refused rose rose (λ r. r) s here told
+
+-- it cannot be fetched
+pub fetch-stops : (file : List ℕ) (source : Source) (held : Option Held) (rose : Type 0) (s : Stop) → ((next : List ℕ → Order) → Stops (Some (Fetch file 65536 large_script next)) held rose s)
+    → (next : Source → Order) → Stops (Some (of_script (Some file) source next)) held rose s
+unfolding of_script
+fetch-stops file source held rose s stops next = stops (λ t. past (with_plan source (rewritten source.plan t)) next)
+
+-- there is none
+pub no-script : (source : Source) (plan : PlanForm) (held : Option Held) → IsPlanOf source plan → (later : Source) × IsPlanOf later plan × ((next : Source → Order) → Comes (of_script None source next) held (next later))
+unfolding of_script
+no-script source plan held is = (source, is, λ next. Comes-same (next source) held)
