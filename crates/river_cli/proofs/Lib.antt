@@ -3,6 +3,7 @@ pub mod Cut
 pub mod Fetches
 pub mod Inputs
 pub mod Points
+pub mod Rows
 pub mod ReadOn
 pub mod Scripts
 pub mod Told

@@ -1,5 +1,5 @@
 -- What a text of StreamIt means is what it has in the grammar, and what the front answers.
-use Rattle.std.proofs.Common.{◌≡◌, ◌⊎◌, ℕ, suc, ◌<◌, ℤ, List, [], ◌∷◌, length, map, Result, Ok, Err, refl, sym, ap, ◌∙◌, subst, inl, inr, arith}
+use Rattle.std.proofs.Common.{◌≡◌, ◌⊎◌, ℕ, suc, ◌<◌, ℤ, List, [], ◌∷◌, length, map, Option, Some, None, Result, Ok, Err, refl, sym, ap, ◌∙◌, subst, inl, inr, arith}
 use Rattle.work_code.specs.Cut.{units_of as cut_units}
 use Rattle.work_code.specs.Lexis.{tokens_in}
 use Rattle.work_code.specs.Tok.{Tok, Mark, toks}
@@ -11,7 +11,12 @@ use Rattle.text_forms.specs.Texts.{read_units, IsFirstBad}
 use Rattle.text_forms.specs.declared.refusal.Refusal.TheVariants.{BadByte, BigNumber, Syntax}
 use Rattle.text_forms.proofs.Texts.{bad-read, first-bad}
 use Rattle.river_plan.specs.Forms.{Name, PlanForm, plan_form}
+use Rattle.river_plan.specs.Told.{IsTold, fault_of}
 use Rattle.river_plan.specs.Valid.{IsPlan}
+use Rattle.river_plan.specs.declared.fault.PlanFault.{PlanFault}
+use Rattle.river_plan.specs.declared.fault.PlanFault.TheVariants as plan_fault
+use Rattle.river_plan.proofs.JudgeLemmas.{fault_of-is}
+use Rattle.river_plan.proofs.ValidLaw.{valid-no_fault}
 use Rattle.river_plan.specs.declared.plan.RawPlan.{RawPlan}
 use Rattle.streamit_model.specs.Build.{plan_of}
 use Rattle.streamit_model.specs.Elaborate as model
@@ -27,12 +32,14 @@ use Rattle.streamit_build.specs.Told.{AreReadable, Told, PlansBy}
 use Rattle.streamit_text.specs.Grammar.{IsText, IsSome, IsUnitAt, next_unit}
 use Rattle.streamit_text.specs.Laws.{IsBadAt, IsEmpty}
 use Rattle.streamit_text.specs.Reading.{some_units, unit_from}
-use Rattle.streamit_text.proofs.Texts.{text-read, text-reads, units-bad, units-read}
+use Rattle.streamit_text.specs.Faults.{StandFor, Refuses}
+use Rattle.streamit_text.specs.declared.fault.StreamitTextFault.TheVariants.{Syntax as Syntax_at}
+use Rattle.streamit_text.proofs.Texts.{text-read, text-reads, units-bad, units-reads}
 use Rattle.streamit_text.proofs.Units.{exact-unit_from}
 use Rattle.streamit_front.specs.declared.fault.StreamitFault.{StreamitFault}
 use Rattle.streamit_front.specs.declared.fault.StreamitFault.TheVariants.{Text, UnknownName, NameTwice, Rates, PeekRange, NotConstant, BranchRates, Limit, Weights, NoMemory}
 use Rattle.streamit_front.specs.Laws.{HasFault, Has, MeansWhatItHas, PlansMean}
-use Rattle.streamit_front.specs.Meaning.{Accepted, fault_at, with_last, or_fault, accepted, then_judged, then_read, compiled, Plans, Refused}
+use Rattle.streamit_front.specs.Meaning.{Accepted, fault_at, with_last, or_fault, accepted, then_judged, of_tokens, then_read, compiled, Plans, Refused}
 use Rattle.streamit_front.proofs.Readable.{units-fine}
 
 abbrev read_of : List Mark → Result Program ℕ
@@ -66,7 +73,7 @@ fault-means : (text : List ℕ) (fault : StreamitFault) → HasFault text fault 
 fault-means text fault (p, e, t, j, is) = stands-means text p t ∙ ap (or_fault p) j ∙ ap Err (sym is)
 
 has-means : (text : List ℕ) (meant : Result Accepted StreamitFault) → Has text meant → compiled text ≡ meant
-has-means text (Ok a) (t, name, others, j) = stands-means text a.program t ∙ ap (or_fault a.program) j
+has-means text (Ok a) (name, others, t, j) = stands-means text a.program t ∙ ap (or_fault a.program) j
 has-means text (Err (Text (BadByte at))) h = lexed-means text (lex.BadByte at) h
 has-means text (Err (Text (BigNumber at))) h = lexed-means text (lex.BigNumber at) h
 has-means text (Err (Text (Syntax unit))) h = bad-means text unit h
@@ -93,10 +100,10 @@ AllHave (Err e) = Unit {0}
 
 streams-have : (k : ℕ) (known : Streamed) (p : Program) → HasStream known → AllHave (all_streams k known p)
 streams-have k known [] h = h
-streams-have k known (u ∷ us) h = by (unit_of known u) where
-  by : (r : Result Stream model.Fault) → AllHave (in_unit k r (λ s. all_streams (suc k) ((u.name, s) ∷ known) us))
-  by (Ok s) = streams-have (suc k) ((u.name, s) ∷ known) us tt
-  by (Err f) = tt
+streams-have k known (u ∷ us) h = by (unit_of known u) (λ s. streams-have (suc k) ((u.name, s) ∷ known) us tt) where
+  by : (r : Result Stream model.Fault) → ((s : Stream) → AllHave (all_streams (suc k) ((u.name, s) ∷ known) us)) → AllHave (in_unit k r (λ s. all_streams (suc k) ((u.name, s) ∷ known) us))
+  by (Ok s) more = more s
+  by (Err f) more = tt
 
 first-have : (p : Program) → IsSome p → AllHave (all_streams 1 [] p)
 first-have [] some = absurd some
@@ -131,7 +138,7 @@ accepted-has : (text : List ℕ) (p : Program) → IsText text p → Has text (a
 accepted-has text p t = by (judged p) refl (judged-have p t.some) where
   by : (r : Result Streamed Refusal) → judged p ≡ r → AllHave r → Has text (or_fault p r)
   by (Ok []) j h = absurd h
-  by (Ok (newest ∷ others)) j h = (t, newest.0, others, j)
+  by (Ok (newest ∷ others)) j h = (newest.0, others, t, j)
   by (Err e) j h = fault-has text p e t j
 
 means-has : (text : List ℕ) → Has text (compiled text)
@@ -155,28 +162,38 @@ means_what_it_has text meant = (λ e. subst (Has text) e (means-has text), has-m
 pub plans_mean : PlansMean
 plans_mean text a xs e =
     let h : Has text (Ok a) = subst (Has text) e (means-has text) in
-    programs_mean a.program h.1 a.stream h.2 xs (units-fine a.program (cut_units (toks h.0.marks)) h.0.formed).1 h.3
+    programs_mean a.program h.0 a.stream h.1 xs (units-fine a.program (cut_units (toks h.2.marks)) h.2.formed).1 h.3
 
 -- ---- WHAT THE FRONT ANSWERS
 
--- units that were read are planned and told as their text is
-pub read-planned : (units : List (List Tok)) (ds : List Declaration) (plan : PlanForm) → some_units units ≡ Ok (program_of ds) → Plans (accepted (program_of ds)) (program_of ds) plan → Plans (then_judged (some_units units)) (program_of ds) plan
-read-planned units ds plan e h = (h.0, ap then_judged e ∙ h.1, h.2)
+-- tokens that stand for a program mean what judging says
+tokens-mean : (marks : List Mark) (p : Program) → StandFor marks p → of_tokens marks ≡ accepted p
+tokens-mean marks p h = ap then_judged (units-reads (cut_units (toks marks)) p h.0 h.1)
 
-pub read-refused : (units : List (List Tok)) (ds : List Declaration) (fault : StreamitFault) → some_units units ≡ Ok (program_of ds) → Refused (accepted (program_of ds)) fault → Refused (then_judged (some_units units)) fault
-read-refused units ds fault e h = subst (λ (r : Result Accepted StreamitFault). Refused r fault) (sym (ap then_judged e)) h
+-- units that were read are planned and told as their tokens are
+pub read-planned : (marks : List Mark) (ds : List Declaration) (plan : PlanForm) → StandFor marks (program_of ds) → Plans (accepted (program_of ds)) (program_of ds) plan → Plans (of_tokens marks) (program_of ds) plan
+read-planned marks ds plan e h = (h.0, tokens-mean marks (program_of ds) e ∙ h.1, h.2)
 
-pub read-readable : (units : List (List Tok)) (ds : List Declaration) → some_units units ≡ Ok (program_of ds) → AreReadable (program_of ds)
-read-readable units ds e = (units-fine (program_of ds) units (units-read units (program_of ds) e).0).0
+pub read-refused : (marks : List Mark) (ds : List Declaration) (fault : StreamitFault) → StandFor marks (program_of ds) → Refused (accepted (program_of ds)) fault → Refused (of_tokens marks) fault
+read-refused marks ds fault e h = subst (λ (r : Result Accepted StreamitFault). Refused r fault) (sym (tokens-mean marks (program_of ds) e)) h
 
-pub read-shallow : (units : List (List Tok)) (ds : List Declaration) → some_units units ≡ Ok (program_of ds) → AreShallowUnits (program_of ds)
-read-shallow units ds e = (units-fine (program_of ds) units (units-read units (program_of ds) e).0).1
+pub read-readable : (marks : List Mark) (ds : List Declaration) → StandFor marks (program_of ds) → AreReadable (program_of ds)
+read-readable marks ds e = (units-fine (program_of ds) (cut_units (toks marks)) e.0).0
 
-pub read-some : (units : List (List Tok)) (ds : List Declaration) → some_units units ≡ Ok (program_of ds) → 0 < length ds
-read-some units ds e = by ds (units-read units (program_of ds) e).1 where
+pub read-shallow : (marks : List Mark) (ds : List Declaration) → StandFor marks (program_of ds) → AreShallowUnits (program_of ds)
+read-shallow marks ds e = (units-fine (program_of ds) (cut_units (toks marks)) e.0).1
+
+pub read-some : (marks : List Mark) (ds : List Declaration) → StandFor marks (program_of ds) → 0 < length ds
+read-some marks ds e = by ds e.1 where
   by : (us : List Declaration) → IsSome (program_of us) → 0 < length us
   by [] h = absurd h
   by (u ∷ us) h = omega arith
+
+-- tokens with a unit that is not in the grammar mean the first of them
+pub read-bad : (marks : List Mark) (unit : ℕ) → Refuses marks (Syntax_at unit) → of_tokens marks ≡ Err (Text (Syntax unit))
+read-bad marks unit h = ap then_judged (bad-units (cut_units (toks marks)) unit h.0)
+
+pub ruleset readings = (read-bad)
 
 pub ruleset fronts = (read-planned, read-refused, read-readable, read-shallow, read-some)
 
@@ -188,3 +205,29 @@ pub planned-plans : (p : Program) (raw : RawPlan) (plan : PlanForm) → PlansBy 
 planned-plans p raw plan h is = (h.1, ap (or_fault p) h.3, is ∙ h.4)
 
 pub ruleset plans = (planned-valid, planned-plans)
+
+-- a plan that is valid has no fault
+pub valid-faultless : (p : PlanForm) (f : PlanFault) → IsPlan p → (f ≡ plan_fault.NoMemory → ⊥) → IsTold p (Err f) → ⊥
+valid-faultless p f valid some told = by f some told where
+  none : fault_of p ≡ None
+  none = fault_of-is p None (valid-no_fault p valid)
+
+  not_some : {A : Type 0} {x : A} → ◌≡◌ {A = Option A} None (Some x) → ⊥
+  not_some h = cc
+
+  never : (g : PlanFault) → fault_of p ≡ Some g → ⊥
+  never g e = not_some (sym none ∙ e)
+
+  by : (g : PlanFault) → (g ≡ plan_fault.NoMemory → ⊥) → IsTold p (Err g) → ⊥
+  by (plan_fault.P1 n) s e = never (plan_fault.P1 n) e
+  by (plan_fault.P2 n) s e = never (plan_fault.P2 n) e
+  by (plan_fault.P3 n) s e = never (plan_fault.P3 n) e
+  by (plan_fault.P4 n) s e = never (plan_fault.P4 n) e
+  by (plan_fault.P5 n) s e = never (plan_fault.P5 n) e
+  by (plan_fault.P6 n) s e = never (plan_fault.P6 n) e
+  by (plan_fault.P7 n) s e = never (plan_fault.P7 n) e
+  by (plan_fault.P8 l n) s e = never (plan_fault.P8 l n) e
+  by (plan_fault.P9 n) s e = never (plan_fault.P9 n) e
+  by plan_fault.NoMemory s e = s refl
+
+pub ruleset faultless = (valid-faultless)

@@ -1,8 +1,11 @@
 -- What the grammar sees to: numbers are values, expressions are at most 64 deep, and `init` pops and pushes nothing.
-use Rattle.std.proofs.Common.{◌≡◌, ℕ, zero, suc, ◌≤◌, ◌<◌, ◌^◌, Bool, true, false, List, [], ◌∷◌, Option, Some, None, refl, sym, subst, arith, nat_tests}
+use Rattle.std.proofs.Common.{◌≡◌, ℕ, zero, suc, ◌≤◌, ◌<◌, ◌^◌, Bool, true, false, List, [], ◌∷◌, Option, Some, None, refl, sym, subst, arith}
+use Rattle.std.proofs.lemmas.Bool.Decides.{nat_tests}
 use Rattle.std.specs.Prelude.{◌&&◌, nat_le, codes}
 use Rattle.std.specs.Str.{bytes_eq}
 use Rattle.work_code.specs.Tok.{Tok}
+use Rattle.work_code.specs.declared.sign.Symbol.{Symbol}
+use Rattle.work_code.specs.declared.sign.Symbol.TheVariants as s
 use Rattle.text_forms.specs.declared.language.Language.TheVariants.{StreamIt}
 use Rattle.text_forms.specs.Forms as form
 use Rattle.text_forms.specs.Language.{is_plain}
@@ -20,7 +23,7 @@ use Rattle.streamit_unroll.specs.Unrolled.{AreOptional, IsWritten, AreWritten}
 use Rattle.streamit_unroll.specs.View.{in_turn}
 use Rattle.streamit_build.specs.Program.{IsReadableBody}
 use Rattle.streamit_build.specs.Told.{AreReadable}
-use Rattle.streamit_text.specs.Grammar.{has_values, Expr, made_declare, IsDeclare, IsAssign, IsPush, popping, IsPop, or_end, made_if, IsIf, Head, made_head, HeadAfter, IsHead, made_for, IsFor, IsBlockOf, StmtAfter, IsStmt, IsBlock, is_still, is_still_first, stays, stay, IsInit, Rates, made_filter, InFilter, BodyAfter, made_unit, KindAfter, IsUnit, IsUnitAt, next_unit, AreUnits}
+use Rattle.streamit_text.specs.Grammar.{has_values, Expr, Round, made_declare, IsDeclare, IsAssign, IsPush, popping, IsPop, or_end, made_if, IsIf, Head, made_head, HeadAfter, IsHead, made_for, IsFor, IsBlockOf, StmtAfter, IsStmt, IsBlock, is_still, is_still_first, stays, stay, IsInit, Rates, made_filter, InFilter, BodyAfter, made_unit, KindAfter, IsUnit, IsUnitAt, next_unit, AreUnits}
 
 -- ---- FORMS
 
@@ -29,14 +32,14 @@ and-both true b h = (refl, h)
 and-both false b h = absurd (cc h)
 
 -- one or the other
-chosen : {A : Type 0} (P : Type 0) {F G : A → List Tok → Type 0} (b : Bool) (v : A) (ts : List Tok) → form.Choose b F G v ts → (F v ts → P) → (G v ts → P) → P
-chosen P true v ts h f g = f h
-chosen P false v ts h f g = g h
+chosen : {A : Type 0} (P : Type 0) (F G : A → List Tok → Type 0) (b : Bool) (v : A) (ts : List Tok) → form.Choose b F G v ts → (F v ts → P) → (G v ts → P) → P
+chosen P F G true v ts h f g = f h
+chosen P F G false v ts h f g = g h
 
 -- what stands within brackets
-enclosed : {A : Type 0} (P : A → Type 0) {l r : _} {F : ℕ → A → List Tok → Type 0} (n : ℕ) (v : A) (ts : List Tok) → form.Enclosed l r F n v ts → ((m : ℕ) (us : List Tok) → F m v us → P v) → P v
-enclosed P zero v ts h f = absurd h
-enclosed P (suc n) v ts h f = f n h.formed.front h.formed.formed
+enclosed : {A : Type 0} (P : A → Type 0) (l r : Symbol) (F : ℕ → A → List Tok → Type 0) (n : ℕ) (v : A) (ts : List Tok) → form.Enclosed l r F n v ts → ((m : ℕ) (us : List Tok) → F m v us → P v) → P v
+enclosed P l r F zero v ts h f = absurd h
+enclosed P l r F (suc n) v ts h f = f n h.formed.front h.formed.formed
 
 -- ---- EXPRESSIONS
 
@@ -60,8 +63,8 @@ IsFine t = AreValues t × IsLow t
 term-fine : (n : ℕ) (t : Spoken) (ts : List Tok) → Expr n t ts → IsFine t
 term-fine n t ts h = (values t h.passes, h.formed.1)
 
-round-fine : (n : ℕ) (t : Spoken) (ts : List Tok) → form.Enclosed _ _ Expr n t ts → IsFine t
-round-fine n t ts h = enclosed IsFine n t ts h (λ m us f. term-fine m t us f)
+round-fine : (n : ℕ) (t : Spoken) (ts : List Tok) → Round Expr n t ts → IsFine t
+round-fine n t ts h = enclosed IsFine _ _ _ n t ts h (λ m us f. term-fine m t us f)
 
 -- ---- STATEMENTS
 
@@ -71,7 +74,7 @@ IsFineStep s = IsWritten s × IsShallow s
 abbrev AreFine : Block → Type 0
 AreFine b = AreWritten b × AreShallow b
 
-first-fine : (n : ℕ) (o : Option Spoken) (ts : List Tok) → form.Maybe (form.After (_ ∷ []) (Expr n)) o ts → AreOptional o × IsLowFirst o
+first-fine : (n : ℕ) (o : Option Spoken) (ts : List Tok) → form.Maybe (form.After (s.Assign ∷ []) (Expr n)) o ts → AreOptional o × IsLowFirst o
 first-fine n None ts h = (tt, tt)
 first-fine n (Some t) ts h = term-fine n t h.back h.formed
 
@@ -100,11 +103,11 @@ head-after-fine n name v ts h =
 head-fine : (n : ℕ) (v : Head) (ts : List Tok) → IsHead n v ts → HasBounds v
 head-fine n v ts h =
     let g = h.formed in
-    chosen (HasBounds v) (is_plain StreamIt g.word) v g.back g.formed (λ f. head-after-fine n g.word v g.back f) (λ f. absurd f)
+    chosen (HasBounds v) _ _ (is_plain StreamIt g.word) v g.back g.formed (λ f. head-after-fine n g.word v g.back f) (λ f. absurd f)
 
 -- blocks, of whose statements this is known
 block-fine : (stmt : ℕ → Statement → List Tok → Type 0) → ((m : ℕ) (s : Statement) (ts : List Tok) → stmt m s ts → IsFineStep s) → (n : ℕ) (b : Block) (ts : List Tok) → IsBlockOf stmt n b ts → AreFine b
-block-fine stmt fine n b ts h = enclosed AreFine n b ts h (λ m us f. subst AreFine (sym f.is) (each m f.value us f.formed)) where
+block-fine stmt fine n b ts h = enclosed AreFine _ _ _ n b ts h (λ m us f. subst AreFine (sym f.is) (each m f.value us f.formed)) where
   each : (m : ℕ) (ss : List Statement) (us : List Tok) → form.Each (stmt m) ss us → AreFine (in_turn ss)
   each m [] us f = (tt, tt)
   each m (s ∷ ss) us f =
@@ -129,19 +132,19 @@ if-fine block fine n s ts h =
 for-fine : (block : ℕ → Block → List Tok → Type 0) → ((m : ℕ) (b : Block) (ts : List Tok) → block m b ts → AreFine b) → (n : ℕ) (s : Statement) (ts : List Tok) → IsFor block n s ts → IsFineStep s
 for-fine block fine n s ts h =
     let v = h.value in
-    let bounds = enclosed HasBounds n v.0 h.formed.front h.formed.first (λ m us f. head-fine m v.0 us f) in
+    let bounds = enclosed HasBounds _ _ _ n v.0 h.formed.front h.formed.first (λ m us f. head-fine m v.0 us f) in
     let b = fine n v.1 h.formed.back h.formed.second in
     subst IsFineStep (sym h.is) ((bounds.0, bounds.1, b.0), b.1)
 
 after-fine : (branch loop : Statement → List Tok → Type 0) → ((s : Statement) (ts : List Tok) → branch s ts → IsFineStep s) → ((s : Statement) (ts : List Tok) → loop s ts → IsFineStep s)
     → (n : ℕ) (w : List ℕ) (s : Statement) (ts : List Tok) → StmtAfter branch loop n w s ts → IsFineStep s
 after-fine branch loop b l n w s ts h =
-    chosen (IsFineStep s) (bytes_eq w (codes "int")) s ts h (declare-fine n s ts) (λ h.
-    chosen (IsFineStep s) (bytes_eq w (codes "push")) s ts h (push-fine n s ts) (λ h.
-    chosen (IsFineStep s) (bytes_eq w (codes "pop")) s ts h (pop-fine n s ts) (λ h.
-    chosen (IsFineStep s) (bytes_eq w (codes "if")) s ts h (b s ts) (λ h.
-    chosen (IsFineStep s) (bytes_eq w (codes "for")) s ts h (l s ts) (λ h.
-    chosen (IsFineStep s) (is_plain StreamIt w) s ts h (assign-fine w n s ts) (λ h. absurd h))))))
+    chosen (IsFineStep s) _ _ (bytes_eq w (codes "int")) s ts h (declare-fine n s ts) (λ h.
+    chosen (IsFineStep s) _ _ (bytes_eq w (codes "push")) s ts h (push-fine n s ts) (λ h.
+    chosen (IsFineStep s) _ _ (bytes_eq w (codes "pop")) s ts h (pop-fine n s ts) (λ h.
+    chosen (IsFineStep s) _ _ (bytes_eq w (codes "if")) s ts h (b s ts) (λ h.
+    chosen (IsFineStep s) _ _ (bytes_eq w (codes "for")) s ts h (l s ts) (λ h.
+    chosen (IsFineStep s) _ _ (is_plain StreamIt w) s ts h (assign-fine w n s ts) (λ h. absurd h))))))
 
 stmt-fine : (nest n : ℕ) (s : Statement) (ts : List Tok) → IsStmt nest n s ts → IsFineStep s
 unfolding IsStmt
@@ -215,9 +218,9 @@ IsFineBody b = IsReadableBody b × IsShallowBody b
 
 body-fine : (n : ℕ) (w : List ℕ) (b : Body) (ts : List Tok) → BodyAfter n w b ts → IsFineBody b
 body-fine n w b ts h =
-    chosen (IsFineBody b) (bytes_eq w (codes "filter")) b ts h (λ f. subst IsFineBody (sym f.is) (enclosed IsFineFilter n f.value ts f.formed (λ m us g. filter-fine m f.value us g))) (λ h.
-    chosen (IsFineBody b) (bytes_eq w (codes "pipeline")) b ts h (λ f. subst IsFineBody (sym f.is) (tt, tt)) (λ h.
-    chosen (IsFineBody b) (bytes_eq w (codes "splitjoin")) b ts h (λ f. enclosed IsFineBody n b ts f (λ m us g. subst IsFineBody (sym g.is) (tt, tt))) (λ h. absurd h)))
+    chosen (IsFineBody b) _ _ (bytes_eq w (codes "filter")) b ts h (λ f. subst IsFineBody (sym f.is) (enclosed IsFineFilter _ _ _ n f.value ts f.formed (λ m us g. filter-fine m f.value us g))) (λ h.
+    chosen (IsFineBody b) _ _ (bytes_eq w (codes "pipeline")) b ts h (λ f. subst IsFineBody (sym f.is) (tt, tt)) (λ h.
+    chosen (IsFineBody b) _ _ (bytes_eq w (codes "splitjoin")) b ts h (λ f. enclosed IsFineBody _ _ _ n b ts f (λ m us g. subst IsFineBody (sym g.is) (tt, tt))) (λ h. absurd h)))
 
 unit-fine : (d : Declared) (ts : List Tok) → IsUnit d ts → IsFineBody d.body
 unit-fine d ts h =

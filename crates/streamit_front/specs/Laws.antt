@@ -23,7 +23,7 @@ HasFault text fault = (p : Program) × (e : Refusal) × IsText text p × (judged
 -- the grammar has the text for a program that is accepted, whose last stream this is; or for one that has a fault; or it has a
 -- first unit that is not in the grammar, or a first fault of its bytes
 abbrev pub Has : List ℕ → Result Accepted StreamitFault → Type 0
-Has text (Ok a) = IsText text a.program × ((name : Name) × (others : Streamed) × (judged a.program ≡ Ok ((name, a.stream) ∷ others)))
+Has text (Ok a) = (name : Name) × (others : Streamed) × IsText text a.program × (judged a.program ≡ Ok ((name, a.stream) ∷ others))
 Has text (Err (Text (BadByte at))) = tokens_in text ≡ Err (lex.BadByte at)
 Has text (Err (Text (BigNumber at))) = tokens_in text ≡ Err (lex.BigNumber at)
 Has text (Err (Text (Syntax unit))) = IsBadAt text unit

@@ -52,9 +52,13 @@ abbrev pub then_judged : Result Program ℕ → Result Accepted StreamitFault
 then_judged (Ok p) = accepted p
 then_judged (Err unit) = Err (Text (Syntax unit))
 
+-- the tokens of a text are read
+abbrev pub of_tokens : List Mark → Result Accepted StreamitFault
+of_tokens marks = then_judged (some_units (units_of (toks marks)))
+
 -- what is lexed is read
 abbrev pub then_read : Result (List Mark) LexFault → Result Accepted StreamitFault
-then_read (Ok marks) = then_judged (some_units (units_of (toks marks)))
+then_read (Ok marks) = of_tokens marks
 then_read (Err fault) = Err (of_lexer Text NoMemory fault)
 
 -- the program of a text and its stream, or why it has none

@@ -1,7 +1,5 @@
 // From the text of a program to its tree and its plan.
 ghost use Rattle.std.specs.Prelude.{◌≡◌, ◌<◌, ◌^◌, length, IfOk, IfErr, Result, Ok};
-ghost use Rattle.work_code.specs.Cut.{units_of};
-ghost use Rattle.work_code.specs.Tok.{toks};
 ghost use Rattle.river_plan.specs.Forms.{plan_form};
 ghost use Rattle.river_plan.specs.Valid.{IsPlan};
 ghost use Rattle.streamit_model.specs.Build.{plan_of};
@@ -10,8 +8,8 @@ ghost use Rattle.streamit_model.specs.Judged.{Streamed};
 ghost use Rattle.streamit_model.specs.Judged as model;
 ghost use Rattle.streamit_build.specs.Program.{program_of};
 ghost use Rattle.streamit_build.specs.Told.{AreReadable, Told};
-ghost use Rattle.streamit_text.specs.Reading.{some_units};
-ghost use Rattle.streamit_front.specs.Meaning.{Accepted, accepted, or_fault, then_judged, compiled, Plans, Refused};
+ghost use Rattle.streamit_text.specs.Faults.{StandFor};
+ghost use Rattle.streamit_front.specs.Meaning.{Accepted, accepted, or_fault, of_tokens, compiled, Plans, Refused};
 
 use crate::StreamitProgram;
 use crate::fault::StreamitFault;
@@ -48,8 +46,8 @@ pub fn compile_streamit(alloc: Global, text: &Bytes) -> Result<Plan, StreamitFau
 // The plan of the tokens of a text.
 fn plan_tokens(alloc: Global, tokens: &Tokens<'_>) -> Result<Plan, StreamitFault>
     requires { length tokens.now < 2 ^ 32 }
-    ensures plan { IfOk result (λ plan. (a : Accepted) × (then_judged (some_units (units_of (toks tokens.now))) ≡ Ok a) × (plan ≡ plan_of a.stream)) }
-    ensures refused { IfErr result (Refused (then_judged (some_units (units_of (toks tokens.now))))) }
+    ensures plan { IfOk result (λ plan. (a : Accepted) × (of_tokens tokens.now ≡ Ok a) × (plan ≡ plan_of a.stream)) }
+    ensures refused { IfErr result (Refused (of_tokens tokens.now)) }
 {
     let (_, plan) = compile_tokens(alloc, tokens)?;
     Ok(plan)
@@ -63,8 +61,8 @@ pub fn compile_tokens<'t>(
     tokens: &'t Tokens<'_>,
 ) -> Result<(StreamitProgram<'t>, Plan), StreamitFault>
     requires { length tokens.now < 2 ^ 32 }
-    ensures plan { IfOk result (λ made. Plans (then_judged (some_units (units_of (toks tokens.now)))) (program_of made.0.units.items) made.1) }
-    ensures refused { IfErr result (Refused (then_judged (some_units (units_of (toks tokens.now))))) }
+    ensures plan { IfOk result (λ made. Plans (of_tokens tokens.now) (program_of made.0.units.items) made.1) }
+    ensures refused { IfErr result (Refused (of_tokens tokens.now)) }
 {
     let units = read(alloc, tokens)?;
     let plan = planned(alloc, units.as_slice())?;
@@ -72,10 +70,11 @@ pub fn compile_tokens<'t>(
 }
 
 // The units of the tokens of a text.
+#[tactic(auto, using(crate::proofs::Fronts::readings))]
 fn read<'t>(alloc: Global, tokens: &'t Tokens<'_>) -> Result<Vec<Declaration<'t>>, StreamitFault>
     requires { length tokens.now < 2 ^ 32 }
-    ensures read { IfOk result (λ units. some_units (units_of (toks tokens.now)) ≡ Ok (program_of units.items)) }
-    ensures refused { IfErr result (Refused (then_judged (some_units (units_of (toks tokens.now))))) }
+    ensures read { IfOk result (λ units. StandFor tokens.now (program_of units.items)) }
+    ensures refused { IfErr result (Refused (of_tokens tokens.now)) }
 {
     match read_streamit(alloc, tokens) {
         Ok(units) => Ok(units),
@@ -94,14 +93,18 @@ fn planned(alloc: Global, units: &[Declaration<'_>]) -> Result<Plan, StreamitFau
     ensures refused { IfErr result (Refused (accepted (program_of units.now))) }
 {
     match plan(alloc, units) {
-        Ok(raw) => Ok(valid(alloc, raw)?),
+        Ok(raw) => {
+            let plan = valid(alloc, raw)?;
+            Ok(plan)
+        }
         Err(refusal) => Err(refused(refusal)),
     }
 }
 
 // The plan of lists that are valid.
+#[tactic(auto, using(crate::proofs::Fronts::faultless))]
 fn valid(alloc: Global, raw: RawPlan) -> Result<Plan, NoMemory>
-    requires { IsPlan (plan_form raw) }
+    requires valid { IsPlan (plan_form raw) }
     ensures { IfOk result (λ plan. plan ≡ plan_form raw) }
 {
     match check(alloc, raw) {

@@ -2,13 +2,11 @@
 ghost use Rattle.streamit_front.specs.Laws.{MeansWhatItHas, PlansMean};
 
 /// What a text means is what it has in the grammar, and what judging says of the program.
-#[tactic(auto, using(crate::proofs::Fronts::means_what_it_has))]
 pub fn texts_mean_what_they_have()
     ensures { MeansWhatItHas }
 {}
 
 /// The plan of a program that is accepted is valid, and means what the program means.
-#[tactic(auto, using(crate::proofs::Fronts::plans_mean))]
 pub fn plans_mean()
     ensures { PlansMean }
 {}
