@@ -1,8 +1,12 @@
 pub mod Adding
 pub mod Blocks
+pub mod Counts
 pub mod Fields
+pub mod Programs
+pub mod Rates
 pub mod Statements
 pub mod Texts
 pub mod Trees
 pub mod Units
 pub mod Weighing
+pub mod Wholes

@@ -13,19 +13,19 @@ use Rattle.streamit_text.specs.Reading.{some_units}
 use Rattle.streamit_text.proofs.Units.{exact-unit_from}
 
 -- units that were read stand for the program
-units-read : (units : List (List Tok)) (p : Program) → some_units units ≡ Ok p → AreUnits p units × IsSome p
+pub units-read : (units : List (List Tok)) (p : Program) → some_units units ≡ Ok p → AreUnits p units × IsSome p
 units-read [] p e = cc
 units-read (u ∷ us) [] e = absurd (all-formed next_unit exact-unit_from tt 1 (u ∷ us) [] e)
 units-read (u ∷ us) (d ∷ ds) e = (all-formed next_unit exact-unit_from tt 1 (u ∷ us) (d ∷ ds) e, tt)
 
 -- units that stand for the program are read
-units-reads : (units : List (List Tok)) (p : Program) → AreUnits p units → IsSome p → some_units units ≡ Ok p
+pub units-reads : (units : List (List Tok)) (p : Program) → AreUnits p units → IsSome p → some_units units ≡ Ok p
 units-reads [] [] h k = absurd k
 units-reads [] (d ∷ ds) h k = absurd h
 units-reads (u ∷ us) p h k = formed-read next_unit exact-unit_from tt 1 (u ∷ us) p h
 
 -- the unit that is told is the first
-units-bad : (units : List (List Tok)) (m : ℕ) → some_units units ≡ Err m → IsFirstBad IsUnitAt next_unit tt units m ⊎ IsEmpty units m
+pub units-bad : (units : List (List Tok)) (m : ℕ) → some_units units ≡ Err m → IsFirstBad IsUnitAt next_unit tt units m ⊎ IsEmpty units m
 units-bad [] m e = inr (refl, same e) where
   same : ◌≡◌ {A = Result Program ℕ} (Err 1) (Err m) → m ≡ 1
   same f = cc

@@ -1,8 +1,12 @@
 -- What the code's values stand for.
+use Rattle.std.specs.Prelude.{◌≡◌, Option, None, Some, Result, Ok, Err}
 use Rattle.text_forms.specs.Tree.{spoken}
+use Rattle.text_forms.specs.declared.fault.Fault.{Fault}
+use Rattle.text_forms.specs.declared.fault.Fault.TheVariants.{Syntax, NoMemory}
 use Rattle.streamit_model.specs.Program.{Body, ASplitJoin}
 use Rattle.streamit_build.specs.Program.{dealing_of, adds_of}
 use Rattle.streamit_build.specs.declared.program.SplitJoin.{SplitJoin}
+use Rattle.streamit_unroll.specs.declared.tree.Rates.{Rates}
 use Rattle.streamit_text.specs.Grammar as grammar
 use Rattle.streamit_text.specs.Grammar.{Head}
 use Rattle.streamit_text.specs.declared.filter.Rate.{Rate}
@@ -19,3 +23,16 @@ abbrev pub rate_of : Rate → grammar.Rate
 rate_of (code_rate.Push n) = grammar.push n
 rate_of (code_rate.Pop n) = grammar.pop n
 rate_of (code_rate.Peek n) = grammar.peek n
+
+abbrev pub rates_of : Rates → grammar.Rates
+rates_of r = record { push = r.push; pop = r.pop; peek = r.peek }
+
+abbrev pub option_rates : Option Rates → Option grammar.Rates
+option_rates None = None
+option_rates (Some r) = Some (rates_of r)
+
+-- the function gives a value, of which this is the view, exactly where there is one
+abbrev pub Makes : {X A : Type 0} → (X → A) → Result X Fault → Option A → Type 0
+Makes view (Ok x) made = made ≡ Some (view x)
+Makes view (Err Syntax) made = made ≡ None
+Makes view (Err NoMemory) made = Unit {0}

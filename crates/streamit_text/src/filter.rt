@@ -1,11 +1,16 @@
 // Filters read.
-ghost use Rattle.std.specs.Prelude.{◌≡◌, map};
+ghost use Rattle.std.specs.Prelude.{◌≡◌};
 ghost use Rattle.text_forms.specs.Gives.{Gives};
-ghost use Rattle.streamit_unroll.specs.Filter.{names_of};
-ghost use Rattle.streamit_text.specs.View.{rate_of};
-ghost use Rattle.streamit_text.specs.Reading.{field_at, fields_at, rate_after, rate_at, rate_list_at};
+ghost use Rattle.streamit_unroll.specs.Filter.{names_of, optional, filter_tree};
+ghost use Rattle.streamit_unroll.specs.View.{block};
+ghost use Rattle.streamit_text.specs.Grammar.{with_rate};
+ghost use Rattle.streamit_text.specs.View.{rate_of, rates_of, option_rates};
+ghost use Rattle.streamit_text.specs.Reading.{field_at, fields_at, rate_after, rate_at, rates_at, still_at, init_at, in_filter_at, filter_at};
 
+use crate::block::block;
+use crate::still::stay;
 use std::alloc::Global;
+use streamit_unroll::{Block, FilterTree, Rates};
 use text_forms::{Fault, Language, Reader};
 use work_code::Symbol;
 
@@ -20,9 +25,9 @@ fn field<'a>(reader: &mut Reader<'a>) -> Result<&'a [u8], Fault>
     Ok(name)
 }
 
-/// The fields of a filter.
+// The fields of a filter.
 #[tactic(auto, unfolding(crate::specs::Reading::fields_at), using(crate::proofs::Fields::fields))]
-pub fn fields<'a>(reader: &mut Reader<'a>, alloc: Global) -> Result<Vec<&'a [u8]>, Fault>
+fn fields<'a>(reader: &mut Reader<'a>, alloc: Global) -> Result<Vec<&'a [u8]>, Fault>
     ensures { Gives (λ names. names_of names.items) result reader.new (fields_at reader.old) }
 {
     let mut names = Vec::new(alloc);
@@ -64,4 +69,111 @@ fn one_rate(reader: &mut Reader<'_>) -> Result<Rate, Fault>
 {
     let word = reader.name()?;
     rate_after(reader, word)
+}
+
+// The rates with one more, which may not be among them yet.
+fn with_rate(rates: Rates, rate: Rate) -> Option<Rates>
+    ensures { option_rates result ≡ with_rate (rates_of rates) (rate_of rate) }
+{
+    match rate {
+        Rate::Push(n) if rates.push.is_none() => Some(Rates {
+            push: Some(n),
+            ..rates
+        }),
+        Rate::Pop(n) if rates.pop.is_none() => Some(Rates {
+            pop: Some(n),
+            ..rates
+        }),
+        Rate::Peek(n) if rates.peek.is_none() => Some(Rates {
+            peek: Some(n),
+            ..rates
+        }),
+        _ => None,
+    }
+}
+
+// The rates, each of them once at most.
+#[tactic(auto, using(crate::proofs::Rates::rates))]
+fn rates(reader: &mut Reader<'_>) -> Result<Rates, Fault>
+    ensures { Gives rates_of result reader.new (rates_at reader.old) }
+{
+    let mut rates = Rates {
+        push: None,
+        pop: None,
+        peek: None,
+    };
+    'items: while !reader.is_at(Symbol::OpenBrace) {
+        let rate = one_rate(reader)?;
+        match with_rate(rates, rate) {
+            Some(more) => rates = more,
+            None => return Err(Fault::Syntax),
+        }
+    }
+    Ok(rates)
+}
+
+// A block without `push`, `pop` and `peek`.
+#[tactic(auto, unfolding(crate::specs::Reading::still_at))]
+fn still<'a>(reader: &mut Reader<'a>, alloc: Global, brackets: u32) -> Result<Block<'a>, Fault>
+    ensures { Gives block result reader.new (still_at brackets reader.old) }
+{
+    let all = block(reader, alloc, 16, brackets)?;
+    if stay(&all) {
+        Ok(all)
+    } else {
+        Err(Fault::Syntax)
+    }
+}
+
+// `init` and its block, or nothing.
+#[tactic(auto, unfolding(crate::specs::Reading::init_at))]
+fn init<'a>(
+    reader: &mut Reader<'a>,
+    alloc: Global,
+    brackets: u32,
+) -> Result<Option<Block<'a>>, Fault>
+    ensures { Gives optional result reader.new (init_at brackets reader.old) }
+{
+    if !reader.is_at_word(b"init") {
+        return Ok(None);
+    }
+    reader.skip();
+    Ok(Some(still(reader, alloc, brackets)?))
+}
+
+// What stands between the braces of a filter.
+#[tactic(auto, unfolding(crate::specs::Reading::in_filter_at), using(crate::proofs::Rates::filters))]
+fn in_filter<'a>(
+    reader: &mut Reader<'a>,
+    alloc: Global,
+    brackets: u32,
+) -> Result<FilterTree<'a>, Fault>
+    ensures { Gives filter_tree result reader.new (in_filter_at brackets reader.old) }
+{
+    let fields = fields(reader, alloc)?;
+    let init = init(reader, alloc, brackets)?;
+    reader.word(b"work")?;
+    let rates = rates(reader)?;
+    let work = block(reader, alloc, 16, brackets)?;
+    Ok(FilterTree {
+        fields,
+        init,
+        rates,
+        work,
+    })
+}
+
+/// `{` what a filter has `}`
+#[tactic(auto, unfolding(crate::specs::Reading::filter_at))]
+pub fn filter<'a>(
+    reader: &mut Reader<'a>,
+    alloc: Global,
+    brackets: u32,
+) -> Result<FilterTree<'a>, Fault>
+    ensures { Gives filter_tree result reader.new (filter_at brackets reader.old) }
+{
+    let inner = reader.opens(Symbol::OpenBrace, brackets)?;
+    let filter = in_filter(reader, alloc, inner)?;
+    reader.expect(&[Symbol::CloseBrace])?;
+    Ok(filter)
 }
