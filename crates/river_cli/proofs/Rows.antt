@@ -1,11 +1,10 @@
 -- The queues of a StreamIt program's plan carry rows.
-use Rattle.std.proofs.Common.{◌≡◌, ℕ, zero, suc, ◌+◌, true, List, [], ◌∷◌, ◌++◌, Ok, refl, ap, ◌∙◌}
-use Rattle.std.specs.Prelude.{map, codes, ◌&&◌, if◌then◌else◌, Result, Err}
+use Rattle.std.proofs.Common.{◌≡◌, ℕ, zero, suc, true, Ok, refl, ap}
+use Rattle.std.specs.Prelude.{map, if◌then◌else◌, Err}
 use Rattle.std.specs.List.{list_all}
 use Rattle.river_plan.specs.declared.plan.Decl.{Decl}
-use Rattle.brooklet_step.specs.Built.{is_rows, is_built}
-use Rattle.streamit_model.specs.Build.{queues, queues_in, values_in, plan_of}
-use Rattle.streamit_model.specs.Stream.{Stream}
+use Rattle.brooklet_step.specs.Built.{is_rows}
+use Rattle.streamit_model.specs.Build.{queues, queues_in, values_in}
 use Rattle.river_cli.specs.Laws.{StreamitRuns}
 use Rattle.river_cli.specs.Text.{unbuilt}
 

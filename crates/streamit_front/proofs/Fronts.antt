@@ -1,5 +1,5 @@
 -- What a text of StreamIt means is what it has in the grammar, and what the front answers.
-use Rattle.std.proofs.Common.{◌≡◌, ◌⊎◌, ℕ, suc, ◌<◌, ℤ, List, [], ◌∷◌, length, map, Option, Some, None, Result, Ok, Err, refl, sym, ap, ◌∙◌, subst, inl, inr, arith}
+use Rattle.std.proofs.Common.{◌≡◌, ◌⊎◌, ℕ, suc, ◌<◌, List, [], ◌∷◌, length, Option, Some, None, Result, Ok, Err, refl, sym, ap, ◌∙◌, subst, inl, inr, arith}
 use Rattle.work_code.specs.Cut.{units_of as cut_units}
 use Rattle.work_code.specs.Lexis.{tokens_in}
 use Rattle.work_code.specs.Tok.{Tok, Mark, toks}
@@ -9,8 +9,8 @@ use Rattle.work_code.proofs.Slices.{no_want}
 use Rattle.text_forms.specs.Refusals.{of_lexer}
 use Rattle.text_forms.specs.Texts.{read_units, IsFirstBad}
 use Rattle.text_forms.specs.declared.refusal.Refusal.TheVariants.{BadByte, BigNumber, Syntax}
-use Rattle.text_forms.proofs.Texts.{bad-read, first-bad}
-use Rattle.river_plan.specs.Forms.{Name, PlanForm, plan_form}
+use Rattle.text_forms.proofs.Texts.{bad-read}
+use Rattle.river_plan.specs.Forms.{PlanForm, plan_form}
 use Rattle.river_plan.specs.Told.{IsTold, fault_of}
 use Rattle.river_plan.specs.Valid.{IsPlan}
 use Rattle.river_plan.specs.declared.fault.PlanFault.{PlanFault}
@@ -18,17 +18,14 @@ use Rattle.river_plan.specs.declared.fault.PlanFault.TheVariants as plan_fault
 use Rattle.river_plan.proofs.JudgeLemmas.{fault_of-is}
 use Rattle.river_plan.proofs.ValidLaw.{valid-no_fault}
 use Rattle.river_plan.specs.declared.plan.RawPlan.{RawPlan}
-use Rattle.streamit_model.specs.Build.{plan_of}
 use Rattle.streamit_model.specs.Elaborate as model
 use Rattle.streamit_model.specs.Stream.{Stream}
-use Rattle.streamit_model.specs.Program.{Declared, Program, AreShallowUnits}
+use Rattle.streamit_model.specs.Program.{Program, AreShallowUnits}
 use Rattle.streamit_model.specs.Judged.{Streamed, Refusal, on_fine, in_unit, unit_of, all_streams, few_operators, judged}
 use Rattle.streamit_model.proofs.Programs.{programs_mean}
-use Rattle.streamit_unroll.specs.declared.fault.Fault.TheVariants as faults
-use Rattle.streamit_build.specs.declared.judge.Refusal as code
 use Rattle.streamit_build.specs.declared.program.Declaration.{Declaration}
 use Rattle.streamit_build.specs.Program.{program_of}
-use Rattle.streamit_build.specs.Told.{AreReadable, Told, PlansBy}
+use Rattle.streamit_build.specs.Told.{AreReadable, PlansBy}
 use Rattle.streamit_text.specs.Grammar.{IsText, IsSome, IsUnitAt, next_unit}
 use Rattle.streamit_text.specs.Laws.{IsBadAt, IsEmpty}
 use Rattle.streamit_text.specs.Reading.{some_units, unit_from}
@@ -39,7 +36,7 @@ use Rattle.streamit_text.proofs.Units.{exact-unit_from}
 use Rattle.streamit_front.specs.declared.fault.StreamitFault.{StreamitFault}
 use Rattle.streamit_front.specs.declared.fault.StreamitFault.TheVariants.{Text, UnknownName, NameTwice, Rates, PeekRange, NotConstant, BranchRates, Limit, Weights, NoMemory}
 use Rattle.streamit_front.specs.Laws.{HasFault, Has, MeansWhatItHas, PlansMean}
-use Rattle.streamit_front.specs.Meaning.{Accepted, fault_at, with_last, or_fault, accepted, then_judged, of_tokens, then_read, compiled, Plans, Refused}
+use Rattle.streamit_front.specs.Meaning.{Accepted, fault_at, or_fault, accepted, then_judged, of_tokens, then_read, compiled, Plans, Refused}
 use Rattle.streamit_front.proofs.Readable.{units-fine}
 
 abbrev read_of : List Mark → Result Program ℕ

@@ -1,7 +1,7 @@
 -- What the grammar sees to: numbers are values, expressions are at most 64 deep, and `init` pops and pushes nothing.
 use Rattle.std.proofs.Common.{◌≡◌, ℕ, zero, suc, ◌≤◌, ◌<◌, ◌^◌, Bool, true, false, List, [], ◌∷◌, Option, Some, None, refl, sym, subst, arith}
 use Rattle.std.proofs.lemmas.Bool.Decides.{nat_tests}
-use Rattle.std.specs.Prelude.{◌&&◌, nat_le, codes}
+use Rattle.std.specs.Prelude.{◌&&◌, codes}
 use Rattle.std.specs.Str.{bytes_eq}
 use Rattle.work_code.specs.Tok.{Tok}
 use Rattle.work_code.specs.declared.sign.Symbol.{Symbol}
@@ -10,20 +10,19 @@ use Rattle.text_forms.specs.declared.language.Language.TheVariants.{StreamIt}
 use Rattle.text_forms.specs.Forms as form
 use Rattle.text_forms.specs.Language.{is_plain}
 use Rattle.text_forms.specs.Parse.{is_value}
-use Rattle.text_forms.specs.Texts.{AllFormed}
-use Rattle.text_forms.specs.Tree.{Spoken, depth_of}
+use Rattle.text_forms.specs.Tree.{Spoken}
 use Rattle.text_forms.specs.Tree as tree
-use Rattle.streamit_model.specs.Source.{Statement, Declare, Assign, Push, Pop, If, For, Block, End, Then, pops}
+use Rattle.streamit_model.specs.Source.{Statement, Declare, Assign, Push, Pop, If, For, Block, End, Then}
 use Rattle.streamit_model.specs.Shallow.{IsLow, IsLowFirst, IsShallow, AreShallow, IsItemless, IsItemlessFirst, KeepsItems, KeepAll}
 use Rattle.streamit_model.specs.FilterSource.{FilterTree}
-use Rattle.streamit_model.specs.Program.{Body, AFilter, APipeline, ASplitJoin, Adds, Declared, Program, IsShallowBody, AreShallowUnits}
+use Rattle.streamit_model.specs.Program.{Body, Declared, Program, IsShallowBody, AreShallowUnits}
 use Rattle.streamit_unroll.specs.Numbers.{AreValues}
 use Rattle.streamit_unroll.specs.Filter.{IsReadable}
 use Rattle.streamit_unroll.specs.Unrolled.{AreOptional, IsWritten, AreWritten}
 use Rattle.streamit_unroll.specs.View.{in_turn}
 use Rattle.streamit_build.specs.Program.{IsReadableBody}
 use Rattle.streamit_build.specs.Told.{AreReadable}
-use Rattle.streamit_text.specs.Grammar.{has_values, Expr, Round, made_declare, IsDeclare, IsAssign, IsPush, popping, IsPop, or_end, made_if, IsIf, Head, made_head, HeadAfter, IsHead, made_for, IsFor, IsBlockOf, StmtAfter, IsStmt, IsBlock, is_still, is_still_first, stays, stay, IsInit, Rates, made_filter, InFilter, BodyAfter, made_unit, KindAfter, IsUnit, IsUnitAt, next_unit, AreUnits}
+use Rattle.streamit_text.specs.Grammar.{has_values, Expr, Round, IsDeclare, IsAssign, IsPush, IsPop, or_end, IsIf, Head, HeadAfter, IsHead, IsFor, IsBlockOf, StmtAfter, IsStmt, IsBlock, is_still, is_still_first, stays, stay, IsInit, InFilter, BodyAfter, IsUnit, AreUnits}
 
 -- ---- FORMS
 

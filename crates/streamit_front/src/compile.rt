@@ -78,7 +78,9 @@ fn read<'t>(alloc: Global, tokens: &'t Tokens<'_>) -> Result<Vec<Declaration<'t>
 {
     match read_streamit(alloc, tokens) {
         Ok(units) => Ok(units),
-        Err(StreamitTextFault::Syntax { unit }) => Err(StreamitFault::Text(TextRefusal::Syntax { unit })),
+        Err(StreamitTextFault::Syntax { unit }) => Err(StreamitFault::Text(TextRefusal::Syntax {
+            unit,
+        })),
         Err(StreamitTextFault::NoMemory) => Err(StreamitFault::NoMemory),
     }
 }

@@ -13,9 +13,13 @@ pub enum StreamitFault {
     /// The text is not read.
     Text(Refusal),
     /// A name that is not known where it stands.
-    UnknownName { unit: u32 },
+    UnknownName {
+        unit: u32,
+    },
     /// A name that is known is declared again.
-    NameTwice { unit: u32 },
+    NameTwice {
+        unit: u32,
+    },
     /// Another rate than declared; or the rate of `peek` below the rate of `pop`.
     Rates {
         unit: u32,
@@ -23,15 +27,27 @@ pub enum StreamitFault {
         counted: u32,
     },
     /// An item that a firing does not look at.
-    PeekRange { unit: u32, index: i64, peek: u32 },
+    PeekRange {
+        unit: u32,
+        index: i64,
+        peek: u32,
+    },
     /// A bound or an index that is no constant, or a loop's variable that is set.
-    NotConstant { unit: u32 },
+    NotConstant {
+        unit: u32,
+    },
     /// The arms of an `if` pop or push another number of items.
-    BranchRates { unit: u32 },
+    BranchRates {
+        unit: u32,
+    },
     /// A number above its limit.
-    Limit { unit: u32 },
+    Limit {
+        unit: u32,
+    },
     /// A weight that is 0, or another number of weights than of branches.
-    Weights { unit: u32 },
+    Weights {
+        unit: u32,
+    },
     /// There was no memory.
     NoMemory,
 }
