@@ -3,8 +3,8 @@ pub mod Cut
 pub mod Fetches
 pub mod Inputs
 pub mod Points
-pub mod Rows
 pub mod ReadOn
+pub mod Runs
 pub mod Scripts
 pub mod Told
 pub mod Typed

@@ -1,4 +1,4 @@
-use Rattle.river_cli.proofs.Rows.{streams_run}
+use Rattle.river_cli.proofs.Runs.{streams_run}
 use Rattle.river_cli.proofs.laws.streamit_programs_are_run.Goals as goal
 
 pub returns : goal.returns
