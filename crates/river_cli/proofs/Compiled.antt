@@ -1,5 +1,5 @@
 -- What was compiled stands for what its text means.
-use Rattle.std.proofs.Common.{◌≡◌, ℤ, List, [], ◌∷◌, length, refl, sym, ap, ◌∙◌, subst, arith}
+use Rattle.std.proofs.Common.{◌≡◌, ℕ, ℤ, List, [], ◌∷◌, length, refl, sym, ap, ◌∙◌, subst, arith}
 use Rattle.std.specs.Prelude.{Result, Ok, Err, All}
 use Rattle.std.proofs.lemmas.List.Elements.{All-head, All-tail}
 use Rattle.river_base.specs.declared.item.Flat.TheVariants.{One}
@@ -14,14 +14,13 @@ use Rattle.river_text.specs.declared.river_fault.RiverFault.{RiverFault}
 use Rattle.river_text.specs.declared.river_fault.RiverFault.TheVariants as river_fault
 use Rattle.brooklet_model.specs.Meaning.{meaning}
 use Rattle.brooklet_model.specs.Typed.{AreInputs}
-use Rattle.streamit_front.specs.Laws.{as_items}
-use Rattle.streamit_front.specs.Program.{Program}
-use Rattle.streamit_front.specs.Reading.{Refused}
-use Rattle.streamit_front.specs.Translation.{plan_of}
+use Rattle.streamit_model.specs.Build.{plan_of}
+use Rattle.streamit_model.specs.Laws.{as_items}
+use Rattle.streamit_front.specs.Meaning.{Accepted, compiled, Refused}
 use Rattle.streamit_front.specs.Words.{streamit_words}
 use Rattle.streamit_front.specs.declared.fault.StreamitFault.{StreamitFault}
 use Rattle.streamit_front.specs.declared.fault.StreamitFault.TheVariants as streamit_fault
-use Rattle.streamit_front.proofs.Translated.{translation_means}
+use Rattle.streamit_front.proofs.Fronts.{plans_mean}
 use Rattle.river_cli.specs.Inputs.{row_items, all_items}
 use Rattle.river_cli.specs.Source.{river_source, streamit_source, values, told, IsPlanOf, IsCompiled}
 use Rattle.river_cli.specs.Text.{program_refused}
@@ -52,17 +51,27 @@ values-are (row ∷ r) t =
     let later : row_items r ≡ as_items (values (r ∷ [])) = values-are r (All-tail (HasType (rows 1)) (Flat (One row)) (row_items r) t) in
     ap (λ l. Flat (One row) ∷ l) later ∙ rw is refl
 
-program_means : (p : Program) (all : List (List (List ℤ))) → AreInputs (plan_of p).inputs (all_items all) → meaning (plan_of p) (all_items all) ≡ (streamit_source p).means all
-program_means p [] t = absurd t
-program_means p (r ∷ s ∷ more) t = absurd t.1
-program_means p (r ∷ []) t = ap (λ l. meaning (plan_of p) (l ∷ [])) (values-are r t.0) ∙ translation_means p (values (r ∷ []))
+program_means : (text : List ℕ) (a : Accepted) → compiled text ≡ Ok a → (all : List (List (List ℤ))) → AreInputs (plan_of a.stream).inputs (all_items all) → meaning (plan_of a.stream) (all_items all) ≡ (streamit_source a).means all
+program_means text a e [] t = absurd t
+program_means text a e (r ∷ s ∷ more) t = absurd t.1
+program_means text a e (r ∷ []) t = ap (λ l. meaning (plan_of a.stream) (l ∷ [])) (values-are r t.0) ∙ (plans_mean text a (values (r ∷ [])) e).1
 
-program_plan : (p : Program) → IsPlanOf (streamit_source p) (plan_of p)
-program_plan p = record { plan = refl; inputs = refl; outputs = refl; means = program_means p }
+program_plan : (text : List ℕ) (a : Accepted) → compiled text ≡ Ok a → IsPlanOf (streamit_source a) (plan_of a.stream)
+program_plan text a e = record { plan = refl; inputs = refl; outputs = refl; means = program_means text a e }
 
-pub streamit-compiled : (meant : Result Program StreamitFault) (p : Program) (plan : PlanForm) → meant ≡ Ok p → plan ≡ plan_of p → StandsFor IsCompiled (told streamit_source streamit_words meant) (record { plan = plan })
-streamit-compiled meant p plan is made = rw is (subst (IsPlanOf (streamit_source p)) (sym made) (program_plan p))
+pub streamit-compiled : (text : List ℕ) (a : Accepted) (plan : PlanForm) → compiled text ≡ Ok a → plan ≡ plan_of a.stream → StandsFor IsCompiled (told streamit_source streamit_words (compiled text)) (record { plan = plan })
+streamit-compiled text a plan is made =
+    subst (λ (r : Result Accepted StreamitFault). StandsFor IsCompiled (told streamit_source streamit_words r) (record { plan = plan })) (sym is)
+    (subst (IsPlanOf (streamit_source a)) (sym made) (program_plan text a is))
 
-pub streamit-refused : (meant : Result Program StreamitFault) (f : StreamitFault) (text : List _) → (f ≡ streamit_fault.NoMemory → ⊥) → Refused meant f → text ≡ program_refused (streamit_words f) → told streamit_source streamit_words meant ≡ Err text
+pub streamit-refused : (meant : Result Accepted StreamitFault) (f : StreamitFault) (text : List _) → (f ≡ streamit_fault.NoMemory → ⊥) → Refused meant f → text ≡ program_refused (streamit_words f) → told streamit_source streamit_words meant ≡ Err text
 streamit-refused meant (streamit_fault.Text refusal) text not is says = rw (is, says) refl
+streamit-refused meant (streamit_fault.UnknownName unit) text not is says = rw (is, says) refl
+streamit-refused meant (streamit_fault.NameTwice unit) text not is says = rw (is, says) refl
+streamit-refused meant (streamit_fault.Rates unit declared counted) text not is says = rw (is, says) refl
+streamit-refused meant (streamit_fault.PeekRange unit index peek) text not is says = rw (is, says) refl
+streamit-refused meant (streamit_fault.NotConstant unit) text not is says = rw (is, says) refl
+streamit-refused meant (streamit_fault.BranchRates unit) text not is says = rw (is, says) refl
+streamit-refused meant (streamit_fault.Limit unit) text not is says = rw (is, says) refl
+streamit-refused meant (streamit_fault.Weights unit) text not is says = rw (is, says) refl
 streamit-refused meant streamit_fault.NoMemory text not is says = absurd (not refl)

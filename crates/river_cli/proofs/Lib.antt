@@ -4,6 +4,7 @@ pub mod Fetches
 pub mod Inputs
 pub mod Points
 pub mod ReadOn
+pub mod Runs
 pub mod Scripts
 pub mod Told
 pub mod Typed

@@ -8,11 +8,10 @@ use Rattle.river_text.specs.Words.{river_words}
 use Rattle.brooklet_model.specs.Histories.{firings}
 use Rattle.brooklet_model.specs.Meaning.{Results, meaning}
 use Rattle.brooklet_model.specs.Typed.{AreInputs}
-use Rattle.streamit_front.specs.Program.{Program}
-use Rattle.streamit_front.specs.Laws.{as_items}
-use Rattle.streamit_front.specs.Meaning.{outputs_of}
-use Rattle.streamit_front.specs.Reading.{compiled}
-use Rattle.streamit_front.specs.Translation.{plan_of, values_in}
+use Rattle.streamit_model.specs.Build.{plan_of, values_in}
+use Rattle.streamit_model.specs.Laws.{as_items}
+use Rattle.streamit_model.specs.Program.{program_outputs}
+use Rattle.streamit_front.specs.Meaning.{Accepted, compiled}
 use Rattle.streamit_front.specs.Words.{streamit_words}
 use Rattle.river_cli.specs.Inputs.{all_items}
 use Rattle.river_cli.specs.Text.{program_refused}
@@ -37,12 +36,12 @@ values [] = []
 values (rows ∷ others) = map (λ row. slice_index_or row 0 (pos 0)) rows
 
 -- a StreamIt program, by its own definition
-abbrev pub streamit_source : Program → Source
-streamit_source p = record {
+abbrev pub streamit_source : Accepted → Source
+streamit_source a = record {
   inputs = values_in (codes "in") ∷ [];
   outputs = codes "out" ∷ [];
-  means = λ rows. record { outs = as_items (outputs_of p (values rows)) ∷ []; tables = [] };
-  plan = plan_of p;
+  means = λ rows. record { outs = as_items (program_outputs a.program (values rows)) ∷ []; tables = [] };
+  plan = plan_of a.stream;
 }
 
 -- the program of what was read, or the text that refuses it

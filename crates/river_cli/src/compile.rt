@@ -3,7 +3,7 @@ ghost use Rattle.std.specs.Prelude.{◌≡◌, ◌≤◌, length, IfOk, IfErr};
 ghost use Rattle.river_order.specs.Passes.{AnswersAs};
 ghost use Rattle.river_text.specs.Meaning.{plan_in};
 ghost use Rattle.river_text.specs.Words.{river_words};
-ghost use Rattle.streamit_front.specs.Reading.{compiled};
+ghost use Rattle.streamit_front.specs.Meaning.{compiled};
 ghost use Rattle.streamit_front.specs.Words.{streamit_words};
 ghost use Rattle.river_cli.specs.Source.{river_source, streamit_source, told, source_of, IsCompiled};
 ghost use Rattle.river_cli.specs.Text.{program_refused};
@@ -59,7 +59,7 @@ fn streamit(alloc: Global, text: &Bytes) -> Result<Compiled, Stop>
     ensures { AnswersAs IsCompiled (told streamit_source streamit_words (compiled text.now)) result }
 {
     match compile_streamit(alloc, text) {
-        Ok((_, plan)) => Ok(Compiled { plan }),
+        Ok(plan) => Ok(Compiled { plan }),
         Err(StreamitFault::NoMemory) => Err(Stop::NoMemory),
         Err(fault) => Err(Stop::Refused(streamit_refused(alloc, fault)?)),
     }

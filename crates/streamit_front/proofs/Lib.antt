@@ -1,4 +1,2 @@
-pub mod Grammar
-pub mod Plans
-pub mod Translated
-pub mod Words
+pub mod Fronts
+pub mod Readable

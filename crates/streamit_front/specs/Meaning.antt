@@ -1,14 +1,75 @@
--- What a program means: the items of its output, for all the items of its input (the StreamIt language, filters with
--- `push 1 pop 1`: firing j takes item j and pushes one item).
-use Rattle.std.specs.Prelude.{ℤ, List, [], ◌∷◌, map}
-use Rattle.work_code.specs.Term.{Term}
-use Rattle.work_code.specs.Value.{val}
-use Rattle.streamit_front.specs.Program.{Program}
+-- What a text of StreamIt means: the program that it stands for and the stream of its plan, or why it has none. It is lexed, then
+-- read, then judged.
+use Rattle.std.specs.Prelude.{◌≡◌, ℕ, List, [], ◌∷◌, Result, Ok, Err}
+use Rattle.work_code.specs.Cut.{units_of}
+use Rattle.work_code.specs.Lexis.{tokens_in}
+use Rattle.work_code.specs.Tok.{Mark, toks}
+use Rattle.work_code.specs.declared.fault.LexFault.{LexFault}
+use Rattle.text_forms.specs.Refusals.{of_lexer}
+use Rattle.text_forms.specs.declared.refusal.Refusal.TheVariants.{Syntax}
+use Rattle.river_plan.specs.Forms.{PlanForm}
+use Rattle.streamit_model.specs.Elaborate as model
+use Rattle.streamit_model.specs.Stream.{Stream}
+use Rattle.streamit_model.specs.Build.{plan_of}
+use Rattle.streamit_model.specs.Program.{Program}
+use Rattle.streamit_model.specs.Judged.{Streamed, Refusal, judged}
+use Rattle.streamit_text.specs.Reading.{some_units}
+use Rattle.streamit_front.specs.declared.fault.StreamitFault.{StreamitFault}
+use Rattle.streamit_front.specs.declared.fault.StreamitFault.TheVariants.{Text, UnknownName, NameTwice, Rates, PeekRange, NotConstant, BranchRates, Limit, Weights, NoMemory}
 
--- the value of an expression for one item
-abbrev pub value_on : Term → ℤ → ℤ
-value_on t x = val t (x ∷ []) []
+-- a program that is accepted, and the stream that it declares last, which is the one that is run
+pub record Accepted : Type 0 where
+  pub program : Program
+  pub stream : Stream
 
--- item j of the output is the value of the expression for item j of the input
-abbrev pub outputs_of : Program → List ℤ → List ℤ
-outputs_of p xs = map (value_on p.value) xs
+-- the fault of a unit
+abbrev pub fault_at : ℕ → model.Fault → StreamitFault
+fault_at unit model.UnknownName = UnknownName unit
+fault_at unit model.NameTwice = NameTwice unit
+fault_at unit (model.Rates declared counted) = Rates unit declared counted
+fault_at unit (model.PeekRange index peek) = PeekRange unit index peek
+fault_at unit model.NotConstant = NotConstant unit
+fault_at unit model.BranchRates = BranchRates unit
+fault_at unit model.Limit = Limit unit
+fault_at unit model.Weights = Weights unit
+
+-- the program with the newest of its streams; a program has a unit, so it has a stream
+abbrev pub with_last : Program → Streamed → Result Accepted StreamitFault
+with_last p [] = Err (Text (Syntax 1))
+with_last p (newest ∷ others) = Ok (record { program = p; stream = newest.1 })
+
+-- the program with its stream, or its first fault
+abbrev pub or_fault : Program → Result Streamed Refusal → Result Accepted StreamitFault
+or_fault p (Ok known) = with_last p known
+or_fault p (Err e) = Err (fault_at e.unit e.fault)
+
+-- a program is judged
+abbrev pub accepted : Program → Result Accepted StreamitFault
+accepted p = or_fault p (judged p)
+
+-- what is read is judged
+abbrev pub then_judged : Result Program ℕ → Result Accepted StreamitFault
+then_judged (Ok p) = accepted p
+then_judged (Err unit) = Err (Text (Syntax unit))
+
+-- the tokens of a text are read
+abbrev pub of_tokens : List Mark → Result Accepted StreamitFault
+of_tokens marks = then_judged (some_units (units_of (toks marks)))
+
+-- what is lexed is read
+abbrev pub then_read : Result (List Mark) LexFault → Result Accepted StreamitFault
+then_read (Ok marks) = of_tokens marks
+then_read (Err fault) = Err (of_lexer Text NoMemory fault)
+
+-- the program of a text and its stream, or why it has none
+unfoldable pub compiled : List ℕ → Result Accepted StreamitFault
+compiled text = then_read (tokens_in text)
+
+-- the program is accepted, and this is the plan of its stream
+abbrev pub Plans : Result Accepted StreamitFault → Program → PlanForm → Type 0
+Plans meant p plan = (s : Stream) × (meant ≡ Ok (record { program = p; stream = s })) × (plan ≡ plan_of s)
+
+-- this is why there is no program; want of memory says nothing
+abbrev pub Refused : Result Accepted StreamitFault → StreamitFault → Type 0
+Refused meant NoMemory = Unit {0}
+Refused meant fault = meant ≡ Err fault

@@ -1,71 +1,141 @@
 // From the text of a program to its tree and its plan.
-ghost use Rattle.std.specs.Prelude.{◌≡◌, ◌<◌, ◌^◌, length, IfOk, IfErr, Ok};
-ghost use Rattle.streamit_front.specs.Program.{program_of};
-ghost use Rattle.streamit_front.specs.Reading.{program_at, or_syntax, compiled, Refused};
-ghost use Rattle.streamit_front.specs.Translation.{plan_of};
-ghost use Rattle.text_forms.specs.Texts.{whole};
-ghost use Rattle.work_code.specs.Tok.{toks};
+ghost use Rattle.std.specs.Prelude.{◌≡◌, ◌<◌, ◌^◌, length, IfOk, IfErr, Result, Ok};
+ghost use Rattle.river_plan.specs.Forms.{plan_form};
+ghost use Rattle.river_plan.specs.Valid.{IsPlan};
+ghost use Rattle.streamit_model.specs.Build.{plan_of};
+ghost use Rattle.streamit_model.specs.Program.{Program, AreShallowUnits};
+ghost use Rattle.streamit_model.specs.Judged.{Streamed};
+ghost use Rattle.streamit_model.specs.Judged as model;
+ghost use Rattle.streamit_build.specs.Program.{program_of};
+ghost use Rattle.streamit_build.specs.Told.{AreReadable, Told};
+ghost use Rattle.streamit_text.specs.Faults.{StandFor};
+ghost use Rattle.streamit_front.specs.Meaning.{Accepted, accepted, or_fault, of_tokens, compiled, Plans, Refused};
 
 use crate::StreamitProgram;
 use crate::fault::StreamitFault;
-use crate::reading::program;
-use crate::translate::plan;
-use river_base::Bytes;
-use river_plan::Plan;
+use river_base::{Bytes, NoMemory};
+use river_plan::{Plan, PlanFault, RawPlan, check};
 use std::alloc::Global;
-use text_forms::{Fault, Reader, Refusal};
+use streamit_build::{Declaration, Refusal, plan};
+use streamit_text::{StreamitTextFault, read_streamit};
+use streamit_unroll::Fault;
+use text_forms::Refusal as TextRefusal;
 use work_code::{LexFault, Tokens, lex};
 
-/// The program of a text, and its plan.
+/// The plan of a text: that of the stream which its program declares last.
 ///
 /// # Errors
 ///
-/// `Text` with the first fault of the bytes where they have no tokens; otherwise with `Syntax` of unit 1 where they are
-/// no program.
-pub fn compile_streamit(
-    alloc: Global,
-    text: &Bytes,
-) -> Result<(StreamitProgram, Plan), StreamitFault>
+/// `Text` with the first fault of the bytes where they have no tokens; otherwise with `Syntax` and the first unit, from
+/// 1, that is not in the grammar; otherwise the first fault of the program in the order in which it is read, with its
+/// unit; `NoMemory` where there is no memory.
+#[tactic(auto, unfolding(crate::specs::Meaning::compiled), using(river_text::proofs::Counts::counts))]
+pub fn compile_streamit(alloc: Global, text: &Bytes) -> Result<Plan, StreamitFault>
     requires { length text.now < 2 ^ 32 }
-    ensures read { IfOk result (λ made. compiled text.now ≡ Ok (program_of made.0)) }
-    ensures plan { IfOk result (λ made. made.1 ≡ plan_of (program_of made.0)) }
-    ensures refused { IfErr result (Refused (compiled text.now)) }
-{
-    let program = compile(alloc, text)?;
-    let plan = plan(alloc, &program)?;
-    Ok((program, plan))
-}
-
-const SYNTAX: StreamitFault = StreamitFault::Text(Refusal::Syntax { unit: 1 });
-
-// The program of a text.
-fn compile(alloc: Global, text: &Bytes) -> Result<StreamitProgram, StreamitFault>
-    requires { length text.now < 2 ^ 32 }
-    ensures read { IfOk result (λ p. compiled text.now ≡ Ok (program_of p)) }
+    ensures plan { IfOk result (λ plan. (a : Accepted) × (compiled text.now ≡ Ok a) × (plan ≡ plan_of a.stream)) }
     ensures refused { IfErr result (Refused (compiled text.now)) }
 {
     match lex(alloc, text) {
-        Ok(tokens) => read(alloc, &tokens),
-        Err(LexFault::BadByte { at }) => Err(StreamitFault::Text(Refusal::BadByte { at })),
-        Err(LexFault::BigNumber { at }) => Err(StreamitFault::Text(Refusal::BigNumber { at })),
+        Ok(tokens) => plan_tokens(alloc, &tokens),
+        Err(LexFault::BadByte { at }) => Err(StreamitFault::Text(TextRefusal::BadByte { at })),
+        Err(LexFault::BigNumber { at }) => Err(StreamitFault::Text(TextRefusal::BigNumber { at })),
         Err(LexFault::NoMemory) => Err(StreamitFault::NoMemory),
     }
 }
 
-fn read(alloc: Global, tokens: &Tokens<'_>) -> Result<StreamitProgram, StreamitFault>
-    ensures read { IfOk result (λ p. or_syntax (whole program_at (toks tokens.now)) ≡ Ok (program_of p)) }
-    ensures refused { IfErr result (Refused (or_syntax (whole program_at (toks tokens.now)))) }
+// The plan of the tokens of a text.
+fn plan_tokens(alloc: Global, tokens: &Tokens<'_>) -> Result<Plan, StreamitFault>
+    requires { length tokens.now < 2 ^ 32 }
+    ensures plan { IfOk result (λ plan. (a : Accepted) × (of_tokens tokens.now ≡ Ok a) × (plan ≡ plan_of a.stream)) }
+    ensures refused { IfErr result (Refused (of_tokens tokens.now)) }
 {
-    let mut reader = Reader::new(tokens.as_slice());
-    match program(&mut reader, alloc) {
-        Ok(program) => {
-            if reader.is_at_end() {
-                Ok(program)
-            } else {
-                Err(SYNTAX)
-            }
+    let (_, plan) = compile_tokens(alloc, tokens)?;
+    Ok(plan)
+}
+
+/// The program of the tokens of a text, and the plan of the stream that it declares last; or why there is none, as for
+/// the text.
+#[tactic(auto, using(crate::proofs::Fronts::fronts))]
+pub fn compile_tokens<'t>(
+    alloc: Global,
+    tokens: &'t Tokens<'_>,
+) -> Result<(StreamitProgram<'t>, Plan), StreamitFault>
+    requires { length tokens.now < 2 ^ 32 }
+    ensures plan { IfOk result (λ made. Plans (of_tokens tokens.now) (program_of made.0.units.items) made.1) }
+    ensures refused { IfErr result (Refused (of_tokens tokens.now)) }
+{
+    let units = read(alloc, tokens)?;
+    let plan = planned(alloc, units.as_slice())?;
+    Ok((StreamitProgram { units }, plan))
+}
+
+// The units of the tokens of a text.
+#[tactic(auto, using(crate::proofs::Fronts::readings))]
+fn read<'t>(alloc: Global, tokens: &'t Tokens<'_>) -> Result<Vec<Declaration<'t>>, StreamitFault>
+    requires { length tokens.now < 2 ^ 32 }
+    ensures read { IfOk result (λ units. StandFor tokens.now (program_of units.items)) }
+    ensures refused { IfErr result (Refused (of_tokens tokens.now)) }
+{
+    match read_streamit(alloc, tokens) {
+        Ok(units) => Ok(units),
+        Err(StreamitTextFault::Syntax { unit }) => Err(StreamitFault::Text(TextRefusal::Syntax {
+            unit,
+        })),
+        Err(StreamitTextFault::NoMemory) => Err(StreamitFault::NoMemory),
+    }
+}
+
+// The plan of the last of these units.
+#[tactic(auto, using(crate::proofs::Fronts::plans))]
+fn planned(alloc: Global, units: &[Declaration<'_>]) -> Result<Plan, StreamitFault>
+    requires readable { AreReadable (program_of units.now) }
+    requires shallow { AreShallowUnits (program_of units.now) }
+    requires some { 0 < length units.now }
+    ensures plan { IfOk result (Plans (accepted (program_of units.now)) (program_of units.now)) }
+    ensures refused { IfErr result (Refused (accepted (program_of units.now))) }
+{
+    match plan(alloc, units) {
+        Ok(raw) => {
+            let plan = valid(alloc, raw)?;
+            Ok(plan)
         }
-        Err(Fault::Syntax) => Err(SYNTAX),
-        Err(Fault::NoMemory) => Err(StreamitFault::NoMemory),
+        Err(refusal) => Err(refused(refusal)),
+    }
+}
+
+// The plan of lists that are valid.
+#[tactic(auto, using(crate::proofs::Fronts::faultless))]
+fn valid(alloc: Global, raw: RawPlan) -> Result<Plan, NoMemory>
+    requires valid { IsPlan (plan_form raw) }
+    ensures { IfOk result (λ plan. plan ≡ plan_form raw) }
+{
+    match check(alloc, raw) {
+        Ok(plan) => Ok(plan),
+        Err(PlanFault::NoMemory) => Err(NoMemory),
+        Err(_) => unreachable!(),
+    }
+}
+
+// The fault of a unit; where its number has no place, there was no memory for so many.
+fn refused(refusal: Refusal) -> StreamitFault
+    ensures { (p : Program) (r : Result Streamed model.Refusal) → Told refusal.unit refusal.fault r → Refused (or_fault p r) result }
+{
+    let Ok(unit) = u32::try_from(refusal.unit) else {
+        return StreamitFault::NoMemory;
+    };
+    match refusal.fault {
+        Fault::UnknownName => StreamitFault::UnknownName { unit },
+        Fault::NameTwice => StreamitFault::NameTwice { unit },
+        Fault::Rates { declared, counted } => StreamitFault::Rates {
+            unit,
+            declared,
+            counted,
+        },
+        Fault::PeekRange { index, peek } => StreamitFault::PeekRange { unit, index, peek },
+        Fault::NotConstant => StreamitFault::NotConstant { unit },
+        Fault::BranchRates => StreamitFault::BranchRates { unit },
+        Fault::Limit => StreamitFault::Limit { unit },
+        Fault::Weights => StreamitFault::Weights { unit },
+        Fault::NoMemory => StreamitFault::NoMemory,
     }
 }

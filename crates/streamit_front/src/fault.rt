@@ -1,16 +1,53 @@
 // Why a text is no program, and what is told of it.
-ghost use Rattle.std.specs.Prelude.{◌≡◌, ◌++◌, OnOk};
+ghost use Rattle.std.specs.Prelude.{◌≡◌, ◌++◌, codes, OnOk};
+ghost use Rattle.std.specs.Fmt.{decimal, signed_decimal};
 ghost use Rattle.streamit_front.specs.Words.{streamit_words};
 
 use river_base::{Bytes, NoMemory};
 use std::alloc::Global;
 use text_forms::Refusal;
 
-/// Why a text is no program.
-#[derive(Clone, Copy, Debug, PartialEq, Eq)]
+/// Why a text is no program. The unit, from 1, is the one in whose reading the fault comes.
+#[derive(Clone, Copy, Debug)]
 pub enum StreamitFault {
     /// The text is not read.
     Text(Refusal),
+    /// A name that is not known where it stands.
+    UnknownName {
+        unit: u32,
+    },
+    /// A name that is known is declared again.
+    NameTwice {
+        unit: u32,
+    },
+    /// Another rate than declared; or the rate of `peek` below the rate of `pop`.
+    Rates {
+        unit: u32,
+        declared: u32,
+        counted: u32,
+    },
+    /// An item that a firing does not look at.
+    PeekRange {
+        unit: u32,
+        index: i64,
+        peek: u32,
+    },
+    /// A bound or an index that is no constant, or a loop's variable that is set.
+    NotConstant {
+        unit: u32,
+    },
+    /// The arms of an `if` pop or push another number of items.
+    BranchRates {
+        unit: u32,
+    },
+    /// A number above its limit.
+    Limit {
+        unit: u32,
+    },
+    /// A weight that is 0, or another number of weights than of branches.
+    Weights {
+        unit: u32,
+    },
     /// There was no memory.
     NoMemory,
 }
@@ -33,7 +70,65 @@ impl StreamitFault {
     {
         match self {
             StreamitFault::Text(refusal) => refusal.put(alloc, to),
+            StreamitFault::UnknownName { unit } => at_unit(alloc, b"UnknownName ", unit, to),
+            StreamitFault::NameTwice { unit } => at_unit(alloc, b"NameTwice ", unit, to),
+            StreamitFault::Rates {
+                unit,
+                declared,
+                counted,
+            } => rates(alloc, unit, declared, counted, to),
+            StreamitFault::PeekRange { unit, index, peek } => {
+                peek_range(alloc, unit, index, peek, to)
+            }
+            StreamitFault::NotConstant { unit } => at_unit(alloc, b"NotConstant ", unit, to),
+            StreamitFault::BranchRates { unit } => at_unit(alloc, b"BranchRates ", unit, to),
+            StreamitFault::Limit { unit } => at_unit(alloc, b"Limit ", unit, to),
+            StreamitFault::Weights { unit } => at_unit(alloc, b"Weights ", unit, to),
             StreamitFault::NoMemory => to.extend(b"NoMemory"),
         }
     }
+}
+
+// Appends a word and a number.
+#[tactic(auto, using(work_code::proofs::Joined::joins))]
+fn at_unit(alloc: Global, word: &[u8], number: u32, to: &mut Bytes) -> Result<(), NoMemory>
+    ensures { OnOk result (to.new ≡ to.old ++ (word.now ++ decimal number)) }
+{
+    to.extend(word)?;
+    let digits = number.to_string(alloc)?;
+    to.extend(digits.as_bytes())
+}
+
+// Appends the unit, and the rates that are declared and counted.
+#[tactic(auto, using(work_code::proofs::Joined::joins))]
+fn rates(
+    alloc: Global,
+    unit: u32,
+    declared: u32,
+    counted: u32,
+    to: &mut Bytes,
+) -> Result<(), NoMemory>
+    ensures { OnOk result (to.new ≡ to.old ++ ((codes "Rates " ++ decimal unit) ++ ((codes " " ++ decimal declared) ++ (codes " " ++ decimal counted)))) }
+{
+    at_unit(alloc, b"Rates ", unit, to)?;
+    at_unit(alloc, b" ", declared, to)?;
+    at_unit(alloc, b" ", counted, to)
+}
+
+// Appends the unit, the index, and the rate of `peek`.
+#[tactic(auto, using(work_code::proofs::Joined::joins))]
+fn peek_range(
+    alloc: Global,
+    unit: u32,
+    index: i64,
+    peek: u32,
+    to: &mut Bytes,
+) -> Result<(), NoMemory>
+    ensures { OnOk result (to.new ≡ to.old ++ ((codes "PeekRange " ++ decimal unit) ++ ((codes " " ++ signed_decimal index) ++ (codes " " ++ decimal peek)))) }
+{
+    at_unit(alloc, b"PeekRange ", unit, to)?;
+    to.push(b' ')?;
+    let digits = index.to_string(alloc)?;
+    to.extend(digits.as_bytes())?;
+    at_unit(alloc, b" ", peek, to)
 }

@@ -1,14 +1,11 @@
-//! StreamIt programs of one filter that pushes the value of an expression for each item.
+//! StreamIt programs: a text becomes its tree and its plan, or tells its first fault.
 #![tactic(auto)]
 
 mod compile;
 mod fault;
-mod item;
 pub mod laws;
 mod program;
-mod reading;
-mod translate;
 
-pub use compile::compile_streamit;
+pub use compile::{compile_streamit, compile_tokens};
 pub use fault::StreamitFault;
 pub use program::StreamitProgram;

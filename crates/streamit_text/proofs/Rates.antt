@@ -2,7 +2,7 @@
 use Rattle.std.proofs.Common.{◌≡◌, ℕ, zero, suc, ◌<◌, ◌+◌, List, [], ◌∷◌, ◌++◌, length, Bool, true, false, cond, Option, Some, None, refl, sym, ap, ◌∙◌, arith, length-append, append_assoc}
 use Rattle.work_code.specs.Tok.{Tok}
 use Rattle.text_forms.specs.Parse as parse
-use Rattle.text_forms.specs.Repeat.{Turn, Stop, after_turn, turns, repeated}
+use Rattle.text_forms.specs.Repeat.{Stop, after_turn, turns, repeated}
 use Rattle.text_forms.proofs.Many.{many-shortens}
 use Rattle.text_forms.proofs.Repeat.{repeated-next, repeated-stop, repeated-fail}
 use Rattle.streamit_unroll.specs.Filter.{names_of, optional, filter_tree}
@@ -61,17 +61,17 @@ rates-bad r ts e bad = ap (λ (o : Option (List Rate × List Tok)). parse.then_r
 pub rates-next : (r q : Rates) (ts us : List Tok) (v : Rate) → at_block ts ≡ false → rate_at ts ≡ Some (v, us) → with_rate r v ≡ Some q → rates_from q us ≡ rates_from r ts
 rates-next r q ts us v e read more =
     sym (ap (λ (o : Option (List Rate × List Tok)). parse.then_read o (λ a ws. parse.given (rates_in r a) ws)) (listed-next ts us v e read) ∙ by (rate_list_at us)) where
-  by : (o : Option (List Rate × List Tok)) → parse.then_read (behind (v ∷ []) o) (λ a ws. parse.given (rates_in r a) ws) ≡ parse.then_read o (λ a ws. parse.given (rates_in q a) ws)
-  by None = refl
-  by (Some all) = ap (λ (m : Option Rates). parse.given (on_some m (λ s. rates_in s all.0)) all.1) more
+      by : (o : Option (List Rate × List Tok)) → parse.then_read (behind (v ∷ []) o) (λ a ws. parse.given (rates_in r a) ws) ≡ parse.then_read o (λ a ws. parse.given (rates_in q a) ws)
+      by None = refl
+      by (Some all) = ap (λ (m : Option Rates). parse.given (on_some m (λ s. rates_in s all.0)) all.1) more
 
 -- a rate that is written twice
 pub rates-twice : (r : Rates) (ts us : List Tok) (v : Rate) → at_block ts ≡ false → rate_at ts ≡ Some (v, us) → with_rate r v ≡ None → rates_from r ts ≡ None
 rates-twice r ts us v e read none =
     ap (λ (o : Option (List Rate × List Tok)). parse.then_read o (λ a ws. parse.given (rates_in r a) ws)) (listed-next ts us v e read) ∙ by (rate_list_at us) where
-  by : (o : Option (List Rate × List Tok)) → parse.then_read (behind (v ∷ []) o) (λ a ws. parse.given (rates_in r a) ws) ≡ None
-  by None = refl
-  by (Some all) = ap (λ (m : Option Rates). parse.given (on_some m (λ s. rates_in s all.0)) all.1) none
+      by : (o : Option (List Rate × List Tok)) → parse.then_read (behind (v ∷ []) o) (λ a ws. parse.given (rates_in r a) ws) ≡ None
+      by None = refl
+      by (Some all) = ap (λ (m : Option Rates). parse.given (on_some m (λ s. rates_in s all.0)) all.1) none
 
 pub rate-shortens : (ts us : List Tok) (v : Rate) → rate_at ts ≡ Some (v, us) → length us < length ts
 rate-shortens ts us v e =

@@ -41,7 +41,10 @@ fn stays(one: &Statement<'_>) -> bool
         Statement::Push(_) | Statement::Pop => false,
         Statement::If { cond, yes, no } => is_still(cond) && stay(yes) && stay(no),
         Statement::For {
-            low, high, body, ..
+            low,
+            high,
+            body,
+            ..
         } => is_still(low) && is_still(high) && stay(body),
     }
 }

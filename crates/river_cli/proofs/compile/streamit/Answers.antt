@@ -1,7 +1,5 @@
-use Rattle.streamit_front.specs.Program.{program_of}
-use Rattle.streamit_front.specs.Reading.{compiled}
 use Rattle.river_cli.proofs.Compiled.{streamit-compiled}
 use Rattle.river_cli.proofs.compile.streamit.Goals as goal
 
 pub returns-in-Ok : goal.returns-in-Ok
-returns-in-Ok c = streamit-compiled (compiled c.args.text.now) (program_of c.in-Ok.field-0-0) c.in-Ok.plan c.in-Ok.ensures.read c.in-Ok.ensures.plan
+returns-in-Ok c = let made = c.in-Ok.ensures.plan in streamit-compiled c.args.text.now made.0 c.in-Ok.plan made.1 made.2
