@@ -22,6 +22,7 @@ use Rattle.cql_model.proofs.Counting.{block_ops}
 use Rattle.cql_model.proofs.Order.{Others, Fit, fit_next, query_source, InputsThere}
 use Rattle.cql_model.proofs.Fitting as one
 use Rattle.cql_model.proofs.Uses.{which}
+use Rattle.river_plan.proofs.ShareLemmas.{each_append}
 use Rattle.cql_model.proofs.Walk.{each-append}
 use Rattle.cql_model.proofs.Widths.{length-names}
 
@@ -116,7 +117,7 @@ module _ (kind : Name → QueueType) (var : Name → VarKind) (inputs all : List
       let ds = one.kinds-append kind var (query_decls all ks q) (ask_decls all (query_named ks q ∷ ks) ps) d in
       let vs = each-append (one.Own kind var) block rest v in
       let many = columns_many scope q.columns in
-      one.each_join (one.Fit kind var) block rest
+      each_append (one.Fit kind var) block rest
       (one.block_fits kind var all ks q srcs a.0 (source_kinds ks past q.items (all_uses ps) s a.0.streams r) (sized_scope ks q.items z a.0.streams) ds.0 t.0 vs.0)
       (asks_fit (query_named ks q ∷ ks) (past ++ streams_of q.items) ps
       ((λ j lt. ap kind (query_source inputs all q.name j o.0) ∙ out_kind q.name (columns_width scope q.columns) (count q.name all) (query_kind ks q ds.0) j lt ∙ ap stream (sym many)), s)
@@ -156,7 +157,7 @@ module _ (kind : Name → QueueType) (var : Name → VarKind) (inputs all : List
   inputs_fit ks [] a d c = tt
   inputs_fit ks (Register name fields ∷ ps) a d c =
       let cs = one.kinds-append kind var (copy_decls name (length fields) (count name all)) (input_copies all ps) c in
-      one.each_join (one.Fit kind var) (copy_ops name (count name all)) (input_ops all ps) (copy_fits name (length fields) (count name all) a.0 d.0 cs.0)
+      each_append (one.Fit kind var) (copy_ops name (count name all)) (input_ops all ps) (copy_fits name (length fields) (count name all) a.0 d.0 cs.0)
       (inputs_fit (record { name = name; fields = fields } ∷ ks) ps a.1 d.1 cs.1)
   inputs_fit ks (Ask q ∷ ps) a d c = inputs_fit (query_named ks q ∷ ks) ps a.1 d c
 

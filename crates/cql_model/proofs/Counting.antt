@@ -13,11 +13,8 @@ use Rattle.cql_model.specs.Scopes.{Named, scope_of, item_named}
 use Rattle.river_kernels.specs.Kern.{streamer}
 use Rattle.river_kernels.specs.Fits.{stream}
 use Rattle.cql_model.specs.Translation.{op, at_word, copies, window_ops, cross_ops, cross_last, select_ops, select_last, project_ops, project_last, out_ops, out_name, tail_ops, item_ops, item_last, w_name, x_name, decls, widths_of, window_decls, cross_decls, item_decls, select_decls, project_decls, out_decls, query_decls, columns_width}
+use Rattle.river_plan.proofs.ValidLaw.{total-append}
 use Rattle.cql_model.proofs.Naming.{Tag, tagged, numbers, From, Of, from_nil, from_more, of_nil, of_one, of_numbers, of_letter}
-
-pub total-append : (f : OpForm → ℕ) (xs ys : List OpForm) → total f (xs ++ ys) ≡ total f xs + total f ys
-total-append f [] ys = omega arith
-total-append f (x ∷ xs) ys = let e = total-append f xs ys in omega (arith, e)
 
 -- names of one stream or query
 abbrev pub among : Name → Name → List Tag → ℕ

@@ -12,7 +12,10 @@ use Rattle.river_plan.specs.Forms.{Name}
 use Rattle.river_plan.specs.Names.{one_if, count}
 use Rattle.river_plan.proofs.NameLemmas.{cases_name}
 use Rattle.cql_model.specs.Accepted.{has_no_at, declared, IsQuery, AreQueries}
-use Rattle.cql_model.specs.Faults.{Fault, UnknownStream, NameTwice, Limit, then_fault, fault_if, is_rows_fault, item_fault, items_fault, chosen_fault, columns_fault, condition_fault, query_fault, fields_fault, stream_fault, numbered_fault, first_fault, IsSpoken, AreSpoken, FaultlessAccepted, has_columns, scalar_fault}
+use Rattle.cql_model.specs.declared.fault.Fault.{Fault}
+use Rattle.cql_model.specs.declared.fault.Fault.TheVariants.{UnknownStream, NameTwice, Limit}
+use Rattle.cql_model.specs.declared.fault.Refusal.{Refusal}
+use Rattle.cql_model.specs.Faults.{then_fault, fault_if, is_rows_fault, item_fault, items_fault, chosen_fault, columns_fault, condition_fault, query_fault, fields_fault, stream_fault, in_unit, first_fault, IsSpoken, AreSpoken, FaultlessAccepted, has_columns, scalar_fault}
 use Rattle.cql_model.specs.Laws.{known_names, AreKnown}
 use Rattle.cql_model.specs.Program.{Source, Column, Columns, Star, Chosen, Query, Register, Ask, Program, streams_of}
 use Rattle.cql_model.specs.Scopes.{Named, item_named, scope_of}
@@ -32,7 +35,7 @@ if_none : (b : Bool) (f : Fault) → fault_if b f ≡ None → b ≡ false
 if_none true f h = absurd (cc h)
 if_none false f h = refl
 
-unit_none : (unit : ℕ) (a : Option Fault) (o : Option (Fault × ℕ)) → numbered_fault unit a o ≡ None → (a ≡ None) × (o ≡ None)
+unit_none : (unit : ℕ) (a : Option Fault) (o : Option Refusal) → in_unit unit a o ≡ None → (a ≡ None) × (o ≡ None)
 unit_none unit None o h = (refl, h)
 unit_none unit (Some f) o h = absurd (cc h)
 

@@ -23,15 +23,12 @@ use Rattle.cql_model.specs.Program.{Scalar, Number, Field, ItemField, Neg, Not, 
 use Rattle.cql_model.specs.Scopes.{Named, scope_of, item_named, fields_of}
 use Rattle.cql_model.specs.Translation.{plus, or_place, place_in, field_place, item_place, at_place, resolved, at_word, copies, w_name, x_name, window_ops, cross_ops, cross_last, select_ops, select_last, terms_of, project_ops, project_last, out_ops, out_name, tail_ops, item_ops, item_last, decls, widths_of, window_decls, cross_decls, item_decls, select_decls, project_decls, columns_width, out_decls, query_decls}
 use Rattle.cql_model.proofs.Counting.{stream_op, project_from, block_ops}
+use Rattle.river_plan.proofs.ShareLemmas.{each_append}
 use Rattle.cql_model.proofs.Walk.{each-append}
 
 pub both : (a b : Bool) → a ≡ true → b ≡ true → a && b ≡ true
 both true b h g = g
 both false b h g = h
-
-pub each_join : (P : OpForm → Type 0) (xs ys : List OpForm) → Each P xs → Each P ys → Each P (xs ++ ys)
-each_join P [] ys a b = b
-each_join P (x ∷ xs) ys a b = (a.0, each_join P xs ys a.1 b)
 
 -- VALUES
 
@@ -177,7 +174,7 @@ module _ (kind : Name → QueueType) (var : Name → VarKind) where
       let ds = kinds-append (window_decls b 1 (scope_of known (i ∷ is))) (cross_decls b n 2 (scope_of known is)) d in
       let os = each-append Own (window_ops b 1 (i ∷ is) srcs) (cross_ops b (w_name b 1) 2 is) o in
       let c = crosses_fit known b (w_name b 1) n 2 is ds.0.0 (narrow n z.0).0 few ds.0.1 ds.1 z.1 os.1 in
-      (each_join Fit (window_ops b 1 (i ∷ is) srcs) (cross_ops b (w_name b 1) 2 is) (windows_fit known b 1 (i ∷ is) srcs s ds.0 z w os.0) c.0, c.1)
+      (each_append Fit (window_ops b 1 (i ∷ is) srcs) (cross_ops b (w_name b 1) 2 is) (windows_fit known b 1 (i ∷ is) srcs s ds.0 z w os.0) c.0, c.1)
 
   select_fits : (b : Name) (scope : List Named) (last : Name) (o : Option Scalar) → kind last ≡ relation (widths_of scope) → is_width (widths_of scope) ≡ true → IsShallow o → AreKinds (select_decls b (widths_of scope) o)
       → Each Fit (select_ops b scope last o) × (kind (select_last b last o) ≡ relation (widths_of scope))
@@ -264,7 +261,7 @@ module _ (kind : Name → QueueType) (var : Name → VarKind) where
       let se = select_fits b scope last q.condition is.1 n a.condition d2.0 in
       let pr = project_fits b scope from q.columns se.1 n a.columns a.values d3.0 in
       let out = out_fits b width u a.columns k d3.1 in
-      each_join Fit io (tail_ops q scope u last) is.0
-      (each_join Fit so (po ++ (st ∷ out_ops b u)) se.0
-      (each_join Fit po (st ∷ out_ops b u) pr.0
+      each_append Fit io (tail_ops q scope u last) is.0
+      (each_append Fit so (po ++ (st ∷ out_ops b u)) se.0
+      (each_append Fit po (st ∷ out_ops b u) pr.0
       ((width, ap (λ (x : QueueType). x ∷ []) pr.1, ap (λ (x : QueueType). x ∷ []) out.1, ap (λ (x : VarKind). x ∷ []) (o3.1.0 (at_word b (codes "i")) (count_first (at_word b (codes "i")) [])), a.columns), out.0)))

@@ -14,7 +14,8 @@ use Rattle.cql_model.specs.Streams.{Rises}
 use Rattle.cql_model.specs.Translation.{query_named}
 use Rattle.cql_model.proofs.Instants.{AllAbove}
 use Rattle.cql_model.proofs.Means.{translation_means}
-use Rattle.cql_model.proofs.Valid.{asked, declared_split, plans_are_valid}
+use Rattle.cql_model.proofs.Valid.{asked, declared_split}
+use Rattle.cql_model.proofs.OnlyLimits.{plans_are_valid}
 
 -- INSTANTS
 

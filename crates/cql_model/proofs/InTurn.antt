@@ -253,12 +253,11 @@ plans_in_turn p a small =
     let k = plans_keep p a small in
     let are = outputs_are [] p in
     let good : AreKept (other outs) p = all_kept outs p (subst Plain (sym are) (plain_asked p a.names)) a.names (λ z lt. subst (λ l. 0 < count z l) (sym are) lt) in
-    let io = input_ops all p in let ao = ask_ops ins all [] [] p in
-    (
+    let io = input_ops all p in let ao = ask_ops ins all [] [] p in (
       first_named outs (outs ++ inputs) (λ z. count z inputs) (ops_of p) k.in_order
-      (λ z lt. let c = count-append z outs inputs in omega (arith, c, lt))
-      (λ z lt. let c = count-append z outs inputs in omega (arith, c, lt))
-      (λ z n. let c = count-append z outs inputs in let w = k.written_once z in omega (arith, c, n, w))
-      ∙ ap (λ l. (outs ++ inputs) ++ l) (join (other outs) io ao (input_copies all p) (ask_decls all [] p) (inputs_kept (other outs) all p good) (asks_kept (other outs) ins all [] [] p good)),
+          (λ z lt. let c = count-append z outs inputs in omega (arith, c, lt))
+          (λ z lt. let c = count-append z outs inputs in omega (arith, c, lt))
+          (λ z n. let c = count-append z outs inputs in let w = k.written_once z in omega (arith, c, n, w))
+          ∙ ap (λ l. (outs ++ inputs) ++ l) (join (other outs) io ao (input_copies all p) (ask_decls all [] p) (inputs_kept (other outs) all p good) (asks_kept (other outs) ins all [] [] p good)),
       all_new [] (all_vars (ops_of p)) (λ v. ⊎_elim (λ lt. let o = k.private_once v lt in let t = total-vars v (ops_of p) in omega (arith, o, t)) (λ z. omega (arith, z)) (more_or_zero (count v (all_vars (ops_of p))))),
     )

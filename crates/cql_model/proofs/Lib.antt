@@ -22,4 +22,5 @@ pub mod Front
 pub mod Kernels
 pub mod Fit
 pub mod Faultless
+pub mod Unrefused
 pub mod InTurn

@@ -1,7 +1,9 @@
--- Of the plan of an accepted program no fault but a limit is told. The lemmas on searches are those of `river_plan` (`ValidLaw`, `OneFirst`), which are private there.
-use Rattle.std.proofs.Common.{◌≡◌, ℕ, ◌+◌, ◌<◌, ◌≤◌, List, [], ◌∷◌, ◌++◌, Option, Some, None, refl, subst, arith, ⊎_elim}
-use Rattle.std.specs.Prelude.{All}
-use Rattle.std.proofs.lemmas.List.Elements.{All-head, All-tail}
+-- Of the plan of an accepted program no fault is told but that it exceeds a limit.
+use Rattle.std.proofs.Common.{◌≡◌, ℕ, ◌+◌, ◌<◌, ◌≤◌, List, [], ◌∷◌, ◌++◌, Option, Some, None, Bool, true, false, refl, ap, ◌∙◌, subst, arith, length, ⊎_elim}
+use Rattle.std.specs.Prelude.{All, nat_lt, ◌||◌}
+use Rattle.std.specs.List.{list_any, AllByRecursion}
+use Rattle.std.specs.Option.{is_some}
+use Rattle.std.proofs.lemmas.List.Elements.{All-head, All-tail, All-cons, All-nil}
 use Rattle.river_plan.specs.declared.fault.PlanFault.{PlanFault}
 use Rattle.river_plan.specs.declared.fault.PlanFault.TheVariants.{P1, P2, P3, P4, P5, P6, P7, P9}
 use Rattle.river_plan.specs.declared.fault.Named.TheVariants.{Queue, Variable, Label}
@@ -9,16 +11,18 @@ use Rattle.river_plan.specs.Faults.{IsNew, IsWritten, IsOuter, HasWidth, IsTable
 use Rattle.river_plan.specs.First.{OrElse, As, Unless, Along, IsFirst}
 use Rattle.river_plan.specs.Forms.{Name, OpForm, PlanForm, decl_names, queue_names, variable_names, labels}
 use Rattle.river_plan.specs.Kinds.{IsFit}
-use Rattle.river_plan.specs.Limits.{OverLimitAt, limits}
+use Rattle.river_kernels.specs.declared.limit.Limit.{Limit}
+use Rattle.river_kernels.specs.declared.limit.Limit.TheVariants.{Inputs, Operators, Queues, Variables, Ports, Statements, Slots, Rates, Weights, Nesting, Latest, Best}
+use Rattle.river_plan.specs.Limits.{OverLimitAt, limits, most_of, numbers}
 use Rattle.river_plan.specs.Names.{count, IsUsedOnce}
 use Rattle.river_plan.specs.Uses.{Each, total, writes_it, reads_it, vars_it, ReadsBefore}
-use Rattle.river_plan.specs.Valid.{FirstFault}
+use Rattle.river_plan.specs.Valid.{IsPlan, FirstFault}
 use Rattle.river_plan.proofs.NameLemmas.{one_same}
-use Rattle.river_plan.proofs.ValidLaw.{once-names, total-labels}
-use Rattle.cql_model.specs.Accepted.{KeepsRules, IsLimit, OnlyLimits}
-use Rattle.cql_model.specs.Translation.{plan_of}
-use Rattle.cql_model.proofs.Counting.{total-append}
-use Rattle.cql_model.proofs.Valid.{plans_keep}
+use Rattle.river_plan.proofs.ValidLaw.{once-names, total-labels, all-along, each-along, names-along, all-declared, reads-order, every-each, no_fault-valid, valid-no_fault}
+use Rattle.river_plan.proofs.OneFirst.{fault-one}
+use Rattle.cql_model.specs.Accepted.{KeepsRules, IsLimit, exceeds, OnlyLimits, PlansAreValid}
+use Rattle.cql_model.specs.Translation.{ops_of, plan_of}
+use Rattle.cql_model.proofs.Valid.{few_uses, plans_keep}
 
 -- A SEARCH THAT FINDS NOTHING FINDS NOTHING ELSE
 
@@ -48,43 +52,6 @@ each-empty s before (y ∷ ys) e h (Some b) k = ⊎_elim (λ x. e before y h.0 (
 
 first : {A B : Type 0} (f : A → B) (good : List A → A → Type 0) (xs : List A) → IsFirst good xs None → Empty (As f (IsFirst good xs))
 first f good xs h = as-empty f (IsFirst good xs) (along-empty good [] xs h)
-
--- WHAT HOLDS OF EACH
-
-all-along : {A : Type 0} (P : A → Type 0) (before xs : List A) → All P xs → Along (λ b y. Unless (P y) y) before xs None
-all-along P before [] h = tt
-all-along P before (x ∷ xs) h = (All-head P x xs h, all-along P (before ++ x ∷ []) xs (All-tail P x xs h))
-
-each-along : (P : OpForm → Type 0) (before ops : List OpForm) → Each P ops → Along (λ b y. Unless (P y) y) before ops None
-each-along P before [] h = tt
-each-along P before (op ∷ ops) h = (h.0, each-along P (before ++ op ∷ []) ops h.1)
-
-names-along : (P : Name → Type 0) (before xs : List Name) → ((q : Name) → 0 < count q xs → P q) → Along (λ b y. Unless (P y) y) before xs None
-names-along P before [] h = tt
-names-along P before (x ∷ xs) h = (h x (let s = one_same x in omega (arith, s)), names-along P (before ++ x ∷ []) xs (λ q lt. h q (omega (arith, lt))))
-
-all-declared : (queues variables : List Name) (before ops : List OpForm)
-    → ((q : Name) → 0 < total (reads_it q) ops → 0 < count q queues) → ((q : Name) → 0 < total (writes_it q) ops → 0 < count q queues) → ((v : Name) → 0 < total (vars_it v) ops → 0 < count v variables)
-    → Along (λ b op. UndeclaredAt queues variables op) before ops None
-all-declared queues variables before [] r w v = tt
-all-declared queues variables before (op ∷ ops) r w v = (
-  (
-    names-along (λ x. 0 < count x queues) [] op.reads (λ q lt. r q (omega (arith, lt))),
-    (names-along (λ x. 0 < count x queues) [] op.writes (λ q lt. w q (omega (arith, lt))), names-along (λ x. 0 < count x variables) [] op.vars (λ q lt. v q (omega (arith, lt)))),
-  ),
-  all-declared queues variables (before ++ op ∷ []) ops (λ q lt. r q (omega (arith, lt))) (λ q lt. w q (omega (arith, lt))) (λ q lt. v q (omega (arith, lt))),
-)
-
-reads-order : (inputs : List Name) (k : Name → ℕ) (before ops : List OpForm) → ((q : Name) → k q ≡ count q inputs + total (writes_it q) before) → ReadsBefore k ops → Along (ReadTooEarlyAt inputs) before ops None
-reads-order inputs k before [] e h = tt
-reads-order inputs k before (op ∷ ops) e h = (
-  names-along (λ r. IsWritten inputs before r) [] op.reads (λ q lt. let a = h.0 q lt in let b = e q in omega (arith, a, b)),
-  reads-order inputs (λ q. k q + count q op.writes) (before ++ op ∷ []) ops (λ q. let b = e q in let a = total-append (writes_it q) before (op ∷ []) in omega (arith, a, b)) h.1,
-)
-
-every-each : (ops : List OpForm) → Each (λ op. (v : Name) → vars_it v op ≤ 1) ops → (v : Name) → Each (λ op. vars_it v op ≤ 1) ops
-every-each [] h v = tt
-every-each (op ∷ ops) h v = (h.0 v, every-each ops h.1 v)
 
 -- NO FAULT BUT A LIMIT
 
@@ -142,5 +109,102 @@ module _ (p : PlanForm) (v : KeepsRules p) where
       ⊎_elim (λ x. over_is [] limits f x) (λ h8. absurd (none P9 (Shared p) no_shared f h8.1))
       h7.1) h6.1) h5.1) h4.1) h3.1) h2.1) h1.1) h
 
+-- LIMITS THAT ARE EXCEEDED
+
+any_none : {A : Type 0} (p : A → Bool) (xs : List A) → list_any p xs ≡ false → AllByRecursion (λ x. p x ≡ false) xs
+any_none p [] h = tt
+any_none p (x ∷ xs) h = step (p x) refl h (any_none p xs) where
+  step : (b : Bool) → p x ≡ b → b || list_any p xs ≡ false → (list_any p xs ≡ false → AllByRecursion (λ y. p y ≡ false) xs)
+      → (p x ≡ false) × AllByRecursion (λ y. p y ≡ false) xs
+  step true e g more = absurd (cc g)
+  step false e g more = (e, more g)
+
+none_any : {A : Type 0} (p : A → Bool) (xs : List A) → AllByRecursion (λ x. p x ≡ false) xs → list_any p xs ≡ false
+none_any p [] h = refl
+none_any p (x ∷ xs) h = ap (λ b. b || list_any p xs) h.0 ∙ none_any p xs h.1
+
+-- a condition on all limits is one on each
+at_limit : (P : Limit → Type 0) → AllByRecursion P limits → (l : Limit) → P l
+at_limit P h Inputs = h.0
+at_limit P h Operators = h.1.0
+at_limit P h Queues = h.1.1.0
+at_limit P h Variables = h.1.1.1.0
+at_limit P h Ports = h.1.1.1.1.0
+at_limit P h Statements = h.1.1.1.1.1.0
+at_limit P h Slots = h.1.1.1.1.1.1.0
+at_limit P h Rates = h.1.1.1.1.1.1.1.0
+at_limit P h Weights = h.1.1.1.1.1.1.1.1.0
+at_limit P h Nesting = h.1.1.1.1.1.1.1.1.1.0
+at_limit P h Latest = h.1.1.1.1.1.1.1.1.1.1.0
+at_limit P h Best = h.1.1.1.1.1.1.1.1.1.1.1.0
+
+each_limit : (P : Limit → Type 0) → ((l : Limit) → P l) → (ls : List Limit) → AllByRecursion P ls
+each_limit P h [] = tt
+each_limit P h (l ∷ ls) = (h l, each_limit P h ls)
+
+abbrev Within : PlanForm → Type 0
+Within p = (l : Limit) → All (λ n. n ≤ most_of l) (numbers l p)
+
+all_low : (m : ℕ) (ns : List ℕ) → AllByRecursion (λ n. nat_lt m n ≡ false) ns → All (λ n. n ≤ m) ns
+all_low m [] h = All-nil (λ n. n ≤ m)
+all_low m (n ∷ ns) h = All-cons (λ n. n ≤ m) n ns (low m n h.0) (all_low m ns h.1) where
+  low : (m n : ℕ) → nat_lt m n ≡ false → n ≤ m
+  low m n e = grind (arith, e)
+
+low_all : (m : ℕ) (ns : List ℕ) → All (λ n. n ≤ m) ns → AllByRecursion (λ n. nat_lt m n ≡ false) ns
+low_all m [] h = tt
+low_all m (n ∷ ns) h = (low m n (All-head (λ n. n ≤ m) n ns h), low_all m ns (All-tail (λ n. n ≤ m) n ns h)) where
+  low : (m n : ℕ) → n ≤ m → nat_lt m n ≡ false
+  low m n e = grind (arith, e)
+
+abbrev is_over : PlanForm → Limit → Bool
+is_over p l = list_any (nat_lt (most_of l)) (numbers l p)
+
+-- a plan that exceeds no limit is within them, and back
+pub within_where : (p : PlanForm) → exceeds p ≡ false → Within p
+within_where p h l =
+    all_low (most_of l) (numbers l p)
+    (any_none (nat_lt (most_of l)) (numbers l p) (at_limit (λ k. is_over p k ≡ false) (any_none (is_over p) limits h) l))
+
+pub where_within : (p : PlanForm) → Within p → exceeds p ≡ false
+where_within p h =
+    none_any (is_over p) limits (each_limit (λ k. is_over p k ≡ false) (λ l. none_any (nat_lt (most_of l)) (numbers l p) (low_all (most_of l) (numbers l p) (h l))) limits)
+
+-- ACCEPTED PROGRAMS
+
+-- the rules and the limits are all that is asked of a plan
+pub valid_within : (p : PlanForm) → KeepsRules p → Within p → IsPlan p
+valid_within p k within = record {
+  queues_once = k.queues_once;
+  variables_once = k.variables_once;
+  labels_once = k.labels_once;
+  reads_declared = k.reads_declared;
+  writes_declared = k.writes_declared;
+  vars_declared = k.vars_declared;
+  written_once = k.written_once;
+  read_once = k.read_once;
+  in_order = k.in_order;
+  outputs_typed = k.outputs_typed;
+  inputs_typed = k.inputs_typed;
+  queues_typed = k.queues_typed;
+  tables_typed = k.tables_typed;
+  fits = k.fits;
+  within = within;
+  vars_apart = k.vars_apart;
+  private_once = k.private_once;
+}
+
+told_where : (p : PlanForm) (o : Option PlanFault) → KeepsRules p → FirstFault p o → exceeds p ≡ is_some o
+told_where p None k h = where_within p (no_fault-valid p h).within
+told_where p (Some f) k h = step (exceeds p) refl where
+  step : (b : Bool) → exceeds p ≡ b → b ≡ true
+  step true e = refl
+  step false e = some_none f (fault-one p (Some f) None h (valid-no_fault p (valid_within p k (within_where p e))))
+
 pub only_limits : OnlyLimits
-only_limits p o a small h = only_limit (plan_of p) (plans_keep p a small) o h
+only_limits p o a small h = let k = plans_keep p a small in (only_limit (plan_of p) k o h, told_where (plan_of p) o k h)
+
+pub plans_are_valid : PlansAreValid
+plans_are_valid p a within =
+    let few = few_uses p (All-head (λ (n : ℕ). n ≤ 256) (length (ops_of p)) [] (within Operators)) in
+    valid_within (plan_of p) (plans_keep p a (λ n. let f = few n in omega (arith, f))) within

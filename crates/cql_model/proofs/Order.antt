@@ -12,7 +12,8 @@ use Rattle.cql_model.specs.Laws.{known_names, AreKnown}
 use Rattle.cql_model.specs.Program.{Scalar, Source, Columns, Star, Chosen, Query, Register, Ask, Program, streams_of, all_uses}
 use Rattle.cql_model.specs.Scopes.{Named, scope_of}
 use Rattle.cql_model.specs.Translation.{op, at_word, copies, copy_name, source_at, sources, w_name, x_name, window_ops, cross_ops, cross_last, select_ops, select_last, project_ops, project_last, out_ops, out_name, tail_ops, item_ops, item_last, query_named, ask_ops, copy_ops, input_ops}
-use Rattle.cql_model.proofs.Counting.{total-append, stream_op, project_from, block_ops}
+use Rattle.river_plan.proofs.ValidLaw.{total-append}
+use Rattle.cql_model.proofs.Counting.{stream_op, project_from, block_ops}
 use Rattle.cql_model.proofs.Sums.{as_many}
 use Rattle.cql_model.proofs.Uses.{which}
 

@@ -12,7 +12,8 @@ use Rattle.cql_model.specs.Program.{Source, Query, Part, Register, Ask, Program,
 use Rattle.cql_model.specs.Scopes.{Named, scope_of}
 use Rattle.cql_model.specs.Translation.{source_at, sources, query_ops, query_named, ask_ops, copy_ops, input_ops, query_decls, ask_decls, copy_decls, input_copies, input_decls, output_decls, copies}
 use Rattle.cql_model.proofs.Naming.{split, Tag, tags, numbers, From, Of, from_nil, from_more, of_one, of_numbers, own_once}
-use Rattle.cql_model.proofs.Counting.{total-append, among, among-append, word, query_tags, inner_tags, var_tags, label_tags, copies_are, block_writes, block_reads, block_vars, block_labels, block_decls, query_from, inner_from, vars_from, labels_from, names-append, names_decls, few}
+use Rattle.river_plan.proofs.ValidLaw.{total-append}
+use Rattle.cql_model.proofs.Counting.{among, among-append, word, query_tags, inner_tags, var_tags, label_tags, copies_are, block_writes, block_reads, block_vars, block_labels, block_decls, query_from, inner_from, vars_from, labels_from, names-append, names_decls, few}
 
 -- THE TAGS OF A PART
 

@@ -19,17 +19,19 @@ use Rattle.river_plan.specs.Names.{one_if, count}
 use Rattle.river_plan.specs.Uses.{Each, total, writes_it, reads_it, vars_it, named_it, all_vars, ReadsBefore}
 use Rattle.river_plan.proofs.NameLemmas.{cases_name, name_same, count-append, one_same, more_or_zero}
 use Rattle.river_plan.proofs.ShareLemmas.{total-vars}
-use Rattle.cql_model.specs.Accepted.{has_no_at, declared, IsQuery, AreQueries, PlansAreValid, PlansKeep}
+use Rattle.cql_model.specs.Accepted.{has_no_at, declared, IsQuery, AreQueries, PlansKeep}
 use Rattle.cql_model.specs.Laws.{known_names, AreKnown}
 use Rattle.cql_model.specs.Program.{Scalar, Source, Columns, Star, Chosen, Query, Register, Ask, Program, registered, streams_of, all_uses}
 use Rattle.cql_model.specs.Scopes.{Named, scope_of, item_named}
 use Rattle.cql_model.specs.Translation.{at_word, copies, sources, window_ops, cross_ops, tail_ops, item_ops, item_last, query_ops, query_named, ask_ops, input_ops, ops_of, w_name, decl, decls, widths_of, columns_width, window_decls, cross_decls, item_decls, select_decls, project_decls, out_decls, query_decls, ask_decls, copy_decls, input_copies, input_decls, output_decls, plan_of}
-use Rattle.cql_model.proofs.Counting.{total-append, names-append}
+use Rattle.river_plan.proofs.ValidLaw.{total-append}
+use Rattle.cql_model.proofs.Counting.{names-append}
 use Rattle.cql_model.proofs.Sums.{sums, sums_once, queues_of, vars_of, labels_of, taken_of, queues_once, vars_once, labels_once, taken_once, FewItems, all_writes, all_vars_sum, all_labels, all_decls_sum, all_reads, inputs_declared, as_many}
 use Rattle.cql_model.proofs.Uses.{Room, Apart, read_once, hit, hit_apart}
 use Rattle.cql_model.proofs.Order.{InputsKnown, InputsThere, Others, asks_in_order, inputs_in_order, inputs_serve, reads_append, behind, reads_there}
 use Rattle.cql_model.proofs.Fitting as one
 use Rattle.cql_model.proofs.AllFit.{asks_fit, inputs_fit, input_kinds, sized_scope, columns_many}
+use Rattle.river_plan.proofs.ShareLemmas.{each_append}
 use Rattle.cql_model.proofs.Walk.{each-append}
 
 -- FROM WHAT IS ACCEPTED
@@ -309,7 +311,7 @@ plans_keep p a small =
     ap (λ o. unwrap_or o (Table 0)) (private_found (all_vars (ops_of p)) v (let t = total-vars v (ops_of p) in omega (arith, t, lt))) in
     let own = own_from kind var (ops_of p) found in
     let owns = each-append (one.Own kind var) io ao own in
-    let fit = one.each_join (one.Fit kind var) io ao (inputs_fit kind var ins all [] p a.queries k2.0 k3.0)
+    let fit = each_append (one.Fit kind var) io ao (inputs_fit kind var ins all [] p a.queries k2.0 k3.0)
     (asks_fit kind var ins all [] [] p tt tt (input_kinds kind var ins all p there k2.0 k3.0) a.queries others room k3.1 k1.0 owns.1) in
     record {
       queues_once = λ q. let e = names_are q in let o = queues q in omega (arith, e, o);
@@ -328,28 +330,4 @@ plans_keep p a small =
       fits = fit;
       vars_apart = single_from (ops_of p) vars;
       private_once = λ v lt. vars v;
-    }
-
-pub plans_are_valid : PlansAreValid
-plans_are_valid p a within =
-    let few = few_uses p (All-head (λ (n : ℕ). n ≤ 256) (length (ops_of p)) [] (within limit.Operators)) in
-    let k = plans_keep p a (λ n. let f = few n in omega (arith, f)) in
-    record {
-      queues_once = k.queues_once;
-      variables_once = k.variables_once;
-      labels_once = k.labels_once;
-      reads_declared = k.reads_declared;
-      writes_declared = k.writes_declared;
-      vars_declared = k.vars_declared;
-      written_once = k.written_once;
-      read_once = k.read_once;
-      in_order = k.in_order;
-      outputs_typed = k.outputs_typed;
-      inputs_typed = k.inputs_typed;
-      queues_typed = k.queues_typed;
-      tables_typed = k.tables_typed;
-      fits = k.fits;
-      within = within;
-      vars_apart = k.vars_apart;
-      private_once = k.private_once;
     }

@@ -6,6 +6,7 @@ use Rattle.river_base.specs.Row.{in_order}
 use Rattle.river_kernels.specs.Kern.{Kern, window, select, project, streamer, duplicate}
 use Rattle.river_plan.specs.Forms.{Name, OpForm}
 use Rattle.river_plan.specs.Uses.{Each}
+use Rattle.river_plan.proofs.ShareLemmas.{each_front, each_back}
 use Rattle.brooklet_model.specs.Firings.{Fired, feed}
 use Rattle.brooklet_model.specs.Fire.{fire, first_kept, ins}
 use Rattle.brooklet_model.specs.Histories.{History, lists_of, Lists, Solves}
@@ -24,8 +25,7 @@ use Rattle.cql_model.proofs.Widths.{AllWide, tuples_fit}
 use Rattle.cql_model.proofs.Windows.{window_fed}
 
 pub each-append : (P : OpForm → Type 0) (xs ys : List OpForm) → Each P (xs ++ ys) → Each P xs × Each P ys
-each-append P [] ys h = (tt, h)
-each-append P (x ∷ xs) ys h = let m = each-append P xs ys h.1 in ((h.0, m.0), m.1)
+each-append P xs ys h = (each_front P xs ys h, each_back P xs ys h)
 
 -- what a kernel of one input gives
 one_solved : (k : Kern) (h : History) (r : Name) (q : ℕ) → ins k ≡ 1 → (feed_all k (lists_of h (r ∷ [])) (first_kept k)).outs q ≡ (feed (fire k 0) (h r) (first_kept k)).outs q

@@ -1,6 +1,7 @@
 -- Which programs the front accepts, as far as their plans need it.
-use Rattle.std.specs.Prelude.{All, ℕ, suc, ◌<◌, ◌≤◌, Bool, not, nat_eq, List, [], ◌∷◌, length, max, Option, Some, None, IsTrue, ◌+◌}
-use Rattle.std.specs.List.{list_all, AllByRecursion}
+use Rattle.std.specs.Prelude.{All, ℕ, suc, ◌<◌, ◌≤◌, Bool, not, nat_eq, nat_lt, ◌≡◌, List, [], ◌∷◌, length, max, Option, Some, None, IsTrue, ◌+◌}
+use Rattle.std.specs.List.{list_all, list_any, AllByRecursion}
+use Rattle.std.specs.Option.{is_some}
 use Rattle.river_kernels.specs.Formed.{is_width, is_window}
 use Rattle.river_plan.specs.Forms.{Name, PlanForm, decl_names, queue_names, variable_names}
 use Rattle.river_plan.specs.Names.{count}
@@ -8,7 +9,7 @@ use Rattle.cql_model.specs.Laws.{AreKnown}
 use Rattle.cql_model.specs.Program.{Scalar, Number, Field, ItemField, Neg, Not, Bin, Columns, Star, Chosen, Query, Register, Ask, Program, streams_of, all_uses}
 use Rattle.cql_model.specs.Scopes.{Named, scope_of}
 use Rattle.river_kernels.specs.declared.limit.Limit.{Limit}
-use Rattle.river_plan.specs.Limits.{most_of, numbers}
+use Rattle.river_plan.specs.Limits.{most_of, limits, numbers}
 use Rattle.river_plan.specs.Valid.{IsPlan, FirstFault}
 use Rattle.river_plan.specs.declared.fault.PlanFault.{PlanFault}
 use Rattle.river_plan.specs.declared.fault.PlanFault.TheVariants.{P1, P2, P3, P4, P5, P6, P7, P8, P9, NoMemory}
@@ -104,5 +105,12 @@ IsLimit (Some (P8 l n)) = Unit {0}
 IsLimit (Some (P9 n)) = ⊥
 IsLimit (Some NoMemory) = ⊥
 
+-- a number of the plan is above its limit
+abbrev pub exceeds : PlanForm → Bool
+exceeds plan = list_any (λ l. list_any (λ n. nat_lt (most_of l) n) (numbers l plan)) limits
+
+-- a fault is told of it exactly where it exceeds a limit
 abbrev pub OnlyLimits : Type 0
-OnlyLimits = (p : Program) (o : Option PlanFault) → IsAccepted p → ((n : Name) → count n (all_uses p) ≤ 1000000000000) → FirstFault (plan_of p) o → IsLimit o
+OnlyLimits =
+    (p : Program) (o : Option PlanFault) → IsAccepted p → ((n : Name) → count n (all_uses p) ≤ 1000000000000) → FirstFault (plan_of p) o
+    → IsLimit o × (exceeds (plan_of p) ≡ is_some o)

@@ -1,22 +1,21 @@
--- Why a program is refused: the first fault in reading order, and the unit where it is.
-use Rattle.std.specs.Prelude.{◌<◌, IsTrue, ◌≡◌, ℕ, zero, suc, ◌+◌, Bool, true, false, ◌||◌, nat_lt, nat_eq, List, [], ◌∷◌, ◌++◌, length, Option, Some, None, if◌then◌else◌}
+-- Why a program is refused: the first fault in reading order, and the unit in which it stands.
+use Rattle.std.specs.Prelude.{◌<◌, IsTrue, ◌≡◌, ℕ, ℤ, zero, suc, ◌+◌, Bool, true, false, ◌||◌, nat_lt, nat_eq, List, [], ◌∷◌, ◌++◌, length, Option, Some, None, if◌then◌else◌}
 use Rattle.river_base.specs.Name.{name_eq}
 use Rattle.kern_bags.specs.declared.kernel.Window.{Window}
 use Rattle.kern_bags.specs.declared.kernel.Window.TheVariants.{Now, Range, Unbounded, Latest}
 use Rattle.river_plan.specs.Forms.{Name}
 use Rattle.river_plan.specs.Names.{count}
-use Rattle.cql_model.specs.Accepted.{has_no_at, AreShallow, IsShallow, IsAccepted}
-use Rattle.cql_model.specs.Laws.{known_names}
+use Rattle.river_plan.specs.Valid.{IsPlan}
+use Rattle.brooklet_model.specs.Meaning.{meaning}
+use Rattle.cql_model.specs.declared.fault.Fault.{Fault}
+use Rattle.cql_model.specs.declared.fault.Fault.TheVariants.{UnknownStream, UnknownField, AmbiguousField, NameTwice, Limit}
+use Rattle.cql_model.specs.declared.fault.Refusal.{Refusal}
+use Rattle.cql_model.specs.Accepted.{has_no_at, AreShallow, IsShallow, IsAccepted, exceeds}
+use Rattle.cql_model.specs.Instants.{program_means, inputs_for}
+use Rattle.cql_model.specs.Laws.{known_names, AreFiles}
 use Rattle.cql_model.specs.Program.{Scalar, Number, Field, ItemField, Neg, Not, Bin, Source, Column, Columns, Star, Chosen, Query, Register, Ask, Program}
 use Rattle.cql_model.specs.Scopes.{Named, item_named, scope_of}
-use Rattle.cql_model.specs.Translation.{widths_of, query_named}
-
-pub data Fault : Type 0 where
-  UnknownStream : Fault
-  UnknownField : Fault
-  AmbiguousField : Fault
-  NameTwice : Fault
-  Limit : Fault
+use Rattle.cql_model.specs.Translation.{widths_of, query_named, plan_of}
 
 -- the first fault, or the second
 abbrev pub then_fault : Option Fault → Option Fault → Option Fault
@@ -101,16 +100,25 @@ abbrev pub stream_fault : List Named → ℕ → Name → List Name → Option F
 stream_fault known many name fields =
     then_fault (fault_if (nat_lt 0 (count name (known_names known))) NameTwice) (then_fault (fault_if (nat_lt 7 many) Limit) (fields_fault [] fields))
 
--- unit by unit; `many` streams are registered before
-abbrev pub numbered_fault : ℕ → Option Fault → Option (Fault × ℕ) → Option (Fault × ℕ)
-numbered_fault unit None o = o
-numbered_fault unit (Some f) o = Some (f, unit)
+-- the fault of this unit, where it has one, or that of those behind it
+abbrev pub in_unit : ℕ → Option Fault → Option Refusal → Option Refusal
+in_unit unit None rest = rest
+in_unit unit (Some f) rest = Some (record { unit = unit; fault = f })
 
-abbrev pub first_fault : List Named → ℕ → ℕ → Program → Option (Fault × ℕ)
+-- unit by unit; `many` streams are registered before
+abbrev pub first_fault : List Named → ℕ → ℕ → Program → Option Refusal
 first_fault known many unit [] = None
 first_fault known many unit (Register name fields ∷ ps) =
-    numbered_fault unit (stream_fault known many name fields) (first_fault (record { name = name; fields = fields } ∷ known) (many + 1) (unit + 1) ps)
-first_fault known many unit (Ask q ∷ ps) = numbered_fault unit (query_fault known q) (first_fault (query_named known q ∷ known) many (unit + 1) ps)
+    in_unit unit (stream_fault known many name fields) (first_fault (record { name = name; fields = fields } ∷ known) (many + 1) (unit + 1) ps)
+first_fault known many unit (Ask q ∷ ps) = in_unit unit (query_fault known q) (first_fault (query_named known q ∷ known) many (unit + 1) ps)
+
+abbrev pub or_refused : Option Refusal → Option Refusal → Option Refusal
+or_refused None o = o
+or_refused (Some r) o = Some r
+
+-- why a program is refused: the first fault of its units; where they have none, the limits of plans, which are told at the last unit
+abbrev pub refusal_of : Program → Option Refusal
+refusal_of p = or_refused (first_fault [] 0 1 p) (if exceeds (plan_of p) then Some (record { unit = length p; fault = Limit }) else None)
 
 -- WHAT THE GRAMMAR GIVES: names without `@`, lists that are not empty, values that are not too deep
 
@@ -132,3 +140,13 @@ AreSpoken (Ask q ∷ ps) = IsTrue (has_no_at q.name) × IsSpoken q × AreSpoken 
 -- a program without a fault is accepted
 abbrev pub FaultlessAccepted : Type 0
 FaultlessAccepted = (p : Program) → AreSpoken p → first_fault [] 0 1 p ≡ None → IsAccepted p
+
+-- the plan of a program that is not refused is valid
+abbrev pub UnrefusedAreValid : Type 0
+UnrefusedAreValid = (p : Program) → AreSpoken p → refusal_of p ≡ None → IsPlan (plan_of p)
+
+-- and means what the program means
+abbrev pub UnrefusedMean : Type 0
+UnrefusedMean =
+    (p : Program) (files : List (List (ℤ × List ℤ))) → AreSpoken p → refusal_of p ≡ None → AreFiles p files
+    → meaning (plan_of p) (inputs_for files) ≡ record { outs = program_means p files; tables = [] }

@@ -1,6 +1,6 @@
 //! Laws over the definitions alone.
 ghost use Rattle.cql_model.specs.Accepted.{PlansAreValid, PlansKeep, OnlyLimits};
-ghost use Rattle.cql_model.specs.Faults.{FaultlessAccepted};
+ghost use Rattle.cql_model.specs.Faults.{FaultlessAccepted, UnrefusedAreValid, UnrefusedMean};
 ghost use Rattle.cql_model.specs.Fit.{FilesFit};
 ghost use Rattle.cql_model.specs.Instants.{InstantsRise, InstantsAreStamps, PlansMean};
 ghost use Rattle.cql_model.specs.InTurn.{PlansInTurn};
@@ -28,8 +28,8 @@ pub fn faultless_are_accepted()
     ensures { FaultlessAccepted }
 {}
 
-/// The plan of an accepted program keeps the rules of plans, whatever its size, and so is valid where it keeps their limits. No
-/// other fault than a limit is ever told of it.
+/// The plan of an accepted program keeps the rules of plans, whatever its size, and so is valid where it keeps their limits. A
+/// fault is told of it exactly where it exceeds a limit, and this is the fault.
 pub fn plans_are_valid()
     ensures valid { PlansAreValid }
     ensures rules { PlansKeep }
@@ -50,4 +50,10 @@ pub fn files_fit()
 /// The plan of an accepted program that keeps the limits of plans means what the program means.
 pub fn plans_mean()
     ensures { PlansMean }
+{}
+
+/// The plan of a program that is not refused is valid, and means what the program means.
+pub fn unrefused_mean()
+    ensures valid { UnrefusedAreValid }
+    ensures means { UnrefusedMean }
 {}

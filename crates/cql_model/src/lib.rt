@@ -2,4 +2,7 @@
 //! from that.
 #![tactic(auto)]
 
+mod fault;
 pub mod laws;
+
+pub use fault::{Fault, Refusal};
