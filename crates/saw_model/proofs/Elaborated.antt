@@ -1,8 +1,8 @@
 -- The body of a program's plan does what the program does as it is written.
-use Rattle.std.proofs.Common.{◌≡◌, ◌≢◌, ℕ, zero, suc, ℤ, pos, ◌+◌, ◌<◌, ◌≤◌, Bool, true, false, List, [], ◌∷◌, ◌++◌, length, take, map, Option, Some, None, Result, Ok, Err, refl, sym, ap, ◌∙◌, subst, arith, append_assoc, nat_lt, nat_le, nat_eq, ⊎_elim}
-use Rattle.std.specs.Prelude.{if◌then◌else◌, ◌&&◌, max, slice_get, slice_index_or, slice_set}
+use Rattle.std.proofs.Common.{◌≡◌, ℕ, zero, suc, ℤ, pos, ◌+◌, ◌<◌, ◌≤◌, Bool, true, false, List, [], ◌∷◌, ◌++◌, length, take, map, Option, Some, None, Result, Ok, Err, refl, sym, ap, ◌∙◌, subst, arith, append_assoc, nat_lt, nat_le, ⊎_elim}
+use Rattle.std.specs.Prelude.{if◌then◌else◌, slice_get, slice_index_or, slice_set}
 use Rattle.std.specs.Ordering.{int_eq}
-use Rattle.std.proofs.lemmas.List.{append-nil, map-append, get_or-set_same, get_or-set_other}
+use Rattle.std.proofs.lemmas.List.{append-nil, get_or-set_same, get_or-set_other}
 use Rattle.river_base.specs.Name.{name_eq}
 use Rattle.river_base.specs.Number.{negate}
 use Rattle.work_code.specs.Term.{Term}
@@ -10,18 +10,17 @@ use Rattle.work_code.specs.Term as term
 use Rattle.work_code.specs.Steps.{Step, Steps, Done}
 use Rattle.work_code.specs.Steps as steps
 use Rattle.work_code.specs.Ran.{Ran, ran, ran_once}
-use Rattle.work_code.specs.Value.{val, applied, truth, is_true}
-use Rattle.kern_rows.proofs.Lengths.{ran_length}
+use Rattle.work_code.specs.Value.{val, applied, truth}
 use Rattle.kern_tables.specs.declared.kind.TableKind.{TableKind}
 use Rattle.kern_tables.specs.declared.kind.TableKind.TheVariants.{Sum, Collection, Maximum}
-use Rattle.river_plan.specs.Forms.{Name, table_names}
+use Rattle.river_plan.specs.Forms.{Name}
 use Rattle.river_plan.specs.declared.plan.TableDecl.{TableDecl}
 use Rattle.river_plan.proofs.NameLemmas.{cases_name}
 use Rattle.brooklet_model.specs.Machine.{at_name}
 use Rattle.text_forms.specs.Tree.{Spoken}
 use Rattle.text_forms.specs.Tree as tree
-use Rattle.saw_model.specs.Source.{Statement, Declare, Assign, Emit, If, Block, End, Then, Part, Table, Does, Program, tables_in, Values, said, Emitted, Now, said_or, said_all, listed, parts_of, does, do_all, do_parts, reach, reach_all, reach_once, reach_block, reach_parts}
-use Rattle.saw_model.specs.Elaborate.{Fault, UnknownName, NameTwice, Shape, Limit, on_ok, Known, Var, Port, Scope, find, named, term_of, At, counted, is_new, slot_of, port_of, first_term, indexes_of, keys_in, weight_of, joined, one_step, Read, declared, emitted, step_of, steps_of, is_best, table_of, part_of, parts_read}
+use Rattle.saw_model.specs.Source.{Values, said, Emitted, Now, said_or, said_all, listed, reach, reach_all}
+use Rattle.saw_model.specs.Elaborate.{Fault, Limit, on_ok, demand, Known, Var, Port, Scope, find, named, term_of, At, counted, first_term, indexes_of, weight_of, joined, one_step}
 
 -- ANSWERS
 
@@ -38,6 +37,14 @@ ok_parts (Err e) f y h = absurd (cc h)
 pub if_ok : {A : Type 0} (b : Bool) (r : Result A Fault) (y : A) (e : Fault) → (if b then r else Err e) ≡ fine y → r ≡ fine y
 if_ok true r y e h = h
 if_ok false r y e h = absurd (cc h)
+
+pub if_both : {A : Type 0} (b : Bool) (r : Result A Fault) (y : A) (e : Fault) → (if b then r else Err e) ≡ fine y → (b ≡ true) × (r ≡ fine y)
+if_both true r y e h = (refl, h)
+if_both false r y e h = absurd (cc h)
+
+pub demanded : (b : Bool) (e : Fault) (u : Unit {0}) → demand b e ≡ fine u → b ≡ true
+demanded true e u h = refl
+demanded false e u h = absurd (cc h)
 
 pub some_is : {A : Type 0} (x y : A) → Some x ≡ Some y → x ≡ y
 some_is x y h = cc
@@ -271,6 +278,9 @@ counted_on s f y h =
     let p = ok_parts (counted s) f y h in
     let q = ok_is (one_more s) p.0 (if_ok (nat_lt s.size 16384) (Ok (one_more s)) p.0 Limit p.1) in
     ap f q ∙ p.2
+
+pub room_for : {A : Type 0} (s : At) (f : At → Result A Fault) (y : A) → on_ok (counted s) f ≡ fine y → nat_lt s.size 16384 ≡ true
+room_for s f y h = let p = ok_parts (counted s) f y h in (if_both (nat_lt s.size 16384) (Ok (one_more s)) p.0 Limit p.1).0
 
 -- THE RUN
 

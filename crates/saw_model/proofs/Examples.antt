@@ -1,12 +1,10 @@
 -- Programs whose tables compute to what they should.
-use Rattle.std.proofs.Common.{◌≡◌, ℕ, ℤ, pos, negsuc, List, [], ◌∷◌, Some, None, Option, Ok, refl, map}
-use Rattle.std.specs.Prelude.{codes, Result}
+use Rattle.std.proofs.Common.{◌≡◌, pos, negsuc, [], ◌∷◌, Some, None, refl}
+use Rattle.std.specs.Prelude.{codes}
 use Rattle.std.specs.Int.{int_wrap}
 use Rattle.kern_tables.specs.declared.kind.TableKind.TheVariants.{Sum, Maximum}
-use Rattle.river_plan.specs.Forms.{Name, labels}
 use Rattle.text_forms.specs.Tree as tree
 use Rattle.saw_model.specs.Source.{Program, Table, Does, Emit, program_tables, width}
-use Rattle.saw_model.specs.Elaborate.{At, parts_read, nothing_read, Fault}
 
 -- count: table sum of int; total: table sum[k: int] of v: int; emit count <- 1; emit total[input[0]] <- input[1];
 abbrev tallies : Program

@@ -1,6 +1,6 @@
 -- The plan's kernels, fed.
-use Rattle.std.proofs.Common.{◌≡◌, ◌≢◌, ℕ, zero, suc, ℤ, pos, ◌+◌, ◌<◌, ◌≤◌, Bool, true, false, List, [], ◌∷◌, ◌++◌, length, map, Option, Some, None, refl, sym, ap, ◌∙◌, subst, arith, nat_eq, nat_lt, ⊎_elim}
-use Rattle.std.specs.Prelude.{if◌then◌else◌, flat_map, slice_get, codes, filter}
+use Rattle.std.proofs.Common.{◌≡◌, ℕ, zero, suc, ℤ, ◌<◌, ◌≤◌, true, List, [], ◌∷◌, ◌++◌, map, Some, refl, sym, ap, ◌∙◌, arith, ⊎_elim}
+use Rattle.std.specs.Prelude.{flat_map, slice_get, codes}
 use Rattle.std.proofs.lemmas.List.{append-nil, append_cancel_right}
 use Rattle.std.proofs.lemmas.Bool.{cases_eq}
 use Rattle.river_base.specs.declared.item.Item as item
@@ -9,16 +9,14 @@ use Rattle.river_base.specs.declared.item.Flat.TheVariants.{One}
 use Rattle.river_base.specs.Name.{name_eq}
 use Rattle.kern_rows.specs.Forms.{CodeForm}
 use Rattle.kern_rows.specs.Runs.{run_kept, pushed_to}
-use Rattle.kern_tables.specs.declared.kind.TableKind.{TableKind}
 use Rattle.river_kernels.specs.Kern.{code, tally}
-use Rattle.river_plan.specs.Forms.{Name, OpForm, table_names}
+use Rattle.river_plan.specs.Forms.{Name, table_names}
 use Rattle.river_plan.specs.Names.{count, one_if}
 use Rattle.river_plan.specs.declared.plan.TableDecl.{TableDecl}
 use Rattle.river_plan.proofs.NameLemmas.{name_same, cases_name}
-use Rattle.brooklet_model.specs.Firings.{Kept, Fired, feed}
+use Rattle.brooklet_model.specs.Firings.{feed}
 use Rattle.brooklet_model.specs.Fire.{fire}
-use Rattle.brooklet_model.specs.Histories.{History, lists_of, given, histories, written, joined, tables_of, adds}
-use Rattle.brooklet_model.proofs.Feeds.{one_input}
+use Rattle.brooklet_model.specs.Histories.{History, given, histories, written, joined, tables_of, adds}
 use Rattle.brooklet_model.proofs.Lists.{if_true, if_false, if_eq, if_ne, if_lt}
 use Rattle.brooklet_model.proofs.Traces.{some_is, got_count}
 use Rattle.saw_model.specs.Source.{Emitted, rows_for}

@@ -1,29 +1,28 @@
 -- The plan of a program means what the program means.
-use Rattle.std.proofs.Common.{◌≡◌, ℕ, zero, suc, ℤ, pos, ◌+◌, ◌-◌, ◌<◌, ◌≤◌, Bool, true, false, List, [], ◌∷◌, ◌++◌, length, map, take, Option, Some, None, Result, Ok, refl, sym, ap, ◌∙◌, subst, arith, replicate, ⊎_elim}
-use Rattle.std.specs.Prelude.{if◌then◌else◌, flat_map, slice_get, codes, max}
-use Rattle.std.proofs.lemmas.List.{append-nil, map-append}
+use Rattle.std.proofs.Common.{◌≡◌, ℕ, suc, ℤ, pos, ◌-◌, Bool, true, false, List, [], ◌∷◌, ◌++◌, map, take, Some, refl, sym, ap, ◌∙◌, arith, replicate}
+use Rattle.std.specs.Prelude.{if◌then◌else◌, flat_map, slice_get, codes}
+use Rattle.std.proofs.lemmas.List.{map-append}
 use Rattle.river_base.specs.declared.item.Item as item
 use Rattle.river_base.specs.Name.{name_eq}
 use Rattle.river_base.specs.Places.{list_at}
 use Rattle.work_code.specs.Steps.{Steps}
 use Rattle.work_code.specs.Ran.{ran}
 use Rattle.kern_rows.specs.Runs.{run_kept, pushed_to}
-use Rattle.river_kernels.specs.Kern.{code, tally}
-use Rattle.river_plan.specs.Forms.{Name, OpForm, table_names, decl_names}
-use Rattle.river_plan.specs.Names.{count}
+use Rattle.river_kernels.specs.Kern.{tally}
+use Rattle.river_plan.specs.Forms.{Name, table_names}
 use Rattle.river_plan.specs.declared.plan.TableDecl.{TableDecl}
 use Rattle.brooklet_model.specs.Firings.{feed}
 use Rattle.brooklet_model.specs.Fire.{fire}
-use Rattle.brooklet_model.specs.Histories.{History, lists_of, given, histories, written, adds, inputs_of, hist, all_adds}
+use Rattle.brooklet_model.specs.Histories.{History, lists_of, given, written, inputs_of, hist, all_adds}
 use Rattle.brooklet_model.proofs.Feeds.{one_input}
 use Rattle.kern_tables.specs.Tables.{tab}
-use Rattle.saw_model.specs.Source.{Program, tables_in, width, emits, rows_for, Emitted, program_tables, reach_parts}
-use Rattle.saw_model.specs.Elaborate.{At, parts_read, nothing_read}
-use Rattle.saw_model.specs.Plan.{queue_name, queues_of, tally_op, map_op, body_form, plan_of, as_items}
+use Rattle.saw_model.specs.Source.{Program, tables_in, width, emits, rows_for, Emitted}
+use Rattle.saw_model.specs.Elaborate.{At, nothing_read}
+use Rattle.saw_model.specs.Plan.{queue_name, queues_of, map_op, body_form, plan_of, as_items}
 use Rattle.saw_model.specs.Laws.{TranslationMeans}
-use Rattle.saw_model.proofs.Elaborated.{fine, Matches}
+use Rattle.saw_model.proofs.Elaborated.{fine}
 use Rattle.saw_model.proofs.Fed.{code_fed, tally_fed, written_queue, tallies_write_nothing, tallied, pushed_are}
-use Rattle.saw_model.proofs.Parts.{record_met, tables_once}
+use Rattle.saw_model.proofs.Parts.{parts_read, reads_parts, record_met, tables_once}
 
 rows_for-append : (n : Name) (xs ys : List Emitted) → rows_for n (xs ++ ys) ≡ rows_for n xs ++ rows_for n ys
 rows_for-append n [] ys = refl
@@ -80,4 +79,7 @@ map_places f g [] e = refl
 map_places f g (x ∷ xs) e = let a = e 0 x refl in let b = map_places f g xs (λ i y h. e (suc i) y h) in λ i. a i ∷ b i
 
 pub translation_means : TranslationMeans
-translation_means p read records h = map_places (λ t. tab t.kind (all_adds (plan_of p read) (inputs p read h records) t.name)) _ (tables_in p) (λ i t g. ap (tab t.kind) (added p read h records i t g))
+translation_means p read records h =
+    let g = reads_parts 1 p nothing_read read h in
+    let tables = map_places (λ t. tab t.kind (all_adds (plan_of p read) (inputs p read g records) t.name)) _ (tables_in p) (λ i t there. ap (tab t.kind) (added p read g records i t there)) in
+    ap (λ ts. record { outs = []; tables = ts }) tables

@@ -1,27 +1,43 @@
 -- A whole program and the body of its plan.
-use Rattle.std.proofs.Common.{◌≡◌, ◌≢◌, ℕ, zero, suc, ℤ, pos, ◌+◌, ◌<◌, ◌≤◌, Bool, true, false, List, [], ◌∷◌, ◌++◌, length, take, map, Option, Some, None, Result, Ok, Err, refl, sym, ap, ◌∙◌, subst, arith, nat_lt, nat_le, nat_eq, replicate, append_assoc, length-append, ⊎_elim}
-use Rattle.std.specs.Prelude.{if◌then◌else◌, max, slice_get, slice_index_or}
-use Rattle.std.proofs.lemmas.List.{append-nil, length-replicate}
-use Rattle.river_base.specs.Name.{name_eq}
-use Rattle.work_code.specs.Steps.{Step, Steps, Done}
-use Rattle.work_code.specs.Ran.{Ran, ran}
+use Rattle.std.proofs.Common.{◌≡◌, ℕ, suc, ℤ, pos, ◌+◌, ◌<◌, ◌≤◌, true, List, [], ◌∷◌, ◌++◌, length, take, Option, Some, None, Result, Ok, Err, refl, sym, ap, ◌∙◌, subst, arith, nat_lt, nat_le, replicate, append_assoc, length-append, ⊎_elim}
+use Rattle.std.specs.Prelude.{slice_get}
+use Rattle.std.proofs.lemmas.List.{length-replicate}
+use Rattle.work_code.specs.Steps.{Steps, Done}
+use Rattle.work_code.specs.Ran.{ran}
 use Rattle.kern_rows.proofs.Lengths.{ran_length}
 use Rattle.kern_tables.specs.declared.kind.TableKind.{TableKind}
 use Rattle.river_plan.specs.Forms.{Name, table_names}
 use Rattle.river_plan.specs.Names.{count, one_if}
 use Rattle.river_plan.specs.declared.plan.TableDecl.{TableDecl}
 use Rattle.river_plan.proofs.NameLemmas.{name_same, cases_name}
-use Rattle.saw_model.specs.Source.{Statement, Part, Table, Does, Program, tables_in, Now, does, do_parts, fresh, emits, reach_once, reach_parts}
-use Rattle.saw_model.specs.Elaborate.{Fault, Limit, on_ok, Known, Var, Port, Scope, find, At, is_new, keys_in, joined, Read, step_of, is_best, table_of, part_of, parts_read, nothing_read}
-use Rattle.saw_model.proofs.Elaborated.{fine, ok_is, ok_parts, if_ok, found_here, found_other, Agrees, IsSound, ArePorts, Keeps, keeps_new, sound_port, Grows, Matches, Met, met_more, none_met}
+use Rattle.saw_model.specs.Source.{Part, Table, Does, Program, tables_in, Now, does, do_parts, fresh, emits, reach_once, reach_parts}
+use Rattle.saw_model.specs.Elaborate.{Limit, on_ok, demand, Known, Var, Port, Scope, find, At, is_new, keys_in, joined, Read, is_best, tabled, table_of, part_of, nothing_read}
+use Rattle.saw_model.specs.Judged.{Refusal, on_fine, in_unit, all_parts}
+use Rattle.saw_model.proofs.Elaborated.{fine, ok_is, ok_parts, demanded, found_here, found_other, Agrees, ArePorts, Keeps, keeps_new, sound_port, Matches, met_more, none_met}
 use Rattle.saw_model.proofs.Statements.{new_is, grows, met, Ready, MetBy, ready_after}
 
-record Tabled (n : Name) (k : TableKind) (s : At) (y : Steps × At) : Type 0 where
-  new : find s.scope n ≡ None
-  few : s.tables < 64
-  best : is_best k ≡ true
-  keys : keys_in k ≤ 8
-  is : (Done, record s { scope = (n, Port s.tables k) ∷ s.scope; tables = s.tables + 1 }) ≡ y
+-- what is read of all units, whichever their numbers
+abbrev pub parts_read : Program → At → Read
+parts_read [] s = Ok (Done, s)
+parts_read (c ∷ ps) s = on_ok (part_of c s) (λ p. on_ok (parts_read ps p.1) (λ q. Ok (joined p.0 q.0, q.1)))
+
+pub reads_parts : (k : ℕ) (p : Program) (s : At) (y : Steps × At) → all_parts k p s ≡ Ok y → parts_read p s ≡ Ok y
+reads_parts k [] s y h = cc h
+reads_parts k (c ∷ ps) s y h = first (λ p q e. reads_parts (suc k) ps p.1 q e) (part_of c s) h where
+  more : (p : Steps × At) (r : Result (Steps × At) Refusal) → ((q : Steps × At) → r ≡ Ok q → parts_read ps p.1 ≡ Ok q) → on_fine r (λ q. Ok (joined p.0 q.0, q.1)) ≡ Ok y
+      → on_ok (parts_read ps p.1) (λ q. Ok (joined p.0 q.0, q.1)) ≡ Ok y
+  more p (Ok q) f g = ap (λ r. on_ok r (λ q. Ok (joined p.0 q.0, q.1))) (f q refl) ∙ cc g
+  more p (Err e) f g = absurd (cc g)
+  first : ((p q : Steps × At) → all_parts (suc k) ps p.1 ≡ Ok q → parts_read ps p.1 ≡ Ok q) → (r : Read) → in_unit k r (λ p. on_fine (all_parts (suc k) ps p.1) (λ q. Ok (joined p.0 q.0, q.1))) ≡ Ok y → on_ok r (λ p. on_ok (parts_read ps p.1) (λ q. Ok (joined p.0 q.0, q.1))) ≡ Ok y
+  first f (Ok p) g = more p (all_parts (suc k) ps p.1) (f p) g
+  first f (Err e) g = absurd (cc g)
+
+pub record Tabled (n : Name) (k : TableKind) (s : At) (y : Steps × At) : Type 0 where
+  pub new : find s.scope n ≡ None
+  pub few : s.tables < 64
+  pub best : is_best k ≡ true
+  pub keys : keys_in k ≤ 8
+  pub is : tabled n k s ≡ y
 
 lt_from : (a b : ℕ) → nat_lt a b ≡ true → a < b
 lt_from a b h = grind arith
@@ -29,30 +45,31 @@ lt_from a b h = grind arith
 le_from : (a b : ℕ) → nat_le a b ≡ true → a ≤ b
 le_from a b h = grind arith
 
-pub both_of : {A : Type 0} (b : Bool) (r : Result A Fault) (y : A) (e : Fault) → (if b then r else Err e) ≡ fine y → (b ≡ true) × (r ≡ fine y)
-both_of true r y e h = (refl, h)
-both_of false r y e h = absurd (cc h)
-
-tabled_parts : (n : Name) (k : TableKind) (s : At) (y : Steps × At) → table_of n k s ≡ fine y → Tabled n k s y
+pub tabled_parts : (n : Name) (k : TableKind) (s : At) (y : Steps × At) → table_of n k s ≡ fine y → Tabled n k s y
 tabled_parts n k s y h =
-    let made : Steps × At = (Done, record s { scope = (n, Port s.tables k) ∷ s.scope; tables = s.tables + 1 }) in
-    let r3 : Read = if nat_le (keys_in k) 8 then fine made else Err Limit in
-    let r2 : Read = if is_best k then r3 else Err Limit in
-    let r1 : Read = if nat_lt s.tables 64 then r2 else Err Limit in
-    let a = ok_parts (is_new (find s.scope n)) (λ u. r1) y h in
-    let b = both_of (nat_lt s.tables 64) r2 y Limit a.2 in
-    let c = both_of (is_best k) r3 y Limit b.1 in
-    let d = both_of (nat_le (keys_in k) 8) (fine made) y Limit c.1 in
-    record { new = new_is (find s.scope n) a.0 a.1; few = lt_from s.tables 64 b.0; best = c.0; keys = le_from (keys_in k) 8 d.0; is = ok_is made y d.1 }
+    let r3 : Unit {0} → Read = λ x. Ok (tabled n k s) in
+    let r2 : Unit {0} → Read = λ w. on_ok (demand (nat_le (keys_in k) 8) Limit) r3 in
+    let r1 : Unit {0} → Read = λ v. on_ok (demand (is_best k) Limit) r2 in
+    let a = ok_parts (is_new (find s.scope n)) (λ u. on_ok (demand (nat_lt s.tables 64) Limit) r1) y h in
+    let b = ok_parts (demand (nat_lt s.tables 64) Limit) r1 y a.2 in
+    let c = ok_parts (demand (is_best k) Limit) r2 y b.2 in
+    let d = ok_parts (demand (nat_le (keys_in k) 8) Limit) r3 y c.2 in
+    record {
+      new = new_is (find s.scope n) a.0 a.1;
+      few = lt_from s.tables 64 (demanded (nat_lt s.tables 64) Limit b.0 b.1);
+      best = demanded (is_best k) Limit c.0 c.1;
+      keys = le_from (keys_in k) 8 (demanded (nat_le (keys_in k) 8) Limit d.0 d.1);
+      is = ok_is (tabled n k s) y d.2;
+    }
 
-record Split (c : Part) (ps : Program) (s : At) (y : Steps × At) : Type 0 where
-  first : Steps × At
-  first_is : part_of c s ≡ Ok first
-  others : Steps × At
-  others_is : parts_read ps first.1 ≡ Ok others
-  is : (joined first.0 others.0, others.1) ≡ y
+pub record Split (c : Part) (ps : Program) (s : At) (y : Steps × At) : Type 0 where
+  pub first : Steps × At
+  pub first_is : part_of c s ≡ Ok first
+  pub others : Steps × At
+  pub others_is : parts_read ps first.1 ≡ Ok others
+  pub is : (joined first.0 others.0, others.1) ≡ y
 
-split_parts : (c : Part) (ps : Program) (s : At) (y : Steps × At) → parts_read (c ∷ ps) s ≡ fine y → Split c ps s y
+pub split_parts : (c : Part) (ps : Program) (s : At) (y : Steps × At) → parts_read (c ∷ ps) s ≡ fine y → Split c ps s y
 split_parts c ps s y h =
     let p = ok_parts (part_of c s) (λ p. on_ok (parts_read ps p.1) (λ q. Ok (joined p.0 q.0, q.1))) y h in
     let q = ok_parts (parts_read ps p.0.1) (λ q. Ok (joined p.0.0 q.0, q.1)) y p.2 in
@@ -128,14 +145,14 @@ tables_few (Does c ∷ ps) s y h le =
 
 -- THE RUN
 
-got_here : (done rest : List TableDecl) (t : TableDecl) → slice_get (done ++ t ∷ rest) (length done) ≡ Some t
+pub got_here : (done rest : List TableDecl) (t : TableDecl) → slice_get (done ++ t ∷ rest) (length done) ≡ Some t
 got_here [] rest t = refl
 got_here (d ∷ ds) rest t = got_here ds rest t
 
 port_one : (p q : ℕ) (k l : TableKind) → Some (Port p k) ≡ Some (Port q l) → (p ≡ q) × (k ≡ l)
 port_one p q k l h = (cc, cc)
 
-ports_new : (ts : List TableDecl) (n : Name) (p : ℕ) (k : TableKind) (sc : Scope) → slice_get ts p ≡ Some (record { name = n; kind = k }) → ArePorts ts sc → ArePorts ts ((n, Port p k) ∷ sc)
+pub ports_new : (ts : List TableDecl) (n : Name) (p : ℕ) (k : TableKind) (sc : Scope) → slice_get ts p ≡ Some (record { name = n; kind = k }) → ArePorts ts sc → ArePorts ts ((n, Port p k) ∷ sc)
 ports_new ts n p k sc g a = record {
   port = λ m q l f. ⊎_elim
       (λ e.

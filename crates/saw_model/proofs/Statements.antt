@@ -1,7 +1,7 @@
 -- Each statement of a program and the steps that stand for it do the same.
-use Rattle.std.proofs.Common.{◌≡◌, ℕ, zero, suc, ℤ, pos, ◌+◌, ◌<◌, ◌≤◌, Bool, true, false, List, [], ◌∷◌, ◌++◌, length, take, map, Option, Some, None, Result, Ok, Err, refl, sym, ap, ◌∙◌, subst, arith, nat_lt, nat_le, nat_eq, length-append}
-use Rattle.std.specs.Prelude.{if◌then◌else◌, max, slice_get, slice_index_or, slice_set}
-use Rattle.std.proofs.lemmas.List.{append-nil, map-append}
+use Rattle.std.proofs.Common.{◌≡◌, ℕ, ℤ, pos, ◌+◌, ◌≤◌, Bool, true, false, List, [], ◌∷◌, ◌++◌, length, take, Option, Some, None, Ok, refl, sym, ap, ◌∙◌, subst, arith, nat_lt, nat_eq}
+use Rattle.std.specs.Prelude.{if◌then◌else◌, slice_set}
+use Rattle.std.proofs.lemmas.List.{map-append}
 use Rattle.work_code.specs.Term.{Term}
 use Rattle.work_code.specs.Steps.{Step, Steps, Done}
 use Rattle.work_code.specs.Steps as steps
@@ -14,9 +14,9 @@ use Rattle.river_plan.specs.declared.plan.TableDecl.{TableDecl}
 use Rattle.river_plan.proofs.NameLemmas.{name_same}
 use Rattle.brooklet_model.specs.Machine.{at_name}
 use Rattle.text_forms.specs.Tree.{Spoken}
-use Rattle.saw_model.specs.Source.{Statement, Declare, Assign, Emit, If, Block, End, Then, Part, Table, Does, Program, tables_in, Values, said, Emitted, Now, said_or, said_all, listed, parts_of, does, do_all, do_parts, reach, reach_all, reach_once, reach_block, reach_parts}
-use Rattle.saw_model.specs.Elaborate.{Fault, UnknownName, NameTwice, Shape, Limit, on_ok, Known, Var, Port, Scope, find, term_of, At, counted, is_new, slot_of, port_of, first_term, indexes_of, keys_in, weight_of, joined, one_step, Read, declared, emitted, step_of, steps_of, is_best, table_of, part_of, parts_read}
-use Rattle.saw_model.proofs.Elaborated.{fine, ok_is, ok_parts, if_ok, some_is, found_here, found_other, Agrees, IsSound, ArePorts, Keeps, agrees_within, more_slots, keeps_new, var_is, sound_var, ports_var, sound_port, agrees_set, term_is, vals, first_is, indexes_are, weight_is, said_all-append, reach-append, Grows, grows_same, grows_trans, grows_back, one_more, counted_on, Matches, Met, ran_joined, none_met, met_more, one_ran}
+use Rattle.saw_model.specs.Source.{Statement, Declare, Assign, Emit, If, Block, End, Then, said, Now, said_or, said_all, listed, parts_of, does, do_all, reach, reach_all, reach_once, reach_block}
+use Rattle.saw_model.specs.Elaborate.{Shape, Limit, on_ok, demand, has_slot, Known, Var, Port, Scope, find, term_of, At, is_new, slot_of, port_of, first_term, indexes_of, keys_in, weight_of, joined, one_step, Read, declared, emitted, step_of, steps_of}
+use Rattle.saw_model.proofs.Elaborated.{fine, ok_is, ok_parts, demanded, room_for, found_here, found_other, Agrees, IsSound, ArePorts, Keeps, agrees_within, more_slots, keeps_new, sound_var, ports_var, agrees_set, term_is, vals, first_is, indexes_are, weight_is, said_all-append, reach-append, Grows, grows_same, grows_trans, grows_back, one_more, counted_on, Met, none_met, met_more, one_ran}
 
 -- THE PARTS OF WHAT IS READ
 
@@ -34,75 +34,98 @@ port_is_at None t h = absurd (cc h)
 port_is_at (Some (Var j)) t h = absurd (cc h)
 port_is_at (Some (Port p k)) t h = let e = ok_is (p, k) t h in λ i. Some (Port (e i).0 (e i).1)
 
-record Declared (n : Name) (t : Option Spoken) (s0 : At) (y : Steps × At) : Type 0 where
-  new : find s0.scope n ≡ None
-  value : Term
-  value_is : first_term t s0.scope ≡ Ok value
-  is : (one_step (steps.Set s0.slots value), record (one_more s0) { scope = (n, Var s0.slots) ∷ s0.scope; slots = s0.slots + 1 }) ≡ y
+pub record Declared (n : Name) (t : Option Spoken) (s0 : At) (y : Steps × At) : Type 0 where
+  pub room : nat_lt s0.size 16384 ≡ true
+  pub new : find s0.scope n ≡ None
+  pub few : nat_lt s0.slots 256 ≡ true
+  pub value : Term
+  pub value_is : first_term t s0.scope ≡ Ok value
+  pub is : (one_step (steps.Set s0.slots value), record (one_more s0) { scope = (n, Var s0.slots) ∷ s0.scope; slots = s0.slots + 1 }) ≡ y
 
-declared_parts : (n : Name) (t : Option Spoken) (s0 : At) (y : Steps × At) → step_of (Declare n t) s0 ≡ fine y → Declared n t s0 y
+pub declared_parts : (n : Name) (t : Option Spoken) (s0 : At) (y : Steps × At) → step_of (Declare n t) s0 ≡ fine y → Declared n t s0 y
 declared_parts n t s0 y h =
-    let f1 : At → Read = λ s. on_ok (is_new (find s.scope n)) (λ u. on_ok (first_term t s.scope) (declared n s)) in
+    let f3 : At → Term → Read = λ s v. Ok (declared n s v) in
+    let f2 : At → Unit {0} → Read = λ s w. on_ok (first_term t s.scope) (f3 s) in
+    let f1 : At → Read = λ s. on_ok (is_new (find s.scope n)) (λ u. on_ok (has_slot s) (f2 s)) in
     let c = counted_on s0 f1 y h in
-    let a = ok_parts (is_new (find s0.scope n)) (λ u. on_ok (first_term t s0.scope) (declared n (one_more s0))) y c in
-    let b = ok_parts (first_term t s0.scope) (declared n (one_more s0)) y a.2 in
-    let e = if_ok (nat_lt s0.slots 256) (Ok (one_step (steps.Set s0.slots b.0), record (one_more s0) { scope = (n, Var s0.slots) ∷ s0.scope; slots = s0.slots + 1 })) y Limit b.2 in
-    record { new = new_is (find s0.scope n) a.0 a.1; value = b.0; value_is = b.1; is = ok_is _ y e }
+    let a = ok_parts (is_new (find s0.scope n)) (λ u. on_ok (has_slot (one_more s0)) (f2 (one_more s0))) y c in
+    let d = ok_parts (has_slot (one_more s0)) (f2 (one_more s0)) y a.2 in
+    let b = ok_parts (first_term t s0.scope) (f3 (one_more s0)) y d.2 in
+    record {
+      room = room_for s0 f1 y h;
+      new = new_is (find s0.scope n) a.0 a.1;
+      few = demanded (nat_lt s0.slots 256) Limit d.0 d.1;
+      value = b.0;
+      value_is = b.1;
+      is = ok_is _ y b.2;
+    }
 
-record Assigned (n : Name) (t : Spoken) (s0 : At) (y : Steps × At) : Type 0 where
-  slot : ℕ
-  slot_there : find s0.scope n ≡ Some (Var slot)
-  value : Term
-  value_is : term_of s0.scope t ≡ Ok value
-  is : (one_step (steps.Set slot value), one_more s0) ≡ y
+pub record Assigned (n : Name) (t : Spoken) (s0 : At) (y : Steps × At) : Type 0 where
+  pub room : nat_lt s0.size 16384 ≡ true
+  pub slot : ℕ
+  pub slot_there : find s0.scope n ≡ Some (Var slot)
+  pub value : Term
+  pub value_is : term_of s0.scope t ≡ Ok value
+  pub is : (one_step (steps.Set slot value), one_more s0) ≡ y
 
-assigned_parts : (n : Name) (t : Spoken) (s0 : At) (y : Steps × At) → step_of (Assign n t) s0 ≡ fine y → Assigned n t s0 y
+pub assigned_parts : (n : Name) (t : Spoken) (s0 : At) (y : Steps × At) → step_of (Assign n t) s0 ≡ fine y → Assigned n t s0 y
 assigned_parts n t s0 y h =
     let f1 : At → Read = λ s. on_ok (slot_of (find s.scope n)) (λ i. on_ok (term_of s.scope t) (λ v. Ok (one_step (steps.Set i v), s))) in
     let c = counted_on s0 f1 y h in
     let a = ok_parts (slot_of (find s0.scope n)) (λ i. on_ok (term_of s0.scope t) (λ v. Ok (one_step (steps.Set i v), one_more s0))) y c in
     let b = ok_parts (term_of s0.scope t) (λ v. Ok (one_step (steps.Set a.0 v), one_more s0)) y a.2 in
-    record { slot = a.0; slot_there = slot_is (find s0.scope n) a.0 a.1; value = b.0; value_is = b.1; is = ok_is _ y b.2 }
+    record { room = room_for s0 f1 y h; slot = a.0; slot_there = slot_is (find s0.scope n) a.0 a.1; value = b.0; value_is = b.1; is = ok_is _ y b.2 }
 
-record Sent (t : Name) (is : List Spoken) (v : Spoken) (w : Option Spoken) (s0 : At) (y : Steps × At) : Type 0 where
-  port : ℕ × TableKind
-  port_there : find s0.scope t ≡ Some (Port port.0 port.1)
-  indexes : List Term
-  indexes_is : indexes_of s0.scope 0 is ≡ Ok indexes
-  shape : nat_eq (length is) (keys_in port.1) ≡ true
-  value : Term
-  value_is : term_of s0.scope v ≡ Ok value
-  weights : List Term
-  weights_is : weight_of port.1 w s0.scope ≡ Ok weights
-  made : (one_step (steps.Push port.0 (indexes ++ value ∷ weights)), one_more s0) ≡ y
+pub record Sent (t : Name) (is : List Spoken) (v : Spoken) (w : Option Spoken) (s0 : At) (y : Steps × At) : Type 0 where
+  pub room : nat_lt s0.size 16384 ≡ true
+  pub port : ℕ × TableKind
+  pub port_there : find s0.scope t ≡ Some (Port port.0 port.1)
+  pub indexes : List Term
+  pub indexes_is : indexes_of s0.scope 0 is ≡ Ok indexes
+  pub shape : nat_eq (length is) (keys_in port.1) ≡ true
+  pub value : Term
+  pub value_is : term_of s0.scope v ≡ Ok value
+  pub weights : List Term
+  pub weights_is : weight_of port.1 w s0.scope ≡ Ok weights
+  pub made : (one_step (steps.Push port.0 (indexes ++ value ∷ weights)), one_more s0) ≡ y
 
-if_both : {A : Type 0} (b : Bool) (r : Result A Fault) (y : A) (e : Fault) → (if b then r else Err e) ≡ fine y → (b ≡ true) × (r ≡ fine y)
-if_both true r y e h = (refl, h)
-if_both false r y e h = absurd (cc h)
-
-sent_parts : (t : Name) (is : List Spoken) (v : Spoken) (w : Option Spoken) (s0 : At) (y : Steps × At) → step_of (Emit t is v w) s0 ≡ fine y → Sent t is v w s0 y
+pub sent_parts : (t : Name) (is : List Spoken) (v : Spoken) (w : Option Spoken) (s0 : At) (y : Steps × At) → step_of (Emit t is v w) s0 ≡ fine y → Sent t is v w s0 y
 sent_parts t is v w s0 y h =
     let f1 : At → Read = λ s. on_ok (port_of (find s.scope t)) (λ p. on_ok (indexes_of s.scope 0 is) (λ us. emitted s p (length is) us v w)) in
     let c = counted_on s0 f1 y h in
     let s = one_more s0 in
     let a = ok_parts (port_of (find s0.scope t)) (λ p. on_ok (indexes_of s0.scope 0 is) (λ us. emitted s p (length is) us v w)) y c in
     let b = ok_parts (indexes_of s0.scope 0 is) (λ us. emitted s a.0 (length is) us v w) y a.2 in
-    let g : Term → Read = λ u. on_ok (weight_of a.0.1 w s0.scope) (λ ws. Ok (one_step (steps.Push a.0.0 (b.0 ++ u ∷ ws)), s)) in
-    let d = if_both (nat_eq (length is) (keys_in a.0.1)) (on_ok (term_of s0.scope v) g) y Shape b.2 in
-    let e = ok_parts (term_of s0.scope v) g y d.1 in
-    let f = ok_parts (weight_of a.0.1 w s0.scope) (λ ws. Ok (one_step (steps.Push a.0.0 (b.0 ++ e.0 ∷ ws)), s)) y e.2 in
-    record { port = a.0; port_there = port_is_at (find s0.scope t) a.0 a.1; indexes = b.0; indexes_is = b.1; shape = d.0; value = e.0; value_is = e.1; weights = f.0; weights_is = f.1; made = ok_is _ y f.2 }
+    let k : Term → List Term → Read = λ u ws. Ok (one_step (steps.Push a.0.0 (b.0 ++ u ∷ ws)), s) in
+    let g : Term → Read = λ u. on_ok (weight_of a.0.1 w s0.scope) (k u) in
+    let d = ok_parts (demand (nat_eq (length is) (keys_in a.0.1)) Shape) (λ x. on_ok (term_of s0.scope v) g) y b.2 in
+    let e = ok_parts (term_of s0.scope v) g y d.2 in
+    let f = ok_parts (weight_of a.0.1 w s0.scope) (k e.0) y e.2 in
+    record {
+      room = room_for s0 f1 y h;
+      port = a.0;
+      port_there = port_is_at (find s0.scope t) a.0 a.1;
+      indexes = b.0;
+      indexes_is = b.1;
+      shape = demanded (nat_eq (length is) (keys_in a.0.1)) Shape d.0 d.1;
+      value = e.0;
+      value_is = e.1;
+      weights = f.0;
+      weights_is = f.1;
+      made = ok_is _ y f.2;
+    }
 
-record Forked (t : Spoken) (a b : Block) (s0 : At) (y : Steps × At) : Type 0 where
-  cond : Term
-  cond_is : term_of s0.scope t ≡ Ok cond
-  first : Steps × At
-  first_is : steps_of a (one_more s0) ≡ Ok first
-  second : Steps × At
-  second_is : steps_of b (record (one_more s0) { slots = first.1.slots; size = first.1.size }) ≡ Ok second
-  is : (one_step (steps.If cond first.0 second.0), record second.1 { scope = s0.scope }) ≡ y
+pub record Forked (t : Spoken) (a b : Block) (s0 : At) (y : Steps × At) : Type 0 where
+  pub room : nat_lt s0.size 16384 ≡ true
+  pub cond : Term
+  pub cond_is : term_of s0.scope t ≡ Ok cond
+  pub first : Steps × At
+  pub first_is : steps_of a (one_more s0) ≡ Ok first
+  pub second : Steps × At
+  pub second_is : steps_of b (record (one_more s0) { slots = first.1.slots; size = first.1.size }) ≡ Ok second
+  pub is : (one_step (steps.If cond first.0 second.0), record second.1 { scope = s0.scope }) ≡ y
 
-forked_parts : (t : Spoken) (a b : Block) (s0 : At) (y : Steps × At) → step_of (If t a b) s0 ≡ fine y → Forked t a b s0 y
+pub forked_parts : (t : Spoken) (a b : Block) (s0 : At) (y : Steps × At) → step_of (If t a b) s0 ≡ fine y → Forked t a b s0 y
 forked_parts t a b s0 y h =
     let f3 : At → Term → Steps × At → Steps × At → Read = λ s c p q. Ok (one_step (steps.If c p.0 q.0), record q.1 { scope = s.scope }) in
     let f2 : At → Term → Steps × At → Read = λ s c p. on_ok (steps_of b (record s { slots = p.1.slots; size = p.1.size })) (f3 s c p) in
@@ -112,16 +135,16 @@ forked_parts t a b s0 y h =
     let d = ok_parts (term_of s0.scope t) (λ c. on_ok (steps_of a s) (f2 s c)) y c in
     let e = ok_parts (steps_of a s) (f2 s d.0) y d.2 in
     let f = ok_parts (steps_of b (record s { slots = e.0.1.slots; size = e.0.1.size })) (f3 s d.0 e.0) y e.2 in
-    record { cond = d.0; cond_is = d.1; first = e.0; first_is = e.1; second = f.0; second_is = f.1; is = ok_is _ y f.2 }
+    record { room = room_for s0 f1 y h; cond = d.0; cond_is = d.1; first = e.0; first_is = e.1; second = f.0; second_is = f.1; is = ok_is _ y f.2 }
 
-record Followed (c : Statement) (b : Block) (s : At) (y : Steps × At) : Type 0 where
-  first : Steps × At
-  first_is : step_of c s ≡ Ok first
-  others : Steps × At
-  others_is : steps_of b first.1 ≡ Ok others
-  is : (joined first.0 others.0, others.1) ≡ y
+pub record Followed (c : Statement) (b : Block) (s : At) (y : Steps × At) : Type 0 where
+  pub first : Steps × At
+  pub first_is : step_of c s ≡ Ok first
+  pub others : Steps × At
+  pub others_is : steps_of b first.1 ≡ Ok others
+  pub is : (joined first.0 others.0, others.1) ≡ y
 
-followed_parts : (c : Statement) (b : Block) (s : At) (y : Steps × At) → steps_of (Then c b) s ≡ fine y → Followed c b s y
+pub followed_parts : (c : Statement) (b : Block) (s : At) (y : Steps × At) → steps_of (Then c b) s ≡ fine y → Followed c b s y
 followed_parts c b s y h =
     let p = ok_parts (step_of c s) (λ p. on_ok (steps_of b p.1) (λ q. Ok (joined p.0 q.0, q.1))) y h in
     let q = ok_parts (steps_of b p.0.1) (λ q. Ok (joined p.0.0 q.0, q.1)) y p.2 in
@@ -129,7 +152,7 @@ followed_parts c b s y h =
 
 -- READING GOES ON
 
-abbrev second_at : At → Steps × At → At
+abbrev pub second_at : At → Steps × At → At
 second_at s p = record (one_more s) { slots = p.1.slots; size = p.1.size }
 
 grows_new : (n : Name) (s : At) → find s.scope n ≡ None → Grows s (record (one_more s) { scope = (n, Var s.slots) ∷ s.scope; slots = s.slots + 1 })

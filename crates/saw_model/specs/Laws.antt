@@ -1,14 +1,20 @@
--- The law of the translation.
+-- What is true of all programs that are accepted.
 use Rattle.std.specs.Prelude.{◌≡◌, ℤ, List, [], ◌∷◌, map, take, Ok}
 use Rattle.work_code.specs.Steps.{Steps}
-use Rattle.brooklet_model.specs.Histories.{all_adds}
-use Rattle.kern_tables.specs.Tables.{tab}
-use Rattle.saw_model.specs.Source.{Program, tables_in, width, program_tables}
-use Rattle.saw_model.specs.Elaborate.{At, parts_read, nothing_read}
+use Rattle.river_plan.specs.Valid.{IsPlan}
+use Rattle.brooklet_model.specs.Meaning.{meaning}
+use Rattle.saw_model.specs.Source.{Program, width, program_tables}
+use Rattle.saw_model.specs.Elaborate.{At}
+use Rattle.saw_model.specs.Judged.{judged}
 use Rattle.saw_model.specs.Plan.{plan_of, as_items}
+use Rattle.saw_model.specs.Shallow.{AreShallowParts}
 
--- what the plan means at the tables is what the program means: each table of what all records emit. The plan's items are the first fields of the records
+-- the plan is valid
+abbrev pub PlansAreValid : Type 0
+PlansAreValid = (p : Program) (read : Steps × At) → AreShallowParts p → judged p ≡ Ok read → IsPlan (plan_of p read)
+
+-- it means what the program means: each table of what all records emit. The plan reads the first fields of the records
 abbrev pub TranslationMeans : Type 0
 TranslationMeans =
-    (p : Program) (read : Steps × At) (records : List (List ℤ)) → parts_read p nothing_read ≡ Ok read
-    → map (λ t. tab t.kind (all_adds (plan_of p read) (as_items (map (take (width p)) records) ∷ []) t.name)) (tables_in p) ≡ program_tables p records
+    (p : Program) (read : Steps × At) (records : List (List ℤ)) → judged p ≡ Ok read
+    → meaning (plan_of p read) (as_items (map (take (width p)) records) ∷ []) ≡ record { outs = []; tables = program_tables p records }

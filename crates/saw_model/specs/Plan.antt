@@ -1,5 +1,5 @@
 -- The plan of a program.
-use Rattle.std.specs.Prelude.{ℕ, ℤ, pos, List, [], ◌∷◌, ◌++◌, length, map, codes}
+use Rattle.std.specs.Prelude.{ℕ, ℤ, pos, List, [], ◌∷◌, ◌++◌, map, codes}
 use Rattle.river_base.specs.declared.item.Item as item
 use Rattle.river_base.specs.declared.item.Item.TheVariants.{Flat}
 use Rattle.river_base.specs.declared.item.Flat.TheVariants.{One}
@@ -9,7 +9,7 @@ use Rattle.river_kernels.specs.Fits.{rows}
 use Rattle.river_kernels.specs.Kern.{code, tally}
 use Rattle.river_plan.specs.declared.plan.Decl.{Decl}
 use Rattle.river_plan.specs.declared.plan.TableDecl.{TableDecl}
-use Rattle.river_plan.specs.Forms.{Name, OpForm, PlanForm, table_names}
+use Rattle.river_plan.specs.Forms.{Name, OpForm, PlanForm}
 use Rattle.river_plan.specs.Kinds.{table_width}
 use Rattle.saw_model.specs.Source.{Program, tables_in, width}
 use Rattle.saw_model.specs.Elaborate.{At}

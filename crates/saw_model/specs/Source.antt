@@ -1,5 +1,5 @@
 -- Sawzall programs as they are written, and what they emit.
-use Rattle.std.specs.Prelude.{ℕ, suc, ℤ, pos, ◌+◌, Bool, List, [], ◌∷◌, ◌++◌, length, map, filter, flat_map, max, Option, Some, None, if◌then◌else◌, slice_index_or}
+use Rattle.std.specs.Prelude.{ℕ, suc, ℤ, pos, List, [], ◌∷◌, ◌++◌, map, flat_map, max, Option, Some, None, if◌then◌else◌, slice_index_or}
 use Rattle.std.specs.Ordering.{int_eq}
 use Rattle.river_base.specs.Name.{name_eq}
 use Rattle.river_base.specs.Number.{negate}
