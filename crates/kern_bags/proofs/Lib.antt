@@ -1,2 +1,4 @@
 pub mod Copies
+pub mod InTurn
+pub mod KeptRows
 pub mod Windowed

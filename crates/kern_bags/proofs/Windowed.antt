@@ -62,13 +62,13 @@ contents_are (Latest n) bs row y = absurd y
 
 -- NOW
 
-later_from : (t u : ℤ) → t ≤ℤ later t u
+pub later_from : (t u : ℤ) → t ≤ℤ later t u
 later_from t u = step (int_lt t u) refl where
   step : (b : Bool) → int_lt t u ≡ b → t ≤ℤ cond b u t
   step true e = before t u e
   step false e = omega (arith, ints)
 
-later_to : (t u : ℤ) → u ≤ℤ later t u
+pub later_to : (t u : ℤ) → u ≤ℤ later t u
 later_to t u = step (int_lt t u) refl where
   step : (b : Bool) → int_lt t u ≡ b → u ≤ℤ cond b u t
   step true e = omega (arith, ints)
@@ -107,7 +107,7 @@ some_there t (b ∷ bs) = step (int_lt t b.at) (some_there b.at bs) (some_there 
 pub greatest_is_now : GreatestIsNow
 greatest_is_now b bs = record { none_later = none_above b.at bs; some = some_there b.at bs }
 
-bounded : (bs : List Batch) → AllByRecursion (λ (c : Batch). c.at ≤ℤ greatest bs) bs
+pub bounded : (bs : List Batch) → AllByRecursion (λ (c : Batch). c.at ≤ℤ greatest bs) bs
 bounded [] = tt
 bounded (b ∷ bs) = none_above b.at bs
 

@@ -1,3 +1,4 @@
 pub mod Contents
+pub mod Kept
 pub mod Laws
 pub mod Steps
