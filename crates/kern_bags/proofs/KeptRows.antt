@@ -20,10 +20,10 @@ use Rattle.kern_bags.specs.declared.kernel.Window.TheVariants.{Now, Range, Unbou
 use Rattle.kern_bags.proofs.InTurn.{le_true, le_false, lt_true, lt_false, filter_all, filter_none, all_as, all_join, all_filter, all_from}
 use Rattle.kern_bags.proofs.Windowed.{bounded, later_from, later_to}
 
-abbrev rows_with : Batch → List Stamped
+abbrev pub rows_with : Batch → List Stamped
 rows_with b = stamped b.at b.rows
 
-abbrev rows_of_all : List Batch → List Stamped
+abbrev pub rows_of_all : List Batch → List Stamped
 rows_of_all bs = flat_map rows_with bs
 
 -- BATCHES BY INSTANT
@@ -70,14 +70,14 @@ sum_put f b (c ∷ cs) = step (int_lt b.at c.at) (sum_put f b cs) where
   step true h = sum_by-cons f b (c ∷ cs)
   step false h = let x = sum_by-cons f c (put_batch b cs) in let y = sum_by-cons f c cs in omega (arith, x, y, h)
 
-sum_all : (f : Batch → ℕ) (done bs : List Batch) → sum_by f (fold (λ d b. put_batch b d) done bs) ≡ sum_by f done + sum_by f bs
+pub sum_all : (f : Batch → ℕ) (done bs : List Batch) → sum_by f (fold (λ d b. put_batch b d) done bs) ≡ sum_by f done + sum_by f bs
 sum_all f done [] = omega arith
 sum_all f done (b ∷ bs) = let m = sum_all f (put_batch b done) bs in let p = sum_put f b done in let c = sum_by-cons f b bs in omega (arith, m, p, c)
 
 -- THEIR ROWS
 
 -- what holds of all instants holds of all rows
-all_stamped : (P : ℤ → Type 0) (at : ℤ) (rows : List (List ℤ)) → P at → AllByRecursion (λ (e : Stamped). P e.0) (stamped at rows)
+pub all_stamped : (P : ℤ → Type 0) (at : ℤ) (rows : List (List ℤ)) → P at → AllByRecursion (λ (e : Stamped). P e.0) (stamped at rows)
 all_stamped P at [] h = tt
 all_stamped P at (r ∷ rs) h = (h, all_stamped P at rs h)
 

@@ -38,7 +38,7 @@ later_of span now at = step (int_lt (pos 0) (now -ℤ span)) refl where
 nothing_more : (n : ℕ) → n ≡ 0 + n
 nothing_more n = omega arith
 
-copies-where : (row : List ℤ) (p : ℤ → Bool) (bs : List Batch) → copies row (rows_where p bs) ≡ sum_by (λ (b : Batch). cond (p b.at) (copies row b.rows) 0) bs
+pub copies-where : (row : List ℤ) (p : ℤ → Bool) (bs : List Batch) → copies row (rows_where p bs) ≡ sum_by (λ (b : Batch). cond (p b.at) (copies row b.rows) 0) bs
 copies-where row p [] = refl
 copies-where row p (b ∷ bs) = step (p b.at) refl (copies-where row p bs) where
   f : Batch → ℕ

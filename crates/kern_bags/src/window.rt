@@ -90,6 +90,7 @@ impl Window {
         state.rows.insert(batch.at, &batch.rows)?;
         self.let_go(now, &mut state.rows);
         let rows = state.rows.sorted(alloc)?;
-        give(batch.at, rows, out)
+        give(batch.at, rows, out)?;
+        Ok(())
     }
 }
