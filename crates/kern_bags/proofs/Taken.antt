@@ -2,7 +2,7 @@
 use Rattle.std.proofs.Common.{◌≡◌, ◌<◌, ◌+◌, ℕ, List, [], ◌∷◌, ◌++◌, length, get_or, map, take, sym, ap, ◌∙◌, append_assoc}
 use Rattle.std.specs.Prelude.{flat_map}
 use Rattle.std.proofs.lemmas.List.{take_more, map-append, append-nil}
-use Rattle.std.proofs.lemmas.List.Elements.{flat_map-append}
+use Rattle.std.proofs.lemmas.List.Concat.{flat_map-append}
 
 -- what a loop made of the elements so far, and of one more
 pub map_next : {A B : Type 0} (f : A → B) (xs : List A) (n : ℕ) (x : A) (start old new : List B) → n < length xs → x ≡ get_or xs n x → old ≡ start ++ map f (take n xs) → new ≡ old ++ f x ∷ [] → new ≡ start ++ map f (take (n + 1) xs)
