@@ -60,3 +60,39 @@ statement s = fold-Statement source.Statement source.Block statement_at block_at
 
 abbrev pub block : Block → source.Block
 block b = fold-Block source.Statement source.Block statement_at block_at b
+
+-- a table as it is written
+pub record TableForm : Type 0 where
+  pub name : Name
+  pub kind : Kind
+  pub indexes : List Field
+  pub value : Field
+  pub weight : Option Field
+
+abbrev pub table_form : Table → TableForm
+table_form t = record { name = t.name; kind = t.kind; indexes = t.indexes.items; value = t.value; weight = t.weight }
+
+-- a unit as it is written
+pub data UnitForm : Type 0 where
+  ATable : TableForm → UnitForm
+  AStatement : source.Statement → UnitForm
+
+abbrev pub unit_form : unit.Unit → UnitForm
+unit_form (unit_of.Table t) = ATable (table_form t)
+unit_form (unit_of.Statement s) = AStatement (statement s)
+
+abbrev pub unit_forms : List unit.Unit → List UnitForm
+unit_forms us = map unit_form us
+
+-- the names of fields mean nothing: a table has as many keys as it has indexes
+abbrev pub kind_of : Kind → ℕ → TableKind
+kind_of code.Sum keys = kind.Sum keys
+kind_of code.Collection keys = kind.Collection keys
+kind_of (code.Maximum best) keys = kind.Maximum best keys
+
+abbrev pub part_of : UnitForm → source.Part
+part_of (ATable t) = source.Table t.name (kind_of t.kind (length t.indexes))
+part_of (AStatement s) = source.Does s
+
+abbrev pub program_of : List UnitForm → source.Program
+program_of us = map part_of us
