@@ -30,8 +30,7 @@ widths-append [] vs = refl
 widths-append (Private ∷ us) vs = widths-append us vs
 widths-append (Table n ∷ us) vs = ap (λ l. n ∷ l) (widths-append us vs)
 
--- there are as many widths as tables
-pub widths_length : (us : List VarKind) → length (widths_in us) ≡ tables_in us
+widths_length : (us : List VarKind) → length (widths_in us) ≡ tables_in us
 widths_length [] = refl
 widths_length (Private ∷ us) = widths_length us
 widths_length (Table n ∷ us) = let e = widths_length us in omega (arith, e)

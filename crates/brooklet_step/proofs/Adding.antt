@@ -22,7 +22,8 @@ all_width t [] = refl
 all_width t (r ∷ rs) = all_width (added t r) rs ∙ ap table_width (added_kind t r)
 
 -- one row more
-pub added_step : (t now new : Kept) (rows : List (List ℤ)) (i : ℕ) (row : List ℤ) → i < length rows → row ≡ get_or rows i row → now ≡ fold added t (take i rows) → new ≡ added now row → new ≡ fold added t (take (i + 1) rows)
+pub added_step : (t now new : Kept) (rows : List (List ℤ)) (i : ℕ) (row : List ℤ) → i < length rows → row ≡ get_or rows i row → now ≡ fold added t (take i rows)
+    → new ≡ added now row → new ≡ fold added t (take (i + 1) rows)
 added_step t now new rows i row lt e h a =
     a ∙ ap (λ k. added k row) h ∙ sym (fold-append added t (take i rows) (row ∷ []))
     ∙ ap (λ l. fold added t l) (ap (λ y. take i rows ++ y ∷ []) e ∙ sym (take_more rows i row lt))
@@ -42,7 +43,8 @@ each_added-none [] = refl
 each_added-none (t ∷ ts) = ap (λ l. t ∷ l) (each_added-none ts)
 
 -- one table is given more
-set_added : (ts : List Kept) (f : ℕ → List (List ℤ)) (n : ℕ) (xs : List (List ℤ)) (d : Kept) → n < length ts → slice_set (each_added ts f) n (fold added (get_or (each_added ts f) n d) xs) ≡ each_added ts (λ p. f p ++ only n xs p)
+set_added : (ts : List Kept) (f : ℕ → List (List ℤ)) (n : ℕ) (xs : List (List ℤ)) (d : Kept) → n < length ts
+    → slice_set (each_added ts f) n (fold added (get_or (each_added ts f) n d) xs) ≡ each_added ts (λ p. f p ++ only n xs p)
 set_added [] f n xs d h = absurd (omega (arith, h))
 set_added (t ∷ ts) f zero xs d h =
     let a = sym (fold-append added t (f 0) xs) in
@@ -54,7 +56,8 @@ set_added (t ∷ ts) f (suc n) xs d h =
     λ i. a i ∷ b i
 
 -- a table to which rows were added has the width that it had
-added_there : (ts : List Kept) (f : ℕ → List (List ℤ)) (w : ℕ) (d : Kept) → w < length ts → (t : Kept) × (slice_get ts w ≡ Some t) × (get_or (each_added ts f) w d ≡ fold added t (f w))
+added_there : (ts : List Kept) (f : ℕ → List (List ℤ)) (w : ℕ) (d : Kept) → w < length ts
+    → (t : Kept) × (slice_get ts w ≡ Some t) × (get_or (each_added ts f) w d ≡ fold added t (f w))
 added_there [] f w d h = absurd (omega (arith, h))
 added_there (t ∷ ts) f zero d h = (t, refl, refl)
 added_there (t ∷ ts) f (suc w) d h = added_there ts (λ p. f (suc p)) w d (omega (arith, h))
@@ -100,7 +103,8 @@ module _ (n : ℕ) (vars : List ℕ) (i w : ℕ) (lt : i < length vars) (e : w �
       ∙ got_mid before w (table_places n (drop (i + 1) vars))
 
 -- the rows for one table more were added
-pub added_next : (ts now : List Kept) (vars : List ℕ) (f : ℕ → List (List ℤ)) (i w number : ℕ) (old new : Kept) → i < length vars → w ≡ get_or vars i 0 → w < length ts
+pub added_next : (ts now : List Kept) (vars : List ℕ) (f : ℕ → List (List ℤ)) (i w number : ℕ) (old new : Kept) → i < length vars → w ≡ get_or vars i 0
+    → w < length ts
     → now ≡ each_added ts (joined_at (table_places (length ts) (take i vars)) f) → number ≡ length (table_places (length ts) (take i vars)) → old ≡ get_or now w old → new ≡ fold added old (f number)
     → slice_set now w new ≡ each_added ts (joined_at (table_places (length ts) (take (i + 1) vars)) f)
 added_next ts now vars f i w number old new lt we below h c o n =
@@ -113,7 +117,8 @@ added_next ts now vars f i w number old new lt we below h c o n =
     sym (ap (λ l. joined_at l f p) more ∙ joined_at-more before w f p))
 
 -- they have the table's width
-pub rows_wide : (ts now : List Kept) (vars : List ℕ) (adds : List (List (List ℤ))) (i w number : ℕ) (old : Kept) → i < length vars → w ≡ get_or vars i 0 → w < length ts
+pub rows_wide : (ts now : List Kept) (vars : List ℕ) (adds : List (List (List ℤ))) (i w number : ℕ) (old : Kept) → i < length vars → w ≡ get_or vars i 0
+    → w < length ts
     → now ≡ each_added ts (joined_at (table_places (length ts) (take i vars)) (list_at adds)) → number ≡ length (table_places (length ts) (take i vars)) → old ≡ get_or now w old
     → AreFor ts (table_places (length ts) vars) adds → All (λ row. length row ≡ width_of old) (list_at adds number)
 rows_wide ts now vars adds i w number old lt we below h c o wide =
@@ -126,7 +131,8 @@ rows_wide ts now vars adds i w number old lt we below h c o wide =
     subst (λ k. All (λ row. length row ≡ k) (list_at adds number)) (sym width) (wide number w r.0 here r.1)
 
 -- and are there
-pub rows_there : (ts : List Kept) (vars : List ℕ) (i w number many : ℕ) → i < length vars → w ≡ get_or vars i 0 → w < length ts → number ≡ length (table_places (length ts) (take i vars)) → length (table_places (length ts) vars) ≤ many → number < many
+pub rows_there : (ts : List Kept) (vars : List ℕ) (i w number many : ℕ) → i < length vars → w ≡ get_or vars i 0 → w < length ts
+    → number ≡ length (table_places (length ts) (take i vars)) → length (table_places (length ts) vars) ≤ many → number < many
 rows_there ts vars i w number many lt we below c le =
     let b = slice_get_within (table_places (length ts) vars) (length (table_places (length ts) (take i vars))) w (place_here (length ts) vars i w lt we below) in
     omega (arith, b, c, le)

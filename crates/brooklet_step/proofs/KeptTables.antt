@@ -35,7 +35,8 @@ kept_width kind xs = ap table_width (kept_kind kind xs)
 -- ALL TABLES
 
 -- the declaration of what is kept at a place
-pub kept_at : (ts : List TableDecl) (rows : Name → List (List ℤ)) (i : ℕ) (k : Kept) → slice_get (kept_tables ts rows) i ≡ Some k → (t : TableDecl) × (slice_get ts i ≡ Some t) × (k ≡ kept_of t.kind (rows t.name))
+pub kept_at : (ts : List TableDecl) (rows : Name → List (List ℤ)) (i : ℕ) (k : Kept) → slice_get (kept_tables ts rows) i ≡ Some k
+    → (t : TableDecl) × (slice_get ts i ≡ Some t) × (k ≡ kept_of t.kind (rows t.name))
 kept_at [] rows i k g = absurd (cc g)
 kept_at (t ∷ ts) rows zero k g = (t, refl, sym (some_is (kept_of t.kind (rows t.name)) k g))
 kept_at (t ∷ ts) rows (suc i) k g = kept_at ts rows i k g
@@ -45,7 +46,8 @@ got_name [] i t g = absurd (cc g)
 got_name (u ∷ us) zero t g = ap (λ (x : TableDecl). Some x.name) (some_is u t g)
 got_name (u ∷ us) (suc i) t g = got_name us i t g
 
-each_next : (ts : List TableDecl) (rows rows' : Name → List (List ℤ)) (f : ℕ → List (List ℤ)) → ((i : ℕ) (t : TableDecl) → slice_get ts i ≡ Some t → rows t.name ++ f i ≡ rows' t.name) → each_added (kept_tables ts rows) f ≡ kept_tables ts rows'
+each_next : (ts : List TableDecl) (rows rows' : Name → List (List ℤ)) (f : ℕ → List (List ℤ))
+    → ((i : ℕ) (t : TableDecl) → slice_get ts i ≡ Some t → rows t.name ++ f i ≡ rows' t.name) → each_added (kept_tables ts rows) f ≡ kept_tables ts rows'
 each_next [] rows rows' f h = refl
 each_next (t ∷ ts) rows rows' f h =
     let a : fold added (kept_of t.kind (rows t.name)) (f 0) ≡ kept_of t.kind (rows' t.name) = all_added t.kind (rows t.name) (f 0) ∙ ap (kept_of t.kind) (h 0 t refl) in
@@ -68,7 +70,8 @@ kept_next tables mine rows f adds once declared same =
 -- THE END OF A RUN
 
 -- what tables keep is a function of the bags of their rows
-pub kept_of_bags : (ts : List TableDecl) (rows rows' : Name → List (List ℤ)) → ((n : Name) → SameBag (rows n) (rows' n)) → kept_tables ts rows ≡ kept_tables ts rows'
+pub kept_of_bags : (ts : List TableDecl) (rows rows' : Name → List (List ℤ)) → ((n : Name) → SameBag (rows n) (rows' n))
+    → kept_tables ts rows ≡ kept_tables ts rows'
 kept_of_bags [] rows rows' h = refl
 kept_of_bags (t ∷ ts) rows rows' h = λ i. kept_of_bag t.kind (rows t.name) (rows' t.name) (h t.name) i ∷ kept_of_bags ts rows rows' h i
 

@@ -24,7 +24,6 @@ use Rattle.brooklet_model.proofs.Lists.{if_true, if_false, if_lt, if_ge}
 use Rattle.brooklet_model.proofs.Ports.{tables_in, counts}
 use Rattle.brooklet_model.proofs.Traces.{some_is, at_most}
 use Rattle.brooklet_model.proofs.TypedPlan.{op_fits}
-use Rattle.brooklet_model.proofs.WideAdds.{widths_length}
 use Rattle.brooklet_step.specs.Tables.{table_places}
 
 -- those of these variables that are tables
@@ -64,12 +63,18 @@ places_are names others (v ∷ vs) =
     ∙ ap (places names) (sym (if_ge 0 (count v names) (v ∷ among names vs) (among names vs) ge)))
     (cases_lt 0 (count v names))
 
-pub table_places_are : (p : PlanForm) (op : OpForm) (n : ℕ) → n ≡ length p.tables → table_places n (places (variable_names p) op.vars) ≡ places (table_names p.tables) (tables_of (table_names p.tables) op)
+pub table_places_are : (p : PlanForm) (op : OpForm) (n : ℕ) → n ≡ length p.tables
+    → table_places n (places (variable_names p) op.vars) ≡ places (table_names p.tables) (tables_of (table_names p.tables) op)
 table_places_are p op n e =
     ap (λ k. table_places k (places (variable_names p) op.vars)) (e ∙ sym (length-map p.tables (λ (t : TableDecl). t.name)))
     ∙ places_are (table_names p.tables) p.vars op.vars
 
 -- THEIR WIDTHS
+
+widths_many : (vs : List VarKind) → length (widths_in vs) ≡ tables_in vs
+widths_many [] = refl
+widths_many (Private ∷ vs) = widths_many vs
+widths_many (Table n ∷ vs) = let e = widths_many vs in omega (arith, e)
 
 -- the width of a table by name
 abbrev pub width_at : List TableDecl → Name → ℕ
@@ -141,8 +146,8 @@ module _ (p : PlanForm) (v : IsPlan p) (o : ℕ) (op : OpForm) (g : slice_get p.
   pub widths_of : widths_in (map (var_kind p.tables p.vars) op.vars) ≡ map (width_at p.tables) (tables_of (table_names p.tables) op)
   widths_of = widths_are p.tables p.vars op.vars vars_known
 
-  -- and their number
+  -- and how many there are
   pub mine_many : length (tables_of (table_names p.tables) op) ≡ tabs op.kernel
   mine_many =
-      sym (length-map (tables_of (table_names p.tables) op) (width_at p.tables)) ∙ ap length (sym widths_of) ∙ widths_length (map (var_kind p.tables p.vars) op.vars)
+      sym (length-map (tables_of (table_names p.tables) op) (width_at p.tables)) ∙ ap length (sym widths_of) ∙ widths_many (map (var_kind p.tables p.vars) op.vars)
       ∙ (counts op.kernel _ _ _ (op_fits p v o op g)).tables

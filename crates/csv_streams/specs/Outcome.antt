@@ -80,4 +80,5 @@ asked false counts = None
 
 -- what is printed for a plan: its outputs in order, its tables in order, and then the firings of its operators
 abbrev pub printed_outcome : PlanForm → List (List item.Item) → List (List (List ℤ)) → Option (List ℤ) → List ℕ
-printed_outcome p outs tables counts = outputs_text (decl_names p.outputs) outs ++ (tables_text (table_names p.tables) tables ++ firings_text (labels p.ops) counts)
+printed_outcome p outs tables counts =
+    outputs_text (decl_names p.outputs) outs ++ (tables_text (table_names p.tables) tables ++ firings_text (labels p.ops) counts)

@@ -29,7 +29,13 @@ pub record Source : Type 0 where
 
 -- the program of a River text is its plan
 abbrev pub river_source : PlanForm → Source
-river_source p = record { inputs = p.inputs; outputs = decl_names p.outputs; tables = table_names p.tables; means = λ rows. meaning p (all_items rows); plan = p }
+river_source p = record {
+  inputs = p.inputs;
+  outputs = decl_names p.outputs;
+  tables = table_names p.tables;
+  means = λ rows. meaning p (all_items rows);
+  plan = p;
+}
 
 -- the values of the first input, of which each row has one
 abbrev pub values : List (List (List ℤ)) → List ℤ
