@@ -67,7 +67,7 @@ hoist-spoken p p' l h e =
     let a = hoisting_up.accepted p l p' e in
     let b = first-spoken (writes_it a.mid) p.ops a.below h a.may.below in
     subst (λ (x : PlanForm). Every IsSpoken x.ops) a.is
-    (replaced-spoken a.mid (raised a.above a.moved a.src a.mid ∷ lowered a.below a.side a.mid a.out ∷ []) p.ops ((tt, tt), b, tt) h)
+    (replaced-spoken a.mid (raised a.above a.moved a.src a.mid ∷ lowered a.below a.side a.mid a.out ∷ []) p.ops ((tt, tt), (b, tt)) h)
 
 -- a kernel within the bounds
 abbrev IsSpokenKernel : Kern → Type 0
