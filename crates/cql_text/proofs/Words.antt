@@ -3,6 +3,7 @@ use Rattle.std.proofs.Common.{◌≡◌, ℕ, List, [], ◌∷◌, ◌++◌, Boo
 use Rattle.std.specs.Prelude.{codes, ◌&&◌, ◌||◌, not}
 use Rattle.std.specs.List.{list_any}
 use Rattle.std.specs.Str.{bytes_eq}
+use Rattle.std.specs.Str.{str_to_ascii_lowercase as lower}
 use Rattle.std.proofs.lemmas.Slice.Eq.{bytes_eq-Decides}
 use Rattle.river_base.specs.Name.{is_name}
 use Rattle.work_code.specs.Tok.{Tok, name, var, number, symbol}
@@ -10,7 +11,7 @@ use Rattle.text_forms.specs.Language.{is_free}
 use Rattle.text_forms.specs.Parse as parse
 use Rattle.text_forms.specs.Tail.{tail}
 use Rattle.text_forms.proofs.Exact.{Exact, Front, Any, exact-tested, exact-name}
-use Rattle.cql_text.specs.Words.{lower, is_keyword, is_keyword_at, is_plain, keywords, Plain, plain_at, Keyword, keyword}
+use Rattle.cql_text.specs.Words.{is_keyword, is_keyword_at, is_plain, keywords, Plain, plain_at, Keyword, keyword}
 
 pub exact-plain : Exact Plain plain_at Any
 exact-plain = exact-tested is_plain exact-name
@@ -66,8 +67,8 @@ where-not_plain text e = by (is_plain text) refl where
   by true is = absurd (let f = plain-where text is in cc (sym e ∙ f))
 
 -- a text that is one word is no other
-pub other_word : (word other text : List ℕ) → is_keyword word text ≡ true → bytes_eq word other ≡ false → is_keyword other text ≡ false
-other_word word other text e ne = ap (λ w. bytes_eq w other) ((bytes_eq-Decides (lower text) word).0 e) ∙ ne
+pub other_word : (word other text : List ℕ) → is_keyword word text ≡ true → is_keyword other word ≡ false → is_keyword other text ≡ false
+other_word word other text e ne = ap (λ w. bytes_eq w (lower other)) ((bytes_eq-Decides (lower text) (lower word)).0 e) ∙ ne
 
 pub keyword-found : (word : List ℕ) (ts : List Tok) → is_keyword_at word ts ≡ true → (text : List ℕ) × (ts ≡ name text ∷ tail ts) × (is_keyword word text ≡ true)
 keyword-found word [] e = cc

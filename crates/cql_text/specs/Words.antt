@@ -1,7 +1,7 @@
 -- Keywords of CQL, in any letter case, and names.
-use Rattle.std.specs.Prelude.{◌≡◌, ℕ, ◌+◌, Bool, true, false, not, ◌&&◌, nat_le, if◌then◌else◌, List, [], ◌∷◌, map, codes, None}
+use Rattle.std.specs.Prelude.{◌≡◌, ℕ, Bool, true, false, not, ◌&&◌, if◌then◌else◌, List, [], ◌∷◌, codes, Option, None, Some}
 use Rattle.std.specs.List.{list_any}
-use Rattle.std.specs.Str.{bytes_eq}
+use Rattle.std.specs.Str.{str_eq_ignore_ascii_case}
 use Rattle.river_base.specs.Name.{is_name}
 use Rattle.work_code.specs.Tok.{Tok, name, var, number, symbol}
 use Rattle.text_forms.specs.Forms as form
@@ -9,16 +9,9 @@ use Rattle.text_forms.specs.Language.{is_free}
 use Rattle.text_forms.specs.Parse.{Parse, tested, name_at}
 use Rattle.text_forms.specs.Tail.{tail}
 
--- a capital letter as a small one
-abbrev pub lower_one : ℕ → ℕ
-lower_one c = if nat_le 65 c && nat_le c 90 then c + 32 else c
-
-abbrev pub lower : List ℕ → List ℕ
-lower text = map lower_one text
-
 -- the text is this word, in any letter case
 abbrev pub is_keyword : List ℕ → List ℕ → Bool
-is_keyword word text = bytes_eq (lower text) word
+is_keyword word text = str_eq_ignore_ascii_case text word
 
 abbrev pub keywords : List (List ℕ)
 keywords =
@@ -54,3 +47,7 @@ pub record Keyword {A : Type 0} (word : List ℕ) (F : A → List Tok → Type 0
 
 abbrev pub keyword : {A : Type 0} → List ℕ → Parse A → Parse A
 keyword word p ts = if is_keyword_at word ts then p (tail ts) else None
+
+-- the tokens behind a word
+abbrev pub keyword_at : List ℕ → List Tok → Option (List Tok)
+keyword_at word ts = if is_keyword_at word ts then Some (tail ts) else None

@@ -2,8 +2,10 @@
 #![tactic(auto)]
 
 mod fault;
+mod keywords;
 mod operator;
 mod tree;
+
 
 pub use fault::CqlTextFault;
 pub use operator::Operator;
