@@ -1,3 +1,4 @@
+pub mod Steps
 pub mod Texts
 pub mod Units
 pub mod Values

@@ -3,8 +3,10 @@
 
 mod fault;
 mod keywords;
+mod measured;
 mod operator;
 mod tree;
+mod value;
 
 
 pub use fault::CqlTextFault;
