@@ -5,7 +5,7 @@ use Rattle.work_code.specs.Lexis.{tokens_in}
 use Rattle.work_code.specs.Tok.{Tok, Mark, toks}
 use Rattle.work_code.specs.declared.fault.LexFault.{LexFault}
 use Rattle.text_forms.specs.Texts.{IsFirstBad}
-use Rattle.text_forms.proofs.Texts.{all-formed, formed-read, first-bad}
+use Rattle.text_forms.proofs.Texts.{all-formed, formed-read, first-bad, bad-read}
 use Rattle.cql_text.specs.Faults.{StandFor, IsBadUnit}
 use Rattle.cql_text.specs.Grammar.{AreParts, IsText, IsPartAt, next_part}
 use Rattle.cql_text.specs.Laws.{OneProgram}
@@ -27,6 +27,11 @@ units-reads units p h = formed-read next_part exact-part_from tt 1 units p h
 pub units-bad : (units : List (List Tok)) (m : ℕ) → parts_in units ≡ Err m → IsFirstBad IsPartAt next_part tt units m
 unfolding parts_in
 units-bad units m e = first-bad next_part exact-part_from tt units m e
+
+-- the first unit that is not in the grammar is told
+pub units-told : (units : List (List Tok)) (m : ℕ) → IsFirstBad IsPartAt next_part tt units m → parts_in units ≡ Err m
+unfolding parts_in
+units-told units m h = bad-read next_part exact-part_from tt units m h
 
 -- the text stands for what is read of it
 pub text-read : (text : List ℕ) (marks : List Mark) (p : List Part) → tokens_in text ≡ Ok marks → parts_in (units_of (toks marks)) ≡ Ok p → IsText text p

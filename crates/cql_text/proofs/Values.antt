@@ -132,7 +132,7 @@ named-field f rest plain dot = rw (plain, dot) refl
 
 named-item : (a f : List ℕ) (rest : List Tok) → is_plain a ≡ true → is_plain f ≡ true → named a (symbol s.Dot ∷ name f ∷ rest) ≡ Some (ItemField a f, rest)
 unfolding named
-named-item a f rest pa pf = rw (pa, pf) refl
+named-item a f rest pa pf = rw (pa, exact-plain.complete f (name f ∷ []) rest (record { passes = pf; formed = refl }) tt) refl
 
 unary-complete : (n k room : ℕ) (t : Scalar) (ts : List Tok) (i : ℕ → parse.Parse Scalar) → ((room : ℕ) → Exact (IsWithin n room) (i room) (Ends 6)) → Spells n k t ts → k ≡ 0 → depth_of t ≤ room → (rest : List Tok) → parse.begins_with s.Dot rest ≡ false → unary i room (ts ++ rest) ≡ Some (t, rest)
 unfolding unary

@@ -6,4 +6,5 @@ pub mod Reading
 pub mod Tree
 pub mod ValueReading
 pub mod Values
+pub mod View
 pub mod Words

@@ -2,7 +2,7 @@
 ghost use Rattle.std.specs.Prelude.{◌≡◌, ◌≢◌, ◌<◌, ◌≤◌, ◌-◌, IfOk};
 ghost use Rattle.text_forms.specs.Gives.{Gives};
 ghost use Rattle.cql_text.specs.Measure.{tree_of};
-ghost use Rattle.cql_text.specs.Tree.{scalar};
+ghost use Rattle.cql_text.specs.Tree.{scalar, depth_of};
 ghost use Rattle.cql_text.specs.ValueReading.{numeral_at, named, leaf_at, unary, chain_line, compare_line, not_line, line, within, value_at};
 
 use crate::keywords::{plain, plain_name, takes_keyword};
@@ -30,6 +30,7 @@ pub fn numeral(reader: &mut Reader<'_>) -> Result<Numeral, Fault>
 #[tactic(auto, unfolding(crate::specs::ValueReading::named))]
 fn named(reader: &mut Reader<'_>, text: &[u8]) -> Result<Scalar, Fault>
     ensures reads { Gives scalar result reader.new (named text.now reader.old) }
+    ensures depth { IfOk result (λ value. depth_of (scalar value) ≡ 1) }
 {
     let Some(first) = plain(text) else {
         return Err(Fault::Syntax);
