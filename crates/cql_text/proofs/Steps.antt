@@ -1,20 +1,19 @@
 -- The steps by which code reads values.
-use Rattle.std.proofs.Common.{◌≡◌, ◌≢◌, ℕ, zero, suc, ◌<◌, ◌≤◌, ◌-◌, List, [], ◌∷◌, Bool, true, false, cond, Option, Some, None, refl, sym, ap, ◌∙◌, subst, arith}
+use Rattle.std.proofs.Common.{◌≡◌, ◌≢◌, ℕ, zero, suc, ◌<◌, ◌≤◌, ◌-◌, List, [], ◌∷◌, Bool, true, false, cond, Some, None, refl, sym, ap, ◌∙◌, arith}
 use Rattle.std.specs.Prelude.{codes, nat_lt, ◌==◌}
 use Rattle.std.proofs.lemmas.Bool.{eqb-true}
-use Rattle.work_code.specs.Tok.{Tok, name, var, number, symbol}
+use Rattle.work_code.specs.Tok.{Tok}
 use Rattle.work_code.specs.declared.sign.Symbol.TheVariants as s
 use Rattle.text_forms.specs.Ladder.{ahead}
 use Rattle.text_forms.specs.Parse as parse
-use Rattle.text_forms.specs.Repeat.{Turn, Stop, Fail, Next, repeated}
+use Rattle.text_forms.specs.Repeat.{Fail, repeated}
 use Rattle.text_forms.specs.Tail.{tail}
-use Rattle.text_forms.proofs.Exact.{Exact}
 use Rattle.text_forms.proofs.Repeat.{Shortens, repeated-next, repeated-stop, repeated-fail}
-use Rattle.cql_text.specs.Tree.{Scalar, Number, Neg, Not, Bin, depth_of}
+use Rattle.cql_text.specs.Tree.{Scalar, Neg, Not, Bin, depth_of}
 use Rattle.cql_text.specs.ValueReading.{operator_at, leaf_at, unary, joined, chain_on, chain_turn, chain_line, compared, compare_on, compare_line, not_line, line, within}
 use Rattle.cql_text.specs.Words.{is_keyword_at}
 use Rattle.cql_text.specs.declared.operator.Operator.{Operator}
-use Rattle.cql_text.proofs.Values.{Ends, IsWithin, exact-within, exact-line, chain-shortens}
+use Rattle.cql_text.proofs.Values.{exact-line, chain-shortens}
 
 less-one : (n : ℕ) → suc n - 1 ≡ n
 less-one n = omega arith

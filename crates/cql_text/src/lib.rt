@@ -4,6 +4,7 @@
 mod column;
 mod fault;
 mod keywords;
+pub mod laws;
 mod measured;
 mod operator;
 mod read;
@@ -11,7 +12,6 @@ mod tree;
 mod unit;
 mod value;
 mod window;
-
 
 pub use fault::CqlTextFault;
 pub use operator::Operator;
