@@ -3,10 +3,10 @@ use Rattle.std.specs.Prelude.{Ok}
 use Rattle.csv.specs.Records.{fields_of}
 use Rattle.csv_streams.specs.Numbered.{numbered}
 use Rattle.csv_streams.specs.Rows.{value_in}
-use Rattle.csv_streams.proofs.rows.row_of.Given as goal
+use Rattle.csv_streams.proofs.record.values_of.Given as goal
 
 abbrev pub invariant-loop-place : goal.invariant-loop-place
 invariant-loop-place l = record {
-  room : length l.values ≡ 16;
+  room : length l.values ≡ 17;
   read : numbered (value_in l.rec) 1 (take l.place (fields_of l.raw)) ≡ Ok (take l.place l.values);
 }
