@@ -48,13 +48,13 @@ stream_batch n (Pack fs) h = absurd h
 
 -- of a relation's item: its rows, which ascend
 record IsContent (n : ℕ) (x : item.Item) : Type 0 where
-  flat : flat.Flat
-  is : x ≡ Flat flat
-  wide : HaveWidth n (flat_rows flat)
-  up : IsAscending (flat_rows flat)
+  content : flat.Flat
+  is : x ≡ Flat content
+  wide : HaveWidth n (flat_rows content)
+  up : IsAscending (flat_rows content)
 
 content_of : (n : ℕ) (x : item.Item) → HasType (relation n) x → IsContent n x
-content_of n (Flat (Batched b)) h = record { flat = Batched b; is = refl; wide = h.0; up = h.1 }
+content_of n (Flat (Batched b)) h = record { content = Batched b; is = refl; wide = h.0; up = h.1 }
 content_of n (Flat (One row)) h = absurd h
 content_of n (Pack fs) h = absurd h
 
@@ -65,9 +65,6 @@ pub same_flat : (f g : flat.Flat) → Flat f ≡ Flat g → f ≡ g
 same_flat f g h = cc
 
 -- STATES
-
-head_is : (s t : State) → s ∷ [] ≡ t ∷ [] → s ≡ t
-head_is s t h = cc
 
 module _ (k : Kern) (port : ℕ) (x : item.Item) (st : List State) (out : Emit) (a : Applies k port x st out) where
   -- the first list is there
@@ -120,10 +117,10 @@ can_read n e rows g h = λ k d lt. subst (λ m. IsWithin m 0 e) (sym (h k d lt))
 
 select_in : (t : FlatType) (e : Term) (x : item.Item) → (is_sized t && (is_bag t && is_term (width_of t) 0 e)) ≡ true → HasType (FlatOf t) x → IsFlatWith (λ f. CanRead e (flat_rows f)) x
 select_in (Rows n) e x g h = absurd (true≢false (sym (and_parts (is_width n) (false && is_term n 0 e) g).1))
-select_in (Stream n) e (Flat (Batched b)) g h = record { flat = Batched b; is = refl; holds = can_read n e b.rows (and_parts (is_width n) (true && is_term n 0 e) g).1 h }
+select_in (Stream n) e (Flat (Batched b)) g h = record { content = Batched b; is = refl; holds = can_read n e b.rows (and_parts (is_width n) (true && is_term n 0 e) g).1 h }
 select_in (Stream n) e (Flat (One row)) g h = absurd h
 select_in (Stream n) e (Pack fs) g h = absurd h
-select_in (Relation n) e (Flat (Batched b)) g h = record { flat = Batched b; is = refl; holds = can_read n e b.rows (and_parts (is_width n) (true && is_term n 0 e) g).1 h.0 }
+select_in (Relation n) e (Flat (Batched b)) g h = record { content = Batched b; is = refl; holds = can_read n e b.rows (and_parts (is_width n) (true && is_term n 0 e) g).1 h.0 }
 select_in (Relation n) e (Flat (One row)) g h = absurd h
 select_in (Relation n) e (Pack fs) g h = absurd h
 
@@ -150,7 +147,7 @@ project_item k es port x st ek t =
     let u = subst (λ (j : Kern). Takes j port x st) ek t in
     let f = u.fitted.fits in
     let c = content_at f.0 port u.reads x f.1 u.item in
-    record { flat = c.flat; is = c.is; holds = can_project f.0 es (flat_rows c.flat) f.4 c.wide }
+    record { content = c.content; is = c.is; holds = can_project f.0 es (flat_rows c.content) f.4 c.wide }
 
 pub project_fires : (k : Kern) (es : List Term) (port : ℕ) (x : item.Item) (st : List State) (out out' : Emit) → k ≡ project es → Took out out' (gives 0 (project_one es x) []) → Fires k out out' st st (fire k port x)
 project_fires k es port x st out out' ek t =
@@ -164,7 +161,7 @@ module _ (k : Kern) (s : Streamer) (port : ℕ) (x : item.Item) (st : List State
   u = subst (λ (j : Kern). Takes j port x st) ek t
 
   pub streamer_item : IsFlatWith (λ f. IsAscending (flat_rows f)) x
-  streamer_item = let f = u.fitted.fits in let c = content_at f.0 port u.reads x f.1 u.item in record { flat = c.flat; is = c.is; holds = c.up }
+  streamer_item = let f = u.fitted.fits in let c = content_at f.0 port u.reads x f.1 u.item in record { content = c.content; is = c.is; holds = c.up }
 
   pub streamer_state : (d v : State) → v ≡ get_or st 0 d → IsStreamerState v
   streamer_state d v g = let h = u.fitted.keeps.stands in record { now = h.now; is = only_state st d v (state.Streamer h.now) g h.code; ascends = h.ascends }
@@ -205,7 +202,7 @@ one_wide : (n : ℕ) (y : item.Item) → HasType (relation n) y → All (IsWideI
 one_wide n y h = All-cons (IsWideItem n) y [] (wide_item n y h) (All-nil (IsWideItem n))
 
 a_flat : (n : ℕ) (y : item.Item) → HasType (relation n) y → IsFlat y
-a_flat n y h = let c = content_of n y h in record { flat = c.flat; is = c.is; holds = tt }
+a_flat n y h = let c = content_of n y h in record { content = c.content; is = c.is; holds = tt }
 
 pair_flat : (a b p : ℕ) (y : item.Item) → IsOf (relation a ∷ relation b ∷ []) p y → IsFlat y
 pair_flat a b zero y h = a_flat a y h

@@ -1,5 +1,5 @@
 -- The first states of kernels.
-use Rattle.std.proofs.Common.{◌≡◌, ℕ, ℤ, pos, Ok, Err, List, [], ◌∷◌, ◌++◌, length, refl, sym, ap, ◌∙◌, subst, arith, IfOk}
+use Rattle.std.proofs.Common.{◌≡◌, ℕ, zero, suc, ◌-◌, ℤ, pos, drop, Ok, Err, List, [], ◌∷◌, ◌++◌, length, refl, sym, ap, ◌∙◌, subst, arith, IfOk}
 use Rattle.std.proofs.lemmas.List.{length-map, length-replicate}
 use Rattle.std.specs.declared.result.Result.{Result}
 use Rattle.river_base.specs.declared.memory.NoMemory.{NoMemory}
@@ -9,12 +9,12 @@ use Rattle.river_base.specs.declared.kind.QueueType.TheVariants.{Flat as FlatOf}
 use Rattle.work_code.specs.Term.{term, terms}
 use Rattle.work_code.specs.declared.expr.Expr.{Expr}
 use Rattle.work_code.specs.declared.expr.Exprs.{Exprs}
-use Rattle.kern_bags.specs.Kept.{window_start, StandsForStreamer}
+use Rattle.kern_bags.specs.Kept.{window_start, still_in, StandsForStreamer}
 use Rattle.kern_bags.specs.Steps.{pairing_start}
 use Rattle.kern_bags.specs.declared.kernel.Window.{Window}
 use Rattle.kern_bags.specs.declared.kernel.Streamer.{Streamer}
 use Rattle.kern_bags.specs.declared.kernel.Streamer.TheVariants.{Istream, Dstream, Rstream}
-use Rattle.kern_bags.proofs.KeptWindows.{still_none}
+use Rattle.kern_bags.specs.declared.kernel.Window.TheVariants.{Now, Range, Unbounded, Latest}
 use Rattle.kern_rows.specs.declared.kernel.CodeKernel.{CodeKernel}
 use Rattle.kern_rows.specs.Forms.{FilterForm, code_form}
 use Rattle.kern_rows.specs.Needs.{CanFilter, HaveShares}
@@ -77,6 +77,16 @@ unpack_first n st h e = record {
   defined = refl;
   joined = record { turn = first_turn (ones n) (formed_shaped (unpack n) h); lists = length-replicate n [] ∙ sym (length-replicate n 1) };
 }
+
+drop_none : {A : Type 0} (n : ℕ) → drop {A = A} n [] ≡ []
+drop_none zero = refl
+drop_none (suc n) = refl
+
+still_none : (w : Window) (t : ℤ) → still_in w t [] ≡ []
+still_none Now t = refl
+still_none (Range span) t = refl
+still_none Unbounded t = refl
+still_none (Latest n) t = drop_none (0 - n)
 
 -- a window of which no batch has come
 pub window_first : (w : Window) (st : List State) → st ≡ state.Window window_start ∷ [] → LeafFirst (window w) st

@@ -129,9 +129,9 @@ pub record IsBatch (x : item.Item) : Type 0 where
 
 -- the item is no pack, and this holds of it
 pub record IsFlatWith (P : flat.Flat → Type 0) (x : item.Item) : Type 0 where
-  pub flat : flat.Flat
-  pub is : x ≡ Flat flat
-  pub holds : P flat
+  pub content : flat.Flat
+  pub is : x ≡ Flat content
+  pub holds : P content
 
 abbrev pub IsFlat : item.Item → Type 0
 IsFlat x = IsFlatWith (λ f. Unit {0}) x
@@ -155,13 +155,13 @@ pub record IsCrossState (port : ℕ) (x : item.Item) (s : State) : Type 0 where
   pub can : CanCross (put_pair port x now)
 
 -- a window or a streamer received the item: what its step gave came to the first list
-pub record Stepped {S : Type 0} (wrap : S → State) (StandsFor : S → List item.Item → Type 0) (one : List item.Item → item.Item → List item.Item) (x : item.Item) (s s' : State) (out out' : Emit) : Type 0 where
+pub record Stepped {S : Type 0} (wrap : S → State) (stands_for : S → List item.Item → Type 0) (one : List item.Item → item.Item → List item.Item) (x : item.Item) (s s' : State) (out out' : Emit) : Type 0 where
   pub old : S
   pub new : S
   pub given : List item.Item
   pub was : s ≡ wrap old
   pub is : s' ≡ wrap new
-  pub steps : Steps StandsFor one x old new [] given
+  pub steps : Steps stands_for one x old new [] given
   pub took : Took out out' (gives 0 given [])
 
 -- the item came to a port of a product: the pairs that passed came to the first list

@@ -30,7 +30,12 @@ impl Model for StreamerState {
 }
 
 // Gives the rows that came since the last content.
-fn give_came(alloc: Global, last: &mut Rows, batch: Batch, out: &mut Items) -> Result<(), NoMemory>
+fn give_came(
+    alloc: Global,
+    last: &mut Rows,
+    batch: Batch,
+    out: &mut Items,
+) -> Result<(), NoMemory>
     requires last { IsAscending last.old }
     requires rows { IsAscending batch.rows }
     ensures ok { OnOk result (out.new ≡ out.old ++ flat_item (batched (record { at = batch.at; rows = difference batch.rows last.old })) ∷ []) }
@@ -44,7 +49,12 @@ fn give_came(alloc: Global, last: &mut Rows, batch: Batch, out: &mut Items) -> R
 }
 
 // Gives the rows that went since the last content.
-fn give_gone(alloc: Global, last: &mut Rows, batch: Batch, out: &mut Items) -> Result<(), NoMemory>
+fn give_gone(
+    alloc: Global,
+    last: &mut Rows,
+    batch: Batch,
+    out: &mut Items,
+) -> Result<(), NoMemory>
     requires last { IsAscending last.old }
     requires rows { IsAscending batch.rows }
     ensures ok { OnOk result (out.new ≡ out.old ++ flat_item (batched (record { at = batch.at; rows = difference last.old batch.rows })) ∷ []) }

@@ -9,12 +9,12 @@ use Rattle.brooklet_step.proofs.BagLeaves.{same_flat}
 use Rattle.brooklet_step.proofs.bag.fire_project.Goals as goal
 
 pub flat_of-requires : goal.flat_of-requires
-flat_of-requires c = record { flat = c.requires.item.flat; is = c.requires.item.is; holds = tt }
+flat_of-requires c = record { content = c.requires.item.content; is = c.requires.item.is; holds = tt }
 
 pub project-requires : goal.project-requires
 project-requires c =
     let h = c.requires.item in
-    subst (λ f. CanProject (terms c.args.list.now) (flat_rows f)) (same_flat h.flat c.flat_of.result (sym h.is ∙ sym c.flat_of.ensures)) h.holds
+    subst (λ f. CanProject (terms c.args.list.now) (flat_rows f)) (same_flat h.content c.flat_of.result (sym h.is ∙ sym c.flat_of.ensures)) h.holds
 
 pub returns : goal.returns
 returns c =

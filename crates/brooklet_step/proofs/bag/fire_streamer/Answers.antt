@@ -8,13 +8,13 @@ use Rattle.brooklet_step.proofs.BagLeaves.{same_flat, same_rows}
 use Rattle.brooklet_step.proofs.bag.fire_streamer.Goals as goal
 
 pub flat_of-requires : goal.flat_of-requires
-flat_of-requires c = record { flat = c.requires.item.flat; is = c.requires.item.is; holds = tt }
+flat_of-requires c = record { content = c.requires.item.content; is = c.requires.item.is; holds = tt }
 
 pub step-requires-clause-kept : goal.step-requires-clause-kept
 step-requires-clause-kept c = let h = c.requires.state in subst IsAscending (same_rows h.now c.in-Streamer.state (sym h.is ∙ c.in-Streamer.is)) h.ascends
 
 pub step-requires-clause-rows : goal.step-requires-clause-rows
-step-requires-clause-rows c = let h = c.requires.item in subst (λ f. IsAscending (flat_rows f)) (same_flat h.flat c.flat_of.result (sym h.is ∙ sym c.flat_of.ensures)) h.holds
+step-requires-clause-rows c = let h = c.requires.item in subst (λ f. IsAscending (flat_rows f)) (same_flat h.content c.flat_of.result (sym h.is ∙ sym c.flat_of.ensures)) h.holds
 
 pub returns-clause-steps : goal.returns-clause-steps
 returns-clause-steps c =
