@@ -27,7 +27,7 @@ pub struct Outcome {
 /// is an item. The outputs and the rows of the tables are what the plan means; what each table keeps is what it keeps of the rows
 /// that the definition adds to it.
 pub fn run_one(alloc: Global, plan: &Plan, inputs: Inputs) -> Result<Outcome, NoMemory>
-    requires { Fit plan.now inputs }
+    requires fits { Fit plan.now inputs }
     ensures outs { IfOk result (λ outcome. outcome.outs ≡ (meaning plan.now inputs).outs) }
     ensures tables { IfOk result (λ outcome. outcome.tables ≡ defined_tables plan.now inputs) }
     ensures rows { IfOk result (λ outcome. map rows_of outcome.tables ≡ (meaning plan.now inputs).tables) }
