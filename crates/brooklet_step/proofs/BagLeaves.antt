@@ -1,6 +1,6 @@
 -- Firings of kernels on bags of rows.
 use Rattle.std.proofs.Common.{◌≡◌, ℕ, zero, suc, ℤ, ◌+◌, ◌≤◌, ◌<◌, true, false, ◌&&◌, List, [], ◌∷◌, ◌++◌, length, refl, get_or, sym, ap, ◌∙◌, subst, arith}
-use Rattle.std.specs.Prelude.{All, nat_le}
+use Rattle.std.specs.Prelude.{All, nat_le, nat_lt}
 use Rattle.std.specs.List.{AllByRecursion, list_all}
 use Rattle.std.proofs.Math.ListN.{set}
 use Rattle.std.proofs.lemmas.Bool.{and_parts, true≢false}
@@ -15,7 +15,7 @@ use Rattle.river_base.specs.declared.kind.QueueType.{QueueType}
 use Rattle.river_base.specs.declared.kind.QueueType.TheVariants.{Flat as FlatOf}
 use Rattle.river_base.specs.Held.{HasType, HaveWidth, IsAscending}
 use Rattle.river_base.specs.Places.{each_grew, only, none}
-use Rattle.work_code.specs.Term.{Term}
+use Rattle.work_code.specs.Term.{Term, Const, Input, Slot, Neg, Not, Bin, depth_of}
 use Rattle.work_code.specs.Value.{IsWithin}
 use Rattle.kern_bags.specs.Kept.{WindowKept, StandsForWindow, StandsForStreamer, Steps}
 use Rattle.kern_bags.specs.Needs.{flat_rows, CanRead, CanProject, CanCross}
@@ -23,7 +23,7 @@ use Rattle.kern_bags.specs.Steps.{Pairing, rows_of, put_pair, crosses, window_on
 use Rattle.kern_bags.specs.declared.kernel.Streamer.{Streamer}
 use Rattle.kern_bags.specs.declared.kernel.Window.{Window}
 use Rattle.river_kernels.specs.Fits.{stream, relation, is_sized, is_bag, width_of}
-use Rattle.river_kernels.specs.Formed.{is_width, is_term, is_window}
+use Rattle.river_kernels.specs.Formed.{is_width, is_sound, is_term}
 use Rattle.river_kernels.specs.Kern.{Kern, window, select, project, cross, streamer}
 use Rattle.brooklet_model.specs.Firings.{Kept, Received, Crossing, gives}
 use Rattle.brooklet_model.specs.Fire.{fire, outs}
@@ -33,7 +33,6 @@ use Rattle.brooklet_step.specs.declared.state.State.{State}
 use Rattle.brooklet_step.specs.declared.state.State.TheVariants as state
 use Rattle.brooklet_step.specs.Took.{Took, HasRoom}
 use Rattle.brooklet_step.specs.Stands.{IsBatch, IsFlat, IsFlatWith, IsWindowState, IsStreamerState, IsCrossState, Stepped, Paired, StandsFor, Fires, Takes, Applies}
-use Rattle.brooklet_step.proofs.Formed.{term_within, terms_within}
 
 -- ITEMS
 
@@ -111,6 +110,28 @@ window_fires k w port x st d s s' out out' ek g t =
 
 le_by : (a b : ℕ) → nat_le a b ≡ true → a ≤ b
 le_by a b h = grind (arith, h)
+
+lt_by : (a b : ℕ) → nat_lt a b ≡ true → a < b
+lt_by a b h = grind (arith, h)
+
+sound_within : (i s : ℕ) (t : Term) → is_sound i s t ≡ true → IsWithin i s t
+sound_within i s (Const z) h = tt
+sound_within i s (Input place) h = lt_by place i h
+sound_within i s (Slot slot) h = lt_by slot s h
+sound_within i s (Neg t) h = sound_within i s t h
+sound_within i s (Not t) h = sound_within i s t h
+sound_within i s (Bin o l r) h =
+    let p = and_parts (is_sound i s l) (is_sound i s r) h in
+    (sound_within i s l p.0, sound_within i s r p.1)
+
+term_within : (i s : ℕ) (t : Term) → is_term i s t ≡ true → IsWithin i s t
+term_within i s t h = sound_within i s t (and_parts (is_sound i s t) (nat_le (depth_of t) 64) h).0
+
+terms_within : (i s : ℕ) (ts : List Term) → list_all (is_term i s) ts ≡ true → AllByRecursion (IsWithin i s) ts
+terms_within i s [] h = tt
+terms_within i s (t ∷ ts) h =
+    let p = and_parts (is_term i s t) (list_all (is_term i s) ts) h in
+    (term_within i s t p.0, terms_within i s ts p.1)
 
 can_read : (n : ℕ) (e : Term) (rows : List (List ℤ)) → is_term n 0 e ≡ true → HaveWidth n rows → CanRead e rows
 can_read n e rows g h = λ k d lt. subst (λ m. IsWithin m 0 e) (sym (h k d lt)) (term_within n 0 e g)
