@@ -1,4 +1,5 @@
 pub mod Answer
+pub mod Contents
 pub mod Inputs
 pub mod Jobs
 pub mod Laws
@@ -7,5 +8,4 @@ pub mod Points
 pub mod Said
 pub mod Source
 pub mod Text
-pub mod Widths
 pub mod Words

@@ -33,8 +33,8 @@ runs plan = if is_built plan then Ok tt else Err unbuilt
 unfoldable pub of_run : Job → Bool → Source → (List ℕ → Order) → Order
 of_run job counted source next =
     past (runs source.plan) (λ _.
-    of_inputs source.inputs job.ins job.options.header (λ rows.
-    next (printed source counted rows)))
+    of_inputs source.inputs job.ins job.options.header (λ files.
+    next (printed source counted files)))
 
 -- what the job's command makes of the program
 unfoldable pub of_command : Job → Source → (List ℕ → Order) → Order

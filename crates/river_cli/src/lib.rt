@@ -2,6 +2,7 @@
 #![tactic(auto)]
 
 mod compile;
+mod content;
 mod fetched;
 mod gather;
 mod job;

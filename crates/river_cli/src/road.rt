@@ -5,13 +5,11 @@ ghost use Rattle.river_order.specs.Decides.{Decides};
 ghost use Rattle.river_order.specs.Passes.{Answers, Passes, PassesAs, AnswersAs};
 ghost use Rattle.river_plan.specs.Valid.{IsPlan};
 ghost use Rattle.brooklet_step.specs.Built.{IsBuilt};
-ghost use Rattle.river_cli.specs.Inputs.{width_named};
 ghost use Rattle.river_cli.specs.Points.{points_of, of_job, of_text, of_script, with_plan, of_command, of_run, runs};
 ghost use Rattle.river_script.specs.Meaning.{rewritten as rewritten_plan};
 ghost use Rattle.river_script.specs.Words.{script_words};
 ghost use Rattle.river_cli.specs.Text.{script_refused as script_text};
 ghost use Rattle.river_cli.specs.Source.{Source, IsPlanOf, IsCompiled, printed};
-ghost use Rattle.river_cli.specs.Widths.{HaveWidths};
 
 use crate::compile::compile;
 use crate::gather::gather;
@@ -144,8 +142,8 @@ fn run<S: Shelf>(
 {
     check_runs(alloc, plan)?;
     let decls = plan.raw().inputs.as_slice();
-    let rows = gather(alloc, decls, job.ins.as_slice(), job.options.header, shelf)?;
-    Ok(output(alloc, plan, rows, counted)?)
+    let files = gather(alloc, decls, job.ins.as_slice(), job.options.header, shelf)?;
+    Ok(output(alloc, plan, files, counted)?)
 }
 
 // A plan is refused if such plans are not run so far.
