@@ -6,6 +6,5 @@ pub mod Inputs
 pub mod Items
 pub mod Points
 pub mod ReadOn
-pub mod Runs
 pub mod Scripts
 pub mod Told

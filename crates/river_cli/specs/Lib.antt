@@ -2,7 +2,6 @@ pub mod Answer
 pub mod Contents
 pub mod Inputs
 pub mod Jobs
-pub mod Laws
 pub mod Phrases
 pub mod Points
 pub mod Said

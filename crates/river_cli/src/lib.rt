@@ -6,7 +6,6 @@ mod content;
 mod fetched;
 mod gather;
 mod job;
-pub mod laws;
 mod names;
 mod output;
 mod phrases;

@@ -2,7 +2,6 @@
 ghost use Rattle.std.specs.Prelude.{◌≡◌, [], ◌∷◌, ◌++◌, map, IfOk, OnOk};
 ghost use Rattle.river_base.specs.Instants.{stamps};
 ghost use Rattle.river_plan.specs.Valid.{IsPlan};
-ghost use Rattle.brooklet_step.specs.Built.{IsBuilt};
 ghost use Rattle.river_cli.specs.Contents.{AreContents};
 ghost use Rattle.river_cli.specs.Inputs as inputs;
 ghost use Rattle.river_cli.specs.Source.{Source, IsPlanOf, printed};
@@ -22,7 +21,6 @@ pub fn output(
     counted: bool,
 ) -> Result<Bytes, NoMemory>
     requires valid { IsPlan plan.now }
-    requires built { IsBuilt plan.now }
     requires contents { AreContents plan.now.inputs files }
     ensures { IfOk result (λ text. (source : Source) → IsPlanOf source plan.now → text ≡ printed source counted files) }
 {
