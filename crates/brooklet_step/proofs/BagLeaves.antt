@@ -14,10 +14,10 @@ use Rattle.river_base.specs.declared.kind.FlatType.TheVariants.{Rows, Stream, Re
 use Rattle.river_base.specs.declared.kind.QueueType.{QueueType}
 use Rattle.river_base.specs.declared.kind.QueueType.TheVariants.{Flat as FlatOf}
 use Rattle.river_base.specs.Held.{HasType, HaveWidth, IsAscending}
-use Rattle.river_base.specs.Places.{each_grew, only, none}
+use Rattle.river_base.specs.Places.{each_grew, only}
 use Rattle.work_code.specs.Term.{Term, Const, Input, Slot, Neg, Not, Bin, depth_of}
 use Rattle.work_code.specs.Value.{IsWithin}
-use Rattle.kern_bags.specs.Kept.{WindowKept, StandsForWindow, StandsForStreamer, Steps}
+use Rattle.kern_bags.specs.Kept.{WindowKept, StandsForWindow, StandsForStreamer}
 use Rattle.kern_bags.specs.Needs.{flat_rows, CanRead, CanProject, CanCross}
 use Rattle.kern_bags.specs.Steps.{Pairing, rows_of, put_pair, crosses, window_one, select_one, project_one, streamer_one}
 use Rattle.kern_bags.specs.declared.kernel.Streamer.{Streamer}
@@ -25,13 +25,13 @@ use Rattle.kern_bags.specs.declared.kernel.Window.{Window}
 use Rattle.river_kernels.specs.Fits.{stream, relation, is_sized, is_bag, width_of}
 use Rattle.river_kernels.specs.Formed.{is_width, is_sound, is_term}
 use Rattle.river_kernels.specs.Kern.{Kern, window, select, project, cross, streamer}
-use Rattle.brooklet_model.specs.Firings.{Kept, Received, Crossing, gives}
+use Rattle.brooklet_model.specs.Firings.{Kept, Crossing, gives}
 use Rattle.brooklet_model.specs.Fire.{fire, outs}
-use Rattle.brooklet_model.specs.Typed.{IsOf, AreReceived, ArePaired}
+use Rattle.brooklet_model.specs.Typed.{IsOf, ArePaired}
 use Rattle.brooklet_step.specs.declared.emit.Emit.{Emit}
 use Rattle.brooklet_step.specs.declared.state.State.{State}
 use Rattle.brooklet_step.specs.declared.state.State.TheVariants as state
-use Rattle.brooklet_step.specs.Took.{Took, HasRoom}
+use Rattle.brooklet_step.specs.Took.{Took}
 use Rattle.brooklet_step.specs.Stands.{IsBatch, IsFlat, IsFlatWith, IsWindowState, IsStreamerState, IsCrossState, Stepped, Paired, StandsFor, Fires, Takes, Applies}
 
 -- ITEMS

@@ -1,4 +1,4 @@
-use Rattle.std.proofs.Common.{◌≡◌, [], refl, sym, ap, ◌∙◌, subst}
+use Rattle.std.proofs.Common.{[], refl, sym, ◌∙◌, subst}
 use Rattle.river_base.specs.Held.{IsAscending}
 use Rattle.river_base.specs.declared.item.Item.TheVariants.{Flat}
 use Rattle.kern_bags.specs.Kept.{StandsForStreamer, Steps}

@@ -1,9 +1,8 @@
-use Rattle.std.proofs.Common.{◌≡◌, [], refl, sym, ap, ◌∙◌, subst}
+use Rattle.std.proofs.Common.{[], refl, sym, ◌∙◌, subst}
 use Rattle.river_base.specs.declared.item.Item.TheVariants.{Flat}
 use Rattle.river_base.specs.declared.item.Flat.TheVariants.{Batch as Batched}
-use Rattle.kern_bags.specs.Kept.{WindowKept, IsWindowKept, StandsForWindow, Steps}
+use Rattle.kern_bags.specs.Kept.{IsWindowKept, StandsForWindow, Steps}
 use Rattle.kern_bags.specs.Steps.{window_one}
-use Rattle.brooklet_step.specs.declared.state.State.TheVariants as state
 use Rattle.brooklet_step.proofs.BagLeaves.{same_window}
 use Rattle.brooklet_step.proofs.bag.fire_window.Goals as goal
 

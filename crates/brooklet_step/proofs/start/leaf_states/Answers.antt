@@ -4,7 +4,7 @@ use Rattle.kern_rows.specs.Forms.{filter_form}
 use Rattle.river_kernels.specs.Kern.{kern_of, collect, unpack, window, cross, streamer}
 use Rattle.brooklet_model.specs.Shapes.{IsFormed}
 use Rattle.brooklet_step.proofs.Fires.{kern_of-filter}
-use Rattle.brooklet_step.proofs.Starts.{LeafFirst, if_ok, filter_first, deal_first, collect_first, unpack_first, window_first, cross_first, streamer_first, kern_of-deal, kern_of-collect, kern_of-unpack, kern_of-window, kern_of-select, kern_of-project, kern_of-cross, kern_of-streamer}
+use Rattle.brooklet_step.proofs.Starts.{LeafFirst, if_ok, filter_first, deal_first, collect_first, unpack_first, window_first, cross_first, streamer_first, kern_of-deal, kern_of-collect, kern_of-unpack, kern_of-window, kern_of-cross, kern_of-streamer}
 use Rattle.brooklet_step.proofs.start.leaf_states.Goals as goal
 
 pub filter_states-requires : goal.filter_states-requires
