@@ -48,13 +48,15 @@ told_content : (name : List ℕ) (r : Result Content InFault) (x : Content) → 
 told_content name (Ok y) x e = let is : y ≡ x = cc in ap (λ (c : Content). Ok c) is
 told_content name (Err f) x e = cc
 
-first_and_others : (r : Result Content (List ℕ)) (later : Result (List Content) (List ℕ)) (all : List Content) → with_first r later ≡ Ok all → (x : Content) × (others : List Content) × (r ≡ Ok x) × (later ≡ Ok others) × (all ≡ x ∷ others)
+first_and_others : (r : Result Content (List ℕ)) (later : Result (List Content) (List ℕ)) (all : List Content) → with_first r later ≡ Ok all
+    → (x : Content) × (others : List Content) × (r ≡ Ok x) × (later ≡ Ok others) × (all ≡ x ∷ others)
 first_and_others (Err text) later all e = cc
 first_and_others (Ok x) (Err text) all e = cc
 first_and_others (Ok x) (Ok others) all e = let is : all ≡ x ∷ others = cc in (x, others, refl, refl, is)
 
 module _ (decls : List Decl) (header : Bool) where
-  named_content : (ins : List InWord) (files : List (List ℕ)) (all : List Content) (name : List ℕ) → length files ≡ length ins → all_read (content_reader decls header) ins files ≡ Ok all
+  named_content : (ins : List InWord) (files : List (List ℕ)) (all : List Content) (name : List ℕ) → length files ≡ length ins
+      → all_read (content_reader decls header) ins files ≡ Ok all
       → 0 < count name (names ins) → IsRowsOrStream (kind_of decls name) → IsContent (kind_of decls name) (content_named ins all name)
   named_content [] files all name same e lt o = absurd (omega (arith, lt))
   named_content (w ∷ ins) [] all name same e lt o = absurd (omega (arith, same))
@@ -78,7 +80,8 @@ Known kind (d ∷ ds) = (kind d.name ≡ d.kind) × Known kind ds
 kind_if : Decl → List Decl → Name → Bool → QueueType
 kind_if d ds q b = unwrap_or (if b then Some d.kind else kind_in ds q) (rows 0)
 
-known_more : (d : Decl) (all ds : List Decl) → ((q : Name) → 0 < count q (decl_names ds) → name_eq d.name q ≡ false) → Known (kind_of all) ds → Known (kind_of (d ∷ all)) ds
+known_more : (d : Decl) (all ds : List Decl) → ((q : Name) → 0 < count q (decl_names ds) → name_eq d.name q ≡ false) → Known (kind_of all) ds
+    → Known (kind_of (d ∷ all)) ds
 unfolding kind_if
 known_more d all [] other k = tt
 known_more d all (e ∷ ds) other k =
@@ -102,21 +105,24 @@ inputs-apart p v q =
 -- EACH INPUT HAS A CONTENT OF ITS TYPE
 
 module _ (decls : List Decl) (header : Bool) (ins : List InWord) (files : List (List ℕ)) (all : List Content)
-  (same : length files ≡ length ins) (read : all_read (content_reader decls header) ins files ≡ Ok all) where
+    (same : length files ≡ length ins) (read : all_read (content_reader decls header) ins files ≡ Ok all) where
   each_content : (ds : List Decl) → Known (kind_of decls) ds → All IsOuter ds → All (λ d. IsNamed ins d) ds → AreContents ds (in_order ds ins all)
   each_content [] k o n = tt
   each_content (d ∷ ds) k o n =
-      let outer = (All-head IsOuter d ds o).1 in
-      (subst (λ t. IsContent t (content_named ins all d.name)) k.0
-      (named_content decls header ins files all d.name same read (All-head (λ e. IsNamed ins e) d ds n) (subst IsRowsOrStream (sym k.0) outer)),
-      each_content ds k.1 (All-tail IsOuter d ds o) (All-tail (λ e. IsNamed ins e) d ds n))
+      let outer = (All-head IsOuter d ds o).1 in (
+        subst (λ t. IsContent t (content_named ins all d.name)) k.0
+            (named_content decls header ins files all d.name same read (All-head (λ e. IsNamed ins e) d ds n) (subst IsRowsOrStream (sym k.0) outer)),
+        each_content ds k.1 (All-tail IsOuter d ds o) (All-tail (λ e. IsNamed ins e) d ds n),
+      )
 
-pub read-contents : (decls : List Decl) (header : Bool) (ins : List InWord) (files : List (List ℕ)) (result : Result (List Content) Stop) → All IsOuter decls → ((q : Name) → count q (decl_names decls) ≤ 1)
+pub read-contents : (decls : List Decl) (header : Bool) (ins : List InWord) (files : List (List ℕ)) (result : Result (List Content) Stop) → All IsOuter decls
+    → ((q : Name) → count q (decl_names decls) ≤ 1)
     → names_fit decls ins ≡ Ok tt → length files ≡ length ins → AnswersAs (λ all contents. contents ≡ in_order decls ins all) (all_read (content_reader decls header) ins files) result
     → IfOk result (AreContents decls)
 read-contents decls header ins files (Err s) o apart fit same told = tt
 read-contents decls header ins files (Ok contents) o apart fit same told = by (all_read (content_reader decls header) ins files) refl told
   where
-    by : (r : Result (List Content) (List ℕ)) → all_read (content_reader decls header) ins files ≡ r → StandsFor (λ all found. found ≡ in_order decls ins all) r contents → AreContents decls contents
+    by : (r : Result (List Content) (List ℕ)) → all_read (content_reader decls header) ins files ≡ r
+        → StandsFor (λ all found. found ≡ in_order decls ins all) r contents → AreContents decls contents
     by (Ok all) is told = subst (AreContents decls) (sym told) (each_content decls header ins files all same is decls (known_all decls apart) o (all-named decls ins fit))
     by (Err text) is told = absurd told

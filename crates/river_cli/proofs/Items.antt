@@ -29,7 +29,8 @@ at_width : (w : ℕ) (es : List Entry) (t : ℤ) → HaveWidth w (map (λ (e : E
 at_width w [] t h = All-nil (λ row. length row ≡ w)
 at_width w (e ∷ es) t h = step (int_eq e.0 t) (at_width w es t (All-tail (λ row. length row ≡ w) e.1 (map (λ (d : Entry). d.1) es) h))
   where
-    step : (b : Bool) → HaveWidth w (at_instant es t) → HaveWidth w (map (λ (d : Entry). d.1) (cond b (e ∷ filter (λ d. int_eq d.0 t) es) (filter (λ d. int_eq d.0 t) es)))
+    step : (b : Bool) → HaveWidth w (at_instant es t)
+        → HaveWidth w (map (λ (d : Entry). d.1) (cond b (e ∷ filter (λ d. int_eq d.0 t) es) (filter (λ d. int_eq d.0 t) es)))
     step true later = All-cons (λ row. length row ≡ w) e.1 (at_instant es t) (All-head (λ row. length row ≡ w) e.1 (map (λ (d : Entry). d.1) es) h) later
     step false later = later
 
