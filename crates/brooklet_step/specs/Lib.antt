@@ -1,3 +1,4 @@
+pub mod Built
 pub mod ByPlace
 pub mod Drained
 pub mod Fit
