@@ -26,6 +26,7 @@ use Rattle.river_cli.specs.Inputs.{names, names_fit, or_told, read_as, content_o
 use Rattle.river_cli.specs.declared.content.Content.{Content}
 use Rattle.river_cli.specs.declared.content.Content.TheVariants.{Rows as Plain, Timed}
 use Rattle.river_cli.specs.declared.job.InWord.{InWord}
+use Rattle.river_cli.specs.declared.job.Layout.{Layout}
 use Rattle.river_cli.proofs.Inputs.{IsNamed, all-named}
 
 -- WHAT IS READ FITS ITS TYPE
@@ -34,7 +35,7 @@ was_read : {A : Type 0} (content : A → Content) (r : Result A InFault) (x : Co
 was_read content (Ok y) x e = let is : x ≡ content y = cc in (y, refl, is)
 was_read content (Err f) x e = cc
 
-content_is : (t : QueueType) (header : Bool) (bytes : List ℕ) (x : Content) → IsRowsOrStream t → content_of t header bytes ≡ Ok x → IsContent t x
+content_is : (t : QueueType) (header : Layout) (bytes : List ℕ) (x : Content) → IsRowsOrStream t → content_of t header bytes ≡ Ok x → IsContent t x
 content_is (FlatOf (Rows w)) header bytes x o e =
     let (rs, read, is) = was_read Plain (rows_of bytes w header false) x e in
     subst (IsContent (FlatOf (Rows w))) (sym is) (read_rows-width bytes w header false rs read)
@@ -54,7 +55,7 @@ first_and_others (Err text) later all e = cc
 first_and_others (Ok x) (Err text) all e = cc
 first_and_others (Ok x) (Ok others) all e = let is : all ≡ x ∷ others = cc in (x, others, refl, refl, is)
 
-module _ (decls : List Decl) (header : Bool) where
+module _ (decls : List Decl) (header : Layout) where
   named_content : (ins : List InWord) (files : List (List ℕ)) (all : List Content) (name : List ℕ) → length files ≡ length ins
       → all_read (content_reader decls header) ins files ≡ Ok all
       → 0 < count name (names ins) → IsRowsOrStream (kind_of decls name) → IsContent (kind_of decls name) (content_named ins all name)
@@ -104,7 +105,7 @@ inputs-apart p v q =
 
 -- EACH INPUT HAS A CONTENT OF ITS TYPE
 
-module _ (decls : List Decl) (header : Bool) (ins : List InWord) (files : List (List ℕ)) (all : List Content)
+module _ (decls : List Decl) (header : Layout) (ins : List InWord) (files : List (List ℕ)) (all : List Content)
     (same : length files ≡ length ins) (read : all_read (content_reader decls header) ins files ≡ Ok all) where
   each_content : (ds : List Decl) → Known (kind_of decls) ds → All IsOuter ds → All (λ d. IsNamed ins d) ds → AreContents ds (in_order ds ins all)
   each_content [] k o n = tt
@@ -115,7 +116,7 @@ module _ (decls : List Decl) (header : Bool) (ins : List InWord) (files : List (
         each_content ds k.1 (All-tail IsOuter d ds o) (All-tail (λ e. IsNamed ins e) d ds n),
       )
 
-pub read-contents : (decls : List Decl) (header : Bool) (ins : List InWord) (files : List (List ℕ)) (result : Result (List Content) Stop) → All IsOuter decls
+pub read-contents : (decls : List Decl) (header : Layout) (ins : List InWord) (files : List (List ℕ)) (result : Result (List Content) Stop) → All IsOuter decls
     → ((q : Name) → count q (decl_names decls) ≤ 1)
     → names_fit decls ins ≡ Ok tt → length files ≡ length ins → AnswersAs (λ all contents. contents ≡ in_order decls ins all) (all_read (content_reader decls header) ins files) result
     → IfOk result (AreContents decls)

@@ -22,6 +22,7 @@ use Rattle.river_cli.specs.Text.{unknown_input, missing_input}
 use Rattle.river_cli.specs.declared.content.Content.{Content}
 use Rattle.river_cli.specs.declared.content.Content.TheVariants.{Rows as Plain}
 use Rattle.river_cli.specs.declared.job.InWord.{InWord}
+use Rattle.river_cli.specs.declared.job.Layout.{Layout}
 
 -- an input that is declared has a width
 declared_width : (decls : List Decl) (name : List ℕ) → All HasWidth decls → 0 < count name (decl_names decls) → IsTrue (is_width (width_named decls name))
@@ -169,7 +170,7 @@ content-skip ins all name i w whole lt same w_is other so_far =
 
 -- ---- FROM THE NAMES TO THE FILES
 
-module _ (decls : List Decl) (ins : List InWord) (header : Bool) (held : Option Held) where
+module _ (decls : List Decl) (ins : List InWord) (header : Layout) (held : Option Held) where
   abbrev reader : Reader Content
   reader = content_reader decls header
 
