@@ -1,5 +1,5 @@
 -- The inputs of a program: their names, the files that they are, and what is read of these.
-use Rattle.std.specs.Prelude.{ℕ, ℤ, List, [], ◌∷◌, map, Bool, false, not, nat_lt, if◌then◌else◌, Option, Some, None, Result, Ok, Err}
+use Rattle.std.specs.Prelude.{ℕ, ℤ, List, [], ◌∷◌, map, not, nat_lt, if◌then◌else◌, Option, Some, None, Result, Ok, Err}
 use Rattle.std.specs.List.{find}
 use Rattle.river_base.specs.Name.{name_eq}
 use Rattle.river_base.specs.declared.item.Item as item
