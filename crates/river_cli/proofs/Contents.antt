@@ -26,6 +26,7 @@ use Rattle.river_cli.specs.Inputs.{names, names_fit, or_told, read_as, content_o
 use Rattle.river_cli.specs.declared.content.Content.{Content}
 use Rattle.river_cli.specs.declared.content.Content.TheVariants.{Rows as Plain, Timed}
 use Rattle.river_cli.specs.declared.job.InWord.{InWord}
+use Rattle.river_cli.specs.declared.job.Layout.{Layout}
 use Rattle.river_cli.proofs.Inputs.{IsNamed, all-named}
 
 -- WHAT IS READ FITS ITS TYPE
@@ -34,15 +35,15 @@ was_read : {A : Type 0} (content : A → Content) (r : Result A InFault) (x : Co
 was_read content (Ok y) x e = let is : x ≡ content y = cc in (y, refl, is)
 was_read content (Err f) x e = cc
 
-content_is : (t : QueueType) (header : Bool) (bytes : List ℕ) (x : Content) → IsRowsOrStream t → content_of t header bytes ≡ Ok x → IsContent t x
-content_is (FlatOf (Rows w)) header bytes x o e =
-    let (rs, read, is) = was_read Plain (rows_of bytes w header false) x e in
-    subst (IsContent (FlatOf (Rows w))) (sym is) (read_rows-width bytes w header false rs read)
-content_is (FlatOf (Stream w)) header bytes x o e =
-    let (es, read, is) = was_read Timed (timed_of bytes w header) x e in
-    subst (IsContent (FlatOf (Stream w))) (sym is) (timed_have_width bytes w header es read)
-content_is (FlatOf (Relation w)) header bytes x o e = absurd o
-content_is (PackOf t) header bytes x o e = absurd o
+content_is : (t : QueueType) (layout : Layout) (bytes : List ℕ) (x : Content) → IsRowsOrStream t → content_of t layout bytes ≡ Ok x → IsContent t x
+content_is (FlatOf (Rows w)) layout bytes x o e =
+    let (rs, read, is) = was_read Plain (rows_of bytes w layout.header layout.more) x e in
+    subst (IsContent (FlatOf (Rows w))) (sym is) (read_rows-width bytes w layout.header layout.more rs read)
+content_is (FlatOf (Stream w)) layout bytes x o e =
+    let (es, read, is) = was_read Timed (timed_of bytes w layout.header) x e in
+    subst (IsContent (FlatOf (Stream w))) (sym is) (timed_have_width bytes w layout.header es read)
+content_is (FlatOf (Relation w)) layout bytes x o e = absurd o
+content_is (PackOf t) layout bytes x o e = absurd o
 
 told_content : (name : List ℕ) (r : Result Content InFault) (x : Content) → or_told name r ≡ Ok x → r ≡ Ok x
 told_content name (Ok y) x e = let is : y ≡ x = cc in ap (λ (c : Content). Ok c) is
@@ -54,19 +55,19 @@ first_and_others (Err text) later all e = cc
 first_and_others (Ok x) (Err text) all e = cc
 first_and_others (Ok x) (Ok others) all e = let is : all ≡ x ∷ others = cc in (x, others, refl, refl, is)
 
-module _ (decls : List Decl) (header : Bool) where
+module _ (decls : List Decl) (layout : Layout) where
   named_content : (ins : List InWord) (files : List (List ℕ)) (all : List Content) (name : List ℕ) → length files ≡ length ins
-      → all_read (content_reader decls header) ins files ≡ Ok all
+      → all_read (content_reader decls layout) ins files ≡ Ok all
       → 0 < count name (names ins) → IsRowsOrStream (kind_of decls name) → IsContent (kind_of decls name) (content_named ins all name)
   named_content [] files all name same e lt o = absurd (omega (arith, lt))
   named_content (w ∷ ins) [] all name same e lt o = absurd (omega (arith, same))
   named_content (w ∷ ins) (b ∷ files) all name same e lt o =
-      let (x, others, first, later, parts) = first_and_others (file_read (content_reader decls header) w b) (all_read (content_reader decls header) ins files) all e in
-      let read : content_of (kind_of decls w.name) header b ≡ Ok x = told_content w.name (content_of (kind_of decls w.name) header b) x first in
+      let (x, others, first, later, parts) = first_and_others (file_read (content_reader decls layout) w b) (all_read (content_reader decls layout) ins files) all e in
+      let read : content_of (kind_of decls w.name) layout b ≡ Ok x = told_content w.name (content_of (kind_of decls w.name) layout b) x first in
       subst (λ l. IsContent (kind_of decls name) (content_named (w ∷ ins) l name)) (sym parts)
       (⊎_elim
       (λ c. subst (λ (t : Bool). IsContent (kind_of decls name) (if t then x else content_named ins others name)) (sym c.1)
-      (content_is (kind_of decls name) header b x o (ap (λ n. content_of (kind_of decls n) header b) (sym c.0) ∙ read)))
+      (content_is (kind_of decls name) layout b x o (ap (λ n. content_of (kind_of decls n) layout b) (sym c.0) ∙ read)))
       (λ c. subst (λ (t : Bool). IsContent (kind_of decls name) (if t then x else content_named ins others name)) (sym c.1)
       (let none = ap one_if c.1 in named_content ins files others name (omega (arith, same)) later (omega (arith, none, lt)) o))
       (cases_name w.name name))
@@ -104,25 +105,25 @@ inputs-apart p v q =
 
 -- EACH INPUT HAS A CONTENT OF ITS TYPE
 
-module _ (decls : List Decl) (header : Bool) (ins : List InWord) (files : List (List ℕ)) (all : List Content)
-    (same : length files ≡ length ins) (read : all_read (content_reader decls header) ins files ≡ Ok all) where
+module _ (decls : List Decl) (layout : Layout) (ins : List InWord) (files : List (List ℕ)) (all : List Content)
+    (same : length files ≡ length ins) (read : all_read (content_reader decls layout) ins files ≡ Ok all) where
   each_content : (ds : List Decl) → Known (kind_of decls) ds → All IsOuter ds → All (λ d. IsNamed ins d) ds → AreContents ds (in_order ds ins all)
   each_content [] k o n = tt
   each_content (d ∷ ds) k o n =
       let outer = (All-head IsOuter d ds o).1 in (
         subst (λ t. IsContent t (content_named ins all d.name)) k.0
-            (named_content decls header ins files all d.name same read (All-head (λ e. IsNamed ins e) d ds n) (subst IsRowsOrStream (sym k.0) outer)),
+            (named_content decls layout ins files all d.name same read (All-head (λ e. IsNamed ins e) d ds n) (subst IsRowsOrStream (sym k.0) outer)),
         each_content ds k.1 (All-tail IsOuter d ds o) (All-tail (λ e. IsNamed ins e) d ds n),
       )
 
-pub read-contents : (decls : List Decl) (header : Bool) (ins : List InWord) (files : List (List ℕ)) (result : Result (List Content) Stop) → All IsOuter decls
+pub read-contents : (decls : List Decl) (layout : Layout) (ins : List InWord) (files : List (List ℕ)) (result : Result (List Content) Stop) → All IsOuter decls
     → ((q : Name) → count q (decl_names decls) ≤ 1)
-    → names_fit decls ins ≡ Ok tt → length files ≡ length ins → AnswersAs (λ all contents. contents ≡ in_order decls ins all) (all_read (content_reader decls header) ins files) result
+    → names_fit decls ins ≡ Ok tt → length files ≡ length ins → AnswersAs (λ all contents. contents ≡ in_order decls ins all) (all_read (content_reader decls layout) ins files) result
     → IfOk result (AreContents decls)
-read-contents decls header ins files (Err s) o apart fit same told = tt
-read-contents decls header ins files (Ok contents) o apart fit same told = by (all_read (content_reader decls header) ins files) refl told
+read-contents decls layout ins files (Err s) o apart fit same told = tt
+read-contents decls layout ins files (Ok contents) o apart fit same told = by (all_read (content_reader decls layout) ins files) refl told
   where
-    by : (r : Result (List Content) (List ℕ)) → all_read (content_reader decls header) ins files ≡ r
+    by : (r : Result (List Content) (List ℕ)) → all_read (content_reader decls layout) ins files ≡ r
         → StandsFor (λ all found. found ≡ in_order decls ins all) r contents → AreContents decls contents
-    by (Ok all) is told = subst (AreContents decls) (sym told) (each_content decls header ins files all same is decls (known_all decls apart) o (all-named decls ins fit))
+    by (Ok all) is told = subst (AreContents decls) (sym told) (each_content decls layout ins files all same is decls (known_all decls apart) o (all-named decls ins fit))
     by (Err text) is told = absurd told

@@ -22,6 +22,7 @@ use Rattle.river_cli.specs.Text.{unknown_input, missing_input}
 use Rattle.river_cli.specs.declared.content.Content.{Content}
 use Rattle.river_cli.specs.declared.content.Content.TheVariants.{Rows as Plain}
 use Rattle.river_cli.specs.declared.job.InWord.{InWord}
+use Rattle.river_cli.specs.declared.job.Layout.{Layout}
 
 -- an input that is declared has a width
 declared_width : (decls : List Decl) (name : List ℕ) → All HasWidth decls → 0 < count name (decl_names decls) → IsTrue (is_width (width_named decls name))
@@ -169,26 +170,26 @@ content-skip ins all name i w whole lt same w_is other so_far =
 
 -- ---- FROM THE NAMES TO THE FILES
 
-module _ (decls : List Decl) (ins : List InWord) (header : Bool) (held : Option Held) where
+module _ (decls : List Decl) (ins : List InWord) (layout : Layout) (held : Option Held) where
   abbrev reader : Reader Content
-  reader = content_reader decls header
+  reader = content_reader decls layout
 
   -- after the names: the files are fetched, and then read
   abbrev from_files : (List Content → Order) → Order
   from_files next = fetches ins (λ files. past (all_read reader ins files) (λ all. next (in_order decls ins all)))
 
-  past_names : (next : List Content → Order) → names_fit decls ins ≡ Ok tt → of_inputs decls ins header next ≡ from_files next
+  past_names : (next : List Content → Order) → names_fit decls ins ≡ Ok tt → of_inputs decls ins layout next ≡ from_files next
   unfolding of_inputs
   past_names next fit = ap (λ r. past r (λ _. from_files next)) fit
 
   -- a name refuses
-  pub names-stop : (rose : Type 0) (s : Stop) → Refuses (names_fit decls ins) s → (next : List Content → Order) → Stops (Some (of_inputs decls ins header next)) held rose s
+  pub names-stop : (rose : Type 0) (s : Stop) → Refuses (names_fit decls ins) s → (next : List Content → Order) → Stops (Some (of_inputs decls ins layout next)) held rose s
   unfolding of_inputs
   names-stop rose s told next = past-refused (names_fit decls ins) s held rose told (λ _. from_files next)
 
   -- a fetch stops
   pub fetch-stop : (rose : Type 0) (s : Stop) → names_fit decls ins ≡ Ok tt → ((next : List (List ℕ) → Order) → Stops (Some (fetches ins next)) held rose s)
-      → (next : List Content → Order) → Stops (Some (of_inputs decls ins header next)) held rose s
+      → (next : List Content → Order) → Stops (Some (of_inputs decls ins layout next)) held rose s
   fetch-stop rose s fit stops next =
       subst (λ (o : Order). Stops (Some o) held rose s) (sym (past_names next fit)) (stops (λ files. past (all_read reader ins files) (λ all. next (in_order decls ins all))))
 
@@ -204,7 +205,7 @@ module _ (decls : List Decl) (ins : List InWord) (header : Bool) (held : Option 
   read_passes rose files (Err s) told = λ next. past-refused (all_read reader ins files) s held rose told (λ all. next (in_order decls ins all))
 
   pub files-pass : (rose : Type 0) (files : List (List ℕ)) (result : Result (List Content) Stop) → names_fit decls ins ≡ Ok tt → ((next : List (List ℕ) → Order) → Comes (fetches ins next) held (next files))
-      → AnswersAs (λ all rows. rows ≡ in_order decls ins all) (all_read reader ins files) result → Passes (of_inputs decls ins header) held rose result
+      → AnswersAs (λ all rows. rows ≡ in_order decls ins all) (all_read reader ins files) result → Passes (of_inputs decls ins layout) held rose result
   files-pass rose files (Ok rows) fit far told = λ next.
       subst (λ (o : Order). Comes o held (next rows)) (sym (past_names next fit)) (then-passes (fetches ins) (λ f next. past (all_read reader ins f) (λ all. next (in_order decls ins all))) held rose rose (λ r. r) files (Ok rows) far (read_passes rose files (Ok rows) told) next)
   files-pass rose files (Err s) fit far told = λ next.

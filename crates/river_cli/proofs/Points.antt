@@ -16,6 +16,7 @@ use Rattle.river_print.specs.Printed.{plan_text}
 use Rattle.brooklet_model.specs.Histories.{firings}
 use Rattle.brooklet_model.specs.Meaning.{Results, meaning}
 use Rattle.river_cli.specs.Contents.{AreContents}
+use Rattle.river_cli.specs.Layouts.{layout_of}
 use Rattle.river_cli.specs.Inputs.{of_inputs, all_items}
 use Rattle.river_cli.specs.Points.{of_run, of_command, of_script, of_text, of_job}
 use Rattle.river_cli.specs.Source.{Source, source_of, IsPlanOf, IsCompiled, printed}
@@ -77,24 +78,24 @@ module _ (job : Job) (source : Source) (held : Option Held) (rose : Type 0) wher
 
 module _ (job : Job) (counted : Bool) (source : Source) (plan : PlanForm) (held : Option Held) (is : IsPlanOf source plan) where
   abbrev from_inputs : (List ℕ → Order) → Order
-  from_inputs next = of_inputs source.inputs job.ins job.options.header (λ rows. next (printed source counted rows))
+  from_inputs next = of_inputs source.inputs job.ins (layout_of job) (λ rows. next (printed source counted rows))
 
   run_is : (next : List ℕ → Order) → of_run job counted source next ≡ from_inputs next
   unfolding of_run
   run_is next = refl
 
   -- its inputs stop it
-  pub run-stops : (rose : Type 0) (s : Stop) → ((next : List Content → Order) → Stops (Some (of_inputs plan.inputs job.ins job.options.header next)) held rose s)
+  pub run-stops : (rose : Type 0) (s : Stop) → ((next : List Content → Order) → Stops (Some (of_inputs plan.inputs job.ins (layout_of job) next)) held rose s)
       → (next : List ℕ → Order) → Stops (Some (of_run job counted source next)) held rose s
   run-stops rose s stops next =
-      let here = subst (λ d. Stops (Some (of_inputs d job.ins job.options.header (λ rows. next (printed source counted rows)))) held rose s) is.inputs (stops (λ rows. next (printed source counted rows))) in
+      let here = subst (λ d. Stops (Some (of_inputs d job.ins (layout_of job) (λ rows. next (printed source counted rows)))) held rose s) is.inputs (stops (λ rows. next (printed source counted rows))) in
       subst (λ o. Stops (Some o) held rose s) (sym (run_is next)) here
 
   -- it is run
-  pub run-comes : (all : List Content) (text : List ℕ) → ((next : List Content → Order) → Comes (of_inputs plan.inputs job.ins job.options.header next) held (next all))
+  pub run-comes : (all : List Content) (text : List ℕ) → ((next : List Content → Order) → Comes (of_inputs plan.inputs job.ins (layout_of job) next) held (next all))
       → text ≡ printed source counted all → (next : List ℕ → Order) → Comes (of_run job counted source next) held (next text)
   run-comes all text comes says next =
-      let here = subst (λ d. Comes (of_inputs d job.ins job.options.header (λ rows. next (printed source counted rows))) held (next (printed source counted all))) is.inputs (comes (λ rows. next (printed source counted rows))) in
+      let here = subst (λ d. Comes (of_inputs d job.ins (layout_of job) (λ rows. next (printed source counted rows))) held (next (printed source counted all))) is.inputs (comes (λ rows. next (printed source counted rows))) in
       let there = subst (λ t. Comes (from_inputs next) held (next t)) (sym says) here in
       subst (λ o. Comes o held (next text)) (sym (run_is next)) there
 

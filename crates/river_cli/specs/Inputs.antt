@@ -1,5 +1,5 @@
 -- The inputs of a program: their names, the files that they are, and what is read of these.
-use Rattle.std.specs.Prelude.{ℕ, ℤ, List, [], ◌∷◌, map, Bool, false, not, nat_lt, if◌then◌else◌, Option, Some, None, Result, Ok, Err}
+use Rattle.std.specs.Prelude.{ℕ, ℤ, List, [], ◌∷◌, map, not, nat_lt, if◌then◌else◌, Option, Some, None, Result, Ok, Err}
 use Rattle.std.specs.List.{find}
 use Rattle.river_base.specs.Name.{name_eq}
 use Rattle.river_base.specs.declared.item.Item as item
@@ -23,6 +23,7 @@ use Rattle.river_cli.specs.Text.{unknown_input, missing_input, large_input, inpu
 use Rattle.river_cli.specs.declared.content.Content.{Content}
 use Rattle.river_cli.specs.declared.content.Content.TheVariants.{Rows as Plain, Timed}
 use Rattle.river_cli.specs.declared.job.InWord.{InWord}
+use Rattle.river_cli.specs.declared.job.Layout.{Layout}
 
 -- ---- THE NAMES
 
@@ -92,14 +93,14 @@ read_as content (Ok x) = Ok (content x)
 read_as content (Err fault) = Err fault
 
 -- an input has rows of its width, and those of a stream have timestamps
-abbrev pub content_of : QueueType → Bool → List ℕ → Result Content InFault
-content_of (FlatOf (Stream w)) header bytes = read_as Timed (timed_of bytes w header)
-content_of (FlatOf (Rows w)) header bytes = read_as Plain (rows_of bytes w header false)
-content_of (FlatOf (Relation w)) header bytes = read_as Plain (rows_of bytes w header false)
-content_of (PackOf t) header bytes = read_as Plain (rows_of bytes (type_width (PackOf t)) header false)
+abbrev pub content_of : QueueType → Layout → List ℕ → Result Content InFault
+content_of (FlatOf (Stream w)) layout bytes = read_as Timed (timed_of bytes w layout.header)
+content_of (FlatOf (Rows w)) layout bytes = read_as Plain (rows_of bytes w layout.header layout.more)
+content_of (FlatOf (Relation w)) layout bytes = read_as Plain (rows_of bytes w layout.header layout.more)
+content_of (PackOf t) layout bytes = read_as Plain (rows_of bytes (type_width (PackOf t)) layout.header layout.more)
 
-abbrev pub content_reader : List Decl → Bool → Reader Content
-content_reader decls header name bytes = content_of (kind_of decls name) header bytes
+abbrev pub content_reader : List Decl → Layout → Reader Content
+content_reader decls layout name bytes = content_of (kind_of decls name) layout bytes
 
 -- what the words give to an input
 abbrev pub content_named : List InWord → List Content → List ℕ → Content
@@ -111,8 +112,8 @@ content_named (w ∷ ins) (content ∷ all) name = if name_eq w.name name then c
 abbrev pub in_order : List Decl → List InWord → List Content → List Content
 in_order decls ins all = map (content_named ins all) (decl_names decls)
 
-unfoldable pub of_inputs : List Decl → List InWord → Bool → (List Content → Order) → Order
-of_inputs decls ins header next = of_files decls ins (content_reader decls header) (in_order decls ins) next
+unfoldable pub of_inputs : List Decl → List InWord → Layout → (List Content → Order) → Order
+of_inputs decls ins layout next = of_files decls ins (content_reader decls layout) (in_order decls ins) next
 
 -- ---- THE ITEMS OF INPUTS
 

@@ -2,6 +2,7 @@ pub mod Answer
 pub mod Contents
 pub mod Inputs
 pub mod Jobs
+pub mod Layouts
 pub mod Phrases
 pub mod Points
 pub mod Said

@@ -6,6 +6,7 @@ use Rattle.river_plan.specs.Forms.{PlanForm}
 use Rattle.river_print.specs.Printed.{plan_text}
 use Rattle.river_cli.specs.Inputs.{of_inputs}
 use Rattle.river_cli.specs.Jobs.{job_of}
+use Rattle.river_cli.specs.Layouts.{layout_of}
 use Rattle.river_cli.specs.Source.{Source, source_of, printed}
 use Rattle.river_cli.specs.Text.{large_program, large_script, script_refused}
 use Rattle.river_script.specs.Meaning.{rewritten}
@@ -27,7 +28,7 @@ of_script (Some file) source next = Fetch file 65536 large_script (λ text. past
 -- the program is run over its inputs, and what it means is printed
 unfoldable pub of_run : Job → Bool → Source → (List ℕ → Order) → Order
 of_run job counted source next =
-    of_inputs source.inputs job.ins job.options.header (λ files.
+    of_inputs source.inputs job.ins (layout_of job) (λ files.
     next (printed source counted files))
 
 -- what the job's command makes of the program

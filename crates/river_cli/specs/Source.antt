@@ -14,12 +14,16 @@ use Rattle.streamit_front.specs.Meaning.{Accepted, compiled}
 use Rattle.streamit_front.specs.Words.{streamit_words}
 use Rattle.river_cli.specs.Contents.{AreContents}
 use Rattle.river_cli.specs.Inputs.{all_items}
+use Rattle.river_kernels.specs.Fits.{rows}
+use Rattle.saw_model.specs.Source.{tables_in, width, program_tables}
+use Rattle.saw_front.specs.Meaning as saw
+use Rattle.saw_front.specs.Words.{saw_words}
 use Rattle.river_cli.specs.Text.{program_refused}
 use Rattle.river_cli.specs.declared.compile.Compiled.{Compiled}
 use Rattle.river_cli.specs.declared.content.Content.{Content}
 use Rattle.river_cli.specs.declared.content.Content.TheVariants.{Rows as Plain, Timed}
 use Rattle.river_cli.specs.declared.job.Lang.{Lang}
-use Rattle.river_cli.specs.declared.job.Lang.TheVariants.{River, Streamit}
+use Rattle.river_cli.specs.declared.job.Lang.TheVariants.{River, Streamit, Sawzall}
 
 -- a program: its inputs, the names of its outputs and of its tables, what these have for the files of its inputs, and its plan
 pub record Source : Type 0 where
@@ -55,6 +59,22 @@ streamit_source a = record {
   plan = plan_of a.stream;
 }
 
+-- the rows of the first input, which are the first fields of its records
+abbrev pub records : List Content → List (List ℤ)
+records [] = []
+records (Plain rows ∷ others) = rows
+records (Timed rows ∷ others) = []
+
+-- a Sawzall program, by its own definition
+abbrev pub saw_source : saw.Accepted → Source
+saw_source a = record {
+  inputs = record { name = codes "in"; kind = rows (width (saw.program_in a)) } ∷ [];
+  outputs = [];
+  tables = table_names (tables_in (saw.program_in a));
+  means = λ files. record { outs = []; tables = program_tables (saw.program_in a) (records files) };
+  plan = saw.plan_in a;
+}
+
 -- the program of what was read, or the text that refuses it
 abbrev pub told : {A F : Type 0} → (A → Source) → (F → List ℕ) → Result A F → Result Source (List ℕ)
 told source words (Ok x) = Ok (source x)
@@ -64,6 +84,7 @@ told source words (Err fault) = Err (program_refused (words fault))
 unfoldable pub source_of : Lang → List ℕ → Result Source (List ℕ)
 source_of River text = told river_source river_words (plan_in text)
 source_of Streamit text = told streamit_source streamit_words (compiled text)
+source_of Sawzall text = told saw_source saw_words (saw.compiled text)
 
 -- a plan that may be run in place of the program: it has the same inputs, outputs and tables, and means the same for all that
 -- the files of its inputs may have

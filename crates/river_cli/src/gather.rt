@@ -10,7 +10,7 @@ ghost use Rattle.river_cli.specs.Inputs.{of_inputs};
 
 use crate::content::Content;
 use crate::fetched::fetch_all;
-use crate::job::InWord;
+use crate::job::{InWord, Layout};
 use crate::names::check_names;
 use crate::rows::read_inputs;
 use river_base::Listed;
@@ -24,16 +24,16 @@ pub fn gather<S: Shelf>(
     alloc: Global,
     decls: &[Decl],
     ins: &[InWord],
-    header: bool,
+    layout: Layout,
     shelf: &mut S,
 ) -> Result<Listed<Content>, Stop>
     requires outer { All IsOuter decls.now }
     requires apart { (q : List ℕ) → count q (decl_names decls.now) ≤ 1 }
     ensures later { S.faults shelf.old ≤ S.faults shelf.new }
     ensures contents { IfOk result (AreContents decls.now) }
-    ensures passes { Passes (of_inputs decls.now ins.now header) (S.held shelf.old) (Rose (S.faults shelf.old) (S.faults shelf.new)) result }
+    ensures passes { Passes (of_inputs decls.now ins.now layout) (S.held shelf.old) (Rose (S.faults shelf.old) (S.faults shelf.new)) result }
 {
     check_names(alloc, decls, ins)?;
     let files = fetch_all(alloc, shelf, ins)?;
-    read_inputs(alloc, decls, header, ins, files.as_slice())
+    read_inputs(alloc, decls, layout, ins, files.as_slice())
 }

@@ -139,6 +139,6 @@ fn run<S: Shelf>(
         → Passes (of_run job.now counted source) (S.held shelf.old) (Rose (S.faults shelf.old) (S.faults shelf.new)) result }
 {
     let decls = plan.raw().inputs.as_slice();
-    let files = gather(alloc, decls, job.ins.as_slice(), job.options.header, shelf)?;
+    let files = gather(alloc, decls, job.ins.as_slice(), job.layout(), shelf)?;
     Ok(output(alloc, plan, files, counted)?)
 }

@@ -1,5 +1,5 @@
 // What the files of a program's inputs have.
-ghost use Rattle.std.specs.Prelude.{◌≡◌, length, false, All, IsTrue, IfOk};
+ghost use Rattle.std.specs.Prelude.{◌≡◌, length, All, IsTrue, IfOk};
 ghost use Rattle.csv_streams.specs.Rows.{rows_of, IsAnswer};
 ghost use Rattle.csv_streams.specs.Timed.{timed_of};
 ghost use Rattle.river_base.specs.declared.kind.QueueType.TheVariants.{Pack as PackOf};
@@ -11,7 +11,7 @@ ghost use Rattle.river_cli.specs.Inputs.{width_named, file_read, read_as, conten
 ghost use Rattle.river_cli.specs.declared.content.Content.TheVariants.{Rows as Plain, Timed};
 
 use crate::content::Content;
-use crate::job::InWord;
+use crate::job::{InWord, Layout};
 use crate::text;
 use csv_streams::{InFault, read_rows, read_timed};
 use river_base::{Bytes, Duplicate, FlatType, Listed, NoMemory, QueueType, Rows};
@@ -23,15 +23,15 @@ use std::alloc::Global;
 pub fn read_inputs(
     alloc: Global,
     decls: &[Decl],
-    header: bool,
+    layout: Layout,
     ins: &[InWord],
     files: &[Bytes],
 ) -> Result<Listed<Content>, Stop>
     requires count { length files.now ≡ length ins.now }
     requires widths { All (λ w. IsTrue (is_width (width_named decls.now w.name))) ins.now }
-    ensures { AnswersAs (λ all files. files ≡ in_order decls.now ins.now all) (all_read (content_reader decls.now header) ins.now files.now) result }
+    ensures { AnswersAs (λ all files. files ≡ in_order decls.now ins.now all) (all_read (content_reader decls.now layout) ins.now files.now) result }
 {
-    let all = read_all(alloc, decls, header, ins, files)?;
+    let all = read_all(alloc, decls, layout, ins, files)?;
     Ok(arrange(alloc, decls, ins, all.as_slice())?)
 }
 
@@ -39,18 +39,18 @@ pub fn read_inputs(
 fn read_all(
     alloc: Global,
     decls: &[Decl],
-    header: bool,
+    layout: Layout,
     ins: &[InWord],
     files: &[Bytes],
 ) -> Result<Listed<Content>, Stop>
     requires count { length files.now ≡ length ins.now }
     requires widths { All (λ w. IsTrue (is_width (width_named decls.now w.name))) ins.now }
     ensures count { IfOk result (λ all. length all ≡ length ins.now) }
-    ensures answers { Answers (all_read (content_reader decls.now header) ins.now files.now) result }
+    ensures answers { Answers (all_read (content_reader decls.now layout) ins.now files.now) result }
 {
     let mut all = Listed::new(alloc);
     for place in 0..ins.len() {
-        all.push(read_one(alloc, decls, header, &ins[place], &files[place])?)?;
+        all.push(read_one(alloc, decls, layout, &ins[place], &files[place])?)?;
     }
     Ok(all)
 }
@@ -59,15 +59,15 @@ fn read_all(
 fn read_one(
     alloc: Global,
     decls: &[Decl],
-    header: bool,
+    layout: Layout,
     word: &InWord,
     bytes: &Bytes,
 ) -> Result<Content, Stop>
     requires { IsTrue (is_width (width_named decls.now word.now.name)) }
-    ensures { Answers (file_read (content_reader decls.now header) word.now bytes.now) result }
+    ensures { Answers (file_read (content_reader decls.now layout) word.now bytes.now) result }
 {
     let kind = kind_named(decls, word.name.as_slice());
-    match read_content(alloc, kind, header, bytes) {
+    match read_content(alloc, kind, layout, bytes) {
         Ok(content) => Ok(content),
         Err(InFault::NoMemory) => Err(Stop::NoMemory),
         Err(fault) => Err(Stop::Refused(text::in_fault(alloc, word.name.as_slice(), fault)?)),
@@ -90,17 +90,17 @@ fn kind_named(decls: &[Decl], name: &[u8]) -> QueueType
 fn read_content(
     alloc: Global,
     kind: QueueType,
-    header: bool,
+    layout: Layout,
     bytes: &Bytes,
 ) -> Result<Content, InFault>
     requires { IsTrue (is_width (type_width kind)) }
-    ensures { IsAnswer (content_of kind header bytes.now) result }
+    ensures { IsAnswer (content_of kind layout bytes.now) result }
 {
     match kind {
-        QueueType::Flat(FlatType::Stream(width)) => read_stream(alloc, bytes, width, header),
-        QueueType::Flat(FlatType::Rows(width)) => read_plain(alloc, bytes, width, header),
-        QueueType::Flat(FlatType::Relation(width)) => read_plain(alloc, bytes, width, header),
-        QueueType::Pack(flat) => read_plain(alloc, bytes, width_of(flat), header),
+        QueueType::Flat(FlatType::Stream(width)) => read_stream(alloc, bytes, width, layout.header),
+        QueueType::Flat(FlatType::Rows(width)) => read_plain(alloc, bytes, width, layout),
+        QueueType::Flat(FlatType::Relation(width)) => read_plain(alloc, bytes, width, layout),
+        QueueType::Pack(flat) => read_plain(alloc, bytes, width_of(flat), layout),
     }
 }
 
@@ -112,11 +112,11 @@ fn width_of(flat: FlatType) -> u32
     }
 }
 
-fn read_plain(alloc: Global, bytes: &Bytes, width: u32, header: bool) -> Result<Content, InFault>
+fn read_plain(alloc: Global, bytes: &Bytes, width: u32, layout: Layout) -> Result<Content, InFault>
     requires { IsTrue (is_width width) }
-    ensures { IsAnswer (read_as Plain (rows_of bytes.now width header false)) result }
+    ensures { IsAnswer (read_as Plain (rows_of bytes.now width layout.header layout.more)) result }
 {
-    Ok(Content::Rows(read_rows(alloc, bytes, width, header, false)?))
+    Ok(Content::Rows(read_rows(alloc, bytes, width, layout.header, layout.more)?))
 }
 
 fn read_stream(alloc: Global, bytes: &Bytes, width: u32, header: bool) -> Result<Content, InFault>
