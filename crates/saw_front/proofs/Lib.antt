@@ -1,5 +1,6 @@
 pub mod Fronts
 pub mod Planned
+pub mod Printable
 pub mod Readable
 pub mod Reaching
 pub mod Rows

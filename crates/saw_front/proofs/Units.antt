@@ -14,7 +14,6 @@ use Rattle.saw_model.specs.Judged.{Refusal, on_fine, in_unit, all_parts}
 use Rattle.saw_text.specs.declared.tree.Unit as written
 use Rattle.saw_text.specs.Tree.{unit_form, unit_forms, part_of as unit_part, program_of}
 use Rattle.saw_front.specs.declared.judge.Judge.{Judge}
-
 use Rattle.saw_front.specs.declared.fault.Fault as fault
 use Rattle.saw_front.specs.declared.fault.Fault.TheVariants as faults
 use Rattle.saw_front.specs.declared.names.Known.TheVariants as known

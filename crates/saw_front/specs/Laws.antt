@@ -4,6 +4,7 @@ use Rattle.work_code.specs.Lexis.{tokens_in}
 use Rattle.work_code.specs.declared.fault.LexFault.TheVariants as lex
 use Rattle.text_forms.specs.declared.refusal.Refusal.TheVariants.{BadByte, BigNumber, Syntax}
 use Rattle.river_plan.specs.Valid.{IsPlan}
+use Rattle.river_print.specs.Printable.{IsPrintable}
 use Rattle.brooklet_model.specs.Meaning.{meaning}
 use Rattle.saw_model.specs.Judged.{Refusal, judged}
 use Rattle.saw_model.specs.Plan.{as_items}
@@ -38,3 +39,7 @@ abbrev pub PlansMean : Type 0
 PlansMean =
     (text : List ℕ) (a : Accepted) (records : List (List ℤ)) → compiled text ≡ Ok a
     → IsPlan (plan_in a) × (meaning (plan_in a) (as_items (map (take (width (program_in a))) records) ∷ []) ≡ record { outs = []; tables = program_tables (program_in a) records })
+
+-- the plan of a text's program is within the bounds of River text: what is printed of it stands for it, by the promise of the printer
+abbrev pub PlansArePrintable : Type 0
+PlansArePrintable = (text : List ℕ) (a : Accepted) → compiled text ≡ Ok a → IsPrintable (plan_in a)

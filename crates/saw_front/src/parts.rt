@@ -52,12 +52,7 @@ fn within(table: &Table) -> Result<TableKind, Fault>
 
 impl Judge {
     /// All units of a program, one after another; their statements are appended.
-    pub fn parts(
-        &mut self,
-        alloc: Global,
-        units: &[Unit],
-        out: &mut Stmts,
-    ) -> Result<(), Refusal>
+    pub fn parts(&mut self, alloc: Global, units: &[Unit], out: &mut Stmts) -> Result<(), Refusal>
         requires { AreValuedParts (program_of (unit_forms units.now)) }
         ensures { JudgesAll result out.old out.new self.new (all_parts 1 (program_of (unit_forms units.now)) (at_of self.old)) }
     {

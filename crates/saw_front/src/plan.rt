@@ -152,14 +152,7 @@ fn one(alloc: Global, name: Name) -> Result<Names, NoMemory>
 }
 
 // The operator that runs the body on each record, by its parts.
-fn map_by(
-    alloc: Global,
-    label: Name,
-    code: Code,
-    outs: Numbers,
-    reads: Names,
-    writes: Names,
-) -> Op
+fn map_by(alloc: Global, label: Name, code: Code, outs: Numbers, reads: Names, writes: Names) -> Op
     ensures { op_form result ≡ record { label = label; kernel = code_of (record { body = body_of code; outs = outs; starts = [] }); reads = reads; writes = writes; vars = [] } }
 {
     Op {
@@ -250,12 +243,7 @@ fn width(units: &[Unit]) -> u32
 }
 
 /// The lists of the plan of a program whose body is this, with so many slots.
-pub fn lists(
-    alloc: Global,
-    units: &[Unit],
-    body: Stmts,
-    slots: u32,
-) -> Result<RawPlan, NoMemory>
+pub fn lists(alloc: Global, units: &[Unit], body: Stmts, slots: u32) -> Result<RawPlan, NoMemory>
     requires listed { AreListed (tables_in (program_of (unit_forms units.now))) }
     requires wide { width (program_of (unit_forms units.now)) < 2 ^ 32 }
     ensures { (at : At) → at.slots ≡ slots → IfOk result (λ raw. plan_form raw ≡ plan_of (program_of (unit_forms units.now)) (steps body, at)) }
@@ -272,12 +260,7 @@ pub fn lists(
 }
 
 // The lists with these tables and operators.
-fn declared(
-    alloc: Global,
-    width: u32,
-    tables: TableDecls,
-    ops: Ops,
-) -> Result<RawPlan, NoMemory>
+fn declared(alloc: Global, width: u32, tables: TableDecls, ops: Ops) -> Result<RawPlan, NoMemory>
     requires { AreListed tables }
     ensures { IfOk result (λ raw. plan_form raw ≡ record { outputs = []; inputs = record { name = codes "in"; kind = rows width } ∷ []; queues = queue_decls tables; tables = tables; vars = []; ops = op_forms ops }) }
 {

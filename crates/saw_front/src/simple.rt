@@ -155,7 +155,11 @@ impl Judge {
         ensures { Judges option_terms result (weight_of kind (option_said weight.now) (at_of self.now).scope) }
     {
         match (kind, weight) {
-            (TableKind::Maximum { .. }, Some(weight)) => Ok(Some(term(alloc, &self.names, weight)?)),
+            (TableKind::Maximum { .. }, Some(weight)) => Ok(Some(term(
+                alloc,
+                &self.names,
+                weight,
+            )?)),
             (TableKind::Sum { .. } | TableKind::Collection { .. }, None) => Ok(None),
             _ => Err(Fault::Shape),
         }
