@@ -20,6 +20,8 @@ pub enum Lang {
     River,
     /// StreamIt.
     Streamit,
+    /// CQL.
+    Cql,
 }
 
 /// A word NAME=FILE: the input of this name is the file.

@@ -8,3 +8,7 @@ returns-in-River c = rw c.in-River.is c.river.ensures
 pub returns-in-Streamit : goal.returns-in-Streamit
 unfolding source_of
 returns-in-Streamit c = rw c.in-Streamit.is c.streamit.ensures
+
+pub returns-in-Cql : goal.returns-in-Cql
+unfolding source_of
+returns-in-Cql c = rw c.in-Cql.is c.cql.ensures
