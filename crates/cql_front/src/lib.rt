@@ -1,0 +1,7 @@
+//! CQL programs (Arasu, Babu, Widom, 2006): a text becomes its tree and its plan, or tells its first fault.
+#![tactic(auto)]
+
+mod fault;
+pub mod laws;
+
+pub use fault::CqlFault;
