@@ -4,6 +4,7 @@ use Rattle.work_code.specs.Lexis.{tokens_in}
 use Rattle.work_code.specs.declared.fault.LexFault.TheVariants as lex
 use Rattle.text_forms.specs.declared.refusal.Refusal.TheVariants.{BadByte, BigNumber, Syntax}
 use Rattle.river_plan.specs.Valid.{IsPlan}
+use Rattle.river_print.specs.Printable.{IsPrintable}
 use Rattle.brooklet_model.specs.Meaning.{meaning}
 use Rattle.cql_model.specs.Faults.{refusal_of}
 use Rattle.cql_model.specs.Instants.{inputs_for, program_means}
@@ -47,3 +48,7 @@ PlansMean =
     → IsPlan (plan_of (program_of p))
     × ((files : List (List (ℤ × List ℤ))) → AreFiles (program_of p) files
     → meaning (plan_of (program_of p)) (inputs_for files) ≡ record { outs = program_means (program_of p) files; tables = [] })
+
+-- the plan of a tree is within the bounds of River text
+abbrev pub PlansArePrintable : Type 0
+PlansArePrintable = (p : List Part) → IsPrintable (plan_of (program_of p))
