@@ -1,4 +1,5 @@
 pub mod Adding
+pub mod BagLeaves
 pub mod Counted
 pub mod Fires
 pub mod FitLemmas
@@ -12,7 +13,6 @@ pub mod KeptTables
 pub mod Leaves
 pub mod Moving
 pub mod NextLemmas
-pub mod OnRows
 pub mod OpTables
 pub mod QueuePlaces
 pub mod ReadLemmas

@@ -1,10 +1,9 @@
--- Which plans the machine runs so far, and on which kernels its code fires.
+-- Plans of rows, and of packs of rows.
 use Rattle.std.specs.Prelude.{◌≡◌, Bool, true, false}
 use Rattle.std.specs.List.{list_all}
 use Rattle.river_base.specs.declared.kind.FlatType.TheVariants.{Rows, Stream, Relation}
 use Rattle.river_base.specs.declared.kind.QueueType.{QueueType}
 use Rattle.river_base.specs.declared.kind.QueueType.TheVariants.{Flat as FlatOf, Pack as PackOf}
-use Rattle.river_kernels.specs.Kern.{Kern, code, filter, duplicate, deal, collect, packed, unpack, window, select, project, cross, streamer, tally, fused}
 use Rattle.river_plan.specs.Forms.{PlanForm, all_decls}
 
 -- queues of rows, and of packs of rows
@@ -25,20 +24,3 @@ IsRows t = is_rows t ≡ true
 
 abbrev pub IsBuilt : PlanForm → Type 0
 IsBuilt p = is_built p ≡ true
-
--- the kernel is one on rows alone
-abbrev pub IsOnRows : Kern → Type 0
-IsOnRows (code k) = Unit {0}
-IsOnRows (filter f) = Unit {0}
-IsOnRows (duplicate n) = Unit {0}
-IsOnRows (deal ws) = Unit {0}
-IsOnRows (collect ws) = Unit {0}
-IsOnRows (packed k) = IsOnRows k
-IsOnRows (unpack n) = Unit {0}
-IsOnRows (window w) = ⊥
-IsOnRows (select e) = ⊥
-IsOnRows (project es) = ⊥
-IsOnRows cross = ⊥
-IsOnRows (streamer s) = ⊥
-IsOnRows tally = Unit {0}
-IsOnRows (fused a b at) = IsOnRows a × IsOnRows b

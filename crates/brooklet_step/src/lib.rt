@@ -2,6 +2,7 @@
 #![tactic(auto)]
 
 mod add;
+mod bag;
 mod emit;
 mod ending;
 mod firing;
