@@ -1,0 +1,4 @@
+pub mod Texts
+pub mod Units
+pub mod Values
+pub mod Words

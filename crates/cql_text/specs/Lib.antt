@@ -1,0 +1,8 @@
+pub mod Faults
+pub mod Grammar
+pub mod Laws
+pub mod Reading
+pub mod Tree
+pub mod ValueReading
+pub mod Values
+pub mod Words
