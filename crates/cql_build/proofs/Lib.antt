@@ -1,0 +1,5 @@
+pub mod Judging
+pub mod Lists
+pub mod MadeNames
+pub mod FieldPlaces
+pub mod Units

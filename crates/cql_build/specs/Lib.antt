@@ -1,0 +1,5 @@
+pub mod Judged
+pub mod Knowing
+pub mod Marks
+pub mod Seen
+pub mod Views
