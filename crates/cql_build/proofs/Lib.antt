@@ -3,3 +3,4 @@ pub mod Lists
 pub mod MadeNames
 pub mod FieldPlaces
 pub mod Units
+pub mod Operands

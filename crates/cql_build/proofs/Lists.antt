@@ -61,3 +61,10 @@ too_many is i cs lt le = some (drop i cs) (let l = length-drop i cs in omega (ar
   some : (ds : List Column) → 0 < length ds → chosen_fault is i (chosen_of ds) ≡ Some Limit
   some [] lt = absurd (omega (arith, lt))
   some (d ∷ ds) lt = ap (λ b. then_fault (fault_if b Limit) (then_fault (scalar_fault is (column_of d).value) (chosen_fault is (i + 1) (chosen_of ds)))) (high i le)
+
+-- nothing is left behind the last element
+pub drop_all : {A : Type 0} (xs : List A) (i : ℕ) → length xs ≤ i → drop i xs ≡ []
+drop_all [] zero le = refl
+drop_all [] (suc i) le = refl
+drop_all (x ∷ xs) zero le = absurd (omega (arith, le))
+drop_all (x ∷ xs) (suc i) le = drop_all xs i (omega (arith, le))

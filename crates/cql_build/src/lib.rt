@@ -7,8 +7,8 @@ mod items;
 mod judge;
 mod known;
 mod names;
-mod ops;
-mod places;
+pub mod ops;
+pub mod places;
 mod values;
 
 pub use item::Item;
