@@ -1,3 +1,4 @@
+pub mod Growing
 pub mod Judging
 pub mod Lists
 pub mod MadeNames

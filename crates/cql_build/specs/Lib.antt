@@ -1,3 +1,4 @@
+pub mod Grown
 pub mod Judged
 pub mod Knowing
 pub mod Marks

@@ -1,14 +1,17 @@
 //! Judges the units of CQL programs, and builds their plans.
 #![tactic(auto)]
 
+pub mod build;
 mod columns;
 mod item;
 mod items;
 mod judge;
 mod known;
 mod names;
-pub mod ops;
-pub mod places;
+mod ops;
+pub mod output;
+mod places;
+pub mod uses;
 mod values;
 
 pub use item::Item;
