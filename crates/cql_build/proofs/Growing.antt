@@ -1,22 +1,24 @@
 -- What is made one after another.
-use Rattle.std.proofs.Common.{◌≡◌, ℕ, zero, suc, ◌-◌, ◌+◌, ◌<◌, ◌≤◌, List, [], ◌∷◌, ◌++◌, length, drop, map, get_or, refl, sym, ap, ◌∙◌, subst, arith, append_assoc, append-nil}
+use Rattle.std.proofs.Common.{◌≡◌, ℕ, zero, suc, ◌-◌, ◌+◌, ◌<◌, ◌≤◌, Result, Ok, Err, List, [], ◌∷◌, ◌++◌, length, drop, map, get_or, refl, sym, ap, ◌∙◌, subst, arith, append_assoc, append-nil}
+use Rattle.std.specs.Prelude.{codes, OnOk}
 use Rattle.std.specs.List.{AllByRecursion}
+use Rattle.kern_bags.specs.declared.kernel.Streamer.{Streamer}
 use Rattle.river_base.specs.declared.kind.QueueType.{QueueType}
-use Rattle.river_kernels.specs.Fits.{relation}
-use Rattle.river_kernels.specs.Kern.{window, cross}
+use Rattle.river_kernels.specs.Fits.{relation, stream}
+use Rattle.river_kernels.specs.Kern.{window, cross, duplicate, streamer}
 use Rattle.river_plan.specs.Forms.{Name, OpForm, op_forms}
 use Rattle.river_plan.specs.Names.{count}
 use Rattle.river_plan.specs.declared.plan.Decl.{Decl}
 use Rattle.river_plan.specs.declared.plan.RawPlan.{RawPlan}
 use Rattle.cql_model.specs.Faults.{IsShortName}
 use Rattle.cql_model.specs.Program.{streams_of}
-use Rattle.cql_model.specs.Translation.{op, decl, sources, source_at, w_name, x_name, window_ops, window_decls, cross_ops, cross_decls, cross_last, widths_of, copies, copy_name}
+use Rattle.cql_model.specs.Translation.{op, decl, sources, source_at, w_name, x_name, window_ops, window_decls, cross_ops, cross_decls, cross_last, widths_of, copies, copy_name, decls, at_word, copy_decls, copy_ops, out_name, out_decls}
 use Rattle.cql_text.specs.declared.tree.Source.{Source}
 use Rattle.cql_build.specs.declared.item.Item.{Item}
 use Rattle.cql_build.specs.declared.uses.Uses.{Uses}
-use Rattle.cql_build.specs.Grown.{Grew, Used, products}
+use Rattle.cql_build.specs.Grown.{Grew, Used, products, stream_ops}
 use Rattle.cql_build.specs.Views.{source_of, sources_of, window_of, named, scope}
-use Rattle.cql_build.proofs.Lists.{drop_next, drop_all}
+use Rattle.cql_build.proofs.Lists.{drop_next, drop_all, drop_some}
 
 -- what is left to be made of these lists
 pub record Left (old now : RawPlan) (outs ro qs rq : List Decl) (os rp : List OpForm) : Type 0 where
@@ -180,18 +182,19 @@ crosses_start raw q (x ∷ xs) (z ∷ zs) last wide y some each e w l low =
     }
 
 -- one product more
-pub crosses_next : (old now next : RawPlan) (q : Name) (all : List Source) (items : List Item) (last name right : Name) (wide wider i : ℕ) (x : Source) (y : Item)
-    → CrossesLeft old now q all items last wide i → i < length all → x ≡ get_or all i x → i < length items → y ≡ get_or items i y
+pub crosses_next : (old now next : RawPlan) (q : Name) (all : List Source) (items : List Item) (last name right : Name) (wide wider i : ℕ) (y : Item)
+    → CrossesLeft old now q all items last wide i → i < length all → i < length items → y ≡ get_or items i y
     → name ≡ x_name q (i + 1) → right ≡ w_name q (i + 1) → wider ≡ wide + length y.fields.now
     → Grew now next [] (decl name (relation wider) ∷ []) (op name cross (last ∷ right ∷ []) (name ∷ []) (name ∷ []) ∷ [])
     → CrossesLeft old next q all items name wider (i + 1)
-crosses_next old now next q all items last name right wide wider i x y c lt e lt' e' n r w g =
+crosses_next old now next q all items last name right wide wider i y c lt lt' e' n r w g =
+    let some = drop_some all i lt in
     let ds : cross_decls q wide (i + 1) (scope (drop i items)) ≡ decl name (relation wider) ∷ cross_decls q wider (i + 1 + 1) (scope (drop (i + 1) items)) =
         ap (λ l. cross_decls q wide (i + 1) (scope l)) (drop_next items i y lt' e')
         ∙ ap (λ m. decl m (relation (wide + length y.fields.now)) ∷ cross_decls q (wide + length y.fields.now) (i + 1 + 1) (scope (drop (i + 1) items))) (sym n)
         ∙ ap (λ m. decl name (relation m) ∷ cross_decls q m (i + 1 + 1) (scope (drop (i + 1) items))) (sym w) in
     let os : cross_ops q last (i + 1) (sources_of (drop i all)) ≡ op name cross (last ∷ right ∷ []) (name ∷ []) (name ∷ []) ∷ cross_ops q name (i + 1 + 1) (sources_of (drop (i + 1) all)) =
-        ap (λ l. cross_ops q last (i + 1) (sources_of l)) (drop_next all i x lt e)
+        ap (λ l. cross_ops q last (i + 1) (sources_of l)) some.1
         ∙ ap (λ m. op m cross (last ∷ w_name q (i + 1) ∷ []) (m ∷ []) (m ∷ []) ∷ cross_ops q m (i + 1 + 1) (sources_of (drop (i + 1) all))) (sym n)
         ∙ ap (λ m. op name cross (last ∷ m ∷ []) (name ∷ []) (name ∷ []) ∷ cross_ops q name (i + 1 + 1) (sources_of (drop (i + 1) all))) (sym r) in
     let d = ap (λ l. widths_of (scope l)) (drop_next items i y lt' e') in
@@ -199,7 +202,7 @@ crosses_next old now next q all items last name right wide wider i x y c lt e lt
       left = left_next old now next [] [] [] (products q (scope items)) (decl name (relation wider) ∷ []) (cross_decls q wider (i + 1 + 1) (scope (drop (i + 1) items)))
           (cross_ops q (w_name q 1) 2 (drop 1 (sources_of all))) (op name cross (last ∷ right ∷ []) (name ∷ []) (name ∷ []) ∷ []) (cross_ops q name (i + 1 + 1) (sources_of (drop (i + 1) all)))
           (left_is old now [] [] [] (products q (scope items)) _ _ (cross_ops q (w_name q 1) 2 (drop 1 (sources_of all))) _ _ c.left refl ds os) g;
-      last_is = c.last_is ∙ ap (λ l. cross_last q last (i + 1) (sources_of l)) (drop_next all i x lt e) ∙ ap (λ m. cross_last q m (i + 1 + 1) (sources_of (drop (i + 1) all))) (sym n);
+      last_is = c.last_is ∙ ap (λ l. cross_last q last (i + 1) (sources_of l)) some.1 ∙ ap (λ m. cross_last q m (i + 1 + 1) (sources_of (drop (i + 1) all))) (sym n);
       narrow = let k = c.narrow in omega (arith, k, d, w);
     }
 
@@ -227,3 +230,65 @@ copies_none b k n le = ap (copies b k) (let e : n - k ≡ 0 = omega (arith, le) 
 pub length-copies : (b : Name) (k u : ℕ) → length (copies b k u) ≡ u
 length-copies b k zero = refl
 length-copies b k (suc u) = ap suc (length-copies b (k + 1) u)
+
+-- where a call did what it says, there is what follows from it
+pub on_ok_then : {E P Q : Type 0} (r : Result (Unit {0}) E) → (P → Q) → OnOk r P → OnOk r Q
+on_ok_then (Ok u) f p = f p
+on_ok_then (Err e) f p = tt
+
+-- a registered stream that is used more than once is copied
+pub copied_input : (raw new : RawPlan) (queues : List Decl) (name : Name) (wide n : ℕ) (kind : QueueType) (writes : List Name) → queues ≡ raw.queues ++ decls writes kind → kind ≡ stream wide
+    → writes ≡ copies name 0 n → 2 ≤ n
+    → Grew (record raw { queues = queues }) new [] [] (op (at_word name (codes "d")) (duplicate (length writes)) (name ∷ []) writes [] ∷ [])
+    → Grew raw new [] (copy_decls name wide n) (copy_ops name n)
+copied_input raw new queues name wide zero kind writes e k w two g = absurd (omega (arith, two))
+copied_input raw new queues name wide (suc zero) kind writes e k w two g = absurd (omega (arith, two))
+copied_input raw new queues name wide (suc (suc u)) kind writes e k w two g =
+    let n : length writes ≡ suc (suc u) = ap (λ (l : List Name). length l) w ∙ length-copies name 0 (suc (suc u)) in
+    record {
+      outputs = g.outputs;
+      queues = g.queues ∙ append-nil queues ∙ e ∙ ap (λ l. raw.queues ++ decls l kind) w ∙ ap (λ t. raw.queues ++ decls (copies name 0 (suc (suc u))) t) k;
+      ops = g.ops ∙ ap (λ m. op_forms raw.ops ++ op (at_word name (codes "d")) (duplicate m) (name ∷ []) writes [] ∷ []) n
+          ∙ ap (λ l. op_forms raw.ops ++ op (at_word name (codes "d")) (duplicate (suc (suc u))) (name ∷ []) l [] ∷ []) w;
+      inputs = g.inputs;
+      tables = g.tables;
+      vars = g.vars;
+    }
+
+-- a query's stream is copied
+pub copied_output : (raw new : RawPlan) (first queues : List Decl) (q from : Name) (n : ℕ) (kind : QueueType) (own made writes : List Name) → first ≡ raw.queues ++ decl from kind ∷ []
+    → queues ≡ first ++ decls made kind → own ≡ q ∷ [] → writes ≡ own ++ made → made ≡ copies q 0 n
+    → Grew (record raw { queues = queues }) new [] [] (op (at_word q (codes "d")) (duplicate (length writes)) (from ∷ []) writes [] ∷ [])
+    → Grew raw new [] (decl from kind ∷ decls (copies q 0 n) kind) (op (at_word q (codes "d")) (duplicate (suc n)) (from ∷ []) (q ∷ copies q 0 n) [] ∷ [])
+copied_output raw new first queues q from n kind own made writes e f o w m g =
+    let all : writes ≡ q ∷ copies q 0 n = w ∙ ap (λ l. l ++ made) o ∙ ap (λ l. q ∷ l) m in
+    let many : length writes ≡ suc n = ap (λ (l : List Name). length l) all ∙ ap suc (length-copies q 0 n) in
+    record {
+      outputs = g.outputs;
+      queues = g.queues ∙ append-nil queues ∙ f ∙ ap (λ l. l ++ decls made kind) e ∙ append_assoc raw.queues (decl from kind ∷ []) (decls made kind)
+          ∙ ap (λ l. raw.queues ++ (decl from kind ∷ decls l kind)) m;
+      ops = g.ops ∙ ap (λ k. op_forms raw.ops ++ op (at_word q (codes "d")) (duplicate k) (from ∷ []) writes [] ∷ []) many
+          ∙ ap (λ l. op_forms raw.ops ++ op (at_word q (codes "d")) (duplicate (suc n)) (from ∷ []) l [] ∷ []) all;
+      inputs = g.inputs;
+      tables = g.tables;
+      vars = g.vars;
+    }
+
+-- the stream of a query that is used
+pub output_used : (raw mid new : RawPlan) (outs : List Decl) (q last to : Name) (kind : Streamer) (wide n : ℕ) (t : QueueType) → 0 < n → to ≡ out_name q n → t ≡ stream wide
+    → Grew raw mid [] [] (op (at_word q (codes "i")) (streamer kind) (last ∷ []) (to ∷ []) (at_word q (codes "i") ∷ []) ∷ [])
+    → outs ≡ mid.outputs ++ decl q t ∷ []
+    → Grew (record mid { outputs = outs }) new [] (decl to t ∷ decls (copies q 0 n) t) (op (at_word q (codes "d")) (duplicate (suc n)) (to ∷ []) (q ∷ copies q 0 n) [] ∷ [])
+    → Grew raw new (decl q (stream wide) ∷ []) (out_decls q wide n) (stream_ops q kind last n)
+output_used raw mid new outs q last to kind wide zero t some e k g o h = absurd (omega (arith, some))
+output_used raw mid new outs q last to kind wide (suc u) t some e k g o h = record {
+  outputs = h.outputs ∙ append-nil outs ∙ o ∙ ap (λ l. l ++ decl q t ∷ []) (g.outputs ∙ append-nil raw.outputs) ∙ ap (λ x. raw.outputs ++ decl q x ∷ []) k;
+  queues = h.queues ∙ ap (λ l. l ++ (decl to t ∷ decls (copies q 0 (suc u)) t)) (g.queues ∙ append-nil raw.queues)
+      ∙ ap (λ x. raw.queues ++ (decl x t ∷ decls (copies q 0 (suc u)) t)) e ∙ ap (λ x. raw.queues ++ (decl (at_word q (codes "o")) x ∷ decls (copies q 0 (suc u)) x)) k;
+  ops = h.ops ∙ ap (λ l. l ++ op (at_word q (codes "d")) (duplicate (suc (suc u))) (to ∷ []) (q ∷ copies q 0 (suc u)) [] ∷ []) g.ops
+      ∙ append_assoc (op_forms raw.ops) (op (at_word q (codes "i")) (streamer kind) (last ∷ []) (to ∷ []) (at_word q (codes "i") ∷ []) ∷ []) (op (at_word q (codes "d")) (duplicate (suc (suc u))) (to ∷ []) (q ∷ copies q 0 (suc u)) [] ∷ [])
+      ∙ ap (λ x. op_forms raw.ops ++ (op (at_word q (codes "i")) (streamer kind) (last ∷ []) (x ∷ []) (at_word q (codes "i") ∷ []) ∷ op (at_word q (codes "d")) (duplicate (suc (suc u))) (x ∷ []) (q ∷ copies q 0 (suc u)) [] ∷ [])) e;
+  inputs = h.inputs ∙ g.inputs;
+  tables = h.tables ∙ g.tables;
+  vars = h.vars ∙ g.vars;
+}

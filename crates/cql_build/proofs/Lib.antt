@@ -1,3 +1,4 @@
+pub mod Asking
 pub mod Growing
 pub mod Judging
 pub mod Lists
@@ -5,3 +6,4 @@ pub mod MadeNames
 pub mod FieldPlaces
 pub mod Units
 pub mod Operands
+pub mod Filled

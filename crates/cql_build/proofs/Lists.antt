@@ -68,3 +68,11 @@ drop_all [] zero le = refl
 drop_all [] (suc i) le = refl
 drop_all (x ∷ xs) zero le = absurd (omega (arith, le))
 drop_all (x ∷ xs) (suc i) le = drop_all xs i (omega (arith, le))
+
+-- something is left before the end
+pub drop_some : {A : Type 0} (xs : List A) (i : ℕ) → i < length xs → (x : A) × (drop i xs ≡ x ∷ drop (i + 1) xs)
+drop_some {A} xs i lt = let d = there xs i lt in (d.0, d.1 ∙ ap (λ k. d.0 ∷ drop k xs) (sym (add-one i))) where
+  there : (xs : List A) (i : ℕ) → i < length xs → (x : A) × (drop i xs ≡ x ∷ drop (suc i) xs)
+  there [] i lt = absurd (omega (arith, lt))
+  there (x ∷ xs) zero lt = (x, refl)
+  there (x ∷ xs) (suc i) lt = there xs i (omega (arith, lt))

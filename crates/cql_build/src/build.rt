@@ -48,7 +48,7 @@ fn add(raw: &mut RawPlan, op: Op, name: Name, kind: QueueType) -> Result<(), NoM
 }
 
 /// The windows of a query's items.
-pub fn windows(
+pub(crate) fn windows(
     alloc: Global,
     raw: &mut RawPlan,
     uses: &mut Uses,
@@ -87,7 +87,7 @@ fn window(
 }
 
 /// The products of a query's items; the queue of the last.
-pub fn crosses(
+pub(crate) fn crosses(
     alloc: Global,
     raw: &mut RawPlan,
     query: Name,
@@ -130,7 +130,7 @@ fn cross(
 }
 
 /// The condition of a query; the queue of what it lets pass.
-pub fn select(
+pub(crate) fn select(
     alloc: Global,
     raw: &mut RawPlan,
     query: Name,
@@ -154,7 +154,7 @@ pub fn select(
 }
 
 /// The width of the product of items.
-pub fn width(items: &[Item<'_>]) -> usize
+pub(crate) fn width(items: &[Item<'_>]) -> usize
     requires { widths_of (scope items.now) ≤ 16 }
     ensures { result ≡ widths_of (scope items.now) }
 {
@@ -166,7 +166,7 @@ pub fn width(items: &[Item<'_>]) -> usize
 }
 
 /// The columns of a query; the queue of their values.
-pub fn project(
+pub(crate) fn project(
     alloc: Global,
     raw: &mut RawPlan,
     query: Name,

@@ -1,7 +1,7 @@
 //! Judges the units of CQL programs, and builds their plans.
 #![tactic(auto)]
 
-pub mod build;
+mod build;
 mod columns;
 mod item;
 mod items;
@@ -9,12 +9,15 @@ mod judge;
 mod known;
 mod names;
 mod ops;
-pub mod output;
+mod output;
 mod places;
-pub mod uses;
+mod planning;
+mod queries;
+mod uses;
 mod values;
 
 pub use item::Item;
 pub use judge::first_fault;
 pub use known::Known;
+pub use planning::{Refused, plan};
 pub use names::{Mark, marked};

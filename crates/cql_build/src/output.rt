@@ -18,7 +18,7 @@ use river_plan::{Decl, Decls, Names, QueueType, RawPlan};
 use std::alloc::Global;
 
 /// The stream of a query, which is an output, and the copies for those that use it.
-pub fn output(
+pub(crate) fn output(
     alloc: Global,
     raw: &mut RawPlan,
     query: Name,
@@ -92,7 +92,7 @@ fn copy_output(
 }
 
 /// The copies of a registered stream that is used more than once.
-pub fn copy_input(
+pub(crate) fn copy_input(
     alloc: Global,
     raw: &mut RawPlan,
     uses: &Uses,
@@ -105,10 +105,18 @@ pub fn copy_input(
     if count < 2 {
         return Ok(());
     }
-    let kind = stream(registered.fields.len())?;
+    let kind = carried(registered)?;
     let writes = copies(alloc, registered.name, count)?;
     declare(&mut raw.queues, writes.as_slice(), kind)?;
     copy(alloc, raw, registered.name, registered.name, writes)
+}
+
+/// What a registered stream carries.
+pub(crate) fn carried(registered: &Stream) -> Result<QueueType, NoMemory>
+    ensures { IfOk result (λ kind. kind ≡ stream (length registered.now.fields.items)) }
+{
+    let fields = registered.fields.as_slice();
+    stream(fields.len())
 }
 
 // The operator that copies a stream to these queues.
