@@ -1,6 +1,6 @@
 -- The plan of a program, or why it has none.
 use Rattle.std.proofs.Common.{◌≡◌, ℕ, ◌+◌, ◌<◌, ◌≤◌, Bool, true, false, Result, Ok, Err, Option, Some, None, List, [], ◌∷◌, ◌++◌, length, drop, map, get_or, refl, sym, ap, ◌∙◌, subst, arith, append_assoc, append-nil, length-append}
-use Rattle.std.specs.Prelude.{All, OnOk, if◌then◌else◌}
+use Rattle.std.specs.Prelude.{All, IfErr, if◌then◌else◌}
 use Rattle.std.specs.List.{AllByRecursion}
 use Rattle.std.specs.Option.{is_some}
 use Rattle.std.proofs.lemmas.List.{length-map}
@@ -28,29 +28,34 @@ use Rattle.cql_build.specs.declared.uses.Uses.{Uses}
 use Rattle.cql_build.specs.declared.planning.Refused.{Refused}
 use Rattle.cql_build.specs.declared.planning.Refused.TheVariants as refused
 use Rattle.cql_build.specs.Grown.{Grew}
-use Rattle.cql_build.specs.Planned.{IsRefused, IsLimited, limit_of, limit_at, unit_inputs, unit_copies, unit_copying, IsShortRegistered}
+use Rattle.cql_build.specs.Planned.{IsRefused, IsLimited, limit_of, limit_at, refused_of, unit_inputs, unit_copies, unit_copying, IsShortRegistered}
 use Rattle.cql_build.specs.Views.{part_of, program_of}
 use Rattle.cql_build.proofs.Growing.{Left, left_start, left_next, left_is, left_end}
 use Rattle.cql_build.proofs.Lists.{drop_next, drop_all}
 
 -- WHAT THE CHECK SAYS
 
-is_memory : PlanFault → Type 0
-is_memory NoMemory = Unit {0}
-is_memory f = ⊥
+-- a fault is told of it exactly where it exceeds a limit
+abbrev pub OnlyLimited : PlanForm → Type 0
+OnlyLimited p = (o : Option PlanFault) → FirstFault p o → exceeds p ≡ is_some o
 
--- a fault that is not want of memory is the first
-pub judged_fault : (p : PlanForm) (f : PlanFault) → (f ≡ NoMemory → ⊥) → IsJudged p (Err f) → FirstFault p (Some f)
-judged_fault p (P1 n) not h = h
-judged_fault p (P2 n) not h = h
-judged_fault p (P3 n) not h = h
-judged_fault p (P4 n) not h = h
-judged_fault p (P5 n) not h = h
-judged_fault p (P6 n) not h = h
-judged_fault p (P7 n) not h = h
-judged_fault p (P8 l n) not h = h
-judged_fault p (P9 n) not h = h
-judged_fault p NoMemory not h = absurd (not refl)
+-- so every fault is one
+pub refused_is : (p : PlanForm) (f : PlanFault) (unit : ℕ) → OnlyLimited p → IsJudged p (Err f) → IsLimited p unit (refused_of f unit)
+refused_is p (P1 n) unit l h = (l (Some (P1 n)) h, refl)
+refused_is p (P2 n) unit l h = (l (Some (P2 n)) h, refl)
+refused_is p (P3 n) unit l h = (l (Some (P3 n)) h, refl)
+refused_is p (P4 n) unit l h = (l (Some (P4 n)) h, refl)
+refused_is p (P5 n) unit l h = (l (Some (P5 n)) h, refl)
+refused_is p (P6 n) unit l h = (l (Some (P6 n)) h, refl)
+refused_is p (P7 n) unit l h = (l (Some (P7 n)) h, refl)
+refused_is p (P8 k n) unit l h = (l (Some (P8 k n)) h, refl)
+refused_is p (P9 n) unit l h = (l (Some (P9 n)) h, refl)
+refused_is p NoMemory unit l h = tt
+
+-- where a call gave an error, what follows from it
+pub if_err_then : {A E : Type 0} (r : Result A E) (P Q : E → Type 0) → ((e : E) → P e → Q e) → IfErr r P → IfErr r Q
+if_err_then (Ok x) P Q f h = tt
+if_err_then (Err e) P Q f h = f e h
 
 -- REFUSALS
 

@@ -3,6 +3,8 @@ use Rattle.std.specs.Prelude.{◌≡◌, ◌≤◌, ℕ, true, List, [], ◌∷�
 use Rattle.river_kernels.specs.Fits.{stream}
 use Rattle.river_plan.specs.Forms.{OpForm, PlanForm}
 use Rattle.river_plan.specs.Names.{count}
+use Rattle.river_plan.specs.declared.fault.PlanFault.{PlanFault}
+use Rattle.river_plan.specs.declared.fault.PlanFault.TheVariants.{P1, P2, P3, P4, P5, P6, P7, P8, P9, NoMemory}
 use Rattle.river_plan.specs.declared.plan.Decl.{Decl}
 use Rattle.cql_model.specs.Accepted.{exceeds}
 use Rattle.cql_model.specs.Faults.{IsShortName, refusal_of}
@@ -24,6 +26,19 @@ limit_of unit = record { unit = unit; fault = Limit }
 
 abbrev pub limit_at : ℕ → Refused
 limit_at unit = refused.Program (limit_of unit)
+
+-- any fault of a plan but want of memory is told as a limit
+abbrev pub refused_of : PlanFault → ℕ → Refused
+refused_of (P1 n) unit = limit_at unit
+refused_of (P2 n) unit = limit_at unit
+refused_of (P3 n) unit = limit_at unit
+refused_of (P4 n) unit = limit_at unit
+refused_of (P5 n) unit = limit_at unit
+refused_of (P6 n) unit = limit_at unit
+refused_of (P7 n) unit = limit_at unit
+refused_of (P8 l n) unit = limit_at unit
+refused_of (P9 n) unit = limit_at unit
+refused_of NoMemory unit = refused.NoMemory
 
 abbrev pub IsLimited : PlanForm → ℕ → Refused → Type 0
 IsLimited p unit (refused.Program r) = (exceeds p ≡ true) × (r ≡ limit_of unit)

@@ -10,7 +10,7 @@ ghost use Rattle.cql_model.specs.Faults.{AreSpoken, AreShort, first_fault, refus
 ghost use Rattle.cql_model.specs.Program.{registered, all_uses};
 ghost use Rattle.cql_model.specs.Translation.{input_decls, input_copies, input_ops, plan_of};
 ghost use Rattle.cql_build.specs.Grown.{Grew};
-ghost use Rattle.cql_build.specs.Planned.{IsRefused, IsLimited, limit_at, unit_inputs, unit_copies, unit_copying, IsShortRegistered};
+ghost use Rattle.cql_build.specs.Planned.{IsRefused, IsLimited, limit_at, refused_of, unit_inputs, unit_copies, unit_copying, IsShortRegistered};
 ghost use Rattle.cql_build.specs.Views.{part_of, program_of};
 
 use crate::columns::append;
@@ -92,8 +92,25 @@ fn checked(alloc: Global, raw: RawPlan, unit: usize) -> Result<Plan, Refused>
 {
     match check(alloc, raw) {
         Ok(plan) => Ok(plan),
-        Err(PlanFault::NoMemory) => Err(Refused::NoMemory),
-        Err(_) => Err(limited(unit)),
+        Err(fault) => Err(told(fault, unit)),
+    }
+}
+
+// What is told of a program at this unit where this is told of its plan.
+fn told(fault: PlanFault, unit: usize) -> Refused
+    ensures { result ≡ refused_of fault unit }
+{
+    match fault {
+        PlanFault::NoMemory => Refused::NoMemory,
+        PlanFault::P1(_)
+        | PlanFault::P2(_)
+        | PlanFault::P3(_)
+        | PlanFault::P4(_)
+        | PlanFault::P5(_)
+        | PlanFault::P6(_)
+        | PlanFault::P7(_)
+        | PlanFault::P8 { .. }
+        | PlanFault::P9(_) => limited(unit),
     }
 }
 
