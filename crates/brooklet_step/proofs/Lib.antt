@@ -1,17 +1,19 @@
+pub mod Adding
+pub mod BagLeaves
 pub mod Counted
 pub mod Fires
 pub mod FitLemmas
 pub mod FitsLemmas
-pub mod Formed
 pub mod Fused
 pub mod GivenCode
 pub mod GivenFires
 pub mod GivenLemmas
 pub mod GivenParts
+pub mod KeptTables
 pub mod Leaves
 pub mod Moving
 pub mod NextLemmas
-pub mod OnRows
+pub mod OpTables
 pub mod QueuePlaces
 pub mod ReadLemmas
 pub mod RunLemmas
@@ -20,3 +22,4 @@ pub mod Standing
 pub mod StartLemmas
 pub mod Starts
 pub mod StepLemmas
+pub mod Tallies

@@ -1,4 +1,4 @@
-// Which plans the machine runs, and which items have a type.
+// Which plans are of rows, and which items have a type.
 ghost use Rattle.std.specs.Prelude.{◌≡◌, ◌↔◌, IsTrue, All, length};
 ghost use Rattle.river_base.specs.Held.{HasType, IsHeld, HasFlatType, HaveWidth, IsAscending};
 ghost use Rattle.river_plan.specs.Forms.{plan_form};
@@ -7,17 +7,13 @@ ghost use Rattle.brooklet_step.specs.Built.{IsRows, IsBuilt};
 use river_base::{Flat, FlatType, Item, QueueType, Rows};
 use river_plan::{Decls, Plan};
 
-/// Whether the machine runs this plan so far: all its queues carry rows or packs of rows, and it has no table. It gates the code
-/// alone; what plans mean, and the types of what they carry, is defined for all.
+/// Whether all queues of a plan carry rows, or packs of rows.
 #[tactic(auto, using(crate::proofs::FitsLemmas::built_by, crate::proofs::FitsLemmas::built_outputs, crate::proofs::FitsLemmas::built_inputs, crate::proofs::FitsLemmas::built_queues))]
 pub fn built(plan: &Plan) -> bool
     ensures { IsTrue result ↔ IsBuilt plan.now }
 {
     let raw = plan.raw();
-    if !are_rows(&raw.outputs) || !are_rows(&raw.inputs) || !are_rows(&raw.queues) {
-        return false;
-    }
-    raw.tables.is_empty()
+    are_rows(&raw.outputs) && are_rows(&raw.inputs) && are_rows(&raw.queues)
 }
 
 fn are_rows(decls: &Decls) -> bool

@@ -5,13 +5,13 @@ use Rattle.work_code.specs.Lexis.{tokens_in}
 use Rattle.work_code.specs.Tok.{Tok, Mark, toks}
 use Rattle.work_code.specs.declared.fault.LexFault.{LexFault}
 use Rattle.text_forms.specs.Texts.{IsFirstBad}
-use Rattle.text_forms.proofs.Texts.{all-formed, formed-read, first-bad}
+use Rattle.text_forms.proofs.Texts.{all-formed, formed-read, first-bad, bad-read, whole-sound, whole-complete}
 use Rattle.cql_text.specs.Faults.{StandFor, IsBadUnit}
 use Rattle.cql_text.specs.Grammar.{AreParts, IsText, IsPartAt, next_part}
-use Rattle.cql_text.specs.Laws.{OneProgram}
+use Rattle.cql_text.specs.Laws.{OneProgram, ReadsWhatStands}
 use Rattle.cql_text.specs.Reading.{parts_in}
 use Rattle.cql_text.specs.Tree.{Part}
-use Rattle.cql_text.proofs.Units.{exact-part_from}
+use Rattle.cql_text.proofs.Units.{exact-part, exact-part_from}
 
 -- units that were read stand for the program
 pub units-read : (units : List (List Tok)) (p : List Part) → parts_in units ≡ Ok p → AreParts p units
@@ -27,6 +27,11 @@ units-reads units p h = formed-read next_part exact-part_from tt 1 units p h
 pub units-bad : (units : List (List Tok)) (m : ℕ) → parts_in units ≡ Err m → IsFirstBad IsPartAt next_part tt units m
 unfolding parts_in
 units-bad units m e = first-bad next_part exact-part_from tt units m e
+
+-- the first unit that is not in the grammar is told
+pub units-told : (units : List (List Tok)) (m : ℕ) → IsFirstBad IsPartAt next_part tt units m → parts_in units ≡ Err m
+unfolding parts_in
+units-told units m h = bad-read next_part exact-part_from tt units m h
 
 -- the text stands for what is read of it
 pub text-read : (text : List ℕ) (marks : List Mark) (p : List Part) → tokens_in text ≡ Ok marks → parts_in (units_of (toks marks)) ≡ Ok p → IsText text p
@@ -49,6 +54,10 @@ pub one_program : OneProgram
 one_program text p q t u = same (sym (text-reads text p t) ∙ same_reading text t.marks u.marks t.lexed u.lexed ∙ text-reads text q u) where
   same : ◌≡◌ {A = Result (List Part) ℕ} (Ok p) (Ok q) → p ≡ q
   same e = cc
+
+-- the law: a unit is read exactly
+pub reads_what_stands : ReadsWhatStands
+reads_what_stands ts p = ((λ e. whole-sound exact-part ts p e), (λ h. whole-complete exact-part ts p h))
 
 -- what is read of tokens is what they stand for
 pub program-read : (marks : List Mark) (p : List Part) → parts_in (units_of (toks marks)) ≡ Ok p → StandFor marks p

@@ -6,7 +6,7 @@ use Rattle.work_code.specs.Tok.{Tok, name, var, number, symbol}
 use Rattle.work_code.specs.declared.sign.Symbol.{Symbol}
 use Rattle.work_code.specs.declared.sign.Symbol.TheVariants as s
 use Rattle.cql_text.specs.declared.operator.Operator.{Operator}
-use Rattle.cql_text.specs.Tree.{Scalar, Number, Field, ItemField, Neg, Not, Bin, depth}
+use Rattle.cql_text.specs.Tree.{Scalar, Number, Field, ItemField, Neg, Not, Bin, depth_of}
 use Rattle.text_forms.specs.Parse as parse
 use Rattle.text_forms.specs.Forms as form
 use Rattle.text_forms.specs.Repeat.{Turn, Stop, Fail, Next, repeated}
@@ -33,7 +33,7 @@ abbrev pub IsWithin : (n room : ℕ) → Scalar → List Tok → Type 0
 IsWithin zero room t ts = ⊥
 IsWithin (suc n) room t ts = IsTerm n 6 room t ts
 
-depth-some : (t : Scalar) → 0 < depth t
+depth-some : (t : Scalar) → 0 < depth_of t
 depth-some (Number v) = omega arith
 depth-some (Field f) = omega arith
 depth-some (ItemField a f) = omega arith
@@ -132,9 +132,9 @@ named-field f rest plain dot = rw (plain, dot) refl
 
 named-item : (a f : List ℕ) (rest : List Tok) → is_plain a ≡ true → is_plain f ≡ true → named a (symbol s.Dot ∷ name f ∷ rest) ≡ Some (ItemField a f, rest)
 unfolding named
-named-item a f rest pa pf = rw (pa, pf) refl
+named-item a f rest pa pf = rw (pa, exact-plain.complete f (name f ∷ []) rest (record { passes = pf; formed = refl }) tt) refl
 
-unary-complete : (n k room : ℕ) (t : Scalar) (ts : List Tok) (i : ℕ → parse.Parse Scalar) → ((room : ℕ) → Exact (IsWithin n room) (i room) (Ends 6)) → Spells n k t ts → k ≡ 0 → depth t ≤ room → (rest : List Tok) → parse.begins_with s.Dot rest ≡ false → unary i room (ts ++ rest) ≡ Some (t, rest)
+unary-complete : (n k room : ℕ) (t : Scalar) (ts : List Tok) (i : ℕ → parse.Parse Scalar) → ((room : ℕ) → Exact (IsWithin n room) (i room) (Ends 6)) → Spells n k t ts → k ≡ 0 → depth_of t ≤ room → (rest : List Tok) → parse.begins_with s.Dot rest ≡ false → unary i room (ts ++ rest) ≡ Some (t, rest)
 unfolding unary
 unary-complete n k zero t ts i x h at d rest dot = absurd (let q = depth-some t in omega (arith, q, d))
 unary-complete n k (suc room) t ts i x (rule.number m v q) at d rest dot = rw (numeral-here v rest q) refl
@@ -219,7 +219,7 @@ module _ (n rank : ℕ) (many : chains (suc rank) ≡ true) (below : ℕ → par
     pub operator : Operator
     pub right : Scalar
     pub next : operator_at (suc rank) ts ≡ Some operator
-    pub small : depth left < room
+    pub small : depth_of left < room
     pub read : below (room - 1) (tail ts) ≡ Some (right, us)
     pub is : y ≡ Bin operator left right
 
@@ -232,7 +232,7 @@ module _ (n rank : ℕ) (many : chains (suc rank) ≡ true) (below : ℕ → par
     second : Next (Bin o left q.0) q.1 ≡ Next y us → us ≡ q.1
     second f = cc
 
-  goes_on : (left : Scalar) (ts : List Tok) (y : Scalar) (us : List Tok) (o : Operator) (b : Bool) → operator_at (suc rank) ts ≡ Some o → nat_lt (depth left) room ≡ b → cond b (joined o left (below (room - 1) (tail ts))) Fail ≡ Next y us → Turned left ts y us
+  goes_on : (left : Scalar) (ts : List Tok) (y : Scalar) (us : List Tok) (o : Operator) (b : Bool) → operator_at (suc rank) ts ≡ Some o → nat_lt (depth_of left) room ≡ b → cond b (joined o left (below (room - 1) (tail ts))) Fail ≡ Next y us → Turned left ts y us
   goes_on left ts y us o false is small e = cc
   goes_on left ts y us o true is small e =
       let (q, read, made, rest) = join_on o left y us (below (room - 1) (tail ts)) e in
@@ -243,7 +243,7 @@ module _ (n rank : ℕ) (many : chains (suc rank) ≡ true) (below : ℕ → par
   turned left ts y us e = by (operator_at (suc rank) ts) refl e where
     by : (o : Option Operator) → operator_at (suc rank) ts ≡ o → chain_on (below (room - 1)) room left ts o ≡ Next y us → Turned left ts y us
     by None is f = cc
-    by (Some o) is f = goes_on left ts y us o (nat_lt (depth left) room) is refl f
+    by (Some o) is f = goes_on left ts y us o (nat_lt (depth_of left) room) is refl f
 
   pub chain-shortens : Shortens turn
   chain-shortens left ts y us e =
@@ -270,10 +270,10 @@ module _ (n rank : ℕ) (many : chains (suc rank) ≡ true) (below : ℕ → par
   unfolding chain_turn
   ended left ts e = rw e refl
 
-  more : (left right : Scalar) (o : Operator) (y : Tok) (us rest : List Tok) → IsSign (suc rank) o y → depth left < room → below (room - 1) (us ++ rest) ≡ Some (right, rest) → turn left (y ∷ (us ++ rest)) ≡ Next (Bin o left right) rest
+  more : (left right : Scalar) (o : Operator) (y : Tok) (us rest : List Tok) → IsSign (suc rank) o y → depth_of left < room → below (room - 1) (us ++ rest) ≡ Some (right, rest) → turn left (y ∷ (us ++ rest)) ≡ Next (Bin o left right) rest
   unfolding chain_turn
-  more left right o y us rest g small read = rw (operator-here (suc rank) o y (us ++ rest) g) (by (nat_lt (depth left) room) refl) where
-    by : (b : Bool) → nat_lt (depth left) room ≡ b → cond b (joined o left (below (room - 1) (us ++ rest))) Fail ≡ Next (Bin o left right) rest
+  more left right o y us rest g small read = rw (operator-here (suc rank) o y (us ++ rest) g) (by (nat_lt (depth_of left) room) refl) where
+    by : (b : Bool) → nat_lt (depth_of left) room ≡ b → cond b (joined o left (below (room - 1) (us ++ rest))) Fail ≡ Next (Bin o left right) rest
     by true is = rw read refl
     by false is = absurd (grind (arith, is, small))
 
@@ -285,7 +285,7 @@ not_four : (k : ℕ) → chains (suc k) ≡ true → 4 ≡ suc k → ⊥
 not_four k c e = let f : chains 4 ≡ true = subst (λ m. chains m ≡ true) (sym e) c in cc f
 
 -- reading a chain goes on from its value
-chain-complete : (k n m room : ℕ) (t : Scalar) (ts : List Tok) (below : ℕ → parse.Parse Scalar) (many : chains (suc k) ≡ true) → ((room : ℕ) → Exact (IsTerm n k room) (below room) (Ends k)) → Spells n m t ts → m ≡ suc k → depth t ≤ room → (rest : List Tok) → Ends k rest
+chain-complete : (k n m room : ℕ) (t : Scalar) (ts : List Tok) (below : ℕ → parse.Parse Scalar) (many : chains (suc k) ≡ true) → ((room : ℕ) → Exact (IsTerm n k room) (below room) (Ends k)) → Spells n m t ts → m ≡ suc k → depth_of t ≤ room → (rest : List Tok) → Ends k rest
     → chain_line below (suc k) room (ts ++ rest) ≡ repeated (chain_turn (below (room - 1)) (suc k) room) t rest
 unfolding chain_line
 chain-complete k n m room t ts below many x (rule.number p v q) at d rest e = absurd (omega (arith, at))
@@ -330,13 +330,13 @@ module _ (n : ℕ) (below : ℕ → parse.Parse Scalar) (x : (room : ℕ) → Ex
 
   compare-sound : (ts : List Tok) (left : Scalar) (us : List Tok) (v : Scalar) (rest : List Tok) → Front (IsTerm n 2 room) left ts us → compare_on (below (room - 1)) room left us (operator_at 3 us) ≡ Some (v, rest) → Front (IsTerm n 3 room) v ts rest
   compare-sound ts left us v rest f e = by (operator_at 3 us) refl e where
-    test : (o : Operator) (b : Bool) → operator_at 3 us ≡ Some o → nat_lt (depth left) room ≡ b → cond b (compared o left (below (room - 1) (tail us))) None ≡ Some (v, rest) → Front (IsTerm n 3 room) v ts rest
+    test : (o : Operator) (b : Bool) → operator_at 3 us ≡ Some o → nat_lt (depth_of left) room ≡ b → cond b (compared o left (below (room - 1) (tail us))) None ≡ Some (v, rest) → Front (IsTerm n 3 room) v ts rest
     test o false is small g = cc
     test o true is small g =
         let (q, read, made, end) = compared-is o left (below (room - 1) (tail us)) v rest g in
         let r = (x (room - 1)).sound (tail us) q.0 q.1 read in
         let c = comes 3 us o is in
-        let low : depth left < room = grind (arith, small) in
+        let low : depth_of left < room = grind (arith, small) in
         let tokens : us ≡ (c.sign ∷ r.front) ++ rest = c.is ∙ ap (λ (ws : List Tok). c.sign ∷ ws) (r.is ∙ ap (λ (ws : List Tok). r.front ++ ws) end) in
         record {
           front = f.front ++ c.sign ∷ r.front;
@@ -349,18 +349,18 @@ module _ (n : ℕ) (below : ℕ → parse.Parse Scalar) (x : (room : ℕ) → Ex
     by None is g =
         let same = pair_inj g in
         record { front = f.front; is = f.is ∙ ap (λ (ws : List Tok). f.front ++ ws) same.1; formed = subst (λ (u : Scalar). IsTerm n 3 room u f.front) same.0 (rule.tighter n 2 left f.front f.formed.0, f.formed.1) }
-    by (Some o) is g = test o (nat_lt (depth left) room) is refl g
+    by (Some o) is g = test o (nat_lt (depth_of left) room) is refl g
 
-  compare_taken : (o : Operator) (y : Tok) (a b : Scalar) (vs rest : List Tok) → IsSign 3 o y → depth a < room → below (room - 1) (vs ++ rest) ≡ Some (b, rest) → compare_on (below (room - 1)) room a (y ∷ (vs ++ rest)) (operator_at 3 (y ∷ (vs ++ rest))) ≡ Some (Bin o a b, rest)
-  compare_taken o y a b vs rest g small read = ap (compare_on (below (room - 1)) room a (y ∷ (vs ++ rest))) (operator-here 3 o y (vs ++ rest) g) ∙ by (nat_lt (depth a) room) refl where
-    by : (t : Bool) → nat_lt (depth a) room ≡ t → cond t (compared o a (below (room - 1) (vs ++ rest))) None ≡ Some (Bin o a b, rest)
+  compare_taken : (o : Operator) (y : Tok) (a b : Scalar) (vs rest : List Tok) → IsSign 3 o y → depth_of a < room → below (room - 1) (vs ++ rest) ≡ Some (b, rest) → compare_on (below (room - 1)) room a (y ∷ (vs ++ rest)) (operator_at 3 (y ∷ (vs ++ rest))) ≡ Some (Bin o a b, rest)
+  compare_taken o y a b vs rest g small read = ap (compare_on (below (room - 1)) room a (y ∷ (vs ++ rest))) (operator-here 3 o y (vs ++ rest) g) ∙ by (nat_lt (depth_of a) room) refl where
+    by : (t : Bool) → nat_lt (depth_of a) room ≡ t → cond t (compared o a (below (room - 1) (vs ++ rest))) None ≡ Some (Bin o a b, rest)
     by true is = rw read refl
     by false is = absurd (grind (arith, is, small))
 
 three_chain : (j : ℕ) → chains (suc j) ≡ true → suc j ≡ 3 → ⊥
 three_chain j c e = not_three j c (sym e)
 
-compare-complete : (n m room : ℕ) (t : Scalar) (ts : List Tok) (below : ℕ → parse.Parse Scalar) → ((room : ℕ) → Exact (IsTerm n 2 room) (below room) (Ends 2)) → Spells n m t ts → m ≡ 3 → depth t ≤ room → (rest : List Tok) → Ends 3 rest → compare_line below room (ts ++ rest) ≡ Some (t, rest)
+compare-complete : (n m room : ℕ) (t : Scalar) (ts : List Tok) (below : ℕ → parse.Parse Scalar) → ((room : ℕ) → Exact (IsTerm n 2 room) (below room) (Ends 2)) → Spells n m t ts → m ≡ 3 → depth_of t ≤ room → (rest : List Tok) → Ends 3 rest → compare_line below room (ts ++ rest) ≡ Some (t, rest)
 unfolding compare_line
 compare-complete n m room t ts below x (rule.number p v q) at d rest e = absurd (omega (arith, at))
 compare-complete n m room t ts below x (rule.field p f h) at d rest e = absurd (omega (arith, at))
@@ -423,7 +423,7 @@ not-sound n below x (suc room) ts v rest e =
 four_chain : (j : ℕ) → chains (suc j) ≡ true → suc j ≡ 4 → ⊥
 four_chain j c e = not_four j c (sym e)
 
-not-complete : (n m room : ℕ) (t : Scalar) (ts : List Tok) (below : ℕ → parse.Parse Scalar) → ((room : ℕ) → Exact (IsTerm n 3 room) (below room) (Ends 3)) → Spells n m t ts → m ≡ 4 → depth t ≤ room → (rest : List Tok) → Ends 4 rest → not_line below room (ts ++ rest) ≡ Some (t, rest)
+not-complete : (n m room : ℕ) (t : Scalar) (ts : List Tok) (below : ℕ → parse.Parse Scalar) → ((room : ℕ) → Exact (IsTerm n 3 room) (below room) (Ends 3)) → Spells n m t ts → m ≡ 4 → depth_of t ≤ room → (rest : List Tok) → Ends 4 rest → not_line below room (ts ++ rest) ≡ Some (t, rest)
 unfolding not_line
 not-complete n m zero t ts below x h at d rest e = absurd (let q = depth-some t in omega (arith, q, d))
 not-complete n m (suc room) t ts below x (rule.number p v q) at d rest e = absurd (omega (arith, at))
@@ -475,6 +475,18 @@ pub exact-within : (n room : ℕ) → Exact (IsWithin n room) (within n room) (E
 unfolding within
 exact-within zero room = record { sound = λ ts v rest e. cc; complete = λ v s rest h e. absurd h }
 exact-within (suc n) room = exact-as (any n (within n) (exact-within n) room) (λ v s h. h) (λ v s h. h) (λ ts. refl)
+
+-- each line
+pub exact-line : (n k : ℕ) → k ≤ 6 → (room : ℕ) → Exact (IsTerm n k room) (line (within n) k room) (Ends k)
+unfolding line
+exact-line n zero most room = exact-unary n room (within n) (exact-within n)
+exact-line n (suc zero) most room = prod n (within n) (exact-within n) room
+exact-line n (suc (suc zero)) most room = sum n (within n) (exact-within n) room
+exact-line n (suc (suc (suc zero))) most room = cmp n (within n) (exact-within n) room
+exact-line n (suc (suc (suc (suc zero)))) most room = no n (within n) (exact-within n) room
+exact-line n (suc (suc (suc (suc (suc zero))))) most room = all n (within n) (exact-within n) room
+exact-line n (suc (suc (suc (suc (suc (suc zero)))))) most room = any n (within n) (exact-within n) room
+exact-line n (suc (suc (suc (suc (suc (suc (suc k))))))) most room = absurd (omega (arith, most))
 
 -- a value: no operator may follow, and no dot
 pub exact-scalar : (n : ℕ) → Exact (IsValue n) (value_at n) (Ends 6)

@@ -14,6 +14,7 @@ use Rattle.text_forms.proofs.Exact.{Exact, Front, Any, exact-tested, exact-name}
 use Rattle.cql_text.specs.Words.{is_keyword, is_keyword_at, is_plain, keywords, Plain, plain_at, Keyword, keyword}
 
 pub exact-plain : Exact Plain plain_at Any
+unfolding plain_at
 exact-plain = exact-tested is_plain exact-name
 
 or_false : (a b : Bool) → (a || b) ≡ false → (a ≡ false) × (b ≡ false)

@@ -31,13 +31,13 @@ pub data Scalar : Type 0 where
   Bin : Operator → Scalar → Scalar → Scalar
 
 -- how deep a value is; a leaf is 1 deep
-abbrev pub depth : Scalar → ℕ
-depth (Number n) = 1
-depth (Field f) = 1
-depth (ItemField a f) = 1
-depth (Neg e) = suc (depth e)
-depth (Not e) = suc (depth e)
-depth (Bin o l r) = suc (max (depth l) (depth r))
+abbrev pub depth_of : Scalar → ℕ
+depth_of (Number n) = 1
+depth_of (Field f) = 1
+depth_of (ItemField a f) = 1
+depth_of (Neg e) = suc (depth_of e)
+depth_of (Not e) = suc (depth_of e)
+depth_of (Bin o l r) = suc (max (depth_of l) (depth_of r))
 
 pub data Window : Type 0 where
   Now : Window

@@ -6,7 +6,7 @@ use Rattle.text_forms.specs.Ladder.{ahead}
 use Rattle.text_forms.specs.Parse.{Parse, then_read, seen, before, tested, begins_with, is_value, number_at}
 use Rattle.text_forms.specs.Repeat.{Turn, Stop, Fail, Next, repeated}
 use Rattle.text_forms.specs.Tail.{tail}
-use Rattle.cql_text.specs.Tree.{Scalar, Number, Field, ItemField, Neg, Not, Bin, depth}
+use Rattle.cql_text.specs.Tree.{Scalar, Number, Field, ItemField, Neg, Not, Bin, depth_of}
 use Rattle.cql_text.specs.Values.{op_at, rank_of}
 use Rattle.cql_text.specs.Words.{is_keyword_at, is_plain, plain_at}
 use Rattle.cql_text.specs.declared.operator.Operator.{Operator}
@@ -48,7 +48,7 @@ joined o left (Some read) = Next (Bin o left read.0) read.1
 
 abbrev pub chain_on : Parse Scalar → ℕ → Scalar → List Tok → Option Operator → Turn Scalar
 chain_on right room left ts None = Stop
-chain_on right room left ts (Some o) = if nat_lt (depth left) room then joined o left (right (tail ts)) else Fail
+chain_on right room left ts (Some o) = if nat_lt (depth_of left) room then joined o left (right (tail ts)) else Fail
 
 unfoldable pub chain_turn : Parse Scalar → (rank room : ℕ) → Scalar → List Tok → Turn Scalar
 chain_turn right rank room left ts = chain_on right room left ts (operator_at rank ts)
@@ -63,7 +63,7 @@ compared o left (Some read) = Some (Bin o left read.0, read.1)
 
 abbrev pub compare_on : Parse Scalar → ℕ → Scalar → List Tok → Option Operator → Option (Scalar × List Tok)
 compare_on right room left ts None = Some (left, ts)
-compare_on right room left ts (Some o) = if nat_lt (depth left) room then compared o left (right (tail ts)) else None
+compare_on right room left ts (Some o) = if nat_lt (depth_of left) room then compared o left (right (tail ts)) else None
 
 unfoldable pub compare_line : (ℕ → Parse Scalar) → ℕ → Parse Scalar
 compare_line below room ts = then_read (below room ts) (λ t us. compare_on (below (room - 1)) room t us (operator_at 3 us))

@@ -12,7 +12,7 @@ use Rattle.work_code.specs.Tok.{Tok}
 use Rattle.work_code.specs.Tok as tok
 use Rattle.work_code.specs.declared.sign.Symbol.{Symbol}
 use Rattle.work_code.specs.declared.sign.Symbol.TheVariants as s
-use Rattle.cql_text.specs.Tree.{Scalar, Number, Field, ItemField, Neg, Not, Bin, depth}
+use Rattle.cql_text.specs.Tree.{Scalar, Number, Field, ItemField, Neg, Not, Bin, depth_of}
 use Rattle.cql_text.specs.declared.operator.Operator.{Operator}
 use Rattle.cql_text.specs.declared.operator.Operator.TheVariants as op
 use Rattle.text_forms.specs.Parse.{is_value}
@@ -82,7 +82,7 @@ pub data Spells : (n rank : ℕ) (t : Scalar) (ts : List Tok) → Type 0 where
   no : (n : ℕ) (text : List ℕ) (t : Scalar) (ts : List Tok) → is_keyword (codes "not") text ≡ true → Spells n 4 t ts → Spells n 4 (Not t) (tok.name text ∷ ts)
 
 abbrev pub IsTerm : (n rank room : ℕ) → Scalar → List Tok → Type 0
-IsTerm n rank room t ts = Spells n rank t ts × (depth t ≤ room)
+IsTerm n rank room t ts = Spells n rank t ts × (depth_of t ≤ room)
 
 -- a value, where `n` more brackets may be open: at most 64 deep
 abbrev pub IsValue : ℕ → Scalar → List Tok → Type 0

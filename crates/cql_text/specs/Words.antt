@@ -26,7 +26,7 @@ is_plain text = is_name text && (is_free [] text && not (list_any (λ word. is_k
 abbrev pub Plain : List ℕ → List Tok → Type 0
 Plain = form.Tested is_plain form.Name
 
-abbrev pub plain_at : Parse (List ℕ)
+unfoldable pub plain_at : Parse (List ℕ)
 plain_at ts = tested is_plain name_at ts
 
 -- the first token is this word

@@ -107,6 +107,7 @@ pub fn plain(text: &[u8]) -> Option<Name>
 }
 
 /// The name that has to come next, which is one that users may give.
+#[tactic(auto, unfolding(crate::specs::Words::plain_at))]
 pub fn plain_name(reader: &mut Reader<'_>) -> Result<Name, Fault>
     ensures { Gives (λ name. name) result reader.new (plain_at reader.old) }
 {
