@@ -9,18 +9,19 @@ use Rattle.work_code.proofs.Slices.{no_want}
 use Rattle.text_forms.specs.Refusals.{of_lexer}
 use Rattle.text_forms.specs.declared.refusal.Refusal.TheVariants.{BadByte, BigNumber, Syntax}
 use Rattle.river_plan.specs.Forms.{PlanForm}
-use Rattle.cql_model.specs.Faults.{refusal_of, AreSpoken}
+use Rattle.cql_model.specs.Faults.{refusal_of, AreSpoken, AreShort}
 use Rattle.cql_model.specs.declared.fault.Fault as model
 use Rattle.cql_model.specs.declared.fault.Fault.TheVariants as model_fault
 use Rattle.cql_model.specs.declared.fault.Refusal.{Refusal}
+use Rattle.cql_model.specs.Translation.{plan_of}
 use Rattle.cql_text.specs.Faults.{StandFor, Refuses}
 use Rattle.cql_text.specs.Grammar.{IsText}
 use Rattle.cql_text.specs.Laws.{IsBadAt}
 use Rattle.cql_text.specs.Reading.{parts_in}
-use Rattle.cql_front.specs.Seen.{program_of}
+use Rattle.cql_build.specs.Seen.{program_of}
 use Rattle.cql_text.specs.Tree.{Part}
 use Rattle.cql_text.specs.declared.fault.CqlTextFault.TheVariants.{Syntax as Syntax_at}
-use Rattle.cql_front.proofs.Spoken.{spoken}
+use Rattle.cql_front.proofs.Spoken.{spoken, shortened}
 use Rattle.cql_text.proofs.Texts.{text-read, text-reads, units-bad, units-reads, units-told}
 use Rattle.cql_model.proofs.Unrefused.{unrefused_are_valid, unrefused_mean}
 use Rattle.cql_front.specs.declared.fault.CqlFault.{CqlFault}
@@ -120,10 +121,23 @@ read-refused marks p fault e h = subst (λ (r : Result (List Part) CqlFault). Re
 pub read-spoken : (marks : List Mark) (p : List Part) → StandFor marks p → AreSpoken (program_of p)
 read-spoken marks p e = spoken p (units_of (toks marks)) e
 
-pub ruleset fronts = (read-planned, read-refused, read-spoken)
+pub read-short : (marks : List Mark) (p : List Part) → StandFor marks p → AreShort (program_of p)
+read-short marks p e = shortened p (units_of (toks marks)) e
+
+pub ruleset fronts = (read-planned, read-refused, read-spoken, read-short)
 
 -- tokens with a unit that is not in the grammar mean the first of them
 pub read-bad : (marks : List Mark) (unit : ℕ) → Refuses marks (Syntax_at unit) → of_tokens marks ≡ Err (Text (Syntax unit))
 read-bad marks unit h = ap then_judged (units-told (units_of (toks marks)) unit h.0)
 
 pub ruleset readings = (read-bad)
+
+-- a program that is not refused is the one that is meant, and this is its plan
+pub planned-plans : (p : List Part) (plan : PlanForm) → refusal_of (program_of p) ≡ None → plan ≡ plan_of (program_of p) → Plans (accepted p) p plan
+planned-plans p plan e is = record { accepted = ap (or_refused p) e; planned = is }
+
+-- a program that is refused means the fault
+pub planned-refused : (p : List Part) (r : Refusal) → refusal_of (program_of p) ≡ Some r → accepted p ≡ Err (fault_at r.unit r.fault)
+planned-refused p r e = ap (or_refused p) e
+
+pub ruleset plans = (planned-plans, planned-refused)

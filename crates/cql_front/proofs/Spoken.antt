@@ -1,18 +1,18 @@
 -- What the grammar gives of programs: names without `@` and of at most 40 bytes, lists that are not empty, values that are not
 -- too deep.
-use Rattle.std.proofs.Common.{◌≡◌, ℕ, suc, ◌<◌, ◌≤◌, true, Option, Some, None, List, [], ◌∷◌, length, refl, sym, ap, ◌∙◌, subst, arith, inl, inr}
+use Rattle.std.proofs.Common.{◌≡◌, ℕ, suc, ◌<◌, ◌≤◌, true, Option, Some, None, List, [], ◌∷◌, ◌++◌, length, refl, sym, ap, ◌∙◌, subst, arith, inl, inr, append-nil}
 use Rattle.std.specs.Prelude.{IsTrue, map}
 use Rattle.std.specs.List.{AllByRecursion}
 use Rattle.work_code.specs.Tok.{Tok}
 use Rattle.work_code.specs.declared.sign.Symbol.TheVariants as sign
 use Rattle.text_forms.specs.Forms as form
 use Rattle.text_forms.specs.Parse.{is_short}
-use Rattle.cql_model.specs.Accepted.{has_no_at, AreShallow, IsShallow, depth}
-use Rattle.cql_model.specs.Faults.{has_columns, AreSpoken}
+use Rattle.cql_model.specs.Accepted.{has_no_at, AreShallow, IsShallow, depth, declared}
+use Rattle.cql_model.specs.Faults.{has_columns, AreSpoken, IsShortName, AreShort}
 use Rattle.cql_model.specs.Program as program
 use Rattle.cql_model.specs.Program.{Program, streams_of, all_uses}
-use Rattle.cql_text.specs.Grammar.{IsColumn, IsColumns, IsStream, IsQuery, IsPart, IsWhere, AreParts}
-use Rattle.cql_front.specs.Seen.{scalar_of, source_of, column_of, columns_of, condition_of, part_of, program_of}
+use Rattle.cql_text.specs.Grammar.{IsColumn, IsColumns, IsSource, IsStream, IsQuery, IsPart, IsWhere, AreParts}
+use Rattle.cql_build.specs.Seen.{scalar_of, source_of, column_of, columns_of, condition_of, part_of, program_of}
 use Rattle.cql_text.specs.Tree.{Name, Scalar, Number, Field, ItemField, Neg, Not, Bin, depth_of, Source, Column, Columns, Chosen, Part}
 use Rattle.cql_text.specs.Words.{is_plain}
 use Rattle.cql_text.proofs.Words.{and_both, plain-parts}
@@ -109,3 +109,50 @@ spoken [] [] h = tt
 spoken [] (u ∷ us) h = absurd h
 spoken (p ∷ ps) [] h = absurd h
 spoken (p ∷ ps) (u ∷ us) h = join (part_of p) (program_of ps) (part_spoken p u h.0) (spoken ps us h.1)
+
+-- SHORT NAMES
+
+source_short : (i : Source) (ts : List Tok) → IsSource i ts → IsShortName i.stream
+source_short i ts h = subst (λ (j : Source). IsShortName j.stream) (sym h.is) (short h.value.0 h.formed.first.passes)
+
+more_short : (is : List Source) (ts : List Tok) → form.Each (form.After (sign.Comma ∷ []) IsSource) is ts
+    → AllByRecursion IsShortName (streams_of (map source_of is))
+more_short [] ts h = tt
+more_short (i ∷ is) ts h = (source_short i h.3.back h.3.formed, more_short is h.1 h.4)
+
+abbrev PartShort : Part → Type 0
+PartShort p = AllByRecursion IsShortName (declared (part_of p ∷ [])) × AllByRecursion IsShortName (all_uses (part_of p ∷ []))
+
+both_all : {A : Type 0} (P : A → Type 0) (xs ys : List A) → AllByRecursion P xs → AllByRecursion P ys → AllByRecursion P (xs ++ ys)
+both_all P [] ys a b = b
+both_all P (x ∷ xs) ys a b = (a.0, both_all P xs ys a.1 b)
+
+query_short : (p : Part) (ts : List Tok) → IsQuery p ts → PartShort p
+query_short p ts h =
+    let v = h.formed.value in
+    let both = h.formed.formed in
+    let items = both.second.formed.formed.second.second.formed.first in
+    let used : AllByRecursion IsShortName (streams_of (map source_of v.1.1.1.0)) =
+    subst (λ (l : List Source). AllByRecursion IsShortName (streams_of (map source_of l))) (sym items.is)
+        (source_short items.value.0 items.formed.front items.formed.first, more_short items.value.1 items.formed.back items.formed.second) in
+    subst PartShort (sym h.formed.is) ((short v.0 both.first.passes, tt), both_all IsShortName (streams_of (map source_of v.1.1.1.0)) [] used tt)
+
+stream_short : (p : Part) (ts : List Tok) → IsStream p ts → PartShort p
+stream_short p ts h = let made = h.formed.formed in subst PartShort (sym made.is) ((short made.value.0 made.formed.first.passes, tt), tt)
+
+part_short : (p : Part) (ts : List Tok) → IsPart p ts → PartShort p
+part_short p ts (inl h) = stream_short p ts h
+part_short p ts (inr h) = query_short p ts h
+
+join_short : (p : program.Part) (ps : Program) → AllByRecursion IsShortName (declared (p ∷ [])) → AllByRecursion IsShortName (all_uses (p ∷ []))
+    → AreShort ps → AreShort (p ∷ ps)
+join_short (program.Register name fields) ps a b s = record { names = (a.0, s.names); uses = s.uses }
+join_short (program.Ask q) ps a b s =
+    record { names = (a.0, s.names); uses = both_all IsShortName (streams_of q.items) (all_uses ps) (subst (λ (l : List Name). AllByRecursion IsShortName l) (append-nil (streams_of q.items)) b) s.uses }
+
+-- its names are short
+pub shortened : (p : List Part) (units : List (List Tok)) → AreParts p units → AreShort (program_of p)
+shortened [] [] h = record { names = tt; uses = tt }
+shortened [] (u ∷ us) h = absurd h
+shortened (p ∷ ps) [] h = absurd h
+shortened (p ∷ ps) (u ∷ us) h = let f = part_short p u h.0 in join_short (part_of p) (program_of ps) f.0 f.1 (shortened ps us h.1)

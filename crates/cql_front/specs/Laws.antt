@@ -3,17 +3,18 @@ use Rattle.std.specs.Prelude.{◌≡◌, ◌↔◌, ℕ, ℤ, List, [], Some, No
 use Rattle.work_code.specs.Lexis.{tokens_in}
 use Rattle.work_code.specs.declared.fault.LexFault.TheVariants as lex
 use Rattle.text_forms.specs.declared.refusal.Refusal.TheVariants.{BadByte, BigNumber, Syntax}
+use Rattle.river_base.specs.Instants as base
 use Rattle.river_plan.specs.Valid.{IsPlan}
 use Rattle.river_print.specs.Printable.{IsPrintable}
 use Rattle.brooklet_model.specs.Meaning.{meaning}
 use Rattle.cql_model.specs.Faults.{refusal_of}
-use Rattle.cql_model.specs.Instants.{inputs_for, program_means}
+use Rattle.cql_model.specs.Instants.{inputs_for, instants, program_means}
 use Rattle.cql_model.specs.Laws.{AreFiles}
 use Rattle.cql_model.specs.Translation.{plan_of}
 use Rattle.cql_model.specs.declared.fault.Refusal.{Refusal}
 use Rattle.cql_text.specs.Grammar.{IsText}
 use Rattle.cql_text.specs.Laws.{IsBadAt}
-use Rattle.cql_front.specs.Seen.{program_of}
+use Rattle.cql_build.specs.Seen.{program_of}
 use Rattle.cql_text.specs.Tree.{Part}
 use Rattle.cql_front.specs.declared.fault.CqlFault.{CqlFault}
 use Rattle.cql_front.specs.declared.fault.CqlFault.TheVariants.{Text, NoMemory}
@@ -52,3 +53,7 @@ PlansMean =
 -- the plan of a tree is within the bounds of River text
 abbrev pub PlansArePrintable : Type 0
 PlansArePrintable = (p : List Part) → IsPrintable (plan_of (program_of p))
+
+-- the instants of a run by CQL's own definition are those of its files
+abbrev pub InstantsAgree : Type 0
+InstantsAgree = (files : List (List (ℤ × List ℤ))) → instants files ≡ base.instants files

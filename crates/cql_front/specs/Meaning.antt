@@ -13,7 +13,7 @@ use Rattle.cql_model.specs.declared.fault.Fault as model
 use Rattle.cql_model.specs.declared.fault.Fault.TheVariants as model_fault
 use Rattle.cql_model.specs.declared.fault.Refusal.{Refusal}
 use Rattle.cql_text.specs.Reading.{parts_in}
-use Rattle.cql_front.specs.Seen.{program_of}
+use Rattle.cql_build.specs.Seen.{program_of}
 use Rattle.cql_text.specs.Tree.{Part}
 use Rattle.cql_front.specs.declared.fault.CqlFault.{CqlFault}
 use Rattle.cql_front.specs.declared.fault.CqlFault.TheVariants.{Text, UnknownStream, UnknownField, AmbiguousField, NameTwice, Limit, NoMemory}
