@@ -1,5 +1,6 @@
 -- Why a program is refused: the first fault in reading order, and the unit in which it stands.
-use Rattle.std.specs.Prelude.{◌<◌, IsTrue, ◌≡◌, ℕ, ℤ, zero, suc, ◌+◌, Bool, true, false, ◌||◌, nat_lt, nat_eq, List, [], ◌∷◌, ◌++◌, length, Option, Some, None, if◌then◌else◌}
+use Rattle.std.specs.Prelude.{◌<◌, ◌≤◌, IsTrue, ◌≡◌, ℕ, ℤ, zero, suc, ◌+◌, Bool, true, false, ◌||◌, nat_lt, nat_eq, List, [], ◌∷◌, ◌++◌, length, Option, Some, None, if◌then◌else◌}
+use Rattle.std.specs.List.{AllByRecursion}
 use Rattle.river_base.specs.Name.{name_eq}
 use Rattle.kern_bags.specs.declared.kernel.Window.{Window}
 use Rattle.kern_bags.specs.declared.kernel.Window.TheVariants.{Now, Range, Unbounded, Latest}
@@ -10,10 +11,10 @@ use Rattle.brooklet_model.specs.Meaning.{meaning}
 use Rattle.cql_model.specs.declared.fault.Fault.{Fault}
 use Rattle.cql_model.specs.declared.fault.Fault.TheVariants.{UnknownStream, UnknownField, AmbiguousField, NameTwice, Limit}
 use Rattle.cql_model.specs.declared.fault.Refusal.{Refusal}
-use Rattle.cql_model.specs.Accepted.{has_no_at, AreShallow, IsShallow, IsAccepted, exceeds}
+use Rattle.cql_model.specs.Accepted.{has_no_at, declared, AreShallow, IsShallow, IsAccepted, exceeds}
 use Rattle.cql_model.specs.Instants.{program_means, inputs_for}
 use Rattle.cql_model.specs.Laws.{known_names, AreFiles}
-use Rattle.cql_model.specs.Program.{Scalar, Number, Field, ItemField, Neg, Not, Bin, Source, Column, Columns, Star, Chosen, Query, Register, Ask, Program}
+use Rattle.cql_model.specs.Program.{Scalar, Number, Field, ItemField, Neg, Not, Bin, Source, Column, Columns, Star, Chosen, Query, Register, Ask, Program, all_uses}
 use Rattle.cql_model.specs.Scopes.{Named, item_named, scope_of}
 use Rattle.cql_model.specs.Translation.{widths_of, query_named, plan_of}
 
@@ -136,6 +137,14 @@ abbrev pub AreSpoken : Program → Type 0
 AreSpoken [] = Unit {0}
 AreSpoken (Register name fields ∷ ps) = IsTrue (has_no_at name) × (0 < length fields) × AreSpoken ps
 AreSpoken (Ask q ∷ ps) = IsTrue (has_no_at q.name) × IsSpoken q × AreSpoken ps
+
+-- the names that are declared, and those that items name, have at most 40 bytes
+abbrev pub IsShortName : Name → Type 0
+IsShortName n = length n ≤ 40
+
+pub record AreShort (p : Program) : Type 0 where
+  pub names : AllByRecursion IsShortName (declared p)
+  pub uses : AllByRecursion IsShortName (all_uses p)
 
 -- a program without a fault is accepted
 abbrev pub FaultlessAccepted : Type 0

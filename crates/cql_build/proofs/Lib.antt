@@ -1,0 +1,9 @@
+pub mod Asking
+pub mod Growing
+pub mod Judging
+pub mod Lists
+pub mod MadeNames
+pub mod FieldPlaces
+pub mod Units
+pub mod Operands
+pub mod Filled

@@ -1,0 +1,33 @@
+-- The names that a plan makes.
+use Rattle.std.specs.Prelude.{ℕ, ◌<◌, ◌^◌, List, [], ◌++◌, codes}
+use Rattle.std.specs.Fmt.{decimal}
+use Rattle.river_plan.specs.Forms.{Name}
+use Rattle.cql_model.specs.Translation.{at_word}
+use Rattle.cql_build.specs.declared.names.Mark.{Mark}
+use Rattle.cql_build.specs.declared.names.Mark.TheVariants.{Window, Cross, Copy, Select, Project, Stream, Output, Copies}
+
+-- the word of a mark
+abbrev pub word : Mark → List ℕ
+word (Window k) = codes "w" ++ decimal k
+word (Cross k) = codes "x" ++ decimal k
+word (Copy k) = [] ++ decimal k
+word Select = codes "s"
+word Project = codes "p"
+word Stream = codes "i"
+word Output = codes "o"
+word Copies = codes "d"
+
+-- a name with a mark behind it
+abbrev pub marked : Name → Mark → Name
+marked base mark = at_word base (word mark)
+
+-- the numbers of a mark have a place in 64 bits
+abbrev pub IsLow : Mark → Type 0
+IsLow (Window k) = k < 2 ^ 64
+IsLow (Cross k) = k < 2 ^ 64
+IsLow (Copy k) = k < 2 ^ 64
+IsLow Select = Unit {0}
+IsLow Project = Unit {0}
+IsLow Stream = Unit {0}
+IsLow Output = Unit {0}
+IsLow Copies = Unit {0}

@@ -1,0 +1,120 @@
+// The first fault of a program.
+ghost use Rattle.std.specs.Prelude.{◌≡◌, ◌+◌, [], ◌∷◌, List, IfOk, OnOk};
+ghost use Rattle.cql_model.specs.Faults.{fields_fault, stream_fault, query_fault, first_fault};
+ghost use Rattle.cql_model.specs.Scopes.{Named, scope_of, column_names};
+ghost use Rattle.cql_build.specs.Knowing.{Knows};
+ghost use Rattle.cql_build.specs.Views.{query_of, part_of, program_of};
+ghost use Rattle.cql_build.specs.Judged.{unit_fault, registers, part_named};
+
+use crate::Known;
+use crate::columns::{column_names, copied};
+use crate::values::{count, selected_fault};
+use cql_model::{Fault, Refusal};
+use cql_text::{Part, Query, Stream};
+use river_base::{Name, NoMemory};
+use river_plan::Names;
+use std::alloc::Global;
+
+/// The first fault of the units of a program, one after another, and its unit, from 1.
+pub fn first_fault(alloc: Global, parts: &[Part]) -> Result<Option<Refusal>, NoMemory>
+    ensures { IfOk result (λ refusal. refusal ≡ first_fault [] 0 1 (program_of parts.now)) }
+{
+    let mut known = Known::new(alloc);
+    let mut many = 0;
+    for i in 0..parts.len() {
+        if let Some(fault) = known.unit_fault(alloc, many, &parts[i])? {
+            return Ok(Some(Refusal { unit: i + 1, fault }));
+        }
+        many += registers(&parts[i]);
+        known.add(alloc, &parts[i])?;
+    }
+    Ok(None)
+}
+
+// How many streams a unit registers.
+fn registers(part: &Part) -> usize
+    ensures { result ≡ registers (part_of part.now) }
+{
+    match part {
+        Part::Register(_) => 1,
+        Part::Ask(_) => 0,
+    }
+}
+
+// The first fault of a stream's fields.
+fn fields_fault(fields: &[Name]) -> Option<Fault>
+    ensures { result ≡ fields_fault [] fields.now }
+{
+    for i in 0..fields.len() {
+        if count(&fields[..i], fields[i]) > 0 {
+            return Some(Fault::NameTwice);
+        }
+        if i >= 16 {
+            return Some(Fault::Limit);
+        }
+    }
+    None
+}
+
+impl Known {
+    /// The stream that a unit registers, or the query that it asks, is known besides.
+    pub(crate) fn add(&mut self, alloc: Global, part: &Part) -> Result<(), NoMemory>
+        ensures { (ks : List Named) → Knows self.old ks → OnOk result (Knows self.new (part_named ks (part_of part.now) ∷ ks)) }
+    {
+        match part {
+            Part::Register(stream) => {
+                let fields = copied(alloc, stream.fields.as_slice())?;
+                self.declare(stream.name, fields)
+            }
+            Part::Ask(query) => {
+                let fields = self.columns(alloc, query)?;
+                self.declare(query.name, fields)
+            }
+        }
+    }
+
+    // The names of a query's columns.
+    fn columns(&self, alloc: Global, query: &Query) -> Result<Names, NoMemory>
+        ensures { (ks : List Named) → Knows self.now ks → IfOk result (λ names. names ≡ column_names (scope_of ks (query_of query.now).items) (query_of query.now).columns) }
+    {
+        let items = self.scope(alloc, query.items.as_slice())?;
+        column_names(alloc, items.as_slice(), &query.columns)
+    }
+
+    // The first fault of a unit behind so many registered streams.
+    fn unit_fault(&self, alloc: Global, many: usize, part: &Part) -> Result<Option<Fault>, NoMemory>
+        ensures { (ks : List Named) → Knows self.now ks → IfOk result (λ fault. fault ≡ unit_fault ks many (part_of part.now)) }
+    {
+        match part {
+            Part::Register(stream) => Ok(self.stream_fault(many, stream)),
+            Part::Ask(query) => self.query_fault(alloc, query),
+        }
+    }
+
+    // The first fault of a stream that is registered behind so many others.
+    fn stream_fault(&self, many: usize, stream: &Stream) -> Option<Fault>
+        ensures { (ks : List Named) → Knows self.now ks → result ≡ stream_fault ks many stream.now.name stream.now.fields.items }
+    {
+        if self.fields(stream.name).is_some() {
+            return Some(Fault::NameTwice);
+        }
+        if many >= 8 {
+            return Some(Fault::Limit);
+        }
+        fields_fault(stream.fields.as_slice())
+    }
+
+    // The first fault of a query.
+    fn query_fault(&self, alloc: Global, query: &Query) -> Result<Option<Fault>, NoMemory>
+        ensures { (ks : List Named) → Knows self.now ks → IfOk result (λ fault. fault ≡ query_fault ks (query_of query.now)) }
+    {
+        if self.fields(query.name).is_some() {
+            return Ok(Some(Fault::NameTwice));
+        }
+        if let Some(fault) = self.items_fault(query.items.as_slice()) {
+            return Ok(Some(fault));
+        }
+        let items = self.scope(alloc, query.items.as_slice())?;
+        Ok(selected_fault(items.as_slice(), &query.columns, &query.condition))
+    }
+}

@@ -1,0 +1,88 @@
+// The names that a plan makes: of a stream or query and behind it, after an `@`, what they are for.
+ghost use Rattle.std.specs.Prelude.{◌≡◌, ◌≤◌, ◌<◌, ◌^◌, ◌++◌, codes, IsTrue, IfOk, OnOk, length};
+ghost use Rattle.std.specs.Fmt.{decimal};
+ghost use Rattle.river_base.specs.Name.{is_name};
+ghost use Rattle.cql_build.specs.Marks.{word, marked, IsLow};
+
+use river_base::{Bytes, Name, NoMemory};
+use std::alloc::Global;
+
+/// What a made name is for.
+#[derive(Clone, Copy, Debug)]
+pub enum Mark {
+    /// A window, by its item's number, from 1.
+    Window(usize),
+    /// A product, by the number of its second item.
+    Cross(usize),
+    /// A copy of a stream, by its number, from 1.
+    Copy(usize),
+    /// The rows that a condition lets pass.
+    Select,
+    /// The columns.
+    Project,
+    /// What makes a stream of a relation.
+    Stream,
+    /// A stream that is copied.
+    Output,
+    /// What copies a stream.
+    Copies,
+}
+
+/// The name for this mark.
+pub fn marked(alloc: Global, base: Name, mark: Mark) -> Result<Name, NoMemory>
+    requires { length base ≤ 40 }
+    ensures { IfOk result (λ name. name ≡ marked base mark) }
+{
+    let text = text(alloc, base, mark)?;
+    Ok(name_of(text.as_slice()))
+}
+
+// Its bytes.
+fn text(alloc: Global, base: Name, mark: Mark) -> Result<Bytes, NoMemory>
+    ensures is { IfOk result (λ text. text ≡ marked base mark) }
+    ensures named { OnOk result (IsTrue (is_name base)) }
+    ensures low { OnOk result (IsLow mark) }
+{
+    let mut bytes = Bytes::from_slice(alloc, base.as_slice())?;
+    bytes.extend(b"@")?;
+    put_mark(alloc, mark, &mut bytes)?;
+    Ok(bytes)
+}
+
+// Appends the word of a mark.
+fn put_mark(alloc: Global, mark: Mark, to: &mut Bytes) -> Result<(), NoMemory>
+    ensures put { OnOk result (to.new ≡ to.old ++ word mark) }
+    ensures low { OnOk result (IsLow mark) }
+{
+    match mark {
+        Mark::Window(number) => put_number(alloc, b"w", number, to),
+        Mark::Cross(number) => put_number(alloc, b"x", number, to),
+        Mark::Copy(number) => put_number(alloc, b"", number, to),
+        Mark::Select => to.extend(b"s"),
+        Mark::Project => to.extend(b"p"),
+        Mark::Stream => to.extend(b"i"),
+        Mark::Output => to.extend(b"o"),
+        Mark::Copies => to.extend(b"d"),
+    }
+}
+
+// Appends a letter, or none, and a number.
+fn put_number(alloc: Global, letter: &[u8], number: usize, to: &mut Bytes) -> Result<(), NoMemory>
+    ensures put { OnOk result (to.new ≡ to.old ++ (letter.now ++ decimal number)) }
+    ensures low { number < 2 ^ 64 }
+{
+    to.extend(letter)?;
+    let digits = number.to_string(alloc)?;
+    to.extend(digits.as_bytes())
+}
+
+/// The name that has these bytes.
+pub(crate) fn name_of(bytes: &[u8]) -> Name
+    requires { IsTrue (is_name bytes.now) }
+    ensures { result ≡ bytes.now }
+{
+    match Name::from_slice(bytes) {
+        Some(name) => name,
+        None => unreachable!(),
+    }
+}

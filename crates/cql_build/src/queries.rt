@@ -1,0 +1,133 @@
+// The queries of a program, one after another.
+ghost use Rattle.std.specs.Prelude.{◌≡◌, ◌≤◌, ◌<◌, ◌++◌, ◌∷◌, [], List, IfOk, OnOk, length};
+ghost use Rattle.std.specs.List.{AllByRecursion};
+ghost use Rattle.river_kernels.specs.Fits.{stream};
+ghost use Rattle.river_plan.specs.Names.{count};
+ghost use Rattle.cql_model.specs.Accepted.{IsQuery, AreQueries};
+ghost use Rattle.cql_model.specs.Faults.{IsShortName, AreShort};
+ghost use Rattle.cql_model.specs.Program.{streams_of};
+ghost use Rattle.cql_model.specs.Scopes.{Named, scope_of};
+ghost use Rattle.cql_model.specs.Translation.{decl, columns_width, widths_of, query_ops, query_decls, tail_ops, output_decls, ask_decls, ask_ops};
+ghost use Rattle.cql_build.specs.Grown.{Grew, Used, IsUnit, IsShortUnit, unit_outputs, unit_decls, unit_ops, unit_uses, tail_decls};
+ghost use Rattle.cql_build.specs.Knowing.{Knows};
+ghost use Rattle.cql_build.specs.Views.{columns_of, query_of, part_of, program_of, scope};
+
+use crate::build::{crosses, project, select, width, windows};
+use crate::output::output;
+use crate::uses::Uses;
+use crate::{Item, Known};
+use cql_text::{Columns, Part, Query};
+use river_base::{Name, NoMemory};
+use river_plan::RawPlan;
+use std::alloc::Global;
+
+/// The queries of a program, one after another.
+pub(crate) fn queries(
+    alloc: Global,
+    raw: &mut RawPlan,
+    uses: &mut Uses,
+    parts: &[Part],
+) -> Result<(), NoMemory>
+    requires good { AreQueries [] (program_of parts.now) }
+    requires short { AreShort (program_of parts.now) }
+    ensures { OnOk result (Grew raw.old raw.new (output_decls [] (program_of parts.now)) (ask_decls uses.old.all [] (program_of parts.now)) (ask_ops uses.old.inputs uses.old.all [] uses.old.past (program_of parts.now))) }
+{
+    let mut known = Known::new(alloc);
+    for part in parts {
+        known.unit(alloc, raw, uses, part)?;
+        known.add(alloc, part)?;
+    }
+    Ok(())
+}
+
+impl Known {
+    // The query of a unit, where it is one.
+    fn unit(
+        &self,
+        alloc: Global,
+        raw: &mut RawPlan,
+        uses: &mut Uses,
+        part: &Part,
+    ) -> Result<(), NoMemory>
+        requires good { (ks : List Named) × Knows self.now ks × IsUnit ks (part_of part.now) }
+        requires short { IsShortUnit (part_of part.now) }
+        ensures grew { (ks : List Named) → Knows self.now ks → OnOk result (Grew raw.old raw.new (unit_outputs ks (part_of part.now)) (unit_decls uses.old.all ks (part_of part.now)) (unit_ops uses.old.inputs uses.old.all ks uses.old.past (part_of part.now))) }
+        ensures used { OnOk result (Used uses.old uses.new (unit_uses (part_of part.now))) }
+    {
+        match part {
+            Part::Register(_) => Ok(()),
+            Part::Ask(query) => self.query(alloc, raw, uses, query),
+        }
+    }
+
+    /// The operators of a query, from the streams that its items name to its own.
+    pub(crate) fn query(
+        &self,
+        alloc: Global,
+        raw: &mut RawPlan,
+        uses: &mut Uses,
+        query: &Query,
+    ) -> Result<(), NoMemory>
+        requires good { (ks : List Named) × Knows self.now ks × IsQuery ks (query_of query.now) }
+        requires short { length query.now.name ≤ 40 }
+        requires streams { AllByRecursion IsShortName (streams_of (query_of query.now).items) }
+        ensures grew { (ks : List Named) → Knows self.now ks → OnOk result (Grew raw.old raw.new (decl query.now.name (stream (columns_width (scope_of ks (query_of query.now).items) (query_of query.now).columns)) ∷ []) (query_decls uses.old.all ks (query_of query.now)) (query_ops uses.old.inputs uses.old.all ks uses.old.past (query_of query.now))) }
+        ensures used { OnOk result (Used uses.old uses.new (streams_of (query_of query.now).items)) }
+    {
+        let items = self.scope(alloc, query.items.as_slice())?;
+        query_on(alloc, raw, uses, items.as_slice(), query)
+    }
+}
+
+// The same, where its items are known.
+fn query_on(
+    alloc: Global,
+    raw: &mut RawPlan,
+    uses: &mut Uses,
+    items: &[Item<'_>],
+    query: &Query,
+) -> Result<(), NoMemory>
+    requires some { 0 < length items.now }
+    requires each { length items.now ≡ length query.now.items.items }
+    requires narrow { widths_of (scope items.now) ≤ 16 }
+    requires short { length query.now.name ≤ 40 }
+    requires streams { AllByRecursion IsShortName (streams_of (query_of query.now).items) }
+    ensures grew { (ks : List Named) → scope items.now ≡ scope_of ks (query_of query.now).items → OnOk result (Grew raw.old raw.new (decl query.now.name (stream (columns_width (scope_of ks (query_of query.now).items) (query_of query.now).columns)) ∷ []) (query_decls uses.old.all ks (query_of query.now)) (query_ops uses.old.inputs uses.old.all ks uses.old.past (query_of query.now))) }
+    ensures used { OnOk result (Used uses.old uses.new (streams_of (query_of query.now).items)) }
+{
+    let used = uses.count(query.name);
+    let sources = query.items.as_slice();
+    windows(alloc, raw, uses, query.name, sources, items)?;
+    let last = crosses(alloc, raw, query.name, sources, items)?;
+    tail(alloc, raw, items, query, last, used)
+}
+
+// What follows the products: the condition, the columns and the stream.
+fn tail(
+    alloc: Global,
+    raw: &mut RawPlan,
+    items: &[Item<'_>],
+    query: &Query,
+    last: Name,
+    used: usize,
+) -> Result<(), NoMemory>
+    requires narrow { widths_of (scope items.now) ≤ 16 }
+    requires short { length query.now.name ≤ 40 }
+    ensures { OnOk result (Grew raw.old raw.new (decl query.now.name (stream (columns_width (scope items.now) (columns_of query.now.columns))) ∷ []) (tail_decls (query_of query.now) (scope items.now) used) (tail_ops (query_of query.now) (scope items.now) used last)) }
+{
+    let last = select(alloc, raw, query.name, items, last, &query.condition)?;
+    let last = project(alloc, raw, query.name, items, last, &query.columns)?;
+    let width = columns_width(items, &query.columns);
+    output(alloc, raw, query.name, query.kind, last, used, width)
+}
+
+// How many columns there are.
+fn columns_width(items: &[Item<'_>], columns: &Columns) -> usize
+    requires { widths_of (scope items.now) ≤ 16 }
+    ensures { result ≡ columns_width (scope items.now) (columns_of columns.now) }
+{
+    match columns {
+        Columns::Star => width(items),
+        Columns::Chosen(list) => list.len(),
+    }
+}

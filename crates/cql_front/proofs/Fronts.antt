@@ -1,0 +1,143 @@
+-- What a text of CQL means is what it has in the grammar, and what the front answers.
+use Rattle.std.proofs.Common.{◌≡◌, ℕ, List, Option, Some, None, Result, Ok, Err, refl, sym, ap, ◌∙◌, subst}
+use Rattle.work_code.specs.Cut.{units_of}
+use Rattle.work_code.specs.Lexis.{tokens_in}
+use Rattle.work_code.specs.Tok.{Mark, toks}
+use Rattle.work_code.specs.declared.fault.LexFault.{LexFault}
+use Rattle.work_code.specs.declared.fault.LexFault.TheVariants as lex
+use Rattle.work_code.proofs.Slices.{no_want}
+use Rattle.text_forms.specs.Refusals.{of_lexer}
+use Rattle.text_forms.specs.declared.refusal.Refusal.TheVariants.{BadByte, BigNumber, Syntax}
+use Rattle.river_plan.specs.Forms.{PlanForm}
+use Rattle.cql_model.specs.Faults.{refusal_of, AreSpoken, AreShort}
+use Rattle.cql_model.specs.declared.fault.Fault as model
+use Rattle.cql_model.specs.declared.fault.Fault.TheVariants as model_fault
+use Rattle.cql_model.specs.declared.fault.Refusal.{Refusal}
+use Rattle.cql_model.specs.Translation.{plan_of}
+use Rattle.cql_text.specs.Faults.{StandFor, Refuses}
+use Rattle.cql_text.specs.Grammar.{IsText}
+use Rattle.cql_text.specs.Laws.{IsBadAt}
+use Rattle.cql_text.specs.Reading.{parts_in}
+use Rattle.cql_build.specs.Seen.{program_of}
+use Rattle.cql_text.specs.Tree.{Part}
+use Rattle.cql_text.specs.declared.fault.CqlTextFault.TheVariants.{Syntax as Syntax_at}
+use Rattle.cql_front.proofs.Spoken.{spoken, shortened}
+use Rattle.cql_text.proofs.Texts.{text-read, text-reads, units-bad, units-reads, units-told}
+use Rattle.cql_model.proofs.Unrefused.{unrefused_are_valid, unrefused_mean}
+use Rattle.cql_front.specs.declared.fault.CqlFault.{CqlFault}
+use Rattle.cql_front.specs.declared.fault.CqlFault.TheVariants.{Text, UnknownStream, UnknownField, AmbiguousField, NameTwice, Limit, NoMemory}
+use Rattle.cql_front.specs.Laws.{HasFault, Has, MeansWhatItHas, PlansMean}
+use Rattle.cql_front.specs.Meaning.{fault_at, or_refused, accepted, then_judged, of_tokens, then_read, compiled, Plans, Refused}
+
+-- ---- FROM THE GRAMMAR
+
+-- a text that stands for a program means what judging says
+stands-means : (text : List ℕ) (p : List Part) → IsText text p → compiled text ≡ accepted p
+unfolding compiled
+stands-means text p t = ap then_read t.lexed ∙ ap then_judged (text-reads text p t)
+
+-- one with a unit that is not in the grammar means the first of them
+bad-means : (text : List ℕ) (unit : ℕ) → IsBadAt text unit → compiled text ≡ Err (Text (Syntax unit))
+unfolding compiled
+bad-means text unit b = ap then_read b.lexed ∙ ap then_judged (units-told (units_of (toks b.marks)) unit b.first)
+
+-- one with a fault of its bytes means this fault
+lexed-means : (text : List ℕ) (fault : LexFault) → tokens_in text ≡ Err fault → compiled text ≡ Err (of_lexer Text NoMemory fault)
+unfolding compiled
+lexed-means text fault e = ap then_read e
+
+fault-means : (text : List ℕ) (fault : CqlFault) → HasFault text fault → compiled text ≡ Err fault
+fault-means text fault h = stands-means text h.program h.stands ∙ ap (or_refused h.program) h.refused ∙ ap Err (sym h.is)
+
+has-means : (text : List ℕ) (meant : Result (List Part) CqlFault) → Has text meant → compiled text ≡ meant
+has-means text (Ok p) h = stands-means text p h.0 ∙ ap (or_refused p) h.1
+has-means text (Err (Text (BadByte at))) h = lexed-means text (lex.BadByte at) h
+has-means text (Err (Text (BigNumber at))) h = lexed-means text (lex.BigNumber at) h
+has-means text (Err (Text (Syntax unit))) h = bad-means text unit h
+has-means text (Err (UnknownStream unit)) h = fault-means text (UnknownStream unit) h
+has-means text (Err (UnknownField unit)) h = fault-means text (UnknownField unit) h
+has-means text (Err (AmbiguousField unit)) h = fault-means text (AmbiguousField unit) h
+has-means text (Err (NameTwice unit)) h = fault-means text (NameTwice unit) h
+has-means text (Err (Limit unit)) h = fault-means text (Limit unit) h
+has-means text (Err NoMemory) h = absurd h
+
+-- ---- TO THE GRAMMAR
+
+fault-has : (text : List ℕ) (p : List Part) (r : Refusal) → IsText text p → refusal_of (program_of p) ≡ Some r → Has text (Err (fault_at r.unit r.fault))
+fault-has text p r t j = by r.fault refl where
+  has : (f : model.Fault) → r.fault ≡ f → HasFault text (fault_at r.unit f)
+  has f is = record { program = p; refusal = r; stands = t; refused = j; is = ap (fault_at r.unit) (sym is) }
+
+  by : (f : model.Fault) → r.fault ≡ f → Has text (Err (fault_at r.unit f))
+  by model_fault.UnknownStream is = has model_fault.UnknownStream is
+  by model_fault.UnknownField is = has model_fault.UnknownField is
+  by model_fault.AmbiguousField is = has model_fault.AmbiguousField is
+  by model_fault.NameTwice is = has model_fault.NameTwice is
+  by model_fault.Limit is = has model_fault.Limit is
+
+accepted-has : (text : List ℕ) (p : List Part) → IsText text p → Has text (accepted p)
+accepted-has text p t = by (refusal_of (program_of p)) refl where
+  by : (o : Option Refusal) → refusal_of (program_of p) ≡ o → Has text (or_refused p o)
+  by None j = (t, j)
+  by (Some r) j = fault-has text p r t j
+
+means-has : (text : List ℕ) → Has text (compiled text)
+unfolding compiled
+means-has text = by (tokens_in text) refl where
+  read : (marks : List Mark) → tokens_in text ≡ Ok marks → (r : Result (List Part) ℕ) → parts_in (units_of (toks marks)) ≡ r → Has text (then_judged r)
+  read marks lexed (Ok p) e = accepted-has text p (text-read text marks p lexed e)
+  read marks lexed (Err unit) e = record { marks = marks; lexed = lexed; first = units-bad (units_of (toks marks)) unit e }
+
+  by : (r : Result (List Mark) LexFault) → tokens_in text ≡ r → Has text (then_read r)
+  by (Ok marks) e = read marks e (parts_in (units_of (toks marks))) refl
+  by (Err (lex.BadByte at)) e = e
+  by (Err (lex.BigNumber at)) e = e
+  by (Err lex.NoMemory) e = absurd (no_want text e)
+
+-- the law: a text means what it has
+pub means_what_it_has : MeansWhatItHas
+means_what_it_has text meant = ((λ e. subst (Has text) e (means-has text)), has-means text meant)
+
+-- the law: the plan of a text's program is valid, and means what the program means
+pub plans_mean : PlansMean
+plans_mean text p e =
+    let h : Has text (Ok p) = subst (Has text) e (means-has text) in
+    let s = spoken p (units_of (toks h.0.marks)) h.0.formed in
+    (unrefused_are_valid (program_of p) s h.1, λ files are. unrefused_mean (program_of p) files s h.1 are)
+
+-- ---- WHAT THE FRONT ANSWERS
+
+-- tokens that stand for a program mean what judging says
+tokens-mean : (marks : List Mark) (p : List Part) → StandFor marks p → of_tokens marks ≡ accepted p
+tokens-mean marks p h = ap then_judged (units-reads (units_of (toks marks)) p h)
+
+-- a program that was read is planned and refused as its tokens are
+pub read-planned : (marks : List Mark) (p : List Part) (plan : PlanForm) → StandFor marks p → Plans (accepted p) p plan → Plans (of_tokens marks) p plan
+read-planned marks p plan e h = record { accepted = tokens-mean marks p e ∙ h.accepted; planned = h.planned }
+
+pub read-refused : (marks : List Mark) (p : List Part) (fault : CqlFault) → StandFor marks p → Refused (accepted p) fault → Refused (of_tokens marks) fault
+read-refused marks p fault e h = subst (λ (r : Result (List Part) CqlFault). Refused r fault) (sym (tokens-mean marks p e)) h
+
+pub read-spoken : (marks : List Mark) (p : List Part) → StandFor marks p → AreSpoken (program_of p)
+read-spoken marks p e = spoken p (units_of (toks marks)) e
+
+pub read-short : (marks : List Mark) (p : List Part) → StandFor marks p → AreShort (program_of p)
+read-short marks p e = shortened p (units_of (toks marks)) e
+
+pub ruleset fronts = (read-planned, read-refused, read-spoken, read-short)
+
+-- tokens with a unit that is not in the grammar mean the first of them
+pub read-bad : (marks : List Mark) (unit : ℕ) → Refuses marks (Syntax_at unit) → of_tokens marks ≡ Err (Text (Syntax unit))
+read-bad marks unit h = ap then_judged (units-told (units_of (toks marks)) unit h.0)
+
+pub ruleset readings = (read-bad)
+
+-- a program that is not refused is the one that is meant, and this is its plan
+pub planned-plans : (p : List Part) (plan : PlanForm) → refusal_of (program_of p) ≡ None → plan ≡ plan_of (program_of p) → Plans (accepted p) p plan
+planned-plans p plan e is = record { accepted = ap (or_refused p) e; planned = is }
+
+-- a program that is refused means the fault
+pub planned-refused : (p : List Part) (r : Refusal) → refusal_of (program_of p) ≡ Some r → accepted p ≡ Err (fault_at r.unit r.fault)
+planned-refused p r e = ap (or_refused p) e
+
+pub ruleset plans = (planned-plans, planned-refused)

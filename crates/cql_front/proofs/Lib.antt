@@ -1,0 +1,4 @@
+pub mod Fronts
+pub mod Instants
+pub mod Printable
+pub mod Spoken

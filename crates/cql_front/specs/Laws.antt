@@ -1,0 +1,59 @@
+-- What is true of all texts.
+use Rattle.std.specs.Prelude.{◌≡◌, ◌↔◌, ℕ, ℤ, List, [], Some, None, Result, Ok, Err}
+use Rattle.work_code.specs.Lexis.{tokens_in}
+use Rattle.work_code.specs.declared.fault.LexFault.TheVariants as lex
+use Rattle.text_forms.specs.declared.refusal.Refusal.TheVariants.{BadByte, BigNumber, Syntax}
+use Rattle.river_base.specs.Instants as base
+use Rattle.river_plan.specs.Valid.{IsPlan}
+use Rattle.river_print.specs.Printable.{IsPrintable}
+use Rattle.brooklet_model.specs.Meaning.{meaning}
+use Rattle.cql_model.specs.Faults.{refusal_of}
+use Rattle.cql_model.specs.Instants.{inputs_for, instants, program_means}
+use Rattle.cql_model.specs.Laws.{AreFiles}
+use Rattle.cql_model.specs.Translation.{plan_of}
+use Rattle.cql_model.specs.declared.fault.Refusal.{Refusal}
+use Rattle.cql_text.specs.Grammar.{IsText}
+use Rattle.cql_text.specs.Laws.{IsBadAt}
+use Rattle.cql_build.specs.Seen.{program_of}
+use Rattle.cql_text.specs.Tree.{Part}
+use Rattle.cql_front.specs.declared.fault.CqlFault.{CqlFault}
+use Rattle.cql_front.specs.declared.fault.CqlFault.TheVariants.{Text, NoMemory}
+use Rattle.cql_front.specs.Meaning.{fault_at, compiled}
+
+-- the grammar has the text for a program that is refused for this
+pub record HasFault (text : List ℕ) (fault : CqlFault) : Type 0 where
+  pub program : List Part
+  pub refusal : Refusal
+  pub stands : IsText text program
+  pub refused : refusal_of (program_of program) ≡ Some refusal
+  pub is : fault ≡ fault_at refusal.unit refusal.fault
+
+-- the grammar has the text for a program that is not refused; or for one that is; or it has a first unit that is not in the
+-- grammar, or a first fault of its bytes
+abbrev pub Has : List ℕ → Result (List Part) CqlFault → Type 0
+Has text (Ok p) = IsText text p × (refusal_of (program_of p) ≡ None)
+Has text (Err (Text (BadByte at))) = tokens_in text ≡ Err (lex.BadByte at)
+Has text (Err (Text (BigNumber at))) = tokens_in text ≡ Err (lex.BigNumber at)
+Has text (Err (Text (Syntax unit))) = IsBadAt text unit
+Has text (Err NoMemory) = ⊥
+Has text (Err fault) = HasFault text fault
+
+-- that is what a text means
+abbrev pub MeansWhatItHas : Type 0
+MeansWhatItHas = (text : List ℕ) (meant : Result (List Part) CqlFault) → compiled text ≡ meant ↔ Has text meant
+
+-- the plan of a text's program is valid, and means what the program means on all files of its streams
+abbrev pub PlansMean : Type 0
+PlansMean =
+    (text : List ℕ) (p : List Part) → compiled text ≡ Ok p
+    → IsPlan (plan_of (program_of p))
+    × ((files : List (List (ℤ × List ℤ))) → AreFiles (program_of p) files
+    → meaning (plan_of (program_of p)) (inputs_for files) ≡ record { outs = program_means (program_of p) files; tables = [] })
+
+-- the plan of a tree is within the bounds of River text
+abbrev pub PlansArePrintable : Type 0
+PlansArePrintable = (p : List Part) → IsPrintable (plan_of (program_of p))
+
+-- the instants of a run by CQL's own definition are those of its files
+abbrev pub InstantsAgree : Type 0
+InstantsAgree = (files : List (List (ℤ × List ℤ))) → instants files ≡ base.instants files
