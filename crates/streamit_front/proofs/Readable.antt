@@ -6,9 +6,7 @@ use Rattle.std.specs.Str.{bytes_eq}
 use Rattle.work_code.specs.Tok.{Tok}
 use Rattle.work_code.specs.declared.sign.Symbol.{Symbol}
 use Rattle.work_code.specs.declared.sign.Symbol.TheVariants as s
-use Rattle.text_forms.specs.declared.language.Language.TheVariants.{StreamIt}
 use Rattle.text_forms.specs.Forms as form
-use Rattle.text_forms.specs.Language.{is_plain}
 use Rattle.text_forms.specs.Parse.{is_value}
 use Rattle.text_forms.specs.Tree.{Spoken}
 use Rattle.text_forms.specs.Tree as tree
@@ -19,10 +17,10 @@ use Rattle.streamit_model.specs.Program.{Body, Declared, Program, IsShallowBody,
 use Rattle.streamit_unroll.specs.Numbers.{AreValues}
 use Rattle.streamit_unroll.specs.Filter.{IsReadable}
 use Rattle.streamit_unroll.specs.Unrolled.{AreOptional, IsWritten, AreWritten}
-use Rattle.streamit_unroll.specs.View.{in_turn}
+use Rattle.streamit_unroll.specs.View.{in_turn, or_end}
 use Rattle.streamit_build.specs.Program.{IsReadableBody}
 use Rattle.streamit_build.specs.Told.{AreReadable}
-use Rattle.streamit_text.specs.Grammar.{has_values, Expr, Round, IsDeclare, IsAssign, IsPush, IsPop, or_end, IsIf, Head, HeadAfter, IsHead, IsFor, IsBlockOf, StmtAfter, IsStmt, IsBlock, is_still, is_still_first, stays, stay, IsInit, InFilter, BodyAfter, IsUnit, AreUnits}
+use Rattle.streamit_text.specs.Grammar.{is_own, is_fit, Expr, Round, IsDeclare, IsAssign, IsPush, IsPop, IsIf, Head, HeadAfter, IsHead, IsFor, IsBlockOf, StmtAfter, IsStmt, IsBlock, is_still, is_still_first, stays, stay, IsInit, InFilter, BodyAfter, IsUnit, AreUnits}
 
 -- ---- FORMS
 
@@ -45,16 +43,16 @@ enclosed P l r F (suc n) v ts h f = f n h.formed.front h.formed.formed
 a_value : (v : ℕ) → is_value v ≡ true → v < 2 ^ 63
 a_value v h = let le : v ≤ 9223372036854775807 = grind (arith, nat_tests) in omega (arith, le)
 
-values : (t : Spoken) → has_values t ≡ true → AreValues t
+values : (t : Spoken) → is_fit t ≡ true → AreValues t
 values (tree.Number v) h = a_value v h
 values (tree.Name n) h = tt
-values (tree.Input p) h = tt
-values (tree.Slot p) h = tt
+values (tree.Input p) h = absurd (cc h)
+values (tree.Slot p) h = absurd (cc h)
 values (tree.Peek t) h = values t h
 values tree.Pop h = tt
 values (tree.Neg t) h = values t h
 values (tree.Not t) h = values t h
-values (tree.Bin o a b) h = let p = and-both (has_values a) (has_values b) h in (values a p.0, values b p.1)
+values (tree.Bin o a b) h = let p = and-both (is_fit a) (is_fit b) h in (values a p.0, values b p.1)
 
 abbrev IsFine : Spoken → Type 0
 IsFine t = AreValues t × IsLow t
@@ -102,7 +100,7 @@ head-after-fine n name v ts h =
 head-fine : (n : ℕ) (v : Head) (ts : List Tok) → IsHead n v ts → HasBounds v
 head-fine n v ts h =
     let g = h.formed in
-    chosen (HasBounds v) _ _ (is_plain StreamIt g.word) v g.back g.formed (λ f. head-after-fine n g.word v g.back f) (λ f. absurd f)
+    chosen (HasBounds v) _ _ (is_own g.word) v g.back g.formed (λ f. head-after-fine n g.word v g.back f) (λ f. absurd f)
 
 -- blocks, of whose statements this is known
 block-fine : (stmt : ℕ → Statement → List Tok → Type 0) → ((m : ℕ) (s : Statement) (ts : List Tok) → stmt m s ts → IsFineStep s) → (n : ℕ) (b : Block) (ts : List Tok) → IsBlockOf stmt n b ts → AreFine b
@@ -143,7 +141,7 @@ after-fine branch loop b l n w s ts h =
     chosen (IsFineStep s) _ _ (bytes_eq w (codes "pop")) s ts h (pop-fine n s ts) (λ h.
     chosen (IsFineStep s) _ _ (bytes_eq w (codes "if")) s ts h (b s ts) (λ h.
     chosen (IsFineStep s) _ _ (bytes_eq w (codes "for")) s ts h (l s ts) (λ h.
-    chosen (IsFineStep s) _ _ (is_plain StreamIt w) s ts h (assign-fine w n s ts) (λ h. absurd h))))))
+    chosen (IsFineStep s) _ _ (is_own w) s ts h (assign-fine w n s ts) (λ h. absurd h))))))
 
 stmt-fine : (nest n : ℕ) (s : Statement) (ts : List Tok) → IsStmt nest n s ts → IsFineStep s
 unfolding IsStmt

@@ -6,7 +6,6 @@ pub mod Programs
 pub mod Rates
 pub mod Statements
 pub mod Texts
-pub mod Trees
 pub mod Units
 pub mod Weighing
 pub mod Wholes

@@ -2,7 +2,6 @@
 use Rattle.std.proofs.Common.{◌≡◌, ℕ, zero, suc, List, [], ◌∷◌, ◌++◌, Bool, true, false, Option, Some, None, refl, arith, append_assoc}
 use Rattle.std.specs.Prelude.{codes}
 use Rattle.std.specs.Str.{bytes_eq}
-use Rattle.river_base.specs.Name.{is_name}
 use Rattle.work_code.specs.Tok.{Tok}
 use Rattle.work_code.specs.declared.sign.Symbol.TheVariants as s
 use Rattle.text_forms.specs.Parse as parse
@@ -12,9 +11,10 @@ use Rattle.text_forms.proofs.Exact.{Exact, Any, exact-less, exact-both, exact-af
 use Rattle.text_forms.proofs.Many.{Listed, exact-many}
 use Rattle.text_forms.proofs.Choices.{exact-never, exact-choose, exact-headed, exact-known, exact-enclosed, exact-listing}
 use Rattle.streamit_model.specs.Source.{Block}
+use Rattle.streamit_unroll.specs.View.{or_end}
 use Rattle.streamit_model.specs.Program.{Turns, Body, AFilter, APipeline}
-use Rattle.streamit_text.specs.Grammar.{StreamName, Count, Weight, Round, or_end, stay, IsBlock, IsInit, IsField, push, pop, peek, IsRate, Rates, rates_in, unwritten, AreRates, made_filter, InFilter, Braces, none_there, Parens, the_name, Called, IsAdd, made_adds, AreAdds, or_none, Weights, copying, IsSplit, IsJoin, made_both, InBoth, BodyAfter, made_unit, KindAfter, IsUnit, IsUnitAt}
-use Rattle.streamit_text.specs.Reading.{still_at, init_at, no_field, field_at, fields_at, rate_after, rate_at, at_block, rate_list_at, rates_at, in_filter_at, filter_at, parens_at, stream_name_at, called_at, add_at, no_add, more_adds_at, adds_at, weight_at, listed_at, weights_at, split_after, split_at, join_at, in_both_at, pipe_at, both_at, body_after, kind_after, unit_at, unit_from}
+use Rattle.streamit_text.specs.Grammar.{Count, Weight, Round, stay, IsBlock, IsInit, IsField, push, pop, peek, IsRate, Rates, rates_in, unwritten, AreRates, made_filter, InFilter, Braces, none_there, Parens, the_name, Called, IsAdd, made_adds, AreAdds, or_none, Weights, copying, IsSplit, IsJoin, made_both, InBoth, BodyAfter, made_unit, KindAfter, IsUnit, IsUnitAt}
+use Rattle.streamit_text.specs.Reading.{still_at, init_at, no_field, field_at, fields_at, rate_after, rate_at, at_block, rate_list_at, rates_at, in_filter_at, filter_at, parens_at, called_at, add_at, no_add, more_adds_at, adds_at, weight_at, listed_at, weights_at, split_after, split_at, join_at, in_both_at, pipe_at, both_at, body_after, kind_after, unit_at, unit_from}
 use Rattle.streamit_text.proofs.Statements.{exact-plain, exact-round, exact-empty, exact-block}
 
 exact-still : (n : ℕ) → Exact (form.Tested stay (IsBlock 16 n)) (still_at n) Any
@@ -102,13 +102,9 @@ exact-parens : (n : ℕ) → Exact (Parens n) (parens_at n) NoOpen
 unfolding parens_at
 exact-parens n = exact-less (exact-seen none_there (exact-maybe (parse.begins_with s.Open) (exact-empty n) (λ v ts rest h. round-begins (λ m. form.Nothing tt) n v ts rest h))) (λ rest d. (tt, d))
 
-exact-stream_name : Exact StreamName stream_name_at Any
-unfolding stream_name_at
-exact-stream_name = exact-tested is_name exact-plain
-
 exact-called : (n : ℕ) → Exact (Called n) (called_at n) NoOpen
 unfolding called_at
-exact-called n = exact-seen the_name (exact-both exact-stream_name (exact-parens n) (λ y ts rest g d. tt))
+exact-called n = exact-seen the_name (exact-both exact-plain (exact-parens n) (λ y ts rest g d. tt))
 
 pub exact-add : (n : ℕ) → Exact (IsAdd n) (add_at n) Any
 unfolding add_at

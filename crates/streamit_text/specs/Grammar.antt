@@ -18,15 +18,14 @@ use Rattle.text_forms.specs.Forms.{Name, Number, Nothing, Never, Both, After, Be
 use Rattle.streamit_model.specs.Source.{Statement, Declare, Assign, Push, Pop, If, For, Block, End, Then}
 use Rattle.streamit_model.specs.FilterSource.{FilterTree}
 use Rattle.streamit_model.specs.Program.{Dealing, Copies, Turns, Adds, Body, AFilter, APipeline, ASplitJoin, Declared, Program}
-use Rattle.streamit_unroll.specs.View.{in_turn}
+use Rattle.streamit_unroll.specs.View.{in_turn, or_end}
 
--- NAME: at most 40 bytes, no @, and no keyword
+-- NAME: a letter or _, then letters, digits and _, at most 40 bytes, and no keyword
+abbrev pub is_own : List ℕ → Bool
+is_own text = is_plain StreamIt text && is_name text
+
 abbrev pub Plain : List ℕ → List Tok → Type 0
-Plain = Tested (is_plain StreamIt) Name
-
--- a stream's NAME: as names of plans are, it begins with a letter or _
-abbrev pub StreamName : List ℕ → List Tok → Type 0
-StreamName = Tested is_name Plain
+Plain = Tested is_own Name
 
 -- N that counts something: at most 4294967295
 abbrev pub Count : ℕ → List Tok → Type 0
@@ -36,21 +35,22 @@ Count = Tested is_count Number
 abbrev pub Weight : ℕ → List Tok → Type 0
 Weight = Tested is_value Number
 
--- each number of an expression is at most 9223372036854775807
-abbrev pub has_values : Spoken → Bool
-has_values (tree.Number v) = is_value v
-has_values (tree.Name text) = true
-has_values (tree.Input k) = true
-has_values (tree.Slot k) = true
-has_values (tree.Peek t) = has_values t
-has_values tree.Pop = true
-has_values (tree.Neg t) = has_values t
-has_values (tree.Not t) = has_values t
-has_values (tree.Bin o a b) = has_values a && has_values b
+-- each number of an expression is at most 9223372036854775807, each name begins with a letter or _, and there is no other leaf but
+-- `peek` and `pop`
+abbrev pub is_fit : Spoken → Bool
+is_fit (tree.Number v) = is_value v
+is_fit (tree.Name text) = is_name text
+is_fit (tree.Input k) = false
+is_fit (tree.Slot k) = false
+is_fit (tree.Peek t) = is_fit t
+is_fit tree.Pop = true
+is_fit (tree.Neg t) = is_fit t
+is_fit (tree.Not t) = is_fit t
+is_fit (tree.Bin o a b) = is_fit a && is_fit b
 
 -- e, at most 64 deep
 abbrev pub Expr : ℕ → Spoken → List Tok → Type 0
-Expr n = Tested has_values (IsExpr StreamIt n)
+Expr n = Tested is_fit (IsExpr StreamIt n)
 
 -- "(" .. ")"
 abbrev pub Round : {A : Type 0} → (ℕ → A → List Tok → Type 0) → ℕ → A → List Tok → Type 0
@@ -83,10 +83,6 @@ abbrev pub IsPop : ℕ → Statement → List Tok → Type 0
 IsPop n = Seen popping (Before (Empty n) (s.Semicolon ∷ []))
 
 -- "(" e ")" block ["else" block], behind "if"
-abbrev pub or_end : Option Block → Block
-or_end None = End
-or_end (Some b) = b
-
 abbrev pub made_if : Spoken × (Block × Block) → Statement
 made_if v = If v.0 v.1.0 v.1.1
 
@@ -114,7 +110,7 @@ HeadAfter n name =
 
 -- "int" NAME "=" e ";" NAME ("<" | "<=") e ";" NAME "++", where the three names are the same
 abbrev pub IsHead : ℕ → Head → List Tok → Type 0
-IsHead n = AfterWord (codes "int") (Headed (λ name. Choose (is_plain StreamIt name) (HeadAfter n name) Never))
+IsHead n = AfterWord (codes "int") (Headed (λ name. Choose (is_own name) (HeadAfter n name) Never))
 
 -- "(" head ")" block, behind "for"
 abbrev pub made_for : Head × Block → Statement
@@ -135,7 +131,7 @@ StmtAfter branch loop n w =
     (Choose (bytes_eq w (codes "pop")) (IsPop n)
     (Choose (bytes_eq w (codes "if")) branch
     (Choose (bytes_eq w (codes "for")) loop
-    (Choose (is_plain StreamIt w) (IsAssign w n)
+    (Choose (is_own w) (IsAssign w n)
     Never)))))
 
 -- stmt, where `if` and `for` together may nest so deep
@@ -256,7 +252,7 @@ abbrev pub the_name : List ℕ × Unit {0} → List ℕ
 the_name v = v.0
 
 abbrev pub Called : ℕ → List ℕ → List Tok → Type 0
-Called n = Seen the_name (Both StreamName (Parens n))
+Called n = Seen the_name (Both Plain (Parens n))
 
 -- "add" NAME ["(" ")"] ";"
 abbrev pub IsAdd : ℕ → List ℕ → List Tok → Type 0

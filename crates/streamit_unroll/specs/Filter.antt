@@ -1,23 +1,11 @@
 -- Filters as they are written, and what their reading sees to.
-use Rattle.std.specs.Prelude.{ℕ, List, map, Option, Some, None}
-use Rattle.std.specs.Borrow.{Bor}
-use Rattle.river_plan.specs.Forms.{Name}
-use Rattle.streamit_unroll.specs.declared.tree.Block.{Block}
+use Rattle.std.specs.Prelude.{ℕ, Option, Some, None}
 use Rattle.streamit_unroll.specs.declared.tree.FilterTree as tree
 use Rattle.streamit_unroll.specs.declared.tree.Rates.{Rates}
 use Rattle.streamit_unroll.specs.Unrolled.{AreWritten}
-use Rattle.streamit_unroll.specs.View.{block}
-use Rattle.streamit_model.specs.Source as source
+use Rattle.streamit_unroll.specs.View.{block, optional}
 use Rattle.streamit_model.specs.FilterSource.{FilterTree}
 use Rattle.streamit_model.specs.Shallow.{AreShallow, KeepAll}
-
-abbrev pub names_of : List (Bor (List ℕ)) → List Name
-names_of bs = map (λ b. b.now) bs
-
--- a block that is not written is an empty one
-abbrev pub optional : Option Block → source.Block
-optional None = source.End
-optional (Some b) = block b
 
 -- a rate that is not written
 abbrev pub rate_or : Option ℕ → ℕ → ℕ
@@ -35,7 +23,7 @@ abbrev pub peek_of : Rates → ℕ
 peek_of r = rate_or r.peek (pop_of r)
 
 abbrev pub filter_tree : tree.FilterTree → FilterTree
-filter_tree t = record { fields = names_of t.fields.items; init = optional t.init; push = push_of t.rates; pop = pop_of t.rates; peek = peek_of t.rates; work = block t.work }
+filter_tree t = record { fields = t.fields.items; init = optional t.init; push = push_of t.rates; pop = pop_of t.rates; peek = peek_of t.rates; work = block t.work }
 
 -- what the grammar sees to: numbers are values, expressions are not too deep, and `init` pops nothing
 pub record IsReadable (t : FilterTree) : Type 0 where
