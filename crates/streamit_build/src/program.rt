@@ -1,6 +1,5 @@
 // Programs as they are written.
-ghost use Rattle.std.specs.Prelude.{◌≡◌, ◌≤◌, length};
-ghost use Rattle.streamit_build.specs.Program.{weights_of};
+ghost use Rattle.std.specs.Prelude.{◌≤◌, length};
 
 use river_base::Name;
 use streamit_unroll::FilterTree;
@@ -47,16 +46,4 @@ pub enum Split {
 #[derive(Drop)]
 pub struct RoundRobin {
     pub weights: Option<Vec<u64>>,
-}
-
-impl RoundRobin {
-    /// The weights that are written.
-    pub fn written(&self) -> &[u64]
-        ensures { result.now ≡ weights_of self.now }
-    {
-        match &self.weights {
-            Some(weights) => weights.as_slice(),
-            None => &[],
-        }
-    }
 }

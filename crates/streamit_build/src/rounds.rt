@@ -4,11 +4,24 @@ ghost use Rattle.std.specs.List.{list_all};
 ghost use Rattle.streamit_model.specs.Rounds.{cycle};
 ghost use Rattle.streamit_model.specs.Judged.{round_of, fitting_round};
 ghost use Rattle.streamit_unroll.specs.View.{Judges};
-ghost use Rattle.streamit_build.specs.Program.{items_of};
+ghost use Rattle.streamit_build.specs.Program.{items_of, weights_of};
 
+use crate::RoundRobin;
 use river_base::NoMemory;
 use std::alloc::Global;
 use streamit_unroll::Fault;
+
+impl RoundRobin {
+    /// The weights that are written.
+    pub fn written(&self) -> &[u64]
+        ensures { result.now ≡ weights_of self.now }
+    {
+        match &self.weights {
+            Some(weights) => weights.as_slice(),
+            None => &[],
+        }
+    }
+}
 
 /// The weights of so many branches, where these are written: none stands for 1 each, one for as many each.
 pub fn round(alloc: Global, written: &[u64], branches: usize) -> Result<Vec<u32>, Fault>
