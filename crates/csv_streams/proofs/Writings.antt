@@ -3,7 +3,8 @@ use Rattle.std.proofs.Common.{◌≡◌, ℕ, ◌^◌, ◌<◌, ◌≤◌, List,
 use Rattle.std.specs.Prelude.{ℤ, pos, neg_ℤ, Option, None, Some, option_and_then, ◌&&◌, ◌==◌, not}
 use Rattle.std.specs.List.{list_all}
 use Rattle.std.proofs.lemmas.Bool.Decides.{nat_tests}
-use Rattle.csv_streams.specs.Number.{is_space, is_digit, after_spaces, digits_of, after_digits, is_nothing, value_after, whole, positive, negative, signed, number_of}
+use Rattle.river_base.specs.Name.{is_digit}
+use Rattle.csv_streams.specs.Number.{is_space, after_spaces, digits_of, after_digits, is_nothing, value_after, whole, positive, negative, signed, number_of}
 use Rattle.csv_streams.specs.Writing.{AllSpaces, AllDigits, IsSigned, Writes}
 
 -- tests of a byte
@@ -11,9 +12,11 @@ space-is : (c : ℕ) → is_space c ≡ true → c ≡ 32
 space-is c e = grind (arith, nat_tests)
 
 digit-is : (c : ℕ) → is_digit c ≡ true → (48 ≤ c) × (c ≤ 57)
-digit-is c e = grind (arith, nat_tests)
+unfolding is_digit
+digit-is c e = (grind (arith, nat_tests), grind (arith, nat_tests))
 
 digit-from : (c : ℕ) → 48 ≤ c → c ≤ 57 → is_digit c ≡ true
+unfolding is_digit
 digit-from c low high = grind (arith, nat_tests)
 
 -- the spaces at the front
@@ -164,11 +167,13 @@ skip-spaces [] rest all = refl
 skip-spaces (c ∷ cs) rest all = rw all.0 (skip-spaces cs rest all.1)
 
 digits-append : (digits after : List ℕ) → AllDigits digits → AllSpaces after → digits_of (digits ++ after) ≡ digits
+unfolding is_digit
 digits-append [] [] all blank = refl
 digits-append [] (c ∷ cs) all blank = rw blank.0 refl
 digits-append (d ∷ ds) after all blank = rw (digit-from d all.0 all.1) (ap (λ (l : List ℕ). d ∷ l) (digits-append ds after all.2 blank))
 
 after-append : (digits after : List ℕ) → AllDigits digits → AllSpaces after → after_digits (digits ++ after) ≡ after
+unfolding is_digit
 after-append [] [] all blank = refl
 after-append [] (c ∷ cs) all blank = rw blank.0 refl
 after-append (d ∷ ds) after all blank = rw (digit-from d all.0 all.1) (after-append ds after all.2 blank)

@@ -1,14 +1,11 @@
 -- The number that a field of a file writes: spaces, an optional sign, digits, and spaces.
 use Rattle.std.specs.Prelude.{ℕ, ℤ, pos, neg_ℤ, ◌+◌, ◌-◌, ◌*◌, ◌^◌, ◌==◌, min, nat_lt, nat_le, List, [], ◌∷◌, Bool, true, false, ◌&&◌, not, Option, None, Some, option_and_then, if◌then◌else◌}
 use Rattle.std.specs.List.{list_all}
+use Rattle.river_base.specs.Name.{is_digit}
 
 -- the byte of a space; no other byte is one
 abbrev pub is_space : ℕ → Bool
 is_space c = c == 32
-
--- a decimal digit, from `0` to `9`
-abbrev pub is_digit : ℕ → Bool
-is_digit c = nat_le 48 c && nat_le c 57
 
 -- the text from its first byte on that is no space
 abbrev pub after_spaces : List ℕ → List ℕ

@@ -37,6 +37,7 @@ fn whole(text: &[u8]) -> Option<u64>
 }
 
 // How many digits stand at the front.
+#[tactic(auto, unfolding(river_base::specs::Name::is_digit))]
 fn digit_count(text: &[u8]) -> usize
     ensures digits { take result text.now ≡ number.digits_of text.now }
     ensures rest { drop result text.now ≡ number.after_digits text.now }

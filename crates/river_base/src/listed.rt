@@ -162,7 +162,7 @@ impl<T: Drop> Listed<Listed<T>> {
         Ok(all)
     }
 
-    /// Appends an element to the list at a place, from 0; changes nothing where there is no memory.
+    /// Appends an element to the list at a place, from 0. Where there is no memory, nothing is said of the lists.
     pub fn push_at(&mut self, place: usize, x: T) -> Result<(), NoMemory>
         requires { place < length self.old }
         ensures ok { OnOk result (self.new ≡ append_at self.old place (x ∷ [])) }
@@ -172,7 +172,7 @@ impl<T: Drop> Listed<Listed<T>> {
         Ok(())
     }
 
-    /// Moves the elements of a list behind those of the list at a place, from 0.
+    /// Moves the elements of a list behind those of the list at a place, from 0. Where there is no memory, nothing is said of them.
     pub fn extend_at(&mut self, place: usize, more: Listed<T>) -> Result<(), NoMemory>
         requires { place < length self.old }
         ensures ok { OnOk result (self.new ≡ append_at self.old place more) }

@@ -13,7 +13,8 @@ pub fn printed_plans_are_read()
     ensures { ValidIsRead }
 {}
 
-/// A valid plan that a text stands for keeps these bounds, so its printed text stands for it and for no other.
+/// What a text stands for has numbers in the ranges of their types and keeps these bounds, so the printed text of a valid plan
+/// that was read stands for it and for no other.
 pub fn read_plans_are_read_again()
     ensures bounds { ReadIsPrintable }
     ensures read { ReadIsReadAgain }
