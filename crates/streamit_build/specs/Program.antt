@@ -1,5 +1,5 @@
 -- Programs as they are written, as plain trees.
-use Rattle.std.specs.Prelude.{ℕ, List, [], map, Option, Some, None}
+use Rattle.std.specs.Prelude.{ℕ, List, map, Option, Some, None}
 use Rattle.std.proofs.Common.{Vec, Global}
 use Rattle.streamit_model.specs.Program.{Dealing, Copies, Turns, Adds, Body, AFilter, APipeline, ASplitJoin, Declared, Program}
 use Rattle.streamit_unroll.specs.Filter.{filter_tree, IsReadable}
@@ -14,12 +14,12 @@ use Rattle.streamit_build.specs.declared.program.Declaration.{Declaration}
 abbrev pub items_of : Vec ℕ Global → List ℕ
 items_of v = v.items
 
--- without brackets there are no weights
-abbrev pub optional_items : Option (Vec ℕ Global) → List ℕ
-optional_items None = []
-optional_items (Some ws) = ws.items
+abbrev pub optional_items : Option (Vec ℕ Global) → Option (List ℕ)
+optional_items None = None
+optional_items (Some ws) = Some ws.items
 
-abbrev pub weights_of : RoundRobin → List ℕ
+-- the weights in the brackets, where there are brackets
+abbrev pub weights_of : RoundRobin → Option (List ℕ)
 weights_of r = optional_items r.weights
 
 abbrev pub dealing_of : Split → Dealing

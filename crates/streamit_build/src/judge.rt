@@ -101,7 +101,7 @@ impl Known {
         let count = all.adds.others.len() + 1;
         let split = splitter(alloc, &all.split, count)?;
         let children = self.children(alloc, true, &all.adds)?;
-        let join = round(alloc, all.join.written(), count)?;
+        let join = round(alloc, &all.join, count)?;
         let depth = sum(children.deepest, 1)?;
         let ops = few(children.ops, 2);
         let stream = Declared::SplitJoin {
@@ -123,7 +123,7 @@ fn splitter(alloc: Global, split: &Split, branches: usize) -> Result<Option<Vec<
     match split {
         Split::Duplicate => Ok(None),
         Split::RoundRobin(weights) => {
-            let weights = round(alloc, weights.written(), branches)?;
+            let weights = round(alloc, weights, branches)?;
             Ok(Some(weights))
         }
     }

@@ -16,7 +16,7 @@ use Rattle.text_forms.proofs.Many.{Listed, exact-many}
 use Rattle.text_forms.proofs.Choices.{exact-never, exact-choose, exact-headed, exact-enclosed}
 use Rattle.text_forms.proofs.Ladder.{Ends, exact-expr}
 use Rattle.streamit_model.specs.Source.{Statement, Assign, Push, Block}
-use Rattle.streamit_unroll.specs.View.{in_turn, or_end}
+use Rattle.streamit_unroll.specs.View.{in_turn, or_unwritten}
 use Rattle.streamit_text.specs.Grammar.{is_own, Plain, is_fit, Expr, Round, Empty, made_declare, IsDeclare, IsAssign, IsPush, popping, IsPop, made_if, IsIf, Upto, made_head, HeadAfter, IsHead, made_for, IsFor, IsBlockOf, StmtAfter, IsStmt, IsBlock}
 use Rattle.streamit_text.specs.Reading.{plain_at, term_at, round, empty_at, round_term_at, first_value_at, declare_at, ended_at, assign_at, push_at, pop_at, else_at, if_at, upto_at, head_after, named_head_at, head_at, round_head_at, for_at, at_close, block_of_at, stmt_after, stmts_of, stmt_at, stmts_at, block_at}
 
@@ -69,10 +69,10 @@ exact-pop n = exact-seen popping (exact-before (s.Semicolon ∷ []) (exact-empty
 abbrev pub NoElse : List Tok → Type 0
 NoElse rest = parse.is_word_at (codes "else") rest ≡ false
 
-exact-else : {block : ℕ → Block → List Tok → Type 0} {p : ℕ → Parse Block} → ((n : ℕ) → Exact (block n) (p n) Any) → (n : ℕ) → Exact (form.Seen or_end (form.Maybe (form.AfterWord (codes "else") (block n)))) (else_at p n) NoElse
+exact-else : {block : ℕ → Block → List Tok → Type 0} {p : ℕ → Parse Block} → ((n : ℕ) → Exact (block n) (p n) Any) → (n : ℕ) → Exact (form.Seen or_unwritten (form.Maybe (form.AfterWord (codes "else") (block n)))) (else_at p n) NoElse
 unfolding else_at
 exact-else {block} {p} x n =
-    exact-less (exact-seen or_end (exact-maybe (parse.is_word_at (codes "else")) (exact-after_word (codes "else") (x n)) else_comes)) (λ rest d. (tt, d))
+    exact-less (exact-seen or_unwritten (exact-maybe (parse.is_word_at (codes "else")) (exact-after_word (codes "else") (x n)) else_comes)) (λ rest d. (tt, d))
   where
     else_comes : (v : Block) (ts rest : List Tok) → form.AfterWord (codes "else") (block n) v ts → parse.is_word_at (codes "else") (ts ++ rest) ≡ true
     else_comes v ts rest h = rw h.is refl

@@ -10,10 +10,10 @@ use Rattle.text_forms.specs.Forms as form
 use Rattle.text_forms.proofs.Exact.{Exact, Any, exact-less, exact-both, exact-after, exact-before, exact-after_word, exact-tested, exact-seen, exact-maybe, exact-number}
 use Rattle.text_forms.proofs.Many.{Listed, exact-many}
 use Rattle.text_forms.proofs.Choices.{exact-never, exact-choose, exact-headed, exact-known, exact-enclosed, exact-listing}
-use Rattle.streamit_model.specs.Source.{Block}
-use Rattle.streamit_unroll.specs.View.{or_end}
+use Rattle.streamit_model.specs.Source.{Block, Optional}
+use Rattle.streamit_unroll.specs.View.{or_unwritten}
 use Rattle.streamit_model.specs.Program.{Turns, Body, AFilter, APipeline}
-use Rattle.streamit_text.specs.Grammar.{Count, Weight, Round, stay, IsBlock, IsInit, IsField, push, pop, peek, IsRate, Rates, rates_in, unwritten, AreRates, made_filter, InFilter, Braces, none_there, Parens, the_name, Called, IsAdd, made_adds, AreAdds, or_none, Weights, copying, IsSplit, IsJoin, made_both, InBoth, BodyAfter, made_unit, KindAfter, IsUnit, IsUnitAt}
+use Rattle.streamit_text.specs.Grammar.{Count, Weight, Round, stay, IsBlock, IsInit, IsField, push, pop, peek, IsRate, Rates, rates_in, unwritten, AreRates, made_filter, InFilter, Braces, none_there, Parens, the_name, Called, IsAdd, made_adds, AreAdds, Weights, copying, IsSplit, IsJoin, made_both, InBoth, BodyAfter, made_unit, KindAfter, IsUnit, IsUnitAt}
 use Rattle.streamit_text.specs.Reading.{still_at, init_at, no_field, field_at, fields_at, rate_after, rate_at, at_block, rate_list_at, rates_at, in_filter_at, filter_at, parens_at, called_at, add_at, no_add, more_adds_at, adds_at, weight_at, listed_at, weights_at, split_after, split_at, join_at, in_both_at, pipe_at, both_at, body_after, kind_after, unit_at, unit_from}
 use Rattle.streamit_text.proofs.Statements.{exact-plain, exact-round, exact-empty, exact-block}
 
@@ -27,7 +27,7 @@ No word rest = parse.is_word_at word rest ≡ false
 
 exact-init : (n : ℕ) → Exact (IsInit n) (init_at n) (No (codes "init"))
 unfolding init_at
-exact-init n = exact-less (exact-seen or_end (exact-maybe (parse.is_word_at (codes "init")) (exact-after_word (codes "init") (exact-still n)) comes)) (λ rest d. (tt, d)) where
+exact-init n = exact-less (exact-seen or_unwritten (exact-maybe (parse.is_word_at (codes "init")) (exact-after_word (codes "init") (exact-still n)) comes)) (λ rest d. (tt, d)) where
   comes : (v : Block) (ts rest : List Tok) → form.AfterWord (codes "init") (form.Tested stay (IsBlock 16 n)) v ts → parse.is_word_at (codes "init") (ts ++ rest) ≡ true
   comes v ts rest h = rw h.is refl
 
@@ -73,7 +73,7 @@ block-begins zero v ts rest h = absurd h
 block-begins (suc n) v ts rest h = rw h.is refl
 
 -- behind the fields comes no field
-init-follows : (n : ℕ) (v : Block × (Rates × Block)) (ts rest : List Tok) → form.Both (IsInit n) (form.AfterWord (codes "work") (form.Both AreRates (IsBlock 16 n))) v ts → no_field (ts ++ rest) ≡ true
+init-follows : (n : ℕ) (v : Optional × (Rates × Block)) (ts rest : List Tok) → form.Both (IsInit n) (form.AfterWord (codes "work") (form.Both AreRates (IsBlock 16 n))) v ts → no_field (ts ++ rest) ≡ true
 init-follows n v ts rest h = by h.first.value h.first.formed where
   by : (o : Option Block) → form.Maybe (form.AfterWord (codes "init") (form.Tested stay (IsBlock 16 n))) o h.front → no_field (ts ++ rest) ≡ true
   by None g = rw (h.is, g, h.second.is) refl
@@ -134,7 +134,7 @@ exact-listed n = exact-round (λ m. exact-listing s.Close exact-weight (λ rest.
 
 exact-weights : (n : ℕ) → Exact (Weights n) (weights_at n) NoOpen
 unfolding weights_at
-exact-weights n = exact-less (exact-seen or_none (exact-maybe (parse.begins_with s.Open) (exact-listed n) (λ v ts rest h. round-begins (λ m. form.Listing Weight) n v ts rest h))) (λ rest d. (tt, d))
+exact-weights n = exact-less (exact-maybe (parse.begins_with s.Open) (exact-listed n) (λ v ts rest h. round-begins (λ m. form.Listing Weight) n v ts rest h)) (λ rest d. (tt, d))
 
 exact-split : (n : ℕ) → Exact (IsSplit n) (split_at n) Any
 unfolding split_at split_after

@@ -15,10 +15,10 @@ use Rattle.text_forms.specs.Texts.{AllFormed}
 use Rattle.text_forms.specs.Tree.{Spoken}
 use Rattle.text_forms.specs.Tree as tree
 use Rattle.text_forms.specs.Forms.{Name, Number, Nothing, Never, Both, After, Before, AfterWord, Tested, Seen, Known, Merged, Maybe, Each, Listing, Choose, Headed, Enclosed}
-use Rattle.streamit_model.specs.Source.{Statement, Declare, Assign, Push, Pop, If, For, Block, End, Then}
+use Rattle.streamit_model.specs.Source.{Statement, Declare, Assign, Push, Pop, If, For, Block, End, Then, Optional, Unwritten, Written}
 use Rattle.streamit_model.specs.FilterSource.{FilterTree}
 use Rattle.streamit_model.specs.Program.{Dealing, Copies, Turns, Adds, Body, AFilter, APipeline, ASplitJoin, Declared, Program}
-use Rattle.streamit_unroll.specs.View.{in_turn, or_end}
+use Rattle.streamit_unroll.specs.View.{in_turn, or_unwritten}
 
 -- NAME: a letter or _, then letters, digits and _, at most 40 bytes, and no keyword
 abbrev pub is_own : List ℕ → Bool
@@ -83,11 +83,11 @@ abbrev pub IsPop : ℕ → Statement → List Tok → Type 0
 IsPop n = Seen popping (Before (Empty n) (s.Semicolon ∷ []))
 
 -- "(" e ")" block ["else" block], behind "if"
-abbrev pub made_if : Spoken × (Block × Block) → Statement
+abbrev pub made_if : Spoken × (Block × Optional) → Statement
 made_if v = If v.0 v.1.0 v.1.1
 
 abbrev pub IsIf : (ℕ → Block → List Tok → Type 0) → ℕ → Statement → List Tok → Type 0
-IsIf block n = Seen made_if (Both (Round Expr n) (Both (block n) (Seen or_end (Maybe (AfterWord (codes "else") (block n))))))
+IsIf block n = Seen made_if (Both (Round Expr n) (Both (block n) (Seen or_unwritten (Maybe (AfterWord (codes "else") (block n))))))
 
 -- "<" or "<=", which stands for one turn more
 abbrev pub Upto : Bool → List Tok → Type 0
@@ -164,16 +164,20 @@ abbrev mutual
   stays (Assign name value) = is_still value
   stays (Push value) = false
   stays Pop = false
-  stays (If cond a b) = is_still cond && (stay a && stay b)
+  stays (If cond a b) = is_still cond && (stay a && stay_optional b)
   stays (For name low upto high b) = is_still low && (is_still high && stay b)
 
   pub stay : Block → Bool
   stay End = true
   stay (Then c b) = stays c && stay b
 
+  pub stay_optional : Optional → Bool
+  stay_optional Unwritten = true
+  stay_optional (Written b) = stay b
+
 -- ["init" block]
-abbrev pub IsInit : ℕ → Block → List Tok → Type 0
-IsInit n = Seen or_end (Maybe (AfterWord (codes "init") (Tested stay (IsBlock 16 n))))
+abbrev pub IsInit : ℕ → Optional → List Tok → Type 0
+IsInit n = Seen or_unwritten (Maybe (AfterWord (codes "init") (Tested stay (IsBlock 16 n))))
 
 -- { "int" NAME ";" }
 abbrev pub IsField : List ℕ → List Tok → Type 0
@@ -223,16 +227,11 @@ rates_in r (x ∷ xs) = on_some (with_rate r x) (λ q. rates_in q xs)
 abbrev pub AreRates : Rates → List Tok → Type 0
 AreRates = Known (rates_in unwritten) (Each IsRate)
 
--- without `push` or `pop` the rate is 0; without `peek` it is the rate of `pop`
-abbrev pub rate_or : Option ℕ → ℕ → ℕ
-rate_or None n = n
-rate_or (Some r) n = r
-
 -- filter = "{" { "int" NAME ";" } ["init" block] "work" rates block "}"
-abbrev pub made_filter : List (List ℕ) × (Block × (Rates × Block)) → FilterTree
+abbrev pub made_filter : List (List ℕ) × (Optional × (Rates × Block)) → FilterTree
 made_filter v =
     let r = v.1.1.0 in
-    record { fields = v.0; init = v.1.0; push = rate_or r.push 0; pop = rate_or r.pop 0; peek = rate_or r.peek (rate_or r.pop 0); work = v.1.1.1 }
+    record { fields = v.0; init = v.1.0; push = r.push; pop = r.pop; peek = r.peek; work = v.1.1.1 }
 
 abbrev pub InFilter : ℕ → FilterTree → List Tok → Type 0
 InFilter n = Seen made_filter (Both (Each IsField) (Both (IsInit n) (AfterWord (codes "work") (Both AreRates (IsBlock 16 n)))))
@@ -266,12 +265,8 @@ abbrev pub AreAdds : ℕ → Adds → List Tok → Type 0
 AreAdds n = Seen made_adds (Both (IsAdd n) (Each (IsAdd n)))
 
 -- rr = "roundrobin" [ "(" [ N {"," N} ] ")" ]
-abbrev pub or_none : Option (List ℕ) → List ℕ
-or_none None = []
-or_none (Some ws) = ws
-
-abbrev pub Weights : ℕ → List ℕ → List Tok → Type 0
-Weights n = Seen or_none (Maybe (Round (λ m. Listing Weight) n))
+abbrev pub Weights : ℕ → Option (List ℕ) → List Tok → Type 0
+Weights n = Maybe (Round (λ m. Listing Weight) n)
 
 abbrev pub copying : Unit {0} → Dealing
 copying u = Copies
@@ -285,10 +280,10 @@ SplitAfter n w =
 abbrev pub IsSplit : ℕ → Dealing → List Tok → Type 0
 IsSplit n = AfterWord (codes "split") (Before (Headed (SplitAfter n)) (s.Semicolon ∷ []))
 
-abbrev pub IsJoin : ℕ → List ℕ → List Tok → Type 0
+abbrev pub IsJoin : ℕ → Option (List ℕ) → List Tok → Type 0
 IsJoin n = AfterWord (codes "join") (AfterWord (codes "roundrobin") (Before (Weights n) (s.Semicolon ∷ [])))
 
-abbrev pub made_both : Dealing × (Adds × List ℕ) → Body
+abbrev pub made_both : Dealing × (Adds × Option (List ℕ)) → Body
 made_both v = ASplitJoin v.0 v.1.0 v.1.1
 
 abbrev pub InBoth : ℕ → Body → List Tok → Type 0

@@ -8,11 +8,11 @@ use Rattle.text_forms.specs.Ladder.{expr_at}
 use Rattle.text_forms.specs.Texts.{read_units}
 use Rattle.text_forms.specs.Tree.{Spoken}
 use Rattle.text_forms.specs.Parse.{Parse, begins_with, is_word_at, is_value, name_at, count_at, number_at, nothing_at, both, after, before, after_word, tested, seen, known, merged, maybe, many, commas, listing, headed, enclosed}
-use Rattle.streamit_model.specs.Source.{Statement, Assign, Push, Block}
+use Rattle.streamit_model.specs.Source.{Statement, Assign, Push, Block, Optional}
 use Rattle.streamit_model.specs.FilterSource.{FilterTree}
 use Rattle.streamit_model.specs.Program.{Dealing, Turns, Adds, Body, AFilter, APipeline, Declared}
-use Rattle.streamit_unroll.specs.View.{in_turn, or_end}
-use Rattle.streamit_text.specs.Grammar.{is_own, is_fit, made_declare, popping, made_if, Head, made_head, made_for, stay, Rate, push, pop, peek, Rates, unwritten, rates_in, made_filter, none_there, the_name, made_adds, or_none, copying, made_both, made_unit, next_unit}
+use Rattle.streamit_unroll.specs.View.{in_turn, or_unwritten}
+use Rattle.streamit_text.specs.Grammar.{is_own, is_fit, made_declare, popping, made_if, Head, made_head, made_for, stay, Rate, push, pop, peek, Rates, unwritten, rates_in, made_filter, none_there, the_name, made_adds, copying, made_both, made_unit, next_unit}
 
 -- a name that users may give
 unfoldable pub plain_at : Parse (List ℕ)
@@ -50,8 +50,8 @@ push_at n ts = seen Push (before (round_term_at n) (s.Semicolon ∷ [])) ts
 unfoldable pub pop_at : ℕ → Parse Statement
 pop_at n ts = seen popping (before (empty_at n) (s.Semicolon ∷ [])) ts
 
-unfoldable pub else_at : (ℕ → Parse Block) → ℕ → Parse Block
-else_at block n ts = seen or_end (maybe (is_word_at (codes "else")) (after_word (codes "else") (block n))) ts
+unfoldable pub else_at : (ℕ → Parse Block) → ℕ → Parse Optional
+else_at block n ts = seen or_unwritten (maybe (is_word_at (codes "else")) (after_word (codes "else") (block n))) ts
 
 unfoldable pub if_at : (ℕ → Parse Block) → ℕ → Parse Statement
 if_at block n ts = seen made_if (both (round_term_at n) (both (block n) (else_at block n))) ts
@@ -122,8 +122,8 @@ loop_at (suc nest) n ts = for_at (block_at nest) n ts
 unfoldable pub still_at : ℕ → Parse Block
 still_at n ts = tested stay (block_at 16 n) ts
 
-unfoldable pub init_at : ℕ → Parse Block
-init_at n ts = seen or_end (maybe (is_word_at (codes "init")) (after_word (codes "init") (still_at n))) ts
+unfoldable pub init_at : ℕ → Parse Optional
+init_at n ts = seen or_unwritten (maybe (is_word_at (codes "init")) (after_word (codes "init") (still_at n))) ts
 
 unfoldable pub field_at : Parse (List ℕ)
 field_at ts = after_word (codes "int") (before plain_at (s.Semicolon ∷ [])) ts
@@ -189,8 +189,8 @@ some_weights_at ts = commas weight_at ts
 unfoldable pub listed_at : ℕ → Parse (List ℕ)
 listed_at n ts = round (λ m. listing s.Close weight_at) n ts
 
-unfoldable pub weights_at : ℕ → Parse (List ℕ)
-weights_at n ts = seen or_none (maybe (begins_with s.Open) (listed_at n)) ts
+unfoldable pub weights_at : ℕ → Parse (Option (List ℕ))
+weights_at n ts = maybe (begins_with s.Open) (listed_at n) ts
 
 unfoldable pub split_after : ℕ → List ℕ → Parse Dealing
 split_after n w ts =
@@ -201,7 +201,7 @@ split_after n w ts =
 unfoldable pub split_at : ℕ → Parse Dealing
 split_at n ts = after_word (codes "split") (before (headed (split_after n)) (s.Semicolon ∷ [])) ts
 
-unfoldable pub join_at : ℕ → Parse (List ℕ)
+unfoldable pub join_at : ℕ → Parse (Option (List ℕ))
 join_at n ts = after_word (codes "join") (after_word (codes "roundrobin") (before (weights_at n) (s.Semicolon ∷ []))) ts
 
 unfoldable pub in_both_at : ℕ → Parse Body

@@ -1,7 +1,7 @@
 // Whether `push`, `pop` or `peek` stands somewhere.
 ghost use Rattle.std.specs.Prelude.{◌≡◌};
 ghost use Rattle.streamit_unroll.specs.View.{expression, option_expression, statement, block, optional};
-ghost use Rattle.streamit_text.specs.Grammar.{is_still, is_still_first, stays, stay};
+ghost use Rattle.streamit_text.specs.Grammar.{is_still, is_still_first, stays, stay, stay_optional};
 
 use streamit_unroll::{Block, Expression, Statement};
 
@@ -42,7 +42,7 @@ fn is_still_first(value: &Option<Expression>) -> bool
 // Whether none stands in the second arm, if there is one.
 #[cycle(still)]
 fn stays_optional(no: &Option<Block>) -> bool
-    ensures { result ≡ stay (optional no.now) }
+    ensures { result ≡ stay_optional (optional no.now) }
 {
     match no {
         Some(block) => stay(block),

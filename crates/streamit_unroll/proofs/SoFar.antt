@@ -1,5 +1,5 @@
 -- Statements that were read so far, and those that are read after them.
-use Rattle.std.proofs.Common.{◌≡◌, ℕ, suc, ◌+◌, ◌-◌, ◌<◌, ◌≤◌, List, [], ◌∷◌, ◌++◌, length, take, drop, map, get_or, Bool, true, Result, Ok, Err, refl, sym, ap, ◌∙◌, subst, arith, append_assoc, append-nil, drop-cons, add-one}
+use Rattle.std.proofs.Common.{◌≡◌, ℕ, suc, ◌+◌, ◌-◌, ◌<◌, ◌≤◌, List, [], ◌∷◌, ◌++◌, length, take, drop, map, get_or, Bool, true, Result, Ok, Err, refl, sym, ap, ◌∙◌, subst, arith, append_assoc, append-nil, drop-cons, add-one, Option}
 use Rattle.work_code.specs.declared.code.Stmt.{Stmt}
 use Rattle.work_code.specs.declared.code.Stmts.{Stmts}
 use Rattle.work_code.specs.Steps.{Step, Steps, Done, step, statements, in_turn}
@@ -7,7 +7,7 @@ use Rattle.work_code.specs.Steps as steps
 use Rattle.streamit_model.specs.Source as source
 use Rattle.river_plan.specs.Forms.{Name}
 use Rattle.streamit_model.specs.Source.{numbers}
-use Rattle.streamit_model.specs.Elaborate.{Fault, At, Read, on_ok, joined, step_of, steps_of, unrolled, counted, is_new, find, constant, bound_of, term_of, one_step, after_arms}
+use Rattle.streamit_model.specs.Elaborate.{Fault, At, Read, on_ok, joined, step_of, steps_of, unrolled, counted, is_new, find, constant, bound_of, term_of, one_step, after_arms, optional_of}
 use Rattle.streamit_model.specs.Source.{pops}
 use Rattle.text_forms.specs.Tree.{Spoken}
 use Rattle.work_code.specs.Term.{Term}
@@ -239,11 +239,11 @@ for_fault e n lo hi upto b s l u whole result f o k x y is w new low high =
     high)
 
 -- an `if` whose parts are there
-pub if_is : (e : ℕ) (t : Spoken) (a b : source.Block) (s s1 : At) (cond : Term) (f g : Steps) (la lb : At) → counted s ≡ Ok s1 → term_of e s1.scope t s1.popped ≡ Ok cond → steps_of e a (record s1 { popped = s1.popped + pops t }) ≡ Ok (f, la) → steps_of e b (record s1 { popped = s1.popped + pops t; slots = la.slots; size = la.size }) ≡ Ok (g, lb) → la.popped ≡ lb.popped → la.pushed ≡ lb.pushed → step_of e (source.If t a b) s ≡ Ok (one_step (steps.If cond f g), record lb { scope = s1.scope })
+pub if_is : (e : ℕ) (t : Spoken) (a : source.Block) (b : source.Optional) (s s1 : At) (cond : Term) (f g : Steps) (la lb : At) → counted s ≡ Ok s1 → term_of e s1.scope t s1.popped ≡ Ok cond → steps_of e a (record s1 { popped = s1.popped + pops t }) ≡ Ok (f, la) → optional_of e b (record s1 { popped = s1.popped + pops t; slots = la.slots; size = la.size }) ≡ Ok (g, lb) → la.popped ≡ lb.popped → la.pushed ≡ lb.pushed → step_of e (source.If t a b) s ≡ Ok (one_step (steps.If cond f g), record lb { scope = s1.scope })
 if_is e t a b s s1 cond f g la lb hc ht ha hb p q =
-    let f3 = λ (c : Term) (p : Steps × At). on_ok (steps_of e b (record s1 { popped = s1.popped + pops t; slots = p.1.slots; size = p.1.size })) (after_arms s1 c p) in
+    let f3 = λ (c : Term) (p : Steps × At). on_ok (optional_of e b (record s1 { popped = s1.popped + pops t; slots = p.1.slots; size = p.1.size })) (after_arms s1 c p) in
     let f2 = λ (c : Term). on_ok (steps_of e a (record s1 { popped = s1.popped + pops t })) (f3 c) in
-    ap (λ r. on_ok r (λ s. on_ok (term_of e s.scope t s.popped) (λ c. on_ok (steps_of e a (record s { popped = s.popped + pops t })) (λ p. on_ok (steps_of e b (record s { popped = s.popped + pops t; slots = p.1.slots; size = p.1.size })) (after_arms s c p))))) hc
+    ap (λ r. on_ok r (λ s. on_ok (term_of e s.scope t s.popped) (λ c. on_ok (steps_of e a (record s { popped = s.popped + pops t })) (λ p. on_ok (optional_of e b (record s { popped = s.popped + pops t; slots = p.1.slots; size = p.1.size })) (after_arms s c p))))) hc
     ∙ ap (λ r. on_ok r f2) ht
     ∙ ap (λ r. on_ok r (f3 cond)) ha
     ∙ ap (λ r. on_ok r (after_arms s1 cond (f, la))) hb
@@ -277,12 +277,12 @@ turn_is e b name v s0 s1 s3 i0 i1 i2 i3 i4 a sc hc e1 e2 hb kept e4 =
     )
 
 -- an `if` whose arms were read one after the other
-pub if_read : (e : ℕ) (t : Spoken) (a b : source.Block) (s s1 m1 m2 la lb : At) (cond : Term) (k : ℕ) (f g : Steps) → counted s ≡ Ok s1 → term_of e s1.scope t s1.popped ≡ Ok cond → k ≡ s1.popped + pops t → steps_of e a (record s1 { popped = k }) ≡ Ok (f, la) → m1 ≡ record la { scope = s1.scope } → steps_of e b (record m1 { popped = k; pushed = s1.pushed }) ≡ Ok (g, lb) → m2 ≡ record lb { scope = m1.scope } → m1.popped ≡ m2.popped → m1.pushed ≡ m2.pushed → step_of e (source.If t a b) s ≡ Ok (one_step (steps.If cond f g), m2)
+pub if_read : (e : ℕ) (t : Spoken) (a : source.Block) (b : source.Optional) (s s1 m1 m2 la lb : At) (cond : Term) (k : ℕ) (f g : Steps) → counted s ≡ Ok s1 → term_of e s1.scope t s1.popped ≡ Ok cond → k ≡ s1.popped + pops t → steps_of e a (record s1 { popped = k }) ≡ Ok (f, la) → m1 ≡ record la { scope = s1.scope } → optional_of e b (record m1 { popped = k; pushed = s1.pushed }) ≡ Ok (g, lb) → m2 ≡ record lb { scope = m1.scope } → m1.popped ≡ m2.popped → m1.pushed ≡ m2.pushed → step_of e (source.If t a b) s ≡ Ok (one_step (steps.If cond f g), m2)
 if_read e t a b s s1 m1 m2 la lb cond k f g hc ht hk ha em1 hb em2 p q =
     let ha' = ap (λ j. steps_of e a (record s1 { popped = j })) (sym hk) ∙ ha in
     let at : record m1 { popped = k; pushed = s1.pushed } ≡ record s1 { popped = s1.popped + pops t; slots = la.slots; size = la.size } =
     ap (λ (m : At). record m { popped = k; pushed = s1.pushed }) em1 ∙ ap (λ j. record s1 { popped = j; slots = la.slots; size = la.size }) hk in
-    let hb' = ap (steps_of e b) (sym at) ∙ hb in
+    let hb' = ap (optional_of e b) (sym at) ∙ hb in
     let p' = sym (ap (λ (m : At). m.popped) em1) ∙ p ∙ ap (λ (m : At). m.popped) em2 in
     let q' = sym (ap (λ (m : At). m.pushed) em1) ∙ q ∙ ap (λ (m : At). m.pushed) em2 in
     if_is e t a b s s1 cond f g la lb hc ht ha' hb' p' q'

@@ -75,17 +75,17 @@ abbrev pub in_turn : List source.Statement → source.Block
 in_turn [] = source.End
 in_turn (s ∷ ss) = source.Then s (in_turn ss)
 
--- a block that is not written is an empty one
-abbrev pub or_end : Option source.Block → source.Block
-or_end None = source.End
-or_end (Some b) = b
+-- a block that may be left out
+abbrev pub or_unwritten : Option source.Block → source.Optional
+or_unwritten None = source.Unwritten
+or_unwritten (Some b) = source.Written b
 
 abbrev pub statement_at : Statement-F source.Statement source.Block → source.Statement
 statement_at (layer.Declare name value) = source.Declare name (option_expression value)
 statement_at (layer.Assign name value) = source.Assign name (expression value)
 statement_at (layer.Push value) = source.Push (expression value)
 statement_at layer.Pop = source.Pop
-statement_at (layer.If cond one two) = source.If (expression cond) one (or_end two)
+statement_at (layer.If cond one two) = source.If (expression cond) one (or_unwritten two)
 statement_at (layer.For name low until high body) = source.For name (expression low) (is_turn until) (expression high) body
 
 abbrev pub block_at : Block-F source.Statement source.Block → source.Block
@@ -97,9 +97,9 @@ statement s = fold-Statement source.Statement source.Block statement_at block_at
 abbrev pub block : Block → source.Block
 block b = fold-Block source.Statement source.Block statement_at block_at b
 
-abbrev pub optional : Option Block → source.Block
-optional None = source.End
-optional (Some b) = block b
+abbrev pub optional : Option Block → source.Optional
+optional None = source.Unwritten
+optional (Some b) = source.Written (block b)
 
 -- the fault is the one that is defined; of want of memory nothing is said
 abbrev pub Tells : {A : Type 0} → Fault → Result A spec.Fault → Type 0

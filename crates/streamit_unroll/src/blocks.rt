@@ -1,10 +1,10 @@
 // Blocks.
 ghost use Rattle.std.specs.Prelude.{◌≡◌, ◌≤◌, ◌+◌, if◌then◌else◌};
-ghost use Rattle.streamit_model.specs.Elaborate.{step_of, steps_of};
+ghost use Rattle.streamit_model.specs.Elaborate.{step_of, steps_of, optional_of};
 ghost use Rattle.streamit_model.specs.Source.{If};
 ghost use Rattle.streamit_unroll.specs.Numbers.{AreValues};
 ghost use Rattle.streamit_unroll.specs.View.{expression, is_turn, statement, block, optional};
-ghost use Rattle.streamit_unroll.specs.Unrolled.{at_of, Reads, ReadsArm, ReadsTurn, turn_of, AreWritten, IsWritten};
+ghost use Rattle.streamit_unroll.specs.Unrolled.{at_of, Reads, ReadsArm, ReadsTurn, turn_of, AreWritten, AreWrittenOptional, IsWritten};
 
 use crate::term::term;
 use crate::{Block, Expression, Fault, Known, Statement, Unroller, Until};
@@ -81,7 +81,7 @@ impl Unroller {
     ) -> Result<(), Fault>
         requires cond { AreValues (expression cond.now) }
         requires yes { AreWritten (block yes.now) }
-        requires no { AreWritten (optional no.now) }
+        requires no { AreWrittenOptional (optional no.now) }
         ensures { Reads result out.old out.new self.old self.new (step_of peek (If (expression cond.now) (block yes.now) (optional no.now)) (at_of self.old)) }
     {
         self.counted()?;
@@ -109,8 +109,8 @@ impl Unroller {
     // The statements of the second arm, none where it is not written.
     #[cycle(unroll)]
     fn otherwise(&mut self, alloc: Global, peek: u32, no: &Option<Block>) -> Result<Stmts, Fault>
-        requires { AreWritten (optional no.now) }
-        ensures { ReadsArm result self.old self.new (steps_of peek (optional no.now) (at_of self.old)) }
+        requires { AreWrittenOptional (optional no.now) }
+        ensures { ReadsArm result self.old self.new (optional_of peek (optional no.now) (at_of self.old)) }
     {
         match no {
             Some(block) => self.arm(alloc, peek, block),

@@ -5,10 +5,10 @@ ghost use Rattle.work_code.specs.Ran.{IsBodyWithin, ran};
 ghost use Rattle.kern_rows.specs.Forms.{filter_form};
 ghost use Rattle.kern_rows.specs.Needs.{CanRun};
 ghost use Rattle.kern_rows.specs.Runs.{run_kept};
-ghost use Rattle.streamit_model.specs.Elaborate.{on_ok, steps_of};
-ghost use Rattle.streamit_model.specs.FilterSource.{read_field, read_fields, nothing_read, starts_of, rates_of, kept_rates, elaborated};
-ghost use Rattle.streamit_unroll.specs.Filter.{filter_tree, push_of, pop_of, peek_of, IsReadable};
-ghost use Rattle.streamit_unroll.specs.Unrolled.{at_of, Reads, AreWritten};
+ghost use Rattle.streamit_model.specs.Elaborate.{on_ok, steps_of, optional_of};
+ghost use Rattle.streamit_model.specs.FilterSource.{rate_or, read_field, read_fields, nothing_read, starts_of, rates_of, kept_rates, elaborated};
+ghost use Rattle.streamit_unroll.specs.Filter.{filter_tree, IsReadable};
+ghost use Rattle.streamit_unroll.specs.Unrolled.{at_of, Reads, AreWritten, AreWrittenOptional};
 ghost use Rattle.streamit_unroll.specs.View.{block, optional, Judges};
 
 use crate::{Block, Fault, FilterTree, Known, Names, Rates, Unroller};
@@ -37,9 +37,9 @@ struct Counts {
 impl Counts {
     // The rates, where some are written.
     fn of(rates: Rates) -> Counts
-        ensures push { result.push ≡ push_of rates }
-        ensures pop { result.pop ≡ pop_of rates }
-        ensures peek { result.peek ≡ peek_of rates }
+        ensures push { result.push ≡ rate_or rates.push 0 }
+        ensures pop { result.pop ≡ rate_or rates.pop 0 }
+        ensures peek { result.peek ≡ rate_or rates.peek (rate_or rates.pop 0) }
     {
         let pop = rates.pop.unwrap_or(0);
         Counts {
@@ -130,7 +130,7 @@ impl Unroller {
     fn starts(&mut self, alloc: Global, tree: &FilterTree) -> Result<Numbers, Fault>
         requires fields { read_fields (filter_tree tree.now).fields nothing_read ≡ Ok (at_of self.old) }
         requires readable { IsReadable (filter_tree tree.now) }
-        ensures starts { Judges (λ zs. zs) result (on_ok (steps_of 0 (filter_tree tree.now).init (at_of self.old)) (λ i. Ok (starts_of (length (filter_tree tree.now).fields) i))) }
+        ensures starts { Judges (λ zs. zs) result (on_ok (optional_of 0 (filter_tree tree.now).init (at_of self.old)) (λ i. Ok (starts_of (length (filter_tree tree.now).fields) i))) }
         ensures back { OnOk result (at_of self.new ≡ at_of self.old) }
     {
         let (slots, popped, pushed, size) = (self.slots, self.popped, self.pushed, self.size);
@@ -153,8 +153,8 @@ impl Unroller {
         init: &Option<Block>,
         out: &mut Stmts,
     ) -> Result<(), Fault>
-        requires { AreWritten (optional init.now) }
-        ensures { Reads result out.old out.new self.old self.new (steps_of 0 (optional init.now) (at_of self.old)) }
+        requires { AreWrittenOptional (optional init.now) }
+        ensures { Reads result out.old out.new self.old self.new (optional_of 0 (optional init.now) (at_of self.old)) }
     {
         match init {
             None => Ok(()),

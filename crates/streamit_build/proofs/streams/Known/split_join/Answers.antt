@@ -31,7 +31,7 @@ returns-in_err-join c = λ known k.
     let hs = subst (λ m. splitter_of g m ≡ Ok sp) n c.in_ok-split.ensures in
     let ch = c.in_ok-children.ensures known k in
     let f = c.in_err-join.field-0.0 in
-    let h : Tells f (round_of (weights_of all.join) (c.len-count.result + 1)) = subst (λ ws. Tells f (round_of ws (c.len-count.result + 1))) c.written.ensures c.in_err-join.ensures in
+    let h : Tells f (round_of (weights_of all.join) (c.len-count.result + 1)) = c.in_err-join.ensures in
     let is : c.from_residual-in_err-join.result ≡ Err f = search rules in
     subst (λ x. Declares x c.args.self.now known c.args.name (stream_of known c.args.name (ASplitJoin g a (weights_of all.join)))) (sym is)
     (join_fault f known c.args.name g a (weights_of all.join) sp ch.0 hs ch.1 (subst (λ m. Tells f (round_of (weights_of all.join) m)) n h))
@@ -47,7 +47,7 @@ returns c = λ known k.
     let ch = c.in_ok-children.ensures known k in
     let cs = c.in_ok-children.children in
     let vs = c.in_ok-join.join.items in
-    let h : round_of (weights_of all.join) (c.len-count.result + 1) ≡ Ok vs = subst (λ ws. round_of ws (c.len-count.result + 1) ≡ Ok vs) c.written.ensures c.in_ok-join.ensures in
+    let h : round_of (weights_of all.join) (c.len-count.result + 1) ≡ Ok vs = c.in_ok-join.ensures in
     let d = made.SplitJoin c.in_ok-split.split cs.front cs.last c.in_ok-join.join in
     let m : Made c.args.self.now c.declare.new.self d c.args.name c.few-ops.result c.in_ok-depth.depth = c.in_ok-declare.ensures {u = tt} in
     split_declared c.args.self.now c.declare.new.self d c.args.name g a (weights_of all.join) vs sp cs c.few-ops.result c.in_ok-depth.depth ch.0 known refl c.few-ops.ensures c.in_ok-depth.ensures m k hs ch.1 (subst (λ m. round_of (weights_of all.join) m ≡ Ok vs) n h) ch.2
