@@ -41,11 +41,7 @@ fn first_value(
 
 // What stands behind `int`.
 #[tactic(auto, unfolding(crate::specs::Reading::declare_at), using(streamit_unroll::proofs::Trees::trees))]
-fn declare(
-    reader: &mut Reader<'_>,
-    alloc: Global,
-    brackets: u32,
-) -> Result<Statement, Fault>
+fn declare(reader: &mut Reader<'_>, alloc: Global, brackets: u32) -> Result<Statement, Fault>
     ensures { Gives statement result reader.new (declare_at brackets reader.old) }
 {
     let name = name(reader)?;
@@ -151,11 +147,7 @@ fn head(reader: &mut Reader<'_>, alloc: Global, brackets: u32) -> Result<ForHead
 
 // The head of a `for` in its brackets.
 #[tactic(auto, unfolding(crate::specs::Reading::round_head_at))]
-fn round_head(
-    reader: &mut Reader<'_>,
-    alloc: Global,
-    brackets: u32,
-) -> Result<ForHead, Fault>
+fn round_head(reader: &mut Reader<'_>, alloc: Global, brackets: u32) -> Result<ForHead, Fault>
     ensures { Gives head_of result reader.new (round_head_at brackets reader.old) }
 {
     let inner = reader.opens(Symbol::Open, brackets)?;
@@ -295,12 +287,7 @@ pub fn block(
 // Statements up to a closing brace.
 #[cycle(block)]
 #[tactic(auto, unfolding(crate::specs::Reading::stmts_at), using(crate::proofs::Blocks::loops))]
-fn stmts(
-    reader: &mut Reader<'_>,
-    alloc: Global,
-    nest: u32,
-    brackets: u32,
-) -> Result<Block, Fault>
+fn stmts(reader: &mut Reader<'_>, alloc: Global, nest: u32, brackets: u32) -> Result<Block, Fault>
     ensures { Gives block result reader.new (stmts_at nest brackets reader.old) }
 {
     let mut items = Vec::new(alloc);

@@ -129,11 +129,7 @@ fn still(reader: &mut Reader<'_>, alloc: Global, brackets: u32) -> Result<Block,
 
 // `init` and its block, or nothing.
 #[tactic(auto, unfolding(crate::specs::Reading::init_at))]
-fn init(
-    reader: &mut Reader<'_>,
-    alloc: Global,
-    brackets: u32,
-) -> Result<Option<Block>, Fault>
+fn init(reader: &mut Reader<'_>, alloc: Global, brackets: u32) -> Result<Option<Block>, Fault>
     ensures { Gives optional result reader.new (init_at brackets reader.old) }
 {
     if !reader.is_at_word(b"init") {
@@ -145,11 +141,7 @@ fn init(
 
 // What stands between the braces of a filter.
 #[tactic(auto, unfolding(crate::specs::Reading::in_filter_at), using(crate::proofs::Rates::filters))]
-fn in_filter(
-    reader: &mut Reader<'_>,
-    alloc: Global,
-    brackets: u32,
-) -> Result<FilterTree, Fault>
+fn in_filter(reader: &mut Reader<'_>, alloc: Global, brackets: u32) -> Result<FilterTree, Fault>
     ensures { Gives filter_tree result reader.new (in_filter_at brackets reader.old) }
 {
     let fields = fields(reader, alloc)?;
@@ -167,11 +159,7 @@ fn in_filter(
 
 /// `{` what a filter has `}`
 #[tactic(auto, unfolding(crate::specs::Reading::filter_at))]
-pub fn filter(
-    reader: &mut Reader<'_>,
-    alloc: Global,
-    brackets: u32,
-) -> Result<FilterTree, Fault>
+pub fn filter(reader: &mut Reader<'_>, alloc: Global, brackets: u32) -> Result<FilterTree, Fault>
     ensures { Gives filter_tree result reader.new (filter_at brackets reader.old) }
 {
     let inner = reader.opens(Symbol::OpenBrace, brackets)?;

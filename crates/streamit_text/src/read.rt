@@ -34,10 +34,7 @@ pub fn read_streamit(
 }
 
 // The program of the units of a text.
-fn read_units(
-    alloc: Global,
-    parts: &[&[Lexeme<'_>]],
-) -> Result<Vec<Declaration>, StreamitTextFault>
+fn read_units(alloc: Global, parts: &[&[Lexeme<'_>]]) -> Result<Vec<Declaration>, StreamitTextFault>
     requires { length parts.now < 2 ^ 32 }
     ensures { GivesProgram result (some_units (map unit_tokens parts.now)) }
 {
