@@ -2,7 +2,6 @@ pub mod Counted
 pub mod Fires
 pub mod FitLemmas
 pub mod FitsLemmas
-pub mod Formed
 pub mod Fused
 pub mod GivenCode
 pub mod GivenFires

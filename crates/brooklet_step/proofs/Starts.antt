@@ -25,7 +25,7 @@ use Rattle.brooklet_step.specs.declared.state.State.TheVariants as state
 use Rattle.brooklet_step.specs.Given.{FitState, IsLeaf}
 use Rattle.brooklet_step.specs.Initial.{IsFirst}
 use Rattle.brooklet_step.specs.Stands.{StandsForSlots, StandsFor}
-use Rattle.brooklet_step.proofs.Formed.{can_filter}
+use Rattle.river_kernels.proofs.WellFormed.{can_filter}
 use Rattle.brooklet_step.proofs.GivenLemmas.{fit_of, leaf_from, parts_fit, parts_after}
 
 -- what is said of each value is said of an answer

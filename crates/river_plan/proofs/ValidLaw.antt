@@ -49,7 +49,8 @@ along-all : {A : Type 0} (P : A → Type 0) (before xs : List A) → Along (λ b
 along-all P before [] h = λ k d lt. absurd (omega (arith, lt))
 along-all P before (x ∷ xs) h = All-cons P x xs h.0 (along-all P (before ++ x ∷ []) xs h.1)
 
-all-along : {A : Type 0} (P : A → Type 0) (before xs : List A) → All P xs → Along (λ b y. Unless (P y) y) before xs None
+-- what holds of each element of a list holds along it
+pub all-along : {A : Type 0} (P : A → Type 0) (before xs : List A) → All P xs → Along (λ b y. Unless (P y) y) before xs None
 all-along P before [] h = tt
 all-along P before (x ∷ xs) h = (All-head P x xs h, all-along P (before ++ x ∷ []) xs (All-tail P x xs h))
 
@@ -57,7 +58,8 @@ along-each : (P : OpForm → Type 0) (before ops : List OpForm) → Along (λ b 
 along-each P before [] h = tt
 along-each P before (op ∷ ops) h = (h.0, along-each P (before ++ op ∷ []) ops h.1)
 
-each-along : (P : OpForm → Type 0) (before ops : List OpForm) → Each P ops → Along (λ b y. Unless (P y) y) before ops None
+-- what holds of each operator holds along them
+pub each-along : (P : OpForm → Type 0) (before ops : List OpForm) → Each P ops → Along (λ b y. Unless (P y) y) before ops None
 each-along P before [] h = tt
 each-along P before (op ∷ ops) h = (h.0, each-along P (before ++ op ∷ []) ops h.1)
 
@@ -69,7 +71,8 @@ along-names P before (x ∷ xs) h q lt = ⊎_elim
     (λ c. let s = ap one_if c.1 in along-names P (before ++ x ∷ []) xs h.1 q (omega (arith, lt, s)))
     (cases_name x q)
 
-names-along : (P : Name → Type 0) (before xs : List Name) → ((q : Name) → 0 < count q xs → P q) → Along (λ b y. Unless (P y) y) before xs None
+-- what holds of each name that stands in a list holds along it
+pub names-along : (P : Name → Type 0) (before xs : List Name) → ((q : Name) → 0 < count q xs → P q) → Along (λ b y. Unless (P y) y) before xs None
 names-along P before [] h = tt
 names-along P before (x ∷ xs) h = (
   h x (let s = one_same x in omega (arith, s)),
@@ -88,7 +91,8 @@ declared-all queues variables before (op ∷ ops) h =
       (λ v lt. ⊎_elim (λ o. along-names (λ w. 0 < count w variables) [] op.vars h.0.1.1 v o) (λ z. i.2 v (omega (arith, lt, z))) (more_or_zero (count v op.vars))),
     )
 
-all-declared : (queues variables : List Name) (before ops : List OpForm)
+-- where all that operators read, write and use is declared, no operator names something else
+pub all-declared : (queues variables : List Name) (before ops : List OpForm)
     → ((q : Name) → 0 < total (reads_it q) ops → 0 < count q queues) → ((q : Name) → 0 < total (writes_it q) ops → 0 < count q queues) → ((v : Name) → 0 < total (vars_it v) ops → 0 < count v variables)
     → Along (λ b op. UndeclaredAt queues variables op) before ops None
 all-declared queues variables before [] r w v = tt
@@ -105,7 +109,8 @@ all-declared queues variables before (op ∷ ops) r w v = (
 
 -- THE ORDER OF OPERATORS
 
-total-append : (f : OpForm → ℕ) (xs ys : List OpForm) → total f (xs ++ ys) ≡ total f xs + total f ys
+-- the sum over operators is that over the first and that over the others
+pub total-append : (f : OpForm → ℕ) (xs ys : List OpForm) → total f (xs ++ ys) ≡ total f xs + total f ys
 total-append f [] ys = omega arith
 total-append f (x ∷ xs) ys = let e = total-append f xs ys in omega (arith, e)
 
@@ -116,7 +121,8 @@ order-reads inputs k before (op ∷ ops) e h = (
   order-reads inputs (λ q. k q + count q op.writes) (before ++ op ∷ []) ops (λ q. let b = e q in let a = total-append (writes_it q) before (op ∷ []) in omega (arith, a, b)) h.1,
 )
 
-reads-order : (inputs : List Name) (k : Name → ℕ) (before ops : List OpForm) → ((q : Name) → k q ≡ count q inputs + total (writes_it q) before) → ReadsBefore k ops → Along (ReadTooEarlyAt inputs) before ops None
+-- where operators read what is known, none reads too early
+pub reads-order : (inputs : List Name) (k : Name → ℕ) (before ops : List OpForm) → ((q : Name) → k q ≡ count q inputs + total (writes_it q) before) → ReadsBefore k ops → Along (ReadTooEarlyAt inputs) before ops None
 reads-order inputs k before [] e h = tt
 reads-order inputs k before (op ∷ ops) e h = (
   names-along (λ r. IsWritten inputs before r) [] op.reads (λ q lt. let a = h.0 q lt in let b = e q in omega (arith, a, b)),
@@ -129,7 +135,8 @@ each-every : (ops : List OpForm) → ((v : Name) → Each (λ op. vars_it v op �
 each-every [] h = tt
 each-every (op ∷ ops) h = ((λ v. let a = h v in a.0), each-every ops (λ v. let a = h v in a.1))
 
-every-each : (ops : List OpForm) → Each (λ op. (v : Name) → vars_it v op ≤ 1) ops → (v : Name) → Each (λ op. vars_it v op ≤ 1) ops
+-- one condition on all variables is one on each
+pub every-each : (ops : List OpForm) → Each (λ op. (v : Name) → vars_it v op ≤ 1) ops → (v : Name) → Each (λ op. vars_it v op ≤ 1) ops
 every-each [] h v = tt
 every-each (op ∷ ops) h v = (h.0 v, every-each ops h.1 v)
 

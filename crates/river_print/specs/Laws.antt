@@ -1,7 +1,8 @@
 -- Printed plans are read back as themselves.
-use Rattle.std.specs.Prelude.{◌≡◌, ◌↔◌, ℕ, List}
+use Rattle.std.specs.Prelude.{◌≡◌, ◌↔◌, ℕ, List, Ok}
 use Rattle.river_plan.specs.Forms.{PlanForm}
 use Rattle.river_plan.specs.Valid.{IsPlan}
+use Rattle.river_text.specs.Meaning.{plan_in}
 use Rattle.river_text.specs.Plans.{IsText}
 use Rattle.river_print.specs.Printable.{IsPrintable}
 use Rattle.river_print.specs.Printed.{plan_text}
@@ -28,3 +29,7 @@ ReadIsPrintable = (text : List ℕ) (p : PlanForm) → IsText text p → IsRange
 
 abbrev pub ReadIsReadAgain : Type 0
 ReadIsReadAgain = (text : List ℕ) (p : PlanForm) → IsText text p → IsPlan p → StandsForAlone (plan_text p) p
+
+-- and so does that of what a text means
+abbrev pub CompiledIsReadAgain : Type 0
+CompiledIsReadAgain = (text : List ℕ) (p : PlanForm) → plan_in text ≡ Ok p → StandsForAlone (plan_text p) p

@@ -32,7 +32,7 @@ use Rattle.streamit_text.specs.Laws.{IsBadAt, IsEmpty}
 use Rattle.streamit_text.specs.Reading.{some_units, unit_from}
 use Rattle.streamit_text.specs.Faults.{StandFor, Refuses}
 use Rattle.streamit_text.specs.declared.fault.StreamitTextFault.TheVariants.{Syntax as Syntax_at}
-use Rattle.streamit_text.proofs.Counts.{units-few}
+use Rattle.work_code.proofs.Counts.{units-few}
 use Rattle.streamit_text.proofs.Texts.{text-read, text-reads, units-bad, units-reads}
 use Rattle.streamit_text.proofs.Units.{exact-unit_from}
 use Rattle.streamit_front.specs.declared.fault.StreamitFault.{StreamitFault}

@@ -6,9 +6,10 @@ use Rattle.river_base.specs.Name.{name_eq}
 use Rattle.work_code.specs.Cut.{units_of as cut_units}
 use Rattle.work_code.specs.Tok.{Tok, toks}
 use Rattle.kern_rows.specs.Forms.{FilterForm}
-use Rattle.river_plan.specs.Forms.{Name, OpForm}
-use Rattle.river_print.specs.Printable.{IsShallow, HasForward, IsPrintable}
+use Rattle.river_plan.specs.Forms.{Name}
+use Rattle.river_print.specs.Printable.{IsPrintable}
 use Rattle.river_print.specs.Writable.{Every, depths}
+use Rattle.river_print.proofs.Spoken.{IsSpoken, every-joined, spoken-printable}
 use Rattle.streamit_model.specs.Build.{numbered, queue, queues, ops_in, ops_of, queues_in, splitter, joiner, build, build_line, build_branches, plan_of}
 use Rattle.streamit_model.specs.Elaborate.{Fault, on_ok, demand, Limit}
 use Rattle.streamit_model.specs.FilterSource.{FilterTree, elaborated}
@@ -157,14 +158,6 @@ judged-low p known low h =
 
 -- THE PLAN
 
-every-joined : {A : Type 0} (P : A → Type 0) (xs ys : List A) → Every P xs → Every P ys → Every P (xs ++ ys)
-every-joined P [] ys h g = g
-every-joined P (x ∷ xs) ys h g = (h.0, every-joined P xs ys h.1 g)
-
--- a kernel within the bounds of River text
-abbrev IsSpoken : OpForm → Type 0
-IsSpoken op = IsShallow op.kernel × HasForward op.kernel
-
 splitter-spoken : (d : Splitter) (n : ℕ) (label from : Name) (to : List Name) → IsSpoken (splitter d n label from to)
 splitter-spoken Duplicate n label from to = (tt, tt)
 splitter-spoken (RoundRobin ws) n label from to = (tt, tt)
@@ -192,18 +185,8 @@ mutual
       every-joined IsSpoken (build s c k (queue a) (queue b)) (build_branches ss (c + ops_in s) (k + queues_in s) (suc a) (suc b))
       (built-spoken s c k (queue a) (queue b) low.0) (branches-spoken ss (c + ops_in s) (k + queues_in s) (suc a) (suc b) low.1)
 
-shallow-ops : (ops : List OpForm) → Every IsSpoken ops → Every (λ op. IsShallow op.kernel) ops
-shallow-ops [] h = tt
-shallow-ops (op ∷ ops) h = (h.0.0, shallow-ops ops h.1)
-
-forward-ops : (ops : List OpForm) → Every IsSpoken ops → Every (λ op. HasForward op.kernel) ops
-forward-ops [] h = tt
-forward-ops (op ∷ ops) h = (h.0.1, forward-ops ops h.1)
-
 plan-printable : (s : Stream) → IsLowStream s → IsPrintable (plan_of s)
-plan-printable s low =
-    let all = built-spoken s 1 1 (codes "in") (codes "out") low in
-    record { shallow = shallow-ops (plan_of s).ops all; forward = forward-ops (plan_of s).ops all }
+plan-printable s low = spoken-printable (plan_of s) (built-spoken s 1 1 (codes "in") (codes "out") low)
 
 -- the law: the plan of a text's program is within the bounds of River text
 pub plans_are_printable : PlansArePrintable

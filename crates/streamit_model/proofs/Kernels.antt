@@ -18,7 +18,7 @@ use Rattle.brooklet_model.specs.ByIndex.{dealt, collected}
 use Rattle.streamit_model.specs.Filters.{filtered}
 use Rattle.streamit_model.specs.Build.{weights}
 use Rattle.streamit_model.specs.Laws.{as_items}
-use Rattle.streamit_model.proofs.Formed.{can_filter}
+use Rattle.river_kernels.proofs.WellFormed.{can_filter}
 use Rattle.streamit_model.proofs.FilterFed.{filter_fed}
 use Rattle.brooklet_model.proofs.Dealt.{deals}
 use Rattle.brooklet_model.proofs.Cycles.{positive_cycle}

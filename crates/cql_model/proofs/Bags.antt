@@ -1,0 +1,89 @@
+-- Rows as bags: what does not see the order of rows.
+use Rattle.std.proofs.Common.{◌≡◌, ℕ, ◌+◌, ◌-◌, ℤ, List, [], ◌∷◌, ◌++◌, refl, sym, ap, ◌∙◌, arith, Bool, true, false, cond, map, filter}
+use Rattle.std.specs.Prelude.{All, sum_by}
+use Rattle.std.specs.List.{flat_map}
+use Rattle.std.specs.List.Sorted.{IsSorted}
+use Rattle.std.proofs.lemmas.List.Elements.{All-head, All-tail}
+use Rattle.std.proofs.lemmas.List.Kept.{IsSortedBy-filter}
+use Rattle.std.proofs.lemmas.List.Sorted.{sum_by-IsPermutation}
+use Rattle.std.proofs.lemmas.List.Sums.{sum_by-cons, sum_by-append}
+use Rattle.river_base.specs.Row.{row_cmp, row_eq, in_order, copies}
+use Rattle.river_base.proofs.Counts.{permutation_from_copies}
+use Rattle.river_base.proofs.Rows.{rows_ranked, in_order_bag, in_order_ascends, in_order_sorted, in_order-IsPermutation}
+use Rattle.kern_bags.specs.Contents.{difference, product, without}
+use Rattle.kern_bags.proofs.Copies.{sum-cong, copies-in_order, copies-without}
+
+pub sum-map : {J K : Type 0} (f : K → ℕ) (g : J → K) (xs : List J) → sum_by f (map g xs) ≡ sum_by (λ x. f (g x)) xs
+sum-map f g [] = refl
+sum-map f g (x ∷ xs) = sum_by-cons f (g x) (map g xs) ∙ ap (λ n. f (g x) + n) (sum-map f g xs) ∙ sym (sum_by-cons (λ y. f (g y)) x xs)
+
+pub sum-filter : {K : Type 0} (f : K → ℕ) (p : K → Bool) (xs : List K) → sum_by f (filter p xs) ≡ sum_by (λ x. cond (p x) (f x) 0) xs
+sum-filter f p [] = refl
+sum-filter f p (x ∷ xs) = step (p x) refl (sum-filter f p xs) ∙ sym (sum_by-cons (λ y. cond (p y) (f y) 0) x xs) where
+  nothing : (n : ℕ) → n ≡ 0 + n
+  nothing n = omega arith
+
+  step : (b : Bool) → p x ≡ b → sum_by f (filter p xs) ≡ sum_by (λ y. cond (p y) (f y) 0) xs
+      → sum_by f (cond b (x ∷ filter p xs) (filter p xs)) ≡ cond (p x) (f x) 0 + sum_by (λ y. cond (p y) (f y) 0) xs
+  step true e h = sum_by-cons f x (filter p xs) ∙ ap (λ n. f x + n) h ∙ ap (λ b. cond b (f x) 0 + sum_by (λ y. cond (p y) (f y) 0) xs) (sym e)
+  step false e h = h ∙ nothing (sum_by (λ y. cond (p y) (f y) 0) xs) ∙ ap (λ b. cond b (f x) 0 + sum_by (λ y. cond (p y) (f y) 0) xs) (sym e)
+
+pub sum-flat_map : {J K : Type 0} (f : K → ℕ) (g : J → List K) (xs : List J) → sum_by f (flat_map g xs) ≡ sum_by (λ x. sum_by f (g x)) xs
+sum-flat_map f g [] = refl
+sum-flat_map f g (x ∷ xs) =
+    sum_by-append f (g x) (flat_map g xs) ∙ ap (λ n. sum_by f (g x) + n) (sum-flat_map f g xs) ∙ sym (sum_by-cons (λ y. sum_by f (g y)) x xs)
+
+-- the same sums over the elements that are there
+pub sum-on : {K : Type 0} (P : K → Type 0) (f g : K → ℕ) (xs : List K) → All P xs → ((x : K) → P x → f x ≡ g x) → sum_by f xs ≡ sum_by g xs
+sum-on P f g [] a h = refl
+sum-on P f g (x ∷ xs) a h =
+    let e = h x (All-head P x xs a) in
+    let m = sum-on P f g xs (All-tail P x xs a) h in
+    sum_by-cons f x xs ∙ (λ i. e i + m i) ∙ sym (sum_by-cons g x xs)
+
+-- ROWS
+
+pub sum-in_order : (f : List ℤ → ℕ) (xs : List (List ℤ)) → sum_by f (in_order xs) ≡ sum_by f xs
+sum-in_order f xs = sum_by-IsPermutation f xs (in_order xs) (in_order_bag xs)
+
+-- one bag, one order
+pub same_counts : (xs ys : List (List ℤ)) → ((row : List ℤ) → copies row xs ≡ copies row ys) → in_order xs ≡ in_order ys
+same_counts xs ys h = in_order-IsPermutation xs ys (permutation_from_copies xs ys h)
+
+pub same_bag : (xs ys : List (List ℤ)) → ((f : List ℤ → ℕ) → sum_by f xs ≡ sum_by f ys) → in_order xs ≡ in_order ys
+same_bag xs ys h = same_counts xs ys (λ row. h (λ y. cond (row_eq row y) 1 0))
+
+order_is : (xs ys : List (List ℤ)) → IsSorted row_cmp xs → ((f : List ℤ → ℕ) → sum_by f xs ≡ sum_by f ys) → xs ≡ in_order ys
+order_is xs ys a h = sym (in_order_sorted xs a) ∙ same_bag xs ys h
+
+pub filter-in_order : (p : List ℤ → Bool) (xs : List (List ℤ)) → filter p (in_order xs) ≡ in_order (filter p xs)
+filter-in_order p xs = order_is (filter p (in_order xs)) (filter p xs) (IsSortedBy-filter _ rows_ranked p (in_order xs) (in_order_ascends xs)) (λ f.
+    sum-filter f p (in_order xs) ∙ sum-in_order (λ x. cond (p x) (f x) 0) xs ∙ sym (sum-filter f p xs))
+
+pub in_order-map : (g : List ℤ → List ℤ) (xs : List (List ℤ)) → in_order (map g (in_order xs)) ≡ in_order (map g xs)
+in_order-map g xs = same_bag (map g (in_order xs)) (map g xs) (λ f. sum-map f g (in_order xs) ∙ sum-in_order (λ x. f (g x)) xs ∙ sym (sum-map f g xs))
+
+abbrev pub pairs : List (List ℤ) → List (List ℤ) → List (List ℤ)
+pairs xs ys = flat_map (λ x. map (λ y. x ++ y) ys) xs
+
+pub sum-pairs : (f : List ℤ → ℕ) (xs ys : List (List ℤ)) → sum_by f (pairs xs ys) ≡ sum_by (λ x. sum_by (λ y. f (x ++ y)) ys) xs
+sum-pairs f xs ys =
+    sum-flat_map f (λ x. map (λ y. x ++ y) ys) xs
+    ∙ sum-cong (λ x. sum_by f (map (λ y. x ++ y) ys)) (λ x. sum_by (λ y. f (x ++ y)) ys) xs (λ x. sum-map f (λ y. x ++ y) ys)
+
+-- the product of two contents in order
+pub product_is : (xs ys : List (List ℤ)) → product (in_order xs) (in_order ys) ≡ in_order (pairs xs ys)
+product_is xs ys = same_bag (pairs (in_order xs) (in_order ys)) (pairs xs ys) (λ f.
+    sum-pairs f (in_order xs) (in_order ys)
+    ∙ sum-in_order (λ x. sum_by (λ y. f (x ++ y)) (in_order ys)) xs
+    ∙ sum-cong (λ x. sum_by (λ y. f (x ++ y)) (in_order ys)) (λ x. sum_by (λ y. f (x ++ y)) ys) xs (λ x. sum-in_order (λ y. f (x ++ y)) ys)
+    ∙ sym (sum-pairs f xs ys))
+
+-- the difference of two contents in order
+pub difference_is : (xs ys : List (List ℤ)) → difference (in_order xs) (in_order ys) ≡ in_order (without xs ys)
+difference_is xs ys = same_counts (without (in_order xs) (in_order ys)) (without xs ys) (λ row.
+    let a = copies-in_order row xs in
+    let b = copies-in_order row ys in
+    let c = copies-without row (in_order xs) (in_order ys) in
+    let d = copies-without row xs ys in
+    omega (arith, a, b, c, d))

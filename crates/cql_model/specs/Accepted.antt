@@ -1,0 +1,116 @@
+-- Which programs the front accepts, as far as their plans need it.
+use Rattle.std.specs.Prelude.{All, ℕ, suc, ◌<◌, ◌≤◌, Bool, not, nat_eq, nat_lt, ◌≡◌, List, [], ◌∷◌, length, max, Option, Some, None, IsTrue, ◌+◌}
+use Rattle.std.specs.List.{list_all, list_any, AllByRecursion}
+use Rattle.std.specs.Option.{is_some}
+use Rattle.river_kernels.specs.Formed.{is_width, is_window}
+use Rattle.river_plan.specs.Forms.{Name, PlanForm, decl_names, queue_names, variable_names}
+use Rattle.river_plan.specs.Names.{count}
+use Rattle.cql_model.specs.Laws.{AreKnown}
+use Rattle.cql_model.specs.Program.{Scalar, Number, Field, ItemField, Neg, Not, Bin, Columns, Star, Chosen, Query, Register, Ask, Program, streams_of, all_uses}
+use Rattle.cql_model.specs.Scopes.{Named, scope_of}
+use Rattle.river_kernels.specs.declared.limit.Limit.{Limit}
+use Rattle.river_plan.specs.Limits.{most_of, limits, numbers}
+use Rattle.river_plan.specs.Valid.{IsPlan, FirstFault}
+use Rattle.river_plan.specs.declared.fault.PlanFault.{PlanFault}
+use Rattle.river_plan.specs.declared.fault.PlanFault.TheVariants.{P1, P2, P3, P4, P5, P6, P7, P8, P9, NoMemory}
+use Rattle.river_plan.specs.Faults.{IsOuter, HasWidth, IsTable}
+use Rattle.river_plan.specs.Kinds.{IsFit}
+use Rattle.river_plan.specs.Uses.{Each, total, writes_it, reads_it, vars_it, named_it, ReadsBefore}
+use Rattle.cql_model.specs.Translation.{widths_of, columns_width, query_named, plan_of}
+
+-- a name of a stream is a word of letters, digits and `_`; so it has no `@`
+abbrev pub has_no_at : Name → Bool
+has_no_at n = list_all (λ b. not (nat_eq b 64)) n
+
+-- the names that are declared, in order
+abbrev pub declared : Program → List Name
+declared [] = []
+declared (Register name fields ∷ ps) = name ∷ declared ps
+declared (Ask q ∷ ps) = q.name ∷ declared ps
+
+abbrev pub depth : Scalar → ℕ
+depth (Number n) = 1
+depth (Field f) = 1
+depth (ItemField a f) = 1
+depth (Neg e) = suc (depth e)
+depth (Not e) = suc (depth e)
+depth (Bin o l r) = suc (max (depth l) (depth r))
+
+abbrev pub AreShallow : Columns → Type 0
+AreShallow Star = Unit {0}
+AreShallow (Chosen cs) = AllByRecursion (λ c. depth c.value ≤ 64) cs
+
+abbrev pub IsShallow : Option Scalar → Type 0
+IsShallow None = Unit {0}
+IsShallow (Some e) = depth e ≤ 64
+
+pub record IsQuery (known : List Named) (q : Query) : Type 0 where
+  pub some : 0 < length q.items
+  pub few : length q.items ≤ 4
+  pub streams : AreKnown known (streams_of q.items)
+  pub windows : AllByRecursion (λ i. IsTrue (is_window i.window)) q.items
+  pub product : widths_of (scope_of known q.items) ≤ 16
+  pub columns : IsTrue (is_width (columns_width (scope_of known q.items) q.columns))
+  pub values : AreShallow q.columns
+  pub condition : IsShallow q.condition
+
+abbrev pub AreQueries : List Named → Program → Type 0
+AreQueries known [] = Unit {0}
+AreQueries known (Register name fields ∷ ps) = IsTrue (is_width (length fields)) × AreQueries (record { name = name; fields = fields } ∷ known) ps
+AreQueries known (Ask q ∷ ps) = IsQuery known q × AreQueries (query_named known q ∷ known) ps
+
+pub record IsAccepted (p : Program) : Type 0 where
+  pub names : AllByRecursion (λ n. IsTrue (has_no_at n)) (declared p)
+  pub once : (n : Name) → count n (declared p) ≤ 1
+  pub queries : AreQueries [] p
+
+-- the plan of an accepted program that keeps to the limits of plans is valid
+abbrev pub PlansAreValid : Type 0
+PlansAreValid = (p : Program) → IsAccepted p → ((l : Limit) → All (λ n. n ≤ most_of l) (numbers l (plan_of p))) → IsPlan (plan_of p)
+
+-- all conditions of a valid plan but the limits
+pub record KeepsRules (p : PlanForm) : Type 0 where
+  pub queues_once : (q : Name) → count q (queue_names p) ≤ 1
+  pub variables_once : (v : Name) → count v (variable_names p) ≤ 1
+  pub labels_once : (l : Name) → total (named_it l) p.ops ≤ 1
+  pub reads_declared : (q : Name) → 0 < total (reads_it q) p.ops → 0 < count q (queue_names p)
+  pub writes_declared : (q : Name) → 0 < total (writes_it q) p.ops → 0 < count q (queue_names p)
+  pub vars_declared : (v : Name) → 0 < total (vars_it v) p.ops → 0 < count v (variable_names p)
+  pub written_once : (q : Name) → count q (decl_names p.inputs) + total (writes_it q) p.ops ≤ 1
+  pub read_once : (q : Name) → count q (decl_names p.outputs) + total (reads_it q) p.ops ≤ 1
+  pub in_order : ReadsBefore (λ q. count q (decl_names p.inputs)) p.ops
+  pub outputs_typed : All IsOuter p.outputs
+  pub inputs_typed : All IsOuter p.inputs
+  pub queues_typed : All HasWidth p.queues
+  pub tables_typed : All (λ t. IsTable t.kind) p.tables
+  pub fits : Each (IsFit p) p.ops
+  pub vars_apart : Each (λ op. (v : Name) → vars_it v op ≤ 1) p.ops
+  pub private_once : (v : Name) → 0 < count v p.vars → total (vars_it v) p.ops ≤ 1
+
+-- the plan of an accepted program keeps them, whatever its size; no text has more uses of a stream than this
+abbrev pub PlansKeep : Type 0
+PlansKeep = (p : Program) → IsAccepted p → ((n : Name) → count n (all_uses p) ≤ 1000000000000) → KeepsRules (plan_of p)
+
+-- so no fault but a limit is ever told of it
+abbrev pub IsLimit : Option PlanFault → Type 0
+IsLimit None = Unit {0}
+IsLimit (Some (P1 n)) = ⊥
+IsLimit (Some (P2 n)) = ⊥
+IsLimit (Some (P3 n)) = ⊥
+IsLimit (Some (P4 n)) = ⊥
+IsLimit (Some (P5 n)) = ⊥
+IsLimit (Some (P6 n)) = ⊥
+IsLimit (Some (P7 n)) = ⊥
+IsLimit (Some (P8 l n)) = Unit {0}
+IsLimit (Some (P9 n)) = ⊥
+IsLimit (Some NoMemory) = ⊥
+
+-- a number of the plan is above its limit
+abbrev pub exceeds : PlanForm → Bool
+exceeds plan = list_any (λ l. list_any (λ n. nat_lt (most_of l) n) (numbers l plan)) limits
+
+-- a fault is told of it exactly where it exceeds a limit
+abbrev pub OnlyLimits : Type 0
+OnlyLimits =
+    (p : Program) (o : Option PlanFault) → IsAccepted p → ((n : Name) → count n (all_uses p) ≤ 1000000000000) → FirstFault (plan_of p) o
+    → IsLimit o × (exceeds (plan_of p) ≡ is_some o)

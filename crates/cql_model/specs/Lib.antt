@@ -1,0 +1,12 @@
+pub mod Accepted
+pub mod Faults
+pub mod Fit
+pub mod InTurn
+pub mod Instants
+pub mod Kernels
+pub mod Laws
+pub mod Meaning
+pub mod Program
+pub mod Scopes
+pub mod Streams
+pub mod Translation

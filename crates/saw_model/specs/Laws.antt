@@ -1,0 +1,20 @@
+-- What is true of all programs that are accepted.
+use Rattle.std.specs.Prelude.{◌≡◌, ℤ, List, [], ◌∷◌, map, take, Ok}
+use Rattle.work_code.specs.Steps.{Steps}
+use Rattle.river_plan.specs.Valid.{IsPlan}
+use Rattle.brooklet_model.specs.Meaning.{meaning}
+use Rattle.saw_model.specs.Source.{Program, width, program_tables}
+use Rattle.saw_model.specs.Elaborate.{At}
+use Rattle.saw_model.specs.Judged.{judged}
+use Rattle.saw_model.specs.Plan.{plan_of, as_items}
+use Rattle.saw_model.specs.Shallow.{AreShallowParts}
+
+-- the plan is valid
+abbrev pub PlansAreValid : Type 0
+PlansAreValid = (p : Program) (read : Steps × At) → AreShallowParts p → judged p ≡ Ok read → IsPlan (plan_of p read)
+
+-- it means what the program means: each table of what all records emit. The plan reads the first fields of the records
+abbrev pub TranslationMeans : Type 0
+TranslationMeans =
+    (p : Program) (read : Steps × At) (records : List (List ℤ)) → judged p ≡ Ok read
+    → meaning (plan_of p read) (as_items (map (take (width p)) records) ∷ []) ≡ record { outs = []; tables = program_tables p records }
