@@ -18,7 +18,7 @@ use Rattle.text_forms.proofs.Ladder.{Ends, exact-expr}
 use Rattle.streamit_model.specs.Source.{Statement, Assign, Push, Block}
 use Rattle.streamit_unroll.specs.View.{in_turn, or_unwritten}
 use Rattle.streamit_text.specs.Grammar.{is_own, Plain, is_fit, Expr, Round, Empty, made_declare, IsDeclare, IsAssign, IsPush, popping, IsPop, made_if, IsIf, Upto, made_head, HeadAfter, IsHead, made_for, IsFor, IsBlockOf, StmtAfter, IsStmt, IsBlock}
-use Rattle.streamit_text.specs.Reading.{plain_at, term_at, round, empty_at, round_term_at, first_value_at, declare_at, ended_at, assign_at, push_at, pop_at, else_at, if_at, upto_at, head_after, named_head_at, head_at, round_head_at, for_at, at_close, block_of_at, stmt_after, stmts_of, stmt_at, stmts_at, block_at}
+use Rattle.streamit_text.specs.Reading.{plain_at, term_at, round, empty_at, round_term_at, first_value_at, declare_at, ended_at, assign_at, push_at, pop_at, else_at, arms_at, if_at, upto_at, step_at, upper_at, head_after, named_head_at, head_at, round_head_at, for_at, at_close, block_of_at, stmt_after, stmts_of, stmt_at, stmts_at, block_at}
 
 -- a name that users may give
 pub exact-plain : Exact Plain plain_at Any
@@ -78,7 +78,7 @@ exact-else {block} {p} x n =
     else_comes v ts rest h = rw h.is refl
 
 exact-if : {block : ℕ → Block → List Tok → Type 0} {p : ℕ → Parse Block} → ((n : ℕ) → Exact (block n) (p n) Any) → (n : ℕ) → Exact (IsIf block n) (if_at p n) NoElse
-unfolding if_at
+unfolding if_at arms_at
 exact-if x n = exact-seen made_if (exact-both (exact-round_term n) (exact-both (x n) (exact-else x n) (λ y ts rest g d. tt)) (λ y ts rest g d. tt))
 
 exact-upto : Exact Upto upto_at Any
@@ -88,7 +88,7 @@ exact-upto =
     (λ v ts rest h d. rw h.is refl) (λ v ts rest h d. rw h.is refl)) (λ rest d. (tt, tt))
 
 exact-head_after : (n : ℕ) (w : List ℕ) → Exact (HeadAfter n w) (head_after n w) Any
-unfolding head_after
+unfolding head_after upper_at step_at
 exact-head_after n w =
     exact-seen (made_head w) (exact-after (s.Assign ∷ []) (exact-both (exact-ended n) (exact-after_word w (exact-both exact-upto
     (exact-both (exact-ended n) (exact-after_word w (exact-after (s.Increment ∷ []) (exact-nothing tt))) (λ y ts rest g d. tt)) (λ y ts rest g d. tt))) (λ y ts rest g d. tt)))

@@ -53,16 +53,26 @@ pop_at n ts = seen popping (before (empty_at n) (s.Semicolon ∷ [])) ts
 unfoldable pub else_at : (ℕ → Parse Block) → ℕ → Parse Optional
 else_at block n ts = seen or_unwritten (maybe (is_word_at (codes "else")) (after_word (codes "else") (block n))) ts
 
+-- the two arms of an `if`
+unfoldable pub arms_at : (ℕ → Parse Block) → ℕ → Parse (Block × Optional)
+arms_at block n ts = both (block n) (else_at block n) ts
+
 unfoldable pub if_at : (ℕ → Parse Block) → ℕ → Parse Statement
-if_at block n ts = seen made_if (both (round_term_at n) (both (block n) (else_at block n))) ts
+if_at block n ts = seen made_if (both (round_term_at n) (arms_at block n)) ts
 
 unfoldable pub upto_at : Parse Bool
 upto_at ts = merged (begins_with s.Less) (after (s.Less ∷ []) (nothing_at false)) (after (s.LessEqual ∷ []) (nothing_at true)) ts
 
+-- NAME "++"
+unfoldable pub step_at : List ℕ → Parse (Unit {0})
+step_at name ts = after_word name (after (s.Increment ∷ []) (nothing_at tt)) ts
+
+-- NAME ("<" | "<=") e ";" NAME "++"
+unfoldable pub upper_at : ℕ → List ℕ → Parse (Bool × (Spoken × Unit {0}))
+upper_at n name ts = after_word name (both upto_at (both (ended_at n) (step_at name))) ts
+
 unfoldable pub head_after : ℕ → List ℕ → Parse Head
-head_after n name ts =
-    seen (made_head name) (after (s.Assign ∷ []) (both (ended_at n) (after_word name (both upto_at
-    (both (ended_at n) (after_word name (after (s.Increment ∷ []) (nothing_at tt)))))))) ts
+head_after n name ts = seen (made_head name) (after (s.Assign ∷ []) (both (ended_at n) (upper_at n name))) ts
 
 -- a name that users may give, and what stands behind it
 unfoldable pub named_head_at : ℕ → List ℕ → Parse Head

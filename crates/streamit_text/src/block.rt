@@ -2,8 +2,8 @@
 ghost use Rattle.std.specs.Prelude.{◌≡◌};
 ghost use Rattle.text_forms.specs.Gives.{Gives};
 ghost use Rattle.streamit_unroll.specs.View.{option_expression, is_turn, statement, block, optional};
-ghost use Rattle.streamit_text.specs.Reading.{empty_at, first_value_at, declare_at, assign_at, push_at, pop_at, upto_at, head_after, named_head_at, head_at, round_head_at, stmt_at, stmts_at, stmt_after, branch_at, loop_at, else_at, block_at};
-ghost use Rattle.streamit_text.specs.View.{head_of};
+ghost use Rattle.streamit_text.specs.Reading.{empty_at, first_value_at, declare_at, assign_at, push_at, pop_at, upto_at, step_at, upper_at, head_after, named_head_at, head_at, round_head_at, stmt_at, stmts_at, stmt_after, branch_at, loop_at, else_at, arms_at, block_at};
+ghost use Rattle.streamit_text.specs.View.{head_of, upper_of, arms_of};
 
 use crate::names::{name, own};
 use crate::term::{ended, round_term, term};
@@ -90,6 +90,12 @@ fn pop(reader: &mut Reader<'_>, brackets: u32) -> Result<Statement, Fault>
 struct ForHead {
     name: Name,
     low: Expression,
+    upper: Upper,
+}
+
+// The upper bound of a head.
+#[derive(Drop)]
+struct Upper {
     until: Until,
     high: Expression,
 }
@@ -107,6 +113,33 @@ fn until(reader: &mut Reader<'_>) -> Result<Until, Fault>
     Ok(Until::UpTo)
 }
 
+// NAME `++`
+#[tactic(auto, unfolding(crate::specs::Reading::step_at))]
+fn step(reader: &mut Reader<'_>, name: Name) -> Result<(), Fault>
+    ensures { Gives (λ u. u) result reader.new (step_at name reader.old) }
+{
+    reader.word(name.as_slice())?;
+    reader.expect(&[Symbol::Increment])?;
+    Ok(())
+}
+
+// What stands behind the first semicolon of a head.
+#[tactic(auto, unfolding(crate::specs::Reading::upper_at))]
+fn upper_bound(
+    reader: &mut Reader<'_>,
+    alloc: Global,
+    brackets: u32,
+    name: Name,
+) -> Result<Upper, Fault>
+    ensures { Gives upper_of result reader.new (upper_at brackets name reader.old) }
+{
+    reader.word(name.as_slice())?;
+    let until = until(reader)?;
+    let high = ended(reader, alloc, brackets)?;
+    step(reader, name)?;
+    Ok(Upper { until, high })
+}
+
 // What stands behind the first name of a head.
 #[tactic(auto, unfolding(crate::specs::Reading::head_after))]
 fn head_after(
@@ -119,17 +152,8 @@ fn head_after(
 {
     reader.expect(&[Symbol::Assign])?;
     let low = ended(reader, alloc, brackets)?;
-    reader.word(name.as_slice())?;
-    let until = until(reader)?;
-    let high = ended(reader, alloc, brackets)?;
-    reader.word(name.as_slice())?;
-    reader.expect(&[Symbol::Increment])?;
-    Ok(ForHead {
-        name,
-        low,
-        until,
-        high,
-    })
+    let upper = upper_bound(reader, alloc, brackets, name)?;
+    Ok(ForHead { name, low, upper })
 }
 
 // The head of a `for`, without its brackets.
@@ -219,9 +243,35 @@ fn branch(
         return Err(Fault::Syntax);
     }
     let cond = round_term(reader, alloc, brackets)?;
-    let yes = block(reader, alloc, nest - 1, brackets)?;
-    let no = otherwise(reader, alloc, nest - 1, brackets)?;
-    Ok(Statement::If { cond, yes, no })
+    let arms = both_arms(reader, alloc, nest - 1, brackets)?;
+    Ok(Statement::If {
+        cond,
+        yes: arms.yes,
+        no: arms.no,
+    })
+}
+
+// The arms of an `if`.
+#[derive(Drop)]
+struct Arms {
+    yes: Block,
+    no: Option<Block>,
+}
+
+// A block, and the block of `else` or nothing.
+#[cycle(block)]
+#[tactic(auto, unfolding(crate::specs::Reading::arms_at))]
+fn both_arms(
+    reader: &mut Reader<'_>,
+    alloc: Global,
+    nest: u32,
+    brackets: u32,
+) -> Result<Arms, Fault>
+    ensures { Gives arms_of result reader.new (arms_at (block_at nest) brackets reader.old) }
+{
+    let yes = block(reader, alloc, nest, brackets)?;
+    let no = otherwise(reader, alloc, nest, brackets)?;
+    Ok(Arms { yes, no })
 }
 
 // What stands behind `for`.
@@ -243,8 +293,8 @@ fn turns(
     Ok(Statement::For {
         name: head.name,
         low: head.low,
-        until: head.until,
-        high: head.high,
+        until: head.upper.until,
+        high: head.upper.high,
         body,
     })
 }
