@@ -55,7 +55,10 @@ pub fn inputs_of(alloc: Global, files: &[&[u8]]) -> Result<Inputs, Fail> {
 // The printed text of what a plan gave.
 fn text_of(alloc: Global, plan: &Plan, outcome: &Outcome) -> Result<Bytes, Fail> {
     let raw = plan.raw();
-    if outcome.outs.len() != raw.outputs.len() || outcome.counts.len() != raw.ops.len() {
+    if outcome.outs.len() != raw.outputs.len()
+        || outcome.tables.len() != raw.tables.len()
+        || outcome.counts.len() != raw.ops.len()
+    {
         return Err("another number of lists".into());
     }
     Ok(print_outcome(alloc, plan, outcome, true)?)

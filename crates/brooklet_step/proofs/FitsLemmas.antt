@@ -13,9 +13,8 @@ use Rattle.std.proofs.lemmas.List.{get_or-append-add}
 use Rattle.std.proofs.lemmas.Bool.{and_parts, true≢false}
 use Rattle.std.proofs.lemmas.List.Elements.{All-head, All-tail, All-cons, All-nil, All-append}
 use Rattle.river_plan.specs.declared.plan.Decl.{Decl}
-use Rattle.river_plan.specs.declared.plan.TableDecl.{TableDecl}
 use Rattle.river_plan.specs.Forms.{PlanForm, all_decls}
-use Rattle.brooklet_step.specs.Built.{is_rows, has_no_table, is_built, IsRows, IsBuilt}
+use Rattle.brooklet_step.specs.Built.{is_rows, is_built, IsRows, IsBuilt}
 
 pub All-front : {X : Type 0} (P : X → Type 0) (xs ys : List X) → All P (xs ++ ys) → All P xs
 All-front P xs ys a k d lt = subst P (get_or-append xs ys d k lt) (a k d (let e = length-append xs ys in omega (arith, e, lt)))
@@ -36,22 +35,12 @@ all_rows : (ds : List Decl) → AreRows ds → list_all (λ d. is_rows d.kind) d
 all_rows [] a = refl
 all_rows (d ∷ ds) a = ap (λ b. b && list_all (λ d. is_rows d.kind) ds) (All-head (λ (d : Decl). IsRows d.kind) d ds a) ∙ all_rows ds (All-tail (λ (d : Decl). IsRows d.kind) d ds a)
 
-no_table : (ts : List TableDecl) → has_no_table ts ≡ true → ts ≡ []
-no_table [] e = refl
-no_table (t ∷ ts) e = absurd (true≢false (sym e))
-
 -- in a plan that is built all queues are of rows, or of packs of rows
 pub built_decls : (p : PlanForm) → IsBuilt p → AreRows (all_decls p)
-built_decls p b = rows_all (all_decls p) (and_parts (list_all (λ d. is_rows d.kind) (all_decls p)) (has_no_table p.tables) b).0
+built_decls p b = rows_all (all_decls p) b
 
--- and there is no table
-pub built_tables : (p : PlanForm) → IsBuilt p → p.tables ≡ []
-built_tables p b = no_table p.tables (and_parts (list_all (λ d. is_rows d.kind) (all_decls p)) (has_no_table p.tables) b).1
-
-pub built_by : (p : PlanForm) → AreRows p.outputs → AreRows p.inputs → AreRows p.queues → p.tables ≡ [] → IsBuilt p
-built_by p o i q t =
-    let rows = all_rows (all_decls p) (All-append (λ (d : Decl). IsRows d.kind) p.outputs (p.inputs ++ p.queues) o (All-append (λ (d : Decl). IsRows d.kind) p.inputs p.queues i q)) in
-    ap (λ b. b && has_no_table p.tables) rows ∙ ap has_no_table t
+pub built_by : (p : PlanForm) → AreRows p.outputs → AreRows p.inputs → AreRows p.queues → IsBuilt p
+built_by p o i q = all_rows (all_decls p) (All-append (λ (d : Decl). IsRows d.kind) p.outputs (p.inputs ++ p.queues) o (All-append (λ (d : Decl). IsRows d.kind) p.inputs p.queues i q))
 
 pub built_outputs : (p : PlanForm) → IsBuilt p → AreRows p.outputs
 built_outputs p b = All-front (λ (d : Decl). IsRows d.kind) p.outputs (p.inputs ++ p.queues) (built_decls p b)

@@ -148,7 +148,7 @@ fit_of (select e) is st ks h t = h
 fit_of (project es) is st ks h t = h
 fit_of cross is st ks h t = h
 fit_of (streamer s) is st ks h t = h
-fit_of tally is st ks h t = h
+fit_of tally is st ks h t = h.code
 fit_of (fused a b at) is st ks h t = absurd h
 
 kept_slots : (zs : List ℤ) (st : List State) → FitSlots zs st → (ks : List Kept) × StandsForSlots zs st ks
@@ -181,7 +181,7 @@ leaf_kept (select e) is st l h = absurd l
 leaf_kept (project es) is st l h = absurd l
 leaf_kept cross is st l h = absurd l
 leaf_kept (streamer s) is st l h = absurd l
-leaf_kept tally is st l h = absurd l
+leaf_kept tally is st l h = ([], record { code = h; defined = refl }, tt)
 leaf_kept (fused a b at) is st l h = absurd l
 
 fit_slots_length : (zs : List ℤ) (st : List State) → FitSlots zs st → length st ≡ kept_vars zs
@@ -202,7 +202,7 @@ fit_length (select e) is st h = absurd h
 fit_length (project es) is st h = absurd h
 fit_length cross is st h = absurd h
 fit_length (streamer s) is st h = absurd h
-fit_length tally is st h = absurd h
+fit_length tally is st h = ap length h
 fit_length (fused a b at) is st h =
     let la = fit_length a is (take (privates a) st) h.0 in
     let lb = fit_length b (between at (types_of a is)) (drop (privates a) st) h.1 in
@@ -234,7 +234,7 @@ leaf_to (select e) st w l h = absurd l
 leaf_to (project es) st w l h = absurd l
 leaf_to cross st w l h = absurd l
 leaf_to (streamer s) st w l h = absurd l
-leaf_to tally st w l h = absurd l
+leaf_to tally st w l h = h
 leaf_to (fused a b at) st w l h = absurd l
 
 pub leaf_from : (k : Kern) (st : List State) (w : Word) → IsLeaf k → StandsFor k st (ran k w).states → StandsAfter k st w
@@ -250,7 +250,7 @@ leaf_from (select e) st w l h = absurd l
 leaf_from (project es) st w l h = absurd l
 leaf_from cross st w l h = absurd l
 leaf_from (streamer s) st w l h = absurd l
-leaf_from tally st w l h = absurd l
+leaf_from tally st w l h = h
 leaf_from (fused a b at) st w l h = absurd l
 
 shape_ran : (k : Kern) (w : Word) (ss : List Kept) → IsShaped k → HasShape k ss → HasShape k (run (fire k) w ss).states

@@ -1,3 +1,4 @@
+pub mod Adding
 pub mod Counted
 pub mod Fires
 pub mod FitLemmas
@@ -7,10 +8,12 @@ pub mod GivenCode
 pub mod GivenFires
 pub mod GivenLemmas
 pub mod GivenParts
+pub mod KeptTables
 pub mod Leaves
 pub mod Moving
 pub mod NextLemmas
 pub mod OnRows
+pub mod OpTables
 pub mod QueuePlaces
 pub mod ReadLemmas
 pub mod RunLemmas
@@ -19,3 +22,4 @@ pub mod Standing
 pub mod StartLemmas
 pub mod Starts
 pub mod StepLemmas
+pub mod Tallies

@@ -1,33 +1,40 @@
 -- A firing of an operator, in the terms of the code.
-use Rattle.std.proofs.Common.{◌≡◌, ℕ, ◌+◌, ◌<◌, ◌≤◌, false, Some, List, [], ◌∷◌, length, sym, ap, ◌∙◌, subst, arith, get_or, replicate}
-use Rattle.std.specs.Prelude.{min, slice_get, slice_set, slice_index_or}
+use Rattle.std.proofs.Common.{◌≡◌, ℕ, zero, suc, ℤ, ◌+◌, ◌<◌, ◌≤◌, false, Option, Some, List, [], ◌∷◌, length, map, refl, sym, ap, ◌∙◌, subst, arith, get_or, replicate}
+use Rattle.std.specs.Prelude.{All, min, slice_get, slice_set, slice_index_or}
 use Rattle.std.proofs.lemmas.List.{length-map, length-set}
 use Rattle.std.proofs.lemmas.Option.{slice_get_within, slice_get-get_or}
 use Rattle.river_base.specs.declared.item.Item as item
 use Rattle.river_base.specs.Places.{list_at, each_grew}
+use Rattle.river_base.proofs.PlaceLemmas.{each_grew-blanks}
+use Rattle.kern_tables.specs.declared.kept.Kept.{Kept}
+use Rattle.kern_tables.specs.Kept.{kept_of, width_of}
 use Rattle.river_kernels.specs.Kern.{Kern, kern_of}
 use Rattle.river_plan.specs.declared.op.Op.{Op}
 use Rattle.river_plan.specs.declared.plan.RawPlan.{RawPlan}
-use Rattle.river_plan.specs.Forms.{OpForm, PlanForm, plan_form, op_form, op_forms, all_decls, queue_names}
-use Rattle.river_plan.specs.Kinds.{kind_of}
+use Rattle.river_plan.specs.Forms.{Name, OpForm, PlanForm, plan_form, op_form, op_forms, all_decls, queue_names, table_names, variable_names}
+use Rattle.river_plan.specs.Kinds.{kind_of, var_kind}
 use Rattle.brooklet_model.specs.Fire.{outs, tabs}
-use Rattle.brooklet_model.specs.Histories.{most_firings}
+use Rattle.brooklet_model.specs.Histories.{most_firings, tables_of}
+use Rattle.brooklet_model.specs.Typed.{widths_in, IsWide}
 use Rattle.brooklet_model.proofs.Ports.{counts}
 use Rattle.brooklet_model.proofs.Traces.{some_is, got_count, read_of}
 use Rattle.brooklet_model.proofs.TypedPlan.{op_fits}
 use Rattle.brooklet_step.specs.declared.emit.Emit.{Emit}
 use Rattle.brooklet_step.specs.declared.machine.Parts.{Parts}
 use Rattle.brooklet_step.specs.declared.state.State.{State}
-use Rattle.river_plan.specs.Places.{place, places, read_places, write_places}
+use Rattle.river_plan.specs.Places.{place, places, read_places, write_places, var_places}
 use Rattle.brooklet_step.specs.ByPlace.{joined_at}
 use Rattle.brooklet_step.specs.Reading.{IsFront, CanFire, CameOf, FiredOp}
 use Rattle.brooklet_step.specs.Given.{FiresAt, CanTake}
 use Rattle.brooklet_step.proofs.GivenCode.{fires_again}
+use Rattle.brooklet_step.specs.Tables.{table_places, each_added, AreFor}
 use Rattle.brooklet_step.specs.Took.{IsBlank}
-use Rattle.brooklet_step.specs.Works.{queue_of, states_of, IsEnabled, GoesOn, Steps}
+use Rattle.brooklet_step.specs.Works.{queue_of, kinds_of, states_of, IsEnabled, GoesOn, Steps}
 use Rattle.river_plan.proofs.PlaceLemmas.{place_below}
+use Rattle.brooklet_step.proofs.KeptTables.{kept_at, kept_width}
+use Rattle.brooklet_step.proofs.OpTables.{width_at, width_there, widths_of, mine_many, table_places_are}
 use Rattle.brooklet_step.proofs.ReadLemmas.{places_at, place_got, place_of, place_in_queues, got_map}
-use Rattle.brooklet_step.proofs.StepLemmas.{can_take, next_parts, steps, goes_on, write_declared}
+use Rattle.brooklet_step.proofs.StepLemmas.{can_take, item_held, next_parts, steps, goes_on, write_declared}
 
 -- the kernel of an operator in the lists of a plan
 pub kernel_at : (raw : RawPlan) (p : PlanForm) (o : ℕ) (d : Op) (op : OpForm) → plan_form raw ≡ p → slice_get p.ops o ≡ Some op → d ≡ get_or raw.ops o d → kern_of d.kernel ≡ op.kernel
@@ -104,17 +111,67 @@ send_there m o port n x queues st st' out ws g e hx es f we =
           omega (arith, p, at, q, many)),
     )
 
+-- THE TABLES
+
+num_is : (a b : ℕ) → Some a ≡ Some b → a ≡ b
+num_is a b h = cc
+
+-- the name whose place this is
+got_place : (names qs : List Name) (j p : ℕ) → slice_get (places names qs) j ≡ Some p → (q : Name) × (slice_get qs j ≡ Some q) × (place names q ≡ p)
+got_place names [] j p g = absurd (cc g)
+got_place names (q ∷ qs) zero p g = (q, refl, num_is (place names q) p g)
+got_place names (q ∷ qs) (suc j) p g = got_place names qs j p g
+
+rows_wide : (o : Option ℕ) (n : ℕ) (rows : List (List ℤ)) → o ≡ Some n → All (IsWide o) rows → All (λ row. length row ≡ n) rows
+rows_wide o n rows e a = subst (λ w. All (IsWide w) rows) e a
+
+-- there are as many lists of rows as tables among the operator's variables, and each has the width of its table
+pub add_there : (m : Parts) (o port n : ℕ) (x : item.Item) (less : List (List item.Item)) (st st' : List State) (out : Emit) (vs : List ℕ) (g : GoesOn m) (e : IsEnabled m o port) → n ≡ place (queue_names m.plan) e.queue → IsFront m.queues n x less
+    → st ≡ list_at m.states o → FiredOp m.plan o port x st st' out → vs ≡ list_at (var_places m.plan) o
+    → (length (table_places (length m.tables) vs) ≤ length out.adds) × AreFor m.tables (table_places (length m.tables) vs) out.adds
+add_there m o port n x less st st' out vs g e at hx es f ve =
+    let op = e.reads.op in
+    let tables = m.plan.tables in
+    let names = table_names tables in
+    let mine = tables_of names op in
+    let vars = map (var_kind tables m.plan.vars) op.vars in
+    let s = g.ran.state in
+    let held = g.ran.stands.tables in
+    let c = f.fired op e.reads.op_is in
+    let la = c.room.adds in
+    let lm = mine_many m.plan g.valid o op e.reads.op_is in
+    let is : table_places (length m.tables) vs ≡ places names mine =
+    ap (table_places (length m.tables)) (ve ∙ places_at (λ d. d.vars) (variable_names m.plan) m.plan.ops o op e.reads.op_is)
+    ∙ table_places_are m.plan op (length m.tables) (ap length held ∙ length-map tables (λ t. kept_of t.kind (s.rows t.name))) in
+    let lu : length (table_places (length m.tables) vs) ≡ length mine = ap length is ∙ length-map mine (place names) in
+    let hq : queue_of m e.queue ≡ x ∷ hx.rest = ap (list_at m.queues) (sym at) ∙ hx.here in
+    let fs : FiresAt op.kernel port x c.blank out (states_of m o) st' = subst (λ u. FiresAt op.kernel port x c.blank out u st') es c.fires in
+    let does = fs.each (map (kinds_of m) op.reads) (map (kinds_of m) op.writes) vars (op_fits m.plan g.valid o op e.reads.op_is) (g.fit o op e.reads.op_is) (item_held m o port e.queue x hx.rest g e.reads hq) in
+    let came = does.came in (
+      omega (arith, la, lm, lu),
+      (λ j p t gj gt.
+          let q = got_place names mine j p (ap (λ l. slice_get l j) (sym is) ∙ gj) in
+          let d = kept_at tables s.rows p t (ap (λ l. slice_get l p) (sym held) ∙ gt) in
+          let width : width_at tables q.0 ≡ width_of t =
+          width_there tables q.0 d.0 (ap (slice_get tables) q.2 ∙ d.1) ∙ sym (ap width_of d.2 ∙ kept_width d.0.kind (s.rows d.0.name)) in
+          let lt = slice_get_within mine j q.0 q.1 in
+          let given : list_at out.adds j ≡ came.adds j = ap (λ (l : List (List (List ℤ))). list_at l j) (came.adds_are ∙ ap (λ l. each_grew l came.adds) c.is_blank.adds) ∙ each_grew-blanks (tabs op.kernel) came.adds j [] (omega (arith, lt, lm)) in
+          let got : slice_get (widths_in vars) j ≡ Some (width_of t) = ap (λ (l : List ℕ). slice_get l j) (widths_of m.plan g.valid o op e.reads.op_is) ∙ got_map (width_at tables) mine j q.0 q.1 ∙ ap Some width in
+          subst (λ (l : List (List ℤ)). All (λ row. length row ≡ width_of t) l) (sym given) (rows_wide (slice_get (widths_in vars) j) (width_of t) (came.adds j) got (came.wide j))),
+    )
+
 -- THE END
 
 pub record Next (m m' : Parts) (o port : ℕ) : Type 0 where
   pub steps : Steps m m' o port
   pub goes_on : GoesOn m'
 
-pub next : (m : Parts) (o port n : ℕ) (x : item.Item) (st st' : List State) (out : Emit) (ws : List ℕ) (less queues : List (List item.Item)) (cs : List ℕ) (g : GoesOn m) (e : IsEnabled m o port)
+pub next : (m : Parts) (o port n : ℕ) (x : item.Item) (st st' : List State) (out : Emit) (ws : List ℕ) (less queues : List (List item.Item)) (vs cs : List ℕ) (ts : List Kept) (g : GoesOn m) (e : IsEnabled m o port)
     → n ≡ place (queue_names m.plan) e.queue → IsFront m.queues n x less
     → st ≡ list_at m.states o → FiredOp m.plan o port x st st' out → ws ≡ list_at (write_places m.plan) o → queues ≡ each_grew less (joined_at ws (list_at out.outs)) → cs ≡ slice_set m.counts o (min most_firings (slice_index_or m.counts o 0 + 1))
-    → Next m (record { plan = m.plan; queues = queues; states = slice_set m.states o st'; counts = cs; stopped = false }) o port
-next m o port n x st st' out ws less queues cs g e at hx es f we eq ec =
+    → vs ≡ list_at (var_places m.plan) o → ts ≡ each_added m.tables (joined_at (table_places (length m.tables) vs) (list_at out.adds))
+    → Next m (record { plan = m.plan; queues = queues; tables = ts; states = slice_set m.states o st'; counts = cs; stopped = false }) o port
+next m o port n x st st' out ws less queues vs cs ts g e at hx es f we eq ec ve et =
     let names = queue_names m.plan in
     let op = e.reads.op in
     let c = f.fired op e.reads.op_is in
@@ -124,9 +181,13 @@ next m o port n x st st' out ws less queues cs g e at hx es f we eq ec =
     let qs : queues ≡ each_grew (slice_set m.queues (place names e.queue) hx.rest) (joined_at (places names op.writes) (list_at out.outs)) =
     eq ∙ ap (λ (l : List ℕ). each_grew less (joined_at l (list_at out.outs))) is
     ∙ ap (λ (l : List (List item.Item)). each_grew l (joined_at (places names op.writes) (list_at out.outs))) (hx.left ∙ ap (λ k. slice_set m.queues k hx.rest) at) in
-    let end : next_parts m o queues st' ≡ (record { plan = m.plan; queues = queues; states = slice_set m.states o st'; counts = cs; stopped = false }) =
-    λ i. record { plan = m.plan; queues = queues; states = slice_set m.states o st'; counts = sym ec i; stopped = false } in
+    let places_is : table_places (length m.tables) vs ≡ places (table_names m.plan.tables) (tables_of (table_names m.plan.tables) op) =
+    ap (table_places (length m.tables)) (ve ∙ places_at (λ d. d.vars) (variable_names m.plan) m.plan.ops o op e.reads.op_is)
+    ∙ table_places_are m.plan op (length m.tables) (ap length g.ran.stands.tables ∙ length-map m.plan.tables (λ t. kept_of t.kind (g.ran.state.rows t.name))) in
+    let us : ts ≡ each_added m.tables (joined_at (places (table_names m.plan.tables) (tables_of (table_names m.plan.tables) op)) (list_at out.adds)) = et ∙ ap (λ (l : List ℕ). each_added m.tables (joined_at l (list_at out.adds))) places_is in
+    let end : next_parts m o queues st' ts ≡ (record { plan = m.plan; queues = queues; tables = ts; states = slice_set m.states o st'; counts = cs; stopped = false }) =
+    λ i. record { plan = m.plan; queues = queues; tables = ts; states = slice_set m.states o st'; counts = sym ec i; stopped = false } in
     subst (λ (u : Parts). Next m u o port) end (record {
-      steps = steps m o port e.queue x hx.rest c.blank out st' queues g e.reads hq c.is_blank fs qs;
-      goes_on = goes_on m o port e.queue x hx.rest c.blank out st' queues g e.reads hq c.is_blank fs qs;
+      steps = steps m o port e.queue x hx.rest c.blank out st' queues ts g e.reads hq c.is_blank fs qs us;
+      goes_on = goes_on m o port e.queue x hx.rest c.blank out st' queues ts g e.reads hq c.is_blank fs qs us;
     })

@@ -1,4 +1,4 @@
--- Kernels that read rows, or packs of rows, and have no table, are kernels on rows; and what they write are rows, or packs of rows.
+-- Kernels that read rows, or packs of rows, are kernels on rows; and what they write are rows, or packs of rows.
 use Rattle.std.proofs.Common.{◌≡◌, ℕ, zero, suc, ℤ, ◌+◌, ◌<◌, ◌≤◌, Bool, true, false, ◌&&◌, Some, List, [], ◌∷◌, ◌++◌, length, map, take, drop, refl, sym, ap, ◌∙◌, subst, arith, replicate, ⊎_elim}
 use Rattle.std.specs.Prelude.{All, slice_get, unwrap_or}
 use Rattle.std.proofs.lemmas.Bool.{and_parts, true≢false}
@@ -10,25 +10,18 @@ use Rattle.river_base.specs.declared.kind.QueueType.TheVariants.{Flat, Pack}
 use Rattle.river_base.specs.Number.{count_of}
 use Rattle.river_base.specs.Name.{name_eq}
 use Rattle.river_plan.specs.declared.plan.Decl.{Decl}
-use Rattle.river_plan.specs.declared.plan.TableDecl.{TableDecl}
-use Rattle.river_plan.specs.Forms.{Name, OpForm, PlanForm, table_names, all_decls}
-use Rattle.river_plan.specs.Kinds.{kind_in, kind_of, private_in, var_kind}
-use Rattle.river_plan.specs.Names.{one_if, count}
-use Rattle.river_plan.specs.Uses.{vars_it}
+use Rattle.river_plan.specs.Forms.{Name, OpForm, PlanForm, all_decls}
+use Rattle.river_plan.specs.Kinds.{kind_in, kind_of}
 use Rattle.river_plan.specs.Valid.{IsPlan}
-use Rattle.river_plan.proofs.NameLemmas.{cases_name, count-append}
+use Rattle.river_plan.proofs.NameLemmas.{cases_name}
 use Rattle.river_kernels.specs.declared.types.VarKind.{VarKind}
-use Rattle.river_kernels.specs.declared.types.VarKind.TheVariants.{Private, Table}
 use Rattle.river_kernels.specs.Formed.{is_term, are_weights}
 use Rattle.river_kernels.specs.Fits.{Fits, rows, ports, is_sized, is_bag, width_of}
 use Rattle.river_kernels.specs.Kern.{Kern, code, filter, duplicate, deal, collect, packed, unpack, window, select, project, cross, streamer, tally, fused}
-use Rattle.brooklet_model.proofs.Ports.{tables_in, tables_in-append}
 use Rattle.brooklet_model.proofs.Lists.{if_true, if_false}
-use Rattle.brooklet_model.proofs.Solutions.{count_here}
-use Rattle.brooklet_model.proofs.Traces.{at_most}
 use Rattle.brooklet_model.proofs.TypedPlan.{op_fits}
 use Rattle.brooklet_step.specs.Built.{IsRows, IsBuilt, IsOnRows}
-use Rattle.brooklet_step.proofs.FitsLemmas.{built_decls, built_tables}
+use Rattle.brooklet_step.proofs.FitsLemmas.{built_decls}
 
 one_rows : (t : QueueType) → IsRows t → All IsRows (t ∷ [])
 one_rows t h = All-cons IsRows t [] h (All-nil IsRows)
@@ -77,36 +70,32 @@ got_rows (u ∷ us) (suc n) t h e = got_rows us n t (All-tail IsRows u us h) e
 some_weights : (b : Bool) (ws : List ℤ) → (b && are_weights ws) ≡ true → 1 ≤ length ws
 some_weights b ws h = grind arith
 
-pub on_rows : (k : Kern) (is os : List QueueType) (vs : List VarKind) → Fits k is os vs → All IsRows is → tables_in vs ≡ 0 → IsOnRows k × All IsRows os
-on_rows (code k) is os vs f h z = (tt, subst (All IsRows) (sym f.1) (ports_rows k.outs))
-on_rows (filter g) is os vs f h z = (tt, subst (All IsRows) (sym f.1) (one_rows (rows 1) refl))
-on_rows (duplicate n) is os vs f h z = (tt, subst (All IsRows) (sym f.2) (All-replicate IsRows n (Flat f.0) (first_rows is (Flat f.0) [] f.1 h)))
-on_rows (deal ws) is os vs f h z = (tt, subst (All IsRows) (sym f.2) (All-replicate IsRows (length ws) (Flat f.0) (first_rows is (Flat f.0) [] f.1 h)))
-on_rows (collect ws) is os vs f h z = (tt, subst (All IsRows) (sym f.2) (one_rows (Flat f.0) (many_rows is (length ws) (Flat f.0) (some_weights (is_sized f.0) ws f.4) f.1 h)))
-on_rows (packed k) is os vs f h z =
-    let r = on_rows k (Flat f.0 ∷ []) (Flat f.1 ∷ []) [] f.5 (one_rows (Flat f.0) (first_rows is (Flat f.0) [] f.2 h)) refl in
+pub on_rows : (k : Kern) (is os : List QueueType) (vs : List VarKind) → Fits k is os vs → All IsRows is → IsOnRows k × All IsRows os
+on_rows (code k) is os vs f h = (tt, subst (All IsRows) (sym f.1) (ports_rows k.outs))
+on_rows (filter g) is os vs f h = (tt, subst (All IsRows) (sym f.1) (one_rows (rows 1) refl))
+on_rows (duplicate n) is os vs f h = (tt, subst (All IsRows) (sym f.2) (All-replicate IsRows n (Flat f.0) (first_rows is (Flat f.0) [] f.1 h)))
+on_rows (deal ws) is os vs f h = (tt, subst (All IsRows) (sym f.2) (All-replicate IsRows (length ws) (Flat f.0) (first_rows is (Flat f.0) [] f.1 h)))
+on_rows (collect ws) is os vs f h = (tt, subst (All IsRows) (sym f.2) (one_rows (Flat f.0) (many_rows is (length ws) (Flat f.0) (some_weights (is_sized f.0) ws f.4) f.1 h)))
+on_rows (packed k) is os vs f h =
+    let r = on_rows k (Flat f.0 ∷ []) (Flat f.1 ∷ []) [] f.5 (one_rows (Flat f.0) (first_rows is (Flat f.0) [] f.2 h)) in
     (r.0, subst (All IsRows) (sym f.3) (one_rows (Pack f.1) (pack_rows f.1 (first_rows (Flat f.1 ∷ []) (Flat f.1) [] refl r.1))))
-on_rows (unpack n) is os vs f h z =
+on_rows (unpack n) is os vs f h =
     let some : 1 ≤ n = grind (arith, f.4) in
     (tt, subst (All IsRows) (sym f.2) (one_rows (Flat f.0) (flat_rows f.0 (many_rows is n (Pack f.0) some f.1 h))))
-on_rows (window w) is os vs f h z = absurd (true≢false (sym (first_rows is _ [] f.1 h)))
-on_rows (select e) is os vs f h z = absurd (no_bag f.0 (is_sized f.0) (is_term (width_of f.0) 0 e) (first_rows is (Flat f.0) [] f.1 h) f.4)
-on_rows (project es) is os vs f h z = absurd (true≢false (sym (first_rows is _ [] f.1 h)))
-on_rows cross is os vs f h z = absurd (true≢false (sym (first_rows is _ _ f.2 h)))
-on_rows (streamer s) is os vs f h z = absurd (true≢false (sym (first_rows is _ [] f.1 h)))
-on_rows tally is os vs f h z = absurd (let e = ap tables_in f.3 in omega (arith, e, z))
-on_rows (fused a b at) is os vs f h z =
+on_rows (window w) is os vs f h = absurd (true≢false (sym (first_rows is _ [] f.1 h)))
+on_rows (select e) is os vs f h = absurd (no_bag f.0 (is_sized f.0) (is_term (width_of f.0) 0 e) (first_rows is (Flat f.0) [] f.1 h) f.4)
+on_rows (project es) is os vs f h = absurd (true≢false (sym (first_rows is _ [] f.1 h)))
+on_rows cross is os vs f h = absurd (true≢false (sym (first_rows is _ _ f.2 h)))
+on_rows (streamer s) is os vs f h = absurd (true≢false (sym (first_rows is _ [] f.1 h)))
+on_rows tally is os vs f h = (tt, subst (All IsRows) (sym f.2) (All-nil IsRows))
+on_rows (fused a b at) is os vs f h =
     let ms = f.0 in
     let m = f.1 in
     let bs = f.2 in
     let us = f.3 in
     let ws = f.4 in
-    let s = ap tables_in f.9 in
-    let t = tables_in-append us ws in
-    let zu : tables_in us ≡ 0 = omega (arith, s, t, z) in
-    let zw : tables_in ws ≡ 0 = omega (arith, s, t, z) in
-    let ra = on_rows a is ms us f.5 h zu in
-    let rb = on_rows b (m ∷ []) bs ws f.7 (one_rows m (got_rows ms at m ra.1 f.6)) zw in
+    let ra = on_rows a is ms us f.5 h in
+    let rb = on_rows b (m ∷ []) bs ws f.7 (one_rows m (got_rows ms at m ra.1 f.6)) in
     ((ra.0, rb.0), subst (All IsRows) (sym f.8) (All-append IsRows (take at ms) (bs ++ drop (at + 1) ms) (take_rows at ms ra.1) (All-append IsRows bs (drop (at + 1) ms) rb.1 (drop_rows (at + 1) ms ra.1))))
 
 -- THE OPERATORS OF A PLAN THAT IS BUILT
@@ -123,28 +112,6 @@ kinds_rows : (ds : List Decl) (qs : List Name) → All (λ d. IsRows d.kind) ds 
 kinds_rows ds [] h = All-nil IsRows
 kinds_rows ds (q ∷ qs) h = All-cons IsRows (kind_of ds q) (map (kind_of ds) qs) (kind_rows ds q h) (kinds_rows ds qs h)
 
-private_found : (vars : List Name) (v : Name) → 0 < count v vars → private_in vars v ≡ Some Private
-private_found [] v lt = absurd (omega (arith, lt))
-private_found (w ∷ ws) v lt = ⊎_elim
-    (λ c. if_true (name_eq w v) (Some Private) (private_in ws v) c.1)
-    (λ c. if_false (name_eq w v) (Some Private) (private_in ws v) c.1 ∙ private_found ws v (let e = ap one_if c.1 in omega (arith, e, lt)))
-    (cases_name w v)
-
-no_tables : (ts : List TableDecl) (vars vs : List Name) → ts ≡ [] → ((v : Name) → 0 < count v vs → 0 < count v vars) → tables_in (map (var_kind ts vars) vs) ≡ 0
-no_tables ts vars [] e h = refl
-no_tables ts vars (v ∷ vs) e h =
-    let is : var_kind ts vars v ≡ Private = ap (λ (l : List TableDecl). var_kind l vars v) e ∙ ap (λ o. unwrap_or o (Table 0)) (private_found vars v (h v (count_here v vs))) in
-    ap (λ k. tables_in (k ∷ map (var_kind ts vars) vs)) is ∙ no_tables ts vars vs e (λ w lt. h w (omega (arith, lt)))
-
 module _ (p : PlanForm) (v : IsPlan p) (b : IsBuilt p) where
   pub op_on_rows : (o : ℕ) (op : OpForm) → slice_get p.ops o ≡ Some op → IsOnRows op.kernel
-  op_on_rows o op g =
-      let none_is : table_names p.tables ≡ [] = ap table_names (built_tables p b) in
-      let r = on_rows op.kernel _ _ _ (op_fits p v o op g) (kinds_rows (all_decls p) op.reads (built_decls p b))
-      (no_tables p.tables p.vars op.vars (built_tables p b) (λ w lt.
-      let m = at_most (vars_it w) p.ops o op g in
-      let d = v.vars_declared w (omega (arith, m, lt)) in
-      let s = count-append w (table_names p.tables) p.vars in
-      let z = ap (count w) none_is in
-      omega (arith, d, s, z))) in
-      r.0
+  op_on_rows o op g = (on_rows op.kernel _ _ _ (op_fits p v o op g) (kinds_rows (all_decls p) op.reads (built_decls p b))).0

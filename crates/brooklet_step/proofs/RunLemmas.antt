@@ -20,7 +20,9 @@ use Rattle.river_plan.specs.Uses.{total, reads_it, writes_it, and_writes, ReadsB
 use Rattle.river_plan.specs.Valid.{IsPlan}
 use Rattle.river_plan.proofs.NameLemmas.{cases_name, count-append, more_or_zero}
 use Rattle.brooklet_model.specs.Fire.{fire}
-use Rattle.brooklet_model.specs.Histories.{most_firings, firings}
+use Rattle.kern_tables.specs.declared.kept.Kept.{Kept}
+use Rattle.kern_tables.specs.Kept.{rows_of}
+use Rattle.brooklet_model.specs.Histories.{most_firings, firings, all_adds}
 use Rattle.brooklet_model.specs.Laws.{HasDefined}
 use Rattle.brooklet_model.specs.Machine.{Machine, Step, Run, IsComplete, start, at_name, times}
 use Rattle.brooklet_model.specs.Meaning.{meaning}
@@ -31,6 +33,8 @@ use Rattle.brooklet_model.proofs.Traces.{some_is, at_most, got_count, joined_out
 use Rattle.brooklet_step.specs.declared.machine.Parts.{Parts}
 use Rattle.brooklet_step.specs.Drained.{IsDrained, read_in, left_at, Follows, DrainedBefore, HasPorts, HasRun}
 use Rattle.brooklet_step.specs.Works.{queue_of, kinds_of, Stands, ReadsAt, IsEnabled, Ran, GoesOn, Starts, Steps, AreCounts}
+use Rattle.brooklet_step.specs.Tables.{defined_tables}
+use Rattle.brooklet_step.proofs.KeptTables.{kept_of_bags, defined_rows}
 use Rattle.brooklet_step.proofs.QueuePlaces.{place_is, lists_in_order}
 use Rattle.brooklet_step.proofs.ReadLemmas.{op_at, got_map}
 use Rattle.brooklet_step.proofs.StartLemmas.{got_front}
@@ -309,3 +313,13 @@ module _ (p : PlanForm) (inputs : List (List item.Item)) (m0 m : Parts) (v : IsP
       ∙ sym (get_or_from_slice_get (map pos (firings m.plan inputs)) o (pos (min most_firings (times o ran.events))) (pos 0)
       (got_map pos (firings m.plan inputs) o (min most_firings (times o ran.events)) (firings_are m.plan inputs ran.events ran.state defined o w.0 w.1))))
       ∙ ap (λ (x : PlanForm). map pos (firings x inputs)) plan_is
+
+  -- the tables are those that are defined
+  pub run_tables : (ts : List Kept) → ts ≡ m.tables → ts ≡ defined_tables p inputs
+  run_tables ts e =
+      e ∙ ran.stands.tables ∙ kept_of_bags m.plan.tables ran.state.rows (all_adds m.plan inputs) defined.tables
+      ∙ ap (λ (x : PlanForm). defined_tables x inputs) plan_is
+
+  -- and so are their rows
+  pub run_rows : (ts : List Kept) → ts ≡ m.tables → map rows_of ts ≡ (meaning p inputs).tables
+  run_rows ts e = ap (map rows_of) (run_tables ts e) ∙ defined_rows p inputs

@@ -25,5 +25,5 @@ stands_shape (select e) st ks h = absurd h
 stands_shape (project es) st ks h = absurd h
 stands_shape cross st ks h = absurd h
 stands_shape (streamer s) st ks h = absurd h
-stands_shape tally st ks h = absurd h
+stands_shape tally st ks h = subst IsNone (sym h.defined) tt
 stands_shape (fused a b at) st ks h = absurd h

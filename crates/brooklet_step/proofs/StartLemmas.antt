@@ -11,6 +11,7 @@ use Rattle.std.proofs.lemmas.List.Elements.{All-head, All-tail, All-cons, All-ni
 use Rattle.river_base.specs.Held.{HasType, IsHeld}
 use Rattle.river_base.specs.Places.{list_at}
 use Rattle.river_base.proofs.HeldLemmas.{held-same, held-typed}
+use Rattle.kern_tables.specs.declared.kept.Kept.{Kept}
 use Rattle.river_kernels.specs.Kern.{kern_of}
 use Rattle.river_plan.specs.declared.op.Op.{Op}
 use Rattle.river_plan.specs.declared.plan.Decl.{Decl}
@@ -37,6 +38,7 @@ use Rattle.brooklet_step.specs.declared.machine.Parts.{Parts}
 use Rattle.brooklet_step.specs.declared.state.State.{State}
 use Rattle.brooklet_step.specs.Fit.{Fit}
 use Rattle.brooklet_step.specs.Initial.{IsFirst, CanStart, AreFirst}
+use Rattle.brooklet_step.specs.Tables.{kept_tables}
 use Rattle.brooklet_step.specs.Works.{Stands, Counts, GoesOn, Starts}
 use Rattle.brooklet_step.proofs.QueuePlaces.{written_found}
 use Rattle.brooklet_step.proofs.ReadLemmas.{got_map}
@@ -192,11 +194,11 @@ pub record First (p : PlanForm) (inputs : List (List item.Item)) (m : Parts) : T
   pub starts : Starts p inputs m
   pub goes_on : GoesOn m
 
-pub first : (p pl : PlanForm) (inputs queues : List (List item.Item)) (cs : List ℕ) (states : List (List State)) → IsPlan p → IsBuilt p → Fit p inputs → pl ≡ p
-    → queues ≡ replicate (length p.outputs) [] ++ (inputs ++ replicate (length p.queues) []) → AreFirst p.ops states → cs ≡ replicate (length p.ops) 0
-    → First p inputs (record { plan = pl; queues = queues; states = states; counts = cs; stopped = false })
-first p pl inputs queues cs states v b fit pe qe f ce =
-    let m : Parts = record { plan = p; queues = queues; states = states; counts = cs; stopped = false } in
+pub first : (p pl : PlanForm) (inputs queues : List (List item.Item)) (cs : List ℕ) (states : List (List State)) (tables : List Kept) → IsPlan p → IsBuilt p → Fit p inputs → pl ≡ p
+    → queues ≡ replicate (length p.outputs) [] ++ (inputs ++ replicate (length p.queues) []) → AreFirst p.ops states → cs ≡ replicate (length p.ops) 0 → tables ≡ kept_tables p.tables (λ n. [])
+    → First p inputs (record { plan = pl; queues = queues; tables = tables; states = states; counts = cs; stopped = false })
+first p pl inputs queues cs states tables v b fit pe qe f ce te =
+    let m : Parts = record { plan = p; queues = queues; tables = tables; states = states; counts = cs; stopped = false } in
     let many : length queues ≡ length (queue_names p) = ap length qe ∙ queues_many p v inputs fit in
     let kinds = kind_of (all_decls p) in
     let all_typed = inputs_typed p v inputs fit.typed in
@@ -207,6 +209,7 @@ first p pl inputs queues cs states v b fit pe qe f ce =
       within = λ q. omega arith;
       unread = λ q z. refl;
       typed = all_typed;
+      tables = te;
       inputs = inputs;
       words = λ o. [];
       traced = traced_start p (given_to p inputs) v (λ q z. nothing_given (decl_names p.inputs) (list_at inputs) q z);
@@ -214,7 +217,7 @@ first p pl inputs queues cs states v b fit pe qe f ce =
       kept = λ o op g. (f.stand o op g).after;
     } in
     let cs_are : Counts m [] = λ o lt. ap (λ (l : List ℕ). slice_index_or l o 0) ce ∙ zero_at (length p.ops) o ∙ sym (min_zero most_firings) in
-    subst (λ (x : PlanForm). First p inputs (record { plan = x; queues = queues; states = states; counts = cs; stopped = false })) (sym pe) (record {
+    subst (λ (x : PlanForm). First p inputs (record { plan = x; queues = queues; tables = tables; states = states; counts = cs; stopped = false })) (sym pe) (record {
       starts = record { plan = refl; running = refl; stands = stands; counts = cs_are };
       goes_on = record {
         valid = v;
@@ -233,14 +236,14 @@ first p pl inputs queues cs states v b fit pe qe f ce =
     })
 
 -- the same in the terms of the code
-pub first_by : (raw : RawPlan) (p pl : PlanForm) (inputs queues : List (List item.Item)) (cs : List ℕ) (states : List (List State)) → IsPlan p → IsBuilt p → Fit p inputs → plan_form raw ≡ p → pl ≡ p
-    → queues ≡ replicate (length raw.outputs) [] ++ (inputs ++ replicate (length raw.queues) []) → AreFirst (op_forms raw.ops) states → cs ≡ replicate (length raw.ops) 0
-    → First p inputs (record { plan = pl; queues = queues; states = states; counts = cs; stopped = false })
-first_by raw p pl inputs queues cs states v bu fit e pe qe fs ce =
-    let m : Parts = record { plan = pl; queues = queues; states = states; counts = cs; stopped = false } in
+pub first_by : (raw : RawPlan) (p pl : PlanForm) (inputs queues : List (List item.Item)) (cs : List ℕ) (states : List (List State)) (tables : List Kept) → IsPlan p → IsBuilt p → Fit p inputs → plan_form raw ≡ p → pl ≡ p
+    → queues ≡ replicate (length raw.outputs) [] ++ (inputs ++ replicate (length raw.queues) []) → AreFirst (op_forms raw.ops) states → cs ≡ replicate (length raw.ops) 0 → tables ≡ kept_tables raw.tables (λ n. [])
+    → First p inputs (record { plan = pl; queues = queues; tables = tables; states = states; counts = cs; stopped = false })
+first_by raw p pl inputs queues cs states tables v bu fit e pe qe fs ce te =
+    let m : Parts = record { plan = pl; queues = queues; tables = tables; states = states; counts = cs; stopped = false } in
     subst (λ (x : PlanForm). First x inputs m) e
-    (first (plan_form raw) pl inputs queues cs states (subst IsPlan (sym e) v) (subst IsBuilt (sym e) bu) (subst (λ (x : PlanForm). Fit x inputs) (sym e) fit) (pe ∙ sym e)
-    qe fs (ce ∙ ap (λ (i : ℕ). replicate i 0) (sym (length-map raw.ops op_form))))
+    (first (plan_form raw) pl inputs queues cs states tables (subst IsPlan (sym e) v) (subst IsBuilt (sym e) bu) (subst (λ (x : PlanForm). Fit x inputs) (sym e) fit) (pe ∙ sym e)
+    qe fs (ce ∙ ap (λ (i : ℕ). replicate i 0) (sym (length-map raw.ops op_form))) te)
 
 pub can_start_by : (raw : RawPlan) (p : PlanForm) → plan_form raw ≡ p → IsPlan p → IsBuilt p → CanStart (op_forms raw.ops)
 can_start_by raw p e v b = subst (λ (x : PlanForm). CanStart x.ops) (sym e) (can_start p v b)

@@ -1,5 +1,5 @@
 -- A firing of an operator, on what a machine keeps.
-use Rattle.std.proofs.Common.{◌≡◌, ℕ, zero, suc, ◌+◌, ◌<◌, ◌≤◌, Bool, false, Some, List, [], ◌∷◌, ◌++◌, length, length-append, take, drop, map, refl, sym, ap, ◌∙◌, subst, arith, nat_eq, ⊎_elim, get_or-set_same, get_or-set_other}
+use Rattle.std.proofs.Common.{◌≡◌, ℕ, ℤ, zero, suc, ◌+◌, ◌<◌, ◌≤◌, Bool, false, Some, List, [], ◌∷◌, ◌++◌, length, length-append, take, drop, map, refl, sym, ap, ◌∙◌, subst, arith, nat_eq, ⊎_elim, get_or-set_same, get_or-set_other}
 use Rattle.std.specs.Prelude.{if◌then◌else◌, All, min, slice_get, slice_set, slice_index_or}
 use Rattle.std.proofs.lemmas.Bool.{cases_eq}
 use Rattle.std.proofs.lemmas.List.{append-nil, drop-append-le, length-take, length-map, length-set}
@@ -12,15 +12,16 @@ use Rattle.river_base.proofs.HeldLemmas.{held-nil, held-append, length-held}
 use Rattle.river_base.specs.Name.{name_eq}
 use Rattle.river_base.specs.Places.{list_at, each_grew}
 use Rattle.river_base.proofs.PlaceLemmas.{length-each_grew, get_or-each_grew, each_grew-blanks}
+use Rattle.kern_tables.specs.declared.kept.Kept.{Kept}
 use Rattle.river_plan.specs.Forms.{Name, OpForm, PlanForm, decl_names, table_names, queue_names}
 use Rattle.river_plan.specs.Kinds.{var_kind}
 use Rattle.river_plan.specs.Names.{count, one_if}
 use Rattle.river_plan.specs.Uses.{total, reads_it, writes_it}
 use Rattle.river_plan.specs.Valid.{IsPlan}
-use Rattle.river_plan.proofs.NameLemmas.{cases_name}
+use Rattle.river_plan.proofs.NameLemmas.{cases_name, count-append}
 use Rattle.river_kernels.specs.Fits.{Fits}
-use Rattle.brooklet_model.specs.Fire.{fire, outs}
-use Rattle.brooklet_model.specs.Histories.{joined, most_firings, Lists}
+use Rattle.brooklet_model.specs.Fire.{fire, outs, tabs}
+use Rattle.brooklet_model.specs.Histories.{joined, tables_of, most_firings, Lists}
 use Rattle.brooklet_model.specs.Laws.{given_to}
 use Rattle.brooklet_model.specs.Machine.{Machine, Step, Run, start, fired, at_key, at_name, times}
 use Rattle.brooklet_model.specs.Typed.{IsTyped, IsOf, AreOf}
@@ -35,6 +36,7 @@ use Rattle.brooklet_step.specs.declared.machine.Parts.{Parts}
 use Rattle.brooklet_step.specs.declared.state.State.{State}
 use Rattle.brooklet_step.specs.ByPlace.{joined_at}
 use Rattle.brooklet_step.specs.Given.{held_by, held_at, IsHeldBy, IsHeldOf, AreTyped, FitState, StandsAfter, ran, TookHeld, Does, FiresAt, CanTake}
+use Rattle.brooklet_step.specs.Tables.{kept_tables, each_added}
 use Rattle.brooklet_step.specs.Took.{IsBlank}
 use Rattle.brooklet_step.specs.Works.{queue_of, kinds_of, states_of, count_of, Stands, ReadsAt, Counts, GoesOn, After, Steps}
 use Rattle.brooklet_step.proofs.GivenLemmas.{typed_append, fired_typed}
@@ -42,6 +44,8 @@ use Rattle.brooklet_step.proofs.Fires.{blank_room}
 use Rattle.brooklet_step.proofs.OnRows.{op_on_rows}
 use Rattle.river_plan.specs.Places.{place, places}
 use Rattle.river_plan.proofs.PlaceLemmas.{place_below, place_apart}
+use Rattle.brooklet_step.proofs.KeptTables.{kept_next}
+use Rattle.brooklet_step.proofs.OpTables.{among_known, mine_many}
 use Rattle.brooklet_step.proofs.QueuePlaces.{joined_places, joined_cong_below}
 
 -- RUNS
@@ -69,7 +73,7 @@ write_declared p v o op g q lt =
     v.writes_declared q (omega (arith, m, lt))
 
 -- an item that a queue holds is what the port that reads it may take
-item_held : (m : Parts) (o port : ℕ) (q : Name) (i : item.Item) (rest : List item.Item) → (g : GoesOn m) → (r : ReadsAt m.plan o port q) → queue_of m q ≡ i ∷ rest → IsHeldOf (map (kinds_of m) r.op.reads) port i
+pub item_held : (m : Parts) (o port : ℕ) (q : Name) (i : item.Item) (rest : List item.Item) → (g : GoesOn m) → (r : ReadsAt m.plan o port q) → queue_of m q ≡ i ∷ rest → IsHeldOf (map (kinds_of m) r.op.reads) port i
 item_held m o port q i rest g r hx =
     subst (λ t. IsHeldBy t i) (sym (kind_got (kinds_of m) r.op.reads port q r.queue_is))
     (All-head (IsHeld (kinds_of m q)) i rest (subst (All (IsHeld (kinds_of m q))) hx (g.items q (read_declared m.plan g.valid o port q r))))
@@ -171,19 +175,21 @@ sum_min : (m n : ℕ) → min m (min m n + 1) ≡ min m (n + 1)
 sum_min m n = omega arith
 
 -- the machine after operator number o fired
-abbrev pub next_parts : Parts → ℕ → List (List item.Item) → List State → Parts
-next_parts m o queues st = record {
+abbrev pub next_parts : Parts → ℕ → List (List item.Item) → List State → List Kept → Parts
+next_parts m o queues st ts = record {
   plan = m.plan;
   queues = queues;
   states = slice_set m.states o st;
   counts = slice_set m.counts o (min most_firings (count_of m o + 1));
+  tables = ts;
   stopped = false;
 }
 
-module _ (m : Parts) (o port : ℕ) (q : Name) (i : item.Item) (rest : List item.Item) (blank out : Emit) (st : List State) (queues : List (List item.Item)) (g : GoesOn m) (r : ReadsAt m.plan o port q)
+module _ (m : Parts) (o port : ℕ) (q : Name) (i : item.Item) (rest : List item.Item) (blank out : Emit) (st : List State) (queues : List (List item.Item)) (ts : List Kept) (g : GoesOn m) (r : ReadsAt m.plan o port q)
     (hx : queue_of m q ≡ i ∷ rest) (b : IsBlank r.op.kernel blank)
     (f : FiresAt r.op.kernel port i blank out (states_of m o) st)
-    (eq : queues ≡ each_grew (slice_set m.queues (place (queue_names m.plan) q) rest) (joined_at (places (queue_names m.plan) r.op.writes) (list_at out.outs))) where
+    (eq : queues ≡ each_grew (slice_set m.queues (place (queue_names m.plan) q) rest) (joined_at (places (queue_names m.plan) r.op.writes) (list_at out.outs)))
+    (et : ts ≡ each_added m.tables (joined_at (places (table_names m.plan.tables) (tables_of (table_names m.plan.tables) r.op)) (list_at out.adds))) where
   abbrev names : List Name
   names = queue_names m.plan
 
@@ -197,7 +203,7 @@ module _ (m : Parts) (o port : ℕ) (q : Name) (i : item.Item) (rest : List item
   writes = map (kinds_of m) r.op.writes
 
   abbrev m' : Parts
-  m' = next_parts m o queues st
+  m' = next_parts m o queues st ts
 
   -- the queues without the item that was taken
   abbrev base : List (List item.Item)
@@ -280,6 +286,21 @@ module _ (m : Parts) (o port : ℕ) (q : Name) (i : item.Item) (rest : List item
       (λ c. if_false (name_eq q n) (s.taken q + 1) (s.taken n) c.1 ∙ h.unread n z)
       (cases_name q n)
 
+  -- the tables among the operator's variables
+  abbrev mine : List Name
+  mine = tables_of (table_names m.plan.tables) r.op
+
+  -- the tables with what was added
+  tables_next : (s : Machine) (f_s : ℕ → List (List ℤ)) → Stands m s → out.adds ≡ each_grew blank.adds f_s → ts ≡ kept_tables m.plan.tables (λ n. s.rows n ++ joined mine f_s n)
+  tables_next s f_s h t =
+      let names_t = table_names m.plan.tables in
+      let many = mine_many m.plan g.valid o r.op r.op_is in
+      et ∙ ap (λ l. each_added l (joined_at (places names_t mine) (list_at out.adds))) h.tables
+      ∙ kept_next m.plan.tables mine s.rows f_s out.adds
+      (λ n. let u = g.valid.variables_once n in let a = count-append n names_t m.plan.vars in omega (arith, u, a))
+      (λ n lt. among_known names_t r.op.vars n lt)
+      (λ j lt. ap (λ (l : List (List (List ℤ))). list_at l j) (t ∙ ap (λ l. each_grew l f_s) b.adds) ∙ each_grew-blanks (tabs r.op.kernel) f_s j [] (omega (arith, lt, many)))
+
   -- what holds of the operator that fired by its new word and states, and of the others by their old ones, holds of all
   at_each : (P : (op : OpForm) → List State → Word → Type 0) (w : Word) (ws : ℕ → Word) → ((o' : ℕ) (op' : OpForm) → slice_get m.plan.ops o' ≡ Some op' → P op' (states_of m o') (ws o')) → P r.op st w
       → (o' : ℕ) (op' : OpForm) → slice_get m.plan.ops o' ≡ Some op' → P op' (list_at (slice_set m.states o st) o') (at_key o w ws o')
@@ -325,6 +346,7 @@ module _ (m : Parts) (o port : ℕ) (q : Name) (i : item.Item) (rest : List item
           within = λ n. let l = length-append (s.hist n) (joined r.op.writes res.outs n) in let d = more n in omega (arith, l, d);
           unread = unread_next s h;
           typed = λ n. All-append (HasType (kinds n)) (s.hist n) (joined r.op.writes res.outs n) (h.typed n) (joined_all IsTyped kinds r.op.writes res.outs typed_out n);
+          tables = tables_next s res.adds h took.adds;
           inputs = h.inputs;
           words = at_key o next h.words;
           traced = traced_fired m.plan (given_to m.plan h.inputs) g.valid (λ n z. nothing_given (decl_names m.plan.inputs) (list_at h.inputs) n z) s h.words o port r.op q x h.traced r.op_is r.queue_is it.item_is;

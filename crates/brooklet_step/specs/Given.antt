@@ -93,7 +93,7 @@ FitState (select e) reads st = ⊥
 FitState (project es) reads st = ⊥
 FitState cross reads st = ⊥
 FitState (streamer s) reads st = ⊥
-FitState tally reads st = ⊥
+FitState tally reads st = st ≡ []
 FitState (fused a b at) reads st = FitState a reads (take (privates a) st) × FitState b (between at (types_of a reads)) (drop (privates a) st)
 
 -- kernels without a kernel inside
@@ -110,7 +110,7 @@ IsLeaf (select e) = ⊥
 IsLeaf (project es) = ⊥
 IsLeaf cross = ⊥
 IsLeaf (streamer s) = ⊥
-IsLeaf tally = ⊥
+IsLeaf tally = Unit {0}
 IsLeaf (fused a b at) = ⊥
 
 -- WHAT STATES STAND FOR
@@ -133,7 +133,7 @@ StandsAfter (select e) st w = ⊥
 StandsAfter (project es) st w = ⊥
 StandsAfter cross st w = ⊥
 StandsAfter (streamer s) st w = ⊥
-StandsAfter tally st w = ⊥
+StandsAfter tally st w = StandsFor tally st (ran tally w).states
 StandsAfter (fused a b at) st w = StandsAfter a (take (privates a) st) w × StandsAfter b (drop (privates a) st) (word_of 0 ((ran a w).outs at))
 
 -- FIRINGS

@@ -8,5 +8,6 @@ pub mod Laws
 pub mod PartsCode
 pub mod Reading
 pub mod Stands
+pub mod Tables
 pub mod Took
 pub mod Works

@@ -78,7 +78,7 @@ StandsFor (select e) st ks = ⊥
 StandsFor (project es) st ks = ⊥
 StandsFor cross st ks = ⊥
 StandsFor (streamer s) st ks = ⊥
-StandsFor tally st ks = ⊥
+StandsFor tally st ks = AreNone st ks
 StandsFor (fused a b at) st ks = ⊥
 
 -- the item is a row

@@ -20,6 +20,7 @@ use Rattle.brooklet_step.specs.declared.machine.Parts.{Parts}
 use Rattle.brooklet_step.specs.declared.state.State.{State}
 use Rattle.brooklet_step.specs.Built.{IsBuilt}
 use Rattle.brooklet_step.specs.Given.{AreTyped, FitState, StandsAfter}
+use Rattle.brooklet_step.specs.Tables.{kept_tables}
 
 -- what is kept of a queue: the items that are not taken. From an output nothing is taken, so it is the whole history
 abbrev pub queue_of : Parts → Name → List item.Item
@@ -36,12 +37,14 @@ abbrev pub kinds_of : Parts → Name → QueueType
 kinds_of m q = kind_of (all_decls m.plan) q
 
 -- the machine stands for a state of the definition: of each queue it keeps what queues of its type hold for the history, without
--- as many items as were taken, and some firings of each operator led to that state, after which the operator's states stand
+-- as many items as were taken, of each table what is kept of the rows that were added, and some firings of each operator led to
+-- that state, after which the operator's states stand
 pub record Stands (m : Parts) (s : Machine) : Type 0 where
   pub left : (q : Name) → 0 < count q (queue_names m.plan) → queue_of m q ≡ drop (s.taken q) (held (kinds_of m q) [] (s.hist q))
   pub within : (q : Name) → s.taken q ≤ length (s.hist q)
   pub unread : (q : Name) → total (reads_it q) m.plan.ops ≡ 0 → s.taken q ≡ 0
   pub typed : (q : Name) → All (HasType (kinds_of m q)) (s.hist q)
+  pub tables : m.tables ≡ kept_tables m.plan.tables s.rows
   pub inputs : List (List item.Item)
   pub words : ℕ → Word
   pub traced : Traced (table_names m.plan.tables) m.plan.ops (given_to m.plan inputs) s words

@@ -1,12 +1,12 @@
 // What firings give.
 ghost use Rattle.std.specs.Prelude.{◌≡◌, ◌+◌, ◌<◌, ◌≤◌, ◌^◌, [], ◌∷◌, ◌++◌, length, replicate, slice_set, All, IfOk, OnOk};
-ghost use Rattle.river_base.specs.Places.{append_at, each_grew, upto, none, list_at};
+ghost use Rattle.river_base.specs.Places.{append_at, each_grew, upto, only, none, list_at};
 ghost use Rattle.kern_rows.specs.Runs.{pushed_to};
 ghost use Rattle.brooklet_model.specs.Firings.{gives, splice as splice_lem, beside};
 ghost use Rattle.brooklet_step.specs.Took.{Took, StayApart};
 
 use kern_rows::Line;
-use river_base::{Duplicate, Flat, Item, Items, Listed, NoMemory, Rows};
+use river_base::{Duplicate, Flat, Item, Items, Listed, NoMemory, Row, Rows};
 use std::alloc::Global;
 use std::mem::replace;
 use work_code::Emitted;
@@ -51,6 +51,16 @@ impl Emit {
         ensures { OnOk result (Took self.old self.new (gives port items [])) }
     {
         add_items(&mut self.outs, port, items)?;
+        Ok(())
+    }
+
+    /// One more row for a table.
+    pub(crate) fn add_row(&mut self, table: usize, row: &Row) -> Result<(), NoMemory>
+        requires { table < length self.old.adds }
+        ensures outs { OnOk result (self.new.outs ≡ self.old.outs) }
+        ensures adds { OnOk result (self.new.adds ≡ each_grew self.old.adds (only table (row.now ∷ []))) }
+    {
+        self.adds.push_at(table, *row)?;
         Ok(())
     }
 

@@ -3,23 +3,29 @@ ghost use Rattle.std.specs.Prelude.{◌≡◌, pos, map, take, length, IfOk, ◌
 ghost use Rattle.river_plan.specs.Forms.{decl_names};
 ghost use Rattle.brooklet_step.specs.Works.{GoesOn, AreCounts, queue_of};
 
-use crate::machine::{Lines, Parts, Sizes};
+use crate::machine::{Lines, Parts, Sizes, Tables};
 use crate::run::Outcome;
 use kern_rows::Line;
 use river_base::{NoMemory, Numbers};
 use std::alloc::Global;
 use std::mem::replace;
 
-/// The histories of the outputs, whose items move, and the counts.
+/// The histories of the outputs, whose items move, the tables, which move too, and the counts.
 pub(crate) fn outcome_of(alloc: Global, parts: &mut Parts) -> Result<Outcome, NoMemory>
     requires { GoesOn parts.old }
     ensures outs { IfOk result (λ outcome. outcome.outs ≡ map (queue_of parts.old) (decl_names parts.old.plan.outputs)) }
+    ensures tables { IfOk result (λ outcome. outcome.tables ≡ parts.old.tables) }
     ensures counts { IfOk result (λ outcome. AreCounts parts.old outcome.counts) }
 {
     let counts = as_values(alloc, &parts.counts)?;
     let outputs = parts.plan.raw().outputs.len();
     let outs = first_lists(alloc, &mut parts.queues, outputs)?;
-    Ok(Outcome { outs, counts })
+    let tables = replace(&mut parts.tables, Tables::new(alloc));
+    Ok(Outcome {
+        outs,
+        tables,
+        counts,
+    })
 }
 
 // The items of the first queues, which move.

@@ -5,14 +5,16 @@ ghost use Rattle.brooklet_step.specs.Built.{IsBuilt};
 ghost use Rattle.brooklet_step.specs.Fit.{Fit};
 ghost use Rattle.brooklet_step.specs.Works.{GoesOn, Starts};
 ghost use Rattle.brooklet_step.specs.Initial.{AreFirst, CanStart};
+ghost use Rattle.brooklet_step.specs.Tables.{kept_tables};
 
 use crate::emit::take_list;
-use crate::machine::{Lines, Parts, Sizes};
+use crate::machine::{Lines, Parts, Sizes, Tables};
 use crate::start::first_states;
 use crate::{Inputs, States};
 use kern_rows::Line;
 use river_base::{Listed, NoMemory};
-use river_plan::{Ops, Plan, RawPlan};
+use kern_tables::Table;
+use river_plan::{Ops, Plan, RawPlan, TableDecls};
 use std::alloc::Global;
 
 /// What a machine keeps before the first firing.
@@ -25,10 +27,12 @@ pub(crate) fn first_parts(alloc: Global, plan: &Plan, inputs: Inputs) -> Result<
     let raw = plan.raw();
     let queues = first_queues(alloc, raw, inputs)?;
     let (states, counts) = states_and_counts(alloc, &raw.ops)?;
+    let tables = first_tables(alloc, &raw.tables)?;
     let plan = plan.copy(alloc)?;
     Ok(Parts {
         plan,
         queues,
+        tables,
         states,
         counts,
         stopped: false,
@@ -76,6 +80,18 @@ fn add_lists(alloc: Global, queues: &mut Lines, lists: &mut Inputs) -> Result<()
         queues.push(Line::from_items(take_list(alloc, lists, place)))?;
     }
     Ok(())
+}
+
+// The tables, to which nothing was added.
+#[tactic(auto, using(work_code::proofs::Lists::copies))]
+fn first_tables(alloc: Global, decls: &TableDecls) -> Result<Tables, NoMemory>
+    ensures { IfOk result (λ tables. tables ≡ kept_tables decls.now (λ name. [])) }
+{
+    let mut tables = Tables::new(alloc);
+    for decl in decls.as_slice() {
+        tables.push(Table::new(alloc, decl.kind))?;
+    }
+    Ok(tables)
 }
 
 // So many zeros.

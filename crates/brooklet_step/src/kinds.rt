@@ -7,17 +7,14 @@ ghost use Rattle.brooklet_step.specs.Built.{IsRows, IsBuilt};
 use river_base::{Flat, FlatType, Item, QueueType, Rows};
 use river_plan::{Decls, Plan};
 
-/// Whether the machine runs this plan so far: all its queues carry rows or packs of rows, and it has no table. It gates the code
-/// alone; what plans mean, and the types of what they carry, is defined for all.
+/// Whether the machine runs this plan so far: all its queues carry rows or packs of rows. It gates the code alone; what plans
+/// mean, and the types of what they carry, is defined for all.
 #[tactic(auto, using(crate::proofs::FitsLemmas::built_by, crate::proofs::FitsLemmas::built_outputs, crate::proofs::FitsLemmas::built_inputs, crate::proofs::FitsLemmas::built_queues))]
 pub fn built(plan: &Plan) -> bool
     ensures { IsTrue result ↔ IsBuilt plan.now }
 {
     let raw = plan.raw();
-    if !are_rows(&raw.outputs) || !are_rows(&raw.inputs) || !are_rows(&raw.queues) {
-        return false;
-    }
-    raw.tables.is_empty()
+    are_rows(&raw.outputs) && are_rows(&raw.inputs) && are_rows(&raw.queues)
 }
 
 fn are_rows(decls: &Decls) -> bool

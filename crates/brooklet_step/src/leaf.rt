@@ -2,6 +2,7 @@
 ghost use Rattle.std.specs.Prelude.{◌≡◌, ◌<◌, ◌∷◌, [], length, map, OnOk, IfOk};
 ghost use Rattle.river_base.specs.declared.item.Item.TheVariants as variant;
 ghost use Rattle.river_base.specs.declared.item.Flat.TheVariants as flat;
+ghost use Rattle.river_base.specs.Places.{each_grew, only};
 ghost use Rattle.kern_rows.specs.Forms.{code_form, filter_form};
 ghost use Rattle.kern_rows.specs.Needs.{CanCode};
 ghost use Rattle.kern_rows.specs.Runs.{run_kept};
@@ -208,4 +209,14 @@ pub fn fire_unpack(
         }
         _ => unreachable!(),
     }
+}
+
+/// A row is added to the table.
+pub fn fire_tally(item: Item, out: &mut Emit) -> Result<(), NoMemory>
+    requires row { IsRow item }
+    requires room { 0 < length out.old.adds }
+    ensures outs { OnOk result (out.new.outs ≡ out.old.outs) }
+    ensures adds { OnOk result (out.new.adds ≡ each_grew out.old.adds (only 0 (values_of item ∷ []))) }
+{
+    out.add_row(0, row_of(&item))
 }

@@ -1,6 +1,7 @@
 //! Firings of kernels, and Brooklet's machine.
 #![tactic(auto)]
 
+mod add;
 mod emit;
 mod ending;
 mod firing;
@@ -20,7 +21,7 @@ pub use emit::{Emit, ItemLists, RowLists};
 pub use firing::fire;
 pub use inputs::{Inputs, fits};
 pub use kinds::{built, item_fits};
-pub use machine::{Lines, Machine, Parts, Sizes};
+pub use machine::{Lines, Machine, Parts, Sizes, Tables};
 pub use run::{Outcome, run_one};
 pub use start::first_states;
 pub use state::{State, States};

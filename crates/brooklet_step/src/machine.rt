@@ -10,6 +10,7 @@ use crate::initial::first_parts;
 use crate::step::{fire_next, is_enabled};
 use crate::{Inputs, Outcome, States};
 use kern_rows::Line;
+use kern_tables::Table;
 use river_base::{Listed, NoMemory};
 use river_plan::Plan;
 use std::alloc::Global;
@@ -17,6 +18,9 @@ use std::marker::Model;
 
 /// The items that wait in each queue.
 pub type Lines = Listed<Line>;
+
+/// Tables, in the order of the plan.
+pub type Tables = Listed<Table>;
 
 /// A list of numbers of things in memory.
 pub type Sizes = Listed<usize>;
@@ -29,6 +33,8 @@ pub struct Parts {
     /// The items of each queue that are not taken: the outputs, the inputs, the others. Nothing is taken from an output, so it
     /// has its whole history.
     pub queues: Lines,
+    /// The tables, with all rows that were added.
+    pub tables: Tables,
     /// The states of each operator.
     pub states: Listed<States>,
     /// How often each operator fired; a count of 2^63 - 1 stays there.
@@ -38,8 +44,8 @@ pub struct Parts {
 }
 
 /// Brooklet's machine (Soulé and others, ESOP 2010): it fires one operator at a time, on the front item of one of its queues,
-/// as its caller chooses. Contracts see what it keeps, and that is no more than the items that are not taken. A machine that is not
-/// stopped stands for a state of the definition: some run from some inputs of its plan led there.
+/// as its caller chooses. Contracts see what it keeps, and that is no more than the items that are not taken and the tables. A machine
+/// that is not stopped stands for a state of the definition: some run from some inputs of its plan led there.
 #[derive(Drop)]
 pub struct Machine {
     parts: Parts,
@@ -62,8 +68,8 @@ impl Model for Machine {
 }
 
 impl Machine {
-    /// The machine of a plan before the first firing: the inputs have these items, the other queues none. It stands for the first
-    /// state of the definition.
+    /// The machine of a plan before the first firing: the inputs have these items, the other queues none, and the tables no rows. It
+    /// stands for the first state of the definition.
     pub fn start(alloc: Global, plan: &Plan, inputs: Inputs) -> Result<Machine, NoMemory>
         requires built { IsBuilt plan.now }
         requires fits { Fit plan.now inputs }
@@ -92,8 +98,8 @@ impl Machine {
         is_enabled(&self.parts, op as usize, port as usize)
     }
 
-    /// One firing of an operator on the front item of the queue at one of its ports, which leaves the queue. From every state of
-    /// the definition that the machine stands for, the machine then stands for one after a step there, and it goes on: it can be
+    /// One firing of an operator on the front item of the queue at one of its ports, which leaves the queue; what the operator adds
+    /// goes to its tables. From every state of the definition that the machine stands for, the machine then stands for one after a step there, and it goes on: it can be
     /// fired again wherever an item waits. Where it is refused for want of memory the machine is stopped, and nothing is enabled
     /// any more.
     pub fn step(&mut self, alloc: Global, op: u32, port: u32) -> Result<(), NoMemory>
@@ -105,10 +111,12 @@ impl Machine {
         Ok(())
     }
 
-    /// What the machine gave so far: the histories of the outputs, which nobody took from, and how often each operator fired.
+    /// What the machine gave so far: the histories of the outputs, which nobody took from, the tables, and how often each operator
+    /// fired.
     pub fn into_outcome(self, alloc: Global) -> Result<Outcome, NoMemory>
         requires running { self.stopped ≡ false }
         ensures outs { IfOk result (λ outcome. outcome.outs ≡ map (queue_of self) (decl_names self.plan.outputs)) }
+        ensures tables { IfOk result (λ outcome. outcome.tables ≡ self.tables) }
         ensures counts { IfOk result (λ outcome. AreCounts self outcome.counts) }
     {
         let mut parts = self.parts;

@@ -1,32 +1,38 @@
 // A complete run in the order of the operators.
 ghost use Rattle.std.specs.Prelude.{◌≡◌, ℕ, pos, ◌<◌, false, length, map, IfOk, OnOk};
+ghost use Rattle.kern_tables.specs.Kept.{rows_of};
 ghost use Rattle.river_plan.specs.Valid.{IsPlan};
 ghost use Rattle.brooklet_model.specs.Histories.{firings};
 ghost use Rattle.brooklet_model.specs.Meaning.{meaning};
 ghost use Rattle.brooklet_step.specs.Built.{IsBuilt};
 ghost use Rattle.brooklet_step.specs.Drained.{IsDrained, Follows, DrainedBefore, HasPorts, HasRun};
 ghost use Rattle.brooklet_step.specs.Fit.{Fit};
+ghost use Rattle.brooklet_step.specs.Tables.{defined_tables};
 
-use crate::machine::Lines;
+use crate::machine::{Lines, Tables};
 use crate::{Inputs, Machine};
 use river_base::{NoMemory, Numbers};
 use river_plan::Plan;
 use std::alloc::Global;
 
-/// What a run of a plan without tables gives: the history of each output, in the order of the outputs, and how often each
-/// operator fired, a count of 2^63 - 1 standing for all that are greater.
+/// What a run of a plan gives: the history of each output, in the order of the outputs, the tables, in their order, and how often
+/// each operator fired, a count of 2^63 - 1 standing for all that are greater.
 #[derive(Drop)]
 pub struct Outcome {
     pub outs: Lines,
+    pub tables: Tables,
     pub counts: Numbers,
 }
 
 /// Runs a plan on these inputs to the end: operator by operator in the order listed, and port by port, each for as long as there
-/// is an item.
+/// is an item. The outputs and the rows of the tables are what the plan means; what each table keeps is what it keeps of the rows
+/// that the definition adds to it.
 pub fn run_one(alloc: Global, plan: &Plan, inputs: Inputs) -> Result<Outcome, NoMemory>
     requires built { IsBuilt plan.now }
     requires fits { Fit plan.now inputs }
     ensures outs { IfOk result (λ outcome. outcome.outs ≡ (meaning plan.now inputs).outs) }
+    ensures tables { IfOk result (λ outcome. outcome.tables ≡ defined_tables plan.now inputs) }
+    ensures rows { IfOk result (λ outcome. map rows_of outcome.tables ≡ (meaning plan.now inputs).tables) }
     ensures counts { IfOk result (λ outcome. outcome.counts ≡ map pos (firings plan.now inputs)) }
 {
     let mut machine = Machine::start(alloc, plan, inputs)?;

@@ -6,7 +6,7 @@ ghost use Rattle.brooklet_step.specs.Given.{IsLeaf};
 ghost use Rattle.brooklet_step.specs.Stands.{Applies, Fires};
 
 use crate::emit::Emit;
-use crate::leaf::{fire_code, fire_collect, fire_deal, fire_filter, fire_unpack};
+use crate::leaf::{fire_code, fire_collect, fire_deal, fire_filter, fire_tally, fire_unpack};
 use crate::state::State;
 use river_base::{Item, NoMemory};
 use river_plan::Kernel;
@@ -22,15 +22,15 @@ pub fn is_leaf(kernel: &Kernel) -> bool
         | Kernel::Duplicate(_)
         | Kernel::Deal(_)
         | Kernel::Collect(_)
-        | Kernel::Unpack(_) => true,
+        | Kernel::Unpack(_)
+        | Kernel::Tally => true,
         Kernel::Packed(_)
         | Kernel::Fused { .. }
         | Kernel::Window(_)
         | Kernel::Select(_)
         | Kernel::Project(_)
         | Kernel::Cross
-        | Kernel::Streamer(_)
-        | Kernel::Tally => false,
+        | Kernel::Streamer(_) => false,
     }
 }
 
@@ -56,13 +56,13 @@ pub fn fire_leaf(
             fire_collect(alloc, weights, port, item, &mut states[0], out)
         }
         Kernel::Unpack(ports) => fire_unpack(alloc, *ports, port, item, &mut states[0], out),
+        Kernel::Tally => fire_tally(item, out),
         Kernel::Packed(_)
         | Kernel::Fused { .. }
         | Kernel::Window(_)
         | Kernel::Select(_)
         | Kernel::Project(_)
         | Kernel::Cross
-        | Kernel::Streamer(_)
-        | Kernel::Tally => unreachable!(),
+        | Kernel::Streamer(_) => unreachable!(),
     }
 }

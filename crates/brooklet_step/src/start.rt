@@ -87,7 +87,7 @@ fn leaf_states(alloc: Global, kernel: &Kernel) -> Result<States, NoMemory>
     match kernel {
         Kernel::Code(code) => code_states(alloc, code),
         Kernel::Filter(filter) => filter_states(alloc, filter),
-        Kernel::Duplicate(_) => Ok(States::new(alloc)),
+        Kernel::Duplicate(_) | Kernel::Tally => Ok(States::new(alloc)),
         Kernel::Deal(weights) => deal_states(alloc, weights),
         Kernel::Collect(weights) => collect_states(alloc, weights),
         Kernel::Unpack(ports) => unpack_states(alloc, *ports),
@@ -97,8 +97,7 @@ fn leaf_states(alloc: Global, kernel: &Kernel) -> Result<States, NoMemory>
         | Kernel::Select(_)
         | Kernel::Project(_)
         | Kernel::Cross
-        | Kernel::Streamer(_)
-        | Kernel::Tally => unreachable!(),
+        | Kernel::Streamer(_) => unreachable!(),
     }
 }
 

@@ -6,6 +6,7 @@ ghost use Rattle.brooklet_step.specs.ByPlace.{joined_at};
 ghost use Rattle.brooklet_step.specs.Works.{GoesOn, IsEnabled, Steps};
 ghost use Rattle.brooklet_step.specs.Reading.{IsPlaceRead, IsFront, CanFire, FiredOp};
 
+use crate::add::add_all;
 use crate::emit::take_list;
 use crate::firing::{blank_for, fire};
 use crate::machine::{Lines, Parts, Sizes};
@@ -72,6 +73,11 @@ pub(crate) fn fire_next(
         &mut parts.queues,
         parts.plan.writes_of(op as usize),
         &mut out.outs,
+    )?;
+    add_all(
+        &mut parts.tables,
+        parts.plan.vars_of(op as usize),
+        &out.adds,
     )?;
     count_one(&mut parts.counts, op as usize);
     parts.stopped = false;

@@ -1,11 +1,11 @@
--- The printed text of what a plan gave: the rows of its outputs, and how often each operator fired.
+-- The printed text of what a plan gave: the rows of its outputs and tables, and how often each operator fired.
 use Rattle.std.specs.Prelude.{ℕ, ℤ, List, [], ◌∷◌, ◌++◌, map, codes, Option, None, Some, Bool, true, false}
 use Rattle.std.specs.Fmt.{signed_decimal}
 use Rattle.river_base.specs.declared.item.Item as item
 use Rattle.river_base.specs.declared.item.Flat.TheVariants.{One, Batch as Batched}
 use Rattle.river_base.specs.declared.item.Item.TheVariants.{Flat, Pack}
 use Rattle.river_base.specs.Row.{in_order}
-use Rattle.river_plan.specs.Forms.{Name, PlanForm, decl_names, labels}
+use Rattle.river_plan.specs.Forms.{Name, PlanForm, decl_names, table_names, labels}
 
 -- each value behind a comma
 abbrev pub more_values : List ℤ → List ℕ
@@ -34,15 +34,29 @@ item_rows (Pack fs) = []
 abbrev pub item_text : item.Item → List ℕ
 item_text i = lines row_line (item_rows i)
 
--- the line `# NAME`, and then the items in the order of the output's history
+-- the line `# NAME`, and then a text
+abbrev pub headed : Name → List ℕ → List ℕ
+headed name text = codes "# " ++ (name ++ (codes "\n" ++ text))
+
+-- the items of an output in the order of its history
 abbrev pub output_text : Name → List item.Item → List ℕ
-output_text name items = codes "# " ++ (name ++ (codes "\n" ++ lines item_text items))
+output_text name items = headed name (lines item_text items)
 
 -- the outputs, each with its items
 abbrev pub outputs_text : List Name → List (List item.Item) → List ℕ
 outputs_text [] outs = []
 outputs_text (name ∷ names) [] = []
 outputs_text (name ∷ names) (items ∷ outs) = output_text name items ++ outputs_text names outs
+
+-- the rows of a table, whose name is without its `$`
+abbrev pub table_text : Name → List (List ℤ) → List ℕ
+table_text name rows = headed name (lines row_line rows)
+
+-- the tables, each with its rows
+abbrev pub tables_text : List Name → List (List (List ℤ)) → List ℕ
+tables_text [] tables = []
+tables_text (name ∷ names) [] = []
+tables_text (name ∷ names) (rows ∷ tables) = table_text name rows ++ tables_text names tables
 
 -- the line `LABEL,COUNT`
 abbrev pub count_line : Name → ℤ → List ℕ
@@ -64,6 +78,7 @@ abbrev pub asked : Bool → List ℤ → Option (List ℤ)
 asked true counts = Some counts
 asked false counts = None
 
--- what is printed for a plan: its outputs in order, and then the firings of its operators
-abbrev pub printed_outcome : PlanForm → List (List item.Item) → Option (List ℤ) → List ℕ
-printed_outcome p outs counts = outputs_text (decl_names p.outputs) outs ++ firings_text (labels p.ops) counts
+-- what is printed for a plan: its outputs in order, its tables in order, and then the firings of its operators
+abbrev pub printed_outcome : PlanForm → List (List item.Item) → List (List (List ℤ)) → Option (List ℤ) → List ℕ
+printed_outcome p outs tables counts =
+    outputs_text (decl_names p.outputs) outs ++ (tables_text (table_names p.tables) tables ++ firings_text (labels p.ops) counts)

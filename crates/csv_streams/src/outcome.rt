@@ -1,21 +1,24 @@
 // The printed text of what a plan gave.
-ghost use Rattle.std.specs.Prelude.{◌≡◌, ◌++◌, ◌∷◌, true, length, map, codes, Some, IfOk, OnOk};
+ghost use Rattle.std.specs.Prelude.{◌≡◌, ◌++◌, ◌∷◌, [], true, length, map, codes, Some, IfOk, OnOk};
 ghost use Rattle.std.specs.Fmt.{signed_decimal};
 ghost use Rattle.river_base.specs.Row.{in_order};
-ghost use Rattle.river_plan.specs.Forms.{decl_names, labels, op_forms};
+ghost use Rattle.kern_tables.specs.Kept.{rows_of};
+ghost use Rattle.river_plan.specs.Forms.{decl_names, table_names, labels, op_forms};
 ghost use Rattle.csv_streams.specs.Outcome as text;
 
 use brooklet_step::Outcome;
 use itoa::Buffer;
 use kern_rows::Line;
-use river_base::{Batch, Bytes, Duplicate, Flat, Item, Name, NoMemory, Row};
-use river_plan::{Decl, Op, Plan};
+use kern_tables::Table;
+use river_base::{Batch, Bytes, Duplicate, Flat, Item, Name, NoMemory, Row, Rows};
+use river_plan::{Decl, Op, Plan, TableDecl};
 use std::alloc::Global;
 
 /// The text of what a plan gave: for each output in order the line `# NAME` and a line for each row, in which the values are
-/// joined by commas; and then, if `counts` asks for them, the line `## firings` and a line `LABEL,COUNT` for each operator in
-/// order. A batch prints its rows in ascending order, each behind its instant. `outcome` has the items of each output and, where
-/// `counts` is true, a number for each operator.
+/// joined by commas; then the same for each table in order, whose NAME is without its `$`; and then, if `counts` asks for them,
+/// the line `## firings` and a line `LABEL,COUNT` for each operator in order. A batch prints its rows in ascending order, each
+/// behind its instant. A table prints its rows in ascending order, a maximum by key, and the rows of one key by rank. `outcome`
+/// has the items of each output, each table and, where `counts` is true, a number for each operator.
 #[tactic(auto, using(crate::proofs::Texts::joins))]
 pub fn print_outcome(
     alloc: Global,
@@ -24,8 +27,9 @@ pub fn print_outcome(
     counts: bool,
 ) -> Result<Bytes, NoMemory>
     requires outs { length outcome.now.outs ≡ length plan.now.outputs }
+    requires tables { length outcome.now.tables ≡ length plan.now.tables }
     requires counts { counts ≡ true → length outcome.now.counts ≡ length plan.now.ops }
-    ensures { IfOk result (λ all. all ≡ text.printed_outcome plan.now outcome.now.outs (text.asked counts outcome.now.counts)) }
+    ensures { IfOk result (λ all. all ≡ text.printed_outcome plan.now outcome.now.outs (map rows_of outcome.now.tables) (text.asked counts outcome.now.counts)) }
 {
     let raw = plan.raw();
     let mut all = Bytes::new(alloc);
@@ -33,6 +37,12 @@ pub fn print_outcome(
         alloc,
         raw.outputs.as_slice(),
         outcome.outs.as_slice(),
+        &mut all,
+    )?;
+    print_tables(
+        alloc,
+        raw.tables.as_slice(),
+        outcome.tables.as_slice(),
         &mut all,
     )?;
     if counts {
@@ -61,10 +71,54 @@ fn print_outputs(
 fn print_output(alloc: Global, name: &Name, items: &Line, to: &mut Bytes) -> Result<(), NoMemory>
     ensures { OnOk result (to.new ≡ to.old ++ text.output_text name.now items.now) }
 {
+    print_head(name, to)?;
+    print_items(alloc, items, to)
+}
+
+// The line with a name.
+#[tactic(auto, using(crate::proofs::Texts::joins))]
+fn print_head(name: &Name, to: &mut Bytes) -> Result<(), NoMemory>
+    ensures { OnOk result (to.new ≡ to.old ++ text.headed name.now []) }
+{
     to.extend(b"# ")?;
     to.extend(name.as_slice())?;
     to.push(b'\n')?;
-    print_items(alloc, items, to)
+    Ok(())
+}
+
+#[tactic(auto, using(crate::proofs::Texts::joins))]
+fn print_tables(
+    alloc: Global,
+    decls: &[TableDecl],
+    tables: &[Table],
+    to: &mut Bytes,
+) -> Result<(), NoMemory>
+    requires { length tables.now ≡ length decls.now }
+    ensures { OnOk result (to.new ≡ to.old ++ text.tables_text (table_names decls.now) (map rows_of tables.now)) }
+{
+    for place in 0..decls.len() {
+        print_table(alloc, &decls[place].name, &tables[place], to)?;
+    }
+    Ok(())
+}
+
+#[tactic(auto, using(crate::proofs::Texts::joins))]
+fn print_table(alloc: Global, name: &Name, table: &Table, to: &mut Bytes) -> Result<(), NoMemory>
+    ensures { OnOk result (to.new ≡ to.old ++ text.table_text name.now (rows_of table.now)) }
+{
+    let rows = table.rows(alloc)?;
+    print_head(name, to)?;
+    print_rows(&rows, to)
+}
+
+#[tactic(auto, using(crate::proofs::Texts::joins))]
+fn print_rows(rows: &Rows, to: &mut Bytes) -> Result<(), NoMemory>
+    ensures { OnOk result (to.new ≡ to.old ++ text.lines text.row_line rows.now) }
+{
+    for row in rows.as_slice() {
+        print_row(row, to)?;
+    }
+    Ok(())
 }
 
 #[tactic(auto, using(crate::proofs::Texts::joins))]

@@ -7,6 +7,7 @@ ghost use Rattle.std.specs.Cmp.Lexicographic.{pointwise, lists_per};
 ghost use Rattle.std.specs.List.Sorted.{IsPermutation, IsSorted};
 ghost use Rattle.std.proofs.lemmas.Cmp.{lists_equiv};
 ghost use Rattle.river_base.specs.Row.{row_cmp, in_order};
+ghost use Rattle.river_base.specs.Instants.{each_once};
 
 use crate::{NoMemory, Row};
 use std::alloc::Global;
@@ -199,6 +200,16 @@ impl Listed<u8> {
     {
         self.items.extend_from_slice(bytes)?;
         Ok(())
+    }
+}
+
+impl Listed<i64> {
+    /// Puts the values in ascending order, each once.
+    pub fn keep_each_once(&mut self)
+        ensures { self.new ≡ each_once self.old }
+    {
+        self.items.sort_unstable();
+        self.items.dedup();
     }
 }
 

@@ -29,7 +29,7 @@ use Rattle.river_cli.specs.Text.{program_refused}
 -- ---- A RIVER TEXT
 
 pub river-compiled : (meant : Result PlanForm RiverFault) (p : PlanForm) → meant ≡ Ok p → StandsFor IsCompiled (told river_source river_words meant) (record { plan = p })
-river-compiled meant p is = rw is (record { plan = refl; inputs = refl; outputs = refl; means = λ rows t. refl })
+river-compiled meant p is = rw is (record { plan = refl; inputs = refl; outputs = refl; tables = refl; means = λ rows t. refl })
 
 pub river-refused : (meant : Result PlanForm RiverFault) (f : RiverFault) (text : List _) → (f ≡ river_fault.NoMemory → ⊥) → river.Refused meant f → text ≡ program_refused (river_words f) → told river_source river_words meant ≡ Err text
 river-refused meant (river_fault.Text refusal) text not is says = rw (is, says) refl
@@ -58,7 +58,7 @@ program_means text a e (r ∷ s ∷ more) t = absurd t.1
 program_means text a e (r ∷ []) t = ap (λ l. meaning (plan_of a.stream) (l ∷ [])) (values-are r t.0) ∙ (plans_mean text a (values (r ∷ [])) e).1
 
 program_plan : (text : List ℕ) (a : Accepted) → compiled text ≡ Ok a → IsPlanOf (streamit_source a) (plan_of a.stream)
-program_plan text a e = record { plan = refl; inputs = refl; outputs = refl; means = program_means text a e }
+program_plan text a e = record { plan = refl; inputs = refl; outputs = refl; tables = refl; means = program_means text a e }
 
 -- the plan that was compiled is the program's
 pub streamit-compiled : (text : List ℕ) (p : Program) (plan : PlanForm) → Plans (compiled text) p plan

@@ -1,7 +1,7 @@
 -- The points of a job, and the calls that do them.
 use Rattle.std.proofs.Common.{◌≡◌, ℕ, ℤ, List, ◌++◌, Bool, false, sym, ap, ◌∙◌, subst}
 use Rattle.std.specs.Prelude.{Option, Some, Result, Ok, Err, IfOk, pos, map}
-use Rattle.csv_streams.specs.Outcome.{outputs_text, firings_text, asked, printed_outcome}
+use Rattle.csv_streams.specs.Outcome.{outputs_text, tables_text, firings_text, asked, printed_outcome}
 use Rattle.river_base.specs.declared.item.Item as item
 use Rattle.river_base.specs.declared.memory.NoMemory.{NoMemory}
 use Rattle.river_outside.specs.Held.{Held}
@@ -11,7 +11,7 @@ use Rattle.river_order.specs.Passes.{past, Refuses, StandsFor, Passes}
 use Rattle.river_order.specs.declared.stop.Stop.{Stop}
 use Rattle.river_order.proofs.Comes.{Comes-same}
 use Rattle.river_order.proofs.Passes.{past-refused, past-as, then-passes, passed-decides}
-use Rattle.river_plan.specs.Forms.{PlanForm, labels}
+use Rattle.river_plan.specs.Forms.{PlanForm, table_names, labels}
 use Rattle.river_print.specs.Printed.{plan_text}
 use Rattle.brooklet_model.specs.Histories.{firings}
 use Rattle.brooklet_model.specs.Meaning.{Results, meaning}
@@ -104,18 +104,19 @@ module _ (job : Job) (counted : Bool) (source : Source) (plan : PlanForm) (held 
 
 -- what the plan prints is what the program prints
 pub output-printed : (source : Source) (plan : PlanForm) (counted : Bool) (all : List (List (List ℤ))) → IsPlanOf source plan → AreInputs plan.inputs (all_items all)
-    → printed_outcome plan (meaning plan (all_items all)).outs (asked counted (map pos (firings plan (all_items all)))) ≡ printed source counted all
+    → printed_outcome plan (meaning plan (all_items all)).outs (meaning plan (all_items all)).tables (asked counted (map pos (firings plan (all_items all)))) ≡ printed source counted all
 output-printed source plan counted all is typed =
-    ap (λ n. outputs_text n (meaning plan (all_items all)).outs ++ fired plan) is.outputs
-    ∙ ap (λ (m : Results). outputs_text source.outputs m.outs ++ fired plan) (is.means all typed)
-    ∙ ap (λ q. outputs_text source.outputs (source.means all).outs ++ fired q) is.plan
+    ap (λ n. outputs_text n (meaning plan (all_items all)).outs ++ (tables_text (table_names plan.tables) (meaning plan (all_items all)).tables ++ fired plan)) is.outputs
+    ∙ ap (λ n. outputs_text source.outputs (meaning plan (all_items all)).outs ++ (tables_text n (meaning plan (all_items all)).tables ++ fired plan)) is.tables
+    ∙ ap (λ (m : Results). outputs_text source.outputs m.outs ++ (tables_text source.tables m.tables ++ fired plan)) (is.means all typed)
+    ∙ ap (λ q. outputs_text source.outputs (source.means all).outs ++ (tables_text source.tables (source.means all).tables ++ fired q)) is.plan
   where
     fired : PlanForm → List ℕ
     fired q = firings_text (labels q.ops) (asked counted (map pos (firings q (all_items all))))
 
-pub output-says : (plan : PlanForm) (counted : Bool) (all : List (List (List ℤ))) (outs : List (List item.Item)) (counts : List ℤ) (result : Result (List ℕ) NoMemory)
-    → IfOk result (λ text. text ≡ printed_outcome plan outs (asked counted counts)) → outs ≡ (meaning plan (all_items all)).outs → counts ≡ map pos (firings plan (all_items all)) → AreInputs plan.inputs (all_items all)
-    → IfOk result (λ text. (source : Source) → IsPlanOf source plan → text ≡ printed source counted all)
-output-says plan counted all outs counts (Ok text) says outs_is counts_is typed = λ source is.
-    says ∙ ap (λ o. printed_outcome plan o (asked counted counts)) outs_is ∙ ap (λ n. printed_outcome plan (meaning plan (all_items all)).outs (asked counted n)) counts_is ∙ output-printed source plan counted all is typed
-output-says plan counted all outs counts (Err e) says outs_is counts_is typed = tt
+pub output-says : (plan : PlanForm) (counted : Bool) (all : List (List (List ℤ))) (outs : List (List item.Item)) (tables : List (List (List ℤ))) (counts : List ℤ) (result : Result (List ℕ) NoMemory)
+    → IfOk result (λ text. text ≡ printed_outcome plan outs tables (asked counted counts)) → outs ≡ (meaning plan (all_items all)).outs → tables ≡ (meaning plan (all_items all)).tables
+    → counts ≡ map pos (firings plan (all_items all)) → AreInputs plan.inputs (all_items all) → IfOk result (λ text. (source : Source) → IsPlanOf source plan → text ≡ printed source counted all)
+output-says plan counted all outs tables counts (Ok text) says outs_is tables_is counts_is typed = λ source is.
+    says ∙ (λ i. printed_outcome plan (outs_is i) (tables_is i) (asked counted (counts_is i))) ∙ output-printed source plan counted all is typed
+output-says plan counted all outs tables counts (Err e) says outs_is tables_is counts_is typed = tt

@@ -18,4 +18,4 @@ when_built false e = absurd (cc e)
 
 -- the law: their plans are of the kind that is run
 pub streams_run : StreamitRuns
-streams_run s = when_built (is_built (plan_of s)) (rw (all-rows 1 (queues_in s)) refl)
+streams_run s = when_built (is_built (plan_of s)) (all-rows 1 (queues_in s))

@@ -9,7 +9,7 @@ use Rattle.river_order.specs.declared.stop.Stop.{Stop}
 use Rattle.river_order.proofs.Comes.{Comes-same, Comes-on}
 use Rattle.river_order.proofs.Passes.{past-refused}
 use Rattle.river_order.proofs.Turns.{Stops-later}
-use Rattle.river_plan.specs.Forms.{PlanForm, decl_names}
+use Rattle.river_plan.specs.Forms.{PlanForm, decl_names, table_names}
 use Rattle.river_plan.specs.Valid.{IsPlan}
 use Rattle.brooklet_model.specs.Typed.{AreInputs}
 use Rattle.river_script.specs.Meaning.{rewritten}
@@ -29,6 +29,7 @@ made-stands source p made text v is e =
       plan = refl;
       inputs = k.1.inputs ∙ is.inputs;
       outputs = ap decl_names k.1.outputs ∙ is.outputs;
+      tables = ap table_names k.1.tables ∙ is.tables;
       means = λ rows a. let b = subst (λ ds. AreInputs ds (all_items rows)) k.1.inputs a in k.2 (all_items rows) b ∙ is.means rows b;
     })
 

@@ -26,31 +26,29 @@ use Rattle.river_script.specs.Script.{StepForm, fusing, hoisting, splitting, ste
 -- the first with a number is one of them
 first-spoken : (f : OpForm → ℕ) (ops : List OpForm) (op : OpForm) → Every IsSpoken ops → first_with f ops ≡ Some op → IsSpoken op
 first-spoken f [] op h e = absurd (cc e)
-first-spoken f (x ∷ xs) op h e = by (nat_lt 0 (f x)) e
+first-spoken f (x ∷ xs) op h e = by (nat_lt 0 (f x)) e (first-spoken f xs op h.1)
   where
-    by : (b : Bool) → (if b then Some x else first_with f xs) ≡ Some op → IsSpoken op
-    by true g = subst IsSpoken (let same : x ≡ op = cc in same) h.0
-    by false g = first-spoken f xs op h.1 g
+    by : (b : Bool) → (if b then Some x else first_with f xs) ≡ Some op → (first_with f xs ≡ Some op → IsSpoken op) → IsSpoken op
+    by true g later = subst IsSpoken (let same : x ≡ op = cc in same) h.0
+    by false g later = later g
 
 replaced-spoken : (q : Name) (news ops : List OpForm) → Every IsSpoken news → Every IsSpoken ops → Every IsSpoken (replaced q news ops)
 replaced-spoken q news [] n h = tt
-replaced-spoken q news (op ∷ ops) n h = by (nat_lt 0 (count q op.writes)) (nat_lt 0 (count q op.reads))
+replaced-spoken q news (op ∷ ops) n h = by (nat_lt 0 (count q op.writes)) (nat_lt 0 (count q op.reads)) (replaced-spoken q news ops n h.1)
   where
-    rest : Every IsSpoken (replaced q news ops)
-    rest = replaced-spoken q news ops n h.1
-
-    by : (b c : Bool) → Every IsSpoken (if b then news ++ replaced q news ops else (if c then replaced q news ops else op ∷ replaced q news ops))
-    by true c = every-joined IsSpoken news (replaced q news ops) n rest
-    by false true = rest
-    by false false = (h.0, rest)
+    by : (b c : Bool) → Every IsSpoken (replaced q news ops)
+        → Every IsSpoken (if b then news ++ replaced q news ops else (if c then replaced q news ops else op ∷ replaced q news ops))
+    by true c rest = every-joined IsSpoken news (replaced q news ops) n rest
+    by false true rest = rest
+    by false false rest = (h.0, rest)
 
 swapped-spoken : (l : Name) (news ops : List OpForm) → Every IsSpoken news → Every IsSpoken ops → Every IsSpoken (swapped l news ops)
 swapped-spoken l news [] n h = tt
-swapped-spoken l news (op ∷ ops) n h = by (nat_lt 0 (named_it l op))
+swapped-spoken l news (op ∷ ops) n h = by (nat_lt 0 (named_it l op)) (swapped-spoken l news ops n h.1)
   where
-    by : (b : Bool) → Every IsSpoken (if b then news ++ ops else op ∷ swapped l news ops)
-    by true = every-joined IsSpoken news ops n h.1
-    by false = (h.0, swapped-spoken l news ops n h.1)
+    by : (b : Bool) → Every IsSpoken (swapped l news ops) → Every IsSpoken (if b then news ++ ops else op ∷ swapped l news ops)
+    by true rest = every-joined IsSpoken news ops n h.1
+    by false rest = (h.0, rest)
 
 -- THE STEPS
 
@@ -69,7 +67,7 @@ hoist-spoken p p' l h e =
     let a = hoisting_up.accepted p l p' e in
     let b = first-spoken (writes_it a.mid) p.ops a.below h a.may.below in
     subst (λ (x : PlanForm). Every IsSpoken x.ops) a.is
-    (replaced-spoken a.mid (raised a.above a.moved a.src a.mid ∷ lowered a.below a.side a.mid a.out ∷ []) p.ops ((tt, tt), b, tt) h)
+    (replaced-spoken a.mid (raised a.above a.moved a.src a.mid ∷ lowered a.below a.side a.mid a.out ∷ []) p.ops ((tt, tt), (b, tt)) h)
 
 -- a kernel within the bounds
 abbrev IsSpokenKernel : Kern → Type 0
@@ -124,11 +122,12 @@ step-spoken p p' (splitting l n) h e = fission-spoken p p' l n h e
 -- steps one after another
 script-spoken : (n : ℕ) (p p' : PlanForm) (ss : List StepForm) → Every IsSpoken p.ops → script_from n p ss ≡ Ok p' → Every IsSpoken p'.ops
 script-spoken n p p' [] h e = subst (λ (x : PlanForm). Every IsSpoken x.ops) (let same : p ≡ p' = cc in same) h
-script-spoken n p p' (s ∷ ss) h e = by (step_of p s) refl e
+script-spoken n p p' (s ∷ ss) h e = by (step_of p s) refl e (λ q. script-spoken (suc n) q p' ss)
   where
-    by : (r : Result PlanForm Unfit) → step_of p s ≡ r → then_all n r (λ q. script_from (suc n) q ss) ≡ Ok p' → Every IsSpoken p'.ops
-    by (Err f) is g = absurd (cc g)
-    by (Ok q) is g = script-spoken (suc n) q p' ss (step-spoken p q s h is) g
+    by : (r : Result PlanForm Unfit) → step_of p s ≡ r → then_all n r (λ q. script_from (suc n) q ss) ≡ Ok p'
+        → ((q : PlanForm) → Every IsSpoken q.ops → script_from (suc n) q ss ≡ Ok p' → Every IsSpoken p'.ops) → Every IsSpoken p'.ops
+    by (Err f) is g later = absurd (cc g)
+    by (Ok q) is g later = later q (step-spoken p q s h is) g
 
 -- the law: a script keeps a plan within the bounds of River text
 pub script_is_printable : ScriptIsPrintable

@@ -84,11 +84,11 @@ AllLow (k ∷ ks) = IsLowStream k.1 × AllLow ks
 
 looked-low : (known : Streamed) (n : Name) (s : Stream) → AllLow known → look known n ≡ Some s → IsLowStream s
 looked-low [] n s a h = absurd (cc h)
-looked-low (k ∷ ks) n s a h = by (name_eq k.0 n) h
+looked-low (k ∷ ks) n s a h = by (name_eq k.0 n) h (looked-low ks n s a.1)
   where
-    by : (b : Bool) → (if b then Some k.1 else look ks n) ≡ Some s → IsLowStream s
-    by true e = subst IsLowStream (let q : k.1 ≡ s = cc in q) a.0
-    by false e = looked-low ks n s a.1 e
+    by : (b : Bool) → (if b then Some k.1 else look ks n) ≡ Some s → (look ks n ≡ Some s → IsLowStream s) → IsLowStream s
+    by true e later = subst IsLowStream (let q : k.1 ≡ s = cc in q) a.0
+    by false e later = later e
 
 found-is : (o : Option Stream) (s : Stream) → found o ≡ fine s → o ≡ Some s
 found-is None s h = absurd (cc h)

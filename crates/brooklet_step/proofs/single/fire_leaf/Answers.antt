@@ -2,6 +2,7 @@ use Rattle.std.proofs.Common.{refl, ap, ◌∙◌, get_or}
 use Rattle.river_kernels.specs.Kern.{kern_of}
 use Rattle.kern_rows.specs.Forms.{filter_form}
 use Rattle.brooklet_step.proofs.Fires.{kern_of-filter, kern_of-duplicate, on_ok, on_both, filter_whole, duplicate_fires}
+use Rattle.brooklet_step.proofs.Tallies.{kern_of-tally, tally_row, tally_room, tally_fires}
 use Rattle.brooklet_step.proofs.single.fire_leaf.Goals as goal
 
 pub returns-in-Filter : goal.returns-in-Filter
@@ -15,3 +16,15 @@ returns-in-Duplicate c =
     on_both _ _ _ c.give_everywhere.result
     (λ o a. duplicate_fires (kern_of c.args.kernel.now) c.in-Duplicate.field-0 c.args.port c.args.item c.args.states.now c.args.out.now c.give_everywhere.new.self (ap kern_of c.in-Duplicate.is ∙ kern_of-duplicate c.in-Duplicate.field-0) c.requires.applies.room o a)
     c.give_everywhere.ensures.outs c.give_everywhere.ensures.adds
+
+pub fire_tally-requires-clause-row : goal.fire_tally-requires-clause-row
+fire_tally-requires-clause-row c = tally_row (kern_of c.args.kernel.now) c.args.port c.args.item c.args.states.now (ap kern_of c.in-Tally.is ∙ kern_of-tally) c.requires.applies.takes
+
+pub fire_tally-requires-clause-room : goal.fire_tally-requires-clause-room
+fire_tally-requires-clause-room c = tally_room (kern_of c.args.kernel.now) c.args.out.now (ap kern_of c.in-Tally.is ∙ kern_of-tally) c.requires.applies.room
+
+pub returns-in-Tally : goal.returns-in-Tally
+returns-in-Tally c =
+    on_both _ _ _ c.fire_tally.result
+    (λ o a. tally_fires (kern_of c.args.kernel.now) c.args.port c.args.item c.args.states.now c.args.out.now c.fire_tally.new.out (ap kern_of c.in-Tally.is ∙ kern_of-tally) o a)
+    c.fire_tally.ensures.outs c.fire_tally.ensures.adds

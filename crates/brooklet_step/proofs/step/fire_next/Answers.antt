@@ -1,6 +1,6 @@
 use Rattle.std.proofs.Common.{[], refl}
 use Rattle.std.specs.Prelude.{slice_index_or}
-use Rattle.brooklet_step.proofs.NextLemmas.{enabled_place, front_there, op_in, can_fire, send_there, next}
+use Rattle.brooklet_step.proofs.NextLemmas.{enabled_place, front_there, op_in, can_fire, send_there, add_there, next}
 use Rattle.brooklet_step.proofs.ReadLemmas.{op_there}
 use Rattle.brooklet_step.proofs.step.fire_next.Goals as goal
 
@@ -32,17 +32,32 @@ send-requires-clause-ports c = (send_there c.args.parts.now c.args.op c.args.por
 pub send-requires-clause-places : goal.send-requires-clause-places
 send-requires-clause-places c = (send_there c.args.parts.now c.args.op c.args.port (slice_index_or c.reads_of.result.now c.args.port 0) c.front-item.result c.front-item.new.queues c.at_mut.result.now c.fire_op.new.states c.in_ok-out.out c.writes_of.result.now c.requires.goes_on c.requires.enabled c.front-item.ensures (c.at_mut.ensures.value []) c.in_ok-out.ensures c.writes_of.ensures).1
 
+pub vars_of-requires : goal.vars_of-requires
+vars_of-requires c = (op_in c.args.parts.now c.args.op c.args.port c.requires.goes_on c.requires.enabled).1
+
+pub add_all-requires-clause-many : goal.add_all-requires-clause-many
+add_all-requires-clause-many c =
+    (add_there c.args.parts.now c.args.op c.args.port (slice_index_or c.reads_of.result.now c.args.port 0) c.front-item.result c.front-item.new.queues c.at_mut.result.now c.fire_op.new.states c.in_ok-out.out c.vars_of.result.now c.requires.goes_on c.requires.enabled
+    (enabled_place c.args.parts.now c.args.op c.args.port (slice_index_or c.reads_of.result.now c.args.port 0) c.reads_of.result.now c.requires.enabled c.reads_of.ensures refl)
+    c.front-item.ensures (c.at_mut.ensures.value []) c.in_ok-out.ensures c.vars_of.ensures).0
+
+pub add_all-requires-clause-wide : goal.add_all-requires-clause-wide
+add_all-requires-clause-wide c =
+    (add_there c.args.parts.now c.args.op c.args.port (slice_index_or c.reads_of.result.now c.args.port 0) c.front-item.result c.front-item.new.queues c.at_mut.result.now c.fire_op.new.states c.in_ok-out.out c.vars_of.result.now c.requires.goes_on c.requires.enabled
+    (enabled_place c.args.parts.now c.args.op c.args.port (slice_index_or c.reads_of.result.now c.args.port 0) c.reads_of.result.now c.requires.enabled c.reads_of.ensures refl)
+    c.front-item.ensures (c.at_mut.ensures.value []) c.in_ok-out.ensures c.vars_of.ensures).1
+
 pub count_one-requires : goal.count_one-requires
 count_one-requires c = (op_in c.args.parts.now c.args.op c.args.port c.requires.goes_on c.requires.enabled).2
 
 pub returns-clause-fired : goal.returns-clause-fired
 returns-clause-fired c =
-    (next c.args.parts.now c.args.op c.args.port (slice_index_or c.reads_of.result.now c.args.port 0) c.front-item.result c.at_mut.result.now c.fire_op.new.states c.in_ok-out.out c.writes_of.result.now c.front-item.new.queues c.send.new.queues c.count_one.new.counts c.requires.goes_on c.requires.enabled
+    (next c.args.parts.now c.args.op c.args.port (slice_index_or c.reads_of.result.now c.args.port 0) c.front-item.result c.at_mut.result.now c.fire_op.new.states c.in_ok-out.out c.writes_of.result.now c.front-item.new.queues c.send.new.queues c.vars_of.result.now c.count_one.new.counts c.add_all.new.tables c.requires.goes_on c.requires.enabled
     (enabled_place c.args.parts.now c.args.op c.args.port (slice_index_or c.reads_of.result.now c.args.port 0) c.reads_of.result.now c.requires.enabled c.reads_of.ensures refl)
-    c.front-item.ensures (c.at_mut.ensures.value []) c.in_ok-out.ensures c.writes_of.ensures c.in_ok-send.ensures c.count_one.ensures).steps
+    c.front-item.ensures (c.at_mut.ensures.value []) c.in_ok-out.ensures c.writes_of.ensures c.in_ok-send.ensures c.count_one.ensures c.vars_of.ensures c.in_ok-add_all.ensures).steps
 
 pub returns-clause-goes_on : goal.returns-clause-goes_on
 returns-clause-goes_on c =
-    (next c.args.parts.now c.args.op c.args.port (slice_index_or c.reads_of.result.now c.args.port 0) c.front-item.result c.at_mut.result.now c.fire_op.new.states c.in_ok-out.out c.writes_of.result.now c.front-item.new.queues c.send.new.queues c.count_one.new.counts c.requires.goes_on c.requires.enabled
+    (next c.args.parts.now c.args.op c.args.port (slice_index_or c.reads_of.result.now c.args.port 0) c.front-item.result c.at_mut.result.now c.fire_op.new.states c.in_ok-out.out c.writes_of.result.now c.front-item.new.queues c.send.new.queues c.vars_of.result.now c.count_one.new.counts c.add_all.new.tables c.requires.goes_on c.requires.enabled
     (enabled_place c.args.parts.now c.args.op c.args.port (slice_index_or c.reads_of.result.now c.args.port 0) c.reads_of.result.now c.requires.enabled c.reads_of.ensures refl)
-    c.front-item.ensures (c.at_mut.ensures.value []) c.in_ok-out.ensures c.writes_of.ensures c.in_ok-send.ensures c.count_one.ensures).goes_on
+    c.front-item.ensures (c.at_mut.ensures.value []) c.in_ok-out.ensures c.writes_of.ensures c.in_ok-send.ensures c.count_one.ensures c.vars_of.ensures c.in_ok-add_all.ensures).goes_on
