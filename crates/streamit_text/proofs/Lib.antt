@@ -1,6 +1,7 @@
 pub mod Adding
 pub mod Blocks
 pub mod Fields
+pub mod Named
 pub mod Programs
 pub mod Rates
 pub mod Statements
