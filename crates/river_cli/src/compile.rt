@@ -63,7 +63,7 @@ fn streamit(alloc: Global, text: &Bytes) -> Result<Compiled, Stop>
     ensures { AnswersAs IsCompiled (told streamit_source streamit_words (compiled text.now)) result }
 {
     match compile_streamit(alloc, text) {
-        Ok(plan) => Ok(Compiled { plan }),
+        Ok((_, plan)) => Ok(Compiled { plan }),
         Err(StreamitFault::NoMemory) => Err(Stop::NoMemory),
         Err(fault) => Err(Stop::Refused(streamit_refused(alloc, fault)?)),
     }
