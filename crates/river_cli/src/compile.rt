@@ -16,8 +16,8 @@ use river_base::{Bytes, NoMemory};
 use river_order::Stop;
 use river_plan::Plan;
 use river_text::{RiverFault, compile_river};
-use std::alloc::Global;
 use saw_front::{SawFault, compile_sawzall};
+use std::alloc::Global;
 use streamit_front::{StreamitFault, compile_streamit};
 
 /// A program that was compiled.
