@@ -14,7 +14,8 @@ use Rattle.river_text.specs.declared.river_fault.RiverFault.TheVariants as river
 use Rattle.brooklet_model.specs.Meaning.{meaning}
 use Rattle.streamit_model.specs.Build.{plan_of}
 use Rattle.streamit_model.specs.Laws.{as_items}
-use Rattle.streamit_front.specs.Meaning.{Accepted, compiled, Refused}
+use Rattle.streamit_model.specs.Program.{Program}
+use Rattle.streamit_front.specs.Meaning.{Accepted, compiled, Plans, Refused}
 use Rattle.streamit_front.specs.Words.{streamit_words}
 use Rattle.streamit_front.specs.declared.fault.StreamitFault.{StreamitFault}
 use Rattle.streamit_front.specs.declared.fault.StreamitFault.TheVariants as streamit_fault
@@ -69,8 +70,11 @@ program_means text a e (Plain r ∷ []) t = ap (λ l. meaning (plan_of a.stream)
 program_plan : (text : List ℕ) (a : Accepted) → compiled text ≡ Ok a → IsPlanOf (streamit_source a) (plan_of a.stream)
 program_plan text a e = record { plan = refl; inputs = refl; outputs = refl; tables = refl; means = program_means text a e }
 
-pub streamit-compiled : (text : List ℕ) (a : Accepted) (plan : PlanForm) → compiled text ≡ Ok a → plan ≡ plan_of a.stream → StandsFor IsCompiled (told streamit_source streamit_words (compiled text)) (record { plan = plan })
-streamit-compiled text a plan is made =
+-- the plan that was compiled is the program's
+pub streamit-compiled : (text : List ℕ) (p : Program) (plan : PlanForm) → Plans (compiled text) p plan
+    → StandsFor IsCompiled (told streamit_source streamit_words (compiled text)) (record { plan = plan })
+streamit-compiled text p plan (s, is, made) =
+    let a : Accepted = record { program = p; stream = s } in
     subst (λ (r : Result Accepted StreamitFault). StandsFor IsCompiled (told streamit_source streamit_words r) (record { plan = plan })) (sym is)
     (subst (IsPlanOf (streamit_source a)) (sym made) (program_plan text a is))
 

@@ -21,7 +21,6 @@ script_refused words = codes "refused: " ++ (words ++ codes "\n")
 abbrev pub large_script : List ℕ
 large_script = codes "refused: script: Large\n"
 
-
 -- an input is refused, and why
 abbrev pub input_refused : List ℕ → List ℕ → List ℕ
 input_refused name words = codes "refused: input " ++ (name ++ (codes ": " ++ (words ++ codes "\n")))

@@ -19,8 +19,8 @@ use river_base::{Bytes, NoMemory};
 use river_order::Stop;
 use river_plan::Plan;
 use river_text::{RiverFault, compile_river};
-use std::alloc::Global;
 use saw_front::{SawFault, compile_sawzall};
+use std::alloc::Global;
 use streamit_front::{StreamitFault, compile_streamit};
 
 /// A program that was compiled.
@@ -67,7 +67,7 @@ fn streamit(alloc: Global, text: &Bytes) -> Result<Compiled, Stop>
     ensures { AnswersAs IsCompiled (told streamit_source streamit_words (compiled text.now)) result }
 {
     match compile_streamit(alloc, text) {
-        Ok(plan) => Ok(Compiled { plan }),
+        Ok((_, plan)) => Ok(Compiled { plan }),
         Err(StreamitFault::NoMemory) => Err(Stop::NoMemory),
         Err(fault) => Err(Stop::Refused(streamit_refused(alloc, fault)?)),
     }
