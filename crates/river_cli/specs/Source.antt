@@ -81,6 +81,8 @@ saw_source a = record {
   tables = table_names (tables_in (saw.program_in a));
   means = λ files. record { outs = []; tables = program_tables (saw.program_in a) (records files) };
   plan = saw.plan_in a;
+}
+
 -- the queries of a program, by their names
 abbrev pub asked_names : Program → List Name
 asked_names [] = []

@@ -43,6 +43,7 @@ const RIVER: &[u8] = b"river";
 const STREAMIT: &[u8] = b"streamit";
 
 const SAWZALL: &[u8] = b"sawzall";
+
 const CQL: &[u8] = b"cql";
 
 fn command_named(word: &[u8]) -> Option<Command>
