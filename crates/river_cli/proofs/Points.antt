@@ -1,5 +1,5 @@
 -- The points of a job, and the calls that do them.
-use Rattle.std.proofs.Common.{◌≡◌, ℕ, ℤ, List, ◌++◌, Bool, false, sym, ap, ◌∙◌, subst}
+use Rattle.std.proofs.Common.{◌≡◌, ℕ, ℤ, List, ◌++◌, Bool, false, refl, sym, ap, ◌∙◌, subst}
 use Rattle.std.specs.Prelude.{Option, Some, Result, Ok, Err, IfOk, pos, map}
 use Rattle.csv_streams.specs.Outcome.{outputs_text, tables_text, firings_text, asked, printed_outcome}
 use Rattle.river_base.specs.declared.item.Item as item
