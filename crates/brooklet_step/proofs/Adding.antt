@@ -7,7 +7,7 @@ use Rattle.std.proofs.lemmas.List.Sums.{fold-append}
 use Rattle.std.proofs.lemmas.Option.{slice_get_within}
 use Rattle.river_base.specs.Places.{list_at, only}
 use Rattle.kern_tables.specs.declared.kept.Kept.{Kept}
-use Rattle.kern_tables.specs.Kept.{added, kind_of, width_of}
+use Rattle.kern_tables.specs.Kept.{added, width_of}
 use Rattle.kern_tables.specs.Tables.{table_width}
 use Rattle.kern_tables.proofs.Tabs.{added_kind}
 use Rattle.brooklet_model.proofs.Lists.{if_lt, if_ge}

@@ -61,7 +61,7 @@ so_far_step k all left rest x e e' e'' st st1 st2 is s f =
       fires = each_step k s.done x st st1 st2 e e' e'' s.fires f;
       takes = record {
         reads = t.reads;
-        fitting = record { on_rows = t.fitting.on_rows; writes = t.fitting.writes; vars = t.fitting.vars; fits = t.fitting.fits; state = d.0 };
+        fitting = record { writes = t.fitting.writes; vars = t.fitting.vars; fits = t.fitting.fits; state = d.0 };
         items = All-tail (IsHeldOf t.reads 0) x rest (subst (All (IsHeldOf t.reads 0)) is t.items);
         room = d.1;
       };
@@ -80,7 +80,7 @@ packed_taken k j j1 port x st out e ek ej t o a =
     let s : IsShaped (packed j) = shaped (packed j) t'.reads t'.fitting.writes t'.fitting.vars f in
     subst (λ (i : Kern). CanTake i port x st e) (sym ej) (record {
       reads = t'.reads;
-      fitting = record { on_rows = t'.fitting.on_rows; writes = FlatOf f.1 ∷ []; vars = []; fits = subst (λ (l : List QueueType). Fits j l (FlatOf f.1 ∷ []) []) (sym f.2) f.5; state = t'.fitting.state };
+      fitting = record { writes = FlatOf f.1 ∷ []; vars = []; fits = subst (λ (l : List QueueType). Fits j l (FlatOf f.1 ∷ []) []) (sym f.2) f.5; state = t'.fitting.state };
       item = t'.item;
       room = record { outs = ap length o ∙ sym s.2; adds = ap length a ∙ sym s.3 };
     })
@@ -118,7 +118,7 @@ module _ (k a b : Kern) (at count port : ℕ) (x : item.Item) (st mine rest : Li
   pub first_of : CanTake a port x mine mid0
   first_of = record {
     reads = t.reads;
-    fitting = record { on_rows = t.fitting.on_rows.0; writes = t.fitting.fits.0; vars = t.fitting.fits.3; fits = t.fitting.fits.5; state = first_state };
+    fitting = record { writes = t.fitting.fits.0; vars = t.fitting.fits.3; fits = t.fitting.fits.5; state = first_state };
     item = t.item;
     room = blank_room a mid0 bm;
   }
@@ -149,7 +149,7 @@ module _ (k a b : Kern) (at count port : ℕ) (x : item.Item) (st mine rest : Li
       pub second_of : CanTakeAll b items rest last0
       second_of = record {
         reads = m ∷ [];
-        fitting = record { on_rows = t.fitting.on_rows.1; writes = t.fitting.fits.2; vars = t.fitting.fits.4; fits = t.fitting.fits.7; state = second_state };
+        fitting = record { writes = t.fitting.fits.2; vars = t.fitting.fits.4; fits = t.fitting.fits.7; state = second_state };
         items = items_held;
         room = blank_room b last0 bl;
       }
@@ -194,4 +194,4 @@ parts_fire k a b at count port x st mine rest mine' rest' out new mid0 mid last0
 pub takes_again : (k : Kern) (p q : ℕ) (i j : item.Item) (e e' : Emit) (st st' : List State) (t : CanTake k p i st e) → FiresAt k p i e e' st st' → IsHeldOf t.reads q j → CanTake k q j st' e'
 takes_again k p q i j e e' st st' t f h =
     let d = fires_again k p i e e' st st' t f in
-    record { reads = t.reads; fitting = record { on_rows = t.fitting.on_rows; writes = t.fitting.writes; vars = t.fitting.vars; fits = t.fitting.fits; state = d.0 }; item = h; room = d.1 }
+    record { reads = t.reads; fitting = record { writes = t.fitting.writes; vars = t.fitting.vars; fits = t.fitting.fits; state = d.0 }; item = h; room = d.1 }

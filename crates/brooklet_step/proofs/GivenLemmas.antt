@@ -12,10 +12,10 @@ use Rattle.river_kernels.specs.declared.types.VarKind.{VarKind}
 use Rattle.river_kernels.specs.Fits.{Fits}
 use Rattle.river_kernels.specs.Types.{types_of}
 use Rattle.river_kernels.specs.Kern.{Kern, code, filter, duplicate, deal, collect, packed, unpack, window, select, project, cross, streamer, tally, fused}
-use Rattle.brooklet_model.specs.Firings.{Kept, Slots, Buffered, Turn, Joining, Same, and_then}
+use Rattle.brooklet_model.specs.Firings.{Kept, Slots, Buffered, Turn, Joining, Received, Crossing, Same, and_then}
 use Rattle.brooklet_model.specs.Fire.{fire, first_kept, privates, kept_vars}
 use Rattle.brooklet_model.specs.Shapes.{IsShaped, HasShape}
-use Rattle.brooklet_model.specs.Typed.{IsTyped, IsOf, AreOf, AreWaiting, Holds, between}
+use Rattle.brooklet_model.specs.Typed.{IsTyped, IsOf, AreOf, AreWaiting, AreReceived, ArePaired, Holds, between}
 use Rattle.brooklet_model.specs.Words.{Word, run, at_port, word_of}
 use Rattle.brooklet_model.proofs.Lists.{take_front, drop_front}
 use Rattle.brooklet_model.proofs.Ports.{shaped}
@@ -143,11 +143,17 @@ fit_of (deal ws) is st ks h t = record { now = h.now; code = h.code; turn = h.tu
 fit_of (collect ws) is st ks h t = record { now = h.now; code = h.code; joined = h.joined; items = fit_joined is h.now ks h.defined t }
 fit_of (packed k) is st ks h t = absurd h
 fit_of (unpack n) is st ks h t = record { now = h.now; code = h.code; joined = h.joined; items = fit_joined is h.now ks h.defined t }
-fit_of (window w) is st ks h t = h
-fit_of (select e) is st ks h t = h
-fit_of (project es) is st ks h t = h
-fit_of cross is st ks h t = h
-fit_of (streamer s) is st ks h t = h
+fit_of (window w) is st ks h t =
+    let r : AreReceived is (Received h.past ∷ []) = subst (AreReceived is) h.defined t in
+    record { now = h.now; code = h.code; past = h.past; received = all_held is 0 h.past r; stands = h.stands }
+fit_of (select e) is st ks h t = h.code
+fit_of (project es) is st ks h t = h.code
+fit_of cross is st ks h t =
+    let r : ArePaired is (Crossing h.now ∷ []) = subst (ArePaired is) h.defined t in
+    record { now = h.now; code = h.code; left = all_held is 0 h.now.left r.0; right = all_held is 1 h.now.right r.1 }
+fit_of (streamer s) is st ks h t =
+    let r : AreReceived is (Received h.past ∷ []) = subst (AreReceived is) h.defined t in
+    record { now = h.now; code = h.code; past = h.past; received = all_held is 0 h.past r; stands = h.stands; ascends = h.ascends }
 fit_of tally is st ks h t = h.code
 fit_of (fused a b at) is st ks h t = absurd h
 
@@ -155,7 +161,7 @@ kept_slots : (zs : List ℤ) (st : List State) → FitSlots zs st → (ks : List
 kept_slots [] st h = ([], record { code = h; defined = refl })
 kept_slots (z ∷ zs) st h = (Slots h.slots ∷ [], record { slots = h.slots; code = h.code; defined = refl; count = h.count })
 
--- and states that fit stand for some, where the kernel is on rows
+-- and states that fit stand for some, where no kernel is inside
 pub leaf_kept : (k : Kern) (is : List QueueType) (st : List State) → IsLeaf k → FitState k is st → (ks : List Kept) × StandsFor k st ks × Holds k is ks
 leaf_kept (code k) is st l h = let s = kept_slots k.starts st h in (s.0, s.1, tt)
 leaf_kept (filter f) is st l h =
@@ -176,11 +182,11 @@ leaf_kept (deal ws) is st l h = (Turn h.now.port h.now.had ∷ [], record { now 
 leaf_kept (collect ws) is st l h = (Joining h.now ∷ [], record { now = h.now; code = h.code; defined = refl; joined = h.joined }, (λ p. all_typed is p (list_at h.now.lists p) (h.items p)))
 leaf_kept (packed k) is st l h = absurd l
 leaf_kept (unpack n) is st l h = (Joining h.now ∷ [], record { now = h.now; code = h.code; defined = refl; joined = h.joined }, (λ p. all_typed is p (list_at h.now.lists p) (h.items p)))
-leaf_kept (window w) is st l h = absurd l
-leaf_kept (select e) is st l h = absurd l
-leaf_kept (project es) is st l h = absurd l
-leaf_kept cross is st l h = absurd l
-leaf_kept (streamer s) is st l h = absurd l
+leaf_kept (window w) is st l h = (Received h.past ∷ [], record { now = h.now; past = h.past; code = h.code; defined = refl; stands = h.stands }, all_typed is 0 h.past h.received)
+leaf_kept (select e) is st l h = ([], record { code = h; defined = refl }, tt)
+leaf_kept (project es) is st l h = ([], record { code = h; defined = refl }, tt)
+leaf_kept cross is st l h = (Crossing h.now ∷ [], record { now = h.now; code = h.code; defined = refl }, (all_typed is 0 h.now.left h.left, all_typed is 1 h.now.right h.right))
+leaf_kept (streamer s) is st l h = (Received h.past ∷ [], record { now = h.now; past = h.past; code = h.code; defined = refl; stands = h.stands; ascends = h.ascends }, all_typed is 0 h.past h.received)
 leaf_kept tally is st l h = ([], record { code = h; defined = refl }, tt)
 leaf_kept (fused a b at) is st l h = absurd l
 
@@ -197,11 +203,11 @@ fit_length (deal ws) is st h = ap length h.code
 fit_length (collect ws) is st h = ap length h.code
 fit_length (packed k) is st h = fit_length k is st h
 fit_length (unpack n) is st h = ap length h.code
-fit_length (window w) is st h = absurd h
-fit_length (select e) is st h = absurd h
-fit_length (project es) is st h = absurd h
-fit_length cross is st h = absurd h
-fit_length (streamer s) is st h = absurd h
+fit_length (window w) is st h = ap length h.code
+fit_length (select e) is st h = ap length h
+fit_length (project es) is st h = ap length h
+fit_length cross is st h = ap length h.code
+fit_length (streamer s) is st h = ap length h.code
 fit_length tally is st h = ap length h
 fit_length (fused a b at) is st h =
     let la = fit_length a is (take (privates a) st) h.0 in
@@ -229,11 +235,11 @@ leaf_to (deal ws) st w l h = h
 leaf_to (collect ws) st w l h = h
 leaf_to (packed k) st w l h = absurd l
 leaf_to (unpack n) st w l h = h
-leaf_to (window v) st w l h = absurd l
-leaf_to (select e) st w l h = absurd l
-leaf_to (project es) st w l h = absurd l
-leaf_to cross st w l h = absurd l
-leaf_to (streamer s) st w l h = absurd l
+leaf_to (window v) st w l h = h
+leaf_to (select e) st w l h = h
+leaf_to (project es) st w l h = h
+leaf_to cross st w l h = h
+leaf_to (streamer s) st w l h = h
 leaf_to tally st w l h = h
 leaf_to (fused a b at) st w l h = absurd l
 
@@ -245,11 +251,11 @@ leaf_from (deal ws) st w l h = h
 leaf_from (collect ws) st w l h = h
 leaf_from (packed k) st w l h = absurd l
 leaf_from (unpack n) st w l h = h
-leaf_from (window v) st w l h = absurd l
-leaf_from (select e) st w l h = absurd l
-leaf_from (project es) st w l h = absurd l
-leaf_from cross st w l h = absurd l
-leaf_from (streamer s) st w l h = absurd l
+leaf_from (window v) st w l h = h
+leaf_from (select e) st w l h = h
+leaf_from (project es) st w l h = h
+leaf_from cross st w l h = h
+leaf_from (streamer s) st w l h = h
 leaf_from tally st w l h = h
 leaf_from (fused a b at) st w l h = absurd l
 

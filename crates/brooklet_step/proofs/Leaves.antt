@@ -39,7 +39,7 @@ use Rattle.brooklet_step.specs.Stands.{AreNone, AreSlots, StandsForSlots, Stands
 use Rattle.brooklet_model.proofs.Ports.{counts, shaped}
 use Rattle.brooklet_model.proofs.Typing.{fire_typed}
 use Rattle.brooklet_step.proofs.Standing.{stands_shape}
-use Rattle.brooklet_step.proofs.Formed.{can_code, can_filter}
+use Rattle.river_kernels.proofs.WellFormed.{can_code, can_filter}
 
 -- ROWS
 

@@ -1,9 +1,9 @@
 pub mod Adding
+pub mod BagLeaves
 pub mod Counted
 pub mod Fires
 pub mod FitLemmas
 pub mod FitsLemmas
-pub mod Formed
 pub mod Fused
 pub mod GivenCode
 pub mod GivenFires
@@ -13,7 +13,6 @@ pub mod KeptTables
 pub mod Leaves
 pub mod Moving
 pub mod NextLemmas
-pub mod OnRows
 pub mod OpTables
 pub mod QueuePlaces
 pub mod ReadLemmas

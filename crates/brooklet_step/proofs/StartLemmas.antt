@@ -28,12 +28,10 @@ use Rattle.brooklet_model.specs.Machine.{start}
 use Rattle.brooklet_model.specs.Laws.{given_to}
 use Rattle.brooklet_model.specs.Shapes.{IsFormed}
 use Rattle.brooklet_model.specs.Typed.{AreInputs}
-use Rattle.brooklet_step.specs.Built.{IsBuilt, IsOnRows}
 use Rattle.brooklet_model.proofs.Solutions.{written_out}
 use Rattle.brooklet_model.proofs.Traces.{some_is}
 use Rattle.brooklet_model.proofs.TypedPlan.{op_fits, inputs_typed}
 use Rattle.brooklet_model.proofs.Complete.{traced_start, nothing_given}
-use Rattle.brooklet_step.proofs.OnRows.{op_on_rows}
 use Rattle.brooklet_step.specs.declared.machine.Parts.{Parts}
 use Rattle.brooklet_step.specs.declared.state.State.{State}
 use Rattle.brooklet_step.specs.Fit.{Fit}
@@ -92,16 +90,15 @@ first_next ops i d states states' st lt e f h n =
     subst (λ (l : List OpForm). AreFirst l states') (sym (map_more op_form ops i d lt e))
     (subst (AreFirst (op_forms (take i ops) ++ op_form d ∷ [])) (sym n) (first_more (op_forms (take i ops)) (op_form d) states st f h))
 
-pub can_start_at : (ops : List Op) (i : ℕ) (d : Op) → CanStart (op_forms ops) → i < length ops → d ≡ get_or ops i d → IsFormed (kern_of d.kernel) × IsOnRows (kern_of d.kernel)
+pub can_start_at : (ops : List Op) (i : ℕ) (d : Op) → CanStart (op_forms ops) → i < length ops → d ≡ get_or ops i d → IsFormed (kern_of d.kernel)
 can_start_at ops i d c lt e =
     let s : slice_get ops i ≡ Some d = slice_get-get_or ops i d lt ∙ ap Some (sym e) in
     let g = got_map op_form ops i d s in
-    (c.formed i (op_form d) g, c.on_rows i (op_form d) g)
+    c.formed i (op_form d) g
 
-pub can_start : (p : PlanForm) → IsPlan p → IsBuilt p → CanStart p.ops
-can_start p v b = record {
+pub can_start : (p : PlanForm) → IsPlan p → CanStart p.ops
+can_start p v = record {
   formed = λ o op g. record { reads = map (kind_of (all_decls p)) op.reads; writes = map (kind_of (all_decls p)) op.writes; vars = map (var_kind p.tables p.vars) op.vars; fits = op_fits p v o op g };
-  on_rows = op_on_rows p v b;
 }
 
 -- THE FIRST QUEUES
@@ -194,10 +191,10 @@ pub record First (p : PlanForm) (inputs : List (List item.Item)) (m : Parts) : T
   pub starts : Starts p inputs m
   pub goes_on : GoesOn m
 
-pub first : (p pl : PlanForm) (inputs queues : List (List item.Item)) (cs : List ℕ) (states : List (List State)) (tables : List Kept) → IsPlan p → IsBuilt p → Fit p inputs → pl ≡ p
+pub first : (p pl : PlanForm) (inputs queues : List (List item.Item)) (cs : List ℕ) (states : List (List State)) (tables : List Kept) → IsPlan p → Fit p inputs → pl ≡ p
     → queues ≡ replicate (length p.outputs) [] ++ (inputs ++ replicate (length p.queues) []) → AreFirst p.ops states → cs ≡ replicate (length p.ops) 0 → tables ≡ kept_tables p.tables (λ n. [])
     → First p inputs (record { plan = pl; queues = queues; tables = tables; states = states; counts = cs; stopped = false })
-first p pl inputs queues cs states tables v b fit pe qe f ce te =
+first p pl inputs queues cs states tables v fit pe qe f ce te =
     let m : Parts = record { plan = p; queues = queues; tables = tables; states = states; counts = cs; stopped = false } in
     let many : length queues ≡ length (queue_names p) = ap length qe ∙ queues_many p v inputs fit in
     let kinds = kind_of (all_decls p) in
@@ -221,7 +218,6 @@ first p pl inputs queues cs states tables v b fit pe qe f ce te =
       starts = record { plan = refl; running = refl; stands = stands; counts = cs_are };
       goes_on = record {
         valid = v;
-        built = b;
         laid_out = record {
           queues = many;
           states = f.count;
@@ -236,14 +232,14 @@ first p pl inputs queues cs states tables v b fit pe qe f ce te =
     })
 
 -- the same in the terms of the code
-pub first_by : (raw : RawPlan) (p pl : PlanForm) (inputs queues : List (List item.Item)) (cs : List ℕ) (states : List (List State)) (tables : List Kept) → IsPlan p → IsBuilt p → Fit p inputs → plan_form raw ≡ p → pl ≡ p
+pub first_by : (raw : RawPlan) (p pl : PlanForm) (inputs queues : List (List item.Item)) (cs : List ℕ) (states : List (List State)) (tables : List Kept) → IsPlan p → Fit p inputs → plan_form raw ≡ p → pl ≡ p
     → queues ≡ replicate (length raw.outputs) [] ++ (inputs ++ replicate (length raw.queues) []) → AreFirst (op_forms raw.ops) states → cs ≡ replicate (length raw.ops) 0 → tables ≡ kept_tables raw.tables (λ n. [])
     → First p inputs (record { plan = pl; queues = queues; tables = tables; states = states; counts = cs; stopped = false })
-first_by raw p pl inputs queues cs states tables v bu fit e pe qe fs ce te =
+first_by raw p pl inputs queues cs states tables v fit e pe qe fs ce te =
     let m : Parts = record { plan = pl; queues = queues; tables = tables; states = states; counts = cs; stopped = false } in
     subst (λ (x : PlanForm). First x inputs m) e
-    (first (plan_form raw) pl inputs queues cs states tables (subst IsPlan (sym e) v) (subst IsBuilt (sym e) bu) (subst (λ (x : PlanForm). Fit x inputs) (sym e) fit) (pe ∙ sym e)
+    (first (plan_form raw) pl inputs queues cs states tables (subst IsPlan (sym e) v) (subst (λ (x : PlanForm). Fit x inputs) (sym e) fit) (pe ∙ sym e)
     qe fs (ce ∙ ap (λ (i : ℕ). replicate i 0) (sym (length-map raw.ops op_form))) te)
 
-pub can_start_by : (raw : RawPlan) (p : PlanForm) → plan_form raw ≡ p → IsPlan p → IsBuilt p → CanStart (op_forms raw.ops)
-can_start_by raw p e v b = subst (λ (x : PlanForm). CanStart x.ops) (sym e) (can_start p v b)
+pub can_start_by : (raw : RawPlan) (p : PlanForm) → plan_form raw ≡ p → IsPlan p → CanStart (op_forms raw.ops)
+can_start_by raw p e v = subst (λ (x : PlanForm). CanStart x.ops) (sym e) (can_start p v)

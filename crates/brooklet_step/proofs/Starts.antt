@@ -1,11 +1,20 @@
 -- The first states of kernels.
-use Rattle.std.proofs.Common.{◌≡◌, ℕ, ℤ, Ok, Err, List, [], ◌∷◌, ◌++◌, length, refl, sym, ap, ◌∙◌, subst, IfOk}
+use Rattle.std.proofs.Common.{◌≡◌, ℕ, zero, suc, ◌-◌, ℤ, pos, drop, Ok, Err, List, [], ◌∷◌, ◌++◌, length, refl, sym, ap, ◌∙◌, subst, arith, IfOk}
 use Rattle.std.proofs.lemmas.List.{length-map, length-replicate}
 use Rattle.std.specs.declared.result.Result.{Result}
 use Rattle.river_base.specs.declared.memory.NoMemory.{NoMemory}
 use Rattle.river_base.specs.Number.{count_of}
 use Rattle.river_base.specs.declared.kind.QueueType.{QueueType}
 use Rattle.river_base.specs.declared.kind.QueueType.TheVariants.{Flat as FlatOf}
+use Rattle.work_code.specs.Term.{term, terms}
+use Rattle.work_code.specs.declared.expr.Expr.{Expr}
+use Rattle.work_code.specs.declared.expr.Exprs.{Exprs}
+use Rattle.kern_bags.specs.Kept.{window_start, still_in, StandsForStreamer}
+use Rattle.kern_bags.specs.Steps.{pairing_start}
+use Rattle.kern_bags.specs.declared.kernel.Window.{Window}
+use Rattle.kern_bags.specs.declared.kernel.Streamer.{Streamer}
+use Rattle.kern_bags.specs.declared.kernel.Streamer.TheVariants.{Istream, Dstream, Rstream}
+use Rattle.kern_bags.specs.declared.kernel.Window.TheVariants.{Now, Range, Unbounded, Latest}
 use Rattle.kern_rows.specs.declared.kernel.CodeKernel.{CodeKernel}
 use Rattle.kern_rows.specs.Forms.{FilterForm, code_form}
 use Rattle.kern_rows.specs.Needs.{CanFilter, HaveShares}
@@ -13,7 +22,7 @@ use Rattle.kern_rows.specs.Turns.{shares, ones, turns_start}
 use Rattle.river_kernels.specs.declared.kernel.Kernel.{fold-roll-Kernel}
 use Rattle.river_kernels.specs.declared.kernel.Kernel.TheVariants as kernel
 use Rattle.river_kernels.specs.declared.kernel.Kernel.TheOpen as layer
-use Rattle.river_kernels.specs.Kern.{Kern, kern_of, kern_at, code, filter, deal, collect, packed, unpack, fused}
+use Rattle.river_kernels.specs.Kern.{Kern, kern_of, kern_at, code, filter, deal, collect, packed, unpack, window, select, project, cross, streamer, fused}
 use Rattle.brooklet_model.specs.Fire.{first_kept, first_slots}
 use Rattle.brooklet_model.specs.Shapes.{IsFormed}
 use Rattle.brooklet_model.proofs.Ports.{formed_shaped}
@@ -25,7 +34,7 @@ use Rattle.brooklet_step.specs.declared.state.State.TheVariants as state
 use Rattle.brooklet_step.specs.Given.{FitState, IsLeaf}
 use Rattle.brooklet_step.specs.Initial.{IsFirst}
 use Rattle.brooklet_step.specs.Stands.{StandsForSlots, StandsFor}
-use Rattle.brooklet_step.proofs.Formed.{can_filter}
+use Rattle.river_kernels.proofs.WellFormed.{can_filter}
 use Rattle.brooklet_step.proofs.GivenLemmas.{fit_of, leaf_from, parts_fit, parts_after}
 
 -- what is said of each value is said of an answer
@@ -68,6 +77,31 @@ unpack_first n st h e = record {
   defined = refl;
   joined = record { turn = first_turn (ones n) (formed_shaped (unpack n) h); lists = length-replicate n [] ∙ sym (length-replicate n 1) };
 }
+
+drop_none : {A : Type 0} (n : ℕ) → drop {A = A} n [] ≡ []
+drop_none zero = refl
+drop_none (suc n) = refl
+
+still_none : (w : Window) (t : ℤ) → still_in w t [] ≡ []
+still_none Now t = refl
+still_none (Range span) t = refl
+still_none Unbounded t = refl
+still_none (Latest n) t = drop_none (0 - n)
+
+-- a window of which no batch has come
+pub window_first : (w : Window) (st : List State) → st ≡ state.Window window_start ∷ [] → LeafFirst (window w) st
+window_first w st e = record { now = window_start; past = []; code = e; defined = refl; stands = record { now = refl; rows = sym (still_none w (pos 0)) } }
+
+pub cross_first : (st : List State) → st ≡ state.Cross pairing_start ∷ [] → LeafFirst cross st
+cross_first st e = record { now = pairing_start; code = e; defined = refl }
+
+pub streamer_first : (s : Streamer) (st : List State) → st ≡ state.Streamer [] ∷ [] → LeafFirst (streamer s) st
+streamer_first s st e = record { now = []; past = []; code = e; defined = refl; stands = nothing_kept s; ascends = λ k d from to. absurd (omega arith) }
+  where
+    nothing_kept : (s : Streamer) → StandsForStreamer s [] []
+    nothing_kept Istream = refl
+    nothing_kept Dstream = refl
+    nothing_kept Rstream = tt
 
 pub inner_formed : (k : Kern) → IsFormed (packed k) → IsFormed k
 inner_formed k h = record { reads = FlatOf h.fits.0 ∷ []; writes = FlatOf h.fits.1 ∷ []; vars = []; fits = h.fits.5 }
@@ -113,6 +147,21 @@ kern_of-deal ws = ap kern_of (sym (kernel.rolls-Deal ws)) ∙ fold-roll-Kernel K
 
 pub kern_of-collect : (ws : List ℤ) → kern_of (kernel.Collect ws) ≡ collect ws
 kern_of-collect ws = ap kern_of (sym (kernel.rolls-Collect ws)) ∙ fold-roll-Kernel Kern kern_at (layer.Collect ws)
+
+pub kern_of-window : (w : Window) → kern_of (kernel.Window w) ≡ window w
+kern_of-window w = ap kern_of (sym (kernel.rolls-Window w)) ∙ fold-roll-Kernel Kern kern_at (layer.Window w)
+
+pub kern_of-select : (e : Expr) → kern_of (kernel.Select e) ≡ select (term e)
+kern_of-select e = ap kern_of (sym (kernel.rolls-Select e)) ∙ fold-roll-Kernel Kern kern_at (layer.Select e)
+
+pub kern_of-project : (es : Exprs) → kern_of (kernel.Project es) ≡ project (terms es)
+kern_of-project es = ap kern_of (sym (kernel.rolls-Project es)) ∙ fold-roll-Kernel Kern kern_at (layer.Project es)
+
+pub kern_of-cross : kern_of kernel.Cross ≡ cross
+kern_of-cross = ap kern_of (sym kernel.rolls-Cross) ∙ fold-roll-Kernel Kern kern_at layer.Cross
+
+pub kern_of-streamer : (s : Streamer) → kern_of (kernel.Streamer s) ≡ streamer s
+kern_of-streamer s = ap kern_of (sym (kernel.rolls-Streamer s)) ∙ fold-roll-Kernel Kern kern_at (layer.Streamer s)
 
 pub kern_of-unpack : (n : ℕ) → kern_of (kernel.Unpack n) ≡ unpack n
 kern_of-unpack n = ap kern_of (sym (kernel.rolls-Unpack n)) ∙ fold-roll-Kernel Kern kern_at (layer.Unpack n)

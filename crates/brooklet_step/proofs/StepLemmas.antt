@@ -41,7 +41,6 @@ use Rattle.brooklet_step.specs.Took.{IsBlank}
 use Rattle.brooklet_step.specs.Works.{queue_of, kinds_of, states_of, count_of, Stands, ReadsAt, Counts, GoesOn, After, Steps}
 use Rattle.brooklet_step.proofs.GivenLemmas.{typed_append, fired_typed}
 use Rattle.brooklet_step.proofs.Fires.{blank_room}
-use Rattle.brooklet_step.proofs.OnRows.{op_on_rows}
 use Rattle.river_plan.specs.Places.{place, places}
 use Rattle.river_plan.proofs.PlaceLemmas.{place_below, place_apart}
 use Rattle.brooklet_step.proofs.KeptTables.{kept_next}
@@ -83,7 +82,6 @@ pub can_take : (m : Parts) (o port : ℕ) (q : Name) (i : item.Item) (rest : Lis
 can_take m o port q i rest st out g r hx es b = record {
   reads = map (kinds_of m) r.op.reads;
   fitting = record {
-    on_rows = op_on_rows m.plan g.valid g.built o r.op r.op_is;
     writes = map (kinds_of m) r.op.writes;
     vars = map (var_kind m.plan.tables m.plan.vars) r.op.vars;
     fits = op_fits m.plan g.valid o r.op r.op_is;
@@ -387,7 +385,6 @@ module _ (m : Parts) (o port : ℕ) (q : Name) (i : item.Item) (rest : List item
       let a = after g.ran.state g.ran.stands in
       record {
         valid = g.valid;
-        built = g.built;
         laid_out = record {
           queues = ap length eq ∙ length-each_grew base (joined_at (places names r.op.writes) (list_at out.outs)) ∙ base_many ∙ l.queues;
           states = length-set m.states o st ∙ l.states;

@@ -2,12 +2,16 @@
 use Rattle.std.specs.Prelude.{◌≡◌, ℕ, ℤ, ◌<◌, Option, Some, None, List, [], ◌∷◌, ◌++◌, All, length, take, drop, slice_get}
 use Rattle.river_base.specs.declared.item.Item as item
 use Rattle.river_base.specs.declared.kind.QueueType.{QueueType}
-use Rattle.river_base.specs.Held.{held, IsHeld}
+use Rattle.river_base.specs.Held.{held, IsHeld, IsAscending}
 use Rattle.river_base.specs.Places.{each_grew, list_at}
 use Rattle.kern_rows.specs.Forms.{FilterForm}
 use Rattle.kern_rows.specs.Needs.{IsJoiner}
 use Rattle.kern_rows.specs.Stands.{Waiting, Dealing}
 use Rattle.kern_rows.specs.Turns.{Turns, IsTurn, shares, ones}
+use Rattle.kern_bags.specs.Kept.{WindowKept, StandsForWindow, StandsForStreamer}
+use Rattle.kern_bags.specs.Steps.{Pairing}
+use Rattle.kern_bags.specs.declared.kernel.Streamer.{Streamer}
+use Rattle.kern_bags.specs.declared.kernel.Window.{Window}
 use Rattle.river_kernels.specs.declared.types.VarKind.{VarKind}
 use Rattle.river_kernels.specs.Fits.{Fits}
 use Rattle.river_kernels.specs.Types.{types_of}
@@ -19,7 +23,6 @@ use Rattle.brooklet_model.specs.Words.{Word, run, at_port, word_of}
 use Rattle.brooklet_step.specs.declared.emit.Emit.{Emit}
 use Rattle.brooklet_step.specs.declared.state.State.{State}
 use Rattle.brooklet_step.specs.declared.state.State.TheVariants as state
-use Rattle.brooklet_step.specs.Built.{IsOnRows}
 use Rattle.brooklet_step.specs.Stands.{StandsFor}
 use Rattle.brooklet_step.specs.Took.{HasRoom}
 
@@ -78,6 +81,30 @@ pub record FitJoiner (wrap : Turns → State) (ws : List ℕ) (reads : List Queu
   pub joined : IsJoiner ws now
   pub items : AreHeldOf reads (list_at now.lists)
 
+-- what a window keeps of some items of its port's type
+pub record FitWindow (w : Window) (reads : List QueueType) (st : List State) : Type 0 where
+  pub now : WindowKept
+  pub code : st ≡ state.Window now ∷ []
+  pub past : List item.Item
+  pub received : All (IsHeldOf reads 0) past
+  pub stands : StandsForWindow w now past
+
+-- what a streamer keeps of some
+pub record FitStreamer (s : Streamer) (reads : List QueueType) (st : List State) : Type 0 where
+  pub now : List (List ℤ)
+  pub code : st ≡ state.Streamer now ∷ []
+  pub past : List item.Item
+  pub received : All (IsHeldOf reads 0) past
+  pub stands : StandsForStreamer s now past
+  pub ascends : IsAscending now
+
+-- what waits at the ports of a product is of their types
+pub record FitCross (reads : List QueueType) (st : List State) : Type 0 where
+  pub now : Pairing
+  pub code : st ≡ state.Cross now ∷ []
+  pub left : All (IsHeldOf reads 0) now.left
+  pub right : All (IsHeldOf reads 1) now.right
+
 -- the states are the kernel's own, and what they keep is what queues of these types may hold. It speaks of the states alone: of
 -- no state of the definition and of no word, since a task also fires on items of which it does not yet know what they stand for
 abbrev pub FitState : Kern → List QueueType → List State → Type 0
@@ -88,11 +115,11 @@ FitState (deal ws) reads st = FitTurn (shares ws) st
 FitState (collect ws) reads st = FitJoiner (λ s. state.Collect s) (shares ws) reads st
 FitState (packed k) reads st = FitState k reads st
 FitState (unpack n) reads st = FitJoiner (λ s. state.Unpack s) (ones n) reads st
-FitState (window w) reads st = ⊥
-FitState (select e) reads st = ⊥
-FitState (project es) reads st = ⊥
-FitState cross reads st = ⊥
-FitState (streamer s) reads st = ⊥
+FitState (window w) reads st = FitWindow w reads st
+FitState (select e) reads st = st ≡ []
+FitState (project es) reads st = st ≡ []
+FitState cross reads st = FitCross reads st
+FitState (streamer s) reads st = FitStreamer s reads st
 FitState tally reads st = st ≡ []
 FitState (fused a b at) reads st = FitState a reads (take (privates a) st) × FitState b (between at (types_of a reads)) (drop (privates a) st)
 
@@ -105,11 +132,11 @@ IsLeaf (deal ws) = Unit {0}
 IsLeaf (collect ws) = Unit {0}
 IsLeaf (packed k) = ⊥
 IsLeaf (unpack n) = Unit {0}
-IsLeaf (window w) = ⊥
-IsLeaf (select e) = ⊥
-IsLeaf (project es) = ⊥
-IsLeaf cross = ⊥
-IsLeaf (streamer s) = ⊥
+IsLeaf (window w) = Unit {0}
+IsLeaf (select e) = Unit {0}
+IsLeaf (project es) = Unit {0}
+IsLeaf cross = Unit {0}
+IsLeaf (streamer s) = Unit {0}
 IsLeaf tally = Unit {0}
 IsLeaf (fused a b at) = ⊥
 
@@ -128,11 +155,11 @@ StandsAfter (deal ws) st w = StandsFor (deal ws) st (ran (deal ws) w).states
 StandsAfter (collect ws) st w = StandsFor (collect ws) st (ran (collect ws) w).states
 StandsAfter (packed k) st w = StandsAfter k st w
 StandsAfter (unpack n) st w = StandsFor (unpack n) st (ran (unpack n) w).states
-StandsAfter (window v) st w = ⊥
-StandsAfter (select e) st w = ⊥
-StandsAfter (project es) st w = ⊥
-StandsAfter cross st w = ⊥
-StandsAfter (streamer s) st w = ⊥
+StandsAfter (window v) st w = StandsFor (window v) st (ran (window v) w).states
+StandsAfter (select e) st w = StandsFor (select e) st (ran (select e) w).states
+StandsAfter (project es) st w = StandsFor (project es) st (ran (project es) w).states
+StandsAfter cross st w = StandsFor cross st (ran cross w).states
+StandsAfter (streamer s) st w = StandsFor (streamer s) st (ran (streamer s) w).states
 StandsAfter tally st w = StandsFor tally st (ran tally w).states
 StandsAfter (fused a b at) st w = StandsAfter a (take (privates a) st) w × StandsAfter b (drop (privates a) st) (word_of 0 ((ran a w).outs at))
 
@@ -182,7 +209,6 @@ pub record FiresEach (k : Kern) (is : List item.Item) (out new : Emit) (st st' :
 -- WHEN FIRINGS CAN BE MADE
 
 pub record Fitting (k : Kern) (reads : List QueueType) (st : List State) : Type 0 where
-  pub on_rows : IsOnRows k
   pub writes : List QueueType
   pub vars : List VarKind
   pub fits : Fits k reads writes vars

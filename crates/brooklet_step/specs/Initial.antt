@@ -7,14 +7,12 @@ use Rattle.river_kernels.specs.Fits.{Fits}
 use Rattle.river_kernels.specs.Kern.{Kern}
 use Rattle.river_plan.specs.Forms.{OpForm}
 use Rattle.brooklet_model.specs.Shapes.{IsFormed}
-use Rattle.brooklet_step.specs.Built.{IsOnRows}
 use Rattle.brooklet_step.specs.declared.state.State.{State}
 use Rattle.brooklet_step.specs.Given.{FitState, StandsAfter}
 
--- each kernel fits some types, and is on rows alone
+-- each kernel fits some types
 pub record CanStart (ops : List OpForm) : Type 0 where
   pub formed : (o : ℕ) (op : OpForm) → slice_get ops o ≡ Some op → IsFormed op.kernel
-  pub on_rows : (o : ℕ) (op : OpForm) → slice_get ops o ≡ Some op → IsOnRows op.kernel
 
 -- the states stand for those before the first firing, and fit under each choice of types
 pub record IsFirst (k : Kern) (st : List State) : Type 0 where

@@ -3,10 +3,18 @@ use Rattle.std.specs.Prelude.{◌≡◌, ℕ, ℤ, List, [], ◌∷◌, length}
 use Rattle.river_base.specs.declared.item.Item as item
 use Rattle.river_base.specs.declared.item.Item.TheVariants.{Flat, Pack}
 use Rattle.river_base.specs.declared.item.Flat as flat
-use Rattle.river_base.specs.declared.item.Flat.TheVariants.{One}
+use Rattle.river_base.specs.declared.item.Flat.TheVariants.{One, Batch as Batched}
+use Rattle.river_base.specs.declared.item.Batch.{Batch}
 use Rattle.river_base.specs.declared.kind.QueueType.{QueueType}
+use Rattle.river_base.specs.Held.{IsAscending}
 use Rattle.river_base.specs.Places.{none}
 use Rattle.work_code.specs.Steps.{Body}
+use Rattle.kern_bags.specs.Kept.{WindowKept, IsWindowKept, Steps}
+use Rattle.kern_bags.specs.Kept as bags
+use Rattle.kern_bags.specs.Needs.{CanCross}
+use Rattle.kern_bags.specs.Steps.{Pairing, put_pair, crosses}
+use Rattle.kern_bags.specs.declared.kernel.Streamer.{Streamer}
+use Rattle.kern_bags.specs.declared.kernel.Window.{Window}
 use Rattle.kern_rows.specs.Forms.{CodeForm, FilterForm}
 use Rattle.kern_rows.specs.Needs.{IsJoiner}
 use Rattle.kern_rows.specs.Runs.{Filtering, run_kept, pushed_to}
@@ -15,7 +23,7 @@ use Rattle.kern_rows.specs.Turns.{Turns, IsTurn, shares, ones}
 use Rattle.river_kernels.specs.declared.types.VarKind.{VarKind}
 use Rattle.river_kernels.specs.Fits.{Fits}
 use Rattle.river_kernels.specs.Kern.{Kern, code, filter, duplicate, deal, collect, packed, unpack, window, select, project, cross, streamer, tally, fused}
-use Rattle.brooklet_model.specs.Firings.{Kept, Slots, Buffered, Turn, Joining, Fired}
+use Rattle.brooklet_model.specs.Firings.{Kept, Slots, Buffered, Turn, Joining, Received, Crossing, Fired, gives}
 use Rattle.brooklet_model.specs.Fire.{code_one}
 use Rattle.brooklet_model.specs.Typed.{IsOf, Holds}
 use Rattle.brooklet_step.specs.declared.emit.Emit.{Emit}
@@ -63,6 +71,29 @@ pub record StandsForJoiner (wrap : Turns → State) (ws : List ℕ) (st : List S
   pub defined : ks ≡ Joining now ∷ []
   pub joined : IsJoiner ws now
 
+-- what a window keeps of all that it has received
+pub record StandsForWindow (w : Window) (st : List State) (ks : List Kept) : Type 0 where
+  pub now : WindowKept
+  pub past : List item.Item
+  pub code : st ≡ state.Window now ∷ []
+  pub defined : ks ≡ Received past ∷ []
+  pub stands : bags.StandsForWindow w now past
+
+-- what a streamer keeps of all that it has received, in ascending order
+pub record StandsForStreamer (s : Streamer) (st : List State) (ks : List Kept) : Type 0 where
+  pub now : List (List ℤ)
+  pub past : List item.Item
+  pub code : st ≡ state.Streamer now ∷ []
+  pub defined : ks ≡ Received past ∷ []
+  pub stands : bags.StandsForStreamer s now past
+  pub ascends : IsAscending now
+
+-- what waits at the ports of a product
+pub record StandsForCross (st : List State) (ks : List Kept) : Type 0 where
+  pub now : Pairing
+  pub code : st ≡ state.Cross now ∷ []
+  pub defined : ks ≡ Crossing now ∷ []
+
 -- the states that the code keeps stand for these, of a kernel without a kernel inside. Those of other kernels stand for what they
 -- are after a word of firings, and not for states alone
 abbrev pub StandsFor : Kern → List State → List Kept → Type 0
@@ -73,11 +104,11 @@ StandsFor (deal ws) st ks = StandsForTurn (shares ws) st ks
 StandsFor (collect ws) st ks = StandsForJoiner (λ s. state.Collect s) (shares ws) st ks
 StandsFor (packed k) st ks = ⊥
 StandsFor (unpack n) st ks = StandsForJoiner (λ s. state.Unpack s) (ones n) st ks
-StandsFor (window w) st ks = ⊥
-StandsFor (select e) st ks = ⊥
-StandsFor (project es) st ks = ⊥
-StandsFor cross st ks = ⊥
-StandsFor (streamer s) st ks = ⊥
+StandsFor (window w) st ks = StandsForWindow w st ks
+StandsFor (select e) st ks = AreNone st ks
+StandsFor (project es) st ks = AreNone st ks
+StandsFor cross st ks = StandsForCross st ks
+StandsFor (streamer s) st ks = StandsForStreamer s st ks
 StandsFor tally st ks = AreNone st ks
 StandsFor (fused a b at) st ks = ⊥
 
@@ -90,6 +121,55 @@ pub record IsRow (x : item.Item) : Type 0 where
 pub record IsPack (x : item.Item) : Type 0 where
   pub flats : List flat.Flat
   pub is : x ≡ Pack flats
+
+-- the item is a batch
+pub record IsBatch (x : item.Item) : Type 0 where
+  pub batch : Batch
+  pub is : x ≡ Flat (Batched batch)
+
+-- the item is no pack, and this holds of it
+pub record IsFlatWith (P : flat.Flat → Type 0) (x : item.Item) : Type 0 where
+  pub content : flat.Flat
+  pub is : x ≡ Flat content
+  pub holds : P content
+
+abbrev pub IsFlat : item.Item → Type 0
+IsFlat x = IsFlatWith (λ f. Unit {0}) x
+
+-- the state is what a window keeps
+pub record IsWindowState (w : Window) (s : State) : Type 0 where
+  pub now : WindowKept
+  pub is : s ≡ state.Window now
+  pub kept : IsWindowKept w now
+
+-- the state is what a streamer keeps
+pub record IsStreamerState (s : State) : Type 0 where
+  pub now : List (List ℤ)
+  pub is : s ≡ state.Streamer now
+  pub ascends : IsAscending now
+
+-- the state is what a product keeps, and its rows can be joined once the item has come to this port
+pub record IsCrossState (port : ℕ) (x : item.Item) (s : State) : Type 0 where
+  pub now : Pairing
+  pub is : s ≡ state.Cross now
+  pub can : CanCross (put_pair port x now)
+
+-- a window or a streamer received the item: what its step gave came to the first list
+pub record Stepped {S : Type 0} (wrap : S → State) (stands_for : S → List item.Item → Type 0) (one : List item.Item → item.Item → List item.Item) (x : item.Item) (s s' : State) (out out' : Emit) : Type 0 where
+  pub old : S
+  pub new : S
+  pub given : List item.Item
+  pub was : s ≡ wrap old
+  pub is : s' ≡ wrap new
+  pub steps : Steps stands_for one x old new [] given
+  pub took : Took out out' (gives 0 given [])
+
+-- the item came to a port of a product: the pairs that passed came to the first list
+pub record Paired (port : ℕ) (x : item.Item) (s s' : State) (out out' : Emit) : Type 0 where
+  pub old : Pairing
+  pub was : s ≡ state.Cross old
+  pub is : s' ≡ state.Cross (crosses port x old).1
+  pub took : Took out out' (gives 0 (crosses port x old).0 [])
 
 -- the state is so many slots
 pub record IsSlots (n : ℕ) (s : State) : Type 0 where

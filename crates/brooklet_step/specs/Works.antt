@@ -18,7 +18,6 @@ use Rattle.brooklet_model.specs.Typed.{AreInputs}
 use Rattle.brooklet_model.specs.Words.{Word}
 use Rattle.brooklet_step.specs.declared.machine.Parts.{Parts}
 use Rattle.brooklet_step.specs.declared.state.State.{State}
-use Rattle.brooklet_step.specs.Built.{IsBuilt}
 use Rattle.brooklet_step.specs.Given.{AreTyped, FitState, StandsAfter}
 use Rattle.brooklet_step.specs.Tables.{kept_tables}
 
@@ -85,7 +84,6 @@ pub record IsLaidOut (m : Parts) : Type 0 where
 -- a machine that goes on stands for a state of the definition: the state after some run from some inputs of its plan
 pub record GoesOn (m : Parts) : Type 0 where
   pub valid : IsPlan m.plan
-  pub built : IsBuilt m.plan
   pub laid_out : IsLaidOut m
   pub fit : (o : ℕ) (op : OpForm) → slice_get m.plan.ops o ≡ Some op → FitState op.kernel (map (kinds_of m) op.reads) (states_of m o)
   pub items : (q : Name) → 0 < count q (queue_names m.plan) → All (IsHeld (kinds_of m q)) (queue_of m q)

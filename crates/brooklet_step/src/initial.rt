@@ -1,7 +1,6 @@
 // A machine before its first firing.
 ghost use Rattle.std.specs.Prelude.{◌≡◌, ◌++◌, ◌∷◌, [], false, length, replicate, IfOk, OnOk};
 ghost use Rattle.river_plan.specs.Forms.{op_forms};
-ghost use Rattle.brooklet_step.specs.Built.{IsBuilt};
 ghost use Rattle.brooklet_step.specs.Fit.{Fit};
 ghost use Rattle.brooklet_step.specs.Works.{GoesOn, Starts};
 ghost use Rattle.brooklet_step.specs.Initial.{AreFirst, CanStart};
@@ -12,15 +11,14 @@ use crate::machine::{Lines, Parts, Sizes, Tables};
 use crate::start::first_states;
 use crate::{Inputs, States};
 use kern_rows::Line;
-use river_base::{Listed, NoMemory};
 use kern_tables::Table;
+use river_base::{Listed, NoMemory};
 use river_plan::{Ops, Plan, RawPlan, TableDecls};
 use std::alloc::Global;
 
 /// What a machine keeps before the first firing.
 pub(crate) fn first_parts(alloc: Global, plan: &Plan, inputs: Inputs) -> Result<Parts, NoMemory>
-    requires built { IsBuilt plan.now }
-    requires fits { Fit plan.now inputs }
+    requires { Fit plan.now inputs }
     ensures starts { IfOk result (λ parts. Starts plan.now inputs parts) }
     ensures goes_on { IfOk result GoesOn }
 {

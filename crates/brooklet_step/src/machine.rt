@@ -1,7 +1,6 @@
 // Brooklet's machine.
 ghost use Rattle.std.specs.Prelude.{◌≡◌, ◌↔◌, true, false, map, IsTrue, IfOk, OnOk, OnErr};
 ghost use Rattle.river_plan.specs.Forms.{decl_names};
-ghost use Rattle.brooklet_step.specs.Built.{IsBuilt};
 ghost use Rattle.brooklet_step.specs.Fit.{Fit};
 ghost use Rattle.brooklet_step.specs.Works.{IsEnabled, Starts, Steps, AreCounts, queue_of};
 
@@ -71,8 +70,7 @@ impl Machine {
     /// The machine of a plan before the first firing: the inputs have these items, the other queues none, and the tables no rows. It
     /// stands for the first state of the definition.
     pub fn start(alloc: Global, plan: &Plan, inputs: Inputs) -> Result<Machine, NoMemory>
-        requires built { IsBuilt plan.now }
-        requires fits { Fit plan.now inputs }
+        requires { Fit plan.now inputs }
         ensures { IfOk result (λ machine. Starts plan.now inputs machine) }
     {
         Ok(Machine {

@@ -4,7 +4,6 @@ ghost use Rattle.kern_tables.specs.Kept.{rows_of};
 ghost use Rattle.river_plan.specs.Valid.{IsPlan};
 ghost use Rattle.brooklet_model.specs.Histories.{firings};
 ghost use Rattle.brooklet_model.specs.Meaning.{meaning};
-ghost use Rattle.brooklet_step.specs.Built.{IsBuilt};
 ghost use Rattle.brooklet_step.specs.Drained.{IsDrained, Follows, DrainedBefore, HasPorts, HasRun};
 ghost use Rattle.brooklet_step.specs.Fit.{Fit};
 ghost use Rattle.brooklet_step.specs.Tables.{defined_tables};
@@ -28,7 +27,6 @@ pub struct Outcome {
 /// is an item. The outputs and the rows of the tables are what the plan means; what each table keeps is what it keeps of the rows
 /// that the definition adds to it.
 pub fn run_one(alloc: Global, plan: &Plan, inputs: Inputs) -> Result<Outcome, NoMemory>
-    requires built { IsBuilt plan.now }
     requires fits { Fit plan.now inputs }
     ensures outs { IfOk result (λ outcome. outcome.outs ≡ (meaning plan.now inputs).outs) }
     ensures tables { IfOk result (λ outcome. outcome.tables ≡ defined_tables plan.now inputs) }

@@ -5,6 +5,7 @@ ghost use Rattle.brooklet_model.specs.Fire.{fire as fire_lem};
 ghost use Rattle.brooklet_step.specs.Given.{IsLeaf};
 ghost use Rattle.brooklet_step.specs.Stands.{Applies, Fires};
 
+use crate::bag::{fire_cross, fire_project, fire_select, fire_streamer, fire_window};
 use crate::emit::Emit;
 use crate::leaf::{fire_code, fire_collect, fire_deal, fire_filter, fire_tally, fire_unpack};
 use crate::state::State;
@@ -12,7 +13,7 @@ use river_base::{Item, NoMemory};
 use river_plan::Kernel;
 use std::alloc::Global;
 
-/// Whether a kernel is on rows and has no kernel inside.
+/// Whether a kernel has no kernel inside.
 pub fn is_leaf(kernel: &Kernel) -> bool
     ensures { IsTrue result ↔ IsLeaf (kern_of kernel.now) }
 {
@@ -23,14 +24,13 @@ pub fn is_leaf(kernel: &Kernel) -> bool
         | Kernel::Deal(_)
         | Kernel::Collect(_)
         | Kernel::Unpack(_)
-        | Kernel::Tally => true,
-        Kernel::Packed(_)
-        | Kernel::Fused { .. }
         | Kernel::Window(_)
         | Kernel::Select(_)
         | Kernel::Project(_)
         | Kernel::Cross
-        | Kernel::Streamer(_) => false,
+        | Kernel::Streamer(_)
+        | Kernel::Tally => true,
+        Kernel::Packed(_) | Kernel::Fused { .. } => false,
     }
 }
 
@@ -56,13 +56,12 @@ pub fn fire_leaf(
             fire_collect(alloc, weights, port, item, &mut states[0], out)
         }
         Kernel::Unpack(ports) => fire_unpack(alloc, *ports, port, item, &mut states[0], out),
+        Kernel::Window(window) => fire_window(alloc, window, item, &mut states[0], out),
+        Kernel::Select(cond) => fire_select(alloc, cond, item, out),
+        Kernel::Project(list) => fire_project(alloc, list, item, out),
+        Kernel::Cross => fire_cross(alloc, port, item, &mut states[0], out),
+        Kernel::Streamer(streamer) => { fire_streamer(alloc, streamer, item, &mut states[0], out) }
         Kernel::Tally => fire_tally(item, out),
-        Kernel::Packed(_)
-        | Kernel::Fused { .. }
-        | Kernel::Window(_)
-        | Kernel::Select(_)
-        | Kernel::Project(_)
-        | Kernel::Cross
-        | Kernel::Streamer(_) => unreachable!(),
+        Kernel::Packed(_) | Kernel::Fused { .. } => unreachable!(),
     }
 }

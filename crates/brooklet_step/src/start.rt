@@ -1,5 +1,7 @@
 // The states before the first firing.
 ghost use Rattle.std.specs.Prelude.{◌≡◌, [], ◌∷◌, length, IfOk};
+ghost use Rattle.kern_bags.specs.Kept.{window_start};
+ghost use Rattle.kern_bags.specs.Steps.{pairing_start};
 ghost use Rattle.kern_rows.specs.Forms.{code_form, filter_form};
 ghost use Rattle.kern_rows.specs.Needs.{CanFilter, HaveShares};
 ghost use Rattle.kern_rows.specs.Runs.{filter_start};
@@ -9,7 +11,6 @@ ghost use Rattle.brooklet_model.specs.Firings.{Buffered, Turn};
 ghost use Rattle.brooklet_model.specs.Fire.{first_kept, first_slots};
 ghost use Rattle.brooklet_model.specs.Shapes.{IsFormed};
 ghost use Rattle.brooklet_step.specs.declared.state.State.TheVariants as variant;
-ghost use Rattle.brooklet_step.specs.Built.{IsOnRows};
 ghost use Rattle.brooklet_step.specs.Given.{IsLeaf};
 ghost use Rattle.brooklet_step.specs.Took.{IsBlank};
 ghost use Rattle.brooklet_step.specs.Initial.{IsFirst};
@@ -19,6 +20,7 @@ use crate::emit::Emit;
 use crate::firing::blank_for;
 use crate::single::is_leaf;
 use crate::state::{State, States};
+use kern_bags::{Cross, Streamer, Window};
 use kern_rows::{CodeKernel, Collect, Deal, Filter, Unpack};
 use river_base::{NoMemory, Numbers};
 use river_plan::Kernel;
@@ -78,6 +80,30 @@ fn unpack_states(alloc: Global, ports: u32) -> Result<States, NoMemory>
     Ok(states)
 }
 
+fn window_states(alloc: Global, window: &Window) -> Result<States, NoMemory>
+    ensures { IfOk result (λ states. states ≡ variant.Window window_start ∷ []) }
+{
+    let state = window.start(alloc)?;
+    let states = only(alloc, State::Window(state))?;
+    Ok(states)
+}
+
+fn cross_states(alloc: Global) -> Result<States, NoMemory>
+    ensures { IfOk result (λ states. states ≡ variant.Cross pairing_start ∷ []) }
+{
+    let state = Cross::start(alloc)?;
+    let states = only(alloc, State::Cross(state))?;
+    Ok(states)
+}
+
+fn streamer_states(alloc: Global, streamer: &Streamer) -> Result<States, NoMemory>
+    ensures { IfOk result (λ states. states ≡ variant.Streamer [] ∷ []) }
+{
+    let state = streamer.start(alloc)?;
+    let states = only(alloc, State::Streamer(state))?;
+    Ok(states)
+}
+
 // The first states of a kernel without a kernel inside.
 fn leaf_states(alloc: Global, kernel: &Kernel) -> Result<States, NoMemory>
     requires leaf { IsLeaf (kern_of kernel.now) }
@@ -87,23 +113,21 @@ fn leaf_states(alloc: Global, kernel: &Kernel) -> Result<States, NoMemory>
     match kernel {
         Kernel::Code(code) => code_states(alloc, code),
         Kernel::Filter(filter) => filter_states(alloc, filter),
-        Kernel::Duplicate(_) | Kernel::Tally => Ok(States::new(alloc)),
+        Kernel::Duplicate(_) | Kernel::Select(_) | Kernel::Project(_) | Kernel::Tally => {
+            Ok(States::new(alloc))
+        }
         Kernel::Deal(weights) => deal_states(alloc, weights),
         Kernel::Collect(weights) => collect_states(alloc, weights),
         Kernel::Unpack(ports) => unpack_states(alloc, *ports),
-        Kernel::Packed(_)
-        | Kernel::Fused { .. }
-        | Kernel::Window(_)
-        | Kernel::Select(_)
-        | Kernel::Project(_)
-        | Kernel::Cross
-        | Kernel::Streamer(_) => unreachable!(),
+        Kernel::Window(window) => window_states(alloc, window),
+        Kernel::Cross => cross_states(alloc),
+        Kernel::Streamer(streamer) => streamer_states(alloc, streamer),
+        Kernel::Packed(_) | Kernel::Fused { .. } => unreachable!(),
     }
 }
 
 fn states_of(alloc: Global, kernel: &Kernel) -> Result<States, NoMemory>
-    requires formed { IsFormed (kern_of kernel.now) }
-    requires on_rows { IsOnRows (kern_of kernel.now) }
+    requires { IsFormed (kern_of kernel.now) }
     ensures { IfOk result (IsFirst (kern_of kernel.now)) }
 {
     if is_leaf(kernel) {
@@ -127,8 +151,7 @@ fn states_of(alloc: Global, kernel: &Kernel) -> Result<States, NoMemory>
 /// The states of a kernel before its first firing, and an empty list for each of its ports and tables. The states stand for those
 /// of the definition after no firing, and under each choice of types that the kernel fits they fit again: the kernel can fire.
 pub fn first_states(alloc: Global, kernel: &Kernel) -> Result<(States, Emit), NoMemory>
-    requires formed { IsFormed (kern_of kernel.now) }
-    requires on_rows { IsOnRows (kern_of kernel.now) }
+    requires { IsFormed (kern_of kernel.now) }
     ensures states { IfOk result (λ both. IsFirst (kern_of kernel.now) both.0) }
     ensures emit { IfOk result (λ both. IsBlank (kern_of kernel.now) both.1) }
 {

@@ -1,5 +1,6 @@
 // What kernels keep between firings.
 
+use kern_bags::{CrossState, StreamerState, WindowState};
 use kern_rows::{CollectState, DealState, FilterState, UnpackState};
 use river_base::{Listed, Numbers};
 
@@ -16,6 +17,12 @@ pub enum State {
     Collect(CollectState),
     /// What a joiner of packs keeps.
     Unpack(UnpackState),
+    /// What a window keeps.
+    Window(WindowState),
+    /// What a product keeps.
+    Cross(CrossState),
+    /// What a streamer keeps.
+    Streamer(StreamerState),
 }
 
 /// A state for each private variable of a kernel; of two kernels, those of the first and then those of the second.

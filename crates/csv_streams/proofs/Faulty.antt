@@ -95,7 +95,7 @@ unread_none : (field : List ℕ) (o : Option ℤ) → number_of field ≡ o → 
 unread_none field None e h = e
 unread_none field (Some z) e h = absurd (h z (read-is_written field z e))
 
-fault_field : (rec k : ℕ) (fields : List (List ℕ)) → IsFirstUnread k fields → numbered (value_in rec) 1 fields ≡ Err (fault.NotNumber rec k)
+pub fault_field : (rec k : ℕ) (fields : List (List ℕ)) → IsFirstUnread k fields → numbered (value_in rec) 1 fields ≡ Err (fault.NotNumber rec k)
 fault_field rec k fields h =
     ap (numbered (value_in rec) 1) h.parts
     ∙ numbered-fault (value_in rec) 1 k h.read h.field h.others h.values (fault.NotNumber rec k) (values_written rec 1 h.read h.values h.written) (omega (arith, h.number))
@@ -103,7 +103,7 @@ fault_field rec k fields h =
 
 -- A RECORD
 
-wide : (w : ℕ) (more : Bool) (n : ℕ) → has_width w more n ≡ true → HasWidth w more n
+pub wide : (w : ℕ) (more : Bool) (n : ℕ) → has_width w more n ≡ true → HasWidth w more n
 wide w true n e = grind (arith, nat_tests, e)
 wide w false n e = grind (arith, nat_tests, e)
 

@@ -56,7 +56,7 @@ pub row_within : (w : ℕ) (more : Bool) (last rec : ℕ) (fields : List (List �
 row_within w more last rec fields row e = within_by last rec (nat_lt last rec) _ row refl e
 
 -- the fault of a record is that of the file
-pub fault_passes : (one : Result (List ℤ) InFault) (file : Result (List (List ℤ)) InFault) (f : InFault) → IsFaultTold one f → (one ≡ Err f → file ≡ Err f) → IsFaultTold file f
+pub fault_passes : {S T : Type 0} (one : Result S InFault) (file : Result T InFault) (f : InFault) → IsFaultTold one f → (one ≡ Err f → file ≡ Err f) → IsFaultTold file f
 fault_passes one file fault.NoMemory h passes = tt
 fault_passes one file fault.TooMany h passes = passes h
 fault_passes one file (fault.Width rec) h passes = passes h

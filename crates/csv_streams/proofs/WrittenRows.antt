@@ -41,10 +41,10 @@ row_by w more last rec fields row true fits is has e = cc
 row_by w more last rec fields row false true is has e = (grind (arith, nat_tests), (has, values_read rec 1 (take w fields) row e))
 row_by w more last rec fields row false false is has e = cc
 
-row_read : (w : ℕ) (more : Bool) (last rec : ℕ) (fields : List (List ℕ)) (row : List ℤ) → row_in w more last rec fields ≡ Ok row → (rec ≤ last) × WritesRow w more fields row
+pub row_read : (w : ℕ) (more : Bool) (last rec : ℕ) (fields : List (List ℕ)) (row : List ℤ) → row_in w more last rec fields ≡ Ok row → (rec ≤ last) × WritesRow w more fields row
 row_read w more last rec fields row e = row_by w more last rec fields row (nat_lt last rec) (has_width w more (length fields)) refl refl e
 
-row_written : (w : ℕ) (more : Bool) (last rec : ℕ) (fields : List (List ℕ)) (row : List ℤ) → rec ≤ last → WritesRow w more fields row → row_in w more last rec fields ≡ Ok row
+pub row_written : (w : ℕ) (more : Bool) (last rec : ℕ) (fields : List (List ℕ)) (row : List ℤ) → rec ≤ last → WritesRow w more fields row → row_in w more last rec fields ≡ Ok row
 row_written w more last rec fields row le writes =
     let early : nat_lt last rec ≡ false = grind (arith, nat_tests) in
     ap (λ (b : Bool). cond b (Err fault.TooMany) (cond (has_width w more (length fields)) (numbered (value_in rec) 1 (take w fields)) (Err (fault.Width rec)))) early
@@ -89,7 +89,7 @@ enough : (w n : ℕ) (more : Bool) → IsTrue (has_width w more n) → w ≤ n
 enough w n true t = grind (arith, nat_tests, t)
 enough w n false t = grind (arith, nat_tests, t)
 
-row-width : (w : ℕ) (more : Bool) (fields : List (List ℕ)) (row : List ℤ) → WritesRow w more fields row → length row ≡ w
+pub row-width : (w : ℕ) (more : Bool) (fields : List (List ℕ)) (row : List ℤ) → WritesRow w more fields row → length row ≡ w
 row-width w more fields row writes = values-length (take w fields) row writes.1 ∙ length-take-le w fields (enough w (length fields) more writes.0)
 
 rows-width : (w : ℕ) (more : Bool) (recs : List (List (List ℕ))) (rows : List (List ℤ)) → WriteRows w more recs rows → HaveWidth w rows

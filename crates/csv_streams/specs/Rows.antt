@@ -48,12 +48,12 @@ IsFaultTold one fault.NoMemory = ⊤
 IsFaultTold one f = one ≡ Err f
 
 -- what is answered for a file: its rows, or its fault, and that there was no memory at any time
-abbrev pub IsAnswer : Result (List (List ℤ)) InFault → Result (List (List ℤ)) InFault → Type 0
+abbrev pub IsAnswer : {T : Type 0} → Result T InFault → Result T InFault → Type 0
 IsAnswer file (Ok rows) = file ≡ Ok rows
 IsAnswer file (Err f) = IsFaultTold file f
 
 -- one more row, which this is
-pub record Appends (one : Result (List ℤ) InFault) (old new : List (List ℤ)) : Type 0 where
-  pub row : List ℤ
+pub record Appends {T : Type 0} (one : Result T InFault) (old new : List T) : Type 0 where
+  pub row : T
   pub is : one ≡ Ok row
   pub grown : new ≡ old ++ row ∷ []

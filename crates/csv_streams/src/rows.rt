@@ -1,16 +1,12 @@
 // A file as rows.
-ghost use Rattle.std.specs.Prelude.{◌≡◌, ◌≤◌, ◌<◌, ◌+◌, true, [], length, take, option_and_then, Some, Ok, IfOk, OnOk, IfErr};
-ghost use Rattle.csv.specs.Reading.{Ready, ReadRecord, reader_trim, took_first};
-ghost use Rattle.csv.specs.Records.{fields_of, field_at};
-ghost use Rattle.csv.specs.declared.reader.Trim.TheVariants as trim;
-ghost use Rattle.csv_streams.specs.Number.{number_of};
-ghost use Rattle.csv_streams.specs.Numbered.{numbered};
-ghost use Rattle.csv_streams.specs.Rows.{value_or, value_in, has_width, row_in, rows_of, headers, most_rows, Appends, IsFaultTold, IsAnswer};
-ghost use Rattle.csv_streams.specs.declared.fault.InFault.TheVariants as fault;
+ghost use Rattle.std.specs.Prelude.{◌≡◌, ◌≤◌, [], Ok, OnOk, IfErr};
+ghost use Rattle.csv.specs.Records.{fields_of};
+ghost use Rattle.csv_streams.specs.Rows.{row_in, rows_of, Appends, IsFaultTold, IsAnswer};
 
-use crate::{InFault, read_number};
-use csv::{ByteRecord, Reader, ReaderBuilder};
-use river_base::{Bytes, MAX_ROW, Row, Rows};
+use crate::InFault;
+use crate::record::{headers, read_record, values_in};
+use csv::{ByteRecord, ReaderBuilder};
+use river_base::{Bytes, Row, Rows};
 use std::alloc::Global;
 
 /// How many records a file has at most, not counting a header.
@@ -67,20 +63,6 @@ fn add_rows(
     Ok(())
 }
 
-// Reads the next record, if there is one; a reader of bytes fails for want of memory alone.
-fn read_record(rdr: &mut Reader<&[u8]>, raw: &mut ByteRecord) -> Result<bool, InFault>
-    requires trim { reader_trim rdr.old ≡ trim.None }
-    requires ready { Ready rdr.old }
-    ensures ok { IfOk result (λ found. ReadRecord (λ s. Some s.now) rdr.old rdr.new found (fields_of raw.new)) }
-    ensures first { OnOk result (took_first rdr.new ≡ true) }
-    ensures fault { IfErr result (λ f. f ≡ fault.NoMemory) }
-{
-    match rdr.read_byte_record(raw) {
-        Ok(found) => Ok(found),
-        Err(_) => Err(InFault::NoMemory),
-    }
-}
-
 // Appends the row of record number `rec`.
 fn add_row(
     raw: &ByteRecord,
@@ -95,64 +77,7 @@ fn add_row(
     ensures ok { OnOk result (Appends (row_in width more last rec (fields_of raw.now)) rows.old rows.new) }
     ensures fault { IfErr result (IsFaultTold (row_in width more last rec (fields_of raw.now))) }
 {
-    let row = row_in(raw, rec, last, width, more)?;
-    rows.push(row)?;
+    let values = values_in(raw, rec, last, width, more)?;
+    rows.push(Row::from_slice(&values[..width]))?;
     Ok(())
-}
-
-// How many records are passed over at the front.
-fn headers(skip_first: bool) -> u32
-    ensures { result ≡ headers skip_first }
-{
-    if skip_first { 1 } else { 0 }
-}
-
-// The row of record number `rec`, where `last` is the number of the last record that may be.
-fn row_in(raw: &ByteRecord, rec: u32, last: u32, width: usize, more: bool) -> Result<Row, InFault>
-    requires some { 1 ≤ width }
-    requires at_most { width ≤ 16 }
-    ensures { result ≡ row_in width more last rec (fields_of raw.now) }
-{
-    if rec > last {
-        return Err(InFault::TooMany);
-    }
-    if !has_width(raw.len(), width, more) {
-        return Err(InFault::Width { rec });
-    }
-    row_of(raw, rec, width)
-}
-
-// Whether a record of so many fields has a row of this width.
-fn has_width(count: usize, width: usize, more: bool) -> bool
-    ensures { result ≡ has_width width more count }
-{
-    if more { width <= count } else { count == width }
-}
-
-// The row of the first fields, as many as `width`.
-fn row_of(raw: &ByteRecord, rec: u32, width: usize) -> Result<Row, InFault>
-    requires some { 1 ≤ width }
-    requires at_most { width ≤ 16 }
-    requires within { width ≤ length (fields_of raw.now) }
-    ensures { result ≡ numbered (value_in rec) 1 (take width (fields_of raw.now)) }
-{
-    let mut values = [0; MAX_ROW];
-    for place in 0..width {
-        values[place] = value_at(raw, rec, place)?;
-    }
-    Ok(Row::from_slice(&values[..width]))
-}
-
-// The value of the field at a place, from 0.
-fn value_at(raw: &ByteRecord, rec: u32, place: usize) -> Result<i64, InFault>
-    requires { place < 16 }
-    ensures { result ≡ value_or rec (place + 1) (option_and_then number_of (field_at (fields_of raw.now) place)) }
-{
-    match raw.get(place).and_then(read_number) {
-        Some(x) => Ok(x),
-        None => Err(InFault::NotNumber {
-            rec,
-            field: place as u32 + 1,
-        }),
-    }
 }

@@ -1,2 +1,9 @@
 pub mod Copies
+pub mod InTurn
+pub mod KeptRows
+pub mod KeptWindows
+pub mod Merged
+pub mod Pairs
+pub mod Streamed
+pub mod Taken
 pub mod Windowed

@@ -38,7 +38,7 @@ later_of span now at = step (int_lt (pos 0) (now -ℤ span)) refl where
 nothing_more : (n : ℕ) → n ≡ 0 + n
 nothing_more n = omega arith
 
-copies-where : (row : List ℤ) (p : ℤ → Bool) (bs : List Batch) → copies row (rows_where p bs) ≡ sum_by (λ (b : Batch). cond (p b.at) (copies row b.rows) 0) bs
+pub copies-where : (row : List ℤ) (p : ℤ → Bool) (bs : List Batch) → copies row (rows_where p bs) ≡ sum_by (λ (b : Batch). cond (p b.at) (copies row b.rows) 0) bs
 copies-where row p [] = refl
 copies-where row p (b ∷ bs) = step (p b.at) refl (copies-where row p bs) where
   f : Batch → ℕ
@@ -62,13 +62,13 @@ contents_are (Latest n) bs row y = absurd y
 
 -- NOW
 
-later_from : (t u : ℤ) → t ≤ℤ later t u
+pub later_from : (t u : ℤ) → t ≤ℤ later t u
 later_from t u = step (int_lt t u) refl where
   step : (b : Bool) → int_lt t u ≡ b → t ≤ℤ cond b u t
   step true e = before t u e
   step false e = omega (arith, ints)
 
-later_to : (t u : ℤ) → u ≤ℤ later t u
+pub later_to : (t u : ℤ) → u ≤ℤ later t u
 later_to t u = step (int_lt t u) refl where
   step : (b : Bool) → int_lt t u ≡ b → u ≤ℤ cond b u t
   step true e = omega (arith, ints)
@@ -107,7 +107,7 @@ some_there t (b ∷ bs) = step (int_lt t b.at) (some_there b.at bs) (some_there 
 pub greatest_is_now : GreatestIsNow
 greatest_is_now b bs = record { none_later = none_above b.at bs; some = some_there b.at bs }
 
-bounded : (bs : List Batch) → AllByRecursion (λ (c : Batch). c.at ≤ℤ greatest bs) bs
+pub bounded : (bs : List Batch) → AllByRecursion (λ (c : Batch). c.at ≤ℤ greatest bs) bs
 bounded [] = tt
 bounded (b ∷ bs) = none_above b.at bs
 

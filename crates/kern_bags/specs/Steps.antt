@@ -42,6 +42,10 @@ pub record Pairing : Type 0 where
   pub left : List item.Item
   pub right : List item.Item
 
+-- nothing waits
+abbrev pub pairing_start : Pairing
+pairing_start = record { left = []; right = [] }
+
 -- the rows of an item
 abbrev pub rows_of : item.Item → List (List ℤ)
 rows_of (Flat (Batched b)) = b.rows
@@ -74,5 +78,9 @@ put_pair zero x s = record { left = s.left ++ x ∷ []; right = s.right }
 put_pair (suc p) x s = record { left = s.left; right = s.right ++ x ∷ [] }
 
 -- what passes, as long as both ports have an item, and what is left
+abbrev pub crossed : Pairing → List item.Item × Pairing
+crossed s = drain front_of_pair rest_of_pair (length s.left + length s.right) s
+
+-- the same once an item has come to a port
 abbrev pub crosses : ℕ → item.Item → Pairing → List item.Item × Pairing
-crosses p x s = let t = put_pair p x s in drain front_of_pair rest_of_pair (length t.left + length t.right) t
+crosses p x s = crossed (put_pair p x s)

@@ -1,7 +1,19 @@
 //! Kernels on bags of rows: windows, products and streamers of continuous queries.
 #![tactic(auto)]
 
+mod cross;
+mod difference;
+mod given;
 mod kernel;
 pub mod laws;
+mod product;
+mod rowwise;
+mod stamped;
+mod streamer;
+mod window;
 
+pub use cross::CrossState;
 pub use kernel::{Cross, Streamer, Window};
+pub use rowwise::{project, select};
+pub use streamer::StreamerState;
+pub use window::WindowState;

@@ -3,6 +3,7 @@ pub mod Bags
 pub mod Counts
 pub mod Division
 pub mod HeldLemmas
+pub mod Instants
 pub mod Keyed
 pub mod KeyedLookups
 pub mod LoopLemmas

@@ -2,6 +2,7 @@ pub mod Bags
 pub mod Drain
 pub mod Grew
 pub mod Held
+pub mod Instants
 pub mod Keyed
 pub mod Listed
 pub mod Name

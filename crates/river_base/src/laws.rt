@@ -1,9 +1,12 @@
 //! Laws of numbers and rows, each the contract of a function that does nothing.
 ghost use Rattle.std.specs.Prelude.{◌≡◌, ◌≢◌, ◌↔◌, ◌<◌, ℤ, pos, negsuc, ◌+ℤ◌, ◌*ℤ◌, ◌^◌, ◌<ℤ◌, ◌≤ℤ◌, unsigned_abs, List, ◌∷◌, ◌++◌};
 ghost use Rattle.std.specs.Cmp.{IsTotalOrder};
-ghost use Rattle.std.specs.List.Sorted.{IsPermutation, IsSorted};
+ghost use Rattle.std.specs.List.{Contains};
+ghost use Rattle.std.specs.List.Sorted.{IsPermutation, IsSorted, IsStrictlySortedBy};
+ghost use Rattle.std.specs.Ordering.{int_cmp};
 ghost use Rattle.std.specs.declared.cmp.Ordering.TheVariants.{Less, Equal};
 ghost use Rattle.river_base.specs.Bags.{SameBag};
+ghost use Rattle.river_base.specs.Instants.{instants, stamps};
 ghost use Rattle.river_base.specs.Number.{IsValue, HasQuotient, least_value, quot, rem, wrap};
 ghost use Rattle.river_base.specs.Row.{row_cmp, copies, in_order};
 
@@ -50,4 +53,10 @@ pub fn order_depends_on_bag()
     ensures ascends { (xs : List (List ℤ)) → IsSorted row_cmp (in_order xs) }
     ensures same_bag { (xs : List (List ℤ)) → IsPermutation xs (in_order xs) }
     ensures of_bag { (xs ys : List (List ℤ)) → IsPermutation xs ys → in_order xs ≡ in_order ys }
+{}
+
+/// The instants of files rise, and are just the timestamps of their rows.
+pub fn instants_are_timestamps()
+    ensures rise { (files : List (List (ℤ × List ℤ))) → IsStrictlySortedBy int_cmp (instants files) }
+    ensures exact { (files : List (List (ℤ × List ℤ))) (t : ℤ) → Contains (instants files) t ↔ Contains (stamps files) t }
 {}

@@ -7,6 +7,7 @@ ghost use Rattle.std.specs.Cmp.Lexicographic.{pointwise, lists_per};
 ghost use Rattle.std.specs.List.Sorted.{IsPermutation, IsSorted};
 ghost use Rattle.std.proofs.lemmas.Cmp.{lists_equiv};
 ghost use Rattle.river_base.specs.Row.{row_cmp, in_order};
+ghost use Rattle.river_base.specs.Instants.{each_once};
 
 use crate::{NoMemory, Row};
 use std::alloc::Global;
@@ -162,7 +163,7 @@ impl<T: Drop> Listed<Listed<T>> {
         Ok(all)
     }
 
-    /// Appends an element to the list at a place, from 0; changes nothing where there is no memory.
+    /// Appends an element to the list at a place, from 0. Where there is no memory, nothing is said of the lists.
     pub fn push_at(&mut self, place: usize, x: T) -> Result<(), NoMemory>
         requires { place < length self.old }
         ensures ok { OnOk result (self.new ≡ append_at self.old place (x ∷ [])) }
@@ -172,7 +173,7 @@ impl<T: Drop> Listed<Listed<T>> {
         Ok(())
     }
 
-    /// Moves the elements of a list behind those of the list at a place, from 0.
+    /// Moves the elements of a list behind those of the list at a place, from 0. Where there is no memory, nothing is said of them.
     pub fn extend_at(&mut self, place: usize, more: Listed<T>) -> Result<(), NoMemory>
         requires { place < length self.old }
         ensures ok { OnOk result (self.new ≡ append_at self.old place more) }
@@ -199,6 +200,16 @@ impl Listed<u8> {
     {
         self.items.extend_from_slice(bytes)?;
         Ok(())
+    }
+}
+
+impl Listed<i64> {
+    /// Puts the values in ascending order, each once.
+    pub fn keep_each_once(&mut self)
+        ensures { self.new ≡ each_once self.old }
+    {
+        self.items.sort_unstable();
+        self.items.dedup();
     }
 }
 

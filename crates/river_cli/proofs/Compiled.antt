@@ -4,8 +4,7 @@ use Rattle.std.specs.Prelude.{Result, Ok, Err, All}
 use Rattle.std.proofs.lemmas.List.Elements.{All-head, All-tail}
 use Rattle.river_base.specs.declared.item.Flat.TheVariants.{One}
 use Rattle.river_base.specs.declared.item.Item.TheVariants.{Flat}
-use Rattle.river_base.specs.Held.{HasType}
-use Rattle.river_kernels.specs.Fits.{rows}
+use Rattle.river_base.specs.Held.{HaveWidth}
 use Rattle.river_order.specs.Passes.{StandsFor}
 use Rattle.river_plan.specs.Forms.{PlanForm}
 use Rattle.river_text.specs.Meaning as river
@@ -13,7 +12,6 @@ use Rattle.river_text.specs.Words.{river_words}
 use Rattle.river_text.specs.declared.river_fault.RiverFault.{RiverFault}
 use Rattle.river_text.specs.declared.river_fault.RiverFault.TheVariants as river_fault
 use Rattle.brooklet_model.specs.Meaning.{meaning}
-use Rattle.brooklet_model.specs.Typed.{AreInputs}
 use Rattle.streamit_model.specs.Build.{plan_of}
 use Rattle.streamit_model.specs.Laws.{as_items}
 use Rattle.streamit_front.specs.Meaning.{Accepted, compiled, Refused}
@@ -21,9 +19,12 @@ use Rattle.streamit_front.specs.Words.{streamit_words}
 use Rattle.streamit_front.specs.declared.fault.StreamitFault.{StreamitFault}
 use Rattle.streamit_front.specs.declared.fault.StreamitFault.TheVariants as streamit_fault
 use Rattle.streamit_front.proofs.Fronts.{plans_mean}
+use Rattle.river_cli.specs.Contents.{AreContents}
 use Rattle.river_cli.specs.Inputs.{row_items, all_items}
 use Rattle.river_cli.specs.Source.{river_source, streamit_source, values, told, IsPlanOf, IsCompiled}
 use Rattle.river_cli.specs.Text.{program_refused}
+use Rattle.river_cli.specs.declared.content.Content.{Content}
+use Rattle.river_cli.specs.declared.content.Content.TheVariants.{Rows as Plain, Timed}
 
 -- ---- A RIVER TEXT
 
@@ -44,17 +45,18 @@ one_value (x ∷ []) one = (x, refl)
 one_value (x ∷ y ∷ more) one = absurd (omega (arith, one))
 
 -- rows of one value are the items of their values
-values-are : (r : List (List ℤ)) → All (HasType (rows 1)) (row_items r) → row_items r ≡ as_items (values (r ∷ []))
+values-are : (r : List (List ℤ)) → HaveWidth 1 r → row_items r ≡ as_items (values (Plain r ∷ []))
 values-are [] t = refl
 values-are (row ∷ r) t =
-    let (x, is) = one_value row (All-head (HasType (rows 1)) (Flat (One row)) (row_items r) t) in
-    let later : row_items r ≡ as_items (values (r ∷ [])) = values-are r (All-tail (HasType (rows 1)) (Flat (One row)) (row_items r) t) in
+    let (x, is) = one_value row (All-head (λ l. length l ≡ 1) row r t) in
+    let later : row_items r ≡ as_items (values (Plain r ∷ [])) = values-are r (All-tail (λ l. length l ≡ 1) row r t) in
     ap (λ l. Flat (One row) ∷ l) later ∙ rw is refl
 
-program_means : (text : List ℕ) (a : Accepted) → compiled text ≡ Ok a → (all : List (List (List ℤ))) → AreInputs (plan_of a.stream).inputs (all_items all) → meaning (plan_of a.stream) (all_items all) ≡ (streamit_source a).means all
+program_means : (text : List ℕ) (a : Accepted) → compiled text ≡ Ok a → (files : List Content) → AreContents (plan_of a.stream).inputs files → meaning (plan_of a.stream) (all_items files) ≡ (streamit_source a).means files
 program_means text a e [] t = absurd t
-program_means text a e (r ∷ s ∷ more) t = absurd t.1
-program_means text a e (r ∷ []) t = ap (λ l. meaning (plan_of a.stream) (l ∷ [])) (values-are r t.0) ∙ (plans_mean text a (values (r ∷ [])) e).1
+program_means text a e (f ∷ g ∷ more) t = absurd t.1
+program_means text a e (Timed es ∷ []) t = absurd t.0
+program_means text a e (Plain r ∷ []) t = ap (λ l. meaning (plan_of a.stream) (l ∷ [])) (values-are r t.0) ∙ (plans_mean text a (values (Plain r ∷ [])) e).1
 
 program_plan : (text : List ℕ) (a : Accepted) → compiled text ≡ Ok a → IsPlanOf (streamit_source a) (plan_of a.stream)
 program_plan text a e = record { plan = refl; inputs = refl; outputs = refl; tables = refl; means = program_means text a e }

@@ -5,3 +5,4 @@ pub mod FoundLemmas
 pub mod KernLemmas
 pub mod LimitLemmas
 pub mod TypeLemmas
+pub mod WellFormed

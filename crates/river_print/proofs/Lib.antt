@@ -5,6 +5,7 @@ pub mod Pieces
 pub mod Promise
 pub mod Read
 pub mod Round
+pub mod Spoken
 pub mod Terms
 pub mod Units
 pub mod Valid

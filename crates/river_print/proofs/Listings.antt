@@ -65,7 +65,8 @@ natural (negsuc n) = 0
 abbrev pub value_tok : ℤ → List Tok
 value_tok z = number (natural z) ∷ []
 
-is_value-below : (n : ℕ) → n ≤ 9223372036854775807 → is_value n ≡ true
+-- a number that is a value
+pub is_value-below : (n : ℕ) → n ≤ 9223372036854775807 → is_value n ≡ true
 is_value-below n h = grind (arith, nat_tests)
 
 pub value-formed : (n : ℕ) → n ≤ 9223372036854775807 → form.Value (pos n) (number n ∷ [])

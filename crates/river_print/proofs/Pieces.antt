@@ -161,7 +161,7 @@ number-first n u us fits y e = record {
 pub blank-first : (u : List ℕ) (us : List Tok) → Piece u us → Piece (codes " " ++ u) us
 blank-first u us y = record { spells = blank-then u us y.spells; inside = y.inside }
 
-line_is : is_blank 10 ≡ true
+pub line_is : is_blank 10 ≡ true
 unfolding is_blank
 line_is = refl
 

@@ -23,11 +23,11 @@ use Rattle.river_kernels.specs.Kern.{Kern}
 use Rattle.river_kernels.specs.Kern as kern
 use Rattle.river_kernels.proofs.TypeLemmas.{not_some, some_same}
 use Rattle.river_plan.specs.Forms.{OpForm, PlanForm, empty_form}
-use Rattle.river_plan.specs.Valid.{IsPlan}
 use Rattle.river_text.specs.Kernels as g
 use Rattle.river_text.specs.Plans as t
 use Rattle.river_print.specs.Writable as w
 use Rattle.river_print.specs.Printable as r
+use Rattle.river_print.specs.Ranged as ranges
 use Rattle.river_print.proofs.Valid.{at_most}
 
 -- FORMS
@@ -136,25 +136,25 @@ starts n = gives-enclosed _ _ (λ m. gives-listing signed) n
 -- EXPRESSIONS
 
 -- a number of a text is a value of 64 bits
-pub number-ranged : (v : ℕ) (b : Bool) → is_value v ≡ b → (e : Term) → (if b then Some (term.Const (pos v)) else None) ≡ Some e → r.IsRangedTerm e
-number-ranged v true t e h = subst r.IsRangedTerm (some_same h) (at_most v 9223372036854775807 t)
+pub number-ranged : (v : ℕ) (b : Bool) → is_value v ≡ b → (e : Term) → (if b then Some (term.Const (pos v)) else None) ≡ Some e → ranges.IsRangedTerm e
+number-ranged v true t e h = subst ranges.IsRangedTerm (some_same h) (at_most v 9223372036854775807 t)
 number-ranged v false t e h = absurd (not_some h)
 
-one-ranged : (f : Term → Term) → ((x : Term) → r.IsRangedTerm x → r.IsRangedTerm (f x)) → (o : Option Term) → ((x : Term) → o ≡ Some x → r.IsRangedTerm x) → (e : Term) → g.one_term f o ≡ Some e → r.IsRangedTerm e
+one-ranged : (f : Term → Term) → ((x : Term) → ranges.IsRangedTerm x → ranges.IsRangedTerm (f x)) → (o : Option Term) → ((x : Term) → o ≡ Some x → ranges.IsRangedTerm x) → (e : Term) → g.one_term f o ≡ Some e → ranges.IsRangedTerm e
 one-ranged f k None x e h = absurd (not_some h)
-one-ranged f k (Some y) x e h = subst r.IsRangedTerm (some_same h) (k y (x y refl))
+one-ranged f k (Some y) x e h = subst ranges.IsRangedTerm (some_same h) (k y (x y refl))
 
-two-ranged : (f : Term → Term → Term) → ((x y : Term) → r.IsRangedTerm x → r.IsRangedTerm y → r.IsRangedTerm (f x y)) → (o p : Option Term)
-    → ((x : Term) → o ≡ Some x → r.IsRangedTerm x) → ((x : Term) → p ≡ Some x → r.IsRangedTerm x) → (e : Term) → g.both_terms f o p ≡ Some e → r.IsRangedTerm e
+two-ranged : (f : Term → Term → Term) → ((x y : Term) → ranges.IsRangedTerm x → ranges.IsRangedTerm y → ranges.IsRangedTerm (f x y)) → (o p : Option Term)
+    → ((x : Term) → o ≡ Some x → ranges.IsRangedTerm x) → ((x : Term) → p ≡ Some x → ranges.IsRangedTerm x) → (e : Term) → g.both_terms f o p ≡ Some e → ranges.IsRangedTerm e
 two-ranged f k None p x y e h = absurd (not_some h)
 two-ranged f k (Some a) None x y e h = absurd (not_some h)
-two-ranged f k (Some a) (Some b) x y e h = subst r.IsRangedTerm (some_same h) (k a b (x a refl) (y b refl))
+two-ranged f k (Some a) (Some b) x y e h = subst ranges.IsRangedTerm (some_same h) (k a b (x a refl) (y b refl))
 
-spelled : (n k : ℕ) (t : Spoken) (ts : List Tok) → rule.Spells River n k t ts → (e : Term) → g.term_of t ≡ Some e → r.IsRangedTerm e
+spelled : (n k : ℕ) (t : Spoken) (ts : List Tok) → rule.Spells River n k t ts → (e : Term) → g.term_of t ≡ Some e → ranges.IsRangedTerm e
 spelled n k t ts (rule.number m v) e h = number-ranged v (is_value v) refl e h
 spelled n k t ts (rule.name m text has) e h = absurd (not_some h)
-spelled n k t ts (rule.input m i has fits) e h = let a = at_most i 4294967295 fits in subst r.IsRangedTerm (some_same h) (omega (arith, a))
-spelled n k t ts (rule.slot m i has fits) e h = let a = at_most i 4294967295 fits in subst r.IsRangedTerm (some_same h) (omega (arith, a))
+spelled n k t ts (rule.input m i has fits) e h = let a = at_most i 4294967295 fits in subst ranges.IsRangedTerm (some_same h) (omega (arith, a))
+spelled n k t ts (rule.slot m i has fits) e h = let a = at_most i 4294967295 fits in subst ranges.IsRangedTerm (some_same h) (omega (arith, a))
 spelled n k t ts (rule.peek m u us has x) e h = absurd (not_some h)
 spelled n k t ts (rule.pop m has) e h = absurd (not_some h)
 spelled n k t ts (rule.neg m u us x) e h = one-ranged term.Neg (λ y z. z) (g.term_of u) (spelled m 0 u us x) e h
@@ -164,17 +164,17 @@ spelled n k t ts (rule.tighter m j u us x) e h = spelled m j u us x e h
 spelled n k t ts (rule.chain m j o a b us vs rank x y) e h =
     two-ranged (term.Bin o) (λ u v c d. (c, d)) (g.term_of a) (g.term_of b) (spelled m (suc j) a us x) (spelled m j b vs y) e h
 
-term_ranged : (n : ℕ) → Gives (g.IsTerm n) r.IsRangedTerm
+term_ranged : (n : ℕ) → Gives (g.IsTerm n) ranges.IsRangedTerm
 term_ranged n = record { give = λ v ts h. spelled n 6 h.value ts h.formed.0 v h.is }
 
 -- STATEMENTS
 
 -- a statement, and a list of statements, in which `if` nests at most so deep
 abbrev IsStep : ℕ → Step → Type 0
-IsStep nest x = r.IsRangedStep x × (w.depth_once x ≤ nest)
+IsStep nest x = ranges.IsRangedStep x × (w.depth_once x ≤ nest)
 
 abbrev IsSteps : ℕ → Steps → Type 0
-IsSteps nest xs = r.IsRangedSteps xs × (w.depths xs ≤ nest)
+IsSteps nest xs = ranges.IsRangedSteps xs × (w.depths xs ≤ nest)
 
 turned : (nest : ℕ) (xs : List Step) → w.Every (IsStep nest) xs → IsSteps nest (in_turn xs)
 turned nest [] h = (tt, omega arith)
@@ -215,7 +215,7 @@ body n = body-of 16 (g.IsStmt 16) (statement 16) n
 -- KERNELS
 
 abbrev IsKernel : Kern → Type 0
-IsKernel k = r.IsRangedKernel k × r.IsShallow k × r.HasForward k
+IsKernel k = ranges.IsRangedKernel k × r.IsShallow k × r.HasForward k
 
 code : (n : ℕ) → Gives (g.IsCode n) IsKernel
 code n = gives-seen g.made_code IsKernel
@@ -325,7 +325,7 @@ ports : Gives t.IsPorts (λ v. w.Every w.IsNamed v.0 × w.Every w.IsNamed v.1)
 ports = record { give = λ v ts h. let l = gives-listing port in split-ports v.0 v.1 (l.give (map t.queue v.0 ++ map t.variable v.1) ts h) }
 
 abbrev IsOp : OpForm → Type 0
-IsOp op = r.IsRangedOp op × r.IsShallow op.kernel × r.HasForward op.kernel
+IsOp op = ranges.IsRangedOp op × r.IsShallow op.kernel × r.HasForward op.kernel
 
 operator : Gives t.IsOp IsOp
 operator = gives-seen t.made_op IsOp
@@ -367,7 +367,7 @@ every-append P (x ∷ xs) y h k = (h.0, every-append P xs y h.1 k)
 
 -- the plan without its validity
 record IsSaid (p : PlanForm) : Type 0 where
-  ranged : r.IsRanged p
+  ranged : ranges.IsRanged p
   shallow : w.Every (λ op. r.IsShallow op.kernel) p.ops
   forward : w.Every (λ op. r.HasForward op.kernel) p.ops
 
@@ -387,7 +387,7 @@ said-add p (t.private v) s h = let k = s.ranged in
     record { ranged = record { outputs = k.outputs; inputs = k.inputs; queues = k.queues; tables = k.tables; vars = every-append w.IsNamed p.vars v k.vars h; ops = k.ops }; shallow = s.shallow; forward = s.forward }
 said-add p (t.operator o) s h = let k = s.ranged in
     record {
-      ranged = record { outputs = k.outputs; inputs = k.inputs; queues = k.queues; tables = k.tables; vars = k.vars; ops = every-append r.IsRangedOp p.ops o k.ops h.0 };
+      ranged = record { outputs = k.outputs; inputs = k.inputs; queues = k.queues; tables = k.tables; vars = k.vars; ops = every-append ranges.IsRangedOp p.ops o k.ops h.0 };
       shallow = every-append (λ op. r.IsShallow op.kernel) p.ops o s.shallow h.1;
       forward = every-append (λ op. r.HasForward op.kernel) p.ops o s.forward h.2;
     }
@@ -396,8 +396,8 @@ said-all : (p : PlanForm) (es : List t.Entry) → IsSaid p → w.Every IsEntry e
 said-all p [] s h = s
 said-all p (e ∷ es) s h = said-all (t.add p e) es (said-add p e s h.0) h.1
 
--- a valid plan that a text stands for can be printed
-pub read-printable : (text : List ℕ) (p : PlanForm) → t.IsText text p → IsPlan p → r.IsPrintable p
-read-printable text p h v =
+-- lists that a text stands for have the ranges of their types and keep the grammar's bounds
+pub read-printable : (text : List ℕ) (p : PlanForm) → t.IsText text p → ranges.IsRanged p × r.IsPrintable p
+read-printable text p h =
     let s = subst IsSaid (sym h.is) (said-all empty_form h.entries said-empty (entries 0 h.entries _ h.formed)) in
-    record { valid = v; ranged = s.ranged; shallow = s.shallow; forward = s.forward }
+    (s.ranged, record { shallow = s.shallow; forward = s.forward })

@@ -2,6 +2,7 @@
 use Rattle.std.proofs.Common.{◌≡◌, ℕ, ◌≤◌, true, false, List, [], ◌∷◌, ◌++◌, refl, sym, ap, ◌∙◌, subst, arith, append_assoc, append-nil}
 use Rattle.std.specs.Prelude.{codes, map}
 use Rattle.std.proofs.lemmas.Bool.Decides.{nat_tests}
+use Rattle.work_code.specs.Laws.{joined}
 use Rattle.work_code.specs.Cut.{cut, units_of, is_else}
 use Rattle.work_code.specs.Lexis.{is_letter, is_word, is_digit}
 use Rattle.work_code.specs.Tok.{Tok}
@@ -18,10 +19,6 @@ use Rattle.river_print.specs.Writable as w
 use Rattle.river_print.proofs.Units.{UnitPiece, decl_toks, decl-unit, decl-formed, table_toks, table-unit, table-formed, var_toks, var-unit, var-formed, op_toks, op-unit, op-formed}
 
 -- the tokens of some units
-abbrev joined : List (List Tok) → List Tok
-joined [] = []
-joined (u ∷ us) = u ++ joined us
-
 joined-append : (us vs : List (List Tok)) → joined (us ++ vs) ≡ joined us ++ joined vs
 joined-append [] vs = refl
 joined-append (u ∷ us) vs = ap (λ (l : List Tok). u ++ l) (joined-append us vs) ∙ sym (append_assoc u (joined us) (joined vs))

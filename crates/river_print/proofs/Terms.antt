@@ -19,7 +19,7 @@ use Rattle.text_forms.proofs.PrintedExpr.{IsWritten, printed, spoken_of, printed
 use Rattle.river_text.specs.Kernels as g
 use Rattle.river_text.specs.Kernels.{IsStmt, term_of}
 use Rattle.river_print.specs.Writable as w
-use Rattle.river_print.proofs.Listings.{Item, pieces, items-commas, count-formed}
+use Rattle.river_print.proofs.Listings.{Item, is_value-below, pieces, items-commas, count-formed}
 use Rattle.river_print.proofs.Pieces.{Inside, inside-then, inside-name, inside-number, inside-symbol, IsPlain, plain-Open, plain-Close, plain-OpenBracket, plain-CloseBracket, plain-Minus, plain-Assign, Piece, EndsWord, piece-nothing, ends-nothing, piece-then, symbol-first, word-first, number-first, blank-first, open-first, close-first, semicolon-first, square-first, square_close-first, braced, braced-nothing, ends-blank, ends-close, ends-square, ends-square_close, ends-semicolon, items_toks, pieces-items}
 
 written : (t : Term) → w.IsSpoken t → IsWritten t
@@ -69,9 +69,6 @@ inside-printed (Bin o a b) =
 
 pub term-piece : (t : Term) → w.IsTerm t → Piece (text_of t) (printed t)
 term-piece t h = record { spells = spells-term t (written t h.0); inside = inside-printed t }
-
-is_value-below : (n : ℕ) → n ≤ 9223372036854775807 → is_value n ≡ true
-is_value-below n h = grind (arith, nat_tests)
 
 term_of-spoken : (t : Term) → w.IsSpoken t → term_of (spoken_of t) ≡ Some t
 term_of-spoken (Const z) h = rw (h.1, is_value-below h.0 h.2) refl

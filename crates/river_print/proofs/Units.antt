@@ -31,7 +31,7 @@ use Rattle.river_text.specs.Kernels as g
 use Rattle.river_text.specs.Plans as p
 use Rattle.river_print.specs.Writable as w
 use Rattle.river_print.proofs.Listings.{Item, pieces, items-listing, count_tok, count-formed, count-item}
-use Rattle.river_print.proofs.Pieces.{all_first, all_first-append, Inside, inside-name, inside-var, Piece, AllPieces, braced, more_toks, items_toks}
+use Rattle.river_print.proofs.Pieces.{line_is, all_first, all_first-append, Inside, inside-name, inside-var, Piece, AllPieces, braced, more_toks, items_toks}
 use Rattle.river_print.proofs.Kernels.{listed, list-last, worded, kernel_toks, kernel-piece, braced-formed}
 use Rattle.river_print.proofs.Terms.{round-formed, behind_round}
 
@@ -89,10 +89,6 @@ line-blank u us y = blank-then u us y
 
 line-symbol : (x : Symbol) (u : List ℕ) (us : List Tok) → Line u us → ((rest : List ℕ) → MayFollow x (u ++ rest)) → Line (symbol_bytes x ++ u) (symbol x ∷ us)
 line-symbol x u us y follows = spells-then (symbol_bytes x) (symbol x ∷ []) u us (spells-symbol x) y (λ rest any. follows rest)
-
-line_is : is_blank 10 ≡ true
-unfolding is_blank
-line_is = refl
 
 line-end : Line (codes "\n") []
 line-end = spells-blank 10 line_is

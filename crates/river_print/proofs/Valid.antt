@@ -25,9 +25,11 @@ use Rattle.river_plan.specs.Forms.{OpForm, PlanForm, all_decls}
 use Rattle.river_plan.specs.Uses.{Each}
 use Rattle.river_plan.specs.Kinds.{IsFit, kind_of, var_kind}
 use Rattle.river_plan.specs.Limits.{nestings}
+use Rattle.river_plan.specs.Valid.{IsPlan}
 use Rattle.river_print.specs.Writable as w
 use Rattle.river_print.specs.Writable.{depths}
 use Rattle.river_print.specs.Printable as r
+use Rattle.river_print.specs.Ranged as ranges
 
 -- a comparison that holds
 pub at_most : (m n : ℕ) → nat_le m n ≡ true → m ≤ n
@@ -35,7 +37,7 @@ at_most m n h = grind (arith, nat_tests)
 
 -- EXPRESSIONS
 
-spoken : (inputs slots : ℕ) (t : Term) → is_sound inputs slots t ≡ true → r.IsRangedTerm t → w.IsSpoken t
+spoken : (inputs slots : ℕ) (t : Term) → is_sound inputs slots t ≡ true → ranges.IsRangedTerm t → w.IsSpoken t
 spoken i s (Const (pos n)) h k = (n, refl, k)
 spoken i s (Const (negsuc n)) h k = absurd (true≢false (sym h))
 spoken i s (Input place) h k = k
@@ -44,10 +46,10 @@ spoken i s (Neg t) h k = spoken i s t h k
 spoken i s (Not t) h k = spoken i s t h k
 spoken i s (Bin o l m) h k = let a = and_parts (is_sound i s l) (is_sound i s m) h in (spoken i s l a.0 k.0, spoken i s m a.1 k.1)
 
-term : (inputs slots : ℕ) (t : Term) → is_term inputs slots t ≡ true → r.IsRangedTerm t → w.IsTerm t
+term : (inputs slots : ℕ) (t : Term) → is_term inputs slots t ≡ true → ranges.IsRangedTerm t → w.IsTerm t
 term i s t h k = let a = and_parts (is_sound i s t) (nat_le (depth_of t) 64) h in (spoken i s t a.0 k, at_most (depth_of t) 64 a.1)
 
-terms : (inputs slots : ℕ) (ts : List Term) → list_all (is_term inputs slots) ts ≡ true → w.Every r.IsRangedTerm ts → w.Every w.IsTerm ts
+terms : (inputs slots : ℕ) (ts : List Term) → list_all (is_term inputs slots) ts ≡ true → w.Every ranges.IsRangedTerm ts → w.Every w.IsTerm ts
 terms i s [] h k = tt
 terms i s (t ∷ ts) h k = let a = and_parts (is_term i s t) (list_all (is_term i s) ts) h in (term i s t a.0 k.0, terms i s ts a.1 k.1)
 
@@ -74,7 +76,7 @@ some_values outs port n h k = of_port (slice_get outs port) (there outs port h) 
     of_port (Some z) h k = let e : count_of z ≡ n = grind (arith, nat_tests, k) in omega (arith, e, h)
 
 mutual
-  step : (inputs slots : ℕ) (outs : List ℤ) (x : Step) → are_widths outs ≡ true → is_step inputs slots outs x ≡ true → r.IsRangedStep x → w.IsStep x
+  step : (inputs slots : ℕ) (outs : List ℤ) (x : Step) → are_widths outs ≡ true → is_step inputs slots outs x ≡ true → ranges.IsRangedStep x → w.IsStep x
   step i s outs (Set slot t) wide h k = let a = and_parts (nat_lt slot s) (is_term i s t) h in (k.0, term i s t a.1 k.1)
   step i s outs (Push port ts) wide h k =
       let a = and_parts (has_port outs port (length ts)) (list_all (is_term i s) ts) h in (k.0, some_values outs port (length ts) wide a.0, terms i s ts a.1 k.1)
@@ -83,7 +85,7 @@ mutual
       let b = and_parts (is_steps i s outs when) (is_steps i s outs otherwise) a.1 in
       (term i s cond a.0 k.0, steps i s outs when wide b.0 k.1, steps i s outs otherwise wide b.1 k.2)
 
-  steps : (inputs slots : ℕ) (outs : List ℤ) (xs : Steps) → are_widths outs ≡ true → is_steps inputs slots outs xs ≡ true → r.IsRangedSteps xs → w.IsSteps xs
+  steps : (inputs slots : ℕ) (outs : List ℤ) (xs : Steps) → are_widths outs ≡ true → is_steps inputs slots outs xs ≡ true → ranges.IsRangedSteps xs → w.IsSteps xs
   steps i s outs Done wide h k = tt
   steps i s outs (Then x xs) wide h k = let a = and_parts (is_step i s outs x) (is_steps i s outs xs) h in (step i s outs x wide a.0 k.0, steps i s outs xs wide a.1 k.1)
 
@@ -110,26 +112,26 @@ weights zs h k = let a = and_parts (nat_le 1 (length zs)) (list_all (λ z. nat_l
 
 -- KERNELS
 
-window : (x : Window) → r.IsRangedWindow x → r.IsForward x → w.IsWindow x
+window : (x : Window) → ranges.IsRangedWindow x → r.IsForward x → w.IsWindow x
 window Now k f = tt
 window (Range (pos n)) k f = (n, refl, k)
 window (Range (negsuc n)) k f = absurd f
 window Unbounded k f = tt
 window (Latest n) k f = k
 
-code : (c : CodeForm) → are_widths c.outs ≡ true → is_code c ≡ true → r.IsRangedCode c → depths c.body.steps ≤ 16 → w.IsCode c
+code : (c : CodeForm) → are_widths c.outs ≡ true → is_code c ≡ true → ranges.IsRangedCode c → depths c.body.steps ≤ 16 → w.IsCode c
 code c wide h k s =
     let a = and_parts (is_steps c.body.inputs c.body.slots c.outs c.body.steps) (nat_le (length c.starts) c.body.slots) h in
     (k.0.0, k.0.1, widths c.outs wide, k.2, (steps c.body.inputs c.body.slots c.outs c.body.steps wide a.0 k.0.2, s))
 
-filter : (f : FilterForm) → is_filter f ≡ true → r.IsRangedFilter f → depths f.body.steps ≤ 16 → w.IsFilter f
+filter : (f : FilterForm) → is_filter f ≡ true → ranges.IsRangedFilter f → depths f.body.steps ≤ 16 → w.IsFilter f
 filter f h k s =
     let a = and_parts (has_rates f) (is_steps f.peek f.body.slots (pos 1 ∷ []) f.body.steps && (nat_le (length f.starts) f.body.slots && is_number (pushes f.body.steps) f.push)) h in
     let b = and_parts (is_steps f.peek f.body.slots (pos 1 ∷ []) f.body.steps) (nat_le (length f.starts) f.body.slots && is_number (pushes f.body.steps) f.push) a.1 in
     let c = and_parts (nat_eq f.body.inputs f.peek) (nat_le 1 f.pop && nat_le f.pop f.peek) a.0 in
     (k.0, k.1, k.2, k.3.1, k.4, (steps f.peek f.body.slots (pos 1 ∷ []) f.body.steps refl b.0 k.3.2, s), same_eq f.body.inputs f.peek c.0)
 
-kernel : (k : Kern) (is os : List QueueType) (vs : List VarKind) → Fits k is os vs → r.IsRangedKernel k → r.IsShallow k → r.HasForward k → w.IsKernel k
+kernel : (k : Kern) (is os : List QueueType) (vs : List VarKind) → Fits k is os vs → ranges.IsRangedKernel k → r.IsShallow k → r.HasForward k → w.IsKernel k
 kernel (kern.code c) is os vs f k s d =
     let a = and_parts (is_width c.body.inputs) (are_widths c.outs && is_code c) f.3 in
     let b = and_parts (are_widths c.outs) (is_code c) a.1 in
@@ -156,7 +158,7 @@ kernel (kern.fused a b at) is os vs f k s d = (k.2, kernel a is f.0 f.3 f.5 k.0 
 
 -- PLANS
 
-operators : (p : PlanForm) (ops : List OpForm) → Each (IsFit p) ops → All (λ n. n ≤ 32) (nestings ops) → w.Every r.IsRangedOp ops → w.Every (λ op. r.IsShallow op.kernel) ops → w.Every (λ op. r.HasForward op.kernel) ops → w.Every w.IsOp ops
+operators : (p : PlanForm) (ops : List OpForm) → Each (IsFit p) ops → All (λ n. n ≤ 32) (nestings ops) → w.Every ranges.IsRangedOp ops → w.Every (λ op. r.IsShallow op.kernel) ops → w.Every (λ op. r.HasForward op.kernel) ops → w.Every w.IsOp ops
 operators p [] f n k s d = tt
 operators p (op ∷ ops) f n k s d = (
   (
@@ -171,12 +173,12 @@ operators p (op ∷ ops) f n k s d = (
 )
 
 -- a valid plan within the grammar's bounds has what the grammar has
-pub printable-writable : (p : PlanForm) → r.IsPrintable p → w.IsWritable p
-printable-writable p h = record {
-  outputs = h.ranged.outputs;
-  inputs = h.ranged.inputs;
-  queues = h.ranged.queues;
-  tables = h.ranged.tables;
-  vars = h.ranged.vars;
-  ops = operators p p.ops h.valid.fits (h.valid.within Nesting) h.ranged.ops h.shallow h.forward;
+pub printable-writable : (p : PlanForm) → IsPlan p → ranges.IsRanged p → r.IsPrintable p → w.IsWritable p
+printable-writable p valid ranged h = record {
+  outputs = ranged.outputs;
+  inputs = ranged.inputs;
+  queues = ranged.queues;
+  tables = ranged.tables;
+  vars = ranged.vars;
+  ops = operators p p.ops valid.fits (valid.within Nesting) ranged.ops h.shallow h.forward;
 }

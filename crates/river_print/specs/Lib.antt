@@ -1,4 +1,5 @@
 pub mod Laws
 pub mod Printable
 pub mod Printed
+pub mod Ranged
 pub mod Writable

@@ -5,5 +5,6 @@ mod items;
 mod kernel;
 pub mod laws;
 mod plan;
+mod ranges;
 
 pub use plan::{print_raw, print_river};

@@ -7,18 +7,20 @@ ghost use Rattle.river_print.specs.Printed.{flat_text, type_text, table_text, de
 
 use crate::items::{in_brackets, ports, two_in_brackets, var};
 use crate::kernel::print_kernel;
+use crate::ranges::read_plan;
 use kern_tables::TableKind;
 use river_base::{Bytes, FlatType, Name, NoMemory, QueueType};
 use river_plan::{Decl, Op, Plan, RawPlan, TableDecl};
 use std::alloc::Global;
 
 /// The River text of a valid plan, one unit a line. It is in the grammar and stands for the plan and for no other, exactly
-/// where the plan's numbers lie in the ranges of their types, `if` nests at most 16 deep and no window's range is below 0.
+/// where `if` nests at most 16 deep and no window's range is below 0.
 #[tactic(auto, using(crate::proofs::Promise::promises))]
 pub fn print_river(alloc: Global, plan: &Plan) -> Result<Bytes, NoMemory>
     ensures text { IfOk result (λ text. text ≡ plan_text plan.now) }
     ensures read { IfOk result (λ text. StandsForAlone text plan.now ↔ IsPrintable plan.now) }
 {
+    read_plan(plan.raw());
     print_raw(alloc, plan.raw())
 }
 

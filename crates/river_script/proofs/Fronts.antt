@@ -12,7 +12,7 @@ use Rattle.river_plan.specs.Forms.{PlanForm}
 use Rattle.plan_edits.specs.declared.unfit.Unfit.{Unfit as Why}
 use Rattle.text_forms.proofs.Texts.{bad-read}
 use Rattle.text_forms.specs.declared.refusal.Refusal.TheVariants.{BadByte, BigNumber, Syntax}
-use Rattle.river_text.proofs.Counts.{tokens-few, units-few}
+use Rattle.work_code.proofs.Counts.{tokens-few, units-few}
 use Rattle.river_script.specs.Grammar.{IsScript, IsBadAt, go_on}
 use Rattle.river_script.specs.Laws.{Has, MakesWhatItHas}
 use Rattle.river_script.specs.Meaning.{from_lexer, ended, then_applied, then_read, rewritten, Refused, IsEnded, IsUnread, at_unit}

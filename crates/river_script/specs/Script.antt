@@ -3,6 +3,7 @@ use Rattle.std.specs.Prelude.{◌≡◌, ℕ, suc, Result, Ok, Err, List, [], �
 use Rattle.river_base.specs.declared.item.Item as item
 use Rattle.river_plan.specs.Forms.{Name, PlanForm}
 use Rattle.river_plan.specs.Valid.{IsPlan}
+use Rattle.river_print.specs.Printable.{IsPrintable}
 use Rattle.brooklet_model.specs.Meaning.{meaning}
 use Rattle.brooklet_model.specs.Typed.{AreInputs}
 use Rattle.plan_edits.specs.declared.unfit.Unfit.{Unfit}
@@ -43,3 +44,7 @@ ScriptKeeps = (p p' : PlanForm) (ss : List StepForm) → IsPlan p → script_of 
 -- So it has the plan's meaning: the same items at each output, and the same rows in each table.
 abbrev pub ScriptMeans : Type 0
 ScriptMeans = (p p' : PlanForm) (ss : List StepForm) → IsPlan p → script_of p ss ≡ Ok p' → IsPlan p' × SameOuter p p' × ((inputs : List (List item.Item)) → AreInputs p.inputs inputs → meaning p' inputs ≡ meaning p inputs)
+
+-- And it keeps a plan within the two bounds of River text, so that what is printed of it stands for it.
+abbrev pub ScriptIsPrintable : Type 0
+ScriptIsPrintable = (p p' : PlanForm) (ss : List StepForm) → IsPrintable p → script_of p ss ≡ Ok p' → IsPrintable p'

@@ -1,7 +1,7 @@
 //! Laws of scripts.
 ghost use Rattle.river_script.specs.Grammar.{OneScript};
 ghost use Rattle.river_script.specs.Laws.{MakesWhatItHas};
-ghost use Rattle.river_script.specs.Script.{ScriptKeeps, ScriptMeans};
+ghost use Rattle.river_script.specs.Script.{ScriptIsPrintable, ScriptKeeps, ScriptMeans};
 
 /// A text stands for one list of steps at most.
 pub fn one_script()
@@ -23,4 +23,10 @@ pub fn script_keeps()
 /// The plan that a script makes has the plan's meaning, tables included.
 pub fn script_means()
     ensures { ScriptMeans }
+{}
+
+/// A script keeps that `if` nests at most 16 deep and no window's range is below 0, so what is printed of the plan that it makes of
+/// a plan that was read or translated is River text that stands for it.
+pub fn script_is_printable()
+    ensures { ScriptIsPrintable }
 {}

@@ -15,7 +15,7 @@ use text_forms::{Fault, Refusal};
 use work_code::{Tokens, Units, lex, units};
 
 /// The steps that a text stands for.
-#[tactic(auto, using(crate::proofs::Fronts::reads, river_text::proofs::Counts::counts))]
+#[tactic(auto, using(crate::proofs::Fronts::reads, work_code::proofs::Counts::counts))]
 pub(crate) fn read_script(alloc: Global, text: &Bytes) -> Result<Steps, ScriptFault>
     requires { length text.now < 2 ^ 32 }
     ensures read { IfOk result (λ steps. IsScript text.now (step_forms steps)) }
@@ -27,7 +27,7 @@ pub(crate) fn read_script(alloc: Global, text: &Bytes) -> Result<Steps, ScriptFa
 }
 
 // The steps of the tokens of a text.
-#[tactic(auto, using(river_text::proofs::Counts::counts))]
+#[tactic(auto, using(work_code::proofs::Counts::counts))]
 fn read_tokens(alloc: Global, tokens: &Tokens<'_>) -> Result<Steps, ScriptFault>
     requires { length tokens.now < 2 ^ 32 }
     ensures { GivesSteps result (read_steps 1 [] (units_of (toks tokens.now))) }

@@ -1,6 +1,5 @@
 pub mod Bodies
 pub mod Braces
-pub mod Counts
 pub mod Fronts
 pub mod Kernels
 pub mod Loops

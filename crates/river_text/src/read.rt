@@ -21,7 +21,7 @@ use work_code::{Tokens, Units, lex, units};
 ///
 /// `Lex` where the text has a fault in its bytes; otherwise `Syntax` with the first unit, from 1, that is not in the
 /// grammar; `NoMemory` where there is no memory.
-#[tactic(auto, using(crate::proofs::Texts::texts, crate::proofs::Counts::counts))]
+#[tactic(auto, using(crate::proofs::Texts::texts, work_code::proofs::Counts::counts))]
 pub fn read_river(alloc: Global, text: &Bytes) -> Result<RawPlan, TextFault>
     requires { length text.now < 2 ^ 32 }
     ensures read { IfOk result (λ plan. IsText text.now (plan_form plan)) }
@@ -32,7 +32,7 @@ pub fn read_river(alloc: Global, text: &Bytes) -> Result<RawPlan, TextFault>
 }
 
 // The plan of the tokens of a text.
-#[tactic(auto, using(crate::proofs::Counts::counts))]
+#[tactic(auto, using(work_code::proofs::Counts::counts))]
 fn read_tokens(alloc: Global, tokens: &Tokens<'_>) -> Result<RawPlan, TextFault>
     requires { length tokens.now < 2 ^ 32 }
     ensures { GivesPlan result (read_plan 0 1 empty_form (units_of (toks tokens.now))) }

@@ -4,7 +4,7 @@ use Rattle.std.specs.Prelude.{◌&&◌}
 use Rattle.std.specs.List.{list_all}
 use Rattle.std.proofs.lemmas.List.{length-replicate, take_more}
 use Rattle.std.proofs.lemmas.List.Folds.{list_all-append}
-use Rattle.streamit_model.specs.Rounds.{cycle}
+use Rattle.brooklet_model.specs.ByIndex.{cycle}
 use Rattle.streamit_model.specs.Elaborate.{Limit, Weights, on_ok, demand}
 use Rattle.streamit_model.specs.Judged.{fitting_round}
 

@@ -1,7 +1,7 @@
 // The weights of splitters and joiners.
 ghost use Rattle.std.specs.Prelude.{◌≡◌, ◌≤◌, replicate, nat_le, false, IfOk, IsTrue, ◌↔◌};
 ghost use Rattle.std.specs.List.{list_all};
-ghost use Rattle.streamit_model.specs.Rounds.{cycle};
+ghost use Rattle.brooklet_model.specs.ByIndex.{cycle};
 ghost use Rattle.streamit_model.specs.Judged.{round_of, fitting_round};
 ghost use Rattle.streamit_unroll.specs.View.{Judges};
 ghost use Rattle.streamit_build.specs.Program.{items_of};

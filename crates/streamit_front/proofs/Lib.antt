@@ -1,2 +1,4 @@
 pub mod Fronts
+pub mod Nested
+pub mod Printable
 pub mod Readable

@@ -31,12 +31,12 @@ and-both true b h = (refl, h)
 and-both false b h = absurd (cc h)
 
 -- one or the other
-chosen : {A : Type 0} (P : Type 0) (F G : A → List Tok → Type 0) (b : Bool) (v : A) (ts : List Tok) → form.Choose b F G v ts → (F v ts → P) → (G v ts → P) → P
+pub chosen : {A : Type 0} (P : Type 0) (F G : A → List Tok → Type 0) (b : Bool) (v : A) (ts : List Tok) → form.Choose b F G v ts → (F v ts → P) → (G v ts → P) → P
 chosen P F G true v ts h f g = f h
 chosen P F G false v ts h f g = g h
 
 -- what stands within brackets
-enclosed : {A : Type 0} (P : A → Type 0) (l r : Symbol) (F : ℕ → A → List Tok → Type 0) (n : ℕ) (v : A) (ts : List Tok) → form.Enclosed l r F n v ts → ((m : ℕ) (us : List Tok) → F m v us → P v) → P v
+pub enclosed : {A : Type 0} (P : A → Type 0) (l r : Symbol) (F : ℕ → A → List Tok → Type 0) (n : ℕ) (v : A) (ts : List Tok) → form.Enclosed l r F n v ts → ((m : ℕ) (us : List Tok) → F m v us → P v) → P v
 enclosed P l r F zero v ts h f = absurd h
 enclosed P l r F (suc n) v ts h f = f n h.formed.front h.formed.formed
 

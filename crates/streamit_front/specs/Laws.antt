@@ -5,6 +5,7 @@ use Rattle.work_code.specs.declared.fault.LexFault.TheVariants as lex
 use Rattle.text_forms.specs.declared.refusal.Refusal.TheVariants.{BadByte, BigNumber, Syntax}
 use Rattle.river_plan.specs.Forms.{Name}
 use Rattle.river_plan.specs.Valid.{IsPlan}
+use Rattle.river_print.specs.Printable.{IsPrintable}
 use Rattle.brooklet_model.specs.Meaning.{meaning}
 use Rattle.streamit_model.specs.Build.{plan_of}
 use Rattle.streamit_model.specs.Program.{Program, program_outputs}
@@ -39,3 +40,7 @@ abbrev pub PlansMean : Type 0
 PlansMean =
     (text : List ℕ) (a : Accepted) (xs : List ℤ) → compiled text ≡ Ok a
     → IsPlan (plan_of a.stream) × (meaning (plan_of a.stream) (as_items xs ∷ []) ≡ record { outs = as_items (program_outputs a.program xs) ∷ []; tables = [] })
+
+-- the plan of a text's program is within the bounds of River text: what is printed of it stands for it, by the promise of the printer
+abbrev pub PlansArePrintable : Type 0
+PlansArePrintable = (text : List ℕ) (a : Accepted) → compiled text ≡ Ok a → IsPrintable (plan_of a.stream)

@@ -29,7 +29,7 @@ use work_code::{LexFault, Tokens, lex};
 /// `Text` with the first fault of the bytes where they have no tokens; otherwise with `Syntax` and the first unit, from
 /// 1, that is not in the grammar; otherwise the first fault of the program in the order in which it is read, with its
 /// unit; `NoMemory` where there is no memory.
-#[tactic(auto, unfolding(crate::specs::Meaning::compiled), using(river_text::proofs::Counts::counts))]
+#[tactic(auto, unfolding(crate::specs::Meaning::compiled), using(work_code::proofs::Counts::counts))]
 pub fn compile_streamit(alloc: Global, text: &Bytes) -> Result<Plan, StreamitFault>
     requires { length text.now < 2 ^ 32 }
     ensures plan { IfOk result (λ plan. (a : Accepted) × (compiled text.now ≡ Ok a) × (plan ≡ plan_of a.stream)) }

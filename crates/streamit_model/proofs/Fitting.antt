@@ -22,7 +22,7 @@ use Rattle.river_plan.specs.Uses.{Each, total, reads_it, writes_it, vars_it, nam
 use Rattle.river_plan.specs.Kinds.{FitsAt}
 use Rattle.river_plan.specs.Limits.{most_of, port_numbers, kernel_numbers, nestings}
 use Rattle.river_plan.proofs.NameLemmas.{one_same, more_or_zero}
-use Rattle.streamit_model.specs.Rounds.{cycle}
+use Rattle.brooklet_model.specs.ByIndex.{cycle}
 use Rattle.streamit_model.specs.Stream.{Splitter, Duplicate, RoundRobin, IsSplitter, IsRound, IsSmallFilter, IsSmallSplitter}
 use Rattle.streamit_model.specs.Build.{queue, queues, weights, splitter}
 use Rattle.streamit_model.proofs.EachOp.{OfEach}

@@ -21,7 +21,7 @@ use Rattle.streamit_model.specs.Elaborate.{Limit, PeekRange, on_ok, Known, Var, 
 use Rattle.std.proofs.lemmas.List.{length-replicate}
 use Rattle.std.proofs.Math.Nat.{le_refl}
 use Rattle.streamit_model.specs.FilterSource.{FilterTree, elaborated, read_fields, nothing_read, starts_of}
-use Rattle.streamit_model.proofs.Formed.{steps_within}
+use Rattle.river_kernels.proofs.WellFormed.{steps_within}
 use Rattle.streamit_model.proofs.FilterMet.{fields_few, elaborated_parts, fields_read, sound_nothing}
 use Rattle.streamit_model.proofs.Elaborated.{ok_is, ok_parts, if_ok, IsSound, more_slots, Grown, left, at_arm, at_second, turning, grows_turn, unrolled_grows, step_grows, steps_grow, turned, declared_parts, assigned_parts, pushed_parts, forked_parts, looped_parts, followed_parts}
 

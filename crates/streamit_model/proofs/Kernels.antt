@@ -14,15 +14,16 @@ use Rattle.kern_rows.specs.Turns.{turns_start, settled, itself}
 use Rattle.std.proofs.lemmas.List.{length-map}
 use Rattle.brooklet_model.proofs.Feeds.{one_input}
 use Rattle.streamit_model.specs.Stream.{IsRound}
-use Rattle.streamit_model.specs.Rounds.{dealt, collected}
+use Rattle.brooklet_model.specs.ByIndex.{dealt, collected}
 use Rattle.streamit_model.specs.Filters.{filtered}
 use Rattle.streamit_model.specs.Build.{weights}
 use Rattle.streamit_model.specs.Laws.{as_items}
-use Rattle.streamit_model.proofs.Formed.{can_filter}
+use Rattle.river_kernels.proofs.WellFormed.{can_filter}
 use Rattle.streamit_model.proofs.FilterFed.{filter_fed}
-use Rattle.streamit_model.proofs.Dealt.{copied, shares_are, deals, dealt_map}
-use Rattle.streamit_model.proofs.Cycles.{positive_cycle}
-use Rattle.streamit_model.proofs.Collected.{fed_joins, settles, collected_map, blanks_filled}
+use Rattle.brooklet_model.proofs.Dealt.{deals}
+use Rattle.brooklet_model.proofs.Cycles.{positive_cycle}
+use Rattle.brooklet_model.proofs.Collected.{fed_joins, settles}
+use Rattle.streamit_model.proofs.Rounds.{copied, shares_are, dealt_map, collected_map, blanks_mapped}
 
 pub filter_means : (f : FilterForm) (g : ℕ → List item.Item) (xs : List ℤ) → IsTrue (is_filter f) → g 0 ≡ as_items xs → (feed_all (filter f) g (first_kept (filter f))).outs 0 ≡ as_items (filtered f xs)
 filter_means f g xs ok e =
@@ -50,7 +51,7 @@ collect_means ws g ls r e =
     ap (λ v. (run (join_one itself v) (port_by_port (length (weights ws)) 0 g) (Joining (turns_start (length (weights ws))) ∷ [])).outs 0) sh
     ∙ ap (λ k. (run (join_one itself ws) (port_by_port k 0 g) (Joining (turns_start k) ∷ [])).outs 0) len
     ∙ fed_joins ws n g
-    ∙ ap (λ t. (settled itself ws (record { port = 0; had = 0; lists = t })).0) (blanks_filled f ls g e)
+    ∙ ap (λ t. (settled itself ws (record { port = 0; had = 0; lists = t })).0) (blanks_mapped f ls g e)
     ∙ cases_empty ws ls r
   where
     cases_empty : (ws : List ℕ) (ls : List (List ℤ)) → IsRound ws (length ls) → (settled itself ws (record { port = 0; had = 0; lists = map as_items ls })).0 ≡ as_items (collected ws ls)

@@ -6,7 +6,7 @@ use Rattle.std.proofs.lemmas.Bool.{and_parts}
 use Rattle.river_base.specs.Name.{name_eq}
 use Rattle.river_plan.specs.Forms.{Name}
 use Rattle.streamit_model.specs.Stream.{Splitter, Duplicate, RoundRobin, Stream, Filter, Pipeline, SplitJoin, Streams, Last, Then, number_of, nesting, IsStream, AreStreams, IsSmall, AreSmall, IsRound, IsSplitter, IsSmallSplitter}
-use Rattle.streamit_model.specs.Rounds.{cycle, dealt, collected}
+use Rattle.brooklet_model.specs.ByIndex.{cycle, dealt, collected}
 use Rattle.streamit_model.specs.Means.{split, outputs, in_line, side_by_side}
 use Rattle.streamit_model.specs.Elaborate.{Fault, Limit, Weights, on_ok, demand}
 use Rattle.streamit_model.specs.FilterSource.{elaborated}

@@ -3,7 +3,7 @@ use Rattle.std.specs.Prelude.{ℕ, suc, Bool, true, ◌&&◌, List, [], ◌∷�
 use Rattle.std.specs.List.{list_all}
 use Rattle.river_plan.specs.Forms.{Name}
 use Rattle.streamit_model.specs.Stream.{Splitter, Duplicate, RoundRobin, Stream, Filter, Pipeline, SplitJoin, Streams, Last, Then, nesting}
-use Rattle.streamit_model.specs.Rounds.{cycle}
+use Rattle.brooklet_model.specs.ByIndex.{cycle}
 use Rattle.streamit_model.specs.Build.{ops_in}
 use Rattle.streamit_model.specs.Elaborate.{Fault, UnknownName, NameTwice, Limit, Weights, on_ok, demand}
 use Rattle.streamit_model.specs.FilterSource.{elaborated}

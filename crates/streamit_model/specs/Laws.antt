@@ -13,7 +13,7 @@ use Rattle.brooklet_model.specs.Fire.{first_kept}
 use Rattle.brooklet_model.specs.Words.{feed_all}
 use Rattle.brooklet_model.specs.Histories.{History, Solves}
 use Rattle.brooklet_model.specs.Meaning.{meaning}
-use Rattle.streamit_model.specs.Rounds.{item_at, dealt, collected}
+use Rattle.brooklet_model.specs.ByIndex.{item_at, dealt, collected}
 use Rattle.streamit_model.specs.Stream.{Stream, IsRound, IsStream, IsSmall}
 use Rattle.streamit_model.specs.Filters.{filtered}
 use Rattle.streamit_model.specs.Means.{outputs}

@@ -6,7 +6,6 @@ pub mod Judged
 pub mod Laws
 pub mod Means
 pub mod Program
-pub mod Rounds
 pub mod Shallow
 pub mod Source
 pub mod Stream

@@ -1,7 +1,7 @@
 -- What a stream means: the items of its output, for all the items of its input.
 use Rattle.std.specs.Prelude.{ℕ, suc, ℤ, List, [], ◌∷◌}
 use Rattle.streamit_model.specs.Stream.{Splitter, Duplicate, RoundRobin, Stream, Filter, Pipeline, SplitJoin, Streams, Last, Then}
-use Rattle.streamit_model.specs.Rounds.{dealt, collected}
+use Rattle.brooklet_model.specs.ByIndex.{dealt, collected}
 use Rattle.streamit_model.specs.Filters.{filtered}
 
 -- what branch p takes

@@ -4,7 +4,7 @@ use Rattle.std.specs.List.{AllByRecursion}
 use Rattle.kern_rows.specs.Forms.{FilterForm}
 use Rattle.river_kernels.specs.Formed.{is_filter}
 use Rattle.river_kernels.specs.Limits.{size}
-use Rattle.streamit_model.specs.Rounds.{cycle}
+use Rattle.brooklet_model.specs.ByIndex.{cycle}
 
 -- a splitter copies each item to every branch, or deals so many items to each branch in turn
 pub data Splitter : Type 0 where

@@ -1,6 +1,5 @@
 pub mod Adding
 pub mod Blocks
-pub mod Counts
 pub mod Fields
 pub mod Programs
 pub mod Rates

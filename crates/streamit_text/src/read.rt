@@ -20,7 +20,7 @@ use work_code::{Lexeme, Tokens, units};
 ///
 /// `Syntax` with the first unit, from 1, that is not in the grammar, which is 1 where there is no unit; `NoMemory` where
 /// there is no memory.
-#[tactic(auto, using(crate::proofs::Programs::programs, crate::proofs::Counts::counts))]
+#[tactic(auto, using(crate::proofs::Programs::programs, work_code::proofs::Counts::counts))]
 pub fn read_streamit<'t>(
     alloc: Global,
     tokens: &'t Tokens<'_>,

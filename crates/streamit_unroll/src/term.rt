@@ -1,19 +1,16 @@
 // Expressions of a filter, where names are known.
 ghost use Rattle.std.specs.Prelude.{◌≡◌, ◌<◌, ◌≤◌, ◌+◌, ◌^◌, OnOk};
 ghost use Rattle.text_forms.specs.Tree.{spoken};
-ghost use Rattle.river_base.specs.Number as number;
 ghost use Rattle.work_code.specs.Term.{term};
-ghost use Rattle.work_code.specs.Value.{applied, truth};
 ghost use Rattle.streamit_model.specs.Source.{pops};
 ghost use Rattle.streamit_model.specs.Elaborate.{constant, term_of, peeked};
 ghost use Rattle.streamit_unroll.specs.View.{scope_of, Judges};
 ghost use Rattle.streamit_unroll.specs.Numbers.{AreValues, same};
 
 use crate::{Fault, Known, Names};
-use river_base::{add, mul, quot, rem, sub};
 use std::alloc::Global;
 use text_forms::Tree;
-use work_code::{BinOp, Expr};
+use work_code::{Expr, apply, negate, truth_of};
 
 // The value of a constant expression.
 pub fn constant(names: &Names<'_>, tree: &Tree<'_>) -> Result<i64, Fault>
@@ -109,37 +106,4 @@ fn peeked(peek: u32, popped: u32, index: i64) -> Result<Expr, Fault>
     } else {
         Err(Fault::PeekRange { index, peek })
     }
-}
-
-// The value of an operation on two values.
-fn apply(op: BinOp, a: i64, b: i64) -> i64
-    ensures { result ≡ applied op a b }
-{
-    match op {
-        BinOp::Add => add(a, b),
-        BinOp::Sub => sub(a, b),
-        BinOp::Mul => mul(a, b),
-        BinOp::Quot => quot(a, b),
-        BinOp::Rem => rem(a, b),
-        BinOp::Eq => truth_of(a == b),
-        BinOp::Ne => truth_of(a != b),
-        BinOp::Lt => truth_of(a < b),
-        BinOp::Le => truth_of(a <= b),
-        BinOp::Gt => truth_of(a > b),
-        BinOp::Ge => truth_of(a >= b),
-        BinOp::And => truth_of(a != 0 && b != 0),
-        BinOp::Or => truth_of(a != 0 || b != 0),
-    }
-}
-
-fn truth_of(test: bool) -> i64
-    ensures { result ≡ truth test }
-{
-    if test { 1 } else { 0 }
-}
-
-fn negate(a: i64) -> i64
-    ensures { result ≡ number.negate a }
-{
-    a.wrapping_neg()
 }

@@ -1,4 +1,5 @@
 pub mod Apart
+pub mod Counts
 pub mod Cuts
 pub mod Ends
 pub mod Gaps

@@ -27,8 +27,8 @@ pub fn eval(e: &Expr, input: &[i64], slots: &[i64]) -> i64
     }
 }
 
-// The value of an operation on two values.
-fn apply(op: BinOp, a: i64, b: i64) -> i64
+/// The value of an operation on two values; it takes no memory.
+pub fn apply(op: BinOp, a: i64, b: i64) -> i64
     ensures { result ≡ applied op a b }
 {
     match op {
@@ -48,13 +48,15 @@ fn apply(op: BinOp, a: i64, b: i64) -> i64
     }
 }
 
-fn truth_of(test: bool) -> i64
+/// 1 where the test holds, and otherwise 0.
+pub fn truth_of(test: bool) -> i64
     ensures { result ≡ truth test }
 {
     if test { 1 } else { 0 }
 }
 
-fn negate(a: i64) -> i64
+/// The value with its sign turned, modulo 2^64.
+pub fn negate(a: i64) -> i64
     ensures { result ≡ number.negate a }
 {
     a.wrapping_neg()

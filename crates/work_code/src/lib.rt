@@ -20,7 +20,7 @@ mod unit;
 
 pub use code::{Code, Emitted, Stmt, Stmts};
 pub use cut::Units;
-pub use evaluate::eval;
+pub use evaluate::{apply, eval, negate, truth_of};
 pub use expr::{BinOp, Expr, Exprs};
 pub use fault::LexFault;
 pub use lexer::lex;

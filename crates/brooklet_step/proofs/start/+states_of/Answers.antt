@@ -8,7 +8,7 @@ use Rattle.brooklet_step.proofs.Starts.{leaf_first, packed_first, fused_first}
 use Rattle.brooklet_step.proofs.start.+states_of.Goals as goal
 
 pub returns-then-is_leaf : goal.returns-then-is_leaf
-returns-then-is_leaf t c = leaf_first (kern_of c.args.kernel.now) c.in_ok-states.states (c.if-is_leaf.ensures.0 refl) c.requires.formed c.in_ok-states.ensures
+returns-then-is_leaf t c = leaf_first (kern_of c.args.kernel.now) c.in_ok-states.states (c.if-is_leaf.ensures.0 refl) c.requires c.in_ok-states.ensures
 
 pub returns-in_ok-states-in-Packed : goal.returns-in_ok-states-in-Packed
 returns-in_ok-states-in-Packed t c =
@@ -26,4 +26,4 @@ returns-in_ok-append-in-Fused t c =
     let st = c.in_ok-states-in-Fused.states in
     let more = c.in_ok-states_of-in-Fused.field-0 in
     subst (λ i. IsFirst i c.append.new.self) (sym ek)
-    (subst (IsFirst (fused a b at)) (sym c.in_ok-append-in-Fused.ensures) (fused_first a b at st more (subst IsFormed ek c.requires.formed) c.in_ok-states-in-Fused.ensures c.in_ok-states_of-in-Fused.ensures))
+    (subst (IsFirst (fused a b at)) (sym c.in_ok-append-in-Fused.ensures) (fused_first a b at st more (subst IsFormed ek c.requires) c.in_ok-states-in-Fused.ensures c.in_ok-states_of-in-Fused.ensures))

@@ -1,5 +1,5 @@
 use Rattle.std.proofs.Common.{◌≡◌, ◌+◌, take}
-use Rattle.streamit_model.specs.Rounds.{cycle}
+use Rattle.brooklet_model.specs.ByIndex.{cycle}
 use Rattle.streamit_build.proofs.rounds.is_low.Given as goal
 
 abbrev pub invariant-loop-weight : goal.invariant-loop-weight

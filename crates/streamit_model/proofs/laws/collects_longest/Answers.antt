@@ -1,5 +1,5 @@
-use Rattle.streamit_model.proofs.Longest as longest
+use Rattle.streamit_model.proofs.Rounds.{collects_longest}
 use Rattle.streamit_model.proofs.laws.collects_longest.Goals as goal
 
 pub returns : goal.returns
-returns c = longest.collects_longest
+returns c = collects_longest

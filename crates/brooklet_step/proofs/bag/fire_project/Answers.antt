@@ -1,0 +1,24 @@
+use Rattle.std.proofs.Common.{◌≡◌, [], ◌++◌, sym, ap, ◌∙◌, subst}
+use Rattle.work_code.specs.Term.{terms}
+use Rattle.river_base.specs.declared.item.Item.TheVariants.{Flat}
+use Rattle.kern_bags.specs.Needs.{flat_rows, CanProject}
+use Rattle.kern_bags.specs.Steps.{project_one}
+use Rattle.brooklet_model.specs.Firings.{gives}
+use Rattle.brooklet_step.specs.Took.{Took}
+use Rattle.brooklet_step.proofs.BagLeaves.{same_flat}
+use Rattle.brooklet_step.proofs.bag.fire_project.Goals as goal
+
+pub flat_of-requires : goal.flat_of-requires
+flat_of-requires c = record { content = c.requires.item.content; is = c.requires.item.is; holds = tt }
+
+pub project-requires : goal.project-requires
+project-requires c =
+    let h = c.requires.item in
+    subst (λ f. CanProject (terms c.args.list.now) (flat_rows f)) (same_flat h.content c.flat_of.result (sym h.is ∙ sym c.flat_of.ensures)) h.holds
+
+pub returns : goal.returns
+returns c =
+    let es = terms c.args.list.now in
+    let given : c.project.new.out ≡ project_one es c.args.item =
+    c.in_ok-project.ensures.ok ∙ ap (λ l. l ++ project_one es (Flat c.flat_of.result)) c.new-items.ensures ∙ ap (project_one es) c.flat_of.ensures in
+    subst (λ l. Took c.args.out.now c.give_all.new.self (gives 0 l [])) given c.in_ok-give_all.ensures

@@ -1,0 +1,10 @@
+pub mod Faults
+pub mod Grammar
+pub mod Measure
+pub mod Laws
+pub mod Reading
+pub mod Tree
+pub mod ValueReading
+pub mod Values
+pub mod View
+pub mod Words

@@ -1,0 +1,178 @@
+// Units read.
+ghost use Rattle.std.specs.Prelude.{◌≡◌};
+ghost use Rattle.work_code.specs.Tok.{tokens_of};
+ghost use Rattle.text_forms.specs.Gives.{Gives};
+ghost use Rattle.text_forms.specs.Texts.{whole};
+ghost use Rattle.cql_text.specs.Faults.{Makes};
+ghost use Rattle.cql_text.specs.Grammar.{kind_of};
+ghost use Rattle.cql_text.specs.Reading.{kind_at, where_at, behind_at, selected_at, query_at, names_at, fields_at, stream_at, part_at};
+ghost use Rattle.cql_text.specs.Tree.{condition_of, part_of};
+ghost use Rattle.cql_text.specs.View.{behind_of, selected_of, ask_of, register_of};
+
+use crate::column::in_round;
+use crate::keywords::{is_at_keyword, is_keyword, keyword, plain_name, takes_keyword};
+use crate::value::value;
+use crate::window::sources;
+use crate::{Columns, Kind, Part, Query, Scalar, Source, Stream};
+use river_base::Name;
+use std::alloc::Global;
+use text_forms::{Fault, Reader};
+use work_code::{Lexeme, Symbol};
+
+// The kind of this word.
+fn kind_of(text: &[u8]) -> Option<Kind>
+    ensures { result ≡ kind_of text.now }
+{
+    if is_keyword(text, b"istream") {
+        Some(Kind::Istream)
+    } else if is_keyword(text, b"dstream") {
+        Some(Kind::Dstream)
+    } else if is_keyword(text, b"rstream") {
+        Some(Kind::Rstream)
+    } else {
+        None
+    }
+}
+
+// The kind of a query.
+#[tactic(auto, unfolding(crate::specs::Reading::kind_at))]
+fn kind(reader: &mut Reader<'_>) -> Result<Kind, Fault>
+    ensures { Gives (λ kind. kind) result reader.new (kind_at reader.old) }
+{
+    let text = reader.name()?;
+    match kind_of(text) {
+        Some(kind) => Ok(kind),
+        None => Err(Fault::Syntax),
+    }
+}
+
+// `Where` and a condition, or nothing.
+#[tactic(auto, unfolding(crate::specs::Reading::where_at))]
+fn condition(reader: &mut Reader<'_>, alloc: Global) -> Result<Option<Scalar>, Fault>
+    ensures { Gives condition_of result reader.new (where_at reader.old) }
+{
+    if !takes_keyword(reader, b"where") {
+        return Ok(None);
+    }
+    Ok(Some(value(reader, alloc, 128)?))
+}
+
+// What stands behind `From`.
+#[derive(Drop)]
+struct Behind {
+    items: Vec<Source>,
+    condition: Option<Scalar>,
+}
+
+#[tactic(auto, unfolding(crate::specs::Reading::behind_at))]
+fn after_from(reader: &mut Reader<'_>, alloc: Global) -> Result<Behind, Fault>
+    ensures { Gives behind_of result reader.new (behind_at reader.old) }
+{
+    let items = sources(reader, alloc)?;
+    let condition = condition(reader, alloc)?;
+    reader.expect(&[Symbol::Semicolon])?;
+    Ok(Behind { items, condition })
+}
+
+// What stands behind `Select`.
+#[derive(Drop)]
+struct Selected {
+    kind: Kind,
+    columns: Columns,
+    behind: Behind,
+}
+
+#[tactic(auto, unfolding(crate::specs::Reading::selected_at))]
+fn after_select(reader: &mut Reader<'_>, alloc: Global) -> Result<Selected, Fault>
+    ensures { Gives selected_of result reader.new (selected_at reader.old) }
+{
+    let kind = kind(reader)?;
+    let columns = in_round(reader, alloc)?;
+    keyword(reader, b"from")?;
+    let behind = after_from(reader, alloc)?;
+    Ok(Selected {
+        kind,
+        columns,
+        behind,
+    })
+}
+
+// A query.
+#[tactic(auto, unfolding(crate::specs::Reading::query_at))]
+fn query(reader: &mut Reader<'_>, alloc: Global) -> Result<Query, Fault>
+    ensures { Gives ask_of result reader.new (query_at reader.old) }
+{
+    keyword(reader, b"query")?;
+    let name = plain_name(reader)?;
+    reader.expect(&[Symbol::Colon])?;
+    keyword(reader, b"select")?;
+    let selected = after_select(reader, alloc)?;
+    Ok(Query {
+        name,
+        kind: selected.kind,
+        columns: selected.columns,
+        items: selected.behind.items,
+        condition: selected.behind.condition,
+    })
+}
+
+// Names, at least one.
+#[tactic(auto, unfolding(crate::specs::Reading::names_at), using(crate::proofs::Lists::names))]
+fn names(reader: &mut Reader<'_>, alloc: Global) -> Result<Vec<Name>, Fault>
+    ensures { Gives (λ list. list.items) result reader.new (names_at reader.old) }
+{
+    let mut list = Vec::new(alloc);
+    list.push(plain_name(reader)?)?;
+    'items: while reader.takes(Symbol::Comma) {
+        list.push(plain_name(reader)?)?;
+    }
+    Ok(list)
+}
+
+// The fields of a stream, up to the end of the unit.
+#[tactic(auto, unfolding(crate::specs::Reading::fields_at))]
+fn fields(reader: &mut Reader<'_>, alloc: Global) -> Result<Vec<Name>, Fault>
+    ensures { Gives (λ list. list.items) result reader.new (fields_at reader.old) }
+{
+    reader.expect(&[Symbol::Open])?;
+    let fields = names(reader, alloc)?;
+    reader.expect(&[Symbol::Close, Symbol::Semicolon])?;
+    Ok(fields)
+}
+
+// A stream that is registered.
+#[tactic(auto, unfolding(crate::specs::Reading::stream_at))]
+fn stream(reader: &mut Reader<'_>, alloc: Global) -> Result<Stream, Fault>
+    ensures { Gives register_of result reader.new (stream_at reader.old) }
+{
+    keyword(reader, b"register")?;
+    keyword(reader, b"stream")?;
+    let name = plain_name(reader)?;
+    let fields = fields(reader, alloc)?;
+    Ok(Stream { name, fields })
+}
+
+// A unit.
+#[tactic(auto, unfolding(crate::specs::Reading::part_at))]
+fn part(reader: &mut Reader<'_>, alloc: Global) -> Result<Part, Fault>
+    ensures { Gives part_of result reader.new (part_at reader.old) }
+{
+    if is_at_keyword(reader, b"register") {
+        Ok(Part::Register(stream(reader, alloc)?))
+    } else {
+        Ok(Part::Ask(query(reader, alloc)?))
+    }
+}
+
+/// The part of a program that a whole unit stands for.
+#[tactic(auto, using(crate::proofs::Wholes::wholes))]
+pub fn whole_part(alloc: Global, tokens: &[Lexeme<'_>]) -> Result<Part, Fault>
+    ensures { Makes part_of result (whole part_at (tokens_of tokens.now)) }
+{
+    let mut reader = Reader::new(tokens);
+    let part = part(&mut reader, alloc)?;
+    if !reader.is_at_end() {
+        return Err(Fault::Syntax);
+    }
+    Ok(part)
+}

@@ -1,0 +1,95 @@
+// The records of a file, and the values in their fields.
+ghost use Rattle.std.specs.Prelude.{◌≡◌, ◌≤◌, ◌<◌, ◌+◌, true, length, take, option_and_then, Some, Ok, Err, IfOk, OnOk, IfErr};
+ghost use Rattle.csv.specs.Reading.{Ready, ReadRecord, reader_trim, took_first};
+ghost use Rattle.csv.specs.Records.{fields_of, field_at};
+ghost use Rattle.csv.specs.declared.reader.Trim.TheVariants as trim;
+ghost use Rattle.csv_streams.specs.Number.{number_of};
+ghost use Rattle.csv_streams.specs.Numbered.{numbered};
+ghost use Rattle.csv_streams.specs.Rows.{value_or, value_in, has_width, row_in, headers};
+ghost use Rattle.csv_streams.specs.declared.fault.InFault.TheVariants as fault;
+
+use crate::{InFault, read_number};
+use csv::{ByteRecord, Reader};
+use river_base::MAX_ROW;
+
+// How many fields of a record are read at most: a timestamp, and a row.
+const MAX_FIELDS: usize = MAX_ROW + 1;
+
+/// Reads the next record, if there is one; a reader of bytes fails for want of memory alone.
+pub fn read_record(rdr: &mut Reader<&[u8]>, raw: &mut ByteRecord) -> Result<bool, InFault>
+    requires trim { reader_trim rdr.old ≡ trim.None }
+    requires ready { Ready rdr.old }
+    ensures ok { IfOk result (λ found. ReadRecord (λ s. Some s.now) rdr.old rdr.new found (fields_of raw.new)) }
+    ensures first { OnOk result (took_first rdr.new ≡ true) }
+    ensures fault { IfErr result (λ f. f ≡ fault.NoMemory) }
+{
+    match rdr.read_byte_record(raw) {
+        Ok(found) => Ok(found),
+        Err(_) => Err(InFault::NoMemory),
+    }
+}
+
+/// How many records are passed over at the front.
+pub fn headers(skip_first: bool) -> u32
+    ensures { result ≡ headers skip_first }
+{
+    if skip_first { 1 } else { 0 }
+}
+
+/// The first values of record number `rec`, as many as `width`, where `last` is the number of the last record that may be.
+pub fn values_in(
+    raw: &ByteRecord,
+    rec: u32,
+    last: u32,
+    width: usize,
+    more: bool,
+) -> Result<[i64; 17], InFault>
+    requires { width ≤ 17 }
+    ensures room { IfOk result (λ values. length values ≡ 17) }
+    ensures ok { IfOk result (λ values. row_in width more last rec (fields_of raw.now) ≡ Ok (take width values)) }
+    ensures fault { IfErr result (λ f. row_in width more last rec (fields_of raw.now) ≡ Err f) }
+{
+    if rec > last {
+        return Err(InFault::TooMany);
+    }
+    if !has_width(raw.len(), width, more) {
+        return Err(InFault::Width { rec });
+    }
+    values_of(raw, rec, width)
+}
+
+// Whether a record of so many fields has a row of this width.
+fn has_width(count: usize, width: usize, more: bool) -> bool
+    ensures { result ≡ has_width width more count }
+{
+    if more { width <= count } else { count == width }
+}
+
+// The values of the first fields, as many as `width`.
+fn values_of(raw: &ByteRecord, rec: u32, width: usize) -> Result<[i64; 17], InFault>
+    requires at_most { width ≤ 17 }
+    requires within { width ≤ length (fields_of raw.now) }
+    ensures room { IfOk result (λ values. length values ≡ 17) }
+    ensures ok { IfOk result (λ values. numbered (value_in rec) 1 (take width (fields_of raw.now)) ≡ Ok (take width values)) }
+    ensures fault { IfErr result (λ f. numbered (value_in rec) 1 (take width (fields_of raw.now)) ≡ Err f) }
+{
+    let mut values = [0; MAX_FIELDS];
+    for place in 0..width {
+        values[place] = value_at(raw, rec, place)?;
+    }
+    Ok(values)
+}
+
+// The value of the field at a place, from 0.
+fn value_at(raw: &ByteRecord, rec: u32, place: usize) -> Result<i64, InFault>
+    requires { place < 17 }
+    ensures { result ≡ value_or rec (place + 1) (option_and_then number_of (field_at (fields_of raw.now) place)) }
+{
+    match raw.get(place).and_then(read_number) {
+        Some(x) => Ok(x),
+        None => Err(InFault::NotNumber {
+            rec,
+            field: place as u32 + 1,
+        }),
+    }
+}

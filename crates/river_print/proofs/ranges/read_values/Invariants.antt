@@ -1,0 +1,6 @@
+use Rattle.std.proofs.Common.{drop, map}
+use Rattle.river_print.specs.Writable.{Every, IsStart}
+use Rattle.river_print.proofs.ranges.read_values.Given as goal
+
+abbrev pub invariant-loop-item : goal.invariant-loop-item
+invariant-loop-item l = Every IsStart (drop l.item-index l.items) → Every IsStart (l.items)

@@ -1,0 +1,37 @@
+-- How the code's answers stand to what is read.
+use Rattle.std.specs.Prelude.{◌≡◌, List, Option, None, Some, Result, Ok, Err, map, IsTrue}
+use Rattle.std.proofs.Common.{Vec, Global}
+use Rattle.river_base.specs.Name.{is_name}
+use Rattle.text_forms.specs.Tree.{Spoken}
+use Rattle.text_forms.specs.Tree as tree
+use Rattle.text_forms.specs.declared.fault.Fault.{Fault}
+use Rattle.text_forms.specs.declared.fault.Fault.TheVariants.{Syntax, NoMemory}
+use Rattle.saw_model.specs.Source as source
+use Rattle.saw_text.specs.declared.tree.Expr.{Expr}
+use Rattle.saw_text.specs.declared.tree.Block.{Block}
+use Rattle.saw_text.specs.Tree.{said, block}
+
+-- the function gives a value, of which this is the view, exactly where there is one
+abbrev pub Makes : {X A : Type 0} → (X → A) → Result X Fault → Option A → Type 0
+Makes view (Ok x) made = made ≡ Some (view x)
+Makes view (Err Syntax) made = made ≡ None
+Makes view (Err NoMemory) made = Unit {0}
+
+abbrev pub all_said : List Expr → List Spoken
+all_said es = map said es
+
+abbrev pub option_block : Option Block → Option source.Block
+option_block None = None
+option_block (Some b) = Some (block b)
+
+-- the names of an expression are such, and it has the leaves of the language alone
+abbrev pub IsOwn : Spoken → Type 0
+IsOwn (tree.Number v) = Unit {0}
+IsOwn (tree.Name text) = IsTrue (is_name text)
+IsOwn (tree.Input k) = Unit {0}
+IsOwn (tree.Slot k) = ⊥
+IsOwn (tree.Peek t) = ⊥
+IsOwn tree.Pop = ⊥
+IsOwn (tree.Neg t) = IsOwn t
+IsOwn (tree.Not t) = IsOwn t
+IsOwn (tree.Bin o a b) = IsOwn a × IsOwn b

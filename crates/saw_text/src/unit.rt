@@ -1,0 +1,96 @@
+// Units read.
+ghost use Rattle.std.specs.Prelude.{◌≡◌};
+ghost use Rattle.work_code.specs.Tok.{tokens_of};
+ghost use Rattle.text_forms.specs.Gives.{Gives};
+ghost use Rattle.text_forms.specs.Texts.{whole};
+ghost use Rattle.saw_text.specs.Reading.{typed_after, typed_at, unit_named, unit_after, unit_at};
+ghost use Rattle.saw_text.specs.Tree.{unit_form};
+ghost use Rattle.saw_text.specs.View.{Makes};
+
+use crate::Unit;
+use crate::statement::{assign, declare, stmt_after};
+use crate::table::table;
+use crate::term::user;
+use river_base::Name;
+use std::alloc::Global;
+use text_forms::{Fault, Reader};
+use work_code::{Lexeme, Symbol};
+
+// What stands behind this word for the type of a name.
+#[tactic(auto, unfolding(crate::specs::Reading::typed_after))]
+fn typed_after(
+    reader: &mut Reader<'_>,
+    alloc: Global,
+    brackets: u32,
+    name: Name,
+    word: &[u8],
+) -> Result<Unit, Fault>
+    ensures { Gives unit_form result reader.new (typed_after name brackets word.now reader.old) }
+{
+    if word == b"table".as_slice() {
+        return Ok(Unit::Table(table(reader, alloc, brackets, name)?));
+    }
+    if word == b"int".as_slice() {
+        return Ok(Unit::Statement(declare(reader, alloc, brackets, name)?));
+    }
+    Err(Fault::Syntax)
+}
+
+// What stands behind `NAME:`.
+#[tactic(auto, unfolding(crate::specs::Reading::typed_at))]
+fn typed(reader: &mut Reader<'_>, alloc: Global, brackets: u32, name: Name) -> Result<Unit, Fault>
+    ensures { Gives unit_form result reader.new (typed_at name brackets reader.old) }
+{
+    let word = reader.name()?;
+    typed_after(reader, alloc, brackets, name, word)
+}
+
+// What stands behind the name of a table or a local.
+#[tactic(auto, unfolding(crate::specs::Reading::unit_named))]
+fn named(reader: &mut Reader<'_>, alloc: Global, brackets: u32, name: Name) -> Result<Unit, Fault>
+    ensures { Gives unit_form result reader.new (unit_named name brackets reader.old) }
+{
+    if !reader.is_at(Symbol::Colon) {
+        return Ok(Unit::Statement(assign(reader, alloc, brackets, name)?));
+    }
+    reader.expect(&[Symbol::Colon])?;
+    typed(reader, alloc, brackets, name)
+}
+
+// What stands behind this word of a unit.
+#[tactic(auto, unfolding(crate::specs::Reading::unit_after))]
+fn unit_after(
+    reader: &mut Reader<'_>,
+    alloc: Global,
+    brackets: u32,
+    word: &[u8],
+) -> Result<Unit, Fault>
+    ensures { Gives unit_form result reader.new (unit_after brackets word.now reader.old) }
+{
+    match user(word) {
+        Some(name) => named(reader, alloc, brackets, name),
+        None => Ok(Unit::Statement(stmt_after(reader, alloc, 16, brackets, word)?)),
+    }
+}
+
+// A unit.
+#[tactic(auto, unfolding(crate::specs::Reading::unit_at))]
+fn unit(reader: &mut Reader<'_>, alloc: Global) -> Result<Unit, Fault>
+    ensures { Gives unit_form result reader.new (unit_at reader.old) }
+{
+    let word = reader.name()?;
+    unit_after(reader, alloc, 128, word)
+}
+
+/// The unit that whole tokens stand for.
+#[tactic(auto, using(crate::proofs::Wholes::wholes))]
+pub fn whole_unit(alloc: Global, tokens: &[Lexeme<'_>]) -> Result<Unit, Fault>
+    ensures { Makes unit_form result (whole unit_at (tokens_of tokens.now)) }
+{
+    let mut reader = Reader::new(tokens);
+    let unit = unit(&mut reader, alloc)?;
+    if !reader.is_at_end() {
+        return Err(Fault::Syntax);
+    }
+    Ok(unit)
+}

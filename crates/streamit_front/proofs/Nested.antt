@@ -1,0 +1,210 @@
+-- The grammar lets `if` and `for` nest at most 16 deep, and no `if` of a plan nests deeper than they do in its program.
+use Rattle.std.proofs.Common.{◌≡◌, ℕ, zero, suc, ◌≤◌, ◌+◌, ◌-◌, Bool, true, false, List, [], ◌∷◌, ◌++◌, Option, Some, None, Result, Ok, Err, refl, sym, subst, ap, ◌∙◌, arith}
+use Rattle.std.specs.Prelude.{max, codes, cond, if◌then◌else◌, nat_eq, nat_lt, nat_le, ◌&&◌}
+use Rattle.std.specs.Str.{bytes_eq}
+use Rattle.work_code.specs.Steps.{Step, Steps, Done}
+use Rattle.work_code.specs.Steps as steps
+use Rattle.work_code.specs.Term.{Term}
+use Rattle.work_code.specs.Tok.{Tok}
+use Rattle.work_code.specs.declared.sign.Symbol.{Symbol}
+use Rattle.text_forms.specs.declared.language.Language.TheVariants.{StreamIt}
+use Rattle.text_forms.specs.Forms as form
+use Rattle.text_forms.specs.Language.{is_plain}
+use Rattle.text_forms.specs.Tree.{Spoken}
+use Rattle.kern_rows.specs.Forms.{FilterForm}
+use Rattle.river_plan.specs.Forms.{Name}
+use Rattle.streamit_model.specs.Source.{Statement, Declare, Assign, Push, Pop, If, For, Block, End, Then, pops, numbers}
+use Rattle.streamit_model.specs.Elaborate.{Fault, At, Read, on_ok, joined, one_step, counted, is_new, has_slot, first_term, declared, slot_of, term_of, constant, bound_of, after_arms, unrolled, step_of, steps_of, find, BranchRates, Turn}
+use Rattle.streamit_model.specs.FilterSource.{FilterTree, elaborated, read_fields, nothing_read, rates_of, kept_rates, form_of}
+use Rattle.streamit_model.proofs.Elaborated.{fine, ok_parts, ok_is}
+use Rattle.streamit_unroll.specs.View.{in_turn}
+use Rattle.streamit_text.specs.Grammar.{Round, IsDeclare, IsAssign, IsPush, IsPop, or_end, IsIf, IsFor, IsBlockOf, StmtAfter, IsStmt, IsBlock}
+use Rattle.river_print.specs.Writable.{depth_once, depths}
+use Rattle.streamit_front.proofs.Readable.{chosen, enclosed}
+
+-- how deep `if` and `for` nest
+abbrev mutual
+  pub nest : Statement → ℕ
+  nest (Declare n t) = 0
+  nest (Assign n t) = 0
+  nest (Push t) = 0
+  nest Pop = 0
+  nest (If t a b) = suc (max (nests a) (nests b))
+  nest (For n low upto high b) = suc (nests b)
+
+  pub nests : Block → ℕ
+  nests End = 0
+  nests (Then c b) = max (nest c) (nests b)
+
+-- THE GRAMMAR
+
+abbrev IsNested : ℕ → Statement → Type 0
+IsNested k s = nest s ≤ k
+
+abbrev AreNested : ℕ → Block → Type 0
+AreNested k b = nests b ≤ k
+
+-- a block, of whose statements this is known
+block-nests : (stmt : ℕ → Statement → List Tok → Type 0) (k : ℕ) → ((m : ℕ) (s : Statement) (ts : List Tok) → stmt m s ts → IsNested k s)
+    → (n : ℕ) (b : Block) (ts : List Tok) → IsBlockOf stmt n b ts → AreNested k b
+block-nests stmt k below n b ts h = enclosed (AreNested k) _ _ _ n b ts h (λ m us f. subst (AreNested k) (sym f.is) (each m f.value us f.formed))
+  where
+    each : (m : ℕ) (ss : List Statement) (us : List Tok) → form.Each (stmt m) ss us → AreNested k (in_turn ss)
+    each m [] us f = omega arith
+    each m (s ∷ ss) us f =
+        let a = below m s f.0 f.3 in
+        let b = each m ss f.1 f.4 in
+        omega (arith, a, b)
+
+or-end-nests : (k : ℕ) (block : Block → List Tok → Type 0) → ((b : Block) (ts : List Tok) → block b ts → AreNested k b)
+    → (word : List ℕ) (o : Option Block) (ts : List Tok) → form.Maybe (form.AfterWord word block) o ts → AreNested k (or_end o)
+or-end-nests k block below word None ts h = omega arith
+or-end-nests k block below word (Some b) ts h = below b h.back h.formed
+
+if-nests : (k : ℕ) (block : ℕ → Block → List Tok → Type 0) → ((m : ℕ) (b : Block) (ts : List Tok) → block m b ts → AreNested k b)
+    → (n : ℕ) (s : Statement) (ts : List Tok) → IsIf block n s ts → IsNested (suc k) s
+if-nests k block below n s ts h =
+    let v = h.value in
+    let arms = h.formed.second in
+    let a = below n v.1.0 arms.front arms.first in
+    let no = arms.second in
+    let b : AreNested k v.1.1 = subst (AreNested k) (sym no.is) (or-end-nests k (block n) (below n) (codes "else") no.value arms.back no.formed) in
+    subst (IsNested (suc k)) (sym h.is) (omega (arith, a, b))
+
+for-nests : (k : ℕ) (block : ℕ → Block → List Tok → Type 0) → ((m : ℕ) (b : Block) (ts : List Tok) → block m b ts → AreNested k b)
+    → (n : ℕ) (s : Statement) (ts : List Tok) → IsFor block n s ts → IsNested (suc k) s
+for-nests k block below n s ts h =
+    let b = below n h.value.1 h.formed.back h.formed.second in
+    subst (IsNested (suc k)) (sym h.is) (omega (arith, b))
+
+-- the statements without a block
+leaf-nests : (k n : ℕ) (w : List ℕ) (s : Statement) (ts : List Tok) → form.Choose (is_plain StreamIt w) (IsAssign w n) form.Never s ts → IsNested k s
+leaf-nests k n w s ts h = chosen (IsNested k s) _ _ (is_plain StreamIt w) s ts h (λ f. subst (IsNested k) (sym f.is) (omega arith)) (λ f. absurd f)
+
+after-nests : (k : ℕ) (branch loop : Statement → List Tok → Type 0) → ((s : Statement) (ts : List Tok) → branch s ts → IsNested k s)
+    → ((s : Statement) (ts : List Tok) → loop s ts → IsNested k s) → (n : ℕ) (w : List ℕ) (s : Statement) (ts : List Tok)
+    → StmtAfter branch loop n w s ts → IsNested k s
+after-nests k branch loop b l n w s ts h =
+    chosen (IsNested k s) _ _ (bytes_eq w (codes "int")) s ts h (λ f. subst (IsNested k) (sym f.is) (omega arith)) (λ h.
+    chosen (IsNested k s) _ _ (bytes_eq w (codes "push")) s ts h (λ f. subst (IsNested k) (sym f.is) (omega arith)) (λ h.
+    chosen (IsNested k s) _ _ (bytes_eq w (codes "pop")) s ts h (λ f. subst (IsNested k) (sym f.is) (omega arith)) (λ h.
+    chosen (IsNested k s) _ _ (bytes_eq w (codes "if")) s ts h (b s ts) (λ h.
+    chosen (IsNested k s) _ _ (bytes_eq w (codes "for")) s ts h (l s ts) (λ h. leaf-nests k n w s ts h)))))
+
+stmt-nests : (k n : ℕ) (s : Statement) (ts : List Tok) → IsStmt k n s ts → IsNested k s
+unfolding IsStmt
+stmt-nests zero n s ts h = after-nests zero form.Never form.Never (λ s ts f. absurd f) (λ s ts f. absurd f) n h.word s h.back h.formed
+stmt-nests (suc k) n s ts h =
+    let below = block-nests (IsStmt k) k (λ m s ts f. stmt-nests k m s ts f) in
+    after-nests (suc k) (IsIf (IsBlockOf (IsStmt k)) n) (IsFor (IsBlockOf (IsStmt k)) n)
+    (if-nests k (IsBlockOf (IsStmt k)) below n) (for-nests k (IsBlockOf (IsStmt k)) below n) n h.word s h.back h.formed
+
+-- a block that the grammar has nests at most 16 deep
+pub block-nested : (n : ℕ) (b : Block) (ts : List Tok) → IsBlock 16 n b ts → nests b ≤ 16
+block-nested n b ts h = block-nests (IsStmt 16) 16 (stmt-nests 16) n b ts h
+
+-- THE STATEMENTS OF A PLAN
+
+joined-depths : (a b : Steps) → depths (joined a b) ≡ max (depths a) (depths b)
+joined-depths Done b = omega arith
+joined-depths (steps.Then c a) b = let e = joined-depths a b in omega (arith, e)
+
+joined-below : (k : ℕ) (a b : Steps) → depths a ≤ k → depths b ≤ k → depths (joined a b) ≤ k
+joined-below k a b h g = let e = joined-depths a b in omega (arith, e)
+
+-- what a block becomes nests at most so deep
+abbrev Below : ℕ → (At → Read) → Type 0
+Below k f = (s : At) (y : Steps × At) → f s ≡ Ok y → depths y.0 ≤ k
+
+by-steps : (k : ℕ) (x y : Steps × At) → fine x ≡ fine y → depths x.0 ≤ k → depths y.0 ≤ k
+by-steps k x y h le = subst (λ (r : Steps × At). depths r.0 ≤ k) (ok_is x y h) le
+
+unrolled-below : (k : ℕ) (block : At → Read) → Below k block → (n : Name) (vs : List ℕ) → Below k (unrolled block n vs)
+unrolled-below k block below n [] s y h = by-steps k (Done, s) y h (omega arith)
+unrolled-below k block below n (v ∷ vs) s y h =
+    let more = λ (a : Steps × At). on_ok (unrolled block n vs (record a.1 { scope = s.scope })) (λ b. fine (joined a.0 b.0, b.1)) in
+    let p = ok_parts (counted s) (λ t. on_ok (block (record t { scope = (n, Turn v) ∷ s.scope })) more) y h in
+    let q = ok_parts (block (record p.0 { scope = (n, Turn v) ∷ s.scope })) more y p.2 in
+    let r = ok_parts (unrolled block n vs (record q.0.1 { scope = s.scope })) (λ b. fine (joined q.0.0 b.0, b.1)) y q.2 in
+    by-steps k (joined q.0.0 r.0.0, r.0.1) y r.2
+    (joined-below k q.0.0 r.0.0 (below (record p.0 { scope = (n, Turn v) ∷ s.scope }) q.0 q.1)
+    (unrolled-below k block below n vs (record q.0.1 { scope = s.scope }) r.0 r.1))
+
+arms-below : (k : ℕ) (s : At) (c : Term) (a b y : Steps × At) → after_arms s c a b ≡ Ok y → depths a.0 ≤ k → depths b.0 ≤ k → depths y.0 ≤ suc k
+arms-below k s c a b y h ha hb = by (nat_eq a.1.popped b.1.popped && nat_eq a.1.pushed b.1.pushed) h
+  where
+    by : (t : Bool) → (if t then Ok (one_step (steps.If c a.0 b.0), record b.1 { scope = s.scope }) else Err BranchRates) ≡ fine y → depths y.0 ≤ suc k
+    by true e = by-steps (suc k) (one_step (steps.If c a.0 b.0), record b.1 { scope = s.scope }) y e (omega (arith, ha, hb))
+    by false e = absurd (cc e)
+
+more-below : (j k : ℕ) (f : At → Read) → Below j f → j ≤ k → Below k f
+more-below j k f below le s y h = let e = below s y h in omega (arith, e, le)
+
+mutual
+  step-below : (e : ℕ) (c : Statement) → Below (nest c) (step_of e c)
+  step-below e (Declare n t) s0 y h =
+      let f3 = λ (s : At). on_ok (first_term e t s) (λ v. fine (declared n t s v)) in
+      let f2 = λ (s : At). on_ok (has_slot s) (λ w. f3 s) in
+      let p = ok_parts (counted s0) (λ s. on_ok (is_new (find s.scope n)) (λ u. f2 s)) y h in
+      let q = ok_parts (is_new (find p.0.scope n)) (λ u. f2 p.0) y p.2 in
+      let r = ok_parts (has_slot p.0) (λ w. f3 p.0) y q.2 in
+      let v = ok_parts (first_term e t p.0) (λ v. fine (declared n t p.0 v)) y r.2 in
+      by-steps 0 (declared n t p.0 v.0) y v.2 (omega arith)
+  step-below e (Assign n t) s0 y h =
+      let f2 = λ (s : At) (i : ℕ). on_ok (term_of e s.scope t s.popped) (λ v. fine (one_step (steps.Set i v), record s { popped = s.popped + pops t })) in
+      let p = ok_parts (counted s0) (λ s. on_ok (slot_of (find s.scope n)) (f2 s)) y h in
+      let q = ok_parts (slot_of (find p.0.scope n)) (f2 p.0) y p.2 in
+      let v = ok_parts (term_of e p.0.scope t p.0.popped) (λ v. fine (one_step (steps.Set q.0 v), record p.0 { popped = p.0.popped + pops t })) y q.2 in
+      by-steps 0 (one_step (steps.Set q.0 v.0), record p.0 { popped = p.0.popped + pops t }) y v.2 (omega arith)
+  step-below e (Push t) s0 y h =
+      let f1 = λ (s : At) (v : Term). fine (one_step (steps.Push 0 (v ∷ [])), record s { popped = s.popped + pops t; pushed = s.pushed + 1 }) in
+      let p = ok_parts (counted s0) (λ s. on_ok (term_of e s.scope t s.popped) (f1 s)) y h in
+      let v = ok_parts (term_of e p.0.scope t p.0.popped) (f1 p.0) y p.2 in
+      by-steps 0 (one_step (steps.Push 0 (v.0 ∷ [])), record p.0 { popped = p.0.popped + pops t; pushed = p.0.pushed + 1 }) y v.2 (omega arith)
+  step-below e Pop s y h = by-steps 0 (Done, record s { popped = s.popped + 1 }) y h (omega arith)
+  step-below e (If t a b) s0 y h =
+      let second = λ (s : At) (p : Steps × At). steps_of e b (record s { popped = s.popped + pops t; slots = p.1.slots; size = p.1.size }) in
+      let f3 = λ (s : At) (c : Term) (p : Steps × At). on_ok (second s p) (after_arms s c p) in
+      let f2 = λ (s : At) (c : Term). on_ok (steps_of e a (record s { popped = s.popped + pops t })) (f3 s c) in
+      let w = ok_parts (counted s0) (λ s. on_ok (term_of e s.scope t s.popped) (f2 s)) y h in
+      let c = ok_parts (term_of e w.0.scope t w.0.popped) (f2 w.0) y w.2 in
+      let p = ok_parts (steps_of e a (record w.0 { popped = w.0.popped + pops t })) (f3 w.0 c.0) y c.2 in
+      let q = ok_parts (second w.0 p.0) (after_arms w.0 c.0 p.0) y p.2 in
+      let i = steps-below e a (record w.0 { popped = w.0.popped + pops t }) p.0 p.1 in
+      let j = steps-below e b (record w.0 { popped = w.0.popped + pops t; slots = p.0.1.slots; size = p.0.1.size }) q.0 q.1 in
+      arms-below (max (nests a) (nests b)) w.0 c.0 p.0 q.0 y q.2 (omega (arith, i)) (omega (arith, j))
+  step-below e (For n low upto high b) s y h =
+      let turns = λ (l g : ℕ). numbers l (g + (if upto then 1 else 0) - l) in
+      let f5 = λ (l g : ℕ). unrolled (steps_of e b) n (turns l g) s in
+      let f3 = λ (l : ℕ). on_ok (constant s.scope high) (λ z. on_ok (bound_of z) (f5 l)) in
+      let f1 = on_ok (constant s.scope low) (λ x. on_ok (bound_of x) f3) in
+      let u = ok_parts (is_new (find s.scope n)) (λ v. f1) y h in
+      let x = ok_parts (constant s.scope low) (λ x. on_ok (bound_of x) f3) y u.2 in
+      let l = ok_parts (bound_of x.0) f3 y x.2 in
+      let z = ok_parts (constant s.scope high) (λ z. on_ok (bound_of z) (f5 l.0)) y l.2 in
+      let g = ok_parts (bound_of z.0) (f5 l.0) y z.2 in
+      let r = unrolled-below (nests b) (steps_of e b) (steps-below e b) n (turns l.0 g.0) s y g.2 in
+      omega (arith, r)
+
+  steps-below : (e : ℕ) (b : Block) → Below (nests b) (steps_of e b)
+  steps-below e End s y h = by-steps 0 (Done, s) y h (omega arith)
+  steps-below e (Then c b) s y h =
+      let p = ok_parts (step_of e c s) (λ p. on_ok (steps_of e b p.1) (λ q. fine (joined p.0 q.0, q.1))) y h in
+      let q = ok_parts (steps_of e b p.0.1) (λ q. fine (joined p.0.0 q.0, q.1)) y p.2 in
+      let i = step-below e c s p.0 p.1 in
+      let j = steps-below e b p.0.1 q.0 q.1 in
+      by-steps (max (nest c) (nests b)) (joined p.0.0 q.0.0, q.0.1) y q.2
+      (joined-below (max (nest c) (nests b)) p.0.0 q.0.0 (omega (arith, i)) (omega (arith, j)))
+
+-- the filter of a filter as it is written nests no deeper than its `work`
+pub filter-below : (t : FilterTree) (f : FilterForm) → elaborated t ≡ Ok f → depths f.body.steps ≤ nests t.work
+filter-below t f h =
+    let end = λ (i w : Steps × At). on_ok (kept_rates t.push t.pop w.1) (λ v. fine (form_of t i w)) in
+    let f3 = λ (s : At) (i : Steps × At). on_ok (steps_of t.peek t.work s) (end i) in
+    let f2 = λ (s : At) (i : Steps × At). on_ok (rates_of t.push t.pop t.peek) (λ u. f3 s i) in
+    let a = ok_parts (read_fields t.fields nothing_read) (λ s. on_ok (steps_of 0 t.init s) (f2 s)) f h in
+    let i = ok_parts (steps_of 0 t.init a.0) (f2 a.0) f a.2 in
+    let r = ok_parts (rates_of t.push t.pop t.peek) (λ u. f3 a.0 i.0) f i.2 in
+    let w = ok_parts (steps_of t.peek t.work a.0) (end i.0) f r.2 in
+    let k = ok_parts (kept_rates t.push t.pop w.0.1) (λ v. fine (form_of t i.0 w.0)) f w.2 in
+    subst (λ (g : FilterForm). depths g.body.steps ≤ nests t.work) (ok_is (form_of t i.0 w.0) f k.2) (steps-below t.peek t.work a.0 w.0 w.1)
