@@ -1,8 +1,8 @@
 // What no clause says: that plans mean what was meant, and that the calls succeed. What is expected was worked out by hand.
 use crate::driver::{driven, inputs_of, machine_of, plan_of, stepped};
 use crate::plans::{
-    CHAIN, FIVE, FOUR, JOIN, JOIN_TEXT, PACKS, PACKS_TEXT, SEVEN, SPLITS, SPLITS_TEXT, SUMS,
-    SUMS_TEXT, TWO,
+    CHAIN, FIVE, FOUR, JOIN, JOIN_TEXT, PACKS, PACKS_TEXT, SEVEN, SHARED, SHARED_TEXT, SPLITS,
+    SPLITS_TEXT, SUMS, SUMS_TEXT, TWO,
 };
 use brooklet_step::{Inputs, Machine, fits};
 use river_base::{Flat, Item, Items, Row};
@@ -89,9 +89,10 @@ fn is_enabled_as_wanted(machine: &Machine) -> bool {
 
 #[test]
 fn runs_in_any_order(rt: HostRuntime) -> Result<(), Fail> {
-    let cases: [(&[u8], &[&[u8]], &[u8]); 2] = [
+    let cases: [(&[u8], &[&[u8]], &[u8]); 3] = [
         (SPLITS, SEVEN, SPLITS_TEXT),
         (PACKS, TWO, PACKS_TEXT),
+        (SHARED, TWO, SHARED_TEXT),
     ];
     for (plan, files, wanted) in cases {
         for seed in [1, 2, 3, 77, 123456789] {

@@ -191,3 +191,28 @@ r,2
 out,5
 alone,3
 ";
+
+/// Two operators that add to one table, the second two rows for each item.
+pub const SHARED: &[u8] = b"input a: rows(1);
+input b: rows(1);
+queue p: rows(2);
+queue q: rows(2);
+table $best: maximum(4, 0);
+op a: (p) <- (a) { code(1, 0) (2) () { push 0 (input[0], 5); } }
+op b: (q) <- (b) { code(1, 0) (2) () { push 0 (input[0], 5); push 0 (input[0] + 1, 4); } }
+op ta: ($best) <- (p, $best) { tally }
+op tb: ($best) <- (q, $best) { tally }
+";
+
+/// What `SHARED` gives for the files of `TWO`.
+pub const SHARED_TEXT: &[u8] = b"# best
+7,5
+8,5
+10,5
+20,5
+## firings
+a,3
+b,2
+ta,3
+tb,4
+";
