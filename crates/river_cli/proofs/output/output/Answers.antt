@@ -10,8 +10,9 @@ use Rattle.river_cli.proofs.Points.{output-says}
 use Rattle.river_cli.proofs.output.output.Goals as goal
 
 pub run_one-requires : goal.run_one-requires
-run_one-requires c =
-    subst (λ (l : List (List item.Item)). Fit c.args.plan.now l) (sym c.in_ok-inputs.ensures) (contents-fit c.args.plan.now c.args.files c.requires.contents)
+run_one-requires c = record {
+  fits = subst (λ (l : List (List item.Item)). Fit c.args.plan.now l) (sym c.in_ok-inputs.ensures) (contents-fit c.args.plan.now c.args.files c.requires.contents);
+}
 
 pub print_outcome-requires-clause-tables : goal.print_outcome-requires-clause-tables
 print_outcome-requires-clause-tables c =
