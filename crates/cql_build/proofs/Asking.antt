@@ -48,9 +48,9 @@ pub query_made : (a b c d : RawPlan) (name : Name) (kind : Streamer) (columns : 
     → Grew a b [] (window_decls name 1 is) (window_ops name 1 items (sources inputs all past (streams_of items)))
     → Grew b c [] (products name is) (cross_ops name (w_name name 1) 2 (drop 1 items))
     → Grew c d (decl name (stream (columns_width is columns)) ∷ []) (tail_decls (record { name = name; kind = kind; columns = columns; items = items; condition = condition }) is used)
-      (tail_ops (record { name = name; kind = kind; columns = columns; items = items; condition = condition }) is used last)
+    (tail_ops (record { name = name; kind = kind; columns = columns; items = items; condition = condition }) is used last)
     → Grew a d (decl name (stream (columns_width (scope_of ks items) columns)) ∷ []) (query_decls all ks (record { name = name; kind = kind; columns = columns; items = items; condition = condition }))
-      (query_ops inputs all ks past (record { name = name; kind = kind; columns = columns; items = items; condition = condition }))
+    (query_ops inputs all ks past (record { name = name; kind = kind; columns = columns; items = items; condition = condition }))
 query_made a b c d name kind columns [] condition ks inputs all past is last used e some u l g h t = absurd (omega (arith, some))
 query_made a b c d name kind columns (i ∷ items) condition ks inputs all past is last used e some u l g h t =
     let q : Query = record { name = name; kind = kind; columns = columns; items = i ∷ items; condition = condition } in
@@ -101,7 +101,11 @@ record Apart (ks : List Named) (p : program.Part) (ps : Program) : Type 0 where
 apart : (ks : List Named) (p : program.Part) (ps : Program) → AreQueries ks (p ∷ ps) → AllByRecursion IsShortName (declared (p ∷ ps)) → AllByRecursion IsShortName (all_uses (p ∷ ps)) → Apart ks p ps
 apart ks (Register name fields) ps g n u = record { unit = tt; short = tt; good = g.1; names = n.1; uses = u }
 apart ks (Ask q) ps g n u = record {
-  unit = g.0; short = (n.0, each_front IsShortName (streams_of q.items) (all_uses ps) u); good = g.1; names = n.1; uses = each_back IsShortName (streams_of q.items) (all_uses ps) u;
+  unit = g.0;
+  short = (n.0, each_front IsShortName (streams_of q.items) (all_uses ps) u);
+  good = g.1;
+  names = n.1;
+  uses = each_back IsShortName (streams_of q.items) (all_uses ps) u;
 }
 
 at : (old now : RawPlan) (before after : Uses) (parts : List Part) (i : ℕ) (k : Known) (p : Part) (a : Asking old now before after parts i k) → i < length parts → p ≡ get_or parts i p

@@ -167,13 +167,13 @@ all_filled parts raw copied asked inputs vars uses em ui ua up ei g h ev =
     let outs : asked.outputs ≡ output_decls [] p = h.outputs ∙ ap (λ l. l ++ output_decls [] p) (g.outputs ∙ append-nil raw.outputs ∙ ap (λ (x : PlanForm). x.outputs) em) in
     let ins : asked.inputs ≡ input_decls p = h.inputs ∙ g.inputs ∙ ei ∙ ap (λ l. l ++ input_decls p) (ap (λ (x : PlanForm). x.inputs) em) in
     let qs : asked.queues ≡ input_copies (all_uses p) p ++ ask_decls (all_uses p) [] p =
-        h.queues ∙ ap (λ l. l ++ ask_decls uses.all [] p) (g.queues ∙ ap (λ l. l ++ input_copies uses.all p) (ap (λ (x : PlanForm). x.queues) em))
-        ∙ ap (λ u. input_copies u p ++ ask_decls u [] p) ua in
+    h.queues ∙ ap (λ l. l ++ ask_decls uses.all [] p) (g.queues ∙ ap (λ l. l ++ input_copies uses.all p) (ap (λ (x : PlanForm). x.queues) em))
+    ∙ ap (λ u. input_copies u p ++ ask_decls u [] p) ua in
     let os : op_forms asked.ops ≡ ops_of p =
-        h.ops ∙ ap (λ l. l ++ ask_ops uses.inputs uses.all [] uses.past p) (g.ops ∙ ap (λ l. l ++ input_ops uses.all p) (ap (λ (x : PlanForm). x.ops) em))
-        ∙ ap (λ u. input_ops u p ++ ask_ops uses.inputs u [] uses.past p) ua
-        ∙ ap (λ n. input_ops (all_uses p) p ++ ask_ops n (all_uses p) [] uses.past p) ui
-        ∙ ap (λ n. input_ops (all_uses p) p ++ ask_ops (registered p) (all_uses p) [] n p) up in
+    h.ops ∙ ap (λ l. l ++ ask_ops uses.inputs uses.all [] uses.past p) (g.ops ∙ ap (λ l. l ++ input_ops uses.all p) (ap (λ (x : PlanForm). x.ops) em))
+    ∙ ap (λ u. input_ops u p ++ ask_ops uses.inputs u [] uses.past p) ua
+    ∙ ap (λ n. input_ops (all_uses p) p ++ ask_ops n (all_uses p) [] uses.past p) ui
+    ∙ ap (λ n. input_ops (all_uses p) p ++ ask_ops (registered p) (all_uses p) [] n p) up in
     let ts : asked.tables ≡ [] = h.tables ∙ g.tables ∙ ap (λ (x : PlanForm). x.tables) em in
     let vs : vars ≡ all_vars (ops_of p) = ev ∙ ap (λ l. l ++ all_vars (op_forms asked.ops)) (h.vars ∙ g.vars ∙ ap (λ (x : PlanForm). x.vars) em) ∙ ap all_vars os in
     λ i. record { outputs = outs i; inputs = ins i; queues = qs i; tables = ts i; vars = vs i; ops = os i }

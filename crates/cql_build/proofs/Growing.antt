@@ -121,17 +121,17 @@ windows_next old now next before after later q name from kind all items i x y w 
     let rest = drop (i + 1) all in
     let srcs = sources before.inputs before.all in
     let now_src : from ≡ source_at before.inputs before.all x.stream (count x.stream after.past) =
-        f ∙ ap (λ l. source_at l after.all x.stream (count x.stream after.past)) w.inputs ∙ ap (λ l. source_at before.inputs l x.stream (count x.stream after.past)) w.uses in
+    f ∙ ap (λ l. source_at l after.all x.stream (count x.stream after.past)) w.inputs ∙ ap (λ l. source_at before.inputs l x.stream (count x.stream after.past)) w.uses in
     let ds : window_decls q (i + 1) (scope (drop i items)) ≡ decl name kind ∷ window_decls q (i + 1 + 1) (scope (drop (i + 1) items)) =
-        ap (λ l. window_decls q (i + 1) (scope l)) (drop_next items i y lt' e')
-        ∙ ap (λ m. decl m (relation (length y.fields.now)) ∷ window_decls q (i + 1 + 1) (scope (drop (i + 1) items))) (sym n)
-        ∙ ap (λ m. decl name m ∷ window_decls q (i + 1 + 1) (scope (drop (i + 1) items))) (sym k) in
+    ap (λ l. window_decls q (i + 1) (scope l)) (drop_next items i y lt' e')
+    ∙ ap (λ m. decl m (relation (length y.fields.now)) ∷ window_decls q (i + 1 + 1) (scope (drop (i + 1) items))) (sym n)
+    ∙ ap (λ m. decl name m ∷ window_decls q (i + 1 + 1) (scope (drop (i + 1) items))) (sym k) in
     let os : window_ops q (i + 1) (sources_of (drop i all)) (srcs after.past (streams_of (sources_of (drop i all))))
-        ≡ op name (window (window_of x.window)) (from ∷ []) (name ∷ []) (name ∷ []) ∷ window_ops q (i + 1 + 1) (sources_of rest) (srcs later.past (streams_of (sources_of rest))) =
-        ap (λ l. window_ops q (i + 1) (sources_of l) (srcs after.past (streams_of (sources_of l)))) (drop_next all i x lt e)
-        ∙ ap (λ m. op m (window (window_of x.window)) (source_at before.inputs before.all x.stream (count x.stream after.past) ∷ []) (m ∷ []) (m ∷ []) ∷ window_ops q (i + 1 + 1) (sources_of rest) (srcs (after.past ++ x.stream ∷ []) (streams_of (sources_of rest)))) (sym n)
-        ∙ ap (λ m. op name (window (window_of x.window)) (m ∷ []) (name ∷ []) (name ∷ []) ∷ window_ops q (i + 1 + 1) (sources_of rest) (srcs (after.past ++ x.stream ∷ []) (streams_of (sources_of rest)))) (sym now_src)
-        ∙ ap (λ l. op name (window (window_of x.window)) (from ∷ []) (name ∷ []) (name ∷ []) ∷ window_ops q (i + 1 + 1) (sources_of rest) (srcs l (streams_of (sources_of rest)))) (sym p) in
+    ≡ op name (window (window_of x.window)) (from ∷ []) (name ∷ []) (name ∷ []) ∷ window_ops q (i + 1 + 1) (sources_of rest) (srcs later.past (streams_of (sources_of rest))) =
+    ap (λ l. window_ops q (i + 1) (sources_of l) (srcs after.past (streams_of (sources_of l)))) (drop_next all i x lt e)
+    ∙ ap (λ m. op m (window (window_of x.window)) (source_at before.inputs before.all x.stream (count x.stream after.past) ∷ []) (m ∷ []) (m ∷ []) ∷ window_ops q (i + 1 + 1) (sources_of rest) (srcs (after.past ++ x.stream ∷ []) (streams_of (sources_of rest)))) (sym n)
+    ∙ ap (λ m. op name (window (window_of x.window)) (m ∷ []) (name ∷ []) (name ∷ []) ∷ window_ops q (i + 1 + 1) (sources_of rest) (srcs (after.past ++ x.stream ∷ []) (streams_of (sources_of rest)))) (sym now_src)
+    ∙ ap (λ l. op name (window (window_of x.window)) (from ∷ []) (name ∷ []) (name ∷ []) ∷ window_ops q (i + 1 + 1) (sources_of rest) (srcs l (streams_of (sources_of rest)))) (sym p) in
     record {
       left = left_next old now next [] [] [] (window_decls q 1 (scope items)) (decl name kind ∷ []) (window_decls q (i + 1 + 1) (scope (drop (i + 1) items)))
           (window_ops q 1 (sources_of all) (srcs before.past (streams_of (sources_of all)))) (op name (window (window_of x.window)) (from ∷ []) (name ∷ []) (name ∷ []) ∷ [])
@@ -152,7 +152,7 @@ windows_end old now before after q all items i w le le' =
     let none = drop_all all i le in
     let none' = drop_all items i le' in
     let l = left_is old now [] [] [] (window_decls q 1 (scope items)) _ [] (window_ops q 1 (sources_of all) (sources before.inputs before.all before.past (streams_of (sources_of all)))) _ [] w.left refl
-        (ap (λ xs. window_decls q (i + 1) (scope xs)) none') (ap (λ xs. window_ops q (i + 1) (sources_of xs) (sources before.inputs before.all after.past (streams_of (sources_of xs)))) none) in (
+    (ap (λ xs. window_decls q (i + 1) (scope xs)) none') (ap (λ xs. window_ops q (i + 1) (sources_of xs) (sources before.inputs before.all after.past (streams_of (sources_of xs)))) none) in (
       left_end old now [] (window_decls q 1 (scope items)) _ l,
       record { past = sym (w.past ∙ ap (λ xs. after.past ++ streams_of (sources_of xs)) none ∙ append-nil after.past); inputs = w.inputs; all = w.uses },
     )
@@ -190,13 +190,13 @@ pub crosses_next : (old now next : RawPlan) (q : Name) (all : List Source) (item
 crosses_next old now next q all items last name right wide wider i y c lt lt' e' n r w g =
     let some = drop_some all i lt in
     let ds : cross_decls q wide (i + 1) (scope (drop i items)) ≡ decl name (relation wider) ∷ cross_decls q wider (i + 1 + 1) (scope (drop (i + 1) items)) =
-        ap (λ l. cross_decls q wide (i + 1) (scope l)) (drop_next items i y lt' e')
-        ∙ ap (λ m. decl m (relation (wide + length y.fields.now)) ∷ cross_decls q (wide + length y.fields.now) (i + 1 + 1) (scope (drop (i + 1) items))) (sym n)
-        ∙ ap (λ m. decl name (relation m) ∷ cross_decls q m (i + 1 + 1) (scope (drop (i + 1) items))) (sym w) in
+    ap (λ l. cross_decls q wide (i + 1) (scope l)) (drop_next items i y lt' e')
+    ∙ ap (λ m. decl m (relation (wide + length y.fields.now)) ∷ cross_decls q (wide + length y.fields.now) (i + 1 + 1) (scope (drop (i + 1) items))) (sym n)
+    ∙ ap (λ m. decl name (relation m) ∷ cross_decls q m (i + 1 + 1) (scope (drop (i + 1) items))) (sym w) in
     let os : cross_ops q last (i + 1) (sources_of (drop i all)) ≡ op name cross (last ∷ right ∷ []) (name ∷ []) (name ∷ []) ∷ cross_ops q name (i + 1 + 1) (sources_of (drop (i + 1) all)) =
-        ap (λ l. cross_ops q last (i + 1) (sources_of l)) some.1
-        ∙ ap (λ m. op m cross (last ∷ w_name q (i + 1) ∷ []) (m ∷ []) (m ∷ []) ∷ cross_ops q m (i + 1 + 1) (sources_of (drop (i + 1) all))) (sym n)
-        ∙ ap (λ m. op name cross (last ∷ m ∷ []) (name ∷ []) (name ∷ []) ∷ cross_ops q name (i + 1 + 1) (sources_of (drop (i + 1) all))) (sym r) in
+    ap (λ l. cross_ops q last (i + 1) (sources_of l)) some.1
+    ∙ ap (λ m. op m cross (last ∷ w_name q (i + 1) ∷ []) (m ∷ []) (m ∷ []) ∷ cross_ops q m (i + 1 + 1) (sources_of (drop (i + 1) all))) (sym n)
+    ∙ ap (λ m. op name cross (last ∷ m ∷ []) (name ∷ []) (name ∷ []) ∷ cross_ops q name (i + 1 + 1) (sources_of (drop (i + 1) all))) (sym r) in
     let d = ap (λ l. widths_of (scope l)) (drop_next items i y lt' e') in
     record {
       left = left_next old now next [] [] [] (products q (scope items)) (decl name (relation wider) ∷ []) (cross_decls q wider (i + 1 + 1) (scope (drop (i + 1) items)))

@@ -65,7 +65,11 @@ condition_of (Some e) = Some (scalar_of e)
 
 abbrev pub query_of : tree.Query → program.Query
 query_of q = record {
-  name = q.name; kind = kind_of q.kind; columns = columns_of q.columns; items = map source_of q.items; condition = condition_of q.condition;
+  name = q.name;
+  kind = kind_of q.kind;
+  columns = columns_of q.columns;
+  items = map source_of q.items;
+  condition = condition_of q.condition;
 }
 
 abbrev pub part_of : tree.Part → program.Part

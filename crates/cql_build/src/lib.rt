@@ -19,5 +19,5 @@ mod values;
 pub use item::Item;
 pub use judge::first_fault;
 pub use known::Known;
-pub use planning::{Refused, plan};
 pub use names::{Mark, marked};
+pub use planning::{Refused, plan};

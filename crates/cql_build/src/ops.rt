@@ -55,12 +55,7 @@ fn window_kernel(window: Window) -> Kept
 }
 
 /// The operator of a product.
-pub(crate) fn cross_op(
-    alloc: Global,
-    name: Name,
-    left: Name,
-    right: Name,
-) -> Result<Op, NoMemory>
+pub(crate) fn cross_op(alloc: Global, name: Name, left: Name, right: Name) -> Result<Op, NoMemory>
     ensures { IfOk result (λ made. op_form made ≡ op name cross (left ∷ right ∷ []) (name ∷ []) (name ∷ [])) }
 {
     let mut reads = one(alloc, left)?;

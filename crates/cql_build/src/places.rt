@@ -70,11 +70,7 @@ fn at_place(place: Option<usize>) -> Expr
 }
 
 /// A value over the joined row of these items.
-pub(crate) fn resolve(
-    alloc: Global,
-    items: &[Item<'_>],
-    value: &Scalar,
-) -> Result<Expr, NoMemory>
+pub(crate) fn resolve(alloc: Global, items: &[Item<'_>], value: &Scalar) -> Result<Expr, NoMemory>
     requires { widths_of (scope items.now) ≤ 16 }
     ensures { IfOk result (λ e. term e ≡ resolved (scope items.now) (value_of value.now)) }
 {

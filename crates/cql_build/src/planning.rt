@@ -129,12 +129,7 @@ fn lists(alloc: Global, uses: &mut Uses, parts: &[Part]) -> Result<RawPlan, NoMe
 }
 
 // Fills lists that are empty.
-fn fill(
-    alloc: Global,
-    raw: &mut RawPlan,
-    uses: &mut Uses,
-    parts: &[Part],
-) -> Result<(), NoMemory>
+fn fill(alloc: Global, raw: &mut RawPlan, uses: &mut Uses, parts: &[Part]) -> Result<(), NoMemory>
     requires empty { plan_form raw.old ≡ empty_form }
     requires accepted { IsAccepted (program_of parts.now) }
     requires short { AreShort (program_of parts.now) }

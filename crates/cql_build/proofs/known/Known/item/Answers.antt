@@ -9,6 +9,6 @@ returns c = λ ks k.
     let f = c.fields.ensures ks k in
     let i : Item = record { name = c.item_name.result; fields = c.match-fields.fields } in
     elim c.match-fields.branch [
-      in-Some w ↦ item_found ks c.args.source.now c.fields.result w.in-Some.fields i f w.in-Some.is w.fields-is c.item_name.ensures
-    | in-None w ↦ item_lost ks c.args.source.now c.fields.result i f w.in-None.is (ap (λ b. b.now) w.fields-is) c.item_name.ensures
+      | in-Some w ↦ item_found ks c.args.source.now c.fields.result w.in-Some.fields i f w.in-Some.is w.fields-is c.item_name.ensures
+      | in-None w ↦ item_lost ks c.args.source.now c.fields.result i f w.in-None.is (ap (λ b. b.now) w.fields-is) c.item_name.ensures
     ]
