@@ -1,5 +1,5 @@
 // Plans from texts, inputs from files, and machines that are driven.
-use brooklet_step::{Inputs, Machine, Outcome, built, fits};
+use brooklet_step::{Inputs, Machine, Outcome, fits};
 use csv_streams::{print_outcome, read_rows};
 use river_base::{Bytes, Flat, Item, Items, NoMemory, Rows};
 use river_plan::{Plan, check};
@@ -67,7 +67,7 @@ fn text_of(alloc: Global, plan: &Plan, outcome: &Outcome) -> Result<Bytes, Fail>
 /// The machine before its first firing.
 pub fn machine_of(alloc: Global, plan: &Plan, files: &[&[u8]]) -> Result<Machine, Fail> {
     let inputs = inputs_of(alloc, files)?;
-    if !built(plan) || !fits(plan, &inputs) {
+    if !fits(plan, &inputs) {
         return Err("inputs that do not fit".into());
     }
     Ok(Machine::start(alloc, plan, inputs)?)

@@ -13,9 +13,7 @@ use Rattle.river_base.specs.Places.{list_at}
 use Rattle.river_plan.specs.declared.plan.Decl.{Decl}
 use Rattle.river_plan.specs.Forms.{PlanForm}
 use Rattle.brooklet_model.specs.Typed.{AreInputs}
-use Rattle.brooklet_step.specs.Built.{IsRows, IsBuilt}
 use Rattle.brooklet_step.specs.Fit.{Fit, instant_of, instants, Rises, HasInstants, AreInstants, IsStream, NoStream, IsStreamAt}
-use Rattle.brooklet_step.proofs.FitsLemmas.{built_inputs}
 
 -- what holds at each place of two lists
 abbrev pub EachAt : (Decl → List item.Item → Type 0) → List Decl → List (List item.Item) → Type 0
@@ -66,17 +64,6 @@ has_stream (FlatOf (Stream w)) ts xs h s = h
 has_stream (FlatOf (Relation w)) ts xs h s = absurd s
 has_stream (PackOf t) ts xs h s = absurd s
 
-rows_none : (t : QueueType) → IsRows t → IsStream t → ⊥
-rows_none (FlatOf (Rows w)) r s = s
-rows_none (FlatOf (Stream w)) r s = absurd (cc r)
-rows_none (FlatOf (Relation w)) r s = s
-rows_none (PackOf t) r s = s
-
-all_got : (P : Decl → Type 0) (ds : List Decl) (i : ℕ) (d : Decl) → All P ds → slice_get ds i ≡ Some d → P d
-all_got P [] i d a g = absurd (cc g)
-all_got P (x ∷ ds) zero d a g = subst P (decl_is x d g) (All-head P x ds a)
-all_got P (x ∷ ds) (suc i) d a g = all_got P ds i d (All-tail P x ds a) g
-
 -- without streams any typed inputs fit
 pub fit_none : (p : PlanForm) (ls : List (List item.Item)) → AreInputs p.inputs ls → NoStream (length p.inputs) p.inputs → Fit p ls
 fit_none p ls a n = record {
@@ -85,10 +72,6 @@ fit_none p ls a n = record {
   ascending = tt;
   streams = instants_by p.inputs [] ls (λ i d g. stream_has d.kind [] (list_at ls i) (λ s. absurd (n i d (slice_get_within p.inputs i d g) g s)));
 }
-
--- the inputs of a plan of rows fit where their items are of their types
-pub fit_of_rows : (p : PlanForm) (ls : List (List item.Item)) → IsBuilt p → AreInputs p.inputs ls → Fit p ls
-fit_of_rows p ls b a = fit_none p ls a (λ i d lt g s. rows_none d.kind (all_got (λ (e : Decl). IsRows e.kind) p.inputs i d (built_inputs p b) g) s)
 
 -- the first stream tells the instants
 pub fit_some : (p : PlanForm) (ls : List (List item.Item)) (i : ℕ) (xs : List item.Item) → AreInputs p.inputs ls → xs ≡ list_at ls i → Rises (instants xs) → AreInstants p.inputs (instants xs) ls → Fit p ls

@@ -14,51 +14,6 @@ use Rattle.std.proofs.lemmas.Bool.{and_parts, true≢false}
 use Rattle.std.proofs.lemmas.List.Elements.{All-head, All-tail, All-cons, All-nil, All-append}
 use Rattle.river_plan.specs.declared.plan.Decl.{Decl}
 use Rattle.river_plan.specs.Forms.{PlanForm, all_decls}
-use Rattle.brooklet_step.specs.Built.{is_rows, is_built, IsRows, IsBuilt}
-
-pub All-front : {X : Type 0} (P : X → Type 0) (xs ys : List X) → All P (xs ++ ys) → All P xs
-All-front P xs ys a k d lt = subst P (get_or-append xs ys d k lt) (a k d (let e = length-append xs ys in omega (arith, e, lt)))
-
-pub All-back : {X : Type 0} (P : X → Type 0) (xs ys : List X) → All P (xs ++ ys) → All P ys
-All-back P xs ys a k d lt = subst P (get_or-append-add xs ys k d) (a (length xs + k) d (let e = length-append xs ys in omega (arith, e, lt)))
-
--- THE TEST WHETHER A PLAN IS BUILT
-
-abbrev AreRows : List Decl → Type 0
-AreRows ds = All (λ (d : Decl). IsRows d.kind) ds
-
-rows_all : (ds : List Decl) → list_all (λ d. is_rows d.kind) ds ≡ true → AreRows ds
-rows_all [] e = All-nil (λ (d : Decl). IsRows d.kind)
-rows_all (d ∷ ds) e = let p = and_parts (is_rows d.kind) (list_all (λ d. is_rows d.kind) ds) e in All-cons (λ (d : Decl). IsRows d.kind) d ds p.0 (rows_all ds p.1)
-
-all_rows : (ds : List Decl) → AreRows ds → list_all (λ d. is_rows d.kind) ds ≡ true
-all_rows [] a = refl
-all_rows (d ∷ ds) a = ap (λ b. b && list_all (λ d. is_rows d.kind) ds) (All-head (λ (d : Decl). IsRows d.kind) d ds a) ∙ all_rows ds (All-tail (λ (d : Decl). IsRows d.kind) d ds a)
-
--- in a plan that is built all queues are of rows, or of packs of rows
-pub built_decls : (p : PlanForm) → IsBuilt p → AreRows (all_decls p)
-built_decls p b = rows_all (all_decls p) b
-
-pub built_by : (p : PlanForm) → AreRows p.outputs → AreRows p.inputs → AreRows p.queues → IsBuilt p
-built_by p o i q = all_rows (all_decls p) (All-append (λ (d : Decl). IsRows d.kind) p.outputs (p.inputs ++ p.queues) o (All-append (λ (d : Decl). IsRows d.kind) p.inputs p.queues i q))
-
-pub built_outputs : (p : PlanForm) → IsBuilt p → AreRows p.outputs
-built_outputs p b = All-front (λ (d : Decl). IsRows d.kind) p.outputs (p.inputs ++ p.queues) (built_decls p b)
-
-pub built_inputs : (p : PlanForm) → IsBuilt p → AreRows p.inputs
-built_inputs p b = All-front (λ (d : Decl). IsRows d.kind) p.inputs p.queues (All-back (λ (d : Decl). IsRows d.kind) p.outputs (p.inputs ++ p.queues) (built_decls p b))
-
-pub built_queues : (p : PlanForm) → IsBuilt p → AreRows p.queues
-built_queues p b = All-back (λ (d : Decl). IsRows d.kind) p.inputs p.queues (All-back (λ (d : Decl). IsRows d.kind) p.outputs (p.inputs ++ p.queues) (built_decls p b))
-
--- one that is asked whether a plan is built answers what is_built says
-pub same_built : (p : PlanForm) (b : Bool) → (IsTrue b ↔ IsBuilt p) → is_built p ≡ b
-same_built p true h = h.0 refl
-same_built p false h = by (is_built p) refl
-  where
-    by : (c : Bool) → is_built p ≡ c → is_built p ≡ false
-    by true e = absurd (true≢false (sym (h.1 e)))
-    by false e = e
 
 le_back : (o : Ordering) → is_le o ≡ true → is_lt (ordering_reverse o) ≡ false
 le_back Less h = refl

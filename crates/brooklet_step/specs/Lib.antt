@@ -1,4 +1,3 @@
-pub mod Built
 pub mod ByPlace
 pub mod Drained
 pub mod Fit

@@ -66,12 +66,7 @@ pub fn fire_window(
 }
 
 /// A batch comes to a selection.
-pub fn fire_select(
-    alloc: Global,
-    cond: &Expr,
-    item: Item,
-    out: &mut Emit,
-) -> Result<(), NoMemory>
+pub fn fire_select(alloc: Global, cond: &Expr, item: Item, out: &mut Emit) -> Result<(), NoMemory>
     requires item { IsFlatWith (λ f. CanRead (term cond.now) (flat_rows f)) item }
     requires room { 0 < length out.old.outs }
     ensures { OnOk result (Took out.old out.new (gives 0 (select_one (term cond.now) item) [])) }
@@ -83,12 +78,7 @@ pub fn fire_select(
 }
 
 /// A content comes to a projection.
-pub fn fire_project(
-    alloc: Global,
-    list: &Exprs,
-    item: Item,
-    out: &mut Emit,
-) -> Result<(), NoMemory>
+pub fn fire_project(alloc: Global, list: &Exprs, item: Item, out: &mut Emit) -> Result<(), NoMemory>
     requires item { IsFlatWith (λ f. CanProject (terms list.now) (flat_rows f)) item }
     requires room { 0 < length out.old.outs }
     ensures { OnOk result (Took out.old out.new (gives 0 (project_one (terms list.now) item) [])) }

@@ -11,8 +11,8 @@ use crate::machine::{Lines, Parts, Sizes, Tables};
 use crate::start::first_states;
 use crate::{Inputs, States};
 use kern_rows::Line;
-use river_base::{Listed, NoMemory};
 use kern_tables::Table;
+use river_base::{Listed, NoMemory};
 use river_plan::{Ops, Plan, RawPlan, TableDecls};
 use std::alloc::Global;
 

@@ -1,35 +1,8 @@
-// Which plans are of rows, and which items have a type.
+// Which items have a type.
 ghost use Rattle.std.specs.Prelude.{◌≡◌, ◌↔◌, IsTrue, All, length};
 ghost use Rattle.river_base.specs.Held.{HasType, IsHeld, HasFlatType, HaveWidth, IsAscending};
-ghost use Rattle.river_plan.specs.Forms.{plan_form};
-ghost use Rattle.brooklet_step.specs.Built.{IsRows, IsBuilt};
 
 use river_base::{Flat, FlatType, Item, QueueType, Rows};
-use river_plan::{Decls, Plan};
-
-/// Whether all queues of a plan carry rows, or packs of rows.
-#[tactic(auto, using(crate::proofs::FitsLemmas::built_by, crate::proofs::FitsLemmas::built_outputs, crate::proofs::FitsLemmas::built_inputs, crate::proofs::FitsLemmas::built_queues))]
-pub fn built(plan: &Plan) -> bool
-    ensures { IsTrue result ↔ IsBuilt plan.now }
-{
-    let raw = plan.raw();
-    are_rows(&raw.outputs) && are_rows(&raw.inputs) && are_rows(&raw.queues)
-}
-
-fn are_rows(decls: &Decls) -> bool
-    ensures { IsTrue result ↔ All (λ d. IsRows d.kind) decls.now }
-{
-    decls.as_slice().iter().all(|decl| is_rows(&decl.kind))
-}
-
-fn is_rows(kind: &QueueType) -> bool
-    ensures { IsTrue result ↔ IsRows kind.now }
-{
-    match kind {
-        QueueType::Flat(FlatType::Rows(_)) | QueueType::Pack(FlatType::Rows(_)) => true,
-        QueueType::Flat(_) | QueueType::Pack(_) => false,
-    }
-}
 
 /// Whether a queue of this type may hold the item.
 pub fn item_fits(kind: &QueueType, item: &Item) -> bool

@@ -21,7 +21,7 @@ mod step;
 pub use emit::{Emit, ItemLists, RowLists};
 pub use firing::fire;
 pub use inputs::{Inputs, fits};
-pub use kinds::{built, item_fits};
+pub use kinds::item_fits;
 pub use machine::{Lines, Machine, Parts, Sizes, Tables};
 pub use run::{Outcome, run_one};
 pub use start::first_states;

@@ -60,9 +60,7 @@ pub fn fire_leaf(
         Kernel::Select(cond) => fire_select(alloc, cond, item, out),
         Kernel::Project(list) => fire_project(alloc, list, item, out),
         Kernel::Cross => fire_cross(alloc, port, item, &mut states[0], out),
-        Kernel::Streamer(streamer) => {
-            fire_streamer(alloc, streamer, item, &mut states[0], out)
-        }
+        Kernel::Streamer(streamer) => { fire_streamer(alloc, streamer, item, &mut states[0], out) }
         Kernel::Tally => fire_tally(item, out),
         Kernel::Packed(_) | Kernel::Fused { .. } => unreachable!(),
     }

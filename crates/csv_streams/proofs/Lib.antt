@@ -3,6 +3,7 @@ pub mod Fields
 pub mod Numbered
 pub mod Records
 pub mod RowsIn
+pub mod SpreadOut
 pub mod Spreading
 pub mod Texts
 pub mod TimedIn

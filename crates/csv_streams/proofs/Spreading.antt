@@ -40,7 +40,8 @@ module _ {X : Type 0} (p : X → Bool) where
   none_passes [] is = refl
   none_passes (x ∷ xs) is = past x xs (first false x xs (length (x ∷ xs)) (omega arith) is) ∙ none_passes xs (from_nought false x xs (length xs) is)
 
-  pub passes_between : (xs : List X) (n m : ℕ) → n ≤ m → m ≤ length xs → Is false xs 0 n → Is true xs n m → Is false xs m (length xs) → filter p xs ≡ take (m - n) (drop n xs)
+  pub passes_between : (xs : List X) (n m : ℕ) → n ≤ m → m ≤ length xs → Is false xs 0 n → Is true xs n m → Is false xs m (length xs)
+      → filter p xs ≡ take (m - n) (drop n xs)
   passes_between [] zero zero h g low mid high = refl
   passes_between [] n (suc m) h g low mid high = absurd (omega (arith, g))
   passes_between [] (suc n) zero h g low mid high = absurd (omega (arith, h))
@@ -105,7 +106,8 @@ differs_above t u h = grind (arith, h)
 is_same : (t u : ℤ) → int_lt u t ≡ false → int_le u t ≡ true → int_eq u t ≡ true
 is_same t u h g = grind (arith, h, g)
 
-pub rows_between : (rows : List Entry) (t : ℤ) (n m : ℕ) → n ≤ m → m ≤ length rows → IsFirst rows t n → IsEnd rows t m → at_instant rows t ≡ map (λ e. e.1) (take (m - n) (drop n rows))
+pub rows_between : (rows : List Entry) (t : ℤ) (n m : ℕ) → n ≤ m → m ≤ length rows → IsFirst rows t n → IsEnd rows t m
+    → at_instant rows t ≡ map (λ e. e.1) (take (m - n) (drop n rows))
 rows_between rows t n m h g first end =
     ap (λ l. map (λ (e : Entry). e.1) l) (passes_between (λ e. int_eq (stamp e) t) rows n m h g
     (λ k d a b. differs_below t (get_or rows k d).0 (first.0 k d a b))

@@ -36,7 +36,8 @@ pub from-push : (w last : ℕ) (t : ℤ) (n k : ℕ) (recs : List (List (List �
 from-push w last t n k [] fields es e so_far at is =
     let none : [] ≡ es = cc in
     let here : n ≡ k = omega (arith, at) in
-    let first : timed_in w last t n fields ≡ Ok e = ap (λ (m : ℕ). timed_in w last t m fields) here ∙ ap (λ (l : List Entry). timed_in w last (stamp_after t l) k fields) none ∙ is in
+    let first : timed_in w last t n fields ≡ Ok e = ap (λ (m : ℕ). timed_in w last t m fields) here
+    ∙ ap (λ (l : List Entry). timed_in w last (stamp_after t l) k fields) none ∙ is in
     ap (λ (r : Result Entry InFault). and_later r (λ y. timed_from w last y.0 (n + 1) [])) first ∙ ap (λ (l : List Entry). all_told (l ++ e ∷ [])) none
 from-push w last t n k (f ∷ recs) fields es e so_far at is =
     let (y, ys, first, later, parts) = first_then (timed_in w last t n f) (λ z. timed_from w last z.0 (n + 1) recs) es so_far in
@@ -51,7 +52,8 @@ pub from-fault : (w last : ℕ) (t : ℤ) (n k : ℕ) (recs : List (List (List �
 from-fault w last t n k [] fields others es f so_far at is =
     let none : [] ≡ es = cc in
     let here : n ≡ k = omega (arith, at) in
-    let first : timed_in w last t n fields ≡ Err f = ap (λ (m : ℕ). timed_in w last t m fields) here ∙ ap (λ (l : List Entry). timed_in w last (stamp_after t l) k fields) none ∙ is in
+    let first : timed_in w last t n fields ≡ Err f = ap (λ (m : ℕ). timed_in w last t m fields) here
+    ∙ ap (λ (l : List Entry). timed_in w last (stamp_after t l) k fields) none ∙ is in
     ap (λ (r : Result Entry InFault). and_later r (λ y. timed_from w last y.0 (n + 1) others)) first
 from-fault w last t n k (g ∷ recs) fields others es f so_far at is =
     let (y, ys, first, later, parts) = first_then (timed_in w last t n g) (λ z. timed_from w last z.0 (n + 1) recs) es so_far in
@@ -73,7 +75,8 @@ behind-push w h recs fields es e le so_far is =
     ap (timed_from w (h + most_rows) (pos 0) (h + 1)) (drop-append-le h recs (fields ∷ []) le)
     ∙ from-push w (h + most_rows) (pos 0) (h + 1) (length recs + 1) (drop h recs) fields es e so_far (omega (arith, length-drop h recs, le)) is
 
-behind-fault : (w h : ℕ) (recs : List (List (List ℕ))) (fields : List (List ℕ)) (others : List (List (List ℕ))) (es : List Entry) (f : InFault) → h ≤ length recs → behind w h recs ≡ Ok es
+behind-fault : (w h : ℕ) (recs : List (List (List ℕ))) (fields : List (List ℕ)) (others : List (List (List ℕ))) (es : List Entry) (f : InFault)
+    → h ≤ length recs → behind w h recs ≡ Ok es
     → timed_in w (h + most_rows) (stamp_after (pos 0) es) (length recs + 1) fields ≡ Err f → behind w h (recs ++ fields ∷ others) ≡ Err f
 behind-fault w h recs fields others es f le so_far is =
     ap (timed_from w (h + most_rows) (pos 0) (h + 1)) (drop-append-le h recs (fields ∷ others) le)
@@ -85,27 +88,32 @@ timed-none w true = refl
 timed-none w false = refl
 
 -- the header is passed over
-pub timed-header : (w : ℕ) (skip : Bool) (recs : List (List (List ℕ))) (fields : List (List ℕ)) → length recs + 1 ≤ headers skip → timed_rows_in w skip (recs ++ fields ∷ []) ≡ timed_rows_in w skip recs
+pub timed-header : (w : ℕ) (skip : Bool) (recs : List (List (List ℕ))) (fields : List (List ℕ)) → length recs + 1 ≤ headers skip
+    → timed_rows_in w skip (recs ++ fields ∷ []) ≡ timed_rows_in w skip recs
 timed-header w skip recs fields le = behind-header w (headers skip) recs fields le
 
 -- another row
-pub timed-push : (w : ℕ) (skip : Bool) (recs : List (List (List ℕ))) (fields : List (List ℕ)) (es : List Entry) (e : Entry) → headers skip ≤ length recs → timed_rows_in w skip recs ≡ Ok es
+pub timed-push : (w : ℕ) (skip : Bool) (recs : List (List (List ℕ))) (fields : List (List ℕ)) (es : List Entry) (e : Entry) → headers skip ≤ length recs
+    → timed_rows_in w skip recs ≡ Ok es
     → timed_in w (headers skip + most_rows) (stamp_after (pos 0) es) (length recs + 1) fields ≡ Ok e → timed_rows_in w skip (recs ++ fields ∷ []) ≡ Ok (es ++ e ∷ [])
 timed-push w skip recs fields es e le so_far is = behind-push w (headers skip) recs fields es e le so_far is
 
 -- the first fault
-pub timed-fault : (w : ℕ) (skip : Bool) (recs : List (List (List ℕ))) (fields : List (List ℕ)) (others : List (List (List ℕ))) (es : List Entry) (f : InFault) → headers skip ≤ length recs
+pub timed-fault : (w : ℕ) (skip : Bool) (recs : List (List (List ℕ))) (fields : List (List ℕ)) (others : List (List (List ℕ))) (es : List Entry) (f : InFault)
+    → headers skip ≤ length recs
     → timed_rows_in w skip recs ≡ Ok es → timed_in w (headers skip + most_rows) (stamp_after (pos 0) es) (length recs + 1) fields ≡ Err f → timed_rows_in w skip (recs ++ fields ∷ others) ≡ Err f
 timed-fault w skip recs fields others es f le so_far is = behind-fault w (headers skip) recs fields others es f le so_far is
 
 -- a timed row is one whose values are read, and whose time is right
-in_time_ok : (rec : ℕ) (t at : ℤ) (b c : Bool) (e d : Entry) → int_lt at (pos 0) ≡ b → int_lt at t ≡ c → if_in_time e (cond b (Err (fault.NegativeTime rec)) (cond c (Err (fault.Backwards rec)) (Ok tt))) ≡ Ok d
+in_time_ok : (rec : ℕ) (t at : ℤ) (b c : Bool) (e d : Entry) → int_lt at (pos 0) ≡ b → int_lt at t ≡ c
+    → if_in_time e (cond b (Err (fault.NegativeTime rec)) (cond c (Err (fault.Backwards rec)) (Ok tt))) ≡ Ok d
     → (e ≡ d) × (int_lt at (pos 0) ≡ false) × (int_lt at t ≡ false)
 in_time_ok rec t at true c e d p q h = cc
 in_time_ok rec t at false true e d p q h = cc
 in_time_ok rec t at false false e d p q h = let same : e ≡ d = cc in (same, p, q)
 
-pub stamped_ok : (rec : ℕ) (t : ℤ) (r : Result (List ℤ) InFault) (e : Entry) → stamped rec t r ≡ Ok e → (r ≡ Ok (e.0 ∷ e.1)) × (int_lt e.0 (pos 0) ≡ false) × (int_lt e.0 t ≡ false)
+pub stamped_ok : (rec : ℕ) (t : ℤ) (r : Result (List ℤ) InFault) (e : Entry) → stamped rec t r ≡ Ok e
+    → (r ≡ Ok (e.0 ∷ e.1)) × (int_lt e.0 (pos 0) ≡ false) × (int_lt e.0 t ≡ false)
 stamped_ok rec t (Err f) e h = cc
 stamped_ok rec t (Ok []) e h = cc
 stamped_ok rec t (Ok (at ∷ row)) e h =

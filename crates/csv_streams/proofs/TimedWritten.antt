@@ -40,13 +40,15 @@ timed_read w last t rec fields e h =
     let r = row_read (w + 1) false last rec fields (e.0 ∷ e.1) values in
     (r.0, record { written = r.1; from_nought = not_below (pos 0) e.0 nought; in_turn = not_below t e.0 turn })
 
-timed_written : (w last : ℕ) (t : ℤ) (rec : ℕ) (fields : List (List ℕ)) (e : Entry) → rec ≤ last → WritesTimed w t fields e → timed_in w last t rec fields ≡ Ok e
+timed_written : (w last : ℕ) (t : ℤ) (rec : ℕ) (fields : List (List ℕ)) (e : Entry) → rec ≤ last → WritesTimed w t fields e
+    → timed_in w last t rec fields ≡ Ok e
 timed_written w last t rec fields e le writes =
     ap (stamped rec t) (row_written (w + 1) false last rec fields (e.0 ∷ e.1) le writes.written)
     ∙ ap (λ (b : Bool). if_in_time e (cond b (Err (fault.NegativeTime rec)) (cond (int_lt e.0 t) (Err (fault.Backwards rec)) (Ok tt)))) (below_not (pos 0) e.0 writes.from_nought)
     ∙ ap (λ (b : Bool). if_in_time e (cond b (Err (fault.Backwards rec)) (Ok tt))) (below_not t e.0 writes.in_turn)
 
-all_read : (w last : ℕ) (t : ℤ) (k : ℕ) (recs : List (List (List ℕ))) (es : List Entry) → timed_from w last t k recs ≡ Ok es → WriteTimed w t recs es × (length es ≤ last + 1 - k)
+all_read : (w last : ℕ) (t : ℤ) (k : ℕ) (recs : List (List (List ℕ))) (es : List Entry) → timed_from w last t k recs ≡ Ok es
+    → WriteTimed w t recs es × (length es ≤ last + 1 - k)
 all_read w last t k [] [] h = (tt, omega arith)
 all_read w last t k [] (e ∷ es) h = cc
 all_read w last t k (fields ∷ recs) es h =
@@ -55,7 +57,8 @@ all_read w last t k (fields ∷ recs) es h =
     let rest = all_read w last e.0 (k + 1) recs others later in
     rw parts ((r.1, rest.0), omega (arith, r.0, rest.1))
 
-all_written : (w last : ℕ) (t : ℤ) (k : ℕ) (recs : List (List (List ℕ))) (es : List Entry) → WriteTimed w t recs es → length es + k ≤ last + 1 → timed_from w last t k recs ≡ Ok es
+all_written : (w last : ℕ) (t : ℤ) (k : ℕ) (recs : List (List (List ℕ))) (es : List Entry) → WriteTimed w t recs es → length es + k ≤ last + 1
+    → timed_from w last t k recs ≡ Ok es
 all_written w last t k [] [] all few = refl
 all_written w last t k [] (e ∷ es) all few = absurd all
 all_written w last t k (fields ∷ recs) [] all few = absurd all
@@ -204,7 +207,8 @@ module _ (w last : ℕ) (t : ℤ) (rec : ℕ) (fields : List (List ℕ)) where
     fault_in_time (fault.Width r) p l m = absurd (omega arith)
     fault_in_time (fault.NotNumber r k) p l m = absurd (omega arith)
     fault_in_time (fault.NegativeTime r) p l m =
-        ap (λ (b : Bool). timed b (int_lt at t)) (below_is (pos 0) (only_writes fields all_write (pos 0) p.has.1)) ∙ ap (λ (n : ℕ). Err (fault.NegativeTime n)) (sym p.has.0)
+        ap (λ (b : Bool). timed b (int_lt at t)) (below_is (pos 0) (only_writes fields all_write (pos 0) p.has.1))
+        ∙ ap (λ (n : ℕ). Err (fault.NegativeTime n)) (sym p.has.0)
     fault_in_time (fault.Backwards r) p l m =
         ap (λ (b : Bool). timed b (int_lt at t)) (in_nought (p.first (fault.NegativeTime rec) (omega arith)))
         ∙ ap (timed false) (below_is t (only_writes fields all_write t p.has.1)) ∙ ap (λ (n : ℕ). Err (fault.Backwards n)) (sym p.has.0)
@@ -267,7 +271,8 @@ first_timed w last t n (fields ∷ recs) f e = step (timed_in w last t n fields)
   only_fault : (g : InFault) → no_rows g ≡ no_rows f → g ≡ f
   only_fault g h = cc h
 
-  step : (r : Result Entry InFault) → timed_in w last t n fields ≡ r → ((y : Entry) → timed_from w last y.0 (n + 1) recs ≡ Err f → FirstTimed w last y.0 (n + 1) recs f) → FirstTimed w last t n (fields ∷ recs) f
+  step : (r : Result Entry InFault) → timed_in w last t n fields ≡ r
+      → ((y : Entry) → timed_from w last y.0 (n + 1) recs ≡ Err f → FirstTimed w last y.0 (n + 1) recs f) → FirstTimed w last t n (fields ∷ recs) f
   step (Err g) is more =
       let same : g ≡ f = only_fault g (sym (ap (λ (r : Result Entry InFault). and_later r (λ y. timed_from w last y.0 (n + 1) recs)) is) ∙ e) in
       let at : n + 0 ≡ n = omega arith in
@@ -281,7 +286,8 @@ first_timed w last t n (fields ∷ recs) f e = step (timed_in w last t n fields)
         others = m.others;
         given = y ∷ m.given;
         parts = ap (λ l. fields ∷ l) m.parts;
-        good = ap (λ (r : Result Entry InFault). and_later r (λ z. timed_from w last z.0 (n + 1) m.front)) is ∙ ap (λ (r : Result (List Entry) InFault). before (Ok y) r) m.good;
+        good = ap (λ (r : Result Entry InFault). and_later r (λ z. timed_from w last z.0 (n + 1) m.front)) is
+            ∙ ap (λ (r : Result (List Entry) InFault). before (Ok y) r) m.good;
         bad = ap (λ k. timed_in w last (stamp_after y.0 m.given) k m.here) at ∙ m.bad;
       }
 

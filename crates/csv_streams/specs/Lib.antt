@@ -4,6 +4,7 @@ pub mod Numbered
 pub mod Outcome
 pub mod Records
 pub mod Rows
+pub mod SpreadOut
 pub mod Timed
 pub mod TimedWritten
 pub mod Writing

@@ -39,13 +39,18 @@ pub record IsTimedFaultOf (bytes : List ℕ) (width : ℕ) (skip_first : Bool) (
 
 -- what is read is what is written
 abbrev pub ReadTimedAreWritten : Type 0
-ReadTimedAreWritten = (bytes : List ℕ) (width : ℕ) (skip_first : Bool) (rows : List Entry) → (timed_of bytes width skip_first ≡ Ok rows) ↔ FileWritesTimed bytes width skip_first rows
+ReadTimedAreWritten =
+    (bytes : List ℕ) (width : ℕ) (skip_first : Bool) (rows : List Entry)
+    → (timed_of bytes width skip_first ≡ Ok rows) ↔ FileWritesTimed bytes width skip_first rows
 
 -- a fault is told exactly where it is the fault of the file
 abbrev pub TimedFaultsAre : Type 0
-TimedFaultsAre = (bytes : List ℕ) (width : ℕ) (skip_first : Bool) (f : InFault) → (timed_of bytes width skip_first ≡ Err f) ↔ IsTimedFaultOf bytes width skip_first f
+TimedFaultsAre =
+    (bytes : List ℕ) (width : ℕ) (skip_first : Bool) (f : InFault)
+    → (timed_of bytes width skip_first ≡ Err f) ↔ IsTimedFaultOf bytes width skip_first f
 
 -- timed rows that are read have the width that was asked
 abbrev pub ReadTimedHaveWidth : Type 0
 ReadTimedHaveWidth =
-    (bytes : List ℕ) (width : ℕ) (skip_first : Bool) (rows : List Entry) → timed_of bytes width skip_first ≡ Ok rows → HaveWidth width (map (λ (e : Entry). e.1) rows)
+    (bytes : List ℕ) (width : ℕ) (skip_first : Bool) (rows : List Entry)
+    → timed_of bytes width skip_first ≡ Ok rows → HaveWidth width (map (λ (e : Entry). e.1) rows)

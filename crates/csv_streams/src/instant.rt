@@ -19,8 +19,8 @@ pub fn instants(alloc: Global, files: &TimedFiles) -> Result<Numbers, NoMemory>
     Ok(stamps)
 }
 
-// Appends the timestamps of a file.
-fn add_stamps(file: &TimedRows, stamps: &mut Numbers) -> Result<(), NoMemory>
+/// Appends the timestamps of a file.
+pub fn add_stamps(file: &TimedRows, stamps: &mut Numbers) -> Result<(), NoMemory>
     ensures { OnOk result (stamps.new ≡ stamps.old ++ map (λ (e : ℤ × List ℤ). e.0) file.now) }
 {
     for entry in file.as_slice() {

@@ -1,5 +1,6 @@
 //! Laws over the definitions alone.
 ghost use Rattle.csv_streams.specs.Faults.{FaultsAre};
+ghost use Rattle.csv_streams.specs.SpreadOut.{EachInstantHasABatch, NoRowIsLost};
 ghost use Rattle.csv_streams.specs.TimedWritten.{ReadTimedAreWritten, TimedFaultsAre, ReadTimedHaveWidth};
 ghost use Rattle.csv_streams.specs.Writing.{ReadIsWritten, WrittenIsRead};
 ghost use Rattle.csv_streams.specs.Written.{ReadRowsAreWritten, WrittenRowsAreRead, ReadRowsHaveWidth};
@@ -49,4 +50,11 @@ pub fn timed_faults_are()
 /// Timed rows that are read of a file have the width that was asked.
 pub fn timed_rows_that_are_read_have_the_width()
     ensures { ReadTimedHaveWidth }
+{}
+
+/// Rows that are spread over instants have a batch for each instant, in their order, and of a file that is read no row is lost or
+/// doubled, where the instants rise and have all its timestamps.
+pub fn no_row_is_lost()
+    ensures batches { EachInstantHasABatch }
+    ensures rows { NoRowIsLost }
 {}

@@ -11,7 +11,7 @@ mod rows;
 mod timed;
 
 pub use fault::InFault;
-pub use instant::{instants, spread};
+pub use instant::{add_stamps, instants, spread};
 pub use number::read_number;
 pub use outcome::print_outcome;
 pub use rows::{MAX_ROWS, read_rows};

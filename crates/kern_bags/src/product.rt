@@ -10,12 +10,7 @@ use river_base::{Batch, Flat, Item, Items, NoMemory, Row, Rows};
 use std::alloc::Global;
 
 /// Gives the rows of two contents joined in all pairs, in ascending order, at the instant of the first.
-pub fn join_pair(
-    alloc: Global,
-    left: &Item,
-    right: &Item,
-    out: &mut Items,
-) -> Result<(), NoMemory>
+pub fn join_pair(alloc: Global, left: &Item, right: &Item, out: &mut Items) -> Result<(), NoMemory>
     requires { CanJoin (rows_of left.now) (rows_of right.now) }
     ensures ok { OnOk result (out.new ≡ out.old ++ joined_batch left.now right.now) }
     ensures err { OnErr result (out.new ≡ out.old) }
@@ -26,12 +21,7 @@ pub fn join_pair(
     }
 }
 
-fn join_batch(
-    alloc: Global,
-    left: &Batch,
-    right: &Item,
-    out: &mut Items,
-) -> Result<(), NoMemory>
+fn join_batch(alloc: Global, left: &Batch, right: &Item, out: &mut Items) -> Result<(), NoMemory>
     requires { CanJoin left.now.rows (rows_of right.now) }
     ensures ok { OnOk result (out.new ≡ out.old ++ joined_batch (flat_item (batched left.now)) right.now) }
     ensures err { OnErr result (out.new ≡ out.old) }

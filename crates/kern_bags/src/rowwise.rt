@@ -27,12 +27,7 @@ pub fn select(alloc: Global, cond: &Expr, item: Flat, out: &mut Items) -> Result
     }
 }
 
-fn select_batch(
-    alloc: Global,
-    cond: &Expr,
-    batch: &Batch,
-    out: &mut Items,
-) -> Result<(), NoMemory>
+fn select_batch(alloc: Global, cond: &Expr, batch: &Batch, out: &mut Items) -> Result<(), NoMemory>
     requires { CanRead (term cond.now) batch.now.rows }
     ensures ok { OnOk result (out.new ≡ out.old ++ select_one (term cond.now) (flat_item (batched batch.now))) }
     ensures err { OnErr result (out.new ≡ out.old) }

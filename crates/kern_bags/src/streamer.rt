@@ -30,12 +30,7 @@ impl Model for StreamerState {
 }
 
 // Gives the rows that came since the last content.
-fn give_came(
-    alloc: Global,
-    last: &mut Rows,
-    batch: Batch,
-    out: &mut Items,
-) -> Result<(), NoMemory>
+fn give_came(alloc: Global, last: &mut Rows, batch: Batch, out: &mut Items) -> Result<(), NoMemory>
     requires last { IsAscending last.old }
     requires rows { IsAscending batch.rows }
     ensures ok { OnOk result (out.new ≡ out.old ++ flat_item (batched (record { at = batch.at; rows = difference batch.rows last.old })) ∷ []) }
@@ -49,12 +44,7 @@ fn give_came(
 }
 
 // Gives the rows that went since the last content.
-fn give_gone(
-    alloc: Global,
-    last: &mut Rows,
-    batch: Batch,
-    out: &mut Items,
-) -> Result<(), NoMemory>
+fn give_gone(alloc: Global, last: &mut Rows, batch: Batch, out: &mut Items) -> Result<(), NoMemory>
     requires last { IsAscending last.old }
     requires rows { IsAscending batch.rows }
     ensures ok { OnOk result (out.new ≡ out.old ++ flat_item (batched (record { at = batch.at; rows = difference last.old batch.rows })) ∷ []) }

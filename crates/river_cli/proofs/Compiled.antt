@@ -1,11 +1,10 @@
 -- What was compiled stands for what its text means.
 use Rattle.std.proofs.Common.{◌≡◌, ℕ, ℤ, List, [], ◌∷◌, length, refl, sym, ap, ◌∙◌, subst, arith}
-use Rattle.std.specs.Prelude.{Result, Ok, Err, All}
+use Rattle.std.specs.Prelude.{map, take, Result, Ok, Err, All}
 use Rattle.std.proofs.lemmas.List.Elements.{All-head, All-tail}
 use Rattle.river_base.specs.declared.item.Flat.TheVariants.{One}
 use Rattle.river_base.specs.declared.item.Item.TheVariants.{Flat}
-use Rattle.river_base.specs.Held.{HasType}
-use Rattle.river_kernels.specs.Fits.{rows}
+use Rattle.river_base.specs.Held.{HaveWidth}
 use Rattle.river_order.specs.Passes.{StandsFor}
 use Rattle.river_plan.specs.Forms.{PlanForm}
 use Rattle.river_text.specs.Meaning as river
@@ -13,17 +12,28 @@ use Rattle.river_text.specs.Words.{river_words}
 use Rattle.river_text.specs.declared.river_fault.RiverFault.{RiverFault}
 use Rattle.river_text.specs.declared.river_fault.RiverFault.TheVariants as river_fault
 use Rattle.brooklet_model.specs.Meaning.{meaning}
-use Rattle.brooklet_model.specs.Typed.{AreInputs}
 use Rattle.streamit_model.specs.Build.{plan_of}
 use Rattle.streamit_model.specs.Laws.{as_items}
-use Rattle.streamit_front.specs.Meaning.{Accepted, compiled, Refused}
+use Rattle.streamit_model.specs.Program.{Program}
+use Rattle.streamit_front.specs.Meaning.{Accepted, compiled, Plans, Refused}
 use Rattle.streamit_front.specs.Words.{streamit_words}
 use Rattle.streamit_front.specs.declared.fault.StreamitFault.{StreamitFault}
 use Rattle.streamit_front.specs.declared.fault.StreamitFault.TheVariants as streamit_fault
 use Rattle.streamit_front.proofs.Fronts.{plans_mean}
+use Rattle.river_cli.specs.Contents.{AreContents}
 use Rattle.river_cli.specs.Inputs.{row_items, all_items}
-use Rattle.river_cli.specs.Source.{river_source, streamit_source, values, told, IsPlanOf, IsCompiled}
+use Rattle.river_cli.specs.Source.{river_source, streamit_source, saw_source, values, told, IsPlanOf, IsCompiled}
+use Rattle.std.proofs.lemmas.List.{take_all}
+use Rattle.saw_model.specs.Plan.{as_items as saw_items}
+use Rattle.saw_model.specs.Source.{width}
+use Rattle.saw_front.specs.Meaning as saw
+use Rattle.saw_front.specs.Words.{saw_words}
+use Rattle.saw_front.specs.declared.fault.SawFault.{SawFault}
+use Rattle.saw_front.specs.declared.fault.SawFault.TheVariants as saw_fault
+use Rattle.saw_front.proofs.Fronts.{plans_mean as saw_plans_mean}
 use Rattle.river_cli.specs.Text.{program_refused}
+use Rattle.river_cli.specs.declared.content.Content.{Content}
+use Rattle.river_cli.specs.declared.content.Content.TheVariants.{Rows as Plain, Timed}
 
 -- ---- A RIVER TEXT
 
@@ -44,23 +54,27 @@ one_value (x ∷ []) one = (x, refl)
 one_value (x ∷ y ∷ more) one = absurd (omega (arith, one))
 
 -- rows of one value are the items of their values
-values-are : (r : List (List ℤ)) → All (HasType (rows 1)) (row_items r) → row_items r ≡ as_items (values (r ∷ []))
+values-are : (r : List (List ℤ)) → HaveWidth 1 r → row_items r ≡ as_items (values (Plain r ∷ []))
 values-are [] t = refl
 values-are (row ∷ r) t =
-    let (x, is) = one_value row (All-head (HasType (rows 1)) (Flat (One row)) (row_items r) t) in
-    let later : row_items r ≡ as_items (values (r ∷ [])) = values-are r (All-tail (HasType (rows 1)) (Flat (One row)) (row_items r) t) in
+    let (x, is) = one_value row (All-head (λ l. length l ≡ 1) row r t) in
+    let later : row_items r ≡ as_items (values (Plain r ∷ [])) = values-are r (All-tail (λ l. length l ≡ 1) row r t) in
     ap (λ l. Flat (One row) ∷ l) later ∙ rw is refl
 
-program_means : (text : List ℕ) (a : Accepted) → compiled text ≡ Ok a → (all : List (List (List ℤ))) → AreInputs (plan_of a.stream).inputs (all_items all) → meaning (plan_of a.stream) (all_items all) ≡ (streamit_source a).means all
+program_means : (text : List ℕ) (a : Accepted) → compiled text ≡ Ok a → (files : List Content) → AreContents (plan_of a.stream).inputs files → meaning (plan_of a.stream) (all_items files) ≡ (streamit_source a).means files
 program_means text a e [] t = absurd t
-program_means text a e (r ∷ s ∷ more) t = absurd t.1
-program_means text a e (r ∷ []) t = ap (λ l. meaning (plan_of a.stream) (l ∷ [])) (values-are r t.0) ∙ (plans_mean text a (values (r ∷ [])) e).1
+program_means text a e (f ∷ g ∷ more) t = absurd t.1
+program_means text a e (Timed es ∷ []) t = absurd t.0
+program_means text a e (Plain r ∷ []) t = ap (λ l. meaning (plan_of a.stream) (l ∷ [])) (values-are r t.0) ∙ (plans_mean text a (values (Plain r ∷ [])) e).1
 
 program_plan : (text : List ℕ) (a : Accepted) → compiled text ≡ Ok a → IsPlanOf (streamit_source a) (plan_of a.stream)
 program_plan text a e = record { plan = refl; inputs = refl; outputs = refl; tables = refl; means = program_means text a e }
 
-pub streamit-compiled : (text : List ℕ) (a : Accepted) (plan : PlanForm) → compiled text ≡ Ok a → plan ≡ plan_of a.stream → StandsFor IsCompiled (told streamit_source streamit_words (compiled text)) (record { plan = plan })
-streamit-compiled text a plan is made =
+-- the plan that was compiled is the program's
+pub streamit-compiled : (text : List ℕ) (p : Program) (plan : PlanForm) → Plans (compiled text) p plan
+    → StandsFor IsCompiled (told streamit_source streamit_words (compiled text)) (record { plan = plan })
+streamit-compiled text p plan (s, is, made) =
+    let a : Accepted = record { program = p; stream = s } in
     subst (λ (r : Result Accepted StreamitFault). StandsFor IsCompiled (told streamit_source streamit_words r) (record { plan = plan })) (sym is)
     (subst (IsPlanOf (streamit_source a)) (sym made) (program_plan text a is))
 
@@ -75,3 +89,35 @@ streamit-refused meant (streamit_fault.BranchRates unit) text not is says = rw (
 streamit-refused meant (streamit_fault.Limit unit) text not is says = rw (is, says) refl
 streamit-refused meant (streamit_fault.Weights unit) text not is says = rw (is, says) refl
 streamit-refused meant streamit_fault.NoMemory text not is says = absurd (not refl)
+
+-- ---- A SAWZALL PROGRAM
+
+-- rows of the width are read whole
+taken : (n : ℕ) (row : List ℤ) → length row ≡ n → take n row ≡ row
+taken n row e = take_all n row (omega (arith, e))
+
+rows-are : (n : ℕ) (r : List (List ℤ)) → HaveWidth n r → row_items r ≡ saw_items (map (take n) r)
+rows-are n [] t = refl
+rows-are n (row ∷ r) t =
+    let later : row_items r ≡ saw_items (map (take n) r) = rows-are n r (All-tail (λ l. length l ≡ n) row r t) in
+    let here : row ≡ take n row = sym (taken n row (All-head (λ l. length l ≡ n) row r t)) in
+    λ i. Flat (One (here i)) ∷ later i
+
+saw_means : (text : List ℕ) (a : saw.Accepted) → saw.compiled text ≡ Ok a → (files : List Content) → AreContents (saw.plan_in a).inputs files → meaning (saw.plan_in a) (all_items files) ≡ (saw_source a).means files
+saw_means text a e [] t = absurd t
+saw_means text a e (f ∷ g ∷ more) t = absurd t.1
+saw_means text a e (Timed es ∷ []) t = absurd t.0
+saw_means text a e (Plain r ∷ []) t = ap (λ l. meaning (saw.plan_in a) (l ∷ [])) (rows-are (width (saw.program_in a)) r t.0) ∙ (saw_plans_mean text a r e).1
+
+pub saw-compiled : (text : List ℕ) (a : saw.Accepted) (plan : PlanForm) → saw.compiled text ≡ Ok a → plan ≡ saw.plan_in a → StandsFor IsCompiled (told saw_source saw_words (saw.compiled text)) (record { plan = plan })
+saw-compiled text a plan is made =
+    subst (λ (r : Result saw.Accepted SawFault). StandsFor IsCompiled (told saw_source saw_words r) (record { plan = plan })) (sym is)
+    (subst (IsPlanOf (saw_source a)) (sym made) (record { plan = refl; inputs = refl; outputs = refl; tables = refl; means = saw_means text a is }))
+
+pub saw-refused : (meant : Result saw.Accepted SawFault) (f : SawFault) (text : List _) → (f ≡ saw_fault.NoMemory → ⊥) → saw.Refused meant f → text ≡ program_refused (saw_words f) → told saw_source saw_words meant ≡ Err text
+saw-refused meant (saw_fault.Text refusal) text not is says = rw (is, says) refl
+saw-refused meant (saw_fault.UnknownName unit) text not is says = rw (is, says) refl
+saw-refused meant (saw_fault.NameTwice unit) text not is says = rw (is, says) refl
+saw-refused meant (saw_fault.Shape unit) text not is says = rw (is, says) refl
+saw-refused meant (saw_fault.Limit unit) text not is says = rw (is, says) refl
+saw-refused meant saw_fault.NoMemory text not is says = absurd (not refl)

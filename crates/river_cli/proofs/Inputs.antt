@@ -1,5 +1,5 @@
 -- The names, files and rows of inputs.
-use Rattle.std.proofs.Common.{◌≡◌, ℕ, ℤ, zero, suc, ◌+◌, ◌<◌, ◌≤◌, drop, get_or, Bool, true, false, List, [], ◌∷◌, ◌++◌, length, refl, sym, ap, ◌∙◌, subst, arith, not}
+use Rattle.std.proofs.Common.{◌≡◌, ℕ, zero, suc, ◌+◌, ◌<◌, ◌≤◌, drop, get_or, Bool, true, false, List, [], ◌∷◌, ◌++◌, length, refl, sym, ap, ◌∙◌, subst, arith, not}
 use Rattle.std.specs.Prelude.{Option, Some, None, Result, Ok, Err, All, IsTrue, nat_lt, if◌then◌else◌}
 use Rattle.std.proofs.lemmas.List.{append_assoc, append-nil, drop_more, drop_all}
 use Rattle.std.proofs.lemmas.Bool.Decides.{nat_tests}
@@ -14,12 +14,15 @@ use Rattle.river_order.proofs.Comes.{Comes-same}
 use Rattle.river_order.proofs.Passes.{past-refused, then-passes}
 use Rattle.river_kernels.specs.Formed.{is_width}
 use Rattle.river_plan.specs.declared.plan.Decl.{Decl}
-use Rattle.river_plan.specs.Faults.{HasWidth}
+use Rattle.river_plan.specs.Faults.{HasWidth, IsOuter}
 use Rattle.river_plan.specs.Forms.{decl_names}
 use Rattle.river_plan.specs.Names.{count}
-use Rattle.river_cli.specs.Inputs.{unknown, missing, first_told, names_fit, Reader, file_read, fetches, width_named, row_reader, with_first, all_read, rows_named, in_order, of_inputs}
+use Rattle.river_cli.specs.Inputs.{names, unknown, missing, first_told, names_fit, Reader, file_read, fetches, width_named, content_reader, with_first, all_read, content_named, in_order, of_inputs}
 use Rattle.river_cli.specs.Text.{unknown_input, missing_input}
+use Rattle.river_cli.specs.declared.content.Content.{Content}
+use Rattle.river_cli.specs.declared.content.Content.TheVariants.{Rows as Plain}
 use Rattle.river_cli.specs.declared.job.InWord.{InWord}
+use Rattle.river_cli.specs.declared.job.Layout.{Layout}
 
 -- an input that is declared has a width
 declared_width : (decls : List Decl) (name : List ℕ) → All HasWidth decls → 0 < count name (decl_names decls) → IsTrue (is_width (width_named decls name))
@@ -33,6 +36,10 @@ declared_width (d ∷ ds) name h lt = by (name_eq d.name name) refl (declared_wi
 -- where no name is unknown each word has one
 abbrev IsKnown : List Decl → InWord → Type 0
 IsKnown decls w = IsTrue (is_width (width_named decls w.name))
+
+-- an input that a word names
+abbrev pub IsNamed : List InWord → Decl → Type 0
+IsNamed ins d = 0 < count d.name (names ins)
 
 first_rest : {A : Type 0} (P : A → Type 0) (x : A) (xs : List A) → P x → All P xs → All P (x ∷ xs)
 first_rest P x xs p ps zero d lt = p
@@ -50,10 +57,31 @@ all_known decls (w ∷ ws) h none = by (nat_lt 0 (count w.name (decl_names decls
     by true e none later = first_rest (IsKnown decls) w ws (declared_width decls w.name h (grind (arith, nat_tests, e))) (later none)
     by false e none later = absurd (some none)
 
+-- and each input has one
+named_all : (ds : List Decl) (ins : List InWord) → missing ds ins ≡ None → All (λ d. IsNamed ins d) ds
+named_all [] ins none = λ k d lt. absurd (omega (arith, lt))
+named_all (d ∷ ds) ins none = by (nat_lt 0 (count d.name (names ins))) refl none (named_all ds ins)
+  where
+    some : ◌≡◌ {A = Option Decl} (Some d) None → ⊥
+    some e = cc
+
+    by : (b : Bool) → nat_lt 0 (count d.name (names ins)) ≡ b → (if not b then Some d else missing ds ins) ≡ None → (missing ds ins ≡ None → All (λ e. IsNamed ins e) ds) → All (λ e. IsNamed ins e) (d ∷ ds)
+    by true e none later = first_rest (λ f. IsNamed ins f) d ds (grind (arith, nat_tests, e)) (later none)
+    by false e none later = absurd (some none)
+
 told_none : (u : Option InWord) (m : Option Decl) → first_told u m ≡ Ok tt → u ≡ None
 told_none None m e = refl
 told_none (Some w) None e = cc
 told_none (Some w) (Some d) e = cc
+
+none_missing : (u : Option InWord) (m : Option Decl) → first_told u m ≡ Ok tt → m ≡ None
+none_missing None None e = refl
+none_missing None (Some d) e = cc
+none_missing (Some w) m e = cc
+
+pub all-named : (decls : List Decl) (ins : List InWord) → names_fit decls ins ≡ Ok tt → All (λ d. IsNamed ins d) decls
+unfolding names_fit
+all-named decls ins told = named_all decls ins (none_missing (unknown decls ins) (missing decls ins) told)
 
 pub unknown-told : (decls : List Decl) (ins : List InWord) (w : InWord) → unknown decls ins ≡ Some w → names_fit decls ins ≡ Err (unknown_input w.name)
 unfolding names_fit
@@ -67,9 +95,9 @@ pub nothing-told : (decls : List Decl) (ins : List InWord) → unknown decls ins
 unfolding names_fit
 nothing-told decls ins e f = ap (λ (u : Option InWord). first_told u (missing decls ins)) e ∙ ap (first_told None) f
 
-pub known-widths : (decls : List Decl) (ins : List InWord) → All HasWidth decls → names_fit decls ins ≡ Ok tt → All (λ w. IsTrue (is_width (width_named decls w.name))) ins
+pub known-widths : (decls : List Decl) (ins : List InWord) → All IsOuter decls → names_fit decls ins ≡ Ok tt → All (λ w. IsTrue (is_width (width_named decls w.name))) ins
 unfolding names_fit
-known-widths decls ins h none = all_known decls ins h (told_none (unknown decls ins) (missing decls ins) none)
+known-widths decls ins h none = all_known decls ins (λ k d lt. (h k d lt).0) (told_none (unknown decls ins) (missing decls ins) none)
 
 -- what was read before, and then the rest
 module _ {A : Type 0} where
@@ -127,56 +155,57 @@ module _ {A : Type 0} (reader : Reader A) (ins : List InWord) (files : List (Lis
       sym so_far ∙ ap (λ l. put_before all (all_read reader l (drop i files))) (drop_all i ins le) ∙ before-none all
 
 -- a word of another name
-pub rows-skip : (ins : List InWord) (all : List (List (List ℤ))) (name : List ℕ) (i : ℕ) (w : InWord) (whole : List (List ℤ))
+pub content-skip : (ins : List InWord) (all : List Content) (name : List ℕ) (i : ℕ) (w : InWord) (whole : Content)
     → i < length ins → length all ≡ length ins → w ≡ get_or ins i w → name_eq (get_or ins i w).name name ≡ false
-    → rows_named (drop i ins) (drop i all) name ≡ whole → rows_named (drop (i + 1) ins) (drop (i + 1) all) name ≡ whole
-rows-skip ins all name i w whole lt same w_is other so_far =
+    → content_named (drop i ins) (drop i all) name ≡ whole → content_named (drop (i + 1) ins) (drop (i + 1) all) name ≡ whole
+content-skip ins all name i w whole lt same w_is other so_far =
+    let none = Plain [] in
     let left : drop i ins ≡ w ∷ drop (i + 1) ins = drop_more ins i w lt ∙ ap (λ y. y ∷ drop (i + 1) ins) (sym w_is) in
-    let rows : drop i all ≡ get_or all i [] ∷ drop (i + 1) all = drop_more all i [] (omega (arith, lt, same)) in
+    let files : drop i all ≡ get_or all i none ∷ drop (i + 1) all = drop_more all i none (omega (arith, lt, same)) in
     let here : name_eq w.name name ≡ false = ap (λ (y : InWord). name_eq y.name name) w_is ∙ other in
-    ap (λ b. if b then get_or all i [] else rows_named (drop (i + 1) ins) (drop (i + 1) all) name) (sym here)
-    ∙ ap (λ l. rows_named (w ∷ drop (i + 1) ins) l name) (sym rows)
-    ∙ ap (λ l. rows_named l (drop i all) name) (sym left)
+    ap (λ b. if b then get_or all i none else content_named (drop (i + 1) ins) (drop (i + 1) all) name) (sym here)
+    ∙ ap (λ l. content_named (w ∷ drop (i + 1) ins) l name) (sym files)
+    ∙ ap (λ l. content_named l (drop i all) name) (sym left)
     ∙ so_far
 
--- ---- FROM THE NAMES TO THE ROWS
+-- ---- FROM THE NAMES TO THE FILES
 
-module _ (decls : List Decl) (ins : List InWord) (header : Bool) (held : Option Held) where
-  abbrev reader : Reader (List (List ℤ))
-  reader = row_reader decls header
+module _ (decls : List Decl) (ins : List InWord) (layout : Layout) (held : Option Held) where
+  abbrev reader : Reader Content
+  reader = content_reader decls layout
 
   -- after the names: the files are fetched, and then read
-  abbrev from_files : (List (List (List ℤ)) → Order) → Order
+  abbrev from_files : (List Content → Order) → Order
   from_files next = fetches ins (λ files. past (all_read reader ins files) (λ all. next (in_order decls ins all)))
 
-  past_names : (next : List (List (List ℤ)) → Order) → names_fit decls ins ≡ Ok tt → of_inputs decls ins header next ≡ from_files next
+  past_names : (next : List Content → Order) → names_fit decls ins ≡ Ok tt → of_inputs decls ins layout next ≡ from_files next
   unfolding of_inputs
   past_names next fit = ap (λ r. past r (λ _. from_files next)) fit
 
   -- a name refuses
-  pub names-stop : (rose : Type 0) (s : Stop) → Refuses (names_fit decls ins) s → (next : List (List (List ℤ)) → Order) → Stops (Some (of_inputs decls ins header next)) held rose s
+  pub names-stop : (rose : Type 0) (s : Stop) → Refuses (names_fit decls ins) s → (next : List Content → Order) → Stops (Some (of_inputs decls ins layout next)) held rose s
   unfolding of_inputs
   names-stop rose s told next = past-refused (names_fit decls ins) s held rose told (λ _. from_files next)
 
   -- a fetch stops
   pub fetch-stop : (rose : Type 0) (s : Stop) → names_fit decls ins ≡ Ok tt → ((next : List (List ℕ) → Order) → Stops (Some (fetches ins next)) held rose s)
-      → (next : List (List (List ℤ)) → Order) → Stops (Some (of_inputs decls ins header next)) held rose s
+      → (next : List Content → Order) → Stops (Some (of_inputs decls ins layout next)) held rose s
   fetch-stop rose s fit stops next =
       subst (λ (o : Order). Stops (Some o) held rose s) (sym (past_names next fit)) (stops (λ files. past (all_read reader ins files) (λ all. next (in_order decls ins all))))
 
   -- the files are read
-  read_passes : (rose : Type 0) (files : List (List ℕ)) (result : Result (List (List (List ℤ))) Stop) → AnswersAs (λ all rows. rows ≡ in_order decls ins all) (all_read reader ins files) result
+  read_passes : (rose : Type 0) (files : List (List ℕ)) (result : Result (List Content) Stop) → AnswersAs (λ all rows. rows ≡ in_order decls ins all) (all_read reader ins files) result
       → Passes (λ next. past (all_read reader ins files) (λ all. next (in_order decls ins all))) held rose result
   read_passes rose files (Ok rows) told = found (all_read reader ins files) refl told
     where
-      found : (r : Result (List (List (List ℤ))) (List ℕ)) → all_read reader ins files ≡ r → StandsFor (λ all rows. rows ≡ in_order decls ins all) r rows
-          → (next : List (List (List ℤ)) → Order) → Comes (past r (λ all. next (in_order decls ins all))) held (next rows)
+      found : (r : Result (List Content) (List ℕ)) → all_read reader ins files ≡ r → StandsFor (λ all rows. rows ≡ in_order decls ins all) r rows
+          → (next : List Content → Order) → Comes (past r (λ all. next (in_order decls ins all))) held (next rows)
       found (Ok all) is told next = subst (λ l. Comes (next (in_order decls ins all)) held (next l)) (sym told) (Comes-same (next (in_order decls ins all)) held)
       found (Err text) is told next = absurd told
   read_passes rose files (Err s) told = λ next. past-refused (all_read reader ins files) s held rose told (λ all. next (in_order decls ins all))
 
-  pub files-pass : (rose : Type 0) (files : List (List ℕ)) (result : Result (List (List (List ℤ))) Stop) → names_fit decls ins ≡ Ok tt → ((next : List (List ℕ) → Order) → Comes (fetches ins next) held (next files))
-      → AnswersAs (λ all rows. rows ≡ in_order decls ins all) (all_read reader ins files) result → Passes (of_inputs decls ins header) held rose result
+  pub files-pass : (rose : Type 0) (files : List (List ℕ)) (result : Result (List Content) Stop) → names_fit decls ins ≡ Ok tt → ((next : List (List ℕ) → Order) → Comes (fetches ins next) held (next files))
+      → AnswersAs (λ all rows. rows ≡ in_order decls ins all) (all_read reader ins files) result → Passes (of_inputs decls ins layout) held rose result
   files-pass rose files (Ok rows) fit far told = λ next.
       subst (λ (o : Order). Comes o held (next rows)) (sym (past_names next fit)) (then-passes (fetches ins) (λ f next. past (all_read reader ins f) (λ all. next (in_order decls ins all))) held rose rose (λ r. r) files (Ok rows) far (read_passes rose files (Ok rows) told) next)
   files-pass rose files (Err s) fit far told = λ next.

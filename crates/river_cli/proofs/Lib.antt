@@ -1,10 +1,10 @@
 pub mod Compiled
+pub mod Contents
 pub mod Cut
 pub mod Fetches
 pub mod Inputs
+pub mod Items
 pub mod Points
 pub mod ReadOn
-pub mod Runs
 pub mod Scripts
 pub mod Told
-pub mod Typed

@@ -1,5 +1,5 @@
 -- The points of a job, and the calls that do them.
-use Rattle.std.proofs.Common.{◌≡◌, ℕ, ℤ, List, ◌++◌, Bool, false, sym, ap, ◌∙◌, subst}
+use Rattle.std.proofs.Common.{◌≡◌, ℕ, ℤ, List, ◌++◌, Bool, false, refl, sym, ap, ◌∙◌, subst}
 use Rattle.std.specs.Prelude.{Option, Some, Result, Ok, Err, IfOk, pos, map}
 use Rattle.csv_streams.specs.Outcome.{outputs_text, tables_text, firings_text, asked, printed_outcome}
 use Rattle.river_base.specs.declared.item.Item as item
@@ -15,12 +15,14 @@ use Rattle.river_plan.specs.Forms.{PlanForm, table_names, labels}
 use Rattle.river_print.specs.Printed.{plan_text}
 use Rattle.brooklet_model.specs.Histories.{firings}
 use Rattle.brooklet_model.specs.Meaning.{Results, meaning}
-use Rattle.brooklet_model.specs.Typed.{AreInputs}
+use Rattle.river_cli.specs.Contents.{AreContents}
+use Rattle.river_cli.specs.Layouts.{layout_of}
 use Rattle.river_cli.specs.Inputs.{of_inputs, all_items}
-use Rattle.river_cli.specs.Points.{runs, of_run, of_command, of_script, of_text, of_job}
+use Rattle.river_cli.specs.Points.{of_run, of_command, of_script, of_text, of_job}
 use Rattle.river_cli.specs.Source.{Source, source_of, IsPlanOf, IsCompiled, printed}
 use Rattle.river_cli.specs.Text.{large_program}
 use Rattle.river_cli.specs.declared.compile.Compiled.{Compiled}
+use Rattle.river_cli.specs.declared.content.Content.{Content}
 use Rattle.river_cli.specs.declared.job.Command.TheVariants.{Run, Mean, Show}
 use Rattle.river_cli.specs.declared.job.Job.{Job}
 
@@ -76,34 +78,29 @@ module _ (job : Job) (source : Source) (held : Option Held) (rose : Type 0) wher
 
 module _ (job : Job) (counted : Bool) (source : Source) (plan : PlanForm) (held : Option Held) (is : IsPlanOf source plan) where
   abbrev from_inputs : (List ℕ → Order) → Order
-  from_inputs next = of_inputs source.inputs job.ins job.options.header (λ rows. next (printed source counted rows))
+  from_inputs next = of_inputs source.inputs job.ins (layout_of job) (λ rows. next (printed source counted rows))
 
-  -- such plans are not run
-  pub run-refused : (rose : Type 0) (s : Stop) → Refuses (runs plan) s → (next : List ℕ → Order) → Stops (Some (of_run job counted source next)) held rose s
+  run_is : (next : List ℕ → Order) → of_run job counted source next ≡ from_inputs next
   unfolding of_run
-  run-refused rose s told next = past-refused (runs source.plan) s held rose (subst (λ q. Refuses (runs q) s) is.plan told) (λ _. from_inputs next)
-
-  past_runs : (next : List ℕ → Order) → runs plan ≡ Ok tt → of_run job counted source next ≡ from_inputs next
-  unfolding of_run
-  past_runs next told = ap (λ r. past r (λ _. from_inputs next)) (sym (ap runs is.plan) ∙ told)
+  run_is next = refl
 
   -- its inputs stop it
-  pub run-stops : (rose : Type 0) (s : Stop) → runs plan ≡ Ok tt → ((next : List (List (List ℤ)) → Order) → Stops (Some (of_inputs plan.inputs job.ins job.options.header next)) held rose s)
+  pub run-stops : (rose : Type 0) (s : Stop) → ((next : List Content → Order) → Stops (Some (of_inputs plan.inputs job.ins (layout_of job) next)) held rose s)
       → (next : List ℕ → Order) → Stops (Some (of_run job counted source next)) held rose s
-  run-stops rose s told stops next =
-      let here = subst (λ d. Stops (Some (of_inputs d job.ins job.options.header (λ rows. next (printed source counted rows)))) held rose s) is.inputs (stops (λ rows. next (printed source counted rows))) in
-      subst (λ o. Stops (Some o) held rose s) (sym (past_runs next told)) here
+  run-stops rose s stops next =
+      let here = subst (λ d. Stops (Some (of_inputs d job.ins (layout_of job) (λ rows. next (printed source counted rows)))) held rose s) is.inputs (stops (λ rows. next (printed source counted rows))) in
+      subst (λ o. Stops (Some o) held rose s) (sym (run_is next)) here
 
   -- it is run
-  pub run-comes : (all : List (List (List ℤ))) (text : List ℕ) → runs plan ≡ Ok tt → ((next : List (List (List ℤ)) → Order) → Comes (of_inputs plan.inputs job.ins job.options.header next) held (next all))
+  pub run-comes : (all : List Content) (text : List ℕ) → ((next : List Content → Order) → Comes (of_inputs plan.inputs job.ins (layout_of job) next) held (next all))
       → text ≡ printed source counted all → (next : List ℕ → Order) → Comes (of_run job counted source next) held (next text)
-  run-comes all text told comes says next =
-      let here = subst (λ d. Comes (of_inputs d job.ins job.options.header (λ rows. next (printed source counted rows))) held (next (printed source counted all))) is.inputs (comes (λ rows. next (printed source counted rows))) in
+  run-comes all text comes says next =
+      let here = subst (λ d. Comes (of_inputs d job.ins (layout_of job) (λ rows. next (printed source counted rows))) held (next (printed source counted all))) is.inputs (comes (λ rows. next (printed source counted rows))) in
       let there = subst (λ t. Comes (from_inputs next) held (next t)) (sym says) here in
-      subst (λ o. Comes o held (next text)) (sym (past_runs next told)) there
+      subst (λ o. Comes o held (next text)) (sym (run_is next)) there
 
 -- what the plan prints is what the program prints
-pub output-printed : (source : Source) (plan : PlanForm) (counted : Bool) (all : List (List (List ℤ))) → IsPlanOf source plan → AreInputs plan.inputs (all_items all)
+pub output-printed : (source : Source) (plan : PlanForm) (counted : Bool) (all : List Content) → IsPlanOf source plan → AreContents plan.inputs all
     → printed_outcome plan (meaning plan (all_items all)).outs (meaning plan (all_items all)).tables (asked counted (map pos (firings plan (all_items all)))) ≡ printed source counted all
 output-printed source plan counted all is typed =
     ap (λ n. outputs_text n (meaning plan (all_items all)).outs ++ (tables_text (table_names plan.tables) (meaning plan (all_items all)).tables ++ fired plan)) is.outputs
@@ -114,9 +111,9 @@ output-printed source plan counted all is typed =
     fired : PlanForm → List ℕ
     fired q = firings_text (labels q.ops) (asked counted (map pos (firings q (all_items all))))
 
-pub output-says : (plan : PlanForm) (counted : Bool) (all : List (List (List ℤ))) (outs : List (List item.Item)) (tables : List (List (List ℤ))) (counts : List ℤ) (result : Result (List ℕ) NoMemory)
+pub output-says : (plan : PlanForm) (counted : Bool) (all : List Content) (outs : List (List item.Item)) (tables : List (List (List ℤ))) (counts : List ℤ) (result : Result (List ℕ) NoMemory)
     → IfOk result (λ text. text ≡ printed_outcome plan outs tables (asked counted counts)) → outs ≡ (meaning plan (all_items all)).outs → tables ≡ (meaning plan (all_items all)).tables
-    → counts ≡ map pos (firings plan (all_items all)) → AreInputs plan.inputs (all_items all) → IfOk result (λ text. (source : Source) → IsPlanOf source plan → text ≡ printed source counted all)
+    → counts ≡ map pos (firings plan (all_items all)) → AreContents plan.inputs all → IfOk result (λ text. (source : Source) → IsPlanOf source plan → text ≡ printed source counted all)
 output-says plan counted all outs tables counts (Ok text) says outs_is tables_is counts_is typed = λ source is.
     says ∙ (λ i. printed_outcome plan (outs_is i) (tables_is i) (asked counted (counts_is i))) ∙ output-printed source plan counted all is typed
 output-says plan counted all outs tables counts (Err e) says outs_is tables_is counts_is typed = tt

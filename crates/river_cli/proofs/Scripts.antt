@@ -11,14 +11,15 @@ use Rattle.river_order.proofs.Passes.{past-refused}
 use Rattle.river_order.proofs.Turns.{Stops-later}
 use Rattle.river_plan.specs.Forms.{PlanForm, decl_names, table_names}
 use Rattle.river_plan.specs.Valid.{IsPlan}
-use Rattle.brooklet_model.specs.Typed.{AreInputs}
 use Rattle.river_script.specs.Meaning.{rewritten}
 use Rattle.river_script.proofs.Fronts.{makes_what_it_has}
 use Rattle.river_script.proofs.Steps.{script_means}
+use Rattle.river_cli.specs.Contents.{AreContents}
 use Rattle.river_cli.specs.Inputs.{all_items}
 use Rattle.river_cli.specs.Points.{of_script, with_plan}
 use Rattle.river_cli.specs.Source.{Source, IsPlanOf}
 use Rattle.river_cli.specs.Text.{large_script}
+use Rattle.river_cli.proofs.Items.{contents-typed}
 
 -- the plan that a script makes means what the program means
 pub made-stands : (source : Source) (p made : PlanForm) (text : List ℕ) → IsPlan p → IsPlanOf source p → rewritten p text ≡ Ok made → StandsFor IsPlanOf (with_plan source (rewritten source.plan text)) made
@@ -30,7 +31,7 @@ made-stands source p made text v is e =
       inputs = k.1.inputs ∙ is.inputs;
       outputs = ap decl_names k.1.outputs ∙ is.outputs;
       tables = ap table_names k.1.tables ∙ is.tables;
-      means = λ rows a. let b = subst (λ ds. AreInputs ds (all_items rows)) k.1.inputs a in k.2 (all_items rows) b ∙ is.means rows b;
+      means = λ files a. let b = subst (λ ds. AreContents ds files) k.1.inputs a in k.2 (all_items files) (contents-typed p.inputs files b) ∙ is.means files b;
     })
 
 as_passed : {A B : Type 0} (stands : A → B → Type 0) (found : Result A (List ℕ)) (y : B) (held : Option Held) → StandsFor stands found y → (x : A) × stands x y × ((next : A → Order) → Comes (past found next) held (next x))

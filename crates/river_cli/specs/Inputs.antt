@@ -1,11 +1,16 @@
 -- The inputs of a program: their names, the files that they are, and what is read of these.
-use Rattle.std.specs.Prelude.{ℕ, ℤ, List, [], ◌∷◌, map, Bool, false, not, nat_lt, if◌then◌else◌, Option, Some, None, Result, Ok, Err}
+use Rattle.std.specs.Prelude.{ℕ, ℤ, List, [], ◌∷◌, map, not, nat_lt, if◌then◌else◌, Option, Some, None, Result, Ok, Err}
 use Rattle.std.specs.List.{find}
 use Rattle.river_base.specs.Name.{name_eq}
 use Rattle.river_base.specs.declared.item.Item as item
 use Rattle.river_base.specs.declared.item.Flat.TheVariants.{One}
 use Rattle.river_base.specs.declared.item.Item.TheVariants.{Flat}
+use Rattle.river_base.specs.Instants.{at_instant, instants, spread}
+use Rattle.river_base.specs.declared.kind.FlatType.TheVariants.{Rows, Stream, Relation}
+use Rattle.river_base.specs.declared.kind.QueueType.{QueueType}
+use Rattle.river_base.specs.declared.kind.QueueType.TheVariants.{Flat as FlatOf, Pack as PackOf}
 use Rattle.csv_streams.specs.Rows.{rows_of}
+use Rattle.csv_streams.specs.Timed.{Entry, timed_of}
 use Rattle.csv_streams.specs.declared.fault.InFault.{InFault}
 use Rattle.river_order.specs.Order.{Order, Fetch}
 use Rattle.river_order.specs.Passes.{past}
@@ -15,7 +20,10 @@ use Rattle.river_plan.specs.Faults.{type_width}
 use Rattle.river_plan.specs.Kinds.{kind_of}
 use Rattle.river_plan.specs.Names.{count}
 use Rattle.river_cli.specs.Text.{unknown_input, missing_input, large_input, input_refused, in_words}
+use Rattle.river_cli.specs.declared.content.Content.{Content}
+use Rattle.river_cli.specs.declared.content.Content.TheVariants.{Rows as Plain, Timed}
 use Rattle.river_cli.specs.declared.job.InWord.{InWord}
+use Rattle.river_cli.specs.declared.job.Layout.{Layout}
 
 -- ---- THE NAMES
 
@@ -80,26 +88,53 @@ of_files decls ins reader make next =
 abbrev pub width_named : List Decl → List ℕ → ℕ
 width_named decls name = type_width (kind_of decls name)
 
--- each input has rows of its width
-abbrev pub row_reader : List Decl → Bool → Reader (List (List ℤ))
-row_reader decls header name bytes = rows_of bytes (width_named decls name) header false
+abbrev pub read_as : {A : Type 0} → (A → Content) → Result A InFault → Result Content InFault
+read_as content (Ok x) = Ok (content x)
+read_as content (Err fault) = Err fault
 
--- the rows that the words give to an input
-abbrev pub rows_named : List InWord → List (List (List ℤ)) → List ℕ → List (List ℤ)
-rows_named [] all name = []
-rows_named (w ∷ ins) [] name = []
-rows_named (w ∷ ins) (rows ∷ all) name = if name_eq w.name name then rows else rows_named ins all name
+-- an input has rows of its width, and those of a stream have timestamps
+abbrev pub content_of : QueueType → Layout → List ℕ → Result Content InFault
+content_of (FlatOf (Stream w)) layout bytes = read_as Timed (timed_of bytes w layout.header)
+content_of (FlatOf (Rows w)) layout bytes = read_as Plain (rows_of bytes w layout.header layout.more)
+content_of (FlatOf (Relation w)) layout bytes = read_as Plain (rows_of bytes w layout.header layout.more)
+content_of (PackOf t) layout bytes = read_as Plain (rows_of bytes (type_width (PackOf t)) layout.header layout.more)
 
--- the rows of each input, in the order of the program's inputs
-abbrev pub in_order : List Decl → List InWord → List (List (List ℤ)) → List (List (List ℤ))
-in_order decls ins all = map (rows_named ins all) (decl_names decls)
+abbrev pub content_reader : List Decl → Layout → Reader Content
+content_reader decls layout name bytes = content_of (kind_of decls name) layout bytes
 
-unfoldable pub of_inputs : List Decl → List InWord → Bool → (List (List (List ℤ)) → Order) → Order
-of_inputs decls ins header next = of_files decls ins (row_reader decls header) (in_order decls ins) next
+-- what the words give to an input
+abbrev pub content_named : List InWord → List Content → List ℕ → Content
+content_named [] all name = Plain []
+content_named (w ∷ ins) [] name = Plain []
+content_named (w ∷ ins) (content ∷ all) name = if name_eq w.name name then content else content_named ins all name
+
+-- what each input has, in the order of the program's inputs
+abbrev pub in_order : List Decl → List InWord → List Content → List Content
+in_order decls ins all = map (content_named ins all) (decl_names decls)
+
+unfoldable pub of_inputs : List Decl → List InWord → Layout → (List Content → Order) → Order
+of_inputs decls ins layout next = of_files decls ins (content_reader decls layout) (in_order decls ins) next
+
+-- ---- THE ITEMS OF INPUTS
+
+-- the rows of the files whose rows have timestamps
+abbrev pub timed_files : List Content → List (List Entry)
+timed_files [] = []
+timed_files (Plain rows ∷ files) = timed_files files
+timed_files (Timed rows ∷ files) = rows ∷ timed_files files
+
+-- the instants of a run: the timestamps of all its files
+abbrev pub instants_of : List Content → List ℤ
+instants_of files = instants (timed_files files)
 
 -- rows as items of a queue
 abbrev pub row_items : List (List ℤ) → List item.Item
 row_items rows = map (λ row. Flat (One row)) rows
 
-abbrev pub all_items : List (List (List ℤ)) → List (List item.Item)
-all_items all = map row_items all
+-- the items of an input: its rows, or a batch of its rows for each instant
+abbrev pub items_at : List ℤ → Content → List item.Item
+items_at ts (Plain rows) = row_items rows
+items_at ts (Timed rows) = spread ts (at_instant rows)
+
+abbrev pub all_items : List Content → List (List item.Item)
+all_items files = map (items_at (instants_of files)) files

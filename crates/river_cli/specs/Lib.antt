@@ -1,11 +1,11 @@
 pub mod Answer
+pub mod Contents
 pub mod Inputs
 pub mod Jobs
-pub mod Laws
+pub mod Layouts
 pub mod Phrases
 pub mod Points
 pub mod Said
 pub mod Source
 pub mod Text
-pub mod Widths
 pub mod Words

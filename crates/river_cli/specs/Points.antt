@@ -1,14 +1,14 @@
 -- The road from the words to the text: the points of a job, in order. Each point is told what comes after it.
-use Rattle.std.specs.Prelude.{ℕ, List, Bool, false, Option, Some, None, Result, Ok, Err, option_map, if◌then◌else◌}
+use Rattle.std.specs.Prelude.{ℕ, List, Bool, false, Option, Some, None, Result, Ok, Err, option_map}
 use Rattle.river_order.specs.Order.{Order, Ends, Fetch, Done}
 use Rattle.river_order.specs.Passes.{past}
 use Rattle.river_plan.specs.Forms.{PlanForm}
 use Rattle.river_print.specs.Printed.{plan_text}
-use Rattle.brooklet_step.specs.Built.{is_built}
 use Rattle.river_cli.specs.Inputs.{of_inputs}
 use Rattle.river_cli.specs.Jobs.{job_of}
+use Rattle.river_cli.specs.Layouts.{layout_of}
 use Rattle.river_cli.specs.Source.{Source, source_of, printed}
-use Rattle.river_cli.specs.Text.{large_program, large_script, script_refused, unbuilt}
+use Rattle.river_cli.specs.Text.{large_program, large_script, script_refused}
 use Rattle.river_script.specs.Meaning.{rewritten}
 use Rattle.river_script.specs.Words.{script_words}
 use Rattle.river_script.specs.declared.fault.ScriptFault.{ScriptFault}
@@ -25,16 +25,11 @@ unfoldable pub of_script : Option (List ℕ) → Source → (Source → Order) �
 of_script None source next = next source
 of_script (Some file) source next = Fetch file 65536 large_script (λ text. past (with_plan source (rewritten source.plan text)) next)
 
--- a plan is refused if such plans are not run so far
-abbrev pub runs : PlanForm → Result (Unit {0}) (List ℕ)
-runs plan = if is_built plan then Ok tt else Err unbuilt
-
 -- the program is run over its inputs, and what it means is printed
 unfoldable pub of_run : Job → Bool → Source → (List ℕ → Order) → Order
 of_run job counted source next =
-    past (runs source.plan) (λ _.
-    of_inputs source.inputs job.ins job.options.header (λ rows.
-    next (printed source counted rows)))
+    of_inputs source.inputs job.ins (layout_of job) (λ files.
+    next (printed source counted files))
 
 -- what the job's command makes of the program
 unfoldable pub of_command : Job → Source → (List ℕ → Order) → Order

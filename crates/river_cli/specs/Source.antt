@@ -7,24 +7,30 @@ use Rattle.river_text.specs.Meaning.{plan_in}
 use Rattle.river_text.specs.Words.{river_words}
 use Rattle.brooklet_model.specs.Histories.{firings}
 use Rattle.brooklet_model.specs.Meaning.{Results, meaning}
-use Rattle.brooklet_model.specs.Typed.{AreInputs}
 use Rattle.streamit_model.specs.Build.{plan_of, values_in}
 use Rattle.streamit_model.specs.Laws.{as_items}
 use Rattle.streamit_model.specs.Program.{program_outputs}
 use Rattle.streamit_front.specs.Meaning.{Accepted, compiled}
 use Rattle.streamit_front.specs.Words.{streamit_words}
+use Rattle.river_cli.specs.Contents.{AreContents}
 use Rattle.river_cli.specs.Inputs.{all_items}
+use Rattle.river_kernels.specs.Fits.{rows}
+use Rattle.saw_model.specs.Source.{tables_in, width, program_tables}
+use Rattle.saw_front.specs.Meaning as saw
+use Rattle.saw_front.specs.Words.{saw_words}
 use Rattle.river_cli.specs.Text.{program_refused}
 use Rattle.river_cli.specs.declared.compile.Compiled.{Compiled}
+use Rattle.river_cli.specs.declared.content.Content.{Content}
+use Rattle.river_cli.specs.declared.content.Content.TheVariants.{Rows as Plain, Timed}
 use Rattle.river_cli.specs.declared.job.Lang.{Lang}
-use Rattle.river_cli.specs.declared.job.Lang.TheVariants.{River, Streamit}
+use Rattle.river_cli.specs.declared.job.Lang.TheVariants.{River, Streamit, Sawzall}
 
--- a program: its inputs, the names of its outputs and of its tables, what these have for the rows of its inputs, and its plan
+-- a program: its inputs, the names of its outputs and of its tables, what these have for the files of its inputs, and its plan
 pub record Source : Type 0 where
   pub inputs : List Decl
   pub outputs : List Name
   pub tables : List Name
-  pub means : List (List (List ℤ)) → Results
+  pub means : List Content → Results
   pub plan : PlanForm
 
 -- the program of a River text is its plan
@@ -33,14 +39,15 @@ river_source p = record {
   inputs = p.inputs;
   outputs = decl_names p.outputs;
   tables = table_names p.tables;
-  means = λ rows. meaning p (all_items rows);
+  means = λ files. meaning p (all_items files);
   plan = p;
 }
 
 -- the values of the first input, of which each row has one
-abbrev pub values : List (List (List ℤ)) → List ℤ
+abbrev pub values : List Content → List ℤ
 values [] = []
-values (rows ∷ others) = map (λ row. slice_index_or row 0 (pos 0)) rows
+values (Plain rows ∷ others) = map (λ row. slice_index_or row 0 (pos 0)) rows
+values (Timed rows ∷ others) = []
 
 -- a StreamIt program, by its own definition
 abbrev pub streamit_source : Accepted → Source
@@ -48,8 +55,24 @@ streamit_source a = record {
   inputs = values_in (codes "in") ∷ [];
   outputs = codes "out" ∷ [];
   tables = [];
-  means = λ rows. record { outs = as_items (program_outputs a.program (values rows)) ∷ []; tables = [] };
+  means = λ files. record { outs = as_items (program_outputs a.program (values files)) ∷ []; tables = [] };
   plan = plan_of a.stream;
+}
+
+-- the rows of the first input, which are the first fields of its records
+abbrev pub records : List Content → List (List ℤ)
+records [] = []
+records (Plain rows ∷ others) = rows
+records (Timed rows ∷ others) = []
+
+-- a Sawzall program, by its own definition
+abbrev pub saw_source : saw.Accepted → Source
+saw_source a = record {
+  inputs = record { name = codes "in"; kind = rows (width (saw.program_in a)) } ∷ [];
+  outputs = [];
+  tables = table_names (tables_in (saw.program_in a));
+  means = λ files. record { outs = []; tables = program_tables (saw.program_in a) (records files) };
+  plan = saw.plan_in a;
 }
 
 -- the program of what was read, or the text that refuses it
@@ -61,22 +84,23 @@ told source words (Err fault) = Err (program_refused (words fault))
 unfoldable pub source_of : Lang → List ℕ → Result Source (List ℕ)
 source_of River text = told river_source river_words (plan_in text)
 source_of Streamit text = told streamit_source streamit_words (compiled text)
+source_of Sawzall text = told saw_source saw_words (saw.compiled text)
 
--- a plan that may be run in place of the program: it has the same inputs, outputs and tables, and means the same for all rows
--- that the inputs may have
+-- a plan that may be run in place of the program: it has the same inputs, outputs and tables, and means the same for all that
+-- the files of its inputs may have
 pub record IsPlanOf (s : Source) (p : PlanForm) : Type 0 where
   pub plan : p ≡ s.plan
   pub inputs : p.inputs ≡ s.inputs
   pub outputs : decl_names p.outputs ≡ s.outputs
   pub tables : table_names p.tables ≡ s.tables
-  pub means : (rows : List (List (List ℤ))) → AreInputs p.inputs (all_items rows) → meaning p (all_items rows) ≡ s.means rows
+  pub means : (files : List Content) → AreContents p.inputs files → meaning p (all_items files) ≡ s.means files
 
 abbrev pub IsCompiled : Source → Compiled → Type 0
 IsCompiled s c = IsPlanOf s c.plan
 
--- what is printed for the rows of a program's inputs: its outputs, its tables, and then the firings of its plan where they are
+-- what is printed for the files of a program's inputs: its outputs, its tables, and then the firings of its plan where they are
 -- asked for
-abbrev pub printed : Source → Bool → List (List (List ℤ)) → List ℕ
-printed s counted rows =
-    outputs_text s.outputs (s.means rows).outs
-    ++ (tables_text s.tables (s.means rows).tables ++ firings_text (labels s.plan.ops) (asked counted (map pos (firings s.plan (all_items rows)))))
+abbrev pub printed : Source → Bool → List Content → List ℕ
+printed s counted files =
+    outputs_text s.outputs (s.means files).outs
+    ++ (tables_text s.tables (s.means files).tables ++ firings_text (labels s.plan.ops) (asked counted (map pos (firings s.plan (all_items files)))))

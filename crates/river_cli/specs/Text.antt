@@ -21,10 +21,6 @@ script_refused words = codes "refused: " ++ (words ++ codes "\n")
 abbrev pub large_script : List ℕ
 large_script = codes "refused: script: Large\n"
 
--- a plan of a kind that is not run so far
-abbrev pub unbuilt : List ℕ
-unbuilt = codes "refused: program: Unbuilt\n"
-
 -- an input is refused, and why
 abbrev pub input_refused : List ℕ → List ℕ → List ℕ
 input_refused name words = codes "refused: input " ++ (name ++ (codes ": " ++ (words ++ codes "\n")))

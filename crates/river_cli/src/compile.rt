@@ -5,7 +5,9 @@ ghost use Rattle.river_text.specs.Meaning.{plan_in};
 ghost use Rattle.river_text.specs.Words.{river_words};
 ghost use Rattle.streamit_front.specs.Meaning.{compiled};
 ghost use Rattle.streamit_front.specs.Words.{streamit_words};
-ghost use Rattle.river_cli.specs.Source.{river_source, streamit_source, told, source_of, IsCompiled};
+ghost use Rattle.river_cli.specs.Source.{river_source, streamit_source, saw_source, told, source_of, IsCompiled};
+ghost use Rattle.saw_front.specs.Meaning.{compiled as saw_compiled};
+ghost use Rattle.saw_front.specs.Words.{saw_words};
 ghost use Rattle.river_cli.specs.Text.{program_refused};
 
 use crate::job::Lang;
@@ -14,6 +16,7 @@ use river_base::{Bytes, NoMemory};
 use river_order::Stop;
 use river_plan::Plan;
 use river_text::{RiverFault, compile_river};
+use saw_front::{SawFault, compile_sawzall};
 use std::alloc::Global;
 use streamit_front::{StreamitFault, compile_streamit};
 
@@ -32,6 +35,7 @@ pub fn compile(alloc: Global, lang: Lang, text: &Bytes) -> Result<Compiled, Stop
     match lang {
         Lang::River => river(alloc, text),
         Lang::Streamit => streamit(alloc, text),
+        Lang::Sawzall => sawzall(alloc, text),
     }
 }
 
@@ -59,7 +63,7 @@ fn streamit(alloc: Global, text: &Bytes) -> Result<Compiled, Stop>
     ensures { AnswersAs IsCompiled (told streamit_source streamit_words (compiled text.now)) result }
 {
     match compile_streamit(alloc, text) {
-        Ok(plan) => Ok(Compiled { plan }),
+        Ok((_, plan)) => Ok(Compiled { plan }),
         Err(StreamitFault::NoMemory) => Err(Stop::NoMemory),
         Err(fault) => Err(Stop::Refused(streamit_refused(alloc, fault)?)),
     }
@@ -67,6 +71,25 @@ fn streamit(alloc: Global, text: &Bytes) -> Result<Compiled, Stop>
 
 fn streamit_refused(alloc: Global, fault: StreamitFault) -> Result<Bytes, NoMemory>
     ensures { IfOk result (λ text. text ≡ program_refused (streamit_words fault)) }
+{
+    let mut words = Bytes::new(alloc);
+    fault.put(alloc, &mut words)?;
+    text::program(alloc, words.as_slice())
+}
+
+fn sawzall(alloc: Global, text: &Bytes) -> Result<Compiled, Stop>
+    requires { length text.now ≤ 1048576 }
+    ensures { AnswersAs IsCompiled (told saw_source saw_words (saw_compiled text.now)) result }
+{
+    match compile_sawzall(alloc, text) {
+        Ok((_, plan)) => Ok(Compiled { plan }),
+        Err(SawFault::NoMemory) => Err(Stop::NoMemory),
+        Err(fault) => Err(Stop::Refused(saw_refused(alloc, fault)?)),
+    }
+}
+
+fn saw_refused(alloc: Global, fault: SawFault) -> Result<Bytes, NoMemory>
+    ensures { IfOk result (λ text. text ≡ program_refused (saw_words fault)) }
 {
     let mut words = Bytes::new(alloc);
     fault.put(alloc, &mut words)?;

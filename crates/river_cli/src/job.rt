@@ -1,4 +1,6 @@
 // What the words of the command line ask for.
+ghost use Rattle.std.specs.Prelude.{◌≡◌};
+ghost use Rattle.river_cli.specs.Layouts.{takes_more, layout_of};
 
 use river_base::{Listed, NoMemory, Text};
 
@@ -20,6 +22,29 @@ pub enum Lang {
     River,
     /// StreamIt.
     Streamit,
+    /// Sawzall.
+    Sawzall,
+}
+
+impl Lang {
+    /// Whether a record of an input may have further fields, which are not looked at.
+    pub fn takes_more(self) -> bool
+        ensures { result ≡ takes_more self }
+    {
+        match self {
+            Lang::River | Lang::Streamit => false,
+            Lang::Sawzall => true,
+        }
+    }
+}
+
+/// How the records of the files are written.
+#[derive(Clone, Copy, Debug)]
+pub struct Layout {
+    /// Each file begins with a header.
+    pub header: bool,
+    /// A record may have further fields, which are not looked at.
+    pub more: bool,
 }
 
 /// A word NAME=FILE: the input of this name is the file.
@@ -58,6 +83,18 @@ pub struct Job {
     pub ins: InWords,
     /// The options.
     pub options: Options,
+}
+
+impl Job {
+    /// How the records of its files are written.
+    pub fn layout(&self) -> Layout
+        ensures { result ≡ layout_of self.now }
+    {
+        Layout {
+            header: self.options.header,
+            more: self.lang.takes_more(),
+        }
+    }
 }
 
 /// Why the words ask for nothing.

@@ -2,10 +2,10 @@
 #![tactic(auto)]
 
 mod compile;
+mod content;
 mod fetched;
 mod gather;
 mod job;
-pub mod laws;
 mod names;
 mod output;
 mod phrases;

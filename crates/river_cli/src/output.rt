@@ -1,48 +1,88 @@
 // What a plan prints.
-ghost use Rattle.std.specs.Prelude.{◌≡◌, IfOk};
+ghost use Rattle.std.specs.Prelude.{◌≡◌, [], ◌∷◌, ◌++◌, map, IfOk, OnOk};
+ghost use Rattle.river_base.specs.Instants.{stamps};
 ghost use Rattle.river_plan.specs.Valid.{IsPlan};
-ghost use Rattle.brooklet_step.specs.Built.{IsBuilt};
-ghost use Rattle.river_cli.specs.Inputs.{width_named, row_items, all_items};
+ghost use Rattle.river_cli.specs.Contents.{AreContents};
+ghost use Rattle.river_cli.specs.Inputs as inputs;
 ghost use Rattle.river_cli.specs.Source.{Source, IsPlanOf, printed};
-ghost use Rattle.river_cli.specs.Widths.{HaveWidths};
 
+use crate::content::Content;
 use brooklet_step::{Inputs, run_one};
-use csv_streams::print_outcome;
-use river_base::{Bytes, Flat, Item, Items, Listed, NoMemory, Rows};
+use csv_streams::{add_stamps, print_outcome, spread};
+use river_base::{Bytes, Flat, Item, Items, Listed, NoMemory, Numbers, Rows};
 use river_plan::Plan;
 use std::alloc::Global;
 
-/// What a program prints for the rows of its inputs, by a run of its plan.
+/// What a program prints for what the files of its inputs have, by a run of its plan.
 pub fn output(
     alloc: Global,
     plan: &Plan,
-    rows: Listed<Rows>,
+    files: Listed<Content>,
     counted: bool,
 ) -> Result<Bytes, NoMemory>
     requires valid { IsPlan plan.now }
-    requires built { IsBuilt plan.now }
-    requires widths { HaveWidths (width_named plan.now.inputs) plan.now.inputs rows }
-    ensures { IfOk result (λ text. (source : Source) → IsPlanOf source plan.now → text ≡ printed source counted rows) }
+    requires contents { AreContents plan.now.inputs files }
+    ensures { IfOk result (λ text. (source : Source) → IsPlanOf source plan.now → text ≡ printed source counted files) }
 {
-    let inputs = inputs_of(alloc, rows)?;
+    let inputs = inputs_of(alloc, files)?;
     let outcome = run_one(alloc, plan, inputs)?;
     print_outcome(alloc, plan, &outcome, counted)
 }
 
-// The items of each input; the rows are let go one input after another.
-fn inputs_of(alloc: Global, all: Listed<Rows>) -> Result<Inputs, NoMemory>
-    ensures { IfOk result (λ inputs. inputs ≡ all_items all) }
+// The items of each input.
+fn inputs_of(alloc: Global, files: Listed<Content>) -> Result<Inputs, NoMemory>
+    ensures { IfOk result (λ all. all ≡ inputs.all_items files) }
 {
-    let mut inputs = Inputs::new(alloc);
-    for rows in all.into_vec() {
-        inputs.push(items(alloc, rows)?)?;
+    let instants = instants_of(alloc, files.as_slice())?;
+    inputs_at(alloc, files, &instants)
+}
+
+// The instants of the run.
+fn instants_of(alloc: Global, files: &[Content]) -> Result<Numbers, NoMemory>
+    ensures { IfOk result (λ ts. ts ≡ inputs.instants_of files.now) }
+{
+    let mut stamps = Numbers::new(alloc);
+    for place in 0..files.len() {
+        add_stamps_of(&files[place], &mut stamps)?;
     }
-    Ok(inputs)
+    stamps.keep_each_once();
+    Ok(stamps)
+}
+
+// Appends the timestamps of a file, if it has any.
+fn add_stamps_of(file: &Content, all: &mut Numbers) -> Result<(), NoMemory>
+    ensures { OnOk result (all.new ≡ all.old ++ stamps (inputs.timed_files (file.now ∷ []))) }
+{
+    match file {
+        Content::Rows(_) => Ok(()),
+        Content::Timed(rows) => add_stamps(rows, all),
+    }
+}
+
+// The items of each input at these instants; what the files have is let go one after another.
+fn inputs_at(alloc: Global, files: Listed<Content>, instants: &Numbers) -> Result<Inputs, NoMemory>
+    ensures { IfOk result (λ all. all ≡ map (inputs.items_at instants.now) files) }
+{
+    let mut all = Inputs::new(alloc);
+    for file in files.into_vec() {
+        all.push(items_at(alloc, file, instants)?)?;
+    }
+    Ok(all)
+}
+
+// The items of an input: its rows, or a batch of its rows for each instant.
+fn items_at(alloc: Global, file: Content, instants: &Numbers) -> Result<Items, NoMemory>
+    ensures { IfOk result (λ items. items ≡ inputs.items_at instants.now file) }
+{
+    match file {
+        Content::Rows(rows) => items(alloc, rows),
+        Content::Timed(rows) => spread(alloc, &rows, instants),
+    }
 }
 
 // Rows as items.
 fn items(alloc: Global, rows: Rows) -> Result<Items, NoMemory>
-    ensures { IfOk result (λ items. items ≡ row_items rows) }
+    ensures { IfOk result (λ items. items ≡ inputs.row_items rows) }
 {
     let mut items = Items::new(alloc);
     for row in rows.into_vec() {

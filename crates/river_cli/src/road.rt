@@ -1,17 +1,14 @@
 // The road from the words to the text that is written: each function is a point, or hands on to those of the next.
-ghost use Rattle.std.specs.Prelude.{◌≡◌, ◌≤◌, length, Some, IfOk, OnOk, IsErrOf};
+ghost use Rattle.std.specs.Prelude.{◌≡◌, ◌≤◌, length, Some, IfOk, IsErrOf};
 ghost use Rattle.river_outside.specs.Causes.{Rose};
 ghost use Rattle.river_order.specs.Decides.{Decides};
-ghost use Rattle.river_order.specs.Passes.{Answers, Passes, PassesAs, AnswersAs};
+ghost use Rattle.river_order.specs.Passes.{Passes, PassesAs, AnswersAs};
 ghost use Rattle.river_plan.specs.Valid.{IsPlan};
-ghost use Rattle.brooklet_step.specs.Built.{IsBuilt};
-ghost use Rattle.river_cli.specs.Inputs.{width_named};
-ghost use Rattle.river_cli.specs.Points.{points_of, of_job, of_text, of_script, with_plan, of_command, of_run, runs};
+ghost use Rattle.river_cli.specs.Points.{points_of, of_job, of_text, of_script, with_plan, of_command, of_run};
 ghost use Rattle.river_script.specs.Meaning.{rewritten as rewritten_plan};
 ghost use Rattle.river_script.specs.Words.{script_words};
 ghost use Rattle.river_cli.specs.Text.{script_refused as script_text};
 ghost use Rattle.river_cli.specs.Source.{Source, IsPlanOf, IsCompiled, printed};
-ghost use Rattle.river_cli.specs.Widths.{HaveWidths};
 
 use crate::compile::compile;
 use crate::gather::gather;
@@ -19,7 +16,6 @@ use crate::job::{Command, Job, Options, WordFault};
 use crate::output::output;
 use crate::text;
 use crate::words::read_words;
-use brooklet_step::built;
 use river_base::{Bytes, NoMemory, Text};
 use river_order::{Stop, take_turn};
 use river_outside::Shelf;
@@ -142,19 +138,7 @@ fn run<S: Shelf>(
     ensures passes { (source : Source) → IsPlanOf source plan.now
         → Passes (of_run job.now counted source) (S.held shelf.old) (Rose (S.faults shelf.old) (S.faults shelf.new)) result }
 {
-    check_runs(alloc, plan)?;
     let decls = plan.raw().inputs.as_slice();
-    let rows = gather(alloc, decls, job.ins.as_slice(), job.options.header, shelf)?;
-    Ok(output(alloc, plan, rows, counted)?)
-}
-
-// A plan is refused if such plans are not run so far.
-fn check_runs(alloc: Global, plan: &Plan) -> Result<(), Stop>
-    ensures built { OnOk result (IsBuilt plan.now) }
-    ensures answers { Answers (runs plan.now) result }
-{
-    if !built(plan) {
-        return Err(Stop::Refused(Bytes::from_slice(alloc, text::UNBUILT)?));
-    }
-    Ok(())
+    let files = gather(alloc, decls, job.ins.as_slice(), job.layout(), shelf)?;
+    Ok(output(alloc, plan, files, counted)?)
 }

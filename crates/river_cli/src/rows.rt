@@ -1,119 +1,162 @@
-// The rows of a program's inputs.
+// What the files of a program's inputs have.
 ghost use Rattle.std.specs.Prelude.{◌≡◌, length, All, IsTrue, IfOk};
+ghost use Rattle.csv_streams.specs.Rows.{rows_of, IsAnswer};
+ghost use Rattle.csv_streams.specs.Timed.{timed_of};
+ghost use Rattle.river_base.specs.declared.kind.QueueType.TheVariants.{Pack as PackOf};
 ghost use Rattle.river_order.specs.Passes.{Answers, AnswersAs};
 ghost use Rattle.river_kernels.specs.Formed.{is_width};
 ghost use Rattle.river_plan.specs.Faults.{type_width};
-ghost use Rattle.river_cli.specs.Inputs.{width_named, file_read, row_reader, all_read, rows_named, in_order};
+ghost use Rattle.river_plan.specs.Kinds.{kind_of};
+ghost use Rattle.river_cli.specs.Inputs.{width_named, file_read, read_as, content_of, content_reader, all_read, content_named, in_order};
+ghost use Rattle.river_cli.specs.declared.content.Content.TheVariants.{Rows as Plain, Timed};
 
-use crate::job::InWord;
+use crate::content::Content;
+use crate::job::{InWord, Layout};
 use crate::text;
-use csv_streams::{InFault, read_rows};
+use csv_streams::{InFault, read_rows, read_timed};
 use river_base::{Bytes, Duplicate, FlatType, Listed, NoMemory, QueueType, Rows};
 use river_order::Stop;
 use river_plan::Decl;
 use std::alloc::Global;
 
-/// The rows of each input, in the order of the program's inputs, of the files in the order of the words.
+/// What each input has, in the order of the program's inputs, of the files in the order of the words.
 pub fn read_inputs(
     alloc: Global,
     decls: &[Decl],
-    header: bool,
+    layout: Layout,
     ins: &[InWord],
     files: &[Bytes],
-) -> Result<Listed<Rows>, Stop>
+) -> Result<Listed<Content>, Stop>
     requires count { length files.now ≡ length ins.now }
     requires widths { All (λ w. IsTrue (is_width (width_named decls.now w.name))) ins.now }
-    ensures { AnswersAs (λ all rows. rows ≡ in_order decls.now ins.now all) (all_read (row_reader decls.now header) ins.now files.now) result }
+    ensures { AnswersAs (λ all files. files ≡ in_order decls.now ins.now all) (all_read (content_reader decls.now layout) ins.now files.now) result }
 {
-    let all = read_all(alloc, decls, header, ins, files)?;
+    let all = read_all(alloc, decls, layout, ins, files)?;
     Ok(arrange(alloc, decls, ins, all.as_slice())?)
 }
-// The rows of all files, in the order of the words.
+
+// What all files have, in the order of the words.
 fn read_all(
     alloc: Global,
     decls: &[Decl],
-    header: bool,
+    layout: Layout,
     ins: &[InWord],
     files: &[Bytes],
-) -> Result<Listed<Rows>, Stop>
+) -> Result<Listed<Content>, Stop>
     requires count { length files.now ≡ length ins.now }
     requires widths { All (λ w. IsTrue (is_width (width_named decls.now w.name))) ins.now }
     ensures count { IfOk result (λ all. length all ≡ length ins.now) }
-    ensures answers { Answers (all_read (row_reader decls.now header) ins.now files.now) result }
+    ensures answers { Answers (all_read (content_reader decls.now layout) ins.now files.now) result }
 {
     let mut all = Listed::new(alloc);
     for place in 0..ins.len() {
-        all.push(read_one(alloc, decls, header, &ins[place], &files[place])?)?;
+        all.push(read_one(alloc, decls, layout, &ins[place], &files[place])?)?;
     }
     Ok(all)
 }
 
-// The rows of the file of a word.
+// What the file of a word has.
 fn read_one(
     alloc: Global,
     decls: &[Decl],
-    header: bool,
+    layout: Layout,
     word: &InWord,
     bytes: &Bytes,
-) -> Result<Rows, Stop>
+) -> Result<Content, Stop>
     requires { IsTrue (is_width (width_named decls.now word.now.name)) }
-    ensures { Answers (file_read (row_reader decls.now header) word.now bytes.now) result }
+    ensures { Answers (file_read (content_reader decls.now layout) word.now bytes.now) result }
 {
-    let width = width_named(decls, word.name.as_slice());
-    match read_rows(alloc, bytes, width, header, false) {
-        Ok(rows) => Ok(rows),
+    let kind = kind_named(decls, word.name.as_slice());
+    match read_content(alloc, kind, layout, bytes) {
+        Ok(content) => Ok(content),
         Err(InFault::NoMemory) => Err(Stop::NoMemory),
         Err(fault) => Err(Stop::Refused(text::in_fault(alloc, word.name.as_slice(), fault)?)),
     }
 }
 
-// How many values the rows of the input of this name have; 0 where there is none.
-fn width_named(decls: &[Decl], name: &[u8]) -> u32
-    ensures { result ≡ width_named decls.now name.now }
+// The type of the input of this name; one without width where there is none.
+fn kind_named(decls: &[Decl], name: &[u8]) -> QueueType
+    ensures { result ≡ kind_of decls.now name.now }
 {
     for decl in decls {
         if decl.name.as_slice() == name {
-            return width_of(&decl.kind);
+            return decl.kind;
         }
     }
-    0
+    QueueType::Flat(FlatType::Rows(0))
 }
 
-fn width_of(kind: &QueueType) -> u32
-    ensures { result ≡ type_width kind.now }
+// What the file of an input of this type has.
+fn read_content(
+    alloc: Global,
+    kind: QueueType,
+    layout: Layout,
+    bytes: &Bytes,
+) -> Result<Content, InFault>
+    requires { IsTrue (is_width (type_width kind)) }
+    ensures { IsAnswer (content_of kind layout bytes.now) result }
 {
-    let (QueueType::Flat(flat) | QueueType::Pack(flat)) = kind;
-    match flat {
-        FlatType::Rows(width) | FlatType::Stream(width) | FlatType::Relation(width) => *width,
+    match kind {
+        QueueType::Flat(FlatType::Stream(width)) => read_stream(alloc, bytes, width, layout.header),
+        QueueType::Flat(FlatType::Rows(width)) => read_plain(alloc, bytes, width, layout),
+        QueueType::Flat(FlatType::Relation(width)) => read_plain(alloc, bytes, width, layout),
+        QueueType::Pack(flat) => read_plain(alloc, bytes, width_of(flat), layout),
     }
 }
 
-// The rows of each input, in the order of the program's inputs.
+fn width_of(flat: FlatType) -> u32
+    ensures { result ≡ type_width (PackOf flat) }
+{
+    match flat {
+        FlatType::Rows(width) | FlatType::Stream(width) | FlatType::Relation(width) => width,
+    }
+}
+
+fn read_plain(alloc: Global, bytes: &Bytes, width: u32, layout: Layout) -> Result<Content, InFault>
+    requires { IsTrue (is_width width) }
+    ensures { IsAnswer (read_as Plain (rows_of bytes.now width layout.header layout.more)) result }
+{
+    Ok(Content::Rows(read_rows(alloc, bytes, width, layout.header, layout.more)?))
+}
+
+fn read_stream(alloc: Global, bytes: &Bytes, width: u32, header: bool) -> Result<Content, InFault>
+    requires { IsTrue (is_width width) }
+    ensures { IsAnswer (read_as Timed (timed_of bytes.now width header)) result }
+{
+    Ok(Content::Timed(read_timed(alloc, bytes, width, header)?))
+}
+
+// What each input has, in the order of the program's inputs.
 fn arrange(
     alloc: Global,
     decls: &[Decl],
     ins: &[InWord],
-    all: &[Rows],
-) -> Result<Listed<Rows>, NoMemory>
+    all: &[Content],
+) -> Result<Listed<Content>, NoMemory>
     requires { length all.now ≡ length ins.now }
-    ensures { IfOk result (λ rows. rows ≡ in_order decls.now ins.now all.now) }
+    ensures { IfOk result (λ files. files ≡ in_order decls.now ins.now all.now) }
 {
-    let mut rows = Listed::new(alloc);
+    let mut files = Listed::new(alloc);
     for decl in decls {
-        rows.push(rows_named(alloc, ins, all, decl.name.as_slice())?)?;
+        files.push(content_named(alloc, ins, all, decl.name.as_slice())?)?;
     }
-    Ok(rows)
+    Ok(files)
 }
 
-// The rows that the words give to an input.
-fn rows_named(alloc: Global, ins: &[InWord], all: &[Rows], name: &[u8]) -> Result<Rows, NoMemory>
+// What the words give to an input.
+fn content_named(
+    alloc: Global,
+    ins: &[InWord],
+    all: &[Content],
+    name: &[u8],
+) -> Result<Content, NoMemory>
     requires { length all.now ≡ length ins.now }
-    ensures { IfOk result (λ rows. rows ≡ rows_named ins.now all.now name.now) }
+    ensures { IfOk result (λ content. content ≡ content_named ins.now all.now name.now) }
 {
     for place in 0..ins.len() {
         if ins[place].name.as_slice() == name {
             return all[place].copy(alloc);
         }
     }
-    Ok(Rows::new(alloc))
+    Ok(Content::Rows(Rows::new(alloc)))
 }

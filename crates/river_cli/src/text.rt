@@ -16,9 +16,6 @@ pub const LARGE_PROGRAM: &[u8] = b"refused: program: Large\n";
 /// What refuses a script of too many bytes.
 pub const LARGE_SCRIPT: &[u8] = b"refused: script: Large\n";
 
-/// What refuses a plan of a kind that is not run so far.
-pub const UNBUILT: &[u8] = b"refused: program: Unbuilt\n";
-
 /// A program is refused, and why.
 pub fn program(alloc: Global, words: &[u8]) -> Result<Bytes, NoMemory>
     ensures { IfOk result (λ text. text ≡ program_refused words.now) }

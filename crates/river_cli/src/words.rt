@@ -42,6 +42,8 @@ const RIVER: &[u8] = b"river";
 
 const STREAMIT: &[u8] = b"streamit";
 
+const SAWZALL: &[u8] = b"sawzall";
+
 fn command_named(word: &[u8]) -> Option<Command>
     ensures { result ≡ command_named word.now }
 {
@@ -63,6 +65,8 @@ fn lang_named(word: &[u8]) -> Option<Lang>
         Some(Lang::River)
     } else if word == STREAMIT {
         Some(Lang::Streamit)
+    } else if word == SAWZALL {
+        Some(Lang::Sawzall)
     } else {
         None
     }
@@ -73,8 +77,8 @@ fn goes_with(command: Command, lang: Lang) -> bool
     ensures { result ≡ goes_with command lang }
 {
     match (command, lang) {
-        (Command::Mean, Lang::Streamit) => false,
-        (Command::Run | Command::Mean | Command::Show, Lang::River | Lang::Streamit) => true,
+        (Command::Mean, Lang::Streamit | Lang::Sawzall) => false,
+        (Command::Mean, Lang::River) | (Command::Run | Command::Show, _) => true,
     }
 }
 

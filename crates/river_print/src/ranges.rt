@@ -94,7 +94,10 @@ fn read_kind(kind: TableKind)
 {
     match kind {
         TableKind::Sum { keys: _keys } | TableKind::Collection { keys: _keys } => {}
-        TableKind::Maximum { best: _best, keys: _keys } => {}
+        TableKind::Maximum {
+            best: _best,
+            keys: _keys,
+        } => {}
     }
 }
 

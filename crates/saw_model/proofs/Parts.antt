@@ -28,6 +28,7 @@ reads_parts k (c ∷ ps) s y h = first (λ p q e. reads_parts (suc k) ps p.1 q e
       → on_ok (parts_read ps p.1) (λ q. Ok (joined p.0 q.0, q.1)) ≡ Ok y
   more p (Ok q) f g = ap (λ r. on_ok r (λ q. Ok (joined p.0 q.0, q.1))) (f q refl) ∙ cc g
   more p (Err e) f g = absurd (cc g)
+
   first : ((p q : Steps × At) → all_parts (suc k) ps p.1 ≡ Ok q → parts_read ps p.1 ≡ Ok q) → (r : Read) → in_unit k r (λ p. on_fine (all_parts (suc k) ps p.1) (λ q. Ok (joined p.0 q.0, q.1))) ≡ Ok y → on_ok r (λ p. on_ok (parts_read ps p.1) (λ q. Ok (joined p.0 q.0, q.1))) ≡ Ok y
   first f (Ok p) g = more p (all_parts (suc k) ps p.1) (f p) g
   first f (Err e) g = absurd (cc g)

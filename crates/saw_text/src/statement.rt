@@ -14,11 +14,7 @@ use work_code::Symbol;
 
 // `= e`, or nothing.
 #[tactic(auto, unfolding(crate::specs::Reading::first_value_at))]
-fn first_value(
-    reader: &mut Reader<'_>,
-    alloc: Global,
-    brackets: u32,
-) -> Result<Option<Expr>, Fault>
+fn first_value(reader: &mut Reader<'_>, alloc: Global, brackets: u32) -> Result<Option<Expr>, Fault>
     ensures { Gives option_said result reader.new (first_value_at brackets reader.old) }
 {
     if !reader.is_at(Symbol::Assign) {

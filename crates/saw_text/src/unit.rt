@@ -7,10 +7,10 @@ ghost use Rattle.saw_text.specs.Reading.{typed_after, typed_at, unit_named, unit
 ghost use Rattle.saw_text.specs.Tree.{unit_form};
 ghost use Rattle.saw_text.specs.View.{Makes};
 
+use crate::Unit;
 use crate::statement::{assign, declare, stmt_after};
 use crate::table::table;
 use crate::term::user;
-use crate::Unit;
 use river_base::Name;
 use std::alloc::Global;
 use text_forms::{Fault, Reader};

@@ -1,5 +1,5 @@
 -- Units that are judged.
-use Rattle.std.proofs.Common.{◌≡◌, ℕ, ◌+◌, ◌<◌, ◌≤◌, List, [], ◌∷◌, ◌++◌, length, Some, Result, Ok, refl, sym, ap, ◌∙◌, subst, arith}
+use Rattle.std.proofs.Common.{◌≡◌, ℕ, ◌+◌, ◌<◌, ◌≤◌, List, [], ◌∷◌, ◌++◌, length, Option, Some, Result, Ok, refl, sym, ap, ◌∙◌, subst, arith}
 use Rattle.std.proofs.Common.{Vec, Global}
 use Rattle.std.specs.Vec.{vec_len}
 use Rattle.std.specs.Prelude.{min}
@@ -75,7 +75,7 @@ pipe_declared old new d name a c depth ss known e dp made k h are =
     )
 
 -- a split-join is known
-pub split_declared : (old new : Known) (d : Declared) (name : Name) (g : Dealing) (a : Adds) (ws vs : List ℕ) (sp : Splitter) (c : Children) (ops depth : ℕ) (ss : Streams) (known : Streamed) → unit_of d ≡ ASplit sp c.front.items c.last vs → ops ≡ min (c.ops + 2) 257 → depth ≡ c.deepest + 1
+pub split_declared : (old new : Known) (d : Declared) (name : Name) (g : Dealing) (a : Adds) (ws : Option (List ℕ)) (vs : List ℕ) (sp : Splitter) (c : Children) (ops depth : ℕ) (ss : Streams) (known : Streamed) → unit_of d ≡ ASplit sp c.front.items c.last vs → ops ≡ min (c.ops + 2) 257 → depth ≡ c.deepest + 1
     → Made old new d name ops depth → Knows old known → splitter_of g (branch_count a) ≡ Ok sp → streams_of branches known 0 a.first a.others ≡ Ok ss → round_of ws (branch_count a) ≡ Ok vs → AreChildren (units_of old.declared.items) c ss
     → (s : Stream) × (stream_of known name (ASplitJoin g a ws) ≡ Ok s) × Knows new ((name, s) ∷ known)
 split_declared old new d name g a ws vs sp c ops depth ss known e op dp made k hs h hr are =
@@ -99,11 +99,11 @@ split_declared old new d name g a ws vs sp c ops depth ss known e op dp made k h
     )
 
 -- the faults of a split-join: of its splitter, its branches, its joiner
-pub split_fault : (f : fault.Fault) (known : Streamed) (name : Name) (g : Dealing) (a : Adds) (ws : List ℕ) → Tells f (splitter_of g (branch_count a)) → Tells f (stream_of known name (ASplitJoin g a ws))
+pub split_fault : (f : fault.Fault) (known : Streamed) (name : Name) (g : Dealing) (a : Adds) (ws : Option (List ℕ)) → Tells f (splitter_of g (branch_count a)) → Tells f (stream_of known name (ASplitJoin g a ws))
 split_fault f known name g a ws h = tells_on f (splitter_of g (branch_count a)) (λ p. on_ok (streams_of branches known 0 a.first a.others) (λ ss. on_ok (round_of ws (branch_count a)) (λ vs. fine (SplitJoin p ss vs)))) h
 
 -- that of its branches
-pub branch_fault : (f : fault.Fault) (known : Streamed) (name : Name) (g : Dealing) (a : Adds) (ws : List ℕ) (sp : Splitter) → splitter_of g (branch_count a) ≡ Ok sp → Tells f (streams_of branches known 0 a.first a.others) → Tells f (stream_of known name (ASplitJoin g a ws))
+pub branch_fault : (f : fault.Fault) (known : Streamed) (name : Name) (g : Dealing) (a : Adds) (ws : Option (List ℕ)) (sp : Splitter) → splitter_of g (branch_count a) ≡ Ok sp → Tells f (streams_of branches known 0 a.first a.others) → Tells f (stream_of known name (ASplitJoin g a ws))
 branch_fault f known name g a ws sp hs h =
     let n = branch_count a in
     let f2 = λ (p : Splitter) (ss : Streams). on_ok (round_of ws n) (λ vs. fine (SplitJoin p ss vs)) in
@@ -111,7 +111,7 @@ branch_fault f known name g a ws sp hs h =
     tells_more f (streams_of branches known 0 a.first a.others) (stream_of known name (ASplitJoin g a ws)) (λ e he. ap (λ r. on_ok r f1) hs ∙ ap (λ r. on_ok r (f2 sp)) he) h
 
 -- that of its joiner
-pub join_fault : (f : fault.Fault) (known : Streamed) (name : Name) (g : Dealing) (a : Adds) (ws : List ℕ) (sp : Splitter) (ss : Streams) → splitter_of g (branch_count a) ≡ Ok sp → streams_of branches known 0 a.first a.others ≡ Ok ss → Tells f (round_of ws (branch_count a)) → Tells f (stream_of known name (ASplitJoin g a ws))
+pub join_fault : (f : fault.Fault) (known : Streamed) (name : Name) (g : Dealing) (a : Adds) (ws : Option (List ℕ)) (sp : Splitter) (ss : Streams) → splitter_of g (branch_count a) ≡ Ok sp → streams_of branches known 0 a.first a.others ≡ Ok ss → Tells f (round_of ws (branch_count a)) → Tells f (stream_of known name (ASplitJoin g a ws))
 join_fault f known name g a ws sp ss hs hb h =
     let n = branch_count a in
     let f2 = λ (p : Splitter) (ss : Streams). on_ok (round_of ws n) (λ vs. fine (SplitJoin p ss vs)) in

@@ -1,11 +1,11 @@
 // Judges the units of a program, one after another.
-ghost use Rattle.std.specs.Prelude.{◌≡◌, ◌≤◌, length};
+ghost use Rattle.std.specs.Prelude.{◌≡◌, ◌<◌, ◌≤◌, ◌^◌, length};
 ghost use Rattle.streamit_model.specs.Judged.{Streamed, splitter_of, stream_of, unit_of as stream_declared, all_streams};
 ghost use Rattle.streamit_model.specs.Program.{AFilter, APipeline, ASplitJoin};
 ghost use Rattle.streamit_unroll.specs.Filter.{filter_tree, IsReadable};
 ghost use Rattle.streamit_unroll.specs.View.{Judges};
 ghost use Rattle.streamit_build.specs.Units.{splitter_of as splitter_by};
-ghost use Rattle.streamit_build.specs.Program.{dealing_of, adds_of, body_of, declared_of, program_of, IsReadableBody};
+ghost use Rattle.streamit_build.specs.Program.{weights_of, dealing_of, adds_of, body_of, declared_of, program_of, IsReadableBody};
 ghost use Rattle.streamit_build.specs.Knowing.{Knows, Declares};
 ghost use Rattle.streamit_build.specs.Told.{AreReadable, JudgesAll};
 
@@ -20,21 +20,25 @@ use streamit_unroll::{Fault, FilterTree, filter};
 /// The fault that comes first, and the number of its unit, from 1.
 #[derive(Clone, Copy)]
 pub struct Refusal {
-    pub unit: usize,
+    pub unit: u32,
     pub fault: Fault,
 }
 
 impl Known {
     /// All units of a program, one after another.
-    pub fn units(&mut self, alloc: Global, units: &[Declaration<'_>]) -> Result<(), Refusal>
-        requires { AreReadable (program_of units.now) }
+    pub fn units(&mut self, alloc: Global, units: &[Declaration]) -> Result<(), Refusal>
+        requires readable { AreReadable (program_of units.now) }
+        requires few { length units.now < 2 ^ 32 }
         ensures { (start : Streamed) → Knows self.old start → JudgesAll result self.new (all_streams 1 start (program_of units.now)) }
     {
         for i in 0..units.len() {
             match self.unit(alloc, &units[i]) {
                 Ok(()) => {}
                 Err(fault) => {
-                    return Err(Refusal { unit: i + 1, fault });
+                    return Err(Refusal {
+                        unit: i as u32 + 1,
+                        fault,
+                    });
                 }
             }
         }
@@ -42,7 +46,7 @@ impl Known {
     }
 
     // A unit of the program.
-    fn unit(&mut self, alloc: Global, unit: &Declaration<'_>) -> Result<(), Fault>
+    fn unit(&mut self, alloc: Global, unit: &Declaration) -> Result<(), Fault>
         requires { IsReadableBody (body_of unit.now.body) }
         ensures { (known : Streamed) → Knows self.old known → Declares result self.new known unit.now.name (stream_declared known (declared_of unit.now)) }
     {
@@ -53,7 +57,7 @@ impl Known {
     }
 
     // What is declared.
-    fn body(&mut self, alloc: Global, name: Name, body: &Body<'_>) -> Result<(), Fault>
+    fn body(&mut self, alloc: Global, name: Name, body: &Body) -> Result<(), Fault>
         requires readable { IsReadableBody (body_of body.now) }
         requires short { length name ≤ 40 }
         ensures { (known : Streamed) → Knows self.old known → Declares result self.new known name (stream_of known name (body_of body.now)) }
@@ -66,7 +70,7 @@ impl Known {
     }
 
     // A filter.
-    fn filter(&mut self, alloc: Global, name: Name, tree: &FilterTree<'_>) -> Result<(), Fault>
+    fn filter(&mut self, alloc: Global, name: Name, tree: &FilterTree) -> Result<(), Fault>
         requires readable { IsReadable (filter_tree tree.now) }
         requires short { length name ≤ 40 }
         ensures { (known : Streamed) → Knows self.old known → Declares result self.new known name (stream_of known name (AFilter (filter_tree tree.now))) }
@@ -92,12 +96,12 @@ impl Known {
 
     // A splitter, branches and a joiner.
     fn split_join(&mut self, alloc: Global, name: Name, all: &SplitJoin) -> Result<(), Fault>
-        ensures { (known : Streamed) → Knows self.old known → Declares result self.new known name (stream_of known name (ASplitJoin (dealing_of all.now.split) (adds_of all.now.adds) all.now.join.items)) }
+        ensures { (known : Streamed) → Knows self.old known → Declares result self.new known name (stream_of known name (ASplitJoin (dealing_of all.now.split) (adds_of all.now.adds) (weights_of all.now.join))) }
     {
         let count = all.adds.others.len() + 1;
         let split = splitter(alloc, &all.split, count)?;
         let children = self.children(alloc, true, &all.adds)?;
-        let join = round(alloc, all.join.as_slice(), count)?;
+        let join = round(alloc, &all.join, count)?;
         let depth = sum(children.deepest, 1)?;
         let ops = few(children.ops, 2);
         let stream = Declared::SplitJoin {
@@ -119,7 +123,7 @@ fn splitter(alloc: Global, split: &Split, branches: usize) -> Result<Option<Vec<
     match split {
         Split::Duplicate => Ok(None),
         Split::RoundRobin(weights) => {
-            let weights = round(alloc, weights.as_slice(), branches)?;
+            let weights = round(alloc, weights, branches)?;
             Ok(Some(weights))
         }
     }

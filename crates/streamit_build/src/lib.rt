@@ -13,6 +13,6 @@ mod streams;
 pub use builder::{Declared, Made, build};
 pub use judge::Refusal;
 pub use planning::plan;
-pub use program::{Adds, Body, Declaration, Split, SplitJoin};
+pub use program::{Adds, Body, Declaration, RoundRobin, Split, SplitJoin};
 pub use rounds::round;
 pub use streams::{Children, Entry, Known};

@@ -1,5 +1,5 @@
 // The plan of a program.
-ghost use Rattle.std.specs.Prelude.{◌≡◌, ◌<◌, ◌+◌, ◌-◌, ◌∷◌, ◌++◌, length, map, OnOk, IfOk};
+ghost use Rattle.std.specs.Prelude.{◌≡◌, ◌<◌, ◌+◌, ◌-◌, ◌∷◌, ◌++◌, ◌^◌, length, map, OnOk, IfOk};
 ghost use Rattle.river_plan.specs.Forms.{plan_form, op_forms};
 ghost use Rattle.river_plan.specs.Uses.{all_vars};
 ghost use Rattle.streamit_model.specs.Stream.{Stream};
@@ -20,20 +20,21 @@ use std::alloc::Global;
 use streamit_unroll::Fault;
 
 /// The plan of a program, as lists: that of its last stream; or the fault that comes first, with its unit.
-pub fn plan(alloc: Global, units: &[Declaration<'_>]) -> Result<RawPlan, Refusal>
+pub fn plan(alloc: Global, units: &[Declaration]) -> Result<RawPlan, Refusal>
     requires readable { AreReadable (program_of units.now) }
     requires some { 0 < length units.now }
+    requires few { length units.now < 2 ^ 32 }
     ensures { PlansBy result (judged (program_of units.now)) }
 {
     let mut known = Known::new(alloc);
     known.units(alloc, units)?;
     let count = units.len();
-    known.plan_last(alloc, count, units[count - 1].name)
+    known.plan_last(alloc, count as u32, units[count - 1].name)
 }
 
 impl Known {
     // The plan of the stream that is declared last, in this unit.
-    fn plan_last(&self, alloc: Global, unit: usize, last: Name) -> Result<RawPlan, Refusal>
+    fn plan_last(&self, alloc: Global, unit: u32, last: Name) -> Result<RawPlan, Refusal>
         requires { KnowsLast self.now last }
         ensures { (s : Stream) (others : Streamed) → Knows self.now ((last, s) ∷ others) → PlansLast result unit s }
     {
@@ -44,7 +45,7 @@ impl Known {
     }
 
     // The plan of the stream with this entry, in this unit.
-    fn plan_at(&self, alloc: Global, unit: usize, top: Entry) -> Result<RawPlan, Refusal>
+    fn plan_at(&self, alloc: Global, unit: u32, top: Entry) -> Result<RawPlan, Refusal>
         requires there { top.number < length self.now.declared.items }
         requires lower { AreLower (units_of self.now.declared.items) }
         requires short { AreShort (units_of self.now.declared.items) }

@@ -6,16 +6,16 @@ use streamit_unroll::FilterTree;
 
 /// A unit of a program: a stream that is declared. Its name has at most 40 bytes.
 #[derive(Drop)]
-pub struct Declaration<'a> {
+pub struct Declaration {
     pub name: Name,
-    pub body: Body<'a>,
+    pub body: Body,
     ghost short: { length name ≤ 40 },
 }
 
 /// What is declared.
 #[derive(Drop)]
-pub enum Body<'a> {
-    Filter(FilterTree<'a>),
+pub enum Body {
+    Filter(FilterTree),
     Pipeline(Adds),
     SplitJoin(SplitJoin),
 }
@@ -27,17 +27,23 @@ pub struct Adds {
     pub others: Vec<Name>,
 }
 
-/// The splitter, the branches, and the weights of the joiner as they are written.
+/// The splitter, the branches, and the joiner.
 #[derive(Drop)]
 pub struct SplitJoin {
     pub split: Split,
     pub adds: Adds,
-    pub join: Vec<u64>,
+    pub join: RoundRobin,
 }
 
 /// How a splitter is written.
 #[derive(Drop)]
 pub enum Split {
     Duplicate,
-    RoundRobin(Vec<u64>),
+    RoundRobin(RoundRobin),
+}
+
+/// `roundrobin`, and the weights in its brackets, where there are brackets.
+#[derive(Drop)]
+pub struct RoundRobin {
+    pub weights: Option<Vec<u64>>,
 }

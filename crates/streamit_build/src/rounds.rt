@@ -1,19 +1,31 @@
 // The weights of splitters and joiners.
-ghost use Rattle.std.specs.Prelude.{◌≡◌, ◌≤◌, replicate, nat_le, false, IfOk, IsTrue, ◌↔◌};
+ghost use Rattle.std.specs.Prelude.{◌≡◌, ◌≤◌, replicate, nat_le, false, Some, IfOk, IsTrue, ◌↔◌};
 ghost use Rattle.std.specs.List.{list_all};
 ghost use Rattle.brooklet_model.specs.ByIndex.{cycle};
 ghost use Rattle.streamit_model.specs.Judged.{round_of, fitting_round};
 ghost use Rattle.streamit_unroll.specs.View.{Judges};
-ghost use Rattle.streamit_build.specs.Program.{items_of};
+ghost use Rattle.streamit_build.specs.Program.{items_of, weights_of};
 
+use crate::RoundRobin;
 use river_base::NoMemory;
 use std::alloc::Global;
 use streamit_unroll::Fault;
 
 /// The weights of so many branches, where these are written: none stands for 1 each, one for as many each.
-pub fn round(alloc: Global, written: &[u64], branches: usize) -> Result<Vec<u32>, Fault>
+pub fn round(alloc: Global, written: &RoundRobin, branches: usize) -> Result<Vec<u32>, Fault>
     requires { 1 ≤ branches }
-    ensures { Judges items_of result (round_of written.now branches) }
+    ensures { Judges items_of result (round_of (weights_of written.now) branches) }
+{
+    match &written.weights {
+        Some(weights) => listed(alloc, weights.as_slice(), branches),
+        None => equal(alloc, 1, branches),
+    }
+}
+
+// The weights of so many branches, where these stand in the brackets.
+fn listed(alloc: Global, written: &[u64], branches: usize) -> Result<Vec<u32>, Fault>
+    requires { 1 ≤ branches }
+    ensures { Judges items_of result (round_of (Some written.now) branches) }
 {
     match written {
         [] => equal(alloc, 1, branches),

@@ -1,5 +1,6 @@
 -- What a text of StreamIt means is what it has in the grammar, and what the front answers.
-use Rattle.std.proofs.Common.{◌≡◌, ◌⊎◌, ℕ, suc, ◌<◌, List, [], ◌∷◌, length, Option, Some, None, Result, Ok, Err, refl, sym, ap, ◌∙◌, subst, inl, inr, arith}
+use Rattle.std.proofs.Common.{◌≡◌, ◌⊎◌, ℕ, suc, ◌<◌, ◌≤◌, List, [], ◌∷◌, length, Option, Some, None, Result, Ok, Err, refl, sym, ap, ◌∙◌, subst, inl, inr, arith}
+use Rattle.std.proofs.lemmas.List.{length-map}
 use Rattle.work_code.specs.Cut.{units_of as cut_units}
 use Rattle.work_code.specs.Lexis.{tokens_in}
 use Rattle.work_code.specs.Tok.{Tok, Mark, toks}
@@ -24,13 +25,14 @@ use Rattle.streamit_model.specs.Program.{Program, AreShallowUnits}
 use Rattle.streamit_model.specs.Judged.{Streamed, Refusal, on_fine, in_unit, unit_of, all_streams, few_operators, judged}
 use Rattle.streamit_model.proofs.Programs.{programs_mean}
 use Rattle.streamit_build.specs.declared.program.Declaration.{Declaration}
-use Rattle.streamit_build.specs.Program.{program_of}
+use Rattle.streamit_build.specs.Program.{declared_of, program_of}
 use Rattle.streamit_build.specs.Told.{AreReadable, PlansBy}
-use Rattle.streamit_text.specs.Grammar.{IsText, IsSome, IsUnitAt, next_unit}
+use Rattle.streamit_text.specs.Grammar.{AreUnits, IsText, IsSome, IsUnitAt, next_unit}
 use Rattle.streamit_text.specs.Laws.{IsBadAt, IsEmpty}
 use Rattle.streamit_text.specs.Reading.{some_units, unit_from}
 use Rattle.streamit_text.specs.Faults.{StandFor, Refuses}
 use Rattle.streamit_text.specs.declared.fault.StreamitTextFault.TheVariants.{Syntax as Syntax_at}
+use Rattle.work_code.proofs.Counts.{units-few}
 use Rattle.streamit_text.proofs.Texts.{text-read, text-reads, units-bad, units-reads}
 use Rattle.streamit_text.proofs.Units.{exact-unit_from}
 use Rattle.streamit_front.specs.declared.fault.StreamitFault.{StreamitFault}
@@ -192,7 +194,21 @@ read-bad marks unit h = ap then_judged (bad-units (cut_units (toks marks)) unit 
 
 pub ruleset readings = (read-bad)
 
-pub ruleset fronts = (read-planned, read-refused, read-readable, read-shallow, read-some)
+-- a text has no more units than tokens
+formed-few : (p : Program) (units : List (List Tok)) → AreUnits p units → length p ≡ length units
+formed-few [] [] h = refl
+formed-few [] (u ∷ us) h = absurd h
+formed-few (d ∷ ds) [] h = absurd h
+formed-few (d ∷ ds) (u ∷ us) h = ap suc (formed-few ds us h.1)
+
+pub read-few : (marks : List Mark) (ds : List Declaration) → StandFor marks (program_of ds) → length ds ≤ length marks
+read-few marks ds e =
+    let same = formed-few (program_of ds) (cut_units (toks marks)) e.0 in
+    let each = length-map ds declared_of in
+    let few = units-few marks in
+    omega (arith, same, each, few)
+
+pub ruleset fronts = (read-planned, read-refused, read-readable, read-shallow, read-some, read-few)
 
 -- the plan that was made of judged units is valid, and is the program's
 pub planned-valid : (p : Program) (raw : RawPlan) → AreShallowUnits p → PlansBy (Ok raw) (judged p) → IsPlan (plan_form raw)

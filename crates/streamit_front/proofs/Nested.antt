@@ -7,18 +7,16 @@ use Rattle.work_code.specs.Steps as steps
 use Rattle.work_code.specs.Term.{Term}
 use Rattle.work_code.specs.Tok.{Tok}
 use Rattle.work_code.specs.declared.sign.Symbol.{Symbol}
-use Rattle.text_forms.specs.declared.language.Language.TheVariants.{StreamIt}
 use Rattle.text_forms.specs.Forms as form
-use Rattle.text_forms.specs.Language.{is_plain}
 use Rattle.text_forms.specs.Tree.{Spoken}
 use Rattle.kern_rows.specs.Forms.{FilterForm}
 use Rattle.river_plan.specs.Forms.{Name}
-use Rattle.streamit_model.specs.Source.{Statement, Declare, Assign, Push, Pop, If, For, Block, End, Then, pops, numbers}
-use Rattle.streamit_model.specs.Elaborate.{Fault, At, Read, on_ok, joined, one_step, counted, is_new, has_slot, first_term, declared, slot_of, term_of, constant, bound_of, after_arms, unrolled, step_of, steps_of, find, BranchRates, Turn}
-use Rattle.streamit_model.specs.FilterSource.{FilterTree, elaborated, read_fields, nothing_read, rates_of, kept_rates, form_of}
+use Rattle.streamit_model.specs.Source.{Statement, Declare, Assign, Push, Pop, If, For, Block, End, Then, pops, numbers, Optional, Unwritten, Written}
+use Rattle.streamit_model.specs.Elaborate.{Fault, At, Read, on_ok, joined, one_step, counted, is_new, has_slot, first_term, declared, slot_of, term_of, constant, bound_of, after_arms, unrolled, step_of, steps_of, find, BranchRates, Turn, optional_of}
+use Rattle.streamit_model.specs.FilterSource.{FilterTree, elaborated, read_fields, nothing_read, rates_of, kept_rates, form_of, push_of, pop_of, peek_of}
 use Rattle.streamit_model.proofs.Elaborated.{fine, ok_parts, ok_is}
-use Rattle.streamit_unroll.specs.View.{in_turn}
-use Rattle.streamit_text.specs.Grammar.{Round, IsDeclare, IsAssign, IsPush, IsPop, or_end, IsIf, IsFor, IsBlockOf, StmtAfter, IsStmt, IsBlock}
+use Rattle.streamit_unroll.specs.View.{in_turn, or_unwritten}
+use Rattle.streamit_text.specs.Grammar.{Round, IsDeclare, IsAssign, IsPush, IsPop, IsIf, IsFor, IsBlockOf, StmtAfter, IsStmt, IsBlock, is_own}
 use Rattle.river_print.specs.Writable.{depth_once, depths}
 use Rattle.streamit_front.proofs.Readable.{chosen, enclosed}
 
@@ -29,12 +27,16 @@ abbrev mutual
   nest (Assign n t) = 0
   nest (Push t) = 0
   nest Pop = 0
-  nest (If t a b) = suc (max (nests a) (nests b))
+  nest (If t a b) = suc (max (nests a) (nests_optional b))
   nest (For n low upto high b) = suc (nests b)
 
   pub nests : Block → ℕ
   nests End = 0
   nests (Then c b) = max (nest c) (nests b)
+
+  pub nests_optional : Optional → ℕ
+  nests_optional Unwritten = 0
+  nests_optional (Written b) = nests b
 
 -- THE GRAMMAR
 
@@ -56,10 +58,10 @@ block-nests stmt k below n b ts h = enclosed (AreNested k) _ _ _ n b ts h (λ m 
         let b = each m ss f.1 f.4 in
         omega (arith, a, b)
 
-or-end-nests : (k : ℕ) (block : Block → List Tok → Type 0) → ((b : Block) (ts : List Tok) → block b ts → AreNested k b)
-    → (word : List ℕ) (o : Option Block) (ts : List Tok) → form.Maybe (form.AfterWord word block) o ts → AreNested k (or_end o)
-or-end-nests k block below word None ts h = omega arith
-or-end-nests k block below word (Some b) ts h = below b h.back h.formed
+optional-nests : (k : ℕ) (block : Block → List Tok → Type 0) → ((b : Block) (ts : List Tok) → block b ts → AreNested k b)
+    → (word : List ℕ) (o : Option Block) (ts : List Tok) → form.Maybe (form.AfterWord word block) o ts → nests_optional (or_unwritten o) ≤ k
+optional-nests k block below word None ts h = omega arith
+optional-nests k block below word (Some b) ts h = below b h.back h.formed
 
 if-nests : (k : ℕ) (block : ℕ → Block → List Tok → Type 0) → ((m : ℕ) (b : Block) (ts : List Tok) → block m b ts → AreNested k b)
     → (n : ℕ) (s : Statement) (ts : List Tok) → IsIf block n s ts → IsNested (suc k) s
@@ -68,7 +70,7 @@ if-nests k block below n s ts h =
     let arms = h.formed.second in
     let a = below n v.1.0 arms.front arms.first in
     let no = arms.second in
-    let b : AreNested k v.1.1 = subst (AreNested k) (sym no.is) (or-end-nests k (block n) (below n) (codes "else") no.value arms.back no.formed) in
+    let b : nests_optional v.1.1 ≤ k = subst (λ (o : Optional). nests_optional o ≤ k) (sym no.is) (optional-nests k (block n) (below n) (codes "else") no.value arms.back no.formed) in
     subst (IsNested (suc k)) (sym h.is) (omega (arith, a, b))
 
 for-nests : (k : ℕ) (block : ℕ → Block → List Tok → Type 0) → ((m : ℕ) (b : Block) (ts : List Tok) → block m b ts → AreNested k b)
@@ -78,8 +80,8 @@ for-nests k block below n s ts h =
     subst (IsNested (suc k)) (sym h.is) (omega (arith, b))
 
 -- the statements without a block
-leaf-nests : (k n : ℕ) (w : List ℕ) (s : Statement) (ts : List Tok) → form.Choose (is_plain StreamIt w) (IsAssign w n) form.Never s ts → IsNested k s
-leaf-nests k n w s ts h = chosen (IsNested k s) _ _ (is_plain StreamIt w) s ts h (λ f. subst (IsNested k) (sym f.is) (omega arith)) (λ f. absurd f)
+leaf-nests : (k n : ℕ) (w : List ℕ) (s : Statement) (ts : List Tok) → form.Choose (is_own w) (IsAssign w n) form.Never s ts → IsNested k s
+leaf-nests k n w s ts h = chosen (IsNested k s) _ _ (is_own w) s ts h (λ f. subst (IsNested k) (sym f.is) (omega arith)) (λ f. absurd f)
 
 after-nests : (k : ℕ) (branch loop : Statement → List Tok → Type 0) → ((s : Statement) (ts : List Tok) → branch s ts → IsNested k s)
     → ((s : Statement) (ts : List Tok) → loop s ts → IsNested k s) → (n : ℕ) (w : List ℕ) (s : Statement) (ts : List Tok)
@@ -163,7 +165,7 @@ mutual
       by-steps 0 (one_step (steps.Push 0 (v.0 ∷ [])), record p.0 { popped = p.0.popped + pops t; pushed = p.0.pushed + 1 }) y v.2 (omega arith)
   step-below e Pop s y h = by-steps 0 (Done, record s { popped = s.popped + 1 }) y h (omega arith)
   step-below e (If t a b) s0 y h =
-      let second = λ (s : At) (p : Steps × At). steps_of e b (record s { popped = s.popped + pops t; slots = p.1.slots; size = p.1.size }) in
+      let second = λ (s : At) (p : Steps × At). optional_of e b (record s { popped = s.popped + pops t; slots = p.1.slots; size = p.1.size }) in
       let f3 = λ (s : At) (c : Term) (p : Steps × At). on_ok (second s p) (after_arms s c p) in
       let f2 = λ (s : At) (c : Term). on_ok (steps_of e a (record s { popped = s.popped + pops t })) (f3 s c) in
       let w = ok_parts (counted s0) (λ s. on_ok (term_of e s.scope t s.popped) (f2 s)) y h in
@@ -171,8 +173,8 @@ mutual
       let p = ok_parts (steps_of e a (record w.0 { popped = w.0.popped + pops t })) (f3 w.0 c.0) y c.2 in
       let q = ok_parts (second w.0 p.0) (after_arms w.0 c.0 p.0) y p.2 in
       let i = steps-below e a (record w.0 { popped = w.0.popped + pops t }) p.0 p.1 in
-      let j = steps-below e b (record w.0 { popped = w.0.popped + pops t; slots = p.0.1.slots; size = p.0.1.size }) q.0 q.1 in
-      arms-below (max (nests a) (nests b)) w.0 c.0 p.0 q.0 y q.2 (omega (arith, i)) (omega (arith, j))
+      let j = optional-below e b (record w.0 { popped = w.0.popped + pops t; slots = p.0.1.slots; size = p.0.1.size }) q.0 q.1 in
+      arms-below (max (nests a) (nests_optional b)) w.0 c.0 p.0 q.0 y q.2 (omega (arith, i)) (omega (arith, j))
   step-below e (For n low upto high b) s y h =
       let turns = λ (l g : ℕ). numbers l (g + (if upto then 1 else 0) - l) in
       let f5 = λ (l g : ℕ). unrolled (steps_of e b) n (turns l g) s in
@@ -196,15 +198,19 @@ mutual
       by-steps (max (nest c) (nests b)) (joined p.0.0 q.0.0, q.0.1) y q.2
       (joined-below (max (nest c) (nests b)) p.0.0 q.0.0 (omega (arith, i)) (omega (arith, j)))
 
+  optional-below : (e : ℕ) (b : Optional) → Below (nests_optional b) (optional_of e b)
+  optional-below e Unwritten s y h = by-steps 0 (Done, s) y h (omega arith)
+  optional-below e (Written b) s y h = steps-below e b s y h
+
 -- the filter of a filter as it is written nests no deeper than its `work`
 pub filter-below : (t : FilterTree) (f : FilterForm) → elaborated t ≡ Ok f → depths f.body.steps ≤ nests t.work
 filter-below t f h =
-    let end = λ (i w : Steps × At). on_ok (kept_rates t.push t.pop w.1) (λ v. fine (form_of t i w)) in
-    let f3 = λ (s : At) (i : Steps × At). on_ok (steps_of t.peek t.work s) (end i) in
-    let f2 = λ (s : At) (i : Steps × At). on_ok (rates_of t.push t.pop t.peek) (λ u. f3 s i) in
-    let a = ok_parts (read_fields t.fields nothing_read) (λ s. on_ok (steps_of 0 t.init s) (f2 s)) f h in
-    let i = ok_parts (steps_of 0 t.init a.0) (f2 a.0) f a.2 in
-    let r = ok_parts (rates_of t.push t.pop t.peek) (λ u. f3 a.0 i.0) f i.2 in
-    let w = ok_parts (steps_of t.peek t.work a.0) (end i.0) f r.2 in
-    let k = ok_parts (kept_rates t.push t.pop w.0.1) (λ v. fine (form_of t i.0 w.0)) f w.2 in
-    subst (λ (g : FilterForm). depths g.body.steps ≤ nests t.work) (ok_is (form_of t i.0 w.0) f k.2) (steps-below t.peek t.work a.0 w.0 w.1)
+    let end = λ (i w : Steps × At). on_ok (kept_rates (push_of t) (pop_of t) w.1) (λ v. fine (form_of t i w)) in
+    let f3 = λ (s : At) (i : Steps × At). on_ok (steps_of (peek_of t) t.work s) (end i) in
+    let f2 = λ (s : At) (i : Steps × At). on_ok (rates_of (push_of t) (pop_of t) (peek_of t)) (λ u. f3 s i) in
+    let a = ok_parts (read_fields t.fields nothing_read) (λ s. on_ok (optional_of 0 t.init s) (f2 s)) f h in
+    let i = ok_parts (optional_of 0 t.init a.0) (f2 a.0) f a.2 in
+    let r = ok_parts (rates_of (push_of t) (pop_of t) (peek_of t)) (λ u. f3 a.0 i.0) f i.2 in
+    let w = ok_parts (steps_of (peek_of t) t.work a.0) (end i.0) f r.2 in
+    let k = ok_parts (kept_rates (push_of t) (pop_of t) w.0.1) (λ v. fine (form_of t i.0 w.0)) f w.2 in
+    subst (λ (g : FilterForm). depths g.body.steps ≤ nests t.work) (ok_is (form_of t i.0 w.0) f k.2) (steps-below (peek_of t) t.work a.0 w.0 w.1)

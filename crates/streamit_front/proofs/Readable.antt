@@ -6,23 +6,21 @@ use Rattle.std.specs.Str.{bytes_eq}
 use Rattle.work_code.specs.Tok.{Tok}
 use Rattle.work_code.specs.declared.sign.Symbol.{Symbol}
 use Rattle.work_code.specs.declared.sign.Symbol.TheVariants as s
-use Rattle.text_forms.specs.declared.language.Language.TheVariants.{StreamIt}
 use Rattle.text_forms.specs.Forms as form
-use Rattle.text_forms.specs.Language.{is_plain}
 use Rattle.text_forms.specs.Parse.{is_value}
 use Rattle.text_forms.specs.Tree.{Spoken}
 use Rattle.text_forms.specs.Tree as tree
-use Rattle.streamit_model.specs.Source.{Statement, Declare, Assign, Push, Pop, If, For, Block, End, Then}
-use Rattle.streamit_model.specs.Shallow.{IsLow, IsLowFirst, IsShallow, AreShallow, IsItemless, IsItemlessFirst, KeepsItems, KeepAll}
+use Rattle.streamit_model.specs.Source.{Statement, Declare, Assign, Push, Pop, If, For, Block, End, Then, Optional, Unwritten, Written}
+use Rattle.streamit_model.specs.Shallow.{IsLow, IsLowFirst, IsShallow, AreShallow, AreShallowOptional, IsItemless, IsItemlessFirst, KeepsItems, KeepAll, KeepAllOptional}
 use Rattle.streamit_model.specs.FilterSource.{FilterTree}
 use Rattle.streamit_model.specs.Program.{Body, Declared, Program, IsShallowBody, AreShallowUnits}
 use Rattle.streamit_unroll.specs.Numbers.{AreValues}
 use Rattle.streamit_unroll.specs.Filter.{IsReadable}
-use Rattle.streamit_unroll.specs.Unrolled.{AreOptional, IsWritten, AreWritten}
-use Rattle.streamit_unroll.specs.View.{in_turn}
+use Rattle.streamit_unroll.specs.Unrolled.{AreOptional, IsWritten, AreWritten, AreWrittenOptional}
+use Rattle.streamit_unroll.specs.View.{in_turn, or_unwritten}
 use Rattle.streamit_build.specs.Program.{IsReadableBody}
 use Rattle.streamit_build.specs.Told.{AreReadable}
-use Rattle.streamit_text.specs.Grammar.{has_values, Expr, Round, IsDeclare, IsAssign, IsPush, IsPop, or_end, IsIf, Head, HeadAfter, IsHead, IsFor, IsBlockOf, StmtAfter, IsStmt, IsBlock, is_still, is_still_first, stays, stay, IsInit, InFilter, BodyAfter, IsUnit, AreUnits}
+use Rattle.streamit_text.specs.Grammar.{is_own, is_fit, Expr, Round, IsDeclare, IsAssign, IsPush, IsPop, IsIf, Head, HeadAfter, IsHead, IsFor, IsBlockOf, StmtAfter, IsStmt, IsBlock, is_still, is_still_first, stays, stay, stay_optional, IsInit, InFilter, BodyAfter, IsUnit, AreUnits}
 
 -- ---- FORMS
 
@@ -45,16 +43,16 @@ enclosed P l r F (suc n) v ts h f = f n h.formed.front h.formed.formed
 a_value : (v : ℕ) → is_value v ≡ true → v < 2 ^ 63
 a_value v h = let le : v ≤ 9223372036854775807 = grind (arith, nat_tests) in omega (arith, le)
 
-values : (t : Spoken) → has_values t ≡ true → AreValues t
+values : (t : Spoken) → is_fit t ≡ true → AreValues t
 values (tree.Number v) h = a_value v h
 values (tree.Name n) h = tt
-values (tree.Input p) h = tt
-values (tree.Slot p) h = tt
+values (tree.Input p) h = absurd (cc h)
+values (tree.Slot p) h = absurd (cc h)
 values (tree.Peek t) h = values t h
 values tree.Pop h = tt
 values (tree.Neg t) h = values t h
 values (tree.Not t) h = values t h
-values (tree.Bin o a b) h = let p = and-both (has_values a) (has_values b) h in (values a p.0, values b p.1)
+values (tree.Bin o a b) h = let p = and-both (is_fit a) (is_fit b) h in (values a p.0, values b p.1)
 
 abbrev IsFine : Spoken → Type 0
 IsFine t = AreValues t × IsLow t
@@ -72,6 +70,9 @@ IsFineStep s = IsWritten s × IsShallow s
 
 abbrev AreFine : Block → Type 0
 AreFine b = AreWritten b × AreShallow b
+
+abbrev AreFineOptional : Optional → Type 0
+AreFineOptional b = AreWrittenOptional b × AreShallowOptional b
 
 first-fine : (n : ℕ) (o : Option Spoken) (ts : List Tok) → form.Maybe (form.After (s.Assign ∷ []) (Expr n)) o ts → AreOptional o × IsLowFirst o
 first-fine n None ts h = (tt, tt)
@@ -102,7 +103,7 @@ head-after-fine n name v ts h =
 head-fine : (n : ℕ) (v : Head) (ts : List Tok) → IsHead n v ts → HasBounds v
 head-fine n v ts h =
     let g = h.formed in
-    chosen (HasBounds v) _ _ (is_plain StreamIt g.word) v g.back g.formed (λ f. head-after-fine n g.word v g.back f) (λ f. absurd f)
+    chosen (HasBounds v) _ _ (is_own g.word) v g.back g.formed (λ f. head-after-fine n g.word v g.back f) (λ f. absurd f)
 
 -- blocks, of whose statements this is known
 block-fine : (stmt : ℕ → Statement → List Tok → Type 0) → ((m : ℕ) (s : Statement) (ts : List Tok) → stmt m s ts → IsFineStep s) → (n : ℕ) (b : Block) (ts : List Tok) → IsBlockOf stmt n b ts → AreFine b
@@ -114,9 +115,9 @@ block-fine stmt fine n b ts h = enclosed AreFine _ _ _ n b ts h (λ m us f. subs
       let b = each m ss f.1 f.4 in
       ((a.0, b.0), (a.1, b.1))
 
-or-end-fine : (block : Block → List Tok → Type 0) → ((b : Block) (ts : List Tok) → block b ts → AreFine b) → (word : List ℕ) (o : Option Block) (ts : List Tok) → form.Maybe (form.AfterWord word block) o ts → AreFine (or_end o)
-or-end-fine block fine word None ts h = (tt, tt)
-or-end-fine block fine word (Some b) ts h = fine b h.back h.formed
+optional-fine : (block : Block → List Tok → Type 0) → ((b : Block) (ts : List Tok) → block b ts → AreFine b) → (word : List ℕ) (o : Option Block) (ts : List Tok) → form.Maybe (form.AfterWord word block) o ts → AreFineOptional (or_unwritten o)
+optional-fine block fine word None ts h = (tt, tt)
+optional-fine block fine word (Some b) ts h = fine b h.back h.formed
 
 if-fine : (block : ℕ → Block → List Tok → Type 0) → ((m : ℕ) (b : Block) (ts : List Tok) → block m b ts → AreFine b) → (n : ℕ) (s : Statement) (ts : List Tok) → IsIf block n s ts → IsFineStep s
 if-fine block fine n s ts h =
@@ -125,7 +126,7 @@ if-fine block fine n s ts h =
     let c = round-fine n v.0 h.formed.front h.formed.first in
     let a = fine n v.1.0 arms.front arms.first in
     let no = arms.second in
-    let b : AreFine v.1.1 = subst AreFine (sym no.is) (or-end-fine (block n) (fine n) (codes "else") no.value arms.back no.formed) in
+    let b : AreFineOptional v.1.1 = subst AreFineOptional (sym no.is) (optional-fine (block n) (fine n) (codes "else") no.value arms.back no.formed) in
     subst IsFineStep (sym h.is) ((c.0, a.0, b.0), (c.1, a.1, b.1))
 
 for-fine : (block : ℕ → Block → List Tok → Type 0) → ((m : ℕ) (b : Block) (ts : List Tok) → block m b ts → AreFine b) → (n : ℕ) (s : Statement) (ts : List Tok) → IsFor block n s ts → IsFineStep s
@@ -143,7 +144,7 @@ after-fine branch loop b l n w s ts h =
     chosen (IsFineStep s) _ _ (bytes_eq w (codes "pop")) s ts h (pop-fine n s ts) (λ h.
     chosen (IsFineStep s) _ _ (bytes_eq w (codes "if")) s ts h (b s ts) (λ h.
     chosen (IsFineStep s) _ _ (bytes_eq w (codes "for")) s ts h (l s ts) (λ h.
-    chosen (IsFineStep s) _ _ (is_plain StreamIt w) s ts h (assign-fine w n s ts) (λ h. absurd h))))))
+    chosen (IsFineStep s) _ _ (is_own w) s ts h (assign-fine w n s ts) (λ h. absurd h))))))
 
 stmt-fine : (nest n : ℕ) (s : Statement) (ts : List Tok) → IsStmt nest n s ts → IsFineStep s
 unfolding IsStmt
@@ -179,9 +180,9 @@ mutual
   keeps (Push t) h = absurd (cc h)
   keeps Pop h = absurd (cc h)
   keeps (If t a b) h =
-      let p = and-both (is_still t) (stay a && stay b) h in
-      let q = and-both (stay a) (stay b) p.1 in
-      (still t p.0, keep a q.0, keep b q.1)
+      let p = and-both (is_still t) (stay a && stay_optional b) h in
+      let q = and-both (stay a) (stay_optional b) p.1 in
+      (still t p.0, keep a q.0, keep-optional b q.1)
   keeps (For n low upto high b) h =
       let p = and-both (is_still low) (is_still high && stay b) h in
       keep b (and-both (is_still high) (stay b) p.1).1
@@ -190,12 +191,16 @@ mutual
   keep End h = tt
   keep (Then c b) h = let p = and-both (stays c) (stay b) h in (keeps c p.0, keep b p.1)
 
-abbrev IsInitial : Block → Type 0
-IsInitial b = AreFine b × KeepAll b
+  keep-optional : (b : Optional) → stay_optional b ≡ true → KeepAllOptional b
+  keep-optional Unwritten h = tt
+  keep-optional (Written b) h = keep b h
 
-init-fine : (n : ℕ) (b : Block) (ts : List Tok) → IsInit n b ts → IsInitial b
+abbrev IsInitial : Optional → Type 0
+IsInitial b = AreFineOptional b × KeepAllOptional b
+
+init-fine : (n : ℕ) (b : Optional) (ts : List Tok) → IsInit n b ts → IsInitial b
 init-fine n b ts h = subst IsInitial (sym h.is) (by h.value ts h.formed) where
-  by : (o : Option Block) (us : List Tok) → form.Maybe (form.AfterWord (codes "init") (form.Tested stay (IsBlock 16 n))) o us → IsInitial (or_end o)
+  by : (o : Option Block) (us : List Tok) → form.Maybe (form.AfterWord (codes "init") (form.Tested stay (IsBlock 16 n))) o us → IsInitial (or_unwritten o)
   by None us f = ((tt, tt), tt)
   by (Some c) us f = (whole-fine n c f.back f.formed.formed, keep c f.formed.passes)
 

@@ -2,14 +2,13 @@
 ghost use Rattle.std.specs.Prelude.{◌≡◌, ◌<◌, ◌^◌, length, IfOk, IfErr, Result, Ok};
 ghost use Rattle.river_plan.specs.Forms.{plan_form};
 ghost use Rattle.river_plan.specs.Valid.{IsPlan};
-ghost use Rattle.streamit_model.specs.Build.{plan_of};
 ghost use Rattle.streamit_model.specs.Program.{Program, AreShallowUnits};
 ghost use Rattle.streamit_model.specs.Judged.{Streamed};
 ghost use Rattle.streamit_model.specs.Judged as model;
 ghost use Rattle.streamit_build.specs.Program.{program_of};
 ghost use Rattle.streamit_build.specs.Told.{AreReadable, Told};
 ghost use Rattle.streamit_text.specs.Faults.{StandFor};
-ghost use Rattle.streamit_front.specs.Meaning.{Accepted, accepted, or_fault, of_tokens, compiled, Plans, Refused};
+ghost use Rattle.streamit_front.specs.Meaning.{accepted, or_fault, of_tokens, compiled, Plans, Refused};
 
 use crate::StreamitProgram;
 use crate::fault::StreamitFault;
@@ -22,7 +21,7 @@ use streamit_unroll::Fault;
 use text_forms::Refusal as TextRefusal;
 use work_code::{LexFault, Tokens, lex};
 
-/// The plan of a text: that of the stream which its program declares last.
+/// The program of a text, and the plan of the stream that it declares last.
 ///
 /// # Errors
 ///
@@ -30,36 +29,28 @@ use work_code::{LexFault, Tokens, lex};
 /// 1, that is not in the grammar; otherwise the first fault of the program in the order in which it is read, with its
 /// unit; `NoMemory` where there is no memory.
 #[tactic(auto, unfolding(crate::specs::Meaning::compiled), using(work_code::proofs::Counts::counts))]
-pub fn compile_streamit(alloc: Global, text: &Bytes) -> Result<Plan, StreamitFault>
+pub fn compile_streamit(
+    alloc: Global,
+    text: &Bytes,
+) -> Result<(StreamitProgram, Plan), StreamitFault>
     requires { length text.now < 2 ^ 32 }
-    ensures plan { IfOk result (λ plan. (a : Accepted) × (compiled text.now ≡ Ok a) × (plan ≡ plan_of a.stream)) }
+    ensures plan { IfOk result (λ made. Plans (compiled text.now) (program_of made.0.units.items) made.1) }
     ensures refused { IfErr result (Refused (compiled text.now)) }
 {
     match lex(alloc, text) {
-        Ok(tokens) => plan_tokens(alloc, &tokens),
+        Ok(tokens) => compile_tokens(alloc, &tokens),
         Err(LexFault::BadByte { at }) => Err(StreamitFault::Text(TextRefusal::BadByte { at })),
         Err(LexFault::BigNumber { at }) => Err(StreamitFault::Text(TextRefusal::BigNumber { at })),
         Err(LexFault::NoMemory) => Err(StreamitFault::NoMemory),
     }
 }
 
-// The plan of the tokens of a text.
-fn plan_tokens(alloc: Global, tokens: &Tokens<'_>) -> Result<Plan, StreamitFault>
-    requires { length tokens.now < 2 ^ 32 }
-    ensures plan { IfOk result (λ plan. (a : Accepted) × (of_tokens tokens.now ≡ Ok a) × (plan ≡ plan_of a.stream)) }
-    ensures refused { IfErr result (Refused (of_tokens tokens.now)) }
-{
-    let (_, plan) = compile_tokens(alloc, tokens)?;
-    Ok(plan)
-}
-
-/// The program of the tokens of a text, and the plan of the stream that it declares last; or why there is none, as for
-/// the text.
+// The program of the tokens of a text, and the plan of the stream that it declares last; or why there is none.
 #[tactic(auto, using(crate::proofs::Fronts::fronts))]
-pub fn compile_tokens<'t>(
+fn compile_tokens(
     alloc: Global,
-    tokens: &'t Tokens<'_>,
-) -> Result<(StreamitProgram<'t>, Plan), StreamitFault>
+    tokens: &Tokens<'_>,
+) -> Result<(StreamitProgram, Plan), StreamitFault>
     requires { length tokens.now < 2 ^ 32 }
     ensures plan { IfOk result (λ made. Plans (of_tokens tokens.now) (program_of made.0.units.items) made.1) }
     ensures refused { IfErr result (Refused (of_tokens tokens.now)) }
@@ -71,7 +62,7 @@ pub fn compile_tokens<'t>(
 
 // The units of the tokens of a text.
 #[tactic(auto, using(crate::proofs::Fronts::readings))]
-fn read<'t>(alloc: Global, tokens: &'t Tokens<'_>) -> Result<Vec<Declaration<'t>>, StreamitFault>
+fn read(alloc: Global, tokens: &Tokens<'_>) -> Result<Vec<Declaration>, StreamitFault>
     requires { length tokens.now < 2 ^ 32 }
     ensures read { IfOk result (λ units. StandFor tokens.now (program_of units.items)) }
     ensures refused { IfErr result (Refused (of_tokens tokens.now)) }
@@ -87,10 +78,11 @@ fn read<'t>(alloc: Global, tokens: &'t Tokens<'_>) -> Result<Vec<Declaration<'t>
 
 // The plan of the last of these units.
 #[tactic(auto, using(crate::proofs::Fronts::plans))]
-fn planned(alloc: Global, units: &[Declaration<'_>]) -> Result<Plan, StreamitFault>
+fn planned(alloc: Global, units: &[Declaration]) -> Result<Plan, StreamitFault>
     requires readable { AreReadable (program_of units.now) }
     requires shallow { AreShallowUnits (program_of units.now) }
     requires some { 0 < length units.now }
+    requires few { length units.now < 2 ^ 32 }
     ensures plan { IfOk result (Plans (accepted (program_of units.now)) (program_of units.now)) }
     ensures refused { IfErr result (Refused (accepted (program_of units.now))) }
 {
@@ -116,13 +108,11 @@ fn valid(alloc: Global, raw: RawPlan) -> Result<Plan, NoMemory>
     }
 }
 
-// The fault of a unit; where its number has no place, there was no memory for so many.
+// The fault of a unit.
 fn refused(refusal: Refusal) -> StreamitFault
     ensures { (p : Program) (r : Result Streamed model.Refusal) → Told refusal.unit refusal.fault r → Refused (or_fault p r) result }
 {
-    let Ok(unit) = u32::try_from(refusal.unit) else {
-        return StreamitFault::NoMemory;
-    };
+    let unit = refusal.unit;
     match refusal.fault {
         Fault::UnknownName => StreamitFault::UnknownName { unit },
         Fault::NameTwice => StreamitFault::NameTwice { unit },

@@ -6,6 +6,6 @@ mod fault;
 pub mod laws;
 mod program;
 
-pub use compile::{compile_streamit, compile_tokens};
+pub use compile::compile_streamit;
 pub use fault::StreamitFault;
 pub use program::StreamitProgram;

@@ -4,6 +4,6 @@ use streamit_build::Declaration;
 /// A program as it is written: streams that are declared one after another, of which the last is run
 /// (the StreamIt language of Thies, Karczmarek and Amarasinghe).
 #[derive(Drop)]
-pub struct StreamitProgram<'a> {
-    pub units: Vec<Declaration<'a>>,
+pub struct StreamitProgram {
+    pub units: Vec<Declaration>,
 }

@@ -19,8 +19,8 @@ use Rattle.river_plan.proofs.NameLemmas.{cases_name, name_same as name_self}
 use Rattle.brooklet_model.specs.Machine.{at_name}
 use Rattle.text_forms.specs.Tree.{Spoken}
 use Rattle.text_forms.specs.Tree as tree
-use Rattle.streamit_model.specs.Source.{Statement, Declare, Assign, Push, Pop, If, For, Block, End, Then, pops, Values, said, Now, numbers, turns_between, each_turn, first_value, first_pops, does, do_all}
-use Rattle.streamit_model.specs.Elaborate.{Fault, Limit, BranchRates, PeekRange, on_ok, demand, Known, Var, Turn, Scope, find, constant_of, constant, named, peeked, term_of, At, counted, has_slot, is_new, slot_of, bound_of, first_term, first_popped, joined, one_step, Read, declared, after_arms, unrolled, step_of, steps_of}
+use Rattle.streamit_model.specs.Source.{Statement, Declare, Assign, Push, Pop, If, For, Block, End, Then, pops, Values, said, Now, numbers, turns_between, each_turn, first_value, first_pops, does, do_all, do_optional, Optional, Unwritten, Written}
+use Rattle.streamit_model.specs.Elaborate.{Fault, Limit, BranchRates, PeekRange, on_ok, demand, Known, Var, Turn, Scope, find, constant_of, constant, named, peeked, term_of, At, counted, has_slot, is_new, slot_of, bound_of, first_term, first_popped, joined, one_step, Read, declared, after_arms, unrolled, step_of, steps_of, optional_of}
 
 -- ANSWERS
 
@@ -411,27 +411,27 @@ at_arm t s = record s { popped = s.popped + pops t; size = s.size + 1 }
 unfoldable pub at_second : Spoken → At → At → At
 at_second t s p = record s { popped = s.popped + pops t; slots = p.slots; size = p.size }
 
-pub record Forked (e : ℕ) (t : Spoken) (a b : Block) (s : At) (y : Steps × At) : Type 0 where
+pub record Forked (e : ℕ) (t : Spoken) (a : Block) (b : Optional) (s : At) (y : Steps × At) : Type 0 where
   pub room : s.size < 16384
   pub test : Term
   pub one : Steps × At
   pub two : Steps × At
   pub test_is : term_of e s.scope t s.popped ≡ Ok test
   pub one_is : steps_of e a (at_arm t s) ≡ Ok one
-  pub two_is : steps_of e b (at_second t s one.1) ≡ Ok two
+  pub two_is : optional_of e b (at_second t s one.1) ≡ Ok two
   pub popped : one.1.popped ≡ two.1.popped
   pub pushed : one.1.pushed ≡ two.1.pushed
   pub is : y ≡ (one_step (steps.If test one.0 two.0), left s two.1)
 
 -- of an `if`
-pub forked_parts : (e : ℕ) (t : Spoken) (a b : Block) (s : At) (y : Steps × At) → step_of e (If t a b) s ≡ Ok y → Forked e t a b s y
+pub forked_parts : (e : ℕ) (t : Spoken) (a : Block) (b : Optional) (s : At) (y : Steps × At) → step_of e (If t a b) s ≡ Ok y → Forked e t a b s y
 unfolding one_more left at_arm at_second
 forked_parts e t a b s y h =
-    let after = λ (s : At) (c : Term). on_ok (steps_of e a (record s { popped = s.popped + pops t })) (λ p. on_ok (steps_of e b (record s { popped = s.popped + pops t; slots = p.1.slots; size = p.1.size })) (after_arms s c p)) in
+    let after = λ (s : At) (c : Term). on_ok (steps_of e a (record s { popped = s.popped + pops t })) (λ p. on_ok (optional_of e b (record s { popped = s.popped + pops t; slots = p.1.slots; size = p.1.size })) (after_arms s c p)) in
     let c = counted_on s (λ s. on_ok (term_of e s.scope t s.popped) (after s)) y h in
     let q = ok_parts (term_of e s.scope t s.popped) (after (one_more s)) y c in
-    let p = ok_parts (steps_of e a (at_arm t s)) (λ p. on_ok (steps_of e b (at_second t s p.1)) (after_arms (one_more s) q.0 p)) y q.2 in
-    let r = ok_parts (steps_of e b (at_second t s p.0.1)) (after_arms (one_more s) q.0 p.0) y p.2 in
+    let p = ok_parts (steps_of e a (at_arm t s)) (λ p. on_ok (optional_of e b (at_second t s p.1)) (after_arms (one_more s) q.0 p)) y q.2 in
+    let r = ok_parts (optional_of e b (at_second t s p.0.1)) (after_arms (one_more s) q.0 p.0) y p.2 in
     let i = if_ok (nat_eq p.0.1.popped r.0.1.popped && nat_eq p.0.1.pushed r.0.1.pushed) (one_step (steps.If q.0 p.0.0 r.0.0), left s r.0.1) y BranchRates r.2 in
     let z = and_parts (nat_eq p.0.1.popped r.0.1.popped) (nat_eq p.0.1.pushed r.0.1.pushed) i.0 in
     record { room = counted_room s (λ s. on_ok (term_of e s.scope t s.popped) (after s)) y h; test = q.0; one = p.0; two = r.0; test_is = q.1; one_is = p.1; two_is = r.1; popped = same_by p.0.1.popped r.0.1.popped z.0; pushed = same_by p.0.1.pushed r.0.1.pushed z.1; is = sym i.1 }
@@ -501,7 +501,7 @@ mutual
   step_grows e (If t a b) s y h =
       let p = forked_parts e t a b s y h in
       let g = (steps_grow e a (at_arm t s) p.one p.one_is).slots in
-      let k = (steps_grow e b (at_second t s p.one.1) p.two p.two_is).slots in
+      let k = (optional_grows e b (at_second t s p.one.1) p.two p.two_is).slots in
       subst (λ r. Grows s r.1) (sym p.is) (grows_left s p.two.1 (omega (arith, g, k)))
   step_grows e (For n low upto high b) s y h =
       let p = looped_parts e n low upto high b s y h in
@@ -512,6 +512,10 @@ mutual
   steps_grow e (Then c b) s y h =
       let p = followed_parts e c b s y h in
       subst (λ r. Grows s r.1) (sym p.is) (grows_trans s p.first.1 p.others.1 (step_grows e c s p.first p.first_is) (steps_grow e b p.first.1 p.others p.others_is))
+
+  pub optional_grows : (e : ℕ) (b : Optional) → Grown (optional_of e b)
+  optional_grows e Unwritten s y h = subst (λ r. Grows s r.1) (ok_is (Done, s) y h) (grows_same s s refl refl)
+  optional_grows e (Written b) s y h = steps_grow e b s y h
 
 -- WHAT IS DONE
 
@@ -641,22 +645,22 @@ mutual
   step_met e xs (If t a b) s y mem now h ok ag q le =
       let p = forked_parts e t a b s y h in
       let ga = steps_grow e a (at_arm t s) p.one p.one_is in
-      let gb = steps_grow e b (at_second t s p.one.1) p.two p.two_is in
+      let gb = optional_grows e b (at_second t s p.one.1) p.two p.two_is in
       let la = ga.slots in
       let lb = gb.slots in
       let le' : p.two.1.slots ≤ length mem = subst (λ (r : Steps × At). r.1.slots ≤ length mem) p.is le in
       let on = record now { popped = now.popped + pops t } in
       let q' = ap (λ k. k + pops t) q in
       let da = steps_met e xs a (at_arm t s) p.one mem on p.one_is ok ag q' (omega (arith, le', lb)) in
-      let db = steps_met e xs b (at_second t s p.one.1) p.two mem on p.two_is (more_slots s.scope s.slots p.one.1.slots la ok) ag q' le' in
+      let db = optional_met e xs b (at_second t s p.one.1) p.two mem on p.two_is (more_slots s.scope s.slots p.one.1.slots la ok) ag q' le' in
       let out = left s p.two.1 in
       let one : DoesBy (ran p.one.0 xs mem) out now (do_all a xs on) = record { pushed = da.pushed; popped = da.popped ∙ p.popped; agrees = agrees_within s.scope p.one.1.scope (do_all a xs on).values (ran p.one.0 xs mem).slots ga.keeps da.agrees } in
-      let two : DoesBy (ran p.two.0 xs mem) out now (do_all b xs on) = record { pushed = db.pushed; popped = db.popped; agrees = agrees_within s.scope p.two.1.scope (do_all b xs on).values (ran p.two.0 xs mem).slots gb.keeps db.agrees } in
+      let two : DoesBy (ran p.two.0 xs mem) out now (do_optional b xs on) = record { pushed = db.pushed; popped = db.popped; agrees = agrees_within s.scope p.two.1.scope (do_optional b xs on).values (ran p.two.0 xs mem).slots gb.keeps db.agrees } in
       let same = ap (said t xs now.values) q ∙ term_is e s.scope t xs now.values mem s.popped p.test ag p.test_is in
       subst (λ (r : Steps × At). DoesBy (ran r.0 xs mem) r.1 now (does (If t a b) xs now)) (sym p.is)
       (does_one (steps.If p.test p.one.0 p.two.0) xs mem out now (does (If t a b) xs now)
-      (subst (λ z. DoesBy (ran_once (steps.If p.test p.one.0 p.two.0) xs mem) out now (if is_true z then do_all a xs on else do_all b xs on)) (sym same)
-      (does_arm (is_true (val p.test xs mem)) (ran p.one.0 xs mem) (ran p.two.0 xs mem) out now (do_all a xs on) (do_all b xs on) one two)))
+      (subst (λ z. DoesBy (ran_once (steps.If p.test p.one.0 p.two.0) xs mem) out now (if is_true z then do_all a xs on else do_optional b xs on)) (sym same)
+      (does_arm (is_true (val p.test xs mem)) (ran p.one.0 xs mem) (ran p.two.0 xs mem) out now (do_all a xs on) (do_optional b xs on) one two)))
   step_met e xs (For n low upto high b) s y mem now h ok a q le =
       let p = looped_parts e n low upto high b s y h in
       let l = constant_is s.scope low xs now.values mem now.popped p.first a p.first_is in
@@ -678,3 +682,8 @@ mutual
       let len = ran_length p.first.0 xs mem in
       let rest = steps_met e xs b p.first.1 p.others (ran p.first.0 xs mem).slots (does c xs now) p.others_is (gf.sound ok) one.agrees one.popped (omega (arith, le', len)) in
       subst (λ (r : Steps × At). DoesBy (ran r.0 xs mem) r.1 now (do_all b xs (does c xs now))) (sym p.is) (does_both p.first.0 p.others.0 xs mem p.first.1 p.others.1 now (does c xs now) (do_all b xs (does c xs now)) one rest)
+
+  pub optional_met : (e : ℕ) (xs : List ℤ) (b : Optional) → Met xs (optional_of e b) (do_optional b xs)
+  optional_met e xs Unwritten s y mem now h ok a q le =
+      subst (λ (r : Steps × At). DoesBy (ran r.0 xs mem) r.1 now now) (ok_is (Done, s) y h) (record { pushed = sym (append-nil now.pushed); popped = q; agrees = a })
+  optional_met e xs (Written b) s y mem now h ok a q le = steps_met e xs b s y mem now h ok a q le

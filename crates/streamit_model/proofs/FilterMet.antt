@@ -1,5 +1,5 @@
 -- A filter of a plan gives what the filter as it is written gives.
-use Rattle.std.proofs.Common.{◌≡◌, ℕ, zero, suc, ℤ, pos, ◌+◌, ◌-◌, ◌*◌, ◌<◌, ◌≤◌, true, List, [], ◌∷◌, ◌++◌, length, map, take, drop, replicate, None, Ok, refl, sym, ap, ◌∙◌, subst, arith, nat_le, nat_eq, ⊎_elim, length-append}
+use Rattle.std.proofs.Common.{◌≡◌, ℕ, zero, suc, ℤ, pos, ◌+◌, ◌-◌, ◌*◌, ◌<◌, ◌≤◌, true, List, [], ◌∷◌, ◌++◌, length, map, take, drop, replicate, None, Ok, refl, sym, ap, ◌∙◌, subst, arith, nat_le, nat_eq, ⊎_elim, length-append, Option, Some}
 use Rattle.std.specs.Prelude.{if◌then◌else◌, ◌&&◌, slice_index_or, nat_lt}
 use Rattle.std.proofs.lemmas.Bool.{and_parts}
 use Rattle.std.proofs.lemmas.List.{length-replicate}
@@ -12,9 +12,9 @@ use Rattle.kern_rows.proofs.Lengths.{ran_length, run_kept_length}
 use Rattle.river_plan.specs.Forms.{Name}
 use Rattle.river_plan.proofs.NameLemmas.{cases_name, name_same}
 use Rattle.brooklet_model.specs.Machine.{at_name}
-use Rattle.streamit_model.specs.Source.{Block, Values, do_all}
-use Rattle.streamit_model.specs.Elaborate.{Rates, Limit, on_ok, demand, Var, Scope, find, is_new, has_slot, At, steps_of}
-use Rattle.streamit_model.specs.FilterSource.{FilterTree, nought, with_fields, at_start, initial, fires, fires_from, pushed_by, read_field, read_fields, nothing_read, starts_of, form_of, rates_of, kept_rates, elaborated}
+use Rattle.streamit_model.specs.Source.{Block, Values, do_all, End, Now, do_optional, Optional, Unwritten, Written}
+use Rattle.streamit_model.specs.Elaborate.{Rates, Limit, on_ok, demand, Var, Scope, find, is_new, has_slot, At, steps_of, optional_of}
+use Rattle.streamit_model.specs.FilterSource.{FilterTree, push_of, pop_of, peek_of, nought, with_fields, at_start, initial, fires, fires_from, pushed_by, read_field, read_fields, nothing_read, starts_of, form_of, rates_of, kept_rates, elaborated}
 use Rattle.streamit_model.specs.Filters.{firings_from, filtered}
 use Rattle.streamit_model.proofs.Elaborated.{fine, ok_parts, ok_is, demanded, new_is, some_is, found_here, found_other, at_here, at_other, Holds, Agrees, IsSound, Keeps, keeps_new, sound_var, steps_grow, steps_met}
 
@@ -120,11 +120,11 @@ no_scope env mem = record { each = λ n b f. absurd (cc f) }
 pub sound_nothing : IsSound [] 0
 sound_nothing = record { below = λ n i f. absurd (cc f); apart = λ n m i f g. absurd (cc f) }
 
-pub record RunMet (fs : List Name) (b : Block) (e : ℕ) (y : Steps × At) (kept xs : List ℤ) : Type 0 where
-  pub pushed : (do_all b xs (at_start fs kept)).pushed ≡ first_values (ran y.0 xs (slots_from y.1.slots kept)).pushes
-  pub fields : map (do_all b xs (at_start fs kept)).values fs ≡ take (length kept) (ran y.0 xs (slots_from y.1.slots kept)).slots
+pub record RunMet (fs : List Name) (run : List ℤ → Now → Now) (y : Steps × At) (kept xs : List ℤ) : Type 0 where
+  pub pushed : (run xs (at_start fs kept)).pushed ≡ first_values (ran y.0 xs (slots_from y.1.slots kept)).pushes
+  pub fields : map (run xs (at_start fs kept)).values fs ≡ take (length kept) (ran y.0 xs (slots_from y.1.slots kept)).slots
 
-run_met : (fs : List Name) (b : Block) (e : ℕ) (s : At) (y : Steps × At) (kept xs : List ℤ) → read_fields fs nothing_read ≡ Ok s → steps_of e b s ≡ Ok y → length kept ≡ length fs → RunMet fs b e y kept xs
+run_met : (fs : List Name) (b : Block) (e : ℕ) (s : At) (y : Steps × At) (kept xs : List ℤ) → read_fields fs nothing_read ≡ Ok s → steps_of e b s ≡ Ok y → length kept ≡ length fs → RunMet fs (do_all b) y kept xs
 run_met fs b e s y kept xs hf hb len =
     let r = fields_read fs nothing_read s hf in
     let g = steps_grow e b s y hb in
@@ -142,30 +142,39 @@ run_met fs b e s y kept xs hf hb len =
       fields = fields_kept fs nothing_read s y.1.scope (do_all b xs (at_start fs kept)).values (ran y.0 xs mem).slots hf g.keeps d.agrees (omega (arith, l, m, a2, a3)) ∙ ap (λ k. take k (ran y.0 xs mem).slots) (sym len);
     }
 
+run_optional : (fs : List Name) (b : Optional) (e : ℕ) (s : At) (y : Steps × At) (kept xs : List ℤ) → read_fields fs nothing_read ≡ Ok s
+    → optional_of e b s ≡ Ok y → length kept ≡ length fs → RunMet fs (do_optional b) y kept xs
+run_optional fs Unwritten e s y kept xs hf hb len =
+    let r = run_met fs End e s y kept xs hf hb len in
+    record { pushed = r.pushed; fields = r.fields }
+run_optional fs (Written b) e s y kept xs hf hb len =
+    let r = run_met fs b e s y kept xs hf hb len in
+    record { pushed = r.pushed; fields = r.fields }
+
 -- ALL FIRINGS
 
 -- the rates that are accepted
 pub record AreRates (t : FilterTree) : Type 0 where
-  pub push : t.push ≤ 65536
-  pub pop : t.pop ≤ 65536
-  pub peek : t.peek ≤ 65536
-  pub pops : 1 ≤ t.pop
-  pub peeks : t.pop ≤ t.peek
+  pub push : (push_of t) ≤ 65536
+  pub pop : (pop_of t) ≤ 65536
+  pub peek : (peek_of t) ≤ 65536
+  pub pops : 1 ≤ (pop_of t)
+  pub peeks : (pop_of t) ≤ (peek_of t)
 
-rates_are : (t : FilterTree) (u : Unit {0}) → rates_of t.push t.pop t.peek ≡ Ok u → AreRates t
+rates_are : (t : FilterTree) (u : Unit {0}) → rates_of (push_of t) (pop_of t) (peek_of t) ≡ Ok u → AreRates t
 rates_are t u h =
-    let small = nat_le t.push 65536 && (nat_le t.pop 65536 && nat_le t.peek 65536) in
-    let f1 = λ (v : Unit {0}). demand (nat_le t.pop t.peek) (Rates t.peek t.pop) in
-    let p = ok_parts (demand small Limit) (λ u. on_ok (demand (nat_le 1 t.pop) Limit) f1) u h in
-    let q = ok_parts (demand (nat_le 1 t.pop) Limit) f1 u p.2 in
-    let a = and_parts (nat_le t.push 65536) (nat_le t.pop 65536 && nat_le t.peek 65536) (demanded small Limit p.0 p.1) in
-    let b = and_parts (nat_le t.pop 65536) (nat_le t.peek 65536) a.1 in
+    let small = nat_le (push_of t) 65536 && (nat_le (pop_of t) 65536 && nat_le (peek_of t) 65536) in
+    let f1 = λ (v : Unit {0}). demand (nat_le (pop_of t) (peek_of t)) (Rates (peek_of t) (pop_of t)) in
+    let p = ok_parts (demand small Limit) (λ u. on_ok (demand (nat_le 1 (pop_of t)) Limit) f1) u h in
+    let q = ok_parts (demand (nat_le 1 (pop_of t)) Limit) f1 u p.2 in
+    let a = and_parts (nat_le (push_of t) 65536) (nat_le (pop_of t) 65536 && nat_le (peek_of t) 65536) (demanded small Limit p.0 p.1) in
+    let b = and_parts (nat_le (pop_of t) 65536) (nat_le (peek_of t) 65536) a.1 in
     record {
-      push = le_by t.push 65536 a.0;
-      pop = le_by t.pop 65536 b.0;
-      peek = le_by t.peek 65536 b.1;
-      pops = le_by 1 t.pop (demanded (nat_le 1 t.pop) Limit q.0 q.1);
-      peeks = le_by t.pop t.peek (demanded (nat_le t.pop t.peek) (Rates t.peek t.pop) u q.2);
+      push = le_by (push_of t) 65536 a.0;
+      pop = le_by (pop_of t) 65536 b.0;
+      peek = le_by (peek_of t) 65536 b.1;
+      pops = le_by 1 (pop_of t) (demanded (nat_le 1 (pop_of t)) Limit q.0 q.1);
+      peeks = le_by (pop_of t) (peek_of t) (demanded (nat_le (pop_of t) (peek_of t)) (Rates (peek_of t) (pop_of t)) u q.2);
     }
   where
     le_by : (m n : ℕ) → nat_le m n ≡ true → m ≤ n
@@ -176,25 +185,25 @@ pub record Elaborated (t : FilterTree) (f : FilterForm) : Type 0 where
   pub init : Steps × At
   pub work : Steps × At
   pub fields_are : read_fields t.fields nothing_read ≡ Ok fields
-  pub init_is : steps_of 0 t.init fields ≡ Ok init
-  pub work_is : steps_of t.peek t.work fields ≡ Ok work
+  pub init_is : optional_of 0 t.init fields ≡ Ok init
+  pub work_is : steps_of (peek_of t) t.work fields ≡ Ok work
   pub rates : AreRates t
-  pub popped : work.1.popped ≡ t.pop
-  pub pushed : work.1.pushed ≡ t.push
+  pub popped : work.1.popped ≡ (pop_of t)
+  pub pushed : work.1.pushed ≡ (push_of t)
   pub is : form_of t init work ≡ f
 
 pub elaborated_parts : (t : FilterTree) (f : FilterForm) → elaborated t ≡ Ok f → Elaborated t f
 elaborated_parts t f h =
-    let f4 = λ (i w : Steps × At). on_ok (kept_rates t.push t.pop w.1) (λ v. fine (form_of t i w)) in
-    let f3 = λ (s : At) (i : Steps × At) (u : Unit {0}). on_ok (steps_of t.peek t.work s) (f4 i) in
-    let f2 = λ (s : At) (i : Steps × At). on_ok (rates_of t.push t.pop t.peek) (f3 s i) in
-    let f1 = λ (s : At). on_ok (steps_of 0 t.init s) (f2 s) in
+    let f4 = λ (i w : Steps × At). on_ok (kept_rates (push_of t) (pop_of t) w.1) (λ v. fine (form_of t i w)) in
+    let f3 = λ (s : At) (i : Steps × At) (u : Unit {0}). on_ok (steps_of (peek_of t) t.work s) (f4 i) in
+    let f2 = λ (s : At) (i : Steps × At). on_ok (rates_of (push_of t) (pop_of t) (peek_of t)) (f3 s i) in
+    let f1 = λ (s : At). on_ok (optional_of 0 t.init s) (f2 s) in
     let p = ok_parts (read_fields t.fields nothing_read) f1 f h in
-    let q = ok_parts (steps_of 0 t.init p.0) (f2 p.0) f p.2 in
-    let r = ok_parts (rates_of t.push t.pop t.peek) (f3 p.0 q.0) f q.2 in
-    let w = ok_parts (steps_of t.peek t.work p.0) (f4 q.0) f r.2 in
-    let k = ok_parts (kept_rates t.push t.pop w.0.1) (λ v. fine (form_of t q.0 w.0)) f w.2 in
-    let m = ok_parts (demand (nat_eq w.0.1.popped t.pop) (Rates t.pop w.0.1.popped)) (λ u. demand (nat_eq w.0.1.pushed t.push) (Rates t.push w.0.1.pushed)) k.0 k.1 in
+    let q = ok_parts (optional_of 0 t.init p.0) (f2 p.0) f p.2 in
+    let r = ok_parts (rates_of (push_of t) (pop_of t) (peek_of t)) (f3 p.0 q.0) f q.2 in
+    let w = ok_parts (steps_of (peek_of t) t.work p.0) (f4 q.0) f r.2 in
+    let k = ok_parts (kept_rates (push_of t) (pop_of t) w.0.1) (λ v. fine (form_of t q.0 w.0)) f w.2 in
+    let m = ok_parts (demand (nat_eq w.0.1.popped (pop_of t)) (Rates (pop_of t) w.0.1.popped)) (λ u. demand (nat_eq w.0.1.pushed (push_of t)) (Rates (push_of t) w.0.1.pushed)) k.0 k.1 in
     record {
       fields = p.0;
       init = q.0;
@@ -203,35 +212,35 @@ elaborated_parts t f h =
       init_is = q.1;
       work_is = w.1;
       rates = rates_are t r.0 r.1;
-      popped = same_by w.0.1.popped t.pop (demanded (nat_eq w.0.1.popped t.pop) (Rates t.pop w.0.1.popped) m.0 m.1);
-      pushed = same_by w.0.1.pushed t.push (demanded (nat_eq w.0.1.pushed t.push) (Rates t.push w.0.1.pushed) k.0 m.2);
+      popped = same_by w.0.1.popped (pop_of t) (demanded (nat_eq w.0.1.popped (pop_of t)) (Rates (pop_of t) w.0.1.popped) m.0 m.1);
+      pushed = same_by w.0.1.pushed (push_of t) (demanded (nat_eq w.0.1.pushed (push_of t)) (Rates (push_of t) w.0.1.pushed) k.0 m.2);
       is = ok_is (form_of t q.0 w.0) f k.2;
     }
   where
     same_by : (m n : ℕ) → nat_eq m n ≡ true → m ≡ n
     same_by m n h = grind (arith, h)
 
-module _ (t : FilterTree) (s : At) (i w : Steps × At) (hf : read_fields t.fields nothing_read ≡ Ok s) (hw : steps_of t.peek t.work s ≡ Ok w) where
+module _ (t : FilterTree) (s : At) (i w : Steps × At) (hf : read_fields t.fields nothing_read ≡ Ok s) (hw : steps_of (peek_of t) t.work s ≡ Ok w) where
   firings_met : (n j : ℕ) (kept xs : List ℤ) → length kept ≡ length t.fields → fires_from t n j kept xs ≡ firings_from (form_of t i w) n j kept xs
   firings_met zero j kept xs len = refl
   firings_met (suc n) j kept xs len =
       let f = form_of t i w in
-      let input = take t.peek (drop (j * t.pop) xs) in
+      let input = take (peek_of t) (drop (j * (pop_of t)) xs) in
       let r = run_kept f.body kept input in
-      let m = run_met t.fields t.work t.peek s w kept input hf hw len in
+      let m = run_met t.fields t.work (peek_of t) s w kept input hf hw len in
       let after : map (fires t j kept xs).values t.fields ≡ r.slots = m.fields in
       let both : (fires t j kept xs).pushed ++ fires_from t n (suc j) (map (fires t j kept xs).values t.fields) xs ≡ first_values r.pushes ++ firings_from f n (suc j) r.slots xs =
       ap (λ l. l ++ fires_from t n (suc j) (map (fires t j kept xs).values t.fields) xs) m.pushed
       ∙ ap (λ k. first_values r.pushes ++ fires_from t n (suc j) k xs) after
       ∙ ap (λ l. first_values r.pushes ++ l) (firings_met n (suc j) r.slots xs (run_kept_length f.body kept input ∙ len)) in
-      ap (λ l. if nat_le (j * t.pop + t.peek) (length xs) then l else []) both
+      ap (λ l. if nat_le (j * (pop_of t) + (peek_of t)) (length xs) then l else []) both
 
 pub filter_met : (t : FilterTree) (f : FilterForm) (xs : List ℤ) → elaborated t ≡ Ok f → pushed_by t xs ≡ filtered f xs
 filter_met t f xs h =
     let e = elaborated_parts t f h in
     let zeros = replicate (length t.fields) (pos 0) in
     let len = length-replicate (length t.fields) (pos 0) in
-    let start : initial t ≡ starts_of (length t.fields) e.init = (run_met t.fields t.init 0 e.fields e.init zeros [] e.fields_are e.init_is len).fields in
+    let start : initial t ≡ starts_of (length t.fields) e.init = (run_optional t.fields t.init 0 e.fields e.init zeros [] e.fields_are e.init_is len).fields in
     let kept = run_kept_length (record { inputs = 0; slots = e.init.1.slots; steps = e.init.0 }) zeros [] in
     subst (λ g. pushed_by t xs ≡ filtered g xs) e.is
     (ap (λ k. fires_from t (length xs) 0 k xs) start ∙ firings_met t e.fields e.init e.work e.fields_are e.work_is (length xs) 0 (starts_of (length t.fields) e.init) xs (kept ∙ len))

@@ -15,15 +15,15 @@ use Rattle.river_plan.specs.Forms.{Name}
 use Rattle.text_forms.specs.Tree.{Spoken}
 use Rattle.text_forms.specs.Tree as tree
 use Rattle.streamit_model.specs.Stream.{IsSmallFilter}
-use Rattle.streamit_model.specs.Source.{Statement, Declare, Assign, Push, Pop, If, For, Block, End, Then, pops, turns_between}
-use Rattle.streamit_model.specs.Shallow.{IsLowFirst, IsShallow, AreShallow, IsItemlessFirst, KeepsItems, KeepAll}
-use Rattle.streamit_model.specs.Elaborate.{Limit, PeekRange, on_ok, Known, Var, Turn, Scope, find, constant, named, peeked, term_of, At, first_term, first_popped, joined, one_step, Read, unrolled, step_of, steps_of}
+use Rattle.streamit_model.specs.Source.{Statement, Declare, Assign, Push, Pop, If, For, Block, End, Then, pops, turns_between, Optional, Unwritten, Written}
+use Rattle.streamit_model.specs.Shallow.{IsLowFirst, IsShallow, AreShallow, IsItemlessFirst, KeepsItems, KeepAll, AreShallowOptional, KeepAllOptional}
+use Rattle.streamit_model.specs.Elaborate.{Limit, PeekRange, on_ok, Known, Var, Turn, Scope, find, constant, named, peeked, term_of, At, first_term, first_popped, joined, one_step, Read, unrolled, step_of, steps_of, optional_of}
 use Rattle.std.proofs.lemmas.List.{length-replicate}
 use Rattle.std.proofs.Math.Nat.{le_refl}
-use Rattle.streamit_model.specs.FilterSource.{FilterTree, elaborated, read_fields, nothing_read, starts_of}
+use Rattle.streamit_model.specs.FilterSource.{FilterTree, push_of, pop_of, peek_of, elaborated, read_fields, nothing_read, starts_of}
 use Rattle.river_kernels.proofs.WellFormed.{steps_within}
 use Rattle.streamit_model.proofs.FilterMet.{fields_few, elaborated_parts, fields_read, sound_nothing}
-use Rattle.streamit_model.proofs.Elaborated.{ok_is, ok_parts, if_ok, IsSound, more_slots, Grown, left, at_arm, at_second, turning, grows_turn, unrolled_grows, step_grows, steps_grow, turned, declared_parts, assigned_parts, pushed_parts, forked_parts, looped_parts, followed_parts}
+use Rattle.streamit_model.proofs.Elaborated.{ok_is, ok_parts, if_ok, IsSound, more_slots, Grown, left, at_arm, at_second, turning, grows_turn, unrolled_grows, step_grows, steps_grow, optional_grows, turned, declared_parts, assigned_parts, pushed_parts, forked_parts, looped_parts, followed_parts}
 
 -- EXPRESSIONS
 
@@ -172,7 +172,7 @@ mutual
   step_counts e (If t a b) s y h =
       let p = forked_parts e t a b s y h in let r = p.room in
       let f = steps_count e a (at_arm t s) p.one p.one_is in
-      let g = steps_count e b (at_second t s p.one.1) p.two p.two_is in
+      let g = optional_counts e b (at_second t s p.one.1) p.two p.two_is in
       let f1 = f.popped in let g1 = g.popped in let f2 = f.pushed in let g2 = g.pushed in let f3 = f.size in let g3 = g.size in let q = p.pushed in
       let m : f.more ≡ g.more = omega (arith, f2, g2, q) in
       subst (Counts s) (sym p.is) (one_counts s (left s p.two.1) (steps.If p.test p.one.0 p.two.0) g.more (omega (arith, g1))
@@ -190,6 +190,10 @@ mutual
   steps_count e (Then c b) s y h =
       let p = followed_parts e c b s y h in
       subst (Counts s) (sym p.is) (counts_both s p.first p.others (step_counts e c s p.first p.first_is) (steps_count e b p.first.1 p.others p.others_is))
+
+  optional_counts : (e : ℕ) (b : Optional) → Counted (optional_of e b)
+  optional_counts e Unwritten s y h = subst (Counts s) (ok_is (Done, s) y h) (counts_done s s (omega arith) refl refl refl)
+  optional_counts e (Written b) s y h = steps_count e b s y h
 
 -- STATEMENTS, WELL FORMED
 
@@ -258,14 +262,14 @@ mutual
   step_formed p m e (If t a b) le low s y h ok pp sl =
       let q = forked_parts e t a b s y h in
       let ga = (steps_grow e a (at_arm t s) q.one q.one_is).slots in
-      let gb = (steps_grow e b (at_second t s q.one.1) q.two q.two_is).slots in
+      let gb = (optional_grows e b (at_second t s q.one.1) q.two q.two_is).slots in
       let ka = (steps_count e a (at_arm t s) q.one q.one_is).popped in
       let pp' : q.two.1.popped ≤ p = subst (λ (r : Steps × At). r.1.popped ≤ p) q.is pp in
       let sl' : q.two.1.slots ≤ m = subst (λ (r : Steps × At). r.1.slots ≤ m) q.is sl in
       let same = q.popped in
       let u = is_one p m (tree.depth_of t) q.test low.0 (term_fits p m e s.scope t s.popped q.test le (omega (arith, pp', same, ka)) (below_of s m ok (omega (arith, sl', ga, gb))) q.test_is) in
       let x = steps_formed p m e a le low.1 (at_arm t s) q.one q.one_is ok (omega (arith, pp', same)) (omega (arith, sl', gb)) in
-      let z = steps_formed p m e b le low.2 (at_second t s q.one.1) q.two q.two_is (more_slots s.scope s.slots q.one.1.slots ga ok) pp' sl' in
+      let z = optional_formed p m e b le low.2 (at_second t s q.one.1) q.two q.two_is (more_slots s.scope s.slots q.one.1.slots ga ok) pp' sl' in
       subst (λ (r : Steps × At). is_steps p m one_port r.0 ≡ true) (sym q.is)
       (one_formed p m (steps.If q.test q.one.0 q.two.0)
       (both_true (is_term p m q.test) (is_steps p m one_port q.one.0 && is_steps p m one_port q.two.0) u (both_true (is_steps p m one_port q.one.0) (is_steps p m one_port q.two.0) x z)))
@@ -285,6 +289,10 @@ mutual
       let x = step_formed p m e c le low.0 s q.first q.first_is ok (omega (arith, pp', ko)) (omega (arith, sl', go)) in
       let z = steps_formed p m e b le low.1 q.first.1 q.others q.others_is (gf.sound ok) pp' sl' in
       subst (λ (r : Steps × At). is_steps p m one_port r.0 ≡ true) (sym q.is) (steps_joined p m q.first.0 q.others.0 x z)
+
+  optional_formed : (p m e : ℕ) (b : Optional) → e ≤ p → AreShallowOptional b → Formed p m (optional_of e b)
+  optional_formed p m e Unwritten le low s y h ok pp sl = subst (λ (r : Steps × At). is_steps p m one_port r.0 ≡ true) (ok_is (Done, s) y h) refl
+  optional_formed p m e (Written b) le low s y h ok pp sl = steps_formed p m e b le low s y h ok pp sl
 
 -- WHERE NOTHING IS POPPED
 
@@ -315,7 +323,7 @@ mutual
   step_same e (If t a b) k s y h =
       let p = forked_parts e t a b s y h in
       let z = k.0 in
-      ap (λ r. r.1.popped) p.is ∙ steps_same e b k.2 (at_second t s p.one.1) p.two p.two_is ∙ omega (arith, z)
+      ap (λ r. r.1.popped) p.is ∙ optional_same e b k.2 (at_second t s p.one.1) p.two p.two_is ∙ omega (arith, z)
   step_same e (For n low upto high b) k s y h =
       let p = looped_parts e n low upto high b s y h in
       unrolled_same (steps_of e b) (steps_same e b k) n (turns_between p.first upto p.last) s y p.is
@@ -326,15 +334,19 @@ mutual
       let p = followed_parts e c b s y h in
       ap (λ r. r.1.popped) p.is ∙ steps_same e b k.1 p.first.1 p.others p.others_is ∙ step_same e c k.0 s p.first p.first_is
 
+  optional_same : (e : ℕ) (b : Optional) → KeepAllOptional b → Same (optional_of e b)
+  optional_same e Unwritten k s y h = ap (λ r. r.1.popped) (sym (ok_is (Done, s) y h))
+  optional_same e (Written b) k s y h = steps_same e b k s y h
+
 -- what is read of `init` runs on the fields alone
-pub init_runs : (fs : List Name) (b : Block) (s : At) (y : Steps × At) → read_fields fs nothing_read ≡ Ok s → AreShallow b → KeepAll b → steps_of 0 b s ≡ Ok y → CanRun 0 (record { inputs = 0; slots = y.1.slots; steps = y.0 }) (length fs)
+pub init_runs : (fs : List Name) (b : Optional) (s : At) (y : Steps × At) → read_fields fs nothing_read ≡ Ok s → AreShallowOptional b → KeepAllOptional b → optional_of 0 b s ≡ Ok y → CanRun 0 (record { inputs = 0; slots = y.1.slots; steps = y.0 }) (length fs)
 init_runs fs b s y hf low k h =
     let r = fields_read fs nothing_read s hf in
-    let g = (steps_grow 0 b s y h).slots in
+    let g = (optional_grows 0 b s y h).slots in
     let rs = r.slots in
-    let p = steps_same 0 b k s y h in
+    let p = optional_same 0 b k s y h in
     let rp = r.popped in
-    let formed = steps_formed 0 y.1.slots 0 b (omega arith) low s y h (r.sound sound_nothing) (omega (arith, p, rp)) (le_refl y.1.slots) in
+    let formed = optional_formed 0 y.1.slots 0 b (omega arith) low s y h (r.sound sound_nothing) (omega (arith, p, rp)) (le_refl y.1.slots) in
     record { within = steps_within 0 y.1.slots one_port y.0 refl formed; slots = omega (arith, g, rs) }
 
 -- THE FILTER
@@ -347,21 +359,21 @@ filter_formed t f low h =
     let w = e.work in
     let pp = e.popped in
     let peek = e.rates.peeks in
-    let formed = steps_formed t.peek w.1.slots t.peek t.work (le_refl t.peek) low e.fields w e.work_is ok (omega (arith, pp, peek)) (le_refl w.1.slots) in
-    let k = steps_count t.peek t.work e.fields w e.work_is in
+    let formed = steps_formed (peek_of t) w.1.slots (peek_of t) t.work (le_refl (peek_of t)) low e.fields w e.work_is ok (omega (arith, pp, peek)) (le_refl w.1.slots) in
+    let k = steps_count (peek_of t) t.work e.fields w e.work_is in
     let zero = r.pushed in
     let size0 = r.size in
     let kp = k.pushed in
     let ks = k.size in
     let small = k.small (omega (arith, size0)) in
     let epush = e.pushed in
-    let more : k.more ≡ t.push = omega (arith, kp, epush, zero) in
-    let g = (steps_grow t.peek t.work e.fields w e.work_is).slots in
+    let more : k.more ≡ (push_of t) = omega (arith, kp, epush, zero) in
+    let g = (steps_grow (peek_of t) t.work e.fields w e.work_is).slots in
     let rs = r.slots in
     let kept : length (starts_of (length t.fields) e.init) ≡ length t.fields = run_kept_length (record { inputs = 0; slots = e.init.1.slots; steps = e.init.0 }) (replicate (length t.fields) (pos 0)) [] ∙ length-replicate (length t.fields) (pos 0) in
     subst (λ (g : FilterForm). (is_filter g ≡ true) × IsSmallFilter g) e.is (
-      both_true _ _ (both_true _ _ (eq_true t.peek t.peek refl) (both_true _ _ (le_true 1 t.pop e.rates.pops) (le_true t.pop t.peek peek)))
-          (both_true _ _ formed (both_true _ _ (le_true (length (starts_of (length t.fields) e.init)) w.1.slots (omega (arith, kept, g, rs))) (ap (λ o. is_number o t.push) k.pushes ∙ eq_true k.more t.push more))),
+      both_true _ _ (both_true _ _ (eq_true (peek_of t) (peek_of t) refl) (both_true _ _ (le_true 1 (pop_of t) e.rates.pops) (le_true (pop_of t) (peek_of t) peek)))
+          (both_true _ _ formed (both_true _ _ (le_true (length (starts_of (length t.fields) e.init)) w.1.slots (omega (arith, kept, g, rs))) (ap (λ o. is_number o (push_of t)) k.pushes ∙ eq_true k.more (push_of t) more))),
       record {
         statements = omega (arith, ks, small);
         slots = k.few (fields_few t.fields nothing_read e.fields e.fields_are (omega arith));

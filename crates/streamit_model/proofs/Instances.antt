@@ -1,11 +1,11 @@
 -- The worked programs, computed from the definitions.
-use Rattle.std.proofs.Common.{◌≡◌, ℕ, pos, negsuc, true, false, [], ◌∷◌, None, Err, refl}
+use Rattle.std.proofs.Common.{◌≡◌, ℕ, pos, negsuc, true, false, [], ◌∷◌, None, Err, refl, Some}
 use Rattle.std.specs.Prelude.{codes}
 use Rattle.std.specs.Int.{int_wrap}
 use Rattle.work_code.specs.declared.expr.BinOp.TheVariants as op
 use Rattle.river_plan.specs.Forms.{Name}
 use Rattle.text_forms.specs.Tree.{Spoken, Number, Name as Named, Peek, Pop, Neg, Bin}
-use Rattle.streamit_model.specs.Source.{Statement, Block, End}
+use Rattle.streamit_model.specs.Source.{Statement, Block, End, Unwritten, Written}
 use Rattle.streamit_model.specs.Source as source
 use Rattle.streamit_model.specs.Elaborate.{UnknownName, Rates, PeekRange, NotConstant, BranchRates, Limit, Weights}
 use Rattle.streamit_model.specs.FilterSource.{FilterTree, pushed_by, elaborated}
@@ -20,7 +20,7 @@ n k = Number k
 
 -- sums of three in a row
 sum_tree : FilterTree
-sum_tree = record { fields = []; init = End; push = 1; pop = 1; peek = 3; work = then_do (source.Push (Bin op.Add (Bin op.Add (Peek (n 0)) (Peek (n 1))) (Peek (n 2)))) (then_do source.Pop End) }
+sum_tree = record { fields = []; init = Unwritten; push = Some 1; pop = Some 1; peek = Some 3; work = then_do (source.Push (Bin op.Add (Bin op.Add (Peek (n 0)) (Peek (n 1))) (Peek (n 2)))) (then_do source.Pop End) }
 
 sums : pushed_by sum_tree (pos 1 ∷ pos 2 ∷ pos 3 ∷ pos 4 ∷ []) ≡ pos 6 ∷ pos 9 ∷ []
 unfolding sum_tree int_wrap
@@ -32,10 +32,10 @@ sums_short = refl
 
 -- a split-join of two filters
 id_tree : FilterTree
-id_tree = record { fields = []; init = End; push = 1; pop = 1; peek = 1; work = then_do (source.Push Pop) End }
+id_tree = record { fields = []; init = Unwritten; push = Some 1; pop = Some 1; peek = Some 1; work = then_do (source.Push Pop) End }
 
 both : Program
-both = (record { name = codes "Id"; body = AFilter id_tree }) ∷ (record { name = codes "Both"; body = ASplitJoin (Turns (1 ∷ 2 ∷ [])) (record { first = codes "Id"; others = codes "Id" ∷ [] }) (1 ∷ 2 ∷ []) }) ∷ []
+both = (record { name = codes "Id"; body = AFilter id_tree }) ∷ (record { name = codes "Both"; body = ASplitJoin (Turns (Some (1 ∷ 2 ∷ []))) (record { first = codes "Id"; others = codes "Id" ∷ [] }) (Some (1 ∷ 2 ∷ [])) }) ∷ []
 
 both_means : program_outputs both (pos 1 ∷ pos 2 ∷ pos 3 ∷ pos 4 ∷ pos 5 ∷ []) ≡ pos 1 ∷ pos 2 ∷ pos 3 ∷ pos 4 ∷ pos 5 ∷ []
 unfolding both id_tree
@@ -45,10 +45,10 @@ both_means = refl
 ends_tree : FilterTree
 ends_tree = record {
   fields = [];
-  init = End;
-  push = 3;
-  pop = 1;
-  peek = 1;
+  init = Unwritten;
+  push = Some 3;
+  pop = Some 1;
+  peek = Some 1;
   work = then_do (source.Push (Bin op.Mul (n 2) (n 9223372036854775807)))
       (then_do (source.Push (Bin op.Quot (n 7) (n 0)))
       (then_do (source.Push (Bin op.Quot (Bin op.Sub (Neg (n 9223372036854775807)) (n 1)) (Neg Pop))) End));
@@ -73,10 +73,10 @@ i_name = codes "i"
 run_tree : FilterTree
 run_tree = record {
   fields = total_name ∷ [];
-  init = then_do (source.For i_name (n 0) false (n 4) (then_do (source.Assign total_name (Bin op.Add (Named total_name) (n 25))) End)) End;
-  push = 1;
-  pop = 2;
-  peek = 2;
+  init = Written (then_do (source.For i_name (n 0) false (n 4) (then_do (source.Assign total_name (Bin op.Add (Named total_name) (n 25))) End)) End);
+  push = Some 1;
+  pop = Some 2;
+  peek = None;
   work = then_do (source.Declare x_name None)
       (then_do (source.For i_name (n 0) true (n 1) (then_do (source.Assign x_name (Bin op.Add (Named x_name) (Bin op.Mul (Peek (Named i_name)) (Bin op.Add (Named i_name) (n 1))))) End))
       (then_do source.Pop (then_do source.Pop
@@ -90,7 +90,7 @@ run_means = refl
 -- REFUSALS
 
 abbrev of_work : ℕ → ℕ → ℕ → Block → FilterTree
-of_work u o e b = record { fields = []; init = End; push = u; pop = o; peek = e; work = b }
+of_work u o e b = record { fields = []; init = Unwritten; push = Some u; pop = Some o; peek = Some e; work = b }
 
 peek_range : elaborated (of_work 1 1 1 (then_do (source.Push (Peek (n 1))) (then_do source.Pop End))) ≡ Err (PeekRange (pos 1) 1)
 peek_range = refl
@@ -98,7 +98,7 @@ peek_range = refl
 not_constant : elaborated (of_work 1 1 1 (then_do (source.Push (Peek Pop)) End)) ≡ Err NotConstant
 not_constant = refl
 
-branch_rates : elaborated (of_work 1 1 1 (then_do (source.If (Peek (n 0)) (then_do (source.Push Pop) End) (then_do source.Pop End)) End)) ≡ Err BranchRates
+branch_rates : elaborated (of_work 1 1 1 (then_do (source.If (Peek (n 0)) (then_do (source.Push Pop) End) (Written (then_do source.Pop End))) End)) ≡ Err BranchRates
 branch_rates = refl
 
 unknown : elaborated (of_work 1 1 1 (then_do (source.Push (Named (codes "y"))) End)) ≡ Err UnknownName
@@ -123,6 +123,6 @@ unfolding i_name x_name
 loops_in_loops = refl
 
 -- three weights for two branches, in the second unit
-three_weights : judged ((record { name = codes "Id"; body = AFilter id_tree }) ∷ (record { name = codes "Both"; body = ASplitJoin (Turns (1 ∷ 2 ∷ 3 ∷ [])) (record { first = codes "Id"; others = codes "Id" ∷ [] }) [] }) ∷ []) ≡ Err (record { unit = 2; fault = Weights })
+three_weights : judged ((record { name = codes "Id"; body = AFilter id_tree }) ∷ (record { name = codes "Both"; body = ASplitJoin (Turns (Some (1 ∷ 2 ∷ 3 ∷ []))) (record { first = codes "Id"; others = codes "Id" ∷ [] }) None }) ∷ []) ≡ Err (record { unit = 2; fault = Weights })
 unfolding id_tree
 three_weights = refl

@@ -94,7 +94,7 @@ few_branches known i n (m ∷ ms) ss h =
     let r = few_branches known (suc i) m ms q.0 q.1 in
     subst (λ t. i + number_of t ≤ 64) (ok_is (Then p.0 q.0) ss q.2) (omega (arith, r))
 
-record Round (ws : List ℕ) (n : ℕ) (vs : List ℕ) : Type 0 where
+record Round (ws : Option (List ℕ)) (n : ℕ) (vs : List ℕ) : Type 0 where
   is : weights_for ws n ≡ vs
   round : IsRound vs n
   sum : cycle vs ≤ 65536
@@ -106,7 +106,7 @@ positive (w ∷ vs) h = let p = and_parts (nat_le 1 w) (list_all (λ w. nat_le 1
     above : (w : ℕ) → nat_le 1 w ≡ true → 0 < w
     above w e = grind (arith, e)
 
-round_parts : (ws : List ℕ) (n : ℕ) (vs : List ℕ) → round_of ws n ≡ Ok vs → Round ws n vs
+round_parts : (ws : Option (List ℕ)) (n : ℕ) (vs : List ℕ) → round_of ws n ≡ Ok vs → Round ws n vs
 round_parts ws n vs h =
     let us = weights_for ws n in
     let all = list_all (λ w. nat_le 1 w) us in

@@ -117,8 +117,8 @@ collects_longest ws (l ∷ ls) r =
     let same : collected ws items ≡ map as_item (collected ws all) = collected_map as_item ws all in
     let len : length (collected ws items) ≡ length (collected ws all) = ap length same ∙ length-map (collected ws all) as_item in (
       (λ x lt.
-        same_value (slice_get (collected ws all) x) (item_at ws all x)
-        (sym (got_map as_item (collected ws all) x) ∙ ap (λ c. slice_get c x) (sym same) ∙ long.0 x (omega (arith, lt, len)) ∙ item_map as_item ws all x)),
+          same_value (slice_get (collected ws all) x) (item_at ws all x)
+          (sym (got_map as_item (collected ws all) x) ∙ ap (λ c. slice_get c x) (sym same) ∙ long.0 x (omega (arith, lt, len)) ∙ item_map as_item ws all x)),
       same_value (item_at ws all (length (collected ws all))) None
-      (sym (item_map as_item ws all (length (collected ws all))) ∙ ap (item_at ws items) (sym len) ∙ long.1),
+          (sym (item_map as_item ws all (length (collected ws all))) ∙ ap (item_at ws items) (sym len) ∙ long.1),
     )

@@ -11,7 +11,7 @@ use Rattle.work_code.specs.Value.{applied, truth}
 use Rattle.river_plan.specs.Forms.{Name}
 use Rattle.text_forms.specs.Tree.{Spoken}
 use Rattle.text_forms.specs.Tree as tree
-use Rattle.streamit_model.specs.Source.{Statement, Declare, Assign, Push, Pop, If, For, Block, End, Then, pops, numbers}
+use Rattle.streamit_model.specs.Source.{Statement, Declare, Assign, Push, Pop, If, For, Block, End, Then, pops, numbers, Optional, Unwritten, Written}
 
 -- why a program is refused
 pub data Fault : Type 0 where
@@ -167,7 +167,7 @@ abbrev mutual
   step_of e (If t a b) s0 =
       on_ok (counted s0) (λ s. on_ok (term_of e s.scope t s.popped) (λ c.
       on_ok (steps_of e a (record s { popped = s.popped + pops t })) (λ p.
-      on_ok (steps_of e b (record s { popped = s.popped + pops t; slots = p.1.slots; size = p.1.size })) (after_arms s c p))))
+      on_ok (optional_of e b (record s { popped = s.popped + pops t; slots = p.1.slots; size = p.1.size })) (after_arms s c p))))
   step_of e (For n low upto high b) s =
       on_ok (is_new (find s.scope n)) (λ u.
       on_ok (constant s.scope low) (λ x. on_ok (bound_of x) (λ l.
@@ -177,3 +177,8 @@ abbrev mutual
   pub steps_of : ℕ → Block → At → Read
   steps_of e End s = Ok (Done, s)
   steps_of e (Then c b) s = on_ok (step_of e c s) (λ p. on_ok (steps_of e b p.1) (λ q. Ok (joined p.0 q.0, q.1)))
+
+  -- a block that is not written has no statements
+  pub optional_of : ℕ → Optional → At → Read
+  optional_of e Unwritten s = Ok (Done, s)
+  optional_of e (Written b) s = steps_of e b s

@@ -1,21 +1,36 @@
 -- A filter as it is written: what it means on a whole list, and the filter of its plan.
-use Rattle.std.specs.Prelude.{ℕ, zero, suc, ℤ, pos, ◌+◌, ◌*◌, ◌&&◌, List, [], ◌∷◌, ◌++◌, length, map, take, drop, replicate, Result, Ok, if◌then◌else◌, nat_le, nat_eq}
+use Rattle.std.specs.Prelude.{ℕ, zero, suc, ℤ, pos, ◌+◌, ◌*◌, ◌&&◌, List, [], ◌∷◌, ◌++◌, length, map, take, drop, replicate, Option, Some, None, Result, Ok, if◌then◌else◌, nat_le, nat_eq}
 use Rattle.work_code.specs.Steps.{Steps}
 use Rattle.kern_rows.specs.Runs.{run_kept}
 use Rattle.kern_rows.specs.Forms.{FilterForm}
 use Rattle.river_plan.specs.Forms.{Name}
 use Rattle.brooklet_model.specs.Machine.{at_name}
-use Rattle.streamit_model.specs.Source.{Block, Values, Now, do_all}
-use Rattle.streamit_model.specs.Elaborate.{Fault, Rates, Limit, on_ok, demand, Var, find, is_new, has_slot, At, steps_of}
+use Rattle.streamit_model.specs.Source.{Block, Values, Now, do_all, do_optional, Optional}
+use Rattle.streamit_model.specs.Elaborate.{Fault, Rates, Limit, on_ok, demand, Var, find, is_new, has_slot, At, steps_of, optional_of}
 
--- without `init`, that block is empty; without `peek`, that rate is the rate of `pop`
+-- `init` and the rates may be left out
 pub record FilterTree : Type 0 where
   pub fields : List Name
-  pub init : Block
-  pub push : ℕ
-  pub pop : ℕ
-  pub peek : ℕ
+  pub init : Optional
+  pub push : Option ℕ
+  pub pop : Option ℕ
+  pub peek : Option ℕ
   pub work : Block
+
+-- a rate that is not written
+abbrev pub rate_or : Option ℕ → ℕ → ℕ
+rate_or None n = n
+rate_or (Some r) n = r
+
+-- without `push` or `pop` the rate is 0; without `peek` it is the rate of `pop`
+abbrev pub push_of : FilterTree → ℕ
+push_of t = rate_or t.push 0
+
+abbrev pub pop_of : FilterTree → ℕ
+pop_of t = rate_or t.pop 0
+
+abbrev pub peek_of : FilterTree → ℕ
+peek_of t = rate_or t.peek (pop_of t)
 
 -- WHAT IT MEANS
 
@@ -35,17 +50,17 @@ at_start fields kept = record { values = with_fields fields kept nought; popped 
 
 -- the fields after `init`
 abbrev pub initial : FilterTree → List ℤ
-initial t = map (do_all t.init [] (at_start t.fields (replicate (length t.fields) (pos 0)))).values t.fields
+initial t = map (do_optional t.init [] (at_start t.fields (replicate (length t.fields) (pos 0)))).values t.fields
 
 -- firing j: the block runs on the items from j * pop on
 abbrev pub fires : FilterTree → ℕ → List ℤ → List ℤ → Now
-fires t j kept xs = do_all t.work (take t.peek (drop (j * t.pop) xs)) (at_start t.fields kept)
+fires t j kept xs = do_all t.work (take (peek_of t) (drop (j * pop_of t) xs)) (at_start t.fields kept)
 
 -- firing j and those after it, n at most; the fields pass from one to the next
 abbrev pub fires_from : FilterTree → ℕ → ℕ → List ℤ → List ℤ → List ℤ
 fires_from t zero j kept xs = []
 fires_from t (suc n) j kept xs =
-    if nat_le (j * t.pop + t.peek) (length xs)
+    if nat_le (j * pop_of t + peek_of t) (length xs)
     then (let s = fires t j kept xs in s.pushed ++ fires_from t n (suc j) (map s.values t.fields) xs)
     else []
 
@@ -70,7 +85,7 @@ abbrev pub starts_of : ℕ → Steps × At → List ℤ
 starts_of n i = (run_kept (record { inputs = 0; slots = i.1.slots; steps = i.0 }) (replicate n (pos 0)) []).slots
 
 abbrev pub form_of : FilterTree → Steps × At → Steps × At → FilterForm
-form_of t i w = record { peek = t.peek; pop = t.pop; push = t.push; body = record { inputs = t.peek; slots = w.1.slots; steps = w.0 }; starts = starts_of (length t.fields) i }
+form_of t i w = record { peek = peek_of t; pop = pop_of t; push = push_of t; body = record { inputs = peek_of t; slots = w.1.slots; steps = w.0 }; starts = starts_of (length t.fields) i }
 
 -- rates of pushes, pops and looks: none is above 65,536; a firing pops an item or more, and no more than it looks at
 abbrev pub rates_of : ℕ → ℕ → ℕ → Result (Unit {0}) Fault
@@ -87,7 +102,7 @@ kept_rates push pop s = on_ok (demand (nat_eq s.popped pop) (Rates pop s.popped)
 abbrev pub elaborated : FilterTree → Result FilterForm Fault
 elaborated t =
     on_ok (read_fields t.fields nothing_read) (λ s.
-    on_ok (steps_of 0 t.init s) (λ i.
-    on_ok (rates_of t.push t.pop t.peek) (λ u.
-    on_ok (steps_of t.peek t.work s) (λ w.
-    on_ok (kept_rates t.push t.pop w.1) (λ v. Ok (form_of t i w))))))
+    on_ok (optional_of 0 t.init s) (λ i.
+    on_ok (rates_of (push_of t) (pop_of t) (peek_of t)) (λ u.
+    on_ok (steps_of (peek_of t) t.work s) (λ w.
+    on_ok (kept_rates (push_of t) (pop_of t) w.1) (λ v. Ok (form_of t i w))))))

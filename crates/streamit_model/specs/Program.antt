@@ -6,10 +6,10 @@ use Rattle.brooklet_model.specs.ByIndex.{dealt, collected}
 use Rattle.streamit_model.specs.FilterSource.{FilterTree, pushed_by}
 use Rattle.streamit_model.specs.Shallow.{AreShallow}
 
--- how a splitter is written: weights as they stand there
+-- how a splitter is written: weights as they stand in its brackets, where there are brackets
 pub data Dealing : Type 0 where
   Copies : Dealing
-  Turns : List ℕ → Dealing
+  Turns : Option (List ℕ) → Dealing
 
 -- the names that are added: one or more
 pub record Adds : Type 0 where
@@ -20,7 +20,7 @@ pub record Adds : Type 0 where
 pub data Body : Type 0 where
   AFilter : FilterTree → Body
   APipeline : Adds → Body
-  ASplitJoin : Dealing → Adds → List ℕ → Body
+  ASplitJoin : Dealing → Adds → Option (List ℕ) → Body
 
 -- a stream that is declared: one unit of the text
 pub record Declared : Type 0 where
@@ -32,10 +32,11 @@ abbrev pub Program : Type 0
 Program = List Declared
 
 -- without weights each branch has 1, and with one weight each branch has it
-abbrev pub weights_for : List ℕ → ℕ → List ℕ
-weights_for [] n = replicate n 1
-weights_for (w ∷ []) n = replicate n w
-weights_for (w ∷ v ∷ vs) n = w ∷ v ∷ vs
+abbrev pub weights_for : Option (List ℕ) → ℕ → List ℕ
+weights_for None n = replicate n 1
+weights_for (Some []) n = replicate n 1
+weights_for (Some (w ∷ [])) n = replicate n w
+weights_for (Some (w ∷ v ∷ vs)) n = w ∷ v ∷ vs
 
 -- WHAT IT MEANS
 

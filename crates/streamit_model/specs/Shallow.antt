@@ -1,7 +1,7 @@
 -- What reading a block sees to: no expression is deeper than 64, and `init` pops nothing.
 use Rattle.std.specs.Prelude.{◌≡◌, ◌≤◌, Option, Some, None}
 use Rattle.text_forms.specs.Tree.{Spoken, depth_of}
-use Rattle.streamit_model.specs.Source.{Statement, Declare, Assign, Push, Pop, If, For, Block, End, Then, pops}
+use Rattle.streamit_model.specs.Source.{Statement, Declare, Assign, Push, Pop, If, For, Block, End, Then, pops, Optional, Unwritten, Written}
 
 abbrev pub IsLow : Spoken → Type 0
 IsLow t = depth_of t ≤ 64
@@ -16,12 +16,16 @@ abbrev mutual
   IsShallow (Assign n t) = IsLow t
   IsShallow (Push t) = IsLow t
   IsShallow Pop = Unit {0}
-  IsShallow (If t a b) = IsLow t × AreShallow a × AreShallow b
+  IsShallow (If t a b) = IsLow t × AreShallow a × AreShallowOptional b
   IsShallow (For n low upto high b) = AreShallow b
 
   pub AreShallow : Block → Type 0
   AreShallow End = Unit {0}
   AreShallow (Then c b) = IsShallow c × AreShallow b
+
+  pub AreShallowOptional : Optional → Type 0
+  AreShallowOptional Unwritten = Unit {0}
+  AreShallowOptional (Written b) = AreShallow b
 
 -- no item is popped in an expression
 abbrev pub IsItemless : Spoken → Type 0
@@ -38,9 +42,13 @@ abbrev mutual
   KeepsItems (Assign n t) = IsItemless t
   KeepsItems (Push t) = ⊥
   KeepsItems Pop = ⊥
-  KeepsItems (If t a b) = IsItemless t × KeepAll a × KeepAll b
+  KeepsItems (If t a b) = IsItemless t × KeepAll a × KeepAllOptional b
   KeepsItems (For n low upto high b) = KeepAll b
 
   pub KeepAll : Block → Type 0
   KeepAll End = Unit {0}
   KeepAll (Then c b) = KeepsItems c × KeepAll b
+
+  pub KeepAllOptional : Optional → Type 0
+  KeepAllOptional Unwritten = Unit {0}
+  KeepAllOptional (Written b) = KeepAll b

@@ -9,6 +9,8 @@ use Rattle.text_forms.specs.Parse as parse
 use Rattle.text_forms.specs.Repeat.{repeated}
 use Rattle.text_forms.proofs.Many.{many-shortens}
 use Rattle.text_forms.proofs.Repeat.{repeated-next, repeated-stop, repeated-fail}
+use Rattle.river_base.specs.Name.{is_name}
+use Rattle.streamit_text.specs.Grammar.{is_own}
 use Rattle.streamit_text.specs.Reading.{no_add, add_at}
 use Rattle.streamit_text.proofs.Units.{exact-add, listed-adds}
 
@@ -20,7 +22,14 @@ plain-short text h = by (nat_le (length text) 40) _ refl h where
   by true c e g = grind arith
   by false c e g = cc
 
-pub ruleset names = (plain-short)
+-- and so is one that they may call something
+pub own-short : (text : List ℕ) → is_own text ≡ true → length text ≤ 40
+own-short text h = by (is_plain StreamIt text) refl h where
+  by : (b : Bool) → is_plain StreamIt text ≡ b → b && is_name text ≡ true → length text ≤ 40
+  by true e g = plain-short text e
+  by false e g = absurd (cc g)
+
+pub ruleset names = (own-short)
 
 pub adds-stop : (n : ℕ) (done : List (List ℕ)) (ts : List Tok) → no_add ts ≡ true → repeated (parse.many_turn no_add (add_at n)) done ts ≡ Some (done, ts)
 adds-stop n done ts e = repeated-stop (parse.many_turn no_add (add_at n)) done ts (rw e refl)

@@ -6,10 +6,10 @@ use Rattle.text_forms.specs.Repeat.{repeated}
 use Rattle.text_forms.specs.Tree.{Spoken}
 use Rattle.text_forms.proofs.Many.{many-shortens}
 use Rattle.text_forms.proofs.Repeat.{repeated-next, repeated-stop, repeated-fail}
-use Rattle.streamit_model.specs.Source.{Statement, If, Block}
+use Rattle.streamit_model.specs.Source.{Statement, If, Block, Optional}
 use Rattle.streamit_unroll.specs.View.{in_turn}
 use Rattle.streamit_text.specs.Grammar.{Head, made_for}
-use Rattle.streamit_text.specs.Reading.{at_close, round_term_at, round_head_at, else_at, if_at, for_at, stmt_after, stmt_at, stmts_at, block_at, branch_at, loop_at}
+use Rattle.streamit_text.specs.Reading.{at_close, round_term_at, round_head_at, arms_at, if_at, for_at, stmt_after, stmt_at, stmts_at, block_at, branch_at, loop_at}
 use Rattle.streamit_text.proofs.Statements.{exact-stmt, listed-stmts}
 
 less-one : (n : ℕ) → suc n - 1 ≡ n
@@ -62,9 +62,9 @@ stmt-shortens nest n ts us v e =
 pub ruleset loops = (loop-stop, loop-bad, stmt-shortens)
 
 -- an `if` whose parts were read
-pub branch-made : (nest n : ℕ) (ts us vs ws : List Tok) (c : Spoken) (a b : Block) → 0 < nest → round_term_at n ts ≡ Some (c, us) → block_at (nest - 1) n us ≡ Some (a, vs) → else_at (block_at (nest - 1)) n vs ≡ Some (b, ws) → branch_at nest n ts ≡ Some (If c a b, ws)
+pub branch-made : (nest n : ℕ) (ts us ws : List Tok) (c : Spoken) (a : Block) (b : Optional) → 0 < nest → round_term_at n ts ≡ Some (c, us) → arms_at (block_at (nest - 1)) n us ≡ Some ((a, b), ws) → branch_at nest n ts ≡ Some (If c a b, ws)
 unfolding if_at
-branch-made nest n ts us vs ws c a b pos cond when otherwise = rw (branch-at nest n ts pos, cond, when, otherwise) refl
+branch-made nest n ts us ws c a b pos cond arms = rw (branch-at nest n ts pos, cond, arms) refl
 
 -- a `for` whose parts were read
 pub loop-made : (nest n : ℕ) (ts us vs : List Tok) (h : Head) (b : Block) → 0 < nest → round_head_at n ts ≡ Some (h, us) → block_at (nest - 1) n us ≡ Some (b, vs) → loop_at nest n ts ≡ Some (made_for (h, b), vs)

@@ -1,11 +1,11 @@
 pub mod Adding
 pub mod Blocks
 pub mod Fields
+pub mod Named
 pub mod Programs
 pub mod Rates
 pub mod Statements
 pub mod Texts
-pub mod Trees
 pub mod Units
 pub mod Weighing
 pub mod Wholes

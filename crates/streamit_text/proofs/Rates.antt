@@ -5,11 +5,10 @@ use Rattle.text_forms.specs.Parse as parse
 use Rattle.text_forms.specs.Repeat.{Stop, after_turn, turns, repeated}
 use Rattle.text_forms.proofs.Many.{many-shortens}
 use Rattle.text_forms.proofs.Repeat.{repeated-next, repeated-stop, repeated-fail}
-use Rattle.streamit_unroll.specs.Filter.{names_of, optional, filter_tree}
-use Rattle.streamit_unroll.specs.Filter as unrolled
-use Rattle.streamit_unroll.specs.View.{block}
+use Rattle.streamit_unroll.specs.Filter.{filter_tree}
+use Rattle.streamit_unroll.specs.View.{block, optional}
 use Rattle.streamit_unroll.specs.declared.tree.FilterTree.{FilterTree}
-use Rattle.streamit_text.specs.Grammar.{Rate, Rates, unwritten, on_some, with_rate, rates_in, rate_or, made_filter}
+use Rattle.streamit_text.specs.Grammar.{Rate, Rates, unwritten, on_some, with_rate, rates_in, made_filter}
 use Rattle.streamit_text.specs.Reading.{at_block, rate_at, rate_list_at, rates_at}
 use Rattle.streamit_text.specs.View.{rates_of}
 use Rattle.streamit_text.proofs.Units.{exact-rate, listed-rates}
@@ -83,10 +82,7 @@ rate-shortens ts us v e =
 pub ruleset rates = (rates-start, rates-stop, rates-bad, rates-next, rates-twice, rate-shortens)
 
 -- the filter that the grammar makes
-pub filter-made : (t : FilterTree) → made_filter (names_of t.fields.items, (optional t.init, (rates_of t.rates, block t.work))) ≡ filter_tree t
-filter-made t = rw (or_else t.rates.push 0, or_else t.rates.pop 0, or_else t.rates.peek (unrolled.rate_or t.rates.pop 0)) refl where
-  or_else : (o : Option ℕ) (n : ℕ) → rate_or o n ≡ unrolled.rate_or o n
-  or_else None n = refl
-  or_else (Some m) n = refl
+pub filter-made : (t : FilterTree) → made_filter (t.fields.items, (optional t.init, (rates_of t.rates, block t.work))) ≡ filter_tree t
+filter-made t = refl
 
 pub ruleset filters = (filter-made)

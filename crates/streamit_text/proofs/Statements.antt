@@ -1,12 +1,13 @@
 -- The reading of statements is exact.
 use Rattle.std.proofs.Common.{◌≡◌, ℕ, zero, suc, List, [], ◌∷◌, ◌++◌, Bool, true, false, refl, sym, ap, ◌∙◌, arith}
-use Rattle.std.specs.Prelude.{codes}
+use Rattle.std.specs.Prelude.{codes, ◌&&◌}
+use Rattle.river_base.specs.Name.{is_name}
 use Rattle.std.specs.Str.{bytes_eq}
 use Rattle.std.proofs.lemmas.Slice.Eq.{bytes_eq-Decides}
 use Rattle.work_code.specs.Tok.{Tok, name, symbol}
 use Rattle.work_code.specs.declared.sign.Symbol.TheVariants as s
 use Rattle.text_forms.specs.declared.language.Language.TheVariants.{StreamIt}
-use Rattle.text_forms.specs.Language.{is_plain, plain_name_at}
+use Rattle.text_forms.specs.Language.{is_plain}
 use Rattle.text_forms.specs.Parse as parse
 use Rattle.text_forms.specs.Parse.{Parse}
 use Rattle.text_forms.specs.Forms as form
@@ -15,18 +16,19 @@ use Rattle.text_forms.proofs.Many.{Listed, exact-many}
 use Rattle.text_forms.proofs.Choices.{exact-never, exact-choose, exact-headed, exact-enclosed}
 use Rattle.text_forms.proofs.Ladder.{Ends, exact-expr}
 use Rattle.streamit_model.specs.Source.{Statement, Assign, Push, Block}
-use Rattle.streamit_unroll.specs.View.{in_turn}
-use Rattle.streamit_text.specs.Grammar.{Plain, has_values, Expr, Round, Empty, made_declare, IsDeclare, IsAssign, IsPush, popping, IsPop, or_end, made_if, IsIf, Upto, made_head, HeadAfter, IsHead, made_for, IsFor, IsBlockOf, StmtAfter, IsStmt, IsBlock}
-use Rattle.streamit_text.specs.Reading.{term_at, round, empty_at, round_term_at, first_value_at, declare_at, ended_at, assign_at, push_at, pop_at, else_at, if_at, upto_at, head_after, named_head_at, head_at, round_head_at, for_at, at_close, block_of_at, stmt_after, stmts_of, stmt_at, stmts_at, block_at}
+use Rattle.streamit_unroll.specs.View.{in_turn, or_unwritten}
+use Rattle.streamit_text.specs.Grammar.{is_own, Plain, is_fit, Expr, Round, Empty, made_declare, IsDeclare, IsAssign, IsPush, popping, IsPop, made_if, IsIf, Upto, made_head, HeadAfter, IsHead, made_for, IsFor, IsBlockOf, StmtAfter, IsStmt, IsBlock}
+use Rattle.streamit_text.specs.Reading.{plain_at, term_at, round, empty_at, round_term_at, first_value_at, declare_at, ended_at, assign_at, push_at, pop_at, else_at, arms_at, if_at, upto_at, step_at, upper_at, head_after, named_head_at, head_at, round_head_at, for_at, at_close, block_of_at, stmt_after, stmts_of, stmt_at, stmts_at, block_at}
 
 -- a name that users may give
-pub exact-plain : Exact Plain (plain_name_at StreamIt) Any
-exact-plain = exact-tested (is_plain StreamIt) exact-name
+pub exact-plain : Exact Plain plain_at Any
+unfolding plain_at
+exact-plain = exact-tested is_own exact-name
 
 -- an expression
 pub exact-term : (n : ℕ) → Exact (Expr n) (term_at n) (Ends 6)
 unfolding term_at
-exact-term n = exact-tested has_values (exact-expr StreamIt n)
+exact-term n = exact-tested is_fit (exact-expr StreamIt n)
 
 -- between round brackets
 pub exact-round : {A : Type 0} {F : ℕ → A → List Tok → Type 0} {p : ℕ → Parse A} {E : List Tok → Type 0} → ((n : ℕ) → Exact (F n) (p n) E) → ((rest : List Tok) → E (symbol s.Close ∷ rest)) → (n : ℕ) → Exact (Round F n) (round p n) Any
@@ -67,16 +69,16 @@ exact-pop n = exact-seen popping (exact-before (s.Semicolon ∷ []) (exact-empty
 abbrev pub NoElse : List Tok → Type 0
 NoElse rest = parse.is_word_at (codes "else") rest ≡ false
 
-exact-else : {block : ℕ → Block → List Tok → Type 0} {p : ℕ → Parse Block} → ((n : ℕ) → Exact (block n) (p n) Any) → (n : ℕ) → Exact (form.Seen or_end (form.Maybe (form.AfterWord (codes "else") (block n)))) (else_at p n) NoElse
+exact-else : {block : ℕ → Block → List Tok → Type 0} {p : ℕ → Parse Block} → ((n : ℕ) → Exact (block n) (p n) Any) → (n : ℕ) → Exact (form.Seen or_unwritten (form.Maybe (form.AfterWord (codes "else") (block n)))) (else_at p n) NoElse
 unfolding else_at
 exact-else {block} {p} x n =
-    exact-less (exact-seen or_end (exact-maybe (parse.is_word_at (codes "else")) (exact-after_word (codes "else") (x n)) else_comes)) (λ rest d. (tt, d))
+    exact-less (exact-seen or_unwritten (exact-maybe (parse.is_word_at (codes "else")) (exact-after_word (codes "else") (x n)) else_comes)) (λ rest d. (tt, d))
   where
     else_comes : (v : Block) (ts rest : List Tok) → form.AfterWord (codes "else") (block n) v ts → parse.is_word_at (codes "else") (ts ++ rest) ≡ true
     else_comes v ts rest h = rw h.is refl
 
 exact-if : {block : ℕ → Block → List Tok → Type 0} {p : ℕ → Parse Block} → ((n : ℕ) → Exact (block n) (p n) Any) → (n : ℕ) → Exact (IsIf block n) (if_at p n) NoElse
-unfolding if_at
+unfolding if_at arms_at
 exact-if x n = exact-seen made_if (exact-both (exact-round_term n) (exact-both (x n) (exact-else x n) (λ y ts rest g d. tt)) (λ y ts rest g d. tt))
 
 exact-upto : Exact Upto upto_at Any
@@ -86,14 +88,14 @@ exact-upto =
     (λ v ts rest h d. rw h.is refl) (λ v ts rest h d. rw h.is refl)) (λ rest d. (tt, tt))
 
 exact-head_after : (n : ℕ) (w : List ℕ) → Exact (HeadAfter n w) (head_after n w) Any
-unfolding head_after
+unfolding head_after upper_at step_at
 exact-head_after n w =
     exact-seen (made_head w) (exact-after (s.Assign ∷ []) (exact-both (exact-ended n) (exact-after_word w (exact-both exact-upto
     (exact-both (exact-ended n) (exact-after_word w (exact-after (s.Increment ∷ []) (exact-nothing tt))) (λ y ts rest g d. tt)) (λ y ts rest g d. tt))) (λ y ts rest g d. tt)))
 
 exact-head : (n : ℕ) → Exact (IsHead n) (head_at n) Any
 unfolding head_at named_head_at
-exact-head n = exact-after_word (codes "int") (exact-headed (λ w. exact-choose (is_plain StreamIt w) (exact-head_after n w) exact-never))
+exact-head n = exact-after_word (codes "int") (exact-headed (λ w. exact-choose (is_own w) (exact-head_after n w) exact-never))
 
 exact-round_head : (n : ℕ) → Exact (Round IsHead n) (round_head_at n) Any
 unfolding round_head_at
@@ -122,6 +124,16 @@ plain-else w true e h = absurd (never (sym (ap (λ (v : List ℕ). is_plain Stre
   never : is_plain StreamIt (codes "else") ≡ true → ⊥
   never f = cc
 
+-- and so is what they may call something
+own-plain : (w : List ℕ) → is_own w ≡ true → is_plain StreamIt w ≡ true
+own-plain w h = by (is_plain StreamIt w) h where
+  by : (b : Bool) → b && is_name w ≡ true → b ≡ true
+  by true e = refl
+  by false e = absurd (cc e)
+
+own-else : (w : List ℕ) → is_own w ≡ true → bytes_eq w (codes "else") ≡ false
+own-else w h = plain-else w (bytes_eq w (codes "else")) refl (own-plain w h)
+
 after-word : (branch loop : Statement → List Tok → Type 0) (n : ℕ) (w : List ℕ) (v : Statement) (back : List Tok) → StmtAfter branch loop n w v back → bytes_eq w (codes "else") ≡ false
 after-word branch loop n w v back h =
     chosen (IsDeclare n) _ (bytes_eq w (codes "int")) v back h (not-else w (codes "int") refl) (λ h1.
@@ -129,7 +141,7 @@ after-word branch loop n w v back h =
     chosen (IsPop n) _ (bytes_eq w (codes "pop")) v back h2 (not-else w (codes "pop") refl) (λ h3.
     chosen branch _ (bytes_eq w (codes "if")) v back h3 (not-else w (codes "if") refl) (λ h4.
     chosen loop _ (bytes_eq w (codes "for")) v back h4 (not-else w (codes "for") refl) (λ h5.
-    chosen (IsAssign w n) form.Never (is_plain StreamIt w) v back h5 (plain-else w (bytes_eq w (codes "else")) refl) (λ never. absurd never))))))
+    chosen (IsAssign w n) form.Never (is_own w) v back h5 (own-else w) (λ never. absurd never))))))
 
 stmt-word : (nest n : ℕ) (v : Statement) (ts : List Tok) → IsStmt nest n v ts → (w : List ℕ) × (back : List Tok) × (ts ≡ name w ∷ back) × (bytes_eq w (codes "else") ≡ false)
 unfolding IsStmt
@@ -155,7 +167,7 @@ exact-stmt_after x y n w =
     (exact-choose (bytes_eq w (codes "pop")) (exact-less (exact-pop n) (λ rest d. tt))
     (exact-choose (bytes_eq w (codes "if")) x
     (exact-choose (bytes_eq w (codes "for")) y
-    (exact-choose (is_plain StreamIt w) (exact-less (exact-assign w n) (λ rest d. tt)) exact-never)))))
+    (exact-choose (is_own w) (exact-less (exact-assign w n) (λ rest d. tt)) exact-never)))))
 
 -- a statement, in which `if` and `for` together may nest so deep
 pub exact-stmt : (nest n : ℕ) → Exact (IsStmt nest n) (stmt_at nest n) NoElse

@@ -2,7 +2,6 @@
 use Rattle.std.proofs.Common.{◌≡◌, ℕ, zero, suc, List, [], ◌∷◌, ◌++◌, Bool, true, false, Option, Some, None, refl, arith, append_assoc}
 use Rattle.std.specs.Prelude.{codes}
 use Rattle.std.specs.Str.{bytes_eq}
-use Rattle.river_base.specs.Name.{is_name}
 use Rattle.work_code.specs.Tok.{Tok}
 use Rattle.work_code.specs.declared.sign.Symbol.TheVariants as s
 use Rattle.text_forms.specs.Parse as parse
@@ -11,10 +10,11 @@ use Rattle.text_forms.specs.Forms as form
 use Rattle.text_forms.proofs.Exact.{Exact, Any, exact-less, exact-both, exact-after, exact-before, exact-after_word, exact-tested, exact-seen, exact-maybe, exact-number}
 use Rattle.text_forms.proofs.Many.{Listed, exact-many}
 use Rattle.text_forms.proofs.Choices.{exact-never, exact-choose, exact-headed, exact-known, exact-enclosed, exact-listing}
-use Rattle.streamit_model.specs.Source.{Block}
+use Rattle.streamit_model.specs.Source.{Block, Optional}
+use Rattle.streamit_unroll.specs.View.{or_unwritten}
 use Rattle.streamit_model.specs.Program.{Turns, Body, AFilter, APipeline}
-use Rattle.streamit_text.specs.Grammar.{StreamName, Count, Weight, Round, or_end, stay, IsBlock, IsInit, IsField, push, pop, peek, IsRate, Rates, rates_in, unwritten, AreRates, made_filter, InFilter, Braces, none_there, Parens, the_name, Called, IsAdd, made_adds, AreAdds, or_none, Weights, copying, IsSplit, IsJoin, made_both, InBoth, BodyAfter, made_unit, KindAfter, IsUnit, IsUnitAt}
-use Rattle.streamit_text.specs.Reading.{still_at, init_at, no_field, field_at, fields_at, rate_after, rate_at, at_block, rate_list_at, rates_at, in_filter_at, filter_at, parens_at, stream_name_at, called_at, add_at, no_add, more_adds_at, adds_at, weight_at, listed_at, weights_at, split_after, split_at, join_at, in_both_at, pipe_at, both_at, body_after, kind_after, unit_at, unit_from}
+use Rattle.streamit_text.specs.Grammar.{Count, Weight, Round, stay, IsBlock, IsInit, IsField, push, pop, peek, IsRate, Rates, rates_in, unwritten, AreRates, made_filter, InFilter, Braces, none_there, Parens, the_name, Called, IsAdd, made_adds, AreAdds, Weights, copying, IsSplit, IsJoin, made_both, InBoth, BodyAfter, made_unit, KindAfter, IsUnit, IsUnitAt}
+use Rattle.streamit_text.specs.Reading.{still_at, init_at, no_field, field_at, fields_at, rate_after, rate_at, at_block, rate_list_at, rates_at, in_filter_at, filter_at, parens_at, called_at, add_at, no_add, more_adds_at, adds_at, weight_at, listed_at, weights_at, split_after, split_at, join_at, in_both_at, pipe_at, both_at, body_after, kind_after, unit_at, unit_from}
 use Rattle.streamit_text.proofs.Statements.{exact-plain, exact-round, exact-empty, exact-block}
 
 exact-still : (n : ℕ) → Exact (form.Tested stay (IsBlock 16 n)) (still_at n) Any
@@ -27,7 +27,7 @@ No word rest = parse.is_word_at word rest ≡ false
 
 exact-init : (n : ℕ) → Exact (IsInit n) (init_at n) (No (codes "init"))
 unfolding init_at
-exact-init n = exact-less (exact-seen or_end (exact-maybe (parse.is_word_at (codes "init")) (exact-after_word (codes "init") (exact-still n)) comes)) (λ rest d. (tt, d)) where
+exact-init n = exact-less (exact-seen or_unwritten (exact-maybe (parse.is_word_at (codes "init")) (exact-after_word (codes "init") (exact-still n)) comes)) (λ rest d. (tt, d)) where
   comes : (v : Block) (ts rest : List Tok) → form.AfterWord (codes "init") (form.Tested stay (IsBlock 16 n)) v ts → parse.is_word_at (codes "init") (ts ++ rest) ≡ true
   comes v ts rest h = rw h.is refl
 
@@ -73,7 +73,7 @@ block-begins zero v ts rest h = absurd h
 block-begins (suc n) v ts rest h = rw h.is refl
 
 -- behind the fields comes no field
-init-follows : (n : ℕ) (v : Block × (Rates × Block)) (ts rest : List Tok) → form.Both (IsInit n) (form.AfterWord (codes "work") (form.Both AreRates (IsBlock 16 n))) v ts → no_field (ts ++ rest) ≡ true
+init-follows : (n : ℕ) (v : Optional × (Rates × Block)) (ts rest : List Tok) → form.Both (IsInit n) (form.AfterWord (codes "work") (form.Both AreRates (IsBlock 16 n))) v ts → no_field (ts ++ rest) ≡ true
 init-follows n v ts rest h = by h.first.value h.first.formed where
   by : (o : Option Block) → form.Maybe (form.AfterWord (codes "init") (form.Tested stay (IsBlock 16 n))) o h.front → no_field (ts ++ rest) ≡ true
   by None g = rw (h.is, g, h.second.is) refl
@@ -102,13 +102,9 @@ exact-parens : (n : ℕ) → Exact (Parens n) (parens_at n) NoOpen
 unfolding parens_at
 exact-parens n = exact-less (exact-seen none_there (exact-maybe (parse.begins_with s.Open) (exact-empty n) (λ v ts rest h. round-begins (λ m. form.Nothing tt) n v ts rest h))) (λ rest d. (tt, d))
 
-exact-stream_name : Exact StreamName stream_name_at Any
-unfolding stream_name_at
-exact-stream_name = exact-tested is_name exact-plain
-
 exact-called : (n : ℕ) → Exact (Called n) (called_at n) NoOpen
 unfolding called_at
-exact-called n = exact-seen the_name (exact-both exact-stream_name (exact-parens n) (λ y ts rest g d. tt))
+exact-called n = exact-seen the_name (exact-both exact-plain (exact-parens n) (λ y ts rest g d. tt))
 
 pub exact-add : (n : ℕ) → Exact (IsAdd n) (add_at n) Any
 unfolding add_at
@@ -138,7 +134,7 @@ exact-listed n = exact-round (λ m. exact-listing s.Close exact-weight (λ rest.
 
 exact-weights : (n : ℕ) → Exact (Weights n) (weights_at n) NoOpen
 unfolding weights_at
-exact-weights n = exact-less (exact-seen or_none (exact-maybe (parse.begins_with s.Open) (exact-listed n) (λ v ts rest h. round-begins (λ m. form.Listing Weight) n v ts rest h))) (λ rest d. (tt, d))
+exact-weights n = exact-less (exact-maybe (parse.begins_with s.Open) (exact-listed n) (λ v ts rest h. round-begins (λ m. form.Listing Weight) n v ts rest h)) (λ rest d. (tt, d))
 
 exact-split : (n : ℕ) → Exact (IsSplit n) (split_at n) Any
 unfolding split_at split_after

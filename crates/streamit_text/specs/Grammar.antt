@@ -15,18 +15,17 @@ use Rattle.text_forms.specs.Texts.{AllFormed}
 use Rattle.text_forms.specs.Tree.{Spoken}
 use Rattle.text_forms.specs.Tree as tree
 use Rattle.text_forms.specs.Forms.{Name, Number, Nothing, Never, Both, After, Before, AfterWord, Tested, Seen, Known, Merged, Maybe, Each, Listing, Choose, Headed, Enclosed}
-use Rattle.streamit_model.specs.Source.{Statement, Declare, Assign, Push, Pop, If, For, Block, End, Then}
+use Rattle.streamit_model.specs.Source.{Statement, Declare, Assign, Push, Pop, If, For, Block, End, Then, Optional, Unwritten, Written}
 use Rattle.streamit_model.specs.FilterSource.{FilterTree}
 use Rattle.streamit_model.specs.Program.{Dealing, Copies, Turns, Adds, Body, AFilter, APipeline, ASplitJoin, Declared, Program}
-use Rattle.streamit_unroll.specs.View.{in_turn}
+use Rattle.streamit_unroll.specs.View.{in_turn, or_unwritten}
 
--- NAME: at most 40 bytes, no @, and no keyword
+-- NAME: a letter or _, then letters, digits and _, at most 40 bytes, and no keyword
+abbrev pub is_own : List ℕ → Bool
+is_own text = is_plain StreamIt text && is_name text
+
 abbrev pub Plain : List ℕ → List Tok → Type 0
-Plain = Tested (is_plain StreamIt) Name
-
--- a stream's NAME: as names of plans are, it begins with a letter or _
-abbrev pub StreamName : List ℕ → List Tok → Type 0
-StreamName = Tested is_name Plain
+Plain = Tested is_own Name
 
 -- N that counts something: at most 4294967295
 abbrev pub Count : ℕ → List Tok → Type 0
@@ -36,21 +35,22 @@ Count = Tested is_count Number
 abbrev pub Weight : ℕ → List Tok → Type 0
 Weight = Tested is_value Number
 
--- each number of an expression is at most 9223372036854775807
-abbrev pub has_values : Spoken → Bool
-has_values (tree.Number v) = is_value v
-has_values (tree.Name text) = true
-has_values (tree.Input k) = true
-has_values (tree.Slot k) = true
-has_values (tree.Peek t) = has_values t
-has_values tree.Pop = true
-has_values (tree.Neg t) = has_values t
-has_values (tree.Not t) = has_values t
-has_values (tree.Bin o a b) = has_values a && has_values b
+-- each number of an expression is at most 9223372036854775807, each name begins with a letter or _, and there is no other leaf but
+-- `peek` and `pop`
+abbrev pub is_fit : Spoken → Bool
+is_fit (tree.Number v) = is_value v
+is_fit (tree.Name text) = is_name text
+is_fit (tree.Input k) = false
+is_fit (tree.Slot k) = false
+is_fit (tree.Peek t) = is_fit t
+is_fit tree.Pop = true
+is_fit (tree.Neg t) = is_fit t
+is_fit (tree.Not t) = is_fit t
+is_fit (tree.Bin o a b) = is_fit a && is_fit b
 
 -- e, at most 64 deep
 abbrev pub Expr : ℕ → Spoken → List Tok → Type 0
-Expr n = Tested has_values (IsExpr StreamIt n)
+Expr n = Tested is_fit (IsExpr StreamIt n)
 
 -- "(" .. ")"
 abbrev pub Round : {A : Type 0} → (ℕ → A → List Tok → Type 0) → ℕ → A → List Tok → Type 0
@@ -83,15 +83,11 @@ abbrev pub IsPop : ℕ → Statement → List Tok → Type 0
 IsPop n = Seen popping (Before (Empty n) (s.Semicolon ∷ []))
 
 -- "(" e ")" block ["else" block], behind "if"
-abbrev pub or_end : Option Block → Block
-or_end None = End
-or_end (Some b) = b
-
-abbrev pub made_if : Spoken × (Block × Block) → Statement
+abbrev pub made_if : Spoken × (Block × Optional) → Statement
 made_if v = If v.0 v.1.0 v.1.1
 
 abbrev pub IsIf : (ℕ → Block → List Tok → Type 0) → ℕ → Statement → List Tok → Type 0
-IsIf block n = Seen made_if (Both (Round Expr n) (Both (block n) (Seen or_end (Maybe (AfterWord (codes "else") (block n))))))
+IsIf block n = Seen made_if (Both (Round Expr n) (Both (block n) (Seen or_unwritten (Maybe (AfterWord (codes "else") (block n))))))
 
 -- "<" or "<=", which stands for one turn more
 abbrev pub Upto : Bool → List Tok → Type 0
@@ -114,7 +110,7 @@ HeadAfter n name =
 
 -- "int" NAME "=" e ";" NAME ("<" | "<=") e ";" NAME "++", where the three names are the same
 abbrev pub IsHead : ℕ → Head → List Tok → Type 0
-IsHead n = AfterWord (codes "int") (Headed (λ name. Choose (is_plain StreamIt name) (HeadAfter n name) Never))
+IsHead n = AfterWord (codes "int") (Headed (λ name. Choose (is_own name) (HeadAfter n name) Never))
 
 -- "(" head ")" block, behind "for"
 abbrev pub made_for : Head × Block → Statement
@@ -135,7 +131,7 @@ StmtAfter branch loop n w =
     (Choose (bytes_eq w (codes "pop")) (IsPop n)
     (Choose (bytes_eq w (codes "if")) branch
     (Choose (bytes_eq w (codes "for")) loop
-    (Choose (is_plain StreamIt w) (IsAssign w n)
+    (Choose (is_own w) (IsAssign w n)
     Never)))))
 
 -- stmt, where `if` and `for` together may nest so deep
@@ -168,16 +164,20 @@ abbrev mutual
   stays (Assign name value) = is_still value
   stays (Push value) = false
   stays Pop = false
-  stays (If cond a b) = is_still cond && (stay a && stay b)
+  stays (If cond a b) = is_still cond && (stay a && stay_optional b)
   stays (For name low upto high b) = is_still low && (is_still high && stay b)
 
   pub stay : Block → Bool
   stay End = true
   stay (Then c b) = stays c && stay b
 
+  pub stay_optional : Optional → Bool
+  stay_optional Unwritten = true
+  stay_optional (Written b) = stay b
+
 -- ["init" block]
-abbrev pub IsInit : ℕ → Block → List Tok → Type 0
-IsInit n = Seen or_end (Maybe (AfterWord (codes "init") (Tested stay (IsBlock 16 n))))
+abbrev pub IsInit : ℕ → Optional → List Tok → Type 0
+IsInit n = Seen or_unwritten (Maybe (AfterWord (codes "init") (Tested stay (IsBlock 16 n))))
 
 -- { "int" NAME ";" }
 abbrev pub IsField : List ℕ → List Tok → Type 0
@@ -227,16 +227,11 @@ rates_in r (x ∷ xs) = on_some (with_rate r x) (λ q. rates_in q xs)
 abbrev pub AreRates : Rates → List Tok → Type 0
 AreRates = Known (rates_in unwritten) (Each IsRate)
 
--- without `push` or `pop` the rate is 0; without `peek` it is the rate of `pop`
-abbrev pub rate_or : Option ℕ → ℕ → ℕ
-rate_or None n = n
-rate_or (Some r) n = r
-
 -- filter = "{" { "int" NAME ";" } ["init" block] "work" rates block "}"
-abbrev pub made_filter : List (List ℕ) × (Block × (Rates × Block)) → FilterTree
+abbrev pub made_filter : List (List ℕ) × (Optional × (Rates × Block)) → FilterTree
 made_filter v =
     let r = v.1.1.0 in
-    record { fields = v.0; init = v.1.0; push = rate_or r.push 0; pop = rate_or r.pop 0; peek = rate_or r.peek (rate_or r.pop 0); work = v.1.1.1 }
+    record { fields = v.0; init = v.1.0; push = r.push; pop = r.pop; peek = r.peek; work = v.1.1.1 }
 
 abbrev pub InFilter : ℕ → FilterTree → List Tok → Type 0
 InFilter n = Seen made_filter (Both (Each IsField) (Both (IsInit n) (AfterWord (codes "work") (Both AreRates (IsBlock 16 n)))))
@@ -256,7 +251,7 @@ abbrev pub the_name : List ℕ × Unit {0} → List ℕ
 the_name v = v.0
 
 abbrev pub Called : ℕ → List ℕ → List Tok → Type 0
-Called n = Seen the_name (Both StreamName (Parens n))
+Called n = Seen the_name (Both Plain (Parens n))
 
 -- "add" NAME ["(" ")"] ";"
 abbrev pub IsAdd : ℕ → List ℕ → List Tok → Type 0
@@ -270,12 +265,8 @@ abbrev pub AreAdds : ℕ → Adds → List Tok → Type 0
 AreAdds n = Seen made_adds (Both (IsAdd n) (Each (IsAdd n)))
 
 -- rr = "roundrobin" [ "(" [ N {"," N} ] ")" ]
-abbrev pub or_none : Option (List ℕ) → List ℕ
-or_none None = []
-or_none (Some ws) = ws
-
-abbrev pub Weights : ℕ → List ℕ → List Tok → Type 0
-Weights n = Seen or_none (Maybe (Round (λ m. Listing Weight) n))
+abbrev pub Weights : ℕ → Option (List ℕ) → List Tok → Type 0
+Weights n = Maybe (Round (λ m. Listing Weight) n)
 
 abbrev pub copying : Unit {0} → Dealing
 copying u = Copies
@@ -289,10 +280,10 @@ SplitAfter n w =
 abbrev pub IsSplit : ℕ → Dealing → List Tok → Type 0
 IsSplit n = AfterWord (codes "split") (Before (Headed (SplitAfter n)) (s.Semicolon ∷ []))
 
-abbrev pub IsJoin : ℕ → List ℕ → List Tok → Type 0
+abbrev pub IsJoin : ℕ → Option (List ℕ) → List Tok → Type 0
 IsJoin n = AfterWord (codes "join") (AfterWord (codes "roundrobin") (Before (Weights n) (s.Semicolon ∷ [])))
 
-abbrev pub made_both : Dealing × (Adds × List ℕ) → Body
+abbrev pub made_both : Dealing × (Adds × Option (List ℕ)) → Body
 made_both v = ASplitJoin v.0 v.1.0 v.1.1
 
 abbrev pub InBoth : ℕ → Body → List Tok → Type 0

@@ -1,11 +1,13 @@
 -- What is true of all texts.
-use Rattle.std.specs.Prelude.{◌≡◌, ◌⊎◌, ℕ, List, [], Ok}
+use Rattle.std.specs.Prelude.{◌≡◌, ◌⊎◌, ℕ, true, List, [], ◌∷◌, Ok}
 use Rattle.work_code.specs.Cut.{units_of}
 use Rattle.work_code.specs.Lexis.{tokens_in}
-use Rattle.work_code.specs.Tok.{Tok, Mark, toks}
+use Rattle.work_code.specs.Tok.{Tok, name, var, number, symbol, Mark, toks}
+use Rattle.text_forms.specs.declared.language.Language.TheVariants.{StreamIt}
+use Rattle.text_forms.specs.Language.{is_plain}
 use Rattle.text_forms.specs.Texts.{IsFirstBad}
 use Rattle.streamit_model.specs.Program.{Program}
-use Rattle.streamit_text.specs.Grammar.{IsText, IsUnitAt, next_unit}
+use Rattle.streamit_text.specs.Grammar.{IsText, IsUnitAt, is_own, next_unit}
 
 -- a text stands for one program at most
 abbrev pub OneProgram : Type 0
@@ -20,3 +22,18 @@ pub record IsBadAt (text : List ℕ) (n : ℕ) : Type 0 where
   pub marks : List Mark
   pub lexed : tokens_in text ≡ Ok marks
   pub first : IsFirstBad IsUnitAt next_unit tt (units_of (toks marks)) n ⊎ IsEmpty (units_of (toks marks)) n
+
+-- a name that users may give begins with a letter or _
+abbrev pub IsOwn : Tok → Type 0
+IsOwn (name text) = is_plain StreamIt text ≡ true → is_own text ≡ true
+IsOwn (var text) = Unit {0}
+IsOwn (number value) = Unit {0}
+IsOwn (symbol sign) = Unit {0}
+
+abbrev pub AreOwn : List Mark → Type 0
+AreOwn [] = Unit {0}
+AreOwn (m ∷ ms) = IsOwn m.tok × AreOwn ms
+
+-- so no text is refused for a name that is none of plans
+abbrev pub NamesAreNames : Type 0
+NamesAreNames = (text : List ℕ) (ms : List Mark) → tokens_in text ≡ Ok ms → AreOwn ms

@@ -1,23 +1,25 @@
 -- How programs are read: the grammar in the words of reading functions.
 use Rattle.std.specs.Prelude.{ℕ, zero, suc, Bool, true, false, not, List, [], ◌∷◌, Option, None, Result, Err, codes, if◌then◌else◌}
 use Rattle.std.specs.Str.{bytes_eq}
-use Rattle.river_base.specs.Name.{is_name}
 use Rattle.work_code.specs.Tok.{Tok}
 use Rattle.work_code.specs.declared.sign.Symbol.TheVariants as s
 use Rattle.text_forms.specs.declared.language.Language.TheVariants.{StreamIt}
 use Rattle.text_forms.specs.Ladder.{expr_at}
-use Rattle.text_forms.specs.Language.{is_plain, plain_name_at}
 use Rattle.text_forms.specs.Texts.{read_units}
 use Rattle.text_forms.specs.Tree.{Spoken}
-use Rattle.text_forms.specs.Parse.{Parse, begins_with, is_word_at, is_value, count_at, number_at, nothing_at, both, after, before, after_word, tested, seen, known, merged, maybe, many, commas, listing, headed, enclosed}
-use Rattle.streamit_model.specs.Source.{Statement, Assign, Push, Block}
+use Rattle.text_forms.specs.Parse.{Parse, begins_with, is_word_at, is_value, name_at, count_at, number_at, nothing_at, both, after, before, after_word, tested, seen, known, merged, maybe, many, commas, listing, headed, enclosed}
+use Rattle.streamit_model.specs.Source.{Statement, Assign, Push, Block, Optional}
 use Rattle.streamit_model.specs.FilterSource.{FilterTree}
 use Rattle.streamit_model.specs.Program.{Dealing, Turns, Adds, Body, AFilter, APipeline, Declared}
-use Rattle.streamit_unroll.specs.View.{in_turn}
-use Rattle.streamit_text.specs.Grammar.{has_values, made_declare, popping, or_end, made_if, Head, made_head, made_for, stay, Rate, push, pop, peek, Rates, unwritten, rates_in, made_filter, none_there, the_name, made_adds, or_none, copying, made_both, made_unit, next_unit}
+use Rattle.streamit_unroll.specs.View.{in_turn, or_unwritten}
+use Rattle.streamit_text.specs.Grammar.{is_own, is_fit, made_declare, popping, made_if, Head, made_head, made_for, stay, Rate, push, pop, peek, Rates, unwritten, rates_in, made_filter, none_there, the_name, made_adds, copying, made_both, made_unit, next_unit}
+
+-- a name that users may give
+unfoldable pub plain_at : Parse (List ℕ)
+plain_at ts = tested is_own name_at ts
 
 unfoldable pub term_at : ℕ → Parse Spoken
-term_at n ts = tested has_values (expr_at StreamIt n) ts
+term_at n ts = tested is_fit (expr_at StreamIt n) ts
 
 abbrev pub round : {A : Type 0} → (ℕ → Parse A) → ℕ → Parse A
 round p = enclosed s.Open s.Close p
@@ -33,7 +35,7 @@ unfoldable pub first_value_at : ℕ → Parse (Option Spoken)
 first_value_at n ts = maybe (begins_with s.Assign) (after (s.Assign ∷ []) (term_at n)) ts
 
 unfoldable pub declare_at : ℕ → Parse Statement
-declare_at n ts = seen made_declare (both (plain_name_at StreamIt) (before (first_value_at n) (s.Semicolon ∷ []))) ts
+declare_at n ts = seen made_declare (both plain_at (before (first_value_at n) (s.Semicolon ∷ []))) ts
 
 -- an expression and a semicolon
 unfoldable pub ended_at : ℕ → Parse Spoken
@@ -48,23 +50,33 @@ push_at n ts = seen Push (before (round_term_at n) (s.Semicolon ∷ [])) ts
 unfoldable pub pop_at : ℕ → Parse Statement
 pop_at n ts = seen popping (before (empty_at n) (s.Semicolon ∷ [])) ts
 
-unfoldable pub else_at : (ℕ → Parse Block) → ℕ → Parse Block
-else_at block n ts = seen or_end (maybe (is_word_at (codes "else")) (after_word (codes "else") (block n))) ts
+unfoldable pub else_at : (ℕ → Parse Block) → ℕ → Parse Optional
+else_at block n ts = seen or_unwritten (maybe (is_word_at (codes "else")) (after_word (codes "else") (block n))) ts
+
+-- the two arms of an `if`
+unfoldable pub arms_at : (ℕ → Parse Block) → ℕ → Parse (Block × Optional)
+arms_at block n ts = both (block n) (else_at block n) ts
 
 unfoldable pub if_at : (ℕ → Parse Block) → ℕ → Parse Statement
-if_at block n ts = seen made_if (both (round_term_at n) (both (block n) (else_at block n))) ts
+if_at block n ts = seen made_if (both (round_term_at n) (arms_at block n)) ts
 
 unfoldable pub upto_at : Parse Bool
 upto_at ts = merged (begins_with s.Less) (after (s.Less ∷ []) (nothing_at false)) (after (s.LessEqual ∷ []) (nothing_at true)) ts
 
+-- NAME "++"
+unfoldable pub step_at : List ℕ → Parse (Unit {0})
+step_at name ts = after_word name (after (s.Increment ∷ []) (nothing_at tt)) ts
+
+-- NAME ("<" | "<=") e ";" NAME "++"
+unfoldable pub upper_at : ℕ → List ℕ → Parse (Bool × (Spoken × Unit {0}))
+upper_at n name ts = after_word name (both upto_at (both (ended_at n) (step_at name))) ts
+
 unfoldable pub head_after : ℕ → List ℕ → Parse Head
-head_after n name ts =
-    seen (made_head name) (after (s.Assign ∷ []) (both (ended_at n) (after_word name (both upto_at
-    (both (ended_at n) (after_word name (after (s.Increment ∷ []) (nothing_at tt)))))))) ts
+head_after n name ts = seen (made_head name) (after (s.Assign ∷ []) (both (ended_at n) (upper_at n name))) ts
 
 -- a name that users may give, and what stands behind it
 unfoldable pub named_head_at : ℕ → List ℕ → Parse Head
-named_head_at n name ts = if is_plain StreamIt name then head_after n name ts else None
+named_head_at n name ts = if is_own name then head_after n name ts else None
 
 unfoldable pub head_at : ℕ → Parse Head
 head_at n ts = after_word (codes "int") (headed (named_head_at n)) ts
@@ -90,7 +102,7 @@ stmt_after branch loop n w ts =
     else if bytes_eq w (codes "pop") then pop_at n ts
     else if bytes_eq w (codes "if") then branch ts
     else if bytes_eq w (codes "for") then loop ts
-    else if is_plain StreamIt w then assign_at w n ts
+    else if is_own w then assign_at w n ts
     else None
 
 abbrev pub stmts_of : (ℕ → Parse Statement) → ℕ → Parse Block
@@ -120,11 +132,11 @@ loop_at (suc nest) n ts = for_at (block_at nest) n ts
 unfoldable pub still_at : ℕ → Parse Block
 still_at n ts = tested stay (block_at 16 n) ts
 
-unfoldable pub init_at : ℕ → Parse Block
-init_at n ts = seen or_end (maybe (is_word_at (codes "init")) (after_word (codes "init") (still_at n))) ts
+unfoldable pub init_at : ℕ → Parse Optional
+init_at n ts = seen or_unwritten (maybe (is_word_at (codes "init")) (after_word (codes "init") (still_at n))) ts
 
 unfoldable pub field_at : Parse (List ℕ)
-field_at ts = after_word (codes "int") (before (plain_name_at StreamIt) (s.Semicolon ∷ [])) ts
+field_at ts = after_word (codes "int") (before plain_at (s.Semicolon ∷ [])) ts
 
 abbrev pub no_field : List Tok → Bool
 no_field ts = not (is_word_at (codes "int") ts)
@@ -163,11 +175,8 @@ filter_at n ts = braces in_filter_at n ts
 unfoldable pub parens_at : ℕ → Parse (Unit {0})
 parens_at n ts = seen none_there (maybe (begins_with s.Open) (empty_at n)) ts
 
-unfoldable pub stream_name_at : Parse (List ℕ)
-stream_name_at ts = tested is_name (plain_name_at StreamIt) ts
-
 unfoldable pub called_at : ℕ → Parse (List ℕ)
-called_at n ts = seen the_name (both stream_name_at (parens_at n)) ts
+called_at n ts = seen the_name (both plain_at (parens_at n)) ts
 
 unfoldable pub add_at : ℕ → Parse (List ℕ)
 add_at n ts = after_word (codes "add") (before (called_at n) (s.Semicolon ∷ [])) ts
@@ -190,8 +199,8 @@ some_weights_at ts = commas weight_at ts
 unfoldable pub listed_at : ℕ → Parse (List ℕ)
 listed_at n ts = round (λ m. listing s.Close weight_at) n ts
 
-unfoldable pub weights_at : ℕ → Parse (List ℕ)
-weights_at n ts = seen or_none (maybe (begins_with s.Open) (listed_at n)) ts
+unfoldable pub weights_at : ℕ → Parse (Option (List ℕ))
+weights_at n ts = maybe (begins_with s.Open) (listed_at n) ts
 
 unfoldable pub split_after : ℕ → List ℕ → Parse Dealing
 split_after n w ts =
@@ -202,7 +211,7 @@ split_after n w ts =
 unfoldable pub split_at : ℕ → Parse Dealing
 split_at n ts = after_word (codes "split") (before (headed (split_after n)) (s.Semicolon ∷ [])) ts
 
-unfoldable pub join_at : ℕ → Parse (List ℕ)
+unfoldable pub join_at : ℕ → Parse (Option (List ℕ))
 join_at n ts = after_word (codes "join") (after_word (codes "roundrobin") (before (weights_at n) (s.Semicolon ∷ []))) ts
 
 unfoldable pub in_both_at : ℕ → Parse Body

@@ -1,34 +1,36 @@
 // Filters read.
 ghost use Rattle.std.specs.Prelude.{◌≡◌};
 ghost use Rattle.text_forms.specs.Gives.{Gives};
-ghost use Rattle.streamit_unroll.specs.Filter.{names_of, optional, filter_tree};
-ghost use Rattle.streamit_unroll.specs.View.{block};
+ghost use Rattle.streamit_unroll.specs.Filter.{filter_tree};
+ghost use Rattle.streamit_unroll.specs.View.{block, optional};
 ghost use Rattle.streamit_text.specs.Grammar.{with_rate};
 ghost use Rattle.streamit_text.specs.View.{rate_of, rates_of, option_rates};
 ghost use Rattle.streamit_text.specs.Reading.{field_at, fields_at, rate_after, rate_at, rates_at, still_at, init_at, in_filter_at, filter_at};
 
 use crate::block::block;
+use crate::names::name;
 use crate::still::stay;
+use river_base::Name;
 use std::alloc::Global;
 use streamit_unroll::{Block, FilterTree, Rates};
-use text_forms::{Fault, Language, Reader};
+use text_forms::{Fault, Reader};
 use work_code::Symbol;
 
 // `int NAME;`
 #[tactic(auto, unfolding(crate::specs::Reading::field_at))]
-fn field<'a>(reader: &mut Reader<'a>) -> Result<&'a [u8], Fault>
-    ensures { Gives (λ name. name.now) result reader.new (field_at reader.old) }
+fn field(reader: &mut Reader<'_>) -> Result<Name, Fault>
+    ensures { Gives (λ name. name) result reader.new (field_at reader.old) }
 {
     reader.word(b"int")?;
-    let name = reader.plain_name(Language::StreamIt)?;
+    let name = name(reader)?;
     reader.expect(&[Symbol::Semicolon])?;
     Ok(name)
 }
 
 // The fields of a filter.
 #[tactic(auto, unfolding(crate::specs::Reading::fields_at), using(crate::proofs::Fields::fields))]
-fn fields<'a>(reader: &mut Reader<'a>, alloc: Global) -> Result<Vec<&'a [u8]>, Fault>
-    ensures { Gives (λ names. names_of names.items) result reader.new (fields_at reader.old) }
+fn fields(reader: &mut Reader<'_>, alloc: Global) -> Result<Vec<Name>, Fault>
+    ensures { Gives (λ names. names.items) result reader.new (fields_at reader.old) }
 {
     let mut names = Vec::new(alloc);
     'items: while reader.is_at_word(b"int") {
@@ -114,7 +116,7 @@ fn rates(reader: &mut Reader<'_>) -> Result<Rates, Fault>
 
 // A block without `push`, `pop` and `peek`.
 #[tactic(auto, unfolding(crate::specs::Reading::still_at))]
-fn still<'a>(reader: &mut Reader<'a>, alloc: Global, brackets: u32) -> Result<Block<'a>, Fault>
+fn still(reader: &mut Reader<'_>, alloc: Global, brackets: u32) -> Result<Block, Fault>
     ensures { Gives block result reader.new (still_at brackets reader.old) }
 {
     let all = block(reader, alloc, 16, brackets)?;
@@ -127,11 +129,7 @@ fn still<'a>(reader: &mut Reader<'a>, alloc: Global, brackets: u32) -> Result<Bl
 
 // `init` and its block, or nothing.
 #[tactic(auto, unfolding(crate::specs::Reading::init_at))]
-fn init<'a>(
-    reader: &mut Reader<'a>,
-    alloc: Global,
-    brackets: u32,
-) -> Result<Option<Block<'a>>, Fault>
+fn init(reader: &mut Reader<'_>, alloc: Global, brackets: u32) -> Result<Option<Block>, Fault>
     ensures { Gives optional result reader.new (init_at brackets reader.old) }
 {
     if !reader.is_at_word(b"init") {
@@ -143,11 +141,7 @@ fn init<'a>(
 
 // What stands between the braces of a filter.
 #[tactic(auto, unfolding(crate::specs::Reading::in_filter_at), using(crate::proofs::Rates::filters))]
-fn in_filter<'a>(
-    reader: &mut Reader<'a>,
-    alloc: Global,
-    brackets: u32,
-) -> Result<FilterTree<'a>, Fault>
+fn in_filter(reader: &mut Reader<'_>, alloc: Global, brackets: u32) -> Result<FilterTree, Fault>
     ensures { Gives filter_tree result reader.new (in_filter_at brackets reader.old) }
 {
     let fields = fields(reader, alloc)?;
@@ -165,11 +159,7 @@ fn in_filter<'a>(
 
 /// `{` what a filter has `}`
 #[tactic(auto, unfolding(crate::specs::Reading::filter_at))]
-pub fn filter<'a>(
-    reader: &mut Reader<'a>,
-    alloc: Global,
-    brackets: u32,
-) -> Result<FilterTree<'a>, Fault>
+pub fn filter(reader: &mut Reader<'_>, alloc: Global, brackets: u32) -> Result<FilterTree, Fault>
     ensures { Gives filter_tree result reader.new (filter_at brackets reader.old) }
 {
     let inner = reader.opens(Symbol::OpenBrace, brackets)?;

@@ -1,8 +1,10 @@
-// Names of streams read, and what is added by them.
-ghost use Rattle.std.specs.Prelude.{◌≡◌, ◌≤◌, length, map, IfOk};
+// Names read, and what is added by the names of streams.
+ghost use Rattle.std.specs.Prelude.{◌≡◌, ◌≤◌, length, map, IfOk, IsTrue};
+ghost use Rattle.std.specs.Option.{SomeIff};
 ghost use Rattle.text_forms.specs.Gives.{Gives};
 ghost use Rattle.streamit_build.specs.Program.{adds_of};
-ghost use Rattle.streamit_text.specs.Reading.{stream_name_at, parens_at, called_at, add_at, more_adds_at, adds_at, pipe_at};
+ghost use Rattle.streamit_text.specs.Grammar.{is_own};
+ghost use Rattle.streamit_text.specs.Reading.{plain_at, parens_at, called_at, add_at, more_adds_at, adds_at, pipe_at};
 
 use crate::block::empty;
 use river_base::Name;
@@ -11,14 +13,25 @@ use streamit_build::Adds;
 use text_forms::{Fault, Language, Reader};
 use work_code::Symbol;
 
-// A name that users may give to a stream.
-#[tactic(auto, unfolding(crate::specs::Reading::stream_name_at), using(crate::proofs::Adding::names))]
-fn stream_name(reader: &mut Reader<'_>) -> Result<Name, Fault>
-    ensures reads { Gives (λ name. name) result reader.new (stream_name_at reader.old) }
+/// The name that these bytes are, if users may give it.
+pub fn own(text: &[u8]) -> Option<Name>
+    ensures { SomeIff result (IsTrue (is_own text.now)) text.now }
+{
+    if Language::StreamIt.is_plain(text) {
+        Name::from_slice(text)
+    } else {
+        None
+    }
+}
+
+/// A name that users may give.
+#[tactic(auto, unfolding(crate::specs::Reading::plain_at), using(crate::proofs::Adding::names))]
+pub fn name(reader: &mut Reader<'_>) -> Result<Name, Fault>
+    ensures reads { Gives (λ name. name) result reader.new (plain_at reader.old) }
     ensures short { IfOk result (λ name. length name ≤ 40) }
 {
-    let text = reader.plain_name(Language::StreamIt)?;
-    match Name::from_slice(text) {
+    let text = reader.name()?;
+    match own(text) {
         Some(name) => Ok(name),
         None => Err(Fault::Syntax),
     }
@@ -41,7 +54,7 @@ pub fn called(reader: &mut Reader<'_>, brackets: u32) -> Result<Name, Fault>
     ensures reads { Gives (λ name. name) result reader.new (called_at brackets reader.old) }
     ensures short { IfOk result (λ name. length name ≤ 40) }
 {
-    let name = stream_name(reader)?;
+    let name = name(reader)?;
     parens(reader, brackets)?;
     Ok(name)
 }

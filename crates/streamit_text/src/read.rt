@@ -14,17 +14,17 @@ use text_forms::Fault;
 use work_code::{Lexeme, Tokens, units};
 
 /// The program that the units of these tokens stand for (the StreamIt language of Thies, Karczmarek and Amarasinghe,
-/// cut to filters on whole numbers, pipelines and split-joins). Its names borrow from the tokens.
+/// cut to filters on whole numbers, pipelines and split-joins).
 ///
 /// # Errors
 ///
 /// `Syntax` with the first unit, from 1, that is not in the grammar, which is 1 where there is no unit; `NoMemory` where
 /// there is no memory.
 #[tactic(auto, using(crate::proofs::Programs::programs, work_code::proofs::Counts::counts))]
-pub fn read_streamit<'t>(
+pub fn read_streamit(
     alloc: Global,
-    tokens: &'t Tokens<'_>,
-) -> Result<Vec<Declaration<'t>>, StreamitTextFault>
+    tokens: &Tokens<'_>,
+) -> Result<Vec<Declaration>, StreamitTextFault>
     requires { length tokens.now < 2 ^ 32 }
     ensures read { IfOk result (λ units. StandFor tokens.now (program_of units.items)) }
     ensures refused { IfErr result (Refuses tokens.now) }
@@ -34,10 +34,7 @@ pub fn read_streamit<'t>(
 }
 
 // The program of the units of a text.
-fn read_units<'t>(
-    alloc: Global,
-    parts: &[&'t [Lexeme<'t>]],
-) -> Result<Vec<Declaration<'t>>, StreamitTextFault>
+fn read_units(alloc: Global, parts: &[&[Lexeme<'_>]]) -> Result<Vec<Declaration>, StreamitTextFault>
     requires { length parts.now < 2 ^ 32 }
     ensures { GivesProgram result (some_units (map unit_tokens parts.now)) }
 {

@@ -1,13 +1,13 @@
 // Splitters and joiners read.
 ghost use Rattle.std.specs.Prelude.{◌≡◌, map};
 ghost use Rattle.text_forms.specs.Gives.{Gives};
-ghost use Rattle.streamit_build.specs.Program.{dealing_of, body_of};
+ghost use Rattle.streamit_build.specs.Program.{weights_of, dealing_of, body_of};
 ghost use Rattle.streamit_text.specs.Reading.{weight_at, some_weights_at, listed_at, weights_at, split_after, split_at, join_at, in_both_at, both_at};
 ghost use Rattle.streamit_text.specs.View.{split_join_of};
 
 use crate::names::{adds, parens};
 use std::alloc::Global;
-use streamit_build::{Split, SplitJoin};
+use streamit_build::{RoundRobin, Split, SplitJoin};
 use text_forms::{Fault, Reader};
 use work_code::Symbol;
 
@@ -54,14 +54,16 @@ fn listed(reader: &mut Reader<'_>, alloc: Global, brackets: u32) -> Result<Vec<u
 
 // Weights in brackets, or no brackets.
 #[tactic(auto, unfolding(crate::specs::Reading::weights_at))]
-fn weights(reader: &mut Reader<'_>, alloc: Global, brackets: u32) -> Result<Vec<u64>, Fault>
-    ensures { Gives (λ ws. ws.items) result reader.new (weights_at brackets reader.old) }
+fn weights(reader: &mut Reader<'_>, alloc: Global, brackets: u32) -> Result<RoundRobin, Fault>
+    ensures { Gives weights_of result reader.new (weights_at brackets reader.old) }
 {
-    if reader.is_at(Symbol::Open) {
-        listed(reader, alloc, brackets)
-    } else {
-        Ok(Vec::new(alloc))
+    if !reader.is_at(Symbol::Open) {
+        return Ok(RoundRobin { weights: None });
     }
+    let weights = listed(reader, alloc, brackets)?;
+    Ok(RoundRobin {
+        weights: Some(weights),
+    })
 }
 
 // What stands behind `split`.
@@ -98,8 +100,8 @@ fn split(reader: &mut Reader<'_>, alloc: Global, brackets: u32) -> Result<Split,
 
 // `join roundrobin ..;`
 #[tactic(auto, unfolding(crate::specs::Reading::join_at))]
-fn join(reader: &mut Reader<'_>, alloc: Global, brackets: u32) -> Result<Vec<u64>, Fault>
-    ensures { Gives (λ ws. ws.items) result reader.new (join_at brackets reader.old) }
+fn join(reader: &mut Reader<'_>, alloc: Global, brackets: u32) -> Result<RoundRobin, Fault>
+    ensures { Gives weights_of result reader.new (join_at brackets reader.old) }
 {
     reader.word(b"join")?;
     reader.word(b"roundrobin")?;

@@ -1,45 +1,66 @@
 // Whether `push`, `pop` or `peek` stands somewhere.
 ghost use Rattle.std.specs.Prelude.{◌≡◌};
-ghost use Rattle.text_forms.specs.Tree.{spoken};
-ghost use Rattle.streamit_unroll.specs.View.{option_spoken, statement, block};
-ghost use Rattle.streamit_text.specs.Grammar.{is_still, is_still_first, stays, stay};
+ghost use Rattle.streamit_unroll.specs.View.{expression, option_expression, statement, block, optional};
+ghost use Rattle.streamit_text.specs.Grammar.{is_still, is_still_first, stays, stay, stay_optional};
 
-use streamit_unroll::{Block, Statement};
-use text_forms::Tree;
+use streamit_unroll::{Block, Expression, Statement};
 
 // Whether none stands in the expression.
-fn is_still(tree: &Tree<'_>) -> bool
-    ensures { result ≡ is_still (spoken tree.now) }
+fn is_still(e: &Expression) -> bool
+    ensures { result ≡ is_still (expression e.now) }
 {
-    match tree {
-        Tree::Peek(_) | Tree::Pop => false,
-        Tree::Neg(inner) | Tree::Not(inner) => is_still(inner),
-        Tree::Bin { left, right, .. } => is_still(left) && is_still(right),
-        Tree::Number(_) | Tree::Name(_) | Tree::Input(_) | Tree::Slot(_) => true,
+    match e {
+        Expression::Peek(_) | Expression::Pop => false,
+        Expression::Neg(inner) | Expression::Not(inner) => is_still(inner),
+        Expression::Or(left, right)
+        | Expression::And(left, right)
+        | Expression::Eq(left, right)
+        | Expression::Ne(left, right)
+        | Expression::Lt(left, right)
+        | Expression::Le(left, right)
+        | Expression::Gt(left, right)
+        | Expression::Ge(left, right)
+        | Expression::Add(left, right)
+        | Expression::Sub(left, right)
+        | Expression::Mul(left, right)
+        | Expression::Quot(left, right)
+        | Expression::Rem(left, right) => is_still(left) && is_still(right),
+        Expression::Number(_) | Expression::Name(_) => true,
     }
 }
 
 // Whether none stands in the first value, if there is one.
-fn is_still_first(value: &Option<Tree<'_>>) -> bool
-    ensures { result ≡ is_still_first (option_spoken value.now) }
+fn is_still_first(value: &Option<Expression>) -> bool
+    ensures { result ≡ is_still_first (option_expression value.now) }
 {
     match value {
-        Some(tree) => is_still(tree),
+        Some(e) => is_still(e),
+        None => true,
+    }
+}
+
+// Whether none stands in the second arm, if there is one.
+#[cycle(still)]
+fn stays_optional(no: &Option<Block>) -> bool
+    ensures { result ≡ stay_optional (optional no.now) }
+{
+    match no {
+        Some(block) => stay(block),
         None => true,
     }
 }
 
 // Whether none stands in the statement.
 #[cycle(still)]
-#[tactic(auto, using(crate::proofs::Trees::trees))]
-fn stays(one: &Statement<'_>) -> bool
+#[tactic(auto, using(streamit_unroll::proofs::Trees::trees))]
+fn stays(one: &Statement) -> bool
     ensures { result ≡ stays (statement one.now) }
 {
     match one {
         Statement::Declare { value, .. } => is_still_first(value),
         Statement::Assign { value, .. } => is_still(value),
         Statement::Push(_) | Statement::Pop => false,
-        Statement::If { cond, yes, no } => is_still(cond) && stay(yes) && stay(no),
+        Statement::If { cond, yes, no } => is_still(cond) && stay(yes) && stays_optional(no),
         Statement::For {
             low,
             high,
@@ -51,8 +72,8 @@ fn stays(one: &Statement<'_>) -> bool
 
 /// Whether none stands in the block.
 #[cycle(still)]
-#[tactic(auto, using(crate::proofs::Trees::trees))]
-pub fn stay(all: &Block<'_>) -> bool
+#[tactic(auto, using(streamit_unroll::proofs::Trees::trees))]
+pub fn stay(all: &Block) -> bool
     ensures { result ≡ stay (block all.now) }
 {
     'items: for each in all.items.as_slice() {

@@ -1,43 +1,73 @@
 // Expressions read.
 ghost use Rattle.std.specs.Prelude.{◌≡◌};
 ghost use Rattle.text_forms.specs.Gives.{Gives};
-ghost use Rattle.text_forms.specs.Tree.{spoken};
-ghost use Rattle.streamit_text.specs.Grammar.{has_values};
+ghost use Rattle.text_forms.specs.Tree.{Number, spoken};
+ghost use Rattle.streamit_unroll.specs.View.{expression};
+ghost use Rattle.streamit_text.specs.View.{Owns};
 ghost use Rattle.streamit_text.specs.Reading.{term_at, ended_at, round_term_at};
 
+use river_base::Name;
 use std::alloc::Global;
+use streamit_unroll::Expression;
 use text_forms::{Fault, Language, Reader, Tree};
 use work_code::Symbol;
 
-// Whether each number of the expression is at most 2^63 - 1.
-fn has_values(tree: &Tree<'_>) -> bool
-    ensures { result ≡ has_values (spoken tree.now) }
+// The expression of a program that this is, if it fits.
+fn owned(alloc: Global, tree: &Tree<'_>) -> Result<Expression, Fault>
+    ensures { Owns result (spoken tree.now) }
 {
     match tree {
-        Tree::Number(value) => *value <= 9_223_372_036_854_775_807,
-        Tree::Peek(inner) | Tree::Neg(inner) | Tree::Not(inner) => has_values(inner),
-        Tree::Bin { left, right, .. } => has_values(left) && has_values(right),
-        Tree::Name(_) | Tree::Input(_) | Tree::Slot(_) | Tree::Pop => true,
+        Tree::Number(value) => number(*value),
+        Tree::Name(text) => match Name::from_slice(text) {
+            Some(name) => Ok(Expression::Name(name)),
+            None => Err(Fault::Syntax),
+        },
+        Tree::Peek(inner) => {
+            let inner = owned(alloc, inner)?;
+            Ok(Expression::Peek(Box::new(alloc, inner)?))
+        }
+        Tree::Pop => Ok(Expression::Pop),
+        Tree::Neg(inner) => {
+            let inner = owned(alloc, inner)?;
+            Ok(Expression::Neg(Box::new(alloc, inner)?))
+        }
+        Tree::Not(inner) => {
+            let inner = owned(alloc, inner)?;
+            Ok(Expression::Not(Box::new(alloc, inner)?))
+        }
+        Tree::Bin { op, left, right } => {
+            let left = Box::new(alloc, owned(alloc, left)?)?;
+            let right = Box::new(alloc, owned(alloc, right)?)?;
+            Ok(Expression::binary(*op, left, right))
+        }
+        Tree::Input(_) | Tree::Slot(_) => Err(Fault::Syntax),
     }
 }
 
-/// An expression.
-#[tactic(auto, unfolding(crate::specs::Reading::term_at))]
-pub fn term<'a>(reader: &mut Reader<'a>, alloc: Global, brackets: u32) -> Result<Tree<'a>, Fault>
-    ensures { Gives spoken result reader.new (term_at brackets reader.old) }
+// A number, which is at most 2^63 - 1.
+fn number(value: u64) -> Result<Expression, Fault>
+    ensures { Owns result (Number value) }
 {
-    let tree = reader.expression(alloc, Language::StreamIt, brackets)?;
-    if has_values(&tree) {
-        Ok(tree)
+    if value <= 9_223_372_036_854_775_807 {
+        Ok(Expression::Number(value))
     } else {
         Err(Fault::Syntax)
     }
 }
 
+/// An expression.
+#[tactic(auto, unfolding(crate::specs::Reading::term_at))]
+pub fn term(reader: &mut Reader<'_>, alloc: Global, brackets: u32) -> Result<Expression, Fault>
+    ensures { Gives expression result reader.new (term_at brackets reader.old) }
+{
+    let tree = reader.expression(alloc, Language::StreamIt, brackets)?;
+    owned(alloc, &tree)
+}
+
 /// `e;`
 #[tactic(auto, unfolding(crate::specs::Reading::ended_at))]
-pub fn ended<'a>(reader: &mut Reader<'a>, alloc: Global, brackets: u32) -> Result<Tree<'a>, Fault>
-    ensures { Gives spoken result reader.new (ended_at brackets reader.old) }
+pub fn ended(reader: &mut Reader<'_>, alloc: Global, brackets: u32) -> Result<Expression, Fault>
+    ensures { Gives expression result reader.new (ended_at brackets reader.old) }
 {
     let tree = term(reader, alloc, brackets)?;
     reader.expect(&[Symbol::Semicolon])?;
@@ -46,12 +76,12 @@ pub fn ended<'a>(reader: &mut Reader<'a>, alloc: Global, brackets: u32) -> Resul
 
 /// `(e)`
 #[tactic(auto, unfolding(crate::specs::Reading::round_term_at))]
-pub fn round_term<'a>(
-    reader: &mut Reader<'a>,
+pub fn round_term(
+    reader: &mut Reader<'_>,
     alloc: Global,
     brackets: u32,
-) -> Result<Tree<'a>, Fault>
-    ensures { Gives spoken result reader.new (round_term_at brackets reader.old) }
+) -> Result<Expression, Fault>
+    ensures { Gives expression result reader.new (round_term_at brackets reader.old) }
 {
     let inner = reader.opens(Symbol::Open, brackets)?;
     let tree = term(reader, alloc, inner)?;

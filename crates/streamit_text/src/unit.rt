@@ -17,12 +17,12 @@ use work_code::{Lexeme, Symbol};
 
 // What stands behind the name of a stream of this kind.
 #[tactic(auto, unfolding(crate::specs::Reading::body_after))]
-fn body_after<'a>(
-    reader: &mut Reader<'a>,
+fn body_after(
+    reader: &mut Reader<'_>,
     alloc: Global,
     brackets: u32,
     word: &[u8],
-) -> Result<Body<'a>, Fault>
+) -> Result<Body, Fault>
     ensures { Gives body_of result reader.new (body_after brackets word.now reader.old) }
 {
     if word == b"filter".as_slice() {
@@ -39,12 +39,12 @@ fn body_after<'a>(
 
 // What stands behind the kind of a stream.
 #[tactic(auto, unfolding(crate::specs::Reading::kind_after))]
-fn kind_after<'a>(
-    reader: &mut Reader<'a>,
+fn kind_after(
+    reader: &mut Reader<'_>,
     alloc: Global,
     brackets: u32,
     word: &[u8],
-) -> Result<Declaration<'a>, Fault>
+) -> Result<Declaration, Fault>
     ensures { Gives declared_of result reader.new (kind_after brackets word.now reader.old) }
 {
     let name = called(reader, brackets)?;
@@ -54,7 +54,7 @@ fn kind_after<'a>(
 
 // A unit.
 #[tactic(auto, unfolding(crate::specs::Reading::unit_at))]
-fn unit<'a>(reader: &mut Reader<'a>, alloc: Global) -> Result<Declaration<'a>, Fault>
+fn unit(reader: &mut Reader<'_>, alloc: Global) -> Result<Declaration, Fault>
     ensures { Gives declared_of result reader.new (unit_at reader.old) }
 {
     reader.word(b"int")?;
@@ -66,7 +66,7 @@ fn unit<'a>(reader: &mut Reader<'a>, alloc: Global) -> Result<Declaration<'a>, F
 
 /// The declaration that a whole unit stands for.
 #[tactic(auto, using(crate::proofs::Wholes::wholes))]
-pub fn whole_unit<'t>(alloc: Global, tokens: &'t [Lexeme<'t>]) -> Result<Declaration<'t>, Fault>
+pub fn whole_unit(alloc: Global, tokens: &[Lexeme<'_>]) -> Result<Declaration, Fault>
     ensures { Makes declared_of result (whole unit_at (tokens_of tokens.now)) }
 {
     let mut reader = Reader::new(tokens);

@@ -1,5 +1,5 @@
 -- Statements that were read so far, and those that are read after them.
-use Rattle.std.proofs.Common.{◌≡◌, ℕ, suc, ◌+◌, ◌-◌, ◌<◌, ◌≤◌, List, [], ◌∷◌, ◌++◌, length, take, drop, map, get_or, Bool, true, Result, Ok, Err, refl, sym, ap, ◌∙◌, subst, arith, append_assoc, append-nil, drop-cons, add-one}
+use Rattle.std.proofs.Common.{◌≡◌, ℕ, suc, ◌+◌, ◌-◌, ◌<◌, ◌≤◌, List, [], ◌∷◌, ◌++◌, length, take, drop, map, get_or, Bool, true, Result, Ok, Err, refl, sym, ap, ◌∙◌, subst, arith, append_assoc, append-nil, drop-cons, add-one, Option}
 use Rattle.work_code.specs.declared.code.Stmt.{Stmt}
 use Rattle.work_code.specs.declared.code.Stmts.{Stmts}
 use Rattle.work_code.specs.Steps.{Step, Steps, Done, step, statements, in_turn}
@@ -7,13 +7,12 @@ use Rattle.work_code.specs.Steps as steps
 use Rattle.streamit_model.specs.Source as source
 use Rattle.river_plan.specs.Forms.{Name}
 use Rattle.streamit_model.specs.Source.{numbers}
-use Rattle.streamit_model.specs.Elaborate.{Fault, At, Read, on_ok, joined, step_of, steps_of, unrolled, counted, is_new, find, constant, bound_of, term_of, one_step, after_arms}
+use Rattle.streamit_model.specs.Elaborate.{Fault, At, Read, on_ok, joined, step_of, steps_of, unrolled, counted, is_new, find, constant, bound_of, term_of, one_step, after_arms, optional_of}
 use Rattle.streamit_model.specs.Source.{pops}
 use Rattle.text_forms.specs.Tree.{Spoken}
 use Rattle.work_code.specs.Term.{Term}
 use Rattle.std.specs.Prelude.{if◌then◌else◌, nat_eq, ◌&&◌}
 use Rattle.streamit_unroll.specs.declared.unroll.Unroller.{Unroller}
-use Rattle.std.specs.Borrow.{Bor}
 use Rattle.streamit_unroll.specs.declared.names.Known.{Known}
 use Rattle.streamit_unroll.specs.declared.names.Known.TheVariants as known
 use Rattle.streamit_unroll.specs.View.{scope_of, Tells}
@@ -208,6 +207,21 @@ for_is e n lo hi upto b s l h end u new low high is =
     ∙ ap (λ r. on_ok r (f4 l)) high
     ∙ ap (λ k. unrolled (steps_of e b) n (numbers l (k - l)) s) (sym is)
 
+-- a loop whose lower bound is refused
+pub low_fault : (e : ℕ) (n : Name) (lo hi : Spoken) (upto : Bool) (b : source.Block) (s : At) (u : Unit {0}) (whole : Read) (result : Result (Unit {0}) fault.Fault) (f : fault.Fault) (o k : Stmts) (x y : Unroller)
+    → result ≡ Err f → whole ≡ step_of e (source.For n lo upto hi b) s → is_new (find s.scope n) ≡ Ok u → Tells f (on_ok (constant s.scope lo) bound_of) → Reads result o k x y whole
+low_fault e n lo hi upto b s u whole result f o k x y is w new low =
+    let f4 = λ (l m : ℕ). unrolled (steps_of e b) n (numbers l (m + (if upto then 1 else 0) - l)) s in
+    let f3 = λ (l : ℕ). on_ok (constant s.scope hi) (λ y. on_ok (bound_of y) (f4 l)) in
+    subst (λ t. Reads t o k x y whole) (sym is)
+    (tells_more f (on_ok (constant s.scope lo) bound_of) whole
+    (λ g h.
+    w
+    ∙ ap (λ r. on_ok r (λ u. on_ok (constant s.scope lo) (λ x. on_ok (bound_of x) f3))) new
+    ∙ sym (on_ok-assoc (constant s.scope lo) bound_of f3)
+    ∙ ap (λ r. on_ok r f3) h)
+    low)
+
 -- a loop whose upper bound is refused
 pub for_fault : (e : ℕ) (n : Name) (lo hi : Spoken) (upto : Bool) (b : source.Block) (s : At) (l : ℕ) (u : Unit {0}) (whole : Read) (result : Result (Unit {0}) fault.Fault) (f : fault.Fault) (o k : Stmts) (x y : Unroller) → result ≡ Err f → whole ≡ step_of e (source.For n lo upto hi b) s → is_new (find s.scope n) ≡ Ok u → on_ok (constant s.scope lo) bound_of ≡ Ok l → Tells f (on_ok (constant s.scope hi) bound_of) → Reads result o k x y whole
 for_fault e n lo hi upto b s l u whole result f o k x y is w new low high =
@@ -225,11 +239,11 @@ for_fault e n lo hi upto b s l u whole result f o k x y is w new low high =
     high)
 
 -- an `if` whose parts are there
-pub if_is : (e : ℕ) (t : Spoken) (a b : source.Block) (s s1 : At) (cond : Term) (f g : Steps) (la lb : At) → counted s ≡ Ok s1 → term_of e s1.scope t s1.popped ≡ Ok cond → steps_of e a (record s1 { popped = s1.popped + pops t }) ≡ Ok (f, la) → steps_of e b (record s1 { popped = s1.popped + pops t; slots = la.slots; size = la.size }) ≡ Ok (g, lb) → la.popped ≡ lb.popped → la.pushed ≡ lb.pushed → step_of e (source.If t a b) s ≡ Ok (one_step (steps.If cond f g), record lb { scope = s1.scope })
+pub if_is : (e : ℕ) (t : Spoken) (a : source.Block) (b : source.Optional) (s s1 : At) (cond : Term) (f g : Steps) (la lb : At) → counted s ≡ Ok s1 → term_of e s1.scope t s1.popped ≡ Ok cond → steps_of e a (record s1 { popped = s1.popped + pops t }) ≡ Ok (f, la) → optional_of e b (record s1 { popped = s1.popped + pops t; slots = la.slots; size = la.size }) ≡ Ok (g, lb) → la.popped ≡ lb.popped → la.pushed ≡ lb.pushed → step_of e (source.If t a b) s ≡ Ok (one_step (steps.If cond f g), record lb { scope = s1.scope })
 if_is e t a b s s1 cond f g la lb hc ht ha hb p q =
-    let f3 = λ (c : Term) (p : Steps × At). on_ok (steps_of e b (record s1 { popped = s1.popped + pops t; slots = p.1.slots; size = p.1.size })) (after_arms s1 c p) in
+    let f3 = λ (c : Term) (p : Steps × At). on_ok (optional_of e b (record s1 { popped = s1.popped + pops t; slots = p.1.slots; size = p.1.size })) (after_arms s1 c p) in
     let f2 = λ (c : Term). on_ok (steps_of e a (record s1 { popped = s1.popped + pops t })) (f3 c) in
-    ap (λ r. on_ok r (λ s. on_ok (term_of e s.scope t s.popped) (λ c. on_ok (steps_of e a (record s { popped = s.popped + pops t })) (λ p. on_ok (steps_of e b (record s { popped = s.popped + pops t; slots = p.1.slots; size = p.1.size })) (after_arms s c p))))) hc
+    ap (λ r. on_ok r (λ s. on_ok (term_of e s.scope t s.popped) (λ c. on_ok (steps_of e a (record s { popped = s.popped + pops t })) (λ p. on_ok (optional_of e b (record s { popped = s.popped + pops t; slots = p.1.slots; size = p.1.size })) (after_arms s c p))))) hc
     ∙ ap (λ r. on_ok r f2) ht
     ∙ ap (λ r. on_ok r (f3 cond)) ha
     ∙ ap (λ r. on_ok r (after_arms s1 cond (f, la))) hb
@@ -242,20 +256,20 @@ if_is e t a b s s1 cond f g la lb hc ht ha hb p q =
     eq_true x y h = grind (arith, h)
 
 abbrev Entry : Type 0
-Entry = Bor (List ℕ) × Known
+Entry = Name × Known
 
 take_front : {A : Type 0} (xs ys : List A) → take (length xs) (xs ++ ys) ≡ xs
 take_front [] ys = refl
 take_front (x ∷ xs) ys = ap (λ l. x ∷ l) (take_front xs ys)
 
 -- one turn: the variable is the newest name, and is forgotten afterwards
-pub turn_is : (e : ℕ) (b : source.Block) (name : Bor (List ℕ)) (v : ℕ) (s0 s1 s3 : At) (i0 i1 i2 i3 i4 : List Entry) (a : Steps) → s0.scope ≡ scope_of i0 → counted s0 ≡ Ok s1 → i1 ≡ i0 → i2 ≡ i1 ++ (name, known.Turn v) ∷ [] → steps_of e b (record s1 { scope = scope_of i2 }) ≡ Ok (a, s3) → take (length i2) i3 ≡ i2 → i4 ≡ take (length i1) i3 → (turn_of (steps_of e b) name.now v s0 ≡ Ok (a, record s3 { scope = scope_of i4 })) × (i4 ≡ i0)
+pub turn_is : (e : ℕ) (b : source.Block) (name : Name) (v : ℕ) (s0 s1 s3 : At) (i0 i1 i2 i3 i4 : List Entry) (a : Steps) → s0.scope ≡ scope_of i0 → counted s0 ≡ Ok s1 → i1 ≡ i0 → i2 ≡ i1 ++ (name, known.Turn v) ∷ [] → steps_of e b (record s1 { scope = scope_of i2 }) ≡ Ok (a, s3) → take (length i2) i3 ≡ i2 → i4 ≡ take (length i1) i3 → (turn_of (steps_of e b) name v s0 ≡ Ok (a, record s3 { scope = scope_of i4 })) × (i4 ≡ i0)
 turn_is e b name v s0 s1 s3 i0 i1 i2 i3 i4 a sc hc e1 e2 hb kept e4 =
     let k = λ (p : Steps × At). good (p.0, record p.1 { scope = s0.scope }) in
     let front : take (length i1) i2 ≡ i1 = ap (take (length i1)) e2 ∙ take_front i1 ((name, known.Turn v) ∷ []) in
     let same : i4 ≡ i0 = e4 ∙ prefix_trans i1 i2 i3 front kept ∙ e1 in
-    let scope : scope_of i2 ≡ (name.now, spec.Turn v) ∷ s0.scope = ap scope_of e2 ∙ scope-push i1 (name, known.Turn v) ∙ ap (λ l. (name.now, spec.Turn v) ∷ scope_of l) e1 ∙ ap (λ l. (name.now, spec.Turn v) ∷ l) (sym sc) in (
-      ap (λ r. on_ok r (λ t. on_ok (steps_of e b (record t { scope = (name.now, spec.Turn v) ∷ s0.scope })) k)) hc
+    let scope : scope_of i2 ≡ (name, spec.Turn v) ∷ s0.scope = ap scope_of e2 ∙ scope-push i1 (name, known.Turn v) ∙ ap (λ l. (name, spec.Turn v) ∷ scope_of l) e1 ∙ ap (λ l. (name, spec.Turn v) ∷ l) (sym sc) in (
+      ap (λ r. on_ok r (λ t. on_ok (steps_of e b (record t { scope = (name, spec.Turn v) ∷ s0.scope })) k)) hc
           ∙ ap (λ l. on_ok (steps_of e b (record s1 { scope = l })) k) (sym scope)
           ∙ ap (λ r. on_ok r k) hb
           ∙ ap (λ l. good (a, record s3 { scope = l })) (sc ∙ ap scope_of (sym same)),
@@ -263,12 +277,12 @@ turn_is e b name v s0 s1 s3 i0 i1 i2 i3 i4 a sc hc e1 e2 hb kept e4 =
     )
 
 -- an `if` whose arms were read one after the other
-pub if_read : (e : ℕ) (t : Spoken) (a b : source.Block) (s s1 m1 m2 la lb : At) (cond : Term) (k : ℕ) (f g : Steps) → counted s ≡ Ok s1 → term_of e s1.scope t s1.popped ≡ Ok cond → k ≡ s1.popped + pops t → steps_of e a (record s1 { popped = k }) ≡ Ok (f, la) → m1 ≡ record la { scope = s1.scope } → steps_of e b (record m1 { popped = k; pushed = s1.pushed }) ≡ Ok (g, lb) → m2 ≡ record lb { scope = m1.scope } → m1.popped ≡ m2.popped → m1.pushed ≡ m2.pushed → step_of e (source.If t a b) s ≡ Ok (one_step (steps.If cond f g), m2)
+pub if_read : (e : ℕ) (t : Spoken) (a : source.Block) (b : source.Optional) (s s1 m1 m2 la lb : At) (cond : Term) (k : ℕ) (f g : Steps) → counted s ≡ Ok s1 → term_of e s1.scope t s1.popped ≡ Ok cond → k ≡ s1.popped + pops t → steps_of e a (record s1 { popped = k }) ≡ Ok (f, la) → m1 ≡ record la { scope = s1.scope } → optional_of e b (record m1 { popped = k; pushed = s1.pushed }) ≡ Ok (g, lb) → m2 ≡ record lb { scope = m1.scope } → m1.popped ≡ m2.popped → m1.pushed ≡ m2.pushed → step_of e (source.If t a b) s ≡ Ok (one_step (steps.If cond f g), m2)
 if_read e t a b s s1 m1 m2 la lb cond k f g hc ht hk ha em1 hb em2 p q =
     let ha' = ap (λ j. steps_of e a (record s1 { popped = j })) (sym hk) ∙ ha in
     let at : record m1 { popped = k; pushed = s1.pushed } ≡ record s1 { popped = s1.popped + pops t; slots = la.slots; size = la.size } =
     ap (λ (m : At). record m { popped = k; pushed = s1.pushed }) em1 ∙ ap (λ j. record s1 { popped = j; slots = la.slots; size = la.size }) hk in
-    let hb' = ap (steps_of e b) (sym at) ∙ hb in
+    let hb' = ap (optional_of e b) (sym at) ∙ hb in
     let p' = sym (ap (λ (m : At). m.popped) em1) ∙ p ∙ ap (λ (m : At). m.popped) em2 in
     let q' = sym (ap (λ (m : At). m.pushed) em1) ∙ q ∙ ap (λ (m : At). m.pushed) em2 in
     if_is e t a b s s1 cond f g la lb hc ht ha' hb' p' q'

@@ -1,45 +1,16 @@
 -- Filters as they are written, and what their reading sees to.
-use Rattle.std.specs.Prelude.{ℕ, List, map, Option, Some, None}
-use Rattle.std.specs.Borrow.{Bor}
-use Rattle.river_plan.specs.Forms.{Name}
-use Rattle.streamit_unroll.specs.declared.tree.Block.{Block}
 use Rattle.streamit_unroll.specs.declared.tree.FilterTree as tree
-use Rattle.streamit_unroll.specs.declared.tree.Rates.{Rates}
-use Rattle.streamit_unroll.specs.Unrolled.{AreWritten}
-use Rattle.streamit_unroll.specs.View.{block}
-use Rattle.streamit_model.specs.Source as source
+use Rattle.streamit_unroll.specs.Unrolled.{AreWritten, AreWrittenOptional}
+use Rattle.streamit_unroll.specs.View.{block, optional}
 use Rattle.streamit_model.specs.FilterSource.{FilterTree}
-use Rattle.streamit_model.specs.Shallow.{AreShallow, KeepAll}
-
-abbrev pub names_of : List (Bor (List ℕ)) → List Name
-names_of bs = map (λ b. b.now) bs
-
--- a block that is not written is an empty one
-abbrev pub optional : Option Block → source.Block
-optional None = source.End
-optional (Some b) = block b
-
--- a rate that is not written
-abbrev pub rate_or : Option ℕ → ℕ → ℕ
-rate_or None n = n
-rate_or (Some r) n = r
-
--- without `push` or `pop` the rate is 0; without `peek` it is the rate of `pop`
-abbrev pub push_of : Rates → ℕ
-push_of r = rate_or r.push 0
-
-abbrev pub pop_of : Rates → ℕ
-pop_of r = rate_or r.pop 0
-
-abbrev pub peek_of : Rates → ℕ
-peek_of r = rate_or r.peek (pop_of r)
+use Rattle.streamit_model.specs.Shallow.{AreShallowOptional, KeepAllOptional}
 
 abbrev pub filter_tree : tree.FilterTree → FilterTree
-filter_tree t = record { fields = names_of t.fields.items; init = optional t.init; push = push_of t.rates; pop = pop_of t.rates; peek = peek_of t.rates; work = block t.work }
+filter_tree t = record { fields = t.fields.items; init = optional t.init; push = t.rates.push; pop = t.rates.pop; peek = t.rates.peek; work = block t.work }
 
 -- what the grammar sees to: numbers are values, expressions are not too deep, and `init` pops nothing
 pub record IsReadable (t : FilterTree) : Type 0 where
-  pub init : AreWritten t.init
+  pub init : AreWrittenOptional t.init
   pub work : AreWritten t.work
-  pub low : AreShallow t.init
-  pub kept : KeepAll t.init
+  pub low : AreShallowOptional t.init
+  pub kept : KeepAllOptional t.init

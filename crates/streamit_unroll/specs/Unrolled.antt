@@ -49,9 +49,13 @@ abbrev mutual
   IsWritten (source.Assign n t) = AreValues t
   IsWritten (source.Push t) = AreValues t
   IsWritten source.Pop = Unit {0}
-  IsWritten (source.If t a b) = AreValues t × AreWritten a × AreWritten b
+  IsWritten (source.If t a b) = AreValues t × AreWritten a × AreWrittenOptional b
   IsWritten (source.For n low upto high b) = AreValues low × AreValues high × AreWritten b
 
   pub AreWritten : source.Block → Type 0
   AreWritten source.End = Unit {0}
   AreWritten (source.Then c b) = IsWritten c × AreWritten b
+
+  pub AreWrittenOptional : source.Optional → Type 0
+  AreWrittenOptional source.Unwritten = Unit {0}
+  AreWrittenOptional (source.Written b) = AreWritten b

@@ -1,22 +1,25 @@
 // Blocks.
 ghost use Rattle.std.specs.Prelude.{◌≡◌, ◌≤◌, ◌+◌, if◌then◌else◌};
-ghost use Rattle.streamit_model.specs.Elaborate.{step_of, steps_of};
-ghost use Rattle.streamit_unroll.specs.View.{statement, block};
-ghost use Rattle.streamit_unroll.specs.Unrolled.{at_of, Reads, ReadsArm, ReadsTurn, turn_of, AreWritten, IsWritten};
+ghost use Rattle.streamit_model.specs.Elaborate.{step_of, steps_of, optional_of};
+ghost use Rattle.streamit_model.specs.Source.{If};
+ghost use Rattle.streamit_unroll.specs.Numbers.{AreValues};
+ghost use Rattle.streamit_unroll.specs.View.{expression, is_turn, statement, block, optional};
+ghost use Rattle.streamit_unroll.specs.Unrolled.{at_of, Reads, ReadsArm, ReadsTurn, turn_of, AreWritten, AreWrittenOptional, IsWritten};
 
 use crate::term::term;
-use crate::{Block, Fault, Known, Statement, Unroller};
+use crate::{Block, Expression, Fault, Known, Statement, Unroller, Until};
+use river_base::Name;
 use std::alloc::Global;
 use work_code::{Stmt, Stmts};
 
-impl<'a> Unroller<'a> {
+impl Unroller {
     // The statements of a block, behind those that are there.
     #[cycle(unroll)]
     pub fn block(
         &mut self,
         alloc: Global,
         peek: u32,
-        b: &Block<'a>,
+        b: &Block,
         out: &mut Stmts,
     ) -> Result<(), Fault>
         requires { AreWritten (block b.now) }
@@ -34,7 +37,7 @@ impl<'a> Unroller<'a> {
         &mut self,
         alloc: Global,
         peek: u32,
-        s: &Statement<'a>,
+        s: &Statement,
         out: &mut Stmts,
     ) -> Result<(), Fault>
         requires { IsWritten (statement s.now) }
@@ -43,52 +46,81 @@ impl<'a> Unroller<'a> {
         match s {
             Statement::Push(value) => self.push(alloc, peek, value, out),
             Statement::Pop => self.pop(peek, out),
-            Statement::Declare { name, value } => self.declare(alloc, peek, name, value, out),
-            Statement::Assign { name, value } => self.assign(alloc, peek, name, value, out),
-            Statement::If { cond, yes, no } => {
-                self.counted()?;
-                let cond = term(alloc, &self.names, peek, cond, &mut self.popped)?;
-                let popped = self.popped;
-                let pushed = self.pushed;
-                let first = self.arm(alloc, peek, yes)?;
-                let popped_first = self.popped;
-                let pushed_first = self.pushed;
-                self.popped = popped;
-                self.pushed = pushed;
-                let second = self.arm(alloc, peek, no)?;
-                if popped_first == self.popped && pushed_first == self.pushed {
-                    out.push(Stmt::If {
-                        cond,
-                        yes: first,
-                        no: second,
-                    })?;
-                    Ok(())
-                } else {
-                    Err(Fault::BranchRates)
-                }
-            }
+            Statement::Declare { name, value } => self.declare(alloc, peek, *name, value, out),
+            Statement::Assign { name, value } => self.assign(alloc, peek, *name, value, out),
+            Statement::If { cond, yes, no } => self.branch(alloc, peek, cond, yes, no, out),
             Statement::For {
                 name,
                 low,
-                upto,
+                until,
                 high,
                 body,
             } => {
-                self.new_name(name)?;
+                self.new_name(*name)?;
                 let low = self.bound(low)?;
                 let high = self.bound(high)?;
-                let end = end_of(high, *upto);
+                let end = end_of(high, *until);
                 for v in low..end {
-                    self.turn(alloc, peek, name, v, body, out)?;
+                    self.turn(alloc, peek, *name, v, body, out)?;
                 }
                 Ok(())
             }
         }
     }
 
+    // An `if`, whose arms pop and push as many items.
+    #[cycle(unroll)]
+    fn branch(
+        &mut self,
+        alloc: Global,
+        peek: u32,
+        cond: &Expression,
+        yes: &Block,
+        no: &Option<Block>,
+        out: &mut Stmts,
+    ) -> Result<(), Fault>
+        requires cond { AreValues (expression cond.now) }
+        requires yes { AreWritten (block yes.now) }
+        requires no { AreWrittenOptional (optional no.now) }
+        ensures { Reads result out.old out.new self.old self.new (step_of peek (If (expression cond.now) (block yes.now) (optional no.now)) (at_of self.old)) }
+    {
+        self.counted()?;
+        let cond = term(alloc, &self.names, peek, cond, &mut self.popped)?;
+        let popped = self.popped;
+        let pushed = self.pushed;
+        let first = self.arm(alloc, peek, yes)?;
+        let popped_first = self.popped;
+        let pushed_first = self.pushed;
+        self.popped = popped;
+        self.pushed = pushed;
+        let second = self.otherwise(alloc, peek, no)?;
+        if popped_first == self.popped && pushed_first == self.pushed {
+            out.push(Stmt::If {
+                cond,
+                yes: first,
+                no: second,
+            })?;
+            Ok(())
+        } else {
+            Err(Fault::BranchRates)
+        }
+    }
+
+    // The statements of the second arm, none where it is not written.
+    #[cycle(unroll)]
+    fn otherwise(&mut self, alloc: Global, peek: u32, no: &Option<Block>) -> Result<Stmts, Fault>
+        requires { AreWrittenOptional (optional no.now) }
+        ensures { ReadsArm result self.old self.new (optional_of peek (optional no.now) (at_of self.old)) }
+    {
+        match no {
+            Some(block) => self.arm(alloc, peek, block),
+            None => Ok(Stmts::new(alloc)),
+        }
+    }
+
     // The statements of an arm of an `if`; what was declared there is not known afterwards.
     #[cycle(unroll)]
-    fn arm(&mut self, alloc: Global, peek: u32, b: &Block<'a>) -> Result<Stmts, Fault>
+    fn arm(&mut self, alloc: Global, peek: u32, b: &Block) -> Result<Stmts, Fault>
         requires { AreWritten (block b.now) }
         ensures { ReadsArm result self.old self.new (steps_of peek (block b.now) (at_of self.old)) }
     {
@@ -105,13 +137,13 @@ impl<'a> Unroller<'a> {
         &mut self,
         alloc: Global,
         peek: u32,
-        name: &'a [u8],
+        name: Name,
         v: u32,
-        b: &Block<'a>,
+        b: &Block,
         out: &mut Stmts,
     ) -> Result<(), Fault>
         requires { AreWritten (block b.now) }
-        ensures { ReadsTurn result out.old out.new self.old self.new (turn_of (steps_of peek (block b.now)) name.now v (at_of self.old)) }
+        ensures { ReadsTurn result out.old out.new self.old self.new (turn_of (steps_of peek (block b.now)) name v (at_of self.old)) }
     {
         self.counted()?;
         let depth = self.names.items.len();
@@ -123,9 +155,12 @@ impl<'a> Unroller<'a> {
 }
 
 // Where the turns of a loop end.
-fn end_of(high: u32, upto: bool) -> u32
+fn end_of(high: u32, until: Until) -> u32
     requires { high ≤ 65536 }
-    ensures { result ≡ high + (if upto then 1 else 0) }
+    ensures { result ≡ high + (if is_turn until then 1 else 0) }
 {
-    if upto { high + 1 } else { high }
+    match until {
+        Until::Below => high,
+        Until::UpTo => high + 1,
+    }
 }

@@ -5,20 +5,20 @@ ghost use Rattle.work_code.specs.Ran.{IsBodyWithin, ran};
 ghost use Rattle.kern_rows.specs.Forms.{filter_form};
 ghost use Rattle.kern_rows.specs.Needs.{CanRun};
 ghost use Rattle.kern_rows.specs.Runs.{run_kept};
-ghost use Rattle.streamit_model.specs.Elaborate.{on_ok, steps_of};
-ghost use Rattle.streamit_model.specs.FilterSource.{read_field, read_fields, nothing_read, starts_of, rates_of, kept_rates, elaborated};
-ghost use Rattle.streamit_unroll.specs.Filter.{names_of, optional, filter_tree, push_of, pop_of, peek_of, IsReadable};
-ghost use Rattle.streamit_unroll.specs.Unrolled.{at_of, Reads, AreWritten};
-ghost use Rattle.streamit_unroll.specs.View.{block, Judges};
+ghost use Rattle.streamit_model.specs.Elaborate.{on_ok, steps_of, optional_of};
+ghost use Rattle.streamit_model.specs.FilterSource.{rate_or, read_field, read_fields, nothing_read, starts_of, rates_of, kept_rates, elaborated};
+ghost use Rattle.streamit_unroll.specs.Filter.{filter_tree, IsReadable};
+ghost use Rattle.streamit_unroll.specs.Unrolled.{at_of, Reads, AreWritten, AreWrittenOptional};
+ghost use Rattle.streamit_unroll.specs.View.{block, optional, Judges};
 
 use crate::{Block, Fault, FilterTree, Known, Names, Rates, Unroller};
 use kern_rows::Filter;
-use river_base::{NoMemory, Numbers};
+use river_base::{Name, NoMemory, Numbers};
 use std::alloc::Global;
 use work_code::{Code, Emitted, Stmts, run_code};
 
 /// The filter of a plan for a filter as it is written, or the first fault in reading order.
-pub fn filter(alloc: Global, tree: &FilterTree<'_>) -> Result<Filter, Fault>
+pub fn filter(alloc: Global, tree: &FilterTree) -> Result<Filter, Fault>
     requires { IsReadable (filter_tree tree.now) }
     ensures { Judges filter_form result (elaborated (filter_tree tree.now)) }
 {
@@ -37,9 +37,9 @@ struct Counts {
 impl Counts {
     // The rates, where some are written.
     fn of(rates: Rates) -> Counts
-        ensures push { result.push ≡ push_of rates }
-        ensures pop { result.pop ≡ pop_of rates }
-        ensures peek { result.peek ≡ peek_of rates }
+        ensures push { result.push ≡ rate_or rates.push 0 }
+        ensures pop { result.pop ≡ rate_or rates.pop 0 }
+        ensures peek { result.peek ≡ rate_or rates.peek (rate_or rates.pop 0) }
     {
         let pop = rates.pop.unwrap_or(0);
         Counts {
@@ -66,9 +66,9 @@ impl Counts {
     }
 }
 
-impl<'a> Unroller<'a> {
+impl Unroller {
     // Nothing was read.
-    fn new(alloc: Global) -> Unroller<'a>
+    fn new(alloc: Global) -> Unroller
         ensures { at_of result ≡ nothing_read }
     {
         Unroller {
@@ -83,7 +83,7 @@ impl<'a> Unroller<'a> {
     }
 
     // The filter, where nothing was read.
-    fn filter(&mut self, alloc: Global, tree: &FilterTree<'a>) -> Result<Filter, Fault>
+    fn filter(&mut self, alloc: Global, tree: &FilterTree) -> Result<Filter, Fault>
         requires nothing { at_of self.old ≡ nothing_read }
         requires readable { IsReadable (filter_tree tree.now) }
         ensures { Judges filter_form result (elaborated (filter_tree tree.now)) }
@@ -103,18 +103,18 @@ impl<'a> Unroller<'a> {
     }
 
     // The fields, one after another.
-    fn fields(&mut self, fields: &[&'a [u8]]) -> Result<(), Fault>
-        ensures { Judges (λ _. at_of self.new) result (read_fields (names_of fields.now) (at_of self.old)) }
+    fn fields(&mut self, fields: &[Name]) -> Result<(), Fault>
+        ensures { Judges (λ _. at_of self.new) result (read_fields fields.now (at_of self.old)) }
     {
         for name in fields {
-            self.field(name)?;
+            self.field(*name)?;
         }
         Ok(())
     }
 
     // A field, in the next slot.
-    fn field(&mut self, name: &'a [u8]) -> Result<(), Fault>
-        ensures { Judges (λ _. at_of self.new) result (read_field name.now (at_of self.old)) }
+    fn field(&mut self, name: Name) -> Result<(), Fault>
+        ensures { Judges (λ _. at_of self.new) result (read_field name (at_of self.old)) }
     {
         self.new_name(name)?;
         let slot = self.slots;
@@ -127,10 +127,10 @@ impl<'a> Unroller<'a> {
     }
 
     // What the fields are after `init`; all that is known is as it was before.
-    fn starts(&mut self, alloc: Global, tree: &FilterTree<'a>) -> Result<Numbers, Fault>
+    fn starts(&mut self, alloc: Global, tree: &FilterTree) -> Result<Numbers, Fault>
         requires fields { read_fields (filter_tree tree.now).fields nothing_read ≡ Ok (at_of self.old) }
         requires readable { IsReadable (filter_tree tree.now) }
-        ensures starts { Judges (λ zs. zs) result (on_ok (steps_of 0 (filter_tree tree.now).init (at_of self.old)) (λ i. Ok (starts_of (length (filter_tree tree.now).fields) i))) }
+        ensures starts { Judges (λ zs. zs) result (on_ok (optional_of 0 (filter_tree tree.now).init (at_of self.old)) (λ i. Ok (starts_of (length (filter_tree tree.now).fields) i))) }
         ensures back { OnOk result (at_of self.new ≡ at_of self.old) }
     {
         let (slots, popped, pushed, size) = (self.slots, self.popped, self.pushed, self.size);
@@ -150,11 +150,11 @@ impl<'a> Unroller<'a> {
     fn optional(
         &mut self,
         alloc: Global,
-        init: &Option<Block<'a>>,
+        init: &Option<Block>,
         out: &mut Stmts,
     ) -> Result<(), Fault>
-        requires { AreWritten (optional init.now) }
-        ensures { Reads result out.old out.new self.old self.new (steps_of 0 (optional init.now) (at_of self.old)) }
+        requires { AreWrittenOptional (optional init.now) }
+        ensures { Reads result out.old out.new self.old self.new (optional_of 0 (optional init.now) (at_of self.old)) }
     {
         match init {
             None => Ok(()),
@@ -163,7 +163,7 @@ impl<'a> Unroller<'a> {
     }
 
     // The body of `work`, and whether it keeps the rates.
-    fn work(&mut self, alloc: Global, rates: Counts, work: &Block<'a>) -> Result<Code, Fault>
+    fn work(&mut self, alloc: Global, rates: Counts, work: &Block) -> Result<Code, Fault>
         requires { AreWritten (block work.now) }
         ensures { Judges body_of result (on_ok (steps_of rates.peek (block work.now) (at_of self.old)) (λ w. on_ok (kept_rates rates.push rates.pop w.1) (λ v. Ok (record { inputs = rates.peek; slots = w.1.slots; steps = w.0 })))) }
     {

@@ -13,5 +13,5 @@ mod unroll;
 pub use fault::Fault;
 pub use filters::filter;
 pub use names::{Known, Names};
-pub use tree::{Block, FilterTree, Rates, Statement};
+pub use tree::{Block, Expression, FilterTree, Rates, Statement, Until};
 pub use unroll::Unroller;

@@ -3,6 +3,8 @@ ghost use Rattle.std.specs.Prelude.{◌≡◌, [], ◌∷◌};
 ghost use Rattle.streamit_model.specs.Elaborate.{find};
 ghost use Rattle.streamit_unroll.specs.View.{scope_of, option_known};
 
+use river_base::Name;
+
 /// What a name stands for.
 #[derive(Clone, Copy)]
 pub enum Known {
@@ -14,14 +16,14 @@ pub enum Known {
 
 /// The names that are known, the newest last.
 #[derive(Drop)]
-pub struct Names<'a> {
-    pub items: Vec<(&'a [u8], Known)>,
+pub struct Names {
+    pub items: Vec<(Name, Known)>,
 }
 
-impl<'a> Names<'a> {
+impl Names {
     /// What a name stands for.
-    pub fn find(&self, name: &[u8]) -> Option<Known>
-        ensures { option_known result ≡ find (scope_of self.now.items.items) name.now }
+    pub fn find(&self, name: Name) -> Option<Known>
+        ensures { option_known result ≡ find (scope_of self.now.items.items) name }
     {
         let mut i = self.items.len();
         while i > 0 {

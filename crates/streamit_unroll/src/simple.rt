@@ -1,23 +1,22 @@
 // Statements that hold no block.
 ghost use Rattle.std.specs.Prelude.{◌≡◌, ◌<◌, ◌≤◌, ◌+◌, ◌^◌, OnOk, IfOk, length, take};
 ghost use Rattle.work_code.specs.Term.{term};
-ghost use Rattle.text_forms.specs.Tree.{spoken};
 ghost use Rattle.streamit_model.specs.Elaborate.{At, find, is_new, slot_of, step_of, constant, bound_of, on_ok, first_term, first_popped};
 ghost use Rattle.streamit_model.specs.Source.{Declare, Assign, Push, Pop};
-ghost use Rattle.streamit_unroll.specs.View.{scope_of, Judges, option_spoken};
+ghost use Rattle.streamit_unroll.specs.View.{scope_of, Judges, expression, option_expression};
 ghost use Rattle.streamit_unroll.specs.Unrolled.{at_of, Reads, AreOptional};
 ghost use Rattle.streamit_unroll.specs.Numbers.{AreValues};
 
 use crate::term::{constant, term};
-use crate::{Fault, Known, Unroller};
+use crate::{Expression, Fault, Known, Unroller};
+use river_base::Name;
 use std::alloc::Global;
-use text_forms::Tree;
 use work_code::{Expr, Exprs, Stmt, Stmts};
 
-impl<'a> Unroller<'a> {
+impl Unroller {
     // A name is not known yet.
-    pub fn new_name(&self, name: &[u8]) -> Result<(), Fault>
-        ensures { Judges (λ u. u) result (is_new (find (at_of self.now).scope name.now)) }
+    pub fn new_name(&self, name: Name) -> Result<(), Fault>
+        ensures { Judges (λ u. u) result (is_new (find (at_of self.now).scope name)) }
     {
         match self.names.find(name) {
             None => Ok(()),
@@ -26,9 +25,9 @@ impl<'a> Unroller<'a> {
     }
 
     // A bound of a loop.
-    pub fn bound(&self, tree: &Tree<'_>) -> Result<u32, Fault>
-        requires { AreValues (spoken tree.now) }
-        ensures judged { Judges (λ n. n) result (on_ok (constant (at_of self.now).scope (spoken tree.now)) bound_of) }
+    pub fn bound(&self, tree: &Expression) -> Result<u32, Fault>
+        requires { AreValues (expression tree.now) }
+        ensures judged { Judges (λ n. n) result (on_ok (constant (at_of self.now).scope (expression tree.now)) bound_of) }
         ensures small { IfOk result (λ n. n ≤ 65536) }
     {
         let value = constant(&self.names, tree)?;
@@ -44,11 +43,11 @@ impl<'a> Unroller<'a> {
         &mut self,
         alloc: Global,
         peek: u32,
-        value: &Tree<'_>,
+        value: &Expression,
         out: &mut Stmts,
     ) -> Result<(), Fault>
-        requires { AreValues (spoken value.now) }
-        ensures { Reads result out.old out.new self.old self.new (step_of peek (Push (spoken value.now)) (at_of self.old)) }
+        requires { AreValues (expression value.now) }
+        ensures { Reads result out.old out.new self.old self.new (step_of peek (Push (expression value.now)) (at_of self.old)) }
     {
         self.counted()?;
         let value = term(alloc, &self.names, peek, value, &mut self.popped)?;
@@ -78,12 +77,12 @@ impl<'a> Unroller<'a> {
         &mut self,
         alloc: Global,
         peek: u32,
-        name: &[u8],
-        value: &Tree<'_>,
+        name: Name,
+        value: &Expression,
         out: &mut Stmts,
     ) -> Result<(), Fault>
-        requires { AreValues (spoken value.now) }
-        ensures { Reads result out.old out.new self.old self.new (step_of peek (Assign name.now (spoken value.now)) (at_of self.old)) }
+        requires { AreValues (expression value.now) }
+        ensures { Reads result out.old out.new self.old self.new (step_of peek (Assign name (expression value.now)) (at_of self.old)) }
     {
         self.counted()?;
         let slot = self.slot_of(name)?;
@@ -93,8 +92,8 @@ impl<'a> Unroller<'a> {
     }
 
     // The slot that an assignment sets.
-    fn slot_of(&self, name: &[u8]) -> Result<u32, Fault>
-        ensures { Judges (λ n. n) result (slot_of (find (at_of self.now).scope name.now)) }
+    fn slot_of(&self, name: Name) -> Result<u32, Fault>
+        ensures { Judges (λ n. n) result (slot_of (find (at_of self.now).scope name)) }
     {
         match self.names.find(name) {
             None => Err(Fault::UnknownName),
@@ -108,12 +107,12 @@ impl<'a> Unroller<'a> {
         &mut self,
         alloc: Global,
         peek: u32,
-        name: &'a [u8],
-        value: &Option<Tree<'a>>,
+        name: Name,
+        value: &Option<Expression>,
         out: &mut Stmts,
     ) -> Result<(), Fault>
-        requires { AreOptional (option_spoken value.now) }
-        ensures { Reads result out.old out.new self.old self.new (step_of peek (Declare name.now (option_spoken value.now)) (at_of self.old)) }
+        requires { AreOptional (option_expression value.now) }
+        ensures { Reads result out.old out.new self.old self.new (step_of peek (Declare name (option_expression value.now)) (at_of self.old)) }
     {
         self.counted()?;
         self.new_name(name)?;
@@ -133,11 +132,11 @@ impl<'a> Unroller<'a> {
         &mut self,
         alloc: Global,
         peek: u32,
-        value: &Option<Tree<'_>>,
+        value: &Option<Expression>,
     ) -> Result<Expr, Fault>
-        requires { AreOptional (option_spoken value.now) }
-        ensures judged { Judges term result (first_term peek (option_spoken value.now) (at_of self.old)) }
-        ensures popped { OnOk result (at_of self.new ≡ record (at_of self.old) { popped = self.old.popped + first_popped (option_spoken value.now) }) }
+        requires { AreOptional (option_expression value.now) }
+        ensures judged { Judges term result (first_term peek (option_expression value.now) (at_of self.old)) }
+        ensures popped { OnOk result (at_of self.new ≡ record (at_of self.old) { popped = self.old.popped + first_popped (option_expression value.now) }) }
         ensures names { self.new.names ≡ self.old.names }
     {
         match value {

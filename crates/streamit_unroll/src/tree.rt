@@ -1,13 +1,18 @@
 // Filters as they are written.
-use text_forms::Tree;
+ghost use Rattle.std.specs.Prelude.{◌≡◌};
+ghost use Rattle.text_forms.specs.Tree as tree;
+ghost use Rattle.streamit_unroll.specs.View.{expression};
+
+use river_base::Name;
+use work_code::BinOp;
 
 /// A filter as it is written: its fields, `init`, its rates and `work`.
 #[derive(Drop)]
-pub struct FilterTree<'a> {
-    pub fields: Vec<&'a [u8]>,
-    pub init: Option<Block<'a>>,
+pub struct FilterTree {
+    pub fields: Vec<Name>,
+    pub init: Option<Block>,
     pub rates: Rates,
-    pub work: Block<'a>,
+    pub work: Block,
 }
 
 /// The rates that are written, each of them once at most.
@@ -21,40 +26,115 @@ pub struct Rates {
 /// A statement as it is written.
 #[derive(Drop)]
 #[cycle(written)]
-pub enum Statement<'a> {
+pub enum Statement {
     /// `int NAME = e;`
     Declare {
-        name: &'a [u8],
-        value: Option<Tree<'a>>,
+        name: Name,
+        value: Option<Expression>,
     },
     /// `NAME = e;`
     Assign {
-        name: &'a [u8],
-        value: Tree<'a>,
+        name: Name,
+        value: Expression,
     },
     /// `push(e);`
-    Push(Tree<'a>),
+    Push(Expression),
     /// `pop();`
     Pop,
     /// `if (e) { .. } else { .. }`
     If {
-        cond: Tree<'a>,
-        yes: Block<'a>,
-        no: Block<'a>,
+        cond: Expression,
+        yes: Block,
+        no: Option<Block>,
     },
-    /// `for (int NAME = e; NAME < e; NAME++) { .. }`, where `upto` stands for `<=`.
+    /// `for (int NAME = e; NAME < e; NAME++) { .. }`, or with `<=`.
     For {
-        name: &'a [u8],
-        low: Tree<'a>,
-        upto: bool,
-        high: Tree<'a>,
-        body: Block<'a>,
+        name: Name,
+        low: Expression,
+        until: Until,
+        high: Expression,
+        body: Block,
     },
+}
+
+/// How a loop's variable is held against its upper bound.
+#[derive(Clone, Copy, Debug, PartialEq, Eq)]
+pub enum Until {
+    /// `<`: the upper bound is no turn.
+    Below,
+    /// `<=`: the upper bound is a turn too.
+    UpTo,
 }
 
 /// A list of statements.
 #[derive(Drop)]
 #[cycle(written)]
-pub struct Block<'a> {
-    pub items: Vec<Statement<'a>>,
+pub struct Block {
+    pub items: Vec<Statement>,
+}
+
+/// An expression as it is written.
+#[derive(Drop)]
+pub enum Expression {
+    /// `e || e`
+    Or(Box<Expression>, Box<Expression>),
+    /// `e && e`
+    And(Box<Expression>, Box<Expression>),
+    /// `e == e`
+    Eq(Box<Expression>, Box<Expression>),
+    /// `e != e`
+    Ne(Box<Expression>, Box<Expression>),
+    /// `e < e`
+    Lt(Box<Expression>, Box<Expression>),
+    /// `e <= e`
+    Le(Box<Expression>, Box<Expression>),
+    /// `e > e`
+    Gt(Box<Expression>, Box<Expression>),
+    /// `e >= e`
+    Ge(Box<Expression>, Box<Expression>),
+    /// `e + e`
+    Add(Box<Expression>, Box<Expression>),
+    /// `e - e`
+    Sub(Box<Expression>, Box<Expression>),
+    /// `e * e`
+    Mul(Box<Expression>, Box<Expression>),
+    /// `e / e`
+    Quot(Box<Expression>, Box<Expression>),
+    /// `e % e`
+    Rem(Box<Expression>, Box<Expression>),
+    /// `-e`
+    Neg(Box<Expression>),
+    /// `!e`
+    Not(Box<Expression>),
+    /// A number.
+    Number(u64),
+    /// A field, a local or the variable of a loop.
+    Name(Name),
+    /// `peek(e)`
+    Peek(Box<Expression>),
+    /// `pop()`
+    Pop,
+}
+
+impl Expression {
+    /// Two expressions and the operator between them.
+    pub fn binary(op: BinOp, left: Box<Expression>, right: Box<Expression>) -> Expression
+        ensures { expression result ≡ tree.Bin op (expression left.value) (expression right.value) }
+    {
+        match op {
+            BinOp::Or => Expression::Or(left, right),
+            BinOp::And => Expression::And(left, right),
+            BinOp::Eq => Expression::Eq(left, right),
+            BinOp::Ne => Expression::Ne(left, right),
+            BinOp::Lt => Expression::Lt(left, right),
+            BinOp::Le => Expression::Le(left, right),
+            BinOp::Gt => Expression::Gt(left, right),
+            BinOp::Ge => Expression::Ge(left, right),
+            BinOp::Add => Expression::Add(left, right),
+            BinOp::Sub => Expression::Sub(left, right),
+            BinOp::Mul => Expression::Mul(left, right),
+            BinOp::Quot => Expression::Quot(left, right),
+            BinOp::Rem => Expression::Rem(left, right),
+        }
+    }
 }

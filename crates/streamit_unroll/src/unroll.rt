@@ -8,15 +8,15 @@ use crate::{Fault, Names};
 
 /// What is known where the reading stands, and what was counted.
 #[derive(Drop)]
-pub struct Unroller<'a> {
-    pub names: Names<'a>,
+pub struct Unroller {
+    pub names: Names,
     pub slots: u32,
     pub popped: u32,
     pub pushed: u32,
     pub size: u32,
 }
 
-impl<'a> Unroller<'a> {
+impl Unroller {
     // One statement or turn more.
     pub fn counted(&mut self) -> Result<(), Fault>
         ensures judged { Judges (λ _. at_of self.new) result (counted (at_of self.old)) }

@@ -20,28 +20,28 @@ loop-row-preserved c =
     let from = c.place_from-place.ensures.rest in
     let m = c.loop-row.invariant.merged in
     elim c.if-place-len.branch [
-      then-place-len+then-eq w ↦
-        let y = w.at.result.now in
-        let e : row_eq y x ≡ true = sym w.eq.ensures ∙ w.if-eq.true in
-        record {
-          within = omega arith;
-          merged = rw (w.place-is, w.left-is) (row_taken rows others u v n p q x left (omega arith) at from m y (omega arith) (w.at.ensures y) e);
-        }
-    | else-place-len+in_ok-push w ↦
-        elim w.else-place-len.branch [
-          else-place-len-via-then-place-len+else-eq w' ↦
-            let y = w'.at.result.now in
-            let e : row_eq y x ≡ false = sym w'.eq.ensures ∙ w'.if-eq.false in
-            record {
-              within = omega arith;
-              merged = rw (w.place-is, w.left-is) (row_left rows others u v n p q x left (omega arith) at from m y w.push.new.self (omega arith) (w'.at.ensures y) e w.in_ok-push.ensures.ok);
-            }
-        | else-place-len-via-else-place-len w' ↦
-            record {
-              within = omega arith;
-              merged = rw (w.place-is, w.left-is) (row_last rows others u v n p q x left (omega arith) at from m w.push.new.self (omega arith) w.in_ok-push.ensures.ok);
-            }
-        ]
+      | then-place-len+then-eq w ↦
+          let y = w.at.result.now in
+          let e : row_eq y x ≡ true = sym w.eq.ensures ∙ w.if-eq.true in
+          record {
+            within = omega arith;
+            merged = rw (w.place-is, w.left-is) (row_taken rows others u v n p q x left (omega arith) at from m y (omega arith) (w.at.ensures y) e);
+          }
+      | else-place-len+in_ok-push w ↦
+          elim w.else-place-len.branch [
+            | else-place-len-via-then-place-len+else-eq w' ↦
+                let y = w'.at.result.now in
+                let e : row_eq y x ≡ false = sym w'.eq.ensures ∙ w'.if-eq.false in
+                record {
+                  within = omega arith;
+                  merged = rw (w.place-is, w.left-is) (row_left rows others u v n p q x left (omega arith) at from m y w.push.new.self (omega arith) (w'.at.ensures y) e w.in_ok-push.ensures.ok);
+                }
+            | else-place-len-via-else-place-len w' ↦
+                record {
+                  within = omega arith;
+                  merged = rw (w.place-is, w.left-is) (row_last rows others u v n p q x left (omega arith) at from m w.push.new.self (omega arith) w.in_ok-push.ensures.ok);
+                }
+          ]
     ]
 
 pub returns : goal.returns

@@ -8,3 +8,7 @@ returns-in-River c = rw c.in-River.is c.river.ensures
 pub returns-in-Streamit : goal.returns-in-Streamit
 unfolding source_of
 returns-in-Streamit c = rw c.in-Streamit.is c.streamit.ensures
+
+pub returns-in-Sawzall : goal.returns-in-Sawzall
+unfolding source_of
+returns-in-Sawzall c = rw c.in-Sawzall.is c.sawzall.ensures

@@ -4,16 +4,15 @@ use Rattle.river_base.specs.declared.item.Item as item
 use Rattle.kern_tables.specs.Kept.{kept_of, rows_of}
 use Rattle.brooklet_model.specs.Histories.{all_adds}
 use Rattle.brooklet_step.specs.Fit.{Fit}
-use Rattle.brooklet_step.proofs.FitLemmas.{fit_of_rows}
 use Rattle.river_cli.specs.Inputs.{all_items}
+use Rattle.river_cli.proofs.Items.{contents-fit}
 use Rattle.river_cli.proofs.Points.{output-says}
-use Rattle.river_cli.proofs.Typed.{rows-typed}
 use Rattle.river_cli.proofs.output.output.Goals as goal
 
-pub run_one-requires-clause-fits : goal.run_one-requires-clause-fits
-run_one-requires-clause-fits c =
-    let typed = rows-typed c.args.plan.now c.args.rows c.requires.valid c.requires.built c.requires.widths in
-    subst (λ (l : List (List item.Item)). Fit c.args.plan.now l) (sym c.in_ok-inputs.ensures) (fit_of_rows c.args.plan.now (all_items c.args.rows) c.requires.built typed)
+pub run_one-requires : goal.run_one-requires
+run_one-requires c = record {
+  fits = subst (λ (l : List (List item.Item)). Fit c.args.plan.now l) (sym c.in_ok-inputs.ensures) (contents-fit c.args.plan.now c.args.files c.requires.contents);
+}
 
 pub print_outcome-requires-clause-tables : goal.print_outcome-requires-clause-tables
 print_outcome-requires-clause-tables c =
@@ -21,7 +20,6 @@ print_outcome-requires-clause-tables c =
 
 pub returns : goal.returns
 returns c =
-    let typed = rows-typed c.args.plan.now c.args.rows c.requires.valid c.requires.built c.requires.widths in
-    let inputs : c.in_ok-inputs.inputs ≡ all_items c.args.rows = c.in_ok-inputs.ensures in
-    output-says c.args.plan.now c.args.counted c.args.rows c.in_ok-outcome.outcome.outs (map rows_of c.in_ok-outcome.outcome.tables) c.in_ok-outcome.outcome.counts c.print_outcome.result c.print_outcome.ensures
-    (rw inputs at c.in_ok-outcome.ensures.outs) (rw inputs at c.in_ok-outcome.ensures.rows) (rw inputs at c.in_ok-outcome.ensures.counts) typed
+    let inputs : c.in_ok-inputs.inputs ≡ all_items c.args.files = c.in_ok-inputs.ensures in
+    output-says c.args.plan.now c.args.counted c.args.files c.in_ok-outcome.outcome.outs (map rows_of c.in_ok-outcome.outcome.tables) c.in_ok-outcome.outcome.counts c.print_outcome.result c.print_outcome.ensures
+    (rw inputs at c.in_ok-outcome.ensures.outs) (rw inputs at c.in_ok-outcome.ensures.rows) (rw inputs at c.in_ok-outcome.ensures.counts) c.requires.contents

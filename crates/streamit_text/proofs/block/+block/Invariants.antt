@@ -18,6 +18,9 @@ decreases-stmt l = l.nest * 8 + 2
 abbrev pub decreases-stmt_after : goal.decreases-stmt_after
 decreases-stmt_after l = l.nest * 8 + 1
 
+abbrev pub decreases-both_arms : goal.decreases-both_arms
+decreases-both_arms l = l.nest * 8 + 6
+
 abbrev pub decreases-branch : goal.decreases-branch
 decreases-branch l = l.nest * 8
 

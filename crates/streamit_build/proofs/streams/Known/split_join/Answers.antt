@@ -3,7 +3,7 @@ use Rattle.streamit_model.specs.Program.{ASplitJoin, branch_count}
 use Rattle.streamit_model.specs.Judged.{splitter_of, round_of, stream_of}
 use Rattle.streamit_unroll.specs.View.{Tells}
 use Rattle.streamit_build.specs.Units.{splitter_of as splitter_by}
-use Rattle.streamit_build.specs.Program.{dealing_of, adds_of}
+use Rattle.streamit_build.specs.Program.{weights_of, dealing_of, adds_of}
 use Rattle.streamit_build.specs.Knowing.{Declares}
 use Rattle.streamit_build.specs.declared.builder.Declared.TheVariants as made
 use Rattle.streamit_build.proofs.Judging.{Made, branch_count_is, branch_fault, join_fault, split_declared}
@@ -18,8 +18,8 @@ returns-in_err-children c = λ known k.
     let sp = splitter_by c.in_ok-split.split in
     let hs = subst (λ m. splitter_of g m ≡ Ok sp) n c.in_ok-split.ensures in
     let is : c.from_residual-in_err-children.result ≡ Err c.in_err-children.field-0.0 = search rules in
-    subst (λ x. Declares x c.args.self.now known c.args.name (stream_of known c.args.name (ASplitJoin g a all.join.items))) (sym is)
-    (branch_fault c.in_err-children.field-0.0 known c.args.name g a all.join.items sp hs (c.in_err-children.ensures known k))
+    subst (λ x. Declares x c.args.self.now known c.args.name (stream_of known c.args.name (ASplitJoin g a (weights_of all.join)))) (sym is)
+    (branch_fault c.in_err-children.field-0.0 known c.args.name g a (weights_of all.join) sp hs (c.in_err-children.ensures known k))
 
 pub returns-in_err-join : goal.returns-in_err-join
 returns-in_err-join c = λ known k.
@@ -31,10 +31,10 @@ returns-in_err-join c = λ known k.
     let hs = subst (λ m. splitter_of g m ≡ Ok sp) n c.in_ok-split.ensures in
     let ch = c.in_ok-children.ensures known k in
     let f = c.in_err-join.field-0.0 in
-    let h : Tells f (round_of all.join.items (c.len-count.result + 1)) = subst (λ ws. Tells f (round_of ws (c.len-count.result + 1))) c.as_slice.ensures.value c.in_err-join.ensures in
+    let h : Tells f (round_of (weights_of all.join) (c.len-count.result + 1)) = c.in_err-join.ensures in
     let is : c.from_residual-in_err-join.result ≡ Err f = search rules in
-    subst (λ x. Declares x c.args.self.now known c.args.name (stream_of known c.args.name (ASplitJoin g a all.join.items))) (sym is)
-    (join_fault f known c.args.name g a all.join.items sp ch.0 hs ch.1 (subst (λ m. Tells f (round_of all.join.items m)) n h))
+    subst (λ x. Declares x c.args.self.now known c.args.name (stream_of known c.args.name (ASplitJoin g a (weights_of all.join)))) (sym is)
+    (join_fault f known c.args.name g a (weights_of all.join) sp ch.0 hs ch.1 (subst (λ m. Tells f (round_of (weights_of all.join) m)) n h))
 
 pub returns : goal.returns
 returns c = λ known k.
@@ -47,7 +47,7 @@ returns c = λ known k.
     let ch = c.in_ok-children.ensures known k in
     let cs = c.in_ok-children.children in
     let vs = c.in_ok-join.join.items in
-    let h : round_of all.join.items (c.len-count.result + 1) ≡ Ok vs = subst (λ ws. round_of ws (c.len-count.result + 1) ≡ Ok vs) c.as_slice.ensures.value c.in_ok-join.ensures in
+    let h : round_of (weights_of all.join) (c.len-count.result + 1) ≡ Ok vs = c.in_ok-join.ensures in
     let d = made.SplitJoin c.in_ok-split.split cs.front cs.last c.in_ok-join.join in
     let m : Made c.args.self.now c.declare.new.self d c.args.name c.few-ops.result c.in_ok-depth.depth = c.in_ok-declare.ensures {u = tt} in
-    split_declared c.args.self.now c.declare.new.self d c.args.name g a all.join.items vs sp cs c.few-ops.result c.in_ok-depth.depth ch.0 known refl c.few-ops.ensures c.in_ok-depth.ensures m k hs ch.1 (subst (λ m. round_of all.join.items m ≡ Ok vs) n h) ch.2
+    split_declared c.args.self.now c.declare.new.self d c.args.name g a (weights_of all.join) vs sp cs c.few-ops.result c.in_ok-depth.depth ch.0 known refl c.few-ops.ensures c.in_ok-depth.ensures m k hs ch.1 (subst (λ m. round_of (weights_of all.join) m ≡ Ok vs) n h) ch.2

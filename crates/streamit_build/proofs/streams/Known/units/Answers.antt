@@ -7,7 +7,7 @@ use Rattle.streamit_build.proofs.AllUnits.{Judging, judging_start, judging_next,
 use Rattle.streamit_build.proofs.streams.Known.units.Goals as goal
 
 pub loop-i-init : goal.loop-i-init
-loop-i-init c = record { readable = c.requires; judged = λ start k. judging_start start (program_of c.args.units.now) c.args.self.now k }
+loop-i-init c = record { readable = c.requires.readable; judged = λ start k. judging_start start (program_of c.args.units.now) c.args.self.now k }
 
 pub unit-requires : goal.unit-requires
 unit-requires c =

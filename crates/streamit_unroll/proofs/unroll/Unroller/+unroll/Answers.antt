@@ -1,5 +1,4 @@
-use Rattle.streamit_unroll.specs.View.{statement, block}
-use Rattle.text_forms.specs.Tree.{spoken}
+use Rattle.streamit_unroll.specs.View.{expression, is_turn, statement, block, optional}
 use Rattle.streamit_model.specs.Elaborate.{step_of}
 use Rattle.streamit_unroll.specs.Unrolled.{at_of}
 use Rattle.work_code.specs.Steps.{step, steps, statements, in_turn}
@@ -9,7 +8,7 @@ use Rattle.work_code.proofs.Running.{step-if}
 use Rattle.work_code.proofs.Texts.{steps-is}
 use Rattle.work_code.specs.declared.code.Stmt as built
 use Rattle.streamit_unroll.proofs.Trees.{block-is, statement-if, statement-for}
-use Rattle.streamit_unroll.proofs.SoFar.{BlockSoFar, block_next, block_err, block_end, turns_start, turns_next, turns_fault, turns_end, for_is, for_fault, good as answered, if_read, turn_is, kept_by, at_place, none_left}
+use Rattle.streamit_unroll.proofs.SoFar.{BlockSoFar, block_next, block_err, block_end, turns_start, turns_next, turns_fault, turns_end, for_is, low_fault, for_fault, good as answered, if_read, turn_is, kept_by, at_place, none_left}
 use Rattle.std.proofs.Common.{subst, sym, ap, ◌∙◌, arith, refl, rules, ◌+◌, [], ◌∷◌, drop, map}
 use Rattle.streamit_unroll.proofs.unroll.Unroller.+unroll.Goals as goal
 
@@ -33,58 +32,58 @@ block-returns t c =
     rw (block-is c.args.b.now, ← c.as_slice-s-items.ensures.value) (block_end c.args.peek (map statement items) c.args.self.now c.loop-s.self c.args.out.now c.loop-s.out f)
 
 pub statement-loop-v-init : goal.statement-loop-v-init
-statement-loop-v-init t c = turns_start c.args.peek (block c.in-For.body) c.in-For.name.now c.in_ok-low-in-For.low c.end_of-end.result c.args.self.now c.args.out.now
+statement-loop-v-init t c = turns_start c.args.peek (block c.in-For.body) c.in-For.name c.in_ok-low-in-For.low c.end_of-end.result c.args.self.now c.args.out.now
 
 pub statement-returns-in_err-turn-in-For : goal.statement-returns-in_err-turn-in-For
 statement-returns-in_err-turn-in-For t c =
     let low = c.in_ok-low-in-For.low in
     let end = c.end_of-end.result in
-    let name = c.in-For.name.now in
+    let name = c.in-For.name in
     let body = block c.in-For.body in
     let w =
-    ap (λ x. step_of c.args.peek x (at_of c.args.self.now)) (ap statement c.in-For.is ∙ statement-for c.in-For.name c.in-For.low c.in-For.upto c.in-For.high c.in-For.body)
-    ∙ for_is c.args.peek name (spoken c.in-For.low) (spoken c.in-For.high) c.in-For.upto body (at_of c.args.self.now) low c.in_ok-high-in-For.high end tt (c.in_ok-new_name-in-For.ensures {u = tt}) c.in_ok-low-in-For.ensures.judged c.in_ok-high-in-For.ensures.judged c.end_of-end.ensures in
+    ap (λ x. step_of c.args.peek x (at_of c.args.self.now)) (ap statement c.in-For.is ∙ statement-for c.in-For.name c.in-For.low c.in-For.until c.in-For.high c.in-For.body)
+    ∙ for_is c.args.peek name (expression c.in-For.low) (expression c.in-For.high) (is_turn c.in-For.until) body (at_of c.args.self.now) low c.in_ok-high-in-For.high end tt (c.in_ok-new_name-in-For.ensures {u = tt}) c.in_ok-low-in-For.ensures.judged c.in_ok-high-in-For.ensures.judged c.end_of-end.ensures in
     turns_fault c.args.peek body name low c.loop-v.v end c.args.self.now c.loop-v.self c.turn.new.self c.args.self.now c.turn.new.self c.args.out.now c.loop-v.out c.turn.new.out c.args.out.now c.turn.new.out
     (step_of c.args.peek (statement c.args.s.now) (at_of c.args.self.now)) c.from_residual-in_err-turn-in-For.result c.in_err-turn-in-For.field-0.0 (search rules) (search rules) w c.loop-v.invariant (c.in_err-turn-in-For.ensures {u = tt})
 
 pub statement-returns-in_err-high-in-For : goal.statement-returns-in_err-high-in-For
 statement-returns-in_err-high-in-For t c =
-    for_fault c.args.peek c.in-For.name.now (spoken c.in-For.low) (spoken c.in-For.high) c.in-For.upto (block c.in-For.body) (at_of c.args.self.now) c.in_ok-low-in-For.low tt
+    for_fault c.args.peek c.in-For.name (expression c.in-For.low) (expression c.in-For.high) (is_turn c.in-For.until) (block c.in-For.body) (at_of c.args.self.now) c.in_ok-low-in-For.low tt
     (step_of c.args.peek (statement c.args.s.now) (at_of c.args.self.now)) c.from_residual-in_err-high-in-For.result c.in_err-high-in-For.field-0.0 c.args.out.now c.args.out.now c.args.self.now c.args.self.now (search rules)
-    (ap (λ x. step_of c.args.peek x (at_of c.args.self.now)) (ap statement c.in-For.is ∙ statement-for c.in-For.name c.in-For.low c.in-For.upto c.in-For.high c.in-For.body))
+    (ap (λ x. step_of c.args.peek x (at_of c.args.self.now)) (ap statement c.in-For.is ∙ statement-for c.in-For.name c.in-For.low c.in-For.until c.in-For.high c.in-For.body))
     (c.in_ok-new_name-in-For.ensures {u = tt}) c.in_ok-low-in-For.ensures.judged c.in_err-high-in-For.ensures.judged
 
 pub statement-loop-v-preserved : goal.statement-loop-v-preserved
 statement-loop-v-preserved t c =
-    turns_next c.args.peek (block c.in-For.body) c.in-For.name.now c.in_ok-low-in-For.low c.loop-v.v c.end_of-end.result c.args.self.now c.loop-v.self c.turn.new.self c.args.out.now c.loop-v.out c.turn.new.out
+    turns_next c.args.peek (block c.in-For.body) c.in-For.name c.in_ok-low-in-For.low c.loop-v.v c.end_of-end.result c.args.self.now c.loop-v.self c.turn.new.self c.args.out.now c.loop-v.out c.turn.new.out
     (search rules) c.loop-v.invariant (c.in_ok-turn-in-For.ensures {u = tt})
 
-pub statement-returns-in_ok-push-in-If : goal.statement-returns-in_ok-push-in-If
-statement-returns-in_ok-push-in-If t c =
-    let one = c.in_ok-first-in-If.ensures {u = tt} in
-    let two = c.in_ok-second-in-If.ensures {u = tt} in
-    let first = c.in_ok-first-in-If.first in
-    let second = c.in_ok-second-in-If.second in
-    let cond = c.in_ok-cond-in-If.cond in
-    let r = if_read c.args.peek (spoken c.in-If.cond) (block c.in-If.yes) (block c.in-If.no) (at_of c.args.self.now) (at_of c.counted.new.self) (at_of c.arm.new.self) (at_of c.arm-in-If.new.self) one.0 two.0 (term cond) c.term.new.popped
+pub branch-returns-in_ok-push : goal.branch-returns-in_ok-push
+branch-returns-in_ok-push t c =
+    let one = c.in_ok-first.ensures {u = tt} in
+    let two = c.in_ok-second.ensures {u = tt} in
+    let first = c.in_ok-first.first in
+    let second = c.in_ok-second.second in
+    let cond = c.in_ok-cond.cond in
+    let r = if_read c.args.peek (expression c.args.cond.now) (block c.args.yes.now) (optional c.args.no.now) (at_of c.args.self.now) (at_of c.counted.new.self) (at_of c.arm.new.self) (at_of c.otherwise.new.self) one.0 two.0 (term cond) c.term.new.popped
     (in_turn (map step (statements first))) (in_turn (map step (statements second)))
-    c.in_ok-counted-in-If.ensures.judged c.in_ok-cond-in-If.ensures.judged c.in_ok-cond-in-If.ensures.popped one.1 one.2 two.1 two.2 c.if-popped_first-self.true c.if-pushed_first-self.true in
+    c.in_ok-counted.ensures.judged c.in_ok-cond.ensures.judged c.in_ok-cond.ensures.popped one.1 one.2 two.1 two.2 c.if-popped_first-self.true c.if-pushed_first-self.true in
     let made = step-if cond first second ∙ ap (λ a. tree.If (term cond) a (steps second)) (steps-is first) ∙ ap (λ b. tree.If (term cond) (in_turn (map step (statements first))) b) (steps-is second) in (
       built.If cond first second ∷ [],
-      c.in_ok-push-in-If.ensures.ok,
-      ap (λ x. step_of c.args.peek x (at_of c.args.self.now)) (ap statement c.in-If.is ∙ statement-if c.in-If.cond c.in-If.yes c.in-If.no) ∙ r ∙ ap (λ x. answered (tree.Then x tree.Done, at_of c.arm-in-If.new.self)) (sym made),
-      kept_by c.args.self.now.names.items.items c.arm-in-If.new.self.names.items.items (two.3 ∙ one.3 ∙ ap (λ n. n.items.items) c.in_ok-counted-in-If.ensures.names),
+      c.in_ok-push.ensures.ok,
+      r ∙ ap (λ x. answered (tree.Then x tree.Done, at_of c.otherwise.new.self)) (sym made),
+      kept_by c.args.self.now.names.items.items c.otherwise.new.self.names.items.items (two.3 ∙ one.3 ∙ ap (λ n. n.items.items) c.in_ok-counted.ensures.names),
     )
 
 pub statement-returns-after-loop-v : goal.statement-returns-after-loop-v
 statement-returns-after-loop-v t c =
     let low = c.in_ok-low-in-For.low in
     let end = c.end_of-end.result in
-    let name = c.in-For.name.now in
+    let name = c.in-For.name in
     let body = block c.in-For.body in
     let w =
-    ap (λ x. step_of c.args.peek x (at_of c.args.self.now)) (ap statement c.in-For.is ∙ statement-for c.in-For.name c.in-For.low c.in-For.upto c.in-For.high c.in-For.body)
-    ∙ for_is c.args.peek name (spoken c.in-For.low) (spoken c.in-For.high) c.in-For.upto body (at_of c.args.self.now) low c.in_ok-high-in-For.high end tt (c.in_ok-new_name-in-For.ensures {u = tt}) c.in_ok-low-in-For.ensures.judged c.in_ok-high-in-For.ensures.judged c.end_of-end.ensures in
+    ap (λ x. step_of c.args.peek x (at_of c.args.self.now)) (ap statement c.in-For.is ∙ statement-for c.in-For.name c.in-For.low c.in-For.until c.in-For.high c.in-For.body)
+    ∙ for_is c.args.peek name (expression c.in-For.low) (expression c.in-For.high) (is_turn c.in-For.until) body (at_of c.args.self.now) low c.in_ok-high-in-For.high end tt (c.in_ok-new_name-in-For.ensures {u = tt}) c.in_ok-low-in-For.ensures.judged c.in_ok-high-in-For.ensures.judged c.end_of-end.ensures in
     turns_end c.args.peek body name low c.loop-v.v end c.args.self.now c.loop-v.self c.args.out.now c.loop-v.out (step_of c.args.peek (statement c.args.s.now) (at_of c.args.self.now)) (search rules) w c.loop-v.invariant
 
 pub turn-returns : goal.turn-returns
@@ -94,3 +93,14 @@ turn-returns t c =
     c.args.self.now.names.items.items c.counted.new.self.names.items.items c.push.new.self.items c.block.new.self.names.items.items c.truncate.new.self.items (in_turn (map step r.0))
     refl (c.in_ok-counted.ensures.judged) (search rules) (search rules) r.2 r.3 (search rules) in
     (r.0, r.1, d.0, d.1)
+
+-- an arm that is not written has no statements
+pub otherwise-returns-in-None : goal.otherwise-returns-in-None
+otherwise-returns-in-None t c = (at_of c.args.self.now, search rules, refl, refl)
+
+pub statement-returns-in_err-low-in-For : goal.statement-returns-in_err-low-in-For
+statement-returns-in_err-low-in-For t c =
+    low_fault c.args.peek c.in-For.name (expression c.in-For.low) (expression c.in-For.high) (is_turn c.in-For.until) (block c.in-For.body) (at_of c.args.self.now) tt
+    (step_of c.args.peek (statement c.args.s.now) (at_of c.args.self.now)) c.from_residual-in_err-low-in-For.result c.in_err-low-in-For.field-0.0 c.args.out.now c.args.out.now c.args.self.now c.args.self.now (search rules)
+    (ap (λ x. step_of c.args.peek x (at_of c.args.self.now)) (ap statement c.in-For.is ∙ statement-for c.in-For.name c.in-For.low c.in-For.until c.in-For.high c.in-For.body))
+    (c.in_ok-new_name-in-For.ensures {u = tt}) c.in_err-low-in-For.ensures.judged

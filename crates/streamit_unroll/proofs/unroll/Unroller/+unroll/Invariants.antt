@@ -1,22 +1,31 @@
 use Rattle.std.proofs.Common.{◌+◌, ◌*◌, drop, map}
+use Rattle.std.specs.Prelude.{max}
+use Rattle.streamit_unroll.specs.declared.tree.Block.{size-Block}
+use Rattle.streamit_unroll.proofs.Trees.{optional_size}
 use Rattle.streamit_unroll.specs.View.{statement, block}
 use Rattle.streamit_unroll.proofs.SoFar.{BlockSoFar, TurnsSoFar}
 use Rattle.streamit_unroll.proofs.unroll.Unroller.+unroll.Given as goal
 
 abbrev pub decreases-block : goal.decreases-block
-decreases-block l = goal.size-block l * 2
+decreases-block l = goal.size-block l * 4
 
 abbrev pub decreases-statement : goal.decreases-statement
-decreases-statement l = goal.size-statement l * 2
+decreases-statement l = goal.size-statement l * 4
+
+abbrev pub decreases-branch : goal.decreases-branch
+decreases-branch l = max (size-Block l.yes.now) (optional_size l.no.now) * 4 + 3
+
+abbrev pub decreases-otherwise : goal.decreases-otherwise
+decreases-otherwise l = optional_size l.no.now * 4 + 2
 
 abbrev pub decreases-arm : goal.decreases-arm
-decreases-arm l = goal.size-arm l * 2 + 1
+decreases-arm l = goal.size-arm l * 4 + 1
 
 abbrev pub decreases-turn : goal.decreases-turn
-decreases-turn l = goal.size-turn l * 2 + 1
+decreases-turn l = goal.size-turn l * 4 + 1
 
 abbrev pub invariant-block-loop-s : goal.invariant-block-loop-s
 invariant-block-loop-s l = BlockSoFar l.peek (map statement l.s-items) (map statement (drop l.s-index l.s-items)) l.initial.self l.self l.initial.out l.out
 
 abbrev pub invariant-statement-loop-v : goal.invariant-statement-loop-v
-invariant-statement-loop-v l = TurnsSoFar l.peek (block l.body) l.name.now l.low l.v l.end l.initial.self l.self l.initial.out l.out
+invariant-statement-loop-v l = TurnsSoFar l.peek (block l.body) l.name l.low l.v l.end l.initial.self l.self l.initial.out l.out

@@ -1,8 +1,7 @@
 use Rattle.std.proofs.Common.{◌≡◌, drop}
 use Rattle.streamit_model.specs.FilterSource.{read_fields}
-use Rattle.streamit_unroll.specs.Filter.{names_of}
 use Rattle.streamit_unroll.specs.Unrolled.{at_of}
 use Rattle.streamit_unroll.proofs.unroll.Unroller.fields.Given as goal
 
 abbrev pub invariant-loop-name : goal.invariant-loop-name
-invariant-loop-name l = read_fields (names_of l.fields) (at_of l.initial.self) ≡ read_fields (names_of (drop l.name-index l.fields)) (at_of l.self)
+invariant-loop-name l = read_fields l.fields (at_of l.initial.self) ≡ read_fields (drop l.name-index l.fields) (at_of l.self)

@@ -1,0 +1,9 @@
+pub mod Fronts
+pub mod Planned
+pub mod Printable
+pub mod Readable
+pub mod Reaching
+pub mod Rows
+pub mod Scopes
+pub mod SoFar
+pub mod Units

@@ -1,0 +1,102 @@
+-- The values of an emit.
+use Rattle.std.proofs.Common.{◌≡◌, ℕ, zero, suc, ◌+◌, ◌<◌, ◌≤◌, List, [], ◌∷◌, ◌++◌, length, drop, map, get_or, true, false, Result, Ok, Err, refl, sym, ap, ◌∙◌, subst, arith, append_assoc, append-nil, nat_lt}
+use Rattle.std.specs.Prelude.{if◌then◌else◌}
+use Rattle.std.proofs.lemmas.List.{map-append}
+use Rattle.work_code.specs.Term.{Term, term}
+use Rattle.work_code.specs.declared.expr.Expr as work
+use Rattle.text_forms.specs.Tree.{Spoken}
+use Rattle.saw_model.specs.Elaborate.{Fault, Limit, Scope, on_ok, term_of, indexes_of}
+use Rattle.saw_text.specs.declared.tree.Expr.{Expr}
+use Rattle.saw_text.specs.Tree.{said}
+use Rattle.saw_text.specs.View.{all_said}
+use Rattle.saw_front.specs.declared.fault.Fault as fault
+use Rattle.saw_front.specs.Valued.{AllValues}
+use Rattle.saw_front.specs.View.{Tells}
+use Rattle.saw_front.proofs.SoFar.{good, at_place, none_left, tells_more}
+
+abbrev pub Terms : Type 0
+Terms = Result (List Term) Fault
+
+-- behind these values
+abbrev pub behind_terms : List Term → Terms → Terms
+behind_terms done r = on_ok r (λ us. Ok (done ++ us))
+
+-- what was read of the indexes, and what is to be read, is what is read of all
+pub record IndexesSoFar (sc : Scope) (all : List Expr) (i : ℕ) (done : List Term) : Type 0 where
+  pub whole : indexes_of sc 0 (all_said all) ≡ behind_terms done (indexes_of sc i (all_said (drop i all)))
+  pub values : AllValues (all_said (drop i all))
+
+behind-none : (r : Terms) → r ≡ behind_terms [] r
+behind-none (Ok us) = refl
+behind-none (Err f) = refl
+
+behind-both : (a b : List Term) (r : Terms) → behind_terms a (behind_terms b r) ≡ behind_terms (a ++ b) r
+behind-both a b (Ok us) = ap good (sym (append_assoc a b us))
+behind-both a b (Err f) = refl
+
+pub indexes_start : (sc : Scope) (all : List Expr) → AllValues (all_said all) → IndexesSoFar sc all 0 []
+indexes_start sc all v = record { whole = behind-none (indexes_of sc 0 (all_said all)); values = v }
+
+lt_true : (a b : ℕ) → a < b → nat_lt a b ≡ true
+lt_true a b h = grind arith
+
+lt_false : (a b : ℕ) → b ≤ a → nat_lt a b ≡ false
+lt_false a b h = grind arith
+
+abbrev one_more : Scope → ℕ → Spoken → List Spoken → Terms
+one_more sc i t ts = on_ok (term_of sc t) (λ u. on_ok (indexes_of sc (i + 1) ts) (λ us. Ok (u ∷ us)))
+
+module _ (sc : Scope) (all : List Expr) (i : ℕ) (e : Expr) (done : List Term) (lt : i < length all) (is : e ≡ get_or all i e) (f : IndexesSoFar sc all i done) where
+  abbrev rest : List Spoken
+  rest = all_said (drop (i + 1) all)
+
+  at : all_said (drop i all) ≡ said e ∷ rest
+  at = at_place said all i e lt is
+
+  pub index_value : AllValues (said e ∷ rest)
+  index_value = subst AllValues at f.values
+
+  here : indexes_of sc 0 (all_said all) ≡ behind_terms done (indexes_of sc i (said e ∷ rest))
+  here = f.whole ∙ ap (λ ts. behind_terms done (indexes_of sc i ts)) at
+
+  index_on : i < 8 → indexes_of sc 0 (all_said all) ≡ behind_terms done (one_more sc i (said e) rest)
+  index_on h = here ∙ ap (λ b. behind_terms done (if b then one_more sc i (said e) rest else Err Limit)) (lt_true i 8 h)
+
+  -- one index more
+  pub index_next : i < 8 → (u : Term) → term_of sc (said e) ≡ Ok u → IndexesSoFar sc all (i + 1) (done ++ u ∷ [])
+  index_next h u t = record {
+    whole =
+        index_on h ∙ ap (λ r. behind_terms done (on_ok r (λ u. on_ok (indexes_of sc (i + 1) rest) (λ us. good (u ∷ us))))) t
+        ∙ behind-both done (u ∷ []) (indexes_of sc (i + 1) rest);
+    values = index_value.1;
+  }
+
+  -- an index that is refused
+  pub index_fault : i < 8 → (k : fault.Fault) → Tells k (term_of sc (said e)) → Tells k (indexes_of sc 0 (all_said all))
+  index_fault h k t =
+      tells_more k (term_of sc (said e)) (indexes_of sc 0 (all_said all)) (λ g q. index_on h ∙ ap (λ r. behind_terms done (on_ok r (λ u. on_ok (indexes_of sc (i + 1) rest) (λ us. good (u ∷ us))))) q) t
+
+drop_some : (xs : List Expr) (i : ℕ) → i < length xs → 0 < length (drop i xs)
+drop_some [] i lt = absurd (omega (arith, lt))
+drop_some (x ∷ xs) zero lt = omega arith
+drop_some (x ∷ xs) (suc i) lt = drop_some xs i (omega (arith, lt))
+
+-- a ninth index, whatever it is
+pub index_over : (sc : Scope) (all : List Expr) (i : ℕ) (done : List Term) → i < length all → 8 ≤ i → IndexesSoFar sc all i done → indexes_of sc 0 (all_said all) ≡ Err Limit
+index_over sc all i done lt h f = f.whole ∙ by (drop i all) (drop_some all i lt) where
+  by : (l : List Expr) → 0 < length l → behind_terms done (indexes_of sc i (all_said l)) ≡ Err Limit
+  by [] some = absurd (omega (arith, some))
+  by (e ∷ es) some = ap (λ b. behind_terms done (if b then one_more sc i (said e) (all_said es) else Err Limit)) (lt_false i 8 h)
+
+-- all indexes
+pub indexes_end : (sc : Scope) (all : List Expr) (i : ℕ) (done : List Term) → length all ≤ i → IndexesSoFar sc all i done → indexes_of sc 0 (all_said all) ≡ Ok done
+indexes_end sc all i done le f = f.whole ∙ ap (λ ts. behind_terms done (indexes_of sc i ts)) (none_left said all i le) ∙ ap good (append-nil done)
+
+-- one value more at the end
+pub terms-push : (xs : List work.Expr) (x : work.Expr) → map term (xs ++ x ∷ []) ≡ map term xs ++ term x ∷ []
+terms-push xs x = map-append term xs (x ∷ [])
+
+pub values-two : (us : List Term) (u w : Term) → (us ++ u ∷ []) ++ w ∷ [] ≡ us ++ u ∷ w ∷ []
+values-two us u w = append_assoc us (u ∷ []) (w ∷ [])
+
+pub ruleset rows = (terms-push, values-two)

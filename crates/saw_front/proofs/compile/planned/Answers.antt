@@ -1,0 +1,12 @@
+use Rattle.saw_model.specs.Judged.{judged}
+use Rattle.saw_text.specs.Tree.{unit_forms, program_of}
+use Rattle.saw_front.proofs.Fronts.{planned-valid}
+use Rattle.saw_front.proofs.compile.planned.Goals as goal
+
+-- the lists are those of a plan that is valid
+pub valid-requires : goal.valid-requires
+valid-requires c = record { valid = planned-valid (unit_forms c.args.units.now) c.in-Ok.raw c.requires.shallow c.in-Ok.ensures }
+
+-- the first fault of the units
+pub returns-in-Err-clause-refused : goal.returns-in-Err-clause-refused
+returns-in-Err-clause-refused c = c.refused.ensures (unit_forms c.args.units.now) (judged (program_of (unit_forms c.args.units.now))) c.in-Err.ensures

@@ -1,0 +1,21 @@
+//! Sawzall programs: a text becomes its tree and its plan, or tells its first fault.
+#![tactic(auto)]
+
+mod blocks;
+mod compile;
+mod fault;
+mod judge;
+pub mod laws;
+mod names;
+mod parts;
+mod plan;
+mod program;
+mod reach;
+mod simple;
+mod term;
+
+pub use compile::compile_sawzall;
+pub use fault::{Fault, SawFault};
+pub use judge::{Judge, Refusal};
+pub use names::{Known, Names};
+pub use program::SawProgram;
