@@ -1,5 +1,6 @@
 pub mod Compiled
 pub mod Contents
+pub mod CqlCompiled
 pub mod Cut
 pub mod Fetches
 pub mod Inputs

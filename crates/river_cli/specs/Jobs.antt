@@ -6,7 +6,7 @@ use Rattle.river_cli.specs.declared.job.Command.{Command}
 use Rattle.river_cli.specs.declared.job.Command.TheVariants.{Mean}
 use Rattle.river_cli.specs.declared.job.Job.{Job}
 use Rattle.river_cli.specs.declared.job.Lang.{Lang}
-use Rattle.river_cli.specs.declared.job.Lang.TheVariants.{Streamit, Sawzall}
+use Rattle.river_cli.specs.declared.job.Lang.TheVariants.{Streamit, Sawzall, Cql}
 use Rattle.river_cli.specs.declared.job.Options.{Options}
 
 -- no option is given
@@ -21,6 +21,7 @@ plain command lang file = record { command = command; lang = lang; file = file; 
 abbrev pub goes_with : Command → Lang → Bool
 goes_with Mean Streamit = false
 goes_with Mean Sawzall = false
+goes_with Mean Cql = false
 goes_with command lang = true
 
 -- `COMMAND LANG FILE` and what stands behind it

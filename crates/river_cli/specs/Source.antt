@@ -12,8 +12,16 @@ use Rattle.streamit_model.specs.Laws.{as_items}
 use Rattle.streamit_model.specs.Program.{program_outputs}
 use Rattle.streamit_front.specs.Meaning.{Accepted, compiled}
 use Rattle.streamit_front.specs.Words.{streamit_words}
+use Rattle.cql_model.specs.Instants.{program_means}
+use Rattle.cql_model.specs.Program.{Register, Ask, Program}
+use Rattle.cql_model.specs.Translation.{input_decls}
+use Rattle.cql_model.specs.Translation as cql
+use Rattle.cql_text.specs.Tree.{Part}
+use Rattle.cql_build.specs.Seen.{program_of}
+use Rattle.cql_front.specs.Meaning as cql_front
+use Rattle.cql_front.specs.Words.{cql_words}
 use Rattle.river_cli.specs.Contents.{AreContents}
-use Rattle.river_cli.specs.Inputs.{all_items}
+use Rattle.river_cli.specs.Inputs.{timed_files, all_items}
 use Rattle.river_kernels.specs.Fits.{rows}
 use Rattle.saw_model.specs.Source.{tables_in, width, program_tables}
 use Rattle.saw_front.specs.Meaning as saw
@@ -23,7 +31,7 @@ use Rattle.river_cli.specs.declared.compile.Compiled.{Compiled}
 use Rattle.river_cli.specs.declared.content.Content.{Content}
 use Rattle.river_cli.specs.declared.content.Content.TheVariants.{Rows as Plain, Timed}
 use Rattle.river_cli.specs.declared.job.Lang.{Lang}
-use Rattle.river_cli.specs.declared.job.Lang.TheVariants.{River, Streamit, Sawzall}
+use Rattle.river_cli.specs.declared.job.Lang.TheVariants.{River, Streamit, Sawzall, Cql}
 
 -- a program: its inputs, the names of its outputs and of its tables, what these have for the files of its inputs, and its plan
 pub record Source : Type 0 where
@@ -75,6 +83,22 @@ saw_source a = record {
   plan = saw.plan_in a;
 }
 
+-- the queries of a program, by their names
+abbrev pub asked_names : Program → List Name
+asked_names [] = []
+asked_names (Register name fields ∷ ps) = asked_names ps
+asked_names (Ask q ∷ ps) = q.name ∷ asked_names ps
+
+-- a CQL program, by its own definition: a registered stream is an input, and a query an output
+abbrev pub cql_source : List Part → Source
+cql_source p = record {
+  inputs = input_decls (program_of p);
+  outputs = asked_names (program_of p);
+  tables = [];
+  means = λ files. record { outs = program_means (program_of p) (timed_files files); tables = [] };
+  plan = cql.plan_of (program_of p);
+}
+
 -- the program of what was read, or the text that refuses it
 abbrev pub told : {A F : Type 0} → (A → Source) → (F → List ℕ) → Result A F → Result Source (List ℕ)
 told source words (Ok x) = Ok (source x)
@@ -85,6 +109,7 @@ unfoldable pub source_of : Lang → List ℕ → Result Source (List ℕ)
 source_of River text = told river_source river_words (plan_in text)
 source_of Streamit text = told streamit_source streamit_words (compiled text)
 source_of Sawzall text = told saw_source saw_words (saw.compiled text)
+source_of Cql text = told cql_source cql_words (cql_front.compiled text)
 
 -- a plan that may be run in place of the program: it has the same inputs, outputs and tables, and means the same for all that
 -- the files of its inputs may have

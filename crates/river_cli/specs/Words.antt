@@ -5,7 +5,7 @@ use Rattle.river_cli.specs.declared.job.Command.{Command}
 use Rattle.river_cli.specs.declared.job.Command.TheVariants.{Run, Mean, Show}
 use Rattle.river_cli.specs.declared.job.InWord.{InWord}
 use Rattle.river_cli.specs.declared.job.Lang.{Lang}
-use Rattle.river_cli.specs.declared.job.Lang.TheVariants.{River, Streamit, Sawzall}
+use Rattle.river_cli.specs.declared.job.Lang.TheVariants.{River, Streamit, Sawzall, Cql}
 
 -- the command that a word names
 abbrev pub command_named : List ℕ → Option Command
@@ -21,6 +21,7 @@ lang_named word =
     if bytes_eq word (codes "river") then Some River
     else if bytes_eq word (codes "streamit") then Some Streamit
     else if bytes_eq word (codes "sawzall") then Some Sawzall
+    else if bytes_eq word (codes "cql") then Some Cql
     else None
 
 -- a word that may be the program's file: not empty, and it does not begin with `-`

@@ -5,13 +5,16 @@ ghost use Rattle.river_text.specs.Meaning.{plan_in};
 ghost use Rattle.river_text.specs.Words.{river_words};
 ghost use Rattle.streamit_front.specs.Meaning.{compiled};
 ghost use Rattle.streamit_front.specs.Words.{streamit_words};
-ghost use Rattle.river_cli.specs.Source.{river_source, streamit_source, saw_source, told, source_of, IsCompiled};
+ghost use Rattle.cql_front.specs.Meaning.{compiled as cql_compiled};
+ghost use Rattle.cql_front.specs.Words.{cql_words};
+ghost use Rattle.river_cli.specs.Source.{river_source, streamit_source, saw_source, cql_source, told, source_of, IsCompiled};
 ghost use Rattle.saw_front.specs.Meaning.{compiled as saw_compiled};
 ghost use Rattle.saw_front.specs.Words.{saw_words};
 ghost use Rattle.river_cli.specs.Text.{program_refused};
 
 use crate::job::Lang;
 use crate::text;
+use cql_front::{CqlFault, compile_cql};
 use river_base::{Bytes, NoMemory};
 use river_order::Stop;
 use river_plan::Plan;
@@ -36,6 +39,7 @@ pub fn compile(alloc: Global, lang: Lang, text: &Bytes) -> Result<Compiled, Stop
         Lang::River => river(alloc, text),
         Lang::Streamit => streamit(alloc, text),
         Lang::Sawzall => sawzall(alloc, text),
+        Lang::Cql => cql(alloc, text),
     }
 }
 
@@ -90,6 +94,25 @@ fn sawzall(alloc: Global, text: &Bytes) -> Result<Compiled, Stop>
 
 fn saw_refused(alloc: Global, fault: SawFault) -> Result<Bytes, NoMemory>
     ensures { IfOk result (λ text. text ≡ program_refused (saw_words fault)) }
+{
+    let mut words = Bytes::new(alloc);
+    fault.put(alloc, &mut words)?;
+    text::program(alloc, words.as_slice())
+}
+
+fn cql(alloc: Global, text: &Bytes) -> Result<Compiled, Stop>
+    requires { length text.now ≤ 1048576 }
+    ensures { AnswersAs IsCompiled (told cql_source cql_words (cql_compiled text.now)) result }
+{
+    match compile_cql(alloc, text) {
+        Ok((_, plan)) => Ok(Compiled { plan }),
+        Err(CqlFault::NoMemory) => Err(Stop::NoMemory),
+        Err(fault) => Err(Stop::Refused(cql_refused(alloc, fault)?)),
+    }
+}
+
+fn cql_refused(alloc: Global, fault: CqlFault) -> Result<Bytes, NoMemory>
+    ensures { IfOk result (λ text. text ≡ program_refused (cql_words fault)) }
 {
     let mut words = Bytes::new(alloc);
     fault.put(alloc, &mut words)?;

@@ -24,6 +24,8 @@ pub enum Lang {
     Streamit,
     /// Sawzall.
     Sawzall,
+    /// CQL.
+    Cql,
 }
 
 impl Lang {
@@ -32,7 +34,7 @@ impl Lang {
         ensures { result ≡ takes_more self }
     {
         match self {
-            Lang::River | Lang::Streamit => false,
+            Lang::River | Lang::Streamit | Lang::Cql => false,
             Lang::Sawzall => true,
         }
     }

@@ -44,6 +44,8 @@ const STREAMIT: &[u8] = b"streamit";
 
 const SAWZALL: &[u8] = b"sawzall";
 
+const CQL: &[u8] = b"cql";
+
 fn command_named(word: &[u8]) -> Option<Command>
     ensures { result ≡ command_named word.now }
 {
@@ -67,6 +69,8 @@ fn lang_named(word: &[u8]) -> Option<Lang>
         Some(Lang::Streamit)
     } else if word == SAWZALL {
         Some(Lang::Sawzall)
+    } else if word == CQL {
+        Some(Lang::Cql)
     } else {
         None
     }
@@ -77,7 +81,7 @@ fn goes_with(command: Command, lang: Lang) -> bool
     ensures { result ≡ goes_with command lang }
 {
     match (command, lang) {
-        (Command::Mean, Lang::Streamit | Lang::Sawzall) => false,
+        (Command::Mean, Lang::Streamit | Lang::Sawzall | Lang::Cql) => false,
         (Command::Mean, Lang::River) | (Command::Run | Command::Show, _) => true,
     }
 }

@@ -12,3 +12,7 @@ returns-in-Streamit c = rw c.in-Streamit.is c.streamit.ensures
 pub returns-in-Sawzall : goal.returns-in-Sawzall
 unfolding source_of
 returns-in-Sawzall c = rw c.in-Sawzall.is c.sawzall.ensures
+
+pub returns-in-Cql : goal.returns-in-Cql
+unfolding source_of
+returns-in-Cql c = rw c.in-Cql.is c.cql.ensures
