@@ -1,13 +1,14 @@
 -- The instants of a run by CQL's own definition are the timestamps of its files, as they are sorted.
 use Rattle.std.proofs.Common.{◌≡◌, ℤ, Bool, true, false, cond, List, [], ◌∷◌, refl, sym, ap, ◌∙◌, subst, arith}
-use Rattle.std.specs.Prelude.{int_lt, ◌||◌}
+use Rattle.std.specs.Prelude.{int_lt, ◌||◌, All}
 use Rattle.std.specs.List.{AllByRecursion}
 use Rattle.std.specs.List.Sorted.{IsStrictlySortedBy}
 use Rattle.std.specs.Ordering.{int_eq, int_cmp}
-use Rattle.std.specs.declared.cmp.Ordering.{Ordering}
 use Rattle.std.specs.declared.cmp.Ordering.TheVariants.{Less, Equal, Greater}
 use Rattle.std.proofs.lemmas.Cmp.{int_eq_equiv}
-use Rattle.std.proofs.lemmas.Map.Views.{Contains-from_any, list_any-from_Contains}
+use Rattle.std.proofs.lemmas.Map.Views.{All-after_first, Contains-from_any, list_any-from_Contains}
+use Rattle.std.proofs.lemmas.Map.Keys.{sorted_tail}
+use Rattle.std.proofs.lemmas.List.Elements.{All-head, All-tail}
 use Rattle.river_base.specs.Instants as base
 use Rattle.river_base.proofs.Instants.{once_rises, once_has, has_once}
 use Rattle.cql_model.specs.Instants.{stands_in, stamps, instants}
@@ -76,13 +77,13 @@ less_one x y h = by (int_lt x y) (int_lt y x) h where
   by false true g = cc
   by false false g = cc
 
-all_less : (x : ℤ) (ys : List ℤ) → AllByRecursion (λ y. int_cmp x y ≡ Less) ys → AllAbove x ys
+all_less : (x : ℤ) (ys : List ℤ) → All (λ y. int_cmp x y ≡ Less) ys → AllAbove x ys
 all_less x [] h = tt
-all_less x (y ∷ ys) h = (less_one x y h.0, all_less x ys h.1)
+all_less x (y ∷ ys) h = (less_one x y (All-head (λ q. int_cmp x q ≡ Less) y ys h), all_less x ys (All-tail (λ q. int_cmp x q ≡ Less) y ys h))
 
 rises_where : (xs : List ℤ) → IsStrictlySortedBy int_cmp xs → Rises xs
 rises_where [] h = tt
-rises_where (x ∷ xs) h = (all_less x xs h.0, rises_where xs h.1)
+rises_where (x ∷ xs) h = (all_less x xs (All-after_first int_cmp x xs h), rises_where xs (sorted_tail int_cmp x xs h))
 
 both_ways : (a b : Bool) → (a ≡ true → b ≡ true) → (b ≡ true → a ≡ true) → a ≡ b
 both_ways true b f g = sym (f refl)

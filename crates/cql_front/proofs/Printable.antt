@@ -38,7 +38,7 @@ items-spoken : (b : Name) (items : List Source) (srcs : List Name) → AllByRecu
 items-spoken b [] srcs h = tt
 items-spoken b (i ∷ is) srcs h =
     every-joined IsSpoken (window_ops b 1 (i ∷ is) srcs) (cross_ops b (w_name b 1) 2 is) (windows-spoken b 1 (i ∷ is) srcs h)
-        (crosses-spoken b (w_name b 1) 2 is)
+    (crosses-spoken b (w_name b 1) 2 is)
 
 select-spoken : (b : Name) (scope : List Named) (last : Name) (o : Option Scalar) → Every IsSpoken (select_ops b scope last o)
 select-spoken b scope last None = tt
@@ -88,7 +88,7 @@ forward-printable : (p : Program) → AreForward p → IsPrintable (plan_of p)
 forward-printable p h =
     let all = all_uses p in
     spoken-printable (plan_of p)
-        (every-joined IsSpoken (input_ops all p) (ask_ops (registered p) all [] [] p) (inputs-spoken all p) (asks-spoken (registered p) all [] [] p h))
+    (every-joined IsSpoken (input_ops all p) (ask_ops (registered p) all [] [] p) (inputs-spoken all p) (asks-spoken (registered p) all [] [] p h))
 
 -- TREES
 

@@ -134,7 +134,7 @@ query_short p ts h =
     let items = both.second.formed.formed.second.second.formed.first in
     let used : AllByRecursion IsShortName (streams_of (map source_of v.1.1.1.0)) =
     subst (λ (l : List Source). AllByRecursion IsShortName (streams_of (map source_of l))) (sym items.is)
-        (source_short items.value.0 items.formed.front items.formed.first, more_short items.value.1 items.formed.back items.formed.second) in
+    (source_short items.value.0 items.formed.front items.formed.first, more_short items.value.1 items.formed.back items.formed.second) in
     subst PartShort (sym h.formed.is) ((short v.0 both.first.passes, tt), both_all IsShortName (streams_of (map source_of v.1.1.1.0)) [] used tt)
 
 stream_short : (p : Part) (ts : List Tok) → IsStream p ts → PartShort p

@@ -8,7 +8,7 @@ ghost use Rattle.cql_text.specs.Tree.{part_of, parts_of};
 ghost use Rattle.cql_text.specs.Tree as tree;
 
 use crate::CqlFault;
-use cql_build::{Refused, plan};
+use cql_build::plan;
 use cql_model::{Fault, Refusal};
 use cql_text::{CqlProgram, CqlTextFault, Part, read_cql};
 use river_base::Bytes;
@@ -74,8 +74,8 @@ fn planned(alloc: Global, parts: &[Part]) -> Result<Plan, CqlFault>
 {
     match plan(alloc, parts) {
         Ok(plan) => Ok(plan),
-        Err(Refused::Program(refusal)) => Err(fault(refusal)),
-        Err(Refused::NoMemory) => Err(CqlFault::NoMemory),
+        Err(cql_build::Refused::Program(refusal)) => Err(fault(refusal)),
+        Err(cql_build::Refused::NoMemory) => Err(CqlFault::NoMemory),
     }
 }
 

@@ -11,6 +11,7 @@ takes_more River = false
 takes_more Streamit = false
 takes_more Cql = false
 takes_more Sawzall = true
+takes_more Cql = false
 
 abbrev pub layout_of : Job → Layout
 layout_of job = record { header = job.options.header; more = takes_more job.lang }

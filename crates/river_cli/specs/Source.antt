@@ -21,6 +21,7 @@ use Rattle.cql_build.specs.Seen.{program_of}
 use Rattle.cql_front.specs.Meaning as cql_front
 use Rattle.cql_front.specs.Words.{cql_words}
 use Rattle.river_cli.specs.Contents.{AreContents}
+use Rattle.river_cli.specs.Inputs.{timed_files, all_items}
 use Rattle.river_kernels.specs.Fits.{rows}
 use Rattle.saw_model.specs.Source.{tables_in, width, program_tables}
 use Rattle.saw_front.specs.Meaning as saw

@@ -5,6 +5,9 @@ ghost use Rattle.river_text.specs.Meaning.{plan_in};
 ghost use Rattle.river_text.specs.Words.{river_words};
 ghost use Rattle.streamit_front.specs.Meaning.{compiled};
 ghost use Rattle.streamit_front.specs.Words.{streamit_words};
+ghost use Rattle.cql_front.specs.Meaning.{compiled as cql_compiled};
+ghost use Rattle.cql_front.specs.Words.{cql_words};
+ghost use Rattle.river_cli.specs.Source.{river_source, streamit_source, saw_source, cql_source, told, source_of, IsCompiled};
 ghost use Rattle.saw_front.specs.Meaning.{compiled as saw_compiled};
 ghost use Rattle.saw_front.specs.Words.{saw_words};
 ghost use Rattle.cql_front.specs.Meaning as cql;
@@ -102,10 +105,10 @@ fn saw_refused(alloc: Global, fault: SawFault) -> Result<Bytes, NoMemory>
 
 fn cql(alloc: Global, text: &Bytes) -> Result<Compiled, Stop>
     requires { length text.now ≤ 1048576 }
-    ensures { AnswersAs IsCompiled (told cql_source cql_words (cql.compiled text.now)) result }
+    ensures { AnswersAs IsCompiled (told cql_source cql_words (cql_compiled text.now)) result }
 {
     match compile_cql(alloc, text) {
-        Ok((_tree, plan)) => Ok(Compiled { plan }),
+        Ok((_, plan)) => Ok(Compiled { plan }),
         Err(CqlFault::NoMemory) => Err(Stop::NoMemory),
         Err(fault) => Err(Stop::Refused(cql_refused(alloc, fault)?)),
     }

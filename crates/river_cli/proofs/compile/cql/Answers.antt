@@ -1,6 +1,5 @@
-use Rattle.cql_text.specs.Tree.{parts_of}
 use Rattle.river_cli.proofs.CqlCompiled.{cql-compiled}
 use Rattle.river_cli.proofs.compile.cql.Goals as goal
 
 pub returns-in-Ok : goal.returns-in-Ok
-returns-in-Ok c = cql-compiled c.args.text.now (parts_of c.in-Ok._tree) c.in-Ok.plan c.in-Ok.ensures.plan
+returns-in-Ok c = cql-compiled c.args.text.now _ c.in-Ok.plan c.in-Ok.ensures.plan
