@@ -9,7 +9,6 @@ use Rattle.river_cli.specs.declared.job.Layout.{Layout}
 abbrev pub takes_more : Lang → Bool
 takes_more River = false
 takes_more Streamit = false
-takes_more Cql = false
 takes_more Sawzall = true
 takes_more Cql = false
 

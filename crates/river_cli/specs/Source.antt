@@ -26,7 +26,6 @@ use Rattle.river_kernels.specs.Fits.{rows}
 use Rattle.saw_model.specs.Source.{tables_in, width, program_tables}
 use Rattle.saw_front.specs.Meaning as saw
 use Rattle.saw_front.specs.Words.{saw_words}
-use Rattle.river_cli.specs.Inputs.{timed_files, all_items}
 use Rattle.river_cli.specs.Text.{program_refused}
 use Rattle.river_cli.specs.declared.compile.Compiled.{Compiled}
 use Rattle.river_cli.specs.declared.content.Content.{Content}

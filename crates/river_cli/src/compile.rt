@@ -10,9 +10,6 @@ ghost use Rattle.cql_front.specs.Words.{cql_words};
 ghost use Rattle.river_cli.specs.Source.{river_source, streamit_source, saw_source, cql_source, told, source_of, IsCompiled};
 ghost use Rattle.saw_front.specs.Meaning.{compiled as saw_compiled};
 ghost use Rattle.saw_front.specs.Words.{saw_words};
-ghost use Rattle.cql_front.specs.Meaning as cql;
-ghost use Rattle.cql_front.specs.Words.{cql_words};
-ghost use Rattle.river_cli.specs.Source.{river_source, streamit_source, saw_source, cql_source, told, source_of, IsCompiled};
 ghost use Rattle.river_cli.specs.Text.{program_refused};
 
 use crate::job::Lang;
