@@ -64,7 +64,7 @@ program_means : (text : List ℕ) (p : List Part) → compiled text ≡ Ok p →
 program_means text p e files h =
     let timed = timed_files files in
     let items : all_items files ≡ inputs_for timed =
-        items-are (base.instants timed) (program_of p) files h ∙ ap (λ ts. map (λ f. base.spread ts (base.at_instant f)) timed) (sym (instants_agree timed)) in
+    items-are (base.instants timed) (program_of p) files h ∙ ap (λ ts. map (λ f. base.spread ts (base.at_instant f)) timed) (sym (instants_agree timed)) in
     ap (meaning (plan_of (program_of p))) items ∙ (plans_mean text p e).1 timed (files-are (program_of p) files h)
 
 program_plan : (text : List ℕ) (p : List Part) → compiled text ≡ Ok p → IsPlanOf (cql_source p) (plan_of (program_of p))
