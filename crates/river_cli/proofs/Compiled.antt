@@ -14,12 +14,13 @@ use Rattle.river_text.specs.declared.river_fault.RiverFault.TheVariants as river
 use Rattle.brooklet_model.specs.Meaning.{meaning}
 use Rattle.streamit_model.specs.Build.{plan_of}
 use Rattle.streamit_model.specs.Laws.{as_items}
-use Rattle.streamit_model.specs.Program.{Program}
 use Rattle.streamit_front.specs.Meaning.{Accepted, compiled, Plans, Refused}
 use Rattle.streamit_front.specs.Words.{streamit_words}
 use Rattle.streamit_front.specs.declared.fault.StreamitFault.{StreamitFault}
 use Rattle.streamit_front.specs.declared.fault.StreamitFault.TheVariants as streamit_fault
-use Rattle.streamit_front.proofs.Fronts.{plans_mean}
+use Rattle.streamit_build.specs.Program as streamit_build
+use Rattle.streamit_front.specs.declared.program.StreamitProgram.{StreamitProgram}
+use Rattle.streamit_front.proofs.Fronts.{compiled-readable, plans_mean}
 use Rattle.river_cli.specs.Contents.{AreContents}
 use Rattle.river_cli.specs.Inputs.{row_items, all_items}
 use Rattle.river_cli.specs.Source.{river_source, streamit_source, saw_source, values, told, IsPlanOf, IsCompiled}
@@ -30,15 +31,18 @@ use Rattle.saw_front.specs.Meaning as saw
 use Rattle.saw_front.specs.Words.{saw_words}
 use Rattle.saw_front.specs.declared.fault.SawFault.{SawFault}
 use Rattle.saw_front.specs.declared.fault.SawFault.TheVariants as saw_fault
-use Rattle.saw_front.proofs.Fronts.{plans_mean as saw_plans_mean}
+use Rattle.saw_front.specs.declared.program.SawProgram.{SawProgram}
+use Rattle.saw_front.proofs.Fronts.{compiled-valued, compiled-judged, plans_mean as saw_plans_mean}
+use Rattle.saw_text.specs.Tree.{unit_forms}
 use Rattle.river_cli.specs.Text.{program_refused}
+use Rattle.river_cli.specs.declared.compile.Program.TheVariants as program
 use Rattle.river_cli.specs.declared.content.Content.{Content}
 use Rattle.river_cli.specs.declared.content.Content.TheVariants.{Rows as Plain, Timed}
 
 -- ---- A RIVER TEXT
 
-pub river-compiled : (meant : Result PlanForm RiverFault) (p : PlanForm) → meant ≡ Ok p → StandsFor IsCompiled (told river_source river_words meant) (record { plan = p })
-river-compiled meant p is = rw is (record { plan = refl; inputs = refl; outputs = refl; tables = refl; means = λ rows t. refl })
+pub river-compiled : (meant : Result PlanForm RiverFault) (p : PlanForm) → meant ≡ Ok p → StandsFor IsCompiled (told river_source river_words meant) (record { plan = p; program = program.River })
+river-compiled meant p is = rw is (record { plan = record { plan = refl; inputs = refl; outputs = refl; tables = refl; means = λ rows t. refl }; program = tt })
 
 pub river-refused : (meant : Result PlanForm RiverFault) (f : RiverFault) (text : List _) → (f ≡ river_fault.NoMemory → ⊥) → river.Refused meant f → text ≡ program_refused (river_words f) → told river_source river_words meant ≡ Err text
 river-refused meant (river_fault.Text refusal) text not is says = rw (is, says) refl
@@ -70,13 +74,16 @@ program_means text a e (Plain r ∷ []) t = ap (λ l. meaning (plan_of a.stream)
 program_plan : (text : List ℕ) (a : Accepted) → compiled text ≡ Ok a → IsPlanOf (streamit_source a) (plan_of a.stream)
 program_plan text a e = record { plan = refl; inputs = refl; outputs = refl; tables = refl; means = program_means text a e }
 
--- the plan that was compiled is the program's
-pub streamit-compiled : (text : List ℕ) (p : Program) (plan : PlanForm) → Plans (compiled text) p plan
-    → StandsFor IsCompiled (told streamit_source streamit_words (compiled text)) (record { plan = plan })
-streamit-compiled text p plan (s, is, made) =
-    let a : Accepted = record { program = p; stream = s } in
-    subst (λ (r : Result Accepted StreamitFault). StandsFor IsCompiled (told streamit_source streamit_words r) (record { plan = plan })) (sym is)
-    (subst (IsPlanOf (streamit_source a)) (sym made) (program_plan text a is))
+-- the plan that was compiled is the program's, and so is the tree
+pub streamit-compiled : (text : List ℕ) (t : StreamitProgram) (plan : PlanForm) → Plans (compiled text) (streamit_build.program_of t.units.items) plan
+    → StandsFor IsCompiled (told streamit_source streamit_words (compiled text)) (record { plan = plan; program = program.Streamit t })
+streamit-compiled text t plan (s, is, made) =
+    let a : Accepted = record { program = streamit_build.program_of t.units.items; stream = s } in
+    subst (λ (r : Result Accepted StreamitFault). StandsFor IsCompiled (told streamit_source streamit_words r) (record { plan = plan; program = program.Streamit t })) (sym is)
+    (record {
+      plan = subst (IsPlanOf (streamit_source a)) (sym made) (program_plan text a is);
+      program = record { readable = compiled-readable text a is; means = λ files. refl };
+    })
 
 pub streamit-refused : (meant : Result Accepted StreamitFault) (f : StreamitFault) (text : List _) → (f ≡ streamit_fault.NoMemory → ⊥) → Refused meant f → text ≡ program_refused (streamit_words f) → told streamit_source streamit_words meant ≡ Err text
 streamit-refused meant (streamit_fault.Text refusal) text not is says = rw (is, says) refl
@@ -103,16 +110,21 @@ rows-are n (row ∷ r) t =
     let here : row ≡ take n row = sym (taken n row (All-head (λ l. length l ≡ n) row r t)) in
     λ i. Flat (One (here i)) ∷ later i
 
-saw_means : (text : List ℕ) (a : saw.Accepted) → saw.compiled text ≡ Ok a → (files : List Content) → AreContents (saw.plan_in a).inputs files → meaning (saw.plan_in a) (all_items files) ≡ (saw_source a).means files
-saw_means text a e [] t = absurd t
-saw_means text a e (f ∷ g ∷ more) t = absurd t.1
-saw_means text a e (Timed es ∷ []) t = absurd t.0
-saw_means text a e (Plain r ∷ []) t = ap (λ l. meaning (saw.plan_in a) (l ∷ [])) (rows-are (width (saw.program_in a)) r t.0) ∙ (saw_plans_mean text a r e).1
+plan_means : (text : List ℕ) (a : saw.Accepted) → saw.compiled text ≡ Ok a → (files : List Content) → AreContents (saw.plan_in a).inputs files → meaning (saw.plan_in a) (all_items files) ≡ (saw_source a).means files
+plan_means text a e [] t = absurd t
+plan_means text a e (f ∷ g ∷ more) t = absurd t.1
+plan_means text a e (Timed es ∷ []) t = absurd t.0
+plan_means text a e (Plain r ∷ []) t = ap (λ l. meaning (saw.plan_in a) (l ∷ [])) (rows-are (width (saw.program_in a)) r t.0) ∙ (saw_plans_mean text a r e).1
 
-pub saw-compiled : (text : List ℕ) (a : saw.Accepted) (plan : PlanForm) → saw.compiled text ≡ Ok a → plan ≡ saw.plan_in a → StandsFor IsCompiled (told saw_source saw_words (saw.compiled text)) (record { plan = plan })
-saw-compiled text a plan is made =
-    subst (λ (r : Result saw.Accepted SawFault). StandsFor IsCompiled (told saw_source saw_words r) (record { plan = plan })) (sym is)
-    (subst (IsPlanOf (saw_source a)) (sym made) (record { plan = refl; inputs = refl; outputs = refl; tables = refl; means = saw_means text a is }))
+pub saw-compiled : (text : List ℕ) (t : SawProgram) (plan : PlanForm) → saw.Plans (saw.compiled text) (unit_forms t.units.items) plan
+    → StandsFor IsCompiled (told saw_source saw_words (saw.compiled text)) (record { plan = plan; program = program.Sawzall t })
+saw-compiled text t plan (read, is, made) =
+    let a : saw.Accepted = record { units = unit_forms t.units.items; read = read } in
+    subst (λ (r : Result saw.Accepted SawFault). StandsFor IsCompiled (told saw_source saw_words r) (record { plan = plan; program = program.Sawzall t })) (sym is)
+    (record {
+      plan = subst (IsPlanOf (saw_source a)) (sym made) (record { plan = refl; inputs = refl; outputs = refl; tables = refl; means = plan_means text a is });
+      program = record { accepted = (read, compiled-judged text a is); valued = compiled-valued text a is; means = λ files. refl };
+    })
 
 pub saw-refused : (meant : Result saw.Accepted SawFault) (f : SawFault) (text : List _) → (f ≡ saw_fault.NoMemory → ⊥) → saw.Refused meant f → text ≡ program_refused (saw_words f) → told saw_source saw_words meant ≡ Err text
 saw-refused meant (saw_fault.Text refusal) text not is says = rw (is, says) refl

@@ -13,18 +13,20 @@ use Rattle.cql_model.specs.Laws.{AreFiles}
 use Rattle.cql_model.specs.Program.{Register, Ask, Program}
 use Rattle.cql_model.specs.Scopes.{Named}
 use Rattle.cql_model.specs.Translation.{input_decls, output_decls, query_named, plan_of}
-use Rattle.cql_text.specs.Tree.{Part}
+use Rattle.cql_text.specs.Tree.{Part, parts_of}
+use Rattle.cql_text.specs.declared.tree.CqlProgram.{CqlProgram}
 use Rattle.cql_build.specs.Seen.{program_of}
 use Rattle.cql_front.specs.Meaning.{compiled, Plans, Refused}
 use Rattle.cql_front.specs.Words.{cql_words}
 use Rattle.cql_front.specs.declared.fault.CqlFault.{CqlFault}
 use Rattle.cql_front.specs.declared.fault.CqlFault.TheVariants as cql_fault
-use Rattle.cql_front.proofs.Fronts.{plans_mean}
+use Rattle.cql_front.proofs.Fronts.{compiled-queries, plans_mean}
 use Rattle.cql_front.proofs.Instants.{instants_agree}
 use Rattle.river_cli.specs.Contents.{AreContents}
 use Rattle.river_cli.specs.Inputs.{timed_files, items_at, all_items}
 use Rattle.river_cli.specs.Source.{asked_names, cql_source, told, IsPlanOf, IsCompiled}
 use Rattle.river_cli.specs.Text.{program_refused}
+use Rattle.river_cli.specs.declared.compile.Program.TheVariants as program
 use Rattle.river_cli.specs.declared.content.Content.{Content}
 use Rattle.river_cli.specs.declared.content.Content.TheVariants.{Rows as Plain, Timed}
 
@@ -41,7 +43,7 @@ widths-are w (e ∷ rows) h =
     let all = map (λ (f : Entry). f.1) rows in
     All-cons (λ (f : Entry). length f.1 ≡ w) e rows (All-head (λ l. length l ≡ w) e.1 all h) (widths-are w rows (All-tail (λ l. length l ≡ w) e.1 all h))
 
-files-are : (p : Program) (files : List Content) → AreContents (input_decls p) files → AreFiles p (timed_files files)
+pub files-are : (p : Program) (files : List Content) → AreContents (input_decls p) files → AreFiles p (timed_files files)
 files-are [] [] h = tt
 files-are [] (f ∷ files) h = absurd h
 files-are (Register name fields ∷ ps) [] h = absurd h
@@ -70,11 +72,14 @@ program_means text p e files h =
 program_plan : (text : List ℕ) (p : List Part) → compiled text ≡ Ok p → IsPlanOf (cql_source p) (plan_of (program_of p))
 program_plan text p e = record { plan = refl; inputs = refl; outputs = outputs-are [] (program_of p); tables = refl; means = program_means text p e }
 
-pub cql-compiled : (text : List ℕ) (p : List Part) (plan : PlanForm) → Plans (compiled text) p plan
-    → StandsFor IsCompiled (told cql_source cql_words (compiled text)) (record { plan = plan })
-cql-compiled text p plan h =
-    subst (λ (r : Result (List Part) CqlFault). StandsFor IsCompiled (told cql_source cql_words r) (record { plan = plan })) (sym h.accepted)
-    (subst (IsPlanOf (cql_source p)) (sym h.planned) (program_plan text p h.accepted))
+pub cql-compiled : (text : List ℕ) (t : CqlProgram) (plan : PlanForm) → Plans (compiled text) (parts_of t) plan
+    → StandsFor IsCompiled (told cql_source cql_words (compiled text)) (record { plan = plan; program = program.Cql t })
+cql-compiled text t plan h =
+    subst (λ (r : Result (List Part) CqlFault). StandsFor IsCompiled (told cql_source cql_words r) (record { plan = plan; program = program.Cql t })) (sym h.accepted)
+    (record {
+      plan = subst (IsPlanOf (cql_source (parts_of t))) (sym h.planned) (program_plan text (parts_of t) h.accepted);
+      program = record { queries = compiled-queries text (parts_of t) h.accepted; inputs = refl; means = λ files. refl };
+    })
 
 pub cql-refused : (meant : Result (List Part) CqlFault) (f : CqlFault) (text : List _) → (f ≡ cql_fault.NoMemory → ⊥) → Refused meant f
     → text ≡ program_refused (cql_words f) → told cql_source cql_words meant ≡ Err text

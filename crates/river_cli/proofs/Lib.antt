@@ -5,6 +5,7 @@ pub mod Cut
 pub mod Fetches
 pub mod Inputs
 pub mod Items
+pub mod Means
 pub mod Points
 pub mod ReadOn
 pub mod Scripts

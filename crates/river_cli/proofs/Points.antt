@@ -19,7 +19,7 @@ use Rattle.river_cli.specs.Contents.{AreContents}
 use Rattle.river_cli.specs.Layouts.{layout_of}
 use Rattle.river_cli.specs.Inputs.{of_inputs, all_items}
 use Rattle.river_cli.specs.Points.{of_run, of_command, of_script, of_text, of_job}
-use Rattle.river_cli.specs.Source.{Source, source_of, IsPlanOf, IsCompiled, printed}
+use Rattle.river_cli.specs.Source.{Source, source_of, IsPlanOf, IsOf, IsKnown, IsCompiled, Gives, printed}
 use Rattle.river_cli.specs.Text.{large_program}
 use Rattle.river_cli.specs.declared.compile.Compiled.{Compiled}
 use Rattle.river_cli.specs.declared.content.Content.{Content}
@@ -36,8 +36,8 @@ job-decides job text held early late sooner result here there =
 
 -- it was compiled, and its plan rewritten
 pub text-passes : (job : Job) (text : List ℕ) (held : Option Held) (early late : Type 0) → (late → early) → (c : Compiled) (plan : PlanForm) (result : Result (List ℕ) Stop) → StandsFor IsCompiled (source_of job.lang text) c
-    → ((source : Source) → IsPlanOf source c.plan → (later : Source) × IsPlanOf later plan × ((next : Source → Order) → Comes (of_script job.options.script source next) held (next later)))
-    → ((source : Source) → IsPlanOf source plan → Passes (of_command job source) held late result) → Passes (of_text job text) held early result
+    → ((source : Source) → IsOf c.program source c.plan → (later : Source) × IsOf c.program later plan × ((next : Source → Order) → Comes (of_script job.options.script source next) held (next later)))
+    → ((source : Source) → IsOf c.program source plan → Passes (of_command job source) held late result) → Passes (of_text job text) held early result
 unfolding of_text
 text-passes job text held early late sooner c plan (Ok out) told script command = past-as IsCompiled (source_of job.lang text) c (λ source next. of_script job.options.script source (λ later. of_command job later next)) held early (Ok out) told
     (λ source is. let s = script source is in then-passes (of_script job.options.script source) (λ later next. of_command job later next) held early late sooner s.0 (Ok out) s.2 (command s.0 s.1))
@@ -51,7 +51,7 @@ text-stops job text held rose s told next = past-refused (source_of job.lang tex
 
 -- its script stops it
 pub script-stops : (job : Job) (text : List ℕ) (held : Option Held) (rose : Type 0) (c : Compiled) (s : Stop) → StandsFor IsCompiled (source_of job.lang text) c
-    → ((source : Source) → IsPlanOf source c.plan → (next : Source → Order) → Stops (Some (of_script job.options.script source next)) held rose s) → (next : List ℕ → Order) → Stops (Some (of_text job text next)) held rose s
+    → ((source : Source) → IsOf c.program source c.plan → (next : Source → Order) → Stops (Some (of_script job.options.script source next)) held rose s) → (next : List ℕ → Order) → Stops (Some (of_text job text next)) held rose s
 unfolding of_text
 script-stops job text held rose c s told stops = past-as IsCompiled (source_of job.lang text) c (λ source next. of_script job.options.script source (λ later. of_command job later next)) held rose (Err s) told
     (λ source is next. stops source is (λ later. of_command job later next))
@@ -117,3 +117,12 @@ pub output-says : (plan : PlanForm) (counted : Bool) (all : List Content) (outs 
 output-says plan counted all outs tables counts (Ok text) says outs_is tables_is counts_is typed = λ source is.
     says ∙ (λ i. printed_outcome plan (outs_is i) (tables_is i) (asked counted (counts_is i))) ∙ output-printed source plan counted all is typed
 output-says plan counted all outs tables counts (Err e) says outs_is tables_is counts_is typed = tt
+
+-- there is a source for the rewritten plan too
+pub known-later : (job : Job) (text : List ℕ) (held : Option Held) (c : Compiled) (plan : PlanForm) → StandsFor IsCompiled (source_of job.lang text) c
+    → ((source : Source) → IsOf c.program source c.plan → (later : Source) × IsOf c.program later plan × ((next : Source → Order) → Comes (of_script job.options.script source next) held (next later)))
+    → IsKnown c.program plan
+known-later job text held c plan told script = by (source_of job.lang text) told where
+  by : (r : Result Source (List ℕ)) → StandsFor IsCompiled r c → IsKnown c.program plan
+  by (Ok source) is = let s = script source is in (s.0, s.1)
+  by (Err t) is = absurd is

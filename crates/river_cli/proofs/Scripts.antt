@@ -17,34 +17,47 @@ use Rattle.river_script.proofs.Steps.{script_means}
 use Rattle.river_cli.specs.Contents.{AreContents}
 use Rattle.river_cli.specs.Inputs.{all_items}
 use Rattle.river_cli.specs.Points.{of_script, with_plan}
-use Rattle.river_cli.specs.Source.{Source, IsPlanOf}
+use Rattle.river_cli.specs.Source.{Source, IsPlanOf, IsProgramOf, IsOf}
+use Rattle.river_cli.specs.declared.compile.Program.{Program}
+use Rattle.river_cli.specs.declared.compile.Program.TheVariants as program
 use Rattle.river_cli.specs.Text.{large_script}
 use Rattle.river_cli.proofs.Items.{contents-typed}
 
 -- the plan that a script makes means what the program means
-pub made-stands : (source : Source) (p made : PlanForm) (text : List ℕ) → IsPlan p → IsPlanOf source p → rewritten p text ≡ Ok made → StandsFor IsPlanOf (with_plan source (rewritten source.plan text)) made
-made-stands source p made text v is e =
+pub made-stands : (program : Program) (source : Source) (p made : PlanForm) (text : List ℕ) → IsPlan p → IsOf program source p → rewritten p text ≡ Ok made → StandsFor (IsOf program) (with_plan source (rewritten source.plan text)) made
+made-stands program source p made text v of e =
     let h = (makes_what_it_has p text (Ok made)).0 e in
     let k = script_means p made h.0 v h.2 in
-    subst (λ r. StandsFor IsPlanOf (with_plan source r) made) (sym (ap (λ q. rewritten q text) (sym is.plan) ∙ e)) (record {
-      plan = refl;
-      inputs = k.1.inputs ∙ is.inputs;
-      outputs = ap decl_names k.1.outputs ∙ is.outputs;
-      tables = ap table_names k.1.tables ∙ is.tables;
-      means = λ files a. let b = subst (λ ds. AreContents ds files) k.1.inputs a in k.2 (all_items files) (contents-typed p.inputs files b) ∙ is.means files b;
+    let is = of.plan in
+    subst (λ r. StandsFor (IsOf program) (with_plan source r) made) (sym (ap (λ q. rewritten q text) (sym is.plan) ∙ e)) (record {
+      plan = record {
+        plan = refl;
+        inputs = k.1.inputs ∙ is.inputs;
+        outputs = ap decl_names k.1.outputs ∙ is.outputs;
+        tables = ap table_names k.1.tables ∙ is.tables;
+        means = λ files a. let b = subst (λ ds. AreContents ds files) k.1.inputs a in k.2 (all_items files) (contents-typed p.inputs files b) ∙ is.means files b;
+      };
+      program = still program source made of.program;
     })
+  where
+    -- the program does not ask which plan its source has
+    still : (program : Program) (source : Source) (made : PlanForm) → IsProgramOf source program → IsProgramOf (record source { plan = made }) program
+    still program.River source made is = tt
+    still (program.Streamit t) source made is = record { readable = is.readable; means = is.means }
+    still (program.Sawzall t) source made is = record { accepted = is.accepted; valued = is.valued; means = is.means }
+    still (program.Cql t) source made is = record { queries = is.queries; inputs = is.inputs; means = is.means }
 
 as_passed : {A B : Type 0} (stands : A → B → Type 0) (found : Result A (List ℕ)) (y : B) (held : Option Held) → StandsFor stands found y → (x : A) × stands x y × ((next : A → Order) → Comes (past found next) held (next x))
 as_passed stands (Ok x) y held told = (x, told, λ next. Comes-same (next x) held)
 as_passed stands (Err t) y held told = absurd told
 
-module _ (file : List ℕ) (source : Source) (text : List ℕ) (held : Option Held) where
+module _ (program : Program) (file : List ℕ) (source : Source) (text : List ℕ) (held : Option Held) where
   -- it was fetched and applied
-  pub script-comes : (plan : PlanForm) → ((next : List ℕ → Order) → Comes (Fetch file 65536 large_script next) held (next text)) → StandsFor IsPlanOf (with_plan source (rewritten source.plan text)) plan
-      → (later : Source) × IsPlanOf later plan × ((next : Source → Order) → Comes (of_script (Some file) source next) held (next later))
+  pub script-comes : (plan : PlanForm) → ((next : List ℕ → Order) → Comes (Fetch file 65536 large_script next) held (next text)) → StandsFor (IsOf program) (with_plan source (rewritten source.plan text)) plan
+      → (later : Source) × IsOf program later plan × ((next : Source → Order) → Comes (of_script (Some file) source next) held (next later))
   unfolding of_script
   script-comes plan here told =
-      let s = as_passed IsPlanOf (with_plan source (rewritten source.plan text)) plan held told in
+      let s = as_passed (IsOf program) (with_plan source (rewritten source.plan text)) plan held told in
       (s.0, s.1, λ next. Comes-on (Fetch file 65536 large_script (λ t. past (with_plan source (rewritten source.plan t)) next)) (past (with_plan source (rewritten source.plan text)) next) (next s.0) held (here (λ t. past (with_plan source (rewritten source.plan t)) next)) (s.2 next))
 
   -- it is refused
@@ -56,8 +69,8 @@ module _ (file : List ℕ) (source : Source) (text : List ℕ) (held : Option He
       (past-refused (with_plan source (rewritten source.plan text)) s held late told next)
 
   -- it was fetched, and applied or refused
-  pub script-passes : (rose : Type 0) (result : Result PlanForm Stop) → ((next : List ℕ → Order) → Comes (Fetch file 65536 large_script next) held (next text)) → AnswersAs IsPlanOf (with_plan source (rewritten source.plan text)) result
-      → PassesAs IsPlanOf (of_script (Some file) source) held rose result
+  pub script-passes : (rose : Type 0) (result : Result PlanForm Stop) → ((next : List ℕ → Order) → Comes (Fetch file 65536 large_script next) held (next text)) → AnswersAs (IsOf program) (with_plan source (rewritten source.plan text)) result
+      → PassesAs (IsOf program) (of_script (Some file) source) held rose result
   script-passes rose (Ok plan) here told = script-comes plan here told
   script-passes rose (Err s) here told = script-refused rose rose (λ r. r) s here told
 
@@ -68,6 +81,6 @@ unfolding of_script
 fetch-stops file source held rose s stops next = stops (λ t. past (with_plan source (rewritten source.plan t)) next)
 
 -- there is none
-pub no-script : (source : Source) (plan : PlanForm) (held : Option Held) → IsPlanOf source plan → (later : Source) × IsPlanOf later plan × ((next : Source → Order) → Comes (of_script None source next) held (next later))
+pub no-script : (program : Program) (source : Source) (plan : PlanForm) (held : Option Held) → IsOf program source plan → (later : Source) × IsOf program later plan × ((next : Source → Order) → Comes (of_script None source next) held (next later))
 unfolding of_script
-no-script source plan held is = (source, is, λ next. Comes-same (next source) held)
+no-script program source plan held is = (source, is, λ next. Comes-same (next source) held)

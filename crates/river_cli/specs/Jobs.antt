@@ -1,12 +1,10 @@
 -- Which words are a sentence, and the job that they ask for.
-use Rattle.std.specs.Prelude.{ℕ, List, [], ◌∷◌, Bool, true, false, ◌&&◌, Option, None, Some, if◌then◌else◌}
+use Rattle.std.specs.Prelude.{ℕ, List, [], ◌∷◌, false, Option, None, Some, if◌then◌else◌}
 use Rattle.river_cli.specs.Phrases.{phrases, with_phrases}
 use Rattle.river_cli.specs.Words.{command_named, lang_named, is_file}
 use Rattle.river_cli.specs.declared.job.Command.{Command}
-use Rattle.river_cli.specs.declared.job.Command.TheVariants.{Mean}
 use Rattle.river_cli.specs.declared.job.Job.{Job}
 use Rattle.river_cli.specs.declared.job.Lang.{Lang}
-use Rattle.river_cli.specs.declared.job.Lang.TheVariants.{Streamit, Sawzall, Cql}
 use Rattle.river_cli.specs.declared.job.Options.{Options}
 
 -- no option is given
@@ -17,19 +15,12 @@ no_options = record { header = false; counts = false; script = None }
 abbrev pub plain : Command → Lang → List ℕ → Job
 plain command lang file = record { command = command; lang = lang; file = file; ins = []; options = no_options }
 
--- the slow meaning is there for River text alone, so far
-abbrev pub goes_with : Command → Lang → Bool
-goes_with Mean Streamit = false
-goes_with Mean Sawzall = false
-goes_with Mean Cql = false
-goes_with command lang = true
-
 -- `COMMAND LANG FILE` and what stands behind it
 abbrev pub asked : Option Command → Option Lang → List ℕ → List (List ℕ) → Option Job
 asked None lang file words = None
 asked (Some command) None file words = None
 asked (Some command) (Some lang) file words =
-    if goes_with command lang && is_file file then with_phrases (plain command lang file) (phrases command 0 words) else None
+    if is_file file then with_phrases (plain command lang file) (phrases command 0 words) else None
 
 -- the job that the words ask for, if they are a sentence
 abbrev pub job_of : List (List ℕ) → Option Job

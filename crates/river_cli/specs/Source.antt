@@ -1,5 +1,7 @@
 -- What a program means, in its own language.
 use Rattle.std.specs.Prelude.{◌≡◌, ℕ, ℤ, pos, List, [], ◌∷◌, ◌++◌, map, Bool, Result, Ok, Err, slice_index_or, codes}
+use Rattle.kern_tables.specs.Kept.{rows_of as table_rows}
+use Rattle.brooklet_step.specs.declared.run.Outcome.{Outcome}
 use Rattle.csv_streams.specs.Outcome.{outputs_text, tables_text, firings_text, asked}
 use Rattle.river_plan.specs.declared.plan.Decl.{Decl}
 use Rattle.river_plan.specs.Forms.{Name, PlanForm, decl_names, table_names, labels}
@@ -10,13 +12,18 @@ use Rattle.brooklet_model.specs.Meaning.{Results, meaning}
 use Rattle.streamit_model.specs.Build.{plan_of, values_in}
 use Rattle.streamit_model.specs.Laws.{as_items}
 use Rattle.streamit_model.specs.Program.{program_outputs}
+use Rattle.streamit_model.specs.Program as streamit
+use Rattle.streamit_build.specs.Program as streamit_build
+use Rattle.streamit_build.specs.Told.{AreReadable}
 use Rattle.streamit_front.specs.Meaning.{Accepted, compiled}
 use Rattle.streamit_front.specs.Words.{streamit_words}
+use Rattle.cql_model.specs.Accepted.{AreQueries}
 use Rattle.cql_model.specs.Instants.{program_means}
-use Rattle.cql_model.specs.Program.{Register, Ask, Program}
+use Rattle.cql_model.specs.Program.{Register, Ask}
+use Rattle.cql_model.specs.Program as cql_model
 use Rattle.cql_model.specs.Translation.{input_decls}
 use Rattle.cql_model.specs.Translation as cql
-use Rattle.cql_text.specs.Tree.{Part}
+use Rattle.cql_text.specs.Tree.{Part, parts_of}
 use Rattle.cql_build.specs.Seen.{program_of}
 use Rattle.cql_front.specs.Meaning as cql_front
 use Rattle.cql_front.specs.Words.{cql_words}
@@ -24,10 +31,17 @@ use Rattle.river_cli.specs.Contents.{AreContents}
 use Rattle.river_cli.specs.Inputs.{timed_files, all_items}
 use Rattle.river_kernels.specs.Fits.{rows}
 use Rattle.saw_model.specs.Source.{tables_in, width, program_tables}
+use Rattle.saw_model.specs.Source as saw_model
+use Rattle.saw_text.specs.Tree as saw_text
+use Rattle.saw_text.specs.Tree.{unit_forms}
+use Rattle.saw_front.specs.Valued.{AreValuedParts}
+use Rattle.slow_mean.specs.Sawzall.{IsAccepted}
 use Rattle.saw_front.specs.Meaning as saw
 use Rattle.saw_front.specs.Words.{saw_words}
 use Rattle.river_cli.specs.Text.{program_refused}
 use Rattle.river_cli.specs.declared.compile.Compiled.{Compiled}
+use Rattle.river_cli.specs.declared.compile.Program.{Program}
+use Rattle.river_cli.specs.declared.compile.Program.TheVariants as program
 use Rattle.river_cli.specs.declared.content.Content.{Content}
 use Rattle.river_cli.specs.declared.content.Content.TheVariants.{Rows as Plain, Timed}
 use Rattle.river_cli.specs.declared.job.Lang.{Lang}
@@ -51,11 +65,18 @@ river_source p = record {
   plan = p;
 }
 
+-- the first value of each row
+abbrev pub first_values : List (List ℤ) → List ℤ
+first_values rows = map (λ row. slice_index_or row 0 (pos 0)) rows
+
 -- the values of the first input, of which each row has one
 abbrev pub values : List Content → List ℤ
 values [] = []
-values (Plain rows ∷ others) = map (λ row. slice_index_or row 0 (pos 0)) rows
+values (Plain rows ∷ others) = first_values rows
 values (Timed rows ∷ others) = []
+
+abbrev pub streamit_means : streamit.Program → List Content → Results
+streamit_means p files = record { outs = as_items (program_outputs p (values files)) ∷ []; tables = [] }
 
 -- a StreamIt program, by its own definition
 abbrev pub streamit_source : Accepted → Source
@@ -63,7 +84,7 @@ streamit_source a = record {
   inputs = values_in (codes "in") ∷ [];
   outputs = codes "out" ∷ [];
   tables = [];
-  means = λ files. record { outs = as_items (program_outputs a.program (values files)) ∷ []; tables = [] };
+  means = streamit_means a.program;
   plan = plan_of a.stream;
 }
 
@@ -73,21 +94,27 @@ records [] = []
 records (Plain rows ∷ others) = rows
 records (Timed rows ∷ others) = []
 
+abbrev pub saw_means : saw_model.Program → List Content → Results
+saw_means p files = record { outs = []; tables = program_tables p (records files) }
+
 -- a Sawzall program, by its own definition
 abbrev pub saw_source : saw.Accepted → Source
 saw_source a = record {
   inputs = record { name = codes "in"; kind = rows (width (saw.program_in a)) } ∷ [];
   outputs = [];
   tables = table_names (tables_in (saw.program_in a));
-  means = λ files. record { outs = []; tables = program_tables (saw.program_in a) (records files) };
+  means = saw_means (saw.program_in a);
   plan = saw.plan_in a;
 }
 
 -- the queries of a program, by their names
-abbrev pub asked_names : Program → List Name
+abbrev pub asked_names : cql_model.Program → List Name
 asked_names [] = []
 asked_names (Register name fields ∷ ps) = asked_names ps
 asked_names (Ask q ∷ ps) = q.name ∷ asked_names ps
+
+abbrev pub cql_means : cql_model.Program → List Content → Results
+cql_means p files = record { outs = program_means p (timed_files files); tables = [] }
 
 -- a CQL program, by its own definition: a registered stream is an input, and a query an output
 abbrev pub cql_source : List Part → Source
@@ -95,7 +122,7 @@ cql_source p = record {
   inputs = input_decls (program_of p);
   outputs = asked_names (program_of p);
   tables = [];
-  means = λ files. record { outs = program_means (program_of p) (timed_files files); tables = [] };
+  means = cql_means (program_of p);
   plan = cql.plan_of (program_of p);
 }
 
@@ -120,8 +147,46 @@ pub record IsPlanOf (s : Source) (p : PlanForm) : Type 0 where
   pub tables : table_names p.tables ≡ s.tables
   pub means : (files : List Content) → AreContents p.inputs files → meaning p (all_items files) ≡ s.means files
 
+-- WHAT STANDS FOR A PROGRAM
+
+-- this is the program as it was read: it is accepted, and the meaning is its own
+pub record IsStreamit (s : Source) (p : streamit.Program) : Type 0 where
+  pub readable : AreReadable p
+  pub means : (files : List Content) → s.means files ≡ streamit_means p files
+
+pub record IsSawzall (s : Source) (p : saw_model.Program) : Type 0 where
+  pub accepted : IsAccepted p
+  pub valued : AreValuedParts p
+  pub means : (files : List Content) → s.means files ≡ saw_means p files
+
+pub record IsCql (s : Source) (p : cql_model.Program) : Type 0 where
+  pub queries : AreQueries [] p
+  pub inputs : s.inputs ≡ input_decls p
+  pub means : (files : List Content) → s.means files ≡ cql_means p files
+
+-- a River text is its plan
+abbrev pub IsProgramOf : Source → Program → Type 0
+IsProgramOf s program.River = Unit {0}
+IsProgramOf s (program.Streamit p) = IsStreamit s (streamit_build.program_of p.units.items)
+IsProgramOf s (program.Sawzall p) = IsSawzall s (saw_text.program_of (unit_forms p.units.items))
+IsProgramOf s (program.Cql p) = IsCql s (program_of (parts_of p))
+
+-- a plan that may be run in place of the program, and the program as it was read
+pub record IsOf (program : Program) (s : Source) (p : PlanForm) : Type 0 where
+  pub plan : IsPlanOf s p
+  pub program : IsProgramOf s program
+
+-- there is such a program
+abbrev pub IsKnown : Program → PlanForm → Type 0
+IsKnown program p = (s : Source) × IsOf program s p
+
 abbrev pub IsCompiled : Source → Compiled → Type 0
-IsCompiled s c = IsPlanOf s c.plan
+IsCompiled s c = IsOf c.program s c.plan
+
+-- what is given is what is meant
+pub record Gives (o : Outcome) (r : Results) : Type 0 where
+  pub outs : o.outs ≡ r.outs
+  pub tables : map table_rows o.tables ≡ r.tables
 
 -- what is printed for the files of a program's inputs: its outputs, its tables, and then the firings of its plan where they are
 -- asked for

@@ -15,19 +15,35 @@ ghost use Rattle.river_cli.specs.Text.{program_refused};
 use crate::job::Lang;
 use crate::text;
 use cql_front::{CqlFault, compile_cql};
+use cql_text::CqlProgram;
 use river_base::{Bytes, NoMemory};
 use river_order::Stop;
 use river_plan::Plan;
 use river_text::{RiverFault, compile_river};
-use saw_front::{SawFault, compile_sawzall};
+use saw_front::{SawFault, SawProgram, compile_sawzall};
 use std::alloc::Global;
-use streamit_front::{StreamitFault, compile_streamit};
+use streamit_front::{StreamitFault, StreamitProgram, compile_streamit};
+
+/// A program as it is written.
+#[derive(Drop)]
+pub enum Program {
+    /// A River text, which is its plan.
+    River,
+    /// A StreamIt program.
+    Streamit(StreamitProgram),
+    /// A Sawzall program.
+    Sawzall(SawProgram),
+    /// A CQL program.
+    Cql(CqlProgram),
+}
 
 /// A program that was compiled.
 #[derive(Drop)]
 pub struct Compiled {
     /// Its plan.
     pub plan: Plan,
+    /// The program as it is written.
+    pub program: Program,
 }
 
 /// The program of a text, or its refusal.
@@ -48,7 +64,10 @@ fn river(alloc: Global, text: &Bytes) -> Result<Compiled, Stop>
     ensures { AnswersAs IsCompiled (told river_source river_words (plan_in text.now)) result }
 {
     match compile_river(alloc, text) {
-        Ok(plan) => Ok(Compiled { plan }),
+        Ok(plan) => Ok(Compiled {
+            plan,
+            program: Program::River,
+        }),
         Err(RiverFault::NoMemory) => Err(Stop::NoMemory),
         Err(fault) => Err(Stop::Refused(river_refused(alloc, fault)?)),
     }
@@ -67,7 +86,10 @@ fn streamit(alloc: Global, text: &Bytes) -> Result<Compiled, Stop>
     ensures { AnswersAs IsCompiled (told streamit_source streamit_words (compiled text.now)) result }
 {
     match compile_streamit(alloc, text) {
-        Ok((_, plan)) => Ok(Compiled { plan }),
+        Ok((program, plan)) => Ok(Compiled {
+            plan,
+            program: Program::Streamit(program),
+        }),
         Err(StreamitFault::NoMemory) => Err(Stop::NoMemory),
         Err(fault) => Err(Stop::Refused(streamit_refused(alloc, fault)?)),
     }
@@ -86,7 +108,10 @@ fn sawzall(alloc: Global, text: &Bytes) -> Result<Compiled, Stop>
     ensures { AnswersAs IsCompiled (told saw_source saw_words (saw_compiled text.now)) result }
 {
     match compile_sawzall(alloc, text) {
-        Ok((_, plan)) => Ok(Compiled { plan }),
+        Ok((program, plan)) => Ok(Compiled {
+            plan,
+            program: Program::Sawzall(program),
+        }),
         Err(SawFault::NoMemory) => Err(Stop::NoMemory),
         Err(fault) => Err(Stop::Refused(saw_refused(alloc, fault)?)),
     }
@@ -105,7 +130,10 @@ fn cql(alloc: Global, text: &Bytes) -> Result<Compiled, Stop>
     ensures { AnswersAs IsCompiled (told cql_source cql_words (cql_compiled text.now)) result }
 {
     match compile_cql(alloc, text) {
-        Ok((_, plan)) => Ok(Compiled { plan }),
+        Ok((program, plan)) => Ok(Compiled {
+            plan,
+            program: Program::Cql(program),
+        }),
         Err(CqlFault::NoMemory) => Err(Stop::NoMemory),
         Err(fault) => Err(Stop::Refused(cql_refused(alloc, fault)?)),
     }

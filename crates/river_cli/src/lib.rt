@@ -6,6 +6,7 @@ mod content;
 mod fetched;
 mod gather;
 mod job;
+mod mean;
 mod names;
 mod output;
 mod phrases;

@@ -29,8 +29,8 @@ pub fn output(
     print_outcome(alloc, plan, &outcome, counted)
 }
 
-// The items of each input.
-fn inputs_of(alloc: Global, files: Listed<Content>) -> Result<Inputs, NoMemory>
+/// The items of each input.
+pub fn inputs_of(alloc: Global, files: Listed<Content>) -> Result<Inputs, NoMemory>
     ensures { IfOk result (λ all. all ≡ inputs.all_items files) }
 {
     let instants = instants_of(alloc, files.as_slice())?;

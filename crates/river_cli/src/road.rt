@@ -1,5 +1,5 @@
 // The road from the words to the text that is written: each function is a point, or hands on to those of the next.
-ghost use Rattle.std.specs.Prelude.{◌≡◌, ◌≤◌, length, Some, IfOk, IsErrOf};
+ghost use Rattle.std.specs.Prelude.{◌≡◌, ◌≤◌, false, length, Some, IfOk, IsErrOf};
 ghost use Rattle.river_outside.specs.Causes.{Rose};
 ghost use Rattle.river_order.specs.Decides.{Decides};
 ghost use Rattle.river_order.specs.Passes.{Passes, PassesAs, AnswersAs};
@@ -8,11 +8,13 @@ ghost use Rattle.river_cli.specs.Points.{points_of, of_job, of_text, of_script, 
 ghost use Rattle.river_script.specs.Meaning.{rewritten as rewritten_plan};
 ghost use Rattle.river_script.specs.Words.{script_words};
 ghost use Rattle.river_cli.specs.Text.{script_refused as script_text};
-ghost use Rattle.river_cli.specs.Source.{Source, IsPlanOf, IsCompiled, printed};
+ghost use Rattle.river_cli.specs.Source.{Source, IsPlanOf, IsOf, IsKnown, IsCompiled, printed};
+ghost use Rattle.river_cli.specs.declared.compile.Program.{Program};
 
-use crate::compile::compile;
+use crate::compile::{Compiled, Program, compile};
 use crate::gather::gather;
 use crate::job::{Command, Job, Options, WordFault};
+use crate::mean::mean_text;
 use crate::output::output;
 use crate::text;
 use crate::words::read_words;
@@ -57,9 +59,9 @@ fn compiled<S: Shelf>(alloc: Global, job: &Job, text: &Bytes, shelf: &mut S) -> 
     ensures later { S.faults shelf.old ≤ S.faults shelf.new }
     ensures passes { Passes (of_text job.now text.now) (S.held shelf.old) (Rose (S.faults shelf.old) (S.faults shelf.new)) result }
 {
-    let compiled = compile(alloc, job.lang, text)?;
-    let plan = script(alloc, &job.options, compiled.plan, shelf)?;
-    command(alloc, job, &plan, shelf)
+    let Compiled { plan, program } = compile(alloc, job.lang, text)?;
+    let plan = script(alloc, &job.options, plan, shelf)?;
+    command(alloc, job, &plan, &program, shelf)
 }
 
 // The plan that the script makes of it, where one is given.
@@ -71,8 +73,8 @@ fn script<S: Shelf>(
 ) -> Result<Plan, Stop>
     ensures stays { S.held shelf.new ≡ S.held shelf.old }
     ensures later { S.faults shelf.old ≤ S.faults shelf.new }
-    ensures passes { (source : Source) → IsPlanOf source plan
-        → PassesAs IsPlanOf (of_script options.now.script source) (S.held shelf.old) (Rose (S.faults shelf.old) (S.faults shelf.new)) result }
+    ensures passes { (program : Program) (source : Source) → IsOf program source plan
+        → PassesAs (IsOf program) (of_script options.now.script source) (S.held shelf.old) (Rose (S.faults shelf.old) (S.faults shelf.new)) result }
 {
     match &options.script {
         None => Ok(plan),
@@ -84,8 +86,8 @@ fn script<S: Shelf>(
 fn rewritten<S: Shelf>(alloc: Global, file: &[u8], plan: &Plan, shelf: &mut S) -> Result<Plan, Stop>
     ensures stays { S.held shelf.new ≡ S.held shelf.old }
     ensures later { S.faults shelf.old ≤ S.faults shelf.new }
-    ensures passes { (source : Source) → IsPlanOf source plan.now
-        → PassesAs IsPlanOf (of_script (Some file.now) source) (S.held shelf.old) (Rose (S.faults shelf.old) (S.faults shelf.new)) result }
+    ensures passes { (program : Program) (source : Source) → IsOf program source plan.now
+        → PassesAs (IsOf program) (of_script (Some file.now) source) (S.held shelf.old) (Rose (S.faults shelf.old) (S.faults shelf.new)) result }
 {
     let text = take_turn(alloc, shelf, file, MOST_SCRIPT, text::LARGE_SCRIPT)?;
     applied(alloc, plan, &text)
@@ -94,7 +96,8 @@ fn rewritten<S: Shelf>(alloc: Global, file: &[u8], plan: &Plan, shelf: &mut S) -
 // The script is applied.
 fn applied(alloc: Global, plan: &Plan, text: &Bytes) -> Result<Plan, Stop>
     requires { length text.now ≤ 65536 }
-    ensures { (source : Source) → IsPlanOf source plan.now → AnswersAs IsPlanOf (with_plan source (rewritten_plan source.plan text.now)) result }
+    ensures { (program : Program) (source : Source) → IsOf program source plan.now
+        → AnswersAs (IsOf program) (with_plan source (rewritten_plan source.plan text.now)) result }
 {
     // The lists of a plan are valid, which the law of scripts asks for.
     let _lists = plan.raw();
@@ -114,31 +117,50 @@ fn script_refused(alloc: Global, fault: ScriptFault) -> Result<Bytes, NoMemory>
 }
 
 // What the command makes of it.
-fn command<S: Shelf>(alloc: Global, job: &Job, plan: &Plan, shelf: &mut S) -> Result<Bytes, Stop>
+fn command<S: Shelf>(
+    alloc: Global,
+    job: &Job,
+    plan: &Plan,
+    program: &Program,
+    shelf: &mut S,
+) -> Result<Bytes, Stop>
+    requires { IsKnown program.now plan.now }
     ensures later { S.faults shelf.old ≤ S.faults shelf.new }
-    ensures passes { (source : Source) → IsPlanOf source plan.now
+    ensures passes { (source : Source) → IsOf program.now source plan.now
         → Passes (of_command job.now source) (S.held shelf.old) (Rose (S.faults shelf.old) (S.faults shelf.new)) result }
 {
     match job.command {
-        Command::Run => run(alloc, job, plan, job.options.counts, shelf),
-        Command::Mean => run(alloc, job, plan, false, shelf),
+        Command::Run => run(alloc, job, plan, shelf),
+        Command::Mean => mean(alloc, job, plan, program, shelf),
         Command::Show => Ok(print_river(alloc, plan)?),
     }
 }
 
-// It is run over its inputs, and what it means is printed.
-fn run<S: Shelf>(
-    alloc: Global,
-    job: &Job,
-    plan: &Plan,
-    counted: bool,
-    shelf: &mut S,
-) -> Result<Bytes, Stop>
+// It is run over its inputs, and what this gives is printed.
+fn run<S: Shelf>(alloc: Global, job: &Job, plan: &Plan, shelf: &mut S) -> Result<Bytes, Stop>
     ensures later { S.faults shelf.old ≤ S.faults shelf.new }
     ensures passes { (source : Source) → IsPlanOf source plan.now
-        → Passes (of_run job.now counted source) (S.held shelf.old) (Rose (S.faults shelf.old) (S.faults shelf.new)) result }
+        → Passes (of_run job.now job.now.options.counts source) (S.held shelf.old) (Rose (S.faults shelf.old) (S.faults shelf.new)) result }
 {
     let decls = plan.raw().inputs.as_slice();
     let files = gather(alloc, decls, job.ins.as_slice(), job.layout(), shelf)?;
-    Ok(output(alloc, plan, files, counted)?)
+    Ok(output(alloc, plan, files, job.options.counts)?)
+}
+
+// What it means over its inputs is printed, without a run of its plan.
+fn mean<S: Shelf>(
+    alloc: Global,
+    job: &Job,
+    plan: &Plan,
+    program: &Program,
+    shelf: &mut S,
+) -> Result<Bytes, Stop>
+    requires { IsKnown program.now plan.now }
+    ensures later { S.faults shelf.old ≤ S.faults shelf.new }
+    ensures passes { (source : Source) → IsOf program.now source plan.now
+        → Passes (of_run job.now false source) (S.held shelf.old) (Rose (S.faults shelf.old) (S.faults shelf.new)) result }
+{
+    let decls = plan.raw().inputs.as_slice();
+    let files = gather(alloc, decls, job.ins.as_slice(), job.layout(), shelf)?;
+    Ok(mean_text(alloc, plan, program, files)?)
 }

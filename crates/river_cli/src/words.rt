@@ -1,15 +1,16 @@
 // The words of the command line.
 ghost use Rattle.std.specs.Prelude.{◌≡◌, Some, None, IfOk, IsErrOf};
 ghost use Rattle.river_cli.specs.Words.{command_named, lang_named, is_file};
-ghost use Rattle.river_cli.specs.Jobs.{no_options, plain, goes_with, asked, job_of};
+ghost use Rattle.river_cli.specs.Jobs.{no_options, plain, asked, job_of};
 
 use crate::job::{Command, InWords, Job, Lang, Options, WordFault};
 use crate::phrases::read_phrases;
 use river_base::{NoMemory, Text};
 use std::alloc::Global;
 
-/// The job that the words ask for. A sentence is `run LANG FILE`, `mean river FILE` or `plan LANG FILE`, and behind it, in
-/// any order, what the command takes: `run` and `mean` take words NAME=FILE and `-H`, and `run` also `-c`. FILE behind the
+/// The job that the words ask for. A sentence is `run LANG FILE`, `mean LANG FILE` or `plan LANG FILE`, and behind it, in
+/// any order, what the command takes: `run` and `mean` take words NAME=FILE and `-H`, `run` also `-c`, and `run` and `plan` take
+/// `-r SCRIPT`. FILE behind the
 /// language is not empty and does not begin with `-`; no option and no NAME stands twice.
 pub fn read_words(alloc: Global, words: &[Text]) -> Result<Job, WordFault>
     ensures ok { IfOk result (λ job. job_of words.now ≡ Some job) }
@@ -24,7 +25,7 @@ pub fn read_words(alloc: Global, words: &[Text]) -> Result<Job, WordFault>
     let Some(lang) = lang_named(lang.as_slice()) else {
         return Err(WordFault::Usage);
     };
-    if !goes_with(command, lang) || !is_file(file.as_slice()) {
+    if !is_file(file.as_slice()) {
         return Err(WordFault::Usage);
     }
     let mut job = plain(alloc, command, lang, file.as_slice())?;
@@ -73,16 +74,6 @@ fn lang_named(word: &[u8]) -> Option<Lang>
         Some(Lang::Cql)
     } else {
         None
-    }
-}
-
-// Whether the command is there for the language, so far.
-fn goes_with(command: Command, lang: Lang) -> bool
-    ensures { result ≡ goes_with command lang }
-{
-    match (command, lang) {
-        (Command::Mean, Lang::Streamit | Lang::Sawzall | Lang::Cql) => false,
-        (Command::Mean, Lang::River) | (Command::Run | Command::Show, _) => true,
     }
 }
 

@@ -112,6 +112,17 @@ plans_mean text a records e =
     let fine = units-fine a.units (cut_units (toks h.0.marks)) h.0.formed in
     (plans_are_valid (program_in a) a.read fine.1 h.1, translation_means (program_in a) a.read records h.1)
 
+-- a program that is accepted is as the grammar and the judge see to
+pub compiled-valued : (text : List ℕ) (a : Accepted) → compiled text ≡ Ok a → AreValuedParts (program_in a)
+compiled-valued text a e =
+    let h : Has text (Ok a) = subst (Has text) e (means-has text) in
+    (units-fine a.units (cut_units (toks h.0.marks)) h.0.formed).0
+
+pub compiled-judged : (text : List ℕ) (a : Accepted) → compiled text ≡ Ok a → judged (program_in a) ≡ Ok a.read
+compiled-judged text a e =
+    let h : Has text (Ok a) = subst (Has text) e (means-has text) in
+    h.1
+
 -- ---- WHAT THE FRONT ANSWERS
 
 -- tokens that stand for units mean what judging says

@@ -163,6 +163,12 @@ plans_mean text a xs e =
     let h : Has text (Ok a) = subst (Has text) e (means-has text) in
     programs_mean a.program h.0 a.stream h.1 xs (units-fine a.program (cut_units (toks h.2.marks)) h.2.formed).1 h.3
 
+-- a program that is accepted is as the grammar sees to
+pub compiled-readable : (text : List ℕ) (a : Accepted) → compiled text ≡ Ok a → AreReadable a.program
+compiled-readable text a e =
+    let h : Has text (Ok a) = subst (Has text) e (means-has text) in
+    (units-fine a.program (cut_units (toks h.2.marks)) h.2.formed).0
+
 -- ---- WHAT THE FRONT ANSWERS
 
 -- tokens that stand for a program mean what judging says

@@ -14,7 +14,7 @@ pub returns-in_err-plan-clause-passes : goal.returns-in_err-plan-clause-passes
 returns-in_err-plan-clause-passes g c =
     let p = err_from_is_err_and c.from_residual-in_err-plan.result c.from_residual-in_err-plan.ensures.1 in
     let rose = Rose (g.S.Shelf.faults c.args.shelf.now) (g.S.Shelf.faults c.script.new.shelf) in
-    rw (p.1, p.2) (script-stops c.args.job.now c.args.text.now (g.S.Shelf.held c.args.shelf.now) rose c.in_ok-compiled.compiled c.in_err-plan.field-0.0 c.in_ok-compiled.ensures (λ source is. c.in_err-plan.ensures.passes source is))
+    rw (p.1, p.2) (script-stops c.args.job.now c.args.text.now (g.S.Shelf.held c.args.shelf.now) rose (record { plan = c.in_ok-compiled.plan; program = c.in_ok-compiled.program }) c.in_err-plan.field-0.0 c.in_ok-compiled.ensures (λ source is. c.in_err-plan.ensures.passes c.in_ok-compiled.program source is))
 
 pub returns-clause-passes : goal.returns-clause-passes
 returns-clause-passes g c =

@@ -1,0 +1,6 @@
+use Rattle.std.proofs.Common.{◌≡◌}
+use Rattle.river_cli.specs.Source.{first_values}
+use Rattle.river_cli.proofs.mean.values_of.Given as goal
+
+abbrev pub invariant-loop-row : goal.invariant-loop-row
+invariant-loop-row l = l.all ≡ first_values l.yielded
