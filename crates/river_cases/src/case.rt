@@ -57,8 +57,7 @@ impl Case {
     }
 
     /// Leaves the words and the files, and nothing else.
-    pub fn again(&mut self, alloc: Global, title: Bytes) {
-        self.title = title;
+    pub fn again(&mut self, alloc: Global) {
         self.reads = Device::new(alloc);
         self.writes = Device::new(alloc);
         self.tells = Device::new(alloc);

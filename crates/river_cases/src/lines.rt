@@ -13,6 +13,8 @@ pub enum Line<'a> {
     Case(&'a str),
     /// A case begins that has the words and files of the one before.
     Also(&'a str),
+    /// A case begins that has all of the one before.
+    Same(&'a str),
     /// Its words.
     Words(&'a str),
     /// One of its files.
@@ -64,6 +66,7 @@ fn read_head<'a>(first: &'a str, rest: &'a str) -> Line<'a> {
         "text" => Line::Text(rest),
         "case" => Line::Case(rest),
         "also" => Line::Also(rest),
+        "same" => Line::Same(rest),
         "words" => Line::Words(rest),
         "file" => Line::File(rest),
         "reads" => Line::Reads(rest),

@@ -85,6 +85,7 @@ impl Reader {
             Line::Text(name) => self.open_text(name),
             Line::Case(title) => self.begin(title),
             Line::Also(title) => self.begin_also(title),
+            Line::Same(title) => self.begin_same(title),
             Line::End => self.end(),
             inner if self.within => self.take_inner(inner),
             _ => Err(Fault::Line),
@@ -154,15 +155,19 @@ impl Reader {
 
     fn begin(&mut self, title: &str) -> Result<bool, Fault> {
         self.case = Case::new(self.alloc);
-        self.begin_also(title)
+        self.begin_same(title)
     }
 
     fn begin_also(&mut self, title: &str) -> Result<bool, Fault> {
+        self.case.again(self.alloc);
+        self.begin_same(title)
+    }
+
+    fn begin_same(&mut self, title: &str) -> Result<bool, Fault> {
         if self.within {
             return Err(Fault::Line);
         }
-        let title = Bytes::from_slice(self.alloc, title.as_bytes())?;
-        self.case.again(self.alloc, title);
+        self.case.title = Bytes::from_slice(self.alloc, title.as_bytes())?;
         self.within = true;
         Ok(false)
     }
