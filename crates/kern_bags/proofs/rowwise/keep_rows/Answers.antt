@@ -29,7 +29,7 @@ loop-place-preserved c =
     let in_rows : n < length xs = let a = c.loop-place.invariant.all in omega (arith, in_old, a) in
     let is = c.at.ensures x ∙ as_it_was xs old n x back in
     elim c.if-passes.branch [
-      then-passes w ↦ record {
+      | then-passes w ↦ record {
         fewer = let e = w.kept-is in omega (arith, e, fewer);
         all = ap length w.rows-is ∙ length-set xs k x ∙ c.loop-place.invariant.all;
         front = ap (λ m. take m c.if-passes.rows) w.kept-is ∙ ap (take (k + 1)) w.rows-is
