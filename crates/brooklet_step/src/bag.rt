@@ -72,7 +72,7 @@ pub fn fire_select(alloc: Global, cond: &Expr, item: Item, out: &mut Emit) -> Re
     ensures { OnOk result (Took out.old out.new (gives 0 (select_one (term cond.now) item) [])) }
 {
     let mut items = Items::new(alloc);
-    select(alloc, cond, flat_of(item), &mut items)?;
+    select(cond, flat_of(item), &mut items)?;
     out.give_all(0, items)?;
     Ok(())
 }
@@ -84,7 +84,7 @@ pub fn fire_project(alloc: Global, list: &Exprs, item: Item, out: &mut Emit) -> 
     ensures { OnOk result (Took out.old out.new (gives 0 (project_one (terms list.now) item) [])) }
 {
     let mut items = Items::new(alloc);
-    project(alloc, list, flat_of(item), &mut items)?;
+    project(list, flat_of(item), &mut items)?;
     out.give_all(0, items)?;
     Ok(())
 }

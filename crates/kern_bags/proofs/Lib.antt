@@ -1,4 +1,5 @@
 pub mod Copies
+pub mod InPlace
 pub mod InTurn
 pub mod KeptRows
 pub mod KeptWindows
