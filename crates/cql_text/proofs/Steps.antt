@@ -1,16 +1,16 @@
 -- The steps by which code reads values.
-use Rattle.std.proofs.Common.{◌≡◌, ◌≢◌, ℕ, zero, suc, ◌<◌, ◌≤◌, ◌-◌, List, [], ◌∷◌, Bool, true, false, cond, Some, None, refl, sym, ap, ◌∙◌, arith}
+use Rattle.std.proofs.Common.{◌≡◌, ◌≢◌, ℕ, zero, suc, ◌<◌, ◌≤◌, ◌-◌, List, [], ◌∷◌, Bool, true, false, cond, Option, Some, None, refl, sym, ap, ◌∙◌, arith}
 use Rattle.std.specs.Prelude.{codes, nat_lt, ◌==◌}
 use Rattle.std.proofs.lemmas.Bool.{eqb-true}
 use Rattle.work_code.specs.Tok.{Tok}
 use Rattle.work_code.specs.declared.sign.Symbol.TheVariants as s
 use Rattle.text_forms.specs.Ladder.{ahead}
 use Rattle.text_forms.specs.Parse as parse
-use Rattle.text_forms.specs.Repeat.{Fail, repeated}
+use Rattle.text_forms.specs.Repeat.{Turn, Fail, Next, repeated}
 use Rattle.text_forms.specs.Tail.{tail}
 use Rattle.text_forms.proofs.Repeat.{Shortens, repeated-next, repeated-stop, repeated-fail}
-use Rattle.cql_text.specs.Tree.{Scalar, Neg, Not, Bin, depth_of}
-use Rattle.cql_text.specs.ValueReading.{operator_at, leaf_at, unary, joined, chain_on, chain_turn, chain_line, compared, compare_on, compare_line, not_line, line, within}
+use Rattle.cql_text.specs.Tree.{Scalar, Neg, Not, depth_of}
+use Rattle.cql_text.specs.ValueReading.{operator_at, leaf_at, unary, joined, chain_on, chain_turn, chain_line, compared, grown, compare_on, compare_line, not_line, line, within}
 use Rattle.cql_text.specs.Words.{is_keyword_at}
 use Rattle.cql_text.specs.declared.operator.Operator.{Operator}
 use Rattle.cql_text.proofs.Values.{exact-line, chain-shortens}
@@ -93,25 +93,22 @@ pub chain-stop : (right : parse.Parse Scalar) (rank room : ℕ) (left : Scalar) 
 unfolding chain_turn
 chain-stop right rank room left ts e = repeated-stop (chain_turn right rank room) left ts (ap (chain_on right room left ts) e)
 
-pub chain-deep : (right : parse.Parse Scalar) (rank room : ℕ) (left : Scalar) (ts : List Tok) (o : Operator) → operator_at rank ts ≡ Some o → room ≤ depth_of left → repeated (chain_turn right rank room) left ts ≡ None
-unfolding chain_turn
-chain-deep right rank room left ts o e deep = repeated-fail (chain_turn right rank room) left ts (ap (chain_on right room left ts) e ∙ by (nat_lt (depth_of left) room) refl) where
-  by : (b : Bool) → nat_lt (depth_of left) room ≡ b → cond b (joined o left (right (tail ts))) Fail ≡ Fail
-  by true is = absurd (grind arith)
-  by false is = refl
+-- the turn that a value makes which has grown, or could not
+turn_of : Option (Scalar × List Tok) → Turn Scalar
+turn_of None = Fail
+turn_of (Some read) = Next read.0 read.1
 
-taken : (right : parse.Parse Scalar) (room : ℕ) (left : Scalar) (ts : List Tok) (o : Operator) → depth_of left < room → chain_on right room left ts (Some o) ≡ joined o left (right (tail ts))
-taken right room left ts o small = by (nat_lt (depth_of left) room) refl where
-  by : (b : Bool) → nat_lt (depth_of left) room ≡ b → cond b (joined o left (right (tail ts))) Fail ≡ joined o left (right (tail ts))
-  by true is = refl
-  by false is = absurd (grind arith)
+turns : (b : Bool) (o : Operator) (left : Scalar) (read : Option (Scalar × List Tok)) → cond b (joined o left read) Fail ≡ turn_of (cond b (compared o left read) None)
+unfolding turn_of
+turns true o left None = refl
+turns true o left (Some read) = refl
+turns false o left read = refl
 
-pub chain-bad : (right : parse.Parse Scalar) (rank room : ℕ) (left : Scalar) (ts : List Tok) (o : Operator) → operator_at rank ts ≡ Some o → right (tail ts) ≡ None → repeated (chain_turn right rank room) left ts ≡ None
-unfolding chain_turn
-chain-bad right rank room left ts o e bad = repeated-fail (chain_turn right rank room) left ts (ap (chain_on right room left ts) e ∙ by (nat_lt (depth_of left) room)) where
-  by : (b : Bool) → cond b (joined o left (right (tail ts))) Fail ≡ Fail
-  by true = rw bad refl
-  by false = refl
+pub chain-failed : (right : parse.Parse Scalar) (rank room : ℕ) (left : Scalar) (ts : List Tok) (o : Operator) → operator_at rank ts ≡ Some o → grown right room o left (tail ts) ≡ None
+    → repeated (chain_turn right rank room) left ts ≡ None
+unfolding chain_turn turn_of
+chain-failed right rank room left ts o e none =
+    repeated-fail (chain_turn right rank room) left ts (ap (chain_on right room left ts) e ∙ turns (nat_lt (depth_of left) room) o left (right (tail ts)) ∙ ap turn_of none)
 
 -- a chain on a line below which values are read exactly
 short : (n rank room : ℕ) → rank ≢ 0 → rank ≤ 6 → rank ≢ 3 → rank ≢ 4 → Shortens (chain_turn (line (within n) (rank - 1) (room - 1)) rank room)
@@ -124,27 +121,29 @@ short n (suc (suc (suc (suc (suc zero))))) room some most no_compare no_not = ch
 short n (suc (suc (suc (suc (suc (suc zero)))))) room some most no_compare no_not = chain-shortens n 5 refl (line (within n) 5) (exact-line n 5 (omega arith)) room
 short n (suc (suc (suc (suc (suc (suc (suc k))))))) room some most no_compare no_not = absurd (omega arith)
 
-pub chain-next : (n rank room : ℕ) (left right : Scalar) (ts us : List Tok) (o : Operator) → rank ≢ 0 → rank ≤ 6 → rank ≢ 3 → rank ≢ 4 → operator_at rank ts ≡ Some o → depth_of left < room → line (within n) (rank - 1) (room - 1) (tail ts) ≡ Some (right, us)
-    → repeated (chain_turn (line (within n) (rank - 1) (room - 1)) rank room) (Bin o left right) us ≡ repeated (chain_turn (line (within n) (rank - 1) (room - 1)) rank room) left ts
-unfolding chain_turn
-chain-next n rank room left right ts us o some most no_compare no_not e small read =
+pub chain-grown : (n rank room : ℕ) (left t : Scalar) (ts us : List Tok) (o : Operator) → rank ≢ 0 → rank ≤ 6 → rank ≢ 3 → rank ≢ 4 → operator_at rank ts ≡ Some o
+    → grown (line (within n) (rank - 1) (room - 1)) room o left (tail ts) ≡ Some (t, us)
+    → repeated (chain_turn (line (within n) (rank - 1) (room - 1)) rank room) t us ≡ repeated (chain_turn (line (within n) (rank - 1) (room - 1)) rank room) left ts
+unfolding chain_turn turn_of
+chain-grown n rank room left t ts us o some most no_compare no_not e more =
     let below = line (within n) (rank - 1) (room - 1) in
-    sym (repeated-next (chain_turn below rank room) (short n rank room some most no_compare no_not) left ts (Bin o left right) us (ap (chain_on below room left ts) e ∙ taken below room left ts o small ∙ ap (joined o left) read))
+    sym (repeated-next (chain_turn below rank room) (short n rank room some most no_compare no_not) left ts t us
+    (ap (chain_on below room left ts) e ∙ turns (nat_lt (depth_of left) room) o left (below (tail ts)) ∙ ap turn_of more))
 
-pub ruleset chains = (chain-stop, chain-deep, chain-bad, chain-next)
+pub ruleset chains = (chain-stop, chain-failed, chain-grown)
 
--- COMPARISONS
+-- GROWTHS
 
-pub compare-deep : (right : parse.Parse Scalar) (room : ℕ) (left : Scalar) (ts : List Tok) (o : Operator) → room ≤ depth_of left → compare_on right room left ts (Some o) ≡ None
-compare-deep right room left ts o deep = by (nat_lt (depth_of left) room) refl where
-  by : (b : Bool) → nat_lt (depth_of left) room ≡ b → cond b (compared o left (right (tail ts))) None ≡ None
+pub grown-deep : (right : parse.Parse Scalar) (room : ℕ) (o : Operator) (left : Scalar) (ts : List Tok) → room ≤ depth_of left → grown right room o left ts ≡ None
+grown-deep right room o left ts deep = by (nat_lt (depth_of left) room) refl where
+  by : (b : Bool) → nat_lt (depth_of left) room ≡ b → cond b (compared o left (right ts)) None ≡ None
   by true is = absurd (grind arith)
   by false is = refl
 
-pub compare-taken : (right : parse.Parse Scalar) (room : ℕ) (left : Scalar) (ts : List Tok) (o : Operator) → depth_of left < room → compare_on right room left ts (Some o) ≡ compared o left (right (tail ts))
-compare-taken right room left ts o small = by (nat_lt (depth_of left) room) refl where
-  by : (b : Bool) → nat_lt (depth_of left) room ≡ b → cond b (compared o left (right (tail ts))) None ≡ compared o left (right (tail ts))
+pub grown-taken : (right : parse.Parse Scalar) (room : ℕ) (o : Operator) (left : Scalar) (ts : List Tok) → depth_of left < room → grown right room o left ts ≡ compared o left (right ts)
+grown-taken right room o left ts small = by (nat_lt (depth_of left) room) refl where
+  by : (b : Bool) → nat_lt (depth_of left) room ≡ b → cond b (compared o left (right ts)) None ≡ compared o left (right ts)
   by true is = refl
   by false is = absurd (grind arith)
 
-pub ruleset comparisons = (compare-deep, compare-taken)
+pub ruleset growths = (grown-deep, grown-taken)

@@ -56,14 +56,19 @@ chain_turn right rank room left ts = chain_on right room left ts (operator_at ra
 unfoldable pub chain_line : (ℕ → Parse Scalar) → (rank room : ℕ) → Parse Scalar
 chain_line below rank room ts = then_read (below room ts) (λ t us. repeated (chain_turn (below (room - 1)) rank room) t us)
 
--- one comparison at most
+-- a value with an operator and what was read behind it
 abbrev pub compared : Operator → Scalar → Option (Scalar × List Tok) → Option (Scalar × List Tok)
 compared o left None = None
 compared o left (Some read) = Some (Bin o left read.0, read.1)
 
+-- a value with an operator and what follows, where there is room
+abbrev pub grown : Parse Scalar → ℕ → Operator → Scalar → Parse Scalar
+grown right room o left ts = if nat_lt (depth_of left) room then compared o left (right ts) else None
+
+-- one comparison at most
 abbrev pub compare_on : Parse Scalar → ℕ → Scalar → List Tok → Option Operator → Option (Scalar × List Tok)
 compare_on right room left ts None = Some (left, ts)
-compare_on right room left ts (Some o) = if nat_lt (depth_of left) room then compared o left (right (tail ts)) else None
+compare_on right room left ts (Some o) = grown right room o left (tail ts)
 
 unfoldable pub compare_line : (ℕ → Parse Scalar) → ℕ → Parse Scalar
 compare_line below room ts = then_read (below room ts) (λ t us. compare_on (below (room - 1)) room t us (operator_at 3 us))

@@ -3,11 +3,11 @@ ghost use Rattle.std.specs.Prelude.{◌≡◌, ◌≢◌, ◌<◌, ◌≤◌, �
 ghost use Rattle.text_forms.specs.Gives.{Gives};
 ghost use Rattle.cql_text.specs.Measure.{tree_of};
 ghost use Rattle.cql_text.specs.Tree.{scalar, depth_of};
-ghost use Rattle.cql_text.specs.ValueReading.{numeral_at, named, leaf_at, unary, chain_line, compare_line, not_line, line, within, value_at};
+ghost use Rattle.cql_text.specs.ValueReading.{numeral_at, named, leaf_at, unary, chain_line, grown, compare_line, not_line, line, within, value_at};
 
 use crate::keywords::{plain, plain_name, takes_keyword};
 use crate::measured::MeasuredScalar;
-use crate::operator::take_operator;
+use crate::operator::{Operator, take_operator};
 use crate::{Numeral, Scalar};
 use std::alloc::Global;
 use text_forms::{Fault, Reader};
@@ -100,18 +100,40 @@ fn chain(
 {
     let mut left = line(reader, alloc, brackets, rank - 1, room)?;
     'items: while let Some(op) = take_operator(reader, rank) {
-        if left.depth >= room {
-            return Err(Fault::Syntax);
-        }
-        let right = line(reader, alloc, brackets, rank - 1, room - 1)?;
-        left = left.joined(alloc, op, right)?;
+        left = grown(reader, alloc, brackets, rank, room, left, op)?;
     }
     Ok(left)
 }
 
+// A value with this operator of this line behind it, and the value of the line below that follows.
+#[cycle(value)]
+#[tactic(auto, using(crate::proofs::Steps::growths))]
+fn grown(
+    reader: &mut Reader<'_>,
+    alloc: Global,
+    brackets: u32,
+    rank: u32,
+    room: u32,
+    left: MeasuredScalar,
+    op: Operator,
+) -> Result<MeasuredScalar, Fault>
+    requires room { room ≤ 64 }
+    requires rank { rank ≤ 6 }
+    requires some { 0 < rank }
+    ensures reads { Gives tree_of result reader.new (grown (line (within brackets) (rank - 1) (room - 1)) room op (tree_of left) reader.old) }
+    ensures depth { IfOk result (λ m. m.depth ≤ room) }
+    ensures more { IfOk result (λ m. left.depth < m.depth) }
+{
+    if left.depth >= room {
+        return Err(Fault::Syntax);
+    }
+    let right = line(reader, alloc, brackets, rank - 1, room - 1)?;
+    Ok(left.joined(alloc, op, right)?)
+}
+
 // A value, and one comparison at most.
 #[cycle(value)]
-#[tactic(auto, using(crate::proofs::Steps::steps, crate::proofs::Steps::comparisons))]
+#[tactic(auto, using(crate::proofs::Steps::steps))]
 fn comparison(
     reader: &mut Reader<'_>,
     alloc: Global,
@@ -123,14 +145,10 @@ fn comparison(
     ensures depth { IfOk result (λ m. m.depth ≤ room) }
 {
     let left = line(reader, alloc, brackets, 2, room)?;
-    let Some(op) = take_operator(reader, 3) else {
-        return Ok(left);
-    };
-    if left.depth >= room {
-        return Err(Fault::Syntax);
+    match take_operator(reader, 3) {
+        Some(op) => grown(reader, alloc, brackets, 3, room, left, op),
+        None => Ok(left),
     }
-    let right = line(reader, alloc, brackets, 2, room - 1)?;
-    Ok(left.joined(alloc, op, right)?)
 }
 
 // A value behind any number of `Not`.

@@ -1,6 +1,8 @@
 // The kernels of operators.
 ghost use Rattle.std.specs.Prelude.{◌≡◌, IfOk};
-ghost use Rattle.river_kernels.specs.Kern.{kern_of, packed, fused};
+ghost use Rattle.work_code.specs.Term.{term, terms};
+ghost use Rattle.kern_rows.specs.Forms.{code_form, filter_form};
+ghost use Rattle.river_kernels.specs.Kern.{kern_of, code, filter, deal, collect, packed, select, project, fused};
 
 use kern_bags::{Streamer, Window};
 use kern_rows::{CodeKernel, Filter};
@@ -48,43 +50,89 @@ pub enum Kernel {
 
 impl Kernel {
     /// A kernel of the same meaning.
+    #[cycle(copy)]
     pub fn copy(&self, alloc: Global) -> Result<Kernel, NoMemory>
         ensures { IfOk result (λ copy. kern_of copy ≡ kern_of self.now) }
     {
         match self {
-            Kernel::Code(code) => Ok(Kernel::Code(code.copy(alloc)?)),
-            Kernel::Filter(filter) => Ok(Kernel::Filter(filter.copy(alloc)?)),
+            Kernel::Code(code) => copy_code(alloc, code),
+            Kernel::Filter(filter) => copy_filter(alloc, filter),
             Kernel::Duplicate(ports) => Ok(Kernel::Duplicate(*ports)),
-            Kernel::Deal(weights) => Ok(Kernel::Deal(weights.copy(alloc)?)),
-            Kernel::Collect(weights) => Ok(Kernel::Collect(weights.copy(alloc)?)),
-            Kernel::Packed(inner) => packed(alloc, inner.copy(alloc)?),
+            Kernel::Deal(weights) => copy_deal(alloc, weights),
+            Kernel::Collect(weights) => copy_collect(alloc, weights),
+            Kernel::Packed(inner) => inner.packed_copy(alloc),
             Kernel::Unpack(ports) => Ok(Kernel::Unpack(*ports)),
             Kernel::Window(window) => Ok(Kernel::Window(*window)),
-            Kernel::Select(cond) => Ok(Kernel::Select(cond.copy(alloc)?)),
-            Kernel::Project(list) => Ok(Kernel::Project(list.copy(alloc)?)),
+            Kernel::Select(cond) => copy_select(alloc, cond),
+            Kernel::Project(list) => copy_project(alloc, list),
             Kernel::Cross => Ok(Kernel::Cross),
             Kernel::Streamer(streamer) => Ok(Kernel::Streamer(*streamer)),
             Kernel::Tally => Ok(Kernel::Tally),
             Kernel::Fused { first, second, at } => {
                 let first = first.copy(alloc)?;
-                fused(alloc, first, second.copy(alloc)?, *at)
+                second.copy_behind(alloc, first, *at)
             }
         }
     }
+
+    // A kernel that packs what a copy of this one gives.
+    #[cycle(copy)]
+    fn packed_copy(&self, alloc: Global) -> Result<Kernel, NoMemory>
+        ensures { IfOk result (λ copy. kern_of copy ≡ packed (kern_of self.now)) }
+    {
+        let inner = self.copy(alloc)?;
+        Ok(Kernel::Packed(Box::new(alloc, inner)?))
+    }
+
+    // A copy of this one behind a port of the first.
+    #[cycle(copy)]
+    fn copy_behind(&self, alloc: Global, first: Kernel, at: u32) -> Result<Kernel, NoMemory>
+        ensures { IfOk result (λ both. kern_of both ≡ fused (kern_of first) (kern_of self.now) at) }
+    {
+        let first = Box::new(alloc, first)?;
+        let second = Box::new(alloc, self.copy(alloc)?)?;
+        Ok(Kernel::Fused { first, second, at })
+    }
 }
 
-// A kernel that packs what this one gives.
-fn packed(alloc: Global, inner: Kernel) -> Result<Kernel, NoMemory>
-    ensures { IfOk result (λ both. kern_of both ≡ packed (kern_of inner)) }
+// A code kernel of the same meaning.
+fn copy_code(alloc: Global, kernel: &CodeKernel) -> Result<Kernel, NoMemory>
+    ensures { IfOk result (λ copy. kern_of copy ≡ code (code_form kernel.now)) }
 {
-    Ok(Kernel::Packed(Box::new(alloc, inner)?))
+    Ok(Kernel::Code(kernel.copy(alloc)?))
 }
 
-// The second kernel behind a port of the first.
-fn fused(alloc: Global, first: Kernel, second: Kernel, at: u32) -> Result<Kernel, NoMemory>
-    ensures { IfOk result (λ both. kern_of both ≡ fused (kern_of first) (kern_of second) at) }
+// A filter of the same meaning.
+fn copy_filter(alloc: Global, kernel: &Filter) -> Result<Kernel, NoMemory>
+    ensures { IfOk result (λ copy. kern_of copy ≡ filter (filter_form kernel.now)) }
 {
-    let first = Box::new(alloc, first)?;
-    let second = Box::new(alloc, second)?;
-    Ok(Kernel::Fused { first, second, at })
+    Ok(Kernel::Filter(kernel.copy(alloc)?))
+}
+
+// A kernel that deals by the same weights.
+fn copy_deal(alloc: Global, weights: &Numbers) -> Result<Kernel, NoMemory>
+    ensures { IfOk result (λ copy. kern_of copy ≡ deal weights.now) }
+{
+    Ok(Kernel::Deal(weights.copy(alloc)?))
+}
+
+// A kernel that collects by the same weights.
+fn copy_collect(alloc: Global, weights: &Numbers) -> Result<Kernel, NoMemory>
+    ensures { IfOk result (λ copy. kern_of copy ≡ collect weights.now) }
+{
+    Ok(Kernel::Collect(weights.copy(alloc)?))
+}
+
+// A kernel that keeps the same rows.
+fn copy_select(alloc: Global, cond: &Expr) -> Result<Kernel, NoMemory>
+    ensures { IfOk result (λ copy. kern_of copy ≡ select (term cond.now)) }
+{
+    Ok(Kernel::Select(cond.copy(alloc)?))
+}
+
+// A kernel that gives the same values.
+fn copy_project(alloc: Global, list: &Exprs) -> Result<Kernel, NoMemory>
+    ensures { IfOk result (λ copy. kern_of copy ≡ project (terms list.now)) }
+{
+    Ok(Kernel::Project(list.copy(alloc)?))
 }

@@ -10,6 +10,9 @@ decreases-line l = l.brackets * 1000 + (l.rank * 100 + 92)
 abbrev pub decreases-chain : goal.decreases-chain
 decreases-chain l = l.brackets * 1000 + (l.rank * 100 + 91)
 
+abbrev pub decreases-grown : goal.decreases-grown
+decreases-grown l = l.brackets * 1000 + (l.rank * 100 + 90)
+
 abbrev pub decreases-comparison : goal.decreases-comparison
 decreases-comparison l = l.brackets * 1000 + 391
 
