@@ -1,6 +1,6 @@
 -- One firing of a kernel, after the Brooklet calculus (Soulé and others, ESOP 2010): an item at a port and the states of
 -- the private variables give items at the output ports, rows for the tables, and the new states.
-use Rattle.std.specs.Prelude.{ℕ, ℤ, pos, ◌+◌, ◌-◌, List, [], ◌∷◌, ◌++◌, length, take, drop, nat_lt, if◌then◌else◌, slice_index_or}
+use Rattle.std.specs.Prelude.{ℕ, ℤ, pos, List, [], ◌∷◌, ◌++◌, length, take, drop, nat_lt, if◌then◌else◌, slice_index_or}
 use Rattle.river_base.specs.declared.item.Item as item
 use Rattle.river_base.specs.declared.item.Item.TheVariants.{Flat, Pack}
 use Rattle.river_base.specs.declared.item.Flat.TheVariants.{One, Batch as Batched}
@@ -12,80 +12,22 @@ use Rattle.kern_rows.specs.Runs.{run_kept, pushed_to, Filtered, filter_start, fi
 use Rattle.kern_rows.specs.Turns.{Turns, shares, ones, turns_start, next_port, next_had, joins, itself}
 use Rattle.kern_bags.specs.Steps.{Pairing, window_one, select_one, project_one, streamer_one, crosses}
 use Rattle.river_kernels.specs.Kern.{Kern, code, filter, duplicate, deal, collect, packed, unpack, window, select, project, cross, streamer, tally, fused}
+use Rattle.river_kernels.specs.Shape.{shape}
+pub use Rattle.river_kernels.specs.Shape.{kept_vars}
 use Rattle.brooklet_model.specs.Firings.{Kept, Slots, Buffered, Turn, Joining, Received, Crossing, Fired, gives, feed, fused_of}
 
--- how many input ports a kernel has
+-- how many input ports, output ports, tables and private variables a kernel has
 abbrev pub ins : Kern → ℕ
-ins (code k) = 1
-ins (filter f) = 1
-ins (duplicate n) = 1
-ins (deal ws) = 1
-ins (collect ws) = length ws
-ins (packed k) = 1
-ins (unpack n) = n
-ins (window w) = 1
-ins (select e) = 1
-ins (project es) = 1
-ins cross = 2
-ins (streamer s) = 1
-ins tally = 1
-ins (fused a b at) = ins a
+ins k = (shape k).ins
 
--- how many output ports
 abbrev pub outs : Kern → ℕ
-outs (code k) = length k.outs
-outs (filter f) = 1
-outs (duplicate n) = n
-outs (deal ws) = length ws
-outs (collect ws) = 1
-outs (packed k) = 1
-outs (unpack n) = 1
-outs (window w) = 1
-outs (select e) = 1
-outs (project es) = 1
-outs cross = 1
-outs (streamer s) = 1
-outs tally = 0
-outs (fused a b at) = outs a + outs b - 1
+outs k = (shape k).outs
 
--- how many tables
 abbrev pub tabs : Kern → ℕ
-tabs (code k) = 0
-tabs (filter f) = 0
-tabs (duplicate n) = 0
-tabs (deal ws) = 0
-tabs (collect ws) = 0
-tabs (packed k) = 0
-tabs (unpack n) = 0
-tabs (window w) = 0
-tabs (select e) = 0
-tabs (project es) = 0
-tabs cross = 0
-tabs (streamer s) = 0
-tabs tally = 1
-tabs (fused a b at) = tabs a + tabs b
+tabs k = (shape k).tables
 
--- the slots that are kept are one variable
-abbrev pub kept_vars : List ℤ → ℕ
-kept_vars [] = 0
-kept_vars (z ∷ zs) = 1
-
--- how many private variables
 abbrev pub privates : Kern → ℕ
-privates (code k) = kept_vars k.starts
-privates (filter f) = 1
-privates (duplicate n) = 0
-privates (deal ws) = 1
-privates (collect ws) = 1
-privates (packed k) = privates k
-privates (unpack n) = 1
-privates (window w) = 1
-privates (select e) = 0
-privates (project es) = 0
-privates cross = 1
-privates (streamer s) = 1
-privates tally = 0
-privates (fused a b at) = privates a + privates b
+privates k = (shape k).privates
 
 abbrev pub first_slots : List ℤ → List Kept
 first_slots [] = []

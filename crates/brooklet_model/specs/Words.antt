@@ -1,5 +1,5 @@
 -- Firings of one kernel in any order of its ports.
-use Rattle.std.specs.Prelude.{◌≡◌, ℕ, ℤ, zero, suc, ◌<◌, Bool, nat_eq, if◌then◌else◌, List, [], ◌∷◌, ◌++◌, count_by}
+use Rattle.std.specs.Prelude.{◌≡◌, ℕ, zero, suc, ◌<◌, nat_eq, if◌then◌else◌, List, [], ◌∷◌, ◌++◌}
 use Rattle.river_base.specs.declared.item.Item as item
 use Rattle.river_base.specs.Bags.{SameBag}
 use Rattle.river_base.specs.Places.{none}
