@@ -1,0 +1,5 @@
+pub mod StreamitBlocks
+pub mod StreamitFilters
+pub mod StreamitReadable
+pub mod StreamitRounds
+pub mod StreamitStreams
