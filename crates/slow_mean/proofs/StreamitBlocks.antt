@@ -1,6 +1,7 @@
 -- Blocks, statement after statement and turn after turn.
-use Rattle.std.proofs.Common.{◌≡◌, ℕ, suc, ◌+◌, ◌-◌, ◌<◌, ◌≤◌, ℤ, pos, Bool, true, false, List, [], ◌∷◌, ◌++◌, length, drop, map, get_or, Option, Some, None, refl, sym, ap, ◌∙◌, arith}
+use Rattle.std.proofs.Common.{◌≡◌, ℕ, suc, ◌+◌, ◌-◌, ◌^◌, ◌<◌, ◌≤◌, ℤ, pos, Bool, true, false, List, [], ◌∷◌, ◌++◌, length, drop, map, get_or, Option, Some, None, refl, sym, ap, ◌∙◌, arith, to_z, w64}
 use Rattle.std.specs.Prelude.{if◌then◌else◌, slice_index_or}
+use Rattle.std.proofs.lemmas.Int.{to_z_pos}
 use Rattle.std.proofs.lemmas.List.{get_or_past}
 use Rattle.river_base.specs.Name.{name_eq}
 use Rattle.river_plan.specs.Forms.{Name}
@@ -57,6 +58,10 @@ pub turns_next : (block : Now → Now) (n : Name) (low v end : ℕ) (first now n
 turns_next block n low v end first now next lt f e = record {
   same = ap (each_turn block n (numbers (v + 1) (end - (v + 1)))) e ∙ ap (λ vs. each_turn block n vs now) (sym (numbers_more v end lt)) ∙ f.same;
 }
+
+-- a turn's value is a number
+pub turn_value : (v end : ℕ) → v < end → end ≤ 2 ^ 63 → to_z w64 v ≡ pos v
+turn_value v end lt le = to_z_pos w64 v (omega (arith, lt, le))
 
 pub turns_end : (block : Now → Now) (n : Name) (low v end : ℕ) (first now : Now) → end ≤ v → TurnsSoFar block n low v end first now → now ≡ each_turn block n (numbers low (end - low)) first
 turns_end block n low v end first now le f = ap (λ k. each_turn block n (numbers v k) now) (let z : 0 ≡ end - v = omega (arith, le) in z) ∙ f.same

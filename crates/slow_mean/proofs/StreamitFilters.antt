@@ -1,5 +1,5 @@
 -- The firings of a filter, one after another.
-use Rattle.std.proofs.Common.{◌≡◌, ℕ, suc, ◌+◌, ◌-◌, ◌*◌, ◌<◌, ◌≤◌, ℤ, pos, Bool, true, false, List, [], ◌∷◌, ◌++◌, length, take, drop, map, get_or, refl, sym, ap, ◌∙◌, arith, append_assoc, append-nil}
+use Rattle.std.proofs.Common.{◌≡◌, ℕ, suc, ◌+◌, ◌-◌, ◌*◌, ◌^◌, ◌<◌, ◌≤◌, ℤ, pos, Bool, true, false, List, [], ◌∷◌, ◌++◌, length, take, drop, map, get_or, refl, sym, ap, ◌∙◌, arith, append_assoc, append-nil}
 use Rattle.std.specs.Prelude.{if◌then◌else◌, nat_le}
 use Rattle.std.proofs.lemmas.List.{drop_all, length-map}
 use Rattle.river_plan.specs.Forms.{Name}
@@ -28,9 +28,9 @@ fields_end fs zs i first now le s = ap (λ l. with_fields l (drop i zs) now) (sy
 
 -- what was pushed, and what the firings from number j on push
 pub record FiredSoFar (t : FilterTree) (xs before : List ℤ) (start j : ℕ) (first kept out : List ℤ) : Type 0 where
-  pub start : start ≡ j * pop_of t
+  pub place : start ≡ j * pop_of t
   pub low : start ≤ length xs + 2 ^ 32
-  pub kept : length kept ≡ length t.fields
+  pub fields : length kept ≡ length t.fields
   pub same : out ++ fires_from t (length xs - j) j kept xs ≡ before ++ fires_from t (length xs) 0 first xs
 
 one_less : (n j : ℕ) → j < n → n - j ≡ suc (n - (j + 1))
@@ -46,17 +46,23 @@ fires-none t n j kept xs lt = rw (no (j * pop_of t + peek_of t) (length xs) lt) 
   no : (a b : ℕ) → b < a → nat_le a b ≡ false
   no a b lt = grind (arith, lt)
 
+-- the items that a firing looks at
+pub looked_at : (t : FilterTree) (xs : List ℤ) (start j peek : ℕ) → start ≡ j * pop_of t → peek ≡ peek_of t → take (start + peek - start) (drop start xs) ≡ take (peek_of t) (drop (j * pop_of t) xs)
+looked_at t xs start j peek es ep =
+    ap (λ k. take k (drop start xs)) (let e : start + peek - start ≡ peek_of t = omega (arith, ep) in e)
+    ∙ ap (λ k. take (peek_of t) (drop k xs)) es
+
 pub fired_start : (t : FilterTree) (xs before first : List ℤ) → length first ≡ length t.fields → FiredSoFar t xs before 0 0 first first before
-fired_start t xs before first e = record { start = omega arith; low = omega arith; kept = e; same = refl }
+fired_start t xs before first e = record { place = omega arith; low = omega arith; fields = e; same = ap (λ n. before ++ fires_from t n 0 first xs) (let z : length xs - 0 ≡ length xs = omega arith in z) }
 
 pub fired_next : (t : FilterTree) (xs before : List ℤ) (start j pop peek : ℕ) (first kept kept' out out' : List ℤ) → j < length xs → pop ≡ pop_of t → peek ≡ peek_of t → pop < 2 ^ 32 → start + peek ≤ length xs → FiredSoFar t xs before start j first kept out
     → kept' ≡ map (fires t j kept xs).values t.fields → out' ≡ out ++ (fires t j kept xs).pushed → FiredSoFar t xs before (start + pop) (j + 1) first kept' out'
 fired_next t xs before start j pop peek first kept kept' out out' lt epop epeek small le f ek eo = record {
-  start = let s = f.start in let m = more j (pop_of t) in omega (arith, s, epop, m);
+  place = let s = f.place in let m = more j (pop_of t) in omega (arith, s, epop, m);
   low = omega (arith, small, le);
-  kept = ap length ek ∙ length-map t.fields (fires t j kept xs).values;
+  fields = ap length ek ∙ length-map t.fields (fires t j kept xs).values;
   same =
-      let s = f.start in
+      let s = f.place in
       let there : j * pop_of t + peek_of t ≤ length xs = omega (arith, s, epeek, le) in
       let n = length xs - (j + 1) in
       ap (λ l. l ++ fires_from t n (j + 1) kept' xs) eo
@@ -72,7 +78,7 @@ fired_next t xs before start j pop peek first kept kept' out out' lt epop epeek 
 
 pub fired_stop : (t : FilterTree) (xs before : List ℤ) (start j peek : ℕ) (first kept out : List ℤ) → j < length xs → peek ≡ peek_of t → length xs < start + peek → FiredSoFar t xs before start j first kept out → out ≡ before ++ fires_from t (length xs) 0 first xs
 fired_stop t xs before start j peek first kept out lt epeek high f =
-    let s = f.start in
+    let s = f.place in
     sym (append-nil out)
     ∙ ap (λ l. out ++ l) (sym (fires-none t (length xs - (j + 1)) j kept xs (omega (arith, s, epeek, high))))
     ∙ ap (λ k. out ++ fires_from t k j kept xs) (sym (one_less (length xs) j lt))

@@ -1,5 +1,5 @@
 // Filters: firing after firing.
-ghost use Rattle.std.specs.Prelude.{◌≡◌, ◌++◌, [], length, map, replicate, pos, IfOk, OnOk};
+ghost use Rattle.std.specs.Prelude.{◌≡◌, ◌<◌, ◌^◌, ◌++◌, [], length, map, replicate, pos, IfOk, OnOk};
 ghost use Rattle.streamit_model.specs.Source.{do_all};
 ghost use Rattle.streamit_model.specs.FilterSource.{at_start, initial, fires_from, rate_or, pushed_by};
 ghost use Rattle.streamit_unroll.specs.Filter.{filter_tree, IsReadable};
@@ -72,14 +72,16 @@ fn fire_all(
 
 // How many items a firing pops, where the rate is written.
 fn pop_of(rates: Rates) -> usize
-    ensures { result ≡ rate_or rates.pop 0 }
+    ensures is { result ≡ rate_or rates.pop 0 }
+    ensures small { result < 2 ^ 32 }
 {
     rates.pop.unwrap_or(0) as usize
 }
 
 // How many items a firing looks at: as many as it pops, where the rate is not written.
 fn peek_of(rates: Rates) -> usize
-    ensures { result ≡ rate_or rates.peek (rate_or rates.pop 0) }
+    ensures is { result ≡ rate_or rates.peek (rate_or rates.pop 0) }
+    ensures small { result < 2 ^ 32 }
 {
     match rates.peek {
         Some(peek) => peek as usize,
