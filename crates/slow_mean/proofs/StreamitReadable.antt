@@ -1,5 +1,5 @@
 -- What is told of a program that a text stands for is enough to say what it means.
-use Rattle.std.proofs.Common.{◌≡◌, ℕ, List, Result, Ok}
+use Rattle.std.proofs.Common.{◌≡◌, ℕ, List, Ok}
 use Rattle.work_code.specs.Cut.{units_of}
 use Rattle.work_code.specs.Tok.{toks}
 use Rattle.river_plan.specs.Forms.{PlanForm}

@@ -1,4 +1,4 @@
-use Rattle.std.proofs.Common.{◌<◌, pos, ap, ◌∙◌, rules}
+use Rattle.std.proofs.Common.{◌<◌, ap, ◌∙◌, rules}
 use Rattle.brooklet_model.specs.Machine.{at_name}
 use Rattle.streamit_model.specs.Source.{Values, do_all}
 use Rattle.streamit_unroll.specs.View.{block}
