@@ -20,7 +20,8 @@ pub none-known : (f : Name → Option ℤ) → ((q : Name) → f q ≡ None) →
 none-known f none = λ i q. ap or_nought (none q) i
 
 -- one name has another value
-pub known-more : (f g : Name → Option ℤ) (n : Name) (z : ℤ) → ((q : Name) → g q ≡ (if name_eq n q then Some z else f q)) → (λ q. or_nought (g q)) ≡ at_name n z (λ q. or_nought (f q))
+pub known-more : (f g : Name → Option ℤ) (n : Name) (z : ℤ) → ((q : Name) → g q ≡ (if name_eq n q then Some z else f q))
+    → (λ q. or_nought (g q)) ≡ at_name n z (λ q. or_nought (f q))
 known-more f g n z more = λ i q. (ap or_nought (more q) ∙ chosen (name_eq n q) q) i where
   chosen : (b : Bool) (q : Name) → or_nought (if b then Some z else f q) ≡ (if b then z else or_nought (f q))
   chosen true q = refl
@@ -36,7 +37,8 @@ pub record BlockSoFar (xs : List ℤ) (all rest : List source.Statement) (first 
 pub block_start : (xs : List ℤ) (all : List source.Statement) (first : Now) → AreWritten (in_turn all) → BlockSoFar xs all all first first
 block_start xs all first written = record { same = refl; written = written }
 
-pub block_next : (xs : List ℤ) (all rest : List source.Statement) (c : source.Statement) (first now next : Now) → BlockSoFar xs all (c ∷ rest) first now → next ≡ does c xs now → BlockSoFar xs all rest first next
+pub block_next : (xs : List ℤ) (all rest : List source.Statement) (c : source.Statement) (first now next : Now) → BlockSoFar xs all (c ∷ rest) first now
+    → next ≡ does c xs now → BlockSoFar xs all rest first next
 block_next xs all rest c first now next f e = record { same = ap (do_all (in_turn rest) xs) e ∙ f.same; written = f.written.1 }
 
 pub block_end : (xs : List ℤ) (all : List source.Statement) (first now : Now) → BlockSoFar xs all [] first now → now ≡ do_all (in_turn all) xs first
@@ -45,7 +47,8 @@ block_end xs all first now f = f.same
 -- TURNS
 
 numbers_more : (v end : ℕ) → v < end → numbers v (end - v) ≡ v ∷ numbers (v + 1) (end - (v + 1))
-numbers_more v end lt = ap (numbers v) (let e : end - v ≡ suc (end - (v + 1)) = omega (arith, lt) in e) ∙ ap (λ k. v ∷ numbers k (end - (v + 1))) (let e : suc v ≡ v + 1 = omega arith in e)
+numbers_more v end lt = ap (numbers v) (let e : end - v ≡ suc (end - (v + 1)) = omega (arith, lt) in e)
+    ∙ ap (λ k. v ∷ numbers k (end - (v + 1))) (let e : suc v ≡ v + 1 = omega arith in e)
 
 -- the turns that are left give what all give
 pub record TurnsSoFar (block : Now → Now) (n : Name) (low v end : ℕ) (first now : Now) : Type 0 where
@@ -54,7 +57,8 @@ pub record TurnsSoFar (block : Now → Now) (n : Name) (low v end : ℕ) (first 
 pub turns_start : (block : Now → Now) (n : Name) (low end : ℕ) (first : Now) → TurnsSoFar block n low low end first first
 turns_start block n low end first = record { same = refl }
 
-pub turns_next : (block : Now → Now) (n : Name) (low v end : ℕ) (first now next : Now) → v < end → TurnsSoFar block n low v end first now → next ≡ block (record now { values = at_name n (pos v) now.values }) → TurnsSoFar block n low (v + 1) end first next
+pub turns_next : (block : Now → Now) (n : Name) (low v end : ℕ) (first now next : Now) → v < end → TurnsSoFar block n low v end first now
+    → next ≡ block (record now { values = at_name n (pos v) now.values }) → TurnsSoFar block n low (v + 1) end first next
 turns_next block n low v end first now next lt f e = record {
   same = ap (each_turn block n (numbers (v + 1) (end - (v + 1)))) e ∙ ap (λ vs. each_turn block n vs now) (sym (numbers_more v end lt)) ∙ f.same;
 }
@@ -63,7 +67,8 @@ turns_next block n low v end first now next lt f e = record {
 pub turn_value : (v end : ℕ) → v < end → end ≤ 2 ^ 63 → to_z w64 v ≡ pos v
 turn_value v end lt le = to_z_pos w64 v (omega (arith, lt, le))
 
-pub turns_end : (block : Now → Now) (n : Name) (low v end : ℕ) (first now : Now) → end ≤ v → TurnsSoFar block n low v end first now → now ≡ each_turn block n (numbers low (end - low)) first
+pub turns_end : (block : Now → Now) (n : Name) (low v end : ℕ) (first now : Now) → end ≤ v → TurnsSoFar block n low v end first now
+    → now ≡ each_turn block n (numbers low (end - low)) first
 turns_end block n low v end first now le f = ap (λ k. each_turn block n (numbers v k) now) (let z : 0 ≡ end - v = omega (arith, le) in z) ∙ f.same
 
 -- ITEMS

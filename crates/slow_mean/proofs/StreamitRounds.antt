@@ -50,16 +50,19 @@ part-here w ws left lt = rw (test_low left w lt)
 within-here : (w : ℕ) (ws : List ℕ) (left : ℕ) → left < w → within (w ∷ ws) left ≡ left
 within-here w ws left lt = rw (test_low left w lt)
 
-pub spot_next : (ws : List ℕ) (place i left w : ℕ) → i < length ws → w ≡ get_or ws i w → w ≤ left → SpotSoFar ws place i left → SpotSoFar ws place (i + 1) (left - w)
+pub spot_next : (ws : List ℕ) (place i left w : ℕ) → i < length ws → w ≡ get_or ws i w → w ≤ left → SpotSoFar ws place i left
+    → SpotSoFar ws place (i + 1) (left - w)
 spot_next ws place i left w lt e le f = record {
   part =
       let a = f.part in
-      let b : part (drop i ws) left ≡ suc (part (drop (i + 1) ws) (left - w)) = ap (λ l. part l left) (from_place ws i w lt e) ∙ part-over w (drop (i + 1) ws) left le in
+      let b : part (drop i ws) left ≡ suc (part (drop (i + 1) ws) (left - w)) = ap (λ l. part l left) (from_place ws i w lt e)
+      ∙ part-over w (drop (i + 1) ws) left le in
       omega (arith, a, b);
   within = f.within ∙ ap (λ l. within l left) (from_place ws i w lt e) ∙ within-over w (drop (i + 1) ws) left le;
 }
 
-pub spot_here : (ws : List ℕ) (place i left w : ℕ) → i < length ws → w ≡ get_or ws i w → left < w → SpotSoFar ws place i left → (i ≡ part ws place) × (left ≡ within ws place)
+pub spot_here : (ws : List ℕ) (place i left w : ℕ) → i < length ws → w ≡ get_or ws i w → left < w → SpotSoFar ws place i left
+    → (i ≡ part ws place) × (left ≡ within ws place)
 spot_here ws place i left w lt e low f =
     let a = f.part in
     let b : part (drop i ws) left ≡ 0 = ap (λ l. part l left) (from_place ws i w lt e) ∙ part-here w (drop (i + 1) ws) left low in (
@@ -89,7 +92,8 @@ picked-not : (test : ℕ → Bool) (x : ℕ) (y : ℤ) (ys : List ℤ) → test 
 picked-not test x y ys e = rw e
 
 -- the item is this branch's
-pub dealt_this : (ws : List ℕ) (p : ℕ) (xs : List ℤ) (x : ℕ) (out : List ℤ) (y : ℤ) → x < length xs → y ≡ get_or xs x y → nat_eq (branch ws x) p ≡ true → DealtSoFar ws p xs x out → DealtSoFar ws p xs (x + 1) (out ++ y ∷ [])
+pub dealt_this : (ws : List ℕ) (p : ℕ) (xs : List ℤ) (x : ℕ) (out : List ℤ) (y : ℤ) → x < length xs → y ≡ get_or xs x y → nat_eq (branch ws x) p ≡ true
+    → DealtSoFar ws p xs x out → DealtSoFar ws p xs (x + 1) (out ++ y ∷ [])
 dealt_this ws p xs x out y lt e this f =
     let test = λ (n : ℕ). nat_eq (branch ws n) p in
     append_assoc out (y ∷ []) (picked test (x + 1) (drop (x + 1) xs))
@@ -99,7 +103,8 @@ dealt_this ws p xs x out y lt e this f =
     ∙ f
 
 -- it is another's
-pub dealt_other : (ws : List ℕ) (p : ℕ) (xs : List ℤ) (x : ℕ) (out : List ℤ) (y : ℤ) → x < length xs → y ≡ get_or xs x y → nat_eq (branch ws x) p ≡ false → DealtSoFar ws p xs x out → DealtSoFar ws p xs (x + 1) out
+pub dealt_other : (ws : List ℕ) (p : ℕ) (xs : List ℤ) (x : ℕ) (out : List ℤ) (y : ℤ) → x < length xs → y ≡ get_or xs x y → nat_eq (branch ws x) p ≡ false
+    → DealtSoFar ws p xs x out → DealtSoFar ws p xs (x + 1) out
 dealt_other ws p xs x out y lt e this f =
     let test = λ (n : ℕ). nat_eq (branch ws n) p in
     ap (λ n. out ++ picked test n (drop (x + 1) xs)) (let s : x + 1 ≡ suc x = omega arith in s)
@@ -121,7 +126,8 @@ CollectedSoFar ws ls size x out = out ++ front_of (item_at ws ls) (size - x) x �
 one_less : (size x : ℕ) → x < size → size - x ≡ suc (size - (x + 1))
 one_less size x lt = omega (arith, lt)
 
-pub collected_more : (ws : List ℕ) (ls : List (List ℤ)) (size x : ℕ) (out : List ℤ) (y : ℤ) → x < size → item_at ws ls x ≡ Some y → CollectedSoFar ws ls size x out → CollectedSoFar ws ls size (x + 1) (out ++ y ∷ [])
+pub collected_more : (ws : List ℕ) (ls : List (List ℤ)) (size x : ℕ) (out : List ℤ) (y : ℤ) → x < size → item_at ws ls x ≡ Some y
+    → CollectedSoFar ws ls size x out → CollectedSoFar ws ls size (x + 1) (out ++ y ∷ [])
 collected_more ws ls size x out y lt e f =
     let at = item_at ws ls in
     append_assoc out (y ∷ []) (front_of at (size - (x + 1)) (x + 1))
@@ -130,7 +136,8 @@ collected_more ws ls size x out y lt e f =
     ∙ ap (λ n. out ++ front_of at n x) (sym (one_less size x lt))
     ∙ f
 
-pub collected_none : (ws : List ℕ) (ls : List (List ℤ)) (size x : ℕ) (out : List ℤ) → x < size → item_at ws ls x ≡ None → CollectedSoFar ws ls size x out → out ≡ front_of (item_at ws ls) size 0
+pub collected_none : (ws : List ℕ) (ls : List (List ℤ)) (size x : ℕ) (out : List ℤ) → x < size → item_at ws ls x ≡ None → CollectedSoFar ws ls size x out
+    → out ≡ front_of (item_at ws ls) size 0
 collected_none ws ls size x out lt e f =
     let at = item_at ws ls in
     sym (append-nil out)
@@ -138,7 +145,8 @@ collected_none ws ls size x out lt e f =
     ∙ ap (λ n. out ++ front_of at n x) (sym (one_less size x lt))
     ∙ f
 
-pub collected_end : (ws : List ℕ) (ls : List (List ℤ)) (size x : ℕ) (out : List ℤ) → size ≤ x → CollectedSoFar ws ls size x out → out ≡ front_of (item_at ws ls) size 0
+pub collected_end : (ws : List ℕ) (ls : List (List ℤ)) (size x : ℕ) (out : List ℤ) → size ≤ x → CollectedSoFar ws ls size x out
+    → out ≡ front_of (item_at ws ls) size 0
 collected_end ws ls size x out le f =
     sym (append-nil out) ∙ ap (λ n. out ++ front_of (item_at ws ls) n x) (let z : 0 ≡ size - x = omega (arith, le) in z) ∙ f
 

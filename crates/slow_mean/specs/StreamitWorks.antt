@@ -12,4 +12,6 @@ works_of us = all_work [] (program_of us)
 -- where the newest stream of a name stands, and what it does; or there is none
 abbrev pub IsPlace : List Declaration → Name → Option ℕ → Type 0
 IsPlace us n None = look (works_of us) n ≡ None
-IsPlace us n (Some i) = (i < length us) × ((d : Declaration) → slice_get us i ≡ Some d → look (works_of us) n ≡ Some (body_works (works_of (take i us)) (body_of d.body)))
+IsPlace us n (Some i) =
+    (i < length us)
+    × ((d : Declaration) → slice_get us i ≡ Some d → look (works_of us) n ≡ Some (body_works (works_of (take i us)) (body_of d.body)))

@@ -16,7 +16,8 @@ branches-loop-i-init t c =
     let xs = c.args.items.now in
     let d = dealing_of parts.split in
     let count = c.in_ok-count.ensures {u = tt} ∙ ap (λ (l : List Name). suc (length l)) c.as_slice-others.ensures.value in
-    branches_start (works_of c.args.above.now) (λ p. share_of d (branch_count a) p xs) a.first a.others c.args.lists.now c.push.new.self c.as_slice.result.now c.in_ok-named.field-0
+    branches_start (works_of c.args.above.now) (λ p. share_of d (branch_count a) p xs)
+    a.first a.others c.args.lists.now c.push.new.self c.as_slice.result.now c.in_ok-named.field-0
     (c.as_slice.ensures ∙ c.in_ok-first.ensures {u = tt} ∙ ap (λ n. share_of d n 0 xs) count)
     (c.in_ok-named.ensures {u = tt})
     c.in_ok-push.ensures.ok
@@ -27,7 +28,8 @@ joined-returns t c =
     let a = adds_of parts.adds in
     let ws = weights_of parts.join in
     let shares = λ (p : ℕ). share_of (dealing_of parts.split) (branch_count a) p c.args.items.now in
-    let lists = lists-length (works_of c.args.above.now) a.first a.others shares c.new-lists.result c.branches.new.lists c.new-lists.ensures (c.in_ok-branches.ensures {u = tt}) in
+    let lists = lists-length (works_of c.args.above.now) a.first a.others shares c.new-lists.result c.branches.new.lists
+    c.new-lists.ensures (c.in_ok-branches.ensures {u = tt}) in
     let weighed = c.as_slice.ensures.value ∙ c.in_ok-weights.ensures {u = tt} ∙ ap (weights_for ws) (c.len.ensures ∙ lists.0) in
     let gives = ap (λ w. collected w c.as_slice-2.result.now) weighed ∙ ap (collected (weights_for ws (branch_count a))) (c.as_slice-2.ensures ∙ lists.1) in
     subst (λ (l : List ℤ). IfOk c.collected.result (λ out. out ≡ l)) gives c.collected.ensures
@@ -38,7 +40,8 @@ named-works-requires t c =
     let i = c.in-Some.i in
     let lt : i < length us = c.in-Some.ensures.0 in
     let short : length (take i us) ≡ i = length-take-le i us (omega (arith, lt)) in
-    (omega (arith, c.decreases, lt, short), (readable-front us i c.requires, readable-at us i (get_or us i c.index-above-i.result) lt (ap (λ x. get_or us i x) c.index-above-i.is) c.requires))
+    let at = readable-at us i (get_or us i c.index-above-i.result) lt (ap (λ x. get_or us i x) c.index-above-i.is) c.requires in
+    (omega (arith, c.decreases, lt, short), (readable-front us i c.requires, at))
 
 pub named-returns-in-Some : goal.named-returns-in-Some
 named-returns-in-Some t c =

@@ -22,6 +22,7 @@ loop-j-preserved c =
     let peek = c.peek_of-peek.result in
     let lt : s.j < length xs = search rules in
     let looks = looked_at t xs s.start s.j peek s.invariant.place c.peek_of-peek.ensures.is in
-    fired_next t xs c.args.out.now s.start s.j pop peek c.args.kept.now s.kept c.fire.new.kept s.out c.fire.new.out lt c.pop_of-pop.ensures.is c.peek_of-peek.ensures.is c.pop_of-pop.ensures.small c.if-end-items.false s.invariant
+    fired_next t xs c.args.out.now s.start s.j pop peek c.args.kept.now s.kept c.fire.new.kept s.out c.fire.new.out
+    lt c.pop_of-pop.ensures.is c.peek_of-peek.ensures.is c.pop_of-pop.ensures.small c.if-end-items.false s.invariant
     (c.in_ok-fire.ensures.kept ∙ ap (λ l. map (do_all t.work l (at_start t.fields s.kept)).values t.fields) looks)
     (c.in_ok-fire.ensures.out ∙ ap (λ l. s.out ++ (do_all t.work l (at_start t.fields s.kept)).pushed) looks)

@@ -20,5 +20,6 @@ loop-x-preserved c =
     let lt : c.loop-x.x < c.in_ok-size.size = search rules in
     let y = c.in-Some.item in
     let fits : SFits w64 y = search rules in
-    subst (CollectedSoFar ws ls c.in_ok-size.size (c.loop-x.x + 1)) (sym (c.in_ok-push-in-Some.ensures.ok ∙ ap (λ z. c.loop-x.out ++ z ∷ []) (to_z-of_z w64 y fits)))
+    subst (CollectedSoFar ws ls c.in_ok-size.size (c.loop-x.x + 1))
+    (sym (c.in_ok-push-in-Some.ensures.ok ∙ ap (λ z. c.loop-x.out ++ z ∷ []) (to_z-of_z w64 y fits)))
     (collected_more ws ls c.in_ok-size.size c.loop-x.x c.loop-x.out c.in-Some.item lt (sym (c.in_ok-item.ensures {u = tt}) ∙ c.in-Some.is) c.loop-x.invariant)

@@ -17,7 +17,9 @@ loop-x-preserved c =
       | then-is_dealt+in_ok-push w ↦
           let fits : SFits w64 y = search rules in
           let e : c.if-is_dealt.out ≡ c.loop-x.out ++ y ∷ [] = w.out-is ∙ w.in_ok-push.ensures.ok ∙ ap (λ z. c.loop-x.out ++ z ∷ []) (to_z-of_z w64 y fits) in
-          subst (DealtSoFar ws p xs (x + 1)) (sym e) (dealt_this ws p xs x c.loop-x.out y lt (there xs x (pos 0) y lt) (sym c.is_dealt.ensures ∙ w.if-is_dealt.true) c.loop-x.invariant)
+          subst (DealtSoFar ws p xs (x + 1)) (sym e)
+          (dealt_this ws p xs x c.loop-x.out y lt (there xs x (pos 0) y lt) (sym c.is_dealt.ensures ∙ w.if-is_dealt.true) c.loop-x.invariant)
       | else-is_dealt w ↦
-          subst (DealtSoFar ws p xs (x + 1)) (sym w.out-is) (dealt_other ws p xs x c.loop-x.out y lt (there xs x (pos 0) y lt) (sym c.is_dealt.ensures ∙ w.if-is_dealt.false) c.loop-x.invariant)
+          subst (DealtSoFar ws p xs (x + 1)) (sym w.out-is)
+          (dealt_other ws p xs x c.loop-x.out y lt (there xs x (pos 0) y lt) (sym c.is_dealt.ensures ∙ w.if-is_dealt.false) c.loop-x.invariant)
     ]

@@ -15,4 +15,5 @@ turns-loop-v-preserved t c =
     turns_next body c.args.name c.args.low v c.args.end (now_of c.args.self.now) (now_of now) (now_of c.block.new.self) lt c.loop-v.invariant
     (c.in_ok-block.ensures {u = tt}
     ∙ ap (λ (f : Values). body (record { values = f; popped = now.popped; pushed = now.pushed })) (c.in_ok-set.ensures {u = tt})
-    ∙ ap (λ z. body (record { values = at_name c.args.name z (values_of now.values); popped = now.popped; pushed = now.pushed })) (turn_value v c.args.end lt c.requires.end))
+    ∙ ap (λ z. body (record { values = at_name c.args.name z (values_of now.values); popped = now.popped; pushed = now.pushed }))
+    (turn_value v c.args.end lt c.requires.end))
