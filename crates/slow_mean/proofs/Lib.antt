@@ -1,1 +1,19 @@
-
+pub mod CqlAccepted
+pub mod CqlAnswers
+pub mod CqlContents
+pub mod CqlInstants
+pub mod CqlKept
+pub mod CqlResults
+pub mod CqlRun
+pub mod CqlTimed
+pub mod CqlTuples
+pub mod CqlWindows
+pub mod SawzallRuns
+pub mod SawzallTables
+pub mod SawzallValues
+pub mod SawzallWide
+pub mod StreamitBlocks
+pub mod StreamitFilters
+pub mod StreamitReadable
+pub mod StreamitRounds
+pub mod StreamitStreams

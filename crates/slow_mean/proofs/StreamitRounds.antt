@@ -1,0 +1,158 @@
+-- Splitters and joiners, weight after weight and item after item.
+use Rattle.std.proofs.Common.{◌≡◌, ℕ, zero, suc, ◌+◌, ◌-◌, ◌<◌, ◌≤◌, ℤ, Bool, true, false, List, [], ◌∷◌, ◌++◌, length, drop, get_or, Some, None, refl, sym, ap, ◌∙◌, arith, append_assoc, append-nil, drop-cons}
+use Rattle.std.specs.Prelude.{nat_lt, nat_eq}
+use Rattle.std.proofs.lemmas.List.{drop_all}
+use Rattle.brooklet_model.specs.ByIndex.{cycle, part, within, branch, picked, dealt, item_at, and_more, front_of, size_of}
+
+-- the list from a place on
+pub from_place : {A : Type 0} (xs : List A) (i : ℕ) (x : A) → i < length xs → x ≡ get_or xs i x → drop i xs ≡ x ∷ drop (i + 1) xs
+from_place xs i x lt e = drop-cons xs i x lt ∙ ap (λ y. y ∷ drop (suc i) xs) (sym e) ∙ ap (λ k. x ∷ drop k xs) (let s : suc i ≡ i + 1 = omega arith in s)
+
+-- the element at a place that is there, whatever stands for one that is not
+pub there : {A : Type 0} (xs : List A) (i : ℕ) (d e : A) → i < length xs → get_or xs i d ≡ get_or xs i e
+there [] i d e lt = absurd (omega (arith, lt))
+there (x ∷ xs) zero d e lt = refl
+there (x ∷ xs) (suc i) d e lt = there xs i d e (omega (arith, lt))
+
+-- A CYCLE
+
+pub cycle-from : (ws : List ℕ) (i w : ℕ) → i < length ws → w ≡ get_or ws i w → cycle (drop i ws) ≡ w + cycle (drop (i + 1) ws)
+cycle-from ws i w lt e = ap cycle (from_place ws i w lt e)
+
+pub cycle-none : (ws : List ℕ) (i : ℕ) → length ws ≤ i → cycle (drop i ws) ≡ 0
+cycle-none ws i le = ap cycle (drop_all i ws le)
+
+-- PARTS
+
+-- the place falls where what is left of it falls among the weights that are left
+pub record SpotSoFar (ws : List ℕ) (place i left : ℕ) : Type 0 where
+  pub part : part ws place ≡ i + part (drop i ws) left
+  pub within : within ws place ≡ within (drop i ws) left
+
+pub spot_start : (ws : List ℕ) (place : ℕ) → SpotSoFar ws place 0 place
+spot_start ws place = record { part = omega arith; within = refl }
+
+test_high : (a b : ℕ) → b ≤ a → nat_lt a b ≡ false
+test_high a b le = grind (arith, le)
+
+test_low : (a b : ℕ) → a < b → nat_lt a b ≡ true
+test_low a b lt = grind (arith, lt)
+
+part-over : (w : ℕ) (ws : List ℕ) (left : ℕ) → w ≤ left → part (w ∷ ws) left ≡ suc (part ws (left - w))
+part-over w ws left le = rw (test_high left w le)
+
+within-over : (w : ℕ) (ws : List ℕ) (left : ℕ) → w ≤ left → within (w ∷ ws) left ≡ within ws (left - w)
+within-over w ws left le = rw (test_high left w le)
+
+part-here : (w : ℕ) (ws : List ℕ) (left : ℕ) → left < w → part (w ∷ ws) left ≡ 0
+part-here w ws left lt = rw (test_low left w lt)
+
+within-here : (w : ℕ) (ws : List ℕ) (left : ℕ) → left < w → within (w ∷ ws) left ≡ left
+within-here w ws left lt = rw (test_low left w lt)
+
+pub spot_next : (ws : List ℕ) (place i left w : ℕ) → i < length ws → w ≡ get_or ws i w → w ≤ left → SpotSoFar ws place i left
+    → SpotSoFar ws place (i + 1) (left - w)
+spot_next ws place i left w lt e le f = record {
+  part =
+      let a = f.part in
+      let b : part (drop i ws) left ≡ suc (part (drop (i + 1) ws) (left - w)) = ap (λ l. part l left) (from_place ws i w lt e)
+      ∙ part-over w (drop (i + 1) ws) left le in
+      omega (arith, a, b);
+  within = f.within ∙ ap (λ l. within l left) (from_place ws i w lt e) ∙ within-over w (drop (i + 1) ws) left le;
+}
+
+pub spot_here : (ws : List ℕ) (place i left w : ℕ) → i < length ws → w ≡ get_or ws i w → left < w → SpotSoFar ws place i left
+    → (i ≡ part ws place) × (left ≡ within ws place)
+spot_here ws place i left w lt e low f =
+    let a = f.part in
+    let b : part (drop i ws) left ≡ 0 = ap (λ l. part l left) (from_place ws i w lt e) ∙ part-here w (drop (i + 1) ws) left low in (
+      omega (arith, a, b),
+      sym (f.within ∙ ap (λ l. within l left) (from_place ws i w lt e) ∙ within-here w (drop (i + 1) ws) left low),
+    )
+
+pub spot_end : (ws : List ℕ) (place left : ℕ) → SpotSoFar ws place (length ws) left → (length ws ≡ part ws place) × (0 ≡ within ws place)
+spot_end ws place left f =
+    let none : drop (length ws) ws ≡ [] = drop_all (length ws) ws (omega arith) in
+    let a = f.part in
+    let b : part (drop (length ws) ws) left ≡ 0 = ap (λ l. part l left) none in (
+      omega (arith, a, b),
+      sym (f.within ∙ ap (λ l. within l left) none),
+    )
+
+-- WHAT IS DEALT
+
+-- what was dealt, and what is dealt of the items that are left
+abbrev pub DealtSoFar : List ℕ → ℕ → List ℤ → ℕ → List ℤ → Type 0
+DealtSoFar ws p xs x out = out ++ picked (λ n. nat_eq (branch ws n) p) x (drop x xs) ≡ dealt ws p xs
+
+picked-this : (test : ℕ → Bool) (x : ℕ) (y : ℤ) (ys : List ℤ) → test x ≡ true → picked test x (y ∷ ys) ≡ y ∷ picked test (suc x) ys
+picked-this test x y ys e = rw e
+
+picked-not : (test : ℕ → Bool) (x : ℕ) (y : ℤ) (ys : List ℤ) → test x ≡ false → picked test x (y ∷ ys) ≡ picked test (suc x) ys
+picked-not test x y ys e = rw e
+
+-- the item is this branch's
+pub dealt_this : (ws : List ℕ) (p : ℕ) (xs : List ℤ) (x : ℕ) (out : List ℤ) (y : ℤ) → x < length xs → y ≡ get_or xs x y → nat_eq (branch ws x) p ≡ true
+    → DealtSoFar ws p xs x out → DealtSoFar ws p xs (x + 1) (out ++ y ∷ [])
+dealt_this ws p xs x out y lt e this f =
+    let test = λ (n : ℕ). nat_eq (branch ws n) p in
+    append_assoc out (y ∷ []) (picked test (x + 1) (drop (x + 1) xs))
+    ∙ ap (λ n. out ++ (y ∷ picked test n (drop (x + 1) xs))) (let s : x + 1 ≡ suc x = omega arith in s)
+    ∙ ap (λ l. out ++ l) (sym (picked-this test x y (drop (x + 1) xs) this))
+    ∙ ap (λ l. out ++ picked test x l) (sym (from_place xs x y lt e))
+    ∙ f
+
+-- it is another's
+pub dealt_other : (ws : List ℕ) (p : ℕ) (xs : List ℤ) (x : ℕ) (out : List ℤ) (y : ℤ) → x < length xs → y ≡ get_or xs x y → nat_eq (branch ws x) p ≡ false
+    → DealtSoFar ws p xs x out → DealtSoFar ws p xs (x + 1) out
+dealt_other ws p xs x out y lt e this f =
+    let test = λ (n : ℕ). nat_eq (branch ws n) p in
+    ap (λ n. out ++ picked test n (drop (x + 1) xs)) (let s : x + 1 ≡ suc x = omega arith in s)
+    ∙ ap (λ l. out ++ l) (sym (picked-not test x y (drop (x + 1) xs) this))
+    ∙ ap (λ l. out ++ picked test x l) (sym (from_place xs x y lt e))
+    ∙ f
+
+pub dealt_end : (ws : List ℕ) (p : ℕ) (xs : List ℤ) (x : ℕ) (out : List ℤ) → length xs ≤ x → DealtSoFar ws p xs x out → out ≡ dealt ws p xs
+dealt_end ws p xs x out le f =
+    let test = λ (n : ℕ). nat_eq (branch ws n) p in
+    sym (append-nil out) ∙ ap (λ l. out ++ picked test x l) (sym (drop_all x xs le)) ∙ f
+
+-- WHAT IS COLLECTED
+
+-- what was collected, and what is collected from place x on
+abbrev pub CollectedSoFar : List ℕ → List (List ℤ) → ℕ → ℕ → List ℤ → Type 0
+CollectedSoFar ws ls size x out = out ++ front_of (item_at ws ls) (size - x) x ≡ front_of (item_at ws ls) size 0
+
+one_less : (size x : ℕ) → x < size → size - x ≡ suc (size - (x + 1))
+one_less size x lt = omega (arith, lt)
+
+pub collected_more : (ws : List ℕ) (ls : List (List ℤ)) (size x : ℕ) (out : List ℤ) (y : ℤ) → x < size → item_at ws ls x ≡ Some y
+    → CollectedSoFar ws ls size x out → CollectedSoFar ws ls size (x + 1) (out ++ y ∷ [])
+collected_more ws ls size x out y lt e f =
+    let at = item_at ws ls in
+    append_assoc out (y ∷ []) (front_of at (size - (x + 1)) (x + 1))
+    ∙ ap (λ n. out ++ (y ∷ front_of at (size - (x + 1)) n)) (let s : x + 1 ≡ suc x = omega arith in s)
+    ∙ ap (λ o. out ++ and_more o (front_of at (size - (x + 1)) (suc x))) (sym e)
+    ∙ ap (λ n. out ++ front_of at n x) (sym (one_less size x lt))
+    ∙ f
+
+pub collected_none : (ws : List ℕ) (ls : List (List ℤ)) (size x : ℕ) (out : List ℤ) → x < size → item_at ws ls x ≡ None → CollectedSoFar ws ls size x out
+    → out ≡ front_of (item_at ws ls) size 0
+collected_none ws ls size x out lt e f =
+    let at = item_at ws ls in
+    sym (append-nil out)
+    ∙ ap (λ o. out ++ and_more o (front_of at (size - (x + 1)) (suc x))) (sym e)
+    ∙ ap (λ n. out ++ front_of at n x) (sym (one_less size x lt))
+    ∙ f
+
+pub collected_end : (ws : List ℕ) (ls : List (List ℤ)) (size x : ℕ) (out : List ℤ) → size ≤ x → CollectedSoFar ws ls size x out
+    → out ≡ front_of (item_at ws ls) size 0
+collected_end ws ls size x out le f =
+    sym (append-nil out) ∙ ap (λ n. out ++ front_of (item_at ws ls) n x) (let z : 0 ≡ size - x = omega (arith, le) in z) ∙ f
+
+-- how many items the lists have that are left
+pub size-from : (ls : List (List ℤ)) (i : ℕ) (l : List ℤ) → i < length ls → l ≡ get_or ls i l → size_of (drop i ls) ≡ length l + size_of (drop (i + 1) ls)
+size-from ls i l lt e = ap size_of (from_place ls i l lt e)
+
+pub size-none : (ls : List (List ℤ)) (i : ℕ) → length ls ≤ i → size_of (drop i ls) ≡ 0
+size-none ls i le = ap size_of (drop_all i ls le)
