@@ -7,6 +7,7 @@ pub mod Remains
 pub mod Searches
 pub mod ShareLemmas
 pub mod UseLemmas
+pub mod UserCounts
 pub mod UserLemmas
 pub mod ValidLaw
 pub mod WiredLemmas

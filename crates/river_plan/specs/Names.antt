@@ -24,8 +24,3 @@ pub record SameNames (ws vs : List Name) : Type 0 where
 -- at most once, and never where it is given
 abbrev pub IsUsedOnce : (given uses : ℕ) → Type 0
 IsUsedOnce given uses = (uses ≤ 1) × (0 < given → uses ≡ 0)
-
--- the names that are used twice, or that are given and used
-pub record AreDoubled (given uses names : List Name) : Type 0 where
-  pub there : (q : Name) → 0 < count q names → IsUsedOnce (count q given) (count q uses) → ⊥
-  pub back : (q : Name) → count q names ≡ 0 → IsUsedOnce (count q given) (count q uses)

@@ -37,18 +37,6 @@ pub(crate) fn first_missing(names: &Names, set: &NameSet) -> Option<Name>
     None
 }
 
-/// The first name that is in the set.
-pub(crate) fn first_member(names: &Names, set: &NameSet) -> Option<Name>
-    ensures { IsFirst (λ before w. count w set.now ≡ 0) names.now result }
-{
-    for name in names.as_slice() {
-        if set.contains(*name) {
-            return Some(*name);
-        }
-    }
-    None
-}
-
 /// The set of these names.
 pub(crate) fn set_of(alloc: Global, names: &Names) -> Result<NameSet, NoMemory>
     ensures { IfOk result (λ set. SameNames set names.now) }
