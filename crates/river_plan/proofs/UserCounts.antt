@@ -1,50 +1,55 @@
 -- What the users of places say of names.
-use Rattle.std.proofs.Common.{◌≡◌, ℕ, zero, suc, ◌+◌, ◌<◌, ◌≤◌, List, [], ◌∷◌, ◌++◌, Option, Some, None, length, map, refl, sym, ap, ◌∙◌, subst, arith, append_assoc, append-nil, length-append, ⊎_elim}
+use Rattle.std.proofs.Common.{◌≡◌, ℕ, zero, suc, ◌+◌, ◌<◌, ◌≤◌, List, [], ◌∷◌, ◌++◌, Option, Some, None, length, map, refl, sym, ap, ◌∙◌, subst, arith, append_assoc, length-append, ⊎_elim}
 use Rattle.std.specs.Prelude.{slice_get, slice_index}
 use Rattle.std.specs.List.{AllByRecursion}
 use Rattle.std.specs.List.Sorted.{IsStrictlyIncreasing}
-use Rattle.std.proofs.lemmas.List.{length-map}
 use Rattle.river_base.specs.Name.{name_eq}
-use Rattle.river_base.specs.Places.{only, list_at}
+use Rattle.river_base.specs.Places.{only}
 use Rattle.river_base.proofs.PlaceLemmas.{only_same, only_other}
-use Rattle.river_plan.specs.Forms.{Name, OpForm, PlanForm, decl_names, table_names, queue_names, variable_names}
-use Rattle.river_plan.specs.Names.{count, one_if, IsUsedOnce}
-use Rattle.river_plan.specs.Uses.{Each, total, writes_it, reads_it, vars_it}
-use Rattle.river_plan.specs.Places.{place, places, as_often, users_from, users}
-use Rattle.river_plan.specs.ByUsers.{IsOnceAt, IsApartAt}
+use Rattle.river_plan.specs.Forms.{Name, OpForm}
+use Rattle.river_plan.specs.Names.{count, one_if}
+use Rattle.river_plan.specs.Uses.{Each, total, vars_it}
+use Rattle.river_plan.specs.Places.{place, places, as_often, users_from}
+use Rattle.river_plan.specs.ByUsers.{IsBefore}
 use Rattle.river_plan.specs.First.{Unless, Along, IsFirst}
-use Rattle.river_plan.specs.Faults.{IsApart}
-use Rattle.river_plan.specs.declared.wiring.Wiring.{Wiring}
-use Rattle.river_plan.specs.Wired.{AreNamed, IsWired}
 use Rattle.river_plan.proofs.NameLemmas.{cases_name, count-append, name_same, one_same, more_or_zero}
 use Rattle.river_plan.proofs.PlaceLemmas.{place-here, place-past, place_at, place_below, place_front, place_back, some_is}
 use Rattle.river_plan.proofs.Searches.{or_else-cong, unless-cong}
-use Rattle.river_plan.proofs.UserLemmas.{users-there}
-use Rattle.river_plan.proofs.ValidLaw.{names-once}
 
--- A SEARCH BY PLACES IS ONE BY NAMES
+-- A SEARCH BY PLACES IS ONE BY ELEMENTS
 
-module _ (names : List Name) (P : ℕ → Type 0) (Q : Name → Type 0) (once : (q : Name) → count q names ≤ 1)
-    (there : (q : Name) → 0 < count q names → P (place names q) → Q q) (back : (q : Name) → 0 < count q names → Q q → P (place names q)) where
-  standing : (before xs : List Name) (x : Name) → before ++ x ∷ xs ≡ names → (0 < count x names) × (place names x ≡ length before)
-  standing before xs x e =
-      let c = ap (count x) (sym e) ∙ count-append x before (x ∷ xs) in
-      let o = once x in
-      let s = one_same x in
-      let z : count x before ≡ 0 = omega (arith, c, o, s) in
-      let f = ap (λ l. place l x) (sym e) ∙ place_back before (x ∷ xs) x z in
-      let g = place-here x xs x (name_same x) in
-      (omega (arith, c, s), omega (arith, f, g))
+pub placed : {A : Type 0} (zs : List A) (P : ℕ → Type 0) (Q : A → Type 0) → ((before xs : List A) (x : A) → before ++ x ∷ xs ≡ zs → (P (length before) → Q x) × (Q x → P (length before)))
+    → (before xs : List A) → before ++ xs ≡ zs → (o : Option A) → Along (λ b y. Unless (P (length b)) y) before xs o → Along (λ b y. Unless (Q y) y) before xs o
+placed zs P Q same before [] e None h = tt
+placed zs P Q same before [] e (Some q) h = h
+placed zs P Q same before (x ∷ xs) e o h =
+    let s = same before xs x e in
+    or_else-cong (Unless (P (length before)) x) (Unless (Q x) x) (Along (λ b y. Unless (P (length b)) y) (before ++ x ∷ []) xs) (Along (λ b y. Unless (Q y) y) (before ++ x ∷ []) xs)
+    (unless-cong (P (length before)) (Q x) x s.0 s.1)
+    (placed zs P Q same (before ++ x ∷ []) xs (append_assoc before (x ∷ []) xs ∙ e))
+    o h
 
-  placed : (before xs : List Name) → before ++ xs ≡ names → (o : Option Name) → Along (λ b y. Unless (P (length b)) y) before xs o → Along (λ b y. Unless (Q y) y) before xs o
-  placed before [] e None h = tt
-  placed before [] e (Some q) h = h
-  placed before (x ∷ xs) e o h =
-      let s = standing before xs x e in
-      or_else-cong (Unless (P (length before)) x) (Unless (Q x) x) (Along (λ b y. Unless (P (length b)) y) (before ++ x ∷ []) xs) (Along (λ b y. Unless (Q y) y) (before ++ x ∷ []) xs)
-      (unless-cong (P (length before)) (Q x) x (λ p. there x s.0 (subst P (sym s.1) p)) (λ q. subst P s.1 (back x s.0 q)))
-      (placed (before ++ x ∷ []) xs (append_assoc before (x ∷ []) xs ∙ e))
-      o h
+-- a name that stands once stands at its place
+standing : (names : List Name) → ((q : Name) → count q names ≤ 1) → (before xs : List Name) (x : Name) → before ++ x ∷ xs ≡ names → (0 < count x names) × (place names x ≡ length before)
+standing names once before xs x e =
+    let c = ap (count x) (sym e) ∙ count-append x before (x ∷ xs) in
+    let o = once x in
+    let s = one_same x in
+    let z : count x before ≡ 0 = omega (arith, c, o, s) in
+    let f = ap (λ l. place l x) (sym e) ∙ place_back before (x ∷ xs) x z in
+    let g = place-here x xs x (name_same x) in
+    (omega (arith, c, s), omega (arith, f, g))
+
+pub placed_names : (names : List Name) (P : ℕ → Type 0) (Q : Name → Type 0) → ((q : Name) → count q names ≤ 1)
+    → ((q : Name) → 0 < count q names → P (place names q) → Q q) → ((q : Name) → 0 < count q names → Q q → P (place names q))
+    → (o : Option Name) → IsFirst (λ b q. P (length b)) names o → IsFirst (λ b q. Q q) names o
+placed_names names P Q once there back = placed names P Q (λ before xs x e. let s = standing names once before xs x e in
+    ((λ p. there x s.0 (subst P (sym s.1) p)), (λ q. subst P s.1 (back x s.0 q)))) [] names refl
+
+-- the place of a name stands where the name stands
+pub place_there : (names b xs : List Name) (r : Name) → slice_index (places names (b ++ r ∷ xs)) (length b) ≡ place names r
+place_there names [] xs r = refl
+place_there names (x ∷ b) xs r = place_there names b xs r
 
 -- USERS, COUNTED
 
@@ -127,7 +132,7 @@ module _ (n : ℕ) (rest : List ℕ) where
   parts-rising (x ∷ y ∷ ys) a b le h = absurd (omega (arith, le))
 
 module _ (names : List Name) (v : Name) (lt : 0 < count v names) where
-  rising-each : (ops : List OpForm) (n : ℕ) → IsStrictlyIncreasing (users_from n (map (λ op. places names op.vars) ops) (place names v)) → Each (λ op. vars_it v op ≤ 1) ops
+  pub rising-each : (ops : List OpForm) (n : ℕ) → IsStrictlyIncreasing (users_from n (map (λ op. places names op.vars) ops) (place names v)) → Each (λ op. vars_it v op ≤ 1) ops
   rising-each [] n h = tt
   rising-each (op ∷ ops) n h =
       let us = as_often (places names op.vars) n (place names v) in
@@ -136,7 +141,7 @@ module _ (names : List Name) (v : Name) (lt : 0 < count v names) where
       let le = p.0 in
       (omega (arith, c, le), rising-each ops (suc n) p.1)
 
-  each-rising : (ops : List OpForm) (n : ℕ) → Each (λ op. vars_it v op ≤ 1) ops → IsStrictlyIncreasing (users_from n (map (λ op. places names op.vars) ops) (place names v))
+  pub each-rising : (ops : List OpForm) (n : ℕ) → Each (λ op. vars_it v op ≤ 1) ops → IsStrictlyIncreasing (users_from n (map (λ op. places names op.vars) ops) (place names v))
   each-rising [] n h = λ k l. absurd (omega (arith, l))
   each-rising (op ∷ ops) n h =
       let us = as_often (places names op.vars) n (place names v) in
@@ -145,11 +150,46 @@ module _ (names : List Name) (v : Name) (lt : 0 < count v names) where
       parts-rising n (users_from (suc n) (map (λ o. places names o.vars) ops) (place names v)) us (often-one (places names op.vars) n (place names v))
       (users-least (suc n) (map (λ o. places names o.vars) ops) (place names v)) (omega (arith, c, le)) (each-rising ops (suc n) h.1)
 
+-- USERS BEFORE OTHERS
+
+-- the first user of a name comes before some operators exactly where one of these uses it
+module _ (names : List Name) (q : Name) (lt : 0 < count q names) (f : OpForm → List Name) (after : List OpForm) where
+  abbrev pub uses_from : ℕ → List OpForm → List ℕ
+  uses_from n ops = users_from n (map (λ op. places names (f op)) ops) (place names q)
+
+  -- the users of one operator, each of number n, before those of the others
+  used-before : (n m t : ℕ) (rest us : List ℕ) → AllByRecursion (λ y. y ≡ n) us → n < m → (0 < t → IsBefore m rest) → 0 < length us + t → IsBefore m (us ++ rest)
+  used-before n m t rest [] a l h u = h (omega (arith, u))
+  used-before n m t rest (x ∷ us) a l h u = omega (arith, a.0, l)
+
+  before-used : (m t : ℕ) (rest us : List ℕ) → (IsBefore m rest → 0 < t) → IsBefore m (us ++ rest) → 0 < length us + t
+  before-used m t rest [] h b = let u = h b in omega (arith, u)
+  before-used m t rest (x ∷ us) h b = omega arith
+
+  none-before : (m : ℕ) (us : List ℕ) → AllByRecursion (λ y. m ≤ y) us → IsBefore m us → ⊥
+  none-before m [] a b = b
+  none-before m (x ∷ us) a b = omega (arith, a.0, b)
+
+  pub written-before : (before : List OpForm) (n m : ℕ) → m ≡ n + length before → 0 < total (λ op. count q (f op)) before → IsBefore m (uses_from n (before ++ after))
+  written-before [] n m e u = absurd (omega (arith, u))
+  written-before (op ∷ ops) n m e u =
+      let c = often-count names q lt (f op) n in
+      used-before n m (total (λ o. count q (f o)) ops) (uses_from (suc n) (ops ++ after)) (as_often (places names (f op)) n (place names q)) (often-one (places names (f op)) n (place names q))
+      (omega (arith, e)) (written-before ops (suc n) m (omega (arith, e))) (omega (arith, c, u))
+
+  pub before-written : (before : List OpForm) (n m : ℕ) → m ≡ n + length before → IsBefore m (uses_from n (before ++ after)) → 0 < total (λ op. count q (f op)) before
+  before-written [] n m e b = absurd (none-before m (uses_from n after)
+      (all-weaker (λ y. n ≤ y) (λ y. m ≤ y) (λ y h. omega (arith, e, h)) (uses_from n after) (users-least n (map (λ op. places names (f op)) after) (place names q))) b)
+  before-written (op ∷ ops) n m e b =
+      let c = often-count names q lt (f op) n in
+      let u = before-used m (total (λ o. count q (f o)) ops) (uses_from (suc n) (ops ++ after)) (as_often (places names (f op)) n (place names q)) (before-written ops (suc n) m (omega (arith, e))) b in
+      omega (arith, c, u)
+
 -- NAMES BETWEEN OTHERS
 
 module _ (us bs cs : List Name) (q : Name) where
   -- a name of the middle list has a place there
-  middle_place : count q (us ++ (bs ++ cs)) ≤ 1 → 0 < count q bs → (length us ≤ place (us ++ (bs ++ cs)) q) × (place (us ++ (bs ++ cs)) q < length us + length bs)
+  pub middle_place : count q (us ++ (bs ++ cs)) ≤ 1 → 0 < count q bs → (length us ≤ place (us ++ (bs ++ cs)) q) × (place (us ++ (bs ++ cs)) q < length us + length bs)
   middle_place o lt =
       let a = count-append q us (bs ++ cs) in
       let b = count-append q bs cs in
@@ -159,7 +199,7 @@ module _ (us bs cs : List Name) (q : Name) where
       (omega (arith, p), omega (arith, p, r, s))
 
   -- a name whose place is there is one of them
-  place_middle : 0 < count q (us ++ (bs ++ cs)) → length us ≤ place (us ++ (bs ++ cs)) q → place (us ++ (bs ++ cs)) q < length us + length bs → 0 < count q bs
+  pub place_middle : 0 < count q (us ++ (bs ++ cs)) → length us ≤ place (us ++ (bs ++ cs)) q → place (us ++ (bs ++ cs)) q < length us + length bs → 0 < count q bs
   place_middle l le lt = ⊎_elim
       (λ i. absurd (let f = place_front us (bs ++ cs) q i in let s = place_below us q i in omega (arith, f, s, le)))
       (λ z. ⊎_elim
@@ -167,85 +207,3 @@ module _ (us bs cs : List Name) (q : Name) where
       (λ y. absurd (let p = place_back us (bs ++ cs) q z in let r = place_back bs cs q y in omega (arith, p, r, lt)))
       (more_or_zero (count q bs)))
       (more_or_zero (count q us))
-
--- THE FAULTS
-
--- the users of a name, at its place
-used_at : (names : List Name) (ls all : List (List ℕ)) (q : Name) → all ≡ users (length names) ls → 0 < count q names → list_at all (place names q) ≡ users_from 0 ls (place names q)
-used_at names ls all q e lt = users-there (length names) (place names q) ls all [] e (place_below names q lt)
-
-once-first : (us bs cs : List Name) (f : OpForm → List Name) (ops : List OpForm) (all : List (List ℕ))
-    → ((q : Name) → count q (us ++ (bs ++ cs)) ≤ 1) → all ≡ users (length (us ++ (bs ++ cs))) (map (λ op. places (us ++ (bs ++ cs)) (f op)) ops)
-    → (o : Option Name) → IsFirst (λ b q. IsOnceAt (length us) (length bs) (length b) (length (list_at all (length b)))) (us ++ (bs ++ cs)) o
-    → IsFirst (λ b q. IsUsedOnce (count q bs) (total (λ op. count q (f op)) ops)) (us ++ (bs ++ cs)) o
-once-first us bs cs f ops all once e o h =
-    placed names (λ i. IsOnceAt (length us) (length bs) i (length (list_at all i))) (λ q. IsUsedOnce (count q bs) (total (λ op. count q (f op)) ops)) once there back [] names refl o h
-  where
-    names : List Name
-    names = us ++ (bs ++ cs)
-
-    uses : (q : Name) → 0 < count q names → length (list_at all (place names q)) ≡ total (λ op. count q (f op)) ops
-    uses q lt = ap length (used_at names (map (λ op. places names (f op)) ops) all q e lt) ∙ users-count names q lt f ops 0
-
-    there : (q : Name) → 0 < count q names → IsOnceAt (length us) (length bs) (place names q) (length (list_at all (place names q))) → IsUsedOnce (count q bs) (total (λ op. count q (f op)) ops)
-    there q lt g = let u = uses q lt in let a = g.0 in (omega (arith, u, a), λ i. let m = middle_place us bs cs q (once q) i in let z = g.1 m.0 m.1 in omega (arith, u, z))
-
-    back : (q : Name) → 0 < count q names → IsUsedOnce (count q bs) (total (λ op. count q (f op)) ops) → IsOnceAt (length us) (length bs) (place names q) (length (list_at all (place names q)))
-    back q lt g = let u = uses q lt in let a = g.0 in (omega (arith, u, a), λ le l. let z = g.1 (place_middle us bs cs q lt le l) in omega (arith, u, z))
-
--- the first queue that is written twice, or that is an input and written
-pub written_first : (p : PlanForm) (w : Wiring) (names : List Name) (outputs inputs : ℕ) → AreNamed p → IsWired p w → names ≡ queue_names p → outputs ≡ length p.outputs → inputs ≡ length p.inputs
-    → (o : Option Name) → IsFirst (λ b q. IsOnceAt outputs inputs (length b) (length (list_at w.writes.by_place (length b)))) names o
-    → IsFirst (λ b q. IsUsedOnce (count q (decl_names p.inputs)) (total (writes_it q) p.ops)) (queue_names p) o
-written_first p w names outputs inputs n h e a b o g =
-    once-first (decl_names p.outputs) (decl_names p.inputs) (decl_names p.queues) (λ op. op.writes) p.ops w.writes.by_place (names-once (queue_names p) n.0.0) h.writes.by_place o
-    (subst (λ i. IsFirst (λ b q. IsOnceAt i (length (decl_names p.inputs)) (length b) (length (list_at w.writes.by_place (length b)))) (queue_names p) o) (a ∙ sym (length-map p.outputs (λ d. d.name)))
-    (subst (λ i. IsFirst (λ b q. IsOnceAt outputs i (length b) (length (list_at w.writes.by_place (length b)))) (queue_names p) o) (b ∙ sym (length-map p.inputs (λ d. d.name)))
-    (subst (λ l. IsFirst (λ b q. IsOnceAt outputs inputs (length b) (length (list_at w.writes.by_place (length b)))) l o) e g)))
-
--- the first queue that is read twice, or that is an output and read
-pub read_first : (p : PlanForm) (w : Wiring) (names : List Name) (outputs : ℕ) → AreNamed p → IsWired p w → names ≡ queue_names p → outputs ≡ length p.outputs
-    → (o : Option Name) → IsFirst (λ b q. IsOnceAt 0 outputs (length b) (length (list_at w.reads.by_place (length b)))) names o
-    → IsFirst (λ b q. IsUsedOnce (count q (decl_names p.outputs)) (total (reads_it q) p.ops)) (queue_names p) o
-read_first p w names outputs n h e a o g =
-    once-first [] (decl_names p.outputs) (decl_names p.inputs ++ decl_names p.queues) (λ op. op.reads) p.ops w.reads.by_place (names-once (queue_names p) n.0.0) h.reads.by_place o
-    (subst (λ i. IsFirst (λ b q. IsOnceAt 0 i (length b) (length (list_at w.reads.by_place (length b)))) (queue_names p) o) (a ∙ sym (length-map p.outputs (λ d. d.name)))
-    (subst (λ l. IsFirst (λ b q. IsOnceAt 0 outputs (length b) (length (list_at w.reads.by_place (length b)))) l o) e g))
-
--- the first variable that stands twice in one operator, or that is private and stands in two
-pub shared_first : (p : PlanForm) (w : Wiring) (names : List Name) (tables : ℕ) → AreNamed p → IsWired p w → names ≡ variable_names p → tables ≡ length p.tables
-    → (o : Option Name) → IsFirst (λ b v. IsApartAt tables (length b) (list_at w.vars.by_place (length b))) names o → IsFirst (λ b v. IsApart p v) (variable_names p) o
-shared_first p w names tables n h e a o g =
-    placed (variable_names p) (λ i. IsApartAt (length ts) i (list_at w.vars.by_place i)) (IsApart p) once there back [] (variable_names p) refl o
-    (subst (λ i. IsFirst (λ b v. IsApartAt i (length b) (list_at w.vars.by_place (length b))) (variable_names p) o) (a ∙ sym (length-map p.tables (λ t. t.name)))
-    (subst (λ l. IsFirst (λ b v. IsApartAt tables (length b) (list_at w.vars.by_place (length b))) l o) e g))
-  where
-    ts : List Name
-    ts = table_names p.tables
-
-    ls : List (List ℕ)
-    ls = map (λ op. places (variable_names p) op.vars) p.ops
-
-    once : (v : Name) → count v (variable_names p) ≤ 1
-    once = names-once (variable_names p) n.0.1.0
-
-    at : (v : Name) → 0 < count v (variable_names p) → list_at w.vars.by_place (place (variable_names p) v) ≡ users_from 0 ls (place (variable_names p) v)
-    at v lt = used_at (variable_names p) ls w.vars.by_place v h.vars.by_place lt
-
-    uses : (v : Name) → 0 < count v (variable_names p) → length (list_at w.vars.by_place (place (variable_names p) v)) ≡ total (vars_it v) p.ops
-    uses v lt = ap length (at v lt) ∙ users-count (variable_names p) v lt (λ op. op.vars) p.ops 0
-
-    there : (v : Name) → 0 < count v (variable_names p) → IsApartAt (length ts) (place (variable_names p) v) (list_at w.vars.by_place (place (variable_names p) v)) → IsApart p v
-    there v lt k = (
-      rising-each (variable_names p) v lt p.ops 0 (subst IsStrictlyIncreasing (at v lt) k.0),
-      λ i. let u = uses v lt in let c = count-append v ts p.vars in let l = once v in let b = place_back ts p.vars v (omega (arith, c, l, i)) in let m = k.1 (omega (arith, b)) in omega (arith, u, m),
-    )
-
-    back : (v : Name) → 0 < count v (variable_names p) → IsApart p v → IsApartAt (length ts) (place (variable_names p) v) (list_at w.vars.by_place (place (variable_names p) v))
-    back v lt k = (
-      subst IsStrictlyIncreasing (sym (at v lt)) (each-rising (variable_names p) v lt p.ops 0 k.0),
-      λ le. let u = uses v lt in let c = count-append v ts p.vars in let m = k.1 (⊎_elim
-          (λ i. absurd (let f = place_front ts p.vars v i in let s = place_below ts v i in omega (arith, f, s, le)))
-          (λ z. omega (arith, c, lt, z))
-          (more_or_zero (count v ts))) in omega (arith, u, m),
-    )

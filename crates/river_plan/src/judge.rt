@@ -53,7 +53,7 @@ fn later_fault(alloc: Global, raw: &RawPlan, wiring: &Wiring) -> Result<Option<P
     if let Some(name) = read_twice(alloc, raw, wiring)? {
         return Ok(Some(PlanFault::P4(name)));
     }
-    if let Some(name) = read_too_early(alloc, raw)? {
+    if let Some(name) = read_too_early(raw, wiring) {
         return Ok(Some(PlanFault::P5(name)));
     }
     if let Some(name) = mistyped(raw) {

@@ -38,15 +38,6 @@ pub(crate) fn labels(alloc: Global, ops: &Ops) -> Result<Names, NoMemory>
     Ok(names)
 }
 
-/// The names of these declarations.
-pub(crate) fn names_of(alloc: Global, decls: &Decls) -> Result<Names, NoMemory>
-    ensures { IfOk result (λ names. names ≡ decl_names decls.now) }
-{
-    let mut names = Names::new(alloc);
-    add_decls(&mut names, decls)?;
-    Ok(names)
-}
-
 // Appends the names of these declarations.
 fn add_decls(names: &mut Names, decls: &Decls) -> Result<(), NoMemory>
     ensures { OnOk result (names.new ≡ names.old ++ decl_names decls.now) }

@@ -7,7 +7,7 @@ use Rattle.river_plan.specs.Faults.{ReadTwice}
 use Rattle.river_plan.specs.First.{IsFirst}
 use Rattle.river_plan.specs.declared.fault.Named.TheVariants.{Queue}
 use Rattle.river_plan.proofs.Searches.{as-map}
-use Rattle.river_plan.proofs.UserCounts.{read_first}
+use Rattle.river_plan.proofs.PlacedFaults.{read_first}
 use Rattle.river_plan.proofs.UserLemmas.{users-length}
 use Rattle.river_plan.proofs.once.read_twice.Goals as goal
 

@@ -1,11 +1,11 @@
-use Rattle.std.proofs.Common.{◌≡◌, length, subst, sym, ap, ◌∙◌, arith}
+use Rattle.std.proofs.Common.{subst, sym}
 use Rattle.river_plan.specs.Forms.{plan_form, variable_names}
 use Rattle.river_plan.specs.Places.{var_places}
 use Rattle.river_plan.specs.Faults.{Shared, IsApart}
 use Rattle.river_plan.specs.First.{IsFirst}
 use Rattle.river_plan.specs.declared.fault.Named.TheVariants.{Variable}
 use Rattle.river_plan.proofs.Searches.{as-map}
-use Rattle.river_plan.proofs.UserCounts.{shared_first}
+use Rattle.river_plan.proofs.PlacedFaults.{shared_first}
 use Rattle.river_plan.proofs.UserLemmas.{users-length}
 use Rattle.river_plan.proofs.once.shared.Goals as goal
 

@@ -7,7 +7,7 @@ use Rattle.river_plan.specs.Faults.{WrittenTwice}
 use Rattle.river_plan.specs.First.{IsFirst}
 use Rattle.river_plan.specs.declared.fault.Named.TheVariants.{Queue}
 use Rattle.river_plan.proofs.Searches.{as-map}
-use Rattle.river_plan.proofs.UserCounts.{written_first}
+use Rattle.river_plan.proofs.PlacedFaults.{written_first}
 use Rattle.river_plan.proofs.UserLemmas.{users-length}
 use Rattle.river_plan.proofs.once.written_twice.Goals as goal
 
