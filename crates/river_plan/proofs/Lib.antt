@@ -3,10 +3,11 @@ pub mod NameLemmas
 pub mod OneFirst
 pub mod OverLemmas
 pub mod PlaceLemmas
+pub mod PlacedFaults
 pub mod Remains
 pub mod Searches
 pub mod ShareLemmas
-pub mod UseLemmas
+pub mod UserCounts
 pub mod UserLemmas
 pub mod ValidLaw
 pub mod WiredLemmas

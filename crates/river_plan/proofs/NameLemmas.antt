@@ -1,14 +1,14 @@
 -- Names, and how often they stand in lists.
 use Rattle.std.proofs.lemmas.Bool.Decides.{nat_tests}
 use borrow.Author.Tests.{ltb-true}
-use Rattle.std.proofs.lemmas.List.{take_more, take_all}
-use Rattle.std.proofs.Common.{zero, suc, IsTrue, not, length, take, get_or, append_assoc, append-nil, ◌≡◌, ℕ, ◌+◌, ◌<◌, ◌≤◌, ◌⊎◌, inl, inr, Bool, true, false, List, [], ◌∷◌, ◌++◌, refl, sym, ap, ◌∙◌, subst, arith, ⊎_elim}
+use Rattle.std.proofs.lemmas.List.{take_more}
+use Rattle.std.proofs.Common.{zero, suc, IsTrue, not, length, take, get_or, ◌≡◌, ℕ, ◌+◌, ◌<◌, ◌⊎◌, inl, inr, Bool, true, false, List, [], ◌∷◌, ◌++◌, refl, sym, ap, ◌∙◌, subst, arith, ⊎_elim}
 use Rattle.std.specs.Prelude.{if◌then◌else◌, nat_lt}
 use Rattle.std.specs.List.{list_any}
 use Rattle.std.proofs.lemmas.Bool.{cases_eq}
 use Rattle.river_base.specs.Name.{name_eq}
 use Rattle.river_plan.specs.Forms.{Name}
-use Rattle.river_plan.specs.Names.{one_if, count, with_name, SameNames}
+use Rattle.river_plan.specs.Names.{one_if, count, with_name}
 
 pub name_same : (a : Name) → name_eq a a ≡ true
 name_same [] = refl
@@ -78,49 +78,9 @@ nat_zero {n = n} h = omega (arith, h)
 pub not_false : IsTrue false → ⊥
 not_false h = cc h
 
-pub same_refl : (ws : List Name) → SameNames ws ws
-same_refl ws = record { there = λ q h. h; back = λ q h. h }
-
--- a name more makes no difference where it was there
-pub with_name-same : (ws : List Name) (w : Name) → SameNames (with_name ws w) (ws ++ w ∷ [])
-with_name-same ws w = ⊎_elim
-    (λ t. subst (λ (l : List Name). SameNames l (ws ++ w ∷ [])) (sym (ap (λ b. if b then ws else ws ++ w ∷ []) t)) (record {
-      there = λ q h. let e = count-append q ws (w ∷ []) in omega (arith, e, h);
-      back = λ q h. let e = count-append q ws (w ∷ []) in ⊎_elim
-          (λ c. let z : 0 < count w ws = ltb-true 0 (count w ws) t in subst (λ x. 0 < count x ws) c.0 z)
-          (λ c. let o = ap one_if c.1 in omega (arith, e, o, h))
-          (cases_name w q);
-    }))
-    (λ f. subst (λ (l : List Name). SameNames l (ws ++ w ∷ [])) (sym (ap (λ b. if b then ws else ws ++ w ∷ []) f)) (same_refl (ws ++ w ∷ [])))
-    (cases_bool (nat_lt 0 (count w ws)))
-
 pub more_or_zero : (n : ℕ) → (0 < n) ⊎ (n ≡ 0)
 more_or_zero zero = inr refl
 more_or_zero (suc n) = inl (omega arith)
-
-pub same-append : (ws vs us : List Name) → SameNames ws vs → SameNames (ws ++ us) (vs ++ us)
-same-append ws vs us s = record {
-  there = λ q h. let a = count-append q ws us in let b = count-append q vs us in
-      ⊎_elim (λ lt. let t = s.there q lt in omega (arith, a, b, t)) (λ z. omega (arith, a, b, z, h)) (more_or_zero (count q ws));
-  back = λ q h. let a = count-append q ws us in let b = count-append q vs us in
-      ⊎_elim (λ lt. let t = s.back q lt in omega (arith, a, b, t)) (λ z. omega (arith, a, b, z, h)) (more_or_zero (count q vs));
-}
-
-pub same-trans : (ws vs us : List Name) → SameNames ws vs → SameNames vs us → SameNames ws us
-same-trans ws vs us s t = record { there = λ q h. t.there q (s.there q h); back = λ q h. s.back q (t.back q h) }
-
--- a loop that adds names to a set: its start, its step and its end
-pub same-start : (ws : List Name) → SameNames ws (ws ++ [])
-same-start ws = subst (λ (l : List Name). SameNames ws l) (sym (append-nil ws)) (same_refl ws)
-
-pub same-next : (ws set set' xs : List Name) (i : ℕ) (x : Name) → set' ≡ with_name set x → i < length xs → x ≡ get_or xs i x → SameNames set (ws ++ take i xs) → SameNames set' (ws ++ take (i + 1) xs)
-same-next ws set set' xs i x e lt g s =
-    subst (λ (l : List Name). SameNames set' l) (append_assoc ws (take i xs) (x ∷ []) ∙ ap (λ l. ws ++ l) (ap (λ y. take i xs ++ y ∷ []) g ∙ sym (take_more xs i x lt)))
-    (subst (λ (l : List Name). SameNames l ((ws ++ take i xs) ++ x ∷ [])) (sym e)
-    (same-trans (with_name set x) (set ++ x ∷ []) ((ws ++ take i xs) ++ x ∷ []) (with_name-same set x) (same-append set (ws ++ take i xs) (x ∷ []) s)))
-
-pub same-end : (ws set xs ys : List Name) (i : ℕ) → length xs ≤ i → xs ≡ ys → SameNames set (ws ++ take i xs) → SameNames set (ws ++ ys)
-same-end ws set xs ys i le e s = subst (λ (l : List Name). SameNames set (ws ++ l)) (take_all i xs le ∙ e) s
 
 -- a name that is not there yet comes behind the others
 pub with_name-new : (ws : List Name) (w : Name) → count w ws ≡ 0 → with_name ws w ≡ ws ++ w ∷ []

@@ -43,10 +43,10 @@ place-found names keys q o n k e l =
 
 -- NAMES THAT STAND THERE
 
-place-here : (w : Name) (ws : List Name) (q : Name) → name_eq w q ≡ true → place (w ∷ ws) q ≡ 0
+pub place-here : (w : Name) (ws : List Name) (q : Name) → name_eq w q ≡ true → place (w ∷ ws) q ≡ 0
 place-here w ws q t = ap (λ b. if b then 0 else suc (place ws q)) t
 
-place-past : (w : Name) (ws : List Name) (q : Name) → name_eq w q ≡ false → place (w ∷ ws) q ≡ suc (place ws q)
+pub place-past : (w : Name) (ws : List Name) (q : Name) → name_eq w q ≡ false → place (w ∷ ws) q ≡ suc (place ws q)
 place-past w ws q f = ap (λ b. if b then 0 else suc (place ws q)) f
 
 -- at the place of a name that stands in the list stands that name
@@ -60,7 +60,7 @@ place_at (w ∷ ws) q lt = ⊎_elim
 pub place_below : (names : List Name) (q : Name) → 0 < count q names → place names q < length names
 place_below names q lt = slice_get_within names (place names q) q (place_at names q lt)
 
-some_is : (a b : Name) → Some a ≡ Some b → a ≡ b
+pub some_is : (a b : Name) → Some a ≡ Some b → a ≡ b
 some_is a b e = cc e
 
 -- two names that stand there have two places

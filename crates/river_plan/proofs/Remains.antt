@@ -1,7 +1,7 @@
 -- Searches along a list, one element at a time.
-use Rattle.std.proofs.Common.{◌≡◌, ℕ, ◌+◌, ◌<◌, ◌≤◌, List, [], ◌∷◌, ◌++◌, Option, Some, None, length, take, drop, get_or, map, sym, ap, subst, inl, inr, ◌∙◌}
-use Rattle.std.proofs.lemmas.List.{take_more, drop_more, drop_all, map-append}
-use Rattle.river_plan.specs.First.{OrElse, Along}
+use Rattle.std.proofs.Common.{◌≡◌, ℕ, ◌+◌, ◌<◌, ◌≤◌, List, [], ◌∷◌, ◌++◌, Option, Some, None, length, take, drop, get_or, map, refl, sym, ap, subst, inl, inr, ◌∙◌, arith}
+use Rattle.std.proofs.lemmas.List.{take_more, drop_more, drop_all, map-append, length-take-le, get_or_default}
+use Rattle.river_plan.specs.First.{OrElse, Unless, Along, IsFirst}
 
 -- what is found from place i on is what is found in the whole list
 pub record Remains {A B : Type 0} (s : List A → A → Option B → Type 0) (xs : List A) (i : ℕ) : Type 0 where
@@ -29,6 +29,15 @@ remains-found s xs i x b lt e f r =
 -- nothing is left
 pub remains-end : {A B : Type 0} (s : List A → A → Option B → Type 0) (xs : List A) (i : ℕ) → length xs ≤ i → Remains s xs i → Along s [] xs None
 remains-end s xs i le r = r.rest None (subst (λ l. Along s (take i xs) l None) (sym (drop_all i xs le)) tt)
+
+-- the same where what is sought is said of places: what holds at this place is not found, and what does not is
+pub remains_at-next : {A : Type 0} (P : ℕ → Type 0) (xs : List A) (i : ℕ) (x : A) → i < length xs → P i → Remains (λ before y. Unless (P (length before)) y) xs i → Remains (λ before y. Unless (P (length before)) y) xs (i + 1)
+remains_at-next P xs i x lt p r =
+    remains-next (λ before y. Unless (P (length before)) y) xs i (get_or xs i x) lt (get_or_default xs i x (get_or xs i x) lt) (subst P (sym (length-take-le i xs (omega (arith, lt)))) p) r
+
+pub remains_at-found : {A : Type 0} (P : ℕ → Type 0) (xs : List A) (i : ℕ) (x : A) → i < length xs → x ≡ get_or xs i x → (P i → ⊥) → Remains (λ before y. Unless (P (length before)) y) xs i → IsFirst (λ before y. P (length before)) xs (Some x)
+remains_at-found P xs i x lt e n r =
+    remains-found (λ before y. Unless (P (length before)) y) xs i x x lt e ((λ p. n (subst P (length-take-le i xs (omega (arith, lt))) p)), refl) r
 
 -- the same along a list of which each element is seen under f
 pub record RemainsBy {A B C : Type 0} (f : C → A) (s : List A → A → Option B → Type 0) (xs : List C) (i : ℕ) : Type 0 where

@@ -45,6 +45,10 @@ users-next m k now new ls l lt e h a =
     ∙ each_grew_cong (replicate m []) (λ i. users_from 0 (take k ls) i ++ as_often l k i) (users_from 0 (take k ls ++ l ∷ [])) (λ i _. ap (λ n. users_from 0 (take k ls) i ++ as_often l n i) len ∙ sym (users-more 0 (take k ls) l i))
     ∙ ap (users m) (ap (λ y. take k ls ++ y ∷ []) e ∙ sym (take_more ls k l lt))
 
+-- there is a list for each place
+pub users-length : {A : Type 0} (ls all : List (List ℕ)) (xs ys : List A) → xs ≡ ys → all ≡ users (length ys) ls → length xs ≤ length all
+users-length ls all xs ys e h = let a = ap length h ∙ length-each_grew (replicate (length ys) []) (users_from 0 ls) ∙ length-replicate (length ys) [] in let b = ap length e in omega (arith, a, b)
+
 -- the list of a place that is there
 pub users-below : (m i : ℕ) (ls all : List (List ℕ)) → all ≡ users m ls → i < m → i < length all
 users-below m i ls all e lt = let n = ap length e ∙ length-each_grew (replicate m []) (users_from 0 ls) ∙ length-replicate m [] in omega (arith, n, lt)

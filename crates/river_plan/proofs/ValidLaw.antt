@@ -81,7 +81,7 @@ names-along P before (x ∷ xs) h = (
 
 -- WHAT IS DECLARED
 
-declared-all : (queues variables : List Name) (before ops : List OpForm) → Along (λ b op. UndeclaredAt queues variables op) before ops None
+pub declared-all : (queues variables : List Name) (before ops : List OpForm) → Along (λ b op. UndeclaredAt queues variables op) before ops None
     → ((q : Name) → 0 < total (reads_it q) ops → 0 < count q queues) × ((q : Name) → 0 < total (writes_it q) ops → 0 < count q queues) × ((v : Name) → 0 < total (vars_it v) ops → 0 < count v variables)
 declared-all queues variables before [] h = ((λ q lt. absurd (omega (arith, lt))), (λ q lt. absurd (omega (arith, lt))), (λ v lt. absurd (omega (arith, lt))))
 declared-all queues variables before (op ∷ ops) h =

@@ -63,7 +63,7 @@ mapped_places names at by h [] = refl
 mapped_places names at by h (w ∷ ws) = ap (λ x. x ∷ map at (places names ws)) (h w) ∙ ap (λ l. by w ∷ l) (mapped_places names at by h ws)
 
 -- the list at the place of an operator
-at_op : (f : OpForm → List ℕ) (ops : List Op) (i : ℕ) (op : Op) → i < length ops → op ≡ get_or ops i op → list_at (map f (op_forms ops)) i ≡ f (op_form op)
+pub at_op : (f : OpForm → List ℕ) (ops : List Op) (i : ℕ) (op : Op) → i < length ops → op ≡ get_or ops i op → list_at (map f (op_forms ops)) i ≡ f (op_form op)
 at_op f [] i op lt e = absurd (omega (arith, lt))
 at_op f (x ∷ xs) zero op lt e = ap (λ y. f (op_form y)) (sym e)
 at_op f (x ∷ xs) (suc i) op lt e = at_op f xs i op (omega (arith, lt)) e

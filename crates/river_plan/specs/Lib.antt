@@ -1,4 +1,5 @@
 pub mod ByPlace
+pub mod ByUsers
 pub mod Decided
 pub mod Faults
 pub mod First
@@ -8,7 +9,6 @@ pub mod Limits
 pub mod Names
 pub mod Places
 pub mod PlanCode
-pub mod Shares
 pub mod Told
 pub mod Uses
 pub mod Valid

@@ -16,16 +16,6 @@ count q (w ∷ ws) = one_if (name_eq w q) + count q ws
 abbrev pub with_name : List Name → Name → List Name
 with_name ws w = if nat_lt 0 (count w ws) then ws else ws ++ w ∷ []
 
--- the two lists have the same names
-pub record SameNames (ws vs : List Name) : Type 0 where
-  pub there : (q : Name) → 0 < count q ws → 0 < count q vs
-  pub back : (q : Name) → 0 < count q vs → 0 < count q ws
-
 -- at most once, and never where it is given
 abbrev pub IsUsedOnce : (given uses : ℕ) → Type 0
 IsUsedOnce given uses = (uses ≤ 1) × (0 < given → uses ≡ 0)
-
--- the names that are used twice, or that are given and used
-pub record AreDoubled (given uses names : List Name) : Type 0 where
-  pub there : (q : Name) → 0 < count q names → IsUsedOnce (count q given) (count q uses) → ⊥
-  pub back : (q : Name) → count q names ≡ 0 → IsUsedOnce (count q given) (count q uses)

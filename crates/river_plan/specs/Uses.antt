@@ -41,12 +41,9 @@ abbrev pub ReadsBefore : (Name → ℕ) → List OpForm → Type 0
 ReadsBefore known [] = Unit {0}
 ReadsBefore known (op ∷ ops) = Known known op.reads × ReadsBefore (and_writes known op) ops
 
--- all that the operators write, read and use, in order
+-- all that the operators write and use, in order
 abbrev pub all_writes : List OpForm → List Name
 all_writes ops = flat_map (λ op. op.writes) ops
-
-abbrev pub all_reads : List OpForm → List Name
-all_reads ops = flat_map (λ op. op.reads) ops
 
 abbrev pub all_vars : List OpForm → List Name
 all_vars ops = flat_map (λ op. op.vars) ops

@@ -3,14 +3,13 @@ ghost use Rattle.std.specs.Prelude.{None, Err, IfOk, OnOk, IfErr};
 ghost use Rattle.river_plan.specs.Forms.{plan_form};
 ghost use Rattle.river_plan.specs.Told.{IsTold};
 ghost use Rattle.river_plan.specs.Valid.{FirstFault, IsJudged};
-ghost use Rattle.river_plan.specs.Wired.{IsWired, LaterFault};
+ghost use Rattle.river_plan.specs.Wired.{AreNamed, IsWired, LaterFault};
 
 use crate::declared::wiring_of;
 use crate::limit::over_limit;
 use crate::misfit::misfit;
-use crate::once::{read_twice, written_twice};
+use crate::once::{read_twice, shared, written_twice};
 use crate::order::read_too_early;
-use crate::shared::shared;
 use crate::types::mistyped;
 use crate::wiring::Wiring;
 use crate::{Plan, PlanFault, RawPlan};
@@ -44,16 +43,17 @@ fn checked(alloc: Global, raw: &RawPlan) -> Result<Wiring, PlanFault>
 
 // The first fault of these lists, whose names are in order.
 fn later_fault(alloc: Global, raw: &RawPlan, wiring: &Wiring) -> Result<Option<PlanFault>, NoMemory>
-    requires { IsWired (plan_form raw.now) wiring.now }
+    requires named { AreNamed (plan_form raw.now) }
+    requires wired { IsWired (plan_form raw.now) wiring.now }
     ensures { IfOk result (LaterFault (plan_form raw.now)) }
 {
-    if let Some(name) = written_twice(alloc, raw)? {
+    if let Some(name) = written_twice(alloc, raw, wiring)? {
         return Ok(Some(PlanFault::P3(name)));
     }
-    if let Some(name) = read_twice(alloc, raw)? {
+    if let Some(name) = read_twice(alloc, raw, wiring)? {
         return Ok(Some(PlanFault::P4(name)));
     }
-    if let Some(name) = read_too_early(alloc, raw)? {
+    if let Some(name) = read_too_early(raw, wiring) {
         return Ok(Some(PlanFault::P5(name)));
     }
     if let Some(name) = mistyped(raw) {
@@ -65,7 +65,7 @@ fn later_fault(alloc: Global, raw: &RawPlan, wiring: &Wiring) -> Result<Option<P
     if let Some(fault) = over_limit(raw) {
         return Ok(Some(fault));
     }
-    match shared(alloc, raw)? {
+    match shared(alloc, raw, wiring)? {
         Some(name) => Ok(Some(PlanFault::P9(name))),
         None => Ok(None),
     }

@@ -15,7 +15,6 @@ mod op;
 mod order;
 mod plan;
 mod search;
-mod shared;
 mod types;
 mod valid;
 mod wiring;

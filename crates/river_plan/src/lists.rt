@@ -1,7 +1,6 @@
 // The names in the lists of a plan.
 ghost use Rattle.std.specs.Prelude.{◌≡◌, ◌++◌, ◌∷◌, [], IfOk, OnOk, map};
 ghost use Rattle.river_plan.specs.Forms.{plan_form, op_forms, decl_names, table_names, labels, queue_names, variable_names};
-ghost use Rattle.river_plan.specs.Uses.{all_writes, all_reads, all_vars};
 
 use crate::{Decls, Names, Ops, RawPlan, TableDecls};
 use river_base::NoMemory;
@@ -36,48 +35,6 @@ pub(crate) fn labels(alloc: Global, ops: &Ops) -> Result<Names, NoMemory>
     for op in ops.as_slice() {
         names.push(op.label)?;
     }
-    Ok(names)
-}
-
-/// All that the operators write.
-pub(crate) fn all_writes(alloc: Global, ops: &Ops) -> Result<Names, NoMemory>
-    ensures { IfOk result (λ names. names ≡ all_writes (op_forms ops.now)) }
-{
-    let mut names = Names::new(alloc);
-    for op in ops.as_slice() {
-        add_names(&mut names, &op.writes)?;
-    }
-    Ok(names)
-}
-
-/// All that the operators read.
-pub(crate) fn all_reads(alloc: Global, ops: &Ops) -> Result<Names, NoMemory>
-    ensures { IfOk result (λ names. names ≡ all_reads (op_forms ops.now)) }
-{
-    let mut names = Names::new(alloc);
-    for op in ops.as_slice() {
-        add_names(&mut names, &op.reads)?;
-    }
-    Ok(names)
-}
-
-/// All variables that the operators use.
-pub(crate) fn all_vars(alloc: Global, ops: &Ops) -> Result<Names, NoMemory>
-    ensures { IfOk result (λ names. names ≡ all_vars (op_forms ops.now)) }
-{
-    let mut names = Names::new(alloc);
-    for op in ops.as_slice() {
-        add_names(&mut names, &op.vars)?;
-    }
-    Ok(names)
-}
-
-/// The names of these declarations.
-pub(crate) fn names_of(alloc: Global, decls: &Decls) -> Result<Names, NoMemory>
-    ensures { IfOk result (λ names. names ≡ decl_names decls.now) }
-{
-    let mut names = Names::new(alloc);
-    add_decls(&mut names, decls)?;
     Ok(names)
 }
 

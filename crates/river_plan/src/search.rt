@@ -1,10 +1,9 @@
 // The first name of a list at which something is found.
-ghost use Rattle.std.specs.Prelude.{◌≡◌, ◌++◌, [], None, IfOk, OnOk};
+ghost use Rattle.std.specs.Prelude.{◌≡◌, [], None, IfOk};
 ghost use Rattle.std.specs.Option.{option_map};
 ghost use Rattle.river_plan.specs.declared.fault.Named.TheVariants.{Queue, Variable};
 ghost use Rattle.river_plan.specs.First.{IsFirst};
 ghost use Rattle.river_plan.specs.Faults.{IsNew, IsIn};
-ghost use Rattle.river_plan.specs.Names.{count, SameNames};
 
 use crate::name_set::NameSet;
 use crate::{Named, Names};
@@ -35,37 +34,6 @@ pub(crate) fn first_missing(names: &Names, set: &NameSet) -> Option<Name>
         }
     }
     None
-}
-
-/// The first name that is in the set.
-pub(crate) fn first_member(names: &Names, set: &NameSet) -> Option<Name>
-    ensures { IsFirst (λ before w. count w set.now ≡ 0) names.now result }
-{
-    for name in names.as_slice() {
-        if set.contains(*name) {
-            return Some(*name);
-        }
-    }
-    None
-}
-
-/// The set of these names.
-pub(crate) fn set_of(alloc: Global, names: &Names) -> Result<NameSet, NoMemory>
-    ensures { IfOk result (λ set. SameNames set names.now) }
-{
-    let mut set = NameSet::new(alloc);
-    add_all(&mut set, names)?;
-    Ok(set)
-}
-
-/// Adds these names.
-pub(crate) fn add_all(set: &mut NameSet, names: &Names) -> Result<(), NoMemory>
-    ensures { OnOk result (SameNames set.new (set.old ++ names.now)) }
-{
-    for name in names.as_slice() {
-        let _ = set.insert(*name)?;
-    }
-    Ok(())
 }
 
 /// The name, as one of a queue.

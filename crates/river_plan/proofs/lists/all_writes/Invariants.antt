@@ -1,7 +1,0 @@
-use Rattle.std.proofs.Common.{◌≡◌, take}
-use Rattle.river_plan.specs.Forms.{op_forms}
-use Rattle.river_plan.specs.Uses.{all_writes}
-use Rattle.river_plan.proofs.lists.all_writes.Given as goal
-
-abbrev pub invariant-loop-op : goal.invariant-loop-op
-invariant-loop-op l = l.names ≡ all_writes (op_forms (take l.op-index l.op-items))
