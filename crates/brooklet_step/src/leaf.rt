@@ -37,7 +37,7 @@ fn push_once(alloc: Global, kernel: &CodeKernel, row: &Row) -> Result<Emitted, N
 {
     let mut none = Numbers::new(alloc);
     let mut pushes = Emitted::new(alloc);
-    kernel.step(alloc, &mut none, row, &mut pushes)?;
+    kernel.step(&mut none, row, &mut pushes)?;
     Ok(pushes)
 }
 
@@ -56,7 +56,7 @@ fn push_kept(
     match state {
         State::Slots(slots) => {
             let mut pushes = Emitted::new(alloc);
-            kernel.step(alloc, slots, row, &mut pushes)?;
+            kernel.step(slots, row, &mut pushes)?;
             Ok(pushes)
         }
         _ => unreachable!(),

@@ -75,7 +75,7 @@ impl Filter {
         }
         let mut pushes = Emitted::new(alloc);
         let input = state.buffer.first(self.peek as usize);
-        run_kept(alloc, &self.code, &mut state.kept, input, &mut pushes)?;
+        run_kept(&self.code, &mut state.kept, input, &mut pushes)?;
         state.buffer.remove(self.pop as usize);
         append_values(&pushes, out)?;
         Ok(())
