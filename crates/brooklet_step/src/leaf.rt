@@ -123,7 +123,7 @@ pub fn fire_filter(
         State::Filter(state) => {
             let value = row_of(&item).values()[0];
             let mut values = Numbers::new(alloc);
-            filter.step(alloc, state, value, &mut values)?;
+            filter.step(state, value, &mut values)?;
             out.give_all(0, items_of(alloc, &values)?)?;
             Ok(())
         }

@@ -55,7 +55,9 @@ impl EvenRows {
     /// The values of the row at a place, from 0.
     pub fn at(&self, place: usize) -> &[i64]
         requires { place < length self.now }
-        ensures { (d : List ℤ) → result.now ≡ slice_index_or self.now place d }
+        ensures row { (d : List ℤ) → result.now ≡ slice_index_or self.now place d }
+        ensures some { 1 ≤ length result.now }
+        ensures at_most { length result.now ≤ 16 }
     {
         let all = self.values.len();
         let behind = (self.count - place) * self.width;
