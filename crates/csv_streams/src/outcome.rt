@@ -127,7 +127,8 @@ fn print_items(alloc: Global, items: &Line, to: &mut Bytes) -> Result<(), NoMemo
 {
     let (rows, others) = items.parts();
     print_even(rows, to)?;
-    print_others(alloc, others, to)
+    print_others(alloc, others, to)?;
+    Ok(())
 }
 
 #[tactic(auto, using(crate::proofs::Texts::joins))]

@@ -7,7 +7,7 @@ use Rattle.river_plan.specs.declared.plan.Decl.{Decl}
 use Rattle.river_plan.specs.Forms.{decl_names}
 use Rattle.river_plan.specs.Names.{count, one_if}
 use Rattle.river_plan.proofs.NameLemmas.{name_same, name_sym, name_is}
-use Rattle.river_cli.specs.Inputs.{content_named, in_order}
+use Rattle.river_cli.specs.Inputs.{content_named, in_order, NamesPlace}
 use Rattle.river_cli.specs.declared.content.Content.{Content}
 use Rattle.river_cli.specs.declared.content.Content.TheVariants.{Rows as Plain}
 use Rattle.river_cli.specs.declared.job.InWord.{InWord}
@@ -22,6 +22,34 @@ other-kept (v ∷ ins) (content ∷ all) zero w x q lt e other =
     rw n refl
 other-kept (v ∷ ins) (content ∷ all) (suc i) w x q lt e other =
     ap (λ t. if name_eq v.name q then content else t) (other-kept ins all i w x q (omega (arith, lt)) e other)
+
+-- the content at the place of the first word of a name
+pub named-at : (ins : List InWord) (all : List Content) (name : List ℕ) (i : ℕ) (w : InWord) (whole d : Content) → i < length ins → length all ≡ length ins → w ≡ get_or ins i w
+    → name_eq w.name name ≡ true → content_named (drop i ins) (drop i all) name ≡ whole → whole ≡ get_or all i d
+named-at ins all name i w whole d lt same w_is here so_far =
+    let rest = drop (i + 1) ins in
+    let left : drop i ins ≡ w ∷ rest = drop_more ins i w lt ∙ ap (λ y. y ∷ rest) (sym w_is) in
+    let files : drop i all ≡ get_or all i d ∷ drop (i + 1) all = drop_more all i d (omega (arith, lt, same)) in
+    sym so_far
+    ∙ ap (λ l. content_named l (drop i all) name) left
+    ∙ ap (λ l. content_named (w ∷ rest) l name) files
+    ∙ ap (λ b. if b then get_or all i d else content_named rest (drop (i + 1) all) name) here
+
+-- no word is left
+pub named-none : (ins : List InWord) (all : List Content) (name : List ℕ) (i : ℕ) (whole : Content) → length ins ≤ i → content_named (drop i ins) (drop i all) name ≡ whole → whole ≡ Plain []
+named-none ins all name i whole le so_far = sym so_far ∙ ap (λ l. content_named l (drop i all) name) (drop_all i ins le)
+
+-- another content stands at the place of a name
+pub taken-there : (ins : List InWord) (all : List Content) (name : List ℕ) (i : ℕ) (x : Content) (q : List ℕ) → NamesPlace ins name i → name_eq name q ≡ false
+    → content_named ins (slice_set all i x) q ≡ content_named ins all q
+taken-there ins all name i x q p other =
+    let (w, e) = read_there ins i p.within in
+    other-kept ins all i w x q p.within e (ap (λ n. name_eq n q) (p.named w e) ∙ other)
+  where
+    read_there : (ins : List InWord) (i : ℕ) → i < length ins → (w : InWord) × (w ≡ get_or ins i w)
+    read_there [] i lt = absurd (omega (arith, lt))
+    read_there (v ∷ ins) zero lt = (v, refl)
+    read_there (v ∷ ins) (suc i) lt = read_there ins i (omega (arith, lt))
 
 no_name : (b : Bool) (n : ℕ) → one_if b + n ≡ 0 → (b ≡ false) × (n ≡ 0)
 no_name true n e = absurd (omega (arith, e))
