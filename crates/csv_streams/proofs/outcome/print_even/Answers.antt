@@ -10,7 +10,7 @@ loop-place-preserved c =
     let x = c.at.result.now in
     let later = drop (n + 1) rows in
     let lt : n < length rows = omega (arith, c.loop-place-test.true, c.len-place-end.ensures) in
-    let left : drop n rows ≡ x ∷ later = drop_more rows n x lt ∙ ap (λ y. y ∷ later) (sym (c.at.ensures x)) in
+    let left : drop n rows ≡ x ∷ later = drop_more rows n x lt ∙ ap (λ y. y ∷ later) (sym (c.at.ensures.row x)) in
     ap (λ l. l ++ lines row_line later) c.in_ok-print_values.ensures
     ∙ append_assoc c.loop-place.to (row_line x) (lines row_line later)
     ∙ ap (λ l. c.loop-place.to ++ lines row_line l) (sym left)

@@ -6,10 +6,10 @@ use Rattle.csv_streams.proofs.outcome.print_items.Goals as goal
 pub returns : goal.returns
 returns c =
     let to = c.args.to.now in
-    let rows = c.parts-rows.result.0.now in
-    let others = c.parts-rows.result.1.now.items in
+    let rows = c.parts.result.0.now in
+    let others = c.parts.result.1.now.items in
     c.in_ok-print_others.ensures
     ∙ ap (λ t. t ++ lines item_text others) c.in_ok-print_even.ensures
     ∙ append_assoc to (lines row_line rows) (lines item_text others)
     ∙ ap (λ t. to ++ t) (sym (lines-parts rows others))
-    ∙ ap (λ l. to ++ lines item_text l) (sym c.parts-rows.ensures)
+    ∙ ap (λ l. to ++ lines item_text l) (sym c.parts.ensures)

@@ -10,7 +10,7 @@ loop-place-preserved c =
     let x = c.index.result.now in
     let later = drop (n + 1) items in
     let lt : n < length items = omega (arith, c.loop-place-test.true, c.len-place-end.ensures) in
-    let left : drop n items ≡ x ∷ later = drop_more items n x lt ∙ ap (λ y. y ∷ later) (sym (c.index.ensures x)) in
+    let left : drop n items ≡ x ∷ later = drop_more items n x lt ∙ ap (λ y. y ∷ later) (sym c.index.ensures) in
     ap (λ l. l ++ lines item_text later) c.in_ok-print_item.ensures
     ∙ append_assoc c.loop-place.to (item_text x) (lines item_text later)
     ∙ ap (λ l. c.loop-place.to ++ lines item_text l) (sym left)
