@@ -97,7 +97,7 @@ impl Emit {
         ensures outs { self.new.outs ≡ slice_set self.old.outs port [] }
         ensures adds { self.new.adds ≡ self.old.adds }
     {
-        Line::from_items(take_list(alloc, &mut self.outs, port))
+        Line::from_items(alloc, take_list(alloc, &mut self.outs, port))
     }
 
     /// The items of the ports of a first kernel, with those of a second one in place of port `at`, and the rows of both. They are

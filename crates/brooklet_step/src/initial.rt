@@ -6,7 +6,6 @@ ghost use Rattle.brooklet_step.specs.Works.{GoesOn, Starts};
 ghost use Rattle.brooklet_step.specs.Initial.{AreFirst, CanStart};
 ghost use Rattle.brooklet_step.specs.Tables.{kept_tables};
 
-use crate::emit::take_list;
 use crate::machine::{Lines, Parts, Sizes, Tables};
 use crate::start::first_states;
 use crate::{Inputs, States};
@@ -17,7 +16,7 @@ use river_plan::{Ops, Plan, RawPlan, TableDecls};
 use std::alloc::Global;
 
 /// What a machine keeps before the first firing.
-pub(crate) fn first_parts(alloc: Global, plan: &Plan, inputs: Inputs) -> Result<Parts, NoMemory>
+pub(crate) fn first_parts(alloc: Global, plan: &Plan, inputs: Lines) -> Result<Parts, NoMemory>
     requires { Fit plan.now inputs }
     ensures starts { IfOk result (λ parts. Starts plan.now inputs parts) }
     ensures goes_on { IfOk result GoesOn }
@@ -37,6 +36,17 @@ pub(crate) fn first_parts(alloc: Global, plan: &Plan, inputs: Inputs) -> Result<
     })
 }
 
+/// The items of each input, in lines.
+pub(crate) fn lines_of(alloc: Global, inputs: Inputs) -> Result<Lines, NoMemory>
+    ensures { IfOk result (λ lines. lines ≡ inputs) }
+{
+    let mut lines = Lines::new(alloc);
+    for items in inputs.into_vec() {
+        lines.push(Line::from_items(alloc, items))?;
+    }
+    Ok(lines)
+}
+
 // The first states of the operators, and that none has fired.
 fn states_and_counts(alloc: Global, ops: &Ops) -> Result<(Listed<States>, Sizes), NoMemory>
     requires { CanStart (op_forms ops.now) }
@@ -49,13 +59,12 @@ fn states_and_counts(alloc: Global, ops: &Ops) -> Result<(Listed<States>, Sizes)
 }
 
 // The first queues of a plan: the inputs' items move there, and the others are empty.
-fn first_queues(alloc: Global, raw: &RawPlan, inputs: Inputs) -> Result<Lines, NoMemory>
+fn first_queues(alloc: Global, raw: &RawPlan, inputs: Lines) -> Result<Lines, NoMemory>
     ensures { IfOk result (λ queues. queues ≡ replicate (length raw.now.outputs) [] ++ (inputs ++ replicate (length raw.now.queues) [])) }
 {
-    let mut inputs = inputs;
     let mut queues = Lines::new(alloc);
     add_empty(alloc, &mut queues, raw.outputs.len())?;
-    add_lists(alloc, &mut queues, &mut inputs)?;
+    queues.append(inputs)?;
     add_empty(alloc, &mut queues, raw.queues.len())?;
     Ok(queues)
 }
@@ -66,16 +75,6 @@ fn add_empty(alloc: Global, queues: &mut Lines, count: usize) -> Result<(), NoMe
 {
     for _i in 0..count {
         queues.push(Line::new(alloc))?;
-    }
-    Ok(())
-}
-
-// A queue more for each list, whose items move there.
-fn add_lists(alloc: Global, queues: &mut Lines, lists: &mut Inputs) -> Result<(), NoMemory>
-    ensures { OnOk result (queues.new ≡ queues.old ++ lists.old) }
-{
-    for place in 0..lists.len() {
-        queues.push(Line::from_items(take_list(alloc, lists, place)))?;
     }
     Ok(())
 }

@@ -37,7 +37,7 @@ fn push_once(alloc: Global, kernel: &CodeKernel, row: &Row) -> Result<Emitted, N
 {
     let mut none = Numbers::new(alloc);
     let mut pushes = Emitted::new(alloc);
-    kernel.step(alloc, &mut none, row, &mut pushes)?;
+    kernel.step(&mut none, row, &mut pushes)?;
     Ok(pushes)
 }
 
@@ -56,7 +56,7 @@ fn push_kept(
     match state {
         State::Slots(slots) => {
             let mut pushes = Emitted::new(alloc);
-            kernel.step(alloc, slots, row, &mut pushes)?;
+            kernel.step(slots, row, &mut pushes)?;
             Ok(pushes)
         }
         _ => unreachable!(),
@@ -123,7 +123,7 @@ pub fn fire_filter(
         State::Filter(state) => {
             let value = row_of(&item).values()[0];
             let mut values = Numbers::new(alloc);
-            filter.step(alloc, state, value, &mut values)?;
+            filter.step(state, value, &mut values)?;
             out.give_all(0, items_of(alloc, &values)?)?;
             Ok(())
         }

@@ -23,6 +23,6 @@ pub use firing::fire;
 pub use inputs::{Inputs, fits};
 pub use kinds::item_fits;
 pub use machine::{Lines, Machine, Parts, Sizes, Tables};
-pub use run::{Outcome, run_one};
+pub use run::{Outcome, run_lines, run_one};
 pub use start::first_states;
 pub use state::{State, States};

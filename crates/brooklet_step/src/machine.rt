@@ -5,7 +5,7 @@ ghost use Rattle.brooklet_step.specs.Fit.{Fit};
 ghost use Rattle.brooklet_step.specs.Works.{IsEnabled, Starts, Steps, AreCounts, queue_of};
 
 use crate::ending::outcome_of;
-use crate::initial::first_parts;
+use crate::initial::{first_parts, lines_of};
 use crate::step::{fire_next, is_enabled};
 use crate::{Inputs, Outcome, States};
 use kern_rows::Line;
@@ -70,6 +70,15 @@ impl Machine {
     /// The machine of a plan before the first firing: the inputs have these items, the other queues none, and the tables no rows. It
     /// stands for the first state of the definition.
     pub fn start(alloc: Global, plan: &Plan, inputs: Inputs) -> Result<Machine, NoMemory>
+        requires { Fit plan.now inputs }
+        ensures { IfOk result (λ machine. Starts plan.now inputs machine) }
+    {
+        let lines = lines_of(alloc, inputs)?;
+        Machine::of_lines(alloc, plan, lines)
+    }
+
+    /// The same, where the items of the inputs stand in lines.
+    pub fn of_lines(alloc: Global, plan: &Plan, inputs: Lines) -> Result<Machine, NoMemory>
         requires { Fit plan.now inputs }
         ensures { IfOk result (λ machine. Starts plan.now inputs machine) }
     {

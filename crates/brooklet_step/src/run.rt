@@ -8,6 +8,7 @@ ghost use Rattle.brooklet_step.specs.Drained.{IsDrained, Follows, DrainedBefore,
 ghost use Rattle.brooklet_step.specs.Fit.{Fit};
 ghost use Rattle.brooklet_step.specs.Tables.{defined_tables};
 
+use crate::initial::lines_of;
 use crate::machine::{Lines, Tables};
 use crate::{Inputs, Machine};
 use river_base::{NoMemory, Numbers};
@@ -33,7 +34,19 @@ pub fn run_one(alloc: Global, plan: &Plan, inputs: Inputs) -> Result<Outcome, No
     ensures rows { IfOk result (λ outcome. map rows_of outcome.tables ≡ (meaning plan.now inputs).tables) }
     ensures counts { IfOk result (λ outcome. outcome.counts ≡ map pos (firings plan.now inputs)) }
 {
-    let mut machine = Machine::start(alloc, plan, inputs)?;
+    let lines = lines_of(alloc, inputs)?;
+    run_lines(alloc, plan, lines)
+}
+
+/// The same, where the items of the inputs stand in lines.
+pub fn run_lines(alloc: Global, plan: &Plan, inputs: Lines) -> Result<Outcome, NoMemory>
+    requires fits { Fit plan.now inputs }
+    ensures outs { IfOk result (λ outcome. outcome.outs ≡ (meaning plan.now inputs).outs) }
+    ensures tables { IfOk result (λ outcome. outcome.tables ≡ defined_tables plan.now inputs) }
+    ensures rows { IfOk result (λ outcome. map rows_of outcome.tables ≡ (meaning plan.now inputs).tables) }
+    ensures counts { IfOk result (λ outcome. outcome.counts ≡ map pos (firings plan.now inputs)) }
+{
+    let mut machine = Machine::of_lines(alloc, plan, inputs)?;
     run_all(alloc, plan, &mut machine)?;
     machine.into_outcome(alloc)
 }

@@ -25,7 +25,7 @@ pub(crate) fn is_enabled(parts: &Parts, op: usize, port: usize) -> bool
     ensures { IsTrue result ↔ IsEnabled parts.now op port }
 {
     match place_read(parts, op, port) {
-        Some(place) => parts.queues.at(place).len() > 0,
+        Some(place) => !parts.queues.at(place).is_empty(),
         None => false,
     }
 }

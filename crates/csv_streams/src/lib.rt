@@ -14,5 +14,5 @@ pub use fault::InFault;
 pub use instant::{add_stamps, instants, spread};
 pub use number::read_number;
 pub use outcome::print_outcome;
-pub use rows::{MAX_ROWS, read_rows};
+pub use rows::{MAX_ROWS, read_even, read_rows};
 pub use timed::read_timed;

@@ -8,11 +8,12 @@ ghost use Rattle.csv_streams.specs.Outcome as text;
 
 use brooklet_step::Outcome;
 use itoa::Buffer;
-use kern_rows::Line;
+use kern_rows::{EvenRows, Line};
 use kern_tables::Table;
 use river_base::{Batch, Bytes, Duplicate, Flat, Item, Name, NoMemory, Row, Rows};
 use river_plan::{Decl, Op, Plan, TableDecl};
 use std::alloc::Global;
+use std::collections::VecDeque;
 
 /// The text of what a plan gave: for each output in order the line `# NAME` and a line for each row, in which the values are
 /// joined by commas; then the same for each table in order, whose NAME is without its `$`; and then, if `counts` asks for them,
@@ -116,17 +117,36 @@ fn print_rows(rows: &Rows, to: &mut Bytes) -> Result<(), NoMemory>
     ensures { OnOk result (to.new ≡ to.old ++ text.lines text.row_line rows.now) }
 {
     for row in rows.as_slice() {
-        print_row(row, to)?;
+        print_values(row.values(), to)?;
+    }
+    Ok(())
+}
+
+fn print_items(alloc: Global, items: &Line, to: &mut Bytes) -> Result<(), NoMemory>
+    ensures { OnOk result (to.new ≡ to.old ++ text.lines text.item_text items.now) }
+{
+    let (rows, others) = items.parts();
+    print_even(rows, to)?;
+    print_others(alloc, others, to)?;
+    Ok(())
+}
+
+#[tactic(auto, using(crate::proofs::Texts::joins))]
+fn print_even(rows: &EvenRows, to: &mut Bytes) -> Result<(), NoMemory>
+    ensures { OnOk result (to.new ≡ to.old ++ text.lines text.row_line rows.now) }
+{
+    for place in 0..rows.len() {
+        print_values(rows.at(place), to)?;
     }
     Ok(())
 }
 
 #[tactic(auto, using(crate::proofs::Texts::joins))]
-fn print_items(alloc: Global, items: &Line, to: &mut Bytes) -> Result<(), NoMemory>
-    ensures { OnOk result (to.new ≡ to.old ++ text.lines text.item_text items.now) }
+fn print_others(alloc: Global, items: &VecDeque<Item>, to: &mut Bytes) -> Result<(), NoMemory>
+    ensures { OnOk result (to.new ≡ to.old ++ text.lines text.item_text items.now.items) }
 {
     for place in 0..items.len() {
-        print_item(alloc, items.at(place), to)?;
+        print_item(alloc, &items[place], to)?;
     }
     Ok(())
 }
@@ -136,17 +156,17 @@ fn print_item(alloc: Global, item: &Item, to: &mut Bytes) -> Result<(), NoMemory
     ensures { OnOk result (to.new ≡ to.old ++ text.item_text item.now) }
 {
     match item {
-        Item::Flat(Flat::One(row)) => print_row(row, to),
+        Item::Flat(Flat::One(row)) => print_values(row.values(), to),
         Item::Flat(Flat::Batch(batch)) => print_batch(alloc, batch, to),
         Item::Pack(_) => Ok(()),
     }
 }
 
 #[tactic(auto, using(crate::proofs::Texts::joins))]
-fn print_row(row: &Row, to: &mut Bytes) -> Result<(), NoMemory>
-    ensures { OnOk result (to.new ≡ to.old ++ text.row_line row.now) }
+fn print_values(values: &[i64], to: &mut Bytes) -> Result<(), NoMemory>
+    ensures { OnOk result (to.new ≡ to.old ++ text.row_line values.now) }
 {
-    if let Some((first, rest)) = row.values().split_first() {
+    if let Some((first, rest)) = values.split_first() {
         print_value(*first, to)?;
         print_more(rest, to)?;
     }

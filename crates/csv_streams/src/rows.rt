@@ -1,12 +1,14 @@
 // A file as rows.
-ghost use Rattle.std.specs.Prelude.{◌≡◌, ◌≤◌, [], Ok, OnOk, IfErr};
+ghost use Rattle.std.specs.Prelude.{◌≡◌, ◌≤◌, [], Ok, IfOk, OnOk, IfErr};
+ghost use Rattle.river_base.specs.Held.{HaveWidth};
 ghost use Rattle.csv.specs.Records.{fields_of};
 ghost use Rattle.csv_streams.specs.Rows.{row_in, rows_of, Appends, IsFaultTold, IsAnswer};
 
 use crate::InFault;
 use crate::record::{headers, read_record, values_in};
 use csv::{ByteRecord, ReaderBuilder};
-use river_base::{Bytes, Row, Rows};
+use kern_rows::EvenRows;
+use river_base::{Bytes, NoMemory, Row, Rows};
 use std::alloc::Global;
 
 /// How many records a file has at most, not counting a header.
@@ -26,8 +28,35 @@ pub fn read_rows(
     requires at_most { width ≤ 16 }
     ensures { IsAnswer (rows_of bytes.now width skip_first more) result }
 {
-    let mut rows = Rows::new(alloc);
+    let even = read_even(alloc, bytes, width, skip_first, more)?;
+    Ok(rows_in(alloc, &even)?)
+}
+
+/// The same, where the values of the rows alone are kept.
+pub fn read_even(
+    alloc: Global,
+    bytes: &Bytes,
+    width: u32,
+    skip_first: bool,
+    more: bool,
+) -> Result<EvenRows, InFault>
+    requires some { 1 ≤ width }
+    requires at_most { width ≤ 16 }
+    ensures { IsAnswer (rows_of bytes.now width skip_first more) result }
+{
+    let mut rows = EvenRows::new(alloc);
     add_rows(alloc, bytes, width, skip_first, more, &mut rows)?;
+    Ok(rows)
+}
+
+// Each row by itself.
+fn rows_in(alloc: Global, even: &EvenRows) -> Result<Rows, NoMemory>
+    ensures { IfOk result (λ rows. rows ≡ even.now) }
+{
+    let mut rows = Rows::new(alloc);
+    for place in 0..even.len() {
+        rows.push(Row::from_slice(even.at(place)))?;
+    }
     Ok(rows)
 }
 
@@ -38,7 +67,7 @@ fn add_rows(
     width: u32,
     skip_first: bool,
     more: bool,
-    rows: &mut Rows,
+    rows: &mut EvenRows,
 ) -> Result<(), InFault>
     requires some { 1 ≤ width }
     requires at_most { width ≤ 16 }
@@ -70,14 +99,16 @@ fn add_row(
     last: u32,
     width: usize,
     more: bool,
-    rows: &mut Rows,
+    rows: &mut EvenRows,
 ) -> Result<(), InFault>
     requires some { 1 ≤ width }
     requires at_most { width ≤ 16 }
+    requires wide { HaveWidth width rows.old }
+    ensures wide { OnOk result (HaveWidth width rows.new) }
     ensures ok { OnOk result (Appends (row_in width more last rec (fields_of raw.now)) rows.old rows.new) }
     ensures fault { IfErr result (IsFaultTold (row_in width more last rec (fields_of raw.now))) }
 {
     let values = values_in(raw, rec, last, width, more)?;
-    rows.push(Row::from_slice(&values[..width]))?;
+    rows.push(&values[..width])?;
     Ok(())
 }

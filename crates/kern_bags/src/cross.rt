@@ -44,7 +44,7 @@ impl CrossState {
     fn take_pair(&mut self) -> Option<(Item, Item)>
         ensures { MatchOption result (HasNoPair self.old self.new) (λ pair. TakesPair self.old self.new pair.0 pair.1) }
     {
-        if self.left.len() == 0 || self.right.len() == 0 {
+        if self.left.is_empty() || self.right.is_empty() {
             return None;
         }
         match (self.left.pop(), self.right.pop()) {

@@ -1,3 +1,4 @@
+pub mod Cuts
 pub mod Filtered
 pub mod Fronts
 pub mod Given

@@ -1,3 +1,4 @@
+pub mod Even
 pub mod Forms
 pub mod Needs
 pub mod Passing

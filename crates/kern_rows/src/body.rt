@@ -1,31 +1,28 @@
 // Runs of bodies whose first slots are kept.
-ghost use Rattle.std.specs.Prelude.{◌≡◌, ◌-◌, ◌≤◌, ◌++◌, length, replicate, pos, IfOk, OnOk, OnErr};
+ghost use Rattle.std.specs.Prelude.{◌≡◌, ◌-◌, ◌≤◌, ◌++◌, length, replicate, pos, OnOk, OnErr};
 ghost use Rattle.river_base.specs.Grew.{GrewByPrefix};
 ghost use Rattle.work_code.specs.Steps.{body_of};
 ghost use Rattle.work_code.specs.Ran.{IsBodyWithin};
 ghost use Rattle.kern_rows.specs.Needs.{CanRun};
 ghost use Rattle.kern_rows.specs.Runs.{slots_from, run_kept as kept_run};
 
-use river_base::{Duplicate, NoMemory, Numbers};
-use std::alloc::Global;
+use river_base::{NoMemory, Numbers};
 use work_code::{Code, Emitted, run_code};
 
-// The kept slots, and 0 in the others.
-fn first_slots(alloc: Global, kept: &Numbers, slots: usize) -> Result<Numbers, NoMemory>
-    requires { length kept.now ≤ slots }
-    ensures { IfOk result (λ all. all ≡ slots_from slots kept.now) }
+// Zeros come behind the kept slots, up to so many.
+fn add_zeros(slots: &mut Numbers, count: usize) -> Result<(), NoMemory>
+    requires { length slots.old ≤ count }
+    ensures { OnOk result (slots.new ≡ slots_from count slots.old) }
 {
-    let mut all = kept.copy(alloc)?;
-    for _i in kept.len()..slots {
-        all.push(0)?;
+    for _i in slots.len()..count {
+        slots.push(0)?;
     }
-    Ok(all)
+    Ok(())
 }
 
 /// Runs a body on the values of a row: appends what it pushes, and keeps its first slots. Where there is no memory, a
 /// part of the pushes was appended, and nothing is said of the slots.
 pub fn run_kept(
-    alloc: Global,
     code: &Code,
     kept: &mut Numbers,
     input: &[i64],
@@ -36,9 +33,9 @@ pub fn run_kept(
     ensures slots { OnOk result (kept.new ≡ (kept_run (body_of code.now) kept.old input.now).slots) }
     ensures err { OnErr result (GrewByPrefix out.old (kept_run (body_of code.now) kept.old input.now).pushes out.new) }
 {
-    let mut slots = first_slots(alloc, kept, code.slots as usize)?;
-    run_code(code, input, slots.as_mut_slice(), out)?;
-    slots.truncate(kept.len());
-    *kept = slots;
+    let count = kept.len();
+    add_zeros(kept, code.slots as usize)?;
+    run_code(code, input, kept.as_mut_slice(), out)?;
+    kept.truncate(count);
     Ok(())
 }

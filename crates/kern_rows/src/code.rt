@@ -23,7 +23,6 @@ impl CodeKernel {
     /// values. Where there is no memory, a part of the pushes was appended, and nothing is said of the slots.
     pub fn step(
         &self,
-        alloc: Global,
         kept: &mut Numbers,
         row: &Row,
         out: &mut Emitted,
@@ -36,7 +35,7 @@ impl CodeKernel {
         ensures shape { OnOk result (length kept.new ≡ length kept.old) }
         ensures err { OnErr result (GrewByPrefix out.old (kept_run (code_form self.now).body kept.old row.now).pushes out.new) }
     {
-        run_kept(alloc, &self.code, kept, row.values(), out)?;
+        run_kept(&self.code, kept, row.values(), out)?;
         Ok(())
     }
 }

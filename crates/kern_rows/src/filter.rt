@@ -19,6 +19,8 @@ use work_code::Emitted;
 pub struct FilterState {
     buffer: Queue,
     kept: Numbers,
+    // what the last run pushed; only its memory is used again
+    pushes: Emitted,
 }
 
 impl Model for FilterState {
@@ -50,6 +52,7 @@ impl Filter {
         Ok(FilterState {
             buffer: Queue::new(alloc),
             kept: self.starts.copy(alloc)?,
+            pushes: Emitted::new(alloc),
         })
     }
 
@@ -58,7 +61,6 @@ impl Filter {
     /// of the state.
     pub fn step(
         &self,
-        alloc: Global,
         state: &mut FilterState,
         value: i64,
         out: &mut Numbers,
@@ -73,11 +75,11 @@ impl Filter {
         if state.buffer.len() < self.peek as usize {
             return Ok(());
         }
-        let mut pushes = Emitted::new(alloc);
+        state.pushes.truncate(0);
         let input = state.buffer.first(self.peek as usize);
-        run_kept(alloc, &self.code, &mut state.kept, input, &mut pushes)?;
+        run_kept(&self.code, &mut state.kept, input, &mut state.pushes)?;
         state.buffer.remove(self.pop as usize);
-        append_values(&pushes, out)?;
+        append_values(&state.pushes, out)?;
         Ok(())
     }
 }

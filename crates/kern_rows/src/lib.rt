@@ -4,6 +4,7 @@
 mod body;
 mod code;
 mod collect;
+mod even;
 mod filter;
 mod joined;
 mod kernel;
@@ -13,6 +14,7 @@ mod turn;
 mod unpack;
 
 pub use collect::CollectState;
+pub use even::EvenRows;
 pub use filter::FilterState;
 pub use kernel::{CodeKernel, Collect, Deal, Filter, Unpack};
 pub use line::Line;

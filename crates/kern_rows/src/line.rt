@@ -1,8 +1,11 @@
 // Items in a line.
-ghost use Rattle.std.specs.Prelude.{◌≡◌, [], ◌∷◌, ◌++◌, ◌<◌, length, slice_index_or, OnOk, MatchOption};
-ghost use Rattle.river_base.specs.declared.item.Item as item;
+ghost use Rattle.std.specs.Prelude.{◌≡◌, ◌↔◌, [], ◌∷◌, ◌++◌, length, IsTrue, OnOk, MatchOption};
+ghost use Rattle.river_base.specs.declared.item.Flat.TheVariants.{One};
+ghost use Rattle.river_base.specs.declared.item.Item.TheVariants.{Flat as FlatItem};
+ghost use Rattle.kern_rows.specs.Even.{row_items};
 
-use river_base::{Item, Items, NoMemory};
+use crate::even::EvenRows;
+use river_base::{Flat, Item, Items, NoMemory, Row};
 use std::alloc::Global;
 use std::collections::VecDeque;
 use std::marker::Model;
@@ -10,19 +13,24 @@ use std::marker::Model;
 // For how many items an empty line keeps memory.
 const KEPT: usize = 16;
 
-/// Items in a line: new ones come to its end, and each leaves at its front. Contracts see the list of those that are there.
+/// Items in a line: new ones come to its end, and each leaves at its front. As long as all are rows of one width, their values
+/// alone are kept. Contracts see the list of the items that are there.
 #[derive(Drop)]
 pub struct Line {
-    items: VecDeque<Item>,
+    // the rows in front
+    rows: EvenRows,
+    // the items behind them
+    others: VecDeque<Item>,
 }
 
 impl Model for Line {
-    ghost use Rattle.std.specs.Prelude.{List};
+    ghost use Rattle.std.specs.Prelude.{List, ◌++◌};
     ghost use Rattle.river_base.specs.declared.item.Item as item;
+    ghost use Rattle.kern_rows.specs.Even.{row_items};
 
     ghost Value = { List item.Item };
 
-    ghost view = { λ l. l.items.items };
+    ghost view = { λ l. row_items l.rows ++ l.others.items };
 }
 
 impl Line {
@@ -31,39 +39,81 @@ impl Line {
         ensures { result ≡ [] }
     {
         Line {
-            items: VecDeque::new(alloc),
+            rows: EvenRows::new(alloc),
+            others: VecDeque::new(alloc),
         }
     }
 
     /// The line of these items.
-    pub fn from_items(items: Items) -> Line
+    pub fn from_items(alloc: Global, items: Items) -> Line
         ensures { result ≡ items }
     {
         Line {
-            items: VecDeque::from_vec(items.into_vec()),
+            rows: EvenRows::new(alloc),
+            others: VecDeque::from_vec(items.into_vec()),
         }
     }
 
-    /// How many items there are.
-    pub fn len(&self) -> usize
-        ensures { result ≡ length self.now }
+    /// The line of these rows.
+    pub fn from_rows(alloc: Global, rows: EvenRows) -> Line
+        ensures { result ≡ row_items rows }
     {
-        self.items.len()
+        Line {
+            rows,
+            others: VecDeque::new(alloc),
+        }
     }
 
-    /// The item at a place, from 0.
-    pub fn at(&self, place: usize) -> &Item
-        requires { place < length self.now }
-        ensures { (d : item.Item) → result.now ≡ slice_index_or self.now place d }
+    /// Whether there is no item.
+    pub fn is_empty(&self) -> bool
+        ensures { IsTrue result ↔ (length self.now ≡ 0) }
     {
-        &self.items[place]
+        self.rows.len() == 0 && self.others.is_empty()
+    }
+
+    /// The rows in front, and the items behind them.
+    pub fn parts(&self) -> (&EvenRows, &VecDeque<Item>)
+        ensures { self.now ≡ row_items result.0.now ++ result.1.now.items }
+    {
+        (&self.rows, &self.others)
     }
 
     /// An item comes to the end.
     pub fn push(&mut self, item: Item) -> Result<(), NoMemory>
         ensures { OnOk result (self.new ≡ self.old ++ item ∷ []) }
     {
-        self.items.push_back(item)?;
+        match item {
+            Item::Flat(flat) => self.push_flat(flat),
+            Item::Pack(flats) => self.push_other(Item::Pack(flats)),
+        }
+    }
+
+    // An item that is no pack comes to the end.
+    fn push_flat(&mut self, flat: Flat) -> Result<(), NoMemory>
+        ensures { OnOk result (self.new ≡ self.old ++ FlatItem flat ∷ []) }
+    {
+        match flat {
+            Flat::One(row) => self.push_row(row),
+            Flat::Batch(batch) => self.push_other(Item::Flat(Flat::Batch(batch))),
+        }
+    }
+
+    // A row comes to the end.
+    fn push_row(&mut self, row: Row) -> Result<(), NoMemory>
+        ensures { OnOk result (self.new ≡ self.old ++ FlatItem (One row) ∷ []) }
+    {
+        if self.others.is_empty() && self.rows.takes(row.values()) {
+            self.rows.push(row.values())?;
+            return Ok(());
+        }
+        self.push_other(Item::Flat(Flat::One(row)))
+    }
+
+    // An item comes to the end, whatever is there.
+    fn push_other(&mut self, item: Item) -> Result<(), NoMemory>
+        ensures { OnOk result (self.new ≡ self.old ++ item ∷ []) }
+    {
+        self.others.push_back(item)?;
         Ok(())
     }
 
@@ -71,8 +121,9 @@ impl Line {
     pub fn append(&mut self, items: Items) -> Result<(), NoMemory>
         ensures { OnOk result (self.new ≡ self.old ++ items) }
     {
-        let mut more = VecDeque::from_vec(items.into_vec());
-        self.items.append(&mut more)?;
+        for item in items.into_vec() {
+            self.push(item)?;
+        }
         Ok(())
     }
 
@@ -80,10 +131,20 @@ impl Line {
     pub fn pop(&mut self) -> Option<Item>
         ensures { MatchOption result ((self.old ≡ []) × (self.new ≡ [])) (λ x. self.old ≡ x ∷ self.new) }
     {
-        let item = self.items.pop_front();
-        if self.items.is_empty() {
-            self.items.shrink_to(KEPT);
+        match self.rows.pop() {
+            Some(row) => Some(Item::Flat(Flat::One(row))),
+            None => pop_other(&mut self.others),
         }
-        item
     }
+}
+
+// The item at the front leaves.
+fn pop_other(items: &mut VecDeque<Item>) -> Option<Item>
+    ensures { MatchOption result ((items.old.items ≡ []) × (items.new.items ≡ [])) (λ x. items.old.items ≡ x ∷ items.new.items) }
+{
+    let item = items.pop_front();
+    if items.is_empty() {
+        items.shrink_to(KEPT);
+    }
+    item
 }

@@ -1,9 +1,12 @@
 // Values that wait in a line.
-ghost use Rattle.std.specs.Prelude.{◌≡◌, ◌≤◌, [], ◌∷◌, ◌++◌, length, take, drop, OnOk, OnErr};
+ghost use Rattle.std.specs.Prelude.{◌≡◌, ◌≤◌, ◌+◌, [], ◌∷◌, ◌++◌, length, take, drop, OnOk, OnErr};
 
 use river_base::NoMemory;
 use std::alloc::Global;
 use std::marker::Model;
+
+// For how many values an empty queue keeps memory.
+const KEPT: usize = 64;
 
 /// Values of which the first can be read as a slice and taken out. Contracts see the list of those that are there.
 #[derive(Drop)]
@@ -50,6 +53,24 @@ impl Queue {
         Ok(())
     }
 
+    /// Appends these values; changes nothing where there is no memory.
+    pub fn extend(&mut self, values: &[i64]) -> Result<(), NoMemory>
+        ensures ok { OnOk result (self.new ≡ self.old ++ values.now) }
+        ensures err { OnErr result (self.new ≡ self.old) }
+    {
+        self.items.extend_from_slice(values)?;
+        Ok(())
+    }
+
+    /// So many values from a place on, from 0.
+    pub fn slice(&self, from: usize, count: usize) -> &[i64]
+        requires { from + count ≤ length self.now }
+        ensures { result.now ≡ take count (drop from self.now) }
+    {
+        let start = self.taken + from;
+        &self.items[start..start + count]
+    }
+
     /// The first values, of which there are at least so many.
     pub fn first(&self, count: usize) -> &[i64]
         requires { count ≤ length self.now }
@@ -67,6 +88,16 @@ impl Queue {
         if self.taken > self.items.len() / 2 {
             self.items.drain(..self.taken);
             self.taken = 0;
+            self.give_back();
+        }
+    }
+
+    // A queue that is empty gives back its memory, but for a few values.
+    fn give_back(&mut self)
+        ensures { self.new ≡ self.old }
+    {
+        if self.items.is_empty() {
+            self.items.shrink_to(KEPT);
         }
     }
 }

@@ -1,3 +1,4 @@
+pub mod Arranged
 pub mod Compiled
 pub mod Contents
 pub mod CqlCompiled

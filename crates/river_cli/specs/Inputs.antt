@@ -1,5 +1,5 @@
 -- The inputs of a program: their names, the files that they are, and what is read of these.
-use Rattle.std.specs.Prelude.{ℕ, ℤ, List, [], ◌∷◌, map, not, nat_lt, if◌then◌else◌, Option, Some, None, Result, Ok, Err}
+use Rattle.std.specs.Prelude.{◌≡◌, ◌<◌, length, slice_index_or, ℕ, ℤ, List, [], ◌∷◌, map, not, nat_lt, if◌then◌else◌, Option, Some, None, Result, Ok, Err}
 use Rattle.std.specs.List.{find}
 use Rattle.river_base.specs.Name.{name_eq}
 use Rattle.river_base.specs.declared.item.Item as item
@@ -107,6 +107,16 @@ abbrev pub content_named : List InWord → List Content → List ℕ → Content
 content_named [] all name = Plain []
 content_named (w ∷ ins) [] name = Plain []
 content_named (w ∷ ins) (content ∷ all) name = if name_eq w.name name then content else content_named ins all name
+
+-- no word has this name
+pub record NamesNone (ins : List InWord) (name : List ℕ) : Type 0 where
+  pub gives : (all : List Content) → length all ≡ length ins → content_named ins all name ≡ Plain []
+
+-- the first word of this name stands at this place
+pub record NamesPlace (ins : List InWord) (name : List ℕ) (place : ℕ) : Type 0 where
+  pub within : place < length ins
+  pub named : (w : InWord) → w ≡ slice_index_or ins place w → w.name ≡ name
+  pub gives : (all : List Content) (d : Content) → length all ≡ length ins → content_named ins all name ≡ slice_index_or all place d
 
 -- what each input has, in the order of the program's inputs
 abbrev pub in_order : List Decl → List InWord → List Content → List Content

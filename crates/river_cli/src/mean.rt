@@ -8,9 +8,10 @@ ghost use Rattle.river_cli.specs.Source.{Source, IsOf, IsKnown, Gives, first_val
 use crate::compile::Program;
 use crate::content::Content;
 use crate::output::inputs_of;
-use brooklet_step::{Outcome, run_one};
+use brooklet_step::{Outcome, run_lines};
 use csv_streams::print_outcome;
-use river_base::{Bytes, Listed, NoMemory, Numbers, Row, Rows, TimedFiles};
+use kern_rows::EvenRows;
+use river_base::{Bytes, Listed, NoMemory, Numbers, Rows, TimedFiles};
 use river_plan::Plan;
 use slow_mean::{mean_cql, mean_sawzall, mean_streamit};
 use std::alloc::Global;
@@ -44,30 +45,45 @@ fn mean(
     ensures { IfOk result (λ outcome. (source : Source) → IsOf program.now source plan.now → Gives outcome (source.means files)) }
 {
     match program {
-        Program::River => run_one(alloc, plan, inputs_of(alloc, files)?),
-        Program::Streamit(program) => mean_streamit(alloc, program, &values_of(alloc, &rows_of(alloc, files))?),
-        Program::Sawzall(program) => mean_sawzall(alloc, program, &rows_of(alloc, files)),
+        Program::River => run_lines(alloc, plan, inputs_of(alloc, files)?),
+        Program::Streamit(program) => {
+            mean_streamit(alloc, program, &values_of(alloc, rows_of(alloc, files))?)
+        }
+        Program::Sawzall(program) => {
+            mean_sawzall(alloc, program, &listed(alloc, rows_of(alloc, files))?)
+        }
         Program::Cql(program) => mean_cql(alloc, program, &timed_files_of(alloc, files)?),
     }
 }
 
 // The rows of the first input.
-fn rows_of(alloc: Global, files: Listed<Content>) -> Rows
+fn rows_of(alloc: Global, files: Listed<Content>) -> EvenRows
     ensures { result ≡ records files }
 {
     match files.into_vec().into_iter().next() {
         Some(Content::Rows(rows)) => rows,
-        _ => Rows::new(alloc),
+        _ => EvenRows::new(alloc),
     }
 }
 
 // The first value of each row.
-fn values_of(alloc: Global, rows: &Rows) -> Result<Numbers, NoMemory>
-    ensures { IfOk result (λ all. all ≡ first_values rows.now) }
+fn values_of(alloc: Global, mut rows: EvenRows) -> Result<Numbers, NoMemory>
+    ensures { IfOk result (λ all. all ≡ first_values rows) }
 {
     let mut all = Numbers::new(alloc);
-    for row in rows.as_slice() {
+    while let Some(row) = rows.pop() {
         all.push(row.values()[0])?;
+    }
+    Ok(all)
+}
+
+// The rows one by one.
+fn listed(alloc: Global, mut rows: EvenRows) -> Result<Rows, NoMemory>
+    ensures { IfOk result (λ all. all ≡ rows) }
+{
+    let mut all = Rows::new(alloc);
+    while let Some(row) = rows.pop() {
+        all.push(row)?;
     }
     Ok(all)
 }

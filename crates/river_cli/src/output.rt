@@ -7,9 +7,10 @@ ghost use Rattle.river_cli.specs.Inputs as inputs;
 ghost use Rattle.river_cli.specs.Source.{Source, IsPlanOf, printed};
 
 use crate::content::Content;
-use brooklet_step::{Inputs, run_one};
+use brooklet_step::{Lines, run_lines};
 use csv_streams::{add_stamps, print_outcome, spread};
-use river_base::{Bytes, Flat, Item, Items, Listed, NoMemory, Numbers, Rows};
+use kern_rows::Line;
+use river_base::{Bytes, Listed, NoMemory, Numbers};
 use river_plan::Plan;
 use std::alloc::Global;
 
@@ -25,12 +26,12 @@ pub fn output(
     ensures { IfOk result (λ text. (source : Source) → IsPlanOf source plan.now → text ≡ printed source counted files) }
 {
     let inputs = inputs_of(alloc, files)?;
-    let outcome = run_one(alloc, plan, inputs)?;
+    let outcome = run_lines(alloc, plan, inputs)?;
     print_outcome(alloc, plan, &outcome, counted)
 }
 
 /// The items of each input.
-pub fn inputs_of(alloc: Global, files: Listed<Content>) -> Result<Inputs, NoMemory>
+pub fn inputs_of(alloc: Global, files: Listed<Content>) -> Result<Lines, NoMemory>
     ensures { IfOk result (λ all. all ≡ inputs.all_items files) }
 {
     let instants = instants_of(alloc, files.as_slice())?;
@@ -60,10 +61,10 @@ fn add_stamps_of(file: &Content, all: &mut Numbers) -> Result<(), NoMemory>
 }
 
 // The items of each input at these instants; what the files have is let go one after another.
-fn inputs_at(alloc: Global, files: Listed<Content>, instants: &Numbers) -> Result<Inputs, NoMemory>
+fn inputs_at(alloc: Global, files: Listed<Content>, instants: &Numbers) -> Result<Lines, NoMemory>
     ensures { IfOk result (λ all. all ≡ map (inputs.items_at instants.now) files) }
 {
-    let mut all = Inputs::new(alloc);
+    let mut all = Lines::new(alloc);
     for file in files.into_vec() {
         all.push(items_at(alloc, file, instants)?)?;
     }
@@ -71,22 +72,11 @@ fn inputs_at(alloc: Global, files: Listed<Content>, instants: &Numbers) -> Resul
 }
 
 // The items of an input: its rows, or a batch of its rows for each instant.
-fn items_at(alloc: Global, file: Content, instants: &Numbers) -> Result<Items, NoMemory>
+fn items_at(alloc: Global, file: Content, instants: &Numbers) -> Result<Line, NoMemory>
     ensures { IfOk result (λ items. items ≡ inputs.items_at instants.now file) }
 {
     match file {
-        Content::Rows(rows) => items(alloc, rows),
-        Content::Timed(rows) => spread(alloc, &rows, instants),
+        Content::Rows(rows) => Ok(Line::from_rows(alloc, rows)),
+        Content::Timed(rows) => Ok(Line::from_items(alloc, spread(alloc, &rows, instants)?)),
     }
-}
-
-// Rows as items.
-fn items(alloc: Global, rows: Rows) -> Result<Items, NoMemory>
-    ensures { IfOk result (λ items. items ≡ inputs.row_items rows) }
-{
-    let mut items = Items::new(alloc);
-    for row in rows.into_vec() {
-        items.push(Item::Flat(Flat::One(row)))?;
-    }
-    Ok(items)
 }

@@ -1,23 +1,28 @@
 // What the files of a program's inputs have.
-ghost use Rattle.std.specs.Prelude.{◌≡◌, length, All, IsTrue, IfOk};
+ghost use Rattle.std.specs.Prelude.{◌≡◌, ◌≤◌, ℕ, List, false, length, All, IsTrue, IfOk, MatchOption};
 ghost use Rattle.csv_streams.specs.Rows.{rows_of, IsAnswer};
 ghost use Rattle.csv_streams.specs.Timed.{timed_of};
 ghost use Rattle.river_base.specs.declared.kind.QueueType.TheVariants.{Pack as PackOf};
 ghost use Rattle.river_order.specs.Passes.{Answers, AnswersAs};
 ghost use Rattle.river_kernels.specs.Formed.{is_width};
+ghost use Rattle.river_base.specs.Name.{name_eq};
 ghost use Rattle.river_plan.specs.Faults.{type_width};
+ghost use Rattle.river_plan.specs.Forms.{decl_names};
 ghost use Rattle.river_plan.specs.Kinds.{kind_of};
-ghost use Rattle.river_cli.specs.Inputs.{width_named, file_read, read_as, content_of, content_reader, all_read, content_named, in_order};
+ghost use Rattle.river_plan.specs.Names.{count};
+ghost use Rattle.river_cli.specs.Inputs.{width_named, file_read, read_as, content_of, content_reader, all_read, content_named, in_order, NamesNone, NamesPlace};
 ghost use Rattle.river_cli.specs.declared.content.Content.TheVariants.{Rows as Plain, Timed};
 
 use crate::content::Content;
 use crate::job::{InWord, Layout};
 use crate::text;
-use csv_streams::{InFault, read_rows, read_timed};
-use river_base::{Bytes, Duplicate, FlatType, Listed, NoMemory, QueueType, Rows};
+use csv_streams::{InFault, read_even, read_timed};
+use kern_rows::EvenRows;
+use river_base::{Bytes, FlatType, Listed, NoMemory, QueueType};
 use river_order::Stop;
 use river_plan::Decl;
 use std::alloc::Global;
+use std::mem::replace;
 
 /// What each input has, in the order of the program's inputs, of the files in the order of the words.
 pub fn read_inputs(
@@ -29,10 +34,11 @@ pub fn read_inputs(
 ) -> Result<Listed<Content>, Stop>
     requires count { length files.now ≡ length ins.now }
     requires widths { All (λ w. IsTrue (is_width (width_named decls.now w.name))) ins.now }
+    requires apart { (q : List ℕ) → count q (decl_names decls.now) ≤ 1 }
     ensures { AnswersAs (λ all files. files ≡ in_order decls.now ins.now all) (all_read (content_reader decls.now layout) ins.now files.now) result }
 {
-    let all = read_all(alloc, decls, layout, ins, files)?;
-    Ok(arrange(alloc, decls, ins, all.as_slice())?)
+    let mut all = read_all(alloc, decls, layout, ins, files)?;
+    Ok(arrange(alloc, decls, ins, &mut all)?)
 }
 
 // What all files have, in the order of the words.
@@ -116,7 +122,7 @@ fn read_plain(alloc: Global, bytes: &Bytes, width: u32, layout: Layout) -> Resul
     requires { IsTrue (is_width width) }
     ensures { IsAnswer (read_as Plain (rows_of bytes.now width layout.header layout.more)) result }
 {
-    Ok(Content::Rows(read_rows(alloc, bytes, width, layout.header, layout.more)?))
+    Ok(Content::Rows(read_even(alloc, bytes, width, layout.header, layout.more)?))
 }
 
 fn read_stream(alloc: Global, bytes: &Bytes, width: u32, header: bool) -> Result<Content, InFault>
@@ -126,37 +132,46 @@ fn read_stream(alloc: Global, bytes: &Bytes, width: u32, header: bool) -> Result
     Ok(Content::Timed(read_timed(alloc, bytes, width, header)?))
 }
 
-// What each input has, in the order of the program's inputs.
+// What each input has, in the order of the program's inputs: it moves there. Each input has its own name.
 fn arrange(
     alloc: Global,
     decls: &[Decl],
     ins: &[InWord],
-    all: &[Content],
+    all: &mut Listed<Content>,
 ) -> Result<Listed<Content>, NoMemory>
-    requires { length all.now ≡ length ins.now }
-    ensures { IfOk result (λ files. files ≡ in_order decls.now ins.now all.now) }
+    requires count { length all.old ≡ length ins.now }
+    requires apart { (q : List ℕ) → count q (decl_names decls.now) ≤ 1 }
+    ensures { IfOk result (λ files. files ≡ in_order decls.now ins.now all.old) }
 {
     let mut files = Listed::new(alloc);
-    for decl in decls {
-        files.push(content_named(alloc, ins, all, decl.name.as_slice())?)?;
+    for place in 0..decls.len() {
+        files.push(take_named(alloc, ins, all, decls[place].name.as_slice()))?;
     }
     Ok(files)
 }
 
-// What the words give to an input.
-fn content_named(
-    alloc: Global,
-    ins: &[InWord],
-    all: &[Content],
-    name: &[u8],
-) -> Result<Content, NoMemory>
-    requires { length all.now ≡ length ins.now }
-    ensures { IfOk result (λ content. content ≡ content_named ins.now all.now name.now) }
+// What the words give to an input; no row is left there.
+fn take_named(alloc: Global, ins: &[InWord], all: &mut Listed<Content>, name: &[u8]) -> Content
+    requires { length all.old ≡ length ins.now }
+    ensures count { length all.new ≡ length all.old }
+    ensures taken { result ≡ content_named ins.now all.old name.now }
+    ensures others { (q : List ℕ) → name_eq name.now q ≡ false → content_named ins.now all.new q ≡ content_named ins.now all.old q }
+{
+    let none = Content::Rows(EvenRows::new(alloc));
+    match place_named(ins, name) {
+        Some(place) => replace(all.at_mut(place), none),
+        None => none,
+    }
+}
+
+// The place of the first word of this name.
+fn place_named(ins: &[InWord], name: &[u8]) -> Option<usize>
+    ensures { MatchOption result (NamesNone ins.now name.now) (NamesPlace ins.now name.now) }
 {
     for place in 0..ins.len() {
         if ins[place].name.as_slice() == name {
-            return all[place].copy(alloc);
+            return Some(place);
         }
     }
-    Ok(Content::Rows(Rows::new(alloc)))
+    None
 }

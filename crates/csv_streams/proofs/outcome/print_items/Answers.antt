@@ -1,17 +1,15 @@
-use Rattle.std.proofs.Common.{◌≡◌, ◌+◌, ◌<◌, ◌∷◌, ◌++◌, length, drop, sym, ap, ◌∙◌, arith, append_assoc}
-use Rattle.std.proofs.lemmas.List.{drop_more}
-use Rattle.csv_streams.specs.Outcome.{lines, item_text}
+use Rattle.std.proofs.Common.{◌++◌, sym, ap, ◌∙◌, append_assoc}
+use Rattle.csv_streams.specs.Outcome.{lines, item_text, row_line}
+use Rattle.csv_streams.proofs.Texts.{lines-parts}
 use Rattle.csv_streams.proofs.outcome.print_items.Goals as goal
 
-pub loop-place-preserved : goal.loop-place-preserved
-loop-place-preserved c =
-    let items = c.args.items.now in
-    let n = c.loop-place.place in
-    let x = c.at.result.now in
-    let later = drop (n + 1) items in
-    let lt : n < length items = omega (arith, c.loop-place-test.true, c.len-place-end.ensures) in
-    let left : drop n items ≡ x ∷ later = drop_more items n x lt ∙ ap (λ y. y ∷ later) (sym (c.at.ensures x)) in
-    ap (λ l. l ++ lines item_text later) c.in_ok-print_item.ensures
-    ∙ append_assoc c.loop-place.to (item_text x) (lines item_text later)
-    ∙ ap (λ l. c.loop-place.to ++ lines item_text l) (sym left)
-    ∙ c.loop-place.invariant
+pub returns : goal.returns
+returns c =
+    let to = c.args.to.now in
+    let rows = c.parts.result.0.now in
+    let others = c.parts.result.1.now.items in
+    c.in_ok-print_others.ensures
+    ∙ ap (λ t. t ++ lines item_text others) c.in_ok-print_even.ensures
+    ∙ append_assoc to (lines row_line rows) (lines item_text others)
+    ∙ ap (λ t. to ++ t) (sym (lines-parts rows others))
+    ∙ ap (λ l. to ++ lines item_text l) (sym c.parts.ensures)

@@ -1,6 +1,8 @@
-use Rattle.std.proofs.Common.{Bor, List, ℕ, ◌≡◌, ◌+◌, ◌<◌, ◌≤◌, ◌∙◌, sym, refl, rules, arith, ap, inl, inr, Some, ◌∷◌, [], ◌++◌, length, length-append, append_assoc}
+use Rattle.std.proofs.Common.{Bor, List, ℕ, ◌≡◌, ◌+◌, ◌<◌, ◌≤◌, ◌∙◌, sym, subst, refl, rules, arith, ap, inl, inr, Some, ◌∷◌, [], ◌++◌, length, length-append, append_assoc}
 use Rattle.std.specs.Prelude.{ℤ, Err}
 use Rattle.std.proofs.lemmas.Result.{err_from_is_err_and}
+use Rattle.std.proofs.lemmas.List.Elements.{All-nil}
+use Rattle.river_base.specs.Held.{HaveWidth}
 use Rattle.csv.specs.Reading.{Reached, default_config, strip_bom}
 use Rattle.csv.specs.Records.{fields_of}
 use Rattle.csv.specs.declared.parser.State.TheVariants as st
@@ -23,6 +25,7 @@ loop-record-init c =
       header = c.headers-header.ensures;
       last = ap (λ (n : ℕ). n + 100000) c.headers-header.ensures;
       few = omega arith;
+      wide = subst (HaveWidth c.args.width) (sym c.requires.none) (All-nil (λ row. length row ≡ c.args.width));
       read = (strip_bom c.args.bytes.now, [], fr.source, (sym fr.state, refl), rows-none c.args.width c.args.skip_first c.args.more ∙ ap (λ (l : List (List ℤ)). told l) (sym c.requires.none), refl);
     }
 
@@ -34,7 +37,7 @@ loop-record-preserved-in-Continue-branch-2 c =
     let fields = fields_of c.read_record.new.raw in
     let s = rw c.if-branch.true at c.in_ok-read_record.ensures.ok in
     let (z, at_z, more) = rows-more (λ (s : Bor (List ℕ)). Some s.now) c.loop-record.rdr c.read_record.new.rdr fields default_config st.StartRecord (strip_bom c.args.bytes.now) y recs inv.config source reached s in
-    let one : Appends (row_in c.args.width c.args.more (c.headers-header.result + 100000) (c.loop-record.rec + 1) fields) c.loop-record.rows c.add_row.new.rows = search rules in
+    let one : Appends (row_in c.args.width c.args.more (c.headers-header.result + 100000) (c.loop-record.rec + 1) fields) c.loop-record.rows c.add_row.new.rows = c.in_ok-add_row.ensures.ok in
     let row = one.row in
     let grown = one.grown in
     let is = one.is in
@@ -47,6 +50,7 @@ loop-record-preserved-in-Continue-branch-2 c =
       header = inv.header;
       last = inv.last;
       few = row_within c.args.width c.args.more (c.headers-header.result + 100000) (c.loop-record.rec + 1) fields row is;
+      wide = c.in_ok-add_row.ensures.wide;
       read = (
         z,
         recs ++ fields ∷ [],
@@ -75,6 +79,7 @@ loop-record-preserved c =
       header = inv.header;
       last = inv.last;
       few = omega (arith, header);
+      wide = inv.wide;
       read = (
         z,
         recs ++ fields ∷ [],

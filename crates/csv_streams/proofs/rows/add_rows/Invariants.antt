@@ -3,6 +3,7 @@ use Rattle.std.specs.Prelude.{Ok}
 use Rattle.csv.specs.Reading.{Reached, Ready, default_config, source_of, strip_bom}
 use Rattle.csv.specs.declared.parser.State.TheVariants as st
 use Rattle.csv.specs.declared.reader.Trim.TheVariants as trim
+use Rattle.river_base.specs.Held.{HaveWidth}
 use Rattle.csv_streams.specs.Rows.{rows_in, headers, most_rows}
 use Rattle.csv_streams.proofs.rows.add_rows.Given as goal
 
@@ -14,6 +15,7 @@ invariant-loop-record l = record {
   header : l.header ≡ headers l.skip_first;
   last : l.last ≡ headers l.skip_first + most_rows;
   few : l.rec ≤ l.last;
+  wide : HaveWidth l.width l.rows;
   read : (y : List ℕ) × (recs : List (List (List ℕ))) × (source_of (λ s. Some s.now) l.rdr ≡ Some y)
       × Reached default_config st.StartRecord (strip_bom l.bytes) recs l.rdr.state y
       × (rows_in l.width l.skip_first l.more recs ≡ Ok l.rows) × (length recs ≡ l.rec);

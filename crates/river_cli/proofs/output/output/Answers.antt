@@ -9,8 +9,8 @@ use Rattle.river_cli.proofs.Items.{contents-fit}
 use Rattle.river_cli.proofs.Points.{output-says}
 use Rattle.river_cli.proofs.output.output.Goals as goal
 
-pub run_one-requires : goal.run_one-requires
-run_one-requires c = record {
+pub run_lines-requires : goal.run_lines-requires
+run_lines-requires c = record {
   fits = subst (λ (l : List (List item.Item)). Fit c.args.plan.now l) (sym c.in_ok-inputs.ensures) (contents-fit c.args.plan.now c.args.files c.requires.contents);
 }
 

@@ -1,6 +1,6 @@
 use Rattle.std.proofs.lemmas.Result.{IfOk-weaker}
 use Rattle.brooklet_step.proofs.RunLemmas.{run_outs, run_tables, run_rows, run_counts}
-use Rattle.brooklet_step.proofs.run.run_one.Goals as goal
+use Rattle.brooklet_step.proofs.run.run_lines.Goals as goal
 
 pub returns-clause-outs : goal.returns-clause-outs
 returns-clause-outs c =

@@ -1,0 +1,24 @@
+-- Rows of one width, kept as their values one after another.
+use Rattle.std.specs.Prelude.{◌≡◌, ℕ, zero, suc, ℤ, ◌*◌, ◌≤◌, List, [], ◌∷◌, All, length, map, take, drop}
+use Rattle.river_base.specs.declared.item.Item as item
+use Rattle.river_base.specs.declared.item.Flat.TheVariants.{One}
+use Rattle.river_base.specs.declared.item.Item.TheVariants.{Flat}
+
+-- so many rows of this width, cut off the values from the front
+abbrev pub cut : ℕ → ℕ → List ℤ → List (List ℤ)
+cut width zero values = []
+cut width (suc n) values = take width values ∷ cut width n (drop width values)
+
+-- the values are those of so many rows, each of 1 to 16 values
+pub record AreEven (width count : ℕ) (values : List ℤ) : Type 0 where
+  pub some : 1 ≤ width
+  pub at_most : width ≤ 16
+  pub whole : length values ≡ count * width
+
+-- each row is as wide as this one
+abbrev pub AreAsWide : List ℤ → List (List ℤ) → Type 0
+AreAsWide row rows = All (λ r. length r ≡ length row) rows
+
+-- rows as items
+abbrev pub row_items : List (List ℤ) → List item.Item
+row_items rows = map (λ row. Flat (One row)) rows
