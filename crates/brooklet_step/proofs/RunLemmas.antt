@@ -31,7 +31,7 @@ use Rattle.brooklet_model.proofs.Lists.{if_true, if_false}
 use Rattle.brooklet_model.proofs.RunMeaning.{outs_are, firings_are}
 use Rattle.brooklet_model.proofs.Traces.{some_is, at_most, got_count, joined_out}
 use Rattle.brooklet_step.specs.declared.machine.Parts.{Parts}
-use Rattle.brooklet_step.specs.Drained.{IsDrained, read_in, left_at, Follows, DrainedBefore, HasPorts, HasRun}
+use Rattle.brooklet_step.specs.Drained.{IsDrained, read_in, left_at, Follows, RunsOn, DrainedBefore, HasPorts, HasRun}
 use Rattle.brooklet_step.specs.Works.{queue_of, kinds_of, Stands, ReadsAt, IsEnabled, Ran, GoesOn, Starts, Steps, AreCounts}
 use Rattle.brooklet_step.specs.Tables.{defined_tables}
 use Rattle.brooklet_step.proofs.KeptTables.{kept_of_bags, defined_rows}
@@ -151,6 +151,28 @@ step_less m m' o port inputs v r e st =
 
 pub not_enabled_drained : (m : Parts) (o port : ℕ) → m.stopped ≡ false → (IsEnabled m o port → ⊥) → IsDrained m o port
 not_enabled_drained m o port run idle q r = ⊎_elim (λ lt. absurd (idle (record { running = run; queue = q; reads = r; item = lt }))) (λ z. z) (more_or_zero (length (queue_of m q)))
+
+-- TURNS
+
+pub runs_none : (m : Parts) → m.stopped ≡ false → RunsOn m m
+runs_none m e = record { plan = refl; running = e; ran = λ inputs r. r }
+
+pub runs_more : (m m' m'' : Parts) → RunsOn m m' → RunsOn m' m'' → RunsOn m m''
+runs_more m m' m'' f g = record { plan = g.plan ∙ f.plan; running = g.running; ran = λ inputs r. g.ran inputs (f.ran inputs r) }
+
+pub runs_step : (m m' m'' : Parts) (o port : ℕ) → IsPlan m.plan → RunsOn m m' → Steps m' m'' o port → RunsOn m m''
+runs_step m m' m'' o port v f st =
+    let g = follows_step m' m'' o port (subst IsPlan (sym f.plan) v) st in
+    runs_more m m' m'' f (record { plan = g.plan; running = g.running; ran = g.ran })
+
+-- what is drained after the turns
+pub drained_after : (m m' m'' : Parts) (o : ℕ) → RunsOn m m' → DrainedBefore m' m'' o → DrainedBefore m m'' o
+drained_after m m' m'' o f b = record {
+  plan = b.plan ∙ f.plan;
+  running = b.running;
+  ran = λ inputs r. b.ran inputs (f.ran inputs r);
+  drained = λ inputs r o' port' lt. b.drained inputs (f.ran inputs r) o' port' lt;
+}
 
 -- OPERATOR BY OPERATOR
 

@@ -30,6 +30,12 @@ pub record Follows (m m' : Parts) (o : ℕ) : Type 0 where
   pub ran : (inputs : List (List item.Item)) → Ran m inputs → Ran m' inputs
   pub drained : (inputs : List (List item.Item)) → Ran m inputs → (o' port' : ℕ) → o' ≤ o → IsDrained m o' port' → IsDrained m' o' port'
 
+-- after some firings: the same plan, and a run goes on
+pub record RunsOn (m m' : Parts) : Type 0 where
+  pub plan : m'.plan ≡ m.plan
+  pub running : m'.stopped ≡ false
+  pub ran : (inputs : List (List item.Item)) → Ran m inputs → Ran m' inputs
+
 -- all ports of the operators before number o are drained
 pub record DrainedBefore (m m' : Parts) (o : ℕ) : Type 0 where
   pub plan : m'.plan ≡ m.plan

@@ -4,7 +4,7 @@ ghost use Rattle.kern_tables.specs.Kept.{rows_of};
 ghost use Rattle.river_plan.specs.Valid.{IsPlan};
 ghost use Rattle.brooklet_model.specs.Histories.{firings};
 ghost use Rattle.brooklet_model.specs.Meaning.{meaning};
-ghost use Rattle.brooklet_step.specs.Drained.{IsDrained, Follows, DrainedBefore, HasPorts, HasRun};
+ghost use Rattle.brooklet_step.specs.Drained.{IsDrained, Follows, RunsOn, DrainedBefore, HasPorts, HasRun};
 ghost use Rattle.brooklet_step.specs.Fit.{Fit};
 ghost use Rattle.brooklet_step.specs.Tables.{defined_tables};
 
@@ -15,6 +15,9 @@ use river_base::{NoMemory, Numbers};
 use river_plan::Plan;
 use std::alloc::Global;
 
+/// How often an operator fires at a port, at most, before the next one has its turn.
+const TURN: usize = 64;
+
 /// What a run of a plan gives: the history of each output, in the order of the outputs, the tables, in their order, and how often
 /// each operator fired, a count of 2^63 - 1 standing for all that are greater.
 #[derive(Drop)]
@@ -24,8 +27,8 @@ pub struct Outcome {
     pub counts: Numbers,
 }
 
-/// Runs a plan on these inputs to the end: operator by operator in the order listed, and port by port, each for as long as there
-/// is an item. The outputs and the rows of the tables are what the plan means; what each table keeps is what it keeps of the rows
+/// Runs a plan on these inputs to the end. The operators take turns in the order listed, and port by port, so that few items wait
+/// between them. The outputs and the rows of the tables are what the plan means; what each table keeps is what it keeps of the rows
 /// that the definition adds to it.
 pub fn run_one(alloc: Global, plan: &Plan, inputs: Inputs) -> Result<Outcome, NoMemory>
     requires fits { Fit plan.now inputs }
@@ -51,7 +54,7 @@ pub fn run_lines(alloc: Global, plan: &Plan, inputs: Lines) -> Result<Outcome, N
     machine.into_outcome(alloc)
 }
 
-// All operators, one after another.
+// All operators: they take turns for as long as one of them has an item, so that none is left to be drained.
 fn run_all(alloc: Global, plan: &Plan, machine: &mut Machine) -> Result<(), NoMemory>
     requires plan { machine.old.plan ≡ plan.now }
     requires running { machine.old.stopped ≡ false }
@@ -59,7 +62,110 @@ fn run_all(alloc: Global, plan: &Plan, machine: &mut Machine) -> Result<(), NoMe
     ensures valid { IsPlan plan.now }
     ensures drained { OnOk result (DrainedBefore machine.old machine.new (length plan.now.ops)) }
 {
-    for op in 0..op_count(plan) {
+    let ops = op_count(plan);
+    run_rounds(alloc, plan, machine, ops)?;
+    drain_all(alloc, plan, machine, ops)?;
+    Ok(())
+}
+
+// Rounds of turns, to the first in which none fires.
+fn run_rounds(
+    alloc: Global,
+    plan: &Plan,
+    machine: &mut Machine,
+    ops: u32,
+) -> Result<(), NoMemory>
+    requires ops { ops ≡ length plan.now.ops }
+    requires valid { IsPlan plan.now }
+    requires plan { machine.old.plan ≡ plan.now }
+    requires running { machine.old.stopped ≡ false }
+    requires ran { HasRun machine.old }
+    ensures { OnOk result (RunsOn machine.old machine.new) }
+{
+    for _round in 0..usize::MAX {
+        if !run_round(alloc, plan, machine, ops)? {
+            return Ok(());
+        }
+    }
+    Ok(())
+}
+
+// A turn for each operator, one after another: whether one of them fired.
+fn run_round(
+    alloc: Global,
+    plan: &Plan,
+    machine: &mut Machine,
+    ops: u32,
+) -> Result<bool, NoMemory>
+    requires ops { ops ≡ length plan.now.ops }
+    requires valid { IsPlan plan.now }
+    requires plan { machine.old.plan ≡ plan.now }
+    requires running { machine.old.stopped ≡ false }
+    requires ran { HasRun machine.old }
+    ensures { OnOk result (RunsOn machine.old machine.new) }
+{
+    let mut fired = false;
+    for op in 0..ops {
+        let ports = port_count(plan, op);
+        if take_turns(alloc, machine, op, ports)? {
+            fired = true;
+        }
+    }
+    Ok(fired)
+}
+
+// A turn at each port of an operator, one after another: whether it fired.
+fn take_turns(
+    alloc: Global,
+    machine: &mut Machine,
+    op: u32,
+    ports: u32,
+) -> Result<bool, NoMemory>
+    requires valid { IsPlan machine.old.plan }
+    requires running { machine.old.stopped ≡ false }
+    requires ran { HasRun machine.old }
+    ensures { OnOk result (RunsOn machine.old machine.new) }
+{
+    let mut fired = false;
+    for port in 0..ports {
+        if take_turn(alloc, machine, op, port)? {
+            fired = true;
+        }
+    }
+    Ok(fired)
+}
+
+// Firings on the items at a port of an operator, as many as a turn has: whether there was one.
+fn take_turn(alloc: Global, machine: &mut Machine, op: u32, port: u32) -> Result<bool, NoMemory>
+    requires valid { IsPlan machine.old.plan }
+    requires running { machine.old.stopped ≡ false }
+    requires ran { HasRun machine.old }
+    ensures { OnOk result (RunsOn machine.old machine.new) }
+{
+    for firing in 0..TURN {
+        if !machine.enabled(op, port) {
+            return Ok(firing > 0);
+        }
+        machine.step(alloc, op, port)?;
+    }
+    Ok(true)
+}
+
+// All operators to their end, one after another.
+fn drain_all(
+    alloc: Global,
+    plan: &Plan,
+    machine: &mut Machine,
+    ops: u32,
+) -> Result<(), NoMemory>
+    requires ops { ops ≡ length plan.now.ops }
+    requires valid { IsPlan plan.now }
+    requires plan { machine.old.plan ≡ plan.now }
+    requires running { machine.old.stopped ≡ false }
+    requires ran { HasRun machine.old }
+    ensures { OnOk result (DrainedBefore machine.old machine.new (length plan.now.ops)) }
+{
+    for op in 0..ops {
         let ports = port_count(plan, op);
         run_op(alloc, machine, op, ports)?;
     }
