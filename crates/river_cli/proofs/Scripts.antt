@@ -19,7 +19,7 @@ use Rattle.river_cli.specs.Inputs.{all_items}
 use Rattle.river_cli.specs.Points.{of_script, with_plan}
 use Rattle.river_cli.specs.Source.{Source, IsPlanOf, IsProgramOf, IsOf}
 use Rattle.river_cli.specs.declared.compile.Program.{Program}
-use Rattle.river_cli.specs.declared.compile.Program.TheVariants as program
+use Rattle.river_cli.specs.declared.compile.Program.TheVariants as variant
 use Rattle.river_cli.specs.Text.{large_script}
 use Rattle.river_cli.proofs.Items.{contents-typed}
 
@@ -42,10 +42,10 @@ made-stands program source p made text v of e =
   where
     -- the program does not ask which plan its source has
     still : (program : Program) (source : Source) (made : PlanForm) → IsProgramOf source program → IsProgramOf (record source { plan = made }) program
-    still program.River source made is = tt
-    still (program.Streamit t) source made is = record { readable = is.readable; means = is.means }
-    still (program.Sawzall t) source made is = record { accepted = is.accepted; valued = is.valued; means = is.means }
-    still (program.Cql t) source made is = record { queries = is.queries; inputs = is.inputs; means = is.means }
+    still variant.River source made is = tt
+    still (variant.Streamit t) source made is = record { readable = is.readable; means = is.means }
+    still (variant.Sawzall t) source made is = record { accepted = is.accepted; valued = is.valued; means = is.means }
+    still (variant.Cql t) source made is = record { queries = is.queries; inputs = is.inputs; means = is.means }
 
 as_passed : {A B : Type 0} (stands : A → B → Type 0) (found : Result A (List ℕ)) (y : B) (held : Option Held) → StandsFor stands found y → (x : A) × stands x y × ((next : A → Order) → Comes (past found next) held (next x))
 as_passed stands (Ok x) y held told = (x, told, λ next. Comes-same (next x) held)
