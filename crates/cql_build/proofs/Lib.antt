@@ -5,5 +5,4 @@ pub mod Lists
 pub mod MadeNames
 pub mod FieldPlaces
 pub mod Units
-pub mod Operands
 pub mod Filled

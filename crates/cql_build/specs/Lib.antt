@@ -4,4 +4,5 @@ pub mod Knowing
 pub mod Marks
 pub mod Planned
 pub mod Seen
+pub mod Shapes
 pub mod Views

@@ -20,6 +20,18 @@ pub fn first_fault(alloc: Global, parts: &[Part]) -> Result<Option<Refusal>, NoM
     ensures { IfOk result (λ refusal. refusal ≡ first_fault [] 0 1 (program_of parts.now)) }
 {
     let mut known = Known::new(alloc);
+    fault_among(alloc, parts, &mut known)
+}
+
+// The same, where nothing is known yet.
+fn fault_among(
+    alloc: Global,
+    parts: &[Part],
+    known: &mut Known,
+) -> Result<Option<Refusal>, NoMemory>
+    requires { Knows known.old [] }
+    ensures { IfOk result (λ refusal. refusal ≡ first_fault [] 0 1 (program_of parts.now)) }
+{
     let mut many = 0;
     for i in 0..parts.len() {
         if let Some(fault) = known.unit_fault(alloc, many, &parts[i])? {

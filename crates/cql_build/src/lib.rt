@@ -13,6 +13,7 @@ mod output;
 mod places;
 mod planning;
 mod queries;
+mod shape;
 mod uses;
 mod values;
 

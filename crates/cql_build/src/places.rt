@@ -5,6 +5,7 @@ ghost use Rattle.cql_model.specs.Translation.{place_in, field_place, item_place,
 ghost use Rattle.cql_build.specs.Views.{value_of, scope};
 
 use crate::Item;
+use crate::shape::Shape;
 use cql_text::Scalar;
 use river_base::{Name, NoMemory};
 use std::alloc::Global;
@@ -74,99 +75,21 @@ pub(crate) fn resolve(alloc: Global, items: &[Item<'_>], value: &Scalar) -> Resu
     requires { widths_of (scope items.now) ≤ 16 }
     ensures { IfOk result (λ e. term e ≡ resolved (scope items.now) (value_of value.now)) }
 {
-    match value {
-        Scalar::Number(number) => Ok(Expr::Const(number.value as i64)),
-        Scalar::Field(field) => Ok(at_place(field_place(items, *field))),
-        Scalar::ItemField(item, field) => Ok(at_place(item_place(items, *item, *field))),
-        Scalar::Neg(inner) => {
+    match Shape::of(value) {
+        Shape::Number(number) => Ok(Expr::Const(number.value as i64)),
+        Shape::Field(field) => Ok(at_place(field_place(items, field))),
+        Shape::ItemField(item, field) => Ok(at_place(item_place(items, item, field))),
+        Shape::Neg(inner) => {
             let inner = resolve(alloc, items, inner)?;
             Ok(Expr::Neg(Box::new(alloc, inner)?))
         }
-        Scalar::Not(inner) => {
+        Shape::Not(inner) => {
             let inner = resolve(alloc, items, inner)?;
             Ok(Expr::Not(Box::new(alloc, inner)?))
         }
-        Scalar::Mul(left, right) => binary(
+        Shape::Both(op, left, right) => binary(
             alloc,
-            BinOp::Mul,
-            resolve(alloc, items, left),
-            resolve(alloc, items, right),
-        ),
-        Scalar::Quot(left, right) => binary(
-            alloc,
-            BinOp::Quot,
-            resolve(alloc, items, left),
-            resolve(alloc, items, right),
-        ),
-        Scalar::Rem(left, right) => binary(
-            alloc,
-            BinOp::Rem,
-            resolve(alloc, items, left),
-            resolve(alloc, items, right),
-        ),
-        Scalar::Add(left, right) => binary(
-            alloc,
-            BinOp::Add,
-            resolve(alloc, items, left),
-            resolve(alloc, items, right),
-        ),
-        Scalar::Sub(left, right) => binary(
-            alloc,
-            BinOp::Sub,
-            resolve(alloc, items, left),
-            resolve(alloc, items, right),
-        ),
-        Scalar::Equal(left, right) => binary(
-            alloc,
-            BinOp::Eq,
-            resolve(alloc, items, left),
-            resolve(alloc, items, right),
-        ),
-        Scalar::Different(left, right) => binary(
-            alloc,
-            BinOp::Ne,
-            resolve(alloc, items, left),
-            resolve(alloc, items, right),
-        ),
-        Scalar::NotEqual(left, right) => binary(
-            alloc,
-            BinOp::Ne,
-            resolve(alloc, items, left),
-            resolve(alloc, items, right),
-        ),
-        Scalar::Less(left, right) => binary(
-            alloc,
-            BinOp::Lt,
-            resolve(alloc, items, left),
-            resolve(alloc, items, right),
-        ),
-        Scalar::LessEqual(left, right) => binary(
-            alloc,
-            BinOp::Le,
-            resolve(alloc, items, left),
-            resolve(alloc, items, right),
-        ),
-        Scalar::Greater(left, right) => binary(
-            alloc,
-            BinOp::Gt,
-            resolve(alloc, items, left),
-            resolve(alloc, items, right),
-        ),
-        Scalar::GreaterEqual(left, right) => binary(
-            alloc,
-            BinOp::Ge,
-            resolve(alloc, items, left),
-            resolve(alloc, items, right),
-        ),
-        Scalar::And(left, right) => binary(
-            alloc,
-            BinOp::And,
-            resolve(alloc, items, left),
-            resolve(alloc, items, right),
-        ),
-        Scalar::Or(left, right) => binary(
-            alloc,
-            BinOp::Or,
+            op,
             resolve(alloc, items, left),
             resolve(alloc, items, right),
         ),

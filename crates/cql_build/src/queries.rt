@@ -33,6 +33,22 @@ pub(crate) fn queries(
     ensures { OnOk result (Grew raw.old raw.new (output_decls [] (program_of parts.now)) (ask_decls uses.old.all [] (program_of parts.now)) (ask_ops uses.old.inputs uses.old.all [] uses.old.past (program_of parts.now))) }
 {
     let mut known = Known::new(alloc);
+    queries_among(alloc, raw, uses, parts, &mut known)
+}
+
+// The same, where nothing is known yet.
+fn queries_among(
+    alloc: Global,
+    raw: &mut RawPlan,
+    uses: &mut Uses,
+    parts: &[Part],
+    known: &mut Known,
+) -> Result<(), NoMemory>
+    requires nothing { Knows known.old [] }
+    requires good { AreQueries [] (program_of parts.now) }
+    requires short { AreShort (program_of parts.now) }
+    ensures { OnOk result (Grew raw.old raw.new (output_decls [] (program_of parts.now)) (ask_decls uses.old.all [] (program_of parts.now)) (ask_ops uses.old.inputs uses.old.all [] uses.old.past (program_of parts.now))) }
+{
     for part in parts {
         known.unit(alloc, raw, uses, part)?;
         known.add(alloc, part)?;

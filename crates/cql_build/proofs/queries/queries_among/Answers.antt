@@ -1,6 +1,6 @@
 use Rattle.std.proofs.Common.{◌≡◌}
 use Rattle.cql_build.proofs.Asking.{asking_good, asking_next}
-use Rattle.cql_build.proofs.queries.queries.Goals as goal
+use Rattle.cql_build.proofs.queries.queries_among.Goals as goal
 
 pub unit-requires-clause-short : goal.unit-requires-clause-short
 unit-requires-clause-short c =
