@@ -21,12 +21,7 @@ impl CodeKernel {
 
     /// A row comes: appends what the body pushes, and keeps its slots. The body runs on as many inputs as the row has
     /// values. Where there is no memory, a part of the pushes was appended, and nothing is said of the slots.
-    pub fn step(
-        &self,
-        kept: &mut Numbers,
-        row: &Row,
-        out: &mut Emitted,
-    ) -> Result<(), NoMemory>
+    pub fn step(&self, kept: &mut Numbers, row: &Row, out: &mut Emitted) -> Result<(), NoMemory>
         requires formed { CanCode (code_form self.now) }
         requires kept { length kept.old ≡ length (code_form self.now).starts }
         requires row { length row.now ≡ (code_form self.now).body.inputs }

@@ -6,7 +6,7 @@ use Rattle.river_base.specs.Name.{name_eq}
 use Rattle.river_plan.specs.declared.plan.Decl.{Decl}
 use Rattle.river_plan.specs.Forms.{decl_names}
 use Rattle.river_plan.specs.Names.{count, one_if}
-use Rattle.river_plan.proofs.NameLemmas.{name_same, name_sym, name_is}
+use Rattle.river_plan.proofs.NameLemmas.{name_same, name_sym}
 use Rattle.river_cli.specs.Inputs.{content_named, in_order, NamesPlace}
 use Rattle.river_cli.specs.declared.content.Content.{Content}
 use Rattle.river_cli.specs.declared.content.Content.TheVariants.{Rows as Plain}
@@ -42,14 +42,7 @@ named-none ins all name i whole le so_far = sym so_far ∙ ap (λ l. content_nam
 -- another content stands at the place of a name
 pub taken-there : (ins : List InWord) (all : List Content) (name : List ℕ) (i : ℕ) (x : Content) (q : List ℕ) → NamesPlace ins name i → name_eq name q ≡ false
     → content_named ins (slice_set all i x) q ≡ content_named ins all q
-taken-there ins all name i x q p other =
-    let (w, e) = read_there ins i p.within in
-    other-kept ins all i w x q p.within e (ap (λ n. name_eq n q) (p.named w e) ∙ other)
-  where
-    read_there : (ins : List InWord) (i : ℕ) → i < length ins → (w : InWord) × (w ≡ get_or ins i w)
-    read_there [] i lt = absurd (omega (arith, lt))
-    read_there (v ∷ ins) zero lt = (v, refl)
-    read_there (v ∷ ins) (suc i) lt = read_there ins i (omega (arith, lt))
+taken-there ins all name i x q p other = other-kept ins all i p.word x q p.within p.word_is (ap (λ n. name_eq n q) p.named ∙ other)
 
 no_name : (b : Bool) (n : ℕ) → one_if b + n ≡ 0 → (b ≡ false) × (n ≡ 0)
 no_name true n e = absurd (omega (arith, e))

@@ -115,7 +115,9 @@ pub record NamesNone (ins : List InWord) (name : List ℕ) : Type 0 where
 -- the first word of this name stands at this place
 pub record NamesPlace (ins : List InWord) (name : List ℕ) (place : ℕ) : Type 0 where
   pub within : place < length ins
-  pub named : (w : InWord) → w ≡ slice_index_or ins place w → w.name ≡ name
+  pub word : InWord
+  pub word_is : word ≡ slice_index_or ins place word
+  pub named : word.name ≡ name
   pub gives : (all : List Content) (d : Content) → length all ≡ length ins → content_named ins all name ≡ slice_index_or all place d
 
 -- what each input has, in the order of the program's inputs

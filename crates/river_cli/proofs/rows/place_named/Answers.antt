@@ -1,4 +1,5 @@
 use Rattle.std.proofs.Common.{◌≡◌, true, refl, sym, ap, ◌∙◌}
+use Rattle.river_base.specs.Name.{name_eq}
 use Rattle.river_plan.proofs.NameLemmas.{name_is}
 use Rattle.river_cli.specs.Inputs.{content_named}
 use Rattle.river_cli.specs.declared.job.InWord.{InWord}
@@ -17,12 +18,16 @@ loop-place-preserved c = λ all same.
 
 pub returns-then-eq : goal.returns-then-eq
 returns-then-eq c =
+    let name = c.args.name.now in
     let w = c.index-ins-place.result in
-    let here = rw c.as_slice.ensures at (sym c.eq.ensures ∙ c.if-eq.true) in
+    let told = rw c.as_slice.ensures at (sym c.eq.ensures ∙ c.if-eq.true) in
+    let here : name_eq w.name name ≡ true = ap (λ (u : InWord). name_eq u.name name) c.index-ins-place.is ∙ told in
     record {
       within = c.loop-place-test.true;
-      named = λ v e. ap (λ (u : InWord). u.name) (e ∙ ? ∙ sym c.index-ins-place.is) ∙ name_is w.name c.args.name.now ?;
-      gives = λ all d same. named-at c.args.ins.now all c.args.name.now c.loop-place.place w (content_named c.args.ins.now all c.args.name.now) d c.loop-place-test.true same c.index-ins-place.is ? (c.loop-place.invariant all same);
+      word = w;
+      word_is = c.index-ins-place.is;
+      named = name_is w.name name here;
+      gives = λ all d same. named-at c.args.ins.now all name c.loop-place.place w (content_named c.args.ins.now all name) d c.loop-place-test.true same c.index-ins-place.is here (c.loop-place.invariant all same);
     }
 
 pub returns : goal.returns
