@@ -77,7 +77,8 @@ fired_next t xs before start j pop peek first kept kept' out out' lt epop epeek 
       ap (λ l. l ++ fires_from t n (j + 1) kept' xs) eo
       ∙ append_assoc out (fires t j kept xs).pushed (fires_from t n (j + 1) kept' xs)
       ∙ ap (λ k. out ++ ((fires t j kept xs).pushed ++ fires_from t n (j + 1) k xs)) ek
-      ∙ ap (λ i. out ++ ((fires t j kept xs).pushed ++ fires_from t n i (map (fires t j kept xs).values t.fields) xs)) (let s : j + 1 ≡ suc j = omega arith in s)
+      ∙ ap (λ i. out ++ ((fires t j kept xs).pushed ++ fires_from t n i (map (fires t j kept xs).values t.fields) xs))
+      (let s : j + 1 ≡ suc j = omega arith in s)
       ∙ ap (λ l. out ++ l) (sym (fires-there t n j kept xs there))
       ∙ ap (λ k. out ++ fires_from t k j kept xs) (sym (one_less (length xs) j lt))
       ∙ f.same;

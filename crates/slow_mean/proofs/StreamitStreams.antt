@@ -116,7 +116,8 @@ branched-from : (env : Env) (f : ℕ → List ℤ) (n : Name) (ms : List Name) (
 branched-from env f n [] p g e = ap (λ xs. work_of env n xs ∷ []) (e 0 ∙ ap f (let z : 0 + p ≡ p = omega arith in z))
 branched-from env f n (m ∷ ms) p g e =
     ap (λ xs. work_of env n xs ∷ branched env m ms (λ q. g (suc q))) (e 0 ∙ ap f (let z : 0 + p ≡ p = omega arith in z))
-    ∙ ap (λ ls. work_of env n (f p) ∷ ls) (branched-from env f m ms (suc p) (λ q. g (suc q)) (λ q. e (suc q) ∙ ap f (let z : suc q + p ≡ q + suc p = omega arith in z)))
+    ∙ ap (λ ls. work_of env n (f p) ∷ ls)
+    (branched-from env f m ms (suc p) (λ q. g (suc q)) (λ q. e (suc q) ∙ ap f (let z : suc q + p ≡ q + suc p = omega arith in z)))
 
 pub branched-all : (env : Env) (f : ℕ → List ℤ) (n : Name) (ms : List Name) → branched env n ms f ≡ work_of env n (f 0) ∷ from_branch env f 1 ms
 branched-all env f n ms = branched-from env f n ms 0 f (λ q. ap f (let z : q ≡ q + 0 = omega arith in z))

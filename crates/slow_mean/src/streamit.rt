@@ -30,7 +30,7 @@ pub fn mean_streamit(
 {
     let out = outputs(alloc, program.units.as_slice(), values.as_slice())?;
     let items = items(alloc, out.as_slice())?;
-    outcome(alloc, Line::from_items(items))
+    outcome(alloc, Line::from_items(alloc, items))
 }
 
 // The one output, and nothing else.
