@@ -1,5 +1,5 @@
 -- What a text of CQL means is what it has in the grammar, and what the front answers.
-use Rattle.std.proofs.Common.{◌≡◌, ℕ, List, [], Option, Some, None, Result, Ok, Err, refl, sym, ap, ◌∙◌, subst}
+use Rattle.std.proofs.Common.{◌≡◌, ℕ, List, Option, Some, None, Result, Ok, Err, refl, sym, ap, ◌∙◌, subst}
 use Rattle.work_code.specs.Cut.{units_of}
 use Rattle.work_code.specs.Lexis.{tokens_in}
 use Rattle.work_code.specs.Tok.{Mark, toks}
@@ -23,8 +23,7 @@ use Rattle.cql_text.specs.Tree.{Part}
 use Rattle.cql_text.specs.declared.fault.CqlTextFault.TheVariants.{Syntax as Syntax_at}
 use Rattle.cql_front.proofs.Spoken.{spoken, shortened}
 use Rattle.cql_text.proofs.Texts.{text-read, text-reads, units-bad, units-reads, units-told}
-use Rattle.cql_model.proofs.Unrefused.{unrefused_are_accepted, unrefused_are_valid, unrefused_mean}
-use Rattle.cql_model.specs.Accepted.{AreQueries}
+use Rattle.cql_model.proofs.Unrefused.{unrefused_are_valid, unrefused_mean}
 use Rattle.cql_front.specs.declared.fault.CqlFault.{CqlFault}
 use Rattle.cql_front.specs.declared.fault.CqlFault.TheVariants.{Text, UnknownStream, UnknownField, AmbiguousField, NameTwice, Limit, NoMemory}
 use Rattle.cql_front.specs.Laws.{HasFault, Has, MeansWhatItHas, PlansMean}
@@ -105,12 +104,6 @@ plans_mean text p e =
     let h : Has text (Ok p) = subst (Has text) e (means-has text) in
     let s = spoken p (units_of (toks h.0.marks)) h.0.formed in
     (unrefused_are_valid (program_of p) s h.1, λ files are. unrefused_mean (program_of p) files s h.1 are)
-
--- the queries of a program that is accepted are right
-pub compiled-queries : (text : List ℕ) (p : List Part) → compiled text ≡ Ok p → AreQueries [] (program_of p)
-compiled-queries text p e =
-    let h : Has text (Ok p) = subst (Has text) e (means-has text) in
-    (unrefused_are_accepted (program_of p) (spoken p (units_of (toks h.0.marks)) h.0.formed) h.1).queries
 
 -- ---- WHAT THE FRONT ANSWERS
 

@@ -25,10 +25,6 @@ record Unrefused (p : Program) : Type 0 where
 unrefused : (p : Program) → AreSpoken p → refusal_of p ≡ None → Unrefused p
 unrefused p s h = let n = first_none (first_fault [] 0 1 p) _ h in record { accepted = faultless_accepted p s n.0; low = if_none (exceeds (plan_of p)) _ n.1 }
 
--- a program that is not refused is accepted
-pub unrefused_are_accepted : (p : Program) → AreSpoken p → refusal_of p ≡ None → IsAccepted p
-unrefused_are_accepted p s h = (unrefused p s h).accepted
-
 pub unrefused_are_valid : UnrefusedAreValid
 unrefused_are_valid p s h = let u = unrefused p s h in plans_are_valid p u.accepted (within_where (plan_of p) u.low)
 

@@ -20,7 +20,8 @@ use Rattle.cql_front.specs.Meaning.{compiled, Plans, Refused}
 use Rattle.cql_front.specs.Words.{cql_words}
 use Rattle.cql_front.specs.declared.fault.CqlFault.{CqlFault}
 use Rattle.cql_front.specs.declared.fault.CqlFault.TheVariants as cql_fault
-use Rattle.cql_front.proofs.Fronts.{compiled-queries, plans_mean}
+use Rattle.cql_front.proofs.Fronts.{plans_mean}
+use Rattle.slow_mean.proofs.CqlAccepted.{accepted_columns}
 use Rattle.cql_front.proofs.Instants.{instants_agree}
 use Rattle.river_cli.specs.Contents.{AreContents}
 use Rattle.river_cli.specs.Inputs.{timed_files, items_at, all_items}
@@ -78,7 +79,7 @@ cql-compiled text t plan h =
     subst (λ (r : Result (List Part) CqlFault). StandsFor IsCompiled (told cql_source cql_words r) (record { plan = plan; program = program.Cql t })) (sym h.accepted)
     (record {
       plan = subst (IsPlanOf (cql_source (parts_of t))) (sym h.planned) (program_plan text (parts_of t) h.accepted);
-      program = record { queries = compiled-queries text (parts_of t) h.accepted; inputs = refl; means = λ files. refl };
+      program = record { columns = accepted_columns text (parts_of t) h.accepted; inputs = refl; means = λ files. refl };
     })
 
 pub cql-refused : (meant : Result (List Part) CqlFault) (f : CqlFault) (text : List _) → (f ≡ cql_fault.NoMemory → ⊥) → Refused meant f

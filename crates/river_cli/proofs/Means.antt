@@ -15,6 +15,9 @@ use Rattle.river_cli.specs.Source.{Source, values, records, IsPlanOf, IsOf, IsKn
 use Rattle.river_cli.specs.declared.compile.Program.{Program}
 use Rattle.river_cli.specs.declared.compile.Program.TheVariants as program
 use Rattle.river_cli.specs.declared.content.Content.{Content}
+use Rattle.river_cli.specs.declared.content.Content.TheVariants.{Rows as Plain, Timed}
+use Rattle.std.specs.Prelude.{Result, Ok, Err, IfOk}
+use Rattle.river_base.specs.declared.memory.NoMemory.{NoMemory}
 use Rattle.river_cli.proofs.CqlCompiled.{files-are}
 use Rattle.streamit_model.specs.Laws.{as_items}
 use Rattle.streamit_model.specs.Program.{program_outputs}
@@ -26,8 +29,8 @@ use Rattle.saw_text.specs.Tree as saw_text
 use Rattle.saw_text.specs.Tree.{unit_forms}
 use Rattle.saw_front.specs.Valued.{AreValuedParts}
 use Rattle.saw_front.specs.declared.program.SawProgram.{SawProgram}
+use Rattle.slow_mean.specs.CqlContents.{HaveColumns}
 use Rattle.slow_mean.specs.Sawzall.{IsAccepted}
-use Rattle.cql_model.specs.Accepted.{AreQueries}
 use Rattle.cql_model.specs.Instants.{program_means}
 use Rattle.cql_model.specs.Laws.{AreFiles}
 use Rattle.cql_text.specs.Tree.{parts_of}
@@ -52,8 +55,8 @@ known-accepted t p (source, is) = is.program.accepted
 pub known-valued : (t : SawProgram) (p : PlanForm) → IsKnown (program.Sawzall t) p → AreValuedParts (saw_text.program_of (unit_forms t.units.items))
 known-valued t p (source, is) = is.program.valued
 
-pub known-queries : (t : CqlProgram) (p : PlanForm) → IsKnown (program.Cql t) p → AreQueries [] (cql.program_of (parts_of t))
-known-queries t p (source, is) = is.program.queries
+pub known-columns : (t : CqlProgram) (p : PlanForm) → IsKnown (program.Cql t) p → HaveColumns [] (cql.program_of (parts_of t))
+known-columns t p (source, is) = is.program.columns
 
 pub known-files : (t : CqlProgram) (p : PlanForm) (all : List Content) → IsKnown (program.Cql t) p → AreContents p.inputs all → AreFiles (cql.program_of (parts_of t)) (timed_files all)
 known-files t p all (source, is) typed = files-are (cql.program_of (parts_of t)) all (subst (λ ds. AreContents ds all) (is.plan.inputs ∙ is.program.inputs) typed)
@@ -78,7 +81,19 @@ pub cql-gives : (t : CqlProgram) (p : PlanForm) (all : List Content) (o : Outcom
     → (source : Source) → IsOf (program.Cql t) source p → Gives o (source.means all)
 cql-gives t p all o outs tables source is = subst (Gives o) (sym (is.program.means all)) (record { outs = outs; tables = ap (map rows_of) tables })
 
+-- files with timestamps, one after another
+pub timed-more : (fs : List Content) (f : Content) → timed_files (fs ++ f ∷ []) ≡ timed_files fs ++ timed_files (f ∷ [])
+timed-more [] f = refl
+timed-more (Plain rows ∷ fs) f = timed-more fs f
+timed-more (Timed rows ∷ fs) f = ap (λ l. rows ∷ l) (timed-more fs f)
+
 -- ---- WHAT IS PRINTED
+
+pub mean-says : (it : Program) (p : PlanForm) (all : List Content) (o : Outcome) (result : Result (List ℕ) NoMemory)
+    → IfOk result (λ text. text ≡ printed_outcome p o.outs (map rows_of o.tables) (asked false o.counts)) → ((source : Source) → IsOf it source p → Gives o (source.means all))
+    → IfOk result (λ text. (source : Source) → IsOf it source p → text ≡ printed source false all)
+mean-says it p all o (Ok text) says gives = λ source is. says ∙ mean-printed source p all o is.plan (gives source is)
+mean-says it p all o (Err e) says gives = tt
 
 module _ (it : Program) (p : PlanForm) (all : List Content) (o : Outcome) (typed : AreContents p.inputs all)
     (known : IsKnown it p) (gives : (source : Source) → IsOf it source p → Gives o (source.means all)) where

@@ -45,7 +45,7 @@ made-stands program source p made text v of e =
     still variant.River source made is = tt
     still (variant.Streamit t) source made is = record { readable = is.readable; means = is.means }
     still (variant.Sawzall t) source made is = record { accepted = is.accepted; valued = is.valued; means = is.means }
-    still (variant.Cql t) source made is = record { queries = is.queries; inputs = is.inputs; means = is.means }
+    still (variant.Cql t) source made is = record { columns = is.columns; inputs = is.inputs; means = is.means }
 
 as_passed : {A B : Type 0} (stands : A → B → Type 0) (found : Result A (List ℕ)) (y : B) (held : Option Held) → StandsFor stands found y → (x : A) × stands x y × ((next : A → Order) → Comes (past found next) held (next x))
 as_passed stands (Ok x) y held told = (x, told, λ next. Comes-same (next x) held)

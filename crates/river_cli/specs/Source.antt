@@ -17,7 +17,6 @@ use Rattle.streamit_build.specs.Program as streamit_build
 use Rattle.streamit_build.specs.Told.{AreReadable}
 use Rattle.streamit_front.specs.Meaning.{Accepted, compiled}
 use Rattle.streamit_front.specs.Words.{streamit_words}
-use Rattle.cql_model.specs.Accepted.{AreQueries}
 use Rattle.cql_model.specs.Instants.{program_means}
 use Rattle.cql_model.specs.Program.{Register, Ask}
 use Rattle.cql_model.specs.Program as cql_model
@@ -35,6 +34,7 @@ use Rattle.saw_model.specs.Source as saw_model
 use Rattle.saw_text.specs.Tree as saw_text
 use Rattle.saw_text.specs.Tree.{unit_forms}
 use Rattle.saw_front.specs.Valued.{AreValuedParts}
+use Rattle.slow_mean.specs.CqlContents.{HaveColumns}
 use Rattle.slow_mean.specs.Sawzall.{IsAccepted}
 use Rattle.saw_front.specs.Meaning as saw
 use Rattle.saw_front.specs.Words.{saw_words}
@@ -160,7 +160,7 @@ pub record IsSawzall (s : Source) (p : saw_model.Program) : Type 0 where
   pub means : (files : List Content) → s.means files ≡ saw_means p files
 
 pub record IsCql (s : Source) (p : cql_model.Program) : Type 0 where
-  pub queries : AreQueries [] p
+  pub columns : HaveColumns [] p
   pub inputs : s.inputs ≡ input_decls p
   pub means : (files : List Content) → s.means files ≡ cql_means p files
 
@@ -172,13 +172,13 @@ IsProgramOf s (program.Sawzall p) = IsSawzall s (saw_text.program_of (unit_forms
 IsProgramOf s (program.Cql p) = IsCql s (program_of (parts_of p))
 
 -- a plan that may be run in place of the program, and the program as it was read
-pub record IsOf (program : Program) (s : Source) (p : PlanForm) : Type 0 where
+pub record IsOf (tree : Program) (s : Source) (p : PlanForm) : Type 0 where
   pub plan : IsPlanOf s p
-  pub program : IsProgramOf s program
+  pub program : IsProgramOf s tree
 
 -- there is such a program
 abbrev pub IsKnown : Program → PlanForm → Type 0
-IsKnown program p = (s : Source) × IsOf program s p
+IsKnown tree p = (s : Source) × IsOf tree s p
 
 abbrev pub IsCompiled : Source → Compiled → Type 0
 IsCompiled s c = IsOf c.program s c.plan

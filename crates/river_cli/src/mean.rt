@@ -1,5 +1,5 @@
 // What a program means by its language's own definition, without its plan.
-ghost use Rattle.std.specs.Prelude.{◌≡◌, [], ◌∷◌, ◌++◌, IfOk, OnOk};
+ghost use Rattle.std.specs.Prelude.{◌≡◌, false, [], ◌∷◌, ◌++◌, IfOk, OnOk};
 ghost use Rattle.river_plan.specs.Valid.{IsPlan};
 ghost use Rattle.river_cli.specs.Contents.{AreContents};
 ghost use Rattle.river_cli.specs.Inputs as inputs;

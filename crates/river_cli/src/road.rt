@@ -11,7 +11,7 @@ ghost use Rattle.river_cli.specs.Text.{script_refused as script_text};
 ghost use Rattle.river_cli.specs.Source.{Source, IsPlanOf, IsOf, IsKnown, IsCompiled, printed};
 ghost use Rattle.river_cli.specs.declared.compile.Program.{Program};
 
-use crate::compile::{Compiled, Program, compile};
+use crate::compile::{Program, compile};
 use crate::gather::gather;
 use crate::job::{Command, Job, Options, WordFault};
 use crate::mean::mean_text;
@@ -59,9 +59,9 @@ fn compiled<S: Shelf>(alloc: Global, job: &Job, text: &Bytes, shelf: &mut S) -> 
     ensures later { S.faults shelf.old ≤ S.faults shelf.new }
     ensures passes { Passes (of_text job.now text.now) (S.held shelf.old) (Rose (S.faults shelf.old) (S.faults shelf.new)) result }
 {
-    let Compiled { plan, program } = compile(alloc, job.lang, text)?;
-    let plan = script(alloc, &job.options, plan, shelf)?;
-    command(alloc, job, &plan, &program, shelf)
+    let compiled = compile(alloc, job.lang, text)?;
+    let plan = script(alloc, &job.options, compiled.plan, shelf)?;
+    command(alloc, job, &plan, &compiled.program, shelf)
 }
 
 // The plan that the script makes of it, where one is given.

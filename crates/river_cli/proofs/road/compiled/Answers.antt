@@ -1,8 +1,13 @@
 use Rattle.std.proofs.Common.{arith}
 use Rattle.std.proofs.lemmas.Result.{err_from_is_err_and}
 use Rattle.river_outside.specs.Causes.{Rose}
-use Rattle.river_cli.proofs.Points.{text-passes, text-stops, script-stops}
+use Rattle.river_cli.proofs.Points.{text-passes, text-stops, script-stops, known-later}
 use Rattle.river_cli.proofs.road.compiled.Goals as goal
+
+pub command-requires : goal.command-requires
+command-requires g c =
+    known-later c.args.job.now c.args.text.now (g.S.Shelf.held c.args.shelf.now) c.in_ok-compiled.compiled c.in_ok-plan.plan c.in_ok-compiled.ensures
+    (λ source is. c.in_ok-plan.ensures.passes c.in_ok-compiled.compiled.program source is)
 
 pub returns-in_err-compiled-clause-passes : goal.returns-in_err-compiled-clause-passes
 returns-in_err-compiled-clause-passes g c =
@@ -14,7 +19,8 @@ pub returns-in_err-plan-clause-passes : goal.returns-in_err-plan-clause-passes
 returns-in_err-plan-clause-passes g c =
     let p = err_from_is_err_and c.from_residual-in_err-plan.result c.from_residual-in_err-plan.ensures.1 in
     let rose = Rose (g.S.Shelf.faults c.args.shelf.now) (g.S.Shelf.faults c.script.new.shelf) in
-    rw (p.1, p.2) (script-stops c.args.job.now c.args.text.now (g.S.Shelf.held c.args.shelf.now) rose (record { plan = c.in_ok-compiled.plan; program = c.in_ok-compiled.program }) c.in_err-plan.field-0.0 c.in_ok-compiled.ensures (λ source is. c.in_err-plan.ensures.passes c.in_ok-compiled.program source is))
+    rw (p.1, p.2) (script-stops c.args.job.now c.args.text.now (g.S.Shelf.held c.args.shelf.now) rose c.in_ok-compiled.compiled c.in_err-plan.field-0.0 c.in_ok-compiled.ensures
+    (λ source is. c.in_err-plan.ensures.passes c.in_ok-compiled.compiled.program source is))
 
 pub returns-clause-passes : goal.returns-clause-passes
 returns-clause-passes g c =
@@ -22,4 +28,4 @@ returns-clause-passes g c =
     let early = Rose (g.S.Shelf.faults c.args.shelf.now) (g.S.Shelf.faults c.command.new.shelf) in
     let there = rw c.script.ensures.stays at c.command.ensures.passes in
     text-passes c.args.job.now c.args.text.now (g.S.Shelf.held c.args.shelf.now) early late (λ r. omega (arith, r, c.script.ensures.later)) c.in_ok-compiled.compiled c.in_ok-plan.plan c.command.result c.in_ok-compiled.ensures
-    (λ source is. c.in_ok-plan.ensures.passes source is) there
+    (λ source is. c.in_ok-plan.ensures.passes c.in_ok-compiled.compiled.program source is) there
