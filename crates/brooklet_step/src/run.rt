@@ -69,12 +69,7 @@ fn run_all(alloc: Global, plan: &Plan, machine: &mut Machine) -> Result<(), NoMe
 }
 
 // Rounds of turns, to the first in which none fires.
-fn run_rounds(
-    alloc: Global,
-    plan: &Plan,
-    machine: &mut Machine,
-    ops: u32,
-) -> Result<(), NoMemory>
+fn run_rounds(alloc: Global, plan: &Plan, machine: &mut Machine, ops: u32) -> Result<(), NoMemory>
     requires ops { ops ≡ length plan.now.ops }
     requires valid { IsPlan plan.now }
     requires plan { machine.old.plan ≡ plan.now }
@@ -91,12 +86,7 @@ fn run_rounds(
 }
 
 // A turn for each operator, one after another: whether one of them fired.
-fn run_round(
-    alloc: Global,
-    plan: &Plan,
-    machine: &mut Machine,
-    ops: u32,
-) -> Result<bool, NoMemory>
+fn run_round(alloc: Global, plan: &Plan, machine: &mut Machine, ops: u32) -> Result<bool, NoMemory>
     requires ops { ops ≡ length plan.now.ops }
     requires valid { IsPlan plan.now }
     requires plan { machine.old.plan ≡ plan.now }
@@ -115,12 +105,7 @@ fn run_round(
 }
 
 // A turn at each port of an operator, one after another: whether it fired.
-fn take_turns(
-    alloc: Global,
-    machine: &mut Machine,
-    op: u32,
-    ports: u32,
-) -> Result<bool, NoMemory>
+fn take_turns(alloc: Global, machine: &mut Machine, op: u32, ports: u32) -> Result<bool, NoMemory>
     requires valid { IsPlan machine.old.plan }
     requires running { machine.old.stopped ≡ false }
     requires ran { HasRun machine.old }
@@ -152,12 +137,7 @@ fn take_turn(alloc: Global, machine: &mut Machine, op: u32, port: u32) -> Result
 }
 
 // All operators to their end, one after another.
-fn drain_all(
-    alloc: Global,
-    plan: &Plan,
-    machine: &mut Machine,
-    ops: u32,
-) -> Result<(), NoMemory>
+fn drain_all(alloc: Global, plan: &Plan, machine: &mut Machine, ops: u32) -> Result<(), NoMemory>
     requires ops { ops ≡ length plan.now.ops }
     requires valid { IsPlan plan.now }
     requires plan { machine.old.plan ≡ plan.now }

@@ -6,4 +6,3 @@ loop-round-init c = runs_none c.args.machine.now c.requires.running
 
 pub loop-round-preserved : goal.loop-round-preserved
 loop-round-preserved c = runs_more c.args.machine.now c.loop-round.machine c.run_round.new.machine c.loop-round.invariant c.in_ok-run_round.ensures
-
