@@ -11,7 +11,7 @@ use Rattle.brooklet_model.specs.Meaning.{Results, meaning}
 use Rattle.brooklet_step.specs.declared.run.Outcome.{Outcome}
 use Rattle.river_cli.specs.Contents.{AreContents}
 use Rattle.river_cli.specs.Inputs.{timed_files, all_items}
-use Rattle.river_cli.specs.Source.{Source, values, records, IsPlanOf, IsOf, IsKnown, Gives, printed}
+use Rattle.river_cli.specs.Source.{Source, IsPlanOf, IsOf, IsKnown, Gives, printed}
 use Rattle.river_cli.specs.declared.compile.Program.{Program}
 use Rattle.river_cli.specs.declared.compile.Program.TheVariants as program
 use Rattle.river_cli.specs.declared.content.Content.{Content}
@@ -19,67 +19,14 @@ use Rattle.river_cli.specs.declared.content.Content.TheVariants.{Rows as Plain, 
 use Rattle.std.specs.Prelude.{Result, Ok, Err, IfOk}
 use Rattle.river_base.specs.declared.memory.NoMemory.{NoMemory}
 use Rattle.river_cli.proofs.CqlCompiled.{files-are}
-use Rattle.streamit_model.specs.Laws.{as_items}
-use Rattle.streamit_model.specs.Program.{program_outputs}
-use Rattle.streamit_build.specs.Program as streamit_build
-use Rattle.streamit_build.specs.Told.{AreReadable}
-use Rattle.streamit_front.specs.declared.program.StreamitProgram.{StreamitProgram}
-use Rattle.saw_model.specs.Source.{program_tables}
-use Rattle.saw_text.specs.Tree as saw_text
-use Rattle.saw_text.specs.Tree.{unit_forms}
-use Rattle.saw_front.specs.Valued.{AreValuedParts}
-use Rattle.saw_front.specs.declared.program.SawProgram.{SawProgram}
-use Rattle.slow_mean.specs.CqlContents.{HaveColumns}
-use Rattle.slow_mean.specs.Sawzall.{IsAccepted}
-use Rattle.cql_model.specs.Instants.{program_means}
 use Rattle.cql_model.specs.Laws.{AreFiles}
 use Rattle.cql_text.specs.Tree.{parts_of}
 use Rattle.cql_text.specs.declared.tree.CqlProgram.{CqlProgram}
 use Rattle.cql_build.specs.Seen as cql
 
--- what the program means is what the plan's printed text asks for
-pub mean-printed : (source : Source) (p : PlanForm) (all : List Content) (o : Outcome) → IsPlanOf source p → Gives o (source.means all)
-    → printed_outcome p o.outs (map rows_of o.tables) (asked false o.counts) ≡ printed source false all
-mean-printed source p all o is gives = λ i.
-    outputs_text (is.outputs i) (gives.outs i) ++ (tables_text (is.tables i) (gives.tables i) ++ firings_text (labels (is.plan i).ops) (asked false o.counts))
-
--- ---- A PROGRAM THAT IS KNOWN
-
--- what its own evaluator may ask for
-pub known-readable : (t : StreamitProgram) (p : PlanForm) → IsKnown (program.Streamit t) p → AreReadable (streamit_build.program_of t.units.items)
-known-readable t p (source, is) = is.program.readable
-
-pub known-accepted : (t : SawProgram) (p : PlanForm) → IsKnown (program.Sawzall t) p → IsAccepted (saw_text.program_of (unit_forms t.units.items))
-known-accepted t p (source, is) = is.program.accepted
-
-pub known-valued : (t : SawProgram) (p : PlanForm) → IsKnown (program.Sawzall t) p → AreValuedParts (saw_text.program_of (unit_forms t.units.items))
-known-valued t p (source, is) = is.program.valued
-
-pub known-columns : (t : CqlProgram) (p : PlanForm) → IsKnown (program.Cql t) p → HaveColumns [] (cql.program_of (parts_of t))
-known-columns t p (source, is) = is.program.columns
-
+-- the files of a CQL program fit its registered streams
 pub known-files : (t : CqlProgram) (p : PlanForm) (all : List Content) → IsKnown (program.Cql t) p → AreContents p.inputs all → AreFiles (cql.program_of (parts_of t)) (timed_files all)
 known-files t p all (source, is) typed = files-are (cql.program_of (parts_of t)) all (subst (λ ds. AreContents ds all) (is.plan.inputs ∙ is.program.inputs) typed)
-
--- what it gives is its meaning
-pub river-gives : (p : PlanForm) (all : List Content) (o : Outcome) → AreContents p.inputs all → o.outs ≡ (meaning p (all_items all)).outs → map rows_of o.tables ≡ (meaning p (all_items all)).tables
-    → (source : Source) → IsOf program.River source p → Gives o (source.means all)
-river-gives p all o typed outs tables source is = subst (Gives o) (is.plan.means all typed) (record { outs = outs; tables = tables })
-
-pub streamit-gives : (t : StreamitProgram) (p : PlanForm) (all : List Content) (o : Outcome)
-    → o.outs ≡ as_items (program_outputs (streamit_build.program_of t.units.items) (values all)) ∷ [] → o.tables ≡ []
-    → (source : Source) → IsOf (program.Streamit t) source p → Gives o (source.means all)
-streamit-gives t p all o outs tables source is = subst (Gives o) (sym (is.program.means all)) (record { outs = outs; tables = ap (map rows_of) tables })
-
-pub sawzall-gives : (t : SawProgram) (p : PlanForm) (all : List Content) (o : Outcome)
-    → o.outs ≡ [] → map rows_of o.tables ≡ program_tables (saw_text.program_of (unit_forms t.units.items)) (records all)
-    → (source : Source) → IsOf (program.Sawzall t) source p → Gives o (source.means all)
-sawzall-gives t p all o outs tables source is = subst (Gives o) (sym (is.program.means all)) (record { outs = outs; tables = tables })
-
-pub cql-gives : (t : CqlProgram) (p : PlanForm) (all : List Content) (o : Outcome)
-    → o.outs ≡ program_means (cql.program_of (parts_of t)) (timed_files all) → o.tables ≡ []
-    → (source : Source) → IsOf (program.Cql t) source p → Gives o (source.means all)
-cql-gives t p all o outs tables source is = subst (Gives o) (sym (is.program.means all)) (record { outs = outs; tables = ap (map rows_of) tables })
 
 -- files with timestamps, one after another
 pub timed-more : (fs : List Content) (f : Content) → timed_files (fs ++ f ∷ []) ≡ timed_files fs ++ timed_files (f ∷ [])
@@ -88,6 +35,12 @@ timed-more (Plain rows ∷ fs) f = timed-more fs f
 timed-more (Timed rows ∷ fs) f = ap (λ l. rows ∷ l) (timed-more fs f)
 
 -- ---- WHAT IS PRINTED
+
+-- what the program means is what the plan's printed text asks for
+pub mean-printed : (source : Source) (p : PlanForm) (all : List Content) (o : Outcome) → IsPlanOf source p → Gives o (source.means all)
+    → printed_outcome p o.outs (map rows_of o.tables) (asked false o.counts) ≡ printed source false all
+mean-printed source p all o is gives = λ i.
+    outputs_text (is.outputs i) (gives.outs i) ++ (tables_text (is.tables i) (gives.tables i) ++ firings_text (labels (is.plan i).ops) (asked false o.counts))
 
 pub mean-says : (it : Program) (p : PlanForm) (all : List Content) (o : Outcome) (result : Result (List ℕ) NoMemory)
     → IfOk result (λ text. text ≡ printed_outcome p o.outs (map rows_of o.tables) (asked false o.counts)) → ((source : Source) → IsOf it source p → Gives o (source.means all))

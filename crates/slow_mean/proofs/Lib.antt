@@ -14,6 +14,5 @@ pub mod SawzallValues
 pub mod SawzallWide
 pub mod StreamitBlocks
 pub mod StreamitFilters
-pub mod StreamitReadable
 pub mod StreamitRounds
 pub mod StreamitStreams
