@@ -8,8 +8,8 @@ use Rattle.cql_text.specs.Tree.{parts_of}
 use Rattle.river_cli.proofs.Means.{known-files}
 use Rattle.river_cli.proofs.mean.mean.Goals as goal
 
-pub run_one-requires : goal.run_one-requires
-run_one-requires c = record {
+pub run_lines-requires : goal.run_lines-requires
+run_lines-requires c = record {
   fits = subst (λ (l : List (List item.Item)). Fit c.args.plan.now l) (sym c.in_ok-inputs_of-in-River.ensures) (contents-fit c.args.plan.now c.args.files c.requires.contents);
 }
 
