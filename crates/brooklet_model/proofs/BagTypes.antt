@@ -1,5 +1,6 @@
 -- What the kernels on streams and relations give is of their ports' types.
-use Rattle.std.proofs.Common.{◌≡◌, ℕ, zero, suc, ℤ, pos, ◌+◌, ◌-◌, Bool, true, false, cond, Option, Some, None, List, [], ◌∷◌, ◌++◌, length, map, filter, fold, drop, refl, subst, arith, length-append}
+use Rattle.std.proofs.Common.{◌≡◌, ℕ, zero, suc, ℤ, pos, ◌+◌, ◌-◌, Bool, true, false, cond, Option, Some, None, List, [], ◌∷◌, ◌++◌, length, map, filter, fold}
+use Rattle.std.proofs.Common.{drop, refl, subst, arith, length-append}
 use Rattle.std.specs.Prelude.{All, int_lt, ◌-ℤ◌, int_le, ◌&&◌}
 use Rattle.std.specs.List.{flat_map}
 use Rattle.std.specs.Ordering.{int_eq}
@@ -21,8 +22,10 @@ use Rattle.river_base.specs.Row.{in_order, row_lt, row_eq}
 use Rattle.river_base.proofs.Rows.{in_order_ascends, rows_ranked}
 use Rattle.work_code.specs.Term.{Term}
 use Rattle.work_code.specs.Value.{val, is_true}
-use Rattle.kern_bags.specs.Contents.{take_out, selected, projected, product, difference, without, rows_where, put_batch, by_instant, in_window, content_of, greatest, later}
-use Rattle.kern_bags.specs.Steps.{last_rows, window_one, select_one, project_one, streamed, streamer_one, Pairing, rows_of, joined_batch, front_pair, front_of_pair, without_first, rest_of_pair, put_pair, crosses}
+use Rattle.kern_bags.specs.Contents.{take_out, selected, projected, product, difference, without, rows_where, put_batch, by_instant, in_window, content_of}
+use Rattle.kern_bags.specs.Contents.{greatest, later}
+use Rattle.kern_bags.specs.Steps.{last_rows, window_one, select_one, project_one, streamed, streamer_one, Pairing, rows_of, joined_batch, front_pair}
+use Rattle.kern_bags.specs.Steps.{front_of_pair, without_first, rest_of_pair, put_pair, crosses}
 use Rattle.kern_bags.specs.declared.kernel.Window.{Window}
 use Rattle.kern_bags.specs.declared.kernel.Window.TheVariants.{Now, Range, Unbounded, Latest}
 use Rattle.kern_bags.specs.declared.kernel.Streamer.{Streamer}
@@ -75,13 +78,15 @@ one_of t x h = All-cons (HasType t) x [] h (All-nil (HasType t))
 -- the batches of a stream, or of a relation
 pub stream_batches : (n : ℕ) (xs : List item.Item) → All (HasType (stream n)) xs → All (WideBatch n) (batches xs)
 stream_batches n [] h = All-nil (WideBatch n)
-stream_batches n (Flat (Batched b) ∷ xs) h = All-cons (WideBatch n) b (batches xs) (All-head (HasType (stream n)) (Flat (Batched b)) xs h) (stream_batches n xs (All-tail (HasType (stream n)) (Flat (Batched b)) xs h))
+stream_batches n (Flat (Batched b) ∷ xs) h =
+    All-cons (WideBatch n) b (batches xs) (All-head (HasType (stream n)) (Flat (Batched b)) xs h) (stream_batches n xs (All-tail (HasType (stream n)) (Flat (Batched b)) xs h))
 stream_batches n (Flat (One row) ∷ xs) h = stream_batches n xs (All-tail (HasType (stream n)) (Flat (One row)) xs h)
 stream_batches n (Pack fs ∷ xs) h = stream_batches n xs (All-tail (HasType (stream n)) (Pack fs) xs h)
 
 pub relation_batches : (n : ℕ) (xs : List item.Item) → All (HasType (relation n)) xs → All (WideBatch n) (batches xs)
 relation_batches n [] h = All-nil (WideBatch n)
-relation_batches n (Flat (Batched b) ∷ xs) h = All-cons (WideBatch n) b (batches xs) (All-head (HasType (relation n)) (Flat (Batched b)) xs h).0 (relation_batches n xs (All-tail (HasType (relation n)) (Flat (Batched b)) xs h))
+relation_batches n (Flat (Batched b) ∷ xs) h =
+    All-cons (WideBatch n) b (batches xs) (All-head (HasType (relation n)) (Flat (Batched b)) xs h).0 (relation_batches n xs (All-tail (HasType (relation n)) (Flat (Batched b)) xs h))
 relation_batches n (Flat (One row) ∷ xs) h = relation_batches n xs (All-tail (HasType (relation n)) (Flat (One row)) xs h)
 relation_batches n (Pack fs ∷ xs) h = relation_batches n xs (All-tail (HasType (relation n)) (Pack fs) xs h)
 
@@ -96,7 +101,8 @@ all-filtered P p (x ∷ xs) h = step (p x) (all-filtered P p xs (All-tail P x xs
 
 rows_all : (n : ℕ) (bs : List Batch) → All (WideBatch n) bs → HaveWidth n (flat_map (λ (b : Batch). b.rows) bs)
 rows_all n [] h = All-nil (IsWide n)
-rows_all n (b ∷ bs) h = All-append (IsWide n) b.rows (flat_map (λ (c : Batch). c.rows) bs) (All-head (WideBatch n) b bs h) (rows_all n bs (All-tail (WideBatch n) b bs h))
+rows_all n (b ∷ bs) h =
+    All-append (IsWide n) b.rows (flat_map (λ (c : Batch). c.rows) bs) (All-head (WideBatch n) b bs h) (rows_all n bs (All-tail (WideBatch n) b bs h))
 
 where_wide : (n : ℕ) (p : ℤ → Bool) (bs : List Batch) → All (WideBatch n) bs → HaveWidth n (rows_where p bs)
 where_wide n p bs h = rows_all n (filter (λ (b : Batch). p b.at) bs) (all-filtered (WideBatch n) (λ (b : Batch). p b.at) bs h)
@@ -125,7 +131,8 @@ pub content : (n : ℕ) (rows : List (List ℤ)) → HaveWidth n rows → HaveWi
 content n rows h = (all-in_order (IsWide n) rows h, in_order_ascends rows)
 
 -- what a window gives is a relation's content of its stream's width
-pub window_typed : (n : ℕ) (w : Window) (past : List item.Item) (x : item.Item) → All (HasType (stream n)) past → HasType (stream n) x → All (HasType (relation n)) (window_one w past x)
+pub window_typed : (n : ℕ) (w : Window) (past : List item.Item) (x : item.Item) → All (HasType (stream n)) past → HasType (stream n) x
+    → All (HasType (relation n)) (window_one w past x)
 window_typed n w past (Flat (Batched b)) h i =
     let bs = batches (past ++ Flat (Batched b) ∷ []) in
     let wide = stream_batches n (past ++ Flat (Batched b) ∷ []) (All-append (HasType (stream n)) past (Flat (Batched b) ∷ []) h (one_of (stream n) (Flat (Batched b)) i)) in
@@ -144,16 +151,19 @@ selected_up e rows h = IsSortedBy-filter row_lt rows_ranked (λ row. is_true (va
 -- a selection gives rows of the width of what it is given, in order where they were
 pub select_typed : (t : FlatType) (e : Term) (x : item.Item) → is_bag t ≡ true → HasType (FlatOf t) x → All (HasType (FlatOf t)) (select_one e x)
 select_typed (Rows n) e x b i = absurd (cc b)
-select_typed (Stream n) e (Flat (Batched b)) g i = one_of (stream n) (Flat (Batched (record { at = b.at; rows = selected e b.rows }))) (selected_wide n e b.rows i)
+select_typed (Stream n) e (Flat (Batched b)) g i =
+    one_of (stream n) (Flat (Batched (record { at = b.at; rows = selected e b.rows }))) (selected_wide n e b.rows i)
 select_typed (Stream n) e (Flat (One row)) g i = absurd i
 select_typed (Stream n) e (Pack fs) g i = absurd i
-select_typed (Relation n) e (Flat (Batched b)) g i = one_of (relation n) (Flat (Batched (record { at = b.at; rows = selected e b.rows }))) (selected_wide n e b.rows i.0, selected_up e b.rows i.1)
+select_typed (Relation n) e (Flat (Batched b)) g i =
+    one_of (relation n) (Flat (Batched (record { at = b.at; rows = selected e b.rows }))) (selected_wide n e b.rows i.0, selected_up e b.rows i.1)
 select_typed (Relation n) e (Flat (One row)) g i = absurd i
 select_typed (Relation n) e (Pack fs) g i = absurd i
 
 images_wide : (es : List Term) (rows : List (List ℤ)) → HaveWidth (length es) (map (λ row. map (λ t. val t row []) es) rows)
 images_wide es [] = All-nil (IsWide (length es))
-images_wide es (r ∷ rs) = All-cons (IsWide (length es)) (map (λ t. val t r []) es) (map (λ row. map (λ t. val t row []) es) rs) (length-map es (λ t. val t r [])) (images_wide es rs)
+images_wide es (r ∷ rs) =
+    All-cons (IsWide (length es)) (map (λ t. val t r []) es) (map (λ row. map (λ t. val t row []) es) rs) (length-map es (λ t. val t r [])) (images_wide es rs)
 
 -- a projection gives a relation's content, of one value for each term
 pub project_typed : (n : ℕ) (es : List Term) (x : item.Item) → HasType (relation n) x → All (HasType (relation (length es))) (project_one es x)
@@ -178,7 +188,8 @@ streamed_wide n Dstream old new a b = difference_wide n old new a
 streamed_wide n Rstream old new a b = b
 
 -- a streamer gives rows of its relation's width
-pub streamer_typed : (n : ℕ) (k : Streamer) (past : List item.Item) (x : item.Item) → All (HasType (relation n)) past → HasType (relation n) x → All (HasType (stream n)) (streamer_one k past x)
+pub streamer_typed : (n : ℕ) (k : Streamer) (past : List item.Item) (x : item.Item) → All (HasType (relation n)) past → HasType (relation n) x
+    → All (HasType (stream n)) (streamer_one k past x)
 streamer_typed n k past (Flat (Batched b)) h i =
     one_of (stream n) (Flat (Batched (record { at = b.at; rows = streamed k (last_rows (batches past)) b.rows })))
     (streamed_wide n k (last_rows (batches past)) b.rows (last_wide n (batches past) (relation_batches n past h)) i.0)
@@ -212,33 +223,41 @@ batch_typed a b (Pack fs) y i j = absurd i
 abbrev pub PairTyped : ℕ → ℕ → Pairing → Type 0
 PairTyped a b s = All (HasType (relation a)) s.left × All (HasType (relation b)) s.right
 
-front_typed : (a b : ℕ) (xs ys o : List item.Item) → All (HasType (relation a)) xs → All (HasType (relation b)) ys → front_pair xs ys ≡ Some o → All (HasType (relation (a + b))) o
+front_typed : (a b : ℕ) (xs ys o : List item.Item) → All (HasType (relation a)) xs → All (HasType (relation b)) ys → front_pair xs ys ≡ Some o
+    → All (HasType (relation (a + b))) o
 front_typed a b [] ys o h g e = absurd (cc e)
 front_typed a b (x ∷ xs) [] o h g e = absurd (cc e)
 front_typed a b (x ∷ xs) (y ∷ ys) o h g e =
-    let is : joined_batch x y ≡ o = cc in subst (All (HasType (relation (a + b)))) is (batch_typed a b x y (All-head (HasType (relation a)) x xs h) (All-head (HasType (relation b)) y ys g))
+    let is : joined_batch x y ≡ o = cc in
+    subst (All (HasType (relation (a + b)))) is (batch_typed a b x y (All-head (HasType (relation a)) x xs h) (All-head (HasType (relation b)) y ys g))
 
 rest_typed : (t : QueueType) (xs : List item.Item) → All (HasType t) xs → All (HasType t) (without_first xs)
 rest_typed t [] h = h
 rest_typed t (x ∷ xs) h = All-tail (HasType t) x xs h
 
-drain_typed : (a b n : ℕ) (s : Pairing) → PairTyped a b s → All (HasType (relation (a + b))) (drain front_of_pair rest_of_pair n s).0 × PairTyped a b (drain front_of_pair rest_of_pair n s).1
+drain_typed : (a b n : ℕ) (s : Pairing) → PairTyped a b s
+    → All (HasType (relation (a + b))) (drain front_of_pair rest_of_pair n s).0 × PairTyped a b (drain front_of_pair rest_of_pair n s).1
 drain_typed a b zero s h = (All-nil (HasType (relation (a + b))), h)
-drain_typed a b (suc n) s h = go (front_of_pair s) refl (drain_typed a b n (rest_of_pair s) (rest_typed (relation a) s.left h.0, rest_typed (relation b) s.right h.1)) where
-  next : Pairing → List item.Item × Pairing
-  next = drain front_of_pair rest_of_pair n
+drain_typed a b (suc n) s h =
+    go (front_of_pair s) refl (drain_typed a b n (rest_of_pair s) (rest_typed (relation a) s.left h.0, rest_typed (relation b) s.right h.1)) where
+      next : Pairing → List item.Item × Pairing
+      next = drain front_of_pair rest_of_pair n
 
-  go : (o : Option (List item.Item)) → front_of_pair s ≡ o → All (HasType (relation (a + b))) (drain front_of_pair rest_of_pair n (rest_of_pair s)).0 × PairTyped a b (drain front_of_pair rest_of_pair n (rest_of_pair s)).1
-      → All (HasType (relation (a + b))) (pass_on rest_of_pair s (drain front_of_pair rest_of_pair n) o).0 × PairTyped a b (pass_on rest_of_pair s (drain front_of_pair rest_of_pair n) o).1
-  go None e r = (All-nil (HasType (relation (a + b))), h)
-  go (Some o) e r = (All-append (HasType (relation (a + b))) o (drain front_of_pair rest_of_pair n (rest_of_pair s)).0 (front_typed a b s.left s.right o h.0 h.1 e) r.0, r.1)
+      go : (o : Option (List item.Item)) → front_of_pair s ≡ o
+          → All (HasType (relation (a + b))) (drain front_of_pair rest_of_pair n (rest_of_pair s)).0 × PairTyped a b (drain front_of_pair rest_of_pair n (rest_of_pair s)).1
+          → All (HasType (relation (a + b))) (pass_on rest_of_pair s (drain front_of_pair rest_of_pair n) o).0 × PairTyped a b (pass_on rest_of_pair s (drain front_of_pair rest_of_pair n) o).1
+      go None e r = (All-nil (HasType (relation (a + b))), h)
+      go (Some o) e r =
+          (All-append (HasType (relation (a + b))) o (drain front_of_pair rest_of_pair n (rest_of_pair s)).0 (front_typed a b s.left s.right o h.0 h.1 e) r.0, r.1)
 
 -- a product gives a relation's content of both widths together, and what waits stays of its types: an item at the left
-pub cross_typed_left : (a b : ℕ) (x : item.Item) (s : Pairing) → PairTyped a b s → HasType (relation a) x → All (HasType (relation (a + b))) (crosses 0 x s).0 × PairTyped a b (crosses 0 x s).1
+pub cross_typed_left : (a b : ℕ) (x : item.Item) (s : Pairing) → PairTyped a b s → HasType (relation a) x
+    → All (HasType (relation (a + b))) (crosses 0 x s).0 × PairTyped a b (crosses 0 x s).1
 cross_typed_left a b x s h i =
     drain_typed a b (length (s.left ++ x ∷ []) + length s.right) (put_pair 0 x s) (All-append (HasType (relation a)) s.left (x ∷ []) h.0 (one_of (relation a) x i), h.1)
 
 -- and one at the right
-pub cross_typed_right : (a b p : ℕ) (x : item.Item) (s : Pairing) → PairTyped a b s → HasType (relation b) x → All (HasType (relation (a + b))) (crosses (suc p) x s).0 × PairTyped a b (crosses (suc p) x s).1
+pub cross_typed_right : (a b p : ℕ) (x : item.Item) (s : Pairing) → PairTyped a b s → HasType (relation b) x
+    → All (HasType (relation (a + b))) (crosses (suc p) x s).0 × PairTyped a b (crosses (suc p) x s).1
 cross_typed_right a b p x s h i =
     drain_typed a b (length s.left + length (s.right ++ x ∷ [])) (put_pair (suc p) x s) (h.0, All-append (HasType (relation b)) s.right (x ∷ []) h.1 (one_of (relation b) x i))

@@ -1,5 +1,6 @@
 -- Joiners that are fed with whole lists.
-use Rattle.std.proofs.Common.{◌≡◌, ◌≢◌, ℕ, zero, suc, ◌+◌, ◌%◌, ◌<◌, ◌≤◌, List, [], ◌∷◌, ◌++◌, length, drop, Option, Some, None, refl, sym, ap, ◌∙◌, subst, arith, append_assoc, ⊎_elim}
+use Rattle.std.proofs.Common.{◌≡◌, ◌≢◌, ℕ, zero, suc, ◌+◌, ◌%◌, ◌<◌, ◌≤◌, List, [], ◌∷◌, ◌++◌, length, drop, Option, Some, None, refl, sym, ap, ◌∙◌, subst}
+use Rattle.std.proofs.Common.{arith, append_assoc, ⊎_elim}
 use Rattle.std.specs.Prelude.{slice_get, replicate}
 use Rattle.std.proofs.Math.Nat.{le_refl}
 use Rattle.std.proofs.lemmas.Bool.{cases_eq}
@@ -192,4 +193,5 @@ settles ws ls pos lt =
 
 pub blanks_filled : (ls : List (List item.Item)) (g : ℕ → List item.Item) → ((p : ℕ) → g p ≡ list_at ls p) → each_grew (replicate (length ls) []) g ≡ ls
 blanks_filled [] g e = refl
-blanks_filled (l ∷ ls) g e = ap (λ t. t ∷ each_grew (replicate (length ls) []) (λ p. g (suc p))) (e 0) ∙ ap (λ t. l ∷ t) (blanks_filled ls (λ p. g (suc p)) (λ p. e (suc p)))
+blanks_filled (l ∷ ls) g e =
+    ap (λ t. t ∷ each_grew (replicate (length ls) []) (λ p. g (suc p))) (e 0) ∙ ap (λ t. l ∷ t) (blanks_filled ls (λ p. g (suc p)) (λ p. e (suc p)))

@@ -1,5 +1,6 @@
 -- Every complete run has the plan's histories.
-use Rattle.std.proofs.Common.{◌≡◌, ◌≢◌, ℕ, ◌+◌, ◌<◌, ◌≤◌, Some, List, [], ◌∷◌, ◌++◌, length, take, refl, sym, ap, ◌∙◌, subst, arith, length-append, ⊎_elim, nat_eq, false}
+use Rattle.std.proofs.Common.{◌≡◌, ◌≢◌, ℕ, ◌+◌, ◌<◌, ◌≤◌, Some, List, [], ◌∷◌, ◌++◌, length, take, refl, sym, ap, ◌∙◌, subst, arith, length-append, ⊎_elim}
+use Rattle.std.proofs.Common.{nat_eq, false}
 use Rattle.std.specs.Prelude.{if◌then◌else◌, count_by, slice_get}
 use Rattle.std.proofs.lemmas.Bool.{cases_eq}
 use Rattle.std.proofs.lemmas.List.{append-nil, take-append-le, length-map}
@@ -27,7 +28,9 @@ use Rattle.brooklet_model.proofs.Ports.{counts, shaped, got_below}
 use Rattle.brooklet_model.proofs.Shapes.{first_shape}
 use Rattle.brooklet_model.proofs.Solutions.{count_here, written_out, plan_unique}
 use Rattle.brooklet_model.proofs.Swaps.{count_by-append, at_port_here, at_port_past}
-use Rattle.brooklet_model.proofs.Traces.{some_is, at_most, one_place, got_count, place_once, each_at, each_of, got_read, read_of, joined_out, lists_more, joined-append, joined_none, joined_bag, joined_cong, lists_cong, lists_agree, at_key_same, at_key_other, run_more, at_same, take_next, numbered_same, numbered_more, numbered_total, adds_it, adds_total, word_lengths}
+use Rattle.brooklet_model.proofs.Traces.{some_is, at_most, one_place, got_count, place_once, each_at, each_of, got_read, read_of, joined_out, lists_more}
+use Rattle.brooklet_model.proofs.Traces.{joined-append, joined_none, joined_bag, joined_cong, lists_cong, lists_agree, at_key_same, at_key_other, run_more}
+use Rattle.brooklet_model.proofs.Traces.{at_same, take_next, numbered_same, numbered_more, numbered_total, adds_it, adds_total, word_lengths}
 
 -- one more firing of the operator that fired, and of no other
 one_more : (k o : ℕ) (e : ℕ × item.Item) (ws : ℕ → Word) → length (at_key k (ws k ++ e ∷ []) ws o) ≡ length (ws o) + (if nat_eq k o then 1 else 0)
@@ -65,7 +68,8 @@ module _ (pl : PlanForm) (inputs : History) (v : IsPlan pl) (empty : (q : Name) 
   pub traced_start : Traced tables ops inputs (started pl inputs) (λ o. [])
   traced_start = record {
     kept = λ o op g. ap first_of g;
-    written_by = λ o op g. lists_none op.writes inputs (λ q lt. empty q (let m = at_most (writes_it q) ops o op g in let w = v.written_once q in omega (arith, m, w, lt)));
+    written_by =
+        λ o op g. lists_none op.writes inputs (λ q lt. empty q (let m = at_most (writes_it q) ops o op g in let w = v.written_once q in omega (arith, m, w, lt)));
     unwritten = λ q z. refl;
     below = λ o op g. tt;
     taken = λ o op g p q is. (refl, omega arith);
@@ -80,7 +84,9 @@ module _ (pl : PlanForm) (inputs : History) (v : IsPlan pl) (empty : (q : Name) 
       zeros [] = refl
       zeros (x ∷ xs) = let e = zeros xs in omega (arith, e)
 
-  pub traced_fired : (s : Machine) (ws : ℕ → Word) (o p : ℕ) (op : OpForm) (q : Name) (x : item.Item) → Traced tables ops inputs s ws → slice_get ops o ≡ Some op → slice_get op.reads p ≡ Some q → slice_get (s.hist q) (s.taken q) ≡ Some x → Traced tables ops inputs (fired tables o op p q x s) (at_key o (ws o ++ (p, x) ∷ []) ws)
+  pub traced_fired : (s : Machine) (ws : ℕ → Word) (o p : ℕ) (op : OpForm) (q : Name) (x : item.Item) → Traced tables ops inputs s ws
+      → slice_get ops o ≡ Some op → slice_get op.reads p ≡ Some q → slice_get (s.hist q) (s.taken q) ≡ Some x
+      → Traced tables ops inputs (fired tables o op p q x s) (at_key o (ws o ++ (p, x) ∷ []) ws)
   traced_fired s ws o p op q x t g pq is = record {
     kept = λ o' op' g'. ⊎_elim
         (λ e. at_same ops (λ i j. at_key o r.states s.kept i ≡ (ran j (ws' i)).states) o o' op op' g g' e
@@ -179,7 +185,8 @@ module _ (pl : PlanForm) (inputs : History) (v : IsPlan pl) (empty : (q : Name) 
             omega (arith, n_is, lt, length-append (s.hist q) g1),
           )
 
-      taken_there : (o' : ℕ) (op' : OpForm) → slice_get ops o' ≡ Some op' → (p' : ℕ) (q' : Name) → slice_get op'.reads p' ≡ Some q' → (q ≡ q' → ⊥) → name_eq q q' ≡ false → Taken o' op' p' q'
+      taken_there : (o' : ℕ) (op' : OpForm) → slice_get ops o' ≡ Some op' → (p' : ℕ) (q' : Name) → slice_get op'.reads p' ≡ Some q' → (q ≡ q' → ⊥)
+          → name_eq q q' ≡ false → Taken o' op' p' q'
       taken_there o' op' g' p' q' pq' n nf =
           let g1 = joined op.writes r.outs q' in
           let old = t.taken o' op' g' p' q' pq' in
@@ -197,7 +204,8 @@ module _ (pl : PlanForm) (inputs : History) (v : IsPlan pl) (empty : (q : Name) 
           )
 
   -- the firings of each operator, as many more as it stands in the run
-  pub traced_run : (es : List (ℕ × ℕ)) (s s' : Machine) (ws : ℕ → Word) → Traced tables ops inputs s ws → Run pl s es s' → (ws' : ℕ → Word) × Traced tables ops inputs s' ws' × ((o : ℕ) → length (ws' o) ≡ length (ws o) + times o es)
+  pub traced_run : (es : List (ℕ × ℕ)) (s s' : Machine) (ws : ℕ → Word) → Traced tables ops inputs s ws → Run pl s es s'
+      → (ws' : ℕ → Word) × Traced tables ops inputs s' ws' × ((o : ℕ) → length (ws' o) ≡ length (ws o) + times o es)
   traced_run [] s s' ws t r = (ws, subst (λ m. Traced tables ops inputs m ws) (sym r) t, λ o. omega arith)
   traced_run (e ∷ es) s s' ws t r =
       let st = r.1 in
@@ -213,10 +221,12 @@ module _ (pl : PlanForm) (inputs : History) (v : IsPlan pl) (empty : (q : Name) 
       let c = counts op.kernel _ _ _ fit in
       sym (length-map op.reads (kind_of (all_decls pl))) ∙ c.ins
 
-  came : (s : Machine) (ws : ℕ → Word) (o : ℕ) (op : OpForm) → Traced tables ops inputs s ws → IsComplete pl s → slice_get ops o ≡ Some op → (p : ℕ) (q : Name) → slice_get op.reads p ≡ Some q → at_port p (ws o) ≡ s.hist q
+  came : (s : Machine) (ws : ℕ → Word) (o : ℕ) (op : OpForm) → Traced tables ops inputs s ws → IsComplete pl s → slice_get ops o ≡ Some op → (p : ℕ) (q : Name)
+      → slice_get op.reads p ≡ Some q → at_port p (ws o) ≡ s.hist q
   came s ws o op t done g p q is = (t.taken o op g p q is).0 ∙ ap (λ n. take n (s.hist q)) (done o p op q g is) ∙ take-length (s.hist q)
 
-  operator_is : (s : Machine) (ws : ℕ → Word) (o : ℕ) (op : OpForm) → Traced tables ops inputs s ws → IsComplete pl s → slice_get ops o ≡ Some op → Alike (ran op (ws o)) (given op s.hist)
+  operator_is : (s : Machine) (ws : ℕ → Word) (o : ℕ) (op : OpForm) → Traced tables ops inputs s ws → IsComplete pl s → slice_get ops o ≡ Some op
+      → Alike (ran op (ws o)) (given op s.hist)
   operator_is s ws o op t done g =
       let fit : IsFit pl op = each_at (IsFit pl) ops o op v.fits g in
       let e = reads_are o op g in

@@ -1,5 +1,6 @@
 -- Places of a cycle: the next one, and how many of them are each branch's.
-use Rattle.std.proofs.Common.{◌≡◌, ◌≢◌, ℕ, zero, suc, ◌+◌, ◌-◌, ◌*◌, ◌/◌, ◌%◌, ◌<◌, ◌≤◌, ◌⊎◌, inl, inr, List, [], ◌∷◌, length, refl, sym, ap, ◌∙◌, subst, arith, nat_lt, ⊎_elim}
+use Rattle.std.proofs.Common.{◌≡◌, ◌≢◌, ℕ, zero, suc, ◌+◌, ◌-◌, ◌*◌, ◌/◌, ◌%◌, ◌<◌, ◌≤◌, ◌⊎◌, inl, inr, List, [], ◌∷◌, length, refl, sym, ap, ◌∙◌, subst, arith}
+use Rattle.std.proofs.Common.{nat_lt, ⊎_elim}
 use Rattle.std.specs.Prelude.{if◌then◌else◌, slice_index_or, min}
 use Rattle.std.specs.List.{AllByRecursion}
 use Rattle.std.proofs.lemmas.Bool.{cases_lt}
@@ -241,7 +242,9 @@ taken_next ws p x n lt e = cases_cycle (cycle ws) x lt
     ∙ (omega (arith, e, a, b, c)))
 
 pub taken_same : (ws : List ℕ) (p x : ℕ) → 0 < cycle ws → branch ws x ≡ p → taken ws p (suc x) ≡ taken ws p x + 1
-taken_same ws p x lt e = taken_next ws p x 1 lt (subst (λ k. before ws k (x % cycle ws + 1) ≡ before ws k (x % cycle ws) + 1) e (before_same ws (x % cycle ws) (mod_below x (cycle ws) lt)))
+taken_same ws p x lt e =
+    taken_next ws p x 1 lt (subst (λ k. before ws k (x % cycle ws + 1) ≡ before ws k (x % cycle ws) + 1) e (before_same ws (x % cycle ws) (mod_below x (cycle ws) lt)))
 
 pub taken_other : (ws : List ℕ) (p x : ℕ) → 0 < cycle ws → branch ws x ≢ p → taken ws p (suc x) ≡ taken ws p x
-taken_other ws p x lt ne = taken_next ws p x 0 lt (let e = before_other ws p (x % cycle ws) ne in omega (arith, e)) ∙ (let z : taken ws p x + 0 ≡ taken ws p x = omega arith in z)
+taken_other ws p x lt ne =
+    taken_next ws p x 0 lt (let e = before_other ws p (x % cycle ws) ne in omega (arith, e)) ∙ (let z : taken ws p x + 0 ≡ taken ws p x = omega arith in z)

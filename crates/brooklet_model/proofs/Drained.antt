@@ -17,7 +17,8 @@ module _ (ports : ℕ) (S : Type 0) (front : S → Option (List item.Item)) (res
   drain_none zero s e = refl
   drain_none (suc n) s e = ap (pass_on rest s (drain front rest n)) e
 
-  pub drain_some : (n : ℕ) (s : S) (o : List item.Item) → front s ≡ Some o → drain front rest (suc n) s ≡ (o ++ (drain front rest n (rest s)).0, (drain front rest n (rest s)).1)
+  pub drain_some : (n : ℕ) (s : S) (o : List item.Item) → front s ≡ Some o
+      → drain front rest (suc n) s ≡ (o ++ (drain front rest n (rest s)).0, (drain front rest n (rest s)).1)
   drain_some n s o e = ap (pass_on rest s (drain front rest n)) e
 
   -- a front is there or not
@@ -41,21 +42,26 @@ module _ (ports : ℕ) (S : Type 0) (front : S → Option (List item.Item)) (res
 
   -- what was given before y was kept, and what came after, is what y kept first would give
   abbrev pub Agree : List item.Item × S → ℕ → ℕ → S → ℕ → item.Item → Type 0
-  Agree d m l s q y = (d.0 ++ (drain front rest m (put q y d.1)).0 ≡ (drain front rest l (put q y s)).0) × ((drain front rest m (put q y d.1)).1 ≡ (drain front rest l (put q y s)).1)
+  Agree d m l s q y =
+      (d.0 ++ (drain front rest m (put q y d.1)).0 ≡ (drain front rest l (put q y s)).0)
+      × ((drain front rest m (put q y d.1)).1 ≡ (drain front rest l (put q y s)).1)
 
-  agree_done : (d : List item.Item × S) (m l : ℕ) (s : S) (q : ℕ) (y : item.Item) → d ≡ ([], s) → size (put q y d.1) ≤ m → size (put q y s) ≤ l → Agree d m l s q y
+  agree_done : (d : List item.Item × S) (m l : ℕ) (s : S) (q : ℕ) (y : item.Item) → d ≡ ([], s) → size (put q y d.1) ≤ m → size (put q y s) ≤ l
+      → Agree d m l s q y
   agree_done d m l s q y e hm hl =
       let hm' : size (put q y s) ≤ m = subst (λ c. size (put q y c.1) ≤ m) e hm in
       let same = enough m l (put q y s) hm' hl in
       subst (λ c. Agree c m l s q y) (sym e) (ap (λ r. r.0) same, ap (λ r. r.1) same)
 
-  agree_more : (d c : List item.Item × S) (o : List item.Item) (m l : ℕ) (s : S) (q : ℕ) (y : item.Item) → d ≡ (o ++ c.0, c.1) → front s ≡ Some o → Agree c m l (rest s) q y → Agree d m (suc l) s q y
+  agree_more : (d c : List item.Item × S) (o : List item.Item) (m l : ℕ) (s : S) (q : ℕ) (y : item.Item) → d ≡ (o ++ c.0, c.1) → front s ≡ Some o
+      → Agree c m l (rest s) q y → Agree d m (suc l) s q y
   agree_more d c o m l s q y e f a =
       let g = drain_some l (put q y s) o (k.stays s o q y f) ∙ ap (λ u. (o ++ (drain front rest l u).0, (drain front rest l u).1)) (k.moves s o q y f) in
       subst (λ b. Agree b m (suc l) s q y) (sym e)
       (append_assoc o c.0 (drain front rest m (put q y c.1)).0 ∙ ap (λ t. o ++ t) a.0 ∙ sym (ap (λ r. r.0) g), a.1 ∙ sym (ap (λ r. r.1) g))
 
-  pub put_drain : (n m l : ℕ) (s : S) (q : ℕ) (y : item.Item) → size s ≤ n → size (put q y (drain front rest n s).1) ≤ m → size (put q y s) ≤ l → Agree (drain front rest n s) m l s q y
+  pub put_drain : (n m l : ℕ) (s : S) (q : ℕ) (y : item.Item) → size s ≤ n → size (put q y (drain front rest n s).1) ≤ m → size (put q y s) ≤ l
+      → Agree (drain front rest n s) m l s q y
   put_drain zero m l s q y hn hm hl = agree_done (drain front rest 0 s) m l s q y refl hm hl
   put_drain (suc n) m zero s q y hn hm hl =
       front_cases s

@@ -53,7 +53,8 @@ splice_first at n f f' g h p =
     ap (λ l. if nat_lt p at then l else (if nat_lt (p - at) n then g (p - at) else f (p - n + 1))) (h p)
     ∙ ap (λ l. if nat_lt p at then f' p else (if nat_lt (p - at) n then g (p - at) else l)) (h (p - n + 1))
 
-beside_bag : (n : ℕ) (f f' g g' : ℕ → List (List ℤ)) → ((q : ℕ) → SameBag (f q) (f' q)) → ((q : ℕ) → SameBag (g q) (g' q)) → (t : ℕ) → SameBag (beside n f g t) (beside n f' g' t)
+beside_bag : (n : ℕ) (f f' g g' : ℕ → List (List ℤ)) → ((q : ℕ) → SameBag (f q) (f' q)) → ((q : ℕ) → SameBag (g q) (g' q)) → (t : ℕ)
+    → SameBag (beside n f g t) (beside n f' g' t)
 beside_bag n f f' g g' hf hg t test = ⊎_elim
     (λ lt. ap (count_by test) (if_lt t n (f t) _ lt) ∙ hf t test ∙ sym (ap (count_by test) (if_lt t n (f' t) _ lt)))
     (λ ge. ap (count_by test) (if_ge t n _ (g (t - n)) ge) ∙ hg (t - n) test ∙ sym (ap (count_by test) (if_ge t n _ (g' (t - n)) ge)))
@@ -62,12 +63,14 @@ beside_bag n f f' g g' hf hg t test = ⊎_elim
 alike_fused : (at n t : ℕ) (r s : Fired) (second : List item.Item → Fired) → Alike r s → Alike (fused_of at n t r second) (fused_of at n t s second)
 alike_fused at n t r s second a = record {
   outs = λ p. splice_first at n r.outs s.outs (second (r.outs at)).outs a.outs p ∙ ap (λ l. splice at n s.outs (second l).outs p) (a.outs at);
-  adds = λ u. beside_bag t r.adds s.adds (second (r.outs at)).adds (second (s.outs at)).adds a.adds (λ q test. ap (λ l. count_by test ((second l).adds q)) (a.outs at)) u;
+  adds =
+      λ u. beside_bag t r.adds s.adds (second (r.outs at)).adds (second (s.outs at)).adds a.adds (λ q test. ap (λ l. count_by test ((second l).adds q)) (a.outs at)) u;
   states = ap (λ us. us ++ (second (r.outs at)).states) a.states ∙ ap (λ l. s.states ++ (second l).states) (a.outs at);
 }
 
 -- any two words with the same items at each port are alike
-pub free : (k : Kern) (w w' : Word) (ss : List Kept) → IsShaped k → HasShape k ss → PortsBelow (ins k) w → PortsBelow (ins k) w' → ((p : ℕ) → p < ins k → at_port p w ≡ at_port p w') → Alike (run (fire k) w ss) (run (fire k) w' ss)
+pub free : (k : Kern) (w w' : Word) (ss : List Kept) → IsShaped k → HasShape k ss → PortsBelow (ins k) w → PortsBelow (ins k) w'
+    → ((p : ℕ) → p < ins k → at_port p w ≡ at_port p w') → Alike (run (fire k) w ss) (run (fire k) w' ss)
 free (code k) w w' ss f h b b' e = same_lists 1 (fire (code k)) (HasShape (code k)) (one_port (code k) refl f) w' w ss b b' h e
 free (filter g) w w' ss f h b b' e = same_lists 1 (fire (filter g)) (HasShape (filter g)) (one_port (filter g) refl f) w' w ss b b' h e
 free (duplicate n) w w' ss f h b b' e = same_lists 1 (fire (duplicate n)) (HasShape (duplicate n)) (one_port (duplicate n) refl f) w' w ss b b' h e
@@ -137,9 +140,11 @@ below-word n p (x ∷ xs) h = (h, below-word n p xs h)
 
 pub below-port_by_port : (m n q : ℕ) (h : ℕ → List item.Item) → q + n ≤ m → PortsBelow m (port_by_port n q h)
 below-port_by_port m zero q h le = tt
-below-port_by_port m (suc n) q h le = below-append m (word_of q (h q)) (port_by_port n (suc q) h) (below-word m q (h q) (omega arith)) (below-port_by_port m n (suc q) h (omega arith))
+below-port_by_port m (suc n) q h le =
+    below-append m (word_of q (h q)) (port_by_port n (suc q) h) (below-word m q (h q) (omega arith)) (below-port_by_port m n (suc q) h (omega arith))
 
-pub order_is_free : (k : Kern) (h : ℕ → List item.Item) (w : Word) (ss : List Kept) → IsShaped k → HasShape k ss → IsInterleaving (ins k) h w → Alike (run (fire k) w ss) (feed_all k h ss)
+pub order_is_free : (k : Kern) (h : ℕ → List item.Item) (w : Word) (ss : List Kept) → IsShaped k → HasShape k ss → IsInterleaving (ins k) h w
+    → Alike (run (fire k) w ss) (feed_all k h ss)
 order_is_free k h w ss f sh i =
     free k w (port_by_port (ins k) 0 h) ss f sh i.below (below-port_by_port (ins k) (ins k) 0 h (omega arith))
     (λ p lt. i.lists p lt ∙ sym (at_port-port_by_port (ins k) 0 h p (omega arith) (omega (arith, lt))))

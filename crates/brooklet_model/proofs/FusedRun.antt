@@ -15,7 +15,8 @@ use Rattle.brooklet_model.proofs.Lists.{if_lt, if_ge, take_front, drop_front, fe
 use Rattle.brooklet_model.proofs.Ports.{formed_shaped}
 use Rattle.brooklet_model.proofs.Shapes.{fire_shape, shape_length}
 
-pub splice-append : {A : Type 0} (at n : ℕ) (f f' g g' : ℕ → List A) (p : ℕ) → splice at n f g p ++ splice at n f' g' p ≡ splice at n (λ q. f q ++ f' q) (λ q. g q ++ g' q) p
+pub splice-append : {A : Type 0} (at n : ℕ) (f f' g g' : ℕ → List A) (p : ℕ)
+    → splice at n f g p ++ splice at n f' g' p ≡ splice at n (λ q. f q ++ f' q) (λ q. g q ++ g' q) p
 splice-append at n f f' g g' p = ⊎_elim
     (λ lt. ap (λ t. t ++ splice at n f' g' p) (if_lt p at (f p) _ lt) ∙ ap (λ t. f p ++ t) (if_lt p at (f' p) _ lt) ∙ sym (if_lt p at (f p ++ f' p) _ lt))
     (λ ge. ap (λ t. t ++ splice at n f' g' p) (if_ge p at (f p) _ ge) ∙ ap (λ t. (if nat_lt (p - at) n then g (p - at) else f (p - n + 1)) ++ t) (if_ge p at (f' p) _ ge) ∙ ⊎_elim
@@ -25,7 +26,8 @@ splice-append at n f f' g g' p = ⊎_elim
     ∙ sym (if_ge p at (f p ++ f' p) _ ge))
     (cases_lt p at)
 
-pub beside-append : {A : Type 0} (n : ℕ) (f f' g g' : ℕ → List A) (p : ℕ) → beside n f g p ++ beside n f' g' p ≡ beside n (λ q. f q ++ f' q) (λ q. g q ++ g' q) p
+pub beside-append : {A : Type 0} (n : ℕ) (f f' g g' : ℕ → List A) (p : ℕ)
+    → beside n f g p ++ beside n f' g' p ≡ beside n (λ q. f q ++ f' q) (λ q. g q ++ g' q) p
 beside-append n f f' g g' p = ⊎_elim
     (λ lt. ap (λ t. t ++ beside n f' g' p) (if_lt p n (f p) _ lt) ∙ ap (λ t. f p ++ t) (if_lt p n (f' p) _ lt) ∙ sym (if_lt p n (f p ++ f' p) _ lt))
     (λ ge. ap (λ t. t ++ beside n f' g' p) (if_ge p n _ (g (p - n)) ge) ∙ ap (λ t. g (p - n) ++ t) (if_ge p n _ (g' (p - n)) ge) ∙ sym (if_ge p n _ (g (p - n) ++ g' (p - n)) ge))
@@ -49,7 +51,8 @@ splice_same at n f g g' h p = ap (λ l. if nat_lt p at then f p else (if nat_lt 
 pub beside_same : {A : Type 0} (n : ℕ) (f g g' : ℕ → A) → ((q : ℕ) → g q ≡ g' q) → (p : ℕ) → beside n f g p ≡ beside n f g' p
 beside_same n f g g' h p = ap (λ l. if nat_lt p n then f p else l) (h (p - n))
 
-pub fused_runs : (a b : Kern) (at : ℕ) (w : Word) (ss : List Kept) → IsShaped (fused a b at) → HasShape (fused a b at) ss → Same (run (fire (fused a b at)) w ss) (fused_of at (outs b) (tabs a) (run (fire a) w (take (privates a) ss)) (λ xs. feed (fire b 0) xs (drop (privates a) ss)))
+pub fused_runs : (a b : Kern) (at : ℕ) (w : Word) (ss : List Kept) → IsShaped (fused a b at) → HasShape (fused a b at) ss
+    → Same (run (fire (fused a b at)) w ss) (fused_of at (outs b) (tabs a) (run (fire a) w (take (privates a) ss)) (λ xs. feed (fire b 0) xs (drop (privates a) ss)))
 fused_runs a b at [] ss f h = record {
   outs = splice-none at (outs b);
   adds = beside-none (tabs a);

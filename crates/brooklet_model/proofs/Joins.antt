@@ -24,7 +24,8 @@ less_in give [] o h = absurd (cc h)
 less_in give (x ∷ xs) o h = omega arith
 
 -- what is passed waits no more
-pub less_at : (give : item.Item → List item.Item) (ls : List (List item.Item)) (p : ℕ) (o : List item.Item) → front_at give ls p ≡ Some o → waiting (rest_at ls p) < waiting ls
+pub less_at : (give : item.Item → List item.Item) (ls : List (List item.Item)) (p : ℕ) (o : List item.Item) → front_at give ls p ≡ Some o
+    → waiting (rest_at ls p) < waiting ls
 less_at give [] p o h = absurd (cc h)
 less_at give (l ∷ ls) zero o h = let e = less_in give l o h in omega arith
 less_at give (l ∷ ls) (suc p) o h = let e = less_at give ls p o h in omega arith
@@ -33,7 +34,8 @@ stays_in : (give : item.Item → List item.Item) (l : List item.Item) (o ys : Li
 stays_in give [] o ys h = absurd (cc h)
 stays_in give (x ∷ xs) o ys h = h
 
-stays_at : (give : item.Item → List item.Item) (ls : List (List item.Item)) (p : ℕ) (o : List item.Item) (q : ℕ) (ys : List item.Item) → front_at give ls p ≡ Some o → front_at give (append_at ls q ys) p ≡ Some o
+stays_at : (give : item.Item → List item.Item) (ls : List (List item.Item)) (p : ℕ) (o : List item.Item) (q : ℕ) (ys : List item.Item)
+    → front_at give ls p ≡ Some o → front_at give (append_at ls q ys) p ≡ Some o
 stays_at give [] p o q ys h = h
 stays_at give (l ∷ ls) zero o zero ys h = stays_in give l o ys h
 stays_at give (l ∷ ls) zero o (suc q) ys h = h
@@ -44,7 +46,8 @@ moves_in : (give : item.Item → List item.Item) (l : List item.Item) (o ys : Li
 moves_in give [] o ys h = absurd (cc h)
 moves_in give (x ∷ xs) o ys h = refl
 
-moves_at : (give : item.Item → List item.Item) (ls : List (List item.Item)) (p : ℕ) (o : List item.Item) (q : ℕ) (ys : List item.Item) → front_at give ls p ≡ Some o → rest_at (append_at ls q ys) p ≡ append_at (rest_at ls p) q ys
+moves_at : (give : item.Item → List item.Item) (ls : List (List item.Item)) (p : ℕ) (o : List item.Item) (q : ℕ) (ys : List item.Item)
+    → front_at give ls p ≡ Some o → rest_at (append_at ls q ys) p ≡ append_at (rest_at ls p) q ys
 moves_at give [] p o q ys h = refl
 moves_at give (l ∷ ls) zero o zero ys h = ap (λ t. t ∷ ls) (moves_in give l o ys h)
 moves_at give (l ∷ ls) zero o (suc q) ys h = refl
@@ -82,7 +85,8 @@ only_append xs ys (suc p) = refl
 abbrev pub Exchanges : (ℕ → item.Item → List Kept → Fired) → ℕ → ℕ → item.Item → item.Item → List Kept → Type 0
 Exchanges f p q x y ss = Alike (and_then (f p x ss) (f q y (f p x ss).states)) (and_then (f q y ss) (f p x (f q y ss).states))
 
-pub join_swap : (give : item.Item → List item.Item) (ws : List ℕ) (n p q : ℕ) (x y : item.Item) (ss : List Kept) → p < n → q < n → p ≢ q → IsOne (IsJoining ws) ss → Exchanges (join_one give ws) p q x y ss
+pub join_swap : (give : item.Item → List item.Item) (ws : List ℕ) (n p q : ℕ) (x y : item.Item) (ss : List Kept) → p < n → q < n → p ≢ q
+    → IsOne (IsJoining ws) ss → Exchanges (join_one give ws) p q x y ss
 join_swap give ws n p q x y [] hp hq ne h = absurd h
 join_swap give ws n p q x y (Slots zs ∷ []) hp hq ne h = absurd h
 join_swap give ws n p q x y (Buffered s ∷ []) hp hq ne h = absurd h
@@ -142,7 +146,8 @@ put_stays : (s : Pairing) (o : List item.Item) (q : ℕ) (y : item.Item) → fro
 put_stays s o zero y h = left_stays s.left s.right (y ∷ []) o h
 put_stays s o (suc q) y h = right_stays s.left s.right (y ∷ []) o h
 
-put_moves : (s : Pairing) (o : List item.Item) (q : ℕ) (y : item.Item) → front_of_pair s ≡ Some o → rest_of_pair (put_pair q y s) ≡ put_pair q y (rest_of_pair s)
+put_moves : (s : Pairing) (o : List item.Item) (q : ℕ) (y : item.Item) → front_of_pair s ≡ Some o
+    → rest_of_pair (put_pair q y s) ≡ put_pair q y (rest_of_pair s)
 put_moves s o zero y h = ap (with_left s) (left_moves s.left s.right (y ∷ []) o h)
 put_moves s o (suc q) y h = ap (with_right s) (right_moves s.left s.right (y ∷ []) o h)
 

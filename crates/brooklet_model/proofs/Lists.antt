@@ -1,5 +1,6 @@
 -- Lemmas on lists, tests and feeding.
-use Rattle.std.proofs.Common.{◌≡◌, ℕ, zero, suc, ◌<◌, ◌≤◌, List, [], ◌∷◌, ◌++◌, length, take, drop, refl, sym, ap, ◌∙◌, arith, append_assoc, nat_lt, nat_eq, Bool, true, false, ◌≢◌}
+use Rattle.std.proofs.Common.{◌≡◌, ℕ, zero, suc, ◌<◌, ◌≤◌, List, [], ◌∷◌, ◌++◌, length, take, drop, refl, sym, ap, ◌∙◌, arith, append_assoc, nat_lt, nat_eq}
+use Rattle.std.proofs.Common.{Bool, true, false, ◌≢◌}
 use Rattle.std.specs.Prelude.{if◌then◌else◌}
 use Rattle.std.proofs.lemmas.List.{append-nil}
 use Rattle.river_base.specs.declared.item.Item as item
@@ -40,14 +41,19 @@ drop_front (x ∷ xs) ys zero e = absurd (omega arith)
 drop_front (x ∷ xs) ys (suc n) e = drop_front xs ys n (omega arith)
 
 -- feeding goes on where it ended
-pub feed-append : (f : item.Item → List Kept → Fired) (xs ys : List item.Item) (ss : List Kept) → Same (feed f (xs ++ ys) ss) (and_then (feed f xs ss) (feed f ys (feed f xs ss).states))
+pub feed-append : (f : item.Item → List Kept → Fired) (xs ys : List item.Item) (ss : List Kept)
+    → Same (feed f (xs ++ ys) ss) (and_then (feed f xs ss) (feed f ys (feed f xs ss).states))
 feed-append f [] ys ss = record { outs = λ p. refl; adds = λ t. refl; states = refl }
 feed-append f (x ∷ xs) ys ss =
     let r = f x ss in
     let h = feed-append f xs ys r.states in
     record {
-      outs = λ p. ap (λ t. r.outs p ++ t) (h.outs p) ∙ sym (append_assoc (r.outs p) ((feed f xs r.states).outs p) ((feed f ys (feed f xs r.states).states).outs p));
-      adds = λ t. ap (λ l. r.adds t ++ l) (h.adds t) ∙ sym (append_assoc (r.adds t) ((feed f xs r.states).adds t) ((feed f ys (feed f xs r.states).states).adds t));
+      outs =
+          λ p. ap (λ t. r.outs p ++ t) (h.outs p)
+          ∙ sym (append_assoc (r.outs p) ((feed f xs r.states).outs p) ((feed f ys (feed f xs r.states).states).outs p));
+      adds =
+          λ t. ap (λ l. r.adds t ++ l) (h.adds t)
+          ∙ sym (append_assoc (r.adds t) ((feed f xs r.states).adds t) ((feed f ys (feed f xs r.states).states).adds t));
       states = h.states;
     }
 
@@ -55,6 +61,7 @@ pub feed_one : (f : item.Item → List Kept → Fired) (x : item.Item) (ss : Lis
 feed_one f x ss = record { outs = λ p. append-nil ((f x ss).outs p); adds = λ t. append-nil ((f x ss).adds t); states = refl }
 
 -- what each firing keeps, feeding keeps
-pub feed_kept : (f : item.Item → List Kept → Fired) (P : List Kept → Type 0) → ((x : item.Item) (ss : List Kept) → P ss → P (f x ss).states) → (xs : List item.Item) (ss : List Kept) → P ss → P (feed f xs ss).states
+pub feed_kept : (f : item.Item → List Kept → Fired) (P : List Kept → Type 0) → ((x : item.Item) (ss : List Kept) → P ss → P (f x ss).states)
+    → (xs : List item.Item) (ss : List Kept) → P ss → P (feed f xs ss).states
 feed_kept f P keep [] ss h = h
 feed_kept f P keep (x ∷ xs) ss h = feed_kept f P keep xs (f x ss).states (keep x ss h)

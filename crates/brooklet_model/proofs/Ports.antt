@@ -1,5 +1,6 @@
 -- The ports and variables of a kernel that fits types.
-use Rattle.std.proofs.Common.{◌≡◌, ℕ, zero, suc, ℤ, ◌+◌, ◌-◌, ◌<◌, ◌≤◌, Bool, true, ◌&&◌, Some, None, List, [], ◌∷◌, ◌++◌, length, take, drop, refl, sym, ap, ◌∙◌, subst, arith, length-append, length-drop, ⊎_elim}
+use Rattle.std.proofs.Common.{◌≡◌, ℕ, zero, suc, ℤ, ◌+◌, ◌-◌, ◌<◌, ◌≤◌, Bool, true, ◌&&◌, Some, None, List, [], ◌∷◌, ◌++◌, length, take, drop, refl, sym, ap}
+use Rattle.std.proofs.Common.{◌∙◌, subst, arith, length-append, length-drop, ⊎_elim}
 use Rattle.std.specs.Prelude.{slice_get, nat_le}
 use Rattle.std.specs.List.{AllByRecursion, list_all}
 use Rattle.std.proofs.lemmas.Bool.{and_parts, cases_lt}
@@ -45,8 +46,10 @@ pub record Counts (k : Kern) (is os : List QueueType) (vs : List VarKind) : Type
   pub privates : privates_in vs ≡ privates k
   pub tables : tables_in vs ≡ tabs k
 
-counts_of : (k : Kern) (is is' os os' : List QueueType) (vs vs' : List VarKind) → is ≡ is' → os ≡ os' → vs ≡ vs' → length is' ≡ ins k → length os' ≡ outs k → privates_in vs' ≡ privates k → tables_in vs' ≡ tabs k → Counts k is os vs
-counts_of k is is' os os' vs vs' e f g a b c d = record { ins = ap length e ∙ a; outs = ap length f ∙ b; privates = ap privates_in g ∙ c; tables = ap tables_in g ∙ d }
+counts_of : (k : Kern) (is is' os os' : List QueueType) (vs vs' : List VarKind) → is ≡ is' → os ≡ os' → vs ≡ vs' → length is' ≡ ins k → length os' ≡ outs k
+    → privates_in vs' ≡ privates k → tables_in vs' ≡ tabs k → Counts k is os vs
+counts_of k is is' os os' vs vs' e f g a b c d =
+    record { ins = ap length e ∙ a; outs = ap length f ∙ b; privates = ap privates_in g ∙ c; tables = ap tables_in g ∙ d }
 
 kept_privates : (zs : List ℤ) → privates_in (kept zs) ≡ kept_vars zs
 kept_privates [] = refl
@@ -68,7 +71,8 @@ length-spliced at ms bs lt =
     omega (arith, a, b, c, d, lt)
 
 pub counts : (k : Kern) (is os : List QueueType) (vs : List VarKind) → Fits k is os vs → Counts k is os vs
-counts (code k) is os vs h = counts_of (code k) is _ os _ vs _ h.0 h.1 h.2 refl (length-map k.outs (λ w. rows (count_of w))) (kept_privates k.starts) (kept_tables k.starts)
+counts (code k) is os vs h =
+    counts_of (code k) is _ os _ vs _ h.0 h.1 h.2 refl (length-map k.outs (λ w. rows (count_of w))) (kept_privates k.starts) (kept_tables k.starts)
 counts (filter f) is os vs h = counts_of (filter f) is _ os _ vs _ h.0 h.1 h.2 refl refl refl refl
 counts (duplicate n) is os vs h = counts_of (duplicate n) is _ os _ vs _ h.1 h.2 h.3 refl (length-replicate n _) refl refl
 counts (deal ws) is os vs h = counts_of (deal ws) is _ os _ vs _ h.1 h.2 h.3 refl (length-replicate (length ws) _) refl refl

@@ -14,11 +14,13 @@ use Rattle.brooklet_model.proofs.Lists.{funext}
 pub hist_is : (p : PlanForm) (inputs : List (List item.Item)) (es : List (ℕ × ℕ)) (s : Machine) → HasDefined p inputs es s → s.hist ≡ hist p inputs
 hist_is p inputs es s d = funext s.hist (hist p inputs) d.queues
 
-pub outs_are : (p : PlanForm) (inputs : List (List item.Item)) (es : List (ℕ × ℕ)) (s : Machine) → HasDefined p inputs es s → map s.hist (decl_names p.outputs) ≡ (meaning p inputs).outs
+pub outs_are : (p : PlanForm) (inputs : List (List item.Item)) (es : List (ℕ × ℕ)) (s : Machine) → HasDefined p inputs es s
+    → map s.hist (decl_names p.outputs) ≡ (meaning p inputs).outs
 outs_are p inputs es s d = ap (λ (h : History). map h (decl_names p.outputs)) (hist_is p inputs es s d)
 
 -- a plan without tables means its outputs alone
-pub meaning_is : (p : PlanForm) (inputs : List (List item.Item)) (es : List (ℕ × ℕ)) (s : Machine) → p.tables ≡ [] → HasDefined p inputs es s → record { outs = map s.hist (decl_names p.outputs); tables = [] } ≡ meaning p inputs
+pub meaning_is : (p : PlanForm) (inputs : List (List item.Item)) (es : List (ℕ × ℕ)) (s : Machine) → p.tables ≡ [] → HasDefined p inputs es s
+    → record { outs = map s.hist (decl_names p.outputs); tables = [] } ≡ meaning p inputs
 meaning_is p inputs es s e d =
     let o = outs_are p inputs es s d in
     let t = ap (map (λ t. tab t.kind (all_adds p inputs t.name))) e in
@@ -30,5 +32,6 @@ got_map f (y ∷ ys) zero x h = let e : y ≡ x = cc in ap (λ z. Some (f z)) e
 got_map f (y ∷ ys) (suc n) x h = got_map f ys n x h
 
 -- each count of firings is how often its operator stands in the run, and at most 2^63 - 1
-pub firings_are : (p : PlanForm) (inputs : List (List item.Item)) (es : List (ℕ × ℕ)) (s : Machine) → HasDefined p inputs es s → (o : ℕ) (op : OpForm) → slice_get p.ops o ≡ Some op → slice_get (firings p inputs) o ≡ Some (min most_firings (times o es))
+pub firings_are : (p : PlanForm) (inputs : List (List item.Item)) (es : List (ℕ × ℕ)) (s : Machine) → HasDefined p inputs es s → (o : ℕ) (op : OpForm)
+    → slice_get p.ops o ≡ Some op → slice_get (firings p inputs) o ≡ Some (min most_firings (times o es))
 firings_are p inputs es s d o op g = got_map (firings_of (hist p inputs)) p.ops o op g ∙ ap (λ n. Some (min most_firings n)) (sym (d.firings o op g))

@@ -1,5 +1,6 @@
 -- States keep their kernel's shape.
-use Rattle.std.proofs.Common.{◌≡◌, ℕ, zero, suc, ℤ, ◌+◌, ◌<◌, Bool, true, false, Some, None, List, [], ◌∷◌, ◌++◌, length, take, drop, refl, sym, ap, ◌∙◌, subst, arith, length-drop, nat_lt, ⊎_elim}
+use Rattle.std.proofs.Common.{◌≡◌, ℕ, zero, suc, ℤ, ◌+◌, ◌<◌, Bool, true, false, Some, None, List, [], ◌∷◌, ◌++◌, length, take, drop, refl, sym, ap, ◌∙◌, subst}
+use Rattle.std.proofs.Common.{arith, length-drop, nat_lt, ⊎_elim}
 use Rattle.std.specs.Prelude.{if◌then◌else◌, nat_le, slice_index_or}
 use Rattle.std.specs.List.{AllByRecursion}
 use Rattle.std.proofs.lemmas.List.{length-map, length-take, length-replicate}
@@ -17,7 +18,8 @@ use Rattle.kern_bags.specs.Steps.{window_one, streamer_one}
 use Rattle.river_kernels.specs.Kern.{Kern, code, filter, duplicate, deal, collect, packed, unpack, window, select, project, cross, streamer, tally, fused}
 use Rattle.kern_rows.proofs.Lengths.{run_kept_length}
 use Rattle.brooklet_model.specs.Firings.{Kept, Slots, Buffered, Turn, Joining, Received, Crossing, feed}
-use Rattle.brooklet_model.specs.Fire.{fire, privates, kept_vars, first_kept, first_slots, code_one, filter_firing, join_one, received_one, cross_one, values_of, value_of}
+use Rattle.brooklet_model.specs.Fire.{fire, privates, kept_vars, first_kept, first_slots, code_one, filter_firing, join_one, received_one, cross_one, values_of}
+use Rattle.brooklet_model.specs.Fire.{value_of}
 use Rattle.brooklet_model.specs.Shapes.{IsShaped, AreSlots, IsFiltering, IsDealing, IsJoining, IsReceived, IsCrossing, IsNone, IsOne, HasSlots, HasShape}
 use Rattle.brooklet_model.proofs.Lists.{if_lt, if_ge, take_front, drop_front, feed_kept}
 
@@ -87,7 +89,8 @@ length-append_at [] p xs = refl
 length-append_at (l ∷ ls) zero xs = refl
 length-append_at (l ∷ ls) (suc p) xs = ap suc (length-append_at ls p xs)
 
-pub drain_joined : (give : item.Item → List item.Item) (ws : List ℕ) (n : ℕ) (s : Turns) → HaveShares ws → IsJoiner ws s → IsJoiner ws (drain (front_of give) (passed ws) n s).1
+pub drain_joined : (give : item.Item → List item.Item) (ws : List ℕ) (n : ℕ) (s : Turns) → HaveShares ws → IsJoiner ws s
+    → IsJoiner ws (drain (front_of give) (passed ws) n s).1
 drain_joined give ws zero s all j = j
 drain_joined give ws (suc n) s all j =
     elim (front_of give s) as (λ o. IsJoiner ws (pass_on (passed ws) s (drain (front_of give) (passed ws) n) o).1) [
@@ -115,7 +118,8 @@ code_shape k x (z ∷ zs) (s ∷ t ∷ ts) h = absurd h
 turn_length : (f : FilterForm) (s : Filtering) → length (filter_turn f s).after.kept ≡ length s.kept
 turn_length f s = arms (nat_le f.peek (length (buffer_of f s)))
   where
-    arms : (b : Bool) → length (if b then filter_ran s (run_kept f.body s.kept (take f.peek (buffer_of f s))) else record { pushes = []; after = s }).after.kept ≡ length s.kept
+    arms : (b : Bool)
+        → length (if b then filter_ran s (run_kept f.body s.kept (take f.peek (buffer_of f s))) else record { pushes = []; after = s }).after.kept ≡ length s.kept
     arms true = run_kept_length f.body s.kept (take f.peek (buffer_of f s))
     arms false = refl
 
@@ -129,7 +133,8 @@ filter_shape f n x (Received xs ∷ []) h = absurd h
 filter_shape f n x (Crossing s ∷ []) h = absurd h
 filter_shape f n x (s ∷ t ∷ ts) h = absurd h
 
-deal_shape : (ws : List ℤ) (p : ℕ) (x : item.Item) (ss : List Kept) → HaveShares (shares ws) → HasShape (deal ws) ss → HasShape (deal ws) (fire (deal ws) p x ss).states
+deal_shape : (ws : List ℤ) (p : ℕ) (x : item.Item) (ss : List Kept) → HaveShares (shares ws) → HasShape (deal ws) ss
+    → HasShape (deal ws) (fire (deal ws) p x ss).states
 deal_shape ws p x [] f h = absurd h
 deal_shape ws p x (Slots zs ∷ []) f h = absurd h
 deal_shape ws p x (Buffered s ∷ []) f h = absurd h
@@ -139,7 +144,8 @@ deal_shape ws p x (Received xs ∷ []) f h = absurd h
 deal_shape ws p x (Crossing s ∷ []) f h = absurd h
 deal_shape ws p x (s ∷ t ∷ ts) f h = absurd h
 
-join_shape : (give : item.Item → List item.Item) (ws : List ℕ) (p : ℕ) (x : item.Item) (ss : List Kept) → HaveShares ws → IsOne (IsJoining ws) ss → IsOne (IsJoining ws) (join_one give ws p x ss).states
+join_shape : (give : item.Item → List item.Item) (ws : List ℕ) (p : ℕ) (x : item.Item) (ss : List Kept) → HaveShares ws → IsOne (IsJoining ws) ss
+    → IsOne (IsJoining ws) (join_one give ws p x ss).states
 join_shape give ws p x [] f h = absurd h
 join_shape give ws p x (Slots zs ∷ []) f h = absurd h
 join_shape give ws p x (Buffered s ∷ []) f h = absurd h
@@ -149,7 +155,8 @@ join_shape give ws p x (Received xs ∷ []) f h = absurd h
 join_shape give ws p x (Crossing s ∷ []) f h = absurd h
 join_shape give ws p x (s ∷ t ∷ ts) f h = absurd h
 
-received_shape : (one : List item.Item → item.Item → List item.Item) (x : item.Item) (ss : List Kept) → IsOne IsReceived ss → IsOne IsReceived (received_one one x ss).states
+received_shape : (one : List item.Item → item.Item → List item.Item) (x : item.Item) (ss : List Kept) → IsOne IsReceived ss
+    → IsOne IsReceived (received_one one x ss).states
 received_shape one x [] h = absurd h
 received_shape one x (Slots zs ∷ []) h = absurd h
 received_shape one x (Buffered s ∷ []) h = absurd h

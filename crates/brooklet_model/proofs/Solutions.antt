@@ -39,7 +39,8 @@ lists_one (w ∷ ws) f h h' a b q lt = ⊎_elim
     (λ c. lists_one ws (λ j. f (suc j)) h h' a.1 b.1 q (let e = ap one_if c.1 in omega (arith, lt, e)))
     (cases_name w q)
 
-pub unique : (ops : List OpForm) (known : Name → ℕ) (h h' : History) → ((q : Name) → 0 < known q → h q ≡ h' q) → ReadsBefore known ops → Each (Solves h) ops → Each (Solves h') ops → (q : Name) → 0 < known q + total (writes_it q) ops → h q ≡ h' q
+pub unique : (ops : List OpForm) (known : Name → ℕ) (h h' : History) → ((q : Name) → 0 < known q → h q ≡ h' q) → ReadsBefore known ops → Each (Solves h) ops
+    → Each (Solves h') ops → (q : Name) → 0 < known q + total (writes_it q) ops → h q ≡ h' q
 unique [] known h h' e r s s' q lt = e q (omega (arith, lt))
 unique (op ∷ ops) known h h' e r s s' q lt =
     let g = given_same op h h' (λ p lp. e p (r.0 p lp)) in
@@ -61,7 +62,8 @@ stays [] h q z = refl
 stays (op ∷ ops) h q z = stays ops (written op.writes (given op h).outs h) q (omega (arith, z)) ∙ written_out op.writes (given op h).outs h q (omega (arith, z))
 
 -- a list whose names stand once each is written place by place
-pub lists_written : (ws : List Name) (f : ℕ → List item.Item) (h g : History) → ((q : Name) → count q ws ≤ 1) → ((q : Name) → 0 < count q ws → g q ≡ written ws f h q) → Lists ws f g
+pub lists_written : (ws : List Name) (f : ℕ → List item.Item) (h g : History) → ((q : Name) → count q ws ≤ 1)
+    → ((q : Name) → 0 < count q ws → g q ≡ written ws f h q) → Lists ws f g
 lists_written [] f h g once e = tt
 lists_written (w ∷ ws) f h g once e = (
   e w (count_here w ws) ∙ if_true (name_eq w w) _ _ (⊎_elim (λ c. c.1) (λ c. absurd (c.0 refl)) (cases_name w w)),
@@ -73,7 +75,8 @@ lists_written (w ∷ ws) f h g once e = (
       (cases_name w q)),
 )
 
-pub solves : (ops : List OpForm) (known : Name → ℕ) (h : History) → ReadsBefore known ops → ((q : Name) → 0 < known q → total (writes_it q) ops ≡ 0) → ((q : Name) → total (writes_it q) ops ≤ 1) → Each (Solves (histories ops h)) ops
+pub solves : (ops : List OpForm) (known : Name → ℕ) (h : History) → ReadsBefore known ops → ((q : Name) → 0 < known q → total (writes_it q) ops ≡ 0)
+    → ((q : Name) → total (writes_it q) ops ≤ 1) → Each (Solves (histories ops h)) ops
 solves [] known h r k once = tt
 solves (op ∷ ops) known h r k once =
     let h1 = written op.writes (given op h).outs h in
@@ -96,7 +99,8 @@ plan_solves p v g = solves p.ops (λ q. count q (decl_names p.inputs)) g v.in_or
     (λ q. let o = v.written_once q in omega (arith, o))
 
 -- whatever solves a valid plan's equations is its histories
-pub plan_unique : (p : PlanForm) → IsPlan p → (g h : History) → ((q : Name) → total (writes_it q) p.ops ≡ 0 → h q ≡ g q) → Each (Solves h) p.ops → (q : Name) → h q ≡ histories p.ops g q
+pub plan_unique : (p : PlanForm) → IsPlan p → (g h : History) → ((q : Name) → total (writes_it q) p.ops ≡ 0 → h q ≡ g q) → Each (Solves h) p.ops → (q : Name)
+    → h q ≡ histories p.ops g q
 plan_unique p v g h e s q = ⊎_elim
     (λ lt. unique p.ops (λ x. count x (decl_names p.inputs)) h (histories p.ops g)
     (λ x lx. let z : total (writes_it x) p.ops ≡ 0 = (let o = v.written_once x in omega (arith, o, lx)) in e x z ∙ sym (stays p.ops g x z))

@@ -63,7 +63,8 @@ spliced_got (m ∷ ms) bs (suc at) (suc p) lt =
     ap (λ (l : List QueueType). slice_get l (suc p)) (spliced_next at m ms bs) ∙ spliced_got ms bs at p (omega (arith, lt)) ∙ splice_next at (length bs) (slice_get (m ∷ ms)) (slice_get bs) p
 
 -- whatever is said of the items at a port by its type, said of both kernels' ports it is said of the ports of the two as one
-pub spliced_all : (B : Option QueueType → item.Item → Type 0) (ms bs : List QueueType) (at p : ℕ) (f g : ℕ → List item.Item) → at < length ms → ((q : ℕ) → All (B (slice_get ms q)) (f q)) → ((q : ℕ) → All (B (slice_get bs q)) (g q))
+pub spliced_all : (B : Option QueueType → item.Item → Type 0) (ms bs : List QueueType) (at p : ℕ) (f g : ℕ → List item.Item) → at < length ms
+    → ((q : ℕ) → All (B (slice_get ms q)) (f q)) → ((q : ℕ) → All (B (slice_get bs q)) (g q))
     → All (B (slice_get (spliced at ms bs) p)) (splice at (length bs) f g p)
 spliced_all B ms bs at p f g lt a b = subst (λ o. All (B o) (splice at (length bs) f g p)) (sym (spliced_got ms bs at p lt)) (by_place (length bs))
   where

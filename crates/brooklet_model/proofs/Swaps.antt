@@ -39,12 +39,14 @@ alike_then r s s' a = record {
 pub alike_first : (r r' : Fired) (g : List Kept → Fired) → Alike r r' → Alike (and_then r (g r.states)) (and_then r' (g r'.states))
 alike_first r r' g a = record {
   outs = λ p. ap (λ l. l ++ (g r.states).outs p) (a.outs p) ∙ ap (λ ss. r'.outs p ++ (g ss).outs p) a.states;
-  adds = λ t. bag_append (r.adds t) (r'.adds t) ((g r.states).adds t) ((g r'.states).adds t) (a.adds t) (λ test. ap (λ ss. count_by test ((g ss).adds t)) a.states);
+  adds =
+      λ t. bag_append (r.adds t) (r'.adds t) ((g r.states).adds t) ((g r'.states).adds t) (a.adds t) (λ test. ap (λ ss. count_by test ((g ss).adds t)) a.states);
   states = ap (λ ss. (g ss).states) a.states;
 }
 
 pub same_assoc : (a b c : Fired) → Same (and_then (and_then a b) c) (and_then a (and_then b c))
-same_assoc a b c = record { outs = λ p. append_assoc (a.outs p) (b.outs p) (c.outs p); adds = λ t. append_assoc (a.adds t) (b.adds t) (c.adds t); states = refl }
+same_assoc a b c =
+    record { outs = λ p. append_assoc (a.outs p) (b.outs p) (c.outs p); adds = λ t. append_assoc (a.adds t) (b.adds t) (c.adds t); states = refl }
 
 pub at_port_here : (p : ℕ) (e : ℕ × item.Item) (es : Word) → e.0 ≡ p → at_port p (e ∷ es) ≡ e.1 ∷ at_port p es
 at_port_here p e es h = if_eq e.0 p (e.1 ∷ at_port p es) (at_port p es) h
@@ -104,11 +106,13 @@ at_port_other p q (e ∷ es) ne = ⊎_elim
 -- firings at different ports below n may be exchanged
 pub record Swaps (n : ℕ) (f : ℕ → item.Item → List Kept → Fired) (P : List Kept → Type 0) : Type 0 where
   pub kept : (p : ℕ) (x : item.Item) (ss : List Kept) → P ss → P (f p x ss).states
-  pub swap : (p q : ℕ) (x y : item.Item) (ss : List Kept) → p < n → q < n → p ≢ q → P ss → Alike (and_then (f p x ss) (f q y (f p x ss).states)) (and_then (f q y ss) (f p x (f q y ss).states))
+  pub swap : (p q : ℕ) (x y : item.Item) (ss : List Kept) → p < n → q < n → p ≢ q → P ss
+      → Alike (and_then (f p x ss) (f q y (f p x ss).states)) (and_then (f q y ss) (f p x (f q y ss).states))
 
 module _ (n : ℕ) (f : ℕ → item.Item → List Kept → Fired) (P : List Kept → Type 0) (s : Swaps n f P) where
   -- a port's first firing may come first
-  move : (p : ℕ) (x : item.Item) (xs : List item.Item) (w : Word) (ss : List Kept) → p < n → PortsBelow n w → P ss → at_port p w ≡ x ∷ xs → Alike (run f w ss) (run f ((p, x) ∷ pull p w) ss)
+  move : (p : ℕ) (x : item.Item) (xs : List item.Item) (w : Word) (ss : List Kept) → p < n → PortsBelow n w → P ss → at_port p w ≡ x ∷ xs
+      → Alike (run f w ss) (run f ((p, x) ∷ pull p w) ss)
   move p x xs [] ss hp hb h e = no_head x xs e
   move p x xs (e ∷ es) ss hp hb h is = ⊎_elim
       (λ eq.
@@ -130,7 +134,8 @@ module _ (n : ℕ) (f : ℕ → item.Item → List Kept → Fired) (P : List Kep
       (cases_eq e.0 p)
 
   -- words with the same items at each port
-  pub same_lists : (w' w : Word) (ss : List Kept) → PortsBelow n w → PortsBelow n w' → P ss → ((p : ℕ) → p < n → at_port p w ≡ at_port p w') → Alike (run f w ss) (run f w' ss)
+  pub same_lists : (w' w : Word) (ss : List Kept) → PortsBelow n w → PortsBelow n w' → P ss → ((p : ℕ) → p < n → at_port p w ≡ at_port p w')
+      → Alike (run f w ss) (run f w' ss)
   same_lists [] [] ss b b' h same = alike_refl (run f [] ss)
   same_lists [] (e ∷ es) ss b b' h same = no_head e.1 (at_port e.0 es) (sym (same e.0 b.0) ∙ at_port_here e.0 e es refl)
   same_lists (e ∷ es) w ss b b' h same =

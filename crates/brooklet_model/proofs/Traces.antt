@@ -1,5 +1,6 @@
 -- Operators by number, what comes to queues and tables, and how many firings there are.
-use Rattle.std.proofs.Common.{◌≡◌, ◌≢◌, ℕ, ℤ, zero, suc, ◌+◌, ◌<◌, ◌≤◌, Bool, Some, List, [], ◌∷◌, ◌++◌, length, take, refl, sym, ap, ◌∙◌, subst, arith, append_assoc, ⊎_elim, get_or}
+use Rattle.std.proofs.Common.{◌≡◌, ◌≢◌, ℕ, ℤ, zero, suc, ◌+◌, ◌<◌, ◌≤◌, Bool, Some, List, [], ◌∷◌, ◌++◌, length, take, refl, sym, ap, ◌∙◌, subst, arith}
+use Rattle.std.proofs.Common.{append_assoc, ⊎_elim, get_or}
 use Rattle.std.specs.Prelude.{if◌then◌else◌, count_by, slice_get}
 use Rattle.std.proofs.lemmas.Bool.{cases_eq}
 use Rattle.std.proofs.lemmas.List.{append-nil, take_more, take-append-le}
@@ -32,11 +33,14 @@ at_most f [] o op g = absurd (cc g)
 at_most f (a ∷ ops) zero op g = let e = ap f (some_is a op g) in omega (arith, e)
 at_most f (a ∷ ops) (suc o) op g = let i = at_most f ops o op g in omega (arith, i)
 
-pub one_place : (f : OpForm → ℕ) (ops : List OpForm) (o o' : ℕ) (op op' : OpForm) → total f ops ≤ 1 → slice_get ops o ≡ Some op → slice_get ops o' ≡ Some op' → 0 < f op → 0 < f op' → o ≡ o'
+pub one_place : (f : OpForm → ℕ) (ops : List OpForm) (o o' : ℕ) (op op' : OpForm) → total f ops ≤ 1 → slice_get ops o ≡ Some op → slice_get ops o' ≡ Some op'
+    → 0 < f op → 0 < f op' → o ≡ o'
 one_place f [] o o' op op' h g g' i i' = absurd (cc g)
 one_place f (a ∷ ops) zero zero op op' h g g' i i' = refl
-one_place f (a ∷ ops) zero (suc o') op op' h g g' i i' = absurd (let e = ap f (some_is a op g) in let m = at_most f ops o' op' g' in omega (arith, e, m, h, i, i'))
-one_place f (a ∷ ops) (suc o) zero op op' h g g' i i' = absurd (let e = ap f (some_is a op' g') in let m = at_most f ops o op g in omega (arith, e, m, h, i, i'))
+one_place f (a ∷ ops) zero (suc o') op op' h g g' i i' =
+    absurd (let e = ap f (some_is a op g) in let m = at_most f ops o' op' g' in omega (arith, e, m, h, i, i'))
+one_place f (a ∷ ops) (suc o) zero op op' h g g' i i' =
+    absurd (let e = ap f (some_is a op' g') in let m = at_most f ops o op g in omega (arith, e, m, h, i, i'))
 one_place f (a ∷ ops) (suc o) (suc o') op op' h g g' i i' = ap suc (one_place f ops o o' op op' (omega (arith, h)) g g' i i')
 
 pub got_count : (rs : List Name) (p : ℕ) (q : Name) → slice_get rs p ≡ Some q → 0 < count q rs
@@ -79,7 +83,8 @@ joined_out (w ∷ ws) f q z = ⊎_elim
     (λ c. ap (λ l. l ++ joined ws (λ j. f (suc j)) q) (if_false (name_eq w q) (f 0) [] c.1) ∙ joined_out ws (λ j. f (suc j)) q (omega (arith, z)))
     (cases_name w q)
 
-pub lists_more : (ws : List Name) (F f : ℕ → List item.Item) (H g : Name → List item.Item) → ((q : Name) → count q ws ≤ 1) → ((q : Name) → 0 < count q ws → g q ≡ joined ws f q) → Lists ws F H → Lists ws (λ j. F j ++ f j) (λ q. H q ++ g q)
+pub lists_more : (ws : List Name) (F f : ℕ → List item.Item) (H g : Name → List item.Item) → ((q : Name) → count q ws ≤ 1)
+    → ((q : Name) → 0 < count q ws → g q ≡ joined ws f q) → Lists ws F H → Lists ws (λ j. F j ++ f j) (λ q. H q ++ g q)
 lists_more [] F f H g once e l = tt
 lists_more (w ∷ ws) F f H g once e l = (
   ap (λ a. a ++ g w) l.0
@@ -94,7 +99,8 @@ lists_more (w ∷ ws) F f H g once e l = (
       (cases_name w q)) l.1,
 )
 
-pub joined-append : {A : Type 0} (test : A → Bool) (ws : List Name) (f g : ℕ → List A) (q : Name) → count_by test (joined ws (λ j. f j ++ g j) q) ≡ count_by test (joined ws f q) + count_by test (joined ws g q)
+pub joined-append : {A : Type 0} (test : A → Bool) (ws : List Name) (f g : ℕ → List A) (q : Name)
+    → count_by test (joined ws (λ j. f j ++ g j) q) ≡ count_by test (joined ws f q) + count_by test (joined ws g q)
 joined-append {A} test [] f g q = refl
 joined-append {A} test (w ∷ ws) f g q =
     let i = joined-append test ws (λ j. f (suc j)) (λ j. g (suc j)) q in
@@ -123,7 +129,8 @@ joined_none (w ∷ ws) q = ⊎_elim
     (λ c. ap (λ l. l ++ joined ws none q) (if_false (name_eq w q) [] [] c.1) ∙ joined_none ws q)
     (cases_name w q)
 
-pub joined_bag : (test : List ℤ → Bool) (ws : List Name) (f g : ℕ → List (List ℤ)) (q : Name) → ((j : ℕ) → SameBag (f j) (g j)) → count_by test (joined ws f q) ≡ count_by test (joined ws g q)
+pub joined_bag : (test : List ℤ → Bool) (ws : List Name) (f g : ℕ → List (List ℤ)) (q : Name) → ((j : ℕ) → SameBag (f j) (g j))
+    → count_by test (joined ws f q) ≡ count_by test (joined ws g q)
 joined_bag test [] f g q h = refl
 joined_bag test (w ∷ ws) f g q h =
     let i = joined_bag test ws (λ j. f (suc j)) (λ j. g (suc j)) q (λ j. h (suc j)) in
@@ -149,7 +156,8 @@ pub at_key_other : {A : Type 0} (k : ℕ) (v : A) (f : ℕ → A) (q : ℕ) → 
 at_key_other k v f q ne = if_ne k q v (f q) ne
 
 -- one more firing
-pub run_more : (f : ℕ → item.Item → List Kept → Fired) (u : Word) (p : ℕ) (x : item.Item) (ss : List Kept) → Same (run f (u ++ (p, x) ∷ []) ss) (and_then (run f u ss) (f p x (run f u ss).states))
+pub run_more : (f : ℕ → item.Item → List Kept → Fired) (u : Word) (p : ℕ) (x : item.Item) (ss : List Kept)
+    → Same (run f (u ++ (p, x) ∷ []) ss) (and_then (run f u ss) (f p x (run f u ss).states))
 run_more f [] p x ss = record { outs = λ q. append-nil ((f p x ss).outs q); adds = λ t. append-nil ((f p x ss).adds t); states = refl }
 run_more f (e ∷ es) p x ss =
     let r = f e.0 e.1 ss in
@@ -162,7 +170,8 @@ run_more f (e ∷ es) p x ss =
     }
 
 -- what holds at an operator holds at it by another number
-pub at_same : (ops : List OpForm) (F : ℕ → OpForm → Type 0) (o o' : ℕ) (op op' : OpForm) → slice_get ops o ≡ Some op → slice_get ops o' ≡ Some op' → o ≡ o' → F o op → F o' op'
+pub at_same : (ops : List OpForm) (F : ℕ → OpForm → Type 0) (o o' : ℕ) (op op' : OpForm) → slice_get ops o ≡ Some op → slice_get ops o' ≡ Some op' → o ≡ o'
+    → F o op → F o' op'
 at_same ops F o o' op op' g g' e h =
     let eo : op ≡ op' = some_is op op' (sym g ∙ ap (slice_get ops) e ∙ g') in
     subst (λ i. F i op') e (subst (F o) eo h)
@@ -173,7 +182,8 @@ take_next xs more n x h =
     let x_is : get_or xs n x ≡ x = let g : Some (get_or xs n x) ≡ Some x = sym (slice_get-get_or xs n x lt) ∙ h in cc in
     take-append-le (n + 1) xs more (omega (arith, lt)) ∙ take_more xs n x lt ∙ ap (λ y. take n xs ++ y ∷ []) x_is
 
-pub numbered_same : (f f' : ℕ → OpForm → ℕ) (ops : List OpForm) (j : ℕ) → ((i : ℕ) (op : OpForm) → slice_get ops i ≡ Some op → f (j + i) op ≡ f' (j + i) op) → numbered f j ops ≡ numbered f' j ops
+pub numbered_same : (f f' : ℕ → OpForm → ℕ) (ops : List OpForm) (j : ℕ) → ((i : ℕ) (op : OpForm) → slice_get ops i ≡ Some op → f (j + i) op ≡ f' (j + i) op)
+    → numbered f j ops ≡ numbered f' j ops
 numbered_same f f' [] j h = refl
 numbered_same f f' (op ∷ ops) j h =
     let z : j + 0 ≡ j = omega arith in
@@ -182,7 +192,8 @@ numbered_same f f' (op ∷ ops) j h =
     omega (arith, a, b)
 
 -- one of them is more
-pub numbered_more : (f f' : ℕ → OpForm → ℕ) (ops : List OpForm) (j o d : ℕ) (op : OpForm) → slice_get ops o ≡ Some op → f' (j + o) op ≡ f (j + o) op + d → ((i : ℕ) (op' : OpForm) → i ≢ j + o → f i op' ≡ f' i op') → numbered f' j ops ≡ numbered f j ops + d
+pub numbered_more : (f f' : ℕ → OpForm → ℕ) (ops : List OpForm) (j o d : ℕ) (op : OpForm) → slice_get ops o ≡ Some op → f' (j + o) op ≡ f (j + o) op + d
+    → ((i : ℕ) (op' : OpForm) → i ≢ j + o → f i op' ≡ f' i op') → numbered f' j ops ≡ numbered f j ops + d
 numbered_more f f' [] j o d op g e h = absurd (cc g)
 numbered_more f f' (a ∷ ops) j zero d op g e h =
     let z : j + 0 ≡ j = omega arith in
@@ -219,7 +230,8 @@ lists_agree (w ∷ ws) f h h' e l = (sym (e w (count_here w ws)) ∙ l.0, lists_
 abbrev pub adds_it : List Name → History → Name → (List ℤ → Bool) → OpForm → ℕ
 adds_it tables h t test op = count_by test (joined (tables_of tables op) (given op h).adds t)
 
-pub adds_total : (tables : List Name) (ops : List OpForm) (h : History) (t : Name) (test : List ℤ → Bool) → count_by test (adds tables ops h t) ≡ total (adds_it tables h t test) ops
+pub adds_total : (tables : List Name) (ops : List OpForm) (h : History) (t : Name) (test : List ℤ → Bool)
+    → count_by test (adds tables ops h t) ≡ total (adds_it tables h t test) ops
 adds_total tables [] h t test = refl
 adds_total tables (op ∷ ops) h t test =
     let e = adds_total tables ops h t test in
@@ -237,7 +249,8 @@ abbrev others : Word → Word
 others [] = []
 others (e ∷ es) = later e.0 e.1 (others es)
 
-later_length : (p : ℕ) (x : item.Item) (es : Word) → length es ≡ length (at_port 0 es) + length (others es) → length ((p, x) ∷ es) ≡ length (at_port 0 ((p, x) ∷ es)) + length (later p x (others es))
+later_length : (p : ℕ) (x : item.Item) (es : Word) → length es ≡ length (at_port 0 es) + length (others es)
+    → length ((p, x) ∷ es) ≡ length (at_port 0 ((p, x) ∷ es)) + length (later p x (others es))
 later_length zero x es h = let e = ap length (at_port_here 0 (0, x) es refl) in omega (arith, e, h)
 later_length (suc p) x es h = let e = ap length (at_port_past 0 (suc p, x) es (let ne : suc p ≢ 0 = omega arith in ne)) in omega (arith, e, h)
 
@@ -245,7 +258,8 @@ others_length : (w : Word) → length w ≡ length (at_port 0 w) + length (other
 others_length [] = refl
 others_length (e ∷ es) = later_length e.0 e.1 es (others_length es)
 
-later_port : (p : ℕ) (x : item.Item) (es : Word) (q : ℕ) → at_port q (others es) ≡ at_port (suc q) es → at_port q (later p x (others es)) ≡ at_port (suc q) ((p, x) ∷ es)
+later_port : (p : ℕ) (x : item.Item) (es : Word) (q : ℕ) → at_port q (others es) ≡ at_port (suc q) es
+    → at_port q (later p x (others es)) ≡ at_port (suc q) ((p, x) ∷ es)
 later_port zero x es q h = h ∙ sym (at_port_past (suc q) (0, x) es (let ne : 0 ≢ suc q = omega arith in ne))
 later_port (suc p) x es q h = ⊎_elim
     (λ e. at_port_here q (p, x) (others es) e ∙ ap (λ l. x ∷ l) h ∙ sym (at_port_here (suc q) (suc p, x) es (ap suc e)))
@@ -265,7 +279,8 @@ others_below n [] h = tt
 others_below n (e ∷ es) h = later_below n e.0 e.1 (others es) h.0 (others_below n es h.1)
 
 -- a word with these queues' items at its ports has as many firings as there are items
-pub word_lengths : (rs : List Name) (h : History) (w : Word) → PortsBelow (length rs) w → ((p : ℕ) (q : Name) → slice_get rs p ≡ Some q → at_port p w ≡ h q) → length w ≡ lengths h rs
+pub word_lengths : (rs : List Name) (h : History) (w : Word) → PortsBelow (length rs) w → ((p : ℕ) (q : Name) → slice_get rs p ≡ Some q → at_port p w ≡ h q)
+    → length w ≡ lengths h rs
 word_lengths [] h [] b e = refl
 word_lengths [] h (f ∷ fs) b e = absurd (let z = b.0 in omega (arith, z))
 word_lengths (r ∷ rs) h w b e =

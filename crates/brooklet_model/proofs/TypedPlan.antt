@@ -66,7 +66,8 @@ at_order is zero q h t = tt
 at_order is (suc n) q h t = at_append is (word_of q (h q)) (port_by_port n (suc q) h) (at_word is q (h q) (t q)) (at_order is n (suc q) h t)
 
 -- firings of a kernel, one after another
-pub run_typed : (k : Kern) (is os : List QueueType) (vs : List VarKind) (w : Word) (ss : List Kept) → Fits k is os vs → HasShape k ss → Holds k is ss → AreAt is w → AreOf os (run (fire k) w ss).outs
+pub run_typed : (k : Kern) (is os : List QueueType) (vs : List VarKind) (w : Word) (ss : List Kept) → Fits k is os vs → HasShape k ss → Holds k is ss
+    → AreAt is w → AreOf os (run (fire k) w ss).outs
 run_typed k is os vs [] ss f h t a = λ j. All-nil (IsOf os j)
 run_typed k is os vs (e ∷ es) ss f h t a =
     let one = fire_typed k is os vs e.0 e.1 ss f h t a.0 in
@@ -80,12 +81,14 @@ run_typed k is os vs (e ∷ es) ss f h t a =
 abbrev EachQueue : (Name → QueueType) → History → Type 0
 EachQueue kind h = (q : Name) → All (HasType (kind q)) (h q)
 
-reads_of : (kind : Name → QueueType) (h : History) (rs : List Name) → ((q : Name) → 0 < count q rs → All (HasType (kind q)) (h q)) → AreOf (map kind rs) (lists_of h rs)
+reads_of : (kind : Name → QueueType) (h : History) (rs : List Name) → ((q : Name) → 0 < count q rs → All (HasType (kind q)) (h q))
+    → AreOf (map kind rs) (lists_of h rs)
 reads_of kind h [] e p = All-nil (IsOf [] p)
 reads_of kind h (r ∷ rs) e zero = e r (count_here r rs)
 reads_of kind h (r ∷ rs) e (suc p) = reads_of kind h rs (λ q lt. e q (omega (arith, lt))) p
 
-writes_of : (kind : Name → QueueType) (ws : List Name) (f : ℕ → List item.Item) (h : History) → AreOf (map kind ws) f → Lists ws f h → (q : Name) → 0 < count q ws → All (HasType (kind q)) (h q)
+writes_of : (kind : Name → QueueType) (ws : List Name) (f : ℕ → List item.Item) (h : History) → AreOf (map kind ws) f → Lists ws f h → (q : Name)
+    → 0 < count q ws → All (HasType (kind q)) (h q)
 writes_of kind [] f h t l q lt = absurd (omega (arith, lt))
 writes_of kind (w ∷ ws) f h t l q lt = ⊎_elim
     (λ c. subst (λ n. All (HasType (kind n)) (h n)) c.0 (subst (All (HasType (kind w))) (sym l.0) (t 0)))
@@ -93,7 +96,8 @@ writes_of kind (w ∷ ws) f h t l q lt = ⊎_elim
     (cases_name w q)
 
 -- whatever is said of the items at ports by the types of their queues is said of what the ports give to a queue
-pub joined_all : (B : Option QueueType → item.Item → Type 0) (kind : Name → QueueType) (ws : List Name) (f : ℕ → List item.Item) → ((p : ℕ) → All (B (slice_get (map kind ws) p)) (f p)) → (q : Name) → All (B (Some (kind q))) (joined ws f q)
+pub joined_all : (B : Option QueueType → item.Item → Type 0) (kind : Name → QueueType) (ws : List Name) (f : ℕ → List item.Item)
+    → ((p : ℕ) → All (B (slice_get (map kind ws) p)) (f p)) → (q : Name) → All (B (Some (kind q))) (joined ws f q)
 joined_all B kind [] f t q = All-nil (B (Some (kind q)))
 joined_all B kind (w ∷ ws) f t q = All-append (B (Some (kind q))) (if name_eq w q then f 0 else []) (joined ws (λ j. f (suc j)) q) (⊎_elim
     (λ c. subst (All (B (Some (kind q)))) (sym (if_true (name_eq w q) (f 0) [] c.1)) (subst (λ n. All (B (Some (kind n))) (f 0)) c.0 (t 0)))
@@ -128,7 +132,8 @@ kind_back (x ∷ xs) ys q z = ⊎_elim
     (λ c. if_false (name_eq x.name q) (Some x.kind) (kind_in (xs ++ ys) q) c.1 ∙ kind_back xs ys q (omega (arith, z)))
     (cases_name x.name q)
 
-inputs_found : (ds : List Decl) (ls : List (List item.Item)) → AreInputs ds ls → (q : Name) → 0 < count q (decl_names ds) → All (HasType (kind_of ds q)) (inputs_of (decl_names ds) (list_at ls) q)
+inputs_found : (ds : List Decl) (ls : List (List item.Item)) → AreInputs ds ls → (q : Name) → 0 < count q (decl_names ds)
+    → All (HasType (kind_of ds q)) (inputs_of (decl_names ds) (list_at ls) q)
 inputs_found [] ls a q lt = absurd (omega (arith, lt))
 inputs_found (d ∷ ds) [] a q lt = absurd a
 inputs_found (d ∷ ds) (xs ∷ ls) a q lt = ⊎_elim
@@ -139,7 +144,8 @@ inputs_found (d ∷ ds) (xs ∷ ls) a q lt = ⊎_elim
     (inputs_found ds ls a.1 q (let e = ap one_if c.1 in omega (arith, e, lt)))))
     (cases_name d.name q)
 
-pub inputs_typed : (p : PlanForm) → IsPlan p → (inputs : List (List item.Item)) → AreInputs p.inputs inputs → EachQueue (kind_of (all_decls p)) (inputs_of (decl_names p.inputs) (list_at inputs))
+pub inputs_typed : (p : PlanForm) → IsPlan p → (inputs : List (List item.Item)) → AreInputs p.inputs inputs
+    → EachQueue (kind_of (all_decls p)) (inputs_of (decl_names p.inputs) (list_at inputs))
 inputs_typed p v inputs a q = ⊎_elim
     (λ lt.
     let o = v.queues_once q in
@@ -157,7 +163,8 @@ module _ (p : PlanForm) (v : IsPlan p) where
   kinds = kind_of (all_decls p)
 
   -- what an operator gives on inputs of their types
-  pub given_typed : (o : ℕ) (op : OpForm) (h : History) → slice_get p.ops o ≡ Some op → ((q : Name) → 0 < count q op.reads → All (HasType (kinds q)) (h q)) → AreOf (map kinds op.writes) (given op h).outs
+  pub given_typed : (o : ℕ) (op : OpForm) (h : History) → slice_get p.ops o ≡ Some op → ((q : Name) → 0 < count q op.reads → All (HasType (kinds q)) (h q))
+      → AreOf (map kinds op.writes) (given op h).outs
   given_typed o op h g e =
       let f = op_fits p v o op g in
       let s = shaped op.kernel _ _ _ f in
@@ -191,7 +198,8 @@ module _ (p : PlanForm) (v : IsPlan p) where
         subst (Holds op.kernel (map kinds op.reads)) (sym (ap first_of g)) (first_holds op.kernel (map kinds op.reads) s);
   }
 
-  pub fired_typed : (o port : ℕ) (op : OpForm) (q : Name) (x : item.Item) (s : Machine) → IsTypedState p s → slice_get p.ops o ≡ Some op → slice_get op.reads port ≡ Some q → slice_get (s.hist q) (s.taken q) ≡ Some x
+  pub fired_typed : (o port : ℕ) (op : OpForm) (q : Name) (x : item.Item) (s : Machine) → IsTypedState p s → slice_get p.ops o ≡ Some op
+      → slice_get op.reads port ≡ Some q → slice_get (s.hist q) (s.taken q) ≡ Some x
       → IsTypedState p (fired (table_names p.tables) o op port q x s)
   fired_typed o port op q x s t g qi xi =
       let f = op_fits p v o op g in

@@ -1,5 +1,6 @@
 -- Every kernel that fits types gives items of them.
-use Rattle.std.proofs.Common.{◌≡◌, ℕ, zero, suc, ℤ, pos, ◌+◌, ◌<◌, Bool, true, false, ◌&&◌, Option, Some, None, List, [], ◌∷◌, ◌++◌, length, map, take, drop, refl, sym, ap, ◌∙◌, subst, arith, ⊎_elim, nat_lt, replicate}
+use Rattle.std.proofs.Common.{◌≡◌, ℕ, zero, suc, ℤ, pos, ◌+◌, ◌<◌, Bool, true, false, ◌&&◌, Option, Some, None, List, [], ◌∷◌, ◌++◌, length, map, take, drop}
+use Rattle.std.proofs.Common.{refl, sym, ap, ◌∙◌, subst, arith, ⊎_elim, nat_lt, replicate}
 use Rattle.std.specs.Prelude.{if◌then◌else◌, nat_le, All, slice_get}
 use Rattle.std.specs.List.{list_all}
 use Rattle.std.proofs.lemmas.Bool.{cases_lt, cases_eq, and_parts, true≢false}
@@ -28,7 +29,8 @@ use Rattle.river_kernels.specs.Types.{types_of}
 use Rattle.river_kernels.specs.Kern.{Kern, code, filter, duplicate, deal, collect, packed, unpack, window, select, project, cross, streamer, tally, fused}
 use Rattle.river_kernels.proofs.FitsLaw.{fits_types}
 use Rattle.brooklet_model.specs.Firings.{Kept, Slots, Buffered, Turn, Joining, Received, Crossing, Fired, feed, splice}
-use Rattle.brooklet_model.specs.Fire.{fire, outs, privates, first_kept, code_one, filter_firing, deal_one, join_one, received_one, cross_one, values_of, value_of}
+use Rattle.brooklet_model.specs.Fire.{fire, outs, privates, first_kept, code_one, filter_firing, deal_one, join_one, received_one, cross_one, values_of}
+use Rattle.brooklet_model.specs.Fire.{value_of}
 use Rattle.brooklet_model.specs.Shapes.{IsOne, HasSlots, IsDealing, IsJoining, IsReceived, IsCrossing, HasShape, IsShaped}
 use Rattle.brooklet_model.specs.Typed.{IsTyped, IsOf, AreOf, AreWaiting, AreReceived, ArePaired, one_type, between, Holds}
 use Rattle.brooklet_model.proofs.BagTypes.{window_typed, select_typed, project_typed, streamer_typed, PairTyped, cross_typed_left, cross_typed_right}
@@ -86,12 +88,14 @@ copies_of P x q n h = ⊎_elim
 abbrev IsPushed : List ℤ → ℕ × List ℤ → Type 0
 IsPushed outs e = has_port outs e.0 (length e.1) ≡ true
 
-either_well : (outs : List ℤ) (b : Bool) (r s : Ran) → All (IsPushed outs) r.pushes → All (IsPushed outs) s.pushes → All (IsPushed outs) (if b then r else s).pushes
+either_well : (outs : List ℤ) (b : Bool) (r s : Ran) → All (IsPushed outs) r.pushes → All (IsPushed outs) s.pushes
+    → All (IsPushed outs) (if b then r else s).pushes
 either_well outs true r s h k = h
 either_well outs false r s h k = k
 
 mutual
-  once_well : (inputs slots : ℕ) (outs : List ℤ) (s : Step) (input kept : List ℤ) → is_step inputs slots outs s ≡ true → All (IsPushed outs) (ran_once s input kept).pushes
+  once_well : (inputs slots : ℕ) (outs : List ℤ) (s : Step) (input kept : List ℤ) → is_step inputs slots outs s ≡ true
+      → All (IsPushed outs) (ran_once s input kept).pushes
   once_well inputs slots outs (Set slot t) input kept h = All-nil (IsPushed outs)
   once_well inputs slots outs (Push port ts) input kept h =
       let p = and_parts (has_port outs port (length ts)) (list_all (is_term inputs slots) ts) h in
@@ -103,7 +107,8 @@ mutual
       let q = and_parts (is_steps inputs slots outs when) (is_steps inputs slots outs otherwise) p.1 in
       either_well outs (is_true (val cond input kept)) (ran when input kept) (ran otherwise input kept) (ran_well inputs slots outs when input kept q.0) (ran_well inputs slots outs otherwise input kept q.1)
 
-  ran_well : (inputs slots : ℕ) (outs : List ℤ) (ss : Steps) (input kept : List ℤ) → is_steps inputs slots outs ss ≡ true → All (IsPushed outs) (ran ss input kept).pushes
+  ran_well : (inputs slots : ℕ) (outs : List ℤ) (ss : Steps) (input kept : List ℤ) → is_steps inputs slots outs ss ≡ true
+      → All (IsPushed outs) (ran ss input kept).pushes
   ran_well inputs slots outs Done input kept h = All-nil (IsPushed outs)
   ran_well inputs slots outs (Then s ss) input kept h =
       let p = and_parts (is_step inputs slots outs s) (is_steps inputs slots outs ss) h in
@@ -126,10 +131,12 @@ pushes_of outs (e ∷ es) h q =
     (λ ne. subst (All P) (sym (if_ne e.0 q (Flat (One e.1) ∷ pushed_to q es) (pushed_to q es) ne)) rest)
     (cases_eq e.0 q)
 
-kept_of : (b : Body) (inputs : ℕ) (outs : List ℤ) (kept input : List ℤ) → is_steps inputs b.slots outs b.steps ≡ true → AreOf (ports outs) (λ q. pushed_to q (run_kept b kept input).pushes)
+kept_of : (b : Body) (inputs : ℕ) (outs : List ℤ) (kept input : List ℤ) → is_steps inputs b.slots outs b.steps ≡ true
+    → AreOf (ports outs) (λ q. pushed_to q (run_kept b kept input).pushes)
 kept_of b inputs outs kept input h = pushes_of outs (run_kept b kept input).pushes (ran_well inputs b.slots outs b.steps input (slots_from b.slots kept) h)
 
-code_of : (k : CodeForm) (x : item.Item) (ss : List Kept) → is_steps k.body.inputs k.body.slots k.outs k.body.steps ≡ true → HasSlots k.starts ss → AreOf (ports k.outs) (code_one k x ss).outs
+code_of : (k : CodeForm) (x : item.Item) (ss : List Kept) → is_steps k.body.inputs k.body.slots k.outs k.body.steps ≡ true → HasSlots k.starts ss
+    → AreOf (ports k.outs) (code_one k x ss).outs
 code_of k x [] f h = kept_of k.body k.body.inputs k.outs [] (values_of x) f
 code_of k x (Slots kept ∷ ss) f h = kept_of k.body k.body.inputs k.outs kept (values_of x) f
 code_of k x (Buffered s ∷ ss) f h = only_of (IsOf (ports k.outs)) 0 [] (All-nil (IsOf (ports k.outs) 0))
@@ -141,14 +148,17 @@ code_of k x (Crossing s ∷ ss) f h = only_of (IsOf (ports k.outs)) 0 [] (All-ni
 nothing_of : (types : List QueueType) → AreOf types (only 0 [])
 nothing_of types = only_of (IsOf types) 0 [] (All-nil (IsOf types 0))
 
-turn_of : (f : FilterForm) (s : Filtering) → is_steps f.peek f.body.slots (pos 1 ∷ []) f.body.steps ≡ true → AreOf (rows 1 ∷ []) (λ q. pushed_to q (filter_turn f s).pushes)
+turn_of : (f : FilterForm) (s : Filtering) → is_steps f.peek f.body.slots (pos 1 ∷ []) f.body.steps ≡ true
+    → AreOf (rows 1 ∷ []) (λ q. pushed_to q (filter_turn f s).pushes)
 turn_of f s h = arms (nat_le f.peek (length (buffer_of f s)))
   where
-    arms : (b : Bool) → AreOf (rows 1 ∷ []) (λ q. pushed_to q (if b then filter_ran s (run_kept f.body s.kept (take f.peek (buffer_of f s))) else record { pushes = []; after = s }).pushes)
+    arms : (b : Bool)
+        → AreOf (rows 1 ∷ []) (λ q. pushed_to q (if b then filter_ran s (run_kept f.body s.kept (take f.peek (buffer_of f s))) else record { pushes = []; after = s }).pushes)
     arms true = kept_of f.body f.peek (pos 1 ∷ []) s.kept (take f.peek (buffer_of f s)) h
     arms false = none_of (rows 1 ∷ [])
 
-filter_of : (f : FilterForm) (x : item.Item) (ss : List Kept) → is_steps f.peek f.body.slots (pos 1 ∷ []) f.body.steps ≡ true → AreOf (rows 1 ∷ []) (filter_firing f x ss).outs
+filter_of : (f : FilterForm) (x : item.Item) (ss : List Kept) → is_steps f.peek f.body.slots (pos 1 ∷ []) f.body.steps ≡ true
+    → AreOf (rows 1 ∷ []) (filter_firing f x ss).outs
 filter_of f x [] h = nothing_of (rows 1 ∷ [])
 filter_of f x (Slots zs ∷ ss) h = nothing_of (rows 1 ∷ [])
 filter_of f x (Buffered s ∷ ss) h = turn_of f (record { seen = s.seen ++ value_of x ∷ []; fired = s.fired; kept = s.kept }) h
@@ -159,11 +169,13 @@ filter_of f x (Crossing s ∷ ss) h = nothing_of (rows 1 ∷ [])
 
 -- SPLITTERS AND JOINERS
 
-deal_of : (ws : List ℕ) (t : QueueType) (x : item.Item) (ss : List Kept) → HasType t x → IsOne (IsDealing ws) ss → AreOf (replicate (length ws) t) (deal_one ws x ss).outs
+deal_of : (ws : List ℕ) (t : QueueType) (x : item.Item) (ss : List Kept) → HasType t x → IsOne (IsDealing ws) ss
+    → AreOf (replicate (length ws) t) (deal_one ws x ss).outs
 deal_of ws t x [] i h = absurd h
 deal_of ws t x (Slots zs ∷ []) i h = absurd h
 deal_of ws t x (Buffered s ∷ []) i h = absurd h
-deal_of ws t x (Turn port had ∷ []) i h = only_of (IsOf (replicate (length ws) t)) port (x ∷ []) (one_item (IsOf (replicate (length ws) t) port) x (to_many (length ws) t port x h.0 i))
+deal_of ws t x (Turn port had ∷ []) i h =
+    only_of (IsOf (replicate (length ws) t)) port (x ∷ []) (one_item (IsOf (replicate (length ws) t) port) x (to_many (length ws) t port x h.0 i))
 deal_of ws t x (Joining s ∷ []) i h = absurd h
 deal_of ws t x (Received xs ∷ []) i h = absurd h
 deal_of ws t x (Crossing s ∷ []) i h = absurd h
@@ -191,21 +203,25 @@ put_each P (l ∷ ls) zero x h k (suc q) = h (suc q)
 put_each P (l ∷ ls) (suc p) x h k zero = h 0
 put_each P (l ∷ ls) (suc p) x h k (suc q) = put_each (λ i. P (suc i)) ls p x (λ i. h (suc i)) k q
 
-front_in_all : (P Q : item.Item → Type 0) (give : item.Item → List item.Item) → ((x : item.Item) → P x → All Q (give x)) → (l o : List item.Item) → All P l → front_in give l ≡ Some o → All Q o
+front_in_all : (P Q : item.Item → Type 0) (give : item.Item → List item.Item) → ((x : item.Item) → P x → All Q (give x)) → (l o : List item.Item) → All P l
+    → front_in give l ≡ Some o → All Q o
 front_in_all P Q give f [] o h e = absurd (cc e)
 front_in_all P Q give f (x ∷ xs) o h e = let g : give x ≡ o = cc in subst (All Q) g (f x (All-head P x xs h))
 
-front_all : (P : ℕ → item.Item → Type 0) (Q : item.Item → Type 0) (give : item.Item → List item.Item) → ((p : ℕ) (x : item.Item) → P p x → All Q (give x)) → (ls : List (List item.Item)) (p : ℕ) (o : List item.Item) → EachPlace P ls → front_at give ls p ≡ Some o → All Q o
+front_all : (P : ℕ → item.Item → Type 0) (Q : item.Item → Type 0) (give : item.Item → List item.Item) → ((p : ℕ) (x : item.Item) → P p x → All Q (give x))
+    → (ls : List (List item.Item)) (p : ℕ) (o : List item.Item) → EachPlace P ls → front_at give ls p ≡ Some o → All Q o
 front_all P Q give f [] p o h e = absurd (cc e)
 front_all P Q give f (l ∷ ls) zero o h e = front_in_all (P 0) Q give (f 0) l o (h 0) e
 front_all P Q give f (l ∷ ls) (suc p) o h e = front_all (λ i. P (suc i)) Q give (λ i. f (suc i)) ls p o (λ i. h (suc i)) e
 
-drain_all : (P : ℕ → item.Item → Type 0) (Q : item.Item → Type 0) (give : item.Item → List item.Item) (ws : List ℕ) → ((p : ℕ) (x : item.Item) → P p x → All Q (give x)) → (n : ℕ) (s : Turns) → EachPlace P s.lists
+drain_all : (P : ℕ → item.Item → Type 0) (Q : item.Item → Type 0) (give : item.Item → List item.Item) (ws : List ℕ)
+    → ((p : ℕ) (x : item.Item) → P p x → All Q (give x)) → (n : ℕ) (s : Turns) → EachPlace P s.lists
     → All Q (drain (front_of give) (passed ws) n s).0 × EachPlace P (drain (front_of give) (passed ws) n s).1.lists
 drain_all P Q give ws f zero s h = (All-nil Q, h)
 drain_all P Q give ws f (suc n) s h = go (front_of give s) refl (drain_all P Q give ws f n (passed ws s) (rest_each P s.lists s.port h))
   where
-    go : (o : Option (List item.Item)) → front_of give s ≡ o → All Q (drain (front_of give) (passed ws) n (passed ws s)).0 × EachPlace P (drain (front_of give) (passed ws) n (passed ws s)).1.lists
+    go : (o : Option (List item.Item)) → front_of give s ≡ o
+        → All Q (drain (front_of give) (passed ws) n (passed ws s)).0 × EachPlace P (drain (front_of give) (passed ws) n (passed ws s)).1.lists
         → All Q (pass_on (passed ws) s (drain (front_of give) (passed ws) n) o).0 × EachPlace P (pass_on (passed ws) s (drain (front_of give) (passed ws) n) o).1.lists
     go None e r = (All-nil Q, h)
     go (Some o) e r = (All-append Q o _ (front_all P Q give f s.lists s.port o h e) r.0, r.1)
@@ -228,7 +244,8 @@ join_of give ws is os t p x (s ∷ u ∷ us) f e i h a = absurd h
 
 pub flats_of : (t : FlatType) (xs : List item.Item) → All (HasType (FlatOf t)) xs → All (HasFlatType t) (flats xs)
 flats_of t [] h = All-nil (HasFlatType t)
-flats_of t (Flat f ∷ xs) h = All-cons (HasFlatType t) f (flats xs) (All-head (HasType (FlatOf t)) (Flat f) xs h) (flats_of t xs (All-tail (HasType (FlatOf t)) (Flat f) xs h))
+flats_of t (Flat f ∷ xs) h =
+    All-cons (HasFlatType t) f (flats xs) (All-head (HasType (FlatOf t)) (Flat f) xs h) (flats_of t xs (All-tail (HasType (FlatOf t)) (Flat f) xs h))
 flats_of t (Pack fs ∷ xs) h = flats_of t xs (All-tail (HasType (FlatOf t)) (Pack fs) xs h)
 
 opened_of : (t : FlatType) (x : item.Item) → HasType (PackOf t) x → All (HasType (FlatOf t)) (items_of x)
@@ -237,7 +254,8 @@ opened_of t (Pack fs) h = All-map (HasType (FlatOf t)) (λ f. Flat f) fs h
 
 -- TWO KERNELS
 
-feed_of : (P : List Kept → Type 0) (m : QueueType) (bs : List QueueType) (f : item.Item → List Kept → Fired) → ((x : item.Item) (ss : List Kept) → HasType m x → P ss → AreOf bs (f x ss).outs × P (f x ss).states)
+feed_of : (P : List Kept → Type 0) (m : QueueType) (bs : List QueueType) (f : item.Item → List Kept → Fired)
+    → ((x : item.Item) (ss : List Kept) → HasType m x → P ss → AreOf bs (f x ss).outs × P (f x ss).states)
     → (xs : List item.Item) (ss : List Kept) → All (HasType m) xs → P ss → AreOf bs (feed f xs ss).outs × P (feed f xs ss).states
 feed_of P m bs f step [] ss a h = ((λ j. All-nil (IsOf bs j)), h)
 feed_of P m bs f step (x ∷ xs) ss a h =
@@ -246,12 +264,14 @@ feed_of P m bs f step (x ∷ xs) ss a h =
     ((λ j. All-append (IsOf bs j) ((f x ss).outs j) ((feed f xs (f x ss).states).outs j) (one.0 j) (rest.0 j)), rest.1)
 
 -- the port between two kernels has the type that it is said to have
-pub between_is : (a : Kern) (is ms : List QueueType) (m : QueueType) (us : List VarKind) (at : ℕ) → Fits a is ms us → slice_get ms at ≡ Some m → between at (types_of a is) ≡ m ∷ []
+pub between_is : (a : Kern) (is ms : List QueueType) (m : QueueType) (us : List VarKind) (at : ℕ) → Fits a is ms us → slice_get ms at ≡ Some m
+    → between at (types_of a is) ≡ m ∷ []
 between_is a is ms m us at f g = ap (between at) (fits_types a is ms us f) ∙ ap one_type g
 
 -- BAGS
 
-received_of : (i o : QueueType) (one : List item.Item → item.Item → List item.Item) (is os : List QueueType) (p : ℕ) (x : item.Item) (ss : List Kept) → is ≡ i ∷ [] → os ≡ o ∷ []
+received_of : (i o : QueueType) (one : List item.Item → item.Item → List item.Item) (is os : List QueueType) (p : ℕ) (x : item.Item) (ss : List Kept)
+    → is ≡ i ∷ [] → os ≡ o ∷ []
     → ((past : List item.Item) (y : item.Item) → All (HasType i) past → HasType i y → All (HasType o) (one past y))
     → IsOne IsReceived ss → AreReceived is ss → IsOf is p x → AreOf os (received_one one x ss).outs × AreReceived is (received_one one x ss).states
 received_of i o one is os p x [] e g f h t k = absurd h
@@ -266,7 +286,8 @@ received_of i o one is os p x (Received past ∷ []) e g f h t k =
 received_of i o one is os p x (Crossing s ∷ []) e g f h t k = absurd h
 received_of i o one is os p x (s ∷ u ∷ us) e g f h t k = absurd h
 
-pair_of : (a b p : ℕ) (x : item.Item) (s : Pairing) → PairTyped a b s → IsOf (relation a ∷ relation b ∷ []) p x → All (HasType (relation (a + b))) (crosses p x s).0 × PairTyped a b (crosses p x s).1
+pair_of : (a b p : ℕ) (x : item.Item) (s : Pairing) → PairTyped a b s → IsOf (relation a ∷ relation b ∷ []) p x
+    → All (HasType (relation (a + b))) (crosses p x s).0 × PairTyped a b (crosses p x s).1
 pair_of a b zero x s t k = cross_typed_left a b x s t k
 pair_of a b (suc zero) x s t k = cross_typed_right a b 0 x s t k
 pair_of a b (suc (suc p)) x s t k = absurd k
@@ -285,7 +306,8 @@ cross_of a b is os p x (Crossing s ∷ []) e g h t k =
 cross_of a b is os p x (s ∷ u ∷ us) e g h t k = absurd h
 
 -- a firing of a kernel on an item of its port's type gives items of its ports' types, and so are those that its states keep
-pub fire_typed : (k : Kern) (is os : List QueueType) (vs : List VarKind) (p : ℕ) (x : item.Item) (ss : List Kept) → Fits k is os vs → HasShape k ss → Holds k is ss → IsOf is p x
+pub fire_typed : (k : Kern) (is os : List QueueType) (vs : List VarKind) (p : ℕ) (x : item.Item) (ss : List Kept) → Fits k is os vs → HasShape k ss
+    → Holds k is ss → IsOf is p x
     → AreOf os (fire k p x ss).outs × Holds k is (fire k p x ss).states
 fire_typed (code k) is os vs p x ss f h t i =
     let c = and_parts (is_width k.body.inputs) (are_widths k.outs && is_code k) f.3 in
@@ -315,7 +337,8 @@ fire_typed (packed k) is os vs p x ss f h t i =
     (one_of (PackOf f.1) os (Pack (flats xs) ∷ []) f.3 (one_item (HasType (PackOf f.1)) (Pack (flats xs)) (flats_of f.1 xs (one.0 0))), one.1)
 fire_typed (unpack n) is os vs p x ss f h t i =
     join_of items_of (ones n) is os (FlatOf f.0) p x ss (λ q y j. opened_of f.0 y (of_many n (PackOf f.0) is q y f.1 j)) f.2 i h t
-fire_typed (window w) is os vs p x ss f h t i = received_of (stream f.0) (relation f.0) (window_one w) is os p x ss f.1 f.2 (λ past y a b. window_typed f.0 w past y a b) h t i
+fire_typed (window w) is os vs p x ss f h t i =
+    received_of (stream f.0) (relation f.0) (window_one w) is os p x ss f.1 f.2 (λ past y a b. window_typed f.0 w past y a b) h t i
 fire_typed (select e) is os vs p x ss f h t i =
     let c = and_parts (is_sized f.0) (is_bag f.0 && is_term (width_of f.0) 0 e) f.4 in
     let d = and_parts (is_bag f.0) (is_term (width_of f.0) 0 e) c.1 in
@@ -323,7 +346,8 @@ fire_typed (select e) is os vs p x ss f h t i =
 fire_typed (project es) is os vs p x ss f h t i =
     (one_of (relation (length es)) os (project_one es x) f.2 (project_typed f.0 es x (of_one (relation f.0) is p x f.1 i)), tt)
 fire_typed cross is os vs p x ss f h t i = cross_of f.0 f.1 is os p x ss f.2 f.3 h t i
-fire_typed (streamer s) is os vs p x ss f h t i = received_of (relation f.0) (stream f.0) (streamer_one s) is os p x ss f.1 f.2 (λ past y a b. streamer_typed f.0 s past y a b) h t i
+fire_typed (streamer s) is os vs p x ss f h t i =
+    received_of (relation f.0) (stream f.0) (streamer_one s) is os p x ss f.1 f.2 (λ past y a b. streamer_typed f.0 s past y a b) h t i
 fire_typed tally is os vs p x ss f h t i = (none_of os, tt)
 fire_typed (fused a b at) is os vs p x ss f h t i =
     let ms = f.0 in

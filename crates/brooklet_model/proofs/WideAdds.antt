@@ -118,17 +118,21 @@ next_beside n f g p = ⊎_elim
     (cases_lt p n)
 
 beside_wide : (ns ms : List ℕ) (f g : ℕ → List (List ℤ)) → AreWide ns f → AreWide ms g → AreWide (ns ++ ms) (beside (length ns) f g)
-beside_wide [] ms f g a b j = subst (All (IsWide (slice_get ms j))) (sym (if_ge j 0 (f j) (g (j - 0)) (omega arith) ∙ (let e : j - 0 ≡ j = omega arith in ap g e))) (b j)
+beside_wide [] ms f g a b j =
+    subst (All (IsWide (slice_get ms j))) (sym (if_ge j 0 (f j) (g (j - 0)) (omega arith) ∙ (let e : j - 0 ≡ j = omega arith in ap g e))) (b j)
 beside_wide (n ∷ ns) ms f g a b zero = subst (All (IsWide (Some n))) (sym (if_lt 0 (suc (length ns)) (f 0) (g (0 - suc (length ns))) (omega arith))) (a 0)
-beside_wide (n ∷ ns) ms f g a b (suc j) = subst (All (IsWide (slice_get (ns ++ ms) j))) (sym (next_beside (length ns) f g j)) (beside_wide ns ms (λ i. f (suc i)) g (λ i. a (suc i)) b j)
+beside_wide (n ∷ ns) ms f g a b (suc j) =
+    subst (All (IsWide (slice_get (ns ++ ms) j))) (sym (next_beside (length ns) f g j)) (beside_wide ns ms (λ i. f (suc i)) g (λ i. a (suc i)) b j)
 
 -- the tables of two kernels are those of the first and then those of the second
-pub fused_wide : (a : Kern) (is ms : List QueueType) (us ws : List VarKind) (f g : ℕ → List (List ℤ)) → Fits a is ms us → AreWide (widths_in us) f → AreWide (widths_in ws) g → AreWide (widths_in (us ++ ws)) (beside (tabs a) f g)
+pub fused_wide : (a : Kern) (is ms : List QueueType) (us ws : List VarKind) (f g : ℕ → List (List ℤ)) → Fits a is ms us → AreWide (widths_in us) f
+    → AreWide (widths_in ws) g → AreWide (widths_in (us ++ ws)) (beside (tabs a) f g)
 fused_wide a is ms us ws f g fa x y =
     let n : length (widths_in us) ≡ tabs a = widths_length us ∙ (numbers a is ms us fa).tables in
     subst (λ ns. AreWide ns (beside (tabs a) f g)) (sym (widths-append us ws)) (subst (λ k. AreWide (widths_in us ++ widths_in ws) (beside k f g)) n (beside_wide (widths_in us) (widths_in ws) f g x y))
 
-feed_wide : (P : List Kept → Type 0) (m : QueueType) (ns : List ℕ) (f : item.Item → List Kept → Fired) → ((x : item.Item) (ss : List Kept) → HasType m x → P ss → AreWide ns (f x ss).adds × P (f x ss).states)
+feed_wide : (P : List Kept → Type 0) (m : QueueType) (ns : List ℕ) (f : item.Item → List Kept → Fired)
+    → ((x : item.Item) (ss : List Kept) → HasType m x → P ss → AreWide ns (f x ss).adds × P (f x ss).states)
     → (xs : List item.Item) (ss : List Kept) → All (HasType m) xs → P ss → AreWide ns (feed f xs ss).adds
 feed_wide P m ns f step [] ss a h = λ j. All-nil (IsWide (slice_get ns j))
 feed_wide P m ns f step (x ∷ xs) ss a h =
@@ -137,7 +141,8 @@ feed_wide P m ns f step (x ∷ xs) ss a h =
     λ j. All-append (IsWide (slice_get ns j)) ((f x ss).adds j) ((feed f xs (f x ss).states).adds j) (one.0 j) (rest j)
 
 -- what a firing of a kernel adds to its tables has their widths
-pub fire_wide : (k : Kern) (is os : List QueueType) (vs : List VarKind) (p : ℕ) (x : item.Item) (ss : List Kept) → Fits k is os vs → HasShape k ss → Holds k is ss → IsOf is p x → AreWide (widths_in vs) (fire k p x ss).adds
+pub fire_wide : (k : Kern) (is os : List QueueType) (vs : List VarKind) (p : ℕ) (x : item.Item) (ss : List Kept) → Fits k is os vs → HasShape k ss
+    → Holds k is ss → IsOf is p x → AreWide (widths_in vs) (fire k p x ss).adds
 fire_wide (code k) is os vs p x ss f h t i = nothing_wide (widths_in vs) _ (code_none k x ss)
 fire_wide (filter g) is os vs p x ss f h t i = nothing_wide (widths_in vs) _ (filter_none g x ss)
 fire_wide (duplicate n) is os vs p x ss f h t i = nothing_wide (widths_in vs) none (λ j. refl)

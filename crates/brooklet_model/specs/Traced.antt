@@ -23,5 +23,7 @@ pub record Traced (tables : List Name) (ops : List OpForm) (inputs : History) (s
   pub written_by : (o : ℕ) (op : OpForm) → slice_get ops o ≡ Some op → Lists op.writes (ran op (ws o)).outs s.hist
   pub unwritten : (q : Name) → total (writes_it q) ops ≡ 0 → s.hist q ≡ inputs q
   pub below : (o : ℕ) (op : OpForm) → slice_get ops o ≡ Some op → PortsBelow (length op.reads) (ws o)
-  pub taken : (o : ℕ) (op : OpForm) → slice_get ops o ≡ Some op → (p : ℕ) (q : Name) → slice_get op.reads p ≡ Some q → (at_port p (ws o) ≡ take (s.taken q) (s.hist q)) × (s.taken q ≤ length (s.hist q))
-  pub rows : (t : Name) (test : List ℤ → Bool) → count_by test (s.rows t) ≡ numbered (λ o op. count_by test (joined (tables_of tables op) (ran op (ws o)).adds t)) 0 ops
+  pub taken : (o : ℕ) (op : OpForm) → slice_get ops o ≡ Some op → (p : ℕ) (q : Name) → slice_get op.reads p ≡ Some q
+      → (at_port p (ws o) ≡ take (s.taken q) (s.hist q)) × (s.taken q ≤ length (s.hist q))
+  pub rows : (t : Name) (test : List ℤ → Bool)
+      → count_by test (s.rows t) ≡ numbered (λ o op. count_by test (joined (tables_of tables op) (ran op (ws o)).adds t)) 0 ops

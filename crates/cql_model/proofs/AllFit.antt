@@ -1,5 +1,6 @@
 -- All kernels of a plan fit.
-use Rattle.std.proofs.Common.{◌≡◌, ℕ, zero, suc, ◌+◌, ◌<◌, true, List, [], ◌∷◌, ◌++◌, refl, sym, ap, ◌∙◌, arith, subst, length, ⊎_elim, replicate, length-append}
+use Rattle.std.proofs.Common.{◌≡◌, ℕ, zero, suc, ◌+◌, ◌<◌, true, List, [], ◌∷◌, ◌++◌, refl, sym, ap, ◌∙◌, arith, subst, length, ⊎_elim, replicate}
+use Rattle.std.proofs.Common.{length-append}
 use Rattle.std.specs.Prelude.{if◌then◌else◌, nat_le}
 use Rattle.std.specs.List.{flat_map}
 use Rattle.std.proofs.lemmas.Bool.{cases_lt}
@@ -17,7 +18,9 @@ use Rattle.cql_model.specs.Accepted.{AreQueries}
 use Rattle.cql_model.specs.Laws.{known_names, AreKnown}
 use Rattle.cql_model.specs.Program.{Source, Columns, Star, Chosen, Query, Register, Ask, Program, streams_of, all_uses}
 use Rattle.cql_model.specs.Scopes.{Named, scope_of, fields_of, column_names}
-use Rattle.cql_model.specs.Translation.{copies, copy_name, source_at, sources, query_named, ask_ops, copy_ops, input_ops, decls, widths_of, columns_width, item_decls, select_decls, project_decls, out_decls, query_decls, ask_decls, copy_decls, input_copies, input_decls, output_decls}
+use Rattle.cql_model.specs.Translation.{copies, copy_name, source_at, sources, query_named, ask_ops, copy_ops, input_ops, decls, widths_of, columns_width}
+use Rattle.cql_model.specs.Translation.{item_decls, select_decls, project_decls, out_decls, query_decls, ask_decls, copy_decls, input_copies, input_decls}
+use Rattle.cql_model.specs.Translation.{output_decls}
 use Rattle.cql_model.proofs.Counting.{block_ops}
 use Rattle.cql_model.proofs.Order.{Others, Fit, fit_next, query_source, InputsThere}
 use Rattle.cql_model.proofs.Fitting as one
@@ -68,7 +71,8 @@ module _ (kind : Name → QueueType) (var : Name → VarKind) (inputs all : List
   sized_scope ks [] z a = tt
   sized_scope ks (i ∷ is) z a = (sized_one ks i.stream z a.0, sized_scope ks is z a.1)
 
-  source_kinds : (ks : List Named) (past : List Name) (items : List Source) (rest : List Name) → ServeKinds ks → AreKnown ks (streams_of items) → Fit inputs all past (streams_of items ++ rest)
+  source_kinds : (ks : List Named) (past : List Name) (items : List Source) (rest : List Name) → ServeKinds ks → AreKnown ks (streams_of items)
+      → Fit inputs all past (streams_of items ++ rest)
       → one.SourceKinds kind var (scope_of ks items) (sources inputs all past (streams_of items))
   source_kinds ks past [] rest s a r = tt
   source_kinds ks past (i ∷ is) rest s a r = (
@@ -79,7 +83,8 @@ module _ (kind : Name → QueueType) (var : Name → VarKind) (inputs all : List
   copies_kind : (b : Name) (k u : ℕ) (t : QueueType) → AreKinds (decls (copies b k u) t) → (j : ℕ) → j < u → kind (copy_name b (k + j)) ≡ t
   copies_kind b k zero t a j lt = absurd (omega (arith, lt))
   copies_kind b k (suc u) t a zero lt = (let z : k + 0 ≡ k = omega arith in ap (λ m. kind (copy_name b m)) z) ∙ a.0
-  copies_kind b k (suc u) t a (suc j) lt = (let z : k + suc j ≡ (k + 1) + j = omega arith in ap (λ m. kind (copy_name b m)) z) ∙ copies_kind b (k + 1) u t a.1 j (omega (arith, lt))
+  copies_kind b k (suc u) t a (suc j) lt =
+      (let z : k + suc j ≡ (k + 1) + j = omega arith in ap (λ m. kind (copy_name b m)) z) ∙ copies_kind b (k + 1) u t a.1 j (omega (arith, lt))
 
   copy_kind : (b : Name) (u : ℕ) (t : QueueType) → AreKinds (decls (copies b 0 u) t) → (j : ℕ) → j < u → kind (copy_name b j) ≡ t
   copy_kind b u t a j lt = (let z : 0 + j ≡ j = omega arith in ap (λ m. kind (copy_name b m)) (sym z)) ∙ copies_kind b 0 u t a j lt
@@ -89,7 +94,8 @@ module _ (kind : Name → QueueType) (var : Name → VarKind) (inputs all : List
   out_kind b width (suc u) a j lt = copy_kind b (suc u) (stream width) a.1 j lt
 
   -- what a query's declarations say of its copies
-  query_kind : (ks : List Named) (q : Query) → AreKinds (query_decls all ks q) → AreKinds (out_decls q.name (columns_width (scope_of ks q.items) q.columns) (count q.name all))
+  query_kind : (ks : List Named) (q : Query) → AreKinds (query_decls all ks q)
+      → AreKinds (out_decls q.name (columns_width (scope_of ks q.items) q.columns) (count q.name all))
   query_kind ks q d =
       let b = q.name in let scope = scope_of ks q.items in
       let sd = select_decls b (widths_of scope) q.condition in
@@ -104,8 +110,10 @@ module _ (kind : Name → QueueType) (var : Name → VarKind) (inputs all : List
   InputKinds (Register name fields ∷ ps) = ServesKind name (length fields) × InputKinds ps
   InputKinds (Ask q ∷ ps) = InputKinds ps
 
-  pub asks_fit : (ks : List Named) (past : List Name) (ps : Program) → ServeKinds ks → Sized ks → InputKinds ps → AreQueries ks ps → Others inputs all ps → Fit inputs all past (all_uses ps)
-      → AreKinds (ask_decls all ks ps) → AreKinds (output_decls ks ps) → Each (one.Own kind var) (ask_ops inputs all ks past ps) → Each (one.Fit kind var) (ask_ops inputs all ks past ps)
+  pub asks_fit : (ks : List Named) (past : List Name) (ps : Program) → ServeKinds ks → Sized ks → InputKinds ps → AreQueries ks ps → Others inputs all ps
+      → Fit inputs all past (all_uses ps)
+      → AreKinds (ask_decls all ks ps) → AreKinds (output_decls ks ps) → Each (one.Own kind var) (ask_ops inputs all ks past ps)
+      → Each (one.Fit kind var) (ask_ops inputs all ks past ps)
   asks_fit ks past [] s z i a o r d t v = tt
   asks_fit ks past (Register name fields ∷ ps) s z i a o r d t v =
       asks_fit (record { name = name; fields = fields } ∷ ks) past ps (i.0, s) (a.0, z) i.1 a.1 o r d t v
@@ -125,7 +133,8 @@ module _ (kind : Name → QueueType) (var : Name → VarKind) (inputs all : List
 
   -- THE COPIES OF THE INPUTS
 
-  copy_fits : (n : Name) (width u : ℕ) → is_width width ≡ true → kind n ≡ stream width → AreKinds (copy_decls n width u) → Each (one.Fit kind var) (copy_ops n u)
+  copy_fits : (n : Name) (width u : ℕ) → is_width width ≡ true → kind n ≡ stream width → AreKinds (copy_decls n width u)
+      → Each (one.Fit kind var) (copy_ops n u)
   copy_fits n width zero w k d = tt
   copy_fits n width (suc zero) w k d = tt
   copy_fits n width (suc (suc u)) w k d = (
@@ -153,7 +162,8 @@ module _ (kind : Name → QueueType) (var : Name → VarKind) (inputs all : List
       (cases_lt 1 (count n all)))
       (which inputs all n j)
 
-  pub inputs_fit : (ks : List Named) (ps : Program) → AreQueries ks ps → AreKinds (input_decls ps) → AreKinds (input_copies all ps) → Each (one.Fit kind var) (input_ops all ps)
+  pub inputs_fit : (ks : List Named) (ps : Program) → AreQueries ks ps → AreKinds (input_decls ps) → AreKinds (input_copies all ps)
+      → Each (one.Fit kind var) (input_ops all ps)
   inputs_fit ks [] a d c = tt
   inputs_fit ks (Register name fields ∷ ps) a d c =
       let cs = one.kinds-append kind var (copy_decls name (length fields) (count name all)) (input_copies all ps) c in

@@ -1,5 +1,6 @@
 -- The relation of a query: products of contents in order are the product in order, and so on.
-use Rattle.std.proofs.Common.{◌≡◌, ℕ, ℤ, Bool, true, false, cond, Option, Some, None, List, [], ◌∷◌, ◌++◌, sym, ap, ◌∙◌, subst, length, map, filter, fold, append_assoc}
+use Rattle.std.proofs.Common.{◌≡◌, ℕ, ℤ, Bool, true, false, cond, Option, Some, None, List, [], ◌∷◌, ◌++◌, sym, ap, ◌∙◌, subst, length, map, filter, fold}
+use Rattle.std.proofs.Common.{append_assoc}
 use Rattle.std.specs.Prelude.{All, sum_by}
 use Rattle.std.proofs.lemmas.List.{append-nil}
 use Rattle.std.proofs.lemmas.List.Concat.{flat_map-append}
@@ -40,24 +41,28 @@ product_more tuples ys = product_is (rows tuples) ys ∙ same_bag (pairs (rows t
 
 -- one item alone
 pub one_item : (ys : List (List ℤ)) → in_order ys ≡ in_order (rows (product_of (ys ∷ [])))
-one_item ys = same_bag ys (rows (with_each ([] ∷ []) ys)) (λ f. sym (sum-with f ([] ∷ []) ys ∙ ap (sum_by f) (append-nil (map (λ y. y) ys)) ∙ sum-map f (λ y. y) ys))
+one_item ys =
+    same_bag ys (rows (with_each ([] ∷ []) ys)) (λ f. sym (sum-with f ([] ∷ []) ys ∙ ap (sum_by f) (append-nil (map (λ y. y) ys)) ∙ sum-map f (λ y. y) ys))
 
 -- TUPLES FIT THEIR ITEMS
 
-fits_more : (scope : List Named) (tuple : Tuple) (i : Named) (row : List ℤ) → Fits scope tuple → length row ≡ length i.fields → Fits (scope ++ i ∷ []) (tuple ++ row ∷ [])
+fits_more : (scope : List Named) (tuple : Tuple) (i : Named) (row : List ℤ) → Fits scope tuple → length row ≡ length i.fields
+    → Fits (scope ++ i ∷ []) (tuple ++ row ∷ [])
 fits_more [] [] i row h e = (e, tt)
 fits_more [] (r ∷ rs) i row h e = absurd h
 fits_more (s ∷ ss) [] i row h e = absurd h
 fits_more (s ∷ ss) (r ∷ rs) i row h e = (h.0, fits_more ss rs i row h.1 e)
 
-each_more : (scope : List Named) (tuple : Tuple) (i : Named) (ys : List (List ℤ)) → Fits scope tuple → HaveWidth (length i.fields) ys → All (Fits (scope ++ i ∷ [])) (map (λ row. tuple ++ row ∷ []) ys)
+each_more : (scope : List Named) (tuple : Tuple) (i : Named) (ys : List (List ℤ)) → Fits scope tuple → HaveWidth (length i.fields) ys
+    → All (Fits (scope ++ i ∷ [])) (map (λ row. tuple ++ row ∷ []) ys)
 each_more scope tuple i [] h w = All-nil (Fits (scope ++ i ∷ []))
 each_more scope tuple i (y ∷ ys) h w =
     All-cons (Fits (scope ++ i ∷ [])) (tuple ++ y ∷ []) (map (λ row. tuple ++ row ∷ []) ys)
     (fits_more scope tuple i y h (All-head (λ row. length row ≡ length i.fields) y ys w))
     (each_more scope tuple i ys h (All-tail (λ row. length row ≡ length i.fields) y ys w))
 
-all_more : (scope : List Named) (tuples : List Tuple) (i : Named) (ys : List (List ℤ)) → All (Fits scope) tuples → HaveWidth (length i.fields) ys → All (Fits (scope ++ i ∷ [])) (with_each tuples ys)
+all_more : (scope : List Named) (tuples : List Tuple) (i : Named) (ys : List (List ℤ)) → All (Fits scope) tuples → HaveWidth (length i.fields) ys
+    → All (Fits (scope ++ i ∷ [])) (with_each tuples ys)
 all_more scope [] i ys h w = All-nil (Fits (scope ++ i ∷ []))
 all_more scope (t ∷ ts) i ys h w =
     All-append (Fits (scope ++ i ∷ [])) (map (λ row. t ++ row ∷ []) ys) (with_each ts ys)
@@ -70,7 +75,8 @@ AreWide [] (ys ∷ yss) = ⊥
 AreWide (i ∷ is) [] = ⊥
 AreWide (i ∷ is) (ys ∷ yss) = HaveWidth (length i.fields) ys × AreWide is yss
 
-fits_from : (front scope : List Named) (tuples : List Tuple) (yss : List (List (List ℤ))) → All (Fits front) tuples → AreWide scope yss → All (Fits (front ++ scope)) (fold with_each tuples yss)
+fits_from : (front scope : List Named) (tuples : List Tuple) (yss : List (List (List ℤ))) → All (Fits front) tuples → AreWide scope yss
+    → All (Fits (front ++ scope)) (fold with_each tuples yss)
 fits_from front [] tuples [] h w = subst (λ (l : List Named). All (Fits l) tuples) (sym (append-nil front)) h
 fits_from front [] tuples (ys ∷ yss) h w = absurd w
 fits_from front (i ∷ is) tuples [] h w = absurd w

@@ -12,7 +12,9 @@ use Rattle.cql_model.specs.Program.{Scalar, Source, Columns, Star, Chosen, Query
 use Rattle.cql_model.specs.Scopes.{Named, scope_of, item_named}
 use Rattle.river_kernels.specs.Kern.{streamer}
 use Rattle.river_kernels.specs.Fits.{stream}
-use Rattle.cql_model.specs.Translation.{op, at_word, copies, window_ops, cross_ops, cross_last, select_ops, select_last, project_ops, project_last, out_ops, out_name, tail_ops, item_ops, item_last, w_name, x_name, decls, widths_of, window_decls, cross_decls, item_decls, select_decls, project_decls, out_decls, query_decls, columns_width}
+use Rattle.cql_model.specs.Translation.{op, at_word, copies, window_ops, cross_ops, cross_last, select_ops, select_last, project_ops, project_last, out_ops}
+use Rattle.cql_model.specs.Translation.{out_name, tail_ops, item_ops, item_last, w_name, x_name, decls, widths_of, window_decls, cross_decls, item_decls}
+use Rattle.cql_model.specs.Translation.{select_decls, project_decls, out_decls, query_decls, columns_width}
 use Rattle.river_plan.proofs.ValidLaw.{total-append}
 use Rattle.cql_model.proofs.Naming.{Tag, tagged, numbers, From, Of, from_nil, from_more, of_nil, of_one, of_numbers, of_letter}
 
@@ -69,7 +71,8 @@ pub copies_are : (b : Name) (k u : ℕ) → copies b k u ≡ map (tagged b) (num
 copies_are b k zero = refl
 copies_are b k (suc u) = ap (λ l. at_word b (decimal (k + 1)) ∷ l) (copies_are b (k + 1) u)
 
-windows_write : (z b : Name) (k : ℕ) (items : List Source) (srcs : List Name) → length srcs ≡ length items → total (writes_it z) (window_ops b k items srcs) ≡ among z b (w_tags k items)
+windows_write : (z b : Name) (k : ℕ) (items : List Source) (srcs : List Name) → length srcs ≡ length items
+    → total (writes_it z) (window_ops b k items srcs) ≡ among z b (w_tags k items)
 windows_write z b k [] srcs e = refl
 windows_write z b k (i ∷ is) [] e = absurd (omega (arith, e))
 windows_write z b k (i ∷ is) (s ∷ srcs) e = let m = windows_write z b (k + 1) is srcs (omega (arith, e)) in omega (arith, m)
@@ -78,7 +81,8 @@ crosses_write : (z b last : Name) (k : ℕ) (items : List Source) → total (wri
 crosses_write z b last k [] = refl
 crosses_write z b last k (i ∷ is) = let m = crosses_write z b (x_name b k) (k + 1) is in omega (arith, m)
 
-items_write : (z b : Name) (items : List Source) (srcs : List Name) → length srcs ≡ length items → total (writes_it z) (item_ops b items srcs) ≡ among z b (w_tags 1 items) + among z b (x_tags 2 (rest_of items))
+items_write : (z b : Name) (items : List Source) (srcs : List Name) → length srcs ≡ length items
+    → total (writes_it z) (item_ops b items srcs) ≡ among z b (w_tags 1 items) + among z b (x_tags 2 (rest_of items))
 items_write z b [] srcs e = refl
 items_write z b (i ∷ is) srcs e =
     let a = total-append (writes_it z) (window_ops b 1 (i ∷ is) srcs) (cross_ops b (w_name b 1) 2 is) in
@@ -92,7 +96,8 @@ project_writes : (z b : Name) (scope : List Named) (last : Name) (cs : Columns) 
 project_writes z b scope last Star = refl
 project_writes z b scope last (Chosen cs) = omega arith
 
-out_writes : (z b : Name) (u : ℕ) → (count z (out_name b u ∷ []) + total (writes_it z) (out_ops b u)) ≡ among z b (None ∷ []) + (among z b (numbers [] 1 u) + among z b (o_tags u))
+out_writes : (z b : Name) (u : ℕ)
+    → (count z (out_name b u ∷ []) + total (writes_it z) (out_ops b u)) ≡ among z b (None ∷ []) + (among z b (numbers [] 1 u) + among z b (o_tags u))
 out_writes z b zero = omega arith
 out_writes z b (suc u) = let e = ap (count z) (copies_are b 0 (suc u)) in omega (arith, e)
 
@@ -140,7 +145,8 @@ block_writes z q scope u srcs e =
 
 -- READS: what comes in by the items, and each queue between
 
-windows_read : (z b : Name) (k : ℕ) (items : List Source) (srcs : List Name) → length srcs ≡ length items → total (reads_it z) (window_ops b k items srcs) ≡ count z srcs
+windows_read : (z b : Name) (k : ℕ) (items : List Source) (srcs : List Name) → length srcs ≡ length items
+    → total (reads_it z) (window_ops b k items srcs) ≡ count z srcs
 windows_read z b k [] [] e = refl
 windows_read z b k [] (s ∷ srcs) e = absurd (omega (arith, e))
 windows_read z b k (i ∷ is) [] e = absurd (omega (arith, e))
@@ -158,11 +164,13 @@ items_read z b (i ∷ is) srcs some e =
     let a = total-append (reads_it z) (window_ops b 1 (i ∷ is) srcs) (cross_ops b (w_name b 1) 2 is) in
     let w = windows_read z b 1 (i ∷ is) srcs e in let x = crosses_read z b (w_name b 1) 2 is in omega (arith, a, w, x)
 
-select_reads : (z b : Name) (scope : List Named) (last : Name) (o : Option Scalar) → total (reads_it z) (select_ops b scope last o) + one_if (name_eq (select_last b last o) z) ≡ one_if (name_eq last z) + among z b (s_tags o)
+select_reads : (z b : Name) (scope : List Named) (last : Name) (o : Option Scalar)
+    → total (reads_it z) (select_ops b scope last o) + one_if (name_eq (select_last b last o) z) ≡ one_if (name_eq last z) + among z b (s_tags o)
 select_reads z b scope last None = omega arith
 select_reads z b scope last (Some e) = omega arith
 
-project_reads : (z b : Name) (scope : List Named) (last : Name) (cs : Columns) → total (reads_it z) (project_ops b scope last cs) + one_if (name_eq (project_last b last cs) z) ≡ one_if (name_eq last z) + among z b (p_tags cs)
+project_reads : (z b : Name) (scope : List Named) (last : Name) (cs : Columns)
+    → total (reads_it z) (project_ops b scope last cs) + one_if (name_eq (project_last b last cs) z) ≡ one_if (name_eq last z) + among z b (p_tags cs)
 project_reads z b scope last Star = omega arith
 project_reads z b scope last (Chosen cs) = omega arith
 
@@ -192,7 +200,8 @@ var_tags q = word (codes "i") ++ (w_tags 1 q.items ++ x_tags 2 (rest_of q.items)
 abbrev pub label_tags : ℕ → Query → List Tag
 label_tags u q = d_tags u ++ (word (codes "i") ++ (p_tags q.columns ++ (s_tags q.condition ++ (w_tags 1 q.items ++ x_tags 2 (rest_of q.items)))))
 
-windows_vars : (z b : Name) (k : ℕ) (items : List Source) (srcs : List Name) → length srcs ≡ length items → total (vars_it z) (window_ops b k items srcs) ≡ among z b (w_tags k items)
+windows_vars : (z b : Name) (k : ℕ) (items : List Source) (srcs : List Name) → length srcs ≡ length items
+    → total (vars_it z) (window_ops b k items srcs) ≡ among z b (w_tags k items)
 windows_vars z b k [] srcs e = refl
 windows_vars z b k (i ∷ is) [] e = absurd (omega (arith, e))
 windows_vars z b k (i ∷ is) (s ∷ srcs) e = let m = windows_vars z b (k + 1) is srcs (omega (arith, e)) in omega (arith, m)
@@ -201,7 +210,8 @@ crosses_vars : (z b last : Name) (k : ℕ) (items : List Source) → total (vars
 crosses_vars z b last k [] = refl
 crosses_vars z b last k (i ∷ is) = let m = crosses_vars z b (x_name b k) (k + 1) is in omega (arith, m)
 
-items_vars : (z b : Name) (items : List Source) (srcs : List Name) → length srcs ≡ length items → total (vars_it z) (item_ops b items srcs) ≡ among z b (w_tags 1 items) + among z b (x_tags 2 (rest_of items))
+items_vars : (z b : Name) (items : List Source) (srcs : List Name) → length srcs ≡ length items
+    → total (vars_it z) (item_ops b items srcs) ≡ among z b (w_tags 1 items) + among z b (x_tags 2 (rest_of items))
 items_vars z b [] srcs e = refl
 items_vars z b (i ∷ is) srcs e =
     let a = total-append (vars_it z) (window_ops b 1 (i ∷ is) srcs) (cross_ops b (w_name b 1) 2 is) in
@@ -219,7 +229,8 @@ out_vars : (z b : Name) (u : ℕ) → total (vars_it z) (out_ops b u) ≡ 0
 out_vars z b zero = refl
 out_vars z b (suc u) = refl
 
-pub block_vars : (z : Name) (q : Query) (scope : List Named) (u : ℕ) (srcs : List Name) → length srcs ≡ length q.items → total (vars_it z) (block_ops q scope u srcs) ≡ among z q.name (var_tags q)
+pub block_vars : (z : Name) (q : Query) (scope : List Named) (u : ℕ) (srcs : List Name) → length srcs ≡ length q.items
+    → total (vars_it z) (block_ops q scope u srcs) ≡ among z q.name (var_tags q)
 block_vars z q scope u srcs e =
     let b = q.name in
     let last = item_last b q.items in
@@ -233,7 +244,8 @@ block_vars z q scope u srcs e =
     let n = among-append z b (w_tags 1 q.items) (x_tags 2 (rest_of q.items)) in
     omega (arith, a, i, t, s, p, o, m, n)
 
-windows_label : (z b : Name) (k : ℕ) (items : List Source) (srcs : List Name) → length srcs ≡ length items → total (named_it z) (window_ops b k items srcs) ≡ among z b (w_tags k items)
+windows_label : (z b : Name) (k : ℕ) (items : List Source) (srcs : List Name) → length srcs ≡ length items
+    → total (named_it z) (window_ops b k items srcs) ≡ among z b (w_tags k items)
 windows_label z b k [] srcs e = refl
 windows_label z b k (i ∷ is) [] e = absurd (omega (arith, e))
 windows_label z b k (i ∷ is) (s ∷ srcs) e = let m = windows_label z b (k + 1) is srcs (omega (arith, e)) in omega (arith, m)
@@ -242,7 +254,8 @@ crosses_label : (z b last : Name) (k : ℕ) (items : List Source) → total (nam
 crosses_label z b last k [] = refl
 crosses_label z b last k (i ∷ is) = let m = crosses_label z b (x_name b k) (k + 1) is in omega (arith, m)
 
-items_label : (z b : Name) (items : List Source) (srcs : List Name) → length srcs ≡ length items → total (named_it z) (item_ops b items srcs) ≡ among z b (w_tags 1 items) + among z b (x_tags 2 (rest_of items))
+items_label : (z b : Name) (items : List Source) (srcs : List Name) → length srcs ≡ length items
+    → total (named_it z) (item_ops b items srcs) ≡ among z b (w_tags 1 items) + among z b (x_tags 2 (rest_of items))
 items_label z b [] srcs e = refl
 items_label z b (i ∷ is) srcs e =
     let a = total-append (named_it z) (window_ops b 1 (i ∷ is) srcs) (cross_ops b (w_name b 1) 2 is) in
@@ -260,7 +273,8 @@ out_label : (z b : Name) (u : ℕ) → total (named_it z) (out_ops b u) ≡ amon
 out_label z b zero = refl
 out_label z b (suc u) = refl
 
-pub block_labels : (z : Name) (q : Query) (scope : List Named) (u : ℕ) (srcs : List Name) → length srcs ≡ length q.items → total (named_it z) (block_ops q scope u srcs) ≡ among z q.name (label_tags u q)
+pub block_labels : (z : Name) (q : Query) (scope : List Named) (u : ℕ) (srcs : List Name) → length srcs ≡ length q.items
+    → total (named_it z) (block_ops q scope u srcs) ≡ among z q.name (label_tags u q)
 block_labels z q scope u srcs e =
     let b = q.name in
     let last = item_last b q.items in
@@ -288,15 +302,18 @@ pub names_decls : (ns : List Name) (k : QueueType) → decl_names (decls ns k) �
 names_decls [] k = refl
 names_decls (n ∷ ns) k = ap (λ l. n ∷ l) (names_decls ns k)
 
-windows_decl : (z b : Name) (known : List Named) (k : ℕ) (items : List Source) → count z (decl_names (window_decls b k (scope_of known items))) ≡ among z b (w_tags k items)
+windows_decl : (z b : Name) (known : List Named) (k : ℕ) (items : List Source)
+    → count z (decl_names (window_decls b k (scope_of known items))) ≡ among z b (w_tags k items)
 windows_decl z b known k [] = refl
 windows_decl z b known k (i ∷ is) = let m = windows_decl z b known (k + 1) is in omega (arith, m)
 
-crosses_decl : (z b : Name) (known : List Named) (width k : ℕ) (items : List Source) → count z (decl_names (cross_decls b width k (scope_of known items))) ≡ among z b (x_tags k items)
+crosses_decl : (z b : Name) (known : List Named) (width k : ℕ) (items : List Source)
+    → count z (decl_names (cross_decls b width k (scope_of known items))) ≡ among z b (x_tags k items)
 crosses_decl z b known width k [] = refl
 crosses_decl z b known width k (i ∷ is) = let m = crosses_decl z b known (width + length (item_named known i).fields) (k + 1) is in omega (arith, m)
 
-items_decl : (z b : Name) (known : List Named) (items : List Source) → count z (decl_names (item_decls b (scope_of known items))) ≡ among z b (w_tags 1 items) + among z b (x_tags 2 (rest_of items))
+items_decl : (z b : Name) (known : List Named) (items : List Source)
+    → count z (decl_names (item_decls b (scope_of known items))) ≡ among z b (w_tags 1 items) + among z b (x_tags 2 (rest_of items))
 items_decl z b known [] = refl
 items_decl z b known (i ∷ is) =
     let i0 = item_named known i in
@@ -316,7 +333,8 @@ out_decl z b width zero = refl
 out_decl z b width (suc u) = let e = ap (count z) (names_decls (copies b 0 (suc u)) (stream width) ∙ copies_are b 0 (suc u)) in omega (arith, e)
 
 -- the query's output beside its other queues
-pub block_decls : (z : Name) (all : List Name) (known : List Named) (q : Query) → one_if (name_eq q.name z) + count z (decl_names (query_decls all known q)) ≡ among z q.name (query_tags (count q.name all) q)
+pub block_decls : (z : Name) (all : List Name) (known : List Named) (q : Query)
+    → one_if (name_eq q.name z) + count z (decl_names (query_decls all known q)) ≡ among z q.name (query_tags (count q.name all) q)
 block_decls z all known q =
     let b = q.name in let u = count q.name all in let scope = scope_of known q.items in
     let sd = select_decls b (widths_of scope) q.condition in
@@ -340,12 +358,13 @@ pub few : (k : ℕ) → k ≤ 2000000000000 → k < 2 ^ 64
 few k h = omega (arith, h)
 
 items_from : (items : List Source) → length items ≤ 4 → From 119 (w_tags 1 items ++ x_tags 2 (rest_of items))
-items_from items h = from_more 119 120 (w_tags 1 items) (x_tags 2 (rest_of items)) (omega arith) (of_letter 119 1 (length items) (omega arith) (few (1 + length items) (omega (arith, h)))) (x_from items h) where
-  x_from : (is : List Source) → length is ≤ 4 → From 120 (x_tags 2 (rest_of is))
-  x_from [] h = from_nil 120
-  x_from (i ∷ is) h = all_from (of_letter 120 2 (length is) (omega arith) (few (2 + length is) (omega (arith, h)))) where
-    all_from : Of 120 (x_tags 2 is) → From 120 (x_tags 2 is)
-    all_from o = record { once = o.once; above = λ t lt. let e = o.only t lt in omega (arith, e) }
+items_from items h =
+    from_more 119 120 (w_tags 1 items) (x_tags 2 (rest_of items)) (omega arith) (of_letter 119 1 (length items) (omega arith) (few (1 + length items) (omega (arith, h)))) (x_from items h) where
+      x_from : (is : List Source) → length is ≤ 4 → From 120 (x_tags 2 (rest_of is))
+      x_from [] h = from_nil 120
+      x_from (i ∷ is) h = all_from (of_letter 120 2 (length is) (omega arith) (few (2 + length is) (omega (arith, h)))) where
+        all_from : Of 120 (x_tags 2 is) → From 120 (x_tags 2 is)
+        all_from o = record { once = o.once; above = λ t lt. let e = o.only t lt in omega (arith, e) }
 
 s_from : (o : Option Scalar) (ts : List Tag) → From 119 ts → From 115 (s_tags o ++ ts)
 s_from None ts f = from_more 115 119 [] ts (omega arith) (of_nil 115) f
@@ -372,7 +391,9 @@ query_from u q h k =
     (from_more 2 111 (numbers [] 1 u) (inner_tags u q) (omega arith) (of_numbers 1 u (few (1 + u) (omega (arith, k)))) (inner_from u q h))
 
 pub vars_from : (q : Query) → length q.items ≤ 4 → From 105 (var_tags q)
-vars_from q h = from_more 105 119 (word (codes "i")) (w_tags 1 q.items ++ x_tags 2 (rest_of q.items)) (omega arith) (of_one (Some (codes "i"))) (items_from q.items h)
+vars_from q h =
+    from_more 105 119 (word (codes "i")) (w_tags 1 q.items ++ x_tags 2 (rest_of q.items)) (omega arith) (of_one (Some (codes "i"))) (items_from q.items h)
 
 pub labels_from : (u : ℕ) (q : Query) → length q.items ≤ 4 → From 100 (label_tags u q)
-labels_from u q h = d_from u _ (from_more 105 112 (word (codes "i")) _ (omega arith) (of_one (Some (codes "i"))) (p_from q.columns _ (s_from q.condition _ (items_from q.items h))))
+labels_from u q h =
+    d_from u _ (from_more 105 112 (word (codes "i")) _ (omega arith) (of_one (Some (codes "i"))) (p_from q.columns _ (s_from q.condition _ (items_from q.items h))))

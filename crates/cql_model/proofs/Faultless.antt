@@ -1,5 +1,6 @@
 -- A program without a fault is accepted.
-use Rattle.std.proofs.Common.{◌≡◌, ℕ, ◌+◌, ◌<◌, ◌≤◌, Bool, true, false, Option, Some, None, List, [], ◌∷◌, ◌++◌, refl, sym, ap, ◌∙◌, arith, subst, length, ⊎_elim, append_assoc, append-nil, length-append}
+use Rattle.std.proofs.Common.{◌≡◌, ℕ, ◌+◌, ◌<◌, ◌≤◌, Bool, true, false, Option, Some, None, List, [], ◌∷◌, ◌++◌, refl, sym, ap, ◌∙◌, arith, subst, length}
+use Rattle.std.proofs.Common.{⊎_elim, append_assoc, append-nil, length-append}
 use Rattle.std.specs.Prelude.{nat_lt, nat_eq, IsTrue}
 use Rattle.std.specs.List.{AllByRecursion}
 use Rattle.std.proofs.lemmas.List.{length-map}
@@ -15,7 +16,8 @@ use Rattle.cql_model.specs.Accepted.{has_no_at, declared, IsQuery, AreQueries}
 use Rattle.cql_model.specs.declared.fault.Fault.{Fault}
 use Rattle.cql_model.specs.declared.fault.Fault.TheVariants.{UnknownStream, NameTwice, Limit}
 use Rattle.cql_model.specs.declared.fault.Refusal.{Refusal}
-use Rattle.cql_model.specs.Faults.{then_fault, fault_if, is_rows_fault, item_fault, items_fault, chosen_fault, columns_fault, condition_fault, query_fault, fields_fault, stream_fault, in_unit, first_fault, IsSpoken, AreSpoken, FaultlessAccepted, has_columns, scalar_fault}
+use Rattle.cql_model.specs.Faults.{then_fault, fault_if, is_rows_fault, item_fault, items_fault, chosen_fault, columns_fault, condition_fault, query_fault}
+use Rattle.cql_model.specs.Faults.{fields_fault, stream_fault, in_unit, first_fault, IsSpoken, AreSpoken, FaultlessAccepted, has_columns, scalar_fault}
 use Rattle.cql_model.specs.Laws.{known_names, AreKnown}
 use Rattle.cql_model.specs.Program.{Source, Column, Columns, Star, Chosen, Query, Register, Ask, Program, streams_of}
 use Rattle.cql_model.specs.Scopes.{Named, item_named, scope_of}
@@ -59,8 +61,10 @@ pub record ItemsGood (known scope : List Named) (items : List Source) : Type 0 w
   pub windows : AllByRecursion (λ (i : Source). IsTrue (is_window i.window)) items
   pub product : widths_of (scope ++ scope_of known items) ≤ 16
 
-items_good : (known scope : List Named) (items : List Source) → length scope ≤ 4 → widths_of scope ≤ 16 → items_fault known scope items ≡ None → ItemsGood known scope items
-items_good known scope [] few narrow h = record { few = omega (arith, few); streams = tt; windows = tt; product = subst (λ (l : List Named). widths_of l ≤ 16) (sym (append-nil scope)) narrow }
+items_good : (known scope : List Named) (items : List Source) → length scope ≤ 4 → widths_of scope ≤ 16 → items_fault known scope items ≡ None
+    → ItemsGood known scope items
+items_good known scope [] few narrow h =
+    record { few = omega (arith, few); streams = tt; windows = tt; product = subst (λ (l : List Named). widths_of l ≤ 16) (sym (append-nil scope)) narrow }
 items_good known scope (i ∷ is) few narrow h =
     let named = item_named known i in
     let a = fault_if (nat_eq (count i.stream (known_names known)) 0) UnknownStream in
@@ -79,7 +83,8 @@ items_good known scope (i ∷ is) few narrow h =
     let more = items_good known (scope ++ named ∷ []) is (omega (arith, longer, short)) slim rest in
     record {
       few = (let m = more.few in omega (arith, m, longer));
-      streams = (not_zero (count i.stream (known_names known)) (if_none (nat_eq (count i.stream (known_names known)) 0) UnknownStream (first_none a (then_fault b (then_fault c (then_fault d e))) one)), more.streams);
+      streams =
+          (not_zero (count i.stream (known_names known)) (if_none (nat_eq (count i.stream (known_names known)) 0) UnknownStream (first_none a (then_fault b (then_fault c (then_fault d e))) one)), more.streams);
       windows = (window_good i.window (if_none (is_rows_fault i.window) Limit (first_none c (then_fault d e) one_c)), more.windows);
       product = subst (λ (l : List Named). widths_of l ≤ 16) (append_assoc scope (named ∷ []) (scope_of known is)) more.product;
     }
@@ -95,7 +100,8 @@ chosen_few scope k (c ∷ cs) le h =
     let m = chosen_few scope (k + 1) cs (omega (arith, short)) (then_none (scalar_fault scope c.value) (chosen_fault scope (k + 1) cs) (then_none a rest h)) in
     omega (arith, m)
 
-columns_good : (scope : List Named) (cs : Columns) → 1 ≤ widths_of scope → widths_of scope ≤ 16 → has_columns cs ≡ true → columns_fault scope cs ≡ None → is_width (columns_width scope cs) ≡ true
+columns_good : (scope : List Named) (cs : Columns) → 1 ≤ widths_of scope → widths_of scope ≤ 16 → has_columns cs ≡ true → columns_fault scope cs ≡ None
+    → is_width (columns_width scope cs) ≡ true
 columns_good scope Star some few c h = wide (widths_of scope) some few
 columns_good scope (Chosen cs) some few c h = wide (length cs) (grind (arith, c)) (let m = chosen_few scope 0 cs (omega arith) h in omega (arith, m))
 
@@ -142,8 +148,10 @@ names_good [] s = tt
 names_good (Register name fields ∷ ps) s = (s.0, names_good ps s.2)
 names_good (Ask q ∷ ps) s = (s.0, names_good ps s.2)
 
-new_name : (known : List Named) (n : Name) (rest : Option Fault) → then_fault (fault_if (nat_lt 0 (count n (known_names known))) NameTwice) rest ≡ None → count n (known_names known) ≤ 0
-new_name known n rest h = not_above 0 (count n (known_names known)) (if_none (nat_lt 0 (count n (known_names known))) NameTwice (first_none (fault_if (nat_lt 0 (count n (known_names known))) NameTwice) rest h))
+new_name : (known : List Named) (n : Name) (rest : Option Fault) → then_fault (fault_if (nat_lt 0 (count n (known_names known))) NameTwice) rest ≡ None
+    → count n (known_names known) ≤ 0
+new_name known n rest h =
+    not_above 0 (count n (known_names known)) (if_none (nat_lt 0 (count n (known_names known))) NameTwice (first_none (fault_if (nat_lt 0 (count n (known_names known))) NameTwice) rest h))
 
 abbrev Distinct : List Named → Type 0
 Distinct ks = (n : Name) → count n (known_names ks) ≤ 1
@@ -154,7 +162,8 @@ more_distinct ks k d z n = ⊎_elim
     (λ c. let b = ap one_if c.1 in let o = d n in omega (arith, o, b))
     (cases_name k.name n)
 
-names_once : (ks : List Named) (many unit : ℕ) (ps : Program) → Distinct ks → first_fault ks many unit ps ≡ None → (n : Name) → count n (known_names ks) + count n (declared ps) ≤ 1
+names_once : (ks : List Named) (many unit : ℕ) (ps : Program) → Distinct ks → first_fault ks many unit ps ≡ None → (n : Name)
+    → count n (known_names ks) + count n (declared ps) ≤ 1
 names_once ks many unit [] d h n = let o = d n in omega (arith, o)
 names_once ks many unit (Register name fields ∷ ps) d h n =
     let k : Named = record { name = name; fields = fields } in

@@ -26,7 +26,8 @@ use Rattle.cql_model.proofs.Bags.{difference_is}
 pub select_fed : (e : Term) (ts : List ℤ) (s : Timed) (ss : List Kept) → (feed (fire (select e) 0) (spread ts s) ss).outs 0 ≡ spread ts (λ t. selected e (s t))
 select_fed e ts s ss = mapped_fed (selected e) (select_one e) (λ t rows. refl) ts s ss
 
-pub project_fed : (es : List Term) (ts : List ℤ) (s : Timed) (ss : List Kept) → (feed (fire (project es) 0) (spread ts s) ss).outs 0 ≡ spread ts (λ t. projected es (s t))
+pub project_fed : (es : List Term) (ts : List ℤ) (s : Timed) (ss : List Kept)
+    → (feed (fire (project es) 0) (spread ts s) ss).outs 0 ≡ spread ts (λ t. projected es (s t))
 project_fed es ts s ss = mapped_fed (projected es) (project_one es) (λ t rows. refl) ts s ss
 
 -- COPIES
@@ -62,7 +63,9 @@ streamer_step k ts r c up h us vs t e =
 
 pub streamer_fed : (k : Streamer) (ts : List ℤ) (r c : Timed) → Rises ts → ((t : ℤ) → r t ≡ in_order (c t))
     → (feed (fire (streamer k) 0) (spread ts r) (first_kept (streamer k))).outs 0 ≡ spread ts (λ t. in_order (changed k (before ts c t) (c t)))
-streamer_fed k ts r c up h = received_fed (streamer_one k) [] (spread ts r) ∙ given_spread ts r (λ t. in_order (changed k (before ts c t) (c t))) (streamer_one k) (streamer_step k ts r c up h) [] ts refl
+streamer_fed k ts r c up h =
+    received_fed (streamer_one k) [] (spread ts r)
+    ∙ given_spread ts r (λ t. in_order (changed k (before ts c t) (c t))) (streamer_one k) (streamer_step k ts r c up h) [] ts refl
 
 -- PRODUCTS: all of the first port, then all of the second
 
@@ -88,7 +91,8 @@ none_passes (suc n) xs = ap (pass_on rest_of_pair (pairing xs []) (drain front_o
 left_one : (x : item.Item) (xs : List item.Item) → crosses 0 x (pairing xs []) ≡ ([], pairing (xs ++ x ∷ []) [])
 left_one x xs = none_passes (length (xs ++ x ∷ []) + 0) (xs ++ x ∷ [])
 
-pub left_fed : (xs ls : List item.Item) → ((feed (fire cross 0) xs (waiting ls)).outs 0 ≡ []) × ((feed (fire cross 0) xs (waiting ls)).states ≡ waiting (ls ++ xs))
+pub left_fed : (xs ls : List item.Item)
+    → ((feed (fire cross 0) xs (waiting ls)).outs 0 ≡ []) × ((feed (fire cross 0) xs (waiting ls)).states ≡ waiting (ls ++ xs))
 left_fed [] ls = (refl, ap waiting (sym (append-nil ls)))
 left_fed (x ∷ xs) ls =
     let one : fire cross 0 x (waiting ls) ≡ crossed_fired ([], pairing (ls ++ x ∷ []) []) [] = ap (λ d. crossed_fired d []) (left_one x ls) in
@@ -99,7 +103,8 @@ left_fed (x ∷ xs) ls =
 
 -- each item of the second port goes with the first that waits
 pair_passes : (m n : ℕ) (x y : item.Item) (xs : List item.Item) → m ≡ suc n → drained m (pairing (x ∷ xs) (y ∷ [])) ≡ (joined_batch x y ++ [], pairing xs [])
-pair_passes m n x y xs e = ap (λ k. drained k (pairing (x ∷ xs) (y ∷ []))) e ∙ ap (λ (d : List item.Item × Pairing). (joined_batch x y ++ d.0, d.1)) (none_passes n xs)
+pair_passes m n x y xs e =
+    ap (λ k. drained k (pairing (x ∷ xs) (y ∷ []))) e ∙ ap (λ (d : List item.Item × Pairing). (joined_batch x y ++ d.0, d.1)) (none_passes n xs)
 
 pub right_one : (x y : item.Item) (xs : List item.Item) → crosses 1 y (pairing (x ∷ xs) []) ≡ (joined_batch x y ++ [], pairing xs [])
 right_one x y xs = pair_passes (length (x ∷ xs) + length (y ∷ [])) (length (x ∷ xs)) x y xs (omega arith)
@@ -111,12 +116,16 @@ right_fed (t ∷ ts) a b =
     ap (λ (r : Fired). r.outs 0 ++ (feed (fire cross 1) (spread ts b) r.states).outs 0) one
     ∙ ap (λ l. item_at t (product (a t) (b t)) ∷ l) (right_fed ts a b)
 
-pub run-append : (f : ℕ → item.Item → List Kept → Fired) (u w : Word) (ss : List Kept) → (run f (u ++ w) ss).outs 0 ≡ (run f u ss).outs 0 ++ (run f w (run f u ss).states).outs 0
+pub run-append : (f : ℕ → item.Item → List Kept → Fired) (u w : Word) (ss : List Kept)
+    → (run f (u ++ w) ss).outs 0 ≡ (run f u ss).outs 0 ++ (run f w (run f u ss).states).outs 0
 run-append f [] w ss = refl
-run-append f (e ∷ es) w ss = ap (λ l. (f e.0 e.1 ss).outs 0 ++ l) (run-append f es w (f e.0 e.1 ss).states) ∙ sym (append_assoc ((f e.0 e.1 ss).outs 0) ((run f es (f e.0 e.1 ss).states).outs 0) _)
+run-append f (e ∷ es) w ss =
+    ap (λ l. (f e.0 e.1 ss).outs 0 ++ l) (run-append f es w (f e.0 e.1 ss).states)
+    ∙ sym (append_assoc ((f e.0 e.1 ss).outs 0) ((run f es (f e.0 e.1 ss).states).outs 0) _)
 
 -- fed port by port, a product gives at each instant the product of the two contents at this instant
-pub cross_fed : (ts : List ℤ) (a b : Timed) (h : ℕ → List item.Item) → h 0 ≡ spread ts a → h 1 ≡ spread ts b → (feed_all cross h (first_kept cross)).outs 0 ≡ spread ts (λ t. product (a t) (b t))
+pub cross_fed : (ts : List ℤ) (a b : Timed) (h : ℕ → List item.Item) → h 0 ≡ spread ts a → h 1 ≡ spread ts b
+    → (feed_all cross h (first_kept cross)).outs 0 ≡ spread ts (λ t. product (a t) (b t))
 cross_fed ts a b h e f =
     let left = left_fed (spread ts a) [] in
     ap (λ l. (run (fire cross) (word_of 0 l ++ (word_of 1 (h 1) ++ [])) (waiting [])).outs 0) e

@@ -10,7 +10,8 @@ abbrev pub given_after : (List item.Item → item.Item → List item.Item) → L
 given_after one past [] = []
 given_after one past (x ∷ xs) = one past x ++ given_after one (past ++ x ∷ []) xs
 
-pub received_fed : (one : List item.Item → item.Item → List item.Item) (past xs : List item.Item) → (feed (λ x ss. received_one one x ss) xs (Received past ∷ [])).outs 0 ≡ given_after one past xs
+pub received_fed : (one : List item.Item → item.Item → List item.Item) (past xs : List item.Item)
+    → (feed (λ x ss. received_one one x ss) xs (Received past ∷ [])).outs 0 ≡ given_after one past xs
 received_fed one past [] = refl
 received_fed one past (x ∷ xs) = ap (λ l. one past x ++ l) (received_fed one (past ++ x ∷ []) xs)
 
@@ -29,7 +30,9 @@ given_spread ts s o one h us (t ∷ vs) e =
     ∙ ap (λ l. item_at t (o t) ∷ l) (given_spread ts s o one h (us ++ t ∷ []) vs (e ∙ sym (append_assoc us (t ∷ []) vs)))
 
 -- a kernel without a state
-pub mapped_fed : (f : List (List ℤ) → List (List ℤ)) (one : item.Item → List item.Item) → ((t : ℤ) (rows : List (List ℤ)) → one (item_at t rows) ≡ item_at t (f rows) ∷ [])
+pub mapped_fed : (f : List (List ℤ) → List (List ℤ)) (one : item.Item → List item.Item)
+    → ((t : ℤ) (rows : List (List ℤ)) → one (item_at t rows) ≡ item_at t (f rows) ∷ [])
     → (ts : List ℤ) (s : Timed) (ss : List Kept) → (feed (λ x st. gives 0 (one x) st) (spread ts s) ss).outs 0 ≡ spread ts (λ t. f (s t))
 mapped_fed f one h [] s ss = refl
-mapped_fed f one h (t ∷ ts) s ss = ap (λ l. l ++ (feed (λ x st. gives 0 (one x) st) (spread ts s) ss).outs 0) (h t (s t)) ∙ ap (λ l. item_at t (f (s t)) ∷ l) (mapped_fed f one h ts s ss)
+mapped_fed f one h (t ∷ ts) s ss =
+    ap (λ l. l ++ (feed (λ x st. gives 0 (one x) st) (spread ts s) ss).outs 0) (h t (s t)) ∙ ap (λ l. item_at t (f (s t)) ∷ l) (mapped_fed f one h ts s ss)

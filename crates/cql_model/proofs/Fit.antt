@@ -22,11 +22,13 @@ spread_timed : (ts : List ℤ) (s : Timed) → instants_of (spread ts s) ≡ ts
 spread_timed [] s = refl
 spread_timed (t ∷ ts) s = ap (λ l. t ∷ l) (spread_timed ts s)
 
-inputs_typed : (ts : List ℤ) (ps : Program) (files : List (List (ℤ × List ℤ))) → AreFiles ps files → AreInputs (input_decls ps) (map (λ f. spread ts (at_instant f)) files)
+inputs_typed : (ts : List ℤ) (ps : Program) (files : List (List (ℤ × List ℤ))) → AreFiles ps files
+    → AreInputs (input_decls ps) (map (λ f. spread ts (at_instant f)) files)
 inputs_typed ts [] [] a = tt
 inputs_typed ts [] (f ∷ fs) a = absurd a
 inputs_typed ts (Register name fields ∷ ps) [] a = absurd a
-inputs_typed ts (Register name fields ∷ ps) (f ∷ fs) a = (spread_typed (length fields) ts (at_instant f) (λ t. file_wide (length fields) f t a.0), inputs_typed ts ps fs a.1)
+inputs_typed ts (Register name fields ∷ ps) (f ∷ fs) a =
+    (spread_typed (length fields) ts (at_instant f) (λ t. file_wide (length fields) f t a.0), inputs_typed ts ps fs a.1)
 inputs_typed ts (Ask q ∷ ps) files a = inputs_typed ts ps files a
 
 inputs_timed : (ts : List ℤ) (ps : Program) (files : List (List (ℤ × List ℤ))) → AreTimed ts (input_decls ps) (map (λ f. spread ts (at_instant f)) files)

@@ -1,5 +1,6 @@
 -- Each kernel fits its queues and variables.
-use Rattle.std.proofs.Common.{◌≡◌, ℕ, zero, suc, ◌+◌, ◌<◌, ◌≤◌, Bool, true, false, Option, Some, None, List, [], ◌∷◌, ◌++◌, refl, sym, ap, ◌∙◌, arith, length, map, replicate}
+use Rattle.std.proofs.Common.{◌≡◌, ℕ, zero, suc, ◌+◌, ◌<◌, ◌≤◌, Bool, true, false, Option, Some, None, List, [], ◌∷◌, ◌++◌, refl, sym, ap, ◌∙◌, arith, length}
+use Rattle.std.proofs.Common.{map, replicate}
 use Rattle.std.specs.Prelude.{codes, if◌then◌else◌, IsTrue, ◌&&◌, nat_le, max}
 use Rattle.std.specs.List.{list_all, AllByRecursion}
 use Rattle.std.proofs.lemmas.Bool.{and_parts}
@@ -21,7 +22,10 @@ use Rattle.river_plan.proofs.NameLemmas.{one_same}
 use Rattle.cql_model.specs.Accepted.{depth, AreShallow, IsShallow, IsQuery}
 use Rattle.cql_model.specs.Program.{Scalar, Number, Field, ItemField, Neg, Not, Bin, Source, Column, Columns, Star, Chosen, Query}
 use Rattle.cql_model.specs.Scopes.{Named, scope_of, item_named, fields_of}
-use Rattle.cql_model.specs.Translation.{plus, or_place, place_in, field_place, item_place, at_place, resolved, at_word, copies, w_name, x_name, window_ops, cross_ops, cross_last, select_ops, select_last, terms_of, project_ops, project_last, out_ops, out_name, tail_ops, item_ops, item_last, decls, widths_of, window_decls, cross_decls, item_decls, select_decls, project_decls, columns_width, out_decls, query_decls}
+use Rattle.cql_model.specs.Translation.{plus, or_place, place_in, field_place, item_place, at_place, resolved, at_word, copies, w_name, x_name, window_ops}
+use Rattle.cql_model.specs.Translation.{cross_ops, cross_last, select_ops, select_last, terms_of, project_ops, project_last, out_ops, out_name, tail_ops}
+use Rattle.cql_model.specs.Translation.{item_ops, item_last, decls, widths_of, window_decls, cross_decls, item_decls, select_decls, project_decls}
+use Rattle.cql_model.specs.Translation.{columns_width, out_decls, query_decls}
 use Rattle.cql_model.proofs.Counting.{stream_op, project_from, block_ops}
 use Rattle.river_plan.proofs.ShareLemmas.{each_append}
 use Rattle.cql_model.proofs.Walk.{each-append}
@@ -64,11 +68,13 @@ field_below f (i ∷ is) =
 
 pub item_below : (a f : Name) (scope : List Named) → Below (item_place a f scope) (widths_of scope)
 item_below a f [] = tt
-item_below a f (i ∷ is) = step (name_eq i.name a) (widen (place_in f i.fields) (length i.fields) (length i.fields + widths_of is) (omega arith) (in_below f i.fields)) (plus_below (item_place a f is) (length i.fields) (widths_of is) (item_below a f is)) where
-  step : (b : Bool) → Below (place_in f i.fields) (length i.fields + widths_of is) → Below (plus (length i.fields) (item_place a f is)) (length i.fields + widths_of is)
-      → Below (if b then place_in f i.fields else plus (length i.fields) (item_place a f is)) (length i.fields + widths_of is)
-  step true h g = h
-  step false h g = g
+item_below a f (i ∷ is) =
+    step (name_eq i.name a) (widen (place_in f i.fields) (length i.fields) (length i.fields + widths_of is) (omega arith) (in_below f i.fields)) (plus_below (item_place a f is) (length i.fields) (widths_of is) (item_below a f is)) where
+      step : (b : Bool) → Below (place_in f i.fields) (length i.fields + widths_of is)
+          → Below (plus (length i.fields) (item_place a f is)) (length i.fields + widths_of is)
+          → Below (if b then place_in f i.fields else plus (length i.fields) (item_place a f is)) (length i.fields + widths_of is)
+      step true h g = h
+      step false h g = g
 
 place_sound : (o : Option ℕ) (n : ℕ) → Below o n → is_sound n 0 (at_place o) ≡ true
 place_sound None n h = refl
@@ -80,7 +86,8 @@ sound scope (Field f) = place_sound (field_place f scope) (widths_of scope) (fie
 sound scope (ItemField a f) = place_sound (item_place a f scope) (widths_of scope) (item_below a f scope)
 sound scope (Neg e) = sound scope e
 sound scope (Not e) = sound scope e
-sound scope (Bin o l r) = both (is_sound (widths_of scope) 0 (resolved scope l)) (is_sound (widths_of scope) 0 (resolved scope r)) (sound scope l) (sound scope r)
+sound scope (Bin o l r) =
+    both (is_sound (widths_of scope) 0 (resolved scope l)) (is_sound (widths_of scope) 0 (resolved scope r)) (sound scope l) (sound scope r)
 
 place_depth : (o : Option ℕ) → depth_of (at_place o) ≡ 1
 place_depth None = refl
@@ -98,11 +105,14 @@ pub le_true : (a b : ℕ) → a ≤ b → nat_le a b ≡ true
 le_true a b h = grind (arith, h)
 
 pub is_value : (scope : List Named) (e : Scalar) → depth e ≤ 64 → is_term (widths_of scope) 0 (resolved scope e) ≡ true
-is_value scope e h = both (is_sound (widths_of scope) 0 (resolved scope e)) (nat_le (depth_of (resolved scope e)) 64) (sound scope e) (le_true (depth_of (resolved scope e)) 64 (let d = same_depth scope e in omega (arith, d, h)))
+is_value scope e h =
+    both (is_sound (widths_of scope) 0 (resolved scope e)) (nat_le (depth_of (resolved scope e)) 64) (sound scope e) (le_true (depth_of (resolved scope e)) 64 (let d = same_depth scope e in omega (arith, d, h)))
 
-are_values : (scope : List Named) (cs : List Column) → AllByRecursion (λ (c : Column). depth c.value ≤ 64) cs → list_all (is_term (widths_of scope) 0) (terms_of scope cs) ≡ true
+are_values : (scope : List Named) (cs : List Column) → AllByRecursion (λ (c : Column). depth c.value ≤ 64) cs
+    → list_all (is_term (widths_of scope) 0) (terms_of scope cs) ≡ true
 are_values scope [] h = refl
-are_values scope (c ∷ cs) h = both (is_term (widths_of scope) 0 (resolved scope c.value)) (list_all (is_term (widths_of scope) 0) (terms_of scope cs)) (is_value scope c.value h.0) (are_values scope cs h.1)
+are_values scope (c ∷ cs) h =
+    both (is_term (widths_of scope) 0 (resolved scope c.value)) (list_all (is_term (widths_of scope) 0) (terms_of scope cs)) (is_value scope c.value h.0) (are_values scope cs h.1)
 
 wide : (n : ℕ) → 1 ≤ n → n ≤ 16 → is_width n ≡ true
 wide n h g = grind (arith, h, g)
@@ -139,7 +149,8 @@ module _ (kind : Name → QueueType) (var : Name → VarKind) where
   SourceKinds (i ∷ is) [] = ⊥
   SourceKinds (i ∷ is) (s ∷ ss) = (kind s ≡ stream (length i.fields)) × SourceKinds is ss
 
-  windows_fit : (known : List Named) (b : Name) (k : ℕ) (items : List Source) (srcs : List Name) → SourceKinds (scope_of known items) srcs → AreKinds (window_decls b k (scope_of known items)) → Sized (scope_of known items)
+  windows_fit : (known : List Named) (b : Name) (k : ℕ) (items : List Source) (srcs : List Name) → SourceKinds (scope_of known items) srcs
+      → AreKinds (window_decls b k (scope_of known items)) → Sized (scope_of known items)
       → AllByRecursion (λ (i : Source). IsTrue (is_window i.window)) items → Each Own (window_ops b k items srcs) → Each Fit (window_ops b k items srcs)
   windows_fit known b k [] srcs s d z w o = tt
   windows_fit known b k (i ∷ is) [] s d z w o = tt
@@ -151,8 +162,10 @@ module _ (kind : Name → QueueType) (var : Name → VarKind) where
   abbrev two : QueueType → QueueType → List QueueType
   two x y = x ∷ y ∷ []
 
-  crosses_fit : (known : List Named) (b last : Name) (width k : ℕ) (items : List Source) → kind last ≡ relation width → 1 ≤ width → width + widths_of (scope_of known items) ≤ 16
-      → AreKinds (window_decls b k (scope_of known items)) → AreKinds (cross_decls b width k (scope_of known items)) → Sized (scope_of known items) → Each Own (cross_ops b last k items)
+  crosses_fit : (known : List Named) (b last : Name) (width k : ℕ) (items : List Source) → kind last ≡ relation width → 1 ≤ width
+      → width + widths_of (scope_of known items) ≤ 16
+      → AreKinds (window_decls b k (scope_of known items)) → AreKinds (cross_decls b width k (scope_of known items)) → Sized (scope_of known items)
+      → Each Own (cross_ops b last k items)
       → Each Fit (cross_ops b last k items) × (kind (cross_last b last k items) ≡ relation (width + widths_of (scope_of known items)))
   crosses_fit known b last width k [] l some few w d z o = (tt, l ∙ ap relation (omega arith))
   crosses_fit known b last width k (i ∷ is) l some few w d z o =
@@ -165,7 +178,8 @@ module _ (kind : Name → QueueType) (var : Name → VarKind) where
         rest.1 ∙ ap relation (omega arith),
       )
 
-  items_fit : (known : List Named) (b : Name) (items : List Source) (srcs : List Name) → 0 < length items → SourceKinds (scope_of known items) srcs → AreKinds (item_decls b (scope_of known items)) → Sized (scope_of known items)
+  items_fit : (known : List Named) (b : Name) (items : List Source) (srcs : List Name) → 0 < length items → SourceKinds (scope_of known items) srcs
+      → AreKinds (item_decls b (scope_of known items)) → Sized (scope_of known items)
       → AllByRecursion (λ (i : Source). IsTrue (is_window i.window)) items → widths_of (scope_of known items) ≤ 16 → Each Own (item_ops b items srcs)
       → Each Fit (item_ops b items srcs) × (kind (item_last b items) ≡ relation (widths_of (scope_of known items)))
   items_fit known b [] srcs some s d z w few o = absurd (omega (arith, some))
@@ -176,7 +190,8 @@ module _ (kind : Name → QueueType) (var : Name → VarKind) where
       let c = crosses_fit known b (w_name b 1) n 2 is ds.0.0 (narrow n z.0).0 few ds.0.1 ds.1 z.1 os.1 in
       (each_append Fit (window_ops b 1 (i ∷ is) srcs) (cross_ops b (w_name b 1) 2 is) (windows_fit known b 1 (i ∷ is) srcs s ds.0 z w os.0) c.0, c.1)
 
-  select_fits : (b : Name) (scope : List Named) (last : Name) (o : Option Scalar) → kind last ≡ relation (widths_of scope) → is_width (widths_of scope) ≡ true → IsShallow o → AreKinds (select_decls b (widths_of scope) o)
+  select_fits : (b : Name) (scope : List Named) (last : Name) (o : Option Scalar) → kind last ≡ relation (widths_of scope) → is_width (widths_of scope) ≡ true
+      → IsShallow o → AreKinds (select_decls b (widths_of scope) o)
       → Each Fit (select_ops b scope last o) × (kind (select_last b last o) ≡ relation (widths_of scope))
   select_fits b scope last None l n h d = (tt, l)
   select_fits b scope last (Some e) l n h d = (
@@ -184,7 +199,8 @@ module _ (kind : Name → QueueType) (var : Name → VarKind) where
     d.0,
   )
 
-  project_fits : (b : Name) (scope : List Named) (last : Name) (cs : Columns) → kind last ≡ relation (widths_of scope) → is_width (widths_of scope) ≡ true → is_width (columns_width scope cs) ≡ true → AreShallow cs → AreKinds (project_decls b cs)
+  project_fits : (b : Name) (scope : List Named) (last : Name) (cs : Columns) → kind last ≡ relation (widths_of scope) → is_width (widths_of scope) ≡ true
+      → is_width (columns_width scope cs) ≡ true → AreShallow cs → AreKinds (project_decls b cs)
       → Each Fit (project_ops b scope last cs) × (kind (project_last b last cs) ≡ relation (columns_width scope cs))
   project_fits b scope last Star l n c h d = (tt, l)
   project_fits b scope last (Chosen cs) l n c h d =
@@ -212,7 +228,8 @@ module _ (kind : Name → QueueType) (var : Name → VarKind) where
   length-copies b k zero = refl
   length-copies b k (suc u) = let e = length-copies b (k + 1) u in omega (arith, e)
 
-  out_fits : (b : Name) (width u : ℕ) → is_width width ≡ true → kind b ≡ stream width → AreKinds (out_decls b width u) → Each Fit (out_ops b u) × (kind (out_name b u) ≡ stream width)
+  out_fits : (b : Name) (width u : ℕ) → is_width width ≡ true → kind b ≡ stream width → AreKinds (out_decls b width u)
+      → Each Fit (out_ops b u) × (kind (out_name b u) ≡ stream width)
   out_fits b width zero n o d = (tt, o)
   out_fits b width (suc u) n o d = (
     (
@@ -233,8 +250,10 @@ module _ (kind : Name → QueueType) (var : Name → VarKind) where
   sized_some [] some z = absurd (omega (arith, some))
   sized_some (k ∷ ks) some z = let n = (narrow (length k.fields) z.0).0 in omega (arith, n)
 
-  pub block_fits : (all : List Name) (known : List Named) (q : Query) (srcs : List Name) → IsQuery known q → SourceKinds (scope_of known q.items) srcs → Sized (scope_of known q.items)
-      → AreKinds (query_decls all known q) → kind q.name ≡ stream (columns_width (scope_of known q.items) q.columns) → Each Own (block_ops q (scope_of known q.items) (count q.name all) srcs)
+  pub block_fits : (all : List Name) (known : List Named) (q : Query) (srcs : List Name) → IsQuery known q → SourceKinds (scope_of known q.items) srcs
+      → Sized (scope_of known q.items)
+      → AreKinds (query_decls all known q) → kind q.name ≡ stream (columns_width (scope_of known q.items) q.columns)
+      → Each Own (block_ops q (scope_of known q.items) (count q.name all) srcs)
       → Each Fit (block_ops q (scope_of known q.items) (count q.name all) srcs)
   block_fits all known q srcs a s z d k o =
       let b = q.name in let u = count q.name all in let scope = scope_of known q.items in

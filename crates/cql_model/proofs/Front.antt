@@ -37,7 +37,8 @@ put_above s t (u ∷ us) h a = step (int_lt t u) (int_lt u t) (put_above s t us 
 put_rises : (t : ℤ) (us : List ℤ) → Rises us → Rises (put_instant t us)
 put_rises t [] r = (tt, tt)
 put_rises t (u ∷ us) r = step (int_lt t u) refl (int_lt u t) refl (put_rises t us r.1) where
-  step : (b : Bool) → int_lt t u ≡ b → (c : Bool) → int_lt u t ≡ c → Rises (put_instant t us) → Rises (if b then t ∷ (u ∷ us) else (if c then u ∷ put_instant t us else u ∷ us))
+  step : (b : Bool) → int_lt t u ≡ b → (c : Bool) → int_lt u t ≡ c → Rises (put_instant t us)
+      → Rises (if b then t ∷ (u ∷ us) else (if c then u ∷ put_instant t us else u ∷ us))
   step true e c f more = ((e, above_down t u us e r.0), r)
   step false e true f more = (put_above u t us f r.0, more)
   step false e false f more = r
@@ -74,12 +75,13 @@ put_in x t (u ∷ us) = step (int_lt t u) refl (int_lt u t) refl (put_in x t us)
 
 in_from : (x : ℤ) (done ts : List ℤ) → stands_in x (fold (λ us t. put_instant t us) done ts) ≡ stands_in x ts || stands_in x done
 in_from x done [] = refl
-in_from x done (t ∷ ts) = in_from x (put_instant t done) ts ∙ ap (λ b. stands_in x ts || b) (put_in x t done) ∙ turn (stands_in x ts) (int_eq x t) (stands_in x done) where
-  turn : (a b c : Bool) → a || (b || c) ≡ (b || a) || c
-  turn true true c = refl
-  turn true false c = refl
-  turn false true c = refl
-  turn false false c = refl
+in_from x done (t ∷ ts) =
+    in_from x (put_instant t done) ts ∙ ap (λ b. stands_in x ts || b) (put_in x t done) ∙ turn (stands_in x ts) (int_eq x t) (stands_in x done) where
+      turn : (a b c : Bool) → a || (b || c) ≡ (b || a) || c
+      turn true true c = refl
+      turn true false c = refl
+      turn false true c = refl
+      turn false false c = refl
 
 or_false : (b : Bool) → b || false ≡ b
 or_false true = refl
@@ -90,7 +92,8 @@ instants_are_stamps files t = in_from t [] (stamps files) ∙ or_false (stands_i
 
 -- THE LAW
 
-asked_in : (inputs : List Name) (ks : List Named) (ps : Program) → AreQueries ks ps → ((n : Name) → 0 < count n (asked ps) → count n inputs ≡ 0) → AreAsked inputs ks ps
+asked_in : (inputs : List Name) (ks : List Named) (ps : Program) → AreQueries ks ps → ((n : Name) → 0 < count n (asked ps) → count n inputs ≡ 0)
+    → AreAsked inputs ks ps
 asked_in inputs ks [] a f = tt
 asked_in inputs ks (Register name fields ∷ ps) a f = asked_in inputs (record { name = name; fields = fields } ∷ ks) ps a.1 f
 asked_in inputs ks (Ask q ∷ ps) a f = (

@@ -1,5 +1,6 @@
 -- Queues and variables are declared in the order in which the operators first use them.
-use Rattle.std.proofs.Common.{◌≡◌, ℕ, zero, suc, ◌+◌, ◌<◌, ◌≤◌, Bool, true, false, cond, Option, Some, None, List, [], ◌∷◌, ◌++◌, refl, sym, ap, ◌∙◌, arith, subst, length, ⊎_elim, append_assoc}
+use Rattle.std.proofs.Common.{◌≡◌, ℕ, zero, suc, ◌+◌, ◌<◌, ◌≤◌, Bool, true, false, cond, Option, Some, None, List, [], ◌∷◌, ◌++◌, refl, sym, ap, ◌∙◌, arith}
+use Rattle.std.proofs.Common.{subst, length, ⊎_elim, append_assoc}
 use Rattle.std.specs.Prelude.{nat_eq, filter, fold, codes, IsTrue}
 use Rattle.std.specs.List.{AllByRecursion}
 use Rattle.std.specs.Fmt.{decimal}
@@ -21,7 +22,10 @@ use Rattle.cql_model.specs.Accepted.{has_no_at, declared}
 use Rattle.cql_model.specs.InTurn.{mentioned, PlansInTurn}
 use Rattle.cql_model.specs.Program.{Scalar, Source, Columns, Star, Chosen, Query, Register, Ask, Program, registered, streams_of, all_uses}
 use Rattle.cql_model.specs.Scopes.{Named, scope_of, item_named}
-use Rattle.cql_model.specs.Translation.{op, at_word, copies, copy_name, sources, w_name, x_name, window_ops, cross_ops, select_ops, select_last, project_ops, project_last, out_ops, out_name, item_ops, item_last, query_ops, query_named, ask_ops, copy_ops, input_ops, ops_of, widths_of, window_decls, cross_decls, item_decls, select_decls, project_decls, out_decls, columns_width, query_decls, ask_decls, copy_decls, input_copies, input_decls, output_decls}
+use Rattle.cql_model.specs.Translation.{op, at_word, copies, copy_name, sources, w_name, x_name, window_ops, cross_ops, select_ops, select_last, project_ops}
+use Rattle.cql_model.specs.Translation.{project_last, out_ops, out_name, item_ops, item_last, query_ops, query_named, ask_ops, copy_ops, input_ops, ops_of}
+use Rattle.cql_model.specs.Translation.{widths_of, window_decls, cross_decls, item_decls, select_decls, project_decls, out_decls, columns_width, query_decls}
+use Rattle.cql_model.specs.Translation.{ask_decls, copy_decls, input_copies, input_decls, output_decls}
 use Rattle.cql_model.proofs.Counting.{names_decls}
 use Rattle.cql_model.proofs.Naming.{split, split_tagged, Tag}
 use Rattle.cql_model.proofs.Sums.{as_many}
@@ -48,7 +52,8 @@ there_stays seen (r ∷ rs) h =
     ap (λ s. fold with_name s rs) (if_lt 0 (count r seen) seen (seen ++ r ∷ []) (h r (let o = one_same r in omega (arith, o))))
     ∙ there_stays seen rs (λ z lt. h z (omega (arith, lt)))
 
-news : (outs seen ws : List Name) → There outs seen → ((z : Name) → count z outs ≡ 0 → count z seen + count z ws ≤ 1) → fold with_name seen ws ≡ seen ++ filter (other outs) ws
+news : (outs seen ws : List Name) → There outs seen → ((z : Name) → count z outs ≡ 0 → count z seen + count z ws ≤ 1)
+    → fold with_name seen ws ≡ seen ++ filter (other outs) ws
 news outs seen [] h once = sym (append-nil seen)
 news outs seen (w ∷ ws) h once = ⊎_elim
     (λ some. ap (λ s. fold with_name s ws) (if_lt 0 (count w seen) seen (seen ++ w ∷ []) (h w some))
@@ -75,8 +80,10 @@ count_other outs z (w ∷ ws) n = ⊎_elim
     ∙ ap (λ k. one_if (name_eq w z) + k) (count_other outs z ws n))
     (more_or_zero (count w outs))
 
-pub first_named : (outs seen : List Name) (known : Name → ℕ) (ops : List OpForm) → ReadsBefore known ops → ((z : Name) → 0 < known z → 0 < count z seen) → There outs seen
-    → ((z : Name) → count z outs ≡ 0 → count z seen + total (writes_it z) ops ≤ 1) → fold with_name seen (mentioned ops) ≡ seen ++ filter (other outs) (all_writes ops)
+pub first_named : (outs seen : List Name) (known : Name → ℕ) (ops : List OpForm) → ReadsBefore known ops → ((z : Name) → 0 < known z → 0 < count z seen)
+    → There outs seen
+    → ((z : Name) → count z outs ≡ 0 → count z seen + total (writes_it z) ops ≤ 1)
+    → fold with_name seen (mentioned ops) ≡ seen ++ filter (other outs) (all_writes ops)
 first_named outs seen known [] r k h once = sym (append-nil seen)
 first_named outs seen known (o ∷ os) r k h once =
     let new = filter (other outs) o.writes in
@@ -131,25 +138,29 @@ module _ (f : Name → Bool) where
   join : (xs ys : List OpForm) (ds es : List Decl) → kept xs ≡ decl_names ds → kept ys ≡ decl_names es → kept (xs ++ ys) ≡ decl_names (ds ++ es)
   join xs ys ds es a b = kept-append xs ys ∙ ap (λ l. l ++ kept ys) a ∙ ap (λ l. decl_names ds ++ l) b ∙ sym (names-join ds es)
 
-  windows_kept : (b : Name) (known : List Named) (k : ℕ) (items : List Source) (srcs : List Name) → length srcs ≡ length items → Keeps b → kept (window_ops b k items srcs) ≡ decl_names (window_decls b k (scope_of known items))
+  windows_kept : (b : Name) (known : List Named) (k : ℕ) (items : List Source) (srcs : List Name) → length srcs ≡ length items → Keeps b
+      → kept (window_ops b k items srcs) ≡ decl_names (window_decls b k (scope_of known items))
   windows_kept b known k [] srcs e h = refl
   windows_kept b known k (i ∷ is) [] e h = absurd (omega (arith, e))
   windows_kept b known k (i ∷ is) (s ∷ srcs) e h =
       keep (w_name b k) (all_writes (window_ops b (k + 1) is srcs)) (h (codes "w" ++ decimal k)) ∙ ap (λ l. w_name b k ∷ l) (windows_kept b known (k + 1) is srcs (omega (arith, e)) h)
 
-  crosses_kept : (b last : Name) (known : List Named) (width k : ℕ) (items : List Source) → Keeps b → kept (cross_ops b last k items) ≡ decl_names (cross_decls b width k (scope_of known items))
+  crosses_kept : (b last : Name) (known : List Named) (width k : ℕ) (items : List Source) → Keeps b
+      → kept (cross_ops b last k items) ≡ decl_names (cross_decls b width k (scope_of known items))
   crosses_kept b last known width k [] h = refl
   crosses_kept b last known width k (i ∷ is) h =
       keep (x_name b k) (all_writes (cross_ops b (x_name b k) (k + 1) is)) (h (codes "x" ++ decimal k))
       ∙ ap (λ l. x_name b k ∷ l) (crosses_kept b (x_name b k) known (width + length (item_named known i).fields) (k + 1) is h)
 
-  items_kept : (b : Name) (known : List Named) (items : List Source) (srcs : List Name) → length srcs ≡ length items → Keeps b → kept (item_ops b items srcs) ≡ decl_names (item_decls b (scope_of known items))
+  items_kept : (b : Name) (known : List Named) (items : List Source) (srcs : List Name) → length srcs ≡ length items → Keeps b
+      → kept (item_ops b items srcs) ≡ decl_names (item_decls b (scope_of known items))
   items_kept b known [] srcs e h = refl
   items_kept b known (i ∷ is) srcs e h =
       join (window_ops b 1 (i ∷ is) srcs) (cross_ops b (w_name b 1) 2 is) (window_decls b 1 (scope_of known (i ∷ is))) (cross_decls b (length (item_named known i).fields) 2 (scope_of known is))
       (windows_kept b known 1 (i ∷ is) srcs e h) (crosses_kept b (w_name b 1) known (length (item_named known i).fields) 2 is h)
 
-  select_kept : (b : Name) (scope : List Named) (last : Name) (width : ℕ) (o : Option Scalar) → Keeps b → kept (select_ops b scope last o) ≡ decl_names (select_decls b width o)
+  select_kept : (b : Name) (scope : List Named) (last : Name) (width : ℕ) (o : Option Scalar) → Keeps b
+      → kept (select_ops b scope last o) ≡ decl_names (select_decls b width o)
   select_kept b scope last width None h = refl
   select_kept b scope last width (Some e) h = keep (at_word b (codes "s")) [] (h (codes "s"))
 
@@ -169,7 +180,8 @@ module _ (f : Name → Bool) where
       keep (at_word b (codes "o")) (b ∷ copies b 0 (suc u) ++ []) (h (codes "o"))
       ∙ ap (λ l. at_word b (codes "o") ∷ l) (ap (λ l. filter f (b ∷ l)) (append-nil (copies b 0 (suc u))) ∙ leave b (copies b 0 (suc u)) n ∙ copies_kept b 0 (suc u) h ∙ sym (names_decls (copies b 0 (suc u)) (stream width)))
 
-  query_kept : (inputs all past : List Name) (known : List Named) (q : Query) → Keeps q.name → f q.name ≡ false → kept (query_ops inputs all known past q) ≡ decl_names (query_decls all known q)
+  query_kept : (inputs all past : List Name) (known : List Named) (q : Query) → Keeps q.name → f q.name ≡ false
+      → kept (query_ops inputs all known past q) ≡ decl_names (query_decls all known q)
   query_kept inputs all past known q h n =
       let b = q.name in let u = count q.name all in let scope = scope_of known q.items in
       let srcs = sources inputs all past (streams_of q.items) in
@@ -191,7 +203,8 @@ module _ (f : Name → Bool) where
   AreKept (Register name fields ∷ ps) = Keeps name × AreKept ps
   AreKept (Ask q ∷ ps) = Keeps q.name × (f q.name ≡ false) × AreKept ps
 
-  asks_kept : (inputs all past : List Name) (known : List Named) (ps : Program) → AreKept ps → kept (ask_ops inputs all known past ps) ≡ decl_names (ask_decls all known ps)
+  asks_kept : (inputs all past : List Name) (known : List Named) (ps : Program) → AreKept ps
+      → kept (ask_ops inputs all known past ps) ≡ decl_names (ask_decls all known ps)
   asks_kept inputs all past known [] h = refl
   asks_kept inputs all past known (Register name fields ∷ ps) h = asks_kept inputs all past (record { name = name; fields = fields } ∷ known) ps h.1
   asks_kept inputs all past known (Ask q ∷ ps) h =

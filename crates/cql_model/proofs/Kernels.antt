@@ -14,7 +14,8 @@ use Rattle.brooklet_model.specs.Firings.{Kept, Crossing, Fired, feed}
 use Rattle.brooklet_model.specs.Fire.{fire, first_kept}
 use Rattle.brooklet_model.specs.Words.{run, word_of}
 use Rattle.brooklet_model.proofs.Feeds.{feed_word, one_input}
-use Rattle.cql_model.specs.Kernels.{batch_item, items, with_rows, contents_from, each_rows, streamed_from, products, WindowsAre, SelectsAre, ProjectsAre, StreamersAre, CrossesAre}
+use Rattle.cql_model.specs.Kernels.{batch_item, items, with_rows, contents_from, each_rows, streamed_from, products, WindowsAre, SelectsAre, ProjectsAre}
+use Rattle.cql_model.specs.Kernels.{StreamersAre, CrossesAre}
 use Rattle.cql_model.proofs.Feeding.{given_after, received_fed}
 use Rattle.cql_model.proofs.Fed.{waiting, pairing, drained, left_fed, right_one, run-append}
 
@@ -34,7 +35,9 @@ windows_from w past (b ∷ bs) =
     ∙ ap (λ l. batch_item (with_rows b (content_of w (past ++ b ∷ []))) ∷ l) (windows_from w (past ++ b ∷ []) bs)
 
 pub windows_are : WindowsAre
-windows_are w bs = ap (λ (f : Fired). f.outs 0) (one_input (window w) (λ p. items bs) (first_kept (window w)) refl) ∙ received_fed (window_one w) [] (items bs) ∙ windows_from w [] bs
+windows_are w bs =
+    ap (λ (f : Fired). f.outs 0) (one_input (window w) (λ p. items bs) (first_kept (window w)) refl) ∙ received_fed (window_one w) [] (items bs)
+    ∙ windows_from w [] bs
 
 selects_from : (e : Term) (bs : List Batch) (ss : List Kept) → (feed (fire (select e) 0) (items bs) ss).outs 0 ≡ items (each_rows (selected e) bs)
 selects_from e [] ss = refl
@@ -63,7 +66,9 @@ streams_from s past (b ∷ bs) =
     ∙ ap (λ l. batch_item (with_rows b (streamed s (last_rows past) b.rows)) ∷ l) (streams_from s (past ++ b ∷ []) bs ∙ ap (λ r. items (streamed_from s r bs)) (last_more past b))
 
 pub streamers_are : StreamersAre
-streamers_are s bs = ap (λ (f : Fired). f.outs 0) (one_input (streamer s) (λ p. items bs) (first_kept (streamer s)) refl) ∙ received_fed (streamer_one s) [] (items bs) ∙ streams_from s [] bs
+streamers_are s bs =
+    ap (λ (f : Fired). f.outs 0) (one_input (streamer s) (λ p. items bs) (first_kept (streamer s)) refl) ∙ received_fed (streamer_one s) [] (items bs)
+    ∙ streams_from s [] bs
 
 -- where the first port has no more, the second waits
 alone_waits : (n : ℕ) (ys : List item.Item) → drained n (pairing [] ys) ≡ ([], pairing [] ys)

@@ -15,7 +15,8 @@ use Rattle.cql_model.specs.Program.{Source, Query, Register, Ask, Program, regis
 use Rattle.cql_model.specs.Scopes.{scope_of}
 use Rattle.cql_model.specs.Streams.{Timed, Rises, at_instant, spread}
 use Rattle.cql_model.specs.Meaning.{Known, names_of, rows_of, answer, asked, given, first_file, other_files, answers}
-use Rattle.cql_model.specs.Translation.{copy_name, source_at, sources, item_ops, item_last, tail_ops, query_ops, query_named, ask_ops, copy_ops, input_ops, input_decls, output_decls, plan_of}
+use Rattle.cql_model.specs.Translation.{copy_name, source_at, sources, item_ops, item_last, tail_ops, query_ops, query_named, ask_ops, copy_ops, input_ops}
+use Rattle.cql_model.specs.Translation.{input_decls, output_decls, plan_of}
 use Rattle.cql_model.proofs.Fed.{copy_fed}
 use Rattle.cql_model.proofs.Walk.{each-append, Has, Reads, Gives, copies_have, items_have, tail_has}
 use Rattle.cql_model.proofs.Widths.{AllWide, answer_wide, file_wide}
@@ -53,7 +54,8 @@ module _ (h : History) (ts : List ℤ) (up : Rises ts) (inputs all : List Name) 
   room_next : (past ns ms : List Name) → Room past (ns ++ ms) → Room (past ++ ns) ms
   room_next past ns ms r n = let a = count-append n past ns in let b = count-append n ns ms in let c = r n in omega (arith, a, b, c)
 
-  reads_all : (ks : List Known) (past : List Name) (items : List Source) (rest : List Name) → Served ks → AreKnown (names_of ks) (streams_of items) → Room past (streams_of items ++ rest)
+  reads_all : (ks : List Known) (past : List Name) (items : List Source) (rest : List Name) → Served ks → AreKnown (names_of ks) (streams_of items)
+      → Room past (streams_of items ++ rest)
       → Reads h ts up ks items (sources inputs all past (streams_of items))
   reads_all ks past [] rest s k r = tt
   reads_all ks past (i ∷ is) rest s k r = (
@@ -63,7 +65,8 @@ module _ (h : History) (ts : List ℤ) (up : Rises ts) (inputs all : List Name) 
 
   -- ONE QUERY
 
-  query_gives : (ks : List Known) (past rest : List Name) (q : Query) → AllWide ks → Served ks → IsAsked inputs (names_of ks) q → Room past (streams_of q.items ++ rest)
+  query_gives : (ks : List Known) (past rest : List Name) (q : Query) → AllWide ks → Served ks → IsAsked inputs (names_of ks) q
+      → Room past (streams_of q.items ++ rest)
       → Each (Solves h) (query_ops inputs all (names_of ks) past q) → Gives h ts up q.name (count q.name all) (answer ts ks q)
   query_gives ks past rest q wide s a r e =
       let srcs = sources inputs all past (streams_of q.items) in
@@ -87,8 +90,10 @@ module _ (h : History) (ts : List ℤ) (up : Rises ts) (inputs all : List Name) 
   FilesWide (Register name fields ∷ ps) files = All (λ (e : ℤ × List ℤ). length e.1 ≡ length fields) (first_file files) × FilesWide ps (other_files files)
   FilesWide (Ask q ∷ ps) files = FilesWide ps files
 
-  asks_give : (ks : List Known) (past : List Name) (ps : Program) (files : List (List (ℤ × List ℤ))) → AllWide ks → Served ks → InputsServed ps files → FilesWide ps files → AreAsked inputs (names_of ks) ps
-      → Room past (all_uses ps) → Each (Solves h) (ask_ops inputs all (names_of ks) past ps) → map h (decl_names (output_decls (names_of ks) ps)) ≡ map (spread ts) (answers ts ks ps files)
+  asks_give : (ks : List Known) (past : List Name) (ps : Program) (files : List (List (ℤ × List ℤ))) → AllWide ks → Served ks → InputsServed ps files
+      → FilesWide ps files → AreAsked inputs (names_of ks) ps
+      → Room past (all_uses ps) → Each (Solves h) (ask_ops inputs all (names_of ks) past ps)
+      → map h (decl_names (output_decls (names_of ks) ps)) ≡ map (spread ts) (answers ts ks ps files)
   asks_give ks past [] files wide s i f a r e = refl
   asks_give ks past (Register name fields ∷ ps) files wide s i f a r e =
       asks_give (given name fields files ∷ ks) past ps (other_files files) ((λ t. file_wide (length fields) (first_file files) t f.0), wide) (i.0, s) i.1 f.1 a r e
@@ -122,7 +127,8 @@ module _ (h : History) (ts : List ℤ) (up : Rises ts) (inputs all : List Name) 
       (λ i li. ap (λ f. f.outs i) (one_input (duplicate (suc (suc u))) (lists_of h (n ∷ [])) [] refl) ∙ copy_fed (suc (suc u)) i li (h n) [] ∙ l)
       j (omega (arith, c, lt))
 
-  inputs_served : (ps : Program) (files : List (List (ℤ × List ℤ))) → AreInputs ps → Each (Solves h) (input_ops all ps) → InputsHave ps files → InputsServed ps files
+  inputs_served : (ps : Program) (files : List (List (ℤ × List ℤ))) → AreInputs ps → Each (Solves h) (input_ops all ps) → InputsHave ps files
+      → InputsServed ps files
   inputs_served [] files a e i = tt
   inputs_served (Register name fields ∷ ps) files a e i =
       let parts = each-append (Solves h) (copy_ops name (count name all)) (input_ops all ps) e in
@@ -136,7 +142,8 @@ module _ (h : History) (ts : List ℤ) (up : Rises ts) (inputs all : List Name) 
   files_wide (Ask q ∷ ps) files a = files_wide ps files a
 
   -- the inputs of the plan are the files, spread over the instants
-  inputs_have : (ps : Program) (files : List (List (ℤ × List ℤ))) → AreFiles ps files → Lists (decl_names (input_decls ps)) (list_at (map (λ f. spread ts (at_instant f)) files)) h → InputsHave ps files
+  inputs_have : (ps : Program) (files : List (List (ℤ × List ℤ))) → AreFiles ps files
+      → Lists (decl_names (input_decls ps)) (list_at (map (λ f. spread ts (at_instant f)) files)) h → InputsHave ps files
   inputs_have [] files a l = tt
   inputs_have (Register name fields ∷ ps) [] a l = absurd a
   inputs_have (Register name fields ∷ ps) (f ∷ fs) a l = (l.0, inputs_have ps fs a.1 l.1)

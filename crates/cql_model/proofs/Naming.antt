@@ -1,5 +1,6 @@
 -- Names of a stream with a word behind an `@`, counted.
-use Rattle.std.proofs.Common.{◌≡◌, ℕ, zero, suc, ◌+◌, ◌%◌, ◌<◌, ◌≤◌, ◌^◌, Bool, true, false, Option, Some, None, List, [], ◌∷◌, ◌++◌, refl, sym, ap, ◌∙◌, arith, subst, map, ⊎_elim}
+use Rattle.std.proofs.Common.{◌≡◌, ℕ, zero, suc, ◌+◌, ◌%◌, ◌<◌, ◌≤◌, ◌^◌, Bool, true, false, Option, Some, None, List, [], ◌∷◌, ◌++◌, refl, sym, ap, ◌∙◌, arith}
+use Rattle.std.proofs.Common.{subst, map, ⊎_elim}
 use Rattle.std.specs.Prelude.{if◌then◌else◌, nat_eq, nat_lt, not, ◌&&◌, IsTrue}
 use Rattle.std.specs.Fmt.{decimal}
 use Rattle.std.proofs.lemmas.Bool.{and_parts}
@@ -175,7 +176,8 @@ numbers_once letter k (suc n) top t = ⊎_elim
     (λ f. let o = ap one_if f in let m = numbers_once letter (k + 1) n (omega (arith, top)) t in omega (arith, o, m))
     (cases_bool (tag_eq (Some (letter ++ decimal k)) t))
 
-numbers_only : (letter : List ℕ) (n : ℕ) (c : (k : ℕ) → k < 2 ^ 64 → class (Some (letter ++ decimal k)) ≡ n) (k m : ℕ) → k + m < 2 ^ 64 → (t : Tag) → 0 < tags t (numbers letter k m) → class t ≡ n
+numbers_only : (letter : List ℕ) (n : ℕ) (c : (k : ℕ) → k < 2 ^ 64 → class (Some (letter ++ decimal k)) ≡ n) (k m : ℕ) → k + m < 2 ^ 64 → (t : Tag)
+    → 0 < tags t (numbers letter k m) → class t ≡ n
 numbers_only letter n c k zero top t lt = absurd (omega (arith, lt))
 numbers_only letter n c k (suc m) top t lt = ⊎_elim
     (λ y. ap class (sym (tag_is (Some (letter ++ decimal k)) t y)) ∙ c k (omega (arith, top)))

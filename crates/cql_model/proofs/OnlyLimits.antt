@@ -7,18 +7,21 @@ use Rattle.std.proofs.lemmas.List.Elements.{All-head, All-tail, All-cons, All-ni
 use Rattle.river_plan.specs.declared.fault.PlanFault.{PlanFault}
 use Rattle.river_plan.specs.declared.fault.PlanFault.TheVariants.{P1, P2, P3, P4, P5, P6, P7, P9}
 use Rattle.river_plan.specs.declared.fault.Named.TheVariants.{Queue, Variable, Label}
-use Rattle.river_plan.specs.Faults.{IsNew, IsWritten, IsOuter, HasWidth, IsTable, IsApart, Repeated, Undeclared, UndeclaredAt, WrittenTwice, ReadTwice, ReadTooEarly, ReadTooEarlyAt, Mistyped, Misfit, Shared}
+use Rattle.river_plan.specs.Faults.{IsNew, IsWritten, IsOuter, HasWidth, IsTable, IsApart, Repeated, Undeclared, UndeclaredAt, WrittenTwice, ReadTwice}
+use Rattle.river_plan.specs.Faults.{ReadTooEarly, ReadTooEarlyAt, Mistyped, Misfit, Shared}
 use Rattle.river_plan.specs.First.{OrElse, As, Unless, Along, IsFirst}
 use Rattle.river_plan.specs.Forms.{Name, OpForm, PlanForm, decl_names, queue_names, variable_names, labels}
 use Rattle.river_plan.specs.Kinds.{IsFit}
 use Rattle.river_kernels.specs.declared.limit.Limit.{Limit}
-use Rattle.river_kernels.specs.declared.limit.Limit.TheVariants.{Inputs, Operators, Queues, Variables, Ports, Statements, Slots, Rates, Weights, Nesting, Latest, Best}
+use Rattle.river_kernels.specs.declared.limit.Limit.TheVariants.{Inputs, Operators, Queues, Variables, Ports, Statements, Slots, Rates, Weights, Nesting}
+use Rattle.river_kernels.specs.declared.limit.Limit.TheVariants.{Latest, Best}
 use Rattle.river_plan.specs.Limits.{OverLimitAt, limits, most_of, numbers}
 use Rattle.river_plan.specs.Names.{count, IsUsedOnce}
 use Rattle.river_plan.specs.Uses.{Each, total, writes_it, reads_it, vars_it, ReadsBefore}
 use Rattle.river_plan.specs.Valid.{IsPlan, FirstFault}
 use Rattle.river_plan.proofs.NameLemmas.{one_same}
-use Rattle.river_plan.proofs.ValidLaw.{once-names, total-labels, all-along, each-along, names-along, all-declared, reads-order, every-each, no_fault-valid, valid-no_fault}
+use Rattle.river_plan.proofs.ValidLaw.{once-names, total-labels, all-along, each-along, names-along, all-declared, reads-order, every-each, no_fault-valid}
+use Rattle.river_plan.proofs.ValidLaw.{valid-no_fault}
 use Rattle.river_plan.proofs.OneFirst.{fault-one}
 use Rattle.cql_model.specs.Accepted.{KeepsRules, IsLimit, exceeds, OnlyLimits, PlansAreValid}
 use Rattle.cql_model.specs.Translation.{ops_of, plan_of}
@@ -32,7 +35,8 @@ Empty {B = B} s = (o : Option B) → s o → o ≡ None
 some_none : {B P : Type 0} (b : B) → Some b ≡ None → P
 some_none b e = absurd (cc e)
 
-along-empty : {A : Type 0} (good : List A → A → Type 0) (before xs : List A) → Along (λ b y. Unless (good b y) y) before xs None → Empty (Along (λ b y. Unless (good b y) y) before xs)
+along-empty : {A : Type 0} (good : List A → A → Type 0) (before xs : List A) → Along (λ b y. Unless (good b y) y) before xs None
+    → Empty (Along (λ b y. Unless (good b y) y) before xs)
 along-empty good before xs h None k = refl
 along-empty good before [] h (Some b) k = absurd k
 along-empty good before (y ∷ ys) h (Some b) k = ⊎_elim (λ x. absurd (x.0 h.0)) (λ x. along-empty good (before ++ y ∷ []) ys h.1 (Some b) x.1) k
@@ -45,7 +49,8 @@ or-empty : {B : Type 0} (s t : Option B → Type 0) → Empty s → Empty t → 
 or-empty s t e f None k = refl
 or-empty s t e f (Some b) k = ⊎_elim (λ x. e (Some b) x) (λ x. f (Some b) x.1) k
 
-each-empty : {A B : Type 0} (s : List A → A → Option B → Type 0) (before xs : List A) → ((b : List A) (y : A) → s b y None → Empty (s b y)) → Along s before xs None → Empty (Along s before xs)
+each-empty : {A B : Type 0} (s : List A → A → Option B → Type 0) (before xs : List A) → ((b : List A) (y : A) → s b y None → Empty (s b y))
+    → Along s before xs None → Empty (Along s before xs)
 each-empty s before xs e h None k = refl
 each-empty s before [] e h (Some b) k = absurd k
 each-empty s before (y ∷ ys) e h (Some b) k = ⊎_elim (λ x. e before y h.0 (Some b) x) (λ x. each-empty s (before ++ y ∷ []) ys e h.1 (Some b) x.1) k
@@ -68,13 +73,16 @@ module _ (p : PlanForm) (v : KeepsRules p) where
       (all-declared (queue_names p) (variable_names p) [] p.ops v.reads_declared v.writes_declared v.vars_declared)
 
   no_written_twice : Empty (WrittenTwice p)
-  no_written_twice = first Queue _ (queue_names p) (names-along (λ w. IsUsedOnce (count w (decl_names p.inputs)) (total (writes_it w) p.ops)) [] (queue_names p) (λ q lt. let o = v.written_once q in ((omega (arith, o)), λ g. omega (arith, o, g))))
+  no_written_twice =
+      first Queue _ (queue_names p) (names-along (λ w. IsUsedOnce (count w (decl_names p.inputs)) (total (writes_it w) p.ops)) [] (queue_names p) (λ q lt. let o = v.written_once q in ((omega (arith, o)), λ g. omega (arith, o, g))))
 
   no_read_twice : Empty (ReadTwice p)
-  no_read_twice = first Queue _ (queue_names p) (names-along (λ w. IsUsedOnce (count w (decl_names p.outputs)) (total (reads_it w) p.ops)) [] (queue_names p) (λ q lt. let o = v.read_once q in ((omega (arith, o)), λ g. omega (arith, o, g))))
+  no_read_twice =
+      first Queue _ (queue_names p) (names-along (λ w. IsUsedOnce (count w (decl_names p.outputs)) (total (reads_it w) p.ops)) [] (queue_names p) (λ q lt. let o = v.read_once q in ((omega (arith, o)), λ g. omega (arith, o, g))))
 
   no_early : Empty (ReadTooEarly p)
-  no_early = each-empty (ReadTooEarlyAt (decl_names p.inputs)) [] p.ops (λ b op h. first Queue _ op.reads h) (reads-order (decl_names p.inputs) (λ q. count q (decl_names p.inputs)) [] p.ops (λ q. omega arith) v.in_order)
+  no_early =
+      each-empty (ReadTooEarlyAt (decl_names p.inputs)) [] p.ops (λ b op h. first Queue _ op.reads h) (reads-order (decl_names p.inputs) (λ q. count q (decl_names p.inputs)) [] p.ops (λ q. omega arith) v.in_order)
 
   no_mistyped : Empty (Mistyped p)
   no_mistyped =

@@ -11,7 +11,9 @@ use Rattle.cql_model.specs.Accepted.{AreQueries}
 use Rattle.cql_model.specs.Laws.{known_names, AreKnown}
 use Rattle.cql_model.specs.Program.{Scalar, Source, Columns, Star, Chosen, Query, Register, Ask, Program, streams_of, all_uses}
 use Rattle.cql_model.specs.Scopes.{Named, scope_of}
-use Rattle.cql_model.specs.Translation.{op, at_word, copies, copy_name, source_at, sources, w_name, x_name, window_ops, cross_ops, cross_last, select_ops, select_last, project_ops, project_last, out_ops, out_name, tail_ops, item_ops, item_last, query_named, ask_ops, copy_ops, input_ops}
+use Rattle.cql_model.specs.Translation.{op, at_word, copies, copy_name, source_at, sources, w_name, x_name, window_ops, cross_ops, cross_last, select_ops}
+use Rattle.cql_model.specs.Translation.{select_last, project_ops, project_last, out_ops, out_name, tail_ops, item_ops, item_last, query_named, ask_ops}
+use Rattle.cql_model.specs.Translation.{copy_ops, input_ops}
 use Rattle.river_plan.proofs.ValidLaw.{total-append}
 use Rattle.cql_model.proofs.Counting.{stream_op, project_from, block_ops}
 use Rattle.cql_model.proofs.Sums.{as_many}
@@ -40,7 +42,8 @@ one_known : (known : Name → ℕ) (r : Name) → 0 < known r → Known known (r
 one_known known r h z lt = ⊎_elim (λ c. subst (λ x. 0 < known x) c.0 h) (λ c. absurd (let o = ap one_if c.1 in omega (arith, o, lt))) (cases_name r z)
 
 two_known : (known : Name → ℕ) (r s : Name) → 0 < known r → 0 < known s → Known known (r ∷ s ∷ [])
-two_known known r s h g z lt = ⊎_elim (λ c. subst (λ x. 0 < known x) c.0 h) (λ c. one_known known s g z (let o = ap one_if c.1 in omega (arith, o, lt))) (cases_name r z)
+two_known known r s h g z lt =
+    ⊎_elim (λ c. subst (λ x. 0 < known x) c.0 h) (λ c. one_known known s g z (let o = ap one_if c.1 in omega (arith, o, lt))) (cases_name r z)
 
 -- WINDOWS AND PRODUCTS
 
@@ -52,7 +55,8 @@ all_more : (known known' : Name → ℕ) (ns : List Name) → ((z : Name) → 0 
 all_more known known' [] h a = tt
 all_more known known' (n ∷ ns) h a = (h n a.0, all_more known known' ns h a.1)
 
-windows_read : (known : Name → ℕ) (b : Name) (k : ℕ) (items : List Source) (srcs : List Name) → AllKnown known srcs → ReadsBefore known (window_ops b k items srcs)
+windows_read : (known : Name → ℕ) (b : Name) (k : ℕ) (items : List Source) (srcs : List Name) → AllKnown known srcs
+    → ReadsBefore known (window_ops b k items srcs)
 windows_read known b k [] srcs a = tt
 windows_read known b k (i ∷ is) [] a = tt
 windows_read known b k (i ∷ is) (s ∷ srcs) a =
@@ -64,11 +68,13 @@ abbrev pub WindowsKnown : (Name → ℕ) → Name → ℕ → List Source → Ty
 WindowsKnown known b k [] = Unit {0}
 WindowsKnown known b k (i ∷ is) = (0 < known (w_name b k)) × WindowsKnown known b (k + 1) is
 
-windows_more : (known known' : Name → ℕ) (b : Name) (k : ℕ) (items : List Source) → ((z : Name) → 0 < known z → 0 < known' z) → WindowsKnown known b k items → WindowsKnown known' b k items
+windows_more : (known known' : Name → ℕ) (b : Name) (k : ℕ) (items : List Source) → ((z : Name) → 0 < known z → 0 < known' z) → WindowsKnown known b k items
+    → WindowsKnown known' b k items
 windows_more known known' b k [] h a = tt
 windows_more known known' b k (i ∷ is) h a = (h (w_name b k) a.0, windows_more known known' b (k + 1) is h a.1)
 
-windows_known : (known : Name → ℕ) (b : Name) (k : ℕ) (items : List Source) (srcs : List Name) → length srcs ≡ length items → WindowsKnown (behind known (window_ops b k items srcs)) b k items
+windows_known : (known : Name → ℕ) (b : Name) (k : ℕ) (items : List Source) (srcs : List Name) → length srcs ≡ length items
+    → WindowsKnown (behind known (window_ops b k items srcs)) b k items
 windows_known known b k [] srcs e = tt
 windows_known known b k (i ∷ is) [] e = absurd (omega (arith, e))
 windows_known known b k (i ∷ is) (s ∷ srcs) e =
@@ -78,7 +84,8 @@ windows_known known b k (i ∷ is) (s ∷ srcs) e =
       windows_more (behind known rest) (behind known (o ∷ rest)) b (k + 1) is (λ z lt. omega (arith, lt)) (windows_known known b (k + 1) is srcs (omega (arith, e))),
     )
 
-crosses_read : (known : Name → ℕ) (b last : Name) (k : ℕ) (items : List Source) → 0 < known last → WindowsKnown known b k items → ReadsBefore known (cross_ops b last k items)
+crosses_read : (known : Name → ℕ) (b last : Name) (k : ℕ) (items : List Source) → 0 < known last → WindowsKnown known b k items
+    → ReadsBefore known (cross_ops b last k items)
 crosses_read known b last k [] l w = tt
 crosses_read known b last k (i ∷ is) l w =
     let o = op (x_name b k) cross (last ∷ w_name b k ∷ []) (x_name b k ∷ []) (x_name b k ∷ []) in (
@@ -86,7 +93,8 @@ crosses_read known b last k (i ∷ is) l w =
       crosses_read (and_writes known o) b (x_name b k) (k + 1) is (let f = one_same (x_name b k) in omega (arith, f)) (windows_more known (and_writes known o) b (k + 1) is (λ z lt. omega (arith, lt)) w.1),
     )
 
-cross_known : (known : Name → ℕ) (b last : Name) (k : ℕ) (items : List Source) → 0 < known last → 0 < behind known (cross_ops b last k items) (cross_last b last k items)
+cross_known : (known : Name → ℕ) (b last : Name) (k : ℕ) (items : List Source) → 0 < known last
+    → 0 < behind known (cross_ops b last k items) (cross_last b last k items)
 cross_known known b last k [] l = omega (arith, l)
 cross_known known b last k (i ∷ is) l =
     let o = op (x_name b k) cross (last ∷ w_name b k ∷ []) (x_name b k ∷ []) (x_name b k ∷ []) in
@@ -120,7 +128,8 @@ out_read : (known : Name → ℕ) (b : Name) (u : ℕ) → 0 < known (out_name b
 out_read known b zero l = tt
 out_read known b (suc u) l = (one_known known (at_word b (codes "o")) l, tt)
 
-pub block_in_order : (known : Name → ℕ) (q : Query) (scope : List Named) (u : ℕ) (srcs : List Name) → 0 < length q.items → length srcs ≡ length q.items → AllKnown known srcs → ReadsBefore known (block_ops q scope u srcs)
+pub block_in_order : (known : Name → ℕ) (q : Query) (scope : List Named) (u : ℕ) (srcs : List Name) → 0 < length q.items → length srcs ≡ length q.items
+    → AllKnown known srcs → ReadsBefore known (block_ops q scope u srcs)
 block_in_order known q scope u srcs some e a =
     let b = q.name in
     let last = item_last b q.items in
@@ -145,7 +154,8 @@ block_in_order known q scope u srcs some e a =
 copies_there : (b : Name) (k u j : ℕ) → j < u → 0 < count (copy_name b (k + j)) (copies b k u)
 copies_there b k zero j lt = absurd (omega (arith, lt))
 copies_there b k (suc u) zero lt =
-    let z : k + 0 ≡ k = omega arith in subst (λ m. 0 < count (copy_name b m) (copies b k (suc u))) (sym z) (let f = one_same (copy_name b k) in omega (arith, f))
+    let z : k + 0 ≡ k = omega arith in
+    subst (λ m. 0 < count (copy_name b m) (copies b k (suc u))) (sym z) (let f = one_same (copy_name b k) in omega (arith, f))
 copies_there b k (suc u) (suc j) lt =
     let z : k + suc j ≡ (k + 1) + j = omega arith in
     subst (λ m. 0 < count (copy_name b m) (copies b k (suc u))) (sym z) (let m = copies_there b (k + 1) u j (omega (arith, lt)) in omega (arith, m))
@@ -170,7 +180,8 @@ tail_writes_copy q scope u last j lt =
     let m = out_writes_copy b u j lt in
     omega (arith, a1, a2, m)
 
-block_writes_copy : (q : Query) (scope : List Named) (u : ℕ) (srcs : List Name) (j : ℕ) → j < u → 0 < total (writes_it (copy_name q.name j)) (block_ops q scope u srcs)
+block_writes_copy : (q : Query) (scope : List Named) (u : ℕ) (srcs : List Name) (j : ℕ) → j < u
+    → 0 < total (writes_it (copy_name q.name j)) (block_ops q scope u srcs)
 block_writes_copy q scope u srcs j lt =
     let a = total-append (writes_it (copy_name q.name j)) (item_ops q.name q.items srcs) (tail_ops q scope u (item_last q.name q.items)) in
     let m = tail_writes_copy q scope u (item_last q.name q.items) j lt in
@@ -209,7 +220,8 @@ module _ (inputs all : List Name) where
   pub fit_next : (past ns ms : List Name) → Fit past (ns ++ ms) → Fit (past ++ ns) ms
   fit_next past ns ms r n = let a = count-append n past ns in let b = count-append n ns ms in let c = r n in omega (arith, a, b, c)
 
-  sources_known : (known : Name → ℕ) (ks : List Named) (past : List Name) (items : List Source) (rest : List Name) → ServesAll known ks → AreKnown ks (streams_of items) → Fit past (streams_of items ++ rest)
+  sources_known : (known : Name → ℕ) (ks : List Named) (past : List Name) (items : List Source) (rest : List Name) → ServesAll known ks
+      → AreKnown ks (streams_of items) → Fit past (streams_of items ++ rest)
       → AllKnown known (sources inputs all past (streams_of items))
   sources_known known ks past [] rest s a r = tt
   sources_known known ks past (i ∷ is) rest s a r = (
@@ -236,10 +248,12 @@ module _ (inputs all : List Name) where
   pub query_source : (n : Name) (j : ℕ) → count n inputs ≡ 0 → source_at inputs all n j ≡ copy_name n j
   query_source n j z = grind (arith, z)
 
-  pub asks_in_order : (known : Name → ℕ) (ks : List Named) (past : List Name) (ps : Program) → ServesAll known ks → InputsServe known ps → AreQueries ks ps → Others ps → Fit past (all_uses ps)
+  pub asks_in_order : (known : Name → ℕ) (ks : List Named) (past : List Name) (ps : Program) → ServesAll known ks → InputsServe known ps → AreQueries ks ps
+      → Others ps → Fit past (all_uses ps)
       → ReadsBefore known (ask_ops inputs all ks past ps)
   asks_in_order known ks past [] s i a o r = tt
-  asks_in_order known ks past (Register name fields ∷ ps) s i a o r = asks_in_order known (record { name = name; fields = fields } ∷ ks) past ps (i.0, s) i.1 a.1 o r
+  asks_in_order known ks past (Register name fields ∷ ps) s i a o r =
+      asks_in_order known (record { name = name; fields = fields } ∷ ks) past ps (i.0, s) i.1 a.1 o r
   asks_in_order known ks past (Ask q ∷ ps) s i a o r =
       let srcs = sources inputs all past (streams_of q.items) in
       let u = count q.name all in
@@ -301,7 +315,8 @@ module _ (inputs all : List Name) where
   inputs_serve known (Ask q ∷ ps) t k = inputs_serve known ps t k
 
 -- what is read is an input, or written
-pub reads_there : (ops : List OpForm) (known : Name → ℕ) → ReadsBefore known ops → (z : Name) → 0 < total (reads_it z) ops → 0 < known z + total (writes_it z) ops
+pub reads_there : (ops : List OpForm) (known : Name → ℕ) → ReadsBefore known ops → (z : Name) → 0 < total (reads_it z) ops
+    → 0 < known z + total (writes_it z) ops
 reads_there [] known r z lt = absurd (omega (arith, lt))
 reads_there (o ∷ os) known r z lt = ⊎_elim
     (λ here. let k = r.0 z here in omega (arith, k))

@@ -10,10 +10,12 @@ use Rattle.river_plan.proofs.NameLemmas.{count-append}
 use Rattle.cql_model.specs.Accepted.{has_no_at, declared}
 use Rattle.cql_model.specs.Program.{Source, Query, Part, Register, Ask, Program, registered, streams_of, all_uses}
 use Rattle.cql_model.specs.Scopes.{Named, scope_of}
-use Rattle.cql_model.specs.Translation.{source_at, sources, query_ops, query_named, ask_ops, copy_ops, input_ops, query_decls, ask_decls, copy_decls, input_copies, input_decls, output_decls, copies}
+use Rattle.cql_model.specs.Translation.{source_at, sources, query_ops, query_named, ask_ops, copy_ops, input_ops, query_decls, ask_decls, copy_decls}
+use Rattle.cql_model.specs.Translation.{input_copies, input_decls, output_decls, copies}
 use Rattle.cql_model.proofs.Naming.{split, Tag, tags, numbers, From, Of, from_nil, from_more, of_one, of_numbers, own_once}
 use Rattle.river_plan.proofs.ValidLaw.{total-append}
-use Rattle.cql_model.proofs.Counting.{among, among-append, word, query_tags, inner_tags, var_tags, label_tags, copies_are, block_writes, block_reads, block_vars, block_labels, block_decls, query_from, inner_from, vars_from, labels_from, names-append, names_decls, few}
+use Rattle.cql_model.proofs.Counting.{among, among-append, word, query_tags, inner_tags, var_tags, label_tags, copies_are, block_writes, block_reads}
+use Rattle.cql_model.proofs.Counting.{block_vars, block_labels, block_decls, query_from, inner_from, vars_from, labels_from, names-append, names_decls, few}
 
 -- THE TAGS OF A PART
 
@@ -61,12 +63,15 @@ abbrev pub AreOnce : (Part → List Tag) → Program → Type 0
 AreOnce f [] = Unit {0}
 AreOnce f (p ∷ ps) = ((t : Tag) → tags t (f p) ≤ 1) × AreOnce f ps
 
-sums_base : (f : Part → List Tag) (z : Name) (ps : Program) → AllByRecursion (λ n. IsTrue (has_no_at n)) (declared ps) → AreOnce f ps → sums f z ps ≤ count (split z).0 (declared ps)
+sums_base : (f : Part → List Tag) (z : Name) (ps : Program) → AllByRecursion (λ n. IsTrue (has_no_at n)) (declared ps) → AreOnce f ps
+    → sums f z ps ≤ count (split z).0 (declared ps)
 sums_base f z [] names once = omega arith
-sums_base f z (Register name fields ∷ ps) names once = let a = own_once name z (f (Register name fields)) names.0 once.0 in let m = sums_base f z ps names.1 once.1 in omega (arith, a, m)
+sums_base f z (Register name fields ∷ ps) names once =
+    let a = own_once name z (f (Register name fields)) names.0 once.0 in let m = sums_base f z ps names.1 once.1 in omega (arith, a, m)
 sums_base f z (Ask q ∷ ps) names once = let a = own_once q.name z (f (Ask q)) names.0 once.0 in let m = sums_base f z ps names.1 once.1 in omega (arith, a, m)
 
-pub sums_once : (f : Part → List Tag) (z : Name) (ps : Program) → AllByRecursion (λ n. IsTrue (has_no_at n)) (declared ps) → ((n : Name) → count n (declared ps) ≤ 1) → AreOnce f ps → sums f z ps ≤ 1
+pub sums_once : (f : Part → List Tag) (z : Name) (ps : Program) → AllByRecursion (λ n. IsTrue (has_no_at n)) (declared ps)
+    → ((n : Name) → count n (declared ps) ≤ 1) → AreOnce f ps → sums f z ps ≤ 1
 sums_once f z ps names single once = let a = sums_base f z ps names once in let b = single (split z).0 in omega (arith, a, b)
 
 -- queries have few items, and streams few uses
@@ -81,9 +86,10 @@ FewUses all = (n : Name) → count n all ≤ 1000000000000
 copies_from : (u : ℕ) → u ≤ 1000000000000 → From 0 ((None ∷ []) ++ copy_tags u)
 copies_from zero h = from_more 0 2 (None ∷ []) [] (omega arith) (of_one None) (from_nil 2)
 copies_from (suc zero) h = from_more 0 2 (None ∷ []) [] (omega arith) (of_one None) (from_nil 2)
-copies_from (suc (suc u)) h = from_more 0 2 (None ∷ []) (numbers [] 1 (suc (suc u))) (omega arith) (of_one None) (as_from (of_numbers 1 (suc (suc u)) (few (1 + suc (suc u)) (omega (arith, h))))) where
-  as_from : Of 2 (numbers [] 1 (suc (suc u))) → From 2 (numbers [] 1 (suc (suc u)))
-  as_from o = record { once = o.once; above = λ t lt. let e = o.only t lt in omega (arith, e) }
+copies_from (suc (suc u)) h =
+    from_more 0 2 (None ∷ []) (numbers [] 1 (suc (suc u))) (omega arith) (of_one None) (as_from (of_numbers 1 (suc (suc u)) (few (1 + suc (suc u)) (omega (arith, h))))) where
+      as_from : Of 2 (numbers [] 1 (suc (suc u))) → From 2 (numbers [] 1 (suc (suc u)))
+      as_from o = record { once = o.once; above = λ t lt. let e = o.only t lt in omega (arith, e) }
 
 pub queues_once : (all : List Name) (ps : Program) → FewItems ps → FewUses all → AreOnce (queues_of all) ps
 queues_once all [] h u = tt

@@ -1,5 +1,6 @@
 -- Each use of a stream reads a queue of its own.
-use Rattle.std.proofs.Common.{◌≡◌, ℕ, zero, suc, ◌+◌, ◌<◌, ◌≤◌, ◌^◌, ◌⊎◌, inl, inr, Some, None, List, [], ◌∷◌, ◌++◌, refl, sym, ap, ◌∙◌, arith, subst, length, ⊎_elim}
+use Rattle.std.proofs.Common.{◌≡◌, ℕ, zero, suc, ◌+◌, ◌<◌, ◌≤◌, ◌^◌, ◌⊎◌, inl, inr, Some, None, List, [], ◌∷◌, ◌++◌, refl, sym, ap, ◌∙◌, arith, subst, length}
+use Rattle.std.proofs.Common.{⊎_elim}
 use Rattle.std.specs.Prelude.{IsTrue, unwrap_or}
 use Rattle.std.specs.Fmt.{decimal}
 use Rattle.std.specs.List.{AllByRecursion}
@@ -41,7 +42,8 @@ module _ (inputs all : List Name) where
   some_is v w h = ap (λ o. unwrap_or o v) h
 
   -- two uses that read one queue are one, or the stream is used once
-  pub one_use : (n m : Name) (k j : ℕ) → IsTrue (has_no_at n) → IsTrue (has_no_at m) → k + 1 < 2 ^ 64 → j + 1 < 2 ^ 64 → source_at inputs all n k ≡ source_at inputs all m j
+  pub one_use : (n m : Name) (k j : ℕ) → IsTrue (has_no_at n) → IsTrue (has_no_at m) → k + 1 < 2 ^ 64 → j + 1 < 2 ^ 64
+      → source_at inputs all n k ≡ source_at inputs all m j
       → (n ≡ m) × ((k ≡ j) ⊎ (count n all ≤ 1))
   one_use n m k j hn hm bk bj e = ⊎_elim
       (λ a. ⊎_elim
@@ -68,7 +70,8 @@ module _ (inputs all : List Name) where
   next_room past m ns r n = let a = count-append n past (m ∷ []) in let b = r n in omega (arith, a, b)
 
   -- what an earlier use reads is not read again
-  pub not_again : (small : FewUses all) (n : Name) (k : ℕ) (past ns : List Name) → IsTrue (has_no_at n) → Plain ns → Room past ns → k < count n past → count (source_at inputs all n k) (sources inputs all past ns) ≡ 0
+  pub not_again : (small : FewUses all) (n : Name) (k : ℕ) (past ns : List Name) → IsTrue (has_no_at n) → Plain ns → Room past ns → k < count n past
+      → count (source_at inputs all n k) (sources inputs all past ns) ≡ 0
   not_again small n k past [] hn hs r lt = refl
   not_again small n k past (m ∷ ms) hn hs r lt =
       let top = small n in let top2 = small m in let rn = r n in let rm = r m in

@@ -1,5 +1,6 @@
 -- The plan of an accepted program is valid.
-use Rattle.std.proofs.Common.{◌≡◌, ℕ, zero, suc, ◌+◌, ◌<◌, ◌≤◌, Bool, true, false, Option, Some, None, List, [], ◌∷◌, ◌++◌, refl, ap, ◌∙◌, arith, subst, length, ⊎_elim, length-append}
+use Rattle.std.proofs.Common.{◌≡◌, ℕ, zero, suc, ◌+◌, ◌<◌, ◌≤◌, Bool, true, false, Option, Some, None, List, [], ◌∷◌, ◌++◌, refl, ap, ◌∙◌, arith, subst, length}
+use Rattle.std.proofs.Common.{⊎_elim, length-append}
 use Rattle.std.specs.Prelude.{All, codes, if◌then◌else◌, IsTrue, unwrap_or}
 use Rattle.std.specs.List.{AllByRecursion}
 use Rattle.std.proofs.lemmas.List.{length-map}
@@ -23,10 +24,13 @@ use Rattle.cql_model.specs.Accepted.{has_no_at, declared, IsQuery, AreQueries, P
 use Rattle.cql_model.specs.Laws.{known_names, AreKnown}
 use Rattle.cql_model.specs.Program.{Scalar, Source, Columns, Star, Chosen, Query, Register, Ask, Program, registered, streams_of, all_uses}
 use Rattle.cql_model.specs.Scopes.{Named, scope_of, item_named}
-use Rattle.cql_model.specs.Translation.{at_word, copies, sources, window_ops, cross_ops, tail_ops, item_ops, item_last, query_ops, query_named, ask_ops, input_ops, ops_of, w_name, decl, decls, widths_of, columns_width, window_decls, cross_decls, item_decls, select_decls, project_decls, out_decls, query_decls, ask_decls, copy_decls, input_copies, input_decls, output_decls, plan_of}
+use Rattle.cql_model.specs.Translation.{at_word, copies, sources, window_ops, cross_ops, tail_ops, item_ops, item_last, query_ops, query_named, ask_ops}
+use Rattle.cql_model.specs.Translation.{input_ops, ops_of, w_name, decl, decls, widths_of, columns_width, window_decls, cross_decls, item_decls, select_decls}
+use Rattle.cql_model.specs.Translation.{project_decls, out_decls, query_decls, ask_decls, copy_decls, input_copies, input_decls, output_decls, plan_of}
 use Rattle.river_plan.proofs.ValidLaw.{total-append}
 use Rattle.cql_model.proofs.Counting.{names-append}
-use Rattle.cql_model.proofs.Sums.{sums, sums_once, queues_of, vars_of, labels_of, taken_of, queues_once, vars_once, labels_once, taken_once, FewItems, all_writes, all_vars_sum, all_labels, all_decls_sum, all_reads, inputs_declared, as_many}
+use Rattle.cql_model.proofs.Sums.{sums, sums_once, queues_of, vars_of, labels_of, taken_of, queues_once, vars_once, labels_once, taken_once, FewItems}
+use Rattle.cql_model.proofs.Sums.{all_writes, all_vars_sum, all_labels, all_decls_sum, all_reads, inputs_declared, as_many}
 use Rattle.cql_model.proofs.Uses.{Room, Apart, read_once, hit, hit_apart}
 use Rattle.cql_model.proofs.Order.{InputsKnown, InputsThere, Others, asks_in_order, inputs_in_order, inputs_serve, reads_append, behind, reads_there}
 use Rattle.cql_model.proofs.Fitting as one
@@ -52,10 +56,12 @@ declared_split n (Register name fields ∷ ps) = let m = declared_split n ps in 
 declared_split n (Ask q ∷ ps) = let m = declared_split n ps in omega (arith, m)
 
 -- queries have names of their own
-apart_in : (inputs all : List Name) (ps : Program) → AllByRecursion (λ n. IsTrue (has_no_at n)) (declared ps) → ((n : Name) → 0 < count n (asked ps) → count n inputs ≡ 0) → Apart inputs all ps
+apart_in : (inputs all : List Name) (ps : Program) → AllByRecursion (λ n. IsTrue (has_no_at n)) (declared ps)
+    → ((n : Name) → 0 < count n (asked ps) → count n inputs ≡ 0) → Apart inputs all ps
 apart_in inputs all [] h f = tt
 apart_in inputs all (Register name fields ∷ ps) h f = (h.0, apart_in inputs all ps h.1 f)
-apart_in inputs all (Ask q ∷ ps) h f = (h.0, f q.name (let o = one_same q.name in omega (arith, o)), apart_in inputs all ps h.1 (λ n lt. f n (omega (arith, lt))))
+apart_in inputs all (Ask q ∷ ps) h f =
+    (h.0, f q.name (let o = one_same q.name in omega (arith, o)), apart_in inputs all ps h.1 (λ n lt. f n (omega (arith, lt))))
 
 others_in : (inputs all : List Name) (ps : Program) → ((n : Name) → 0 < count n (asked ps) → count n inputs ≡ 0) → Others inputs all ps
 others_in inputs all [] f = tt
@@ -64,12 +70,15 @@ others_in inputs all (Ask q ∷ ps) f = (f q.name (let o = one_same q.name in om
 
 inputs_there : (inputs all : List Name) (ps : Program) → ((n : Name) → 0 < count n (registered ps) → 0 < count n inputs) → InputsThere inputs all ps
 inputs_there inputs all [] f = tt
-inputs_there inputs all (Register name fields ∷ ps) f = (f name (let o = one_same name in omega (arith, o)), inputs_there inputs all ps (λ n lt. f n (omega (arith, lt))))
+inputs_there inputs all (Register name fields ∷ ps) f =
+    (f name (let o = one_same name in omega (arith, o)), inputs_there inputs all ps (λ n lt. f n (omega (arith, lt))))
 inputs_there inputs all (Ask q ∷ ps) f = inputs_there inputs all ps f
 
-inputs_known : (inputs all : List Name) (known : Name → ℕ) (ps : Program) → ((n : Name) → 0 < count n (registered ps) → 0 < known n) → InputsKnown inputs all known ps
+inputs_known : (inputs all : List Name) (known : Name → ℕ) (ps : Program) → ((n : Name) → 0 < count n (registered ps) → 0 < known n)
+    → InputsKnown inputs all known ps
 inputs_known inputs all known [] f = tt
-inputs_known inputs all known (Register name fields ∷ ps) f = (f name (let o = one_same name in omega (arith, o)), inputs_known inputs all known ps (λ n lt. f n (omega (arith, lt))))
+inputs_known inputs all known (Register name fields ∷ ps) f =
+    (f name (let o = one_same name in omega (arith, o)), inputs_known inputs all known ps (λ n lt. f n (omega (arith, lt))))
 inputs_known inputs all known (Ask q ∷ ps) f = inputs_known inputs all known ps f
 
 -- the streams that are used have plain names
@@ -88,10 +97,12 @@ both_lists : (xs ys : List Name) → AllByRecursion IsPlain xs → AllByRecursio
 both_lists [] ys a b = b
 both_lists (x ∷ xs) ys a b = (a.0, both_lists xs ys a.1 b)
 
-uses_plain : (ks : List Named) (ps : Program) → AllByRecursion IsPlain (known_names ks) → AllByRecursion IsPlain (declared ps) → AreQueries ks ps → AllByRecursion IsPlain (all_uses ps)
+uses_plain : (ks : List Named) (ps : Program) → AllByRecursion IsPlain (known_names ks) → AllByRecursion IsPlain (declared ps) → AreQueries ks ps
+    → AllByRecursion IsPlain (all_uses ps)
 uses_plain ks [] h d a = tt
 uses_plain ks (Register name fields ∷ ps) h d a = uses_plain (record { name = name; fields = fields } ∷ ks) ps (d.0, h) d.1 a.1
-uses_plain ks (Ask q ∷ ps) h d a = both_lists (streams_of q.items) (all_uses ps) (plain_all ks (streams_of q.items) h a.0.streams) (uses_plain (query_named ks q ∷ ks) ps (d.0, h) d.1 a.1)
+uses_plain ks (Ask q ∷ ps) h d a =
+    both_lists (streams_of q.items) (all_uses ps) (plain_all ks (streams_of q.items) h a.0.streams) (uses_plain (query_named ks q ∷ ks) ps (d.0, h) d.1 a.1)
 
 -- each use is an operator, so they are few
 pub count-length : (n : Name) (ns : List Name) → count n ns ≤ length ns
@@ -108,7 +119,8 @@ length-windows b k (i ∷ is) (s ∷ srcs) e = let m = length-windows b (k + 1) 
 
 length-items : (b : Name) (items : List Source) (srcs : List Name) → length srcs ≡ length items → length items ≤ length (item_ops b items srcs)
 length-items b [] srcs e = omega arith
-length-items b (i ∷ is) srcs e = let a = length-append (window_ops b 1 (i ∷ is) srcs) (cross_ops b (w_name b 1) 2 is) in let m = length-windows b 1 (i ∷ is) srcs e in omega (arith, a, m)
+length-items b (i ∷ is) srcs e =
+    let a = length-append (window_ops b 1 (i ∷ is) srcs) (cross_ops b (w_name b 1) 2 is) in let m = length-windows b 1 (i ∷ is) srcs e in omega (arith, a, m)
 
 pub length-uses : (inputs all past : List Name) (ks : List Named) (ps : Program) → length (all_uses ps) ≤ length (ask_ops inputs all ks past ps)
 length-uses inputs all past ks [] = omega arith
@@ -137,7 +149,8 @@ few_uses p h n =
 kind_first : (d : Decl) (ds : List Decl) → kind_of (d ∷ ds) d.name ≡ d.kind
 kind_first d ds = ap (λ b. unwrap_or (if b then Some d.kind else kind_in ds d.name) (rows 0)) (name_same d.name)
 
-kind_next : (d : Decl) (ds es : List Decl) → ((z : Name) → count z (decl_names (d ∷ ds)) ≤ 1) → ((z : Name) → count z (decl_names es) ≤ count z (decl_names ds)) → AllByRecursion (λ (e : Decl). kind_of ds e.name ≡ e.kind) es → AllByRecursion (λ (e : Decl). kind_of (d ∷ ds) e.name ≡ e.kind) es
+kind_next : (d : Decl) (ds es : List Decl) → ((z : Name) → count z (decl_names (d ∷ ds)) ≤ 1) → ((z : Name) → count z (decl_names es) ≤ count z (decl_names ds))
+    → AllByRecursion (λ (e : Decl). kind_of ds e.name ≡ e.kind) es → AllByRecursion (λ (e : Decl). kind_of (d ∷ ds) e.name ≡ e.kind) es
 kind_next d ds [] h sub a = tt
 kind_next d ds (e ∷ es) h sub a = (
   ⊎_elim
@@ -158,7 +171,8 @@ private_found (w ∷ ws) v lt = ⊎_elim
     (λ c. ap (λ b. if b then Some Private else private_in ws v) c.1 ∙ private_found ws v (let e = ap one_if c.1 in omega (arith, e, lt)))
     (cases_name w v)
 
-own_from : (kind : Name → QueueType) (var : Name → VarKind) (ops : List OpForm) → ((v : Name) → 0 < total (vars_it v) ops → var v ≡ Private) → Each (one.Own kind var) ops
+own_from : (kind : Name → QueueType) (var : Name → VarKind) (ops : List OpForm) → ((v : Name) → 0 < total (vars_it v) ops → var v ≡ Private)
+    → Each (one.Own kind var) ops
 own_from kind var [] h = tt
 own_from kind var (o ∷ os) h = ((λ v lt. h v (omega (arith, lt))), own_from kind var os (λ v lt. h v (omega (arith, lt))))
 
@@ -185,7 +199,8 @@ Sized ks = AllByRecursion (λ (i : Named). is_width (length i.fields) ≡ true) 
 
 items_wide : (b : Name) (ks : List Named) → Sized ks → widths_of ks ≤ 16 → All HasWidth (item_decls b ks)
 items_wide b [] z few = All-nil HasWidth
-items_wide b (i ∷ is) z few = All-append HasWidth (window_decls b 1 (i ∷ is)) (cross_decls b (length i.fields) 2 is) (windows_wide b 1 (i ∷ is) z) (crosses_wide b (length i.fields) 2 is (one.narrow (length i.fields) z.0).0 few)
+items_wide b (i ∷ is) z few =
+    All-append HasWidth (window_decls b 1 (i ∷ is)) (cross_decls b (length i.fields) 2 is) (windows_wide b 1 (i ∷ is) z) (crosses_wide b (length i.fields) 2 is (one.narrow (length i.fields) z.0).0 few)
 
 select_wide : (b : Name) (width : ℕ) (o : Option Scalar) → is_width width ≡ true → All HasWidth (select_decls b width o)
 select_wide b width None w = All-nil HasWidth
@@ -197,7 +212,8 @@ project_wide b scope (Chosen cs) w = All-cons HasWidth (decl (at_word b (codes "
 
 out_wide : (b : Name) (width u : ℕ) → is_width width ≡ true → All HasWidth (out_decls b width u)
 out_wide b width zero w = All-nil HasWidth
-out_wide b width (suc u) w = All-cons HasWidth (decl (at_word b (codes "o")) (stream width)) (decls (copies b 0 (suc u)) (stream width)) w (all-decls HasWidth (copies b 0 (suc u)) (stream width) (λ n. w))
+out_wide b width (suc u) w =
+    All-cons HasWidth (decl (at_word b (codes "o")) (stream width)) (decls (copies b 0 (suc u)) (stream width)) w (all-decls HasWidth (copies b 0 (suc u)) (stream width) (λ n. w))
 
 pub sized_some : (ks : List Named) → 0 < length ks → Sized ks → 1 ≤ widths_of ks
 sized_some [] some z = absurd (omega (arith, some))
@@ -236,7 +252,8 @@ copies_wide all ks (Ask q ∷ ps) a = copies_wide all (query_named ks q ∷ ks) 
 
 outer_inputs : (ks : List Named) (ps : Program) → AreQueries ks ps → All IsOuter (input_decls ps)
 outer_inputs ks [] a = All-nil IsOuter
-outer_inputs ks (Register name fields ∷ ps) a = All-cons IsOuter (decl name (stream (length fields))) (input_decls ps) (a.0, tt) (outer_inputs (record { name = name; fields = fields } ∷ ks) ps a.1)
+outer_inputs ks (Register name fields ∷ ps) a =
+    All-cons IsOuter (decl name (stream (length fields))) (input_decls ps) (a.0, tt) (outer_inputs (record { name = name; fields = fields } ∷ ks) ps a.1)
 outer_inputs ks (Ask q ∷ ps) a = outer_inputs (query_named ks q ∷ ks) ps a.1
 
 outer_outputs : (ks : List Named) (ps : Program) → AreQueries ks ps → All IsOuter (output_decls ks ps)
@@ -316,7 +333,8 @@ plans_keep p a small =
     record {
       queues_once = λ q. let e = names_are q in let o = queues q in omega (arith, e, o);
       variables_once = λ v. let t = total-vars v (ops_of p) in let o = vars v in omega (arith, t, o);
-      labels_once = λ l. let s = split_ops (named_it l) in let e = all_labels l ins all [] [] p in let o = sums_once (labels_of all) l p a.names a.once (labels_once all p items) in omega (arith, s, e, o);
+      labels_once =
+          λ l. let s = split_ops (named_it l) in let e = all_labels l ins all [] [] p in let o = sums_once (labels_of all) l p a.names a.once (labels_once all p items) in omega (arith, s, e, o);
       reads_declared = λ q lt. let t = reads_there (ops_of p) known order q lt in let e = names_are q in let w = writes_are q in omega (arith, t, e, w);
       writes_declared = λ q lt. let e = names_are q in let w = writes_are q in omega (arith, e, w, lt);
       vars_declared = λ v lt. let t = total-vars v (ops_of p) in omega (arith, t, lt);

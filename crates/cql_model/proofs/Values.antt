@@ -32,7 +32,8 @@ place_is : (f : Name) (fields : List Name) (row rest : List ℤ) → length row 
 place_is f [] row rest e = refl
 place_is f (g ∷ gs) [] rest e = absurd (omega (arith, e))
 place_is f (g ∷ gs) (z ∷ zs) rest e = step (name_eq g f) (at_plus (z ∷ []) (zs ++ rest) 1 (place_in f gs) refl ∙ place_is f gs zs rest (omega (arith, e))) where
-  step : (b : Bool) → at (plus 1 (place_in f gs)) (z ∷ (zs ++ rest)) ≡ value_in f gs zs → at (if b then Some 0 else plus 1 (place_in f gs)) (z ∷ (zs ++ rest)) ≡ (if b then Some z else value_in f gs zs)
+  step : (b : Bool) → at (plus 1 (place_in f gs)) (z ∷ (zs ++ rest)) ≡ value_in f gs zs
+      → at (if b then Some 0 else plus 1 (place_in f gs)) (z ∷ (zs ++ rest)) ≡ (if b then Some z else value_in f gs zs)
   step true h = refl
   step false h = h
 
@@ -51,11 +52,13 @@ field_is f (i ∷ is) (row ∷ rows) h =
 item_is : (a f : Name) (scope : List Named) (tuple : Tuple) → Fits scope tuple → at (item_place a f scope) (joined tuple) ≡ item_value a f scope tuple
 item_is a f [] tuple h = refl
 item_is a f (i ∷ is) [] h = absurd h
-item_is a f (i ∷ is) (row ∷ rows) h = step (name_eq i.name a) (place_is f i.fields row (joined rows) h.0) (at_plus row (joined rows) (length i.fields) (item_place a f is) h.0 ∙ item_is a f is rows h.1) where
-  step : (b : Bool) → at (place_in f i.fields) (row ++ joined rows) ≡ value_in f i.fields row → at (plus (length i.fields) (item_place a f is)) (row ++ joined rows) ≡ item_value a f is rows
-      → at (if b then place_in f i.fields else plus (length i.fields) (item_place a f is)) (row ++ joined rows) ≡ (if b then value_in f i.fields row else item_value a f is rows)
-  step true p q = p
-  step false p q = q
+item_is a f (i ∷ is) (row ∷ rows) h =
+    step (name_eq i.name a) (place_is f i.fields row (joined rows) h.0) (at_plus row (joined rows) (length i.fields) (item_place a f is) h.0 ∙ item_is a f is rows h.1) where
+      step : (b : Bool) → at (place_in f i.fields) (row ++ joined rows) ≡ value_in f i.fields row
+          → at (plus (length i.fields) (item_place a f is)) (row ++ joined rows) ≡ item_value a f is rows
+          → at (if b then place_in f i.fields else plus (length i.fields) (item_place a f is)) (row ++ joined rows) ≡ (if b then value_in f i.fields row else item_value a f is rows)
+      step true p q = p
+      step false p q = q
 
 val_at : (o : Option ℕ) (row : List ℤ) → val (at_place o) row [] ≡ or_zero (at o row)
 val_at None row = refl
@@ -68,8 +71,13 @@ resolved_is scope (Field f) tuple h = val_at (field_place f scope) (joined tuple
 resolved_is scope (ItemField a f) tuple h = val_at (item_place a f scope) (joined tuple) ∙ ap or_zero (item_is a f scope tuple h)
 resolved_is scope (Neg e) tuple h = ap negate (resolved_is scope e tuple h)
 resolved_is scope (Not e) tuple h = ap (λ z. truth (int_eq z (pos 0))) (resolved_is scope e tuple h)
-resolved_is scope (Bin o l r) tuple h = ap (λ z. applied o z (val (resolved scope r) (joined tuple) [])) (resolved_is scope l tuple h) ∙ ap (applied o (value scope l tuple)) (resolved_is scope r tuple h)
+resolved_is scope (Bin o l r) tuple h =
+    ap (λ z. applied o z (val (resolved scope r) (joined tuple) [])) (resolved_is scope l tuple h)
+    ∙ ap (applied o (value scope l tuple)) (resolved_is scope r tuple h)
 
-pub columns_are : (scope : List Named) (cs : List Column) (tuple : Tuple) → Fits scope tuple → map (λ t. val t (joined tuple) []) (terms_of scope cs) ≡ map (λ (c : Column). value scope c.value tuple) cs
+pub columns_are : (scope : List Named) (cs : List Column) (tuple : Tuple) → Fits scope tuple
+    → map (λ t. val t (joined tuple) []) (terms_of scope cs) ≡ map (λ (c : Column). value scope c.value tuple) cs
 columns_are scope [] tuple h = refl
-columns_are scope (c ∷ cs) tuple h = ap (λ z. z ∷ map (λ t. val t (joined tuple) []) (terms_of scope cs)) (resolved_is scope c.value tuple h) ∙ ap (λ l. value scope c.value tuple ∷ l) (columns_are scope cs tuple h)
+columns_are scope (c ∷ cs) tuple h =
+    ap (λ z. z ∷ map (λ t. val t (joined tuple) []) (terms_of scope cs)) (resolved_is scope c.value tuple h)
+    ∙ ap (λ l. value scope c.value tuple ∷ l) (columns_are scope cs tuple h)

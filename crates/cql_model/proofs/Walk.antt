@@ -17,7 +17,8 @@ use Rattle.cql_model.specs.Program.{Scalar, Source, Columns, Star, Chosen, Query
 use Rattle.cql_model.specs.Scopes.{Named, scope_of}
 use Rattle.cql_model.specs.Streams.{Timed, Rises, windowed, spread}
 use Rattle.cql_model.specs.Meaning.{Known, names_of, rows_of, Tuple, with_each, product_of, where_true, row_of, windows_at, content, answer}
-use Rattle.cql_model.specs.Translation.{copies, copy_name, op, w_name, x_name, window_ops, cross_ops, cross_last, select_ops, select_last, project_ops, project_last, out_ops, out_name, tail_ops, item_ops, item_last, resolved, terms_of, at_word}
+use Rattle.cql_model.specs.Translation.{copies, copy_name, op, w_name, x_name, window_ops, cross_ops, cross_last, select_ops, select_last, project_ops}
+use Rattle.cql_model.specs.Translation.{project_last, out_ops, out_name, tail_ops, item_ops, item_last, resolved, terms_of, at_word}
 use Rattle.cql_model.proofs.Contents.{rows, product_more, one_item, select_is, project_is, where_fits}
 use Rattle.cql_model.proofs.Fed.{select_fed, project_fed, copy_fed, streamer_fed, cross_fed}
 use Rattle.cql_model.proofs.Values.{Fits}
@@ -28,7 +29,8 @@ pub each-append : (P : OpForm → Type 0) (xs ys : List OpForm) → Each P (xs +
 each-append P xs ys h = (each_front P xs ys h, each_back P xs ys h)
 
 -- what a kernel of one input gives
-one_solved : (k : Kern) (h : History) (r : Name) (q : ℕ) → ins k ≡ 1 → (feed_all k (lists_of h (r ∷ [])) (first_kept k)).outs q ≡ (feed (fire k 0) (h r) (first_kept k)).outs q
+one_solved : (k : Kern) (h : History) (r : Name) (q : ℕ) → ins k ≡ 1
+    → (feed_all k (lists_of h (r ∷ [])) (first_kept k)).outs q ≡ (feed (fire k 0) (h r) (first_kept k)).outs q
 one_solved k h r q e = ap (λ (f : Fired). f.outs q) (one_input k (lists_of h (r ∷ [])) (first_kept k) e)
 
 same_spread : (ts : List ℤ) (a b : Timed) → ((t : ℤ) → a t ≡ b t) → spread ts a ≡ spread ts b
@@ -41,7 +43,8 @@ module _ (h : History) (ts : List ℤ) (up : Rises ts) where
 
   -- COPIES
 
-  pub copies_have : (n : Name) (k u : ℕ) (f : ℕ → List item.Item) (r : Timed) → Lists (copies n k u) f h → ((j : ℕ) → j < u → f j ≡ spread ts r) → (j : ℕ) → j < u → Has (copy_name n (k + j)) r
+  pub copies_have : (n : Name) (k u : ℕ) (f : ℕ → List item.Item) (r : Timed) → Lists (copies n k u) f h → ((j : ℕ) → j < u → f j ≡ spread ts r) → (j : ℕ)
+      → j < u → Has (copy_name n (k + j)) r
   copies_have n k zero f r l e j lt = absurd (omega (arith, lt))
   copies_have n k (suc u) f r l e zero lt = (let z : k + 0 ≡ k = omega arith in ap (λ m. h (copy_name n m)) z) ∙ l.0 ∙ e 0 (omega arith)
   copies_have n k (suc u) f r l e (suc j) lt =
@@ -62,7 +65,8 @@ module _ (h : History) (ts : List ℤ) (up : Rises ts) where
   WindowsHave ks q k [] = Unit {0}
   WindowsHave ks q k (i ∷ is) = Has (w_name q k) (λ t. in_order (window_rows ks i t)) × WindowsHave ks q (k + 1) is
 
-  pub windows_have : (ks : List Known) (q : Name) (k : ℕ) (items : List Source) (srcs : List Name) → Each (Solves h) (window_ops q k items srcs) → Reads ks items srcs → WindowsHave ks q k items
+  pub windows_have : (ks : List Known) (q : Name) (k : ℕ) (items : List Source) (srcs : List Name) → Each (Solves h) (window_ops q k items srcs)
+      → Reads ks items srcs → WindowsHave ks q k items
   windows_have ks q k [] srcs s r = tt
   windows_have ks q k (i ∷ is) [] s r = absurd r
   windows_have ks q k (i ∷ is) (src ∷ srcs) s r = (
@@ -73,15 +77,18 @@ module _ (h : History) (ts : List ℤ) (up : Rises ts) where
 
   -- PRODUCTS
 
-  pub crosses_have : (ks : List Known) (q last : Name) (k : ℕ) (items : List Source) (tuples : ℤ → List Tuple) → Each (Solves h) (cross_ops q last k items) → WindowsHave ks q k items
-      → Has last (λ t. in_order (rows (tuples t))) → Has (cross_last q last k items) (λ t. in_order (rows (fold with_each (tuples t) (windows_at ts ks items t))))
+  pub crosses_have : (ks : List Known) (q last : Name) (k : ℕ) (items : List Source) (tuples : ℤ → List Tuple) → Each (Solves h) (cross_ops q last k items)
+      → WindowsHave ks q k items
+      → Has last (λ t. in_order (rows (tuples t)))
+      → Has (cross_last q last k items) (λ t. in_order (rows (fold with_each (tuples t) (windows_at ts ks items t))))
   crosses_have ks q last k [] tuples s w l = l
   crosses_have ks q last k (i ∷ is) tuples s w l =
       crosses_have ks q (x_name q k) (k + 1) is (λ t. with_each (tuples t) (window_rows ks i t)) s.1 w.1
       (s.0.0 ∙ cross_fed ts (λ t. in_order (rows (tuples t))) (λ t. in_order (window_rows ks i t)) (lists_of h (last ∷ w_name q k ∷ [])) l w.0
       ∙ same_spread ts _ _ (λ t. product_more (tuples t) (window_rows ks i t)))
 
-  pub items_have : (ks : List Known) (q : Name) (items : List Source) (srcs : List Name) → 0 < length items → Each (Solves h) (item_ops q items srcs) → Reads ks items srcs
+  pub items_have : (ks : List Known) (q : Name) (items : List Source) (srcs : List Name) → 0 < length items → Each (Solves h) (item_ops q items srcs)
+      → Reads ks items srcs
       → Has (item_last q items) (λ t. in_order (rows (product_of (windows_at ts ks items t))))
   items_have ks q [] srcs some s r = absurd (omega (arith, some))
   items_have ks q (i ∷ is) srcs some s r =
@@ -91,14 +98,16 @@ module _ (h : History) (ts : List ℤ) (up : Rises ts) where
 
   -- CONDITION AND COLUMNS
 
-  pub select_has : (q : Name) (scope : List Named) (last : Name) (o : Option Scalar) (tuples : ℤ → List Tuple) → ((t : ℤ) → All (Fits scope) (tuples t)) → Each (Solves h) (select_ops q scope last o)
+  pub select_has : (q : Name) (scope : List Named) (last : Name) (o : Option Scalar) (tuples : ℤ → List Tuple) → ((t : ℤ) → All (Fits scope) (tuples t))
+      → Each (Solves h) (select_ops q scope last o)
       → Has last (λ t. in_order (rows (tuples t))) → Has (select_last q last o) (λ t. in_order (rows (where_true scope o (tuples t))))
   select_has q scope last None tuples f s l = l
   select_has q scope last (Some e) tuples f s l =
       s.0.0 ∙ one_solved (select (resolved scope e)) h last 0 refl ∙ ap (λ x. (feed (fire (select (resolved scope e)) 0) x []).outs 0) l
       ∙ select_fed (resolved scope e) ts (λ t. in_order (rows (tuples t))) [] ∙ same_spread ts _ _ (λ t. select_is scope e (tuples t) (f t))
 
-  pub project_has : (q : Name) (scope : List Named) (last : Name) (cols : Columns) (tuples : ℤ → List Tuple) → ((t : ℤ) → All (Fits scope) (tuples t)) → Each (Solves h) (project_ops q scope last cols)
+  pub project_has : (q : Name) (scope : List Named) (last : Name) (cols : Columns) (tuples : ℤ → List Tuple) → ((t : ℤ) → All (Fits scope) (tuples t))
+      → Each (Solves h) (project_ops q scope last cols)
       → Has last (λ t. in_order (rows (tuples t))) → Has (project_last q last cols) (λ t. in_order (map (row_of scope cols) (tuples t)))
   project_has q scope last Star tuples f s l = l
   project_has q scope last (Chosen cs) tuples f s l =
@@ -120,7 +129,9 @@ module _ (h : History) (ts : List ℤ) (up : Rises ts) where
       λ j lt. one_solved (duplicate (suc (suc u))) h o j refl ∙ copy_fed (suc (suc u)) j lt (h o) [] ∙ l in
       record {
         own = s.0.0 ∙ all 0 (omega arith);
-        copy = λ j lt. (let z : 0 + j ≡ j = omega arith in ap (λ m. h (copy_name q m)) (sym z)) ∙ copies_have q 0 (suc u) _ r s.0.1 (λ i li. all (suc i) (omega (arith, li))) j lt;
+        copy =
+            λ j lt. (let z : 0 + j ≡ j = omega arith in ap (λ m. h (copy_name q m)) (sym z))
+            ∙ copies_have q 0 (suc u) _ r s.0.1 (λ i li. all (suc i) (omega (arith, li))) j lt;
       }
 
   pub tail_has : (ks : List Known) (q : Query) (uses : ℕ) (last : Name) → AllWide ks → Each (Solves h) (tail_ops q (scope_of (names_of ks) q.items) uses last)

@@ -1,5 +1,6 @@
 -- Rows of streams and relations have their widths.
-use Rattle.std.proofs.Common.{◌≡◌, ℕ, zero, suc, ℤ, ◌+◌, ◌-◌, Bool, true, false, cond, Option, Some, None, List, [], ◌∷◌, refl, sym, ◌∙◌, arith, length, map, filter, fold, drop, length-append}
+use Rattle.std.proofs.Common.{◌≡◌, ℕ, zero, suc, ℤ, ◌+◌, ◌-◌, Bool, true, false, cond, Option, Some, None, List, [], ◌∷◌, refl, sym, ◌∙◌, arith, length, map}
+use Rattle.std.proofs.Common.{filter, fold, drop, length-append}
 use Rattle.std.specs.Prelude.{All, int_lt, if◌then◌else◌}
 use Rattle.std.specs.List.{flat_map}
 use Rattle.std.specs.Ordering.{int_eq}
@@ -63,7 +64,8 @@ all-without P xs (y ∷ ys) h = all-without P (take_out y xs) ys (all-take_out P
 pub file_wide : (n : ℕ) (file : List (ℤ × List ℤ)) (t : ℤ) → All (λ (e : ℤ × List ℤ). length e.1 ≡ n) file → HaveWidth n (at_instant file t)
 file_wide n [] t h = All-nil (λ (row : List ℤ). length row ≡ n)
 file_wide n (e ∷ es) t h = step (int_eq e.0 t) (file_wide n es t (All-tail (λ (x : ℤ × List ℤ). length x.1 ≡ n) e es h)) where
-  step : (b : Bool) → HaveWidth n (at_instant es t) → HaveWidth n (map (λ (x : ℤ × List ℤ). x.1) (cond b (e ∷ filter (λ (x : ℤ × List ℤ). int_eq x.0 t) es) (filter (λ (x : ℤ × List ℤ). int_eq x.0 t) es)))
+  step : (b : Bool) → HaveWidth n (at_instant es t)
+      → HaveWidth n (map (λ (x : ℤ × List ℤ). x.1) (cond b (e ∷ filter (λ (x : ℤ × List ℤ). int_eq x.0 t) es) (filter (λ (x : ℤ × List ℤ). int_eq x.0 t) es)))
   step true more = All-cons (λ (row : List ℤ). length row ≡ n) e.1 (at_instant es t) (All-head (λ (x : ℤ × List ℤ). length x.1 ≡ n) e es h) more
   step false more = more
 
@@ -86,7 +88,8 @@ changed_wide P Dstream old new a b = all-without P old new a
 changed_wide P Rstream old new a b = b
 
 streamed_wide : (P : List ℤ → Type 0) (k : Streamer) (ts : List ℤ) (r : Timed) (t : ℤ) → ((u : ℤ) → All P (r u)) → All P (streamed k ts r t)
-streamed_wide P k ts r t h = all-in_order P (changed k (before ts r t) (r t)) (changed_wide P k (before ts r t) (r t) (last_wide P r (last_of (filter (λ u. int_lt u t) ts)) h) (h t))
+streamed_wide P k ts r t h =
+    all-in_order P (changed k (before ts r t) (r t)) (changed_wide P k (before ts r t) (r t) (last_wide P r (last_of (filter (λ u. int_lt u t) ts)) h) (h t))
 
 -- WHAT IS KNOWN
 
@@ -97,18 +100,21 @@ AllWide (k ∷ ks) = ((t : ℤ) → HaveWidth (length k.named.fields) (k.rows t)
 rows_wide : (ks : List Known) (n : Name) (t : ℤ) → AllWide ks → HaveWidth (length (fields_of (names_of ks) n)) (rows_of ks n t)
 rows_wide [] n t h = All-nil (λ (row : List ℤ). length row ≡ 0)
 rows_wide (k ∷ ks) n t h = step (name_eq k.named.name n) (rows_wide ks n t h.1) where
-  step : (b : Bool) → HaveWidth (length (fields_of (names_of ks) n)) (rows_of ks n t) → HaveWidth (length (if b then k.named.fields else fields_of (names_of ks) n)) (if b then k.rows t else rows_of ks n t)
+  step : (b : Bool) → HaveWidth (length (fields_of (names_of ks) n)) (rows_of ks n t)
+      → HaveWidth (length (if b then k.named.fields else fields_of (names_of ks) n)) (if b then k.rows t else rows_of ks n t)
   step true more = h.0 t
   step false more = more
 
-pub windows_wide : (ts : List ℤ) (ks : List Known) (items : List Source) (t : ℤ) → AllWide ks → AreWide (scope_of (names_of ks) items) (windows_at ts ks items t)
+pub windows_wide : (ts : List ℤ) (ks : List Known) (items : List Source) (t : ℤ) → AllWide ks
+    → AreWide (scope_of (names_of ks) items) (windows_at ts ks items t)
 windows_wide ts ks [] t h = tt
 windows_wide ts ks (i ∷ is) t h = (
   window_wide (λ row. length row ≡ length (fields_of (names_of ks) i.stream)) i.window ts (rows_of ks i.stream) t (λ u. rows_wide ks i.stream u h),
   windows_wide ts ks is t h,
 )
 
-pub tuples_fit : (ts : List ℤ) (ks : List Known) (items : List Source) (t : ℤ) → AllWide ks → All (Fits (scope_of (names_of ks) items)) (product_of (windows_at ts ks items t))
+pub tuples_fit : (ts : List ℤ) (ks : List Known) (items : List Source) (t : ℤ) → AllWide ks
+    → All (Fits (scope_of (names_of ks) items)) (product_of (windows_at ts ks items t))
 tuples_fit ts ks items t h = product_fits (scope_of (names_of ks) items) (windows_at ts ks items t) (windows_wide ts ks items t h)
 
 -- ROWS OF COLUMNS
@@ -131,16 +137,20 @@ row_wide : (scope : List Named) (cols : Columns) (tuple : Tuple) → Fits scope 
 row_wide scope Star tuple h = joined_wide scope tuple h
 row_wide scope (Chosen cs) tuple h = length-map cs _ ∙ sym (length-names 1 cs)
 
-rows_of_all : (n : ℕ) (g : Tuple → List ℤ) (P : Tuple → Type 0) (tuples : List Tuple) → All P tuples → ((x : Tuple) → P x → length (g x) ≡ n) → HaveWidth n (map g tuples)
+rows_of_all : (n : ℕ) (g : Tuple → List ℤ) (P : Tuple → Type 0) (tuples : List Tuple) → All P tuples → ((x : Tuple) → P x → length (g x) ≡ n)
+    → HaveWidth n (map g tuples)
 rows_of_all n g P [] h f = All-nil (λ (row : List ℤ). length row ≡ n)
-rows_of_all n g P (x ∷ xs) h f = All-cons (λ (row : List ℤ). length row ≡ n) (g x) (map g xs) (f x (All-head P x xs h)) (rows_of_all n g P xs (All-tail P x xs h) f)
+rows_of_all n g P (x ∷ xs) h f =
+    All-cons (λ (row : List ℤ). length row ≡ n) (g x) (map g xs) (f x (All-head P x xs h)) (rows_of_all n g P xs (All-tail P x xs h) f)
 
-content_wide : (ts : List ℤ) (ks : List Known) (q : Query) (t : ℤ) → AllWide ks → HaveWidth (length (column_names (scope_of (names_of ks) q.items) q.columns)) (content ts ks q t)
+content_wide : (ts : List ℤ) (ks : List Known) (q : Query) (t : ℤ) → AllWide ks
+    → HaveWidth (length (column_names (scope_of (names_of ks) q.items) q.columns)) (content ts ks q t)
 content_wide ts ks q t h =
     let scope = scope_of (names_of ks) q.items in
     rows_of_all (length (column_names scope q.columns)) (row_of scope q.columns) (Fits scope) (where_true scope q.condition (product_of (windows_at ts ks q.items t)))
     (where_fits scope q.condition (product_of (windows_at ts ks q.items t)) (tuples_fit ts ks q.items t h)) (λ x k. row_wide scope q.columns x k)
 
-pub answer_wide : (ts : List ℤ) (ks : List Known) (q : Query) (t : ℤ) → AllWide ks → HaveWidth (length (column_names (scope_of (names_of ks) q.items) q.columns)) (answer ts ks q t)
+pub answer_wide : (ts : List ℤ) (ks : List Known) (q : Query) (t : ℤ) → AllWide ks
+    → HaveWidth (length (column_names (scope_of (names_of ks) q.items) q.columns)) (answer ts ks q t)
 answer_wide ts ks q t h =
     streamed_wide (λ row. length row ≡ length (column_names (scope_of (names_of ks) q.items) q.columns)) q.kind ts (content ts ks q) t (λ u. content_wide ts ks q u h)

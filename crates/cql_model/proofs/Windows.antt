@@ -33,9 +33,11 @@ batches_spread (u ∷ us) s = ap (λ l. batch_at s u ∷ l) (batches_spread us s
 later_up : (t u : ℤ) → int_lt t u ≡ true → later t u ≡ u
 later_up t u h = ap (λ b. cond b u t) h
 
-greatest_from : (s : Timed) (a : ℤ) (us : List ℤ) (t : ℤ) → Rises (us ++ t ∷ []) → AllAbove a (us ++ t ∷ []) → fold (λ x (c : Batch). later x c.at) a (batched (us ++ t ∷ []) s) ≡ t
+greatest_from : (s : Timed) (a : ℤ) (us : List ℤ) (t : ℤ) → Rises (us ++ t ∷ []) → AllAbove a (us ++ t ∷ [])
+    → fold (λ x (c : Batch). later x c.at) a (batched (us ++ t ∷ []) s) ≡ t
 greatest_from s a [] t r h = later_up a t h.0
-greatest_from s a (u ∷ us) t r h = ap (λ x. fold (λ y (c : Batch). later y c.at) x (batched (us ++ t ∷ []) s)) (later_up a u h.0) ∙ greatest_from s u us t r.1 r.0
+greatest_from s a (u ∷ us) t r h =
+    ap (λ x. fold (λ y (c : Batch). later y c.at) x (batched (us ++ t ∷ []) s)) (later_up a u h.0) ∙ greatest_from s u us t r.1 r.0
 
 greatest_last : (s : Timed) (us : List ℤ) (t : ℤ) → Rises (us ++ t ∷ []) → greatest (batched (us ++ t ∷ []) s) ≡ t
 greatest_last s [] t r = refl
@@ -53,9 +55,11 @@ rows_where_is p (u ∷ us) s = step (p u) (rows_where_is p us s) where
 -- batches that rise are in order
 put_last : (b : Batch) (us : List ℤ) (s : Timed) → AllBelow b.at us → put_batch b (batched us s) ≡ batched us s ++ b ∷ []
 put_last b [] s h = refl
-put_last b (u ∷ us) s h = ap (λ c. cond c (b ∷ (batched (u ∷ us) s)) (batch_at s u ∷ put_batch b (batched us s))) (back b.at u h.0) ∙ ap (λ l. batch_at s u ∷ l) (put_last b us s h.1) where
-  back : (t v : ℤ) → int_lt v t ≡ true → int_lt t v ≡ false
-  back t v e = grind (arith, e)
+put_last b (u ∷ us) s h =
+    ap (λ c. cond c (b ∷ (batched (u ∷ us) s)) (batch_at s u ∷ put_batch b (batched us s))) (back b.at u h.0)
+    ∙ ap (λ l. batch_at s u ∷ l) (put_last b us s h.1) where
+      back : (t v : ℤ) → int_lt v t ≡ true → int_lt t v ≡ false
+      back t v e = grind (arith, e)
 
 batched-append : (us vs : List ℤ) (s : Timed) → batched (us ++ vs) s ≡ batched us s ++ batched vs s
 batched-append [] vs s = refl
@@ -74,7 +78,8 @@ by_instant_is us s r = order_from [] us s r
 -- what the two definitions of a range say
 same_range : (span t u : ℤ) → (int_le u t && int_le (later (pos 0) (t -ℤ span)) u) ≡ in_reach (Range span) t u
 same_range span t u = go (int_lt (pos 0) (t -ℤ span)) refl where
-  go : (b : Bool) → int_lt (pos 0) (t -ℤ span) ≡ b → (int_le u t && int_le (cond b (t -ℤ span) (pos 0)) u) ≡ (int_le u t && (int_le (t -ℤ span) u && int_le (pos 0) u))
+  go : (b : Bool) → int_lt (pos 0) (t -ℤ span) ≡ b
+      → (int_le u t && int_le (cond b (t -ℤ span) (pos 0)) u) ≡ (int_le u t && (int_le (t -ℤ span) u && int_le (pos 0) u))
   go true e = grind (arith, e)
   go false e = grind (arith, e)
 
@@ -85,9 +90,12 @@ filter-same p q (u ∷ us) h = ap (λ b. cond b (u ∷ filter p us) (filter p us
 -- a window on batches has the rows of the instants in reach
 window_rows : (w : Window) (t : ℤ) (us : List ℤ) (s : Timed) → Rises us → in_window w t (batched us s) ≡ kept w (flat_map s (filter (in_reach w t) us))
 window_rows Now t us s r = rows_where_is (λ u. int_eq u t) us s
-window_rows (Range span) t us s r = rows_where_is (λ u. int_le u t && int_le (later (pos 0) (t -ℤ span)) u) us s ∙ ap (flat_map s) (filter-same _ (in_reach (Range span) t) us (same_range span t))
+window_rows (Range span) t us s r =
+    rows_where_is (λ u. int_le u t && int_le (later (pos 0) (t -ℤ span)) u) us s
+    ∙ ap (flat_map s) (filter-same _ (in_reach (Range span) t) us (same_range span t))
 window_rows Unbounded t us s r = rows_where_is (λ u. int_le u t) us s
-window_rows (Latest n) t us s r = ap (λ l. contents.last_of n (rows_where (λ u. int_le u t) l)) (by_instant_is us s r) ∙ ap (contents.last_of n) (rows_where_is (λ u. int_le u t) us s)
+window_rows (Latest n) t us s r =
+    ap (λ l. contents.last_of n (rows_where (λ u. int_le u t) l)) (by_instant_is us s r) ∙ ap (contents.last_of n) (rows_where_is (λ u. int_le u t) us s)
 
 rises_front : (us vs : List ℤ) → Rises (us ++ vs) → Rises us
 rises_front [] vs r = tt
@@ -96,7 +104,8 @@ rises_front (u ∷ us) vs r = (front us r.0, rises_front us vs r.1) where
   front [] h = tt
   front (x ∷ xs) h = (h.0, front xs h.1)
 
-window_step : (w : Window) (ts : List ℤ) (s : Timed) → Rises ts → (us vs : List ℤ) (t : ℤ) → ts ≡ us ++ (t ∷ vs) → window_one w (spread us s) (item_at t (s t)) ≡ item_at t (in_order (windowed w ts s t)) ∷ []
+window_step : (w : Window) (ts : List ℤ) (s : Timed) → Rises ts → (us vs : List ℤ) (t : ℤ) → ts ≡ us ++ (t ∷ vs)
+    → window_one w (spread us s) (item_at t (s t)) ≡ item_at t (in_order (windowed w ts s t)) ∷ []
 window_step w ts s r us vs t e =
     let all : Rises (us ++ (t ∷ vs)) = subst Rises e r in
     let here : Rises (us ++ t ∷ []) = rises_front (us ++ t ∷ []) vs (subst Rises (sym (append_assoc us (t ∷ []) vs)) all) in
@@ -109,5 +118,7 @@ window_step w ts s r us vs t e =
     ∙ ap (λ l. in_order (kept w (flat_map s (filter (in_reach w t) l)))) (sym e) in
     ap (λ l. item_at t l ∷ []) rows
 
-pub window_fed : (w : Window) (ts : List ℤ) (s : Timed) → Rises ts → (feed (fire (window w) 0) (spread ts s) (first_kept (window w))).outs 0 ≡ spread ts (λ t. in_order (windowed w ts s t))
-window_fed w ts s r = received_fed (window_one w) [] (spread ts s) ∙ given_spread ts s (λ t. in_order (windowed w ts s t)) (window_one w) (window_step w ts s r) [] ts refl
+pub window_fed : (w : Window) (ts : List ℤ) (s : Timed) → Rises ts
+    → (feed (fire (window w) 0) (spread ts s) (first_kept (window w))).outs 0 ≡ spread ts (λ t. in_order (windowed w ts s t))
+window_fed w ts s r =
+    received_fed (window_one w) [] (spread ts s) ∙ given_spread ts s (λ t. in_order (windowed w ts s t)) (window_one w) (window_step w ts s r) [] ts refl

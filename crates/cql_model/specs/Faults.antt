@@ -1,5 +1,6 @@
 -- Why a program is refused: the first fault in reading order, and the unit in which it stands.
-use Rattle.std.specs.Prelude.{◌<◌, ◌≤◌, IsTrue, ◌≡◌, ℕ, ℤ, zero, suc, ◌+◌, Bool, true, false, ◌||◌, nat_lt, nat_eq, List, [], ◌∷◌, ◌++◌, length, Option, Some, None, if◌then◌else◌}
+use Rattle.std.specs.Prelude.{◌<◌, ◌≤◌, IsTrue, ◌≡◌, ℕ, ℤ, zero, suc, ◌+◌, Bool, true, false, ◌||◌, nat_lt, nat_eq, List, [], ◌∷◌, ◌++◌, length, Option, Some}
+use Rattle.std.specs.Prelude.{None, if◌then◌else◌}
 use Rattle.std.specs.List.{AllByRecursion}
 use Rattle.river_base.specs.Name.{name_eq}
 use Rattle.kern_bags.specs.declared.kernel.Window.{Window}
@@ -14,7 +15,8 @@ use Rattle.cql_model.specs.declared.fault.Refusal.{Refusal}
 use Rattle.cql_model.specs.Accepted.{has_no_at, declared, AreShallow, IsShallow, IsAccepted, exceeds}
 use Rattle.cql_model.specs.Instants.{program_means, inputs_for}
 use Rattle.cql_model.specs.Laws.{known_names, AreFiles}
-use Rattle.cql_model.specs.Program.{Scalar, Number, Field, ItemField, Neg, Not, Bin, Source, Column, Columns, Star, Chosen, Query, Register, Ask, Program, all_uses}
+use Rattle.cql_model.specs.Program.{Scalar, Number, Field, ItemField, Neg, Not, Bin, Source, Column, Columns, Star, Chosen, Query, Register, Ask, Program}
+use Rattle.cql_model.specs.Program.{all_uses}
 use Rattle.cql_model.specs.Scopes.{Named, item_named, scope_of}
 use Rattle.cql_model.specs.Translation.{widths_of, query_named, plan_of}
 

@@ -11,7 +11,8 @@ use Rattle.river_base.specs.declared.kind.QueueType.{QueueType}
 use Rattle.river_plan.specs.Forms.{Name, OpForm, PlanForm}
 use Rattle.river_plan.specs.Names.{count}
 use Rattle.river_plan.specs.Uses.{all_vars}
-use Rattle.cql_model.specs.Program.{Scalar, Number, Field, ItemField, Neg, Not, Bin, Source, Column, Columns, Star, Chosen, Query, Register, Ask, Program, registered, streams_of, all_uses}
+use Rattle.cql_model.specs.Program.{Scalar, Number, Field, ItemField, Neg, Not, Bin, Source, Column, Columns, Star, Chosen, Query, Register, Ask, Program}
+use Rattle.cql_model.specs.Program.{registered, streams_of, all_uses}
 use Rattle.cql_model.specs.Scopes.{Named, scope_of, column_names}
 
 -- PLACES OF FIELDS in the joined row of all items
@@ -154,7 +155,8 @@ query_named known q = record { name = q.name; fields = column_names (scope_of kn
 abbrev pub ask_ops : List Name → List Name → List Named → List Name → Program → List OpForm
 ask_ops inputs all known past [] = []
 ask_ops inputs all known past (Register name fields ∷ ps) = ask_ops inputs all (record { name = name; fields = fields } ∷ known) past ps
-ask_ops inputs all known past (Ask q ∷ ps) = query_ops inputs all known past q ++ ask_ops inputs all (query_named known q ∷ known) (past ++ streams_of q.items) ps
+ask_ops inputs all known past (Ask q ∷ ps) =
+    query_ops inputs all known past q ++ ask_ops inputs all (query_named known q ∷ known) (past ++ streams_of q.items) ps
 
 -- an input that is used more than once is copied first of all
 abbrev pub copy_ops : Name → ℕ → List OpForm

@@ -12,7 +12,8 @@ use Rattle.brooklet_model.proofs.Lists.{if_lt, if_ge, funext}
 use Rattle.brooklet_model.proofs.Solutions.{plan_solves, plan_unique}
 use Rattle.brooklet_model.proofs.Traces.{adds_it, adds_total}
 use Rattle.plan_edits.specs.Lists.{first_with, replaced}
-use Rattle.plan_edits.proofs.Surgery.{total-append, after, before_more, before_append, before_front, before_back, unread, found, first_past, all_agree, adds_it_same}
+use Rattle.plan_edits.proofs.Surgery.{total-append, after, before_more, before_append, before_front, before_back, unread, found, first_past, all_agree}
+use Rattle.plan_edits.proofs.Surgery.{adds_it_same}
 
 -- two runs of operators are taken out, and others are put in the place of the first
 pub record Edit (ops ops' : List OpForm) : Type 0 where
@@ -72,7 +73,8 @@ module _ (ops ops' : List OpForm) (e : Edit ops ops') where
 
   -- what holds of the parts that stay, and of what is put, holds of all new operators
   pub together : (P : OpForm → Type 0) → Each P e.before → Each P e.put → Each P e.middle → Each P e.behind → Each P ops'
-  together P a n b c = subst (Each P) (sym e.is') (each_append P e.before (e.put ++ (e.middle ++ e.behind)) a (each_append P e.put (e.middle ++ e.behind) n (each_append P e.middle e.behind b c)))
+  together P a n b c =
+      subst (Each P) (sym e.is') (each_append P e.before (e.put ++ (e.middle ++ e.behind)) a (each_append P e.put (e.middle ++ e.behind) n (each_append P e.middle e.behind b c)))
 
   -- what is put reads what was known, and writes all that is still read
   pub reordered : (k : Name → ℕ) → ReadsBefore k ops → (ReadsBefore (after k e.before) e.first → ReadsBefore (after k e.before) e.put)
@@ -110,7 +112,8 @@ module _ (p p' : PlanForm) (v : IsPlan p) (v' : IsPlan p') (e : Edit p.ops p'.op
         (go e.before (λ q lt. omega (arith, lt)) a.front) s (go e.middle (λ q lt. omega (arith, lt)) a.mid) (go e.behind (λ q lt. omega (arith, lt)) a.back)) q
 
     -- the rows, but for those of what was taken and put
-    pub edited_adds : (tables : List Name) (t : Name) (test : List ℤ → Bool) → count_by test (adds tables p'.ops (histories p'.ops g) t) + (total (adds_it tables (histories p.ops g) t test) e.first + total (adds_it tables (histories p.ops g) t test) e.second) ≡ count_by test (adds tables p.ops (histories p.ops g) t) + total (adds_it tables h' t test) e.put
+    pub edited_adds : (tables : List Name) (t : Name) (test : List ℤ → Bool)
+        → count_by test (adds tables p'.ops (histories p'.ops g) t) + (total (adds_it tables (histories p.ops g) t test) e.first + total (adds_it tables (histories p.ops g) t test) e.second) ≡ count_by test (adds tables p.ops (histories p.ops g) t) + total (adds_it tables h' t test) e.put
     edited_adds tables t test =
         let h = histories p.ops g in
         let a = ap (λ u. count_by test (adds tables p'.ops u t)) (funext (histories p'.ops g) h' (λ q. sym (edited q))) in
@@ -141,7 +144,8 @@ pub record Cut (ops : List OpForm) (q : Name) (w r : OpForm) : Type 0 where
   pub behind_r : total (reads_it q) behind ≡ 0
 
 -- in a valid plan, all that is written to a queue stands before its reader
-pub cut_of : (p : PlanForm) (q : Name) (w r : OpForm) → IsPlan p → first_with (writes_it q) p.ops ≡ Some w → first_with (reads_it q) p.ops ≡ Some r → Cut p.ops q w r
+pub cut_of : (p : PlanForm) (q : Name) (w r : OpForm) → IsPlan p → first_with (writes_it q) p.ops ≡ Some w → first_with (reads_it q) p.ops ≡ Some r
+    → Cut p.ops q w r
 cut_of p q w r v mw mr =
     let k : Name → ℕ = λ x. count x (decl_names p.inputs) in
     let fw = found (writes_it q) p.ops w mw in
@@ -184,7 +188,8 @@ cut_of p q w r v mw mr =
       behind_r = omega (arith, tr, tr', once_r, has_r);
     }
 
-replaced_past : (q : Name) (news xs ys : List OpForm) → total (writes_it q) xs ≡ 0 → total (reads_it q) xs ≡ 0 → replaced q news (xs ++ ys) ≡ xs ++ replaced q news ys
+replaced_past : (q : Name) (news xs ys : List OpForm) → total (writes_it q) xs ≡ 0 → total (reads_it q) xs ≡ 0
+    → replaced q news (xs ++ ys) ≡ xs ++ replaced q news ys
 replaced_past q news [] ys a b = refl
 replaced_past q news (x ∷ xs) ys a b =
     if_ge 0 (count q x.writes) _ _ (omega (arith, a)) ∙ if_ge 0 (count q x.reads) _ _ (omega (arith, b))
@@ -197,7 +202,8 @@ replaced_all q news (x ∷ xs) a b =
     ∙ ap (λ l. x ∷ l) (replaced_all q news xs (omega (arith, a)) (omega (arith, b)))
 
 -- what the replacing makes of the operators that are cut there
-pub replaced_is : (ops : List OpForm) (q : Name) (w r : OpForm) (news : List OpForm) (c : Cut ops q w r) → replaced q news ops ≡ c.before ++ (news ++ (c.middle ++ c.behind))
+pub replaced_is : (ops : List OpForm) (q : Name) (w r : OpForm) (news : List OpForm) (c : Cut ops q w r)
+    → replaced q news ops ≡ c.before ++ (news ++ (c.middle ++ c.behind))
 replaced_is ops q w r news c =
     ap (replaced q news) c.is
     ∙ replaced_past q news c.before _ c.before_w c.before_r
@@ -209,4 +215,5 @@ replaced_is ops q w r news c =
 
 -- the replacing as an edit
 abbrev pub edit_of : (ops : List OpForm) (q : Name) (w r : OpForm) (news : List OpForm) → Cut ops q w r → Edit ops (replaced q news ops)
-edit_of ops q w r news c = record { before = c.before; first = w ∷ []; middle = c.middle; second = r ∷ []; behind = c.behind; put = news; is = c.is; is' = replaced_is ops q w r news c }
+edit_of ops q w r news c =
+    record { before = c.before; first = w ∷ []; middle = c.middle; second = r ∷ []; behind = c.behind; put = news; is = c.is; is' = replaced_is ops q w r news c }

@@ -25,7 +25,8 @@ if_either false x o p = refl
 -- the type of a name in two lists of declarations: the first that has it
 pub kind_in-append : (xs ys : List Decl) (q : Name) → kind_in (xs ++ ys) q ≡ either (kind_in xs q) (kind_in ys q)
 kind_in-append [] ys q = refl
-kind_in-append (x ∷ xs) ys q = ap (λ o. if name_eq x.name q then Some x.kind else o) (kind_in-append xs ys q) ∙ if_either (name_eq x.name q) x.kind (kind_in xs q) (kind_in ys q)
+kind_in-append (x ∷ xs) ys q =
+    ap (λ o. if name_eq x.name q then Some x.kind else o) (kind_in-append xs ys q) ∙ if_either (name_eq x.name q) x.kind (kind_in xs q) (kind_in ys q)
 
 -- two functions that agree on all names of a list
 pub map_agree : {A : Type 0} (f g : Name → A) (rs : List Name) → ((x : Name) → 0 < count x rs → f x ≡ g x) → map f rs ≡ map g rs
@@ -86,7 +87,8 @@ kind_sized (d ∷ ds) q h lt = ⊎_elim
 
 -- a variable that is no table, and is declared, is private
 pub private_is : (ts : List TableDecl) (vars : List Name) (x : Name) → count x (table_names ts) ≡ 0 → 0 < count x vars → var_kind ts vars x ≡ Private
-private_is ts vars x z lt = ap (λ o. unwrap_or (either o (private_in vars x)) (Table 0)) (no_table ts x z) ∙ ap (λ o. unwrap_or o (Table 0)) (private_there vars x lt)
+private_is ts vars x z lt =
+    ap (λ o. unwrap_or (either o (private_in vars x)) (Table 0)) (no_table ts x z) ∙ ap (λ o. unwrap_or o (Table 0)) (private_there vars x lt)
 
 -- a table is what it is whatever the private variables are
 pub table_is : (ts : List TableDecl) (vars vars' : List Name) (x : Name) → 0 < count x (table_names ts) → var_kind ts vars x ≡ var_kind ts vars' x

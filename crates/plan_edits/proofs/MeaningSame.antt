@@ -11,7 +11,8 @@ use Rattle.river_base.specs.Bags.{SameBag}
 use Rattle.plan_edits.specs.Meaning.{SameOuter, SameMeaning}
 use Rattle.plan_edits.proofs.Lookups.{map_agree}
 
-tables_same : (f g : Name → List (List ℤ)) (ts : List TableDecl) → ((x : Name) → SameBag (f x) (g x)) → map (λ (t : TableDecl). tab t.kind (f t.name)) ts ≡ map (λ (t : TableDecl). tab t.kind (g t.name)) ts
+tables_same : (f g : Name → List (List ℤ)) (ts : List TableDecl) → ((x : Name) → SameBag (f x) (g x))
+    → map (λ (t : TableDecl). tab t.kind (f t.name)) ts ≡ map (λ (t : TableDecl). tab t.kind (g t.name)) ts
 tables_same f g [] h = refl
 tables_same f g (t ∷ ts) h =
     ap (λ x. x ∷ map (λ (u : TableDecl). tab u.kind (f u.name)) ts) (tables_are_of_bags t.kind (f t.name) (g t.name) (h t.name))

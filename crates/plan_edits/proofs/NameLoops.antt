@@ -13,7 +13,8 @@ pub next_take : {A : Type 0} (xs : List A) (i : ℕ) (x : A) → i < length xs �
 next_take xs i x lt e = take_more xs i x lt ∙ ap (λ y. take i xs ++ y ∷ []) (sym e)
 
 -- another name is not the one that is looked for
-pub none_next : (q : Name) (xs : List Name) (i : ℕ) (x : Name) → i < length xs → x ≡ get_or xs i x → name_eq x q ≡ false → count q (take i xs) ≡ 0 → count q (take (i + 1) xs) ≡ 0
+pub none_next : (q : Name) (xs : List Name) (i : ℕ) (x : Name) → i < length xs → x ≡ get_or xs i x → name_eq x q ≡ false → count q (take i xs) ≡ 0
+    → count q (take (i + 1) xs) ≡ 0
 none_next q xs i x lt e n z =
     let a = ap (count q) (next_take xs i x lt e) in
     let b = count-append q (take i xs) (x ∷ []) in
@@ -27,7 +28,8 @@ there_at q (y ∷ xs) zero x lt e t = let d = ap one_if (sym (ap (λ n. name_eq 
 there_at q (y ∷ xs) (suc i) x lt e t = let r = there_at q xs i x (omega (arith, lt)) e t in omega (arith, r)
 
 -- the first place of the name
-pub place_at : (q : Name) (xs : List Name) (i : ℕ) (x : Name) → i < length xs → x ≡ get_or xs i x → name_eq x q ≡ true → count q (take i xs) ≡ 0 → i ≡ place q xs
+pub place_at : (q : Name) (xs : List Name) (i : ℕ) (x : Name) → i < length xs → x ≡ get_or xs i x → name_eq x q ≡ true → count q (take i xs) ≡ 0
+    → i ≡ place q xs
 place_at q [] i x lt e t z = absurd (omega (arith, lt))
 place_at q (y ∷ xs) zero x lt e t z = sym (if_true (name_eq y q) 0 (suc (place q xs)) (sym (ap (λ n. name_eq n q) e) ∙ t))
 place_at q (y ∷ xs) (suc i) x lt e t z = ⊎_elim

@@ -22,7 +22,8 @@ abbrev pub after : (Name → ℕ) → List OpForm → Name → ℕ
 after known xs q = known q + total (writes_it q) xs
 
 -- where more is known, operators that read what was known still do
-pub before_more : (ops : List OpForm) (k k' : Name → ℕ) → ((q : Name) → 0 < total (reads_it q) ops → 0 < k q → 0 < k' q) → ReadsBefore k ops → ReadsBefore k' ops
+pub before_more : (ops : List OpForm) (k k' : Name → ℕ) → ((q : Name) → 0 < total (reads_it q) ops → 0 < k q → 0 < k' q) → ReadsBefore k ops
+    → ReadsBefore k' ops
 before_more [] k k' m r = tt
 before_more (op ∷ ops) k k' m r = (
   (λ q lt. m q (omega (arith, lt)) (r.0 q lt)),
@@ -34,7 +35,8 @@ before_more (op ∷ ops) k k' m r = (
 -- two lists of operators in order, one after the other
 pub before_append : (xs ys : List OpForm) (k : Name → ℕ) → ReadsBefore k xs → ReadsBefore (after k xs) ys → ReadsBefore k (xs ++ ys)
 before_append [] ys k a b = before_more ys (after k []) k (λ q lr lt. omega (arith, lt)) b
-before_append (x ∷ xs) ys k a b = (a.0, before_append xs ys (and_writes k x) a.1 (before_more ys (after k (x ∷ xs)) (after (and_writes k x) xs) (λ q lr lt. omega (arith, lt)) b))
+before_append (x ∷ xs) ys k a b =
+    (a.0, before_append xs ys (and_writes k x) a.1 (before_more ys (after k (x ∷ xs)) (after (and_writes k x) xs) (λ q lr lt. omega (arith, lt)) b))
 
 -- the front of operators that are in order
 pub before_front : (xs ys : List OpForm) (k : Name → ℕ) → ReadsBefore k (xs ++ ys) → ReadsBefore k xs
@@ -44,7 +46,8 @@ before_front (x ∷ xs) ys k h = (h.0, before_front xs ys (and_writes k x) h.1)
 -- the back of operators that are in order
 pub before_back : (xs ys : List OpForm) (k : Name → ℕ) → ReadsBefore k (xs ++ ys) → ReadsBefore (after k xs) ys
 before_back [] ys k h = before_more ys k (after k []) (λ q lr lt. omega (arith, lt)) h
-before_back (x ∷ xs) ys k h = before_more ys (after (and_writes k x) xs) (after k (x ∷ xs)) (λ q lr lt. omega (arith, lt)) (before_back xs ys (and_writes k x) h.1)
+before_back (x ∷ xs) ys k h =
+    before_more ys (after (and_writes k x) xs) (after k (x ∷ xs)) (λ q lr lt. omega (arith, lt)) (before_back xs ys (and_writes k x) h.1)
 
 -- a queue that nobody has written is not read
 pub unread : (ops : List OpForm) (k : Name → ℕ) (q : Name) → ReadsBefore k ops → k q ≡ 0 → total (writes_it q) ops ≡ 0 → total (reads_it q) ops ≡ 0
@@ -84,14 +87,16 @@ first_past f [] ys z = refl
 first_past f (x ∷ xs) ys z = if_ge 0 (f x) (Some x) (first_with f (xs ++ ys)) (omega (arith, z)) ∙ first_past f xs ys (omega (arith, z))
 
 -- the rows for a table depend on the histories that are read alone
-pub adds_same : (tables : List Name) (ops : List OpForm) (h h' : History) (t : Name) → ((q : Name) → 0 < total (reads_it q) ops → h q ≡ h' q) → adds tables ops h t ≡ adds tables ops h' t
+pub adds_same : (tables : List Name) (ops : List OpForm) (h h' : History) (t : Name) → ((q : Name) → 0 < total (reads_it q) ops → h q ≡ h' q)
+    → adds tables ops h t ≡ adds tables ops h' t
 adds_same tables [] h h' t e = refl
 adds_same tables (op ∷ ops) h h' t e =
     ap (λ g. joined (tables_of tables op) g.adds t ++ adds tables ops h t) (given_same op h h' (λ q lt. e q (omega (arith, lt))))
     ∙ ap (λ l. joined (tables_of tables op) (given op h').adds t ++ l) (adds_same tables ops h h' t (λ q lt. e q (omega (arith, lt))))
 
 -- histories that agree on all that operators read and write solve the same equations
-pub all_agree : (ops : List OpForm) (h h' : History) → ((q : Name) → 0 < total (reads_it q) ops + total (writes_it q) ops → h q ≡ h' q) → Each (Solves h) ops → Each (Solves h') ops
+pub all_agree : (ops : List OpForm) (h h' : History) → ((q : Name) → 0 < total (reads_it q) ops + total (writes_it q) ops → h q ≡ h' q) → Each (Solves h) ops
+    → Each (Solves h') ops
 all_agree [] h h' e s = tt
 all_agree (op ∷ ops) h h' e s = (
   lists_agree op.writes (given op h').outs h h' (λ q lt. e q (omega (arith, lt)))
@@ -100,8 +105,10 @@ all_agree (op ∷ ops) h h' e s = (
 )
 
 -- the same for the number of rows that pass a test
-pub adds_it_same : (tables : List Name) (ops : List OpForm) (h h' : History) (t : Name) (test : List ℤ → Bool) → ((q : Name) → 0 < total (reads_it q) ops → h q ≡ h' q) → total (adds_it tables h t test) ops ≡ total (adds_it tables h' t test) ops
-adds_it_same tables ops h h' t test e = sym (adds_total tables ops h t test) ∙ ap (count_by test) (adds_same tables ops h h' t e) ∙ adds_total tables ops h' t test
+pub adds_it_same : (tables : List Name) (ops : List OpForm) (h h' : History) (t : Name) (test : List ℤ → Bool)
+    → ((q : Name) → 0 < total (reads_it q) ops → h q ≡ h' q) → total (adds_it tables h t test) ops ≡ total (adds_it tables h' t test) ops
+adds_it_same tables ops h h' t test e =
+    sym (adds_total tables ops h t test) ∙ ap (count_by test) (adds_same tables ops h h' t e) ∙ adds_total tables ops h' t test
 
 -- the number at the operator that was found is within the sum
 pub at_most_all : (l : Name) (f : OpForm → ℕ) (ops : List OpForm) (op : OpForm) → first_with (named_it l) ops ≡ Some op → f op ≤ total f ops

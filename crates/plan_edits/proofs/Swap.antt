@@ -52,7 +52,8 @@ module _ (ops ops' : List OpForm) (op : OpForm) (put : List OpForm) (e : Swap op
   it_is P h = (each_back P e.before (op ∷ e.behind) (subst (Each P) e.is h)).0
 
   -- what holds of those that stay, and of those that are put
-  pub together : (P Q : OpForm → Type 0) → Each P ops → ((xs : List OpForm) → ((f : OpForm → ℕ) → total f xs ≤ stay f) → Each P xs → Each Q xs) → Each Q put → Each Q ops'
+  pub together : (P Q : OpForm → Type 0) → Each P ops → ((xs : List OpForm) → ((f : OpForm → ℕ) → total f xs ≤ stay f) → Each P xs → Each Q xs) → Each Q put
+      → Each Q ops'
   together P Q h keep n =
       let h1 = subst (Each P) e.is h in
       subst (Each Q) (sym e.is')

@@ -24,18 +24,22 @@ use Rattle.plan_edits.specs.Lists.{undeclared}
 use Rattle.plan_edits.proofs.Lookups.{map_agree, table_there, no_table, private_there}
 
 -- what an operator fits depends on the types of what it reads and writes alone
-pub fits_agree : (kind kind' : Name → QueueType) (var : Name → VarKind) (op : OpForm) → ((x : Name) → 0 < count x op.reads + count x op.writes → kind x ≡ kind' x) → FitsAt kind var op → FitsAt kind' var op
+pub fits_agree : (kind kind' : Name → QueueType) (var : Name → VarKind) (op : OpForm)
+    → ((x : Name) → 0 < count x op.reads + count x op.writes → kind x ≡ kind' x) → FitsAt kind var op → FitsAt kind' var op
 fits_agree kind kind' var op e h =
     subst (λ l. Fits op.kernel l (map kind' op.writes) (map var op.vars)) (map_agree kind kind' op.reads (λ x lt. e x (omega (arith, lt))))
     (subst (λ l. Fits op.kernel (map kind op.reads) l (map var op.vars)) (map_agree kind kind' op.writes (λ x lt. e x (omega (arith, lt)))) h)
 
 -- the same for all of these operators
-pub each_fits : (kind kind' : Name → QueueType) (var : Name → VarKind) (ops : List OpForm) → ((x : Name) → 0 < total (reads_it x) ops + total (writes_it x) ops → kind x ≡ kind' x) → Each (FitsAt kind var) ops → Each (FitsAt kind' var) ops
+pub each_fits : (kind kind' : Name → QueueType) (var : Name → VarKind) (ops : List OpForm)
+    → ((x : Name) → 0 < total (reads_it x) ops + total (writes_it x) ops → kind x ≡ kind' x) → Each (FitsAt kind var) ops → Each (FitsAt kind' var) ops
 each_fits kind kind' var [] e h = tt
-each_fits kind kind' var (op ∷ ops) e h = (fits_agree kind kind' var op (λ x lt. e x (omega (arith, lt))) h.0, each_fits kind kind' var ops (λ x lt. e x (omega (arith, lt))) h.1)
+each_fits kind kind' var (op ∷ ops) e h =
+    (fits_agree kind kind' var op (λ x lt. e x (omega (arith, lt))) h.0, each_fits kind kind' var ops (λ x lt. e x (omega (arith, lt))) h.1)
 
 -- how often a name is still declared
-pub undeclared_count : (q x : Name) (ds : List Decl) → 0 < count q (decl_names ds) → count x (decl_names (undeclared q ds)) + one_if (name_eq q x) ≡ count x (decl_names ds)
+pub undeclared_count : (q x : Name) (ds : List Decl) → 0 < count q (decl_names ds)
+    → count x (decl_names (undeclared q ds)) + one_if (name_eq q x) ≡ count x (decl_names ds)
 undeclared_count q x [] lt = absurd (omega (arith, lt))
 undeclared_count q x (d ∷ ds) lt = ⊎_elim
     (λ c. let e = ap (λ l. count x (decl_names l)) (if_true (name_eq d.name q) ds (d ∷ undeclared q ds) c.1) in let f = ap (λ n. one_if (name_eq n x)) c.0 in omega (arith, e, f))
@@ -78,7 +82,8 @@ undeclared_length q (d ∷ ds) = ⊎_elim
     (cases_name d.name q)
 
 -- an operator has as many tables as its variables that are tables
-pub tables_length : (ts : List TableDecl) (ps vs : List Name) → ((v : Name) → 0 < count v vs → 0 < count v (table_names ts ++ ps)) → length (filter (λ v. nat_lt 0 (count v (table_names ts))) vs) ≡ tables_in (map (var_kind ts ps) vs)
+pub tables_length : (ts : List TableDecl) (ps vs : List Name) → ((v : Name) → 0 < count v vs → 0 < count v (table_names ts ++ ps))
+    → length (filter (λ v. nat_lt 0 (count v (table_names ts))) vs) ≡ tables_in (map (var_kind ts ps) vs)
 tables_length ts ps [] d = refl
 tables_length ts ps (v ∷ vs) d =
     let i = tables_length ts ps vs (λ x lt. d x (omega (arith, lt))) in

@@ -1,5 +1,6 @@
 -- The body of a program's plan does what the program does as it is written.
-use Rattle.std.proofs.Common.{◌≡◌, ℕ, zero, suc, ℤ, pos, ◌+◌, ◌<◌, ◌≤◌, Bool, true, false, List, [], ◌∷◌, ◌++◌, length, take, map, Option, Some, None, Result, Ok, Err, refl, sym, ap, ◌∙◌, subst, arith, append_assoc, nat_lt, nat_le, ⊎_elim}
+use Rattle.std.proofs.Common.{◌≡◌, ℕ, zero, suc, ℤ, pos, ◌+◌, ◌<◌, ◌≤◌, Bool, true, false, List, [], ◌∷◌, ◌++◌, length, take, map, Option, Some, None, Result}
+use Rattle.std.proofs.Common.{Ok, Err, refl, sym, ap, ◌∙◌, subst, arith, append_assoc, nat_lt, nat_le, ⊎_elim}
 use Rattle.std.specs.Prelude.{if◌then◌else◌, slice_get, slice_index_or, slice_set}
 use Rattle.std.specs.Ordering.{int_eq}
 use Rattle.std.proofs.lemmas.List.{append-nil, get_or-set_same, get_or-set_other}
@@ -20,7 +21,8 @@ use Rattle.brooklet_model.specs.Machine.{at_name}
 use Rattle.text_forms.specs.Tree.{Spoken}
 use Rattle.text_forms.specs.Tree as tree
 use Rattle.saw_model.specs.Source.{Values, said, Emitted, Now, said_or, said_all, listed, reach, reach_all}
-use Rattle.saw_model.specs.Elaborate.{Fault, Limit, on_ok, demand, Known, Var, Port, Scope, find, named, term_of, At, counted, first_term, indexes_of, weight_of, joined, one_step}
+use Rattle.saw_model.specs.Elaborate.{Fault, Limit, on_ok, demand, Known, Var, Port, Scope, find, named, term_of, At, counted, first_term, indexes_of}
+use Rattle.saw_model.specs.Elaborate.{weight_of, joined, one_step}
 
 -- ANSWERS
 
@@ -154,8 +156,10 @@ sound_port n p k sc slots s = record {
 }
 
 -- a slot is set to its name's new value
-pub agrees_set : (n : Name) (i : ℕ) (z : ℤ) (sc : Scope) (slots : ℕ) (env : Values) (mem : List ℤ) → IsSound sc slots → slots ≤ length mem → find sc n ≡ Some (Var i)
-    → ((m : Name) (j : ℕ) → name_eq n m ≡ false → find sc m ≡ Some (Var j) → slice_index_or mem j (pos 0) ≡ env m) → Agrees sc (at_name n z env) (slice_set mem i z)
+pub agrees_set : (n : Name) (i : ℕ) (z : ℤ) (sc : Scope) (slots : ℕ) (env : Values) (mem : List ℤ) → IsSound sc slots → slots ≤ length mem
+    → find sc n ≡ Some (Var i)
+    → ((m : Name) (j : ℕ) → name_eq n m ≡ false → find sc m ≡ Some (Var j) → slice_index_or mem j (pos 0) ≡ env m)
+    → Agrees sc (at_name n z env) (slice_set mem i z)
 agrees_set n i z sc slots env mem s len f others = record {
   each = λ m j g. ⊎_elim
       (λ e.
@@ -174,7 +178,8 @@ take_index (suc w) p [] h = refl
 take_index (suc w) zero (x ∷ xs) h = refl
 take_index (suc w) (suc p) (x ∷ xs) h = take_index w p xs (omega (arith, h))
 
-named_is : (o : Option Known) (u : Term) (z : ℤ) (xs mem : List ℤ) → ((i : ℕ) → o ≡ Some (Var i) → slice_index_or mem i (pos 0) ≡ z) → named o ≡ Ok u → z ≡ val u xs mem
+named_is : (o : Option Known) (u : Term) (z : ℤ) (xs mem : List ℤ) → ((i : ℕ) → o ≡ Some (Var i) → slice_index_or mem i (pos 0) ≡ z) → named o ≡ Ok u
+    → z ≡ val u xs mem
 named_is None u z xs mem h c = absurd (cc c)
 named_is (Some (Var i)) u z xs mem h c = sym (h i refl) ∙ ap (λ t. val t xs mem) (ok_is (term.Slot i) u c)
 named_is (Some (Port p k)) u z xs mem h c = absurd (cc c)
@@ -183,10 +188,12 @@ module _ (w : ℕ) (r : List ℤ) where
   abbrev pub fields : List ℤ
   fields = take w r
 
-  pub term_is : (sc : Scope) (t : Spoken) (env : Values) (mem : List ℤ) (u : Term) → reach t ≤ w → Agrees sc env mem → term_of sc t ≡ Ok u → said t r env ≡ val u fields mem
+  pub term_is : (sc : Scope) (t : Spoken) (env : Values) (mem : List ℤ) (u : Term) → reach t ≤ w → Agrees sc env mem → term_of sc t ≡ Ok u
+      → said t r env ≡ val u fields mem
   term_is sc (tree.Number v) env mem u h a c = ap (λ t. val t fields mem) (ok_is (term.Const (pos v)) u c)
   term_is sc (tree.Name n) env mem u h a c = named_is (find sc n) u (env n) fields mem (a.each n) c
-  term_is sc (tree.Input p) env mem u h a c = take_index w p r h ∙ ap (λ t. val t fields mem) (ok_is (term.Input p) u (if_ok (nat_le p 15) (Ok (term.Input p)) u Limit c))
+  term_is sc (tree.Input p) env mem u h a c =
+      take_index w p r h ∙ ap (λ t. val t fields mem) (ok_is (term.Input p) u (if_ok (nat_le p 15) (Ok (term.Input p)) u Limit c))
   term_is sc (tree.Slot p) env mem u h a c = absurd (cc c)
   term_is sc (tree.Peek t) env mem u h a c = absurd (cc c)
   term_is sc tree.Pop env mem u h a c = absurd (cc c)
@@ -206,11 +213,13 @@ module _ (w : ℕ) (r : List ℤ) where
   abbrev pub vals : List Term → List ℤ → List ℤ
   vals us mem = map (λ t. val t fields mem) us
 
-  pub first_is : (t : Option Spoken) (sc : Scope) (env : Values) (mem : List ℤ) (u : Term) → reach_all (listed t) ≤ w → Agrees sc env mem → first_term t sc ≡ Ok u → said_or (pos 0) t r env ≡ val u fields mem
+  pub first_is : (t : Option Spoken) (sc : Scope) (env : Values) (mem : List ℤ) (u : Term) → reach_all (listed t) ≤ w → Agrees sc env mem
+      → first_term t sc ≡ Ok u → said_or (pos 0) t r env ≡ val u fields mem
   first_is None sc env mem u h a c = ap (λ t. val t fields mem) (ok_is (term.Const (pos 0)) u c)
   first_is (Some t) sc env mem u h a c = term_is sc t env mem u (omega (arith, h)) a c
 
-  pub indexes_are : (sc : Scope) (n : ℕ) (ts : List Spoken) (env : Values) (mem : List ℤ) (us : List Term) → reach_all ts ≤ w → Agrees sc env mem → indexes_of sc n ts ≡ Ok us → said_all ts r env ≡ vals us mem
+  pub indexes_are : (sc : Scope) (n : ℕ) (ts : List Spoken) (env : Values) (mem : List ℤ) (us : List Term) → reach_all ts ≤ w → Agrees sc env mem
+      → indexes_of sc n ts ≡ Ok us → said_all ts r env ≡ vals us mem
   indexes_are sc n [] env mem us h a c = ap (λ l. vals l mem) (ok_is [] us c)
   indexes_are sc n (t ∷ ts) env mem us h a c =
       let c2 = if_ok (nat_lt n 8) (on_ok (term_of sc t) (λ u. on_ok (indexes_of sc (n + 1) ts) (λ us. Ok (u ∷ us)))) us Limit c in
@@ -220,7 +229,8 @@ module _ (w : ℕ) (r : List ℤ) where
       let more = indexes_are sc (n + 1) ts env mem q.0 (omega (arith, h)) a q.1 in
       (λ i. one i ∷ more i) ∙ ap (λ l. vals l mem) (ok_is (p.0 ∷ q.0) us q.2)
 
-  pub weight_is : (k : TableKind) (t : Option Spoken) (sc : Scope) (env : Values) (mem : List ℤ) (us : List Term) → reach_all (listed t) ≤ w → Agrees sc env mem → weight_of k t sc ≡ Ok us → said_all (listed t) r env ≡ vals us mem
+  pub weight_is : (k : TableKind) (t : Option Spoken) (sc : Scope) (env : Values) (mem : List ℤ) (us : List Term) → reach_all (listed t) ≤ w → Agrees sc env mem
+      → weight_of k t sc ≡ Ok us → said_all (listed t) r env ≡ vals us mem
   weight_is (Sum keys) None sc env mem us h a c = ap (λ l. vals l mem) (ok_is [] us c)
   weight_is (Sum keys) (Some t) sc env mem us h a c = absurd (cc c)
   weight_is (Collection keys) None sc env mem us h a c = ap (λ l. vals l mem) (ok_is [] us c)
@@ -291,7 +301,8 @@ Matches ts [] (p ∷ ps) = ⊥
 Matches ts (e ∷ es) [] = ⊥
 Matches ts (e ∷ es) (p ∷ ps) = (k : TableKind) × (slice_get ts p.0 ≡ Some (record { name = e.0; kind = k })) × (e.1 ≡ p.1) × Matches ts es ps
 
-pub matches-append : (ts : List TableDecl) (es fs : List Emitted) (ps qs : List (ℕ × List ℤ)) → Matches ts es ps → Matches ts fs qs → Matches ts (es ++ fs) (ps ++ qs)
+pub matches-append : (ts : List TableDecl) (es fs : List Emitted) (ps qs : List (ℕ × List ℤ)) → Matches ts es ps → Matches ts fs qs
+    → Matches ts (es ++ fs) (ps ++ qs)
 matches-append ts [] fs [] qs m n = n
 matches-append ts [] fs (p ∷ ps) qs m n = absurd m
 matches-append ts (e ∷ es) fs [] qs m n = absurd m
@@ -304,7 +315,8 @@ pub record Met (ts : List TableDecl) (now now' : Now) (sc' : Scope) (run : Ran) 
   pub emitted_are : now'.emitted ≡ now.emitted ++ new
   pub matches : Matches ts new run.pushes
 
-pub ran_joined : (a b : Steps) (xs mem : List ℤ) → ran (joined a b) xs mem ≡ record { pushes = (ran a xs mem).pushes ++ (ran b xs (ran a xs mem).slots).pushes; slots = (ran b xs (ran a xs mem).slots).slots }
+pub ran_joined : (a b : Steps) (xs mem : List ℤ)
+    → ran (joined a b) xs mem ≡ record { pushes = (ran a xs mem).pushes ++ (ran b xs (ran a xs mem).slots).pushes; slots = (ran b xs (ran a xs mem).slots).slots }
 ran_joined Done b xs mem = refl
 ran_joined (steps.Then s ss) b xs mem =
     let first = ran_once s xs mem in
@@ -313,10 +325,12 @@ ran_joined (steps.Then s ss) b xs mem =
 
 module _ (w : ℕ) (r : List ℤ) (ts : List TableDecl) where
   -- steps that push nothing and leave the slots
-  pub none_met : (now now' : Now) (sc : Scope) (mem : List ℤ) → now'.emitted ≡ now.emitted → Agrees sc now'.values mem → Met ts now now' sc (record { pushes = []; slots = mem })
+  pub none_met : (now now' : Now) (sc : Scope) (mem : List ℤ) → now'.emitted ≡ now.emitted → Agrees sc now'.values mem
+      → Met ts now now' sc (record { pushes = []; slots = mem })
   none_met now now' sc mem e a = record { agrees = a; new = []; emitted_are = e ∙ sym (append-nil now.emitted); matches = tt }
 
-  pub met_more : (now mid now' : Now) (sc sc' : Scope) (a b : Steps) (mem : List ℤ) → Met ts now mid sc (ran a (take w r) mem) → Met ts mid now' sc' (ran b (take w r) (ran a (take w r) mem).slots) → Met ts now now' sc' (ran (joined a b) (take w r) mem)
+  pub met_more : (now mid now' : Now) (sc sc' : Scope) (a b : Steps) (mem : List ℤ) → Met ts now mid sc (ran a (take w r) mem)
+      → Met ts mid now' sc' (ran b (take w r) (ran a (take w r) mem).slots) → Met ts now now' sc' (ran (joined a b) (take w r) mem)
   met_more now mid now' sc sc' a b mem m n = subst (Met ts now now' sc') (sym (ran_joined a b (take w r) mem)) (record {
     agrees = n.agrees;
     new = m.new ++ n.new;

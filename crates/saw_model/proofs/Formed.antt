@@ -1,5 +1,6 @@
 -- What is read is well formed, and within its limits.
-use Rattle.std.proofs.Common.{◌≡◌, ℕ, zero, suc, ℤ, pos, ◌+◌, ◌<◌, ◌≤◌, Bool, true, List, [], ◌∷◌, ◌++◌, length, map, Option, Some, None, Ok, refl, sym, ap, ◌∙◌, subst, arith, nat_lt, nat_le, nat_eq, length-append, append_assoc}
+use Rattle.std.proofs.Common.{◌≡◌, ℕ, zero, suc, ℤ, pos, ◌+◌, ◌<◌, ◌≤◌, Bool, true, List, [], ◌∷◌, ◌++◌, length, map, Option, Some, None, Ok, refl, sym, ap}
+use Rattle.std.proofs.Common.{◌∙◌, subst, arith, nat_lt, nat_le, nat_eq, length-append, append_assoc}
 use Rattle.std.specs.Prelude.{◌&&◌, max, slice_get}
 use Rattle.std.specs.List.{list_all}
 use Rattle.std.proofs.lemmas.Bool.{and_parts}
@@ -17,9 +18,11 @@ use Rattle.river_plan.specs.Forms.{Name}
 use Rattle.river_plan.specs.declared.plan.TableDecl.{TableDecl}
 use Rattle.text_forms.specs.Tree.{Spoken}
 use Rattle.text_forms.specs.Tree as tree
-use Rattle.saw_model.specs.Source.{Statement, Declare, Assign, Emit, If, Block, End, Then, Part, Table, Does, Program, tables_in, listed, parts_of, reach, reach_all, reach_once, reach_block, reach_parts}
+use Rattle.saw_model.specs.Source.{Statement, Declare, Assign, Emit, If, Block, End, Then, Part, Table, Does, Program, tables_in, listed, parts_of, reach}
+use Rattle.saw_model.specs.Source.{reach_all, reach_once, reach_block, reach_parts}
 use Rattle.saw_model.specs.Shallow.{IsLow, AreLow, IsShallow, AreShallow, AreShallowParts}
-use Rattle.saw_model.specs.Elaborate.{Limit, on_ok, Known, Var, Port, Scope, find, named, term_of, At, first_term, indexes_of, keys_in, weight_of, joined, one_step, step_of, steps_of, part_of}
+use Rattle.saw_model.specs.Elaborate.{Limit, on_ok, Known, Var, Port, Scope, find, named, term_of, At, first_term, indexes_of, keys_in, weight_of, joined}
+use Rattle.saw_model.specs.Elaborate.{one_step, step_of, steps_of, part_of}
 use Rattle.saw_model.proofs.Elaborated.{fine, ok_is, ok_parts, if_ok, if_both, IsSound, ArePorts, more_slots, sound_port, one_more}
 use Rattle.saw_model.proofs.Statements.{second_at, declared_parts, assigned_parts, sent_parts, forked_parts, followed_parts, grows, grows_all}
 use Rattle.saw_model.proofs.Parts.{parts_read, tabled_parts, split_parts, parts_slots, got_here, ports_new}
@@ -84,7 +87,8 @@ weight_reach (Sum keys) (Some t) sc us h = absurd (cc h)
 weight_reach (Collection keys) None sc us h = omega arith
 weight_reach (Collection keys) (Some t) sc us h = absurd (cc h)
 weight_reach (Maximum best keys) None sc us h = omega arith
-weight_reach (Maximum best keys) (Some t) sc us h = let p = ok_parts (term_of sc t) (λ u. Ok (u ∷ [])) us h in let a = term_reach sc t p.0 p.1 in omega (arith, a)
+weight_reach (Maximum best keys) (Some t) sc us h =
+    let p = ok_parts (term_of sc t) (λ u. Ok (u ∷ [])) us h in let a = term_reach sc t p.0 p.1 in omega (arith, a)
 
 all_reach : (xs ys : List Spoken) → reach_all xs ≤ 16 → reach_all ys ≤ 16 → reach_all (xs ++ ys) ≤ 16
 all_reach [] ys h k = k
@@ -222,7 +226,8 @@ module _ (w m : ℕ) (ts : List TableDecl) where
   term_fits : (sc : Scope) (t : Spoken) (u : Term) → reach t ≤ w → AreBelow sc → term_of sc t ≡ Ok u → Fits (tree.depth_of t) u
   term_fits sc (tree.Number v) u le b c = subst (Fits 1) (ok_is (term.Const (pos v)) u c) (refl, omega arith)
   term_fits sc (tree.Name n) u le b c = named_fits (find sc n) u (b n) c
-  term_fits sc (tree.Input p) u le b c = subst (Fits 1) (ok_is (term.Input p) u (if_ok (nat_le p 15) (Ok (term.Input p)) u Limit c)) (lt_true p w (omega (arith, le)), omega arith)
+  term_fits sc (tree.Input p) u le b c =
+      subst (Fits 1) (ok_is (term.Input p) u (if_ok (nat_le p 15) (Ok (term.Input p)) u Limit c)) (lt_true p w (omega (arith, le)), omega arith)
   term_fits sc (tree.Slot p) u le b c = absurd (cc c)
   term_fits sc (tree.Peek t) u le b c = absurd (cc c)
   term_fits sc tree.Pop u le b c = absurd (cc c)
@@ -251,11 +256,13 @@ module _ (w m : ℕ) (ts : List TableDecl) where
   one_fits : (sc : Scope) (t : Spoken) (u : Term) → IsLow t → reach t ≤ w → AreBelow sc → term_of sc t ≡ Ok u → is_term w m u ≡ true
   one_fits sc t u low le b h = is_one (tree.depth_of t) u low (term_fits sc t u le b h)
 
-  first_fits : (sc : Scope) (t : Option Spoken) (u : Term) → AreLow (listed t) → reach_all (listed t) ≤ w → AreBelow sc → first_term t sc ≡ Ok u → is_term w m u ≡ true
+  first_fits : (sc : Scope) (t : Option Spoken) (u : Term) → AreLow (listed t) → reach_all (listed t) ≤ w → AreBelow sc → first_term t sc ≡ Ok u
+      → is_term w m u ≡ true
   first_fits sc None u low le b h = is_one 1 u (omega arith) (subst (Fits 1) (ok_is (term.Const (pos 0)) u h) (refl, omega arith))
   first_fits sc (Some t) u low le b h = one_fits sc t u low.0 (omega (arith, le)) b h
 
-  indexes_fit : (sc : Scope) (n : ℕ) (is : List Spoken) (us : List Term) → AreLow is → reach_all is ≤ w → AreBelow sc → indexes_of sc n is ≡ Ok us → list_all (is_term w m) us ≡ true
+  indexes_fit : (sc : Scope) (n : ℕ) (is : List Spoken) (us : List Term) → AreLow is → reach_all is ≤ w → AreBelow sc → indexes_of sc n is ≡ Ok us
+      → list_all (is_term w m) us ≡ true
   indexes_fit sc n [] us low le b h = ap (list_all (is_term w m)) (sym (ok_is [] us h))
   indexes_fit sc n (t ∷ is) us low le b h =
       let c = if_ok (nat_lt n 8) (on_ok (term_of sc t) (λ u. on_ok (indexes_of sc (n + 1) is) (λ us. Ok (u ∷ us)))) us Limit h in
@@ -264,7 +271,8 @@ module _ (w m : ℕ) (ts : List TableDecl) where
       ap (list_all (is_term w m)) (sym (ok_is (p.0 ∷ q.0) us q.2))
       ∙ both_true (is_term w m p.0) (list_all (is_term w m) q.0) (one_fits sc t p.0 low.0 (omega (arith, le)) b p.1) (indexes_fit sc (n + 1) is q.0 low.1 (omega (arith, le)) b q.1)
 
-  weight_fits : (k : TableKind) (t : Option Spoken) (sc : Scope) (us : List Term) → AreLow (listed t) → reach_all (listed t) ≤ w → AreBelow sc → weight_of k t sc ≡ Ok us → list_all (is_term w m) us ≡ true
+  weight_fits : (k : TableKind) (t : Option Spoken) (sc : Scope) (us : List Term) → AreLow (listed t) → reach_all (listed t) ≤ w → AreBelow sc
+      → weight_of k t sc ≡ Ok us → list_all (is_term w m) us ≡ true
   weight_fits (Sum keys) None sc us low le b h = ap (list_all (is_term w m)) (sym (ok_is [] us h))
   weight_fits (Sum keys) (Some t) sc us low le b h = absurd (cc h)
   weight_fits (Collection keys) None sc us low le b h = ap (list_all (is_term w m)) (sym (ok_is [] us h))
@@ -295,12 +303,14 @@ module _ (w m : ℕ) (ts : List TableDecl) where
   set_formed : (i : ℕ) (u : Term) → i < m → is_term w m u ≡ true → is_steps w m outs (one_step (steps.Set i u)) ≡ true
   set_formed i u lt h = one_formed (steps.Set i u) (both_true (nat_lt i m) (is_term w m u) (lt_true i m lt) h)
 
-  reach_parts_of : (is : List Spoken) (v : Spoken) (t : Option Spoken) → reach_all (parts_of is v t) ≤ w → (reach_all is ≤ w) × (reach v ≤ w) × (reach_all (listed t) ≤ w)
+  reach_parts_of : (is : List Spoken) (v : Spoken) (t : Option Spoken) → reach_all (parts_of is v t) ≤ w
+      → (reach_all is ≤ w) × (reach v ≤ w) × (reach_all (listed t) ≤ w)
   reach_parts_of [] v t h = (omega arith, omega (arith, h), omega (arith, h))
   reach_parts_of (i ∷ is) v t h = let r = reach_parts_of is v t (omega (arith, h)) in let a = r.0 in (omega (arith, h, a), r.1, r.2)
 
   mutual
-    step_formed : (c : Statement) (s : At) (y : Steps × At) → IsShallow c → reach_once c ≤ w → step_of c s ≡ fine y → IsSound s.scope s.slots → ArePorts ts s.scope → y.1.slots ≤ m → Formed y
+    step_formed : (c : Statement) (s : At) (y : Steps × At) → IsShallow c → reach_once c ≤ w → step_of c s ≡ fine y → IsSound s.scope s.slots
+        → ArePorts ts s.scope → y.1.slots ≤ m → Formed y
     step_formed (Declare n t) s y low le h ok ports sl =
         let d = declared_parts n t s y h in
         let room : s.slots + 1 ≤ m = subst (λ (q : Steps × At). q.1.slots ≤ m) (sym d.is) sl in
@@ -340,7 +350,8 @@ module _ (w m : ℕ) (ts : List TableDecl) where
         subst Formed d.is (one_formed (steps.If d.cond d.first.0 d.second.0)
         (both_true (is_term w m d.cond) (is_steps w m outs d.first.0 && is_steps w m outs d.second.0) cond (both_true (is_steps w m outs d.first.0) (is_steps w m outs d.second.0) x z)))
 
-    steps_formed : (b : Block) (s : At) (y : Steps × At) → AreShallow b → reach_block b ≤ w → steps_of b s ≡ fine y → IsSound s.scope s.slots → ArePorts ts s.scope → y.1.slots ≤ m → Formed y
+    steps_formed : (b : Block) (s : At) (y : Steps × At) → AreShallow b → reach_block b ≤ w → steps_of b s ≡ fine y → IsSound s.scope s.slots
+        → ArePorts ts s.scope → y.1.slots ≤ m → Formed y
     steps_formed End s y low le h ok ports sl = subst Formed (ok_is (Done, s) y h) refl
     steps_formed (Then c b) s y low le h ok ports sl =
         let d = followed_parts c b s y h in
@@ -352,7 +363,8 @@ module _ (w m : ℕ) (ts : List TableDecl) where
         let z = steps_formed b d.first.1 d.others low.1 (omega (arith, le)) d.others_is (g.sound ok) (g.ports ts ports) last in
         subst Formed d.is (steps_joined d.first.0 d.others.0 x z)
 
-  pub parts_formed : (p : Program) (s : At) (y : Steps × At) (done : List TableDecl) → AreShallowParts p → reach_parts p ≤ w → parts_read p s ≡ fine y → IsSound s.scope s.slots → ArePorts ts s.scope → y.1.slots ≤ m
+  pub parts_formed : (p : Program) (s : At) (y : Steps × At) (done : List TableDecl) → AreShallowParts p → reach_parts p ≤ w → parts_read p s ≡ fine y
+      → IsSound s.scope s.slots → ArePorts ts s.scope → y.1.slots ≤ m
       → ts ≡ done ++ tables_in p → s.tables ≡ length done → Formed y
   parts_formed [] s y done low le h ok ports sl t e = subst Formed (ok_is (Done, s) y h) refl
   parts_formed (Table n k ∷ ps) s y done low le h ok ports sl t e =

@@ -27,7 +27,8 @@ use Rattle.saw_model.proofs.Parts.{parts_read, reads_parts, record_met, tables_o
 rows_for-append : (n : Name) (xs ys : List Emitted) → rows_for n (xs ++ ys) ≡ rows_for n xs ++ rows_for n ys
 rows_for-append n [] ys = refl
 rows_for-append n (x ∷ xs) ys = step (name_eq x.0 n) (rows_for-append n xs ys) where
-  step : (b : Bool) → rows_for n (xs ++ ys) ≡ rows_for n xs ++ rows_for n ys → (if b then x.1 ∷ rows_for n (xs ++ ys) else rows_for n (xs ++ ys)) ≡ (if b then x.1 ∷ rows_for n xs else rows_for n xs) ++ rows_for n ys
+  step : (b : Bool) → rows_for n (xs ++ ys) ≡ rows_for n xs ++ rows_for n ys
+      → (if b then x.1 ∷ rows_for n (xs ++ ys) else rows_for n (xs ++ ys)) ≡ (if b then x.1 ∷ rows_for n xs else rows_for n xs) ++ rows_for n ys
   step true h = ap (λ l. x.1 ∷ l) h
   step false h = h
 
@@ -35,7 +36,8 @@ module _ (p : Program) (read : Steps × At) (h : parts_read p nothing_read ≡ f
   abbrev ts : List TableDecl
   ts = tables_in p
 
-  pushes_of : (i : ℕ) (t : TableDecl) (r : List ℤ) → slice_get ts i ≡ Some t → pushed_to i (run_kept (body_form p read.0 read.1.slots).body [] (take (width p) r)).pushes ≡ as_items (rows_for t.name (emits p r))
+  pushes_of : (i : ℕ) (t : TableDecl) (r : List ℤ) → slice_get ts i ≡ Some t
+      → pushed_to i (run_kept (body_form p read.0 read.1.slots).body [] (take (width p) r)).pushes ≡ as_items (rows_for t.name (emits p r))
   pushes_of i t r g =
       let slots : read.1.slots - 0 ≡ read.1.slots = omega arith in
       ap (λ n. pushed_to i (ran read.0 (take (width p) r) (replicate n (pos 0))).pushes) slots
@@ -55,7 +57,8 @@ module _ (p : Program) (read : Steps × At) (h : parts_read p nothing_read ≡ f
   abbrev first : List (List ℤ) → History
   first records = inputs_of (codes "in" ∷ []) (list_at (inputs records))
 
-  queue_has : (records : List (List ℤ)) (i : ℕ) (t : TableDecl) → slice_get ts i ≡ Some t → hist (plan_of p read) (inputs records) (queue_name t.name) ≡ as_items (rows_for t.name (flat_map (emits p) records))
+  queue_has : (records : List (List ℤ)) (i : ℕ) (t : TableDecl) → slice_get ts i ≡ Some t
+      → hist (plan_of p read) (inputs records) (queue_name t.name) ≡ as_items (rows_for t.name (flat_map (emits p) records))
   queue_has records i t g =
       let op = map_op p read.0 read.1.slots in
       let given_is = one_input op.kernel (lists_of (first records) op.reads) [] refl in
@@ -66,7 +69,8 @@ module _ (p : Program) (read : Steps × At) (h : parts_read p nothing_read ≡ f
       ∙ all_pushes i t records g
 
   -- exactly what all records emit to a table is added to it, in order
-  pub added : (records : List (List ℤ)) (i : ℕ) (t : TableDecl) → slice_get ts i ≡ Some t → all_adds (plan_of p read) (inputs records) t.name ≡ rows_for t.name (flat_map (emits p) records)
+  pub added : (records : List (List ℤ)) (i : ℕ) (t : TableDecl) → slice_get ts i ≡ Some t
+      → all_adds (plan_of p read) (inputs records) t.name ≡ rows_for t.name (flat_map (emits p) records)
   added records i t g =
       let all = hist (plan_of p read) (inputs records) in
       tallied (table_names ts) ts all i t (λ n lt. lt) (tables_once p nothing_read read h) g

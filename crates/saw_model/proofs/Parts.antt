@@ -1,5 +1,6 @@
 -- A whole program and the body of its plan.
-use Rattle.std.proofs.Common.{◌≡◌, ℕ, suc, ℤ, pos, ◌+◌, ◌<◌, ◌≤◌, true, List, [], ◌∷◌, ◌++◌, length, take, Option, Some, None, Result, Ok, Err, refl, sym, ap, ◌∙◌, subst, arith, nat_lt, nat_le, replicate, append_assoc, length-append, ⊎_elim}
+use Rattle.std.proofs.Common.{◌≡◌, ℕ, suc, ℤ, pos, ◌+◌, ◌<◌, ◌≤◌, true, List, [], ◌∷◌, ◌++◌, length, take, Option, Some, None, Result, Ok, Err, refl, sym, ap}
+use Rattle.std.proofs.Common.{◌∙◌, subst, arith, nat_lt, nat_le, replicate, append_assoc, length-append, ⊎_elim}
 use Rattle.std.specs.Prelude.{slice_get}
 use Rattle.std.proofs.lemmas.List.{length-replicate}
 use Rattle.work_code.specs.Steps.{Steps, Done}
@@ -11,9 +12,11 @@ use Rattle.river_plan.specs.Names.{count, one_if}
 use Rattle.river_plan.specs.declared.plan.TableDecl.{TableDecl}
 use Rattle.river_plan.proofs.NameLemmas.{name_same, cases_name}
 use Rattle.saw_model.specs.Source.{Part, Table, Does, Program, tables_in, Now, does, do_parts, fresh, emits, reach_once, reach_parts}
-use Rattle.saw_model.specs.Elaborate.{Limit, on_ok, demand, Known, Var, Port, Scope, find, At, is_new, keys_in, joined, Read, is_best, tabled, table_of, part_of, nothing_read}
+use Rattle.saw_model.specs.Elaborate.{Limit, on_ok, demand, Known, Var, Port, Scope, find, At, is_new, keys_in, joined, Read, is_best, tabled, table_of}
+use Rattle.saw_model.specs.Elaborate.{part_of, nothing_read}
 use Rattle.saw_model.specs.Judged.{Refusal, on_fine, in_unit, all_parts}
-use Rattle.saw_model.proofs.Elaborated.{fine, ok_is, ok_parts, demanded, found_here, found_other, Agrees, ArePorts, Keeps, keeps_new, sound_port, Matches, met_more, none_met}
+use Rattle.saw_model.proofs.Elaborated.{fine, ok_is, ok_parts, demanded, found_here, found_other, Agrees, ArePorts, Keeps, keeps_new, sound_port, Matches}
+use Rattle.saw_model.proofs.Elaborated.{met_more, none_met}
 use Rattle.saw_model.proofs.Statements.{new_is, grows, met, Ready, MetBy, ready_after}
 
 -- what is read of all units, whichever their numbers
@@ -24,12 +27,15 @@ parts_read (c ∷ ps) s = on_ok (part_of c s) (λ p. on_ok (parts_read ps p.1) (
 pub reads_parts : (k : ℕ) (p : Program) (s : At) (y : Steps × At) → all_parts k p s ≡ Ok y → parts_read p s ≡ Ok y
 reads_parts k [] s y h = cc h
 reads_parts k (c ∷ ps) s y h = first (λ p q e. reads_parts (suc k) ps p.1 q e) (part_of c s) h where
-  more : (p : Steps × At) (r : Result (Steps × At) Refusal) → ((q : Steps × At) → r ≡ Ok q → parts_read ps p.1 ≡ Ok q) → on_fine r (λ q. Ok (joined p.0 q.0, q.1)) ≡ Ok y
+  more : (p : Steps × At) (r : Result (Steps × At) Refusal) → ((q : Steps × At) → r ≡ Ok q → parts_read ps p.1 ≡ Ok q)
+      → on_fine r (λ q. Ok (joined p.0 q.0, q.1)) ≡ Ok y
       → on_ok (parts_read ps p.1) (λ q. Ok (joined p.0 q.0, q.1)) ≡ Ok y
   more p (Ok q) f g = ap (λ r. on_ok r (λ q. Ok (joined p.0 q.0, q.1))) (f q refl) ∙ cc g
   more p (Err e) f g = absurd (cc g)
 
-  first : ((p q : Steps × At) → all_parts (suc k) ps p.1 ≡ Ok q → parts_read ps p.1 ≡ Ok q) → (r : Read) → in_unit k r (λ p. on_fine (all_parts (suc k) ps p.1) (λ q. Ok (joined p.0 q.0, q.1))) ≡ Ok y → on_ok r (λ p. on_ok (parts_read ps p.1) (λ q. Ok (joined p.0 q.0, q.1))) ≡ Ok y
+  first : ((p q : Steps × At) → all_parts (suc k) ps p.1 ≡ Ok q → parts_read ps p.1 ≡ Ok q) → (r : Read)
+      → in_unit k r (λ p. on_fine (all_parts (suc k) ps p.1) (λ q. Ok (joined p.0 q.0, q.1))) ≡ Ok y
+      → on_ok r (λ p. on_ok (parts_read ps p.1) (λ q. Ok (joined p.0 q.0, q.1))) ≡ Ok y
   first f (Ok p) g = more p (all_parts (suc k) ps p.1) (f p) g
   first f (Err e) g = absurd (cc g)
 
@@ -91,11 +97,13 @@ parts_slots (c ∷ ps) s y h =
 
 -- what is known stays known
 part_keeps : (c : Part) (s : At) (y : Steps × At) → part_of c s ≡ fine y → Keeps s.scope y.1.scope
-part_keeps (Table n k) s y h = let d = tabled_parts n k s y h in subst (λ (q : Steps × At). Keeps s.scope q.1.scope) d.is (keeps_new n (Port s.tables k) s.scope d.new)
+part_keeps (Table n k) s y h =
+    let d = tabled_parts n k s y h in subst (λ (q : Steps × At). Keeps s.scope q.1.scope) d.is (keeps_new n (Port s.tables k) s.scope d.new)
 part_keeps (Does c) s y h = (grows c s y h).keeps
 
 -- no table has a known name
-pub not_known : (p : Program) (s : At) (y : Steps × At) (n : Name) (b : Known) → parts_read p s ≡ fine y → find s.scope n ≡ Some b → count n (table_names (tables_in p)) ≡ 0
+pub not_known : (p : Program) (s : At) (y : Steps × At) (n : Name) (b : Known) → parts_read p s ≡ fine y → find s.scope n ≡ Some b
+    → count n (table_names (tables_in p)) ≡ 0
 not_known [] s y n b h f = refl
 not_known (Table m k ∷ ps) s y n b h f =
     let d = split_parts (Table m k) ps s y h in
@@ -153,7 +161,8 @@ got_here (d ∷ ds) rest t = got_here ds rest t
 port_one : (p q : ℕ) (k l : TableKind) → Some (Port p k) ≡ Some (Port q l) → (p ≡ q) × (k ≡ l)
 port_one p q k l h = (cc, cc)
 
-pub ports_new : (ts : List TableDecl) (n : Name) (p : ℕ) (k : TableKind) (sc : Scope) → slice_get ts p ≡ Some (record { name = n; kind = k }) → ArePorts ts sc → ArePorts ts ((n, Port p k) ∷ sc)
+pub ports_new : (ts : List TableDecl) (n : Name) (p : ℕ) (k : TableKind) (sc : Scope) → slice_get ts p ≡ Some (record { name = n; kind = k }) → ArePorts ts sc
+    → ArePorts ts ((n, Port p k) ∷ sc)
 ports_new ts n p k sc g a = record {
   port = λ m q l f. ⊎_elim
       (λ e.
@@ -175,9 +184,11 @@ module _ (w : ℕ) (r : List ℤ) (ts : List TableDecl) where
       no_var : {i : ℕ} → Some (Port p k) ≡ Some (Var i) → ⊥
       no_var h = cc h
 
-  pub parts_met : (p : Program) (s : At) (y : Steps × At) (now : Now) (mem : List ℤ) (done : List TableDecl) → parts_read p s ≡ fine y → reach_parts p ≤ w → Ready w r ts s now mem → y.1.slots ≤ length mem
+  pub parts_met : (p : Program) (s : At) (y : Steps × At) (now : Now) (mem : List ℤ) (done : List TableDecl) → parts_read p s ≡ fine y → reach_parts p ≤ w
+      → Ready w r ts s now mem → y.1.slots ≤ length mem
       → ts ≡ done ++ tables_in p → s.tables ≡ length done → MetBy w r ts s now (do_parts p r now) y mem
-  parts_met [] s y now mem done h b k len t e = subst (λ (q : Steps × At). MetBy w r ts s now now q mem) (ok_is (Done, s) y h) (none_met w r ts now now s.scope mem refl k.agrees)
+  parts_met [] s y now mem done h b k len t e =
+      subst (λ (q : Steps × At). MetBy w r ts s now now q mem) (ok_is (Done, s) y h) (none_met w r ts now now s.scope mem refl k.agrees)
   parts_met (Table n kind ∷ ps) s y now mem done h b k len t e =
       let d = split_parts (Table n kind) ps s y h in
       let here = tabled_parts n kind s d.first d.first_is in
@@ -211,7 +222,8 @@ module _ (w : ℕ) (r : List ℤ) (ts : List TableDecl) where
       (met_more w r ts now (does c r now) (do_parts ps r (does c r now)) d.first.1.scope d.others.1.scope d.first.0 d.others.0 mem m n)
 
 -- one record: what the body pushes is what the program emits
-pub record_met : (p : Program) (y : Steps × At) (w : ℕ) (r : List ℤ) → parts_read p nothing_read ≡ fine y → reach_parts p ≤ w → Matches (tables_in p) (emits p r) (ran y.0 (take w r) (replicate y.1.slots (pos 0))).pushes
+pub record_met : (p : Program) (y : Steps × At) (w : ℕ) (r : List ℤ) → parts_read p nothing_read ≡ fine y → reach_parts p ≤ w
+    → Matches (tables_in p) (emits p r) (ran y.0 (take w r) (replicate y.1.slots (pos 0))).pushes
 record_met p y w r h b =
     let mem = replicate y.1.slots (pos 0) in
     let none_known : (n : Name) (b : Known) → find [] n ≡ Some b → ⊥ = λ n b f. no_none f in

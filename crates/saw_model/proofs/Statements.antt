@@ -1,5 +1,6 @@
 -- Each statement of a program and the steps that stand for it do the same.
-use Rattle.std.proofs.Common.{◌≡◌, ℕ, ℤ, pos, ◌+◌, ◌≤◌, Bool, true, false, List, [], ◌∷◌, ◌++◌, length, take, Option, Some, None, Ok, refl, sym, ap, ◌∙◌, subst, arith, nat_lt, nat_eq}
+use Rattle.std.proofs.Common.{◌≡◌, ℕ, ℤ, pos, ◌+◌, ◌≤◌, Bool, true, false, List, [], ◌∷◌, ◌++◌, length, take, Option, Some, None, Ok, refl, sym, ap, ◌∙◌, subst}
+use Rattle.std.proofs.Common.{arith, nat_lt, nat_eq}
 use Rattle.std.specs.Prelude.{if◌then◌else◌, slice_set}
 use Rattle.std.proofs.lemmas.List.{map-append}
 use Rattle.work_code.specs.Term.{Term}
@@ -14,9 +15,14 @@ use Rattle.river_plan.specs.declared.plan.TableDecl.{TableDecl}
 use Rattle.river_plan.proofs.NameLemmas.{name_same}
 use Rattle.brooklet_model.specs.Machine.{at_name}
 use Rattle.text_forms.specs.Tree.{Spoken}
-use Rattle.saw_model.specs.Source.{Statement, Declare, Assign, Emit, If, Block, End, Then, said, Now, said_or, said_all, listed, parts_of, does, do_all, reach, reach_all, reach_once, reach_block}
-use Rattle.saw_model.specs.Elaborate.{Shape, Limit, on_ok, demand, has_slot, Known, Var, Port, Scope, find, term_of, At, is_new, slot_of, port_of, first_term, indexes_of, keys_in, weight_of, joined, one_step, Read, declared, emitted, step_of, steps_of}
-use Rattle.saw_model.proofs.Elaborated.{fine, ok_is, ok_parts, demanded, room_for, found_here, found_other, Agrees, IsSound, ArePorts, Keeps, agrees_within, more_slots, keeps_new, sound_var, ports_var, agrees_set, term_is, vals, first_is, indexes_are, weight_is, said_all-append, reach-append, Grows, grows_same, grows_trans, grows_back, one_more, counted_on, Met, none_met, met_more, one_ran}
+use Rattle.saw_model.specs.Source.{Statement, Declare, Assign, Emit, If, Block, End, Then, said, Now, said_or, said_all, listed, parts_of, does, do_all, reach}
+use Rattle.saw_model.specs.Source.{reach_all, reach_once, reach_block}
+use Rattle.saw_model.specs.Elaborate.{Shape, Limit, on_ok, demand, has_slot, Known, Var, Port, Scope, find, term_of, At, is_new, slot_of, port_of, first_term}
+use Rattle.saw_model.specs.Elaborate.{indexes_of, keys_in, weight_of, joined, one_step, Read, declared, emitted, step_of, steps_of}
+use Rattle.saw_model.proofs.Elaborated.{fine, ok_is, ok_parts, demanded, room_for, found_here, found_other, Agrees, IsSound, ArePorts, Keeps, agrees_within}
+use Rattle.saw_model.proofs.Elaborated.{more_slots, keeps_new, sound_var, ports_var, agrees_set, term_is, vals, first_is, indexes_are, weight_is}
+use Rattle.saw_model.proofs.Elaborated.{said_all-append, reach-append, Grows, grows_same, grows_trans, grows_back, one_more, counted_on, Met, none_met}
+use Rattle.saw_model.proofs.Elaborated.{met_more, one_ran}
 
 -- THE PARTS OF WHAT IS READ
 
@@ -89,7 +95,8 @@ pub record Sent (t : Name) (is : List Spoken) (v : Spoken) (w : Option Spoken) (
   pub weights_is : weight_of port.1 w s0.scope ≡ Ok weights
   pub made : (one_step (steps.Push port.0 (indexes ++ value ∷ weights)), one_more s0) ≡ y
 
-pub sent_parts : (t : Name) (is : List Spoken) (v : Spoken) (w : Option Spoken) (s0 : At) (y : Steps × At) → step_of (Emit t is v w) s0 ≡ fine y → Sent t is v w s0 y
+pub sent_parts : (t : Name) (is : List Spoken) (v : Spoken) (w : Option Spoken) (s0 : At) (y : Steps × At) → step_of (Emit t is v w) s0 ≡ fine y
+    → Sent t is v w s0 y
 sent_parts t is v w s0 y h =
     let f1 : At → Read = λ s. on_ok (port_of (find s.scope t)) (λ p. on_ok (indexes_of s.scope 0 is) (λ us. emitted s p (length is) us v w)) in
     let c = counted_on s0 f1 y h in
@@ -193,10 +200,12 @@ module _ (w : ℕ) (r : List ℤ) (ts : List TableDecl) where
   abbrev pub MetBy : At → Now → Now → Steps × At → List ℤ → Type 0
   MetBy s now now' y mem = Met ts now now' y.1.scope (ran y.0 (take w r) mem)
 
-  pub ready_after : (s : At) (now now' : Now) (y : Steps × At) (mem : List ℤ) → Ready s now mem → Grows s y.1 → MetBy s now now' y mem → Ready y.1 now' (ran y.0 (take w r) mem).slots
+  pub ready_after : (s : At) (now now' : Now) (y : Steps × At) (mem : List ℤ) → Ready s now mem → Grows s y.1 → MetBy s now now' y mem
+      → Ready y.1 now' (ran y.0 (take w r) mem).slots
   ready_after s now now' y mem k g m = record { sound = g.sound k.sound; ports = g.ports ts k.ports; agrees = m.agrees }
 
-  declare_met : (n : Name) (t : Option Spoken) (s : At) (y : Steps × At) (now : Now) (mem : List ℤ) → Declared n t s y → reach_all (listed t) ≤ w → Ready s now mem → y.1.slots ≤ length mem → MetBy s now (does (Declare n t) r now) y mem
+  declare_met : (n : Name) (t : Option Spoken) (s : At) (y : Steps × At) (now : Now) (mem : List ℤ) → Declared n t s y → reach_all (listed t) ≤ w
+      → Ready s now mem → y.1.slots ≤ length mem → MetBy s now (does (Declare n t) r now) y mem
   declare_met n t s y now mem d h k len =
       let z = said_or (pos 0) t r now.values in
       let value : z ≡ val d.value (take w r) mem = first_is w r t s.scope now.values mem d.value h k.agrees d.value_is in
@@ -210,7 +219,8 @@ module _ (w : ℕ) (r : List ℤ) (ts : List TableDecl) where
       (none_met w r ts now (does (Declare n t) r now) sc (slice_set mem s.slots (val d.value (take w r) mem)) refl
       (subst (λ v. Agrees sc (at_name n z now.values) (slice_set mem s.slots v)) value set))
 
-  assign_met : (n : Name) (t : Spoken) (s : At) (y : Steps × At) (now : Now) (mem : List ℤ) → Assigned n t s y → reach t ≤ w → Ready s now mem → s.slots ≤ length mem → MetBy s now (does (Assign n t) r now) y mem
+  assign_met : (n : Name) (t : Spoken) (s : At) (y : Steps × At) (now : Now) (mem : List ℤ) → Assigned n t s y → reach t ≤ w → Ready s now mem
+      → s.slots ≤ length mem → MetBy s now (does (Assign n t) r now) y mem
   assign_met n t s y now mem d h k len =
       let z = said t r now.values in
       let value : z ≡ val d.value (take w r) mem = term_is w r s.scope t now.values mem d.value h k.agrees d.value_is in
@@ -220,7 +230,8 @@ module _ (w : ℕ) (r : List ℤ) (ts : List TableDecl) where
       (none_met w r ts now (does (Assign n t) r now) s.scope (slice_set mem d.slot (val d.value (take w r) mem)) refl
       (subst (λ v. Agrees s.scope (at_name n z now.values) (slice_set mem d.slot v)) value set))
 
-  emit_met : (t : Name) (is : List Spoken) (v : Spoken) (wt : Option Spoken) (s : At) (y : Steps × At) (now : Now) (mem : List ℤ) → Sent t is v wt s y → reach_all (parts_of is v wt) ≤ w → Ready s now mem → MetBy s now (does (Emit t is v wt) r now) y mem
+  emit_met : (t : Name) (is : List Spoken) (v : Spoken) (wt : Option Spoken) (s : At) (y : Steps × At) (now : Now) (mem : List ℤ) → Sent t is v wt s y
+      → reach_all (parts_of is v wt) ≤ w → Ready s now mem → MetBy s now (does (Emit t is v wt) r now) y mem
   emit_met t is v wt s y now mem d h k =
       let env = now.values in
       let room = reach-append w r is (v ∷ listed wt) h in
@@ -245,10 +256,12 @@ module _ (w : ℕ) (r : List ℤ) (ts : List TableDecl) where
     step false = n
 
   within : (now now' : Now) (sc sc' : Scope) (run : Ran) → Keeps sc sc' → Met ts now now' sc' run → Met ts now now' sc run
-  within now now' sc sc' run k m = record { agrees = agrees_within sc sc' now'.values run.slots k m.agrees; new = m.new; emitted_are = m.emitted_are; matches = m.matches }
+  within now now' sc sc' run k m =
+      record { agrees = agrees_within sc sc' now'.values run.slots k m.agrees; new = m.new; emitted_are = m.emitted_are; matches = m.matches }
 
   mutual
-    pub met : (c : Statement) (s : At) (y : Steps × At) (now : Now) (mem : List ℤ) → step_of c s ≡ fine y → reach_once c ≤ w → Ready s now mem → y.1.slots ≤ length mem → MetBy s now (does c r now) y mem
+    pub met : (c : Statement) (s : At) (y : Steps × At) (now : Now) (mem : List ℤ) → step_of c s ≡ fine y → reach_once c ≤ w → Ready s now mem
+        → y.1.slots ≤ length mem → MetBy s now (does c r now) y mem
     met (Declare n t) s y now mem h b k len = declare_met n t s y now mem (declared_parts n t s y h) b k len
     met (Assign n t) s y now mem h b k len =
         assign_met n t s y now mem (assigned_parts n t s y h) b k (let g = (grows (Assign n t) s y h).slots in omega (arith, g, len))
@@ -273,8 +286,10 @@ module _ (w : ℕ) (r : List ℤ) (ts : List TableDecl) where
         subst (λ (q : Steps × At). MetBy s now (does (If t a o) r now) q mem) d.is
         (subst (Met ts now (does (If t a o) r now) s.scope) (one_ran (steps.If d.cond d.first.0 d.second.0) (take w r) mem) both)
 
-    pub met_all : (b : Block) (s : At) (y : Steps × At) (now : Now) (mem : List ℤ) → steps_of b s ≡ fine y → reach_block b ≤ w → Ready s now mem → y.1.slots ≤ length mem → MetBy s now (do_all b r now) y mem
-    met_all End s y now mem h b k len = subst (λ (q : Steps × At). MetBy s now now q mem) (ok_is (Done, s) y h) (none_met w r ts now now s.scope mem refl k.agrees)
+    pub met_all : (b : Block) (s : At) (y : Steps × At) (now : Now) (mem : List ℤ) → steps_of b s ≡ fine y → reach_block b ≤ w → Ready s now mem
+        → y.1.slots ≤ length mem → MetBy s now (do_all b r now) y mem
+    met_all End s y now mem h b k len =
+        subst (λ (q : Steps × At). MetBy s now now q mem) (ok_is (Done, s) y h) (none_met w r ts now now s.scope mem refl k.agrees)
     met_all (Then c o) s y now mem h b k len =
         let d = followed_parts c o s y h in
         let g = grows c s d.first d.first_is in

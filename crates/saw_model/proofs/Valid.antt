@@ -1,5 +1,6 @@
 -- The plan of a program that is accepted is valid.
-use Rattle.std.proofs.Common.{◌≡◌, ℕ, zero, suc, ◌+◌, ◌<◌, ◌≤◌, Bool, true, false, List, [], ◌∷◌, ◌++◌, length, map, Option, Some, None, refl, sym, ap, ◌∙◌, subst, arith, ⊎_elim}
+use Rattle.std.proofs.Common.{◌≡◌, ℕ, zero, suc, ◌+◌, ◌<◌, ◌≤◌, Bool, true, false, List, [], ◌∷◌, ◌++◌, length, map, Option, Some, None, refl, sym, ap, ◌∙◌}
+use Rattle.std.proofs.Common.{subst, arith, ⊎_elim}
 use Rattle.std.specs.Prelude.{codes, All, unwrap_or, if◌then◌else◌, nat_le, slice_get, flat_map}
 use Rattle.std.specs.List.{AllByRecursion}
 use Rattle.std.proofs.lemmas.Bool.{and_parts}
@@ -83,7 +84,8 @@ if_other : {A : Type 0} (b : Bool) (x : A) (o : Option A) → b ≡ false → (i
 if_other b x o e = ap (λ c. if c then Some x else o) e
 
 -- the queue of the table at a place has rows as wide as the table
-kind_there : (ts : List TableDecl) (i : ℕ) (t : TableDecl) → AreOnce (queues_of ts) → slice_get ts i ≡ Some t → kind_in (queue_decls ts) (queue_name t.name) ≡ Some (rows (table_width t.kind))
+kind_there : (ts : List TableDecl) (i : ℕ) (t : TableDecl) → AreOnce (queues_of ts) → slice_get ts i ≡ Some t
+    → kind_in (queue_decls ts) (queue_name t.name) ≡ Some (rows (table_width t.kind))
 kind_there [] i t o g = absurd (cc g)
 kind_there (u ∷ us) zero t o g =
     let e = same u t g in
@@ -100,7 +102,8 @@ kind_there (u ∷ us) (suc i) t o g = ⊎_elim
     ∙ kind_there us i t (once_rest (queue_name u.name) (queues_of us) o) g)
     (cases_name (queue_name u.name) (queue_name t.name))
 
-table_there : (ts : List TableDecl) (i : ℕ) (t : TableDecl) → AreOnce (table_names ts) → slice_get ts i ≡ Some t → table_in ts t.name ≡ Some (Table (table_width t.kind))
+table_there : (ts : List TableDecl) (i : ℕ) (t : TableDecl) → AreOnce (table_names ts) → slice_get ts i ≡ Some t
+    → table_in ts t.name ≡ Some (Table (table_width t.kind))
 table_there [] i t o g = absurd (cc g)
 table_there (u ∷ us) zero t o g =
     let e = same u t g in
@@ -168,7 +171,8 @@ good_best (t ∷ ts) h = All-append (λ n. n ≤ 1000000) (best_rows t.kind) (fl
 
 good_queues : (ts : List TableDecl) → AreGood ts → All HasWidth (queue_decls ts)
 good_queues [] h = All-nil HasWidth
-good_queues (t ∷ ts) h = All-cons HasWidth (record { name = queue_name t.name; kind = rows (table_width t.kind) }) (queue_decls ts) h.0.width (good_queues ts h.1)
+good_queues (t ∷ ts) h =
+    All-cons HasWidth (record { name = queue_name t.name; kind = rows (table_width t.kind) }) (queue_decls ts) h.0.width (good_queues ts h.1)
 
 good_widths : (ts : List TableDecl) → AreGood ts → are_widths (widths_of ts) ≡ true
 good_widths [] h = refl
@@ -176,7 +180,9 @@ good_widths (t ∷ ts) h = both_true (is_width (table_width t.kind)) (are_widths
 
 -- KERNELS
 
-kinds_of : (kind : Name → QueueType) (ts : List TableDecl) → ((i : ℕ) (t : TableDecl) → slice_get ts i ≡ Some t → kind (queue_name t.name) ≡ rows (table_width t.kind)) → map kind (queues_of ts) ≡ ports (widths_of ts)
+kinds_of : (kind : Name → QueueType) (ts : List TableDecl)
+    → ((i : ℕ) (t : TableDecl) → slice_get ts i ≡ Some t → kind (queue_name t.name) ≡ rows (table_width t.kind))
+    → map kind (queues_of ts) ≡ ports (widths_of ts)
 kinds_of kind [] h = refl
 kinds_of kind (t ∷ ts) h = let a = h zero t refl in let b = kinds_of kind ts (λ i u g. h (suc i) u g) in λ i. a i ∷ b i
 

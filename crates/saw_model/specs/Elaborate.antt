@@ -1,5 +1,6 @@
 -- The body of a program's plan, part by part, or the first fault in reading order.
-use Rattle.std.specs.Prelude.{ℕ, pos, ◌+◌, Bool, true, ◌&&◌, List, [], ◌∷◌, ◌++◌, length, Option, Some, None, Result, Ok, Err, if◌then◌else◌, nat_lt, nat_le, nat_eq}
+use Rattle.std.specs.Prelude.{ℕ, pos, ◌+◌, Bool, true, ◌&&◌, List, [], ◌∷◌, ◌++◌, length, Option, Some, None, Result, Ok, Err, if◌then◌else◌, nat_lt, nat_le}
+use Rattle.std.specs.Prelude.{nat_eq}
 use Rattle.river_base.specs.Name.{name_eq}
 use Rattle.work_code.specs.Term.{Term}
 use Rattle.work_code.specs.Term as term

@@ -30,10 +30,12 @@ abbrev pub tally_op : TableDecl → OpForm
 tally_op t = record { label = tally_name t.name; kernel = tally; reads = queue_name t.name ∷ []; writes = []; vars = t.name ∷ [] }
 
 abbrev pub body_form : Program → Steps → ℕ → CodeForm
-body_form p body slots = record { body = record { inputs = width p; slots = slots; steps = body }; outs = map (λ t. pos (table_width t.kind)) (tables_in p); starts = [] }
+body_form p body slots =
+    record { body = record { inputs = width p; slots = slots; steps = body }; outs = map (λ t. pos (table_width t.kind)) (tables_in p); starts = [] }
 
 abbrev pub map_op : Program → Steps → ℕ → OpForm
-map_op p body slots = record { label = codes "map"; kernel = code (body_form p body slots); reads = codes "in" ∷ []; writes = queues_of (tables_in p); vars = [] }
+map_op p body slots =
+    record { label = codes "map"; kernel = code (body_form p body slots); reads = codes "in" ∷ []; writes = queues_of (tables_in p); vars = [] }
 
 abbrev pub plan_of : Program → Steps × At → PlanForm
 plan_of p read = record {

@@ -6,7 +6,8 @@ use Rattle.river_plan.specs.Forms.{Name, OpForm}
 use Rattle.river_plan.specs.Names.{one_if, count}
 use Rattle.river_plan.specs.Uses.{total, writes_it, reads_it, named_it}
 use Rattle.streamit_model.specs.Stream.{Splitter, Duplicate, RoundRobin, Stream, Filter, Pipeline, SplitJoin, Streams, Last, Then, number_of}
-use Rattle.streamit_model.specs.Build.{numbered, queue, queues, ops_in, ops_of, queues_in, queues_between, queues_within, splitter, joiner, build, build_line, build_branches}
+use Rattle.streamit_model.specs.Build.{numbered, queue, queues, ops_in, ops_of, queues_in, queues_between, queues_within, splitter, joiner, build, build_line}
+use Rattle.streamit_model.specs.Build.{build_branches}
 use Rattle.streamit_model.proofs.Numbers.{number_in, sum_from, sum_split, meets, named_le, queue_count}
 
 -- a count over two lists
@@ -63,7 +64,8 @@ mutual
       let q = three (here x) k n (queues_within ss) in
       ap (λ j. j + total (writes_it x) (build_branches ss (suc c) (k + (n + n)) k (k + n) ++ (joiner ws (numbered (codes "join") (suc c + ops_of ss)) (queues (k + n) n) to ∷ []))) a ∙ omega (arith, b, t, q)
 
-  writes_line : (ss : Streams) (c k : ℕ) (from to x : Name) → total (writes_it x) (build_line ss c k from to) ≡ one_if (name_eq to x) + sum_from (here x) k (queues_between ss)
+  writes_line : (ss : Streams) (c k : ℕ) (from to x : Name)
+      → total (writes_it x) (build_line ss c k from to) ≡ one_if (name_eq to x) + sum_from (here x) k (queues_between ss)
   writes_line (Last s) c k from to x = writes s c k from to x
   writes_line (Then s ss) c k from to x =
       let a = writes s c (suc k) from (queue k) x in
@@ -73,7 +75,8 @@ mutual
       omega (arith, a, b, t, q)
 
   -- and those of branches
-  pub writes_branches : (ss : Streams) (c k a b : ℕ) (x : Name) → total (writes_it x) (build_branches ss c k a b) ≡ sum_from (here x) b (number_of ss) + sum_from (here x) k (queues_within ss)
+  pub writes_branches : (ss : Streams) (c k a b : ℕ) (x : Name)
+      → total (writes_it x) (build_branches ss c k a b) ≡ sum_from (here x) b (number_of ss) + sum_from (here x) k (queues_within ss)
   writes_branches (Last s) c k a b x = let e = writes s c k (queue a) (queue b) x in omega (arith, e)
   writes_branches (Then s ss) c k a b x =
       let e = writes s c k (queue a) (queue b) x in
@@ -96,7 +99,8 @@ mutual
       let q = three (here x) k n (queues_within ss) in
       ap (λ j. j + total (reads_it x) (build_branches ss (suc c) (k + (n + n)) k (k + n) ++ (joiner ws (numbered (codes "join") (suc c + ops_of ss)) (queues (k + n) n) to ∷ []))) a ∙ omega (arith, b, j, t, q)
 
-  reads_line : (ss : Streams) (c k : ℕ) (from to x : Name) → total (reads_it x) (build_line ss c k from to) ≡ one_if (name_eq from x) + sum_from (here x) k (queues_between ss)
+  reads_line : (ss : Streams) (c k : ℕ) (from to x : Name)
+      → total (reads_it x) (build_line ss c k from to) ≡ one_if (name_eq from x) + sum_from (here x) k (queues_between ss)
   reads_line (Last s) c k from to x = reads s c k from to x
   reads_line (Then s ss) c k from to x =
       let a = reads s c (suc k) from (queue k) x in
@@ -105,7 +109,8 @@ mutual
       let q = two (here x) k (queues_in s) (queues_between ss) in
       omega (arith, a, b, t, q)
 
-  reads_branches : (ss : Streams) (c k a b : ℕ) (x : Name) → total (reads_it x) (build_branches ss c k a b) ≡ sum_from (here x) a (number_of ss) + sum_from (here x) k (queues_within ss)
+  reads_branches : (ss : Streams) (c k a b : ℕ) (x : Name)
+      → total (reads_it x) (build_branches ss c k a b) ≡ sum_from (here x) a (number_of ss) + sum_from (here x) k (queues_within ss)
   reads_branches (Last s) c k a b x = let e = reads s c k (queue a) (queue b) x in omega (arith, e)
   reads_branches (Then s ss) c k a b x =
       let e = reads s c k (queue a) (queue b) x in
@@ -117,7 +122,8 @@ mutual
 -- a label stands at most where its number does
 mutual
   -- how often they own a name, at most
-  pub named : (s : Stream) (c k : ℕ) (from to x : Name) → c + ops_in s ≤ 2 ^ 64 → total (named_it x) (build s c k from to) ≤ sum_from (meets (number_in x)) c (ops_in s)
+  pub named : (s : Stream) (c k : ℕ) (from to x : Name) → c + ops_in s ≤ 2 ^ 64
+      → total (named_it x) (build s c k from to) ≤ sum_from (meets (number_in x)) c (ops_in s)
   named (Filter name f) c k from to x le = let e = named_le name x c (omega (arith, le)) in omega (arith, e)
   named (Pipeline ss) c k from to x le = named_line ss c k from to x le
   named (SplitJoin d ss ws) c k from to x le =
@@ -131,7 +137,8 @@ mutual
       let q = ends (meets (number_in x)) c (ops_of ss) in
       omega (arith, a, a', b, j, t, q)
 
-  named_line : (ss : Streams) (c k : ℕ) (from to x : Name) → c + ops_of ss ≤ 2 ^ 64 → total (named_it x) (build_line ss c k from to) ≤ sum_from (meets (number_in x)) c (ops_of ss)
+  named_line : (ss : Streams) (c k : ℕ) (from to x : Name) → c + ops_of ss ≤ 2 ^ 64
+      → total (named_it x) (build_line ss c k from to) ≤ sum_from (meets (number_in x)) c (ops_of ss)
   named_line (Last s) c k from to x le = named s c k from to x le
   named_line (Then s ss) c k from to x le =
       let a = named s c (suc k) from (queue k) x (omega (arith, le)) in
@@ -140,7 +147,8 @@ mutual
       let q = sum_split (meets (number_in x)) (ops_in s) (ops_of ss) c in
       omega (arith, a, b, t, q)
 
-  named_branches : (ss : Streams) (c k a b : ℕ) (x : Name) → c + ops_of ss ≤ 2 ^ 64 → total (named_it x) (build_branches ss c k a b) ≤ sum_from (meets (number_in x)) c (ops_of ss)
+  named_branches : (ss : Streams) (c k a b : ℕ) (x : Name) → c + ops_of ss ≤ 2 ^ 64
+      → total (named_it x) (build_branches ss c k a b) ≤ sum_from (meets (number_in x)) c (ops_of ss)
   named_branches (Last s) c k a b x le = named s c k (queue a) (queue b) x le
   named_branches (Then s ss) c k a b x le =
       let e = named s c k (queue a) (queue b) x (omega (arith, le)) in

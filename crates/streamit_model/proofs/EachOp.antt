@@ -8,7 +8,8 @@ use Rattle.river_plan.specs.Forms.{Name, OpForm}
 use Rattle.river_plan.specs.Uses.{Each}
 use Rattle.river_plan.proofs.ShareLemmas.{each_append}
 use Rattle.brooklet_model.specs.ByIndex.{cycle}
-use Rattle.streamit_model.specs.Stream.{Splitter, Stream, Filter, Pipeline, SplitJoin, Streams, Last, Then, number_of, IsStream, AreStreams, IsSplitter, IsRound, IsSmall, AreSmall, IsSmallFilter, IsSmallSplitter}
+use Rattle.streamit_model.specs.Stream.{Splitter, Stream, Filter, Pipeline, SplitJoin, Streams, Last, Then, number_of, IsStream, AreStreams, IsSplitter}
+use Rattle.streamit_model.specs.Stream.{IsRound, IsSmall, AreSmall, IsSmallFilter, IsSmallSplitter}
 use Rattle.streamit_model.specs.Build.{numbered, queue, queues, ops_in, ops_of, queues_in, with_own, splitter, joiner, build, build_line, build_branches}
 
 pub record OfEach (P : OpForm → Type 0) : Type 0 where

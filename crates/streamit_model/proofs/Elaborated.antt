@@ -1,5 +1,6 @@
 -- Unrolled statements do what the block does as it is written.
-use Rattle.std.proofs.Common.{◌≡◌, ◌≢◌, ℕ, ℤ, pos, negsuc, ◌+◌, ◌-◌, ◌<◌, ◌≤◌, Bool, true, false, List, [], ◌∷◌, ◌++◌, length, Option, Some, None, Result, Ok, Err, refl, sym, ap, ◌∙◌, subst, arith, append_assoc, nat_lt, nat_le, nat_eq, ⊎_elim}
+use Rattle.std.proofs.Common.{◌≡◌, ◌≢◌, ℕ, ℤ, pos, negsuc, ◌+◌, ◌-◌, ◌<◌, ◌≤◌, Bool, true, false, List, [], ◌∷◌, ◌++◌, length, Option, Some, None, Result, Ok}
+use Rattle.std.proofs.Common.{Err, refl, sym, ap, ◌∙◌, subst, arith, append_assoc, nat_lt, nat_le, nat_eq, ⊎_elim}
 use Rattle.std.specs.Prelude.{if◌then◌else◌, ◌&&◌, slice_index_or, slice_set}
 use Rattle.std.proofs.lemmas.Bool.{and_parts}
 use Rattle.std.proofs.lemmas.List.{append-nil, map-append, get_or-set_same, get_or-set_other}
@@ -19,8 +20,11 @@ use Rattle.river_plan.proofs.NameLemmas.{cases_name, name_same as name_self}
 use Rattle.brooklet_model.specs.Machine.{at_name}
 use Rattle.text_forms.specs.Tree.{Spoken}
 use Rattle.text_forms.specs.Tree as tree
-use Rattle.streamit_model.specs.Source.{Statement, Declare, Assign, Push, Pop, If, For, Block, End, Then, pops, Values, said, Now, numbers, turns_between, each_turn, first_value, first_pops, does, do_all, do_optional, Optional, Unwritten, Written}
-use Rattle.streamit_model.specs.Elaborate.{Fault, Limit, BranchRates, PeekRange, on_ok, demand, Known, Var, Turn, Scope, find, constant_of, constant, named, peeked, term_of, At, counted, has_slot, is_new, slot_of, bound_of, first_term, first_popped, joined, one_step, Read, declared, after_arms, unrolled, step_of, steps_of, optional_of}
+use Rattle.streamit_model.specs.Source.{Statement, Declare, Assign, Push, Pop, If, For, Block, End, Then, pops, Values, said, Now, numbers, turns_between}
+use Rattle.streamit_model.specs.Source.{each_turn, first_value, first_pops, does, do_all, do_optional, Optional, Unwritten, Written}
+use Rattle.streamit_model.specs.Elaborate.{Fault, Limit, BranchRates, PeekRange, on_ok, demand, Known, Var, Turn, Scope, find, constant_of, constant, named}
+use Rattle.streamit_model.specs.Elaborate.{peeked, term_of, At, counted, has_slot, is_new, slot_of, bound_of, first_term, first_popped, joined, one_step, Read}
+use Rattle.streamit_model.specs.Elaborate.{declared, after_arms, unrolled, step_of, steps_of, optional_of}
 
 -- ANSWERS
 
@@ -161,7 +165,8 @@ holds_set : (b : Known) (z w : ℤ) (i : ℕ) (mem : List ℤ) → ((j : ℕ) �
 holds_set (Var j) z w i mem ne h = get_or-set_other mem i j w (pos 0) (ne j refl) ∙ h
 holds_set (Turn v) z w i mem ne h = h
 
-agrees_set : (n : Name) (i : ℕ) (z : ℤ) (sc : Scope) (slots : ℕ) (env : Values) (mem : List ℤ) → IsSound sc slots → slots ≤ length mem → find sc n ≡ Some (Var i)
+agrees_set : (n : Name) (i : ℕ) (z : ℤ) (sc : Scope) (slots : ℕ) (env : Values) (mem : List ℤ) → IsSound sc slots → slots ≤ length mem
+    → find sc n ≡ Some (Var i)
     → ((m : Name) (b : Known) → name_eq n m ≡ false → find sc m ≡ Some b → Holds b (env m) mem) → Agrees sc (at_name n z env) (slice_set mem i z)
 agrees_set n i z sc slots env mem s len f others = record {
   each = λ m b g. ⊎_elim
@@ -182,7 +187,8 @@ constant_found None z w mem h c = absurd (cc c)
 constant_found (Some (Var i)) z w mem h c = absurd (cc c)
 constant_found (Some (Turn v)) z w mem h c = sym (h (Turn v) refl) ∙ ok_is (pos v) z c
 
-constant_is : (sc : Scope) (t : Spoken) (xs : List ℤ) (env : Values) (mem : List ℤ) (k : ℕ) (z : ℤ) → Agrees sc env mem → constant sc t ≡ Ok z → said t xs env k ≡ z
+constant_is : (sc : Scope) (t : Spoken) (xs : List ℤ) (env : Values) (mem : List ℤ) (k : ℕ) (z : ℤ) → Agrees sc env mem → constant sc t ≡ Ok z
+    → said t xs env k ≡ z
 constant_is sc (tree.Number v) xs env mem k z a c = ok_is (pos v) z c
 constant_is sc (tree.Name n) xs env mem k z a c = constant_found (find sc n) z (env n) mem (a.each n) c
 constant_is sc (tree.Input p) xs env mem k z a c = absurd (cc c)
@@ -211,7 +217,8 @@ peeked_is : (e k : ℕ) (i : ℤ) (u : Term) (xs mem : List ℤ) → peeked e k 
 peeked_is e k (pos i) u xs mem h = ap (λ t. val t xs mem) (if_ok (nat_lt (k + i) e) (term.Input (k + i)) u (PeekRange (pos i) e) h).1
 peeked_is e k (negsuc i) u xs mem h = absurd (cc h)
 
-term_is : (e : ℕ) (sc : Scope) (t : Spoken) (xs : List ℤ) (env : Values) (mem : List ℤ) (k : ℕ) (u : Term) → Agrees sc env mem → term_of e sc t k ≡ Ok u → said t xs env k ≡ val u xs mem
+term_is : (e : ℕ) (sc : Scope) (t : Spoken) (xs : List ℤ) (env : Values) (mem : List ℤ) (k : ℕ) (u : Term) → Agrees sc env mem → term_of e sc t k ≡ Ok u
+    → said t xs env k ≡ val u xs mem
 term_is e sc (tree.Number v) xs env mem k u a c = ap (λ t. val t xs mem) (ok_is (term.Const (pos v)) u c)
 term_is e sc (tree.Name n) xs env mem k u a c = named_is (find sc n) u (env n) xs mem (a.each n) c
 term_is e sc (tree.Input p) xs env mem k u a c = absurd (cc c)
@@ -327,7 +334,8 @@ turned block n v vs s y h =
     record { room = counted_room s (λ t. on_ok (block (record t { scope = (n, Turn v) ∷ s.scope })) (λ a. on_ok (unrolled block n vs (record a.1 { scope = s.scope })) (λ b. Ok (joined a.0 b.0, b.1)))) y h; first = p.0; others = q.0; first_is = p.1; others_is = q.1; is = sym (ok_is (joined p.0.0 q.0.0, q.0.1) y q.2) }
 
 -- turns were read
-pub unrolled_grows : (block : At → Read) → Grown block → (n : Name) (vs : List ℕ) (s : At) (y : Steps × At) → find s.scope n ≡ None → unrolled block n vs s ≡ Ok y → Grows s y.1
+pub unrolled_grows : (block : At → Read) → Grown block → (n : Name) (vs : List ℕ) (s : At) (y : Steps × At) → find s.scope n ≡ None
+    → unrolled block n vs s ≡ Ok y → Grows s y.1
 unfolding left
 unrolled_grows block g n [] s y new h = grows_same s y.1 (ap (λ r. r.1.scope) (ok_is (Done, s) y h)) (ap (λ r. r.1.slots) (ok_is (Done, s) y h))
 unrolled_grows block g n (v ∷ vs) s y new h =
@@ -448,7 +456,8 @@ pub record Looped (e : ℕ) (n : Name) (low : Spoken) (upto : Bool) (high : Spok
   pub is : unrolled (steps_of e b) n (turns_between first upto last) s ≡ Ok y
 
 -- of a loop
-pub looped_parts : (e : ℕ) (n : Name) (low : Spoken) (upto : Bool) (high : Spoken) (b : Block) (s : At) (y : Steps × At) → step_of e (For n low upto high b) s ≡ Ok y → Looped e n low upto high b s y
+pub looped_parts : (e : ℕ) (n : Name) (low : Spoken) (upto : Bool) (high : Spoken) (b : Block) (s : At) (y : Steps × At)
+    → step_of e (For n low upto high b) s ≡ Ok y → Looped e n low upto high b s y
 looped_parts e n low upto high b s y h =
     let f4 = λ (l m : ℕ). unrolled (steps_of e b) n (numbers l (m + (if upto then 1 else 0) - l)) s in
     let f3 = λ (l : ℕ) (z : ℤ). on_ok (bound_of z) (f4 l) in
@@ -497,7 +506,8 @@ mutual
   step_grows e (Push t) s y h =
       let p = pushed_parts e t s y h in
       subst (λ r. Grows s r.1) (sym p.is) (grows_same s (record s { popped = s.popped + pops t; pushed = s.pushed + 1; size = s.size + 1 }) refl refl)
-  step_grows e Pop s y h = subst (λ r. Grows s r.1) (ok_is (Done, record s { popped = s.popped + 1 }) y h) (grows_same s (record s { popped = s.popped + 1 }) refl refl)
+  step_grows e Pop s y h =
+      subst (λ r. Grows s r.1) (ok_is (Done, record s { popped = s.popped + 1 }) y h) (grows_same s (record s { popped = s.popped + 1 }) refl refl)
   step_grows e (If t a b) s y h =
       let p = forked_parts e t a b s y h in
       let g = (steps_grow e a (at_arm t s) p.one p.one_is).slots in
@@ -527,7 +537,9 @@ pub record DoesBy (r : Ran) (s' : At) (n n' : Now) : Type 0 where
 
 -- what is done by code, wherever the reading began
 abbrev pub Met : List ℤ → (At → Read) → (Now → Now) → Type 0
-Met xs f g = (s : At) (y : Steps × At) (mem : List ℤ) (n : Now) → f s ≡ Ok y → IsSound s.scope s.slots → Agrees s.scope n.values mem → n.popped ≡ s.popped → y.1.slots ≤ length mem → DoesBy (ran y.0 xs mem) y.1 n (g n)
+Met xs f g =
+    (s : At) (y : Steps × At) (mem : List ℤ) (n : Now) → f s ≡ Ok y → IsSound s.scope s.slots → Agrees s.scope n.values mem → n.popped ≡ s.popped
+    → y.1.slots ≤ length mem → DoesBy (ran y.0 xs mem) y.1 n (g n)
 
 values-append : (ps qs : List (ℕ × List ℤ)) → first_values (ps ++ qs) ≡ first_values ps ++ first_values qs
 values-append ps qs = map-append (λ e. slice_index_or e.1 0 (pos 0)) ps qs
@@ -545,19 +557,23 @@ ran_joined (steps.Then c a) b xs mem =
     ap (λ r. after_both one r) (ran_joined a b xs one.slots)
     ∙ ap (λ l. record { pushes = l; slots = (ran b xs rest.slots).slots }) (sym (append_assoc one.pushes rest.pushes (ran b xs rest.slots).pushes))
 
-does_both : (a b : Steps) (xs mem : List ℤ) (s t : At) (n m o : Now) → DoesBy (ran a xs mem) s n m → DoesBy (ran b xs (ran a xs mem).slots) t m o → DoesBy (ran (joined a b) xs mem) t n o
+does_both : (a b : Steps) (xs mem : List ℤ) (s t : At) (n m o : Now) → DoesBy (ran a xs mem) s n m → DoesBy (ran b xs (ran a xs mem).slots) t m o
+    → DoesBy (ran (joined a b) xs mem) t n o
 unfolding after_both
 does_both a b xs mem s t n m o f g =
     let p = (ran a xs mem).pushes in
     let q = (ran b xs (ran a xs mem).slots).pushes in
     subst (λ r. DoesBy r t n o) (sym (ran_joined a b xs mem)) (record {
-      pushed = g.pushed ∙ ap (λ l. l ++ first_values q) f.pushed ∙ append_assoc n.pushed (first_values p) (first_values q) ∙ ap (λ l. n.pushed ++ l) (sym (values-append p q));
+      pushed =
+          g.pushed ∙ ap (λ l. l ++ first_values q) f.pushed ∙ append_assoc n.pushed (first_values p) (first_values q)
+          ∙ ap (λ l. n.pushed ++ l) (sym (values-append p q));
       popped = g.popped;
       agrees = g.agrees;
     })
 
 does_one : (c : Step) (xs mem : List ℤ) (s : At) (n m : Now) → DoesBy (ran_once c xs mem) s n m → DoesBy (ran (one_step c) xs mem) s n m
-does_one c xs mem s n m d = record { pushed = d.pushed ∙ ap (λ l. n.pushed ++ first_values l) (sym (append-nil (ran_once c xs mem).pushes)); popped = d.popped; agrees = d.agrees }
+does_one c xs mem s n m d =
+    record { pushed = d.pushed ∙ ap (λ l. n.pushed ++ first_values l) (sym (append-nil (ran_once c xs mem).pushes)); popped = d.popped; agrees = d.agrees }
 
 does_left : (r : Ran) (s t : At) (n m : Now) → Keeps s.scope t.scope → DoesBy r t n m → DoesBy r (left s t) n m
 unfolding left
@@ -571,8 +587,10 @@ does_arm false r q s n m o f g = g
 turn_now : Name → ℕ → Now → Now
 turn_now n v t = record t { values = at_name n (pos v) t.values }
 
-unrolled_met : (xs : List ℤ) (block : At → Read) (src : Now → Now) → Grown block → Met xs block src → (n : Name) (vs : List ℕ) (s : At) (y : Steps × At) (mem : List ℤ) (t : Now)
-    → find s.scope n ≡ None → unrolled block n vs s ≡ Ok y → IsSound s.scope s.slots → Agrees s.scope t.values mem → t.popped ≡ s.popped → y.1.slots ≤ length mem → DoesBy (ran y.0 xs mem) y.1 t (each_turn src n vs t)
+unrolled_met : (xs : List ℤ) (block : At → Read) (src : Now → Now) → Grown block → Met xs block src
+    → (n : Name) (vs : List ℕ) (s : At) (y : Steps × At) (mem : List ℤ) (t : Now)
+    → find s.scope n ≡ None → unrolled block n vs s ≡ Ok y → IsSound s.scope s.slots → Agrees s.scope t.values mem → t.popped ≡ s.popped
+    → y.1.slots ≤ length mem → DoesBy (ran y.0 xs mem) y.1 t (each_turn src n vs t)
 unfolding left turning turn_now
 unrolled_met xs block src g d n [] s y mem t new h ok a e le =
     subst (λ r. DoesBy (ran r.0 xs mem) r.1 t t) (ok_is (Done, s) y h) (record { pushed = sym (append-nil t.pushed); popped = e; agrees = a })
@@ -593,7 +611,8 @@ unrolled_met xs block src g d n (v ∷ vs) s y mem t new h ok a e le =
     let rest = unrolled_met xs block src g d n vs (left s first.1) p.others (ran first.0 xs mem).slots (src now) new p.others_is (more_slots s.scope s.slots first.1.slots (omega (arith, l0, l1)) ok) out.agrees out.popped (omega (arith, le', len)) in
     subst (λ (r : Steps × At). DoesBy (ran r.0 xs mem) r.1 t (each_turn src n (v ∷ vs) t)) (sym p.is) (does_both first.0 p.others.0 xs mem (left s first.1) p.others.1 t (src now) (each_turn src n (v ∷ vs) t) out rest)
 
-first_value_is : (e : ℕ) (t : Option Spoken) (s : At) (v : Term) (xs mem : List ℤ) (n : Now) → Agrees s.scope n.values mem → n.popped ≡ s.popped → first_term e t s ≡ Ok v → first_value t xs n ≡ val v xs mem
+first_value_is : (e : ℕ) (t : Option Spoken) (s : At) (v : Term) (xs mem : List ℤ) (n : Now) → Agrees s.scope n.values mem → n.popped ≡ s.popped
+    → first_term e t s ≡ Ok v → first_value t xs n ≡ val v xs mem
 first_value_is e None s v xs mem n a p h = ap (λ u. val u xs mem) (ok_is (term.Const (pos 0)) v h)
 first_value_is e (Some t) s v xs mem n a p h = ap (said t xs n.values) p ∙ term_is e s.scope t xs n.values mem s.popped v a h
 

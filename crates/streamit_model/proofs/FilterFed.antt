@@ -1,5 +1,6 @@
 -- A filter that is fed with a whole list gives what its firings on that list give.
-use Rattle.std.proofs.Common.{◌≡◌, ℕ, zero, suc, ℤ, ◌+◌, ◌*◌, ◌<◌, ◌≤◌, List, [], ◌∷◌, ◌++◌, length, take, drop, refl, sym, ap, ◌∙◌, arith, append_assoc, length-append, length-drop, ⊎_elim}
+use Rattle.std.proofs.Common.{◌≡◌, ℕ, zero, suc, ℤ, ◌+◌, ◌*◌, ◌<◌, ◌≤◌, List, [], ◌∷◌, ◌++◌, length, take, drop, refl, sym, ap, ◌∙◌, arith, append_assoc}
+use Rattle.std.proofs.Common.{length-append, length-drop, ⊎_elim}
 use Rattle.std.specs.Prelude.{if◌then◌else◌, nat_le}
 use Rattle.std.proofs.lemmas.List.{append-nil, drop-append-le, take-append-le, map-append}
 use Rattle.std.proofs.lemmas.Bool.{cases_lt}
@@ -32,11 +33,13 @@ module _ (f : FilterForm) (can : CanFilter f) where
   none_from zero k kept xs lt = refl
   none_from (suc n) k kept xs lt = if_gt (k * f.pop + f.peek) (length xs) _ _ lt
 
-  some_from : (n k : ℕ) (kept xs : List ℤ) → k * f.pop + f.peek ≤ length xs → firings_from f (suc n) k kept xs ≡ first_values (firing f k kept xs).pushes ++ firings_from f n (suc k) (firing f k kept xs).slots xs
+  some_from : (n k : ℕ) (kept xs : List ℤ) → k * f.pop + f.peek ≤ length xs
+      → firings_from f (suc n) k kept xs ≡ first_values (firing f k kept xs).pushes ++ firings_from f n (suc k) (firing f k kept xs).slots xs
   some_from n k kept xs le = if_le (k * f.pop + f.peek) (length xs) _ _ le
 
   -- the values that a run looks at are those of the whole list
-  window_is : (k : ℕ) (ys xs : List ℤ) (x : ℤ) → k * f.pop + f.peek ≤ length ys + 1 → take f.peek (drop (k * f.pop) (ys ++ x ∷ [])) ≡ take f.peek (drop (k * f.pop) (ys ++ x ∷ xs))
+  window_is : (k : ℕ) (ys xs : List ℤ) (x : ℤ) → k * f.pop + f.peek ≤ length ys + 1
+      → take f.peek (drop (k * f.pop) (ys ++ x ∷ [])) ≡ take f.peek (drop (k * f.pop) (ys ++ x ∷ xs))
   window_is k ys xs x le =
       let l = length-append ys (x ∷ []) in
       let d = length-drop (k * f.pop) (ys ++ x ∷ []) in
@@ -44,14 +47,16 @@ module _ (f : FilterForm) (can : CanFilter f) where
       ∙ ap (take f.peek) (sym (drop-append-le (k * f.pop) (ys ++ x ∷ []) xs (omega (arith, l, le))))
       ∙ ap (λ l. take f.peek (drop (k * f.pop) l)) (append_assoc ys (x ∷ []) xs)
 
-  runs : (k : ℕ) (kept ys xs : List ℤ) (x : ℤ) → k * f.pop + f.peek ≤ length ys + 1 → filter_one f x (state ys k kept) ≡ filter_ran (state (ys ++ x ∷ []) k kept) (firing f k kept (ys ++ x ∷ xs))
+  runs : (k : ℕ) (kept ys xs : List ℤ) (x : ℤ) → k * f.pop + f.peek ≤ length ys + 1
+      → filter_one f x (state ys k kept) ≡ filter_ran (state (ys ++ x ∷ []) k kept) (firing f k kept (ys ++ x ∷ xs))
   runs k kept ys xs x le =
       let l = length-append ys (x ∷ []) in
       let d = length-drop (k * f.pop) (ys ++ x ∷ []) in
       if_le f.peek (length (drop (k * f.pop) (ys ++ x ∷ []))) _ _ (omega (arith, l, d, le))
       ∙ ap (λ w. filter_ran (state (ys ++ x ∷ []) k kept) (run_kept f.body kept w)) (window_is k ys xs x le)
 
-  waits : (k : ℕ) (kept ys : List ℤ) (x : ℤ) → length ys + 1 < k * f.pop + f.peek → filter_one f x (state ys k kept) ≡ record { pushes = []; after = state (ys ++ x ∷ []) k kept }
+  waits : (k : ℕ) (kept ys : List ℤ) (x : ℤ) → length ys + 1 < k * f.pop + f.peek
+      → filter_one f x (state ys k kept) ≡ record { pushes = []; after = state (ys ++ x ∷ []) k kept }
   waits k kept ys x lt =
       let l = length-append ys (x ∷ []) in
       let d = length-drop (k * f.pop) (ys ++ x ∷ []) in
@@ -70,7 +75,8 @@ module _ (f : FilterForm) (can : CanFilter f) where
   ran_on : (x : ℤ) (xs ys : List ℤ) (n k : ℕ) (kept : List ℤ) → k * f.pop + f.peek ≤ length ys + 1 → length ys < n + k
       → ((m : ℕ) → n ≡ suc m → (fed_on xs (state (ys ++ x ∷ []) (suc k) (firing f k kept (ys ++ x ∷ xs)).slots)).outs 0 ≡ as_items (firings_from f m (suc k) (firing f k kept (ys ++ x ∷ xs)).slots (ys ++ x ∷ xs)))
       → (fed_on (x ∷ xs) (state ys k kept)).outs 0 ≡ as_items (firings_from f n k kept (ys ++ x ∷ xs))
-  ran_on x xs ys zero k kept enough fuel rest = absurd (let p = le-mul_of_pos_right k can.pops in let q = can.pops in let r = can.peeks in omega (arith, enough, fuel, p, q, r))
+  ran_on x xs ys zero k kept enough fuel rest =
+      absurd (let p = le-mul_of_pos_right k can.pops in let q = can.pops in let r = can.peeks in omega (arith, enough, fuel, p, q, r))
   ran_on x xs ys (suc n) k kept enough fuel rest =
       let r = firing f k kept (ys ++ x ∷ xs) in
       let whole : k * f.pop + f.peek ≤ length (ys ++ x ∷ xs) = (let l = length-append ys (x ∷ xs) in omega (arith, l, enough)) in
@@ -81,7 +87,8 @@ module _ (f : FilterForm) (can : CanFilter f) where
       ∙ sym (map-append (λ v. Flat (One (v ∷ []))) (first_values r.pushes) (firings_from f n (suc k) r.slots (ys ++ x ∷ xs)))
       ∙ ap as_items (sym (some_from n k kept (ys ++ x ∷ xs) whole))
 
-  pub fed : (xs ys : List ℤ) (n k : ℕ) (kept : List ℤ) → length ys < k * f.pop + f.peek → length ys + length xs ≤ n + k → (fed_on xs (state ys k kept)).outs 0 ≡ as_items (firings_from f n k kept (ys ++ xs))
+  pub fed : (xs ys : List ℤ) (n k : ℕ) (kept : List ℤ) → length ys < k * f.pop + f.peek → length ys + length xs ≤ n + k
+      → (fed_on xs (state ys k kept)).outs 0 ≡ as_items (firings_from f n k kept (ys ++ xs))
   fed [] ys n k kept lt fuel = sym (ap as_items (ap (firings_from f n k kept) (append-nil ys) ∙ none_from n k kept ys lt))
   fed (x ∷ xs) ys n k kept lt fuel = ⊎_elim
       (λ few.
@@ -97,5 +104,6 @@ module _ (f : FilterForm) (can : CanFilter f) where
       (λ m e. fed xs (ys ++ x ∷ []) m (suc k) r.slots few (omega (arith, l, fuel, e)) ∙ ap (λ l. as_items (firings_from f m (suc k) r.slots l)) (append_assoc ys (x ∷ []) xs)))
       (cases_lt (length ys + 1) (k * f.pop + f.peek))
 
-pub filter_fed : (f : FilterForm) (xs : List ℤ) → CanFilter f → (feed (fire (filter f) 0) (as_items xs) (Buffered (state [] 0 f.starts) ∷ [])).outs 0 ≡ as_items (filtered f xs)
+pub filter_fed : (f : FilterForm) (xs : List ℤ) → CanFilter f
+    → (feed (fire (filter f) 0) (as_items xs) (Buffered (state [] 0 f.starts) ∷ [])).outs 0 ≡ as_items (filtered f xs)
 filter_fed f xs can = let p = can.pops in let q = can.peeks in fed f can xs [] (length xs) 0 f.starts (omega (arith, p, q)) (omega arith)

@@ -1,5 +1,6 @@
 -- A filter of a plan gives what the filter as it is written gives.
-use Rattle.std.proofs.Common.{◌≡◌, ℕ, zero, suc, ℤ, pos, ◌+◌, ◌-◌, ◌*◌, ◌<◌, ◌≤◌, true, List, [], ◌∷◌, ◌++◌, length, map, take, drop, replicate, None, Ok, refl, sym, ap, ◌∙◌, subst, arith, nat_le, nat_eq, ⊎_elim, length-append, Option, Some}
+use Rattle.std.proofs.Common.{◌≡◌, ℕ, zero, suc, ℤ, pos, ◌+◌, ◌-◌, ◌*◌, ◌<◌, ◌≤◌, true, List, [], ◌∷◌, ◌++◌, length, map, take, drop, replicate, None, Ok, refl}
+use Rattle.std.proofs.Common.{sym, ap, ◌∙◌, subst, arith, nat_le, nat_eq, ⊎_elim, length-append, Option, Some}
 use Rattle.std.specs.Prelude.{if◌then◌else◌, ◌&&◌, slice_index_or, nat_lt}
 use Rattle.std.proofs.lemmas.Bool.{and_parts}
 use Rattle.std.proofs.lemmas.List.{length-replicate}
@@ -14,9 +15,11 @@ use Rattle.river_plan.proofs.NameLemmas.{cases_name, name_same}
 use Rattle.brooklet_model.specs.Machine.{at_name}
 use Rattle.streamit_model.specs.Source.{Block, Values, do_all, End, Now, do_optional, Optional, Unwritten, Written}
 use Rattle.streamit_model.specs.Elaborate.{Rates, Limit, on_ok, demand, Var, Scope, find, is_new, has_slot, At, steps_of, optional_of}
-use Rattle.streamit_model.specs.FilterSource.{FilterTree, push_of, pop_of, peek_of, nought, with_fields, at_start, initial, fires, fires_from, pushed_by, read_field, read_fields, nothing_read, starts_of, form_of, rates_of, kept_rates, elaborated}
+use Rattle.streamit_model.specs.FilterSource.{FilterTree, push_of, pop_of, peek_of, nought, with_fields, at_start, initial, fires, fires_from, pushed_by}
+use Rattle.streamit_model.specs.FilterSource.{read_field, read_fields, nothing_read, starts_of, form_of, rates_of, kept_rates, elaborated}
 use Rattle.streamit_model.specs.Filters.{firings_from, filtered}
-use Rattle.streamit_model.proofs.Elaborated.{fine, ok_parts, ok_is, demanded, new_is, some_is, found_here, found_other, at_here, at_other, Holds, Agrees, IsSound, Keeps, keeps_new, sound_var, steps_grow, steps_met}
+use Rattle.streamit_model.proofs.Elaborated.{fine, ok_parts, ok_is, demanded, new_is, some_is, found_here, found_other, at_here, at_other, Holds, Agrees}
+use Rattle.streamit_model.proofs.Elaborated.{IsSound, Keeps, keeps_new, sound_var, steps_grow, steps_met}
 
 -- THE FIELDS
 
@@ -50,7 +53,8 @@ pub record Read (fs : List Name) (s s' : At) : Type 0 where
 
 pub fields_read : (fs : List Name) (s s' : At) → read_fields fs s ≡ Ok s' → Read fs s s'
 unfolding next
-fields_read [] s s' h = subst (Read [] s) (ok_is s s' h) (record { keeps = λ n b f. f; slots = omega arith; sound = λ z. z; popped = refl; pushed = refl; size = refl })
+fields_read [] s s' h =
+    subst (Read [] s) (ok_is s s' h) (record { keeps = λ n b f. f; slots = omega arith; sound = λ z. z; popped = refl; pushed = refl; size = refl })
 fields_read (f ∷ fs) s s' h =
     let p = field f fs s s' h in
     let r = fields_read fs (next f s) s' p.others in
@@ -72,7 +76,9 @@ fields_few (f ∷ fs) s s' h le = let p = field f fs s s' h in fields_few fs (ne
     below e = grind (arith, e)
 
 -- the fields have the values of their slots
-fields_agree : (fs : List Name) (kept : List ℤ) (s s' : At) (env : Values) (mem : List ℤ) → read_fields fs s ≡ Ok s' → length kept ≡ length fs → ((i : ℕ) → i < length fs → slice_index_or mem (s.slots + i) (pos 0) ≡ slice_index_or kept i (pos 0)) → Agrees s.scope env mem → Agrees s'.scope (with_fields fs kept env) mem
+fields_agree : (fs : List Name) (kept : List ℤ) (s s' : At) (env : Values) (mem : List ℤ) → read_fields fs s ≡ Ok s' → length kept ≡ length fs
+    → ((i : ℕ) → i < length fs → slice_index_or mem (s.slots + i) (pos 0) ≡ slice_index_or kept i (pos 0)) → Agrees s.scope env mem
+    → Agrees s'.scope (with_fields fs kept env) mem
 unfolding next
 fields_agree [] kept s s' env mem h len at a = subst (λ t. Agrees t.scope env mem) (ok_is s s' h) a
 fields_agree (f ∷ fs) [] s s' env mem h len at a = absurd (omega (arith, len))
@@ -94,7 +100,8 @@ taken_one (z ∷ mem) zero n lt = refl
 taken_one (z ∷ mem) (suc k) n lt = taken_one mem k n (omega (arith, lt))
 
 -- what the fields have afterwards are the first slots
-fields_kept : (fs : List Name) (s s' : At) (sc : Scope) (env : Values) (mem : List ℤ) → read_fields fs s ≡ Ok s' → Keeps s'.scope sc → Agrees sc env mem → s.slots + length fs ≤ length mem → map env fs ≡ take (length fs) (drop s.slots mem)
+fields_kept : (fs : List Name) (s s' : At) (sc : Scope) (env : Values) (mem : List ℤ) → read_fields fs s ≡ Ok s' → Keeps s'.scope sc → Agrees sc env mem
+    → s.slots + length fs ≤ length mem → map env fs ≡ take (length fs) (drop s.slots mem)
 unfolding next
 fields_kept [] s s' sc env mem h k a le = refl
 fields_kept (f ∷ fs) s s' sc env mem h k a le =
@@ -124,7 +131,8 @@ pub record RunMet (fs : List Name) (run : List ℤ → Now → Now) (y : Steps �
   pub pushed : (run xs (at_start fs kept)).pushed ≡ first_values (ran y.0 xs (slots_from y.1.slots kept)).pushes
   pub fields : map (run xs (at_start fs kept)).values fs ≡ take (length kept) (ran y.0 xs (slots_from y.1.slots kept)).slots
 
-run_met : (fs : List Name) (b : Block) (e : ℕ) (s : At) (y : Steps × At) (kept xs : List ℤ) → read_fields fs nothing_read ≡ Ok s → steps_of e b s ≡ Ok y → length kept ≡ length fs → RunMet fs (do_all b) y kept xs
+run_met : (fs : List Name) (b : Block) (e : ℕ) (s : At) (y : Steps × At) (kept xs : List ℤ) → read_fields fs nothing_read ≡ Ok s → steps_of e b s ≡ Ok y
+    → length kept ≡ length fs → RunMet fs (do_all b) y kept xs
 run_met fs b e s y kept xs hf hb len =
     let r = fields_read fs nothing_read s hf in
     let g = steps_grow e b s y hb in
@@ -139,7 +147,9 @@ run_met fs b e s y kept xs hf hb len =
     let l = ran_length y.0 xs mem in
     record {
       pushed = d.pushed;
-      fields = fields_kept fs nothing_read s y.1.scope (do_all b xs (at_start fs kept)).values (ran y.0 xs mem).slots hf g.keeps d.agrees (omega (arith, l, m, a2, a3)) ∙ ap (λ k. take k (ran y.0 xs mem).slots) (sym len);
+      fields =
+          fields_kept fs nothing_read s y.1.scope (do_all b xs (at_start fs kept)).values (ran y.0 xs mem).slots hf g.keeps d.agrees (omega (arith, l, m, a2, a3))
+          ∙ ap (λ k. take k (ran y.0 xs mem).slots) (sym len);
     }
 
 run_optional : (fs : List Name) (b : Optional) (e : ℕ) (s : At) (y : Steps × At) (kept xs : List ℤ) → read_fields fs nothing_read ≡ Ok s

@@ -95,7 +95,8 @@ fits_each = record {
 
 -- where all queues that the operators name carry single values, and all their variables are private, they fit
 pub all_fit : (kind : Name → QueueType) (var : Name → VarKind) (ops : List OpForm) → Each IsFitting ops
-    → ((q : Name) → 0 < total (reads_it q) ops → kind q ≡ rows 1) → ((q : Name) → 0 < total (writes_it q) ops → kind q ≡ rows 1) → ((v : Name) → 0 < total (vars_it v) ops → var v ≡ Private)
+    → ((q : Name) → 0 < total (reads_it q) ops → kind q ≡ rows 1) → ((q : Name) → 0 < total (writes_it q) ops → kind q ≡ rows 1)
+    → ((v : Name) → 0 < total (vars_it v) ops → var v ≡ Private)
     → Each (FitsAt kind var) ops
 all_fit kind var [] h r w v = tt
 all_fit kind var (op ∷ ops) h r w v = (
@@ -197,7 +198,8 @@ within_each = record {
 
 pub ports_within : (ops : List OpForm) → Each IsWithin ops → All (λ n. n ≤ 64) (port_numbers ops)
 ports_within [] h = nothing 64
-ports_within (op ∷ ops) h = more 64 (length op.reads) (length op.writes ∷ port_numbers ops) h.0.reads (more 64 (length op.writes) (port_numbers ops) h.0.writes (ports_within ops h.1))
+ports_within (op ∷ ops) h =
+    more 64 (length op.reads) (length op.writes ∷ port_numbers ops) h.0.reads (more 64 (length op.writes) (port_numbers ops) h.0.writes (ports_within ops h.1))
 
 pub kernels_within : (l : Limit) (ops : List OpForm) → Each IsWithin ops → All (λ n. n ≤ most_of l) (kernel_numbers l ops)
 kernels_within l [] h = All-nil (λ n. n ≤ most_of l)

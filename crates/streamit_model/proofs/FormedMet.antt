@@ -1,5 +1,6 @@
 -- What is read of a filter is a well-formed filter within its limits.
-use Rattle.std.proofs.Common.{◌≡◌, ℕ, suc, ℤ, pos, negsuc, ◌+◌, ◌<◌, ◌≤◌, Bool, true, List, [], ◌∷◌, length, replicate, Option, Some, None, Ok, refl, sym, ap, ◌∙◌, subst, arith, nat_lt, nat_le, nat_eq}
+use Rattle.std.proofs.Common.{◌≡◌, ℕ, suc, ℤ, pos, negsuc, ◌+◌, ◌<◌, ◌≤◌, Bool, true, List, [], ◌∷◌, length, replicate, Option, Some, None, Ok, refl, sym, ap}
+use Rattle.std.proofs.Common.{◌∙◌, subst, arith, nat_lt, nat_le, nat_eq}
 use Rattle.std.specs.Prelude.{if◌then◌else◌, ◌&&◌, max}
 use Rattle.std.proofs.lemmas.Bool.{and_parts}
 use Rattle.work_code.specs.Term.{Term}
@@ -17,13 +18,16 @@ use Rattle.text_forms.specs.Tree as tree
 use Rattle.streamit_model.specs.Stream.{IsSmallFilter}
 use Rattle.streamit_model.specs.Source.{Statement, Declare, Assign, Push, Pop, If, For, Block, End, Then, pops, turns_between, Optional, Unwritten, Written}
 use Rattle.streamit_model.specs.Shallow.{IsLowFirst, IsShallow, AreShallow, IsItemlessFirst, KeepsItems, KeepAll, AreShallowOptional, KeepAllOptional}
-use Rattle.streamit_model.specs.Elaborate.{Limit, PeekRange, on_ok, Known, Var, Turn, Scope, find, constant, named, peeked, term_of, At, first_term, first_popped, joined, one_step, Read, unrolled, step_of, steps_of, optional_of}
+use Rattle.streamit_model.specs.Elaborate.{Limit, PeekRange, on_ok, Known, Var, Turn, Scope, find, constant, named, peeked, term_of, At, first_term}
+use Rattle.streamit_model.specs.Elaborate.{first_popped, joined, one_step, Read, unrolled, step_of, steps_of, optional_of}
 use Rattle.std.proofs.lemmas.List.{length-replicate}
 use Rattle.std.proofs.Math.Nat.{le_refl}
 use Rattle.streamit_model.specs.FilterSource.{FilterTree, push_of, pop_of, peek_of, elaborated, read_fields, nothing_read, starts_of}
 use Rattle.river_kernels.proofs.WellFormed.{steps_within}
 use Rattle.streamit_model.proofs.FilterMet.{fields_few, elaborated_parts, fields_read, sound_nothing}
-use Rattle.streamit_model.proofs.Elaborated.{ok_is, ok_parts, if_ok, IsSound, more_slots, Grown, left, at_arm, at_second, turning, grows_turn, unrolled_grows, step_grows, steps_grow, optional_grows, turned, declared_parts, assigned_parts, pushed_parts, forked_parts, looped_parts, followed_parts}
+use Rattle.streamit_model.proofs.Elaborated.{ok_is, ok_parts, if_ok, IsSound, more_slots, Grown, left, at_arm, at_second, turning, grows_turn, unrolled_grows}
+use Rattle.streamit_model.proofs.Elaborated.{step_grows, steps_grow, optional_grows, turned, declared_parts, assigned_parts, pushed_parts, forked_parts}
+use Rattle.streamit_model.proofs.Elaborated.{looped_parts, followed_parts}
 
 -- EXPRESSIONS
 
@@ -61,13 +65,15 @@ peeked_fits p m e k d (pos i) u le h =
     subst (Fits p m (suc d)) q.1 (lt_true (k + i) p (omega (arith, lt, le)), omega arith)
 peeked_fits p m e k d (negsuc i) u le h = absurd (cc h)
 
-term_fits : (p m e : ℕ) (sc : Scope) (t : Spoken) (k : ℕ) (u : Term) → e ≤ p → k + pops t ≤ p → ((n : Name) (i : ℕ) → find sc n ≡ Some (Var i) → i < m) → term_of e sc t k ≡ Ok u → Fits p m (tree.depth_of t) u
+term_fits : (p m e : ℕ) (sc : Scope) (t : Spoken) (k : ℕ) (u : Term) → e ≤ p → k + pops t ≤ p → ((n : Name) (i : ℕ) → find sc n ≡ Some (Var i) → i < m)
+    → term_of e sc t k ≡ Ok u → Fits p m (tree.depth_of t) u
 term_fits p m e sc (tree.Number v) k u le pp b c = subst (Fits p m 1) (ok_is (term.Const (pos v)) u c) (refl, omega arith)
 term_fits p m e sc (tree.Name n) k u le pp b c = named_fits p m (find sc n) u (b n) c
 term_fits p m e sc (tree.Input q) k u le pp b c = absurd (cc c)
 term_fits p m e sc (tree.Slot q) k u le pp b c = absurd (cc c)
 term_fits p m e sc (tree.Peek t) k u le pp b c = let q = ok_parts (constant sc t) (peeked e k) u c in peeked_fits p m e k (tree.depth_of t) q.0 u le q.2
-term_fits p m e sc tree.Pop k u le pp b c = subst (Fits p m 1) (if_ok (nat_le k 65536) (term.Input k) u Limit c).1 (lt_true k p (omega (arith, pp)), omega arith)
+term_fits p m e sc tree.Pop k u le pp b c =
+    subst (Fits p m 1) (if_ok (nat_le k 65536) (term.Input k) u Limit c).1 (lt_true k p (omega (arith, pp)), omega arith)
 term_fits p m e sc (tree.Neg t) k u le pp b c =
     let q = ok_parts (term_of e sc t k) (λ a. Ok (term.Neg a)) u c in
     let i = term_fits p m e sc t k q.0 le pp b q.1 in
@@ -136,7 +142,8 @@ counts_both s a b f g =
     }
 
 counts_done : (s t : At) → s.popped ≤ t.popped → s.pushed ≡ t.pushed → s.size ≡ t.size → s.slots ≡ t.slots → Counts s (Done, t)
-counts_done s t p q r w = record { popped = p; more = 0; pushes = refl; pushed = omega (arith, q); size = omega (arith, r); small = λ h. omega (arith, h, r); few = λ h. omega (arith, h, w) }
+counts_done s t p q r w =
+    record { popped = p; more = 0; pushes = refl; pushed = omega (arith, q); size = omega (arith, r); small = λ h. omega (arith, h, r); few = λ h. omega (arith, h, w) }
 
 mutual
   unfolding left at_arm at_second turning
@@ -152,8 +159,10 @@ mutual
       let first : Counts s (p.first.0, left s p.first.1) = record { popped = a.popped; more = a.more; pushes = a.pushes; pushed = a.pushed; size = omega (arith, z); small = λ h. a.small (omega (arith, r)); few = λ h. a.few h } in
       subst (Counts s) (sym p.is) (counts_both s (p.first.0, left s p.first.1) p.others first b)
 
-one_counts : (s t : At) (c : Step) (m : ℕ) → s.popped ≤ t.popped → pushes_once c ≡ Some m → s.pushed + m ≡ t.pushed → size_once c + s.size ≤ t.size → (s.size ≤ 16384 → t.size ≤ 16384) → (s.slots ≤ 256 → t.slots ≤ 256) → Counts s (one_step c, t)
-one_counts s t c m p q r z k w = record { popped = p; more = m; pushes = ap (λ o. both o (Some 0)) q ∙ ap Some (let e : m + 0 ≡ m = omega arith in e); pushed = r; size = omega (arith, z); small = k; few = w }
+one_counts : (s t : At) (c : Step) (m : ℕ) → s.popped ≤ t.popped → pushes_once c ≡ Some m → s.pushed + m ≡ t.pushed → size_once c + s.size ≤ t.size
+    → (s.size ≤ 16384 → t.size ≤ 16384) → (s.slots ≤ 256 → t.slots ≤ 256) → Counts s (one_step c, t)
+one_counts s t c m p q r z k w =
+    record { popped = p; more = m; pushes = ap (λ o. both o (Some 0)) q ∙ ap Some (let e : m + 0 ≡ m = omega arith in e); pushed = r; size = omega (arith, z); small = k; few = w }
 
 mutual
   unfolding left at_arm at_second
@@ -168,7 +177,8 @@ mutual
   step_counts e (Push t) s y h =
       let p = pushed_parts e t s y h in let r = p.room in
       subst (Counts s) (sym p.is) (one_counts s _ (steps.Push 0 (p.value ∷ [])) 1 (omega arith) refl refl (omega arith) (λ h. omega (arith, r)) (λ h. h))
-  step_counts e Pop s y h = subst (Counts s) (ok_is (Done, record s { popped = s.popped + 1 }) y h) (counts_done s (record s { popped = s.popped + 1 }) (omega arith) refl refl refl)
+  step_counts e Pop s y h =
+      subst (Counts s) (ok_is (Done, record s { popped = s.popped + 1 }) y h) (counts_done s (record s { popped = s.popped + 1 }) (omega arith) refl refl refl)
   step_counts e (If t a b) s y h =
       let p = forked_parts e t a b s y h in let r = p.room in
       let f = steps_count e a (at_arm t s) p.one p.one_is in
@@ -216,11 +226,13 @@ Formed p m f = (s : At) (y : Steps × At) → f s ≡ Ok y → IsSound s.scope s
 below_of : (s : At) (m : ℕ) → IsSound s.scope s.slots → s.slots ≤ m → (n : Name) (i : ℕ) → find s.scope n ≡ Some (Var i) → i < m
 below_of s m ok le n i f = let b = ok.below n i f in omega (arith, b, le)
 
-first_fits : (p m e : ℕ) (t : Option Spoken) (s : At) (u : Term) → IsLowFirst t → e ≤ p → s.popped + first_popped t ≤ p → IsSound s.scope s.slots → s.slots ≤ m → first_term e t s ≡ Ok u → is_term p m u ≡ true
+first_fits : (p m e : ℕ) (t : Option Spoken) (s : At) (u : Term) → IsLowFirst t → e ≤ p → s.popped + first_popped t ≤ p → IsSound s.scope s.slots → s.slots ≤ m
+    → first_term e t s ≡ Ok u → is_term p m u ≡ true
 first_fits p m e None s u low le pp ok sl h = is_one p m 64 u (omega arith) (subst (Fits p m 64) (ok_is (term.Const (pos 0)) u h) (refl, omega arith))
 first_fits p m e (Some t) s u low le pp ok sl h = is_one p m (tree.depth_of t) u low (term_fits p m e s.scope t s.popped u le pp (below_of s m ok sl) h)
 
-unrolled_formed : (p m : ℕ) (block : At → Read) → Grown block → Counted block → Formed p m block → (n : Name) (vs : List ℕ) (s : At) (y : Steps × At) → find s.scope n ≡ None → unrolled block n vs s ≡ Ok y → IsSound s.scope s.slots → y.1.popped ≤ p → y.1.slots ≤ m → is_steps p m one_port y.0 ≡ true
+unrolled_formed : (p m : ℕ) (block : At → Read) → Grown block → Counted block → Formed p m block → (n : Name) (vs : List ℕ) (s : At) (y : Steps × At)
+    → find s.scope n ≡ None → unrolled block n vs s ≡ Ok y → IsSound s.scope s.slots → y.1.popped ≤ p → y.1.slots ≤ m → is_steps p m one_port y.0 ≡ true
 unfolding left turning
 unrolled_formed p m block g k f n [] s y new h ok pp sl = subst (λ (r : Steps × At). is_steps p m one_port r.0 ≡ true) (ok_is (Done, s) y h) refl
 unrolled_formed p m block g k f n (v ∷ vs) s y new h ok pp sl =
@@ -258,7 +270,8 @@ mutual
       let sl' : s.slots ≤ m = subst (λ (r : Steps × At). r.1.slots ≤ m) q.is sl in
       subst (λ (r : Steps × At). is_steps p m one_port r.0 ≡ true) (sym q.is)
       (one_formed p m (steps.Push 0 (q.value ∷ [])) (both_true (is_term p m q.value) true (is_one p m (tree.depth_of t) q.value low (term_fits p m e s.scope t s.popped q.value le pp' (below_of s m ok sl') q.value_is)) refl))
-  step_formed p m e Pop le low s y h ok pp sl = subst (λ (r : Steps × At). is_steps p m one_port r.0 ≡ true) (ok_is (Done, record s { popped = s.popped + 1 }) y h) refl
+  step_formed p m e Pop le low s y h ok pp sl =
+      subst (λ (r : Steps × At). is_steps p m one_port r.0 ≡ true) (ok_is (Done, record s { popped = s.popped + 1 }) y h) refl
   step_formed p m e (If t a b) le low s y h ok pp sl =
       let q = forked_parts e t a b s y h in
       let ga = (steps_grow e a (at_arm t s) q.one q.one_is).slots in
@@ -339,7 +352,8 @@ mutual
   optional_same e (Written b) k s y h = steps_same e b k s y h
 
 -- what is read of `init` runs on the fields alone
-pub init_runs : (fs : List Name) (b : Optional) (s : At) (y : Steps × At) → read_fields fs nothing_read ≡ Ok s → AreShallowOptional b → KeepAllOptional b → optional_of 0 b s ≡ Ok y → CanRun 0 (record { inputs = 0; slots = y.1.slots; steps = y.0 }) (length fs)
+pub init_runs : (fs : List Name) (b : Optional) (s : At) (y : Steps × At) → read_fields fs nothing_read ≡ Ok s → AreShallowOptional b → KeepAllOptional b
+    → optional_of 0 b s ≡ Ok y → CanRun 0 (record { inputs = 0; slots = y.1.slots; steps = y.0 }) (length fs)
 init_runs fs b s y hf low k h =
     let r = fields_read fs nothing_read s hf in
     let g = (optional_grows 0 b s y h).slots in

@@ -20,7 +20,8 @@ n k = Number k
 
 -- sums of three in a row
 sum_tree : FilterTree
-sum_tree = record { fields = []; init = Unwritten; push = Some 1; pop = Some 1; peek = Some 3; work = then_do (source.Push (Bin op.Add (Bin op.Add (Peek (n 0)) (Peek (n 1))) (Peek (n 2)))) (then_do source.Pop End) }
+sum_tree =
+    record { fields = []; init = Unwritten; push = Some 1; pop = Some 1; peek = Some 3; work = then_do (source.Push (Bin op.Add (Bin op.Add (Peek (n 0)) (Peek (n 1))) (Peek (n 2)))) (then_do source.Pop End) }
 
 sums : pushed_by sum_tree (pos 1 ∷ pos 2 ∷ pos 3 ∷ pos 4 ∷ []) ≡ pos 6 ∷ pos 9 ∷ []
 unfolding sum_tree int_wrap
@@ -35,7 +36,8 @@ id_tree : FilterTree
 id_tree = record { fields = []; init = Unwritten; push = Some 1; pop = Some 1; peek = Some 1; work = then_do (source.Push Pop) End }
 
 both : Program
-both = (record { name = codes "Id"; body = AFilter id_tree }) ∷ (record { name = codes "Both"; body = ASplitJoin (Turns (Some (1 ∷ 2 ∷ []))) (record { first = codes "Id"; others = codes "Id" ∷ [] }) (Some (1 ∷ 2 ∷ [])) }) ∷ []
+both =
+    (record { name = codes "Id"; body = AFilter id_tree }) ∷ (record { name = codes "Both"; body = ASplitJoin (Turns (Some (1 ∷ 2 ∷ []))) (record { first = codes "Id"; others = codes "Id" ∷ [] }) (Some (1 ∷ 2 ∷ [])) }) ∷ []
 
 both_means : program_outputs both (pos 1 ∷ pos 2 ∷ pos 3 ∷ pos 4 ∷ pos 5 ∷ []) ≡ pos 1 ∷ pos 2 ∷ pos 3 ∷ pos 4 ∷ pos 5 ∷ []
 unfolding both id_tree

@@ -25,7 +25,8 @@ use Rattle.brooklet_model.proofs.Cycles.{positive_cycle}
 use Rattle.brooklet_model.proofs.Collected.{fed_joins, settles}
 use Rattle.streamit_model.proofs.Rounds.{copied, shares_are, dealt_map, collected_map, blanks_mapped}
 
-pub filter_means : (f : FilterForm) (g : ℕ → List item.Item) (xs : List ℤ) → IsTrue (is_filter f) → g 0 ≡ as_items xs → (feed_all (filter f) g (first_kept (filter f))).outs 0 ≡ as_items (filtered f xs)
+pub filter_means : (f : FilterForm) (g : ℕ → List item.Item) (xs : List ℤ) → IsTrue (is_filter f) → g 0 ≡ as_items xs
+    → (feed_all (filter f) g (first_kept (filter f))).outs 0 ≡ as_items (filtered f xs)
 filter_means f g xs ok e =
     ap (λ r. r.outs 0) (one_input (filter f) g (first_kept (filter f)) refl)
     ∙ ap (λ l. (feed (fire (filter f) 0) l (first_kept (filter f))).outs 0) e
@@ -34,7 +35,8 @@ filter_means f g xs ok e =
 pub duplicate_means : (n p : ℕ) (g : ℕ → List item.Item) → p < n → (feed_all (duplicate n) g (first_kept (duplicate n))).outs p ≡ g 0
 duplicate_means n p g lt = ap (λ r. r.outs p) (one_input (duplicate n) g (first_kept (duplicate n)) refl) ∙ copied n p (g 0) lt
 
-pub deal_means : (ws : List ℕ) (n p : ℕ) (g : ℕ → List item.Item) (xs : List ℤ) → IsRound ws n → p < n → g 0 ≡ as_items xs → (feed_all (deal (weights ws)) g (first_kept (deal (weights ws)))).outs p ≡ as_items (dealt ws p xs)
+pub deal_means : (ws : List ℕ) (n p : ℕ) (g : ℕ → List item.Item) (xs : List ℤ) → IsRound ws n → p < n → g 0 ≡ as_items xs
+    → (feed_all (deal (weights ws)) g (first_kept (deal (weights ws)))).outs p ≡ as_items (dealt ws p xs)
 deal_means ws n p g xs r lt e =
     ap (λ r. r.outs p) (one_input (deal (weights ws)) g (first_kept (deal (weights ws))) refl)
     ∙ ap (λ l. (feed (fire (deal (weights ws)) 0) l (first_kept (deal (weights ws)))).outs p) e
@@ -42,7 +44,9 @@ deal_means ws n p g xs r lt e =
     ∙ deals ws p (as_items xs) r.each (positive_cycle ws n p r.each r.number lt)
     ∙ dealt_map (λ x. Flat (One (x ∷ []))) ws p 0 xs
 
-pub collect_means : (ws : List ℕ) (g : ℕ → List item.Item) (ls : List (List ℤ)) → IsRound ws (length ls) → ((p : ℕ) → p < length ls → g p ≡ as_items (list_at ls p)) → (feed_all (collect (weights ws)) g (first_kept (collect (weights ws)))).outs 0 ≡ as_items (collected ws ls)
+pub collect_means : (ws : List ℕ) (g : ℕ → List item.Item) (ls : List (List ℤ)) → IsRound ws (length ls)
+    → ((p : ℕ) → p < length ls → g p ≡ as_items (list_at ls p))
+    → (feed_all (collect (weights ws)) g (first_kept (collect (weights ws)))).outs 0 ≡ as_items (collected ws ls)
 collect_means ws g ls r e =
     let n = length ls in
     let f = λ (x : ℤ). Flat (One (x ∷ [])) in
@@ -54,7 +58,8 @@ collect_means ws g ls r e =
     ∙ ap (λ t. (settled itself ws (record { port = 0; had = 0; lists = t })).0) (blanks_mapped f ls g e)
     ∙ cases_empty ws ls r
   where
-    cases_empty : (ws : List ℕ) (ls : List (List ℤ)) → IsRound ws (length ls) → (settled itself ws (record { port = 0; had = 0; lists = map as_items ls })).0 ≡ as_items (collected ws ls)
+    cases_empty : (ws : List ℕ) (ls : List (List ℤ)) → IsRound ws (length ls)
+        → (settled itself ws (record { port = 0; had = 0; lists = map as_items ls })).0 ≡ as_items (collected ws ls)
     cases_empty ws [] r = refl
     cases_empty ws (l ∷ ls) r =
         settles ws (map as_items (l ∷ ls)) r.each (positive_cycle ws (length (l ∷ ls)) 0 r.each r.number (omega arith))

@@ -28,7 +28,8 @@ decimal_goes n lt = decimal_by_steps (λ k ds. list_all is_word ds ≡ true)
     n lt
 
 -- a name of at most 60 bytes, with a number of at most three digits behind it
-pub numbered_name : (b : ℕ) (bs : List ℕ) (k : ℕ) → is_letter b ≡ true → list_all is_word bs ≡ true → length bs ≤ 59 → k < 1000 → is_name (numbered (b ∷ bs) k) ≡ true
+pub numbered_name : (b : ℕ) (bs : List ℕ) (k : ℕ) → is_letter b ≡ true → list_all is_word bs ≡ true → length bs ≤ 59 → k < 1000
+    → is_name (numbered (b ∷ bs) k) ≡ true
 unfolding is_word is_letter is_digit
 numbered_name b bs k s g len lt =
     let d = decimal_goes k (omega (arith, lt)) in

@@ -20,7 +20,8 @@ more_known (op ∷ ops) known known' m h = (
       (more_or_zero (known q))) h.1,
 )
 
-reads-append : (xs ys : List OpForm) (known after : Name → ℕ) → ReadsBefore known xs → ((q : Name) → 0 < after q → 0 < known q + total (writes_it q) xs) → ReadsBefore after ys → ReadsBefore known (xs ++ ys)
+reads-append : (xs ys : List OpForm) (known after : Name → ℕ) → ReadsBefore known xs → ((q : Name) → 0 < after q → 0 < known q + total (writes_it q) xs)
+    → ReadsBefore after ys → ReadsBefore known (xs ++ ys)
 reads-append [] ys known after h m r = more_known ys after known (λ q lt. let e = m q lt in omega (arith, e)) r
 reads-append (x ∷ xs) ys known after h m r = (h.0, reads-append xs ys (and_writes known x) after h.1 (λ q lt. let e = m q lt in omega (arith, e)) r)
 
@@ -59,7 +60,8 @@ mutual
       (λ q lt. lt)
       (ordered_line ss (c + ops_in s) (suc k + queues_in s) (queue k) to _ (let w = writes s c (suc k) from (queue k) (queue k) in let o = one_same (queue k) in omega (arith, w, o)))
 
-  ordered_branches : (ss : Streams) (c k a b : ℕ) (known : Name → ℕ) → ((q : Name) → 0 < count q (queues a (number_of ss)) → 0 < known q) → ReadsBefore known (build_branches ss c k a b)
+  ordered_branches : (ss : Streams) (c k a b : ℕ) (known : Name → ℕ) → ((q : Name) → 0 < count q (queues a (number_of ss)) → 0 < known q)
+      → ReadsBefore known (build_branches ss c k a b)
   ordered_branches (Last s) c k a b known h = ordered s c k (queue a) (queue b) known (h (queue a) (let o = one_same (queue a) in omega (arith, o)))
   ordered_branches (Then s ss) c k a b known h =
       let one = build s c k (queue a) (queue b) in

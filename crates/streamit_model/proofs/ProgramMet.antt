@@ -1,18 +1,23 @@
 -- The tree of a program means what the program means.
-use Rattle.std.proofs.Common.{◌≡◌, ℕ, suc, ℤ, ◌<◌, ◌≤◌, Bool, true, false, List, [], ◌∷◌, length, Option, Some, None, Ok, refl, sym, ap, ◌∙◌, subst, arith, nat_lt, nat_le, nat_eq, ◌+◌, Result, Err}
+use Rattle.std.proofs.Common.{◌≡◌, ℕ, suc, ℤ, ◌<◌, ◌≤◌, Bool, true, false, List, [], ◌∷◌, length, Option, Some, None, Ok, refl, sym, ap, ◌∙◌, subst, arith}
+use Rattle.std.proofs.Common.{nat_lt, nat_le, nat_eq, ◌+◌, Result, Err}
 use Rattle.std.specs.Prelude.{if◌then◌else◌, ◌&&◌}
 use Rattle.std.specs.List.{list_all, AllByRecursion}
 use Rattle.std.proofs.lemmas.Bool.{and_parts}
 use Rattle.river_base.specs.Name.{name_eq}
 use Rattle.river_plan.specs.Forms.{Name}
-use Rattle.streamit_model.specs.Stream.{Splitter, Duplicate, RoundRobin, Stream, Filter, Pipeline, SplitJoin, Streams, Last, Then, number_of, nesting, IsStream, AreStreams, IsSmall, AreSmall, IsRound, IsSplitter, IsSmallSplitter}
+use Rattle.streamit_model.specs.Stream.{Splitter, Duplicate, RoundRobin, Stream, Filter, Pipeline, SplitJoin, Streams, Last, Then, number_of, nesting, IsStream}
+use Rattle.streamit_model.specs.Stream.{AreStreams, IsSmall, AreSmall, IsRound, IsSplitter, IsSmallSplitter}
 use Rattle.brooklet_model.specs.ByIndex.{cycle, dealt, collected}
 use Rattle.streamit_model.specs.Means.{split, outputs, in_line, side_by_side}
 use Rattle.streamit_model.specs.Elaborate.{Fault, Limit, Weights, on_ok, demand}
 use Rattle.streamit_model.specs.FilterSource.{elaborated}
 use Rattle.streamit_model.specs.Build.{ops_in}
-use Rattle.streamit_model.specs.Program.{Dealing, Copies, Turns, Body, AFilter, APipeline, ASplitJoin, Program, weights_for, Works, look, or_same, work_of, piped, branched, branch_count, share_of, body_works, all_work, last_of, program_outputs, IsShallowBody, AreShallowUnits}
-use Rattle.streamit_model.specs.Judged.{Refusal, on_fine, in_unit, Streamed, found, added, streams_of, any, branches, round_of, splitter_of, stream_of, not_there, unit_of, all_streams, few_operators, judged}
+use Rattle.streamit_model.specs.Program.{Dealing, Copies, Turns, Body, AFilter, APipeline, ASplitJoin, Program, weights_for, Works, look, or_same, work_of}
+use Rattle.streamit_model.specs.Program.{piped, branched, branch_count, share_of, body_works, all_work, last_of, program_outputs, IsShallowBody}
+use Rattle.streamit_model.specs.Program.{AreShallowUnits}
+use Rattle.streamit_model.specs.Judged.{Refusal, on_fine, in_unit, Streamed, found, added, streams_of, any, branches, round_of, splitter_of, stream_of}
+use Rattle.streamit_model.specs.Judged.{not_there, unit_of, all_streams, few_operators, judged}
 use Rattle.streamit_model.proofs.Elaborated.{fine, ok_is, ok_parts, demanded}
 use Rattle.streamit_model.proofs.FilterMet.{filter_met}
 use Rattle.streamit_model.proofs.FormedMet.{filter_formed}
@@ -36,7 +41,8 @@ found_is : (o : Option Stream) (s : Stream) → found o ≡ Ok s → o ≡ Some 
 found_is None s h = absurd (cc h)
 found_is (Some t) s h = ap Some (ok_is t s h)
 
-look_by : (b : Bool) (k : Stream) (o : Option Stream) (s : Stream) (e : Works) (p : Option Works) → (if b then Some k else o) ≡ Some s → Fits k e → (o ≡ Some s → Fits s (or_same p)) → Fits s (or_same (if b then Some e else p))
+look_by : (b : Bool) (k : Stream) (o : Option Stream) (s : Stream) (e : Works) (p : Option Works) → (if b then Some k else o) ≡ Some s → Fits k e
+    → (o ≡ Some s → Fits s (or_same p)) → Fits s (or_same (if b then Some e else p))
 look_by true k o s e p h f g = subst (λ t. Fits t e) (let q : k ≡ s = cc in q) f
 look_by false k o s e p h f g = g h
 
@@ -64,7 +70,8 @@ added_is may known i n s h =
     let r = ok_parts (demand (nat_lt (nesting q.0) 64) Limit) (λ v. fine q.0) s q.2 in
     (demanded (may i) Limit p.0 p.1, found_is (look known n) s (q.1 ∙ ap fine (ok_is q.0 s r.2)))
 
-adds_fit : (may : ℕ → Bool) (known : Streamed) (env : List (Name × Works)) (i : ℕ) (n : Name) (ms : List Name) (ss : Streams) → AllFit known env → streams_of may known i n ms ≡ Ok ss → AddsFit ss env n ms
+adds_fit : (may : ℕ → Bool) (known : Streamed) (env : List (Name × Works)) (i : ℕ) (n : Name) (ms : List Name) (ss : Streams) → AllFit known env
+    → streams_of may known i n ms ≡ Ok ss → AddsFit ss env n ms
 adds_fit may known env i n [] ss a h =
     let p = ok_parts (added may known i n) (λ s. Ok (Last s)) ss h in
     let f = looked known env n p.0 a (added_is may known i n p.0 p.1).1 in
@@ -137,7 +144,8 @@ split_parts (Turns ws) n p h =
 same_each : {A B : Type 0} (f g : A → B) → ((x : A) → f x ≡ g x) → f ≡ g
 same_each f g h = λ i x. h x i
 
-stream_fits : (known : Streamed) (env : List (Name × Works)) (name : Name) (b : Body) (s : Stream) → AllFit known env → IsShallowBody b → stream_of known name b ≡ Ok s → Fits s (body_works env b)
+stream_fits : (known : Streamed) (env : List (Name × Works)) (name : Name) (b : Body) (s : Stream) → AllFit known env → IsShallowBody b
+    → stream_of known name b ≡ Ok s → Fits s (body_works env b)
 stream_fits known env name (AFilter t) s a low h =
     let p = ok_parts (elaborated t) (λ f. Ok (Filter name f)) s h in
     let g = filter_formed t p.0 low p.1 in
@@ -180,7 +188,8 @@ fine_parts : {A B : Type 0} (r : Result A Refusal) (f : A → Result B Refusal) 
 fine_parts (Ok x) f y h = (x, refl, h)
 fine_parts (Err e) f y h = absurd (cc h)
 
-all_fit : (k : ℕ) (known : Streamed) (env : List (Name × Works)) (p : Program) (all : Streamed) → AllFit known env → AreShallowUnits p → all_streams k known p ≡ took all → AllFit all (all_work env p)
+all_fit : (k : ℕ) (known : Streamed) (env : List (Name × Works)) (p : Program) (all : Streamed) → AllFit known env → AreShallowUnits p
+    → all_streams k known p ≡ took all → AllFit all (all_work env p)
 all_fit k known env [] all a low h = subst (λ k. AllFit k env) (took_is known all h) a
 all_fit k known env (u ∷ us) all a low h =
     let q = unit_parts k (unit_of known u) (λ s. all_streams (suc k) ((u.name, s) ∷ known) us) all h in

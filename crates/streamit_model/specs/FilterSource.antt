@@ -1,5 +1,6 @@
 -- A filter as it is written: what it means on a whole list, and the filter of its plan.
-use Rattle.std.specs.Prelude.{ℕ, zero, suc, ℤ, pos, ◌+◌, ◌*◌, ◌&&◌, List, [], ◌∷◌, ◌++◌, length, map, take, drop, replicate, Option, Some, None, Result, Ok, if◌then◌else◌, nat_le, nat_eq}
+use Rattle.std.specs.Prelude.{ℕ, zero, suc, ℤ, pos, ◌+◌, ◌*◌, ◌&&◌, List, [], ◌∷◌, ◌++◌, length, map, take, drop, replicate, Option, Some, None, Result, Ok}
+use Rattle.std.specs.Prelude.{if◌then◌else◌, nat_le, nat_eq}
 use Rattle.work_code.specs.Steps.{Steps}
 use Rattle.kern_rows.specs.Runs.{run_kept}
 use Rattle.kern_rows.specs.Forms.{FilterForm}
@@ -85,7 +86,8 @@ abbrev pub starts_of : ℕ → Steps × At → List ℤ
 starts_of n i = (run_kept (record { inputs = 0; slots = i.1.slots; steps = i.0 }) (replicate n (pos 0)) []).slots
 
 abbrev pub form_of : FilterTree → Steps × At → Steps × At → FilterForm
-form_of t i w = record { peek = peek_of t; pop = pop_of t; push = push_of t; body = record { inputs = peek_of t; slots = w.1.slots; steps = w.0 }; starts = starts_of (length t.fields) i }
+form_of t i w =
+    record { peek = peek_of t; pop = pop_of t; push = push_of t; body = record { inputs = peek_of t; slots = w.1.slots; steps = w.0 }; starts = starts_of (length t.fields) i }
 
 -- rates of pushes, pops and looks: none is above 65,536; a firing pops an item or more, and no more than it looks at
 abbrev pub rates_of : ℕ → ℕ → ℕ → Result (Unit {0}) Fault

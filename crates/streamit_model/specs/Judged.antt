@@ -49,7 +49,8 @@ branches i = nat_lt i 64
 
 -- the weights of n branches: one for each, none of them 0, and then their sum
 abbrev pub fitting_round : List ℕ → ℕ → Result (List ℕ) Fault
-fitting_round vs n = on_ok (demand (nat_eq (length vs) n && list_all (λ w. nat_le 1 w) vs) Weights) (λ u. on_ok (demand (nat_le (cycle vs) 65536) Limit) (λ v. Ok vs))
+fitting_round vs n =
+    on_ok (demand (nat_eq (length vs) n && list_all (λ w. nat_le 1 w) vs) Weights) (λ u. on_ok (demand (nat_le (cycle vs) 65536) Limit) (λ v. Ok vs))
 
 abbrev pub round_of : Option (List ℕ) → ℕ → Result (List ℕ) Fault
 round_of ws n = fitting_round (weights_for ws n) n

@@ -8,7 +8,8 @@ pub loop-decl-init : goal.loop-decl-init
 loop-decl-init c = refl
 
 pub loop-decl-preserved : goal.loop-decl-preserved
-loop-decl-preserved c = kind_next c.args.queue.now c.as_slice-decl-items.result.now c.loop-decl.decl-index c.decl-item.result c.loop-decl-test.true c.decl-item.is (sym c.eq.ensures ∙ c.if-eq.false) c.loop-decl.invariant
+loop-decl-preserved c =
+    kind_next c.args.queue.now c.as_slice-decl-items.result.now c.loop-decl.decl-index c.decl-item.result c.loop-decl-test.true c.decl-item.is (sym c.eq.ensures ∙ c.if-eq.false) c.loop-decl.invariant
 
 pub returns-then-eq : goal.returns-then-eq
 returns-then-eq c =

@@ -7,7 +7,8 @@ pub returns-in-Some : goal.returns-in-Some
 returns-in-Some c = kind_first (plan_form c.args.raw.now) c.args.queue.now c.in-Some.kind (sym c.kind_in.ensures ∙ c.in-Some.is)
 
 pub returns-in-Some-kind_in : goal.returns-in-Some-kind_in
-returns-in-Some-kind_in c = kind_second (plan_form c.args.raw.now) c.args.queue.now c.in-Some-kind_in.kind (sym c.kind_in.ensures ∙ c.in_default.is) (sym c.kind_in-2.ensures ∙ c.in-Some-kind_in.is)
+returns-in-Some-kind_in c =
+    kind_second (plan_form c.args.raw.now) c.args.queue.now c.in-Some-kind_in.kind (sym c.kind_in.ensures ∙ c.in_default.is) (sym c.kind_in-2.ensures ∙ c.in-Some-kind_in.is)
 
 pub returns-in-Some-kind_in-2 : goal.returns-in-Some-kind_in-2
 returns-in-Some-kind_in-2 c =
