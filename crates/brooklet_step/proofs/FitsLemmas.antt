@@ -1,19 +1,12 @@
 -- What tests of plans and inputs say.
-use Rattle.std.proofs.Common.{◌≡◌, ℤ, ◌+◌, Bool, true, false, Some, List, [], ◌∷◌, ◌++◌, length, refl, subst, sym, ap, ◌∙◌, arith, length-append, get_or}
-use Rattle.std.specs.Prelude.{IsTrue, ◌↔◌, ◌&&◌}
+use Rattle.std.proofs.Common.{◌≡◌, ℤ, ◌+◌, Bool, true, false, Some, List, [], refl, sym, ap, ◌∙◌, arith, get_or}
+use Rattle.std.specs.Prelude.{IsTrue}
 use Rattle.std.specs.declared.cmp.Ordering.{Ordering}
 use Rattle.std.specs.declared.cmp.Ordering.TheVariants.{Less, Equal, Greater}
 use Rattle.std.specs.Ordering.{is_le, is_lt, ordering_reverse, partial_le}
 use Rattle.std.specs.List.{IsAllAdjacentAnswer}
 use Rattle.river_base.specs.Row.{row_cmp, row_total}
 use Rattle.river_base.specs.Held.{IsAscending}
-use Rattle.std.specs.List.{All, list_all}
-use Rattle.std.proofs.Math.ListN.{get_or-append}
-use Rattle.std.proofs.lemmas.List.{get_or-append-add}
-use Rattle.std.proofs.lemmas.Bool.{and_parts, true≢false}
-use Rattle.std.proofs.lemmas.List.Elements.{All-head, All-tail, All-cons, All-nil, All-append}
-use Rattle.river_plan.specs.declared.plan.Decl.{Decl}
-use Rattle.river_plan.specs.Forms.{PlanForm, all_decls}
 
 le_back : (o : Ordering) → is_le o ≡ true → is_lt (ordering_reverse o) ≡ false
 le_back Less h = refl

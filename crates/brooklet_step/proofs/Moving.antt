@@ -1,7 +1,8 @@
 -- Lists whose items move out one after another.
-use Rattle.std.proofs.Common.{◌≡◌, ℕ, ◌+◌, ◌<◌, ◌≤◌, List, [], ◌∷◌, ◌++◌, length, take, refl, sym, ap, ◌∙◌, arith, append_assoc, get_or-set_other}
+use Rattle.std.proofs.Common.{◌≡◌, ℕ, suc, ◌+◌, ◌<◌, ◌≤◌, List, [], ◌∷◌, ◌++◌, length, take, refl, sym, ap, ◌∙◌, arith, append_assoc, get_or-set_other, replicate, reverse, ⊎_elim, length-append}
 use Rattle.std.specs.Prelude.{slice_set}
-use Rattle.std.proofs.lemmas.List.{take_more, length-set}
+use Rattle.std.proofs.lemmas.Bool.{cases_lt}
+use Rattle.std.proofs.lemmas.List.{take_more, length-set, get_or-set_same, reverse-append}
 use Rattle.river_base.specs.Places.{list_at}
 
 -- from this place on the lists are as they were
@@ -28,3 +29,45 @@ pub moved_next : {A : Type 0} (done : ℕ) (start queues queues' first now : Lis
 moved_next done start queues queues' first now xs lt u q x e =
     e ∙ ap (λ l. l ++ xs ∷ []) q ∙ append_assoc start (take done first) (xs ∷ [])
     ∙ ap (λ (y : List _). start ++ (take done first ++ y ∷ [])) (x ∙ u.rest done (omega arith)) ∙ ap (λ l. start ++ l) (sym (take_list_more first done lt))
+
+-- LISTS THAT BECOME EMPTY
+
+-- lists of which none has anything
+pub all_blank : {A : Type 0} (ls : List (List A)) → ((q : ℕ) → q < length ls → list_at ls q ≡ []) → ls ≡ replicate (length ls) []
+all_blank [] h = refl
+all_blank (l ∷ ls) h = ap (λ x. x ∷ ls) (h 0 (omega arith)) ∙ ap (λ t. [] ∷ t) (all_blank ls (λ q lt. h (suc q) (omega (arith, lt))))
+
+-- before this place they have nothing, and from it on they are as they were
+pub record Emptied {A : Type 0} (done : ℕ) (first now : List (List A)) : Type 0 where
+  pub left : Untouched done first now
+  pub nothing : (q : ℕ) → q < done → list_at now q ≡ []
+
+pub emptied : {A : Type 0} (first : List (List A)) → Emptied 0 first first
+emptied first = record { left = untouched first; nothing = λ q lt. absurd (omega (arith, lt)) }
+
+-- the list at a place was emptied
+pub emptied_next : {A : Type 0} (done : ℕ) (first now next : List (List A)) → Emptied done first now → done < length first → next ≡ slice_set now done [] → Emptied (done + 1) first next
+emptied_next done first now next u lt e = record {
+  left = untouched_next done first now next [] u.left e;
+  nothing = λ q below. ap (λ l. list_at l q) e ∙ ⊎_elim
+      (λ b. let apart : (q ≡ done → ⊥) = λ same. omega (arith, same, b) in get_or-set_other now done q [] [] apart ∙ u.nothing q b)
+      (λ ge. let same : q ≡ done = omega (arith, below, ge) in let m = u.left.many in ap (λ n. list_at (slice_set now done []) n) same ∙ get_or-set_same now done [] [] (omega (arith, m, lt)))
+      (cases_lt q done);
+}
+
+-- all of them were
+pub emptied_all : {A : Type 0} (done : ℕ) (first now : List (List A)) → Emptied done first now → length first ≤ done → now ≡ replicate (length first) []
+emptied_all done first now u le =
+    let m = u.left.many in
+    all_blank now (λ q lt. u.nothing q (omega (arith, lt, m, le))) ∙ ap (λ n. replicate n []) m
+
+-- FROM THE END OF A LIST TO THE END OF A LINE
+
+pub one_less : {A : Type 0} (items items' : List A) (x : A) → items ≡ items' ++ x ∷ [] → length items' < length items
+one_less items items' x e = let l = ap length e ∙ length-append items' (x ∷ []) in omega (arith, l)
+
+-- the last item moved, and those that are left follow from the last to the first
+pub line_next : {A : Type 0} (line line' items items' all : List A) (x : A) → items ≡ items' ++ x ∷ [] → line' ≡ line ++ x ∷ [] → line ++ reverse items ≡ all → line' ++ reverse items' ≡ all
+line_next line line' items items' all x e l inv =
+    ap (λ k. k ++ reverse items') l ∙ append_assoc line (x ∷ []) (reverse items')
+    ∙ ap (λ k. line ++ k) (sym (ap reverse e ∙ reverse-append items' (x ∷ []))) ∙ inv

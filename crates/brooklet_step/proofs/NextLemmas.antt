@@ -24,7 +24,7 @@ use Rattle.brooklet_step.specs.declared.machine.Parts.{Parts}
 use Rattle.brooklet_step.specs.declared.state.State.{State}
 use Rattle.river_plan.specs.Places.{place, places, read_places, write_places, var_places}
 use Rattle.brooklet_step.specs.ByPlace.{joined_at}
-use Rattle.brooklet_step.specs.Reading.{IsFront, CanFire, CameOf, FiredOp}
+use Rattle.brooklet_step.specs.Reading.{IsFront, CanFire, IsBlankOf, CameOf, FiredOp}
 use Rattle.brooklet_step.specs.Given.{FiresAt, CanTake}
 use Rattle.brooklet_step.proofs.GivenCode.{fires_again}
 use Rattle.brooklet_step.specs.Tables.{table_places, each_added, AreFor}
@@ -63,6 +63,18 @@ fired_op p o port x st st' blank out k c e b f = record {
       subst (λ (d : OpForm). CameOf d.kernel port x st st' out) same (record { blank = blank; is_blank = b; room = (fires_again c.op.kernel port x blank out st st' (c.applies blank b) f').1; fires = f' });
 }
 
+-- the lists are for the kernel that is found in the lists of a plan
+pub blank_found : (raw : RawPlan) (p : PlanForm) (o : ℕ) (d : Op) (e : Emit) → plan_form raw ≡ p → o < length p.ops → d ≡ get_or raw.ops o d → IsBlank (kern_of d.kernel) e → IsBlankOf p o e
+blank_found raw p o d e v lt h b = record { blank = λ op g. subst (λ j. IsBlank j e) (kernel_at raw p o d op v g h) b }
+
+-- they are empty again after the operator fired and all was moved out
+pub blank_again : (p : PlanForm) (o port : ℕ) (x : item.Item) (st st' : List State) (out new : Emit) → FiredOp p o port x st st' out → new.outs ≡ replicate (length out.outs) [] → new.adds ≡ replicate (length out.adds) [] → IsBlankOf p o new
+blank_again p o port x st st' out new f eo ea = record {
+  blank = λ op g.
+      let room = (f.fired op g).room in
+      record { outs = eo ∙ ap (λ n. replicate n []) room.outs; adds = ea ∙ ap (λ n. replicate n []) room.adds };
+}
+
 -- THE CONDITIONS OF THE CALLS
 
 -- the place of the queue of an enabled port
@@ -92,7 +104,7 @@ can_fire m o port n x queues st g e at hx es = record {
 }
 
 -- there are as many lists as queues to write, and the queues are there
-pub send_there : (m : Parts) (o port n : ℕ) (x : item.Item) (queues : List (List item.Item)) (st st' : List State) (out : Emit) (ws : List ℕ) (g : GoesOn m) (e : IsEnabled m o port) → IsFront m.queues n x queues → st ≡ list_at m.states o → FiredOp m.plan o port x st st' out → ws ≡ list_at (write_places m.plan) o → (length ws ≤ length out.outs) × ((j : ℕ) → j < length ws → slice_index_or ws j 0 < length queues)
+pub send_there : (m : Parts) (o port n : ℕ) (x : item.Item) (queues : List (List item.Item)) (st st' : List State) (out : Emit) (ws : List ℕ) (g : GoesOn m) (e : IsEnabled m o port) → IsFront m.queues n x queues → st ≡ list_at m.states o → FiredOp m.plan o port x st st' out → ws ≡ list_at (write_places m.plan) o → (length ws ≡ length out.outs) × ((j : ℕ) → j < length ws → slice_index_or ws j 0 < length queues)
 send_there m o port n x queues st st' out ws g e hx es f we =
     let op = e.reads.op in
     let names = queue_names m.plan in

@@ -38,6 +38,10 @@ pub record CanFire (p : PlanForm) (o port : ℕ) (x : item.Item) (st : List Stat
   pub op_is : slice_get p.ops o ≡ Some op
   pub applies : (blank : Emit) → IsBlank op.kernel blank → CanTake op.kernel port x st blank
 
+-- there is an empty list for each port and table of the operator
+pub record IsBlankOf (p : PlanForm) (o : ℕ) (e : Emit) : Type 0 where
+  pub blank : (op : OpForm) → slice_get p.ops o ≡ Some op → IsBlank op.kernel e
+
 -- these lists came to empty ones by a firing of the kernel
 pub record CameOf (k : Kern) (port : ℕ) (x : item.Item) (st st' : List State) (out : Emit) : Type 0 where
   pub blank : Emit

@@ -159,16 +159,29 @@ fn copy_below(
 }
 
 // The list at a place; nothing is left there.
-pub(crate) fn take_list<T: Drop>(
-    alloc: Global,
-    lists: &mut Listed<Listed<T>>,
-    place: usize,
-) -> Listed<T>
+fn take_list<T: Drop>(alloc: Global, lists: &mut Listed<Listed<T>>, place: usize) -> Listed<T>
     requires { place < length lists.old }
     ensures taken { result ≡ list_at lists.old place }
     ensures left { lists.new ≡ slice_set lists.old place [] }
 {
     replace(lists.at_mut(place), Listed::new(alloc))
+}
+
+/// No element is left in any of the lists, which keep their memory.
+pub(crate) fn clear_all<T: Drop>(lists: &mut Listed<Listed<T>>)
+    ensures { lists.new ≡ replicate (length lists.old) [] }
+{
+    for place in 0..lists.len() {
+        clear_at(lists, place);
+    }
+}
+
+// Nothing is left in the list at a place.
+fn clear_at<T: Drop>(lists: &mut Listed<Listed<T>>, place: usize)
+    requires { place < length lists.old }
+    ensures { lists.new ≡ slice_set lists.old place [] }
+{
+    lists.at_mut(place).truncate(0);
 }
 
 // The items of the ports of two kernels move to the ports of the two as one.

@@ -1,12 +1,13 @@
 // Brooklet's machine.
 ghost use Rattle.std.specs.Prelude.{◌≡◌, ◌↔◌, true, false, map, IsTrue, IfOk, OnOk, OnErr};
 ghost use Rattle.river_plan.specs.Forms.{decl_names};
+ghost use Rattle.brooklet_step.specs.Drained.{RunsOn};
 ghost use Rattle.brooklet_step.specs.Fit.{Fit};
 ghost use Rattle.brooklet_step.specs.Works.{IsEnabled, Starts, Steps, AreCounts, queue_of};
 
 use crate::ending::outcome_of;
 use crate::initial::{first_parts, lines_of};
-use crate::step::{fire_next, is_enabled};
+use crate::step::{fire_next, is_enabled, take_turn};
 use crate::{Inputs, Outcome, States};
 use kern_rows::Line;
 use kern_tables::Table;
@@ -116,6 +117,23 @@ impl Machine {
     {
         fire_next(alloc, &mut self.parts, op, port)?;
         Ok(())
+    }
+
+    /// Firings of an operator on the items at one of its ports, one after another, at most so many: whether there are any. The
+    /// machine then stands for the state after a run that goes on.
+    pub(crate) fn turn(
+        &mut self,
+        alloc: Global,
+        op: u32,
+        port: u32,
+        most: usize,
+    ) -> Result<bool, NoMemory>
+        requires running { self.old.stopped ≡ false }
+        ensures ran { OnOk result (RunsOn self.old self.new) }
+        ensures refused { OnErr result (self.new.stopped ≡ true) }
+    {
+        let fired = take_turn(alloc, &mut self.parts, op, port, most)?;
+        Ok(fired)
     }
 
     /// What the machine gave so far: the histories of the outputs, which nobody took from, the tables, and how often each operator

@@ -113,27 +113,11 @@ fn take_turns(alloc: Global, machine: &mut Machine, op: u32, ports: u32) -> Resu
 {
     let mut fired = false;
     for port in 0..ports {
-        if take_turn(alloc, machine, op, port)? {
+        if machine.turn(alloc, op, port, TURN)? {
             fired = true;
         }
     }
     Ok(fired)
-}
-
-// Firings on the items at a port of an operator, as many as a turn has: whether there was one.
-fn take_turn(alloc: Global, machine: &mut Machine, op: u32, port: u32) -> Result<bool, NoMemory>
-    requires valid { IsPlan machine.old.plan }
-    requires running { machine.old.stopped ≡ false }
-    requires ran { HasRun machine.old }
-    ensures { OnOk result (RunsOn machine.old machine.new) }
-{
-    for firing in 0..TURN {
-        if !machine.enabled(op, port) {
-            return Ok(firing > 0);
-        }
-        machine.step(alloc, op, port)?;
-    }
-    Ok(true)
 }
 
 // All operators to their end, one after another.

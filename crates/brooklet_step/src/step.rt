@@ -1,16 +1,18 @@
-// One firing of an operator of a machine.
-ghost use Rattle.std.specs.Prelude.{◌≡◌, ◌↔◌, ℕ, ◌+◌, ◌<◌, ◌≤◌, true, false, min, length, IsTrue, IfOk, OnOk, OnErr, slice_index_or, slice_set};
+// Firings of an operator of a machine.
+ghost use Rattle.std.specs.Prelude.{◌≡◌, ◌↔◌, ℕ, ◌+◌, ◌<◌, [], ◌++◌, Err, true, false, min, length, replicate, reverse, IsTrue, IfOk, OnOk, OnErr, slice_index_or, slice_set};
 ghost use Rattle.river_base.specs.Places.{append_at, each_grew, list_at};
 ghost use Rattle.brooklet_model.specs.Histories.{most_firings};
 ghost use Rattle.brooklet_step.specs.ByPlace.{joined_at};
 ghost use Rattle.brooklet_step.specs.Works.{GoesOn, IsEnabled, Steps};
-ghost use Rattle.brooklet_step.specs.Reading.{IsPlaceRead, IsFront, CanFire, FiredOp};
+ghost use Rattle.brooklet_step.specs.Drained.{RunsOn};
+ghost use Rattle.brooklet_step.specs.Reading.{IsPlaceRead, IsFront, CanFire, IsBlankOf, FiredOp};
 
 use crate::add::add_all;
-use crate::emit::take_list;
+use crate::emit::clear_all;
 use crate::firing::{blank_for, fire};
 use crate::machine::{Lines, Parts, Sizes};
 use crate::{Emit, ItemLists, States};
+use kern_rows::Line;
 use river_base::{Item, Items, NoMemory};
 use river_plan::Plan;
 use std::alloc::Global;
@@ -57,19 +59,125 @@ pub(crate) fn fire_next(
     ensures goes_on { OnOk result (GoesOn parts.new) }
     ensures refused { OnErr result (parts.new.stopped ≡ true) }
 {
+    match blank_of(alloc, &parts.plan, op) {
+        Ok(mut out) => fire_with(alloc, parts, op, port, &mut out),
+        Err(e) => stop(parts, e),
+    }
+}
+
+/// Firings on the items at a port of an operator, one after another, at most so many: whether there are any. They share the lists
+/// for what they give. Where one is refused the machine is stopped.
+pub(crate) fn take_turn(
+    alloc: Global,
+    parts: &mut Parts,
+    op: u32,
+    port: u32,
+    most: usize,
+) -> Result<bool, NoMemory>
+    requires running { parts.old.stopped ≡ false }
+    requires goes_on { GoesOn parts.old }
+    ensures ran { OnOk result (RunsOn parts.old parts.new) }
+    ensures goes_on { OnOk result (GoesOn parts.new) }
+    ensures refused { OnErr result (parts.new.stopped ≡ true) }
+{
+    if !is_enabled(parts, op as usize, port as usize) {
+        return Ok(false);
+    }
+    fire_most(alloc, parts, op, port, most)?;
+    Ok(true)
+}
+
+// Firings on the items at a port, which has some.
+fn fire_most(
+    alloc: Global,
+    parts: &mut Parts,
+    op: u32,
+    port: u32,
+    most: usize,
+) -> Result<(), NoMemory>
+    requires goes_on { GoesOn parts.old }
+    requires enabled { IsEnabled parts.old op port }
+    ensures ran { OnOk result (RunsOn parts.old parts.new) }
+    ensures goes_on { OnOk result (GoesOn parts.new) }
+    ensures refused { OnErr result (parts.new.stopped ≡ true) }
+{
+    match blank_of(alloc, &parts.plan, op) {
+        Ok(mut out) => fire_all(alloc, parts, op, port, most, &mut out),
+        Err(e) => stop(parts, e),
+    }
+}
+
+// Firings on the items at a port, all with these lists.
+fn fire_all(
+    alloc: Global,
+    parts: &mut Parts,
+    op: u32,
+    port: u32,
+    most: usize,
+    out: &mut Emit,
+) -> Result<(), NoMemory>
+    requires running { parts.old.stopped ≡ false }
+    requires goes_on { GoesOn parts.old }
+    requires blank { IsBlankOf parts.old.plan op out.old }
+    ensures ran { OnOk result (RunsOn parts.old parts.new) }
+    ensures goes_on { OnOk result (GoesOn parts.new) }
+    ensures refused { OnErr result (parts.new.stopped ≡ true) }
+{
+    for _firing in 0..most {
+        if !is_enabled(parts, op as usize, port as usize) {
+            return Ok(());
+        }
+        fire_with(alloc, parts, op, port, out)?;
+    }
+    Ok(())
+}
+
+// The machine is stopped.
+fn stop(parts: &mut Parts, e: NoMemory) -> Result<(), NoMemory>
+    ensures stopped { parts.new.stopped ≡ true }
+    ensures err { result ≡ Err e }
+{
+    parts.stopped = true;
+    Err(e)
+}
+
+// An empty list for each port and table of an operator.
+fn blank_of(alloc: Global, plan: &Plan, op: u32) -> Result<Emit, NoMemory>
+    requires { op < length plan.now.ops }
+    ensures { IfOk result (IsBlankOf plan.now op) }
+{
+    blank_for(alloc, &plan.raw().ops.at(op as usize).kernel)
+}
+
+// One firing of an operator, with empty lists for what it gives, which are empty again.
+fn fire_with(
+    alloc: Global,
+    parts: &mut Parts,
+    op: u32,
+    port: u32,
+    out: &mut Emit,
+) -> Result<(), NoMemory>
+    requires goes_on { GoesOn parts.old }
+    requires enabled { IsEnabled parts.old op port }
+    requires blank { IsBlankOf parts.old.plan op out.old }
+    ensures fired { OnOk result (Steps parts.old parts.new op port) }
+    ensures goes_on { OnOk result (GoesOn parts.new) }
+    ensures blank { OnOk result (IsBlankOf parts.new.plan op out.new) }
+    ensures refused { OnErr result (parts.new.stopped ≡ true) }
+{
     parts.stopped = true;
     let queue = parts.plan.reads_of(op as usize)[port as usize];
     let item = front(&mut parts.queues, queue);
-    let mut out = fire_op(
+    fire_op(
         alloc,
         &parts.plan,
         op,
         port,
         item,
         parts.states.at_mut(op as usize),
+        out,
     )?;
     send(
-        alloc,
         &mut parts.queues,
         parts.plan.writes_of(op as usize),
         &mut out.outs,
@@ -79,6 +187,7 @@ pub(crate) fn fire_next(
         parts.plan.vars_of(op as usize),
         &out.adds,
     )?;
+    clear_all(&mut out.adds);
     count_one(&mut parts.counts, op as usize);
     parts.stopped = false;
     Ok(())
@@ -104,40 +213,73 @@ fn fire_op(
     port: u32,
     item: Item,
     states: &mut States,
-) -> Result<Emit, NoMemory>
-    requires { CanFire plan.now op port item states.old }
-    ensures { IfOk result (FiredOp plan.now op port item states.old states.new) }
+    out: &mut Emit,
+) -> Result<(), NoMemory>
+    requires can { CanFire plan.now op port item states.old }
+    requires blank { IsBlankOf plan.now op out.old }
+    ensures { OnOk result (FiredOp plan.now op port item states.old states.new out.new) }
 {
     let kernel = &plan.raw().ops.at(op as usize).kernel;
-    let mut out = blank_for(alloc, kernel)?;
-    fire(alloc, kernel, port, item, states, &mut out)?;
-    Ok(out)
+    fire(alloc, kernel, port, item, states, out)?;
+    Ok(())
 }
 
-// Each port's items move to the end of its queue.
-fn send(
-    alloc: Global,
-    queues: &mut Lines,
-    to: &[usize],
-    outs: &mut ItemLists,
-) -> Result<(), NoMemory>
-    requires ports { length to.now ≤ length outs.old }
+// Each port's items move to the end of its queue; none is left.
+fn send(queues: &mut Lines, to: &[usize], outs: &mut ItemLists) -> Result<(), NoMemory>
+    requires ports { length to.now ≡ length outs.old }
     requires places { (j : ℕ) → j < length to.now → slice_index_or to.now j 0 < length queues.old }
-    ensures { OnOk result (queues.new ≡ each_grew queues.old (joined_at to.now (list_at outs.old))) }
+    ensures queues { OnOk result (queues.new ≡ each_grew queues.old (joined_at to.now (list_at outs.old))) }
+    ensures blank { OnOk result (outs.new ≡ replicate (length outs.old) []) }
 {
     for port in 0..to.len() {
-        put(queues, to[port], take_list(alloc, outs, port))?;
+        send_port(queues, to[port], outs, port)?;
     }
     Ok(())
 }
 
-// Items come to the end of a queue.
-fn put(queues: &mut Lines, queue: usize, items: Items) -> Result<(), NoMemory>
-    requires { queue < length queues.old }
-    ensures { OnOk result (queues.new ≡ append_at queues.old queue items) }
+// The items at a port move to the end of a queue.
+fn send_port(
+    queues: &mut Lines,
+    queue: usize,
+    outs: &mut ItemLists,
+    port: usize,
+) -> Result<(), NoMemory>
+    requires queue { queue < length queues.old }
+    requires port { port < length outs.old }
+    ensures queues { OnOk result (queues.new ≡ append_at queues.old queue (list_at outs.old port)) }
+    ensures outs { OnOk result (outs.new ≡ slice_set outs.old port []) }
 {
-    queues.at_mut(queue).append(items)?;
+    put(queues, queue, outs.at_mut(port))?;
     Ok(())
+}
+
+// Items move to the end of a queue.
+fn put(queues: &mut Lines, queue: usize, items: &mut Items) -> Result<(), NoMemory>
+    requires { queue < length queues.old }
+    ensures queues { OnOk result (queues.new ≡ append_at queues.old queue items.old) }
+    ensures items { OnOk result (items.new ≡ []) }
+{
+    move_items(items, queues.at_mut(queue))?;
+    Ok(())
+}
+
+// Items move to the end of a line. The list keeps its memory.
+fn move_items(items: &mut Items, line: &mut Line) -> Result<(), NoMemory>
+    ensures line { OnOk result (line.new ≡ line.old ++ items.old) }
+    ensures items { OnOk result (items.new ≡ []) }
+{
+    turn_round(items);
+    while let Some(item) = items.pop() {
+        line.push(item)?;
+    }
+    Ok(())
+}
+
+// The last item comes first.
+fn turn_round(items: &mut Items)
+    ensures { items.new ≡ reverse items.old }
+{
+    items.as_mut_slice().reverse();
 }
 
 // One more firing of an operator.

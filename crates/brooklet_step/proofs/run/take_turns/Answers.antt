@@ -5,4 +5,4 @@ pub loop-port-init : goal.loop-port-init
 loop-port-init c = runs_none c.args.machine.now c.requires.running
 
 pub loop-port-preserved : goal.loop-port-preserved
-loop-port-preserved c = runs_more c.args.machine.now c.loop-port.machine c.take_turn.new.machine c.loop-port.invariant c.in_ok-take_turn.ensures
+loop-port-preserved c = runs_more c.args.machine.now c.loop-port.machine c.turn.new.self c.loop-port.invariant c.in_ok-turn.ensures.ran
