@@ -52,6 +52,15 @@ impl<T: Drop> Listed<T> {
         }
     }
 
+    /// The empty list, with memory for so many elements.
+    pub fn with_room(alloc: Global, count: usize) -> Result<Self, NoMemory>
+        ensures { IfOk result (λ list. list ≡ []) }
+    {
+        Ok(Listed {
+            items: Vec::with_capacity(alloc, count)?,
+        })
+    }
+
     /// Appends an element; changes nothing where there is no memory.
     pub fn push(&mut self, x: T) -> Result<(), NoMemory>
         ensures ok { OnOk result (self.new ≡ self.old ++ x ∷ []) }
