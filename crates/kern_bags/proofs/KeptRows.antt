@@ -1,24 +1,15 @@
 -- What a window keeps: the rows that stand in it, batch after batch.
-use Rattle.std.proofs.Common.{◌≡◌, ◌<ℤ◌, ◌≤ℤ◌, ◌≤◌, ◌<◌, ◌+◌, ◌-◌, ◌-ℤ◌, ℕ, zero, suc, ℤ, pos, Bool, true, false, cond, Option, None, Some, List, [], ◌∷◌, ◌++◌, length, map, filter, take, drop, fold, refl, sym, ap, ◌∙◌, arith, subst, append_assoc, length-append}
-use Rattle.std.specs.Prelude.{int_lt, int_le, flat_map, sum_by, min}
+use Rattle.std.proofs.Common.{◌≡◌, ◌<ℤ◌, ◌≤ℤ◌, ◌+◌, ℕ, ℤ, Bool, true, false, cond, Some, List, [], ◌∷◌, ◌++◌, filter, fold, refl, sym, ap, ◌∙◌, arith, append_assoc}
+use Rattle.std.specs.Prelude.{int_lt, int_le, flat_map, sum_by}
 use Rattle.std.specs.List.{AllByRecursion}
-use Rattle.std.specs.Ordering.{int_eq}
 use Rattle.std.proofs.lemmas.Int.{ints}
-use Rattle.std.proofs.lemmas.List.{append-nil, map-append, length-map, drop-map, drop-append-le, drop-drop}
 use Rattle.std.proofs.lemmas.List.Elements.{filter-append}
 use Rattle.std.proofs.lemmas.List.Sums.{sum_by-cons}
-use Rattle.river_base.specs.Row.{copies, in_order}
 use Rattle.river_base.specs.declared.item.Batch.{Batch}
-use Rattle.river_base.specs.declared.item.Item as item
-use Rattle.river_base.specs.declared.item.Item.TheVariants.{Flat, Pack}
-use Rattle.river_base.specs.declared.item.Flat.TheVariants.{One, Batch as Batched}
-use Rattle.river_base.specs.Held.{batches, with_rows}
-use Rattle.kern_bags.specs.Contents.{later, greatest, rows_where, put_batch, by_instant, last_of, in_window, content_of}
-use Rattle.kern_bags.specs.Kept.{Stamped, stamped, in_turn, AreInTurn, inserted, since, still_in, now_of, now_after}
-use Rattle.kern_bags.specs.declared.kernel.Window.{Window}
-use Rattle.kern_bags.specs.declared.kernel.Window.TheVariants.{Now, Range, Unbounded, Latest}
-use Rattle.kern_bags.proofs.InTurn.{le_true, le_false, lt_true, lt_false, filter_all, filter_none, all_as, all_join, all_filter, all_from}
-use Rattle.kern_bags.proofs.Windowed.{bounded, later_from, later_to}
+use Rattle.kern_bags.specs.Contents.{later, greatest, put_batch, by_instant}
+use Rattle.kern_bags.specs.Kept.{Stamped, stamped, in_turn, AreInTurn, inserted, now_of, now_after}
+use Rattle.kern_bags.proofs.InTurn.{le_true, le_false, lt_true, lt_false, filter_all, filter_none, all_as, all_join}
+use Rattle.kern_bags.proofs.Windowed.{bounded}
 
 abbrev pub rows_with : Batch → List Stamped
 rows_with b = stamped b.at b.rows

@@ -1,6 +1,6 @@
 -- A window's content after one more batch is a function of what it keeps.
-use Rattle.std.proofs.Common.{◌≡◌, ◌<ℤ◌, ◌≤ℤ◌, ◌≤◌, ◌<◌, ◌+◌, ◌-◌, ◌-ℤ◌, ℕ, zero, suc, ℤ, pos, Bool, true, false, cond, Option, None, Some, List, [], ◌∷◌, ◌++◌, length, map, filter, take, drop, refl, sym, ap, ◌∙◌, arith, subst, append_assoc, length-append, length-drop, ⊎_elim}
-use Rattle.std.specs.Prelude.{int_lt, int_le, flat_map, min, ◌&&◌}
+use Rattle.std.proofs.Common.{◌≡◌, ◌<ℤ◌, ◌≤ℤ◌, ◌≤◌, ◌<◌, ◌+◌, ◌-◌, ◌-ℤ◌, ℕ, zero, suc, ℤ, pos, Bool, true, false, cond, Some, List, [], ◌∷◌, ◌++◌, length, map, filter, drop, refl, sym, ap, ◌∙◌, arith, subst, length-append, length-drop, ⊎_elim}
+use Rattle.std.specs.Prelude.{int_lt, int_le, flat_map, ◌&&◌}
 use Rattle.std.specs.List.{AllByRecursion}
 use Rattle.std.specs.Ordering.{int_eq}
 use Rattle.std.proofs.lemmas.Int.{ints}
@@ -20,7 +20,7 @@ use Rattle.kern_bags.specs.Kept.{Stamped, stamped, in_turn, AreInTurn, inserted,
 use Rattle.kern_bags.specs.Steps.{window_one}
 use Rattle.kern_bags.specs.declared.kernel.Window.{Window}
 use Rattle.kern_bags.specs.declared.kernel.Window.TheVariants.{Now, Range, Unbounded, Latest}
-use Rattle.kern_bags.proofs.InTurn.{le_true, le_false, lt_true, lt_false, filter_all, filter_none, all_as, all_join, all_filter, all_from}
+use Rattle.kern_bags.proofs.InTurn.{le_true, le_false, lt_true, filter_all, filter_none, all_as, all_join, all_filter, all_from}
 use Rattle.kern_bags.proofs.KeptRows.{rows_with, rows_of_all, are_in_turn, none_later, in_turn_more, now_more, greatest_more, sum_all, all_stamped}
 use Rattle.kern_bags.proofs.Windowed.{copies-where, later_from, later_to}
 

@@ -1,15 +1,14 @@
 -- The difference of ascending lists, from the front.
-use Rattle.std.proofs.Common.{◌≡◌, ◌<◌, ◌≤◌, ◌+◌, ℕ, zero, suc, ℤ, Bool, true, false, cond, List, [], ◌∷◌, ◌++◌, length, get_or, take, drop, refl, sym, ap, ◌∙◌, arith, subst, append_assoc, drop-cons}
+use Rattle.std.proofs.Common.{◌≡◌, ◌<◌, ◌≤◌, ◌+◌, ℕ, zero, suc, ℤ, Bool, true, false, cond, List, [], ◌∷◌, ◌++◌, length, get_or, drop, refl, sym, ap, ◌∙◌, arith, subst, append_assoc, drop-cons}
 use Rattle.std.specs.List.{AllByRecursion}
-use Rattle.std.specs.List.Sorted.{IsSorted, IsSortedBy}
+use Rattle.std.specs.List.Sorted.{IsSortedBy}
 use Rattle.std.specs.Ordering.{is_lt, is_eq, ordering_reverse}
 use Rattle.std.specs.declared.cmp.Ordering.{Ordering}
 use Rattle.std.specs.declared.cmp.Ordering.TheVariants.{Less, Equal, Greater}
 use Rattle.std.proofs.lemmas.Bool.{true≢false}
 use Rattle.std.proofs.lemmas.List.{append-nil}
 use native.Mathlib.Numerals.{unary_clauses}
-use Rattle.river_base.specs.Held.{IsAscending}
-use Rattle.river_base.specs.Row.{row_eq, row_lt, row_cmp, row_ties, row_total, in_order}
+use Rattle.river_base.specs.Row.{row_eq, row_lt, row_cmp, row_ties, row_total}
 use Rattle.river_base.proofs.Counts.{same_row, row_itself}
 use Rattle.river_base.proofs.Rows.{rows_ranked, in_order_sorted}
 use Rattle.kern_bags.specs.Contents.{take_out, without, difference}

@@ -1,10 +1,10 @@
 -- Pairs of items pass a product, one after another.
-use Rattle.std.proofs.Common.{◌≡◌, ◌<◌, ◌≤◌, ◌+◌, ℕ, zero, suc, ℤ, Option, None, Some, List, [], ◌∷◌, ◌++◌, length, take, refl, sym, ap, ◌∙◌, arith, subst, append_assoc}
+use Rattle.std.proofs.Common.{◌≡◌, ◌<◌, ◌≤◌, ◌+◌, ℕ, zero, suc, None, Some, List, [], ◌∷◌, ◌++◌, length, take, refl, sym, ap, ◌∙◌, arith, subst, append_assoc}
 use Rattle.std.specs.Prelude.{All}
 use Rattle.std.proofs.lemmas.List.{append-nil}
 use Rattle.std.proofs.lemmas.List.Elements.{All-head, All-tail}
 use Rattle.river_base.specs.declared.item.Item as item
-use Rattle.river_base.specs.Drain.{drain, pass_on}
+use Rattle.river_base.specs.Drain.{drain}
 use Rattle.river_base.specs.Grew.{GrewByPrefix}
 use Rattle.river_base.specs.Held.{HaveWidth}
 use Rattle.kern_bags.specs.Needs.{CanJoin, CanCross, TakesPair, HasNoPair}

@@ -1,5 +1,5 @@
 -- What windows and streamers keep of the batches that came, and what it stands for.
-use Rattle.std.specs.Prelude.{◌≡◌, ℕ, ℤ, pos, ◌-◌, ◌-ℤ◌, ◌≤ℤ◌, Option, Some, None, List, [], ◌∷◌, ◌++◌, length, drop, map, filter, flat_map, int_le, int_lt}
+use Rattle.std.specs.Prelude.{◌≡◌, ℤ, pos, ◌-◌, ◌-ℤ◌, ◌≤ℤ◌, Option, Some, None, List, [], ◌∷◌, ◌++◌, length, drop, map, filter, flat_map, int_le, int_lt}
 use Rattle.std.specs.List.{AllByRecursion}
 use Rattle.river_base.specs.declared.item.Batch.{Batch}
 use Rattle.river_base.specs.declared.item.Item as item

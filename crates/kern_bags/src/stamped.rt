@@ -1,8 +1,8 @@
 // Rows with their instants.
-ghost use Rattle.std.specs.Prelude.{◌≡◌, ◌-◌, ◌≤◌, ◌≤ℤ◌, ◌<ℤ◌, [], length, take, drop, map, IfOk, OnOk};
+ghost use Rattle.std.specs.Prelude.{◌≡◌, ◌-◌, ◌≤◌, ◌≤ℤ◌, ◌<ℤ◌, ◌++◌, [], length, take, drop, map, OnOk};
 ghost use Rattle.std.specs.List.{AllByRecursion};
 ghost use Rattle.river_base.specs.Row.{in_order};
-ghost use Rattle.kern_bags.specs.Kept.{Stamped, AreInTurn, inserted, since};
+ghost use Rattle.kern_bags.specs.Kept.{Stamped, AreInTurn, stamped, inserted, since};
 
 use river_base::{NoMemory, Row, Rows};
 use std::alloc::Global;
@@ -55,9 +55,7 @@ impl StampedRows {
     {
         let count = self.count_until(at);
         let mut later = self.rows.split_off(count)?;
-        for row in rows.as_slice() {
-            self.rows.push_back((at, *row))?;
-        }
+        push_all(&mut self.rows, at, rows.as_slice())?;
         self.rows.append(&mut later)?;
         Ok(())
     }
@@ -81,15 +79,25 @@ impl StampedRows {
         }
     }
 
-    /// The rows without their instants, in ascending order.
-    pub fn sorted(&self, alloc: Global) -> Result<Rows, NoMemory>
-        ensures { IfOk result (λ rows. rows ≡ in_order (map (λ (e : Stamped). e.1) self.now)) }
+    /// The rows without their instants, in ascending order, come in place of the rows of a list.
+    pub fn put_sorted(&self, rows: &mut Rows) -> Result<(), NoMemory>
+        ensures { OnOk result (rows.new ≡ in_order (map (λ (e : Stamped). e.1) self.now)) }
     {
-        let mut rows = Rows::new(alloc);
+        rows.truncate(0);
         for stamped in self.rows.iter() {
             rows.push(stamped.1)?;
         }
         rows.sort()?;
-        Ok(rows)
+        Ok(())
     }
+}
+
+// Rows of an instant come to the end.
+fn push_all(all: &mut VecDeque<(i64, Row)>, at: i64, rows: &[Row]) -> Result<(), NoMemory>
+    ensures { OnOk result (all.new.items ≡ all.old.items ++ stamped at rows.now) }
+{
+    for row in rows {
+        all.push_back((at, *row))?;
+    }
+    Ok(())
 }

@@ -1,15 +1,16 @@
 // What windows keep, and their steps.
-ghost use Rattle.std.specs.Prelude.{◌≡◌, ◌-ℤ◌, pos, IfOk, OnOk, OnErr};
+ghost use Rattle.std.specs.Prelude.{◌≡◌, ◌-ℤ◌, pos, map, Some, IfOk, OnOk, OnErr};
+ghost use Rattle.river_base.specs.Row.{in_order};
 ghost use Rattle.river_base.specs.declared.item.Item.TheVariants.{Flat as flat_item};
 ghost use Rattle.river_base.specs.declared.item.Flat.TheVariants.{Batch as batched};
 ghost use Rattle.kern_bags.specs.Contents.{later};
-ghost use Rattle.kern_bags.specs.Kept.{AreInTurn, still_in, now_after, window_start, StandsForWindow, IsWindowKept, Steps};
+ghost use Rattle.kern_bags.specs.Kept.{Stamped, AreInTurn, inserted, still_in, now_after, window_start, StandsForWindow, IsWindowKept, Steps};
 ghost use Rattle.kern_bags.specs.Steps.{window_one};
 
 use crate::Window;
 use crate::given::give;
 use crate::stamped::StampedRows;
-use river_base::{Batch, Items, NoMemory};
+use river_base::{Batch, Items, NoMemory, Rows};
 use std::alloc::Global;
 use std::marker::Model;
 
@@ -71,12 +72,27 @@ impl Window {
         }
     }
 
+    // Rows of an instant come, and the window's content comes in their place.
+    fn renew(&self, state: &mut WindowState, at: i64, rows: &mut Rows) -> Result<(), NoMemory>
+        requires { IsWindowKept self.now state.old }
+        ensures now { OnOk result (state.new.now ≡ Some (now_after state.old.now at)) }
+        ensures kept { OnOk result (state.new.rows ≡ still_in self.now (now_after state.old.now at) (inserted at rows.old state.old.rows)) }
+        ensures content { OnOk result (rows.new ≡ in_order (map (λ (e : Stamped). e.1) state.new.rows)) }
+    {
+        let now = now_after(state.now, at);
+        state.now = Some(now);
+        state.rows.insert(at, rows)?;
+        self.let_go(now, &mut state.rows);
+        state.rows.put_sorted(rows)?;
+        Ok(())
+    }
+
     /// A batch comes: its rows join those that are kept, now is the greatest instant so far, the rows that have left the
     /// window are let go, and the others are given in ascending order, as the content at the batch's instant. Where there is no
     /// memory nothing was given, and nothing is said of the state.
     pub fn step(
         &self,
-        alloc: Global,
+        _alloc: Global,
         state: &mut WindowState,
         batch: Batch,
         out: &mut Items,
@@ -85,11 +101,8 @@ impl Window {
         ensures ok { OnOk result (Steps (StandsForWindow self.now) (window_one self.now) (flat_item (batched batch)) state.old state.new out.old out.new) }
         ensures err { OnErr result (out.new ≡ out.old) }
     {
-        let now = now_after(state.now, batch.at);
-        state.now = Some(now);
-        state.rows.insert(batch.at, &batch.rows)?;
-        self.let_go(now, &mut state.rows);
-        let rows = state.rows.sorted(alloc)?;
+        let mut rows = batch.rows;
+        self.renew(state, batch.at, &mut rows)?;
         give(batch.at, rows, out)?;
         Ok(())
     }

@@ -1,5 +1,5 @@
 use Rattle.work_code.proofs.Running.{on_err}
-use Rattle.kern_bags.proofs.Pairs.{so_far_step, so_far_less, so_far_refused, can_join}
+use Rattle.kern_bags.proofs.Pairs.{so_far_step, so_far_refused, can_join}
 use Rattle.kern_bags.proofs.cross.pass_pairs.Goals as goal
 
 pub join_pair-requires : goal.join_pair-requires

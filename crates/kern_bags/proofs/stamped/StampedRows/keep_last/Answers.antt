@@ -1,5 +1,5 @@
-use Rattle.std.proofs.Common.{◌≡◌, ◌-◌, length, drop, ap, ◌∙◌, arith}
-use Rattle.kern_bags.proofs.InTurn.{last_next, none_leaves}
+use Rattle.std.proofs.Common.{◌-◌, length, drop, ap, ◌∙◌, arith}
+use Rattle.kern_bags.proofs.InTurn.{last_next}
 use Rattle.kern_bags.proofs.stamped.StampedRows.keep_last.Goals as goal
 
 pub loop-self-preserved : goal.loop-self-preserved
