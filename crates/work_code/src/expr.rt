@@ -52,6 +52,7 @@ pub enum Expr {
 
 impl Expr {
     /// An expression with the same tree.
+    #[cycle(copy)]
     pub fn copy(&self, alloc: Global) -> Result<Expr, NoMemory>
         ensures { IfOk result (λ copy. term copy ≡ term self.now) }
     {
@@ -59,24 +60,23 @@ impl Expr {
             Expr::Const(value) => Ok(Expr::Const(*value)),
             Expr::Input(place) => Ok(Expr::Input(*place)),
             Expr::Slot(slot) => Ok(Expr::Slot(*slot)),
-            Expr::Neg(inner) => {
-                let inner = inner.copy(alloc)?;
-                Ok(Expr::Neg(Box::new(alloc, inner)?))
-            }
-            Expr::Not(inner) => {
-                let inner = inner.copy(alloc)?;
-                Ok(Expr::Not(Box::new(alloc, inner)?))
-            }
-            Expr::Bin { op, left, right } => {
-                let left = left.copy(alloc)?;
-                let right = right.copy(alloc)?;
-                Ok(Expr::Bin {
-                    op: *op,
-                    left: Box::new(alloc, left)?,
-                    right: Box::new(alloc, right)?,
-                })
-            }
+            Expr::Neg(inner) => Ok(Expr::Neg(inner.boxed(alloc)?)),
+            Expr::Not(inner) => Ok(Expr::Not(inner.boxed(alloc)?)),
+            Expr::Bin { op, left, right } => Ok(Expr::Bin {
+                op: *op,
+                left: left.boxed(alloc)?,
+                right: right.boxed(alloc)?,
+            }),
         }
+    }
+
+    // A copy in a box.
+    #[cycle(copy)]
+    fn boxed(&self, alloc: Global) -> Result<Box<Expr>, NoMemory>
+        ensures { IfOk result (λ copy. term copy.value ≡ term self.now) }
+    {
+        let copy = self.copy(alloc)?;
+        Ok(Box::new(alloc, copy)?)
     }
 }
 

@@ -15,11 +15,11 @@ pub fn print_expr(alloc: Global, e: &Expr, to: &mut Bytes) -> Result<(), NoMemor
 {
     let mut text = Bytes::new(alloc);
     write_expr(alloc, e, &mut text)?;
-    to.extend(text.as_slice())?;
-    Ok(())
+    to.extend(text.as_slice())
 }
 
 // Appends the text of an expression; where there is no memory, maybe a part of it.
+#[cycle(write_expr)]
 #[tactic(auto, using(crate::proofs::Joined::joins))]
 pub fn write_expr(alloc: Global, e: &Expr, to: &mut Bytes) -> Result<(), NoMemory>
     ensures { OnOk result (to.new ≡ to.old ++ text_of (term e.now)) }
@@ -28,24 +28,31 @@ pub fn write_expr(alloc: Global, e: &Expr, to: &mut Bytes) -> Result<(), NoMemor
         Expr::Const(value) => write_value(alloc, *value, to),
         Expr::Input(place) => write_place(alloc, b"input[", *place, to),
         Expr::Slot(slot) => write_place(alloc, b"slot[", *slot, to),
-        Expr::Neg(inner) => {
-            to.extend(b"(-")?;
-            write_expr(alloc, inner, to)?;
-            to.extend(b")")
-        }
-        Expr::Not(inner) => {
-            to.extend(b"(!")?;
-            write_expr(alloc, inner, to)?;
-            to.extend(b")")
-        }
+        Expr::Neg(inner) => write_between(alloc, b"(-", inner, b")", to),
+        Expr::Not(inner) => write_between(alloc, b"(!", inner, b")", to),
         Expr::Bin { op, left, right } => {
-            to.extend(b"(")?;
-            write_expr(alloc, left, to)?;
-            write_sign(*op, to)?;
-            write_expr(alloc, right, to)?;
-            to.extend(b")")
+            write_between(alloc, b"(", left, b" ", to)?;
+            to.extend(sign(*op))?;
+            write_between(alloc, b" ", right, b")", to)
         }
     }
+}
+
+// Appends the text of an expression between two texts.
+#[cycle(write_expr)]
+#[tactic(auto, using(crate::proofs::Joined::joins))]
+pub fn write_between(
+    alloc: Global,
+    before: &[u8],
+    e: &Expr,
+    behind: &[u8],
+    to: &mut Bytes,
+) -> Result<(), NoMemory>
+    ensures { OnOk result (to.new ≡ to.old ++ (before.now ++ (text_of (term e.now) ++ behind.now))) }
+{
+    to.extend(before)?;
+    write_expr(alloc, e, to)?;
+    to.extend(behind)
 }
 
 // Appends a word and a place behind it.
@@ -58,23 +65,12 @@ fn write_place(alloc: Global, word: &[u8], place: u32, to: &mut Bytes) -> Result
     to.extend(b"]")
 }
 
-// Appends an operator between spaces.
-#[tactic(auto, using(crate::proofs::Joined::joins))]
-fn write_sign(op: BinOp, to: &mut Bytes) -> Result<(), NoMemory>
-    ensures { OnOk result (to.new ≡ to.old ++ (codes " " ++ (sign_text op ++ codes " "))) }
-{
-    to.extend(b" ")?;
-    to.extend(sign(op))?;
-    to.extend(b" ")
-}
-
 // Appends a number in decimal.
 pub fn write_number(alloc: Global, number: u32, to: &mut Bytes) -> Result<(), NoMemory>
     ensures { OnOk result (to.new ≡ to.old ++ decimal number) }
 {
     let text = number.to_string(alloc)?;
-    to.extend(text.as_bytes())?;
-    Ok(())
+    to.extend(text.as_bytes())
 }
 
 // Appends a value in decimal, with its sign where it is below 0.
@@ -82,8 +78,7 @@ pub fn write_value(alloc: Global, value: i64, to: &mut Bytes) -> Result<(), NoMe
     ensures { OnOk result (to.new ≡ to.old ++ signed_decimal value) }
 {
     let text = value.to_string(alloc)?;
-    to.extend(text.as_bytes())?;
-    Ok(())
+    to.extend(text.as_bytes())
 }
 
 fn sign(op: BinOp) -> &'static [u8]

@@ -5,7 +5,7 @@ ghost use Rattle.work_code.specs.Term.{term, terms};
 ghost use Rattle.work_code.specs.Steps.{step, steps};
 ghost use Rattle.work_code.specs.Printed.{text_of, items_text, more_items, step_text, body_text, more_text, else_text};
 
-use crate::print::{write_expr, write_number};
+use crate::print::{write_between, write_expr, write_number};
 use crate::{Code, Expr, Exprs, Stmt, Stmts};
 use river_base::{Bytes, NoMemory};
 use std::alloc::Global;
@@ -17,8 +17,7 @@ pub fn print_code(alloc: Global, c: &Code, to: &mut Bytes) -> Result<(), NoMemor
 {
     let mut text = Bytes::new(alloc);
     write_body(alloc, &c.body, &mut text)?;
-    to.extend(text.as_slice())?;
-    Ok(())
+    to.extend(text.as_slice())
 }
 
 // Appends the statements between braces.
@@ -29,8 +28,7 @@ fn write_body(alloc: Global, body: &Stmts, to: &mut Bytes) -> Result<(), NoMemor
 {
     to.extend(b"{")?;
     write_steps(alloc, body, to)?;
-    to.extend(b" }")?;
-    Ok(())
+    to.extend(b" }")
 }
 
 // Appends the statements, each behind a space.
@@ -55,7 +53,7 @@ fn write_step(alloc: Global, s: &Stmt, to: &mut Bytes) -> Result<(), NoMemory>
         Stmt::Set { slot, value } => write_set(alloc, *slot, value, to),
         Stmt::Push { port, values } => write_push(alloc, *port, values, to),
         Stmt::If { cond, yes, no } => {
-            write_cond(alloc, cond, to)?;
+            write_between(alloc, b"if (", cond, b") ", to)?;
             write_body(alloc, yes, to)?;
             write_else(alloc, no, to)
         }
@@ -69,9 +67,7 @@ fn write_set(alloc: Global, slot: u32, value: &Expr, to: &mut Bytes) -> Result<(
 {
     to.extend(b"slot[")?;
     write_number(alloc, slot, to)?;
-    to.extend(b"] = ")?;
-    write_expr(alloc, value, to)?;
-    to.extend(b";")
+    write_between(alloc, b"] = ", value, b";", to)
 }
 
 // Appends the push of a row.
@@ -81,19 +77,17 @@ fn write_push(alloc: Global, port: u32, values: &Exprs, to: &mut Bytes) -> Resul
 {
     to.extend(b"push ")?;
     write_number(alloc, port, to)?;
+    write_row(alloc, values, to)
+}
+
+// Appends the values of a row between brackets.
+#[tactic(auto, using(crate::proofs::Joined::joins))]
+fn write_row(alloc: Global, values: &Exprs, to: &mut Bytes) -> Result<(), NoMemory>
+    ensures { OnOk result (to.new ≡ to.old ++ (codes " (" ++ (items_text (map text_of (terms values.now)) ++ codes ");"))) }
+{
     to.extend(b" (")?;
     write_items(alloc, values, to)?;
     to.extend(b");")
-}
-
-// Appends what stands before the first body of an `if`.
-#[tactic(auto, using(crate::proofs::Joined::joins))]
-fn write_cond(alloc: Global, cond: &Expr, to: &mut Bytes) -> Result<(), NoMemory>
-    ensures { OnOk result (to.new ≡ to.old ++ (codes "if (" ++ (text_of (term cond.now) ++ codes ") "))) }
-{
-    to.extend(b"if (")?;
-    write_expr(alloc, cond, to)?;
-    to.extend(b") ")
 }
 
 // Appends an else, unless it is empty.
@@ -102,11 +96,11 @@ fn write_cond(alloc: Global, cond: &Expr, to: &mut Bytes) -> Result<(), NoMemory
 fn write_else(alloc: Global, body: &Stmts, to: &mut Bytes) -> Result<(), NoMemory>
     ensures { OnOk result (to.new ≡ to.old ++ else_text (steps body.now)) }
 {
-    if !body.is_empty() {
-        to.extend(b" else ")?;
-        write_body(alloc, body, to)?;
+    if body.is_empty() {
+        return Ok(());
     }
-    Ok(())
+    to.extend(b" else ")?;
+    write_body(alloc, body, to)
 }
 
 // Appends expressions with commas between them.
@@ -118,8 +112,7 @@ pub fn write_items(alloc: Global, items: &Exprs, to: &mut Bytes) -> Result<(), N
         return Ok(());
     };
     write_expr(alloc, first, to)?;
-    write_more(alloc, rest, to)?;
-    Ok(())
+    write_more(alloc, rest, to)
 }
 
 // Appends expressions, each behind a comma and a space.
