@@ -1,15 +1,13 @@
 -- Firings of kernels that have no kernel inside.
-use Rattle.std.proofs.Common.{◌≡◌, ℕ, zero, suc, ℤ, pos, ◌+◌, ◌≤◌, ◌<◌, false, Ok, Err, List, [], ◌∷◌, ◌++◌, length, map, take, replicate, refl, get_or, to_z, of_z, sym, ap, ◌∙◌, subst, arith, ⊎_elim}
+use Rattle.std.proofs.Common.{◌≡◌, ℕ, zero, suc, ℤ, pos, ◌+◌, ◌≤◌, ◌<◌, false, List, [], ◌∷◌, ◌++◌, length, map, take, replicate, refl, get_or, to_z, of_z, sym, ap, ◌∙◌, subst, arith, ⊎_elim}
 use Rattle.std.specs.Int.{w64}
 use Rattle.std.proofs.lemmas.Int.{to_z-of_z}
 use Rattle.river_base.specs.Number.{IsValue}
-use Rattle.std.specs.Prelude.{IsTrue, ◌↔◌, IfOk, All, slice_index_or, if◌then◌else◌, nat_eq}
+use Rattle.std.specs.Prelude.{IsTrue, ◌↔◌, All, slice_index_or, if◌then◌else◌, nat_eq}
 use Rattle.std.proofs.lemmas.Bool.{cases_eq, true≢false}
 use Rattle.std.proofs.Math.ListN.{set}
 use Rattle.std.proofs.lemmas.List.{take_more, length-replicate}
 use Rattle.std.proofs.lemmas.List.Elements.{All-head, All-tail, All-cons, All-nil}
-use Rattle.std.specs.declared.result.Result.{Result}
-use Rattle.river_base.specs.declared.memory.NoMemory.{NoMemory}
 use Rattle.river_base.specs.declared.item.Item as item
 use Rattle.river_base.specs.declared.item.Item.TheVariants.{Flat, Pack}
 use Rattle.river_base.specs.declared.item.Flat.TheVariants.{One, Batch}
@@ -26,7 +24,7 @@ use Rattle.kern_rows.proofs.Given.{filter_values, given_items}
 use Rattle.kern_rows.proofs.Lengths.{run_kept_length}
 use Rattle.river_kernels.specs.Fits.{rows}
 use Rattle.river_kernels.specs.Kern.{code, filter, deal, collect, unpack}
-use Rattle.brooklet_model.specs.Firings.{Kept, Slots, Buffered, Turn, Joining, gives}
+use Rattle.brooklet_model.specs.Firings.{Kept, Slots, Buffered, Turn, Joining, Fired, gives}
 use Rattle.brooklet_model.specs.Fire.{fire, code_one, values_of, value_of}
 use Rattle.brooklet_model.proofs.Shapes.{next_turn, put_joined, drain_joined}
 use Rattle.brooklet_model.specs.Typed.{IsOf, AreOf}
@@ -105,9 +103,8 @@ pushed_kept k x st st' s s' row pushes n e e' r ran = record {
 }
 
 -- what came of a body whose slots are the only state
-pub pushes_kept : (k : CodeForm) (x : item.Item) (st : List State) (d s s' : State) (row : List ℤ) (r : Result (List (ℕ × List ℤ)) NoMemory) → Takes (code k) 0 x st → (IsTrue false ↔ (k.starts ≡ [])) → s ≡ get_or st 0 d → row ≡ values_of x → IfOk r (λ pushes. RanKept k.body row s s' pushes) → IfOk r (λ pushes. Pushed k x st (set st 0 s') pushes)
-pushes_kept k x st d s s' row (Err e) t i g w h = h
-pushes_kept k x st d s s' row (Ok pushes) t i g w h =
+pub pushes_kept : (k : CodeForm) (x : item.Item) (st : List State) (d s s' : State) (row : List ℤ) (pushes : List (ℕ × List ℤ)) → Takes (code k) 0 x st → (IsTrue false ↔ (k.starts ≡ [])) → s ≡ get_or st 0 d → row ≡ values_of x → RanKept k.body row s s' pushes → Pushed k x st (set st 0 s') pushes
+pushes_kept k x st d s s' row pushes t i g w h =
     let n : k.starts ≡ [] → ⊥ = λ e. true≢false (sym (i.1 e)) in
     let c = code_state k x st n t in
     let same : s ≡ c.0 = g ∙ ap (λ (l : List State). get_or l 0 d) c.1 in
@@ -147,6 +144,10 @@ pushed_more p (d ∷ es) e =
     (λ eq. ap (λ t. t ++ more) (if_eq d.0 p (Flat (One d.1) ∷ pushed_to p es) (pushed_to p es) eq) ∙ ap (λ t. Flat (One d.1) ∷ t) r ∙ sym (if_eq d.0 p (Flat (One d.1) ∷ pushed_to p (es ++ e ∷ [])) (pushed_to p (es ++ e ∷ [])) eq))
     (λ ne. ap (λ t. t ++ more) (if_ne d.0 p (Flat (One d.1) ∷ pushed_to p es) (pushed_to p es) ne) ∙ r ∙ sym (if_ne d.0 p (Flat (One d.1) ∷ pushed_to p (es ++ e ∷ [])) (pushed_to p (es ++ e ∷ [])) ne))
     (cases_eq d.0 p)
+
+-- what came to lists, where the lists of another were the same
+pub took_from : (old mid new : Emit) (r : Fired) → mid.outs ≡ old.outs → mid.adds ≡ old.adds → Took mid new r → Took old new r
+took_from old mid new r eo ea t = record { outs = t.outs ∙ ap (λ l. each_grew l r.outs) eo; adds = t.adds ∙ ap (λ l. each_grew l r.adds) ea }
 
 -- one more push is given
 pub push_step : (start now new : List (List item.Item)) (es : List (ℕ × List ℤ)) (i : ℕ) (e : ℕ × List ℤ) → i < length es → e ≡ get_or es i e → now ≡ each_grew start (λ p. pushed_to p (take i es)) → new ≡ append_at now e.0 (Flat (One e.1) ∷ []) → new ≡ each_grew start (λ p. pushed_to p (take (i + 1) es))

@@ -15,7 +15,7 @@ ghost use Rattle.brooklet_step.specs.Stands.{IsBatch, IsFlat, IsFlatWith, IsWind
 use crate::emit::Emit;
 use crate::state::State;
 use kern_bags::{Cross, Streamer, Window, project, select};
-use river_base::{Batch, Flat, Item, Items, NoMemory};
+use river_base::{Batch, Flat, Item, NoMemory};
 use std::alloc::Global;
 use work_code::{Expr, Exprs};
 
@@ -56,7 +56,7 @@ pub fn fire_window(
 {
     match state {
         State::Window(state) => {
-            let mut items = Items::new(alloc);
+            let mut items = out.spare_items(alloc);
             window.step(alloc, state, batch_of(item), &mut items)?;
             out.give_all(0, items)?;
             Ok(())
@@ -71,7 +71,7 @@ pub fn fire_select(alloc: Global, cond: &Expr, item: Item, out: &mut Emit) -> Re
     requires room { 0 < length out.old.outs }
     ensures { OnOk result (Took out.old out.new (gives 0 (select_one (term cond.now) item) [])) }
 {
-    let mut items = Items::new(alloc);
+    let mut items = out.spare_items(alloc);
     select(cond, flat_of(item), &mut items)?;
     out.give_all(0, items)?;
     Ok(())
@@ -83,7 +83,7 @@ pub fn fire_project(alloc: Global, list: &Exprs, item: Item, out: &mut Emit) -> 
     requires room { 0 < length out.old.outs }
     ensures { OnOk result (Took out.old out.new (gives 0 (project_one (terms list.now) item) [])) }
 {
-    let mut items = Items::new(alloc);
+    let mut items = out.spare_items(alloc);
     project(list, flat_of(item), &mut items)?;
     out.give_all(0, items)?;
     Ok(())
@@ -104,7 +104,7 @@ pub fn fire_cross(
 {
     match state {
         State::Cross(state) => {
-            let mut items = Items::new(alloc);
+            let mut items = out.spare_items(alloc);
             Cross::step(alloc, state, port, flat_of(item), &mut items)?;
             out.give_all(0, items)?;
             Ok(())
@@ -129,7 +129,7 @@ pub fn fire_streamer(
 {
     match state {
         State::Streamer(state) => {
-            let mut items = Items::new(alloc);
+            let mut items = out.spare_items(alloc);
             streamer.step(alloc, state, flat_of(item), &mut items)?;
             out.give_all(0, items)?;
             Ok(())

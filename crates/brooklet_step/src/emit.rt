@@ -22,6 +22,9 @@ pub type RowLists = Listed<Rows>;
 pub struct Emit {
     pub outs: ItemLists,
     pub adds: RowLists,
+    // lists that were used before: their memory is used again, and nothing is said of what they have
+    items: Items,
+    pushes: Emitted,
 }
 
 impl Emit {
@@ -33,6 +36,8 @@ impl Emit {
         Ok(Emit {
             outs: Listed::blanks(alloc, ports)?,
             adds: Listed::blanks(alloc, tables)?,
+            items: Items::new(alloc),
+            pushes: Emitted::new(alloc),
         })
     }
 
@@ -45,12 +50,30 @@ impl Emit {
         Ok(())
     }
 
+    /// An empty list for items, with the memory of one that was used before.
+    pub(crate) fn spare_items(&mut self, alloc: Global) -> Items
+        ensures empty { result ≡ [] }
+        ensures outs { self.new.outs ≡ self.old.outs }
+        ensures adds { self.new.adds ≡ self.old.adds }
+    {
+        emptied(alloc, &mut self.items)
+    }
+
+    /// An empty list for what a body pushes, with the memory of one that was used before.
+    pub(crate) fn spare_pushes(&mut self, alloc: Global) -> Emitted
+        ensures empty { result ≡ [] }
+        ensures outs { self.new.outs ≡ self.old.outs }
+        ensures adds { self.new.adds ≡ self.old.adds }
+    {
+        emptied(alloc, &mut self.pushes)
+    }
+
     /// These items at a port.
     pub(crate) fn give_all(&mut self, port: usize, items: Items) -> Result<(), NoMemory>
         requires { port < length self.old.outs }
         ensures { OnOk result (Took self.old self.new (gives port items [])) }
     {
-        add_items(&mut self.outs, port, items)?;
+        add_items(&mut self.outs, port, items, &mut self.items)?;
         Ok(())
     }
 
@@ -78,15 +101,13 @@ impl Emit {
     }
 
     /// The rows that a body pushed, each at its port.
-    pub(crate) fn give_pushes(&mut self, pushes: &Emitted) -> Result<(), NoMemory>
-        requires { All (λ push. push.0 < length self.old.outs) pushes.now }
-        ensures outs { OnOk result (self.new.outs ≡ each_grew self.old.outs (λ port. pushed_to port pushes.now)) }
+    pub(crate) fn give_pushes(&mut self, pushes: Emitted) -> Result<(), NoMemory>
+        requires { All (λ push. push.0 < length self.old.outs) pushes }
+        ensures outs { OnOk result (self.new.outs ≡ each_grew self.old.outs (λ port. pushed_to port pushes)) }
         ensures adds { OnOk result (self.new.adds ≡ self.old.adds) }
     {
-        for (port, row) in pushes.as_slice() {
-            self.outs
-                .push_at(*port as usize, Item::Flat(Flat::One(*row)))?;
-        }
+        add_pushes(&mut self.outs, &pushes)?;
+        self.pushes = pushes;
         Ok(())
     }
 
@@ -121,24 +142,49 @@ impl Emit {
     }
 }
 
-// Items come to the end of the list at a place.
-fn add_items(outs: &mut ItemLists, place: usize, items: Items) -> Result<(), NoMemory>
+// The list that was there, without its elements; a new one is there in its place.
+fn emptied<T: Drop>(alloc: Global, list: &mut Listed<T>) -> Listed<T>
+    ensures { result ≡ [] }
+{
+    let mut used = replace(list, Listed::new(alloc));
+    used.truncate(0);
+    used
+}
+
+// Items come to the end of the list at a place; a list that is left over is spare.
+fn add_items(
+    outs: &mut ItemLists,
+    place: usize,
+    items: Items,
+    spare: &mut Items,
+) -> Result<(), NoMemory>
     requires { place < length outs.old }
     ensures { OnOk result (outs.new ≡ append_at outs.old place items) }
 {
-    join(outs.at_mut(place), items)?;
+    join(outs.at_mut(place), items, spare)?;
     Ok(())
 }
 
 // Items come to the end of a list; where it has none, it becomes theirs.
-fn join(list: &mut Items, items: Items) -> Result<(), NoMemory>
+fn join(list: &mut Items, items: Items, spare: &mut Items) -> Result<(), NoMemory>
     ensures { OnOk result (list.new ≡ list.old ++ items) }
 {
     if list.is_empty() {
-        *list = items;
+        *spare = replace(list, items);
         return Ok(());
     }
     list.append(items)?;
+    Ok(())
+}
+
+// The rows that a body pushed, each at its port.
+fn add_pushes(outs: &mut ItemLists, pushes: &Emitted) -> Result<(), NoMemory>
+    requires { All (λ push. push.0 < length outs.old) pushes.now }
+    ensures { OnOk result (outs.new ≡ each_grew outs.old (λ port. pushed_to port pushes.now)) }
+{
+    for (port, row) in pushes.as_slice() {
+        outs.push_at(*port as usize, Item::Flat(Flat::One(*row)))?;
+    }
     Ok(())
 }
 

@@ -1,5 +1,5 @@
 // One firing of a kernel that has no kernel inside.
-ghost use Rattle.std.specs.Prelude.{◌≡◌, ◌<◌, ◌∷◌, [], length, map, OnOk, IfOk};
+ghost use Rattle.std.specs.Prelude.{◌≡◌, ◌<◌, ◌∷◌, [], length, map, OnOk};
 ghost use Rattle.river_base.specs.declared.item.Item.TheVariants as variant;
 ghost use Rattle.river_base.specs.declared.item.Flat.TheVariants as flat;
 ghost use Rattle.river_base.specs.Places.{each_grew, only};
@@ -8,6 +8,8 @@ ghost use Rattle.kern_rows.specs.Needs.{CanCode};
 ghost use Rattle.kern_rows.specs.Runs.{run_kept};
 ghost use Rattle.river_kernels.specs.Kern.{code as code_kern, filter as filter_kern, deal as deal_kern, collect as collect_kern, unpack as unpack_kern};
 ghost use Rattle.brooklet_model.specs.Fire.{fire as fire_lem, values_of};
+ghost use Rattle.brooklet_model.specs.Firings.{gives};
+ghost use Rattle.brooklet_step.specs.Took.{Took};
 ghost use Rattle.brooklet_step.specs.Stands.{Takes, Applies, Fires, IsRow, IsPack, IsSlots, Pushed, RanKept};
 
 use crate::emit::Emit;
@@ -28,55 +30,59 @@ fn row_of(item: &Item) -> &Row
     }
 }
 
-// What a body without kept slots pushes.
-fn push_once(alloc: Global, kernel: &CodeKernel, row: &Row) -> Result<Emitted, NoMemory>
-    requires formed { CanCode (code_form kernel.now) }
-    requires none { (code_form kernel.now).starts ≡ [] }
-    requires row { length row.now ≡ (code_form kernel.now).body.inputs }
-    ensures { IfOk result (λ pushes. pushes ≡ (run_kept (code_form kernel.now).body [] row.now).pushes) }
-{
-    let mut none = Numbers::new(alloc);
-    let mut pushes = Emitted::new(alloc);
-    kernel.step(&mut none, row, &mut pushes)?;
-    Ok(pushes)
-}
-
-// What a body with kept slots pushes.
-fn push_kept(
+// What a body without kept slots pushes comes to an empty list.
+fn push_once(
     alloc: Global,
     kernel: &CodeKernel,
     row: &Row,
+    pushes: &mut Emitted,
+) -> Result<(), NoMemory>
+    requires formed { CanCode (code_form kernel.now) }
+    requires none { (code_form kernel.now).starts ≡ [] }
+    requires row { length row.now ≡ (code_form kernel.now).body.inputs }
+    requires empty { pushes.old ≡ [] }
+    ensures { OnOk result (pushes.new ≡ (run_kept (code_form kernel.now).body [] row.now).pushes) }
+{
+    let mut none = Numbers::new(alloc);
+    kernel.step(&mut none, row, pushes)?;
+    Ok(())
+}
+
+// What a body with kept slots pushes comes to an empty list.
+fn push_kept(
+    kernel: &CodeKernel,
+    row: &Row,
     state: &mut State,
-) -> Result<Emitted, NoMemory>
+    pushes: &mut Emitted,
+) -> Result<(), NoMemory>
     requires formed { CanCode (code_form kernel.now) }
     requires slots { IsSlots (length (code_form kernel.now).starts) state.old }
     requires row { length row.now ≡ (code_form kernel.now).body.inputs }
-    ensures { IfOk result (λ pushes. RanKept (code_form kernel.now).body row.now state.old state.new pushes) }
+    requires empty { pushes.old ≡ [] }
+    ensures { OnOk result (RanKept (code_form kernel.now).body row.now state.old state.new pushes.new) }
 {
     match state {
-        State::Slots(slots) => {
-            let mut pushes = Emitted::new(alloc);
-            kernel.step(slots, row, &mut pushes)?;
-            Ok(pushes)
-        }
+        State::Slots(slots) => kernel.step(slots, row, pushes),
         _ => unreachable!(),
     }
 }
 
-// What a body pushes.
-fn pushes_of(
+// What a body pushes comes to an empty list.
+fn push_all(
     alloc: Global,
     kernel: &CodeKernel,
     item: &Item,
     states: &mut [State],
-) -> Result<Emitted, NoMemory>
-    requires { Takes (code_kern (code_form kernel.now)) 0 item.now states.old }
-    ensures { IfOk result (λ pushes. Pushed (code_form kernel.now) item.now states.old states.new pushes) }
+    pushes: &mut Emitted,
+) -> Result<(), NoMemory>
+    requires takes { Takes (code_kern (code_form kernel.now)) 0 item.now states.old }
+    requires empty { pushes.old ≡ [] }
+    ensures { OnOk result (Pushed (code_form kernel.now) item.now states.old states.new pushes.new) }
 {
     if kernel.starts.is_empty() {
-        push_once(alloc, kernel, row_of(item))
+        push_once(alloc, kernel, row_of(item), pushes)
     } else {
-        push_kept(alloc, kernel, row_of(item), &mut states[0])
+        push_kept(kernel, row_of(item), &mut states[0], pushes)
     }
 }
 
@@ -91,21 +97,33 @@ pub fn fire_code(
     requires { Applies (code_kern (code_form kernel.now)) 0 item states.old out.old }
     ensures { OnOk result (Fires (code_kern (code_form kernel.now)) out.old out.new states.old states.new (fire_lem (code_kern (code_form kernel.now)) 0 item)) }
 {
-    let pushes = pushes_of(alloc, kernel, &item, states)?;
-    out.give_pushes(&pushes)?;
+    let mut pushes = out.spare_pushes(alloc);
+    push_all(alloc, kernel, &item, states, &mut pushes)?;
+    out.give_pushes(pushes)?;
     Ok(())
 }
 
-// Each value as an item.
+// Each value as an item comes to an empty list.
 #[tactic(auto, using(std::proofs::lemmas::List::map_more))]
-fn items_of(alloc: Global, values: &Numbers) -> Result<Items, NoMemory>
-    ensures { IfOk result (λ items. items ≡ map (λ v. variant.Flat (flat.One (v ∷ []))) values.now) }
+fn add_values(values: &Numbers, items: &mut Items) -> Result<(), NoMemory>
+    requires { items.old ≡ [] }
+    ensures { OnOk result (items.new ≡ map (λ v. variant.Flat (flat.One (v ∷ []))) values.now) }
 {
-    let mut items = Items::new(alloc);
     for value in values.as_slice() {
         items.push(Item::Flat(Flat::One(Row::one(*value))))?;
     }
-    Ok(items)
+    Ok(())
+}
+
+// Each value as an item at the first port.
+fn give_values(alloc: Global, values: &Numbers, out: &mut Emit) -> Result<(), NoMemory>
+    requires { 0 < length out.old.outs }
+    ensures { OnOk result (Took out.old out.new (gives 0 (map (λ v. variant.Flat (flat.One (v ∷ []))) values.now) [])) }
+{
+    let mut items = out.spare_items(alloc);
+    add_values(values, &mut items)?;
+    out.give_all(0, items)?;
+    Ok(())
 }
 
 /// A value comes to a filter.
@@ -124,8 +142,7 @@ pub fn fire_filter(
             let value = row_of(&item).values()[0];
             let mut values = Numbers::new(alloc);
             filter.step(state, value, &mut values)?;
-            out.give_all(0, items_of(alloc, &values)?)?;
-            Ok(())
+            give_values(alloc, &values, out)
         }
         _ => unreachable!(),
     }
@@ -168,7 +185,7 @@ pub fn fire_collect(
 {
     match state {
         State::Collect(state) => {
-            let mut items = Items::new(alloc);
+            let mut items = out.spare_items(alloc);
             Collect::step(weights, state, port, item, &mut items)?;
             out.give_all(0, items)?;
             Ok(())
@@ -202,7 +219,7 @@ pub fn fire_unpack(
 {
     match state {
         State::Unpack(state) => {
-            let mut items = Items::new(alloc);
+            let mut items = out.spare_items(alloc);
             Unpack::step(ports, state, port, pack_of(item), &mut items)?;
             out.give_all(0, items)?;
             Ok(())
