@@ -22,9 +22,7 @@ pub(crate) fn wiring_of(alloc: Global, raw: &RawPlan) -> Result<Wiring, PlanFaul
     ensures fault { IfErr result (λ fault. IsJudged (plan_form raw.now) (Err fault)) }
 {
     let mut queues = NameSet::new(alloc);
-    if let Some(name) = add_queues(alloc, raw, &mut queues)? {
-        return Err(PlanFault::P1(Named::Queue(name)));
-    }
+    add_queues(alloc, raw, &mut queues)?;
     wiring_among(alloc, raw, &queues)
 }
 
@@ -37,9 +35,7 @@ fn wiring_among(alloc: Global, raw: &RawPlan, queues: &NameSet) -> Result<Wiring
     ensures fault { IfErr result (λ fault. IsJudged (plan_form raw.now) (Err fault)) }
 {
     let mut variables = NameSet::new(alloc);
-    if let Some(name) = add_variables(alloc, raw, &mut variables)? {
-        return Err(PlanFault::P1(Named::Variable(name)));
-    }
+    add_variables(alloc, raw, &mut variables)?;
     wiring_between(alloc, raw, queues, &variables)
 }
 
@@ -67,34 +63,42 @@ fn wiring_between(
     Ok(wiring_by(alloc, raw, queues, variables)?)
 }
 
-// Adds the names of the queues to the empty set; answers the first that stood before.
-fn add_queues(alloc: Global, raw: &RawPlan, queues: &mut NameSet) -> Result<Option<Name>, NoMemory>
+// Adds the names of the queues to the empty set; the first that stood before is at fault.
+fn add_queues(alloc: Global, raw: &RawPlan, queues: &mut NameSet) -> Result<(), PlanFault>
     requires { queues.old ≡ [] }
-    ensures first { IfOk result (IsFirst IsNew (queue_names (plan_form raw.now))) }
-    ensures all { IfOk result (λ found. found ≡ None → queues.new ≡ queue_names (plan_form raw.now)) }
+    ensures all { OnOk result (queues.new ≡ queue_names (plan_form raw.now)) }
+    ensures once { OnOk result (IsFirst IsNew (queue_names (plan_form raw.now)) None) }
+    ensures fault { IfErr result (λ fault. IsJudged (plan_form raw.now) (Err fault)) }
 {
-    add_new(queues, &queue_names(alloc, raw)?)
+    let names = queue_names(alloc, raw)?;
+    match add_new(queues, &names)? {
+        Some(name) => Err(PlanFault::P1(Named::Queue(name))),
+        None => Ok(()),
+    }
 }
 
-// Adds the names of the variables to the empty set; answers the first that stood before.
-fn add_variables(
-    alloc: Global,
-    raw: &RawPlan,
-    variables: &mut NameSet,
-) -> Result<Option<Name>, NoMemory>
-    requires { variables.old ≡ [] }
-    ensures first { IfOk result (IsFirst IsNew (variable_names (plan_form raw.now))) }
-    ensures all { IfOk result (λ found. found ≡ None → variables.new ≡ variable_names (plan_form raw.now)) }
+// Adds the names of the variables to the empty set; the first that stood before is at fault.
+fn add_variables(alloc: Global, raw: &RawPlan, variables: &mut NameSet) -> Result<(), PlanFault>
+    requires empty { variables.old ≡ [] }
+    requires queues_once { IsFirst IsNew (queue_names (plan_form raw.now)) None }
+    ensures all { OnOk result (variables.new ≡ variable_names (plan_form raw.now)) }
+    ensures once { OnOk result (IsFirst IsNew (variable_names (plan_form raw.now)) None) }
+    ensures fault { IfErr result (λ fault. IsJudged (plan_form raw.now) (Err fault)) }
 {
-    add_new(variables, &variable_names(alloc, raw)?)
+    let names = variable_names(alloc, raw)?;
+    match add_new(variables, &names)? {
+        Some(name) => Err(PlanFault::P1(Named::Variable(name))),
+        None => Ok(()),
+    }
 }
 
 // The first label that stood before.
 fn label_again(alloc: Global, ops: &Ops) -> Result<Option<Name>, NoMemory>
     ensures { IfOk result (IsFirst IsNew (labels_of (op_forms ops.now))) }
 {
+    let names = labels(alloc, ops)?;
     let mut seen = NameSet::new(alloc);
-    add_new(&mut seen, &labels(alloc, ops)?)
+    add_new(&mut seen, &names)
 }
 
 // The first name in these operators that is in neither set.

@@ -35,9 +35,20 @@ fn checked(alloc: Global, raw: &RawPlan) -> Result<Wiring, PlanFault>
     ensures fault { IfErr result (λ fault. IsJudged (plan_form raw.now) (Err fault)) }
 {
     let wiring = wiring_of(alloc, raw)?;
-    match later_fault(alloc, raw, &wiring)? {
+    faultless(alloc, raw, &wiring)?;
+    Ok(wiring)
+}
+
+// The first fault of these lists, whose names are in order, where there is one.
+fn faultless(alloc: Global, raw: &RawPlan, wiring: &Wiring) -> Result<(), PlanFault>
+    requires named { AreNamed (plan_form raw.now) }
+    requires wired { IsWired (plan_form raw.now) wiring.now }
+    ensures faultless { OnOk result (FirstFault (plan_form raw.now) None) }
+    ensures fault { IfErr result (λ fault. IsJudged (plan_form raw.now) (Err fault)) }
+{
+    match later_fault(alloc, raw, wiring)? {
         Some(fault) => Err(fault),
-        None => Ok(wiring),
+        None => Ok(()),
     }
 }
 

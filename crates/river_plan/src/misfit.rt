@@ -25,8 +25,7 @@ pub(crate) fn misfit(
 {
     let queues = queue_kinds(alloc, raw)?;
     let vars = var_kinds(alloc, raw)?;
-    let found = first_misfit(alloc, raw, wiring, queues.as_slice(), vars.as_slice())?;
-    Ok(found)
+    first_misfit(alloc, raw, wiring, queues.as_slice(), vars.as_slice())
 }
 
 // The same, where the types of the queues and the kinds of the variables are known.

@@ -1,17 +1,25 @@
 // The names of a plan as places, looked up once.
-ghost use Rattle.std.specs.Prelude.{◌≡◌, [], ◌∷◌, IfOk, OnOk, map as mapped};
+ghost use Rattle.std.specs.Prelude.{◌≡◌, [], ◌∷◌, length, IfOk, OnOk, map as mapped};
 ghost use Rattle.river_base.specs.Places.{only, each_grew};
-ghost use Rattle.river_plan.specs.Forms.{plan_form, op_forms, queue_names, variable_names};
-ghost use Rattle.river_plan.specs.Places.{places, as_often, users};
+ghost use Rattle.river_plan.specs.Forms.{plan_form, op_form, op_forms, queue_names, variable_names};
+ghost use Rattle.river_plan.specs.Places.{names_of, places, as_often, users};
 ghost use Rattle.river_plan.specs.Wired.{AreUses, IsWired};
 
 use crate::name_set::NameSet;
-use crate::{Names, Ops, RawPlan};
+use crate::{Names, Op, Ops, RawPlan};
 use river_base::{Listed, NoMemory};
 use std::alloc::Global;
 
 /// Places among the queues, or among the variables, of a plan.
 pub(crate) type Places = Listed<usize>;
+
+/// A part of an operator's names: the queues that it reads or writes, or its variables.
+#[derive(Clone, Copy)]
+pub(crate) enum Part {
+    Reads,
+    Writes,
+    Vars,
+}
 
 /// What operators use, both ways: the places that each operator uses, and the operators that use each place.
 #[derive(Drop)]
@@ -86,12 +94,9 @@ pub(crate) fn wiring_by(
     requires variables { variables.now ≡ variable_names (plan_form raw.now) }
     ensures { IfOk result (IsWired (plan_form raw.now)) }
 {
-    let reads = read_places(alloc, &raw.ops, queues)?;
-    let reads = both_ways(alloc, reads, queues.len())?;
-    let writes = write_places(alloc, &raw.ops, queues)?;
-    let writes = both_ways(alloc, writes, queues.len())?;
-    let vars = var_places(alloc, &raw.ops, variables)?;
-    let vars = both_ways(alloc, vars, variables.len())?;
+    let reads = uses_of(alloc, &raw.ops, queues, Part::Reads)?;
+    let writes = uses_of(alloc, &raw.ops, queues, Part::Writes)?;
+    let vars = uses_of(alloc, &raw.ops, variables, Part::Vars)?;
     Ok(Wiring {
         reads,
         writes,
@@ -99,11 +104,12 @@ pub(crate) fn wiring_by(
     })
 }
 
-// These places of each operator, and the operators of so many places.
-fn both_ways(alloc: Global, by_op: Listed<Places>, count: usize) -> Result<Uses, NoMemory>
-    ensures { IfOk result (AreUses count by_op) }
+// What operators use by a part of their names, both ways.
+fn uses_of(alloc: Global, ops: &Ops, set: &NameSet, part: Part) -> Result<Uses, NoMemory>
+    ensures { IfOk result (AreUses (length set.now) (mapped (λ op. places set.now (names_of part op)) (op_forms ops.now))) }
 {
-    let by_place = users(alloc, &by_op, count)?;
+    let by_op = op_places(alloc, ops, set, part)?;
+    let by_place = users(alloc, &by_op, set.len())?;
     Ok(Uses { by_op, by_place })
 }
 
@@ -138,40 +144,32 @@ fn add_at(all: &mut Listed<Places>, place: usize, number: usize) -> Result<(), N
     Ok(())
 }
 
-// The places of the queues that each operator reads, port by port.
+// The places of a part of each operator's names, one after another.
 #[tactic(auto, using(work_code::proofs::Lists::copies))]
-fn read_places(alloc: Global, ops: &Ops, queues: &NameSet) -> Result<Listed<Places>, NoMemory>
-    ensures { IfOk result (λ all. all ≡ mapped (λ op. places queues.now op.reads) (op_forms ops.now)) }
+fn op_places(
+    alloc: Global,
+    ops: &Ops,
+    set: &NameSet,
+    part: Part,
+) -> Result<Listed<Places>, NoMemory>
+    ensures { IfOk result (λ all. all ≡ mapped (λ op. places set.now (names_of part op)) (op_forms ops.now)) }
 {
     let mut all = Listed::new(alloc);
     for op in ops.as_slice() {
-        all.push(places_in(alloc, queues, &op.reads)?)?;
+        all.push(places_in(alloc, set, names_of(op, part))?)?;
     }
     Ok(all)
 }
 
-// The places of the queues that each operator writes, port by port.
-#[tactic(auto, using(work_code::proofs::Lists::copies))]
-fn write_places(alloc: Global, ops: &Ops, queues: &NameSet) -> Result<Listed<Places>, NoMemory>
-    ensures { IfOk result (λ all. all ≡ mapped (λ op. places queues.now op.writes) (op_forms ops.now)) }
+// A part of an operator's names.
+fn names_of(op: &Op, part: Part) -> &Names
+    ensures { result.now ≡ names_of part (op_form op.now) }
 {
-    let mut all = Listed::new(alloc);
-    for op in ops.as_slice() {
-        all.push(places_in(alloc, queues, &op.writes)?)?;
+    match part {
+        Part::Reads => &op.reads,
+        Part::Writes => &op.writes,
+        Part::Vars => &op.vars,
     }
-    Ok(all)
-}
-
-// The places of each operator's variables.
-#[tactic(auto, using(work_code::proofs::Lists::copies))]
-fn var_places(alloc: Global, ops: &Ops, variables: &NameSet) -> Result<Listed<Places>, NoMemory>
-    ensures { IfOk result (λ all. all ≡ mapped (λ op. places variables.now op.vars) (op_forms ops.now)) }
-{
-    let mut all = Listed::new(alloc);
-    for op in ops.as_slice() {
-        all.push(places_in(alloc, variables, &op.vars)?)?;
-    }
-    Ok(all)
 }
 
 // The places of these names.

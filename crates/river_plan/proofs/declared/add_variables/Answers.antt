@@ -3,9 +3,10 @@ use Rattle.river_plan.specs.First.{IsFirst}
 use Rattle.river_plan.specs.Forms.{plan_form, variable_names}
 use Rattle.river_plan.specs.Faults.{IsNew}
 use Rattle.river_plan.proofs.JudgeLemmas.{variable-again}
-use Rattle.river_plan.proofs.declared.wiring_among.Goals as goal
+use Rattle.river_plan.proofs.declared.add_variables.Goals as goal
 
 pub returns-in-Some-clause-fault : goal.returns-in-Some-clause-fault
 returns-in-Some-clause-fault c =
     let p = plan_form c.args.raw.now in
-    variable-again p c.in-Some.name c.requires.once (subst (IsFirst IsNew (variable_names p)) c.in-Some.is c.in_ok-name.ensures.first)
+    variable-again p c.in-Some.name c.requires.queues_once
+    (subst (IsFirst IsNew (variable_names p)) c.in-Some.is (subst (λ ns. IsFirst IsNew ns c.in_ok-name.field-0) c.in_ok-names.ensures c.in_ok-name.ensures.first))
