@@ -19,7 +19,7 @@ use Rattle.river_text.specs.Faults.{Refuses}
 use Rattle.river_text.specs.Laws.{IsBadAt, Has, MeansWhatItHas}
 use Rattle.river_text.specs.Meaning.{plan_in, checked, or_fault, then_checked, then_read, from_lexer, from_text, from_plan, Refused}
 use Rattle.river_text.specs.Plans.{IsText, next_stage}
-use Rattle.river_text.specs.ReadPlans.{read_plan, unit_from}
+use Rattle.river_text.specs.ReadPlans.{read_plan}
 use Rattle.river_text.specs.declared.fault.TextFault.{TextFault}
 use Rattle.river_text.specs.declared.fault.TextFault.TheVariants as text_fault
 use Rattle.river_text.specs.declared.river_fault.RiverFault.{RiverFault}

@@ -14,12 +14,13 @@ use Rattle.text_forms.specs.declared.language.Language.TheVariants.{River}
 use Rattle.text_forms.specs.Parse as parse
 use Rattle.text_forms.specs.Parse.{Parse}
 use Rattle.text_forms.specs.Forms as form
-use Rattle.text_forms.proofs.Exact.{Exact, Any, exact-less, exact-both, exact-after, exact-before, exact-after_word, exact-tested, exact-seen, exact-merged, exact-maybe, exact-number, exact-value, exact-nothing}
+use Rattle.text_forms.proofs.Exact.{Exact, Any, exact-less, exact-as, exact-both, exact-after, exact-before, exact-after_word, exact-tested, exact-seen, exact-merged, exact-maybe, exact-number, exact-value, exact-nothing}
 use Rattle.text_forms.proofs.Many.{Listed, exact-many, exact-commas}
 use Rattle.text_forms.proofs.Choices.{exact-never, exact-choose, exact-headed, exact-known, exact-enclosed, exact-listing}
 use Rattle.text_forms.proofs.Ladder.{Ends, exact-expr}
 use Rattle.river_text.specs.Kernels.{term_of, least, made_set, made_push, made_if, or_done, made_code, made_filter, made_fused, IsTerm, Count, Width, Signed, Round, IsStarts, IsSet, IsPush, IsIf, IsBodyOf, IsStmt, IsBody, IsCode, IsFilter, IsFused, BagAfter, KernelAfter, IsBraced, IsKernel}
-use Rattle.river_text.specs.ReadKernels.{term_at, width_at, signed_at, round, starts_at, widths_at, weights_at, some_terms_at, terms_at, number_at, round_term_at, set_at, push_at, at_close, body_of_at, else_at, if_at, stmt_after, steps_of, stmt_at, stmts_at, body_at, pair_at, rates_at, code_at, filter_at, fused_at, range_at, stream_after, relation_after, bag_after, kernel_after, braced_at, kernel_at}
+use Rattle.river_text.specs.ReadKernels.{term_at, width_at, signed_at, round, starts_at, widths_at, weights_at, some_terms_at, terms_at, number_at, two_at, round_term_at, set_at, push_at, at_close, body_of_at, else_at, if_at, stmt_after, steps_of, stmt_at, stmts_at, body_at, pair_at, rates_at, code_at, filter_at, fused_at, range_at, stream_after, relation_after, bag_after, kernel_after, braced_at, kernel_at}
+use Rattle.river_text.proofs.Regroup.{rates-same}
 
 -- an expression
 pub exact-term : (n : ℕ) → Exact (IsTerm n) (term_at n) (Ends 6)
@@ -169,14 +170,15 @@ exact-body nest n = exact-body_of nest (exact-stmt nest) n
 
 -- two numbers in brackets
 pub exact-pair : (n : ℕ) → Exact (Round (λ m. form.Both Count (form.After (s.Comma ∷ []) Count)) n) (pair_at n) Any
-unfolding pair_at
+unfolding pair_at two_at
 exact-pair n = exact-round (λ m. exact-both exact-count (exact-after (s.Comma ∷ []) exact-count) (λ y ts rest g d. tt)) (λ rest. tt) n
 
 exact-rates : (n : ℕ) → Exact (Round (λ m. form.Both Count (form.After (s.Comma ∷ []) (form.Both Count (form.After (s.Comma ∷ []) (form.Both Count (form.After (s.Comma ∷ []) Count)))))) n) (rates_at n) Any
 unfolding rates_at
 exact-rates n =
-    exact-round (λ m. exact-both exact-count (exact-after (s.Comma ∷ []) (exact-both exact-count (exact-after (s.Comma ∷ [])
-    (exact-both exact-count (exact-after (s.Comma ∷ []) exact-count) (λ y ts rest g d. tt))) (λ y ts rest g d. tt))) (λ y ts rest g d. tt)) (λ rest. tt) n
+    exact-round (λ m. exact-as (exact-both exact-count (exact-after (s.Comma ∷ []) (exact-both exact-count (exact-after (s.Comma ∷ [])
+    (exact-both exact-count (exact-after (s.Comma ∷ []) exact-count) (λ y ts rest g d. tt))) (λ y ts rest g d. tt))) (λ y ts rest g d. tt))
+    (λ v ts h. h) (λ v ts h. h) rates-same) (λ rest. tt) n
 
 exact-code : (n : ℕ) → Exact (IsCode n) (code_at n) Any
 unfolding code_at

@@ -5,6 +5,7 @@ pub mod Kernels
 pub mod Loops
 pub mod Plans
 pub mod Ports
+pub mod Regroup
 pub mod Steps
 pub mod Texts
 pub mod Trees

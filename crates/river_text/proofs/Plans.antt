@@ -18,6 +18,7 @@ use Rattle.text_forms.proofs.Choices.{exact-never, exact-choose, exact-headed, e
 use Rattle.river_text.specs.Plans.{IsName, IsVar, brackets, FlatAfter, IsFlat, IsType, made_decl, IsDecl, made_maximum, made_table, IsTable, Port, queue, variable, IsPort, IsPorts, Ports, same_vars, made_op, IsOp, output, input, inner, table, private, operator, IsUnit, is_late, IsUnitAt}
 use Rattle.river_text.specs.ReadPlans.{river_name_at, river_var_at, flat_after, flat_at, packed_at, type_after, type_at, decl_at, kind_after, kind_at, table_at, is_var_at, port_at, split_from, port_list_at, ports_at, op_at, private_at, unit_after, unit_at, unit_from}
 use Rattle.river_text.proofs.Kernels.{exact-counted, exact-pair, exact-round, exact-braced}
+use Rattle.river_text.proofs.Regroup.{op-same}
 
 exact-river_name : Exact IsName river_name_at Any
 unfolding river_name_at
@@ -112,10 +113,10 @@ unfolding ports_at AtClose
 exact-ports = exact-round (λ m. exact-ports_inside) (λ rest. (refl, (tt, refl))) brackets
 
 exact-op : Exact IsOp op_at Any
-unfolding op_at
 exact-op =
-    exact-seen made_op (exact-tested same_vars (exact-both exact-river_name (exact-after (s.Colon ∷ []) (exact-both exact-ports
-    (exact-after (s.Less ∷ s.Minus ∷ []) (exact-both exact-ports (exact-braced brackets) (λ y ts rest g d. tt))) (λ y ts rest g d. tt))) (λ y ts rest g d. tt)))
+    exact-as (exact-seen made_op (exact-tested same_vars (exact-both exact-river_name (exact-after (s.Colon ∷ []) (exact-both exact-ports
+    (exact-after (s.Less ∷ s.Minus ∷ []) (exact-both exact-ports (exact-braced brackets) (λ y ts rest g d. tt))) (λ y ts rest g d. tt))) (λ y ts rest g d. tt))))
+    (λ v ts h. h) (λ v ts h. h) op-same
 
 exact-private : Exact (form.Before IsVar (s.Semicolon ∷ [])) private_at Any
 unfolding private_at

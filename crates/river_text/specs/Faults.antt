@@ -33,3 +33,10 @@ GivesPlan (Ok plan) read = read ≡ Ok (plan_form plan)
 GivesPlan (Err (Lex f)) read = ⊥
 GivesPlan (Err (Syntax unit)) read = read ≡ Err unit
 GivesPlan (Err NoMemory) read = Unit {0}
+
+-- the units were added to the plan, or this unit is none
+abbrev pub AddsUnits : Result (Unit {0}) TextFault → RawPlan → Result PlanForm ℕ → Type 0
+AddsUnits (Ok u) plan read = read ≡ Ok (plan_form plan)
+AddsUnits (Err (Lex f)) plan read = ⊥
+AddsUnits (Err (Syntax unit)) plan read = read ≡ Err unit
+AddsUnits (Err NoMemory) plan read = Unit {0}

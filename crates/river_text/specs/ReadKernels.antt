@@ -100,11 +100,19 @@ unfoldable pub branch_at : (nest n : ℕ) → Parse Step
 branch_at zero n ts = None
 branch_at (suc nest) n ts = if_at (body_at nest) n ts
 
+-- two numbers with a comma between them
+unfoldable pub two_at : Parse (ℕ × ℕ)
+two_at ts = both count_at (after (s.Comma ∷ []) count_at) ts
+
 unfoldable pub pair_at : ℕ → Parse (ℕ × ℕ)
-pair_at n ts = round (λ m. both count_at (after (s.Comma ∷ []) count_at)) n ts
+pair_at n ts = round (λ m. two_at) n ts
+
+-- two pairs as four numbers
+abbrev pub four : (ℕ × ℕ) × (ℕ × ℕ) → ℕ × (ℕ × (ℕ × ℕ))
+four v = (v.0.0, (v.0.1, v.1))
 
 unfoldable pub rates_at : ℕ → Parse (ℕ × (ℕ × (ℕ × ℕ)))
-rates_at n ts = round (λ m. both count_at (after (s.Comma ∷ []) (both count_at (after (s.Comma ∷ []) (both count_at (after (s.Comma ∷ []) count_at)))))) n ts
+rates_at n ts = round (λ m. seen four (both two_at (after (s.Comma ∷ []) two_at))) n ts
 
 unfoldable pub code_at : ℕ → Parse Kern
 code_at n ts = seen made_code (both (pair_at n) (both (widths_at n) (both (starts_at n) (body_at 16 n)))) ts

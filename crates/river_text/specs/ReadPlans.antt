@@ -13,7 +13,8 @@ use Rattle.kern_tables.specs.declared.kind.TableKind.TheVariants.{Sum, Collectio
 use Rattle.river_plan.specs.Forms.{OpForm, PlanForm}
 use Rattle.river_plan.specs.declared.plan.Decl.{Decl}
 use Rattle.river_plan.specs.declared.plan.TableDecl.{TableDecl}
-use Rattle.text_forms.specs.Parse.{Parse, name_at, var_at, both, after, before, tested, seen, known, merged, listing, headed}
+use Rattle.river_kernels.specs.Kern.{Kern}
+use Rattle.text_forms.specs.Parse.{Parse, name_at, var_at, run_at, then_read, then_rest, given, both, after, before, tested, seen, known, merged, listing, headed}
 use Rattle.text_forms.specs.Texts.{whole}
 use Rattle.river_text.specs.Plans.{brackets, made_decl, made_maximum, made_table, Port, queue, variable, Ports, same_vars, made_op, Entry, output, input, inner, table, private, operator, stage_of, is_late, add}
 use Rattle.river_text.specs.ReadKernels.{round, number_at, pair_at, braced_at}
@@ -83,10 +84,18 @@ port_list_at ts = listing s.Close port_at ts
 unfoldable pub ports_at : Parse Ports
 ports_at ts = round (λ m. known (split_from [] []) port_list_at) brackets ts
 
+-- an operator of these parts, where it reads and writes the same variables
+abbrev pub op_of : List ℕ → Ports → Ports → Kern → Option OpForm
+op_of label outs ins kernel = if same_vars (label, (outs, (ins, kernel))) then Some (made_op (label, (outs, (ins, kernel)))) else None
+
+-- an operator, behind its name and what it writes
+unfoldable pub op_from_at : List ℕ → Ports → Parse OpForm
+op_from_at label outs ts =
+    then_rest (run_at (s.Less ∷ s.Minus ∷ []) ts) (λ us. then_read (ports_at us) (λ ins vs. then_read (braced_at brackets vs) (λ kernel ws. given (op_of label outs ins kernel) ws)))
+
 unfoldable pub op_at : Parse OpForm
 op_at ts =
-    seen made_op (tested same_vars (both river_name_at (after (s.Colon ∷ []) (both ports_at
-    (after (s.Less ∷ s.Minus ∷ []) (both ports_at (braced_at brackets))))))) ts
+    then_read (river_name_at ts) (λ label us. then_rest (run_at (s.Colon ∷ []) us) (λ vs. then_read (ports_at vs) (λ outs ws. op_from_at label outs ws)))
 
 unfoldable pub private_at : Parse (List ℕ)
 private_at ts = before river_var_at (s.Semicolon ∷ []) ts

@@ -4,6 +4,7 @@ ghost use Rattle.text_forms.specs.Gives.{Gives};
 ghost use Rattle.work_code.specs.Steps.{step, steps};
 ghost use Rattle.river_text.specs.ReadKernels.{set_at, push_at, stmt_at, stmts_at, stmt_after, branch_at, if_at, else_at, body_at};
 
+use crate::end::{ended, is};
 use crate::term::{expr, exprs, round_expr};
 use std::alloc::Global;
 use text_forms::{Fault, Reader};
@@ -19,8 +20,7 @@ fn set(reader: &mut Reader<'_>, alloc: Global, brackets: u32) -> Result<Stmt, Fa
     reader.expect(&[Symbol::CloseBracket])?;
     reader.expect(&[Symbol::Assign])?;
     let value = expr(reader, alloc, brackets)?;
-    reader.expect(&[Symbol::Semicolon])?;
-    Ok(Stmt::Set { slot, value })
+    ended(reader, Stmt::Set { slot, value }, Symbol::Semicolon)
 }
 
 // What stands behind `push`.
@@ -30,8 +30,7 @@ fn push(reader: &mut Reader<'_>, alloc: Global, brackets: u32) -> Result<Stmt, F
 {
     let port = reader.count()?;
     let values = exprs(reader, alloc, brackets)?;
-    reader.expect(&[Symbol::Semicolon])?;
-    Ok(Stmt::Push { port, values })
+    ended(reader, Stmt::Push { port, values }, Symbol::Semicolon)
 }
 
 // A statement, in which `if` may nest so deep.
@@ -56,13 +55,13 @@ fn stmt_after(
 ) -> Result<Stmt, Fault>
     ensures { Gives step result reader.new (stmt_after (branch_at nest brackets) brackets word.now reader.old) }
 {
-    if word == b"slot".as_slice() {
+    if is(word, b"slot") {
         return set(reader, alloc, brackets);
     }
-    if word == b"push".as_slice() {
+    if is(word, b"push") {
         return push(reader, alloc, brackets);
     }
-    if word == b"if".as_slice() {
+    if is(word, b"if") {
         return branch(reader, alloc, nest, brackets);
     }
     Err(Fault::Syntax)
@@ -114,8 +113,7 @@ pub fn body(
 {
     let inner = reader.opens(Symbol::OpenBrace, brackets)?;
     let stmts = stmts(reader, alloc, nest, inner)?;
-    reader.expect(&[Symbol::CloseBrace])?;
-    Ok(stmts)
+    ended(reader, stmts, Symbol::CloseBrace)
 }
 
 // Statements up to a closing brace.

@@ -3,6 +3,7 @@ ghost use Rattle.std.specs.Prelude.{◌≡◌};
 ghost use Rattle.text_forms.specs.Gives.{Gives};
 ghost use Rattle.river_text.specs.ReadPlans.{river_name_at, river_var_at, flat_after, flat_at, packed_at, type_after, type_at, decl_at, kind_after, kind_at, table_at, private_at};
 
+use crate::end::{ended, is};
 use crate::number::{number, pair};
 use kern_tables::TableKind;
 use river_base::{FlatType, Name, QueueType};
@@ -42,13 +43,13 @@ pub fn river_var(reader: &mut Reader<'_>) -> Result<Name, Fault>
 fn flat_after(reader: &mut Reader<'_>, brackets: u32, word: &[u8]) -> Result<FlatType, Fault>
     ensures { Gives (λ kind. kind) result reader.new (flat_after brackets word.now reader.old) }
 {
-    if word == b"rows".as_slice() {
+    if is(word, b"rows") {
         return Ok(FlatType::Rows(number(reader, brackets)?));
     }
-    if word == b"stream".as_slice() {
+    if is(word, b"stream") {
         return Ok(FlatType::Stream(number(reader, brackets)?));
     }
-    if word == b"relation".as_slice() {
+    if is(word, b"relation") {
         return Ok(FlatType::Relation(number(reader, brackets)?));
     }
     Err(Fault::Syntax)
@@ -70,8 +71,7 @@ fn packed(reader: &mut Reader<'_>) -> Result<FlatType, Fault>
 {
     let inner = reader.opens(Symbol::Open, BRACKETS)?;
     let kind = flat(reader, inner)?;
-    reader.expect(&[Symbol::Close])?;
-    Ok(kind)
+    ended(reader, kind, Symbol::Close)
 }
 
 // What stands behind the word of a type.
@@ -79,7 +79,7 @@ fn packed(reader: &mut Reader<'_>) -> Result<FlatType, Fault>
 fn type_after(reader: &mut Reader<'_>, word: &[u8]) -> Result<QueueType, Fault>
     ensures { Gives (λ kind. kind) result reader.new (type_after word.now reader.old) }
 {
-    if word == b"pack".as_slice() {
+    if is(word, b"pack") {
         return Ok(QueueType::Pack(packed(reader)?));
     }
     Ok(QueueType::Flat(flat_after(reader, BRACKETS, word)?))
@@ -102,8 +102,7 @@ pub fn decl(reader: &mut Reader<'_>) -> Result<Decl, Fault>
     let name = river_name(reader)?;
     reader.expect(&[Symbol::Colon])?;
     let kind = queue_type(reader)?;
-    reader.expect(&[Symbol::Semicolon])?;
-    Ok(Decl { name, kind })
+    ended(reader, Decl { name, kind }, Symbol::Semicolon)
 }
 
 // What stands behind the word of a table's kind.
@@ -111,15 +110,15 @@ pub fn decl(reader: &mut Reader<'_>) -> Result<Decl, Fault>
 fn kind_after(reader: &mut Reader<'_>, word: &[u8]) -> Result<TableKind, Fault>
     ensures { Gives (λ kind. kind) result reader.new (kind_after word.now reader.old) }
 {
-    if word == b"sum".as_slice() {
+    if is(word, b"sum") {
         let keys = number(reader, BRACKETS)?;
         return Ok(TableKind::Sum { keys });
     }
-    if word == b"collection".as_slice() {
+    if is(word, b"collection") {
         let keys = number(reader, BRACKETS)?;
         return Ok(TableKind::Collection { keys });
     }
-    if word == b"maximum".as_slice() {
+    if is(word, b"maximum") {
         let (best, keys) = pair(reader, BRACKETS)?;
         return Ok(TableKind::Maximum { best, keys });
     }
@@ -143,8 +142,7 @@ pub fn table(reader: &mut Reader<'_>) -> Result<TableDecl, Fault>
     let name = river_var(reader)?;
     reader.expect(&[Symbol::Colon])?;
     let kind = table_kind(reader)?;
-    reader.expect(&[Symbol::Semicolon])?;
-    Ok(TableDecl { name, kind })
+    ended(reader, TableDecl { name, kind }, Symbol::Semicolon)
 }
 
 /// The declaration of a private variable, behind its first word.
@@ -153,6 +151,5 @@ pub fn private(reader: &mut Reader<'_>) -> Result<Name, Fault>
     ensures { Gives (λ name. name) result reader.new (private_at reader.old) }
 {
     let name = river_var(reader)?;
-    reader.expect(&[Symbol::Semicolon])?;
-    Ok(name)
+    ended(reader, name, Symbol::Semicolon)
 }

@@ -1,5 +1,5 @@
 // Units read.
-ghost use Rattle.std.specs.Prelude.{◌≡◌, OnOk};
+ghost use Rattle.std.specs.Prelude.{◌≡◌, ◌≤◌, ◌↔◌, [], IsTrue, OnOk};
 ghost use Rattle.text_forms.specs.Gives.{Gives};
 ghost use Rattle.text_forms.specs.Texts.{whole};
 ghost use Rattle.work_code.specs.Tok.{tokens_of};
@@ -10,6 +10,7 @@ ghost use Rattle.river_text.specs.Entries.{entry_of};
 ghost use Rattle.river_text.specs.Made.{Makes};
 
 use crate::decl::{decl, private, table};
+use crate::end::{is, kept};
 use crate::op::operator;
 use river_base::{Name, NoMemory};
 use river_plan::{Decl, Op, RawPlan, TableDecl};
@@ -63,22 +64,22 @@ impl Entry {
 fn unit_after(reader: &mut Reader<'_>, alloc: Global, word: &[u8]) -> Result<Entry, Fault>
     ensures { Gives entry_of result reader.new (unit_after word.now reader.old) }
 {
-    if word == b"output".as_slice() {
+    if is(word, b"output") {
         return Ok(Entry::Output(decl(reader)?));
     }
-    if word == b"input".as_slice() {
+    if is(word, b"input") {
         return Ok(Entry::Input(decl(reader)?));
     }
-    if word == b"queue".as_slice() {
+    if is(word, b"queue") {
         return Ok(Entry::Queue(decl(reader)?));
     }
-    if word == b"table".as_slice() {
+    if is(word, b"table") {
         return Ok(Entry::Table(table(reader)?));
     }
-    if word == b"var".as_slice() {
+    if is(word, b"var") {
         return Ok(Entry::Var(private(reader)?));
     }
-    if word == b"op".as_slice() {
+    if is(word, b"op") {
         return Ok(Entry::Op(operator(reader, alloc)?));
     }
     Err(Fault::Syntax)
@@ -93,18 +94,20 @@ fn unit(reader: &mut Reader<'_>, alloc: Global) -> Result<Entry, Fault>
     unit_after(reader, alloc, word)
 }
 
+// Whether an entry is of this stage or of a later one, and no token is left behind it.
+fn fits(entry: &Entry, reader: &Reader<'_>, stage: u32) -> bool
+    ensures { IsTrue result ↔ ((reader.now ≡ []) × (stage ≤ stage_of (entry_of entry.now))) }
+{
+    reader.is_at_end() && stage <= entry.stage()
+}
+
 /// The entry of a whole unit that stands behind units of this stage.
-#[tactic(auto, using(crate::proofs::Wholes::wholes))]
+#[tactic(auto, using(crate::proofs::Wholes::whole_none))]
 pub fn whole_entry(alloc: Global, tokens: &[Lexeme<'_>], stage: u32) -> Result<Entry, Fault>
     ensures { Makes entry_of result (whole (unit_from stage) (tokens_of tokens.now)) }
 {
     let mut reader = Reader::new(tokens);
     let entry = unit(&mut reader, alloc)?;
-    if !reader.is_at_end() {
-        return Err(Fault::Syntax);
-    }
-    if entry.stage() < stage {
-        return Err(Fault::Syntax);
-    }
-    Ok(entry)
+    let fits = fits(&entry, &reader, stage);
+    kept(entry, fits)
 }

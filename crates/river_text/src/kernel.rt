@@ -1,18 +1,15 @@
 // Kernels read.
-ghost use Rattle.std.specs.Prelude.{◌≡◌, IfOk};
+ghost use Rattle.std.specs.Prelude.{◌≡◌};
 ghost use Rattle.text_forms.specs.Gives.{Gives};
-ghost use Rattle.text_forms.specs.Parse.{seen};
 ghost use Rattle.river_kernels.specs.Kern.{kern_of};
-ghost use Rattle.river_kernels.specs.Kern as kern;
-ghost use Rattle.river_text.specs.Kernels.{made_fused};
 ghost use Rattle.river_text.specs.ReadKernels.{code_at, filter_at, fused_at, stream_after, relation_after, bag_after, range_at, kernel_after, braced_at, kernel_at};
 
 use crate::body::body;
+use crate::end::{ended, is};
 use crate::number::{number, pair, rates, starts, weights, widths};
 use crate::term::{exprs, round_expr};
 use kern_bags::{Streamer, Window};
 use kern_rows::{CodeKernel, Filter};
-use river_base::NoMemory;
 use river_kernels::Kernel;
 use std::alloc::Global;
 use text_forms::{Fault, Reader};
@@ -67,8 +64,7 @@ fn range(reader: &mut Reader<'_>, brackets: u32) -> Result<i64, Fault>
 {
     reader.opens(Symbol::Open, brackets)?;
     let value = reader.value()?;
-    reader.expect(&[Symbol::Close])?;
-    Ok(value)
+    ended(reader, value, Symbol::Close)
 }
 
 // What stands behind the word of a streamer or of a tally.
@@ -76,16 +72,16 @@ fn range(reader: &mut Reader<'_>, brackets: u32) -> Result<i64, Fault>
 fn stream_after(reader: &mut Reader<'_>, word: &[u8]) -> Result<Kernel, Fault>
     ensures { Gives kern_of result reader.new (stream_after word.now reader.old) }
 {
-    if word == b"istream".as_slice() {
+    if is(word, b"istream") {
         return Ok(Kernel::Streamer(Streamer::Istream));
     }
-    if word == b"dstream".as_slice() {
+    if is(word, b"dstream") {
         return Ok(Kernel::Streamer(Streamer::Dstream));
     }
-    if word == b"rstream".as_slice() {
+    if is(word, b"rstream") {
         return Ok(Kernel::Streamer(Streamer::Rstream));
     }
-    if word == b"tally".as_slice() {
+    if is(word, b"tally") {
         return Ok(Kernel::Tally);
     }
     Err(Fault::Syntax)
@@ -101,13 +97,13 @@ fn relation_after(
 ) -> Result<Kernel, Fault>
     ensures { Gives kern_of result reader.new (relation_after brackets word.now reader.old) }
 {
-    if word == b"select".as_slice() {
+    if is(word, b"select") {
         return Ok(Kernel::Select(round_expr(reader, alloc, brackets)?));
     }
-    if word == b"project".as_slice() {
+    if is(word, b"project") {
         return Ok(Kernel::Project(exprs(reader, alloc, brackets)?));
     }
-    if word == b"cross".as_slice() {
+    if is(word, b"cross") {
         return Ok(Kernel::Cross);
     }
     stream_after(reader, word)
@@ -123,30 +119,27 @@ fn bag_after(
 ) -> Result<Kernel, Fault>
     ensures { Gives kern_of result reader.new (bag_after brackets word.now reader.old) }
 {
-    if word == b"now".as_slice() {
+    if is(word, b"now") {
         return Ok(Kernel::Window(Window::Now));
     }
-    if word == b"range".as_slice() {
+    if is(word, b"range") {
         return Ok(Kernel::Window(Window::Range(range(reader, brackets)?)));
     }
-    if word == b"unbounded".as_slice() {
+    if is(word, b"unbounded") {
         return Ok(Kernel::Window(Window::Unbounded));
     }
-    if word == b"latest".as_slice() {
+    if is(word, b"latest") {
         return Ok(Kernel::Window(Window::Latest(number(reader, brackets)?)));
     }
     relation_after(reader, alloc, brackets, word)
 }
 
-// The second kernel behind the first.
-fn fused_of(alloc: Global, at: u32, first: Kernel, second: Kernel) -> Result<Kernel, NoMemory>
-    ensures { IfOk result (λ k. kern_of k ≡ made_fused (at, (kern_of first, kern_of second))) }
+// A kernel in braces, in a box.
+#[cycle(kernel)]
+fn boxed(reader: &mut Reader<'_>, alloc: Global, brackets: u32) -> Result<Box<Kernel>, Fault>
+    ensures { Gives (λ boxed. kern_of boxed.value) result reader.new (braced_at brackets reader.old) }
 {
-    Ok(Kernel::Fused {
-        first: Box::new(alloc, first)?,
-        second: Box::new(alloc, second)?,
-        at,
-    })
+    Ok(Box::new(alloc, braced(reader, alloc, brackets)?)?)
 }
 
 // What stands behind `fused`.
@@ -156,18 +149,9 @@ fn fused(reader: &mut Reader<'_>, alloc: Global, brackets: u32) -> Result<Kernel
     ensures { Gives kern_of result reader.new (fused_at (braced_at brackets) brackets reader.old) }
 {
     let at = number(reader, brackets)?;
-    let first = braced(reader, alloc, brackets)?;
-    let second = braced(reader, alloc, brackets)?;
-    Ok(fused_of(alloc, at, first, second)?)
-}
-
-// What stands behind `packed`.
-#[cycle(kernel)]
-fn packed(reader: &mut Reader<'_>, alloc: Global, brackets: u32) -> Result<Kernel, Fault>
-    ensures { Gives kern_of result reader.new (seen kern.packed (braced_at brackets) reader.old) }
-{
-    let inner = braced(reader, alloc, brackets)?;
-    Ok(Kernel::Packed(Box::new(alloc, inner)?))
+    let first = boxed(reader, alloc, brackets)?;
+    let second = boxed(reader, alloc, brackets)?;
+    Ok(Kernel::Fused { first, second, at })
 }
 
 // What stands behind the word of a kernel.
@@ -181,28 +165,28 @@ fn kernel_after(
 ) -> Result<Kernel, Fault>
     ensures { Gives kern_of result reader.new (kernel_after (braced_at brackets) brackets word.now reader.old) }
 {
-    if word == b"code".as_slice() {
+    if is(word, b"code") {
         return code(reader, alloc, brackets);
     }
-    if word == b"filter".as_slice() {
+    if is(word, b"filter") {
         return filter(reader, alloc, brackets);
     }
-    if word == b"duplicate".as_slice() {
+    if is(word, b"duplicate") {
         return Ok(Kernel::Duplicate(number(reader, brackets)?));
     }
-    if word == b"deal".as_slice() {
+    if is(word, b"deal") {
         return Ok(Kernel::Deal(weights(reader, alloc, brackets)?));
     }
-    if word == b"collect".as_slice() {
+    if is(word, b"collect") {
         return Ok(Kernel::Collect(weights(reader, alloc, brackets)?));
     }
-    if word == b"packed".as_slice() {
-        return packed(reader, alloc, brackets);
+    if is(word, b"packed") {
+        return Ok(Kernel::Packed(boxed(reader, alloc, brackets)?));
     }
-    if word == b"unpack".as_slice() {
+    if is(word, b"unpack") {
         return Ok(Kernel::Unpack(number(reader, brackets)?));
     }
-    if word == b"fused".as_slice() {
+    if is(word, b"fused") {
         return fused(reader, alloc, brackets);
     }
     bag_after(reader, alloc, brackets, word)
@@ -214,13 +198,9 @@ fn kernel_after(
 pub fn braced(reader: &mut Reader<'_>, alloc: Global, brackets: u32) -> Result<Kernel, Fault>
     ensures { Gives kern_of result reader.new (braced_at brackets reader.old) }
 {
-    if brackets == 0 {
-        return Err(Fault::Syntax);
-    }
     let inner = reader.opens(Symbol::OpenBrace, brackets)?;
     let kernel = kernel(reader, alloc, inner)?;
-    reader.expect(&[Symbol::CloseBrace])?;
-    Ok(kernel)
+    ended(reader, kernel, Symbol::CloseBrace)
 }
 
 // A kernel, where `brackets` more brackets may be open.

@@ -3,6 +3,7 @@
 
 mod body;
 mod decl;
+mod end;
 mod entry;
 mod fault;
 mod front;

@@ -3,8 +3,9 @@ ghost use Rattle.std.specs.Prelude.{◌≡◌};
 ghost use Rattle.text_forms.specs.Gives.{Gives};
 ghost use Rattle.text_forms.specs.Parse.{commas, count_at, listing};
 ghost use Rattle.work_code.specs.declared.sign.Symbol.TheVariants as s;
-ghost use Rattle.river_text.specs.ReadKernels.{kind_at, signed_at, width_at, starts_at, widths_at, weights_at, number_at, pair_at, rates_at};
+ghost use Rattle.river_text.specs.ReadKernels.{kind_at, signed_at, width_at, round, starts_at, widths_at, weights_at, number_at, two_at, pair_at, rates_at};
 
+use crate::end::ended;
 use river_base::Numbers;
 use std::alloc::Global;
 use text_forms::{Fault, Reader};
@@ -77,15 +78,26 @@ fn numbers(reader: &mut Reader<'_>, alloc: Global, kind: Kind) -> Result<Numbers
     some_numbers(reader, alloc, kind)
 }
 
+// `(` numbers of this kind, or none `)`
+fn round_numbers(
+    reader: &mut Reader<'_>,
+    alloc: Global,
+    brackets: u32,
+    kind: Kind,
+) -> Result<Numbers, Fault>
+    ensures { Gives (λ list. list) result reader.new (round (λ m. listing s.Close (kind_at kind)) brackets reader.old) }
+{
+    reader.opens(Symbol::Open, brackets)?;
+    let list = numbers(reader, alloc, kind)?;
+    ended(reader, list, Symbol::Close)
+}
+
 /// `(` the kept values at the start `)`
 #[tactic(auto, unfolding(crate::specs::ReadKernels::starts_at))]
 pub fn starts(reader: &mut Reader<'_>, alloc: Global, brackets: u32) -> Result<Numbers, Fault>
     ensures { Gives (λ list. list) result reader.new (starts_at brackets reader.old) }
 {
-    reader.opens(Symbol::Open, brackets)?;
-    let list = numbers(reader, alloc, Kind::Signed)?;
-    reader.expect(&[Symbol::Close])?;
-    Ok(list)
+    round_numbers(reader, alloc, brackets, Kind::Signed)
 }
 
 /// `(` the widths of the output ports `)`
@@ -93,10 +105,7 @@ pub fn starts(reader: &mut Reader<'_>, alloc: Global, brackets: u32) -> Result<N
 pub fn widths(reader: &mut Reader<'_>, alloc: Global, brackets: u32) -> Result<Numbers, Fault>
     ensures { Gives (λ list. list) result reader.new (widths_at brackets reader.old) }
 {
-    reader.opens(Symbol::Open, brackets)?;
-    let list = numbers(reader, alloc, Kind::Width)?;
-    reader.expect(&[Symbol::Close])?;
-    Ok(list)
+    round_numbers(reader, alloc, brackets, Kind::Width)
 }
 
 /// `(` the weights of the ports `)`
@@ -106,8 +115,7 @@ pub fn weights(reader: &mut Reader<'_>, alloc: Global, brackets: u32) -> Result<
 {
     reader.opens(Symbol::Open, brackets)?;
     let list = some_numbers(reader, alloc, Kind::Value)?;
-    reader.expect(&[Symbol::Close])?;
-    Ok(list)
+    ended(reader, list, Symbol::Close)
 }
 
 /// `(N)`
@@ -117,8 +125,18 @@ pub fn number(reader: &mut Reader<'_>, brackets: u32) -> Result<u32, Fault>
 {
     reader.opens(Symbol::Open, brackets)?;
     let value = reader.count()?;
-    reader.expect(&[Symbol::Close])?;
-    Ok(value)
+    ended(reader, value, Symbol::Close)
+}
+
+// `N, N`
+#[tactic(auto, unfolding(crate::specs::ReadKernels::two_at))]
+fn two(reader: &mut Reader<'_>) -> Result<(u32, u32), Fault>
+    ensures { Gives (λ value. value) result reader.new (two_at reader.old) }
+{
+    let first = reader.count()?;
+    reader.expect(&[Symbol::Comma])?;
+    let second = reader.count()?;
+    Ok((first, second))
 }
 
 /// `(N, N)`
@@ -127,11 +145,8 @@ pub fn pair(reader: &mut Reader<'_>, brackets: u32) -> Result<(u32, u32), Fault>
     ensures { Gives (λ value. value) result reader.new (pair_at brackets reader.old) }
 {
     reader.opens(Symbol::Open, brackets)?;
-    let first = reader.count()?;
-    reader.expect(&[Symbol::Comma])?;
-    let second = reader.count()?;
-    reader.expect(&[Symbol::Close])?;
-    Ok((first, second))
+    let pair = two(reader)?;
+    ended(reader, pair, Symbol::Close)
 }
 
 /// `(N, N, N, N)`
@@ -140,13 +155,8 @@ pub fn rates(reader: &mut Reader<'_>, brackets: u32) -> Result<(u32, u32, u32, u
     ensures { Gives (λ value. (value.0, (value.1, (value.2, value.3)))) result reader.new (rates_at brackets reader.old) }
 {
     reader.opens(Symbol::Open, brackets)?;
-    let first = reader.count()?;
+    let (peek, pop) = two(reader)?;
     reader.expect(&[Symbol::Comma])?;
-    let second = reader.count()?;
-    reader.expect(&[Symbol::Comma])?;
-    let third = reader.count()?;
-    reader.expect(&[Symbol::Comma])?;
-    let fourth = reader.count()?;
-    reader.expect(&[Symbol::Close])?;
-    Ok((first, second, third, fourth))
+    let (push, slots) = two(reader)?;
+    ended(reader, (peek, pop, push, slots), Symbol::Close)
 }

@@ -2,11 +2,14 @@
 ghost use Rattle.std.specs.Prelude.{◌≡◌};
 ghost use Rattle.text_forms.specs.Gives.{Gives};
 ghost use Rattle.river_plan.specs.Forms.{op_form};
-ghost use Rattle.river_text.specs.ReadPlans.{op_at};
+ghost use Rattle.river_text.specs.Listed.{pair_of};
+ghost use Rattle.river_text.specs.ReadPlans.{op_from_at, op_at};
 
 use crate::decl::{BRACKETS, river_name};
+use crate::end::kept;
 use crate::kernel::braced;
-use crate::port::both_lists;
+use crate::port::{Ports, both_lists};
+use river_base::Name;
 use river_plan::Op;
 use std::alloc::Global;
 use text_forms::{Fault, Reader};
@@ -20,17 +23,24 @@ pub fn operator(reader: &mut Reader<'_>, alloc: Global) -> Result<Op, Fault>
     let label = river_name(reader)?;
     reader.expect(&[Symbol::Colon])?;
     let outs = both_lists(reader, alloc)?;
+    op_from(reader, alloc, label, outs)
+}
+
+// The operator, behind what it writes.
+#[tactic(auto, unfolding(crate::specs::ReadPlans::op_from_at))]
+fn op_from(reader: &mut Reader<'_>, alloc: Global, label: Name, outs: Ports) -> Result<Op, Fault>
+    ensures { Gives op_form result reader.new (op_from_at label (pair_of outs) reader.old) }
+{
     reader.expect(&[Symbol::Less, Symbol::Minus])?;
     let ins = both_lists(reader, alloc)?;
     let kernel = braced(reader, alloc, BRACKETS)?;
-    if outs.vars.as_slice() != ins.vars.as_slice() {
-        return Err(Fault::Syntax);
-    }
-    Ok(Op {
+    let same = outs.vars.as_slice() == ins.vars.as_slice();
+    let op = Op {
         label,
         kernel,
         reads: ins.queues,
         writes: outs.queues,
         vars: outs.vars,
-    })
+    };
+    kept(op, same)
 }

@@ -7,6 +7,7 @@ ghost use Rattle.river_text.specs.ReadPlans.{port_at, split_from, port_list_at, 
 ghost use Rattle.river_text.specs.Listed.{port_of, pair_of};
 
 use crate::decl::{BRACKETS, river_name, river_var};
+use crate::end::ended;
 use river_base::{Listed, Name};
 use river_plan::Names;
 use std::alloc::Global;
@@ -91,6 +92,5 @@ pub fn both_lists(reader: &mut Reader<'_>, alloc: Global) -> Result<Ports, Fault
     reader.opens(Symbol::Open, BRACKETS)?;
     let list = port_list(reader, alloc)?;
     let ports = split(alloc, list.as_slice())?;
-    reader.expect(&[Symbol::Close])?;
-    Ok(ports)
+    ended(reader, ports, Symbol::Close)
 }

@@ -7,11 +7,21 @@ ghost use Rattle.river_text.specs.Kernels.{term_of};
 ghost use Rattle.river_text.specs.Made.{Makes};
 ghost use Rattle.river_text.specs.ReadKernels.{term_at, some_terms_at, terms_at, round_term_at};
 
+use crate::end::ended;
 use std::alloc::Global;
 use text_forms::{Fault, Language, Reader, Tree};
 use work_code::{Expr, Exprs, Symbol};
 
+// The expression of work code in a box, if there is one.
+#[cycle(expr_of)]
+fn boxed(alloc: Global, tree: &Tree<'_>) -> Result<Box<Expr>, Fault>
+    ensures { Makes (λ boxed. term boxed.value) result (term_of (spoken tree.now)) }
+{
+    Ok(Box::new(alloc, expr_of(alloc, tree)?)?)
+}
+
 // The expression of work code, if there is one.
+#[cycle(expr_of)]
 fn expr_of(alloc: Global, tree: &Tree<'_>) -> Result<Expr, Fault>
     ensures { Makes term result (term_of (spoken tree.now)) }
 {
@@ -22,21 +32,15 @@ fn expr_of(alloc: Global, tree: &Tree<'_>) -> Result<Expr, Fault>
         },
         Tree::Input(place) => Ok(Expr::Input(*place)),
         Tree::Slot(slot) => Ok(Expr::Slot(*slot)),
-        Tree::Neg(inner) => {
-            let inner = expr_of(alloc, inner)?;
-            Ok(Expr::Neg(Box::new(alloc, inner)?))
-        }
-        Tree::Not(inner) => {
-            let inner = expr_of(alloc, inner)?;
-            Ok(Expr::Not(Box::new(alloc, inner)?))
-        }
+        Tree::Neg(inner) => Ok(Expr::Neg(boxed(alloc, inner)?)),
+        Tree::Not(inner) => Ok(Expr::Not(boxed(alloc, inner)?)),
         Tree::Bin { op, left, right } => {
-            let left = expr_of(alloc, left)?;
-            let right = expr_of(alloc, right)?;
+            let left = boxed(alloc, left)?;
+            let right = boxed(alloc, right)?;
             Ok(Expr::Bin {
                 op: *op,
-                left: Box::new(alloc, left)?,
-                right: Box::new(alloc, right)?,
+                left,
+                right,
             })
         }
         Tree::Name(_) | Tree::Peek(_) | Tree::Pop => Err(Fault::Syntax),
@@ -71,8 +75,7 @@ pub fn exprs(reader: &mut Reader<'_>, alloc: Global, brackets: u32) -> Result<Ex
 {
     let inner = reader.opens(Symbol::Open, brackets)?;
     let list = some_exprs(reader, alloc, inner)?;
-    reader.expect(&[Symbol::Close])?;
-    Ok(list)
+    ended(reader, list, Symbol::Close)
 }
 
 /// `(e)`
@@ -82,6 +85,5 @@ pub fn round_expr(reader: &mut Reader<'_>, alloc: Global, brackets: u32) -> Resu
 {
     let inner = reader.opens(Symbol::Open, brackets)?;
     let expr = expr(reader, alloc, inner)?;
-    reader.expect(&[Symbol::Close])?;
-    Ok(expr)
+    ended(reader, expr, Symbol::Close)
 }
