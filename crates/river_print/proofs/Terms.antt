@@ -2,7 +2,6 @@
 use Rattle.std.proofs.Common.{◌≡◌, ℕ, zero, suc, ◌+◌, ◌<◌, ◌≤◌, true, List, [], ◌∷◌, ◌++◌, length, refl, sym, ap, subst, arith, append_assoc}
 use Rattle.std.specs.Prelude.{codes, map, Some, None}
 use Rattle.std.specs.Fmt.{decimal}
-use Rattle.std.proofs.lemmas.Bool.Decides.{nat_tests}
 use Rattle.work_code.specs.Lexis.{is_letter, is_word, is_digit}
 use Rattle.work_code.specs.Printed.{text_of, items_text, step_text, body_text, more_text, else_text}
 use Rattle.work_code.specs.Steps.{Step, Steps, Set, Push, If, Done, Then, in_turn}
@@ -14,7 +13,6 @@ use Rattle.work_code.specs.declared.sign.Symbol.TheVariants as s
 use Rattle.work_code.proofs.Spelled.{is_name_text, blank_follows}
 use Rattle.text_forms.specs.Expressions.{sign_of}
 use Rattle.text_forms.specs.Forms as form
-use Rattle.text_forms.specs.Parse.{is_value}
 use Rattle.text_forms.proofs.PrintedExpr.{IsWritten, printed, spoken_of, printed-is, spells-term}
 use Rattle.river_text.specs.Kernels as g
 use Rattle.river_text.specs.Kernels.{IsStmt, term_of}

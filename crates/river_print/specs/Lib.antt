@@ -2,4 +2,5 @@ pub mod Laws
 pub mod Printable
 pub mod Printed
 pub mod Ranged
+pub mod Styles
 pub mod Writable

@@ -3,7 +3,8 @@ ghost use Rattle.std.specs.Prelude.{◌≡◌, ◌++◌, [], ◌∷◌, map, cod
 ghost use Rattle.std.specs.Fmt.{decimal, signed_decimal};
 ghost use Rattle.work_code.specs.Term.{term};
 ghost use Rattle.work_code.specs.Printed.{text_of, items_text, more_items};
-ghost use Rattle.river_print.specs.Printed.{start_text, values_text, starts_text, list_text, var_text, ports_text};
+ghost use Rattle.river_print.specs.Printed.{start_text, list_text, var_text, ports_text};
+ghost use Rattle.river_print.specs.Styles.{text_in};
 
 use river_base::{Bytes, Name, NoMemory};
 use std::alloc::Global;
@@ -14,8 +15,7 @@ pub fn number(alloc: Global, number: u32, to: &mut Bytes) -> Result<(), NoMemory
     ensures { OnOk result (to.new ≡ to.old ++ decimal number) }
 {
     let text = number.to_string(alloc)?;
-    to.extend(text.as_bytes())?;
-    Ok(())
+    to.extend(text.as_bytes())
 }
 
 /// Appends a value in decimal, with its sign where it is below 0.
@@ -23,8 +23,7 @@ pub fn value(alloc: Global, value: i64, to: &mut Bytes) -> Result<(), NoMemory>
     ensures { OnOk result (to.new ≡ to.old ++ signed_decimal value) }
 {
     let text = value.to_string(alloc)?;
-    to.extend(text.as_bytes())?;
-    Ok(())
+    to.extend(text.as_bytes())
 }
 
 /// Appends a start; the least value is `min`.
@@ -32,11 +31,9 @@ pub fn start(alloc: Global, start: i64, to: &mut Bytes) -> Result<(), NoMemory>
     ensures { OnOk result (to.new ≡ to.old ++ start_text start) }
 {
     if start == i64::MIN {
-        to.extend(b"min")?;
-        return Ok(());
+        return to.extend(b"min");
     }
-    value(alloc, start, to)?;
-    Ok(())
+    value(alloc, start, to)
 }
 
 /// Appends one number in brackets.
@@ -46,8 +43,7 @@ pub fn in_brackets(alloc: Global, n: u32, to: &mut Bytes) -> Result<(), NoMemory
 {
     to.extend(b"(")?;
     number(alloc, n, to)?;
-    to.extend(b")")?;
-    Ok(())
+    to.extend(b")")
 }
 
 /// Appends a number behind a comma and a space.
@@ -56,8 +52,7 @@ pub fn next_number(alloc: Global, n: u32, to: &mut Bytes) -> Result<(), NoMemory
     ensures { OnOk result (to.new ≡ to.old ++ (codes ", " ++ decimal n)) }
 {
     to.extend(b", ")?;
-    number(alloc, n, to)?;
-    Ok(())
+    number(alloc, n, to)
 }
 
 /// Appends two numbers in brackets.
@@ -67,58 +62,58 @@ pub fn two_in_brackets(alloc: Global, a: u32, b: u32, to: &mut Bytes) -> Result<
 {
     to.extend(b"(")?;
     number(alloc, a, to)?;
-    to.extend(b", ")?;
-    number(alloc, b, to)?;
-    to.extend(b")")?;
-    Ok(())
+    next_number(alloc, b, to)?;
+    to.extend(b")")
 }
 
-/// Appends values in brackets.
+/// Appends a word and one number in brackets.
 #[tactic(auto, using(crate::proofs::Joined::joins))]
-pub fn values(alloc: Global, items: &[i64], to: &mut Bytes) -> Result<(), NoMemory>
-    ensures { OnOk result (to.new ≡ to.old ++ values_text items.now) }
+pub fn counted(alloc: Global, word: &[u8], count: u32, to: &mut Bytes) -> Result<(), NoMemory>
+    ensures { OnOk result (to.new ≡ to.old ++ (word.now ++ list_text (decimal count ∷ []))) }
+{
+    to.extend(word)?;
+    in_brackets(alloc, count, to)
+}
+
+/// How the numbers of a list are written.
+#[derive(Clone, Copy)]
+pub enum Style {
+    /// In decimal.
+    Value,
+    /// In decimal, but the least one is `min`.
+    Start,
+}
+
+// Appends a number of a list.
+fn item(alloc: Global, number: i64, style: Style, to: &mut Bytes) -> Result<(), NoMemory>
+    ensures { OnOk result (to.new ≡ to.old ++ text_in style number) }
+{
+    match style {
+        Style::Value => value(alloc, number, to),
+        Style::Start => start(alloc, number, to),
+    }
+}
+
+/// Appends numbers in brackets.
+#[tactic(auto, using(crate::proofs::Joined::joins))]
+pub fn numbers(alloc: Global, items: &[i64], style: Style, to: &mut Bytes) -> Result<(), NoMemory>
+    ensures { OnOk result (to.new ≡ to.old ++ list_text (map (text_in style) items.now)) }
 {
     to.extend(b"(")?;
     if let Some((first, rest)) = items.split_first() {
-        value(alloc, *first, to)?;
-        more_values(alloc, rest, to)?;
+        item(alloc, *first, style, to)?;
+        more_numbers(alloc, rest, style, to)?;
     }
-    to.extend(b")")?;
-    Ok(())
+    to.extend(b")")
 }
 
 #[tactic(auto, using(crate::proofs::Joined::joins))]
-fn more_values(alloc: Global, items: &[i64], to: &mut Bytes) -> Result<(), NoMemory>
-    ensures { OnOk result (to.new ≡ to.old ++ more_items (map signed_decimal items.now)) }
+fn more_numbers(alloc: Global, items: &[i64], style: Style, to: &mut Bytes) -> Result<(), NoMemory>
+    ensures { OnOk result (to.new ≡ to.old ++ more_items (map (text_in style) items.now)) }
 {
-    for item in items {
+    for number in items {
         to.extend(b", ")?;
-        value(alloc, *item, to)?;
-    }
-    Ok(())
-}
-
-/// Appends starts in brackets.
-#[tactic(auto, using(crate::proofs::Joined::joins))]
-pub fn starts(alloc: Global, items: &[i64], to: &mut Bytes) -> Result<(), NoMemory>
-    ensures { OnOk result (to.new ≡ to.old ++ starts_text items.now) }
-{
-    to.extend(b"(")?;
-    if let Some((first, rest)) = items.split_first() {
-        start(alloc, *first, to)?;
-        more_starts(alloc, rest, to)?;
-    }
-    to.extend(b")")?;
-    Ok(())
-}
-
-#[tactic(auto, using(crate::proofs::Joined::joins))]
-fn more_starts(alloc: Global, items: &[i64], to: &mut Bytes) -> Result<(), NoMemory>
-    ensures { OnOk result (to.new ≡ to.old ++ more_items (map start_text items.now)) }
-{
-    for item in items {
-        to.extend(b", ")?;
-        start(alloc, *item, to)?;
+        item(alloc, *number, style, to)?;
     }
     Ok(())
 }
@@ -133,8 +128,7 @@ pub fn exprs(alloc: Global, items: &[Expr], to: &mut Bytes) -> Result<(), NoMemo
         print_expr(alloc, first, to)?;
         more_exprs(alloc, rest, to)?;
     }
-    to.extend(b")")?;
-    Ok(())
+    to.extend(b")")
 }
 
 #[tactic(auto, using(crate::proofs::Joined::joins))]
@@ -155,8 +149,7 @@ pub fn ports(queues: &[Name], vars: &[Name], to: &mut Bytes) -> Result<(), NoMem
 {
     to.extend(b"(")?;
     port_items(queues, vars, to)?;
-    to.extend(b")")?;
-    Ok(())
+    to.extend(b")")
 }
 
 #[tactic(auto, using(crate::proofs::Joined::ports))]
@@ -168,8 +161,7 @@ fn port_items(queues: &[Name], vars: &[Name], to: &mut Bytes) -> Result<(), NoMe
     };
     to.extend(first.as_slice())?;
     more_queues(rest, to)?;
-    more_vars(vars, to)?;
-    Ok(())
+    more_vars(vars, to)
 }
 
 #[tactic(auto, using(crate::proofs::Joined::joins))]
@@ -180,8 +172,7 @@ fn var_items(vars: &[Name], to: &mut Bytes) -> Result<(), NoMemory>
         return Ok(());
     };
     var(first, to)?;
-    more_vars(rest, to)?;
-    Ok(())
+    more_vars(rest, to)
 }
 
 /// Appends a variable with its dollar sign.
@@ -190,8 +181,7 @@ pub fn var(name: &Name, to: &mut Bytes) -> Result<(), NoMemory>
     ensures { OnOk result (to.new ≡ to.old ++ var_text name.now) }
 {
     to.extend(b"$")?;
-    to.extend(name.as_slice())?;
-    Ok(())
+    to.extend(name.as_slice())
 }
 
 #[tactic(auto, using(crate::proofs::Joined::joins))]

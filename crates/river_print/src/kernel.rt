@@ -4,11 +4,12 @@ ghost use Rattle.std.specs.Fmt.{decimal};
 ghost use Rattle.work_code.specs.Term.{term, terms};
 ghost use Rattle.kern_rows.specs.Forms.{code_form, filter_form};
 ghost use Rattle.work_code.specs.Steps.{steps};
+ghost use Rattle.kern_bags.specs.declared.kernel.Window.TheVariants as window_kind;
 ghost use Rattle.river_kernels.specs.Kern.{kern_of, select, project};
 ghost use Rattle.river_print.specs.Printed.{kernel_text, list_text, values_text, code_text, filter_text, rates_text, run_text, window_text, streamer_text};
 
 use crate::items::{
-    exprs, in_brackets, next_number, number, starts, two_in_brackets, value, values,
+    Style, counted, exprs, in_brackets, next_number, number, numbers, two_in_brackets, value,
 };
 use kern_bags::{Streamer, Window};
 use kern_rows::{CodeKernel, Filter};
@@ -25,7 +26,7 @@ pub fn print_kernel(alloc: Global, kernel: &Kernel, to: &mut Bytes) -> Result<()
     match kernel {
         Kernel::Code(code) => print_code_kernel(alloc, code, to),
         Kernel::Filter(filter) => print_filter(alloc, filter, to),
-        Kernel::Duplicate(ports) => print_counted(alloc, b"duplicate", *ports, to),
+        Kernel::Duplicate(ports) => counted(alloc, b"duplicate", *ports, to),
         Kernel::Deal(weights) => print_weights(alloc, b"deal", weights.as_slice(), to),
         Kernel::Collect(weights) => print_weights(alloc, b"collect", weights.as_slice(), to),
         Kernel::Packed(inner) => {
@@ -33,7 +34,7 @@ pub fn print_kernel(alloc: Global, kernel: &Kernel, to: &mut Bytes) -> Result<()
             print_kernel(alloc, inner, to)?;
             to.extend(b" }")
         }
-        Kernel::Unpack(ports) => print_counted(alloc, b"unpack", *ports, to),
+        Kernel::Unpack(ports) => counted(alloc, b"unpack", *ports, to),
         Kernel::Window(window) => print_window(alloc, *window, to),
         Kernel::Select(cond) => print_select(alloc, cond, to),
         Kernel::Project(list) => print_project(alloc, list, to),
@@ -50,16 +51,6 @@ pub fn print_kernel(alloc: Global, kernel: &Kernel, to: &mut Bytes) -> Result<()
     }
 }
 
-// A word and a number in brackets.
-#[tactic(auto, using(crate::proofs::Joined::joins))]
-fn print_counted(alloc: Global, word: &[u8], count: u32, to: &mut Bytes) -> Result<(), NoMemory>
-    ensures { OnOk result (to.new ≡ to.old ++ (word.now ++ list_text (decimal count ∷ []))) }
-{
-    to.extend(word)?;
-    in_brackets(alloc, count, to)?;
-    Ok(())
-}
-
 // A word and values in brackets.
 #[tactic(auto, using(crate::proofs::Joined::joins))]
 fn print_weights(
@@ -71,8 +62,7 @@ fn print_weights(
     ensures { OnOk result (to.new ≡ to.old ++ (word.now ++ values_text weights.now)) }
 {
     to.extend(word)?;
-    values(alloc, weights, to)?;
-    Ok(())
+    numbers(alloc, weights, Style::Value, to)
 }
 
 #[tactic(auto, using(crate::proofs::Joined::joins))]
@@ -81,8 +71,7 @@ fn print_select(alloc: Global, cond: &Expr, to: &mut Bytes) -> Result<(), NoMemo
 {
     to.extend(b"select(")?;
     print_expr(alloc, cond, to)?;
-    to.extend(b")")?;
-    Ok(())
+    to.extend(b")")
 }
 
 #[tactic(auto, using(crate::proofs::Joined::joins))]
@@ -90,8 +79,7 @@ fn print_project(alloc: Global, list: &Exprs, to: &mut Bytes) -> Result<(), NoMe
     ensures { OnOk result (to.new ≡ to.old ++ kernel_text (project (terms list.now))) }
 {
     to.extend(b"project")?;
-    exprs(alloc, list.as_slice(), to)?;
-    Ok(())
+    exprs(alloc, list.as_slice(), to)
 }
 
 // What stands before the two kernels of a fused one.
@@ -101,8 +89,7 @@ fn begin_fused(alloc: Global, at: u32, to: &mut Bytes) -> Result<(), NoMemory>
 {
     to.extend(b"fused")?;
     in_brackets(alloc, at, to)?;
-    to.extend(b" { ")?;
-    Ok(())
+    to.extend(b" { ")
 }
 
 #[tactic(auto, using(crate::proofs::Joined::joins))]
@@ -112,9 +99,8 @@ fn print_code_kernel(alloc: Global, kernel: &CodeKernel, to: &mut Bytes) -> Resu
     to.extend(b"code")?;
     two_in_brackets(alloc, kernel.code.inputs, kernel.code.slots, to)?;
     to.extend(b" ")?;
-    values(alloc, kernel.outs.as_slice(), to)?;
-    print_run(alloc, kernel.starts.as_slice(), &kernel.code, to)?;
-    Ok(())
+    numbers(alloc, kernel.outs.as_slice(), Style::Value, to)?;
+    print_run(alloc, kernel.starts.as_slice(), &kernel.code, to)
 }
 
 #[tactic(auto, using(crate::proofs::Joined::joins))]
@@ -123,8 +109,7 @@ fn print_filter(alloc: Global, filter: &Filter, to: &mut Bytes) -> Result<(), No
 {
     to.extend(b"filter")?;
     print_rates(alloc, filter, to)?;
-    print_run(alloc, filter.starts.as_slice(), &filter.code, to)?;
-    Ok(())
+    print_run(alloc, filter.starts.as_slice(), &filter.code, to)
 }
 
 // The starts and the body, each behind a space.
@@ -133,10 +118,9 @@ fn print_run(alloc: Global, kept: &[i64], code: &Code, to: &mut Bytes) -> Result
     ensures { OnOk result (to.new ≡ to.old ++ run_text kept.now (steps code.now.body)) }
 {
     to.extend(b" ")?;
-    starts(alloc, kept, to)?;
+    numbers(alloc, kept, Style::Start, to)?;
     to.extend(b" ")?;
-    print_code(alloc, code, to)?;
-    Ok(())
+    print_code(alloc, code, to)
 }
 
 // The rates of a filter and how many slots it has, in brackets.
@@ -149,29 +133,27 @@ fn print_rates(alloc: Global, filter: &Filter, to: &mut Bytes) -> Result<(), NoM
     next_number(alloc, filter.pop, to)?;
     next_number(alloc, filter.push, to)?;
     next_number(alloc, filter.code.slots, to)?;
-    to.extend(b")")?;
-    Ok(())
+    to.extend(b")")
 }
 
-#[tactic(auto, using(crate::proofs::Joined::joins))]
 fn print_window(alloc: Global, window: Window, to: &mut Bytes) -> Result<(), NoMemory>
     ensures { OnOk result (to.new ≡ to.old ++ window_text window) }
 {
     match window {
         Window::Now => to.extend(b"now"),
-        Window::Range(most) => {
-            to.extend(b"range(")?;
-            value(alloc, most, to)?;
-            to.extend(b")")?;
-            Ok(())
-        }
+        Window::Range(most) => print_range(alloc, most, to),
         Window::Unbounded => to.extend(b"unbounded"),
-        Window::Latest(count) => {
-            to.extend(b"latest")?;
-            in_brackets(alloc, count, to)?;
-            Ok(())
-        }
+        Window::Latest(count) => counted(alloc, b"latest", count, to),
     }
+}
+
+#[tactic(auto, using(crate::proofs::Joined::joins))]
+fn print_range(alloc: Global, most: i64, to: &mut Bytes) -> Result<(), NoMemory>
+    ensures { OnOk result (to.new ≡ to.old ++ window_text (window_kind.Range most)) }
+{
+    to.extend(b"range(")?;
+    value(alloc, most, to)?;
+    to.extend(b")")
 }
 
 fn print_streamer(streamer: Streamer, to: &mut Bytes) -> Result<(), NoMemory>

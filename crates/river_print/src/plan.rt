@@ -1,11 +1,12 @@
 // Prints plans.
 ghost use Rattle.std.specs.Prelude.{◌≡◌, ◌++◌, ◌↔◌, map, IfOk, OnOk};
+ghost use Rattle.kern_tables.specs.declared.kind.TableKind.TheVariants as table_kind;
 ghost use Rattle.river_plan.specs.Forms.{plan_form, op_form};
 ghost use Rattle.river_print.specs.Laws.{StandsForAlone};
 ghost use Rattle.river_print.specs.Printable.{IsPrintable};
 ghost use Rattle.river_print.specs.Printed.{flat_text, type_text, table_text, decl_line, table_line, var_line, op_line, head_text, lines, plan_text};
 
-use crate::items::{in_brackets, ports, two_in_brackets, var};
+use crate::items::{counted, ports, two_in_brackets, var};
 use crate::kernel::print_kernel;
 use crate::ranges::read_plan;
 use kern_tables::TableKind;
@@ -30,13 +31,20 @@ pub fn print_raw(alloc: Global, plan: &RawPlan) -> Result<Bytes, NoMemory>
     ensures { IfOk result (λ text. text ≡ plan_text (plan_form plan.now)) }
 {
     let mut text = Bytes::new(alloc);
-    decl_lines(alloc, b"output", plan.outputs.as_slice(), &mut text)?;
-    decl_lines(alloc, b"input", plan.inputs.as_slice(), &mut text)?;
-    decl_lines(alloc, b"queue", plan.queues.as_slice(), &mut text)?;
-    table_lines(alloc, plan.tables.as_slice(), &mut text)?;
-    var_lines(plan.vars.as_slice(), &mut text)?;
-    op_lines(alloc, plan.ops.as_slice(), &mut text)?;
+    plan_lines(alloc, plan, &mut text)?;
     Ok(text)
+}
+
+#[tactic(auto, using(crate::proofs::Joined::joins))]
+fn plan_lines(alloc: Global, plan: &RawPlan, to: &mut Bytes) -> Result<(), NoMemory>
+    ensures { OnOk result (to.new ≡ to.old ++ plan_text (plan_form plan.now)) }
+{
+    decl_lines(alloc, b"output", plan.outputs.as_slice(), to)?;
+    decl_lines(alloc, b"input", plan.inputs.as_slice(), to)?;
+    decl_lines(alloc, b"queue", plan.queues.as_slice(), to)?;
+    table_lines(alloc, plan.tables.as_slice(), to)?;
+    var_lines(plan.vars.as_slice(), to)?;
+    op_lines(alloc, plan.ops.as_slice(), to)
 }
 
 #[tactic(auto, using(crate::proofs::Joined::joins))]
@@ -58,8 +66,7 @@ fn print_decl(alloc: Global, word: &[u8], decl: &Decl, to: &mut Bytes) -> Result
     to.extend(decl.name.as_slice())?;
     to.extend(b": ")?;
     print_type(alloc, decl.kind, to)?;
-    to.extend(b";\n")?;
-    Ok(())
+    to.extend(b";\n")
 }
 
 #[tactic(auto, using(crate::proofs::Joined::joins))]
@@ -71,32 +78,18 @@ fn print_type(alloc: Global, kind: QueueType, to: &mut Bytes) -> Result<(), NoMe
         QueueType::Pack(flat) => {
             to.extend(b"pack(")?;
             print_flat(alloc, flat, to)?;
-            to.extend(b")")?;
-            Ok(())
+            to.extend(b")")
         }
     }
 }
 
-#[tactic(auto, using(crate::proofs::Joined::joins))]
 fn print_flat(alloc: Global, flat: FlatType, to: &mut Bytes) -> Result<(), NoMemory>
     ensures { OnOk result (to.new ≡ to.old ++ flat_text flat) }
 {
     match flat {
-        FlatType::Rows(width) => {
-            to.extend(b"rows")?;
-            in_brackets(alloc, width, to)?;
-            Ok(())
-        }
-        FlatType::Stream(width) => {
-            to.extend(b"stream")?;
-            in_brackets(alloc, width, to)?;
-            Ok(())
-        }
-        FlatType::Relation(width) => {
-            to.extend(b"relation")?;
-            in_brackets(alloc, width, to)?;
-            Ok(())
-        }
+        FlatType::Rows(width) => counted(alloc, b"rows", width, to),
+        FlatType::Stream(width) => counted(alloc, b"stream", width, to),
+        FlatType::Relation(width) => counted(alloc, b"relation", width, to),
     }
 }
 
@@ -118,31 +111,25 @@ fn print_table(alloc: Global, table: &TableDecl, to: &mut Bytes) -> Result<(), N
     var(&table.name, to)?;
     to.extend(b": ")?;
     print_kind(alloc, table.kind, to)?;
-    to.extend(b";\n")?;
-    Ok(())
+    to.extend(b";\n")
 }
 
-#[tactic(auto, using(crate::proofs::Joined::joins))]
 fn print_kind(alloc: Global, kind: TableKind, to: &mut Bytes) -> Result<(), NoMemory>
     ensures { OnOk result (to.new ≡ to.old ++ table_text kind) }
 {
     match kind {
-        TableKind::Sum { keys } => {
-            to.extend(b"sum")?;
-            in_brackets(alloc, keys, to)?;
-            Ok(())
-        }
-        TableKind::Collection { keys } => {
-            to.extend(b"collection")?;
-            in_brackets(alloc, keys, to)?;
-            Ok(())
-        }
-        TableKind::Maximum { best, keys } => {
-            to.extend(b"maximum")?;
-            two_in_brackets(alloc, best, keys, to)?;
-            Ok(())
-        }
+        TableKind::Sum { keys } => counted(alloc, b"sum", keys, to),
+        TableKind::Collection { keys } => counted(alloc, b"collection", keys, to),
+        TableKind::Maximum { best, keys } => print_best(alloc, best, keys, to),
     }
+}
+
+#[tactic(auto, using(crate::proofs::Joined::joins))]
+fn print_best(alloc: Global, best: u32, keys: u32, to: &mut Bytes) -> Result<(), NoMemory>
+    ensures { OnOk result (to.new ≡ to.old ++ table_text (table_kind.Maximum best keys)) }
+{
+    to.extend(b"maximum")?;
+    two_in_brackets(alloc, best, keys, to)
 }
 
 #[tactic(auto, using(crate::proofs::Joined::joins))]
@@ -161,8 +148,7 @@ fn print_var(name: &Name, to: &mut Bytes) -> Result<(), NoMemory>
 {
     to.extend(b"var ")?;
     var(name, to)?;
-    to.extend(b";\n")?;
-    Ok(())
+    to.extend(b";\n")
 }
 
 #[tactic(auto, using(crate::proofs::Joined::joins))]
@@ -182,8 +168,7 @@ fn print_op(alloc: Global, op: &Op, to: &mut Bytes) -> Result<(), NoMemory>
     print_head(op, to)?;
     to.extend(b" { ")?;
     print_kernel(alloc, &op.kernel, to)?;
-    to.extend(b" }\n")?;
-    Ok(())
+    to.extend(b" }\n")
 }
 
 // The operator's name and ports.
@@ -196,6 +181,5 @@ fn print_head(op: &Op, to: &mut Bytes) -> Result<(), NoMemory>
     to.extend(b": ")?;
     ports(op.writes.as_slice(), op.vars.as_slice(), to)?;
     to.extend(b" <- ")?;
-    ports(op.reads.as_slice(), op.vars.as_slice(), to)?;
-    Ok(())
+    ports(op.reads.as_slice(), op.vars.as_slice(), to)
 }

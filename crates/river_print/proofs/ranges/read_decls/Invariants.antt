@@ -1,4 +1,4 @@
-use Rattle.std.proofs.Common.{drop, map}
+use Rattle.std.proofs.Common.{drop}
 use Rattle.river_print.specs.Writable.{Every, IsDecl}
 use Rattle.river_print.proofs.ranges.read_decls.Given as goal
 

@@ -1,4 +1,4 @@
-use Rattle.std.proofs.Common.{drop, map}
+use Rattle.std.proofs.Common.{drop}
 use Rattle.river_print.specs.Writable.{Every, IsNamed}
 use Rattle.river_print.proofs.ranges.read_names.Given as goal
 

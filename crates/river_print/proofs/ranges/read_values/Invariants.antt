@@ -1,4 +1,4 @@
-use Rattle.std.proofs.Common.{drop, map}
+use Rattle.std.proofs.Common.{drop}
 use Rattle.river_print.specs.Writable.{Every, IsStart}
 use Rattle.river_print.proofs.ranges.read_values.Given as goal
 
