@@ -1,5 +1,5 @@
 pub mod Lists
-pub mod Steps
+pub mod Seven
 pub mod Texts
 pub mod Units
 pub mod Values

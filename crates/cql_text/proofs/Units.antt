@@ -9,14 +9,15 @@ use Rattle.text_forms.proofs.Choices.{exact-never, exact-choose, exact-headed, e
 use Rattle.text_forms.proofs.Exact.{Exact, Any, exact-less, exact-name, exact-number, exact-nothing, exact-both, exact-after, exact-before, exact-tested, exact-maybe, exact-seen, exact-merged}
 use Rattle.text_forms.proofs.Many.{exact-commas}
 use Rattle.cql_text.specs.Tree.{Name, Scalar, Window, Now, Unbounded, Latest, Column, Columns, Star, Chosen, Part}
-use Rattle.cql_text.specs.ValueReading.{of_rank}
+use Rattle.text_forms.specs.Lines as lines
 use Rattle.cql_text.specs.Grammar.{kind_of, IsKind, time_of, made_span, IsSpan, IsRange, IsRows, IsWindow, IsAlias, InBrackets, made_source, IsSource, made_column, IsColumn, IsColumns, InRound, IsWhere, IsBehind, IsSelected, made_query, IsQuery, Fields, made_stream, IsStream, IsPart, IsPartAt}
 use Rattle.cql_text.specs.Reading.{kind_at, is_time, is_time_at, time_at, span_at, range_at, rows_at, window_after, window_at, in_brackets_at, alias_at, is_alias_at, called_at, source_at, sources_at, as_at, column_at, chosen_at, columns_at, in_round_at, where_at, behind_at, selected_at, query_at, names_at, fields_at, stream_at, part_at, part_from}
-use Rattle.cql_text.specs.Values.{word_op, Spells, IsValue}
+use Rattle.cql_text.specs.Values.{word_op, of_rank, IsLeaf, Spells, IsValue}
 use Rattle.cql_text.specs.Values as rule
 use Rattle.cql_text.specs.Words.{is_keyword, is_keyword_at, is_plain, Plain, Keyword}
 use Rattle.cql_text.specs.declared.tree.TimeUnit.{TimeUnit}
 use Rattle.cql_text.specs.declared.tree.TimeUnit.TheVariants as time
+use Rattle.cql_text.proofs.Seven.{sign-no_star}
 use Rattle.cql_text.proofs.Values.{Ends, exact-numeral, exact-scalar}
 use Rattle.cql_text.proofs.Words.{exact-plain, exact-keyword, keyword-at, other_word, plain-as, where-not_plain}
 
@@ -151,21 +152,24 @@ unfolding chosen_at
 exact-chosen = exact-commas exact-column comma-column
 
 -- no value begins with a star
+leaf-no_star : (n : ℕ) (t : Scalar) (ts : List Tok) → IsLeaf n t ts → (rest : List Tok) → parse.begins_with s.Star (ts ++ rest) ≡ false
+leaf-no_star n t ts (rule.number p v q) rest = refl
+leaf-no_star n t ts (rule.field p f h) rest = refl
+leaf-no_star n t ts (rule.of_item p a f g h) rest = refl
+
 no_star : (n k : ℕ) (t : Scalar) (ts : List Tok) → Spells n k t ts → (rest : List Tok) → parse.begins_with s.Star (ts ++ rest) ≡ false
-no_star n k t ts (rule.number p v q) rest = refl
-no_star n k t ts (rule.field p f h) rest = refl
-no_star n k t ts (rule.of_item p a f g h) rest = refl
-no_star n k t ts (rule.neg p u us g) rest = refl
-no_star n k t ts (rule.bracket p u us g) rest = refl
-no_star n k t ts (rule.tighter p j u us g) rest = no_star p j u us g rest
-no_star n k t ts (rule.chain p j o y a b us vs c r g h) rest = ap (parse.begins_with s.Star) (append_assoc us (y ∷ vs) rest) ∙ no_star p (suc j) a us g (y ∷ (vs ++ rest))
-no_star n k t ts (rule.compare p o y a b us vs r g h) rest = ap (parse.begins_with s.Star) (append_assoc us (y ∷ vs) rest) ∙ no_star p 2 a us g (y ∷ (vs ++ rest))
-no_star n k t ts (rule.no p text u us w g) rest = refl
+no_star n k t ts (lines.leaf p u us h) rest = leaf-no_star p u us h rest
+no_star n k t ts (lines.bracket p u us g) rest = refl
+no_star n k t ts (lines.call p y q u us c g) rest = absurd (cc c)
+no_star n k t ts (lines.tighter p j u us g) rest = no_star p j u us g rest
+no_star n k t ts (lines.chain p j y o a b us vs f c g h) rest = ap (parse.begins_with s.Star) (append_assoc us (y ∷ vs) rest) ∙ no_star p (suc j) a us g (y ∷ (vs ++ rest))
+no_star n k t ts (lines.once p j y o a b us vs f c g h) rest = ap (parse.begins_with s.Star) (append_assoc us (y ∷ vs) rest) ∙ no_star p j a us g (y ∷ (vs ++ rest))
+no_star n k t ts (lines.prefix p j y q u us c h) rest = sign-no_star j y q (us ++ rest) c
 
 column-star : (v : Column) (us rest : List Tok) → IsColumn v us → parse.begins_with s.Star (us ++ rest) ≡ false
 column-star v us rest h =
     let b = h.formed in
-    ap (parse.begins_with s.Star) (ap (λ (l : List Tok). l ++ rest) b.is ∙ append_assoc b.front b.back rest) ∙ no_star 127 6 h.value.0 b.front b.first.0 (b.back ++ rest)
+    ap (parse.begins_with s.Star) (ap (λ (l : List Tok). l ++ rest) b.is ∙ append_assoc b.front b.back rest) ∙ no_star 127 7 h.value.0 b.front b.first.0 (b.back ++ rest)
 
 columns-star : (v : Columns) (us rest : List Tok) → form.Seen Chosen (form.Commas IsColumn) v us → parse.begins_with s.Star (us ++ rest) ≡ false
 columns-star v us rest h =

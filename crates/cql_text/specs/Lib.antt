@@ -1,6 +1,6 @@
+pub mod Deepest
 pub mod Faults
 pub mod Grammar
-pub mod Measure
 pub mod Laws
 pub mod Reading
 pub mod Tree

@@ -1,22 +1,28 @@
--- The grammar of values:
+-- The grammar of values, a ladder of seven lines:
 --
 --     or   = and { "Or" and }
 --     and  = not { "And" not }
 --     not  = "Not" not | cmp
 --     cmp  = sum [ ("=" | "<>" | "!=" | "<" | "<=" | ">" | ">=") sum ]
 --     sum  = prod { ("+" | "-") prod }
---     prod = unary { ("*" | "/" | "%") unary }
---     unary = "-" unary | NUMBER | "(" or ")" | NAME | NAME "." NAME
-use Rattle.std.specs.Prelude.{◌≡◌, ◌≤◌, ℕ, suc, Bool, true, ◌==◌, ◌||◌, if◌then◌else◌, List, [], ◌∷◌, ◌++◌, codes, Option, Some, None}
+--     prod = sign { ("*" | "/" | "%") sign }
+--     sign = "-" sign | base
+--     base = "(" or ")" | leaf
+--     leaf = NUMBER | NAME | NAME "." NAME
+use Rattle.std.specs.Prelude.{◌≡◌, ℕ, true, ◌==◌, if◌then◌else◌, List, [], ◌∷◌, codes, Option, Some, None}
 use Rattle.work_code.specs.Tok.{Tok}
 use Rattle.work_code.specs.Tok as tok
 use Rattle.work_code.specs.declared.sign.Symbol.{Symbol}
 use Rattle.work_code.specs.declared.sign.Symbol.TheVariants as s
+use Rattle.text_forms.specs.Lines.{Line, Chain, Once, Prefix, Syntax, IsWhole}
+use Rattle.text_forms.specs.Lines as lines
+use Rattle.text_forms.specs.Parse.{begins_with, is_value}
 use Rattle.cql_text.specs.Tree.{Scalar, Number, Field, ItemField, Neg, Not, Bin, depth_of}
+use Rattle.cql_text.specs.Words.{is_keyword, is_keyword_at, is_plain}
 use Rattle.cql_text.specs.declared.operator.Operator.{Operator}
 use Rattle.cql_text.specs.declared.operator.Operator.TheVariants as op
-use Rattle.text_forms.specs.Parse.{is_value}
-use Rattle.cql_text.specs.Words.{is_keyword, is_plain}
+use Rattle.cql_text.specs.declared.operator.Sign.{Sign}
+use Rattle.cql_text.specs.declared.operator.Sign.TheVariants as sign
 
 -- the operator of a symbol or a word
 abbrev pub op_of : Symbol → Option Operator
@@ -43,7 +49,7 @@ op_at (tok.var text) = None
 op_at (tok.number n) = None
 op_at (tok.symbol x) = op_of x
 
--- the line of an operator
+-- the line of an operator: 1 for prod, 2 for sum, 3 for cmp, 5 for and, 6 for or
 abbrev pub rank_of : Operator → ℕ
 rank_of op.Mul = 1
 rank_of op.Quot = 1
@@ -60,30 +66,46 @@ rank_of op.GreaterEqual = 3
 rank_of op.And = 5
 rank_of op.Or = 6
 
--- the lines on which operators chain
-abbrev pub chains : ℕ → Bool
-chains k = (k == 1 || k == 2) || (k == 5 || k == 6)
+-- the operators of a line
+abbrev pub of_rank : ℕ → Option Operator → Option Operator
+of_rank rank None = None
+of_rank rank (Some o) = if rank_of o == rank then Some o else None
 
--- the token is this operator, of this line
-pub record IsSign (rank : ℕ) (o : Operator) (x : Tok) : Type 0 where
-  pub is : op_at x ≡ Some o
-  pub line : rank_of o ≡ rank
+abbrev pub ranked : ℕ → Tok → Option Operator
+ranked rank x = of_rank rank (op_at x)
 
--- the tokens stand for the value, on the line `rank` of the grammar (0 is unary, 3 cmp, 4 not, 6 or), where `n` more brackets may be open
-pub data Spells : (n rank : ℕ) (t : Scalar) (ts : List Tok) → Type 0 where
-  number : (n v : ℕ) → is_value v ≡ true → Spells n 0 (Number v) (tok.number v ∷ [])
-  field : (n : ℕ) (f : List ℕ) → is_plain f ≡ true → Spells n 0 (Field f) (tok.name f ∷ [])
-  of_item : (n : ℕ) (a f : List ℕ) → is_plain a ≡ true → is_plain f ≡ true → Spells n 0 (ItemField a f) (tok.name a ∷ tok.symbol s.Dot ∷ tok.name f ∷ [])
-  neg : (n : ℕ) (t : Scalar) (ts : List Tok) → Spells n 0 t ts → Spells n 0 (Neg t) (tok.symbol s.Minus ∷ ts)
-  bracket : (n : ℕ) (t : Scalar) (ts : List Tok) → Spells n 6 t ts → Spells (suc n) 0 t (tok.symbol s.Open ∷ (ts ++ tok.symbol s.Close ∷ []))
-  tighter : (n k : ℕ) (t : Scalar) (ts : List Tok) → Spells n k t ts → Spells n (suc k) t ts
-  chain : (n k : ℕ) (o : Operator) (x : Tok) (a b : Scalar) (ts us : List Tok) → chains (suc k) ≡ true → IsSign (suc k) o x → Spells n (suc k) a ts → Spells n k b us → Spells n (suc k) (Bin o a b) (ts ++ x ∷ us)
-  compare : (n : ℕ) (o : Operator) (x : Tok) (a b : Scalar) (ts us : List Tok) → IsSign 3 o x → Spells n 2 a ts → Spells n 2 b us → Spells n 3 (Bin o a b) (ts ++ x ∷ us)
-  no : (n : ℕ) (text : List ℕ) (t : Scalar) (ts : List Tok) → is_keyword (codes "not") text ≡ true → Spells n 4 t ts → Spells n 4 (Not t) (tok.name text ∷ ts)
+-- the signs: a minus, and `Not`
+abbrev pub minus : Tok → Option Sign
+minus x = if begins_with s.Minus (x ∷ []) then Some sign.Minus else None
 
-abbrev pub IsTerm : (n rank room : ℕ) → Scalar → List Tok → Type 0
-IsTerm n rank room t ts = Spells n rank t ts × (depth_of t ≤ room)
+abbrev pub negation : Tok → Option Sign
+negation x = if is_keyword_at (codes "not") (x ∷ []) then Some sign.Not else None
+
+-- no word stands before a value in brackets
+abbrev pub no_call : Tok → Option Sign
+no_call x = None
+
+abbrev pub marked : Sign → Scalar → Scalar
+marked sign.Minus t = Neg t
+marked sign.Not t = Not t
+
+-- the lines, the tightest first
+abbrev pub seven : List (Line Operator Sign)
+seven = Prefix minus ∷ Chain (ranked 1) ∷ Chain (ranked 2) ∷ Once (ranked 3) ∷ Prefix negation ∷ Chain (ranked 5) ∷ Chain (ranked 6) ∷ []
+
+abbrev pub syntax : Syntax Scalar Operator Sign
+syntax = record { lines = seven; call = no_call; join = λ o a b. Bin o a b; mark = marked; depth = depth_of }
+
+-- the tokens are this leaf, wherever it stands
+pub data IsLeaf : (n : ℕ) (t : Scalar) (ts : List Tok) → Type 0 where
+  number : (n v : ℕ) → is_value v ≡ true → IsLeaf n (Number v) (tok.number v ∷ [])
+  field : (n : ℕ) (f : List ℕ) → is_plain f ≡ true → IsLeaf n (Field f) (tok.name f ∷ [])
+  of_item : (n : ℕ) (a f : List ℕ) → is_plain a ≡ true → is_plain f ≡ true → IsLeaf n (ItemField a f) (tok.name a ∷ tok.symbol s.Dot ∷ tok.name f ∷ [])
+
+-- the tokens stand for the value, on the line above `rank` others, where `n` more brackets may be open
+abbrev pub Spells : (n rank : ℕ) → Scalar → List Tok → Type 0
+Spells n rank t ts = lines.Spells syntax IsLeaf n rank t ts
 
 -- a value, where `n` more brackets may be open: at most 64 deep
 abbrev pub IsValue : ℕ → Scalar → List Tok → Type 0
-IsValue n t ts = IsTerm n 6 64 t ts
+IsValue n t ts = IsWhole syntax IsLeaf n t ts

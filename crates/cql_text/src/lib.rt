@@ -5,7 +5,6 @@ mod column;
 mod fault;
 mod keywords;
 pub mod laws;
-mod measured;
 mod operator;
 mod read;
 mod tree;

@@ -41,6 +41,15 @@ pub enum Operator {
     Or,
 }
 
+/// What stands before a value.
+#[derive(Clone, Copy, Debug, PartialEq, Eq)]
+pub enum Sign {
+    /// `-`
+    Minus,
+    /// `Not`
+    Not,
+}
+
 impl Operator {
     // The operator of a symbol.
     fn of_symbol(symbol: Symbol) -> Option<Operator>

@@ -1,16 +1,16 @@
-// Values read: the lines `cor` to `cun` of the grammar.
-ghost use Rattle.std.specs.Prelude.{◌≡◌, ◌≢◌, ◌<◌, ◌≤◌, ◌-◌, IfOk};
+// Values read.
+ghost use Rattle.std.specs.Prelude.{◌≡◌, IfOk};
 ghost use Rattle.text_forms.specs.Gives.{Gives};
-ghost use Rattle.cql_text.specs.Measure.{tree_of};
 ghost use Rattle.cql_text.specs.Tree.{scalar, depth_of};
-ghost use Rattle.cql_text.specs.ValueReading.{numeral_at, named, leaf_at, unary, chain_line, grown, compare_line, not_line, line, within, value_at};
+ghost use Rattle.cql_text.specs.Tree as tree;
+ghost use Rattle.cql_text.specs.ValueReading.{numeral_at, named, leaf_at, value_at};
 
 use crate::keywords::{plain, plain_name, takes_keyword};
-use crate::measured::MeasuredScalar;
-use crate::operator::{Operator, take_operator};
+use crate::operator::{Operator, Sign, take_operator};
 use crate::{Numeral, Scalar};
+use river_base::NoMemory;
 use std::alloc::Global;
-use text_forms::{Fault, Reader};
+use text_forms::{Dialect, Fault, Form, Reader, TokenSource, read};
 use work_code::{Symbol, Token};
 
 /// A number of at most 63 bits.
@@ -43,187 +43,140 @@ fn named(reader: &mut Reader<'_>, text: &[u8]) -> Result<Scalar, Fault>
 }
 
 // A number or a field.
-fn leaf(reader: &mut Reader<'_>) -> Result<MeasuredScalar, Fault>
-    ensures reads { Gives tree_of result reader.new (leaf_at reader.old) }
-    ensures depth { IfOk result (λ m. m.depth ≡ 1) }
+fn leaf(reader: &mut Reader<'_>) -> Result<Scalar, Fault>
+    ensures reads { Gives scalar result reader.new (leaf_at reader.old) }
+    ensures depth { IfOk result (λ value. depth_of (scalar value) ≡ 1) }
 {
     match reader.peek() {
-        Some(Token::Number(_)) => Ok(MeasuredScalar::leaf(Scalar::Number(numeral(reader)?))),
+        Some(Token::Number(_)) => Ok(Scalar::Number(numeral(reader)?)),
         Some(Token::Name(text)) => {
             reader.skip();
-            Ok(MeasuredScalar::leaf(named(reader, text)?))
+            named(reader, text)
         }
         _ => Err(Fault::Syntax),
     }
 }
 
-// A value on this line of the grammar and those below it; `brackets` more may be open, and it may be `room` deep.
-#[cycle(value)]
-#[tactic(auto, using(crate::proofs::Steps::lines))]
-fn line(
-    reader: &mut Reader<'_>,
-    alloc: Global,
-    brackets: u32,
-    rank: u32,
-    room: u32,
-) -> Result<MeasuredScalar, Fault>
-    requires room { room ≤ 64 }
-    requires rank { rank ≤ 6 }
-    ensures reads { Gives tree_of result reader.new (line (within brackets) rank room reader.old) }
-    ensures depth { IfOk result (λ m. m.depth ≤ room) }
+// Two values with an operator between them.
+fn between(op: Operator, left: Box<Scalar>, right: Box<Scalar>) -> Scalar
+    ensures { scalar result ≡ tree.Bin op (scalar left.value) (scalar right.value) }
 {
-    match rank {
-        0 => unary(reader, alloc, brackets, room),
-        3 => comparison(reader, alloc, brackets, room),
-        4 => negation(reader, alloc, brackets, room),
-        _ => chain(reader, alloc, brackets, rank, room),
+    match op {
+        Operator::Mul => Scalar::Mul(left, right),
+        Operator::Quot => Scalar::Quot(left, right),
+        Operator::Rem => Scalar::Rem(left, right),
+        Operator::Add => Scalar::Add(left, right),
+        Operator::Sub => Scalar::Sub(left, right),
+        Operator::Equal => Scalar::Equal(left, right),
+        Operator::Different => Scalar::Different(left, right),
+        Operator::NotEqual => Scalar::NotEqual(left, right),
+        Operator::Less => Scalar::Less(left, right),
+        Operator::LessEqual => Scalar::LessEqual(left, right),
+        Operator::Greater => Scalar::Greater(left, right),
+        Operator::GreaterEqual => Scalar::GreaterEqual(left, right),
+        Operator::And => Scalar::And(left, right),
+        Operator::Or => Scalar::Or(left, right),
     }
 }
 
-// Values of the line below, with operators of this line between them.
-#[cycle(value)]
-#[tactic(auto, using(crate::proofs::Steps::steps, crate::proofs::Steps::chains))]
-fn chain(
-    reader: &mut Reader<'_>,
-    alloc: Global,
-    brackets: u32,
-    rank: u32,
-    room: u32,
-) -> Result<MeasuredScalar, Fault>
-    requires room { room ≤ 64 }
-    requires rank { rank ≤ 6 }
-    requires some { 0 < rank }
-    requires no_comparison { rank ≢ 3 }
-    requires no_negation { rank ≢ 4 }
-    ensures reads { Gives tree_of result reader.new (chain_line (line (within brackets) (rank - 1)) rank room reader.old) }
-    ensures depth { IfOk result (λ m. m.depth ≤ room) }
-{
-    let mut left = line(reader, alloc, brackets, rank - 1, room)?;
-    'items: while let Some(op) = take_operator(reader, rank) {
-        left = grown(reader, alloc, brackets, rank, room, left, op)?;
-    }
-    Ok(left)
-}
+// The values of CQL, for the reader that reads expressions of any language.
+struct Values;
 
-// A value with this operator of this line behind it, and the value of the line below that follows.
-#[cycle(value)]
-#[tactic(auto, using(crate::proofs::Steps::growths))]
-fn grown(
-    reader: &mut Reader<'_>,
-    alloc: Global,
-    brackets: u32,
-    rank: u32,
-    room: u32,
-    left: MeasuredScalar,
-    op: Operator,
-) -> Result<MeasuredScalar, Fault>
-    requires room { room ≤ 64 }
-    requires rank { rank ≤ 6 }
-    requires some { 0 < rank }
-    ensures reads { Gives tree_of result reader.new (grown (line (within brackets) (rank - 1) (room - 1)) room op (tree_of left) reader.old) }
-    ensures depth { IfOk result (λ m. m.depth ≤ room) }
-    ensures more { IfOk result (λ m. left.depth < m.depth) }
-{
-    if left.depth >= room {
-        return Err(Fault::Syntax);
-    }
-    let right = line(reader, alloc, brackets, rank - 1, room - 1)?;
-    Ok(left.joined(alloc, op, right)?)
-}
+impl<'a> Dialect<Reader<'a>> for Values {
+    ghost use Rattle.std.specs.Prelude.{length, ◌≤◌};
+    ghost use Rattle.text_forms.specs.Lines.{line_of, form_of};
+    ghost use Rattle.cql_text.specs.Deepest.{deepest};
+    ghost use Rattle.cql_text.specs.Tree.{Scalar, scalar};
+    ghost use Rattle.cql_text.specs.ValueReading.{leaf_in};
+    ghost use Rattle.cql_text.specs.Values.{syntax};
 
-// A value, and one comparison at most.
-#[cycle(value)]
-#[tactic(auto, using(crate::proofs::Steps::steps))]
-fn comparison(
-    reader: &mut Reader<'_>,
-    alloc: Global,
-    brackets: u32,
-    room: u32,
-) -> Result<MeasuredScalar, Fault>
-    requires room { room ≤ 64 }
-    ensures reads { Gives tree_of result reader.new (compare_line (line (within brackets) 2) room reader.old) }
-    ensures depth { IfOk result (λ m. m.depth ≤ room) }
-{
-    let left = line(reader, alloc, brackets, 2, room)?;
-    match take_operator(reader, 3) {
-        Some(op) => grown(reader, alloc, brackets, 3, room, left, op),
-        None => Ok(left),
-    }
-}
+    type Tree = Scalar;
 
-// A value behind any number of `Not`.
-#[cycle(value)]
-#[tactic(auto, using(crate::proofs::Steps::steps))]
-fn negation(
-    reader: &mut Reader<'_>,
-    alloc: Global,
-    brackets: u32,
-    room: u32,
-) -> Result<MeasuredScalar, Fault>
-    requires room { room ≤ 64 }
-    ensures reads { Gives tree_of result reader.new (not_line (line (within brackets) 3) room reader.old) }
-    ensures depth { IfOk result (λ m. m.depth ≤ room) }
-{
-    if room == 0 {
-        return Err(Fault::Syntax);
-    }
-    if takes_keyword(reader, b"not") {
-        let inner = negation(reader, alloc, brackets, room - 1)?;
-        return Ok(inner.turned(alloc)?);
-    }
-    line(reader, alloc, brackets, 3, room)
-}
+    type Operator = Operator;
 
-// A sign, a bracket or a leaf.
-#[cycle(value)]
-#[tactic(auto, using(crate::proofs::Steps::steps))]
-fn unary(
-    reader: &mut Reader<'_>,
-    alloc: Global,
-    brackets: u32,
-    room: u32,
-) -> Result<MeasuredScalar, Fault>
-    requires room { room ≤ 64 }
-    ensures reads { Gives tree_of result reader.new (unary (within brackets) room reader.old) }
-    ensures depth { IfOk result (λ m. m.depth ≤ room) }
-{
-    if room == 0 {
-        return Err(Fault::Syntax);
-    }
-    if reader.takes(Symbol::Minus) {
-        let inner = unary(reader, alloc, brackets, room - 1)?;
-        return Ok(inner.negated(alloc)?);
-    }
-    if reader.takes(Symbol::Open) {
-        let inner = in_brackets(reader, alloc, brackets, room)?;
-        reader.expect(&[Symbol::Close])?;
-        return Ok(inner);
-    }
-    leaf(reader)
-}
+    type Sign = Sign;
 
-// A value behind one bracket more.
-#[cycle(value)]
-#[tactic(auto, using(crate::proofs::Steps::steps))]
-fn in_brackets(
-    reader: &mut Reader<'_>,
-    alloc: Global,
-    brackets: u32,
-    room: u32,
-) -> Result<MeasuredScalar, Fault>
-    requires room { room ≤ 64 }
-    ensures reads { Gives tree_of result reader.new (within brackets room reader.old) }
-    ensures depth { IfOk result (λ m. m.depth ≤ room) }
-{
-    if brackets == 0 {
-        return Err(Fault::Syntax);
+    ghost Plain = { Scalar };
+
+    ghost view = { scalar };
+
+    ghost syntax = { λ _. syntax };
+
+    ghost leaf = { λ _. leaf_in };
+
+    ghost deeper = { λ _. deepest };
+
+    fn height(&self) -> u32
+        ensures all { result ≡ length syntax.lines }
+        ensures few { result ≤ 16 }
+    {
+        7
     }
-    line(reader, alloc, brackets - 1, 6, room)
+
+    #[tactic(auto, using(crate::proofs::Seven::forms))]
+    fn form(&self, line: u32) -> Form
+        ensures { result ≡ form_of (line_of syntax.lines line) }
+    {
+        match line {
+            0 | 4 => Form::Prefix,
+            3 => Form::Once,
+            _ if line < 7 => Form::Chain,
+            _ => Form::Once,
+        }
+    }
+
+    fn operator(&self, reader: &mut Reader<'a>, line: u32) -> Option<Operator> {
+        take_operator(reader, line)
+    }
+
+    #[tactic(auto, using(crate::proofs::Seven::signs))]
+    fn sign(&self, reader: &mut Reader<'a>, line: u32) -> Option<Sign> {
+        if line == 0 && reader.takes(Symbol::Minus) {
+            return Some(Sign::Minus);
+        }
+        if line == 4 && takes_keyword(reader, b"not") {
+            return Some(Sign::Not);
+        }
+        None
+    }
+
+    #[tactic(auto, using(crate::proofs::Seven::calls))]
+    fn call(&self, _reader: &mut Reader<'a>) -> Option<Sign> {
+        None
+    }
+
+    fn leaf(&self, reader: &mut Reader<'a>, _brackets: u32) -> Result<Scalar, Fault> {
+        leaf(reader)
+    }
+
+    fn mark(&self, alloc: Global, sign: Sign, tree: Scalar) -> Result<Scalar, NoMemory>
+        ensures { IfOk result (λ t. scalar t ≡ syntax.mark sign (scalar tree)) }
+    {
+        let inner = Box::new(alloc, tree)?;
+        Ok(match sign {
+            Sign::Minus => Scalar::Neg(inner),
+            Sign::Not => Scalar::Not(inner),
+        })
+    }
+
+    fn join(
+        &self,
+        alloc: Global,
+        op: Operator,
+        left: Scalar,
+        right: Scalar,
+    ) -> Result<Scalar, NoMemory>
+        ensures { IfOk result (λ t. scalar t ≡ syntax.join op (scalar left) (scalar right)) }
+    {
+        let left = Box::new(alloc, left)?;
+        let right = Box::new(alloc, right)?;
+        Ok(between(op, left, right))
+    }
 }
 
 /// A value, at most 64 deep, where `brackets` more brackets may be open.
 pub fn value(reader: &mut Reader<'_>, alloc: Global, brackets: u32) -> Result<Scalar, Fault>
     ensures { Gives scalar result reader.new (value_at brackets reader.old) }
 {
-    Ok(line(reader, alloc, brackets, 6, 64)?.value)
+    read(&Values, reader, alloc, brackets)
 }

@@ -15,6 +15,9 @@ use Rattle.kern_tables.specs.declared.kind.TableKind.TheVariants.{Sum, Collectio
 use Rattle.kern_bags.specs.declared.kernel.Window.TheVariants.{Range}
 use Rattle.text_forms.specs.declared.language.Language.TheVariants.{River}
 use Rattle.text_forms.specs.Expressions as rule
+use Rattle.text_forms.specs.Lines as lines
+use Rattle.text_forms.specs.declared.operator.Unary.{Unary}
+use Rattle.text_forms.specs.declared.operator.Unary.TheVariants as unary
 use Rattle.text_forms.specs.Forms as form
 use Rattle.text_forms.specs.Parse.{is_count, is_value}
 use Rattle.text_forms.specs.Texts.{AllFormed}
@@ -150,22 +153,31 @@ two-ranged f k None p x y e h = absurd (not_some h)
 two-ranged f k (Some a) None x y e h = absurd (not_some h)
 two-ranged f k (Some a) (Some b) x y e h = subst ranges.IsRangedTerm (some_same h) (k a b (x a refl) (y b refl))
 
+leaf-spelled : (n : ℕ) (t : Spoken) (ts : List Tok) → rule.IsLeaf River n t ts → (e : Term) → g.term_of t ≡ Some e → ranges.IsRangedTerm e
+leaf-spelled n t ts (rule.number m v) e h = number-ranged v (is_value v) refl e h
+leaf-spelled n t ts (rule.name m text has) e h = absurd (not_some h)
+leaf-spelled n t ts (rule.input m i has fits) e h = let a = at_most i 4294967295 fits in subst ranges.IsRangedTerm (some_same h) (omega (arith, a))
+leaf-spelled n t ts (rule.slot m i has fits) e h = let a = at_most i 4294967295 fits in subst ranges.IsRangedTerm (some_same h) (omega (arith, a))
+leaf-spelled n t ts (rule.pop m has) e h = absurd (not_some h)
+
+marked-spelled : (p : Unary) (t : Spoken) → ((e : Term) → g.term_of t ≡ Some e → ranges.IsRangedTerm e) → (e : Term) → g.term_of (rule.marked p t) ≡ Some e → ranges.IsRangedTerm e
+marked-spelled unary.Neg t x e h = one-ranged term.Neg (λ y z. z) (g.term_of t) x e h
+marked-spelled unary.Not t x e h = one-ranged term.Not (λ y z. z) (g.term_of t) x e h
+marked-spelled unary.Peek t x e h = absurd (not_some h)
+
 spelled : (n k : ℕ) (t : Spoken) (ts : List Tok) → rule.Spells River n k t ts → (e : Term) → g.term_of t ≡ Some e → ranges.IsRangedTerm e
-spelled n k t ts (rule.number m v) e h = number-ranged v (is_value v) refl e h
-spelled n k t ts (rule.name m text has) e h = absurd (not_some h)
-spelled n k t ts (rule.input m i has fits) e h = let a = at_most i 4294967295 fits in subst ranges.IsRangedTerm (some_same h) (omega (arith, a))
-spelled n k t ts (rule.slot m i has fits) e h = let a = at_most i 4294967295 fits in subst ranges.IsRangedTerm (some_same h) (omega (arith, a))
-spelled n k t ts (rule.peek m u us has x) e h = absurd (not_some h)
-spelled n k t ts (rule.pop m has) e h = absurd (not_some h)
-spelled n k t ts (rule.neg m u us x) e h = one-ranged term.Neg (λ y z. z) (g.term_of u) (spelled m 0 u us x) e h
-spelled n k t ts (rule.not m u us x) e h = one-ranged term.Not (λ y z. z) (g.term_of u) (spelled m 0 u us x) e h
-spelled n k t ts (rule.bracket m u us x) e h = spelled m 6 u us x e h
-spelled n k t ts (rule.tighter m j u us x) e h = spelled m j u us x e h
-spelled n k t ts (rule.chain m j o a b us vs rank x y) e h =
-    two-ranged (term.Bin o) (λ u v c d. (c, d)) (g.term_of a) (g.term_of b) (spelled m (suc j) a us x) (spelled m j b vs y) e h
+spelled n k t ts (lines.leaf m u us x) e h = leaf-spelled m u us x e h
+spelled n k t ts (lines.bracket m u us x) e h = spelled m 7 u us x e h
+spelled n k t ts (lines.call m y p u us c x) e h = marked-spelled p u (spelled m 7 u us x) e h
+spelled n k t ts (lines.tighter m j u us x) e h = spelled m j u us x e h
+spelled n k t ts (lines.chain m j y o a b us vs f c x z) e h =
+    two-ranged (term.Bin o) (λ u v c d. (c, d)) (g.term_of a) (g.term_of b) (spelled m (suc j) a us x) (spelled m j b vs z) e h
+spelled n k t ts (lines.once m j y o a b us vs f c x z) e h =
+    two-ranged (term.Bin o) (λ u v c d. (c, d)) (g.term_of a) (g.term_of b) (spelled m j a us x) (spelled m j b vs z) e h
+spelled n k t ts (lines.prefix m j y p u us c x) e h = marked-spelled p u (spelled m (suc j) u us x) e h
 
 term_ranged : (n : ℕ) → Gives (g.IsTerm n) ranges.IsRangedTerm
-term_ranged n = record { give = λ v ts h. spelled n 6 h.value ts h.formed.0 v h.is }
+term_ranged n = record { give = λ v ts h. spelled n 7 h.value ts h.formed.0 v h.is }
 
 -- STATEMENTS
 

@@ -1,14 +1,13 @@
 -- Choices by words, brackets, and lists that may be empty.
-use Rattle.std.proofs.Common.{◌≡◌, ℕ, zero, suc, ◌<◌, ◌≤◌, ◌+◌, ◌-◌, List, [], ◌∷◌, ◌++◌, length, Bool, true, false, cond, Option, Some, None, refl, sym, ap, ◌∙◌, subst, inl, inr, arith, append_assoc}
+use Rattle.std.proofs.Common.{◌≡◌, ℕ, zero, suc, ◌<◌, ◌-◌, List, [], ◌∷◌, ◌++◌, Bool, true, false, cond, Option, Some, None, refl, ap, ◌∙◌, arith, append_assoc}
 use Rattle.work_code.specs.Tok.{Tok, name, var, number, symbol}
 use Rattle.work_code.specs.declared.sign.Symbol.{Symbol}
 use Rattle.work_code.specs.declared.sign.Symbol.TheVariants.{Comma}
 use Rattle.text_forms.specs.Parse as parse
 use Rattle.text_forms.specs.Forms as form
-use Rattle.text_forms.proofs.Exact.{Exact, Front, Any, exact-as, exact-less, exact-name, exact-nothing, exact-after, exact-before, exact-merged, then_read-some}
+use Rattle.text_forms.proofs.Exact.{Exact, Front, Any, exact-as, exact-less, exact-nothing, exact-after, exact-before, exact-merged, then_read-some}
 use Rattle.text_forms.proofs.Many.{exact-commas}
-use Rattle.text_forms.proofs.Pairs.{some_inj, pair_inj}
-use Rattle.text_forms.proofs.Symbols.{begins_with-is, begins_with-symbol}
+use Rattle.text_forms.proofs.Pairs.{pair_inj}
 
 -- nothing is read where nothing stands for a value
 abbrev pub nowhere : {A : Type 0} → parse.Parse A

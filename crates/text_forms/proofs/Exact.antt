@@ -1,19 +1,15 @@
 -- A reading function is exact for a form: it gives what the tokens stand for, and reads all that stands for something.
-use Rattle.std.proofs.Common.{◌≡◌, ℕ, zero, suc, ◌<◌, ◌+◌, List, [], ◌∷◌, ◌++◌, length, Bool, true, false, cond, Option, Some, None, refl, sym, ap, ◌∙◌, subst, inl, inr, ◌⊎◌, arith, append_assoc, append-nil, length-append}
+use Rattle.std.proofs.Common.{◌≡◌, ℕ, List, [], ◌∷◌, ◌++◌, Bool, true, false, cond, Option, Some, None, refl, sym, ap, ◌∙◌, subst, inl, inr, append_assoc}
 use Rattle.std.specs.Prelude.{ℤ, pos}
-use Rattle.std.specs.Str.{bytes_eq}
 use Rattle.std.proofs.lemmas.Slice.Eq.{bytes_eq-Decides}
 use Rattle.work_code.specs.Tok.{Tok, name, var, number, symbol}
-use Rattle.work_code.specs.Symbols.{code_of}
 use Rattle.work_code.specs.declared.sign.Symbol.{Symbol}
 use Rattle.text_forms.specs.Tail.{tail}
-use Rattle.text_forms.specs.Repeat.{Turn, Stop, Fail, Next, repeated}
 use Rattle.text_forms.specs.Parse as parse
 use Rattle.text_forms.specs.Forms as form
 pub use Rattle.text_forms.specs.Exact.{Front, Exact, Any}
 use Rattle.text_forms.proofs.Symbols.{begins_with-is, begins_with-symbol}
 use Rattle.text_forms.proofs.Pairs.{some_inj, pair_inj}
-use Rattle.text_forms.proofs.Repeat.{Shortens, repeated-next, repeated-stop, repeated-fail, repeated-keeps}
 
 -- fewer things may follow
 pub exact-less : {A : Type 0} {F : A → List Tok → Type 0} {p : parse.Parse A} {E D : List Tok → Type 0} → Exact F p E → ((rest : List Tok) → D rest → E rest) → Exact F p D

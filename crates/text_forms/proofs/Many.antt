@@ -8,10 +8,9 @@ use Rattle.text_forms.specs.Repeat.{Turn, Stop, Fail, Next, after_turn, turns, r
 use Rattle.text_forms.specs.Tail.{tail}
 use Rattle.text_forms.specs.Parse as parse
 use Rattle.text_forms.specs.Forms as form
-use Rattle.text_forms.proofs.Pairs.{some_inj, pair_inj}
-use Rattle.text_forms.proofs.Symbols.{begins_with-is, begins_with-symbol}
+use Rattle.text_forms.proofs.Symbols.{begins_with-is}
 use Rattle.text_forms.proofs.Repeat.{Shortens, repeated-next, repeated-stop, repeated-fail, repeated-keeps}
-use Rattle.text_forms.proofs.Exact.{Exact, Front, Any, exact-both, exact-after, exact-seen, exact-less, exact-as}
+use Rattle.text_forms.proofs.Exact.{Exact, Front, exact-both, exact-after, exact-seen, exact-as}
 
 -- items of a list: each has a token and begins with nothing that stops, and what comes behind one is allowed there
 pub record Listed {A : Type 0} (stop : List Tok → Bool) (F : A → List Tok → Type 0) (E : List Tok → Type 0) : Type 0 where

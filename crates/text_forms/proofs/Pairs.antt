@@ -1,5 +1,5 @@
 -- Equations of options and pairs, taken apart.
-use Rattle.std.proofs.Common.{◌≡◌, Option, Some, None, ap}
+use Rattle.std.proofs.Common.{◌≡◌, Some, ap}
 
 -- what is there is one value
 pub some_inj : {A : Type 0} {x y : A} → Some x ≡ Some y → x ≡ y

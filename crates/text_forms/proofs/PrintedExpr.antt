@@ -1,8 +1,8 @@
 -- Printed expressions: their text has tokens that stand for the expression.
-use Rattle.std.proofs.Common.{◌≡◌, ℕ, zero, suc, ◌+◌, ◌<◌, ◌≤◌, Bool, true, false, List, [], ◌∷◌, ◌++◌, length, refl, sym, ap, ◌∙◌, arith, append_assoc, max, subst}
-use Rattle.std.specs.Prelude.{ℤ, pos, negsuc, codes, nat_le}
+use Rattle.std.proofs.Common.{◌≡◌, ℕ, zero, suc, ◌<◌, ◌≤◌, Some, true, List, [], ◌∷◌, ◌++◌, refl, ap, ◌∙◌, arith, append_assoc, subst}
+use Rattle.std.specs.Prelude.{ℤ, pos, negsuc, codes}
 use Rattle.std.proofs.lemmas.Bool.Decides.{nat_tests}
-use Rattle.std.specs.Fmt.{decimal, signed_decimal}
+use Rattle.std.specs.Fmt.{decimal}
 use Rattle.work_code.specs.declared.expr.BinOp.{BinOp}
 use Rattle.work_code.specs.declared.expr.BinOp.TheVariants as op
 use Rattle.work_code.specs.declared.sign.Symbol.{Symbol}
@@ -12,15 +12,18 @@ use Rattle.work_code.specs.Term as term
 use Rattle.work_code.specs.Printed.{text_of, sign_text}
 use Rattle.work_code.specs.Lexis.{most, is_blank, first_is, is_word, is_letter, is_digit}
 use Rattle.work_code.specs.Symbols.{symbol_bytes}
-use Rattle.work_code.specs.Tok.{Tok, name, var, number, symbol}
-use Rattle.work_code.proofs.Spelled.{Spells, Anything, NoWord, NoSign, MayFollow, is_name_text, spells-nothing, spells-then, spells-less, spells-blank, spells-symbol, spells-name, spells-number, blank_follows, minus_follows, not_follows, decimal-first}
+use Rattle.work_code.specs.Tok.{Tok, name, number, symbol}
+use Rattle.work_code.proofs.Spelled.{Spells, Anything, NoWord, NoSign, MayFollow, is_name_text, spells-then, spells-less, spells-blank, spells-symbol, spells-name, spells-number, blank_follows, minus_follows, not_follows, decimal-first}
 use Rattle.text_forms.specs.Parse.{is_count}
 use Rattle.text_forms.specs.Tree.{Spoken}
 use Rattle.text_forms.specs.Tree as tree
-use Rattle.text_forms.specs.Language.{has_input, has_slot}
-use Rattle.text_forms.specs.declared.language.Language.{Language}
 use Rattle.text_forms.specs.declared.language.Language.TheVariants.{River}
 use Rattle.text_forms.specs.Expressions as grammar
+use Rattle.text_forms.specs.Lines.{line_of, form_of, operator}
+use Rattle.text_forms.specs.Lines as lines
+use Rattle.text_forms.specs.declared.form.Form.TheVariants as form
+use Rattle.text_forms.specs.declared.operator.Unary.{Unary}
+use Rattle.text_forms.specs.declared.operator.Unary.TheVariants as unary
 
 -- an expression that a text can stand for: no constant below 0, and numbers that are counts
 abbrev pub IsWritten : Term → Type 0
@@ -76,7 +79,7 @@ is_count-below n lt = grind (arith, nat_tests)
 -- what is on a line of the grammar is on each looser line
 looser : (n : ℕ) (t : Spoken) (ts : List Tok) → grammar.Spells River n 0 t ts → (k : ℕ) → grammar.Spells River n k t ts
 looser n t ts h zero = h
-looser n t ts h (suc k) = grammar.tighter n k t ts (looser n t ts h k)
+looser n t ts h (suc k) = lines.tighter n k t ts (looser n t ts h k)
 
 abbrev higher : ℕ → ℕ → ℕ
 higher zero k = k
@@ -84,45 +87,48 @@ higher (suc j) k = suc (higher j k)
 
 up : (n j k : ℕ) (t : Spoken) (ts : List Tok) → grammar.Spells River n k t ts → grammar.Spells River n (higher j k) t ts
 up n zero k t ts h = h
-up n (suc j) k t ts h = grammar.tighter n (higher j k) t ts (up n j k t ts h)
+up n (suc j) k t ts h = lines.tighter n (higher j k) t ts (up n j k t ts h)
 
-chained : (n k : ℕ) (o : BinOp) (a b : Spoken) (ts us : List Tok) → grammar.rank_of o ≡ suc k → grammar.Spells River n 0 a ts → grammar.Spells River n 0 b us → grammar.Spells River n (suc k) (tree.Bin o a b) (ts ++ symbol (grammar.sign_of o) ∷ us)
-chained n k o a b ts us is x y = grammar.chain n k o a b ts us is (looser n a ts x (suc k)) (looser n b us y k)
+chained : (n k : ℕ) (o : BinOp) (a b : Spoken) (ts us : List Tok) → form_of (line_of grammar.seven k) ≡ form.Chain → operator (line_of grammar.seven k) (symbol (grammar.sign_of o)) ≡ Some o → grammar.Spells River n 0 a ts → grammar.Spells River n 0 b us
+    → grammar.Spells River n (suc k) (tree.Bin o a b) (ts ++ symbol (grammar.sign_of o) ∷ us)
+chained n k o a b ts us many is x y = lines.chain n k (symbol (grammar.sign_of o)) o a b ts us many is (looser n a ts x (suc k)) (looser n b us y k)
 
-operation : (n : ℕ) (o : BinOp) (a b : Spoken) (ts us : List Tok) → grammar.Spells River n 0 a ts → grammar.Spells River n 0 b us → grammar.Spells River n 6 (tree.Bin o a b) (ts ++ symbol (grammar.sign_of o) ∷ us)
-operation n op.Add a b ts us x y = up n 4 2 (tree.Bin op.Add a b) (ts ++ symbol (grammar.sign_of op.Add) ∷ us) (chained n 1 op.Add a b ts us refl x y)
-operation n op.Sub a b ts us x y = up n 4 2 (tree.Bin op.Sub a b) (ts ++ symbol (grammar.sign_of op.Sub) ∷ us) (chained n 1 op.Sub a b ts us refl x y)
-operation n op.Mul a b ts us x y = up n 5 1 (tree.Bin op.Mul a b) (ts ++ symbol (grammar.sign_of op.Mul) ∷ us) (chained n 0 op.Mul a b ts us refl x y)
-operation n op.Quot a b ts us x y = up n 5 1 (tree.Bin op.Quot a b) (ts ++ symbol (grammar.sign_of op.Quot) ∷ us) (chained n 0 op.Quot a b ts us refl x y)
-operation n op.Rem a b ts us x y = up n 5 1 (tree.Bin op.Rem a b) (ts ++ symbol (grammar.sign_of op.Rem) ∷ us) (chained n 0 op.Rem a b ts us refl x y)
-operation n op.Eq a b ts us x y = up n 2 4 (tree.Bin op.Eq a b) (ts ++ symbol (grammar.sign_of op.Eq) ∷ us) (chained n 3 op.Eq a b ts us refl x y)
-operation n op.Ne a b ts us x y = up n 2 4 (tree.Bin op.Ne a b) (ts ++ symbol (grammar.sign_of op.Ne) ∷ us) (chained n 3 op.Ne a b ts us refl x y)
-operation n op.Lt a b ts us x y = up n 3 3 (tree.Bin op.Lt a b) (ts ++ symbol (grammar.sign_of op.Lt) ∷ us) (chained n 2 op.Lt a b ts us refl x y)
-operation n op.Le a b ts us x y = up n 3 3 (tree.Bin op.Le a b) (ts ++ symbol (grammar.sign_of op.Le) ∷ us) (chained n 2 op.Le a b ts us refl x y)
-operation n op.Gt a b ts us x y = up n 3 3 (tree.Bin op.Gt a b) (ts ++ symbol (grammar.sign_of op.Gt) ∷ us) (chained n 2 op.Gt a b ts us refl x y)
-operation n op.Ge a b ts us x y = up n 3 3 (tree.Bin op.Ge a b) (ts ++ symbol (grammar.sign_of op.Ge) ∷ us) (chained n 2 op.Ge a b ts us refl x y)
-operation n op.And a b ts us x y = up n 1 5 (tree.Bin op.And a b) (ts ++ symbol (grammar.sign_of op.And) ∷ us) (chained n 4 op.And a b ts us refl x y)
-operation n op.Or a b ts us x y = up n 0 6 (tree.Bin op.Or a b) (ts ++ symbol (grammar.sign_of op.Or) ∷ us) (chained n 5 op.Or a b ts us refl x y)
+operation : (n : ℕ) (o : BinOp) (a b : Spoken) (ts us : List Tok) → grammar.Spells River n 0 a ts → grammar.Spells River n 0 b us → grammar.Spells River n 7 (tree.Bin o a b) (ts ++ symbol (grammar.sign_of o) ∷ us)
+operation n op.Add a b ts us x y = up n 4 3 (tree.Bin op.Add a b) (ts ++ symbol (grammar.sign_of op.Add) ∷ us) (chained n 2 op.Add a b ts us refl refl x y)
+operation n op.Sub a b ts us x y = up n 4 3 (tree.Bin op.Sub a b) (ts ++ symbol (grammar.sign_of op.Sub) ∷ us) (chained n 2 op.Sub a b ts us refl refl x y)
+operation n op.Mul a b ts us x y = up n 5 2 (tree.Bin op.Mul a b) (ts ++ symbol (grammar.sign_of op.Mul) ∷ us) (chained n 1 op.Mul a b ts us refl refl x y)
+operation n op.Quot a b ts us x y = up n 5 2 (tree.Bin op.Quot a b) (ts ++ symbol (grammar.sign_of op.Quot) ∷ us) (chained n 1 op.Quot a b ts us refl refl x y)
+operation n op.Rem a b ts us x y = up n 5 2 (tree.Bin op.Rem a b) (ts ++ symbol (grammar.sign_of op.Rem) ∷ us) (chained n 1 op.Rem a b ts us refl refl x y)
+operation n op.Eq a b ts us x y = up n 2 5 (tree.Bin op.Eq a b) (ts ++ symbol (grammar.sign_of op.Eq) ∷ us) (chained n 4 op.Eq a b ts us refl refl x y)
+operation n op.Ne a b ts us x y = up n 2 5 (tree.Bin op.Ne a b) (ts ++ symbol (grammar.sign_of op.Ne) ∷ us) (chained n 4 op.Ne a b ts us refl refl x y)
+operation n op.Lt a b ts us x y = up n 3 4 (tree.Bin op.Lt a b) (ts ++ symbol (grammar.sign_of op.Lt) ∷ us) (chained n 3 op.Lt a b ts us refl refl x y)
+operation n op.Le a b ts us x y = up n 3 4 (tree.Bin op.Le a b) (ts ++ symbol (grammar.sign_of op.Le) ∷ us) (chained n 3 op.Le a b ts us refl refl x y)
+operation n op.Gt a b ts us x y = up n 3 4 (tree.Bin op.Gt a b) (ts ++ symbol (grammar.sign_of op.Gt) ∷ us) (chained n 3 op.Gt a b ts us refl refl x y)
+operation n op.Ge a b ts us x y = up n 3 4 (tree.Bin op.Ge a b) (ts ++ symbol (grammar.sign_of op.Ge) ∷ us) (chained n 3 op.Ge a b ts us refl refl x y)
+operation n op.And a b ts us x y = up n 1 6 (tree.Bin op.And a b) (ts ++ symbol (grammar.sign_of op.And) ∷ us) (chained n 5 op.And a b ts us refl refl x y)
+operation n op.Or a b ts us x y = up n 0 7 (tree.Bin op.Or a b) (ts ++ symbol (grammar.sign_of op.Or) ∷ us) (chained n 6 op.Or a b ts us refl refl x y)
+
+-- a sign before an expression
+signed : (n : ℕ) (x : Symbol) (p : Unary) (t : Spoken) (ts : List Tok) → grammar.sign_before x ≡ Some p → grammar.Spells River n 0 t ts → grammar.Spells River n 7 (grammar.marked p t) (symbol x ∷ ts)
+signed n x p t ts is h = up n 6 1 (grammar.marked p t) (symbol x ∷ ts) (lines.prefix n 0 (symbol x) p t ts is (looser n t ts h 1))
 
 -- the tokens of the printed text stand for the expression
 pub printed-spells : (t : Term) (n : ℕ) → IsWritten t → term.depth_of t ≤ n → grammar.Spells River n 0 (spoken_of t) (printed t)
 printed-spells t zero w d = absurd (let e = some_depth t in omega arith)
-printed-spells (Const z) (suc n) w d = grammar.number (suc n) (of_value z)
-printed-spells (Input place) (suc n) w d = grammar.input n place refl (is_count-below place w)
-printed-spells (Slot slot) (suc n) w d = grammar.slot n slot refl (is_count-below slot w)
+printed-spells (Const z) (suc n) w d = lines.leaf (suc n) (tree.Number (of_value z)) (printed (Const z)) (grammar.number (suc n) (of_value z))
+printed-spells (Input place) (suc n) w d = lines.leaf (suc n) (tree.Input place) (printed (Input place)) (grammar.input n place refl (is_count-below place w))
+printed-spells (Slot slot) (suc n) w d = lines.leaf (suc n) (tree.Slot slot) (printed (Slot slot)) (grammar.slot n slot refl (is_count-below slot w))
 printed-spells (Neg t) (suc n) w d =
-    grammar.bracket n (tree.Neg (spoken_of t)) (symbol s.Minus ∷ printed t)
-    (looser n (tree.Neg (spoken_of t)) (symbol s.Minus ∷ printed t) (grammar.neg n (spoken_of t) (printed t) (printed-spells t n w (omega arith))) 6)
+    lines.bracket n (tree.Neg (spoken_of t)) (symbol s.Minus ∷ printed t) (signed n s.Minus unary.Neg (spoken_of t) (printed t) refl (printed-spells t n w (omega arith)))
 printed-spells (Not t) (suc n) w d =
-    grammar.bracket n (tree.Not (spoken_of t)) (symbol s.Not ∷ printed t)
-    (looser n (tree.Not (spoken_of t)) (symbol s.Not ∷ printed t) (grammar.not n (spoken_of t) (printed t) (printed-spells t n w (omega arith))) 6)
+    lines.bracket n (tree.Not (spoken_of t)) (symbol s.Not ∷ printed t) (signed n s.Not unary.Not (spoken_of t) (printed t) refl (printed-spells t n w (omega arith)))
 printed-spells (Bin o l r) (suc n) w d =
-    grammar.bracket n (tree.Bin o (spoken_of l) (spoken_of r)) (printed l ++ symbol (grammar.sign_of o) ∷ printed r)
+    lines.bracket n (tree.Bin o (spoken_of l) (spoken_of r)) (printed l ++ symbol (grammar.sign_of o) ∷ printed r)
     (operation n o (spoken_of l) (spoken_of r) (printed l) (printed r) (printed-spells l n w.0 (omega arith)) (printed-spells r n w.1 (omega arith)))
 
 -- so they are an expression, where so many more brackets may be open as the expression is deep
 pub printed-is : (t : Term) (n : ℕ) → IsWritten t → term.depth_of t ≤ 64 → term.depth_of t ≤ n → grammar.IsExpr River n (spoken_of t) (printed t)
-printed-is t n w d m = (looser n (spoken_of t) (printed t) (printed-spells t n w m) 6, omega (arith, depth_of-spoken t))
+printed-is t n w d m = (looser n (spoken_of t) (printed t) (printed-spells t n w m) 7, omega (arith, depth_of-spoken t))
 
 -- ---- the bytes of the text have these tokens
 

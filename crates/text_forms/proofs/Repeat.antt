@@ -1,5 +1,5 @@
 -- Loops of a reader: how many turns are enough, what each turn comes to, and what it keeps.
-use Rattle.std.proofs.Common.{◌≡◌, ℕ, zero, suc, ◌<◌, List, length, Option, Some, None, refl, ap, ◌∙◌, subst, arith}
+use Rattle.std.proofs.Common.{◌≡◌, ℕ, zero, suc, ◌<◌, List, length, Some, None, refl, ap, ◌∙◌, subst, arith}
 use Rattle.work_code.specs.Tok.{Tok}
 use Rattle.text_forms.proofs.Pairs.{some_inj}
 use Rattle.text_forms.specs.Repeat.{Turn, Stop, Fail, Next, after_turn, turns, repeated}
@@ -40,7 +40,7 @@ repeated-fail step x ts is = ap (after_turn (turns step (length ts)) x ts) is
 
 -- what holds at the start and is kept by each turn holds at the end, where the loop stops
 module _ {A : Type 0} (step : A → List Tok → Turn A) (P : A → List Tok → Type 0) (keeps : (x : A) (ts : List Tok) (y : A) (us : List Tok) → P x ts → step x ts ≡ Next y us → P y us) where
-  turns-keep : (n : ℕ) (x : A) (ts : List Tok) (y : A) (us : List Tok) → P x ts → turns step n x ts ≡ Some (y, us) → P y us × (step y us ≡ Stop)
+  pub turns-keep : (n : ℕ) (x : A) (ts : List Tok) (y : A) (us : List Tok) → P x ts → turns step n x ts ≡ Some (y, us) → P y us × (step y us ≡ Stop)
   unfolding turns
   turns-keep zero x ts y us p e = cc
   turns-keep (suc n) x ts y us p e = by (λ z vs q f. turns-keep n z vs y us q f) (step x ts) refl e where

@@ -1,5 +1,5 @@
 -- When a reading function is exact for a form: it gives what the tokens stand for, and reads all that stands for something.
-use Rattle.std.specs.Prelude.{◌≡◌, ℕ, ◌≤◌, List, ◌++◌, Option, Some, None}
+use Rattle.std.specs.Prelude.{◌≡◌, ℕ, ◌≤◌, List, ◌++◌, Some, None}
 use Rattle.work_code.specs.Tok.{Tok}
 use Rattle.text_forms.specs.Expressions.{IsExpr}
 use Rattle.text_forms.specs.Ladder.{operator_at, expr_at}

@@ -1,11 +1,14 @@
+pub mod Deep
+pub mod Deepest
 pub mod Exact
 pub mod Expressions
 pub mod Forms
 pub mod Gives
 pub mod Ladder
 pub mod Language
-pub mod Measure
+pub mod Lines
 pub mod Parse
+pub mod ReadLines
 pub mod Refusals
 pub mod Repeat
 pub mod Tail

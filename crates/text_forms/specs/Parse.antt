@@ -1,7 +1,6 @@
 -- Reading functions: what is at the front of some tokens, and the tokens behind it.
-use Rattle.std.specs.Prelude.{ℕ, zero, suc, ◌-◌, nat_le, length, List, [], ◌∷◌, ◌++◌, Option, None, Some, Bool, true, false, ◌==◌, not, if◌then◌else◌}
-use Rattle.std.specs.Prelude.{◌&&◌, ℤ, pos}
-use Rattle.std.specs.List.{list_all, list_any}
+use Rattle.std.specs.Prelude.{ℕ, zero, suc, ◌-◌, nat_le, length, List, [], ◌∷◌, ◌++◌, Option, None, Some, Bool, false, ◌==◌, not, if◌then◌else◌}
+use Rattle.std.specs.Prelude.{ℤ, pos}
 use Rattle.std.specs.Str.{bytes_eq}
 use Rattle.text_forms.specs.Tail.{tail}
 use Rattle.work_code.specs.Tok.{Tok, name, var, number, symbol}

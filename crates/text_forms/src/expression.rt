@@ -1,219 +1,72 @@
-// Expressions read.
-ghost use Rattle.std.specs.Prelude.{◌≡◌, ◌<◌, ◌≤◌, ◌+◌, IfOk, is_some, if◌then◌else◌};
+// The expressions of River text, StreamIt and Sawzall.
+ghost use Rattle.std.specs.Prelude.{◌≡◌, IfOk, is_some, if◌then◌else◌};
+ghost use Rattle.text_forms.specs.Expressions.{sign_at, call_at};
 ghost use Rattle.text_forms.specs.Gives.{Gives};
-ghost use Rattle.text_forms.specs.Ladder.{operator_at, place_at, pop_at, peek_at, named, leaf_at, unary, ladder, within, expr_at};
-ghost use Rattle.text_forms.specs.Measure.{tree_of};
+ghost use Rattle.text_forms.specs.Ladder.{operator_at, place_at, pop_at, named, leaf_at, expr_at};
 ghost use Rattle.text_forms.specs.Parse.{seen};
+ghost use Rattle.text_forms.specs.ReadLines.{first};
 ghost use Rattle.text_forms.specs.Tail.{tail};
-ghost use Rattle.text_forms.specs.Tree.{spoken};
+ghost use Rattle.text_forms.specs.Tree.{spoken, depth_of};
 ghost use Rattle.text_forms.specs.Tree as tree;
 
-use crate::measured::Measured;
-use crate::operator::{op_of, rank_of};
-use crate::{Fault, Language, Reader, Tree};
+use crate::operator::{Unary, op_of, rank_of, sign_before};
+use crate::{Dialect, Fault, Form, Language, Reader, TokenSource, Tree, read};
+use river_base::NoMemory;
 use std::alloc::Global;
 use work_code::{BinOp, Symbol, Token};
 
-impl<'a> Reader<'a> {
-    // The operator of this line that comes next.
-    fn operator_at(&self, rank: u32) -> Option<BinOp>
-        ensures { result ≡ operator_at rank self.now }
-    {
-        let Some(Token::Sign(symbol)) = self.peek() else {
-            return None;
-        };
-        let op = op_of(symbol)?;
-        if rank_of(op) == rank { Some(op) } else { None }
-    }
+impl<'a> TokenSource for Reader<'a> {
+    ghost rest = { λ r. r };
 
+    fn takes(&mut self, symbol: Symbol) -> bool {
+        self.takes(symbol)
+    }
+}
+
+impl<'a> Reader<'a> {
     // Passes over the operator of this line, where one comes next.
     fn operator(&mut self, rank: u32) -> Option<BinOp>
         ensures found { result ≡ operator_at rank self.old }
         ensures rest { self.new ≡ (if is_some result then tail self.old else self.old) }
     {
-        let op = self.operator_at(rank)?;
+        let Some(Token::Sign(symbol)) = self.peek() else {
+            return None;
+        };
+        let op = op_of(symbol)?;
+        if rank_of(op) != rank {
+            return None;
+        }
         self.skip();
         Some(op)
     }
 
-    // An expression on this line of the grammar and those below it; `brackets` more may be open, and it may be
-    // `room` deep.
-    #[cycle(expression)]
-    #[tactic(auto, using(crate::proofs::Steps::steps, crate::proofs::Steps::chains))]
-    fn ladder(
-        &mut self,
-        alloc: Global,
-        language: Language,
-        brackets: u32,
-        rank: u32,
-        room: u32,
-    ) -> Result<Measured<'a>, Fault>
-        requires room { room ≤ 64 }
-        requires rank { rank ≤ 6 }
-        ensures reads { Gives tree_of result self.new (ladder language brackets (within language brackets) rank room self.old) }
-        ensures depth { IfOk result (λ m. m.depth ≤ room) }
+    // Passes over the sign that comes next, if one does.
+    fn sign(&mut self) -> Option<Unary>
+        ensures found { result ≡ first sign_at self.old }
+        ensures rest { self.new ≡ (if is_some result then tail self.old else self.old) }
     {
-        if rank == 0 {
-            return self.unary(alloc, language, brackets, room);
-        }
-        let mut left = self.ladder(alloc, language, brackets, rank - 1, room)?;
-        while let Some(op) = self.operator(rank) {
-            if left.depth >= room {
-                return Err(Fault::Syntax);
-            }
-            let right = self.ladder(alloc, language, brackets, rank - 1, room - 1)?;
-            left = left.joined(alloc, op, right)?;
-        }
-        Ok(left)
+        let Some(Token::Sign(symbol)) = self.peek() else {
+            return None;
+        };
+        let sign = sign_before(symbol)?;
+        self.skip();
+        Some(sign)
     }
 
-    // A sign, a bracket or a leaf.
-    #[cycle(expression)]
-    #[tactic(auto, using(crate::proofs::Steps::steps))]
-    fn unary(
-        &mut self,
-        alloc: Global,
-        language: Language,
-        brackets: u32,
-        room: u32,
-    ) -> Result<Measured<'a>, Fault>
-        requires room { room ≤ 64 }
-        ensures reads { Gives tree_of result self.new (unary language brackets (within language brackets) room self.old) }
-        ensures depth { IfOk result (λ m. m.depth ≤ room) }
+    // Passes over a word that stands before an expression in brackets, if one comes next.
+    fn call(&mut self, language: Language) -> Option<Unary>
+        ensures found { result ≡ first (call_at language) self.old }
+        ensures rest { self.new ≡ (if is_some result then tail self.old else self.old) }
     {
-        if room == 0 {
-            return Err(Fault::Syntax);
-        }
-        if self.takes(Symbol::Minus) {
-            let inner = self.unary(alloc, language, brackets, room - 1)?;
-            return Ok(inner.negated(alloc)?);
-        }
-        if self.takes(Symbol::Not) {
-            let inner = self.unary(alloc, language, brackets, room - 1)?;
-            return Ok(inner.turned(alloc)?);
-        }
-        if self.takes(Symbol::Open) {
-            let inner = self.within(alloc, language, brackets, room)?;
-            self.expect(&[Symbol::Close])?;
-            return Ok(inner);
-        }
-        self.leaf(alloc, language, brackets, room - 1)
-    }
-
-    // An expression behind one bracket more.
-    #[cycle(expression)]
-    #[tactic(auto, using(crate::proofs::Steps::steps))]
-    fn within(
-        &mut self,
-        alloc: Global,
-        language: Language,
-        brackets: u32,
-        room: u32,
-    ) -> Result<Measured<'a>, Fault>
-        requires room { room ≤ 64 }
-        ensures reads { Gives tree_of result self.new (within language brackets room self.old) }
-        ensures depth { IfOk result (λ m. m.depth ≤ room) }
-    {
-        if brackets == 0 {
-            return Err(Fault::Syntax);
-        }
-        self.ladder(alloc, language, brackets - 1, 6, room)
-    }
-
-    // A number or a leaf of the language; what stands in it may be `room` deep.
-    #[cycle(expression)]
-    fn leaf(
-        &mut self,
-        alloc: Global,
-        language: Language,
-        brackets: u32,
-        room: u32,
-    ) -> Result<Measured<'a>, Fault>
-        requires room { room < 64 }
-        ensures reads { Gives tree_of result self.new (leaf_at language brackets (within language brackets room) self.old) }
-        ensures depth { IfOk result (λ m. m.depth ≤ room + 1) }
-    {
-        match self.peek() {
-            Some(Token::Number(value)) => {
-                self.skip();
-                Ok(Measured::leaf(Tree::Number(value)))
-            }
-            Some(Token::Name(text)) => {
-                self.skip();
-                self.named(alloc, language, brackets, room, text)
-            }
-            _ => Err(Fault::Syntax),
-        }
-    }
-
-    // A leaf that begins with this name.
-    #[cycle(expression)]
-    #[tactic(auto, unfolding(crate::specs::Ladder::named), using(crate::proofs::Steps::steps))]
-    fn named(
-        &mut self,
-        alloc: Global,
-        language: Language,
-        brackets: u32,
-        room: u32,
-        text: &'a [u8],
-    ) -> Result<Measured<'a>, Fault>
-        requires room { room < 64 }
-        ensures reads { Gives tree_of result self.new (named language brackets (within language brackets room) text.now self.old) }
-        ensures depth { IfOk result (λ m. m.depth ≤ room + 1) }
-    {
-        if language.has_input() && text == b"input".as_slice() {
-            return self.input(brackets);
-        }
-        if language.has_slot() && text == b"slot".as_slice() {
-            return self.slot(brackets);
-        }
+        let Some(Token::Name(text)) = self.peek() else {
+            return None;
+        };
         if language.has_reads() && text == b"peek".as_slice() {
-            return self.peeked(alloc, language, brackets, room);
-        }
-        if language.has_reads() && text == b"pop".as_slice() {
-            return self.pop(brackets);
-        }
-        if language.names_values(text) {
-            Ok(Measured::leaf(Tree::Name(text)))
+            self.skip();
+            Some(Unary::Peek)
         } else {
-            Err(Fault::Syntax)
+            None
         }
-    }
-
-    // What stands behind `peek`.
-    #[cycle(expression)]
-    #[tactic(auto, using(crate::proofs::Steps::steps))]
-    fn peeked(
-        &mut self,
-        alloc: Global,
-        language: Language,
-        brackets: u32,
-        room: u32,
-    ) -> Result<Measured<'a>, Fault>
-        requires room { room < 64 }
-        ensures reads { Gives tree_of result self.new (peek_at (within language brackets room) self.old) }
-        ensures depth { IfOk result (λ m. m.depth ≤ room + 1) }
-    {
-        self.expect(&[Symbol::Open])?;
-        let inner = self.within(alloc, language, brackets, room)?;
-        self.expect(&[Symbol::Close])?;
-        Ok(inner.peeked(alloc)?)
-    }
-
-    // What stands behind `input`.
-    fn input(&mut self, brackets: u32) -> Result<Measured<'a>, Fault>
-        ensures reads { Gives tree_of result self.new (seen tree.Input (place_at brackets) self.old) }
-        ensures depth { IfOk result (λ m. m.depth ≤ 1) }
-    {
-        Ok(Measured::leaf(Tree::Input(self.place(brackets)?)))
-    }
-
-    // What stands behind `slot`.
-    fn slot(&mut self, brackets: u32) -> Result<Measured<'a>, Fault>
-        ensures reads { Gives tree_of result self.new (seen tree.Slot (place_at brackets) self.old) }
-        ensures depth { IfOk result (λ m. m.depth ≤ 1) }
-    {
-        Ok(Measured::leaf(Tree::Slot(self.place(brackets)?)))
     }
 
     // A number in square brackets.
@@ -232,15 +85,76 @@ impl<'a> Reader<'a> {
 
     // What stands behind `pop`.
     #[tactic(auto, using(crate::proofs::Steps::steps))]
-    fn pop(&mut self, brackets: u32) -> Result<Measured<'a>, Fault>
-        ensures reads { Gives tree_of result self.new (pop_at brackets self.old) }
-        ensures depth { IfOk result (λ m. m.depth ≤ 1) }
+    fn pop(&mut self, brackets: u32) -> Result<Tree<'a>, Fault>
+        ensures reads { Gives spoken result self.new (pop_at brackets self.old) }
+        ensures depth { IfOk result (λ t. depth_of (spoken t) ≡ 1) }
     {
         if brackets == 0 {
             return Err(Fault::Syntax);
         }
         self.expect(&[Symbol::Open, Symbol::Close])?;
-        Ok(Measured::leaf(Tree::Pop))
+        Ok(Tree::Pop)
+    }
+
+    // What stands behind `input`.
+    fn input(&mut self, brackets: u32) -> Result<Tree<'a>, Fault>
+        ensures reads { Gives spoken result self.new (seen tree.Input (place_at brackets) self.old) }
+        ensures depth { IfOk result (λ t. depth_of (spoken t) ≡ 1) }
+    {
+        Ok(Tree::Input(self.place(brackets)?))
+    }
+
+    // What stands behind `slot`.
+    fn slot(&mut self, brackets: u32) -> Result<Tree<'a>, Fault>
+        ensures reads { Gives spoken result self.new (seen tree.Slot (place_at brackets) self.old) }
+        ensures depth { IfOk result (λ t. depth_of (spoken t) ≡ 1) }
+    {
+        Ok(Tree::Slot(self.place(brackets)?))
+    }
+
+    // A leaf that begins with this name.
+    #[tactic(auto, unfolding(crate::specs::Ladder::named))]
+    fn named(
+        &mut self,
+        language: Language,
+        brackets: u32,
+        text: &'a [u8],
+    ) -> Result<Tree<'a>, Fault>
+        ensures reads { Gives spoken result self.new (named language brackets text.now self.old) }
+        ensures depth { IfOk result (λ t. depth_of (spoken t) ≡ 1) }
+    {
+        if language.has_input() && text == b"input".as_slice() {
+            return self.input(brackets);
+        }
+        if language.has_slot() && text == b"slot".as_slice() {
+            return self.slot(brackets);
+        }
+        if language.has_reads() && text == b"pop".as_slice() {
+            return self.pop(brackets);
+        }
+        if language.names_values(text) {
+            Ok(Tree::Name(text))
+        } else {
+            Err(Fault::Syntax)
+        }
+    }
+
+    // A number or a leaf of the language.
+    fn leaf(&mut self, language: Language, brackets: u32) -> Result<Tree<'a>, Fault>
+        ensures reads { Gives spoken result self.new (leaf_at language brackets self.old) }
+        ensures depth { IfOk result (λ t. depth_of (spoken t) ≡ 1) }
+    {
+        match self.peek() {
+            Some(Token::Number(value)) => {
+                self.skip();
+                Ok(Tree::Number(value))
+            }
+            Some(Token::Name(text)) => {
+                self.skip();
+                self.named(language, brackets, text)
+            }
+            _ => Err(Fault::Syntax),
+        }
     }
 
     /// An expression of the language, at most 64 deep, where `brackets` more brackets may be open. What stands behind
@@ -257,6 +171,89 @@ impl<'a> Reader<'a> {
     ) -> Result<Tree<'a>, Fault>
         ensures { Gives spoken result self.new (expr_at language brackets self.old) }
     {
-        Ok(self.ladder(alloc, language, brackets, 6, 64)?.tree)
+        read(&language, self, alloc, brackets)
+    }
+}
+
+impl<'a> Dialect<Reader<'a>> for Language {
+    ghost use Rattle.std.specs.Prelude.{length, ◌≤◌};
+    ghost use Rattle.text_forms.specs.Expressions.{syntax};
+    ghost use Rattle.text_forms.specs.Lines.{line_of, form_of};
+    ghost use Rattle.text_forms.specs.Ladder.{leaf_at};
+    ghost use Rattle.text_forms.specs.Tree.{Spoken, spoken};
+    ghost use Rattle.text_forms.specs.Deepest.{deepest};
+
+    type Tree = Tree<'a>;
+
+    type Operator = BinOp;
+
+    type Sign = Unary;
+
+    ghost Plain = { Spoken };
+
+    ghost view = { spoken };
+
+    ghost syntax = { syntax };
+
+    ghost leaf = { leaf_at };
+
+    ghost deeper = { deepest };
+
+    fn height(&self) -> u32
+        ensures all { result ≡ length (syntax self.now).lines }
+        ensures few { result ≤ 16 }
+    {
+        7
+    }
+
+    #[tactic(auto, using(crate::proofs::Seven::forms))]
+    fn form(&self, line: u32) -> Form
+        ensures { result ≡ form_of (line_of (syntax self.now).lines line) }
+    {
+        if line == 0 {
+            Form::Prefix
+        } else if line < 7 {
+            Form::Chain
+        } else {
+            Form::Once
+        }
+    }
+
+    fn operator(&self, reader: &mut Reader<'a>, line: u32) -> Option<BinOp> {
+        reader.operator(line)
+    }
+
+    #[tactic(auto, using(crate::proofs::Seven::signs))]
+    fn sign(&self, reader: &mut Reader<'a>, line: u32) -> Option<Unary> {
+        if line == 0 { reader.sign() } else { None }
+    }
+
+    fn call(&self, reader: &mut Reader<'a>) -> Option<Unary> {
+        reader.call(*self)
+    }
+
+    fn leaf(&self, reader: &mut Reader<'a>, brackets: u32) -> Result<Tree<'a>, Fault> {
+        reader.leaf(*self, brackets)
+    }
+
+    fn mark(&self, alloc: Global, sign: Unary, tree: Tree<'a>) -> Result<Tree<'a>, NoMemory> {
+        let inner = Box::new(alloc, tree)?;
+        Ok(match sign {
+            Unary::Neg => Tree::Neg(inner),
+            Unary::Not => Tree::Not(inner),
+            Unary::Peek => Tree::Peek(inner),
+        })
+    }
+
+    fn join(
+        &self,
+        alloc: Global,
+        op: BinOp,
+        left: Tree<'a>,
+        right: Tree<'a>,
+    ) -> Result<Tree<'a>, NoMemory> {
+        let left = Box::new(alloc, left)?;
+        let right = Box::new(alloc, right)?;
+        Ok(Tree::Bin { op, left, right })
     }
 }

@@ -1,9 +1,19 @@
-// Operators.
+// Operators and signs.
 ghost use Rattle.std.specs.Prelude.{◌≡◌};
-ghost use Rattle.text_forms.specs.Expressions.{rank_of};
-ghost use Rattle.text_forms.specs.Ladder.{op_of};
+ghost use Rattle.text_forms.specs.Expressions.{rank_of, op_of, sign_before};
 
 use work_code::{BinOp, Symbol};
+
+/// What stands before an expression.
+#[derive(Clone, Copy, Debug, PartialEq, Eq)]
+pub enum Unary {
+    /// `-`
+    Neg,
+    /// `!`
+    Not,
+    /// `peek`, before brackets.
+    Peek,
+}
 
 /// The operator of a symbol.
 pub fn op_of(symbol: Symbol) -> Option<BinOp>
@@ -38,5 +48,16 @@ pub fn rank_of(op: BinOp) -> u32
         BinOp::Eq | BinOp::Ne => 4,
         BinOp::And => 5,
         BinOp::Or => 6,
+    }
+}
+
+/// The sign that a symbol is before an expression.
+pub fn sign_before(symbol: Symbol) -> Option<Unary>
+    ensures { result ≡ sign_before symbol }
+{
+    match symbol {
+        Symbol::Minus => Some(Unary::Neg),
+        Symbol::Not => Some(Unary::Not),
+        _ => None,
     }
 }

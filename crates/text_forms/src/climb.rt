@@ -1,0 +1,270 @@
+// The expressions of any language read, line by line.
+ghost use Rattle.std.specs.Prelude.{◌≡◌, ◌<◌, ◌≤◌, ◌+◌, IfOk, length, ◌-◌, List, [], ◌∷◌};
+ghost use Rattle.text_forms.specs.Gives.{Gives, Passes};
+ghost use Rattle.text_forms.specs.ReadLines.{chain_line, grown, once_line, prefix_line, closed, base, ladder, within, whole_at};
+ghost use Rattle.text_forms.specs.Parse.{after, run_at, seen};
+ghost use Rattle.work_code.specs.declared.sign.Symbol.TheVariants as s;
+
+use crate::{Dialect, Fault, Form, TokenSource};
+use std::alloc::Global;
+use work_code::Symbol;
+
+// A tree and how deep it is.
+#[derive(Drop)]
+struct Measured<T> {
+    tree: T,
+    depth: u32,
+}
+
+// Passes over this symbol, which has to come next.
+fn expect<R: TokenSource>(reader: &mut R, symbol: Symbol) -> Result<(), Fault>
+    ensures { Passes result (R.rest reader.new) (run_at (symbol ∷ []) (R.rest reader.old)) }
+{
+    if reader.takes(symbol) {
+        Ok(())
+    } else {
+        Err(Fault::Syntax)
+    }
+}
+
+// An expression on the line above `rank` others; `brackets` more may be open, and it may be `room` deep.
+#[cycle(expression)]
+#[tactic(auto, using(crate::proofs::Climbs::lines))]
+fn ladder<R: TokenSource, D: Dialect<R>>(
+    dialect: &D,
+    reader: &mut R,
+    alloc: Global,
+    brackets: u32,
+    rank: u32,
+    room: u32,
+) -> Result<Measured<D::Tree>, Fault>
+    requires room { room ≤ 64 }
+    requires rank { rank ≤ 16 }
+    ensures reads { Gives (λ m. D.view m.tree) result (R.rest reader.new) (ladder (D.syntax dialect.now) (D.leaf dialect.now brackets) (within (D.syntax dialect.now) (D.leaf dialect.now) brackets) rank room (R.rest reader.old)) }
+    ensures small { IfOk result (λ m. m.depth ≤ room) }
+    ensures depth { IfOk result (λ m. m.depth ≡ (D.syntax dialect.now).depth (D.view m.tree)) }
+{
+    if rank == 0 {
+        return base(dialect, reader, alloc, brackets, room);
+    }
+    let line = rank - 1;
+    match dialect.form(line) {
+        Form::Chain => chain(dialect, reader, alloc, brackets, line, room),
+        Form::Once => once(dialect, reader, alloc, brackets, line, room),
+        Form::Prefix => prefix(dialect, reader, alloc, brackets, line, room),
+    }
+}
+
+// Expressions of the line below, with operators of this line between them.
+#[cycle(expression)]
+#[tactic(auto, using(crate::proofs::Climbs::steps, crate::proofs::Climbs::chains))]
+fn chain<R: TokenSource, D: Dialect<R>>(
+    dialect: &D,
+    reader: &mut R,
+    alloc: Global,
+    brackets: u32,
+    line: u32,
+    room: u32,
+) -> Result<Measured<D::Tree>, Fault>
+    requires room { room ≤ 64 }
+    requires line { line < 16 }
+    ensures reads { Gives (λ m. D.view m.tree) result (R.rest reader.new) (chain_line (D.syntax dialect.now) line (ladder (D.syntax dialect.now) (D.leaf dialect.now brackets) (within (D.syntax dialect.now) (D.leaf dialect.now) brackets) line) room (R.rest reader.old)) }
+    ensures small { IfOk result (λ m. m.depth ≤ room) }
+    ensures depth { IfOk result (λ m. m.depth ≡ (D.syntax dialect.now).depth (D.view m.tree)) }
+{
+    let mut left = ladder(dialect, reader, alloc, brackets, line, room)?;
+    'items: while let Some(op) = dialect.operator(reader, line) {
+        left = grown(dialect, reader, alloc, brackets, line, room, left, op)?;
+    }
+    Ok(left)
+}
+
+// An expression with this operator behind it, and the one of the line below that follows.
+#[cycle(expression)]
+#[tactic(auto, using(crate::proofs::Climbs::growths))]
+fn grown<R: TokenSource, D: Dialect<R>>(
+    dialect: &D,
+    reader: &mut R,
+    alloc: Global,
+    brackets: u32,
+    line: u32,
+    room: u32,
+    left: Measured<D::Tree>,
+    op: D::Operator,
+) -> Result<Measured<D::Tree>, Fault>
+    requires room { room ≤ 64 }
+    requires line { line < 16 }
+    requires exact { left.depth ≡ (D.syntax dialect.now).depth (D.view left.tree) }
+    ensures reads { Gives (λ m. D.view m.tree) result (R.rest reader.new) (grown (D.syntax dialect.now) (ladder (D.syntax dialect.now) (D.leaf dialect.now brackets) (within (D.syntax dialect.now) (D.leaf dialect.now) brackets) line (room - 1)) room op (D.view left.tree) (R.rest reader.old)) }
+    ensures small { IfOk result (λ m. m.depth ≤ room) }
+    ensures depth { IfOk result (λ m. m.depth ≡ (D.syntax dialect.now).depth (D.view m.tree)) }
+    ensures more { IfOk result (λ m. left.depth < m.depth) }
+{
+    if left.depth >= room {
+        return Err(Fault::Syntax);
+    }
+    let right = ladder(dialect, reader, alloc, brackets, line, room - 1)?;
+    let depth = left.depth.max(right.depth) + 1;
+    let tree = dialect.join(alloc, op, left.tree, right.tree)?;
+    Ok(Measured { tree, depth })
+}
+
+// An expression of the line below, and one operator of this line at most.
+#[cycle(expression)]
+#[tactic(auto, using(crate::proofs::Climbs::steps))]
+fn once<R: TokenSource, D: Dialect<R>>(
+    dialect: &D,
+    reader: &mut R,
+    alloc: Global,
+    brackets: u32,
+    line: u32,
+    room: u32,
+) -> Result<Measured<D::Tree>, Fault>
+    requires room { room ≤ 64 }
+    requires line { line < 16 }
+    ensures reads { Gives (λ m. D.view m.tree) result (R.rest reader.new) (once_line (D.syntax dialect.now) line (ladder (D.syntax dialect.now) (D.leaf dialect.now brackets) (within (D.syntax dialect.now) (D.leaf dialect.now) brackets) line) room (R.rest reader.old)) }
+    ensures small { IfOk result (λ m. m.depth ≤ room) }
+    ensures depth { IfOk result (λ m. m.depth ≡ (D.syntax dialect.now).depth (D.view m.tree)) }
+{
+    let left = ladder(dialect, reader, alloc, brackets, line, room)?;
+    match dialect.operator(reader, line) {
+        Some(op) => grown(dialect, reader, alloc, brackets, line, room, left, op),
+        None => Ok(left),
+    }
+}
+
+// An expression of the line below behind signs of this line, as many as come.
+#[cycle(expression)]
+#[tactic(auto, using(crate::proofs::Climbs::steps))]
+fn prefix<R: TokenSource, D: Dialect<R>>(
+    dialect: &D,
+    reader: &mut R,
+    alloc: Global,
+    brackets: u32,
+    line: u32,
+    room: u32,
+) -> Result<Measured<D::Tree>, Fault>
+    requires room { room ≤ 64 }
+    requires line { line < 16 }
+    ensures reads { Gives (λ m. D.view m.tree) result (R.rest reader.new) (prefix_line (D.syntax dialect.now) line (ladder (D.syntax dialect.now) (D.leaf dialect.now brackets) (within (D.syntax dialect.now) (D.leaf dialect.now) brackets) line) room (R.rest reader.old)) }
+    ensures small { IfOk result (λ m. m.depth ≤ room) }
+    ensures depth { IfOk result (λ m. m.depth ≡ (D.syntax dialect.now).depth (D.view m.tree)) }
+{
+    if room == 0 {
+        return Err(Fault::Syntax);
+    }
+    let Some(sign) = dialect.sign(reader, line) else {
+        return ladder(dialect, reader, alloc, brackets, line, room);
+    };
+    let inner = prefix(dialect, reader, alloc, brackets, line, room - 1)?;
+    let tree = dialect.mark(alloc, sign, inner.tree)?;
+    Ok(Measured {
+        tree,
+        depth: inner.depth + 1,
+    })
+}
+
+// Brackets, a call or a leaf.
+#[cycle(expression)]
+#[tactic(auto, using(crate::proofs::Climbs::steps))]
+fn base<R: TokenSource, D: Dialect<R>>(
+    dialect: &D,
+    reader: &mut R,
+    alloc: Global,
+    brackets: u32,
+    room: u32,
+) -> Result<Measured<D::Tree>, Fault>
+    requires room { room ≤ 64 }
+    ensures reads { Gives (λ m. D.view m.tree) result (R.rest reader.new) (base (D.syntax dialect.now) (D.leaf dialect.now brackets) (within (D.syntax dialect.now) (D.leaf dialect.now) brackets) room (R.rest reader.old)) }
+    ensures small { IfOk result (λ m. m.depth ≤ room) }
+    ensures depth { IfOk result (λ m. m.depth ≡ (D.syntax dialect.now).depth (D.view m.tree)) }
+{
+    if room == 0 {
+        return Err(Fault::Syntax);
+    }
+    if reader.takes(Symbol::Open) {
+        return enclosed(dialect, reader, alloc, brackets, room);
+    }
+    match dialect.call(reader) {
+        Some(sign) => called(dialect, reader, alloc, brackets, room - 1, sign),
+        None => leaf(dialect, reader, brackets),
+    }
+}
+
+// A leaf.
+fn leaf<R: TokenSource, D: Dialect<R>>(
+    dialect: &D,
+    reader: &mut R,
+    brackets: u32,
+) -> Result<Measured<D::Tree>, Fault>
+    ensures reads { Gives (λ m. D.view m.tree) result (R.rest reader.new) (D.leaf dialect.now brackets (R.rest reader.old)) }
+    ensures small { IfOk result (λ m. m.depth ≡ 1) }
+    ensures depth { IfOk result (λ m. m.depth ≡ (D.syntax dialect.now).depth (D.view m.tree)) }
+{
+    let tree = dialect.leaf(reader, brackets)?;
+    Ok(Measured { tree, depth: 1 })
+}
+
+// An expression in brackets behind a word, which was passed over.
+#[cycle(expression)]
+fn called<R: TokenSource, D: Dialect<R>>(
+    dialect: &D,
+    reader: &mut R,
+    alloc: Global,
+    brackets: u32,
+    room: u32,
+    sign: D::Sign,
+) -> Result<Measured<D::Tree>, Fault>
+    requires room { room < 64 }
+    ensures reads { Gives (λ m. D.view m.tree) result (R.rest reader.new) (seen ((D.syntax dialect.now).mark sign) (after (s.Open ∷ []) (closed (within (D.syntax dialect.now) (D.leaf dialect.now) brackets) room)) (R.rest reader.old)) }
+    ensures small { IfOk result (λ m. m.depth ≤ room + 1) }
+    ensures depth { IfOk result (λ m. m.depth ≡ (D.syntax dialect.now).depth (D.view m.tree)) }
+{
+    expect(reader, Symbol::Open)?;
+    let inner = enclosed(dialect, reader, alloc, brackets, room)?;
+    let tree = dialect.mark(alloc, sign, inner.tree)?;
+    Ok(Measured {
+        tree,
+        depth: inner.depth + 1,
+    })
+}
+
+// An expression behind one bracket more, and the closing bracket.
+#[cycle(expression)]
+#[tactic(auto, using(crate::proofs::Climbs::steps))]
+fn enclosed<R: TokenSource, D: Dialect<R>>(
+    dialect: &D,
+    reader: &mut R,
+    alloc: Global,
+    brackets: u32,
+    room: u32,
+) -> Result<Measured<D::Tree>, Fault>
+    requires room { room ≤ 64 }
+    ensures reads { Gives (λ m. D.view m.tree) result (R.rest reader.new) (closed (within (D.syntax dialect.now) (D.leaf dialect.now) brackets) room (R.rest reader.old)) }
+    ensures small { IfOk result (λ m. m.depth ≤ room) }
+    ensures depth { IfOk result (λ m. m.depth ≡ (D.syntax dialect.now).depth (D.view m.tree)) }
+{
+    if brackets == 0 {
+        return Err(Fault::Syntax);
+    }
+    let inner = ladder(dialect, reader, alloc, brackets - 1, dialect.height(), room)?;
+    expect(reader, Symbol::Close)?;
+    Ok(inner)
+}
+
+/// An expression of a language, at most 64 deep, where `brackets` more brackets may be open. What stands behind it is
+/// left.
+///
+/// # Errors
+///
+/// `Syntax` where none comes next, `NoMemory` where there is no memory.
+pub fn read<R: TokenSource, D: Dialect<R>>(
+    dialect: &D,
+    reader: &mut R,
+    alloc: Global,
+    brackets: u32,
+) -> Result<D::Tree, Fault>
+    ensures { Gives D.view result (R.rest reader.new) (whole_at (D.syntax dialect.now) (D.leaf dialect.now) brackets (R.rest reader.old)) }
+{
+    Ok(ladder(dialect, reader, alloc, brackets, dialect.height(), 64)?.tree)
+}

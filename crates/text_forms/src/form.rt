@@ -1,0 +1,12 @@
+// Forms of lines.
+
+/// How the expressions of a line are made of those of the line below, which binds tighter.
+#[derive(Clone, Copy, Debug, PartialEq, Eq)]
+pub enum Form {
+    /// With operators between them, as many as come; the tree groups to the left.
+    Chain,
+    /// With one operator between two of them, or none.
+    Once,
+    /// With signs before them, as many as come.
+    Prefix,
+}
