@@ -102,8 +102,7 @@ fn undeclared(alloc: Global, decls: &Decls, queue: Name) -> Result<Decls, NoMemo
     ensures { IfOk result (λ rest. rest ≡ undeclared queue decls.now) }
 {
     let at = decl_place(decls, queue);
-    let rest = without(alloc, decls, at)?;
-    Ok(rest)
+    without(alloc, decls, at)
 }
 
 // The declarations, without that at this place.

@@ -207,8 +207,7 @@ fn retyped(alloc: Global, decls: &Decls, name: Name, kind: QueueType) -> Result<
     ensures { IfOk result (λ all. all ≡ retyped name kind decls.now) }
 {
     let at = decl_place(decls, name);
-    let all = with_at(alloc, decls, at, Decl { name, kind })?;
-    Ok(all)
+    with_at(alloc, decls, at, Decl { name, kind })
 }
 
 // The declarations, with another at this place.
