@@ -1,5 +1,5 @@
 -- The rows of one timestamp, in a list that is in order of its timestamps.
-use Rattle.std.proofs.Common.{◌≡◌, ℕ, zero, suc, ◌-◌, ◌<◌, ◌≤◌, ℤ, List, [], ◌∷◌, length, get_or, take, drop, map, Bool, true, false, cond, refl, sym, ap, ◌∙◌, arith, int_lt, int_le}
+use Rattle.std.proofs.Common.{◌≡◌, ℕ, zero, suc, ◌-◌, ◌<◌, ◌≤◌, ℤ, List, [], ◌∷◌, length, get_or, take, drop, map, Bool, true, false, cond, refl, sym, ap, ◌∙◌, subst, arith, int_lt, int_le}
 use Rattle.std.specs.Prelude.{nat_lt, not, ◌&&◌}
 use Rattle.std.specs.List.{filter}
 use Rattle.std.specs.List.Sorted.{IsSortedByKey, IsStableByKey, IsPartitionedBy, IsPartitionPoint, ties}
@@ -7,9 +7,11 @@ use Rattle.std.specs.Ordering.{int_eq, int_cmp, is_lt}
 use Rattle.std.specs.Cmp.{IsStrictWeakOrder}
 use Rattle.std.proofs.lemmas.Bool.Decides.{nat_tests}
 use Rattle.std.proofs.lemmas.Cmp.{int_cmp_total}
+use Rattle.std.proofs.lemmas.List.{get_or_read}
 use Rattle.std.proofs.lemmas.List.Elements.{filter_agree}
 use Rattle.std.proofs.lemmas.List.Sorted.{ranks_by, sorted_far}
 use Rattle.river_base.specs.Instants.{at_instant}
+use Rattle.csv_streams.specs.SpreadOut.{IsFirst, IsEnd}
 use Rattle.csv_streams.specs.Timed.{Entry}
 
 abbrev pub stamp : Entry → ℤ
@@ -74,12 +76,28 @@ below_in_front rows t up i j d h g is = in_front t (get_or rows i d).0 (get_or r
 pub up_to_in_front : (rows : List Entry) (t : ℤ) → IsSortedByKey stamp int_cmp rows → IsPartitionedBy (λ e. int_le (stamp e) t) rows
 up_to_in_front rows t up i j d h g is = up_to t (get_or rows i d).0 (get_or rows j d).0 (sorted_far (λ x y. is_lt (int_cmp (stamp x) (stamp y))) ranked rows up i j d h g) is
 
--- the rows from the first that is not below t to the first that is above
-abbrev pub IsFirst : List Entry → ℤ → ℕ → Type 0
-IsFirst rows t n = IsPartitionPoint (λ e. int_lt (stamp e) t ≡ true) (λ e. int_lt (stamp e) t ≡ false) rows n
+-- a test that no row passes behind one that fails it, and a place where it turns
+no_more : (p : Entry → Bool) (rows : List Entry) (n : ℕ) → IsPartitionedBy p rows → ((d : Entry) → n < length rows → p (get_or rows n d) ≡ false)
+    → (k : ℕ) (d : Entry) → n ≤ k → k < length rows → p (get_or rows k d) ≡ false
+no_more p rows n parted turns k d low high = step (p (get_or rows k d)) refl where
+  step : (b : Bool) → p (get_or rows k d) ≡ b → p (get_or rows k d) ≡ false
+  step false is = is
+  step true is = absurd (let h = parted n k d low high is in let g = turns d (omega (arith, low, high)) in cc (sym h ∙ g))
 
-abbrev pub IsEnd : List Entry → ℤ → ℕ → Type 0
-IsEnd rows t m = IsPartitionPoint (λ e. int_le (stamp e) t ≡ true) (λ e. int_le (stamp e) t ≡ false) rows m
+-- what a test says of the row at a place, whatever is read elsewhere
+pub read_there : (p : Entry → Bool) (b : Bool) (rows : List Entry) (n : ℕ) (e d : Entry) → n < length rows → e ≡ get_or rows n e → p e ≡ b → p (get_or rows n d) ≡ b
+read_there p b rows n e d lt is h = subst (λ x. p x ≡ b) (get_or_read rows n e lt is d) h
+
+pub ends_there : (p : Entry → Bool) (rows : List Entry) (n : ℕ) → IsPartitionedBy p rows
+    → ((k : ℕ) (d : Entry) → k < n → p (get_or rows k d) ≡ true) → ((d : Entry) → n < length rows → p (get_or rows n d) ≡ false)
+    → IsPartitionPoint (λ e. p e ≡ true) (λ e. p e ≡ false) rows n
+ends_there p rows n parted front turns = (λ k d low high. front k d high, no_more p rows n parted turns)
+
+pub turns_there : (p : Entry → Bool) (rows : List Entry) (n : ℕ) → n ≤ length rows → IsPartitionedBy p rows
+    → ((d : Entry) → 0 < n → p (get_or rows (n - 1) d) ≡ true) → ((d : Entry) → n < length rows → p (get_or rows n d) ≡ false)
+    → IsPartitionPoint (λ e. p e ≡ true) (λ e. p e ≡ false) rows n
+turns_there p rows n le parted before turns =
+    ends_there p rows n parted (λ k d high. parted k (n - 1) d (omega (arith, high)) (omega (arith, high, le)) (before d (omega (arith, high)))) turns
 
 clash : (t u : ℤ) → int_lt u t ≡ true → int_le u t ≡ false → ⊥
 clash t u h g = grind (arith, h, g)

@@ -1,12 +1,20 @@
 -- What becomes of a file whose rows are spread over instants.
-use Rattle.std.specs.Prelude.{◌≡◌, ℕ, ℤ, Bool, List, map, flat_map, Ok}
+use Rattle.std.specs.Prelude.{◌≡◌, ℕ, ℤ, Bool, true, false, int_lt, int_le, List, map, flat_map, Ok}
 use Rattle.std.specs.List.{Contains}
-use Rattle.std.specs.List.Sorted.{IsStrictlySortedBy}
+use Rattle.std.specs.List.Sorted.{IsStrictlySortedBy, IsPartitionPoint}
 use Rattle.std.specs.Ordering.{int_cmp}
 use Rattle.river_base.specs.declared.item.Batch.{Batch}
 use Rattle.river_base.specs.Held.{batches}
 use Rattle.river_base.specs.Instants.{at_instant, spread}
 use Rattle.csv_streams.specs.Timed.{Entry, timed_of}
+
+-- before this place stand the timed rows below an instant, and from there on the others
+abbrev pub IsFirst : List Entry → ℤ → ℕ → Type 0
+IsFirst rows t n = IsPartitionPoint (λ (e : Entry). int_lt e.0 t ≡ true) (λ (e : Entry). int_lt e.0 t ≡ false) rows n
+
+-- before this place stand the timed rows that are not above an instant, and from there on the others
+abbrev pub IsEnd : List Entry → ℤ → ℕ → Type 0
+IsEnd rows t m = IsPartitionPoint (λ (e : Entry). int_le e.0 t ≡ true) (λ (e : Entry). int_le e.0 t ≡ false) rows m
 
 -- the rows of batches, each behind the instant of its batch
 abbrev pub rows_behind : List Batch → List Entry

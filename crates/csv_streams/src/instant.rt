@@ -1,8 +1,9 @@
 // Instants, and rows spread over them.
-ghost use Rattle.std.specs.Prelude.{◌≡◌, ◌≤◌, ◌-◌, ◌++◌, ℤ, List, true, length, take, drop, map, IfOk, OnOk};
+ghost use Rattle.std.specs.Prelude.{◌≡◌, ◌≤◌, ◌-◌, ◌∷◌, [], ◌++◌, ℤ, List, true, length, take, drop, map, IfOk, OnOk};
 ghost use Rattle.std.specs.List.Sorted.{IsSortedByKey};
 ghost use Rattle.std.specs.Ordering.{int_cmp};
 ghost use Rattle.river_base.specs.Instants as time;
+ghost use Rattle.csv_streams.specs.SpreadOut.{IsFirst, IsEnd};
 
 use river_base::{Batch, Flat, Item, Items, NoMemory, Numbers, Row, Rows, TimedFiles, TimedRows};
 use std::alloc::Global;
@@ -69,45 +70,105 @@ fn batches(alloc: Global, rows: &[(i64, Row)], instants: &[i64]) -> Result<Items
     ensures { IfOk result (λ items. items ≡ time.spread instants.now (time.at_instant rows.now)) }
 {
     let mut items = Items::new(alloc);
-    for at in instants {
-        items.push(batch(alloc, rows, *at)?)?;
-    }
+    add_batches(alloc, rows, instants, &mut items)?;
     Ok(items)
 }
 
-// The batch of an instant.
-fn batch(alloc: Global, rows: &[(i64, Row)], at: i64) -> Result<Item, NoMemory>
-    requires { IsSortedByKey (λ (e : ℤ × List ℤ). e.0) int_cmp rows.now }
-    ensures { IfOk result (λ item. item ≡ time.item_at at (time.at_instant rows.now at)) }
-{
-    let rows = rows_at(alloc, rows, at)?;
-    Ok(Item::Flat(Flat::Batch(Batch { at, rows })))
-}
-
-// The rows of an instant.
-fn rows_at(alloc: Global, rows: &[(i64, Row)], at: i64) -> Result<Rows, NoMemory>
-    requires { IsSortedByKey (λ (e : ℤ × List ℤ). e.0) int_cmp rows.now }
-    ensures { IfOk result (λ found. found ≡ time.at_instant rows.now at) }
-{
-    let first = rows.partition_point(|entry| entry.0 < at);
-    let end = rows.partition_point(|entry| entry.0 <= at);
-    rows_between(alloc, rows, first, end)
-}
-
-// The rows from one place to another.
-fn rows_between(
+// Appends a batch for each instant. Its rows stand behind those of the instant before, where that is earlier.
+fn add_batches(
     alloc: Global,
-    entries: &[(i64, Row)],
-    first: usize,
-    end: usize,
-) -> Result<Rows, NoMemory>
-    requires order { first ≤ end }
-    requires within { end ≤ length entries.now }
-    ensures { IfOk result (λ rows. rows ≡ map (λ (e : ℤ × List ℤ). e.1) (take (end - first) (drop first entries.now))) }
+    rows: &[(i64, Row)],
+    instants: &[i64],
+    items: &mut Items,
+) -> Result<(), NoMemory>
+    requires { IsSortedByKey (λ (e : ℤ × List ℤ). e.0) int_cmp rows.now }
+    ensures { OnOk result (items.new ≡ items.old ++ time.spread instants.now (time.at_instant rows.now)) }
 {
-    let mut rows = Rows::new(alloc);
-    for entry in &entries[first..end] {
+    let mut next = 0;
+    for at in instants {
+        let (first, end) = places_at(rows, next, *at);
+        add_batch(alloc, *at, &rows[first..end], items)?;
+        next = end;
+    }
+    Ok(())
+}
+
+// Appends the batch of an instant, which has these rows.
+fn add_batch(alloc: Global, at: i64, rows: &[(i64, Row)], items: &mut Items) -> Result<(), NoMemory>
+    ensures { OnOk result (items.new ≡ items.old ++ time.item_at at (map (λ (e : ℤ × List ℤ). e.1) rows.now) ∷ []) }
+{
+    let rows = rows_of(alloc, rows)?;
+    items.push(Item::Flat(Flat::Batch(Batch { at, rows })))?;
+    Ok(())
+}
+
+// The rows without their timestamps.
+fn rows_of(alloc: Global, entries: &[(i64, Row)]) -> Result<Rows, NoMemory>
+    ensures { IfOk result (λ rows. rows ≡ map (λ (e : ℤ × List ℤ). e.1) entries.now) }
+{
+    let mut rows = Rows::with_room(alloc, entries.len())?;
+    add_rows_of(entries, &mut rows)?;
+    Ok(rows)
+}
+
+fn add_rows_of(entries: &[(i64, Row)], rows: &mut Rows) -> Result<(), NoMemory>
+    ensures { OnOk result (rows.new ≡ rows.old ++ map (λ (e : ℤ × List ℤ). e.1) entries.now) }
+{
+    for entry in entries {
         rows.push(entry.1)?;
     }
-    Ok(rows)
+    Ok(())
+}
+
+// From where to where the rows of an instant stand; `guess` is tried first.
+fn places_at(rows: &[(i64, Row)], guess: usize, at: i64) -> (usize, usize)
+    requires sorted { IsSortedByKey (λ (e : ℤ × List ℤ). e.0) int_cmp rows.now }
+    requires guess { guess ≤ length rows.now }
+    ensures order { result.0 ≤ result.1 }
+    ensures within { result.1 ≤ length rows.now }
+    ensures rows { map (λ (e : ℤ × List ℤ). e.1) (take (result.1 - result.0) (drop result.0 rows.now)) ≡ time.at_instant rows.now at }
+{
+    let first = first_at(rows, guess, at);
+    (first, end_at(rows, first, at))
+}
+
+// How many rows are below an instant.
+fn first_at(rows: &[(i64, Row)], guess: usize, at: i64) -> usize
+    requires sorted { IsSortedByKey (λ (e : ℤ × List ℤ). e.0) int_cmp rows.now }
+    requires guess { guess ≤ length rows.now }
+    ensures within { result ≤ length rows.now }
+    ensures first { IsFirst rows.now at result }
+{
+    if is_first(rows, guess, at) {
+        return guess;
+    }
+    rows.partition_point(|entry| entry.0 < at)
+}
+
+// Whether the rows in front of a place, and no others, are below an instant.
+fn is_first(rows: &[(i64, Row)], place: usize, at: i64) -> bool
+    requires sorted { IsSortedByKey (λ (e : ℤ × List ℤ). e.0) int_cmp rows.now }
+    requires place { place ≤ length rows.now }
+    ensures { result ≡ true → IsFirst rows.now at place }
+{
+    if place > 0 && rows[place - 1].0 >= at {
+        return false;
+    }
+    place == rows.len() || rows[place].0 >= at
+}
+
+// How many rows are not above an instant, where those in front of `first` are below it.
+fn end_at(rows: &[(i64, Row)], first: usize, at: i64) -> usize
+    requires sorted { IsSortedByKey (λ (e : ℤ × List ℤ). e.0) int_cmp rows.now }
+    requires within { first ≤ length rows.now }
+    requires first { IsFirst rows.now at first }
+    ensures order { first ≤ result }
+    ensures within { result ≤ length rows.now }
+    ensures end { IsEnd rows.now at result }
+{
+    let mut end = first;
+    while end < rows.len() && rows[end].0 <= at {
+        end += 1;
+    }
+    end
 }
