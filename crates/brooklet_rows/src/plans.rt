@@ -1,4 +1,4 @@
-// Texts of plans, the files of their inputs, and the text that is printed of what they give.
+// Texts of plans, the rows of their inputs, and the text that is printed of what they give.
 
 /// Two operators, one behind the other.
 pub const CHAIN: &[u8] = b"output out: rows(1);
@@ -82,8 +82,11 @@ op out: (out, $u) <- (p, r, $u) { unpack(2) }
 op alone: (alone, $v) <- (q, $v) { unpack(1) }
 ";
 
-/// The file of the input of `CHAIN` and of `SUMS`.
-pub const FOUR: &[&[u8]] = &[b"4\n-9\n"];
+/// The rows of each input of a plan.
+pub type Lists<'a> = &'a [&'a [&'a [i64]]];
+
+/// The rows of the input of `SUMS`.
+pub const FOUR: Lists<'_> = &[&[&[4], &[-9]]];
 
 /// What `SUMS` gives for it.
 pub const SUMS_TEXT: &[u8] = b"# out
@@ -94,8 +97,8 @@ a,2
 b,2
 ";
 
-/// The files of the inputs of `JOIN`.
-pub const FIVE: &[&[u8]] = &[b"1\n2\n", b"7\n8\n9\n"];
+/// The rows of the inputs of `JOIN`.
+pub const FIVE: Lists<'_> = &[&[&[1], &[2]], &[&[7], &[8], &[9]]];
 
 /// What `JOIN` gives for them.
 pub const JOIN_TEXT: &[u8] = b"# out
@@ -108,8 +111,8 @@ pub const JOIN_TEXT: &[u8] = b"# out
 join,5
 ";
 
-/// The file of the input of `SPLITS`.
-pub const SEVEN: &[&[u8]] = &[b"1\n2\n3\n4\n5\n6\n7\n"];
+/// The rows of the input of `SPLITS`.
+pub const SEVEN: Lists<'_> = &[&[&[1], &[2], &[3], &[4], &[5], &[6], &[7]]];
 
 /// What `SPLITS` gives for it.
 pub const SPLITS_TEXT: &[u8] = b"# out
@@ -155,8 +158,8 @@ e,7
 sum,7
 ";
 
-/// The files of the inputs of `PACKS`.
-pub const TWO: &[&[u8]] = &[b"10\n20\n30\n", b"7\n8\n"];
+/// The rows of the inputs of `PACKS`.
+pub const TWO: Lists<'_> = &[&[&[10], &[20], &[30]], &[&[7], &[8]]];
 
 /// What `PACKS` gives for them.
 pub const PACKS_TEXT: &[u8] = b"# out
@@ -204,7 +207,7 @@ op ta: ($best) <- (p, $best) { tally }
 op tb: ($best) <- (q, $best) { tally }
 ";
 
-/// What `SHARED` gives for the files of `TWO`.
+/// What `SHARED` gives for the rows of `TWO`.
 pub const SHARED_TEXT: &[u8] = b"# best
 7,5
 8,5
