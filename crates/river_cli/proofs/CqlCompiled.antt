@@ -21,7 +21,7 @@ use Rattle.cql_front.specs.Words.{cql_words}
 use Rattle.cql_front.specs.declared.fault.CqlFault.{CqlFault}
 use Rattle.cql_front.specs.declared.fault.CqlFault.TheVariants as cql_fault
 use Rattle.cql_front.proofs.Fronts.{plans_mean}
-use Rattle.slow_mean.proofs.CqlAccepted.{accepted_columns}
+use Rattle.slow_cql.proofs.Accepted.{accepted_columns}
 use Rattle.cql_front.proofs.Instants.{instants_agree}
 use Rattle.river_cli.specs.Contents.{AreContents}
 use Rattle.river_cli.specs.Inputs.{timed_files, items_at, all_items}

@@ -34,8 +34,8 @@ use Rattle.saw_model.specs.Source as saw_model
 use Rattle.saw_text.specs.Tree as saw_text
 use Rattle.saw_text.specs.Tree.{unit_forms}
 use Rattle.saw_front.specs.Valued.{AreValuedParts}
-use Rattle.slow_mean.specs.CqlContents.{HaveColumns}
-use Rattle.slow_mean.specs.Sawzall.{IsAccepted}
+use Rattle.slow_cql.specs.Contents.{HaveColumns}
+use Rattle.slow_sawzall.specs.Sawzall.{IsAccepted}
 use Rattle.saw_front.specs.Meaning as saw
 use Rattle.saw_front.specs.Words.{saw_words}
 use Rattle.river_cli.specs.Text.{program_refused}

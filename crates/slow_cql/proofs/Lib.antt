@@ -1,0 +1,10 @@
+pub mod Accepted
+pub mod Answers
+pub mod Contents
+pub mod Instants
+pub mod Results
+pub mod Run
+pub mod Standing
+pub mod Timed
+pub mod Tuples
+pub mod Windows

@@ -1,0 +1,124 @@
+// The names of a query's columns.
+ghost use Rattle.std.specs.Prelude.{◌≡◌, ◌++◌, codes, IsTrue, IfOk, OnOk};
+ghost use Rattle.std.specs.List.{flat_map};
+ghost use Rattle.std.specs.Fmt.{decimal};
+ghost use Rattle.river_base.specs.Name.{is_name};
+ghost use Rattle.cql_model.specs.Scopes.{column_name, column_names, names_from, plain_name};
+ghost use Rattle.cql_build.specs.Views.{value_of, column_of, chosen_of, columns_of};
+ghost use Rattle.slow_cql.specs.Kept.{scope};
+
+use crate::kept::Input;
+use cql_text::{Column, Columns, Scalar};
+use river_base::{Bytes, Listed, Name, NoMemory};
+use std::alloc::Global;
+
+/// The names of the columns that are selected from these inputs.
+pub(crate) fn column_names(
+    alloc: Global,
+    inputs: &[Input<'_>],
+    columns: &Columns,
+) -> Result<Listed<Name>, NoMemory>
+    ensures { IfOk result (λ names. names ≡ column_names (scope inputs.now) (columns_of columns.now)) }
+{
+    match columns {
+        Columns::Star => all_fields(alloc, inputs),
+        Columns::Chosen(list) => chosen_names(alloc, list.as_slice()),
+    }
+}
+
+// The fields of all inputs.
+fn all_fields(alloc: Global, inputs: &[Input<'_>]) -> Result<Listed<Name>, NoMemory>
+    ensures { IfOk result (λ names. names ≡ flat_map (λ i. i.fields) (scope inputs.now)) }
+{
+    let mut names = Listed::new(alloc);
+    for input in inputs {
+        add_names(input.fields, &mut names)?;
+    }
+    Ok(names)
+}
+
+/// Appends names.
+pub(crate) fn add_names(more: &[Name], names: &mut Listed<Name>) -> Result<(), NoMemory>
+    ensures { OnOk result (names.new ≡ names.old ++ more.now) }
+{
+    for name in more {
+        names.push(*name)?;
+    }
+    Ok(())
+}
+
+// The names of columns that are chosen.
+fn chosen_names(alloc: Global, columns: &[Column]) -> Result<Listed<Name>, NoMemory>
+    ensures { IfOk result (λ names. names ≡ names_from 1 (chosen_of columns.now)) }
+{
+    let mut names = Listed::new(alloc);
+    for i in 0..columns.len() {
+        names.push(column_name(alloc, i + 1, &columns[i])?)?;
+    }
+    Ok(names)
+}
+
+// The name of the column at a place, from 1.
+fn column_name(alloc: Global, place: usize, column: &Column) -> Result<Name, NoMemory>
+    ensures { IfOk result (λ name. name ≡ column_name place (column_of column.now)) }
+{
+    match column.alias {
+        Some(alias) => Ok(alias),
+        None => value_name(alloc, place, &column.value),
+    }
+}
+
+// The name of a column without an alias: its field's where it is one, and otherwise that of its place.
+fn value_name(alloc: Global, place: usize, value: &Scalar) -> Result<Name, NoMemory>
+    ensures { IfOk result (λ name. name ≡ plain_name (value_of value.now) (codes "c" ++ decimal place)) }
+{
+    match value {
+        Scalar::Field(field) => Ok(*field),
+        Scalar::ItemField(_, field) => Ok(*field),
+        Scalar::Number(_)
+        | Scalar::Neg(_)
+        | Scalar::Not(_)
+        | Scalar::Mul(_, _)
+        | Scalar::Quot(_, _)
+        | Scalar::Rem(_, _)
+        | Scalar::Add(_, _)
+        | Scalar::Sub(_, _)
+        | Scalar::Equal(_, _)
+        | Scalar::Different(_, _)
+        | Scalar::NotEqual(_, _)
+        | Scalar::Less(_, _)
+        | Scalar::LessEqual(_, _)
+        | Scalar::Greater(_, _)
+        | Scalar::GreaterEqual(_, _)
+        | Scalar::And(_, _)
+        | Scalar::Or(_, _) => place_name(alloc, place),
+    }
+}
+
+// The name of a place: `c1` and so on.
+fn place_name(alloc: Global, place: usize) -> Result<Name, NoMemory>
+    ensures { IfOk result (λ name. name ≡ codes "c" ++ decimal place) }
+{
+    let text = place_text(alloc, place)?;
+    Ok(name_of(text.as_slice()))
+}
+
+// Its bytes.
+fn place_text(alloc: Global, place: usize) -> Result<Bytes, NoMemory>
+    ensures { IfOk result (λ text. text ≡ codes "c" ++ decimal place) }
+{
+    let mut bytes = Bytes::from_slice(alloc, b"c")?;
+    bytes.extend(place.to_string(alloc)?.as_bytes())?;
+    Ok(bytes)
+}
+
+// The name that has these bytes.
+fn name_of(bytes: &[u8]) -> Name
+    requires { IsTrue (is_name bytes.now) }
+    ensures { result ≡ bytes.now }
+{
+    match Name::from_slice(bytes) {
+        Some(name) => name,
+        None => unreachable!(),
+    }
+}

@@ -1,9 +1,0 @@
-use Rattle.std.proofs.Common.{◌≡◌, take, map}
-use Rattle.cql_model.specs.Program.{Column}
-use Rattle.cql_model.specs.Meaning.{value}
-use Rattle.cql_build.specs.Views.{chosen_of}
-use Rattle.slow_mean.specs.CqlKept.{scope}
-use Rattle.slow_mean.proofs.cql_content.chosen.Given as goal
-
-abbrev pub invariant-loop-column : goal.invariant-loop-column
-invariant-loop-column l = l.values ≡ map (λ (c : Column). value (scope l.inputs) c.value l.tuple) (chosen_of (take l.column-index l.columns))

@@ -1,6 +1,0 @@
-use Rattle.std.proofs.Common.{◌≡◌, take}
-use Rattle.cql_model.specs.Meaning.{joined}
-use Rattle.slow_mean.proofs.cql_content.joined.Given as goal
-
-abbrev pub invariant-loop-row : goal.invariant-loop-row
-invariant-loop-row l = l.values ≡ joined (take l.row-index l.tuple)

@@ -1,8 +1,0 @@
-use Rattle.std.proofs.Common.{◌≡◌, drop, map, fold}
-use Rattle.cql_model.specs.Meaning.{with_each}
-use Rattle.slow_mean.specs.CqlKept.{content_in}
-use Rattle.slow_mean.specs.CqlContents.{product_at}
-use Rattle.slow_mean.proofs.cql_content.product.Given as goal
-
-abbrev pub invariant-loop-input : goal.invariant-loop-input
-invariant-loop-input l = fold with_each l.tuples (map (content_in l.at) (drop l.input-index l.inputs)) ≡ product_at l.at l.inputs

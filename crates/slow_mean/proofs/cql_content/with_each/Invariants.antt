@@ -1,7 +1,0 @@
-use Rattle.std.proofs.Common.{◌≡◌, take, map}
-use Rattle.cql_model.specs.Meaning.{with_each}
-use Rattle.slow_mean.specs.CqlKept.{Entry}
-use Rattle.slow_mean.proofs.cql_content.with_each.Given as goal
-
-abbrev pub invariant-loop-tuple : goal.invariant-loop-tuple
-invariant-loop-tuple l = l.all ≡ with_each (take l.tuple-index l.tuples) (map (λ (e : Entry). e.1) l.entries)

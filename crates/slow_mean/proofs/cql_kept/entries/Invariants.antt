@@ -1,6 +1,0 @@
-use Rattle.std.proofs.Common.{◌≡◌, take}
-use Rattle.slow_mean.specs.CqlKept.{entries_in}
-use Rattle.slow_mean.proofs.cql_kept.entries.Given as goal
-
-abbrev pub invariant-loop-item : goal.invariant-loop-item
-invariant-loop-item l = l.all ≡ entries_in (take l.item-index l.items)

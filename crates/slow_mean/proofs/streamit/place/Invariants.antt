@@ -1,8 +1,0 @@
-use Rattle.slow_mean.proofs.StreamitStreams.{PlaceSoFar}
-use Rattle.slow_mean.proofs.streamit.place.Given as goal
-
-abbrev pub invariant-loop-i : goal.invariant-loop-i
-invariant-loop-i l = PlaceSoFar l.above l.name l.i
-
-abbrev pub decreases-loop-i : goal.decreases-loop-i
-decreases-loop-i l = l.i

@@ -1,6 +1,0 @@
-use Rattle.std.proofs.Common.{◌≡◌, map, take}
-use Rattle.slow_mean.specs.StreamitFiring.{values_of}
-use Rattle.slow_mean.proofs.streamit_firing.Firing.fields.Given as goal
-
-abbrev pub invariant-loop-name : goal.invariant-loop-name
-invariant-loop-name l = l.kept ≡ map (values_of l.self.values) (take l.name-index l.fields)

@@ -1,5 +1,0 @@
-use Rattle.slow_mean.proofs.StreamitRounds.{DealtSoFar}
-use Rattle.slow_mean.proofs.streamit_round.dealt.Given as goal
-
-abbrev pub invariant-loop-x : goal.invariant-loop-x
-invariant-loop-x l = DealtSoFar l.weights l.branch l.items l.x l.out

@@ -1,0 +1,125 @@
+-- The tables of a program, one after another, and what is added to each.
+use Rattle.std.proofs.Common.{◌≡◌, ℕ, ◌+◌, ◌<◌, ◌≤◌, Bool, true, false, List, [], ◌∷◌, ◌++◌, length, take, drop, map, get_or, refl, sym, ap, ◌∙◌, subst, append_assoc, append-nil}
+use Rattle.std.specs.Prelude.{if◌then◌else◌}
+use Rattle.std.proofs.lemmas.List.{take_more, take_all}
+use Rattle.kern_tables.specs.declared.kind.TableKind.{TableKind}
+use Rattle.kern_tables.specs.declared.kept.Kept.{Kept}
+use Rattle.kern_tables.specs.Kept.{kept_of, added, rows_of, kind_of, width_of}
+use Rattle.kern_tables.specs.Tables.{tab, table_width}
+use Rattle.kern_tables.proofs.Tabs.{tables_keep_adds}
+use Rattle.river_base.specs.Name.{name_eq}
+use Rattle.river_plan.specs.Forms.{Name}
+use Rattle.saw_model.specs.Source.{Part, Table, Does, Program, Emitted, rows_for}
+use Rattle.saw_text.specs.declared.tree.Unit as unit
+use Rattle.saw_text.specs.Tree.{unit_form, unit_forms, part_of, program_of}
+use Rattle.saw_front.proofs.Units.{parts_at, parts_none}
+use Rattle.slow_sawzall.specs.Sawzall.{tables_for, AreWide, IsWideFor, AreWideFor}
+use Rattle.slow_sawzall.proofs.Values.{from_place}
+
+-- ONE TABLE
+
+rows_for-append : (n : Name) (xs ys : List Emitted) → rows_for n (xs ++ ys) ≡ rows_for n xs ++ rows_for n ys
+rows_for-append n [] ys = refl
+rows_for-append n (x ∷ xs) ys = step (name_eq x.0 n) (rows_for-append n xs ys) where
+  step : (b : Bool) → rows_for n (xs ++ ys) ≡ rows_for n xs ++ rows_for n ys
+      → (if b then x.1 ∷ rows_for n (xs ++ ys) else rows_for n (xs ++ ys)) ≡ (if b then x.1 ∷ rows_for n xs else rows_for n xs) ++ rows_for n ys
+  step true h = ap (λ l. x.1 ∷ l) h
+  step false h = h
+
+row_here : (n : Name) (e : Emitted) (es : List Emitted) → name_eq e.0 n ≡ true → rows_for n (e ∷ es) ≡ e.1 ∷ rows_for n es
+row_here n e es h = ap (λ b. if b then e.1 ∷ rows_for n es else rows_for n es) h
+
+row_other : (n : Name) (e : Emitted) (es : List Emitted) → name_eq e.0 n ≡ false → rows_for n (e ∷ es) ≡ rows_for n es
+row_other n e es h = ap (λ b. if b then e.1 ∷ rows_for n es else rows_for n es) h
+
+-- a table to which nothing was added has its kind
+pub new_kind : (kind : TableKind) (table : Kept) → table ≡ kept_of kind [] → kind_of table ≡ kind
+new_kind kind table e = ap kind_of e ∙ (tables_keep_adds kind).kind_is []
+
+pub new_none : (kind : TableKind) (table : Kept) → table ≡ kept_of kind [] → table ≡ kept_of (kind_of table) []
+new_none kind table e = e ∙ ap (λ k. kept_of k []) (sym (new_kind kind table e))
+
+-- what was added so far, and that what is left is as wide as the table
+pub record AddedSoFar (kind : TableKind) (n : Name) (es : List Emitted) (i : ℕ) (table : Kept) : Type 0 where
+  pub kept : table ≡ kept_of kind (rows_for n (take i es))
+  pub wide : AreWide (table_width kind) (rows_for n (drop i es))
+
+pub added_start : (kind : TableKind) (n : Name) (es : List Emitted) (table : Kept) → table ≡ kept_of kind []
+    → AreWide (table_width kind) (rows_for n es) → AddedSoFar kind n es 0 table
+added_start kind n es table h w = record { kept = h; wide = w }
+
+module _ (kind : TableKind) (n : Name) (es : List Emitted) (i : ℕ) (e : Emitted) (table : Kept) (lt : i < length es) (is : e ≡ get_or es i e)
+    (f : AddedSoFar kind n es i table) where
+  taken : take (i + 1) es ≡ take i es ++ e ∷ []
+  taken = take_more es i e lt ∙ ap (λ x. take i es ++ x ∷ []) (sym is)
+
+  left : AreWide (table_width kind) (rows_for n (e ∷ drop (i + 1) es))
+  left = subst (λ l. AreWide (table_width kind) (rows_for n l)) (from_place es i e lt is) f.wide
+
+  more : rows_for n (take (i + 1) es) ≡ rows_for n (take i es) ++ rows_for n (e ∷ [])
+  more = ap (rows_for n) taken ∙ rows_for-append n (take i es) (e ∷ [])
+
+  module _ (h : name_eq e.0 n ≡ true) where
+    both : AreWide (table_width kind) (e.1 ∷ rows_for n (drop (i + 1) es))
+    both = subst (AreWide (table_width kind)) (row_here n e (drop (i + 1) es) h) left
+
+    -- the row is as wide as the table
+    pub row_fits : length e.1 ≡ width_of table
+    row_fits = both.0 ∙ ap table_width (sym (ap kind_of f.kept ∙ (tables_keep_adds kind).kind_is (rows_for n (take i es))))
+
+    -- it is added
+    pub added_next : (next : Kept) → next ≡ added table e.1 → AddedSoFar kind n es (i + 1) next
+    added_next next a = record {
+      kept =
+          a ∙ ap (λ t. added t e.1) f.kept ∙ sym ((tables_keep_adds kind).more (rows_for n (take i es)) e.1)
+          ∙ ap (λ l. kept_of kind (rows_for n (take i es) ++ l)) (sym (row_here n e [] h)) ∙ ap (kept_of kind) (sym more);
+      wide = both.1;
+    }
+
+  -- a row of another table is passed over
+  pub added_skip : name_eq e.0 n ≡ false → AddedSoFar kind n es (i + 1) table
+  added_skip h = record {
+    kept = f.kept ∙ ap (kept_of kind) (sym (append-nil (rows_for n (take i es))) ∙ ap (λ l. rows_for n (take i es) ++ l) (sym (row_other n e [] h)) ∙ sym more);
+    wide = subst (AreWide (table_width kind)) (row_other n e (drop (i + 1) es) h) left;
+  }
+
+pub added_end : (kind : TableKind) (n : Name) (es : List Emitted) (i : ℕ) (table : Kept) → length es ≤ i → AddedSoFar kind n es i table
+    → rows_of table ≡ tab kind (rows_for n es)
+added_end kind n es i table le f = ap rows_of f.kept ∙ (tables_keep_adds kind).rows (rows_for n (take i es))
+    ∙ ap (λ l. tab kind (rows_for n l)) (take_all i es le)
+
+-- ALL TABLES
+
+tables-cons : (c : Part) (ps : Program) (es : List Emitted) → tables_for (c ∷ []) es ++ tables_for ps es ≡ tables_for (c ∷ ps) es
+tables-cons (Table n k) ps es = refl
+tables-cons (Does c) ps es = refl
+
+-- the tables so far and those that are left are all, and what is emitted to those that are left is as wide as they are
+pub record TablesLeft (all rest : Program) (es : List Emitted) (made : List Kept) : Type 0 where
+  pub done : map rows_of made ++ tables_for rest es ≡ tables_for all es
+  pub wide : AreWideFor rest es
+
+module _ (all : Program) (us : List unit.Unit) (i : ℕ) (u : unit.Unit) (es : List Emitted) (made : List Kept) (lt : i < length us)
+    (e : u ≡ get_or us i u) (f : TablesLeft all (program_of (unit_forms (drop i us))) es made) where
+  abbrev here : Part
+  here = part_of (unit_form u)
+
+  abbrev rest : Program
+  rest = program_of (unit_forms (drop (i + 1) us))
+
+  split : TablesLeft all (here ∷ rest) es made
+  split = subst (λ (p : Program). TablesLeft all p es made) (parts_at us i u lt e) f
+
+  pub table_wide : IsWideFor here es
+  table_wide = split.wide.0
+
+  pub tables_next : (next : List Kept) → map rows_of next ≡ map rows_of made ++ tables_for (here ∷ []) es → TablesLeft all rest es next
+  tables_next next is = record {
+    done = ap (λ l. l ++ tables_for rest es) is ∙ append_assoc (map rows_of made) (tables_for (here ∷ []) es) (tables_for rest es)
+        ∙ ap (λ l. map rows_of made ++ l) (tables-cons here rest es) ∙ split.done;
+    wide = split.wide.1;
+  }
+
+pub tables_end : (all : Program) (us : List unit.Unit) (i : ℕ) (es : List Emitted) (made : List Kept) → length us ≤ i
+    → TablesLeft all (program_of (unit_forms (drop i us))) es made → map rows_of made ≡ tables_for all es
+tables_end all us i es made le f = sym (append-nil (map rows_of made)) ∙ ap (λ p. map rows_of made ++ tables_for p es) (sym (parts_none us i le)) ∙ f.done

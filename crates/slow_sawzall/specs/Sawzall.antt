@@ -1,0 +1,75 @@
+-- What the evaluator of Sawzall programs keeps, and what it needs of a program.
+use Rattle.std.specs.Prelude.{◌≡◌, ◌≤◌, ℕ, ℤ, pos, List, [], ◌∷◌, map, length, Option, Ok}
+use Rattle.std.specs.List.{AllByRecursion}
+use Rattle.work_code.specs.Steps.{Steps}
+use Rattle.kern_tables.specs.Tables.{tab, table_width}
+use Rattle.river_plan.specs.Forms.{Name}
+use Rattle.brooklet_model.specs.Machine.{at_name}
+use Rattle.text_forms.specs.Tree.{Spoken}
+use Rattle.saw_model.specs.Source.{Statement, Declare, Assign, Emit, If, Block, End, Then, Part, Table, Does, Program, tables_in, Values, Emitted, Now, listed, parts_of, does, rows_for}
+use Rattle.saw_model.specs.Elaborate.{At}
+use Rattle.saw_model.specs.Judged.{judged}
+use Rattle.saw_front.specs.Valued.{AreValues, AllValues}
+use Rattle.slow_sawzall.specs.declared.run.Run.{Run}
+
+-- the program has no fault
+abbrev pub IsAccepted : Program → Type 0
+IsAccepted p = (read : Steps × At) × (judged p ≡ Ok read)
+
+-- WHAT IS KEPT
+
+-- the values of names, of which the first that is listed counts; a name that is not listed has 0
+abbrev pub values_of : List (Name × ℤ) → Values
+values_of [] = λ n. pos 0
+values_of (e ∷ es) = at_name e.0 e.1 (values_of es)
+
+-- where the run stands
+abbrev pub now_of : Run → Now
+now_of run = record { values = values_of run.locals.items; emitted = run.emitted.items }
+
+-- what a unit does
+abbrev pub do_part : Part → List ℤ → Now → Now
+do_part (Table n k) r s = s
+do_part (Does c) r s = does c r s
+
+-- the tables of a program, of these rows
+abbrev pub tables_for : Program → List Emitted → List (List (List ℤ))
+tables_for p es = map (λ t. tab t.kind (rows_for t.name es)) (tables_in p)
+
+-- WHAT IS NEEDED
+
+-- the numbers of an emit are values, and it has at most 16 parts
+abbrev pub AreEmitted : List Spoken → Spoken → Option Spoken → Type 0
+AreEmitted is v w = AllValues is × AreValues v × AllValues (listed w) × (length (parts_of is v w) ≤ 16)
+
+abbrev mutual
+  pub IsRunnable : Statement → Type 0
+  IsRunnable (Declare n t) = AllValues (listed t)
+  IsRunnable (Assign n t) = AreValues t
+  IsRunnable (Emit t is v w) = AreEmitted is v w
+  IsRunnable (If t a b) = AreValues t × AreRunnable a × AreRunnable b
+
+  pub AreRunnable : Block → Type 0
+  AreRunnable End = Unit {0}
+  AreRunnable (Then c b) = IsRunnable c × AreRunnable b
+
+abbrev pub IsRunnablePart : Part → Type 0
+IsRunnablePart (Table n k) = Unit {0}
+IsRunnablePart (Does c) = IsRunnable c
+
+abbrev pub AreRunnableParts : Program → Type 0
+AreRunnableParts [] = Unit {0}
+AreRunnableParts (c ∷ ps) = IsRunnablePart c × AreRunnableParts ps
+
+-- each row has so many values
+abbrev pub AreWide : ℕ → List (List ℤ) → Type 0
+AreWide width rows = AllByRecursion (λ row. length row ≡ width) rows
+
+-- what was emitted to a table is as wide as its rows are
+abbrev pub IsWideFor : Part → List Emitted → Type 0
+IsWideFor (Table n k) es = AreWide (table_width k) (rows_for n es)
+IsWideFor (Does c) es = Unit {0}
+
+abbrev pub AreWideFor : Program → List Emitted → Type 0
+AreWideFor [] es = Unit {0}
+AreWideFor (c ∷ ps) es = IsWideFor c es × AreWideFor ps es

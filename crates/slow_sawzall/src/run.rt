@@ -1,0 +1,210 @@
+// What a Sawzall program does for a record, statement by statement.
+ghost use Rattle.std.specs.Prelude.{◌≡◌, [], ◌++◌, flat_map, length, IfOk, OnOk};
+ghost use Rattle.saw_model.specs.Source.{Declare, Assign, Emit, said_all, parts_of, listed, does, do_all, do_parts, emits};
+ghost use Rattle.saw_text.specs.Tree.{said, option_said, statement, block, or_end, unit_form, unit_forms, part_of, program_of};
+ghost use Rattle.saw_text.specs.View.{all_said, option_block};
+ghost use Rattle.saw_front.specs.Valued.{AreValues, AllValues};
+ghost use Rattle.slow_sawzall.specs.Sawzall.{values_of, now_of, do_part, AreEmitted, IsRunnable, AreRunnable, IsRunnablePart, AreRunnableParts};
+
+use crate::value::{first_value, set, value};
+use river_base::{Name, NoMemory, Row};
+use saw_text::{Block, Expr, Statement, Unit};
+use std::alloc::Global;
+
+/// Where the run stands: the values of the locals that were set for a record, and the rows that all records emitted so far,
+/// each with its table.
+#[derive(Drop)]
+pub struct Run {
+    pub locals: Vec<(Name, i64)>,
+    pub emitted: Vec<(Name, Row)>,
+}
+
+impl Run {
+    /// Before the first record.
+    pub fn new(alloc: Global) -> Run
+        ensures { result.emitted.items ≡ [] }
+    {
+        Run {
+            locals: Vec::new(alloc),
+            emitted: Vec::new(alloc),
+        }
+    }
+
+    /// What a program does for all records, one after another.
+    pub fn records(&mut self, alloc: Global, units: &[Unit], rows: &[Row]) -> Result<(), NoMemory>
+        requires { AreRunnableParts (program_of (unit_forms units.now)) }
+        ensures { OnOk result (self.new.emitted.items ≡ self.old.emitted.items ++ flat_map (emits (program_of (unit_forms units.now))) rows.now) }
+    {
+        for row in rows {
+            self.record(alloc, units, row)?;
+        }
+        Ok(())
+    }
+
+    // What it does for a record, with fresh locals.
+    fn record(&mut self, alloc: Global, units: &[Unit], row: &Row) -> Result<(), NoMemory>
+        requires { AreRunnableParts (program_of (unit_forms units.now)) }
+        ensures { OnOk result (self.new.emitted.items ≡ self.old.emitted.items ++ emits (program_of (unit_forms units.now)) row.now) }
+    {
+        self.locals.clear();
+        self.units(alloc, units, row)
+    }
+
+    // All units, one after another.
+    fn units(&mut self, alloc: Global, units: &[Unit], row: &Row) -> Result<(), NoMemory>
+        requires { AreRunnableParts (program_of (unit_forms units.now)) }
+        ensures { OnOk result (now_of self.new ≡ do_parts (program_of (unit_forms units.now)) row.now (now_of self.old)) }
+    {
+        for unit in units {
+            self.unit(alloc, unit, row)?;
+        }
+        Ok(())
+    }
+
+    // A unit; a table does nothing.
+    fn unit(&mut self, alloc: Global, unit: &Unit, row: &Row) -> Result<(), NoMemory>
+        requires { IsRunnablePart (part_of (unit_form unit.now)) }
+        ensures { OnOk result (now_of self.new ≡ do_part (part_of (unit_form unit.now)) row.now (now_of self.old)) }
+    {
+        match unit {
+            Unit::Table(_) => Ok(()),
+            Unit::Statement(statement) => self.statement(alloc, statement, row),
+        }
+    }
+
+    // The statements of a block.
+    #[cycle(statements)]
+    fn block(&mut self, alloc: Global, b: &Block, row: &Row) -> Result<(), NoMemory>
+        requires { AreRunnable (block b.now) }
+        ensures { OnOk result (now_of self.new ≡ do_all (block b.now) row.now (now_of self.old)) }
+    {
+        for s in b.statements.as_slice() {
+            self.statement(alloc, s, row)?;
+        }
+        Ok(())
+    }
+
+    // A statement.
+    #[cycle(statements)]
+    fn statement(&mut self, alloc: Global, s: &Statement, row: &Row) -> Result<(), NoMemory>
+        requires { IsRunnable (statement s.now) }
+        ensures { OnOk result (now_of self.new ≡ does (statement s.now) row.now (now_of self.old)) }
+    {
+        match s {
+            Statement::Declare { name, value } => self.declare(*name, value, row),
+            Statement::Assign { name, value } => self.assign(*name, value, row),
+            Statement::Emit {
+                table,
+                indexes,
+                value,
+                weight,
+            } => self.emit(alloc, *table, indexes.as_slice(), value, weight, row),
+            Statement::If { cond, yes, no } => {
+                if value(cond, row, self.locals.as_slice()) != 0 {
+                    self.block(alloc, yes, row)
+                } else {
+                    self.otherwise(alloc, no, row)
+                }
+            }
+        }
+    }
+
+    // The statements behind `else`, where it is written.
+    #[cycle(statements)]
+    fn otherwise(&mut self, alloc: Global, no: &Option<Block>, row: &Row) -> Result<(), NoMemory>
+        requires { AreRunnable (or_end (option_block no.now)) }
+        ensures { OnOk result (now_of self.new ≡ do_all (or_end (option_block no.now)) row.now (now_of self.old)) }
+    {
+        match no {
+            None => Ok(()),
+            Some(b) => self.block(alloc, b, row),
+        }
+    }
+
+    // A local is declared; without a value it is 0.
+    fn declare(&mut self, name: Name, first: &Option<Expr>, row: &Row) -> Result<(), NoMemory>
+        requires { AllValues (listed (option_said first.now)) }
+        ensures { OnOk result (now_of self.new ≡ does (Declare name (option_said first.now)) row.now (now_of self.old)) }
+    {
+        let start = first_value(first, row, self.locals.as_slice());
+        set(&mut self.locals, name, start)
+    }
+
+    // A local is set.
+    fn assign(&mut self, name: Name, e: &Expr, row: &Row) -> Result<(), NoMemory>
+        requires { AreValues (said e.now) }
+        ensures { OnOk result (now_of self.new ≡ does (Assign name (said e.now)) row.now (now_of self.old)) }
+    {
+        let next = value(e, row, self.locals.as_slice());
+        set(&mut self.locals, name, next)
+    }
+
+    // A row is emitted to a table.
+    fn emit(
+        &mut self,
+        alloc: Global,
+        table: Name,
+        indexes: &[Expr],
+        value: &Expr,
+        weight: &Option<Expr>,
+        row: &Row,
+    ) -> Result<(), NoMemory>
+        requires { AreEmitted (all_said indexes.now) (said value.now) (option_said weight.now) }
+        ensures { OnOk result (now_of self.new ≡ does (Emit table (all_said indexes.now) (said value.now) (option_said weight.now)) row.now (now_of self.old)) }
+    {
+        let made = emitted_row(alloc, indexes, value, weight, row, self.locals.as_slice())?;
+        self.emitted.push((table, made))?;
+        Ok(())
+    }
+}
+
+// The row of an emit: the indexes, the value, the weight.
+fn emitted_row(
+    alloc: Global,
+    indexes: &[Expr],
+    first: &Expr,
+    weight: &Option<Expr>,
+    row: &Row,
+    locals: &[(Name, i64)],
+) -> Result<Row, NoMemory>
+    requires { AreEmitted (all_said indexes.now) (said first.now) (option_said weight.now) }
+    ensures { IfOk result (λ made. made ≡ said_all (parts_of (all_said indexes.now) (said first.now) (option_said weight.now)) row.now (values_of locals.now)) }
+{
+    let mut values = Vec::new(alloc);
+    add_values(&mut values, indexes, row, locals)?;
+    values.push(value(first, row, locals))?;
+    add_weight(&mut values, weight, row, locals)?;
+    Ok(Row::from_slice(values.as_slice()))
+}
+
+// The value of a weight, where there is one, behind those that are there.
+fn add_weight(
+    values: &mut Vec<i64>,
+    weight: &Option<Expr>,
+    row: &Row,
+    locals: &[(Name, i64)],
+) -> Result<(), NoMemory>
+    requires { AllValues (listed (option_said weight.now)) }
+    ensures { OnOk result (values.new.items ≡ values.old.items ++ said_all (listed (option_said weight.now)) row.now (values_of locals.now)) }
+{
+    if let Some(weight) = weight {
+        values.push(value(weight, row, locals))?;
+    }
+    Ok(())
+}
+
+// The values of expressions, behind those that are there.
+fn add_values(
+    values: &mut Vec<i64>,
+    es: &[Expr],
+    row: &Row,
+    locals: &[(Name, i64)],
+) -> Result<(), NoMemory>
+    requires { AllValues (all_said es.now) }
+    ensures { OnOk result (values.new.items ≡ values.old.items ++ said_all (all_said es.now) row.now (values_of locals.now)) }
+{
+    for e in es {
+        values.push(value(e, row, locals))?;
+    }
+    Ok(())
+}

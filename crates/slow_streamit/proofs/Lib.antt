@@ -1,0 +1,4 @@
+pub mod Blocks
+pub mod Filters
+pub mod Rounds
+pub mod Streams

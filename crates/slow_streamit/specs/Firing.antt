@@ -1,0 +1,18 @@
+-- Where a firing of a filter stands, as the definition of its blocks has it.
+use Rattle.std.specs.Prelude.{ℤ, pos, Option, Some, None}
+use Rattle.indexmap.specs.IndexMap.{get}
+use Rattle.river_base.specs.Name.{name_eq}
+use Rattle.streamit_model.specs.Source as source
+use Rattle.slow_streamit.specs.declared.firing.Values.{Values}
+use Rattle.slow_streamit.specs.declared.firing.Firing.{Firing}
+
+-- a name that has no value stands for 0
+abbrev pub or_nought : Option ℤ → ℤ
+or_nought None = pos 0
+or_nought (Some z) = z
+
+abbrev pub values_of : Values → source.Values
+values_of v n = or_nought (get name_eq v.known n)
+
+abbrev pub now_of : Firing → source.Now
+now_of f = record { values = values_of f.values; popped = f.popped; pushed = f.pushed }
