@@ -1,6 +1,7 @@
 -- Firings of two kernels as one: their lists put together.
-use Rattle.std.proofs.Common.{◌≡◌, ℕ, ◌+◌, ◌-◌, ◌≤◌, ◌<◌, List, [], length, take, drop, refl, sym, ap, ◌∙◌, arith, ⊎_elim, get_or-set_other}
-use Rattle.std.specs.Prelude.{slice_set}
+use Rattle.std.proofs.Common.{◌≡◌, ℕ, ◌+◌, ◌-◌, ◌≤◌, ◌<◌, Ok, Err, List, [], length, take, drop, refl, sym, ap, ◌∙◌, arith, ⊎_elim, get_or-set_other}
+use Rattle.std.specs.Prelude.{OnOk, slice_set}
+use Rattle.std.specs.declared.result.Result.{Result}
 use Rattle.std.proofs.lemmas.Bool.{cases_lt}
 use Rattle.std.proofs.lemmas.List.{length-set}
 use Rattle.river_base.specs.declared.item.Item as item
@@ -9,7 +10,6 @@ use Rattle.river_base.proofs.PlaceLemmas.{if_lt, if_ge, each_grew_cong}
 use Rattle.river_kernels.specs.Kern.{Kern, fused}
 use Rattle.brooklet_model.specs.Firings.{splice, beside}
 use Rattle.brooklet_model.specs.Fire.{privates}
-use Rattle.brooklet_step.specs.declared.emit.Emit.{Emit}
 use Rattle.brooklet_step.specs.declared.state.State.{State}
 use Rattle.brooklet_step.specs.Took.{StayApart}
 
@@ -158,8 +158,7 @@ mine_is k a b at count st mine rest p = p.front ∙ ap (λ n. take n st) p.count
 pub rest_is : (k a b : Kern) (at count : ℕ) (st mine rest : List State) → Parts k a b at count st mine rest → rest ≡ drop (privates a) st
 rest_is k a b at count st mine rest p = p.back ∙ ap (λ n. drop n st) p.counted
 
--- the lists of the parts
-pub record Rooms (a b : Kern) (at : ℕ) (out mid last : Emit) : Type 0 where
-  pub place : at < length mid.outs
-  pub outs : length out.outs + 1 ≡ length mid.outs + length last.outs
-  pub adds : length out.adds ≡ length mid.adds + length last.adds
+-- two facts that hold where a call succeeded give a third
+pub result_both : {T E P Q R : Type 0} (r : Result T E) → (P → Q → R) → OnOk r P → OnOk r Q → OnOk r R
+result_both (Ok x) f p q = f p q
+result_both (Err e) f p q = tt

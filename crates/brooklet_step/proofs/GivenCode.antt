@@ -20,9 +20,9 @@ use Rattle.brooklet_model.proofs.Typing.{between_is}
 use Rattle.brooklet_step.specs.declared.emit.Emit.{Emit}
 use Rattle.brooklet_step.specs.declared.state.State.{State}
 use Rattle.brooklet_step.specs.Took.{Took, HasRoom, IsBlank}
-use Rattle.brooklet_step.specs.Given.{IsHeldBy, IsHeldOf, FitState, FiresAt, FiresEach, Does, CanTake, CanTakeAll}
+use Rattle.brooklet_step.specs.Given.{IsHeldBy, IsHeldOf, FitState, FiresAt, FiresEach, Does, CanTake, CanTakeAll, CanTakeOn, TookOn}
 use Rattle.brooklet_step.proofs.Fires.{grown_list, blank_room}
-use Rattle.brooklet_step.proofs.Fused.{Parts, Rooms, mine_is, rest_is}
+use Rattle.brooklet_step.proofs.Fused.{Parts, mine_is, rest_is}
 use Rattle.brooklet_step.proofs.GivenLemmas.{fit_length}
 use Rattle.brooklet_step.proofs.GivenFires.{each_start, each_step}
 use Rattle.brooklet_step.proofs.GivenParts.{came_room, packed_does, fused_does}
@@ -154,41 +154,44 @@ module _ (k a b : Kern) (at count port : ℕ) (x : item.Item) (st mine rest : Li
         room = blank_room b last0 bl;
       }
 
-      pub last_room : (rest' : List State) (last : Emit) → FiresEach b items last0 last rest rest' → HasRoom b last
-      last_room rest' last fl =
-          let d = fl.each (m ∷ []) t.fitting.fits.2 t.fitting.fits.4 t.fitting.fits.7 second_state items_held in
-          came_room b (m ∷ []) t.fitting.fits.2 t.fitting.fits.4 last0 last rest' (blank_room b last0 bl) d.came
-
-      pub rooms_of : (rest' : List State) (last : Emit) → FiresEach b items last0 last rest rest' → Rooms a b at out mid last
-      rooms_of rest' last fl =
-          let l = last_room rest' last fl in
-          let lo = l.outs in
-          let la = l.adds in
-          let fo = first_room.outs in
-          let fa = first_room.adds in
-          let ro = t.room.outs in
-          let ra = t.room.adds in
-          let lt = is_shaped.2 in
-          record { place = at_below; outs = omega (arith, lo, fo, ro, lt); adds = omega (arith, la, fa, ra) }
+    -- the second kernel can take what the first gave
+    pub on_of : CanTakeOn b at rest mid out
+    on_of =
+        let fo = first_room.outs in
+        let fa = first_room.adds in
+        let ro = t.room.outs in
+        let ra = t.room.adds in
+        let lt = is_shaped.2 in
+        record { place = at_below; outs = omega (arith, fo, ro, lt); adds = omega (arith, fa, ra); takes = λ blank bl. second_of blank (list_at mid.outs at) refl bl }
 
 pub first_taken : (k a b : Kern) (at count port : ℕ) (x : item.Item) (st mine rest : List State) (out mid0 : Emit) → Parts k a b at count st mine rest → CanTake k port x st out → IsBlank a mid0 → CanTake a port x mine mid0
 first_taken k a b at count port x st mine rest out mid0 p t bm = first_of k a b at count port x st mine rest out mid0 p t bm
 
-pub at_fits : (k a b : Kern) (at count port : ℕ) (x : item.Item) (st mine rest mine' : List State) (out mid0 mid : Emit) → Parts k a b at count st mine rest → CanTake k port x st out → IsBlank a mid0 → FiresAt a port x mid0 mid mine mine' → at < length mid.outs
-at_fits k a b at count port x st mine rest mine' out mid0 mid p t bm fm = at_below k a b at count port x st mine rest out mid0 p t bm mine' mid fm
+pub takes_on : (k a b : Kern) (at count port : ℕ) (x : item.Item) (st mine rest mine' : List State) (out mid0 mid : Emit) → Parts k a b at count st mine rest → CanTake k port x st out → IsBlank a mid0 → FiresAt a port x mid0 mid mine mine' → CanTakeOn b at rest mid out
+takes_on k a b at count port x st mine rest mine' out mid0 mid p t bm fm = on_of k a b at count port x st mine rest out mid0 p t bm mine' mid fm
 
-pub second_taken : (k a b : Kern) (at count port : ℕ) (x : item.Item) (st mine rest mine' : List State) (out mid0 mid last0 : Emit) (items : List item.Item) → Parts k a b at count st mine rest → CanTake k port x st out → IsBlank a mid0 → FiresAt a port x mid0 mid mine mine' → items ≡ list_at mid.outs at → IsBlank b last0 → CanTakeAll b items rest last0
-second_taken k a b at count port x st mine rest mine' out mid0 mid last0 items p t bm fm is bl = second_of k a b at count port x st mine rest out mid0 p t bm mine' mid fm last0 items is bl
+-- where a kernel fired on items one after another, there are still lists for what it gives
+each_room : (k : Kern) (is : List item.Item) (e e' : Emit) (st st' : List State) → CanTakeAll k is st e → FiresEach k is e e' st st' → HasRoom k e'
+each_room k is e e' st st' t f =
+    let d = f.each t.reads t.fitting.writes t.fitting.vars t.fitting.fits t.fitting.state t.items in
+    came_room k t.reads t.fitting.writes t.fitting.vars e e' st' t.room d.came
 
-pub rooms : (k a b : Kern) (at count port : ℕ) (x : item.Item) (st mine rest mine' rest' : List State) (out mid0 mid last0 last : Emit) (items : List item.Item) → Parts k a b at count st mine rest → CanTake k port x st out → IsBlank a mid0 → FiresAt a port x mid0 mid mine mine' → IsBlank b last0 → items ≡ list_at mid.outs at → FiresEach b items last0 last rest rest' → Rooms a b at out mid last
-rooms k a b at count port x st mine rest mine' rest' out mid0 mid last0 last items p t bm fm bl is fl = rooms_of k a b at count port x st mine rest out mid0 p t bm mine' mid fm last0 items is bl rest' last fl
-
-pub parts_fire : (k a b : Kern) (at count port : ℕ) (x : item.Item) (st mine rest mine' rest' : List State) (out new mid0 mid last0 last : Emit) (items : List item.Item) → Parts k a b at count st mine rest → CanTake k port x st out → IsBlank a mid0 → FiresAt a port x mid0 mid mine mine' → IsBlank b last0 → items ≡ list_at mid.outs at → FiresEach b items last0 last rest rest' → new.outs ≡ each_grew out.outs (splice at (length last.outs) (list_at mid.outs) (list_at last.outs)) → new.adds ≡ each_grew out.adds (beside (length mid.adds) (list_at mid.adds) (list_at last.adds)) → FiresAt k port x out new st (mine' ++ rest')
+parts_fire : (k a b : Kern) (at count port : ℕ) (x : item.Item) (st mine rest mine' rest' : List State) (out new mid0 mid last0 last : Emit) (items : List item.Item) → Parts k a b at count st mine rest → CanTake k port x st out → IsBlank a mid0 → FiresAt a port x mid0 mid mine mine' → IsBlank b last0 → items ≡ list_at mid.outs at → FiresEach b items last0 last rest rest' → new.outs ≡ each_grew out.outs (splice at (length last.outs) (list_at mid.outs) (list_at last.outs)) → new.adds ≡ each_grew out.adds (beside (length mid.adds) (list_at mid.adds) (list_at last.adds)) → FiresAt k port x out new st (mine' ++ rest')
 parts_fire k a b at count port x st mine rest mine' rest' out new mid0 mid last0 last items p t bm fm bl is fl eo ea =
     let fm' = subst (λ (l : List State). FiresAt a port x mid0 mid l mine') (mine_is k a b at count st mine rest p) fm in
     let fl' = subst (λ (l : List State). FiresEach b items last0 last l rest') (rest_is k a b at count st mine rest p) fl in
     let t' = subst (λ (j : Kern). CanTake j port x st out) p.kernel t in
     subst (λ (j : Kern). FiresAt j port x out new st (mine' ++ rest')) (sym p.kernel) (fused_does a b at port x st mine' rest' out new mid0 mid last0 last items t'.room bm fm' bl is fl' eo ea)
+
+pub second_room : (b : Kern) (at : ℕ) (st st' : List State) (mid out last0 last : Emit) (items : List item.Item) → CanTakeOn b at st mid out → IsBlank b last0 → items ≡ list_at mid.outs at → FiresEach b items last0 last st st' → HasRoom b last
+second_room b at st st' mid out last0 last items t bl is f =
+    let f' = subst (λ (l : List item.Item). FiresEach b l last0 last st st') is f in
+    each_room b (list_at mid.outs at) last0 last st st' (t.takes last0 bl) f'
+
+-- the first kernel fired, and then the second on what it gave
+pub both_fire : (k a b : Kern) (at count port : ℕ) (x : item.Item) (st mine rest mine' rest' : List State) (out new mid0 mid : Emit) → Parts k a b at count st mine rest → CanTake k port x st out → IsBlank a mid0 → FiresAt a port x mid0 mid mine mine' → TookOn b at mid out new rest rest' → FiresAt k port x out new st (mine' ++ rest')
+both_fire k a b at count port x st mine rest mine' rest' out new mid0 mid p t bm fm r =
+    parts_fire k a b at count port x st mine rest mine' rest' out new mid0 mid r.blank r.last (list_at mid.outs at) p t bm fm r.is_blank refl r.fires r.outs r.adds
 
 -- a kernel that fired can take another item of the same types
 pub takes_again : (k : Kern) (p q : ℕ) (i j : item.Item) (e e' : Emit) (st st' : List State) (t : CanTake k p i st e) → FiresAt k p i e e' st st' → IsHeldOf t.reads q j → CanTake k q j st' e'

@@ -1,5 +1,5 @@
 -- Firings after others: what a firing gives where what was received and given before it is known.
-use Rattle.std.specs.Prelude.{◌≡◌, ℕ, ℤ, ◌<◌, Option, Some, None, List, [], ◌∷◌, ◌++◌, All, length, take, drop, slice_get}
+use Rattle.std.specs.Prelude.{◌≡◌, ℕ, ℤ, ◌+◌, ◌<◌, Option, Some, None, List, [], ◌∷◌, ◌++◌, All, length, take, drop, slice_get}
 use Rattle.river_base.specs.declared.item.Item as item
 use Rattle.river_base.specs.declared.kind.QueueType.{QueueType}
 use Rattle.river_base.specs.Held.{held, IsHeld, IsAscending}
@@ -16,15 +16,15 @@ use Rattle.river_kernels.specs.declared.types.VarKind.{VarKind}
 use Rattle.river_kernels.specs.Fits.{Fits}
 use Rattle.river_kernels.specs.Types.{types_of}
 use Rattle.river_kernels.specs.Kern.{Kern, code, filter, duplicate, deal, collect, packed, unpack, window, select, project, cross, streamer, tally, fused}
-use Rattle.brooklet_model.specs.Firings.{Fired, feed}
-use Rattle.brooklet_model.specs.Fire.{fire, first_kept, privates}
+use Rattle.brooklet_model.specs.Firings.{Fired, feed, splice, beside}
+use Rattle.brooklet_model.specs.Fire.{fire, first_kept, privates, outs, tabs}
 use Rattle.brooklet_model.specs.Typed.{IsOf, between, widths_in, AreWide}
 use Rattle.brooklet_model.specs.Words.{Word, run, at_port, word_of}
 use Rattle.brooklet_step.specs.declared.emit.Emit.{Emit}
 use Rattle.brooklet_step.specs.declared.state.State.{State}
 use Rattle.brooklet_step.specs.declared.state.State.TheVariants as state
 use Rattle.brooklet_step.specs.Stands.{StandsFor}
-use Rattle.brooklet_step.specs.Took.{HasRoom}
+use Rattle.brooklet_step.specs.Took.{HasRoom, IsBlank}
 
 -- QUEUES AT PORTS
 
@@ -225,3 +225,22 @@ pub record CanTakeAll (k : Kern) (is : List item.Item) (st : List State) (out : 
   pub fitting : Fitting k reads st
   pub items : All (IsHeldOf reads 0) is
   pub room : HasRoom k out
+
+-- TWO KERNELS
+
+-- the second of two kernels can take what the first gave at port `at`, whatever empty lists there are for what it gives, and there
+-- is room for what both give
+pub record CanTakeOn (b : Kern) (at : ℕ) (st : List State) (mid out : Emit) : Type 0 where
+  pub place : at < length mid.outs
+  pub outs : length out.outs + 1 ≡ length mid.outs + outs b
+  pub adds : length out.adds ≡ length mid.adds + tabs b
+  pub takes : (blank : Emit) → IsBlank b blank → CanTakeAll b (list_at mid.outs at) st blank
+
+-- it fired on each of these items, and what both gave came to the lists
+pub record TookOn (b : Kern) (at : ℕ) (mid out new : Emit) (st st' : List State) : Type 0 where
+  pub blank : Emit
+  pub last : Emit
+  pub is_blank : IsBlank b blank
+  pub fires : FiresEach b (list_at mid.outs at) blank last st st'
+  pub outs : new.outs ≡ each_grew out.outs (splice at (length last.outs) (list_at mid.outs) (list_at last.outs))
+  pub adds : new.adds ≡ each_grew out.adds (beside (length mid.adds) (list_at mid.adds) (list_at last.adds))

@@ -1,10 +1,13 @@
 // One firing of a kernel.
-ghost use Rattle.std.specs.Prelude.{◌≡◌, ◌∷◌, [], ◌++◌, IfOk, OnOk};
+ghost use Rattle.std.specs.Prelude.{◌≡◌, ◌<◌, ◌∷◌, [], ◌++◌, length, IfOk, OnOk};
+ghost use Rattle.river_base.specs.declared.item.Item.TheVariants.{Pack};
 ghost use Rattle.river_base.specs.Held.{flats as flats_in};
+ghost use Rattle.river_base.specs.Places.{list_at};
 ghost use Rattle.river_kernels.specs.Kern.{kern_of, packed, fused};
 ghost use Rattle.brooklet_model.specs.Fire.{privates};
-ghost use Rattle.brooklet_step.specs.Took.{IsBlank};
-ghost use Rattle.brooklet_step.specs.Given.{CanTake, CanTakeAll, FiresAt, FiresEach};
+ghost use Rattle.brooklet_model.specs.Firings.{gives};
+ghost use Rattle.brooklet_step.specs.Took.{IsBlank, Took};
+ghost use Rattle.brooklet_step.specs.Given.{CanTake, CanTakeAll, CanTakeOn, FiresAt, FiresEach, TookOn};
 
 use crate::emit::Emit;
 use crate::single::{fire_leaf, is_leaf};
@@ -116,6 +119,15 @@ fn fire_packed(
 {
     let mut given = Emit::blank(alloc, 1, 0)?;
     fire_on(alloc, inner, port, item, states, &mut given)?;
+    give_pack(alloc, &mut given, out)
+}
+
+// The items of the first port, as one pack.
+fn give_pack(alloc: Global, given: &mut Emit, out: &mut Emit) -> Result<(), NoMemory>
+    requires given { 0 < length given.old.outs }
+    requires room { 0 < length out.old.outs }
+    ensures { OnOk result (Took out.old out.new (gives 0 (Pack (flats_in (list_at given.old.outs 0)) ∷ []) [])) }
+{
     let mut line = given.take_port(alloc, 0);
     let pack = flats_of(alloc, &mut line)?;
     out.give(0, Item::Pack(pack))?;
@@ -141,11 +153,26 @@ fn fire_fused(
     let (mine, rest) = states.split_at_mut(count);
     let mut mid = blank_for(alloc, first)?;
     fire_on(alloc, first, port, item, mine, &mut mid)?;
+    fire_second(alloc, second, at, rest, &mut mid, out)
+}
+
+// The second of two kernels fires on each item that the first gave at port `at`, and what both gave is put together.
+#[cycle(fire_on)]
+fn fire_second(
+    alloc: Global,
+    second: &Kernel,
+    at: u32,
+    states: &mut [State],
+    mid: &mut Emit,
+    out: &mut Emit,
+) -> Result<(), NoMemory>
+    requires { CanTakeOn (kern_of second.now) at states.old mid.old out.old }
+    ensures { OnOk result (TookOn (kern_of second.now) at mid.old out.old out.new states.old states.new) }
+{
     let mut last = blank_for(alloc, second)?;
     let mut between = mid.take_port(alloc, at as usize);
-    fire_each(alloc, second, &mut between, rest, &mut last)?;
-    out.splice(alloc, &mut mid, &mut last, at as usize)?;
-    Ok(())
+    fire_each(alloc, second, &mut between, states, &mut last)?;
+    out.splice(alloc, mid, &mut last, at as usize)
 }
 
 // A firing on each of these items, at the first port; none is left in the line.

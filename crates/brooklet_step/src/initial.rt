@@ -7,7 +7,7 @@ ghost use Rattle.brooklet_step.specs.Initial.{AreFirst, CanStart};
 ghost use Rattle.brooklet_step.specs.Tables.{kept_tables};
 
 use crate::machine::{Lines, Parts, Sizes, Tables};
-use crate::start::first_states;
+use crate::start::states_of;
 use crate::{Inputs, States};
 use kern_rows::Line;
 use kern_tables::Table;
@@ -109,7 +109,7 @@ fn all_states(alloc: Global, ops: &Ops) -> Result<Listed<States>, NoMemory>
 {
     let mut all = Listed::new(alloc);
     for op in ops.as_slice() {
-        let (states, _out) = first_states(alloc, &op.kernel)?;
+        let states = states_of(alloc, &op.kernel)?;
         all.push(states)?;
     }
     Ok(all)

@@ -1,16 +1,18 @@
 use Rattle.std.specs.Result.{OnOk}
 use Rattle.std.proofs.Common.{◌≡◌, ℤ, List, [], length, refl, sym, ap, ◌∙◌, subst, arith}
 use Rattle.std.proofs.lemmas.List.{length-set}
+use Rattle.std.proofs.lemmas.Result.{on_ok_weaker}
+use Rattle.river_base.specs.declared.item.Item as item
 use Rattle.river_base.specs.Places.{each_grew, list_at}
 use Rattle.river_kernels.specs.Kern.{kern_of, fused, packed}
 use Rattle.river_kernels.proofs.KernLemmas.{kern_of-fused}
 use Rattle.brooklet_model.specs.Firings.{beside}
-use Rattle.brooklet_step.specs.Given.{CanTake, FiresAt}
+use Rattle.brooklet_step.specs.Given.{CanTake, CanTakeAll, FiresAt, FiresEach}
 use Rattle.brooklet_step.proofs.Fires.{kern_of-packed}
 use Rattle.brooklet_step.proofs.Size.{size}
-use Rattle.brooklet_step.proofs.Fused.{Parts, spliced_taken}
+use Rattle.brooklet_step.proofs.Fused.{Parts, spliced_taken, result_both}
 use Rattle.brooklet_step.proofs.GivenFires.{leaf_applies, leaf_does}
-use Rattle.brooklet_step.proofs.GivenCode.{so_far_start, so_far_takes, so_far_step, packed_taken, packed_port, packed_whole, count_fits, first_taken, second_taken, at_fits, rooms, parts_fire}
+use Rattle.brooklet_step.proofs.GivenCode.{so_far_start, so_far_takes, so_far_step, packed_taken, packed_port, packed_whole, count_fits, first_taken, takes_on, second_room, both_fire}
 use Rattle.brooklet_step.proofs.firing.+fire_on.Goals as goal
 
 pub fire_each-loop-item-init : goal.fire_each-loop-item-init
@@ -71,8 +73,8 @@ fire_packed-fire_on-requires t c =
     let j = kern_of c.args.inner.now in
     (omega (arith, c.decreases), packed_taken (packed j) j j c.args.port c.args.item c.args.states.now c.args.out.now c.in_ok-given.given refl refl c.requires c.in_ok-given.ensures.outs c.in_ok-given.ensures.adds)
 
-pub fire_packed-take_port-line-requires : goal.fire_packed-take_port-line-requires
-fire_packed-take_port-line-requires t c =
+pub fire_packed-give_pack-requires-clause-given : goal.fire_packed-give_pack-requires-clause-given
+fire_packed-give_pack-requires-clause-given t c =
     let j = kern_of c.args.inner.now in
     let u = packed_taken (packed j) j j c.args.port c.args.item c.args.states.now c.args.out.now c.in_ok-given.given refl refl c.requires c.in_ok-given.ensures.outs c.in_ok-given.ensures.adds in
     packed_port j c.args.port c.args.item c.args.states.now c.fire_on.new.states c.args.out.now c.in_ok-given.given c.fire_on.new.out c.requires u c.in_ok-fire_on.ensures
@@ -80,7 +82,9 @@ fire_packed-take_port-line-requires t c =
 pub fire_packed-returns : goal.fire_packed-returns
 fire_packed-returns t c =
     let j = kern_of c.args.inner.now in
-    packed_whole (packed j) j j c.args.port c.args.item c.args.states.now c.fire_on.new.states c.args.out.now c.give.new.self c.in_ok-given.given c.fire_on.new.out c.take_port-line.result _ refl refl c.requires c.in_ok-given.ensures.outs c.in_ok-fire_on.ensures c.take_port-line.ensures.taken c.in_ok-pack.ensures c.in_ok-give.ensures
+    on_ok_weaker c.give_pack.result
+    (λ took. packed_whole (packed j) j j c.args.port c.args.item c.args.states.now c.fire_on.new.states c.args.out.now c.give_pack.new.out c.in_ok-given.given c.fire_on.new.out (list_at c.fire_on.new.out.outs 0) _ refl refl c.requires c.in_ok-given.ensures.outs c.in_ok-fire_on.ensures refl refl took)
+    c.give_pack.ensures
 
 pub fire_fused-split_at_mut-mine-requires : goal.fire_fused-split_at_mut-mine-requires
 fire_fused-split_at_mut-mine-requires t c =
@@ -101,8 +105,8 @@ fire_fused-fire_on-requires t c =
     let p : Parts k a b c.args.at count st mine rest = record { kernel = refl; counted = c.in_ok-count.ensures; front = c.split_at_mut-mine.ensures.front; back = c.split_at_mut-mine.ensures.back } in
     (omega (arith, c.decreases), first_taken k a b c.args.at count c.args.port c.args.item st mine rest c.args.out.now c.in_ok-mid.mid p c.requires c.in_ok-mid.ensures)
 
-pub fire_fused-take_port-between-requires : goal.fire_fused-take_port-between-requires
-fire_fused-take_port-between-requires t c =
+pub fire_fused-fire_second-requires : goal.fire_fused-fire_second-requires
+fire_fused-fire_second-requires t c =
     let a = kern_of c.args.first.now in
     let b = kern_of c.args.second.now in
     let k = fused a b c.args.at in
@@ -111,61 +115,7 @@ fire_fused-take_port-between-requires t c =
     let mine = c.split_at_mut-mine.result.0.now in
     let rest = c.split_at_mut-mine.result.1.now in
     let p : Parts k a b c.args.at count st mine rest = record { kernel = refl; counted = c.in_ok-count.ensures; front = c.split_at_mut-mine.ensures.front; back = c.split_at_mut-mine.ensures.back } in
-    at_fits k a b c.args.at count c.args.port c.args.item st mine rest c.fire_on.new.states c.args.out.now c.in_ok-mid.mid c.fire_on.new.out p c.requires c.in_ok-mid.ensures c.in_ok-fire_on.ensures
-
-pub fire_fused-fire_each-requires : goal.fire_fused-fire_each-requires
-fire_fused-fire_each-requires t c =
-    let a = kern_of c.args.first.now in
-    let b = kern_of c.args.second.now in
-    let k = fused a b c.args.at in
-    let count = c.in_ok-count.count in
-    let st = c.args.states.now in
-    let mine = c.split_at_mut-mine.result.0.now in
-    let rest = c.split_at_mut-mine.result.1.now in
-    let p : Parts k a b c.args.at count st mine rest = record { kernel = refl; counted = c.in_ok-count.ensures; front = c.split_at_mut-mine.ensures.front; back = c.split_at_mut-mine.ensures.back } in
-    (omega (arith, c.decreases), second_taken k a b c.args.at count c.args.port c.args.item st mine rest c.fire_on.new.states c.args.out.now c.in_ok-mid.mid c.fire_on.new.out c.in_ok-last.last c.take_port-between.result p c.requires c.in_ok-mid.ensures c.in_ok-fire_on.ensures c.take_port-between.ensures.taken c.in_ok-last.ensures)
-
-pub fire_fused-splice-requires-clause-place : goal.fire_fused-splice-requires-clause-place
-fire_fused-splice-requires-clause-place t c =
-    let a = kern_of c.args.first.now in
-    let b = kern_of c.args.second.now in
-    let k = fused a b c.args.at in
-    let count = c.in_ok-count.count in
-    let st = c.args.states.now in
-    let mine = c.split_at_mut-mine.result.0.now in
-    let rest = c.split_at_mut-mine.result.1.now in
-    let p : Parts k a b c.args.at count st mine rest = record { kernel = refl; counted = c.in_ok-count.ensures; front = c.split_at_mut-mine.ensures.front; back = c.split_at_mut-mine.ensures.back } in
-    let r = (rooms k a b c.args.at count c.args.port c.args.item st mine rest c.fire_on.new.states c.fire_each.new.states c.args.out.now c.in_ok-mid.mid c.fire_on.new.out c.in_ok-last.last c.fire_each.new.out c.take_port-between.result p c.requires c.in_ok-mid.ensures c.in_ok-fire_on.ensures c.in_ok-last.ensures c.take_port-between.ensures.taken c.in_ok-fire_each.ensures).place in
-    let m = ap length c.take_port-between.ensures.outs ∙ length-set c.fire_on.new.out.outs c.args.at [] in
-    omega (arith, r, m)
-
-pub fire_fused-splice-requires-clause-ports : goal.fire_fused-splice-requires-clause-ports
-fire_fused-splice-requires-clause-ports t c =
-    let a = kern_of c.args.first.now in
-    let b = kern_of c.args.second.now in
-    let k = fused a b c.args.at in
-    let count = c.in_ok-count.count in
-    let st = c.args.states.now in
-    let mine = c.split_at_mut-mine.result.0.now in
-    let rest = c.split_at_mut-mine.result.1.now in
-    let p : Parts k a b c.args.at count st mine rest = record { kernel = refl; counted = c.in_ok-count.ensures; front = c.split_at_mut-mine.ensures.front; back = c.split_at_mut-mine.ensures.back } in
-    let r = (rooms k a b c.args.at count c.args.port c.args.item st mine rest c.fire_on.new.states c.fire_each.new.states c.args.out.now c.in_ok-mid.mid c.fire_on.new.out c.in_ok-last.last c.fire_each.new.out c.take_port-between.result p c.requires c.in_ok-mid.ensures c.in_ok-fire_on.ensures c.in_ok-last.ensures c.take_port-between.ensures.taken c.in_ok-fire_each.ensures).outs in
-    let m = ap length c.take_port-between.ensures.outs ∙ length-set c.fire_on.new.out.outs c.args.at [] in
-    omega (arith, r, m)
-
-pub fire_fused-splice-requires-clause-tables : goal.fire_fused-splice-requires-clause-tables
-fire_fused-splice-requires-clause-tables t c =
-    let a = kern_of c.args.first.now in
-    let b = kern_of c.args.second.now in
-    let k = fused a b c.args.at in
-    let count = c.in_ok-count.count in
-    let st = c.args.states.now in
-    let mine = c.split_at_mut-mine.result.0.now in
-    let rest = c.split_at_mut-mine.result.1.now in
-    let p : Parts k a b c.args.at count st mine rest = record { kernel = refl; counted = c.in_ok-count.ensures; front = c.split_at_mut-mine.ensures.front; back = c.split_at_mut-mine.ensures.back } in
-    let r = (rooms k a b c.args.at count c.args.port c.args.item st mine rest c.fire_on.new.states c.fire_each.new.states c.args.out.now c.in_ok-mid.mid c.fire_on.new.out c.in_ok-last.last c.fire_each.new.out c.take_port-between.result p c.requires c.in_ok-mid.ensures c.in_ok-fire_on.ensures c.in_ok-last.ensures c.take_port-between.ensures.taken c.in_ok-fire_each.ensures).adds in
-    let m = ap length c.take_port-between.ensures.adds in
-    omega (arith, r, m)
+    (omega (arith, c.decreases), takes_on k a b c.args.at count c.args.port c.args.item st mine rest c.fire_on.new.states c.args.out.now c.in_ok-mid.mid c.fire_on.new.out p c.requires c.in_ok-mid.ensures c.in_ok-fire_on.ensures)
 
 pub fire_fused-returns : goal.fire_fused-returns
 fire_fused-returns t c =
@@ -177,8 +127,48 @@ fire_fused-returns t c =
     let mine = c.split_at_mut-mine.result.0.now in
     let rest = c.split_at_mut-mine.result.1.now in
     let p : Parts k a b c.args.at count st mine rest = record { kernel = refl; counted = c.in_ok-count.ensures; front = c.split_at_mut-mine.ensures.front; back = c.split_at_mut-mine.ensures.back } in
-    let mid = c.fire_on.new.out in
+    on_ok_weaker c.fire_second.result
+    (λ r. both_fire k a b c.args.at count c.args.port c.args.item st mine rest c.fire_on.new.states c.fire_second.new.states c.args.out.now c.fire_second.new.out c.in_ok-mid.mid c.fire_on.new.out p c.requires c.in_ok-mid.ensures c.in_ok-fire_on.ensures r)
+    c.fire_second.ensures
+
+pub fire_second-take_port-between-requires : goal.fire_second-take_port-between-requires
+fire_second-take_port-between-requires t c = c.requires.place
+
+pub fire_second-fire_each-requires : goal.fire_second-fire_each-requires
+fire_second-fire_each-requires t c =
+    (omega (arith, c.decreases), subst (λ (l : List item.Item). CanTakeAll (kern_of c.args.second.now) l c.args.states.now c.in_ok-last.last) (sym c.take_port-between.ensures.taken) (c.requires.takes c.in_ok-last.last c.in_ok-last.ensures))
+
+pub fire_second-splice-requires-clause-place : goal.fire_second-splice-requires-clause-place
+fire_second-splice-requires-clause-place t c =
+    let r = c.requires.place in
+    let m = ap length c.take_port-between.ensures.outs ∙ length-set c.args.mid.now.outs c.args.at [] in
+    omega (arith, r, m)
+
+pub fire_second-splice-requires-clause-ports : goal.fire_second-splice-requires-clause-ports
+fire_second-splice-requires-clause-ports t c =
+    let r = c.requires.outs in
+    let l = (second_room (kern_of c.args.second.now) c.args.at c.args.states.now c.fire_each.new.states c.args.mid.now c.args.out.now c.in_ok-last.last c.fire_each.new.out c.take_port-between.result c.requires c.in_ok-last.ensures c.take_port-between.ensures.taken c.in_ok-fire_each.ensures).outs in
+    let m = ap length c.take_port-between.ensures.outs ∙ length-set c.args.mid.now.outs c.args.at [] in
+    omega (arith, r, l, m)
+
+pub fire_second-splice-requires-clause-tables : goal.fire_second-splice-requires-clause-tables
+fire_second-splice-requires-clause-tables t c =
+    let r = c.requires.adds in
+    let l = (second_room (kern_of c.args.second.now) c.args.at c.args.states.now c.fire_each.new.states c.args.mid.now c.args.out.now c.in_ok-last.last c.fire_each.new.out c.take_port-between.result c.requires c.in_ok-last.ensures c.take_port-between.ensures.taken c.in_ok-fire_each.ensures).adds in
+    let m = ap length c.take_port-between.ensures.adds in
+    omega (arith, r, l, m)
+
+pub fire_second-returns : goal.fire_second-returns
+fire_second-returns t c =
+    let mid = c.args.mid.now in
     let last = c.fire_each.new.out in
-    parts_fire k a b c.args.at count c.args.port c.args.item st mine rest c.fire_on.new.states c.fire_each.new.states c.args.out.now c.splice.new.self c.in_ok-mid.mid mid c.in_ok-last.last last c.take_port-between.result p c.requires c.in_ok-mid.ensures c.in_ok-fire_on.ensures c.in_ok-last.ensures c.take_port-between.ensures.taken c.in_ok-fire_each.ensures
-    (spliced_taken c.args.at (length last.outs) c.args.out.now.outs c.splice.new.self.outs mid.outs c.take_port-between.new.self.outs (list_at last.outs) c.take_port-between.ensures.outs c.in_ok-splice.ensures.outs)
-    (c.in_ok-splice.ensures.adds ∙ ap (λ (l : List (List (List ℤ))). each_grew c.args.out.now.adds (beside (length l) (list_at l) (list_at last.adds))) c.take_port-between.ensures.adds)
+    result_both c.splice.result
+    (λ eo ea. record {
+      blank = c.in_ok-last.last;
+      last = last;
+      is_blank = c.in_ok-last.ensures;
+      fires = subst (λ (l : List item.Item). FiresEach (kern_of c.args.second.now) l c.in_ok-last.last last c.args.states.now c.fire_each.new.states) c.take_port-between.ensures.taken c.in_ok-fire_each.ensures;
+      outs = spliced_taken c.args.at (length last.outs) c.args.out.now.outs c.splice.new.self.outs mid.outs c.take_port-between.new.self.outs (list_at last.outs) c.take_port-between.ensures.outs eo;
+      adds = ea ∙ ap (λ (l : List (List (List ℤ))). each_grew c.args.out.now.adds (beside (length l) (list_at l) (list_at last.adds))) c.take_port-between.ensures.adds;
+    })
+    c.splice.ensures.outs c.splice.ensures.adds
