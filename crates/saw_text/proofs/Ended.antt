@@ -3,8 +3,8 @@ use Rattle.std.proofs.Common.{◌≡◌, ℕ, ◌+◌, List, [], ◌∷◌, ◌+
 use Rattle.work_code.specs.Tok.{Tok}
 use Rattle.text_forms.specs.Parse.{Parse, nothing_at}
 use Rattle.text_forms.specs.Texts.{at_end, ended, whole, put_first, after_unit, read_units, AllFormed, IsFirstBad, state_after}
-use Rattle.text_forms.proofs.Pairs.{some_inj, pair_inj}
-use Rattle.text_forms.proofs.Exact.{Exact, Front}
+use Rattle.text_forms.proofs.Pairs.{some_inj}
+use Rattle.text_forms.proofs.Exact.{Exact}
 
 -- a whole unit
 module _ {A : Type 0} {F : A → List Tok → Type 0} {p : Parse A} {E : List Tok → Type 0} (end : E []) (x : Exact F p E) where

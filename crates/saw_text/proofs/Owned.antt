@@ -1,5 +1,5 @@
 -- The steps by which expressions are read, with names of their own.
-use Rattle.std.proofs.Common.{◌≡◌, ℕ, List, Bool, true, false, Option, Some, None, refl}
+use Rattle.std.proofs.Common.{◌≡◌, ℕ, List, true, false, Some, None, refl}
 use Rattle.std.proofs.lemmas.Bool.{and_parts}
 use Rattle.work_code.specs.Tok.{Tok}
 use Rattle.text_forms.specs.declared.language.Language.TheVariants.{Sawzall}

@@ -1,19 +1,17 @@
 -- The reading of units is exact.
-use Rattle.std.proofs.Common.{◌≡◌, ℕ, List, [], ◌∷◌, ◌++◌, Bool, true, false, Option, Some, None, refl, sym, ap, ◌∙◌}
+use Rattle.std.proofs.Common.{◌≡◌, ℕ, List, [], ◌∷◌, true, false, refl}
 use Rattle.std.specs.Prelude.{codes}
 use Rattle.std.specs.Str.{bytes_eq}
-use Rattle.work_code.specs.Tok.{Tok}
 use Rattle.work_code.specs.declared.sign.Symbol.TheVariants as s
 use Rattle.text_forms.specs.Parse as parse
 use Rattle.text_forms.specs.Forms as form
 use Rattle.text_forms.proofs.Exact.{Exact, Any, exact-less, exact-both, exact-after, exact-before, exact-after_word, exact-tested, exact-seen, exact-merged, exact-maybe, exact-number, exact-nothing}
 use Rattle.text_forms.proofs.Many.{exact-many}
 use Rattle.text_forms.proofs.Choices.{exact-never, exact-choose, exact-headed}
-use Rattle.saw_text.specs.declared.tree.Field.{Field}
 use Rattle.saw_text.specs.declared.tree.Kind.TheVariants.{Sum, Collection, Maximum}
 use Rattle.saw_text.specs.Tree.{ATable, AStatement}
-use Rattle.saw_text.specs.Grammar.{is_user, Count, Round, Square, IsBlock, nameless, with_name, FieldAfter, IsField, KindAfter, IsKind, is_fitting, made_table, InTable, IsTable, TypedAfter, UnitNamed, UnitAfter, IsUnit, IsUnitAt}
-use Rattle.saw_text.specs.Reading.{branch_at, if_at, no_bracket, named_field_at, field_after, field_at, column_at, columns_at, best_at, kind_after, kind_at, weight_field_at, in_table_at, table_at, typed_after, typed_at, unit_named, unit_after, unit_at, unit_from}
+use Rattle.saw_text.specs.Grammar.{is_user, Count, Round, Square, nameless, with_name, IsField, IsKind, is_fitting, made_table, IsTable, TypedAfter, UnitNamed, IsUnit, IsUnitAt}
+use Rattle.saw_text.specs.Reading.{branch_at, no_bracket, named_field_at, field_after, field_at, column_at, columns_at, best_at, kind_after, kind_at, weight_field_at, in_table_at, table_at, typed_after, typed_at, unit_named, unit_after, unit_at, unit_from}
 use Rattle.saw_text.proofs.Statements.{exact-round, exact-square, exact-declare, exact-assign, listed-squares, NoElse, exact-if, exact-stmt_after, exact-block}
 
 exact-named_field : (w : List ℕ) → Exact (form.Seen (with_name w) (form.After (s.Colon ∷ []) (form.AfterWord (codes "int") (form.Nothing tt)))) (named_field_at w) Any

@@ -1,18 +1,22 @@
 -- The steps by which code reads whole units, one behind the other.
-use Rattle.std.proofs.Common.{◌≡◌, ℕ, ◌<◌, ◌≤◌, ◌+◌, List, [], ◌∷◌, ◌++◌, length, drop, get_or, Some, None, Result, Ok, Err, refl, sym, ap, ◌∙◌, append_assoc, append-nil, arith}
-use Rattle.std.specs.Prelude.{map}
+use Rattle.std.proofs.Common.{◌≡◌, ℕ, ◌<◌, ◌≤◌, ◌+◌, List, [], ◌∷◌, ◌++◌, length, drop, get_or, Some, None, Result, Ok, Err, Bool, true, false, cond, refl, sym, ap, ◌∙◌, subst, append_assoc, append-nil}
+use Rattle.std.specs.Prelude.{map, ◌↔◌}
 use Rattle.std.specs.Borrow.{Bor}
 use Rattle.std.proofs.lemmas.List.{drop_more, drop_all}
 use Rattle.work_code.specs.Cut.{unit_tokens}
 use Rattle.work_code.specs.Tok.{Tok}
 use Rattle.work_code.specs.declared.token.Lexeme.{Lexeme}
 use Rattle.text_forms.specs.Texts.{whole, after_unit, put_first, read_units}
-use Rattle.saw_text.specs.Tree.{UnitForm}
+use Rattle.text_forms.specs.declared.fault.Fault.{Fault}
+use Rattle.text_forms.specs.declared.fault.Fault.TheVariants.{Syntax}
+use Rattle.saw_text.specs.declared.tree.Unit as made
+use Rattle.saw_text.specs.Tree.{UnitForm, unit_form}
+use Rattle.saw_text.specs.View.{Makes}
 use Rattle.saw_text.specs.Grammar.{next_unit}
 use Rattle.saw_text.specs.Reading.{unit_at, unit_from}
 
-pub whole-none : (ts : List Tok) → unit_at ts ≡ None → whole unit_at ts ≡ None
-whole-none ts e = rw e refl
+pub whole_none : (ts : List Tok) → unit_at ts ≡ None → whole unit_at ts ≡ None
+whole_none ts e = rw e refl
 
 pub whole-all : (ts : List Tok) (d : UnitForm) → unit_at ts ≡ Some (d, []) → whole unit_at ts ≡ Some d
 whole-all ts d e = rw e refl
@@ -22,7 +26,15 @@ pub whole-more : (ts rest : List Tok) (d : UnitForm) → unit_at ts ≡ Some (d,
 whole-more ts [] d read more = absurd (more refl)
 whole-more ts (t ∷ rest) d read more = rw read refl
 
-pub ruleset wholes = (whole-none, whole-all, whole-more)
+-- a unit is given where no token is left behind it
+pub whole-kept : (ts rest : List Tok) (x : made.Unit) (end : Bool) (r : Result made.Unit Fault) → unit_at ts ≡ Some (unit_form x, rest) → (end ≡ true) ↔ (rest ≡ [])
+    → r ≡ cond end (Ok x) (Err Syntax) → Makes unit_form r (whole unit_at ts)
+whole-kept ts rest x true r read end is =
+    subst (λ q. Makes unit_form q (whole unit_at ts)) (sym is) (whole-all ts (unit_form x) (read ∙ ap (λ l. Some (unit_form x, l)) (end.0 refl)))
+whole-kept ts rest x false r read end is =
+    subst (λ q. Makes unit_form q (whole unit_at ts)) (sym is) (whole-more ts rest (unit_form x) read (λ e. never (end.1 e))) where
+      never : false ≡ true → ⊥
+      never e = cc
 
 -- the units from the one with this number on
 abbrev pub units_from : ℕ → List (List Tok) → Result (List UnitForm) ℕ

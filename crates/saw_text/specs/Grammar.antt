@@ -1,6 +1,6 @@
 -- The grammar of Sawzall, line by line (Sawzall of Pike, Dorward, Griesemer and Quinlan, cut to whole numbers and the tables `sum`,
 -- `collection` and `maximum`). `n` is how many more brackets may be open.
-use Rattle.std.specs.Prelude.{◌≡◌, ℕ, zero, suc, ◌&&◌, ◌==◌, Bool, true, false, not, List, [], ◌∷◌, Option, Some, None, Ok, codes, is_some, if◌then◌else◌}
+use Rattle.std.specs.Prelude.{◌≡◌, ℕ, zero, suc, ◌&&◌, Bool, true, false, not, List, [], ◌∷◌, Option, Some, None, Ok, codes, is_some, if◌then◌else◌}
 use Rattle.std.specs.Str.{bytes_eq}
 use Rattle.river_base.specs.Name.{is_name}
 use Rattle.work_code.specs.Cut.{units_of}

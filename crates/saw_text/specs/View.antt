@@ -1,7 +1,7 @@
 -- How the code's answers stand to what is read.
 use Rattle.std.specs.Prelude.{◌≡◌, List, Option, None, Some, Result, Ok, Err, map, IsTrue}
-use Rattle.std.proofs.Common.{Vec, Global}
 use Rattle.river_base.specs.Name.{is_name}
+use Rattle.work_code.specs.Tok.{Tok}
 use Rattle.text_forms.specs.Tree.{Spoken}
 use Rattle.text_forms.specs.Tree as tree
 use Rattle.text_forms.specs.declared.fault.Fault.{Fault}
@@ -16,6 +16,12 @@ abbrev pub Makes : {X A : Type 0} → (X → A) → Result X Fault → Option A 
 Makes view (Ok x) made = made ≡ Some (view x)
 Makes view (Err Syntax) made = made ≡ None
 Makes view (Err NoMemory) made = Unit {0}
+
+-- the value is given back where the symbol comes, and the reader passes over it
+abbrev pub Keeps : {X : Type 0} → X → Result X Fault → List Tok → Option (List Tok) → Type 0
+Keeps x (Ok y) rest read = (y ≡ x) × (read ≡ Some rest)
+Keeps x (Err Syntax) rest read = read ≡ None
+Keeps x (Err NoMemory) rest read = Unit {0}
 
 abbrev pub all_said : List Expr → List Spoken
 all_said es = map said es

@@ -1,6 +1,7 @@
 //! Sawzall programs as they are written: the grammar, and the code that reads programs from tokens.
 #![tactic(auto)]
 
+mod end;
 mod fault;
 pub mod laws;
 mod read;

@@ -5,6 +5,7 @@ ghost use Rattle.saw_text.specs.Reading.{first_value_at, declare_at, assign_at, 
 ghost use Rattle.saw_text.specs.Tree.{said, option_said, statement, block};
 ghost use Rattle.saw_text.specs.View.{all_said, option_block};
 
+use crate::end::{closed, is};
 use crate::term::{ended, index, round_term, term, user, user_name};
 use crate::{Block, Expr, Statement};
 use river_base::Name;
@@ -35,8 +36,11 @@ pub fn declare(
     ensures { Gives statement result reader.new (declare_at name brackets reader.old) }
 {
     let value = first_value(reader, alloc, brackets)?;
-    reader.expect(&[Symbol::Semicolon])?;
-    Ok(Statement::Declare { name, value })
+    closed(
+        reader,
+        Statement::Declare { name, value },
+        Symbol::Semicolon,
+    )
 }
 
 /// What stands behind the name of an assignment.
@@ -88,13 +92,13 @@ fn emit(reader: &mut Reader<'_>, alloc: Global, brackets: u32) -> Result<Stateme
     reader.expect(&[Symbol::Less, Symbol::Minus])?;
     let value = term(reader, alloc, brackets)?;
     let weight = weight(reader, alloc, brackets)?;
-    reader.expect(&[Symbol::Semicolon])?;
-    Ok(Statement::Emit {
+    let emit = Statement::Emit {
         table,
         indexes,
         value,
         weight,
-    })
+    };
+    closed(reader, emit, Symbol::Semicolon)
 }
 
 // What stands behind the name of a local.
@@ -142,10 +146,10 @@ pub fn stmt_after(
 ) -> Result<Statement, Fault>
     ensures { Gives statement result reader.new (stmt_after (branch_at nest brackets) brackets word.now reader.old) }
 {
-    if word == b"emit".as_slice() {
+    if is(word, b"emit") {
         return emit(reader, alloc, brackets);
     }
-    if word == b"if".as_slice() {
+    if is(word, b"if") {
         return branch(reader, alloc, nest, brackets);
     }
     match user(word) {
@@ -200,8 +204,7 @@ fn block(reader: &mut Reader<'_>, alloc: Global, nest: u32, brackets: u32) -> Re
 {
     let inner = reader.opens(Symbol::OpenBrace, brackets)?;
     let block = stmts(reader, alloc, nest, inner)?;
-    reader.expect(&[Symbol::CloseBrace])?;
-    Ok(block)
+    closed(reader, block, Symbol::CloseBrace)
 }
 
 // Statements up to a closing brace.

@@ -5,6 +5,7 @@ ghost use Rattle.saw_text.specs.Grammar.{is_maximum};
 ghost use Rattle.saw_text.specs.Reading.{named_field_at, field_after, field_at, column_at, columns_at, best_at, kind_after, kind_at, weight_field_at, in_table_at, table_at};
 ghost use Rattle.saw_text.specs.Tree.{table_form};
 
+use crate::end::{closed, is};
 use crate::term::user;
 use crate::{Field, Kind, Table};
 use river_base::Name;
@@ -27,7 +28,7 @@ fn named_field(reader: &mut Reader<'_>, name: Name) -> Result<Field, Fault>
 fn field_after(reader: &mut Reader<'_>, word: &[u8]) -> Result<Field, Fault>
     ensures { Gives (λ f. f) result reader.new (field_after word.now reader.old) }
 {
-    if word == b"int".as_slice() {
+    if is(word, b"int") {
         return Ok(Field { name: None });
     }
     match user(word) {
@@ -76,8 +77,7 @@ fn best(reader: &mut Reader<'_>, brackets: u32) -> Result<u32, Fault>
 {
     reader.opens(Symbol::Open, brackets)?;
     let best = reader.count()?;
-    reader.expect(&[Symbol::Close])?;
-    Ok(best)
+    closed(reader, best, Symbol::Close)
 }
 
 // What stands behind this word for a kind.
@@ -85,13 +85,13 @@ fn best(reader: &mut Reader<'_>, brackets: u32) -> Result<u32, Fault>
 fn kind_after(reader: &mut Reader<'_>, brackets: u32, word: &[u8]) -> Result<Kind, Fault>
     ensures { Gives (λ k. k) result reader.new (kind_after brackets word.now reader.old) }
 {
-    if word == b"sum".as_slice() {
+    if is(word, b"sum") {
         return Ok(Kind::Sum);
     }
-    if word == b"collection".as_slice() {
+    if is(word, b"collection") {
         return Ok(Kind::Collection);
     }
-    if word == b"maximum".as_slice() {
+    if is(word, b"maximum") {
         return Ok(Kind::Maximum(best(reader, brackets)?));
     }
     Err(Fault::Syntax)
@@ -143,14 +143,14 @@ fn in_table(
     reader.word(b"of")?;
     let value = field(reader)?;
     let weight = weight_field(reader)?;
-    reader.expect(&[Symbol::Semicolon])?;
-    Ok(Table {
+    let table = Table {
         name,
         kind,
         indexes,
         value,
         weight,
-    })
+    };
+    closed(reader, table, Symbol::Semicolon)
 }
 
 /// What stands behind `NAME: table`.

@@ -8,6 +8,7 @@ ghost use Rattle.saw_text.specs.Tree.{said};
 ghost use Rattle.saw_text.specs.View.{IsOwn};
 
 use crate::Expr;
+use crate::end::closed;
 use river_base::{Name, NoMemory};
 use std::alloc::Global;
 use text_forms::{Fault, Language, Reader, Tree};
@@ -50,7 +51,17 @@ fn is_written(tree: &Tree<'_>) -> bool
     }
 }
 
+// The expression with names of its own, in a box.
+#[cycle(owned)]
+fn boxed(alloc: Global, tree: &Tree<'_>) -> Result<Box<Expr>, NoMemory>
+    requires { IsOwn (spoken tree.now) }
+    ensures { IfOk result (λ boxed. said boxed.value ≡ spoken tree.now) }
+{
+    Ok(Box::new(alloc, owned(alloc, tree)?)?)
+}
+
 // The expression with names of its own.
+#[cycle(owned)]
 fn owned(alloc: Global, tree: &Tree<'_>) -> Result<Expr, NoMemory>
     requires { IsOwn (spoken tree.now) }
     ensures { IfOk result (λ e. said e ≡ spoken tree.now) }
@@ -63,21 +74,15 @@ fn owned(alloc: Global, tree: &Tree<'_>) -> Result<Expr, NoMemory>
         },
         Tree::Input(place) => Ok(Expr::Input(*place)),
         Tree::Slot(_) | Tree::Peek(_) | Tree::Pop => unreachable!(),
-        Tree::Neg(inner) => {
-            let inner = owned(alloc, inner)?;
-            Ok(Expr::Neg(Box::new(alloc, inner)?))
-        }
-        Tree::Not(inner) => {
-            let inner = owned(alloc, inner)?;
-            Ok(Expr::Not(Box::new(alloc, inner)?))
-        }
+        Tree::Neg(inner) => Ok(Expr::Neg(boxed(alloc, inner)?)),
+        Tree::Not(inner) => Ok(Expr::Not(boxed(alloc, inner)?)),
         Tree::Bin { op, left, right } => {
-            let left = owned(alloc, left)?;
-            let right = owned(alloc, right)?;
+            let left = boxed(alloc, left)?;
+            let right = boxed(alloc, right)?;
             Ok(Expr::Bin {
                 op: *op,
-                left: Box::new(alloc, left)?,
-                right: Box::new(alloc, right)?,
+                left,
+                right,
             })
         }
     }
@@ -101,8 +106,7 @@ pub fn ended(reader: &mut Reader<'_>, alloc: Global, brackets: u32) -> Result<Ex
     ensures { Gives said result reader.new (ended_at brackets reader.old) }
 {
     let term = term(reader, alloc, brackets)?;
-    reader.expect(&[Symbol::Semicolon])?;
-    Ok(term)
+    closed(reader, term, Symbol::Semicolon)
 }
 
 /// `(e)`
@@ -112,8 +116,7 @@ pub fn round_term(reader: &mut Reader<'_>, alloc: Global, brackets: u32) -> Resu
 {
     let inner = reader.opens(Symbol::Open, brackets)?;
     let term = term(reader, alloc, inner)?;
-    reader.expect(&[Symbol::Close])?;
-    Ok(term)
+    closed(reader, term, Symbol::Close)
 }
 
 /// `[e]`
@@ -123,6 +126,5 @@ pub fn index(reader: &mut Reader<'_>, alloc: Global, brackets: u32) -> Result<Ex
 {
     let inner = reader.opens(Symbol::OpenBracket, brackets)?;
     let term = term(reader, alloc, inner)?;
-    reader.expect(&[Symbol::CloseBracket])?;
-    Ok(term)
+    closed(reader, term, Symbol::CloseBracket)
 }

@@ -8,6 +8,7 @@ ghost use Rattle.saw_text.specs.Tree.{unit_form};
 ghost use Rattle.saw_text.specs.View.{Makes};
 
 use crate::Unit;
+use crate::end::{is, kept};
 use crate::statement::{assign, declare, stmt_after};
 use crate::table::table;
 use crate::term::user;
@@ -27,10 +28,10 @@ fn typed_after(
 ) -> Result<Unit, Fault>
     ensures { Gives unit_form result reader.new (typed_after name brackets word.now reader.old) }
 {
-    if word == b"table".as_slice() {
+    if is(word, b"table") {
         return Ok(Unit::Table(table(reader, alloc, brackets, name)?));
     }
-    if word == b"int".as_slice() {
+    if is(word, b"int") {
         return Ok(Unit::Statement(declare(reader, alloc, brackets, name)?));
     }
     Err(Fault::Syntax)
@@ -83,14 +84,12 @@ fn unit(reader: &mut Reader<'_>, alloc: Global) -> Result<Unit, Fault>
 }
 
 /// The unit that whole tokens stand for.
-#[tactic(auto, using(crate::proofs::Wholes::wholes))]
+#[tactic(auto, using(crate::proofs::Wholes::whole_none))]
 pub fn whole_unit(alloc: Global, tokens: &[Lexeme<'_>]) -> Result<Unit, Fault>
     ensures { Makes unit_form result (whole unit_at (tokens_of tokens.now)) }
 {
     let mut reader = Reader::new(tokens);
     let unit = unit(&mut reader, alloc)?;
-    if !reader.is_at_end() {
-        return Err(Fault::Syntax);
-    }
-    Ok(unit)
+    let whole = reader.is_at_end();
+    kept(unit, whole)
 }
