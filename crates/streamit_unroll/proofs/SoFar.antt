@@ -1,5 +1,5 @@
 -- Statements that were read so far, and those that are read after them.
-use Rattle.std.proofs.Common.{◌≡◌, ℕ, suc, ◌+◌, ◌-◌, ◌<◌, ◌≤◌, List, [], ◌∷◌, ◌++◌, length, take, drop, map, get_or, Bool, true, Result, Ok, Err, refl, sym, ap, ◌∙◌, subst, arith, append_assoc, append-nil, drop-cons, add-one, Option}
+use Rattle.std.proofs.Common.{◌≡◌, ℕ, suc, ◌+◌, ◌-◌, ◌<◌, ◌≤◌, List, [], ◌∷◌, ◌++◌, length, take, drop, map, get_or, Bool, true, Result, Ok, Err, refl, sym, ap, ◌∙◌, subst, arith, append_assoc, append-nil, drop-cons, add-one}
 use Rattle.work_code.specs.declared.code.Stmt.{Stmt}
 use Rattle.work_code.specs.declared.code.Stmts.{Stmts}
 use Rattle.work_code.specs.Steps.{Step, Steps, Done, step, statements, in_turn}
@@ -18,7 +18,7 @@ use Rattle.streamit_unroll.specs.declared.names.Known.TheVariants as known
 use Rattle.streamit_unroll.specs.View.{scope_of, Tells}
 use Rattle.streamit_unroll.proofs.Scopes.{scope-push}
 use Rattle.streamit_unroll.specs.View as view
-use Rattle.streamit_unroll.specs.Unrolled.{at_of, KeepsNames, AreWritten, Reads, turn_of, ReadsTurn}
+use Rattle.streamit_unroll.specs.Unrolled.{at_of, KeepsNames, AreWritten, Reads, turn_of, turns_of, ReadsTurn}
 use Rattle.streamit_unroll.specs.declared.fault.Fault as fault
 use Rattle.streamit_unroll.specs.declared.fault.Fault.TheVariants as faults
 use Rattle.streamit_model.specs.Elaborate as spec
@@ -195,48 +195,30 @@ turns_end e b n low v end first now out out' whole le w f = (
   ap (take (length first.names.items.items)) f.names ∙ take_all (length first.names.items.items) first.names.items.items (omega arith),
 )
 
--- a loop whose name is new and whose bounds are there
-pub for_is : (e : ℕ) (n : Name) (lo hi : Spoken) (upto : Bool) (b : source.Block) (s : At) (l h end : ℕ) (u : Unit {0}) → is_new (find s.scope n) ≡ Ok u → on_ok (constant s.scope lo) bound_of ≡ Ok l → on_ok (constant s.scope hi) bound_of ≡ Ok h → end ≡ h + (if upto then 1 else 0) → step_of e (source.For n lo upto hi b) s ≡ unrolled (steps_of e b) n (numbers l (end - l)) s
-for_is e n lo hi upto b s l h end u new low high is =
-    let f4 = λ (l m : ℕ). unrolled (steps_of e b) n (numbers l (m + (if upto then 1 else 0) - l)) s in
+-- a loop goes through its turns
+for_is : (e : ℕ) (n : Name) (lo hi : Spoken) (upto : Bool) (b : source.Block) (s : At)
+    → step_of e (source.For n lo upto hi b) s ≡ on_ok (turns_of s.scope n lo upto hi) (λ p. unrolled (steps_of e b) n (numbers p.0 (p.1 - p.0)) s)
+for_is e n lo hi upto b s =
+    let k = if upto then 1 else 0 in
+    let turns = λ (p : ℕ × ℕ). unrolled (steps_of e b) n (numbers p.0 (p.1 - p.0)) s in
+    let f4 = λ (l m : ℕ). turns (l, m + k) in
     let f3 = λ (l : ℕ). on_ok (constant s.scope hi) (λ y. on_ok (bound_of y) (f4 l)) in
-    ap (λ r. on_ok r (λ u. on_ok (constant s.scope lo) (λ x. on_ok (bound_of x) f3))) new
-    ∙ sym (on_ok-assoc (constant s.scope lo) bound_of f3)
-    ∙ ap (λ r. on_ok r f3) low
-    ∙ sym (on_ok-assoc (constant s.scope hi) bound_of (f4 l))
-    ∙ ap (λ r. on_ok r (f4 l)) high
-    ∙ ap (λ k. unrolled (steps_of e b) n (numbers l (k - l)) s) (sym is)
+    let g3 = λ (l : ℕ). on_ok (on_ok (constant s.scope hi) bound_of) (λ m. Ok (l, m + k)) in
+    let high = λ (l : ℕ). sym (on_ok-assoc (constant s.scope hi) bound_of (f4 l)) ∙ sym (on_ok-assoc (on_ok (constant s.scope hi) bound_of) (λ m. Ok (l, m + k)) turns) in
+    let low = sym (on_ok-assoc (constant s.scope lo) bound_of f3) ∙ ap (on_ok (on_ok (constant s.scope lo) bound_of)) (λ i l. high l i) ∙ sym (on_ok-assoc (on_ok (constant s.scope lo) bound_of) g3 turns) in
+    ap (on_ok (is_new (find s.scope n))) (λ i u. low i) ∙ sym (on_ok-assoc (is_new (find s.scope n)) (λ u. on_ok (on_ok (constant s.scope lo) bound_of) g3) turns)
 
--- a loop whose lower bound is refused
-pub low_fault : (e : ℕ) (n : Name) (lo hi : Spoken) (upto : Bool) (b : source.Block) (s : At) (u : Unit {0}) (whole : Read) (result : Result (Unit {0}) fault.Fault) (f : fault.Fault) (o k : Stmts) (x y : Unroller)
-    → result ≡ Err f → whole ≡ step_of e (source.For n lo upto hi b) s → is_new (find s.scope n) ≡ Ok u → Tells f (on_ok (constant s.scope lo) bound_of) → Reads result o k x y whole
-low_fault e n lo hi upto b s u whole result f o k x y is w new low =
-    let f4 = λ (l m : ℕ). unrolled (steps_of e b) n (numbers l (m + (if upto then 1 else 0) - l)) s in
-    let f3 = λ (l : ℕ). on_ok (constant s.scope hi) (λ y. on_ok (bound_of y) (f4 l)) in
-    subst (λ t. Reads t o k x y whole) (sym is)
-    (tells_more f (on_ok (constant s.scope lo) bound_of) whole
-    (λ g h.
-    w
-    ∙ ap (λ r. on_ok r (λ u. on_ok (constant s.scope lo) (λ x. on_ok (bound_of x) f3))) new
-    ∙ sym (on_ok-assoc (constant s.scope lo) bound_of f3)
-    ∙ ap (λ r. on_ok r f3) h)
-    low)
+-- a loop whose turns are these
+pub for_turns : (e : ℕ) (n : Name) (lo hi : Spoken) (upto : Bool) (b : source.Block) (s : At) (l end : ℕ)
+    → turns_of s.scope n lo upto hi ≡ Ok (l, end) → step_of e (source.For n lo upto hi b) s ≡ unrolled (steps_of e b) n (numbers l (end - l)) s
+for_turns e n lo hi upto b s l end h = for_is e n lo hi upto b s ∙ ap (λ r. on_ok r (λ p. unrolled (steps_of e b) n (numbers p.0 (p.1 - p.0)) s)) h
 
--- a loop whose upper bound is refused
-pub for_fault : (e : ℕ) (n : Name) (lo hi : Spoken) (upto : Bool) (b : source.Block) (s : At) (l : ℕ) (u : Unit {0}) (whole : Read) (result : Result (Unit {0}) fault.Fault) (f : fault.Fault) (o k : Stmts) (x y : Unroller) → result ≡ Err f → whole ≡ step_of e (source.For n lo upto hi b) s → is_new (find s.scope n) ≡ Ok u → on_ok (constant s.scope lo) bound_of ≡ Ok l → Tells f (on_ok (constant s.scope hi) bound_of) → Reads result o k x y whole
-for_fault e n lo hi upto b s l u whole result f o k x y is w new low high =
-    let f4 = λ (l m : ℕ). unrolled (steps_of e b) n (numbers l (m + (if upto then 1 else 0) - l)) s in
-    let f3 = λ (l : ℕ). on_ok (constant s.scope hi) (λ y. on_ok (bound_of y) (f4 l)) in
-    subst (λ t. Reads t o k x y whole) (sym is)
-    (tells_more f (on_ok (constant s.scope hi) bound_of) whole
-    (λ g h.
-    w
-    ∙ ap (λ r. on_ok r (λ u. on_ok (constant s.scope lo) (λ x. on_ok (bound_of x) f3))) new
-    ∙ sym (on_ok-assoc (constant s.scope lo) bound_of f3)
-    ∙ ap (λ r. on_ok r f3) low
-    ∙ sym (on_ok-assoc (constant s.scope hi) bound_of (f4 l))
-    ∙ ap (λ r. on_ok r (f4 l)) h)
-    high)
+-- a loop whose turns are refused
+pub for_fault : (e : ℕ) (n : Name) (lo hi : Spoken) (upto : Bool) (b : source.Block) (s : At) (f : fault.Fault)
+    → Tells f (turns_of s.scope n lo upto hi) → Tells f (step_of e (source.For n lo upto hi b) s)
+for_fault e n lo hi upto b s f h =
+    tells_more f (turns_of s.scope n lo upto hi) (step_of e (source.For n lo upto hi b) s)
+    (λ g r. for_is e n lo hi upto b s ∙ ap (λ q. on_ok q (λ p. unrolled (steps_of e b) n (numbers p.0 (p.1 - p.0)) s)) r) h
 
 -- an `if` whose parts are there
 pub if_is : (e : ℕ) (t : Spoken) (a : source.Block) (b : source.Optional) (s s1 : At) (cond : Term) (f g : Steps) (la lb : At) → counted s ≡ Ok s1 → term_of e s1.scope t s1.popped ≡ Ok cond → steps_of e a (record s1 { popped = s1.popped + pops t }) ≡ Ok (f, la) → optional_of e b (record s1 { popped = s1.popped + pops t; slots = la.slots; size = la.size }) ≡ Ok (g, lb) → la.popped ≡ lb.popped → la.pushed ≡ lb.pushed → step_of e (source.If t a b) s ≡ Ok (one_step (steps.If cond f g), record lb { scope = s1.scope })

@@ -1,4 +1,5 @@
 pub mod Filter
 pub mod Numbers
+pub mod Shapes
 pub mod Unrolled
 pub mod View

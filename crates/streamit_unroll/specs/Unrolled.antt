@@ -1,13 +1,14 @@
 -- What the unroller stands for, and what it does with the statements of a list.
-use Rattle.std.specs.Prelude.{◌≡◌, ℕ, List, ◌∷◌, ◌++◌, length, map, take, Option, Some, None, Result, Ok, Err}
+use Rattle.std.specs.Prelude.{◌≡◌, ℕ, ◌+◌, Bool, List, ◌∷◌, ◌++◌, length, map, take, Option, Some, None, Result, Ok, Err, if◌then◌else◌}
 use Rattle.work_code.specs.declared.code.Stmt.{Stmt}
 use Rattle.work_code.specs.declared.code.Stmts.{Stmts}
 use Rattle.work_code.specs.Steps.{step, statements, in_turn}
 use Rattle.text_forms.specs.Tree.{Spoken}
 use Rattle.river_plan.specs.Forms.{Name}
-use Rattle.streamit_model.specs.Elaborate.{At, Read, on_ok, counted}
+use Rattle.streamit_model.specs.Elaborate.{At, Read, on_ok, counted, find, is_new, constant, bound_of}
 use Rattle.streamit_model.specs.Elaborate as spec
 use Rattle.streamit_model.specs.Source as source
+use Rattle.streamit_unroll.specs.declared.blocks.Span.{Span}
 use Rattle.streamit_unroll.specs.declared.fault.Fault.{Fault}
 use Rattle.streamit_unroll.specs.declared.unroll.Unroller.{Unroller}
 use Rattle.streamit_unroll.specs.Numbers.{AreValues}
@@ -29,6 +30,16 @@ Reads (Err f) old new at at' r = Tells f r
 abbrev pub ReadsArm : Result Stmts Fault → Unroller → Unroller → Read → Type 0
 ReadsArm (Ok body) at at' r = (last : At) × (r ≡ Ok (in_turn (map step (statements body)), last)) × (at_of at' ≡ record last { scope = scope_of at.names.items.items }) × (at'.names.items.items ≡ at.names.items.items)
 ReadsArm (Err f) at at' r = Tells f r
+
+-- the turns of a loop: the first value of its variable, and the one behind the last
+abbrev pub turns_of : spec.Scope → Name → Spoken → Bool → Spoken → Result (ℕ × ℕ) spec.Fault
+turns_of sc n low upto high =
+    on_ok (is_new (find sc n)) (λ u.
+    on_ok (on_ok (constant sc low) bound_of) (λ l.
+    on_ok (on_ok (constant sc high) bound_of) (λ h. Ok (l, h + (if upto then 1 else 0)))))
+
+abbrev pub span : Span → ℕ × ℕ
+span s = (s.low, s.end)
 
 -- one turn of a loop
 abbrev pub turn_of : (At → Read) → Name → ℕ → At → Read

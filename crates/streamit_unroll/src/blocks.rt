@@ -1,10 +1,10 @@
 // Blocks.
-ghost use Rattle.std.specs.Prelude.{◌≡◌, ◌≤◌, ◌+◌, if◌then◌else◌};
-ghost use Rattle.streamit_model.specs.Elaborate.{step_of, steps_of, optional_of};
-ghost use Rattle.streamit_model.specs.Source.{If};
+ghost use Rattle.std.specs.Prelude.{◌≡◌, ◌≤◌, ◌+◌, ◌-◌, if◌then◌else◌};
+ghost use Rattle.streamit_model.specs.Elaborate.{step_of, steps_of, optional_of, unrolled};
+ghost use Rattle.streamit_model.specs.Source.{If, numbers};
 ghost use Rattle.streamit_unroll.specs.Numbers.{AreValues};
-ghost use Rattle.streamit_unroll.specs.View.{expression, is_turn, statement, block, optional};
-ghost use Rattle.streamit_unroll.specs.Unrolled.{at_of, Reads, ReadsArm, ReadsTurn, turn_of, AreWritten, AreWrittenOptional, IsWritten};
+ghost use Rattle.streamit_unroll.specs.View.{Judges, expression, is_turn, statement, block, optional};
+ghost use Rattle.streamit_unroll.specs.Unrolled.{at_of, Reads, ReadsArm, ReadsTurn, turn_of, turns_of, span, AreWritten, AreWrittenOptional, IsWritten};
 
 use crate::term::term;
 use crate::{Block, Expression, Fault, Known, Statement, Unroller, Until};
@@ -56,14 +56,8 @@ impl Unroller {
                 high,
                 body,
             } => {
-                self.new_name(*name)?;
-                let low = self.bound(low)?;
-                let high = self.bound(high)?;
-                let end = end_of(high, *until);
-                for v in low..end {
-                    self.turn(alloc, peek, *name, v, body, out)?;
-                }
-                Ok(())
+                let span = self.span(*name, low, *until, high)?;
+                self.turns(alloc, peek, *name, span, body, out)
             }
         }
     }
@@ -131,6 +125,47 @@ impl Unroller {
         Ok(body)
     }
 
+    // The turns of a loop, whose variable has a new name.
+    fn span(
+        &self,
+        name: Name,
+        low: &Expression,
+        until: Until,
+        high: &Expression,
+    ) -> Result<Span, Fault>
+        requires low { AreValues (expression low.now) }
+        requires high { AreValues (expression high.now) }
+        ensures { Judges span result (turns_of (at_of self.now).scope name (expression low.now) (is_turn until) (expression high.now)) }
+    {
+        self.new_name(name)?;
+        let low = self.bound(low)?;
+        let high = self.bound(high)?;
+        Ok(Span {
+            low,
+            end: end_of(high, until),
+        })
+    }
+
+    // A block for each turn, behind the statements that are there.
+    #[cycle(unroll)]
+    fn turns(
+        &mut self,
+        alloc: Global,
+        peek: u32,
+        name: Name,
+        span: Span,
+        b: &Block,
+        out: &mut Stmts,
+    ) -> Result<(), Fault>
+        requires { AreWritten (block b.now) }
+        ensures { Reads result out.old out.new self.old self.new (unrolled (steps_of peek (block b.now)) name (numbers span.low (span.end - span.low)) (at_of self.old)) }
+    {
+        for v in span.low..span.end {
+            self.turn(alloc, peek, name, v, b, out)?;
+        }
+        Ok(())
+    }
+
     // A block for one value of a loop's variable, behind the statements that are there.
     #[cycle(unroll)]
     fn turn(
@@ -152,6 +187,13 @@ impl Unroller {
         self.names.items.truncate(depth);
         Ok(())
     }
+}
+
+// The turns of a loop: the first value of its variable, and the one behind the last.
+#[derive(Clone, Copy)]
+struct Span {
+    low: u32,
+    end: u32,
 }
 
 // Where the turns of a loop end.

@@ -9,7 +9,7 @@ ghost use Rattle.streamit_unroll.specs.Numbers.{AreValues};
 
 use crate::term::{constant, term};
 use crate::{Expression, Fault, Known, Unroller};
-use river_base::Name;
+use river_base::{Name, NoMemory};
 use std::alloc::Global;
 use work_code::{Expr, Exprs, Stmt, Stmts};
 
@@ -50,11 +50,8 @@ impl Unroller {
         ensures { Reads result out.old out.new self.old self.new (step_of peek (Push (expression value.now)) (at_of self.old)) }
     {
         self.counted()?;
+        self.pushed = next(self.pushed)?;
         let value = term(alloc, &self.names, peek, value, &mut self.popped)?;
-        let Some(pushed) = self.pushed.checked_add(1) else {
-            return Err(Fault::NoMemory);
-        };
-        self.pushed = pushed;
         let mut values = Exprs::new(alloc);
         values.push(value)?;
         out.push(Stmt::Push { port: 0, values })?;
@@ -65,10 +62,7 @@ impl Unroller {
     pub fn pop(&mut self, peek: u32, out: &mut Stmts) -> Result<(), Fault>
         ensures { Reads result out.old out.new self.old self.new (step_of peek Pop (at_of self.old)) }
     {
-        let Some(popped) = self.popped.checked_add(1) else {
-            return Err(Fault::NoMemory);
-        };
-        self.popped = popped;
+        self.popped = next(self.popped)?;
         Ok(())
     }
 
@@ -121,9 +115,9 @@ impl Unroller {
             return Err(Fault::Limit);
         }
         let value = self.first_term(alloc, peek, value)?;
+        out.push(Stmt::Set { slot, value })?;
         self.slots = slot + 1;
         self.names.items.push((name, Known::Var(slot)))?;
-        out.push(Stmt::Set { slot, value })?;
         Ok(())
     }
 
@@ -143,5 +137,15 @@ impl Unroller {
             None => Ok(Expr::Const(0)),
             Some(value) => term(alloc, &self.names, peek, value, &mut self.popped),
         }
+    }
+}
+
+// The number behind this one.
+fn next(number: u32) -> Result<u32, NoMemory>
+    ensures { IfOk result (λ n. n ≡ number + 1) }
+{
+    match number.checked_add(1) {
+        Some(n) => Ok(n),
+        None => Err(NoMemory),
     }
 }

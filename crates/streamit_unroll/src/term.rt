@@ -3,11 +3,12 @@ ghost use Rattle.std.specs.Prelude.{◌≡◌, ◌<◌, ◌≤◌, ◌+◌, ◌^
 ghost use Rattle.text_forms.specs.Tree.{Bin};
 ghost use Rattle.work_code.specs.Term.{term};
 ghost use Rattle.streamit_model.specs.Source.{pops};
-ghost use Rattle.streamit_model.specs.Elaborate.{constant, term_of, peeked};
+ghost use Rattle.streamit_model.specs.Elaborate.{find, constant, constant_of, named, term_of, peeked};
 ghost use Rattle.streamit_unroll.specs.View.{scope_of, expression, Judges};
 ghost use Rattle.streamit_unroll.specs.Numbers.{AreValues, same};
 
-use crate::{Expression, Fault, Known, Names};
+use crate::{Expression, Fault, Known, Names, Shape};
+use river_base::Name;
 use std::alloc::Global;
 use work_code::{BinOp, Expr, apply, negate, truth_of};
 
@@ -17,35 +18,30 @@ pub fn constant(names: &Names, e: &Expression) -> Result<i64, Fault>
     requires { AreValues (expression e.now) }
     ensures { Judges same result (constant (scope_of names.now.items.items) (expression e.now)) }
 {
-    match e {
-        Expression::Number(value) => Ok(*value as i64),
-        Expression::Name(name) => match names.find(*name) {
-            None => Err(Fault::UnknownName),
-            Some(Known::Var(_)) => Err(Fault::NotConstant),
-            Some(Known::Turn(v)) => Ok(i64::from(v)),
-        },
-        Expression::Peek(_) | Expression::Pop => Err(Fault::NotConstant),
-        Expression::Neg(inner) => {
+    match Shape::of(e) {
+        Shape::Number(value) => Ok(value as i64),
+        Shape::Name(name) => known_constant(names, name),
+        Shape::Peek(_) | Shape::Pop => Err(Fault::NotConstant),
+        Shape::Neg(inner) => {
             let inner = constant(names, inner)?;
             Ok(negate(inner))
         }
-        Expression::Not(inner) => {
+        Shape::Not(inner) => {
             let inner = constant(names, inner)?;
             Ok(truth_of(inner == 0))
         }
-        Expression::Or(left, right) => constants(names, BinOp::Or, left, right),
-        Expression::And(left, right) => constants(names, BinOp::And, left, right),
-        Expression::Eq(left, right) => constants(names, BinOp::Eq, left, right),
-        Expression::Ne(left, right) => constants(names, BinOp::Ne, left, right),
-        Expression::Lt(left, right) => constants(names, BinOp::Lt, left, right),
-        Expression::Le(left, right) => constants(names, BinOp::Le, left, right),
-        Expression::Gt(left, right) => constants(names, BinOp::Gt, left, right),
-        Expression::Ge(left, right) => constants(names, BinOp::Ge, left, right),
-        Expression::Add(left, right) => constants(names, BinOp::Add, left, right),
-        Expression::Sub(left, right) => constants(names, BinOp::Sub, left, right),
-        Expression::Mul(left, right) => constants(names, BinOp::Mul, left, right),
-        Expression::Quot(left, right) => constants(names, BinOp::Quot, left, right),
-        Expression::Rem(left, right) => constants(names, BinOp::Rem, left, right),
+        Shape::Both(op, left, right) => constants(names, op, left, right),
+    }
+}
+
+// The value of a name, which is the variable of a loop.
+fn known_constant(names: &Names, name: Name) -> Result<i64, Fault>
+    ensures { Judges same result (constant_of (find (scope_of names.now.items.items) name)) }
+{
+    match names.find(name) {
+        None => Err(Fault::UnknownName),
+        Some(Known::Var(_)) => Err(Fault::NotConstant),
+        Some(Known::Turn(v)) => Ok(i64::from(v)),
     }
 }
 
@@ -74,18 +70,14 @@ pub fn term(
     ensures judged { Judges term result (term_of peek (scope_of names.now.items.items) (expression e.now) popped.old) }
     ensures popped { OnOk result (popped.new ≡ popped.old + pops (expression e.now)) }
 {
-    match e {
-        Expression::Number(value) => Ok(Expr::Const(*value as i64)),
-        Expression::Name(name) => match names.find(*name) {
-            None => Err(Fault::UnknownName),
-            Some(Known::Var(slot)) => Ok(Expr::Slot(slot)),
-            Some(Known::Turn(v)) => Ok(Expr::Const(i64::from(v))),
-        },
-        Expression::Peek(inner) => {
+    match Shape::of(e) {
+        Shape::Number(value) => Ok(Expr::Const(value as i64)),
+        Shape::Name(name) => known_term(names, name),
+        Shape::Peek(inner) => {
             let index = constant(names, inner)?;
             peeked(peek, *popped, index)
         }
-        Expression::Pop => {
+        Shape::Pop => {
             let place = *popped;
             if place > 65536 {
                 return Err(Fault::Limit);
@@ -93,29 +85,26 @@ pub fn term(
             *popped = place + 1;
             Ok(Expr::Input(place))
         }
-        Expression::Neg(inner) => {
+        Shape::Neg(inner) => {
             let inner = term(alloc, names, peek, inner, popped)?;
             Ok(Expr::Neg(Box::new(alloc, inner)?))
         }
-        Expression::Not(inner) => {
+        Shape::Not(inner) => {
             let inner = term(alloc, names, peek, inner, popped)?;
             Ok(Expr::Not(Box::new(alloc, inner)?))
         }
-        Expression::Or(left, right) => terms(alloc, names, peek, BinOp::Or, left, right, popped),
-        Expression::And(left, right) => terms(alloc, names, peek, BinOp::And, left, right, popped),
-        Expression::Eq(left, right) => terms(alloc, names, peek, BinOp::Eq, left, right, popped),
-        Expression::Ne(left, right) => terms(alloc, names, peek, BinOp::Ne, left, right, popped),
-        Expression::Lt(left, right) => terms(alloc, names, peek, BinOp::Lt, left, right, popped),
-        Expression::Le(left, right) => terms(alloc, names, peek, BinOp::Le, left, right, popped),
-        Expression::Gt(left, right) => terms(alloc, names, peek, BinOp::Gt, left, right, popped),
-        Expression::Ge(left, right) => terms(alloc, names, peek, BinOp::Ge, left, right, popped),
-        Expression::Add(left, right) => terms(alloc, names, peek, BinOp::Add, left, right, popped),
-        Expression::Sub(left, right) => terms(alloc, names, peek, BinOp::Sub, left, right, popped),
-        Expression::Mul(left, right) => terms(alloc, names, peek, BinOp::Mul, left, right, popped),
-        Expression::Quot(left, right) => {
-            terms(alloc, names, peek, BinOp::Quot, left, right, popped)
-        }
-        Expression::Rem(left, right) => terms(alloc, names, peek, BinOp::Rem, left, right, popped),
+        Shape::Both(op, left, right) => terms(alloc, names, peek, op, left, right, popped),
+    }
+}
+
+// What a name stands for: its slot, or the value of the variable of a loop.
+fn known_term(names: &Names, name: Name) -> Result<Expr, Fault>
+    ensures { Judges term result (named (find (scope_of names.now.items.items) name)) }
+{
+    match names.find(name) {
+        None => Err(Fault::UnknownName),
+        Some(Known::Var(slot)) => Ok(Expr::Slot(slot)),
+        Some(Known::Turn(v)) => Ok(Expr::Const(i64::from(v))),
     }
 }
 

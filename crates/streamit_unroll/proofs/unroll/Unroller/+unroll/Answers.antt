@@ -1,15 +1,16 @@
-use Rattle.streamit_unroll.specs.View.{expression, is_turn, statement, block, optional}
-use Rattle.streamit_model.specs.Elaborate.{step_of}
-use Rattle.streamit_unroll.specs.Unrolled.{at_of}
+use Rattle.streamit_unroll.specs.View.{expression, is_turn, statement, block, optional, Tells}
+use Rattle.streamit_model.specs.Source.{numbers}
+use Rattle.streamit_model.specs.Elaborate.{step_of, steps_of, unrolled}
+use Rattle.streamit_unroll.specs.Unrolled.{at_of, Reads}
 use Rattle.work_code.specs.Steps.{step, steps, statements, in_turn}
 use Rattle.work_code.specs.Term.{term}
 use Rattle.work_code.specs.Steps as tree
 use Rattle.work_code.proofs.Running.{step-if}
 use Rattle.work_code.proofs.Texts.{steps-is}
 use Rattle.work_code.specs.declared.code.Stmt as built
-use Rattle.streamit_unroll.proofs.Trees.{block-is, statement-if, statement-for}
-use Rattle.streamit_unroll.proofs.SoFar.{BlockSoFar, block_next, block_err, block_end, turns_start, turns_next, turns_fault, turns_end, for_is, low_fault, for_fault, good as answered, if_read, turn_is, kept_by, at_place, none_left}
-use Rattle.std.proofs.Common.{subst, sym, ap, ◌∙◌, arith, refl, rules, ◌+◌, [], ◌∷◌, drop, map}
+use Rattle.streamit_unroll.proofs.Trees.{block-is, statement-for}
+use Rattle.streamit_unroll.proofs.SoFar.{BlockSoFar, block_next, block_err, block_end, turns_start, turns_next, turns_fault, turns_end, for_turns, for_fault, good as answered, if_read, turn_is, kept_by, at_place, none_left}
+use Rattle.std.proofs.Common.{subst, sym, ap, ◌∙◌, arith, refl, rules, ◌≡◌, ◌+◌, ◌-◌, Err, [], ◌∷◌, drop, map}
 use Rattle.streamit_unroll.proofs.unroll.Unroller.+unroll.Goals as goal
 
 pub block-returns-in_err-statement : goal.block-returns-in_err-statement
@@ -31,33 +32,6 @@ block-returns t c =
     let f = subst (λ l. BlockSoFar c.args.peek (map statement items) l c.args.self.now c.loop-s.self c.args.out.now c.loop-s.out) (none_left statement items c.loop-s.s-index (omega arith)) c.loop-s.invariant in
     rw (block-is c.args.b.now, ← c.as_slice-s-items.ensures.value) (block_end c.args.peek (map statement items) c.args.self.now c.loop-s.self c.args.out.now c.loop-s.out f)
 
-pub statement-loop-v-init : goal.statement-loop-v-init
-statement-loop-v-init t c = turns_start c.args.peek (block c.in-For.body) c.in-For.name c.in_ok-low-in-For.low c.end_of-end.result c.args.self.now c.args.out.now
-
-pub statement-returns-in_err-turn-in-For : goal.statement-returns-in_err-turn-in-For
-statement-returns-in_err-turn-in-For t c =
-    let low = c.in_ok-low-in-For.low in
-    let end = c.end_of-end.result in
-    let name = c.in-For.name in
-    let body = block c.in-For.body in
-    let w =
-    ap (λ x. step_of c.args.peek x (at_of c.args.self.now)) (ap statement c.in-For.is ∙ statement-for c.in-For.name c.in-For.low c.in-For.until c.in-For.high c.in-For.body)
-    ∙ for_is c.args.peek name (expression c.in-For.low) (expression c.in-For.high) (is_turn c.in-For.until) body (at_of c.args.self.now) low c.in_ok-high-in-For.high end tt (c.in_ok-new_name-in-For.ensures {u = tt}) c.in_ok-low-in-For.ensures.judged c.in_ok-high-in-For.ensures.judged c.end_of-end.ensures in
-    turns_fault c.args.peek body name low c.loop-v.v end c.args.self.now c.loop-v.self c.turn.new.self c.args.self.now c.turn.new.self c.args.out.now c.loop-v.out c.turn.new.out c.args.out.now c.turn.new.out
-    (step_of c.args.peek (statement c.args.s.now) (at_of c.args.self.now)) c.from_residual-in_err-turn-in-For.result c.in_err-turn-in-For.field-0.0 (search rules) (search rules) w c.loop-v.invariant (c.in_err-turn-in-For.ensures {u = tt})
-
-pub statement-returns-in_err-high-in-For : goal.statement-returns-in_err-high-in-For
-statement-returns-in_err-high-in-For t c =
-    for_fault c.args.peek c.in-For.name (expression c.in-For.low) (expression c.in-For.high) (is_turn c.in-For.until) (block c.in-For.body) (at_of c.args.self.now) c.in_ok-low-in-For.low tt
-    (step_of c.args.peek (statement c.args.s.now) (at_of c.args.self.now)) c.from_residual-in_err-high-in-For.result c.in_err-high-in-For.field-0.0 c.args.out.now c.args.out.now c.args.self.now c.args.self.now (search rules)
-    (ap (λ x. step_of c.args.peek x (at_of c.args.self.now)) (ap statement c.in-For.is ∙ statement-for c.in-For.name c.in-For.low c.in-For.until c.in-For.high c.in-For.body))
-    (c.in_ok-new_name-in-For.ensures {u = tt}) c.in_ok-low-in-For.ensures.judged c.in_err-high-in-For.ensures.judged
-
-pub statement-loop-v-preserved : goal.statement-loop-v-preserved
-statement-loop-v-preserved t c =
-    turns_next c.args.peek (block c.in-For.body) c.in-For.name c.in_ok-low-in-For.low c.loop-v.v c.end_of-end.result c.args.self.now c.loop-v.self c.turn.new.self c.args.out.now c.loop-v.out c.turn.new.out
-    (search rules) c.loop-v.invariant (c.in_ok-turn-in-For.ensures {u = tt})
-
 pub branch-returns-in_ok-push : goal.branch-returns-in_ok-push
 branch-returns-in_ok-push t c =
     let one = c.in_ok-first.ensures {u = tt} in
@@ -75,17 +49,6 @@ branch-returns-in_ok-push t c =
       kept_by c.args.self.now.names.items.items c.otherwise.new.self.names.items.items (two.3 ∙ one.3 ∙ ap (λ n. n.items.items) c.in_ok-counted.ensures.names),
     )
 
-pub statement-returns-after-loop-v : goal.statement-returns-after-loop-v
-statement-returns-after-loop-v t c =
-    let low = c.in_ok-low-in-For.low in
-    let end = c.end_of-end.result in
-    let name = c.in-For.name in
-    let body = block c.in-For.body in
-    let w =
-    ap (λ x. step_of c.args.peek x (at_of c.args.self.now)) (ap statement c.in-For.is ∙ statement-for c.in-For.name c.in-For.low c.in-For.until c.in-For.high c.in-For.body)
-    ∙ for_is c.args.peek name (expression c.in-For.low) (expression c.in-For.high) (is_turn c.in-For.until) body (at_of c.args.self.now) low c.in_ok-high-in-For.high end tt (c.in_ok-new_name-in-For.ensures {u = tt}) c.in_ok-low-in-For.ensures.judged c.in_ok-high-in-For.ensures.judged c.end_of-end.ensures in
-    turns_end c.args.peek body name low c.loop-v.v end c.args.self.now c.loop-v.self c.args.out.now c.loop-v.out (step_of c.args.peek (statement c.args.s.now) (at_of c.args.self.now)) (search rules) w c.loop-v.invariant
-
 pub turn-returns : goal.turn-returns
 turn-returns t c =
     let r = c.in_ok-block.ensures {u = tt} in
@@ -98,9 +61,43 @@ turn-returns t c =
 pub otherwise-returns-in-None : goal.otherwise-returns-in-None
 otherwise-returns-in-None t c = (at_of c.args.self.now, search rules, refl, refl)
 
-pub statement-returns-in_err-low-in-For : goal.statement-returns-in_err-low-in-For
-statement-returns-in_err-low-in-For t c =
-    low_fault c.args.peek c.in-For.name (expression c.in-For.low) (expression c.in-For.high) (is_turn c.in-For.until) (block c.in-For.body) (at_of c.args.self.now) tt
-    (step_of c.args.peek (statement c.args.s.now) (at_of c.args.self.now)) c.from_residual-in_err-low-in-For.result c.in_err-low-in-For.field-0.0 c.args.out.now c.args.out.now c.args.self.now c.args.self.now (search rules)
-    (ap (λ x. step_of c.args.peek x (at_of c.args.self.now)) (ap statement c.in-For.is ∙ statement-for c.in-For.name c.in-For.low c.in-For.until c.in-For.high c.in-For.body))
-    (c.in_ok-new_name-in-For.ensures {u = tt}) c.in_err-low-in-For.ensures.judged
+pub turns-loop-v-init : goal.turns-loop-v-init
+turns-loop-v-init t c = turns_start c.args.peek (block c.args.b.now) c.args.name c.args.span.low c.args.span.end c.args.self.now c.args.out.now
+
+pub turns-loop-v-preserved : goal.turns-loop-v-preserved
+turns-loop-v-preserved t c =
+    turns_next c.args.peek (block c.args.b.now) c.args.name c.args.span.low c.loop-v.v c.args.span.end c.args.self.now c.loop-v.self c.turn.new.self c.args.out.now c.loop-v.out c.turn.new.out
+    (search rules) c.loop-v.invariant (c.in_ok-turn.ensures {u = tt})
+
+pub turns-returns-in_err-turn : goal.turns-returns-in_err-turn
+turns-returns-in_err-turn t c =
+    let low = c.args.span.low in
+    let end = c.args.span.end in
+    let body = block c.args.b.now in
+    turns_fault c.args.peek body c.args.name low c.loop-v.v end c.args.self.now c.loop-v.self c.turn.new.self c.args.self.now c.turn.new.self c.args.out.now c.loop-v.out c.turn.new.out c.args.out.now c.turn.new.out
+    (unrolled (steps_of c.args.peek body) c.args.name (numbers low (end - low)) (at_of c.args.self.now)) c.from_residual.result c.in_err-turn.field-0.0 (search rules) (search rules) refl c.loop-v.invariant (c.in_err-turn.ensures {u = tt})
+
+pub turns-returns : goal.turns-returns
+turns-returns t c =
+    let low = c.args.span.low in
+    let end = c.args.span.end in
+    let body = block c.args.b.now in
+    turns_end c.args.peek body c.args.name low c.loop-v.v end c.args.self.now c.loop-v.self c.args.out.now c.loop-v.out (unrolled (steps_of c.args.peek body) c.args.name (numbers low (end - low)) (at_of c.args.self.now)) (search rules) refl c.loop-v.invariant
+
+pub statement-returns-in_ok-span-in-For : goal.statement-returns-in_ok-span-in-For
+statement-returns-in_ok-span-in-For t c =
+    let s = c.in_ok-span-in-For.span in
+    let at = at_of c.args.self.now in
+    let w =
+    ap (λ x. step_of c.args.peek x at) (ap statement c.in-For.is ∙ statement-for c.in-For.name c.in-For.low c.in-For.until c.in-For.high c.in-For.body)
+    ∙ for_turns c.args.peek c.in-For.name (expression c.in-For.low) (expression c.in-For.high) (is_turn c.in-For.until) (block c.in-For.body) at s.low s.end (c.in_ok-span-in-For.ensures {u = tt}) in
+    subst (Reads c.turns.result c.args.out.now c.turns.new.out c.args.self.now c.turns.new.self) (sym w) c.turns.ensures
+
+pub statement-returns-in_err-span-in-For : goal.statement-returns-in_err-span-in-For
+statement-returns-in_err-span-in-For t c =
+    let at = at_of c.args.self.now in
+    let f = c.in_err-span-in-For.field-0.0 in
+    let is : c.from_residual.result ≡ Err f = search rules in
+    let w = ap (λ x. step_of c.args.peek x at) (ap statement c.in-For.is ∙ statement-for c.in-For.name c.in-For.low c.in-For.until c.in-For.high c.in-For.body) in
+    subst (λ r. Reads r c.args.out.now c.args.out.now c.args.self.now c.args.self.now (step_of c.args.peek (statement c.args.s.now) at)) (sym is)
+    (subst (Tells f) (sym w) (for_fault c.args.peek c.in-For.name (expression c.in-For.low) (expression c.in-For.high) (is_turn c.in-For.until) (block c.in-For.body) at f (c.in_err-span-in-For.ensures {u = tt})))

@@ -21,11 +21,14 @@ decreases-otherwise l = optional_size l.no.now * 4 + 2
 abbrev pub decreases-arm : goal.decreases-arm
 decreases-arm l = goal.size-arm l * 4 + 1
 
+abbrev pub decreases-turns : goal.decreases-turns
+decreases-turns l = goal.size-turns l * 4 + 2
+
 abbrev pub decreases-turn : goal.decreases-turn
 decreases-turn l = goal.size-turn l * 4 + 1
 
 abbrev pub invariant-block-loop-s : goal.invariant-block-loop-s
 invariant-block-loop-s l = BlockSoFar l.peek (map statement l.s-items) (map statement (drop l.s-index l.s-items)) l.initial.self l.self l.initial.out l.out
 
-abbrev pub invariant-statement-loop-v : goal.invariant-statement-loop-v
-invariant-statement-loop-v l = TurnsSoFar l.peek (block l.body) l.name l.low l.v l.end l.initial.self l.self l.initial.out l.out
+abbrev pub invariant-turns-loop-v : goal.invariant-turns-loop-v
+invariant-turns-loop-v l = TurnsSoFar l.peek (block l.b) l.name l.fn.span.low l.v l.fn.span.end l.initial.self l.self l.initial.out l.out
