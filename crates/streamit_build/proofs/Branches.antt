@@ -156,3 +156,10 @@ split_built us i d front last ws old first mid new from to n sop jop (Ok x) u en
       next_op = omega (arith, o1, n1, o2);
       next_queue = omega (arith, q', n2, q2);
     }
+
+-- the last branch was built
+pub rest_returns : {E : Type 0} (us : List UnitForm) (front : List ℕ) (last i : ℕ) (old now next : Made) (a0 b0 a b : ℕ) (r : Result (Unit {0}) E) → RestSoFar us front [] last i old now a0 b0 a b
+    → ((s : Stream) → IsTree us last s → OnOk r (Built now next (build s now.next_op now.next_queue (queue a) (queue b)) (ops_in s) (queues_in s)))
+    → (ss : Streams) → AreTrees us front last ss → OnOk r (Built old next (build_branches ss old.next_op old.next_queue a0 b0) (ops_of ss) (queues_within ss))
+rest_returns us front last i old now next a0 b0 a b (Ok x) f h ss t = rest_end us front last i old now next a0 b0 a b (queue a) (queue b) ss f t refl refl h
+rest_returns us front last i old now next a0 b0 a b (Err x) f h ss t = tt

@@ -9,7 +9,7 @@ use Rattle.river_plan.specs.Forms.{Name, OpForm, op_forms}
 use Rattle.streamit_model.specs.Stream.{Splitter, Stream, Streams, Last, Then, Filter, Pipeline, SplitJoin}
 use Rattle.streamit_model.specs.Build.{numbered, with_own, queue, build, build_line, ops_in, ops_of, queues_in, queues_between}
 use Rattle.streamit_build.specs.declared.builder.Made.{Made}
-use Rattle.streamit_build.specs.Units.{UnitForm, AFilter, APipe, ASplit, unit_of, units_of, AreLower, IsLower, AreShort, IsShort, IsTree, AreTrees, Built}
+use Rattle.streamit_build.specs.Units.{UnitForm, AFilter, APipe, ASplit, unit_of, units_of, AreBelow, AreLower, IsLower, AreShort, IsShort, IsTree, AreTrees, Built}
 
 -- the streams that are still to be built
 pub record Line (us : List UnitForm) (rest : List ℕ) (last : ℕ) (ss : Streams) (old now : Made) (from start to : Name) : Type 0 where
@@ -118,6 +118,14 @@ lower_of us i front last low e = subst (IsLower i) e (low i)
 -- those of a split-join are
 pub lower_split : (us : List UnitForm) (i : ℕ) (d : Splitter) (front : List ℕ) (last : ℕ) (ws : List ℕ) → AreLower us → slice_get us i ≡ Some (ASplit d front last ws) → AllByRecursion (λ j. j < i) front × (last < i)
 lower_split us i d front last ws low e = subst (IsLower i) e (low i)
+
+-- parts that are the same are as low
+pub below_same : (i : ℕ) (f g : List ℕ) (l m : ℕ) → f ≡ g → l ≡ m → AreBelow i g m → AreBelow i f l
+below_same i f g l m e d low = subst (λ n. AreBelow i f n) (sym d) (subst (λ h. AreBelow i h m) (sym e) low)
+
+-- and have the same trees
+pub trees_same : (us : List UnitForm) (f g : List ℕ) (l m : ℕ) (ss : Streams) → f ≡ g → l ≡ m → AreTrees us g m ss → AreTrees us f l ss
+trees_same us f g l m ss e d t = subst (λ n. AreTrees us f n ss) (sym d) (subst (λ h. AreTrees us h m ss) (sym e) t)
 
 pipe_front : (f g : List ℕ) (l m : ℕ) → Some (APipe f l) ≡ Some (APipe g m) → (f ≡ g) × (l ≡ m)
 pipe_front f g l m h = (cc, cc)

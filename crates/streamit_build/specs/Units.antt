@@ -27,12 +27,16 @@ unit_of (built.SplitJoin split front last join) = ASplit (splitter_of split) fro
 abbrev pub units_of : List Declared → List UnitForm
 units_of us = map unit_of us
 
+-- the parts of a stream are below number i
+abbrev pub AreBelow : ℕ → List ℕ → ℕ → Type 0
+AreBelow i front last = AllByRecursion (λ j. j < i) front × (last < i)
+
 -- the children of unit i are below it
 abbrev pub IsLower : ℕ → Option UnitForm → Type 0
 IsLower i None = Unit {0}
 IsLower i (Some (AFilter name f)) = Unit {0}
-IsLower i (Some (APipe front last)) = AllByRecursion (λ j. j < i) front × (last < i)
-IsLower i (Some (ASplit d front last ws)) = AllByRecursion (λ j. j < i) front × (last < i)
+IsLower i (Some (APipe front last)) = AreBelow i front last
+IsLower i (Some (ASplit d front last ws)) = AreBelow i front last
 
 abbrev pub AreLower : List UnitForm → Type 0
 AreLower us = (i : ℕ) → IsLower i (slice_get us i)

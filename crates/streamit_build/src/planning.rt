@@ -1,6 +1,6 @@
 // The plan of a program.
-ghost use Rattle.std.specs.Prelude.{◌≡◌, ◌<◌, ◌+◌, ◌-◌, ◌∷◌, ◌++◌, ◌^◌, length, map, OnOk, IfOk};
-ghost use Rattle.river_plan.specs.Forms.{plan_form, op_forms};
+ghost use Rattle.std.specs.Prelude.{◌≡◌, ◌<◌, ◌+◌, ◌-◌, [], ◌∷◌, ◌++◌, ◌^◌, codes, length, map, OnOk, IfOk};
+ghost use Rattle.river_plan.specs.Forms.{plan_form, op_forms, empty_form};
 ghost use Rattle.river_plan.specs.Uses.{all_vars};
 ghost use Rattle.streamit_model.specs.Stream.{Stream};
 ghost use Rattle.streamit_model.specs.Build.{queues, values_in as queue_of, ops_from, queues_in, plan_of};
@@ -99,17 +99,37 @@ impl Known {
 }
 
 // The lists of a plan with these operators.
-#[tactic(auto, unfolding(river_base::specs::Name::is_word, river_base::specs::Name::is_letter, river_base::specs::Name::is_digit))]
 fn lists(alloc: Global, made: Made) -> Result<RawPlan, NoMemory>
     ensures { IfOk result (λ raw. plan_form raw ≡ lists_of (op_forms made.ops) (made.next_queue - 1)) }
 {
     let mut raw = RawPlan::new(alloc);
+    fill(alloc, &mut raw, made)?;
+    Ok(raw)
+}
+
+// Fills lists that are empty.
+fn fill(alloc: Global, raw: &mut RawPlan, made: Made) -> Result<(), NoMemory>
+    requires { plan_form raw.old ≡ empty_form }
+    ensures { OnOk result (plan_form raw.new ≡ lists_of (op_forms made.ops) (made.next_queue - 1)) }
+{
+    declare(alloc, raw, &made)?;
+    raw.ops = made.ops;
+    Ok(())
+}
+
+// The queues and variables of what was built, and the queues `in` and `out`.
+#[tactic(auto, unfolding(river_base::specs::Name::is_word, river_base::specs::Name::is_letter, river_base::specs::Name::is_digit))]
+fn declare(alloc: Global, raw: &mut RawPlan, made: &Made) -> Result<(), NoMemory>
+    ensures outputs { OnOk result (raw.new.outputs ≡ raw.old.outputs ++ queue_of (codes "out") ∷ []) }
+    ensures inputs { OnOk result (raw.new.inputs ≡ raw.old.inputs ++ queue_of (codes "in") ∷ []) }
+    ensures queues { OnOk result (raw.new.queues ≡ raw.old.queues ++ map queue_of (queues 1 (made.now.next_queue - 1))) }
+    ensures vars { OnOk result (raw.new.vars ≡ raw.old.vars ++ all_vars (op_forms made.now.ops)) }
+    ensures tables { raw.new.tables ≡ raw.old.tables }
+{
     raw.outputs.push(values_in(name_of(b"out")))?;
     raw.inputs.push(values_in(name_of(b"in")))?;
     declare_queues(alloc, &mut raw.queues, made.next_queue.saturating_sub(1))?;
-    declare_vars(&mut raw.vars, &made.ops)?;
-    raw.ops = made.ops;
-    Ok(raw)
+    declare_vars(&mut raw.vars, &made.ops)
 }
 
 // A queue of single values.

@@ -1,16 +1,25 @@
 -- The trees of statements and expressions, layer by layer.
-use Rattle.std.proofs.Common.{◌≡◌, ℕ, map, Option, Some, None, sym, ap, ◌∙◌}
+use Rattle.std.proofs.Common.{◌≡◌, ℕ, List, map, Option, Some, None, sym, ap, ◌∙◌, Global, Box}
+use Rattle.text_forms.specs.Tree.{Spoken}
+use Rattle.text_forms.specs.Tree as tree
 use Rattle.river_plan.specs.Forms.{Name}
 use Rattle.streamit_unroll.specs.declared.tree.Until.{Until}
-use Rattle.streamit_unroll.specs.declared.tree.Expression.{Expression}
+use Rattle.streamit_unroll.specs.declared.tree.Expression.{Expression, fold-roll-Expression}
+use Rattle.streamit_unroll.specs.declared.tree.Expression as said
+use Rattle.streamit_unroll.specs.declared.tree.Expression.TheVariants.{rolls-Peek}
+use Rattle.streamit_unroll.specs.declared.tree.Expression.TheOpen as layer
 use Rattle.streamit_unroll.specs.declared.tree.Statement.{Statement, fold-roll-Statement}
 use Rattle.streamit_unroll.specs.declared.tree.Statement as made
 use Rattle.streamit_unroll.specs.declared.tree.Statement.TheVariants.{rolls-Declare, rolls-Assign, rolls-Push, rolls-Pop, rolls-If, rolls-For}
 use Rattle.streamit_unroll.specs.declared.tree.Statement.TheOpen as part
 use Rattle.streamit_unroll.specs.declared.tree.Statement.TheFolds.{fold_out-Block}
 use Rattle.streamit_unroll.specs.declared.tree.Block.{Block, size-Block}
-use Rattle.streamit_unroll.specs.View.{expression, option_expression, is_turn, statement, block, optional, statement_at, block_at, in_turn}
+use Rattle.streamit_unroll.specs.View.{expression, expression_at, option_expression, is_turn, statement, block, optional, statement_at, block_at, in_turn}
 use Rattle.streamit_model.specs.Source as source
+
+-- the tree of `peek`
+pub expression-peek : (t : Box Expression Global) → expression (said.Peek t) ≡ tree.Peek (expression t.value)
+expression-peek t = ap expression (sym (rolls-Peek t)) ∙ fold-roll-Expression Spoken expression_at (layer.Peek t)
 
 -- the tree of a block
 pub block-is : (all : Block) → block all ≡ in_turn (map statement all.items.items)

@@ -2,7 +2,6 @@
 use Rattle.std.specs.Prelude.{◌≡◌, Bool, true, false, List, [], ◌∷◌, map, reverse, Option, Some, None, Result, Ok, Err}
 use Rattle.text_forms.specs.Tree.{Spoken}
 use Rattle.text_forms.specs.Tree as tree
-use Rattle.work_code.specs.declared.expr.BinOp.TheVariants as op
 use Rattle.river_plan.specs.Forms.{Name}
 use Rattle.streamit_unroll.specs.declared.fault.Fault.{Fault}
 use Rattle.streamit_unroll.specs.declared.fault.Fault.TheVariants as fault
@@ -38,19 +37,7 @@ scope_of es = reverse (map entry_of es)
 
 -- one layer of an expression, whose parts are trees already
 abbrev pub expression_at : Expression-F Spoken → Spoken
-expression_at (written.Or l r) = tree.Bin op.Or l.value r.value
-expression_at (written.And l r) = tree.Bin op.And l.value r.value
-expression_at (written.Eq l r) = tree.Bin op.Eq l.value r.value
-expression_at (written.Ne l r) = tree.Bin op.Ne l.value r.value
-expression_at (written.Lt l r) = tree.Bin op.Lt l.value r.value
-expression_at (written.Le l r) = tree.Bin op.Le l.value r.value
-expression_at (written.Gt l r) = tree.Bin op.Gt l.value r.value
-expression_at (written.Ge l r) = tree.Bin op.Ge l.value r.value
-expression_at (written.Add l r) = tree.Bin op.Add l.value r.value
-expression_at (written.Sub l r) = tree.Bin op.Sub l.value r.value
-expression_at (written.Mul l r) = tree.Bin op.Mul l.value r.value
-expression_at (written.Quot l r) = tree.Bin op.Quot l.value r.value
-expression_at (written.Rem l r) = tree.Bin op.Rem l.value r.value
+expression_at (written.Bin o l r) = tree.Bin o l.value r.value
 expression_at (written.Neg t) = tree.Neg t.value
 expression_at (written.Not t) = tree.Not t.value
 expression_at (written.Number v) = tree.Number v

@@ -7,7 +7,7 @@ ghost use Rattle.streamit_model.specs.Elaborate.{find, constant, constant_of, na
 ghost use Rattle.streamit_unroll.specs.View.{scope_of, expression, Judges};
 ghost use Rattle.streamit_unroll.specs.Numbers.{AreValues, same};
 
-use crate::{Expression, Fault, Known, Names, Shape};
+use crate::{Expression, Fault, Known, Names};
 use river_base::Name;
 use std::alloc::Global;
 use work_code::{BinOp, Expr, apply, negate, truth_of};
@@ -18,19 +18,19 @@ pub fn constant(names: &Names, e: &Expression) -> Result<i64, Fault>
     requires { AreValues (expression e.now) }
     ensures { Judges same result (constant (scope_of names.now.items.items) (expression e.now)) }
 {
-    match Shape::of(e) {
-        Shape::Number(value) => Ok(value as i64),
-        Shape::Name(name) => known_constant(names, name),
-        Shape::Peek(_) | Shape::Pop => Err(Fault::NotConstant),
-        Shape::Neg(inner) => {
+    match e {
+        Expression::Number(value) => Ok(*value as i64),
+        Expression::Name(name) => known_constant(names, *name),
+        Expression::Peek(_) | Expression::Pop => Err(Fault::NotConstant),
+        Expression::Neg(inner) => {
             let inner = constant(names, inner)?;
             Ok(negate(inner))
         }
-        Shape::Not(inner) => {
+        Expression::Not(inner) => {
             let inner = constant(names, inner)?;
             Ok(truth_of(inner == 0))
         }
-        Shape::Both(op, left, right) => constants(names, op, left, right),
+        Expression::Bin { op, left, right } => constants(names, *op, left, right),
     }
 }
 
@@ -70,14 +70,14 @@ pub fn term(
     ensures judged { Judges term result (term_of peek (scope_of names.now.items.items) (expression e.now) popped.old) }
     ensures popped { OnOk result (popped.new ≡ popped.old + pops (expression e.now)) }
 {
-    match Shape::of(e) {
-        Shape::Number(value) => Ok(Expr::Const(value as i64)),
-        Shape::Name(name) => known_term(names, name),
-        Shape::Peek(inner) => {
+    match e {
+        Expression::Number(value) => Ok(Expr::Const(*value as i64)),
+        Expression::Name(name) => known_term(names, *name),
+        Expression::Peek(inner) => {
             let index = constant(names, inner)?;
             peeked(peek, *popped, index)
         }
-        Shape::Pop => {
+        Expression::Pop => {
             let place = *popped;
             if place > 65536 {
                 return Err(Fault::Limit);
@@ -85,15 +85,17 @@ pub fn term(
             *popped = place + 1;
             Ok(Expr::Input(place))
         }
-        Shape::Neg(inner) => {
+        Expression::Neg(inner) => {
             let inner = term(alloc, names, peek, inner, popped)?;
             Ok(Expr::Neg(Box::new(alloc, inner)?))
         }
-        Shape::Not(inner) => {
+        Expression::Not(inner) => {
             let inner = term(alloc, names, peek, inner, popped)?;
             Ok(Expr::Not(Box::new(alloc, inner)?))
         }
-        Shape::Both(op, left, right) => terms(alloc, names, peek, op, left, right, popped),
+        Expression::Bin { op, left, right } => {
+            terms(alloc, names, peek, *op, left, right, popped)
+        },
     }
 }
 

@@ -1,7 +1,4 @@
 // Filters as they are written.
-ghost use Rattle.std.specs.Prelude.{◌≡◌};
-ghost use Rattle.text_forms.specs.Tree as tree;
-ghost use Rattle.streamit_unroll.specs.View.{expression};
 
 use river_base::Name;
 use work_code::BinOp;
@@ -76,32 +73,12 @@ pub struct Block {
 /// An expression as it is written.
 #[derive(Drop)]
 pub enum Expression {
-    /// `e || e`
-    Or(Box<Expression>, Box<Expression>),
-    /// `e && e`
-    And(Box<Expression>, Box<Expression>),
-    /// `e == e`
-    Eq(Box<Expression>, Box<Expression>),
-    /// `e != e`
-    Ne(Box<Expression>, Box<Expression>),
-    /// `e < e`
-    Lt(Box<Expression>, Box<Expression>),
-    /// `e <= e`
-    Le(Box<Expression>, Box<Expression>),
-    /// `e > e`
-    Gt(Box<Expression>, Box<Expression>),
-    /// `e >= e`
-    Ge(Box<Expression>, Box<Expression>),
-    /// `e + e`
-    Add(Box<Expression>, Box<Expression>),
-    /// `e - e`
-    Sub(Box<Expression>, Box<Expression>),
-    /// `e * e`
-    Mul(Box<Expression>, Box<Expression>),
-    /// `e / e`
-    Quot(Box<Expression>, Box<Expression>),
-    /// `e % e`
-    Rem(Box<Expression>, Box<Expression>),
+    /// `e || e`, or with another operator.
+    Bin {
+        op: BinOp,
+        left: Box<Expression>,
+        right: Box<Expression>,
+    },
     /// `-e`
     Neg(Box<Expression>),
     /// `!e`
@@ -114,27 +91,4 @@ pub enum Expression {
     Peek(Box<Expression>),
     /// `pop()`
     Pop,
-}
-
-impl Expression {
-    /// Two expressions and the operator between them.
-    pub fn binary(op: BinOp, left: Box<Expression>, right: Box<Expression>) -> Expression
-        ensures { expression result ≡ tree.Bin op (expression left.value) (expression right.value) }
-    {
-        match op {
-            BinOp::Or => Expression::Or(left, right),
-            BinOp::And => Expression::And(left, right),
-            BinOp::Eq => Expression::Eq(left, right),
-            BinOp::Ne => Expression::Ne(left, right),
-            BinOp::Lt => Expression::Lt(left, right),
-            BinOp::Le => Expression::Le(left, right),
-            BinOp::Gt => Expression::Gt(left, right),
-            BinOp::Ge => Expression::Ge(left, right),
-            BinOp::Add => Expression::Add(left, right),
-            BinOp::Sub => Expression::Sub(left, right),
-            BinOp::Mul => Expression::Mul(left, right),
-            BinOp::Quot => Expression::Quot(left, right),
-            BinOp::Rem => Expression::Rem(left, right),
-        }
-    }
 }

@@ -1,126 +1,130 @@
-use Rattle.std.proofs.Common.{◌∙◌, ap, ◌≡◌, ◌+◌, rules, ◌+◌, drop, get_or, sym, subst, arith}
+use Rattle.std.proofs.Common.{◌∙◌, ap, ℕ, [], ◌∷◌, suc, ◌+◌, rules, drop, get_or, length, subst, arith, refl}
+use Rattle.std.specs.Prelude.{codes}
 use Rattle.std.proofs.lemmas.List.{drop_all}
 use Rattle.kern_rows.specs.Forms.{filter_form}
-use Rattle.river_plan.specs.Forms.{op_form}
-use Rattle.streamit_build.specs.declared.builder.Declared.TheVariants as made
-use Rattle.streamit_build.specs.Units.{units_of}
+use Rattle.river_kernels.specs.Kern.{filter}
 use Rattle.streamit_model.specs.Stream.{Streams}
-use Rattle.streamit_build.specs.declared.builder.Made.{Made}
-use Rattle.std.specs.Prelude.{codes}
-use Rattle.streamit_model.specs.Build.{numbered, queues, joiner, build_branches, ops_of, queues_within}
-use Rattle.streamit_build.specs.Units.{splitter_of, AreTrees, Built}
-use Rattle.streamit_build.proofs.Branches.{RestSoFar, rest_start, rest_next, rest_end, split_built}
-use Rattle.streamit_build.proofs.Lines.{short_of, lower_split, LineSoFar, line_start, line_next, at_child, unit_at, lower_of, pipe_returns, last_returns, filter_returns}
+use Rattle.streamit_model.specs.Build.{numbered, queue, queues, with_own, splitter, joiner, build_branches, ops_of, queues_within}
+use Rattle.streamit_build.specs.declared.builder.Declared.TheVariants as made
+use Rattle.streamit_build.specs.Units.{units_of, splitter_of, AreTrees, Built}
+use Rattle.streamit_build.proofs.Branches.{RestSoFar, rest_start, rest_next, rest_returns, split_built}
+use Rattle.streamit_build.proofs.Lines.{short_of, lower_split, LineSoFar, line_start, line_next, at_child, unit_at, lower_of, pipe_returns, last_returns, filter_returns, below_same, trees_same}
 use Rattle.streamit_build.proofs.builder.+build.Goals as goal
 
-pub loop-child-init : goal.loop-child-init
-loop-child-init t c =
-    let us = units_of c.args.units.now in
-    let u = unit_at c.args.units.now c.args.i c.index-units-i.result (made.Pipeline c.in-Pipeline.front c.in-Pipeline.last) c.requires.there c.index-units-i.is c.in-Pipeline.is in
-    let low = lower_of us c.args.i c.in-Pipeline.front.items c.in-Pipeline.last c.requires.lower u in
-    rw c.as_slice-child-items.ensures.value (line_start us c.in-Pipeline.front.items c.in-Pipeline.last c.args.i c.args.made.now c.args.from c.args.to low.0)
+pub line-loop-child-init : goal.line-loop-child-init
+line-loop-child-init t c = line_start (units_of c.args.units.now) c.args.parts.front.now c.args.parts.last c.args.i c.args.made.now c.args.from c.args.to c.requires.below.0
 
-pub build-requires : goal.build-requires
-build-requires t c =
-    let items = c.as_slice-child-items.result.now in
+pub line-loop-child-preserved : goal.line-loop-child-preserved
+line-loop-child-preserved t c =
+    let us = units_of c.args.units.now in
+    let items = c.args.parts.front.now in
     let child = get_or items c.loop-child.child-index 0 in
-    let f = subst (λ l. LineSoFar (units_of c.args.units.now) items l c.in-Pipeline.last c.args.i c.args.made.now c.loop-child.made c.args.from c.loop-child.start c.args.to) (at_child items c.loop-child.child-index child (search rules) (search rules)) c.loop-child.invariant in
-    let lt = f.lower.0 in
-    let d = c.decreases in
-    let there = c.requires.there in
-    (omega (arith, lt, d), (omega (arith, lt, there), (c.requires.lower, c.requires.named)))
+    let f = subst (λ l. LineSoFar us items l c.args.parts.last c.args.i c.args.made.now c.loop-child.made c.args.from c.loop-child.start c.args.to) (at_child items c.loop-child.child-index child (search rules) (search rules)) c.loop-child.invariant in
+    line_next us items child (drop (c.loop-child.child-index + 1) items) c.args.parts.last c.args.i c.args.made.now c.loop-child.made c.queue.new.self c.build.new.made c.args.from c.loop-child.start c.args.to c.in_ok-end.end f
+    c.in_ok-end.ensures.name c.in_ok-end.ensures.next c.in_ok-end.ensures.op c.in_ok-end.ensures.ops (c.in_ok-build.ensures {u = tt})
 
-pub loop-child-preserved : goal.loop-child-preserved
-loop-child-preserved t c =
+pub line-returns : goal.line-returns
+line-returns t c =
     let us = units_of c.args.units.now in
-    let items = c.as_slice-child-items.result.now in
+    let items = c.args.parts.front.now in
+    let f = subst (λ l. LineSoFar us items l c.args.parts.last c.args.i c.args.made.now c.loop-child.made c.args.from c.loop-child.start c.args.to) (drop_all c.loop-child.child-index items (search rules)) c.loop-child.invariant in
+    last_returns us items c.args.parts.last c.args.i c.args.made.now c.loop-child.made c.build-2.new.made c.args.from c.loop-child.start c.args.to c.build-2.result f c.build-2.ensures
+
+pub branches-loop-child-init : goal.branches-loop-child-init
+branches-loop-child-init t c = rest_start (units_of c.args.units.now) c.args.parts.front.now c.args.parts.last c.args.i c.args.made.now c.args.lanes.first c.args.lanes.second c.requires.below.0
+
+pub branches-loop-child-preserved : goal.branches-loop-child-preserved
+branches-loop-child-preserved t c =
+    let us = units_of c.args.units.now in
+    let items = c.args.parts.front.now in
     let child = get_or items c.loop-child.child-index 0 in
-    let f = subst (λ l. LineSoFar us items l c.in-Pipeline.last c.args.i c.args.made.now c.loop-child.made c.args.from c.loop-child.start c.args.to) (at_child items c.loop-child.child-index child (search rules) (search rules)) c.loop-child.invariant in
-    line_next us items child (drop (c.loop-child.child-index + 1) items) c.in-Pipeline.last c.args.i c.args.made.now c.loop-child.made c.queue.new.self c.build.new.made c.args.from c.loop-child.start c.args.to c.in_ok-end-in-Pipeline.end f
-    c.in_ok-end-in-Pipeline.ensures.name c.in_ok-end-in-Pipeline.ensures.next c.in_ok-end-in-Pipeline.ensures.op c.in_ok-end-in-Pipeline.ensures.ops (c.in_ok-build-in-Pipeline.ensures {u = tt})
+    let a0 = c.args.lanes.first in
+    let b0 = c.args.lanes.second in
+    let f = subst (λ l. RestSoFar us items l c.args.parts.last c.args.i c.args.made.now c.loop-child.made a0 b0 c.loop-child.a c.loop-child.b) (at_child items c.loop-child.child-index child (search rules) (search rules)) c.loop-child.invariant in
+    rest_next us items child (drop (c.loop-child.child-index + 1) items) c.args.parts.last c.args.i c.args.made.now c.loop-child.made c.lane.new.made a0 b0 c.loop-child.a c.loop-child.b c.in_ok-a.a c.in_ok-b.b (queue c.loop-child.a) (queue c.loop-child.b) f
+    refl refl (c.in_ok-a.ensures {u = tt}) (c.in_ok-b.ensures {u = tt}) (c.in_ok-lane.ensures {u = tt})
 
-pub build-requires-in-Pipeline : goal.build-requires-in-Pipeline
-build-requires-in-Pipeline t c =
+pub branches-returns : goal.branches-returns
+branches-returns t c =
     let us = units_of c.args.units.now in
-    let u = unit_at c.args.units.now c.args.i c.index-units-i.result (made.Pipeline c.in-Pipeline.front c.in-Pipeline.last) c.requires.there c.index-units-i.is c.in-Pipeline.is in
-    let low = lower_of us c.args.i c.in-Pipeline.front.items c.in-Pipeline.last c.requires.lower u in
-    let lt = low.1 in
-    let d = c.decreases in
-    let there = c.requires.there in
-    (omega (arith, lt, d), (omega (arith, lt, there), (c.requires.lower, c.requires.named)))
+    let items = c.args.parts.front.now in
+    let a0 = c.args.lanes.first in
+    let b0 = c.args.lanes.second in
+    let f = subst (λ l. RestSoFar us items l c.args.parts.last c.args.i c.args.made.now c.loop-child.made a0 b0 c.loop-child.a c.loop-child.b) (drop_all c.loop-child.child-index items (search rules)) c.loop-child.invariant in
+    rest_returns us items c.args.parts.last c.args.i c.args.made.now c.loop-child.made c.lane-2.new.made a0 b0 c.loop-child.a c.loop-child.b c.lane-2.result f c.lane-2.ensures
 
-pub filter_op-requires : goal.filter_op-requires
-filter_op-requires t c =
+pub build-filter-requires : goal.build-filter-requires
+build-filter-requires t c =
     let us = units_of c.args.units.now in
     let u = unit_at c.args.units.now c.args.i c.index-units-i.result (made.Filter c.in-Filter.name c.in-Filter.filter) c.requires.there c.index-units-i.is c.in-Filter.is in
     short_of us c.args.i c.in-Filter.name (filter_form c.in-Filter.filter) c.requires.named u
 
-pub returns-in_ok-op-in-Filter : goal.returns-in_ok-op-in-Filter
-returns-in_ok-op-in-Filter t c =
+pub build-returns-in-Filter : goal.build-returns-in-Filter
+build-returns-in-Filter t c =
     let us = units_of c.args.units.now in
-    let u = unit_at c.args.units.now c.args.i c.index-units-i.result (made.Filter c.in-Filter.name c.in-Filter.filter) c.requires.there c.index-units-i.is c.in-Filter.is in
-    filter_returns us c.args.i c.in-Filter.name (filter_form c.in-Filter.filter) c.args.made.now c.add.new.self (op_form c.in_ok-op-in-Filter.op) c.args.from c.args.to c.add.result u
-    (c.in_ok-op-in-Filter.ensures {u = tt}) c.add.ensures.ops c.add.ensures.next c.add.ensures.queue
+    let old = c.args.made.now in
+    let name = c.in-Filter.name in
+    let f = filter_form c.in-Filter.filter in
+    let u = unit_at c.args.units.now c.args.i c.index-units-i.result (made.Filter name c.in-Filter.filter) c.requires.there c.index-units-i.is c.in-Filter.is in
+    let op = with_own (numbered name old.next_op) (filter f) (c.args.from ∷ []) (c.args.to ∷ []) in
+    filter_returns us c.args.i name f old c.filter.new.self op c.args.from c.args.to c.filter.result u refl c.filter.ensures.ops c.filter.ensures.next c.filter.ensures.queue
 
-pub returns-after-loop-child : goal.returns-after-loop-child
-returns-after-loop-child t c =
+pub build-line-requires : goal.build-line-requires
+build-line-requires t c =
     let us = units_of c.args.units.now in
-    let items = c.as_slice-child-items.result.now in
-    let u = unit_at c.args.units.now c.args.i c.index-units-i.result (made.Pipeline c.in-Pipeline.front c.in-Pipeline.last) c.requires.there c.index-units-i.is c.in-Pipeline.is in
-    let f = subst (λ l. LineSoFar us items l c.in-Pipeline.last c.args.i c.args.made.now c.loop-child.made c.args.from c.loop-child.start c.args.to) (drop_all c.loop-child.child-index items (search rules)) c.loop-child.invariant in
-    pipe_returns us c.args.i c.in-Pipeline.front.items c.in-Pipeline.last c.args.made.now c.build-in-Pipeline.new.made c.args.from c.args.to c.build-in-Pipeline.result u
-    (rw (sym c.as_slice-child-items.ensures.value) (last_returns us items c.in-Pipeline.last c.args.i c.args.made.now c.loop-child.made c.build-in-Pipeline.new.made c.args.from c.loop-child.start c.args.to c.build-in-Pipeline.result f c.build-in-Pipeline.ensures))
-
-pub loop-child-2-init : goal.loop-child-2-init
-loop-child-2-init t c =
-    let us = units_of c.args.units.now in
-    let u = unit_at c.args.units.now c.args.i c.index-units-i.result (made.SplitJoin c.in-SplitJoin.split c.in-SplitJoin.front c.in-SplitJoin.last c.in-SplitJoin.join) c.requires.there c.index-units-i.is c.in-SplitJoin.is in
-    let low = lower_split us c.args.i (splitter_of c.in-SplitJoin.split) c.in-SplitJoin.front.items c.in-SplitJoin.last c.in-SplitJoin.join.items c.requires.lower u in
-    let first : Made = record { ops = c.add-in-SplitJoin.new.self.ops; next_op = c.add-in-SplitJoin.new.self.next_op; next_queue = c.in_ok-made-in-SplitJoin.field-0 } in
-    let a0 = c.args.made.now.next_queue in
-    let b0 = c.in_ok-second-in-SplitJoin.second in
-    let items = c.as_slice-child-items-in-SplitJoin.result.now in
-    rw c.as_slice-child-items-in-SplitJoin.ensures.value (rest_start us c.in-SplitJoin.front.items c.in-SplitJoin.last c.args.i first a0 b0 low.0)
-
-pub loop-child-2-preserved : goal.loop-child-2-preserved
-loop-child-2-preserved t c =
-    let us = units_of c.args.units.now in
-    let first : Made = record { ops = c.add-in-SplitJoin.new.self.ops; next_op = c.add-in-SplitJoin.new.self.next_op; next_queue = c.in_ok-made-in-SplitJoin.field-0 } in
-    let a0 = c.args.made.now.next_queue in
-    let b0 = c.in_ok-second-in-SplitJoin.second in
-    let items = c.as_slice-child-items-in-SplitJoin.result.now in
-    let child = get_or items c.loop-child-2.child-index 0 in
-    let f = subst (λ l. RestSoFar us items l c.in-SplitJoin.last c.args.i first c.loop-child-2.made a0 b0 c.loop-child-2.a c.loop-child-2.b) (at_child items c.loop-child-2.child-index child (search rules) (search rules)) c.loop-child-2.invariant in
-    rest_next us items child (drop (c.loop-child-2.child-index + 1) items) c.in-SplitJoin.last c.args.i first c.loop-child-2.made c.build-in-loop-child-2.new.made a0 b0 c.loop-child-2.a c.loop-child-2.b c.in_ok-a-in-SplitJoin.a c.in_ok-b-in-SplitJoin.b c.in_ok-start-in-SplitJoin.start c.in_ok-end-in-SplitJoin.end f
-    (c.in_ok-start-in-SplitJoin.ensures {u = tt}) (c.in_ok-end-in-SplitJoin.ensures {u = tt}) (c.in_ok-a-in-SplitJoin.ensures {u = tt}) (c.in_ok-b-in-SplitJoin.ensures {u = tt}) (c.in_ok-build-in-SplitJoin.ensures {u = tt})
-
-pub build-requires-in-SplitJoin : goal.build-requires-in-SplitJoin
-build-requires-in-SplitJoin t c =
-    let us = units_of c.args.units.now in
-    let u = unit_at c.args.units.now c.args.i c.index-units-i.result (made.SplitJoin c.in-SplitJoin.split c.in-SplitJoin.front c.in-SplitJoin.last c.in-SplitJoin.join) c.requires.there c.index-units-i.is c.in-SplitJoin.is in
-    let low = lower_split us c.args.i (splitter_of c.in-SplitJoin.split) c.in-SplitJoin.front.items c.in-SplitJoin.last c.in-SplitJoin.join.items c.requires.lower u in
-    let lt = low.1 in
+    let front = c.in-Pipeline.front.items in
+    let last = c.in-Pipeline.last in
+    let p = c.of-parts.result in
+    let u = unit_at c.args.units.now c.args.i c.index-units-i.result (made.Pipeline c.in-Pipeline.front last) c.requires.there c.index-units-i.is c.in-Pipeline.is in
+    let low = lower_of us c.args.i front last c.requires.lower u in
     let d = c.decreases in
-    let there = c.requires.there in
-    (omega (arith, lt, d), (omega (arith, lt, there), (c.requires.lower, c.requires.named)))
+    (omega (arith, d), (c.requires.there, (below_same c.args.i p.front.now front p.last last c.of-parts.ensures.front c.of-parts.ensures.last low, (c.requires.lower, c.requires.named))))
 
-pub returns-in_ok-join_op-in-SplitJoin : goal.returns-in_ok-join_op-in-SplitJoin
-returns-in_ok-join_op-in-SplitJoin t c =
+pub build-returns-in-Pipeline : goal.build-returns-in-Pipeline
+build-returns-in-Pipeline t c =
     let us = units_of c.args.units.now in
-    let u = unit_at c.args.units.now c.args.i c.index-units-i.result (made.SplitJoin c.in-SplitJoin.split c.in-SplitJoin.front c.in-SplitJoin.last c.in-SplitJoin.join) c.requires.there c.index-units-i.is c.in-SplitJoin.is in
-    let first : Made = record { ops = c.add-in-SplitJoin.new.self.ops; next_op = c.add-in-SplitJoin.new.self.next_op; next_queue = c.in_ok-made-in-SplitJoin.field-0 } in
-    let a0 = c.args.made.now.next_queue in
-    let b0 = c.in_ok-second-in-SplitJoin.second in
-    let items = c.as_slice-child-items-in-SplitJoin.result.now in
-    let n = c.in_ok-n-in-SplitJoin.n in
-    let f = subst (λ l. RestSoFar us items l c.in-SplitJoin.last c.args.i first c.loop-child-2.made a0 b0 c.loop-child-2.a c.loop-child-2.b) (drop_all c.loop-child-2.child-index items (search rules)) c.loop-child-2.invariant in
-    let last = λ (ss : Streams) (trees : AreTrees us items c.in-SplitJoin.last ss). rest_end us items c.in-SplitJoin.last c.args.i first c.loop-child-2.made c.build-in-SplitJoin.new.made a0 b0 c.loop-child-2.a c.loop-child-2.b c.in_ok-start-in-SplitJoin-2.start c.in_ok-end-in-SplitJoin-2.end ss f trees
-    (c.in_ok-start-in-SplitJoin-2.ensures {u = tt}) (c.in_ok-end-in-SplitJoin-2.ensures {u = tt}) (c.in_ok-build-in-SplitJoin-2.ensures {u = tt}) in
-    let built = λ (ss : Streams) (trees : AreTrees us c.in-SplitJoin.front.items c.in-SplitJoin.last ss). last ss (subst (λ l. AreTrees us l c.in-SplitJoin.last ss) (sym c.as_slice-child-items-in-SplitJoin.ensures.value) trees) in
-    let e : b0 ≡ a0 + n = c.in_ok-second-in-SplitJoin.ensures {u = tt} in
-    split_built us c.args.i (splitter_of c.in-SplitJoin.split) c.in-SplitJoin.front.items c.in-SplitJoin.last c.in-SplitJoin.join.items c.args.made.now first c.build-in-SplitJoin.new.made c.add-in-SplitJoin-2.new.self c.args.from c.args.to n
-    (op_form c.in_ok-split_op-in-SplitJoin.split_op) (op_form c.in_ok-join_op-in-SplitJoin.join_op) c.add-in-SplitJoin-2.result u (c.in_ok-n-in-SplitJoin.ensures {u = tt}) (c.in_ok-split_op-in-SplitJoin.ensures {u = tt})
-    c.in_ok-add-in-SplitJoin.ensures.ops c.in_ok-add-in-SplitJoin.ensures.next (c.in_ok-made-in-SplitJoin.ensures {u = tt} ∙ ap (λ q. q + n) e)
-    (λ ss trees. subst (λ q. Built first c.build-in-SplitJoin.new.made (build_branches ss first.next_op first.next_queue a0 q) (ops_of ss) (queues_within ss)) e (built ss trees))
-    (c.in_ok-join_op-in-SplitJoin.ensures {u = tt} ∙ ap (λ q. joiner c.in-SplitJoin.join.items (numbered (codes "join") c.build-in-SplitJoin.new.made.next_op) (queues q n) c.args.to) e)
-    c.add-in-SplitJoin-2.ensures.ops c.add-in-SplitJoin-2.ensures.next c.add-in-SplitJoin-2.ensures.queue
+    let front = c.in-Pipeline.front.items in
+    let last = c.in-Pipeline.last in
+    let p = c.of-parts.result in
+    let u = unit_at c.args.units.now c.args.i c.index-units-i.result (made.Pipeline c.in-Pipeline.front last) c.requires.there c.index-units-i.is c.in-Pipeline.is in
+    pipe_returns us c.args.i front last c.args.made.now c.line.new.made c.args.from c.args.to c.line.result u
+    (λ ss trees. c.line.ensures ss (trees_same us p.front.now front p.last last ss c.of-parts.ensures.front c.of-parts.ensures.last trees))
+
+pub build-branches-requires : goal.build-branches-requires
+build-branches-requires t c =
+    let us = units_of c.args.units.now in
+    let split = c.in-SplitJoin in
+    let front = split.front.items in
+    let p = c.of-parts-in-SplitJoin.result in
+    let e = c.of-parts-in-SplitJoin.ensures in
+    let u = unit_at c.args.units.now c.args.i c.index-units-i.result (made.SplitJoin split.split split.front split.last split.join) c.requires.there c.index-units-i.is split.is in
+    let low = lower_split us c.args.i (splitter_of split.split) front split.last split.join.items c.requires.lower u in
+    let d = c.decreases in
+    (omega (arith, d), (c.requires.there, (below_same c.args.i p.front.now front p.last split.last e.front e.last low, (c.requires.lower, c.requires.named))))
+
+pub build-returns-in_ok-branches-in-SplitJoin : goal.build-returns-in_ok-branches-in-SplitJoin
+build-returns-in_ok-branches-in-SplitJoin t c =
+    let us = units_of c.args.units.now in
+    let split = c.in-SplitJoin in
+    let front = split.front.items in
+    let ws = split.join.items in
+    let d = splitter_of split.split in
+    let p = c.of-parts-in-SplitJoin.result in
+    let e = c.of-parts-in-SplitJoin.ensures in
+    let lanes = c.in_ok-lanes-in-SplitJoin.lanes in
+    let h = c.in_ok-lanes-in-SplitJoin.ensures in
+    let old = c.args.made.now in
+    let first = c.split.new.self in
+    let mid = c.branches.new.made in
+    let k = old.next_queue in
+    let n = suc (length p.front.now) in
+    let u = unit_at c.args.units.now c.args.i c.index-units-i.result (made.SplitJoin split.split split.front split.last split.join) c.requires.there c.index-units-i.is split.is in
+    let join = λ (a m : ℕ). joiner ws (numbered (codes "join") mid.next_op) (queues a m) c.args.to in
+    let built = λ (ss : Streams) (trees : AreTrees us front split.last ss). c.in_ok-branches-in-SplitJoin.ensures {u = tt} ss (trees_same us p.front.now front p.last split.last ss e.front e.last trees) in
+    split_built us c.args.i d front split.last ws old first mid c.join.new.self c.args.from c.args.to n
+    (splitter d n (numbered (codes "split") old.next_op) c.args.from (queues k n)) (join lanes.second lanes.count) c.join.result u (ap (λ l. suc (length l)) e.front) refl
+    h.ops h.next h.queue
+    (λ ss trees. subst (λ q. Built first mid (build_branches ss first.next_op first.next_queue k q) (ops_of ss) (queues_within ss)) h.second
+    (subst (λ q. Built first mid (build_branches ss first.next_op first.next_queue q lanes.second) (ops_of ss) (queues_within ss)) h.first (built ss trees)))
+    (ap (λ a. join a lanes.count) h.second ∙ ap (join (k + n)) h.count)
+    c.join.ensures.ops c.join.ensures.next c.join.ensures.queue

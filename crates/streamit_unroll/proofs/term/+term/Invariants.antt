@@ -1,11 +1,10 @@
 use Rattle.std.proofs.Common.{◌+◌, ◌*◌}
 use Rattle.std.specs.Prelude.{max}
-use Rattle.text_forms.specs.Tree.{depth_of}
-use Rattle.streamit_unroll.specs.View.{expression}
+use Rattle.streamit_unroll.specs.declared.tree.Expression.{size-Expression}
 use Rattle.streamit_unroll.proofs.term.+term.Given as goal
 
 abbrev pub decreases-term : goal.decreases-term
-decreases-term l = depth_of (expression l.e.now) * 2
+decreases-term l = goal.size-term l * 2
 
 abbrev pub decreases-terms : goal.decreases-terms
-decreases-terms l = max (depth_of (expression l.left.now)) (depth_of (expression l.right.now)) * 2 + 1
+decreases-terms l = max (size-Expression l.left.now) (size-Expression l.right.now) * 2 + 1
