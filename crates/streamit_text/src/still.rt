@@ -12,19 +12,7 @@ fn is_still(e: &Expression) -> bool
     match e {
         Expression::Peek(_) | Expression::Pop => false,
         Expression::Neg(inner) | Expression::Not(inner) => is_still(inner),
-        Expression::Or(left, right)
-        | Expression::And(left, right)
-        | Expression::Eq(left, right)
-        | Expression::Ne(left, right)
-        | Expression::Lt(left, right)
-        | Expression::Le(left, right)
-        | Expression::Gt(left, right)
-        | Expression::Ge(left, right)
-        | Expression::Add(left, right)
-        | Expression::Sub(left, right)
-        | Expression::Mul(left, right)
-        | Expression::Quot(left, right)
-        | Expression::Rem(left, right) => is_still(left) && is_still(right),
+        Expression::Bin { left, right, .. } => is_still(left) && is_still(right),
         Expression::Number(_) | Expression::Name(_) => true,
     }
 }

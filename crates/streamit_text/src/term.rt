@@ -38,7 +38,11 @@ fn owned(alloc: Global, tree: &Tree<'_>) -> Result<Expression, Fault>
         Tree::Bin { op, left, right } => {
             let left = Box::new(alloc, owned(alloc, left)?)?;
             let right = Box::new(alloc, owned(alloc, right)?)?;
-            Ok(Expression::binary(*op, left, right))
+            Ok(Expression::Bin {
+                op: *op,
+                left,
+                right,
+            })
         }
         Tree::Input(_) | Tree::Slot(_) => Err(Fault::Syntax),
     }
