@@ -87,19 +87,7 @@ fn said(e: &Expression, items: &[i64], values: &Values, popped: &mut usize) -> R
             let inner = said(inner, items, values, popped)?;
             Ok(truth_of(inner == 0))
         }
-        Expression::Or(left, right) => both(BinOp::Or, left, right, items, values, popped),
-        Expression::And(left, right) => both(BinOp::And, left, right, items, values, popped),
-        Expression::Eq(left, right) => both(BinOp::Eq, left, right, items, values, popped),
-        Expression::Ne(left, right) => both(BinOp::Ne, left, right, items, values, popped),
-        Expression::Lt(left, right) => both(BinOp::Lt, left, right, items, values, popped),
-        Expression::Le(left, right) => both(BinOp::Le, left, right, items, values, popped),
-        Expression::Gt(left, right) => both(BinOp::Gt, left, right, items, values, popped),
-        Expression::Ge(left, right) => both(BinOp::Ge, left, right, items, values, popped),
-        Expression::Add(left, right) => both(BinOp::Add, left, right, items, values, popped),
-        Expression::Sub(left, right) => both(BinOp::Sub, left, right, items, values, popped),
-        Expression::Mul(left, right) => both(BinOp::Mul, left, right, items, values, popped),
-        Expression::Quot(left, right) => both(BinOp::Quot, left, right, items, values, popped),
-        Expression::Rem(left, right) => both(BinOp::Rem, left, right, items, values, popped),
+        Expression::Bin { op, left, right } => both(*op, left, right, items, values, popped),
     }
 }
 
