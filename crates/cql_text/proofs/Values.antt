@@ -8,7 +8,7 @@ use Rattle.text_forms.specs.Lines.{line_of, operator}
 use Rattle.text_forms.specs.Parse as parse
 use Rattle.text_forms.specs.ReadLines as lines
 use Rattle.text_forms.specs.Tail.{tail}
-use Rattle.text_forms.proofs.Exact.{Exact, Front, Any, exact-less, exact-tested, exact-seen, exact-number}
+use Rattle.text_forms.proofs.Exact.{Exact, Front, Any, exact-as, exact-less, exact-tested, exact-seen, exact-number}
 use Rattle.text_forms.proofs.ExactLines.{IsClear, exact-whole}
 use Rattle.text_forms.proofs.Pairs.{pair_inj}
 use Rattle.text_forms.proofs.Symbols.{begins_with-is}
@@ -178,4 +178,7 @@ clear = record {
 
 -- a value: no operator may follow, and no dot
 pub exact-scalar : (n : ℕ) → Exact (IsValue n) (value_at n) (Ends 6)
-exact-scalar n = exact-less (exact-whole syntax IsLeaf leaf_in NoDot clear n) (λ rest (d : Ends 6 rest). ((λ j less. operator_at-is j rest ∙ d.0 j (omega (arith, less))), d.1))
+unfolding value_at
+exact-scalar n =
+    exact-as (exact-less (exact-whole syntax IsLeaf leaf_in NoDot clear n) (λ rest (d : Ends 6 rest). ((λ j less. operator_at-is j rest ∙ d.0 j (omega (arith, less))), d.1)))
+    (λ v s h. h) (λ v s h. h) (λ ts. refl)

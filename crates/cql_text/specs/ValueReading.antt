@@ -35,5 +35,5 @@ abbrev pub leaf_in : ℕ → Parse Scalar
 leaf_in n ts = leaf_at ts
 
 -- a value at most 64 deep, where so many more brackets may be open
-abbrev pub value_at : ℕ → Parse Scalar
+unfoldable pub value_at : ℕ → Parse Scalar
 value_at n ts = whole_at syntax leaf_in n ts

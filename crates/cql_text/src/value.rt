@@ -175,6 +175,7 @@ impl<'a> Dialect<Reader<'a>> for Values {
 }
 
 /// A value, at most 64 deep, where `brackets` more brackets may be open.
+#[tactic(auto, unfolding(crate::specs::ValueReading::value_at))]
 pub fn value(reader: &mut Reader<'_>, alloc: Global, brackets: u32) -> Result<Scalar, Fault>
     ensures { Gives scalar result reader.new (value_at brackets reader.old) }
 {

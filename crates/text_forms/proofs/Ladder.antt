@@ -21,7 +21,7 @@ use Rattle.text_forms.specs.Parse as parse
 use Rattle.text_forms.specs.Forms as form
 use Rattle.text_forms.specs.Tree.{Spoken, depth_of}
 use Rattle.text_forms.specs.Tree as tree
-use Rattle.text_forms.proofs.Exact.{Exact, Front, Any, exact-less, exact-after, exact-before, exact-tested, exact-seen, exact-number, exact-nothing}
+use Rattle.text_forms.proofs.Exact.{Exact, Front, Any, exact-as, exact-less, exact-after, exact-before, exact-tested, exact-seen, exact-number, exact-nothing}
 use Rattle.text_forms.proofs.ExactLines.{IsClear, exact-whole}
 pub use Rattle.text_forms.specs.Exact.{Ends}
 use Rattle.text_forms.proofs.Pairs.{pair_inj}
@@ -271,4 +271,7 @@ clear l = record {
 
 -- an expression: no operator may follow
 pub exact-expr : (l : Language) (n : ℕ) → Exact (IsExpr l n) (expr_at l n) (Ends 6)
-exact-expr l n = exact-less (exact-whole (syntax l) (IsLeaf l) (leaf_at l) Any (clear l) n) (λ rest d. ((λ j less. operator_at-is l j rest ∙ d j (omega (arith, less))), tt))
+unfolding expr_at
+exact-expr l n =
+    exact-as (exact-less (exact-whole (syntax l) (IsLeaf l) (leaf_at l) Any (clear l) n) (λ rest (d : Ends 6 rest). ((λ j less. operator_at-is l j rest ∙ d j (omega (arith, less))), tt)))
+    (λ v s h. h) (λ v s h. h) (λ ts. refl)

@@ -43,5 +43,5 @@ leaf_at l brackets (number value ∷ ts) = Some (tree.Number value, ts)
 leaf_at l brackets (symbol x ∷ ts) = None
 
 -- an expression at most 64 deep, where so many more brackets may be open
-abbrev pub expr_at : Language → ℕ → Parse Spoken
+unfoldable pub expr_at : Language → ℕ → Parse Spoken
 expr_at l n ts = whole_at (syntax l) (leaf_at l) n ts

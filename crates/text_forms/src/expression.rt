@@ -163,6 +163,7 @@ impl<'a> Reader<'a> {
     /// # Errors
     ///
     /// `Syntax` where none comes next, `NoMemory` where there is no memory.
+    #[tactic(auto, unfolding(crate::specs::Ladder::expr_at))]
     pub fn expression(
         &mut self,
         alloc: Global,
