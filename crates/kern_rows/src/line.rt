@@ -82,31 +82,13 @@ impl Line {
     pub fn push(&mut self, item: Item) -> Result<(), NoMemory>
         ensures { OnOk result (self.new ≡ self.old ++ item ∷ []) }
     {
-        match item {
-            Item::Flat(flat) => self.push_flat(flat),
-            Item::Pack(flats) => self.push_other(Item::Pack(flats)),
+        if let Item::Flat(Flat::One(row)) = &item {
+            if self.others.is_empty() && self.rows.takes(row.values()) {
+                self.rows.push(row.values())?;
+                return Ok(());
+            }
         }
-    }
-
-    // An item that is no pack comes to the end.
-    fn push_flat(&mut self, flat: Flat) -> Result<(), NoMemory>
-        ensures { OnOk result (self.new ≡ self.old ++ FlatItem flat ∷ []) }
-    {
-        match flat {
-            Flat::One(row) => self.push_row(row),
-            Flat::Batch(batch) => self.push_other(Item::Flat(Flat::Batch(batch))),
-        }
-    }
-
-    // A row comes to the end.
-    fn push_row(&mut self, row: Row) -> Result<(), NoMemory>
-        ensures { OnOk result (self.new ≡ self.old ++ FlatItem (One row) ∷ []) }
-    {
-        if self.others.is_empty() && self.rows.takes(row.values()) {
-            self.rows.push(row.values())?;
-            return Ok(());
-        }
-        self.push_other(Item::Flat(Flat::One(row)))
+        self.push_other(item)
     }
 
     // An item comes to the end, whatever is there.
