@@ -1,3 +1,4 @@
+pub mod Ascents
 pub mod Faulty
 pub mod Fields
 pub mod Numbered

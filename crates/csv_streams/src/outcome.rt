@@ -1,6 +1,7 @@
 // The printed text of what a plan gave.
 ghost use Rattle.std.specs.Prelude.{◌≡◌, ◌++◌, ◌∷◌, [], true, length, map, codes, Some, IfOk, OnOk};
 ghost use Rattle.std.specs.Fmt.{signed_decimal};
+ghost use Rattle.river_base.specs.Held.{IsAscending};
 ghost use Rattle.river_base.specs.Row.{in_order};
 ghost use Rattle.kern_tables.specs.Kept.{rows_of};
 ghost use Rattle.river_plan.specs.Forms.{decl_names, table_names, labels, op_forms};
@@ -174,14 +175,38 @@ fn print_values(values: &[i64], to: &mut Bytes) -> Result<(), NoMemory>
     Ok(())
 }
 
-#[tactic(auto, using(crate::proofs::Texts::joins))]
 fn print_batch(alloc: Global, batch: &Batch, to: &mut Bytes) -> Result<(), NoMemory>
+    ensures { OnOk result (to.new ≡ to.old ++ text.lines text.row_line (map (λ row. batch.now.at ∷ row) (in_order batch.now.rows))) }
+{
+    if is_ascending(batch.rows.as_slice()) {
+        return print_timed_rows(batch.at, batch.rows.as_slice(), to);
+    }
+    print_sorted(alloc, batch, to)
+}
+
+// The same of rows in any order.
+fn print_sorted(alloc: Global, batch: &Batch, to: &mut Bytes) -> Result<(), NoMemory>
     ensures { OnOk result (to.new ≡ to.old ++ text.lines text.row_line (map (λ row. batch.now.at ∷ row) (in_order batch.now.rows))) }
 {
     let mut rows = batch.rows.copy(alloc)?;
     rows.sort()?;
-    for row in rows.as_slice() {
-        print_timed(batch.at, row, to)?;
+    print_timed_rows(batch.at, rows.as_slice(), to)
+}
+
+// Whether no row is below the one before.
+fn is_ascending(rows: &[Row]) -> bool
+    ensures { result ≡ true → IsAscending rows.now }
+{
+    rows.is_sorted()
+}
+
+// Each row behind this instant.
+#[tactic(auto, using(crate::proofs::Texts::joins))]
+fn print_timed_rows(at: i64, rows: &[Row], to: &mut Bytes) -> Result<(), NoMemory>
+    ensures { OnOk result (to.new ≡ to.old ++ text.lines text.row_line (map (λ row. at ∷ row) rows.now)) }
+{
+    for row in rows {
+        print_timed(at, row, to)?;
     }
     Ok(())
 }
