@@ -1,7 +1,7 @@
 // Declarations read.
 ghost use Rattle.std.specs.Prelude.{◌≡◌};
 ghost use Rattle.text_forms.specs.Gives.{Gives};
-ghost use Rattle.river_text.specs.ReadPlans.{river_name_at, river_var_at, flat_after, flat_at, packed_at, type_after, type_at, decl_at, kind_after, kind_at, table_at, private_at};
+ghost use Rattle.river_text.specs.ReadPlans.{river_name_at, river_var_at, flat_after, flat_at, packed_at, type_at, decl_at, kind_at, table_at, private_at};
 
 use crate::end::{ended, is};
 use crate::number::{number, pair};
@@ -74,24 +74,16 @@ fn packed(reader: &mut Reader<'_>) -> Result<FlatType, Fault>
     ended(reader, kind, Symbol::Close)
 }
 
-// What stands behind the word of a type.
-#[tactic(auto, unfolding(crate::specs::ReadPlans::type_after))]
-fn type_after(reader: &mut Reader<'_>, word: &[u8]) -> Result<QueueType, Fault>
-    ensures { Gives (λ kind. kind) result reader.new (type_after word.now reader.old) }
-{
-    if is(word, b"pack") {
-        return Ok(QueueType::Pack(packed(reader)?));
-    }
-    Ok(QueueType::Flat(flat_after(reader, BRACKETS, word)?))
-}
-
 // A type.
-#[tactic(auto, unfolding(crate::specs::ReadPlans::type_at))]
+#[tactic(auto, unfolding(crate::specs::ReadPlans::type_at, crate::specs::ReadPlans::type_after))]
 fn queue_type(reader: &mut Reader<'_>) -> Result<QueueType, Fault>
     ensures { Gives (λ kind. kind) result reader.new (type_at reader.old) }
 {
     let word = reader.name()?;
-    type_after(reader, word)
+    if is(word, b"pack") {
+        return Ok(QueueType::Pack(packed(reader)?));
+    }
+    Ok(QueueType::Flat(flat_after(reader, BRACKETS, word)?))
 }
 
 /// The declaration of a queue, behind its first word.
@@ -105,11 +97,12 @@ pub fn decl(reader: &mut Reader<'_>) -> Result<Decl, Fault>
     ended(reader, Decl { name, kind }, Symbol::Semicolon)
 }
 
-// What stands behind the word of a table's kind.
-#[tactic(auto, unfolding(crate::specs::ReadPlans::kind_after))]
-fn kind_after(reader: &mut Reader<'_>, word: &[u8]) -> Result<TableKind, Fault>
-    ensures { Gives (λ kind. kind) result reader.new (kind_after word.now reader.old) }
+// The kind of a table.
+#[tactic(auto, unfolding(crate::specs::ReadPlans::kind_at, crate::specs::ReadPlans::kind_after))]
+fn table_kind(reader: &mut Reader<'_>) -> Result<TableKind, Fault>
+    ensures { Gives (λ kind. kind) result reader.new (kind_at reader.old) }
 {
+    let word = reader.name()?;
     if is(word, b"sum") {
         let keys = number(reader, BRACKETS)?;
         return Ok(TableKind::Sum { keys });
@@ -123,15 +116,6 @@ fn kind_after(reader: &mut Reader<'_>, word: &[u8]) -> Result<TableKind, Fault>
         return Ok(TableKind::Maximum { best, keys });
     }
     Err(Fault::Syntax)
-}
-
-// The kind of a table.
-#[tactic(auto, unfolding(crate::specs::ReadPlans::kind_at))]
-fn table_kind(reader: &mut Reader<'_>) -> Result<TableKind, Fault>
-    ensures { Gives (λ kind. kind) result reader.new (kind_at reader.old) }
-{
-    let word = reader.name()?;
-    kind_after(reader, word)
 }
 
 /// The declaration of a table, behind its first word.

@@ -5,7 +5,7 @@ ghost use Rattle.text_forms.specs.Texts.{whole};
 ghost use Rattle.work_code.specs.Tok.{tokens_of};
 ghost use Rattle.river_plan.specs.Forms.{plan_form};
 ghost use Rattle.river_text.specs.Plans.{add, stage_of};
-ghost use Rattle.river_text.specs.ReadPlans.{unit_after, unit_at, unit_from};
+ghost use Rattle.river_text.specs.ReadPlans.{unit_at, unit_from};
 ghost use Rattle.river_text.specs.Entries.{entry_of};
 ghost use Rattle.river_text.specs.Made.{Makes};
 
@@ -59,11 +59,12 @@ impl Entry {
     }
 }
 
-// What stands behind the first word of a unit.
-#[tactic(auto, unfolding(crate::specs::ReadPlans::unit_after))]
-fn unit_after(reader: &mut Reader<'_>, alloc: Global, word: &[u8]) -> Result<Entry, Fault>
-    ensures { Gives entry_of result reader.new (unit_after word.now reader.old) }
+// A unit.
+#[tactic(auto, unfolding(crate::specs::ReadPlans::unit_at, crate::specs::ReadPlans::unit_after))]
+fn unit(reader: &mut Reader<'_>, alloc: Global) -> Result<Entry, Fault>
+    ensures { Gives entry_of result reader.new (unit_at reader.old) }
 {
+    let word = reader.name()?;
     if is(word, b"output") {
         return Ok(Entry::Output(decl(reader)?));
     }
@@ -83,15 +84,6 @@ fn unit_after(reader: &mut Reader<'_>, alloc: Global, word: &[u8]) -> Result<Ent
         return Ok(Entry::Op(operator(reader, alloc)?));
     }
     Err(Fault::Syntax)
-}
-
-// A unit.
-#[tactic(auto, unfolding(crate::specs::ReadPlans::unit_at))]
-fn unit(reader: &mut Reader<'_>, alloc: Global) -> Result<Entry, Fault>
-    ensures { Gives entry_of result reader.new (unit_at reader.old) }
-{
-    let word = reader.name()?;
-    unit_after(reader, alloc, word)
 }
 
 // Whether an entry is of this stage or of a later one, and no token is left behind it.

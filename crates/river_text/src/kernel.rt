@@ -2,7 +2,7 @@
 ghost use Rattle.std.specs.Prelude.{◌≡◌};
 ghost use Rattle.text_forms.specs.Gives.{Gives};
 ghost use Rattle.river_kernels.specs.Kern.{kern_of};
-ghost use Rattle.river_text.specs.ReadKernels.{code_at, filter_at, fused_at, stream_after, relation_after, bag_after, range_at, kernel_after, braced_at, kernel_at};
+ghost use Rattle.river_text.specs.ReadKernels.{code_at, filter_at, fused_at, stream_after, relation_after, bag_after, range_at, braced_at, kernel_at};
 
 use crate::body::body;
 use crate::end::{ended, is};
@@ -154,17 +154,24 @@ fn fused(reader: &mut Reader<'_>, alloc: Global, brackets: u32) -> Result<Kernel
     Ok(Kernel::Fused { first, second, at })
 }
 
-// What stands behind the word of a kernel.
+/// `{` kernel `}`, where so many more brackets may be open.
 #[cycle(kernel)]
-#[tactic(auto, unfolding(crate::specs::ReadKernels::kernel_after))]
-fn kernel_after(
-    reader: &mut Reader<'_>,
-    alloc: Global,
-    brackets: u32,
-    word: &[u8],
-) -> Result<Kernel, Fault>
-    ensures { Gives kern_of result reader.new (kernel_after (braced_at brackets) brackets word.now reader.old) }
+#[tactic(auto, using(crate::proofs::Braces::braces))]
+pub fn braced(reader: &mut Reader<'_>, alloc: Global, brackets: u32) -> Result<Kernel, Fault>
+    ensures { Gives kern_of result reader.new (braced_at brackets reader.old) }
 {
+    let inner = reader.opens(Symbol::OpenBrace, brackets)?;
+    let kernel = kernel(reader, alloc, inner)?;
+    ended(reader, kernel, Symbol::CloseBrace)
+}
+
+// A kernel, where `brackets` more brackets may be open.
+#[cycle(kernel)]
+#[tactic(auto, unfolding(crate::specs::ReadKernels::kernel_at, crate::specs::ReadKernels::kernel_after))]
+fn kernel(reader: &mut Reader<'_>, alloc: Global, brackets: u32) -> Result<Kernel, Fault>
+    ensures { Gives kern_of result reader.new (kernel_at brackets reader.old) }
+{
+    let word = reader.name()?;
     if is(word, b"code") {
         return code(reader, alloc, brackets);
     }
@@ -190,25 +197,4 @@ fn kernel_after(
         return fused(reader, alloc, brackets);
     }
     bag_after(reader, alloc, brackets, word)
-}
-
-/// `{` kernel `}`, where so many more brackets may be open.
-#[cycle(kernel)]
-#[tactic(auto, using(crate::proofs::Braces::braces))]
-pub fn braced(reader: &mut Reader<'_>, alloc: Global, brackets: u32) -> Result<Kernel, Fault>
-    ensures { Gives kern_of result reader.new (braced_at brackets reader.old) }
-{
-    let inner = reader.opens(Symbol::OpenBrace, brackets)?;
-    let kernel = kernel(reader, alloc, inner)?;
-    ended(reader, kernel, Symbol::CloseBrace)
-}
-
-// A kernel, where `brackets` more brackets may be open.
-#[cycle(kernel)]
-#[tactic(auto, unfolding(crate::specs::ReadKernels::kernel_at))]
-fn kernel(reader: &mut Reader<'_>, alloc: Global, brackets: u32) -> Result<Kernel, Fault>
-    ensures { Gives kern_of result reader.new (kernel_at brackets reader.old) }
-{
-    let word = reader.name()?;
-    kernel_after(reader, alloc, brackets, word)
 }

@@ -2,16 +2,13 @@ use Rattle.std.proofs.Common.{◌+◌, ◌*◌}
 use Rattle.river_text.proofs.kernel.+kernel.Given as goal
 
 abbrev pub decreases-kernel : goal.decreases-kernel
-decreases-kernel l = l.brackets * 5 + 4
-
-abbrev pub decreases-kernel_after : goal.decreases-kernel_after
-decreases-kernel_after l = l.brackets * 5 + 3
+decreases-kernel l = l.brackets * 4 + 3
 
 abbrev pub decreases-fused : goal.decreases-fused
-decreases-fused l = l.brackets * 5 + 2
+decreases-fused l = l.brackets * 4 + 2
 
 abbrev pub decreases-boxed : goal.decreases-boxed
-decreases-boxed l = l.brackets * 5 + 1
+decreases-boxed l = l.brackets * 4 + 1
 
 abbrev pub decreases-braced : goal.decreases-braced
-decreases-braced l = l.brackets * 5
+decreases-braced l = l.brackets * 4
