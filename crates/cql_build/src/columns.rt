@@ -7,6 +7,7 @@ ghost use Rattle.cql_build.specs.Views.{value_of, column_of, chosen_of, columns_
 
 use crate::Item;
 use crate::names::name_of;
+use crate::shape::Shape;
 use cql_text::{Column, Columns, Scalar};
 use river_base::{Bytes, Name, NoMemory};
 use river_plan::Names;
@@ -81,26 +82,11 @@ fn column_name(alloc: Global, place: usize, column: &Column) -> Result<Name, NoM
 fn value_name(alloc: Global, place: usize, value: &Scalar) -> Result<Name, NoMemory>
     ensures { IfOk result (λ name. name ≡ plain_name (value_of value.now) (codes "c" ++ decimal place)) }
 {
-    match value {
-        Scalar::Field(field) => Ok(*field),
-        Scalar::ItemField(_, field) => Ok(*field),
-        Scalar::Number(_)
-        | Scalar::Neg(_)
-        | Scalar::Not(_)
-        | Scalar::Mul(_, _)
-        | Scalar::Quot(_, _)
-        | Scalar::Rem(_, _)
-        | Scalar::Add(_, _)
-        | Scalar::Sub(_, _)
-        | Scalar::Equal(_, _)
-        | Scalar::Different(_, _)
-        | Scalar::NotEqual(_, _)
-        | Scalar::Less(_, _)
-        | Scalar::LessEqual(_, _)
-        | Scalar::Greater(_, _)
-        | Scalar::GreaterEqual(_, _)
-        | Scalar::And(_, _)
-        | Scalar::Or(_, _) => place_name(alloc, place),
+    match Shape::of(value) {
+        Shape::Field(field) | Shape::ItemField(_, field) => Ok(field),
+        Shape::Number(_) | Shape::Neg(_) | Shape::Not(_) | Shape::Both(_, _, _) => {
+            place_name(alloc, place)
+        }
     }
 }
 

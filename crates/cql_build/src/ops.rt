@@ -170,10 +170,11 @@ pub(crate) fn copy_op(
 ) -> Result<Op, NoMemory>
     ensures { IfOk result (λ made. op_form made ≡ op name (duplicate count) (from ∷ []) writes []) }
 {
+    let reads = one(alloc, from)?;
     Ok(Op {
         label: name,
         kernel: Kernel::Duplicate(count),
-        reads: one(alloc, from)?,
+        reads,
         writes,
         vars: Names::new(alloc),
     })

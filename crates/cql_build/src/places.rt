@@ -105,7 +105,14 @@ fn binary(
 ) -> Result<Expr, NoMemory>
     ensures { (l r : Term) → IfOk left (λ e. term e ≡ l) → IfOk right (λ e. term e ≡ r) → IfOk result (λ e. term e ≡ Bin op l r) }
 {
-    let left = Box::new(alloc, left?)?;
-    let right = Box::new(alloc, right?)?;
+    let left = boxed(alloc, left)?;
+    let right = boxed(alloc, right)?;
     Ok(Expr::Bin { op, left, right })
+}
+
+// A value in a box, where there was memory for it.
+fn boxed(alloc: Global, value: Result<Expr, NoMemory>) -> Result<Box<Expr>, NoMemory>
+    ensures { (t : Term) → IfOk value (λ e. term e ≡ t) → IfOk result (λ e. term e.value ≡ t) }
+{
+    Ok(Box::new(alloc, value?)?)
 }

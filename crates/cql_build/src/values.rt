@@ -5,6 +5,7 @@ ghost use Rattle.cql_model.specs.Faults.{places, item_places, field_fault, scala
 ghost use Rattle.cql_build.specs.Views.{value_of, chosen_of, columns_of, condition_of, scope};
 
 use crate::Item;
+use crate::shape::Shape;
 use cql_model::Fault;
 use cql_text::{Column, Columns, Scalar};
 use river_base::Name;
@@ -61,25 +62,13 @@ fn field_fault(places: usize) -> Option<Fault>
 pub(crate) fn value_fault(items: &[Item<'_>], value: &Scalar) -> Option<Fault>
     ensures { result ≡ scalar_fault (scope items.now) (value_of value.now) }
 {
-    match value {
-        Scalar::Number(_) => None,
-        Scalar::Field(field) => field_fault(places(items, *field)),
-        Scalar::ItemField(item, field) => field_fault(item_places(items, *item, *field)),
-        Scalar::Neg(inner) | Scalar::Not(inner) => value_fault(items, inner),
-        Scalar::Mul(left, right)
-        | Scalar::Quot(left, right)
-        | Scalar::Rem(left, right)
-        | Scalar::Add(left, right)
-        | Scalar::Sub(left, right)
-        | Scalar::Equal(left, right)
-        | Scalar::Different(left, right)
-        | Scalar::NotEqual(left, right)
-        | Scalar::Less(left, right)
-        | Scalar::LessEqual(left, right)
-        | Scalar::Greater(left, right)
-        | Scalar::GreaterEqual(left, right)
-        | Scalar::And(left, right)
-        | Scalar::Or(left, right) => match value_fault(items, left) {
+    match Shape::of(value) {
+        Shape::Number(_) => None,
+        Shape::Field(field) => field_fault(places(items, field)),
+        Shape::ItemField(item, field) => field_fault(item_places(items, item, field)),
+        Shape::Neg(inner) => value_fault(items, inner),
+        Shape::Not(inner) => value_fault(items, inner),
+        Shape::Both(_, left, right) => match value_fault(items, left) {
             Some(fault) => Some(fault),
             None => value_fault(items, right),
         },
