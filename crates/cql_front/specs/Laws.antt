@@ -3,12 +3,11 @@ use Rattle.std.specs.Prelude.{◌≡◌, ◌↔◌, ℕ, ℤ, List, [], Some, No
 use Rattle.work_code.specs.Lexis.{tokens_in}
 use Rattle.work_code.specs.declared.fault.LexFault.TheVariants as lex
 use Rattle.text_forms.specs.declared.refusal.Refusal.TheVariants.{BadByte, BigNumber, Syntax}
-use Rattle.river_base.specs.Instants as base
 use Rattle.river_plan.specs.Valid.{IsPlan}
 use Rattle.river_print.specs.Printable.{IsPrintable}
 use Rattle.brooklet_model.specs.Meaning.{meaning}
 use Rattle.cql_model.specs.Faults.{refusal_of}
-use Rattle.cql_model.specs.Instants.{inputs_for, instants, program_means}
+use Rattle.cql_model.specs.Instants.{inputs_for, program_means}
 use Rattle.cql_model.specs.Laws.{AreFiles}
 use Rattle.cql_model.specs.Translation.{plan_of}
 use Rattle.cql_model.specs.declared.fault.Refusal.{Refusal}
@@ -53,7 +52,3 @@ PlansMean =
 -- the plan of a tree is within the bounds of River text
 abbrev pub PlansArePrintable : Type 0
 PlansArePrintable = (p : List Part) → IsPrintable (plan_of (program_of p))
-
--- the instants of a run by CQL's own definition are those of its files
-abbrev pub InstantsAgree : Type 0
-InstantsAgree = (files : List (List (ℤ × List ℤ))) → instants files ≡ base.instants files

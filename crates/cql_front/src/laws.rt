@@ -1,5 +1,5 @@
 //! Laws over the definitions alone.
-ghost use Rattle.cql_front.specs.Laws.{MeansWhatItHas, PlansMean, PlansArePrintable, InstantsAgree};
+ghost use Rattle.cql_front.specs.Laws.{MeansWhatItHas, PlansMean, PlansArePrintable};
 
 /// What a text means is what it has in the grammar, and what judging says of the program.
 pub fn texts_mean_what_they_have()
@@ -14,9 +14,4 @@ pub fn plans_mean()
 /// The plan of each tree is within the bounds of River text, so where it is valid, its text is read back as it.
 pub fn plans_are_printable()
     ensures { PlansArePrintable }
-{}
-
-/// The instants of a run by CQL's own definition are all timestamps of its files in ascending order, each once.
-pub fn instants_agree()
-    ensures { InstantsAgree }
 {}

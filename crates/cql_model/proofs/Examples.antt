@@ -2,13 +2,13 @@
 use Rattle.std.proofs.Common.{◌≡◌, ℕ, ℤ, pos, Some, None, List, [], ◌∷◌, refl, map}
 use Rattle.std.specs.Prelude.{codes}
 use Rattle.std.specs.Fmt.{digits}
+use Rattle.river_base.specs.Instants.{Timed}
 use Rattle.work_code.specs.declared.expr.BinOp.TheVariants as o
 use Rattle.kern_bags.specs.declared.kernel.Window.TheVariants.{Now, Range, Latest}
 use Rattle.kern_bags.specs.declared.kernel.Streamer.TheVariants.{Istream, Dstream, Rstream}
 use Rattle.river_plan.specs.declared.plan.Decl.{Decl}
 use Rattle.river_plan.specs.Forms.{Name, OpForm}
 use Rattle.cql_model.specs.Program.{Number, Field, Bin, Column, Star, Chosen, Register, Ask, Program}
-use Rattle.cql_model.specs.Streams.{Timed}
 use Rattle.cql_model.specs.Meaning.{answers}
 use Rattle.cql_model.specs.Translation.{plan_of}
 

@@ -2,6 +2,7 @@
 use Rattle.std.proofs.Common.{◌≡◌, ℕ, zero, suc, ℤ, ◌+◌, ◌<◌, None, List, [], ◌∷◌, ◌++◌, refl, sym, ap, ◌∙◌, arith, subst, length, append_assoc}
 use Rattle.std.specs.Prelude.{int_lt, filter}
 use Rattle.std.proofs.lemmas.List.{append-nil}
+use Rattle.river_base.specs.Instants.{Timed, item_at, spread}
 use Rattle.river_base.specs.declared.item.Item as item
 use Rattle.river_base.specs.Held.{batches}
 use Rattle.river_base.specs.Row.{in_order}
@@ -18,7 +19,7 @@ use Rattle.brooklet_model.specs.Fire.{fire, first_kept, crossed_fired}
 use Rattle.brooklet_model.specs.Words.{Word, feed_all, run, word_of}
 use Rattle.brooklet_model.proofs.Lists.{if_lt}
 use Rattle.brooklet_model.proofs.Feeds.{feed_word}
-use Rattle.cql_model.specs.Streams.{Timed, Rises, spread, item_at, last_of, at_last, before, changed}
+use Rattle.cql_model.specs.Streams.{Rises, last_of, at_last, before, changed}
 use Rattle.cql_model.proofs.Feeding.{received_fed, given_spread, mapped_fed}
 use Rattle.cql_model.proofs.Instants.{below_front}
 use Rattle.cql_model.proofs.Bags.{difference_is}

@@ -1,9 +1,9 @@
 -- Kernels of one input, fed with an item for each instant.
 use Rattle.std.proofs.Common.{◌≡◌, ℤ, List, [], ◌∷◌, ◌++◌, refl, sym, ap, ◌∙◌, append_assoc}
+use Rattle.river_base.specs.Instants.{Timed, item_at, spread}
 use Rattle.river_base.specs.declared.item.Item as item
 use Rattle.brooklet_model.specs.Firings.{Kept, Received, feed, gives}
 use Rattle.brooklet_model.specs.Fire.{received_one}
-use Rattle.cql_model.specs.Streams.{Timed, spread, item_at}
 
 -- all that a kernel gives whose state is all that it has received
 abbrev pub given_after : (List item.Item → item.Item → List item.Item) → List item.Item → List item.Item → List item.Item

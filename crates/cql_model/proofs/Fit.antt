@@ -2,15 +2,14 @@
 use Rattle.std.proofs.Common.{◌≡◌, ℕ, ℤ, List, [], ◌∷◌, refl, ap, length, map}
 use Rattle.std.specs.Prelude.{All}
 use Rattle.std.proofs.lemmas.List.Elements.{All-cons, All-nil}
+use Rattle.river_base.specs.Instants.{Timed, at_instant, instants, item_at, spread}
 use Rattle.river_base.specs.Held.{HasType, HaveWidth}
 use Rattle.river_kernels.specs.Fits.{stream}
 use Rattle.brooklet_model.specs.Typed.{AreInputs}
 use Rattle.cql_model.specs.Fit.{instants_of, AreTimed, FilesFit}
-use Rattle.cql_model.specs.Instants.{instants, inputs_for}
 use Rattle.cql_model.specs.Laws.{AreFiles}
 use Rattle.cql_model.specs.Program.{Register, Ask, Program}
-use Rattle.cql_model.specs.Streams.{Timed, at_instant, spread, item_at}
-use Rattle.cql_model.specs.Translation.{input_decls, plan_of}
+use Rattle.cql_model.specs.Translation.{input_decls}
 use Rattle.cql_model.proofs.Front.{instants_rise}
 use Rattle.cql_model.proofs.Widths.{file_wide}
 

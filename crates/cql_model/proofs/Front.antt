@@ -1,12 +1,20 @@
 -- The plan of an accepted program means what the program means, at the instants of the files.
-use Rattle.std.proofs.Common.{◌≡◌, ℤ, ◌<◌, Bool, true, false, List, [], ◌∷◌, refl, ap, ◌∙◌, arith, fold}
-use Rattle.std.specs.Prelude.{int_lt, ◌||◌, if◌then◌else◌}
-use Rattle.std.specs.Ordering.{int_eq}
+use Rattle.std.proofs.Common.{◌≡◌, ℤ, ◌<◌, Bool, true, false, cond, List, [], ◌∷◌, refl, sym, arith}
+use Rattle.std.specs.Prelude.{int_lt, All}
+use Rattle.std.specs.List.Sorted.{IsStrictlySortedBy}
+use Rattle.std.specs.Ordering.{int_eq, int_cmp}
+use Rattle.std.specs.declared.cmp.Ordering.TheVariants.{Less, Equal, Greater}
+use Rattle.std.proofs.lemmas.Cmp.{int_eq_equiv}
+use Rattle.std.proofs.lemmas.Map.Views.{All-after_first, Contains-from_any, list_any-from_Contains}
+use Rattle.std.proofs.lemmas.Map.Keys.{sorted_tail}
+use Rattle.std.proofs.lemmas.List.Elements.{All-head, All-tail}
+use Rattle.river_base.specs.Instants.{stamps, instants}
+use Rattle.river_base.proofs.Instants.{once_rises, once_has, has_once}
 use Rattle.river_plan.specs.Forms.{Name}
 use Rattle.river_plan.specs.Names.{count}
 use Rattle.river_plan.proofs.NameLemmas.{one_same}
 use Rattle.cql_model.specs.Accepted.{AreQueries}
-use Rattle.cql_model.specs.Instants.{put_instant, stamps, instants, stands_in, InstantsRise, InstantsAreStamps, PlansMean}
+use Rattle.cql_model.specs.Instants.{stands_in, InstantsRise, InstantsAreStamps, PlansMean}
 use Rattle.cql_model.specs.Laws.{AreAsked}
 use Rattle.cql_model.specs.Program.{Register, Ask, Program, registered}
 use Rattle.cql_model.specs.Scopes.{Named}
@@ -19,76 +27,40 @@ use Rattle.cql_model.proofs.OnlyLimits.{plans_are_valid}
 
 -- INSTANTS
 
-less_trans : (t u v : ℤ) → int_lt t u ≡ true → int_lt u v ≡ true → int_lt t v ≡ true
-less_trans t u v h g = grind (arith, h, g)
+less_one : (x y : ℤ) → int_cmp x y ≡ Less → int_lt x y ≡ true
+less_one x y h = by (int_lt x y) (int_lt y x) h where
+  by : (b c : Bool) → cond b Less (cond c Greater Equal) ≡ Less → b ≡ true
+  by true c g = refl
+  by false true g = cc
+  by false false g = cc
 
-above_down : (t u : ℤ) (us : List ℤ) → int_lt t u ≡ true → AllAbove u us → AllAbove t us
-above_down t u [] h a = tt
-above_down t u (v ∷ vs) h a = (less_trans t u v h a.0, above_down t u vs h a.1)
+all_less : (x : ℤ) (ys : List ℤ) → All (λ y. int_cmp x y ≡ Less) ys → AllAbove x ys
+all_less x [] h = tt
+all_less x (y ∷ ys) h = (less_one x y (All-head (λ q. int_cmp x q ≡ Less) y ys h), all_less x ys (All-tail (λ q. int_cmp x q ≡ Less) y ys h))
 
-put_above : (s t : ℤ) (us : List ℤ) → int_lt s t ≡ true → AllAbove s us → AllAbove s (put_instant t us)
-put_above s t [] h a = (h, tt)
-put_above s t (u ∷ us) h a = step (int_lt t u) (int_lt u t) (put_above s t us h a.1) where
-  step : (b c : Bool) → AllAbove s (put_instant t us) → AllAbove s (if b then t ∷ (u ∷ us) else (if c then u ∷ put_instant t us else u ∷ us))
-  step true c more = (h, a)
-  step false true more = (a.0, more)
-  step false false more = a
+rises_where : (xs : List ℤ) → IsStrictlySortedBy int_cmp xs → Rises xs
+rises_where [] h = tt
+rises_where (x ∷ xs) h = (all_less x xs (All-after_first int_cmp x xs h), rises_where xs (sorted_tail int_cmp x xs h))
 
-put_rises : (t : ℤ) (us : List ℤ) → Rises us → Rises (put_instant t us)
-put_rises t [] r = (tt, tt)
-put_rises t (u ∷ us) r = step (int_lt t u) refl (int_lt u t) refl (put_rises t us r.1) where
-  step : (b : Bool) → int_lt t u ≡ b → (c : Bool) → int_lt u t ≡ c → Rises (put_instant t us)
-      → Rises (if b then t ∷ (u ∷ us) else (if c then u ∷ put_instant t us else u ∷ us))
-  step true e c f more = ((e, above_down t u us e r.0), r)
-  step false e true f more = (put_above u t us f r.0, more)
-  step false e false f more = r
-
-rises_from : (done ts : List ℤ) → Rises done → Rises (fold (λ us t. put_instant t us) done ts)
-rises_from done [] r = r
-rises_from done (t ∷ ts) r = rises_from (put_instant t done) ts (put_rises t done r)
-
+-- the instants of a run rise
 pub instants_rise : InstantsRise
-instants_rise files = rises_from [] (stamps files) tt
+instants_rise files = rises_where (instants files) (once_rises (stamps files))
 
-same_stamp : (x t u : ℤ) → int_lt t u ≡ false → int_lt u t ≡ false → int_eq x u ≡ int_eq x t
-same_stamp x t u e f = let same : u ≡ t = grind (arith, e, f) in ap (int_eq x) same
+both_ways : (a b : Bool) → (a ≡ true → b ≡ true) → (b ≡ true → a ≡ true) → a ≡ b
+both_ways true b f g = sym (f refl)
+both_ways false true f g = g refl
+both_ways false false f g = refl
 
-put_in : (x t : ℤ) (us : List ℤ) → stands_in x (put_instant t us) ≡ int_eq x t || stands_in x us
-put_in x t [] = refl
-put_in x t (u ∷ us) = step (int_lt t u) refl (int_lt u t) refl (put_in x t us) where
-  turn : (a b c d : Bool) → d ≡ b || c → a || d ≡ b || (a || c)
-  turn true true c d h = refl
-  turn true false c d h = refl
-  turn false b c d h = h
+same_one : (t u : ℤ) → int_eq t u ≡ true → t ≡ u
+same_one t u h = grind (arith, h)
 
-  twice : (a b c : Bool) → a ≡ b → a || c ≡ b || (a || c)
-  twice true true c h = refl
-  twice true false c h = refl
-  twice false true c h = absurd (cc h)
-  twice false false c h = refl
-
-  step : (b : Bool) → int_lt t u ≡ b → (c : Bool) → int_lt u t ≡ c → stands_in x (put_instant t us) ≡ int_eq x t || stands_in x us
-      → stands_in x (if b then t ∷ (u ∷ us) else (if c then u ∷ put_instant t us else u ∷ us)) ≡ int_eq x t || (int_eq x u || stands_in x us)
-  step true e c f more = refl
-  step false e true f more = turn (int_eq x u) (int_eq x t) (stands_in x us) (stands_in x (put_instant t us)) more
-  step false e false f more = twice (int_eq x u) (int_eq x t) (stands_in x us) (same_stamp x t u e f)
-
-in_from : (x : ℤ) (done ts : List ℤ) → stands_in x (fold (λ us t. put_instant t us) done ts) ≡ stands_in x ts || stands_in x done
-in_from x done [] = refl
-in_from x done (t ∷ ts) =
-    in_from x (put_instant t done) ts ∙ ap (λ b. stands_in x ts || b) (put_in x t done) ∙ turn (stands_in x ts) (int_eq x t) (stands_in x done) where
-      turn : (a b c : Bool) → a || (b || c) ≡ (b || a) || c
-      turn true true c = refl
-      turn true false c = refl
-      turn false true c = refl
-      turn false false c = refl
-
-or_false : (b : Bool) → b || false ≡ b
-or_false true = refl
-or_false false = refl
-
+-- they are the timestamps of its files
 pub instants_are_stamps : InstantsAreStamps
-instants_are_stamps files t = in_from t [] (stamps files) ∙ or_false (stands_in t (stamps files))
+instants_are_stamps files t =
+    let ts = stamps files in
+    both_ways (stands_in t (instants files)) (stands_in t ts)
+    (λ h. list_any-from_Contains int_eq_equiv t ts (has_once ts t (Contains-from_any same_one t (instants files) h)))
+    (λ h. list_any-from_Contains int_eq_equiv t (instants files) (once_has ts t (Contains-from_any same_one t ts h)))
 
 -- THE LAW
 

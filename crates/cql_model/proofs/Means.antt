@@ -1,6 +1,7 @@
 -- The plan of a program means what the program means.
 use Rattle.std.proofs.Common.{◌≡◌, ℕ, zero, suc, ℤ, ◌+◌, ◌<◌, ◌≤◌, List, [], ◌∷◌, ◌++◌, refl, sym, ap, ◌∙◌, arith, subst, length, map, append_assoc, ⊎_elim}
 use Rattle.std.specs.Prelude.{All, if◌then◌else◌}
+use Rattle.river_base.specs.Instants.{Timed, at_instant, spread}
 use Rattle.river_base.specs.Places.{list_at}
 use Rattle.river_kernels.specs.Kern.{duplicate}
 use Rattle.river_plan.specs.Forms.{Name, decl_names}
@@ -13,7 +14,7 @@ use Rattle.brooklet_model.proofs.Solutions.{solve_law, lists_written}
 use Rattle.cql_model.specs.Laws.{known_names, AreKnown, IsAsked, AreAsked, AreFiles, TranslationMeans}
 use Rattle.cql_model.specs.Program.{Source, Query, Register, Ask, Program, registered, streams_of, all_uses}
 use Rattle.cql_model.specs.Scopes.{scope_of}
-use Rattle.cql_model.specs.Streams.{Timed, Rises, at_instant, spread}
+use Rattle.cql_model.specs.Streams.{Rises}
 use Rattle.cql_model.specs.Meaning.{Known, names_of, rows_of, answer, asked, given, first_file, other_files, answers}
 use Rattle.cql_model.specs.Translation.{copy_name, source_at, sources, item_ops, item_last, tail_ops, query_ops, query_named, ask_ops, copy_ops, input_ops}
 use Rattle.cql_model.specs.Translation.{input_decls, output_decls, plan_of}

@@ -1,5 +1,5 @@
 -- Of the plan of an accepted program no fault is told but that it exceeds a limit.
-use Rattle.std.proofs.Common.{◌≡◌, ℕ, ◌+◌, ◌<◌, ◌≤◌, List, [], ◌∷◌, ◌++◌, Option, Some, None, Bool, true, false, refl, ap, ◌∙◌, subst, arith, length, ⊎_elim}
+use Rattle.std.proofs.Common.{◌≡◌, ℕ, ◌≤◌, List, [], ◌∷◌, ◌++◌, Option, Some, None, Bool, true, false, refl, ap, ◌∙◌, subst, arith, length, ⊎_elim}
 use Rattle.std.specs.Prelude.{All, nat_lt, ◌||◌}
 use Rattle.std.specs.List.{list_any, AllByRecursion}
 use Rattle.std.specs.Option.{is_some}
@@ -7,19 +7,18 @@ use Rattle.std.proofs.lemmas.List.Elements.{All-head, All-tail, All-cons, All-ni
 use Rattle.river_plan.specs.declared.fault.PlanFault.{PlanFault}
 use Rattle.river_plan.specs.declared.fault.PlanFault.TheVariants.{P1, P2, P3, P4, P5, P6, P7, P9}
 use Rattle.river_plan.specs.declared.fault.Named.TheVariants.{Queue, Variable, Label}
-use Rattle.river_plan.specs.Faults.{IsNew, IsWritten, IsOuter, HasWidth, IsTable, IsApart, Repeated, Undeclared, UndeclaredAt, WrittenTwice, ReadTwice}
-use Rattle.river_plan.specs.Faults.{ReadTooEarly, ReadTooEarlyAt, Mistyped, Misfit, Shared}
+use Rattle.river_plan.specs.Faults.{IsNew, IsOuter, HasWidth, IsTable, IsApart, Repeated, Undeclared, UndeclaredAt, WrittenTwice, ReadTwice, ReadTooEarly}
+use Rattle.river_plan.specs.Faults.{ReadTooEarlyAt, Mistyped, Misfit, Shared}
 use Rattle.river_plan.specs.First.{OrElse, As, Unless, Along, IsFirst}
-use Rattle.river_plan.specs.Forms.{Name, OpForm, PlanForm, decl_names, queue_names, variable_names, labels}
+use Rattle.river_plan.specs.Forms.{PlanForm, decl_names, queue_names, variable_names, labels}
 use Rattle.river_plan.specs.Kinds.{IsFit}
 use Rattle.river_kernels.specs.declared.limit.Limit.{Limit}
 use Rattle.river_kernels.specs.declared.limit.Limit.TheVariants.{Inputs, Operators, Queues, Variables, Ports, Statements, Slots, Rates, Weights, Nesting}
 use Rattle.river_kernels.specs.declared.limit.Limit.TheVariants.{Latest, Best}
 use Rattle.river_plan.specs.Limits.{OverLimitAt, limits, most_of, numbers}
 use Rattle.river_plan.specs.Names.{count, IsUsedOnce}
-use Rattle.river_plan.specs.Uses.{Each, total, writes_it, reads_it, vars_it, ReadsBefore}
+use Rattle.river_plan.specs.Uses.{total, writes_it, reads_it}
 use Rattle.river_plan.specs.Valid.{IsPlan, FirstFault}
-use Rattle.river_plan.proofs.NameLemmas.{one_same}
 use Rattle.river_plan.proofs.ValidLaw.{once-names, total-labels, all-along, each-along, names-along, all-declared, reads-order, every-each, no_fault-valid}
 use Rattle.river_plan.proofs.ValidLaw.{valid-no_fault}
 use Rattle.river_plan.proofs.OneFirst.{fault-one}

@@ -1,6 +1,6 @@
 -- Programs that are not refused.
 use Rattle.std.proofs.Common.{◌≡◌, Bool, true, false, Option, Some, None, [], refl}
-use Rattle.std.specs.Prelude.{length, if◌then◌else◌}
+use Rattle.std.specs.Prelude.{if◌then◌else◌}
 use Rattle.cql_model.specs.Accepted.{IsAccepted, exceeds}
 use Rattle.cql_model.specs.Faults.{AreSpoken, first_fault, or_refused, refusal_of, UnrefusedAreValid, UnrefusedMean}
 use Rattle.cql_model.specs.Program.{Program}

@@ -4,10 +4,9 @@ use Rattle.std.proofs.Common.{⊎_elim, length-append}
 use Rattle.std.specs.Prelude.{All, codes, if◌then◌else◌, IsTrue, unwrap_or}
 use Rattle.std.specs.List.{AllByRecursion}
 use Rattle.std.proofs.lemmas.List.{length-map}
-use Rattle.std.proofs.lemmas.List.Elements.{All-head, All-cons, All-nil, All-append}
+use Rattle.std.proofs.lemmas.List.Elements.{All-cons, All-nil, All-append}
 use Rattle.river_base.specs.Name.{name_eq}
 use Rattle.river_base.specs.declared.kind.QueueType.{QueueType}
-use Rattle.river_kernels.specs.declared.limit.Limit.TheVariants as limit
 use Rattle.river_kernels.specs.declared.types.VarKind.{VarKind}
 use Rattle.river_kernels.specs.declared.types.VarKind.TheVariants.{Private, Table}
 use Rattle.river_kernels.specs.Fits.{rows, stream, relation}

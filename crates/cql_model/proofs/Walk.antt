@@ -1,6 +1,7 @@
 -- The histories of a query's operators, one equation after another.
 use Rattle.std.proofs.Common.{◌≡◌, ℕ, zero, suc, ℤ, ◌+◌, ◌<◌, Option, Some, None, List, [], ◌∷◌, ◌++◌, refl, sym, ap, ◌∙◌, arith, length, map, fold}
 use Rattle.std.specs.Prelude.{All, codes}
+use Rattle.river_base.specs.Instants.{Timed, spread}
 use Rattle.river_base.specs.declared.item.Item as item
 use Rattle.river_base.specs.Row.{in_order}
 use Rattle.river_kernels.specs.Kern.{Kern, window, select, project, streamer, duplicate}
@@ -15,7 +16,7 @@ use Rattle.brooklet_model.proofs.Feeds.{one_input}
 use Rattle.brooklet_model.proofs.Lists.{funext}
 use Rattle.cql_model.specs.Program.{Scalar, Source, Columns, Star, Chosen, Query}
 use Rattle.cql_model.specs.Scopes.{Named, scope_of}
-use Rattle.cql_model.specs.Streams.{Timed, Rises, windowed, spread}
+use Rattle.cql_model.specs.Streams.{Rises, windowed}
 use Rattle.cql_model.specs.Meaning.{Known, names_of, rows_of, Tuple, with_each, product_of, where_true, row_of, windows_at, content, answer}
 use Rattle.cql_model.specs.Translation.{copies, copy_name, op, w_name, x_name, window_ops, cross_ops, cross_last, select_ops, select_last, project_ops}
 use Rattle.cql_model.specs.Translation.{project_last, out_ops, out_name, tail_ops, item_ops, item_last, resolved, terms_of, at_word}

@@ -6,6 +6,7 @@ use Rattle.std.specs.List.{flat_map}
 use Rattle.std.specs.Ordering.{int_eq}
 use Rattle.std.proofs.lemmas.List.{length-map}
 use Rattle.std.proofs.lemmas.List.Elements.{All-head, All-tail, All-cons, All-nil, All-append}
+use Rattle.river_base.specs.Instants.{Timed, at_instant}
 use Rattle.river_base.specs.Bags.{place}
 use Rattle.river_base.specs.Held.{HaveWidth}
 use Rattle.river_base.specs.Name.{name_eq}
@@ -18,7 +19,7 @@ use Rattle.kern_bags.specs.declared.kernel.Streamer.{Streamer}
 use Rattle.kern_bags.specs.declared.kernel.Streamer.TheVariants.{Istream, Dstream, Rstream}
 use Rattle.cql_model.specs.Program.{Source, Column, Columns, Star, Chosen, Query}
 use Rattle.cql_model.specs.Scopes.{Named, fields_of, scope_of, names_from, column_names}
-use Rattle.cql_model.specs.Streams.{Timed, at_instant, in_reach, kept, windowed, last_of, at_last, before, changed, streamed}
+use Rattle.cql_model.specs.Streams.{in_reach, kept, windowed, last_of, at_last, before, changed, streamed}
 use Rattle.cql_model.specs.Meaning.{Known, names_of, rows_of, Tuple, joined, row_of, where_true, product_of, windows_at, content, answer}
 use Rattle.cql_model.proofs.Contents.{AreWide, product_fits, where_fits}
 use Rattle.cql_model.proofs.Values.{Fits}

@@ -3,6 +3,7 @@ use Rattle.std.proofs.Common.{◌≡◌, ℤ, Bool, true, false, List, [], ◌�
 use Rattle.std.specs.Prelude.{int_lt, int_le, filter, flat_map, ◌&&◌, pos, ◌-ℤ◌, map}
 use Rattle.std.specs.Ordering.{int_eq}
 use Rattle.std.proofs.lemmas.List.{append-nil}
+use Rattle.river_base.specs.Instants.{Timed, item_at, spread}
 use Rattle.river_base.specs.declared.item.Batch.{Batch}
 use Rattle.river_base.specs.Held.{batches}
 use Rattle.river_base.specs.Row.{in_order}
@@ -14,7 +15,7 @@ use Rattle.kern_bags.specs.declared.kernel.Window.TheVariants.{Now, Range, Unbou
 use Rattle.river_kernels.specs.Kern.{window}
 use Rattle.brooklet_model.specs.Firings.{feed}
 use Rattle.brooklet_model.specs.Fire.{fire, first_kept}
-use Rattle.cql_model.specs.Streams.{Timed, Rises, in_reach, kept, windowed, spread, item_at}
+use Rattle.cql_model.specs.Streams.{Rises, in_reach, kept, windowed}
 use Rattle.cql_model.proofs.Feeding.{received_fed, given_spread, spread-append}
 use Rattle.cql_model.proofs.Instants.{AllBelow, AllAbove, rises_below, reach_front}
 

@@ -1,7 +1,10 @@
--- The instants of a run: all timestamps of its files, ascending, each once.
-use Rattle.std.specs.Prelude.{◌≡◌, ◌≤◌, ℤ, Bool, List, [], ◌∷◌, map, flat_map, fold, int_lt, if◌then◌else◌, All}
+-- What programs mean at the instants of a run, which are all timestamps of its files.
+use Rattle.std.specs.Prelude.{◌≡◌, ◌≤◌, ℤ, Bool, List, [], map, All}
 use Rattle.std.specs.List.{list_any}
 use Rattle.std.specs.Ordering.{int_eq}
+use Rattle.river_base.specs.declared.item.Item as item
+pub use Rattle.river_base.specs.Instants.{stamps, instants}
+use Rattle.river_base.specs.Instants.{at_instant, spread}
 use Rattle.brooklet_model.specs.Meaning.{meaning}
 use Rattle.river_kernels.specs.declared.limit.Limit.{Limit}
 use Rattle.river_plan.specs.Limits.{most_of, numbers}
@@ -9,21 +12,10 @@ use Rattle.cql_model.specs.Accepted.{IsAccepted}
 use Rattle.cql_model.specs.Laws.{AreFiles}
 use Rattle.cql_model.specs.Meaning.{answers}
 use Rattle.cql_model.specs.Program.{Program}
-use Rattle.cql_model.specs.Streams.{Rises, at_instant, spread}
+use Rattle.cql_model.specs.Streams.{Rises}
 use Rattle.cql_model.specs.Translation.{plan_of}
-use Rattle.river_base.specs.declared.item.Item as item
 
--- a timestamp among instants that rise
-abbrev pub put_instant : ℤ → List ℤ → List ℤ
-put_instant t [] = t ∷ []
-put_instant t (u ∷ us) = if int_lt t u then t ∷ (u ∷ us) else (if int_lt u t then u ∷ put_instant t us else u ∷ us)
-
-abbrev pub stamps : List (List (ℤ × List ℤ)) → List ℤ
-stamps files = flat_map (λ file. map (λ e. e.0) file) files
-
-abbrev pub instants : List (List (ℤ × List ℤ)) → List ℤ
-instants files = fold (λ ts t. put_instant t ts) [] (stamps files)
-
+-- whether an instant is among these
 abbrev pub stands_in : ℤ → List ℤ → Bool
 stands_in t ts = list_any (int_eq t) ts
 

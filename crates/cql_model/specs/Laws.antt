@@ -1,12 +1,13 @@
 -- What is true of all programs.
 use Rattle.std.specs.Prelude.{◌≡◌, ℤ, ◌<◌, List, [], ◌∷◌, length, map, All}
+use Rattle.river_base.specs.Instants.{at_instant, spread}
 use Rattle.river_plan.specs.Forms.{Name}
 use Rattle.river_plan.specs.Names.{count}
 use Rattle.river_plan.specs.Valid.{IsPlan}
 use Rattle.brooklet_model.specs.Meaning.{meaning}
 use Rattle.cql_model.specs.Program.{Query, Register, Ask, Program, registered, streams_of}
 use Rattle.cql_model.specs.Scopes.{Named}
-use Rattle.cql_model.specs.Streams.{Rises, at_instant, spread}
+use Rattle.cql_model.specs.Streams.{Rises}
 use Rattle.cql_model.specs.Meaning.{answers}
 use Rattle.cql_model.specs.Translation.{query_named, plan_of}
 

@@ -1,13 +1,14 @@
 -- What a CQL program means, at every instant of a run.
 use Rattle.std.specs.Prelude.{ℤ, pos, List, [], ◌∷◌, ◌++◌, map, filter, flat_map, fold, Option, Some, None, if◌then◌else◌}
 use Rattle.std.specs.Ordering.{int_eq}
+use Rattle.river_base.specs.Instants.{Timed, at_instant}
 use Rattle.river_base.specs.Name.{name_eq}
 use Rattle.river_base.specs.Number.{negate}
 use Rattle.work_code.specs.Value.{truth, is_true, applied}
 use Rattle.river_plan.specs.Forms.{Name}
 use Rattle.cql_model.specs.Program.{Scalar, Number, Field, ItemField, Neg, Not, Bin, Source, Columns, Star, Chosen, Query, Register, Ask, Program}
 use Rattle.cql_model.specs.Scopes.{Named, scope_of, column_names}
-use Rattle.cql_model.specs.Streams.{Timed, at_instant, windowed, streamed}
+use Rattle.cql_model.specs.Streams.{windowed, streamed}
 
 -- a stream that is known, with its rows
 pub record Known : Type 0 where
