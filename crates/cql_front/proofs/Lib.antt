@@ -1,4 +1,3 @@
 pub mod Fronts
-pub mod Instants
 pub mod Printable
 pub mod Spoken

@@ -8,7 +8,7 @@ use Rattle.river_order.specs.Passes.{StandsFor}
 use Rattle.csv_streams.specs.Timed.{Entry}
 use Rattle.river_plan.specs.Forms.{PlanForm, decl_names}
 use Rattle.brooklet_model.specs.Meaning.{meaning}
-use Rattle.cql_model.specs.Instants.{inputs_for, instants}
+use Rattle.cql_model.specs.Instants.{inputs_for}
 use Rattle.cql_model.specs.Laws.{AreFiles}
 use Rattle.cql_model.specs.Program.{Register, Ask, Program}
 use Rattle.cql_model.specs.Scopes.{Named}
@@ -22,7 +22,6 @@ use Rattle.cql_front.specs.declared.fault.CqlFault.{CqlFault}
 use Rattle.cql_front.specs.declared.fault.CqlFault.TheVariants as cql_fault
 use Rattle.cql_front.proofs.Fronts.{plans_mean}
 use Rattle.slow_cql.proofs.Accepted.{accepted_columns}
-use Rattle.cql_front.proofs.Instants.{instants_agree}
 use Rattle.river_cli.specs.Contents.{AreContents}
 use Rattle.river_cli.specs.Inputs.{timed_files, items_at, all_items}
 use Rattle.river_cli.specs.Source.{asked_names, cql_source, told, IsPlanOf, IsCompiled}
@@ -66,8 +65,7 @@ program_means : (text : List ℕ) (p : List Part) → compiled text ≡ Ok p →
     → meaning (plan_of (program_of p)) (all_items files) ≡ (cql_source p).means files
 program_means text p e files h =
     let timed = timed_files files in
-    let items : all_items files ≡ inputs_for timed =
-    items-are (base.instants timed) (program_of p) files h ∙ ap (λ ts. map (λ f. base.spread ts (base.at_instant f)) timed) (sym (instants_agree timed)) in
+    let items : all_items files ≡ inputs_for timed = items-are (base.instants timed) (program_of p) files h in
     ap (meaning (plan_of (program_of p))) items ∙ (plans_mean text p e).1 timed (files-are (program_of p) files h)
 
 program_plan : (text : List ℕ) (p : List Part) → compiled text ≡ Ok p → IsPlanOf (cql_source p) (plan_of (program_of p))

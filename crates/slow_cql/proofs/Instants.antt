@@ -1,22 +1,20 @@
 -- The instants of a run, as they are sorted.
 use Rattle.std.proofs.Common.{◌≡◌, ℤ, List, [], map, sym, ◌∙◌, subst}
 use Rattle.river_base.specs.declared.item.Item as item
-use Rattle.river_base.specs.Instants as base
-use Rattle.cql_model.specs.Instants.{instants, program_means}
+use Rattle.river_base.specs.Instants.{instants, spread}
+use Rattle.cql_model.specs.Instants.{program_means}
 use Rattle.cql_model.specs.Meaning.{answers}
-use Rattle.cql_model.specs.Streams.{Rises, spread}
+use Rattle.cql_model.specs.Streams.{Rises}
 use Rattle.cql_model.proofs.Front.{instants_rise}
-use Rattle.cql_front.proofs.Instants.{instants_agree}
 use Rattle.cql_text.specs.declared.tree.Part.{Part}
 use Rattle.cql_build.specs.Views.{program_of}
 use Rattle.slow_cql.specs.Kept.{Entry}
 
-pub sorted_rise : (files : List (List Entry)) (ts : List ℤ) → ts ≡ base.instants files → Rises ts
-sorted_rise files ts e = subst Rises (instants_agree files ∙ sym e) (instants_rise files)
+pub sorted_rise : (files : List (List Entry)) (ts : List ℤ) → ts ≡ instants files → Rises ts
+sorted_rise files ts e = subst Rises (sym e) (instants_rise files)
 
-pub sorted_mean : (ps parts : List Part) (fs files : List (List Entry)) (ts : List ℤ) (outs : List (List item.Item)) → ts ≡ base.instants files → ps ≡ parts
+pub sorted_mean : (ps parts : List Part) (fs files : List (List Entry)) (ts : List ℤ) (outs : List (List item.Item)) → ts ≡ instants files → ps ≡ parts
     → fs ≡ files
     → outs ≡ map (spread ts) (answers ts [] (program_of ps) fs) → outs ≡ program_means (program_of parts) files
 sorted_mean ps parts fs files ts outs e a b h =
-    let is : ts ≡ instants files = e ∙ sym (instants_agree files) in
-    h ∙ (λ j. map (spread (is j)) (answers (is j) [] (program_of (a j)) (b j)))
+    h ∙ (λ j. map (spread (e j)) (answers (e j) [] (program_of (a j)) (b j)))
