@@ -2,7 +2,7 @@
 ghost use Rattle.std.specs.Prelude.{◌≡◌};
 ghost use Rattle.text_forms.specs.Gives.{Gives};
 ghost use Rattle.saw_text.specs.Grammar.{is_maximum};
-ghost use Rattle.saw_text.specs.Reading.{named_field_at, field_after, field_at, column_at, columns_at, best_at, kind_after, kind_at, weight_field_at, in_table_at, table_at};
+ghost use Rattle.saw_text.specs.Reading.{named_field_at, field_at, column_at, columns_at, best_at, kind_at, weight_field_at, in_table_at, table_at};
 ghost use Rattle.saw_text.specs.Tree.{table_form};
 
 use crate::end::{closed, is};
@@ -23,11 +23,12 @@ fn named_field(reader: &mut Reader<'_>, name: Name) -> Result<Field, Fault>
     Ok(Field { name: Some(name) })
 }
 
-// What stands behind this word of a field.
-#[tactic(auto, unfolding(crate::specs::Reading::field_after))]
-fn field_after(reader: &mut Reader<'_>, word: &[u8]) -> Result<Field, Fault>
-    ensures { Gives (λ f. f) result reader.new (field_after word.now reader.old) }
+// A field.
+#[tactic(auto, unfolding(crate::specs::Reading::field_at, crate::specs::Reading::field_after))]
+fn field(reader: &mut Reader<'_>) -> Result<Field, Fault>
+    ensures { Gives (λ f. f) result reader.new (field_at reader.old) }
 {
+    let word = reader.name()?;
     if is(word, b"int") {
         return Ok(Field { name: None });
     }
@@ -35,15 +36,6 @@ fn field_after(reader: &mut Reader<'_>, word: &[u8]) -> Result<Field, Fault>
         Some(name) => named_field(reader, name),
         None => Err(Fault::Syntax),
     }
-}
-
-// A field.
-#[tactic(auto, unfolding(crate::specs::Reading::field_at))]
-fn field(reader: &mut Reader<'_>) -> Result<Field, Fault>
-    ensures { Gives (λ f. f) result reader.new (field_at reader.old) }
-{
-    let word = reader.name()?;
-    field_after(reader, word)
 }
 
 // A field in square brackets.
@@ -80,11 +72,12 @@ fn best(reader: &mut Reader<'_>, brackets: u32) -> Result<u32, Fault>
     closed(reader, best, Symbol::Close)
 }
 
-// What stands behind this word for a kind.
-#[tactic(auto, unfolding(crate::specs::Reading::kind_after))]
-fn kind_after(reader: &mut Reader<'_>, brackets: u32, word: &[u8]) -> Result<Kind, Fault>
-    ensures { Gives (λ k. k) result reader.new (kind_after brackets word.now reader.old) }
+// The kind of a table.
+#[tactic(auto, unfolding(crate::specs::Reading::kind_at, crate::specs::Reading::kind_after))]
+fn kind(reader: &mut Reader<'_>, brackets: u32) -> Result<Kind, Fault>
+    ensures { Gives (λ k. k) result reader.new (kind_at brackets reader.old) }
 {
+    let word = reader.name()?;
     if is(word, b"sum") {
         return Ok(Kind::Sum);
     }
@@ -95,15 +88,6 @@ fn kind_after(reader: &mut Reader<'_>, brackets: u32, word: &[u8]) -> Result<Kin
         return Ok(Kind::Maximum(best(reader, brackets)?));
     }
     Err(Fault::Syntax)
-}
-
-// The kind of a table.
-#[tactic(auto, unfolding(crate::specs::Reading::kind_at))]
-fn kind(reader: &mut Reader<'_>, brackets: u32) -> Result<Kind, Fault>
-    ensures { Gives (λ k. k) result reader.new (kind_at brackets reader.old) }
-{
-    let word = reader.name()?;
-    kind_after(reader, brackets, word)
 }
 
 // `weight` and a field, or nothing.

@@ -3,7 +3,7 @@ ghost use Rattle.std.specs.Prelude.{◌≡◌};
 ghost use Rattle.work_code.specs.Tok.{tokens_of};
 ghost use Rattle.text_forms.specs.Gives.{Gives};
 ghost use Rattle.text_forms.specs.Texts.{whole};
-ghost use Rattle.saw_text.specs.Reading.{typed_after, typed_at, unit_named, unit_after, unit_at};
+ghost use Rattle.saw_text.specs.Reading.{typed_at, unit_named, unit_at};
 ghost use Rattle.saw_text.specs.Tree.{unit_form};
 ghost use Rattle.saw_text.specs.View.{Makes};
 
@@ -17,17 +17,12 @@ use std::alloc::Global;
 use text_forms::{Fault, Reader};
 use work_code::{Lexeme, Symbol};
 
-// What stands behind this word for the type of a name.
-#[tactic(auto, unfolding(crate::specs::Reading::typed_after))]
-fn typed_after(
-    reader: &mut Reader<'_>,
-    alloc: Global,
-    brackets: u32,
-    name: Name,
-    word: &[u8],
-) -> Result<Unit, Fault>
-    ensures { Gives unit_form result reader.new (typed_after name brackets word.now reader.old) }
+// What stands behind `NAME:`.
+#[tactic(auto, unfolding(crate::specs::Reading::typed_at, crate::specs::Reading::typed_after))]
+fn typed(reader: &mut Reader<'_>, alloc: Global, brackets: u32, name: Name) -> Result<Unit, Fault>
+    ensures { Gives unit_form result reader.new (typed_at name brackets reader.old) }
 {
+    let word = reader.name()?;
     if is(word, b"table") {
         return Ok(Unit::Table(table(reader, alloc, brackets, name)?));
     }
@@ -35,15 +30,6 @@ fn typed_after(
         return Ok(Unit::Statement(declare(reader, alloc, brackets, name)?));
     }
     Err(Fault::Syntax)
-}
-
-// What stands behind `NAME:`.
-#[tactic(auto, unfolding(crate::specs::Reading::typed_at))]
-fn typed(reader: &mut Reader<'_>, alloc: Global, brackets: u32, name: Name) -> Result<Unit, Fault>
-    ensures { Gives unit_form result reader.new (typed_at name brackets reader.old) }
-{
-    let word = reader.name()?;
-    typed_after(reader, alloc, brackets, name, word)
 }
 
 // What stands behind the name of a table or a local.
@@ -58,29 +44,16 @@ fn named(reader: &mut Reader<'_>, alloc: Global, brackets: u32, name: Name) -> R
     typed(reader, alloc, brackets, name)
 }
 
-// What stands behind this word of a unit.
-#[tactic(auto, unfolding(crate::specs::Reading::unit_after))]
-fn unit_after(
-    reader: &mut Reader<'_>,
-    alloc: Global,
-    brackets: u32,
-    word: &[u8],
-) -> Result<Unit, Fault>
-    ensures { Gives unit_form result reader.new (unit_after brackets word.now reader.old) }
-{
-    match user(word) {
-        Some(name) => named(reader, alloc, brackets, name),
-        None => Ok(Unit::Statement(stmt_after(reader, alloc, 16, brackets, word)?)),
-    }
-}
-
 // A unit.
-#[tactic(auto, unfolding(crate::specs::Reading::unit_at))]
+#[tactic(auto, unfolding(crate::specs::Reading::unit_at, crate::specs::Reading::unit_after))]
 fn unit(reader: &mut Reader<'_>, alloc: Global) -> Result<Unit, Fault>
     ensures { Gives unit_form result reader.new (unit_at reader.old) }
 {
     let word = reader.name()?;
-    unit_after(reader, alloc, 128, word)
+    match user(word) {
+        Some(name) => named(reader, alloc, 128, name),
+        None => Ok(Unit::Statement(stmt_after(reader, alloc, 16, 128, word)?)),
+    }
 }
 
 /// The unit that whole tokens stand for.
