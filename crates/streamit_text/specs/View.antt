@@ -1,5 +1,6 @@
 -- What the code's values stand for.
 use Rattle.std.specs.Prelude.{◌≡◌, Bool, true, false, Option, None, Some, Result, Ok, Err}
+use Rattle.std.proofs.Common.{Box, Global}
 use Rattle.text_forms.specs.Tree.{Spoken}
 use Rattle.text_forms.specs.declared.fault.Fault.{Fault}
 use Rattle.text_forms.specs.declared.fault.Fault.TheVariants.{Syntax, NoMemory}
@@ -53,3 +54,9 @@ abbrev pub Owns : Result Expression Fault → Spoken → Type 0
 Owns (Ok e) t = (t ≡ expression e) × (is_fit t ≡ true)
 Owns (Err Syntax) t = is_fit t ≡ false
 Owns (Err NoMemory) t = Unit {0}
+
+-- the same of an expression in a box
+abbrev pub OwnsBox : Result (Box Expression Global) Fault → Spoken → Type 0
+OwnsBox (Ok e) t = (t ≡ expression e.value) × (is_fit t ≡ true)
+OwnsBox (Err Syntax) t = is_fit t ≡ false
+OwnsBox (Err NoMemory) t = Unit {0}

@@ -3,7 +3,7 @@ ghost use Rattle.std.specs.Prelude.{◌≡◌};
 ghost use Rattle.text_forms.specs.Gives.{Gives};
 ghost use Rattle.text_forms.specs.Tree.{Number, spoken};
 ghost use Rattle.streamit_unroll.specs.View.{expression};
-ghost use Rattle.streamit_text.specs.View.{Owns};
+ghost use Rattle.streamit_text.specs.View.{Owns, OwnsBox};
 ghost use Rattle.streamit_text.specs.Reading.{term_at, ended_at, round_term_at};
 
 use river_base::Name;
@@ -13,6 +13,7 @@ use text_forms::{Fault, Language, Reader, Tree};
 use work_code::Symbol;
 
 // The expression of a program that this is, if it fits.
+#[cycle(owned)]
 fn owned(alloc: Global, tree: &Tree<'_>) -> Result<Expression, Fault>
     ensures { Owns result (spoken tree.now) }
 {
@@ -22,22 +23,13 @@ fn owned(alloc: Global, tree: &Tree<'_>) -> Result<Expression, Fault>
             Some(name) => Ok(Expression::Name(name)),
             None => Err(Fault::Syntax),
         },
-        Tree::Peek(inner) => {
-            let inner = owned(alloc, inner)?;
-            Ok(Expression::Peek(Box::new(alloc, inner)?))
-        }
+        Tree::Peek(inner) => Ok(Expression::Peek(boxed(alloc, inner)?)),
         Tree::Pop => Ok(Expression::Pop),
-        Tree::Neg(inner) => {
-            let inner = owned(alloc, inner)?;
-            Ok(Expression::Neg(Box::new(alloc, inner)?))
-        }
-        Tree::Not(inner) => {
-            let inner = owned(alloc, inner)?;
-            Ok(Expression::Not(Box::new(alloc, inner)?))
-        }
+        Tree::Neg(inner) => Ok(Expression::Neg(boxed(alloc, inner)?)),
+        Tree::Not(inner) => Ok(Expression::Not(boxed(alloc, inner)?)),
         Tree::Bin { op, left, right } => {
-            let left = Box::new(alloc, owned(alloc, left)?)?;
-            let right = Box::new(alloc, owned(alloc, right)?)?;
+            let left = boxed(alloc, left)?;
+            let right = boxed(alloc, right)?;
             Ok(Expression::Bin {
                 op: *op,
                 left,
@@ -46,6 +38,15 @@ fn owned(alloc: Global, tree: &Tree<'_>) -> Result<Expression, Fault>
         }
         Tree::Input(_) | Tree::Slot(_) => Err(Fault::Syntax),
     }
+}
+
+// The same, in a box.
+#[cycle(owned)]
+fn boxed(alloc: Global, tree: &Tree<'_>) -> Result<Box<Expression>, Fault>
+    ensures { OwnsBox result (spoken tree.now) }
+{
+    let e = owned(alloc, tree)?;
+    Ok(Box::new(alloc, e)?)
 }
 
 // A number, which is at most 2^63 - 1.
