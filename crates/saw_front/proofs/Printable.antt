@@ -1,6 +1,6 @@
 -- The plan of a program that a text stands for can be written as River text: the grammar lets `if` nest at most 16 deep, no `if` of
 -- the plan nests deeper than it does in the program, and no window is there.
-use Rattle.std.proofs.Common.{◌≡◌, ℕ, zero, suc, ◌≤◌, ◌+◌, Bool, List, [], ◌∷◌, ◌++◌, Option, Some, None, Result, Ok, Err, inl, inr, refl, sym, subst, arith}
+use Rattle.std.proofs.Common.{◌≡◌, ℕ, zero, suc, ◌≤◌, List, [], ◌∷◌, ◌++◌, Option, Some, None, Result, Ok, Err, inl, inr, refl, sym, subst, arith}
 use Rattle.std.specs.Prelude.{max, codes, map, nat_eq, nat_lt, nat_le, length}
 use Rattle.std.specs.Str.{bytes_eq}
 use Rattle.work_code.specs.Cut.{units_of as cut_units}
@@ -12,19 +12,19 @@ use Rattle.text_forms.specs.Forms as form
 use Rattle.text_forms.specs.Tree.{Spoken}
 use Rattle.kern_tables.specs.declared.kind.TableKind.{TableKind}
 use Rattle.river_plan.specs.declared.plan.TableDecl.{TableDecl}
-use Rattle.river_plan.specs.Forms.{Name, OpForm}
+use Rattle.river_plan.specs.Forms.{Name}
 use Rattle.river_print.specs.Printable.{IsPrintable}
 use Rattle.river_print.specs.Writable.{Every, depths}
 use Rattle.river_print.proofs.Spoken.{IsSpoken, spoken-printable}
 use Rattle.saw_model.specs.Source.{Statement, Declare, Assign, Emit, If, Block, End, Then, Part, Table, Does, Program, tables_in}
-use Rattle.saw_model.specs.Elaborate.{Fault, Limit, Shape, At, Read, on_ok, demand, joined, one_step, counted, is_new, has_slot, first_term, declared, slot_of, port_of, indexes_of, term_of, weight_of, keys_in, emitted, is_best, tabled, table_of, find, step_of, steps_of, part_of as read_part, nothing_read}
-use Rattle.saw_model.specs.Judged.{Refusal, on_fine, in_unit, all_parts, judged}
-use Rattle.saw_model.specs.Plan.{map_op, tally_op, plan_of}
+use Rattle.saw_model.specs.Elaborate.{Fault, Limit, Shape, At, on_ok, demand, joined, one_step, counted, is_new, has_slot, first_term, declared, slot_of, port_of, indexes_of, term_of, weight_of, keys_in, emitted, is_best, tabled, table_of, find, step_of, steps_of, part_of as read_part, nothing_read}
+use Rattle.saw_model.specs.Judged.{Refusal, on_fine, in_unit, all_parts}
+use Rattle.saw_model.specs.Plan.{tally_op, plan_of}
 use Rattle.saw_model.proofs.Elaborated.{fine, ok_parts, ok_is}
-use Rattle.saw_text.specs.Tree.{in_turn, or_end, TableForm, UnitForm, ATable, AStatement, part_of, program_of}
-use Rattle.saw_text.specs.Grammar.{is_user, IsDeclare, IsAssign, IsEmit, IsIf, IsBlockOf, NamedAfter, StmtAfter, IsStmt, IsBlock, TypedAfter, UnitNamed, UnitAfter, IsUnit, AreUnits}
+use Rattle.saw_text.specs.Tree.{in_turn, or_end, UnitForm, part_of, program_of}
+use Rattle.saw_text.specs.Grammar.{is_user, IsIf, IsBlockOf, NamedAfter, StmtAfter, IsStmt, IsBlock, TypedAfter, UnitNamed, IsUnit, AreUnits}
 use Rattle.saw_front.specs.Laws.{Has, PlansArePrintable}
-use Rattle.saw_front.specs.Meaning.{Accepted, program_in, plan_in, compiled}
+use Rattle.saw_front.specs.Meaning.{program_in}
 use Rattle.saw_front.proofs.Fronts.{means_what_it_has}
 use Rattle.saw_front.proofs.Readable.{chosen, enclosed}
 

@@ -11,7 +11,17 @@ use saw_text::Expr as Written;
 use std::alloc::Global;
 use work_code::Expr;
 
+// An expression on the fields of a record and the slots, in a box.
+#[cycle(term)]
+fn boxed(alloc: Global, names: &Names, written: &Written) -> Result<Box<Expr>, Fault>
+    requires { AreValues (said written.now) }
+    ensures { Judges (λ boxed. term boxed.value) result (term_of (scope_of names.now.items.items) (said written.now)) }
+{
+    Ok(Box::new(alloc, term(alloc, names, written)?)?)
+}
+
 /// An expression on the fields of a record and the slots.
+#[cycle(term)]
 pub fn term(alloc: Global, names: &Names, written: &Written) -> Result<Expr, Fault>
     requires { AreValues (said written.now) }
     ensures { Judges term result (term_of (scope_of names.now.items.items) (said written.now)) }
@@ -29,21 +39,15 @@ pub fn term(alloc: Global, names: &Names, written: &Written) -> Result<Expr, Fau
                 Err(Fault::Limit)
             }
         }
-        Written::Neg(inner) => {
-            let inner = term(alloc, names, inner)?;
-            Ok(Expr::Neg(Box::new(alloc, inner)?))
-        }
-        Written::Not(inner) => {
-            let inner = term(alloc, names, inner)?;
-            Ok(Expr::Not(Box::new(alloc, inner)?))
-        }
+        Written::Neg(inner) => Ok(Expr::Neg(boxed(alloc, names, inner)?)),
+        Written::Not(inner) => Ok(Expr::Not(boxed(alloc, names, inner)?)),
         Written::Bin { op, left, right } => {
-            let left = term(alloc, names, left)?;
-            let right = term(alloc, names, right)?;
+            let left = boxed(alloc, names, left)?;
+            let right = boxed(alloc, names, right)?;
             Ok(Expr::Bin {
                 op: *op,
-                left: Box::new(alloc, left)?,
-                right: Box::new(alloc, right)?,
+                left,
+                right,
             })
         }
     }
