@@ -27,12 +27,23 @@ pub fn plan(alloc: Global, units: &[Declaration]) -> Result<RawPlan, Refusal>
     ensures { PlansBy result (judged (program_of units.now)) }
 {
     let mut known = Known::new(alloc);
-    known.units(alloc, units)?;
-    let count = units.len();
-    known.plan_last(alloc, count as u32, units[count - 1].name)
+    known.program(alloc, units)
 }
 
 impl Known {
+    // The same, where no stream is known.
+    fn program(&mut self, alloc: Global, units: &[Declaration]) -> Result<RawPlan, Refusal>
+        requires nothing { Knows self.old [] }
+        requires readable { AreReadable (program_of units.now) }
+        requires some { 0 < length units.now }
+        requires few { length units.now < 2 ^ 32 }
+        ensures { PlansBy result (judged (program_of units.now)) }
+    {
+        self.units(alloc, units)?;
+        let count = units.len();
+        self.plan_last(alloc, count as u32, units[count - 1].name)
+    }
+
     // The plan of the stream that is declared last, in this unit.
     fn plan_last(&self, alloc: Global, unit: u32, last: Name) -> Result<RawPlan, Refusal>
         requires { KnowsLast self.now last }
