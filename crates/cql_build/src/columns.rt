@@ -6,7 +6,7 @@ ghost use Rattle.cql_model.specs.Scopes.{column_name, column_names, names_from, 
 ghost use Rattle.cql_build.specs.Views.{value_of, column_of, chosen_of, columns_of, scope};
 
 use crate::Item;
-use crate::names::name_of;
+use crate::names::{name_of, put_number};
 use crate::shape::Shape;
 use cql_text::{Column, Columns, Scalar};
 use river_base::{Bytes, Name, NoMemory};
@@ -102,7 +102,7 @@ fn place_name(alloc: Global, place: usize) -> Result<Name, NoMemory>
 fn place_text(alloc: Global, place: usize) -> Result<Bytes, NoMemory>
     ensures { IfOk result (λ text. text ≡ codes "c" ++ decimal place) }
 {
-    let mut bytes = Bytes::from_slice(alloc, b"c")?;
-    bytes.extend(place.to_string(alloc)?.as_bytes())?;
+    let mut bytes = Bytes::new(alloc);
+    put_number(alloc, b"c", place, &mut bytes)?;
     Ok(bytes)
 }

@@ -66,8 +66,13 @@ fn put_mark(alloc: Global, mark: Mark, to: &mut Bytes) -> Result<(), NoMemory>
     }
 }
 
-// Appends a letter, or none, and a number.
-fn put_number(alloc: Global, letter: &[u8], number: usize, to: &mut Bytes) -> Result<(), NoMemory>
+/// Appends a letter, or none, and a number.
+pub(crate) fn put_number(
+    alloc: Global,
+    letter: &[u8],
+    number: usize,
+    to: &mut Bytes,
+) -> Result<(), NoMemory>
     ensures put { OnOk result (to.new ≡ to.old ++ (letter.now ++ decimal number)) }
     ensures low { number < 2 ^ 64 }
 {
