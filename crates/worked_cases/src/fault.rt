@@ -3,14 +3,14 @@ use river_base::NoMemory;
 use std::io;
 
 /// What is wrong with a line, or with the machine.
-#[derive(Debug, Drop)]
+#[derive(Clone, Copy)]
 pub enum Fault {
     /// The line is none that is known, or stands where it may not.
     Line,
     /// There was no memory.
     NoMemory,
     /// The standard output failed.
-    Output(io::Error),
+    Output,
 }
 
 impl From<NoMemory> for Fault {
@@ -20,7 +20,7 @@ impl From<NoMemory> for Fault {
 }
 
 impl From<io::Error> for Fault {
-    fn from(error: io::Error) -> Self {
-        Fault::Output(error)
+    fn from(_: io::Error) -> Self {
+        Fault::Output
     }
 }

@@ -1,5 +1,6 @@
 // A case: what is run, and what it is to give.
-use river_base::{Bytes, Listed, NoMemory, Numbers, Text};
+use crate::fault::Fault;
+use river_base::{Bytes, Listed, Numbers, Text};
 use river_outside::Files;
 use std::alloc::Global;
 
@@ -62,20 +63,20 @@ impl Case {
         self.writes = Device::new(alloc);
         self.tells = Device::new(alloc);
         self.status = None;
-        self.out = Bytes::new(alloc);
-        self.err = Bytes::new(alloc);
+        self.out.truncate(0);
+        self.err.truncate(0);
     }
 }
 
-/// Puts a content under a name, in place of the one that was there.
-pub fn put(files: &mut Files, name: Bytes, content: Bytes) -> Result<(), NoMemory> {
-    for file in files.as_mut_slice() {
-        if file.0 == name {
-            file.1 = content;
+/// Puts a file in place of the one of its name, if there is one.
+pub fn put(files: &mut Files, file: (Bytes, Bytes)) -> Result<(), Fault> {
+    for other in files.as_mut_slice() {
+        if other.0 == file.0 {
+            other.1 = file.1;
             return Ok(());
         }
     }
-    files.push((name, content))
+    Ok(files.push(file)?)
 }
 
 /// The content under a name.

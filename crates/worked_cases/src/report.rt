@@ -1,0 +1,88 @@
+// What is printed of the cases.
+use crate::fault::Fault;
+use std::alloc::Global;
+use std::io;
+use std::io::Write;
+
+/// How many cases were tried, and how many of them were right.
+#[derive(Clone, Copy)]
+pub struct Tally {
+    pub tried: u32,
+    pub right: u32,
+}
+
+impl Tally {
+    /// Counts a case.
+    pub fn count(&mut self, is_right: bool) {
+        self.tried = self.tried.saturating_add(1);
+        self.right = self.right.saturating_add(u32::from(is_right));
+    }
+
+    /// Whether so many were tried, and all were right.
+    pub fn is_right(self, wanted: u32) -> bool {
+        self.right == self.tried && self.tried == wanted
+    }
+}
+
+/// What a run ended with, and what it wrote.
+#[derive(Clone, Copy)]
+pub struct Ran<'a> {
+    pub status: u8,
+    pub out: &'a [u8],
+    pub err: &'a [u8],
+}
+
+/// Prints what a case gave that is not what it says.
+pub fn show_wrong<R: Print>(
+    rt: &R,
+    alloc: Global,
+    title: &[u8],
+    ran: Ran<'_>,
+) -> Result<(), Fault> {
+    let Ok(status) = ran.status.to_string(alloc) else {
+        return Err(Fault::NoMemory);
+    };
+    let parts: [&[u8]; 8] = [
+        b"wrong: ",
+        title,
+        b"\nstatus ",
+        status.as_bytes(),
+        b"\nout\n",
+        first(ran.out),
+        b"\nerr\n",
+        first(ran.err),
+    ];
+    show(rt, &parts)
+}
+
+fn show<R: Print>(rt: &R, parts: &[&[u8]]) -> Result<(), Fault> {
+    let mut to = io::writer(rt);
+    for part in parts {
+        to.write_all(part)?;
+    }
+    to.write_all(b"\n")?;
+    Ok(())
+}
+
+// The first bytes.
+fn first(bytes: &[u8]) -> &[u8] {
+    bytes.get(..2000).unwrap_or(bytes)
+}
+
+/// Prints why the cases cannot be gone through.
+pub fn show_fault<R: Print>(rt: &R, line: u32, fault: Fault) -> io::Result<()> {
+    match fault {
+        Fault::Line => println!(rt; "line {line} cannot be read, or may not stand there"),
+        Fault::NoMemory => println!(rt; "line {line}: out of memory"),
+        Fault::Output => Ok(()),
+    }
+}
+
+/// Prints how many were right.
+pub fn show_tally<R: Print>(rt: &R, tally: Tally, wanted: u32) -> io::Result<()> {
+    let Tally { tried, right } = tally;
+    if tried != wanted {
+        return println!(rt; "{tried} cases, where the first line says {wanted}");
+    }
+    println!(rt; "{right} of {tried} cases are right")
+}
