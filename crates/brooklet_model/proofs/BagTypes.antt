@@ -244,8 +244,10 @@ drain_typed a b (suc n) s h =
       next = drain front_of_pair rest_of_pair n
 
       go : (o : Option (List item.Item)) → front_of_pair s ≡ o
-          → All (HasType (relation (a + b))) (drain front_of_pair rest_of_pair n (rest_of_pair s)).0 × PairTyped a b (drain front_of_pair rest_of_pair n (rest_of_pair s)).1
-          → All (HasType (relation (a + b))) (pass_on rest_of_pair s (drain front_of_pair rest_of_pair n) o).0 × PairTyped a b (pass_on rest_of_pair s (drain front_of_pair rest_of_pair n) o).1
+          → All (HasType (relation (a + b))) (drain front_of_pair rest_of_pair n (rest_of_pair s)).0
+          × PairTyped a b (drain front_of_pair rest_of_pair n (rest_of_pair s)).1
+          → All (HasType (relation (a + b))) (pass_on rest_of_pair s (drain front_of_pair rest_of_pair n) o).0
+          × PairTyped a b (pass_on rest_of_pair s (drain front_of_pair rest_of_pair n) o).1
       go None e r = (All-nil (HasType (relation (a + b))), h)
       go (Some o) e r =
           (All-append (HasType (relation (a + b))) o (drain front_of_pair rest_of_pair n (rest_of_pair s)).0 (front_typed a b s.left s.right o h.0 h.1 e) r.0, r.1)

@@ -123,7 +123,8 @@ zero_is w pos =
 
 -- the port in turn, and how many items it had, when item x comes
 pub next_turn : (ws : List ℕ) (x : ℕ) → Positive ws → 0 < cycle ws
-    → (next_port ws (branch ws x) (within ws (x % cycle ws)) ≡ branch ws (suc x)) × (next_had ws (branch ws x) (within ws (x % cycle ws)) ≡ within ws (suc x % cycle ws))
+    → (next_port ws (branch ws x) (within ws (x % cycle ws)) ≡ branch ws (suc x))
+    × (next_had ws (branch ws x) (within ws (x % cycle ws)) ≡ within ws (suc x % cycle ws))
 next_turn ws x pos lt =
     let w = cycle ws in
     let m = x % w in

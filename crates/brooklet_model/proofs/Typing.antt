@@ -222,7 +222,8 @@ drain_all P Q give ws f (suc n) s h = go (front_of give s) refl (drain_all P Q g
   where
     go : (o : Option (List item.Item)) → front_of give s ≡ o
         → All Q (drain (front_of give) (passed ws) n (passed ws s)).0 × EachPlace P (drain (front_of give) (passed ws) n (passed ws s)).1.lists
-        → All Q (pass_on (passed ws) s (drain (front_of give) (passed ws) n) o).0 × EachPlace P (pass_on (passed ws) s (drain (front_of give) (passed ws) n) o).1.lists
+        → All Q (pass_on (passed ws) s (drain (front_of give) (passed ws) n) o).0
+        × EachPlace P (pass_on (passed ws) s (drain (front_of give) (passed ws) n) o).1.lists
     go None e r = (All-nil Q, h)
     go (Some o) e r = (All-append Q o _ (front_all P Q give f s.lists s.port o h e) r.0, r.1)
 

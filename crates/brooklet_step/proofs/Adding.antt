@@ -1,5 +1,6 @@
 -- Loops that add rows to tables.
-use Rattle.std.proofs.Common.{◌≡◌, ℕ, zero, suc, ℤ, ◌+◌, ◌<◌, ◌≤◌, Bool, true, false, Some, List, [], ◌∷◌, ◌++◌, length, take, drop, fold, nat_lt, refl, sym, ap, ◌∙◌, subst, arith, get_or, append_assoc}
+use Rattle.std.proofs.Common.{◌≡◌, ℕ, zero, suc, ℤ, ◌+◌, ◌<◌, ◌≤◌, Bool, true, false, Some, List, [], ◌∷◌, ◌++◌, length, take, drop, fold, nat_lt, refl, sym}
+use Rattle.std.proofs.Common.{ap, ◌∙◌, subst, arith, get_or, append_assoc}
 use Rattle.std.specs.Prelude.{All, slice_get, slice_set, if◌then◌else◌}
 use Rattle.std.proofs.lemmas.List.{append-nil, take_more, take-append-drop, length-take-le}
 use Rattle.std.proofs.lemmas.List.Elements.{filter-append, filter_more}
@@ -36,7 +37,8 @@ length-each_added (t ∷ ts) f = ap suc (length-each_added ts (λ p. f (suc p)))
 
 each_added-cong : (ts : List Kept) (f g : ℕ → List (List ℤ)) → ((p : ℕ) → f p ≡ g p) → each_added ts f ≡ each_added ts g
 each_added-cong [] f g h = refl
-each_added-cong (t ∷ ts) f g h = let a = ap (fold added t) (h 0) in let b = each_added-cong ts (λ p. f (suc p)) (λ p. g (suc p)) (λ p. h (suc p)) in λ i. a i ∷ b i
+each_added-cong (t ∷ ts) f g h =
+    let a = ap (fold added t) (h 0) in let b = each_added-cong ts (λ p. f (suc p)) (λ p. g (suc p)) (λ p. h (suc p)) in λ i. a i ∷ b i
 
 pub each_added-none : (ts : List Kept) → each_added ts (λ p. []) ≡ ts
 each_added-none [] = refl
@@ -105,7 +107,8 @@ module _ (n : ℕ) (vars : List ℕ) (i w : ℕ) (lt : i < length vars) (e : w �
 -- the rows for one table more were added
 pub added_next : (ts now : List Kept) (vars : List ℕ) (f : ℕ → List (List ℤ)) (i w number : ℕ) (old new : Kept) → i < length vars → w ≡ get_or vars i 0
     → w < length ts
-    → now ≡ each_added ts (joined_at (table_places (length ts) (take i vars)) f) → number ≡ length (table_places (length ts) (take i vars)) → old ≡ get_or now w old → new ≡ fold added old (f number)
+    → now ≡ each_added ts (joined_at (table_places (length ts) (take i vars)) f) → number ≡ length (table_places (length ts) (take i vars))
+    → old ≡ get_or now w old → new ≡ fold added old (f number)
     → slice_set now w new ≡ each_added ts (joined_at (table_places (length ts) (take (i + 1) vars)) f)
 added_next ts now vars f i w number old new lt we below h c o n =
     let before = table_places (length ts) (take i vars) in
@@ -119,7 +122,8 @@ added_next ts now vars f i w number old new lt we below h c o n =
 -- they have the table's width
 pub rows_wide : (ts now : List Kept) (vars : List ℕ) (adds : List (List (List ℤ))) (i w number : ℕ) (old : Kept) → i < length vars → w ≡ get_or vars i 0
     → w < length ts
-    → now ≡ each_added ts (joined_at (table_places (length ts) (take i vars)) (list_at adds)) → number ≡ length (table_places (length ts) (take i vars)) → old ≡ get_or now w old
+    → now ≡ each_added ts (joined_at (table_places (length ts) (take i vars)) (list_at adds)) → number ≡ length (table_places (length ts) (take i vars))
+    → old ≡ get_or now w old
     → AreFor ts (table_places (length ts) vars) adds → All (λ row. length row ≡ width_of old) (list_at adds number)
 rows_wide ts now vars adds i w number old lt we below h c o wide =
     let before = table_places (length ts) (take i vars) in

@@ -32,7 +32,8 @@ use Rattle.brooklet_step.specs.declared.emit.Emit.{Emit}
 use Rattle.brooklet_step.specs.declared.state.State.{State}
 use Rattle.brooklet_step.specs.declared.state.State.TheVariants as state
 use Rattle.brooklet_step.specs.Took.{Took}
-use Rattle.brooklet_step.specs.Stands.{IsBatch, IsFlat, IsFlatWith, IsWindowState, IsStreamerState, IsCrossState, Stepped, Paired, StandsFor, Fires, Takes, Applies}
+use Rattle.brooklet_step.specs.Stands.{IsBatch, IsFlat, IsFlatWith, IsWindowState, IsStreamerState, IsCrossState, Stepped, Paired, StandsFor, Fires, Takes}
+use Rattle.brooklet_step.specs.Stands.{Applies}
 
 -- ITEMS
 
@@ -87,7 +88,9 @@ module _ (k : Kern) (w : Window) (port : ℕ) (x : item.Item) (st : List State) 
   window_item = let f = b.takes.fitted.fits in stream_batch f.0 x (at_only (stream f.0) port x (subst (λ (l : List QueueType). IsOf l port x) f.1 b.takes.item))
 
   pub window_state : (d s : State) → s ≡ get_or st 0 d → IsWindowState w s
-  window_state d s g = let h = b.takes.fitted.keeps.stands in record { now = h.now; is = only_state st d s (state.Window h.now) g h.code; kept = record { past = h.past; stands = h.stands } }
+  window_state d s g =
+      let h = b.takes.fitted.keeps.stands in
+      record { now = h.now; is = only_state st d s (state.Window h.now) g h.code; kept = record { past = h.past; stands = h.stands } }
 
 pub same_window : (u v : WindowKept) → state.Window u ≡ state.Window v → u ≡ v
 same_window u v h = cc
@@ -136,41 +139,49 @@ terms_within i s (t ∷ ts) h =
 can_read : (n : ℕ) (e : Term) (rows : List (List ℤ)) → is_term n 0 e ≡ true → HaveWidth n rows → CanRead e rows
 can_read n e rows g h = λ k d lt. subst (λ m. IsWithin m 0 e) (sym (h k d lt)) (term_within n 0 e g)
 
-select_in : (t : FlatType) (e : Term) (x : item.Item) → (is_sized t && (is_bag t && is_term (width_of t) 0 e)) ≡ true → HasType (FlatOf t) x → IsFlatWith (λ f. CanRead e (flat_rows f)) x
+select_in : (t : FlatType) (e : Term) (x : item.Item) → (is_sized t && (is_bag t && is_term (width_of t) 0 e)) ≡ true → HasType (FlatOf t) x
+    → IsFlatWith (λ f. CanRead e (flat_rows f)) x
 select_in (Rows n) e x g h = absurd (true≢false (sym (and_parts (is_width n) (false && is_term n 0 e) g).1))
-select_in (Stream n) e (Flat (Batched b)) g h = record { content = Batched b; is = refl; holds = can_read n e b.rows (and_parts (is_width n) (true && is_term n 0 e) g).1 h }
+select_in (Stream n) e (Flat (Batched b)) g h =
+    record { content = Batched b; is = refl; holds = can_read n e b.rows (and_parts (is_width n) (true && is_term n 0 e) g).1 h }
 select_in (Stream n) e (Flat (One row)) g h = absurd h
 select_in (Stream n) e (Pack fs) g h = absurd h
-select_in (Relation n) e (Flat (Batched b)) g h = record { content = Batched b; is = refl; holds = can_read n e b.rows (and_parts (is_width n) (true && is_term n 0 e) g).1 h.0 }
+select_in (Relation n) e (Flat (Batched b)) g h =
+    record { content = Batched b; is = refl; holds = can_read n e b.rows (and_parts (is_width n) (true && is_term n 0 e) g).1 h.0 }
 select_in (Relation n) e (Flat (One row)) g h = absurd h
 select_in (Relation n) e (Pack fs) g h = absurd h
 
-pub select_item : (k : Kern) (e : Term) (port : ℕ) (x : item.Item) (st : List State) → k ≡ select e → Takes k port x st → IsFlatWith (λ f. CanRead e (flat_rows f)) x
+pub select_item : (k : Kern) (e : Term) (port : ℕ) (x : item.Item) (st : List State) → k ≡ select e → Takes k port x st
+    → IsFlatWith (λ f. CanRead e (flat_rows f)) x
 select_item k e port x st ek t =
     let u = subst (λ (j : Kern). Takes j port x st) ek t in
     let f = u.fitted.fits in
     select_in f.0 e x f.4 (at_only (FlatOf f.0) port x (subst (λ (l : List QueueType). IsOf l port x) f.1 u.item))
 
-pub select_fires : (k : Kern) (e : Term) (port : ℕ) (x : item.Item) (st : List State) (out out' : Emit) → k ≡ select e → Took out out' (gives 0 (select_one e x) []) → Fires k out out' st st (fire k port x)
+pub select_fires : (k : Kern) (e : Term) (port : ℕ) (x : item.Item) (st : List State) (out out' : Emit) → k ≡ select e
+    → Took out out' (gives 0 (select_one e x) []) → Fires k out out' st st (fire k port x)
 select_fires k e port x st out out' ek t =
     let whole : Fires (select e) out out' st st (fire (select e) port x) = record { given = λ ks h. (record { outs = t.outs; adds = t.adds }, h) } in
     subst (λ (j : Kern). Fires j out out' st st (fire j port x)) (sym ek) whole
 
-can_project : (n : ℕ) (es : List Term) (rows : List (List ℤ)) → (is_width n && (is_width (length es) && list_all (is_term n 0) es)) ≡ true → HaveWidth n rows → CanProject es rows
+can_project : (n : ℕ) (es : List Term) (rows : List (List ℤ)) → (is_width n && (is_width (length es) && list_all (is_term n 0) es)) ≡ true → HaveWidth n rows
+    → CanProject es rows
 can_project n es rows g h =
     let p = and_parts (is_width n) (is_width (length es) && list_all (is_term n 0) es) g in
     let q = and_parts (is_width (length es)) (list_all (is_term n 0) es) p.1 in
     let r = and_parts (nat_le 1 (length es)) (nat_le (length es) 16) q.0 in
     record { some = le_by 1 (length es) r.0; at_most = le_by (length es) 16 r.1; within = λ k d lt. subst (λ m. AllByRecursion (IsWithin m 0) es) (sym (h k d lt)) (terms_within n 0 es q.1) }
 
-pub project_item : (k : Kern) (es : List Term) (port : ℕ) (x : item.Item) (st : List State) → k ≡ project es → Takes k port x st → IsFlatWith (λ f. CanProject es (flat_rows f)) x
+pub project_item : (k : Kern) (es : List Term) (port : ℕ) (x : item.Item) (st : List State) → k ≡ project es → Takes k port x st
+    → IsFlatWith (λ f. CanProject es (flat_rows f)) x
 project_item k es port x st ek t =
     let u = subst (λ (j : Kern). Takes j port x st) ek t in
     let f = u.fitted.fits in
     let c = content_at f.0 port u.reads x f.1 u.item in
     record { content = c.content; is = c.is; holds = can_project f.0 es (flat_rows c.content) f.4 c.wide }
 
-pub project_fires : (k : Kern) (es : List Term) (port : ℕ) (x : item.Item) (st : List State) (out out' : Emit) → k ≡ project es → Took out out' (gives 0 (project_one es x) []) → Fires k out out' st st (fire k port x)
+pub project_fires : (k : Kern) (es : List Term) (port : ℕ) (x : item.Item) (st : List State) (out out' : Emit) → k ≡ project es
+    → Took out out' (gives 0 (project_one es x) []) → Fires k out out' st st (fire k port x)
 project_fires k es port x st out out' ek t =
     let whole : Fires (project es) out out' st st (fire (project es) port x) = record { given = λ ks h. (record { outs = t.outs; adds = t.adds }, h) } in
     subst (λ (j : Kern). Fires j out out' st st (fire j port x)) (sym ek) whole
@@ -190,8 +201,10 @@ module _ (k : Kern) (s : Streamer) (port : ℕ) (x : item.Item) (st : List State
 pub same_rows : (u v : List (List ℤ)) → state.Streamer u ≡ state.Streamer v → u ≡ v
 same_rows u v h = cc
 
-pub streamer_fires : (k : Kern) (s : Streamer) (port : ℕ) (x : item.Item) (st : List State) (d v v' : State) (out out' : Emit) → k ≡ streamer s → v ≡ get_or st 0 d
-    → Stepped (λ n. state.Streamer n) (StandsForStreamer s) (streamer_one s) x v v' out out' → IsStreamerState v' → Fires k out out' st (set st 0 v') (fire k port x)
+pub streamer_fires : (k : Kern) (s : Streamer) (port : ℕ) (x : item.Item) (st : List State) (d v v' : State) (out out' : Emit) → k ≡ streamer s
+    → v ≡ get_or st 0 d
+    → Stepped (λ n. state.Streamer n) (StandsForStreamer s) (streamer_one s) x v v' out out' → IsStreamerState v'
+    → Fires k out out' st (set st 0 v') (fire k port x)
 streamer_fires k s port x st d v v' out out' ek g t a =
     let whole : Fires (streamer s) out out' st (set st 0 v') (fire (streamer s) port x) = record {
       given = λ ks h.
@@ -217,7 +230,8 @@ IsWideItem n y = HaveWidth n (rows_of y)
 
 all_wide : (n : ℕ) (ys : List item.Item) → All (HasType (relation n)) ys → All (IsWideItem n) ys
 all_wide n [] h = All-nil (IsWideItem n)
-all_wide n (y ∷ ys) h = All-cons (IsWideItem n) y ys (wide_item n y (All-head (HasType (relation n)) y ys h)) (all_wide n ys (All-tail (HasType (relation n)) y ys h))
+all_wide n (y ∷ ys) h =
+    All-cons (IsWideItem n) y ys (wide_item n y (All-head (HasType (relation n)) y ys h)) (all_wide n ys (All-tail (HasType (relation n)) y ys h))
 
 one_wide : (n : ℕ) (y : item.Item) → HasType (relation n) y → All (IsWideItem n) (y ∷ [])
 one_wide n y h = All-cons (IsWideItem n) y [] (wide_item n y h) (All-nil (IsWideItem n))
@@ -230,9 +244,12 @@ pair_flat a b zero y h = a_flat a y h
 pair_flat a b (suc zero) y h = a_flat b y h
 pair_flat a b (suc (suc p)) y h = absurd h
 
-pair_can : (a b p : ℕ) (y : item.Item) (s : Pairing) → a + b ≤ 16 → IsOf (relation a ∷ relation b ∷ []) p y → All (HasType (relation a)) s.left → All (HasType (relation b)) s.right → CanCross (put_pair p y s)
-pair_can a b zero y s few h l r = record { left = a; right = b; few = few; lefts = All-append (IsWideItem a) s.left (y ∷ []) (all_wide a s.left l) (one_wide a y h); rights = all_wide b s.right r }
-pair_can a b (suc zero) y s few h l r = record { left = a; right = b; few = few; lefts = all_wide a s.left l; rights = All-append (IsWideItem b) s.right (y ∷ []) (all_wide b s.right r) (one_wide b y h) }
+pair_can : (a b p : ℕ) (y : item.Item) (s : Pairing) → a + b ≤ 16 → IsOf (relation a ∷ relation b ∷ []) p y → All (HasType (relation a)) s.left
+    → All (HasType (relation b)) s.right → CanCross (put_pair p y s)
+pair_can a b zero y s few h l r =
+    record { left = a; right = b; few = few; lefts = All-append (IsWideItem a) s.left (y ∷ []) (all_wide a s.left l) (one_wide a y h); rights = all_wide b s.right r }
+pair_can a b (suc zero) y s few h l r =
+    record { left = a; right = b; few = few; lefts = all_wide a s.left l; rights = All-append (IsWideItem b) s.right (y ∷ []) (all_wide b s.right r) (one_wide b y h) }
 pair_can a b (suc (suc p)) y s few h l r = absurd h
 
 module _ (k : Kern) (port : ℕ) (x : item.Item) (st : List State) (ek : k ≡ cross) (t : Takes k port x st) where
@@ -259,7 +276,8 @@ module _ (k : Kern) (port : ℕ) (x : item.Item) (st : List State) (ek : k ≡ c
 pub same_pairing : (u v : Pairing) → state.Cross u ≡ state.Cross v → u ≡ v
 same_pairing u v h = cc
 
-pub cross_fires : (k : Kern) (port : ℕ) (x : item.Item) (st : List State) (d s s' : State) (out out' : Emit) → k ≡ cross → s ≡ get_or st 0 d → Paired port x s s' out out' → Fires k out out' st (set st 0 s') (fire k port x)
+pub cross_fires : (k : Kern) (port : ℕ) (x : item.Item) (st : List State) (d s s' : State) (out out' : Emit) → k ≡ cross → s ≡ get_or st 0 d
+    → Paired port x s s' out out' → Fires k out out' st (set st 0 s') (fire k port x)
 cross_fires k port x st d s s' out out' ek g t =
     let whole : Fires cross out out' st (set st 0 s') (fire cross port x) = record {
       given = λ ks h.

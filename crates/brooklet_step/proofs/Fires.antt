@@ -1,5 +1,6 @@
 -- What firings give, and the plain forms of kernels.
-use Rattle.std.proofs.Common.{◌≡◌, ℕ, ◌<◌, Ok, Err, List, [], ◌∷◌, ◌++◌, length, replicate, refl, sym, ap, ◌∙◌, subst, arith, get_or, nat_lt, append_assoc, Global, Box}
+use Rattle.std.proofs.Common.{◌≡◌, ℕ, ◌<◌, Ok, Err, List, [], ◌∷◌, ◌++◌, length, replicate, refl, sym, ap, ◌∙◌, subst, arith, get_or, nat_lt, append_assoc}
+use Rattle.std.proofs.Common.{Global, Box}
 use Rattle.std.specs.Prelude.{if◌then◌else◌}
 use Rattle.std.specs.Result.{OnOk}
 use Rattle.std.specs.declared.result.Result.{Result}
@@ -33,7 +34,8 @@ flats-append (Flat f ∷ xs) ys = ap (λ t. f ∷ t) (flats-append xs ys)
 flats-append (Pack fs ∷ xs) ys = flats-append xs ys
 
 -- one more item
-pub flats_next : (all all' : List flat.Flat) (whole items rest : List item.Item) (x : item.Item) → all ++ flats items ≡ flats whole → items ≡ x ∷ rest → all' ≡ all ++ flats (x ∷ []) → all' ++ flats rest ≡ flats whole
+pub flats_next : (all all' : List flat.Flat) (whole items rest : List item.Item) (x : item.Item) → all ++ flats items ≡ flats whole → items ≡ x ∷ rest
+    → all' ≡ all ++ flats (x ∷ []) → all' ++ flats rest ≡ flats whole
 flats_next all all' whole items rest x h e n =
     ap (λ l. l ++ flats rest) n ∙ append_assoc all (flats (x ∷ [])) (flats rest) ∙ ap (λ l. all ++ l) (sym (flats-append (x ∷ []) rest)) ∙ ap (λ l. all ++ flats l) (sym e) ∙ h
 
@@ -52,7 +54,8 @@ pub blank_room : (k : Kern) (e : Emit) → IsBlank k e → HasRoom k e
 blank_room k e b = record { outs = ap length b.outs ∙ length-replicate (outs k) []; adds = ap length b.adds ∙ length-replicate (tabs k) [] }
 
 -- what is in lists that were empty
-pub grown_list : {A : Type 0} (n : ℕ) (ls ls' : List (List A)) (f : ℕ → List A) (p : ℕ) → ls ≡ replicate n [] → ls' ≡ each_grew ls f → p < n → list_at ls' p ≡ f p
+pub grown_list : {A : Type 0} (n : ℕ) (ls ls' : List (List A)) (f : ℕ → List A) (p : ℕ) → ls ≡ replicate n [] → ls' ≡ each_grew ls f → p < n
+    → list_at ls' p ≡ f p
 grown_list n ls ls' f p b t h = ap (λ l. list_at l p) (t ∙ ap (λ l. each_grew l f) b) ∙ each_grew-blanks n f p [] h
 
 -- ANSWERS WITHOUT A VALUE
@@ -69,7 +72,9 @@ on_both P Q R (Err e) f h g = h
 
 -- A FILTER, AND COPIES
 
-pub filter_whole : (k : Kern) (f : FilterForm) (port : ℕ) (x : item.Item) (st : List State) (d s s' : State) (out out' : Emit) → k ≡ filter f → Takes k port x st → s ≡ get_or st 0 d → Fires (filter f) out out' (s ∷ []) (s' ∷ []) (fire (filter f) 0 x) → Fires k out out' st (set st 0 s') (fire k port x)
+pub filter_whole : (k : Kern) (f : FilterForm) (port : ℕ) (x : item.Item) (st : List State) (d s s' : State) (out out' : Emit) → k ≡ filter f
+    → Takes k port x st → s ≡ get_or st 0 d → Fires (filter f) out out' (s ∷ []) (s' ∷ []) (fire (filter f) 0 x)
+    → Fires k out out' st (set st 0 s') (fire k port x)
 filter_whole k f port x st d s s' out out' ek t g h =
     let a = subst (λ (j : Kern). StandsFor j st t.fitted.keeps.kept) ek t.fitted.keeps.stands in
     let same : s ≡ state.Filter a.now = g ∙ ap (λ (l : List State). get_or l 0 d) a.code in
@@ -77,13 +82,15 @@ filter_whole k f port x st d s s' out out' ek t g h =
     let whole : Fires (filter f) out out' st (set st 0 s') (fire (filter f) port x) = subst (λ (l : List State). Fires (filter f) out out' l (set l 0 s') (fire (filter f) port x)) (sym e) h in
     subst (λ (j : Kern). Fires j out out' st (set st 0 s') (fire j port x)) (sym ek) whole
 
-pub duplicate_fires : (k : Kern) (n port : ℕ) (x : item.Item) (st : List State) (out out' : Emit) → k ≡ duplicate n → HasRoom k out → out'.outs ≡ each_grew out.outs (λ p. x ∷ []) → out'.adds ≡ out.adds → Fires k out out' st st (fire k port x)
+pub duplicate_fires : (k : Kern) (n port : ℕ) (x : item.Item) (st : List State) (out out' : Emit) → k ≡ duplicate n → HasRoom k out
+    → out'.outs ≡ each_grew out.outs (λ p. x ∷ []) → out'.adds ≡ out.adds → Fires k out out' st st (fire k port x)
 duplicate_fires k n port x st out out' ek room eo ea =
     let l : length out.outs ≡ n = room.outs ∙ ap outs ek in
     let copies : Fires (duplicate n) out out' st st (fire (duplicate n) port x) = record {
       given = λ ks h. (
         record {
-          outs = eo ∙ each_grew_cong out.outs (λ p. x ∷ []) (λ q. if nat_lt q n then x ∷ [] else []) (λ p lt. sym (if_lt p n (x ∷ []) [] (omega (arith, l, lt))));
+          outs =
+              eo ∙ each_grew_cong out.outs (λ p. x ∷ []) (λ q. if nat_lt q n then x ∷ [] else []) (λ p lt. sym (if_lt p n (x ∷ []) [] (omega (arith, l, lt))));
           adds = ea ∙ sym (each_grew-none out.adds);
         },
         h,

@@ -1,5 +1,6 @@
 -- Inputs that fit, place by place.
-use Rattle.std.proofs.Common.{◌≡◌, ℕ, ℤ, zero, suc, ◌+◌, ◌<◌, ◌<ℤ◌, Some, None, Bool, true, false, List, [], ◌∷◌, length, refl, sym, ap, ◌∙◌, subst, arith, get_or, ⊎_elim}
+use Rattle.std.proofs.Common.{◌≡◌, ℕ, ℤ, zero, suc, ◌+◌, ◌<◌, ◌<ℤ◌, Some, None, Bool, true, false, List, [], ◌∷◌, length, refl, sym, ap, ◌∙◌, subst, arith}
+use Rattle.std.proofs.Common.{get_or, ⊎_elim}
 use Rattle.std.specs.Prelude.{All, IsTrue, slice_get}
 use Rattle.std.proofs.lemmas.Bool.{cases_lt}
 use Rattle.std.proofs.lemmas.Option.{slice_get_within, slice_get-get_or}
@@ -39,7 +40,8 @@ inputs_long [] (xs ∷ ls) a = absurd a
 inputs_long (d ∷ ds) [] a = absurd a
 inputs_long (d ∷ ds) (xs ∷ ls) a = let e = inputs_long ds ls a.1 in omega (arith, e)
 
-pub instants_at : (ds : List Decl) (ts : List ℤ) (ls : List (List item.Item)) → length ls ≡ length ds → AreInstants ds ts ls → EachAt (λ d xs. HasInstants d.kind ts xs) ds ls
+pub instants_at : (ds : List Decl) (ts : List ℤ) (ls : List (List item.Item)) → length ls ≡ length ds → AreInstants ds ts ls
+    → EachAt (λ d xs. HasInstants d.kind ts xs) ds ls
 instants_at [] ts ls e a i d g = absurd (cc g)
 instants_at (x ∷ ds) ts [] e a i d g = absurd (omega (arith, e))
 instants_at (x ∷ ds) ts (xs ∷ ls) e a zero d g = subst (λ (y : Decl). HasInstants y.kind ts xs) (decl_is x d g) a.0
@@ -73,10 +75,12 @@ fit_none p ls a n = record {
 }
 
 -- the first stream tells the instants
-pub fit_some : (p : PlanForm) (ls : List (List item.Item)) (i : ℕ) (xs : List item.Item) → AreInputs p.inputs ls → xs ≡ list_at ls i → Rises (instants xs) → AreInstants p.inputs (instants xs) ls → Fit p ls
+pub fit_some : (p : PlanForm) (ls : List (List item.Item)) (i : ℕ) (xs : List item.Item) → AreInputs p.inputs ls → xs ≡ list_at ls i → Rises (instants xs)
+    → AreInstants p.inputs (instants xs) ls → Fit p ls
 fit_some p ls i xs a e r s = record { typed = a; instants_of = instants xs; ascending = r; streams = s }
 
-pub some_fit : (p : PlanForm) (ls : List (List item.Item)) (i : ℕ) (d : Decl) (xs : List item.Item) → slice_get p.inputs i ≡ Some d → IsStream d.kind → xs ≡ list_at ls i → Fit p ls → Rises (instants xs) × AreInstants p.inputs (instants xs) ls
+pub some_fit : (p : PlanForm) (ls : List (List item.Item)) (i : ℕ) (d : Decl) (xs : List item.Item) → slice_get p.inputs i ≡ Some d → IsStream d.kind
+    → xs ≡ list_at ls i → Fit p ls → Rises (instants xs) × AreInstants p.inputs (instants xs) ls
 some_fit p ls i d xs g s e f =
     let h = instants_at p.inputs f.instants_of ls (inputs_long p.inputs ls f.typed) f.streams i d g in
     let same : f.instants_of ≡ instants xs = sym (has_stream d.kind f.instants_of (list_at ls i) h s) ∙ ap instants (sym e) in
@@ -87,7 +91,8 @@ some_fit p ls i d xs g s e f =
 head_later : (t u : ℤ) (ts : List ℤ) → Rises (t ∷ u ∷ ts) → t <ℤ u
 head_later t u ts r = r.0
 
-pub rises_at : (xs : List item.Item) → Rises (instants xs) → (i : ℕ) (x y : item.Item) → slice_get xs i ≡ Some x → slice_get xs (suc i) ≡ Some y → instant_of x <ℤ instant_of y
+pub rises_at : (xs : List item.Item) → Rises (instants xs) → (i : ℕ) (x y : item.Item) → slice_get xs i ≡ Some x → slice_get xs (suc i) ≡ Some y
+    → instant_of x <ℤ instant_of y
 rises_at [] r i x y g h = absurd (cc g)
 rises_at (a ∷ []) r zero x y g h = absurd (let e : None ≡ Some y = h in cc e)
 rises_at (a ∷ []) r (suc i) x y g h = absurd (let e : None ≡ Some x = g in cc e)
@@ -97,24 +102,29 @@ rises_at (a ∷ b ∷ xs) r zero x y g h = subst (λ z. instant_of z <ℤ instan
     got u v e = cc
 rises_at (a ∷ b ∷ xs) r (suc i) x y g h = rises_at (b ∷ xs) r.1 i x y g h
 
-pub rises_by : (xs : List item.Item) → ((i : ℕ) (x y : item.Item) → slice_get xs i ≡ Some x → slice_get xs (suc i) ≡ Some y → instant_of x <ℤ instant_of y) → Rises (instants xs)
+pub rises_by : (xs : List item.Item) → ((i : ℕ) (x y : item.Item) → slice_get xs i ≡ Some x → slice_get xs (suc i) ≡ Some y → instant_of x <ℤ instant_of y)
+    → Rises (instants xs)
 rises_by [] h = tt
 rises_by (a ∷ []) h = tt
 rises_by (a ∷ b ∷ xs) h = (h 0 a b refl refl, rises_by (b ∷ xs) (λ i x y g k. h (suc i) x y g k))
 
-pub same_at : (xs ys : List item.Item) → instants xs ≡ instants ys → (i : ℕ) (x y : item.Item) → slice_get xs i ≡ Some x → slice_get ys i ≡ Some y → instant_of x ≡ instant_of y
-same_at xs ys e i x y g h = let s : Some (instant_of x) ≡ Some (instant_of y) = sym (got_map xs i x g) ∙ ap (λ (l : List ℤ). slice_get l i) e ∙ got_map ys i y h in cc
+pub same_at : (xs ys : List item.Item) → instants xs ≡ instants ys → (i : ℕ) (x y : item.Item) → slice_get xs i ≡ Some x → slice_get ys i ≡ Some y
+    → instant_of x ≡ instant_of y
+same_at xs ys e i x y g h =
+    let s : Some (instant_of x) ≡ Some (instant_of y) = sym (got_map xs i x g) ∙ ap (λ (l : List ℤ). slice_get l i) e ∙ got_map ys i y h in cc
   where
     got_map : (zs : List item.Item) (n : ℕ) (z : item.Item) → slice_get zs n ≡ Some z → slice_get (instants zs) n ≡ Some (instant_of z)
     got_map [] n z k = absurd (cc k)
     got_map (w ∷ ws) zero z k = let q : w ≡ z = cc in ap (λ v. Some (instant_of v)) q
     got_map (w ∷ ws) (suc n) z k = got_map ws n z k
 
-pub same_by : (xs ys : List item.Item) → length xs ≡ length ys → ((i : ℕ) (x y : item.Item) → slice_get xs i ≡ Some x → slice_get ys i ≡ Some y → instant_of x ≡ instant_of y) → instants xs ≡ instants ys
+pub same_by : (xs ys : List item.Item) → length xs ≡ length ys
+    → ((i : ℕ) (x y : item.Item) → slice_get xs i ≡ Some x → slice_get ys i ≡ Some y → instant_of x ≡ instant_of y) → instants xs ≡ instants ys
 same_by [] [] e h = refl
 same_by [] (y ∷ ys) e h = absurd (omega (arith, e))
 same_by (x ∷ xs) [] e h = absurd (omega (arith, e))
-same_by (x ∷ xs) (y ∷ ys) e h = ap (λ t. t ∷ instants xs) (h 0 x y refl refl) ∙ ap (λ l. instant_of y ∷ l) (same_by xs ys (omega (arith, e)) (λ i a b g k. h (suc i) a b g k))
+same_by (x ∷ xs) (y ∷ ys) e h =
+    ap (λ t. t ∷ instants xs) (h 0 x y refl refl) ∙ ap (λ l. instant_of y ∷ l) (same_by xs ys (omega (arith, e)) (λ i a b g k. h (suc i) a b g k))
 
 pub instants_long : (xs ys : List item.Item) → instants xs ≡ instants ys → length xs ≡ length ys
 instants_long [] [] e = refl
@@ -133,37 +143,50 @@ got_here xs n x y lt e g = let s : Some x ≡ Some y = ap Some e ∙ sym (slice_
 got_at : {A : Type 0} (xs : List A) (n : ℕ) (x : A) → n < length xs → x ≡ get_or xs n x → slice_get xs n ≡ Some x
 got_at xs n x lt e = slice_get-get_or xs n x lt ∙ ap Some (sym e)
 
-pub typed_here : (ds : List Decl) (ls : List (List item.Item)) (n : ℕ) (d : Decl) (xs : List item.Item) → n < length ds → d ≡ get_or ds n d → xs ≡ list_at ls n → All (HasType d.kind) xs → (e : Decl) → slice_get ds n ≡ Some e → All (HasType e.kind) (list_at ls n)
-typed_here ds ls n d xs lt de xe a e g = subst (λ (x : Decl). All (HasType x.kind) (list_at ls n)) (got_here ds n d e lt de g) (subst (All (HasType d.kind)) xe a)
+pub typed_here : (ds : List Decl) (ls : List (List item.Item)) (n : ℕ) (d : Decl) (xs : List item.Item) → n < length ds → d ≡ get_or ds n d → xs ≡ list_at ls n
+    → All (HasType d.kind) xs → (e : Decl) → slice_get ds n ≡ Some e → All (HasType e.kind) (list_at ls n)
+typed_here ds ls n d xs lt de xe a e g =
+    subst (λ (x : Decl). All (HasType x.kind) (list_at ls n)) (got_here ds n d e lt de g) (subst (All (HasType d.kind)) xe a)
 
-pub not_typed : (ds : List Decl) (ls : List (List item.Item)) (n : ℕ) (d : Decl) (xs : List item.Item) → n < length ds → d ≡ get_or ds n d → xs ≡ list_at ls n → (All (HasType d.kind) xs → ⊥) → AreInputs ds ls → ⊥
+pub not_typed : (ds : List Decl) (ls : List (List item.Item)) (n : ℕ) (d : Decl) (xs : List item.Item) → n < length ds → d ≡ get_or ds n d → xs ≡ list_at ls n
+    → (All (HasType d.kind) xs → ⊥) → AreInputs ds ls → ⊥
 not_typed ds ls n d xs lt de xe h a = h (subst (All (HasType d.kind)) (sym xe) (inputs_at ds ls a n d (got_at ds n d lt de)))
 
-pub stream_here : (ds : List Decl) (n : ℕ) (d : Decl) → n < length ds → d ≡ get_or ds n d → (IsStream d.kind → ⊥) → (e : Decl) → slice_get ds n ≡ Some e → IsStream e.kind → ⊥
+pub stream_here : (ds : List Decl) (n : ℕ) (d : Decl) → n < length ds → d ≡ get_or ds n d → (IsStream d.kind → ⊥) → (e : Decl) → slice_get ds n ≡ Some e
+    → IsStream e.kind → ⊥
 stream_here ds n d lt de h e g s = h (subst (λ (x : Decl). IsStream x.kind) (sym (got_here ds n d e lt de g)) s)
 
-pub stream_found : (ds : List Decl) (n : ℕ) (d : Decl) → n < length ds → d ≡ get_or ds n d → IsStream d.kind → (e : Decl) × (slice_get ds n ≡ Some e) × IsStream e.kind
+pub stream_found : (ds : List Decl) (n : ℕ) (d : Decl) → n < length ds → d ≡ get_or ds n d → IsStream d.kind
+    → (e : Decl) × (slice_get ds n ≡ Some e) × IsStream e.kind
 stream_found ds n d lt de s = (d, got_at ds n d lt de, s)
 
-pub follows_here : (ds : List Decl) (ts : List ℤ) (ls : List (List item.Item)) (n : ℕ) (d : Decl) (xs : List item.Item) → n < length ds → d ≡ get_or ds n d → xs ≡ list_at ls n → HasInstants d.kind ts xs → (e : Decl) → slice_get ds n ≡ Some e → HasInstants e.kind ts (list_at ls n)
-follows_here ds ts ls n d xs lt de xe h e g = subst (λ (x : Decl). HasInstants x.kind ts (list_at ls n)) (got_here ds n d e lt de g) (subst (HasInstants d.kind ts) xe h)
+pub follows_here : (ds : List Decl) (ts : List ℤ) (ls : List (List item.Item)) (n : ℕ) (d : Decl) (xs : List item.Item) → n < length ds → d ≡ get_or ds n d
+    → xs ≡ list_at ls n → HasInstants d.kind ts xs → (e : Decl) → slice_get ds n ≡ Some e → HasInstants e.kind ts (list_at ls n)
+follows_here ds ts ls n d xs lt de xe h e g =
+    subst (λ (x : Decl). HasInstants x.kind ts (list_at ls n)) (got_here ds n d e lt de g) (subst (HasInstants d.kind ts) xe h)
 
-pub not_follows : (ds : List Decl) (ts : List ℤ) (ls : List (List item.Item)) (n : ℕ) (d : Decl) (xs : List item.Item) → length ls ≡ length ds → n < length ds → d ≡ get_or ds n d → xs ≡ list_at ls n → (HasInstants d.kind ts xs → ⊥) → AreInstants ds ts ls → ⊥
+pub not_follows : (ds : List Decl) (ts : List ℤ) (ls : List (List item.Item)) (n : ℕ) (d : Decl) (xs : List item.Item) → length ls ≡ length ds → n < length ds
+    → d ≡ get_or ds n d → xs ≡ list_at ls n → (HasInstants d.kind ts xs → ⊥) → AreInstants ds ts ls → ⊥
 not_follows ds ts ls n d xs l lt de xe h a = h (subst (HasInstants d.kind ts) (sym xe) (instants_at ds ts ls l a n d (got_at ds n d lt de)))
 
-pub later_here : (xs : List item.Item) (n m : ℕ) (a b : item.Item) → n + 1 < length xs → a ≡ get_or xs n a → b ≡ get_or xs m b → m ≡ suc n → instant_of a <ℤ instant_of b → (x y : item.Item) → slice_get xs n ≡ Some x → slice_get xs (suc n) ≡ Some y → instant_of x <ℤ instant_of y
+pub later_here : (xs : List item.Item) (n m : ℕ) (a b : item.Item) → n + 1 < length xs → a ≡ get_or xs n a → b ≡ get_or xs m b → m ≡ suc n
+    → instant_of a <ℤ instant_of b → (x y : item.Item) → slice_get xs n ≡ Some x → slice_get xs (suc n) ≡ Some y → instant_of x <ℤ instant_of y
 later_here xs n m a b lt ae be me h x y g k =
     let ea : a ≡ x = got_here xs n a x (omega (arith, lt)) ae g in
     let eb : b ≡ y = got_here xs (suc n) b y (omega (arith, lt)) (be ∙ ap (λ i. get_or xs i b) me) k in
     subst (λ z. instant_of x <ℤ instant_of z) eb (subst (λ z. instant_of z <ℤ instant_of b) ea h)
 
-pub not_later : (xs : List item.Item) (n m : ℕ) (a b : item.Item) → n + 1 < length xs → a ≡ get_or xs n a → b ≡ get_or xs m b → m ≡ suc n → (instant_of a <ℤ instant_of b → ⊥) → Rises (instants xs) → ⊥
-not_later xs n m a b lt ae be me h r = h (rises_at xs r n a b (got_at xs n a (omega (arith, lt)) ae) (got_at xs (suc n) b (omega (arith, lt)) (be ∙ ap (λ i. get_or xs i b) me)))
+pub not_later : (xs : List item.Item) (n m : ℕ) (a b : item.Item) → n + 1 < length xs → a ≡ get_or xs n a → b ≡ get_or xs m b → m ≡ suc n
+    → (instant_of a <ℤ instant_of b → ⊥) → Rises (instants xs) → ⊥
+not_later xs n m a b lt ae be me h r =
+    h (rises_at xs r n a b (got_at xs n a (omega (arith, lt)) ae) (got_at xs (suc n) b (omega (arith, lt)) (be ∙ ap (λ i. get_or xs i b) me)))
 
-pub same_here : (xs ys : List item.Item) (n : ℕ) (a b : item.Item) → n < length xs → n < length ys → a ≡ get_or xs n a → b ≡ get_or ys n b → instant_of a ≡ instant_of b → (x y : item.Item) → slice_get xs n ≡ Some x → slice_get ys n ≡ Some y → instant_of x ≡ instant_of y
+pub same_here : (xs ys : List item.Item) (n : ℕ) (a b : item.Item) → n < length xs → n < length ys → a ≡ get_or xs n a → b ≡ get_or ys n b
+    → instant_of a ≡ instant_of b → (x y : item.Item) → slice_get xs n ≡ Some x → slice_get ys n ≡ Some y → instant_of x ≡ instant_of y
 same_here xs ys n a b lx ly ae be h x y g k = ap instant_of (sym (got_here xs n a x lx ae g)) ∙ h ∙ ap instant_of (got_here ys n b y ly be k)
 
-pub not_same : (xs ys : List item.Item) (n : ℕ) (a b : item.Item) → n < length xs → n < length ys → a ≡ get_or xs n a → b ≡ get_or ys n b → (instant_of a ≡ instant_of b → ⊥) → instants xs ≡ instants ys → ⊥
+pub not_same : (xs ys : List item.Item) (n : ℕ) (a b : item.Item) → n < length xs → n < length ys → a ≡ get_or xs n a → b ≡ get_or ys n b
+    → (instant_of a ≡ instant_of b → ⊥) → instants xs ≡ instants ys → ⊥
 not_same xs ys n a b lx ly ae be h e = h (same_at xs ys e n a b (got_at xs n a lx ae) (got_at ys n b ly be))
 
 -- A TEST'S ANSWER
@@ -178,7 +201,8 @@ pub not_so : {A : Type 0} (b : Bool) → b ≡ false → (IsTrue b → A) × (A 
 not_so b f h a = let t : b ≡ true = h.1 a in let e : false ≡ true = sym f ∙ t in absurd (cc e)
 
 -- one place more is later than the one before it
-pub later_next : (xs : List item.Item) (n m : ℕ) (a b : item.Item) → n + 1 < length xs → a ≡ get_or xs n a → b ≡ get_or xs m b → m ≡ suc n → instant_of a <ℤ instant_of b
+pub later_next : (xs : List item.Item) (n m : ℕ) (a b : item.Item) → n + 1 < length xs → a ≡ get_or xs n a → b ≡ get_or xs m b → m ≡ suc n
+    → instant_of a <ℤ instant_of b
     → ((i : ℕ) → i + 1 < m → (x y : item.Item) → slice_get xs i ≡ Some x → slice_get xs (suc i) ≡ Some y → instant_of x <ℤ instant_of y)
     → (i : ℕ) → i + 1 < m + 1 → (x y : item.Item) → slice_get xs i ≡ Some x → slice_get xs (suc i) ≡ Some y → instant_of x <ℤ instant_of y
 later_next xs n m a b lt ae be me l h i li = ⊎_elim
@@ -195,14 +219,16 @@ module _ (p : PlanForm) (ds : List Decl) (ls : List (List item.Item)) (e : ds �
   pub stream_in : (i : ℕ) → IsStreamAt ds (Some i) → i < length ls
   stream_in i s = let w = slice_get_within ds i s.0 s.1 in let l = inputs_long ds ls a in omega (arith, w, l)
 
-  pub fits_then : (i : ℕ) (xs : List item.Item) (b : Bool) → IsStreamAt ds (Some i) → xs ≡ list_at ls i → Rises (instants xs) → (IsTrue b → AreInstants ds (instants xs) ls) × (AreInstants ds (instants xs) ls → IsTrue b) → (IsTrue b → Fit p ls) × (Fit p ls → IsTrue b)
+  pub fits_then : (i : ℕ) (xs : List item.Item) (b : Bool) → IsStreamAt ds (Some i) → xs ≡ list_at ls i → Rises (instants xs)
+      → (IsTrue b → AreInstants ds (instants xs) ls) × (AreInstants ds (instants xs) ls → IsTrue b) → (IsTrue b → Fit p ls) × (Fit p ls → IsTrue b)
   fits_then i xs b s x r h =
       let s' : IsStreamAt p.inputs (Some i) = subst (λ (y : List Decl). IsStreamAt y (Some i)) e s in (
         (λ t. fit_some p ls i xs typed x r (subst (λ (y : List Decl). AreInstants y (instants xs) ls) e (h.0 t))),
         (λ f. h.1 (subst (λ (y : List Decl). AreInstants y (instants xs) ls) (sym e) (some_fit p ls i s'.0 xs s'.1 s'.2 x f).1)),
       )
 
-  pub fits_else : (i : ℕ) (xs : List item.Item) (b : Bool) → IsStreamAt ds (Some i) → xs ≡ list_at ls i → b ≡ false → (IsTrue b → Rises (instants xs)) × (Rises (instants xs) → IsTrue b) → (IsTrue b → Fit p ls) × (Fit p ls → IsTrue b)
+  pub fits_else : (i : ℕ) (xs : List item.Item) (b : Bool) → IsStreamAt ds (Some i) → xs ≡ list_at ls i → b ≡ false
+      → (IsTrue b → Rises (instants xs)) × (Rises (instants xs) → IsTrue b) → (IsTrue b → Fit p ls) × (Fit p ls → IsTrue b)
   fits_else i xs b s x f h =
       let s' : IsStreamAt p.inputs (Some i) = subst (λ (y : List Decl). IsStreamAt y (Some i)) e s in (
         (λ t. absurd (let k : false ≡ true = sym f ∙ t in cc k)),

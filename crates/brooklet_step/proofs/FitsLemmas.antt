@@ -18,7 +18,8 @@ gt_back Less h = absurd (cc h)
 gt_back Equal h = absurd (cc h)
 gt_back Greater h = refl
 
-pub ascends_by : (rows : List (List ℤ)) (r : Bool) → IsAllAdjacentAnswer (λ x y b. partial_le (λ (p q : List ℤ). Some (row_cmp p q)) x y ≡ b) rows r → (IsTrue r → IsAscending rows) × (IsAscending rows → IsTrue r)
+pub ascends_by : (rows : List (List ℤ)) (r : Bool) → IsAllAdjacentAnswer (λ x y b. partial_le (λ (p q : List ℤ). Some (row_cmp p q)) x y ≡ b) rows r
+    → (IsTrue r → IsAscending rows) × (IsAscending rows → IsTrue r)
 ascends_by rows true h = (
   (λ t k d z lt. ap is_lt (row_total.antisymm (get_or rows (k + 1) d) (get_or rows k d)) ∙ le_back (row_cmp (get_or rows k d) (get_or rows (k + 1) d)) (h k d lt)),
   (λ a. refl),

@@ -14,7 +14,8 @@ use Rattle.brooklet_step.specs.declared.state.State.{State}
 use Rattle.brooklet_step.specs.Took.{StayApart}
 
 -- two kernels' lists, put together, are a function of the lists at their ports
-pub splice_cong : {A : Type 0} (at n m : ℕ) (f f' g g' : ℕ → A) (p : ℕ) → at < m → p + 1 < m + n → ((q : ℕ) → q < m → f q ≡ f' q) → ((q : ℕ) → q < n → g q ≡ g' q) → splice at n f g p ≡ splice at n f' g' p
+pub splice_cong : {A : Type 0} (at n m : ℕ) (f f' g g' : ℕ → A) (p : ℕ) → at < m → p + 1 < m + n → ((q : ℕ) → q < m → f q ≡ f' q)
+    → ((q : ℕ) → q < n → g q ≡ g' q) → splice at n f g p ≡ splice at n f' g' p
 splice_cong at n m f f' g g' p hat hp hf hg = ⊎_elim
     (λ lt. if_lt p at (f p) _ lt ∙ hf p (omega arith) ∙ sym (if_lt p at (f' p) _ lt))
     (λ ge. if_ge p at (f p) _ ge ∙ ⊎_elim
@@ -36,7 +37,8 @@ splice_other at n f f' g p h = ⊎_elim
     (cases_lt p at)
 
 -- so it may be taken out before the lists are put together
-pub spliced_taken : (at n : ℕ) (outs new ls ls' : List (List item.Item)) (g : ℕ → List item.Item) → ls' ≡ slice_set ls at [] → new ≡ each_grew outs (splice at n (list_at ls') g) → new ≡ each_grew outs (splice at n (list_at ls) g)
+pub spliced_taken : (at n : ℕ) (outs new ls ls' : List (List item.Item)) (g : ℕ → List item.Item) → ls' ≡ slice_set ls at []
+    → new ≡ each_grew outs (splice at n (list_at ls') g) → new ≡ each_grew outs (splice at n (list_at ls) g)
 spliced_taken at n outs new ls ls' g e h =
     h ∙ each_grew_cong outs (splice at n (list_at ls') g) (splice at n (list_at ls) g)
     (λ p lt. splice_other at n (list_at ls') (list_at ls) g p (λ q ne. ap (λ (l : List (List item.Item)). list_at l q) e ∙ get_or-set_other ls at q [] [] ne))
@@ -50,14 +52,16 @@ set_same : {A : Type 0} (ls ls' : List (List A)) (i q : ℕ) → ls' ≡ slice_s
 set_same ls ls' i q e ne = ap (λ l. list_at l q) e ∙ get_or-set_other ls i q [] [] ne
 
 -- the port taken is one before the middle one, one of the second kernel's, or one behind
-pub apart_front : {A : Type 0} (at port : ℕ) (first first' second : List (List A)) → port < at → first' ≡ slice_set first port [] → StayApart (splice at (length second)) port first first' second second
+pub apart_front : {A : Type 0} (at port : ℕ) (first first' second : List (List A)) → port < at → first' ≡ slice_set first port []
+    → StayApart (splice at (length second)) port first first' second second
 apart_front at port first first' second lt e = record {
   many = set_many first first' port e;
   many_more = refl;
   others = λ q ne. splice_first_by at (length second) (list_at first') (list_at first) (list_at second) port q lt ne (λ p d. set_same first first' port p e d);
 }
   where
-    splice_first_by : {A : Type 0} (at n : ℕ) (f f' g : ℕ → List A) (port q : ℕ) → port < at → (q ≡ port → ⊥) → ((p : ℕ) → (p ≡ port → ⊥) → f p ≡ f' p) → splice at n f g q ≡ splice at n f' g q
+    splice_first_by : {A : Type 0} (at n : ℕ) (f f' g : ℕ → List A) (port q : ℕ) → port < at → (q ≡ port → ⊥) → ((p : ℕ) → (p ≡ port → ⊥) → f p ≡ f' p)
+        → splice at n f g q ≡ splice at n f' g q
     splice_first_by at n f f' g port q lt ne h = ⊎_elim
         (λ l. if_lt q at (f q) _ l ∙ h q ne ∙ sym (if_lt q at (f' q) _ l))
         (λ ge. if_ge q at (f q) _ ge ∙ ⊎_elim
@@ -67,7 +71,8 @@ apart_front at port first first' second lt e = record {
         ∙ sym (if_ge q at (f' q) _ ge))
         (cases_lt q at)
 
-pub apart_second : {A : Type 0} (at port : ℕ) (first second second' : List (List A)) → at ≤ port → port - at < length second → second' ≡ slice_set second (port - at) [] → StayApart (splice at (length second)) port first first second second'
+pub apart_second : {A : Type 0} (at port : ℕ) (first second second' : List (List A)) → at ≤ port → port - at < length second
+    → second' ≡ slice_set second (port - at) [] → StayApart (splice at (length second)) port first first second second'
 apart_second at port first second second' ge lt e = record {
   many = refl;
   many_more = set_many second second' (port - at) e;
@@ -84,14 +89,16 @@ apart_second at port first second second' ge lt e = record {
         ∙ sym (if_ge q at (list_at first q) _ gq))
         (cases_lt q at)
 
-pub apart_back : {A : Type 0} (at port : ℕ) (first first' second : List (List A)) → at ≤ port → length second ≤ port - at → first' ≡ slice_set first (port - length second + 1) [] → StayApart (splice at (length second)) port first first' second second
+pub apart_back : {A : Type 0} (at port : ℕ) (first first' second : List (List A)) → at ≤ port → length second ≤ port - at
+    → first' ≡ slice_set first (port - length second + 1) [] → StayApart (splice at (length second)) port first first' second second
 apart_back at port first first' second ge ln e = record {
   many = set_many first first' (port - length second + 1) e;
   many_more = refl;
   others = λ q ne. by_place (length second) refl q ne;
 }
   where
-    by_place : (n : ℕ) → n ≡ length second → (q : ℕ) → (q ≡ port → ⊥) → splice at n (list_at first') (list_at second) q ≡ splice at n (list_at first) (list_at second) q
+    by_place : (n : ℕ) → n ≡ length second → (q : ℕ) → (q ≡ port → ⊥)
+        → splice at n (list_at first') (list_at second) q ≡ splice at n (list_at first) (list_at second) q
     by_place n en q ne = ⊎_elim
         (λ l. if_lt q at (list_at first' q) _ l ∙ set_same first first' (port - length second + 1) q e (λ d. omega (arith, d, ge, ln, l)) ∙ sym (if_lt q at (list_at first q) _ l))
         (λ gq. if_ge q at (list_at first' q) _ gq ∙ ⊎_elim
@@ -102,7 +109,8 @@ apart_back at port first first' second ge ln e = record {
         (cases_lt q at)
 
 -- and of tables
-pub beside_front : {A : Type 0} (table : ℕ) (first first' second : List (List A)) → table < length first → first' ≡ slice_set first table [] → StayApart (beside (length first)) table first first' second second
+pub beside_front : {A : Type 0} (table : ℕ) (first first' second : List (List A)) → table < length first → first' ≡ slice_set first table []
+    → StayApart (beside (length first)) table first first' second second
 beside_front table first first' second lt e = record { many = set_many first first' table e; many_more = refl; others = λ q ne. by_place (length first) q ne }
   where
     by_place : (n q : ℕ) → (q ≡ table → ⊥) → beside n (list_at first') (list_at second) q ≡ beside n (list_at first) (list_at second) q
@@ -111,10 +119,13 @@ beside_front table first first' second lt e = record { many = set_many first fir
         (λ ge. if_ge q n (list_at first' q) _ ge ∙ sym (if_ge q n (list_at first q) _ ge))
         (cases_lt q n)
 
-pub beside_back : {A : Type 0} (table : ℕ) (first second second' : List (List A)) → length first ≤ table → second' ≡ slice_set second (table - length first) [] → StayApart (beside (length first)) table first first second second'
-beside_back table first second second' ge e = record { many = refl; many_more = set_many second second' (table - length first) e; others = λ q ne. by_place (length first) refl q ne }
+pub beside_back : {A : Type 0} (table : ℕ) (first second second' : List (List A)) → length first ≤ table → second' ≡ slice_set second (table - length first) []
+    → StayApart (beside (length first)) table first first second second'
+beside_back table first second second' ge e =
+    record { many = refl; many_more = set_many second second' (table - length first) e; others = λ q ne. by_place (length first) refl q ne }
   where
-    by_place : (n : ℕ) → n ≡ length first → (q : ℕ) → (q ≡ table → ⊥) → beside n (list_at first) (list_at second') q ≡ beside n (list_at first) (list_at second) q
+    by_place : (n : ℕ) → n ≡ length first → (q : ℕ) → (q ≡ table → ⊥)
+        → beside n (list_at first) (list_at second') q ≡ beside n (list_at first) (list_at second) q
     by_place n en q ne = ⊎_elim
         (λ l. if_lt q n (list_at first q) _ l ∙ sym (if_lt q n (list_at first q) _ l))
         (λ gq. if_ge q n (list_at first q) _ gq ∙ set_same second second' (table - length first) (q - n) e (λ d. ne (omega (arith, d, ge, gq, en))) ∙ sym (if_ge q n (list_at first q) _ gq))
@@ -131,7 +142,8 @@ pub leaves_all : {A : Type 0} (join : (ℕ → List A) → (ℕ → List A) → 
 leaves_all join first second = record { many = refl; many_more = refl; rest = λ q le. refl }
 
 -- one list more is
-pub leaves_next : {A : Type 0} (join : (ℕ → List A) → (ℕ → List A) → ℕ → List A) (done : ℕ) (first now next second now_second next_second : List (List A)) → Leaves join done first now second now_second → StayApart join done now next now_second next_second → Leaves join (done + 1) first next second next_second
+pub leaves_next : {A : Type 0} (join : (ℕ → List A) → (ℕ → List A) → ℕ → List A) (done : ℕ) (first now next second now_second next_second : List (List A))
+    → Leaves join done first now second now_second → StayApart join done now next now_second next_second → Leaves join (done + 1) first next second next_second
 leaves_next join done first now next second now_second next_second l s = record {
   many = s.many ∙ l.many;
   many_more = s.many_more ∙ l.many_more;
@@ -139,7 +151,8 @@ leaves_next join done first now next second now_second next_second l s = record 
 }
 
 -- and of those for their tables
-pub beside_cong : {A : Type 0} (n m : ℕ) (f f' g g' : ℕ → A) (p : ℕ) → p < m + n → ((q : ℕ) → q < m → f q ≡ f' q) → ((q : ℕ) → q < n → g q ≡ g' q) → beside m f g p ≡ beside m f' g' p
+pub beside_cong : {A : Type 0} (n m : ℕ) (f f' g g' : ℕ → A) (p : ℕ) → p < m + n → ((q : ℕ) → q < m → f q ≡ f' q) → ((q : ℕ) → q < n → g q ≡ g' q)
+    → beside m f g p ≡ beside m f' g' p
 beside_cong n m f f' g g' p hp hf hg = ⊎_elim
     (λ lt. if_lt p m (f p) _ lt ∙ hf p lt ∙ sym (if_lt p m (f' p) _ lt))
     (λ ge. if_ge p m _ (g (p - m)) ge ∙ hg (p - m) (omega arith) ∙ sym (if_ge p m _ (g' (p - m)) ge))

@@ -28,7 +28,8 @@ use Rattle.brooklet_step.proofs.GivenFires.{each_start, each_step}
 use Rattle.brooklet_step.proofs.GivenParts.{came_room, packed_does, fused_does}
 
 -- a kernel that fired can fire again
-pub fires_again : (k : Kern) (p : ℕ) (i : item.Item) (e e' : Emit) (st st' : List State) (t : CanTake k p i st e) → FiresAt k p i e e' st st' → FitState k t.reads st' × HasRoom k e'
+pub fires_again : (k : Kern) (p : ℕ) (i : item.Item) (e e' : Emit) (st st' : List State) (t : CanTake k p i st e) → FiresAt k p i e e' st st'
+    → FitState k t.reads st' × HasRoom k e'
 fires_again k p i e e' st st' t f =
     let d = f.each t.reads t.fitting.writes t.fitting.vars t.fitting.fits t.fitting.state t.item in
     (d.came.again, came_room k t.reads t.fitting.writes t.fitting.vars e e' st' t.room d.came)
@@ -45,12 +46,14 @@ pub so_far_start : (k : Kern) (all : List item.Item) (e : Emit) (st : List State
 so_far_start k all e st t = record { done = []; is = refl; fires = each_start k e st; takes = t }
 
 -- the front one can be fired on
-pub so_far_takes : (k : Kern) (all left rest : List item.Item) (x : item.Item) (e e' : Emit) (st st' : List State) → left ≡ x ∷ rest → SoFar k all left e e' st st' → CanTake k 0 x st' e'
+pub so_far_takes : (k : Kern) (all left rest : List item.Item) (x : item.Item) (e e' : Emit) (st st' : List State) → left ≡ x ∷ rest
+    → SoFar k all left e e' st st' → CanTake k 0 x st' e'
 so_far_takes k all left rest x e e' st st' is s =
     record { reads = s.takes.reads; fitting = s.takes.fitting; item = All-head (IsHeldOf s.takes.reads 0) x rest (subst (All (IsHeldOf s.takes.reads 0)) is s.takes.items); room = s.takes.room }
 
 -- after a firing on the front one the others are left
-pub so_far_step : (k : Kern) (all left rest : List item.Item) (x : item.Item) (e e' e'' : Emit) (st st1 st2 : List State) → left ≡ x ∷ rest → SoFar k all left e e' st st1 → FiresAt k 0 x e' e'' st1 st2 → SoFar k all rest e e'' st st2
+pub so_far_step : (k : Kern) (all left rest : List item.Item) (x : item.Item) (e e' e'' : Emit) (st st1 st2 : List State) → left ≡ x ∷ rest
+    → SoFar k all left e e' st st1 → FiresAt k 0 x e' e'' st1 st2 → SoFar k all rest e e'' st st2
 unfolding so_far_takes
 so_far_step k all left rest x e e' e'' st st1 st2 is s f =
     let d = fires_again k 0 x e' e'' st1 st2 (so_far_takes k all left rest x e e' st st1 is s) f in
@@ -68,39 +71,47 @@ so_far_step k all left rest x e e' e'' st st1 st2 is s f =
     }
 
 -- where none is left, all were fired on
-pub so_far_end : (k : Kern) (all left : List item.Item) (e e' : Emit) (st st' : List State) → left ≡ [] → SoFar k all left e e' st st' → FiresEach k all e e' st st'
-so_far_end k all left e e' st st' is s = subst (λ (l : List item.Item). FiresEach k l e e' st st') (sym (s.is ∙ ap (λ l. s.done ++ l) is ∙ append-nil s.done)) s.fires
+pub so_far_end : (k : Kern) (all left : List item.Item) (e e' : Emit) (st st' : List State) → left ≡ [] → SoFar k all left e e' st st'
+    → FiresEach k all e e' st st'
+so_far_end k all left e e' st st' is s =
+    subst (λ (l : List item.Item). FiresEach k l e e' st st') (sym (s.is ∙ ap (λ l. s.done ++ l) is ∙ append-nil s.done)) s.fires
 
 -- A KERNEL IN A PACK
 
-pub packed_taken : (k j j1 : Kern) (port : ℕ) (x : item.Item) (st : List State) (out e : Emit) → k ≡ packed j → j1 ≡ j → CanTake k port x st out → e.outs ≡ replicate 1 [] → e.adds ≡ replicate 0 [] → CanTake j1 port x st e
+pub packed_taken : (k j j1 : Kern) (port : ℕ) (x : item.Item) (st : List State) (out e : Emit) → k ≡ packed j → j1 ≡ j → CanTake k port x st out
+    → e.outs ≡ replicate 1 [] → e.adds ≡ replicate 0 [] → CanTake j1 port x st e
 packed_taken k j j1 port x st out e ek ej t o a =
     let t' = subst (λ (i : Kern). CanTake i port x st out) ek t in
     let f = t'.fitting.fits in
     let s : IsShaped (packed j) = shaped (packed j) t'.reads t'.fitting.writes t'.fitting.vars f in
     subst (λ (i : Kern). CanTake i port x st e) (sym ej) (record {
       reads = t'.reads;
-      fitting = record { writes = FlatOf f.1 ∷ []; vars = []; fits = subst (λ (l : List QueueType). Fits j l (FlatOf f.1 ∷ []) []) (sym f.2) f.5; state = t'.fitting.state };
+      fitting =
+          record { writes = FlatOf f.1 ∷ []; vars = []; fits = subst (λ (l : List QueueType). Fits j l (FlatOf f.1 ∷ []) []) (sym f.2) f.5; state = t'.fitting.state };
       item = t'.item;
       room = record { outs = ap length o ∙ sym s.2; adds = ap length a ∙ sym s.3 };
     })
 
 -- the port of the kernel inside
-pub packed_port : (j : Kern) (port : ℕ) (x : item.Item) (st st' : List State) (out e e' : Emit) → CanTake (packed j) port x st out → CanTake j port x st e → FiresAt j port x e e' st st' → 0 < length e'.outs
+pub packed_port : (j : Kern) (port : ℕ) (x : item.Item) (st st' : List State) (out e e' : Emit) → CanTake (packed j) port x st out → CanTake j port x st e
+    → FiresAt j port x e e' st st' → 0 < length e'.outs
 packed_port j port x st st' out e e' t u f =
     let s : IsShaped (packed j) = shaped (packed j) t.reads t.fitting.writes t.fitting.vars t.fitting.fits in
     let r = (fires_again j port x e e' st st' u f).1 in
     let o = r.outs in
     omega (arith, o, s.2)
 
-pub packed_whole : (k j j1 : Kern) (port : ℕ) (x : item.Item) (st st' : List State) (out out' e e' : Emit) (items : List item.Item) (fs : List flat.Flat) → k ≡ packed j → j1 ≡ j → CanTake k port x st out → e.outs ≡ replicate 1 [] → FiresAt j1 port x e e' st st' → items ≡ list_at e'.outs 0 → fs ≡ flats items → Took out out' (gives 0 (Pack fs ∷ []) []) → FiresAt k port x out out' st st'
+pub packed_whole : (k j j1 : Kern) (port : ℕ) (x : item.Item) (st st' : List State) (out out' e e' : Emit) (items : List item.Item) (fs : List flat.Flat)
+    → k ≡ packed j → j1 ≡ j → CanTake k port x st out → e.outs ≡ replicate 1 [] → FiresAt j1 port x e e' st st' → items ≡ list_at e'.outs 0 → fs ≡ flats items
+    → Took out out' (gives 0 (Pack fs ∷ []) []) → FiresAt k port x out out' st st'
 packed_whole k j j1 port x st st' out out' e e' items fs ek ej t b f ei ef took =
     let t' = subst (λ (i : Kern). CanTake i port x st out) ek t in
     subst (λ (i : Kern). FiresAt i port x out out' st st') (sym ek) (packed_does j port x st st' out out' e e' items fs b (subst (λ (i : Kern). FiresAt i port x e e' st st') ej f) ei ef took)
 
 -- TWO KERNELS
 
-pub count_fits : (k a b : Kern) (at count port : ℕ) (x : item.Item) (st : List State) (out : Emit) → k ≡ fused a b at → count ≡ privates a → CanTake k port x st out → count ≤ length st
+pub count_fits : (k a b : Kern) (at count port : ℕ) (x : item.Item) (st : List State) (out : Emit) → k ≡ fused a b at → count ≡ privates a
+    → CanTake k port x st out → count ≤ length st
 count_fits k a b at count port x st out ek ec t =
     let l = fit_length k t.reads st t.fitting.state ∙ ap privates ek in
     omega (arith, l, ec)
@@ -164,10 +175,12 @@ module _ (k a b : Kern) (at count port : ℕ) (x : item.Item) (st mine rest : Li
         let lt = is_shaped.2 in
         record { place = at_below; outs = omega (arith, fo, ro, lt); adds = omega (arith, fa, ra); takes = λ blank bl. second_of blank (list_at mid.outs at) refl bl }
 
-pub first_taken : (k a b : Kern) (at count port : ℕ) (x : item.Item) (st mine rest : List State) (out mid0 : Emit) → Parts k a b at count st mine rest → CanTake k port x st out → IsBlank a mid0 → CanTake a port x mine mid0
+pub first_taken : (k a b : Kern) (at count port : ℕ) (x : item.Item) (st mine rest : List State) (out mid0 : Emit) → Parts k a b at count st mine rest
+    → CanTake k port x st out → IsBlank a mid0 → CanTake a port x mine mid0
 first_taken k a b at count port x st mine rest out mid0 p t bm = first_of k a b at count port x st mine rest out mid0 p t bm
 
-pub takes_on : (k a b : Kern) (at count port : ℕ) (x : item.Item) (st mine rest mine' : List State) (out mid0 mid : Emit) → Parts k a b at count st mine rest → CanTake k port x st out → IsBlank a mid0 → FiresAt a port x mid0 mid mine mine' → CanTakeOn b at rest mid out
+pub takes_on : (k a b : Kern) (at count port : ℕ) (x : item.Item) (st mine rest mine' : List State) (out mid0 mid : Emit) → Parts k a b at count st mine rest
+    → CanTake k port x st out → IsBlank a mid0 → FiresAt a port x mid0 mid mine mine' → CanTakeOn b at rest mid out
 takes_on k a b at count port x st mine rest mine' out mid0 mid p t bm fm = on_of k a b at count port x st mine rest out mid0 p t bm mine' mid fm
 
 -- where a kernel fired on items one after another, there are still lists for what it gives
@@ -176,25 +189,33 @@ each_room k is e e' st st' t f =
     let d = f.each t.reads t.fitting.writes t.fitting.vars t.fitting.fits t.fitting.state t.items in
     came_room k t.reads t.fitting.writes t.fitting.vars e e' st' t.room d.came
 
-parts_fire : (k a b : Kern) (at count port : ℕ) (x : item.Item) (st mine rest mine' rest' : List State) (out new mid0 mid last0 last : Emit) (items : List item.Item) → Parts k a b at count st mine rest → CanTake k port x st out → IsBlank a mid0 → FiresAt a port x mid0 mid mine mine' → IsBlank b last0 → items ≡ list_at mid.outs at → FiresEach b items last0 last rest rest' → new.outs ≡ each_grew out.outs (splice at (length last.outs) (list_at mid.outs) (list_at last.outs)) → new.adds ≡ each_grew out.adds (beside (length mid.adds) (list_at mid.adds) (list_at last.adds)) → FiresAt k port x out new st (mine' ++ rest')
+parts_fire : (k a b : Kern) (at count port : ℕ) (x : item.Item) (st mine rest mine' rest' : List State) (out new mid0 mid last0 last : Emit) (items : List item.Item)
+    → Parts k a b at count st mine rest → CanTake k port x st out → IsBlank a mid0 → FiresAt a port x mid0 mid mine mine' → IsBlank b last0
+    → items ≡ list_at mid.outs at → FiresEach b items last0 last rest rest'
+    → new.outs ≡ each_grew out.outs (splice at (length last.outs) (list_at mid.outs) (list_at last.outs))
+    → new.adds ≡ each_grew out.adds (beside (length mid.adds) (list_at mid.adds) (list_at last.adds)) → FiresAt k port x out new st (mine' ++ rest')
 parts_fire k a b at count port x st mine rest mine' rest' out new mid0 mid last0 last items p t bm fm bl is fl eo ea =
     let fm' = subst (λ (l : List State). FiresAt a port x mid0 mid l mine') (mine_is k a b at count st mine rest p) fm in
     let fl' = subst (λ (l : List State). FiresEach b items last0 last l rest') (rest_is k a b at count st mine rest p) fl in
     let t' = subst (λ (j : Kern). CanTake j port x st out) p.kernel t in
     subst (λ (j : Kern). FiresAt j port x out new st (mine' ++ rest')) (sym p.kernel) (fused_does a b at port x st mine' rest' out new mid0 mid last0 last items t'.room bm fm' bl is fl' eo ea)
 
-pub second_room : (b : Kern) (at : ℕ) (st st' : List State) (mid out last0 last : Emit) (items : List item.Item) → CanTakeOn b at st mid out → IsBlank b last0 → items ≡ list_at mid.outs at → FiresEach b items last0 last st st' → HasRoom b last
+pub second_room : (b : Kern) (at : ℕ) (st st' : List State) (mid out last0 last : Emit) (items : List item.Item) → CanTakeOn b at st mid out → IsBlank b last0
+    → items ≡ list_at mid.outs at → FiresEach b items last0 last st st' → HasRoom b last
 second_room b at st st' mid out last0 last items t bl is f =
     let f' = subst (λ (l : List item.Item). FiresEach b l last0 last st st') is f in
     each_room b (list_at mid.outs at) last0 last st st' (t.takes last0 bl) f'
 
 -- the first kernel fired, and then the second on what it gave
-pub both_fire : (k a b : Kern) (at count port : ℕ) (x : item.Item) (st mine rest mine' rest' : List State) (out new mid0 mid : Emit) → Parts k a b at count st mine rest → CanTake k port x st out → IsBlank a mid0 → FiresAt a port x mid0 mid mine mine' → TookOn b at mid out new rest rest' → FiresAt k port x out new st (mine' ++ rest')
+pub both_fire : (k a b : Kern) (at count port : ℕ) (x : item.Item) (st mine rest mine' rest' : List State) (out new mid0 mid : Emit)
+    → Parts k a b at count st mine rest → CanTake k port x st out → IsBlank a mid0 → FiresAt a port x mid0 mid mine mine' → TookOn b at mid out new rest rest'
+    → FiresAt k port x out new st (mine' ++ rest')
 both_fire k a b at count port x st mine rest mine' rest' out new mid0 mid p t bm fm r =
     parts_fire k a b at count port x st mine rest mine' rest' out new mid0 mid r.blank r.last (list_at mid.outs at) p t bm fm r.is_blank refl r.fires r.outs r.adds
 
 -- a kernel that fired can take another item of the same types
-pub takes_again : (k : Kern) (p q : ℕ) (i j : item.Item) (e e' : Emit) (st st' : List State) (t : CanTake k p i st e) → FiresAt k p i e e' st st' → IsHeldOf t.reads q j → CanTake k q j st' e'
+pub takes_again : (k : Kern) (p q : ℕ) (i j : item.Item) (e e' : Emit) (st st' : List State) (t : CanTake k p i st e) → FiresAt k p i e e' st st'
+    → IsHeldOf t.reads q j → CanTake k q j st' e'
 takes_again k p q i j e e' st st' t f h =
     let d = fires_again k p i e e' st st' t f in
     record { reads = t.reads; fitting = record { writes = t.fitting.writes; vars = t.fitting.vars; fits = t.fitting.fits; state = d.0 }; item = h; room = d.1 }

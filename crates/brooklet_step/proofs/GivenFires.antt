@@ -23,7 +23,8 @@ use Rattle.brooklet_step.specs.Stands.{StandsFor, Fires, Applies}
 use Rattle.brooklet_step.specs.Took.{Took}
 use Rattle.brooklet_step.specs.Given.{held_at, IsHeldOf, AreTyped, IsLeaf, ran, StandsAfter, TookHeld, Gives, FiresAt, GivesAll, FiresEach, CanTake}
 use Rattle.brooklet_step.proofs.Standing.{stands_shape}
-use Rattle.brooklet_step.proofs.GivenLemmas.{at-nil, at-append, at-length, at-same, of_held, all_held, typed_append, typed_word, at_word, word_append, ran_more, fit_of, leaf_kept, leaf_to, leaf_from}
+use Rattle.brooklet_step.proofs.GivenLemmas.{at-nil, at-append, at-length, at-same, of_held, all_held, typed_append, typed_word, at_word, word_append, ran_more}
+use Rattle.brooklet_step.proofs.GivenLemmas.{fit_of, leaf_kept, leaf_to, leaf_from}
 
 -- KERNELS WITHOUT A KERNEL INSIDE
 
@@ -44,7 +45,8 @@ leaf_applies k port i st out l t =
     }
 
 -- and what it does. Here alone queues hold items as they are
-pub leaf_does : (k : Kern) (port : ℕ) (i : item.Item) (out out' : Emit) (st st' : List State) → IsLeaf k → Fires k out out' st st' (fire k port i) → FiresAt k port i out out' st st'
+pub leaf_does : (k : Kern) (port : ℕ) (i : item.Item) (out out' : Emit) (st st' : List State) → IsLeaf k → Fires k out out' st st' (fire k port i)
+    → FiresAt k port i out out' st st'
 leaf_does k port i out out' st st' l f = record {
   each = λ reads writes vars fits fs hi.
       let s = leaf_kept k reads st l fs in
@@ -60,7 +62,9 @@ leaf_does k port i out out' st st' l f = record {
               subst (λ y. Took out out' (fire k port y ss) × StandsFor k st' (fire k port y ss).states) (sym e) (f.given ss (leaf_to k st w l sa)) in
               let r = fire k port x ss in (
                 record {
-                  outs = one.0.outs ∙ each_grew_cong out.outs r.outs (λ p. held_at writes p ((ran k w).outs p) (r.outs p)) (λ p lt. sym (at-same writes p ((ran k w).outs p) (r.outs p)));
+                  outs =
+                      one.0.outs
+                      ∙ each_grew_cong out.outs r.outs (λ p. held_at writes p ((ran k w).outs p) (r.outs p)) (λ p lt. sym (at-same writes p ((ran k w).outs p) (r.outs p)));
                   adds = one.0.adds;
                 },
                 leaf_from k st' (w ++ (port, x) ∷ []) l (subst (StandsFor k st') (sym (ran_more k w port x).states) one.1),
@@ -80,7 +84,8 @@ leaf_does k port i out out' st st' l f = record {
 
 -- ONE AFTER ANOTHER
 
-run-append : (f : ℕ → item.Item → List Kept → Fired) (u v : Word) (ss : List Kept) → Same (run f (u ++ v) ss) (and_then (run f u ss) (run f v (run f u ss).states))
+run-append : (f : ℕ → item.Item → List Kept → Fired) (u v : Word) (ss : List Kept)
+    → Same (run f (u ++ v) ss) (and_then (run f u ss) (run f v (run f u ss).states))
 run-append f [] v ss = record { outs = λ p. refl; adds = λ t. refl; states = refl }
 run-append f (e ∷ u) v ss =
     let r = f e.0 e.1 ss in
@@ -93,23 +98,28 @@ run-append f (e ∷ u) v ss =
 
 -- the firings of a word and then of a list at the first port
 pub ran_feed : (k : Kern) (u : Word) (zs : List item.Item) → Same (ran k (u ++ word_of 0 zs)) (and_then (ran k u) (feed (fire k 0) zs (ran k u).states))
-ran_feed k u zs = subst (λ (r : Fired). Same (ran k (u ++ word_of 0 zs)) (and_then (ran k u) r)) (feed_word (fire k) 0 zs (ran k u).states) (run-append (fire k) u (word_of 0 zs) (first_kept k))
+ran_feed k u zs =
+    subst (λ (r : Fired). Same (ran k (u ++ word_of 0 zs)) (and_then (ran k u) r)) (feed_word (fire k) 0 zs (ran k u).states) (run-append (fire k) u (word_of 0 zs) (first_kept k))
 
 pub each_start : (k : Kern) (out : Emit) (st : List State) → FiresEach k [] out out st st
 each_start k out st = record {
   each = λ reads writes vars fits fs hs. record {
     gives = record { given = λ w xs tw txs sa h. nothing writes w xs sa (len reads w xs h) };
-    came = record { outs = none; adds = none; outs_are = sym (each_grew-none out.outs); adds_are = sym (each_grew-none out.adds); held = λ p. All-nil (IsHeldOf writes p); wide = λ t. All-nil (IsWide (slice_get (widths_in vars) t)); again = fs };
+    came =
+        record { outs = none; adds = none; outs_are = sym (each_grew-none out.outs); adds_are = sym (each_grew-none out.adds); held = λ p. All-nil (IsHeldOf writes p); wide = λ t. All-nil (IsWide (slice_get (widths_in vars) t)); again = fs };
   };
 }
   where
     len : (reads : List QueueType) (w : Word) (xs : List item.Item) → held_at reads 0 (at_port 0 w) xs ≡ [] → length xs ≡ 0
     len reads w xs h = sym (at-length reads 0 (at_port 0 w) xs) ∙ ap length h
 
-    nothing : (writes : List QueueType) (w : Word) (xs : List item.Item) → StandsAfter k st w → length xs ≡ 0 → TookHeld writes (ran k w) out out (feed (fire k 0) xs (ran k w).states) × StandsAfter k st (w ++ word_of 0 xs)
+    nothing : (writes : List QueueType) (w : Word) (xs : List item.Item) → StandsAfter k st w → length xs ≡ 0
+        → TookHeld writes (ran k w) out out (feed (fire k 0) xs (ran k w).states) × StandsAfter k st (w ++ word_of 0 xs)
     nothing writes w [] sa e = (
       record {
-        outs = sym (each_grew-none out.outs) ∙ each_grew_cong out.outs none (λ p. held_at writes p ((ran k w).outs p) []) (λ p lt. sym (at-nil writes p ((ran k w).outs p)));
+        outs =
+            sym (each_grew-none out.outs)
+            ∙ each_grew_cong out.outs none (λ p. held_at writes p ((ran k w).outs p) []) (λ p lt. sym (at-nil writes p ((ran k w).outs p)));
         adds = sym (each_grew-none out.adds);
       },
       subst (StandsAfter k st) (sym (append-nil w)) sa,
@@ -142,7 +152,8 @@ all_last P [] y h = All-head P y [] h
 all_last P (x ∷ xs) y h = all_last P xs y (All-tail P x (xs ++ y ∷ []) h)
 
 -- one more item is fired
-pub each_step : (k : Kern) (is : List item.Item) (i : item.Item) (st st1 st2 : List State) (e e' e'' : Emit) → FiresEach k is e e' st st1 → FiresAt k 0 i e' e'' st1 st2 → FiresEach k (is ++ i ∷ []) e e'' st st2
+pub each_step : (k : Kern) (is : List item.Item) (i : item.Item) (st st1 st2 : List State) (e e' e'' : Emit) → FiresEach k is e e' st st1
+    → FiresAt k 0 i e' e'' st1 st2 → FiresEach k (is ++ i ∷ []) e e'' st st2
 each_step k is i st st1 st2 e e' e'' f u = record {
   each = λ reads writes vars fits fs hs.
       let a = f.each reads writes vars fits fs (all_left (IsHeldOf reads 0) is (i ∷ []) hs) in
@@ -167,7 +178,8 @@ each_step k is i st st1 st2 e e' e'' f u = record {
       };
 }
   where
-    more : (reads writes : List QueueType) (w : Word) (ys : List item.Item) (y : item.Item) → AreTyped reads w → All (IsOf reads 0) (ys ++ y ∷ []) → StandsAfter k st w → held_at reads 0 (at_port 0 w) (ys ++ y ∷ []) ≡ is ++ i ∷ [] → length ys ≡ length is
+    more : (reads writes : List QueueType) (w : Word) (ys : List item.Item) (y : item.Item) → AreTyped reads w → All (IsOf reads 0) (ys ++ y ∷ [])
+        → StandsAfter k st w → held_at reads 0 (at_port 0 w) (ys ++ y ∷ []) ≡ is ++ i ∷ [] → length ys ≡ length is
         → GivesAll k reads writes is e e' st st1 → Gives k reads writes 0 i e' e'' st1 st2
         → TookHeld writes (ran k w) e e'' (feed (fire k 0) (ys ++ y ∷ []) (ran k w).states) × StandsAfter k st2 (w ++ word_of 0 (ys ++ y ∷ []))
     more reads writes w ys y tw txs sa h l ga gb =

@@ -50,7 +50,8 @@ by-same (Some t) past xs = held-same t past xs
 pub at-nil : (ts : List QueueType) (p : ℕ) (past : List item.Item) → held_at ts p past [] ≡ []
 at-nil ts p past = by-nil (slice_get ts p) past
 
-pub at-append : (ts : List QueueType) (p : ℕ) (past xs ys : List item.Item) → held_at ts p past (xs ++ ys) ≡ held_at ts p past xs ++ held_at ts p (past ++ xs) ys
+pub at-append : (ts : List QueueType) (p : ℕ) (past xs ys : List item.Item)
+    → held_at ts p past (xs ++ ys) ≡ held_at ts p past xs ++ held_at ts p (past ++ xs) ys
 at-append ts p past xs ys = by-append (slice_get ts p) past xs ys
 
 pub at-length : (ts : List QueueType) (p : ℕ) (past xs : List item.Item) → length (held_at ts p past xs) ≡ length xs
@@ -118,9 +119,11 @@ all_right P (x ∷ xs) ys h = all_right P xs ys (All-tail P x (xs ++ ys) h)
 
 -- what is given for typed items is typed
 pub ran_typed : (k : Kern) (is os : List QueueType) (vs : List VarKind) (w : Word) → Fits k is os vs → AreTyped is w → AreOf os (ran k w).outs
-ran_typed k is os vs w f a = run_typed k is os vs w (first_kept k) f (first_shape k (shaped k is os vs f)) (first_holds k is (shaped k is os vs f)) (typed_at is w a)
+ran_typed k is os vs w f a =
+    run_typed k is os vs w (first_kept k) f (first_shape k (shaped k is os vs f)) (first_holds k is (shaped k is os vs f)) (typed_at is w a)
 
-pub fired_typed : (k : Kern) (is os : List QueueType) (vs : List VarKind) (w : Word) (p : ℕ) (x : item.Item) → Fits k is os vs → AreTyped is w → IsOf is p x → AreOf os (fire k p x (ran k w).states).outs
+pub fired_typed : (k : Kern) (is os : List QueueType) (vs : List VarKind) (w : Word) (p : ℕ) (x : item.Item) → Fits k is os vs → AreTyped is w → IsOf is p x
+    → AreOf os (fire k p x (ran k w).states).outs
 fired_typed k is os vs w p x f a i q =
     let all = ran_typed k is os vs (w ++ (p, x) ∷ []) f (typed_append is w ((p, x) ∷ []) a (i, tt)) q in
     all_right (IsOf os q) ((ran k w).outs q) ((fire k p x (ran k w).states).outs q) (subst (All (IsOf os q)) ((ran_more k w p x).outs q) all)
@@ -179,14 +182,19 @@ leaf_kept (filter f) is st l h =
     )
 leaf_kept (duplicate n) is st l h = ([], record { code = h; defined = refl }, tt)
 leaf_kept (deal ws) is st l h = (Turn h.now.port h.now.had ∷ [], record { now = h.now; code = h.code; defined = refl; turn = h.turn }, tt)
-leaf_kept (collect ws) is st l h = (Joining h.now ∷ [], record { now = h.now; code = h.code; defined = refl; joined = h.joined }, (λ p. all_typed is p (list_at h.now.lists p) (h.items p)))
+leaf_kept (collect ws) is st l h =
+    (Joining h.now ∷ [], record { now = h.now; code = h.code; defined = refl; joined = h.joined }, (λ p. all_typed is p (list_at h.now.lists p) (h.items p)))
 leaf_kept (packed k) is st l h = absurd l
-leaf_kept (unpack n) is st l h = (Joining h.now ∷ [], record { now = h.now; code = h.code; defined = refl; joined = h.joined }, (λ p. all_typed is p (list_at h.now.lists p) (h.items p)))
-leaf_kept (window w) is st l h = (Received h.past ∷ [], record { now = h.now; past = h.past; code = h.code; defined = refl; stands = h.stands }, all_typed is 0 h.past h.received)
+leaf_kept (unpack n) is st l h =
+    (Joining h.now ∷ [], record { now = h.now; code = h.code; defined = refl; joined = h.joined }, (λ p. all_typed is p (list_at h.now.lists p) (h.items p)))
+leaf_kept (window w) is st l h =
+    (Received h.past ∷ [], record { now = h.now; past = h.past; code = h.code; defined = refl; stands = h.stands }, all_typed is 0 h.past h.received)
 leaf_kept (select e) is st l h = ([], record { code = h; defined = refl }, tt)
 leaf_kept (project es) is st l h = ([], record { code = h; defined = refl }, tt)
-leaf_kept cross is st l h = (Crossing h.now ∷ [], record { now = h.now; code = h.code; defined = refl }, (all_typed is 0 h.now.left h.left, all_typed is 1 h.now.right h.right))
-leaf_kept (streamer s) is st l h = (Received h.past ∷ [], record { now = h.now; past = h.past; code = h.code; defined = refl; stands = h.stands; ascends = h.ascends }, all_typed is 0 h.past h.received)
+leaf_kept cross is st l h =
+    (Crossing h.now ∷ [], record { now = h.now; code = h.code; defined = refl }, (all_typed is 0 h.now.left h.left, all_typed is 1 h.now.right h.right))
+leaf_kept (streamer s) is st l h =
+    (Received h.past ∷ [], record { now = h.now; past = h.past; code = h.code; defined = refl; stands = h.stands; ascends = h.ascends }, all_typed is 0 h.past h.received)
 leaf_kept tally is st l h = ([], record { code = h; defined = refl }, tt)
 leaf_kept (fused a b at) is st l h = absurd l
 
@@ -215,12 +223,14 @@ fit_length (fused a b at) is st h =
     omega (arith, length-take (privates a) st, length-drop (privates a) st, la, lb)
 
 -- the states of two kernels
-pub parts_fit : (a b : Kern) (at : ℕ) (is : List QueueType) (st st' : List State) → FitState a is st → FitState b (between at (types_of a is)) st' → FitState (fused a b at) is (st ++ st')
+pub parts_fit : (a b : Kern) (at : ℕ) (is : List QueueType) (st st' : List State) → FitState a is st → FitState b (between at (types_of a is)) st'
+    → FitState (fused a b at) is (st ++ st')
 parts_fit a b at is st st' h h' =
     let l = fit_length a is st h in
     (subst (FitState a is) (sym (take_front st st' (privates a) l)) h, subst (FitState b (between at (types_of a is))) (sym (drop_front st st' (privates a) l)) h')
 
-pub parts_after : (a b : Kern) (at : ℕ) (is : List QueueType) (st st' : List State) (w : Word) → FitState a is st → StandsAfter a st w → StandsAfter b st' (word_of 0 ((ran a w).outs at)) → StandsAfter (fused a b at) (st ++ st') w
+pub parts_after : (a b : Kern) (at : ℕ) (is : List QueueType) (st st' : List State) (w : Word) → FitState a is st → StandsAfter a st w
+    → StandsAfter b st' (word_of 0 ((ran a w).outs at)) → StandsAfter (fused a b at) (st ++ st') w
 parts_after a b at is st st' w f h h' =
     let l = fit_length a is st f in
     (subst (λ (u : List State). StandsAfter a u w) (sym (take_front st st' (privates a) l)) h, subst (λ (u : List State). StandsAfter b u (word_of 0 ((ran a w).outs at))) (sym (drop_front st st' (privates a) l)) h')

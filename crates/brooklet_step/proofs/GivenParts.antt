@@ -40,8 +40,10 @@ use Rattle.brooklet_step.proofs.GivenLemmas.{typed_word, at_word, word_append, r
 
 -- ROOM
 
-pub came_room : (k : Kern) (reads writes : List QueueType) (vars : List VarKind) (e e' : Emit) (st' : List State) → HasRoom k e → Came k reads writes vars e e' st' → HasRoom k e'
-came_room k reads writes vars e e' st' h c = record { outs = ap length c.outs_are ∙ length-each_grew e.outs c.outs ∙ h.outs; adds = ap length c.adds_are ∙ length-each_grew e.adds c.adds ∙ h.adds }
+pub came_room : (k : Kern) (reads writes : List QueueType) (vars : List VarKind) (e e' : Emit) (st' : List State) → HasRoom k e
+    → Came k reads writes vars e e' st' → HasRoom k e'
+came_room k reads writes vars e e' st' h c =
+    record { outs = ap length c.outs_are ∙ length-each_grew e.outs c.outs ∙ h.outs; adds = ap length c.adds_are ∙ length-each_grew e.adds c.adds ∙ h.adds }
 
 -- PACKS
 
@@ -57,7 +59,8 @@ items-flats t (Pack fs ∷ xs) h = absurd (All-head (HasType (FlatOf t)) (Pack f
 
 flats_held : (t : FlatType) (xs : List item.Item) → All (IsHeld (FlatOf t)) xs → All (λ f. IsHeld (FlatOf t) (Flat f)) (flats xs)
 flats_held t [] h = All-nil (λ f. IsHeld (FlatOf t) (Flat f))
-flats_held t (Flat f ∷ xs) h = All-cons (λ g. IsHeld (FlatOf t) (Flat g)) f (flats xs) (All-head (IsHeld (FlatOf t)) (Flat f) xs h) (flats_held t xs (All-tail (IsHeld (FlatOf t)) (Flat f) xs h))
+flats_held t (Flat f ∷ xs) h =
+    All-cons (λ g. IsHeld (FlatOf t) (Flat g)) f (flats xs) (All-head (IsHeld (FlatOf t)) (Flat f) xs h) (flats_held t xs (All-tail (IsHeld (FlatOf t)) (Flat f) xs h))
 flats_held t (Pack fs ∷ xs) h = flats_held t xs (All-tail (IsHeld (FlatOf t)) (Pack fs) xs h)
 
 -- a kernel in a pack has the states of the kernel, and gives its items in packs
@@ -74,7 +77,9 @@ packed_items k (e ∷ es) ss =
     ∙ sym (as_items-append (flats (r.outs 0)) (flats (rest.outs 0)))
     ∙ ap as_items (sym (flats-append (r.outs 0) (rest.outs 0)))
 
-pub packed_does : (j : Kern) (port : ℕ) (i : item.Item) (st st' : List State) (out out' e e' : Emit) (items : List item.Item) (fs : List flat.Flat) → e.outs ≡ replicate 1 [] → FiresAt j port i e e' st st' → items ≡ list_at e'.outs 0 → fs ≡ flats items → Took out out' (gives 0 (Pack fs ∷ []) []) → FiresAt (packed j) port i out out' st st'
+pub packed_does : (j : Kern) (port : ℕ) (i : item.Item) (st st' : List State) (out out' e e' : Emit) (items : List item.Item) (fs : List flat.Flat)
+    → e.outs ≡ replicate 1 [] → FiresAt j port i e e' st st' → items ≡ list_at e'.outs 0 → fs ≡ flats items → Took out out' (gives 0 (Pack fs ∷ []) [])
+    → FiresAt (packed j) port i out out' st st'
 packed_does j port i st st' out out' e e' items fs b f ei ef took = record {
   each = λ reads writes vars fits fst hi.
       let t = fits.0 in
@@ -103,7 +108,9 @@ packed_does j port i st st' out out' e e' items fs b f ei ef took = record {
               ∙ ap (λ (l : List item.Item). Pack (flats l) ∷ []) (sym came)
               ∙ ap (λ (l : List flat.Flat). Pack l ∷ []) (sym ef) in
               let now : TookHeld (PackOf u ∷ []) whole out out' (fire (packed j) port x sj) = record {
-                outs = took.outs ∙ each_grew_cong out.outs (only 0 (Pack fs ∷ [])) (λ p. held_at (PackOf u ∷ []) p (whole.outs p) (only 0 (Pack (flats xs) ∷ []) p)) (λ p lt. at_pack u fs xs whole pack p);
+                outs =
+                    took.outs
+                    ∙ each_grew_cong out.outs (only 0 (Pack fs ∷ [])) (λ p. held_at (PackOf u ∷ []) p (whole.outs p) (only 0 (Pack (flats xs) ∷ []) p)) (λ p lt. at_pack u fs xs whole pack p);
                 adds = took.adds;
               } in
               (subst (λ (us : List Kept). TookHeld (PackOf u ∷ []) whole out out' (fire (packed j) port x us)) (sym states) now, g.1);
@@ -121,10 +128,12 @@ packed_does j port i st st' out out' e e' items fs b f ei ef took = record {
 }
   where
     held_pack : (u : FlatType) → All (IsHeld (FlatOf u)) items → (p : ℕ) → All (IsHeldOf (PackOf u ∷ []) p) (only 0 (Pack fs ∷ []) p)
-    held_pack u h zero = All-cons (IsHeldOf (PackOf u ∷ []) 0) (Pack fs) [] (subst (λ (l : List flat.Flat). IsHeld (PackOf u) (Pack l)) (sym ef) (is_held-pack u (flats items) (flats_held u items h))) (All-nil (IsHeldOf (PackOf u ∷ []) 0))
+    held_pack u h zero =
+        All-cons (IsHeldOf (PackOf u ∷ []) 0) (Pack fs) [] (subst (λ (l : List flat.Flat). IsHeld (PackOf u) (Pack l)) (sym ef) (is_held-pack u (flats items) (flats_held u items h))) (All-nil (IsHeldOf (PackOf u ∷ []) 0))
     held_pack u h (suc p) = All-nil (IsHeldOf (PackOf u ∷ []) (suc p))
 
-    at_pack : (u : FlatType) (fs : List flat.Flat) (xs : List item.Item) (whole : Fired) → held (PackOf u) (whole.outs 0) (Pack (flats xs) ∷ []) ≡ Pack fs ∷ [] → (p : ℕ) → only 0 (Pack fs ∷ []) p ≡ held_at (PackOf u ∷ []) p (whole.outs p) (only 0 (Pack (flats xs) ∷ []) p)
+    at_pack : (u : FlatType) (fs : List flat.Flat) (xs : List item.Item) (whole : Fired) → held (PackOf u) (whole.outs 0) (Pack (flats xs) ∷ []) ≡ Pack fs ∷ []
+        → (p : ℕ) → only 0 (Pack fs ∷ []) p ≡ held_at (PackOf u ∷ []) p (whole.outs p) (only 0 (Pack (flats xs) ∷ []) p)
     at_pack u fs xs whole e zero = sym e
     at_pack u fs xs whole e (suc p) = refl
 
@@ -133,9 +142,11 @@ packed_does j port i st st' out out' e e' items fs b f ei ef took = record {
 -- what the queues of both kernels hold is what the queues of the two as one hold
 splice_held : (ms bs : List QueueType) (at p : ℕ) (P R Q S : ℕ → List item.Item) → at < length ms
     → splice at (length bs) (λ q. held_at ms q (P q) (R q)) (λ q. held_at bs q (Q q) (S q)) p ≡ held_at (spliced at ms bs) p (splice at (length bs) P Q p) (splice at (length bs) R S p)
-splice_held ms bs at p P R Q S lt = by_place (length bs) ∙ ap (λ o. held_by o (splice at (length bs) P Q p) (splice at (length bs) R S p)) (sym (spliced_got ms bs at p lt))
+splice_held ms bs at p P R Q S lt =
+    by_place (length bs) ∙ ap (λ o. held_by o (splice at (length bs) P Q p) (splice at (length bs) R S p)) (sym (spliced_got ms bs at p lt))
   where
-    by_place : (n : ℕ) → splice at n (λ q. held_at ms q (P q) (R q)) (λ q. held_at bs q (Q q) (S q)) p ≡ held_by (splice at n (slice_get ms) (slice_get bs) p) (splice at n P Q p) (splice at n R S p)
+    by_place : (n : ℕ)
+        → splice at n (λ q. held_at ms q (P q) (R q)) (λ q. held_at bs q (Q q) (S q)) p ≡ held_by (splice at n (slice_get ms) (slice_get bs) p) (splice at n P Q p) (splice at n R S p)
     by_place n = ⊎_elim
         (λ l. splice_first at n (λ q. held_at ms q (P q) (R q)) (λ q. held_at bs q (Q q) (S q)) p l
         ∙ sym (ap (λ o. held_by o (splice at n P Q p) (splice at n R S p)) (splice_first at n (slice_get ms) (slice_get bs) p l)
@@ -154,7 +165,8 @@ splice_held ms bs at p P R Q S lt = by_place (length bs) ∙ ap (λ o. held_by o
         (cases_lt p at)
 
 -- all that two kernels as one gave, part by part
-pub fused_ran : (a b : Kern) (at : ℕ) (w : Word) → IsShaped (fused a b at) → Same (ran (fused a b at) w) (fused_of at (outs b) (tabs a) (ran a w) (λ xs. ran b (word_of 0 xs)))
+pub fused_ran : (a b : Kern) (at : ℕ) (w : Word) → IsShaped (fused a b at)
+    → Same (ran (fused a b at) w) (fused_of at (outs b) (tabs a) (ran a w) (λ xs. ran b (word_of 0 xs)))
 fused_ran a b at w s =
     let k = fused a b at in
     let sa = first_kept a in
@@ -167,14 +179,20 @@ fused_ran a b at w s =
     subst (λ us. Same (ran k w) (fused_of at (outs b) (tabs a) (ran a w) (λ xs. feed (fire b 0) xs us))) (drop_front sa sb (privates a) la) h1 in
     subst (λ (r : Fired). Same (ran k w) (fused_of at (outs b) (tabs a) (ran a w) (λ xs. r))) (sym (feed_word (fire b) 0 ((ran a w).outs at) sb)) h2
 
-pub fused_does : (a b : Kern) (at port : ℕ) (i : item.Item) (st mine' rest' : List State) (out new mid0 mid last0 last : Emit) (items : List item.Item) → HasRoom (fused a b at) out → IsBlank a mid0 → FiresAt a port i mid0 mid (take (privates a) st) mine' → IsBlank b last0 → items ≡ list_at mid.outs at → FiresEach b items last0 last (drop (privates a) st) rest' → new.outs ≡ each_grew out.outs (splice at (length last.outs) (list_at mid.outs) (list_at last.outs)) → new.adds ≡ each_grew out.adds (beside (length mid.adds) (list_at mid.adds) (list_at last.adds)) → FiresAt (fused a b at) port i out new st (mine' ++ rest')
+pub fused_does : (a b : Kern) (at port : ℕ) (i : item.Item) (st mine' rest' : List State) (out new mid0 mid last0 last : Emit) (items : List item.Item)
+    → HasRoom (fused a b at) out → IsBlank a mid0 → FiresAt a port i mid0 mid (take (privates a) st) mine' → IsBlank b last0 → items ≡ list_at mid.outs at
+    → FiresEach b items last0 last (drop (privates a) st) rest'
+    → new.outs ≡ each_grew out.outs (splice at (length last.outs) (list_at mid.outs) (list_at last.outs))
+    → new.adds ≡ each_grew out.adds (beside (length mid.adds) (list_at mid.adds) (list_at last.adds))
+    → FiresAt (fused a b at) port i out new st (mine' ++ rest')
 fused_does a b at port i st mine' rest' out new mid0 mid last0 last items room bm fm bl is fl eo ea = record {
   each = λ reads writes vars f fs hi.
       subst (λ (vs : List VarKind). Does (fused a b at) reads writes vs port i out new st (mine' ++ rest')) (sym f.9)
       (subst (λ (os : List QueueType). Does (fused a b at) reads os (f.3 ++ f.4) port i out new st (mine' ++ rest')) (sym f.8) (both reads f.0 f.1 f.2 f.3 f.4 f.5 f.6 f.7 (shaped (fused a b at) reads writes vars f) fs hi));
 }
   where
-    both : (reads ms : List QueueType) (m : QueueType) (bs : List QueueType) (us ws : List VarKind) → Fits a reads ms us → slice_get ms at ≡ Some m → Fits b (m ∷ []) bs ws → IsShaped (fused a b at) → FitState (fused a b at) reads st → IsHeldOf reads port i
+    both : (reads ms : List QueueType) (m : QueueType) (bs : List QueueType) (us ws : List VarKind) → Fits a reads ms us → slice_get ms at ≡ Some m
+        → Fits b (m ∷ []) bs ws → IsShaped (fused a b at) → FitState (fused a b at) reads st → IsHeldOf reads port i
         → Does (fused a b at) reads (spliced at ms bs) (us ++ ws) port i out new st (mine' ++ rest')
     both reads ms m bs us ws fa g fb s fs hi =
         let k = fused a b at in

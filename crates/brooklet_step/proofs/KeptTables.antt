@@ -26,7 +26,8 @@ use Rattle.brooklet_step.proofs.QueuePlaces.{place_is, joined_places, joined_con
 -- rows are added one after another
 pub all_added : (kind : TableKind) (xs ys : List (List ℤ)) → fold added (kept_of kind xs) ys ≡ kept_of kind (xs ++ ys)
 all_added kind xs [] = ap (kept_of kind) (sym (append-nil xs))
-all_added kind xs (y ∷ ys) = ap (λ t. fold added t ys) (sym (kept_more kind xs y)) ∙ all_added kind (xs ++ y ∷ []) ys ∙ ap (kept_of kind) (append_assoc xs (y ∷ []) ys)
+all_added kind xs (y ∷ ys) =
+    ap (λ t. fold added t ys) (sym (kept_more kind xs y)) ∙ all_added kind (xs ++ y ∷ []) ys ∙ ap (kept_of kind) (append_assoc xs (y ∷ []) ys)
 
 -- its rows are as wide as the plan says
 pub kept_width : (kind : TableKind) (xs : List (List ℤ)) → width_of (kept_of kind xs) ≡ table_width kind
@@ -56,7 +57,8 @@ each_next (t ∷ ts) rows rows' f h =
 
 -- a firing: what an operator gives for each of its tables comes to the tables at their places
 pub kept_next : (tables : List TableDecl) (mine : List Name) (rows : Name → List (List ℤ)) (f : ℕ → List (List ℤ)) (adds : List (List (List ℤ)))
-    → ((n : Name) → count n (table_names tables) ≤ 1) → ((n : Name) → 0 < count n mine → 0 < count n (table_names tables)) → ((j : ℕ) → j < length mine → list_at adds j ≡ f j)
+    → ((n : Name) → count n (table_names tables) ≤ 1) → ((n : Name) → 0 < count n mine → 0 < count n (table_names tables))
+    → ((j : ℕ) → j < length mine → list_at adds j ≡ f j)
     → each_added (kept_tables tables rows) (joined_at (places (table_names tables) mine) (list_at adds)) ≡ kept_tables tables (λ n. rows n ++ joined mine f n)
 kept_next tables mine rows f adds once declared same =
     let names = table_names tables in

@@ -1,5 +1,6 @@
 -- Firings of kernels that have no kernel inside.
-use Rattle.std.proofs.Common.{◌≡◌, ℕ, zero, suc, ℤ, pos, ◌+◌, ◌≤◌, ◌<◌, false, List, [], ◌∷◌, ◌++◌, length, map, take, replicate, refl, get_or, to_z, of_z, sym, ap, ◌∙◌, subst, arith, ⊎_elim}
+use Rattle.std.proofs.Common.{◌≡◌, ℕ, zero, suc, ℤ, pos, ◌+◌, ◌≤◌, ◌<◌, false, List, [], ◌∷◌, ◌++◌, length, map, take, replicate, refl, get_or, to_z, of_z, sym}
+use Rattle.std.proofs.Common.{ap, ◌∙◌, subst, arith, ⊎_elim}
 use Rattle.std.specs.Int.{w64}
 use Rattle.std.proofs.lemmas.Int.{to_z-of_z}
 use Rattle.river_base.specs.Number.{IsValue}
@@ -33,7 +34,8 @@ use Rattle.brooklet_step.specs.declared.emit.Emit.{Emit}
 use Rattle.brooklet_step.specs.declared.state.State.{State}
 use Rattle.brooklet_step.specs.declared.state.State.TheVariants as state
 use Rattle.brooklet_step.specs.Took.{Took, HasRoom}
-use Rattle.brooklet_step.specs.Stands.{AreNone, AreSlots, StandsForSlots, StandsForFilter, StandsForTurn, StandsForJoiner, IsRow, IsSlots, RanKept, Pushed, Fires, Takes, Applies}
+use Rattle.brooklet_step.specs.Stands.{AreNone, AreSlots, StandsForSlots, StandsForFilter, StandsForTurn, StandsForJoiner, IsRow, IsSlots, RanKept, Pushed}
+use Rattle.brooklet_step.specs.Stands.{Fires, Takes, Applies}
 use Rattle.brooklet_model.proofs.Ports.{counts, shaped}
 use Rattle.brooklet_model.proofs.Typing.{fire_typed}
 use Rattle.brooklet_step.proofs.Standing.{stands_shape}
@@ -74,12 +76,14 @@ head_is : (s t : State) → s ∷ [] ≡ t ∷ [] → s ≡ t
 head_is s t h = cc
 
 -- the state that holds the kept slots
-pub code_state : (k : CodeForm) (x : item.Item) (st : List State) → (k.starts ≡ [] → ⊥) → Takes (code k) 0 x st → (s : State) × (st ≡ s ∷ []) × IsSlots (length k.starts) s
+pub code_state : (k : CodeForm) (x : item.Item) (st : List State) → (k.starts ≡ [] → ⊥) → Takes (code k) 0 x st
+    → (s : State) × (st ≡ s ∷ []) × IsSlots (length k.starts) s
 code_state k x st n t =
     let a = some_slots k.starts st t.fitted.keeps.kept n t.fitted.keeps.stands in
     (state.Slots a.slots, a.code, record { slots = a.slots; is = refl; count = a.count })
 
-pub pushed_once : (k : CodeForm) (x : item.Item) (st : List State) (row : List ℤ) (pushes : List (ℕ × List ℤ)) → k.starts ≡ [] → row ≡ values_of x → pushes ≡ (run_kept k.body [] row).pushes → Pushed k x st st pushes
+pub pushed_once : (k : CodeForm) (x : item.Item) (st : List State) (row : List ℤ) (pushes : List (ℕ × List ℤ)) → k.starts ≡ [] → row ≡ values_of x
+    → pushes ≡ (run_kept k.body [] row).pushes → Pushed k x st st pushes
 pushed_once k x st row pushes e r p = record {
   given = λ ks h.
       let n : AreNone st ks = subst (λ (zs : List ℤ). StandsForSlots zs st ks) e h in
@@ -89,7 +93,8 @@ pushed_once k x st row pushes e r p = record {
       (ap (λ (ps : List (ℕ × List ℤ)). λ i. pushed_to i ps) (sym q), refl, subst (λ (zs : List ℤ). StandsForSlots zs st []) (sym e) after);
 }
 
-pub pushed_kept : (k : CodeForm) (x : item.Item) (st st' : List State) (s s' : State) (row : List ℤ) (pushes : List (ℕ × List ℤ)) → (k.starts ≡ [] → ⊥) → st ≡ s ∷ [] → st' ≡ s' ∷ [] → row ≡ values_of x → RanKept k.body row s s' pushes → Pushed k x st st' pushes
+pub pushed_kept : (k : CodeForm) (x : item.Item) (st st' : List State) (s s' : State) (row : List ℤ) (pushes : List (ℕ × List ℤ)) → (k.starts ≡ [] → ⊥)
+    → st ≡ s ∷ [] → st' ≡ s' ∷ [] → row ≡ values_of x → RanKept k.body row s s' pushes → Pushed k x st st' pushes
 pushed_kept k x st st' s s' row pushes n e e' r ran = record {
   given = λ ks h.
       let a = some_slots k.starts st ks n h in
@@ -103,7 +108,8 @@ pushed_kept k x st st' s s' row pushes n e e' r ran = record {
 }
 
 -- what came of a body whose slots are the only state
-pub pushes_kept : (k : CodeForm) (x : item.Item) (st : List State) (d s s' : State) (row : List ℤ) (pushes : List (ℕ × List ℤ)) → Takes (code k) 0 x st → (IsTrue false ↔ (k.starts ≡ [])) → s ≡ get_or st 0 d → row ≡ values_of x → RanKept k.body row s s' pushes → Pushed k x st (set st 0 s') pushes
+pub pushes_kept : (k : CodeForm) (x : item.Item) (st : List State) (d s s' : State) (row : List ℤ) (pushes : List (ℕ × List ℤ)) → Takes (code k) 0 x st
+    → (IsTrue false ↔ (k.starts ≡ [])) → s ≡ get_or st 0 d → row ≡ values_of x → RanKept k.body row s s' pushes → Pushed k x st (set st 0 s') pushes
 pushes_kept k x st d s s' row pushes t i g w h =
     let n : k.starts ≡ [] → ⊥ = λ e. true≢false (sym (i.1 e)) in
     let c = code_state k x st n t in
@@ -150,7 +156,9 @@ pub took_from : (old mid new : Emit) (r : Fired) → mid.outs ≡ old.outs → m
 took_from old mid new r eo ea t = record { outs = t.outs ∙ ap (λ l. each_grew l r.outs) eo; adds = t.adds ∙ ap (λ l. each_grew l r.adds) ea }
 
 -- one more push is given
-pub push_step : (start now new : List (List item.Item)) (es : List (ℕ × List ℤ)) (i : ℕ) (e : ℕ × List ℤ) → i < length es → e ≡ get_or es i e → now ≡ each_grew start (λ p. pushed_to p (take i es)) → new ≡ append_at now e.0 (Flat (One e.1) ∷ []) → new ≡ each_grew start (λ p. pushed_to p (take (i + 1) es))
+pub push_step : (start now new : List (List item.Item)) (es : List (ℕ × List ℤ)) (i : ℕ) (e : ℕ × List ℤ) → i < length es → e ≡ get_or es i e
+    → now ≡ each_grew start (λ p. pushed_to p (take i es)) → new ≡ append_at now e.0 (Flat (One e.1) ∷ [])
+    → new ≡ each_grew start (λ p. pushed_to p (take (i + 1) es))
 push_step start now new es i e lt is en ea =
     let xs : List item.Item = Flat (One e.1) ∷ [] in
     let more : take i es ++ e ∷ [] ≡ take (i + 1) es = ap (λ d. take i es ++ d ∷ []) is ∙ sym (take_more es i e lt) in
@@ -158,7 +166,8 @@ push_step start now new es i e lt is en ea =
     ∙ each_grew_cong start (λ p. pushed_to p (take i es) ++ only e.0 xs p) (λ p. pushed_to p (take (i + 1) es)) (λ p h. pushed_more p (take i es) e ∙ ap (pushed_to p) more)
 
 -- the pushes go to ports that are there
-pub code_below : (k : CodeForm) (x : item.Item) (st st' : List State) (out : Emit) (pushes : List (ℕ × List ℤ)) → Applies (code k) 0 x st out → Pushed k x st st' pushes → All (λ e. e.0 < length out.outs) pushes
+pub code_below : (k : CodeForm) (x : item.Item) (st st' : List State) (out : Emit) (pushes : List (ℕ × List ℤ)) → Applies (code k) 0 x st out
+    → Pushed k x st st' pushes → All (λ e. e.0 < length out.outs) pushes
 code_below k x st st' out pushes a p =
     let t = a.takes.fitted in
     let ks = t.keeps.kept in
@@ -167,7 +176,8 @@ code_below k x st st' out pushes a p =
     let same : length t.writes ≡ length out.outs = (counts (code k) a.takes.reads t.writes t.vars t.fits).outs ∙ sym a.room.outs in
     subst (λ n. All (λ e. e.0 < n) pushes) same (ports_below t.writes pushes are)
 
-pub code_fires : (k : CodeForm) (x : item.Item) (st st' : List State) (out out' : Emit) (pushes : List (ℕ × List ℤ)) → Pushed k x st st' pushes → out'.outs ≡ each_grew out.outs (λ p. pushed_to p pushes) → out'.adds ≡ out.adds → Fires (code k) out out' st st' (fire (code k) 0 x)
+pub code_fires : (k : CodeForm) (x : item.Item) (st st' : List State) (out out' : Emit) (pushes : List (ℕ × List ℤ)) → Pushed k x st st' pushes
+    → out'.outs ≡ each_grew out.outs (λ p. pushed_to p pushes) → out'.adds ≡ out.adds → Fires (code k) out out' st st' (fire (code k) 0 x)
 code_fires k x st st' out out' pushes p eo ea = record {
   given = λ ks h.
       let g = p.given ks h in (
@@ -191,22 +201,28 @@ same_filter : (a b : Waiting) → state.Filter a ≡ state.Filter b → a ≡ b
 same_filter a b h = cc
 
 -- the state of a filter
-pub filter_state : (f : FilterForm) (x : item.Item) (s : State) → Takes (filter f) 0 x (s ∷ []) → (w : Waiting) × (s ≡ state.Filter w) × (length w.kept ≡ length f.starts)
+pub filter_state : (f : FilterForm) (x : item.Item) (s : State) → Takes (filter f) 0 x (s ∷ [])
+    → (w : Waiting) × (s ≡ state.Filter w) × (length w.kept ≡ length f.starts)
 filter_state f x s t =
     let h = t.fitted.keeps.stands in
     (h.now, head_is s (state.Filter h.now) h.code, h.count)
 
-pub filter_count : (f : FilterForm) (x : item.Item) (s : State) (w : Waiting) → s ≡ state.Filter w → Takes (filter f) 0 x (s ∷ []) → length w.kept ≡ length f.starts
+pub filter_count : (f : FilterForm) (x : item.Item) (s : State) (w : Waiting) → s ≡ state.Filter w → Takes (filter f) 0 x (s ∷ [])
+    → length w.kept ≡ length f.starts
 filter_count f x s w e t =
     let g = filter_state f x s t in
     ap (λ (v : Waiting). length v.kept) (same_filter w g.0 (sym e ∙ g.1)) ∙ g.2
 
-pub number_is : (v : ℤ) (vals row : List ℤ) (x : item.Item) → All IsValue row → 1 ≤ length row → vals ≡ row → row ≡ values_of x → v ≡ to_z w64 (of_z w64 (slice_index_or vals 0 (pos 0))) → v ≡ value_of x
+pub number_is : (v : ℤ) (vals row : List ℤ) (x : item.Item) → All IsValue row → 1 ≤ length row → vals ≡ row → row ≡ values_of x
+    → v ≡ to_z w64 (of_z w64 (slice_index_or vals 0 (pos 0))) → v ≡ value_of x
 number_is v vals row x all some ew e ev =
     let z : ℤ = slice_index_or row 0 (pos 0) in
     ev ∙ ap (λ (r : List ℤ). to_z w64 (of_z w64 (slice_index_or r 0 (pos 0)))) ew ∙ to_z-of_z w64 z (all 0 (pos 0) (omega (arith, some))) ∙ ap (λ (r : List ℤ). slice_index_or r 0 (pos 0)) e
 
-pub filter_fires : (f : FilterForm) (x : item.Item) (s s' : State) (old new : Waiting) (v : ℤ) (values : List ℤ) (items : List item.Item) (out out' : Emit) → CanFilter f → HasRoom (filter f) out → s ≡ state.Filter old → s' ≡ state.Filter new → v ≡ value_of x → Filters f v old new [] values → length new.kept ≡ length old.kept → items ≡ map (λ z. Flat (One (z ∷ []))) values → Took out out' (gives 0 items []) → Fires (filter f) out out' (s ∷ []) (s' ∷ []) (fire (filter f) 0 x)
+pub filter_fires : (f : FilterForm) (x : item.Item) (s s' : State) (old new : Waiting) (v : ℤ) (values : List ℤ) (items : List item.Item) (out out' : Emit)
+    → CanFilter f → HasRoom (filter f) out → s ≡ state.Filter old → s' ≡ state.Filter new → v ≡ value_of x → Filters f v old new [] values
+    → length new.kept ≡ length old.kept → items ≡ map (λ z. Flat (One (z ∷ []))) values → Took out out' (gives 0 items [])
+    → Fires (filter f) out out' (s ∷ []) (s' ∷ []) (fire (filter f) 0 x)
 filter_fires f x s s' old new v values items out out' can room e e' ev ran len ei took = record {
   given = λ ks h.
       let same : old ≡ h.now = same_filter old h.now (sym e ∙ head_is s (state.Filter h.now) h.code) in
@@ -224,7 +240,9 @@ filter_fires f x s s' old new v values items out out' can room e e' ev ran len e
         count = len ∙ ap (λ (w : Waiting). length w.kept) same ∙ h.count;
       } in
       let grew : Took out out' (fire (filter f) 0 x (Buffered h.seen ∷ [])) = record {
-        outs = took.outs ∙ each_grew_cong out.outs (only 0 items) (λ p. pushed_to p F.pushes) (λ p lt. at_0 p F.pushes items (let l = room.outs in omega (arith, l, lt)) given);
+        outs =
+            took.outs
+            ∙ each_grew_cong out.outs (only 0 items) (λ p. pushed_to p F.pushes) (λ p lt. at_0 p F.pushes items (let l = room.outs in omega (arith, l, lt)) given);
         adds = took.adds;
       } in
       subst (λ (us : List Kept). Took out out' (fire (filter f) 0 x us) × StandsForFilter f (s' ∷ []) (fire (filter f) 0 x us).states) (sym h.defined) (grew, after);
@@ -239,7 +257,8 @@ filter_fires f x s s' old new v values items out out' can room e e' ev ran len e
 same_turn : (a b : Dealing) → state.Deal a ≡ state.Deal b → a ≡ b
 same_turn a b h = cc
 
-pub deal_turn : (ws : List ℤ) (x : item.Item) (s : State) (old : Dealing) → s ≡ state.Deal old → Takes (deal ws) 0 x (s ∷ []) → IsTurn (shares ws) old.port old.had
+pub deal_turn : (ws : List ℤ) (x : item.Item) (s : State) (old : Dealing) → s ≡ state.Deal old → Takes (deal ws) 0 x (s ∷ [])
+    → IsTurn (shares ws) old.port old.had
 deal_turn ws x s old e t =
     let h = t.fitted.keeps.stands in
     subst (λ (d : Dealing). IsTurn (shares ws) d.port d.had) (sym (same_turn old h.now (sym e ∙ head_is s (state.Deal h.now) h.code))) h.turn
@@ -247,7 +266,10 @@ deal_turn ws x s old e t =
 pub deal_shares : (ws : List ℤ) (x : item.Item) (st : List State) → Takes (deal ws) 0 x st → HaveShares (shares ws)
 deal_shares ws x st t = shaped (deal ws) t.reads t.fitted.writes t.fitted.vars t.fitted.fits
 
-pub deal_fires : (ws : List ℤ) (x : item.Item) (s s' : State) (old new : Dealing) (out out' : Emit) (port : ℕ) → Applies (deal ws) 0 x (s ∷ []) out → s ≡ state.Deal old → s' ≡ state.Deal new → port ≡ old.port → new.port ≡ next_port (shares ws) old.port old.had → new.had ≡ next_had (shares ws) old.port old.had → Took out out' (gives port (x ∷ []) []) → Fires (deal ws) out out' (s ∷ []) (s' ∷ []) (fire (deal ws) 0 x)
+pub deal_fires : (ws : List ℤ) (x : item.Item) (s s' : State) (old new : Dealing) (out out' : Emit) (port : ℕ) → Applies (deal ws) 0 x (s ∷ []) out
+    → s ≡ state.Deal old → s' ≡ state.Deal new → port ≡ old.port → new.port ≡ next_port (shares ws) old.port old.had
+    → new.had ≡ next_had (shares ws) old.port old.had → Took out out' (gives port (x ∷ []) [])
+    → Fires (deal ws) out out' (s ∷ []) (s' ∷ []) (fire (deal ws) 0 x)
 deal_fires ws x s s' old new out out' port a e e' ep np nh took = record {
   given = λ ks h.
       let same : old ≡ h.now = same_turn old h.now (sym e ∙ head_is s (state.Deal h.now) h.code) in
@@ -280,7 +302,9 @@ same_collect a b h = cc
 same_unpack : (a b : Turns) → state.Unpack a ≡ state.Unpack b → a ≡ b
 same_unpack a b h = cc
 
-joined_after : (give : item.Item → List item.Item) (wrap : Turns → State) (ws : List ℕ) (port : ℕ) (x : item.Item) (s' : State) (old new : Turns) → HaveShares ws → IsJoiner ws old → s' ≡ wrap new → new ≡ (joins give ws port x old).1 → StandsForJoiner wrap ws (s' ∷ []) (Joining (joins give ws port x old).1 ∷ [])
+joined_after : (give : item.Item → List item.Item) (wrap : Turns → State) (ws : List ℕ) (port : ℕ) (x : item.Item) (s' : State) (old new : Turns)
+    → HaveShares ws → IsJoiner ws old → s' ≡ wrap new → new ≡ (joins give ws port x old).1
+    → StandsForJoiner wrap ws (s' ∷ []) (Joining (joins give ws port x old).1 ∷ [])
 joined_after give wrap ws port x s' old new all j e en = record {
   now = new;
   code = ap (λ (u : State). u ∷ []) e;
@@ -294,12 +318,16 @@ collect_shares ws port x st t = shaped (collect ws) t.reads t.fitted.writes t.fi
 pub collect_port : (ws : List ℤ) (port : ℕ) (x : item.Item) (st : List State) → Takes (collect ws) port x st → port < length ws
 collect_port ws port x st t = port_below (length ws) _ t.reads port x t.fitted.fits.1 t.item
 
-pub collect_joined : (ws : List ℤ) (port : ℕ) (x : item.Item) (s : State) (old : Turns) → s ≡ state.Collect old → Takes (collect ws) port x (s ∷ []) → IsJoiner (shares ws) old
+pub collect_joined : (ws : List ℤ) (port : ℕ) (x : item.Item) (s : State) (old : Turns) → s ≡ state.Collect old → Takes (collect ws) port x (s ∷ [])
+    → IsJoiner (shares ws) old
 collect_joined ws port x s old e t =
     let h = t.fitted.keeps.stands in
     subst (IsJoiner (shares ws)) (sym (same_collect old h.now (sym e ∙ head_is s (state.Collect h.now) h.code))) h.joined
 
-pub collect_fires : (ws : List ℤ) (port : ℕ) (x : item.Item) (s s' : State) (old new : Turns) (items : List item.Item) (out out' : Emit) → Applies (collect ws) port x (s ∷ []) out → s ≡ state.Collect old → s' ≡ state.Collect new → items ≡ (joins itself (shares ws) port x old).0 → new ≡ (joins itself (shares ws) port x old).1 → Took out out' (gives 0 items []) → Fires (collect ws) out out' (s ∷ []) (s' ∷ []) (fire (collect ws) port x)
+pub collect_fires : (ws : List ℤ) (port : ℕ) (x : item.Item) (s s' : State) (old new : Turns) (items : List item.Item) (out out' : Emit)
+    → Applies (collect ws) port x (s ∷ []) out → s ≡ state.Collect old → s' ≡ state.Collect new → items ≡ (joins itself (shares ws) port x old).0
+    → new ≡ (joins itself (shares ws) port x old).1 → Took out out' (gives 0 items [])
+    → Fires (collect ws) out out' (s ∷ []) (s' ∷ []) (fire (collect ws) port x)
 collect_fires ws port x s s' old new items out out' a e e' ei en took = record {
   given = λ ks h.
       let same : old ≡ h.now = same_collect old h.now (sym e ∙ head_is s (state.Collect h.now) h.code) in
@@ -310,7 +338,9 @@ collect_fires ws port x s s' old new items out out' a e e' ei en took = record {
       subst (λ (us : List Kept). Took out out' (fire (collect ws) port x us) × StandsForJoiner (λ t. state.Collect t) (shares ws) (s' ∷ []) (fire (collect ws) port x us).states) (sym eq) (grew, after);
 }
 
-pub unpack_fires : (n : ℕ) (port : ℕ) (x : item.Item) (s s' : State) (old new : Turns) (items : List item.Item) (out out' : Emit) → Applies (unpack n) port x (s ∷ []) out → s ≡ state.Unpack old → s' ≡ state.Unpack new → items ≡ (joins items_of (ones n) port x old).0 → new ≡ (joins items_of (ones n) port x old).1 → Took out out' (gives 0 items []) → Fires (unpack n) out out' (s ∷ []) (s' ∷ []) (fire (unpack n) port x)
+pub unpack_fires : (n : ℕ) (port : ℕ) (x : item.Item) (s s' : State) (old new : Turns) (items : List item.Item) (out out' : Emit)
+    → Applies (unpack n) port x (s ∷ []) out → s ≡ state.Unpack old → s' ≡ state.Unpack new → items ≡ (joins items_of (ones n) port x old).0
+    → new ≡ (joins items_of (ones n) port x old).1 → Took out out' (gives 0 items []) → Fires (unpack n) out out' (s ∷ []) (s' ∷ []) (fire (unpack n) port x)
 unpack_fires n port x s s' old new items out out' a e e' ei en took = record {
   given = λ ks h.
       let same : old ≡ h.now = same_unpack old h.now (sym e ∙ head_is s (state.Unpack h.now) h.code) in

@@ -1,5 +1,6 @@
 -- Lists whose items move out one after another.
-use Rattle.std.proofs.Common.{◌≡◌, ℕ, suc, ◌+◌, ◌<◌, ◌≤◌, List, [], ◌∷◌, ◌++◌, length, take, refl, sym, ap, ◌∙◌, arith, append_assoc, get_or-set_other, replicate, reverse, ⊎_elim, length-append}
+use Rattle.std.proofs.Common.{◌≡◌, ℕ, suc, ◌+◌, ◌<◌, ◌≤◌, List, [], ◌∷◌, ◌++◌, length, take, refl, sym, ap, ◌∙◌, arith, append_assoc, get_or-set_other}
+use Rattle.std.proofs.Common.{replicate, reverse, ⊎_elim, length-append}
 use Rattle.std.specs.Prelude.{slice_set}
 use Rattle.std.proofs.lemmas.Bool.{cases_lt}
 use Rattle.std.proofs.lemmas.List.{take_more, length-set, get_or-set_same, reverse-append}
@@ -15,7 +16,8 @@ pub untouched : {A : Type 0} (first : List (List A)) → Untouched 0 first first
 untouched first = record { many = refl; rest = λ q le. refl }
 
 -- the list at a place became another
-pub untouched_next : {A : Type 0} (done : ℕ) (first now next : List (List A)) (xs : List A) → Untouched done first now → next ≡ slice_set now done xs → Untouched (done + 1) first next
+pub untouched_next : {A : Type 0} (done : ℕ) (first now next : List (List A)) (xs : List A) → Untouched done first now → next ≡ slice_set now done xs
+    → Untouched (done + 1) first next
 untouched_next done first now next xs u e = record {
   many = ap length e ∙ length-set now done xs ∙ u.many;
   rest = λ q le. ap (λ l. list_at l q) e ∙ get_or-set_other now done q xs [] (λ d. omega (arith, d, le)) ∙ u.rest q (omega (arith, le));
@@ -25,7 +27,8 @@ take_list_more : {A : Type 0} (ls : List (List A)) (n : ℕ) → n < length ls �
 take_list_more ls n lt = take_more ls n [] lt
 
 -- one more list moved to others
-pub moved_next : {A : Type 0} (done : ℕ) (start queues queues' first now : List (List A)) (xs : List A) → done < length first → Untouched done first now → queues ≡ start ++ take done first → xs ≡ list_at now done → queues' ≡ queues ++ xs ∷ [] → queues' ≡ start ++ take (done + 1) first
+pub moved_next : {A : Type 0} (done : ℕ) (start queues queues' first now : List (List A)) (xs : List A) → done < length first → Untouched done first now
+    → queues ≡ start ++ take done first → xs ≡ list_at now done → queues' ≡ queues ++ xs ∷ [] → queues' ≡ start ++ take (done + 1) first
 moved_next done start queues queues' first now xs lt u q x e =
     e ∙ ap (λ l. l ++ xs ∷ []) q ∙ append_assoc start (take done first) (xs ∷ [])
     ∙ ap (λ (y : List _). start ++ (take done first ++ y ∷ [])) (x ∙ u.rest done (omega arith)) ∙ ap (λ l. start ++ l) (sym (take_list_more first done lt))
@@ -46,7 +49,8 @@ pub emptied : {A : Type 0} (first : List (List A)) → Emptied 0 first first
 emptied first = record { left = untouched first; nothing = λ q lt. absurd (omega (arith, lt)) }
 
 -- the list at a place was emptied
-pub emptied_next : {A : Type 0} (done : ℕ) (first now next : List (List A)) → Emptied done first now → done < length first → next ≡ slice_set now done [] → Emptied (done + 1) first next
+pub emptied_next : {A : Type 0} (done : ℕ) (first now next : List (List A)) → Emptied done first now → done < length first → next ≡ slice_set now done []
+    → Emptied (done + 1) first next
 emptied_next done first now next u lt e = record {
   left = untouched_next done first now next [] u.left e;
   nothing = λ q below. ap (λ l. list_at l q) e ∙ ⊎_elim
@@ -67,7 +71,8 @@ pub one_less : {A : Type 0} (items items' : List A) (x : A) → items ≡ items'
 one_less items items' x e = let l = ap length e ∙ length-append items' (x ∷ []) in omega (arith, l)
 
 -- the last item moved, and those that are left follow from the last to the first
-pub line_next : {A : Type 0} (line line' items items' all : List A) (x : A) → items ≡ items' ++ x ∷ [] → line' ≡ line ++ x ∷ [] → line ++ reverse items ≡ all → line' ++ reverse items' ≡ all
+pub line_next : {A : Type 0} (line line' items items' all : List A) (x : A) → items ≡ items' ++ x ∷ [] → line' ≡ line ++ x ∷ [] → line ++ reverse items ≡ all
+    → line' ++ reverse items' ≡ all
 line_next line line' items items' all x e l inv =
     ap (λ k. k ++ reverse items') l ∙ append_assoc line (x ∷ []) (reverse items')
     ∙ ap (λ k. line ++ k) (sym (ap reverse e ∙ reverse-append items' (x ∷ []))) ∙ inv

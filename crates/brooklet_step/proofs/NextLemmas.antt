@@ -1,5 +1,6 @@
 -- A firing of an operator, in the terms of the code.
-use Rattle.std.proofs.Common.{◌≡◌, ℕ, zero, suc, ℤ, ◌+◌, ◌<◌, ◌≤◌, false, Option, Some, List, [], ◌∷◌, length, map, refl, sym, ap, ◌∙◌, subst, arith, get_or, replicate}
+use Rattle.std.proofs.Common.{◌≡◌, ℕ, zero, suc, ℤ, ◌+◌, ◌<◌, ◌≤◌, false, Option, Some, List, [], ◌∷◌, length, map, refl, sym, ap, ◌∙◌, subst, arith, get_or}
+use Rattle.std.proofs.Common.{replicate}
 use Rattle.std.specs.Prelude.{All, min, slice_get, slice_set, slice_index_or}
 use Rattle.std.proofs.lemmas.List.{length-map, length-set}
 use Rattle.std.proofs.lemmas.Option.{slice_get_within, slice_get-get_or}
@@ -37,7 +38,8 @@ use Rattle.brooklet_step.proofs.ReadLemmas.{places_at, place_got, place_of, plac
 use Rattle.brooklet_step.proofs.StepLemmas.{can_take, item_held, next_parts, steps, goes_on, write_declared}
 
 -- the kernel of an operator in the lists of a plan
-pub kernel_at : (raw : RawPlan) (p : PlanForm) (o : ℕ) (d : Op) (op : OpForm) → plan_form raw ≡ p → slice_get p.ops o ≡ Some op → d ≡ get_or raw.ops o d → kern_of d.kernel ≡ op.kernel
+pub kernel_at : (raw : RawPlan) (p : PlanForm) (o : ℕ) (d : Op) (op : OpForm) → plan_form raw ≡ p → slice_get p.ops o ≡ Some op → d ≡ get_or raw.ops o d
+    → kern_of d.kernel ≡ op.kernel
 kernel_at raw p o d op v g e =
     let h : slice_get (op_forms raw.ops) o ≡ Some op = ap (λ (q : PlanForm). slice_get q.ops o) v ∙ g in
     let lt : o < length raw.ops = let l = length-map raw.ops op_form in let w = slice_get_within (op_forms raw.ops) o op h in omega (arith, l, w) in
@@ -52,10 +54,12 @@ op_there raw p o op v g =
 pub blank_by : (k k' : Kern) (n t : ℕ) (e : Emit) → k ≡ k' → n ≡ outs k → t ≡ tabs k → e.outs ≡ replicate n [] → e.adds ≡ replicate t [] → IsBlank k' e
 blank_by k k' n t e q en et o a = subst (λ j. IsBlank j e) q (record { outs = o ∙ ap (λ i. replicate i []) en; adds = a ∙ ap (λ i. replicate i []) et })
 
-pub fire_applies : (p : PlanForm) (o port : ℕ) (x : item.Item) (st : List State) (blank : Emit) (k : Kern) → (c : CanFire p o port x st) → k ≡ c.op.kernel → IsBlank c.op.kernel blank → CanTake k port x st blank
+pub fire_applies : (p : PlanForm) (o port : ℕ) (x : item.Item) (st : List State) (blank : Emit) (k : Kern) → (c : CanFire p o port x st) → k ≡ c.op.kernel
+    → IsBlank c.op.kernel blank → CanTake k port x st blank
 fire_applies p o port x st blank k c e b = subst (λ j. CanTake j port x st blank) (sym e) (c.applies blank b)
 
-pub fired_op : (p : PlanForm) (o port : ℕ) (x : item.Item) (st st' : List State) (blank out : Emit) (k : Kern) → (c : CanFire p o port x st) → k ≡ c.op.kernel → IsBlank c.op.kernel blank → FiresAt k port x blank out st st' → FiredOp p o port x st st' out
+pub fired_op : (p : PlanForm) (o port : ℕ) (x : item.Item) (st st' : List State) (blank out : Emit) (k : Kern) → (c : CanFire p o port x st) → k ≡ c.op.kernel
+    → IsBlank c.op.kernel blank → FiresAt k port x blank out st st' → FiredOp p o port x st st' out
 fired_op p o port x st st' blank out k c e b f = record {
   fired = λ op g.
       let same : c.op ≡ op = some_is c.op op (sym c.op_is ∙ g) in
@@ -64,11 +68,13 @@ fired_op p o port x st st' blank out k c e b f = record {
 }
 
 -- the lists are for the kernel that is found in the lists of a plan
-pub blank_found : (raw : RawPlan) (p : PlanForm) (o : ℕ) (d : Op) (e : Emit) → plan_form raw ≡ p → o < length p.ops → d ≡ get_or raw.ops o d → IsBlank (kern_of d.kernel) e → IsBlankOf p o e
+pub blank_found : (raw : RawPlan) (p : PlanForm) (o : ℕ) (d : Op) (e : Emit) → plan_form raw ≡ p → o < length p.ops → d ≡ get_or raw.ops o d
+    → IsBlank (kern_of d.kernel) e → IsBlankOf p o e
 blank_found raw p o d e v lt h b = record { blank = λ op g. subst (λ j. IsBlank j e) (kernel_at raw p o d op v g h) b }
 
 -- they are empty again after the operator fired and all was moved out
-pub blank_again : (p : PlanForm) (o port : ℕ) (x : item.Item) (st st' : List State) (out new : Emit) → FiredOp p o port x st st' out → new.outs ≡ replicate (length out.outs) [] → new.adds ≡ replicate (length out.adds) [] → IsBlankOf p o new
+pub blank_again : (p : PlanForm) (o port : ℕ) (x : item.Item) (st st' : List State) (out new : Emit) → FiredOp p o port x st st' out
+    → new.outs ≡ replicate (length out.outs) [] → new.adds ≡ replicate (length out.adds) [] → IsBlankOf p o new
 blank_again p o port x st st' out new f eo ea = record {
   blank = λ op g.
       let room = (f.fired op g).room in
@@ -78,10 +84,12 @@ blank_again p o port x st st' out new f eo ea = record {
 -- THE CONDITIONS OF THE CALLS
 
 -- the place of the queue of an enabled port
-pub enabled_place : (m : Parts) (o port n : ℕ) (ps : List ℕ) (e : IsEnabled m o port) → ps ≡ list_at (read_places m.plan) o → n ≡ slice_index_or ps port 0 → n ≡ place (queue_names m.plan) e.queue
+pub enabled_place : (m : Parts) (o port n : ℕ) (ps : List ℕ) (e : IsEnabled m o port) → ps ≡ list_at (read_places m.plan) o → n ≡ slice_index_or ps port 0
+    → n ≡ place (queue_names m.plan) e.queue
 enabled_place m o port n ps e pe ne = ne ∙ ap (λ (l : List ℕ). slice_index_or l port 0) pe ∙ place_of m.plan o port e.queue e.reads
 
-pub front_there : (m : Parts) (o port n : ℕ) (g : GoesOn m) (e : IsEnabled m o port) → n ≡ place (queue_names m.plan) e.queue → (n < length m.queues) × (0 < length (list_at m.queues n))
+pub front_there : (m : Parts) (o port n : ℕ) (g : GoesOn m) (e : IsEnabled m o port) → n ≡ place (queue_names m.plan) e.queue
+    → (n < length m.queues) × (0 < length (list_at m.queues n))
 front_there m o port n g e at =
     let b = place_in_queues m o port e.queue g e.reads in (
       subst (λ i. i < length m.queues) (sym at) b,
@@ -96,7 +104,8 @@ op_in m o port g e =
     (omega (arith, w, s), w, omega (arith, w, c))
 
 -- the item at the front is one that the operator can take
-pub can_fire : (m : Parts) (o port n : ℕ) (x : item.Item) (queues : List (List item.Item)) (st : List State) (g : GoesOn m) (e : IsEnabled m o port) → n ≡ place (queue_names m.plan) e.queue → IsFront m.queues n x queues → st ≡ list_at m.states o → CanFire m.plan o port x st
+pub can_fire : (m : Parts) (o port n : ℕ) (x : item.Item) (queues : List (List item.Item)) (st : List State) (g : GoesOn m) (e : IsEnabled m o port)
+    → n ≡ place (queue_names m.plan) e.queue → IsFront m.queues n x queues → st ≡ list_at m.states o → CanFire m.plan o port x st
 can_fire m o port n x queues st g e at hx es = record {
   op = e.reads.op;
   op_is = e.reads.op_is;
@@ -104,7 +113,9 @@ can_fire m o port n x queues st g e at hx es = record {
 }
 
 -- there are as many lists as queues to write, and the queues are there
-pub send_there : (m : Parts) (o port n : ℕ) (x : item.Item) (queues : List (List item.Item)) (st st' : List State) (out : Emit) (ws : List ℕ) (g : GoesOn m) (e : IsEnabled m o port) → IsFront m.queues n x queues → st ≡ list_at m.states o → FiredOp m.plan o port x st st' out → ws ≡ list_at (write_places m.plan) o → (length ws ≡ length out.outs) × ((j : ℕ) → j < length ws → slice_index_or ws j 0 < length queues)
+pub send_there : (m : Parts) (o port n : ℕ) (x : item.Item) (queues : List (List item.Item)) (st st' : List State) (out : Emit) (ws : List ℕ) (g : GoesOn m) (e : IsEnabled m o port)
+    → IsFront m.queues n x queues → st ≡ list_at m.states o → FiredOp m.plan o port x st st' out → ws ≡ list_at (write_places m.plan) o
+    → (length ws ≡ length out.outs) × ((j : ℕ) → j < length ws → slice_index_or ws j 0 < length queues)
 send_there m o port n x queues st st' out ws g e hx es f we =
     let op = e.reads.op in
     let names = queue_names m.plan in
@@ -138,7 +149,8 @@ rows_wide : (o : Option ℕ) (n : ℕ) (rows : List (List ℤ)) → o ≡ Some n
 rows_wide o n rows e a = subst (λ w. All (IsWide w) rows) e a
 
 -- there are as many lists of rows as tables among the operator's variables, and each has the width of its table
-pub add_there : (m : Parts) (o port n : ℕ) (x : item.Item) (less : List (List item.Item)) (st st' : List State) (out : Emit) (vs : List ℕ) (g : GoesOn m) (e : IsEnabled m o port) → n ≡ place (queue_names m.plan) e.queue → IsFront m.queues n x less
+pub add_there : (m : Parts) (o port n : ℕ) (x : item.Item) (less : List (List item.Item)) (st st' : List State) (out : Emit) (vs : List ℕ) (g : GoesOn m) (e : IsEnabled m o port)
+    → n ≡ place (queue_names m.plan) e.queue → IsFront m.queues n x less
     → st ≡ list_at m.states o → FiredOp m.plan o port x st st' out → vs ≡ list_at (var_places m.plan) o
     → (length (table_places (length m.tables) vs) ≤ length out.adds) × AreFor m.tables (table_places (length m.tables) vs) out.adds
 add_there m o port n x less st st' out vs g e at hx es f ve =
@@ -180,7 +192,8 @@ pub record Next (m m' : Parts) (o port : ℕ) : Type 0 where
 
 pub next : (m : Parts) (o port n : ℕ) (x : item.Item) (st st' : List State) (out : Emit) (ws : List ℕ) (less queues : List (List item.Item)) (vs cs : List ℕ) (ts : List Kept) (g : GoesOn m) (e : IsEnabled m o port)
     → n ≡ place (queue_names m.plan) e.queue → IsFront m.queues n x less
-    → st ≡ list_at m.states o → FiredOp m.plan o port x st st' out → ws ≡ list_at (write_places m.plan) o → queues ≡ each_grew less (joined_at ws (list_at out.outs)) → cs ≡ slice_set m.counts o (min most_firings (slice_index_or m.counts o 0 + 1))
+    → st ≡ list_at m.states o → FiredOp m.plan o port x st st' out → ws ≡ list_at (write_places m.plan) o
+    → queues ≡ each_grew less (joined_at ws (list_at out.outs)) → cs ≡ slice_set m.counts o (min most_firings (slice_index_or m.counts o 0 + 1))
     → vs ≡ list_at (var_places m.plan) o → ts ≡ each_added m.tables (joined_at (table_places (length m.tables) vs) (list_at out.adds))
     → Next m (record { plan = m.plan; queues = queues; tables = ts; states = slice_set m.states o st'; counts = cs; stopped = false }) o port
 next m o port n x st st' out ws less queues vs cs ts g e at hx es f we eq ec ve et =

@@ -1,5 +1,6 @@
 -- Queues by name and by place.
-use Rattle.std.proofs.Common.{◌≡◌, ℕ, suc, ◌+◌, ◌<◌, ◌≤◌, true, false, Some, List, [], ◌∷◌, ◌++◌, length, take, drop, map, refl, sym, ap, ◌∙◌, arith, nat_eq, ⊎_elim, append_assoc}
+use Rattle.std.proofs.Common.{◌≡◌, ℕ, suc, ◌+◌, ◌<◌, ◌≤◌, true, false, Some, List, [], ◌∷◌, ◌++◌, length, take, drop, map, refl, sym, ap, ◌∙◌, arith, nat_eq}
+use Rattle.std.proofs.Common.{⊎_elim, append_assoc}
 use Rattle.std.specs.Prelude.{if◌then◌else◌, slice_get, slice_index_or}
 use Rattle.std.proofs.lemmas.Bool.{cases_eq}
 use Rattle.std.proofs.lemmas.List.{append-nil, take_more, length-take-le, drop_more}
@@ -40,7 +41,9 @@ joined_at-more (v ∷ ws) w f q =
     ∙ sym (append_assoc (if nat_eq v q then f 0 else []) (joined_at ws (λ j. f (suc j)) q) (only w (f (suc (length ws))) q))
 
 -- a step of the loop that sends
-pub send_step : {A : Type 0} (to : List ℕ) (f : ℕ → List A) (n : ℕ) (start now new : List (List A)) (xs : List A) → n < length to → now ≡ each_grew start (joined_at (take n to) f) → xs ≡ f n → new ≡ append_at now (slice_index_or to n 0) xs → new ≡ each_grew start (joined_at (take (n + 1) to) f)
+pub send_step : {A : Type 0} (to : List ℕ) (f : ℕ → List A) (n : ℕ) (start now new : List (List A)) (xs : List A) → n < length to
+    → now ≡ each_grew start (joined_at (take n to) f) → xs ≡ f n → new ≡ append_at now (slice_index_or to n 0) xs
+    → new ≡ each_grew start (joined_at (take (n + 1) to) f)
 send_step to f n start now new xs lt en ex e =
     let w = slice_index_or to n 0 in
     let more : take (n + 1) to ≡ take n to ++ w ∷ [] = take_more to n 0 lt in
@@ -59,14 +62,16 @@ joined_cong_below (w ∷ ws) f g q h =
     ap (λ l. (if name_eq w q then l else []) ++ joined ws (λ j. f (suc j)) q) (h 0 (omega arith))
     ∙ ap (λ l. (if name_eq w q then g 0 else []) ++ l) (joined_cong_below ws (λ j. f (suc j)) (λ j. g (suc j)) q (λ j lt. h (suc j) (omega (arith, lt))))
 
-same_choice : {A : Type 0} (names : List Name) (w q : Name) (x y : A) → 0 < count w names → 0 < count q names → (if nat_eq (place names w) (place names q) then x else y) ≡ (if name_eq w q then x else y)
+same_choice : {A : Type 0} (names : List Name) (w q : Name) (x y : A) → 0 < count w names → 0 < count q names
+    → (if nat_eq (place names w) (place names q) then x else y) ≡ (if name_eq w q then x else y)
 same_choice names w q x y lw lq = ⊎_elim
     (λ c. if_eq (place names w) (place names q) x y (ap (place names) c.0) ∙ sym (if_true (name_eq w q) x y c.1))
     (λ c. if_ne (place names w) (place names q) x y (λ e. c.0 (place_apart names w q lw lq e)) ∙ sym (if_false (name_eq w q) x y c.1))
     (cases_name w q)
 
 -- by place and by name the same comes to a queue
-pub joined_places : {A : Type 0} (names ws : List Name) (f : ℕ → List A) (q : Name) → ((w : Name) → 0 < count w ws → 0 < count w names) → 0 < count q names → joined_at (places names ws) f (place names q) ≡ joined ws f q
+pub joined_places : {A : Type 0} (names ws : List Name) (f : ℕ → List A) (q : Name) → ((w : Name) → 0 < count w ws → 0 < count w names) → 0 < count q names
+    → joined_at (places names ws) f (place names q) ≡ joined ws f q
 joined_places names [] f q h lq = refl
 joined_places names (w ∷ ws) f q h lq =
     let lw : 0 < count w names = h w (let e = ap one_if (name_same w) in omega (arith, e)) in
@@ -76,7 +81,9 @@ joined_places names (w ∷ ws) f q h lq =
 -- LISTS IN ORDER
 
 -- the lists of names that stand one after another
-pub lists_in_order : {A : Type 0} (names : List Name) (ls : List (List A)) (ws : List Name) (n : ℕ) → ((i : ℕ) (q : Name) → slice_get ws i ≡ Some q → place names q ≡ n + i) → n + length ws ≤ length ls → map (λ q. list_at ls (place names q)) ws ≡ take (length ws) (drop n ls)
+pub lists_in_order : {A : Type 0} (names : List Name) (ls : List (List A)) (ws : List Name) (n : ℕ)
+    → ((i : ℕ) (q : Name) → slice_get ws i ≡ Some q → place names q ≡ n + i) → n + length ws ≤ length ls
+    → map (λ q. list_at ls (place names q)) ws ≡ take (length ws) (drop n ls)
 lists_in_order names ls [] n h le = refl
 lists_in_order names ls (w ∷ ws) n h le =
     let at : place names w ≡ n = h 0 w refl ∙ omega arith in

@@ -25,8 +25,10 @@ op_at (op ∷ ops) zero lt = (op, refl)
 op_at (op ∷ ops) (suc o) lt = op_at ops o (omega (arith, lt))
 
 -- the places of what an operator reads, or writes
-pub places_at : (f : OpForm → List Name) (names : List Name) (ops : List OpForm) (o : ℕ) (op : OpForm) → slice_get ops o ≡ Some op → list_at (map (λ d. places names (f d)) ops) o ≡ places names (f op)
-places_at f names ops o op g = get_or_from_slice_get (map (λ d. places names (f d)) ops) o (places names (f op)) [] (got_map (λ d. places names (f d)) ops o op g)
+pub places_at : (f : OpForm → List Name) (names : List Name) (ops : List OpForm) (o : ℕ) (op : OpForm) → slice_get ops o ≡ Some op
+    → list_at (map (λ d. places names (f d)) ops) o ≡ places names (f op)
+places_at f names ops o op g =
+    get_or_from_slice_get (map (λ d. places names (f d)) ops) o (places names (f op)) [] (got_map (λ d. places names (f d)) ops o op g)
 
 pub place_got : (names qs : List Name) (port : ℕ) (q : Name) → slice_get qs port ≡ Some q → slice_index_or (places names qs) port 0 ≡ place names q
 place_got names qs port q g = get_or_from_slice_get (places names qs) port (place names q) 0 (got_map (place names) qs port q g)
@@ -58,7 +60,8 @@ pub ops_many : (raw : RawPlan) (p : PlanForm) → plan_form raw ≡ p → length
 ops_many raw p e = sym (length-map raw.ops op_form) ∙ ap (λ (x : PlanForm). length x.ops) e
 
 -- where the place is found
-pub found_place : (m : Parts) (o port n : ℕ) → GoesOn m → o < length m.plan.ops → port < length (list_at (read_places m.plan) o) → n ≡ slice_index_or (list_at (read_places m.plan) o) port 0 → IsPlaceOf m o port n
+pub found_place : (m : Parts) (o port n : ℕ) → GoesOn m → o < length m.plan.ops → port < length (list_at (read_places m.plan) o)
+    → n ≡ slice_index_or (list_at (read_places m.plan) o) port 0 → IsPlaceOf m o port n
 found_place m o port n g lo lp e =
     let w = op_at m.plan.ops o lo in
     let k = ap length (places_at (λ d. d.reads) (queue_names m.plan) m.plan.ops o w.0 w.1) ∙ length-map w.0.reads (place (queue_names m.plan)) in
@@ -81,7 +84,8 @@ same_queue p o port q q' r r' =
     some_is q q' (sym r.queue_is ∙ ap (λ (d : OpForm). slice_get d.reads port) e ∙ r'.queue_is)
 
 -- whether something waits there
-pub enabled_by : (m : Parts) (o port n w : ℕ) (b : Bool) → m.stopped ≡ false → IsPlaceOf m o port n → w ≡ length (list_at m.queues n) → (IsTrue b → 0 < w) × (0 < w → IsTrue b) → (IsTrue b → IsEnabled m o port) × (IsEnabled m o port → IsTrue b)
+pub enabled_by : (m : Parts) (o port n w : ℕ) (b : Bool) → m.stopped ≡ false → IsPlaceOf m o port n → w ≡ length (list_at m.queues n)
+    → (IsTrue b → 0 < w) × (0 < w → IsTrue b) → (IsTrue b → IsEnabled m o port) × (IsEnabled m o port → IsTrue b)
 enabled_by m o port n w b run pl e t =
     let names = queue_names m.plan in
     let h : w ≡ length (queue_of m pl.queue) = subst (λ i. w ≡ length (list_at m.queues i)) pl.place_is e in (

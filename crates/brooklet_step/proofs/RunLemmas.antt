@@ -1,5 +1,6 @@
 -- A run in the order of the operators is complete.
-use Rattle.std.proofs.Common.{◌≡◌, ℕ, ℤ, pos, zero, suc, ◌+◌, ◌-◌, ◌<◌, ◌≤◌, false, Some, List, [], ◌∷◌, ◌++◌, length, take, drop, map, refl, sym, ap, ◌∙◌, subst, arith, get_or, ⊎_elim, length-append, length-drop}
+use Rattle.std.proofs.Common.{◌≡◌, ℕ, ℤ, pos, zero, suc, ◌+◌, ◌-◌, ◌<◌, ◌≤◌, false, Some, List, [], ◌∷◌, ◌++◌, length, take, drop, map, refl, sym, ap, ◌∙◌}
+use Rattle.std.proofs.Common.{subst, arith, get_or, ⊎_elim, length-append, length-drop}
 use Rattle.std.specs.Prelude.{All, min, slice_get, unwrap_or}
 use Rattle.std.proofs.lemmas.Bool.{cases_lt}
 use Rattle.std.proofs.lemmas.List.{append-nil, length-map}
@@ -43,20 +44,23 @@ use Rattle.brooklet_step.proofs.StepLemmas.{run_next, read_declared}
 -- THE ORDER OF THE OPERATORS
 
 -- no operator writes what it or one before it reads
-pub no_later : (q : Name) (ops : List OpForm) (known : Name → ℕ) (o' o : ℕ) (op' op : OpForm) → ReadsBefore known ops → known q + total (writes_it q) ops ≤ 1 → slice_get ops o' ≡ Some op' → slice_get ops o ≡ Some op → o' ≤ o → 0 < count q op'.reads → count q op.writes ≡ 0
+pub no_later : (q : Name) (ops : List OpForm) (known : Name → ℕ) (o' o : ℕ) (op' op : OpForm) → ReadsBefore known ops → known q + total (writes_it q) ops ≤ 1
+    → slice_get ops o' ≡ Some op' → slice_get ops o ≡ Some op → o' ≤ o → 0 < count q op'.reads → count q op.writes ≡ 0
 no_later q [] known o' o op' op r once g' g le lt = absurd (cc g)
 no_later q (a ∷ ops) known zero o op' op r once g' g le lt =
     let k = r.0 q (subst (λ (d : OpForm). 0 < count q d.reads) (sym (some_is a op' g')) lt) in
     let m = at_most (writes_it q) (a ∷ ops) o op g in
     omega (arith, k, m, once)
 no_later q (a ∷ ops) known (suc o') zero op' op r once g' g le lt = absurd (omega (arith, le))
-no_later q (a ∷ ops) known (suc o') (suc o) op' op r once g' g le lt = no_later q ops (and_writes known a) o' o op' op r.1 (omega (arith, once)) g' g (omega (arith, le)) lt
+no_later q (a ∷ ops) known (suc o') (suc o) op' op r once g' g le lt =
+    no_later q ops (and_writes known a) o' o op' op r.1 (omega (arith, once)) g' g (omega (arith, le)) lt
 
 -- WHAT A STEP LEAVES
 
 -- as many items are left as were put and not taken
 left_length : (m : Parts) (s : Machine) → Stands m s → (q : Name) → 0 < count q (queue_names m.plan) → length (queue_of m q) ≡ length (s.hist q) - s.taken q
-left_length m s h q lt = ap length (h.left q lt) ∙ length-drop (s.taken q) (held (kinds_of m q) [] (s.hist q)) ∙ ap (λ n. n - s.taken q) (length-held (kinds_of m q) [] (s.hist q))
+left_length m s h q lt =
+    ap length (h.left q lt) ∙ length-drop (s.taken q) (held (kinds_of m q) [] (s.hist q)) ∙ ap (λ n. n - s.taken q) (length-held (kinds_of m q) [] (s.hist q))
 
 taken_more : (k : Name) (q : Name) (f : Name → ℕ) → f q ≤ at_name k (f k + 1) f q
 taken_more k q f = ⊎_elim
@@ -65,7 +69,8 @@ taken_more k q f = ⊎_elim
     (cases_name k q)
 
 -- what operators up to this one read stays as it is
-hist_stays : (p : PlanForm) → IsPlan p → (s s' : Machine) (o port o' port' : ℕ) (q : Name) → Step p s o port s' → ReadsAt p o' port' q → o' ≤ o → s'.hist q ≡ s.hist q
+hist_stays : (p : PlanForm) → IsPlan p → (s s' : Machine) (o port o' port' : ℕ) (q : Name) → Step p s o port s' → ReadsAt p o' port' q → o' ≤ o
+    → s'.hist q ≡ s.hist q
 hist_stays p v s s' o port o' port' q st r le =
     let w = no_later q p.ops (λ n. count n (decl_names p.inputs)) o' o r.op st.op v.in_order (v.written_once q) r.op_is st.op_is le (got_count r.op.reads port' q r.queue_is) in
     ap (λ (x : Machine). x.hist q) st.after
@@ -93,7 +98,8 @@ follows_step m m' o port v st = record {
       record {
         events = r.events ++ (o, port) ∷ [];
         state = a.state;
-        run = subst (λ (x : PlanForm). Run x (start x inputs) (r.events ++ (o, port) ∷ []) a.state) (sym st.plan) (run_next m.plan (start m.plan inputs) r.state a.state r.events o port r.run a.step);
+        run =
+            subst (λ (x : PlanForm). Run x (start x inputs) (r.events ++ (o, port) ∷ []) a.state) (sym st.plan) (run_next m.plan (start m.plan inputs) r.state a.state r.events o port r.run a.step);
         stands = a.stands;
         counts = st.counts r.events r.counts;
       };
@@ -129,7 +135,8 @@ one_taken : (k : Name) (f : Name → ℕ) → at_name k (f k + 1) f k ≡ f k + 
 one_taken k f = ⊎_elim (λ c. if_true (name_eq k k) (f k + 1) (f k) c.1) (λ c. absurd (c.0 refl)) (cases_name k k)
 
 -- each step leaves one less
-pub step_less : (m m' : Parts) (o port : ℕ) (inputs : List (List item.Item)) → IsPlan m.plan → Ran m inputs → IsEnabled m o port → Steps m m' o port → left_at m' o port < left_at m o port
+pub step_less : (m m' : Parts) (o port : ℕ) (inputs : List (List item.Item)) → IsPlan m.plan → Ran m inputs → IsEnabled m o port → Steps m m' o port
+    → left_at m' o port < left_at m o port
 step_less m m' o port inputs v r e st =
     let a = st.each r.state r.stands in
     let q = e.queue in
@@ -150,7 +157,8 @@ step_less m m' o port inputs v r e st =
     omega (arith, s, t, h, h', l, l', i)
 
 pub not_enabled_drained : (m : Parts) (o port : ℕ) → m.stopped ≡ false → (IsEnabled m o port → ⊥) → IsDrained m o port
-not_enabled_drained m o port run idle q r = ⊎_elim (λ lt. absurd (idle (record { running = run; queue = q; reads = r; item = lt }))) (λ z. z) (more_or_zero (length (queue_of m q)))
+not_enabled_drained m o port run idle q r =
+    ⊎_elim (λ lt. absurd (idle (record { running = run; queue = q; reads = r; item = lt }))) (λ z. z) (more_or_zero (length (queue_of m q)))
 
 -- TURNS
 
@@ -179,7 +187,8 @@ drained_after m m' m'' o f b = record {
 pub before_none : (m : Parts) → m.stopped ≡ false → DrainedBefore m m 0
 before_none m e = record { plan = refl; running = e; ran = λ inputs r. r; drained = λ inputs r o' port' lt. absurd (omega (arith, lt)) }
 
-pub before_next : (m m' m'' : Parts) (o ports : ℕ) (op : OpForm) → DrainedBefore m m' o → Follows m' m'' o → slice_get m''.plan.ops o ≡ Some op → length op.reads ≤ ports → ((port : ℕ) → port < ports → IsDrained m'' o port) → DrainedBefore m m'' (o + 1)
+pub before_next : (m m' m'' : Parts) (o ports : ℕ) (op : OpForm) → DrainedBefore m m' o → Follows m' m'' o → slice_get m''.plan.ops o ≡ Some op
+    → length op.reads ≤ ports → ((port : ℕ) → port < ports → IsDrained m'' o port) → DrainedBefore m m'' (o + 1)
 before_next m m' m'' o ports op b f g many d = record {
   plan = f.plan ∙ b.plan;
   running = f.running;
@@ -198,7 +207,8 @@ before_next m m' m'' o ports op b f g many d = record {
 -- THE END
 
 -- a machine whose ports are all drained is complete
-pub complete : (m : Parts) (inputs : List (List item.Item)) → IsPlan m.plan → (r : Ran m inputs) → ((o port : ℕ) → IsDrained m o port) → IsComplete m.plan r.state
+pub complete : (m : Parts) (inputs : List (List item.Item)) → IsPlan m.plan → (r : Ran m inputs) → ((o port : ℕ) → IsDrained m o port)
+    → IsComplete m.plan r.state
 complete m inputs v r d o port op q g y =
     let u : ReadsAt m.plan o port q = record { op = op; op_is = g; queue_is = y } in
     let k = read_declared m.plan v o port q u in
@@ -223,7 +233,8 @@ pub plan_valid : (p q : PlanForm) → p ≡ q → IsPlan q → IsPlan p
 plan_valid p q e v = subst IsPlan (sym e) v
 
 -- one port more is drained
-pub drained_next : (m0 m m' : Parts) (o n : ℕ) → HasRun m0 → Follows m0 m o → Follows m m' o → ((port : ℕ) → port < n → IsDrained m o port) → IsDrained m' o n → (port : ℕ) → port < n + 1 → IsDrained m' o port
+pub drained_next : (m0 m m' : Parts) (o n : ℕ) → HasRun m0 → Follows m0 m o → Follows m m' o → ((port : ℕ) → port < n → IsDrained m o port) → IsDrained m' o n
+    → (port : ℕ) → port < n + 1 → IsDrained m' o port
 drained_next m0 m m' o n r f g d last port lt = ⊎_elim
     (λ below. g.drained r.inputs (f.ran r.inputs r.ran) o port (omega arith) (d port below))
     (λ ge. subst (IsDrained m' o) (let e : n ≡ port = omega (arith, lt, ge) in e) last)
@@ -239,22 +250,27 @@ ops_few raw p e v = (
 
 ports_few : (ops : List OpForm) (o : ℕ) (op : OpForm) → All (λ n. n ≤ 64) (port_numbers ops) → slice_get ops o ≡ Some op → length op.reads ≤ 64
 ports_few [] o op a g = absurd (cc g)
-ports_few (d ∷ ops) zero op a g = subst (λ (x : OpForm). length x.reads ≤ 64) (some_is d op g) (All-head (λ n. n ≤ 64) (length d.reads) (length d.writes ∷ port_numbers ops) a)
-ports_few (d ∷ ops) (suc o) op a g = ports_few ops o op (All-tail (λ n. n ≤ 64) (length d.writes) (port_numbers ops) (All-tail (λ n. n ≤ 64) (length d.reads) (length d.writes ∷ port_numbers ops) a)) g
+ports_few (d ∷ ops) zero op a g =
+    subst (λ (x : OpForm). length x.reads ≤ 64) (some_is d op g) (All-head (λ n. n ≤ 64) (length d.reads) (length d.writes ∷ port_numbers ops) a)
+ports_few (d ∷ ops) (suc o) op a g =
+    ports_few ops o op (All-tail (λ n. n ≤ 64) (length d.writes) (port_numbers ops) (All-tail (λ n. n ≤ 64) (length d.reads) (length d.writes ∷ port_numbers ops) a)) g
 
 pub record PortsAt (p : PlanForm) (o n : ℕ) : Type 0 where
   pub ports : HasPorts p o n
   pub few : n ≤ 64
 
-pub ports_at : (raw : RawPlan) (p : PlanForm) (o n : ℕ) (d : Op) → plan_form raw ≡ p → IsPlan p → o < length raw.ops → d ≡ get_or raw.ops o d → n ≡ length d.reads → PortsAt p o n
+pub ports_at : (raw : RawPlan) (p : PlanForm) (o n : ℕ) (d : Op) → plan_form raw ≡ p → IsPlan p → o < length raw.ops → d ≡ get_or raw.ops o d
+    → n ≡ length d.reads → PortsAt p o n
 ports_at raw p o n d e v lt de ne =
     let s : slice_get raw.ops o ≡ Some d = slice_get-get_or raw.ops o d lt ∙ ap Some (sym de) in
     let g : slice_get p.ops o ≡ Some (op_form d) = sym (ap (λ (x : PlanForm). slice_get x.ops o) e) ∙ got_map op_form raw.ops o d s in
     let f = ports_few p.ops o (op_form d) (v.within Ports) g in
     record { ports = record { op = op_form d; op_is = g; many = ne }; few = omega (arith, f, ne) }
 
-pub all_next : (m0 m m' : Parts) (p : PlanForm) (o n : ℕ) → m0.plan ≡ p → DrainedBefore m0 m o → Follows m m' o → HasPorts p o n → ((port : ℕ) → port < n → IsDrained m' o port) → DrainedBefore m0 m' (o + 1)
-all_next m0 m m' p o n e b f h d = before_next m0 m m' o n h.op b f (ap (λ (x : PlanForm). slice_get x.ops o) (f.plan ∙ b.plan ∙ e) ∙ h.op_is) (let k = h.many in omega (arith, k)) d
+pub all_next : (m0 m m' : Parts) (p : PlanForm) (o n : ℕ) → m0.plan ≡ p → DrainedBefore m0 m o → Follows m m' o → HasPorts p o n
+    → ((port : ℕ) → port < n → IsDrained m' o port) → DrainedBefore m0 m' (o + 1)
+all_next m0 m m' p o n e b f h d =
+    before_next m0 m m' o n h.op b f (ap (λ (x : PlanForm). slice_get x.ops o) (f.plan ∙ b.plan ∙ e) ∙ h.op_is) (let k = h.many in omega (arith, k)) d
 
 -- WHAT A COMPLETE RUN GIVES
 
@@ -262,7 +278,8 @@ same_by : (xs ys : List ℤ) → length xs ≡ length ys → ((o : ℕ) → o < 
 same_by [] [] e h = refl
 same_by [] (y ∷ ys) e h = absurd (omega (arith, e))
 same_by (x ∷ xs) [] e h = absurd (omega (arith, e))
-same_by (x ∷ xs) (y ∷ ys) e h = ap (λ z. z ∷ xs) (h 0 (omega arith)) ∙ ap (λ l. y ∷ l) (same_by xs ys (omega (arith, e)) (λ o lt. h (suc o) (omega (arith, lt))))
+same_by (x ∷ xs) (y ∷ ys) e h =
+    ap (λ z. z ∷ xs) (h 0 (omega arith)) ∙ ap (λ l. y ∷ l) (same_by xs ys (omega (arith, e)) (λ o lt. h (suc o) (omega (arith, lt))))
 
 map_on : {B : Type 0} (f g : Name → B) (ws : List Name) → ((i : ℕ) (q : Name) → slice_get ws i ≡ Some q → f q ≡ g q) → map f ws ≡ map g ws
 map_on f g [] h = refl
@@ -279,7 +296,8 @@ output_unread : (p : PlanForm) → IsPlan p → (i : ℕ) (q : Name) → slice_g
 output_unread p v i q g = let c = got_count (decl_names p.outputs) i q g in let o = v.read_once q in omega (arith, c, o)
 
 -- the first lists are those of the outputs
-pub outs_taken : (m : Parts) (raw : RawPlan) (n : ℕ) (outs : List (List item.Item)) → GoesOn m → plan_form raw ≡ m.plan → n ≡ length raw.outputs → outs ≡ take n m.queues → outs ≡ map (queue_of m) (decl_names m.plan.outputs)
+pub outs_taken : (m : Parts) (raw : RawPlan) (n : ℕ) (outs : List (List item.Item)) → GoesOn m → plan_form raw ≡ m.plan → n ≡ length raw.outputs
+    → outs ≡ take n m.queues → outs ≡ map (queue_of m) (decl_names m.plan.outputs)
 outs_taken m raw n outs g e ne t =
     let ws = decl_names m.plan.outputs in
     let rest = decl_names m.plan.inputs ++ decl_names m.plan.queues in

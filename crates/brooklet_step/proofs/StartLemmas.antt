@@ -1,5 +1,6 @@
 -- A machine before its first firing.
-use Rattle.std.proofs.Common.{◌≡◌, ℕ, zero, suc, ◌+◌, ◌<◌, false, Some, List, [], ◌∷◌, ◌++◌, length, take, map, refl, sym, ap, ◌∙◌, subst, arith, get_or, replicate, length-append, ⊎_elim}
+use Rattle.std.proofs.Common.{◌≡◌, ℕ, zero, suc, ◌+◌, ◌<◌, false, Some, List, [], ◌∷◌, ◌++◌, length, take, map, refl, sym, ap, ◌∙◌, subst, arith, get_or}
+use Rattle.std.proofs.Common.{replicate, length-append, ⊎_elim}
 use Rattle.std.specs.Prelude.{All, min, slice_get, slice_index_or}
 use Rattle.std.proofs.Math.ListN.{get_or-append}
 use Rattle.std.proofs.lemmas.Bool.{cases_lt}
@@ -54,7 +55,8 @@ got_last [] x (suc n) e = absurd (omega (arith, e))
 got_last (y ∷ ys) x zero e = absurd (omega (arith, e))
 got_last (y ∷ ys) x (suc n) e = got_last ys x n (omega (arith, e))
 
-first_more : (ops : List OpForm) (op : OpForm) (states : List (List State)) (st : List State) → AreFirst ops states → IsFirst op.kernel st → AreFirst (ops ++ op ∷ []) (states ++ st ∷ [])
+first_more : (ops : List OpForm) (op : OpForm) (states : List (List State)) (st : List State) → AreFirst ops states → IsFirst op.kernel st
+    → AreFirst (ops ++ op ∷ []) (states ++ st ∷ [])
 first_more ops op states st f h =
     let c = f.count in
     let ls = length-append states (st ∷ []) in
@@ -77,7 +79,8 @@ first_more ops op states st f h =
 pub first_none : AreFirst [] []
 first_none = record { count = refl; stand = λ o op g. absurd (cc g) }
 
-map_more : {A B : Type 0} (f : A → B) (xs : List A) (i : ℕ) (x : A) → i < length xs → x ≡ get_or xs i x → map f (take (i + 1) xs) ≡ map f (take i xs) ++ f x ∷ []
+map_more : {A B : Type 0} (f : A → B) (xs : List A) (i : ℕ) (x : A) → i < length xs → x ≡ get_or xs i x
+    → map f (take (i + 1) xs) ≡ map f (take i xs) ++ f x ∷ []
 map_more f xs i x lt e = ap (map f) (take_more xs i x lt ∙ ap (λ y. take i xs ++ y ∷ []) (sym e)) ∙ over (take i xs)
   where
     over : (ys : List _) → map f (ys ++ x ∷ []) ≡ map f ys ++ f x ∷ []
@@ -85,7 +88,8 @@ map_more f xs i x lt e = ap (map f) (take_more xs i x lt ∙ ap (λ y. take i xs
     over (y ∷ ys) = ap (λ l. f y ∷ l) (over ys)
 
 -- a step of the loop that makes them
-pub first_next : (ops : List Op) (i : ℕ) (d : Op) (states states' : List (List State)) (st : List State) → i < length ops → d ≡ get_or ops i d → AreFirst (op_forms (take i ops)) states → IsFirst (kern_of d.kernel) st → states' ≡ states ++ st ∷ [] → AreFirst (op_forms (take (i + 1) ops)) states'
+pub first_next : (ops : List Op) (i : ℕ) (d : Op) (states states' : List (List State)) (st : List State) → i < length ops → d ≡ get_or ops i d
+    → AreFirst (op_forms (take i ops)) states → IsFirst (kern_of d.kernel) st → states' ≡ states ++ st ∷ [] → AreFirst (op_forms (take (i + 1) ops)) states'
 first_next ops i d states states' st lt e f h n =
     subst (λ (l : List OpForm). AreFirst l states') (sym (map_more op_form ops i d lt e))
     (subst (AreFirst (op_forms (take i ops) ++ op_form d ∷ [])) (sym n) (first_more (op_forms (take i ops)) (op_form d) states st f h))
@@ -98,7 +102,8 @@ can_start_at ops i d c lt e =
 
 pub can_start : (p : PlanForm) → IsPlan p → CanStart p.ops
 can_start p v = record {
-  formed = λ o op g. record { reads = map (kind_of (all_decls p)) op.reads; writes = map (kind_of (all_decls p)) op.writes; vars = map (var_kind p.tables p.vars) op.vars; fits = op_fits p v o op g };
+  formed =
+      λ o op g. record { reads = map (kind_of (all_decls p)) op.reads; writes = map (kind_of (all_decls p)) op.writes; vars = map (var_kind p.tables p.vars) op.vars; fits = op_fits p v o op g };
 }
 
 -- THE FIRST QUEUES
@@ -151,8 +156,11 @@ module _ (p : PlanForm) (v : IsPlan p) (inputs : List (List item.Item)) (fit : F
       let f = length-map p.queues (λ (x : Decl). x.name) in
       omega (arith, a, b, c, d, e, f, before, many)
 
-  past : (q : Name) (k : ℕ) → count q outs_n ≡ 0 → place (queue_names p) q ≡ length outs_n + k → list_at first_queues (place (queue_names p) q) ≡ list_at (inputs ++ replicate (length p.queues) []) k
-  past q k z e = ap (list_at first_queues) (e ∙ ap (λ n. n + k) (sym before)) ∙ get_or-append-add (replicate {A = List item.Item} (length p.outputs) []) (inputs ++ replicate (length p.queues) []) k []
+  past : (q : Name) (k : ℕ) → count q outs_n ≡ 0 → place (queue_names p) q ≡ length outs_n + k
+      → list_at first_queues (place (queue_names p) q) ≡ list_at (inputs ++ replicate (length p.queues) []) k
+  past q k z e =
+      ap (list_at first_queues) (e ∙ ap (λ n. n + k) (sym before))
+      ∙ get_or-append-add (replicate {A = List item.Item} (length p.outputs) []) (inputs ++ replicate (length p.queues) []) k []
 
   pub first_hist : (q : Name) → 0 < count q (queue_names p) → inputs_of ins_n (list_at inputs) q ≡ list_at first_queues (place (queue_names p) q)
   first_hist q lt =
@@ -191,8 +199,10 @@ pub record First (p : PlanForm) (inputs : List (List item.Item)) (m : Parts) : T
   pub starts : Starts p inputs m
   pub goes_on : GoesOn m
 
-pub first : (p pl : PlanForm) (inputs queues : List (List item.Item)) (cs : List ℕ) (states : List (List State)) (tables : List Kept) → IsPlan p → Fit p inputs → pl ≡ p
-    → queues ≡ replicate (length p.outputs) [] ++ (inputs ++ replicate (length p.queues) []) → AreFirst p.ops states → cs ≡ replicate (length p.ops) 0 → tables ≡ kept_tables p.tables (λ n. [])
+pub first : (p pl : PlanForm) (inputs queues : List (List item.Item)) (cs : List ℕ) (states : List (List State)) (tables : List Kept) → IsPlan p → Fit p inputs
+    → pl ≡ p
+    → queues ≡ replicate (length p.outputs) [] ++ (inputs ++ replicate (length p.queues) []) → AreFirst p.ops states → cs ≡ replicate (length p.ops) 0
+    → tables ≡ kept_tables p.tables (λ n. [])
     → First p inputs (record { plan = pl; queues = queues; tables = tables; states = states; counts = cs; stopped = false })
 first p pl inputs queues cs states tables v fit pe qe f ce te =
     let m : Parts = record { plan = p; queues = queues; tables = tables; states = states; counts = cs; stopped = false } in
@@ -224,7 +234,8 @@ first p pl inputs queues cs states tables v fit pe qe f ce te =
           counts = ap length ce ∙ length-replicate (length p.ops) 0;
         };
         fit = λ o op g. (f.stand o op g).again (map kinds op.reads) (map kinds op.writes) (map (var_kind p.tables p.vars) op.vars) (op_fits p v o op g);
-        items = λ q lt. subst (λ (l : List item.Item). All (IsHeld (kinds q)) l) (sym (hist_is q lt)) (all_are_held (kinds q) (inputs_of (decl_names p.inputs) (list_at inputs) q) (all_typed q));
+        items =
+            λ q lt. subst (λ (l : List item.Item). All (IsHeld (kinds q)) l) (sym (hist_is q lt)) (all_are_held (kinds q) (inputs_of (decl_names p.inputs) (list_at inputs) q) (all_typed q));
         inputs = inputs;
         typed = fit.typed;
         ran = record { events = []; state = start p inputs; run = refl; stands = stands; counts = cs_are };
@@ -232,8 +243,10 @@ first p pl inputs queues cs states tables v fit pe qe f ce te =
     })
 
 -- the same in the terms of the code
-pub first_by : (raw : RawPlan) (p pl : PlanForm) (inputs queues : List (List item.Item)) (cs : List ℕ) (states : List (List State)) (tables : List Kept) → IsPlan p → Fit p inputs → plan_form raw ≡ p → pl ≡ p
-    → queues ≡ replicate (length raw.outputs) [] ++ (inputs ++ replicate (length raw.queues) []) → AreFirst (op_forms raw.ops) states → cs ≡ replicate (length raw.ops) 0 → tables ≡ kept_tables raw.tables (λ n. [])
+pub first_by : (raw : RawPlan) (p pl : PlanForm) (inputs queues : List (List item.Item)) (cs : List ℕ) (states : List (List State)) (tables : List Kept)
+    → IsPlan p → Fit p inputs → plan_form raw ≡ p → pl ≡ p
+    → queues ≡ replicate (length raw.outputs) [] ++ (inputs ++ replicate (length raw.queues) []) → AreFirst (op_forms raw.ops) states
+    → cs ≡ replicate (length raw.ops) 0 → tables ≡ kept_tables raw.tables (λ n. [])
     → First p inputs (record { plan = pl; queues = queues; tables = tables; states = states; counts = cs; stopped = false })
 first_by raw p pl inputs queues cs states tables v fit e pe qe fs ce te =
     let m : Parts = record { plan = pl; queues = queues; tables = tables; states = states; counts = cs; stopped = false } in

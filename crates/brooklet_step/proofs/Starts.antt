@@ -125,7 +125,8 @@ leaf_first k st l f h = record {
 pub packed_first : (k : Kern) (st : List State) → IsFirst k st → IsFirst (packed k) st
 packed_first k st h = record {
   after = h.after;
-  again = λ reads writes vars fits. h.again reads (FlatOf fits.1 ∷ []) [] (subst (λ (l : List QueueType). Fits k l (FlatOf fits.1 ∷ []) []) (sym fits.2) fits.5);
+  again =
+      λ reads writes vars fits. h.again reads (FlatOf fits.1 ∷ []) [] (subst (λ (l : List QueueType). Fits k l (FlatOf fits.1 ∷ []) []) (sym fits.2) fits.5);
 }
 
 -- two kernels keep what the first keeps and then what the second keeps

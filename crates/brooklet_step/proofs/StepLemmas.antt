@@ -1,5 +1,6 @@
 -- A firing of an operator, on what a machine keeps.
-use Rattle.std.proofs.Common.{◌≡◌, ℕ, ℤ, zero, suc, ◌+◌, ◌<◌, ◌≤◌, Bool, false, Some, List, [], ◌∷◌, ◌++◌, length, length-append, take, drop, map, refl, sym, ap, ◌∙◌, subst, arith, nat_eq, ⊎_elim, get_or-set_same, get_or-set_other}
+use Rattle.std.proofs.Common.{◌≡◌, ℕ, ℤ, zero, suc, ◌+◌, ◌<◌, ◌≤◌, Bool, false, Some, List, [], ◌∷◌, ◌++◌, length, length-append, take, drop, map, refl, sym}
+use Rattle.std.proofs.Common.{ap, ◌∙◌, subst, arith, nat_eq, ⊎_elim, get_or-set_same, get_or-set_other}
 use Rattle.std.specs.Prelude.{if◌then◌else◌, All, min, slice_get, slice_set, slice_index_or}
 use Rattle.std.proofs.lemmas.Bool.{cases_eq}
 use Rattle.std.proofs.lemmas.List.{append-nil, drop-append-le, length-take, length-map, length-set}
@@ -66,19 +67,22 @@ read_declared p v o port q r =
     let c = got_count r.op.reads port q r.queue_is in
     v.reads_declared q (omega (arith, m, c))
 
-pub write_declared : (p : PlanForm) → IsPlan p → (o : ℕ) (op : OpForm) → slice_get p.ops o ≡ Some op → (q : Name) → 0 < count q op.writes → 0 < count q (queue_names p)
+pub write_declared : (p : PlanForm) → IsPlan p → (o : ℕ) (op : OpForm) → slice_get p.ops o ≡ Some op → (q : Name) → 0 < count q op.writes
+    → 0 < count q (queue_names p)
 write_declared p v o op g q lt =
     let m = at_most (writes_it q) p.ops o op g in
     v.writes_declared q (omega (arith, m, lt))
 
 -- an item that a queue holds is what the port that reads it may take
-pub item_held : (m : Parts) (o port : ℕ) (q : Name) (i : item.Item) (rest : List item.Item) → (g : GoesOn m) → (r : ReadsAt m.plan o port q) → queue_of m q ≡ i ∷ rest → IsHeldOf (map (kinds_of m) r.op.reads) port i
+pub item_held : (m : Parts) (o port : ℕ) (q : Name) (i : item.Item) (rest : List item.Item) → (g : GoesOn m) → (r : ReadsAt m.plan o port q)
+    → queue_of m q ≡ i ∷ rest → IsHeldOf (map (kinds_of m) r.op.reads) port i
 item_held m o port q i rest g r hx =
     subst (λ t. IsHeldBy t i) (sym (kind_got (kinds_of m) r.op.reads port q r.queue_is))
     (All-head (IsHeld (kinds_of m q)) i rest (subst (All (IsHeld (kinds_of m q))) hx (g.items q (read_declared m.plan g.valid o port q r))))
 
 -- a firing can be made
-pub can_take : (m : Parts) (o port : ℕ) (q : Name) (i : item.Item) (rest : List item.Item) (st : List State) (out : Emit) → (g : GoesOn m) → (r : ReadsAt m.plan o port q) → queue_of m q ≡ i ∷ rest → st ≡ states_of m o → IsBlank r.op.kernel out → CanTake r.op.kernel port i st out
+pub can_take : (m : Parts) (o port : ℕ) (q : Name) (i : item.Item) (rest : List item.Item) (st : List State) (out : Emit) → (g : GoesOn m)
+    → (r : ReadsAt m.plan o port q) → queue_of m q ≡ i ∷ rest → st ≡ states_of m o → IsBlank r.op.kernel out → CanTake r.op.kernel port i st out
 can_take m o port q i rest st out g r hx es b = record {
   reads = map (kinds_of m) r.op.reads;
   fitting = record {
@@ -146,7 +150,8 @@ drop_next (x ∷ xs) zero i rest e = cc
 drop_next (x ∷ xs) (suc n) i rest e = let h : suc n + 1 ≡ suc (n + 1) = omega arith in ap (λ k. drop k (x ∷ xs)) h ∙ drop_next xs n i rest e
 
 -- what queues hold for what an operator gives at the ports that write them
-joined_held : (kind : Name → QueueType) (ws : List Name) (F f : ℕ → List item.Item) (h : Name → List item.Item) (n : Name) → count n ws ≤ 1 → Lists ws F h → joined ws (λ j. held_at (map kind ws) j (F j) (f j)) n ≡ held (kind n) (h n) (joined ws f n)
+joined_held : (kind : Name → QueueType) (ws : List Name) (F f : ℕ → List item.Item) (h : Name → List item.Item) (n : Name) → count n ws ≤ 1 → Lists ws F h
+    → joined ws (λ j. held_at (map kind ws) j (F j) (f j)) n ≡ held (kind n) (h n) (joined ws f n)
 joined_held kind [] F f h n once l = sym (held-nil (kind n) (h n))
 joined_held kind (w ∷ ws) F f h n once l =
     let rest = joined ws (λ j. held_at (map kind ws) j (F (suc j)) (f (suc j))) n in
@@ -224,7 +229,9 @@ module _ (m : Parts) (o port : ℕ) (q : Name) (i : item.Item) (rest : List item
 
   -- what came at a port
   out_is : (F : ℕ → List item.Item) → out.outs ≡ each_grew blank.outs F → (j : ℕ) → j < length r.op.writes → list_at out.outs j ≡ F j
-  out_is F e j lj = ap (λ (l : List (List item.Item)). list_at l j) (e ∙ ap (λ l. each_grew l F) b.outs) ∙ each_grew-blanks (outs r.op.kernel) F j [] (omega (arith, lj, writes_many))
+  out_is F e j lj =
+      ap (λ (l : List (List item.Item)). list_at l j) (e ∙ ap (λ l. each_grew l F) b.outs)
+      ∙ each_grew-blanks (outs r.op.kernel) F j [] (omega (arith, lj, writes_many))
 
   there : (n : Name) → 0 < count n names → place names n < length m.queues
   there n lt = let p = place_below names n lt in let l = g.laid_out.queues in omega (arith, p, l)
@@ -239,7 +246,8 @@ module _ (m : Parts) (o port : ℕ) (q : Name) (i : item.Item) (rest : List item
   base_other n lt ne = get_or-set_other m.queues (place names q) (place names n) rest [] (λ e. ne (place_apart names n q lt q_there e))
 
   -- what a queue has
-  queue_is : (F : ℕ → List item.Item) → out.outs ≡ each_grew blank.outs F → (n : Name) → 0 < count n names → list_at queues (place names n) ≡ list_at base (place names n) ++ joined r.op.writes F n
+  queue_is : (F : ℕ → List item.Item) → out.outs ≡ each_grew blank.outs F → (n : Name) → 0 < count n names
+      → list_at queues (place names n) ≡ list_at base (place names n) ++ joined r.op.writes F n
   queue_is F e n lt =
       let below : place names n < length base = let p = there n lt in omega (arith, p, base_many) in
       ap (λ (l : List (List item.Item)). list_at l (place names n)) eq
@@ -289,7 +297,8 @@ module _ (m : Parts) (o port : ℕ) (q : Name) (i : item.Item) (rest : List item
   mine = tables_of (table_names m.plan.tables) r.op
 
   -- the tables with what was added
-  tables_next : (s : Machine) (f_s : ℕ → List (List ℤ)) → Stands m s → out.adds ≡ each_grew blank.adds f_s → ts ≡ kept_tables m.plan.tables (λ n. s.rows n ++ joined mine f_s n)
+  tables_next : (s : Machine) (f_s : ℕ → List (List ℤ)) → Stands m s → out.adds ≡ each_grew blank.adds f_s
+      → ts ≡ kept_tables m.plan.tables (λ n. s.rows n ++ joined mine f_s n)
   tables_next s f_s h t =
       let names_t = table_names m.plan.tables in
       let many = mine_many m.plan g.valid o r.op r.op_is in
@@ -300,7 +309,8 @@ module _ (m : Parts) (o port : ℕ) (q : Name) (i : item.Item) (rest : List item
       (λ j lt. ap (λ (l : List (List (List ℤ))). list_at l j) (t ∙ ap (λ l. each_grew l f_s) b.adds) ∙ each_grew-blanks (tabs r.op.kernel) f_s j [] (omega (arith, lt, many)))
 
   -- what holds of the operator that fired by its new word and states, and of the others by their old ones, holds of all
-  at_each : (P : (op : OpForm) → List State → Word → Type 0) (w : Word) (ws : ℕ → Word) → ((o' : ℕ) (op' : OpForm) → slice_get m.plan.ops o' ≡ Some op' → P op' (states_of m o') (ws o')) → P r.op st w
+  at_each : (P : (op : OpForm) → List State → Word → Type 0) (w : Word) (ws : ℕ → Word)
+      → ((o' : ℕ) (op' : OpForm) → slice_get m.plan.ops o' ≡ Some op' → P op' (states_of m o') (ws o')) → P r.op st w
       → (o' : ℕ) (op' : OpForm) → slice_get m.plan.ops o' ≡ Some op' → P op' (list_at (slice_set m.states o st) o') (at_key o w ws o')
   at_each P w ws old new o' op' g' =
       let below : o < length m.states = let l = g.laid_out.states in omega (arith, o_below, l) in
@@ -343,12 +353,15 @@ module _ (m : Parts) (o port : ℕ) (q : Name) (i : item.Item) (rest : List item
               ∙ ap (drop (taken_next s n)) (sym (held-append (kinds n) [] (s.hist n) (joined r.op.writes res.outs n)));
           within = λ n. let l = length-append (s.hist n) (joined r.op.writes res.outs n) in let d = more n in omega (arith, l, d);
           unread = unread_next s h;
-          typed = λ n. All-append (HasType (kinds n)) (s.hist n) (joined r.op.writes res.outs n) (h.typed n) (joined_all IsTyped kinds r.op.writes res.outs typed_out n);
+          typed =
+              λ n. All-append (HasType (kinds n)) (s.hist n) (joined r.op.writes res.outs n) (h.typed n) (joined_all IsTyped kinds r.op.writes res.outs typed_out n);
           tables = tables_next s res.adds h took.adds;
           inputs = h.inputs;
           words = at_key o next h.words;
-          traced = traced_fired m.plan (given_to m.plan h.inputs) g.valid (λ n z. nothing_given (decl_names m.plan.inputs) (list_at h.inputs) n z) s h.words o port r.op q x h.traced r.op_is r.queue_is it.item_is;
-          received = at_each (λ op u v. AreTyped (map (kinds_of m) op.reads) v) next h.words h.received (typed_append reads w ((port, x) ∷ []) typed_w (typed_x, tt));
+          traced =
+              traced_fired m.plan (given_to m.plan h.inputs) g.valid (λ n z. nothing_given (decl_names m.plan.inputs) (list_at h.inputs) n z) s h.words o port r.op q x h.traced r.op_is r.queue_is it.item_is;
+          received =
+              at_each (λ op u v. AreTyped (map (kinds_of m) op.reads) v) next h.words h.received (typed_append reads w ((port, x) ∷ []) typed_w (typed_x, tt));
           kept = at_each (λ op u v. StandsAfter op.kernel u v) next h.words h.kept gave.1;
         };
       }

@@ -192,7 +192,8 @@ pub record Does (k : Kern) (reads writes : List QueueType) (vars : List VarKind)
 
 -- under each choice of types for the ports
 pub record FiresAt (k : Kern) (port : ℕ) (i : item.Item) (out new : Emit) (st st' : List State) : Type 0 where
-  pub each : (reads writes : List QueueType) (vars : List VarKind) → Fits k reads writes vars → FitState k reads st → IsHeldOf reads port i → Does k reads writes vars port i out new st st'
+  pub each : (reads writes : List QueueType) (vars : List VarKind) → Fits k reads writes vars → FitState k reads st → IsHeldOf reads port i
+      → Does k reads writes vars port i out new st st'
 
 -- the same of the items of a list, one after another at the first port
 pub record GivesAll (k : Kern) (reads writes : List QueueType) (is : List item.Item) (out new : Emit) (st st' : List State) : Type 0 where
@@ -204,7 +205,8 @@ pub record DoesAll (k : Kern) (reads writes : List QueueType) (vars : List VarKi
   pub came : Came k reads writes vars out new st'
 
 pub record FiresEach (k : Kern) (is : List item.Item) (out new : Emit) (st st' : List State) : Type 0 where
-  pub each : (reads writes : List QueueType) (vars : List VarKind) → Fits k reads writes vars → FitState k reads st → All (IsHeldOf reads 0) is → DoesAll k reads writes vars is out new st st'
+  pub each : (reads writes : List QueueType) (vars : List VarKind) → Fits k reads writes vars → FitState k reads st → All (IsHeldOf reads 0) is
+      → DoesAll k reads writes vars is out new st st'
 
 -- WHEN FIRINGS CAN BE MADE
 

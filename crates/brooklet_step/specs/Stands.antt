@@ -183,7 +183,8 @@ pub record RanKept (b : Body) (row : List ℤ) (s s' : State) (pushes : List (�
 
 -- the body ran on the row: what it pushed, and what the new states stand for
 pub record Pushed (k : CodeForm) (x : item.Item) (st st' : List State) (pushes : List (ℕ × List ℤ)) : Type 0 where
-  pub given : (ks : List Kept) → StandsForSlots k.starts st ks → ((code_one k x ks).outs ≡ (λ p. pushed_to p pushes)) × ((code_one k x ks).adds ≡ none) × StandsForSlots k.starts st' (code_one k x ks).states
+  pub given : (ks : List Kept) → StandsForSlots k.starts st ks
+      → ((code_one k x ks).outs ≡ (λ p. pushed_to p pushes)) × ((code_one k x ks).adds ≡ none) × StandsForSlots k.starts st' (code_one k x ks).states
 
 -- from all states that the old ones stand for, the lists grew by what the firing gives, and the new ones stand for its states
 pub record Fires (k : Kern) (out new : Emit) (st st' : List State) (r : List Kept → Fired) : Type 0 where

@@ -1,5 +1,6 @@
 -- Queries that are made one after another.
-use Rattle.std.proofs.Common.{◌≡◌, ℕ, ◌+◌, ◌<◌, ◌≤◌, Result, Ok, Err, List, [], ◌∷◌, ◌++◌, length, drop, map, get_or, Option, refl, sym, ap, ◌∙◌, subst, arith, append_assoc}
+use Rattle.std.proofs.Common.{◌≡◌, ℕ, ◌+◌, ◌<◌, ◌≤◌, Result, Ok, Err, List, [], ◌∷◌, ◌++◌, length, drop, map, get_or, Option, refl, sym, ap, ◌∙◌, subst, arith}
+use Rattle.std.proofs.Common.{append_assoc}
 use Rattle.std.specs.List.{AllByRecursion}
 use Rattle.std.proofs.lemmas.List.{length-map}
 use Rattle.kern_bags.specs.declared.kernel.Streamer.{Streamer}
@@ -13,7 +14,9 @@ use Rattle.cql_model.specs.Faults.{IsShortName, AreShort}
 use Rattle.cql_model.specs.Program as program
 use Rattle.cql_model.specs.Program.{Scalar, Columns, Query, Register, Ask, Program, streams_of, all_uses}
 use Rattle.cql_model.specs.Scopes.{Named, scope_of}
-use Rattle.cql_model.specs.Translation.{decl, sources, w_name, window_ops, window_decls, cross_ops, cross_last, widths_of, select_ops, select_last, select_decls, project_ops, project_last, project_decls, out_decls, tail_ops, columns_width, query_ops, query_decls, query_named, output_decls, ask_decls, ask_ops}
+use Rattle.cql_model.specs.Translation.{decl, sources, w_name, window_ops, window_decls, cross_ops, cross_last, widths_of, select_ops, select_last}
+use Rattle.cql_model.specs.Translation.{select_decls, project_ops, project_last, project_decls, out_decls, tail_ops, columns_width, query_ops, query_decls}
+use Rattle.cql_model.specs.Translation.{query_named, output_decls, ask_decls, ask_ops}
 use Rattle.cql_text.specs.declared.tree.Part.{Part}
 use Rattle.cql_text.specs.declared.tree.Source.{Source}
 use Rattle.cql_build.specs.declared.item.Item.{Item}
@@ -29,7 +32,8 @@ use Rattle.cql_build.proofs.Lists.{drop_next, drop_all}
 
 -- THE TAIL OF A QUERY
 
-pub tail_made : (a b c d : RawPlan) (q : Query) (is : List Named) (uses : ℕ) (last s p : Name) (w : ℕ) → s ≡ select_last q.name last q.condition → p ≡ project_last q.name s q.columns → w ≡ columns_width is q.columns
+pub tail_made : (a b c d : RawPlan) (q : Query) (is : List Named) (uses : ℕ) (last s p : Name) (w : ℕ) → s ≡ select_last q.name last q.condition
+    → p ≡ project_last q.name s q.columns → w ≡ columns_width is q.columns
     → Grew a b [] (select_decls q.name (widths_of is) q.condition) (select_ops q.name is last q.condition)
     → Grew b c [] (project_decls q.name q.columns) (project_ops q.name is s q.columns)
     → Grew c d (decl q.name (stream w) ∷ []) (out_decls q.name w uses) (stream_ops q.name q.kind p uses)
@@ -79,8 +83,10 @@ pub record Asking (old now : RawPlan) (before after : Uses) (parts : List Part) 
   pub left : Left old now (output_decls [] (program_of parts)) (output_decls ks (program_of (drop i parts))) (ask_decls before.all [] (program_of parts)) (ask_decls before.all ks (program_of (drop i parts)))
       (ask_ops before.inputs before.all [] before.past (program_of parts)) (ask_ops before.inputs before.all ks after.past (program_of (drop i parts)))
 
-pub asking_start : (raw : RawPlan) (uses : Uses) (parts : List Part) (k : Known) → Knows k [] → AreQueries [] (program_of parts) → AreShort (program_of parts) → Asking raw raw uses uses parts 0 k
-asking_start raw uses parts k n g s = record { ks = []; knows = n; good = g; names = s.names; uses = s.uses; inputs = refl; all = refl; left = left_start raw _ _ _ }
+pub asking_start : (raw : RawPlan) (uses : Uses) (parts : List Part) (k : Known) → Knows k [] → AreQueries [] (program_of parts) → AreShort (program_of parts)
+    → Asking raw raw uses uses parts 0 k
+asking_start raw uses parts k n g s =
+    record { ks = []; knows = n; good = g; names = s.names; uses = s.uses; inputs = refl; all = refl; left = left_start raw _ _ _ }
 
 each_front : (P : Name → Type 0) (xs ys : List Name) → AllByRecursion P (xs ++ ys) → AllByRecursion P xs
 each_front P [] ys h = tt
@@ -98,7 +104,8 @@ record Apart (ks : List Named) (p : program.Part) (ps : Program) : Type 0 where
   pub names : AllByRecursion IsShortName (declared ps)
   pub uses : AllByRecursion IsShortName (all_uses ps)
 
-apart : (ks : List Named) (p : program.Part) (ps : Program) → AreQueries ks (p ∷ ps) → AllByRecursion IsShortName (declared (p ∷ ps)) → AllByRecursion IsShortName (all_uses (p ∷ ps)) → Apart ks p ps
+apart : (ks : List Named) (p : program.Part) (ps : Program) → AreQueries ks (p ∷ ps) → AllByRecursion IsShortName (declared (p ∷ ps))
+    → AllByRecursion IsShortName (all_uses (p ∷ ps)) → Apart ks p ps
 apart ks (Register name fields) ps g n u = record { unit = tt; short = tt; good = g.1; names = n.1; uses = u }
 apart ks (Ask q) ps g n u = record {
   unit = g.0;
@@ -108,14 +115,16 @@ apart ks (Ask q) ps g n u = record {
   uses = each_back IsShortName (streams_of q.items) (all_uses ps) u;
 }
 
-at : (old now : RawPlan) (before after : Uses) (parts : List Part) (i : ℕ) (k : Known) (p : Part) (a : Asking old now before after parts i k) → i < length parts → p ≡ get_or parts i p
+at : (old now : RawPlan) (before after : Uses) (parts : List Part) (i : ℕ) (k : Known) (p : Part) (a : Asking old now before after parts i k) → i < length parts
+    → p ≡ get_or parts i p
     → Apart a.ks (part_of p) (program_of (drop (i + 1) parts))
 at old now before after parts i k p a lt e =
     let d : program_of (drop i parts) ≡ part_of p ∷ program_of (drop (i + 1) parts) = ap program_of (drop_next parts i p lt e) in
     apart a.ks (part_of p) (program_of (drop (i + 1) parts)) (subst (AreQueries a.ks) d a.good) (subst (λ (l : Program). AllByRecursion IsShortName (declared l)) d a.names)
     (subst (λ (l : Program). AllByRecursion IsShortName (all_uses l)) d a.uses)
 
-pub asking_good : (old now : RawPlan) (before after : Uses) (parts : List Part) (i : ℕ) (k : Known) (p : Part) → Asking old now before after parts i k → i < length parts → p ≡ get_or parts i p
+pub asking_good : (old now : RawPlan) (before after : Uses) (parts : List Part) (i : ℕ) (k : Known) (p : Part) → Asking old now before after parts i k
+    → i < length parts → p ≡ get_or parts i p
     → ((ks : List Named) × Knows k ks × IsUnit ks (part_of p)) × IsShortUnit (part_of p)
 asking_good old now before after parts i k p a lt e = let s = at old now before after parts i k p a lt e in ((a.ks, a.knows, s.unit), s.short)
 
@@ -123,19 +132,22 @@ outputs_one : (ks : List Named) (p : program.Part) (ps : Program) → output_dec
 outputs_one ks (Register name fields) ps = refl
 outputs_one ks (Ask q) ps = refl
 
-decls_one : (all : List Name) (ks : List Named) (p : program.Part) (ps : Program) → ask_decls all ks (p ∷ ps) ≡ unit_decls all ks p ++ ask_decls all (part_named ks p ∷ ks) ps
+decls_one : (all : List Name) (ks : List Named) (p : program.Part) (ps : Program)
+    → ask_decls all ks (p ∷ ps) ≡ unit_decls all ks p ++ ask_decls all (part_named ks p ∷ ks) ps
 decls_one all ks (Register name fields) ps = refl
 decls_one all ks (Ask q) ps = refl
 
 ops_one : (inputs all past later : List Name) (ks : List Named) (p : program.Part) (ps : Program) → later ≡ past ++ unit_uses p
     → ask_ops inputs all ks past (p ∷ ps) ≡ unit_ops inputs all ks past p ++ ask_ops inputs all (part_named ks p ∷ ks) later ps
-ops_one inputs all past later ks (Register name fields) ps e = ap (λ l. ask_ops inputs all (record { name = name; fields = fields } ∷ ks) l ps) (sym (e ∙ nil past)) where
-  nil : (l : List Name) → l ++ [] ≡ l
-  nil [] = refl
-  nil (x ∷ xs) = ap (λ l. x ∷ l) (nil xs)
+ops_one inputs all past later ks (Register name fields) ps e =
+    ap (λ l. ask_ops inputs all (record { name = name; fields = fields } ∷ ks) l ps) (sym (e ∙ nil past)) where
+      nil : (l : List Name) → l ++ [] ≡ l
+      nil [] = refl
+      nil (x ∷ xs) = ap (λ l. x ∷ l) (nil xs)
 ops_one inputs all past later ks (Ask q) ps e = ap (λ l. query_ops inputs all ks past q ++ ask_ops inputs all (query_named ks q ∷ ks) l ps) (sym e)
 
-pub asking_next : (old now next : RawPlan) (before after later : Uses) (parts : List Part) (i : ℕ) (k k' : Known) (p : Part) (a : Asking old now before after parts i k) → i < length parts → p ≡ get_or parts i p
+pub asking_next : (old now next : RawPlan) (before after later : Uses) (parts : List Part) (i : ℕ) (k k' : Known) (p : Part) (a : Asking old now before after parts i k)
+    → i < length parts → p ≡ get_or parts i p
     → ((ks : List Named) → Knows k ks → Grew now next (unit_outputs ks (part_of p)) (unit_decls after.all ks (part_of p)) (unit_ops after.inputs after.all ks after.past (part_of p)))
     → Used after later (unit_uses (part_of p))
     → ((ks : List Named) → Knows k ks → Knows k' (part_named ks (part_of p) ∷ ks)) → Asking old next before later parts (i + 1) k'
@@ -153,7 +165,8 @@ asking_next old now next before after later parts i k k' p a lt e g u n =
       uses = s.uses;
       inputs = u.inputs ∙ a.inputs;
       all = u.all ∙ a.all;
-      left = left_next old now next _ (unit_outputs a.ks (part_of p)) _ _ (unit_decls before.all a.ks (part_of p)) _ _ (unit_ops before.inputs before.all a.ks after.past (part_of p)) _
+      left =
+          left_next old now next _ (unit_outputs a.ks (part_of p)) _ _ (unit_decls before.all a.ks (part_of p)) _ _ (unit_ops before.inputs before.all a.ks after.past (part_of p)) _
           (left_is old now _ _ (unit_outputs a.ks (part_of p) ++ output_decls (part_named a.ks (part_of p) ∷ a.ks) rest) _ _ (unit_decls before.all a.ks (part_of p) ++ ask_decls before.all (part_named a.ks (part_of p) ∷ a.ks) rest) _ _
           (unit_ops before.inputs before.all a.ks after.past (part_of p) ++ ask_ops before.inputs before.all (part_named a.ks (part_of p) ∷ a.ks) later.past rest) a.left
           (ap (output_decls a.ks) d ∙ outputs_one a.ks (part_of p) rest)

@@ -1,5 +1,6 @@
 -- The plan of a program, or why it has none.
-use Rattle.std.proofs.Common.{◌≡◌, ℕ, ◌+◌, ◌<◌, ◌≤◌, Bool, true, false, Result, Ok, Err, Option, Some, None, List, [], ◌∷◌, ◌++◌, length, drop, map, get_or, refl, sym, ap, ◌∙◌, subst, arith, append_assoc, append-nil, length-append}
+use Rattle.std.proofs.Common.{◌≡◌, ℕ, ◌+◌, ◌<◌, ◌≤◌, Bool, true, false, Result, Ok, Err, Option, Some, None, List, [], ◌∷◌, ◌++◌, length, drop, map, get_or}
+use Rattle.std.proofs.Common.{refl, sym, ap, ◌∙◌, subst, arith, append_assoc, append-nil, length-append}
 use Rattle.std.specs.Prelude.{All, IfErr, if◌then◌else◌}
 use Rattle.std.specs.List.{AllByRecursion}
 use Rattle.std.specs.Option.{is_some}
@@ -75,7 +76,8 @@ many_exceed p lt = step (exceeds (plan_of p)) refl where
       omega (arith, h, a, b, lt))
 
 -- of a program of fewer a fault is told exactly where it exceeds a limit
-pub told_few : (p : Program) (form : PlanForm) → IsAccepted p → length (all_uses p) ≤ 256 → form ≡ plan_of p → (o : Option PlanFault) → FirstFault form o → exceeds form ≡ is_some o
+pub told_few : (p : Program) (form : PlanForm) → IsAccepted p → length (all_uses p) ≤ 256 → form ≡ plan_of p → (o : Option PlanFault) → FirstFault form o
+    → exceeds form ≡ is_some o
 told_few p form a few e o h =
     ap exceeds e ∙ (only_limits p o a (λ n. let c = count-length n (all_uses p) in omega (arith, c, few)) (subst (λ (x : PlanForm). FirstFault x o) e h)).1
 
@@ -94,13 +96,15 @@ over_limit parts n e =
     ∙ ap (λ m. Some (limit_of m)) (parts_length parts)
 
 -- what is told of the plan is told of the program
-pub limited_refused : (parts : List Part) (form : PlanForm) (r : Refused) → first_fault [] 0 1 (program_of parts) ≡ None → form ≡ plan_of (program_of parts) → IsLimited form (length parts) r → IsRefused (program_of parts) r
+pub limited_refused : (parts : List Part) (form : PlanForm) (r : Refused) → first_fault [] 0 1 (program_of parts) ≡ None → form ≡ plan_of (program_of parts)
+    → IsLimited form (length parts) r → IsRefused (program_of parts) r
 limited_refused parts form (refused.Program x) n e h = over_limit parts n (sym (ap exceeds e) ∙ h.0) ∙ ap Some (sym h.1)
 limited_refused parts form refused.NoMemory n e h = tt
 
 -- INPUTS
 
-pub inputs_next : (parts : List Part) (i : ℕ) (p : Part) (start now later : List Decl) → start ++ input_decls (program_of parts) ≡ now ++ input_decls (program_of (drop i parts)) → i < length parts → p ≡ get_or parts i p
+pub inputs_next : (parts : List Part) (i : ℕ) (p : Part) (start now later : List Decl)
+    → start ++ input_decls (program_of parts) ≡ now ++ input_decls (program_of (drop i parts)) → i < length parts → p ≡ get_or parts i p
     → later ≡ now ++ unit_inputs (part_of p) → start ++ input_decls (program_of parts) ≡ later ++ input_decls (program_of (drop (i + 1) parts))
 inputs_next parts i p start now later h lt e g =
     h ∙ ap (λ l. now ++ input_decls (program_of l)) (drop_next parts i p lt e) ∙ ap (λ l. now ++ l) (one (part_of p) (program_of (drop (i + 1) parts)))
@@ -123,11 +127,13 @@ short_one : (p : program.Part) (ps : Program) → AllByRecursion IsShortName (de
 short_one (Register name fields) ps h = (h.0, h.1)
 short_one (Ask q) ps h = (tt, h.1)
 
-pub copying_short : (old now : RawPlan) (all : List Name) (parts : List Part) (i : ℕ) (p : Part) → Copying old now all parts i → i < length parts → p ≡ get_or parts i p → IsShortRegistered (part_of p)
+pub copying_short : (old now : RawPlan) (all : List Name) (parts : List Part) (i : ℕ) (p : Part) → Copying old now all parts i → i < length parts
+    → p ≡ get_or parts i p → IsShortRegistered (part_of p)
 copying_short old now all parts i p c lt e =
     (short_one (part_of p) (program_of (drop (i + 1) parts)) (subst (λ (l : List Part). AllByRecursion IsShortName (declared (program_of l))) (drop_next parts i p lt e) c.names)).0
 
-pub copying_next : (old now next : RawPlan) (all : List Name) (parts : List Part) (i : ℕ) (p : Part) → Copying old now all parts i → i < length parts → p ≡ get_or parts i p
+pub copying_next : (old now next : RawPlan) (all : List Name) (parts : List Part) (i : ℕ) (p : Part) → Copying old now all parts i → i < length parts
+    → p ≡ get_or parts i p
     → Grew now next [] (unit_copies all (part_of p)) (unit_copying all (part_of p)) → Copying old next all parts (i + 1)
 copying_next old now next all parts i p c lt e g =
     let d = drop_next parts i p lt e in

@@ -1,5 +1,6 @@
 -- What is made one after another.
-use Rattle.std.proofs.Common.{◌≡◌, ℕ, zero, suc, ◌-◌, ◌+◌, ◌<◌, ◌≤◌, Result, Ok, Err, List, [], ◌∷◌, ◌++◌, length, drop, map, get_or, refl, sym, ap, ◌∙◌, subst, arith, append_assoc, append-nil}
+use Rattle.std.proofs.Common.{◌≡◌, ℕ, zero, suc, ◌-◌, ◌+◌, ◌<◌, ◌≤◌, Result, Ok, Err, List, [], ◌∷◌, ◌++◌, length, drop, map, get_or, refl, sym, ap, ◌∙◌, subst}
+use Rattle.std.proofs.Common.{arith, append_assoc, append-nil}
 use Rattle.std.specs.Prelude.{codes, OnOk}
 use Rattle.std.specs.List.{AllByRecursion}
 use Rattle.kern_bags.specs.declared.kernel.Streamer.{Streamer}
@@ -12,7 +13,8 @@ use Rattle.river_plan.specs.declared.plan.Decl.{Decl}
 use Rattle.river_plan.specs.declared.plan.RawPlan.{RawPlan}
 use Rattle.cql_model.specs.Faults.{IsShortName}
 use Rattle.cql_model.specs.Program.{streams_of}
-use Rattle.cql_model.specs.Translation.{op, decl, sources, source_at, w_name, x_name, window_ops, window_decls, cross_ops, cross_decls, cross_last, widths_of, copies, copy_name, decls, at_word, copy_decls, copy_ops, out_name, out_decls}
+use Rattle.cql_model.specs.Translation.{op, decl, sources, source_at, w_name, x_name, window_ops, window_decls, cross_ops, cross_decls, cross_last, widths_of}
+use Rattle.cql_model.specs.Translation.{copies, copy_name, decls, at_word, copy_decls, copy_ops, out_name, out_decls}
 use Rattle.cql_text.specs.declared.tree.Source.{Source}
 use Rattle.cql_build.specs.declared.item.Item.{Item}
 use Rattle.cql_build.specs.declared.uses.Uses.{Uses}
@@ -34,7 +36,8 @@ pub left_start : (raw : RawPlan) (outs qs : List Decl) (os : List OpForm) → Le
 left_start raw outs qs os = record { outputs = refl; queues = refl; ops = refl; inputs = refl; tables = refl; vars = refl }
 
 -- something more is made
-pub left_next : (old now next : RawPlan) (outs o ro qs q rq : List Decl) (os p rp : List OpForm) → Left old now outs (o ++ ro) qs (q ++ rq) os (p ++ rp) → Grew now next o q p
+pub left_next : (old now next : RawPlan) (outs o ro qs q rq : List Decl) (os p rp : List OpForm) → Left old now outs (o ++ ro) qs (q ++ rq) os (p ++ rp)
+    → Grew now next o q p
     → Left old next outs ro qs rq os rp
 left_next old now next outs o ro qs q rq os p rp l g = record {
   outputs = l.outputs ∙ sym (append_assoc now.outputs o ro) ∙ ap (λ x. x ++ ro) (sym g.outputs);
@@ -46,7 +49,8 @@ left_next old now next outs o ro qs q rq os p rp l g = record {
 }
 
 -- what is left, said otherwise
-pub left_is : (old now : RawPlan) (outs ro ro' qs rq rq' : List Decl) (os rp rp' : List OpForm) → Left old now outs ro qs rq os rp → ro ≡ ro' → rq ≡ rq' → rp ≡ rp'
+pub left_is : (old now : RawPlan) (outs ro ro' qs rq rq' : List Decl) (os rp rp' : List OpForm) → Left old now outs ro qs rq os rp → ro ≡ ro' → rq ≡ rq'
+    → rp ≡ rp'
     → Left old now outs ro' qs rq' os rp'
 left_is old now outs ro ro' qs rq rq' os rp rp' l a b c = record {
   outputs = l.outputs ∙ ap (λ x. now.outputs ++ x) a;
@@ -102,13 +106,16 @@ pub record WindowsLeft (old now : RawPlan) (before after : Uses) (q : Name) (all
   pub uses : after.all ≡ before.all
   pub short : AllByRecursion IsShortName (streams_of (sources_of (drop i all)))
 
-pub windows_start : (raw : RawPlan) (uses : Uses) (q : Name) (all : List Source) (items : List Item) → AllByRecursion IsShortName (streams_of (sources_of all)) → WindowsLeft raw raw uses uses q all items 0
+pub windows_start : (raw : RawPlan) (uses : Uses) (q : Name) (all : List Source) (items : List Item) → AllByRecursion IsShortName (streams_of (sources_of all))
+    → WindowsLeft raw raw uses uses q all items 0
 windows_start raw uses q all items s = record { left = left_start raw _ _ _; past = refl; inputs = refl; uses = refl; short = s }
 
 -- the stream of the next item has a short name
-pub windows_short : (old now : RawPlan) (before after : Uses) (q : Name) (all : List Source) (items : List Item) (i : ℕ) (x : Source) → WindowsLeft old now before after q all items i
+pub windows_short : (old now : RawPlan) (before after : Uses) (q : Name) (all : List Source) (items : List Item) (i : ℕ) (x : Source)
+    → WindowsLeft old now before after q all items i
     → i < length all → x ≡ get_or all i x → length x.stream ≤ 40
-windows_short old now before after q all items i x w lt e = (subst (λ l. AllByRecursion IsShortName (streams_of (sources_of l))) (drop_next all i x lt e) w.short).0
+windows_short old now before after q all items i x w lt e =
+    (subst (λ l. AllByRecursion IsShortName (streams_of (sources_of l))) (drop_next all i x lt e) w.short).0
 
 -- one window more
 pub windows_next : (old now next : RawPlan) (before after later : Uses) (q name from : Name) (kind : QueueType) (all : List Source) (items : List Item) (i : ℕ) (x : Source) (y : Item)
@@ -137,14 +144,17 @@ windows_next old now next before after later q name from kind all items i x y w 
           (window_ops q 1 (sources_of all) (srcs before.past (streams_of (sources_of all)))) (op name (window (window_of x.window)) (from ∷ []) (name ∷ []) (name ∷ []) ∷ [])
           (window_ops q (i + 1 + 1) (sources_of rest) (srcs later.past (streams_of (sources_of rest))))
           (left_is old now [] [] [] (window_decls q 1 (scope items)) _ _ (window_ops q 1 (sources_of all) (srcs before.past (streams_of (sources_of all)))) _ _ w.left refl ds os) g;
-      past = w.past ∙ ap (λ l. after.past ++ streams_of (sources_of l)) (drop_next all i x lt e) ∙ sym (append_assoc after.past (x.stream ∷ []) (streams_of (sources_of rest))) ∙ ap (λ l. l ++ streams_of (sources_of rest)) (sym p);
+      past =
+          w.past ∙ ap (λ l. after.past ++ streams_of (sources_of l)) (drop_next all i x lt e)
+          ∙ sym (append_assoc after.past (x.stream ∷ []) (streams_of (sources_of rest))) ∙ ap (λ l. l ++ streams_of (sources_of rest)) (sym p);
       inputs = a ∙ w.inputs;
       uses = b ∙ w.uses;
       short = (subst (λ l. AllByRecursion IsShortName (streams_of (sources_of l))) (drop_next all i x lt e) w.short).1;
     }
 
 -- all windows
-pub windows_end : (old now : RawPlan) (before after : Uses) (q : Name) (all : List Source) (items : List Item) (i : ℕ) → WindowsLeft old now before after q all items i
+pub windows_end : (old now : RawPlan) (before after : Uses) (q : Name) (all : List Source) (items : List Item) (i : ℕ)
+    → WindowsLeft old now before after q all items i
     → length all ≤ i → length items ≤ i
     → Grew old now [] (window_decls q 1 (scope items)) (window_ops q 1 (sources_of all) (sources before.inputs before.all before.past (streams_of (sources_of all))))
     × Used before after (streams_of (sources_of all))
@@ -167,7 +177,8 @@ pub record CrossesLeft (old now : RawPlan) (q : Name) (all : List Source) (items
   pub narrow : wide + widths_of (scope (drop i items)) ≤ 16
 
 -- no product is made
-pub crosses_start : (raw : RawPlan) (q : Name) (all : List Source) (items : List Item) (last : Name) (wide : ℕ) (y : Item) → 0 < length items → length items ≡ length all → y ≡ get_or items 0 y
+pub crosses_start : (raw : RawPlan) (q : Name) (all : List Source) (items : List Item) (last : Name) (wide : ℕ) (y : Item) → 0 < length items
+    → length items ≡ length all → y ≡ get_or items 0 y
     → wide ≡ length y.fields.now → last ≡ w_name q 1 → widths_of (scope items) ≤ 16 → CrossesLeft raw raw q all items last wide 1
 crosses_start raw q all [] last wide y some each e w l low = absurd (omega (arith, some))
 crosses_start raw q [] (z ∷ zs) last wide y some each e w l low = absurd (omega (arith, each))
@@ -199,16 +210,20 @@ crosses_next old now next q all items last name right wide wider i y c lt lt' e'
     ∙ ap (λ m. op name cross (last ∷ m ∷ []) (name ∷ []) (name ∷ []) ∷ cross_ops q name (i + 1 + 1) (sources_of (drop (i + 1) all))) (sym r) in
     let d = ap (λ l. widths_of (scope l)) (drop_next items i y lt' e') in
     record {
-      left = left_next old now next [] [] [] (products q (scope items)) (decl name (relation wider) ∷ []) (cross_decls q wider (i + 1 + 1) (scope (drop (i + 1) items)))
+      left =
+          left_next old now next [] [] [] (products q (scope items)) (decl name (relation wider) ∷ []) (cross_decls q wider (i + 1 + 1) (scope (drop (i + 1) items)))
           (cross_ops q (w_name q 1) 2 (drop 1 (sources_of all))) (op name cross (last ∷ right ∷ []) (name ∷ []) (name ∷ []) ∷ []) (cross_ops q name (i + 1 + 1) (sources_of (drop (i + 1) all)))
           (left_is old now [] [] [] (products q (scope items)) _ _ (cross_ops q (w_name q 1) 2 (drop 1 (sources_of all))) _ _ c.left refl ds os) g;
-      last_is = c.last_is ∙ ap (λ l. cross_last q last (i + 1) (sources_of l)) some.1 ∙ ap (λ m. cross_last q m (i + 1 + 1) (sources_of (drop (i + 1) all))) (sym n);
+      last_is =
+          c.last_is ∙ ap (λ l. cross_last q last (i + 1) (sources_of l)) some.1 ∙ ap (λ m. cross_last q m (i + 1 + 1) (sources_of (drop (i + 1) all))) (sym n);
       narrow = let k = c.narrow in omega (arith, k, d, w);
     }
 
 -- all products
-pub crosses_end : (old now : RawPlan) (q : Name) (all : List Source) (items : List Item) (last : Name) (wide i : ℕ) → CrossesLeft old now q all items last wide i → length all ≤ i → length items ≤ i
-    → Grew old now [] (products q (scope items)) (cross_ops q (w_name q 1) 2 (drop 1 (sources_of all))) × (last ≡ cross_last q (w_name q 1) 2 (drop 1 (sources_of all)))
+pub crosses_end : (old now : RawPlan) (q : Name) (all : List Source) (items : List Item) (last : Name) (wide i : ℕ)
+    → CrossesLeft old now q all items last wide i → length all ≤ i → length items ≤ i
+    → Grew old now [] (products q (scope items)) (cross_ops q (w_name q 1) 2 (drop 1 (sources_of all)))
+    × (last ≡ cross_last q (w_name q 1) 2 (drop 1 (sources_of all)))
 crosses_end old now q all items last wide i c le le' =
     let none = drop_all all i le in
     let none' = drop_all items i le' in (
@@ -237,7 +252,8 @@ on_ok_then (Ok u) f p = f p
 on_ok_then (Err e) f p = tt
 
 -- a registered stream that is used more than once is copied
-pub copied_input : (raw new : RawPlan) (queues : List Decl) (name : Name) (wide n : ℕ) (kind : QueueType) (writes : List Name) → queues ≡ raw.queues ++ decls writes kind → kind ≡ stream wide
+pub copied_input : (raw new : RawPlan) (queues : List Decl) (name : Name) (wide n : ℕ) (kind : QueueType) (writes : List Name)
+    → queues ≡ raw.queues ++ decls writes kind → kind ≡ stream wide
     → writes ≡ copies name 0 n → 2 ≤ n
     → Grew (record raw { queues = queues }) new [] [] (op (at_word name (codes "d")) (duplicate (length writes)) (name ∷ []) writes [] ∷ [])
     → Grew raw new [] (copy_decls name wide n) (copy_ops name n)
@@ -256,7 +272,8 @@ copied_input raw new queues name wide (suc (suc u)) kind writes e k w two g =
     }
 
 -- a query's stream is copied
-pub copied_output : (raw new : RawPlan) (first queues : List Decl) (q from : Name) (n : ℕ) (kind : QueueType) (own made writes : List Name) → first ≡ raw.queues ++ decl from kind ∷ []
+pub copied_output : (raw new : RawPlan) (first queues : List Decl) (q from : Name) (n : ℕ) (kind : QueueType) (own made writes : List Name)
+    → first ≡ raw.queues ++ decl from kind ∷ []
     → queues ≡ first ++ decls made kind → own ≡ q ∷ [] → writes ≡ own ++ made → made ≡ copies q 0 n
     → Grew (record raw { queues = queues }) new [] [] (op (at_word q (codes "d")) (duplicate (length writes)) (from ∷ []) writes [] ∷ [])
     → Grew raw new [] (decl from kind ∷ decls (copies q 0 n) kind) (op (at_word q (codes "d")) (duplicate (suc n)) (from ∷ []) (q ∷ copies q 0 n) [] ∷ [])
@@ -275,7 +292,8 @@ copied_output raw new first queues q from n kind own made writes e f o w m g =
     }
 
 -- the stream of a query that is used
-pub output_used : (raw mid new : RawPlan) (outs : List Decl) (q last to : Name) (kind : Streamer) (wide n : ℕ) (t : QueueType) → 0 < n → to ≡ out_name q n → t ≡ stream wide
+pub output_used : (raw mid new : RawPlan) (outs : List Decl) (q last to : Name) (kind : Streamer) (wide n : ℕ) (t : QueueType) → 0 < n → to ≡ out_name q n
+    → t ≡ stream wide
     → Grew raw mid [] [] (op (at_word q (codes "i")) (streamer kind) (last ∷ []) (to ∷ []) (at_word q (codes "i") ∷ []) ∷ [])
     → outs ≡ mid.outputs ++ decl q t ∷ []
     → Grew (record mid { outputs = outs }) new [] (decl to t ∷ decls (copies q 0 n) t) (op (at_word q (codes "d")) (duplicate (suc n)) (to ∷ []) (q ∷ copies q 0 n) [] ∷ [])

@@ -1,5 +1,6 @@
 -- Items that are judged one after another.
-use Rattle.std.proofs.Common.{◌≡◌, ℕ, zero, suc, ◌+◌, ◌-◌, ◌<◌, ◌≤◌, Bool, true, false, List, [], ◌∷◌, ◌++◌, length, take, drop, map, get_or, Option, Some, None, refl, sym, ap, ◌∙◌, subst, arith, add-one}
+use Rattle.std.proofs.Common.{◌≡◌, ℕ, zero, suc, ◌+◌, ◌-◌, ◌<◌, ◌≤◌, Bool, true, false, List, [], ◌∷◌, ◌++◌, length, take, drop, map, get_or, Option, Some}
+use Rattle.std.proofs.Common.{None, refl, sym, ap, ◌∙◌, subst, arith, add-one}
 use Rattle.std.specs.Prelude.{nat_lt, nat_eq, if◌then◌else◌}
 use Rattle.std.specs.Borrow.{Bor}
 use Rattle.std.specs.Option.{option_copied}
@@ -31,19 +32,22 @@ names_are ks [] = refl
 names_are ks (x ∷ xs) = ap (λ l. name_of x ∷ l) (names_are ks xs)
 
 -- an item of this name stands among them
-pub name_there : (ks : List Named) (q : Name) (xs : List Source) (i : ℕ) (x : Source) → i < length xs → x ≡ get_or xs i x → name_eq (alias_or x.alias x.stream) q ≡ true
+pub name_there : (ks : List Named) (q : Name) (xs : List Source) (i : ℕ) (x : Source) → i < length xs → x ≡ get_or xs i x
+    → name_eq (alias_or x.alias x.stream) q ≡ true
     → true ≡ nat_lt 0 (count q (known_names (scope_of ks (sources_of xs))))
-name_there ks q xs i x lt e t = let c = there xs i lt e in positive (count q (known_names (scope_of ks (sources_of xs)))) (ap (count q) (names_are ks xs)) c where
-  positive : (n : ℕ) {m : ℕ} → n ≡ m → 0 < m → true ≡ nat_lt 0 n
-  positive n e lt = grind (arith, e, lt)
+name_there ks q xs i x lt e t =
+    let c = there xs i lt e in positive (count q (known_names (scope_of ks (sources_of xs)))) (ap (count q) (names_are ks xs)) c where
+      positive : (n : ℕ) {m : ℕ} → n ≡ m → 0 < m → true ≡ nat_lt 0 n
+      positive n e lt = grind (arith, e, lt)
 
-  there : (xs : List Source) (i : ℕ) → i < length xs → x ≡ get_or xs i x → 0 < count q (map name_of xs)
-  there [] i lt e = absurd (omega (arith, lt))
-  there (y ∷ ys) zero lt e = let o = ap one_if (ap (λ z. name_eq (name_of z) q) (sym e) ∙ t) in omega (arith, o)
-  there (y ∷ ys) (suc i) lt e = let m = there ys i (omega (arith, lt)) e in omega (arith, m)
+      there : (xs : List Source) (i : ℕ) → i < length xs → x ≡ get_or xs i x → 0 < count q (map name_of xs)
+      there [] i lt e = absurd (omega (arith, lt))
+      there (y ∷ ys) zero lt e = let o = ap one_if (ap (λ z. name_eq (name_of z) q) (sym e) ∙ t) in omega (arith, o)
+      there (y ∷ ys) (suc i) lt e = let m = there ys i (omega (arith, lt)) e in omega (arith, m)
 
 -- one item more, of another name
-pub name_next : (ks : List Named) (q : Name) (xs : List Source) (i : ℕ) (x : Source) → i < length xs → x ≡ get_or xs i x → name_eq (alias_or x.alias x.stream) q ≡ false
+pub name_next : (ks : List Named) (q : Name) (xs : List Source) (i : ℕ) (x : Source) → i < length xs → x ≡ get_or xs i x
+    → name_eq (alias_or x.alias x.stream) q ≡ false
     → count q (known_names (scope_of ks (sources_of (take i xs)))) ≡ 0 → count q (known_names (scope_of ks (sources_of (take (i + 1) xs)))) ≡ 0
 name_next ks q xs i x lt e f z =
     ap (count q) (names_are ks (take (i + 1) xs) ∙ ap (map name_of) (take_next xs i x lt e)) ∙ more (take i xs) (sym (ap (count q) (names_are ks (take i xs))) ∙ z)
@@ -57,7 +61,8 @@ name_next ks q xs i x lt e f z =
 none_found : (ks : List Named) (n : Name) → count n (known_names ks) ≡ 0 → fields_of ks n ≡ []
 none_found [] n h = refl
 none_found (k ∷ ks) n h = step (name_eq k.name n) refl h (none_found ks n (omega (arith, h))) where
-  step : (b : Bool) → name_eq k.name n ≡ b → one_if (name_eq k.name n) + count n (known_names ks) ≡ 0 → fields_of ks n ≡ [] → (if b then k.fields else fields_of ks n) ≡ []
+  step : (b : Bool) → name_eq k.name n ≡ b → one_if (name_eq k.name n) + count n (known_names ks) ≡ 0 → fields_of ks n ≡ []
+      → (if b then k.fields else fields_of ks n) ≡ []
   step true e h more = absurd (let o = ap one_if e in omega (arith, o, h))
   step false e h more = more
 
@@ -65,7 +70,8 @@ abbrev at_name : List Named → Name → Option (Bor (List Name)) → Type 0
 at_name ks n r = IsFound (option_copied r) ks n
 
 -- an item whose stream is known, or not
-pub item_found : (ks : List Named) (x : Source) (r : Option (Bor (List Name))) (fs : Bor (List Name)) (i : Item) → IsFound (option_copied r) ks x.stream → r ≡ Some fs
+pub item_found : (ks : List Named) (x : Source) (r : Option (Bor (List Name))) (fs : Bor (List Name)) (i : Item) → IsFound (option_copied r) ks x.stream
+    → r ≡ Some fs
     → i.fields ≡ fs → i.name ≡ alias_or x.alias x.stream → named i ≡ item_named ks (source_of x)
 item_found ks x r fs i f e g n =
     let h = subst (at_name ks x.stream) e f in
@@ -95,7 +101,8 @@ pub record IsGood (ks : List Named) (scope : List Named) (i : program.Source) : 
   pub rows : is_rows_fault i.window ≡ false
   pub new : nat_lt 0 (count (item_named ks i).name (known_names scope)) ≡ false
 
-product_left : (ks scope : List Named) (i : program.Source) → IsGood ks scope i → item_fault ks scope i ≡ fault_if (nat_lt 16 (widths_of (scope ++ item_named ks i ∷ []))) Limit
+product_left : (ks scope : List Named) (i : program.Source) → IsGood ks scope i
+    → item_fault ks scope i ≡ fault_if (nat_lt 16 (widths_of (scope ++ item_named ks i ∷ []))) Limit
 product_left ks scope i g =
     passes (nat_eq (count i.stream (known_names ks)) 0) UnknownStream _ (some (count i.stream (known_names ks)) g.known)
     ∙ passes (nat_lt 3 (length scope)) Limit _ (small (length scope) g.few)
@@ -109,7 +116,8 @@ product_left ks scope i g =
     small n lt = grind (arith, lt)
 
 -- the product with it is not too wide
-pub item_good : (ks scope : List Named) (i : program.Source) (width : ℕ) (fields : List Name) → IsGood ks scope i → width ≡ widths_of scope → width ≤ 16 → fields ≡ fields_of ks i.stream
+pub item_good : (ks scope : List Named) (i : program.Source) (width : ℕ) (fields : List Name) → IsGood ks scope i → width ≡ widths_of scope → width ≤ 16
+    → fields ≡ fields_of ks i.stream
     → length fields ≤ 16 - width → (width + length fields ≡ widths_of (scope ++ item_named ks i ∷ [])) × (item_fault ks scope i ≡ None)
 item_good ks scope i width fields g w low f le =
     let a = widths-append scope (item_named ks i) in
@@ -121,7 +129,8 @@ item_good ks scope i width fields g w low f le =
     narrow n le = grind (arith, le)
 
 -- it is too wide
-pub item_wide : (ks scope : List Named) (i : program.Source) (width : ℕ) (fields : List Name) → IsGood ks scope i → width ≡ widths_of scope → width ≤ 16 → fields ≡ fields_of ks i.stream
+pub item_wide : (ks scope : List Named) (i : program.Source) (width : ℕ) (fields : List Name) → IsGood ks scope i → width ≡ widths_of scope → width ≤ 16
+    → fields ≡ fields_of ks i.stream
     → 16 - width < length fields → item_fault ks scope i ≡ Some Limit
 item_wide ks scope i width fields g w low f lt =
     let a = widths-append scope (item_named ks i) in
@@ -158,7 +167,8 @@ scope_next ks all i x lt e =
 
 -- one item more, without a fault
 pub item_next : (ks : List Named) (all : List Source) (i wide wider : ℕ) (x : Source) → SoFar ks all i wide → i < length all → x ≡ get_or all i x
-    → (wider ≡ widths_of (scope_of ks (sources_of (take i all)) ++ item_named ks (source_of x) ∷ [])) × (item_fault ks (scope_of ks (sources_of (take i all))) (source_of x) ≡ None)
+    → (wider ≡ widths_of (scope_of ks (sources_of (take i all)) ++ item_named ks (source_of x) ∷ []))
+    × (item_fault ks (scope_of ks (sources_of (take i all))) (source_of x) ≡ None)
     → SoFar ks all (i + 1) wider
 item_next ks all i wide wider x s lt e g = record {
   whole =

@@ -1,5 +1,6 @@
 -- Lists that are gone over one element after another.
-use Rattle.std.proofs.Common.{◌≡◌, ℕ, zero, suc, ◌+◌, ◌<◌, ◌≤◌, List, [], ◌∷◌, ◌++◌, length, take, drop, map, get_or, Bool, true, false, Some, length-drop, refl, sym, ap, ◌∙◌, arith, add-one, drop-cons}
+use Rattle.std.proofs.Common.{◌≡◌, ℕ, zero, suc, ◌+◌, ◌<◌, ◌≤◌, List, [], ◌∷◌, ◌++◌, length, take, drop, map, get_or, Bool, true, false, Some, length-drop}
+use Rattle.std.proofs.Common.{refl, sym, ap, ◌∙◌, arith, add-one, drop-cons}
 use Rattle.std.specs.Prelude.{min, nat_lt, if◌then◌else◌}
 use Rattle.std.proofs.lemmas.List.{take_more, map-append}
 use Rattle.river_base.specs.Name.{name_eq}
@@ -21,7 +22,8 @@ pub drop_next : {A : Type 0} (xs : List A) (i : ℕ) (x : A) → i < length xs �
 drop_next xs i x lt e = drop-cons xs i x lt ∙ ap (λ y. y ∷ drop (suc i) xs) (sym e) ∙ ap (λ k. x ∷ drop k xs) (sym (add-one i))
 
 -- one name more
-pub count_next : (q : Name) (xs : List Name) (i : ℕ) (x : Name) → i < length xs → x ≡ get_or xs i x → count q (take (i + 1) xs) ≡ count q (take i xs) + one_if (name_eq x q)
+pub count_next : (q : Name) (xs : List Name) (i : ℕ) (x : Name) → i < length xs → x ≡ get_or xs i x
+    → count q (take (i + 1) xs) ≡ count q (take i xs) + one_if (name_eq x q)
 count_next q xs i x lt e = let a = count-append q (take i xs) (x ∷ []) in ap (count q) (take_next xs i x lt e) ∙ omega (arith, a)
 
 -- one item more
@@ -60,7 +62,8 @@ too_many is i cs lt le = some (drop i cs) (let l = length-drop i cs in omega (ar
 
   some : (ds : List Column) → 0 < length ds → chosen_fault is i (chosen_of ds) ≡ Some Limit
   some [] lt = absurd (omega (arith, lt))
-  some (d ∷ ds) lt = ap (λ b. then_fault (fault_if b Limit) (then_fault (scalar_fault is (column_of d).value) (chosen_fault is (i + 1) (chosen_of ds)))) (high i le)
+  some (d ∷ ds) lt =
+      ap (λ b. then_fault (fault_if b Limit) (then_fault (scalar_fault is (column_of d).value) (chosen_fault is (i + 1) (chosen_of ds)))) (high i le)
 
 -- nothing is left behind the last element
 pub drop_all : {A : Type 0} (xs : List A) (i : ℕ) → length xs ≤ i → drop i xs ≡ []

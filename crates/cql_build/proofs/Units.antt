@@ -27,7 +27,8 @@ judging_start parts k h = record { ks = []; knows = h; whole = refl }
 one_unit : (ks : List Named) (many unit : ℕ) (p : program.Part) (ps : Program)
     → first_fault ks many unit (p ∷ ps) ≡ in_unit unit (unit_fault ks many p) (first_fault (part_named ks p ∷ ks) (many + registers p) (unit + 1) ps)
 one_unit ks many unit (Register name fields) ps = refl
-one_unit ks many unit (Ask q) ps = ap (λ n. in_unit unit (query_fault ks q) (first_fault (query_named ks q ∷ ks) n (unit + 1) ps)) (let e : many ≡ many + 0 = omega arith in e)
+one_unit ks many unit (Ask q) ps =
+    ap (λ n. in_unit unit (query_fault ks q) (first_fault (query_named ks q ∷ ks) n (unit + 1) ps)) (let e : many ≡ many + 0 = omega arith in e)
 
 at_unit : (parts : List Part) (i many : ℕ) (k : Known) (p : Part) (j : Judging parts i many k) → i < length parts → p ≡ get_or parts i p
     → first_fault [] 0 1 (program_of parts)
@@ -43,7 +44,9 @@ pub judging_next : (parts : List Part) (i many : ℕ) (k k' : Known) (p : Part) 
 judging_next parts i many k k' p j lt e none knows = record {
   ks = part_named j.ks (part_of p) ∷ j.ks;
   knows = knows;
-  whole = at_unit parts i many k p j lt e ∙ ap (λ o. in_unit (i + 1) o (first_fault (part_named j.ks (part_of p) ∷ j.ks) (many + registers (part_of p)) (i + 1 + 1) (program_of (drop (i + 1) parts)))) (sym none);
+  whole =
+      at_unit parts i many k p j lt e
+      ∙ ap (λ o. in_unit (i + 1) o (first_fault (part_named j.ks (part_of p) ∷ j.ks) (many + registers (part_of p)) (i + 1 + 1) (program_of (drop (i + 1) parts)))) (sym none);
 }
 
 -- a unit that has a fault

@@ -10,7 +10,8 @@ use Rattle.river_kernels.specs.Kern.{streamer}
 use Rattle.cql_model.specs.Accepted.{IsQuery}
 use Rattle.cql_model.specs.Faults.{IsShortName}
 use Rattle.cql_model.specs.Scopes.{Named, scope_of}
-use Rattle.cql_model.specs.Translation.{op, at_word, cross_decls, out_name, out_ops, out_decls, decl, select_decls, project_decls, widths_of, columns_width, query_decls, query_ops}
+use Rattle.cql_model.specs.Translation.{op, at_word, cross_decls, out_name, out_ops, out_decls, decl, select_decls, project_decls, widths_of, columns_width}
+use Rattle.cql_model.specs.Translation.{query_decls, query_ops}
 use Rattle.cql_model.specs.Program.{Query, Part, Register, Ask, streams_of}
 use Rattle.cql_build.specs.declared.uses.Uses.{Uses}
 

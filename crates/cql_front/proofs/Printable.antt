@@ -9,7 +9,8 @@ use Rattle.river_print.specs.Writable.{Every}
 use Rattle.river_print.proofs.Spoken.{IsSpoken, every-joined, spoken-printable}
 use Rattle.cql_model.specs.Program.{Scalar, Source, Columns, Star, Chosen, Query, Register, Ask, Program, registered, streams_of, all_uses}
 use Rattle.cql_model.specs.Scopes.{Named, scope_of}
-use Rattle.cql_model.specs.Translation.{sources, w_name, x_name, window_ops, cross_ops, select_ops, project_ops, project_last, out_ops, tail_ops, item_ops, item_last, query_ops, query_named, ask_ops, copy_ops, input_ops, plan_of}
+use Rattle.cql_model.specs.Translation.{sources, w_name, x_name, window_ops, cross_ops, select_ops, project_ops, project_last, out_ops, tail_ops, item_ops}
+use Rattle.cql_model.specs.Translation.{item_last, query_ops, query_named, ask_ops, copy_ops, input_ops, plan_of}
 use Rattle.cql_model.proofs.Counting.{stream_op, project_from, block_ops}
 use Rattle.cql_front.specs.Laws.{PlansArePrintable}
 use Rattle.cql_build.specs.Seen.{window_of, source_of, program_of}

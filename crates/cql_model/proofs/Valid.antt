@@ -333,7 +333,8 @@ plans_keep p a small =
       queues_once = λ q. let e = names_are q in let o = queues q in omega (arith, e, o);
       variables_once = λ v. let t = total-vars v (ops_of p) in let o = vars v in omega (arith, t, o);
       labels_once =
-          λ l. let s = split_ops (named_it l) in let e = all_labels l ins all [] [] p in let o = sums_once (labels_of all) l p a.names a.once (labels_once all p items) in omega (arith, s, e, o);
+          λ l. let s =
+          split_ops (named_it l) in let e = all_labels l ins all [] [] p in let o = sums_once (labels_of all) l p a.names a.once (labels_once all p items) in omega (arith, s, e, o);
       reads_declared = λ q lt. let t = reads_there (ops_of p) known order q lt in let e = names_are q in let w = writes_are q in omega (arith, t, e, w);
       writes_declared = λ q lt. let e = names_are q in let w = writes_are q in omega (arith, e, w, lt);
       vars_declared = λ v lt. let t = total-vars v (ops_of p) in omega (arith, t, lt);

@@ -16,7 +16,8 @@ use Rattle.cql_text.proofs.Units.{exact-source, comma-source, exact-column, comm
 use Rattle.cql_text.proofs.Words.{exact-plain}
 
 -- what is read exactly leaves no more tokens than there were
-shorter : {A : Type 0} {F : A → List Tok → Type 0} {p : parse.Parse A} {E : List Tok → Type 0} → Exact F p E → (ts us : List Tok) (v : A) → p ts ≡ Some (v, us) → length us ≤ length ts
+shorter : {A : Type 0} {F : A → List Tok → Type 0} {p : parse.Parse A} {E : List Tok → Type 0} → Exact F p E → (ts us : List Tok) (v : A) → p ts ≡ Some (v, us)
+    → length us ≤ length ts
 shorter x ts us v e =
     let f = x.sound ts v us e in
     let size : length ts ≡ length f.front + length us = ap length f.is ∙ length-append f.front us in
@@ -26,7 +27,8 @@ shorter x ts us v e =
 pub taken-shorter : (x : Symbol) (ts : List Tok) → parse.begins_with x ts ≡ true → length (tail ts) < length ts
 taken-shorter x ts e = let size : length ts ≡ suc (length (tail ts)) = ap length (begins_with-is x ts e) in omega arith
 
-pub names-next : (done : List Name) (ts us : List Tok) (v : Name) → parse.begins_with s.Comma ts ≡ true → plain_at (tail ts) ≡ Some (v, us) → repeated (parse.comma_turn plain_at) (done ++ v ∷ []) us ≡ repeated (parse.comma_turn plain_at) done ts
+pub names-next : (done : List Name) (ts us : List Tok) (v : Name) → parse.begins_with s.Comma ts ≡ true → plain_at (tail ts) ≡ Some (v, us)
+    → repeated (parse.comma_turn plain_at) (done ++ v ∷ []) us ≡ repeated (parse.comma_turn plain_at) done ts
 names-next = comma-next exact-plain (λ rest. tt)
 
 pub name-shorter : (ts us : List Tok) (v : Name) → plain_at ts ≡ Some (v, us) → length us ≤ length ts
@@ -34,7 +36,8 @@ name-shorter = shorter exact-plain
 
 pub ruleset names = (names-next, name-shorter, taken-shorter, comma-stop, comma-bad)
 
-pub sources-next : (done : List Source) (ts us : List Tok) (v : Source) → parse.begins_with s.Comma ts ≡ true → source_at (tail ts) ≡ Some (v, us) → repeated (parse.comma_turn source_at) (done ++ v ∷ []) us ≡ repeated (parse.comma_turn source_at) done ts
+pub sources-next : (done : List Source) (ts us : List Tok) (v : Source) → parse.begins_with s.Comma ts ≡ true → source_at (tail ts) ≡ Some (v, us)
+    → repeated (parse.comma_turn source_at) (done ++ v ∷ []) us ≡ repeated (parse.comma_turn source_at) done ts
 sources-next = comma-next exact-source comma-source
 
 pub source-shorter : (ts us : List Tok) (v : Source) → source_at ts ≡ Some (v, us) → length us ≤ length ts
@@ -42,7 +45,8 @@ source-shorter = shorter exact-source
 
 pub ruleset sources = (source-shorter, taken-shorter, comma-stop, comma-bad)
 
-pub columns-next : (done : List Column) (ts us : List Tok) (v : Column) → parse.begins_with s.Comma ts ≡ true → column_at (tail ts) ≡ Some (v, us) → repeated (parse.comma_turn column_at) (done ++ v ∷ []) us ≡ repeated (parse.comma_turn column_at) done ts
+pub columns-next : (done : List Column) (ts us : List Tok) (v : Column) → parse.begins_with s.Comma ts ≡ true → column_at (tail ts) ≡ Some (v, us)
+    → repeated (parse.comma_turn column_at) (done ++ v ∷ []) us ≡ repeated (parse.comma_turn column_at) done ts
 columns-next = comma-next exact-column comma-column
 
 pub column-shorter : (ts us : List Tok) (v : Column) → column_at ts ≡ Some (v, us) → length us ≤ length ts

@@ -83,7 +83,8 @@ operator-is (suc (suc (suc zero))) x = refl
 operator-is (suc (suc (suc (suc zero)))) x = sym (no-rank 4 (op_at x) (λ o. (rank-some o).1))
 operator-is (suc (suc (suc (suc (suc zero))))) x = refl
 operator-is (suc (suc (suc (suc (suc (suc zero)))))) x = refl
-operator-is (suc (suc (suc (suc (suc (suc (suc k))))))) x = sym (no-rank (suc (suc (suc (suc (suc (suc (suc k))))))) (op_at x) (λ o e. let few = (rank-some o).2 in omega (arith, few, e)))
+operator-is (suc (suc (suc (suc (suc (suc (suc k))))))) x =
+    sym (no-rank (suc (suc (suc (suc (suc (suc (suc k))))))) (op_at x) (λ o e. let few = (rank-some o).2 in omega (arith, few, e)))
 
 pub operator_at-is : (k : ℕ) (ts : List Tok) → lines.operator_at syntax k ts ≡ values.operator_at k ts
 operator_at-is k [] = refl

@@ -46,7 +46,8 @@ same_marks text ms ns e f = same (sym e ∙ f) where
   same : ◌≡◌ {A = Result (List Mark) LexFault} (Ok ms) (Ok ns) → ms ≡ ns
   same g = cc
 
-same_reading : (text : List ℕ) (ms ns : List Mark) → tokens_in text ≡ Ok ms → tokens_in text ≡ Ok ns → parts_in (units_of (toks ms)) ≡ parts_in (units_of (toks ns))
+same_reading : (text : List ℕ) (ms ns : List Mark) → tokens_in text ≡ Ok ms → tokens_in text ≡ Ok ns
+    → parts_in (units_of (toks ms)) ≡ parts_in (units_of (toks ns))
 same_reading text ms ns e f = ap (λ (l : List Mark). parts_in (units_of (toks l))) (same_marks text ms ns e f)
 
 -- the law: a text stands for one program at most
@@ -63,7 +64,8 @@ reads_what_stands ts p = ((λ e. whole-sound exact-part ts p e), (λ h. whole-co
 pub program-read : (marks : List Mark) (p : List Part) → parts_in (units_of (toks marks)) ≡ Ok p → StandFor marks p
 program-read marks p e = units-read (units_of (toks marks)) p e
 
-pub program-refused : (marks : List Mark) (n : ℕ) → parts_in (units_of (toks marks)) ≡ Err n → IsBadUnit (units_of (toks marks)) n × ((p : List Part) → StandFor marks p → ⊥)
+pub program-refused : (marks : List Mark) (n : ℕ) → parts_in (units_of (toks marks)) ≡ Err n
+    → IsBadUnit (units_of (toks marks)) n × ((p : List Part) → StandFor marks p → ⊥)
 program-refused marks n e = (units-bad (units_of (toks marks)) n e, λ p h. never p (sym e ∙ units-reads (units_of (toks marks)) p h)) where
   never : (p : List Part) → ◌≡◌ {A = Result (List Part) ℕ} (Err n) (Ok p) → ⊥
   never p f = cc

@@ -6,12 +6,17 @@ use Rattle.work_code.specs.declared.sign.Symbol.TheVariants as s
 use Rattle.text_forms.specs.Parse as parse
 use Rattle.text_forms.specs.Forms as form
 use Rattle.text_forms.proofs.Choices.{exact-never, exact-choose, exact-headed, exact-known}
-use Rattle.text_forms.proofs.Exact.{Exact, Any, exact-less, exact-name, exact-number, exact-nothing, exact-both, exact-after, exact-before, exact-tested, exact-maybe, exact-seen, exact-merged}
+use Rattle.text_forms.proofs.Exact.{Exact, Any, exact-less, exact-name, exact-number, exact-nothing, exact-both, exact-after, exact-before, exact-tested}
+use Rattle.text_forms.proofs.Exact.{exact-maybe, exact-seen, exact-merged}
 use Rattle.text_forms.proofs.Many.{exact-commas}
 use Rattle.cql_text.specs.Tree.{Name, Scalar, Window, Now, Unbounded, Latest, Column, Columns, Star, Chosen, Part}
 use Rattle.text_forms.specs.Lines as lines
-use Rattle.cql_text.specs.Grammar.{kind_of, IsKind, time_of, made_span, IsSpan, IsRange, IsRows, IsWindow, IsAlias, InBrackets, made_source, IsSource, made_column, IsColumn, IsColumns, InRound, IsWhere, IsBehind, IsSelected, made_query, IsQuery, Fields, made_stream, IsStream, IsPart, IsPartAt}
-use Rattle.cql_text.specs.Reading.{kind_at, is_time, is_time_at, time_at, span_at, range_at, rows_at, window_after, window_at, in_brackets_at, alias_at, is_alias_at, called_at, source_at, sources_at, as_at, column_at, chosen_at, columns_at, in_round_at, where_at, behind_at, selected_at, query_at, names_at, fields_at, stream_at, part_at, part_from}
+use Rattle.cql_text.specs.Grammar.{kind_of, IsKind, time_of, made_span, IsSpan, IsRange, IsRows, IsWindow, IsAlias, InBrackets, made_source, IsSource}
+use Rattle.cql_text.specs.Grammar.{made_column, IsColumn, IsColumns, InRound, IsWhere, IsBehind, IsSelected, made_query, IsQuery, Fields, made_stream, IsStream}
+use Rattle.cql_text.specs.Grammar.{IsPart, IsPartAt}
+use Rattle.cql_text.specs.Reading.{kind_at, is_time, is_time_at, time_at, span_at, range_at, rows_at, window_after, window_at, in_brackets_at, alias_at}
+use Rattle.cql_text.specs.Reading.{is_alias_at, called_at, source_at, sources_at, as_at, column_at, chosen_at, columns_at, in_round_at, where_at, behind_at}
+use Rattle.cql_text.specs.Reading.{selected_at, query_at, names_at, fields_at, stream_at, part_at, part_from}
 use Rattle.cql_text.specs.Values.{word_op, of_rank, IsLeaf, Spells, IsValue}
 use Rattle.cql_text.specs.Values as rule
 use Rattle.cql_text.specs.Words.{is_keyword, is_keyword_at, is_plain, Plain, Keyword}
@@ -127,7 +132,8 @@ NoAs rest = is_keyword_at (codes "as") rest ≡ false
 
 exact-as_name : Exact (form.Maybe (Keyword (codes "as") Plain)) as_at NoAs
 unfolding as_at
-exact-as_name = exact-less (exact-maybe (is_keyword_at (codes "as")) (exact-keyword (codes "as") exact-plain) (λ v ts rest h. keyword-at Plain (codes "as") v ts rest h)) (λ rest d. (tt, d))
+exact-as_name =
+    exact-less (exact-maybe (is_keyword_at (codes "as")) (exact-keyword (codes "as") exact-plain) (λ v ts rest h. keyword-at Plain (codes "as") v ts rest h)) (λ rest d. (tt, d))
 
 -- behind a column comes no operator, no dot and no `As`
 abbrev pub AfterColumn : List Tok → Type 0
@@ -162,8 +168,10 @@ no_star n k t ts (lines.leaf p u us h) rest = leaf-no_star p u us h rest
 no_star n k t ts (lines.bracket p u us g) rest = refl
 no_star n k t ts (lines.call p y q u us c g) rest = absurd (cc c)
 no_star n k t ts (lines.tighter p j u us g) rest = no_star p j u us g rest
-no_star n k t ts (lines.chain p j y o a b us vs f c g h) rest = ap (parse.begins_with s.Star) (append_assoc us (y ∷ vs) rest) ∙ no_star p (suc j) a us g (y ∷ (vs ++ rest))
-no_star n k t ts (lines.once p j y o a b us vs f c g h) rest = ap (parse.begins_with s.Star) (append_assoc us (y ∷ vs) rest) ∙ no_star p j a us g (y ∷ (vs ++ rest))
+no_star n k t ts (lines.chain p j y o a b us vs f c g h) rest =
+    ap (parse.begins_with s.Star) (append_assoc us (y ∷ vs) rest) ∙ no_star p (suc j) a us g (y ∷ (vs ++ rest))
+no_star n k t ts (lines.once p j y o a b us vs f c g h) rest =
+    ap (parse.begins_with s.Star) (append_assoc us (y ∷ vs) rest) ∙ no_star p j a us g (y ∷ (vs ++ rest))
 no_star n k t ts (lines.prefix p j y q u us c h) rest = sign-no_star j y q (us ++ rest) c
 
 column-star : (v : Column) (us rest : List Tok) → IsColumn v us → parse.begins_with s.Star (us ++ rest) ≡ false
@@ -196,7 +204,8 @@ AfterWhere rest = Ends 6 rest × (is_keyword_at (codes "where") rest ≡ false)
 
 exact-where : Exact IsWhere where_at AfterWhere
 unfolding where_at
-exact-where = exact-maybe (is_keyword_at (codes "where")) (exact-keyword (codes "where") (exact-scalar 128)) (λ v ts rest h. keyword-at (IsValue 128) (codes "where") v ts rest h)
+exact-where =
+    exact-maybe (is_keyword_at (codes "where")) (exact-keyword (codes "where") (exact-scalar 128)) (λ v ts rest h. keyword-at (IsValue 128) (codes "where") v ts rest h)
 
 abbrev IsEnd : Option Scalar → List Tok → Type 0
 IsEnd = form.Before IsWhere (s.Semicolon ∷ [])
@@ -235,7 +244,8 @@ exact-fields = exact-after (s.Open ∷ []) (exact-before (s.Close ∷ s.Semicolo
 
 exact-stream : Exact IsStream stream_at Any
 unfolding stream_at
-exact-stream = exact-keyword (codes "register") (exact-keyword (codes "stream") (exact-seen made_stream (exact-both exact-plain exact-fields (λ y ts rest h d. tt))))
+exact-stream =
+    exact-keyword (codes "register") (exact-keyword (codes "stream") (exact-seen made_stream (exact-both exact-plain exact-fields (λ y ts rest h d. tt))))
 
 query-begins : (v : Part) (ts rest : List Tok) → IsQuery v ts → is_keyword_at (codes "register") (ts ++ rest) ≡ false
 query-begins v ts rest h = rw h.is (other_word (codes "query") (codes "register") h.spelled h.same refl)

@@ -43,15 +43,18 @@ numeral-here v rest h = exact-numeral.complete v (number v ∷ []) rest (record 
 
 -- LEAVES
 
-field-sound : (n : ℕ) (text : List ℕ) (ts : List Tok) (t : Scalar) (rest : List Tok) → is_plain text ≡ true → parse.begins_with s.Dot ts ≡ true → parse.seen (ItemField text) plain_at (tail ts) ≡ Some (t, rest) → Front (IsLeaf n) t (name text ∷ ts) rest
+field-sound : (n : ℕ) (text : List ℕ) (ts : List Tok) (t : Scalar) (rest : List Tok) → is_plain text ≡ true → parse.begins_with s.Dot ts ≡ true
+    → parse.seen (ItemField text) plain_at (tail ts) ≡ Some (t, rest) → Front (IsLeaf n) t (name text ∷ ts) rest
 field-sound n text ts t rest plain dot e =
     let f = (exact-seen (ItemField text) exact-plain).sound (tail ts) t rest e in
     let v = f.formed.value in
     let tokens : f.front ≡ name v ∷ [] = f.formed.formed.formed in
     record {
       front = name text ∷ symbol s.Dot ∷ name v ∷ [];
-      is = ap (λ (us : List Tok). name text ∷ us) (begins_with-is s.Dot ts dot ∙ ap (λ (us : List Tok). symbol s.Dot ∷ us) (f.is ∙ ap (λ (us : List Tok). us ++ rest) tokens));
-      formed = subst (λ (u : Scalar). IsLeaf n u (name text ∷ symbol s.Dot ∷ name v ∷ [])) (sym f.formed.is) (rule.of_item n text v plain f.formed.formed.passes);
+      is =
+          ap (λ (us : List Tok). name text ∷ us) (begins_with-is s.Dot ts dot ∙ ap (λ (us : List Tok). symbol s.Dot ∷ us) (f.is ∙ ap (λ (us : List Tok). us ++ rest) tokens));
+      formed =
+          subst (λ (u : Scalar). IsLeaf n u (name text ∷ symbol s.Dot ∷ name v ∷ [])) (sym f.formed.is) (rule.of_item n text v plain f.formed.formed.passes);
     }
 
 leaf-sound : (n : ℕ) (ts : List Tok) (t : Scalar) (rest : List Tok) → leaf_at ts ≡ Some (t, rest) → Front (IsLeaf n) t ts rest

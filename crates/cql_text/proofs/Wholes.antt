@@ -1,5 +1,6 @@
 -- The steps by which code reads whole units, one behind the other.
-use Rattle.std.proofs.Common.{◌≡◌, ℕ, ◌<◌, ◌≤◌, ◌+◌, List, [], ◌∷◌, ◌++◌, length, drop, get_or, Some, None, Result, Ok, Err, refl, sym, ap, ◌∙◌, append_assoc, append-nil}
+use Rattle.std.proofs.Common.{◌≡◌, ℕ, ◌<◌, ◌≤◌, ◌+◌, List, [], ◌∷◌, ◌++◌, length, drop, get_or, Some, None, Result, Ok, Err, refl, sym, ap, ◌∙◌, append_assoc}
+use Rattle.std.proofs.Common.{append-nil}
 use Rattle.std.specs.Prelude.{map}
 use Rattle.std.specs.Borrow.{Bor}
 use Rattle.std.proofs.lemmas.List.{drop_more, drop_all}
@@ -42,17 +43,22 @@ at : (n : ℕ) (parts : List (Bor (List Lexeme))) (i : ℕ) (e : Bor (List Lexem
 at n parts i e h = ap (λ (l : List (Bor (List Lexeme))). units_from n (map unit_tokens l)) (drop_more parts i e h)
 
 -- one unit more
-pub units-next : (done : List Part) (n : ℕ) (parts : List (Bor (List Lexeme))) (i : ℕ) (e : Bor (List Lexeme)) (p : Part) → i < length parts → whole part_at (unit_tokens (get_or parts i e)) ≡ Some p
+pub units-next : (done : List Part) (n : ℕ) (parts : List (Bor (List Lexeme))) (i : ℕ) (e : Bor (List Lexeme)) (p : Part) → i < length parts
+    → whole part_at (unit_tokens (get_or parts i e)) ≡ Some p
     → behind (done ++ p ∷ []) (units_from (n + 1) (map unit_tokens (drop (i + 1) parts))) ≡ behind done (units_from n (map unit_tokens (drop i parts)))
 units-next done n parts i e p h read =
     behind-first done p (units_from (n + 1) (map unit_tokens (drop (i + 1) parts)))
     ∙ sym (ap (behind done) (at n parts i e h ∙ ap (after_unit n (λ q. units_from (n + 1) (map unit_tokens (drop (i + 1) parts)))) read))
 
 -- a unit that is none is told by its number
-pub units-bad : (done : List Part) (n : ℕ) (parts : List (Bor (List Lexeme))) (i : ℕ) (e : Bor (List Lexeme)) → i < length parts → whole part_at (unit_tokens (get_or parts i e)) ≡ None
+pub units-bad : (done : List Part) (n : ℕ) (parts : List (Bor (List Lexeme))) (i : ℕ) (e : Bor (List Lexeme)) → i < length parts
+    → whole part_at (unit_tokens (get_or parts i e)) ≡ None
     → behind done (units_from n (map unit_tokens (drop i parts))) ≡ Err n
-units-bad done n parts i e h read = ap (behind done) (at n parts i e h ∙ ap (after_unit n (λ q. units_from (n + 1) (map unit_tokens (drop (i + 1) parts)))) read)
+units-bad done n parts i e h read =
+    ap (behind done) (at n parts i e h ∙ ap (after_unit n (λ q. units_from (n + 1) (map unit_tokens (drop (i + 1) parts)))) read)
 
 -- behind the last unit all are read
-pub units-end : (done : List Part) (n : ℕ) (parts : List (Bor (List Lexeme))) (i : ℕ) → length parts ≤ i → behind done (units_from n (map unit_tokens (drop i parts))) ≡ Ok done
-units-end done n parts i h = ap (λ (l : List (Bor (List Lexeme))). behind done (units_from n (map unit_tokens l))) (drop_all i parts h) ∙ ap Ok (append-nil done)
+pub units-end : (done : List Part) (n : ℕ) (parts : List (Bor (List Lexeme))) (i : ℕ) → length parts ≤ i
+    → behind done (units_from n (map unit_tokens (drop i parts))) ≡ Ok done
+units-end done n parts i h =
+    ap (λ (l : List (Bor (List Lexeme))). behind done (units_from n (map unit_tokens l))) (drop_all i parts h) ∙ ap Ok (append-nil done)

@@ -71,7 +71,8 @@ where-not_plain text e = by (is_plain text) refl where
 pub other_word : (word other text : List ℕ) → is_keyword word text ≡ true → is_keyword other word ≡ false → is_keyword other text ≡ false
 other_word word other text e ne = ap (λ w. bytes_eq w (lower other)) ((bytes_eq-Decides (lower text) (lower word)).0 e) ∙ ne
 
-pub keyword-found : (word : List ℕ) (ts : List Tok) → is_keyword_at word ts ≡ true → (text : List ℕ) × (ts ≡ name text ∷ tail ts) × (is_keyword word text ≡ true)
+pub keyword-found : (word : List ℕ) (ts : List Tok) → is_keyword_at word ts ≡ true
+    → (text : List ℕ) × (ts ≡ name text ∷ tail ts) × (is_keyword word text ≡ true)
 keyword-found word [] e = cc
 keyword-found word (name text ∷ ts) e = (text, refl, e)
 keyword-found word (var text ∷ ts) e = cc
@@ -83,7 +84,8 @@ if-some true r v e = (refl, e)
 if-some false r v e = cc
 
 -- what stands behind a keyword
-pub exact-keyword : {A : Type 0} {F : A → List Tok → Type 0} {p : parse.Parse A} {E : List Tok → Type 0} (word : List ℕ) → Exact F p E → Exact (Keyword word F) (keyword word p) E
+pub exact-keyword : {A : Type 0} {F : A → List Tok → Type 0} {p : parse.Parse A} {E : List Tok → Type 0} (word : List ℕ) → Exact F p E
+    → Exact (Keyword word F) (keyword word p) E
 exact-keyword {A} {F} {p} {E} word x = record { sound = sound; complete = complete } where
   sound : (ts : List Tok) (v : A) (rest : List Tok) → keyword word p ts ≡ Some (v, rest) → Front (Keyword word F) v ts rest
   sound ts v rest e =
@@ -95,5 +97,6 @@ exact-keyword {A} {F} {p} {E} word x = record { sound = sound; complete = comple
   complete : (v : A) (s rest : List Tok) → Keyword word F v s → E rest → keyword word p (s ++ rest) ≡ Some (v, rest)
   complete v s rest h d = rw (h.is, h.same) (x.complete v h.back rest h.formed d)
 
-pub keyword-at : {A : Type 0} (F : A → List Tok → Type 0) (word : List ℕ) (v : A) (s rest : List Tok) → Keyword word F v s → is_keyword_at word (s ++ rest) ≡ true
+pub keyword-at : {A : Type 0} (F : A → List Tok → Type 0) (word : List ℕ) (v : A) (s rest : List Tok) → Keyword word F v s
+    → is_keyword_at word (s ++ rest) ≡ true
 keyword-at F word v s rest h = rw h.is h.same

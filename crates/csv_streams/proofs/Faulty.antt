@@ -1,5 +1,6 @@
 -- The fault that is told of a file is its fault.
-use Rattle.std.proofs.Common.{◌≡◌, ◌⊎◌, inl, inr, ⊎_elim, ℕ, suc, ◌+◌, ◌<◌, List, [], ◌∷◌, ◌++◌, length, take, drop, Bool, true, false, cond, refl, sym, ◌∙◌, ap, subst, arith, nat_lt}
+use Rattle.std.proofs.Common.{◌≡◌, ◌⊎◌, inl, inr, ⊎_elim, ℕ, suc, ◌+◌, ◌<◌, List, [], ◌∷◌, ◌++◌, length, take, drop, Bool, true, false, cond, refl, sym, ◌∙◌}
+use Rattle.std.proofs.Common.{ap, subst, arith, nat_lt}
 use Rattle.std.specs.Prelude.{ℤ, Option, None, Some, Result, Ok, Err}
 use Rattle.std.proofs.lemmas.Bool.Decides.{nat_tests}
 use Rattle.csv_streams.specs.Number.{number_of}
@@ -44,7 +45,8 @@ first_at {A} {B} {F} g n (x ∷ xs) f e = step (g n x) refl (numbered g (n + 1) 
   told : (h : F) → failed {B = B} {F = F} h ≡ failed f → h ≡ f
   told h k = cc
 
-  step : (r : Result B F) → g n x ≡ r → (rs : Result (List B) F) → numbered g (n + 1) xs ≡ rs → before (g n x) (numbered g (n + 1) xs) ≡ Err f → (numbered g (n + 1) xs ≡ Err f → FirstAt g (n + 1) xs f) → FirstAt g n (x ∷ xs) f
+  step : (r : Result B F) → g n x ≡ r → (rs : Result (List B) F) → numbered g (n + 1) xs ≡ rs → before (g n x) (numbered g (n + 1) xs) ≡ Err f
+      → (numbered g (n + 1) xs ≡ Err f → FirstAt g (n + 1) xs f) → FirstAt g n (x ∷ xs) f
   step (Err h) p rs q e more =
       let same : h ≡ f = same_fault (g n x) (numbered g (n + 1) xs) h f p e in
       let at : n + 0 ≡ n = omega arith in
@@ -70,7 +72,8 @@ value_none : (rec k : ℕ) (o : Option ℤ) (f : InFault) → value_or rec k o �
 value_none rec k (Some x) f e = cc
 value_none rec k None f e = (refl, cc)
 
-field_fault : (rec : ℕ) (fields : List (List ℕ)) (f : InFault) → numbered (value_in rec) 1 fields ≡ Err f → (k : ℕ) × (f ≡ fault.NotNumber rec k) × IsFirstUnread k fields
+field_fault : (rec : ℕ) (fields : List (List ℕ)) (f : InFault) → numbered (value_in rec) 1 fields ≡ Err f
+    → (k : ℕ) × (f ≡ fault.NotNumber rec k) × IsFirstUnread k fields
 field_fault rec fields f e =
     let m = first_at (value_in rec) 1 fields f e in
     let v = value_none rec (1 + length m.front) (number_of m.here) f m.bad in (

@@ -23,7 +23,8 @@ state_of None = st.StartRecord
 state_of (Some p) = p.1
 
 -- the read of a byte that may end the record
-one_byte : (b : Bool) (r : Read) (more : Option Read) (rest : List ℕ) (p : Read) → r.2 ≡ rest → (more ≡ Some p → length p.2 ≤ length rest) → cond b (Some r) more ≡ Some p → length p.2 ≤ length rest
+one_byte : (b : Bool) (r : Read) (more : Option Read) (rest : List ℕ) (p : Read) → r.2 ≡ rest → (more ≡ Some p → length p.2 ≤ length rest)
+    → cond b (Some r) more ≡ Some p → length p.2 ≤ length rest
 one_byte true r more rest p is later e = omega (arith, ap bytes_after e, ap length is)
 one_byte false r more rest p is later e = later e
 
@@ -31,11 +32,13 @@ at_end : (b : Bool) (fields : List (List ℕ)) (p : Read) → cond b (Some (fiel
 at_end true fields p e = (sym (ap state_of e), sym (ap rest_of e))
 at_end false fields p e = cc
 
-ends : (cfg : Config) (s : State) (fields : List (List ℕ)) (field : List ℕ) (p : Read) → next_record cfg s fields field [] ≡ Some p → (p.1 ≡ st.StartRecord) × (p.2 ≡ [])
+ends : (cfg : Config) (s : State) (fields : List (List ℕ)) (field : List ℕ) (p : Read) → next_record cfg s fields field [] ≡ Some p
+    → (p.1 ≡ st.StartRecord) × (p.2 ≡ [])
 unfolding next_record
 ends cfg s fields field p e = at_end (ends_at_end s) (fields ++ (field ∷ [])) p e
 
-no_longer : (cfg : Config) (s : State) (fields : List (List ℕ)) (field xs : List ℕ) (p : Read) → next_record cfg s fields field xs ≡ Some p → length p.2 ≤ length xs
+no_longer : (cfg : Config) (s : State) (fields : List (List ℕ)) (field xs : List ℕ) (p : Read) → next_record cfg s fields field xs ≡ Some p
+    → length p.2 ≤ length xs
 unfolding next_record
 no_longer cfg s fields field [] p e = omega (arith, ap length (at_end (ends_at_end s) (fields ++ (field ∷ [])) p e).1)
 no_longer cfg s fields field (c ∷ rest) p e =
@@ -53,7 +56,8 @@ unfolding next_record
 nothing cfg p e = cc
 
 -- there are at most as many records as bytes, and one
-pub reached-length : (cfg : Config) (s : State) (xs : List ℕ) (rows : List (List (List ℕ))) (s2 : State) (ys : List ℕ) → Reached cfg s xs rows s2 ys → length rows ≤ length xs + 1
+pub reached-length : (cfg : Config) (s : State) (xs : List ℕ) (rows : List (List (List ℕ))) (s2 : State) (ys : List ℕ) → Reached cfg s xs rows s2 ys
+    → length rows ≤ length xs + 1
 unfolding Reached
 reached-length cfg s xs [] s2 ys r = omega arith
 reached-length cfg s (c ∷ rest) (row ∷ rows) s2 ys r =
@@ -66,7 +70,8 @@ reached-length cfg s [] (row ∷ next ∷ rows) s2 ys r =
     absurd (nothing cfg r.3.0 (rw (e.0, e.1) at r.3.1))
 
 -- the records that were reached are the first of all
-pub reached-records : (cfg : Config) (s : State) (xs : List ℕ) (rows : List (List (List ℕ))) (s2 : State) (ys : List ℕ) (m : ℕ) → Reached cfg s xs rows s2 ys → records_from cfg (length rows + m) s xs ≡ rows ++ records_from cfg m s2 ys
+pub reached-records : (cfg : Config) (s : State) (xs : List ℕ) (rows : List (List (List ℕ))) (s2 : State) (ys : List ℕ) (m : ℕ) → Reached cfg s xs rows s2 ys
+    → records_from cfg (length rows + m) s xs ≡ rows ++ records_from cfg m s2 ys
 unfolding Reached records_from
 reached-records cfg s xs [] s2 ys m r = rw (r.0, r.1) (ap (λ (k : ℕ). records_from cfg k s2 ys) (omega arith))
 reached-records cfg s xs (row ∷ rows) s2 ys m r =
@@ -88,7 +93,9 @@ strip-length (a ∷ b ∷ c ∷ rest) = shorter_or_same (is_bom a b c)
     shorter_or_same false = omega arith
 
 -- all the records of a text, of which these are the first
-pub all-from_reached : (text : List ℕ) (rows : List (List (List ℕ))) (s2 : State) (ys : List ℕ) → Reached default_config st.StartRecord (strip_bom text) rows s2 ys → (more : List (List (List ℕ))) × (csv_records text ≡ rows ++ more) × (length rows ≤ length text + 1)
+pub all-from_reached : (text : List ℕ) (rows : List (List (List ℕ))) (s2 : State) (ys : List ℕ)
+    → Reached default_config st.StartRecord (strip_bom text) rows s2 ys
+    → (more : List (List (List ℕ))) × (csv_records text ≡ rows ++ more) × (length rows ≤ length text + 1)
 all-from_reached text rows s2 ys r =
     let xs = strip_bom text in
     let few = reached-length default_config st.StartRecord xs rows s2 ys r in
@@ -105,7 +112,8 @@ none_from cfg zero s ys none = refl
 none_from cfg (suc m) s ys none = ap (λ (o : Option Read). records_next (records_from cfg m) o) none
 
 -- all the records of a text, where there is no other
-pub all-records : (text : List ℕ) (rows : List (List (List ℕ))) (s2 : State) (ys : List ℕ) → Reached default_config st.StartRecord (strip_bom text) rows s2 ys → next_record default_config s2 [] [] ys ≡ None → csv_records text ≡ rows
+pub all-records : (text : List ℕ) (rows : List (List (List ℕ))) (s2 : State) (ys : List ℕ) → Reached default_config st.StartRecord (strip_bom text) rows s2 ys
+    → next_record default_config s2 [] [] ys ≡ None → csv_records text ≡ rows
 all-records text rows s2 ys r none =
     let xs = strip_bom text in
     let few = reached-length default_config st.StartRecord xs rows s2 ys r in

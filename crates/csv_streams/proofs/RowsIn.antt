@@ -16,16 +16,21 @@ told rows = Ok rows
 abbrev behind : ℕ → Bool → ℕ → List (List (List ℕ)) → Result (List (List ℤ)) InFault
 behind w more h recs = numbered (row_in w more (h + most_rows)) (h + 1) (drop h recs)
 
-behind-header : (w : ℕ) (more : Bool) (h : ℕ) (recs : List (List (List ℕ))) (fields : List (List ℕ)) → length recs + 1 ≤ h → behind w more h (recs ++ fields ∷ []) ≡ behind w more h recs
+behind-header : (w : ℕ) (more : Bool) (h : ℕ) (recs : List (List (List ℕ))) (fields : List (List ℕ)) → length recs + 1 ≤ h
+    → behind w more h (recs ++ fields ∷ []) ≡ behind w more h recs
 behind-header w more h recs fields le =
     ap (numbered (row_in w more (h + most_rows)) (h + 1)) (drop_all h (recs ++ fields ∷ []) (omega (arith, length-append recs (fields ∷ []), le)) ∙ sym (drop_all h recs (omega (arith, le))))
 
-behind-push : (w : ℕ) (more : Bool) (h : ℕ) (recs : List (List (List ℕ))) (fields : List (List ℕ)) (rows : List (List ℤ)) (row : List ℤ) → h ≤ length recs → behind w more h recs ≡ Ok rows → row_in w more (h + most_rows) (length recs + 1) fields ≡ Ok row → behind w more h (recs ++ fields ∷ []) ≡ Ok (rows ++ row ∷ [])
+behind-push : (w : ℕ) (more : Bool) (h : ℕ) (recs : List (List (List ℕ))) (fields : List (List ℕ)) (rows : List (List ℤ)) (row : List ℤ) → h ≤ length recs
+    → behind w more h recs ≡ Ok rows → row_in w more (h + most_rows) (length recs + 1) fields ≡ Ok row
+    → behind w more h (recs ++ fields ∷ []) ≡ Ok (rows ++ row ∷ [])
 behind-push w more h recs fields rows row le so_far is =
     ap (numbered (row_in w more (h + most_rows)) (h + 1)) (drop-append-le h recs (fields ∷ []) le)
     ∙ numbered-push (row_in w more (h + most_rows)) (h + 1) (length recs + 1) (drop h recs) fields rows row so_far (omega (arith, length-drop h recs, le)) is
 
-behind-fault : (w : ℕ) (more : Bool) (h : ℕ) (recs : List (List (List ℕ))) (fields : List (List ℕ)) (others : List (List (List ℕ))) (rows : List (List ℤ)) (f : InFault) → h ≤ length recs → behind w more h recs ≡ Ok rows → row_in w more (h + most_rows) (length recs + 1) fields ≡ Err f → behind w more h (recs ++ fields ∷ others) ≡ Err f
+behind-fault : (w : ℕ) (more : Bool) (h : ℕ) (recs : List (List (List ℕ))) (fields : List (List ℕ)) (others : List (List (List ℕ))) (rows : List (List ℤ)) (f : InFault)
+    → h ≤ length recs → behind w more h recs ≡ Ok rows → row_in w more (h + most_rows) (length recs + 1) fields ≡ Err f
+    → behind w more h (recs ++ fields ∷ others) ≡ Err f
 behind-fault w more h recs fields others rows f le so_far is =
     ap (numbered (row_in w more (h + most_rows)) (h + 1)) (drop-append-le h recs (fields ∷ others) le)
     ∙ numbered-fault (row_in w more (h + most_rows)) (h + 1) (length recs + 1) (drop h recs) fields others rows f so_far (omega (arith, length-drop h recs, le)) is
@@ -36,19 +41,25 @@ rows-none w true more = refl
 rows-none w false more = refl
 
 -- the header is passed over
-pub rows-header : (w : ℕ) (skip more : Bool) (recs : List (List (List ℕ))) (fields : List (List ℕ)) → length recs + 1 ≤ headers skip → rows_in w skip more (recs ++ fields ∷ []) ≡ rows_in w skip more recs
+pub rows-header : (w : ℕ) (skip more : Bool) (recs : List (List (List ℕ))) (fields : List (List ℕ)) → length recs + 1 ≤ headers skip
+    → rows_in w skip more (recs ++ fields ∷ []) ≡ rows_in w skip more recs
 rows-header w skip more recs fields le = behind-header w more (headers skip) recs fields le
 
 -- another row
-pub rows-push : (w : ℕ) (skip more : Bool) (recs : List (List (List ℕ))) (fields : List (List ℕ)) (rows : List (List ℤ)) (row : List ℤ) → headers skip ≤ length recs → rows_in w skip more recs ≡ Ok rows → row_in w more (headers skip + most_rows) (length recs + 1) fields ≡ Ok row → rows_in w skip more (recs ++ fields ∷ []) ≡ Ok (rows ++ row ∷ [])
+pub rows-push : (w : ℕ) (skip more : Bool) (recs : List (List (List ℕ))) (fields : List (List ℕ)) (rows : List (List ℤ)) (row : List ℤ)
+    → headers skip ≤ length recs → rows_in w skip more recs ≡ Ok rows → row_in w more (headers skip + most_rows) (length recs + 1) fields ≡ Ok row
+    → rows_in w skip more (recs ++ fields ∷ []) ≡ Ok (rows ++ row ∷ [])
 rows-push w skip more recs fields rows row le so_far is = behind-push w more (headers skip) recs fields rows row le so_far is
 
 -- the first fault
-pub rows-fault : (w : ℕ) (skip more : Bool) (recs : List (List (List ℕ))) (fields : List (List ℕ)) (others : List (List (List ℕ))) (rows : List (List ℤ)) (f : InFault) → headers skip ≤ length recs → rows_in w skip more recs ≡ Ok rows → row_in w more (headers skip + most_rows) (length recs + 1) fields ≡ Err f → rows_in w skip more (recs ++ fields ∷ others) ≡ Err f
+pub rows-fault : (w : ℕ) (skip more : Bool) (recs : List (List (List ℕ))) (fields : List (List ℕ)) (others : List (List (List ℕ))) (rows : List (List ℤ)) (f : InFault)
+    → headers skip ≤ length recs → rows_in w skip more recs ≡ Ok rows → row_in w more (headers skip + most_rows) (length recs + 1) fields ≡ Err f
+    → rows_in w skip more (recs ++ fields ∷ others) ≡ Err f
 rows-fault w skip more recs fields others rows f le so_far is = behind-fault w more (headers skip) recs fields others rows f le so_far is
 
 -- a record that has a row is not behind the last one that may be
-within_by : (last rec : ℕ) (b : Bool) (others : Result (List ℤ) InFault) (row : List ℤ) → nat_lt last rec ≡ b → cond b (Err fault.TooMany) others ≡ Ok row → rec ≤ last
+within_by : (last rec : ℕ) (b : Bool) (others : Result (List ℤ) InFault) (row : List ℤ) → nat_lt last rec ≡ b → cond b (Err fault.TooMany) others ≡ Ok row
+    → rec ≤ last
 within_by last rec true others row is e = cc
 within_by last rec false others row is e = grind (arith, nat_tests)
 
@@ -56,7 +67,8 @@ pub row_within : (w : ℕ) (more : Bool) (last rec : ℕ) (fields : List (List �
 row_within w more last rec fields row e = within_by last rec (nat_lt last rec) _ row refl e
 
 -- the fault of a record is that of the file
-pub fault_passes : {S T : Type 0} (one : Result S InFault) (file : Result T InFault) (f : InFault) → IsFaultTold one f → (one ≡ Err f → file ≡ Err f) → IsFaultTold file f
+pub fault_passes : {S T : Type 0} (one : Result S InFault) (file : Result T InFault) (f : InFault) → IsFaultTold one f → (one ≡ Err f → file ≡ Err f)
+    → IsFaultTold file f
 fault_passes one file fault.NoMemory h passes = tt
 fault_passes one file fault.TooMany h passes = passes h
 fault_passes one file (fault.Width rec) h passes = passes h

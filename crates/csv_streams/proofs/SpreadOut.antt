@@ -1,5 +1,6 @@
 -- Rows that are spread over instants are neither lost nor doubled.
-use Rattle.std.proofs.Common.{◌≡◌, ℕ, zero, suc, ◌<◌, ◌≤ℤ◌, ◌<ℤ◌, ℤ, pos, List, [], ◌∷◌, ◌++◌, length, get_or, drop, map, Bool, true, false, cond, refl, sym, ap, ◌∙◌, subst, arith}
+use Rattle.std.proofs.Common.{◌≡◌, ℕ, zero, suc, ◌<◌, ◌≤ℤ◌, ◌<ℤ◌, ℤ, pos, List, [], ◌∷◌, ◌++◌, length, get_or, drop, map, Bool, true, false, cond, refl, sym}
+use Rattle.std.proofs.Common.{ap, ◌∙◌, subst, arith}
 use Rattle.std.specs.Prelude.{filter}
 use Rattle.std.specs.List.{Contains, AllByRecursion}
 use Rattle.std.specs.List.Sorted.{IsStrictlySortedBy}
@@ -78,7 +79,8 @@ skipped [] e es h = refl
 skipped (u ∷ us) e es h = ap (λ l. behind u l ++ given us (e ∷ es)) (passed e es u h.0) ∙ ap (λ l. behind u (at_instant es u) ++ l) (skipped us e es h.1)
 
 -- the first row comes first
-first_in : (ts : List ℤ) (e : Entry) (es : List Entry) → IsStrictlySortedBy int_cmp ts → Contains ts e.0 → AllByRecursion (λ d. e.0 ≤ℤ d.0) es → given ts (e ∷ es) ≡ e ∷ given ts es
+first_in : (ts : List ℤ) (e : Entry) (es : List Entry) → IsStrictlySortedBy int_cmp ts → Contains ts e.0 → AllByRecursion (λ d. e.0 ≤ℤ d.0) es
+    → given ts (e ∷ es) ≡ e ∷ given ts es
 unfolding IsStrictlySortedBy
 first_in [] e es up in_ts low = absurd (let lt = in_ts.1 in omega (arith, lt))
 first_in (t ∷ us) e es up in_ts low = step (int_eq e.0 t) refl (first_in us e es up.1) where
@@ -91,7 +93,8 @@ first_in (t ∷ us) e es up in_ts low = step (int_eq e.0 t) refl (first_in us e 
       ∙ ap (λ l. (t, e.1) ∷ (behind t (at_instant es t) ++ l)) (skipped us e es other)
       ∙ ap (λ x. x ∷ (behind t (at_instant es t) ++ given us es)) first
 
-  later : int_eq e.0 t ≡ false → (Contains us e.0 → AllByRecursion (λ d. e.0 ≤ℤ d.0) es → given us (e ∷ es) ≡ e ∷ given us es) → given (t ∷ us) (e ∷ es) ≡ e ∷ given (t ∷ us) es
+  later : int_eq e.0 t ≡ false → (Contains us e.0 → AllByRecursion (λ d. e.0 ≤ℤ d.0) es → given us (e ∷ es) ≡ e ∷ given us es)
+      → given (t ∷ us) (e ∷ es) ≡ e ∷ given (t ∷ us) es
   later h more =
       let there = Contains-tail t us e.0 (λ q. true≢false (sym (same_back t e.0 q) ∙ h)) in_ts in
       let lt : t <ℤ e.0 = member (λ u. t <ℤ u) us e.0 (each (λ u. int_cmp t u ≡ Less) (λ u. t <ℤ u) (less t) us up.0) there.0 there.1 there.2 in
@@ -100,7 +103,8 @@ first_in (t ∷ us) e es up in_ts low = step (int_eq e.0 t) refl (first_in us e 
       ∙ more there low
       ∙ ap (λ l. e ∷ (behind t l ++ given us es)) (sym none)
 
-  step : (b : Bool) → int_eq e.0 t ≡ b → (Contains us e.0 → AllByRecursion (λ d. e.0 ≤ℤ d.0) es → given us (e ∷ es) ≡ e ∷ given us es) → given (t ∷ us) (e ∷ es) ≡ e ∷ given (t ∷ us) es
+  step : (b : Bool) → int_eq e.0 t ≡ b → (Contains us e.0 → AllByRecursion (λ d. e.0 ≤ℤ d.0) es → given us (e ∷ es) ≡ e ∷ given us es)
+      → given (t ∷ us) (e ∷ es) ≡ e ∷ given (t ∷ us) es
   step true h more = here h
   step false h more = later h more
 
@@ -125,4 +129,5 @@ none_lost w t (fields ∷ recs) (e ∷ es) ts all up has =
     ∙ ap (λ l. e ∷ l) (none_lost w e.0 recs es ts all.1 up (λ x h. let lt = h.1 in has x (suc h.0, omega (arith, lt), h.2)))
 
 pub no_row_is_lost : NoRowIsLost
-no_row_is_lost bytes w skip file ts read up has = none_lost w (pos 0) (drop (headers skip) (csv_records bytes)) file ts ((timed_are_written bytes w skip file).0 read).written up has
+no_row_is_lost bytes w skip file ts read up has =
+    none_lost w (pos 0) (drop (headers skip) (csv_records bytes)) file ts ((timed_are_written bytes w skip file).0 read).written up has

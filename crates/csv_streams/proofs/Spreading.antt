@@ -1,5 +1,6 @@
 -- The rows of one timestamp, in a list that is in order of its timestamps.
-use Rattle.std.proofs.Common.{◌≡◌, ℕ, zero, suc, ◌-◌, ◌<◌, ◌≤◌, ℤ, List, [], ◌∷◌, length, get_or, take, drop, map, Bool, true, false, cond, refl, sym, ap, ◌∙◌, subst, arith, int_lt, int_le}
+use Rattle.std.proofs.Common.{◌≡◌, ℕ, zero, suc, ◌-◌, ◌<◌, ◌≤◌, ℤ, List, [], ◌∷◌, length, get_or, take, drop, map, Bool, true, false, cond, refl, sym, ap, ◌∙◌}
+use Rattle.std.proofs.Common.{subst, arith, int_lt, int_le}
 use Rattle.std.specs.Prelude.{nat_lt, not, ◌&&◌}
 use Rattle.std.specs.List.{filter}
 use Rattle.std.specs.List.Sorted.{IsSortedByKey, IsStableByKey, IsPartitionedBy, IsPartitionPoint, ties}
@@ -71,10 +72,12 @@ ranked : IsStrictWeakOrder (λ (x y : Entry). is_lt (int_cmp (stamp x) (stamp y)
 ranked = ranks_by int_cmp_total stamp
 
 pub below_in_front : (rows : List Entry) (t : ℤ) → IsSortedByKey stamp int_cmp rows → IsPartitionedBy (λ e. int_lt (stamp e) t) rows
-below_in_front rows t up i j d h g is = in_front t (get_or rows i d).0 (get_or rows j d).0 (sorted_far (λ x y. is_lt (int_cmp (stamp x) (stamp y))) ranked rows up i j d h g) is
+below_in_front rows t up i j d h g is =
+    in_front t (get_or rows i d).0 (get_or rows j d).0 (sorted_far (λ x y. is_lt (int_cmp (stamp x) (stamp y))) ranked rows up i j d h g) is
 
 pub up_to_in_front : (rows : List Entry) (t : ℤ) → IsSortedByKey stamp int_cmp rows → IsPartitionedBy (λ e. int_le (stamp e) t) rows
-up_to_in_front rows t up i j d h g is = up_to t (get_or rows i d).0 (get_or rows j d).0 (sorted_far (λ x y. is_lt (int_cmp (stamp x) (stamp y))) ranked rows up i j d h g) is
+up_to_in_front rows t up i j d h g is =
+    up_to t (get_or rows i d).0 (get_or rows j d).0 (sorted_far (λ x y. is_lt (int_cmp (stamp x) (stamp y))) ranked rows up i j d h g) is
 
 -- a test that no row passes behind one that fails it, and a place where it turns
 no_more : (p : Entry → Bool) (rows : List Entry) (n : ℕ) → IsPartitionedBy p rows → ((d : Entry) → n < length rows → p (get_or rows n d) ≡ false)
@@ -85,7 +88,8 @@ no_more p rows n parted turns k d low high = step (p (get_or rows k d)) refl whe
   step true is = absurd (let h = parted n k d low high is in let g = turns d (omega (arith, low, high)) in cc (sym h ∙ g))
 
 -- what a test says of the row at a place, whatever is read elsewhere
-pub read_there : (p : Entry → Bool) (b : Bool) (rows : List Entry) (n : ℕ) (e d : Entry) → n < length rows → e ≡ get_or rows n e → p e ≡ b → p (get_or rows n d) ≡ b
+pub read_there : (p : Entry → Bool) (b : Bool) (rows : List Entry) (n : ℕ) (e d : Entry) → n < length rows → e ≡ get_or rows n e → p e ≡ b
+    → p (get_or rows n d) ≡ b
 read_there p b rows n e d lt is h = subst (λ x. p x ≡ b) (get_or_read rows n e lt is d) h
 
 pub ends_there : (p : Entry → Bool) (rows : List Entry) (n : ℕ) → IsPartitionedBy p rows

@@ -1,5 +1,6 @@
 -- One timed record more: the header, a row, or the first fault.
-use Rattle.std.proofs.Common.{◌≡◌, ℕ, zero, suc, ◌+◌, ◌≤◌, ℤ, pos, List, [], ◌∷◌, ◌++◌, length, drop, Bool, true, false, cond, get_or, refl, sym, ◌∙◌, ap, arith, length-append, int_lt}
+use Rattle.std.proofs.Common.{◌≡◌, ℕ, zero, suc, ◌+◌, ◌≤◌, ℤ, pos, List, [], ◌∷◌, ◌++◌, length, drop, Bool, true, false, cond, get_or, refl, sym, ◌∙◌, ap}
+use Rattle.std.proofs.Common.{arith, length-append, int_lt}
 use Rattle.std.specs.Prelude.{Result, Ok, Err}
 use Rattle.std.proofs.lemmas.List.{drop-append-le, drop_all, length-drop}
 use Rattle.csv_streams.specs.Numbered.{before}
@@ -32,7 +33,8 @@ first_then (Err f) later es e = cc
 
 -- another record
 pub from-push : (w last : ℕ) (t : ℤ) (n k : ℕ) (recs : List (List (List ℕ))) (fields : List (List ℕ)) (es : List Entry) (e : Entry)
-    → timed_from w last t n recs ≡ Ok es → n + length recs ≡ k → timed_in w last (stamp_after t es) k fields ≡ Ok e → timed_from w last t n (recs ++ fields ∷ []) ≡ Ok (es ++ e ∷ [])
+    → timed_from w last t n recs ≡ Ok es → n + length recs ≡ k → timed_in w last (stamp_after t es) k fields ≡ Ok e
+    → timed_from w last t n (recs ++ fields ∷ []) ≡ Ok (es ++ e ∷ [])
 from-push w last t n k [] fields es e so_far at is =
     let none : [] ≡ es = cc in
     let here : n ≡ k = omega (arith, at) in
@@ -48,7 +50,8 @@ from-push w last t n k (f ∷ recs) fields es e so_far at is =
 
 -- the first fault, whatever follows
 pub from-fault : (w last : ℕ) (t : ℤ) (n k : ℕ) (recs : List (List (List ℕ))) (fields : List (List ℕ)) (others : List (List (List ℕ))) (es : List Entry) (f : InFault)
-    → timed_from w last t n recs ≡ Ok es → n + length recs ≡ k → timed_in w last (stamp_after t es) k fields ≡ Err f → timed_from w last t n (recs ++ fields ∷ others) ≡ Err f
+    → timed_from w last t n recs ≡ Ok es → n + length recs ≡ k → timed_in w last (stamp_after t es) k fields ≡ Err f
+    → timed_from w last t n (recs ++ fields ∷ others) ≡ Err f
 from-fault w last t n k [] fields others es f so_far at is =
     let none : [] ≡ es = cc in
     let here : n ≡ k = omega (arith, at) in
@@ -95,13 +98,15 @@ timed-header w skip recs fields le = behind-header w (headers skip) recs fields 
 -- another row
 pub timed-push : (w : ℕ) (skip : Bool) (recs : List (List (List ℕ))) (fields : List (List ℕ)) (es : List Entry) (e : Entry) → headers skip ≤ length recs
     → timed_rows_in w skip recs ≡ Ok es
-    → timed_in w (headers skip + most_rows) (stamp_after (pos 0) es) (length recs + 1) fields ≡ Ok e → timed_rows_in w skip (recs ++ fields ∷ []) ≡ Ok (es ++ e ∷ [])
+    → timed_in w (headers skip + most_rows) (stamp_after (pos 0) es) (length recs + 1) fields ≡ Ok e
+    → timed_rows_in w skip (recs ++ fields ∷ []) ≡ Ok (es ++ e ∷ [])
 timed-push w skip recs fields es e le so_far is = behind-push w (headers skip) recs fields es e le so_far is
 
 -- the first fault
 pub timed-fault : (w : ℕ) (skip : Bool) (recs : List (List (List ℕ))) (fields : List (List ℕ)) (others : List (List (List ℕ))) (es : List Entry) (f : InFault)
     → headers skip ≤ length recs
-    → timed_rows_in w skip recs ≡ Ok es → timed_in w (headers skip + most_rows) (stamp_after (pos 0) es) (length recs + 1) fields ≡ Err f → timed_rows_in w skip (recs ++ fields ∷ others) ≡ Err f
+    → timed_rows_in w skip recs ≡ Ok es → timed_in w (headers skip + most_rows) (stamp_after (pos 0) es) (length recs + 1) fields ≡ Err f
+    → timed_rows_in w skip (recs ++ fields ∷ others) ≡ Err f
 timed-fault w skip recs fields others es f le so_far is = behind-fault w (headers skip) recs fields others es f le so_far is
 
 -- a timed row is one whose values are read, and whose time is right

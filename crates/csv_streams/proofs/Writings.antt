@@ -1,5 +1,6 @@
 -- The value of a field is the one that it writes.
-use Rattle.std.proofs.Common.{◌≡◌, ℕ, ◌^◌, ◌<◌, ◌≤◌, List, [], ◌∷◌, ◌++◌, length, Bool, true, false, cond, refl, sym, ◌∙◌, ap, subst, inl, inr, arith, nat_lt, nat_le}
+use Rattle.std.proofs.Common.{◌≡◌, ℕ, ◌^◌, ◌<◌, ◌≤◌, List, [], ◌∷◌, ◌++◌, length, Bool, true, false, cond, refl, sym, ◌∙◌, ap, subst, inl, inr, arith, nat_lt}
+use Rattle.std.proofs.Common.{nat_le}
 use Rattle.std.specs.Prelude.{ℤ, pos, neg_ℤ, Option, None, Some, option_and_then, ◌&&◌, ◌==◌, not}
 use Rattle.std.specs.List.{list_all}
 use Rattle.std.proofs.lemmas.Bool.Decides.{nat_tests}
@@ -25,7 +26,8 @@ record Front (text : List ℕ) : Type 0 where
   blank : AllSpaces before
   parts : text ≡ before ++ after_spaces text
 
-front-cons : (c : ℕ) (cs : List ℕ) (b : Bool) → is_space c ≡ b → Front cs → (before : List ℕ) × AllSpaces before × (c ∷ cs ≡ before ++ cond b (after_spaces cs) (c ∷ cs))
+front-cons : (c : ℕ) (cs : List ℕ) (b : Bool) → is_space c ≡ b → Front cs
+    → (before : List ℕ) × AllSpaces before × (c ∷ cs ≡ before ++ cond b (after_spaces cs) (c ∷ cs))
 front-cons c cs true is f = (c ∷ f.before, (space-is c is, f.blank), ap (λ (l : List ℕ). c ∷ l) f.parts)
 front-cons c cs false is f = ([], tt, refl)
 
@@ -34,7 +36,8 @@ front-of [] = record { before = []; blank = tt; parts = refl }
 front-of (c ∷ cs) = let f = front-cons c cs (is_space c) refl (front-of cs) in record { before = f.0; blank = f.1; parts = f.2 }
 
 -- the digits at the front
-digits-cons : (c : ℕ) (cs : List ℕ) (b : Bool) → cs ≡ digits_of cs ++ after_digits cs → c ∷ cs ≡ cond b (c ∷ digits_of cs) [] ++ cond b (after_digits cs) (c ∷ cs)
+digits-cons : (c : ℕ) (cs : List ℕ) (b : Bool) → cs ≡ digits_of cs ++ after_digits cs
+    → c ∷ cs ≡ cond b (c ∷ digits_of cs) [] ++ cond b (after_digits cs) (c ∷ cs)
 digits-cons c cs true later = ap (λ (l : List ℕ). c ∷ l) later
 digits-cons c cs false later = refl
 
@@ -75,7 +78,8 @@ record IsWhole (text : List ℕ) (n : ℕ) : Type 0 where
 same-some : (a b : ℕ) → Some a ≡ Some b → a ≡ b
 same-some a b e = cc
 
-whole-by : (text : List ℕ) (n : ℕ) (b : Bool) → (not (is_nothing (digits_of text)) && list_all is_space (after_digits text)) ≡ b → cond b (Some (value_after 0 (digits_of text))) None ≡ Some n → IsWhole text n
+whole-by : (text : List ℕ) (n : ℕ) (b : Bool) → (not (is_nothing (digits_of text)) && list_all is_space (after_digits text)) ≡ b
+    → cond b (Some (value_after 0 (digits_of text))) None ≡ Some n → IsWhole text n
 whole-by text n true is e =
     let p = both (not (is_nothing (digits_of text))) (list_all is_space (after_digits text)) is in
     record {
@@ -132,11 +136,14 @@ bare_is text z e =
 same-byte : (c d : ℕ) → (c == d) ≡ true → d ≡ c
 same-byte c d e = grind (arith, nat_tests)
 
-plus_by : (c : ℕ) (cs : List ℕ) (z : ℤ) (b : Bool) → (c == 43) ≡ b → cond b (option_and_then positive (whole cs)) (option_and_then positive (whole (c ∷ cs))) ≡ Some z → IsNumber (c ∷ cs) z
+plus_by : (c : ℕ) (cs : List ℕ) (z : ℤ) (b : Bool) → (c == 43) ≡ b
+    → cond b (option_and_then positive (whole cs)) (option_and_then positive (whole (c ∷ cs))) ≡ Some z → IsNumber (c ∷ cs) z
 plus_by c cs z true is e = subst (λ (k : ℕ). IsNumber (k ∷ cs) z) (same-byte c 43 is) (plus_is cs z e)
 plus_by c cs z false is e = bare_is (c ∷ cs) z e
 
-minus_by : (c : ℕ) (cs : List ℕ) (z : ℤ) (b : Bool) → (c == 45) ≡ b → cond b (option_and_then negative (whole cs)) (cond (c == 43) (option_and_then positive (whole cs)) (option_and_then positive (whole (c ∷ cs)))) ≡ Some z → IsNumber (c ∷ cs) z
+minus_by : (c : ℕ) (cs : List ℕ) (z : ℤ) (b : Bool) → (c == 45) ≡ b
+    → cond b (option_and_then negative (whole cs)) (cond (c == 43) (option_and_then positive (whole cs)) (option_and_then positive (whole (c ∷ cs)))) ≡ Some z
+    → IsNumber (c ∷ cs) z
 minus_by c cs z true is e = subst (λ (k : ℕ). IsNumber (k ∷ cs) z) (same-byte c 45 is) (minus_is cs z e)
 minus_by c cs z false is e = plus_by c cs z (c == 43) refl e
 
@@ -211,7 +218,8 @@ bare-stays : (digits after : List ℕ) → 0 < length digits → AllDigits digit
 bare-stays [] after some all = absurd (omega arith)
 bare-stays (d ∷ ds) after some all = let t : is_space d ≡ false = other-byte d 32 (omega (arith, all.0)) in rw t refl
 
-signed-from : (sign digits after : List ℕ) (z : ℤ) → 0 < length digits → AllDigits digits → AllSpaces after → IsSigned sign (value_after 0 digits) z → signed (after_spaces (sign ++ (digits ++ after))) ≡ Some z
+signed-from : (sign digits after : List ℕ) (z : ℤ) → 0 < length digits → AllDigits digits → AllSpaces after → IsSigned sign (value_after 0 digits) z
+    → signed (after_spaces (sign ++ (digits ++ after))) ≡ Some z
 signed-from sign digits after z some all blank (inl minus) =
     rw (minus.0, minus.2) (ap (option_and_then negative) (whole-from digits after some all blank) ∙ negative-from (value_after 0 digits) minus.1)
 signed-from sign digits after z some all blank (inr (inl none, lt, is)) =

@@ -36,15 +36,20 @@ values_written rec k (f ∷ fs) (x ∷ xs) all =
     ∙ ap (λ (r : Result (List ℤ) InFault). before (Ok x) r) (values_written rec (k + 1) fs xs all.1)
 
 -- a record
-row_by : (w : ℕ) (more : Bool) (last rec : ℕ) (fields : List (List ℕ)) (row : List ℤ) (late fits : Bool) → nat_lt last rec ≡ late → has_width w more (length fields) ≡ fits → cond late (Err fault.TooMany) (cond fits (numbered (value_in rec) 1 (take w fields)) (Err (fault.Width rec))) ≡ Ok row → (rec ≤ last) × WritesRow w more fields row
+row_by : (w : ℕ) (more : Bool) (last rec : ℕ) (fields : List (List ℕ)) (row : List ℤ) (late fits : Bool) → nat_lt last rec ≡ late
+    → has_width w more (length fields) ≡ fits
+    → cond late (Err fault.TooMany) (cond fits (numbered (value_in rec) 1 (take w fields)) (Err (fault.Width rec))) ≡ Ok row
+    → (rec ≤ last) × WritesRow w more fields row
 row_by w more last rec fields row true fits is has e = cc
 row_by w more last rec fields row false true is has e = (grind (arith, nat_tests), (has, values_read rec 1 (take w fields) row e))
 row_by w more last rec fields row false false is has e = cc
 
-pub row_read : (w : ℕ) (more : Bool) (last rec : ℕ) (fields : List (List ℕ)) (row : List ℤ) → row_in w more last rec fields ≡ Ok row → (rec ≤ last) × WritesRow w more fields row
+pub row_read : (w : ℕ) (more : Bool) (last rec : ℕ) (fields : List (List ℕ)) (row : List ℤ) → row_in w more last rec fields ≡ Ok row
+    → (rec ≤ last) × WritesRow w more fields row
 row_read w more last rec fields row e = row_by w more last rec fields row (nat_lt last rec) (has_width w more (length fields)) refl refl e
 
-pub row_written : (w : ℕ) (more : Bool) (last rec : ℕ) (fields : List (List ℕ)) (row : List ℤ) → rec ≤ last → WritesRow w more fields row → row_in w more last rec fields ≡ Ok row
+pub row_written : (w : ℕ) (more : Bool) (last rec : ℕ) (fields : List (List ℕ)) (row : List ℤ) → rec ≤ last → WritesRow w more fields row
+    → row_in w more last rec fields ≡ Ok row
 row_written w more last rec fields row le writes =
     let early : nat_lt last rec ≡ false = grind (arith, nat_tests) in
     ap (λ (b : Bool). cond b (Err fault.TooMany) (cond (has_width w more (length fields)) (numbered (value_in rec) 1 (take w fields)) (Err (fault.Width rec)))) early
@@ -52,7 +57,8 @@ row_written w more last rec fields row le writes =
     ∙ values_written rec 1 (take w fields) row writes.1
 
 -- records
-pub rows_read : (w : ℕ) (more : Bool) (last k : ℕ) (recs : List (List (List ℕ))) (rows : List (List ℤ)) → numbered (row_in w more last) k recs ≡ Ok rows → WriteRows w more recs rows × (length rows ≤ last + 1 - k)
+pub rows_read : (w : ℕ) (more : Bool) (last k : ℕ) (recs : List (List (List ℕ))) (rows : List (List ℤ)) → numbered (row_in w more last) k recs ≡ Ok rows
+    → WriteRows w more recs rows × (length rows ≤ last + 1 - k)
 rows_read w more last k [] [] e = (tt, omega arith)
 rows_read w more last k [] (row ∷ rows) e = cc
 rows_read w more last k (fields ∷ recs) rows e =
@@ -61,7 +67,8 @@ rows_read w more last k (fields ∷ recs) rows e =
     let rest = rows_read w more last (k + 1) recs others later in
     rw parts ((r.1, rest.0), omega (arith, r.0, rest.1))
 
-pub rows_written : (w : ℕ) (more : Bool) (last k : ℕ) (recs : List (List (List ℕ))) (rows : List (List ℤ)) → WriteRows w more recs rows → length rows + k ≤ last + 1 → numbered (row_in w more last) k recs ≡ Ok rows
+pub rows_written : (w : ℕ) (more : Bool) (last k : ℕ) (recs : List (List (List ℕ))) (rows : List (List ℤ)) → WriteRows w more recs rows
+    → length rows + k ≤ last + 1 → numbered (row_in w more last) k recs ≡ Ok rows
 rows_written w more last k [] [] all few = refl
 rows_written w more last k [] (row ∷ rows) all few = absurd all
 rows_written w more last k (fields ∷ recs) [] all few = absurd all
@@ -69,12 +76,14 @@ rows_written w more last k (fields ∷ recs) (row ∷ rows) all few =
     ap (λ (r : Result (List ℤ) InFault). before r (numbered (row_in w more last) (k + 1) recs)) (row_written w more last k fields row (omega (arith, few)) all.0)
     ∙ ap (λ (r : Result (List (List ℤ)) InFault). before (Ok row) r) (rows_written w more last (k + 1) recs rows all.1 (omega (arith, few)))
 
-pub read_rows-written : (bytes : List ℕ) (w : ℕ) (skip more : Bool) (rows : List (List ℤ)) → rows_of bytes w skip more ≡ Ok rows → FileWrites bytes w skip more rows
+pub read_rows-written : (bytes : List ℕ) (w : ℕ) (skip more : Bool) (rows : List (List ℤ)) → rows_of bytes w skip more ≡ Ok rows
+    → FileWrites bytes w skip more rows
 read_rows-written bytes w skip more rows e =
     let r = rows_read w more (headers skip + most_rows) (headers skip + 1) (drop (headers skip) (csv_records bytes)) rows e in
     record { written = r.0; few = omega (arith, r.1) }
 
-pub written_rows-read : (bytes : List ℕ) (w : ℕ) (skip more : Bool) (rows : List (List ℤ)) → FileWrites bytes w skip more rows → rows_of bytes w skip more ≡ Ok rows
+pub written_rows-read : (bytes : List ℕ) (w : ℕ) (skip more : Bool) (rows : List (List ℤ)) → FileWrites bytes w skip more rows
+    → rows_of bytes w skip more ≡ Ok rows
 written_rows-read bytes w skip more rows writes =
     rows_written w more (headers skip + most_rows) (headers skip + 1) (drop (headers skip) (csv_records bytes)) rows writes.written (omega (arith, writes.few))
 
@@ -96,7 +105,8 @@ rows-width : (w : ℕ) (more : Bool) (recs : List (List (List ℕ))) (rows : Lis
 rows-width w more [] [] all = All-nil (λ row. length row ≡ w)
 rows-width w more [] (row ∷ rows) all = absurd all
 rows-width w more (fields ∷ recs) [] all = absurd all
-rows-width w more (fields ∷ recs) (row ∷ rows) all = All-cons (λ r. length r ≡ w) row rows (row-width w more fields row all.0) (rows-width w more recs rows all.1)
+rows-width w more (fields ∷ recs) (row ∷ rows) all =
+    All-cons (λ r. length r ≡ w) row rows (row-width w more fields row all.0) (rows-width w more recs rows all.1)
 
 pub read_rows-width : (bytes : List ℕ) (w : ℕ) (skip more : Bool) (rows : List (List ℤ)) → rows_of bytes w skip more ≡ Ok rows → HaveWidth w rows
 read_rows-width bytes w skip more rows e = rows-width w more (drop (headers skip) (csv_records bytes)) rows (read_rows-written bytes w skip more rows e).written

@@ -73,4 +73,6 @@ pub record IsFaultOf (bytes : List ℕ) (width : ℕ) (skip_first more : Bool) (
 
 -- a fault is told exactly where it is the fault of the file
 abbrev pub FaultsAre : Type 0
-FaultsAre = (bytes : List ℕ) (width : ℕ) (skip_first more : Bool) (f : InFault) → (rows_of bytes width skip_first more ≡ Err f) ↔ IsFaultOf bytes width skip_first more f
+FaultsAre =
+    (bytes : List ℕ) (width : ℕ) (skip_first more : Bool) (f : InFault)
+    → (rows_of bytes width skip_first more ≡ Err f) ↔ IsFaultOf bytes width skip_first more f

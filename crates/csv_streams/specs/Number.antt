@@ -1,5 +1,6 @@
 -- The number that a field of a file writes: spaces, an optional sign, digits, and spaces.
-use Rattle.std.specs.Prelude.{ℕ, ℤ, pos, neg_ℤ, ◌+◌, ◌-◌, ◌*◌, ◌^◌, ◌==◌, min, nat_lt, nat_le, List, [], ◌∷◌, Bool, true, false, ◌&&◌, not, Option, None, Some, option_and_then, if◌then◌else◌}
+use Rattle.std.specs.Prelude.{ℕ, ℤ, pos, neg_ℤ, ◌+◌, ◌-◌, ◌*◌, ◌^◌, ◌==◌, min, nat_lt, nat_le, List, [], ◌∷◌, Bool, true, false, ◌&&◌, not, Option, None, Some}
+use Rattle.std.specs.Prelude.{option_and_then, if◌then◌else◌}
 use Rattle.std.specs.List.{list_all}
 use Rattle.river_base.specs.Name.{is_digit}
 

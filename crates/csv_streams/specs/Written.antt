@@ -30,11 +30,16 @@ pub record FileWrites (bytes : List ℕ) (width : ℕ) (skip_first more : Bool) 
 
 -- what is read is written, and what is written is read
 abbrev pub ReadRowsAreWritten : Type 0
-ReadRowsAreWritten = (bytes : List ℕ) (width : ℕ) (skip_first more : Bool) (rows : List (List ℤ)) → rows_of bytes width skip_first more ≡ Ok rows → FileWrites bytes width skip_first more rows
+ReadRowsAreWritten =
+    (bytes : List ℕ) (width : ℕ) (skip_first more : Bool) (rows : List (List ℤ)) → rows_of bytes width skip_first more ≡ Ok rows
+    → FileWrites bytes width skip_first more rows
 
 abbrev pub WrittenRowsAreRead : Type 0
-WrittenRowsAreRead = (bytes : List ℕ) (width : ℕ) (skip_first more : Bool) (rows : List (List ℤ)) → FileWrites bytes width skip_first more rows → rows_of bytes width skip_first more ≡ Ok rows
+WrittenRowsAreRead =
+    (bytes : List ℕ) (width : ℕ) (skip_first more : Bool) (rows : List (List ℤ)) → FileWrites bytes width skip_first more rows
+    → rows_of bytes width skip_first more ≡ Ok rows
 
 -- rows that are read have the width that was asked
 abbrev pub ReadRowsHaveWidth : Type 0
-ReadRowsHaveWidth = (bytes : List ℕ) (width : ℕ) (skip_first more : Bool) (rows : List (List ℤ)) → rows_of bytes width skip_first more ≡ Ok rows → HaveWidth width rows
+ReadRowsHaveWidth =
+    (bytes : List ℕ) (width : ℕ) (skip_first more : Bool) (rows : List (List ℤ)) → rows_of bytes width skip_first more ≡ Ok rows → HaveWidth width rows

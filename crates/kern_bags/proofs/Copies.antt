@@ -19,11 +19,13 @@ count-append test xs ys = sum_by-append (λ x. cond (test x) 1 0) xs ys
 
 pub count-map : {J K : Type 0} (test : K → Bool) (g : J → K) (xs : List J) → count_by test (map g xs) ≡ count_by (λ x. test (g x)) xs
 count-map test g [] = refl
-count-map test g (x ∷ xs) = count-cons test (g x) (map g xs) ∙ ap (λ n. cond (test (g x)) 1 0 + n) (count-map test g xs) ∙ sym (count-cons (λ y. test (g y)) x xs)
+count-map test g (x ∷ xs) =
+    count-cons test (g x) (map g xs) ∙ ap (λ n. cond (test (g x)) 1 0 + n) (count-map test g xs) ∙ sym (count-cons (λ y. test (g y)) x xs)
 
 pub count-flat_map : {J K : Type 0} (test : K → Bool) (g : J → List K) (xs : List J) → count_by test (flat_map g xs) ≡ sum_by (λ x. count_by test (g x)) xs
 count-flat_map test g [] = refl
-count-flat_map test g (x ∷ xs) = count-append test (g x) (flat_map g xs) ∙ ap (λ n. count_by test (g x) + n) (count-flat_map test g xs) ∙ sym (sum_by-cons (λ y. count_by test (g y)) x xs)
+count-flat_map test g (x ∷ xs) =
+    count-append test (g x) (flat_map g xs) ∙ ap (λ n. count_by test (g x) + n) (count-flat_map test g xs) ∙ sym (sum_by-cons (λ y. count_by test (g y)) x xs)
 
 pub sum-cong : {K : Type 0} (f g : K → ℕ) (xs : List K) → ((x : K) → f x ≡ g x) → sum_by f xs ≡ sum_by g xs
 sum-cong f g [] h = refl
@@ -52,13 +54,16 @@ never_both row x y h = step (row_eq row x) (row_eq row y) refl refl where
 copies-take_out : (row y : List ℤ) (xs : List (List ℤ)) → copies row (take_out y xs) ≡ copies row xs - one row y
 copies-take_out row y [] = omega arith
 copies-take_out row y (x ∷ xs) = step (row_eq x y) refl (copies-take_out row y xs) where
-  step : (b : Bool) → row_eq x y ≡ b → copies row (take_out y xs) ≡ copies row xs - one row y → copies row (cond b xs (x ∷ take_out y xs)) ≡ copies row (x ∷ xs) - one row y
+  step : (b : Bool) → row_eq x y ≡ b → copies row (take_out y xs) ≡ copies row xs - one row y
+      → copies row (cond b xs (x ∷ take_out y xs)) ≡ copies row (x ∷ xs) - one row y
   step true e h = let c = count-cons (row_eq row) x xs in let same : one row x ≡ one row y = ap (one row) (same_row x y e) in omega (arith, c, same)
-  step false e h = let c = count-cons (row_eq row) x xs in let d = count-cons (row_eq row) x (take_out y xs) in let n = never_both row x y e in omega (arith, c, d, n, h)
+  step false e h =
+      let c = count-cons (row_eq row) x xs in let d = count-cons (row_eq row) x (take_out y xs) in let n = never_both row x y e in omega (arith, c, d, n, h)
 
 pub copies-without : (row : List ℤ) (xs ys : List (List ℤ)) → copies row (without xs ys) ≡ copies row xs - copies row ys
 copies-without row xs [] = omega arith
-copies-without row xs (y ∷ ys) = let a = copies-without row (take_out y xs) ys in let b = copies-take_out row y xs in let c = count-cons (row_eq row) y ys in omega (arith, a, b, c)
+copies-without row xs (y ∷ ys) =
+    let a = copies-without row (take_out y xs) ys in let b = copies-take_out row y xs in let c = count-cons (row_eq row) y ys in omega (arith, a, b, c)
 
 pub differences_are : DifferencesAre
 differences_are xs ys row = copies-in_order row (without xs ys) ∙ copies-without row xs ys
@@ -128,13 +133,15 @@ joined_eq x y u v h = step (row_eq (x ++ y) (u ++ v)) refl (row_eq x u) refl whe
 count-joined : (x y u : List ℤ) (ys : List (List ℤ)) → length u ≡ length x → count_by (λ v. row_eq (x ++ y) (u ++ v)) ys ≡ cond (row_eq x u) (copies y ys) 0
 count-joined x y u ys h = step (row_eq x u) refl where
   step : (b : Bool) → row_eq x u ≡ b → count_by (λ v. row_eq (x ++ y) (u ++ v)) ys ≡ cond b (copies y ys) 0
-  step true e = sum-cong (λ v. cond (row_eq (x ++ y) (u ++ v)) 1 0) (λ v. cond (row_eq y v) 1 0) ys (λ v. ap (λ b. cond b 1 0) (joined_eq x y u v h ∙ ap (λ b. cond b (row_eq y v) false) e))
+  step true e =
+      sum-cong (λ v. cond (row_eq (x ++ y) (u ++ v)) 1 0) (λ v. cond (row_eq y v) 1 0) ys (λ v. ap (λ b. cond b 1 0) (joined_eq x y u v h ∙ ap (λ b. cond b (row_eq y v) false) e))
   step false e = none ys where
     none : (vs : List (List ℤ)) → count_by (λ v. row_eq (x ++ y) (u ++ v)) vs ≡ 0
     none [] = refl
     none (v ∷ vs) = count_fail (λ v. row_eq (x ++ y) (u ++ v)) v vs (joined_eq x y u v h ∙ ap (λ b. cond b (row_eq y v) false) e) ∙ none vs
 
-times_are : (x y : List ℤ) (xs ys : List (List ℤ)) → HaveWidth (length x) xs → sum_by (λ u. count_by (λ v. row_eq (x ++ y) (u ++ v)) ys) xs ≡ copies x xs * copies y ys
+times_are : (x y : List ℤ) (xs ys : List (List ℤ)) → HaveWidth (length x) xs
+    → sum_by (λ u. count_by (λ v. row_eq (x ++ y) (u ++ v)) ys) xs ≡ copies x xs * copies y ys
 times_are x y [] ys w = omega arith
 times_are x y (u ∷ us) ys w =
     let P = λ (r : List ℤ). length r ≡ length x in

@@ -1,5 +1,6 @@
 -- Rows in order of their instants.
-use Rattle.std.proofs.Common.{◌≡◌, ◌<ℤ◌, ◌≤ℤ◌, ◌≤◌, ◌<◌, ◌+◌, ◌-◌, ℕ, zero, suc, ℤ, Bool, true, false, cond, List, [], ◌∷◌, ◌++◌, length, get_or, filter, take, drop, refl, sym, ap, ◌∙◌, arith, subst, append_assoc}
+use Rattle.std.proofs.Common.{◌≡◌, ◌<ℤ◌, ◌≤ℤ◌, ◌≤◌, ◌<◌, ◌+◌, ◌-◌, ℕ, zero, suc, ℤ, Bool, true, false, cond, List, [], ◌∷◌, ◌++◌, length, get_or, filter, take}
+use Rattle.std.proofs.Common.{drop, refl, sym, ap, ◌∙◌, arith, subst, append_assoc}
 use Rattle.std.specs.Prelude.{int_lt, int_le}
 use Rattle.std.specs.List.{AllByRecursion}
 use Rattle.std.proofs.lemmas.Int.{ints}
@@ -55,7 +56,8 @@ module _ {K : Type 0} where
   all_from P (suc n) (x ∷ xs) h = all_from P n xs h.1
 
   -- the element before a place is the first of what is dropped one place earlier
-  pub one_earlier : (P : K → Type 0) (xs : List K) (n : ℕ) (x : K) → n < length xs → x ≡ get_or xs n x → P x → AllByRecursion P (drop (suc n) xs) → AllByRecursion P (drop n xs)
+  pub one_earlier : (P : K → Type 0) (xs : List K) (n : ℕ) (x : K) → n < length xs → x ≡ get_or xs n x → P x → AllByRecursion P (drop (suc n) xs)
+      → AllByRecursion P (drop n xs)
   one_earlier P [] n x lt e p h = absurd (omega (arith, lt))
   one_earlier P (y ∷ ys) zero x lt e p h = (subst P e p, h)
   one_earlier P (y ∷ ys) (suc n) x lt e p h = one_earlier P ys n x (omega (arith, lt)) e p h
@@ -63,7 +65,8 @@ module _ {K : Type 0} where
 -- WHERE AN INSTANT STANDS
 
 -- all up to an element that is not later than an instant are not
-pub earlier_all : (at : ℤ) (es : List Stamped) (n : ℕ) (e : Stamped) → AreInTurn es → n < length es → e ≡ get_or es n e → e.0 ≤ℤ at → AllByRecursion (λ (f : Stamped). f.0 ≤ℤ at) (take (suc n) es)
+pub earlier_all : (at : ℤ) (es : List Stamped) (n : ℕ) (e : Stamped) → AreInTurn es → n < length es → e ≡ get_or es n e → e.0 ≤ℤ at
+    → AllByRecursion (λ (f : Stamped). f.0 ≤ℤ at) (take (suc n) es)
 earlier_all at [] n e t lt is le = absurd (omega (arith, lt))
 earlier_all at (x ∷ xs) zero e t lt is le = (subst (λ (y : Stamped). y.0 ≤ℤ at) is le, tt)
 earlier_all at (x ∷ xs) (suc n) e t lt is le = (before xs n t.0 (omega (arith, lt)) is, earlier_all at xs n e t.1 (omega (arith, lt)) is le) where
@@ -73,7 +76,8 @@ earlier_all at (x ∷ xs) (suc n) e t lt is le = (before xs n t.0 (omega (arith,
   before (y ∷ ys) (suc m) a l i = before ys m a.1 (omega (arith, l)) i
 
 -- the parts before and behind that place are told by tests
-pub parts_before : (at : ℤ) (n : ℕ) (es : List Stamped) → AllByRecursion (λ (e : Stamped). e.0 ≤ℤ at) (take n es) → AllByRecursion (λ (e : Stamped). at <ℤ e.0) (drop n es) → filter (λ (e : Stamped). int_le e.0 at) es ≡ take n es
+pub parts_before : (at : ℤ) (n : ℕ) (es : List Stamped) → AllByRecursion (λ (e : Stamped). e.0 ≤ℤ at) (take n es)
+    → AllByRecursion (λ (e : Stamped). at <ℤ e.0) (drop n es) → filter (λ (e : Stamped). int_le e.0 at) es ≡ take n es
 parts_before at n es h g =
     ap (filter (λ (e : Stamped). int_le e.0 at)) (sym (take-append-drop n es))
     ∙ filter-append (λ (e : Stamped). int_le e.0 at) (take n es) (drop n es)
@@ -81,7 +85,8 @@ parts_before at n es h g =
     ∙ ap (λ l. take n es ++ l) (filter_none (λ (e : Stamped). int_le e.0 at) (drop n es) (all_as (λ (e : Stamped). at <ℤ e.0) (λ (e : Stamped). int_le e.0 at ≡ false) (drop n es) (λ e k. le_false e.0 at k) g))
     ∙ append-nil (take n es)
 
-pub parts_behind : (at : ℤ) (n : ℕ) (es : List Stamped) → AllByRecursion (λ (e : Stamped). e.0 ≤ℤ at) (take n es) → AllByRecursion (λ (e : Stamped). at <ℤ e.0) (drop n es) → filter (λ (e : Stamped). int_lt at e.0) es ≡ drop n es
+pub parts_behind : (at : ℤ) (n : ℕ) (es : List Stamped) → AllByRecursion (λ (e : Stamped). e.0 ≤ℤ at) (take n es)
+    → AllByRecursion (λ (e : Stamped). at <ℤ e.0) (drop n es) → filter (λ (e : Stamped). int_lt at e.0) es ≡ drop n es
 parts_behind at n es h g =
     ap (filter (λ (e : Stamped). int_lt at e.0)) (sym (take-append-drop n es))
     ∙ filter-append (λ (e : Stamped). int_lt at e.0) (take n es) (drop n es)
@@ -89,20 +94,24 @@ parts_behind at n es h g =
     ∙ filter_all (λ (e : Stamped). int_lt at e.0) (drop n es) (all_as (λ (e : Stamped). at <ℤ e.0) (λ (e : Stamped). int_lt at e.0 ≡ true) (drop n es) (λ e k. lt_true at e.0 k) g)
 
 -- so what is put between them is inserted
-pub inserted_by : (at : ℤ) (rows : List (List ℤ)) (n : ℕ) (es before : List Stamped) → AllByRecursion (λ (e : Stamped). e.0 ≤ℤ at) (take n es) → AllByRecursion (λ (e : Stamped). at <ℤ e.0) (drop n es) → before ≡ take n es ++ stamped at rows → before ++ drop n es ≡ inserted at rows es
+pub inserted_by : (at : ℤ) (rows : List (List ℤ)) (n : ℕ) (es before : List Stamped) → AllByRecursion (λ (e : Stamped). e.0 ≤ℤ at) (take n es)
+    → AllByRecursion (λ (e : Stamped). at <ℤ e.0) (drop n es) → before ≡ take n es ++ stamped at rows → before ++ drop n es ≡ inserted at rows es
 inserted_by at rows n es before h g e =
     ap (λ l. l ++ drop n es) e
     ∙ append_assoc (take n es) (stamped at rows) (drop n es)
     ∙ (λ i. sym (parts_before at n es h g) i ++ (stamped at rows ++ sym (parts_behind at n es h g) i))
 
 -- one row more
-pub stamped_more : (at : ℤ) (rows : List (List ℤ)) (n : ℕ) (row : List ℤ) (start before : List Stamped) → n < length rows → row ≡ get_or rows n row → before ≡ start ++ stamped at (take n rows) → before ++ (at, row) ∷ [] ≡ start ++ stamped at (take (n + 1) rows)
-stamped_more at rows n row start before lt is e = ap (λ l. l ++ (at, row) ∷ []) e ∙ append_assoc start (stamped at (take n rows)) ((at, row) ∷ []) ∙ ap (λ l. start ++ l) (more rows n lt is)
+pub stamped_more : (at : ℤ) (rows : List (List ℤ)) (n : ℕ) (row : List ℤ) (start before : List Stamped) → n < length rows → row ≡ get_or rows n row
+    → before ≡ start ++ stamped at (take n rows) → before ++ (at, row) ∷ [] ≡ start ++ stamped at (take (n + 1) rows)
+stamped_more at rows n row start before lt is e =
+    ap (λ l. l ++ (at, row) ∷ []) e ∙ append_assoc start (stamped at (take n rows)) ((at, row) ∷ []) ∙ ap (λ l. start ++ l) (more rows n lt is)
   where
     more : (xs : List (List ℤ)) (m : ℕ) → m < length xs → row ≡ get_or xs m row → stamped at (take m xs) ++ (at, row) ∷ [] ≡ stamped at (take (m + 1) xs)
     more [] m l i = absurd (omega (arith, l))
     more (x ∷ xs) zero l i = ap (λ r. (at, r) ∷ []) i
-    more (x ∷ xs) (suc m) l i = ap (λ t. (at, x) ∷ t) (more xs m (omega (arith, l)) i) ∙ ap (λ k. stamped at (take k (x ∷ xs))) (let e : suc (m + 1) ≡ suc m + 1 = omega arith in e)
+    more (x ∷ xs) (suc m) l i =
+        ap (λ t. (at, x) ∷ t) (more xs m (omega (arith, l)) i) ∙ ap (λ k. stamped at (take k (x ∷ xs))) (let e : suc (m + 1) ≡ suc m + 1 = omega arith in e)
 
 -- LEAVING
 

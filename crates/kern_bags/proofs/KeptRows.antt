@@ -1,5 +1,6 @@
 -- What a window keeps: the rows that stand in it, batch after batch.
-use Rattle.std.proofs.Common.{◌≡◌, ◌<ℤ◌, ◌≤ℤ◌, ◌+◌, ℕ, ℤ, Bool, true, false, cond, Some, List, [], ◌∷◌, ◌++◌, filter, fold, refl, sym, ap, ◌∙◌, arith, append_assoc}
+use Rattle.std.proofs.Common.{◌≡◌, ◌<ℤ◌, ◌≤ℤ◌, ◌+◌, ℕ, ℤ, Bool, true, false, cond, Some, List, [], ◌∷◌, ◌++◌, filter, fold, refl, sym, ap, ◌∙◌, arith}
+use Rattle.std.proofs.Common.{append_assoc}
 use Rattle.std.specs.Prelude.{int_lt, int_le, flat_map, sum_by}
 use Rattle.std.specs.List.{AllByRecursion}
 use Rattle.std.proofs.lemmas.Int.{ints}
@@ -86,7 +87,8 @@ rows_put b (c ∷ cs) r = step (int_lt b.at c.at) refl (rows_put b cs r.1) where
   rest : List Stamped
   rest = rows_of_all cs
 
-  step : (q : Bool) → int_lt b.at c.at ≡ q → rows_of_all (put_batch b cs) ≡ inserted b.at b.rows rest → rows_of_all (cond q (b ∷ (c ∷ cs)) (c ∷ put_batch b cs)) ≡ inserted b.at b.rows all
+  step : (q : Bool) → int_lt b.at c.at ≡ q → rows_of_all (put_batch b cs) ≡ inserted b.at b.rows rest
+      → rows_of_all (cond q (b ∷ (c ∷ cs)) (c ∷ put_batch b cs)) ≡ inserted b.at b.rows all
   step true e more =
       let l = is_before b.at c.at e in
       let later_all : AllByRecursion (λ (f : Stamped). b.at <ℤ f.0) all =
@@ -107,7 +109,8 @@ rows_put b (c ∷ cs) r = step (int_lt b.at c.at) refl (rows_put b cs r.1) where
       ∙ sym (append_assoc (rows_with c) (filter (λ (f : Stamped). int_le f.0 b.at) rest) (rows_with b ++ filter (λ (f : Stamped). int_lt b.at f.0) rest))
       ∙ (λ i. sym front i ++ (rows_with b ++ sym back i))
 
-in_turn_stamped : (at : ℤ) (rows : List (List ℤ)) (es : List Stamped) → AllByRecursion (λ (e : Stamped). at ≤ℤ e.0) es → AreInTurn es → AreInTurn (stamped at rows ++ es)
+in_turn_stamped : (at : ℤ) (rows : List (List ℤ)) (es : List Stamped) → AllByRecursion (λ (e : Stamped). at ≤ℤ e.0) es → AreInTurn es
+    → AreInTurn (stamped at rows ++ es)
 in_turn_stamped at [] es a t = t
 in_turn_stamped at (r ∷ rs) es a t =
     (all_join (λ (e : Stamped). at ≤ℤ e.0) (stamped at rs) es (all_stamped (λ u. at ≤ℤ u) at rs (omega (arith, ints))) a, in_turn_stamped at rs es a t)

@@ -1,5 +1,6 @@
 -- A window's content after one more batch is a function of what it keeps.
-use Rattle.std.proofs.Common.{◌≡◌, ◌<ℤ◌, ◌≤ℤ◌, ◌≤◌, ◌<◌, ◌+◌, ◌-◌, ◌-ℤ◌, ℕ, zero, suc, ℤ, pos, Bool, true, false, cond, Some, List, [], ◌∷◌, ◌++◌, length, map, filter, drop, refl, sym, ap, ◌∙◌, arith, subst, length-append, length-drop, ⊎_elim}
+use Rattle.std.proofs.Common.{◌≡◌, ◌<ℤ◌, ◌≤ℤ◌, ◌≤◌, ◌<◌, ◌+◌, ◌-◌, ◌-ℤ◌, ℕ, zero, suc, ℤ, pos, Bool, true, false, cond, Some, List, [], ◌∷◌, ◌++◌, length, map}
+use Rattle.std.proofs.Common.{filter, drop, refl, sym, ap, ◌∙◌, arith, subst, length-append, length-drop, ⊎_elim}
 use Rattle.std.specs.Prelude.{int_lt, int_le, flat_map, ◌&&◌}
 use Rattle.std.specs.List.{AllByRecursion}
 use Rattle.std.specs.Ordering.{int_eq}
@@ -16,7 +17,8 @@ use Rattle.river_base.specs.Held.{batches}
 use Rattle.river_base.proofs.Counts.{permutation_from_copies}
 use Rattle.river_base.proofs.Rows.{in_order-IsPermutation}
 use Rattle.kern_bags.specs.Contents.{later, greatest, rows_where, by_instant, last_of, in_window, content_of}
-use Rattle.kern_bags.specs.Kept.{Stamped, stamped, in_turn, AreInTurn, inserted, since, still_in, now_of, now_after, WindowKept, StandsForWindow, IsWindowKept, Steps}
+use Rattle.kern_bags.specs.Kept.{Stamped, stamped, in_turn, AreInTurn, inserted, since, still_in, now_of, now_after, WindowKept, StandsForWindow, IsWindowKept}
+use Rattle.kern_bags.specs.Kept.{Steps}
 use Rattle.kern_bags.specs.Steps.{window_one}
 use Rattle.kern_bags.specs.declared.kernel.Window.{Window}
 use Rattle.kern_bags.specs.declared.kernel.Window.TheVariants.{Now, Range, Unbounded, Latest}
@@ -103,7 +105,8 @@ module _ {K : Type 0} where
 
 -- INSERTED ROWS
 
-since_inserted : (low low' at : ℤ) (rows : List (List ℤ)) (es : List Stamped) → low ≤ℤ low' → since low' (inserted at rows (since low es)) ≡ since low' (inserted at rows es)
+since_inserted : (low low' at : ℤ) (rows : List (List ℤ)) (es : List Stamped) → low ≤ℤ low'
+    → since low' (inserted at rows (since low es)) ≡ since low' (inserted at rows es)
 since_inserted low low' at rows es le =
     let P : Stamped → Bool = λ e. int_le low' e.0 in
     let R : Stamped → Bool = λ e. int_le low e.0 in
@@ -134,7 +137,8 @@ parts_are at (x ∷ xs) t = step (int_le x.0 at) (int_lt at x.0) refl refl (part
   both : int_le x.0 at ≡ false → at <ℤ x.0
   both h = grind (arith, h)
 
-  step : (a b : Bool) → int_le x.0 at ≡ a → int_lt at x.0 ≡ b → xs ≡ filter F xs ++ filter G xs → x ∷ xs ≡ cond a (x ∷ filter F xs) (filter F xs) ++ cond b (x ∷ filter G xs) (filter G xs)
+  step : (a b : Bool) → int_le x.0 at ≡ a → int_lt at x.0 ≡ b → xs ≡ filter F xs ++ filter G xs
+      → x ∷ xs ≡ cond a (x ∷ filter F xs) (filter F xs) ++ cond b (x ∷ filter G xs) (filter G xs)
   step true true e f more = absurd (let k : true ≡ false = sym f ∙ other e in cc k)
   step true false e f more = ap (λ l. x ∷ l) more
   step false true e f more =
@@ -152,7 +156,8 @@ passes_all p (x ∷ xs) = step (p x) refl (passes_all p xs) where
   step true e more = (e, more)
   step false e more = more
 
-last_inserted : (n : ℕ) (at : ℤ) (rows : List (List ℤ)) (es : List Stamped) → AreInTurn es → last_few n (inserted at rows (last_few n es)) ≡ last_few n (inserted at rows es)
+last_inserted : (n : ℕ) (at : ℤ) (rows : List (List ℤ)) (es : List Stamped) → AreInTurn es
+    → last_few n (inserted at rows (last_few n es)) ≡ last_few n (inserted at rows es)
 last_inserted n at rows es t =
     let F : Stamped → Bool = λ e. int_le e.0 at in
     let G : Stamped → Bool = λ e. int_lt at e.0 in
@@ -191,7 +196,8 @@ range_grows span t t' h = step (int_lt (pos 0) (t -ℤ span)) refl where
   step true e = let l : (t' -ℤ span) ≤ℤ (later (pos 0) (t' -ℤ span)) = later_to (pos 0) (t' -ℤ span) in omega (arith, ints, h, l)
   step false e = later_from (pos 0) (t' -ℤ span)
 
-kept_later : (w : Window) (t t' at : ℤ) (rows : List (List ℤ)) (es : List Stamped) → AreInTurn es → t ≤ℤ t' → still_in w t' (inserted at rows (still_in w t es)) ≡ still_in w t' (inserted at rows es)
+kept_later : (w : Window) (t t' at : ℤ) (rows : List (List ℤ)) (es : List Stamped) → AreInTurn es → t ≤ℤ t'
+    → still_in w t' (inserted at rows (still_in w t es)) ≡ still_in w t' (inserted at rows es)
 kept_later Now t t' at rows es i h = since_inserted t t' at rows es h
 kept_later (Range span) t t' at rows es i h = since_inserted (later (pos 0) (t -ℤ span)) (later (pos 0) (t' -ℤ span)) at rows es (range_grows span t t' h)
 kept_later Unbounded t t' at rows es i h = refl
@@ -204,8 +210,10 @@ still_none Unbounded t = refl
 still_none (Latest n) t = last_of_none n
 
 -- what was let go stays away
-pub kept_more : (w : Window) (bs : List Batch) (b : Batch) → still_in w (greatest (bs ++ b ∷ [])) (inserted b.at b.rows (still_in w (greatest bs) (in_turn bs))) ≡ still_in w (greatest (bs ++ b ∷ [])) (in_turn (bs ++ b ∷ []))
-kept_more w [] b = ap (λ l. still_in w (greatest (b ∷ [])) (inserted b.at b.rows l)) (still_none w (pos 0)) ∙ ap (still_in w (greatest (b ∷ []))) (sym (in_turn_more [] b))
+pub kept_more : (w : Window) (bs : List Batch) (b : Batch)
+    → still_in w (greatest (bs ++ b ∷ [])) (inserted b.at b.rows (still_in w (greatest bs) (in_turn bs))) ≡ still_in w (greatest (bs ++ b ∷ [])) (in_turn (bs ++ b ∷ []))
+kept_more w [] b =
+    ap (λ l. still_in w (greatest (b ∷ [])) (inserted b.at b.rows l)) (still_none w (pos 0)) ∙ ap (still_in w (greatest (b ∷ []))) (sym (in_turn_more [] b))
 kept_more w (c ∷ cs) b =
     let t = greatest (c ∷ cs) in
     let t' = greatest (c ∷ cs ++ b ∷ []) in
@@ -232,9 +240,11 @@ still_in_turn (Latest n) t es h = drop_in_turn (length es - n) es h
 
 -- what a window keeps is in turn
 pub kept_in_turn : (w : Window) (kept : WindowKept) → IsWindowKept w kept → AreInTurn kept.rows
-kept_in_turn w kept k = subst AreInTurn (sym k.stands.rows) (still_in_turn w (greatest (batches k.past)) (in_turn (batches k.past)) (are_in_turn (batches k.past)))
+kept_in_turn w kept k =
+    subst AreInTurn (sym k.stands.rows) (still_in_turn w (greatest (batches k.past)) (in_turn (batches k.past)) (are_in_turn (batches k.past)))
 
-join_in_turn : (at : ℤ) (xs ys : List Stamped) → AllByRecursion (λ (e : Stamped). e.0 ≤ℤ at) xs → AllByRecursion (λ (e : Stamped). at ≤ℤ e.0) ys → AreInTurn xs → AreInTurn ys → AreInTurn (xs ++ ys)
+join_in_turn : (at : ℤ) (xs ys : List Stamped) → AllByRecursion (λ (e : Stamped). e.0 ≤ℤ at) xs → AllByRecursion (λ (e : Stamped). at ≤ℤ e.0) ys → AreInTurn xs
+    → AreInTurn ys → AreInTurn (xs ++ ys)
 join_in_turn at [] ys a b t u = u
 join_in_turn at (x ∷ xs) ys a b t u =
     let l = a.0 in
@@ -262,7 +272,8 @@ inserted_in_turn at rows es t =
     is_ge u h = grind (arith, h)
 
     later_all : AllByRecursion (λ (e : Stamped). at ≤ℤ e.0) (filter (λ (e : Stamped). int_lt at e.0) es)
-    later_all = all_as (λ (e : Stamped). int_lt at e.0 ≡ true) (λ (e : Stamped). at ≤ℤ e.0) (filter (λ (e : Stamped). int_lt at e.0) es) (λ e h. is_ge e.0 h) (passes_all (λ (e : Stamped). int_lt at e.0) es)
+    later_all =
+        all_as (λ (e : Stamped). int_lt at e.0 ≡ true) (λ (e : Stamped). at ≤ℤ e.0) (filter (λ (e : Stamped). int_lt at e.0) es) (λ e h. is_ge e.0 h) (passes_all (λ (e : Stamped). int_lt at e.0) es)
 
 -- CONTENTS
 
@@ -286,7 +297,8 @@ where_rows p (b ∷ bs) = step (p b.at) refl (where_rows p bs) where
       → flat_map (λ (c : Batch). c.rows) (cond q (b ∷ filter (λ (c : Batch). p c.at) bs) (filter (λ (c : Batch). p c.at) bs)) ≡ map row_in (filter Q (rows_with b ++ rows_of_all bs))
   step true e more =
       let whole = filter_all Q (rows_with b) (all_stamped (λ t. p t ≡ true) b.at b.rows e) in
-      (λ i. sym (rows_back b.at b.rows) i ++ more i) ∙ sym (map-append row_in (rows_with b) (filter Q (rows_of_all bs))) ∙ ap (map row_in) (sym (all ∙ ap (λ l. l ++ filter Q (rows_of_all bs)) whole))
+      (λ i. sym (rows_back b.at b.rows) i ++ more i) ∙ sym (map-append row_in (rows_with b) (filter Q (rows_of_all bs)))
+      ∙ ap (map row_in) (sym (all ∙ ap (λ l. l ++ filter Q (rows_of_all bs)) whole))
   step false e more =
       let none = filter_none Q (rows_with b) (all_stamped (λ t. p t ≡ false) b.at b.rows e) in
       more ∙ ap (map row_in) (sym (all ∙ ap (λ l. l ++ filter Q (rows_of_all bs)) none))
@@ -300,7 +312,8 @@ where_bag p bs =
     copies-where row p bs ∙ sym (copies-where row p (by_instant bs) ∙ s ∙ omega arith)))
     ∙ ap in_order (where_rows p (by_instant bs))
 
-content_by : (w : Window) (t : ℤ) (bs : List Batch) → AllByRecursion (λ (e : Stamped). e.0 ≤ℤ t) (in_turn bs) → in_order (in_window w t bs) ≡ in_order (map row_in (still_in w t (in_turn bs)))
+content_by : (w : Window) (t : ℤ) (bs : List Batch) → AllByRecursion (λ (e : Stamped). e.0 ≤ℤ t) (in_turn bs)
+    → in_order (in_window w t bs) ≡ in_order (map row_in (still_in w t (in_turn bs)))
 content_by Now t bs h =
     where_bag (λ u. int_eq u t) bs
     ∙ ap (λ l. in_order (map row_in l)) (filter_same (λ (e : Stamped). int_eq e.0 t) (λ (e : Stamped). int_le t e.0) (in_turn bs) (all_as (λ (e : Stamped). e.0 ≤ℤ t) (λ (e : Stamped). int_eq e.0 t ≡ int_le t e.0) (in_turn bs) (λ e k. same e.0 k) h))
@@ -333,8 +346,10 @@ batches_more (Flat (One row) ∷ xs) b = batches_more xs b
 batches_more (Pack fs ∷ xs) b = batches_more xs b
 
 -- a batch comes: its rows are inserted, those that have left are let go, and the others are given
-pub window_steps : (w : Window) (b : Batch) (old new : WindowKept) (out out' : List item.Item) → new.now ≡ Some (now_after old.now b.at) → new.rows ≡ still_in w (now_after old.now b.at) (inserted b.at b.rows old.rows)
-    → out' ≡ out ++ Flat (Batched (record { at = b.at; rows = in_order (map row_in new.rows) })) ∷ [] → Steps (StandsForWindow w) (window_one w) (Flat (Batched b)) old new out out'
+pub window_steps : (w : Window) (b : Batch) (old new : WindowKept) (out out' : List item.Item) → new.now ≡ Some (now_after old.now b.at)
+    → new.rows ≡ still_in w (now_after old.now b.at) (inserted b.at b.rows old.rows)
+    → out' ≡ out ++ Flat (Batched (record { at = b.at; rows = in_order (map row_in new.rows) })) ∷ []
+    → Steps (StandsForWindow w) (window_one w) (Flat (Batched b)) old new out out'
 window_steps w b old new out out' now rows gave = record {
   each = λ past h.
       let bs = batches past in

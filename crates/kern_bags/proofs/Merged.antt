@@ -1,5 +1,6 @@
 -- The difference of ascending lists, from the front.
-use Rattle.std.proofs.Common.{◌≡◌, ◌<◌, ◌≤◌, ◌+◌, ℕ, zero, suc, ℤ, Bool, true, false, cond, List, [], ◌∷◌, ◌++◌, length, get_or, drop, refl, sym, ap, ◌∙◌, arith, subst, append_assoc, drop-cons}
+use Rattle.std.proofs.Common.{◌≡◌, ◌<◌, ◌≤◌, ◌+◌, ℕ, zero, suc, ℤ, Bool, true, false, cond, List, [], ◌∷◌, ◌++◌, length, get_or, drop, refl, sym, ap, ◌∙◌}
+use Rattle.std.proofs.Common.{arith, subst, append_assoc, drop-cons}
 use Rattle.std.specs.List.{AllByRecursion}
 use Rattle.std.specs.List.Sorted.{IsSortedBy}
 use Rattle.std.specs.Ordering.{is_lt, is_eq, ordering_reverse}
@@ -40,7 +41,8 @@ not_same : (x y : List ℤ) → row_lt y x ≡ true → row_eq x y ≡ false
 not_same x y h = step (row_eq x y) refl where
   step : (b : Bool) → row_eq x y ≡ b → b ≡ false
   step false e = refl
-  step true e = absurd (let s = same_row x y e in let l : row_lt x x ≡ true = subst (λ z. row_lt z x ≡ true) (sym s) h in true≢false (sym l ∙ rows_ranked.one_way x x l))
+  step true e =
+      absurd (let s = same_row x y e in let l : row_lt x x ≡ true = subst (λ z. row_lt z x ≡ true) (sym s) h in true≢false (sym l ∙ rows_ranked.one_way x x l))
 
 -- a row below all others takes none away
 none_taken : (y : List ℤ) (xs : List (List ℤ)) → AllByRecursion (λ x. row_eq x y ≡ false) xs → take_out y xs ≡ xs
@@ -51,7 +53,8 @@ none_taken y (x ∷ xs) h = ap (λ b. cond b xs (x ∷ take_out y xs)) h.0 ∙ a
 pub past_lower : (x : List ℤ) (xs ys : List (List ℤ)) → Up (x ∷ xs) → without (x ∷ xs) ys ≡ without (x ∷ xs) (rows_from x ys)
 past_lower x xs [] u = refl
 past_lower x xs (y ∷ ys) u = step (row_lt y x) refl (past_lower x xs ys u) where
-  step : (b : Bool) → row_lt y x ≡ b → without (x ∷ xs) ys ≡ without (x ∷ xs) (rows_from x ys) → without (x ∷ xs) (y ∷ ys) ≡ without (x ∷ xs) (cond b (rows_from x ys) (y ∷ ys))
+  step : (b : Bool) → row_lt y x ≡ b → without (x ∷ xs) ys ≡ without (x ∷ xs) (rows_from x ys)
+      → without (x ∷ xs) (y ∷ ys) ≡ without (x ∷ xs) (cond b (rows_from x ys) (y ∷ ys))
   step true e more =
       let rest : AllByRecursion (λ z. row_eq z y ≡ false) xs = all_as (λ z. row_lt z x ≡ false) (λ z. row_eq z y ≡ false) xs (λ z g. not_same z y (lower z g)) u.0 in
       ap (λ l. without l ys) (none_taken y (x ∷ xs) (not_same x y e, rest)) ∙ more
@@ -79,20 +82,22 @@ not_same_back x y h = step (row_eq x y) refl where
   step true e = absurd (let s = same_row x y e in true≢false (sym (row_itself x) ∙ ap (λ z. row_eq z x) s ∙ h))
 
 -- a row that is below all others stays
-pub lowest_stays : (x y : List ℤ) (xs ys : List (List ℤ)) → row_lt y x ≡ false → row_eq y x ≡ false → Up (y ∷ ys) → without (x ∷ xs) (y ∷ ys) ≡ x ∷ without xs (y ∷ ys)
-lowest_stays x y xs ys l e u = kept_first x xs (y ∷ ys) (not_same_back x y e, all_as (λ z. row_lt z y ≡ false) (λ z. row_eq x z ≡ false) ys (λ z g. apart z g) u.0) where
-  below : row_lt x y ≡ true
-  below = go (row_cmp y x) refl where
-    go : (r : Ordering) → row_cmp y x ≡ r → row_lt x y ≡ true
-    go Less k = absurd (true≢false (sym (ap is_lt k) ∙ l))
-    go Equal k = absurd (true≢false (sym (ap is_eq k) ∙ sym (row_ties y x) ∙ e))
-    go Greater k = ap is_lt (row_total.antisymm x y ∙ ap ordering_reverse k)
+pub lowest_stays : (x y : List ℤ) (xs ys : List (List ℤ)) → row_lt y x ≡ false → row_eq y x ≡ false → Up (y ∷ ys)
+    → without (x ∷ xs) (y ∷ ys) ≡ x ∷ without xs (y ∷ ys)
+lowest_stays x y xs ys l e u =
+    kept_first x xs (y ∷ ys) (not_same_back x y e, all_as (λ z. row_lt z y ≡ false) (λ z. row_eq x z ≡ false) ys (λ z g. apart z g) u.0) where
+      below : row_lt x y ≡ true
+      below = go (row_cmp y x) refl where
+        go : (r : Ordering) → row_cmp y x ≡ r → row_lt x y ≡ true
+        go Less k = absurd (true≢false (sym (ap is_lt k) ∙ l))
+        go Equal k = absurd (true≢false (sym (ap is_eq k) ∙ sym (row_ties y x) ∙ e))
+        go Greater k = ap is_lt (row_total.antisymm x y ∙ ap ordering_reverse k)
 
-  apart : (z : List ℤ) → row_lt z y ≡ false → row_eq x z ≡ false
-  apart z g = go (row_eq x z) refl where
-    go : (b : Bool) → row_eq x z ≡ b → b ≡ false
-    go false k = refl
-    go true k = absurd (true≢false (sym below ∙ subst (λ w. row_lt w y ≡ false) (sym (same_row x z k)) g))
+      apart : (z : List ℤ) → row_lt z y ≡ false → row_eq x z ≡ false
+      apart z g = go (row_eq x z) refl where
+        go : (b : Bool) → row_eq x z ≡ b → b ≡ false
+        go false k = refl
+        go true k = absurd (true≢false (sym below ∙ subst (λ w. row_lt w y ≡ false) (sym (same_row x z k)) g))
 
 -- THE WHOLE DIFFERENCE
 
@@ -159,14 +164,19 @@ module _ (rows others : List (List ℤ)) (u : Up rows) (v : Up others) (n p q : 
   up = subst Up here (up_drop n rows u)
 
   moved : left ++ without (x ∷ drop (n + 1) rows) (drop q others) ≡ without rows others
-  moved = ap (λ l. left ++ l) (ap (without (x ∷ drop (n + 1) rows)) from ∙ sym (past_lower x (drop (n + 1) rows) (drop p others) up) ∙ ap (λ l. without l (drop p others)) (sym here)) ∙ so_far
+  moved =
+      ap (λ l. left ++ l) (ap (without (x ∷ drop (n + 1) rows)) from ∙ sym (past_lower x (drop (n + 1) rows) (drop p others) up) ∙ ap (λ l. without l (drop p others)) (sym here))
+      ∙ so_far
 
   -- the same row stands there: both are done
   pub row_taken : (y : List ℤ) → q < length others → y ≡ get_or others q y → row_eq y x ≡ true → IsMerged rows others (n + 1) (q + 1) left
-  row_taken y ql at e = ap (λ l. left ++ l) (sym (same_taken x y (drop (n + 1) rows) (drop (q + 1) others) e) ∙ ap (without (x ∷ drop (n + 1) rows)) (sym (at_front others q y ql at))) ∙ moved
+  row_taken y ql at e =
+      ap (λ l. left ++ l) (sym (same_taken x y (drop (n + 1) rows) (drop (q + 1) others) e) ∙ ap (without (x ∷ drop (n + 1) rows)) (sym (at_front others q y ql at)))
+      ∙ moved
 
   -- another row stands there: the row is left
-  pub row_left : (y : List ℤ) (left' : List (List ℤ)) → q < length others → y ≡ get_or others q y → row_eq y x ≡ false → left' ≡ left ++ x ∷ [] → IsMerged rows others (n + 1) q left'
+  pub row_left : (y : List ℤ) (left' : List (List ℤ)) → q < length others → y ≡ get_or others q y → row_eq y x ≡ false → left' ≡ left ++ x ∷ []
+      → IsMerged rows others (n + 1) q left'
   row_left y left' ql at e l =
       let there = at_front others q y ql at in
       let low = first_not_below x y (drop (q + 1) others) (drop p others) (sym from ∙ there) in
@@ -191,14 +201,19 @@ none_without (y ∷ ys) = none_without ys
 
 -- at the end
 pub merged_all : (rows others : List (List ℤ)) (n p : ℕ) (left : List (List ℤ)) → length rows ≤ n → IsMerged rows others n p left → left ≡ without rows others
-merged_all rows others n p left ge m = sym (append-nil left) ∙ ap (λ l. left ++ l) (sym (ap (λ l. without l (drop p others)) (at_end rows n ge) ∙ none_without (drop p others))) ∙ m
+merged_all rows others n p left ge m =
+    sym (append-nil left) ∙ ap (λ l. left ++ l) (sym (ap (λ l. without l (drop p others)) (at_end rows n ge) ∙ none_without (drop p others))) ∙ m
 
 -- one place more for a row that is below
-pub place_next : (row y : List ℤ) (rows : List (List ℤ)) (n : ℕ) → n < length rows → y ≡ get_or rows n y → row_lt y row ≡ true → rows_from row (drop (n + 1) rows) ≡ rows_from row (drop n rows)
-place_next row y rows n lt is l = sym (ap (rows_from row) (at_front rows n y lt is) ∙ ap (λ b. cond b (rows_from row (drop (n + 1) rows)) (y ∷ drop (n + 1) rows)) l)
+pub place_next : (row y : List ℤ) (rows : List (List ℤ)) (n : ℕ) → n < length rows → y ≡ get_or rows n y → row_lt y row ≡ true
+    → rows_from row (drop (n + 1) rows) ≡ rows_from row (drop n rows)
+place_next row y rows n lt is l =
+    sym (ap (rows_from row) (at_front rows n y lt is) ∙ ap (λ b. cond b (rows_from row (drop (n + 1) rows)) (y ∷ drop (n + 1) rows)) l)
 
-pub place_found : (row y : List ℤ) (rows : List (List ℤ)) (n : ℕ) → n < length rows → y ≡ get_or rows n y → row_lt y row ≡ false → drop n rows ≡ rows_from row (drop n rows)
-place_found row y rows n lt is l = sym (ap (rows_from row) (at_front rows n y lt is) ∙ ap (λ b. cond b (rows_from row (drop (n + 1) rows)) (y ∷ drop (n + 1) rows)) l ∙ sym (at_front rows n y lt is))
+pub place_found : (row y : List ℤ) (rows : List (List ℤ)) (n : ℕ) → n < length rows → y ≡ get_or rows n y → row_lt y row ≡ false
+    → drop n rows ≡ rows_from row (drop n rows)
+place_found row y rows n lt is l =
+    sym (ap (rows_from row) (at_front rows n y lt is) ∙ ap (λ b. cond b (rows_from row (drop (n + 1) rows)) (y ∷ drop (n + 1) rows)) l ∙ sym (at_front rows n y lt is))
 
 pub place_none : (row : List ℤ) (rows : List (List ℤ)) (n : ℕ) → length rows ≤ n → drop n rows ≡ rows_from row (drop n rows)
 place_none row rows n ge = let e = at_end rows n ge in e ∙ sym (ap (rows_from row) e)

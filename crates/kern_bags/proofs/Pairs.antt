@@ -43,7 +43,8 @@ so_far_start s out h = record { given = []; grew = sym (append-nil out); all = r
 next_is : (now next : Pairing) (x y : item.Item) → TakesPair now next x y → crossed now ≡ (joined_batch x y ++ (crossed next).0, (crossed next).1)
 next_is now next x y t = crossed_is now ∙ (λ i. zipped (t.left i) (t.right i)) ∙ ap (λ d. (joined_batch x y ++ d.0, d.1)) (sym (crossed_is next))
 
-pub so_far_step : (start now next : Pairing) (out out' out'' : List item.Item) (x y : item.Item) → SoFar start now out out' → TakesPair now next x y → out'' ≡ out' ++ joined_batch x y → SoFar start next out out''
+pub so_far_step : (start now next : Pairing) (out out' out'' : List item.Item) (x y : item.Item) → SoFar start now out out' → TakesPair now next x y
+    → out'' ≡ out' ++ joined_batch x y → SoFar start next out out''
 so_far_step start now next out out' out'' x y f t g =
     let e = next_is now next x y t in
     let P = λ (i : item.Item). HaveWidth f.can.left (rows_of i) in
@@ -85,7 +86,8 @@ take_front [] ys = refl
 take_front (x ∷ xs) ys = ap (λ l. x ∷ l) (take_front xs ys)
 
 -- there was no memory for a pair
-pub so_far_refused : (start now : Pairing) (out out' out'' : List item.Item) → SoFar start now out out' → out'' ≡ out' → GrewByPrefix out (crossed start).0 out''
+pub so_far_refused : (start now : Pairing) (out out' out'' : List item.Item) → SoFar start now out out' → out'' ≡ out'
+    → GrewByPrefix out (crossed start).0 out''
 so_far_refused start now out out' out'' f e = record {
   n = length f.given;
   is = e ∙ f.grew ∙ ap (λ l. out ++ l) (sym (take_front f.given (crossed now).0) ∙ ap (take (length f.given)) f.all);

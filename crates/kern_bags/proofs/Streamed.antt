@@ -31,10 +31,12 @@ module _ (b : Batch) (old new : List (List ℤ)) (out out' : List item.Item) whe
   abbrev gave : List (List ℤ) → List item.Item
   gave rows = out ++ Flat (Batched (record { at = b.at; rows = rows })) ∷ []
 
-  pub came_steps : new ≡ b.rows → out' ≡ gave (difference b.rows old) → Steps (StandsForStreamer Istream) (streamer_one Istream) (Flat (Batched b)) old new out out'
+  pub came_steps : new ≡ b.rows → out' ≡ gave (difference b.rows old)
+      → Steps (StandsForStreamer Istream) (streamer_one Istream) (Flat (Batched b)) old new out out'
   came_steps n g = record { each = λ past h. (g ∙ ap (λ l. gave (difference b.rows l)) h, n ∙ sym (last_come past b)) }
 
-  pub gone_steps : new ≡ b.rows → out' ≡ gave (difference old b.rows) → Steps (StandsForStreamer Dstream) (streamer_one Dstream) (Flat (Batched b)) old new out out'
+  pub gone_steps : new ≡ b.rows → out' ≡ gave (difference old b.rows)
+      → Steps (StandsForStreamer Dstream) (streamer_one Dstream) (Flat (Batched b)) old new out out'
   gone_steps n g = record { each = λ past h. (g ∙ ap (λ l. gave (difference l b.rows)) h, n ∙ sym (last_come past b)) }
 
 batches_same : (past : List item.Item) (row : List ℤ) → batches (past ++ Flat (One row) ∷ []) ≡ batches past
@@ -44,7 +46,8 @@ batches_same (Flat (One r) ∷ xs) row = batches_same xs row
 batches_same (Pack fs ∷ xs) row = batches_same xs row
 
 -- an item that is no batch
-pub row_steps : (s : Streamer) (row : List ℤ) (kept : List (List ℤ)) (out : List item.Item) → Steps (StandsForStreamer s) (streamer_one s) (Flat (One row)) kept kept out out
+pub row_steps : (s : Streamer) (row : List ℤ) (kept : List (List ℤ)) (out : List item.Item)
+    → Steps (StandsForStreamer s) (streamer_one s) (Flat (One row)) kept kept out out
 row_steps Istream row kept out = record { each = λ past h. (sym (append-nil out), h ∙ ap last_rows (sym (batches_same past row))) }
 row_steps Dstream row kept out = record { each = λ past h. (sym (append-nil out), h ∙ ap last_rows (sym (batches_same past row))) }
 row_steps Rstream row kept out = record { each = λ past h. (sym (append-nil out), tt) }

@@ -1,5 +1,6 @@
 -- What a window has of the batches that came.
-use Rattle.std.proofs.Common.{◌⊎◌, inl, inr, ⊎_elim, ◌<ℤ◌, ◌≤◌, ◌≡◌, ℕ, zero, suc, ◌+◌, ◌-◌, ◌≤ℤ◌, ◌-ℤ◌, ℤ, pos, Bool, true, false, cond, List, [], ◌∷◌, ◌++◌, length, map, filter, fold, take, drop, refl, sym, ap, ◌∙◌, arith}
+use Rattle.std.proofs.Common.{◌⊎◌, inl, inr, ⊎_elim, ◌<ℤ◌, ◌≤◌, ◌≡◌, ℕ, zero, suc, ◌+◌, ◌-◌, ◌≤ℤ◌, ◌-ℤ◌, ℤ, pos, Bool, true, false, cond, List, [], ◌∷◌, ◌++◌}
+use Rattle.std.proofs.Common.{length, map, filter, fold, take, drop, refl, sym, ap, ◌∙◌, arith}
 use Rattle.std.specs.Prelude.{⊤, count_by, sum_by, flat_map, int_lt, int_le, ◌&&◌, Contains}
 use Rattle.std.specs.List.{AllByRecursion}
 use Rattle.std.specs.Ordering.{int_eq}
@@ -29,7 +30,8 @@ up_to t u h = grind (arith, h)
 -- what the window says with one comparison
 later_of : (span now at : ℤ) → (int_le at now && int_le (later (pos 0) (now -ℤ span)) at) ≡ lets_pass (Range span) now at
 later_of span now at = step (int_lt (pos 0) (now -ℤ span)) refl where
-  step : (b : Bool) → int_lt (pos 0) (now -ℤ span) ≡ b → (int_le at now && int_le (cond b (now -ℤ span) (pos 0)) at) ≡ (int_le (now -ℤ span) at && (int_le (pos 0) at && int_le at now))
+  step : (b : Bool) → int_lt (pos 0) (now -ℤ span) ≡ b
+      → (int_le at now && int_le (cond b (now -ℤ span) (pos 0)) at) ≡ (int_le (now -ℤ span) at && (int_le (pos 0) at && int_le at now))
   step true e = grind (arith, e)
   step false e = grind (arith, e)
 
@@ -38,7 +40,8 @@ later_of span now at = step (int_lt (pos 0) (now -ℤ span)) refl where
 nothing_more : (n : ℕ) → n ≡ 0 + n
 nothing_more n = omega arith
 
-pub copies-where : (row : List ℤ) (p : ℤ → Bool) (bs : List Batch) → copies row (rows_where p bs) ≡ sum_by (λ (b : Batch). cond (p b.at) (copies row b.rows) 0) bs
+pub copies-where : (row : List ℤ) (p : ℤ → Bool) (bs : List Batch)
+    → copies row (rows_where p bs) ≡ sum_by (λ (b : Batch). cond (p b.at) (copies row b.rows) 0) bs
 copies-where row p [] = refl
 copies-where row p (b ∷ bs) = step (p b.at) refl (copies-where row p bs) where
   f : Batch → ℕ
@@ -227,7 +230,8 @@ came_placed k (b ∷ bs) = ap (λ l. came_at k b.at b.rows ++ l) (came_placed (k
 count_put : (test : Came → Bool) (p : Placed) (qs : List Placed) → count_by test (all_rows (put p qs)) ≡ count_by test (all_rows (p ∷ qs))
 count_put test p [] = refl
 count_put test p (q ∷ qs) = step (int_lt p.batch.at q.batch.at) (count_put test p qs) where
-  step : (b : Bool) → count_by test (all_rows (put p qs)) ≡ count_by test (all_rows (p ∷ qs)) → count_by test (all_rows (cond b (p ∷ (q ∷ qs)) (q ∷ put p qs))) ≡ count_by test (all_rows (p ∷ (q ∷ qs)))
+  step : (b : Bool) → count_by test (all_rows (put p qs)) ≡ count_by test (all_rows (p ∷ qs))
+      → count_by test (all_rows (cond b (p ∷ (q ∷ qs)) (q ∷ put p qs))) ≡ count_by test (all_rows (p ∷ (q ∷ qs)))
   step true h = refl
   step false h =
       let u = count-append test (rows_of q) (all_rows (put p qs)) in
@@ -236,7 +240,8 @@ count_put test p (q ∷ qs) = step (int_lt p.batch.at q.batch.at) (count_put tes
       let x = count-append test (rows_of q) (all_rows qs) in
       omega (arith, h, u, v, w, x)
 
-count_put_all : (test : Came → Bool) (done ps : List Placed) → count_by test (all_rows (put_all done ps)) ≡ count_by test (all_rows done) + count_by test (all_rows ps)
+count_put_all : (test : Came → Bool) (done ps : List Placed)
+    → count_by test (all_rows (put_all done ps)) ≡ count_by test (all_rows done) + count_by test (all_rows ps)
 count_put_all test done [] = omega arith
 count_put_all test done (p ∷ ps) =
     let a = count_put_all test (put p done) ps in
@@ -255,7 +260,8 @@ rows_came : (k : ℕ) (at : ℤ) (rows : List (List ℤ)) → map row_of (came_a
 rows_came k at [] = refl
 rows_came k at (r ∷ rs) = ap (λ l. r ∷ l) (rows_came (k + 1) at rs)
 
-where_all : (t : ℤ) (ps : List Placed) → AllByRecursion (λ (p : Placed). p.batch.at ≤ℤ t) ps → rows_where (λ u. int_le u t) (map batch_of ps) ≡ map row_of (all_rows ps)
+where_all : (t : ℤ) (ps : List Placed) → AllByRecursion (λ (p : Placed). p.batch.at ≤ℤ t) ps
+    → rows_where (λ u. int_le u t) (map batch_of ps) ≡ map row_of (all_rows ps)
 where_all t [] a = refl
 where_all t (p ∷ ps) a =
     ap (λ q. flat_map (λ (c : Batch). c.rows) (cond q (p.batch ∷ filter (λ (c : Batch). int_le c.at t) (map batch_of ps)) (filter (λ (c : Batch). int_le c.at t) (map batch_of ps)))) (up_to p.batch.at t a.0)
@@ -269,7 +275,8 @@ nearer : (at : ℤ) (m n : ℕ) (es : List Came) → n ≤ m → AllByRecursion 
 nearer at m n [] h a = tt
 nearer at m n (e ∷ es) h a = (⊎_elim (λ l. inl l) (λ p. let q = p.1 in inr (p.0, omega (arith, q, h))) a.0, nearer at m n es h a.1)
 
-each_from : (at : ℤ) (n k : ℕ) (t : ℤ) (rows : List (List ℤ)) (rest : List Came) → (at <ℤ t) ⊎ ((at ≡ t) × (n ≤ k)) → AllByRecursion (IsFrom at n) rest → AllByRecursion (IsFrom at n) (came_at k t rows ++ rest)
+each_from : (at : ℤ) (n k : ℕ) (t : ℤ) (rows : List (List ℤ)) (rest : List Came) → (at <ℤ t) ⊎ ((at ≡ t) × (n ≤ k)) → AllByRecursion (IsFrom at n) rest
+    → AllByRecursion (IsFrom at n) (came_at k t rows ++ rest)
 each_from at n k t [] rest h a = a
 each_from at n k t (r ∷ rs) rest h a = (h, each_from at n (k + 1) t rs rest (⊎_elim (λ l. inl l) (λ p. let q = p.1 in inr (p.0, omega (arith, q))) h) a)
 
@@ -286,7 +293,8 @@ all_later : (e : Came) (es : List Came) → AllByRecursion (IsFrom e.at (e.place
 all_later e [] a = tt
 all_later e (f ∷ fs) a = (⊎_elim (λ l. inl l) (λ p. let q = p.1 in inr (p.0, omega (arith, q))) a.0, all_later e fs a.1)
 
-climb_rows : (k : ℕ) (at : ℤ) (rows : List (List ℤ)) (rest : List Came) → AllByRecursion (IsFrom at (k + length rows)) rest → ClimbTimes rest → ClimbTimes (came_at k at rows ++ rest)
+climb_rows : (k : ℕ) (at : ℤ) (rows : List (List ℤ)) (rest : List Came) → AllByRecursion (IsFrom at (k + length rows)) rest → ClimbTimes rest
+    → ClimbTimes (came_at k at rows ++ rest)
 climb_rows k at [] rest a h = h
 climb_rows k at (r ∷ rs) rest a h = (
   all_later (record { at = at; place = k; row = r }) (came_at (k + 1) at rs ++ rest)
@@ -344,7 +352,8 @@ latest_are n bs =
           let c = count-append test (take more es) (drop more es) in
           let d = count-append test (drop more es) (take more es) in
           omega (arith, a, b, c, d);
-      content_is = λ test. sym (bag_from_permutation (last_of n passed) (content_of (Latest n) bs) (in_order_bag (last_of n passed)) test) ∙ ap (count_by test) last;
+      content_is =
+          λ test. sym (bag_from_permutation (last_of n passed) (content_of (Latest n) bs) (in_order_bag (last_of n passed)) test) ∙ ap (count_by test) last;
       number = let l = length-drop more es in omega (arith, l, many);
       later = later_than more es (climb_all (sorted bs) (climbs_all [] 0 bs tt tt));
     }

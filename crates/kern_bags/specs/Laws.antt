@@ -1,6 +1,7 @@
 -- The laws of bags: statements over the definitions alone, by how many copies of each row there are. The operators are those of
 -- CQL (Arasu, Babu, Widom, 2006).
-use Rattle.std.specs.Prelude.{◌≡◌, ℕ, ℤ, pos, ◌-ℤ◌, ◌≤ℤ◌, ◌-◌, ◌*◌, Bool, List, [], ◌∷◌, ◌++◌, length, min, map, sum_by, count_by, int_le, ◌&&◌, if◌then◌else◌, Contains, ◌⊎◌, ◌+◌, ◌<ℤ◌, ◌<◌}
+use Rattle.std.specs.Prelude.{◌≡◌, ℕ, ℤ, pos, ◌-ℤ◌, ◌≤ℤ◌, ◌-◌, ◌*◌, Bool, List, [], ◌∷◌, ◌++◌, length, min, map, sum_by, count_by, int_le, ◌&&◌, if◌then◌else◌}
+use Rattle.std.specs.Prelude.{Contains, ◌⊎◌, ◌+◌, ◌<ℤ◌, ◌<◌}
 use Rattle.std.specs.List.{AllByRecursion}
 use Rattle.std.specs.List.Sorted.{IsSorted}
 use Rattle.std.specs.Ordering.{int_eq}
@@ -35,7 +36,8 @@ SelectionsAre = (t : Term) (rows : List (List ℤ)) (row : List ℤ) → copies 
 
 -- a row is there as often as there are rows whose values of the expressions it has
 abbrev pub ProjectionsAre : Type 0
-ProjectionsAre = (ts : List Term) (rows : List (List ℤ)) (row : List ℤ) → copies row (projected ts rows) ≡ count_by (λ r. row_eq row (map (λ t. val t r []) ts)) rows
+ProjectionsAre =
+    (ts : List Term) (rows : List (List ℤ)) (row : List ℤ) → copies row (projected ts rows) ≡ count_by (λ r. row_eq row (map (λ t. val t r []) ts)) rows
 
 -- a row is there as often as there are pairs whose join it is: x and y joined, where all rows of the first bag are as wide as x,
 -- the times of x times the times of y

@@ -1,5 +1,6 @@
 -- Rows that are cut off the front of values.
-use Rattle.std.proofs.Common.{◌≡◌, ℕ, zero, suc, ℤ, ◌+◌, ◌-◌, ◌*◌, ◌<◌, ◌≤◌, List, [], ◌∷◌, ◌++◌, length, take, drop, refl, sym, ap, ◌∙◌, subst, arith, length-append, length-drop}
+use Rattle.std.proofs.Common.{◌≡◌, ℕ, zero, suc, ℤ, ◌+◌, ◌-◌, ◌*◌, ◌<◌, ◌≤◌, List, [], ◌∷◌, ◌++◌, length, take, drop, refl, sym, ap, ◌∙◌, subst, arith}
+use Rattle.std.proofs.Common.{length-append, length-drop}
 use Rattle.std.specs.Prelude.{All, slice_index_or}
 use Rattle.std.proofs.lemmas.List.{take-append-le, drop-append-le, length-take-le, drop-drop, take_all, drop_all}
 use Rattle.std.proofs.lemmas.List.Elements.{All-nil, All-cons, All-head}
@@ -76,7 +77,8 @@ whole-more w (suc n) vs row new rows h v wide e =
     let k : length vs ≡ suc n * length row = h.whole ∙ ap (λ m. suc n * m) is in
     omega (arith, k, ap length e, length-append vs row)
 
-pub even-more : (w n : ℕ) (vs row new : List ℤ) (rows : List (List ℤ)) → AreEven w n vs → cut w n vs ≡ rows → AreAsWide row rows → 1 ≤ length row → length row ≤ 16
+pub even-more : (w n : ℕ) (vs row new : List ℤ) (rows : List (List ℤ)) → AreEven w n vs → cut w n vs ≡ rows → AreAsWide row rows → 1 ≤ length row
+    → length row ≤ 16
     → new ≡ vs ++ row → AreEven (length row) (n + 1) new
 even-more w n vs row new rows h v wide some most e = record {
   some = some;

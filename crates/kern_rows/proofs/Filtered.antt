@@ -1,5 +1,6 @@
 -- A value comes to a filter.
-use Rattle.std.proofs.Common.{◌≡◌, ℕ, ℤ, ◌+◌, ◌-◌, ◌*◌, ◌<◌, ◌≤◌, List, [], ◌∷◌, ◌++◌, length, take, drop, sym, ap, ◌∙◌, subst, arith, length-append, length-drop}
+use Rattle.std.proofs.Common.{◌≡◌, ℕ, ℤ, ◌+◌, ◌-◌, ◌*◌, ◌<◌, ◌≤◌, List, [], ◌∷◌, ◌++◌, length, take, drop, sym, ap, ◌∙◌, subst, arith, length-append}
+use Rattle.std.proofs.Common.{length-drop}
 use Rattle.std.specs.Prelude.{if◌then◌else◌, nat_le}
 use Rattle.std.proofs.lemmas.List.{append-nil, drop-drop, drop-append-le}
 use Rattle.river_base.specs.Grew.{GrewByPrefix}
@@ -23,7 +24,8 @@ module _ (f : FilterForm) (v : ℤ) (old : Waiting) where
   buffer_is s h = drop-append-le (s.fired * f.pop) s.seen (v ∷ []) h.taken ∙ ap (λ b. b ++ v ∷ []) (sym h.buffer)
 
   -- too few values wait
-  pub filter_waits : (new : Waiting) (out : List ℤ) → new.buffer ≡ old.buffer ++ v ∷ [] → new.kept ≡ old.kept → length new.buffer < f.peek → Filters f v old new out out
+  pub filter_waits : (new : Waiting) (out : List ℤ) → new.buffer ≡ old.buffer ++ v ∷ [] → new.kept ≡ old.kept → length new.buffer < f.peek
+      → Filters f v old new out out
   filter_waits new out b k few = record {
     each = λ s h.
         let w = buffer_is s h in
@@ -43,7 +45,8 @@ module _ (f : FilterForm) (v : ℤ) (old : Waiting) where
   abbrev pub the_run : List ℤ → Filtering → Filtered
   the_run buffer s = filter_ran (received v s) (run_kept f.body old.kept (take f.peek buffer))
 
-  run_is : (buffer : List ℤ) → buffer ≡ old.buffer ++ v ∷ [] → f.peek ≤ length buffer → (s : Filtering) → StandsForFiltering f old s → filter_one f v s ≡ the_run buffer s
+  run_is : (buffer : List ℤ) → buffer ≡ old.buffer ++ v ∷ [] → f.peek ≤ length buffer → (s : Filtering) → StandsForFiltering f old s
+      → filter_one f v s ≡ the_run buffer s
   run_is buffer b enough s h =
       let w = buffer_is s h ∙ sym b in
       let le : f.peek ≤ length (buffer_of f (received v s)) = rw w enough in
@@ -52,7 +55,9 @@ module _ (f : FilterForm) (v : ℤ) (old : Waiting) where
       ∙ ap (λ t. filter_ran (received v s) (run_kept f.body t (take f.peek buffer))) (sym h.kept)
 
   -- enough values wait
-  pub filter_runs : (buffer rest kept : List ℤ) (pushes : List (ℕ × List ℤ)) (out out' : List ℤ) → CanFilter f → buffer ≡ old.buffer ++ v ∷ [] → f.peek ≤ length buffer → pushes ≡ (run_kept f.body old.kept (take f.peek buffer)).pushes → kept ≡ (run_kept f.body old.kept (take f.peek buffer)).slots → rest ≡ drop f.pop buffer → out' ≡ out ++ first_values pushes → Filters f v old (record { buffer = rest; kept = kept }) out out'
+  pub filter_runs : (buffer rest kept : List ℤ) (pushes : List (ℕ × List ℤ)) (out out' : List ℤ) → CanFilter f → buffer ≡ old.buffer ++ v ∷ []
+      → f.peek ≤ length buffer → pushes ≡ (run_kept f.body old.kept (take f.peek buffer)).pushes → kept ≡ (run_kept f.body old.kept (take f.peek buffer)).slots
+      → rest ≡ drop f.pop buffer → out' ≡ out ++ first_values pushes → Filters f v old (record { buffer = rest; kept = kept }) out out'
   filter_runs buffer rest kept pushes out out' can b enough p k r o = record {
     each = λ s h.
         let one = run_is buffer b enough s h in
@@ -60,14 +65,19 @@ module _ (f : FilterForm) (v : ℤ) (old : Waiting) where
         let l : length buffer ≡ length s.seen + 1 - s.fired * f.pop = sym (ap length w) ∙ length-drop (s.fired * f.pop) (s.seen ++ v ∷ []) ∙ ap (λ n. n - s.fired * f.pop) (length-append s.seen (v ∷ [])) in (
           o ∙ ap (λ t. out ++ first_values t) p ∙ ap (λ t. out ++ first_values t.pushes) (sym one),
           subst (λ t. StandsForFiltering f (record { buffer = rest; kept = kept }) t.after) (sym one) (record {
-            buffer = r ∙ ap (drop f.pop) (sym w) ∙ drop-drop f.pop (s.fired * f.pop) (s.seen ++ v ∷ []) ∙ ap (λ n. drop n (s.seen ++ v ∷ [])) (let e : s.fired * f.pop + f.pop ≡ (s.fired + 1) * f.pop = omega arith in e);
+            buffer =
+                r ∙ ap (drop f.pop) (sym w) ∙ drop-drop f.pop (s.fired * f.pop) (s.seen ++ v ∷ [])
+                ∙ ap (λ n. drop n (s.seen ++ v ∷ [])) (let e : s.fired * f.pop + f.pop ≡ (s.fired + 1) * f.pop = omega arith in e);
             kept = k;
             taken = let a = h.taken in omega (arith, a, l, enough, can.pops, can.peeks, length-append s.seen (v ∷ []));
-            few = let a = h.few in let c = ap length b in omega (arith, a, enough, can.pops, can.peeks, ap length r, length-drop f.pop buffer, c, length-append old.buffer (v ∷ []));
+            few =
+                let a = h.few in let c = ap length b in
+                omega (arith, a, enough, can.pops, can.peeks, ap length r, length-drop f.pop buffer, c, length-append old.buffer (v ∷ []));
           }),
         );
   }
 
   -- there was no memory in a run, or for what it gave
-  pub filter_refused : (buffer : List ℤ) (out out' : List ℤ) → buffer ≡ old.buffer ++ v ∷ [] → f.peek ≤ length buffer → GrewByPrefix out (first_values (run_kept f.body old.kept (take f.peek buffer)).pushes) out' → GaveUp f v old out out'
+  pub filter_refused : (buffer : List ℤ) (out out' : List ℤ) → buffer ≡ old.buffer ++ v ∷ [] → f.peek ≤ length buffer
+      → GrewByPrefix out (first_values (run_kept f.body old.kept (take f.peek buffer)).pushes) out' → GaveUp f v old out out'
   filter_refused buffer out out' b enough g = record { each = λ s h. rw (run_is buffer b enough s h) g }

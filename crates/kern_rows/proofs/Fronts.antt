@@ -19,19 +19,23 @@ set_same [] p line lt h = absurd (omega (arith, lt))
 set_same (l ∷ ls) zero line lt h = ap (λ t. t ∷ ls) (sym h)
 set_same (l ∷ ls) (suc p) line lt h = ap (λ t. l ∷ t) (set_same ls p line (omega arith) h)
 
-set_rest : (ls : List (List item.Item)) (p : ℕ) (x : item.Item) (line : List item.Item) → p < length ls → get_or ls p [] ≡ x ∷ line → set ls p line ≡ rest_at ls p
+set_rest : (ls : List (List item.Item)) (p : ℕ) (x : item.Item) (line : List item.Item) → p < length ls → get_or ls p [] ≡ x ∷ line
+    → set ls p line ≡ rest_at ls p
 set_rest [] p x line lt h = absurd (omega (arith, lt))
 set_rest (l ∷ ls) zero x line lt h = ap (λ t. t ∷ ls) (sym (ap rest_in h))
 set_rest (l ∷ ls) (suc p) x line lt h = ap (λ t. l ∷ t) (set_rest ls p x line (omega arith) h)
 
-pub stuck_is : (now : Turns) (port had : ℕ) (lists : List (List item.Item)) (line left : List item.Item) → turns port had lists ≡ now → now.port < length now.lists → line ≡ get_or lists port line → line ≡ [] → left ≡ [] → IsStuck now (turns port had (set lists port left))
+pub stuck_is : (now : Turns) (port had : ℕ) (lists : List (List item.Item)) (line left : List item.Item) → turns port had lists ≡ now
+    → now.port < length now.lists → line ≡ get_or lists port line → line ≡ [] → left ≡ [] → IsStuck now (turns port had (set lists port left))
 stuck_is now port had lists line left v lt at none gone =
     let less : port < length lists = subst (λ s. s.port < length s.lists) (sym v) lt in
     let e : get_or lists port [] ≡ [] = line_at lists port line line less at ∙ none in
     subst (λ s. IsStuck s (turns port had (set lists port left))) v
     (record { front = λ give. front_none give lists port e; same = ap (turns port had) (set_same lists port left less (e ∙ sym gone)) })
 
-pub passes_is : (now : Turns) (share port had count next next_had : ℕ) (lists : List (List item.Item)) (line left : List item.Item) (x : item.Item) → turns port had lists ≡ now → now.port < length now.lists → line ≡ get_or lists port line → line ≡ x ∷ left → count ≡ length lists → next ≡ port_after share count port had → next_had ≡ had_after share had → Passes share now (turns next next_had (set lists port left)) x
+pub passes_is : (now : Turns) (share port had count next next_had : ℕ) (lists : List (List item.Item)) (line left : List item.Item) (x : item.Item)
+    → turns port had lists ≡ now → now.port < length now.lists → line ≡ get_or lists port line → line ≡ x ∷ left → count ≡ length lists
+    → next ≡ port_after share count port had → next_had ≡ had_after share had → Passes share now (turns next next_had (set lists port left)) x
 passes_is now share port had count next next_had lists line left x v lt at first c n h =
     let less : port < length lists = subst (λ s. s.port < length s.lists) (sym v) lt in
     let e : get_or lists port [] ≡ x ∷ left = line_at lists port line line less at ∙ first in

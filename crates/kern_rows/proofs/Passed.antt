@@ -1,5 +1,6 @@
 -- Items pass a joiner, one after another.
-use Rattle.std.proofs.Common.{◌≡◌, ℕ, zero, suc, ◌+◌, ◌<◌, ◌≤◌, Option, Some, None, List, [], ◌∷◌, ◌++◌, length, take, get_or, nat_lt, refl, sym, ap, ◌∙◌, subst, arith, append_assoc, ⊎_elim}
+use Rattle.std.proofs.Common.{◌≡◌, ℕ, zero, suc, ◌+◌, ◌<◌, ◌≤◌, Option, Some, None, List, [], ◌∷◌, ◌++◌, length, take, get_or, nat_lt, refl, sym, ap, ◌∙◌}
+use Rattle.std.proofs.Common.{subst, arith, append_assoc, ⊎_elim}
 use Rattle.std.specs.Prelude.{if◌then◌else◌, slice_index_or}
 use Rattle.std.specs.List.{AllByRecursion}
 use Rattle.std.proofs.Math.Nat.{le_refl}
@@ -11,11 +12,13 @@ use Rattle.river_base.specs.Grew.{GrewByPrefix}
 use Rattle.river_base.proofs.PlaceLemmas.{if_lt, if_ge, length-append_at}
 use Rattle.kern_rows.specs.Needs.{HaveShares, IsJoiner}
 use Rattle.kern_rows.specs.Passing.{Passes, IsStuck, SoFar, passed_by}
-use Rattle.kern_rows.specs.Turns.{Turns, IsTurn, next_port, next_had, front_in, front_at, rest_in, rest_at, front_of, passed, waiting, put, settled, ones, turns_start}
+use Rattle.kern_rows.specs.Turns.{Turns, IsTurn, next_port, next_had, front_in, front_at, rest_in, rest_at, front_of, passed, waiting, put, settled, ones}
+use Rattle.kern_rows.specs.Turns.{turns_start}
 
 -- WHAT IS IN FRONT
 
-pub front_is : (give : item.Item → List item.Item) (ls : List (List item.Item)) (p : ℕ) (x : item.Item) (xs : List item.Item) → p < length ls → get_or ls p [] ≡ x ∷ xs → front_at give ls p ≡ Some (give x)
+pub front_is : (give : item.Item → List item.Item) (ls : List (List item.Item)) (p : ℕ) (x : item.Item) (xs : List item.Item) → p < length ls
+    → get_or ls p [] ≡ x ∷ xs → front_at give ls p ≡ Some (give x)
 front_is give [] p x xs lt h = absurd (omega (arith, lt))
 front_is give (l ∷ ls) zero x xs lt h = ap (front_in give) h
 front_is give (l ∷ ls) (suc p) x xs lt h = front_is give ls p x xs (omega arith) h
@@ -29,7 +32,8 @@ less_in : (give : item.Item → List item.Item) (l : List item.Item) (o : List i
 less_in give [] o h = absurd (cc h)
 less_in give (x ∷ xs) o h = omega arith
 
-less_at : (give : item.Item → List item.Item) (ls : List (List item.Item)) (p : ℕ) (o : List item.Item) → front_at give ls p ≡ Some o → waiting (rest_at ls p) < waiting ls
+less_at : (give : item.Item → List item.Item) (ls : List (List item.Item)) (p : ℕ) (o : List item.Item) → front_at give ls p ≡ Some o
+    → waiting (rest_at ls p) < waiting ls
 less_at give [] p o h = absurd (cc h)
 less_at give (l ∷ ls) zero o h = let e = less_in give l o h in omega arith
 less_at give (l ∷ ls) (suc p) o h = let e = less_at give ls p o h in omega arith
@@ -70,7 +74,8 @@ next_turn ws port had all h =
     (cases_lt (had + 1) (slice_index_or ws port 0))
 
 passed_is : (ws : List ℕ) (s : Turns) → length s.lists ≡ length ws → passed_by (slice_index_or ws s.port 0) s ≡ passed ws s
-passed_is ws s e = ap (λ n. record (passed ws s) { port = if nat_lt (s.had + 1) (slice_index_or ws s.port 0) then s.port else (if nat_lt (s.port + 1) n then s.port + 1 else 0) }) e
+passed_is ws s e =
+    ap (λ n. record (passed ws s) { port = if nat_lt (s.had + 1) (slice_index_or ws s.port 0) then s.port else (if nat_lt (s.port + 1) n then s.port + 1 else 0) }) e
 
 pub joined_put : (ws : List ℕ) (p : ℕ) (x : item.Item) (s : Turns) → IsJoiner ws s → IsJoiner ws (put p x s)
 joined_put ws p x s j = record { turn = j.turn; lists = length-append_at s.lists p (x ∷ []) ∙ j.lists }
@@ -82,7 +87,8 @@ module _ (give : item.Item → List item.Item) (ws : List ℕ) where
   drain_none zero s e = refl
   drain_none (suc n) s e = ap (pass_on (passed ws) s (drain (front_of give) (passed ws) n)) e
 
-  drain_some : (n : ℕ) (s : Turns) (o : List item.Item) → front_of give s ≡ Some o → drain (front_of give) (passed ws) (suc n) s ≡ (o ++ (drain (front_of give) (passed ws) n (passed ws s)).0, (drain (front_of give) (passed ws) n (passed ws s)).1)
+  drain_some : (n : ℕ) (s : Turns) (o : List item.Item) → front_of give s ≡ Some o
+      → drain (front_of give) (passed ws) (suc n) s ≡ (o ++ (drain (front_of give) (passed ws) n (passed ws s)).0, (drain (front_of give) (passed ws) n (passed ws s)).1)
   drain_some n s o e = ap (pass_on (passed ws) s (drain (front_of give) (passed ws) n)) e
 
   front_cases : {B : Type 0} (s : Turns) → (front_of give s ≡ None → B) → ((o : List item.Item) → front_of give s ≡ Some o → B) → B
@@ -103,7 +109,8 @@ module _ (give : item.Item → List item.Item) (ws : List ℕ) where
       let l = less_at give s.lists s.port o e in
       drain_some n s o e ∙ ap (λ d. (o ++ d.0, d.1)) (enough n m (passed ws s) (omega (arith, l)) (omega (arith, l))) ∙ sym (drain_some m s o e))
 
-  settled_some : (s : Turns) (o : List item.Item) → front_of give s ≡ Some o → settled give ws s ≡ (o ++ (settled give ws (passed ws s)).0, (settled give ws (passed ws s)).1)
+  settled_some : (s : Turns) (o : List item.Item) → front_of give s ≡ Some o
+      → settled give ws s ≡ (o ++ (settled give ws (passed ws s)).0, (settled give ws (passed ws s)).1)
   settled_some s o h =
       let l = less_at give s.lists s.port o h in
       enough (waiting s.lists) (suc (waiting s.lists)) s (le_refl (waiting s.lists)) (omega arith)
@@ -113,7 +120,8 @@ module _ (give : item.Item → List item.Item) (ws : List ℕ) where
   pub so_far_start : (s : Turns) (out : List item.Item) → IsJoiner ws s → SoFar give ws s s out out
   so_far_start s out j = record { given = []; grew = sym (append-nil out); all = refl; last = refl; joined = j }
 
-  pub so_far_step : (start now next : Turns) (out out' out'' : List item.Item) (x : item.Item) → HaveShares ws → SoFar give ws start now out out' → Passes (slice_index_or ws now.port 0) now next x → out'' ≡ out' ++ give x → SoFar give ws start next out out''
+  pub so_far_step : (start now next : Turns) (out out' out'' : List item.Item) (x : item.Item) → HaveShares ws → SoFar give ws start now out out'
+      → Passes (slice_index_or ws now.port 0) now next x → out'' ≡ out' ++ give x → SoFar give ws start next out out''
   so_far_step start now next out out' out'' x shares f p g =
       let n : next ≡ passed ws now = p.after ∙ passed_is ws now f.joined.lists in
       let e = settled_some now (give x) (p.front give) in
@@ -125,13 +133,15 @@ module _ (give : item.Item → List item.Item) (ws : List ℕ) where
         joined = record { turn = next_turn ws now.port now.had shares f.joined.turn; lists = length-rest_at now.lists now.port ∙ f.joined.lists };
       })
 
-  pub so_far_less : (start now next : Turns) (out out' : List item.Item) (x : item.Item) → SoFar give ws start now out out' → Passes (slice_index_or ws now.port 0) now next x → waiting next.lists < waiting now.lists
+  pub so_far_less : (start now next : Turns) (out out' : List item.Item) (x : item.Item) → SoFar give ws start now out out'
+      → Passes (slice_index_or ws now.port 0) now next x → waiting next.lists < waiting now.lists
   so_far_less start now next out out' x f p =
       let e = ap (λ s. waiting s.lists) p.after in
       let l = less_at give now.lists now.port (give x) (p.front give) in
       omega (arith, e, l)
 
-  pub so_far_end : (start now last : Turns) (out out' : List item.Item) → SoFar give ws start now out out' → IsStuck now last → (out' ≡ out ++ (settled give ws start).0) × (last ≡ (settled give ws start).1)
+  pub so_far_end : (start now last : Turns) (out out' : List item.Item) → SoFar give ws start now out out' → IsStuck now last
+      → (out' ≡ out ++ (settled give ws start).0) × (last ≡ (settled give ws start).1)
   so_far_end start now last out out' f h =
       let e : settled give ws now ≡ ([], now) = drain_none (waiting now.lists) now (h.front give) in
       let g : f.given ≡ (settled give ws start).0 = sym (append-nil f.given) ∙ ap (λ d. f.given ++ d.0) (sym e) ∙ f.all in
@@ -139,7 +149,8 @@ module _ (give : item.Item → List item.Item) (ws : List ℕ) where
 
   prefix_of : (a b : List item.Item) (n : ℕ) → take (length a + n) (a ++ b) ≡ a ++ take n b
   prefix_of [] b n = ap (λ k. take k b) (let e : 0 + n ≡ n = omega arith in e)
-  prefix_of (x ∷ xs) b n = ap (λ k. take k (x ∷ (xs ++ b))) (let e : suc (length xs) + n ≡ suc (length xs + n) = omega arith in e) ∙ ap (λ t. x ∷ t) (prefix_of xs b n)
+  prefix_of (x ∷ xs) b n =
+      ap (λ k. take k (x ∷ (xs ++ b))) (let e : suc (length xs) + n ≡ suc (length xs + n) = omega arith in e) ∙ ap (λ t. x ∷ t) (prefix_of xs b n)
 
   prefix_is : (a b : List item.Item) (n : ℕ) → take (length (take n a)) (a ++ b) ≡ take n a
   prefix_is a b zero = refl
@@ -147,7 +158,8 @@ module _ (give : item.Item → List item.Item) (ws : List ℕ) where
   prefix_is (x ∷ xs) b (suc n) = ap (λ t. x ∷ t) (prefix_is xs b n)
 
   -- there was no memory for what an item gives
-  pub so_far_refused : (start now next : Turns) (out out' out'' : List item.Item) (x : item.Item) → SoFar give ws start now out out' → Passes (slice_index_or ws now.port 0) now next x → GrewByPrefix out' (give x) out'' → GrewByPrefix out (settled give ws start).0 out''
+  pub so_far_refused : (start now next : Turns) (out out' out'' : List item.Item) (x : item.Item) → SoFar give ws start now out out'
+      → Passes (slice_index_or ws now.port 0) now next x → GrewByPrefix out' (give x) out'' → GrewByPrefix out (settled give ws start).0 out''
   so_far_refused start now next out out' out'' x f p g =
       let e = settled_some now (give x) (p.front give) in
       let more = (settled give ws (passed ws now)).0 in
@@ -162,7 +174,8 @@ module _ (give : item.Item → List item.Item) (ws : List ℕ) where
       }
 
 -- the share that was read is that of the port in turn
-pub passes_at : (ws : List ℕ) (share port : ℕ) (now next : Turns) (x : item.Item) → share ≡ slice_index_or ws port 0 → port ≡ now.port → Passes share now next x → Passes (slice_index_or ws now.port 0) now next x
+pub passes_at : (ws : List ℕ) (share port : ℕ) (now next : Turns) (x : item.Item) → share ≡ slice_index_or ws port 0 → port ≡ now.port → Passes share now next x
+    → Passes (slice_index_or ws now.port 0) now next x
 passes_at ws share port now next x s p h = subst (λ k. Passes k now next x) (s ∙ ap (λ q. slice_index_or ws q 0) p) h
 
 pub grew_by_none : {X : Type 0} (old new all : List X) → new ≡ old → GrewByPrefix old all new
@@ -174,7 +187,8 @@ one_at zero p h = absurd (omega (arith, h))
 one_at (suc n) zero h = refl
 one_at (suc n) (suc p) h = one_at n p (omega arith)
 
-pub passes_one : (n : ℕ) (now next : Turns) (x : item.Item) → now.port < length (ones n) → Passes 1 now next x → Passes (slice_index_or (ones n) now.port 0) now next x
+pub passes_one : (n : ℕ) (now next : Turns) (x : item.Item) → now.port < length (ones n) → Passes 1 now next x
+    → Passes (slice_index_or (ones n) now.port 0) now next x
 passes_one n now next x lt h = subst (λ k. Passes k now next x) (sym (one_at n now.port lt)) h
 
 are_ones : (n : ℕ) → AllByRecursion (λ w. 0 < w) (ones n)

@@ -22,7 +22,8 @@ first_values es = map (λ e. slice_index_or e.1 0 (pos 0)) es
 
 -- a value came: the output grew by what is given, and the new state stands for the next one
 pub record Filters (f : FilterForm) (v : ℤ) (old new : Waiting) (out out' : List ℤ) : Type 0 where
-  pub each : (s : Filtering) → StandsForFiltering f old s → (out' ≡ out ++ first_values (filter_one f v s).pushes) × StandsForFiltering f new (filter_one f v s).after
+  pub each : (s : Filtering) → StandsForFiltering f old s
+      → (out' ≡ out ++ first_values (filter_one f v s).pushes) × StandsForFiltering f new (filter_one f v s).after
 
 -- a value came, and there was no memory: the output grew by a part
 pub record GaveUp (f : FilterForm) (v : ℤ) (old : Waiting) (out out' : List ℤ) : Type 0 where

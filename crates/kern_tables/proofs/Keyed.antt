@@ -60,7 +60,8 @@ at_greater : (k e : List ℤ) (es : List (List ℤ)) → row_cmp k e ≡ Greater
 at_greater k e es h = ap (λ r. match_ordering r (k ∷ (e ∷ es)) (e ∷ es) (e ∷ add_key k es)) h
 
 -- k before z, which is not below it
-front : (k z : List ℤ) (zs : List (List ℤ)) (r : Ordering) → row_cmp k z ≡ r → is_lt (ordering_reverse r) ≡ false → k ∷ once_after k (z ∷ zs) ≡ add_key k (z ∷ once_after z zs)
+front : (k z : List ℤ) (zs : List (List ℤ)) (r : Ordering) → row_cmp k z ≡ r → is_lt (ordering_reverse r) ≡ false
+    → k ∷ once_after k (z ∷ zs) ≡ add_key k (z ∷ once_after z zs)
 front k z zs Less h g = ap (λ l. k ∷ l) (keep k z zs (apart_less k z h)) ∙ sym (at_less k z (once_after z zs) h)
 front k z zs Equal h g =
     let e : k ≡ z = exact_rows k z h in
@@ -71,7 +72,8 @@ placed_after : (y k : List ℤ) (ys : List (List ℤ)) → row_cmp y k ≡ Less 
 placed_after y k [] h = keep y k [] (apart_less y k h)
 placed_after y k (z ∷ zs) h = step (row_cmp k z) refl (row_eq y z) refl (λ e. placed_after y k zs h) (placed_after z k zs) where
   step : (r : Ordering) → row_cmp k z ≡ r → (b : Bool) → row_eq y z ≡ b → (row_eq y z ≡ true → once_after y (place row_lt k zs) ≡ add_key k (once_after y zs))
-      → (row_cmp z k ≡ Less → once_after z (place row_lt k zs) ≡ add_key k (once_after z zs)) → once_after y (place row_lt k (z ∷ zs)) ≡ add_key k (once_after y (z ∷ zs))
+      → (row_cmp z k ≡ Less → once_after z (place row_lt k zs) ≡ add_key k (once_after z zs))
+      → once_after y (place row_lt k (z ∷ zs)) ≡ add_key k (once_after y (z ∷ zs))
   step Greater g true q same other =
       let l : row_cmp z k ≡ Less = turned k z Greater g in
       ap (once_after y) (past k z zs l) ∙ skip y z (place row_lt k zs) q ∙ same q ∙ ap (add_key k) (sym (skip y z zs q))
@@ -80,7 +82,8 @@ placed_after y k (z ∷ zs) h = step (row_cmp k z) refl (row_eq y z) refl (λ e.
       ap (once_after y) (past k z zs l) ∙ keep y z (place row_lt k zs) q ∙ ap (λ t. z ∷ t) (other l) ∙ sym (at_greater k z (once_after z zs) g) ∙ ap (add_key k) (sym (keep y z zs q))
   step Less g b q same other = before Less g refl
     where
-      before : (r : Ordering) → row_cmp k z ≡ r → is_lt (ordering_reverse r) ≡ false → once_after y (place row_lt k (z ∷ zs)) ≡ add_key k (once_after y (z ∷ zs))
+      before : (r : Ordering) → row_cmp k z ≡ r → is_lt (ordering_reverse r) ≡ false
+          → once_after y (place row_lt k (z ∷ zs)) ≡ add_key k (once_after y (z ∷ zs))
       before r g' l =
           let apart : row_eq y z ≡ false = apart_less y z (row_total.trans y k z h g) in
           ap (once_after y) (here k z zs (ap is_lt (turned k z r g') ∙ l)) ∙ keep y k (z ∷ zs) (apart_less y k h) ∙ front k z zs r g' l ∙ ap (add_key k) (sym (keep y z zs apart))
@@ -96,7 +99,9 @@ placed_once k (z ∷ zs) = step (row_cmp k z) refl where
   step : (r : Ordering) → row_cmp k z ≡ r → each_once (place row_lt k (z ∷ zs)) ≡ add_key k (each_once (z ∷ zs))
   step Less g = ap each_once (here k z zs (ap is_lt (turned k z Less g))) ∙ front k z zs Less g refl
   step Equal g = ap each_once (here k z zs (ap is_lt (turned k z Equal g))) ∙ front k z zs Equal g refl
-  step Greater g = ap each_once (past k z zs (turned k z Greater g)) ∙ ap (λ t. z ∷ t) (placed_after z k zs (turned k z Greater g)) ∙ sym (at_greater k z (once_after z zs) g)
+  step Greater g =
+      ap each_once (past k z zs (turned k z Greater g)) ∙ ap (λ t. z ∷ t) (placed_after z k zs (turned k z Greater g))
+      ∙ sym (at_greater k z (once_after z zs) g)
 
 -- what holds of each key that occurs holds of the key of each row
 all_after : (P : List ℤ → Type 0) (k : List ℤ) (xs : List (List ℤ)) → P k → AllByRecursion P (once_after k xs) → All P xs
@@ -123,7 +128,8 @@ keys_more keys done x =
     ∙ ap each_once (fold-append (λ kept k. place row_lt k kept) [] (map (λ row. take keys row) done) (take keys x ∷ []))
     ∙ placed_once (take keys x) (in_order (map (λ row. take keys row) done))
 
-under_more : (keys : ℕ) (key : List ℤ) (done : List (List ℤ)) (x : List ℤ) → under keys key (done ++ x ∷ []) ≡ under keys key done ++ map (λ row. drop keys row) (cond (has_key keys key x) (x ∷ []) [])
+under_more : (keys : ℕ) (key : List ℤ) (done : List (List ℤ)) (x : List ℤ)
+    → under keys key (done ++ x ∷ []) ≡ under keys key done ++ map (λ row. drop keys row) (cond (has_key keys key x) (x ∷ []) [])
 under_more keys key done x =
     ap (map (λ row. drop keys row)) (filter-append (has_key keys key) done (x ∷ []))
     ∙ map-append (λ row. drop keys row) (filter (has_key keys key) done) (cond (has_key keys key x) (x ∷ []) [])
@@ -154,12 +160,14 @@ module _ {V : Type 0} (start : V) (merge : V → List ℤ → V) where
   abbrev pub grouped : ℕ → List (List ℤ) → List (List ℤ × V)
   grouped keys adds = map (with_value keys adds) (keys_of keys adds)
 
-  value_here : (keys : ℕ) (done : List (List ℤ)) (x key : List ℤ) → row_eq (take keys x) key ≡ true → value_at keys (done ++ x ∷ []) key ≡ merge (value_at keys done key) (drop keys x)
+  value_here : (keys : ℕ) (done : List (List ℤ)) (x key : List ℤ) → row_eq (take keys x) key ≡ true
+      → value_at keys (done ++ x ∷ []) key ≡ merge (value_at keys done key) (drop keys x)
   value_here keys done x key h =
       ap (fold merge start) (under_more keys key done x ∙ ap (λ b. under keys key done ++ map (λ row. drop keys row) (cond b (x ∷ []) [])) h)
       ∙ fold-append merge start (under keys key done) (drop keys x ∷ [])
 
-  value_there : (keys : ℕ) (done : List (List ℤ)) (x key : List ℤ) → row_eq (take keys x) key ≡ false → value_at keys (done ++ x ∷ []) key ≡ value_at keys done key
+  value_there : (keys : ℕ) (done : List (List ℤ)) (x key : List ℤ) → row_eq (take keys x) key ≡ false
+      → value_at keys (done ++ x ∷ []) key ≡ value_at keys done key
   value_there keys done x key h =
       ap (fold merge start) (under_more keys key done x ∙ ap (λ b. under keys key done ++ map (λ row. drop keys row) (cond b (x ∷ []) [])) h)
       ∙ fold-append merge start (under keys key done) []
@@ -178,19 +186,23 @@ module _ {V : Type 0} (start : V) (merge : V → List ℤ → V) where
   above k [] a = tt
   above k (y ∷ ys) a = (apart_less k y a.0, above k ys a.1)
 
-  put_less : (k : List ℤ) (w : List ℤ) (e : List ℤ × V) (es : List (List ℤ × V)) → row_cmp k e.0 ≡ Less → put row_cmp start merge (e ∷ es) (k, w) ≡ (k, merge start w) ∷ (e ∷ es)
+  put_less : (k : List ℤ) (w : List ℤ) (e : List ℤ × V) (es : List (List ℤ × V)) → row_cmp k e.0 ≡ Less
+      → put row_cmp start merge (e ∷ es) (k, w) ≡ (k, merge start w) ∷ (e ∷ es)
   put_less k w e es h = ap (λ r. match_ordering r ((k, merge start w) ∷ (e ∷ es)) ((e.0, merge e.1 w) ∷ es) (e ∷ put row_cmp start merge es (k, w))) h
 
-  put_equal : (k : List ℤ) (w : List ℤ) (e : List ℤ × V) (es : List (List ℤ × V)) → row_cmp k e.0 ≡ Equal → put row_cmp start merge (e ∷ es) (k, w) ≡ (e.0, merge e.1 w) ∷ es
+  put_equal : (k : List ℤ) (w : List ℤ) (e : List ℤ × V) (es : List (List ℤ × V)) → row_cmp k e.0 ≡ Equal
+      → put row_cmp start merge (e ∷ es) (k, w) ≡ (e.0, merge e.1 w) ∷ es
   put_equal k w e es h = ap (λ r. match_ordering r ((k, merge start w) ∷ (e ∷ es)) ((e.0, merge e.1 w) ∷ es) (e ∷ put row_cmp start merge es (k, w))) h
 
-  put_greater : (k : List ℤ) (w : List ℤ) (e : List ℤ × V) (es : List (List ℤ × V)) → row_cmp k e.0 ≡ Greater → put row_cmp start merge (e ∷ es) (k, w) ≡ e ∷ put row_cmp start merge es (k, w)
+  put_greater : (k : List ℤ) (w : List ℤ) (e : List ℤ × V) (es : List (List ℤ × V)) → row_cmp k e.0 ≡ Greater
+      → put row_cmp start merge (e ∷ es) (k, w) ≡ e ∷ put row_cmp start merge es (k, w)
   put_greater k w e es h = ap (λ r. match_ordering r ((k, merge start w) ∷ (e ∷ es)) ((e.0, merge e.1 w) ∷ es) (e ∷ put row_cmp start merge es (k, w))) h
 
   put_key : (keys : ℕ) (done : List (List ℤ)) (x : List ℤ) (ks : List (List ℤ)) → IsStrictlySortedBy row_cmp ks
       → (AllByRecursion (λ e. row_eq (take keys x) e ≡ false) ks → value_at keys done (take keys x) ≡ start)
       → map (with_value keys (done ++ x ∷ [])) (add_key (take keys x) ks) ≡ put row_cmp start merge (map (with_value keys done) ks) (split keys x)
-  put_key keys done x [] s new = λ i. (take keys x, (value_here keys done x (take keys x) (row_itself (take keys x)) ∙ ap (λ v. merge v (drop keys x)) (new tt)) i) ∷ []
+  put_key keys done x [] s new =
+      λ i. (take keys x, (value_here keys done x (take keys x) (row_itself (take keys x)) ∙ ap (λ v. merge v (drop keys x)) (new tt)) i) ∷ []
   put_key keys done x (e ∷ es) s new = step (row_cmp k e) refl (put_key keys done x es (sorted_tail row_cmp e es s)) where
     k : List ℤ
     k = take keys x
@@ -207,7 +219,8 @@ module _ {V : Type 0} (start : V) (merge : V → List ℤ → V) where
     now_here : now k ≡ (k, merge (value_at keys done k) w)
     now_here = λ i. (k, value_here keys done x k (row_itself k) i)
 
-    step : (r : Ordering) → row_cmp k e ≡ r → ((AllByRecursion (λ e. row_eq k e ≡ false) es → value_at keys done k ≡ start) → map now (add_key k es) ≡ put row_cmp start merge (map old es) (k, w))
+    step : (r : Ordering) → row_cmp k e ≡ r
+        → ((AllByRecursion (λ e. row_eq k e ≡ false) es → value_at keys done k ≡ start) → map now (add_key k es) ≡ put row_cmp start merge (map old es) (k, w))
         → map now (add_key k (e ∷ es)) ≡ put row_cmp start merge (map old (e ∷ es)) (k, w)
     step Less h more =
         let all : AllByRecursion (λ y. row_eq k y ≡ false) (e ∷ es) = (apart_less k e h, below k e es h (sorted_head row_cmp e es s)) in
@@ -230,17 +243,20 @@ module _ {V : Type 0} (start : V) (merge : V → List ℤ → V) where
   keys_grouped keys adds (k ∷ ks) = ap (λ l. k ∷ l) (keys_grouped keys adds ks)
 
   module _ (commutes : (v : V) (w u : List ℤ) → merge (merge v w) u ≡ merge (merge v u) w) where
-    sorted_keys : (keys : ℕ) (done : List (List ℤ)) → grouped keys done ≡ keyed row_cmp start merge (splits keys done) → IsStrictlySortedBy row_cmp (keys_of keys done)
+    sorted_keys : (keys : ℕ) (done : List (List ℤ)) → grouped keys done ≡ keyed row_cmp start merge (splits keys done)
+        → IsStrictlySortedBy row_cmp (keys_of keys done)
     sorted_keys keys done h =
         subst (IsStrictlySortedBy row_cmp) (ap map.keys_of (sym h) ∙ keys_grouped keys done (keys_of keys done))
         (lookups.keyed_sorted row_cmp row_total exact_rows start merge commutes (splits keys done))
 
-    grouped_more : (keys : ℕ) (done : List (List ℤ)) (x : List ℤ) → IsStrictlySortedBy row_cmp (keys_of keys done) → grouped keys (done ++ x ∷ []) ≡ put row_cmp start merge (grouped keys done) (split keys x)
+    grouped_more : (keys : ℕ) (done : List (List ℤ)) (x : List ℤ) → IsStrictlySortedBy row_cmp (keys_of keys done)
+        → grouped keys (done ++ x ∷ []) ≡ put row_cmp start merge (grouped keys done) (split keys x)
     grouped_more keys done x s =
         ap (map (with_value keys (done ++ x ∷ []))) (keys_more keys done x)
         ∙ put_key keys done x (keys_of keys done) s (λ a. ap (fold merge start) (none_under keys (take keys x) done (all_keys (λ e. row_eq (take keys x) e ≡ false) keys done a)))
 
-    grouped_from : (keys : ℕ) (done adds : List (List ℤ)) → grouped keys done ≡ keyed row_cmp start merge (splits keys done) → grouped keys (done ++ adds) ≡ keyed row_cmp start merge (splits keys (done ++ adds))
+    grouped_from : (keys : ℕ) (done adds : List (List ℤ)) → grouped keys done ≡ keyed row_cmp start merge (splits keys done)
+        → grouped keys (done ++ adds) ≡ keyed row_cmp start merge (splits keys (done ++ adds))
     grouped_from keys done [] h = subst (λ l. grouped keys l ≡ keyed row_cmp start merge (splits keys l)) (sym (append_nil done)) h
       where
         append_nil : (l : List (List ℤ)) → l ++ [] ≡ l

@@ -1,5 +1,6 @@
 -- What stands at a key, and what is kept of a maximum.
-use Rattle.std.proofs.Common.{inl, inr, ◌≡◌, ℕ, zero, suc, ℤ, pos, Bool, true, false, cond, List, [], ◌∷◌, ◌++◌, refl, sym, ap, ◌∙◌, subst, arith, fold, map, take, drop, Some, None}
+use Rattle.std.proofs.Common.{inl, inr, ◌≡◌, ℕ, zero, suc, ℤ, pos, Bool, true, false, cond, List, [], ◌∷◌, ◌++◌, refl, sym, ap, ◌∙◌, subst, arith, fold, map}
+use Rattle.std.proofs.Common.{take, drop, Some, None}
 use Rattle.std.specs.Prelude.{flat_map, min, All, AllPairs, ◌||◌, ◌<ℤ◌, ◌≤ℤ◌}
 use Rattle.std.specs.Int.{int_wrap}
 use Rattle.std.specs.declared.cmp.Ordering.{Ordering}
@@ -39,7 +40,8 @@ any_more b c = b || c
 any_after : (k x : List ℤ) (xs : List (List ℤ)) → row_eq k x ≡ false → list_any (row_eq k) (once_after x xs) ≡ list_any (row_eq k) xs
 any_after k x [] h = refl
 any_after k x (y ∷ ys) h = step (row_eq x y) refl (any_after k x ys h) (λ g. any_after k y ys g) where
-  step : (b : Bool) → row_eq x y ≡ b → list_any (row_eq k) (once_after x ys) ≡ list_any (row_eq k) ys → (row_eq k y ≡ false → list_any (row_eq k) (once_after y ys) ≡ list_any (row_eq k) ys)
+  step : (b : Bool) → row_eq x y ≡ b → list_any (row_eq k) (once_after x ys) ≡ list_any (row_eq k) ys
+      → (row_eq k y ≡ false → list_any (row_eq k) (once_after y ys) ≡ list_any (row_eq k) ys)
       → list_any (row_eq k) (once_after x (y ∷ ys)) ≡ list_any (row_eq k) (y ∷ ys)
   step true e same other =
       let apart : row_eq k y ≡ false = ap (row_eq k) (sym (same_row x y e)) ∙ h in
@@ -52,7 +54,8 @@ any_after k x (y ∷ ys) h = step (row_eq x y) refl (any_after k x ys h) (λ g. 
 any_once : (k : List ℤ) (xs : List (List ℤ)) → list_any (row_eq k) (each_once xs) ≡ list_any (row_eq k) xs
 any_once k [] = refl
 any_once k (x ∷ xs) = step (row_eq k x) refl (λ g. any_after k x xs g) where
-  step : (b : Bool) → row_eq k x ≡ b → (row_eq k x ≡ false → list_any (row_eq k) (once_after x xs) ≡ list_any (row_eq k) xs) → list_any (row_eq k) (x ∷ once_after x xs) ≡ list_any (row_eq k) (x ∷ xs)
+  step : (b : Bool) → row_eq k x ≡ b → (row_eq k x ≡ false → list_any (row_eq k) (once_after x xs) ≡ list_any (row_eq k) xs)
+      → list_any (row_eq k) (x ∷ once_after x xs) ≡ list_any (row_eq k) (x ∷ xs)
   step true g more = ap (λ b. any_more b (list_any (row_eq k) (once_after x xs))) g ∙ sym (ap (λ b. any_more b (list_any (row_eq k) xs)) g)
   step false g more = ap (any_more (row_eq k x)) (more g)
 
@@ -95,7 +98,8 @@ module _ {V : Type 0} (f : List ℤ → V) where
   keys_paired [] = refl
   keys_paired (k ∷ ks) = ap (λ l. k ∷ l) (keys_paired ks)
 
-  pub stands_at : (keys : ℕ) (k : List ℤ) (adds : List (List ℤ)) → table.lookup (is_at (row_cmp k)) (map paired (keys_of keys adds)) ≡ cond (list_any (has_key keys k) adds) (Some (f k)) None
+  pub stands_at : (keys : ℕ) (k : List ℤ) (adds : List (List ℤ))
+      → table.lookup (is_at (row_cmp k)) (map paired (keys_of keys adds)) ≡ cond (list_any (has_key keys k) adds) (Some (f k)) None
   stands_at keys k adds = found k (keys_of keys adds) ∙ ap (λ b. cond b (Some (f k)) None) (any_of_keys keys k adds)
 
 map_map : {A B C : Type 0} (g : B → C) (f : A → B) (xs : List A) → map (λ x. g (f x)) xs ≡ map g (map f xs)
@@ -118,7 +122,9 @@ sums_are keys adds =
       entries = es;
       rows_are = map_map (λ (e : List ℤ × ℤ). sum_row e.0 e.1) (paired f) (keys_of keys adds);
       rise = subst (IsStrictlySortedBy row_cmp) (sym (keys_paired f (keys_of keys adds))) (keys_rise (pos 0) add_value sums_commute keys adds);
-      at = λ key. stands_at f keys key adds ∙ ap (λ v. cond (list_any (has_key keys key) adds) (Some v) None) (ap (λ z. fold add_value z (under keys key adds)) (sym wrap_zero) ∙ wrapped_sum (pos 0) (under keys key adds));
+      at =
+          λ key. stands_at f keys key adds
+          ∙ ap (λ v. cond (list_any (has_key keys key) adds) (Some v) None) (ap (λ z. fold add_value z (under keys key adds)) (sym wrap_zero) ∙ wrapped_sum (pos 0) (under keys key adds));
     }
 
 -- THE BEST
@@ -149,7 +155,8 @@ all_behind x (y ∷ ys) a = All-cons (IsAhead x) y ys (ahead x y a.0) (all_behin
 none_over : (n : ℕ) (xs : List Ranked) → Rises xs → All (λ a. All (IsAhead a) (drop n xs)) (take n xs)
 none_over zero xs r = All-nil (λ a. All (IsAhead a) xs)
 none_over (suc n) [] r = All-nil (λ a. All (IsAhead a) [])
-none_over (suc n) (x ∷ xs) (More low r) = All-cons (λ a. All (IsAhead a) (drop n xs)) x (take n xs) (after_all (IsAhead x) n xs (behind xs low)) (none_over n xs r)
+none_over (suc n) (x ∷ xs) (More low r) =
+    All-cons (λ a. All (IsAhead a) (drop n xs)) x (take n xs) (after_all (IsAhead x) n xs (behind xs low)) (none_over n xs r)
   where
     behind : (ys : List Ranked) → AllByRecursion (λ w. ranks_before w x ≡ false) ys → AllByRecursion (IsAhead x) ys
     behind [] a = tt

@@ -18,7 +18,8 @@ abbrev by_rank : List Ranked → List Ranked
 by_rank xs = ascending ranks_before xs
 
 pub pushed : (x : Ranked) (xs ys : List Ranked) → IsPermutation (x ∷ xs) ys → by_rank ys ≡ place ranks_before x (by_rank xs)
-pushed x xs ys h = sym (order.ascending-IsPermutation ranks_before ranked_weakly apart_ranks (x ∷ xs) ys h) ∙ order.ascending-cons ranks_before ranked_weakly apart_ranks x xs
+pushed x xs ys h =
+    sym (order.ascending-IsPermutation ranks_before ranked_weakly apart_ranks (x ∷ xs) ys h) ∙ order.ascending-cons ranks_before ranked_weakly apart_ranks x xs
 
 each_from : (P : Ranked → Type 0) (xs : List Ranked) → AllByRecursion P xs → All P xs
 each_from P [] a = All-nil P
@@ -57,7 +58,8 @@ all_placed P x (z ∷ zs) p a = step (ranks_before z x) (all_placed P x zs p a.1
   step true more = (a.0, more)
   step false more = (p, a)
 
-farther : (x z : Ranked) (zs : List Ranked) → ranks_before z x ≡ false → AllByRecursion (λ w. ranks_before w z ≡ false) zs → AllByRecursion (λ w. ranks_before w x ≡ false) zs
+farther : (x z : Ranked) (zs : List Ranked) → ranks_before z x ≡ false → AllByRecursion (λ w. ranks_before w z ≡ false) zs
+    → AllByRecursion (λ w. ranks_before w x ≡ false) zs
 farther x z [] h a = tt
 farther x z (w ∷ ws) h a = (ranked_weakly.chain w z x a.0 h, farther x z ws h a.1)
 
@@ -92,7 +94,8 @@ take_front : (n : ℕ) (ys zs : List Ranked) → n ≤ length ys → take n (ys 
 take_front n ys zs h = take-append-le n ys zs h
 
 -- a loop's step: the worst leaves, and more than so many are there
-pub still_best : (best : ℕ) (x : Ranked) (xs ys all : List Ranked) → IsPermutation xs (x ∷ ys) → IsUpperBound rank_cmp x ys → best < length xs → take best (by_rank xs) ≡ all → take best (by_rank ys) ≡ all
+pub still_best : (best : ℕ) (x : Ranked) (xs ys all : List Ranked) → IsPermutation xs (x ∷ ys) → IsUpperBound rank_cmp x ys → best < length xs
+    → take best (by_rank xs) ≡ all → take best (by_rank ys) ≡ all
 still_best best x xs ys all h up more e =
     let n : length (x ∷ ys) ≡ length xs = length_permutation xs (x ∷ ys) h in
     let m : length (by_rank ys) ≡ length ys = length_permutation ys (by_rank ys) (order.ascending_bag ranks_before ranked_weakly apart_ranks ys) in
@@ -109,8 +112,10 @@ pub ranked_from_sort : (xs ys : List Ranked) → IsPermutation xs ys → IsSorte
 ranked_from_sort = order.ascending_from_sort ranks_before ranked_weakly apart_ranks
 
 -- a loop's step, as `pop` tells it
-pub pop_step : (best : ℕ) (r : Option Ranked) (xs ys all : List Ranked) → IsSome r → IfSome r (λ x. IsPermutation xs (x ∷ ys)) → IfSome r (λ x. PopsGreatest rank_cmp xs x ys)
-    → IfSome r (λ x. IsHeap rank_cmp xs → IsUpperBound rank_cmp x ys) → best < length xs → IsHeap rank_cmp xs → take best (by_rank xs) ≡ all → IsHeap rank_cmp ys × (take best (by_rank ys) ≡ all)
+pub pop_step : (best : ℕ) (r : Option Ranked) (xs ys all : List Ranked) → IsSome r → IfSome r (λ x. IsPermutation xs (x ∷ ys))
+    → IfSome r (λ x. PopsGreatest rank_cmp xs x ys)
+    → IfSome r (λ x. IsHeap rank_cmp xs → IsUpperBound rank_cmp x ys) → best < length xs → IsHeap rank_cmp xs → take best (by_rank xs) ≡ all
+    → IsHeap rank_cmp ys × (take best (by_rank ys) ≡ all)
 pop_step best None xs ys all some p g b more heap e = absurd (true≢false (sym some))
 pop_step best (Some x) xs ys all some p g b more heap e = ((g heap).0, still_best best x xs ys all p (b heap) more e)
 
@@ -119,7 +124,8 @@ behind_top r top [] h up = tt
 behind_top r top (w ∷ ws) h up = (ranked_weakly.chain r top w h up.0, behind_top r top ws h up.1)
 
 -- where as many as may be kept are kept, one that does not rank before the worst changes nothing
-pub stays_out : (best : ℕ) (r top : Ranked) (xs : List Ranked) → length xs ≡ best → IsUpperBound rank_cmp top xs → ranks_before r top ≡ false → take best (place ranks_before r (by_rank xs)) ≡ by_rank xs
+pub stays_out : (best : ℕ) (r top : Ranked) (xs : List Ranked) → length xs ≡ best → IsUpperBound rank_cmp top xs → ranks_before r top ≡ false
+    → take best (place ranks_before r (by_rank xs)) ≡ by_rank xs
 stays_out best r top xs n up h =
     let m : length (by_rank xs) ≡ length xs = length_permutation xs (by_rank xs) (order.ascending_bag ranks_before ranked_weakly apart_ranks xs) in
     let bound : AllByRecursion (λ w. ranks_before r w ≡ false) (by_rank xs) =

@@ -19,7 +19,8 @@ use Rattle.kern_tables.specs.Entries.{AreShort}
 pub short_insert : {V : Type 0} (n : ℕ) (es : List (List ℤ × V)) (k : List ℤ) (v : V) → AreShort n es → length k ≤ n → AreShort n (insert_entry row_cmp es k v)
 short_insert n [] k v a h = (h, tt)
 short_insert {V} n (e ∷ es) k v a h = step (row_cmp k e.0) (short_insert n es k v a.1 h) where
-  step : (r : Ordering) → AreShort n (insert_entry row_cmp es k v) → AreShort {V = V} n (match_ordering r ((k, v) ∷ e ∷ es) ((e.0, v) ∷ es) (e ∷ insert_entry row_cmp es k v))
+  step : (r : Ordering) → AreShort n (insert_entry row_cmp es k v)
+      → AreShort {V = V} n (match_ordering r ((k, v) ∷ e ∷ es) ((e.0, v) ∷ es) (e ∷ insert_entry row_cmp es k v))
   step Less more = (h, a)
   step Equal more = (a.0, a.1)
   step Greater more = (a.0, more)
@@ -39,7 +40,8 @@ abbrev made : Ranked → Ranked
 made r = r
 
 -- what is read of a row is what follows its key
-pub ranked_there : (a b row : List ℤ) (n : ℕ) → a ≡ row → b ≡ row → FitsSigned w64 (slice_index_or a (n + 1) (pos 0)) → FitsSigned w64 (slice_index_or b n (pos 0))
+pub ranked_there : (a b row : List ℤ) (n : ℕ) → a ≡ row → b ≡ row → FitsSigned w64 (slice_index_or a (n + 1) (pos 0))
+    → FitsSigned w64 (slice_index_or b n (pos 0))
     → made (record { weight = to_z w64 (of_z w64 (slice_index_or a (n + 1) (pos 0))); value = to_z w64 (of_z w64 (slice_index_or b n (pos 0))) }) ≡ ranked_in (drop n row)
 ranked_there a b row n ea eb fa fb =
     let w = to_z-of_z w64 (slice_index_or a (n + 1) (pos 0)) fa ∙ ap (λ l. slice_index_or l (n + 1) (pos 0)) ea ∙ ap (λ k. slice_index_or row k (pos 0)) (let e : n + 1 ≡ suc n = omega arith in e) ∙ second_of_rest n row in

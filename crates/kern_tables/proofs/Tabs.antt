@@ -85,7 +85,8 @@ cut_place lt (suc n) x (y ∷ ys) = step (lt y x) refl (cut_place lt n x ys) whe
       cut (suc m) [] = refl
       cut (suc m) (z ∷ zs) = ap (λ l. z ∷ l) (cut m zs)
 
-  step : (b : Bool) → lt y x ≡ b → take n (place lt x (take n ys)) ≡ take n (place lt x ys) → take (suc n) (place lt x (y ∷ take n ys)) ≡ take (suc n) (place lt x (y ∷ ys))
+  step : (b : Bool) → lt y x ≡ b → take n (place lt x (take n ys)) ≡ take n (place lt x ys)
+      → take (suc n) (place lt x (y ∷ take n ys)) ≡ take (suc n) (place lt x (y ∷ ys))
   step true h more =
       ap (λ b. take (suc n) (cond b (y ∷ place lt x (take n ys)) (x ∷ (y ∷ take n ys)))) h ∙ ap (λ l. y ∷ l) more
       ∙ sym (ap (λ b. take (suc n) (cond b (y ∷ place lt x ys) (x ∷ (y ∷ ys)))) h)
@@ -101,9 +102,11 @@ maxima_commute best v w u =
     ∙ ap (take best) (order.place-place ranks_before ranked_weakly apart_ranks b a v)
     ∙ sym (cut_place ranks_before best a (place ranks_before b v))
 
-best_from : (best : ℕ) (l : List Ranked) (rests : List (List ℤ)) → fold (best_more best) (take best l) rests ≡ take best (fold (λ done x. place ranks_before x done) l (map ranked_in rests))
+best_from : (best : ℕ) (l : List Ranked) (rests : List (List ℤ))
+    → fold (best_more best) (take best l) rests ≡ take best (fold (λ done x. place ranks_before x done) l (map ranked_in rests))
 best_from best l [] = refl
-best_from best l (r ∷ rs) = ap (λ t. fold (best_more best) t rs) (cut_place ranks_before best (ranked_in r) l) ∙ best_from best (place ranks_before (ranked_in r) l) rs
+best_from best l (r ∷ rs) =
+    ap (λ t. fold (best_more best) t rs) (cut_place ranks_before best (ranked_in r) l) ∙ best_from best (place ranks_before (ranked_in r) l) rs
 
 abbrev none : List Ranked
 none = []
@@ -123,19 +126,22 @@ sums keys adds = keyed row_cmp (pos 0) add_value (splits keys adds)
 abbrev pub maxima : ℕ → ℕ → List (List ℤ) → List (List ℤ × List Ranked)
 maxima best keys adds = keyed row_cmp [] (best_more best) (splits keys adds)
 
-map_with : (keys : ℕ) (adds ks : List (List ℤ)) → sum_rows (map (with_value (pos 0) add_value keys adds) ks) ≡ map (λ key. sum_row key (sum_of (under keys key adds))) ks
+map_with : (keys : ℕ) (adds ks : List (List ℤ))
+    → sum_rows (map (with_value (pos 0) add_value keys adds) ks) ≡ map (λ key. sum_row key (sum_of (under keys key adds))) ks
 map_with keys adds [] = refl
 map_with keys adds (k ∷ ks) = ap (λ l. sum_row k (sum_of (under keys k adds)) ∷ l) (map_with keys adds ks)
 
 pub sums_keyed : (keys : ℕ) (adds : List (List ℤ)) → sum_rows (sums keys adds) ≡ tab (Sum keys) adds
 sums_keyed keys adds = ap sum_rows (sym (grouped_keyed (pos 0) add_value sums_commute keys adds)) ∙ map_with keys adds (keys_of keys adds)
 
-flat_with : (best keys : ℕ) (adds ks : List (List ℤ)) → maximum_rows (map (with_value [] (best_more best) keys adds) ks) ≡ flat_map (λ key. map (ranked_row key) (best_of best (under keys key adds))) ks
+flat_with : (best keys : ℕ) (adds ks : List (List ℤ))
+    → maximum_rows (map (with_value [] (best_more best) keys adds) ks) ≡ flat_map (λ key. map (ranked_row key) (best_of best (under keys key adds))) ks
 flat_with best keys adds [] = refl
 flat_with best keys adds (k ∷ ks) = λ i. map (ranked_row k) (best_is best (under keys k adds) i) ++ flat_with best keys adds ks i
 
 pub maxima_keyed : (best keys : ℕ) (adds : List (List ℤ)) → maximum_rows (maxima best keys adds) ≡ tab (Maximum best keys) adds
-maxima_keyed best keys adds = ap maximum_rows (sym (grouped_keyed [] (best_more best) (maxima_commute best) keys adds)) ∙ flat_with best keys adds (keys_of keys adds)
+maxima_keyed best keys adds =
+    ap maximum_rows (sym (grouped_keyed [] (best_more best) (maxima_commute best) keys adds)) ∙ flat_with best keys adds (keys_of keys adds)
 
 -- BAGS
 
@@ -163,9 +169,11 @@ in_order_more rows row = fold-append (λ done x. place row_lt x done) [] rows (r
 
 -- one more row
 pub kept_more : (kind : TableKind) (adds : List (List ℤ)) (row : List ℤ) → kept_of kind (adds ++ row ∷ []) ≡ added (kept_of kind adds) row
-kept_more (Sum keys) adds row = ap (Sums keys) (ap (keyed row_cmp (pos 0) add_value) (map-append (split keys) adds (row ∷ [])) ∙ fold-append (put row_cmp (pos 0) add_value) [] (splits keys adds) (split keys row ∷ []))
+kept_more (Sum keys) adds row =
+    ap (Sums keys) (ap (keyed row_cmp (pos 0) add_value) (map-append (split keys) adds (row ∷ [])) ∙ fold-append (put row_cmp (pos 0) add_value) [] (splits keys adds) (split keys row ∷ []))
 kept_more (Collection keys) adds row = ap (Rows keys) (in_order_more adds row)
-kept_more (Maximum best keys) adds row = ap (Maxima best keys) (ap (keyed row_cmp [] (best_more best)) (map-append (split keys) adds (row ∷ [])) ∙ fold-append (put row_cmp [] (best_more best)) [] (splits keys adds) (split keys row ∷ []))
+kept_more (Maximum best keys) adds row =
+    ap (Maxima best keys) (ap (keyed row_cmp [] (best_more best)) (map-append (split keys) adds (row ∷ [])) ∙ fold-append (put row_cmp [] (best_more best)) [] (splits keys adds) (split keys row ∷ []))
 
 -- its rows are the table's
 pub kept_rows : (kind : TableKind) (adds : List (List ℤ)) → rows_of (kept_of kind adds) ≡ tab kind adds
@@ -175,9 +183,11 @@ kept_rows (Maximum best keys) adds = maxima_keyed best keys adds
 
 -- it is a function of the bag
 pub kept_of_bag : (kind : TableKind) (xs ys : List (List ℤ)) → SameBag xs ys → kept_of kind xs ≡ kept_of kind ys
-kept_of_bag (Sum keys) xs ys h = ap (Sums keys) (tables.keyed-IsPermutation row_cmp row_total exact_rows (pos 0) add_value sums_commute (splits keys xs) (splits keys ys) (IsPermutation-map (split keys) xs ys (permutation_from_bag xs ys h)))
+kept_of_bag (Sum keys) xs ys h =
+    ap (Sums keys) (tables.keyed-IsPermutation row_cmp row_total exact_rows (pos 0) add_value sums_commute (splits keys xs) (splits keys ys) (IsPermutation-map (split keys) xs ys (permutation_from_bag xs ys h)))
 kept_of_bag (Collection keys) xs ys h = ap (Rows keys) (in_order-IsPermutation xs ys (permutation_from_bag xs ys h))
-kept_of_bag (Maximum best keys) xs ys h = ap (Maxima best keys) (tables.keyed-IsPermutation row_cmp row_total exact_rows [] (best_more best) (maxima_commute best) (splits keys xs) (splits keys ys) (IsPermutation-map (split keys) xs ys (permutation_from_bag xs ys h)))
+kept_of_bag (Maximum best keys) xs ys h =
+    ap (Maxima best keys) (tables.keyed-IsPermutation row_cmp row_total exact_rows [] (best_more best) (maxima_commute best) (splits keys xs) (splits keys ys) (IsPermutation-map (split keys) xs ys (permutation_from_bag xs ys h)))
 
 -- the kind stays
 pub kept_kind : (kind : TableKind) (adds : List (List ℤ)) → kind_of (kept_of kind adds) ≡ kind

@@ -42,13 +42,16 @@ module _ {V : Type 0} where
 
   module _ {W : Type 0} (start : V) (merge : V → W → V) where
     -- to write the merged value is to put
-    pub set_is_put : (k : List ℤ) (w : W) (es : List (List ℤ × V)) (v : V) → IsStrictlySortedBy row_cmp (keys_of es) → lookup (here k) es ≡ Some v → set_value (here k) es (merge v w) ≡ put row_cmp start merge es (k, w)
+    pub set_is_put : (k : List ℤ) (w : W) (es : List (List ℤ × V)) (v : V) → IsStrictlySortedBy row_cmp (keys_of es) → lookup (here k) es ≡ Some v
+        → set_value (here k) es (merge v w) ≡ put row_cmp start merge es (k, w)
     set_is_put k w [] v s h = absurd (cc h)
     set_is_put k w (e ∷ es) v s h = step (row_cmp k e.0) refl (set_is_put k w es v (sorted_tail row_cmp e.0 (keys_of es) s)) where
-      put_is : (r : Ordering) → row_cmp k e.0 ≡ r → put row_cmp start merge (e ∷ es) (k, w) ≡ match_ordering r ((k, merge start w) ∷ (e ∷ es)) ((e.0, merge e.1 w) ∷ es) (e ∷ put row_cmp start merge es (k, w))
+      put_is : (r : Ordering) → row_cmp k e.0 ≡ r
+          → put row_cmp start merge (e ∷ es) (k, w) ≡ match_ordering r ((k, merge start w) ∷ (e ∷ es)) ((e.0, merge e.1 w) ∷ es) (e ∷ put row_cmp start merge es (k, w))
       put_is r g = ap (λ r. match_ordering r ((k, merge start w) ∷ (e ∷ es)) ((e.0, merge e.1 w) ∷ es) (e ∷ put row_cmp start merge es (k, w))) g
 
-      step : (r : Ordering) → row_cmp k e.0 ≡ r → (lookup (here k) es ≡ Some v → set_value (here k) es (merge v w) ≡ put row_cmp start merge es (k, w)) → set_value (here k) (e ∷ es) (merge v w) ≡ put row_cmp start merge (e ∷ es) (k, w)
+      step : (r : Ordering) → row_cmp k e.0 ≡ r → (lookup (here k) es ≡ Some v → set_value (here k) es (merge v w) ≡ put row_cmp start merge es (k, w))
+          → set_value (here k) (e ∷ es) (merge v w) ≡ put row_cmp start merge (e ∷ es) (k, w)
       step Less g more =
           let none : lookup (here k) (e ∷ es) ≡ None = lookup_at_gap row_total k (e ∷ es) 0 s (λ j f l u. absurd (omega arith)) (λ f u. let same : e ≡ f = cc in ap (λ x. row_cmp k x.0) (sym same) ∙ g) in
           absurd (clash (sym none ∙ h))
@@ -58,4 +61,5 @@ module _ {V : Type 0} where
       step Equal g more =
           let same : e.1 ≡ v = one_value (sym (lookup_head (here k) e es (ap is_eq g)) ∙ h) in
           set_here k e es (merge v w) (ap is_eq g) ∙ (λ i. (e.0, merge (sym same i) w) ∷ es) ∙ sym (put_is Equal g)
-      step Greater g more = set_past k e es (merge v w) (ap is_eq g) ∙ ap (λ l. e ∷ l) (more (sym (lookup_tail (here k) e es (ap is_eq g)) ∙ h)) ∙ sym (put_is Greater g)
+      step Greater g more =
+          set_past k e es (merge v w) (ap is_eq g) ∙ ap (λ l. e ∷ l) (more (sym (lookup_tail (here k) e es (ap is_eq g)) ∙ h)) ∙ sym (put_is Greater g)

@@ -1,5 +1,6 @@
 -- The laws of tables: statements over the definitions alone.
-use Rattle.std.specs.Prelude.{◌≡◌, ℕ, ℤ, pos, ◌+ℤ◌, ◌<ℤ◌, ◌≤ℤ◌, ◌⊎◌, List, [], ◌∷◌, ◌++◌, map, flat_map, fold, length, min, Some, None, All, AllPairs, if◌then◌else◌}
+use Rattle.std.specs.Prelude.{◌≡◌, ℕ, ℤ, pos, ◌+ℤ◌, ◌<ℤ◌, ◌≤ℤ◌, ◌⊎◌, List, [], ◌∷◌, ◌++◌, map, flat_map, fold, length, min, Some, None, All, AllPairs}
+use Rattle.std.specs.Prelude.{if◌then◌else◌}
 use Rattle.std.specs.List.{list_any}
 use Rattle.std.specs.List.Sorted.{IsPermutation, IsSorted, IsStrictlySortedBy}
 use Rattle.std.specs.Map as map
@@ -26,14 +27,17 @@ pub record IsSums (keys : ℕ) (adds rows : List (List ℤ)) : Type 0 where
   pub entries : List (List ℤ × ℤ)
   pub rows_are : rows ≡ map (λ e. sum_row e.0 e.1) entries
   pub rise : IsStrictlySortedBy row_cmp (map.keys_of entries)
-  pub at : (key : List ℤ) → map.lookup (is_at (row_cmp key)) entries ≡ (if list_any (has_key keys key) adds then Some (wrap (total_of (under keys key adds))) else None)
+  pub at : (key : List ℤ)
+      → map.lookup (is_at (row_cmp key)) entries ≡ (if list_any (has_key keys key) adds then Some (wrap (total_of (under keys key adds))) else None)
 
 abbrev pub SumsAre : Type 0
 SumsAre = (keys : ℕ) (adds : List (List ℤ)) → IsSums keys adds (tab (Sum keys) adds)
 
 -- every row as often as it was added, in ascending order
 abbrev pub CollectionsAre : Type 0
-CollectionsAre = (keys : ℕ) (adds : List (List ℤ)) → ((row : List ℤ) → copies row (tab (Collection keys) adds) ≡ copies row adds) × IsSorted row_cmp (tab (Collection keys) adds)
+CollectionsAre =
+    (keys : ℕ) (adds : List (List ℤ))
+    → ((row : List ℤ) → copies row (tab (Collection keys) adds) ≡ copies row adds) × IsSorted row_cmp (tab (Collection keys) adds)
 
 -- the weight of a is greater than that of b, or they are equal and the value of a is not greater
 abbrev pub IsAhead : Ranked → Ranked → Type 0

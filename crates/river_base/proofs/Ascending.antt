@@ -13,7 +13,8 @@ module _ {K : Type 0} (lt : K → K → Bool) (o : IsStrictWeakOrder lt) (exact 
   above x y z true e h g = refl
   above x y z false e h g = sym (o.chain z y x g e) ∙ h
 
-  in_turn : (x y : K) (rest : List K) (b c : Bool) → lt y x ≡ b → lt x y ≡ c → cond b (y ∷ (x ∷ rest)) (x ∷ (y ∷ rest)) ≡ cond c (x ∷ (y ∷ rest)) (y ∷ (x ∷ rest))
+  in_turn : (x y : K) (rest : List K) (b c : Bool) → lt y x ≡ b → lt x y ≡ c
+      → cond b (y ∷ (x ∷ rest)) (x ∷ (y ∷ rest)) ≡ cond c (x ∷ (y ∷ rest)) (y ∷ (x ∷ rest))
   in_turn x y rest true true h g = absurd (true≢false (sym g ∙ o.one_way y x h))
   in_turn x y rest true false h g = refl
   in_turn x y rest false true h g = refl
@@ -34,7 +35,8 @@ module _ {K : Type 0} (lt : K → K → Bool) (o : IsStrictWeakOrder lt) (exact 
   pub place-place : (x y : K) (zs : List K) → place lt x (place lt y zs) ≡ place lt y (place lt x zs)
   place-place x y [] = in_turn x y [] (lt y x) (lt x y) refl refl
   place-place x y (z ∷ zs) = step (place-place x y zs) (lt z y) (lt z x) refl refl where
-    step : place lt x (place lt y zs) ≡ place lt y (place lt x zs) → (p q : Bool) → lt z y ≡ p → lt z x ≡ q → place lt x (place lt y (z ∷ zs)) ≡ place lt y (place lt x (z ∷ zs))
+    step : place lt x (place lt y zs) ≡ place lt y (place lt x zs) → (p q : Bool) → lt z y ≡ p → lt z x ≡ q
+        → place lt x (place lt y (z ∷ zs)) ≡ place lt y (place lt x (z ∷ zs))
     step same true true h g =
         ap (place lt x) (past y z zs h) ∙ past x z (place lt y zs) g ∙ ap (λ l. z ∷ l) same
         ∙ sym (ap (place lt y) (past x z zs g) ∙ past y z (place lt x zs) h)

@@ -7,7 +7,8 @@ use Rattle.std.specs.List.Sorted.{IsPermutation}
 use Rattle.std.proofs.lemmas.List.Sums.{sum_by-cons}
 use Rattle.std.proofs.lemmas.Bool.{true≢false}
 use Rattle.std.proofs.lemmas.Cmp.{tied_itself}
-use Rattle.std.proofs.lemmas.List.Sorted.{IsPermutation-refl, IsPermutation-cons, IsPermutation-trans, IsPermutation-sym, IsPermutation-middle, sum_by-IsPermutation}
+use Rattle.std.proofs.lemmas.List.Sorted.{IsPermutation-refl, IsPermutation-cons, IsPermutation-trans, IsPermutation-sym, IsPermutation-middle}
+use Rattle.std.proofs.lemmas.List.Sorted.{sum_by-IsPermutation}
 use Rattle.river_base.specs.Bags.{SameBag}
 use Rattle.river_base.specs.Row.{row_eq, row_cmp, row_ties, row_total, copies}
 use Rattle.river_base.proofs.Rows.{exact_rows}
@@ -48,7 +49,8 @@ count_middle test x (y ∷ ys) b =
     let f = count-cons test x (ys ++ b) in
     omega (arith, m, c, d, e, f)
 
-less_by_one : (test : List ℤ → Bool) (x : List ℤ) (xs ys : List (List ℤ)) → count_by test (x ∷ xs) ≡ count_by test (x ∷ ys) → count_by test xs ≡ count_by test ys
+less_by_one : (test : List ℤ → Bool) (x : List ℤ) (xs ys : List (List ℤ)) → count_by test (x ∷ xs) ≡ count_by test (x ∷ ys)
+    → count_by test xs ≡ count_by test ys
 less_by_one test x xs ys h = let a = count-cons test x xs in let b = count-cons test x ys in omega (arith, a, b, h)
 
 -- where a row stands

@@ -1,5 +1,6 @@
 -- Division, as a product and what remains.
-use Rattle.std.proofs.Common.{◌≡◌, ◌≢◌, ◌+ℤ◌, ◌*ℤ◌, ◌≤ℤ◌, ◌<◌, ◌%◌, ◌-◌, ◌^◌, ℕ, zero, suc, ℤ, pos, negsuc, neg_ℤ, Bool, true, false, cond, refl, sym, ap, ◌∙◌, subst, arith}
+use Rattle.std.proofs.Common.{◌≡◌, ◌≢◌, ◌+ℤ◌, ◌*ℤ◌, ◌≤ℤ◌, ◌<◌, ◌%◌, ◌-◌, ◌^◌, ℕ, zero, suc, ℤ, pos, negsuc, neg_ℤ, Bool, true, false, cond, refl, sym, ap, ◌∙◌}
+use Rattle.std.proofs.Common.{subst, arith}
 use Rattle.std.proofs.Math.Nat.{div-le_self, div-lt_self}
 use Rattle.std.specs.Int.{w64, int_wrap}
 use Rattle.std.specs.Int.RustNames.{int_div, int_rem, unsigned_abs, FitsSigned}
@@ -22,7 +23,8 @@ div_fits (pos a) (negsuc b) f h = fits_signed_from_abs w64 _ (rw abs_negated (om
 div_fits (negsuc a) (negsuc zero) f h = fits_signed_from_abs w64 _ (omega (arith, f.sfits, least)) where
   least : a ≢ 2 ^ 63 - 1
   least e = h.below (ap negsuc e) refl
-div_fits (negsuc a) (negsuc (suc b)) f h = fits_signed_from_abs w64 _ (omega (arith, f.sfits, div-lt_self {n = suc a} {k = suc (suc b)} (omega arith) (omega arith)))
+div_fits (negsuc a) (negsuc (suc b)) f h =
+    fits_signed_from_abs w64 _ (omega (arith, f.sfits, div-lt_self {n = suc a} {k = suc (suc b)} (omega arith) (omega arith)))
 
 -- what is divided is the product with the quotient, and the remainder
 pub division_is_whole : (a b : ℤ) → IsValue a → HasQuotient a b → a ≡ quot a b *ℤ b +ℤ rem a b

@@ -35,7 +35,8 @@ flats-as_items [] = refl
 flats-as_items (f ∷ fs) = ap (λ l. f ∷ l) (flats-as_items fs)
 
 -- a pack holds what a queue of its items would
-pub held-pack : (t : flat_type.FlatType) (past : List item.Item) (fs : List flat.Flat) → held (PackOf t) past (Pack fs ∷ []) ≡ Pack (flats (held (FlatOf t) (opened past) (as_items fs))) ∷ []
+pub held-pack : (t : flat_type.FlatType) (past : List item.Item) (fs : List flat.Flat)
+    → held (PackOf t) past (Pack fs ∷ []) ≡ Pack (flats (held (FlatOf t) (opened past) (as_items fs))) ∷ []
 unfolding held
 held-pack t past fs = ap (λ l. Pack l ∷ []) (sym (flats-as_items fs))
 
@@ -57,4 +58,5 @@ typed-held t x h = h
 pub is_held-pack : (t : flat_type.FlatType) (fs : List flat.Flat) → All (λ f. IsHeld (FlatOf t) (Flat f)) fs → IsHeld (PackOf t) (Pack fs)
 unfolding IsHeld
 is_held-pack t [] h = All-nil (HasFlatType t)
-is_held-pack t (f ∷ fs) h = All-cons (HasFlatType t) f fs (All-head (λ g. IsHeld (FlatOf t) (Flat g)) f fs h) (is_held-pack t fs (All-tail (λ g. IsHeld (FlatOf t) (Flat g)) f fs h))
+is_held-pack t (f ∷ fs) h =
+    All-cons (HasFlatType t) f fs (All-head (λ g. IsHeld (FlatOf t) (Flat g)) f fs h) (is_held-pack t fs (All-tail (λ g. IsHeld (FlatOf t) (Flat g)) f fs h))

@@ -28,7 +28,8 @@ once_rises ts = IsStrictlySortedBy-dedup int_cmp_total (λ x y. refl) (ascending
 
 -- and they are the values
 pub once_has : (ts : List ℤ) (t : ℤ) → Contains ts t → Contains (each_once ts) t
-once_has ts t h = Contains-dedup int_eq_equiv same (ascending earlier ts) t (Contains-permutation ts (ascending earlier ts) t (order.ascending_bag earlier earlier_ranked apart ts) h)
+once_has ts t h =
+    Contains-dedup int_eq_equiv same (ascending earlier ts) t (Contains-permutation ts (ascending earlier ts) t (order.ascending_bag earlier earlier_ranked apart ts) h)
 
 pub has_once : (ts : List ℤ) (t : ℤ) → Contains (each_once ts) t → Contains ts t
 has_once ts t h =
@@ -37,4 +38,5 @@ has_once ts t h =
 
 -- what a sort and a dedup leave
 pub once_from_sort : (ts us vs : List ℤ) → IsPermutation ts us → IsSorted int_cmp us → IsFiltered (DiffersFromLast int_eq) [] us vs → vs ≡ each_once ts
-once_from_sort ts us vs bag sorted kept = dedup_is int_eq us vs kept ∙ ap (dedup int_eq) (order.ascending_from_sort earlier earlier_ranked apart ts us bag sorted)
+once_from_sort ts us vs bag sorted kept =
+    dedup_is int_eq us vs kept ∙ ap (dedup int_eq) (order.ascending_from_sort earlier earlier_ranked apart ts us bag sorted)

@@ -29,18 +29,23 @@ module _ {K V W : Type 0} (R : K → K → Ordering) (o : IsTotalOrder R) (exact
   turned x y r h = o.antisymm y x ∙ ap ordering_reverse h
 
   -- two new keys, both below what is there
-  in_turn : (a b : K × W) (rest : List (K × V)) → table.put R start merge rest a ≡ (a.0, merge start a.1) ∷ rest → table.put R start merge rest b ≡ (b.0, merge start b.1) ∷ rest
+  in_turn : (a b : K × W) (rest : List (K × V)) → table.put R start merge rest a ≡ (a.0, merge start a.1) ∷ rest
+      → table.put R start merge rest b ≡ (b.0, merge start b.1) ∷ rest
       → table.put R start merge ((b.0, merge start b.1) ∷ rest) a ≡ table.put R start merge ((a.0, merge start a.1) ∷ rest) b
   in_turn a b rest pa pb = step (R a.0 b.0) refl where
-    step : (r : Ordering) → R a.0 b.0 ≡ r → table.put R start merge ((b.0, merge start b.1) ∷ rest) a ≡ table.put R start merge ((a.0, merge start a.1) ∷ rest) b
-    step Less h = first (b.0, merge start b.1) rest a h ∙ sym (passes (a.0, merge start a.1) rest b (turned a.0 b.0 Less h) ∙ ap (λ l. (a.0, merge start a.1) ∷ l) pb)
+    step : (r : Ordering) → R a.0 b.0 ≡ r
+        → table.put R start merge ((b.0, merge start b.1) ∷ rest) a ≡ table.put R start merge ((a.0, merge start a.1) ∷ rest) b
+    step Less h =
+        first (b.0, merge start b.1) rest a h ∙ sym (passes (a.0, merge start a.1) rest b (turned a.0 b.0 Less h) ∙ ap (λ l. (a.0, merge start a.1) ∷ l) pb)
     step Equal h =
         let same : a.0 ≡ b.0 = exact a.0 b.0 h in
         joins (b.0, merge start b.1) rest a h ∙ (λ i. (sym same i, commutes start b.1 a.1 i) ∷ rest) ∙ sym (joins (a.0, merge start a.1) rest b (turned a.0 b.0 Equal h))
-    step Greater h = passes (b.0, merge start b.1) rest a h ∙ ap (λ l. (b.0, merge start b.1) ∷ l) pa ∙ sym (first (a.0, merge start a.1) rest b (turned a.0 b.0 Greater h))
+    step Greater h =
+        passes (b.0, merge start b.1) rest a h ∙ ap (λ l. (b.0, merge start b.1) ∷ l) pa ∙ sym (first (a.0, merge start a.1) rest b (turned a.0 b.0 Greater h))
 
   -- a new key below what is there, and another above it
-  leftmost : (a b : K × W) (e e' : K × V) (es rest : List (K × V)) → R a.0 e.0 ≡ Less → R b.0 a.0 ≡ Greater → R a.0 e'.0 ≡ Less → table.put R start merge (e ∷ es) b ≡ e' ∷ rest
+  leftmost : (a b : K × W) (e e' : K × V) (es rest : List (K × V)) → R a.0 e.0 ≡ Less → R b.0 a.0 ≡ Greater → R a.0 e'.0 ≡ Less
+      → table.put R start merge (e ∷ es) b ≡ e' ∷ rest
       → table.put R start merge (table.put R start merge (e ∷ es) b) a ≡ table.put R start merge (table.put R start merge (e ∷ es) a) b
   leftmost a b e e' es rest h g k p =
       ap (λ l. table.put R start merge l a) p ∙ first e' rest a k
@@ -59,10 +64,12 @@ module _ {K V W : Type 0} (R : K → K → Ordering) (o : IsTotalOrder R) (exact
   above_far : (x y z : K) → R x z ≡ Less → R y z ≡ Greater → R y x ≡ Greater
   above_far x y z h g = turned x y Less (o.trans x z y h (turned y z Greater g))
 
-  pub put-put : (es : List (K × V)) (a b : K × W) → table.put R start merge (table.put R start merge es b) a ≡ table.put R start merge (table.put R start merge es a) b
+  pub put-put : (es : List (K × V)) (a b : K × W)
+      → table.put R start merge (table.put R start merge es b) a ≡ table.put R start merge (table.put R start merge es a) b
   put-put [] a b = in_turn a b [] refl refl
   put-put (e ∷ es) a b = step (put-put es a b) (R a.0 e.0) (R b.0 e.0) refl refl where
-    step : table.put R start merge (table.put R start merge es b) a ≡ table.put R start merge (table.put R start merge es a) b → (r s : Ordering) → R a.0 e.0 ≡ r → R b.0 e.0 ≡ s
+    step : table.put R start merge (table.put R start merge es b) a ≡ table.put R start merge (table.put R start merge es a) b → (r s : Ordering)
+        → R a.0 e.0 ≡ r → R b.0 e.0 ≡ s
         → table.put R start merge (table.put R start merge (e ∷ es) b) a ≡ table.put R start merge (table.put R start merge (e ∷ es) a) b
     step more Less Less h g =
         ap (λ l. table.put R start merge l a) (first e es b g) ∙ in_turn a b (e ∷ es) (first e es a h) (first e es b g)
@@ -85,13 +92,16 @@ module _ {K V W : Type 0} (R : K → K → Ordering) (o : IsTotalOrder R) (exact
   keyed-IsPermutation xs ys h = fold-IsPermutation (table.put R start merge) (λ es a b. put-put es b a) [] xs ys h
 
   -- what a map's `insert` makes of the merged value
-  pub put_is_insert : (es : List (K × V)) (k : K) (w : W) (old : Option V) → IsStrictlySortedBy R (keys_of es) → lookup (is_at (R k)) es ≡ old → insert_entry R es k (merge (unwrap_or old start) w) ≡ table.put R start merge es (k, w)
+  pub put_is_insert : (es : List (K × V)) (k : K) (w : W) (old : Option V) → IsStrictlySortedBy R (keys_of es) → lookup (is_at (R k)) es ≡ old
+      → insert_entry R es k (merge (unwrap_or old start) w) ≡ table.put R start merge es (k, w)
   put_is_insert [] k w old s h = λ i. (k, merge (unwrap_or (sym h i) start) w) ∷ []
   put_is_insert (e ∷ es) k w old s h = step (R k e.0) refl (put_is_insert es k w old (sorted_tail R e.0 (keys_of es) s)) where
     v : V
     v = merge (unwrap_or old start) w
 
-    step : (r : Ordering) → R k e.0 ≡ r → (lookup (is_at (R k)) es ≡ old → insert_entry R es k (merge (unwrap_or old start) w) ≡ table.put R start merge es (k, w)) → insert_entry R (e ∷ es) k (merge (unwrap_or old start) w) ≡ table.put R start merge (e ∷ es) (k, w)
+    step : (r : Ordering) → R k e.0 ≡ r
+        → (lookup (is_at (R k)) es ≡ old → insert_entry R es k (merge (unwrap_or old start) w) ≡ table.put R start merge es (k, w))
+        → insert_entry R (e ∷ es) k (merge (unwrap_or old start) w) ≡ table.put R start merge (e ∷ es) (k, w)
     step Less p more =
         let none : lookup (is_at (R k)) (e ∷ es) ≡ None = lookup_at_gap o k (e ∷ es) 0 s (λ j f l g. absurd (omega arith)) (λ f g. let same : e ≡ f = cc in ap (λ x. R k x.0) (sym same) ∙ p) in
         let absent : old ≡ None = sym h ∙ none in

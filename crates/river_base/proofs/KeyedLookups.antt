@@ -20,10 +20,12 @@ module _ {K V W : Type 0} (R : K → K → Ordering) (o : IsTotalOrder R) (exact
   rises x y (k ∷ ks) h a = (o.trans x y k h a.0, rises x y ks h a.1)
 
   -- what holds of each key and of the new one
-  keys_put : (P : K → Type 0) (es : List (K × V)) (a : K × W) → AllByRecursion P (keys_of es) → P a.0 → AllByRecursion P (keys_of (table.put R start merge es a))
+  keys_put : (P : K → Type 0) (es : List (K × V)) (a : K × W) → AllByRecursion P (keys_of es) → P a.0
+      → AllByRecursion P (keys_of (table.put R start merge es a))
   keys_put P [] a all p = (p, tt)
   keys_put P (e ∷ es) a all p = step (R a.0 e.0) (keys_put P es a all.1 p) where
-    step : (r : Ordering) → AllByRecursion P (keys_of (table.put R start merge es a)) → AllByRecursion P (keys_of (match_ordering r ((a.0, merge start a.1) ∷ (e ∷ es)) ((e.0, merge e.1 a.1) ∷ es) (e ∷ table.put R start merge es a)))
+    step : (r : Ordering) → AllByRecursion P (keys_of (table.put R start merge es a))
+        → AllByRecursion P (keys_of (match_ordering r ((a.0, merge start a.1) ∷ (e ∷ es)) ((e.0, merge e.1 a.1) ∷ es) (e ∷ table.put R start merge es a)))
     step Less more = (p, all)
     step Equal more = all
     step Greater more = (all.0, more)
@@ -36,12 +38,14 @@ module _ {K V W : Type 0} (R : K → K → Ordering) (o : IsTotalOrder R) (exact
   unfolding IsStrictlySortedBy
   sorted_put [] a s = (tt, tt)
   sorted_put (e ∷ es) a s = step (R a.0 e.0) refl (sorted_put es a s.1) where
-    step : (r : Ordering) → R a.0 e.0 ≡ r → IsStrictlySortedBy R (keys_of (table.put R start merge es a)) → IsStrictlySortedBy R (keys_of (match_ordering r ((a.0, merge start a.1) ∷ (e ∷ es)) ((e.0, merge e.1 a.1) ∷ es) (e ∷ table.put R start merge es a)))
+    step : (r : Ordering) → R a.0 e.0 ≡ r → IsStrictlySortedBy R (keys_of (table.put R start merge es a))
+        → IsStrictlySortedBy R (keys_of (match_ordering r ((a.0, merge start a.1) ∷ (e ∷ es)) ((e.0, merge e.1 a.1) ∷ es) (e ∷ table.put R start merge es a)))
     step Less h more = ((h, rises a.0 e.0 (keys_of es) h s.0), s)
     step Equal h more = s
     step Greater h more = (keys_put (λ z. R e.0 z ≡ Less) es a s.0 (turned a.0 e.0 Greater h), more)
 
-  sorted_fold : (es : List (K × V)) (adds : List (K × W)) → IsStrictlySortedBy R (keys_of es) → IsStrictlySortedBy R (keys_of (fold (table.put R start merge) es adds))
+  sorted_fold : (es : List (K × V)) (adds : List (K × W)) → IsStrictlySortedBy R (keys_of es)
+      → IsStrictlySortedBy R (keys_of (fold (table.put R start merge) es adds))
   sorted_fold es [] s = s
   sorted_fold es (a ∷ adds) s = sorted_fold (table.put R start merge es a) adds (sorted_put es a s)
 

@@ -1,5 +1,6 @@
 -- Lists by place that grow, each by what a function gives for its place.
-use Rattle.std.proofs.Common.{◌≡◌, ◌≢◌, ℕ, zero, suc, ◌+◌, ◌<◌, ◌≤◌, List, [], ◌∷◌, ◌++◌, length, refl, sym, ap, ◌∙◌, arith, get_or, append_assoc, nat_lt, ⊎_elim, replicate}
+use Rattle.std.proofs.Common.{◌≡◌, ◌≢◌, ℕ, zero, suc, ◌+◌, ◌<◌, ◌≤◌, List, [], ◌∷◌, ◌++◌, length, refl, sym, ap, ◌∙◌, arith, get_or, append_assoc, nat_lt}
+use Rattle.std.proofs.Common.{⊎_elim, replicate}
 use Rattle.std.specs.Prelude.{if◌then◌else◌}
 use Rattle.std.proofs.Math.ListN.{set}
 use Rattle.std.proofs.lemmas.List.{append-nil}
@@ -11,7 +12,8 @@ append_at_set [] n d xs h = refl
 append_at_set (l ∷ ls) zero d xs h = refl
 append_at_set (l ∷ ls) (suc n) d xs h = ap (λ t. l ∷ t) (append_at_set ls n d xs (omega arith))
 
-pub append_at_by : {A : Type 0} (ls now : List (List A)) (n : ℕ) (old xs new : List A) → ls ≡ now → n < length now → old ≡ get_or ls n old → new ≡ old ++ xs → set ls n new ≡ append_at now n xs
+pub append_at_by : {A : Type 0} (ls now : List (List A)) (n : ℕ) (old xs new : List A) → ls ≡ now → n < length now → old ≡ get_or ls n old → new ≡ old ++ xs
+    → set ls n new ≡ append_at now n xs
 append_at_by ls now n old xs new v h o e =
     let h' : n < length ls = rw v h in
     ap (λ t. set ls n t) (e ∙ ap (λ t. t ++ xs) o) ∙ append_at_set ls n old xs h' ∙ ap (λ t. append_at t n xs) v
@@ -47,7 +49,8 @@ pub length-each_grew : {A : Type 0} (ls : List (List A)) (f : ℕ → List A) �
 length-each_grew [] f = refl
 length-each_grew (l ∷ ls) f = ap suc (length-each_grew ls (λ p. f (suc p)))
 
-pub get_or-each_grew : {A : Type 0} (ls : List (List A)) (f : ℕ → List A) (n : ℕ) (d : List A) → n < length ls → get_or (each_grew ls f) n d ≡ get_or ls n d ++ f n
+pub get_or-each_grew : {A : Type 0} (ls : List (List A)) (f : ℕ → List A) (n : ℕ) (d : List A) → n < length ls
+    → get_or (each_grew ls f) n d ≡ get_or ls n d ++ f n
 get_or-each_grew [] f n d h = absurd (omega arith)
 get_or-each_grew (l ∷ ls) f zero d h = refl
 get_or-each_grew (l ∷ ls) f (suc n) d h = get_or-each_grew ls (λ p. f (suc p)) n d (omega arith)
@@ -63,7 +66,8 @@ only_other (suc n) zero xs h = refl
 only_other (suc n) (suc q) xs h = only_other n q xs (λ e. h (ap suc e))
 
 -- one more list grows
-pub append_at-each_grew : {A : Type 0} (ls : List (List A)) (f : ℕ → List A) (n : ℕ) (xs : List A) → append_at (each_grew ls f) n xs ≡ each_grew ls (λ p. f p ++ only n xs p)
+pub append_at-each_grew : {A : Type 0} (ls : List (List A)) (f : ℕ → List A) (n : ℕ) (xs : List A)
+    → append_at (each_grew ls f) n xs ≡ each_grew ls (λ p. f p ++ only n xs p)
 append_at-each_grew ls f n xs = sym (each_grew-only (each_grew ls f) n xs) ∙ each_grew-each_grew ls f (only n xs)
 
 pub if_lt : {A : Type 0} (a b : ℕ) (x y : A) → a < b → (if nat_lt a b then x else y) ≡ x
@@ -92,7 +96,8 @@ pub each_grew-upto_all : {A : Type 0} (ls : List (List A)) (f : ℕ → List A) 
 each_grew-upto_all ls f n e = each_grew_cong ls (upto n f) f (λ p h. if_lt p n (f p) [] (omega arith))
 
 -- a step of a loop that lets each list grow
-pub upto_step : {A : Type 0} (start now new : List (List A)) (f : ℕ → List A) (n : ℕ) (xs : List A) → now ≡ each_grew start (upto n f) → xs ≡ f n → new ≡ append_at now n xs → new ≡ each_grew start (upto (n + 1) f)
+pub upto_step : {A : Type 0} (start now new : List (List A)) (f : ℕ → List A) (n : ℕ) (xs : List A) → now ≡ each_grew start (upto n f) → xs ≡ f n
+    → new ≡ append_at now n xs → new ≡ each_grew start (upto (n + 1) f)
 upto_step start now new f n xs e x a = a ∙ ap (λ t. append_at t n xs) e ∙ ap (λ t. append_at (each_grew start (upto n f)) n t) x ∙ append_at-upto start f n
 
 pub upto_length : {A : Type 0} (start now : List (List A)) (f : ℕ → List A) (n : ℕ) → now ≡ each_grew start (upto n f) → length now ≡ length start

@@ -6,7 +6,8 @@ use Rattle.river_base.specs.Short.{IsShort, IsShort-padded, padded}
 use Rattle.std.proofs.lemmas.List.{take_more, length-take-le, take_all, drop-set-lt, length-set, take_more_set, drop-drop, drop-replicate}
 
 -- one more element is written over the first of the fillers
-pub filled_more : {X : Type 0} (z : X) (vs : List X) (i n : ℕ) (d : X) → i < length vs → i < n → set (take i vs ++ replicate (n - i) z) i (get_or vs i d) ≡ take (i + 1) vs ++ replicate (n - (i + 1)) z
+pub filled_more : {X : Type 0} (z : X) (vs : List X) (i n : ℕ) (d : X) → i < length vs → i < n
+    → set (take i vs ++ replicate (n - i) z) i (get_or vs i d) ≡ take (i + 1) vs ++ replicate (n - (i + 1)) z
 filled_more z vs i n d h g =
     let e : n - i ≡ suc (n - (i + 1)) = omega arith in
     let l : length (take i vs) ≡ i = length-take-le i vs (omega arith) in
@@ -21,14 +22,17 @@ filled_all most z vs i h g =
     ap (λ n. take n vs ++ replicate (most - n) z) e ∙ ap (λ l. l ++ replicate (most - length vs) z) (take_all (length vs) vs (omega arith))
 
 -- what an array that is filled with vs shows
-pub shown : {X : Type 0} (most : ℕ) (z : X) (vs all : List X) (i : ℕ) → length vs ≤ i → i ≤ length vs → all ≡ take i vs ++ replicate (most - i) z → take (length vs) all ≡ vs
+pub shown : {X : Type 0} (most : ℕ) (z : X) (vs all : List X) (i : ℕ) → length vs ≤ i → i ≤ length vs → all ≡ take i vs ++ replicate (most - i) z
+    → take (length vs) all ≡ vs
 shown most z vs all i h g e = ap (take (length vs)) (e ∙ filled_all most z vs i h g) ∙ take-append_seam vs (replicate (most - length vs) z)
 
-pub short : {X : Type 0} (most : ℕ) (z : X) (vs all : List X) (i : ℕ) → length vs ≤ most → length vs ≤ i → i ≤ length vs → all ≡ take i vs ++ replicate (most - i) z → IsShort most z (length vs) all
+pub short : {X : Type 0} (most : ℕ) (z : X) (vs all : List X) (i : ℕ) → length vs ≤ most → length vs ≤ i → i ≤ length vs
+    → all ≡ take i vs ++ replicate (most - i) z → IsShort most z (length vs) all
 short most z vs all i b h g e = subst (λ l. IsShort most z (length vs) l) (sym (e ∙ filled_all most z vs i h g)) (IsShort-padded most z vs b)
 
 -- one more value is kept
-pub IsShort-pushed : {X : Type 0} (most : ℕ) (z : X) (len : ℕ) (values : List X) (x : X) → IsShort most z len values → len < most → IsShort most z (len + 1) (set values len x)
+pub IsShort-pushed : {X : Type 0} (most : ℕ) (z : X) (len : ℕ) (values : List X) (x : X) → IsShort most z len values → len < most
+    → IsShort most z (len + 1) (set values len x)
 IsShort-pushed most z len values x h g =
     let rest : drop (len + 1) values ≡ replicate (most - (len + 1)) z = sym (drop-drop 1 len values) ∙ ap (drop 1) h.rest ∙ drop-replicate 1 (most - len) z ∙ ap (λ n. replicate n z) (omega arith) in
     record {
@@ -37,7 +41,8 @@ IsShort-pushed most z len values x h g =
       rest = drop-set-lt (len + 1) values len x (omega arith) ∙ rest;
     }
 
-pub shown_pushed : {X : Type 0} (most : ℕ) (z : X) (len : ℕ) (values row : List X) (x : X) → IsShort most z len values → len < most → take len values ≡ row → take (len + 1) (set values len x) ≡ row ++ x ∷ []
+pub shown_pushed : {X : Type 0} (most : ℕ) (z : X) (len : ℕ) (values row : List X) (x : X) → IsShort most z len values → len < most → take len values ≡ row
+    → take (len + 1) (set values len x) ≡ row ++ x ∷ []
 shown_pushed most z len values row x h g e = take_more_set values len x (omega (arith, h.full)) ∙ ap (λ l. l ++ x ∷ []) e
 
 -- the list has `len` elements

@@ -16,7 +16,8 @@ pub record IsShort {X : Type 0} (cap : ℕ) (z : X) (len : ℕ) (values : List X
   pub rest : drop len values ≡ replicate (cap - len) z
 
 -- the fields are those that the list gives
-pub rebuilt : {X A : Type 0} (cap : ℕ) (z : X) (f : ℕ → List X → A) (len : ℕ) (values : List X) → IsShort cap z len values → f (length (take len values)) (padded cap z (take len values)) ≡ f len values
+pub rebuilt : {X A : Type 0} (cap : ℕ) (z : X) (f : ℕ → List X → A) (len : ℕ) (values : List X) → IsShort cap z len values
+    → f (length (take len values)) (padded cap z (take len values)) ≡ f len values
 rebuilt cap z f len values h =
     let fits : len ≤ length values = omega (arith, h.at_most, h.full) in
     let e : length (take len values) ≡ len = length-take-le _ _ fits in
@@ -24,7 +25,8 @@ rebuilt cap z f len values h =
     λ i. f (e i) (v i)
 
 -- a write to one of the values
-pub IsShort-set : {X : Type 0} (cap : ℕ) (z : X) (len : ℕ) (values : List X) (i : ℕ) (x : X) → IsShort cap z len values → i < len → IsShort cap z len (slice_set values i x)
+pub IsShort-set : {X : Type 0} (cap : ℕ) (z : X) (len : ℕ) (values : List X) (i : ℕ) (x : X) → IsShort cap z len values → i < len
+    → IsShort cap z len (slice_set values i x)
 IsShort-set cap z len values i x h g =
     record { at_most = h.at_most; full = length-set values i x ∙ h.full; rest = drop-set-lt len values i x g ∙ h.rest }
 

@@ -13,7 +13,8 @@ use Rattle.river_cli.specs.declared.content.Content.TheVariants.{Rows as Plain}
 use Rattle.river_cli.specs.declared.job.InWord.{InWord}
 
 -- another content at the place of a word is none of another name
-pub other-kept : (ins : List InWord) (all : List Content) (i : ℕ) (w : InWord) (x : Content) (q : List ℕ) → i < length ins → w ≡ get_or ins i w → name_eq w.name q ≡ false
+pub other-kept : (ins : List InWord) (all : List Content) (i : ℕ) (w : InWord) (x : Content) (q : List ℕ) → i < length ins → w ≡ get_or ins i w
+    → name_eq w.name q ≡ false
     → content_named ins (slice_set all i x) q ≡ content_named ins all q
 other-kept [] all i w x q lt e other = absurd (omega (arith, lt))
 other-kept (v ∷ ins) [] i w x q lt e other = refl
@@ -24,7 +25,8 @@ other-kept (v ∷ ins) (content ∷ all) (suc i) w x q lt e other =
     ap (λ t. if name_eq v.name q then content else t) (other-kept ins all i w x q (omega (arith, lt)) e other)
 
 -- the content at the place of the first word of a name
-pub named-at : (ins : List InWord) (all : List Content) (name : List ℕ) (i : ℕ) (w : InWord) (whole d : Content) → i < length ins → length all ≡ length ins → w ≡ get_or ins i w
+pub named-at : (ins : List InWord) (all : List Content) (name : List ℕ) (i : ℕ) (w : InWord) (whole d : Content) → i < length ins → length all ≡ length ins
+    → w ≡ get_or ins i w
     → name_eq w.name name ≡ true → content_named (drop i ins) (drop i all) name ≡ whole → whole ≡ get_or all i d
 named-at ins all name i w whole d lt same w_is here so_far =
     let rest = drop (i + 1) ins in
@@ -36,7 +38,8 @@ named-at ins all name i w whole d lt same w_is here so_far =
     ∙ ap (λ b. if b then get_or all i d else content_named rest (drop (i + 1) all) name) here
 
 -- no word is left
-pub named-none : (ins : List InWord) (all : List Content) (name : List ℕ) (i : ℕ) (whole : Content) → length ins ≤ i → content_named (drop i ins) (drop i all) name ≡ whole → whole ≡ Plain []
+pub named-none : (ins : List InWord) (all : List Content) (name : List ℕ) (i : ℕ) (whole : Content) → length ins ≤ i
+    → content_named (drop i ins) (drop i all) name ≡ whole → whole ≡ Plain []
 named-none ins all name i whole le so_far = sym so_far ∙ ap (λ l. content_named l (drop i all) name) (drop_all i ins le)
 
 -- another content stands at the place of a name
@@ -66,7 +69,8 @@ less true n le = omega (arith, le)
 less false n le = omega (arith, le)
 
 -- no later input has the name of one
-pub later_apart : (ds : List Decl) (i : ℕ) (d : Decl) → i < length ds → d ≡ get_or ds i d → ((q : List ℕ) → count q (decl_names ds) ≤ 1) → count d.name (decl_names (drop (i + 1) ds)) ≡ 0
+pub later_apart : (ds : List Decl) (i : ℕ) (d : Decl) → i < length ds → d ≡ get_or ds i d → ((q : List ℕ) → count q (decl_names ds) ≤ 1)
+    → count d.name (decl_names (drop (i + 1) ds)) ≡ 0
 later_apart [] i d lt e apart = absurd (omega (arith, lt))
 later_apart (v ∷ ds) zero d lt e apart =
     let same : name_eq v.name d.name ≡ true = ap (λ (u : Decl). name_eq u.name d.name) (sym e) ∙ name_same d.name in
@@ -77,7 +81,8 @@ later_apart (v ∷ ds) (suc i) d lt e apart =
     ∙ later_apart ds i d (omega (arith, lt)) e (λ q. less (name_eq v.name q) (count q (decl_names ds)) (apart q))
 
 -- one input more has what the words give to it
-pub arranged-next : (ds : List Decl) (ins : List InWord) (all all' files files' whole : List Content) (i : ℕ) (d : Decl) (x : Content) → i < length ds → d ≡ get_or ds i d
+pub arranged-next : (ds : List Decl) (ins : List InWord) (all all' files files' whole : List Content) (i : ℕ) (d : Decl) (x : Content) → i < length ds
+    → d ≡ get_or ds i d
     → ((q : List ℕ) → count q (decl_names ds) ≤ 1) → x ≡ content_named ins all d.name
     → ((q : List ℕ) → name_eq d.name q ≡ false → content_named ins all' q ≡ content_named ins all q)
     → files ++ in_order (drop i ds) ins all ≡ whole → files' ≡ files ++ x ∷ [] → files' ++ in_order (drop (i + 1) ds) ins all' ≡ whole
@@ -92,6 +97,7 @@ arranged-next ds ins all all' files files' whole i d x lt is apart taken others 
     ∙ so_far
 
 -- all inputs have it
-pub arranged-all : (ds : List Decl) (ins : List InWord) (all files whole : List Content) (i : ℕ) → length ds ≤ i → files ++ in_order (drop i ds) ins all ≡ whole → files ≡ whole
+pub arranged-all : (ds : List Decl) (ins : List InWord) (all files whole : List Content) (i : ℕ) → length ds ≤ i → files ++ in_order (drop i ds) ins all ≡ whole
+    → files ≡ whole
 arranged-all ds ins all files whole i le so_far =
     sym (append-nil files) ∙ ap (λ l. files ++ in_order l ins all) (sym (drop_all i ds le)) ∙ so_far

@@ -41,10 +41,12 @@ use Rattle.river_cli.specs.declared.content.Content.TheVariants.{Rows as Plain, 
 
 -- ---- A RIVER TEXT
 
-pub river-compiled : (meant : Result PlanForm RiverFault) (p : PlanForm) → meant ≡ Ok p → StandsFor IsCompiled (told river_source river_words meant) (record { plan = p; program = program.River })
+pub river-compiled : (meant : Result PlanForm RiverFault) (p : PlanForm) → meant ≡ Ok p
+    → StandsFor IsCompiled (told river_source river_words meant) (record { plan = p; program = program.River })
 river-compiled meant p is = rw is (record { plan = record { plan = refl; inputs = refl; outputs = refl; tables = refl; means = λ rows t. refl }; program = tt })
 
-pub river-refused : (meant : Result PlanForm RiverFault) (f : RiverFault) (text : List _) → (f ≡ river_fault.NoMemory → ⊥) → river.Refused meant f → text ≡ program_refused (river_words f) → told river_source river_words meant ≡ Err text
+pub river-refused : (meant : Result PlanForm RiverFault) (f : RiverFault) (text : List _) → (f ≡ river_fault.NoMemory → ⊥) → river.Refused meant f
+    → text ≡ program_refused (river_words f) → told river_source river_words meant ≡ Err text
 river-refused meant (river_fault.Text refusal) text not is says = rw (is, says) refl
 river-refused meant (river_fault.Plan fault) text not is says = rw (is, says) refl
 river-refused meant river_fault.NoMemory text not is says = absurd (not refl)
@@ -65,7 +67,8 @@ values-are (row ∷ r) t =
     let later : row_items r ≡ as_items (values (Plain r ∷ [])) = values-are r (All-tail (λ l. length l ≡ 1) row r t) in
     ap (λ l. Flat (One row) ∷ l) later ∙ rw is refl
 
-program_means : (text : List ℕ) (a : Accepted) → compiled text ≡ Ok a → (files : List Content) → AreContents (plan_of a.stream).inputs files → meaning (plan_of a.stream) (all_items files) ≡ (streamit_source a).means files
+program_means : (text : List ℕ) (a : Accepted) → compiled text ≡ Ok a → (files : List Content) → AreContents (plan_of a.stream).inputs files
+    → meaning (plan_of a.stream) (all_items files) ≡ (streamit_source a).means files
 program_means text a e [] t = absurd t
 program_means text a e (f ∷ g ∷ more) t = absurd t.1
 program_means text a e (Timed es ∷ []) t = absurd t.0
@@ -85,7 +88,8 @@ streamit-compiled text t plan (s, is, made) =
       program = record { readable = compiled-readable text a is; means = λ files. refl };
     })
 
-pub streamit-refused : (meant : Result Accepted StreamitFault) (f : StreamitFault) (text : List _) → (f ≡ streamit_fault.NoMemory → ⊥) → Refused meant f → text ≡ program_refused (streamit_words f) → told streamit_source streamit_words meant ≡ Err text
+pub streamit-refused : (meant : Result Accepted StreamitFault) (f : StreamitFault) (text : List _) → (f ≡ streamit_fault.NoMemory → ⊥) → Refused meant f
+    → text ≡ program_refused (streamit_words f) → told streamit_source streamit_words meant ≡ Err text
 streamit-refused meant (streamit_fault.Text refusal) text not is says = rw (is, says) refl
 streamit-refused meant (streamit_fault.UnknownName unit) text not is says = rw (is, says) refl
 streamit-refused meant (streamit_fault.NameTwice unit) text not is says = rw (is, says) refl
@@ -110,7 +114,8 @@ rows-are n (row ∷ r) t =
     let here : row ≡ take n row = sym (taken n row (All-head (λ l. length l ≡ n) row r t)) in
     λ i. Flat (One (here i)) ∷ later i
 
-plan_means : (text : List ℕ) (a : saw.Accepted) → saw.compiled text ≡ Ok a → (files : List Content) → AreContents (saw.plan_in a).inputs files → meaning (saw.plan_in a) (all_items files) ≡ (saw_source a).means files
+plan_means : (text : List ℕ) (a : saw.Accepted) → saw.compiled text ≡ Ok a → (files : List Content) → AreContents (saw.plan_in a).inputs files
+    → meaning (saw.plan_in a) (all_items files) ≡ (saw_source a).means files
 plan_means text a e [] t = absurd t
 plan_means text a e (f ∷ g ∷ more) t = absurd t.1
 plan_means text a e (Timed es ∷ []) t = absurd t.0
@@ -126,7 +131,8 @@ saw-compiled text t plan (read, is, made) =
       program = record { accepted = (read, compiled-judged text a is); valued = compiled-valued text a is; means = λ files. refl };
     })
 
-pub saw-refused : (meant : Result saw.Accepted SawFault) (f : SawFault) (text : List _) → (f ≡ saw_fault.NoMemory → ⊥) → saw.Refused meant f → text ≡ program_refused (saw_words f) → told saw_source saw_words meant ≡ Err text
+pub saw-refused : (meant : Result saw.Accepted SawFault) (f : SawFault) (text : List _) → (f ≡ saw_fault.NoMemory → ⊥) → saw.Refused meant f
+    → text ≡ program_refused (saw_words f) → told saw_source saw_words meant ≡ Err text
 saw-refused meant (saw_fault.Text refusal) text not is says = rw (is, says) refl
 saw-refused meant (saw_fault.UnknownName unit) text not is says = rw (is, says) refl
 saw-refused meant (saw_fault.NameTwice unit) text not is says = rw (is, says) refl

@@ -118,12 +118,14 @@ module _ (decls : List Decl) (layout : Layout) (ins : List InWord) (files : List
 
 pub read-contents : (decls : List Decl) (layout : Layout) (ins : List InWord) (files : List (List ℕ)) (result : Result (List Content) Stop) → All IsOuter decls
     → ((q : Name) → count q (decl_names decls) ≤ 1)
-    → names_fit decls ins ≡ Ok tt → length files ≡ length ins → AnswersAs (λ all contents. contents ≡ in_order decls ins all) (all_read (content_reader decls layout) ins files) result
+    → names_fit decls ins ≡ Ok tt → length files ≡ length ins
+    → AnswersAs (λ all contents. contents ≡ in_order decls ins all) (all_read (content_reader decls layout) ins files) result
     → IfOk result (AreContents decls)
 read-contents decls layout ins files (Err s) o apart fit same told = tt
 read-contents decls layout ins files (Ok contents) o apart fit same told = by (all_read (content_reader decls layout) ins files) refl told
   where
     by : (r : Result (List Content) (List ℕ)) → all_read (content_reader decls layout) ins files ≡ r
         → StandsFor (λ all found. found ≡ in_order decls ins all) r contents → AreContents decls contents
-    by (Ok all) is told = subst (AreContents decls) (sym told) (each_content decls layout ins files all same is decls (known_all decls apart) o (all-named decls ins fit))
+    by (Ok all) is told =
+        subst (AreContents decls) (sym told) (each_content decls layout ins files all same is decls (known_all decls apart) o (all-named decls ins fit))
     by (Err text) is told = absurd told

@@ -14,7 +14,8 @@ no_file (n ∷ ns) (c ∷ []) le = refl
 no_file (n ∷ ns) (c ∷ d ∷ file) le = absurd (omega (arith, le))
 
 -- one of the parts is empty
-pub cut-none : (word : List ℕ) (at : ℕ) → take at word ≡ name_part word → drop at word ≡ rest_part word → (at ≡ 0) ⊎ (length word ≤ at + 1) → None ≡ in_word_of word
+pub cut-none : (word : List ℕ) (at : ℕ) → take at word ≡ name_part word → drop at word ≡ rest_part word → (at ≡ 0) ⊎ (length word ≤ at + 1)
+    → None ≡ in_word_of word
 cut-none word at name rest = ⊎_elim
     (λ z. let n : name_part word ≡ [] = sym name ∙ ap (λ k. take k word) z in sym (ap (λ l. parted l (rest_part word)) n ∙ no_name (rest_part word)))
     (λ le. let d = length-drop at word in let e = ap length rest in sym (no_file (name_part word) (rest_part word) (omega (arith, le, d, e))))

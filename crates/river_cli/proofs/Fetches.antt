@@ -26,7 +26,8 @@ comes-first ins held next = Comes-same (fetches ins next) held
 
 -- one file more
 pub comes-more : (ins : List InWord) (held : Option Held) (files : List (List ℕ)) (w : InWord) (left : List InWord) (bytes : List ℕ)
-    → ComesTo ins held files (w ∷ left) → ((next : List ℕ → Order) → Comes (Fetch w.file 67108864 (large_input w.name) next) held (next bytes)) → ComesTo ins held (files ++ bytes ∷ []) left
+    → ComesTo ins held files (w ∷ left) → ((next : List ℕ → Order) → Comes (Fetch w.file 67108864 (large_input w.name) next) held (next bytes))
+    → ComesTo ins held (files ++ bytes ∷ []) left
 unfolding fetches
 comes-more ins held files w left bytes far one next =
     let same : after (files ++ bytes ∷ []) next ≡ (λ rest. next (files ++ bytes ∷ rest)) = funext (after (files ++ bytes ∷ []) next) (λ rest. next (files ++ bytes ∷ rest)) (λ rest. ap next (append_assoc files (bytes ∷ []) rest)) in
@@ -34,13 +35,16 @@ comes-more ins held files w left bytes far one next =
     subst (λ (k : List (List ℕ) → Order). Comes (fetches ins next) held (fetches left k)) (sym same) on
 
 -- all files
-pub comes-all : (ins : List InWord) (held : Option Held) (files : List (List ℕ)) → ComesTo ins held files [] → (next : List (List ℕ) → Order) → Comes (fetches ins next) held (next files)
+pub comes-all : (ins : List InWord) (held : Option Held) (files : List (List ℕ)) → ComesTo ins held files [] → (next : List (List ℕ) → Order)
+    → Comes (fetches ins next) held (next files)
 unfolding fetches
 comes-all ins held files far next = subst (λ (l : List (List ℕ)). Comes (fetches ins next) held (next l)) (append-nil files) (far next)
 
 -- the fetch of the next file stops the whole
-pub stops-more : (ins : List InWord) (held : Option Held) (early late : Type 0) → (late → early) → (files : List (List ℕ)) (w : InWord) (left : List InWord) (s : Stop)
-    → ComesTo ins held files (w ∷ left) → ((next : List ℕ → Order) → Stops (Some (Fetch w.file 67108864 (large_input w.name) next)) held late s) → (next : List (List ℕ) → Order) → Stops (Some (fetches ins next)) held early s
+pub stops-more : (ins : List InWord) (held : Option Held) (early late : Type 0) → (late → early)
+    → (files : List (List ℕ)) (w : InWord) (left : List InWord) (s : Stop)
+    → ComesTo ins held files (w ∷ left) → ((next : List ℕ → Order) → Stops (Some (Fetch w.file 67108864 (large_input w.name) next)) held late s)
+    → (next : List (List ℕ) → Order) → Stops (Some (fetches ins next)) held early s
 unfolding fetches
 stops-more ins held early late sooner files w left s far one next =
     Stops-later (fetches ins next) (fetches (w ∷ left) (after files next)) held early late sooner s (far next) (one (λ b. fetches left (λ rest. next (files ++ b ∷ rest))))

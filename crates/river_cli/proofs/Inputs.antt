@@ -1,5 +1,6 @@
 -- The names, files and rows of inputs.
-use Rattle.std.proofs.Common.{◌≡◌, ℕ, zero, suc, ◌+◌, ◌<◌, ◌≤◌, drop, get_or, Bool, true, false, List, [], ◌∷◌, ◌++◌, length, refl, sym, ap, ◌∙◌, subst, arith, not}
+use Rattle.std.proofs.Common.{◌≡◌, ℕ, zero, suc, ◌+◌, ◌<◌, ◌≤◌, drop, get_or, Bool, true, false, List, [], ◌∷◌, ◌++◌, length, refl, sym, ap, ◌∙◌, subst, arith}
+use Rattle.std.proofs.Common.{not}
 use Rattle.std.specs.Prelude.{Option, Some, None, Result, Ok, Err, All, IsTrue, nat_lt, if◌then◌else◌}
 use Rattle.std.proofs.lemmas.List.{append_assoc, append-nil, drop_more, drop_all}
 use Rattle.std.proofs.lemmas.Bool.Decides.{nat_tests}
@@ -17,7 +18,8 @@ use Rattle.river_plan.specs.declared.plan.Decl.{Decl}
 use Rattle.river_plan.specs.Faults.{HasWidth, IsOuter}
 use Rattle.river_plan.specs.Forms.{decl_names}
 use Rattle.river_plan.specs.Names.{count}
-use Rattle.river_cli.specs.Inputs.{names, unknown, missing, first_told, names_fit, Reader, file_read, fetches, width_named, content_reader, with_first, all_read, content_named, in_order, of_inputs}
+use Rattle.river_cli.specs.Inputs.{names, unknown, missing, first_told, names_fit, Reader, file_read, fetches, width_named, content_reader, with_first}
+use Rattle.river_cli.specs.Inputs.{all_read, content_named, in_order, of_inputs}
 use Rattle.river_cli.specs.Text.{unknown_input, missing_input}
 use Rattle.river_cli.specs.declared.content.Content.{Content}
 use Rattle.river_cli.specs.declared.content.Content.TheVariants.{Rows as Plain}
@@ -29,7 +31,8 @@ declared_width : (decls : List Decl) (name : List ℕ) → All HasWidth decls �
 declared_width [] name h lt = absurd (omega (arith, lt))
 declared_width (d ∷ ds) name h lt = by (name_eq d.name name) refl (declared_width ds name (λ k e lt. h (suc k) e (omega (arith, lt))))
   where
-    by : (b : Bool) → name_eq d.name name ≡ b → (0 < count name (decl_names ds) → IsTrue (is_width (width_named ds name))) → IsTrue (is_width (width_named (d ∷ ds) name))
+    by : (b : Bool) → name_eq d.name name ≡ b → (0 < count name (decl_names ds) → IsTrue (is_width (width_named ds name)))
+        → IsTrue (is_width (width_named (d ∷ ds) name))
     by true e later = rw e (h 0 d (omega arith))
     by false e later = rw e (later (grind (arith, lt, e)))
 
@@ -65,7 +68,8 @@ named_all (d ∷ ds) ins none = by (nat_lt 0 (count d.name (names ins))) refl no
     some : ◌≡◌ {A = Option Decl} (Some d) None → ⊥
     some e = cc
 
-    by : (b : Bool) → nat_lt 0 (count d.name (names ins)) ≡ b → (if not b then Some d else missing ds ins) ≡ None → (missing ds ins ≡ None → All (λ e. IsNamed ins e) ds) → All (λ e. IsNamed ins e) (d ∷ ds)
+    by : (b : Bool) → nat_lt 0 (count d.name (names ins)) ≡ b → (if not b then Some d else missing ds ins) ≡ None
+        → (missing ds ins ≡ None → All (λ e. IsNamed ins e) ds) → All (λ e. IsNamed ins e) (d ∷ ds)
     by true e none later = first_rest (λ f. IsNamed ins f) d ds (grind (arith, nat_tests, e)) (later none)
     by false e none later = absurd (some none)
 
@@ -87,7 +91,8 @@ pub unknown-told : (decls : List Decl) (ins : List InWord) (w : InWord) → unkn
 unfolding names_fit
 unknown-told decls ins w e = ap (λ (u : Option InWord). first_told u (missing decls ins)) e
 
-pub missing-told : (decls : List Decl) (ins : List InWord) (d : Decl) → unknown decls ins ≡ None → missing decls ins ≡ Some d → names_fit decls ins ≡ Err (missing_input d.name)
+pub missing-told : (decls : List Decl) (ins : List InWord) (d : Decl) → unknown decls ins ≡ None → missing decls ins ≡ Some d
+    → names_fit decls ins ≡ Err (missing_input d.name)
 unfolding names_fit
 missing-told decls ins d e f = ap (λ (u : Option InWord). first_told u (missing decls ins)) e ∙ ap (first_told None) f
 
@@ -95,7 +100,8 @@ pub nothing-told : (decls : List Decl) (ins : List InWord) → unknown decls ins
 unfolding names_fit
 nothing-told decls ins e f = ap (λ (u : Option InWord). first_told u (missing decls ins)) e ∙ ap (first_told None) f
 
-pub known-widths : (decls : List Decl) (ins : List InWord) → All IsOuter decls → names_fit decls ins ≡ Ok tt → All (λ w. IsTrue (is_width (width_named decls w.name))) ins
+pub known-widths : (decls : List Decl) (ins : List InWord) → All IsOuter decls → names_fit decls ins ≡ Ok tt
+    → All (λ w. IsTrue (is_width (width_named decls w.name))) ins
 unfolding names_fit
 known-widths decls ins h none = all_known decls ins (λ k d lt. (h k d lt).0) (told_none (unknown decls ins) (missing decls ins) none)
 
@@ -121,7 +127,8 @@ module _ {A : Type 0} (reader : Reader A) (ins : List InWord) (files : List (Lis
   -- one file more is read
   pub read-more : (i : ℕ) (w : InWord) (b : List ℕ) (all : List A) (x : A) (whole : Result (List A) (List ℕ))
       → i < length ins → length files ≡ length ins → w ≡ get_or ins i w → b ≡ get_or files i b → file_read reader w b ≡ Ok x
-      → put_before all (all_read reader (drop i ins) (drop i files)) ≡ whole → put_before (all ++ x ∷ []) (all_read reader (drop (i + 1) ins) (drop (i + 1) files)) ≡ whole
+      → put_before all (all_read reader (drop i ins) (drop i files)) ≡ whole
+      → put_before (all ++ x ∷ []) (all_read reader (drop (i + 1) ins) (drop (i + 1) files)) ≡ whole
   read-more i w b all x whole lt same w_is b_is read so_far =
       let later = all_read reader (drop (i + 1) ins) (drop (i + 1) files) in
       let left : drop i ins ≡ w ∷ drop (i + 1) ins = drop_more ins i w lt ∙ ap (λ y. y ∷ drop (i + 1) ins) (sym w_is) in
@@ -150,7 +157,8 @@ module _ {A : Type 0} (reader : Reader A) (ins : List InWord) (files : List (Lis
   read-fault i w b all stop.NoMemory lt same w_is b_is told so_far = tt
 
   -- all files are read
-  pub read-whole : (i : ℕ) (all : List A) (whole : Result (List A) (List ℕ)) → length ins ≤ i → put_before all (all_read reader (drop i ins) (drop i files)) ≡ whole → whole ≡ Ok all
+  pub read-whole : (i : ℕ) (all : List A) (whole : Result (List A) (List ℕ)) → length ins ≤ i
+      → put_before all (all_read reader (drop i ins) (drop i files)) ≡ whole → whole ≡ Ok all
   read-whole i all whole le so_far =
       sym so_far ∙ ap (λ l. put_before all (all_read reader l (drop i files))) (drop_all i ins le) ∙ before-none all
 
@@ -183,7 +191,8 @@ module _ (decls : List Decl) (ins : List InWord) (layout : Layout) (held : Optio
   past_names next fit = ap (λ r. past r (λ _. from_files next)) fit
 
   -- a name refuses
-  pub names-stop : (rose : Type 0) (s : Stop) → Refuses (names_fit decls ins) s → (next : List Content → Order) → Stops (Some (of_inputs decls ins layout next)) held rose s
+  pub names-stop : (rose : Type 0) (s : Stop) → Refuses (names_fit decls ins) s → (next : List Content → Order)
+      → Stops (Some (of_inputs decls ins layout next)) held rose s
   unfolding of_inputs
   names-stop rose s told next = past-refused (names_fit decls ins) s held rose told (λ _. from_files next)
 
@@ -194,17 +203,20 @@ module _ (decls : List Decl) (ins : List InWord) (layout : Layout) (held : Optio
       subst (λ (o : Order). Stops (Some o) held rose s) (sym (past_names next fit)) (stops (λ files. past (all_read reader ins files) (λ all. next (in_order decls ins all))))
 
   -- the files are read
-  read_passes : (rose : Type 0) (files : List (List ℕ)) (result : Result (List Content) Stop) → AnswersAs (λ all rows. rows ≡ in_order decls ins all) (all_read reader ins files) result
+  read_passes : (rose : Type 0) (files : List (List ℕ)) (result : Result (List Content) Stop)
+      → AnswersAs (λ all rows. rows ≡ in_order decls ins all) (all_read reader ins files) result
       → Passes (λ next. past (all_read reader ins files) (λ all. next (in_order decls ins all))) held rose result
   read_passes rose files (Ok rows) told = found (all_read reader ins files) refl told
     where
       found : (r : Result (List Content) (List ℕ)) → all_read reader ins files ≡ r → StandsFor (λ all rows. rows ≡ in_order decls ins all) r rows
           → (next : List Content → Order) → Comes (past r (λ all. next (in_order decls ins all))) held (next rows)
-      found (Ok all) is told next = subst (λ l. Comes (next (in_order decls ins all)) held (next l)) (sym told) (Comes-same (next (in_order decls ins all)) held)
+      found (Ok all) is told next =
+          subst (λ l. Comes (next (in_order decls ins all)) held (next l)) (sym told) (Comes-same (next (in_order decls ins all)) held)
       found (Err text) is told next = absurd told
   read_passes rose files (Err s) told = λ next. past-refused (all_read reader ins files) s held rose told (λ all. next (in_order decls ins all))
 
-  pub files-pass : (rose : Type 0) (files : List (List ℕ)) (result : Result (List Content) Stop) → names_fit decls ins ≡ Ok tt → ((next : List (List ℕ) → Order) → Comes (fetches ins next) held (next files))
+  pub files-pass : (rose : Type 0) (files : List (List ℕ)) (result : Result (List Content) Stop) → names_fit decls ins ≡ Ok tt
+      → ((next : List (List ℕ) → Order) → Comes (fetches ins next) held (next files))
       → AnswersAs (λ all rows. rows ≡ in_order decls ins all) (all_read reader ins files) result → Passes (of_inputs decls ins layout) held rose result
   files-pass rose files (Ok rows) fit far told = λ next.
       subst (λ (o : Order). Comes o held (next rows)) (sym (past_names next fit)) (then-passes (fetches ins) (λ f next. past (all_read reader ins f) (λ all. next (in_order decls ins all))) held rose rose (λ r. r) files (Ok rows) far (read_passes rose files (Ok rows) told) next)

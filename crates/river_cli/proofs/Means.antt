@@ -25,8 +25,10 @@ use Rattle.cql_text.specs.declared.tree.CqlProgram.{CqlProgram}
 use Rattle.cql_build.specs.Seen as cql
 
 -- the files of a CQL program fit its registered streams
-pub known-files : (t : CqlProgram) (p : PlanForm) (all : List Content) → IsKnown (program.Cql t) p → AreContents p.inputs all → AreFiles (cql.program_of (parts_of t)) (timed_files all)
-known-files t p all (source, is) typed = files-are (cql.program_of (parts_of t)) all (subst (λ ds. AreContents ds all) (is.plan.inputs ∙ is.program.inputs) typed)
+pub known-files : (t : CqlProgram) (p : PlanForm) (all : List Content) → IsKnown (program.Cql t) p → AreContents p.inputs all
+    → AreFiles (cql.program_of (parts_of t)) (timed_files all)
+known-files t p all (source, is) typed =
+    files-are (cql.program_of (parts_of t)) all (subst (λ ds. AreContents ds all) (is.plan.inputs ∙ is.program.inputs) typed)
 
 -- files with timestamps, one after another
 pub timed-more : (fs : List Content) (f : Content) → timed_files (fs ++ f ∷ []) ≡ timed_files fs ++ timed_files (f ∷ [])
@@ -43,7 +45,8 @@ mean-printed source p all o is gives = λ i.
     outputs_text (is.outputs i) (gives.outs i) ++ (tables_text (is.tables i) (gives.tables i) ++ firings_text (labels (is.plan i).ops) (asked false o.counts))
 
 pub mean-says : (it : Program) (p : PlanForm) (all : List Content) (o : Outcome) (result : Result (List ℕ) NoMemory)
-    → IfOk result (λ text. text ≡ printed_outcome p o.outs (map rows_of o.tables) (asked false o.counts)) → ((source : Source) → IsOf it source p → Gives o (source.means all))
+    → IfOk result (λ text. text ≡ printed_outcome p o.outs (map rows_of o.tables) (asked false o.counts))
+    → ((source : Source) → IsOf it source p → Gives o (source.means all))
     → IfOk result (λ text. (source : Source) → IsOf it source p → text ≡ printed source false all)
 mean-says it p all o (Ok text) says gives = λ source is. says ∙ mean-printed source p all o is.plan (gives source is)
 mean-says it p all o (Err e) says gives = tt

@@ -28,49 +28,60 @@ use Rattle.river_cli.specs.declared.job.Job.{Job}
 
 -- the program was fetched
 pub job-decides : (job : Job) (text : List ℕ) (held : Option Held) (early late : Type 0) → (late → early) → (result : Result (List ℕ) Stop)
-    → ((next : List ℕ → Order) → Comes (Fetch job.file 1048576 large_program next) held (next text)) → Passes (of_text job text) held late result → Decides (Some (of_job job)) held early result
+    → ((next : List ℕ → Order) → Comes (Fetch job.file 1048576 large_program next) held (next text)) → Passes (of_text job text) held late result
+    → Decides (Some (of_job job)) held early result
 unfolding of_job
 job-decides job text held early late sooner result here there =
     passed-decides (λ next. Fetch job.file 1048576 large_program (λ t. of_text job t next)) held early result
     (then-passes (Fetch job.file 1048576 large_program) (λ t next. of_text job t next) held early late sooner text result here there)
 
 -- it was compiled, and its plan rewritten
-pub text-passes : (job : Job) (text : List ℕ) (held : Option Held) (early late : Type 0) → (late → early) → (c : Compiled) (plan : PlanForm) (result : Result (List ℕ) Stop) → StandsFor IsCompiled (source_of job.lang text) c
+pub text-passes : (job : Job) (text : List ℕ) (held : Option Held) (early late : Type 0) → (late → early)
+    → (c : Compiled) (plan : PlanForm) (result : Result (List ℕ) Stop) → StandsFor IsCompiled (source_of job.lang text) c
     → ((source : Source) → IsOf c.program source c.plan → (later : Source) × IsOf c.program later plan × ((next : Source → Order) → Comes (of_script job.options.script source next) held (next later)))
     → ((source : Source) → IsOf c.program source plan → Passes (of_command job source) held late result) → Passes (of_text job text) held early result
 unfolding of_text
-text-passes job text held early late sooner c plan (Ok out) told script command = past-as IsCompiled (source_of job.lang text) c (λ source next. of_script job.options.script source (λ later. of_command job later next)) held early (Ok out) told
+text-passes job text held early late sooner c plan (Ok out) told script command =
+    past-as IsCompiled (source_of job.lang text) c (λ source next. of_script job.options.script source (λ later. of_command job later next)) held early (Ok out) told
     (λ source is. let s = script source is in then-passes (of_script job.options.script source) (λ later next. of_command job later next) held early late sooner s.0 (Ok out) s.2 (command s.0 s.1))
-text-passes job text held early late sooner c plan (Err f) told script command = past-as IsCompiled (source_of job.lang text) c (λ source next. of_script job.options.script source (λ later. of_command job later next)) held early (Err f) told
+text-passes job text held early late sooner c plan (Err f) told script command =
+    past-as IsCompiled (source_of job.lang text) c (λ source next. of_script job.options.script source (λ later. of_command job later next)) held early (Err f) told
     (λ source is. let s = script source is in then-passes (of_script job.options.script source) (λ later next. of_command job later next) held early late sooner s.0 (Err f) s.2 (command s.0 s.1))
 
 -- it is refused
-pub text-stops : (job : Job) (text : List ℕ) (held : Option Held) (rose : Type 0) (s : Stop) → Refuses (source_of job.lang text) s → (next : List ℕ → Order) → Stops (Some (of_text job text next)) held rose s
+pub text-stops : (job : Job) (text : List ℕ) (held : Option Held) (rose : Type 0) (s : Stop) → Refuses (source_of job.lang text) s → (next : List ℕ → Order)
+    → Stops (Some (of_text job text next)) held rose s
 unfolding of_text
-text-stops job text held rose s told next = past-refused (source_of job.lang text) s held rose told (λ source. of_script job.options.script source (λ later. of_command job later next))
+text-stops job text held rose s told next =
+    past-refused (source_of job.lang text) s held rose told (λ source. of_script job.options.script source (λ later. of_command job later next))
 
 -- its script stops it
 pub script-stops : (job : Job) (text : List ℕ) (held : Option Held) (rose : Type 0) (c : Compiled) (s : Stop) → StandsFor IsCompiled (source_of job.lang text) c
-    → ((source : Source) → IsOf c.program source c.plan → (next : Source → Order) → Stops (Some (of_script job.options.script source next)) held rose s) → (next : List ℕ → Order) → Stops (Some (of_text job text next)) held rose s
+    → ((source : Source) → IsOf c.program source c.plan → (next : Source → Order) → Stops (Some (of_script job.options.script source next)) held rose s)
+    → (next : List ℕ → Order) → Stops (Some (of_text job text next)) held rose s
 unfolding of_text
-script-stops job text held rose c s told stops = past-as IsCompiled (source_of job.lang text) c (λ source next. of_script job.options.script source (λ later. of_command job later next)) held rose (Err s) told
+script-stops job text held rose c s told stops =
+    past-as IsCompiled (source_of job.lang text) c (λ source next. of_script job.options.script source (λ later. of_command job later next)) held rose (Err s) told
     (λ source is next. stops source is (λ later. of_command job later next))
 
 -- ---- THE COMMANDS
 
 module _ (job : Job) (source : Source) (held : Option Held) (rose : Type 0) where
-  pub run-passes : (result : Result (List ℕ) Stop) → job.command ≡ Run → Passes (of_run job job.options.counts source) held rose result → Passes (of_command job source) held rose result
+  pub run-passes : (result : Result (List ℕ) Stop) → job.command ≡ Run → Passes (of_run job job.options.counts source) held rose result
+      → Passes (of_command job source) held rose result
   unfolding of_command of_run
   run-passes (Ok text) is passed = λ next. rw is (passed next)
   run-passes (Err s) is passed = λ next. rw is (passed next)
 
-  pub mean-passes : (result : Result (List ℕ) Stop) → job.command ≡ Mean → Passes (of_run job false source) held rose result → Passes (of_command job source) held rose result
+  pub mean-passes : (result : Result (List ℕ) Stop) → job.command ≡ Mean → Passes (of_run job false source) held rose result
+      → Passes (of_command job source) held rose result
   unfolding of_command of_run
   mean-passes (Ok text) is passed = λ next. rw is (passed next)
   mean-passes (Err s) is passed = λ next. rw is (passed next)
 
   -- the plan is printed
-  pub show-passes : (plan : PlanForm) (text : List ℕ) → job.command ≡ Show → IsPlanOf source plan → text ≡ plan_text plan → Passes (of_command job source) held rose (Ok text)
+  pub show-passes : (plan : PlanForm) (text : List ℕ) → job.command ≡ Show → IsPlanOf source plan → text ≡ plan_text plan
+      → Passes (of_command job source) held rose (Ok text)
   unfolding of_command
   show-passes plan text is of says = λ next. rw is (
       let same : text ≡ plan_text source.plan = says ∙ ap plan_text of.plan in
@@ -92,7 +103,8 @@ module _ (job : Job) (counted : Bool) (source : Source) (plan : PlanForm) (held 
       subst (λ o. Stops (Some o) held rose s) (sym (run_is next)) here
 
   -- it is run
-  pub run-comes : (all : List Content) (text : List ℕ) → ((next : List Content → Order) → Comes (of_inputs plan.inputs job.ins (layout_of job) next) held (next all))
+  pub run-comes : (all : List Content) (text : List ℕ)
+      → ((next : List Content → Order) → Comes (of_inputs plan.inputs job.ins (layout_of job) next) held (next all))
       → text ≡ printed source counted all → (next : List ℕ → Order) → Comes (of_run job counted source next) held (next text)
   run-comes all text comes says next =
       let here = subst (λ d. Comes (of_inputs d job.ins (layout_of job) (λ rows. next (printed source counted rows))) held (next (printed source counted all))) is.inputs (comes (λ rows. next (printed source counted rows))) in
@@ -112,8 +124,10 @@ output-printed source plan counted all is typed =
     fired q = firings_text (labels q.ops) (asked counted (map pos (firings q (all_items all))))
 
 pub output-says : (plan : PlanForm) (counted : Bool) (all : List Content) (outs : List (List item.Item)) (tables : List (List (List ℤ))) (counts : List ℤ) (result : Result (List ℕ) NoMemory)
-    → IfOk result (λ text. text ≡ printed_outcome plan outs tables (asked counted counts)) → outs ≡ (meaning plan (all_items all)).outs → tables ≡ (meaning plan (all_items all)).tables
-    → counts ≡ map pos (firings plan (all_items all)) → AreContents plan.inputs all → IfOk result (λ text. (source : Source) → IsPlanOf source plan → text ≡ printed source counted all)
+    → IfOk result (λ text. text ≡ printed_outcome plan outs tables (asked counted counts)) → outs ≡ (meaning plan (all_items all)).outs
+    → tables ≡ (meaning plan (all_items all)).tables
+    → counts ≡ map pos (firings plan (all_items all)) → AreContents plan.inputs all
+    → IfOk result (λ text. (source : Source) → IsPlanOf source plan → text ≡ printed source counted all)
 output-says plan counted all outs tables counts (Ok text) says outs_is tables_is counts_is typed = λ source is.
     says ∙ (λ i. printed_outcome plan (outs_is i) (tables_is i) (asked counted (counts_is i))) ∙ output-printed source plan counted all is typed
 output-says plan counted all outs tables counts (Err e) says outs_is tables_is counts_is typed = tt

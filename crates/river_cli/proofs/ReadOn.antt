@@ -81,7 +81,8 @@ module _ (command : Command) (behind said : List (List ℕ)) (job : Job) where
   one-more None g e = cc
   one-more (Some p) g e = by (p.of command) (count p.once said == 0) refl refl e
     where
-      by : (fits fresh : Bool) → p.of command ≡ fits → (count p.once said == 0) ≡ fresh → grown p job (if fits && fresh then Some (said ++ p.once ∷ []) else None) ≡ Some g
+      by : (fits fresh : Bool) → p.of command ≡ fits → (count p.once said == 0) ≡ fresh
+          → grown p job (if fits && fresh then Some (said ++ p.once ∷ []) else None) ≡ Some g
           → on_by said job (if p.of command then one_more p (phrases command p.takes behind) else None) ≡ on_by g.said g.job (phrases command 0 (drop g.takes behind))
       by true true fits fresh e =
           let is : record { takes = p.takes; said = said ++ p.once ∷ []; job = p.makes job } ≡ g = cc in
@@ -93,7 +94,8 @@ module _ (command : Command) (behind said : List (List ℕ)) (job : Job) where
   no-more None e = refl
   no-more (Some p) e = by (p.of command) (count p.once said == 0) refl refl e
     where
-      by : (fits fresh : Bool) → p.of command ≡ fits → (count p.once said == 0) ≡ fresh → grown p job (if fits && fresh then Some (said ++ p.once ∷ []) else None) ≡ None
+      by : (fits fresh : Bool) → p.of command ≡ fits → (count p.once said == 0) ≡ fresh
+          → grown p job (if fits && fresh then Some (said ++ p.once ∷ []) else None) ≡ None
           → on_by said job (if p.of command then one_more p (phrases command p.takes behind) else None) ≡ None
       by true true fits fresh e = cc
       by true false fits fresh e = rw fits (twice p (phrases command p.takes behind) (grind (arith, nat_tests, fresh)))
@@ -104,7 +106,8 @@ module _ (command : Command) (behind said : List (List ℕ)) (job : Job) where
   still-apart None g e a = cc
   still-apart (Some p) g e a = by (p.of command) (count p.once said == 0) refl e
     where
-      by : (fits fresh : Bool) → (count p.once said == 0) ≡ fresh → grown p job (if fits && fresh then Some (said ++ p.once ∷ []) else None) ≡ Some g → are_apart g.said ≡ true
+      by : (fits fresh : Bool) → (count p.once said == 0) ≡ fresh → grown p job (if fits && fresh then Some (said ++ p.once ∷ []) else None) ≡ Some g
+          → are_apart g.said ≡ true
       by true true fresh e =
           let is : record { takes = p.takes; said = said ++ p.once ∷ []; job = p.makes job } ≡ g = cc in
           ap (λ (h : Grown). are_apart h.said) (sym is) ∙ still_apart p.once said a (grind (arith, nat_tests, fresh))
@@ -112,7 +115,8 @@ module _ (command : Command) (behind said : List (List ℕ)) (job : Job) where
       by false fresh _ e = cc
 
 -- the words from here on begin with a phrase
-pub more-words : (command : Command) (rest said : List (List ℕ)) (job : Job) (g : Grown) → 0 < length rest → with_phrase command (phrase_of rest) said job ≡ Some g
+pub more-words : (command : Command) (rest said : List (List ℕ)) (job : Job) (g : Grown) → 0 < length rest
+    → with_phrase command (phrase_of rest) said job ≡ Some g
     → on_by said job (phrases command 0 rest) ≡ on_by g.said g.job (phrases command 0 (drop (1 + g.takes) rest))
 more-words command [] said job g some e = absurd (omega (arith, some))
 more-words command (word ∷ behind) said job g some e =
@@ -120,7 +124,8 @@ more-words command (word ∷ behind) said job g some e =
     one-more command behind said job (phrase_of (word ∷ behind)) g e ∙ ap (λ k. on_by g.said g.job (phrases command 0 (drop k (word ∷ behind)))) n
 
 -- they begin with none that may be added
-pub no-words : (command : Command) (rest said : List (List ℕ)) (job : Job) → 0 < length rest → with_phrase command (phrase_of rest) said job ≡ None → on_by said job (phrases command 0 rest) ≡ None
+pub no-words : (command : Command) (rest said : List (List ℕ)) (job : Job) → 0 < length rest → with_phrase command (phrase_of rest) said job ≡ None
+    → on_by said job (phrases command 0 rest) ≡ None
 no-words command [] said job some e = absurd (omega (arith, some))
 no-words command (word ∷ behind) said job some e = no-more command behind said job (phrase_of (word ∷ behind)) e
 

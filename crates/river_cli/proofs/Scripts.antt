@@ -24,7 +24,8 @@ use Rattle.river_cli.specs.Text.{large_script}
 use Rattle.river_cli.proofs.Items.{contents-typed}
 
 -- the plan that a script makes means what the program means
-pub made-stands : (program : Program) (source : Source) (p made : PlanForm) (text : List ℕ) → IsPlan p → IsOf program source p → rewritten p text ≡ Ok made → StandsFor (IsOf program) (with_plan source (rewritten source.plan text)) made
+pub made-stands : (program : Program) (source : Source) (p made : PlanForm) (text : List ℕ) → IsPlan p → IsOf program source p → rewritten p text ≡ Ok made
+    → StandsFor (IsOf program) (with_plan source (rewritten source.plan text)) made
 made-stands program source p made text v of e =
     let h = (makes_what_it_has p text (Ok made)).0 e in
     let k = script_means p made h.0 v h.2 in
@@ -35,7 +36,8 @@ made-stands program source p made text v of e =
         inputs = k.1.inputs ∙ is.inputs;
         outputs = ap decl_names k.1.outputs ∙ is.outputs;
         tables = ap table_names k.1.tables ∙ is.tables;
-        means = λ files a. let b = subst (λ ds. AreContents ds files) k.1.inputs a in k.2 (all_items files) (contents-typed p.inputs files b) ∙ is.means files b;
+        means =
+            λ files a. let b = subst (λ ds. AreContents ds files) k.1.inputs a in k.2 (all_items files) (contents-typed p.inputs files b) ∙ is.means files b;
       };
       program = still program source made of.program;
     })
@@ -47,13 +49,15 @@ made-stands program source p made text v of e =
     still (variant.Sawzall t) source made is = record { accepted = is.accepted; valued = is.valued; means = is.means }
     still (variant.Cql t) source made is = record { columns = is.columns; inputs = is.inputs; means = is.means }
 
-as_passed : {A B : Type 0} (stands : A → B → Type 0) (found : Result A (List ℕ)) (y : B) (held : Option Held) → StandsFor stands found y → (x : A) × stands x y × ((next : A → Order) → Comes (past found next) held (next x))
+as_passed : {A B : Type 0} (stands : A → B → Type 0) (found : Result A (List ℕ)) (y : B) (held : Option Held) → StandsFor stands found y
+    → (x : A) × stands x y × ((next : A → Order) → Comes (past found next) held (next x))
 as_passed stands (Ok x) y held told = (x, told, λ next. Comes-same (next x) held)
 as_passed stands (Err t) y held told = absurd told
 
 module _ (program : Program) (file : List ℕ) (source : Source) (text : List ℕ) (held : Option Held) where
   -- it was fetched and applied
-  pub script-comes : (plan : PlanForm) → ((next : List ℕ → Order) → Comes (Fetch file 65536 large_script next) held (next text)) → StandsFor (IsOf program) (with_plan source (rewritten source.plan text)) plan
+  pub script-comes : (plan : PlanForm) → ((next : List ℕ → Order) → Comes (Fetch file 65536 large_script next) held (next text))
+      → StandsFor (IsOf program) (with_plan source (rewritten source.plan text)) plan
       → (later : Source) × IsOf program later plan × ((next : Source → Order) → Comes (of_script (Some file) source next) held (next later))
   unfolding of_script
   script-comes plan here told =
@@ -61,7 +65,8 @@ module _ (program : Program) (file : List ℕ) (source : Source) (text : List �
       (s.0, s.1, λ next. Comes-on (Fetch file 65536 large_script (λ t. past (with_plan source (rewritten source.plan t)) next)) (past (with_plan source (rewritten source.plan text)) next) (next s.0) held (here (λ t. past (with_plan source (rewritten source.plan t)) next)) (s.2 next))
 
   -- it is refused
-  pub script-refused : (early late : Type 0) → (late → early) → (s : Stop) → ((next : List ℕ → Order) → Comes (Fetch file 65536 large_script next) held (next text)) → Refuses (with_plan source (rewritten source.plan text)) s
+  pub script-refused : (early late : Type 0) → (late → early) → (s : Stop)
+      → ((next : List ℕ → Order) → Comes (Fetch file 65536 large_script next) held (next text)) → Refuses (with_plan source (rewritten source.plan text)) s
       → (next : Source → Order) → Stops (Some (of_script (Some file) source next)) held early s
   unfolding of_script
   script-refused early late sooner s here told next =
@@ -69,18 +74,21 @@ module _ (program : Program) (file : List ℕ) (source : Source) (text : List �
       (past-refused (with_plan source (rewritten source.plan text)) s held late told next)
 
   -- it was fetched, and applied or refused
-  pub script-passes : (rose : Type 0) (result : Result PlanForm Stop) → ((next : List ℕ → Order) → Comes (Fetch file 65536 large_script next) held (next text)) → AnswersAs (IsOf program) (with_plan source (rewritten source.plan text)) result
+  pub script-passes : (rose : Type 0) (result : Result PlanForm Stop) → ((next : List ℕ → Order) → Comes (Fetch file 65536 large_script next) held (next text))
+      → AnswersAs (IsOf program) (with_plan source (rewritten source.plan text)) result
       → PassesAs (IsOf program) (of_script (Some file) source) held rose result
   script-passes rose (Ok plan) here told = script-comes plan here told
   script-passes rose (Err s) here told = script-refused rose rose (λ r. r) s here told
 
 -- it cannot be fetched
-pub fetch-stops : (file : List ℕ) (source : Source) (held : Option Held) (rose : Type 0) (s : Stop) → ((next : List ℕ → Order) → Stops (Some (Fetch file 65536 large_script next)) held rose s)
+pub fetch-stops : (file : List ℕ) (source : Source) (held : Option Held) (rose : Type 0) (s : Stop)
+    → ((next : List ℕ → Order) → Stops (Some (Fetch file 65536 large_script next)) held rose s)
     → (next : Source → Order) → Stops (Some (of_script (Some file) source next)) held rose s
 unfolding of_script
 fetch-stops file source held rose s stops next = stops (λ t. past (with_plan source (rewritten source.plan t)) next)
 
 -- there is none
-pub no-script : (program : Program) (source : Source) (plan : PlanForm) (held : Option Held) → IsOf program source plan → (later : Source) × IsOf program later plan × ((next : Source → Order) → Comes (of_script None source next) held (next later))
+pub no-script : (program : Program) (source : Source) (plan : PlanForm) (held : Option Held) → IsOf program source plan
+    → (later : Source) × IsOf program later plan × ((next : Source → Order) → Comes (of_script None source next) held (next later))
 unfolding of_script
 no-script program source plan held is = (source, is, λ next. Comes-same (next source) held)

@@ -7,11 +7,13 @@ use Rattle.river_order.proofs.Told.{verdict-told}
 use Rattle.river_cli.specs.Answer.{HasStatus}
 
 -- the status of the verdict, where one is known
-pub HasStatus-told : (points : Option Order) (held : Option Held) (v : Verdict) (status : ℕ) → IsVerdict points held v → HasStatus v status → IfSome held (λ h. HasStatus (verdict points h) status)
+pub HasStatus-told : (points : Option Order) (held : Option Held) (v : Verdict) (status : ℕ) → IsVerdict points held v → HasStatus v status
+    → IfSome held (λ h. HasStatus (verdict points h) status)
 HasStatus-told points None v status is has = tt
 HasStatus-told points (Some h) v status is has = rw (verdict-told points h v is) has
 
 -- a text that was written where no count rose
-pub not_stopped : {T E : Type 0} (wrote : Result T E) (rose : Type 0) (status done : ℕ) → MatchResult wrote (λ _. status ≡ done) (λ _. status ≡ 4) → OnErr wrote rose → (rose → ⊥) → status ≡ done
+pub not_stopped : {T E : Type 0} (wrote : Result T E) (rose : Type 0) (status done : ℕ) → MatchResult wrote (λ _. status ≡ done) (λ _. status ≡ 4)
+    → OnErr wrote rose → (rose → ⊥) → status ≡ done
 not_stopped (Ok x) rose status done is counted calm = is
 not_stopped (Err e) rose status done is counted calm = absurd (calm counted)

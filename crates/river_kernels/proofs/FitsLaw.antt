@@ -13,7 +13,8 @@ use Rattle.river_kernels.specs.Kern.{Kern, code, filter, duplicate, deal, collec
 use Rattle.river_kernels.specs.Formed.{is_width, is_term, is_code, is_filter, are_weights, is_window}
 use Rattle.river_kernels.specs.Fits.{Fits, rows, stream, relation, width_of, is_sized, is_bag, ports, are_widths, kept, spliced}
 use Rattle.river_kernels.specs.Types.{given, gives, rows_in, stream_in, relation_in, crossed, packed_outs, packed_of, joined, behind, fused_of, types_of}
-use Rattle.river_kernels.proofs.TypeLemmas.{eq_same, same_eq, not_some, some_same, gives_if, gives_some, flat_some, rows_some, stream_some, relation_some, flats_some, packs_some, flats_all, packs_all, pair_some}
+use Rattle.river_kernels.proofs.TypeLemmas.{eq_same, same_eq, not_some, some_same, gives_if, gives_some, flat_some, rows_some, stream_some, relation_some}
+use Rattle.river_kernels.proofs.TypeLemmas.{flats_some, packs_some, flats_all, packs_all, pair_some}
 
 -- the first part of a test of weights
 weighed : (b : Bool) (ws : List ℤ) → (b && are_weights ws) ≡ true → 1 ≤ length ws
@@ -26,7 +27,8 @@ fits_types (code k) is os vs h =
     ∙ gives_if (nat_eq k.body.inputs k.body.inputs && (is_width k.body.inputs && (are_widths k.outs && is_code k))) (ports k.outs) os (kept k.starts) vs (and_from (nat_eq k.body.inputs k.body.inputs) (is_width k.body.inputs && (are_widths k.outs && is_code k)) (eq_same k.body.inputs) h.3) h.1 h.2
 fits_types (filter f) is os vs h = ap (types_of (filter f)) h.0 ∙ gives_if (nat_eq 1 1 && is_filter f) (rows 1 ∷ []) os (Private ∷ []) vs h.3 h.1 h.2
 fits_types (duplicate n) is os vs h = ap (types_of (duplicate n)) h.1 ∙ gives_if (is_sized h.0 && nat_le 1 n) (replicate n (Flat h.0)) os [] vs h.4 h.2 h.3
-fits_types (deal ws) is os vs h = ap (types_of (deal ws)) h.1 ∙ gives_if (is_sized h.0 && are_weights ws) (replicate (length ws) (Flat h.0)) os (Private ∷ []) vs h.4 h.2 h.3
+fits_types (deal ws) is os vs h =
+    ap (types_of (deal ws)) h.1 ∙ gives_if (is_sized h.0 && are_weights ws) (replicate (length ws) (Flat h.0)) os (Private ∷ []) vs h.4 h.2 h.3
 fits_types (collect ws) is os vs h =
     ap (types_of (collect ws)) h.1
     ∙ flats_all (length ws) h.0 (λ t. gives (is_sized t && are_weights ws) (Flat t ∷ []) (Private ∷ [])) (weighed (is_sized h.0) ws h.4)
@@ -38,10 +40,12 @@ fits_types (unpack n) is os vs h =
     ∙ packs_all n h.0 (λ t. gives (is_sized t && nat_le 1 n) (Flat t ∷ []) (Private ∷ [])) (grind (arith, h.4))
     ∙ gives_if (is_sized h.0 && nat_le 1 n) (Flat h.0 ∷ []) os (Private ∷ []) vs h.4 h.2 h.3
 fits_types (window w) is os vs h = ap (types_of (window w)) h.1 ∙ gives_if (is_width h.0 && is_window w) (relation h.0 ∷ []) os (Private ∷ []) vs h.4 h.2 h.3
-fits_types (select e) is os vs h = ap (types_of (select e)) h.1 ∙ gives_if (is_sized h.0 && (is_bag h.0 && is_term (width_of h.0) 0 e)) (Flat h.0 ∷ []) os [] vs h.4 h.2 h.3
+fits_types (select e) is os vs h =
+    ap (types_of (select e)) h.1 ∙ gives_if (is_sized h.0 && (is_bag h.0 && is_term (width_of h.0) 0 e)) (Flat h.0 ∷ []) os [] vs h.4 h.2 h.3
 fits_types (project es) is os vs h =
     ap (types_of (project es)) h.1 ∙ gives_if (is_width h.0 && (is_width (length es) && list_all (is_term h.0 0) es)) (relation (length es) ∷ []) os [] vs h.4 h.2 h.3
-fits_types cross is os vs h = ap (types_of cross) h.2 ∙ gives_if (is_width h.0 && (is_width h.1 && is_width (h.0 + h.1))) (relation (h.0 + h.1) ∷ []) os (Private ∷ []) vs h.5 h.3 h.4
+fits_types cross is os vs h =
+    ap (types_of cross) h.2 ∙ gives_if (is_width h.0 && (is_width h.1 && is_width (h.0 + h.1))) (relation (h.0 + h.1) ∷ []) os (Private ∷ []) vs h.5 h.3 h.4
 fits_types (streamer s) is os vs h = ap (types_of (streamer s)) h.1 ∙ gives_if (is_width h.0) (stream h.0 ∷ []) os (Private ∷ []) vs h.4 h.2 h.3
 fits_types tally is os vs h = ap (types_of tally) h.1 ∙ gives_if (is_width h.0) [] os (Table h.0 ∷ []) vs h.4 h.2 h.3
 fits_types (fused a b at) is os vs h =
@@ -88,7 +92,8 @@ record Behind (at : ℕ) (o : Option Types) (f : List QueueType → Option Types
   pub outs : p.outs ≡ spliced at first.outs second.outs
   pub vars : p.vars ≡ first.vars ++ second.vars
 
-behind_joined : (at : ℕ) (q : Types) (m : QueueType) (f : List QueueType → Option Types) (o : Option Types) (p : Types) → slice_get q.outs at ≡ Some m → f (m ∷ []) ≡ o → joined at q o ≡ Some p → Behind at (Some q) f p
+behind_joined : (at : ℕ) (q : Types) (m : QueueType) (f : List QueueType → Option Types) (o : Option Types) (p : Types) → slice_get q.outs at ≡ Some m
+    → f (m ∷ []) ≡ o → joined at q o ≡ Some p → Behind at (Some q) f p
 behind_joined at q m f None p e g h = absurd (not_some h)
 behind_joined at q m f (Some r) p e g h =
     let s : given (spliced at q.outs r.outs) (q.vars ++ r.vars) ≡ p = some_same h in
@@ -103,7 +108,8 @@ behind_joined at q m f (Some r) p e g h =
       vars = sym (ap (λ (t : Types). t.vars) s);
     }
 
-behind_middle : (at : ℕ) (q : Types) (o : Option QueueType) (f : List QueueType → Option Types) (p : Types) → slice_get q.outs at ≡ o → behind at q o f ≡ Some p → Behind at (Some q) f p
+behind_middle : (at : ℕ) (q : Types) (o : Option QueueType) (f : List QueueType → Option Types) (p : Types) → slice_get q.outs at ≡ o → behind at q o f ≡ Some p
+    → Behind at (Some q) f p
 behind_middle at q None f p e h = absurd (not_some h)
 behind_middle at q (Some m) f p e h = behind_joined at q m f (f (m ∷ [])) p e refl h
 

@@ -1,5 +1,6 @@
 -- What may be answered for two kernels, from what was answered for each.
-use Rattle.std.proofs.Common.{◌≡◌, ℕ, zero, suc, ◌+◌, ◌-◌, ◌<◌, Option, Some, None, List, [], ◌∷◌, ◌++◌, length, take, drop, refl, sym, ap, ◌∙◌, subst, arith, length-append, length-drop}
+use Rattle.std.proofs.Common.{◌≡◌, ℕ, zero, suc, ◌+◌, ◌-◌, ◌<◌, Option, Some, None, List, [], ◌∷◌, ◌++◌, length, take, drop, refl, sym, ap, ◌∙◌, subst, arith}
+use Rattle.std.proofs.Common.{length-append, length-drop}
 use Rattle.std.specs.Prelude.{slice_get}
 use Rattle.std.proofs.lemmas.List.{length-take-le}
 use Rattle.river_base.specs.declared.kind.QueueType.{QueueType}
@@ -29,7 +30,8 @@ joined_long : (most at : ℕ) (p : Types) (o : Option Types) → at < length p.o
 joined_long most at p None h g = tt
 joined_long most at p (Some q) h g = let e = length-spliced at p.outs q.outs h in omega (arith, e, g)
 
-behind_long : (most at : ℕ) (p : Types) (o : Option QueueType) (f : List QueueType → Option Types) → slice_get p.outs at ≡ o → most + 1 < length p.outs → IsFound most (behind at p o f) None
+behind_long : (most at : ℕ) (p : Types) (o : Option QueueType) (f : List QueueType → Option Types) → slice_get p.outs at ≡ o → most + 1 < length p.outs
+    → IsFound most (behind at p o f) None
 behind_long most at p None f e g = tt
 behind_long most at p (Some m) f e g = joined_long most at p (f (m ∷ [])) (get_below p.outs at m e) g
 
@@ -43,7 +45,8 @@ behind_no_port most at p None f h = tt
 behind_no_port most at p (Some m) f h = absurd (not_some (sym h))
 
 -- the first has no such port
-pub fused_no_port : (most room at : ℕ) (o : Option Types) (f : List QueueType → Option Types) (one : Types) → IsFound room o (Some one) → slice_get one.outs at ≡ None → IsFound most (fused_of at o f) None
+pub fused_no_port : (most room at : ℕ) (o : Option Types) (f : List QueueType → Option Types) (one : Types) → IsFound room o (Some one)
+    → slice_get one.outs at ≡ None → IsFound most (fused_of at o f) None
 fused_no_port most room at None f one h g = absurd h
 fused_no_port most room at (Some p) f one h g = behind_no_port most at p (slice_get p.outs at) f (ap (λ (t : Types). slice_get t.outs at) (sym h) ∙ g)
 
@@ -51,31 +54,37 @@ second_long : (most at : ℕ) (p : Types) (o : Option Types) → at < length p.o
 second_long most at p None h g = tt
 second_long most at p (Some q) h g = let e = length-spliced at p.outs q.outs h in omega (arith, e, g, h)
 
-behind_second : (most at : ℕ) (p : Types) (m : QueueType) (o : Option QueueType) (f : List QueueType → Option Types) → o ≡ Some m → at < length p.outs → IsFound most (f (m ∷ [])) None → IsFound most (behind at p o f) None
+behind_second : (most at : ℕ) (p : Types) (m : QueueType) (o : Option QueueType) (f : List QueueType → Option Types) → o ≡ Some m → at < length p.outs
+    → IsFound most (f (m ∷ [])) None → IsFound most (behind at p o f) None
 behind_second most at p m None f e h g = absurd (not_some e)
 behind_second most at p m (Some n) f e h g = second_long most at p (f (n ∷ [])) h (subst (λ k. IsFound most (f (k ∷ [])) None) (sym (some_same e)) g)
 
 -- nothing was found for the second
-pub fused_second : (most room at : ℕ) (o : Option Types) (f : List QueueType → Option Types) (one : Types) (m : QueueType) → IsFound room o (Some one) → slice_get one.outs at ≡ Some m → IsFound most (f (m ∷ [])) None → IsFound most (fused_of at o f) None
+pub fused_second : (most room at : ℕ) (o : Option Types) (f : List QueueType → Option Types) (one : Types) (m : QueueType) → IsFound room o (Some one)
+    → slice_get one.outs at ≡ Some m → IsFound most (f (m ∷ [])) None → IsFound most (fused_of at o f) None
 fused_second most room at None f one m h e g = absurd h
 fused_second most room at (Some p) f one m h e g =
     let there : slice_get p.outs at ≡ Some m = ap (λ (t : Types). slice_get t.outs at) (sym h) ∙ e in
     behind_second most at p m (slice_get p.outs at) f there (get_below p.outs at m there) g
 
-joined_both : (most at : ℕ) (p : Types) (o : Option Types) (two r : Types) → IsFound most o (Some two) → r.outs ≡ spliced at p.outs two.outs → r.vars ≡ p.vars ++ two.vars → IsFound most (joined at p o) (Some r)
+joined_both : (most at : ℕ) (p : Types) (o : Option Types) (two r : Types) → IsFound most o (Some two) → r.outs ≡ spliced at p.outs two.outs
+    → r.vars ≡ p.vars ++ two.vars → IsFound most (joined at p o) (Some r)
 joined_both most at p None two r h e g = absurd h
 joined_both most at p (Some q) two r h e g =
     let outs : r.outs ≡ spliced at p.outs q.outs = e ∙ ap (λ (t : Types). spliced at p.outs t.outs) h in
     let vars : r.vars ≡ p.vars ++ q.vars = g ∙ ap (λ (t : Types). p.vars ++ t.vars) h in
     λ i. given (outs i) (vars i)
 
-behind_both : (most at : ℕ) (p : Types) (m : QueueType) (o : Option QueueType) (f : List QueueType → Option Types) (two r : Types) → o ≡ Some m → IsFound most (f (m ∷ [])) (Some two) → r.outs ≡ spliced at p.outs two.outs → r.vars ≡ p.vars ++ two.vars → IsFound most (behind at p o f) (Some r)
+behind_both : (most at : ℕ) (p : Types) (m : QueueType) (o : Option QueueType) (f : List QueueType → Option Types) (two r : Types) → o ≡ Some m
+    → IsFound most (f (m ∷ [])) (Some two) → r.outs ≡ spliced at p.outs two.outs → r.vars ≡ p.vars ++ two.vars → IsFound most (behind at p o f) (Some r)
 behind_both most at p m None f two r e g u v = absurd (not_some e)
-behind_both most at p m (Some n) f two r e g u v = joined_both most at p (f (n ∷ [])) two r (subst (λ k. IsFound most (f (k ∷ [])) (Some two)) (sym (some_same e)) g) u v
+behind_both most at p m (Some n) f two r e g u v =
+    joined_both most at p (f (n ∷ [])) two r (subst (λ k. IsFound most (f (k ∷ [])) (Some two)) (sym (some_same e)) g) u v
 
 -- both were found
 pub fused_both : (most room at : ℕ) (o : Option Types) (f : List QueueType → Option Types) (one : Types) (m : QueueType) (two r : Types)
-    → IsFound room o (Some one) → slice_get one.outs at ≡ Some m → IsFound most (f (m ∷ [])) (Some two) → r.outs ≡ spliced at one.outs two.outs → r.vars ≡ one.vars ++ two.vars → IsFound most (fused_of at o f) (Some r)
+    → IsFound room o (Some one) → slice_get one.outs at ≡ Some m → IsFound most (f (m ∷ [])) (Some two) → r.outs ≡ spliced at one.outs two.outs
+    → r.vars ≡ one.vars ++ two.vars → IsFound most (fused_of at o f) (Some r)
 fused_both most room at None f one m two r h e g u v = absurd h
 fused_both most room at (Some p) f one m two r h e g u v =
     behind_both most at p m (slice_get p.outs at) f two r (ap (λ (t : Types). slice_get t.outs at) (sym h) ∙ e) g
@@ -85,10 +94,12 @@ fused_both most room at (Some p) f one m two r h e g u v =
 pub fused_joined : (most room at : ℕ) (o : Option Types) (f : List QueueType → Option Types) (one : Types) (m : QueueType) (two r : Option Types)
     → IsFound room o (Some one) → slice_get one.outs at ≡ Some m → IsFound most (f (m ∷ [])) two → r ≡ joined at one two → IsFound most (fused_of at o f) r
 fused_joined most room at o f one m None r h e g j = subst (IsFound most (fused_of at o f)) (sym j) (fused_second most room at o f one m h e g)
-fused_joined most room at o f one m (Some two) r h e g j = subst (IsFound most (fused_of at o f)) (sym j) (fused_both most room at o f one m two (given (spliced at one.outs two.outs) (one.vars ++ two.vars)) h e g refl refl)
+fused_joined most room at o f one m (Some two) r h e g j =
+    subst (IsFound most (fused_of at o f)) (sym j) (fused_both most room at o f one m two (given (spliced at one.outs two.outs) (one.vars ++ two.vars)) h e g refl refl)
 
 -- what was found decides whether the kernel fits
-decided : (k : Kern) (is os : List QueueType) (vs : List VarKind) (o r : Option Types) → types_of k is ≡ o → IsFound (length os) o r → Fits k is os vs → r ≡ Some (given os vs)
+decided : (k : Kern) (is os : List QueueType) (vs : List VarKind) (o r : Option Types) → types_of k is ≡ o → IsFound (length os) o r → Fits k is os vs
+    → r ≡ Some (given os vs)
 decided k is os vs None None h g f = absurd (not_some (sym h ∙ fits_types k is os vs f))
 decided k is os vs None (Some p) h g f = absurd g
 decided k is os vs (Some q) None h g f =
@@ -101,7 +112,8 @@ decided k is os vs (Some q) (Some p) h g f = ap (λ t. Some t) (g ∙ some_same 
 pub none_fits : (k : Kern) (is os : List QueueType) (vs : List VarKind) → IsFound (length os) (types_of k is) None → Fits k is os vs → ⊥
 none_fits k is os vs g f = not_some (decided k is os vs (types_of k is) None refl g f)
 
-pub fits_found : (k : Kern) (is os : List QueueType) (vs : List VarKind) (r : Types) → IsFound (length os) (types_of k is) (Some r) → Fits k is os vs → (r.outs ≡ os) × (r.vars ≡ vs)
+pub fits_found : (k : Kern) (is os : List QueueType) (vs : List VarKind) (r : Types) → IsFound (length os) (types_of k is) (Some r) → Fits k is os vs
+    → (r.outs ≡ os) × (r.vars ≡ vs)
 fits_found k is os vs r g f =
     let e : r ≡ given os vs = some_same (decided k is os vs (types_of k is) (Some r) refl g f) in
     (ap (λ (t : Types). t.outs) e, ap (λ (t : Types). t.vars) e)
@@ -111,5 +123,6 @@ found_some k is most None r h g = absurd g
 found_some k is most (Some q) r h g = types_fits k is r (h ∙ ap (λ t. Some t) (sym g))
 
 -- what was found fits
-pub found_fits : (k : Kern) (is os : List QueueType) (vs : List VarKind) (most : ℕ) (r : Types) → IsFound most (types_of k is) (Some r) → r.outs ≡ os → r.vars ≡ vs → Fits k is os vs
+pub found_fits : (k : Kern) (is os : List QueueType) (vs : List VarKind) (most : ℕ) (r : Types) → IsFound most (types_of k is) (Some r) → r.outs ≡ os
+    → r.vars ≡ vs → Fits k is os vs
 found_fits k is os vs most r g u v = subst (Fits k is os) v (subst (λ l. Fits k is l r.vars) u (found_some k is most (types_of k is) r refl g))

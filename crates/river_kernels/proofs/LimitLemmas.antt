@@ -1,5 +1,6 @@
 -- Numbers that are limited: lists that are joined, sums, and statements that are counted.
-use Rattle.std.proofs.Common.{◌≡◌, ℕ, ◌+◌, ◌^◌, ◌<◌, Bool, true, false, List, [], ◌∷◌, ◌++◌, Option, Some, None, length, take, get_or, refl, sym, ap, ◌∙◌, arith, map, nat_lt}
+use Rattle.std.proofs.Common.{◌≡◌, ℕ, ◌+◌, ◌^◌, ◌<◌, Bool, true, false, List, [], ◌∷◌, ◌++◌, Option, Some, None, length, take, get_or, refl, sym, ap, ◌∙◌}
+use Rattle.std.proofs.Common.{arith, map, nat_lt}
 use Rattle.std.specs.Prelude.{ℤ, if◌then◌else◌}
 use Rattle.std.proofs.lemmas.Bool.Decides.{nat_tests}
 use Rattle.std.proofs.lemmas.List.{take_more, map-append}
@@ -12,17 +13,22 @@ pub first_above-front : (most n : ℕ) (xs ys : List ℕ) → first_above most x
 first_above-front most n [] ys h = absurd (cc h)
 first_above-front most n (x ∷ xs) ys h = by_case (nat_lt most x) refl (λ g. first_above-front most n xs ys g)
   where
-    by_case : (b : Bool) → nat_lt most x ≡ b → (first_above most xs ≡ Some n → first_above most (xs ++ ys) ≡ Some n) → (if nat_lt most x then Some (told x) else first_above most (xs ++ ys)) ≡ Some n
-    by_case true e go = ap (λ c. if c then Some (told x) else first_above most (xs ++ ys)) e ∙ sym (ap (λ c. if c then Some (told x) else first_above most xs) e) ∙ h
-    by_case false e go = ap (λ c. if c then Some (told x) else first_above most (xs ++ ys)) e ∙ go (sym (ap (λ c. if c then Some (told x) else first_above most xs) e) ∙ h)
+    by_case : (b : Bool) → nat_lt most x ≡ b → (first_above most xs ≡ Some n → first_above most (xs ++ ys) ≡ Some n)
+        → (if nat_lt most x then Some (told x) else first_above most (xs ++ ys)) ≡ Some n
+    by_case true e go =
+        ap (λ c. if c then Some (told x) else first_above most (xs ++ ys)) e ∙ sym (ap (λ c. if c then Some (told x) else first_above most xs) e) ∙ h
+    by_case false e go =
+        ap (λ c. if c then Some (told x) else first_above most (xs ++ ys)) e ∙ go (sym (ap (λ c. if c then Some (told x) else first_above most xs) e) ∙ h)
 
 pub first_above-back : (most : ℕ) (xs ys : List ℕ) → first_above most xs ≡ None → first_above most (xs ++ ys) ≡ first_above most ys
 first_above-back most [] ys h = refl
 first_above-back most (x ∷ xs) ys h = by_case (nat_lt most x) refl (λ g. first_above-back most xs ys g)
   where
-    by_case : (b : Bool) → nat_lt most x ≡ b → (first_above most xs ≡ None → first_above most (xs ++ ys) ≡ first_above most ys) → (if nat_lt most x then Some (told x) else first_above most (xs ++ ys)) ≡ first_above most ys
+    by_case : (b : Bool) → nat_lt most x ≡ b → (first_above most xs ≡ None → first_above most (xs ++ ys) ≡ first_above most ys)
+        → (if nat_lt most x then Some (told x) else first_above most (xs ++ ys)) ≡ first_above most ys
     by_case true e go = absurd (let f : Some (told x) ≡ None = sym (ap (λ c. if c then Some (told x) else first_above most xs) e) ∙ h in cc f)
-    by_case false e go = ap (λ c. if c then Some (told x) else first_above most (xs ++ ys)) e ∙ go (sym (ap (λ c. if c then Some (told x) else first_above most xs) e) ∙ h)
+    by_case false e go =
+        ap (λ c. if c then Some (told x) else first_above most (xs ++ ys)) e ∙ go (sym (ap (λ c. if c then Some (told x) else first_above most xs) e) ∙ h)
 
 -- a number that is told is above where the number is
 pub above-told : (most n : ℕ) → most < 2 ^ 64 → first_above most (told n ∷ []) ≡ first_above most (n ∷ [])
@@ -55,7 +61,10 @@ pub size-append : (xs ys : List Step) → size (in_turn (xs ++ ys)) ≡ size (in
 size-append [] ys = omega arith
 size-append (x ∷ xs) ys = let e = size-append xs ys in omega (arith, e)
 
-pub size-more : (xs : List Stmt) (i : ℕ) (d : Stmt) → i < length xs → size (in_turn (map step (take (i + 1) xs))) ≡ size (in_turn (map step (take i xs))) + size_once (step (get_or xs i d))
-size-more xs i d lt = ap (λ l. size (in_turn (map step l))) (take_more xs i d lt) ∙ ap (λ l. size (in_turn l)) (map-append step (take i xs) (get_or xs i d ∷ [])) ∙ size-append (map step (take i xs)) (step (get_or xs i d) ∷ []) ∙ (omega arith)
+pub size-more : (xs : List Stmt) (i : ℕ) (d : Stmt) → i < length xs
+    → size (in_turn (map step (take (i + 1) xs))) ≡ size (in_turn (map step (take i xs))) + size_once (step (get_or xs i d))
+size-more xs i d lt =
+    ap (λ l. size (in_turn (map step l))) (take_more xs i d lt) ∙ ap (λ l. size (in_turn l)) (map-append step (take i xs) (get_or xs i d ∷ []))
+    ∙ size-append (map step (take i xs)) (step (get_or xs i d) ∷ []) ∙ (omega arith)
 
 pub ruleset sizes = (size-more)

@@ -1,5 +1,6 @@
 -- Types are told apart, and what the inferences of types say where they give something.
-use Rattle.std.proofs.Common.{◌≡◌, ℕ, zero, suc, ◌+◌, ◌≤◌, Bool, true, false, ◌&&◌, nat_eq, Option, Some, None, List, [], ◌∷◌, length, refl, sym, ap, ◌∙◌, arith}
+use Rattle.std.proofs.Common.{◌≡◌, ℕ, zero, suc, ◌+◌, ◌≤◌, Bool, true, false, ◌&&◌, nat_eq, Option, Some, None, List, [], ◌∷◌, length, refl, sym, ap, ◌∙◌}
+use Rattle.std.proofs.Common.{arith}
 use Rattle.std.specs.Prelude.{if◌then◌else◌, replicate}
 use Rattle.std.specs.List.{list_all}
 use Rattle.std.proofs.lemmas.Bool.{true≢false, and_from, and_parts}
@@ -11,7 +12,8 @@ use Rattle.river_base.specs.declared.kind.QueueType.TheVariants.{Flat, Pack}
 use Rattle.river_kernels.specs.declared.types.VarKind.{VarKind}
 use Rattle.river_kernels.specs.declared.types.Types.{Types}
 use Rattle.river_kernels.specs.Fits.{relation}
-use Rattle.river_kernels.specs.Types.{given, gives, bind, flat_in, rows_in, stream_in, relation_in, same_flat, same_type, flats_in, packs_in, two_relations, IsFound}
+use Rattle.river_kernels.specs.Types.{given, gives, bind, flat_in, rows_in, stream_in, relation_in, same_flat, same_type, flats_in, packs_in, two_relations}
+use Rattle.river_kernels.specs.Types.{IsFound}
 
 pub eq_same : (n : ℕ) → nat_eq n n ≡ true
 eq_same n = grind arith
@@ -153,11 +155,13 @@ many_test m t =
 
 pub flats_all : (n : ℕ) (t : FlatType) (f : FlatType → Option Types) → 1 ≤ n → flats_in n (replicate n (Flat t)) f ≡ f t
 flats_all zero t f h = absurd (omega arith)
-flats_all (suc m) t f h = ap (λ o. bind o f) (if_true (nat_eq (length (replicate m (Flat t)) + 1) (suc m) && list_all (same_type (Flat t)) (replicate m (Flat t))) (Some t) None (many_test m (Flat t)))
+flats_all (suc m) t f h =
+    ap (λ o. bind o f) (if_true (nat_eq (length (replicate m (Flat t)) + 1) (suc m) && list_all (same_type (Flat t)) (replicate m (Flat t))) (Some t) None (many_test m (Flat t)))
 
 pub packs_all : (n : ℕ) (t : FlatType) (f : FlatType → Option Types) → 1 ≤ n → packs_in n (replicate n (Pack t)) f ≡ f t
 packs_all zero t f h = absurd (omega arith)
-packs_all (suc m) t f h = ap (λ o. bind o f) (if_true (nat_eq (length (replicate m (Pack t)) + 1) (suc m) && list_all (same_type (Pack t)) (replicate m (Pack t))) (Some t) None (many_test m (Pack t)))
+packs_all (suc m) t f h =
+    ap (λ o. bind o f) (if_true (nat_eq (length (replicate m (Pack t)) + 1) (suc m) && list_all (same_type (Pack t)) (replicate m (Pack t))) (Some t) None (many_test m (Pack t)))
 
 -- two relations
 pub record Two (is : List QueueType) (f : ℕ × ℕ → Option Types) (p : Types) : Type 0 where

@@ -50,20 +50,27 @@ kept (z ∷ zs) = Private ∷ []
 abbrev pub spliced : {A : Type 0} → ℕ → List A → List A → List A
 spliced at firsts seconds = take at firsts ++ (seconds ++ drop (at + 1) firsts)
 
--- The kernel is well formed, reads queues of the types `is`, writes queues of the types `os`, and has the variables `vs`, private ones and tables, in this order.
+-- The kernel is well formed, reads queues of the types `is`, writes queues of the types `os`, and has the variables `vs`, private ones and tables, in this
+-- order.
 -- All widths are 1 to 16, those of ports between two kernels included.
 abbrev pub Fits : Kern → List QueueType → List QueueType → List VarKind → Type 0
-Fits (code k) is os vs = (is ≡ rows k.body.inputs ∷ []) × (os ≡ ports k.outs) × (vs ≡ kept k.starts) × IsTrue (is_width k.body.inputs && (are_widths k.outs && is_code k))
+Fits (code k) is os vs =
+    (is ≡ rows k.body.inputs ∷ []) × (os ≡ ports k.outs) × (vs ≡ kept k.starts) × IsTrue (is_width k.body.inputs && (are_widths k.outs && is_code k))
 Fits (filter f) is os vs = (is ≡ rows 1 ∷ []) × (os ≡ rows 1 ∷ []) × (vs ≡ Private ∷ []) × IsTrue (is_filter f)
 Fits (duplicate n) is os vs = (t : FlatType) × (is ≡ Flat t ∷ []) × (os ≡ replicate n (Flat t)) × (vs ≡ []) × IsTrue (is_sized t && nat_le 1 n)
-Fits (deal ws) is os vs = (t : FlatType) × (is ≡ Flat t ∷ []) × (os ≡ replicate (length ws) (Flat t)) × (vs ≡ Private ∷ []) × IsTrue (is_sized t && are_weights ws)
-Fits (collect ws) is os vs = (t : FlatType) × (is ≡ replicate (length ws) (Flat t)) × (os ≡ Flat t ∷ []) × (vs ≡ Private ∷ []) × IsTrue (is_sized t && are_weights ws)
+Fits (deal ws) is os vs =
+    (t : FlatType) × (is ≡ Flat t ∷ []) × (os ≡ replicate (length ws) (Flat t)) × (vs ≡ Private ∷ []) × IsTrue (is_sized t && are_weights ws)
+Fits (collect ws) is os vs =
+    (t : FlatType) × (is ≡ replicate (length ws) (Flat t)) × (os ≡ Flat t ∷ []) × (vs ≡ Private ∷ []) × IsTrue (is_sized t && are_weights ws)
 Fits (packed k) is os vs = (t : FlatType) × (u : FlatType) × (is ≡ Flat t ∷ []) × (os ≡ Pack u ∷ []) × (vs ≡ []) × Fits k (Flat t ∷ []) (Flat u ∷ []) []
 Fits (unpack n) is os vs = (t : FlatType) × (is ≡ replicate n (Pack t)) × (os ≡ Flat t ∷ []) × (vs ≡ Private ∷ []) × IsTrue (is_sized t && nat_le 1 n)
 Fits (window w) is os vs = (n : ℕ) × (is ≡ stream n ∷ []) × (os ≡ relation n ∷ []) × (vs ≡ Private ∷ []) × IsTrue (is_width n && is_window w)
 Fits (select e) is os vs = (t : FlatType) × (is ≡ Flat t ∷ []) × (os ≡ Flat t ∷ []) × (vs ≡ []) × IsTrue (is_sized t && (is_bag t && is_term (width_of t) 0 e))
-Fits (project es) is os vs = (n : ℕ) × (is ≡ relation n ∷ []) × (os ≡ relation (length es) ∷ []) × (vs ≡ []) × IsTrue (is_width n && (is_width (length es) && list_all (is_term n 0) es))
-Fits cross is os vs = (a : ℕ) × (b : ℕ) × (is ≡ relation a ∷ relation b ∷ []) × (os ≡ relation (a + b) ∷ []) × (vs ≡ Private ∷ []) × IsTrue (is_width a && (is_width b && is_width (a + b)))
+Fits (project es) is os vs =
+    (n : ℕ) × (is ≡ relation n ∷ []) × (os ≡ relation (length es) ∷ []) × (vs ≡ []) × IsTrue (is_width n && (is_width (length es) && list_all (is_term n 0) es))
+Fits cross is os vs =
+    (a : ℕ) × (b : ℕ) × (is ≡ relation a ∷ relation b ∷ []) × (os ≡ relation (a + b) ∷ []) × (vs ≡ Private ∷ [])
+    × IsTrue (is_width a && (is_width b && is_width (a + b)))
 Fits (streamer s) is os vs = (n : ℕ) × (is ≡ relation n ∷ []) × (os ≡ stream n ∷ []) × (vs ≡ Private ∷ []) × IsTrue (is_width n)
 Fits tally is os vs = (n : ℕ) × (is ≡ rows n ∷ []) × (os ≡ []) × (vs ≡ Table n ∷ []) × IsTrue (is_width n)
 Fits (fused a b at) is os vs =

@@ -1,5 +1,6 @@
 -- When the bodies and expressions of kernels are well formed.
-use Rattle.std.specs.Prelude.{ℕ, ℤ, pos, negsuc, ◌+◌, ◌-◌, Bool, true, false, ◌&&◌, nat_lt, nat_le, nat_eq, if◌then◌else◌, Option, Some, None, List, [], ◌∷◌, length, slice_get}
+use Rattle.std.specs.Prelude.{ℕ, ℤ, pos, negsuc, ◌+◌, ◌-◌, Bool, true, false, ◌&&◌, nat_lt, nat_le, nat_eq, if◌then◌else◌, Option, Some, None, List, [], ◌∷◌}
+use Rattle.std.specs.Prelude.{length, slice_get}
 use Rattle.std.specs.List.{list_all}
 use Rattle.river_base.specs.Number.{count_of}
 use Rattle.work_code.specs.Term.{Term, Const, Input, Slot, Neg, Not, Bin, depth_of}
@@ -88,7 +89,8 @@ has_rates f = nat_eq f.body.inputs f.peek && (nat_le 1 f.pop && nat_le f.pop f.p
 
 -- the body of a `filter` is well formed, the kept slots are among its slots, and each run pushes so many rows of one value to port 0
 abbrev pub is_filter : FilterForm → Bool
-is_filter f = has_rates f && (is_steps f.peek f.body.slots (pos 1 ∷ []) f.body.steps && (nat_le (length f.starts) f.body.slots && is_number (pushes f.body.steps) f.push))
+is_filter f =
+    has_rates f && (is_steps f.peek f.body.slots (pos 1 ∷ []) f.body.steps && (nat_le (length f.starts) f.body.slots && is_number (pushes f.body.steps) f.push))
 
 -- there are weights, and each is at least 1
 abbrev pub are_weights : List ℤ → Bool

@@ -5,7 +5,8 @@ use Rattle.kern_rows.specs.Forms.{FilterForm}
 use Rattle.kern_bags.specs.declared.kernel.Window.{Window}
 use Rattle.kern_bags.specs.declared.kernel.Window.TheVariants.{Now, Range, Unbounded, Latest as LatestRows}
 use Rattle.river_kernels.specs.declared.limit.Limit.{Limit}
-use Rattle.river_kernels.specs.declared.limit.Limit.TheVariants.{Inputs, Operators, Queues, Variables, Ports, Statements, Slots, Rates, Weights, Nesting, Latest, Best}
+use Rattle.river_kernels.specs.declared.limit.Limit.TheVariants.{Inputs, Operators, Queues, Variables, Ports, Statements, Slots, Rates, Weights, Nesting}
+use Rattle.river_kernels.specs.declared.limit.Limit.TheVariants.{Latest, Best}
 use Rattle.river_base.specs.Number.{count_of}
 use Rattle.river_kernels.specs.Kern.{Kern, code, filter, duplicate, deal, collect, packed, unpack, window, select, project, cross, streamer, tally, fused}
 

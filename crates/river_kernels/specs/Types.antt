@@ -1,5 +1,6 @@
 -- The types of what a kernel writes, and its variables, from the types of what it reads.
-use Rattle.std.specs.Prelude.{◌≡◌, ℕ, ◌+◌, ◌<◌, Bool, true, false, ◌&&◌, nat_le, nat_eq, if◌then◌else◌, Option, Some, None, List, [], ◌∷◌, ◌++◌, length, replicate, slice_get}
+use Rattle.std.specs.Prelude.{◌≡◌, ℕ, ◌+◌, ◌<◌, Bool, true, false, ◌&&◌, nat_le, nat_eq, if◌then◌else◌, Option, Some, None, List, [], ◌∷◌, ◌++◌, length}
+use Rattle.std.specs.Prelude.{replicate, slice_get}
 use Rattle.std.specs.List.{list_all}
 use Rattle.river_base.specs.declared.kind.FlatType.{FlatType}
 use Rattle.river_base.specs.declared.kind.QueueType.{QueueType}
@@ -131,7 +132,8 @@ fused_of at None f = None
 fused_of at (Some p) f = behind at p (slice_get p.outs at) f
 
 abbrev pub types_of : Kern → List QueueType → Option Types
-types_of (code k) is = flat_in is (λ t. rows_in t (λ n. gives (nat_eq n k.body.inputs && (is_width k.body.inputs && (are_widths k.outs && is_code k))) (ports k.outs) (kept k.starts)))
+types_of (code k) is =
+    flat_in is (λ t. rows_in t (λ n. gives (nat_eq n k.body.inputs && (is_width k.body.inputs && (are_widths k.outs && is_code k))) (ports k.outs) (kept k.starts)))
 types_of (filter f) is = flat_in is (λ t. rows_in t (λ n. gives (nat_eq n 1 && is_filter f) (rows 1 ∷ []) (Private ∷ [])))
 types_of (duplicate n) is = flat_in is (λ t. gives (is_sized t && nat_le 1 n) (replicate n (Flat t)) [])
 types_of (deal ws) is = flat_in is (λ t. gives (is_sized t && are_weights ws) (replicate (length ws) (Flat t)) (Private ∷ []))
@@ -140,7 +142,8 @@ types_of (packed k) is = flat_in is (λ t. packed_of (types_of k (Flat t ∷ [])
 types_of (unpack n) is = packs_in n is (λ t. gives (is_sized t && nat_le 1 n) (Flat t ∷ []) (Private ∷ []))
 types_of (window w) is = flat_in is (λ t. stream_in t (λ n. gives (is_width n && is_window w) (relation n ∷ []) (Private ∷ [])))
 types_of (select e) is = flat_in is (λ t. gives (is_sized t && (is_bag t && is_term (width_of t) 0 e)) (Flat t ∷ []) [])
-types_of (project es) is = flat_in is (λ t. relation_in t (λ n. gives (is_width n && (is_width (length es) && list_all (is_term n 0) es)) (relation (length es) ∷ []) []))
+types_of (project es) is =
+    flat_in is (λ t. relation_in t (λ n. gives (is_width n && (is_width (length es) && list_all (is_term n 0) es)) (relation (length es) ∷ []) []))
 types_of cross is = bind (two_relations is) crossed
 types_of (streamer s) is = flat_in is (λ t. relation_in t (λ n. gives (is_width n) (stream n ∷ []) (Private ∷ [])))
 types_of tally is = flat_in is (λ t. rows_in t (λ n. gives (is_width n) [] (Table n ∷ [])))

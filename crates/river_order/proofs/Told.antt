@@ -27,11 +27,13 @@ verdict-told (Some order) h v e = end-told order h v e
 
 -- the end that is computed is one
 ended : (h : Held) (name : List ℕ) (limit : ℕ) (large : List ℕ) (next : List ℕ → Order) (given : Option (List ℕ)) → h name ≡ given
-    → ((bytes : List ℕ) → EndsIn (next bytes) (Some h) (end_of (next bytes) h)) → EndsIn (Fetch name limit large next) (Some h) (end_of (Fetch name limit large next) h)
+    → ((bytes : List ℕ) → EndsIn (next bytes) (Some h) (end_of (next bytes) h))
+    → EndsIn (Fetch name limit large next) (Some h) (end_of (Fetch name limit large next) h)
 ended h name limit large next None is later = (None, is, rw (is, end_of) refl)
 ended h name limit large next (Some bytes) is later = (Some bytes, is, rw (is, end_of) (within (nat_lt limit (length bytes))))
   where
-    within : (b : Bool) → MatchBool b (cond b (Refused large) (end_of (next bytes) h) ≡ Refused large) (EndsIn (next bytes) (Some h) (cond b (Refused large) (end_of (next bytes) h)))
+    within : (b : Bool)
+        → MatchBool b (cond b (Refused large) (end_of (next bytes) h) ≡ Refused large) (EndsIn (next bytes) (Some h) (cond b (Refused large) (end_of (next bytes) h)))
     within true = refl
     within false = later bytes
 
@@ -70,7 +72,8 @@ same_fetch : (h k : Held) (name : List ℕ) (limit : ℕ) (large : List ℕ) (ne
 same_fetch h k name limit large next None is also later = rw (is, also, end_of) refl
 same_fetch h k name limit large next (Some bytes) is also later = rw (is, also, end_of) (within (nat_lt limit (length bytes)) (later bytes is))
   where
-    within : (b : Bool) → (b ≡ false → end_of (next bytes) h ≡ end_of (next bytes) k) → cond b (Refused large) (end_of (next bytes) h) ≡ cond b (Refused large) (end_of (next bytes) k)
+    within : (b : Bool) → (b ≡ false → end_of (next bytes) h ≡ end_of (next bytes) k)
+        → cond b (Refused large) (end_of (next bytes) h) ≡ cond b (Refused large) (end_of (next bytes) k)
     within true later = refl
     within false later = later refl
 
@@ -79,6 +82,7 @@ end-same (Ends v) h k same = refl
 end-same (Fetch name limit large next) h k same =
     same_fetch h k name limit large next (h name) refl (sym (same name (inl refl))) (λ bytes is le. end-same (next bytes) h k (λ file turn. same file (inr (bytes, is, le, turn))))
 
-pub verdict-same : (points : Option Order) (h k : Held) → ((file : List ℕ) → IsTurn points (Some h) file → h file ≡ k file) → verdict points h ≡ verdict points k
+pub verdict-same : (points : Option Order) (h k : Held) → ((file : List ℕ) → IsTurn points (Some h) file → h file ≡ k file)
+    → verdict points h ≡ verdict points k
 verdict-same None h k same = refl
 verdict-same (Some order) h k same = end-same order h k same

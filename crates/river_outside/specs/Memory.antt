@@ -1,5 +1,6 @@
 -- Shelves and sinks in memory: which of their calls fail, and what the others give.
-use Rattle.std.specs.Prelude.{ℕ, ℤ, pos, ◌+◌, ◌-◌, ◌^◌, min, List, [], ◌∷◌, ◌++◌, take, length, Bool, true, ◌&&◌, ◌||◌, not, nat_eq, nat_lt, None, Some, Result, Ok, Err, if◌then◌else◌}
+use Rattle.std.specs.Prelude.{ℕ, ℤ, pos, ◌+◌, ◌-◌, ◌^◌, min, List, [], ◌∷◌, ◌++◌, take, length, Bool, true, ◌&&◌, ◌||◌, not, nat_eq, nat_lt, None, Some, Result}
+use Rattle.std.specs.Prelude.{Ok, Err, if◌then◌else◌}
 use Rattle.std.specs.List.{list_any}
 use Rattle.std.specs.Ordering.{int_eq}
 use Rattle.std.specs.Str.{bytes_eq}

@@ -2,7 +2,8 @@
 use Rattle.std.proofs.lemmas.Bool.Decides.{nat_tests}
 use borrow.Author.Tests.{ltb-true}
 use Rattle.std.proofs.lemmas.List.{take_more}
-use Rattle.std.proofs.Common.{zero, suc, IsTrue, not, length, take, get_or, ◌≡◌, ℕ, ◌+◌, ◌<◌, ◌⊎◌, inl, inr, Bool, true, false, List, [], ◌∷◌, ◌++◌, refl, sym, ap, ◌∙◌, subst, arith, ⊎_elim}
+use Rattle.std.proofs.Common.{zero, suc, IsTrue, not, length, take, get_or, ◌≡◌, ℕ, ◌+◌, ◌<◌, ◌⊎◌, inl, inr, Bool, true, false, List, [], ◌∷◌, ◌++◌, refl, sym}
+use Rattle.std.proofs.Common.{ap, ◌∙◌, subst, arith, ⊎_elim}
 use Rattle.std.specs.Prelude.{if◌then◌else◌, nat_lt}
 use Rattle.std.specs.List.{list_any}
 use Rattle.std.proofs.lemmas.Bool.{cases_eq}
@@ -59,12 +60,14 @@ any-count k (w ∷ ws) = ⊎_elim
     (λ c. let e = ap one_if (name_sym w k ∙ c.1) in let f = any-count k ws in grind (arith, e, f, c.1))
     (cases_name k w)
 
-pub member-count : (k : Name) (ws keys : List Name) (r : Bool) → keys ≡ ws → r ≡ list_any (name_eq k) keys → (IsTrue r → 0 < count k ws) × (0 < count k ws → IsTrue r)
+pub member-count : (k : Name) (ws keys : List Name) (r : Bool) → keys ≡ ws → r ≡ list_any (name_eq k) keys
+    → (IsTrue r → 0 < count k ws) × (0 < count k ws → IsTrue r)
 member-count k ws keys r v h =
     let e : r ≡ nat_lt 0 (count k ws) = h ∙ ap (λ l. list_any (name_eq k) l) v ∙ any-count k ws in
     rw e (grind (arith, nat_tests))
 
-pub fresh-count : (k : Name) (ws keys : List Name) (r : Bool) → keys ≡ ws → r ≡ not (list_any (name_eq k) keys) → (IsTrue r → count k ws ≡ 0) × (count k ws ≡ 0 → IsTrue r)
+pub fresh-count : (k : Name) (ws keys : List Name) (r : Bool) → keys ≡ ws → r ≡ not (list_any (name_eq k) keys)
+    → (IsTrue r → count k ws ≡ 0) × (count k ws ≡ 0 → IsTrue r)
 fresh-count k ws keys r v h =
     let e : r ≡ not (nat_lt 0 (count k ws)) = h ∙ ap (λ l. not (list_any (name_eq k) l)) v ∙ ap not (any-count k ws) in
     rw e (grind (arith, nat_tests))
@@ -91,6 +94,7 @@ with_name-new ws w z = by (nat_lt 0 (count w ws)) refl
     by false t = refl
 
 -- a loop that adds names of which none stood before: its step
-pub new-next : (xs : List Name) (i : ℕ) (x : Name) (set set' : List Name) → i < length xs → x ≡ get_or xs i x → count x set ≡ 0 → set' ≡ with_name set x → set ≡ take i xs → set' ≡ take (i + 1) xs
+pub new-next : (xs : List Name) (i : ℕ) (x : Name) (set set' : List Name) → i < length xs → x ≡ get_or xs i x → count x set ≡ 0 → set' ≡ with_name set x
+    → set ≡ take i xs → set' ≡ take (i + 1) xs
 new-next xs i x set set' lt e z n h =
     n ∙ with_name-new set x z ∙ ap (λ l. l ++ x ∷ []) h ∙ ap (λ y. take i xs ++ y ∷ []) e ∙ sym (take_more xs i x lt)

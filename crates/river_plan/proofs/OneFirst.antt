@@ -49,7 +49,8 @@ as_first-one : {A B : Type 0} (f : A → B) (good : List A → A → Type 0) (xs
 as_first-one f good xs = as-one f (IsFirst good xs) (first-one good xs)
 
 repeated-one : (p : PlanForm) → IsOne (Repeated p)
-repeated-one p = or_else-one _ _ (as_first-one Queue _ (queue_names p)) (or_else-one _ _ (as_first-one Variable _ (variable_names p)) (as_first-one Label _ (labels p.ops)))
+repeated-one p =
+    or_else-one _ _ (as_first-one Queue _ (queue_names p)) (or_else-one _ _ (as_first-one Variable _ (variable_names p)) (as_first-one Label _ (labels p.ops)))
 
 undeclared-one : (p : PlanForm) → IsOne (Undeclared p)
 undeclared-one p = along-one (λ b op. UndeclaredAt (queue_names p) (variable_names p) op)
@@ -59,10 +60,12 @@ early-one : (p : PlanForm) → IsOne (ReadTooEarly p)
 early-one p = along-one (ReadTooEarlyAt (decl_names p.inputs)) (λ b op. as_first-one Queue (λ c r. IsWritten (decl_names p.inputs) b r) op.reads) [] p.ops
 
 mistyped-one : (p : PlanForm) → IsOne (Mistyped p)
-mistyped-one p = or_else-one _ _ (as_first-one _ _ p.outputs) (or_else-one _ _ (as_first-one _ _ p.inputs) (or_else-one _ _ (as_first-one _ _ p.queues) (as_first-one _ _ p.tables)))
+mistyped-one p =
+    or_else-one _ _ (as_first-one _ _ p.outputs) (or_else-one _ _ (as_first-one _ _ p.inputs) (or_else-one _ _ (as_first-one _ _ p.queues) (as_first-one _ _ p.tables)))
 
 over-one : (p : PlanForm) → IsOne (OverLimit p)
-over-one p = along-one (λ b limit. OverLimitAt p limit) (λ b limit. as_first-one (λ n. P8 limit (told n)) (λ c n. n ≤ most_of limit) (numbers limit p)) [] limits
+over-one p =
+    along-one (λ b limit. OverLimitAt p limit) (λ b limit. as_first-one (λ n. P8 limit (told n)) (λ c n. n ≤ most_of limit) (numbers limit p)) [] limits
 
 pub fault-one : (p : PlanForm) (o q : Option PlanFault) → FirstFault p o → FirstFault p q → o ≡ q
 fault-one p =

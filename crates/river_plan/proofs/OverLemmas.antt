@@ -1,5 +1,6 @@
 -- The first number above a limit, one element at a time.
-use Rattle.std.proofs.Common.{◌≡◌, ℕ, ◌+◌, ◌<◌, ◌≤◌, Bool, true, false, List, [], ◌∷◌, ◌++◌, Option, Some, None, length, drop, get_or, inl, inr, refl, sym, ap, ◌∙◌, arith, nat_lt}
+use Rattle.std.proofs.Common.{◌≡◌, ℕ, ◌+◌, ◌<◌, ◌≤◌, Bool, true, false, List, [], ◌∷◌, ◌++◌, Option, Some, None, length, drop, get_or, inl, inr, refl, sym, ap}
+use Rattle.std.proofs.Common.{◌∙◌, arith, nat_lt}
 use Rattle.std.specs.Prelude.{if◌then◌else◌}
 use Rattle.std.specs.Option.{option_map}
 use Rattle.std.proofs.lemmas.List.{drop_more, drop_all}
@@ -10,20 +11,26 @@ use Rattle.river_plan.specs.First.{As, IsFirst, Along, Unless}
 
 -- the numbers of a list of elements, of which each has its own
 module _ {C : Type 0} (most : ℕ) (F : List C → List ℕ) (g : C → List ℕ) (cons : (x : C) (xs : List C) → F (x ∷ xs) ≡ g x ++ F xs) where
-  step : (xs : List C) (i : ℕ) (x : C) → i < length xs → x ≡ get_or xs i x → first_above most (F (drop i xs)) ≡ either (first_above most (g x)) (first_above most (F (drop (i + 1) xs)))
-  step xs i x lt e = ap (λ l. first_above most (F l)) (drop_more xs i x lt ∙ ap (λ y. y ∷ drop (i + 1) xs) (sym e)) ∙ ap (first_above most) (cons x (drop (i + 1) xs)) ∙ first_above-append most (g x) (F (drop (i + 1) xs))
+  step : (xs : List C) (i : ℕ) (x : C) → i < length xs → x ≡ get_or xs i x
+      → first_above most (F (drop i xs)) ≡ either (first_above most (g x)) (first_above most (F (drop (i + 1) xs)))
+  step xs i x lt e =
+      ap (λ l. first_above most (F l)) (drop_more xs i x lt ∙ ap (λ y. y ∷ drop (i + 1) xs) (sym e)) ∙ ap (first_above most) (cons x (drop (i + 1) xs))
+      ∙ first_above-append most (g x) (F (drop (i + 1) xs))
 
-  pub over-next : (xs : List C) (i : ℕ) (x : C) → i < length xs → x ≡ get_or xs i x → None ≡ first_above most (g x) → first_above most (F (drop i xs)) ≡ first_above most (F xs) → first_above most (F (drop (i + 1) xs)) ≡ first_above most (F xs)
+  pub over-next : (xs : List C) (i : ℕ) (x : C) → i < length xs → x ≡ get_or xs i x → None ≡ first_above most (g x)
+      → first_above most (F (drop i xs)) ≡ first_above most (F xs) → first_above most (F (drop (i + 1) xs)) ≡ first_above most (F xs)
   over-next xs i x lt e n h = ap (λ o. either o (first_above most (F (drop (i + 1) xs)))) n ∙ sym (step xs i x lt e) ∙ h
 
-  pub over-found : (xs : List C) (i : ℕ) (x : C) (n : ℕ) → i < length xs → x ≡ get_or xs i x → Some n ≡ first_above most (g x) → first_above most (F (drop i xs)) ≡ first_above most (F xs) → Some n ≡ first_above most (F xs)
+  pub over-found : (xs : List C) (i : ℕ) (x : C) (n : ℕ) → i < length xs → x ≡ get_or xs i x → Some n ≡ first_above most (g x)
+      → first_above most (F (drop i xs)) ≡ first_above most (F xs) → Some n ≡ first_above most (F xs)
   over-found xs i x n lt e f h = ap (λ o. either o (first_above most (F (drop (i + 1) xs)))) f ∙ sym (step xs i x lt e) ∙ h
 
   pub over-end : (xs : List C) (i : ℕ) → length xs ≤ i → F [] ≡ [] → first_above most (F (drop i xs)) ≡ first_above most (F xs) → None ≡ first_above most (F xs)
   over-end xs i le z h = sym (ap (first_above most) z) ∙ sym (ap (λ l. first_above most (F l)) (drop_all i xs le)) ∙ h
 
 -- the first number above is the first that is not at most
-along_above : {B : Type 0} (most : ℕ) (f : ℕ → B) (before xs : List ℕ) (o : Option ℕ) → o ≡ first_above most xs → As (λ n. f (told n)) (Along (λ b n. Unless (n ≤ most) n) before xs) (option_map f o)
+along_above : {B : Type 0} (most : ℕ) (f : ℕ → B) (before xs : List ℕ) (o : Option ℕ) → o ≡ first_above most xs
+    → As (λ n. f (told n)) (Along (λ b n. Unless (n ≤ most) n) before xs) (option_map f o)
 along_above most f before [] None e = tt
 along_above most f before [] (Some n) e = absurd (cc e)
 along_above most f before (x ∷ xs) o e = by_case (nat_lt most x) refl o e (along_above most f (before ++ x ∷ []) xs)
@@ -42,5 +49,6 @@ along_above most f before (x ∷ xs) o e = by_case (nat_lt most x) refl o e (alo
         below_case None q = (ltb-false most x t, go None q)
         below_case (Some n) q = let r = go (Some n) q in (r.0, r.1, inr (ltb-false most x t, r.2))
 
-pub first-above : {B : Type 0} (most : ℕ) (f : ℕ → B) (xs : List ℕ) (o : Option ℕ) → o ≡ first_above most xs → As (λ n. f (told n)) (IsFirst (λ before n. n ≤ most) xs) (option_map f o)
+pub first-above : {B : Type 0} (most : ℕ) (f : ℕ → B) (xs : List ℕ) (o : Option ℕ) → o ≡ first_above most xs
+    → As (λ n. f (told n)) (IsFirst (λ before n. n ≤ most) xs) (option_map f o)
 first-above most f xs o e = along_above most f [] xs o e

@@ -1,5 +1,6 @@
 -- Where names stand in a list of names.
-use Rattle.std.proofs.Common.{◌≡◌, ℕ, suc, ◌+◌, ◌<◌, ◌≤◌, Bool, true, false, Option, Some, None, List, [], ◌∷◌, ◌++◌, length, cond, nat_lt, refl, sym, ap, ◌∙◌, arith, ⊎_elim}
+use Rattle.std.proofs.Common.{◌≡◌, ℕ, suc, ◌+◌, ◌<◌, ◌≤◌, Bool, true, false, Option, Some, None, List, [], ◌∷◌, ◌++◌, length, cond, nat_lt, refl, sym, ap, ◌∙◌}
+use Rattle.std.proofs.Common.{arith, ⊎_elim}
 use Rattle.std.specs.Prelude.{if◌then◌else◌, slice_get, unwrap_or, position}
 use Rattle.std.specs.List.{position_or_len}
 use Rattle.std.proofs.lemmas.List.Recursion.{is_position_or_len}
@@ -18,7 +19,8 @@ place-step false n = omega arith
 
 -- the place is what std calls the first position, or the length
 pub place-position : (names : List Name) (q : Name) → place names q ≡ position_or_len (name_eq q) names
-place-position names q = is_position_or_len (λ ws. place ws q) (name_eq q) refl (λ w ws. ap (λ b. if b then 0 else suc (place ws q)) (name_sym w q) ∙ place-step (name_eq q w) (place ws q)) names
+place-position names q =
+    is_position_or_len (λ ws. place ws q) (name_eq q) refl (λ w ws. ap (λ b. if b then 0 else suc (place ws q)) (name_sym w q) ∙ place-step (name_eq q w) (place ws q)) names
 
 place-most : (names : List Name) (q : Name) → place names q ≤ length names
 place-most [] q = omega arith
@@ -39,7 +41,9 @@ place-found names keys q o n k e l =
     pick false m t le = grind (arith, t, le)
 
     here : unwrap_or (position (name_eq q) names) (length names) ≡ place names q
-    here = ap (λ m. unwrap_or (cond (nat_lt m (length names)) (Some m) None) (length names)) (sym (place-position names q)) ∙ pick (nat_lt (place names q) (length names)) (place names q) refl (place-most names q)
+    here =
+        ap (λ m. unwrap_or (cond (nat_lt m (length names)) (Some m) None) (length names)) (sym (place-position names q))
+        ∙ pick (nat_lt (place names q) (length names)) (place names q) refl (place-most names q)
 
 -- NAMES THAT STAND THERE
 

@@ -1,5 +1,6 @@
 -- Searches along a list, one element at a time.
-use Rattle.std.proofs.Common.{◌≡◌, ℕ, ◌+◌, ◌<◌, ◌≤◌, List, [], ◌∷◌, ◌++◌, Option, Some, None, length, take, drop, get_or, map, refl, sym, ap, subst, inl, inr, ◌∙◌, arith}
+use Rattle.std.proofs.Common.{◌≡◌, ℕ, ◌+◌, ◌<◌, ◌≤◌, List, [], ◌∷◌, ◌++◌, Option, Some, None, length, take, drop, get_or, map, refl, sym, ap, subst, inl, inr}
+use Rattle.std.proofs.Common.{◌∙◌, arith}
 use Rattle.std.proofs.lemmas.List.{take_more, drop_more, drop_all, map-append, length-take-le, get_or_default}
 use Rattle.river_plan.specs.First.{OrElse, Unless, Along, IsFirst}
 
@@ -11,7 +12,8 @@ pub remains-start : {A B : Type 0} (s : List A → A → Option B → Type 0) (x
 remains-start s xs = record { rest = λ o h. h }
 
 -- the search found nothing at this place
-pub remains-next : {A B : Type 0} (s : List A → A → Option B → Type 0) (xs : List A) (i : ℕ) (x : A) → i < length xs → x ≡ get_or xs i x → s (take i xs) x None → Remains s xs i → Remains s xs (i + 1)
+pub remains-next : {A B : Type 0} (s : List A → A → Option B → Type 0) (xs : List A) (i : ℕ) (x : A) → i < length xs → x ≡ get_or xs i x → s (take i xs) x None
+    → Remains s xs i → Remains s xs (i + 1)
 remains-next {B = B} s xs i x lt e n r = record {
   rest = λ o h. r.rest o (subst (λ l. Along s (take i xs) l o) (sym (drop_more xs i x lt ∙ ap (λ y. y ∷ drop (i + 1) xs) (sym e)))
       (skipped o (subst (λ l. Along s l (drop (i + 1) xs) o) (take_more xs i x lt ∙ ap (λ y. take i xs ++ y ∷ []) (sym e)) h)));
@@ -22,7 +24,8 @@ remains-next {B = B} s xs i x lt e n r = record {
     skipped (Some b) h = inr (n, h)
 
 -- the search found this at this place
-pub remains-found : {A B : Type 0} (s : List A → A → Option B → Type 0) (xs : List A) (i : ℕ) (x : A) (b : B) → i < length xs → x ≡ get_or xs i x → s (take i xs) x (Some b) → Remains s xs i → Along s [] xs (Some b)
+pub remains-found : {A B : Type 0} (s : List A → A → Option B → Type 0) (xs : List A) (i : ℕ) (x : A) (b : B) → i < length xs → x ≡ get_or xs i x
+    → s (take i xs) x (Some b) → Remains s xs i → Along s [] xs (Some b)
 remains-found s xs i x b lt e f r =
     r.rest (Some b) (subst (λ l. Along s (take i xs) l (Some b)) (sym (drop_more xs i x lt ∙ ap (λ y. y ∷ drop (i + 1) xs) (sym e))) (inl f))
 
@@ -31,11 +34,13 @@ pub remains-end : {A B : Type 0} (s : List A → A → Option B → Type 0) (xs 
 remains-end s xs i le r = r.rest None (subst (λ l. Along s (take i xs) l None) (sym (drop_all i xs le)) tt)
 
 -- the same where what is sought is said of places: what holds at this place is not found, and what does not is
-pub remains_at-next : {A : Type 0} (P : ℕ → Type 0) (xs : List A) (i : ℕ) (x : A) → i < length xs → P i → Remains (λ before y. Unless (P (length before)) y) xs i → Remains (λ before y. Unless (P (length before)) y) xs (i + 1)
+pub remains_at-next : {A : Type 0} (P : ℕ → Type 0) (xs : List A) (i : ℕ) (x : A) → i < length xs → P i
+    → Remains (λ before y. Unless (P (length before)) y) xs i → Remains (λ before y. Unless (P (length before)) y) xs (i + 1)
 remains_at-next P xs i x lt p r =
     remains-next (λ before y. Unless (P (length before)) y) xs i (get_or xs i x) lt (get_or_default xs i x (get_or xs i x) lt) (subst P (sym (length-take-le i xs (omega (arith, lt)))) p) r
 
-pub remains_at-found : {A : Type 0} (P : ℕ → Type 0) (xs : List A) (i : ℕ) (x : A) → i < length xs → x ≡ get_or xs i x → (P i → ⊥) → Remains (λ before y. Unless (P (length before)) y) xs i → IsFirst (λ before y. P (length before)) xs (Some x)
+pub remains_at-found : {A : Type 0} (P : ℕ → Type 0) (xs : List A) (i : ℕ) (x : A) → i < length xs → x ≡ get_or xs i x → (P i → ⊥)
+    → Remains (λ before y. Unless (P (length before)) y) xs i → IsFirst (λ before y. P (length before)) xs (Some x)
 remains_at-found P xs i x lt e n r =
     remains-found (λ before y. Unless (P (length before)) y) xs i x x lt e ((λ p. n (subst P (length-take-le i xs (omega (arith, lt))) p)), refl) r
 
@@ -49,22 +54,27 @@ remains_by-start f s xs = record { rest = λ o h. h }
 mapped_drop : {A C : Type 0} (f : C → A) (xs : List C) (i : ℕ) (x : C) → i < length xs → x ≡ get_or xs i x → map f (drop i xs) ≡ f x ∷ map f (drop (i + 1) xs)
 mapped_drop f xs i x lt e = ap (map f) (drop_more xs i x lt ∙ ap (λ y. y ∷ drop (i + 1) xs) (sym e))
 
-mapped_take : {A C : Type 0} (f : C → A) (xs : List C) (i : ℕ) (x : C) → i < length xs → x ≡ get_or xs i x → map f (take (i + 1) xs) ≡ map f (take i xs) ++ f x ∷ []
+mapped_take : {A C : Type 0} (f : C → A) (xs : List C) (i : ℕ) (x : C) → i < length xs → x ≡ get_or xs i x
+    → map f (take (i + 1) xs) ≡ map f (take i xs) ++ f x ∷ []
 mapped_take f xs i x lt e = ap (map f) (take_more xs i x lt ∙ ap (λ y. take i xs ++ y ∷ []) (sym e)) ∙ map-append f (take i xs) (x ∷ [])
 
-pub remains_by-next : {A B C : Type 0} (f : C → A) (s : List A → A → Option B → Type 0) (xs : List C) (i : ℕ) (x : C) → i < length xs → x ≡ get_or xs i x → s (map f (take i xs)) (f x) None → RemainsBy f s xs i → RemainsBy f s xs (i + 1)
+pub remains_by-next : {A B C : Type 0} (f : C → A) (s : List A → A → Option B → Type 0) (xs : List C) (i : ℕ) (x : C) → i < length xs → x ≡ get_or xs i x
+    → s (map f (take i xs)) (f x) None → RemainsBy f s xs i → RemainsBy f s xs (i + 1)
 remains_by-next {B = B} f s xs i x lt e n r = record {
   rest = λ o h. r.rest o (subst (λ l. Along s (map f (take i xs)) l o) (sym (mapped_drop f xs i x lt e))
       (skipped o (subst (λ l. Along s l (map f (drop (i + 1) xs)) o) (mapped_take f xs i x lt e) h)));
 }
   where
-    skipped : (o : Option B) → Along s (map f (take i xs) ++ f x ∷ []) (map f (drop (i + 1) xs)) o → OrElse (s (map f (take i xs)) (f x)) (Along s (map f (take i xs) ++ f x ∷ []) (map f (drop (i + 1) xs))) o
+    skipped : (o : Option B) → Along s (map f (take i xs) ++ f x ∷ []) (map f (drop (i + 1) xs)) o
+        → OrElse (s (map f (take i xs)) (f x)) (Along s (map f (take i xs) ++ f x ∷ []) (map f (drop (i + 1) xs))) o
     skipped None h = (n, h)
     skipped (Some b) h = inr (n, h)
 
-pub remains_by-found : {A B C : Type 0} (f : C → A) (s : List A → A → Option B → Type 0) (xs : List C) (i : ℕ) (x : C) (b : B) → i < length xs → x ≡ get_or xs i x → s (map f (take i xs)) (f x) (Some b) → RemainsBy f s xs i → Along s [] (map f xs) (Some b)
+pub remains_by-found : {A B C : Type 0} (f : C → A) (s : List A → A → Option B → Type 0) (xs : List C) (i : ℕ) (x : C) (b : B) → i < length xs
+    → x ≡ get_or xs i x → s (map f (take i xs)) (f x) (Some b) → RemainsBy f s xs i → Along s [] (map f xs) (Some b)
 remains_by-found f s xs i x b lt e g r =
     r.rest (Some b) (subst (λ l. Along s (map f (take i xs)) l (Some b)) (sym (mapped_drop f xs i x lt e)) (inl g))
 
-pub remains_by-end : {A B C : Type 0} (f : C → A) (s : List A → A → Option B → Type 0) (xs : List C) (i : ℕ) → length xs ≤ i → RemainsBy f s xs i → Along s [] (map f xs) None
+pub remains_by-end : {A B C : Type 0} (f : C → A) (s : List A → A → Option B → Type 0) (xs : List C) (i : ℕ) → length xs ≤ i → RemainsBy f s xs i
+    → Along s [] (map f xs) None
 remains_by-end f s xs i le r = r.rest None (subst (λ l. Along s (map f (take i xs)) l None) (sym (ap (map f) (drop_all i xs le))) tt)

@@ -1,5 +1,6 @@
 -- What the users of places say of names.
-use Rattle.std.proofs.Common.{◌≡◌, ℕ, zero, suc, ◌+◌, ◌<◌, ◌≤◌, List, [], ◌∷◌, ◌++◌, Option, Some, None, length, map, refl, sym, ap, ◌∙◌, subst, arith, append_assoc, length-append, ⊎_elim}
+use Rattle.std.proofs.Common.{◌≡◌, ℕ, zero, suc, ◌+◌, ◌<◌, ◌≤◌, List, [], ◌∷◌, ◌++◌, Option, Some, None, length, map, refl, sym, ap, ◌∙◌, subst, arith}
+use Rattle.std.proofs.Common.{append_assoc, length-append, ⊎_elim}
 use Rattle.std.specs.Prelude.{slice_get, slice_index}
 use Rattle.std.specs.List.{AllByRecursion}
 use Rattle.std.specs.List.Sorted.{IsStrictlyIncreasing}
@@ -18,7 +19,8 @@ use Rattle.river_plan.proofs.Searches.{or_else-cong, unless-cong}
 
 -- A SEARCH BY PLACES IS ONE BY ELEMENTS
 
-pub placed : {A : Type 0} (zs : List A) (P : ℕ → Type 0) (Q : A → Type 0) → ((before xs : List A) (x : A) → before ++ x ∷ xs ≡ zs → (P (length before) → Q x) × (Q x → P (length before)))
+pub placed : {A : Type 0} (zs : List A) (P : ℕ → Type 0) (Q : A → Type 0)
+    → ((before xs : List A) (x : A) → before ++ x ∷ xs ≡ zs → (P (length before) → Q x) × (Q x → P (length before)))
     → (before xs : List A) → before ++ xs ≡ zs → (o : Option A) → Along (λ b y. Unless (P (length b)) y) before xs o → Along (λ b y. Unless (Q y) y) before xs o
 placed zs P Q same before [] e None h = tt
 placed zs P Q same before [] e (Some q) h = h
@@ -30,7 +32,8 @@ placed zs P Q same before (x ∷ xs) e o h =
     o h
 
 -- a name that stands once stands at its place
-standing : (names : List Name) → ((q : Name) → count q names ≤ 1) → (before xs : List Name) (x : Name) → before ++ x ∷ xs ≡ names → (0 < count x names) × (place names x ≡ length before)
+standing : (names : List Name) → ((q : Name) → count q names ≤ 1) → (before xs : List Name) (x : Name) → before ++ x ∷ xs ≡ names
+    → (0 < count x names) × (place names x ≡ length before)
 standing names once before xs x e =
     let c = ap (count x) (sym e) ∙ count-append x before (x ∷ xs) in
     let o = once x in
@@ -77,7 +80,8 @@ module _ (names : List Name) (q : Name) (lt : 0 < count q names) where
       omega (arith, a, b, c)
 
   module _ (f : OpForm → List Name) where
-    pub users-count : (ops : List OpForm) (n : ℕ) → length (users_from n (map (λ op. places names (f op)) ops) (place names q)) ≡ total (λ op. count q (f op)) ops
+    pub users-count : (ops : List OpForm) (n : ℕ)
+        → length (users_from n (map (λ op. places names (f op)) ops) (place names q)) ≡ total (λ op. count q (f op)) ops
     users-count [] n = refl
     users-count (op ∷ ops) n =
         let a = length-append (as_often (places names (f op)) n (place names q)) (users_from (suc n) (map (λ o. places names (f o)) ops) (place names q)) in
@@ -115,10 +119,12 @@ users-least n (l ∷ ls) i = all-append (λ y. n ≤ y) (as_often l n i) (users_
 module _ (n : ℕ) (rest : List ℕ) where
   rising-parts : (xs : List ℕ) → AllByRecursion (λ y. y ≡ n) xs → IsStrictlyIncreasing (xs ++ rest) → (length xs ≤ 1) × IsStrictlyIncreasing rest
   rising-parts [] a h = (omega arith, h)
-  rising-parts (x ∷ []) a h = (omega arith, λ k lt. subst (λ m. slice_index rest k < slice_index (x ∷ rest) m) (let e : suc k + 1 ≡ suc (k + 1) = omega arith in e) (h (suc k) (omega (arith, lt))))
+  rising-parts (x ∷ []) a h =
+      (omega arith, λ k lt. subst (λ m. slice_index rest k < slice_index (x ∷ rest) m) (let e : suc k + 1 ≡ suc (k + 1) = omega arith in e) (h (suc k) (omega (arith, lt))))
   rising-parts (x ∷ y ∷ ys) a h = absurd (let lt = h 0 (omega arith) in omega (arith, lt, a.0, a.1.0))
 
-  parts-rising : (xs : List ℕ) → AllByRecursion (λ y. y ≡ n) xs → AllByRecursion (λ y. suc n ≤ y) rest → length xs ≤ 1 → IsStrictlyIncreasing rest → IsStrictlyIncreasing (xs ++ rest)
+  parts-rising : (xs : List ℕ) → AllByRecursion (λ y. y ≡ n) xs → AllByRecursion (λ y. suc n ≤ y) rest → length xs ≤ 1 → IsStrictlyIncreasing rest
+      → IsStrictlyIncreasing (xs ++ rest)
   parts-rising [] a b le h = h
   parts-rising (x ∷ []) a b le h = λ k. by k
     where
@@ -132,7 +138,8 @@ module _ (n : ℕ) (rest : List ℕ) where
   parts-rising (x ∷ y ∷ ys) a b le h = absurd (omega (arith, le))
 
 module _ (names : List Name) (v : Name) (lt : 0 < count v names) where
-  pub rising-each : (ops : List OpForm) (n : ℕ) → IsStrictlyIncreasing (users_from n (map (λ op. places names op.vars) ops) (place names v)) → Each (λ op. vars_it v op ≤ 1) ops
+  pub rising-each : (ops : List OpForm) (n : ℕ) → IsStrictlyIncreasing (users_from n (map (λ op. places names op.vars) ops) (place names v))
+      → Each (λ op. vars_it v op ≤ 1) ops
   rising-each [] n h = tt
   rising-each (op ∷ ops) n h =
       let us = as_often (places names op.vars) n (place names v) in
@@ -141,7 +148,8 @@ module _ (names : List Name) (v : Name) (lt : 0 < count v names) where
       let le = p.0 in
       (omega (arith, c, le), rising-each ops (suc n) p.1)
 
-  pub each-rising : (ops : List OpForm) (n : ℕ) → Each (λ op. vars_it v op ≤ 1) ops → IsStrictlyIncreasing (users_from n (map (λ op. places names op.vars) ops) (place names v))
+  pub each-rising : (ops : List OpForm) (n : ℕ) → Each (λ op. vars_it v op ≤ 1) ops
+      → IsStrictlyIncreasing (users_from n (map (λ op. places names op.vars) ops) (place names v))
   each-rising [] n h = λ k l. absurd (omega (arith, l))
   each-rising (op ∷ ops) n h =
       let us = as_often (places names op.vars) n (place names v) in
@@ -158,7 +166,8 @@ module _ (names : List Name) (q : Name) (lt : 0 < count q names) (f : OpForm →
   uses_from n ops = users_from n (map (λ op. places names (f op)) ops) (place names q)
 
   -- the users of one operator, each of number n, before those of the others
-  used-before : (n m t : ℕ) (rest us : List ℕ) → AllByRecursion (λ y. y ≡ n) us → n < m → (0 < t → IsBefore m rest) → 0 < length us + t → IsBefore m (us ++ rest)
+  used-before : (n m t : ℕ) (rest us : List ℕ) → AllByRecursion (λ y. y ≡ n) us → n < m → (0 < t → IsBefore m rest) → 0 < length us + t
+      → IsBefore m (us ++ rest)
   used-before n m t rest [] a l h u = h (omega (arith, u))
   used-before n m t rest (x ∷ us) a l h u = omega (arith, a.0, l)
 
@@ -170,14 +179,16 @@ module _ (names : List Name) (q : Name) (lt : 0 < count q names) (f : OpForm →
   none-before m [] a b = b
   none-before m (x ∷ us) a b = omega (arith, a.0, b)
 
-  pub written-before : (before : List OpForm) (n m : ℕ) → m ≡ n + length before → 0 < total (λ op. count q (f op)) before → IsBefore m (uses_from n (before ++ after))
+  pub written-before : (before : List OpForm) (n m : ℕ) → m ≡ n + length before → 0 < total (λ op. count q (f op)) before
+      → IsBefore m (uses_from n (before ++ after))
   written-before [] n m e u = absurd (omega (arith, u))
   written-before (op ∷ ops) n m e u =
       let c = often-count names q lt (f op) n in
       used-before n m (total (λ o. count q (f o)) ops) (uses_from (suc n) (ops ++ after)) (as_often (places names (f op)) n (place names q)) (often-one (places names (f op)) n (place names q))
       (omega (arith, e)) (written-before ops (suc n) m (omega (arith, e))) (omega (arith, c, u))
 
-  pub before-written : (before : List OpForm) (n m : ℕ) → m ≡ n + length before → IsBefore m (uses_from n (before ++ after)) → 0 < total (λ op. count q (f op)) before
+  pub before-written : (before : List OpForm) (n m : ℕ) → m ≡ n + length before → IsBefore m (uses_from n (before ++ after))
+      → 0 < total (λ op. count q (f op)) before
   before-written [] n m e b = absurd (none-before m (uses_from n after)
       (all-weaker (λ y. n ≤ y) (λ y. m ≤ y) (λ y h. omega (arith, e, h)) (uses_from n after) (users-least n (map (λ op. places names (f op)) after) (place names q))) b)
   before-written (op ∷ ops) n m e b =
@@ -189,7 +200,8 @@ module _ (names : List Name) (q : Name) (lt : 0 < count q names) (f : OpForm →
 
 module _ (us bs cs : List Name) (q : Name) where
   -- a name of the middle list has a place there
-  pub middle_place : count q (us ++ (bs ++ cs)) ≤ 1 → 0 < count q bs → (length us ≤ place (us ++ (bs ++ cs)) q) × (place (us ++ (bs ++ cs)) q < length us + length bs)
+  pub middle_place : count q (us ++ (bs ++ cs)) ≤ 1 → 0 < count q bs
+      → (length us ≤ place (us ++ (bs ++ cs)) q) × (place (us ++ (bs ++ cs)) q < length us + length bs)
   middle_place o lt =
       let a = count-append q us (bs ++ cs) in
       let b = count-append q bs cs in
@@ -199,7 +211,8 @@ module _ (us bs cs : List Name) (q : Name) where
       (omega (arith, p), omega (arith, p, r, s))
 
   -- a name whose place is there is one of them
-  pub place_middle : 0 < count q (us ++ (bs ++ cs)) → length us ≤ place (us ++ (bs ++ cs)) q → place (us ++ (bs ++ cs)) q < length us + length bs → 0 < count q bs
+  pub place_middle : 0 < count q (us ++ (bs ++ cs)) → length us ≤ place (us ++ (bs ++ cs)) q → place (us ++ (bs ++ cs)) q < length us + length bs
+      → 0 < count q bs
   place_middle l le lt = ⊎_elim
       (λ i. absurd (let f = place_front us (bs ++ cs) q i in let s = place_below us q i in omega (arith, f, s, le)))
       (λ z. ⊎_elim

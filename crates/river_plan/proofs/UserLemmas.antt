@@ -1,5 +1,6 @@
 -- The lists in which places stand, one list and one place at a time.
-use Rattle.std.proofs.Common.{◌≡◌, ℕ, suc, ◌+◌, ◌<◌, ◌≤◌, List, [], ◌∷◌, ◌++◌, length, take, get_or, replicate, sym, ap, ◌∙◌, subst, arith, append_assoc, append-nil}
+use Rattle.std.proofs.Common.{◌≡◌, ℕ, suc, ◌+◌, ◌<◌, ◌≤◌, List, [], ◌∷◌, ◌++◌, length, take, get_or, replicate, sym, ap, ◌∙◌, subst, arith, append_assoc}
+use Rattle.std.proofs.Common.{append-nil}
 use Rattle.std.proofs.lemmas.List.{take_more, length-take-le, length-replicate}
 use Rattle.river_base.specs.Places.{only, none, each_grew}
 use Rattle.river_base.proofs.PlaceLemmas.{each_grew_cong, each_grew-none, each_grew-each_grew, each_grew-blanks, length-each_grew, only_other}
@@ -13,7 +14,8 @@ nothing-beyond ls p xs le = each_grew_cong ls (only p xs) none (λ q lt. only_ot
 
 often-more : (xs : List ℕ) (x n i : ℕ) → as_often (xs ++ x ∷ []) n i ≡ as_often xs n i ++ only x (n ∷ []) i
 often-more [] x n i = append-nil (only x (n ∷ []) i)
-often-more (y ∷ ys) x n i = ap (λ l. only y (n ∷ []) i ++ l) (often-more ys x n i) ∙ sym (append_assoc (only y (n ∷ []) i) (as_often ys n i) (only x (n ∷ []) i))
+often-more (y ∷ ys) x n i =
+    ap (λ l. only y (n ∷ []) i ++ l) (often-more ys x n i) ∙ sym (append_assoc (only y (n ∷ []) i) (as_often ys n i) (only x (n ∷ []) i))
 
 users-more : (n : ℕ) (ls : List (List ℕ)) (l : List ℕ) (i : ℕ) → users_from n (ls ++ l ∷ []) i ≡ users_from n ls i ++ as_often l (n + length ls) i
 users-more n [] l i = append-nil (as_often l n i) ∙ ap (λ k. as_often l k i) (let z : n ≡ n + 0 = omega arith in z)
@@ -47,7 +49,9 @@ users-next m k now new ls l lt e h a =
 
 -- there is a list for each place
 pub users-length : {A : Type 0} (ls all : List (List ℕ)) (xs ys : List A) → xs ≡ ys → all ≡ users (length ys) ls → length xs ≤ length all
-users-length ls all xs ys e h = let a = ap length h ∙ length-each_grew (replicate (length ys) []) (users_from 0 ls) ∙ length-replicate (length ys) [] in let b = ap length e in omega (arith, a, b)
+users-length ls all xs ys e h =
+    let a = ap length h ∙ length-each_grew (replicate (length ys) []) (users_from 0 ls) ∙ length-replicate (length ys) [] in let b = ap length e in
+    omega (arith, a, b)
 
 -- the list of a place that is there
 pub users-below : (m i : ℕ) (ls all : List (List ℕ)) → all ≡ users m ls → i < m → i < length all

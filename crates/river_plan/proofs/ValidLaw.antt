@@ -3,7 +3,8 @@ use Rattle.std.proofs.Common.{◌≡◌, ℕ, ◌+◌, ◌<◌, ◌≤◌, List,
 use Rattle.std.specs.Prelude.{All}
 use Rattle.std.proofs.lemmas.List.Elements.{All-head, All-tail, All-cons}
 use Rattle.river_kernels.specs.declared.limit.Limit.{Limit}
-use Rattle.river_kernels.specs.declared.limit.Limit.TheVariants.{Inputs, Operators, Queues, Variables, Ports, Statements, Slots, Rates, Weights, Nesting, Latest, Best}
+use Rattle.river_kernels.specs.declared.limit.Limit.TheVariants.{Inputs, Operators, Queues, Variables, Ports, Statements, Slots, Rates, Weights, Nesting}
+use Rattle.river_kernels.specs.declared.limit.Limit.TheVariants.{Latest, Best}
 use Rattle.river_plan.specs.Forms.{Name, OpForm, PlanForm, decl_names, queue_names, variable_names, table_names, labels}
 use Rattle.river_plan.specs.Names.{one_if, count, IsUsedOnce}
 use Rattle.river_plan.specs.Uses.{Each, total, writes_it, reads_it, vars_it, named_it, ReadsBefore}
@@ -17,7 +18,8 @@ use Rattle.river_plan.proofs.NameLemmas.{cases_name, count-append, one_same, nat
 -- NAMES THAT STAND ONCE
 
 -- no name of the list stood before it: then each stands once
-new-once : (before xs : List Name) → ((q : Name) → count q before ≤ 1) → Along (λ b y. Unless (IsNew b y) y) before xs None → (q : Name) → count q before + count q xs ≤ 1
+new-once : (before xs : List Name) → ((q : Name) → count q before ≤ 1) → Along (λ b y. Unless (IsNew b y) y) before xs None → (q : Name)
+    → count q before + count q xs ≤ 1
 new-once before [] o h q = let a = o q in omega (arith, a)
 new-once before (x ∷ xs) o h q =
     let i = new-once (before ++ x ∷ []) xs (λ r. let a = count-append r before (x ∷ []) in let b = o r in ⊎_elim
@@ -82,7 +84,8 @@ names-along P before (x ∷ xs) h = (
 -- WHAT IS DECLARED
 
 pub declared-all : (queues variables : List Name) (before ops : List OpForm) → Along (λ b op. UndeclaredAt queues variables op) before ops None
-    → ((q : Name) → 0 < total (reads_it q) ops → 0 < count q queues) × ((q : Name) → 0 < total (writes_it q) ops → 0 < count q queues) × ((v : Name) → 0 < total (vars_it v) ops → 0 < count v variables)
+    → ((q : Name) → 0 < total (reads_it q) ops → 0 < count q queues) × ((q : Name) → 0 < total (writes_it q) ops → 0 < count q queues)
+    × ((v : Name) → 0 < total (vars_it v) ops → 0 < count v variables)
 declared-all queues variables before [] h = ((λ q lt. absurd (omega (arith, lt))), (λ q lt. absurd (omega (arith, lt))), (λ v lt. absurd (omega (arith, lt))))
 declared-all queues variables before (op ∷ ops) h =
     let i = declared-all queues variables (before ++ op ∷ []) ops h.1 in (
@@ -93,7 +96,8 @@ declared-all queues variables before (op ∷ ops) h =
 
 -- where all that operators read, write and use is declared, no operator names something else
 pub all-declared : (queues variables : List Name) (before ops : List OpForm)
-    → ((q : Name) → 0 < total (reads_it q) ops → 0 < count q queues) → ((q : Name) → 0 < total (writes_it q) ops → 0 < count q queues) → ((v : Name) → 0 < total (vars_it v) ops → 0 < count v variables)
+    → ((q : Name) → 0 < total (reads_it q) ops → 0 < count q queues) → ((q : Name) → 0 < total (writes_it q) ops → 0 < count q queues)
+    → ((v : Name) → 0 < total (vars_it v) ops → 0 < count v variables)
     → Along (λ b op. UndeclaredAt queues variables op) before ops None
 all-declared queues variables before [] r w v = tt
 all-declared queues variables before (op ∷ ops) r w v = (
@@ -114,7 +118,8 @@ pub total-append : (f : OpForm → ℕ) (xs ys : List OpForm) → total f (xs ++
 total-append f [] ys = omega arith
 total-append f (x ∷ xs) ys = let e = total-append f xs ys in omega (arith, e)
 
-order-reads : (inputs : List Name) (k : Name → ℕ) (before ops : List OpForm) → ((q : Name) → k q ≡ count q inputs + total (writes_it q) before) → Along (ReadTooEarlyAt inputs) before ops None → ReadsBefore k ops
+order-reads : (inputs : List Name) (k : Name → ℕ) (before ops : List OpForm) → ((q : Name) → k q ≡ count q inputs + total (writes_it q) before)
+    → Along (ReadTooEarlyAt inputs) before ops None → ReadsBefore k ops
 order-reads inputs k before [] e h = tt
 order-reads inputs k before (op ∷ ops) e h = (
   (λ q lt. let a = along-names (λ r. IsWritten inputs before r) [] op.reads h.0 q lt in let b = e q in omega (arith, a, b)),
@@ -122,7 +127,8 @@ order-reads inputs k before (op ∷ ops) e h = (
 )
 
 -- where operators read what is known, none reads too early
-pub reads-order : (inputs : List Name) (k : Name → ℕ) (before ops : List OpForm) → ((q : Name) → k q ≡ count q inputs + total (writes_it q) before) → ReadsBefore k ops → Along (ReadTooEarlyAt inputs) before ops None
+pub reads-order : (inputs : List Name) (k : Name → ℕ) (before ops : List OpForm) → ((q : Name) → k q ≡ count q inputs + total (writes_it q) before)
+    → ReadsBefore k ops → Along (ReadTooEarlyAt inputs) before ops None
 reads-order inputs k before [] e h = tt
 reads-order inputs k before (op ∷ ops) e h = (
   names-along (λ r. IsWritten inputs before r) [] op.reads (λ q lt. let a = h.0 q lt in let b = e q in omega (arith, a, b)),
@@ -183,8 +189,11 @@ no_fault-valid p h =
       private_once = λ v lt. let e = variable_parts p v in let a = along-names (IsApart p) [] (variable_names p) p9 v (omega (arith, e, lt)) in a.1 lt;
     }
   where
-    queue_parts : (p : PlanForm) (q : Name) → count q (queue_names p) ≡ count q (decl_names p.outputs) + (count q (decl_names p.inputs) + count q (decl_names p.queues))
-    queue_parts p q = let a = count-append q (decl_names p.outputs) (decl_names p.inputs ++ decl_names p.queues) in let b = count-append q (decl_names p.inputs) (decl_names p.queues) in omega (arith, a, b)
+    queue_parts : (p : PlanForm) (q : Name)
+        → count q (queue_names p) ≡ count q (decl_names p.outputs) + (count q (decl_names p.inputs) + count q (decl_names p.queues))
+    queue_parts p q =
+        let a = count-append q (decl_names p.outputs) (decl_names p.inputs ++ decl_names p.queues) in
+        let b = count-append q (decl_names p.inputs) (decl_names p.queues) in omega (arith, a, b)
 
     variable_parts : (p : PlanForm) (v : Name) → count v (variable_names p) ≡ count v (table_names p.tables) + count v p.vars
     variable_parts p v = count-append v (table_names p.tables) p.vars
@@ -233,8 +242,10 @@ valid-no_fault p v = (
   ),
 )
   where
-    bounded : (p : PlanForm) (limit : Limit) → ((limit : Limit) → All (λ n. n ≤ most_of limit) (numbers limit p)) → IsFirst (λ before n. n ≤ most_of limit) (numbers limit p) None
+    bounded : (p : PlanForm) (limit : Limit) → ((limit : Limit) → All (λ n. n ≤ most_of limit) (numbers limit p))
+        → IsFirst (λ before n. n ≤ most_of limit) (numbers limit p) None
     bounded p limit h = all-along (λ n. n ≤ most_of limit) [] (numbers limit p) (h limit)
 
     limits : (p : PlanForm) → ((limit : Limit) → All (λ n. n ≤ most_of limit) (numbers limit p)) → OverLimit p None
-    limits p h = (bounded p Inputs h, (bounded p Operators h, (bounded p Queues h, (bounded p Variables h, (bounded p Ports h, (bounded p Statements h, (bounded p Slots h, (bounded p Rates h, (bounded p Weights h, (bounded p Nesting h, (bounded p Latest h, (bounded p Best h, tt))))))))))))
+    limits p h =
+        (bounded p Inputs h, (bounded p Operators h, (bounded p Queues h, (bounded p Variables h, (bounded p Ports h, (bounded p Statements h, (bounded p Slots h, (bounded p Rates h, (bounded p Weights h, (bounded p Nesting h, (bounded p Latest h, (bounded p Best h, tt))))))))))))

@@ -1,5 +1,6 @@
 -- Types and kinds by places are those by names, and the first fault from its parts.
-use Rattle.std.proofs.Common.{◌≡◌, ℕ, suc, ◌<◌, Bool, true, false, Option, Some, List, [], ◌∷◌, ◌++◌, length, map, get_or, arith, zero, refl, sym, ap, ◌∙◌, subst}
+use Rattle.std.proofs.Common.{◌≡◌, ℕ, suc, ◌<◌, Bool, true, false, Option, Some, List, [], ◌∷◌, ◌++◌, length, map, get_or, arith, zero, refl, sym, ap, ◌∙◌}
+use Rattle.std.proofs.Common.{subst}
 use Rattle.std.specs.Prelude.{if◌then◌else◌, slice_index_or, unwrap_or}
 use Rattle.std.proofs.lemmas.List.{map-append}
 use Rattle.river_base.specs.Name.{name_eq}
@@ -36,10 +37,14 @@ kind_place p q =
     ap (λ ks. slice_index_or ks (place (queue_names p) q) (rows 0)) (sym kinds) ∙ ap (λ ws. slice_index_or (decl_kinds (all_decls p)) (place ws q) (rows 0)) (sym names) ∙ kinds_in (all_decls p) q
   where
     kinds : decl_kinds (all_decls p) ≡ queue_kinds p
-    kinds = map-append (λ (d : Decl). d.kind) p.outputs (p.inputs ++ p.queues) ∙ ap (λ l. decl_kinds p.outputs ++ l) (map-append (λ (d : Decl). d.kind) p.inputs p.queues)
+    kinds =
+        map-append (λ (d : Decl). d.kind) p.outputs (p.inputs ++ p.queues)
+        ∙ ap (λ l. decl_kinds p.outputs ++ l) (map-append (λ (d : Decl). d.kind) p.inputs p.queues)
 
     names : decl_names (all_decls p) ≡ queue_names p
-    names = map-append (λ (d : Decl). d.name) p.outputs (p.inputs ++ p.queues) ∙ ap (λ l. decl_names p.outputs ++ l) (map-append (λ (d : Decl). d.name) p.inputs p.queues)
+    names =
+        map-append (λ (d : Decl). d.name) p.outputs (p.inputs ++ p.queues)
+        ∙ ap (λ l. decl_names p.outputs ++ l) (map-append (λ (d : Decl). d.name) p.inputs p.queues)
 
 privates_in : (vs : List Name) (v : Name) → slice_index_or (private_kinds vs) (place vs v) (Table 0) ≡ unwrap_or (private_in vs v) (Table 0)
 privates_in [] v = refl
@@ -75,10 +80,14 @@ module _ (p : PlanForm) (w : Wiring) (queues : List QueueType) (kinds : List Var
   at_places ops are lt e f ls h = ap (λ l. list_at l i) (h ∙ ap (map f) (sym are)) ∙ at_op f ops i op lt e
 
   types : (ws : List Name) (l : List ℕ) → l ≡ places (queue_names p) ws → map (kind_at queues) l ≡ map (kind_of (all_decls p)) ws
-  types ws l e = ap (λ (ks : List QueueType). map (kind_at ks) l) qs ∙ ap (map (kind_at (queue_kinds p))) e ∙ mapped_places (queue_names p) (kind_at (queue_kinds p)) (kind_of (all_decls p)) (kind_place p) ws
+  types ws l e =
+      ap (λ (ks : List QueueType). map (kind_at ks) l) qs ∙ ap (map (kind_at (queue_kinds p))) e
+      ∙ mapped_places (queue_names p) (kind_at (queue_kinds p)) (kind_of (all_decls p)) (kind_place p) ws
 
   variables : (ws : List Name) (l : List ℕ) → l ≡ places (variable_names p) ws → map (var_at kinds) l ≡ map (var_kind p.tables p.vars) ws
-  variables ws l e = ap (λ (ks : List VarKind). map (var_at ks) l) vs ∙ ap (map (var_at (var_kinds p))) e ∙ mapped_places (variable_names p) (var_at (var_kinds p)) (var_kind p.tables p.vars) (var_place p.tables p.vars) ws
+  variables ws l e =
+      ap (λ (ks : List VarKind). map (var_at ks) l) vs ∙ ap (map (var_at (var_kinds p))) e
+      ∙ mapped_places (variable_names p) (var_at (var_kinds p)) (var_kind p.tables p.vars) (var_place p.tables p.vars) ws
 
   same : (k : Kern) (is is' os os' : List QueueType) (us us' : List VarKind) → is ≡ is' → os ≡ os' → us ≡ us' → Fits k is os us → Fits k is' os' us'
   same k is is' os os' us us' a b c h = subst (λ l. Fits k is' os' l) c (subst (λ l. Fits k is' l us) b (subst (λ l. Fits k l os us) a h))

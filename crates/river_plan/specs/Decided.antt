@@ -87,7 +87,8 @@ found_decided k is os vs (Some t) e = ⊎_elim
     (both_decided (test_decided (pointwise_decides queue_decides t.outs os)) (test_decided (pointwise_decides var_decides t.vars vs)))
 
 pub fit_decided : (p : PlanForm) (op : OpForm) → Decided (IsFit p op)
-fit_decided p op = found_decided op.kernel (map (kind_of (all_decls p)) op.reads) (map (kind_of (all_decls p)) op.writes) (map (var_kind p.tables p.vars) op.vars) _ refl
+fit_decided p op =
+    found_decided op.kernel (map (kind_of (all_decls p)) op.reads) (map (kind_of (all_decls p)) op.writes) (map (var_kind p.tables p.vars) op.vars) _ refl
 
 -- P9
 pub apart_decided : (p : PlanForm) (v : Name) → Decided (IsApart p v)

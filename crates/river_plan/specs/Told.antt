@@ -14,9 +14,11 @@ use Rattle.river_plan.specs.Uses.{total, writes_it, reads_it}
 use Rattle.river_plan.specs.Kinds.{IsFit}
 use Rattle.river_plan.specs.First.{OrElse, As, Unless, Along, IsFirst}
 use Rattle.river_plan.specs.Limits.{OverLimit, OverLimitAt, most_of, numbers, limits}
-use Rattle.river_plan.specs.Faults.{IsNew, IsIn, IsWritten, IsOuter, HasWidth, IsTable, IsApart, UndeclaredAt, ReadTooEarlyAt, MistypedQueue, Repeated, Undeclared, ReadTooEarly, Mistyped, Misfit, Shared}
+use Rattle.river_plan.specs.Faults.{IsNew, IsIn, IsWritten, IsOuter, HasWidth, IsTable, IsApart, UndeclaredAt, ReadTooEarlyAt, MistypedQueue, Repeated}
+use Rattle.river_plan.specs.Faults.{Undeclared, ReadTooEarly, Mistyped, Misfit, Shared}
 use Rattle.river_plan.specs.Valid.{FirstFault}
-use Rattle.river_plan.specs.Decided.{Decided, less_decided, most_decided, equal_decided, once_decided, width_decided, outer_decided, table_decided, fit_decided, apart_decided}
+use Rattle.river_plan.specs.Decided.{Decided, less_decided, most_decided, equal_decided, once_decided, width_decided, outer_decided, table_decided, fit_decided}
+use Rattle.river_plan.specs.Decided.{apart_decided}
 
 -- what a search finds, with that it finds it
 abbrev pub Found : {B : Type 0} → (Option B → Type 0) → Type 0
@@ -49,7 +51,8 @@ along_found : {A B : Type 0} (s : List A → A → Option B → Type 0) → ((b 
 along_found s h before [] = (None, tt)
 along_found s h before (y ∷ ys) = or_else_found (s before y) (Along s (before ++ y ∷ []) ys) (h before y) (along_found s h (before ++ y ∷ []) ys)
 
-first_found : {A B : Type 0} (f : A → B) (good : List A → A → Type 0) → ((b : List A) (y : A) → Decided (good b y)) → (xs : List A) → Found (As f (IsFirst good xs))
+first_found : {A B : Type 0} (f : A → B) (good : List A → A → Type 0) → ((b : List A) (y : A) → Decided (good b y)) → (xs : List A)
+    → Found (As f (IsFirst good xs))
 first_found f good d xs = as_found f (IsFirst good xs) (along_found (λ b y. Unless (good b y) y) (λ b y. unless_found (good b y) y (d b y)) [] xs)
 
 -- THE FAULTS
@@ -58,7 +61,8 @@ new_found : (f : Name → Named) (ws : List Name) → Found (As f (IsFirst IsNew
 new_found f ws = first_found f IsNew (λ b w. equal_decided (count w b) 0) ws
 
 repeated_found : (p : PlanForm) → Found (Repeated p)
-repeated_found p = or_else_found _ _ (new_found Queue (queue_names p)) (or_else_found _ _ (new_found Variable (variable_names p)) (new_found Label (labels p.ops)))
+repeated_found p =
+    or_else_found _ _ (new_found Queue (queue_names p)) (or_else_found _ _ (new_found Variable (variable_names p)) (new_found Label (labels p.ops)))
 
 in_found : (f : Name → Named) (declared ws : List Name) → Found (As f (IsFirst (IsIn declared) ws))
 in_found f declared ws = first_found f (IsIn declared) (λ b w. less_decided 0 (count w declared)) ws
@@ -88,7 +92,8 @@ misfit_found : (p : PlanForm) → Found (Misfit p)
 misfit_found p = first_found (λ op. Label op.label) (λ before op. IsFit p op) (λ b op. fit_decided p op) p.ops
 
 over_found : (p : PlanForm) → Found (OverLimit p)
-over_found p = along_found (λ b limit. OverLimitAt p limit) (λ b limit. first_found (λ n. P8 limit (told n)) (λ c n. n ≤ most_of limit) (λ c n. most_decided n (most_of limit)) (numbers limit p)) [] limits
+over_found p =
+    along_found (λ b limit. OverLimitAt p limit) (λ b limit. first_found (λ n. P8 limit (told n)) (λ c n. n ≤ most_of limit) (λ c n. most_decided n (most_of limit)) (numbers limit p)) [] limits
 
 shared_found : (p : PlanForm) → Found (Shared p)
 shared_found p = first_found Variable (λ before v. IsApart p v) (λ b v. apart_decided p v) (variable_names p)

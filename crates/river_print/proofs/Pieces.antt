@@ -11,7 +11,8 @@ use Rattle.work_code.specs.Symbols.{symbol_bytes, code_of}
 use Rattle.work_code.specs.Tok.{Tok, name, var, number, symbol}
 use Rattle.work_code.specs.declared.sign.Symbol.{Symbol}
 use Rattle.work_code.specs.declared.sign.Symbol.TheVariants as s
-use Rattle.work_code.proofs.Spelled.{Spells, NoWord, MayFollow, is_name_text, spells-nothing, spells-then, spells-less, spells-blank, spells-symbol, spells-name, spells-var, spells-number}
+use Rattle.work_code.proofs.Spelled.{Spells, NoWord, MayFollow, is_name_text, spells-nothing, spells-then, spells-less, spells-blank, spells-symbol}
+use Rattle.work_code.proofs.Spelled.{spells-name, spells-var, spells-number}
 use Rattle.text_forms.proofs.PrintedExpr.{blank-then}
 use Rattle.river_print.specs.Printed.{list_text}
 
@@ -35,7 +36,9 @@ inside-nothing = record { goes = λ b rest. refl }
 -- tokens that stay inside a unit, one after another
 pub inside-then : (ts us : List Tok) → Inside ts → Inside us → Inside (ts ++ us)
 inside-then ts us x y = record {
-  goes = λ b rest. ap (cut (suc b)) (append_assoc ts us rest) ∙ x.goes b (us ++ rest) ∙ ap (all_first ts) (y.goes b rest) ∙ sym (all_first-append ts us (cut (suc b) rest));
+  goes =
+      λ b rest. ap (cut (suc b)) (append_assoc ts us rest) ∙ x.goes b (us ++ rest) ∙ ap (all_first ts) (y.goes b rest)
+      ∙ sym (all_first-append ts us (cut (suc b) rest));
 }
 
 -- a token that ends no unit goes on it
@@ -65,7 +68,8 @@ same_braces b x p = rw (p.no_open, p.no_close) refl
 
 -- a symbol that is no brace and no semicolon stays inside a unit
 pub inside-symbol : (x : Symbol) → IsPlain x → Inside (symbol x ∷ [])
-inside-symbol x p = record { goes = λ b rest. on (suc b) (symbol x) rest (no_end b x rest p.no_close) ∙ ap (λ (k : ℕ). to_first (symbol x) (cut k rest)) (same_braces (suc b) x p) }
+inside-symbol x p =
+    record { goes = λ b rest. on (suc b) (symbol x) rest (no_end b x rest p.no_close) ∙ ap (λ (k : ℕ). to_first (symbol x) (cut k rest)) (same_braces (suc b) x p) }
 
 -- so does a name
 pub inside-name : (text : List ℕ) → Inside (name text ∷ [])
@@ -99,7 +103,8 @@ inner_close b rest =
 
 pub inside-braces : (ts : List Tok) → Inside ts → Inside (symbol s.OpenBrace ∷ (ts ++ symbol s.CloseBrace ∷ []))
 inside-braces ts x = record { goes = goes } where
-  goes : (b : ℕ) (rest : List Tok) → cut (suc b) (symbol s.OpenBrace ∷ ((ts ++ symbol s.CloseBrace ∷ []) ++ rest)) ≡ to_first (symbol s.OpenBrace) (all_first (ts ++ symbol s.CloseBrace ∷ []) (cut (suc b) rest))
+  goes : (b : ℕ) (rest : List Tok)
+      → cut (suc b) (symbol s.OpenBrace ∷ ((ts ++ symbol s.CloseBrace ∷ []) ++ rest)) ≡ to_first (symbol s.OpenBrace) (all_first (ts ++ symbol s.CloseBrace ∷ []) (cut (suc b) rest))
   goes b rest =
       on (suc b) (symbol s.OpenBrace) ((ts ++ symbol s.CloseBrace ∷ []) ++ rest) (no_end b s.OpenBrace ((ts ++ symbol s.CloseBrace ∷ []) ++ rest) refl)
       ∙ ap (λ (k : ℕ). to_first (symbol s.OpenBrace) (cut k ((ts ++ symbol s.CloseBrace ∷ []) ++ rest))) (open_up b)
@@ -131,7 +136,8 @@ pub piece-then : (a : List ℕ) (ts : List Tok) (b : List ℕ) (us : List Tok) �
 piece-then a ts b us x y e = record { spells = spells-then a ts b us x.spells y.spells e.ends; inside = inside-then ts us x.inside y.inside }
 
 -- a symbol, a word, a variable, a number, a blank before a piece
-pub symbol-first : (x : Symbol) (u : List ℕ) (us : List Tok) → IsPlain x → Piece u us → ((rest : List ℕ) → NoWord rest → MayFollow x (u ++ rest)) → Piece (symbol_bytes x ++ u) (symbol x ∷ us)
+pub symbol-first : (x : Symbol) (u : List ℕ) (us : List Tok) → IsPlain x → Piece u us → ((rest : List ℕ) → NoWord rest → MayFollow x (u ++ rest))
+    → Piece (symbol_bytes x ++ u) (symbol x ∷ us)
 symbol-first x u us p y follows = record {
   spells = spells-then (symbol_bytes x) (symbol x ∷ []) u us (spells-symbol x) y.spells follows;
   inside = inside-then (symbol x ∷ []) us (inside-symbol x p) y.inside;
@@ -315,7 +321,8 @@ pieces-items (b ∷ bs) [] h = absurd h
 pieces-items (b ∷ bs) (t ∷ ts) h = piece-then b t (more_items bs) (more_toks ts) h.0 (pieces-more bs ts h.1) (ends-more bs)
 
 -- items in round brackets, before a piece
-pub list-first : (bs : List (List ℕ)) (ts : List (List Tok)) (u : List ℕ) (us : List Tok) → AllPieces bs ts → Piece u us → Piece (list_text bs ++ u) (symbol s.Open ∷ (items_toks ts ++ symbol s.Close ∷ us))
+pub list-first : (bs : List (List ℕ)) (ts : List (List Tok)) (u : List ℕ) (us : List Tok) → AllPieces bs ts → Piece u us
+    → Piece (list_text bs ++ u) (symbol s.Open ∷ (items_toks ts ++ symbol s.Close ∷ us))
 list-first bs ts u us h y =
     subst (λ (l : List ℕ). Piece l (symbol s.Open ∷ (items_toks ts ++ symbol s.Close ∷ us))) regroup
     (open-first (items_text bs ++ (codes ")" ++ u)) (items_toks ts ++ symbol s.Close ∷ us)

@@ -40,14 +40,16 @@ pub record Gives {A : Type 0} (F : A → List Tok → Type 0) (P : A → Type 0)
   pub give : (v : A) (ts : List Tok) → F v ts → P v
 
 -- what holds of the values of a form that is seen as another value
-pub gives-seen : {A B : Type 0} {F : A → List Tok → Type 0} {P : A → Type 0} (f : A → B) (Q : B → Type 0) → Gives F P → ((v : A) → P v → Q (f v)) → Gives (form.Seen f F) Q
+pub gives-seen : {A B : Type 0} {F : A → List Tok → Type 0} {P : A → Type 0} (f : A → B) (Q : B → Type 0) → Gives F P → ((v : A) → P v → Q (f v))
+    → Gives (form.Seen f F) Q
 gives-seen f Q g k = record { give = λ v ts h. subst Q (sym h.is) (k h.value (g.give h.value ts h.formed)) }
 
 gives-tested : {A : Type 0} (test : A → Bool) (F : A → List Tok → Type 0) (P : A → Type 0) → ((v : A) → test v ≡ true → P v) → Gives (form.Tested test F) P
 gives-tested test F P k = record { give = λ v ts h. k v h.passes }
 
 -- of one and then the other
-pub gives-both : {A B : Type 0} {F : A → List Tok → Type 0} {G : B → List Tok → Type 0} {P : A → Type 0} {Q : B → Type 0} → Gives F P → Gives G Q → Gives (form.Both F G) (λ v. P v.0 × Q v.1)
+pub gives-both : {A B : Type 0} {F : A → List Tok → Type 0} {G : B → List Tok → Type 0} {P : A → Type 0} {Q : B → Type 0} → Gives F P → Gives G Q
+    → Gives (form.Both F G) (λ v. P v.0 × Q v.1)
 gives-both f g = record { give = λ v ts h. (f.give v.0 h.front h.first, g.give v.1 h.back h.second) }
 
 -- behind some symbols
@@ -102,7 +104,8 @@ gives-commas {P = P} f = gives-seen (λ v. v.0 ∷ v.1) (w.Every P) (gives-both 
 gives-listing : {A : Type 0} {F : A → List Tok → Type 0} {P : A → Type 0} → Gives F P → Gives (form.Listing F) (w.Every P)
 gives-listing {P = P} f = gives-merged (gives-nothing (w.Every P) [] tt) (gives-commas f)
 
-gives-enclosed : {A : Type 0} {F : ℕ → A → List Tok → Type 0} {P : A → Type 0} (left right : Symbol) → ((m : ℕ) → Gives (F m) P) → (n : ℕ) → Gives (form.Enclosed left right F n) P
+gives-enclosed : {A : Type 0} {F : ℕ → A → List Tok → Type 0} {P : A → Type 0} (left right : Symbol) → ((m : ℕ) → Gives (F m) P) → (n : ℕ)
+    → Gives (form.Enclosed left right F n) P
 gives-enclosed {P = P} left right f zero = record { give = λ v ts h. absurd h }
 gives-enclosed left right f (suc n) = record { give = λ v ts h. let g = gives-after (left ∷ []) (gives-before (right ∷ []) (f n)) in g.give v ts h }
 
@@ -131,7 +134,8 @@ neg-start z h = subst (λ y. w.IsStart (neg_ℤ y)) (sym h.1) (of_pos h.0 h.2)
     of_pos (suc n) le = omega (arith, le)
 
 signed : Gives g.Signed w.IsStart
-signed = gives-merged (gives-after _ (gives-seen neg_ℤ w.IsStart value neg-start)) (gives-merged (gives-after_word (codes "min") (gives-nothing w.IsStart g.least (omega arith))) value-start)
+signed =
+    gives-merged (gives-after _ (gives-seen neg_ℤ w.IsStart value neg-start)) (gives-merged (gives-after_word (codes "min") (gives-nothing w.IsStart g.least (omega arith))) value-start)
 
 starts : (n : ℕ) → Gives (g.IsStarts n) (w.Every w.IsStart)
 starts n = gives-enclosed _ _ (λ m. gives-listing signed) n
@@ -143,12 +147,14 @@ pub number-ranged : (v : ℕ) (b : Bool) → is_value v ≡ b → (e : Term) →
 number-ranged v true t e h = subst ranges.IsRangedTerm (some_same h) (at_most v 9223372036854775807 t)
 number-ranged v false t e h = absurd (not_some h)
 
-one-ranged : (f : Term → Term) → ((x : Term) → ranges.IsRangedTerm x → ranges.IsRangedTerm (f x)) → (o : Option Term) → ((x : Term) → o ≡ Some x → ranges.IsRangedTerm x) → (e : Term) → g.one_term f o ≡ Some e → ranges.IsRangedTerm e
+one-ranged : (f : Term → Term) → ((x : Term) → ranges.IsRangedTerm x → ranges.IsRangedTerm (f x)) → (o : Option Term)
+    → ((x : Term) → o ≡ Some x → ranges.IsRangedTerm x) → (e : Term) → g.one_term f o ≡ Some e → ranges.IsRangedTerm e
 one-ranged f k None x e h = absurd (not_some h)
 one-ranged f k (Some y) x e h = subst ranges.IsRangedTerm (some_same h) (k y (x y refl))
 
 two-ranged : (f : Term → Term → Term) → ((x y : Term) → ranges.IsRangedTerm x → ranges.IsRangedTerm y → ranges.IsRangedTerm (f x y)) → (o p : Option Term)
-    → ((x : Term) → o ≡ Some x → ranges.IsRangedTerm x) → ((x : Term) → p ≡ Some x → ranges.IsRangedTerm x) → (e : Term) → g.both_terms f o p ≡ Some e → ranges.IsRangedTerm e
+    → ((x : Term) → o ≡ Some x → ranges.IsRangedTerm x) → ((x : Term) → p ≡ Some x → ranges.IsRangedTerm x) → (e : Term) → g.both_terms f o p ≡ Some e
+    → ranges.IsRangedTerm e
 two-ranged f k None p x y e h = absurd (not_some h)
 two-ranged f k (Some a) None x y e h = absurd (not_some h)
 two-ranged f k (Some a) (Some b) x y e h = subst ranges.IsRangedTerm (some_same h) (k a b (x a refl) (y b refl))
@@ -160,7 +166,8 @@ leaf-spelled n t ts (rule.input m i has fits) e h = let a = at_most i 4294967295
 leaf-spelled n t ts (rule.slot m i has fits) e h = let a = at_most i 4294967295 fits in subst ranges.IsRangedTerm (some_same h) (omega (arith, a))
 leaf-spelled n t ts (rule.pop m has) e h = absurd (not_some h)
 
-marked-spelled : (p : Unary) (t : Spoken) → ((e : Term) → g.term_of t ≡ Some e → ranges.IsRangedTerm e) → (e : Term) → g.term_of (rule.marked p t) ≡ Some e → ranges.IsRangedTerm e
+marked-spelled : (p : Unary) (t : Spoken) → ((e : Term) → g.term_of t ≡ Some e → ranges.IsRangedTerm e) → (e : Term) → g.term_of (rule.marked p t) ≡ Some e
+    → ranges.IsRangedTerm e
 marked-spelled unary.Neg t x e h = one-ranged term.Neg (λ y z. z) (g.term_of t) x e h
 marked-spelled unary.Not t x e h = one-ranged term.Not (λ y z. z) (g.term_of t) x e h
 marked-spelled unary.Peek t x e h = absurd (not_some h)
@@ -216,9 +223,11 @@ body-of nest stmt f n = gives-enclosed _ _ (λ m. gives-seen in_turn (IsSteps ne
 
 statement : (nest n : ℕ) → Gives (g.IsStmt nest n) (IsStep nest)
 unfolding g.IsStmt
-statement zero n = gives-headed (λ word. gives-choose (bytes_eq word (codes "slot")) (set-step zero n) (gives-choose (bytes_eq word (codes "push")) (push-step zero n)
+statement zero n =
+    gives-headed (λ word. gives-choose (bytes_eq word (codes "slot")) (set-step zero n) (gives-choose (bytes_eq word (codes "push")) (push-step zero n)
     (gives-choose (bytes_eq word (codes "if")) (gives-never (IsStep zero)) (gives-never (IsStep zero)))))
-statement (suc nest) n = gives-headed (λ word. gives-choose (bytes_eq word (codes "slot")) (set-step (suc nest) n) (gives-choose (bytes_eq word (codes "push")) (push-step (suc nest) n)
+statement (suc nest) n =
+    gives-headed (λ word. gives-choose (bytes_eq word (codes "slot")) (set-step (suc nest) n) (gives-choose (bytes_eq word (codes "push")) (push-step (suc nest) n)
     (gives-choose (bytes_eq word (codes "if")) (if-step nest (g.IsBodyOf (g.IsStmt nest)) (body-of nest (g.IsStmt nest) (statement nest)) n) (gives-never (IsStep (suc nest))))))
 
 body : (n : ℕ) → Gives (g.IsBody 16 n) (IsSteps 16)
@@ -245,7 +254,8 @@ filter n = gives-seen g.made_filter IsKernel
 counted : (f : ℕ → Kern) → ((n : ℕ) → w.IsCount n → IsKernel (f n)) → (n : ℕ) → Gives (form.Seen f (g.Round (λ m. g.Count) n)) IsKernel
 counted f k n = gives-seen f IsKernel (gives-enclosed _ _ (λ m. count) n) k
 
-weighed : (f : List ℤ → Kern) → ((ws : List ℤ) → w.Every w.IsStart ws → IsKernel (f ws)) → (n : ℕ) → Gives (form.Seen f (g.Round (λ m. form.Commas form.Value) n)) IsKernel
+weighed : (f : List ℤ → Kern) → ((ws : List ℤ) → w.Every w.IsStart ws → IsKernel (f ws)) → (n : ℕ)
+    → Gives (form.Seen f (g.Round (λ m. form.Commas form.Value) n)) IsKernel
 weighed f k n = gives-seen f IsKernel (gives-enclosed _ _ (λ m. gives-commas value-start) n) k
 
 fused : (braced : Kern → List Tok → Type 0) → Gives braced IsKernel → (n : ℕ) → Gives (g.IsFused braced n) IsKernel
@@ -399,7 +409,8 @@ said-add p (t.private v) s h = let k = s.ranged in
     record { ranged = record { outputs = k.outputs; inputs = k.inputs; queues = k.queues; tables = k.tables; vars = every-append w.IsNamed p.vars v k.vars h; ops = k.ops }; shallow = s.shallow; forward = s.forward }
 said-add p (t.operator o) s h = let k = s.ranged in
     record {
-      ranged = record { outputs = k.outputs; inputs = k.inputs; queues = k.queues; tables = k.tables; vars = k.vars; ops = every-append ranges.IsRangedOp p.ops o k.ops h.0 };
+      ranged =
+          record { outputs = k.outputs; inputs = k.inputs; queues = k.queues; tables = k.tables; vars = k.vars; ops = every-append ranges.IsRangedOp p.ops o k.ops h.0 };
       shallow = every-append (λ op. r.IsShallow op.kernel) p.ops o s.shallow h.1;
       forward = every-append (λ op. r.HasForward op.kernel) p.ops o s.forward h.2;
     }

@@ -12,11 +12,13 @@ use Rattle.river_plan.specs.declared.plan.Decl.{Decl}
 use Rattle.river_plan.specs.declared.plan.TableDecl.{TableDecl}
 use Rattle.text_forms.specs.Texts.{AllFormed}
 use Rattle.river_print.specs.Printed.{decl_line, table_line, var_line, op_line, lines, plan_text}
-use Rattle.river_text.specs.Plans.{Entry, output, input, inner, table, private, operator, stage_of, is_late, IsUnit, IsUnitAt, next_stage, add, add_all, AreUnits, IsText}
+use Rattle.river_text.specs.Plans.{Entry, output, input, inner, table, private, operator, stage_of, is_late, IsUnit, IsUnitAt, next_stage, add, add_all}
+use Rattle.river_text.specs.Plans.{AreUnits, IsText}
 use Rattle.river_text.proofs.Texts.{one_plan}
 use Rattle.river_print.specs.Laws.{PrintedIsRead}
 use Rattle.river_print.specs.Writable as w
-use Rattle.river_print.proofs.Units.{UnitPiece, decl_toks, decl-unit, decl-formed, table_toks, table-unit, table-formed, var_toks, var-unit, var-formed, op_toks, op-unit, op-formed}
+use Rattle.river_print.proofs.Units.{UnitPiece, decl_toks, decl-unit, decl-formed, table_toks, table-unit, table-formed, var_toks, var-unit, var-formed}
+use Rattle.river_print.proofs.Units.{op_toks, op-unit, op-formed}
 
 -- the tokens of some units
 joined-append : (us vs : List (List Tok)) → joined (us ++ vs) ≡ joined us ++ joined vs
@@ -35,7 +37,8 @@ chunk-nothing = record { spells = spells-nothing Anything; begins = λ rest none
 chunk-then : (a : List ℕ) (us : List (List Tok)) (b : List ℕ) (vs : List (List Tok)) → Chunk a us → Chunk b vs → Chunk (a ++ b) (us ++ vs)
 chunk-then a us b vs x y = record { spells = spells; begins = begins; whole = whole } where
   spells : Spells (a ++ b) (joined (us ++ vs)) Anything
-  spells = subst (λ (l : List Tok). Spells (a ++ b) l Anything) (sym (joined-append us vs)) (spells-then a (joined us) b (joined vs) x.spells y.spells (λ rest any. tt))
+  spells =
+      subst (λ (l : List Tok). Spells (a ++ b) l Anything) (sym (joined-append us vs)) (spells-then a (joined us) b (joined vs) x.spells y.spells (λ rest any. tt))
 
   regroup : (rest : List Tok) → joined (us ++ vs) ++ rest ≡ joined us ++ (joined vs ++ rest)
   regroup rest = ap (λ (l : List Tok). l ++ rest) (joined-append us vs) ∙ append_assoc (joined us) (joined vs) rest
@@ -54,9 +57,11 @@ chunk-unit b ts x = record {
   whole = λ rest none. ap (λ (l : List Tok). cut 0 (l ++ rest)) (append-nil ts) ∙ x.whole rest none;
 }
 
-chunk-lines : {A : Type 0} (line : A → List ℕ) (tokens : A → List Tok) (P : A → Type 0) → ((x : A) → P x → UnitPiece (line x) (tokens x)) → (xs : List A) → w.Every P xs → Chunk (lines line xs) (map tokens xs)
+chunk-lines : {A : Type 0} (line : A → List ℕ) (tokens : A → List Tok) (P : A → Type 0) → ((x : A) → P x → UnitPiece (line x) (tokens x)) → (xs : List A)
+    → w.Every P xs → Chunk (lines line xs) (map tokens xs)
 chunk-lines line tokens P unit [] h = chunk-nothing
-chunk-lines line tokens P unit (x ∷ xs) h = chunk-then (line x) (tokens x ∷ []) (lines line xs) (map tokens xs) (chunk-unit (line x) (tokens x) (unit x h.0)) (chunk-lines line tokens P unit xs h.1)
+chunk-lines line tokens P unit (x ∷ xs) h =
+    chunk-then (line x) (tokens x ∷ []) (lines line xs) (map tokens xs) (chunk-unit (line x) (tokens x) (unit x h.0)) (chunk-lines line tokens P unit xs h.1)
 
 -- ---- the units stand for the entries
 
@@ -67,14 +72,16 @@ OfStage k [] (u ∷ us) = ⊥
 OfStage k (e ∷ es) [] = ⊥
 OfStage k (e ∷ es) (u ∷ us) = (stage_of e ≡ k) × IsUnit e u × OfStage k es us
 
-stage_lines : {A : Type 0} (k : ℕ) (make : A → Entry) (tokens : A → List Tok) (P : A → Type 0) → ((x : A) → stage_of (make x) ≡ k) → ((x : A) → P x → IsUnit (make x) (tokens x)) → (xs : List A) → w.Every P xs → OfStage k (map make xs) (map tokens xs)
+stage_lines : {A : Type 0} (k : ℕ) (make : A → Entry) (tokens : A → List Tok) (P : A → Type 0) → ((x : A) → stage_of (make x) ≡ k)
+    → ((x : A) → P x → IsUnit (make x) (tokens x)) → (xs : List A) → w.Every P xs → OfStage k (map make xs) (map tokens xs)
 stage_lines k make tokens P same formed [] h = tt
 stage_lines k make tokens P same formed (x ∷ xs) h = (same x, formed x h.0, stage_lines k make tokens P same formed xs h.1)
 
 late : (start : ℕ) (e : Entry) → start ≤ stage_of e → is_late start e ≡ true
 late start e h = grind (arith, nat_tests)
 
-stage-then : (k start : ℕ) (es fs : List Entry) (us vs : List (List Tok)) → start ≤ k → OfStage k es us → ((b : ℕ) → b ≤ k → AllFormed IsUnitAt next_stage b fs vs) → AllFormed IsUnitAt next_stage start (es ++ fs) (us ++ vs)
+stage-then : (k start : ℕ) (es fs : List Entry) (us vs : List (List Tok)) → start ≤ k → OfStage k es us
+    → ((b : ℕ) → b ≤ k → AllFormed IsUnitAt next_stage b fs vs) → AllFormed IsUnitAt next_stage start (es ++ fs) (us ++ vs)
 stage-then k start [] fs [] vs le h more = more start le
 stage-then k start [] fs (u ∷ us) vs le h more = absurd h
 stage-then k start (e ∷ es) fs [] vs le h more = absurd h

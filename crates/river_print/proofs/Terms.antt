@@ -18,7 +18,10 @@ use Rattle.river_text.specs.Kernels as g
 use Rattle.river_text.specs.Kernels.{IsStmt, term_of}
 use Rattle.river_print.specs.Writable as w
 use Rattle.river_print.proofs.Listings.{Item, is_value-below, pieces, items-commas, count-formed}
-use Rattle.river_print.proofs.Pieces.{Inside, inside-then, inside-name, inside-number, inside-symbol, IsPlain, plain-Open, plain-Close, plain-OpenBracket, plain-CloseBracket, plain-Minus, plain-Assign, Piece, EndsWord, piece-nothing, ends-nothing, piece-then, symbol-first, word-first, number-first, blank-first, open-first, close-first, semicolon-first, square-first, square_close-first, braced, braced-nothing, ends-blank, ends-close, ends-square, ends-square_close, ends-semicolon, items_toks, pieces-items}
+use Rattle.river_print.proofs.Pieces.{Inside, inside-then, inside-name, inside-number, inside-symbol, IsPlain, plain-Open, plain-Close, plain-OpenBracket}
+use Rattle.river_print.proofs.Pieces.{plain-CloseBracket, plain-Minus, plain-Assign, Piece, EndsWord, piece-nothing, ends-nothing, piece-then, symbol-first}
+use Rattle.river_print.proofs.Pieces.{word-first, number-first, blank-first, open-first, close-first, semicolon-first, square-first, square_close-first, braced}
+use Rattle.river_print.proofs.Pieces.{braced-nothing, ends-blank, ends-close, ends-square, ends-square_close, ends-semicolon, items_toks, pieces-items}
 
 written : (t : Term) → w.IsSpoken t → IsWritten t
 written (Const z) h = h
@@ -47,7 +50,8 @@ plain-Not : IsPlain s.Not
 plain-Not = record { no_open = refl; no_close = refl }
 
 in_round : (ts : List Tok) → Inside ts → Inside (symbol s.Open ∷ (ts ++ symbol s.Close ∷ []))
-in_round ts x = inside-then (symbol s.Open ∷ []) (ts ++ symbol s.Close ∷ []) (inside-symbol s.Open plain-Open) (inside-then ts (symbol s.Close ∷ []) x (inside-symbol s.Close plain-Close))
+in_round ts x =
+    inside-then (symbol s.Open ∷ []) (ts ++ symbol s.Close ∷ []) (inside-symbol s.Open plain-Open) (inside-then ts (symbol s.Close ∷ []) x (inside-symbol s.Close plain-Close))
 
 in_square : (word : List ℕ) (n : ℕ) → Inside (name word ∷ symbol s.OpenBracket ∷ number n ∷ symbol s.CloseBracket ∷ [])
 in_square word n =
@@ -59,7 +63,8 @@ inside-printed : (t : Term) → Inside (printed t)
 inside-printed (Const z) = inside-number _
 inside-printed (Input place) = in_square (codes "input") place
 inside-printed (Slot slot) = in_square (codes "slot") slot
-inside-printed (Neg t) = in_round (symbol s.Minus ∷ printed t) (inside-then (symbol s.Minus ∷ []) (printed t) (inside-symbol s.Minus plain-Minus) (inside-printed t))
+inside-printed (Neg t) =
+    in_round (symbol s.Minus ∷ printed t) (inside-then (symbol s.Minus ∷ []) (printed t) (inside-symbol s.Minus plain-Minus) (inside-printed t))
 inside-printed (Not t) = in_round (symbol s.Not ∷ printed t) (inside-then (symbol s.Not ∷ []) (printed t) (inside-symbol s.Not plain-Not) (inside-printed t))
 inside-printed (Bin o a b) =
     in_round (printed a ++ symbol (sign_of o) ∷ printed b) (inside-then (printed a) (symbol (sign_of o) ∷ printed b) (inside-printed a)
@@ -153,7 +158,8 @@ push-piece p ts count terms =
     word-first (codes "push") (codes " " ++ (decimal p ++ (codes " (" ++ (text ++ codes ");")))) (number p ∷ symbol s.Open ∷ (items ++ symbol s.Close ∷ symbol s.Semicolon ∷ [])) push_is
     (blank-first (decimal p ++ (codes " (" ++ (text ++ codes ");"))) (number p ∷ symbol s.Open ∷ (items ++ symbol s.Close ∷ symbol s.Semicolon ∷ [])) counted) (ends-blank (decimal p ++ (codes " (" ++ (text ++ codes ");"))))
 
-if-piece : (c : Term) (a b : Steps) → w.IsTerm c → Piece (body_text a) (body_toks a) → Piece (else_text b) (else_toks b) → Piece (step_text (If c a b)) (step_toks (If c a b))
+if-piece : (c : Term) (a b : Steps) → w.IsTerm c → Piece (body_text a) (body_toks a) → Piece (else_text b) (else_toks b)
+    → Piece (step_text (If c a b)) (step_toks (If c a b))
 if-piece c a b term when otherwise =
     let arms : Piece (body_text a ++ else_text b) (body_toks a ++ else_toks b) = piece-then (body_text a) (body_toks a) (else_text b) (else_toks b) when otherwise (ends-else b) in
     let closed : Piece (codes ") " ++ (body_text a ++ else_text b)) (symbol s.Close ∷ (body_toks a ++ else_toks b)) =
@@ -165,7 +171,8 @@ if-piece c a b term when otherwise =
     (ends-blank (codes "(" ++ (text_of c ++ (codes ") " ++ (body_text a ++ else_text b)))))
 
 -- statements in braces
-in_braces : (x : Step) (xs : Steps) → Piece (step_text x) (step_toks x) → Piece (more_text xs) (rest_toks xs) → Piece (body_text (Then x xs)) (body_toks (Then x xs))
+in_braces : (x : Step) (xs : Steps) → Piece (step_text x) (step_toks x) → Piece (more_text xs) (rest_toks xs)
+    → Piece (body_text (Then x xs)) (body_toks (Then x xs))
 in_braces x xs p q =
     subst (λ (l : List ℕ). Piece l (body_toks (Then x xs))) (ap (λ (l : List ℕ). codes "{ " ++ l) (append_assoc (step_text x) (more_text xs) (codes " }")))
     (braced (step_text x ++ more_text xs) (step_toks x ++ rest_toks xs) (piece-then (step_text x) (step_toks x) (more_text xs) (rest_toks xs) p q (ends-rest xs)))
@@ -182,7 +189,8 @@ mutual
 
   rest-piece : (xs : Steps) → w.IsSteps xs → Piece (more_text xs) (rest_toks xs)
   rest-piece Done h = piece-nothing
-  rest-piece (Then x xs) h = blank-first (step_text x ++ more_text xs) (step_toks x ++ rest_toks xs) (piece-then (step_text x) (step_toks x) (more_text xs) (rest_toks xs) (step-piece x h.0) (rest-piece xs h.1) (ends-rest xs))
+  rest-piece (Then x xs) h =
+      blank-first (step_text x ++ more_text xs) (step_toks x ++ rest_toks xs) (piece-then (step_text x) (step_toks x) (more_text xs) (rest_toks xs) (step-piece x h.0) (rest-piece xs h.1) (ends-rest xs))
 
   else-piece : (xs : Steps) → w.IsSteps xs → Piece (else_text xs) (else_toks xs)
   else-piece Done h = piece-nothing
@@ -200,14 +208,16 @@ in_turn-list Done = refl
 in_turn-list (Then x xs) = ap (Then x) (in_turn-list xs)
 
 -- what is in round brackets, and what comes behind
-pub round-formed : {A : Type 0} (F : ℕ → A → List Tok → Type 0) (m : ℕ) (v : A) (ts : List Tok) → F m v ts → g.Round F (suc m) v (symbol s.Open ∷ (ts ++ symbol s.Close ∷ []))
+pub round-formed : {A : Type 0} (F : ℕ → A → List Tok → Type 0) (m : ℕ) (v : A) (ts : List Tok) → F m v ts
+    → g.Round F (suc m) v (symbol s.Open ∷ (ts ++ symbol s.Close ∷ []))
 round-formed F m v ts f = record { back = ts ++ symbol s.Close ∷ []; is = refl; formed = record { front = ts; is = refl; formed = f } }
 
 -- tokens behind a bracketed part
 pub behind_round : (ts us : List Tok) → symbol s.Open ∷ (ts ++ symbol s.Close ∷ us) ≡ (symbol s.Open ∷ (ts ++ symbol s.Close ∷ [])) ++ us
 behind_round ts us = ap (λ (l : List Tok). symbol s.Open ∷ l) (sym (append_assoc ts (symbol s.Close ∷ []) us))
 
-set-formed : (m k : ℕ) (t : Term) → w.IsCount k → w.IsTerm t → 64 ≤ m → g.IsSet (suc m) (Set k t) (symbol s.OpenBracket ∷ number k ∷ symbol s.CloseBracket ∷ symbol s.Assign ∷ (printed t ++ symbol s.Semicolon ∷ []))
+set-formed : (m k : ℕ) (t : Term) → w.IsCount k → w.IsTerm t → 64 ≤ m
+    → g.IsSet (suc m) (Set k t) (symbol s.OpenBracket ∷ number k ∷ symbol s.CloseBracket ∷ symbol s.Assign ∷ (printed t ++ symbol s.Semicolon ∷ []))
 set-formed m k t count term room = record {
   value = (k, t);
   is = refl;
@@ -215,12 +225,15 @@ set-formed m k t count term room = record {
     front = symbol s.OpenBracket ∷ number k ∷ symbol s.CloseBracket ∷ [];
     back = symbol s.Assign ∷ (printed t ++ symbol s.Semicolon ∷ []);
     is = refl;
-    first = record { back = number k ∷ symbol s.CloseBracket ∷ []; is = refl; formed = record { front = number k ∷ []; is = refl; formed = count-formed k count } };
-    second = record { back = printed t ++ symbol s.Semicolon ∷ []; is = refl; formed = record { front = printed t; is = refl; formed = term-formed (suc m) t (omega arith) term } };
+    first =
+        record { back = number k ∷ symbol s.CloseBracket ∷ []; is = refl; formed = record { front = number k ∷ []; is = refl; formed = count-formed k count } };
+    second =
+        record { back = printed t ++ symbol s.Semicolon ∷ []; is = refl; formed = record { front = printed t; is = refl; formed = term-formed (suc m) t (omega arith) term } };
   };
 }
 
-push-formed : (m p : ℕ) (ts : List Term) → w.IsCount p → 0 < length ts → w.Every w.IsTerm ts → 64 ≤ m → g.IsPush (suc m) (Push p ts) (number p ∷ symbol s.Open ∷ (items_toks (map printed ts) ++ symbol s.Close ∷ symbol s.Semicolon ∷ []))
+push-formed : (m p : ℕ) (ts : List Term) → w.IsCount p → 0 < length ts → w.Every w.IsTerm ts → 64 ≤ m
+    → g.IsPush (suc m) (Push p ts) (number p ∷ symbol s.Open ∷ (items_toks (map printed ts) ++ symbol s.Close ∷ symbol s.Semicolon ∷ []))
 push-formed m p ts count some terms room =
     let items = items_toks (map printed ts) in
     record {
@@ -234,12 +247,14 @@ push-formed m p ts count some terms room =
         second = record {
           front = symbol s.Open ∷ (items ++ symbol s.Close ∷ []);
           is = behind_round items (symbol s.Semicolon ∷ []);
-          formed = round-formed (λ k. form.Commas (g.IsTerm k)) m ts items (items-commas (g.IsTerm m) text_of printed w.IsTerm (term-item m room) ts some terms);
+          formed =
+              round-formed (λ k. form.Commas (g.IsTerm k)) m ts items (items-commas (g.IsTerm m) text_of printed w.IsTerm (term-item m room) ts some terms);
         };
       };
     }
 
-if-formed : (body : ℕ → Steps → List Tok → Type 0) (m : ℕ) (c : Term) (a b : Steps) → w.IsTerm c → 64 ≤ m → body (suc m) a (body_toks a) → form.Seen g.or_done (form.Maybe (form.AfterWord (codes "else") (body (suc m)))) b (else_toks b)
+if-formed : (body : ℕ → Steps → List Tok → Type 0) (m : ℕ) (c : Term) (a b : Steps) → w.IsTerm c → 64 ≤ m → body (suc m) a (body_toks a)
+    → form.Seen g.or_done (form.Maybe (form.AfterWord (codes "else") (body (suc m)))) b (else_toks b)
     → g.IsIf body (suc m) (If c a b) (symbol s.Open ∷ (printed c ++ symbol s.Close ∷ (body_toks a ++ else_toks b)))
 if-formed body m c a b term room when otherwise = record {
   value = (c, (a, b));
@@ -254,7 +269,8 @@ if-formed body m c a b term room when otherwise = record {
 }
 
 -- statements in braces, put together
-then-formed : (nest m : ℕ) (x : Step) (xs : Steps) → IsStmt nest m x (step_toks x) → form.Each (IsStmt nest m) (list_of xs) (rest_toks xs) → g.IsBody nest (suc m) (Then x xs) (body_toks (Then x xs))
+then-formed : (nest m : ℕ) (x : Step) (xs : Steps) → IsStmt nest m x (step_toks x) → form.Each (IsStmt nest m) (list_of xs) (rest_toks xs)
+    → g.IsBody nest (suc m) (Then x xs) (body_toks (Then x xs))
 then-formed nest m x xs first rest = record {
   back = (step_toks x ++ rest_toks xs) ++ symbol s.CloseBrace ∷ [];
   is = refl;
@@ -271,32 +287,42 @@ mutual
   stmt-formed : (nest m : ℕ) (x : Step) → w.IsStep x → w.depth_once x ≤ nest → nest + 65 ≤ m → IsStmt nest m x (step_toks x)
   stmt-formed zero zero x h d room = absurd (omega arith)
   stmt-formed (suc nest) zero x h d room = absurd (omega arith)
-  stmt-formed zero (suc m) (Set k t) h d room = record { word = codes "slot"; back = symbol s.OpenBracket ∷ number k ∷ symbol s.CloseBracket ∷ symbol s.Assign ∷ (printed t ++ symbol s.Semicolon ∷ []); is = refl; formed = set-formed m k t h.0 h.1 (omega arith) }
-  stmt-formed (suc nest) (suc m) (Set k t) h d room = record { word = codes "slot"; back = symbol s.OpenBracket ∷ number k ∷ symbol s.CloseBracket ∷ symbol s.Assign ∷ (printed t ++ symbol s.Semicolon ∷ []); is = refl; formed = set-formed m k t h.0 h.1 (omega arith) }
-  stmt-formed zero (suc m) (Push p ts) h d room = record { word = codes "push"; back = number p ∷ symbol s.Open ∷ (items_toks (map printed ts) ++ symbol s.Close ∷ symbol s.Semicolon ∷ []); is = refl; formed = push-formed m p ts h.0 h.1 h.2 (omega arith) }
-  stmt-formed (suc nest) (suc m) (Push p ts) h d room = record { word = codes "push"; back = number p ∷ symbol s.Open ∷ (items_toks (map printed ts) ++ symbol s.Close ∷ symbol s.Semicolon ∷ []); is = refl; formed = push-formed m p ts h.0 h.1 h.2 (omega arith) }
+  stmt-formed zero (suc m) (Set k t) h d room =
+      record { word = codes "slot"; back = symbol s.OpenBracket ∷ number k ∷ symbol s.CloseBracket ∷ symbol s.Assign ∷ (printed t ++ symbol s.Semicolon ∷ []); is = refl; formed = set-formed m k t h.0 h.1 (omega arith) }
+  stmt-formed (suc nest) (suc m) (Set k t) h d room =
+      record { word = codes "slot"; back = symbol s.OpenBracket ∷ number k ∷ symbol s.CloseBracket ∷ symbol s.Assign ∷ (printed t ++ symbol s.Semicolon ∷ []); is = refl; formed = set-formed m k t h.0 h.1 (omega arith) }
+  stmt-formed zero (suc m) (Push p ts) h d room =
+      record { word = codes "push"; back = number p ∷ symbol s.Open ∷ (items_toks (map printed ts) ++ symbol s.Close ∷ symbol s.Semicolon ∷ []); is = refl; formed = push-formed m p ts h.0 h.1 h.2 (omega arith) }
+  stmt-formed (suc nest) (suc m) (Push p ts) h d room =
+      record { word = codes "push"; back = number p ∷ symbol s.Open ∷ (items_toks (map printed ts) ++ symbol s.Close ∷ symbol s.Semicolon ∷ []); is = refl; formed = push-formed m p ts h.0 h.1 h.2 (omega arith) }
   stmt-formed zero (suc m) (If c a b) h d room = absurd (omega arith)
   stmt-formed (suc nest) (suc m) (If c a b) h d room = record {
     word = codes "if";
     back = symbol s.Open ∷ (printed c ++ symbol s.Close ∷ (body_toks a ++ else_toks b));
     is = refl;
-    formed = if-formed (g.IsBodyOf (IsStmt nest)) m c a b h.0 (omega arith) (body-formed nest (suc m) a h.1 (omega arith) (omega arith)) (else-formed nest (suc m) b h.2 (omega arith) (omega arith));
+    formed =
+        if-formed (g.IsBodyOf (IsStmt nest)) m c a b h.0 (omega arith) (body-formed nest (suc m) a h.1 (omega arith) (omega arith)) (else-formed nest (suc m) b h.2 (omega arith) (omega arith));
   }
 
   pub body-formed : (nest n : ℕ) (xs : Steps) → w.IsSteps xs → w.depths xs ≤ nest → nest + 66 ≤ n → g.IsBody nest n xs (body_toks xs)
   body-formed nest zero xs h d room = absurd (omega arith)
-  body-formed nest (suc m) Done h d room = record { back = symbol s.CloseBrace ∷ []; is = refl; formed = record { front = []; is = refl; formed = record { value = []; is = refl; formed = refl } } }
-  body-formed nest (suc m) (Then x xs) h d room = then-formed nest m x xs (stmt-formed nest m x h.0 (omega arith) (omega arith)) (rest-formed nest m xs h.1 (omega arith) (omega arith))
+  body-formed nest (suc m) Done h d room =
+      record { back = symbol s.CloseBrace ∷ []; is = refl; formed = record { front = []; is = refl; formed = record { value = []; is = refl; formed = refl } } }
+  body-formed nest (suc m) (Then x xs) h d room =
+      then-formed nest m x xs (stmt-formed nest m x h.0 (omega arith) (omega arith)) (rest-formed nest m xs h.1 (omega arith) (omega arith))
 
   rest-formed : (nest m : ℕ) (xs : Steps) → w.IsSteps xs → w.depths xs ≤ nest → nest + 65 ≤ m → form.Each (IsStmt nest m) (list_of xs) (rest_toks xs)
   rest-formed nest m Done h d room = refl
-  rest-formed nest m (Then x xs) h d room = (step_toks x, rest_toks xs, refl, stmt-formed nest m x h.0 (omega arith) (omega arith), rest-formed nest m xs h.1 (omega arith) (omega arith))
+  rest-formed nest m (Then x xs) h d room =
+      (step_toks x, rest_toks xs, refl, stmt-formed nest m x h.0 (omega arith) (omega arith), rest-formed nest m xs h.1 (omega arith) (omega arith))
 
-  else-formed : (nest n : ℕ) (xs : Steps) → w.IsSteps xs → w.depths xs ≤ nest → nest + 66 ≤ n → form.Seen g.or_done (form.Maybe (form.AfterWord (codes "else") (g.IsBody nest n))) xs (else_toks xs)
+  else-formed : (nest n : ℕ) (xs : Steps) → w.IsSteps xs → w.depths xs ≤ nest → nest + 66 ≤ n
+      → form.Seen g.or_done (form.Maybe (form.AfterWord (codes "else") (g.IsBody nest n))) xs (else_toks xs)
   else-formed nest zero xs h d room = absurd (omega arith)
   else-formed nest (suc m) Done h d room = record { value = None; is = refl; formed = refl }
   else-formed nest (suc m) (Then x xs) h d room = record {
     value = Some (Then x xs);
     is = refl;
-    formed = record { back = body_toks (Then x xs); is = refl; formed = then-formed nest m x xs (stmt-formed nest m x h.0 (omega arith) (omega arith)) (rest-formed nest m xs h.1 (omega arith) (omega arith)) };
+    formed =
+        record { back = body_toks (Then x xs); is = refl; formed = then-formed nest m x xs (stmt-formed nest m x h.0 (omega arith) (omega arith)) (rest-formed nest m xs h.1 (omega arith) (omega arith)) };
   }

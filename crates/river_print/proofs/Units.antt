@@ -10,7 +10,8 @@ use Rattle.work_code.specs.Lexis.{first_is, is_letter, is_word, is_digit}
 use Rattle.work_code.specs.Tok.{Tok, name, var, number, symbol}
 use Rattle.work_code.specs.declared.sign.Symbol.{Symbol}
 use Rattle.work_code.specs.declared.sign.Symbol.TheVariants as s
-use Rattle.work_code.proofs.Spelled.{Spells, Anything, NoWord, MayFollow, is_name_text, spells-then, spells-blank, spells-symbol, spells-name, spells-var, blank_follows}
+use Rattle.work_code.proofs.Spelled.{Spells, Anything, NoWord, MayFollow, is_name_text, spells-then, spells-blank, spells-symbol, spells-name, spells-var}
+use Rattle.work_code.proofs.Spelled.{blank_follows}
 use Rattle.work_code.specs.Symbols.{symbol_bytes, long_symbol}
 use Rattle.text_forms.proofs.PrintedExpr.{blank-then}
 use Rattle.std.specs.Str.{bytes_eq}
@@ -154,20 +155,27 @@ inner_count n h = round-formed (λ k. g.Count) 126 n (count_tok n) (count-formed
 
 flat-formed : (t : FlatType) → w.IsCount (w.flat_width t) → p.IsFlat 127 t (flat_toks t)
 unfolding flat_toks
-flat-formed (Rows n) h = record { word = codes "rows"; back = listed (count_tok n ∷ []) []; is = refl; formed = record { value = n; is = refl; formed = inner_count n h } }
-flat-formed (Stream n) h = record { word = codes "stream"; back = listed (count_tok n ∷ []) []; is = refl; formed = record { value = n; is = refl; formed = inner_count n h } }
-flat-formed (Relation n) h = record { word = codes "relation"; back = listed (count_tok n ∷ []) []; is = refl; formed = record { value = n; is = refl; formed = inner_count n h } }
+flat-formed (Rows n) h =
+    record { word = codes "rows"; back = listed (count_tok n ∷ []) []; is = refl; formed = record { value = n; is = refl; formed = inner_count n h } }
+flat-formed (Stream n) h =
+    record { word = codes "stream"; back = listed (count_tok n ∷ []) []; is = refl; formed = record { value = n; is = refl; formed = inner_count n h } }
+flat-formed (Relation n) h =
+    record { word = codes "relation"; back = listed (count_tok n ∷ []) []; is = refl; formed = record { value = n; is = refl; formed = inner_count n h } }
 
 type-formed : (t : QueueType) → w.IsType t → p.IsType t (type_toks t)
 unfolding type_toks flat_toks
-type-formed (Flat (Rows n)) h = record { word = codes "rows"; back = listed (count_tok n ∷ []) []; is = refl; formed = record { value = Rows n; is = refl; formed = record { value = n; is = refl; formed = count-round n h } } }
-type-formed (Flat (Stream n)) h = record { word = codes "stream"; back = listed (count_tok n ∷ []) []; is = refl; formed = record { value = Stream n; is = refl; formed = record { value = n; is = refl; formed = count-round n h } } }
-type-formed (Flat (Relation n)) h = record { word = codes "relation"; back = listed (count_tok n ∷ []) []; is = refl; formed = record { value = Relation n; is = refl; formed = record { value = n; is = refl; formed = count-round n h } } }
+type-formed (Flat (Rows n)) h =
+    record { word = codes "rows"; back = listed (count_tok n ∷ []) []; is = refl; formed = record { value = Rows n; is = refl; formed = record { value = n; is = refl; formed = count-round n h } } }
+type-formed (Flat (Stream n)) h =
+    record { word = codes "stream"; back = listed (count_tok n ∷ []) []; is = refl; formed = record { value = Stream n; is = refl; formed = record { value = n; is = refl; formed = count-round n h } } }
+type-formed (Flat (Relation n)) h =
+    record { word = codes "relation"; back = listed (count_tok n ∷ []) []; is = refl; formed = record { value = Relation n; is = refl; formed = record { value = n; is = refl; formed = count-round n h } } }
 type-formed (Pack t) h = record {
   word = codes "pack";
   back = listed (flat_toks t ∷ []) [];
   is = refl;
-  formed = record { value = t; is = refl; formed = subst (λ (l : List Tok). g.Round p.IsFlat 128 t (symbol s.Open ∷ (l ++ symbol s.Close ∷ []))) (sym (append-nil (flat_toks t))) (round-formed p.IsFlat 127 t (flat_toks t) (flat-formed t h)) };
+  formed =
+      record { value = t; is = refl; formed = subst (λ (l : List Tok). g.Round p.IsFlat 128 t (symbol s.Open ∷ (l ++ symbol s.Close ∷ []))) (sym (append-nil (flat_toks t))) (round-formed p.IsFlat 127 t (flat_toks t) (flat-formed t h)) };
 }
 
 -- ---- declarations
@@ -187,7 +195,8 @@ decl-spells word d is h =
     (now-colon (codes " " ++ typed))))
     (now-blank (d.name ++ (codes ": " ++ typed)))
 
-decl-whole : (word : List ℕ) (n : List ℕ) (t : QueueType) (rest : List Tok) → cut 0 (name word ∷ name n ∷ symbol s.Colon ∷ ((type_toks t ++ symbol s.Semicolon ∷ []) ++ rest)) ≡ (name word ∷ name n ∷ symbol s.Colon ∷ (type_toks t ++ symbol s.Semicolon ∷ [])) ∷ cut 0 rest
+decl-whole : (word : List ℕ) (n : List ℕ) (t : QueueType) (rest : List Tok)
+    → cut 0 (name word ∷ name n ∷ symbol s.Colon ∷ ((type_toks t ++ symbol s.Semicolon ∷ []) ++ rest)) ≡ (name word ∷ name n ∷ symbol s.Colon ∷ (type_toks t ++ symbol s.Semicolon ∷ [])) ∷ cut 0 rest
 unfolding cut ends_unit braces_after type_toks flat_toks
 decl-whole word n (Flat (Rows k)) rest = refl
 decl-whole word n (Flat (Stream k)) rest = refl
@@ -212,12 +221,14 @@ decl-formed d h = record {
     back = symbol s.Colon ∷ (type_toks d.kind ++ symbol s.Semicolon ∷ []);
     is = refl;
     first = named-formed d.name h.0;
-    second = record { back = type_toks d.kind ++ symbol s.Semicolon ∷ []; is = refl; formed = record { front = type_toks d.kind; is = refl; formed = type-formed d.kind h.1 } };
+    second =
+        record { back = type_toks d.kind ++ symbol s.Semicolon ∷ []; is = refl; formed = record { front = type_toks d.kind; is = refl; formed = type-formed d.kind h.1 } };
   };
 }
 
 -- its line spells a unit
-pub decl-unit : (word : List ℕ) (d : Decl) → is_name_text word ≡ true → bytes_eq word (codes "else") ≡ false → w.IsDecl d → UnitPiece (decl_line word d) (decl_toks word d)
+pub decl-unit : (word : List ℕ) (d : Decl) → is_name_text word ≡ true → bytes_eq word (codes "else") ≡ false → w.IsDecl d
+    → UnitPiece (decl_line word d) (decl_toks word d)
 unfolding decl_toks
 decl-unit word d is other h = record { spells = decl-spells word d is h; begins = λ rest. other; whole = λ rest none. decl-whole word d.name d.kind rest }
 
@@ -256,12 +267,15 @@ kind-piece : (t : TableKind) → w.IsKind t → Piece (table_text t) (kind_toks 
 unfolding kind_toks
 kind-piece (Sum k) h = worded (codes "sum") (decimal k ∷ []) (count_tok k ∷ []) is_sum (one_count k h)
 kind-piece (Collection k) h = worded (codes "collection") (decimal k ∷ []) (count_tok k ∷ []) is_collection (one_count k h)
-kind-piece (Maximum best k) h = worded (codes "maximum") (decimal best ∷ decimal k ∷ []) (count_tok best ∷ count_tok k ∷ []) is_maximum (pieces g.Count decimal count_tok w.IsCount count-item (best ∷ k ∷ []) (h.0, (h.1, tt)))
+kind-piece (Maximum best k) h =
+    worded (codes "maximum") (decimal best ∷ decimal k ∷ []) (count_tok best ∷ count_tok k ∷ []) is_maximum (pieces g.Count decimal count_tok w.IsCount count-item (best ∷ k ∷ []) (h.0, (h.1, tt)))
 
 kind-formed : (t : TableKind) → w.IsKind t → form.Headed p.KindAfter t (kind_toks t)
 unfolding kind_toks
-kind-formed (Sum k) h = record { word = codes "sum"; back = listed (count_tok k ∷ []) []; is = refl; formed = record { value = k; is = refl; formed = count-round k h } }
-kind-formed (Collection k) h = record { word = codes "collection"; back = listed (count_tok k ∷ []) []; is = refl; formed = record { value = k; is = refl; formed = count-round k h } }
+kind-formed (Sum k) h =
+    record { word = codes "sum"; back = listed (count_tok k ∷ []) []; is = refl; formed = record { value = k; is = refl; formed = count-round k h } }
+kind-formed (Collection k) h =
+    record { word = codes "collection"; back = listed (count_tok k ∷ []) []; is = refl; formed = record { value = k; is = refl; formed = count-round k h } }
 kind-formed (Maximum best k) h = record {
   word = codes "maximum";
   back = listed (count_tok best ∷ count_tok k ∷ []) [];
@@ -277,7 +291,8 @@ kind-formed (Maximum best k) h = record {
 unfoldable pub table_toks : TableDecl → List Tok
 table_toks t = name (codes "table") ∷ var t.name ∷ symbol s.Colon ∷ (kind_toks t.kind ++ symbol s.Semicolon ∷ [])
 
-table-whole : (n : List ℕ) (t : TableKind) (rest : List Tok) → cut 0 (name (codes "table") ∷ var n ∷ symbol s.Colon ∷ ((kind_toks t ++ symbol s.Semicolon ∷ []) ++ rest)) ≡ (name (codes "table") ∷ var n ∷ symbol s.Colon ∷ (kind_toks t ++ symbol s.Semicolon ∷ [])) ∷ cut 0 rest
+table-whole : (n : List ℕ) (t : TableKind) (rest : List Tok)
+    → cut 0 (name (codes "table") ∷ var n ∷ symbol s.Colon ∷ ((kind_toks t ++ symbol s.Semicolon ∷ []) ++ rest)) ≡ (name (codes "table") ∷ var n ∷ symbol s.Colon ∷ (kind_toks t ++ symbol s.Semicolon ∷ [])) ∷ cut 0 rest
 unfolding cut ends_unit braces_after kind_toks
 table-whole n (Sum k) rest = refl
 table-whole n (Collection k) rest = refl
@@ -310,14 +325,16 @@ table-formed t h = record {
     back = symbol s.Colon ∷ (kind_toks t.kind ++ symbol s.Semicolon ∷ []);
     is = refl;
     first = variable-formed t.name h.0;
-    second = record { back = kind_toks t.kind ++ symbol s.Semicolon ∷ []; is = refl; formed = record { front = kind_toks t.kind; is = refl; formed = kind-formed t.kind h.1 } };
+    second =
+        record { back = kind_toks t.kind ++ symbol s.Semicolon ∷ []; is = refl; formed = record { front = kind_toks t.kind; is = refl; formed = kind-formed t.kind h.1 } };
   };
 }
 
 unfoldable pub var_toks : List ℕ → List Tok
 var_toks v = name (codes "var") ∷ var v ∷ symbol s.Semicolon ∷ []
 
-var-whole : (v : List ℕ) (rest : List Tok) → cut 0 (name (codes "var") ∷ var v ∷ symbol s.Semicolon ∷ rest) ≡ (name (codes "var") ∷ var v ∷ symbol s.Semicolon ∷ []) ∷ cut 0 rest
+var-whole : (v : List ℕ) (rest : List Tok)
+    → cut 0 (name (codes "var") ∷ var v ∷ symbol s.Semicolon ∷ rest) ≡ (name (codes "var") ∷ var v ∷ symbol s.Semicolon ∷ []) ∷ cut 0 rest
 unfolding cut ends_unit braces_after
 var-whole v rest = refl
 
@@ -325,7 +342,8 @@ var-whole v rest = refl
 pub var-unit : (v : List ℕ) → w.IsNamed v → UnitPiece (var_line v) (var_toks v)
 unfolding var_toks
 var-unit v h = record {
-  spells = line-then (codes "var") (name (codes "var") ∷ []) (codes " " ++ (var_text v ++ codes ";\n")) (var v ∷ symbol s.Semicolon ∷ []) (name-piece (codes "var") is_var)
+  spells =
+      line-then (codes "var") (name (codes "var") ∷ []) (codes " " ++ (var_text v ++ codes ";\n")) (var v ∷ symbol s.Semicolon ∷ []) (name-piece (codes "var") is_var)
       (line-blank (var_text v ++ codes ";\n") (var v ∷ symbol s.Semicolon ∷ []) (line-then (var_text v) (var v ∷ []) (codes ";\n") (symbol s.Semicolon ∷ []) (var-piece v (name-text v h)) semicolon-end (now-semicolon (codes "\n")))) (now-blank (var_text v ++ codes ";\n"));
   begins = λ rest. refl;
   whole = λ rest none. var-whole v rest;
@@ -380,7 +398,8 @@ ports-piece qs vs h k =
     subst (λ (l : List (List ℕ)). Piece (list_text l) (listed (port_toks qs vs) [])) (texts-same qs vs)
     (list-last (map port_text (ports qs vs)) (port_toks qs vs) (pieces p.IsPort port_text port_tok IsPortNamed port-item (ports qs vs) (ports-named qs vs h k)))
 
-ports-line : (qs vs : List Name) (u : List ℕ) (us : List Tok) → w.Every w.IsNamed qs → w.Every w.IsNamed vs → Line u us → EndsNow u → Line (ports_text qs vs ++ u) (listed (port_toks qs vs) us)
+ports-line : (qs vs : List Name) (u : List ℕ) (us : List Tok) → w.Every w.IsNamed qs → w.Every w.IsNamed vs → Line u us → EndsNow u
+    → Line (ports_text qs vs ++ u) (listed (port_toks qs vs) us)
 ports-line qs vs u us h k y e =
     subst (λ (l : List Tok). Line (ports_text qs vs ++ u) l) (sym (behind_round (items_toks (port_toks qs vs)) us))
     (line-then (ports_text qs vs) (listed (port_toks qs vs) []) u us (ports-piece qs vs h k) y e)
@@ -389,7 +408,8 @@ abbrev kernel_braced : OpForm → List Tok
 kernel_braced op = symbol s.OpenBrace ∷ (kernel_toks op.kernel ++ symbol s.CloseBrace ∷ [])
 
 unfoldable pub op_toks : OpForm → List Tok
-op_toks op = name (codes "op") ∷ name op.label ∷ symbol s.Colon ∷ listed (port_toks op.writes op.vars) (symbol s.Less ∷ symbol s.Minus ∷ listed (port_toks op.reads op.vars) (kernel_braced op))
+op_toks op =
+    name (codes "op") ∷ name op.label ∷ symbol s.Colon ∷ listed (port_toks op.writes op.vars) (symbol s.Less ∷ symbol s.Minus ∷ listed (port_toks op.reads op.vars) (kernel_braced op))
 
 less_minus : (rest : List ℕ) → MayFollow s.Less (codes "-" ++ rest)
 unfolding long_symbol
@@ -429,7 +449,8 @@ record Loose (ts : List Tok) : Type 0 where
   goes : (rest : List Tok) → cut 0 (ts ++ rest) ≡ all_first ts (cut 0 rest)
 
 flat-then : (ts us : List Tok) → Loose ts → Loose us → Loose (ts ++ us)
-flat-then ts us x y = record { goes = λ rest. ap (cut 0) (append_assoc ts us rest) ∙ x.goes (us ++ rest) ∙ ap (all_first ts) (y.goes rest) ∙ sym (all_first-append ts us (cut 0 rest)) }
+flat-then ts us x y =
+    record { goes = λ rest. ap (cut 0) (append_assoc ts us rest) ∙ x.goes (us ++ rest) ∙ ap (all_first ts) (y.goes rest) ∙ sym (all_first-append ts us (cut 0 rest)) }
 
 flat-nothing : Loose []
 flat-nothing = record { goes = λ rest. refl }
@@ -468,7 +489,8 @@ flat-port (p.variable v) = flat-var v
 
 flat-more : (xs : List p.Port) → Loose (more_toks (map port_tok xs))
 flat-more [] = flat-nothing
-flat-more (x ∷ xs) = flat-then (symbol s.Comma ∷ []) (port_tok x ++ more_toks (map port_tok xs)) flat-comma (flat-then (port_tok x) (more_toks (map port_tok xs)) (flat-port x) (flat-more xs))
+flat-more (x ∷ xs) =
+    flat-then (symbol s.Comma ∷ []) (port_tok x ++ more_toks (map port_tok xs)) flat-comma (flat-then (port_tok x) (more_toks (map port_tok xs)) (flat-port x) (flat-more xs))
 
 flat-items : (xs : List p.Port) → Loose (items_toks (map port_tok xs))
 flat-items [] = flat-nothing
@@ -491,13 +513,15 @@ opens : (ts : List Tok) → cut 0 (symbol s.OpenBrace ∷ ts) ≡ to_first (symb
 unfolding cut ends_unit braces_after
 opens ts = refl
 
-braces-whole : (k rest : List Tok) → Inside k → is_else rest ≡ false → cut 0 ((symbol s.OpenBrace ∷ (k ++ symbol s.CloseBrace ∷ [])) ++ rest) ≡ (symbol s.OpenBrace ∷ (k ++ symbol s.CloseBrace ∷ [])) ∷ cut 0 rest
+braces-whole : (k rest : List Tok) → Inside k → is_else rest ≡ false
+    → cut 0 ((symbol s.OpenBrace ∷ (k ++ symbol s.CloseBrace ∷ [])) ++ rest) ≡ (symbol s.OpenBrace ∷ (k ++ symbol s.CloseBrace ∷ [])) ∷ cut 0 rest
 braces-whole k rest x none =
     opens ((k ++ symbol s.CloseBrace ∷ []) ++ rest)
     ∙ ap (to_first (symbol s.OpenBrace)) (ap (cut 1) (append_assoc k (symbol s.CloseBrace ∷ []) rest) ∙ x.goes 0 (symbol s.CloseBrace ∷ rest) ∙ ap (all_first k) (closes rest none) ∙ all_first-one k (symbol s.CloseBrace ∷ []) (cut 0 rest))
 
 abbrev op_front : OpForm → List Tok
-op_front op = name (codes "op") ∷ name op.label ∷ symbol s.Colon ∷ listed (port_toks op.writes op.vars) (symbol s.Less ∷ symbol s.Minus ∷ listed (port_toks op.reads op.vars) [])
+op_front op =
+    name (codes "op") ∷ name op.label ∷ symbol s.Colon ∷ listed (port_toks op.writes op.vars) (symbol s.Less ∷ symbol s.Minus ∷ listed (port_toks op.reads op.vars) [])
 
 op-split : (op : OpForm) → op_toks op ≡ op_front op ++ kernel_braced op
 unfolding op_toks
@@ -535,10 +559,12 @@ same-names [] = refl
 same-names (v ∷ vs) = rw ((bytes_eq-Decides v v).1 refl, same-names vs) refl
 
 abbrev op_back : OpForm → List Tok
-op_back op = name op.label ∷ symbol s.Colon ∷ listed (port_toks op.writes op.vars) (symbol s.Less ∷ symbol s.Minus ∷ listed (port_toks op.reads op.vars) (kernel_braced op))
+op_back op =
+    name op.label ∷ symbol s.Colon ∷ listed (port_toks op.writes op.vars) (symbol s.Less ∷ symbol s.Minus ∷ listed (port_toks op.reads op.vars) (kernel_braced op))
 
 ports-formed : (qs vs : List Name) → w.Every w.IsNamed qs → w.Every w.IsNamed vs → g.Round (λ m. p.IsPorts) 128 (qs, vs) (listed (port_toks qs vs) [])
-ports-formed qs vs h k = round-formed (λ k. p.IsPorts) 127 (qs, vs) (items_toks (port_toks qs vs)) (items-listing p.IsPort port_text port_tok IsPortNamed port-item (ports qs vs) (ports-named qs vs h k))
+ports-formed qs vs h k =
+    round-formed (λ k. p.IsPorts) 127 (qs, vs) (items_toks (port_toks qs vs)) (items-listing p.IsPort port_text port_tok IsPortNamed port-item (ports qs vs) (ports-named qs vs h k))
 
 -- an operator is in the grammar
 pub op-formed : (op : OpForm) → w.IsOp op → p.IsOp op (op_back op)
@@ -552,7 +578,8 @@ op-formed op h =
         passes = same-names op.vars;
         formed = record {
           front = name op.label ∷ [];
-          back = symbol s.Colon ∷ listed (port_toks op.writes op.vars) (symbol s.Less ∷ symbol s.Minus ∷ listed (port_toks op.reads op.vars) (kernel_braced op));
+          back =
+              symbol s.Colon ∷ listed (port_toks op.writes op.vars) (symbol s.Less ∷ symbol s.Minus ∷ listed (port_toks op.reads op.vars) (kernel_braced op));
           is = refl;
           first = named-formed op.label h.0;
           second = record {

@@ -14,7 +14,8 @@ use Rattle.river_base.specs.Number.{count_of}
 use Rattle.river_base.specs.declared.kind.QueueType.{QueueType}
 use Rattle.river_base.specs.declared.kind.QueueType.TheVariants.{Flat}
 use Rattle.river_kernels.specs.declared.types.VarKind.{VarKind}
-use Rattle.river_kernels.specs.Formed.{is_width, is_sound, is_term, counts, has_port, is_step, is_steps, is_code, is_filter, has_rates, is_number, are_weights, pushes}
+use Rattle.river_kernels.specs.Formed.{is_width, is_sound, is_term, counts, has_port, is_step, is_steps, is_code, is_filter, has_rates, is_number, are_weights}
+use Rattle.river_kernels.specs.Formed.{pushes}
 use Rattle.river_kernels.specs.Fits.{Fits, is_sized, is_bag, are_widths, width_of}
 use Rattle.river_kernels.specs.Kern.{Kern}
 use Rattle.river_kernels.specs.Kern as kern
@@ -79,15 +80,18 @@ mutual
   step : (inputs slots : ℕ) (outs : List ℤ) (x : Step) → are_widths outs ≡ true → is_step inputs slots outs x ≡ true → ranges.IsRangedStep x → w.IsStep x
   step i s outs (Set slot t) wide h k = let a = and_parts (nat_lt slot s) (is_term i s t) h in (k.0, term i s t a.1 k.1)
   step i s outs (Push port ts) wide h k =
-      let a = and_parts (has_port outs port (length ts)) (list_all (is_term i s) ts) h in (k.0, some_values outs port (length ts) wide a.0, terms i s ts a.1 k.1)
+      let a = and_parts (has_port outs port (length ts)) (list_all (is_term i s) ts) h in
+      (k.0, some_values outs port (length ts) wide a.0, terms i s ts a.1 k.1)
   step i s outs (If cond when otherwise) wide h k =
       let a = and_parts (is_term i s cond) (is_steps i s outs when && is_steps i s outs otherwise) h in
       let b = and_parts (is_steps i s outs when) (is_steps i s outs otherwise) a.1 in
       (term i s cond a.0 k.0, steps i s outs when wide b.0 k.1, steps i s outs otherwise wide b.1 k.2)
 
-  steps : (inputs slots : ℕ) (outs : List ℤ) (xs : Steps) → are_widths outs ≡ true → is_steps inputs slots outs xs ≡ true → ranges.IsRangedSteps xs → w.IsSteps xs
+  steps : (inputs slots : ℕ) (outs : List ℤ) (xs : Steps) → are_widths outs ≡ true → is_steps inputs slots outs xs ≡ true → ranges.IsRangedSteps xs
+      → w.IsSteps xs
   steps i s outs Done wide h k = tt
-  steps i s outs (Then x xs) wide h k = let a = and_parts (is_step i s outs x) (is_steps i s outs xs) h in (step i s outs x wide a.0 k.0, steps i s outs xs wide a.1 k.1)
+  steps i s outs (Then x xs) wide h k =
+      let a = and_parts (is_step i s outs x) (is_steps i s outs xs) h in (step i s outs x wide a.0 k.0, steps i s outs xs wide a.1 k.1)
 
 -- WIDTHS AND WEIGHTS
 
@@ -108,7 +112,9 @@ each_weight [] h k = tt
 each_weight (z ∷ zs) h k = let a = and_parts (nat_le 1 (count_of z)) (list_all (λ y. nat_le 1 (count_of y)) zs) h in (weight z a.0 k.0, each_weight zs a.1 k.1)
 
 weights : (zs : List ℤ) → are_weights zs ≡ true → w.Every w.IsStart zs → (0 < length zs) × w.Every w.IsNatural zs
-weights zs h k = let a = and_parts (nat_le 1 (length zs)) (list_all (λ z. nat_le 1 (count_of z)) zs) h in let b = at_most 1 (length zs) a.0 in (omega (arith, b), each_weight zs a.1 k)
+weights zs h k =
+    let a = and_parts (nat_le 1 (length zs)) (list_all (λ z. nat_le 1 (count_of z)) zs) h in let b = at_most 1 (length zs) a.0 in
+    (omega (arith, b), each_weight zs a.1 k)
 
 -- KERNELS
 
@@ -158,7 +164,8 @@ kernel (kern.fused a b at) is os vs f k s d = (k.2, kernel a is f.0 f.3 f.5 k.0 
 
 -- PLANS
 
-operators : (p : PlanForm) (ops : List OpForm) → Each (IsFit p) ops → All (λ n. n ≤ 32) (nestings ops) → w.Every ranges.IsRangedOp ops → w.Every (λ op. r.IsShallow op.kernel) ops → w.Every (λ op. r.HasForward op.kernel) ops → w.Every w.IsOp ops
+operators : (p : PlanForm) (ops : List OpForm) → Each (IsFit p) ops → All (λ n. n ≤ 32) (nestings ops) → w.Every ranges.IsRangedOp ops
+    → w.Every (λ op. r.IsShallow op.kernel) ops → w.Every (λ op. r.HasForward op.kernel) ops → w.Every w.IsOp ops
 operators p [] f n k s d = tt
 operators p (op ∷ ops) f n k s d = (
   (

@@ -61,7 +61,8 @@ makes-has p text = by (tokens_in text) refl where
   last ss t (Ok q) e = (ss, t, e)
   last ss t (Err f) e = (ss, t, e)
 
-  read : (marks : List Mark) → tokens_in text ≡ Ok marks → (r : Result (List StepForm) ℕ) → read_steps 1 [] (units_of (toks marks)) ≡ r → Has p text (then_applied p r)
+  read : (marks : List Mark) → tokens_in text ≡ Ok marks → (r : Result (List StepForm) ℕ) → read_steps 1 [] (units_of (toks marks)) ≡ r
+      → Has p text (then_applied p r)
   read marks lexed (Ok ss) e = last ss (script-read text marks ss lexed e) (script_of p ss) refl
   read marks lexed (Err unit) e = script-bad text marks unit lexed e
 
@@ -84,11 +85,13 @@ lexed-unread text (lex.BigNumber at) e = λ p. lexed-makes p text (lex.BigNumber
 lexed-unread text lex.NoMemory e = tt
 
 -- the reading of a text with a unit that is no step
-pub unit-unread : (text : List ℕ) (marks : List Mark) (unit : ℕ) → tokens_in text ≡ Ok marks → read_steps 1 [] (units_of (toks marks)) ≡ Err unit → IsUnread text (at_unit unit)
+pub unit-unread : (text : List ℕ) (marks : List Mark) (unit : ℕ) → tokens_in text ≡ Ok marks → read_steps 1 [] (units_of (toks marks)) ≡ Err unit
+    → IsUnread text (at_unit unit)
 unit-unread text marks unit lexed read = λ p. bad-makes p text unit (script-bad text marks unit lexed read)
 
 -- as many steps as units, so fewer than bytes
-pub few-steps : (text : List ℕ) (marks : List Mark) (ss : List StepForm) → length text < 2 ^ 32 → tokens_in text ≡ Ok marks → read_steps 1 [] (units_of (toks marks)) ≡ Ok ss → length ss < 2 ^ 32
+pub few-steps : (text : List ℕ) (marks : List Mark) (ss : List StepForm) → length text < 2 ^ 32 → tokens_in text ≡ Ok marks
+    → read_steps 1 [] (units_of (toks marks)) ≡ Ok ss → length ss < 2 ^ 32
 few-steps text marks ss short lexed read =
     let a = script-few ss (units_of (toks marks)) read in
     let b = units-few marks in
@@ -96,8 +99,10 @@ few-steps text marks ss short lexed read =
     omega (arith, a, b, c, short)
 
 -- the same for what was read
-pub few-read : (text : List ℕ) (marks : List Mark) (r : Result (List Step) ScriptFault) → length text < 2 ^ 32 → tokens_in text ≡ Ok marks → GivesSteps r (read_steps 1 [] (units_of (toks marks))) → IfOk r (λ steps. length steps < 2 ^ 32)
-few-read text marks (Ok steps) short lexed g = let a = few-steps text marks (step_forms steps) short lexed g in let b = length-map steps step_form in omega (arith, a, b)
+pub few-read : (text : List ℕ) (marks : List Mark) (r : Result (List Step) ScriptFault) → length text < 2 ^ 32 → tokens_in text ≡ Ok marks
+    → GivesSteps r (read_steps 1 [] (units_of (toks marks))) → IfOk r (λ steps. length steps < 2 ^ 32)
+few-read text marks (Ok steps) short lexed g =
+    let a = few-steps text marks (step_forms steps) short lexed g in let b = length-map steps step_form in omega (arith, a, b)
 few-read text marks (Err f) short lexed g = tt
 
 -- the last plan of the steps
@@ -105,7 +110,8 @@ pub ended-made : (p q : PlanForm) (text : List ℕ) (ss : List StepForm) → IsS
 ended-made p q text ss t e = stands-makes p text ss t ∙ ap ended e
 
 -- the first step that fails
-pub ended-refused : (p : PlanForm) (text : List ℕ) (ss : List StepForm) (f : ScriptFault) → IsScript text ss → IsEnded p ss (Err f) → Refused (rewritten p text) f
+pub ended-refused : (p : PlanForm) (text : List ℕ) (ss : List StepForm) (f : ScriptFault) → IsScript text ss → IsEnded p ss (Err f)
+    → Refused (rewritten p text) f
 ended-refused p text ss (Text refusal) t e = absurd e
 ended-refused p text ss (Unfit step why) t e = stands-makes p text ss t ∙ ap ended e
 ended-refused p text ss NoMemory t e = tt

@@ -63,7 +63,8 @@ second_step = refl
 -- TWO TABLES
 
 abbrev map_kernel : Kern
-map_kernel = code (record { body = record { inputs = 2; slots = 0; steps = Then (Push 0 (Const (pos 1) ∷ [])) (Then (Push 1 (Input 0 ∷ Input 1 ∷ [])) Done) }; outs = pos 1 ∷ pos 2 ∷ []; starts = [] })
+map_kernel =
+    code (record { body = record { inputs = 2; slots = 0; steps = Then (Push 0 (Const (pos 1) ∷ [])) (Then (Push 1 (Input 0 ∷ Input 1 ∷ [])) Done) }; outs = pos 1 ∷ pos 2 ∷ []; starts = [] })
 
 abbrev counted : PlanForm
 counted = record {
@@ -141,7 +142,8 @@ summed = record {
   queues = [];
   tables = [];
   vars = codes "Sum@1" ∷ [];
-  ops = made (codes "Sum@1") (filter (record { peek = 3; pop = 1; push = 1; body = record { inputs = 3; slots = 0; steps = Then (Push 0 (Bin op.Add (Bin op.Add (Input 0) (Input 1)) (Input 2) ∷ [])) Done }; starts = [] }))
+  ops =
+      made (codes "Sum@1") (filter (record { peek = 3; pop = 1; push = 1; body = record { inputs = 3; slots = 0; steps = Then (Push 0 (Bin op.Add (Bin op.Add (Input 0) (Input 1)) (Input 2) ∷ [])) Done }; starts = [] }))
       (codes "in" ∷ []) (codes "out" ∷ []) (codes "Sum@1" ∷ []) ∷ [];
 }
 

@@ -1,5 +1,6 @@
 -- The reading of scripts is exact.
-use Rattle.std.proofs.Common.{◌≡◌, ℕ, ◌+◌, List, [], ◌∷◌, ◌++◌, length, Option, Some, None, Result, Ok, Err, refl, sym, ap, ◌∙◌, arith, append_assoc, append-nil}
+use Rattle.std.proofs.Common.{◌≡◌, ℕ, ◌+◌, List, [], ◌∷◌, ◌++◌, length, Option, Some, None, Result, Ok, Err, refl, sym, ap, ◌∙◌, arith, append_assoc}
+use Rattle.std.proofs.Common.{append-nil}
 use Rattle.std.specs.Prelude.{codes}
 use Rattle.std.specs.Str.{bytes_eq}
 use Rattle.work_code.specs.Cut.{units_of}
@@ -23,7 +24,8 @@ exact-named = exact-before (s.Semicolon ∷ []) (exact-tested is_name exact-name
 
 exact-counted : Exact Counted counted_at Any
 unfolding counted_at step_name_at
-exact-counted = exact-both (exact-tested is_name exact-name) (exact-before (s.Semicolon ∷ []) (exact-tested is_count exact-number) (λ rest. tt)) (λ y ts rest g d. tt)
+exact-counted =
+    exact-both (exact-tested is_name exact-name) (exact-before (s.Semicolon ∷ []) (exact-tested is_count exact-number) (λ rest. tt)) (λ y ts rest g d. tt)
 
 -- a step is read exactly
 pub exact-step : Exact IsStep step_at Any
@@ -77,7 +79,9 @@ steps-many n done ss [] e = let same : length ss ≡ length done = sames e in om
   sames : ◌≡◌ {A = Result (List StepForm) ℕ} (Ok done) (Ok ss) → length ss ≡ length done
   sames f = cc
 steps-many n done ss (u ∷ us) e = by (whole step_at u) e (λ s f. steps-many (n + 1) (done ++ s ∷ []) ss us f) where
-  by : (o : Option StepForm) → with_step n (λ s. read_steps (n + 1) (done ++ s ∷ []) us) o ≡ Ok ss → ((s : StepForm) → read_steps (n + 1) (done ++ s ∷ []) us ≡ Ok ss → length ss ≡ length (done ++ s ∷ []) + length us) → length ss ≡ length done + length (u ∷ us)
+  by : (o : Option StepForm) → with_step n (λ s. read_steps (n + 1) (done ++ s ∷ []) us) o ≡ Ok ss
+      → ((s : StepForm) → read_steps (n + 1) (done ++ s ∷ []) us ≡ Ok ss → length ss ≡ length (done ++ s ∷ []) + length us)
+      → length ss ≡ length done + length (u ∷ us)
   by None f more = cc
   by (Some s) f more = let k = more s f in let l = length_more done s in omega (arith, k, l) where
     length_more : (xs : List StepForm) (x : StepForm) → length (xs ++ x ∷ []) ≡ length xs + 1
@@ -89,7 +93,8 @@ pub script-few : (ss : List StepForm) (units : List (List Tok)) → read_steps 1
 script-few ss units e = let k = steps-many 1 [] ss units e in omega (arith, k)
 
 -- what was read is in the grammar
-pub script-read : (text : List ℕ) (marks : List Mark) (ss : List StepForm) → tokens_in text ≡ Ok marks → read_steps 1 [] (units_of (toks marks)) ≡ Ok ss → IsScript text ss
+pub script-read : (text : List ℕ) (marks : List Mark) (ss : List StepForm) → tokens_in text ≡ Ok marks → read_steps 1 [] (units_of (toks marks)) ≡ Ok ss
+    → IsScript text ss
 script-read text marks ss lexed read =
     record { marks = marks; lexed = lexed; formed = all-formed go_on exact-in tt 1 (units_of (toks marks)) ss (sym (units-read (units_of (toks marks))) ∙ read) }
 
@@ -109,6 +114,7 @@ same_marks text ms ns e f = same (sym e ∙ f) where
 
 -- a text stands for one script at most
 pub one_script : OneScript
-one_script text ss ts t u = same (sym (script-reads text ss t) ∙ ap (λ (ms : List Mark). read_steps 1 [] (units_of (toks ms))) (same_marks text t.marks u.marks t.lexed u.lexed) ∙ script-reads text ts u) where
-  same : ◌≡◌ {A = Result (List StepForm) ℕ} (Ok ss) (Ok ts) → ss ≡ ts
-  same e = cc
+one_script text ss ts t u =
+    same (sym (script-reads text ss t) ∙ ap (λ (ms : List Mark). read_steps 1 [] (units_of (toks ms))) (same_marks text t.marks u.marks t.lexed u.lexed) ∙ script-reads text ts u) where
+      same : ◌≡◌ {A = Result (List StepForm) ℕ} (Ok ss) (Ok ts) → ss ≡ ts
+      same e = cc

@@ -51,7 +51,8 @@ no_script f p' h = cc h
 ok_script : (p p' : PlanForm) (r : Result PlanForm (ℕ × Unfit)) → r ≡ Ok p → r ≡ Ok p' → p ≡ p'
 ok_script p p' r h g = cc
 
-after_keeps : (n : ℕ) (p p' : PlanForm) (s : StepForm) (r : Result PlanForm Unfit) (ss : List StepForm) → IsPlan p → step_of p s ≡ r → then_all n r (λ q. script_from (suc n) q ss) ≡ Ok p'
+after_keeps : (n : ℕ) (p p' : PlanForm) (s : StepForm) (r : Result PlanForm Unfit) (ss : List StepForm) → IsPlan p → step_of p s ≡ r
+    → then_all n r (λ q. script_from (suc n) q ss) ≡ Ok p'
     → ((q : PlanForm) → IsPlan q → script_from (suc n) q ss ≡ Ok p' → Keeps q p') → Keeps p p'
 after_keeps n p p' s (Err f) ss v e h more = absurd (no_script (n, f) p' h)
 after_keeps n p p' s (Ok q) ss v e h more = let k = step_keeps p q s v e in keeps_trans p q p' k (more q k.0 h)

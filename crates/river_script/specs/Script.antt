@@ -39,11 +39,15 @@ script_of p ss = script_from 1 p ss
 
 -- What a script makes is a valid plan of the same inputs, outputs and tables and of the same meaning, on all inputs that fit.
 abbrev pub ScriptKeeps : Type 0
-ScriptKeeps = (p p' : PlanForm) (ss : List StepForm) → IsPlan p → script_of p ss ≡ Ok p' → IsPlan p' × SameOuter p p' × ((inputs : List (List item.Item)) → AreInputs p.inputs inputs → SameMeaning p p' inputs)
+ScriptKeeps =
+    (p p' : PlanForm) (ss : List StepForm) → IsPlan p → script_of p ss ≡ Ok p'
+    → IsPlan p' × SameOuter p p' × ((inputs : List (List item.Item)) → AreInputs p.inputs inputs → SameMeaning p p' inputs)
 
 -- So it has the plan's meaning: the same items at each output, and the same rows in each table.
 abbrev pub ScriptMeans : Type 0
-ScriptMeans = (p p' : PlanForm) (ss : List StepForm) → IsPlan p → script_of p ss ≡ Ok p' → IsPlan p' × SameOuter p p' × ((inputs : List (List item.Item)) → AreInputs p.inputs inputs → meaning p' inputs ≡ meaning p inputs)
+ScriptMeans =
+    (p p' : PlanForm) (ss : List StepForm) → IsPlan p → script_of p ss ≡ Ok p'
+    → IsPlan p' × SameOuter p p' × ((inputs : List (List item.Item)) → AreInputs p.inputs inputs → meaning p' inputs ≡ meaning p inputs)
 
 -- And it keeps a plan within the two bounds of River text, so that what is printed of it stands for it.
 abbrev pub ScriptIsPrintable : Type 0

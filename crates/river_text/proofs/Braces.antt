@@ -8,7 +8,8 @@ use Rattle.river_text.specs.ReadKernels.{braced_at, kernel_at, kernel_after}
 less-one : (n : ℕ) → suc n - 1 ≡ n
 less-one n = omega arith
 
-pub braced-at : (n : ℕ) (ts : List Tok) → braced_at n ts ≡ parse.then_rest (parse.open_at s.OpenBrace n ts) (parse.before (kernel_at (n - 1)) (s.CloseBrace ∷ []))
+pub braced-at : (n : ℕ) (ts : List Tok)
+    → braced_at n ts ≡ parse.then_rest (parse.open_at s.OpenBrace n ts) (parse.before (kernel_at (n - 1)) (s.CloseBrace ∷ []))
 unfolding braced_at kernel_at parse.open_at
 braced-at zero ts = refl
 braced-at (suc n) ts =

@@ -14,12 +14,18 @@ use Rattle.text_forms.specs.declared.language.Language.TheVariants.{River}
 use Rattle.text_forms.specs.Parse as parse
 use Rattle.text_forms.specs.Parse.{Parse}
 use Rattle.text_forms.specs.Forms as form
-use Rattle.text_forms.proofs.Exact.{Exact, Any, exact-less, exact-as, exact-both, exact-after, exact-before, exact-after_word, exact-tested, exact-seen, exact-merged, exact-maybe, exact-number, exact-value, exact-nothing}
+use Rattle.text_forms.proofs.Exact.{Exact, Any, exact-less, exact-as, exact-both, exact-after, exact-before, exact-after_word, exact-tested, exact-seen}
+use Rattle.text_forms.proofs.Exact.{exact-merged, exact-maybe, exact-number, exact-value, exact-nothing}
 use Rattle.text_forms.proofs.Many.{Listed, exact-many, exact-commas}
 use Rattle.text_forms.proofs.Choices.{exact-never, exact-choose, exact-headed, exact-known, exact-enclosed, exact-listing}
 use Rattle.text_forms.proofs.Ladder.{Ends, exact-expr}
-use Rattle.river_text.specs.Kernels.{term_of, least, made_set, made_push, made_if, or_done, made_code, made_filter, made_fused, IsTerm, Count, Width, Signed, Round, IsStarts, IsSet, IsPush, IsIf, IsBodyOf, IsStmt, IsBody, IsCode, IsFilter, IsFused, BagAfter, KernelAfter, IsBraced, IsKernel}
-use Rattle.river_text.specs.ReadKernels.{term_at, width_at, signed_at, round, starts_at, widths_at, weights_at, some_terms_at, terms_at, number_at, two_at, round_term_at, set_at, push_at, at_close, body_of_at, else_at, if_at, stmt_after, steps_of, stmt_at, stmts_at, body_at, pair_at, rates_at, code_at, filter_at, fused_at, range_at, stream_after, relation_after, bag_after, kernel_after, braced_at, kernel_at}
+use Rattle.river_text.specs.Kernels.{term_of, least, made_set, made_push, made_if, or_done, made_code, made_filter, made_fused, IsTerm, Count, Width, Signed}
+use Rattle.river_text.specs.Kernels.{Round, IsStarts, IsSet, IsPush, IsIf, IsBodyOf, IsStmt, IsBody, IsCode, IsFilter, IsFused, BagAfter, KernelAfter, IsBraced}
+use Rattle.river_text.specs.Kernels.{IsKernel}
+use Rattle.river_text.specs.ReadKernels.{term_at, width_at, signed_at, round, starts_at, widths_at, weights_at, some_terms_at, terms_at, number_at, two_at}
+use Rattle.river_text.specs.ReadKernels.{round_term_at, set_at, push_at, at_close, body_of_at, else_at, if_at, stmt_after, steps_of, stmt_at, stmts_at, body_at}
+use Rattle.river_text.specs.ReadKernels.{pair_at, rates_at, code_at, filter_at, fused_at, range_at, stream_after, relation_after, bag_after, kernel_after}
+use Rattle.river_text.specs.ReadKernels.{braced_at, kernel_at}
 use Rattle.river_text.proofs.Regroup.{rates-same}
 
 -- an expression
@@ -34,7 +40,8 @@ pub exact-width : Exact Width width_at Any
 exact-width = exact-seen (λ n. pos n) exact-count
 
 -- between round brackets
-pub exact-round : {A : Type 0} {F : ℕ → A → List Tok → Type 0} {p : ℕ → Parse A} {E : List Tok → Type 0} → ((n : ℕ) → Exact (F n) (p n) E) → ((rest : List Tok) → E (symbol s.Close ∷ rest)) → (n : ℕ) → Exact (Round F n) (round p n) Any
+pub exact-round : {A : Type 0} {F : ℕ → A → List Tok → Type 0} {p : ℕ → Parse A} {E : List Tok → Type 0} → ((n : ℕ) → Exact (F n) (p n) E)
+    → ((rest : List Tok) → E (symbol s.Close ∷ rest)) → (n : ℕ) → Exact (Round F n) (round p n) Any
 exact-round x follows n = exact-enclosed s.Open s.Close x follows n
 
 -- a value in its range
@@ -45,10 +52,12 @@ exact-signed =
     (exact-merged (parse.is_word_at (codes "min")) (exact-after_word (codes "min") (exact-nothing least)) exact-value min_comes (λ v ts rest h d. rw h.formed refl))
     (λ v ts rest h d. rw h.is refl) other) (λ rest d. (tt, (tt, tt)))
   where
-    min_comes : (v : ℤ) (ts rest : List Tok) → form.AfterWord (codes "min") (form.Nothing least) v ts → Any rest → parse.is_word_at (codes "min") (ts ++ rest) ≡ true
+    min_comes : (v : ℤ) (ts rest : List Tok) → form.AfterWord (codes "min") (form.Nothing least) v ts → Any rest
+        → parse.is_word_at (codes "min") (ts ++ rest) ≡ true
     min_comes v ts rest h d = rw h.is refl
 
-    other : (v : ℤ) (ts rest : List Tok) → form.Merged (form.AfterWord (codes "min") (form.Nothing least)) form.Value v ts → Any rest × Any rest → parse.begins_with s.Minus (ts ++ rest) ≡ false
+    other : (v : ℤ) (ts rest : List Tok) → form.Merged (form.AfterWord (codes "min") (form.Nothing least)) form.Value v ts → Any rest × Any rest
+        → parse.begins_with s.Minus (ts ++ rest) ≡ false
     other v ts rest (inl h) d = rw h.is refl
     other v ts rest (inr h) d = rw h.formed refl
 
@@ -99,7 +108,8 @@ exact-push n = exact-seen made_push (exact-both exact-count (exact-before (s.Sem
 abbrev NoElse : List Tok → Type 0
 NoElse rest = parse.is_word_at (codes "else") rest ≡ false
 
-exact-else : {body : ℕ → Steps → List Tok → Type 0} {p : ℕ → Parse Steps} → ((n : ℕ) → Exact (body n) (p n) Any) → (n : ℕ) → Exact (form.Seen or_done (form.Maybe (form.AfterWord (codes "else") (body n)))) (else_at p n) NoElse
+exact-else : {body : ℕ → Steps → List Tok → Type 0} {p : ℕ → Parse Steps} → ((n : ℕ) → Exact (body n) (p n) Any) → (n : ℕ)
+    → Exact (form.Seen or_done (form.Maybe (form.AfterWord (codes "else") (body n)))) (else_at p n) NoElse
 unfolding else_at
 exact-else {body} {p} x n =
     exact-less (exact-seen or_done (exact-maybe (parse.is_word_at (codes "else")) (exact-after_word (codes "else") (x n)) else_comes)) (λ rest d. (tt, d))
@@ -107,7 +117,8 @@ exact-else {body} {p} x n =
     else_comes : (v : Steps) (ts rest : List Tok) → form.AfterWord (codes "else") (body n) v ts → parse.is_word_at (codes "else") (ts ++ rest) ≡ true
     else_comes v ts rest h = rw h.is refl
 
-exact-if : {body : ℕ → Steps → List Tok → Type 0} {p : ℕ → Parse Steps} → ((n : ℕ) → Exact (body n) (p n) Any) → (n : ℕ) → Exact (IsIf body n) (if_at p n) NoElse
+exact-if : {body : ℕ → Steps → List Tok → Type 0} {p : ℕ → Parse Steps} → ((n : ℕ) → Exact (body n) (p n) Any) → (n : ℕ)
+    → Exact (IsIf body n) (if_at p n) NoElse
 unfolding if_at
 exact-if x n = exact-seen made_if (exact-both (exact-round_term n) (exact-both (x n) (exact-else x n) (λ y ts rest g d. tt)) (λ y ts rest g d. tt))
 
@@ -122,7 +133,8 @@ chosen F G false v ts h f g = g h
 not-else : (w word : List ℕ) → bytes_eq word (codes "else") ≡ false → bytes_eq w word ≡ true → bytes_eq w (codes "else") ≡ false
 not-else w word other e = ap (λ (v : List ℕ). bytes_eq v (codes "else")) (word-is w word e) ∙ other
 
-stmt-word : (nest n : ℕ) (v : Step) (ts : List Tok) → IsStmt nest n v ts → (w : List ℕ) × (back : List Tok) × (ts ≡ name w ∷ back) × (bytes_eq w (codes "else") ≡ false)
+stmt-word : (nest n : ℕ) (v : Step) (ts : List Tok) → IsStmt nest n v ts
+    → (w : List ℕ) × (back : List Tok) × (ts ≡ name w ∷ back) × (bytes_eq w (codes "else") ≡ false)
 unfolding IsStmt
 stmt-word zero n v ts h = (
   h.word,
@@ -149,8 +161,10 @@ listed-stmts nest n = record {
   follows = λ v ts rest h. let w = stmt-word nest n v ts h in rw w.2 w.3;
 }
 
-exact-body_of : (nest : ℕ) → ((n : ℕ) → Exact (IsStmt nest n) (stmt_at nest n) NoElse) → (n : ℕ) → Exact (IsBodyOf (IsStmt nest) n) (body_of_at (steps_of (stmt_at nest)) n) Any
-exact-body_of nest x n = exact-enclosed s.OpenBrace s.CloseBrace (λ m. exact-seen in_turn (exact-many at_close (x m) (listed-stmts nest m))) (λ rest. (refl, refl)) n
+exact-body_of : (nest : ℕ) → ((n : ℕ) → Exact (IsStmt nest n) (stmt_at nest n) NoElse) → (n : ℕ)
+    → Exact (IsBodyOf (IsStmt nest) n) (body_of_at (steps_of (stmt_at nest)) n) Any
+exact-body_of nest x n =
+    exact-enclosed s.OpenBrace s.CloseBrace (λ m. exact-seen in_turn (exact-many at_close (x m) (listed-stmts nest m))) (λ rest. (refl, refl)) n
 
 -- a statement, in which `if` may nest so deep
 pub exact-stmt : (nest n : ℕ) → Exact (IsStmt nest n) (stmt_at nest n) NoElse
@@ -173,7 +187,8 @@ pub exact-pair : (n : ℕ) → Exact (Round (λ m. form.Both Count (form.After (
 unfolding pair_at two_at
 exact-pair n = exact-round (λ m. exact-both exact-count (exact-after (s.Comma ∷ []) exact-count) (λ y ts rest g d. tt)) (λ rest. tt) n
 
-exact-rates : (n : ℕ) → Exact (Round (λ m. form.Both Count (form.After (s.Comma ∷ []) (form.Both Count (form.After (s.Comma ∷ []) (form.Both Count (form.After (s.Comma ∷ []) Count)))))) n) (rates_at n) Any
+exact-rates : (n : ℕ)
+    → Exact (Round (λ m. form.Both Count (form.After (s.Comma ∷ []) (form.Both Count (form.After (s.Comma ∷ []) (form.Both Count (form.After (s.Comma ∷ []) Count)))))) n) (rates_at n) Any
 unfolding rates_at
 exact-rates n =
     exact-round (λ m. exact-as (exact-both exact-count (exact-after (s.Comma ∷ []) (exact-both exact-count (exact-after (s.Comma ∷ [])
@@ -210,7 +225,8 @@ exact-bag n w =
     (exact-choose (bytes_eq w (codes "tally")) (exact-nothing kern.tally)
     exact-never))))))))))
 
-exact-after_kernel : {braced : Kern → List Tok → Type 0} {p : Parse Kern} → Exact braced p Any → (n : ℕ) (w : List ℕ) → Exact (KernelAfter braced n w) (kernel_after p n w) Any
+exact-after_kernel : {braced : Kern → List Tok → Type 0} {p : Parse Kern} → Exact braced p Any → (n : ℕ) (w : List ℕ)
+    → Exact (KernelAfter braced n w) (kernel_after p n w) Any
 unfolding kernel_after
 exact-after_kernel x n w =
     exact-choose (bytes_eq w (codes "code")) (exact-code n)

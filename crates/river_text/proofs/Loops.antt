@@ -16,15 +16,20 @@ unfolding read_plan
 at stage n p parts i d h = ap (λ (l : List (Bor (List Lexeme))). read_plan stage n p (map unit_tokens l)) (drop_more parts i d h)
 
 -- one entry more
-pub plan-next : (stage n : ℕ) (p : PlanForm) (parts : List (Bor (List Lexeme))) (i : ℕ) (d : Bor (List Lexeme)) (e : Entry) → i < length parts → whole (unit_from stage) (unit_tokens (get_or parts i d)) ≡ Some e
+pub plan-next : (stage n : ℕ) (p : PlanForm) (parts : List (Bor (List Lexeme))) (i : ℕ) (d : Bor (List Lexeme)) (e : Entry) → i < length parts
+    → whole (unit_from stage) (unit_tokens (get_or parts i d)) ≡ Some e
     → read_plan (stage_of e) (n + 1) (add p e) (map unit_tokens (drop (i + 1) parts)) ≡ read_plan stage n p (map unit_tokens (drop i parts))
-plan-next stage n p parts i d e h read = sym (at stage n p parts i d h ∙ ap (with_entry n (λ f. read_plan (stage_of f) (n + 1) (add p f) (map unit_tokens (drop (i + 1) parts)))) read)
+plan-next stage n p parts i d e h read =
+    sym (at stage n p parts i d h ∙ ap (with_entry n (λ f. read_plan (stage_of f) (n + 1) (add p f) (map unit_tokens (drop (i + 1) parts)))) read)
 
 -- a unit that is none is told by its number
-pub plan-bad : (stage n : ℕ) (p : PlanForm) (parts : List (Bor (List Lexeme))) (i : ℕ) (d : Bor (List Lexeme)) → i < length parts → whole (unit_from stage) (unit_tokens (get_or parts i d)) ≡ None → read_plan stage n p (map unit_tokens (drop i parts)) ≡ Err n
-plan-bad stage n p parts i d h read = at stage n p parts i d h ∙ ap (with_entry n (λ f. read_plan (stage_of f) (n + 1) (add p f) (map unit_tokens (drop (i + 1) parts)))) read
+pub plan-bad : (stage n : ℕ) (p : PlanForm) (parts : List (Bor (List Lexeme))) (i : ℕ) (d : Bor (List Lexeme)) → i < length parts
+    → whole (unit_from stage) (unit_tokens (get_or parts i d)) ≡ None → read_plan stage n p (map unit_tokens (drop i parts)) ≡ Err n
+plan-bad stage n p parts i d h read =
+    at stage n p parts i d h ∙ ap (with_entry n (λ f. read_plan (stage_of f) (n + 1) (add p f) (map unit_tokens (drop (i + 1) parts)))) read
 
 -- behind the last unit the plan is done
-pub plan-end : (stage n : ℕ) (p : PlanForm) (parts : List (Bor (List Lexeme))) (i : ℕ) → length parts ≤ i → read_plan stage n p (map unit_tokens (drop i parts)) ≡ Ok p
+pub plan-end : (stage n : ℕ) (p : PlanForm) (parts : List (Bor (List Lexeme))) (i : ℕ) → length parts ≤ i
+    → read_plan stage n p (map unit_tokens (drop i parts)) ≡ Ok p
 unfolding read_plan
 plan-end stage n p parts i h = ap (λ (l : List (Bor (List Lexeme))). read_plan stage n p (map unit_tokens l)) (drop_all i parts h)

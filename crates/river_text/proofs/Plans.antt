@@ -11,12 +11,16 @@ use Rattle.kern_tables.specs.declared.kind.TableKind.TheVariants.{Sum, Collectio
 use Rattle.text_forms.specs.Parse as parse
 use Rattle.text_forms.specs.Parse.{Parse}
 use Rattle.text_forms.specs.Forms as form
-use Rattle.text_forms.proofs.Exact.{Exact, Any, exact-as, exact-less, exact-both, exact-after, exact-before, exact-tested, exact-seen, exact-merged, exact-name, exact-var}
+use Rattle.text_forms.proofs.Exact.{Exact, Any, exact-as, exact-less, exact-both, exact-after, exact-before, exact-tested, exact-seen, exact-merged, exact-name}
+use Rattle.text_forms.proofs.Exact.{exact-var}
 use Rattle.text_forms.proofs.Pairs.{some_inj}
 use Rattle.std.proofs.lemmas.List.{map-append}
 use Rattle.text_forms.proofs.Choices.{exact-never, exact-choose, exact-headed, exact-known, exact-listing}
-use Rattle.river_text.specs.Plans.{IsName, IsVar, brackets, FlatAfter, IsFlat, IsType, made_decl, IsDecl, made_maximum, made_table, IsTable, Port, queue, variable, IsPort, IsPorts, Ports, same_vars, made_op, IsOp, output, input, inner, table, private, operator, IsUnit, is_late, IsUnitAt}
-use Rattle.river_text.specs.ReadPlans.{river_name_at, river_var_at, flat_after, flat_at, packed_at, type_after, type_at, decl_at, kind_after, kind_at, table_at, is_var_at, port_at, split_from, port_list_at, ports_at, op_at, private_at, unit_after, unit_at, unit_from}
+use Rattle.river_text.specs.Plans.{IsName, IsVar, brackets, FlatAfter, IsFlat, IsType, made_decl, IsDecl, made_maximum, made_table, IsTable, Port, queue}
+use Rattle.river_text.specs.Plans.{variable, IsPort, IsPorts, Ports, same_vars, made_op, IsOp, output, input, inner, table, private, operator, IsUnit, is_late}
+use Rattle.river_text.specs.Plans.{IsUnitAt}
+use Rattle.river_text.specs.ReadPlans.{river_name_at, river_var_at, flat_after, flat_at, packed_at, type_after, type_at, decl_at, kind_after, kind_at, table_at}
+use Rattle.river_text.specs.ReadPlans.{is_var_at, port_at, split_from, port_list_at, ports_at, op_at, private_at, unit_after, unit_at, unit_from}
 use Rattle.river_text.proofs.Kernels.{exact-counted, exact-pair, exact-round, exact-braced}
 use Rattle.river_text.proofs.Regroup.{op-same}
 
@@ -41,11 +45,13 @@ exact-flat n = exact-headed (exact-flat_after n)
 
 exact-type : Exact IsType type_at Any
 unfolding type_at type_after packed_at
-exact-type = exact-headed (λ w. exact-choose (bytes_eq w (codes "pack")) (exact-seen Pack (exact-round exact-flat (λ rest. tt) brackets)) (exact-seen Flat (exact-flat_after brackets w)))
+exact-type =
+    exact-headed (λ w. exact-choose (bytes_eq w (codes "pack")) (exact-seen Pack (exact-round exact-flat (λ rest. tt) brackets)) (exact-seen Flat (exact-flat_after brackets w)))
 
 exact-decl : Exact IsDecl decl_at Any
 unfolding decl_at
-exact-decl = exact-seen made_decl (exact-both exact-river_name (exact-after (s.Colon ∷ []) (exact-before (s.Semicolon ∷ []) exact-type (λ rest. tt))) (λ y ts rest g d. tt))
+exact-decl =
+    exact-seen made_decl (exact-both exact-river_name (exact-after (s.Colon ∷ []) (exact-before (s.Semicolon ∷ []) exact-type (λ rest. tt))) (λ y ts rest g d. tt))
 
 exact-table : Exact IsTable table_at Any
 unfolding table_at kind_at kind_after
@@ -82,9 +88,12 @@ split-all os [] ws = split-made os [] [] ws ∙ ap (λ (l : List (List ℕ)). So
 split-all os (q ∷ qs) ws = split-all (os ++ q ∷ []) qs ws ∙ ap (λ (l : List (List ℕ)). Some (l, ws)) (append_assoc os (q ∷ []) qs)
 
 -- what was taken apart
-split-is : (os vs : List (List ℕ)) (ps : List Port) (v : Ports) → split_from os vs ps ≡ Some v → map queue os ++ (map variable vs ++ ps) ≡ map queue v.0 ++ map variable v.1
+split-is : (os vs : List (List ℕ)) (ps : List Port) (v : Ports) → split_from os vs ps ≡ Some v
+    → map queue os ++ (map variable vs ++ ps) ≡ map queue v.0 ++ map variable v.1
 unfolding split_from
-split-is os vs [] v e = let same : (os, vs) ≡ v = some_inj e in ap (λ (l : List Port). map queue os ++ l) (append-nil (map variable vs)) ∙ ap (λ (w : Ports). map queue w.0 ++ map variable w.1) same
+split-is os vs [] v e =
+    let same : (os, vs) ≡ v = some_inj e in
+    ap (λ (l : List Port). map queue os ++ l) (append-nil (map variable vs)) ∙ ap (λ (w : Ports). map queue w.0 ++ map variable w.1) same
 split-is os [] (queue q ∷ ps) v e =
     sym (ap (λ (l : List Port). l ++ ps) (map-append queue os (q ∷ [])) ∙ append_assoc (map queue os) (queue q ∷ []) ps) ∙ split-is (os ++ q ∷ []) [] ps v e
 split-is os (w ∷ vs) (queue q ∷ ps) v e = cc

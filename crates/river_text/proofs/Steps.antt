@@ -17,7 +17,8 @@ use Rattle.work_code.specs.Term.{Term}
 use Rattle.text_forms.proofs.Exact.{exact-value}
 
 -- what is read leaves no more tokens
-pub shorter : {A : Type 0} {F : A → List Tok → Type 0} {p : parse.Parse A} {E : List Tok → Type 0} → Exact F p E → (ts us : List Tok) (v : A) → p ts ≡ Some (v, us) → length us ≤ length ts
+pub shorter : {A : Type 0} {F : A → List Tok → Type 0} {p : parse.Parse A} {E : List Tok → Type 0} → Exact F p E → (ts us : List Tok) (v : A)
+    → p ts ≡ Some (v, us) → length us ≤ length ts
 shorter x ts us v e =
     let f = x.sound ts v us e in
     let size : length ts ≡ length f.front + length us = ap length f.is ∙ length-append f.front us in
@@ -27,7 +28,8 @@ shorter x ts us v e =
 pub taken-shorter : (x : Symbol) (ts : List Tok) → parse.begins_with x ts ≡ true → length (tail ts) < length ts
 taken-shorter x ts e = let size : length ts ≡ suc (length (tail ts)) = ap length (begins_with-is x ts e) in omega arith
 
-pub numbers-next : (k : Kind) (done : List ℤ) (ts us : List Tok) (v : ℤ) → parse.begins_with s.Comma ts ≡ true → kind_at k (tail ts) ≡ Some (v, us) → repeated (parse.comma_turn (kind_at k)) (done ++ v ∷ []) us ≡ repeated (parse.comma_turn (kind_at k)) done ts
+pub numbers-next : (k : Kind) (done : List ℤ) (ts us : List Tok) (v : ℤ) → parse.begins_with s.Comma ts ≡ true → kind_at k (tail ts) ≡ Some (v, us)
+    → repeated (parse.comma_turn (kind_at k)) (done ++ v ∷ []) us ≡ repeated (parse.comma_turn (kind_at k)) done ts
 numbers-next kind.Width = comma-next exact-width (λ rest. tt)
 numbers-next kind.Signed = comma-next exact-signed (λ rest. tt)
 numbers-next kind.Value = comma-next exact-value (λ rest. tt)
@@ -39,7 +41,8 @@ numbers-shorter kind.Value = shorter exact-value
 
 pub ruleset numbers = (numbers-next, numbers-shorter, taken-shorter, comma-stop, comma-bad)
 
-pub terms-next : (n : ℕ) (done : List Term) (ts us : List Tok) (v : Term) → parse.begins_with s.Comma ts ≡ true → term_at n (tail ts) ≡ Some (v, us) → repeated (parse.comma_turn (term_at n)) (done ++ v ∷ []) us ≡ repeated (parse.comma_turn (term_at n)) done ts
+pub terms-next : (n : ℕ) (done : List Term) (ts us : List Tok) (v : Term) → parse.begins_with s.Comma ts ≡ true → term_at n (tail ts) ≡ Some (v, us)
+    → repeated (parse.comma_turn (term_at n)) (done ++ v ∷ []) us ≡ repeated (parse.comma_turn (term_at n)) done ts
 terms-next n = comma-next (exact-term n) (λ rest j h. refl)
 
 pub terms-shorter : (n : ℕ) (ts us : List Tok) (v : Term) → term_at n ts ≡ Some (v, us) → length us ≤ length ts

@@ -27,7 +27,8 @@ plan-read stage n p (u ∷ us) = by (whole (unit_from stage) u) (λ e. plan-read
   first e (Ok es) = refl
   first e (Err m) = refl
 
-  by : (o : Option Entry) → ((e : Entry) → read_plan (stage_of e) (n + 1) (add p e) us ≡ added (add p e) (read_units unit_from next_stage (stage_of e) (n + 1) us))
+  by : (o : Option Entry)
+      → ((e : Entry) → read_plan (stage_of e) (n + 1) (add p e) us ≡ added (add p e) (read_units unit_from next_stage (stage_of e) (n + 1) us))
       → with_entry n (λ e. read_plan (stage_of e) (n + 1) (add p e) us) o ≡ added p (after_unit n (λ e. read_units unit_from next_stage (next_stage stage e) (n + 1) us) o)
   by None more = refl
   by (Some e) more = more e ∙ first e (read_units unit_from next_stage (stage_of e) (n + 1) us)
@@ -46,18 +47,21 @@ added-err p (Err n) m e = same e where
   same f = cc
 
 -- the text stands for the lists that are read of it
-pub text-read : (text : List ℕ) (marks : List Mark) (q : PlanForm) → tokens_in text ≡ Ok marks → read_plan 0 1 empty_form (units_of (toks marks)) ≡ Ok q → IsText text q
+pub text-read : (text : List ℕ) (marks : List Mark) (q : PlanForm) → tokens_in text ≡ Ok marks → read_plan 0 1 empty_form (units_of (toks marks)) ≡ Ok q
+    → IsText text q
 text-read text marks q lexed read =
     let (es, is_es, is_q) = added-ok empty_form (read_units unit_from next_stage 0 1 (units_of (toks marks))) q (sym (plan-read 0 1 empty_form (units_of (toks marks))) ∙ read) in
     record { marks = marks; lexed = lexed; entries = es; formed = all-formed next_stage exact-unit_from 0 1 (units_of (toks marks)) es is_es; is = is_q }
 
 -- the unit that is told is the first that is not in the grammar
-pub text-bad : (text : List ℕ) (marks : List Mark) (m : ℕ) → tokens_in text ≡ Ok marks → read_plan 0 1 empty_form (units_of (toks marks)) ≡ Err m → IsBadAt text m
+pub text-bad : (text : List ℕ) (marks : List Mark) (m : ℕ) → tokens_in text ≡ Ok marks → read_plan 0 1 empty_form (units_of (toks marks)) ≡ Err m
+    → IsBadAt text m
 text-bad text marks m lexed read =
     record {
       marks = marks;
       lexed = lexed;
-      first = first-bad next_stage exact-unit_from 0 (units_of (toks marks)) m (added-err empty_form (read_units unit_from next_stage 0 1 (units_of (toks marks))) m (sym (plan-read 0 1 empty_form (units_of (toks marks))) ∙ read));
+      first =
+          first-bad next_stage exact-unit_from 0 (units_of (toks marks)) m (added-err empty_form (read_units unit_from next_stage 0 1 (units_of (toks marks))) m (sym (plan-read 0 1 empty_form (units_of (toks marks))) ∙ read));
     }
 
 -- what a text stands for is read
@@ -72,9 +76,10 @@ same_marks text ms ns e f = same (sym e ∙ f) where
 
 -- the law: a text stands for one plan at most
 pub one_plan : OnePlan
-one_plan text p q t u = same (sym (text-reads text p t) ∙ ap (λ (ms : List Mark). read_plan 0 1 empty_form (units_of (toks ms))) (same_marks text t.marks u.marks t.lexed u.lexed) ∙ text-reads text q u) where
-  same : ◌≡◌ {A = Result PlanForm ℕ} (Ok p) (Ok q) → p ≡ q
-  same e = cc
+one_plan text p q t u =
+    same (sym (text-reads text p t) ∙ ap (λ (ms : List Mark). read_plan 0 1 empty_form (units_of (toks ms))) (same_marks text t.marks u.marks t.lexed u.lexed) ∙ text-reads text q u) where
+      same : ◌≡◌ {A = Result PlanForm ℕ} (Ok p) (Ok q) → p ≡ q
+      same e = cc
 
 -- a text with a fault stands for no plan
 pub faulty : (text : List ℕ) (fault : LexFault) (p : PlanForm) → tokens_in text ≡ Err fault → IsText text p → ⊥
@@ -83,13 +88,16 @@ faulty text fault p e t = never (sym e ∙ t.lexed) where
   never f = cc
 
 -- nor does one with a unit that is not in the grammar
-pub unreadable : (text : List ℕ) (marks : List Mark) (m : ℕ) (p : PlanForm) → tokens_in text ≡ Ok marks → read_plan 0 1 empty_form (units_of (toks marks)) ≡ Err m → IsText text p → ⊥
-unreadable text marks m p lexed read t = never (sym read ∙ ap (λ (ms : List Mark). read_plan 0 1 empty_form (units_of (toks ms))) (same_marks text marks t.marks lexed t.lexed) ∙ text-reads text p t) where
-  never : ◌≡◌ {A = Result PlanForm ℕ} (Err m) (Ok p) → ⊥
-  never f = cc
+pub unreadable : (text : List ℕ) (marks : List Mark) (m : ℕ) (p : PlanForm) → tokens_in text ≡ Ok marks
+    → read_plan 0 1 empty_form (units_of (toks marks)) ≡ Err m → IsText text p → ⊥
+unreadable text marks m p lexed read t =
+    never (sym read ∙ ap (λ (ms : List Mark). read_plan 0 1 empty_form (units_of (toks ms))) (same_marks text marks t.marks lexed t.lexed) ∙ text-reads text p t) where
+      never : ◌≡◌ {A = Result PlanForm ℕ} (Err m) (Ok p) → ⊥
+      never f = cc
 
 -- a text of which a unit is told stands for no plan
-pub refused : (text : List ℕ) (marks : List Mark) (m : ℕ) → tokens_in text ≡ Ok marks → read_plan 0 1 empty_form (units_of (toks marks)) ≡ Err m → IsBadAt text m × StandsForNone text
+pub refused : (text : List ℕ) (marks : List Mark) (m : ℕ) → tokens_in text ≡ Ok marks → read_plan 0 1 empty_form (units_of (toks marks)) ≡ Err m
+    → IsBadAt text m × StandsForNone text
 refused text marks m lexed read = (text-bad text marks m lexed read, λ p t. unreadable text marks m p lexed read t)
 
 pub faulted : (text : List ℕ) (fault : LexFault) → tokens_in text ≡ Err fault → (tokens_in text ≡ Err fault) × StandsForNone text

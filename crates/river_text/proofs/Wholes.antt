@@ -38,7 +38,8 @@ left : (t : Tok) (rest : List Tok) → t ∷ rest ≡ [] → ⊥
 left t rest e = cc
 
 -- an entry that stands too early, or with tokens behind it, is none
-whole-unfit : (stage : ℕ) (ts rest : List Tok) (e : Entry) → unit_at ts ≡ Some (e, rest) → ((rest ≡ []) × (stage ≤ stage_of e) → ⊥) → whole (unit_from stage) ts ≡ None
+whole-unfit : (stage : ℕ) (ts rest : List Tok) (e : Entry) → unit_at ts ≡ Some (e, rest) → ((rest ≡ []) × (stage ≤ stage_of e) → ⊥)
+    → whole (unit_from stage) ts ≡ None
 whole-unfit stage ts (t ∷ rest) e read unfit = whole-more stage ts (t ∷ rest) e read (left t rest)
 whole-unfit stage ts [] e read unfit = by (nat_le stage (stage_of e)) refl where
   by : (b : Bool) → nat_le stage (stage_of e) ≡ b → whole (unit_from stage) ts ≡ None

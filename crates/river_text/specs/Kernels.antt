@@ -15,7 +15,8 @@ use Rattle.text_forms.specs.Expressions.{IsExpr}
 use Rattle.text_forms.specs.Parse.{is_count, is_value}
 use Rattle.text_forms.specs.Tree.{Spoken}
 use Rattle.text_forms.specs.Tree as tree
-use Rattle.text_forms.specs.Forms.{Number, Value, Nothing, Never, Both, After, Before, AfterWord, Tested, Seen, Known, Merged, Maybe, Each, Commas, Listing, Choose, Headed, Enclosed}
+use Rattle.text_forms.specs.Forms.{Number, Value, Nothing, Never, Both, After, Before, AfterWord, Tested, Seen, Known, Merged, Maybe, Each, Commas, Listing}
+use Rattle.text_forms.specs.Forms.{Choose, Headed, Enclosed}
 
 -- an expression of work code, if it has no other leaves than these
 abbrev pub both_terms : (Term → Term → Term) → Option Term → Option Term → Option Term
@@ -118,7 +119,8 @@ IsCode n =
 
 -- "(" N "," N "," N "," N ")" starts body
 abbrev pub made_filter : (ℕ × (ℕ × (ℕ × ℕ))) × (List ℤ × Steps) → Kern
-made_filter v = kern.filter (record { peek = v.0.0; pop = v.0.1.0; push = v.0.1.1.0; body = record { inputs = v.0.0; slots = v.0.1.1.1; steps = v.1.1 }; starts = v.1.0 })
+made_filter v =
+    kern.filter (record { peek = v.0.0; pop = v.0.1.0; push = v.0.1.1.0; body = record { inputs = v.0.0; slots = v.0.1.1.1; steps = v.1.1 }; starts = v.1.0 })
 
 abbrev pub IsFilter : ℕ → Kern → List Tok → Type 0
 IsFilter n =

@@ -11,7 +11,8 @@ use Rattle.river_kernels.specs.Kern.{Kern}
 use Rattle.river_kernels.specs.Kern as kern
 use Rattle.text_forms.specs.declared.language.Language.TheVariants.{River}
 use Rattle.text_forms.specs.Ladder.{expr_at}
-use Rattle.text_forms.specs.Parse.{Parse, begins_with, is_word_at, count_at, value_at, nothing_at, both, after, before, after_word, seen, known, merged, maybe, many, commas, listing, headed, enclosed}
+use Rattle.text_forms.specs.Parse.{Parse, begins_with, is_word_at, count_at, value_at, nothing_at, both, after, before, after_word, seen, known, merged, maybe}
+use Rattle.text_forms.specs.Parse.{many, commas, listing, headed, enclosed}
 use Rattle.river_text.specs.declared.number.Kind.{Kind}
 use Rattle.river_text.specs.declared.number.Kind.TheVariants.{Width as OfWidth, Signed as OfSigned, Value as OfValue}
 use Rattle.river_text.specs.Kernels.{term_of, least, made_set, made_push, made_if, or_done, made_code, made_filter, made_fused}
@@ -23,7 +24,8 @@ abbrev pub width_at : Parse ℤ
 width_at = seen (λ n. pos n) count_at
 
 unfoldable pub signed_at : Parse ℤ
-signed_at ts = merged (begins_with s.Minus) (after (s.Minus ∷ []) (seen neg_ℤ value_at)) (merged (is_word_at (codes "min")) (after_word (codes "min") (nothing_at least)) value_at) ts
+signed_at ts =
+    merged (begins_with s.Minus) (after (s.Minus ∷ []) (seen neg_ℤ value_at)) (merged (is_word_at (codes "min")) (after_word (codes "min") (nothing_at least)) value_at) ts
 
 -- the kinds of numbers in lists
 abbrev pub kind_at : Kind → Parse ℤ

@@ -14,9 +14,11 @@ use Rattle.river_plan.specs.Forms.{OpForm, PlanForm}
 use Rattle.river_plan.specs.declared.plan.Decl.{Decl}
 use Rattle.river_plan.specs.declared.plan.TableDecl.{TableDecl}
 use Rattle.river_kernels.specs.Kern.{Kern}
-use Rattle.text_forms.specs.Parse.{Parse, name_at, var_at, run_at, then_read, then_rest, given, both, after, before, tested, seen, known, merged, listing, headed}
+use Rattle.text_forms.specs.Parse.{Parse, name_at, var_at, run_at, then_read, then_rest, given, both, after, before, tested, seen, known, merged, listing}
+use Rattle.text_forms.specs.Parse.{headed}
 use Rattle.text_forms.specs.Texts.{whole}
-use Rattle.river_text.specs.Plans.{brackets, made_decl, made_maximum, made_table, Port, queue, variable, Ports, same_vars, made_op, Entry, output, input, inner, table, private, operator, stage_of, is_late, add}
+use Rattle.river_text.specs.Plans.{brackets, made_decl, made_maximum, made_table, Port, queue, variable, Ports, same_vars, made_op, Entry, output, input, inner}
+use Rattle.river_text.specs.Plans.{table, private, operator, stage_of, is_late, add}
 use Rattle.river_text.specs.ReadKernels.{round, number_at, pair_at, braced_at}
 
 unfoldable pub river_name_at : Parse (List ℕ)

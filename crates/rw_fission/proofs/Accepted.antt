@@ -59,7 +59,8 @@ pub record Accepted (p : PlanForm) (l : Name) (n : ℕ) (p' : PlanForm) : Type 0
   pub apart : is_apart (split_by p l op (made_of l) n (kind_of (all_decls p) source) way) ≡ true
   pub is : p' ≡ split_by p l op (made_of l) n (kind_of (all_decls p) source) way
 
-way_found : (p : PlanForm) (l : Name) (op : OpForm) (n : ℕ) (p' : PlanForm) (source : Name) (o : Option Way) → first_with (named_it l) p.ops ≡ Some op → 2 ≤ n → n ≤ 16 → op.reads ≡ source ∷ []
+way_found : (p : PlanForm) (l : Name) (op : OpForm) (n : ℕ) (p' : PlanForm) (source : Name) (o : Option Way) → first_with (named_it l) p.ops ≡ Some op → 2 ≤ n
+    → n ≤ 16 → op.reads ≡ source ∷ []
     → way_of p op (made_of l) n (kind_of (all_decls p) source) ≡ o → by_way p l op n (kind_of (all_decls p) source) o ≡ Ok p' → Accepted p l n p'
 way_found p l op n p' source None he a b r e h = not_ok h
 way_found p l op n p' source (Some w) he a b r e h =
@@ -81,7 +82,8 @@ way_found p l op n p' source (Some w) he a b r e h =
     (λ f. not_ok ((sym (ap (λ c. if c then yes q else no N5) f) ∙ h)))
     (cases_bool (short && is_apart q))
 
-reads_found : (p : PlanForm) (l : Name) (op : OpForm) (n : ℕ) (p' : PlanForm) (rs : List Name) → first_with (named_it l) p.ops ≡ Some op → 2 ≤ n → n ≤ 16 → op.reads ≡ rs → by_reads p l op n rs ≡ Ok p' → Accepted p l n p'
+reads_found : (p : PlanForm) (l : Name) (op : OpForm) (n : ℕ) (p' : PlanForm) (rs : List Name) → first_with (named_it l) p.ops ≡ Some op → 2 ≤ n → n ≤ 16
+    → op.reads ≡ rs → by_reads p l op n rs ≡ Ok p' → Accepted p l n p'
 reads_found p l op n p' [] he a b r h = not_ok h
 reads_found p l op n p' (source ∷ []) he a b r h = way_found p l op n p' source (way_of p op (made_of l) n (kind_of (all_decls p) source)) he a b r refl h
 reads_found p l op n p' (source ∷ q ∷ qs) he a b r h = not_ok h
@@ -120,12 +122,15 @@ either_is : {A : Type 0} (o q : Option A) (a : A) → either o q ≡ Some a → 
 either_is None q a h = inr h
 either_is (Some x) q a h = inl h
 
-packs_to_is : (p : PlanForm) (op : OpForm) (m : Made) (n : ℕ) (source out : Name) (t : FlatType) (w : Way) (k : QueueType) → op.reads ≡ source ∷ [] → kind_of (all_decls p) source ≡ Flat t
+packs_to_is : (p : PlanForm) (op : OpForm) (m : Made) (n : ℕ) (source out : Name) (t : FlatType) (w : Way) (k : QueueType) → op.reads ≡ source ∷ []
+    → kind_of (all_decls p) source ≡ Flat t
     → op.writes ≡ out ∷ [] → op.vars ≡ [] → kind_of (all_decls p) out ≡ k → packs_to p op m n k ≡ Some w → IsPacks p op m n source t w
-packs_to_is p op m n source out t w (Flat u) r ki ws vs ko h = record { out = out; type = u; may = record { reads = r; writes = ws; vars = vs; kind_in = ki; kind_out = ko }; is = sym (some_is _ _ h) }
+packs_to_is p op m n source out t w (Flat u) r ki ws vs ko h =
+    record { out = out; type = u; may = record { reads = r; writes = ws; vars = vs; kind_in = ki; kind_out = ko }; is = sym (some_is _ _ h) }
 packs_to_is p op m n source out t w (Pack u) r ki ws vs ko h = absurd (no_some w h)
 
-packs_is : (p : PlanForm) (op : OpForm) (m : Made) (n : ℕ) (source : Name) (t : FlatType) (w : Way) (ws vs : List Name) → op.reads ≡ source ∷ [] → kind_of (all_decls p) source ≡ Flat t
+packs_is : (p : PlanForm) (op : OpForm) (m : Made) (n : ℕ) (source : Name) (t : FlatType) (w : Way) (ws vs : List Name) → op.reads ≡ source ∷ []
+    → kind_of (all_decls p) source ≡ Flat t
     → op.writes ≡ ws → op.vars ≡ vs → packs_way p op m n ws vs ≡ Some w → IsPacks p op m n source t w
 packs_is p op m n source t w [] vs r ki ew ev h = absurd (no_some w h)
 packs_is p op m n source t w (out ∷ []) [] r ki ew ev h = packs_to_is p op m n source out t w (kind_of (all_decls p) out) r ki ew ev refl h
@@ -136,7 +141,8 @@ nil_is : {A : Type 0} (xs : List A) → is_nil xs ≡ true → xs ≡ []
 nil_is [] h = refl
 nil_is (x ∷ xs) h = absurd (cc h)
 
-blocks_is : (p : PlanForm) (op : OpForm) (m : Made) (n : ℕ) (source : Name) (w : Way) (k : Kern) → op.reads ≡ source ∷ [] → op.kernel ≡ k → blocks_way p op m n k ≡ Some w → IsBlocks p op m n source w
+blocks_is : (p : PlanForm) (op : OpForm) (m : Made) (n : ℕ) (source : Name) (w : Way) (k : Kern) → op.reads ≡ source ∷ [] → op.kernel ≡ k
+    → blocks_way p op m n k ≡ Some w → IsBlocks p op m n source w
 blocks_is p op m n source w (filter f) r e h = ⊎_elim
     (λ t.
     let a = and_parts (nat_eq f.peek f.pop) (is_nil f.starts && nat_le 1 f.push) t in
@@ -172,13 +178,15 @@ each_table tables (v ∷ vs) h x lt =
     (λ c. each_table tables vs a.1 x (let e = ap one_if c.1 in omega (arith, lt, e)))
     (cases_name v x)
 
-adds_is : (p : PlanForm) (op : OpForm) (m : Made) (source : Name) (t : FlatType) (w : Way) (ws vs : List Name) → op.reads ≡ source ∷ [] → kind_of (all_decls p) source ≡ Flat t
+adds_is : (p : PlanForm) (op : OpForm) (m : Made) (source : Name) (t : FlatType) (w : Way) (ws vs : List Name) → op.reads ≡ source ∷ []
+    → kind_of (all_decls p) source ≡ Flat t
     → op.writes ≡ ws → op.vars ≡ vs → adds_way p op m ws vs ≡ Some w → IsAdds p op m source t w
 adds_is p op m source t w [] [] r ki ew ev h = absurd (no_some w h)
 adds_is p op m source t w [] (v ∷ vs) r ki ew ev h = ⊎_elim
     (λ a.
     record {
-      may = record { reads = r; writes = ew; kind_in = ki; tables = subst (λ ys. (x : Name) → 0 < count x ys → 0 < count x (table_names p.tables)) (sym ev) (each_table (table_names p.tables) (v ∷ vs) a) };
+      may =
+          record { reads = r; writes = ew; kind_in = ki; tables = subst (λ ys. (x : Name) → 0 < count x ys → 0 < count x (table_names p.tables)) (sym ev) (each_table (table_names p.tables) (v ∷ vs) a) };
       is = sym (some_is _ _ (sym (ap (λ c. if c then Some (by_adds p op m) else None) a) ∙ h));
     })
     (λ a. absurd (no_some w (sym (ap (λ c. if c then Some (by_adds p op m) else None) a) ∙ h)))
@@ -191,7 +199,8 @@ pub record IsWay (p : PlanForm) (op : OpForm) (m : Made) (n : ℕ) (source : Nam
   pub kind : kind_of (all_decls p) source ≡ Flat type
   pub one : IsPacks p op m n source type w ⊎ (IsBlocks p op m n source w ⊎ IsAdds p op m source type w)
 
-way_by : (p : PlanForm) (op : OpForm) (m : Made) (n : ℕ) (source : Name) (w : Way) (k : QueueType) → op.reads ≡ source ∷ [] → kind_of (all_decls p) source ≡ k → way_of p op m n k ≡ Some w → IsWay p op m n source w
+way_by : (p : PlanForm) (op : OpForm) (m : Made) (n : ℕ) (source : Name) (w : Way) (k : QueueType) → op.reads ≡ source ∷ [] → kind_of (all_decls p) source ≡ k
+    → way_of p op m n k ≡ Some w → IsWay p op m n source w
 way_by p op m n source w (Pack t) r e h = absurd (no_some w h)
 way_by p op m n source w (Flat t) r e h = record {
   type = t;
@@ -205,5 +214,6 @@ way_by p op m n source w (Flat t) r e h = record {
       (either_is (packs_way p op m n op.writes op.vars) (either (blocks_way p op m n op.kernel) (adds_way p op m op.writes op.vars)) w h);
 }
 
-pub way_is : (p : PlanForm) (op : OpForm) (m : Made) (n : ℕ) (source : Name) (w : Way) → op.reads ≡ source ∷ [] → way_of p op m n (kind_of (all_decls p) source) ≡ Some w → IsWay p op m n source w
+pub way_is : (p : PlanForm) (op : OpForm) (m : Made) (n : ℕ) (source : Name) (w : Way) → op.reads ≡ source ∷ []
+    → way_of p op m n (kind_of (all_decls p) source) ≡ Some w → IsWay p op m n source w
 way_is p op m n source w r h = way_by p op m n source w (kind_of (all_decls p) source) r refl h

@@ -1,5 +1,6 @@
 -- An operator that only adds to tables may be split.
-use Rattle.std.proofs.Common.{◌≡◌, ℕ, ℤ, ◌<◌, ◌≤◌, Bool, true, Some, List, [], ◌∷◌, ◌++◌, map, length, replicate, refl, sym, ap, ◌∙◌, subst, arith, IsTrue, ⊎_elim}
+use Rattle.std.proofs.Common.{◌≡◌, ℕ, ℤ, ◌<◌, ◌≤◌, Bool, true, Some, List, [], ◌∷◌, ◌++◌, map, length, replicate, refl, sym, ap, ◌∙◌, subst, arith, IsTrue}
+use Rattle.std.proofs.Common.{⊎_elim}
 use Rattle.std.specs.Prelude.{count_by}
 use Rattle.std.proofs.lemmas.List.{length-replicate}
 use Rattle.river_base.specs.declared.item.Item as item
@@ -65,7 +66,8 @@ module _ (p : PlanForm) (l : Name) (op : OpForm) (m : Made) (n : ℕ) (source : 
   no_state = none_first op.kernel shape no_privates
 
   t_sized : is_sized t ≡ true
-  t_sized = subst (λ k. IsTrue (is_width (type_width k))) y.kind_in (named_sized p v source (v.reads_declared source (let a = at_most_all l (reads_it source) p.ops op here in let b = ap (count source) y.reads in let c = count_here source [] in omega (arith, a, b, c))))
+  t_sized =
+      subst (λ k. IsTrue (is_width (type_width k))) y.kind_in (named_sized p v source (v.reads_declared source (let a = at_most_all l (reads_it source) p.ops op here in let b = ap (count source) y.reads in let c = count_here source [] in omega (arith, a, b, c))))
 
   abbrev tabs : List Name
   tabs = tables_of (table_names p.tables) op
@@ -94,7 +96,8 @@ module _ (p : PlanForm) (l : Name) (op : OpForm) (m : Made) (n : ℕ) (source : 
     kind = y.kind_in;
     ends = y.writes;
     queues_once = apart.queues_once;
-    variables_once = λ x. let a = apart.variables_once x in let b = count-append x (table_names p.tables) (w.stay ++ w.new) in let c = count-append x w.stay w.new in omega (arith, a, b, c);
+    variables_once =
+        λ x. let a = apart.variables_once x in let b = count-append x (table_names p.tables) (w.stay ++ w.new) in let c = count-append x w.stay w.new in omega (arith, a, b, c);
     labels_once = apart.labels_once;
     within = apart.within;
     deals = deal_fits n 1 t some (omega arith) t_sized;
@@ -108,7 +111,8 @@ module _ (p : PlanForm) (l : Name) (op : OpForm) (m : Made) (n : ℕ) (source : 
         let none : count x op.vars ≡ 0 = ⊎_elim (λ h. absurd (let k = y.tables x h in omega (arith, k, z))) (λ h. h) (more_or_zero (count x op.vars)) in
         let b = copies_none x (replica_op w m) n (λ i. none) in
         omega (arith, a, b);
-    apart = λ i x lt. it_is p.ops _ op (split_ops op m n w) (swap_of l p.ops op (split_ops op m n w) (found (named_it l) p.ops op here)) (λ o. (z : Name) → vars_it z o ≤ 1) v.vars_apart x;
+    apart =
+        λ i x lt. it_is p.ops _ op (split_ops op m n w) (swap_of l p.ops op (split_ops op m n w) (found (named_it l) p.ops op here)) (λ o. (z : Name) → vars_it z o ≤ 1) v.vars_apart x;
     joins = tt;
     adds = same_adds;
   }

@@ -76,7 +76,9 @@ module _ (p : PlanForm) (l : Name) (op : OpForm) (m : Made) (n : ℕ) (source : 
 
   module _ (apart : IsApart (split_by p l op m n (rows 1) w)) where
     variables : (x : Name) → count x (table_names p.tables) + (count x w.stay + count x w.new) ≤ 1
-    variables x = let a = apart.variables_once x in let b = count-append x (table_names p.tables) (w.stay ++ w.new) in let c = count-append x w.stay w.new in omega (arith, a, b, c)
+    variables x =
+        let a = apart.variables_once x in let b = count-append x (table_names p.tables) (w.stay ++ w.new) in let c = count-append x w.stay w.new in
+        omega (arith, a, b, c)
 
     replica_new : (i : ℕ) → i < n → count (m.replica i) (table_names p.tables) ≡ 0
     replica_new i lt =
@@ -89,7 +91,8 @@ module _ (p : PlanForm) (l : Name) (op : OpForm) (m : Made) (n : ℕ) (source : 
       some = some;
       reads = y.reads;
       kind = kind_in;
-      ends = (out.0, out.1, refl, subst (λ k. Fits (collect (weights n f.push)) (replicate n (rows 1)) (k ∷ []) (Private ∷ [])) (sym out.2) (collect_fits n f.push (Rows 1) some y.gives refl));
+      ends =
+          (out.0, out.1, refl, subst (λ k. Fits (collect (weights n f.push)) (replicate n (rows 1)) (k ∷ []) (Private ∷ [])) (sym out.2) (collect_fits n f.push (Rows 1) some y.gives refl));
       queues_once = apart.queues_once;
       variables_once = variables;
       labels_once = apart.labels_once;
@@ -98,7 +101,8 @@ module _ (p : PlanForm) (l : Name) (op : OpForm) (m : Made) (n : ℕ) (source : 
       inner = λ kind a b i lt.
           let new : kind (m.replica i) ≡ Private = b (m.replica i) (let c = count_each m.replica n i lt in let d = count-append (m.replica i) (each_name m.replica n) (m.joiner ∷ []) in omega (arith, c, d)) in
           subst (λ k. Fits k (rows 1 ∷ []) (rows 1 ∷ []) (kind (m.replica i) ∷ [])) (sym y.kernel) (refl, refl, ap (λ k. k ∷ []) new, fit.3);
-      stay_in = λ x. let c = count-without x op.vars p.vars in ⊎_elim (λ lt. let e = c.1 lt in omega (arith, e)) (λ z. let e = c.0 z in omega (arith, e)) (more_or_zero (count x op.vars));
+      stay_in =
+          λ x. let c = count-without x op.vars p.vars in ⊎_elim (λ lt. let e = c.1 lt in omega (arith, e)) (λ z. let e = c.0 z in omega (arith, e)) (more_or_zero (count x op.vars));
       stay_but = λ x z. (count-without x op.vars p.vars).0 z;
       splitter_new = count_here m.splitter (each_name m.replica n ++ m.joiner ∷ []);
       joiner_new = λ j e. let a = count_here m.joiner [] in let d = count-append m.joiner (each_name m.replica n) (m.joiner ∷ []) in omega (arith, a, d);

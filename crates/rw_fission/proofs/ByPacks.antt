@@ -60,10 +60,12 @@ module _ (p : PlanForm) (l : Name) (op : OpForm) (m : Made) (n : ℕ) (source ou
   no_state = none_first op.kernel shape no_privates
 
   t_sized : is_sized t ≡ true
-  t_sized = subst (λ k. IsTrue (is_width (type_width k))) y.kind_in (named_sized p v source (v.reads_declared source (let a = at_most_all l (reads_it source) p.ops op here in let b = ap (count source) y.reads in let c = count_here source [] in omega (arith, a, b, c))))
+  t_sized =
+      subst (λ k. IsTrue (is_width (type_width k))) y.kind_in (named_sized p v source (v.reads_declared source (let a = at_most_all l (reads_it source) p.ops op here in let b = ap (count source) y.reads in let c = count_here source [] in omega (arith, a, b, c))))
 
   u_sized : is_sized u ≡ true
-  u_sized = subst (λ k. IsTrue (is_width (type_width k))) y.kind_out (named_sized p v out (v.writes_declared out (let a = at_most_all l (writes_it out) p.ops op here in let b = ap (count out) y.writes in let c = count_here out [] in omega (arith, a, b, c))))
+  u_sized =
+      subst (λ k. IsTrue (is_width (type_width k))) y.kind_out (named_sized p v out (v.writes_declared out (let a = at_most_all l (writes_it out) p.ops op here in let b = ap (count out) y.writes in let c = count_here out [] in omega (arith, a, b, c))))
 
   joins_packs : Joins (GivesFlat op.kernel) op n w w.join
   joins_packs xs h good e =
@@ -81,9 +83,11 @@ module _ (p : PlanForm) (l : Name) (op : OpForm) (m : Made) (n : ℕ) (source ou
     some = some;
     reads = y.reads;
     kind = y.kind_in;
-    ends = (out, y.writes, u_sized, subst (λ k. Fits (unpack n) (replicate n (Pack u)) (k ∷ []) (Private ∷ [])) (sym y.kind_out) (u, refl, refl, refl, and_from (is_sized u) (nat_le 1 n) u_sized (grind (arith, some))));
+    ends =
+        (out, y.writes, u_sized, subst (λ k. Fits (unpack n) (replicate n (Pack u)) (k ∷ []) (Private ∷ [])) (sym y.kind_out) (u, refl, refl, refl, and_from (is_sized u) (nat_le 1 n) u_sized (grind (arith, some))));
     queues_once = apart.queues_once;
-    variables_once = λ x. let a = apart.variables_once x in let b = count-append x (table_names p.tables) (w.stay ++ w.new) in let c = count-append x w.stay w.new in omega (arith, a, b, c);
+    variables_once =
+        λ x. let a = apart.variables_once x in let b = count-append x (table_names p.tables) (w.stay ++ w.new) in let c = count-append x w.stay w.new in omega (arith, a, b, c);
     labels_once = apart.labels_once;
     within = apart.within;
     deals = deal_fits n 1 t some (omega arith) t_sized;

@@ -40,7 +40,8 @@ count_each f (suc n) zero lt = count_here (f 0) (each_name (λ i. f (suc i)) n)
 count_each f (suc n) (suc i) lt = let e = count_each (λ i. f (suc i)) n i (omega (arith, lt)) in omega (arith, e)
 
 -- a function that is the same on all made names
-pub map_each : {A : Type 0} (k : Name → A) (f : ℕ → Name) (n : ℕ) (t : A) → ((q : Name) → 0 < count q (each_name f n) → k q ≡ t) → map k (each_name f n) ≡ replicate n t
+pub map_each : {A : Type 0} (k : Name → A) (f : ℕ → Name) (n : ℕ) (t : A) → ((q : Name) → 0 < count q (each_name f n) → k q ≡ t)
+    → map k (each_name f n) ≡ replicate n t
 map_each k f zero t e = refl
 map_each k f (suc n) t e =
     ap (λ x. x ∷ map k (each_name (λ i. f (suc i)) n)) (e (f 0) (count_here (f 0) (each_name (λ i. f (suc i)) n)))

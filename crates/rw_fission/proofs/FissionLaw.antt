@@ -4,7 +4,8 @@ use Rattle.std.specs.Prelude.{All, nat_le}
 use Rattle.std.specs.List.{list_all}
 use Rattle.std.proofs.lemmas.Bool.{and_parts, and_from}
 use Rattle.river_kernels.specs.declared.limit.Limit.{Limit}
-use Rattle.river_kernels.specs.declared.limit.Limit.TheVariants.{Inputs, Operators, Queues, Variables, Ports, Statements, Slots, Rates, Weights, Nesting, Latest, Best}
+use Rattle.river_kernels.specs.declared.limit.Limit.TheVariants.{Inputs, Operators, Queues, Variables, Ports, Statements, Slots, Rates, Weights, Nesting}
+use Rattle.river_kernels.specs.declared.limit.Limit.TheVariants.{Latest, Best}
 use Rattle.river_plan.specs.Forms.{queue_names, variable_names, labels, Name, OpForm, PlanForm, all_decls}
 use Rattle.river_plan.specs.Limits.{most_of, numbers, limits}
 use Rattle.river_plan.specs.Names.{count, one_if}
@@ -60,11 +61,13 @@ once_is ws h q = ⊎_elim (λ lt. all_once ws ws h q lt) (λ z. omega (arith, z)
 
 all_below : (m : ℕ) (ks : List ℕ) → list_all (λ k. nat_le k m) ks ≡ true → All (λ k. k ≤ m) ks
 all_below m [] h = All-nil (λ k. k ≤ m)
-all_below m (k ∷ ks) h = let a = and_parts (nat_le k m) (list_all (λ j. nat_le j m) ks) h in All-cons (λ j. j ≤ m) k ks (grind (arith, a.0)) (all_below m ks a.1)
+all_below m (k ∷ ks) h =
+    let a = and_parts (nat_le k m) (list_all (λ j. nat_le j m) ks) h in All-cons (λ j. j ≤ m) k ks (grind (arith, a.0)) (all_below m ks a.1)
 
 below_all : (m : ℕ) (ks : List ℕ) → All (λ k. k ≤ m) ks → list_all (λ k. nat_le k m) ks ≡ true
 below_all m [] h = refl
-below_all m (k ∷ ks) h = and_from (nat_le k m) (list_all (λ j. nat_le j m) ks) (let a = All-head (λ j. j ≤ m) k ks h in grind (arith, a)) (below_all m ks (All-tail (λ j. j ≤ m) k ks h))
+below_all m (k ∷ ks) h =
+    and_from (nat_le k m) (list_all (λ j. nat_le j m) ks) (let a = All-head (λ j. j ≤ m) k ks h in grind (arith, a)) (below_all m ks (All-tail (λ j. j ≤ m) k ks h))
 
 -- each limit is in the list of all
 limit_in : (t : Limit → Bool) → list_all t limits ≡ true → (limit : Limit) → t limit ≡ true
@@ -160,7 +163,8 @@ module _ (p : PlanForm) (l : Name) (op : OpForm) (n : ℕ) (source : Name) (v : 
       ))
 
   -- whatever the way, a result that passes the tests is valid, and means the same
-  pub way_keeps : (w : Way) → IsWay p op m n source w → IsApart (split_by p l op m n (kind_of (all_decls p) source) w) → Keeps p (split_by p l op m n (kind_of (all_decls p) source) w)
+  pub way_keeps : (w : Way) → IsWay p op m n source w → IsApart (split_by p l op m n (kind_of (all_decls p) source) w)
+      → Keeps p (split_by p l op m n (kind_of (all_decls p) source) w)
   way_keeps w k a = ⊎_elim
       (λ s. by_type (Flat k.type) k.kind (by_packs_keeps k.type w s))
       (λ r. ⊎_elim
@@ -168,7 +172,8 @@ module _ (p : PlanForm) (l : Name) (op : OpForm) (n : ℕ) (source : Name) (v : 
       (λ s. by_type (Flat k.type) k.kind (by_adds_keeps k.type w s)) r)
       k.one
     where
-      by_type : (t : QueueType) → kind_of (all_decls p) source ≡ t → (IsApart (split_by p l op m n t w) → Keeps p (split_by p l op m n t w)) → Keeps p (split_by p l op m n (kind_of (all_decls p) source) w)
+      by_type : (t : QueueType) → kind_of (all_decls p) source ≡ t → (IsApart (split_by p l op m n t w) → Keeps p (split_by p l op m n t w))
+          → Keeps p (split_by p l op m n (kind_of (all_decls p) source) w)
       by_type t e f = subst (λ q. IsApart (split_by p l op m n q w) → Keeps p (split_by p l op m n q w)) (sym e) f a
 
 -- the law of fission

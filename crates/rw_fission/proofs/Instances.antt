@@ -31,7 +31,8 @@ filters peek pop = record {
   vars = F ∷ [];
   ops = record {
     label = F;
-    kernel = filter (record { peek = peek; pop = pop; push = 1; body = record { inputs = peek; slots = 0; steps = Then (Push 0 (Input 0 ∷ [])) Done }; starts = [] });
+    kernel =
+        filter (record { peek = peek; pop = pop; push = 1; body = record { inputs = peek; slots = 0; steps = Then (Push 0 (Input 0 ∷ [])) Done }; starts = [] });
     reads = in_name ∷ [];
     writes = out_name ∷ [];
     vars = F ∷ [];
@@ -112,7 +113,8 @@ abbrev map_name : Name
 map_name = 109 ∷ 97 ∷ 112 ∷ []
 
 abbrev k_map : Kern
-k_map = fused (fused (code (record { body = record { inputs = 2; slots = 0; steps = Then (Push 0 (Const (pos 1) ∷ [])) (Then (Push 1 (Input 0 ∷ Input 1 ∷ [])) Done) }; outs = pos 1 ∷ pos 2 ∷ []; starts = [] })) tally 0) tally 0
+k_map =
+    fused (fused (code (record { body = record { inputs = 2; slots = 0; steps = Then (Push 0 (Const (pos 1) ∷ [])) (Then (Push 1 (Input 0 ∷ Input 1 ∷ [])) Done) }; outs = pos 1 ∷ pos 2 ∷ []; starts = [] })) tally 0) tally 0
 
 abbrev map_plan : PlanForm
 map_plan = record {
@@ -131,7 +133,8 @@ abbrev map_copy : ℕ → OpForm
 map_copy d = record { label = map_at (d ∷ []); kernel = k_map; reads = map_at (97 ∷ d ∷ []) ∷ []; writes = []; vars = (99 ∷ []) ∷ (116 ∷ []) ∷ [] }
 
 map_step : fission_of map_plan map_name 3 ≡ Ok (record map_plan {
-  queues = record { name = map_at (97 ∷ 49 ∷ []); kind = rows 2 } ∷ record { name = map_at (97 ∷ 50 ∷ []); kind = rows 2 } ∷ record { name = map_at (97 ∷ 51 ∷ []); kind = rows 2 } ∷ [];
+  queues =
+      record { name = map_at (97 ∷ 49 ∷ []); kind = rows 2 } ∷ record { name = map_at (97 ∷ 50 ∷ []); kind = rows 2 } ∷ record { name = map_at (97 ∷ 51 ∷ []); kind = rows 2 } ∷ [];
   vars = map_at (100 ∷ []) ∷ [];
   ops =
       record {

@@ -1,5 +1,6 @@
 -- A plan in which an operator is split means the same.
-use Rattle.std.proofs.Common.{◌≡◌, ℕ, ℤ, zero, suc, ◌+◌, ◌<◌, ◌≤◌, Bool, Option, Some, None, List, [], ◌∷◌, ◌++◌, map, length, refl, sym, ap, ◌∙◌, subst, arith, ⊎_elim}
+use Rattle.std.proofs.Common.{◌≡◌, ℕ, ℤ, zero, suc, ◌+◌, ◌<◌, ◌≤◌, Bool, Option, Some, None, List, [], ◌∷◌, ◌++◌, map, length, refl, sym, ap, ◌∙◌, subst, arith}
+use Rattle.std.proofs.Common.{⊎_elim}
 use Rattle.std.specs.Prelude.{All, count_by, filter, nat_lt}
 use Rattle.river_base.specs.declared.item.Item as item
 use Rattle.river_base.specs.declared.kind.QueueType.{QueueType}
@@ -47,17 +48,20 @@ total_copies f g (suc n) = let e = total_copies f (λ i. g (suc i)) n in omega (
 -- sums of equal numbers
 pub sum_same : (n : ℕ) (f g : ℕ → ℕ) → ((i : ℕ) → i < n → f i ≡ g i) → sum_below n f ≡ sum_below n g
 sum_same zero f g h = refl
-sum_same (suc n) f g h = let a = h 0 (omega arith) in let b = sum_same n (λ i. f (suc i)) (λ i. g (suc i)) (λ i lt. h (suc i) (omega (arith, lt))) in omega (arith, a, b)
+sum_same (suc n) f g h =
+    let a = h 0 (omega arith) in let b = sum_same n (λ i. f (suc i)) (λ i. g (suc i)) (λ i lt. h (suc i) (omega (arith, lt))) in omega (arith, a, b)
 
 -- an operator whose one variable is no table adds to none
-no_adds : (tables : List Name) (h : History) (x : Name) (test : List ℤ → Bool) (o : OpForm) (w : Name) → o.vars ≡ w ∷ [] → count w tables ≡ 0 → adds_it tables h x test o ≡ 0
+no_adds : (tables : List Name) (h : History) (x : Name) (test : List ℤ → Bool) (o : OpForm) (w : Name) → o.vars ≡ w ∷ [] → count w tables ≡ 0
+    → adds_it tables h x test o ≡ 0
 no_adds tables h x test o w e z =
     let none : tables_of tables o ≡ [] = ap (filter (λ v. nat_lt 0 (count v tables))) e ∙ if_ge 0 (count w tables) (w ∷ []) [] (omega (arith, z)) in
     ap (λ ts. count_by test (joined ts (given o h).adds x)) none
 
 -- an operator of one input
 pub fed_one : (o : OpForm) (r : Name) (h : History) → o.reads ≡ r ∷ [] → ins o.kernel ≡ 1 → given o h ≡ feed (fire o.kernel 0) (h r) (first_kept o.kernel)
-fed_one o r h e k = one_input o.kernel (lists_of h o.reads) (first_kept o.kernel) k ∙ ap (λ rs. feed (fire o.kernel 0) (lists_of h rs 0) (first_kept o.kernel)) e
+fed_one o r h e k =
+    one_input o.kernel (lists_of h o.reads) (first_kept o.kernel) k ∙ ap (λ rs. feed (fire o.kernel 0) (lists_of h rs 0) (first_kept o.kernel)) e
 
 module _ (Good : item.Item → Type 0) (p : PlanForm) (l : Name) (op : OpForm) (m : Made) (n : ℕ) (source : Name) (t : QueueType) (w : Way) (v : IsPlan p)
     (here : first_with (named_it l) p.ops ≡ Some op) (y : Splits Good p l op m n source t w) where
@@ -79,7 +83,8 @@ module _ (Good : item.Item → Type 0) (p : PlanForm) (l : Name) (op : OpForm) (
       sym c.ins ∙ ap (λ rs. length (map (kind_of (all_decls p)) rs)) y.reads
 
   inner_in : ins w.inner ≡ 1
-  inner_in = sym (counts w.inner _ _ _ (y.inner (λ x. var_kind p.tables (w.stay ++ w.new) x) (λ x lt. sym (split.var_tables Good p l op m n source t w v here y x lt)) (λ x lt. split.var_private Good p l op m n source t w v here y x lt) 0 y.some)).ins
+  inner_in =
+      sym (counts w.inner _ _ _ (y.inner (λ x. var_kind p.tables (w.stay ++ w.new) x) (λ x lt. sym (split.var_tables Good p l op m n source t w v here y x lt)) (λ x lt. split.var_private Good p l op m n source t w v here y x lt) 0 y.some)).ins
 
   module _ (g : History) where
     abbrev h : History
@@ -106,10 +111,12 @@ module _ (Good : item.Item → Type 0) (p : PlanForm) (l : Name) (op : OpForm) (
     dealt_lists = lists_written da dealt (written pa outs h) h' (λ q. let o = made_once q in omega (arith, o)) (λ q lt. refl)
 
     outs_lists : Lists pa outs h'
-    outs_lists = lists_written pa outs h h' (λ q. let o = made_once q in omega (arith, o)) (λ q lt. written_out da dealt (written pa outs h) q (let o = made_once q in omega (arith, o, lt)))
+    outs_lists =
+        lists_written pa outs h h' (λ q. let o = made_once q in omega (arith, o)) (λ q lt. written_out da dealt (written pa outs h) q (let o = made_once q in omega (arith, o, lt)))
 
     source_old : h' source ≡ h source
-    source_old = old source (split.old_read Good p l op m n source t w v here y source (let a = split.reads_old Good p l op m n source t w v here y source in let b = ap (count source) y.reads in let c = count_here source [] in omega (arith, a, b, c)))
+    source_old =
+        old source (split.old_read Good p l op m n source t w v here y source (let a = split.reads_old Good p l op m n source t w v here y source in let b = ap (count source) y.reads in let c = count_here source [] in omega (arith, a, b, c)))
 
     splitter_solves : Solves h' (splitter_op op m n w)
     splitter_solves =
@@ -131,7 +138,8 @@ module _ (Good : item.Item → Type 0) (p : PlanForm) (l : Name) (op : OpForm) (
     )
 
     module _ (good : All Good (h source)) where
-      joiner_solves : (j : Kern × QueueType) → w.join ≡ Some j → Solves h' (record { label = m.joiner; kernel = j.0; reads = each_name m.given n; writes = op.writes; vars = m.joiner ∷ [] })
+      joiner_solves : (j : Kern × QueueType) → w.join ≡ Some j
+          → Solves h' (record { label = m.joiner; kernel = j.0; reads = each_name m.given n; writes = op.writes; vars = m.joiner ∷ [] })
       joiner_solves j e =
           let o : OpForm = record { label = m.joiner; kernel = j.0; reads = each_name m.given n; writes = op.writes; vars = m.joiner ∷ [] } in
           let en : Ends p op n (Some j) = subst (Ends p op n) e y.ends in
@@ -149,7 +157,9 @@ module _ (Good : item.Item → Type 0) (p : PlanForm) (l : Name) (op : OpForm) (
       put_solves : Each (Solves h') put
       put_solves = split.put_all Good p l op m n source t w v here y (Solves h') splitter_solves (λ i lt. given_at w.join refl i lt) joiner_solves
 
-      same_h : (q : Name) → 0 < stay p.ops p'.ops op put (split.e Good p l op m n source t w v here y) (reads_it q) + stay p.ops p'.ops op put (split.e Good p l op m n source t w v here y) (writes_it q) → h q ≡ h' q
+      same_h : (q : Name)
+          → 0 < stay p.ops p'.ops op put (split.e Good p l op m n source t w v here y) (reads_it q) + stay p.ops p'.ops op put (split.e Good p l op m n source t w v here y) (writes_it q)
+          → h q ≡ h' q
       same_h q lt =
           let a = split.reads_old Good p l op m n source t w v here y q in let b = split.writes_old Good p l op m n source t w v here y q in
           sym (old q (⊎_elim (λ k. split.old_read Good p l op m n source t w v here y q k) (λ z. split.old_write Good p l op m n source t w v here y q (omega (arith, a, b, z, lt))) (more_or_zero (total (reads_it q) p.ops))))
@@ -159,11 +169,14 @@ module _ (Good : item.Item → Type 0) (p : PlanForm) (l : Name) (op : OpForm) (
 
       -- these are the histories of the new plan
       pub is_hist : (q : Name) → h' q ≡ histories p'.ops g q
-      is_hist q = swapped_hist p p' v (split.valid Good p l op m n source t w v here y) op put (split.e Good p l op m n source t w v here y) g h' put_solves same_h in_put q
+      is_hist q =
+          swapped_hist p p' v (split.valid Good p l op m n source t w v here y) op put (split.e Good p l op m n source t w v here y) g h' put_solves same_h in_put q
 
       -- the outputs are the same
       pub out_same : (q : Name) → 0 < count q (decl_names p.outputs) → histories p'.ops g q ≡ h q
-      out_same q lt = sym (is_hist q) ∙ old q (split.old_named Good p l op m n source t w v here y q (let i = split.ends_named Good p l op m n source t w v here y q in omega (arith, i, lt)))
+      out_same q lt =
+          sym (is_hist q)
+          ∙ old q (split.old_named Good p l op m n source t w v here y q (let i = split.ends_named Good p l op m n source t w v here y q in omega (arith, i, lt)))
 
       abbrev tables : List Name
       tables = table_names p.tables

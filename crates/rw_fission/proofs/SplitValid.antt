@@ -1,5 +1,6 @@
 -- A plan in which an operator is split is valid.
-use Rattle.std.proofs.Common.{◌≡◌, ℕ, zero, suc, ◌+◌, ◌<◌, ◌≤◌, Option, Some, None, List, [], ◌∷◌, ◌++◌, map, replicate, refl, sym, ap, ◌∙◌, subst, arith, append_assoc, ⊎_elim}
+use Rattle.std.proofs.Common.{◌≡◌, ℕ, zero, suc, ◌+◌, ◌<◌, ◌≤◌, Option, Some, None, List, [], ◌∷◌, ◌++◌, map, replicate, refl, sym, ap, ◌∙◌, subst, arith}
+use Rattle.std.proofs.Common.{append_assoc, ⊎_elim}
 use Rattle.std.specs.Prelude.{unwrap_or, All, IsTrue}
 use Rattle.std.proofs.lemmas.List.Elements.{All-append, All-nil, All-cons, All-head, All-tail}
 use Rattle.river_base.specs.declared.item.Item as item
@@ -31,13 +32,15 @@ use Rattle.rw_fission.proofs.Declared.{names_of_decls, kind_decls, count_each, m
 -- REPLICAS AND JOINERS
 
 -- how often replicas read a queue
-pub copies_read : (x : Name) (g : ℕ → OpForm) (a : ℕ → Name) (n : ℕ) → ((i : ℕ) → (g i).reads ≡ a i ∷ []) → total (reads_it x) (each_op g n) ≡ count x (each_name a n)
+pub copies_read : (x : Name) (g : ℕ → OpForm) (a : ℕ → Name) (n : ℕ) → ((i : ℕ) → (g i).reads ≡ a i ∷ [])
+    → total (reads_it x) (each_op g n) ≡ count x (each_name a n)
 copies_read x g a zero e = refl
 copies_read x g a (suc n) e =
     let i = copies_read x (λ i. g (suc i)) (λ i. a (suc i)) n (λ i. e (suc i)) in let h = ap (count x) (e 0) in omega (arith, i, h)
 
 -- how often replicas write a queue
-pub copies_write : (x : Name) (g : ℕ → OpForm) (b : ℕ → Name) (j : Option (Kern × QueueType)) (n : ℕ) → ((i : ℕ) → (g i).writes ≡ outs_of j (b i)) → total (writes_it x) (each_op g n) ≡ count x (given_names b n j)
+pub copies_write : (x : Name) (g : ℕ → OpForm) (b : ℕ → Name) (j : Option (Kern × QueueType)) (n : ℕ) → ((i : ℕ) → (g i).writes ≡ outs_of j (b i))
+    → total (writes_it x) (each_op g n) ≡ count x (given_names b n j)
 copies_write x g b None zero e = refl
 copies_write x g b (Some j) zero e = refl
 copies_write x g b None (suc n) e =
@@ -50,28 +53,33 @@ pub each_copy : (P : OpForm → Type 0) (g : ℕ → OpForm) (n : ℕ) → ((i :
 each_copy P g zero h = tt
 each_copy P g (suc n) h = (h 0 (omega arith), each_copy P (λ i. g (suc i)) n (λ i lt. h (suc i) (omega (arith, lt))))
 
-copies_before : (g : ℕ → OpForm) (a : ℕ → Name) (n : ℕ) (known : Name → ℕ) → ((i : ℕ) → (g i).reads ≡ a i ∷ []) → ((q : Name) → 0 < count q (each_name a n) → 0 < known q) → ReadsBefore known (each_op g n)
+copies_before : (g : ℕ → OpForm) (a : ℕ → Name) (n : ℕ) (known : Name → ℕ) → ((i : ℕ) → (g i).reads ≡ a i ∷ [])
+    → ((q : Name) → 0 < count q (each_name a n) → 0 < known q) → ReadsBefore known (each_op g n)
 copies_before g a zero known e h = tt
 copies_before g a (suc n) known e h = (
   subst (Known known) (sym (e 0)) (λ q lt. h q (omega (arith, lt))),
   copies_before (λ i. g (suc i)) (λ i. a (suc i)) n _ (λ i. e (suc i)) (λ q lt. let k = h q (omega (arith, lt)) in omega (arith, k)),
 )
 
-joins_read : (x : Name) (op : OpForm) (m : Made) (n : ℕ) (j : Option (Kern × QueueType)) → total (reads_it x) (joiner_ops op m n j) ≡ count x (given_names m.given n j)
+joins_read : (x : Name) (op : OpForm) (m : Made) (n : ℕ) (j : Option (Kern × QueueType))
+    → total (reads_it x) (joiner_ops op m n j) ≡ count x (given_names m.given n j)
 joins_read x op m n None = refl
 joins_read x op m n (Some j) = omega arith
 
-joins_write : (p : PlanForm) (x : Name) (op : OpForm) (m : Made) (n k : ℕ) (j : Option (Kern × QueueType)) → Ends p op k j → total (writes_it x) (joiner_ops op m n j) ≡ count x op.writes
+joins_write : (p : PlanForm) (x : Name) (op : OpForm) (m : Made) (n k : ℕ) (j : Option (Kern × QueueType)) → Ends p op k j
+    → total (writes_it x) (joiner_ops op m n j) ≡ count x op.writes
 joins_write p x op m n k None e = sym (ap (count x) e)
 joins_write p x op m n k (Some j) e = omega arith
 
-joins_before : (op : OpForm) (m : Made) (n : ℕ) (j : Option (Kern × QueueType)) (known : Name → ℕ) → ((q : Name) → 0 < count q (given_names m.given n j) → 0 < known q) → ReadsBefore known (joiner_ops op m n j)
+joins_before : (op : OpForm) (m : Made) (n : ℕ) (j : Option (Kern × QueueType)) (known : Name → ℕ)
+    → ((q : Name) → 0 < count q (given_names m.given n j) → 0 < known q) → ReadsBefore known (joiner_ops op m n j)
 joins_before op m n None known h = tt
 joins_before op m n (Some j) known h = (h, tt)
 
 -- what holds of the joiner
 pub each_join : (P : OpForm → Type 0) (op : OpForm) (m : Made) (n : ℕ) (j : Option (Kern × QueueType))
-    → ((k : Kern × QueueType) → j ≡ Some k → P (record { label = m.joiner; kernel = k.0; reads = each_name m.given n; writes = op.writes; vars = m.joiner ∷ [] })) → Each P (joiner_ops op m n j)
+    → ((k : Kern × QueueType) → j ≡ Some k → P (record { label = m.joiner; kernel = k.0; reads = each_name m.given n; writes = op.writes; vars = m.joiner ∷ [] }))
+    → Each P (joiner_ops op m n j)
 each_join P op m n None h = tt
 each_join P op m n (Some j) h = (h j refl, tt)
 
@@ -163,7 +171,9 @@ module _ (Good : item.Item → Type 0) (p : PlanForm) (l : Name) (op : OpForm) (
   all_named r = names_append r.outputs (r.inputs ++ r.queues) ∙ ap (λ l. decl_names r.outputs ++ l) (names_append r.inputs r.queues)
 
   new_named : decl_names new_decls ≡ da ++ pa
-  new_named = names_append (decls t da) (given_decls m n w.join) ∙ ap (λ l. l ++ decl_names (given_decls m n w.join)) (names_of_decls t da) ∙ ap (λ l. da ++ l) (given_names_of m n w.join)
+  new_named =
+      names_append (decls t da) (given_decls m n w.join) ∙ ap (λ l. l ++ decl_names (given_decls m n w.join)) (names_of_decls t da)
+      ∙ ap (λ l. da ++ l) (given_names_of m n w.join)
 
   -- how often a queue is declared
   pub names_more : (x : Name) → count x (queue_names p') ≡ count x (queue_names p) + (count x da + count x pa)
@@ -177,7 +187,8 @@ module _ (Good : item.Item → Type 0) (p : PlanForm) (l : Name) (op : OpForm) (
   -- the ends are declared
   pub ends_named : (x : Name) → count x (decl_names p.inputs) + count x (decl_names p.outputs) ≤ count x (queue_names p)
   ends_named x =
-      let a = count-append x (decl_names p.outputs) (decl_names p.inputs ++ decl_names p.queues) in let b = count-append x (decl_names p.inputs) (decl_names p.queues) in
+      let a = count-append x (decl_names p.outputs) (decl_names p.inputs ++ decl_names p.queues) in
+      let b = count-append x (decl_names p.inputs) (decl_names p.queues) in
       omega (arith, a, b)
 
   -- made names are new
@@ -211,10 +222,14 @@ module _ (Good : item.Item → Type 0) (p : PlanForm) (l : Name) (op : OpForm) (
   kind' = kind_of (all_decls p')
 
   kind_old : (q : Name) → 0 < count q (queue_names p) → kind' q ≡ kind q
-  kind_old q lt = ap (λ ds. kind_of ds q) decls_are ∙ ap (λ o. unwrap_or o (rows 0)) (kind_front (all_decls p) new_decls q (let a = ap (count q) (all_named p) in omega (arith, a, lt)))
+  kind_old q lt =
+      ap (λ ds. kind_of ds q) decls_are
+      ∙ ap (λ o. unwrap_or o (rows 0)) (kind_front (all_decls p) new_decls q (let a = ap (count q) (all_named p) in omega (arith, a, lt)))
 
   kind_new : (q : Name) → count q (queue_names p) ≡ 0 → kind' q ≡ unwrap_or (kind_in new_decls q) (rows 0)
-  kind_new q z = ap (λ ds. kind_of ds q) decls_are ∙ ap (λ o. unwrap_or o (rows 0)) (kind_back (all_decls p) new_decls q (let a = ap (count q) (all_named p) in omega (arith, a, z)))
+  kind_new q z =
+      ap (λ ds. kind_of ds q) decls_are
+      ∙ ap (λ o. unwrap_or o (rows 0)) (kind_back (all_decls p) new_decls q (let a = ap (count q) (all_named p) in omega (arith, a, z)))
 
   kind_dealt : (q : Name) → 0 < count q da → kind' q ≡ t
   kind_dealt q lt =
@@ -298,7 +313,8 @@ module _ (Good : item.Item → Type 0) (p : PlanForm) (l : Name) (op : OpForm) (
   )
 
   source_named : 0 < count source (queue_names p)
-  source_named = v.reads_declared source (let a = reads_old source in let b = ap (count source) y.reads in let c = count_here source [] in omega (arith, a, b, c))
+  source_named =
+      v.reads_declared source (let a = reads_old source in let b = ap (count source) y.reads in let c = count_here source [] in omega (arith, a, b, c))
 
   reads_kind : map kind' op.reads ≡ t ∷ []
   reads_kind = ap (map kind') y.reads ∙ ap (λ k. k ∷ []) (kind_old source source_named ∙ y.kind)
@@ -323,7 +339,8 @@ module _ (Good : item.Item → Type 0) (p : PlanForm) (l : Name) (op : OpForm) (
       (subst (λ ts. Fits w.inner (t ∷ []) ts (map var' (w.vars i))) (sym (given_kind i lt w.join refl))
       (y.inner var' (λ x h. sym (table_is p.tables p.vars p'.vars x h)) var_new i lt))
 
-  joiner_fit : (j : Kern × QueueType) → w.join ≡ Some j → IsFit p' (record { label = m.joiner; kernel = j.0; reads = each_name m.given n; writes = op.writes; vars = m.joiner ∷ [] })
+  joiner_fit : (j : Kern × QueueType) → w.join ≡ Some j
+      → IsFit p' (record { label = m.joiner; kernel = j.0; reads = each_name m.given n; writes = op.writes; vars = m.joiner ∷ [] })
   joiner_fit j ej =
       let en : Ends p op n (Some j) = subst (Ends p op n) ej y.ends in
       let out = en.0 in
@@ -337,7 +354,8 @@ module _ (Good : item.Item → Type 0) (p : PlanForm) (l : Name) (op : OpForm) (
 
   -- what holds of splitter, replicas and joiner
   pub put_all : (P : OpForm → Type 0) → P (splitter_op op m n w) → ((i : ℕ) → i < n → P (replica_op w m i))
-      → ((j : Kern × QueueType) → w.join ≡ Some j → P (record { label = m.joiner; kernel = j.0; reads = each_name m.given n; writes = op.writes; vars = m.joiner ∷ [] })) → Each P put
+      → ((j : Kern × QueueType) → w.join ≡ Some j → P (record { label = m.joiner; kernel = j.0; reads = each_name m.given n; writes = op.writes; vars = m.joiner ∷ [] }))
+      → Each P put
   put_all P s c j = (s, each_append P copies (joiner_ops op m n w.join) (each_copy P (replica_op w m) n c) (each_join P op m n w.join j))
 
   -- ORDER
@@ -356,10 +374,12 @@ module _ (Good : item.Item → Type 0) (p : PlanForm) (l : Name) (op : OpForm) (
   -- THE WHOLE
 
   all_sized : All HasWidth (all_decls p)
-  all_sized = All-append HasWidth p.outputs (p.inputs ++ p.queues) (outer p.outputs v.outputs_typed) (All-append HasWidth p.inputs p.queues (outer p.inputs v.inputs_typed) v.queues_typed)
+  all_sized =
+      All-append HasWidth p.outputs (p.inputs ++ p.queues) (outer p.outputs v.outputs_typed) (All-append HasWidth p.inputs p.queues (outer p.inputs v.inputs_typed) v.queues_typed)
 
   t_sized : IsTrue (is_width (type_width t))
-  t_sized = subst (λ k. IsTrue (is_width (type_width k))) y.kind (kind_sized (all_decls p) source all_sized (let a = ap (count source) (all_named p) in let b = source_named in omega (arith, a, b)))
+  t_sized =
+      subst (λ k. IsTrue (is_width (type_width k))) y.kind (kind_sized (all_decls p) source all_sized (let a = ap (count source) (all_named p) in let b = source_named in omega (arith, a, b)))
 
   -- the new plan is valid
   pub valid : IsPlan p'
@@ -367,8 +387,10 @@ module _ (Good : item.Item → Type 0) (p : PlanForm) (l : Name) (op : OpForm) (
     queues_once = y.queues_once;
     variables_once = λ x. let a = names_of_vars p' x in let b = vars_named x in let o = y.variables_once x in omega (arith, a, b, o);
     labels_once = y.labels_once;
-    reads_declared = λ x lt. let a = names_more x in let b = reads_more x in ⊎_elim (λ h. let k = v.reads_declared x h in omega (arith, a, k)) (λ h. omega (arith, a, b, h, lt)) (more_or_zero (total (reads_it x) p.ops));
-    writes_declared = λ x lt. let a = names_more x in let b = writes_more x in ⊎_elim (λ h. let k = v.writes_declared x h in omega (arith, a, k)) (λ h. omega (arith, a, b, h, lt)) (more_or_zero (total (writes_it x) p.ops));
+    reads_declared =
+        λ x lt. let a = names_more x in let b = reads_more x in ⊎_elim (λ h. let k = v.reads_declared x h in omega (arith, a, k)) (λ h. omega (arith, a, b, h, lt)) (more_or_zero (total (reads_it x) p.ops));
+    writes_declared =
+        λ x lt. let a = names_more x in let b = writes_more x in ⊎_elim (λ h. let k = v.writes_declared x h in omega (arith, a, k)) (λ h. omega (arith, a, b, h, lt)) (more_or_zero (total (writes_it x) p.ops));
     vars_declared = λ x lt.
         let a = vars_put x in let b = names_of_vars p' x in let c = vars_named x in
         ⊎_elim (λ h. omega (arith, b, h))
@@ -388,7 +410,8 @@ module _ (Good : item.Item → Type 0) (p : PlanForm) (l : Name) (op : OpForm) (
     in_order = order;
     outputs_typed = v.outputs_typed;
     inputs_typed = v.inputs_typed;
-    queues_typed = All-append HasWidth p.queues new_decls v.queues_typed (All-append HasWidth (decls t da) (given_decls m n w.join) (decls_sized t da t_sized) (given_sized p op m n n w.join y.ends));
+    queues_typed =
+        All-append HasWidth p.queues new_decls v.queues_typed (All-append HasWidth (decls t da) (given_decls m n w.join) (decls_sized t da t_sized) (given_sized p op m n n w.join y.ends));
     tables_typed = v.tables_typed;
     fits = together p.ops p'.ops op put e (IsFit p) (IsFit p') v.fits kept_fit (put_all (IsFit p') splitter_fit copy_fit joiner_fit);
     within = y.within;

@@ -1,5 +1,6 @@
 -- What the call answers, from what its parts answer.
-use Rattle.std.proofs.Common.{◌≡◌, ◌≢◌, ℕ, ◌+◌, ◌<◌, ◌≤◌, Bool, true, false, ◌&&◌, Option, Some, None, List, [], ◌∷◌, length, refl, sym, ap, ◌∙◌, subst, arith, ⊎_elim}
+use Rattle.std.proofs.Common.{◌≡◌, ◌≢◌, ℕ, ◌+◌, ◌<◌, ◌≤◌, Bool, true, false, ◌&&◌, Option, Some, None, List, [], ◌∷◌, length, refl, sym, ap, ◌∙◌, subst, arith}
+use Rattle.std.proofs.Common.{⊎_elim}
 use Rattle.std.specs.Prelude.{if◌then◌else◌, nat_le, Result, Ok, Err, slice_get, slice_index_or}
 use Rattle.std.proofs.lemmas.List.{length-map}
 use Rattle.river_base.specs.declared.kind.QueueType.{QueueType}
@@ -42,7 +43,8 @@ no_plan q f e v =
     absurd (cc n)
 
 -- of each fault but want of memory the answer is N5
-pub fault_step : (q : PlanForm) (f : PlanFault) (u : Unfit) → (f ≡ fault.NoMemory → u ≡ NoMemory) → ((f ≡ fault.NoMemory → ⊥) → u ≡ N5) → IsTold q (Err f) → IsJudgedAs q (no u)
+pub fault_step : (q : PlanForm) (f : PlanFault) (u : Unfit) → (f ≡ fault.NoMemory → u ≡ NoMemory) → ((f ≡ fault.NoMemory → ⊥) → u ≡ N5) → IsTold q (Err f)
+    → IsJudgedAs q (no u)
 fault_step q (fault.P1 n) u a b t = subst (λ x. IsJudgedAs q (no x)) (sym (b (λ e. absurd (cc e)))) (λ v. no_plan q (fault.P1 n) t v)
 fault_step q (fault.P2 n) u a b t = subst (λ x. IsJudgedAs q (no x)) (sym (b (λ e. absurd (cc e)))) (λ v. no_plan q (fault.P2 n) t v)
 fault_step q (fault.P3 n) u a b t = subst (λ x. IsJudgedAs q (no x)) (sym (b (λ e. absurd (cc e)))) (λ v. no_plan q (fault.P3 n) t v)
@@ -71,7 +73,8 @@ pub ended_long : (short : Bool) (q : PlanForm) → short ≡ false → no N5 ≡
 ended_long short q s = sym (ap (λ b. if b && is_apart q then yes q else no N5) s)
 
 -- what was judged ends the step
-pub judged_step : (short : Bool) (q : PlanForm) (u : Answer) → short ≡ true → (is_apart q ≡ true → IsPlan q) × (IsPlan q → is_apart q ≡ true) → IsJudgedAs q u → IsStep (λ x. x ≡ (if short && is_apart q then yes q else no N5)) u
+pub judged_step : (short : Bool) (q : PlanForm) (u : Answer) → short ≡ true → (is_apart q ≡ true → IsPlan q) × (IsPlan q → is_apart q ≡ true) → IsJudgedAs q u
+    → IsStep (λ x. x ≡ (if short && is_apart q then yes q else no N5)) u
 judged_step short q (Ok r) s v j = ap yes j.0 ∙ ended_yes short q s (v.1 j.1)
 judged_step short q (Err U1) s v j = absurd j
 judged_step short q (Err U2) s v j = absurd j
@@ -96,7 +99,9 @@ short_le l n some h = let e : nat_le (length l + longest n) 64 ≡ true = short_
 -- THE LAYERS BEFORE
 
 in_bounds : (n : ℕ) (x y : Answer) → 2 ≤ n → n ≤ 16 → (if nat_le 2 n && nat_le n 16 then x else y) ≡ x
-in_bounds n x y a b = ap (λ t. if t && nat_le n 16 then x else y) (let e : nat_le 2 n ≡ true = grind (arith, a) in e) ∙ ap (λ t. if t then x else y) (let e : nat_le n 16 ≡ true = grind (arith, b) in e)
+in_bounds n x y a b =
+    ap (λ t. if t && nat_le n 16 then x else y) (let e : nat_le 2 n ≡ true = grind (arith, a) in e)
+    ∙ ap (λ t. if t then x else y) (let e : nat_le n 16 ≡ true = grind (arith, b) in e)
 
 not_one : (p : PlanForm) (l : Name) (op : OpForm) (n : ℕ) (rs : List Name) → length rs ≢ 1 → by_reads p l op n rs ≡ no N3
 not_one p l op n [] h = refl
@@ -114,7 +119,8 @@ one_read (x ∷ []) q l h = ap (λ y. y ∷ []) (sym (h x))
 one_read (x ∷ y ∷ rs) q l h = absurd (omega (arith, l))
 
 -- with one input
-step_way : (p : PlanForm) (l : Name) (op : OpForm) (n : ℕ) (source : Name) (t : QueueType) (o : Option Way) → 2 ≤ n → n ≤ 16 → op.reads ≡ source ∷ [] → t ≡ kind_of (all_decls p) source → way_of p op (made_of l) n t ≡ o
+step_way : (p : PlanForm) (l : Name) (op : OpForm) (n : ℕ) (source : Name) (t : QueueType) (o : Option Way) → 2 ≤ n → n ≤ 16 → op.reads ≡ source ∷ []
+    → t ≡ kind_of (all_decls p) source → way_of p op (made_of l) n t ≡ o
     → by_op p l n (Some op) ≡ by_way p l op n t o
 step_way p l op n source t o a b r e h =
     in_bounds n (by_reads p l op n op.reads) (no N2) a b
@@ -123,7 +129,8 @@ step_way p l op n source t o a b r e h =
     ∙ ap (by_way p l op n t) h
 
 -- none of the three forms
-pub step_no_way : (p : PlanForm) (l : Name) (op : OpForm) (n : ℕ) (source : Name) (t : QueueType) → 2 ≤ n → n ≤ 16 → op.reads ≡ source ∷ [] → t ≡ kind_of (all_decls p) source → way_of p op (made_of l) n t ≡ None → no N4 ≡ by_op p l n (Some op)
+pub step_no_way : (p : PlanForm) (l : Name) (op : OpForm) (n : ℕ) (source : Name) (t : QueueType) → 2 ≤ n → n ≤ 16 → op.reads ≡ source ∷ []
+    → t ≡ kind_of (all_decls p) source → way_of p op (made_of l) n t ≡ None → no N4 ≡ by_op p l n (Some op)
 step_no_way p l op n source t a b r e h = sym (step_way p l op n source t None a b r e h)
 
 some_same : (a b : OpForm) → Some a ≡ Some b → a ≡ b
@@ -143,7 +150,9 @@ module _ (p : PlanForm) (l : Name) (i : ℕ) (op : OpForm) (n : ℕ) (source : N
       (fission_apart p l n op source w v here r (omega (arith, many)) (subst (λ k. way_of p op (made_of l) n k ≡ Some w) e h)))
 
   -- the layers one under the other
-  pub step_ends : (u : Answer) → IsStep (λ x. x ≡ (if are_short (all_made (made_of l) n) && is_apart (split_plan p i op (made_of l) n t w) then yes (split_plan p i op (made_of l) n t w) else no N5)) u → IsStep (λ x. x ≡ by_op p l n (Some op)) u
+  pub step_ends : (u : Answer)
+      → IsStep (λ x. x ≡ (if are_short (all_made (made_of l) n) && is_apart (split_plan p i op (made_of l) n t w) then yes (split_plan p i op (made_of l) n t w) else no N5)) u
+      → IsStep (λ x. x ≡ by_op p l n (Some op)) u
   step_ends u s =
       subst (λ y. IsStep (λ x. x ≡ y) u)
       (ap (λ q. if are_short (all_made (made_of l) n) && is_apart q then yes q else no N5) (sym split_is) ∙ sym (step_way p l op n source t (Some w) many few r e h)) s

@@ -21,6 +21,7 @@ FissionKeeps =
 -- of a result, a valid plan is one in which no name stands twice and no number is above its limit
 abbrev pub FissionApart : Type 0
 FissionApart =
-    (p : PlanForm) (l : Name) (n : ℕ) (op : OpForm) (source : Name) (w : Way) → IsPlan p → first_with (named_it l) p.ops ≡ Some op → op.reads ≡ source ∷ [] → 0 < n
+    (p : PlanForm) (l : Name) (n : ℕ) (op : OpForm) (source : Name) (w : Way) → IsPlan p → first_with (named_it l) p.ops ≡ Some op → op.reads ≡ source ∷ []
+    → 0 < n
     → way_of p op (made_of l) n (kind_of (all_decls p) source) ≡ Some w
     → let p' = split_by p l op (made_of l) n (kind_of (all_decls p) source) w in (is_apart p' ≡ true → IsPlan p') × (IsPlan p' → is_apart p' ≡ true)

@@ -49,7 +49,8 @@ sum_below (suc n) f = f 0 + sum_below n (λ i. f (suc i))
 abbrev pub Joins : (item.Item → Type 0) → OpForm → ℕ → Way → Option (Kern × QueueType) → Type 0
 Joins Good op n w None = Unit {0}
 Joins Good op n w (Some j) =
-    (xs : List item.Item) (h : ℕ → List item.Item) → All Good xs → ((i : ℕ) → i < n → h i ≡ (feed (fire w.inner 0) (dealt_to n w.share xs i) (first_kept w.inner)).outs 0)
+    (xs : List item.Item) (h : ℕ → List item.Item) → All Good xs
+    → ((i : ℕ) → i < n → h i ≡ (feed (fire w.inner 0) (dealt_to n w.share xs i) (first_kept w.inner)).outs 0)
     → (feed_all j.0 h (first_kept j.0)).outs 0 ≡ (feed (fire op.kernel 0) xs (first_kept op.kernel)).outs 0
 
 pub record Splits (Good : item.Item → Type 0) (p : PlanForm) (l : Name) (op : OpForm) (m : Made) (n : ℕ) (source : Name) (t : QueueType) (w : Way) : Type 0 where
@@ -65,7 +66,8 @@ pub record Splits (Good : item.Item → Type 0) (p : PlanForm) (l : Name) (op : 
   pub within : (limit : Limit) → All (λ k. k ≤ most_of limit) (numbers limit (split_by p l op m n t w))
   -- the kernels fit
   pub deals : Fits (deal (weights n w.share)) (t ∷ []) (replicate n t) (Private ∷ [])
-  pub inner : (kind : Name → VarKind) → ((x : Name) → 0 < count x (table_names p.tables) → kind x ≡ var_kind p.tables p.vars x) → ((x : Name) → 0 < count x w.new → kind x ≡ Private)
+  pub inner : (kind : Name → VarKind) → ((x : Name) → 0 < count x (table_names p.tables) → kind x ≡ var_kind p.tables p.vars x)
+      → ((x : Name) → 0 < count x w.new → kind x ≡ Private)
       → (i : ℕ) → i < n → Fits w.inner (t ∷ []) (given_types w.join) (map kind (w.vars i))
   -- variables: those that stay are the plan's but for the operator's own private ones; what is put uses the new ones once each
   pub stay_in : (x : Name) → count x w.stay ≤ count x p.vars

@@ -8,10 +8,12 @@ use Rattle.plan_edits.proofs.NameLoops.{next_take}
 
 share-append : (vs ws us : List Name) → share vs us ≡ false → share ws us ≡ false → share (vs ++ ws) us ≡ false
 share-append [] ws us a b = b
-share-append (v ∷ vs) ws us a b = let p = or_parts (nat_lt 0 (count v us)) (share vs us) a in or_from (nat_lt 0 (count v us)) (share (vs ++ ws) us) p.0 (share-append vs ws us p.1 b)
+share-append (v ∷ vs) ws us a b =
+    let p = or_parts (nat_lt 0 (count v us)) (share vs us) a in or_from (nat_lt 0 (count v us)) (share (vs ++ ws) us) p.0 (share-append vs ws us p.1 b)
 
 -- a name that the other list has not
-pub share_next : (us xs : List Name) (i : ℕ) (x : Name) → i < length xs → x ≡ get_or xs i x → count x us ≡ 0 → share (take i xs) us ≡ false → share (take (i + 1) xs) us ≡ false
+pub share_next : (us xs : List Name) (i : ℕ) (x : Name) → i < length xs → x ≡ get_or xs i x → count x us ≡ 0 → share (take i xs) us ≡ false
+    → share (take (i + 1) xs) us ≡ false
 share_next us xs i x lt e z h =
     ap (λ l. share l us) (next_take xs i x lt e) ∙ share-append (take i xs) (x ∷ []) us h (or_from (nat_lt 0 (count x us)) false (le-ltb 0 (count x us) (omega (arith, z))) refl)
 

@@ -1,5 +1,6 @@
 -- What the code of fusion stands on.
-use Rattle.std.proofs.Common.{◌≡◌, ℕ, zero, suc, ◌+◌, ◌<◌, ◌≤◌, ◌^◌, true, false, Some, List, [], ◌∷◌, ◌++◌, length, take, drop, get_or, sym, ap, ◌∙◌, subst, arith, ⊎_elim, nat_lt}
+use Rattle.std.proofs.Common.{◌≡◌, ℕ, zero, suc, ◌+◌, ◌<◌, ◌≤◌, ◌^◌, true, false, Some, List, [], ◌∷◌, ◌++◌, length, take, drop, get_or, sym, ap, ◌∙◌, subst}
+use Rattle.std.proofs.Common.{arith, ⊎_elim, nat_lt}
 use Rattle.std.specs.Prelude.{All, Ok}
 use Rattle.std.proofs.lemmas.Bool.{or_parts, ltb-false}
 use Rattle.river_base.specs.Name.{name_eq}
@@ -22,7 +23,8 @@ use Rattle.rw_local.proofs.FuseSteps.{shares_none}
 
 -- DECLARATIONS
 
-decl_next : (q : Name) (ds : List Decl) (i : ℕ) (d : Decl) → i < length ds → d ≡ get_or ds i d → name_eq d.name q ≡ false → count q (decl_names (take i ds)) ≡ 0 → count q (decl_names (take (i + 1) ds)) ≡ 0
+decl_next : (q : Name) (ds : List Decl) (i : ℕ) (d : Decl) → i < length ds → d ≡ get_or ds i d → name_eq d.name q ≡ false → count q (decl_names (take i ds)) ≡ 0
+    → count q (decl_names (take (i + 1) ds)) ≡ 0
 decl_next q [] i d lt e n z = absurd (omega (arith, lt))
 decl_next q (x ∷ ds) zero d lt e n z = let k = ap one_if (sym (ap (λ y. name_eq y.name q) e) ∙ n) in omega (arith, k)
 decl_next q (x ∷ ds) (suc i) d lt e n z =
@@ -32,7 +34,8 @@ decl_next q (x ∷ ds) (suc i) d lt e n z =
     omega (arith, r, s, z)
 
 -- a declaration of another name
-pub decl_next_at : (q : Name) (ds : List Decl) (i : ℕ) (d : Decl) → i < length ds → d ≡ get_or ds i d → name_eq d.name q ≡ false → count q (decl_names (take i ds)) ≡ 0 → count q (decl_names (take (i + 1) ds)) ≡ 0
+pub decl_next_at : (q : Name) (ds : List Decl) (i : ℕ) (d : Decl) → i < length ds → d ≡ get_or ds i d → name_eq d.name q ≡ false
+    → count q (decl_names (take i ds)) ≡ 0 → count q (decl_names (take (i + 1) ds)) ≡ 0
 decl_next_at q ds i d lt e n z = decl_next q ds i d lt e n z
 
 -- a name that is declared
@@ -42,7 +45,8 @@ decl_there q (x ∷ ds) zero d lt e t = let k = ap one_if (sym (ap (λ y. name_e
 decl_there q (x ∷ ds) (suc i) d lt e t = let r = decl_there q ds i d (omega (arith, lt)) e t in omega (arith, r)
 
 -- the place of the declaration
-pub decl_at : (q : Name) (ds : List Decl) (i : ℕ) (d : Decl) → i < length ds → d ≡ get_or ds i d → name_eq d.name q ≡ true → count q (decl_names (take i ds)) ≡ 0 → i ≡ place q (decl_names ds)
+pub decl_at : (q : Name) (ds : List Decl) (i : ℕ) (d : Decl) → i < length ds → d ≡ get_or ds i d → name_eq d.name q ≡ true
+    → count q (decl_names (take i ds)) ≡ 0 → i ≡ place q (decl_names ds)
 decl_at q [] i d lt e t z = absurd (omega (arith, lt))
 decl_at q (x ∷ ds) zero d lt e t z = sym (if_true (name_eq x.name q) 0 (suc (place q (decl_names ds))) (sym (ap (λ y. name_eq y.name q) e) ∙ t))
 decl_at q (x ∷ ds) (suc i) d lt e t z = ⊎_elim
@@ -68,7 +72,8 @@ decl_below q (x ∷ ds) lt = ⊎_elim
     (cases_bool (name_eq x.name q))
 
 -- the declarations without one
-pub undeclared_is : (q : Name) (ds : List Decl) (n : ℕ) → 0 < count q (decl_names ds) → n ≡ place q (decl_names ds) → take n ds ++ drop (n + 1) ds ≡ undeclared q ds
+pub undeclared_is : (q : Name) (ds : List Decl) (n : ℕ) → 0 < count q (decl_names ds) → n ≡ place q (decl_names ds)
+    → take n ds ++ drop (n + 1) ds ≡ undeclared q ds
 undeclared_is q ds n lt e = ap (λ m. take m ds ++ drop (m + 1) ds) e ∙ go ds lt
   where
     go : (xs : List Decl) → 0 < count q (decl_names xs) → take (place q (decl_names xs)) xs ++ drop (place q (decl_names xs) + 1) xs ≡ undeclared q xs
@@ -90,10 +95,14 @@ module _ (p : PlanForm) (q : Name) (w r : OpForm) (v : IsPlan p) (hw : first_wit
   writes_there = (found (writes_it q) p.ops w hw).has
 
   written : 0 < total (writes_it q) p.ops
-  written = let f = found (writes_it q) p.ops w hw in let a = ap (total (writes_it q)) f.is ∙ total-append (writes_it q) f.before (w ∷ f.behind) in let b = f.has in omega (arith, a, b)
+  written =
+      let f = found (writes_it q) p.ops w hw in let a = ap (total (writes_it q)) f.is ∙ total-append (writes_it q) f.before (w ∷ f.behind) in let b = f.has in
+      omega (arith, a, b)
 
   read : 0 < total (reads_it q) p.ops
-  read = let f = found (reads_it q) p.ops r hr in let a = ap (total (reads_it q)) f.is ∙ total-append (reads_it q) f.before (r ∷ f.behind) in let b = f.has in omega (arith, a, b)
+  read =
+      let f = found (reads_it q) p.ops r hr in let a = ap (total (reads_it q)) f.is ∙ total-append (reads_it q) f.before (r ∷ f.behind) in let b = f.has in
+      omega (arith, a, b)
 
   -- the queue is neither an input nor an output
   pub declared_there : 0 < count q (decl_names p.queues)
@@ -128,13 +137,16 @@ module _ (p : PlanForm) (q : Name) (w r : OpForm) (v : IsPlan p) (hw : first_wit
       })).0
 
 -- a name among the queues of a plan
-pub in_any : (p : PlanForm) (q : Name) → (0 < count q (decl_names p.outputs) + (count q (decl_names p.inputs) + count q (decl_names p.queues)) → 0 < count q (queue_names p)) × (0 < count q (queue_names p) → 0 < count q (decl_names p.outputs) + (count q (decl_names p.inputs) + count q (decl_names p.queues)))
+pub in_any : (p : PlanForm) (q : Name)
+    → (0 < count q (decl_names p.outputs) + (count q (decl_names p.inputs) + count q (decl_names p.queues)) → 0 < count q (queue_names p)) × (0 < count q (queue_names p) → 0 < count q (decl_names p.outputs) + (count q (decl_names p.inputs) + count q (decl_names p.queues)))
 in_any p q =
     let a = names_of (decl_names p.outputs) (decl_names p.inputs) (decl_names p.queues) q in
     ((λ lt. omega (arith, a, lt)), (λ lt. omega (arith, a, lt)))
 
 -- where all conditions hold, the step is accepted
-pub fuse_ok : (p : PlanForm) (q : Name) (w r : OpForm) → 0 < count q (queue_names p) → first_with (writes_it q) p.ops ≡ Some w → first_with (reads_it q) p.ops ≡ Some r → length r.reads ≡ 1 → is_large (fused_op q w r) ≡ false → share w.vars r.vars ≡ false → fuse_of p q ≡ Ok (fused_plan p q w r)
+pub fuse_ok : (p : PlanForm) (q : Name) (w r : OpForm) → 0 < count q (queue_names p) → first_with (writes_it q) p.ops ≡ Some w
+    → first_with (reads_it q) p.ops ≡ Some r → length r.reads ≡ 1 → is_large (fused_op q w r) ≡ false → share w.vars r.vars ≡ false
+    → fuse_of p q ≡ Ok (fused_plan p q w r)
 fuse_ok p q w r lt hw hr one small none =
     if_lt 0 (count q (queue_names p)) _ _ lt
     ∙ ap (λ o. fuse_found p q o (first_with (reads_it q) p.ops)) hw

@@ -8,7 +8,8 @@ use Rattle.river_base.specs.Name.{name_eq}
 use Rattle.river_base.specs.Places.{list_at}
 use Rattle.river_base.specs.declared.kind.QueueType.{QueueType}
 use Rattle.river_kernels.specs.declared.limit.Limit.{Limit}
-use Rattle.river_kernels.specs.declared.limit.Limit.TheVariants.{Inputs, Operators, Queues, Variables, Ports, Statements, Slots, Rates, Weights, Nesting, Latest, Best}
+use Rattle.river_kernels.specs.declared.limit.Limit.TheVariants.{Inputs, Operators, Queues, Variables, Ports, Statements, Slots, Rates, Weights, Nesting}
+use Rattle.river_kernels.specs.declared.limit.Limit.TheVariants.{Latest, Best}
 use Rattle.river_kernels.specs.Limits.{part_numbers, nesting}
 use Rattle.river_kernels.specs.Fits.{Fits}
 use Rattle.river_kernels.specs.declared.types.VarKind.{VarKind}
@@ -33,7 +34,8 @@ use Rattle.plan_edits.specs.Meaning.{SameMeaning}
 use Rattle.rw_local.specs.Fuse.{fused_op, fused_plan, MayFuse}
 use Rattle.plan_edits.proofs.Edit.{Edit, Cut, cut_of, edit_of, Stays, sum_old, sum_new, Parts, parts, together, reordered, edited, edited_adds}
 use Rattle.plan_edits.proofs.Surgery.{all_agree, adds_it_same}
-use Rattle.plan_edits.proofs.Types.{each_fits, undeclared_count, undeclared_kind, kind_last, all_undeclared, undeclared_length, tables_length, flat_each, each_flat, map_each, each_map, all_one, all_here, total_length}
+use Rattle.plan_edits.proofs.Types.{each_fits, undeclared_count, undeclared_kind, kind_last, all_undeclared, undeclared_length, tables_length, flat_each}
+use Rattle.plan_edits.proofs.Types.{each_flat, map_each, each_map, all_one, all_here, total_length}
 use Rattle.rw_local.proofs.FuseLemmas.{map-spliced, lists_spliced, place_below, place_of, list_at_place, count_spliced, joined_beside, fused_given, length_one}
 
 -- how often a name is declared in three lists
@@ -118,7 +120,8 @@ module _ (p : PlanForm) (q : Name) (w r : OpForm) (v : IsPlan p) (m : MayFuse p 
   in_new : (x : Name) → 0 < total (reads_it x) e.put + total (writes_it x) e.put → 0 < total (reads_it x) p'.ops + total (writes_it x) p'.ops
   in_new x lt = let a = sum_new p.ops p'.ops e (reads_it x) in let b = sum_new p.ops p'.ops e (writes_it x) in omega (arith, a, b, lt)
 
-  in_stays : (x : Name) → 0 < Stays p.ops p'.ops e (reads_it x) + Stays p.ops p'.ops e (writes_it x) → 0 < total (reads_it x) p'.ops + total (writes_it x) p'.ops
+  in_stays : (x : Name) → 0 < Stays p.ops p'.ops e (reads_it x) + Stays p.ops p'.ops e (writes_it x)
+      → 0 < total (reads_it x) p'.ops + total (writes_it x) p'.ops
   in_stays x lt = let a = sum_new p.ops p'.ops e (reads_it x) in let b = sum_new p.ops p'.ops e (writes_it x) in omega (arith, a, b, lt)
 
   -- TYPES
@@ -162,7 +165,8 @@ module _ (p : PlanForm) (q : Name) (w r : OpForm) (v : IsPlan p) (m : MayFuse p 
   -- LIMITS
 
   -- numbers of operators: those of the whole are those of its parts
-  kernels_within : (limit : Limit) (most : ℕ) → All (λ n. n ≤ most) (flat_map (λ op. part_numbers limit op.kernel) p.ops) → All (λ n. n ≤ most) (flat_map (λ op. part_numbers limit op.kernel) p'.ops)
+  kernels_within : (limit : Limit) (most : ℕ) → All (λ n. n ≤ most) (flat_map (λ op. part_numbers limit op.kernel) p.ops)
+      → All (λ n. n ≤ most) (flat_map (λ op. part_numbers limit op.kernel) p'.ops)
   kernels_within limit most h =
       let P : ℕ → Type 0 = λ n. n ≤ most in
       let f : OpForm → List ℕ = λ op. part_numbers limit op.kernel in
@@ -236,8 +240,10 @@ module _ (p : PlanForm) (q : Name) (w r : OpForm) (v : IsPlan p) (m : MayFuse p 
     queues_once = λ x. let a = v.queues_once x in let b = names_fewer x in omega (arith, a, b);
     variables_once = v.variables_once;
     labels_once = λ l. let a = v.labels_once l in let b = sums (named_it l) in omega (arith, a, b);
-    reads_declared = λ x lt. let a = v.reads_declared x in let b = names_fewer x in let d = reads_fewer x in let o = v.read_once x in let k = a (omega (arith, d, lt)) in omega (arith, b, d, o, k, lt);
-    writes_declared = λ x lt. let a = v.writes_declared x in let b = names_fewer x in let d = writes_fewer x in let o = v.written_once x in let k = a (omega (arith, d, lt)) in omega (arith, b, d, o, k, lt);
+    reads_declared =
+        λ x lt. let a = v.reads_declared x in let b = names_fewer x in let d = reads_fewer x in let o = v.read_once x in let k = a (omega (arith, d, lt)) in omega (arith, b, d, o, k, lt);
+    writes_declared =
+        λ x lt. let a = v.writes_declared x in let b = names_fewer x in let d = writes_fewer x in let o = v.written_once x in let k = a (omega (arith, d, lt)) in omega (arith, b, d, o, k, lt);
     vars_declared = λ t lt. let a = vars_same t in v.vars_declared t (omega (arith, a, lt));
     written_once = λ x. let a = v.written_once x in let b = writes_fewer x in omega (arith, a, b);
     read_once = λ x. let a = v.read_once x in let b = reads_fewer x in omega (arith, a, b);
@@ -248,7 +254,9 @@ module _ (p : PlanForm) (q : Name) (w r : OpForm) (v : IsPlan p) (m : MayFuse p 
     tables_typed = v.tables_typed;
     fits = fits;
     within = within;
-    vars_apart = let a = old (λ op. (x : Name) → vars_it x op ≤ 1) v.vars_apart in together p.ops p'.ops e (λ op. (x : Name) → vars_it x op ≤ 1) a.front (new_apart a.one.0 a.two.0, tt) a.mid a.back;
+    vars_apart =
+        let a = old (λ op. (x : Name) → vars_it x op ≤ 1) v.vars_apart in
+        together p.ops p'.ops e (λ op. (x : Name) → vars_it x op ≤ 1) a.front (new_apart a.one.0 a.two.0, tt) a.mid a.back;
     private_once = λ x lt. let a = v.private_once x lt in let b = vars_same x in omega (arith, a, b);
   }
 
@@ -262,13 +270,16 @@ module _ (p : PlanForm) (q : Name) (w r : OpForm) (v : IsPlan p) (m : MayFuse p 
 
   -- the old histories solve the new equations, except that q is not written there
   whole : (h : History) → Each (Solves h) p.ops → Same (given new h) (fused_of (place q w.writes) (outs r.kernel) (tabs w.kernel) (given w h) (λ xs. given r h))
-  whole h s = let a = old (Solves h) s in fused_given q w r h (shaped new.kernel _ _ _ new_fits) reads_are (list_at_place w.writes q (given w h).outs h c.w_writes a.one.0)
+  whole h s =
+      let a = old (Solves h) s in
+      fused_given q w r h (shaped new.kernel _ _ _ new_fits) reads_are (list_at_place w.writes q (given w h).outs h c.w_writes a.one.0)
 
   r_outs : length r.writes ≡ outs r.kernel
   r_outs = sym (length-map r.writes kind) ∙ r_counts.outs
 
   w_tables : length (tables_of (table_names p.tables) w) ≡ tabs w.kernel
-  w_tables = tables_length p.tables p.vars w.vars (λ x lt. v.vars_declared x (let a = sum_old p.ops p'.ops e (vars_it x) in omega (arith, a, lt))) ∙ w_counts.tables
+  w_tables =
+      tables_length p.tables p.vars w.vars (λ x lt. v.vars_declared x (let a = sum_old p.ops p'.ops e (vars_it x) in omega (arith, a, lt))) ∙ w_counts.tables
 
   new_solves : (h : History) → Each (Solves h) p.ops → Solves h new
   new_solves h s =
@@ -281,7 +292,8 @@ module _ (p : PlanForm) (q : Name) (w r : OpForm) (v : IsPlan p) (m : MayFuse p 
   abbrev tables : List Name
   tables = table_names p.tables
 
-  new_adds : (h : History) → Each (Solves h) p.ops → (t : Name) (test : List ℤ → Bool) → adds_it tables h t test new ≡ adds_it tables h t test w + adds_it tables h t test r
+  new_adds : (h : History) → Each (Solves h) p.ops → (t : Name) (test : List ℤ → Bool)
+      → adds_it tables h t test new ≡ adds_it tables h t test w + adds_it tables h t test r
   new_adds h s t test =
       let k = whole h s in
       let f = (given w h).adds in
@@ -333,10 +345,13 @@ module _ (p : PlanForm) (q : Name) (w r : OpForm) (v : IsPlan p) (m : MayFuse p 
 
     same : SameMeaning p p' inputs
     same = record {
-      hist = λ x lt. sym (is_hist x) ∙ else_same x (⊎_elim (λ d. absurd (let k = ap (λ n. count n (decl_names p.outputs)) d.0 in let a = q_read in let o = v.read_once q in omega (arith, a, o, k, lt))) (λ d. ap one_if d.1) (cases_name q x));
+      hist =
+          λ x lt. sym (is_hist x)
+          ∙ else_same x (⊎_elim (λ d. absurd (let k = ap (λ n. count n (decl_names p.outputs)) d.0 in let a = q_read in let o = v.read_once q in omega (arith, a, o, k, lt))) (λ d. ap one_if d.1) (cases_name q x));
       adds = same_adds;
     }
 
 -- fusion keeps a plan valid, and what it means
-pub fuse_keeps : (p : PlanForm) (q : Name) (w r : OpForm) → IsPlan p → MayFuse p q w r → IsPlan (fused_plan p q w r) × ((inputs : List (List item.Item)) → SameMeaning p (fused_plan p q w r) inputs)
+pub fuse_keeps : (p : PlanForm) (q : Name) (w r : OpForm) → IsPlan p → MayFuse p q w r
+    → IsPlan (fused_plan p q w r) × ((inputs : List (List item.Item)) → SameMeaning p (fused_plan p q w r) inputs)
 fuse_keeps p q w r v m = (valid p q w r v m, same p q w r v m)

@@ -38,7 +38,8 @@ map-spliced f (suc at) (m ∷ ms) bs lt =
     ap (map f) (spliced_next at m ms bs) ∙ ap (λ l. f m ∷ l) (map-spliced f at ms bs (omega (arith, lt))) ∙ sym (spliced_next at (f m) (map f ms) (map f bs))
 
 -- the lists of two lists of names
-pub lists_append : (vs ws : List Name) (f g : ℕ → List item.Item) (h : History) → Lists vs f h → Lists ws g h → (k : ℕ → List item.Item) → ((j : ℕ) → j < length vs → k j ≡ f j) → ((j : ℕ) → k (length vs + j) ≡ g j) → Lists (vs ++ ws) k h
+pub lists_append : (vs ws : List Name) (f g : ℕ → List item.Item) (h : History) → Lists vs f h → Lists ws g h → (k : ℕ → List item.Item)
+    → ((j : ℕ) → j < length vs → k j ≡ f j) → ((j : ℕ) → k (length vs + j) ≡ g j) → Lists (vs ++ ws) k h
 lists_append [] ws f g h a b k e e' = lists_cong ws g k h (λ j. let z : j ≡ 0 + j = omega arith in sym (ap k z ∙ e' j)) b
 lists_append (v ∷ vs) ws f g h a b k e e' = (
   a.0 ∙ sym (e 0 (omega arith)),
@@ -47,7 +48,8 @@ lists_append (v ∷ vs) ws f g h a b k e e' = (
 )
 
 -- the lists of spliced names
-pub lists_spliced : (at : ℕ) (ws vs : List Name) (f g : ℕ → List item.Item) (h : History) → at < length ws → Lists ws f h → Lists vs g h → Lists (spliced at ws vs) (splice at (length vs) f g) h
+pub lists_spliced : (at : ℕ) (ws vs : List Name) (f g : ℕ → List item.Item) (h : History) → at < length ws → Lists ws f h → Lists vs g h
+    → Lists (spliced at ws vs) (splice at (length vs) f g) h
 lists_spliced at [] vs f g h lt a b = absurd (omega (arith, lt))
 lists_spliced zero (w ∷ ws) vs f g h lt a b = lists_append vs ws g (λ j. f (suc j)) h b a.1 (splice 0 (length vs) f g)
     (λ j lt. let z : j - 0 ≡ j = omega arith in splice_second 0 (length vs) f g j (omega arith) (omega (arith, lt)) ∙ ap g z)
@@ -110,7 +112,8 @@ beside_next n f g p = ⊎_elim
     (cases_lt p n)
 
 -- the rows of two operators in one
-pub joined_beside : {A : Type 0} (ts us : List Name) (f g : ℕ → List A) (t : Name) → joined (ts ++ us) (beside (length ts) f g) t ≡ joined ts f t ++ joined us g t
+pub joined_beside : {A : Type 0} (ts us : List Name) (f g : ℕ → List A) (t : Name)
+    → joined (ts ++ us) (beside (length ts) f g) t ≡ joined ts f t ++ joined us g t
 joined_beside [] us f g t = joined_cong us (beside 0 f g) g t (λ j. let e : j - 0 ≡ j = omega arith in if_ge j 0 (f j) (g (j - 0)) (omega arith) ∙ ap g e)
 joined_beside (w ∷ ts) us f g t =
     ap (λ l. (if name_eq w t then l else []) ++ joined (ts ++ us) (λ j. beside (suc (length ts)) f g (suc j)) t) (if_lt 0 (suc (length ts)) (f 0) (g (0 - suc (length ts))) (omega arith))
@@ -120,7 +123,9 @@ joined_beside (w ∷ ts) us f g t =
 -- THE WHOLE
 
 -- what the whole gives, by what its parts give
-pub fused_given : (q : Name) (w r : OpForm) (h : History) → IsShaped (fused w.kernel r.kernel (place q w.writes)) → r.reads ≡ q ∷ [] → h q ≡ (given w h).outs (place q w.writes) → Same (given (fused_op q w r) h) (fused_of (place q w.writes) (outs r.kernel) (tabs w.kernel) (given w h) (λ xs. given r h))
+pub fused_given : (q : Name) (w r : OpForm) (h : History) → IsShaped (fused w.kernel r.kernel (place q w.writes)) → r.reads ≡ q ∷ []
+    → h q ≡ (given w h).outs (place q w.writes)
+    → Same (given (fused_op q w r) h) (fused_of (place q w.writes) (outs r.kernel) (tabs w.kernel) (given w h) (λ xs. given r h))
 fused_given q w r h f reads eq =
     let a = w.kernel in let b = r.kernel in let at = place q w.writes in
     let fa = first_kept a in let fb = first_kept b in

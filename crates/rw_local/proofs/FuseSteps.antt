@@ -62,7 +62,8 @@ module _ (p : PlanForm) (q : Name) (p' : PlanForm) where
           ports = ltb-false 64 (length (fused_op q w r).writes) l.1;
           apart = shares_none w.vars r.vars s;
         };
-        is = ok_same (fuse_two p q w r) (fused_plan p q w r) p' (if_eq (length r.reads) 1 _ _ one ∙ if_false (is_large (fused_op q w r)) _ _ small ∙ if_false (share w.vars r.vars) _ _ s) h;
+        is =
+            ok_same (fuse_two p q w r) (fused_plan p q w r) p' (if_eq (length r.reads) 1 _ _ one ∙ if_false (is_large (fused_op q w r)) _ _ small ∙ if_false (share w.vars r.vars) _ _ s) h;
       })
       (cases_bool (share w.vars r.vars)))
       (cases_bool (is_large (fused_op q w r))))

@@ -1,5 +1,6 @@
 -- What the code of hoisting stands on.
-use Rattle.std.proofs.Common.{◌≡◌, ℕ, suc, ◌+◌, ◌<◌, ◌≤◌, length, take, drop, get_or, Some, None, List, [], ◌∷◌, ◌++◌, refl, sym, ap, ◌∙◌, subst, arith, ⊎_elim, map}
+use Rattle.std.proofs.Common.{◌≡◌, ℕ, suc, ◌+◌, ◌<◌, ◌≤◌, length, take, drop, get_or, Some, None, List, [], ◌∷◌, ◌++◌, refl, sym, ap, ◌∙◌, subst, arith, ⊎_elim}
+use Rattle.std.proofs.Common.{map}
 use Rattle.std.specs.Prelude.{Option, slice_get, slice_index_or, Ok, Err, Result}
 use Rattle.std.specs.Option.{option_map}
 use Rattle.std.proofs.lemmas.Bool.{cases_lt}
@@ -23,12 +24,14 @@ use Rattle.plan_edits.specs.declared.unfit.Unfit.TheVariants.{U1, U2, U3, U4, U5
 use Rattle.plan_edits.specs.Lists.{place, first_with, replaced, retyped}
 use Rattle.plan_edits.specs.Answered.{IsAnswered}
 use Rattle.rw_local.specs.HoistCode.{IsPassing}
-use Rattle.rw_local.specs.Hoist.{plain_field, of_projection, width_at, first_width, passes, hoisted_plan, hoist_at, hoist_passed, hoist_past, hoist_between, hoist_kernel, hoist_found, hoist_of, MayHoist}
+use Rattle.rw_local.specs.Hoist.{plain_field, of_projection, width_at, first_width, passes, hoisted_plan, hoist_at, hoist_passed, hoist_past, hoist_between}
+use Rattle.rw_local.specs.Hoist.{hoist_kernel, hoist_found, hoist_of, MayHoist}
 use Rattle.plan_edits.proofs.OpLoops.{forms_next}
 use Rattle.rw_local.proofs.HoistLaw.{hoist_keeps, mid_inner}
 
 -- the field of which a field of a projection is a copy
-pub plain_at : (xs : List Expr) (i : ℕ) (x : Expr) (o : Option ℕ) → slice_get xs i ≡ Some x → o ≡ plain_field (Some (term x)) → o ≡ of_projection (map term xs) i
+pub plain_at : (xs : List Expr) (i : ℕ) (x : Expr) (o : Option ℕ) → slice_get xs i ≡ Some x → o ≡ plain_field (Some (term x))
+    → o ≡ of_projection (map term xs) i
 plain_at xs i x o h e = e ∙ sym (ap plain_field (slice_get-map term xs i ∙ ap (option_map term) h))
 
 -- beyond a projection there is no field
@@ -38,7 +41,8 @@ plain_past xs i ge = sym (ap plain_field (slice_get-map term xs i ∙ ap (option
 -- TYPES
 
 -- the width of the first input
-pub width_first : (kind : Name → QueueType) (rs : List Name) (r : Name) (n : ℕ) → 0 < length rs → ((d : Name) → r ≡ slice_index_or rs 0 d) → n ≡ width_at (kind r) → n ≡ first_width (map kind rs)
+pub width_first : (kind : Name → QueueType) (rs : List Name) (r : Name) (n : ℕ) → 0 < length rs → ((d : Name) → r ≡ slice_index_or rs 0 d)
+    → n ≡ width_at (kind r) → n ≡ first_width (map kind rs)
 width_first kind [] r n lt e h = absurd (omega (arith, lt))
 width_first kind (x ∷ rs) r n lt e h = h ∙ ap (λ m. width_at (kind m)) (e r)
 
@@ -53,10 +57,12 @@ not_empty [] h = absurd (h refl)
 not_empty (x ∷ rs) h = omega arith
 
 -- the declarations with one in its place
-pub retyped_is : (q : Name) (k : QueueType) (ds : List Decl) (n : ℕ) → 0 < count q (decl_names ds) → n ≡ place q (decl_names ds) → take n ds ++ (record { name = q; kind = k } ∷ drop (n + 1) ds) ≡ retyped q k ds
+pub retyped_is : (q : Name) (k : QueueType) (ds : List Decl) (n : ℕ) → 0 < count q (decl_names ds) → n ≡ place q (decl_names ds)
+    → take n ds ++ (record { name = q; kind = k } ∷ drop (n + 1) ds) ≡ retyped q k ds
 retyped_is q k ds n lt e = ap (λ m. take m ds ++ (record { name = q; kind = k } ∷ drop (m + 1) ds)) e ∙ go ds lt
   where
-    go : (xs : List Decl) → 0 < count q (decl_names xs) → take (place q (decl_names xs)) xs ++ (record { name = q; kind = k } ∷ drop (place q (decl_names xs) + 1) xs) ≡ retyped q k xs
+    go : (xs : List Decl) → 0 < count q (decl_names xs)
+        → take (place q (decl_names xs)) xs ++ (record { name = q; kind = k } ∷ drop (place q (decl_names xs) + 1) xs) ≡ retyped q k xs
     go [] l = absurd (omega (arith, l))
     go (x ∷ xs) l = ⊎_elim
         (λ c.
@@ -88,26 +94,33 @@ replaced-append q news (x ∷ xs) ys = ⊎_elim
     assoc (y ∷ a) b c = ap (λ l. y ∷ l) (assoc a b c)
 
 -- the loop that replaces, one operator further
-pub replaced_next : (q : Name) (news : List OpForm) (xs : List Op) (i : ℕ) (x : Op) (now new : List OpForm) → i < length xs → x ≡ get_or xs i x → now ≡ replaced q news (op_forms (take i xs)) → new ≡ now ++ replaced q news (op_form x ∷ []) → new ≡ replaced q news (op_forms (take (i + 1) xs))
+pub replaced_next : (q : Name) (news : List OpForm) (xs : List Op) (i : ℕ) (x : Op) (now new : List OpForm) → i < length xs → x ≡ get_or xs i x
+    → now ≡ replaced q news (op_forms (take i xs)) → new ≡ now ++ replaced q news (op_form x ∷ []) → new ≡ replaced q news (op_forms (take (i + 1) xs))
 replaced_next q news xs i x now new lt e h s =
     s ∙ ap (λ l. l ++ replaced q news (op_form x ∷ [])) h ∙ sym (ap (replaced q news) (forms_next xs i x lt e) ∙ replaced-append q news (op_forms (take i xs)) (op_form x ∷ []))
 
 -- THE STEP
 
-between_is : (p : PlanForm) (u : OpForm) (t : Term) (rs ws : List Name) (mid out : Name) → Some mid ≡ slice_get rs 0 → Some out ≡ slice_get ws 0 → hoist_between p u t rs ws ≡ hoist_past p u t mid out (first_with (writes_it mid) p.ops)
+between_is : (p : PlanForm) (u : OpForm) (t : Term) (rs ws : List Name) (mid out : Name) → Some mid ≡ slice_get rs 0 → Some out ≡ slice_get ws 0
+    → hoist_between p u t rs ws ≡ hoist_past p u t mid out (first_with (writes_it mid) p.ops)
 between_is p u t [] ws mid out a b = absurd (cc a)
 between_is p u t (r ∷ rs) [] mid out a b = absurd (cc b)
-between_is p u t (r ∷ rs) (w ∷ ws) mid out a b = let e : mid ≡ r = cc a in let f : out ≡ w = cc b in ap (λ n. hoist_past p u t n w (first_with (writes_it n) p.ops)) (sym e) ∙ ap (λ n. hoist_past p u t mid n (first_with (writes_it mid) p.ops)) (sym f)
+between_is p u t (r ∷ rs) (w ∷ ws) mid out a b =
+    let e : mid ≡ r = cc a in let f : out ≡ w = cc b in
+    ap (λ n. hoist_past p u t n w (first_with (writes_it n) p.ops)) (sym e) ∙ ap (λ n. hoist_past p u t mid n (first_with (writes_it mid) p.ops)) (sym f)
 
 -- as far as the operator below
-pub hoist_upto : (p : PlanForm) (l : Name) (u b : OpForm) (t : Term) (mid out : Name) (width : ℕ) → first_with (named_it l) p.ops ≡ Some u → u.kernel ≡ select t → Some mid ≡ slice_get u.reads 0 → Some out ≡ slice_get u.writes 0
-    → first_with (writes_it mid) p.ops ≡ Some b → length b.writes ≡ 1 → width ≡ first_width (map (kind_of (all_decls p)) b.reads) → hoist_of p l ≡ hoist_passed p u b mid out (passes width b.kernel t)
+pub hoist_upto : (p : PlanForm) (l : Name) (u b : OpForm) (t : Term) (mid out : Name) (width : ℕ) → first_with (named_it l) p.ops ≡ Some u → u.kernel ≡ select t
+    → Some mid ≡ slice_get u.reads 0 → Some out ≡ slice_get u.writes 0
+    → first_with (writes_it mid) p.ops ≡ Some b → length b.writes ≡ 1 → width ≡ first_width (map (kind_of (all_decls p)) b.reads)
+    → hoist_of p l ≡ hoist_passed p u b mid out (passes width b.kernel t)
 hoist_upto p l u b t mid out width a k r w below one e =
     ap (hoist_found p) a ∙ ap (hoist_kernel p u) k ∙ between_is p u t u.reads u.writes mid out r w ∙ ap (hoist_past p u t mid out) below ∙ if_eq (length b.writes) 1 _ _ one
     ∙ ap (λ n. hoist_passed p u b mid out (passes n b.kernel t)) (sym e)
 
 -- a refusal of the operator below is that of the step
-pub passing_err : (told : Result (ℕ × Term) Unfit) (whole : Result PlanForm Unfit) (f : Unfit) → ((g : Unfit) → told ≡ Err g → whole ≡ Err g) → IsPassing told (Err f) → IsAnswered whole (Err f)
+pub passing_err : (told : Result (ℕ × Term) Unfit) (whole : Result PlanForm Unfit) (f : Unfit) → ((g : Unfit) → told ≡ Err g → whole ≡ Err g)
+    → IsPassing told (Err f) → IsAnswered whole (Err f)
 passing_err told whole U1 g h = g U1 h
 passing_err told whole U2 g h = g U2 h
 passing_err told whole U3 g h = g U3 h
@@ -134,7 +147,8 @@ module _ (p : PlanForm) (l : Name) (u b : OpForm) (t : Term) (mid out : Name) (w
     source = slice_get_read b.reads (length b.reads) side src refl lt (so src)
 
     may : MayHoist p l u b t side t' src mid out
-    may = record { here = a; selects = k; reads = sym r; writes = sym w; below = below; only = one; passes = subst (λ n. passes n b.kernel t ≡ Ok (side, t')) e ps; source = source }
+    may =
+        record { here = a; selects = k; reads = sym r; writes = sym w; below = below; only = one; passes = subst (λ n. passes n b.kernel t ≡ Ok (side, t')) e ps; source = source }
 
     -- the queue between is neither an input nor an output
     pub mid_there : 0 < count mid (decl_names p.queues)

@@ -11,7 +11,8 @@ use Rattle.river_base.specs.declared.kind.QueueType.{QueueType}
 use Rattle.river_base.specs.declared.kind.QueueType.TheVariants.{Flat}
 use Rattle.work_code.specs.Term.{Term}
 use Rattle.river_kernels.specs.declared.limit.Limit.{Limit}
-use Rattle.river_kernels.specs.declared.limit.Limit.TheVariants.{Inputs, Operators, Queues, Variables, Ports, Statements, Slots, Rates, Weights, Nesting, Latest, Best}
+use Rattle.river_kernels.specs.declared.limit.Limit.TheVariants.{Inputs, Operators, Queues, Variables, Ports, Statements, Slots, Rates, Weights, Nesting}
+use Rattle.river_kernels.specs.declared.limit.Limit.TheVariants.{Latest, Best}
 use Rattle.river_kernels.specs.Limits.{part_numbers, nesting}
 use Rattle.river_kernels.specs.Formed.{is_width, is_term}
 use Rattle.river_kernels.specs.Fits.{Fits, spliced, is_sized, is_bag, width_of}
@@ -39,7 +40,8 @@ use Rattle.plan_edits.proofs.Lookups.{map_agree}
 use Rattle.plan_edits.proofs.Types.{each_fits, kind_last, tables_length, flat_each, each_flat, map_each, each_map, all_one, total_length}
 use Rattle.rw_local.proofs.FuseLaw.{names_of}
 use Rattle.rw_local.proofs.FuseLemmas.{map-spliced}
-use Rattle.rw_local.proofs.HoistLemmas.{at_count, moved_count, moved_below, got_mapped, spliced_same, lists_at, lists_moved, reads_of, found_too, only_one, one_counted, retyped_names, retyped_other, retyped_here, kind_there, retyped_length, all_retyped}
+use Rattle.rw_local.proofs.HoistLemmas.{at_count, moved_count, moved_below, got_mapped, spliced_same, lists_at, lists_moved, reads_of, found_too, only_one}
+use Rattle.rw_local.proofs.HoistLemmas.{one_counted, retyped_names, retyped_other, retyped_here, kind_there, retyped_length, all_retyped}
 use Rattle.rw_local.proofs.PassCases.{with_at, Passed, passed, passed_tables, passed_fits, passed_commutes, Commutes}
 use Rattle.rw_local.proofs.Passing.{sift, all_select}
 
@@ -57,7 +59,8 @@ no_names f (v ∷ vs) h = absurd (cc h)
 two_heads : (a b t : QueueType) (ms bs : List QueueType) → a ∷ ms ≡ t ∷ [] → b ∷ bs ≡ t ∷ [] → a ≡ b
 two_heads a b t ms bs h g = cc
 
-selection : (kind : Name → QueueType) (var : Name → VarKind) (u : OpForm) (t : Term) (mid out : Name) → FitsAt kind var u → u.kernel ≡ select t → slice_get u.reads 0 ≡ Some mid → slice_get u.writes 0 ≡ Some out → IsSelection kind var u mid out
+selection : (kind : Name → QueueType) (var : Name → VarKind) (u : OpForm) (t : Term) (mid out : Name) → FitsAt kind var u → u.kernel ≡ select t
+    → slice_get u.reads 0 ≡ Some mid → slice_get u.writes 0 ≡ Some out → IsSelection kind var u mid out
 selection kind var u t mid out f k r w =
     let g : Fits (select t) (map kind u.reads) (map kind u.writes) (map var u.vars) = subst (λ x. Fits x (map kind u.reads) (map kind u.writes) (map var u.vars)) k f in
     let rs = only_one u.reads mid (sym (length-map u.reads kind) ∙ ap length g.1) r in
@@ -145,7 +148,8 @@ module _ (p : PlanForm) (l : Name) (u b : OpForm) (t : Term) (side : ℕ) (t' : 
   writes_same x = let a = sums (writes_it x) in let d = ap (count x) is.writes in let f = ap (count x) only in omega (arith, a, d, f)
 
   reads_same : (x : Name) → total (reads_it x) p'.ops ≡ total (reads_it x) p.ops
-  reads_same x = let a = sums (reads_it x) in let d = ap (count x) is.reads in let f = moved_count b.reads (mid ∷ []) side src x m.source in omega (arith, a, d, f)
+  reads_same x =
+      let a = sums (reads_it x) in let d = ap (count x) is.reads in let f = moved_count b.reads (mid ∷ []) side src x m.source in omega (arith, a, d, f)
 
   vars_same : (x : Name) → total (vars_it x) p'.ops ≡ total (vars_it x) p.ops
   vars_same x = let a = sums (vars_it x) in omega (arith, a)
@@ -169,7 +173,8 @@ module _ (p : PlanForm) (l : Name) (u b : OpForm) (t : Term) (side : ℕ) (t' : 
   -- TYPES
 
   kind_mid : kind' mid ≡ kind src
-  kind_mid = kind_there p.outputs p.inputs (retyped mid (kind src) p.queues) mid (kind src) mid_inner.0 mid_inner.1 (retyped_here mid (kind src) p.queues mid_inner.2)
+  kind_mid =
+      kind_there p.outputs p.inputs (retyped mid (kind src) p.queues) mid (kind src) mid_inner.0 mid_inner.1 (retyped_here mid (kind src) p.queues mid_inner.2)
 
   kind_other : (x : Name) → name_eq mid x ≡ false → kind x ≡ kind' x
   kind_other x n = sym (kind_last p.outputs p.inputs p.queues (retyped mid (kind src) p.queues) x (retyped_other mid (kind src) p.queues x n))
@@ -191,10 +196,12 @@ module _ (p : PlanForm) (l : Name) (u b : OpForm) (t : Term) (side : ℕ) (t' : 
   b_types = subst (λ ws. Fits b.kernel (map kind b.reads) (map kind ws) (map var b.vars)) only b_fit
 
   u_types : Fits (select t) (kind mid ∷ []) (map kind u.writes) (map var u.vars)
-  u_types = subst (λ k. Fits k (kind mid ∷ []) (map kind u.writes) (map var u.vars)) m.selects (subst (λ rs. Fits u.kernel (map kind rs) (map kind u.writes) (map var u.vars)) is.reads u_fit)
+  u_types =
+      subst (λ k. Fits k (kind mid ∷ []) (map kind u.writes) (map var u.vars)) m.selects (subst (λ rs. Fits u.kernel (map kind rs) (map kind u.writes) (map var u.vars)) is.reads u_fit)
 
   raised_types : Fits (select t') (kind src ∷ []) (kind src ∷ []) []
-  raised_types = passed_fits b.kernel (map kind b.reads) (kind mid) (map var b.vars) t (map kind u.writes) (map var u.vars) side t' (kind src) b_types u_types is_passed (got_mapped kind b.reads side src m.source)
+  raised_types =
+      passed_fits b.kernel (map kind b.reads) (kind mid) (map var b.vars) t (map kind u.writes) (map var u.vars) side t' (kind src) b_types u_types is_passed (got_mapped kind b.reads side src m.source)
 
   u_new : FitsAt kind' var u'
   u_new =
@@ -230,7 +237,8 @@ module _ (p : PlanForm) (l : Name) (u b : OpForm) (t : Term) (side : ℕ) (t' : 
 
   -- LIMITS
 
-  kernels_within : (limit : Limit) (most : ℕ) → All (λ n. n ≤ most) (flat_map (λ op. part_numbers limit op.kernel) p.ops) → All (λ n. n ≤ most) (flat_map (λ op. part_numbers limit op.kernel) p'.ops)
+  kernels_within : (limit : Limit) (most : ℕ) → All (λ n. n ≤ most) (flat_map (λ op. part_numbers limit op.kernel) p.ops)
+      → All (λ n. n ≤ most) (flat_map (λ op. part_numbers limit op.kernel) p'.ops)
   kernels_within limit most h =
       let P : ℕ → Type 0 = λ n. n ≤ most in
       let f : OpForm → List ℕ = λ op. part_numbers limit op.kernel in
@@ -273,7 +281,8 @@ module _ (p : PlanForm) (l : Name) (u b : OpForm) (t : Term) (side : ℕ) (t' : 
       all_one (λ n. n ≤ 256) (length p'.ops) f
 
   queues_within : All (λ n. n ≤ 512) (numbers Queues p')
-  queues_within = subst (λ n. All (λ k. k ≤ 512) ((length p.outputs + (length p.inputs + n)) ∷ [])) (sym (retyped_length mid (kind src) p.queues)) (v.within Queues)
+  queues_within =
+      subst (λ n. All (λ k. k ≤ 512) ((length p.outputs + (length p.inputs + n)) ∷ [])) (sym (retyped_length mid (kind src) p.queues)) (v.within Queues)
 
   within : (limit : Limit) → All (λ n. n ≤ most_of limit) (numbers limit p')
   within Inputs = v.within Inputs
@@ -326,7 +335,9 @@ module _ (p : PlanForm) (l : Name) (u b : OpForm) (t : Term) (side : ℕ) (t' : 
     tables_typed = v.tables_typed;
     fits = fits;
     within = within;
-    vars_apart = let a = old (λ op. (x : Name) → vars_it x op ≤ 1) v.vars_apart in together p.ops p'.ops e (λ op. (x : Name) → vars_it x op ≤ 1) a.front (a.two.0, (a.one.0, tt)) a.mid a.back;
+    vars_apart =
+        let a = old (λ op. (x : Name) → vars_it x op ≤ 1) v.vars_apart in
+        together p.ops p'.ops e (λ op. (x : Name) → vars_it x op ≤ 1) a.front (a.two.0, (a.one.0, tt)) a.mid a.back;
     private_once = λ x lt. let a = v.private_once x lt in let d = vars_same x in omega (arith, a, d);
   }
 
@@ -376,7 +387,8 @@ module _ (p : PlanForm) (l : Name) (u b : OpForm) (t : Term) (side : ℕ) (t' : 
     out_was = one_list u.writes out (given u h).outs h is.writes solved.two.0 ∙ selected_of u t mid h m.selects is.reads
 
     commutes : Commutes b.kernel t side t' (lists_of h b.reads)
-    commutes = passed_commutes b.kernel (map kind b.reads) (map kind b.writes) (map var b.vars) t side t' b_fit is_passed (lists_of h b.reads) (reads_of kind h b.reads typed)
+    commutes =
+        passed_commutes b.kernel (map kind b.reads) (map kind b.writes) (map var b.vars) t side t' b_fit is_passed (lists_of h b.reads) (reads_of kind h b.reads typed)
 
     lowered_lists : with_at side (sift t' (lists_of h b.reads side)) (lists_of h b.reads) ≡ lists_of h' b'.reads
     lowered_lists = funext _ _ (λ j.
@@ -432,5 +444,7 @@ module _ (p : PlanForm) (l : Name) (u b : OpForm) (t : Term) (side : ℕ) (t' : 
     }
 
 -- hoisting keeps a plan valid, and what it means
-pub hoist_keeps : (p : PlanForm) (l : Name) (u b : OpForm) (t : Term) (side : ℕ) (t' : Term) (src mid out : Name) → IsPlan p → MayHoist p l u b t side t' src mid out → IsPlan (hoisted_plan p u b side t' src mid out) × ((inputs : List (List item.Item)) → AreTyped p inputs → SameMeaning p (hoisted_plan p u b side t' src mid out) inputs)
+pub hoist_keeps : (p : PlanForm) (l : Name) (u b : OpForm) (t : Term) (side : ℕ) (t' : Term) (src mid out : Name) → IsPlan p
+    → MayHoist p l u b t side t' src mid out
+    → IsPlan (hoisted_plan p u b side t' src mid out) × ((inputs : List (List item.Item)) → AreTyped p inputs → SameMeaning p (hoisted_plan p u b side t' src mid out) inputs)
 hoist_keeps p l u b t side t' src mid out v m = (valid p l u b t side t' src mid out v m, same p l u b t side t' src mid out v m)

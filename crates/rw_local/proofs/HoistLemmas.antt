@@ -1,5 +1,6 @@
 -- Lists of queues in which one takes the place of another, and declarations with another type.
-use Rattle.std.proofs.Common.{◌≡◌, ◌≢◌, ℕ, zero, suc, ◌+◌, ◌<◌, ◌≤◌, false, Some, None, List, [], ◌∷◌, ◌++◌, length, refl, sym, ap, ◌∙◌, subst, arith, ⊎_elim, map}
+use Rattle.std.proofs.Common.{◌≡◌, ◌≢◌, ℕ, zero, suc, ◌+◌, ◌<◌, ◌≤◌, false, Some, None, List, [], ◌∷◌, ◌++◌, length, refl, sym, ap, ◌∙◌, subst, arith, ⊎_elim}
+use Rattle.std.proofs.Common.{map}
 use Rattle.std.specs.Prelude.{slice_get, All, if◌then◌else◌, unwrap_or}
 use Rattle.std.proofs.lemmas.Bool.{cases_eq}
 use Rattle.std.proofs.lemmas.List.Elements.{All-head, All-tail, All-cons, All-nil}
@@ -36,7 +37,8 @@ at_count (r ∷ rs) zero src h = subst (λ n. 0 < count n (r ∷ rs)) (some_name
 at_count (r ∷ rs) (suc side) src h = let i = at_count rs side src h in omega (arith, i)
 
 -- how often a name is read, one in the place of another
-pub moved_count : (rs vs : List Name) (side : ℕ) (src x : Name) → slice_get rs side ≡ Some src → count x (spliced side rs vs) + one_if (name_eq src x) ≡ count x rs + count x vs
+pub moved_count : (rs vs : List Name) (side : ℕ) (src x : Name) → slice_get rs side ≡ Some src
+    → count x (spliced side rs vs) + one_if (name_eq src x) ≡ count x rs + count x vs
 moved_count [] vs side src x h = absurd (cc h)
 moved_count (r ∷ rs) vs zero src x h = let a = count-append x vs rs in let e = ap (λ n. one_if (name_eq n x)) (some_name r src h) in omega (arith, a, e)
 moved_count (r ∷ rs) vs (suc side) src x h = let n = ap (count x) (spliced_next side r rs vs) in let i = moved_count rs vs side src x h in omega (arith, n, i)
@@ -66,10 +68,12 @@ lists_at h (r ∷ rs) zero src e = ap h (some_name r src e)
 lists_at h (r ∷ rs) (suc side) src e = lists_at h rs side src e
 
 -- what is read once mid stands in the place of one
-pub lists_moved : (h h' : History) (rs : List Name) (side : ℕ) (mid : Name) → side < length rs → ((x : Name) → 0 < count x rs → h' x ≡ h x) → (p : ℕ) → lists_of h' (spliced side rs (mid ∷ [])) p ≡ with_at side (h' mid) (lists_of h rs) p
+pub lists_moved : (h h' : History) (rs : List Name) (side : ℕ) (mid : Name) → side < length rs → ((x : Name) → 0 < count x rs → h' x ≡ h x) → (p : ℕ)
+    → lists_of h' (spliced side rs (mid ∷ [])) p ≡ with_at side (h' mid) (lists_of h rs) p
 lists_moved h h' [] side mid lt e p = absurd (omega (arith, lt))
 lists_moved h h' (r ∷ rs) zero mid lt e zero = sym (if_eq 0 0 (h' mid) (h r) refl)
-lists_moved h h' (r ∷ rs) zero mid lt e (suc p) = lists_by_place h' h rs (λ x lx. e x (omega (arith, lx))) p ∙ sym (if_ne (suc p) 0 (h' mid) (lists_of h rs p) (let n : suc p ≢ 0 = omega arith in n))
+lists_moved h h' (r ∷ rs) zero mid lt e (suc p) =
+    lists_by_place h' h rs (λ x lx. e x (omega (arith, lx))) p ∙ sym (if_ne (suc p) 0 (h' mid) (lists_of h rs p) (let n : suc p ≢ 0 = omega arith in n))
 lists_moved h h' (r ∷ rs) (suc side) mid lt e zero =
     ap (λ l. lists_of h' l 0) (spliced_next side r rs (mid ∷ [])) ∙ e r (count_here r rs) ∙ sym (if_ne 0 (suc side) (h' mid) (h r) (let n : 0 ≢ suc side = omega arith in n))
 lists_moved h h' (r ∷ rs) (suc side) mid lt e (suc p) =
@@ -143,7 +147,8 @@ kind_none (d ∷ ds) q z = ⊎_elim
     (cases_name d.name q)
 
 -- a declared name
-pub kind_there : (os is ds : List Decl) (q : Name) (t : QueueType) → count q (decl_names os) ≡ 0 → count q (decl_names is) ≡ 0 → kind_in ds q ≡ Some t → kind_of (os ++ (is ++ ds)) q ≡ t
+pub kind_there : (os is ds : List Decl) (q : Name) (t : QueueType) → count q (decl_names os) ≡ 0 → count q (decl_names is) ≡ 0 → kind_in ds q ≡ Some t
+    → kind_of (os ++ (is ++ ds)) q ≡ t
 kind_there os is ds q t a b e =
     ap (λ o. unwrap_or o (rows 0)) (kind_in-append os (is ++ ds) q ∙ ap (λ o. either o (kind_in (is ++ ds) q)) (kind_none os q a)
     ∙ kind_in-append is ds q ∙ ap (λ o. either o (kind_in ds q)) (kind_none is q b) ∙ e)

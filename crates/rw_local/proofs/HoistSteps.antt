@@ -13,7 +13,8 @@ use Rattle.plan_edits.specs.declared.unfit.Unfit.{Unfit}
 use Rattle.plan_edits.specs.declared.unfit.Unfit.TheVariants.{H1, H2}
 use Rattle.plan_edits.specs.Lists.{first_with}
 use Rattle.plan_edits.specs.Meaning.{SameOuter, SameMeaning}
-use Rattle.rw_local.specs.Hoist.{first_width, passes, hoisted_plan, hoist_at, hoist_passed, hoist_past, hoist_between, hoist_kernel, hoist_found, hoist_of, HoistKeeps, MayHoist}
+use Rattle.rw_local.specs.Hoist.{first_width, passes, hoisted_plan, hoist_at, hoist_passed, hoist_past, hoist_between, hoist_kernel, hoist_found, hoist_of}
+use Rattle.rw_local.specs.Hoist.{HoistKeeps, MayHoist}
 use Rattle.rw_local.proofs.FuseSteps.{not_ok, ok_same}
 use Rattle.rw_local.proofs.HoistLaw.{hoist_keeps}
 
@@ -34,8 +35,10 @@ module _ (p : PlanForm) (l : Name) (p' : PlanForm) where
   abbrev first_of : OpForm → ℕ
   first_of b = first_width (map (kind_of (all_decls p)) b.reads)
 
-  there : (u b : OpForm) (t : Term) (mid out : Name) (x : ℕ × Term) (o : Option Name) → first_with (named_it l) p.ops ≡ Some u → u.kernel ≡ select t → slice_get u.reads 0 ≡ Some mid → slice_get u.writes 0 ≡ Some out
-      → first_with (writes_it mid) p.ops ≡ Some b → length b.writes ≡ 1 → passes (first_of b) b.kernel t ≡ Ok x → slice_get b.reads x.0 ≡ o → hoist_at p u b mid out x o ≡ Ok p' → Accepted p l p'
+  there : (u b : OpForm) (t : Term) (mid out : Name) (x : ℕ × Term) (o : Option Name) → first_with (named_it l) p.ops ≡ Some u → u.kernel ≡ select t
+      → slice_get u.reads 0 ≡ Some mid → slice_get u.writes 0 ≡ Some out
+      → first_with (writes_it mid) p.ops ≡ Some b → length b.writes ≡ 1 → passes (first_of b) b.kernel t ≡ Ok x → slice_get b.reads x.0 ≡ o
+      → hoist_at p u b mid out x o ≡ Ok p' → Accepted p l p'
   there u b t mid out x None a k r w below one ps so h = absurd (not_ok H2 p' h)
   there u b t mid out x (Some src) a k r w below one ps so h = record {
     above = u;
@@ -50,12 +53,15 @@ module _ (p : PlanForm) (l : Name) (p' : PlanForm) where
     is = ok_same (hoist_at p u b mid out x (Some src)) (hoisted_plan p u b x.0 x.1 src mid out) p' refl h;
   }
 
-  passed : (u b : OpForm) (t : Term) (mid out : Name) (x : Result (ℕ × Term) Unfit) → first_with (named_it l) p.ops ≡ Some u → u.kernel ≡ select t → slice_get u.reads 0 ≡ Some mid → slice_get u.writes 0 ≡ Some out
-      → first_with (writes_it mid) p.ops ≡ Some b → length b.writes ≡ 1 → passes (first_of b) b.kernel t ≡ x → hoist_passed p u b mid out x ≡ Ok p' → Accepted p l p'
+  passed : (u b : OpForm) (t : Term) (mid out : Name) (x : Result (ℕ × Term) Unfit) → first_with (named_it l) p.ops ≡ Some u → u.kernel ≡ select t
+      → slice_get u.reads 0 ≡ Some mid → slice_get u.writes 0 ≡ Some out
+      → first_with (writes_it mid) p.ops ≡ Some b → length b.writes ≡ 1 → passes (first_of b) b.kernel t ≡ x → hoist_passed p u b mid out x ≡ Ok p'
+      → Accepted p l p'
   passed u b t mid out (Err f) a k r w below one ps h = absurd (not_ok f p' h)
   passed u b t mid out (Ok x) a k r w below one ps h = there u b t mid out x (slice_get b.reads x.0) a k r w below one ps refl h
 
-  past : (u : OpForm) (t : Term) (mid out : Name) (o : Option OpForm) → first_with (named_it l) p.ops ≡ Some u → u.kernel ≡ select t → slice_get u.reads 0 ≡ Some mid → slice_get u.writes 0 ≡ Some out
+  past : (u : OpForm) (t : Term) (mid out : Name) (o : Option OpForm) → first_with (named_it l) p.ops ≡ Some u → u.kernel ≡ select t
+      → slice_get u.reads 0 ≡ Some mid → slice_get u.writes 0 ≡ Some out
       → first_with (writes_it mid) p.ops ≡ o → hoist_past p u t mid out o ≡ Ok p' → Accepted p l p'
   past u t mid out None a k r w below h = absurd (not_ok H2 p' h)
   past u t mid out (Some b) a k r w below h = ⊎_elim
@@ -63,10 +69,12 @@ module _ (p : PlanForm) (l : Name) (p' : PlanForm) where
       (λ more. absurd (not_ok H2 p' (sym (if_ne (length b.writes) 1 _ _ more) ∙ h)))
       (cases_eq (length b.writes) 1)
 
-  between : (u : OpForm) (t : Term) (rs ws : List Name) → first_with (named_it l) p.ops ≡ Some u → u.kernel ≡ select t → u.reads ≡ rs → u.writes ≡ ws → hoist_between p u t rs ws ≡ Ok p' → Accepted p l p'
+  between : (u : OpForm) (t : Term) (rs ws : List Name) → first_with (named_it l) p.ops ≡ Some u → u.kernel ≡ select t → u.reads ≡ rs → u.writes ≡ ws
+      → hoist_between p u t rs ws ≡ Ok p' → Accepted p l p'
   between u t [] ws a k r w h = absurd (not_ok H1 p' h)
   between u t (mid ∷ rs) [] a k r w h = absurd (not_ok H1 p' h)
-  between u t (mid ∷ rs) (out ∷ ws) a k r w h = past u t mid out (first_with (writes_it mid) p.ops) a k (ap (λ x. slice_get x 0) r) (ap (λ x. slice_get x 0) w) refl h
+  between u t (mid ∷ rs) (out ∷ ws) a k r w h =
+      past u t mid out (first_with (writes_it mid) p.ops) a k (ap (λ x. slice_get x 0) r) (ap (λ x. slice_get x 0) w) refl h
 
   kernel : (u : OpForm) (k : Kern) → first_with (named_it l) p.ops ≡ Some u → u.kernel ≡ k → hoist_kernel p u k ≡ Ok p' → Accepted p l p'
   kernel u (code k) a e h = absurd (not_ok H1 p' h)

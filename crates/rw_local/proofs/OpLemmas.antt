@@ -12,7 +12,8 @@ use Rattle.rw_local.proofs.FuseLemmas.{place_below}
 -- LIMITS
 
 -- the two counts of outputs, less the queue between, against the limit
-pub large_is : (q : Name) (w r : OpForm) (a b m x y : ℕ) → 0 < count q w.writes → x ≡ length w.writes → y ≡ length r.writes → a ≡ told (nesting w.kernel) → b ≡ told (nesting r.kernel) → m ≡ max a b → m ≤ 31 → nat_lt 65 (x + y) ≡ is_large (fused_op q w r)
+pub large_is : (q : Name) (w r : OpForm) (a b m x y : ℕ) → 0 < count q w.writes → x ≡ length w.writes → y ≡ length r.writes → a ≡ told (nesting w.kernel)
+    → b ≡ told (nesting r.kernel) → m ≡ max a b → m ≤ 31 → nat_lt 65 (x + y) ≡ is_large (fused_op q w r)
 large_is q w r a b m x y there ex ey ea eb em small =
     let n : 1 + max (nesting w.kernel) (nesting r.kernel) ≤ 32 = omega (arith, ea, eb, em, small) in
     let s = length-spliced (place q w.writes) w.writes r.writes (place_below w.writes q there) in

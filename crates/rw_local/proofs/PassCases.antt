@@ -117,23 +117,28 @@ Selects n t = (is_width n ≡ true) × (is_term n 0 t ≡ true)
 flat_is : (t u : FlatType) (os : List QueueType) → Flat t ∷ [] ≡ Flat u ∷ os → t ≡ u
 flat_is t u os h = cc h
 
-selects : (t : Term) (m : QueueType) (os : List QueueType) (vs : List VarKind) (u : FlatType) → Fits (select t) (m ∷ []) os vs → m ≡ Flat u → Selects (width_of u) t
+selects : (t : Term) (m : QueueType) (os : List QueueType) (vs : List VarKind) (u : FlatType) → Fits (select t) (m ∷ []) os vs → m ≡ Flat u
+    → Selects (width_of u) t
 selects t m os vs u h e =
     let f : u ≡ h.0 = flat_is u h.0 [] (ap (λ n. n ∷ []) (sym e) ∙ h.1) in
     let g = and_parts (is_sized h.0) (is_bag h.0 && is_term (width_of h.0) 0 t) h.4 in
     subst (λ n. Selects (width_of n) t) (sym f) (g.0, (and_parts (is_bag h.0) (is_term (width_of h.0) 0 t) g.1).1)
 
 fits_select : (t : Term) (u : FlatType) → is_bag u ≡ true → Selects (width_of u) t → Fits (select t) (Flat u ∷ []) (Flat u ∷ []) []
-fits_select t u b s = (u, refl, refl, refl, and_from (is_sized u) (is_bag u && is_term (width_of u) 0 t) s.0 (and_from (is_bag u) (is_term (width_of u) 0 t) b s.1))
+fits_select t u b s =
+    (u, refl, refl, refl, and_from (is_sized u) (is_bag u && is_term (width_of u) 0 t) s.0 (and_from (is_bag u) (is_term (width_of u) 0 t) b s.1))
 
 head_is : (m u : QueueType) (ms us : List QueueType) → m ∷ ms ≡ u ∷ us → m ≡ u
 head_is m u ms us h = cc h
 
-got_type : (is : List QueueType) (js : List QueueType) (side n : ℕ) (s u : QueueType) → is ≡ js → side ≡ n → slice_get is side ≡ Some s → slice_get js n ≡ Some u → u ≡ s
+got_type : (is : List QueueType) (js : List QueueType) (side n : ℕ) (s u : QueueType) → is ≡ js → side ≡ n → slice_get is side ≡ Some s
+    → slice_get js n ≡ Some u → u ≡ s
 got_type is js side n s u e f h g = cc (sym g ∙ sym (ap (slice_get js) f) ∙ sym (ap (λ l. slice_get l side) e) ∙ h)
 
 -- at its new place the selection fits the type of the queue there, on both sides of it
-pub passed_fits : (k : Kern) (is : List QueueType) (m : QueueType) (vs : List VarKind) (t : Term) (os : List QueueType) (us : List VarKind) (side : ℕ) (t' : Term) (s : QueueType) → Fits k is (m ∷ []) vs → Fits (select t) (m ∷ []) os us → Passed (first_width is) k t side t' → slice_get is side ≡ Some s → Fits (select t') (s ∷ []) (s ∷ []) []
+pub passed_fits : (k : Kern) (is : List QueueType) (m : QueueType) (vs : List VarKind) (t : Term) (os : List QueueType) (us : List VarKind) (side : ℕ) (t' : Term) (s : QueueType)
+    → Fits k is (m ∷ []) vs → Fits (select t) (m ∷ []) os us → Passed (first_width is) k t side t' → slice_get is side ≡ Some s
+    → Fits (select t') (s ∷ []) (s ∷ []) []
 passed_fits (code k) is m vs t os us side t' s f g h e = absurd h
 passed_fits (filter k) is m vs t os us side t' s f g h e = absurd h
 passed_fits (duplicate n) is m vs t os us side t' s f g h e = absurd h
@@ -182,7 +187,8 @@ abbrev pub Commutes : Kern → Term → ℕ → Term → (ℕ → List item.Item
 Commutes k t side t' h = sift t ((feed_all k h (first_kept k)).outs 0) ≡ (feed_all k (with_at side (sift t' (h side)) h) (first_kept k)).outs 0
 
 -- a selection and what it passes change places
-pub passed_commutes : (k : Kern) (is os : List QueueType) (vs : List VarKind) (t : Term) (side : ℕ) (t' : Term) → Fits k is os vs → Passed (first_width is) k t side t' → (h : ℕ → List item.Item) → AreOf is h → Commutes k t side t' h
+pub passed_commutes : (k : Kern) (is os : List QueueType) (vs : List VarKind) (t : Term) (side : ℕ) (t' : Term) → Fits k is os vs
+    → Passed (first_width is) k t side t' → (h : ℕ → List item.Item) → AreOf is h → Commutes k t side t' h
 passed_commutes (code k) is os vs t side t' f p h a = absurd p
 passed_commutes (filter k) is os vs t side t' f p h a = absurd p
 passed_commutes (duplicate n) is os vs t side t' f p h a = absurd p

@@ -60,4 +60,5 @@ pub record MayFuse (p : PlanForm) (q : Name) (w r : OpForm) : Type 0 where
 
 -- What is fused is a valid plan of the same meaning, on all inputs.
 abbrev pub FuseKeeps : Type 0
-FuseKeeps = (p p' : PlanForm) (q : Name) → IsPlan p → fuse_of p q ≡ Ok p' → IsPlan p' × SameOuter p p' × ((inputs : List (List item.Item)) → SameMeaning p p' inputs)
+FuseKeeps =
+    (p p' : PlanForm) (q : Name) → IsPlan p → fuse_of p q ≡ Ok p' → IsPlan p' × SameOuter p p' × ((inputs : List (List item.Item)) → SameMeaning p p' inputs)

@@ -174,7 +174,9 @@ hoist_of p l = hoist_found p (first_with (named_it l) p.ops)
 
 -- What is hoisted is a valid plan of the same meaning, where all items are of their queues' types.
 abbrev pub HoistKeeps : Type 0
-HoistKeeps = (p p' : PlanForm) (l : Name) → IsPlan p → hoist_of p l ≡ Ok p' → IsPlan p' × SameOuter p p' × ((inputs : List (List item.Item)) → AreTyped p inputs → SameMeaning p p' inputs)
+HoistKeeps =
+    (p p' : PlanForm) (l : Name) → IsPlan p → hoist_of p l ≡ Ok p'
+    → IsPlan p' × SameOuter p p' × ((inputs : List (List item.Item)) → AreTyped p inputs → SameMeaning p p' inputs)
 
 -- the step is accepted, with this selection and the operator that feeds it
 pub record MayHoist (p : PlanForm) (l : Name) (u b : OpForm) (t : Term) (side : ℕ) (t' : Term) (src mid out : Name) : Type 0 where

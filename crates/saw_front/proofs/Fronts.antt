@@ -130,10 +130,12 @@ tokens-mean : (marks : List Mark) (us : List UnitForm) → StandFor marks us →
 tokens-mean marks us h = ap then_judged (units-reads (cut_units (toks marks)) us h)
 
 -- units that were read are planned and told as their tokens are
-pub read-planned : (marks : List Mark) (us : List tree.Unit) (plan : PlanForm) → StandFor marks (unit_forms us) → Plans (accepted (unit_forms us)) (unit_forms us) plan → Plans (of_tokens marks) (unit_forms us) plan
+pub read-planned : (marks : List Mark) (us : List tree.Unit) (plan : PlanForm) → StandFor marks (unit_forms us)
+    → Plans (accepted (unit_forms us)) (unit_forms us) plan → Plans (of_tokens marks) (unit_forms us) plan
 read-planned marks us plan e h = (h.0, tokens-mean marks (unit_forms us) e ∙ h.1, h.2)
 
-pub read-refused : (marks : List Mark) (us : List tree.Unit) (fault : SawFault) → StandFor marks (unit_forms us) → Refused (accepted (unit_forms us)) fault → Refused (of_tokens marks) fault
+pub read-refused : (marks : List Mark) (us : List tree.Unit) (fault : SawFault) → StandFor marks (unit_forms us) → Refused (accepted (unit_forms us)) fault
+    → Refused (of_tokens marks) fault
 read-refused marks us fault e h = subst (λ (r : Result Accepted SawFault). Refused r fault) (sym (tokens-mean marks (unit_forms us) e)) h
 
 pub read-valued : (marks : List Mark) (us : List tree.Unit) → StandFor marks (unit_forms us) → AreValuedParts (program_of (unit_forms us))
@@ -151,10 +153,12 @@ pub ruleset readings = (read-bad)
 pub ruleset fronts = (read-planned, read-refused, read-valued, read-shallow)
 
 -- the plan that was made of judged units is valid, and is the program's
-pub planned-valid : (us : List UnitForm) (raw : RawPlan) → AreShallowParts (program_of us) → PlansBy (Ok raw) (program_of us) (judged (program_of us)) → IsPlan (plan_form raw)
+pub planned-valid : (us : List UnitForm) (raw : RawPlan) → AreShallowParts (program_of us) → PlansBy (Ok raw) (program_of us) (judged (program_of us))
+    → IsPlan (plan_form raw)
 planned-valid us raw low h = subst IsPlan (sym h.2) (plans_are_valid (program_of us) h.0 low h.1)
 
-pub planned-plans : (us : List UnitForm) (raw : RawPlan) (plan : PlanForm) → PlansBy (Ok raw) (program_of us) (judged (program_of us)) → plan ≡ plan_form raw → Plans (accepted us) us plan
+pub planned-plans : (us : List UnitForm) (raw : RawPlan) (plan : PlanForm) → PlansBy (Ok raw) (program_of us) (judged (program_of us)) → plan ≡ plan_form raw
+    → Plans (accepted us) us plan
 planned-plans us raw plan h is = (h.0, ap (or_fault us) h.1, is ∙ h.2)
 
 pub ruleset plans = (planned-valid, planned-plans)

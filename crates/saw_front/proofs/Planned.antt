@@ -1,5 +1,6 @@
 -- The lists of a plan, and what is known of its tables.
-use Rattle.std.proofs.Common.{◌≡◌, ℕ, zero, suc, ◌+◌, ◌<◌, ◌≤◌, ◌^◌, Bool, true, List, [], ◌∷◌, ◌++◌, length, take, drop, map, get_or, Ok, refl, sym, ap, ◌∙◌, subst, arith, append_assoc, append-nil, length-append}
+use Rattle.std.proofs.Common.{◌≡◌, ℕ, zero, suc, ◌+◌, ◌<◌, ◌≤◌, ◌^◌, Bool, true, List, [], ◌∷◌, ◌++◌, length, take, drop, map, get_or, Ok, refl, sym, ap, ◌∙◌}
+use Rattle.std.proofs.Common.{subst, arith, append_assoc, append-nil, length-append}
 use Rattle.std.specs.Prelude.{◌&&◌, codes, nat_le}
 use Rattle.std.specs.List.{AllByRecursion, list_all}
 use Rattle.std.proofs.lemmas.Bool.{and_parts, true≢false}
@@ -31,7 +32,8 @@ each_at P (y ∷ ys) zero x h lt e = subst P (sym e) h.0
 each_at P (y ∷ ys) (suc i) x h lt e = each_at P ys i x h.1 (omega (arith, lt)) e
 
 -- one more
-pub map_more : {A B : Type 0} (f : A → B) (xs : List A) (i : ℕ) (x : A) → i < length xs → x ≡ get_or xs i x → map f (take (i + 1) xs) ≡ map f (take i xs) ++ f x ∷ []
+pub map_more : {A B : Type 0} (f : A → B) (xs : List A) (i : ℕ) (x : A) → i < length xs → x ≡ get_or xs i x
+    → map f (take (i + 1) xs) ≡ map f (take i xs) ++ f x ∷ []
 map_more f xs i x lt e = ap (map f) (take_more xs i x lt ∙ ap (λ y. take i xs ++ y ∷ []) (sym e)) ∙ map-append f (take i xs) (x ∷ [])
 
 -- NAMES
@@ -84,7 +86,8 @@ split_first (source.Table n k) ps = refl
 split_first (source.Does c) ps = refl
 
 -- the tables so far and those that are left are all
-pub tables_next : (us : List tree.Unit) (i : ℕ) (u : tree.Unit) (list more whole : List TableDecl) → i < length us → u ≡ get_or us i u → more ≡ list ++ tables_in (unit_part (unit_form u) ∷ [])
+pub tables_next : (us : List tree.Unit) (i : ℕ) (u : tree.Unit) (list more whole : List TableDecl) → i < length us → u ≡ get_or us i u
+    → more ≡ list ++ tables_in (unit_part (unit_form u) ∷ [])
     → list ++ tables_in (program_of (unit_forms (drop i us))) ≡ whole → more ++ tables_in (program_of (unit_forms (drop (i + 1) us))) ≡ whole
 tables_next us i u list more whole lt e is h =
     let rest = program_of (unit_forms (drop (i + 1) us)) in
@@ -93,5 +96,6 @@ tables_next us i u list more whole lt e is h =
     ∙ ap (λ l. list ++ l) (split_first (unit_part (unit_form u)) rest ∙ ap tables_in (sym (ap program_of (at_place unit_form us i u lt e))))
     ∙ h
 
-pub tables_end : (us : List tree.Unit) (i : ℕ) (list whole : List TableDecl) → length us ≤ i → list ++ tables_in (program_of (unit_forms (drop i us))) ≡ whole → list ≡ whole
+pub tables_end : (us : List tree.Unit) (i : ℕ) (list whole : List TableDecl) → length us ≤ i → list ++ tables_in (program_of (unit_forms (drop i us))) ≡ whole
+    → list ≡ whole
 tables_end us i list whole le h = sym (append-nil list) ∙ ap (λ (p : List UnitForm). list ++ tables_in (program_of p)) (sym (none_left unit_form us i le)) ∙ h

@@ -17,7 +17,9 @@ use Rattle.river_print.specs.Printable.{IsPrintable}
 use Rattle.river_print.specs.Writable.{Every, depths}
 use Rattle.river_print.proofs.Spoken.{IsSpoken, spoken-printable}
 use Rattle.saw_model.specs.Source.{Statement, Declare, Assign, Emit, If, Block, End, Then, Part, Table, Does, Program, tables_in}
-use Rattle.saw_model.specs.Elaborate.{Fault, Limit, Shape, At, on_ok, demand, joined, one_step, counted, is_new, has_slot, first_term, declared, slot_of, port_of, indexes_of, term_of, weight_of, keys_in, emitted, is_best, tabled, table_of, find, step_of, steps_of, part_of as read_part, nothing_read}
+use Rattle.saw_model.specs.Elaborate.{Fault, Limit, Shape, At, on_ok, demand, joined, one_step, counted, is_new, has_slot, first_term, declared, slot_of}
+use Rattle.saw_model.specs.Elaborate.{port_of, indexes_of, term_of, weight_of, keys_in, emitted, is_best, tabled, table_of, find, step_of, steps_of}
+use Rattle.saw_model.specs.Elaborate.{part_of as read_part, nothing_read}
 use Rattle.saw_model.specs.Judged.{Refusal, on_fine, in_unit, all_parts}
 use Rattle.saw_model.specs.Plan.{tally_op, plan_of}
 use Rattle.saw_model.proofs.Elaborated.{fine, ok_parts, ok_is}
@@ -137,7 +139,8 @@ joined-below k a b h g = let e = joined-depths a b in omega (arith, e)
 by-steps : (k : ℕ) (x y : Steps × At) → fine x ≡ fine y → depths x.0 ≤ k → depths y.0 ≤ k
 by-steps k x y h le = subst (λ (r : Steps × At). depths r.0 ≤ k) (ok_is x y h) le
 
-emit-below : (s : At) (t : ℕ × TableKind) (n : ℕ) (us : List Term) (v : Spoken) (w : Option Spoken) (y : Steps × At) → emitted s t n us v w ≡ fine y → depths y.0 ≤ 0
+emit-below : (s : At) (t : ℕ × TableKind) (n : ℕ) (us : List Term) (v : Spoken) (w : Option Spoken) (y : Steps × At) → emitted s t n us v w ≡ fine y
+    → depths y.0 ≤ 0
 emit-below s t n us v w y h =
     let end = λ (u : Term) (ws : List Term). fine (one_step (steps.Push t.0 (us ++ u ∷ ws)), s) in
     let f2 = λ (u : Term). on_ok (weight_of t.1 w s.scope) (end u) in

@@ -18,18 +18,21 @@ use Rattle.saw_model.specs.Source.{Statement, Block, Part, listed}
 use Rattle.saw_model.specs.Shallow.{IsLow, AreLow, IsShallow, AreShallow, IsShallowPart, AreShallowParts}
 use Rattle.saw_model.proofs.Formed.{le_by}
 use Rattle.saw_text.specs.Tree.{in_turn, or_end, TableForm, UnitForm, ATable, part_of, program_of}
-use Rattle.saw_text.specs.Grammar.{is_user, is_written, Expr, Round, Square, IsDeclare, IsAssign, IsEmit, IsIf, IsBlockOf, NamedAfter, StmtAfter, IsStmt, IsBlock, TypedAfter, UnitNamed, IsUnit, AreUnits}
+use Rattle.saw_text.specs.Grammar.{is_user, is_written, Expr, Round, Square, IsDeclare, IsAssign, IsEmit, IsIf, IsBlockOf, NamedAfter, StmtAfter, IsStmt}
+use Rattle.saw_text.specs.Grammar.{IsBlock, TypedAfter, UnitNamed, IsUnit, AreUnits}
 use Rattle.saw_front.specs.Valued.{AreValues, AllValues, IsValued, AreValued, IsValuedPart, AreValuedParts}
 
 -- ---- FORMS
 
 -- one or the other
-pub chosen : {A : Type 0} (P : Type 0) (F G : A → List Tok → Type 0) (b : Bool) (v : A) (ts : List Tok) → form.Choose b F G v ts → (b ≡ true → F v ts → P) → (G v ts → P) → P
+pub chosen : {A : Type 0} (P : Type 0) (F G : A → List Tok → Type 0) (b : Bool) (v : A) (ts : List Tok) → form.Choose b F G v ts → (b ≡ true → F v ts → P)
+    → (G v ts → P) → P
 chosen P F G true v ts h f g = f refl h
 chosen P F G false v ts h f g = g h
 
 -- what stands within brackets
-pub enclosed : {A : Type 0} (P : A → Type 0) (l r : Symbol) (F : ℕ → A → List Tok → Type 0) (n : ℕ) (v : A) (ts : List Tok) → form.Enclosed l r F n v ts → ((m : ℕ) (us : List Tok) → F m v us → P v) → P v
+pub enclosed : {A : Type 0} (P : A → Type 0) (l r : Symbol) (F : ℕ → A → List Tok → Type 0) (n : ℕ) (v : A) (ts : List Tok) → form.Enclosed l r F n v ts
+    → ((m : ℕ) (us : List Tok) → F m v us → P v) → P v
 enclosed P l r F zero v ts h f = absurd h
 enclosed P l r F (suc n) v ts h f = f n h.formed.front h.formed.formed
 
@@ -101,7 +104,8 @@ emit-fine n s ts h =
     subst IsFineStep (sym h.is) ((is.0, t.0, w.0), (is.1, t.1, w.1))
 
 -- blocks, of whose statements this is known
-block-fine : (stmt : ℕ → Statement → List Tok → Type 0) → ((m : ℕ) (s : Statement) (ts : List Tok) → stmt m s ts → IsFineStep s) → (n : ℕ) (b : Block) (ts : List Tok) → IsBlockOf stmt n b ts → AreFine b
+block-fine : (stmt : ℕ → Statement → List Tok → Type 0) → ((m : ℕ) (s : Statement) (ts : List Tok) → stmt m s ts → IsFineStep s)
+    → (n : ℕ) (b : Block) (ts : List Tok) → IsBlockOf stmt n b ts → AreFine b
 block-fine stmt fine n b ts h = enclosed AreFine _ _ _ n b ts h (λ m us f. subst AreFine (sym f.is) (each m f.value us f.formed)) where
   each : (m : ℕ) (ss : List Statement) (us : List Tok) → form.Each (stmt m) ss us → AreFine (in_turn ss)
   each m [] us f = (tt, tt)
@@ -110,11 +114,13 @@ block-fine stmt fine n b ts h = enclosed AreFine _ _ _ n b ts h (λ m us f. subs
       let b = each m ss f.1 f.4 in
       ((a.0, b.0), (a.1, b.1))
 
-or-end-fine : (block : Block → List Tok → Type 0) → ((b : Block) (ts : List Tok) → block b ts → AreFine b) → (word : List ℕ) (o : Option Block) (ts : List Tok) → form.Maybe (form.AfterWord word block) o ts → AreFine (or_end o)
+or-end-fine : (block : Block → List Tok → Type 0) → ((b : Block) (ts : List Tok) → block b ts → AreFine b) → (word : List ℕ) (o : Option Block) (ts : List Tok)
+    → form.Maybe (form.AfterWord word block) o ts → AreFine (or_end o)
 or-end-fine block fine word None ts h = (tt, tt)
 or-end-fine block fine word (Some b) ts h = fine b h.back h.formed
 
-if-fine : (block : ℕ → Block → List Tok → Type 0) → ((m : ℕ) (b : Block) (ts : List Tok) → block m b ts → AreFine b) → (n : ℕ) (s : Statement) (ts : List Tok) → IsIf block n s ts → IsFineStep s
+if-fine : (block : ℕ → Block → List Tok → Type 0) → ((m : ℕ) (b : Block) (ts : List Tok) → block m b ts → AreFine b) → (n : ℕ) (s : Statement) (ts : List Tok)
+    → IsIf block n s ts → IsFineStep s
 if-fine block fine n s ts h =
     let v = h.value in
     let arms = h.formed.second in
@@ -127,7 +133,8 @@ named-fine : (w : List ℕ) (n : ℕ) (s : Statement) (ts : List Tok) → NamedA
 named-fine w n s ts (inl f) = declare-fine w n s f.formed.back f.formed.formed
 named-fine w n s ts (inr f) = assign-fine w n s ts f
 
-after-fine : (branch : Statement → List Tok → Type 0) → ((s : Statement) (ts : List Tok) → branch s ts → IsFineStep s) → (n : ℕ) (w : List ℕ) (s : Statement) (ts : List Tok) → StmtAfter branch n w s ts → IsFineStep s
+after-fine : (branch : Statement → List Tok → Type 0) → ((s : Statement) (ts : List Tok) → branch s ts → IsFineStep s)
+    → (n : ℕ) (w : List ℕ) (s : Statement) (ts : List Tok) → StmtAfter branch n w s ts → IsFineStep s
 after-fine branch b n w s ts h =
     chosen (IsFineStep s) _ _ (bytes_eq w (codes "emit")) s ts h (λ e f. emit-fine n s ts f) (λ h.
     chosen (IsFineStep s) _ _ (bytes_eq w (codes "if")) s ts h (λ e f. b s ts f) (λ h.

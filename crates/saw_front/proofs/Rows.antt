@@ -1,5 +1,6 @@
 -- The values of an emit.
-use Rattle.std.proofs.Common.{◌≡◌, ℕ, zero, suc, ◌+◌, ◌<◌, ◌≤◌, List, [], ◌∷◌, ◌++◌, length, drop, map, get_or, true, false, Result, Ok, Err, refl, sym, ap, ◌∙◌, subst, arith, append_assoc, append-nil, nat_lt}
+use Rattle.std.proofs.Common.{◌≡◌, ℕ, zero, suc, ◌+◌, ◌<◌, ◌≤◌, List, [], ◌∷◌, ◌++◌, length, drop, map, get_or, true, false, Result, Ok, Err, refl, sym, ap}
+use Rattle.std.proofs.Common.{◌∙◌, subst, arith, append_assoc, append-nil, nat_lt}
 use Rattle.std.specs.Prelude.{if◌then◌else◌}
 use Rattle.std.proofs.lemmas.List.{map-append}
 use Rattle.work_code.specs.Term.{Term, term}
@@ -82,14 +83,16 @@ drop_some (x ∷ xs) zero lt = omega arith
 drop_some (x ∷ xs) (suc i) lt = drop_some xs i (omega (arith, lt))
 
 -- a ninth index, whatever it is
-pub index_over : (sc : Scope) (all : List Expr) (i : ℕ) (done : List Term) → i < length all → 8 ≤ i → IndexesSoFar sc all i done → indexes_of sc 0 (all_said all) ≡ Err Limit
+pub index_over : (sc : Scope) (all : List Expr) (i : ℕ) (done : List Term) → i < length all → 8 ≤ i → IndexesSoFar sc all i done
+    → indexes_of sc 0 (all_said all) ≡ Err Limit
 index_over sc all i done lt h f = f.whole ∙ by (drop i all) (drop_some all i lt) where
   by : (l : List Expr) → 0 < length l → behind_terms done (indexes_of sc i (all_said l)) ≡ Err Limit
   by [] some = absurd (omega (arith, some))
   by (e ∷ es) some = ap (λ b. behind_terms done (if b then one_more sc i (said e) (all_said es) else Err Limit)) (lt_false i 8 h)
 
 -- all indexes
-pub indexes_end : (sc : Scope) (all : List Expr) (i : ℕ) (done : List Term) → length all ≤ i → IndexesSoFar sc all i done → indexes_of sc 0 (all_said all) ≡ Ok done
+pub indexes_end : (sc : Scope) (all : List Expr) (i : ℕ) (done : List Term) → length all ≤ i → IndexesSoFar sc all i done
+    → indexes_of sc 0 (all_said all) ≡ Ok done
 indexes_end sc all i done le f = f.whole ∙ ap (λ ts. behind_terms done (indexes_of sc i ts)) (none_left said all i le) ∙ ap good (append-nil done)
 
 -- one value more at the end

@@ -1,5 +1,6 @@
 -- Statements that were read so far, and those that are read after them.
-use Rattle.std.proofs.Common.{◌≡◌, ℕ, suc, ◌+◌, ◌<◌, ◌≤◌, List, [], ◌∷◌, ◌++◌, length, take, drop, map, get_or, Option, None, Result, Ok, Err, refl, sym, ap, ◌∙◌, subst, arith, append_assoc, append-nil, drop-cons, add-one}
+use Rattle.std.proofs.Common.{◌≡◌, ℕ, suc, ◌+◌, ◌<◌, ◌≤◌, List, [], ◌∷◌, ◌++◌, length, take, drop, map, get_or, Option, None, Result, Ok, Err, refl, sym, ap}
+use Rattle.std.proofs.Common.{◌∙◌, subst, arith, append_assoc, append-nil, drop-cons, add-one}
 use Rattle.std.proofs.lemmas.List.{map-append, drop_all, take_all}
 use Rattle.work_code.specs.declared.code.Stmt.{Stmt}
 use Rattle.work_code.specs.declared.code.Stmts.{Stmts}
@@ -68,7 +69,8 @@ pub kept_by : {A : Type 0} (xs ys : List A) → ys ≡ xs → take (length xs) y
 kept_by xs ys e = ap (take (length xs)) e ∙ take_all (length xs) xs (omega arith)
 
 -- the elements from a place on
-pub at_place : {X Y : Type 0} (f : X → Y) (items : List X) (i : ℕ) (s : X) → i < length items → s ≡ get_or items i s → map f (drop i items) ≡ f s ∷ map f (drop (i + 1) items)
+pub at_place : {X Y : Type 0} (f : X → Y) (items : List X) (i : ℕ) (s : X) → i < length items → s ≡ get_or items i s
+    → map f (drop i items) ≡ f s ∷ map f (drop (i + 1) items)
 at_place f items i s lt e = ap (map f) (drop-cons items i s lt ∙ ap (λ x. x ∷ drop (suc i) items) (sym e) ∙ ap (λ k. s ∷ drop k items) (sym (add-one i)))
 
 -- behind the last place there is none
@@ -93,7 +95,8 @@ pub record BlockSoFar (all rest : List source.Statement) (first now : Judge) (ou
   pub keeps : KeepsNames first now
   pub valued : AreValued (written.in_turn rest)
 
-steps_ok : (c : source.Statement) (rest : source.Block) (s : At) (a : Steps) (s' : At) → step_of c s ≡ Ok (a, s') → steps_of (source.Then c rest) s ≡ behind a (steps_of rest s')
+steps_ok : (c : source.Statement) (rest : source.Block) (s : At) (a : Steps) (s' : At) → step_of c s ≡ Ok (a, s')
+    → steps_of (source.Then c rest) s ≡ behind a (steps_of rest s')
 steps_ok c rest s a s' h = ap (λ r. on_ok r (λ p. on_ok (steps_of rest p.1) (λ q. good (joined p.0 q.0, q.1)))) h
 
 steps_err : (c : source.Statement) (rest : source.Block) (s : At) (g : Fault) → step_of c s ≡ Err g → steps_of (source.Then c rest) s ≡ Err g
@@ -126,13 +129,15 @@ block_next all c rest first now next out out' out'' f r = record {
 
 -- a statement that is refused
 pub block_err : (all : List source.Statement) (c : source.Statement) (rest : List source.Statement) (first now next x y : Judge) (out out' out'' o n : Stmts) (result : Result (Unit {0}) fault.Fault) (f : fault.Fault)
-    → result ≡ Err f → BlockSoFar all (c ∷ rest) first now out out' → Reads (Err f) out' out'' now next (step_of c (at_of now)) → Reads result o n x y (steps_of (written.in_turn all) (at_of first))
+    → result ≡ Err f → BlockSoFar all (c ∷ rest) first now out out' → Reads (Err f) out' out'' now next (step_of c (at_of now))
+    → Reads result o n x y (steps_of (written.in_turn all) (at_of first))
 block_err all c rest first now next x y out out' out'' o n result f is s r =
     subst (λ t. Reads t o n x y (steps_of (written.in_turn all) (at_of first))) (sym is)
     (tells_more f (step_of c (at_of now)) (steps_of (written.in_turn all) (at_of first)) (λ g h. s.all_is ∙ ap (behind (in_turn (map step s.added))) (steps_err c (written.in_turn rest) (at_of now) g h)) r)
 
 -- all statements
-pub block_end : (all : List source.Statement) (first now : Judge) (out out' : Stmts) → BlockSoFar all [] first now out out' → Reads (Ok tt) out out' first now (steps_of (written.in_turn all) (at_of first))
+pub block_end : (all : List source.Statement) (first now : Judge) (out out' : Stmts) → BlockSoFar all [] first now out out'
+    → Reads (Ok tt) out out' first now (steps_of (written.in_turn all) (at_of first))
 block_end all first now out out' f = (f.added, f.grew, f.all_is ∙ behind_done (in_turn (map step f.added)) (at_of now), f.keeps)
 
 -- AN IF
@@ -159,7 +164,8 @@ module _ (t : Spoken) (a b : source.Block) (s s1 m1 la : At) (cond : Term) (f : 
       ∙ ap (λ (m : At). on_ok (steps_of b m) last) (sym second)
 
   -- an `if` whose arms were read one after the other
-  pub if_read : (m2 lb : At) (g : Steps) → steps_of b m1 ≡ Ok (g, lb) → m2 ≡ record lb { scope = m1.scope } → step_of (source.If t a b) s ≡ Ok (one_step (steps.If cond f g), m2)
+  pub if_read : (m2 lb : At) (g : Steps) → steps_of b m1 ≡ Ok (g, lb) → m2 ≡ record lb { scope = m1.scope }
+      → step_of (source.If t a b) s ≡ Ok (one_step (steps.If cond f g), m2)
   if_read m2 lb g hb em2 =
       if_on ∙ ap (λ r. on_ok r last) hb
       ∙ ap (λ l. good (one_step (steps.If cond f g), record lb { scope = l })) (sym (ap (λ (m : At). m.scope) em1))
@@ -172,13 +178,16 @@ module _ (t : Spoken) (a b : source.Block) (s s1 m1 la : At) (cond : Term) (f : 
 -- AN ARM
 
 -- what was known before an arm is known behind it
-pub arm_names : {A : Type 0} (before during behind_it : List A) → take (length before) during ≡ before → behind_it ≡ take (length before) during → behind_it ≡ before
+pub arm_names : {A : Type 0} (before during behind_it : List A) → take (length before) during ≡ before → behind_it ≡ take (length before) during
+    → behind_it ≡ before
 arm_names before during behind_it k e = e ∙ k
 
 -- where nothing is written behind `else`
-pub arm_none : (o : Option source.Block) (body : Stmts) (j : Judge) → o ≡ None → statements body ≡ [] → ReadsArm (Ok body) j j (steps_of (written.or_end o) (at_of j))
+pub arm_none : (o : Option source.Block) (body : Stmts) (j : Judge) → o ≡ None → statements body ≡ []
+    → ReadsArm (Ok body) j j (steps_of (written.or_end o) (at_of j))
 arm_none o body j e n = (at_of j, ap (λ p. steps_of (written.or_end p) (at_of j)) e ∙ ap (λ l. good (in_turn (map step l), at_of j)) (sym n), refl, refl)
 
 -- an answer that is a fault
-pub reads_err : (result : Result (Unit {0}) fault.Fault) (f : fault.Fault) (o n : Stmts) (x y : Judge) (r : Read) → result ≡ Err f → Tells f r → Reads result o n x y r
+pub reads_err : (result : Result (Unit {0}) fault.Fault) (f : fault.Fault) (o n : Stmts) (x y : Judge) (r : Read) → result ≡ Err f → Tells f r
+    → Reads result o n x y r
 reads_err result f o n x y r is t = subst (λ q. Reads q o n x y r) (sym is) t

@@ -1,5 +1,6 @@
 -- Units that are judged one after another.
-use Rattle.std.proofs.Common.{◌≡◌, ℕ, suc, ◌+◌, ◌<◌, ◌≤◌, List, [], ◌∷◌, ◌++◌, length, take, drop, map, get_or, Result, Ok, Err, refl, sym, ap, ◌∙◌, append_assoc, append-nil, add-one, nat_lt, nat_le}
+use Rattle.std.proofs.Common.{◌≡◌, ℕ, suc, ◌+◌, ◌<◌, ◌≤◌, List, [], ◌∷◌, ◌++◌, length, take, drop, map, get_or, Result, Ok, Err, refl, sym, ap, ◌∙◌}
+use Rattle.std.proofs.Common.{append_assoc, append-nil, add-one, nat_lt, nat_le}
 use Rattle.std.proofs.lemmas.List.{map-append}
 use Rattle.work_code.specs.declared.code.Stmt.{Stmt}
 use Rattle.work_code.specs.declared.code.Stmts.{Stmts}
@@ -29,7 +30,8 @@ take_front : {A : Type 0} (xs ys : List A) → take (length xs) (xs ++ ys) ≡ x
 take_front [] ys = refl
 take_front (x ∷ xs) ys = ap (λ l. x ∷ l) (take_front xs ys)
 
-both_tests : {A B : Type 0} (r1 r2 r3 r4 : Result (Unit {0}) Fault) (k k' : A) (y : B) → on_ok r1 (λ u. on_ok r2 (λ v. on_ok r3 (λ w. on_ok r4 (λ x. good k)))) ≡ Ok k'
+both_tests : {A B : Type 0} (r1 r2 r3 r4 : Result (Unit {0}) Fault) (k k' : A) (y : B)
+    → on_ok r1 (λ u. on_ok r2 (λ v. on_ok r3 (λ w. on_ok r4 (λ x. good k)))) ≡ Ok k'
     → (on_ok r1 (λ u. on_ok r2 (λ v. on_ok r3 (λ w. on_ok r4 (λ x. good y)))) ≡ Ok y) × (k ≡ k')
 both_tests (Ok a) (Ok b) (Ok c) (Ok d) k k' y h = (refl, cc)
 both_tests (Ok a) (Ok b) (Ok c) (Err e) k k' y h = absurd (cc h)
@@ -37,7 +39,8 @@ both_tests (Ok a) (Ok b) (Err e) r4 k k' y h = absurd (cc h)
 both_tests (Ok a) (Err e) r3 r4 k k' y h = absurd (cc h)
 both_tests (Err e) r2 r3 r4 k k' y h = absurd (cc h)
 
-one_fails : {A B : Type 0} (r1 r2 r3 r4 : Result (Unit {0}) Fault) (k : A) (y : B) (g : Fault) → on_ok r1 (λ u. on_ok r2 (λ v. on_ok r3 (λ w. on_ok r4 (λ x. good k)))) ≡ Err g
+one_fails : {A B : Type 0} (r1 r2 r3 r4 : Result (Unit {0}) Fault) (k : A) (y : B) (g : Fault)
+    → on_ok r1 (λ u. on_ok r2 (λ v. on_ok r3 (λ w. on_ok r4 (λ x. good k)))) ≡ Err g
     → on_ok r1 (λ u. on_ok r2 (λ v. on_ok r3 (λ w. on_ok r4 (λ x. good y)))) ≡ Err g
 one_fails (Ok a) (Ok b) (Ok c) (Ok d) k y g h = absurd (cc h)
 one_fails (Ok a) (Ok b) (Ok c) (Err e) k y g h = ap Err (let q : e ≡ g = cc in q)
@@ -59,7 +62,8 @@ module _ (n : Name) (k : TableKind) (s : At) where
   four = demand (nat_le (keys_in k) 8) spec.Limit
 
   -- a table that fits is known from here on
-  pub table_made : (k' : TableKind) (now next : Judge) → s ≡ at_of now → fits_of s n k ≡ Ok k' → next.names.items.items ≡ now.names.items.items ++ (n, known.Table now.tables k') ∷ []
+  pub table_made : (k' : TableKind) (now next : Judge) → s ≡ at_of now → fits_of s n k ≡ Ok k'
+      → next.names.items.items ≡ now.names.items.items ++ (n, known.Table now.tables k') ∷ []
       → next.slots ≡ now.slots → next.size ≡ now.size → next.tables ≡ now.tables + 1 → ReadsTable (Ok tt) now next (table_of n k s)
   table_made k' now next is h names slots size tables =
       let b = both_tests one two three four k k' (tabled n k s) h in
@@ -74,7 +78,8 @@ module _ (n : Name) (k : TableKind) (s : At) where
   table_fault f h = tells_more f (fits_of s n k) (table_of n k s) (λ g e. one_fails one two three four k (tabled n k s) g e) h
 
 -- a table is a unit without a statement
-pub table_reads : (result : Result (Unit {0}) fault.Fault) (out : Stmts) (now next : Judge) (r : Read) → ReadsTable result now next r → Reads result out out now next r
+pub table_reads : (result : Result (Unit {0}) fault.Fault) (out : Stmts) (now next : Judge) (r : Read) → ReadsTable result now next r
+    → Reads result out out now next r
 table_reads (Ok u) out now next r h = ([], sym (append-nil (statements out)), h.0, h.1)
 table_reads (Err f) out now next r h = h
 
@@ -102,7 +107,8 @@ parts-both a b (Ok q) = ap (λ s. fine (s, q.1)) (sym (joined-assoc a b q.0))
 parts-both a b (Err e) = refl
 
 -- the fault of a unit is the program's
-told_more : {A B : Type 0} (k : ℕ) (f : fault.Fault) (r : Result A Fault) (r' : Result B Refusal) → ((g : Fault) → r ≡ Err g → r' ≡ refused k g) → Tells f r → Told k f r'
+told_more : {A B : Type 0} (k : ℕ) (f : fault.Fault) (r : Result A Fault) (r' : Result B Refusal) → ((g : Fault) → r ≡ Err g → r' ≡ refused k g) → Tells f r
+    → Told k f r'
 told_more k faults.UnknownName r r' h e = h spec.UnknownName e
 told_more k faults.NameTwice r r' h e = h spec.NameTwice e
 told_more k faults.Shape r r' h e = h spec.Shape e
@@ -140,14 +146,16 @@ module _ (whole : Parts) (i : ℕ) (c : Part) (rest : Program) (now next : Judge
 
   -- a unit that is refused
   pub parts_fault : (e : fault.Fault) → Reads (Err e) out' out'' now next (part_of c (at_of now)) → Told (i + 1) e whole
-  parts_fault e h = told_more (i + 1) e (part_of c (at_of now)) whole (λ g q. f.whole_is ∙ ap (λ x. behind_parts (in_turn (map step f.added)) (in_unit (i + 1) x after)) q) h
+  parts_fault e h =
+      told_more (i + 1) e (part_of c (at_of now)) whole (λ g q. f.whole_is ∙ ap (λ x. behind_parts (in_turn (map step f.added)) (in_unit (i + 1) x after)) q) h
 
 -- all units
 pub parts_end : (whole : Parts) (i : ℕ) (now : Judge) (out out' : Stmts) → PartsSoFar whole i [] now out out' → JudgesAll (Ok tt) out out' now whole
 parts_end whole i now out out' f = (f.added, f.grew, f.whole_is ∙ ap (λ a. fine (a, at_of now)) (joined-done (in_turn (map step f.added))))
 
 -- the units from a place on
-pub parts_at : (us : List written.Unit) (i : ℕ) (u : written.Unit) → i < length us → u ≡ get_or us i u → program_of (unit_forms (drop i us)) ≡ unit_part (unit_form u) ∷ program_of (unit_forms (drop (i + 1) us))
+pub parts_at : (us : List written.Unit) (i : ℕ) (u : written.Unit) → i < length us → u ≡ get_or us i u
+    → program_of (unit_forms (drop i us)) ≡ unit_part (unit_form u) ∷ program_of (unit_forms (drop (i + 1) us))
 parts_at us i u lt e = ap program_of (at_place unit_form us i u lt e)
 
 pub parts_none : (us : List written.Unit) (i : ℕ) → length us ≤ i → program_of (unit_forms (drop i us)) ≡ []

@@ -25,13 +25,15 @@ KeepsNames old new = take (length old.names.items.items) new.names.items.items �
 
 -- statements were appended, which are those that are read, or the fault is the first
 abbrev pub Reads : Result (Unit {0}) Fault → Stmts → Stmts → Judge → Judge → Read → Type 0
-Reads (Ok u) old new at at' r = (added : List Stmt) × (statements new ≡ statements old ++ added) × (r ≡ Ok (in_turn (map step added), at_of at')) × KeepsNames at at'
+Reads (Ok u) old new at at' r =
+    (added : List Stmt) × (statements new ≡ statements old ++ added) × (r ≡ Ok (in_turn (map step added), at_of at')) × KeepsNames at at'
 Reads (Err f) old new at at' r = Tells f r
 
 -- an arm was read, and the names are those from before
 abbrev pub ReadsArm : Result Stmts Fault → Judge → Judge → Read → Type 0
 ReadsArm (Ok body) at at' r =
-    (last : At) × (r ≡ Ok (in_turn (map step (statements body)), last)) × (at_of at' ≡ record last { scope = scope_of at.names.items.items }) × (at'.names.items.items ≡ at.names.items.items)
+    (last : At) × (r ≡ Ok (in_turn (map step (statements body)), last)) × (at_of at' ≡ record last { scope = scope_of at.names.items.items })
+    × (at'.names.items.items ≡ at.names.items.items)
 ReadsArm (Err f) at at' r = Tells f r
 
 -- the values of an emit to a table of this kind

@@ -1,5 +1,6 @@
 -- The steps by which code reads blocks.
-use Rattle.std.proofs.Common.{◌≡◌, ℕ, zero, suc, ◌<◌, ◌+◌, ◌-◌, List, [], ◌∷◌, ◌++◌, length, true, false, Option, Some, None, refl, sym, ap, ◌∙◌, arith, length-append}
+use Rattle.std.proofs.Common.{◌≡◌, ℕ, zero, suc, ◌<◌, ◌+◌, ◌-◌, List, [], ◌∷◌, ◌++◌, length, true, false, Option, Some, None, refl, sym, ap, ◌∙◌, arith}
+use Rattle.std.proofs.Common.{length-append}
 use Rattle.work_code.specs.Tok.{Tok}
 use Rattle.text_forms.specs.Parse as parse
 use Rattle.text_forms.specs.Repeat.{repeated}
@@ -30,10 +31,12 @@ branch-at (suc nest) n ts h = ap (λ (k : ℕ). if_at (block_at k) n ts) (sym (l
 
 pub ruleset blocks = (stmt-at, branch-none, branch-at)
 
-pub loop-stop : (nest n : ℕ) (done : List Statement) (ts : List Tok) → at_close ts ≡ true → repeated (parse.many_turn at_close (stmt_at nest n)) done ts ≡ Some (done, ts)
+pub loop-stop : (nest n : ℕ) (done : List Statement) (ts : List Tok) → at_close ts ≡ true
+    → repeated (parse.many_turn at_close (stmt_at nest n)) done ts ≡ Some (done, ts)
 loop-stop nest n done ts e = repeated-stop (parse.many_turn at_close (stmt_at nest n)) done ts (rw e refl)
 
-pub loop-bad : (nest n : ℕ) (done : List Statement) (ts : List Tok) → at_close ts ≡ false → stmt_at nest n ts ≡ None → repeated (parse.many_turn at_close (stmt_at nest n)) done ts ≡ None
+pub loop-bad : (nest n : ℕ) (done : List Statement) (ts : List Tok) → at_close ts ≡ false → stmt_at nest n ts ≡ None
+    → repeated (parse.many_turn at_close (stmt_at nest n)) done ts ≡ None
 loop-bad nest n done ts e bad = repeated-fail (parse.many_turn at_close (stmt_at nest n)) done ts (rw (e, bad) refl)
 
 -- one statement more
@@ -53,13 +56,16 @@ stmt-shortens nest n ts us v e =
 pub ruleset loops = (loop-stop, loop-bad, stmt-shortens)
 
 -- an `if` whose parts were read
-pub branch-made : (nest n : ℕ) (ts us vs ws : List Tok) (c : Spoken) (a : Block) (b : Option Block) → 0 < nest → round_term_at n ts ≡ Some (c, us) → block_at (nest - 1) n us ≡ Some (a, vs)
+pub branch-made : (nest n : ℕ) (ts us vs ws : List Tok) (c : Spoken) (a : Block) (b : Option Block) → 0 < nest → round_term_at n ts ≡ Some (c, us)
+    → block_at (nest - 1) n us ≡ Some (a, vs)
     → else_at (block_at (nest - 1)) n vs ≡ Some (b, ws) → branch_at nest n ts ≡ Some (If c a (or_end b), ws)
 unfolding if_at
 branch-made nest n ts us vs ws c a b pos cond when otherwise = rw (branch-at nest n ts pos, cond, when, otherwise) refl
 
 -- at the closing brace the statements so far are those of the block
-pub stmts-made : (nest n : ℕ) (done : List Statement) (start ts : List Tok) → repeated (parse.many_turn at_close (stmt_at nest n)) done ts ≡ parse.many at_close (stmt_at nest n) start → at_close ts ≡ true → stmts_at nest n start ≡ Some (in_turn done, ts)
+pub stmts-made : (nest n : ℕ) (done : List Statement) (start ts : List Tok)
+    → repeated (parse.many_turn at_close (stmt_at nest n)) done ts ≡ parse.many at_close (stmt_at nest n) start → at_close ts ≡ true
+    → stmts_at nest n start ≡ Some (in_turn done, ts)
 unfolding stmts_at
 stmts-made nest n done start ts same stop =
     let all : parse.many at_close (stmt_at nest n) start ≡ Some (done, ts) = sym same ∙ loop-stop nest n done ts stop in

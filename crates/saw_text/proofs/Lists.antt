@@ -12,10 +12,12 @@ use Rattle.saw_text.specs.Reading.{no_bracket, index_at, column_at}
 use Rattle.saw_text.proofs.Statements.{exact-index, listed-squares}
 use Rattle.saw_text.proofs.Units.{exact-column}
 
-pub indexes-stop : (n : ℕ) (done : List Spoken) (ts : List Tok) → no_bracket ts ≡ true → repeated (parse.many_turn no_bracket (index_at n)) done ts ≡ Some (done, ts)
+pub indexes-stop : (n : ℕ) (done : List Spoken) (ts : List Tok) → no_bracket ts ≡ true
+    → repeated (parse.many_turn no_bracket (index_at n)) done ts ≡ Some (done, ts)
 indexes-stop n done ts e = repeated-stop (parse.many_turn no_bracket (index_at n)) done ts (rw e refl)
 
-pub indexes-bad : (n : ℕ) (done : List Spoken) (ts : List Tok) → no_bracket ts ≡ false → index_at n ts ≡ None → repeated (parse.many_turn no_bracket (index_at n)) done ts ≡ None
+pub indexes-bad : (n : ℕ) (done : List Spoken) (ts : List Tok) → no_bracket ts ≡ false → index_at n ts ≡ None
+    → repeated (parse.many_turn no_bracket (index_at n)) done ts ≡ None
 indexes-bad n done ts e bad = repeated-fail (parse.many_turn no_bracket (index_at n)) done ts (rw (e, bad) refl)
 
 -- one index more
@@ -33,10 +35,12 @@ index-shortens n ts us v e =
 
 pub ruleset indexes = (indexes-stop, indexes-bad, index-shortens)
 
-pub columns-stop : (n : ℕ) (done : List Field) (ts : List Tok) → no_bracket ts ≡ true → repeated (parse.many_turn no_bracket (column_at n)) done ts ≡ Some (done, ts)
+pub columns-stop : (n : ℕ) (done : List Field) (ts : List Tok) → no_bracket ts ≡ true
+    → repeated (parse.many_turn no_bracket (column_at n)) done ts ≡ Some (done, ts)
 columns-stop n done ts e = repeated-stop (parse.many_turn no_bracket (column_at n)) done ts (rw e refl)
 
-pub columns-bad : (n : ℕ) (done : List Field) (ts : List Tok) → no_bracket ts ≡ false → column_at n ts ≡ None → repeated (parse.many_turn no_bracket (column_at n)) done ts ≡ None
+pub columns-bad : (n : ℕ) (done : List Field) (ts : List Tok) → no_bracket ts ≡ false → column_at n ts ≡ None
+    → repeated (parse.many_turn no_bracket (column_at n)) done ts ≡ None
 columns-bad n done ts e bad = repeated-fail (parse.many_turn no_bracket (column_at n)) done ts (rw (e, bad) refl)
 
 -- one field more

@@ -5,16 +5,20 @@ use Rattle.std.specs.Str.{bytes_eq}
 use Rattle.work_code.specs.declared.sign.Symbol.TheVariants as s
 use Rattle.text_forms.specs.Parse as parse
 use Rattle.text_forms.specs.Forms as form
-use Rattle.text_forms.proofs.Exact.{Exact, Any, exact-less, exact-both, exact-after, exact-before, exact-after_word, exact-tested, exact-seen, exact-merged, exact-maybe, exact-number, exact-nothing}
+use Rattle.text_forms.proofs.Exact.{Exact, Any, exact-less, exact-both, exact-after, exact-before, exact-after_word, exact-tested, exact-seen, exact-merged}
+use Rattle.text_forms.proofs.Exact.{exact-maybe, exact-number, exact-nothing}
 use Rattle.text_forms.proofs.Many.{exact-many}
 use Rattle.text_forms.proofs.Choices.{exact-never, exact-choose, exact-headed}
 use Rattle.saw_text.specs.declared.tree.Kind.TheVariants.{Sum, Collection, Maximum}
 use Rattle.saw_text.specs.Tree.{ATable, AStatement}
-use Rattle.saw_text.specs.Grammar.{is_user, Count, Round, Square, nameless, with_name, IsField, IsKind, is_fitting, made_table, IsTable, TypedAfter, UnitNamed, IsUnit, IsUnitAt}
-use Rattle.saw_text.specs.Reading.{branch_at, no_bracket, named_field_at, field_after, field_at, column_at, columns_at, best_at, kind_after, kind_at, weight_field_at, in_table_at, table_at, typed_after, typed_at, unit_named, unit_after, unit_at, unit_from}
+use Rattle.saw_text.specs.Grammar.{is_user, Count, Round, Square, nameless, with_name, IsField, IsKind, is_fitting, made_table, IsTable, TypedAfter, UnitNamed}
+use Rattle.saw_text.specs.Grammar.{IsUnit, IsUnitAt}
+use Rattle.saw_text.specs.Reading.{branch_at, no_bracket, named_field_at, field_after, field_at, column_at, columns_at, best_at, kind_after, kind_at}
+use Rattle.saw_text.specs.Reading.{weight_field_at, in_table_at, table_at, typed_after, typed_at, unit_named, unit_after, unit_at, unit_from}
 use Rattle.saw_text.proofs.Statements.{exact-round, exact-square, exact-declare, exact-assign, listed-squares, NoElse, exact-if, exact-stmt_after, exact-block}
 
-exact-named_field : (w : List ℕ) → Exact (form.Seen (with_name w) (form.After (s.Colon ∷ []) (form.AfterWord (codes "int") (form.Nothing tt)))) (named_field_at w) Any
+exact-named_field : (w : List ℕ)
+    → Exact (form.Seen (with_name w) (form.After (s.Colon ∷ []) (form.AfterWord (codes "int") (form.Nothing tt)))) (named_field_at w) Any
 unfolding named_field_at
 exact-named_field w = exact-seen (with_name w) (exact-after (s.Colon ∷ []) (exact-after_word (codes "int") (exact-nothing tt)))
 
@@ -43,7 +47,8 @@ exact-kind n =
 
 exact-weight_field : Exact (form.Maybe (form.AfterWord (codes "weight") IsField)) weight_field_at (λ rest. parse.is_word_at (codes "weight") rest ≡ false)
 unfolding weight_field_at
-exact-weight_field = exact-less (exact-maybe (parse.is_word_at (codes "weight")) (exact-after_word (codes "weight") exact-field) (λ v ts rest h. rw h.is refl)) (λ rest d. (tt, d))
+exact-weight_field =
+    exact-less (exact-maybe (parse.is_word_at (codes "weight")) (exact-after_word (codes "weight") exact-field) (λ v ts rest h. rw h.is refl)) (λ rest d. (tt, d))
 
 pub exact-table : (w : List ℕ) (n : ℕ) → Exact (IsTable w n) (table_at w n) Any
 unfolding table_at in_table_at

@@ -7,7 +7,8 @@ use Rattle.text_forms.specs.declared.language.Language.TheVariants.{Sawzall}
 use Rattle.text_forms.specs.Ladder.{expr_at}
 use Rattle.text_forms.specs.Texts.{read_units}
 use Rattle.text_forms.specs.Tree.{Spoken}
-use Rattle.text_forms.specs.Parse.{Parse, begins_with, is_word_at, name_at, count_at, nothing_at, both, after, before, after_word, tested, seen, merged, maybe, many, headed, enclosed}
+use Rattle.text_forms.specs.Parse.{Parse, begins_with, is_word_at, name_at, count_at, nothing_at, both, after, before, after_word, tested, seen, merged, maybe}
+use Rattle.text_forms.specs.Parse.{many, headed, enclosed}
 use Rattle.saw_model.specs.Source.{Statement, Declare, Assign, Block}
 use Rattle.saw_text.specs.declared.tree.Kind.{Kind}
 use Rattle.saw_text.specs.declared.tree.Kind.TheVariants.{Sum, Collection, Maximum}
@@ -61,7 +62,8 @@ unfoldable pub weight_at : ℕ → Parse (Option Spoken)
 weight_at n ts = maybe (is_word_at (codes "weight")) (after_word (codes "weight") (term_at n)) ts
 
 unfoldable pub emit_at : ℕ → Parse Statement
-emit_at n ts = seen made_emit (both user_name_at (both (indexes_at n) (after (s.Less ∷ s.Minus ∷ []) (both (term_at n) (before (weight_at n) (s.Semicolon ∷ [])))))) ts
+emit_at n ts =
+    seen made_emit (both user_name_at (both (indexes_at n) (after (s.Less ∷ s.Minus ∷ []) (both (term_at n) (before (weight_at n) (s.Semicolon ∷ [])))))) ts
 
 unfoldable pub else_at : (ℕ → Parse Block) → ℕ → Parse (Option Block)
 else_at block n ts = maybe (is_word_at (codes "else")) (after_word (codes "else") (block n)) ts

@@ -1,5 +1,6 @@
 -- Windows as parts of the rows in order of their instants.
-use Rattle.std.proofs.Common.{◌≡◌, ℕ, ◌-◌, ◌≤◌, ℤ, Bool, true, false, List, [], ◌∷◌, zero, suc, cond, length, get_or, take, drop, map, filter, refl, sym, ap, ◌∙◌, arith, int_lt, int_le, length-drop}
+use Rattle.std.proofs.Common.{◌≡◌, ℕ, ◌-◌, ◌≤◌, ℤ, Bool, true, false, List, [], ◌∷◌, zero, suc, cond, length, get_or, take, drop, map, filter, refl, sym, ap}
+use Rattle.std.proofs.Common.{◌∙◌, arith, int_lt, int_le, length-drop}
 use Rattle.std.specs.Prelude.{not, ◌&&◌}
 use Rattle.std.specs.List.Sorted.{IsPartitionPoint}
 use Rattle.std.specs.Ordering.{int_eq}

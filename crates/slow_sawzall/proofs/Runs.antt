@@ -1,10 +1,12 @@
 -- What statements do one after another, and what a record adds to what was emitted before.
-use Rattle.std.proofs.Common.{◌≡◌, ℕ, zero, suc, ℤ, ◌+◌, ◌<◌, ◌≤◌, Bool, true, false, List, [], ◌∷◌, ◌++◌, length, take, drop, map, get_or, Option, refl, sym, ap, ◌∙◌, subst, arith, append_assoc, append-nil, FitsSigned, w64, to_z, of_z}
+use Rattle.std.proofs.Common.{◌≡◌, ℕ, zero, suc, ℤ, ◌+◌, ◌<◌, ◌≤◌, Bool, true, false, List, [], ◌∷◌, ◌++◌, length, take, drop, map, get_or, Option, refl, sym}
+use Rattle.std.proofs.Common.{ap, ◌∙◌, subst, arith, append_assoc, append-nil, FitsSigned, w64, to_z, of_z}
 use Rattle.std.proofs.lemmas.Int.{to_z-of_z}
 use Rattle.std.specs.Prelude.{if◌then◌else◌}
 use Rattle.work_code.specs.Value.{is_true}
 use Rattle.text_forms.specs.Tree.{Spoken}
-use Rattle.saw_model.specs.Source.{Statement, Declare, Assign, Emit, If, Block, End, Then, Part, Table, Does, Program, Values, said, said_all, Emitted, Now, parts_of, listed, does, do_all, do_parts, fresh, emits}
+use Rattle.saw_model.specs.Source.{Statement, Declare, Assign, Emit, If, Block, End, Then, Part, Table, Does, Program, Values, said, said_all, Emitted, Now}
+use Rattle.saw_model.specs.Source.{parts_of, listed, does, do_all, do_parts, fresh, emits}
 use Rattle.saw_model.proofs.Elaborated.{said_all-append}
 use Rattle.saw_text.specs.declared.tree.Expr.{Expr}
 use Rattle.saw_text.specs.declared.tree.Statement as tree

@@ -1,5 +1,6 @@
 -- What an accepted program emits is as wide as its tables are.
-use Rattle.std.proofs.Common.{◌≡◌, ℕ, zero, suc, ℤ, ◌+◌, ◌<◌, ◌≤◌, Bool, true, false, List, [], ◌∷◌, ◌++◌, length, Option, Some, None, Ok, refl, sym, ap, ◌∙◌, subst, arith, nat_lt, nat_eq, append_assoc, length-append, ⊎_elim}
+use Rattle.std.proofs.Common.{◌≡◌, ℕ, zero, suc, ℤ, ◌+◌, ◌<◌, ◌≤◌, Bool, true, false, List, [], ◌∷◌, ◌++◌, length, Option, Some, None, Ok, refl, sym, ap, ◌∙◌}
+use Rattle.std.proofs.Common.{subst, arith, nat_lt, nat_eq, append_assoc, length-append, ⊎_elim}
 use Rattle.std.specs.Prelude.{if◌then◌else◌, flat_map, slice_get}
 use Rattle.std.specs.List.{AllByRecursion}
 use Rattle.work_code.specs.Term.{Term}
@@ -13,7 +14,8 @@ use Rattle.river_plan.specs.Forms.{Name, table_names}
 use Rattle.river_plan.specs.declared.plan.TableDecl.{TableDecl}
 use Rattle.river_plan.proofs.NameLemmas.{cases_bool, name_is}
 use Rattle.text_forms.specs.Tree.{Spoken}
-use Rattle.saw_model.specs.Source.{Statement, Declare, Assign, Emit, If, Block, End, Then, Table, Does, Program, tables_in, said, said_all, Emitted, Now, parts_of, listed, does, do_all, do_parts, fresh, emits, rows_for}
+use Rattle.saw_model.specs.Source.{Statement, Declare, Assign, Emit, If, Block, End, Then, Table, Does, Program, tables_in, said, said_all, Emitted, Now}
+use Rattle.saw_model.specs.Source.{parts_of, listed, does, do_all, do_parts, fresh, emits, rows_for}
 use Rattle.saw_model.specs.Elaborate.{Limit, on_ok, Scope, term_of, At, indexes_of, keys_in, weight_of, step_of, steps_of, nothing_read}
 use Rattle.saw_model.proofs.Elaborated.{fine, ok_parts, if_both, some_is, ArePorts, one_more}
 use Rattle.saw_model.proofs.Fed.{AreOnce, one_place}

@@ -6,7 +6,8 @@ use Rattle.kern_tables.specs.Tables.{tab, table_width}
 use Rattle.river_plan.specs.Forms.{Name}
 use Rattle.brooklet_model.specs.Machine.{at_name}
 use Rattle.text_forms.specs.Tree.{Spoken}
-use Rattle.saw_model.specs.Source.{Statement, Declare, Assign, Emit, If, Block, End, Then, Part, Table, Does, Program, tables_in, Values, Emitted, Now, listed, parts_of, does, rows_for}
+use Rattle.saw_model.specs.Source.{Statement, Declare, Assign, Emit, If, Block, End, Then, Part, Table, Does, Program, tables_in, Values, Emitted, Now, listed}
+use Rattle.saw_model.specs.Source.{parts_of, does, rows_for}
 use Rattle.saw_model.specs.Elaborate.{At}
 use Rattle.saw_model.specs.Judged.{judged}
 use Rattle.saw_front.specs.Valued.{AreValues, AllValues}

@@ -1,5 +1,6 @@
 -- The streams that are added to one, so far.
-use Rattle.std.proofs.Common.{◌≡◌, ℕ, suc, ◌+◌, ◌<◌, Bool, List, [], ◌∷◌, ◌++◌, length, drop, Result, Ok, Err, get_or, refl, sym, ap, ◌∙◌, subst, arith, add-one, drop-cons}
+use Rattle.std.proofs.Common.{◌≡◌, ℕ, suc, ◌+◌, ◌<◌, Bool, List, [], ◌∷◌, ◌++◌, length, drop, Result, Ok, Err, get_or, refl, sym, ap, ◌∙◌, subst, arith}
+use Rattle.std.proofs.Common.{add-one, drop-cons}
 use Rattle.std.specs.Prelude.{min, max}
 use Rattle.std.specs.List.{AllByRecursion}
 use Rattle.river_plan.specs.Forms.{Name}
@@ -33,11 +34,13 @@ abbrev pub going_on : (ℕ → Bool) → Streamed → ℕ → Stream → List Na
 going_on may known i s [] = Ok (Last s)
 going_on may known i s (m ∷ ms) = on_ok (streams_of may known (suc i) m ms) (λ ss. Ok (Then s ss))
 
-streams_ok : (may : ℕ → Bool) (known : Streamed) (i : ℕ) (n : Name) (ms : List Name) (s : Stream) → added may known i n ≡ Ok s → streams_of may known i n ms ≡ going_on may known i s ms
+streams_ok : (may : ℕ → Bool) (known : Streamed) (i : ℕ) (n : Name) (ms : List Name) (s : Stream) → added may known i n ≡ Ok s
+    → streams_of may known i n ms ≡ going_on may known i s ms
 streams_ok may known i n [] s h = ap (λ r. on_ok r (λ s. fine (Last s))) h
 streams_ok may known i n (m ∷ ms) s h = ap (λ r. on_ok r (λ s. on_ok (streams_of may known (suc i) m ms) (λ ss. fine (Then s ss)))) h
 
-streams_err : (may : ℕ → Bool) (known : Streamed) (i : ℕ) (n : Name) (ms : List Name) (g : Fault) → added may known i n ≡ Err g → streams_of may known i n ms ≡ Err g
+streams_err : (may : ℕ → Bool) (known : Streamed) (i : ℕ) (n : Name) (ms : List Name) (g : Fault) → added may known i n ≡ Err g
+    → streams_of may known i n ms ≡ Err g
 streams_err may known i n [] g h = ap (λ r. on_ok r (λ s. fine (Last s))) h
 streams_err may known i n (m ∷ ms) g h = ap (λ r. on_ok r (λ s. on_ok (streams_of may known (suc i) m ms) (λ ss. fine (Then s ss)))) h
 
@@ -53,7 +56,8 @@ onto_err : (ss : List Stream) (g : Fault) → onto ss (Err g) ≡ Err g
 onto_err [] g = refl
 onto_err (s ∷ ss) g = ap (λ q. on_ok q (λ x. fine (Then s x))) (onto_err ss g)
 
-trees_more : (us : List UnitForm) (front : List ℕ) (last next : ℕ) (ss : List Stream) (l s : Stream) → AreTrees us front last (chain ss l) → IsTree us next s → AreTrees us (front ++ last ∷ []) next (chain (ss ++ l ∷ []) s)
+trees_more : (us : List UnitForm) (front : List ℕ) (last next : ℕ) (ss : List Stream) (l s : Stream) → AreTrees us front last (chain ss l) → IsTree us next s
+    → AreTrees us (front ++ last ∷ []) next (chain (ss ++ l ∷ []) s)
 trees_more us [] last next [] l s h t = (h, t)
 trees_more us [] last next (x ∷ ss) l s h t = absurd h
 trees_more us (j ∷ js) last next [] l s h t = absurd h
@@ -82,7 +86,8 @@ pub record SoFar (us : List UnitForm) (may : ℕ → Bool) (known : Streamed) (w
   pub whole_is : whole ≡ onto prior (going_on may known i last rest)
 
 -- the first stream was added
-pub adds_start : (us : List UnitForm) (may : ℕ → Bool) (known : Streamed) (n : Name) (ms : List Name) (k : Entry) (c : Children) → AddsOne us (Ok k) (added may known 0 n)
+pub adds_start : (us : List UnitForm) (may : ℕ → Bool) (known : Streamed) (n : Name) (ms : List Name) (k : Entry) (c : Children)
+    → AddsOne us (Ok k) (added may known 0 n)
     → c.front.items ≡ [] → c.last ≡ k.number → c.ops ≡ k.ops → c.deepest ≡ k.nesting → SoFar us may known (streams_of may known 0 n ms) 0 ms c
 adds_start us may known n ms k c (s, e, h) f l o d = record {
   prior = [];
@@ -98,15 +103,18 @@ adds_start us may known n ms k c (s, e, h) f l o d = record {
 }
 
 -- one stream more
-pub adds_next : (us : List UnitForm) (may : ℕ → Bool) (known : Streamed) (whole : Result Streams Fault) (i : ℕ) (m : Name) (ms : List Name) (c c' : Children) (k : Entry) → SoFar us may known whole i (m ∷ ms) c → AddsOne us (Ok k) (added may known (i + 1) m)
-    → c'.front.items ≡ c.front.items ++ c.last ∷ [] → c'.last ≡ k.number → c'.ops ≡ min (c.ops + k.ops) 257 → c'.deepest ≡ max c.deepest k.nesting → SoFar us may known whole (i + 1) ms c'
+pub adds_next : (us : List UnitForm) (may : ℕ → Bool) (known : Streamed) (whole : Result Streams Fault) (i : ℕ) (m : Name) (ms : List Name) (c c' : Children) (k : Entry)
+    → SoFar us may known whole i (m ∷ ms) c → AddsOne us (Ok k) (added may known (i + 1) m)
+    → c'.front.items ≡ c.front.items ++ c.last ∷ [] → c'.last ≡ k.number → c'.ops ≡ min (c.ops + k.ops) 257 → c'.deepest ≡ max c.deepest k.nesting
+    → SoFar us may known whole (i + 1) ms c'
 adds_next us may known whole i m ms c c' k f (s, e, h) fr la op de =
     let a = f.are in
     record {
       prior = f.prior ++ f.last ∷ [];
       last = s;
       are = record {
-        trees = subst (λ js. AreTrees us js c'.last (chain (f.prior ++ f.last ∷ []) s)) (sym fr) (subst (λ j. AreTrees us (c.front.items ++ c.last ∷ []) j (chain (f.prior ++ f.last ∷ []) s)) (sym la) (trees_more us c.front.items c.last k.number f.prior f.last s a.trees h.tree));
+        trees =
+            subst (λ js. AreTrees us js c'.last (chain (f.prior ++ f.last ∷ []) s)) (sym fr) (subst (λ j. AreTrees us (c.front.items ++ c.last ∷ []) j (chain (f.prior ++ f.last ∷ []) s)) (sym la) (trees_more us c.front.items c.last k.number f.prior f.last s a.trees h.tree));
         front = subst (AllByRecursion (λ j. j < length us)) (sym fr) (lower_more (length us) c.front.items c.last a.front a.last);
         last = subst (λ j. j < length us) (sym la) h.there;
         ops = (let p = a.ops in let q = h.ops in let r = ops_more f.prior f.last s in omega (arith, op, p, q, r));
@@ -119,18 +127,21 @@ adds_next us may known whole i m ms c c' k f (s, e, h) fr la op de =
     }
 
 -- a stream that is refused
-pub adds_fault : (us : List UnitForm) (may : ℕ → Bool) (known : Streamed) (whole : Result Streams Fault) (i : ℕ) (m : Name) (ms : List Name) (c : Children) (f : fault.Fault) → SoFar us may known whole i (m ∷ ms) c → Tells f (added may known (i + 1) m) → Tells f whole
+pub adds_fault : (us : List UnitForm) (may : ℕ → Bool) (known : Streamed) (whole : Result Streams Fault) (i : ℕ) (m : Name) (ms : List Name) (c : Children) (f : fault.Fault)
+    → SoFar us may known whole i (m ∷ ms) c → Tells f (added may known (i + 1) m) → Tells f whole
 adds_fault us may known whole i m ms c f s h =
     tells_more f (added may known (i + 1) m) whole
     (λ g e. s.whole_is ∙ ap (λ r. onto s.prior (on_ok r (λ ss. fine (Then s.last ss)))) (streams_err may known (suc i) m ms g (ap (λ j. added may known j m) (sym (add-one i)) ∙ e)) ∙ onto_err s.prior g)
     h
 
 -- the first one is refused
-pub first_fault : (may : ℕ → Bool) (known : Streamed) (n : Name) (ms : List Name) (f : fault.Fault) → Tells f (added may known 0 n) → Tells f (streams_of may known 0 n ms)
+pub first_fault : (may : ℕ → Bool) (known : Streamed) (n : Name) (ms : List Name) (f : fault.Fault) → Tells f (added may known 0 n)
+    → Tells f (streams_of may known 0 n ms)
 first_fault may known n ms f h = tells_more f (added may known 0 n) (streams_of may known 0 n ms) (λ g e. streams_err may known 0 n ms g e) h
 
 -- all streams
-pub adds_end : (us : List UnitForm) (may : ℕ → Bool) (known : Streamed) (whole : Result Streams Fault) (i : ℕ) (c : Children) → SoFar us may known whole i [] c → AddsAll us (Ok c) whole
+pub adds_end : (us : List UnitForm) (may : ℕ → Bool) (known : Streamed) (whole : Result Streams Fault) (i : ℕ) (c : Children) → SoFar us may known whole i [] c
+    → AddsAll us (Ok c) whole
 adds_end us may known whole i c f = (chain f.prior f.last, f.whole_is ∙ onto_last f.prior f.last, f.are)
 
 -- the name at a place is the first of those from there on

@@ -14,7 +14,8 @@ abbrev took : {A : Type 0} → A → Result A Refusal
 took x = Ok x
 
 -- the fault of a unit is the program's
-told_more : {A B : Type 0} (k : ℕ) (f : fault.Fault) (r : Result A spec.Fault) (r' : Result B Refusal) → ((g : spec.Fault) → r ≡ Err g → r' ≡ refused k g) → Tells f r → Told k f r'
+told_more : {A B : Type 0} (k : ℕ) (f : fault.Fault) (r : Result A spec.Fault) (r' : Result B Refusal) → ((g : spec.Fault) → r ≡ Err g → r' ≡ refused k g)
+    → Tells f r → Told k f r'
 told_more k faults.UnknownName r r' h e = h spec.UnknownName e
 told_more k faults.NameTwice r r' h e = h spec.NameTwice e
 told_more k (faults.Rates d c) r r' h e = h (spec.Rates d c) e
@@ -36,15 +37,19 @@ pub judging_start : (start : Streamed) (p : Program) (now : Known) → Knows now
 judging_start start p now k = record { known = start; knows = k; whole_is = refl }
 
 -- one unit more
-pub judging_next : (whole : Result Streamed Refusal) (i : ℕ) (u : Declared) (us : Program) (now next : Known) (j : Judging whole (i + 1) (u ∷ us) now) → Declares (Ok tt) next j.known u.name (unit_of j.known u) → Judging whole (i + 1 + 1) us next
+pub judging_next : (whole : Result Streamed Refusal) (i : ℕ) (u : Declared) (us : Program) (now next : Known) (j : Judging whole (i + 1) (u ∷ us) now)
+    → Declares (Ok tt) next j.known u.name (unit_of j.known u) → Judging whole (i + 1 + 1) us next
 judging_next whole i u us now next j (s, e, k) = record {
   known = (u.name, s) ∷ j.known;
   knows = k;
-  whole_is = j.whole_is ∙ ap (λ r. in_unit (i + 1) r (λ s. all_streams (suc (i + 1)) ((u.name, s) ∷ j.known) us)) e ∙ ap (λ n. all_streams n ((u.name, s) ∷ j.known) us) (sym (add-one (i + 1)));
+  whole_is =
+      j.whole_is ∙ ap (λ r. in_unit (i + 1) r (λ s. all_streams (suc (i + 1)) ((u.name, s) ∷ j.known) us)) e
+      ∙ ap (λ n. all_streams n ((u.name, s) ∷ j.known) us) (sym (add-one (i + 1)));
 }
 
 -- a unit that is refused
-pub judging_fault : (whole : Result Streamed Refusal) (i : ℕ) (u : Declared) (us : Program) (now next : Known) (f : fault.Fault) (j : Judging whole (i + 1) (u ∷ us) now) → Tells f (unit_of j.known u) → Told (i + 1) f whole
+pub judging_fault : (whole : Result Streamed Refusal) (i : ℕ) (u : Declared) (us : Program) (now next : Known) (f : fault.Fault) (j : Judging whole (i + 1) (u ∷ us) now)
+    → Tells f (unit_of j.known u) → Told (i + 1) f whole
 judging_fault whole i u us now next f j h =
     told_more (i + 1) f (unit_of j.known u) whole (λ g e. j.whole_is ∙ ap (λ r. in_unit (i + 1) r (λ s. all_streams (suc (i + 1)) ((u.name, s) ∷ j.known) us)) e) h
 

@@ -1,5 +1,6 @@
 -- A split-join that is built branch by branch.
-use Rattle.std.proofs.Common.{◌≡◌, ℕ, suc, ◌+◌, ◌<◌, List, [], ◌∷◌, ◌++◌, length, Some, Result, Ok, Err, refl, sym, ap, ◌∙◌, subst, arith, append_assoc, append-nil}
+use Rattle.std.proofs.Common.{◌≡◌, ℕ, suc, ◌+◌, ◌<◌, List, [], ◌∷◌, ◌++◌, length, Some, Result, Ok, Err, refl, sym, ap, ◌∙◌, subst, arith, append_assoc}
+use Rattle.std.proofs.Common.{append-nil}
 use Rattle.std.specs.Prelude.{slice_get, codes, OnOk}
 use Rattle.std.specs.List.{AllByRecursion}
 use Rattle.kern_rows.specs.Forms.{FilterForm}
@@ -24,7 +25,8 @@ pub record RestSoFar (us : List UnitForm) (front rest : List ℕ) (last i : ℕ)
   pub branches : (ss : Streams) → AreTrees us front last ss → Rest us rest last ss old now a0 b0 a b
 
 -- no branch was built
-pub rest_start : (us : List UnitForm) (front : List ℕ) (last i : ℕ) (old : Made) (a b : ℕ) → AllByRecursion (λ j. j < i) front → RestSoFar us front front last i old old a b a b
+pub rest_start : (us : List UnitForm) (front : List ℕ) (last i : ℕ) (old : Made) (a b : ℕ) → AllByRecursion (λ j. j < i) front
+    → RestSoFar us front front last i old old a b a b
 rest_start us front last i old a b low = record {
   lower = low;
   branches = λ ss t. record { left = ss; trees = t; added = []; grew = sym (append-nil (op_forms old.ops)); all = refl; ops = refl; queues = refl };
@@ -62,13 +64,15 @@ go_on us j js last ss old now next a0 b0 a b a' b' start end (Then s left) added
     }
 
 -- one branch more
-pub rest_next : (us : List UnitForm) (front : List ℕ) (j : ℕ) (js : List ℕ) (last i : ℕ) (old now next : Made) (a0 b0 a b a' b' : ℕ) (start end : Name) → RestSoFar us front (j ∷ js) last i old now a0 b0 a b
+pub rest_next : (us : List UnitForm) (front : List ℕ) (j : ℕ) (js : List ℕ) (last i : ℕ) (old now next : Made) (a0 b0 a b a' b' : ℕ) (start end : Name)
+    → RestSoFar us front (j ∷ js) last i old now a0 b0 a b
     → start ≡ queue a → end ≡ queue b → a' ≡ a + 1 → b' ≡ b + 1
     → ((s : Stream) → IsTree us j s → Built now next (build s now.next_op now.next_queue start end) (ops_in s) (queues_in s))
     → RestSoFar us front js last i old next a0 b0 a' b'
 rest_next us front j js last i old now next a0 b0 a b a' b' start end f e1 e2 e3 e4 bu = record {
   lower = f.lower.1;
-  branches = λ ss t. let l = f.branches ss t in go_on us j js last ss old now next a0 b0 a b a' b' start end l.left l.added l.trees l.grew l.all l.ops l.queues e1 e2 e3 e4 bu;
+  branches =
+      λ ss t. let l = f.branches ss t in go_on us j js last ss old now next a0 b0 a b a' b' start end l.left l.added l.trees l.grew l.all l.ops l.queues e1 e2 e3 e4 bu;
 }
 
 end_on : (us : List UnitForm) (last : ℕ) (ss : Streams) (old now next : Made) (a0 b0 a b : ℕ) (start end : Name) (left : Streams) (added : List OpForm)
@@ -84,18 +88,22 @@ end_on us last ss old now next a0 b0 a b start end (Last s) added t g al o q e1 
     let n2 = d.next_queue in
     let same : build s now.next_op now.next_queue start end ≡ build s now.next_op now.next_queue (queue a) (queue b) = ap (λ x. build s now.next_op now.next_queue x end) e1 ∙ ap (build s now.next_op now.next_queue (queue a)) e2 in
     record {
-      ops = d.ops ∙ ap (λ l. op_forms now.ops ++ l) same ∙ ap (λ l. l ++ build s now.next_op now.next_queue (queue a) (queue b)) g ∙ append_assoc (op_forms old.ops) added (build s now.next_op now.next_queue (queue a) (queue b)) ∙ ap (λ l. op_forms old.ops ++ l) (sym al);
+      ops =
+          d.ops ∙ ap (λ l. op_forms now.ops ++ l) same ∙ ap (λ l. l ++ build s now.next_op now.next_queue (queue a) (queue b)) g
+          ∙ append_assoc (op_forms old.ops) added (build s now.next_op now.next_queue (queue a) (queue b)) ∙ ap (λ l. op_forms old.ops ++ l) (sym al);
       next_op = omega (arith, n1, o);
       next_queue = omega (arith, n2, q);
     }
 end_on us last ss old now next a0 b0 a b start end (Then s left) added t g al o q e1 e2 bu = absurd t
 
 -- all branches
-pub rest_end : (us : List UnitForm) (front : List ℕ) (last i : ℕ) (old now next : Made) (a0 b0 a b : ℕ) (start end : Name) (ss : Streams) → RestSoFar us front [] last i old now a0 b0 a b → AreTrees us front last ss
+pub rest_end : (us : List UnitForm) (front : List ℕ) (last i : ℕ) (old now next : Made) (a0 b0 a b : ℕ) (start end : Name) (ss : Streams)
+    → RestSoFar us front [] last i old now a0 b0 a b → AreTrees us front last ss
     → start ≡ queue a → end ≡ queue b
     → ((s : Stream) → IsTree us last s → Built now next (build s now.next_op now.next_queue start end) (ops_in s) (queues_in s))
     → Built old next (build_branches ss old.next_op old.next_queue a0 b0) (ops_of ss) (queues_within ss)
-rest_end us front last i old now next a0 b0 a b start end ss f t e1 e2 bu = let l = f.branches ss t in end_on us last ss old now next a0 b0 a b start end l.left l.added l.trees l.grew l.all l.ops l.queues e1 e2 bu
+rest_end us front last i old now next a0 b0 a b start end ss f t e1 e2 bu =
+    let l = f.branches ss t in end_on us last ss old now next a0 b0 a b start end l.left l.added l.trees l.grew l.all l.ops l.queues e1 e2 bu
 
 number_is : (us : List UnitForm) (front : List ℕ) (last : ℕ) (ss : Streams) → AreTrees us front last ss → number_of ss ≡ suc (length front)
 number_is us [] last (Last s) t = refl
@@ -122,8 +130,10 @@ pub split_built : {E : Type 0} (us : List UnitForm) (i : ℕ) (d : Splitter) (fr
     → OnOk r (op_forms new.ops ≡ op_forms mid.ops ++ jop ∷ []) → OnOk r (new.next_op ≡ mid.next_op + 1) → new.next_queue ≡ mid.next_queue
     → (s : Stream) → IsTree us i s → OnOk r (Built old new (build s old.next_op old.next_queue from to) (ops_in s) (queues_in s))
 split_built us i d front last ws old first mid new from to n sop jop (Err x) u en es g1 o1 q1 b ej g2 o2 q2 s t = tt
-split_built us i d front last ws old first mid new from to n sop jop (Ok x) u en es g1 o1 q1 b ej g2 o2 q2 (Filter name f) t = absurd (filter_split name f d front last ws (sym t ∙ u))
-split_built us i d front last ws old first mid new from to n sop jop (Ok x) u en es g1 o1 q1 b ej g2 o2 q2 (Pipeline ss) t = absurd (pipe_split t.0 t.1 d front last ws (sym t.2 ∙ u))
+split_built us i d front last ws old first mid new from to n sop jop (Ok x) u en es g1 o1 q1 b ej g2 o2 q2 (Filter name f) t =
+    absurd (filter_split name f d front last ws (sym t ∙ u))
+split_built us i d front last ws old first mid new from to n sop jop (Ok x) u en es g1 o1 q1 b ej g2 o2 q2 (Pipeline ss) t =
+    absurd (pipe_split t.0 t.1 d front last ws (sym t.2 ∙ u))
 split_built us i d front last ws old first mid new from to n sop jop (Ok x) u en es g1 o1 q1 b ej o o2 q2 (SplitJoin d' ss ws') t =
     let e = split_same d' d t.0 front t.1 last ws' ws (sym t.2 ∙ u) in
     let trees = subst (λ f. AreTrees us f last ss) e.1 (subst (λ l. AreTrees us t.0 l ss) e.2 t.3) in
@@ -158,7 +168,8 @@ split_built us i d front last ws old first mid new from to n sop jop (Ok x) u en
     }
 
 -- the last branch was built
-pub rest_returns : {E : Type 0} (us : List UnitForm) (front : List ℕ) (last i : ℕ) (old now next : Made) (a0 b0 a b : ℕ) (r : Result (Unit {0}) E) → RestSoFar us front [] last i old now a0 b0 a b
+pub rest_returns : {E : Type 0} (us : List UnitForm) (front : List ℕ) (last i : ℕ) (old now next : Made) (a0 b0 a b : ℕ) (r : Result (Unit {0}) E)
+    → RestSoFar us front [] last i old now a0 b0 a b
     → ((s : Stream) → IsTree us last s → OnOk r (Built now next (build s now.next_op now.next_queue (queue a) (queue b)) (ops_in s) (queues_in s)))
     → (ss : Streams) → AreTrees us front last ss → OnOk r (Built old next (build_branches ss old.next_op old.next_queue a0 b0) (ops_of ss) (queues_within ss))
 rest_returns us front last i old now next a0 b0 a b (Ok x) f h ss t = rest_end us front last i old now next a0 b0 a b (queue a) (queue b) ss f t refl refl h

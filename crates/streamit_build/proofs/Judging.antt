@@ -32,13 +32,15 @@ tells_on f r k h = tells_more f r (on_ok r k) (λ g e. ap (λ x. on_ok x k) e) h
 abbrev pub Made : Known → Known → Declared → Name → ℕ → ℕ → Type 0
 Made old new d name ops depth =
     (known : Streamed) (s : Stream) → Knows old known → IsLower (length old.declared.items) (Some (unit_of d)) → IsShort (Some (unit_of d))
-    → IsTree (units_of old.declared.items ++ unit_of d ∷ []) (length old.declared.items) s → ops ≡ min (ops_in s) 257 → depth ≡ nesting s → Knows new ((name, s) ∷ known)
+    → IsTree (units_of old.declared.items ++ unit_of d ∷ []) (length old.declared.items) s → ops ≡ min (ops_in s) 257 → depth ≡ nesting s
+    → Knows new ((name, s) ∷ known)
 
 at_last : (old : Known) (u : UnitForm) (P : ℕ → Type 0) → P (length (units_of old.declared.items)) → P (length old.declared.items)
 at_last old u P h = subst P (length-map old.declared.items unit_of) h
 
 -- a filter is known
-pub filter_declared : (old new : Known) (d : Declared) (name : Name) (t : FilterTree) (f : FilterForm) (known : Streamed) → unit_of d ≡ UFilter name f → length name ≤ 40 → Made old new d name 1 1 → Knows old known → elaborated t ≡ Ok f
+pub filter_declared : (old new : Known) (d : Declared) (name : Name) (t : FilterTree) (f : FilterForm) (known : Streamed) → unit_of d ≡ UFilter name f
+    → length name ≤ 40 → Made old new d name 1 1 → Knows old known → elaborated t ≡ Ok f
     → (s : Stream) × (stream_of known name (AFilter t) ≡ Ok s) × Knows new ((name, s) ∷ known)
 filter_declared old new d name t f known e short made k h =
     let us = units_of old.declared.items in (
@@ -51,11 +53,13 @@ filter_declared old new d name t f known e short made k h =
           refl refl,
     )
 
-lower_here : (old : Known) (js : List ℕ) → AllByRecursion (λ j. j < length (units_of old.declared.items)) js → AllByRecursion (λ j. j < length old.declared.items) js
+lower_here : (old : Known) (js : List ℕ) → AllByRecursion (λ j. j < length (units_of old.declared.items)) js
+    → AllByRecursion (λ j. j < length old.declared.items) js
 lower_here old js h = subst (λ n. AllByRecursion (λ j. j < n) js) (length-map old.declared.items unit_of) h
 
 -- a pipeline is known
-pub pipe_declared : (old new : Known) (d : Declared) (name : Name) (a : Adds) (c : Children) (depth : ℕ) (ss : Streams) (known : Streamed) → unit_of d ≡ APipe c.front.items c.last → depth ≡ c.deepest + 1 → Made old new d name c.ops depth → Knows old known
+pub pipe_declared : (old new : Known) (d : Declared) (name : Name) (a : Adds) (c : Children) (depth : ℕ) (ss : Streams) (known : Streamed)
+    → unit_of d ≡ APipe c.front.items c.last → depth ≡ c.deepest + 1 → Made old new d name c.ops depth → Knows old known
     → streams_of any known 0 a.first a.others ≡ Ok ss → AreChildren (units_of old.declared.items) c ss
     → (s : Stream) × (stream_of known name (APipeline a) ≡ Ok s) × Knows new ((name, s) ∷ known)
 pipe_declared old new d name a c depth ss known e dp made k h are =
@@ -75,8 +79,10 @@ pipe_declared old new d name a c depth ss known e dp made k h are =
     )
 
 -- a split-join is known
-pub split_declared : (old new : Known) (d : Declared) (name : Name) (g : Dealing) (a : Adds) (ws : Option (List ℕ)) (vs : List ℕ) (sp : Splitter) (c : Children) (ops depth : ℕ) (ss : Streams) (known : Streamed) → unit_of d ≡ ASplit sp c.front.items c.last vs → ops ≡ min (c.ops + 2) 257 → depth ≡ c.deepest + 1
-    → Made old new d name ops depth → Knows old known → splitter_of g (branch_count a) ≡ Ok sp → streams_of branches known 0 a.first a.others ≡ Ok ss → round_of ws (branch_count a) ≡ Ok vs → AreChildren (units_of old.declared.items) c ss
+pub split_declared : (old new : Known) (d : Declared) (name : Name) (g : Dealing) (a : Adds) (ws : Option (List ℕ)) (vs : List ℕ) (sp : Splitter) (c : Children) (ops depth : ℕ) (ss : Streams) (known : Streamed)
+    → unit_of d ≡ ASplit sp c.front.items c.last vs → ops ≡ min (c.ops + 2) 257 → depth ≡ c.deepest + 1
+    → Made old new d name ops depth → Knows old known → splitter_of g (branch_count a) ≡ Ok sp → streams_of branches known 0 a.first a.others ≡ Ok ss
+    → round_of ws (branch_count a) ≡ Ok vs → AreChildren (units_of old.declared.items) c ss
     → (s : Stream) × (stream_of known name (ASplitJoin g a ws) ≡ Ok s) × Knows new ((name, s) ∷ known)
 split_declared old new d name g a ws vs sp c ops depth ss known e op dp made k hs h hr are =
     let us = units_of old.declared.items in
@@ -99,11 +105,14 @@ split_declared old new d name g a ws vs sp c ops depth ss known e op dp made k h
     )
 
 -- the faults of a split-join: of its splitter, its branches, its joiner
-pub split_fault : (f : fault.Fault) (known : Streamed) (name : Name) (g : Dealing) (a : Adds) (ws : Option (List ℕ)) → Tells f (splitter_of g (branch_count a)) → Tells f (stream_of known name (ASplitJoin g a ws))
-split_fault f known name g a ws h = tells_on f (splitter_of g (branch_count a)) (λ p. on_ok (streams_of branches known 0 a.first a.others) (λ ss. on_ok (round_of ws (branch_count a)) (λ vs. fine (SplitJoin p ss vs)))) h
+pub split_fault : (f : fault.Fault) (known : Streamed) (name : Name) (g : Dealing) (a : Adds) (ws : Option (List ℕ)) → Tells f (splitter_of g (branch_count a))
+    → Tells f (stream_of known name (ASplitJoin g a ws))
+split_fault f known name g a ws h =
+    tells_on f (splitter_of g (branch_count a)) (λ p. on_ok (streams_of branches known 0 a.first a.others) (λ ss. on_ok (round_of ws (branch_count a)) (λ vs. fine (SplitJoin p ss vs)))) h
 
 -- that of its branches
-pub branch_fault : (f : fault.Fault) (known : Streamed) (name : Name) (g : Dealing) (a : Adds) (ws : Option (List ℕ)) (sp : Splitter) → splitter_of g (branch_count a) ≡ Ok sp → Tells f (streams_of branches known 0 a.first a.others) → Tells f (stream_of known name (ASplitJoin g a ws))
+pub branch_fault : (f : fault.Fault) (known : Streamed) (name : Name) (g : Dealing) (a : Adds) (ws : Option (List ℕ)) (sp : Splitter)
+    → splitter_of g (branch_count a) ≡ Ok sp → Tells f (streams_of branches known 0 a.first a.others) → Tells f (stream_of known name (ASplitJoin g a ws))
 branch_fault f known name g a ws sp hs h =
     let n = branch_count a in
     let f2 = λ (p : Splitter) (ss : Streams). on_ok (round_of ws n) (λ vs. fine (SplitJoin p ss vs)) in
@@ -111,7 +120,9 @@ branch_fault f known name g a ws sp hs h =
     tells_more f (streams_of branches known 0 a.first a.others) (stream_of known name (ASplitJoin g a ws)) (λ e he. ap (λ r. on_ok r f1) hs ∙ ap (λ r. on_ok r (f2 sp)) he) h
 
 -- that of its joiner
-pub join_fault : (f : fault.Fault) (known : Streamed) (name : Name) (g : Dealing) (a : Adds) (ws : Option (List ℕ)) (sp : Splitter) (ss : Streams) → splitter_of g (branch_count a) ≡ Ok sp → streams_of branches known 0 a.first a.others ≡ Ok ss → Tells f (round_of ws (branch_count a)) → Tells f (stream_of known name (ASplitJoin g a ws))
+pub join_fault : (f : fault.Fault) (known : Streamed) (name : Name) (g : Dealing) (a : Adds) (ws : Option (List ℕ)) (sp : Splitter) (ss : Streams)
+    → splitter_of g (branch_count a) ≡ Ok sp → streams_of branches known 0 a.first a.others ≡ Ok ss → Tells f (round_of ws (branch_count a))
+    → Tells f (stream_of known name (ASplitJoin g a ws))
 join_fault f known name g a ws sp ss hs hb h =
     let n = branch_count a in
     let f2 = λ (p : Splitter) (ss : Streams). on_ok (round_of ws n) (λ vs. fine (SplitJoin p ss vs)) in
@@ -119,5 +130,6 @@ join_fault f known name g a ws sp ss hs hb h =
     tells_more f (round_of ws n) (stream_of known name (ASplitJoin g a ws)) (λ e he. ap (λ r. on_ok r f1) hs ∙ ap (λ r. on_ok r (f2 sp)) hb ∙ ap (λ r. on_ok r (λ vs. fine (SplitJoin sp ss vs))) he) h
 
 -- the number of branches
-pub branch_count_is : (n : ℕ) (others : Vec Name Global) (first : Name) → n ≡ vec_len others → n + 1 ≡ branch_count (record { first = first; others = others.items })
+pub branch_count_is : (n : ℕ) (others : Vec Name Global) (first : Name) → n ≡ vec_len others
+    → n + 1 ≡ branch_count (record { first = first; others = others.items })
 branch_count_is n others first e = let l = others.ok.0 in omega (arith, e, l)

@@ -1,5 +1,6 @@
 -- The streams that are known, and one more.
-use Rattle.std.proofs.Common.{◌≡◌, ℕ, zero, suc, Bool, true, false, List, [], ◌∷◌, ◌++◌, length, Option, Some, None, Result, Ok, Err, ◌⊎◌, inl, inr, ⊎_elim, refl, sym, ap, ◌∙◌, subst, arith, length-append}
+use Rattle.std.proofs.Common.{◌≡◌, ℕ, zero, suc, Bool, true, false, List, [], ◌∷◌, ◌++◌, length, Option, Some, None, Result, Ok, Err, ◌⊎◌, inl, inr, ⊎_elim}
+use Rattle.std.proofs.Common.{refl, sym, ap, ◌∙◌, subst, arith, length-append}
 use Rattle.std.specs.Prelude.{slice_get, min, OnOk, if◌then◌else◌}
 use Rattle.river_base.specs.Name.{name_eq}
 use Rattle.river_plan.specs.Forms.{Name}
@@ -23,7 +24,8 @@ get_kept (y ∷ xs) ys zero x h = h
 get_kept (y ∷ xs) ys (suc i) x h = get_kept xs ys i x h
 
 -- with one more, each place is as it was, or is the new one
-get_more : {A : Type 0} (xs : List A) (y : A) (i : ℕ) → (slice_get (xs ++ y ∷ []) i ≡ slice_get xs i) ⊎ ((i ≡ length xs) × (slice_get (xs ++ y ∷ []) i ≡ Some y))
+get_more : {A : Type 0} (xs : List A) (y : A) (i : ℕ)
+    → (slice_get (xs ++ y ∷ []) i ≡ slice_get xs i) ⊎ ((i ≡ length xs) × (slice_get (xs ++ y ∷ []) i ≡ Some y))
 get_more [] y zero = inr (refl, refl)
 get_more [] y (suc i) = inl refl
 get_more (x ∷ xs) y zero = inl refl
@@ -76,12 +78,14 @@ found_kept us vs (Some k) None h = absurd h
 found_kept us vs (Some k) (Some s) h = entry_kept us vs k s h
 
 -- and a new name has its own
-pub found_more : (us : List UnitForm) (b : Bool) (k : Entry) (s : Stream) (o : Option Entry) (p : Option Stream) → IsEntry us k s → IsFound us o p → IsFound us (if b then Some k else o) (if b then Some s else p)
+pub found_more : (us : List UnitForm) (b : Bool) (k : Entry) (s : Stream) (o : Option Entry) (p : Option Stream) → IsEntry us k s → IsFound us o p
+    → IsFound us (if b then Some k else o) (if b then Some s else p)
 found_more us true k s o p e h = e
 found_more us false k s o p e h = h
 
 -- the new stream's entry
-pub new_entry : (us : List UnitForm) (u : UnitForm) (k : Entry) (s : Stream) → k.number ≡ length us → IsTree (us ++ u ∷ []) (length us) s → k.ops ≡ min (ops_in s) 257 → k.nesting ≡ nesting s → IsEntry (us ++ u ∷ []) k s
+pub new_entry : (us : List UnitForm) (u : UnitForm) (k : Entry) (s : Stream) → k.number ≡ length us → IsTree (us ++ u ∷ []) (length us) s
+    → k.ops ≡ min (ops_in s) 257 → k.nesting ≡ nesting s → IsEntry (us ++ u ∷ []) k s
 new_entry us u k s e t o n = record {
   there = let l = length-append us (u ∷ []) in omega (arith, e, l);
   tree = subst (λ i. IsTree (us ++ u ∷ []) i s) (sym e) t;
@@ -90,9 +94,12 @@ new_entry us u k s e t o n = record {
 }
 
 -- one stream more is known
-pub declares : (r : Result (Unit {0}) NoMemory) (old new : Known) (d : Declared) (k : Entry) (name : Name) (s : Stream) (known : Streamed) → OnOk r ((q : Name) → get name_eq new.entries q ≡ (if name_eq name q then Some k else get name_eq old.entries q))
-    → new.declared.items ≡ old.declared.items ++ d ∷ [] → IsLower (length old.declared.items) (Some (unit_of d)) → IsShort (Some (unit_of d)) → k.number ≡ length old.declared.items
-    → Knows old known → IsTree (units_of old.declared.items ++ unit_of d ∷ []) (length old.declared.items) s → k.ops ≡ min (ops_in s) 257 → k.nesting ≡ nesting s → OnOk r (Knows new ((name, s) ∷ known))
+pub declares : (r : Result (Unit {0}) NoMemory) (old new : Known) (d : Declared) (k : Entry) (name : Name) (s : Stream) (known : Streamed)
+    → OnOk r ((q : Name) → get name_eq new.entries q ≡ (if name_eq name q then Some k else get name_eq old.entries q))
+    → new.declared.items ≡ old.declared.items ++ d ∷ [] → IsLower (length old.declared.items) (Some (unit_of d)) → IsShort (Some (unit_of d))
+    → k.number ≡ length old.declared.items
+    → Knows old known → IsTree (units_of old.declared.items ++ unit_of d ∷ []) (length old.declared.items) s → k.ops ≡ min (ops_in s) 257
+    → k.nesting ≡ nesting s → OnOk r (Knows new ((name, s) ∷ known))
 declares (Err e) old new d k name s known g it lo sh nu kn t o n = tt
 declares (Ok u) old new d k name s known g it lo sh nu kn t o n =
     let us = units_of old.declared.items in

@@ -21,12 +21,14 @@ took x = Ok x
 took_is : {A : Type 0} (x y : A) → took x ≡ took y → x ≡ y
 took_is x y h = cc
 
-unit_parts : {A B : Type 0} (k : ℕ) (r : Result A spec.Fault) (f : A → Result B Refusal) (y : B) → in_unit k r f ≡ took y → (x : A) × (r ≡ Ok x) × (f x ≡ took y)
+unit_parts : {A B : Type 0} (k : ℕ) (r : Result A spec.Fault) (f : A → Result B Refusal) (y : B) → in_unit k r f ≡ took y
+    → (x : A) × (r ≡ Ok x) × (f x ≡ took y)
 unit_parts k (Ok x) f y h = (x, refl, h)
 unit_parts k (Err e) f y h = absurd (cc h)
 
 -- a fault of a program is one of another
-told_on : {A B : Type 0} (k : ℕ) (f : fault.Fault) (r : Result A Refusal) (r' : Result B Refusal) → ((g : spec.Fault) → r ≡ refused k g → r' ≡ refused k g) → Told k f r → Told k f r'
+told_on : {A B : Type 0} (k : ℕ) (f : fault.Fault) (r : Result A Refusal) (r' : Result B Refusal) → ((g : spec.Fault) → r ≡ refused k g → r' ≡ refused k g)
+    → Told k f r → Told k f r'
 told_on k faults.UnknownName r r' h e = h spec.UnknownName e
 told_on k faults.NameTwice r r' h e = h spec.NameTwice e
 told_on k (faults.Rates d c) r r' h e = h (spec.Rates d c) e
@@ -75,7 +77,8 @@ last_known (u ∷ us) d known lt h =
 
 -- THE LIMIT OF ITS PLAN
 
-judged_ok : (p : Program) (name : Name) (s : Stream) (others : Streamed) → all_streams 1 [] p ≡ took ((name, s) ∷ others) → ops_in s ≤ 256 → judged p ≡ took ((name, s) ∷ others)
+judged_ok : (p : Program) (name : Name) (s : Stream) (others : Streamed) → all_streams 1 [] p ≡ took ((name, s) ∷ others) → ops_in s ≤ 256
+    → judged p ≡ took ((name, s) ∷ others)
 judged_ok p name s others h le =
     ap (λ r. on_fine r (λ known. in_unit (length p) (few_operators known) (λ u. took known))) h
     ∙ ap (λ b. in_unit (length p) (spec.demand b spec.Limit) (λ u. took ((name, s) ∷ others))) (le_true (ops_in s) 256 le)
@@ -89,11 +92,13 @@ stopped a = Err a
 err_is : (a b : Refusal) → stopped a ≡ stopped b → a ≡ b
 err_is a b h = cc
 
-few_err : {A : Type 0} (k j : ℕ) (b : Bool) (x : A) (g : spec.Fault) → in_unit k (spec.demand b spec.Limit) (λ u. took u) ≡ refused j g → in_unit k (spec.demand b spec.Limit) (λ u. took x) ≡ refused j g
+few_err : {A : Type 0} (k j : ℕ) (b : Bool) (x : A) (g : spec.Fault) → in_unit k (spec.demand b spec.Limit) (λ u. took u) ≡ refused j g
+    → in_unit k (spec.demand b spec.Limit) (λ u. took x) ≡ refused j g
 few_err k j true x g h = absurd (cc h)
 few_err k j false x g h = ap Err (err_is (record { unit = k; fault = spec.Limit }) (record { unit = j; fault = g }) h)
 
-judged_many : (p : Program) (k j : ℕ) (f : fault.Fault) (name : Name) (s : Stream) (others : Streamed) → all_streams 1 [] p ≡ took ((name, s) ∷ others) → k ≡ length p → Told j f (few_in k s) → Told j f (judged p)
+judged_many : (p : Program) (k j : ℕ) (f : fault.Fault) (name : Name) (s : Stream) (others : Streamed) → all_streams 1 [] p ≡ took ((name, s) ∷ others)
+    → k ≡ length p → Told j f (few_in k s) → Told j f (judged p)
 judged_many p k j f name s others h e t =
     told_on j f (few_in k s) (judged p)
     (λ g d. ap (λ r. on_fine r (λ known. in_unit (length p) (few_operators known) (λ u. took known))) h
@@ -102,6 +107,7 @@ judged_many p k j f name s others h e t =
     t
 
 -- the plan of the newest stream is the program's
-pub planned : (result : Result RawPlan code.Refusal) (p : Program) (k : ℕ) (name : Name) (s : Stream) (others : Streamed) → all_streams 1 [] p ≡ took ((name, s) ∷ others) → k ≡ length p → PlansLast result k s → PlansBy result (judged p)
+pub planned : (result : Result RawPlan code.Refusal) (p : Program) (k : ℕ) (name : Name) (s : Stream) (others : Streamed)
+    → all_streams 1 [] p ≡ took ((name, s) ∷ others) → k ≡ length p → PlansLast result k s → PlansBy result (judged p)
 planned (Ok raw) p k name s others h e t = (name, s, others, judged_ok p name s others h t.0, t.1)
 planned (Err r) p k name s others h e t = judged_many p k r.unit r.fault name s others h e t

@@ -1,5 +1,6 @@
 -- A pipeline that is built child by child.
-use Rattle.std.proofs.Common.{◌≡◌, ℕ, zero, suc, ◌+◌, ◌<◌, ◌≤◌, List, [], ◌∷◌, ◌++◌, length, drop, get_or, Some, Result, Ok, Err, map, refl, sym, ap, ◌∙◌, subst, arith, append_assoc, append-nil, add-one, drop-cons}
+use Rattle.std.proofs.Common.{◌≡◌, ℕ, zero, suc, ◌+◌, ◌<◌, ◌≤◌, List, [], ◌∷◌, ◌++◌, length, drop, get_or, Some, Result, Ok, Err, map, refl, sym, ap, ◌∙◌}
+use Rattle.std.proofs.Common.{subst, arith, append_assoc, append-nil, add-one, drop-cons}
 use Rattle.std.specs.Prelude.{slice_get, OnOk}
 use Rattle.kern_rows.specs.Forms.{FilterForm}
 use Rattle.river_kernels.specs.Kern.{filter}
@@ -9,7 +10,8 @@ use Rattle.river_plan.specs.Forms.{Name, OpForm, op_forms}
 use Rattle.streamit_model.specs.Stream.{Splitter, Stream, Streams, Last, Then, Filter, Pipeline, SplitJoin}
 use Rattle.streamit_model.specs.Build.{numbered, with_own, queue, build, build_line, ops_in, ops_of, queues_in, queues_between}
 use Rattle.streamit_build.specs.declared.builder.Made.{Made}
-use Rattle.streamit_build.specs.Units.{UnitForm, AFilter, APipe, ASplit, unit_of, units_of, AreBelow, AreLower, IsLower, AreShort, IsShort, IsTree, AreTrees, Built}
+use Rattle.streamit_build.specs.Units.{UnitForm, AFilter, APipe, ASplit, unit_of, units_of, AreBelow, AreLower, IsLower, AreShort, IsShort, IsTree, AreTrees}
+use Rattle.streamit_build.specs.Units.{Built}
 
 -- the streams that are still to be built
 pub record Line (us : List UnitForm) (rest : List ℕ) (last : ℕ) (ss : Streams) (old now : Made) (from start to : Name) : Type 0 where
@@ -26,7 +28,8 @@ pub record LineSoFar (us : List UnitForm) (front rest : List ℕ) (last i : ℕ)
   pub line : (ss : Streams) → AreTrees us front last ss → Line us rest last ss old now from start to
 
 -- no stream was built
-pub line_start : (us : List UnitForm) (front : List ℕ) (last i : ℕ) (old : Made) (from to : Name) → AllByRecursion (λ j. j < i) front → LineSoFar us front front last i old old from from to
+pub line_start : (us : List UnitForm) (front : List ℕ) (last i : ℕ) (old : Made) (from to : Name) → AllByRecursion (λ j. j < i) front
+    → LineSoFar us front front last i old old from from to
 line_start us front last i old from to low = record {
   lower = low;
   line = λ ss t. record { left = ss; trees = t; added = []; grew = sym (append-nil (op_forms old.ops)); all = refl; ops = refl; queues = refl };
@@ -64,13 +67,15 @@ go_on us j js last ss old now mid next from start to end (Then s left) added t g
     }
 
 -- one stream more
-pub line_next : (us : List UnitForm) (front : List ℕ) (j : ℕ) (js : List ℕ) (last i : ℕ) (old now mid next : Made) (from start to end : Name) → LineSoFar us front (j ∷ js) last i old now from start to
+pub line_next : (us : List UnitForm) (front : List ℕ) (j : ℕ) (js : List ℕ) (last i : ℕ) (old now mid next : Made) (from start to end : Name)
+    → LineSoFar us front (j ∷ js) last i old now from start to
     → end ≡ queue now.next_queue → mid.next_queue ≡ now.next_queue + 1 → mid.next_op ≡ now.next_op → mid.ops ≡ now.ops
     → ((s : Stream) → IsTree us j s → Built mid next (build s mid.next_op mid.next_queue start end) (ops_in s) (queues_in s))
     → LineSoFar us front js last i old next from end to
 line_next us front j js last i old now mid next from start to end f e1 e2 e3 e4 b = record {
   lower = f.lower.1;
-  line = λ ss t. let l = f.line ss t in go_on us j js last ss old now mid next from start to end l.left l.added l.trees l.grew l.all l.ops l.queues e1 e2 e3 e4 b;
+  line =
+      λ ss t. let l = f.line ss t in go_on us j js last ss old now mid next from start to end l.left l.added l.trees l.grew l.all l.ops l.queues e1 e2 e3 e4 b;
 }
 
 end_on : (us : List UnitForm) (last : ℕ) (ss : Streams) (old now next : Made) (from start to : Name) (left : Streams) (added : List OpForm)
@@ -84,17 +89,21 @@ end_on us last ss old now next from start to (Last s) added t g a o q b =
     let n1 = d.next_op in
     let n2 = d.next_queue in
     record {
-      ops = d.ops ∙ ap (λ l. l ++ build s now.next_op now.next_queue start to) g ∙ append_assoc (op_forms old.ops) added (build s now.next_op now.next_queue start to) ∙ ap (λ l. op_forms old.ops ++ l) (sym a);
+      ops =
+          d.ops ∙ ap (λ l. l ++ build s now.next_op now.next_queue start to) g
+          ∙ append_assoc (op_forms old.ops) added (build s now.next_op now.next_queue start to) ∙ ap (λ l. op_forms old.ops ++ l) (sym a);
       next_op = omega (arith, n1, o);
       next_queue = omega (arith, n2, q);
     }
 end_on us last ss old now next from start to (Then s left) added t g a o q b = absurd t
 
 -- all streams
-pub line_end : (us : List UnitForm) (front : List ℕ) (last i : ℕ) (old now next : Made) (from start to : Name) (ss : Streams) → LineSoFar us front [] last i old now from start to → AreTrees us front last ss
+pub line_end : (us : List UnitForm) (front : List ℕ) (last i : ℕ) (old now next : Made) (from start to : Name) (ss : Streams)
+    → LineSoFar us front [] last i old now from start to → AreTrees us front last ss
     → ((s : Stream) → IsTree us last s → Built now next (build s now.next_op now.next_queue start to) (ops_in s) (queues_in s))
     → Built old next (build_line ss old.next_op old.next_queue from to) (ops_of ss) (queues_between ss)
-line_end us front last i old now next from start to ss f t b = let l = f.line ss t in end_on us last ss old now next from start to l.left l.added l.trees l.grew l.all l.ops l.queues b
+line_end us front last i old now next from start to ss f t b =
+    let l = f.line ss t in end_on us last ss old now next from start to l.left l.added l.trees l.grew l.all l.ops l.queues b
 
 -- the children from a place on
 pub at_child : (items : List ℕ) (i j : ℕ) → i < length items → j ≡ get_or items i j → drop i items ≡ j ∷ drop (i + 1) items
@@ -112,11 +121,13 @@ pub unit_at : (us : List Declared) (i : ℕ) (x y : Declared) → i < length us 
 unit_at us i x y lt e f = got unit_of us i x lt e ∙ ap (λ z. Some (unit_of z)) f
 
 -- the children of a pipeline are lower
-pub lower_of : (us : List UnitForm) (i : ℕ) (front : List ℕ) (last : ℕ) → AreLower us → slice_get us i ≡ Some (APipe front last) → AllByRecursion (λ j. j < i) front × (last < i)
+pub lower_of : (us : List UnitForm) (i : ℕ) (front : List ℕ) (last : ℕ) → AreLower us → slice_get us i ≡ Some (APipe front last)
+    → AllByRecursion (λ j. j < i) front × (last < i)
 lower_of us i front last low e = subst (IsLower i) e (low i)
 
 -- those of a split-join are
-pub lower_split : (us : List UnitForm) (i : ℕ) (d : Splitter) (front : List ℕ) (last : ℕ) (ws : List ℕ) → AreLower us → slice_get us i ≡ Some (ASplit d front last ws) → AllByRecursion (λ j. j < i) front × (last < i)
+pub lower_split : (us : List UnitForm) (i : ℕ) (d : Splitter) (front : List ℕ) (last : ℕ) (ws : List ℕ) → AreLower us
+    → slice_get us i ≡ Some (ASplit d front last ws) → AllByRecursion (λ j. j < i) front × (last < i)
 lower_split us i d front last ws low e = subst (IsLower i) e (low i)
 
 -- parts that are the same are as low
@@ -140,7 +151,8 @@ filter_split : (n : Name) (f : FilterForm) (d : Splitter) (g : List ℕ) (m : �
 filter_split n f d g m ws h = cc h
 
 -- a pipeline's tree is one of its children
-pub pipe_returns : {E : Type 0} (us : List UnitForm) (i : ℕ) (front : List ℕ) (last : ℕ) (old new : Made) (from to : Name) (r : Result (Unit {0}) E) → slice_get us i ≡ Some (APipe front last)
+pub pipe_returns : {E : Type 0} (us : List UnitForm) (i : ℕ) (front : List ℕ) (last : ℕ) (old new : Made) (from to : Name) (r : Result (Unit {0}) E)
+    → slice_get us i ≡ Some (APipe front last)
     → ((ss : Streams) → AreTrees us front last ss → OnOk r (Built old new (build_line ss old.next_op old.next_queue from to) (ops_of ss) (queues_between ss)))
     → (s : Stream) → IsTree us i s → OnOk r (Built old new (build s old.next_op old.next_queue from to) (ops_in s) (queues_in s))
 pipe_returns us i front last old new from to r u h (Filter name f) t = absurd (filter_pipe name f front last (sym t ∙ u))
@@ -150,21 +162,26 @@ pipe_returns us i front last old new from to r u h (Pipeline ss) t =
 pipe_returns us i front last old new from to r u h (SplitJoin d ss ws) t = absurd (pipe_split front last d t.0 t.1 ws (sym u ∙ t.2))
 
 -- the last stream was built
-pub last_returns : {E : Type 0} (us : List UnitForm) (front : List ℕ) (last i : ℕ) (old now next : Made) (from start to : Name) (r : Result (Unit {0}) E) → LineSoFar us front [] last i old now from start to
+pub last_returns : {E : Type 0} (us : List UnitForm) (front : List ℕ) (last i : ℕ) (old now next : Made) (from start to : Name) (r : Result (Unit {0}) E)
+    → LineSoFar us front [] last i old now from start to
     → ((s : Stream) → IsTree us last s → OnOk r (Built now next (build s now.next_op now.next_queue start to) (ops_in s) (queues_in s)))
     → (ss : Streams) → AreTrees us front last ss → OnOk r (Built old next (build_line ss old.next_op old.next_queue from to) (ops_of ss) (queues_between ss))
 last_returns us front last i old now next from start to (Ok x) f b ss t = line_end us front last i old now next from start to ss f t b
 last_returns us front last i old now next from start to (Err x) f b ss t = tt
 
 -- a filter was built
-pub filter_returns : {E : Type 0} (us : List UnitForm) (i : ℕ) (name : Name) (f : FilterForm) (old new : Made) (op : OpForm) (from to : Name) (r : Result (Unit {0}) E) → slice_get us i ≡ Some (AFilter name f)
-    → op ≡ with_own (numbered name old.next_op) (filter f) (from ∷ []) (to ∷ []) → OnOk r (op_forms new.ops ≡ op_forms old.ops ++ op ∷ []) → OnOk r (new.next_op ≡ old.next_op + 1) → new.next_queue ≡ old.next_queue
+pub filter_returns : {E : Type 0} (us : List UnitForm) (i : ℕ) (name : Name) (f : FilterForm) (old new : Made) (op : OpForm) (from to : Name) (r : Result (Unit {0}) E)
+    → slice_get us i ≡ Some (AFilter name f)
+    → op ≡ with_own (numbered name old.next_op) (filter f) (from ∷ []) (to ∷ []) → OnOk r (op_forms new.ops ≡ op_forms old.ops ++ op ∷ [])
+    → OnOk r (new.next_op ≡ old.next_op + 1) → new.next_queue ≡ old.next_queue
     → (s : Stream) → IsTree us i s → OnOk r (Built old new (build s old.next_op old.next_queue from to) (ops_in s) (queues_in s))
 filter_returns us i name f old new op from to (Err x) u e o n q s t = tt
 filter_returns us i name f old new op from to (Ok x) u e o n q (Filter name' f') t =
     let same = filter_same name' name f' f (sym t ∙ u) in
     record {
-      ops = o ∙ ap (λ x. op_forms old.ops ++ x ∷ []) (e ∙ ap (λ m. with_own (numbered m old.next_op) (filter f) (from ∷ []) (to ∷ [])) (sym same.0) ∙ ap (λ g. with_own (numbered name' old.next_op) (filter g) (from ∷ []) (to ∷ [])) (sym same.1));
+      ops =
+          o
+          ∙ ap (λ x. op_forms old.ops ++ x ∷ []) (e ∙ ap (λ m. with_own (numbered m old.next_op) (filter f) (from ∷ []) (to ∷ [])) (sym same.0) ∙ ap (λ g. with_own (numbered name' old.next_op) (filter g) (from ∷ []) (to ∷ [])) (sym same.1));
       next_op = n;
       next_queue = omega (arith, q);
     }

@@ -1,5 +1,6 @@
 -- Names with numbers behind them.
-use Rattle.std.proofs.Common.{◌≡◌, ℕ, zero, suc, ◌+◌, ◌^◌, ◌<◌, ◌≤◌, Bool, true, List, [], ◌∷◌, ◌++◌, length, sym, ap, ◌∙◌, arith, length-append, add-one, map, get_or, take, pos}
+use Rattle.std.proofs.Common.{◌≡◌, ℕ, zero, suc, ◌+◌, ◌^◌, ◌<◌, ◌≤◌, Bool, true, List, [], ◌∷◌, ◌++◌, length, sym, ap, ◌∙◌, arith, length-append, add-one, map}
+use Rattle.std.proofs.Common.{get_or, take, pos}
 use Rattle.std.specs.Prelude.{◌&&◌, codes, nat_le}
 use Rattle.std.specs.List.{list_all}
 use Rattle.std.specs.Fmt.{decimal}
@@ -14,7 +15,8 @@ use Rattle.streamit_model.proofs.Named.{decimal_goes}
 
 queues-suc : (k n : ℕ) → queues k (suc n) ≡ queues k n ++ queue (k + n) ∷ []
 queues-suc k zero = ap (λ j. queue j ∷ []) (let e : k ≡ k + 0 = omega arith in e)
-queues-suc k (suc n) = ap (λ l. queue k ∷ l) (queues-suc (suc k) n ∙ ap (λ j. queues (suc k) n ++ queue j ∷ []) (let e : suc k + n ≡ k + suc n = omega arith in e))
+queues-suc k (suc n) =
+    ap (λ l. queue k ∷ l) (queues-suc (suc k) n ∙ ap (λ j. queues (suc k) n ++ queue j ∷ []) (let e : suc k + n ≡ k + suc n = omega arith in e))
 
 -- one queue more
 pub queues-more : (k n : ℕ) → queues k (n + 1) ≡ queues k n ++ queue (k + n) ∷ []

@@ -1,5 +1,6 @@
 -- Weights that fit, and those that do not.
-use Rattle.std.proofs.Common.{◌≡◌, ◌≢◌, ℕ, zero, suc, ◌+◌, ◌*◌, ◌<◌, ◌≤◌, Bool, true, false, List, [], ◌∷◌, ◌++◌, length, take, get_or, replicate, Ok, Err, refl, ap, ◌∙◌, arith, nat_eq, nat_le}
+use Rattle.std.proofs.Common.{◌≡◌, ◌≢◌, ℕ, zero, suc, ◌+◌, ◌*◌, ◌<◌, ◌≤◌, Bool, true, false, List, [], ◌∷◌, ◌++◌, length, take, get_or, replicate, Ok, Err}
+use Rattle.std.proofs.Common.{refl, ap, ◌∙◌, arith, nat_eq, nat_le}
 use Rattle.std.specs.Prelude.{◌&&◌}
 use Rattle.std.specs.List.{list_all}
 use Rattle.std.proofs.lemmas.List.{length-replicate, take_more}
@@ -32,11 +33,13 @@ le_false a b h = grind arith
 
 -- another number of weights
 pub round_other : (vs : List ℕ) (n : ℕ) → length vs ≢ n → fitting_round vs n ≡ Err Weights
-round_other vs n h = ap (λ b. on_ok (demand (b && list_all (λ w. nat_le 1 w) vs) Weights) (λ u. on_ok (demand (nat_le (cycle vs) 65536) Limit) (λ v. Ok vs))) (eq_false (length vs) n h)
+round_other vs n h =
+    ap (λ b. on_ok (demand (b && list_all (λ w. nat_le 1 w) vs) Weights) (λ u. on_ok (demand (nat_le (cycle vs) 65536) Limit) (λ v. Ok vs))) (eq_false (length vs) n h)
 
 -- a weight that is 0
 pub round_zero : (vs : List ℕ) (n : ℕ) → list_all (λ w. nat_le 1 w) vs ≡ false → fitting_round vs n ≡ Err Weights
-round_zero vs n h = ap (λ b. on_ok (demand b Weights) (λ u. on_ok (demand (nat_le (cycle vs) 65536) Limit) (λ v. Ok vs))) (second_false (nat_eq (length vs) n) (list_all (λ w. nat_le 1 w) vs) h)
+round_zero vs n h =
+    ap (λ b. on_ok (demand b Weights) (λ u. on_ok (demand (nat_le (cycle vs) 65536) Limit) (λ v. Ok vs))) (second_false (nat_eq (length vs) n) (list_all (λ w. nat_le 1 w) vs) h)
 
 -- a sum that is too high
 pub round_high : (vs : List ℕ) (n : ℕ) → length vs ≡ n → list_all (λ w. nat_le 1 w) vs ≡ true → 65536 < cycle vs → fitting_round vs n ≡ Err Limit
@@ -87,7 +90,9 @@ cycle-append (x ∷ xs) ys = let e = cycle-append xs ys in omega (arith, e)
 
 -- the sum of one weight more
 pub cycle-more : (ws : List ℕ) (i : ℕ) → i < length ws → cycle (take (i + 1) ws) ≡ cycle (take i ws) + get_or ws i 0
-cycle-more ws i lt = ap cycle (take_more ws i 0 lt) ∙ cycle-append (take i ws) (get_or ws i 0 ∷ []) ∙ (let e : cycle (take i ws) + (get_or ws i 0 + 0) ≡ cycle (take i ws) + get_or ws i 0 = omega arith in e)
+cycle-more ws i lt =
+    ap cycle (take_more ws i 0 lt) ∙ cycle-append (take i ws) (get_or ws i 0 ∷ [])
+    ∙ (let e : cycle (take i ws) + (get_or ws i 0 + 0) ≡ cycle (take i ws) + get_or ws i 0 = omega arith in e)
 
 -- a front has no greater sum
 pub cycle_front : (ws : List ℕ) (i : ℕ) → cycle (take i ws) ≤ cycle ws
@@ -105,8 +110,11 @@ pub cycle_above : (ws : List ℕ) (i left w : ℕ) → i < length ws → w ≡ g
 cycle_above ws i left w lt e s h = let a = cycle-more ws i lt in let b = cycle_front ws (i + 1) in omega (arith, a, b, e, s, h)
 
 -- one weight more that is not 0
-pub ones-more : (ws : List ℕ) (i : ℕ) → i < length ws → list_all (λ w. nat_le 1 w) (take i ws) ≡ true → 1 ≤ get_or ws i 0 → list_all (λ w. nat_le 1 w) (take (i + 1) ws) ≡ true
-ones-more ws i lt h le = ap (list_all (λ w. nat_le 1 w)) (take_more ws i 0 lt) ∙ list_all-append (λ w. nat_le 1 w) (take i ws) (get_or ws i 0 ∷ []) ∙ both_true (list_all (λ w. nat_le 1 w) (take i ws)) _ h (both_true (nat_le 1 (get_or ws i 0)) true (le_true 1 (get_or ws i 0) le) refl)
+pub ones-more : (ws : List ℕ) (i : ℕ) → i < length ws → list_all (λ w. nat_le 1 w) (take i ws) ≡ true → 1 ≤ get_or ws i 0
+    → list_all (λ w. nat_le 1 w) (take (i + 1) ws) ≡ true
+ones-more ws i lt h le =
+    ap (list_all (λ w. nat_le 1 w)) (take_more ws i 0 lt) ∙ list_all-append (λ w. nat_le 1 w) (take i ws) (get_or ws i 0 ∷ [])
+    ∙ both_true (list_all (λ w. nat_le 1 w) (take i ws)) _ h (both_true (nat_le 1 (get_or ws i 0)) true (le_true 1 (get_or ws i 0) le) refl)
 
 -- a weight that is 0
 pub ones_stop : (ws : List ℕ) (i : ℕ) → i < length ws → get_or ws i 0 ≡ 0 → list_all (λ w. nat_le 1 w) ws ≡ false

@@ -1,5 +1,6 @@
 -- What a text of StreamIt means is what it has in the grammar, and what the front answers.
-use Rattle.std.proofs.Common.{◌≡◌, ◌⊎◌, ℕ, suc, ◌<◌, ◌≤◌, List, [], ◌∷◌, length, Option, Some, None, Result, Ok, Err, refl, sym, ap, ◌∙◌, subst, inl, inr, arith}
+use Rattle.std.proofs.Common.{◌≡◌, ◌⊎◌, ℕ, suc, ◌<◌, ◌≤◌, List, [], ◌∷◌, length, Option, Some, None, Result, Ok, Err, refl, sym, ap, ◌∙◌, subst, inl, inr}
+use Rattle.std.proofs.Common.{arith}
 use Rattle.std.proofs.lemmas.List.{length-map}
 use Rattle.work_code.specs.Cut.{units_of as cut_units}
 use Rattle.work_code.specs.Lexis.{tokens_in}
@@ -36,7 +37,8 @@ use Rattle.work_code.proofs.Counts.{units-few}
 use Rattle.streamit_text.proofs.Texts.{text-read, text-reads, units-bad, units-reads}
 use Rattle.streamit_text.proofs.Units.{exact-unit_from}
 use Rattle.streamit_front.specs.declared.fault.StreamitFault.{StreamitFault}
-use Rattle.streamit_front.specs.declared.fault.StreamitFault.TheVariants.{Text, UnknownName, NameTwice, Rates, PeekRange, NotConstant, BranchRates, Limit, Weights, NoMemory}
+use Rattle.streamit_front.specs.declared.fault.StreamitFault.TheVariants.{Text, UnknownName, NameTwice, Rates, PeekRange, NotConstant, BranchRates, Limit}
+use Rattle.streamit_front.specs.declared.fault.StreamitFault.TheVariants.{Weights, NoMemory}
 use Rattle.streamit_front.specs.Laws.{HasFault, Has, MeansWhatItHas, PlansMean}
 use Rattle.streamit_front.specs.Meaning.{Accepted, fault_at, or_fault, accepted, then_judged, of_tokens, then_read, compiled, Plans, Refused}
 use Rattle.streamit_front.proofs.Readable.{units-fine}
@@ -100,7 +102,8 @@ AllHave (Err e) = Unit {0}
 streams-have : (k : ℕ) (known : Streamed) (p : Program) → HasStream known → AllHave (all_streams k known p)
 streams-have k known [] h = h
 streams-have k known (u ∷ us) h = by (unit_of known u) (λ s. streams-have (suc k) ((u.name, s) ∷ known) us tt) where
-  by : (r : Result Stream model.Fault) → ((s : Stream) → AllHave (all_streams (suc k) ((u.name, s) ∷ known) us)) → AllHave (in_unit k r (λ s. all_streams (suc k) ((u.name, s) ∷ known) us))
+  by : (r : Result Stream model.Fault) → ((s : Stream) → AllHave (all_streams (suc k) ((u.name, s) ∷ known) us))
+      → AllHave (in_unit k r (λ s. all_streams (suc k) ((u.name, s) ∷ known) us))
   by (Ok s) more = more s
   by (Err f) more = tt
 
@@ -176,10 +179,12 @@ tokens-mean : (marks : List Mark) (p : Program) → StandFor marks p → of_toke
 tokens-mean marks p h = ap then_judged (units-reads (cut_units (toks marks)) p h.0 h.1)
 
 -- units that were read are planned and told as their tokens are
-pub read-planned : (marks : List Mark) (ds : List Declaration) (plan : PlanForm) → StandFor marks (program_of ds) → Plans (accepted (program_of ds)) (program_of ds) plan → Plans (of_tokens marks) (program_of ds) plan
+pub read-planned : (marks : List Mark) (ds : List Declaration) (plan : PlanForm) → StandFor marks (program_of ds)
+    → Plans (accepted (program_of ds)) (program_of ds) plan → Plans (of_tokens marks) (program_of ds) plan
 read-planned marks ds plan e h = (h.0, tokens-mean marks (program_of ds) e ∙ h.1, h.2)
 
-pub read-refused : (marks : List Mark) (ds : List Declaration) (fault : StreamitFault) → StandFor marks (program_of ds) → Refused (accepted (program_of ds)) fault → Refused (of_tokens marks) fault
+pub read-refused : (marks : List Mark) (ds : List Declaration) (fault : StreamitFault) → StandFor marks (program_of ds)
+    → Refused (accepted (program_of ds)) fault → Refused (of_tokens marks) fault
 read-refused marks ds fault e h = subst (λ (r : Result Accepted StreamitFault). Refused r fault) (sym (tokens-mean marks (program_of ds) e)) h
 
 pub read-readable : (marks : List Mark) (ds : List Declaration) → StandFor marks (program_of ds) → AreReadable (program_of ds)

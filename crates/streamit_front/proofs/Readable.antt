@@ -11,7 +11,8 @@ use Rattle.text_forms.specs.Parse.{is_value}
 use Rattle.text_forms.specs.Tree.{Spoken}
 use Rattle.text_forms.specs.Tree as tree
 use Rattle.streamit_model.specs.Source.{Statement, Declare, Assign, Push, Pop, If, For, Block, End, Then, Optional, Unwritten, Written}
-use Rattle.streamit_model.specs.Shallow.{IsLow, IsLowFirst, IsShallow, AreShallow, AreShallowOptional, IsItemless, IsItemlessFirst, KeepsItems, KeepAll, KeepAllOptional}
+use Rattle.streamit_model.specs.Shallow.{IsLow, IsLowFirst, IsShallow, AreShallow, AreShallowOptional, IsItemless, IsItemlessFirst, KeepsItems, KeepAll}
+use Rattle.streamit_model.specs.Shallow.{KeepAllOptional}
 use Rattle.streamit_model.specs.FilterSource.{FilterTree}
 use Rattle.streamit_model.specs.Program.{Body, Declared, Program, IsShallowBody, AreShallowUnits}
 use Rattle.streamit_unroll.specs.Numbers.{AreValues}
@@ -20,7 +21,9 @@ use Rattle.streamit_unroll.specs.Unrolled.{AreOptional, IsWritten, AreWritten, A
 use Rattle.streamit_unroll.specs.View.{in_turn, or_unwritten}
 use Rattle.streamit_build.specs.Program.{IsReadableBody}
 use Rattle.streamit_build.specs.Told.{AreReadable}
-use Rattle.streamit_text.specs.Grammar.{is_own, is_fit, Expr, Round, IsDeclare, IsAssign, IsPush, IsPop, IsIf, Head, HeadAfter, IsHead, IsFor, IsBlockOf, StmtAfter, IsStmt, IsBlock, is_still, is_still_first, stays, stay, stay_optional, IsInit, InFilter, BodyAfter, IsUnit, AreUnits}
+use Rattle.streamit_text.specs.Grammar.{is_own, is_fit, Expr, Round, IsDeclare, IsAssign, IsPush, IsPop, IsIf, Head, HeadAfter, IsHead, IsFor, IsBlockOf}
+use Rattle.streamit_text.specs.Grammar.{StmtAfter, IsStmt, IsBlock, is_still, is_still_first, stays, stay, stay_optional, IsInit, InFilter, BodyAfter, IsUnit}
+use Rattle.streamit_text.specs.Grammar.{AreUnits}
 
 -- ---- FORMS
 
@@ -29,12 +32,14 @@ and-both true b h = (refl, h)
 and-both false b h = absurd (cc h)
 
 -- one or the other
-pub chosen : {A : Type 0} (P : Type 0) (F G : A → List Tok → Type 0) (b : Bool) (v : A) (ts : List Tok) → form.Choose b F G v ts → (F v ts → P) → (G v ts → P) → P
+pub chosen : {A : Type 0} (P : Type 0) (F G : A → List Tok → Type 0) (b : Bool) (v : A) (ts : List Tok) → form.Choose b F G v ts → (F v ts → P) → (G v ts → P)
+    → P
 chosen P F G true v ts h f g = f h
 chosen P F G false v ts h f g = g h
 
 -- what stands within brackets
-pub enclosed : {A : Type 0} (P : A → Type 0) (l r : Symbol) (F : ℕ → A → List Tok → Type 0) (n : ℕ) (v : A) (ts : List Tok) → form.Enclosed l r F n v ts → ((m : ℕ) (us : List Tok) → F m v us → P v) → P v
+pub enclosed : {A : Type 0} (P : A → Type 0) (l r : Symbol) (F : ℕ → A → List Tok → Type 0) (n : ℕ) (v : A) (ts : List Tok) → form.Enclosed l r F n v ts
+    → ((m : ℕ) (us : List Tok) → F m v us → P v) → P v
 enclosed P l r F zero v ts h f = absurd h
 enclosed P l r F (suc n) v ts h f = f n h.formed.front h.formed.formed
 
@@ -106,7 +111,8 @@ head-fine n v ts h =
     chosen (HasBounds v) _ _ (is_own g.word) v g.back g.formed (λ f. head-after-fine n g.word v g.back f) (λ f. absurd f)
 
 -- blocks, of whose statements this is known
-block-fine : (stmt : ℕ → Statement → List Tok → Type 0) → ((m : ℕ) (s : Statement) (ts : List Tok) → stmt m s ts → IsFineStep s) → (n : ℕ) (b : Block) (ts : List Tok) → IsBlockOf stmt n b ts → AreFine b
+block-fine : (stmt : ℕ → Statement → List Tok → Type 0) → ((m : ℕ) (s : Statement) (ts : List Tok) → stmt m s ts → IsFineStep s)
+    → (n : ℕ) (b : Block) (ts : List Tok) → IsBlockOf stmt n b ts → AreFine b
 block-fine stmt fine n b ts h = enclosed AreFine _ _ _ n b ts h (λ m us f. subst AreFine (sym f.is) (each m f.value us f.formed)) where
   each : (m : ℕ) (ss : List Statement) (us : List Tok) → form.Each (stmt m) ss us → AreFine (in_turn ss)
   each m [] us f = (tt, tt)
@@ -115,11 +121,13 @@ block-fine stmt fine n b ts h = enclosed AreFine _ _ _ n b ts h (λ m us f. subs
       let b = each m ss f.1 f.4 in
       ((a.0, b.0), (a.1, b.1))
 
-optional-fine : (block : Block → List Tok → Type 0) → ((b : Block) (ts : List Tok) → block b ts → AreFine b) → (word : List ℕ) (o : Option Block) (ts : List Tok) → form.Maybe (form.AfterWord word block) o ts → AreFineOptional (or_unwritten o)
+optional-fine : (block : Block → List Tok → Type 0) → ((b : Block) (ts : List Tok) → block b ts → AreFine b)
+    → (word : List ℕ) (o : Option Block) (ts : List Tok) → form.Maybe (form.AfterWord word block) o ts → AreFineOptional (or_unwritten o)
 optional-fine block fine word None ts h = (tt, tt)
 optional-fine block fine word (Some b) ts h = fine b h.back h.formed
 
-if-fine : (block : ℕ → Block → List Tok → Type 0) → ((m : ℕ) (b : Block) (ts : List Tok) → block m b ts → AreFine b) → (n : ℕ) (s : Statement) (ts : List Tok) → IsIf block n s ts → IsFineStep s
+if-fine : (block : ℕ → Block → List Tok → Type 0) → ((m : ℕ) (b : Block) (ts : List Tok) → block m b ts → AreFine b) → (n : ℕ) (s : Statement) (ts : List Tok)
+    → IsIf block n s ts → IsFineStep s
 if-fine block fine n s ts h =
     let v = h.value in
     let arms = h.formed.second in
@@ -129,14 +137,16 @@ if-fine block fine n s ts h =
     let b : AreFineOptional v.1.1 = subst AreFineOptional (sym no.is) (optional-fine (block n) (fine n) (codes "else") no.value arms.back no.formed) in
     subst IsFineStep (sym h.is) ((c.0, a.0, b.0), (c.1, a.1, b.1))
 
-for-fine : (block : ℕ → Block → List Tok → Type 0) → ((m : ℕ) (b : Block) (ts : List Tok) → block m b ts → AreFine b) → (n : ℕ) (s : Statement) (ts : List Tok) → IsFor block n s ts → IsFineStep s
+for-fine : (block : ℕ → Block → List Tok → Type 0) → ((m : ℕ) (b : Block) (ts : List Tok) → block m b ts → AreFine b) → (n : ℕ) (s : Statement) (ts : List Tok)
+    → IsFor block n s ts → IsFineStep s
 for-fine block fine n s ts h =
     let v = h.value in
     let bounds = enclosed HasBounds _ _ _ n v.0 h.formed.front h.formed.first (λ m us f. head-fine m v.0 us f) in
     let b = fine n v.1 h.formed.back h.formed.second in
     subst IsFineStep (sym h.is) ((bounds.0, bounds.1, b.0), b.1)
 
-after-fine : (branch loop : Statement → List Tok → Type 0) → ((s : Statement) (ts : List Tok) → branch s ts → IsFineStep s) → ((s : Statement) (ts : List Tok) → loop s ts → IsFineStep s)
+after-fine : (branch loop : Statement → List Tok → Type 0) → ((s : Statement) (ts : List Tok) → branch s ts → IsFineStep s)
+    → ((s : Statement) (ts : List Tok) → loop s ts → IsFineStep s)
     → (n : ℕ) (w : List ℕ) (s : Statement) (ts : List Tok) → StmtAfter branch loop n w s ts → IsFineStep s
 after-fine branch loop b l n w s ts h =
     chosen (IsFineStep s) _ _ (bytes_eq w (codes "int")) s ts h (declare-fine n s ts) (λ h.

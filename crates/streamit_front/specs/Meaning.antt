@@ -15,7 +15,8 @@ use Rattle.streamit_model.specs.Program.{Program}
 use Rattle.streamit_model.specs.Judged.{Streamed, Refusal, judged}
 use Rattle.streamit_text.specs.Reading.{some_units}
 use Rattle.streamit_front.specs.declared.fault.StreamitFault.{StreamitFault}
-use Rattle.streamit_front.specs.declared.fault.StreamitFault.TheVariants.{Text, UnknownName, NameTwice, Rates, PeekRange, NotConstant, BranchRates, Limit, Weights, NoMemory}
+use Rattle.streamit_front.specs.declared.fault.StreamitFault.TheVariants.{Text, UnknownName, NameTwice, Rates, PeekRange, NotConstant, BranchRates, Limit}
+use Rattle.streamit_front.specs.declared.fault.StreamitFault.TheVariants.{Weights, NoMemory}
 
 -- a program that is accepted, and the stream that it declares last, which is the one that is run
 pub record Accepted : Type 0 where

@@ -47,7 +47,8 @@ own_each = record {
 
 abbrev pub IsFitting : OpForm → Type 0
 IsFitting op =
-    (kind : Name → QueueType) (var : Name → VarKind) → ((q : Name) → 0 < reads_it q op + writes_it q op → kind q ≡ rows 1) → ((v : Name) → 0 < vars_it v op → var v ≡ Private)
+    (kind : Name → QueueType) (var : Name → VarKind) → ((q : Name) → 0 < reads_it q op + writes_it q op → kind q ≡ rows 1)
+    → ((v : Name) → 0 < vars_it v op → var v ≡ Private)
     → FitsAt kind var op
 
 kinds_of : (kind : Name → QueueType) (n k : ℕ) → ((q : Name) → 0 < count q (queues k n) → kind q ≡ rows 1) → map kind (queues k n) ≡ replicate n (rows 1)

@@ -37,7 +37,8 @@ FedFilters =
 abbrev pub FedSplitters : Type 0
 FedSplitters =
     (ws : List ℕ) (n p : ℕ) (g : ℕ → List item.Item) (xs : List ℤ) → IsRound ws n → p < n → g 0 ≡ as_items xs
-    → ((feed_all (deal (weights ws)) g (first_kept (deal (weights ws)))).outs p ≡ as_items (dealt ws p xs)) × ((feed_all (duplicate n) g (first_kept (duplicate n))).outs p ≡ as_items xs)
+    → ((feed_all (deal (weights ws)) g (first_kept (deal (weights ws)))).outs p ≡ as_items (dealt ws p xs))
+    × ((feed_all (duplicate n) g (first_kept (duplicate n))).outs p ≡ as_items xs)
 
 -- fed joiners collect
 abbrev pub FedJoiners : Type 0

@@ -34,11 +34,13 @@ pub ruleset names = (own-short)
 pub adds-stop : (n : ℕ) (done : List (List ℕ)) (ts : List Tok) → no_add ts ≡ true → repeated (parse.many_turn no_add (add_at n)) done ts ≡ Some (done, ts)
 adds-stop n done ts e = repeated-stop (parse.many_turn no_add (add_at n)) done ts (rw e refl)
 
-pub adds-bad : (n : ℕ) (done : List (List ℕ)) (ts : List Tok) → no_add ts ≡ false → add_at n ts ≡ None → repeated (parse.many_turn no_add (add_at n)) done ts ≡ None
+pub adds-bad : (n : ℕ) (done : List (List ℕ)) (ts : List Tok) → no_add ts ≡ false → add_at n ts ≡ None
+    → repeated (parse.many_turn no_add (add_at n)) done ts ≡ None
 adds-bad n done ts e bad = repeated-fail (parse.many_turn no_add (add_at n)) done ts (rw (e, bad) refl)
 
 -- one name more
-pub adds-next : (n : ℕ) (done : List (List ℕ)) (ts us : List Tok) (v : List ℕ) → no_add ts ≡ false → add_at n ts ≡ Some (v, us) → repeated (parse.many_turn no_add (add_at n)) (done ++ v ∷ []) us ≡ repeated (parse.many_turn no_add (add_at n)) done ts
+pub adds-next : (n : ℕ) (done : List (List ℕ)) (ts us : List Tok) (v : List ℕ) → no_add ts ≡ false → add_at n ts ≡ Some (v, us)
+    → repeated (parse.many_turn no_add (add_at n)) (done ++ v ∷ []) us ≡ repeated (parse.many_turn no_add (add_at n)) done ts
 adds-next n done ts us v e read =
     sym (repeated-next (parse.many_turn no_add (add_at n)) (many-shortens no_add (exact-add n) (listed-adds n)) done ts (done ++ v ∷ []) us (rw (e, read) refl))
 

@@ -9,7 +9,8 @@ use Rattle.text_forms.proofs.Repeat.{repeated-next, repeated-stop, repeated-fail
 use Rattle.streamit_model.specs.Source.{Statement, If, Block, Optional}
 use Rattle.streamit_unroll.specs.View.{in_turn}
 use Rattle.streamit_text.specs.Grammar.{Head, made_for}
-use Rattle.streamit_text.specs.Reading.{at_close, round_term_at, round_head_at, arms_at, if_at, for_at, stmt_after, stmt_at, stmts_at, block_at, branch_at, loop_at}
+use Rattle.streamit_text.specs.Reading.{at_close, round_term_at, round_head_at, arms_at, if_at, for_at, stmt_after, stmt_at, stmts_at, block_at, branch_at}
+use Rattle.streamit_text.specs.Reading.{loop_at}
 use Rattle.streamit_text.proofs.Statements.{exact-stmt, listed-stmts}
 
 less-one : (n : ℕ) → suc n - 1 ≡ n
@@ -40,14 +41,17 @@ loop-at (suc nest) n ts h = ap (λ (k : ℕ). for_at (block_at k) n ts) (sym (le
 
 pub ruleset blocks = (stmt-at, branch-none, branch-at, loop-none, loop-at)
 
-pub loop-stop : (nest n : ℕ) (done : List Statement) (ts : List Tok) → at_close ts ≡ true → repeated (parse.many_turn at_close (stmt_at nest n)) done ts ≡ Some (done, ts)
+pub loop-stop : (nest n : ℕ) (done : List Statement) (ts : List Tok) → at_close ts ≡ true
+    → repeated (parse.many_turn at_close (stmt_at nest n)) done ts ≡ Some (done, ts)
 loop-stop nest n done ts e = repeated-stop (parse.many_turn at_close (stmt_at nest n)) done ts (rw e refl)
 
-pub loop-bad : (nest n : ℕ) (done : List Statement) (ts : List Tok) → at_close ts ≡ false → stmt_at nest n ts ≡ None → repeated (parse.many_turn at_close (stmt_at nest n)) done ts ≡ None
+pub loop-bad : (nest n : ℕ) (done : List Statement) (ts : List Tok) → at_close ts ≡ false → stmt_at nest n ts ≡ None
+    → repeated (parse.many_turn at_close (stmt_at nest n)) done ts ≡ None
 loop-bad nest n done ts e bad = repeated-fail (parse.many_turn at_close (stmt_at nest n)) done ts (rw (e, bad) refl)
 
 -- one statement more
-pub loop-next : (nest n : ℕ) (done : List Statement) (ts us : List Tok) (v : Statement) → at_close ts ≡ false → stmt_at nest n ts ≡ Some (v, us) → repeated (parse.many_turn at_close (stmt_at nest n)) (done ++ v ∷ []) us ≡ repeated (parse.many_turn at_close (stmt_at nest n)) done ts
+pub loop-next : (nest n : ℕ) (done : List Statement) (ts us : List Tok) (v : Statement) → at_close ts ≡ false → stmt_at nest n ts ≡ Some (v, us)
+    → repeated (parse.many_turn at_close (stmt_at nest n)) (done ++ v ∷ []) us ≡ repeated (parse.many_turn at_close (stmt_at nest n)) done ts
 loop-next nest n done ts us v e read =
     sym (repeated-next (parse.many_turn at_close (stmt_at nest n)) (many-shortens at_close (exact-stmt nest n) (listed-stmts nest n)) done ts (done ++ v ∷ []) us (rw (e, read) refl))
 
@@ -62,17 +66,21 @@ stmt-shortens nest n ts us v e =
 pub ruleset loops = (loop-stop, loop-bad, stmt-shortens)
 
 -- an `if` whose parts were read
-pub branch-made : (nest n : ℕ) (ts us ws : List Tok) (c : Spoken) (a : Block) (b : Optional) → 0 < nest → round_term_at n ts ≡ Some (c, us) → arms_at (block_at (nest - 1)) n us ≡ Some ((a, b), ws) → branch_at nest n ts ≡ Some (If c a b, ws)
+pub branch-made : (nest n : ℕ) (ts us ws : List Tok) (c : Spoken) (a : Block) (b : Optional) → 0 < nest → round_term_at n ts ≡ Some (c, us)
+    → arms_at (block_at (nest - 1)) n us ≡ Some ((a, b), ws) → branch_at nest n ts ≡ Some (If c a b, ws)
 unfolding if_at
 branch-made nest n ts us ws c a b pos cond arms = rw (branch-at nest n ts pos, cond, arms) refl
 
 -- a `for` whose parts were read
-pub loop-made : (nest n : ℕ) (ts us vs : List Tok) (h : Head) (b : Block) → 0 < nest → round_head_at n ts ≡ Some (h, us) → block_at (nest - 1) n us ≡ Some (b, vs) → loop_at nest n ts ≡ Some (made_for (h, b), vs)
+pub loop-made : (nest n : ℕ) (ts us vs : List Tok) (h : Head) (b : Block) → 0 < nest → round_head_at n ts ≡ Some (h, us)
+    → block_at (nest - 1) n us ≡ Some (b, vs) → loop_at nest n ts ≡ Some (made_for (h, b), vs)
 unfolding for_at
 loop-made nest n ts us vs h b pos head body = rw (loop-at nest n ts pos, head, body) refl
 
 -- at the closing brace the statements so far are those of the block
-pub stmts-made : (nest n : ℕ) (done : List Statement) (start ts : List Tok) → repeated (parse.many_turn at_close (stmt_at nest n)) done ts ≡ parse.many at_close (stmt_at nest n) start → at_close ts ≡ true → stmts_at nest n start ≡ Some (in_turn done, ts)
+pub stmts-made : (nest n : ℕ) (done : List Statement) (start ts : List Tok)
+    → repeated (parse.many_turn at_close (stmt_at nest n)) done ts ≡ parse.many at_close (stmt_at nest n) start → at_close ts ≡ true
+    → stmts_at nest n start ≡ Some (in_turn done, ts)
 unfolding stmts_at
 stmts-made nest n done start ts same stop =
     let all : parse.many at_close (stmt_at nest n) start ≡ Some (done, ts) = sym same ∙ loop-stop nest n done ts stop in

@@ -15,7 +15,8 @@ pub fields-bad : (done : List (List ℕ)) (ts : List Tok) → no_field ts ≡ fa
 fields-bad done ts e bad = repeated-fail (parse.many_turn no_field field_at) done ts (rw (e, bad) refl)
 
 -- one field more
-pub fields-next : (done : List (List ℕ)) (ts us : List Tok) (v : List ℕ) → no_field ts ≡ false → field_at ts ≡ Some (v, us) → repeated (parse.many_turn no_field field_at) (done ++ v ∷ []) us ≡ repeated (parse.many_turn no_field field_at) done ts
+pub fields-next : (done : List (List ℕ)) (ts us : List Tok) (v : List ℕ) → no_field ts ≡ false → field_at ts ≡ Some (v, us)
+    → repeated (parse.many_turn no_field field_at) (done ++ v ∷ []) us ≡ repeated (parse.many_turn no_field field_at) done ts
 fields-next done ts us v e read =
     sym (repeated-next (parse.many_turn no_field field_at) (many-shortens no_field exact-field listed-fields) done ts (done ++ v ∷ []) us (rw (e, read) refl))
 

@@ -19,12 +19,13 @@ use Rattle.streamit_text.proofs.Adding.{plain-short}
 word-named : (w : List ℕ) → IsWord w → length w ≤ 40 → is_name w ≡ true
 unfolding first_is
 word-named [] h le = absurd (cc h.0)
-word-named (c ∷ cs) h le = both (is_letter c) _ h.0 (both (list_all is_word cs) (nat_le (length cs) 63) (and_parts (is_word c) (list_all is_word cs) h.1).1 (low (length cs) (omega (arith, le)))) where
-  both : (a b : Bool) → a ≡ true → b ≡ true → a && b ≡ true
-  both a b e f = rw (e, f) refl
+word-named (c ∷ cs) h le =
+    both (is_letter c) _ h.0 (both (list_all is_word cs) (nat_le (length cs) 63) (and_parts (is_word c) (list_all is_word cs) h.1).1 (low (length cs) (omega (arith, le)))) where
+      both : (a b : Bool) → a ≡ true → b ≡ true → a && b ≡ true
+      both a b e f = rw (e, f) refl
 
-  low : (n : ℕ) → n ≤ 63 → nat_le n 63 ≡ true
-  low n le = grind (arith, nat_tests)
+      low : (n : ℕ) → n ≤ 63 → nat_le n 63 ≡ true
+      low n le = grind (arith, nat_tests)
 
 word-own : (w : List ℕ) → IsWord w → is_plain StreamIt w ≡ true → is_own w ≡ true
 word-own w h plain = ap (λ (b : Bool). b && is_name w) plain ∙ word-named w h (plain-short w plain)

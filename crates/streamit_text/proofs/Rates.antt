@@ -1,5 +1,6 @@
 -- The steps by which code reads rates.
-use Rattle.std.proofs.Common.{◌≡◌, ℕ, zero, suc, ◌<◌, ◌+◌, List, [], ◌∷◌, ◌++◌, length, Bool, true, false, cond, Option, Some, None, refl, sym, ap, ◌∙◌, arith, length-append, append_assoc}
+use Rattle.std.proofs.Common.{◌≡◌, ℕ, zero, suc, ◌<◌, ◌+◌, List, [], ◌∷◌, ◌++◌, length, Bool, true, false, cond, Option, Some, None, refl, sym, ap, ◌∙◌, arith}
+use Rattle.std.proofs.Common.{length-append, append_assoc}
 use Rattle.work_code.specs.Tok.{Tok}
 use Rattle.text_forms.specs.Parse as parse
 use Rattle.text_forms.specs.Repeat.{Stop, after_turn, turns, repeated}
@@ -19,15 +20,18 @@ behind done None = None
 behind done (Some read) = Some (done ++ read.0, read.1)
 
 module _ {A : Type 0} (stop : List Tok → Bool) (p : parse.Parse A) where
-  turns-behind : (n : ℕ) (done more : List A) (ts : List Tok) → turns (parse.many_turn stop p) n (done ++ more) ts ≡ behind done (turns (parse.many_turn stop p) n more ts)
+  turns-behind : (n : ℕ) (done more : List A) (ts : List Tok)
+      → turns (parse.many_turn stop p) n (done ++ more) ts ≡ behind done (turns (parse.many_turn stop p) n more ts)
   unfolding turns
   turns-behind zero done more ts = refl
-  turns-behind (suc n) done more ts = by (λ v us. ap (λ (l : List A). turns (parse.many_turn stop p) n l us) (append_assoc done more (v ∷ [])) ∙ turns-behind n done (more ++ v ∷ []) us) (stop ts) (p ts) where
-    by : ((v : A) (us : List Tok) → turns (parse.many_turn stop p) n ((done ++ more) ++ v ∷ []) us ≡ behind done (turns (parse.many_turn stop p) n (more ++ v ∷ []) us)) → (b : Bool) (r : Option (A × List Tok))
-        → after_turn (turns (parse.many_turn stop p) n) (done ++ more) ts (cond b Stop (parse.item_turn (done ++ more) r)) ≡ behind done (after_turn (turns (parse.many_turn stop p) n) more ts (cond b Stop (parse.item_turn more r)))
-    by next true r = refl
-    by next false None = refl
-    by next false (Some read) = next read.0 read.1
+  turns-behind (suc n) done more ts =
+      by (λ v us. ap (λ (l : List A). turns (parse.many_turn stop p) n l us) (append_assoc done more (v ∷ [])) ∙ turns-behind n done (more ++ v ∷ []) us) (stop ts) (p ts) where
+        by : ((v : A) (us : List Tok) → turns (parse.many_turn stop p) n ((done ++ more) ++ v ∷ []) us ≡ behind done (turns (parse.many_turn stop p) n (more ++ v ∷ []) us))
+            → (b : Bool) (r : Option (A × List Tok))
+            → after_turn (turns (parse.many_turn stop p) n) (done ++ more) ts (cond b Stop (parse.item_turn (done ++ more) r)) ≡ behind done (after_turn (turns (parse.many_turn stop p) n) more ts (cond b Stop (parse.item_turn more r)))
+        by next true r = refl
+        by next false None = refl
+        by next false (Some read) = next read.0 read.1
 
   repeated-behind : (done : List A) (ts : List Tok) → repeated (parse.many_turn stop p) (done ++ []) ts ≡ behind done (repeated (parse.many_turn stop p) [] ts)
   unfolding repeated
@@ -50,17 +54,21 @@ rates-start ts = refl
 
 pub rates-stop : (r : Rates) (ts : List Tok) → at_block ts ≡ true → rates_from r ts ≡ Some (r, ts)
 unfolding rate_list_at
-rates-stop r ts e = ap (λ (o : Option (List Rate × List Tok)). parse.then_read o (λ a us. parse.given (rates_in r a) us)) (repeated-stop (parse.many_turn at_block rate_at) [] ts (rw e refl))
+rates-stop r ts e =
+    ap (λ (o : Option (List Rate × List Tok)). parse.then_read o (λ a us. parse.given (rates_in r a) us)) (repeated-stop (parse.many_turn at_block rate_at) [] ts (rw e refl))
 
 pub rates-bad : (r : Rates) (ts : List Tok) → at_block ts ≡ false → rate_at ts ≡ None → rates_from r ts ≡ None
 unfolding rate_list_at
-rates-bad r ts e bad = ap (λ (o : Option (List Rate × List Tok)). parse.then_read o (λ a us. parse.given (rates_in r a) us)) (repeated-fail (parse.many_turn at_block rate_at) [] ts (rw (e, bad) refl))
+rates-bad r ts e bad =
+    ap (λ (o : Option (List Rate × List Tok)). parse.then_read o (λ a us. parse.given (rates_in r a) us)) (repeated-fail (parse.many_turn at_block rate_at) [] ts (rw (e, bad) refl))
 
 -- one rate more
-pub rates-next : (r q : Rates) (ts us : List Tok) (v : Rate) → at_block ts ≡ false → rate_at ts ≡ Some (v, us) → with_rate r v ≡ Some q → rates_from q us ≡ rates_from r ts
+pub rates-next : (r q : Rates) (ts us : List Tok) (v : Rate) → at_block ts ≡ false → rate_at ts ≡ Some (v, us) → with_rate r v ≡ Some q
+    → rates_from q us ≡ rates_from r ts
 rates-next r q ts us v e read more =
     sym (ap (λ (o : Option (List Rate × List Tok)). parse.then_read o (λ a ws. parse.given (rates_in r a) ws)) (listed-next ts us v e read) ∙ by (rate_list_at us)) where
-      by : (o : Option (List Rate × List Tok)) → parse.then_read (behind (v ∷ []) o) (λ a ws. parse.given (rates_in r a) ws) ≡ parse.then_read o (λ a ws. parse.given (rates_in q a) ws)
+      by : (o : Option (List Rate × List Tok))
+          → parse.then_read (behind (v ∷ []) o) (λ a ws. parse.given (rates_in r a) ws) ≡ parse.then_read o (λ a ws. parse.given (rates_in q a) ws)
       by None = refl
       by (Some all) = ap (λ (m : Option Rates). parse.given (on_some m (λ s. rates_in s all.0)) all.1) more
 

@@ -46,7 +46,8 @@ same_marks text ms ns e f = same (sym e ∙ f) where
   same : ◌≡◌ {A = Result (List Mark) LexFault} (Ok ms) (Ok ns) → ms ≡ ns
   same g = cc
 
-same_reading : (text : List ℕ) (ms ns : List Mark) → tokens_in text ≡ Ok ms → tokens_in text ≡ Ok ns → some_units (units_of (toks ms)) ≡ some_units (units_of (toks ns))
+same_reading : (text : List ℕ) (ms ns : List Mark) → tokens_in text ≡ Ok ms → tokens_in text ≡ Ok ns
+    → some_units (units_of (toks ms)) ≡ some_units (units_of (toks ns))
 same_reading text ms ns e f = ap (λ (l : List Mark). some_units (units_of (toks l))) (same_marks text ms ns e f)
 
 -- the law: a text stands for one program at most

@@ -7,14 +7,19 @@ use Rattle.work_code.specs.declared.sign.Symbol.TheVariants as s
 use Rattle.text_forms.specs.Parse as parse
 use Rattle.text_forms.specs.Parse.{Parse}
 use Rattle.text_forms.specs.Forms as form
-use Rattle.text_forms.proofs.Exact.{Exact, Any, exact-less, exact-both, exact-after, exact-before, exact-after_word, exact-tested, exact-seen, exact-maybe, exact-number}
+use Rattle.text_forms.proofs.Exact.{Exact, Any, exact-less, exact-both, exact-after, exact-before, exact-after_word, exact-tested, exact-seen, exact-maybe}
+use Rattle.text_forms.proofs.Exact.{exact-number}
 use Rattle.text_forms.proofs.Many.{Listed, exact-many}
 use Rattle.text_forms.proofs.Choices.{exact-never, exact-choose, exact-headed, exact-known, exact-enclosed, exact-listing}
 use Rattle.streamit_model.specs.Source.{Block, Optional}
 use Rattle.streamit_unroll.specs.View.{or_unwritten}
 use Rattle.streamit_model.specs.Program.{Turns, Body, AFilter, APipeline}
-use Rattle.streamit_text.specs.Grammar.{Count, Weight, Round, stay, IsBlock, IsInit, IsField, push, pop, peek, IsRate, Rates, rates_in, unwritten, AreRates, made_filter, InFilter, Braces, none_there, Parens, the_name, Called, IsAdd, made_adds, AreAdds, Weights, copying, IsSplit, IsJoin, made_both, InBoth, BodyAfter, made_unit, KindAfter, IsUnit, IsUnitAt}
-use Rattle.streamit_text.specs.Reading.{still_at, init_at, no_field, field_at, fields_at, rate_after, rate_at, at_block, rate_list_at, rates_at, in_filter_at, filter_at, parens_at, called_at, add_at, no_add, more_adds_at, adds_at, weight_at, listed_at, weights_at, split_after, split_at, join_at, in_both_at, pipe_at, both_at, body_after, kind_after, unit_at, unit_from}
+use Rattle.streamit_text.specs.Grammar.{Count, Weight, Round, stay, IsBlock, IsInit, IsField, push, pop, peek, IsRate, Rates, rates_in, unwritten, AreRates}
+use Rattle.streamit_text.specs.Grammar.{made_filter, InFilter, Braces, none_there, Parens, the_name, Called, IsAdd, made_adds, AreAdds, Weights, copying}
+use Rattle.streamit_text.specs.Grammar.{IsSplit, IsJoin, made_both, InBoth, BodyAfter, made_unit, KindAfter, IsUnit, IsUnitAt}
+use Rattle.streamit_text.specs.Reading.{still_at, init_at, no_field, field_at, fields_at, rate_after, rate_at, at_block, rate_list_at, rates_at, in_filter_at}
+use Rattle.streamit_text.specs.Reading.{filter_at, parens_at, called_at, add_at, no_add, more_adds_at, adds_at, weight_at, listed_at, weights_at, split_after}
+use Rattle.streamit_text.specs.Reading.{split_at, join_at, in_both_at, pipe_at, both_at, body_after, kind_after, unit_at, unit_from}
 use Rattle.streamit_text.proofs.Statements.{exact-plain, exact-round, exact-empty, exact-block}
 
 exact-still : (n : ℕ) → Exact (form.Tested stay (IsBlock 16 n)) (still_at n) Any
@@ -27,9 +32,11 @@ No word rest = parse.is_word_at word rest ≡ false
 
 exact-init : (n : ℕ) → Exact (IsInit n) (init_at n) (No (codes "init"))
 unfolding init_at
-exact-init n = exact-less (exact-seen or_unwritten (exact-maybe (parse.is_word_at (codes "init")) (exact-after_word (codes "init") (exact-still n)) comes)) (λ rest d. (tt, d)) where
-  comes : (v : Block) (ts rest : List Tok) → form.AfterWord (codes "init") (form.Tested stay (IsBlock 16 n)) v ts → parse.is_word_at (codes "init") (ts ++ rest) ≡ true
-  comes v ts rest h = rw h.is refl
+exact-init n =
+    exact-less (exact-seen or_unwritten (exact-maybe (parse.is_word_at (codes "init")) (exact-after_word (codes "init") (exact-still n)) comes)) (λ rest d. (tt, d)) where
+      comes : (v : Block) (ts rest : List Tok) → form.AfterWord (codes "init") (form.Tested stay (IsBlock 16 n)) v ts
+          → parse.is_word_at (codes "init") (ts ++ rest) ≡ true
+      comes v ts rest h = rw h.is refl
 
 pub exact-field : Exact IsField field_at Any
 unfolding field_at
@@ -73,7 +80,8 @@ block-begins zero v ts rest h = absurd h
 block-begins (suc n) v ts rest h = rw h.is refl
 
 -- behind the fields comes no field
-init-follows : (n : ℕ) (v : Optional × (Rates × Block)) (ts rest : List Tok) → form.Both (IsInit n) (form.AfterWord (codes "work") (form.Both AreRates (IsBlock 16 n))) v ts → no_field (ts ++ rest) ≡ true
+init-follows : (n : ℕ) (v : Optional × (Rates × Block)) (ts rest : List Tok)
+    → form.Both (IsInit n) (form.AfterWord (codes "work") (form.Both AreRates (IsBlock 16 n))) v ts → no_field (ts ++ rest) ≡ true
 init-follows n v ts rest h = by h.first.value h.first.formed where
   by : (o : Option Block) → form.Maybe (form.AfterWord (codes "init") (form.Tested stay (IsBlock 16 n))) o h.front → no_field (ts ++ rest) ≡ true
   by None g = rw (h.is, g, h.second.is) refl
@@ -100,7 +108,8 @@ round-begins F (suc n) v ts rest h = rw h.is refl
 
 exact-parens : (n : ℕ) → Exact (Parens n) (parens_at n) NoOpen
 unfolding parens_at
-exact-parens n = exact-less (exact-seen none_there (exact-maybe (parse.begins_with s.Open) (exact-empty n) (λ v ts rest h. round-begins (λ m. form.Nothing tt) n v ts rest h))) (λ rest d. (tt, d))
+exact-parens n =
+    exact-less (exact-seen none_there (exact-maybe (parse.begins_with s.Open) (exact-empty n) (λ v ts rest h. round-begins (λ m. form.Nothing tt) n v ts rest h))) (λ rest d. (tt, d))
 
 exact-called : (n : ℕ) → Exact (Called n) (called_at n) NoOpen
 unfolding called_at
@@ -119,7 +128,8 @@ listed-adds n = record {
 
 exact-adds : (n : ℕ) → Exact (AreAdds n) (adds_at n) (λ rest. no_add rest ≡ true)
 unfolding adds_at more_adds_at
-exact-adds n = exact-seen made_adds (exact-both (exact-add n) (exact-less (exact-many no_add (exact-add n) (listed-adds n)) (λ rest d. (tt, d))) (λ y ts rest g d. tt))
+exact-adds n =
+    exact-seen made_adds (exact-both (exact-add n) (exact-less (exact-many no_add (exact-add n) (listed-adds n)) (λ rest d. (tt, d))) (λ y ts rest g d. tt))
 
 pub exact-weight : Exact Weight weight_at Any
 unfolding weight_at
@@ -134,7 +144,8 @@ exact-listed n = exact-round (λ m. exact-listing s.Close exact-weight (λ rest.
 
 exact-weights : (n : ℕ) → Exact (Weights n) (weights_at n) NoOpen
 unfolding weights_at
-exact-weights n = exact-less (exact-maybe (parse.begins_with s.Open) (exact-listed n) (λ v ts rest h. round-begins (λ m. form.Listing Weight) n v ts rest h)) (λ rest d. (tt, d))
+exact-weights n =
+    exact-less (exact-maybe (parse.begins_with s.Open) (exact-listed n) (λ v ts rest h. round-begins (λ m. form.Listing Weight) n v ts rest h)) (λ rest d. (tt, d))
 
 exact-split : (n : ℕ) → Exact (IsSplit n) (split_at n) Any
 unfolding split_at split_after
@@ -148,7 +159,8 @@ exact-join n = exact-after_word (codes "join") (exact-after_word (codes "roundro
 
 exact-in_both : (n : ℕ) → Exact (InBoth n) (in_both_at n) Any
 unfolding in_both_at
-exact-in_both n = exact-seen made_both (exact-both (exact-split n) (exact-both (exact-adds n) (exact-join n) (λ y ts rest g d. rw g.is refl)) (λ y ts rest g d. tt))
+exact-in_both n =
+    exact-seen made_both (exact-both (exact-split n) (exact-both (exact-adds n) (exact-join n) (λ y ts rest g d. rw g.is refl)) (λ y ts rest g d. tt))
 
 exact-pipe : (n : ℕ) → Exact (Braces AreAdds n) (pipe_at n) Any
 unfolding pipe_at
@@ -165,7 +177,8 @@ exact-body n w =
     (exact-choose (bytes_eq w (codes "pipeline")) (exact-seen APipeline (exact-pipe n))
     (exact-choose (bytes_eq w (codes "splitjoin")) (exact-both_at n) exact-never))
 
-braces-begin : {A : Type 0} (F : ℕ → A → List Tok → Type 0) (n : ℕ) (v : A) (ts rest : List Tok) → Braces F n v ts → parse.begins_with s.Open (ts ++ rest) ≡ false
+braces-begin : {A : Type 0} (F : ℕ → A → List Tok → Type 0) (n : ℕ) (v : A) (ts rest : List Tok) → Braces F n v ts
+    → parse.begins_with s.Open (ts ++ rest) ≡ false
 braces-begin F zero v ts rest h = absurd h
 braces-begin F (suc n) v ts rest h = rw h.is refl
 
@@ -176,11 +189,14 @@ body-begins n w v ts rest h = filters (bytes_eq w (codes "filter")) h where
   joins true g = braces-begin InBoth n v ts rest g
   joins false g = absurd g
 
-  lines : (b : Bool) → form.Choose b (form.Seen APipeline (Braces AreAdds n)) (form.Choose (bytes_eq w (codes "splitjoin")) (Braces InBoth n) form.Never) v ts → NoOpen (ts ++ rest)
+  lines : (b : Bool) → form.Choose b (form.Seen APipeline (Braces AreAdds n)) (form.Choose (bytes_eq w (codes "splitjoin")) (Braces InBoth n) form.Never) v ts
+      → NoOpen (ts ++ rest)
   lines true g = braces-begin AreAdds n g.value ts rest g.formed
   lines false g = joins (bytes_eq w (codes "splitjoin")) g
 
-  filters : (b : Bool) → form.Choose b (form.Seen AFilter (Braces InFilter n)) (form.Choose (bytes_eq w (codes "pipeline")) (form.Seen APipeline (Braces AreAdds n)) (form.Choose (bytes_eq w (codes "splitjoin")) (Braces InBoth n) form.Never)) v ts → NoOpen (ts ++ rest)
+  filters : (b : Bool)
+      → form.Choose b (form.Seen AFilter (Braces InFilter n)) (form.Choose (bytes_eq w (codes "pipeline")) (form.Seen APipeline (Braces AreAdds n)) (form.Choose (bytes_eq w (codes "splitjoin")) (Braces InBoth n) form.Never)) v ts
+      → NoOpen (ts ++ rest)
   filters true g = braces-begin InFilter n g.value ts rest g.formed
   filters false g = lines (bytes_eq w (codes "pipeline")) g
 

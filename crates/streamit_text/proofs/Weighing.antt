@@ -11,7 +11,8 @@ use Rattle.text_forms.proofs.Symbols.{begins_with-is}
 use Rattle.streamit_text.specs.Reading.{weight_at}
 use Rattle.streamit_text.proofs.Units.{exact-weight}
 
-pub weights-next : (done : List ℕ) (ts us : List Tok) (v : ℕ) → parse.begins_with s.Comma ts ≡ true → weight_at (tail ts) ≡ Some (v, us) → repeated (parse.comma_turn weight_at) (done ++ v ∷ []) us ≡ repeated (parse.comma_turn weight_at) done ts
+pub weights-next : (done : List ℕ) (ts us : List Tok) (v : ℕ) → parse.begins_with s.Comma ts ≡ true → weight_at (tail ts) ≡ Some (v, us)
+    → repeated (parse.comma_turn weight_at) (done ++ v ∷ []) us ≡ repeated (parse.comma_turn weight_at) done ts
 weights-next = comma-next exact-weight (λ rest. tt)
 
 pub weight-shorter : (ts us : List Tok) (v : ℕ) → weight_at ts ≡ Some (v, us) → length us ≤ length ts

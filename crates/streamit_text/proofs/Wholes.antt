@@ -1,5 +1,6 @@
 -- The steps by which code reads whole units, one behind the other.
-use Rattle.std.proofs.Common.{◌≡◌, ℕ, ◌<◌, ◌≤◌, ◌+◌, List, [], ◌∷◌, ◌++◌, length, drop, get_or, Some, None, Result, Ok, Err, refl, sym, ap, ◌∙◌, append_assoc, append-nil, arith}
+use Rattle.std.proofs.Common.{◌≡◌, ℕ, ◌<◌, ◌≤◌, ◌+◌, List, [], ◌∷◌, ◌++◌, length, drop, get_or, Some, None, Result, Ok, Err, refl, sym, ap, ◌∙◌, append_assoc}
+use Rattle.std.proofs.Common.{append-nil, arith}
 use Rattle.std.specs.Prelude.{map}
 use Rattle.std.specs.Borrow.{Bor}
 use Rattle.std.proofs.lemmas.List.{drop_more, drop_all}
@@ -42,20 +43,25 @@ at : (n : ℕ) (parts : List (Bor (List Lexeme))) (i : ℕ) (e : Bor (List Lexem
 at n parts i e h = ap (λ (l : List (Bor (List Lexeme))). units_from n (map unit_tokens l)) (drop_more parts i e h)
 
 -- one unit more
-pub units-next : (done : Program) (n : ℕ) (parts : List (Bor (List Lexeme))) (i : ℕ) (e : Bor (List Lexeme)) (d : Declared) → i < length parts → whole unit_at (unit_tokens (get_or parts i e)) ≡ Some d
+pub units-next : (done : Program) (n : ℕ) (parts : List (Bor (List Lexeme))) (i : ℕ) (e : Bor (List Lexeme)) (d : Declared) → i < length parts
+    → whole unit_at (unit_tokens (get_or parts i e)) ≡ Some d
     → behind (done ++ d ∷ []) (units_from (n + 1) (map unit_tokens (drop (i + 1) parts))) ≡ behind done (units_from n (map unit_tokens (drop i parts)))
 units-next done n parts i e d h read =
     behind-first done d (units_from (n + 1) (map unit_tokens (drop (i + 1) parts)))
     ∙ sym (ap (behind done) (at n parts i e h ∙ ap (after_unit n (λ f. units_from (n + 1) (map unit_tokens (drop (i + 1) parts)))) read))
 
 -- a unit that is none is told by its number
-pub units-bad : (done : Program) (n : ℕ) (parts : List (Bor (List Lexeme))) (i : ℕ) (e : Bor (List Lexeme)) → i < length parts → whole unit_at (unit_tokens (get_or parts i e)) ≡ None
+pub units-bad : (done : Program) (n : ℕ) (parts : List (Bor (List Lexeme))) (i : ℕ) (e : Bor (List Lexeme)) → i < length parts
+    → whole unit_at (unit_tokens (get_or parts i e)) ≡ None
     → behind done (units_from n (map unit_tokens (drop i parts))) ≡ Err n
-units-bad done n parts i e h read = ap (behind done) (at n parts i e h ∙ ap (after_unit n (λ f. units_from (n + 1) (map unit_tokens (drop (i + 1) parts)))) read)
+units-bad done n parts i e h read =
+    ap (behind done) (at n parts i e h ∙ ap (after_unit n (λ f. units_from (n + 1) (map unit_tokens (drop (i + 1) parts)))) read)
 
 -- behind the last unit all are read
-pub units-end : (done : Program) (n : ℕ) (parts : List (Bor (List Lexeme))) (i : ℕ) → length parts ≤ i → behind done (units_from n (map unit_tokens (drop i parts))) ≡ Ok done
-units-end done n parts i h = ap (λ (l : List (Bor (List Lexeme))). behind done (units_from n (map unit_tokens l))) (drop_all i parts h) ∙ ap Ok (append-nil done)
+pub units-end : (done : Program) (n : ℕ) (parts : List (Bor (List Lexeme))) (i : ℕ) → length parts ≤ i
+    → behind done (units_from n (map unit_tokens (drop i parts))) ≡ Ok done
+units-end done n parts i h =
+    ap (λ (l : List (Bor (List Lexeme))). behind done (units_from n (map unit_tokens l))) (drop_all i parts h) ∙ ap Ok (append-nil done)
 
 -- where there is a unit
 pub units-some : (parts : List (Bor (List Lexeme))) → 0 < length parts → some_units (map unit_tokens parts) ≡ units_from 1 (map unit_tokens parts)

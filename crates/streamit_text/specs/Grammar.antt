@@ -14,7 +14,8 @@ use Rattle.text_forms.specs.Parse.{is_count, is_value}
 use Rattle.text_forms.specs.Texts.{AllFormed}
 use Rattle.text_forms.specs.Tree.{Spoken}
 use Rattle.text_forms.specs.Tree as tree
-use Rattle.text_forms.specs.Forms.{Name, Number, Nothing, Never, Both, After, Before, AfterWord, Tested, Seen, Known, Merged, Maybe, Each, Listing, Choose, Headed, Enclosed}
+use Rattle.text_forms.specs.Forms.{Name, Number, Nothing, Never, Both, After, Before, AfterWord, Tested, Seen, Known, Merged, Maybe, Each, Listing, Choose}
+use Rattle.text_forms.specs.Forms.{Headed, Enclosed}
 use Rattle.streamit_model.specs.Source.{Statement, Declare, Assign, Push, Pop, If, For, Block, End, Then, Optional, Unwritten, Written}
 use Rattle.streamit_model.specs.FilterSource.{FilterTree}
 use Rattle.streamit_model.specs.Program.{Dealing, Copies, Turns, Adds, Body, AFilter, APipeline, ASplitJoin, Declared, Program}

@@ -7,12 +7,14 @@ use Rattle.text_forms.specs.declared.language.Language.TheVariants.{StreamIt}
 use Rattle.text_forms.specs.Ladder.{expr_at}
 use Rattle.text_forms.specs.Texts.{read_units}
 use Rattle.text_forms.specs.Tree.{Spoken}
-use Rattle.text_forms.specs.Parse.{Parse, begins_with, is_word_at, is_value, name_at, count_at, number_at, nothing_at, both, after, before, after_word, tested, seen, known, merged, maybe, many, commas, listing, headed, enclosed}
+use Rattle.text_forms.specs.Parse.{Parse, begins_with, is_word_at, is_value, name_at, count_at, number_at, nothing_at, both, after, before, after_word, tested}
+use Rattle.text_forms.specs.Parse.{seen, known, merged, maybe, many, commas, listing, headed, enclosed}
 use Rattle.streamit_model.specs.Source.{Statement, Assign, Push, Block, Optional}
 use Rattle.streamit_model.specs.FilterSource.{FilterTree}
 use Rattle.streamit_model.specs.Program.{Dealing, Turns, Adds, Body, AFilter, APipeline, Declared}
 use Rattle.streamit_unroll.specs.View.{in_turn, or_unwritten}
-use Rattle.streamit_text.specs.Grammar.{is_own, is_fit, made_declare, popping, made_if, Head, made_head, made_for, stay, Rate, push, pop, peek, Rates, unwritten, rates_in, made_filter, none_there, the_name, made_adds, copying, made_both, made_unit, next_unit}
+use Rattle.streamit_text.specs.Grammar.{is_own, is_fit, made_declare, popping, made_if, Head, made_head, made_for, stay, Rate, push, pop, peek, Rates}
+use Rattle.streamit_text.specs.Grammar.{unwritten, rates_in, made_filter, none_there, the_name, made_adds, copying, made_both, made_unit, next_unit}
 
 -- a name that users may give
 unfoldable pub plain_at : Parse (List ℕ)

@@ -26,6 +26,7 @@ constant_pops sc (tree.Bin o l r) z h =
     let a = constant_pops sc l p.0 p.1 in let b = constant_pops sc r q.0 q.1 in omega (arith, a, b)
 
 -- so `peek` pops nothing
-pub peek_pops : {X F : Type 0} (r : Result X F) (k : ℕ) (sc : Scope) (whole t : Spoken) (z : ℤ) → whole ≡ tree.Peek t → constant sc t ≡ Ok z → OnOk r (k ≡ k + pops whole)
+pub peek_pops : {X F : Type 0} (r : Result X F) (k : ℕ) (sc : Scope) (whole t : Spoken) (z : ℤ) → whole ≡ tree.Peek t → constant sc t ≡ Ok z
+    → OnOk r (k ≡ k + pops whole)
 peek_pops (Ok x) k sc whole t z e h = let p = constant_pops sc t z h in let q = ap pops e in omega (arith, p, q)
 peek_pops (Err f) k sc whole t z e h = tt

@@ -16,5 +16,7 @@ pub scope-push : (es : List Entry) (e : Entry) → scope_of (es ++ e ∷ []) ≡
 scope-push es e = ap reverse (map-append entry_of es (e ∷ [])) ∙ reverse-append (map entry_of es) (entry_of e ∷ [])
 
 -- a name among the first ones
-pub find-take : (es : List Entry) (i : ℕ) (e : Entry) (n : Name) → i < length es → e ≡ get_or es i e → find (scope_of (take (i + 1) es)) n ≡ (if name_eq e.0 n then Some (entry_of e).1 else find (scope_of (take i es)) n)
-find-take es i e n lt g = ap (λ l. find (scope_of l) n) (take_more es i e lt ∙ ap (λ x. take i es ++ x ∷ []) (sym g)) ∙ ap (λ sc. find sc n) (scope-push (take i es) e)
+pub find-take : (es : List Entry) (i : ℕ) (e : Entry) (n : Name) → i < length es → e ≡ get_or es i e
+    → find (scope_of (take (i + 1) es)) n ≡ (if name_eq e.0 n then Some (entry_of e).1 else find (scope_of (take i es)) n)
+find-take es i e n lt g =
+    ap (λ l. find (scope_of l) n) (take_more es i e lt ∙ ap (λ x. take i es ++ x ∷ []) (sym g)) ∙ ap (λ sc. find sc n) (scope-push (take i es) e)

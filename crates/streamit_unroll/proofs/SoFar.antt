@@ -1,5 +1,6 @@
 -- Statements that were read so far, and those that are read after them.
-use Rattle.std.proofs.Common.{◌≡◌, ℕ, suc, ◌+◌, ◌-◌, ◌<◌, ◌≤◌, List, [], ◌∷◌, ◌++◌, length, take, drop, map, get_or, Bool, true, Result, Ok, Err, refl, sym, ap, ◌∙◌, subst, arith, append_assoc, append-nil, drop-cons, add-one}
+use Rattle.std.proofs.Common.{◌≡◌, ℕ, suc, ◌+◌, ◌-◌, ◌<◌, ◌≤◌, List, [], ◌∷◌, ◌++◌, length, take, drop, map, get_or, Bool, true, Result, Ok, Err, refl, sym, ap}
+use Rattle.std.proofs.Common.{◌∙◌, subst, arith, append_assoc, append-nil, drop-cons, add-one}
 use Rattle.work_code.specs.declared.code.Stmt.{Stmt}
 use Rattle.work_code.specs.declared.code.Stmts.{Stmts}
 use Rattle.work_code.specs.Steps.{Step, Steps, Done, step, statements, in_turn}
@@ -7,7 +8,8 @@ use Rattle.work_code.specs.Steps as steps
 use Rattle.streamit_model.specs.Source as source
 use Rattle.river_plan.specs.Forms.{Name}
 use Rattle.streamit_model.specs.Source.{numbers}
-use Rattle.streamit_model.specs.Elaborate.{Fault, At, Read, on_ok, joined, step_of, steps_of, unrolled, counted, is_new, find, constant, bound_of, term_of, one_step, after_arms, optional_of}
+use Rattle.streamit_model.specs.Elaborate.{Fault, At, Read, on_ok, joined, step_of, steps_of, unrolled, counted, is_new, find, constant, bound_of, term_of}
+use Rattle.streamit_model.specs.Elaborate.{one_step, after_arms, optional_of}
 use Rattle.streamit_model.specs.Source.{pops}
 use Rattle.text_forms.specs.Tree.{Spoken}
 use Rattle.work_code.specs.Term.{Term}
@@ -87,7 +89,8 @@ prefix_trans (x ∷ xs) (y ∷ ys) (z ∷ zs) p q =
     ap (λ w. w ∷ take (length xs) zs) (q0 ∙ p0) ∙ ap (λ l. x ∷ l) (prefix_trans xs ys zs p1 q1)
 
 -- the elements from a place on
-pub at_place : {X Y : Type 0} (f : X → Y) (items : List X) (i : ℕ) (s : X) → i < length items → s ≡ get_or items i s → map f (drop i items) ≡ f s ∷ map f (drop (i + 1) items)
+pub at_place : {X Y : Type 0} (f : X → Y) (items : List X) (i : ℕ) (s : X) → i < length items → s ≡ get_or items i s
+    → map f (drop i items) ≡ f s ∷ map f (drop (i + 1) items)
 at_place f items i s lt e = ap (map f) (drop-cons items i s lt ∙ ap (λ x. x ∷ drop (suc i) items) (sym e) ∙ ap (λ k. s ∷ drop k items) (sym (add-one i)))
 
 -- behind the last place there is none
@@ -106,14 +109,16 @@ tells_more faults.Limit r r' h e = h spec.Limit e
 tells_more faults.Weights r r' h e = h spec.Weights e
 tells_more faults.NoMemory r r' h e = tt
 
-steps_ok : (e : ℕ) (c : source.Statement) (rest : source.Block) (s : At) (a : Steps) (s' : At) → step_of e c s ≡ Ok (a, s') → steps_of e (source.Then c rest) s ≡ behind a (steps_of e rest s')
+steps_ok : (e : ℕ) (c : source.Statement) (rest : source.Block) (s : At) (a : Steps) (s' : At) → step_of e c s ≡ Ok (a, s')
+    → steps_of e (source.Then c rest) s ≡ behind a (steps_of e rest s')
 steps_ok e c rest s a s' h = ap (λ r. on_ok r (λ p. on_ok (steps_of e rest p.1) (λ q. Ok (joined p.0 q.0, q.1)))) h
 
 steps_err : (e : ℕ) (c : source.Statement) (rest : source.Block) (s : At) (g : Fault) → step_of e c s ≡ Err g → steps_of e (source.Then c rest) s ≡ Err g
 steps_err e c rest s g h = ap (λ r. on_ok r (λ p. on_ok (steps_of e rest p.1) (λ q. Ok (joined p.0 q.0, q.1)))) h
 
 -- one statement more
-pub block_next : (e : ℕ) (all : List source.Statement) (c : source.Statement) (rest : List source.Statement) (first now next : Unroller) (out out' out'' : Stmts) → BlockSoFar e all (c ∷ rest) first now out out' → Reads (Ok tt) out' out'' now next (step_of e c (at_of now)) → BlockSoFar e all rest first next out out''
+pub block_next : (e : ℕ) (all : List source.Statement) (c : source.Statement) (rest : List source.Statement) (first now next : Unroller) (out out' out'' : Stmts)
+    → BlockSoFar e all (c ∷ rest) first now out out' → Reads (Ok tt) out' out'' now next (step_of e c (at_of now)) → BlockSoFar e all rest first next out out''
 block_next e all c rest first now next out out' out'' f r = record {
   added = f.added ++ r.0;
   grew = r.1 ∙ ap (λ l. l ++ r.0) f.grew ∙ append_assoc (statements out) f.added r.0;
@@ -127,13 +132,16 @@ block_next e all c rest first now next out out' out'' f r = record {
 }
 
 -- a statement that is refused
-pub block_err : (e : ℕ) (all : List source.Statement) (c : source.Statement) (rest : List source.Statement) (first now next x y : Unroller) (out out' out'' o n : Stmts) (result : Result (Unit {0}) fault.Fault) (f : fault.Fault) → result ≡ Err f → BlockSoFar e all (c ∷ rest) first now out out' → Reads (Err f) out' out'' now next (step_of e c (at_of now)) → Reads result o n x y (steps_of e (view.in_turn all) (at_of first))
+pub block_err : (e : ℕ) (all : List source.Statement) (c : source.Statement) (rest : List source.Statement) (first now next x y : Unroller) (out out' out'' o n : Stmts) (result : Result (Unit {0}) fault.Fault) (f : fault.Fault)
+    → result ≡ Err f → BlockSoFar e all (c ∷ rest) first now out out' → Reads (Err f) out' out'' now next (step_of e c (at_of now))
+    → Reads result o n x y (steps_of e (view.in_turn all) (at_of first))
 block_err e all c rest first now next x y out out' out'' o n result f is s r =
     subst (λ t. Reads t o n x y (steps_of e (view.in_turn all) (at_of first))) (sym is)
     (tells_more f (step_of e c (at_of now)) (steps_of e (view.in_turn all) (at_of first)) (λ g h. s.all_is ∙ ap (behind (in_turn (map step s.added))) (steps_err e c (view.in_turn rest) (at_of now) g h)) r)
 
 -- all statements
-pub block_end : (e : ℕ) (all : List source.Statement) (first now : Unroller) (out out' : Stmts) → BlockSoFar e all [] first now out out' → Reads (Ok tt) out out' first now (steps_of e (view.in_turn all) (at_of first))
+pub block_end : (e : ℕ) (all : List source.Statement) (first now : Unroller) (out out' : Stmts) → BlockSoFar e all [] first now out out'
+    → Reads (Ok tt) out out' first now (steps_of e (view.in_turn all) (at_of first))
 block_end e all first now out out' f = (f.added, f.grew, f.all_is ∙ behind_done (in_turn (map step f.added)) (at_of now), f.keeps)
 
 -- TURNS
@@ -142,7 +150,8 @@ on_ok-assoc : {A B C : Type 0} (r : Result A Fault) (f : A → Result B Fault) (
 on_ok-assoc (Ok x) f g = refl
 on_ok-assoc (Err e) f g = refl
 
-unrolled-turn : (block : At → Read) (n : Name) (v : ℕ) (vs : List ℕ) (s : At) → unrolled block n (v ∷ vs) s ≡ on_ok (turn_of block n v s) (λ p. behind p.0 (unrolled block n vs p.1))
+unrolled-turn : (block : At → Read) (n : Name) (v : ℕ) (vs : List ℕ) (s : At)
+    → unrolled block n (v ∷ vs) s ≡ on_ok (turn_of block n v s) (λ p. behind p.0 (unrolled block n vs p.1))
 unrolled-turn block n v vs s =
     let g = λ (p : Steps × At). behind p.0 (unrolled block n vs p.1) in
     let k = λ (a : Steps × At). good (a.0, record a.1 { scope = s.scope }) in
@@ -150,21 +159,27 @@ unrolled-turn block n v vs s =
     ap (on_ok (counted s)) (λ i t. sym (on_ok-assoc (block (record t { scope = (n, spec.Turn v) ∷ s.scope })) k g) i)
     ∙ sym (on_ok-assoc (counted s) f g)
 
-turns_ok : (block : At → Read) (n : Name) (v : ℕ) (vs : List ℕ) (s : At) (a : Steps) (s' : At) → turn_of block n v s ≡ Ok (a, s') → unrolled block n (v ∷ vs) s ≡ behind a (unrolled block n vs s')
+turns_ok : (block : At → Read) (n : Name) (v : ℕ) (vs : List ℕ) (s : At) (a : Steps) (s' : At) → turn_of block n v s ≡ Ok (a, s')
+    → unrolled block n (v ∷ vs) s ≡ behind a (unrolled block n vs s')
 turns_ok block n v vs s a s' h = unrolled-turn block n v vs s ∙ ap (λ r. on_ok r (λ p. behind p.0 (unrolled block n vs p.1))) h
 
 turns_err : (block : At → Read) (n : Name) (v : ℕ) (vs : List ℕ) (s : At) (g : Fault) → turn_of block n v s ≡ Err g → unrolled block n (v ∷ vs) s ≡ Err g
 turns_err block n v vs s g h = unrolled-turn block n v vs s ∙ ap (λ r. on_ok r (λ p. behind p.0 (unrolled block n vs p.1))) h
 
 numbers_more : (v end : ℕ) → v < end → numbers v (end - v) ≡ v ∷ numbers (v + 1) (end - (v + 1))
-numbers_more v end lt = ap (numbers v) (let e : end - v ≡ suc (end - (v + 1)) = omega (arith, lt) in e) ∙ ap (λ k. v ∷ numbers k (end - (v + 1))) (let e : suc v ≡ v + 1 = omega arith in e)
+numbers_more v end lt =
+    ap (numbers v) (let e : end - v ≡ suc (end - (v + 1)) = omega (arith, lt) in e)
+    ∙ ap (λ k. v ∷ numbers k (end - (v + 1))) (let e : suc v ≡ v + 1 = omega arith in e)
 
 -- before the first turn
 pub turns_start : (e : ℕ) (b : source.Block) (n : Name) (low end : ℕ) (first : Unroller) (out : Stmts) → TurnsSoFar e b n low low end first first out out
-turns_start e b n low end first out = record { added = []; grew = sym (append-nil (statements out)); all_is = sym (behind_none (unrolled (steps_of e b) n (numbers low (end - low)) (at_of first))); names = refl }
+turns_start e b n low end first out =
+    record { added = []; grew = sym (append-nil (statements out)); all_is = sym (behind_none (unrolled (steps_of e b) n (numbers low (end - low)) (at_of first))); names = refl }
 
 -- one turn more
-pub turns_next : (e : ℕ) (b : source.Block) (n : Name) (low v end : ℕ) (first now next : Unroller) (out out' out'' : Stmts) → v < end → TurnsSoFar e b n low v end first now out out' → ReadsTurn (Ok tt) out' out'' now next (turn_of (steps_of e b) n v (at_of now)) → TurnsSoFar e b n low (v + 1) end first next out out''
+pub turns_next : (e : ℕ) (b : source.Block) (n : Name) (low v end : ℕ) (first now next : Unroller) (out out' out'' : Stmts) → v < end
+    → TurnsSoFar e b n low v end first now out out' → ReadsTurn (Ok tt) out' out'' now next (turn_of (steps_of e b) n v (at_of now))
+    → TurnsSoFar e b n low (v + 1) end first next out out''
 turns_next e b n low v end first now next out out' out'' lt f r = record {
   added = f.added ++ r.0;
   grew = r.1 ∙ ap (λ l. l ++ r.0) f.grew ∙ append_assoc (statements out) f.added r.0;
@@ -179,7 +194,9 @@ turns_next e b n low v end first now next out out' out'' lt f r = record {
 }
 
 -- a turn that is refused
-pub turns_fault : (e : ℕ) (b : source.Block) (n : Name) (low v end : ℕ) (first now next x y : Unroller) (out out' out'' o k : Stmts) (whole : Read) (result : Result (Unit {0}) fault.Fault) (f : fault.Fault) → result ≡ Err f → v < end → whole ≡ unrolled (steps_of e b) n (numbers low (end - low)) (at_of first) → TurnsSoFar e b n low v end first now out out' → ReadsTurn (Err f) out' out'' now next (turn_of (steps_of e b) n v (at_of now)) → Reads result o k x y whole
+pub turns_fault : (e : ℕ) (b : source.Block) (n : Name) (low v end : ℕ) (first now next x y : Unroller) (out out' out'' o k : Stmts) (whole : Read) (result : Result (Unit {0}) fault.Fault) (f : fault.Fault)
+    → result ≡ Err f → v < end → whole ≡ unrolled (steps_of e b) n (numbers low (end - low)) (at_of first) → TurnsSoFar e b n low v end first now out out'
+    → ReadsTurn (Err f) out' out'' now next (turn_of (steps_of e b) n v (at_of now)) → Reads result o k x y whole
 turns_fault e b n low v end first now next x y out out' out'' o k whole result f is lt w s r =
     subst (λ t. Reads t o k x y whole) (sym is)
     (tells_more f (turn_of (steps_of e b) n v (at_of now)) whole
@@ -187,7 +204,9 @@ turns_fault e b n low v end first now next x y out out' out'' o k whole result f
     r)
 
 -- all turns
-pub turns_end : (e : ℕ) (b : source.Block) (n : Name) (low v end : ℕ) (first now : Unroller) (out out' : Stmts) (whole : Read) → end ≤ v → whole ≡ unrolled (steps_of e b) n (numbers low (end - low)) (at_of first) → TurnsSoFar e b n low v end first now out out' → Reads (Ok tt) out out' first now whole
+pub turns_end : (e : ℕ) (b : source.Block) (n : Name) (low v end : ℕ) (first now : Unroller) (out out' : Stmts) (whole : Read) → end ≤ v
+    → whole ≡ unrolled (steps_of e b) n (numbers low (end - low)) (at_of first) → TurnsSoFar e b n low v end first now out out'
+    → Reads (Ok tt) out out' first now whole
 turns_end e b n low v end first now out out' whole le w f = (
   f.added,
   f.grew,
@@ -221,7 +240,10 @@ for_fault e n lo hi upto b s f h =
     (λ g r. for_is e n lo hi upto b s ∙ ap (λ q. on_ok q (λ p. unrolled (steps_of e b) n (numbers p.0 (p.1 - p.0)) s)) r) h
 
 -- an `if` whose parts are there
-pub if_is : (e : ℕ) (t : Spoken) (a : source.Block) (b : source.Optional) (s s1 : At) (cond : Term) (f g : Steps) (la lb : At) → counted s ≡ Ok s1 → term_of e s1.scope t s1.popped ≡ Ok cond → steps_of e a (record s1 { popped = s1.popped + pops t }) ≡ Ok (f, la) → optional_of e b (record s1 { popped = s1.popped + pops t; slots = la.slots; size = la.size }) ≡ Ok (g, lb) → la.popped ≡ lb.popped → la.pushed ≡ lb.pushed → step_of e (source.If t a b) s ≡ Ok (one_step (steps.If cond f g), record lb { scope = s1.scope })
+pub if_is : (e : ℕ) (t : Spoken) (a : source.Block) (b : source.Optional) (s s1 : At) (cond : Term) (f g : Steps) (la lb : At) → counted s ≡ Ok s1
+    → term_of e s1.scope t s1.popped ≡ Ok cond → steps_of e a (record s1 { popped = s1.popped + pops t }) ≡ Ok (f, la)
+    → optional_of e b (record s1 { popped = s1.popped + pops t; slots = la.slots; size = la.size }) ≡ Ok (g, lb) → la.popped ≡ lb.popped → la.pushed ≡ lb.pushed
+    → step_of e (source.If t a b) s ≡ Ok (one_step (steps.If cond f g), record lb { scope = s1.scope })
 if_is e t a b s s1 cond f g la lb hc ht ha hb p q =
     let f3 = λ (c : Term) (p : Steps × At). on_ok (optional_of e b (record s1 { popped = s1.popped + pops t; slots = p.1.slots; size = p.1.size })) (after_arms s1 c p) in
     let f2 = λ (c : Term). on_ok (steps_of e a (record s1 { popped = s1.popped + pops t })) (f3 c) in
@@ -245,7 +267,9 @@ take_front [] ys = refl
 take_front (x ∷ xs) ys = ap (λ l. x ∷ l) (take_front xs ys)
 
 -- one turn: the variable is the newest name, and is forgotten afterwards
-pub turn_is : (e : ℕ) (b : source.Block) (name : Name) (v : ℕ) (s0 s1 s3 : At) (i0 i1 i2 i3 i4 : List Entry) (a : Steps) → s0.scope ≡ scope_of i0 → counted s0 ≡ Ok s1 → i1 ≡ i0 → i2 ≡ i1 ++ (name, known.Turn v) ∷ [] → steps_of e b (record s1 { scope = scope_of i2 }) ≡ Ok (a, s3) → take (length i2) i3 ≡ i2 → i4 ≡ take (length i1) i3 → (turn_of (steps_of e b) name v s0 ≡ Ok (a, record s3 { scope = scope_of i4 })) × (i4 ≡ i0)
+pub turn_is : (e : ℕ) (b : source.Block) (name : Name) (v : ℕ) (s0 s1 s3 : At) (i0 i1 i2 i3 i4 : List Entry) (a : Steps) → s0.scope ≡ scope_of i0
+    → counted s0 ≡ Ok s1 → i1 ≡ i0 → i2 ≡ i1 ++ (name, known.Turn v) ∷ [] → steps_of e b (record s1 { scope = scope_of i2 }) ≡ Ok (a, s3)
+    → take (length i2) i3 ≡ i2 → i4 ≡ take (length i1) i3 → (turn_of (steps_of e b) name v s0 ≡ Ok (a, record s3 { scope = scope_of i4 })) × (i4 ≡ i0)
 turn_is e b name v s0 s1 s3 i0 i1 i2 i3 i4 a sc hc e1 e2 hb kept e4 =
     let k = λ (p : Steps × At). good (p.0, record p.1 { scope = s0.scope }) in
     let front : take (length i1) i2 ≡ i1 = ap (take (length i1)) e2 ∙ take_front i1 ((name, known.Turn v) ∷ []) in
@@ -259,7 +283,10 @@ turn_is e b name v s0 s1 s3 i0 i1 i2 i3 i4 a sc hc e1 e2 hb kept e4 =
     )
 
 -- an `if` whose arms were read one after the other
-pub if_read : (e : ℕ) (t : Spoken) (a : source.Block) (b : source.Optional) (s s1 m1 m2 la lb : At) (cond : Term) (k : ℕ) (f g : Steps) → counted s ≡ Ok s1 → term_of e s1.scope t s1.popped ≡ Ok cond → k ≡ s1.popped + pops t → steps_of e a (record s1 { popped = k }) ≡ Ok (f, la) → m1 ≡ record la { scope = s1.scope } → optional_of e b (record m1 { popped = k; pushed = s1.pushed }) ≡ Ok (g, lb) → m2 ≡ record lb { scope = m1.scope } → m1.popped ≡ m2.popped → m1.pushed ≡ m2.pushed → step_of e (source.If t a b) s ≡ Ok (one_step (steps.If cond f g), m2)
+pub if_read : (e : ℕ) (t : Spoken) (a : source.Block) (b : source.Optional) (s s1 m1 m2 la lb : At) (cond : Term) (k : ℕ) (f g : Steps) → counted s ≡ Ok s1
+    → term_of e s1.scope t s1.popped ≡ Ok cond → k ≡ s1.popped + pops t → steps_of e a (record s1 { popped = k }) ≡ Ok (f, la)
+    → m1 ≡ record la { scope = s1.scope } → optional_of e b (record m1 { popped = k; pushed = s1.pushed }) ≡ Ok (g, lb) → m2 ≡ record lb { scope = m1.scope }
+    → m1.popped ≡ m2.popped → m1.pushed ≡ m2.pushed → step_of e (source.If t a b) s ≡ Ok (one_step (steps.If cond f g), m2)
 if_read e t a b s s1 m1 m2 la lb cond k f g hc ht hk ha em1 hb em2 p q =
     let ha' = ap (λ j. steps_of e a (record s1 { popped = j })) (sym hk) ∙ ha in
     let at : record m1 { popped = k; pushed = s1.pushed } ≡ record s1 { popped = s1.popped + pops t; slots = la.slots; size = la.size } =

@@ -44,7 +44,8 @@ pub statement-pop : statement made.Pop ≡ source.Pop
 statement-pop = ap statement (sym rolls-Pop) ∙ fold-roll-Statement source.Statement source.Block statement_at block_at part.Pop
 
 -- of an `if`
-pub statement-if : (cond : Expression) (one : Block) (two : Option Block) → statement (made.If cond one two) ≡ source.If (expression cond) (block one) (optional two)
+pub statement-if : (cond : Expression) (one : Block) (two : Option Block)
+    → statement (made.If cond one two) ≡ source.If (expression cond) (block one) (optional two)
 statement-if cond one None =
     ap statement (sym (rolls-If cond one None)) ∙ fold-roll-Statement source.Statement source.Block statement_at block_at (part.If cond one None)
 statement-if cond one (Some two) =

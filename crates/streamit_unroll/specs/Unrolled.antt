@@ -23,12 +23,15 @@ KeepsNames old new = take (length old.names.items.items) new.names.items.items �
 
 -- statements were appended, which are those that are read, or the fault is the first
 abbrev pub Reads : Result (Unit {0}) Fault → Stmts → Stmts → Unroller → Unroller → Read → Type 0
-Reads (Ok u) old new at at' r = (added : List Stmt) × (statements new ≡ statements old ++ added) × (r ≡ Ok (in_turn (map step added), at_of at')) × KeepsNames at at'
+Reads (Ok u) old new at at' r =
+    (added : List Stmt) × (statements new ≡ statements old ++ added) × (r ≡ Ok (in_turn (map step added), at_of at')) × KeepsNames at at'
 Reads (Err f) old new at at' r = Tells f r
 
 -- an arm was read, and the names are those from before
 abbrev pub ReadsArm : Result Stmts Fault → Unroller → Unroller → Read → Type 0
-ReadsArm (Ok body) at at' r = (last : At) × (r ≡ Ok (in_turn (map step (statements body)), last)) × (at_of at' ≡ record last { scope = scope_of at.names.items.items }) × (at'.names.items.items ≡ at.names.items.items)
+ReadsArm (Ok body) at at' r =
+    (last : At) × (r ≡ Ok (in_turn (map step (statements body)), last)) × (at_of at' ≡ record last { scope = scope_of at.names.items.items })
+    × (at'.names.items.items ≡ at.names.items.items)
 ReadsArm (Err f) at at' r = Tells f r
 
 -- the turns of a loop: the first value of its variable, and the one behind the last
@@ -46,7 +49,9 @@ abbrev pub turn_of : (At → Read) → Name → ℕ → At → Read
 turn_of block n v s = on_ok (counted s) (λ t. on_ok (block (record t { scope = (n, spec.Turn v) ∷ s.scope })) (λ a. Ok (a.0, record a.1 { scope = s.scope })))
 
 abbrev pub ReadsTurn : Result (Unit {0}) Fault → Stmts → Stmts → Unroller → Unroller → Read → Type 0
-ReadsTurn (Ok u) old new at at' r = (added : List Stmt) × (statements new ≡ statements old ++ added) × (r ≡ Ok (in_turn (map step added), at_of at')) × (at'.names.items.items ≡ at.names.items.items)
+ReadsTurn (Ok u) old new at at' r =
+    (added : List Stmt) × (statements new ≡ statements old ++ added) × (r ≡ Ok (in_turn (map step added), at_of at'))
+    × (at'.names.items.items ≡ at.names.items.items)
 ReadsTurn (Err f) old new at at' r = Tells f r
 
 -- the numbers of a block are values

@@ -18,12 +18,14 @@ pub exact-never : {A : Type 0} {E : List Tok → Type 0} → Exact (form.Never {
 exact-never = record { sound = λ ts v rest e. cc; complete = λ v s rest h d. absurd h }
 
 -- one or the other, by a test
-pub exact-choose : {A : Type 0} {F G : A → List Tok → Type 0} {p q : parse.Parse A} {E : List Tok → Type 0} (b : Bool) → Exact F p E → Exact G q E → Exact (form.Choose b F G) (λ ts. cond b (p ts) (q ts)) E
+pub exact-choose : {A : Type 0} {F G : A → List Tok → Type 0} {p q : parse.Parse A} {E : List Tok → Type 0} (b : Bool) → Exact F p E → Exact G q E
+    → Exact (form.Choose b F G) (λ ts. cond b (p ts) (q ts)) E
 exact-choose true f g = record { sound = f.sound; complete = f.complete }
 exact-choose false f g = record { sound = g.sound; complete = g.complete }
 
 -- a word, and then what this word says
-pub exact-headed : {A : Type 0} {F : List ℕ → A → List Tok → Type 0} {p : List ℕ → parse.Parse A} {E : List Tok → Type 0} → ((w : List ℕ) → Exact (F w) (p w) E) → Exact (form.Headed F) (parse.headed p) E
+pub exact-headed : {A : Type 0} {F : List ℕ → A → List Tok → Type 0} {p : List ℕ → parse.Parse A} {E : List Tok → Type 0} → ((w : List ℕ) → Exact (F w) (p w) E)
+    → Exact (form.Headed F) (parse.headed p) E
 exact-headed {A} {F} {p} {E} x = record { sound = sound; complete = complete } where
   sound : (ts : List Tok) (v : A) (rest : List Tok) → parse.headed p ts ≡ Some (v, rest) → Front (form.Headed F) v ts rest
   sound [] v rest e = cc
@@ -38,7 +40,8 @@ exact-headed {A} {F} {p} {E} x = record { sound = sound; complete = complete } w
   complete v s rest h d = rw h.is ((x h.word).complete v h.back rest h.formed d)
 
 -- seen through a function that not every value has an answer of
-pub exact-known : {A B : Type 0} {F : A → List Tok → Type 0} {p : parse.Parse A} {E : List Tok → Type 0} (f : A → Option B) → Exact F p E → Exact (form.Known f F) (parse.known f p) E
+pub exact-known : {A B : Type 0} {F : A → List Tok → Type 0} {p : parse.Parse A} {E : List Tok → Type 0} (f : A → Option B) → Exact F p E
+    → Exact (form.Known f F) (parse.known f p) E
 exact-known {A} {B} {F} {p} {E} f x = record { sound = sound; complete = complete } where
   given-is : (o : Option B) (us : List Tok) (v : B) (rest : List Tok) → parse.given o us ≡ Some (v, rest) → (o ≡ Some v) × (us ≡ rest)
   given-is None us v rest e = cc
@@ -69,7 +72,9 @@ open_at-some s (suc n) ts h = refl
 pub ruleset opens = (open_at-none, open_at-some)
 
 -- between brackets
-pub exact-enclosed : {A : Type 0} {F : ℕ → A → List Tok → Type 0} {p : ℕ → parse.Parse A} {E : List Tok → Type 0} (left right : Symbol) → ((n : ℕ) → Exact (F n) (p n) E) → ((rest : List Tok) → E (symbol right ∷ rest)) → (n : ℕ) → Exact (form.Enclosed left right F n) (parse.enclosed left right p n) Any
+pub exact-enclosed : {A : Type 0} {F : ℕ → A → List Tok → Type 0} {p : ℕ → parse.Parse A} {E : List Tok → Type 0} (left right : Symbol)
+    → ((n : ℕ) → Exact (F n) (p n) E) → ((rest : List Tok) → E (symbol right ∷ rest)) → (n : ℕ)
+    → Exact (form.Enclosed left right F n) (parse.enclosed left right p n) Any
 unfolding parse.open_at
 exact-enclosed left right x follows zero = record { sound = λ ts v rest e. cc; complete = λ v s rest h d. absurd h }
 exact-enclosed {A} {F} {p} {E} left right x follows (suc n) =
@@ -77,7 +82,8 @@ exact-enclosed {A} {F} {p} {E} left right x follows (suc n) =
     (λ ts. ap (λ (k : ℕ). parse.then_rest (parse.run_at (left ∷ []) ts) (parse.before (p k) (right ∷ []))) (less-one n))
 
 -- with commas between them, or none
-pub exact-listing : {A : Type 0} {F : A → List Tok → Type 0} {p : parse.Parse A} {E : List Tok → Type 0} (close : Symbol) → Exact F p E → ((rest : List Tok) → E (symbol Comma ∷ rest)) → ((v : A) (s rest : List Tok) → F v s → parse.begins_with close (s ++ rest) ≡ false)
+pub exact-listing : {A : Type 0} {F : A → List Tok → Type 0} {p : parse.Parse A} {E : List Tok → Type 0} (close : Symbol) → Exact F p E
+    → ((rest : List Tok) → E (symbol Comma ∷ rest)) → ((v : A) (s rest : List Tok) → F v s → parse.begins_with close (s ++ rest) ≡ false)
     → Exact (form.Listing F) (parse.listing close p) (λ rest. (parse.begins_with close rest ≡ true) × (E rest × (parse.no_comma rest ≡ true)))
 exact-listing {A} {F} {p} {E} close x comma other =
     exact-as (exact-merged (parse.begins_with close) (exact-less (exact-nothing []) (λ rest (d : parse.begins_with close rest ≡ true). tt)) (exact-commas x comma) left right) (λ v s h. h) (λ v s h. h) (λ ts. refl)

@@ -7,7 +7,8 @@ use Rattle.text_forms.proofs.Pairs.{pair_inj}
 use Rattle.text_forms.specs.Deep.{IsDeeper}
 use Rattle.text_forms.specs.Lines.{Line, Chain, Once, Prefix, Syntax, line_of, form_of}
 use Rattle.text_forms.specs.Parse as parse
-use Rattle.text_forms.specs.ReadLines.{first, operator_at, sign_at, joined, grown, turn_of, chain_on, chain_turn, chained, chain_line, once_on, once_line, prefix_on, prefix_line, closed, base_on, base, on_line, ladder, within}
+use Rattle.text_forms.specs.ReadLines.{first, operator_at, sign_at, joined, grown, turn_of, chain_on, chain_turn, chained, chain_line, once_on, once_line}
+use Rattle.text_forms.specs.ReadLines.{prefix_on, prefix_line, closed, base_on, base, on_line, ladder, within}
 use Rattle.text_forms.specs.Repeat.{Turn, Stop, Fail, Next, after_turn, turns}
 use Rattle.text_forms.specs.Tail.{tail}
 use Rattle.text_forms.specs.declared.form.Form.TheVariants as form
@@ -23,30 +24,36 @@ module _ {T O P : Type 0} (S : Syntax T O P) where
   ladder-base leaf i room ts = refl
 
   by-form : (l : Line O P) (k : ℕ) (b : ℕ → parse.Parse T) (room : ℕ) (ts : List Tok)
-      → (form_of l ≡ form.Chain → on_line S l k b room ts ≡ chain_line S k b room ts) × ((form_of l ≡ form.Once → on_line S l k b room ts ≡ once_line S k b room ts) × (form_of l ≡ form.Prefix → on_line S l k b room ts ≡ prefix_line S k b room ts))
+      → (form_of l ≡ form.Chain → on_line S l k b room ts ≡ chain_line S k b room ts)
+      × ((form_of l ≡ form.Once → on_line S l k b room ts ≡ once_line S k b room ts) × (form_of l ≡ form.Prefix → on_line S l k b room ts ≡ prefix_line S k b room ts))
   by-form (Chain op) k b room ts = ((λ e. refl), ((λ e. cc), (λ e. cc)))
   by-form (Once op) k b room ts = ((λ e. cc), ((λ e. refl), (λ e. cc)))
   by-form (Prefix p) k b room ts = ((λ e. cc), ((λ e. cc), (λ e. refl)))
 
-  pub ladder-chain : (leaf : parse.Parse T) (i : ℕ → parse.Parse T) (rank k room : ℕ) (ts : List Tok) → rank ≡ suc k → form_of (line_of S.lines k) ≡ form.Chain → ladder S leaf i rank room ts ≡ chain_line S k (ladder S leaf i k) room ts
+  pub ladder-chain : (leaf : parse.Parse T) (i : ℕ → parse.Parse T) (rank k room : ℕ) (ts : List Tok) → rank ≡ suc k → form_of (line_of S.lines k) ≡ form.Chain
+      → ladder S leaf i rank room ts ≡ chain_line S k (ladder S leaf i k) room ts
   unfolding ladder
   ladder-chain leaf i rank k room ts is e = rw is ((by-form (line_of S.lines k) k (ladder S leaf i k) room ts).0 e)
 
-  pub ladder-once : (leaf : parse.Parse T) (i : ℕ → parse.Parse T) (rank k room : ℕ) (ts : List Tok) → rank ≡ suc k → form_of (line_of S.lines k) ≡ form.Once → ladder S leaf i rank room ts ≡ once_line S k (ladder S leaf i k) room ts
+  pub ladder-once : (leaf : parse.Parse T) (i : ℕ → parse.Parse T) (rank k room : ℕ) (ts : List Tok) → rank ≡ suc k → form_of (line_of S.lines k) ≡ form.Once
+      → ladder S leaf i rank room ts ≡ once_line S k (ladder S leaf i k) room ts
   unfolding ladder
   ladder-once leaf i rank k room ts is e = rw is ((by-form (line_of S.lines k) k (ladder S leaf i k) room ts).1.0 e)
 
-  pub ladder-prefix : (leaf : parse.Parse T) (i : ℕ → parse.Parse T) (rank k room : ℕ) (ts : List Tok) → rank ≡ suc k → form_of (line_of S.lines k) ≡ form.Prefix → ladder S leaf i rank room ts ≡ prefix_line S k (ladder S leaf i k) room ts
+  pub ladder-prefix : (leaf : parse.Parse T) (i : ℕ → parse.Parse T) (rank k room : ℕ) (ts : List Tok) → rank ≡ suc k
+      → form_of (line_of S.lines k) ≡ form.Prefix → ladder S leaf i rank room ts ≡ prefix_line S k (ladder S leaf i k) room ts
   unfolding ladder
   ladder-prefix leaf i rank k room ts is e = rw is ((by-form (line_of S.lines k) k (ladder S leaf i k) room ts).1.1 e)
 
   -- STEPS
 
-  pub chain-at : (k : ℕ) (b : ℕ → parse.Parse T) (room : ℕ) (ts : List Tok) → chain_line S k b room ts ≡ parse.then_read (b room ts) (λ t us. chained S k (b (room - 1)) room t us)
+  pub chain-at : (k : ℕ) (b : ℕ → parse.Parse T) (room : ℕ) (ts : List Tok)
+      → chain_line S k b room ts ≡ parse.then_read (b room ts) (λ t us. chained S k (b (room - 1)) room t us)
   unfolding chain_line
   chain-at k b room ts = refl
 
-  pub once-at : (k : ℕ) (b : ℕ → parse.Parse T) (room : ℕ) (ts : List Tok) → once_line S k b room ts ≡ parse.then_read (b room ts) (λ t us. once_on S (b (room - 1)) room t us (operator_at S k us))
+  pub once-at : (k : ℕ) (b : ℕ → parse.Parse T) (room : ℕ) (ts : List Tok)
+      → once_line S k b room ts ≡ parse.then_read (b room ts) (λ t us. once_on S (b (room - 1)) room t us (operator_at S k us))
   unfolding once_line
   once-at k b room ts = refl
 
@@ -54,7 +61,8 @@ module _ {T O P : Type 0} (S : Syntax T O P) where
   unfolding prefix_line
   prefix-none k b ts = refl
 
-  pub prefix-at : (k : ℕ) (b : ℕ → parse.Parse T) (room : ℕ) (ts : List Tok) → 0 < room → prefix_line S k b room ts ≡ prefix_on S (prefix_line S k b (room - 1)) (b room) ts (sign_at S k ts)
+  pub prefix-at : (k : ℕ) (b : ℕ → parse.Parse T) (room : ℕ) (ts : List Tok) → 0 < room
+      → prefix_line S k b room ts ≡ prefix_on S (prefix_line S k b (room - 1)) (b room) ts (sign_at S k ts)
   unfolding prefix_line
   prefix-at k b zero ts h = absurd (omega arith)
   prefix-at k b (suc room) ts h = ap (λ (r : ℕ). prefix_on S (prefix_line S k b r) (b (suc room)) ts (sign_at S k ts)) (sym (less-one room))
@@ -67,13 +75,15 @@ module _ {T O P : Type 0} (S : Syntax T O P) where
       → base S leaf i room ts ≡ cond (parse.begins_with s.Open ts) (closed i room (tail ts)) (base_on S leaf i (room - 1) ts (first S.call ts))
   unfolding base
   base-at leaf i zero ts h = absurd (omega arith)
-  base-at leaf i (suc room) ts h = ap (λ (r : ℕ). cond (parse.begins_with s.Open ts) (closed i (suc room) (tail ts)) (base_on S leaf i r ts (first S.call ts))) (sym (less-one room))
+  base-at leaf i (suc room) ts h =
+      ap (λ (r : ℕ). cond (parse.begins_with s.Open ts) (closed i (suc room) (tail ts)) (base_on S leaf i r ts (first S.call ts))) (sym (less-one room))
 
   pub within-none : (leaf : ℕ → parse.Parse T) (room : ℕ) (ts : List Tok) → within S leaf 0 room ts ≡ None
   unfolding within
   within-none leaf room ts = refl
 
-  pub within-at : (leaf : ℕ → parse.Parse T) (n room : ℕ) (ts : List Tok) → 0 < n → within S leaf n room ts ≡ ladder S (leaf (n - 1)) (within S leaf (n - 1)) (length S.lines) room ts
+  pub within-at : (leaf : ℕ → parse.Parse T) (n room : ℕ) (ts : List Tok) → 0 < n
+      → within S leaf n room ts ≡ ladder S (leaf (n - 1)) (within S leaf (n - 1)) (length S.lines) room ts
   unfolding within
   within-at leaf zero room ts h = absurd (omega arith)
   within-at leaf (suc n) room ts h = ap (λ (r : ℕ). ladder S (leaf r) (within S leaf r) (length S.lines) room ts) (sym (less-one n))
@@ -86,7 +96,8 @@ module _ {T O P : Type 0} (S : Syntax T O P) where
     by true is = absurd (grind (arith, is, deep))
     by false is = refl
 
-  pub grown-taken : (right : parse.Parse T) (room : ℕ) (o : O) (left : T) (ts : List Tok) → S.depth left < room → grown S right room o left ts ≡ joined S o left (right ts)
+  pub grown-taken : (right : parse.Parse T) (room : ℕ) (o : O) (left : T) (ts : List Tok) → S.depth left < room
+      → grown S right room o left ts ≡ joined S o left (right ts)
   grown-taken right room o left ts small = by (nat_lt (S.depth left) room) refl where
     by : (b : Bool) → nat_lt (S.depth left) room ≡ b → cond b (joined S o left (right ts)) None ≡ joined S o left (right ts)
     by true is = refl
@@ -94,11 +105,13 @@ module _ {T O P : Type 0} (S : Syntax T O P) where
 
   -- CHAINS
 
-  pub chained-stop : (k : ℕ) (right : parse.Parse T) (room : ℕ) (left : T) (ts : List Tok) → operator_at S k ts ≡ None → chained S k right room left ts ≡ Some (left, ts)
+  pub chained-stop : (k : ℕ) (right : parse.Parse T) (room : ℕ) (left : T) (ts : List Tok) → operator_at S k ts ≡ None
+      → chained S k right room left ts ≡ Some (left, ts)
   unfolding chained turns chain_turn
   chained-stop k right room left ts e = ap (λ o. after_turn (turns (chain_turn S k right room) room) left ts (chain_on S right room left ts o)) e
 
-  pub chained-failed : (k : ℕ) (right : parse.Parse T) (room : ℕ) (left : T) (ts : List Tok) (o : O) → operator_at S k ts ≡ Some o → grown S right room o left (tail ts) ≡ None → chained S k right room left ts ≡ None
+  pub chained-failed : (k : ℕ) (right : parse.Parse T) (room : ℕ) (left : T) (ts : List Tok) (o : O) → operator_at S k ts ≡ Some o
+      → grown S right room o left (tail ts) ≡ None → chained S k right room left ts ≡ None
   unfolding chained turns chain_turn
   chained-failed k right room left ts o e none =
       ap (λ r. after_turn (turns (chain_turn S k right room) room) left ts (chain_on S right room left ts r)) e
@@ -111,7 +124,8 @@ module _ {A : Type 0} (step : A → List Tok → Turn A) (m : A → ℕ) (falls 
   enough zero k x ts a b = absurd (omega (arith, a))
   enough (suc n) zero x ts a b = absurd (omega (arith, b))
   enough (suc n) (suc k) x ts a b = by (λ y us c d. enough n k y us c d) (step x ts) refl where
-    by : ((y : A) (us : List Tok) → m y < n → m y < k → turns step n y us ≡ turns step k y us) → (turn : Turn A) → step x ts ≡ turn → after_turn (turns step n) x ts turn ≡ after_turn (turns step k) x ts turn
+    by : ((y : A) (us : List Tok) → m y < n → m y < k → turns step n y us ≡ turns step k y us) → (turn : Turn A) → step x ts ≡ turn
+        → after_turn (turns step n) x ts turn ≡ after_turn (turns step k) x ts turn
     by more Stop is = refl
     by more Fail is = refl
     by more (Next y us) is =
@@ -123,17 +137,20 @@ module _ {T O P : Type 0} (S : Syntax T O P) (deep : IsDeeper S) where
   pub grown-is : (right : parse.Parse T) (room : ℕ) (o : O) (left : T) (ts : List Tok) (t : T) (us : List Tok) → grown S right room o left ts ≡ Some (t, us)
       → (r : T) × (S.depth left < room) × (right ts ≡ Some (r, us)) × (t ≡ S.join o left r)
   grown-is right room o left ts t us e = by (nat_lt (S.depth left) room) refl (right ts) refl e where
-    by : (b : Bool) → nat_lt (S.depth left) room ≡ b → (read : Option (T × List Tok)) → right ts ≡ read → cond b (joined S o left read) None ≡ Some (t, us) → (r : T) × (S.depth left < room) × (right ts ≡ Some (r, us)) × (t ≡ S.join o left r)
+    by : (b : Bool) → nat_lt (S.depth left) room ≡ b → (read : Option (T × List Tok)) → right ts ≡ read → cond b (joined S o left read) None ≡ Some (t, us)
+        → (r : T) × (S.depth left < room) × (right ts ≡ Some (r, us)) × (t ≡ S.join o left r)
     by false is read same f = cc
     by true is None same f = cc
     by true is (Some q) same f =
         let pair = pair_inj f in
         (q.0, grind (arith, is), same ∙ ap (λ (vs : List Tok). Some (q.0, vs)) pair.1, sym pair.0)
 
-  pub turn-is : (right : parse.Parse T) (room : ℕ) (k : ℕ) (left : T) (ts : List Tok) (t : T) (us : List Tok) → chain_turn S k right room left ts ≡ Next t us → (o : O) × (operator_at S k ts ≡ Some o) × (grown S right room o left (tail ts) ≡ Some (t, us))
+  pub turn-is : (right : parse.Parse T) (room : ℕ) (k : ℕ) (left : T) (ts : List Tok) (t : T) (us : List Tok) → chain_turn S k right room left ts ≡ Next t us
+      → (o : O) × (operator_at S k ts ≡ Some o) × (grown S right room o left (tail ts) ≡ Some (t, us))
   unfolding chain_turn
   turn-is right room k left ts t us e = by (operator_at S k ts) refl e where
-    next : (o : O) (r : Option (T × List Tok)) → grown S right room o left (tail ts) ≡ r → turn_of r ≡ Next t us → grown S right room o left (tail ts) ≡ Some (t, us)
+    next : (o : O) (r : Option (T × List Tok)) → grown S right room o left (tail ts) ≡ r → turn_of r ≡ Next t us
+        → grown S right room o left (tail ts) ≡ Some (t, us)
     next o None is f = cc
     next o (Some q) is f = is ∙ ap (λ (x : T). Some (x, q.1)) (first_same q f) ∙ ap (λ (vs : List Tok). Some (t, vs)) (second_same q f) where
       first_same : (p : T × List Tok) → Next p.0 p.1 ≡ Next t us → p.0 ≡ t
@@ -142,12 +159,14 @@ module _ {T O P : Type 0} (S : Syntax T O P) (deep : IsDeeper S) where
       second_same : (p : T × List Tok) → Next p.0 p.1 ≡ Next t us → p.1 ≡ us
       second_same p h = cc
 
-    by : (r : Option O) → operator_at S k ts ≡ r → chain_on S right room left ts r ≡ Next t us → (o : O) × (operator_at S k ts ≡ Some o) × (grown S right room o left (tail ts) ≡ Some (t, us))
+    by : (r : Option O) → operator_at S k ts ≡ r → chain_on S right room left ts r ≡ Next t us
+        → (o : O) × (operator_at S k ts ≡ Some o) × (grown S right room o left (tail ts) ≡ Some (t, us))
     by None is f = cc
     by (Some o) is f = (o, is, next o (grown S right room o left (tail ts)) refl f)
 
   -- each turn makes the tree deeper
-  pub turn-deeper : (right : parse.Parse T) (room : ℕ) (k : ℕ) (left : T) (ts : List Tok) (t : T) (us : List Tok) → chain_turn S k right room left ts ≡ Next t us → room - S.depth t < room - S.depth left
+  pub turn-deeper : (right : parse.Parse T) (room : ℕ) (k : ℕ) (left : T) (ts : List Tok) (t : T) (us : List Tok)
+      → chain_turn S k right room left ts ≡ Next t us → room - S.depth t < room - S.depth left
   turn-deeper right room k left ts t us e =
       let n = turn-is right room k left ts t us e in
       let g = grown-is right room n.0 left (tail ts) t us n.2 in
@@ -155,7 +174,8 @@ module _ {T O P : Type 0} (S : Syntax T O P) (deep : IsDeeper S) where
       let small = g.1 in
       omega (arith, size, small)
 
-  pub chained-grown : (k : ℕ) (right : parse.Parse T) (room : ℕ) (left t : T) (ts us : List Tok) (o : O) → operator_at S k ts ≡ Some o → grown S right room o left (tail ts) ≡ Some (t, us) → chained S k right room t us ≡ chained S k right room left ts
+  pub chained-grown : (k : ℕ) (right : parse.Parse T) (room : ℕ) (left t : T) (ts us : List Tok) (o : O) → operator_at S k ts ≡ Some o
+      → grown S right room o left (tail ts) ≡ Some (t, us) → chained S k right room t us ≡ chained S k right room left ts
   unfolding chained turns chain_turn
   chained-grown k right room left t ts us o e more =
       let g = grown-is right room o left (tail ts) t us more in

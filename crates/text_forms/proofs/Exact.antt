@@ -12,11 +12,13 @@ use Rattle.text_forms.proofs.Symbols.{begins_with-is, begins_with-symbol}
 use Rattle.text_forms.proofs.Pairs.{some_inj, pair_inj}
 
 -- fewer things may follow
-pub exact-less : {A : Type 0} {F : A → List Tok → Type 0} {p : parse.Parse A} {E D : List Tok → Type 0} → Exact F p E → ((rest : List Tok) → D rest → E rest) → Exact F p D
+pub exact-less : {A : Type 0} {F : A → List Tok → Type 0} {p : parse.Parse A} {E D : List Tok → Type 0} → Exact F p E → ((rest : List Tok) → D rest → E rest)
+    → Exact F p D
 exact-less e fewer = record { sound = e.sound; complete = λ v s rest f d. e.complete v s rest f (fewer rest d) }
 
 -- the same reading function, or the same form, in other words
-pub exact-as : {A : Type 0} {F G : A → List Tok → Type 0} {p q : parse.Parse A} {E : List Tok → Type 0} → Exact F p E → ((v : A) (s : List Tok) → F v s → G v s) → ((v : A) (s : List Tok) → G v s → F v s) → ((ts : List Tok) → q ts ≡ p ts) → Exact G q E
+pub exact-as : {A : Type 0} {F G : A → List Tok → Type 0} {p q : parse.Parse A} {E : List Tok → Type 0} → Exact F p E → ((v : A) (s : List Tok) → F v s → G v s)
+    → ((v : A) (s : List Tok) → G v s → F v s) → ((ts : List Tok) → q ts ≡ p ts) → Exact G q E
 exact-as {A} {F} {G} {p} {q} {E} x to from same = record {
   sound = λ ts v rest e. let f = x.sound ts v rest (sym (same ts) ∙ e) in record { front = f.front; is = f.is; formed = to v f.front f.formed };
   complete = λ v s rest g d. same (s ++ rest) ∙ x.complete v s rest (from v s g) d;
@@ -27,7 +29,9 @@ pub exact-name : Exact form.Name parse.name_at Any
 exact-name = record { sound = sound; complete = complete } where
   sound : (ts : List Tok) (v : List ℕ) (rest : List Tok) → parse.name_at ts ≡ Some (v, rest) → Front form.Name v ts rest
   sound [] v rest e = cc
-  sound (name text ∷ ts) v rest e = let same = pair_inj e in record { front = name v ∷ []; is = ap (λ (l : List Tok). name text ∷ l) same.1 ∙ ap (λ (n : List ℕ). name n ∷ rest) same.0; formed = refl }
+  sound (name text ∷ ts) v rest e =
+      let same = pair_inj e in
+      record { front = name v ∷ []; is = ap (λ (l : List Tok). name text ∷ l) same.1 ∙ ap (λ (n : List ℕ). name n ∷ rest) same.0; formed = refl }
   sound (var text ∷ ts) v rest e = cc
   sound (number value ∷ ts) v rest e = cc
   sound (symbol t ∷ ts) v rest e = cc
@@ -41,7 +45,9 @@ exact-var = record { sound = sound; complete = complete } where
   sound : (ts : List Tok) (v : List ℕ) (rest : List Tok) → parse.var_at ts ≡ Some (v, rest) → Front form.Var v ts rest
   sound [] v rest e = cc
   sound (name text ∷ ts) v rest e = cc
-  sound (var text ∷ ts) v rest e = let same = pair_inj e in record { front = var v ∷ []; is = ap (λ (l : List Tok). var text ∷ l) same.1 ∙ ap (λ (n : List ℕ). var n ∷ rest) same.0; formed = refl }
+  sound (var text ∷ ts) v rest e =
+      let same = pair_inj e in
+      record { front = var v ∷ []; is = ap (λ (l : List Tok). var text ∷ l) same.1 ∙ ap (λ (n : List ℕ). var n ∷ rest) same.0; formed = refl }
   sound (number value ∷ ts) v rest e = cc
   sound (symbol t ∷ ts) v rest e = cc
 
@@ -55,7 +61,9 @@ exact-number = record { sound = sound; complete = complete } where
   sound [] v rest e = cc
   sound (name text ∷ ts) v rest e = cc
   sound (var text ∷ ts) v rest e = cc
-  sound (number value ∷ ts) v rest e = let same = pair_inj e in record { front = number v ∷ []; is = ap (λ (l : List Tok). number value ∷ l) same.1 ∙ ap (λ (n : ℕ). number n ∷ rest) same.0; formed = refl }
+  sound (number value ∷ ts) v rest e =
+      let same = pair_inj e in
+      record { front = number v ∷ []; is = ap (λ (l : List Tok). number value ∷ l) same.1 ∙ ap (λ (n : ℕ). number n ∷ rest) same.0; formed = refl }
   sound (symbol t ∷ ts) v rest e = cc
 
   complete : (v : ℕ) (s rest : List Tok) → form.Number v s → Any rest → parse.number_at (s ++ rest) ≡ Some (v, rest)
@@ -71,11 +79,13 @@ exact-nothing {A} x = record { sound = sound; complete = complete } where
   complete v s rest f any = rw (f.0, f.1) refl
 
 -- how a reading that went on began
-pub then_read-some : {A B : Type 0} (r : Option (A × List Tok)) (more : A → List Tok → Option (B × List Tok)) (v : B × List Tok) → parse.then_read r more ≡ Some v → (q : A × List Tok) × (r ≡ Some q) × (more q.0 q.1 ≡ Some v)
+pub then_read-some : {A B : Type 0} (r : Option (A × List Tok)) (more : A → List Tok → Option (B × List Tok)) (v : B × List Tok)
+    → parse.then_read r more ≡ Some v → (q : A × List Tok) × (r ≡ Some q) × (more q.0 q.1 ≡ Some v)
 then_read-some None more v e = cc
 then_read-some (Some q) more v e = (q, refl, e)
 
-then_rest-some : {B : Type 0} (r : Option (List Tok)) (more : List Tok → Option (B × List Tok)) (v : B × List Tok) → parse.then_rest r more ≡ Some v → (q : List Tok) × (r ≡ Some q) × (more q ≡ Some v)
+then_rest-some : {B : Type 0} (r : Option (List Tok)) (more : List Tok → Option (B × List Tok)) (v : B × List Tok) → parse.then_rest r more ≡ Some v
+    → (q : List Tok) × (r ≡ Some q) × (more q ≡ Some v)
 then_rest-some None more v e = cc
 then_rest-some (Some q) more v e = (q, refl, e)
 
@@ -161,7 +171,9 @@ module _ {A : Type 0} {F : A → List Tok → Type 0} {p : parse.Parse A} {E : L
         let x = f.sound ts a.0 a.1 is_a in
         record {
           front = x.front ++ form.symbols run;
-          is = x.is ∙ ap (λ (l : List Tok). x.front ++ l) (run_at-sound run a.1 us is_us ∙ ap (λ (l : List Tok). form.symbols run ++ l) same.1) ∙ sym (append_assoc x.front (form.symbols run) rest);
+          is =
+              x.is ∙ ap (λ (l : List Tok). x.front ++ l) (run_at-sound run a.1 us is_us ∙ ap (λ (l : List Tok). form.symbols run ++ l) same.1)
+              ∙ sym (append_assoc x.front (form.symbols run) rest);
           formed = record { front = x.front; is = refl; formed = subst (λ (w : A). F w x.front) same.0 x.formed };
         }
 
@@ -207,9 +219,11 @@ module _ {A : Type 0} {F : A → List Tok → Type 0} {p : parse.Parse A} {E : L
     complete v s rest h d = rw (f.complete v s rest h.formed d, h.passes) refl
 
   -- an optional part
-  pub exact-maybe : (test : List Tok → Bool) → Exact F p E → ((v : A) (s rest : List Tok) → F v s → test (s ++ rest) ≡ true) → Exact (form.Maybe F) (parse.maybe test p) (λ rest. E rest × (test rest ≡ false))
+  pub exact-maybe : (test : List Tok → Bool) → Exact F p E → ((v : A) (s rest : List Tok) → F v s → test (s ++ rest) ≡ true)
+      → Exact (form.Maybe F) (parse.maybe test p) (λ rest. E rest × (test rest ≡ false))
   exact-maybe test f begins = record { sound = sound; complete = complete } where
-    some : (ts : List Tok) (v : Option A) (rest : List Tok) → parse.then_read (p ts) (λ a us. Some (Some a, us)) ≡ Some (v, rest) → Front (form.Maybe F) v ts rest
+    some : (ts : List Tok) (v : Option A) (rest : List Tok) → parse.then_read (p ts) (λ a us. Some (Some a, us)) ≡ Some (v, rest)
+        → Front (form.Maybe F) v ts rest
     some ts v rest e =
         let (a, is_a, end) = then_read-some (p ts) _ (v, rest) e in
         let same = pair_inj end in
@@ -225,7 +239,8 @@ module _ {A : Type 0} {F : A → List Tok → Type 0} {p : parse.Parse A} {E : L
         let same = pair_inj e in
         record { front = []; is = same.1; formed = subst (λ (w : Option A). form.Maybe F w []) same.0 refl }
 
-    by : (b : Bool) (ts : List Tok) (v : Option A) (rest : List Tok) → cond b (parse.then_read (p ts) (λ a us. Some (Some a, us))) (parse.nothing_at None ts) ≡ Some (v, rest) → Front (form.Maybe F) v ts rest
+    by : (b : Bool) (ts : List Tok) (v : Option A) (rest : List Tok)
+        → cond b (parse.then_read (p ts) (λ a us. Some (Some a, us))) (parse.nothing_at None ts) ≡ Some (v, rest) → Front (form.Maybe F) v ts rest
     by true ts v rest e = some ts v rest e
     by false ts v rest e = none ts v rest e
 
@@ -252,7 +267,8 @@ module _ {A B : Type 0} {F : A → List Tok → Type 0} {p : parse.Parse A} {E :
 
 module _ {A : Type 0} {F G : A → List Tok → Type 0} {p q : parse.Parse A} {E D : List Tok → Type 0} where
   -- one or the other, where the test of what comes tells them apart
-  pub exact-merged : (test : List Tok → Bool) → Exact F p E → Exact G q D → ((v : A) (s rest : List Tok) → F v s → E rest → test (s ++ rest) ≡ true) → ((v : A) (s rest : List Tok) → G v s → D rest → test (s ++ rest) ≡ false)
+  pub exact-merged : (test : List Tok → Bool) → Exact F p E → Exact G q D → ((v : A) (s rest : List Tok) → F v s → E rest → test (s ++ rest) ≡ true)
+      → ((v : A) (s rest : List Tok) → G v s → D rest → test (s ++ rest) ≡ false)
       → Exact (form.Merged F G) (parse.merged test p q) (λ rest. E rest × D rest)
   exact-merged test f g left right = record { sound = sound; complete = complete } where
     by : (b : Bool) (ts : List Tok) (v : A) (rest : List Tok) → cond b (p ts) (q ts) ≡ Some (v, rest) → Front (form.Merged F G) v ts rest

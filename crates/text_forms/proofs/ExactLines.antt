@@ -1,5 +1,6 @@
 -- The reading of the expressions of a ladder is exact, whatever its lines and its leaves are.
-use Rattle.std.proofs.Common.{◌≡◌, ℕ, zero, suc, ◌<◌, ◌≤◌, ◌-◌, List, [], ◌∷◌, ◌++◌, length, Bool, true, false, cond, Option, Some, None, refl, sym, ap, ◌∙◌, subst, arith, append_assoc}
+use Rattle.std.proofs.Common.{◌≡◌, ℕ, zero, suc, ◌<◌, ◌≤◌, ◌-◌, List, [], ◌∷◌, ◌++◌, length, Bool, true, false, cond, Option, Some, None, refl, sym, ap, ◌∙◌}
+use Rattle.std.proofs.Common.{subst, arith, append_assoc}
 use Rattle.work_code.specs.Tok.{Tok, symbol}
 use Rattle.work_code.specs.declared.sign.Symbol.TheVariants as s
 use Rattle.text_forms.specs.Deep.{IsDeeper}
@@ -7,7 +8,8 @@ use Rattle.text_forms.specs.Forms as form
 use Rattle.text_forms.specs.Lines.{Line, Chain, Once, Prefix, Syntax, line_of, form_of, operator, sign, Spells, IsTerm, IsWhole}
 use Rattle.text_forms.specs.Lines as rule
 use Rattle.text_forms.specs.Parse as parse
-use Rattle.text_forms.specs.ReadLines.{first, operator_at, sign_at, joined, grown, chain_turn, chained, chain_line, once_on, once_line, prefix_on, prefix_line, closed, base_on, base, on_line, ladder, within, whole_at}
+use Rattle.text_forms.specs.ReadLines.{first, operator_at, sign_at, joined, grown, chain_turn, chained, chain_line, once_on, once_line, prefix_on, prefix_line}
+use Rattle.text_forms.specs.ReadLines.{closed, base_on, base, on_line, ladder, within, whole_at}
 use Rattle.text_forms.specs.Repeat.{Next}
 use Rattle.text_forms.specs.Tail.{tail}
 use Rattle.text_forms.specs.declared.form.Form.{Form}
@@ -143,9 +145,11 @@ module _ {T O P : Type 0} (S : Syntax T O P) (Leaf : ℕ → T → List Tok → 
 
   bracket-term : (n room : ℕ) (t : T) (ts : List Tok) → form.Before (IsWithin n room) (s.Close ∷ []) t ts → Term n 0 room t (symbol s.Open ∷ ts)
   bracket-term zero room t ts h = absurd h.formed
-  bracket-term (suc n) room t ts h = (subst (λ (us : List Tok). Spelled (suc n) 0 t (symbol s.Open ∷ us)) (sym h.is) (rule.bracket n t h.front h.formed.0), h.formed.1)
+  bracket-term (suc n) room t ts h =
+      (subst (λ (us : List Tok). Spelled (suc n) 0 t (symbol s.Open ∷ us)) (sym h.is) (rule.bracket n t h.front h.formed.0), h.formed.1)
 
-  call-term : (n room : ℕ) (x : Tok) (p : P) (t : T) (ts : List Tok) → S.call x ≡ Some p → form.After (s.Open ∷ []) (form.Before (IsWithin n room) (s.Close ∷ [])) t ts → Term n 0 (suc room) (S.mark p t) (x ∷ ts)
+  call-term : (n room : ℕ) (x : Tok) (p : P) (t : T) (ts : List Tok) → S.call x ≡ Some p
+      → form.After (s.Open ∷ []) (form.Before (IsWithin n room) (s.Close ∷ [])) t ts → Term n 0 (suc room) (S.mark p t) (x ∷ ts)
   call-term zero room x p t ts c h = absurd h.formed.formed
   call-term (suc n) room x p t ts c h =
       let tokens : ts ≡ symbol s.Open ∷ (h.formed.front ++ symbol s.Close ∷ []) = h.is ∙ ap (λ (us : List Tok). symbol s.Open ∷ us) h.formed.is in
@@ -155,17 +159,20 @@ module _ {T O P : Type 0} (S : Syntax T O P) (Leaf : ℕ → T → List Tok → 
     exact-closed : (room : ℕ) → Exact (form.Before (IsWithin n room) (s.Close ∷ [])) (closed i room) Any
     exact-closed room = exact-before (s.Close ∷ []) (inner room) close-ends
 
-    called : (room : ℕ) (ts : List Tok) (t : T) (rest : List Tok) (p : P) → first S.call ts ≡ Some p → parse.seen (S.mark p) (parse.after (s.Open ∷ []) (closed i room)) (tail ts) ≡ Some (t, rest) → Front (Term n 0 (suc room)) t ts rest
+    called : (room : ℕ) (ts : List Tok) (t : T) (rest : List Tok) (p : P) → first S.call ts ≡ Some p
+        → parse.seen (S.mark p) (parse.after (s.Open ∷ []) (closed i room)) (tail ts) ≡ Some (t, rest) → Front (Term n 0 (suc room)) t ts rest
     called room ts t rest p is e =
         let c = comes S.call ts p is in
         let f = (exact-seen (S.mark p) (exact-after (s.Open ∷ []) (exact-closed room))).sound (tail ts) t rest e in
         record {
           front = c.token ∷ f.front;
           is = c.is ∙ ap (λ (us : List Tok). c.token ∷ us) f.is;
-          formed = subst (λ (u : T). Term n 0 (suc room) u (c.token ∷ f.front)) (sym f.formed.is) (call-term n room c.token p f.formed.value f.front c.good f.formed.formed);
+          formed =
+              subst (λ (u : T). Term n 0 (suc room) u (c.token ∷ f.front)) (sym f.formed.is) (call-term n room c.token p f.formed.value f.front c.good f.formed.formed);
         }
 
-    leaf-or-call : (room : ℕ) (ts : List Tok) (t : T) (rest : List Tok) (o : Option P) → first S.call ts ≡ o → base_on S (leaf n) i room ts o ≡ Some (t, rest) → Front (Term n 0 (suc room)) t ts rest
+    leaf-or-call : (room : ℕ) (ts : List Tok) (t : T) (rest : List Tok) (o : Option P) → first S.call ts ≡ o → base_on S (leaf n) i room ts o ≡ Some (t, rest)
+        → Front (Term n 0 (suc room)) t ts rest
     leaf-or-call room ts t rest None is e =
         let f = (clear.exact n).sound ts t rest e in
         let size = clear.shallow n t f.front f.formed in
@@ -186,10 +193,13 @@ module _ {T O P : Type 0} (S : Syntax T O P) (Leaf : ℕ → T → List Tok → 
         })
         (λ _ r. leaf-or-call room ts t rest (first S.call ts) refl r)
 
-  closed-complete : (n room : ℕ) (i : ℕ → parse.Parse T) → ((room : ℕ) → Exact (IsWithin n room) (i room) (Ends (length S.lines))) → (t : T) (ts : List Tok) → IsWithin n room t ts → (rest : List Tok) → closed i room ((ts ++ symbol s.Close ∷ []) ++ rest) ≡ Some (t, rest)
-  closed-complete n room i inner t ts h rest = (exact-closed n i inner room).complete t (ts ++ symbol s.Close ∷ []) rest (record { front = ts; is = refl; formed = h }) tt
+  closed-complete : (n room : ℕ) (i : ℕ → parse.Parse T) → ((room : ℕ) → Exact (IsWithin n room) (i room) (Ends (length S.lines))) → (t : T) (ts : List Tok)
+      → IsWithin n room t ts → (rest : List Tok) → closed i room ((ts ++ symbol s.Close ∷ []) ++ rest) ≡ Some (t, rest)
+  closed-complete n room i inner t ts h rest =
+      (exact-closed n i inner room).complete t (ts ++ symbol s.Close ∷ []) rest (record { front = ts; is = refl; formed = h }) tt
 
-  base-complete : (n k room : ℕ) (t : T) (ts : List Tok) (i : ℕ → parse.Parse T) → ((room : ℕ) → Exact (IsWithin n room) (i room) (Ends (length S.lines))) → Spelled n k t ts → k ≡ 0 → S.depth t ≤ room → (rest : List Tok) → E rest → base S (leaf n) i room (ts ++ rest) ≡ Some (t, rest)
+  base-complete : (n k room : ℕ) (t : T) (ts : List Tok) (i : ℕ → parse.Parse T) → ((room : ℕ) → Exact (IsWithin n room) (i room) (Ends (length S.lines)))
+      → Spelled n k t ts → k ≡ 0 → S.depth t ≤ room → (rest : List Tok) → E rest → base S (leaf n) i room (ts ++ rest) ≡ Some (t, rest)
   unfolding base
   base-complete n k zero t ts i inner h at d rest e = absurd (no-room n k t ts h d)
   base-complete n k (suc room) t ts i inner (rule.leaf m u us h) at d rest e =
@@ -205,15 +215,20 @@ module _ {T O P : Type 0} (S : Syntax T O P) (Leaf : ℕ → T → List Tok → 
   base-complete n k (suc room) t ts i inner (rule.once m j x o a b us vs f c g h) at d rest e = absurd (omega (arith, at))
   base-complete n k (suc room) t ts i inner (rule.prefix m j x p u us c h) at d rest e = absurd (omega (arith, at))
 
-  exact-base : (n room : ℕ) (i : ℕ → parse.Parse T) → ((room : ℕ) → Exact (IsWithin n room) (i room) (Ends (length S.lines))) → Exact (Term n 0 room) (base S (leaf n) i room) E
+  exact-base : (n room : ℕ) (i : ℕ → parse.Parse T) → ((room : ℕ) → Exact (IsWithin n room) (i room) (Ends (length S.lines)))
+      → Exact (Term n 0 room) (base S (leaf n) i room) E
   exact-base n room i inner = record {
     sound = λ ts v rest e. base-sound n i inner room ts v rest e;
     complete = λ v ts rest h e. base-complete n 0 room v ts i inner h.0 refl h.1 rest e;
   }
 
   -- what is read with an operator on a line above, for what the tokens so far stand for
-  grows : (n k : ℕ) (below : ℕ → parse.Parse T) → ((room : ℕ) → Exact (Term n k room) (below room) (Ends k)) → (room : ℕ) (ts : List Tok) (o : O) (left : T) (t : T) (us rest : List Tok) → operator_at S k us ≡ Some o → grown S (below (room - 1)) room o left (tail us) ≡ Some (t, rest)
-      → (front : List Tok) → ts ≡ front ++ us → ((x : Tok) (r : T) (more : List Tok) → operator (line_of S.lines k) x ≡ Some o → Spelled n k r more → Spelled n (suc k) (S.join o left r) (front ++ x ∷ more)) → Front (Term n (suc k) room) t ts rest
+  grows : (n k : ℕ) (below : ℕ → parse.Parse T) → ((room : ℕ) → Exact (Term n k room) (below room) (Ends k))
+      → (room : ℕ) (ts : List Tok) (o : O) (left : T) (t : T) (us rest : List Tok) → operator_at S k us ≡ Some o
+      → grown S (below (room - 1)) room o left (tail us) ≡ Some (t, rest)
+      → (front : List Tok) → ts ≡ front ++ us
+      → ((x : Tok) (r : T) (more : List Tok) → operator (line_of S.lines k) x ≡ Some o → Spelled n k r more → Spelled n (suc k) (S.join o left r) (front ++ x ∷ more))
+      → Front (Term n (suc k) room) t ts rest
   grows n k below x room ts o left t us rest op more front is make =
       let g = grown-is S clear.deep (below (room - 1)) room o left (tail us) t rest more in
       let f = (x (room - 1)).sound (tail us) g.0 rest g.2 in
@@ -222,22 +237,26 @@ module _ {T O P : Type 0} (S : Syntax T O P) (Leaf : ℕ → T → List Tok → 
       record {
         front = front ++ c.token ∷ f.front;
         is = is ∙ ap (λ (ws : List Tok). front ++ ws) tokens ∙ sym (append_assoc front (c.token ∷ f.front) rest);
-        formed = subst (λ (u : T). Term n (suc k) room u (front ++ c.token ∷ f.front)) (sym g.3) (make c.token g.0 f.front c.good f.formed.0, join-fits o left g.0 room g.1 f.formed.1);
+        formed =
+            subst (λ (u : T). Term n (suc k) room u (front ++ c.token ∷ f.front)) (sym g.3) (make c.token g.0 f.front c.good f.formed.0, join-fits o left g.0 room g.1 f.formed.1);
       }
 
   -- what was read so far and what is read behind an operator
-  grown-there : (k : ℕ) (right : parse.Parse T) (room : ℕ) (o : O) (a b : T) (vs rest : List Tok) → S.depth a < room → right (vs ++ rest) ≡ Some (b, rest) → grown S right room o a (vs ++ rest) ≡ Some (S.join o a b, rest)
+  grown-there : (k : ℕ) (right : parse.Parse T) (room : ℕ) (o : O) (a b : T) (vs rest : List Tok) → S.depth a < room → right (vs ++ rest) ≡ Some (b, rest)
+      → grown S right room o a (vs ++ rest) ≡ Some (S.join o a b, rest)
   grown-there k right room o a b vs rest small read = grown-taken S right room o a (vs ++ rest) small ∙ ap (joined S o a) read
 
   -- CHAINS
 
-  keeps : (n k : ℕ) (many : form_of (line_of S.lines k) ≡ shape.Chain) (below : ℕ → parse.Parse T) → ((room : ℕ) → Exact (Term n k room) (below room) (Ends k)) → (room : ℕ) (ts : List Tok) (left : T) (us : List Tok) (y : T) (vs : List Tok)
+  keeps : (n k : ℕ) (many : form_of (line_of S.lines k) ≡ shape.Chain) (below : ℕ → parse.Parse T) → ((room : ℕ) → Exact (Term n k room) (below room) (Ends k))
+      → (room : ℕ) (ts : List Tok) (left : T) (us : List Tok) (y : T) (vs : List Tok)
       → Front (Term n (suc k) room) left ts us → chain_turn S k (below (room - 1)) room left us ≡ Next y vs → Front (Term n (suc k) room) y ts vs
   keeps n k many below x room ts left us y vs so e =
       let t = turn-is S clear.deep (below (room - 1)) room k left us y vs e in
       grows n k below x room ts t.0 left y us vs t.1 t.2 so.front so.is (λ z r more good g. rule.chain n k z t.0 left r so.front more many good so.formed.0 g)
 
-  chain-complete : (k n m room : ℕ) (t : T) (ts : List Tok) (below : ℕ → parse.Parse T) (many : form_of (line_of S.lines k) ≡ shape.Chain) → ((room : ℕ) → Exact (Term n k room) (below room) (Ends k)) → Spelled n m t ts → m ≡ suc k → S.depth t ≤ room → (rest : List Tok) → Ends k rest
+  chain-complete : (k n m room : ℕ) (t : T) (ts : List Tok) (below : ℕ → parse.Parse T) (many : form_of (line_of S.lines k) ≡ shape.Chain)
+      → ((room : ℕ) → Exact (Term n k room) (below room) (Ends k)) → Spelled n m t ts → m ≡ suc k → S.depth t ≤ room → (rest : List Tok) → Ends k rest
       → chain_line S k below room (ts ++ rest) ≡ chained S k (below (room - 1)) room t rest
   unfolding chain_line
   chain-complete k n m room t ts below many x (rule.leaf p u us h) at d rest e = absurd (omega (arith, at))
@@ -260,7 +279,8 @@ module _ {T O P : Type 0} (S : Syntax T O P) (Leaf : ℕ → T → List Tok → 
   chain-complete k n m room t ts below many x (rule.prefix p j y q u us c h) at d rest e =
       absurd (no_some (chain_no_sign (line_of S.lines k) y many) (subst (λ (r : ℕ). sign (line_of S.lines r) y ≡ Some q) (suc-same j k at) c))
 
-  exact-chain : (n k : ℕ) (below : ℕ → parse.Parse T) → form_of (line_of S.lines k) ≡ shape.Chain → ((room : ℕ) → Exact (Term n k room) (below room) (Ends k)) → (room : ℕ) → Exact (Term n (suc k) room) (chain_line S k below room) (Ends (suc k))
+  exact-chain : (n k : ℕ) (below : ℕ → parse.Parse T) → form_of (line_of S.lines k) ≡ shape.Chain → ((room : ℕ) → Exact (Term n k room) (below room) (Ends k))
+      → (room : ℕ) → Exact (Term n (suc k) room) (chain_line S k below room) (Ends (suc k))
   unfolding chain_line chained
   exact-chain n k below many x room = record { sound = sound; complete = complete } where
     sound : (ts : List Tok) (v : T) (rest : List Tok) → chain_line S k below room ts ≡ Some (v, rest) → Front (Term n (suc k) room) v ts rest
@@ -277,7 +297,9 @@ module _ {T O P : Type 0} (S : Syntax T O P) (Leaf : ℕ → T → List Tok → 
 
   -- ONE OPERATOR AT MOST
 
-  once-sound : (n k : ℕ) (below : ℕ → parse.Parse T) (single : form_of (line_of S.lines k) ≡ shape.Once) → ((room : ℕ) → Exact (Term n k room) (below room) (Ends k)) → (room : ℕ) (ts : List Tok) (left : T) (us : List Tok) (v : T) (rest : List Tok) → Front (Term n k room) left ts us → (r : Option O) → operator_at S k us ≡ r
+  once-sound : (n k : ℕ) (below : ℕ → parse.Parse T) (single : form_of (line_of S.lines k) ≡ shape.Once)
+      → ((room : ℕ) → Exact (Term n k room) (below room) (Ends k)) → (room : ℕ) (ts : List Tok) (left : T) (us : List Tok) (v : T) (rest : List Tok)
+      → Front (Term n k room) left ts us → (r : Option O) → operator_at S k us ≡ r
       → once_on S (below (room - 1)) room left us r ≡ Some (v, rest) → Front (Term n (suc k) room) v ts rest
   once-sound n k below single x room ts left us v rest f None is e =
       let same = pair_inj e in
@@ -285,7 +307,8 @@ module _ {T O P : Type 0} (S : Syntax T O P) (Leaf : ℕ → T → List Tok → 
   once-sound n k below single x room ts left us v rest f (Some o) is e =
       grows n k below x room ts o left v us rest is e f.front f.is (λ z r more good g. rule.once n k z o left r f.front more single good f.formed.0 g)
 
-  once-complete : (k n m room : ℕ) (t : T) (ts : List Tok) (below : ℕ → parse.Parse T) (single : form_of (line_of S.lines k) ≡ shape.Once) → ((room : ℕ) → Exact (Term n k room) (below room) (Ends k)) → Spelled n m t ts → m ≡ suc k → S.depth t ≤ room → (rest : List Tok) → Ends (suc k) rest
+  once-complete : (k n m room : ℕ) (t : T) (ts : List Tok) (below : ℕ → parse.Parse T) (single : form_of (line_of S.lines k) ≡ shape.Once)
+      → ((room : ℕ) → Exact (Term n k room) (below room) (Ends k)) → Spelled n m t ts → m ≡ suc k → S.depth t ≤ room → (rest : List Tok) → Ends (suc k) rest
       → once_line S k below room (ts ++ rest) ≡ Some (t, rest)
   unfolding once_line
   once-complete k n m room t ts below single x (rule.leaf p u us h) at d rest e = absurd (omega (arith, at))
@@ -309,7 +332,8 @@ module _ {T O P : Type 0} (S : Syntax T O P) (Leaf : ℕ → T → List Tok → 
   once-complete k n m room t ts below single x (rule.prefix p j y q u us c h) at d rest e =
       absurd (no_some (once_no_sign (line_of S.lines k) y single) (subst (λ (r : ℕ). sign (line_of S.lines r) y ≡ Some q) (suc-same j k at) c))
 
-  exact-once : (n k : ℕ) (below : ℕ → parse.Parse T) → form_of (line_of S.lines k) ≡ shape.Once → ((room : ℕ) → Exact (Term n k room) (below room) (Ends k)) → (room : ℕ) → Exact (Term n (suc k) room) (once_line S k below room) (Ends (suc k))
+  exact-once : (n k : ℕ) (below : ℕ → parse.Parse T) → form_of (line_of S.lines k) ≡ shape.Once → ((room : ℕ) → Exact (Term n k room) (below room) (Ends k))
+      → (room : ℕ) → Exact (Term n (suc k) room) (once_line S k below room) (Ends (suc k))
   unfolding once_line
   exact-once n k below single x room = record {
     sound = λ ts v rest e.
@@ -326,15 +350,20 @@ module _ {T O P : Type 0} (S : Syntax T O P) (Leaf : ℕ → T → List Tok → 
   begins_other k n m t ts (rule.bracket p u us h) le rest = clear.open_sign k
   begins_other k n m t ts (rule.call p y q u us c h) le rest = clear.call_sign k y q c
   begins_other k n m t ts (rule.tighter p j u us g) le rest = begins_other k p j u us g (omega (arith, le)) rest
-  begins_other k n m t ts (rule.chain p j y o a b us vs f c g h) le rest = ap (sign_at S k) (append_assoc us (y ∷ vs) rest) ∙ begins_other k p (suc j) a us g le (y ∷ (vs ++ rest))
-  begins_other k n m t ts (rule.once p j y o a b us vs f c g h) le rest = ap (sign_at S k) (append_assoc us (y ∷ vs) rest) ∙ begins_other k p j a us g (omega (arith, le)) (y ∷ (vs ++ rest))
+  begins_other k n m t ts (rule.chain p j y o a b us vs f c g h) le rest =
+      ap (sign_at S k) (append_assoc us (y ∷ vs) rest) ∙ begins_other k p (suc j) a us g le (y ∷ (vs ++ rest))
+  begins_other k n m t ts (rule.once p j y o a b us vs f c g h) le rest =
+      ap (sign_at S k) (append_assoc us (y ∷ vs) rest) ∙ begins_other k p j a us g (omega (arith, le)) (y ∷ (vs ++ rest))
   begins_other k n m t ts (rule.prefix p j y q u us c h) le rest = clear.signs_apart j k y q (omega (arith, le)) c
 
-  prefix-sound : (n k : ℕ) (below : ℕ → parse.Parse T) → ((room : ℕ) → Exact (Term n k room) (below room) (Ends k)) → (room : ℕ) (ts : List Tok) (v : T) (rest : List Tok) → prefix_line S k below room ts ≡ Some (v, rest) → Front (Term n (suc k) room) v ts rest
+  prefix-sound : (n k : ℕ) (below : ℕ → parse.Parse T) → ((room : ℕ) → Exact (Term n k room) (below room) (Ends k))
+      → (room : ℕ) (ts : List Tok) (v : T) (rest : List Tok) → prefix_line S k below room ts ≡ Some (v, rest) → Front (Term n (suc k) room) v ts rest
   unfolding prefix_line
   prefix-sound n k below x zero ts v rest e = cc
   prefix-sound n k below x (suc room) ts v rest e = by (sign_at S k ts) refl (λ us u vs g. prefix-sound n k below x room us u vs g) e where
-    by : (r : Option P) → sign_at S k ts ≡ r → ((us : List Tok) (u : T) (vs : List Tok) → prefix_line S k below room us ≡ Some (u, vs) → Front (Term n (suc k) room) u us vs) → prefix_on S (prefix_line S k below room) (below (suc room)) ts r ≡ Some (v, rest) → Front (Term n (suc k) (suc room)) v ts rest
+    by : (r : Option P) → sign_at S k ts ≡ r
+        → ((us : List Tok) (u : T) (vs : List Tok) → prefix_line S k below room us ≡ Some (u, vs) → Front (Term n (suc k) room) u us vs)
+        → prefix_on S (prefix_line S k below room) (below (suc room)) ts r ≡ Some (v, rest) → Front (Term n (suc k) (suc room)) v ts rest
     by None is more f =
         let y = (x (suc room)).sound ts v rest f in
         record { front = y.front; is = y.is; formed = (rule.tighter n k v y.front y.formed.0, y.formed.1) }
@@ -346,10 +375,12 @@ module _ {T O P : Type 0} (S : Syntax T O P) (Leaf : ℕ → T → List Tok → 
         record {
           front = c.token ∷ y.front;
           is = c.is ∙ ap (λ (us : List Tok). c.token ∷ us) (y.is ∙ ap (λ (us : List Tok). y.front ++ us) same.1);
-          formed = subst (λ (u : T). Term n (suc k) (suc room) u (c.token ∷ y.front)) same.0 (rule.prefix n k c.token p q.0 y.front c.good y.formed.0, mark-fits p q.0 room y.formed.1);
+          formed =
+              subst (λ (u : T). Term n (suc k) (suc room) u (c.token ∷ y.front)) same.0 (rule.prefix n k c.token p q.0 y.front c.good y.formed.0, mark-fits p q.0 room y.formed.1);
         }
 
-  prefix-complete : (k n m room : ℕ) (t : T) (ts : List Tok) (below : ℕ → parse.Parse T) (signs : form_of (line_of S.lines k) ≡ shape.Prefix) → ((room : ℕ) → Exact (Term n k room) (below room) (Ends k)) → Spelled n m t ts → m ≡ suc k → S.depth t ≤ room → (rest : List Tok) → Ends (suc k) rest
+  prefix-complete : (k n m room : ℕ) (t : T) (ts : List Tok) (below : ℕ → parse.Parse T) (signs : form_of (line_of S.lines k) ≡ shape.Prefix)
+      → ((room : ℕ) → Exact (Term n k room) (below room) (Ends k)) → Spelled n m t ts → m ≡ suc k → S.depth t ≤ room → (rest : List Tok) → Ends (suc k) rest
       → prefix_line S k below room (ts ++ rest) ≡ Some (t, rest)
   unfolding prefix_line
   prefix-complete k n m zero t ts below signs x h at d rest e = absurd (no-room n m t ts h d)
@@ -368,7 +399,8 @@ module _ {T O P : Type 0} (S : Syntax T O P) (Leaf : ℕ → T → List Tok → 
       let read : prefix_line S k below room (us ++ rest) ≡ Some (u, rest) = prefix-complete k p (suc j) room u us below signs x h at (mark-inner q u room d) rest e in
       rw (good, read) refl
 
-  exact-prefix : (n k : ℕ) (below : ℕ → parse.Parse T) → form_of (line_of S.lines k) ≡ shape.Prefix → ((room : ℕ) → Exact (Term n k room) (below room) (Ends k)) → (room : ℕ) → Exact (Term n (suc k) room) (prefix_line S k below room) (Ends (suc k))
+  exact-prefix : (n k : ℕ) (below : ℕ → parse.Parse T) → form_of (line_of S.lines k) ≡ shape.Prefix → ((room : ℕ) → Exact (Term n k room) (below room) (Ends k))
+      → (room : ℕ) → Exact (Term n (suc k) room) (prefix_line S k below room) (Ends (suc k))
   exact-prefix n k below signs x room = record {
     sound = λ ts v rest e. prefix-sound n k below x room ts v rest e;
     complete = λ v ts rest h e. prefix-complete k n (suc k) room v ts below signs x h.0 refl h.1 rest e;
@@ -376,13 +408,15 @@ module _ {T O P : Type 0} (S : Syntax T O P) (Leaf : ℕ → T → List Tok → 
 
   -- ALL LINES
 
-  exact-line : (n k : ℕ) (below : ℕ → parse.Parse T) → ((room : ℕ) → Exact (Term n k room) (below room) (Ends k)) → (room : ℕ) (l : Line O P) → line_of S.lines k ≡ l → Exact (Term n (suc k) room) (on_line S l k below room) (Ends (suc k))
+  exact-line : (n k : ℕ) (below : ℕ → parse.Parse T) → ((room : ℕ) → Exact (Term n k room) (below room) (Ends k)) → (room : ℕ) (l : Line O P)
+      → line_of S.lines k ≡ l → Exact (Term n (suc k) room) (on_line S l k below room) (Ends (suc k))
   exact-line n k below x room (Chain op) is = exact-chain n k below (ap form_of is) x room
   exact-line n k below x room (Once op) is = exact-once n k below (ap form_of is) x room
   exact-line n k below x room (Prefix p) is = exact-prefix n k below (ap form_of is) x room
 
   -- an expression on a line, where what stands in brackets is read exactly
-  pub exact-ladder : (n : ℕ) (i : ℕ → parse.Parse T) → ((room : ℕ) → Exact (IsWithin n room) (i room) (Ends (length S.lines))) → (rank room : ℕ) → Exact (IsTerm S Leaf n rank room) (ladder S (leaf n) i rank room) (Ends rank)
+  pub exact-ladder : (n : ℕ) (i : ℕ → parse.Parse T) → ((room : ℕ) → Exact (IsWithin n room) (i room) (Ends (length S.lines))) → (rank room : ℕ)
+      → Exact (IsTerm S Leaf n rank room) (ladder S (leaf n) i rank room) (Ends rank)
   unfolding ladder
   exact-ladder n i inner zero room = exact-as (exact-less (exact-base n room i inner) (λ rest (d : Ends 0 rest). d.1)) (λ v ts h. h) (λ v ts h. h) (λ ts. refl)
   exact-ladder n i inner (suc k) room =

@@ -48,12 +48,14 @@ exact-place : (n : ℕ) → Exact (IsPlace n) (place_at n) Any
 exact-place zero = record { sound = λ ts v rest e. cc; complete = λ v s rest h d. absurd h }
 exact-place (suc n) = exact-after (s.OpenBracket ∷ []) (exact-before (s.CloseBracket ∷ []) (exact-tested parse.is_count exact-number) (λ rest. tt))
 
-place-tokens : (n k : ℕ) (ts : List Tok) → form.After (s.OpenBracket ∷ []) (form.Before (form.Tested parse.is_count form.Number) (s.CloseBracket ∷ [])) k ts → (ts ≡ symbol s.OpenBracket ∷ number k ∷ symbol s.CloseBracket ∷ []) × (parse.is_count k ≡ true)
+place-tokens : (n k : ℕ) (ts : List Tok) → form.After (s.OpenBracket ∷ []) (form.Before (form.Tested parse.is_count form.Number) (s.CloseBracket ∷ [])) k ts
+    → (ts ≡ symbol s.OpenBracket ∷ number k ∷ symbol s.CloseBracket ∷ []) × (parse.is_count k ≡ true)
 place-tokens n k ts h =
     (h.is ∙ ap (λ (l : List Tok). symbol s.OpenBracket ∷ l) (h.formed.is ∙ ap (λ (l : List Tok). l ++ symbol s.CloseBracket ∷ []) h.formed.formed.formed), h.formed.formed.passes)
 
 module _ (l : Language) where
-  input-leaf : (n k : ℕ) (text : List ℕ) (ts : List Tok) → has_input l ≡ true → text ≡ codes "input" → IsPlace n k ts → IsLeaf l n (tree.Input k) (name text ∷ ts)
+  input-leaf : (n k : ℕ) (text : List ℕ) (ts : List Tok) → has_input l ≡ true → text ≡ codes "input" → IsPlace n k ts
+      → IsLeaf l n (tree.Input k) (name text ∷ ts)
   input-leaf zero k text ts has is h = absurd h
   input-leaf (suc n) k text ts has is h =
       let p = place-tokens n k ts h in
@@ -65,7 +67,8 @@ module _ (l : Language) where
       let p = place-tokens n k ts h in
       subst (λ (us : List Tok). IsLeaf l (suc n) (tree.Slot k) us) (ap (λ (w : List ℕ). name w ∷ symbol s.OpenBracket ∷ number k ∷ symbol s.CloseBracket ∷ []) (sym is) ∙ ap (λ (us : List Tok). name text ∷ us) (sym p.0)) (rule.slot n k has p.1)
 
-  pop-sound : (n : ℕ) (t : Spoken) (text : List ℕ) (ts rest : List Tok) → has_reads l ≡ true → text ≡ codes "pop" → pop_at n ts ≡ Some (t, rest) → Front (IsLeaf l n) t (name text ∷ ts) rest
+  pop-sound : (n : ℕ) (t : Spoken) (text : List ℕ) (ts rest : List Tok) → has_reads l ≡ true → text ≡ codes "pop" → pop_at n ts ≡ Some (t, rest)
+      → Front (IsLeaf l n) t (name text ∷ ts) rest
   pop-sound zero t text ts rest has is e = cc
   pop-sound (suc n) t text ts rest has is e =
       let f = (exact-after (s.Open ∷ s.Close ∷ []) (exact-nothing tree.Pop)).sound ts t rest e in
@@ -74,14 +77,17 @@ module _ (l : Language) where
       record {
         front = name text ∷ symbol s.Open ∷ symbol s.Close ∷ [];
         is = ap (λ (us : List Tok). name text ∷ us) (f.is ∙ ap (λ (us : List Tok). us ++ rest) tokens);
-        formed = subst (λ (u : Spoken). IsLeaf l (suc n) u (name text ∷ symbol s.Open ∷ symbol s.Close ∷ [])) (sym h.formed.0) (subst (λ (w : List ℕ). IsLeaf l (suc n) tree.Pop (name w ∷ symbol s.Open ∷ symbol s.Close ∷ [])) (sym is) (rule.pop n has));
+        formed =
+            subst (λ (u : Spoken). IsLeaf l (suc n) u (name text ∷ symbol s.Open ∷ symbol s.Close ∷ [])) (sym h.formed.0) (subst (λ (w : List ℕ). IsLeaf l (suc n) tree.Pop (name w ∷ symbol s.Open ∷ symbol s.Close ∷ [])) (sym is) (rule.pop n has));
       }
 
   -- a leaf that begins with a name, put together from what stands behind the name
-  put : {F : Spoken → List Tok → Type 0} (n : ℕ) (text : List ℕ) (t : Spoken) (ts rest : List Tok) → Front F t ts rest → ((front : List Tok) → F t front → IsLeaf l n t (name text ∷ front)) → Front (IsLeaf l n) t (name text ∷ ts) rest
+  put : {F : Spoken → List Tok → Type 0} (n : ℕ) (text : List ℕ) (t : Spoken) (ts rest : List Tok) → Front F t ts rest
+      → ((front : List Tok) → F t front → IsLeaf l n t (name text ∷ front)) → Front (IsLeaf l n) t (name text ∷ ts) rest
   put n text t ts rest f to = record { front = name text ∷ f.front; is = ap (λ (us : List Tok). name text ∷ us) f.is; formed = to f.front f.formed }
 
-  named-sound : (n : ℕ) (text : List ℕ) (ts : List Tok) (t : Spoken) (rest : List Tok) → named l n text ts ≡ Some (t, rest) → Front (IsLeaf l n) t (name text ∷ ts) rest
+  named-sound : (n : ℕ) (text : List ℕ) (ts : List Tok) (t : Spoken) (rest : List Tok) → named l n text ts ≡ Some (t, rest)
+      → Front (IsLeaf l n) t (name text ∷ ts) rest
   unfolding named
   named-sound n text ts t rest e =
       choose (has_input l && bytes_eq text (codes "input")) _ _ (t, rest) e
@@ -181,7 +187,8 @@ module _ (l : Language) where
   unfolding named
   named-pop n rest h = rw (and-false (has_input l), and-false (has_slot l), h) refl
 
-  place-there : (n k : ℕ) (rest : List Tok) → parse.is_count k ≡ true → place_at (suc n) (symbol s.OpenBracket ∷ number k ∷ symbol s.CloseBracket ∷ rest) ≡ Some (k, rest)
+  place-there : (n k : ℕ) (rest : List Tok) → parse.is_count k ≡ true
+      → place_at (suc n) (symbol s.OpenBracket ∷ number k ∷ symbol s.CloseBracket ∷ rest) ≡ Some (k, rest)
   place-there n k rest h = rw h refl
 
   leaf-complete : (n : ℕ) (t : Spoken) (ts rest : List Tok) → IsLeaf l n t ts → leaf_at l n (ts ++ rest) ≡ Some (t, rest)

@@ -1,5 +1,6 @@
 -- Lists of items, up to what stops them.
-use Rattle.std.proofs.Common.{◌≡◌, ℕ, zero, suc, ◌<◌, ◌+◌, List, [], ◌∷◌, ◌++◌, length, Bool, true, false, cond, Option, Some, None, refl, sym, ap, ◌∙◌, subst, arith, append_assoc, append-nil, length-append}
+use Rattle.std.proofs.Common.{◌≡◌, ℕ, zero, suc, ◌<◌, ◌+◌, List, [], ◌∷◌, ◌++◌, length, Bool, true, false, cond, Option, Some, None, refl, sym, ap, ◌∙◌, subst}
+use Rattle.std.proofs.Common.{arith, append_assoc, append-nil, length-append}
 use Rattle.std.specs.Prelude.{not, map}
 use Rattle.std.proofs.lemmas.List.{map-append}
 use Rattle.work_code.specs.Tok.{Tok, symbol}
@@ -19,14 +20,16 @@ pub record Listed {A : Type 0} (stop : List Tok → Bool) (F : A → List Tok �
   pub follows : (v : A) (s rest : List Tok) → F v s → E (s ++ rest)
 
 -- one more item at the end
-pub Each-more : {A : Type 0} (F : A → List Tok → Type 0) (vs : List A) (front : List Tok) (v : A) (s : List Tok) → form.Each F vs front → F v s → form.Each F (vs ++ v ∷ []) (front ++ s)
+pub Each-more : {A : Type 0} (F : A → List Tok → Type 0) (vs : List A) (front : List Tok) (v : A) (s : List Tok) → form.Each F vs front → F v s
+    → form.Each F (vs ++ v ∷ []) (front ++ s)
 Each-more F [] front v s h f = (s, [], ap (λ (l : List Tok). l ++ s) h ∙ sym (append-nil s), f, refl)
 Each-more F (w ∷ ws) front v s h f =
     (h.0, h.1 ++ s, ap (λ (l : List Tok). l ++ s) h.2 ∙ append_assoc h.0 h.1 s, h.3, Each-more F ws h.1 v s h.4 f)
 
 module _ {A : Type 0} {F : A → List Tok → Type 0} {p : parse.Parse A} {E : List Tok → Type 0} (stop : List Tok → Bool) (x : Exact F p E) (listed : Listed stop F E) where
   -- how a turn went on
-  turned : (done : List A) (b : Bool) (r : Option (A × List Tok)) (y : List A) (us : List Tok) → cond b Stop (parse.item_turn done r) ≡ Next y us → (b ≡ false) × (q : A × List Tok) × (r ≡ Some q) × (y ≡ done ++ q.0 ∷ []) × (us ≡ q.1)
+  turned : (done : List A) (b : Bool) (r : Option (A × List Tok)) (y : List A) (us : List Tok) → cond b Stop (parse.item_turn done r) ≡ Next y us
+      → (b ≡ false) × (q : A × List Tok) × (r ≡ Some q) × (y ≡ done ++ q.0 ∷ []) × (us ≡ q.1)
   turned done true r y us e = cc
   turned done false None y us e = cc
   turned done false (Some q) y us e = (refl, q, refl, sym (next_value e), sym (next_rest e)) where
@@ -49,7 +52,8 @@ module _ {A : Type 0} {F : A → List Tok → Type 0} {p : parse.Parse A} {E : L
   SoFar : List Tok → List A → List Tok → Type 0
   SoFar ts done us = (front : List Tok) × (ts ≡ front ++ us) × form.Each F done front
 
-  keeps : (ts : List Tok) (done : List A) (us : List Tok) (y : List A) (vs : List Tok) → SoFar ts done us → parse.many_turn stop p done us ≡ Next y vs → SoFar ts y vs
+  keeps : (ts : List Tok) (done : List A) (us : List Tok) (y : List A) (vs : List Tok) → SoFar ts done us → parse.many_turn stop p done us ≡ Next y vs
+      → SoFar ts y vs
   unfolding SoFar
   keeps ts done us y vs so e =
       let t = turned done (stop us) (p us) y vs e in
@@ -71,7 +75,8 @@ module _ {A : Type 0} {F : A → List Tok → Type 0} {p : parse.Parse A} {E : L
       let end = repeated-keeps (parse.many_turn stop p) (SoFar ts) (keeps ts) [] ts v rest ([], refl, refl) e in
       (record { front = end.0.0; is = end.0.1; formed = end.0.2 }, stopped (stop rest) (parse.item_turn v (p rest)) end.1 (goes_on v (p rest)))
 
-  many-complete : (done vs : List A) (s rest : List Tok) → form.Each F vs s → E rest → stop rest ≡ true → repeated (parse.many_turn stop p) done (s ++ rest) ≡ Some (done ++ vs, rest)
+  many-complete : (done vs : List A) (s rest : List Tok) → form.Each F vs s → E rest → stop rest ≡ true
+      → repeated (parse.many_turn stop p) done (s ++ rest) ≡ Some (done ++ vs, rest)
   many-complete done [] s rest h allowed stops =
       rw h (repeated-stop (parse.many_turn stop p) done rest (ap (λ (b : Bool). cond b Stop (parse.item_turn done (p rest))) stops) ∙ ap (λ (l : List A). Some (l, rest)) (sym (append-nil done)))
   many-complete done (v ∷ vs) s rest h allowed stops =
@@ -84,7 +89,8 @@ module _ {A : Type 0} {F : A → List Tok → Type 0} {p : parse.Parse A} {E : L
     where
       behind : (ws : List A) (back : List Tok) → form.Each F ws back → E (back ++ rest)
       behind [] back g = subst (λ (l : List Tok). E (l ++ rest)) (sym g) allowed
-      behind (w ∷ ws) back g = subst (λ (l : List Tok). E l) (sym (ap (λ (l : List Tok). l ++ rest) g.2 ∙ append_assoc g.0 g.1 rest)) (listed.follows w g.0 (g.1 ++ rest) g.3)
+      behind (w ∷ ws) back g =
+          subst (λ (l : List Tok). E l) (sym (ap (λ (l : List Tok). l ++ rest) g.2 ∙ append_assoc g.0 g.1 rest)) (listed.follows w g.0 (g.1 ++ rest) g.3)
 
   -- items until what stops them
   pub exact-many : Exact (form.Each F) (parse.many stop p) (λ rest. E rest × (stop rest ≡ true))
@@ -128,23 +134,27 @@ module _ {A : Type 0} {F : A → List Tok → Type 0} {p : parse.Parse A} {E : L
       exact-seen (λ (v : A × List A). v.0 ∷ v.1) (exact-both x (exact-many parse.no_comma (exact-after (Comma ∷ []) x) listed_commas) behind_first)
 
   -- the loop that begins with the first item
-  same_turn : (first : A) (done : List A) (ts : List Tok) → parse.comma_turn p (first ∷ done) ts ≡ on_turn first (parse.many_turn parse.no_comma (parse.after (Comma ∷ []) p) done ts)
+  same_turn : (first : A) (done : List A) (ts : List Tok)
+      → parse.comma_turn p (first ∷ done) ts ≡ on_turn first (parse.many_turn parse.no_comma (parse.after (Comma ∷ []) p) done ts)
   unfolding parse.comma_turn
   same_turn first done ts = by (parse.begins_with Comma ts) refl where
-    by : (b : Bool) → parse.begins_with Comma ts ≡ b → cond b (parse.item_turn (first ∷ done) (p (tail ts))) Stop ≡ on_turn first (cond (not b) Stop (parse.item_turn done (parse.after (Comma ∷ []) p ts)))
+    by : (b : Bool) → parse.begins_with Comma ts ≡ b
+        → cond b (parse.item_turn (first ∷ done) (p (tail ts))) Stop ≡ on_turn first (cond (not b) Stop (parse.item_turn done (parse.after (Comma ∷ []) p ts)))
     by false e = refl
     by true e = rw e (item (p (tail ts))) where
       item : (r : Option (A × List Tok)) → parse.item_turn (first ∷ done) r ≡ on_turn first (parse.item_turn done r)
       item None = refl
       item (Some q) = refl
 
-  same_turns : (n : ℕ) (first : A) (done : List A) (ts : List Tok) → turns (parse.comma_turn p) n (first ∷ done) ts ≡ on_read first (turns (parse.many_turn parse.no_comma (parse.after (Comma ∷ []) p)) n done ts)
+  same_turns : (n : ℕ) (first : A) (done : List A) (ts : List Tok)
+      → turns (parse.comma_turn p) n (first ∷ done) ts ≡ on_read first (turns (parse.many_turn parse.no_comma (parse.after (Comma ∷ []) p)) n done ts)
   unfolding turns
   same_turns zero first done ts = refl
   same_turns (suc n) first done ts =
       ap (after_turn (turns (parse.comma_turn p) n) (first ∷ done) ts) (same_turn first done ts) ∙ by (parse.many_turn parse.no_comma (parse.after (Comma ∷ []) p) done ts) (λ more us. same_turns n first more us)
     where
-      by : (t : Turn (List A)) → ((more : List A) (us : List Tok) → turns (parse.comma_turn p) n (first ∷ more) us ≡ on_read first (turns (parse.many_turn parse.no_comma (parse.after (Comma ∷ []) p)) n more us))
+      by : (t : Turn (List A))
+          → ((more : List A) (us : List Tok) → turns (parse.comma_turn p) n (first ∷ more) us ≡ on_read first (turns (parse.many_turn parse.no_comma (parse.after (Comma ∷ []) p)) n more us))
           → after_turn (turns (parse.comma_turn p) n) (first ∷ done) ts (on_turn first t) ≡ on_read first (after_turn (turns (parse.many_turn parse.no_comma (parse.after (Comma ∷ []) p)) n) done ts t)
       by Stop f = refl
       by Fail f = refl
@@ -153,13 +163,16 @@ module _ {A : Type 0} {F : A → List Tok → Type 0} {p : parse.Parse A} {E : L
   same_commas : (ts : List Tok) → parse.commas p ts ≡ commas_parts ts
   unfolding repeated
   same_commas ts = by (p ts) where
-    loop : (a : A) (us : List Tok) → repeated (parse.comma_turn p) (a ∷ []) us ≡ on_read a (repeated (parse.many_turn parse.no_comma (parse.after (Comma ∷ []) p)) [] us)
+    loop : (a : A) (us : List Tok)
+        → repeated (parse.comma_turn p) (a ∷ []) us ≡ on_read a (repeated (parse.many_turn parse.no_comma (parse.after (Comma ∷ []) p)) [] us)
     loop a us = same_turns (suc (length us)) a [] us
 
-    by : (r : Option (A × List Tok)) → parse.then_read r (λ a us. repeated (parse.comma_turn p) (a ∷ []) us) ≡ parse.then_read {A = A × List A} {B = List A} (parse.then_read {A = A} {B = A × List A} r (λ a us. parse.then_read {A = List A} {B = A × List A} (parse.many parse.no_comma (parse.after (Comma ∷ []) p) us) (λ b vs. Some ((a, b), vs)))) (λ v vs. Some (v.0 ∷ v.1, vs))
+    by : (r : Option (A × List Tok))
+        → parse.then_read r (λ a us. repeated (parse.comma_turn p) (a ∷ []) us) ≡ parse.then_read {A = A × List A} {B = List A} (parse.then_read {A = A} {B = A × List A} r (λ a us. parse.then_read {A = List A} {B = A × List A} (parse.many parse.no_comma (parse.after (Comma ∷ []) p) us) (λ b vs. Some ((a, b), vs)))) (λ v vs. Some (v.0 ∷ v.1, vs))
     by None = refl
     by (Some q) = loop q.0 q.1 ∙ out (parse.many parse.no_comma (parse.after (Comma ∷ []) p) q.1) where
-      out : (r : Option (List A × List Tok)) → on_read q.0 r ≡ parse.then_read {A = A × List A} {B = List A} (parse.then_read {A = List A} {B = A × List A} r (λ b vs. Some ((q.0, b), vs))) (λ v vs. Some (v.0 ∷ v.1, vs))
+      out : (r : Option (List A × List Tok))
+          → on_read q.0 r ≡ parse.then_read {A = A × List A} {B = List A} (parse.then_read {A = List A} {B = A × List A} r (λ b vs. Some ((q.0, b), vs))) (λ v vs. Some (v.0 ∷ v.1, vs))
       out None = refl
       out (Some w) = refl
 
@@ -167,10 +180,12 @@ module _ {A : Type 0} {F : A → List Tok → Type 0} {p : parse.Parse A} {E : L
   exact-commas = exact-as exact-parts (λ v s h. h) (λ v s h. h) same_commas
 
   -- how a turn went on
-  comma-turned : (done : List A) (ts : List Tok) (y : List A) (us : List Tok) → parse.comma_turn p done ts ≡ Next y us → (parse.begins_with Comma ts ≡ true) × (q : A × List Tok) × (p (tail ts) ≡ Some q) × (us ≡ q.1)
+  comma-turned : (done : List A) (ts : List Tok) (y : List A) (us : List Tok) → parse.comma_turn p done ts ≡ Next y us
+      → (parse.begins_with Comma ts ≡ true) × (q : A × List Tok) × (p (tail ts) ≡ Some q) × (us ≡ q.1)
   unfolding parse.comma_turn
   comma-turned done ts y us e = by (parse.begins_with Comma ts) (p (tail ts)) refl refl e where
-    by : (b : Bool) (r : Option (A × List Tok)) → parse.begins_with Comma ts ≡ b → p (tail ts) ≡ r → cond b (parse.item_turn done r) Stop ≡ Next y us → (parse.begins_with Comma ts ≡ true) × (q : A × List Tok) × (p (tail ts) ≡ Some q) × (us ≡ q.1)
+    by : (b : Bool) (r : Option (A × List Tok)) → parse.begins_with Comma ts ≡ b → p (tail ts) ≡ r → cond b (parse.item_turn done r) Stop ≡ Next y us
+        → (parse.begins_with Comma ts ≡ true) × (q : A × List Tok) × (p (tail ts) ≡ Some q) × (us ≡ q.1)
     by false r b_is r_is f = cc
     by true None b_is r_is f = cc
     by true (Some q) b_is r_is f = (b_is, q, r_is, rest f) where
@@ -187,12 +202,14 @@ module _ {A : Type 0} {F : A → List Tok → Type 0} {p : parse.Parse A} {E : L
       omega arith
 
   -- the steps by which code reads the items
-  pub comma-next : (done : List A) (ts us : List Tok) (v : A) → parse.begins_with Comma ts ≡ true → p (tail ts) ≡ Some (v, us) → repeated (parse.comma_turn p) (done ++ v ∷ []) us ≡ repeated (parse.comma_turn p) done ts
+  pub comma-next : (done : List A) (ts us : List Tok) (v : A) → parse.begins_with Comma ts ≡ true → p (tail ts) ≡ Some (v, us)
+      → repeated (parse.comma_turn p) (done ++ v ∷ []) us ≡ repeated (parse.comma_turn p) done ts
   unfolding parse.comma_turn
   comma-next done ts us v comes read = sym (repeated-next (parse.comma_turn p) comma-shortens done ts (done ++ v ∷ []) us (rw (comes, read) refl))
 
   -- the same, as a loop over a list of other values goes on: `b` says whether a comma was taken
-  pub comma-more : {X : Type 0} (f : X → A) (old new : List X) (i : X) (ts mid us : List Tok) (b : Bool) → new ≡ old ++ i ∷ [] → b ≡ true → b ≡ parse.begins_with Comma ts → mid ≡ cond b (tail ts) ts → p mid ≡ Some (f i, us)
+  pub comma-more : {X : Type 0} (f : X → A) (old new : List X) (i : X) (ts mid us : List Tok) (b : Bool) → new ≡ old ++ i ∷ [] → b ≡ true
+      → b ≡ parse.begins_with Comma ts → mid ≡ cond b (tail ts) ts → p mid ≡ Some (f i, us)
       → repeated (parse.comma_turn p) (map f new) us ≡ repeated (parse.comma_turn p) (map f old) ts
   comma-more f old new i ts mid us b pushed holds comes taken read =
       let rest : mid ≡ tail ts = taken ∙ ap (λ (c : Bool). cond c (tail ts) ts) holds in
@@ -200,12 +217,14 @@ module _ {A : Type 0} {F : A → List Tok → Type 0} {p : parse.Parse A} {E : L
       ∙ comma-next (map f old) ts us (f i) (sym comes ∙ holds) (sym (ap p rest) ∙ read)
 
 -- a list ends where no comma comes
-pub comma-stop : {A : Type 0} (p : parse.Parse A) (done : List A) (ts : List Tok) → parse.begins_with Comma ts ≡ false → repeated (parse.comma_turn p) done ts ≡ Some (done, ts)
+pub comma-stop : {A : Type 0} (p : parse.Parse A) (done : List A) (ts : List Tok) → parse.begins_with Comma ts ≡ false
+    → repeated (parse.comma_turn p) done ts ≡ Some (done, ts)
 unfolding parse.comma_turn
 comma-stop p done ts none = repeated-stop (parse.comma_turn p) done ts (rw none refl)
 
 -- there is no list where no item stands behind a comma
-pub comma-bad : {A : Type 0} (p : parse.Parse A) (done : List A) (ts : List Tok) → parse.begins_with Comma ts ≡ true → p (tail ts) ≡ None → repeated (parse.comma_turn p) done ts ≡ None
+pub comma-bad : {A : Type 0} (p : parse.Parse A) (done : List A) (ts : List Tok) → parse.begins_with Comma ts ≡ true → p (tail ts) ≡ None
+    → repeated (parse.comma_turn p) done ts ≡ None
 unfolding parse.comma_turn
 comma-bad p done ts comes read = repeated-fail (parse.comma_turn p) done ts (rw (comes, read) refl)
 

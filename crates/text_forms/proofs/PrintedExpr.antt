@@ -13,7 +13,8 @@ use Rattle.work_code.specs.Printed.{text_of, sign_text}
 use Rattle.work_code.specs.Lexis.{most, is_blank, first_is, is_word, is_letter, is_digit}
 use Rattle.work_code.specs.Symbols.{symbol_bytes}
 use Rattle.work_code.specs.Tok.{Tok, name, number, symbol}
-use Rattle.work_code.proofs.Spelled.{Spells, Anything, NoWord, NoSign, MayFollow, is_name_text, spells-then, spells-less, spells-blank, spells-symbol, spells-name, spells-number, blank_follows, minus_follows, not_follows, decimal-first}
+use Rattle.work_code.proofs.Spelled.{Spells, Anything, NoWord, NoSign, MayFollow, is_name_text, spells-then, spells-less, spells-blank, spells-symbol}
+use Rattle.work_code.proofs.Spelled.{spells-name, spells-number, blank_follows, minus_follows, not_follows, decimal-first}
 use Rattle.text_forms.specs.Parse.{is_count}
 use Rattle.text_forms.specs.Tree.{Spoken}
 use Rattle.text_forms.specs.Tree as tree
@@ -89,11 +90,13 @@ up : (n j k : ℕ) (t : Spoken) (ts : List Tok) → grammar.Spells River n k t t
 up n zero k t ts h = h
 up n (suc j) k t ts h = lines.tighter n (higher j k) t ts (up n j k t ts h)
 
-chained : (n k : ℕ) (o : BinOp) (a b : Spoken) (ts us : List Tok) → form_of (line_of grammar.seven k) ≡ form.Chain → operator (line_of grammar.seven k) (symbol (grammar.sign_of o)) ≡ Some o → grammar.Spells River n 0 a ts → grammar.Spells River n 0 b us
+chained : (n k : ℕ) (o : BinOp) (a b : Spoken) (ts us : List Tok) → form_of (line_of grammar.seven k) ≡ form.Chain
+    → operator (line_of grammar.seven k) (symbol (grammar.sign_of o)) ≡ Some o → grammar.Spells River n 0 a ts → grammar.Spells River n 0 b us
     → grammar.Spells River n (suc k) (tree.Bin o a b) (ts ++ symbol (grammar.sign_of o) ∷ us)
 chained n k o a b ts us many is x y = lines.chain n k (symbol (grammar.sign_of o)) o a b ts us many is (looser n a ts x (suc k)) (looser n b us y k)
 
-operation : (n : ℕ) (o : BinOp) (a b : Spoken) (ts us : List Tok) → grammar.Spells River n 0 a ts → grammar.Spells River n 0 b us → grammar.Spells River n 7 (tree.Bin o a b) (ts ++ symbol (grammar.sign_of o) ∷ us)
+operation : (n : ℕ) (o : BinOp) (a b : Spoken) (ts us : List Tok) → grammar.Spells River n 0 a ts → grammar.Spells River n 0 b us
+    → grammar.Spells River n 7 (tree.Bin o a b) (ts ++ symbol (grammar.sign_of o) ∷ us)
 operation n op.Add a b ts us x y = up n 4 3 (tree.Bin op.Add a b) (ts ++ symbol (grammar.sign_of op.Add) ∷ us) (chained n 2 op.Add a b ts us refl refl x y)
 operation n op.Sub a b ts us x y = up n 4 3 (tree.Bin op.Sub a b) (ts ++ symbol (grammar.sign_of op.Sub) ∷ us) (chained n 2 op.Sub a b ts us refl refl x y)
 operation n op.Mul a b ts us x y = up n 5 2 (tree.Bin op.Mul a b) (ts ++ symbol (grammar.sign_of op.Mul) ∷ us) (chained n 1 op.Mul a b ts us refl refl x y)
@@ -109,7 +112,8 @@ operation n op.And a b ts us x y = up n 1 6 (tree.Bin op.And a b) (ts ++ symbol 
 operation n op.Or a b ts us x y = up n 0 7 (tree.Bin op.Or a b) (ts ++ symbol (grammar.sign_of op.Or) ∷ us) (chained n 6 op.Or a b ts us refl refl x y)
 
 -- a sign before an expression
-signed : (n : ℕ) (x : Symbol) (p : Unary) (t : Spoken) (ts : List Tok) → grammar.sign_before x ≡ Some p → grammar.Spells River n 0 t ts → grammar.Spells River n 7 (grammar.marked p t) (symbol x ∷ ts)
+signed : (n : ℕ) (x : Symbol) (p : Unary) (t : Spoken) (ts : List Tok) → grammar.sign_before x ≡ Some p → grammar.Spells River n 0 t ts
+    → grammar.Spells River n 7 (grammar.marked p t) (symbol x ∷ ts)
 signed n x p t ts is h = up n 6 1 (grammar.marked p t) (symbol x ∷ ts) (lines.prefix n 0 (symbol x) p t ts is (looser n t ts h 1))
 
 -- the tokens of the printed text stand for the expression
@@ -132,7 +136,8 @@ printed-is t n w d m = (looser n (spoken_of t) (printed t) (printed-spells t n w
 
 -- ---- the bytes of the text have these tokens
 
-pub symbol-then : {ok : List ℕ → Type 0} (x : Symbol) (u : List ℕ) (us : List Tok) → Spells u us ok → ((rest : List ℕ) → ok rest → MayFollow x (u ++ rest)) → Spells (symbol_bytes x ++ u) (symbol x ∷ us) ok
+pub symbol-then : {ok : List ℕ → Type 0} (x : Symbol) (u : List ℕ) (us : List Tok) → Spells u us ok → ((rest : List ℕ) → ok rest → MayFollow x (u ++ rest))
+    → Spells (symbol_bytes x ++ u) (symbol x ∷ us) ok
 symbol-then x u us h follows = spells-then (symbol_bytes x) (symbol x ∷ []) u us (spells-symbol x) h follows
 
 -- no word goes on at these
@@ -158,7 +163,8 @@ in_brackets u us h =
     symbol-then s.Open (u ++ codes ")") (us ++ symbol s.Close ∷ []) (spells-then u us (codes ")") (symbol s.Close ∷ []) h (spells-symbol s.Close) close_is_no_word) (λ rest any. tt)
 
 -- a word before a number in square brackets
-indexed : (word : List ℕ) (n : ℕ) → is_name_text word ≡ true → n < 4294967296 → Spells (word ++ (codes "[" ++ (decimal n ++ codes "]"))) (name word ∷ symbol s.OpenBracket ∷ number n ∷ symbol s.CloseBracket ∷ []) Anything
+indexed : (word : List ℕ) (n : ℕ) → is_name_text word ≡ true → n < 4294967296
+    → Spells (word ++ (codes "[" ++ (decimal n ++ codes "]"))) (name word ∷ symbol s.OpenBracket ∷ number n ∷ symbol s.CloseBracket ∷ []) Anything
 indexed word n is fits =
     spells-then word (name word ∷ []) (codes "[" ++ (decimal n ++ codes "]")) (symbol s.OpenBracket ∷ number n ∷ symbol s.CloseBracket ∷ []) (spells-name word is)
     (symbol-then s.OpenBracket (decimal n ++ codes "]") (number n ∷ symbol s.CloseBracket ∷ [])
@@ -197,7 +203,8 @@ sign_text-is op.And = refl
 sign_text-is op.Or = refl
 
 -- an operator between blanks
-operator-then : (o : BinOp) (u : List ℕ) (us : List Tok) → Spells u us NoWord → Spells (codes " " ++ (sign_text o ++ (codes " " ++ u))) (symbol (grammar.sign_of o) ∷ us) NoWord
+operator-then : (o : BinOp) (u : List ℕ) (us : List Tok) → Spells u us NoWord
+    → Spells (codes " " ++ (sign_text o ++ (codes " " ++ u))) (symbol (grammar.sign_of o) ∷ us) NoWord
 operator-then o u us h =
     subst (λ (l : List ℕ). Spells (codes " " ++ (l ++ (codes " " ++ u))) (symbol (grammar.sign_of o) ∷ us) NoWord) (sign_text-is o)
     (blank-then (symbol_bytes (grammar.sign_of o) ++ (codes " " ++ u)) (symbol (grammar.sign_of o) ∷ us)

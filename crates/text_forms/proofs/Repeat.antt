@@ -9,12 +9,14 @@ abbrev pub Shortens : {A : Type 0} → (A → List Tok → Turn A) → Type 0
 Shortens {A} step = (x : A) (ts : List Tok) (y : A) (us : List Tok) → step x ts ≡ Next y us → length us < length ts
 
 -- more turns than tokens are enough
-enough : {A : Type 0} (step : A → List Tok → Turn A) → Shortens step → (n m : ℕ) (x : A) (ts : List Tok) → length ts < n → length ts < m → turns step n x ts ≡ turns step m x ts
+enough : {A : Type 0} (step : A → List Tok → Turn A) → Shortens step → (n m : ℕ) (x : A) (ts : List Tok) → length ts < n → length ts < m
+    → turns step n x ts ≡ turns step m x ts
 unfolding turns
 enough step short zero m x ts a b = absurd (omega arith)
 enough step short (suc n) zero x ts a b = absurd (omega arith)
 enough {A} step short (suc n) (suc m) x ts a b = by (λ y us c d. enough step short n m y us c d) (step x ts) refl where
-  by : ((y : A) (us : List Tok) → length us < n → length us < m → turns step n y us ≡ turns step m y us) → (turn : Turn A) → step x ts ≡ turn → after_turn (turns step n) x ts turn ≡ after_turn (turns step m) x ts turn
+  by : ((y : A) (us : List Tok) → length us < n → length us < m → turns step n y us ≡ turns step m y us) → (turn : Turn A) → step x ts ≡ turn
+      → after_turn (turns step n) x ts turn ≡ after_turn (turns step m) x ts turn
   by more Stop is = refl
   by more Fail is = refl
   by more (Next y us) is =
@@ -22,7 +24,8 @@ enough {A} step short (suc n) (suc m) x ts a b = by (λ y us c d. enough step sh
       more y us (omega arith) (omega arith)
 
 -- a loop goes on behind a turn that gives a value
-pub repeated-next : {A : Type 0} (step : A → List Tok → Turn A) → Shortens step → (x : A) (ts : List Tok) (y : A) (us : List Tok) → step x ts ≡ Next y us → repeated step x ts ≡ repeated step y us
+pub repeated-next : {A : Type 0} (step : A → List Tok → Turn A) → Shortens step → (x : A) (ts : List Tok) (y : A) (us : List Tok) → step x ts ≡ Next y us
+    → repeated step x ts ≡ repeated step y us
 unfolding repeated turns
 repeated-next step short x ts y us is =
     let less : length us < length ts = short x ts y us is in
@@ -44,7 +47,8 @@ module _ {A : Type 0} (step : A → List Tok → Turn A) (P : A → List Tok →
   unfolding turns
   turns-keep zero x ts y us p e = cc
   turns-keep (suc n) x ts y us p e = by (λ z vs q f. turns-keep n z vs y us q f) (step x ts) refl e where
-    by : ((z : A) (vs : List Tok) → P z vs → turns step n z vs ≡ Some (y, us) → P y us × (step y us ≡ Stop)) → (turn : Turn A) → step x ts ≡ turn → after_turn (turns step n) x ts turn ≡ Some (y, us) → P y us × (step y us ≡ Stop)
+    by : ((z : A) (vs : List Tok) → P z vs → turns step n z vs ≡ Some (y, us) → P y us × (step y us ≡ Stop)) → (turn : Turn A) → step x ts ≡ turn
+        → after_turn (turns step n) x ts turn ≡ Some (y, us) → P y us × (step y us ≡ Stop)
     by more Stop is at_end = subst (λ (r : A × List Tok). P r.0 r.1 × (step r.0 r.1 ≡ Stop)) (some_inj at_end) (p, is)
     by more Fail is at_end = cc
     by more (Next z vs) is at_end = more z vs (keeps x ts z vs p is) at_end

@@ -82,7 +82,8 @@ operator-is (suc (suc (suc zero))) x = refl
 operator-is (suc (suc (suc (suc zero)))) x = refl
 operator-is (suc (suc (suc (suc (suc zero))))) x = refl
 operator-is (suc (suc (suc (suc (suc (suc zero)))))) x = refl
-operator-is (suc (suc (suc (suc (suc (suc (suc k))))))) x = sym (no-rank (suc (suc (suc (suc (suc (suc (suc k))))))) (op_at x) (λ o e. let few = (rank-some o).1 in omega (arith, few, e)))
+operator-is (suc (suc (suc (suc (suc (suc (suc k))))))) x =
+    sym (no-rank (suc (suc (suc (suc (suc (suc (suc k))))))) (op_at x) (λ o e. let few = (rank-some o).1 in omega (arith, few, e)))
 
 pub operator_at-is : (l : Language) (k : ℕ) (ts : List Tok) → lines.operator_at (syntax l) k ts ≡ expressions.operator_at k ts
 operator_at-is l k [] = refl

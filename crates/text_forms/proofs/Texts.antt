@@ -37,7 +37,8 @@ module _ {S A : Type 0} {F : S → A → List Tok → Type 0} {p : S → Parse A
     same f = cc
   first_ok v (Err n) vs e = cc
 
-  unit_ok : (n : ℕ) (more : A → Result (List A) ℕ) (o : Option A) (vs : List A) → after_unit n more o ≡ Ok vs → (v : A) × (o ≡ Some v) × (ws : List A) × (more v ≡ Ok ws) × (vs ≡ v ∷ ws)
+  unit_ok : (n : ℕ) (more : A → Result (List A) ℕ) (o : Option A) (vs : List A) → after_unit n more o ≡ Ok vs
+      → (v : A) × (o ≡ Some v) × (ws : List A) × (more v ≡ Ok ws) × (vs ≡ v ∷ ws)
   unit_ok n more None vs e = cc
   unit_ok n more (Some v) vs e = let f = first_ok v (more v) vs e in (v, refl, f.0, f.1, f.2)
 
@@ -121,7 +122,8 @@ module _ {S A : Type 0} {F : S → A → List Tok → Type 0} {p : S → Parse A
   nothing-read s u not (Some v) e = absurd (not v (whole-sound (x s) u v e))
 
   bad-from : (s : S) (n : ℕ) (before : List (List Tok)) (bad : List Tok) (behind : List (List Tok)) (vs : List A)
-      → AllFormed F next s vs before → ((v : A) → F (state_after next s vs) v bad → ⊥) → read_units p next s n (before ++ (bad ∷ behind)) ≡ Err (n + length before)
+      → AllFormed F next s vs before → ((v : A) → F (state_after next s vs) v bad → ⊥)
+      → read_units p next s n (before ++ (bad ∷ behind)) ≡ Err (n + length before)
   bad-from s n [] bad behind [] h not =
       let e = nothing-read s bad not (whole (p s) bad) refl in
       let z : n + 0 ≡ n = omega arith in

@@ -128,8 +128,10 @@ syntax l = record { lines = seven; call = call_at l; join = λ o a b. tree.Bin o
 pub data IsLeaf (l : Language) : (n : ℕ) (t : Spoken) (ts : List Tok) → Type 0 where
   number : (n v : ℕ) → IsLeaf l n (tree.Number v) (tok.number v ∷ [])
   name : (n : ℕ) (text : List ℕ) → names_values l text ≡ true → IsLeaf l n (tree.Name text) (tok.name text ∷ [])
-  input : (n k : ℕ) → has_input l ≡ true → is_count k ≡ true → IsLeaf l (suc n) (tree.Input k) (tok.name (codes "input") ∷ tok.symbol s.OpenBracket ∷ tok.number k ∷ tok.symbol s.CloseBracket ∷ [])
-  slot : (n k : ℕ) → has_slot l ≡ true → is_count k ≡ true → IsLeaf l (suc n) (tree.Slot k) (tok.name (codes "slot") ∷ tok.symbol s.OpenBracket ∷ tok.number k ∷ tok.symbol s.CloseBracket ∷ [])
+  input : (n k : ℕ) → has_input l ≡ true → is_count k ≡ true
+      → IsLeaf l (suc n) (tree.Input k) (tok.name (codes "input") ∷ tok.symbol s.OpenBracket ∷ tok.number k ∷ tok.symbol s.CloseBracket ∷ [])
+  slot : (n k : ℕ) → has_slot l ≡ true → is_count k ≡ true
+      → IsLeaf l (suc n) (tree.Slot k) (tok.name (codes "slot") ∷ tok.symbol s.OpenBracket ∷ tok.number k ∷ tok.symbol s.CloseBracket ∷ [])
   pop : (n : ℕ) → has_reads l ≡ true → IsLeaf l (suc n) tree.Pop (tok.name (codes "pop") ∷ tok.symbol s.Open ∷ tok.symbol s.Close ∷ [])
 
 -- the tokens stand for the tree, on the line above `rank` others, where `n` more brackets may be open

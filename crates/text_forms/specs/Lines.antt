@@ -61,13 +61,15 @@ sign (Prefix p) x = p x
 pub data Spells {T O P : Type 0} (S : Syntax T O P) (Leaf : ℕ → T → List Tok → Type 0) : (n rank : ℕ) (t : T) (ts : List Tok) → Type 0 where
   leaf : (n : ℕ) (t : T) (ts : List Tok) → Leaf n t ts → Spells S Leaf n 0 t ts
   bracket : (n : ℕ) (t : T) (ts : List Tok) → Spells S Leaf n (length S.lines) t ts → Spells S Leaf (suc n) 0 t (symbol s.Open ∷ (ts ++ symbol s.Close ∷ []))
-  call : (n : ℕ) (x : Tok) (p : P) (t : T) (ts : List Tok) → S.call x ≡ Some p → Spells S Leaf n (length S.lines) t ts → Spells S Leaf (suc n) 0 (S.mark p t) (x ∷ symbol s.Open ∷ (ts ++ symbol s.Close ∷ []))
+  call : (n : ℕ) (x : Tok) (p : P) (t : T) (ts : List Tok) → S.call x ≡ Some p → Spells S Leaf n (length S.lines) t ts
+      → Spells S Leaf (suc n) 0 (S.mark p t) (x ∷ symbol s.Open ∷ (ts ++ symbol s.Close ∷ []))
   tighter : (n k : ℕ) (t : T) (ts : List Tok) → Spells S Leaf n k t ts → Spells S Leaf n (suc k) t ts
   chain : (n k : ℕ) (x : Tok) (o : O) (a b : T) (ts us : List Tok) → form_of (line_of S.lines k) ≡ form.Chain → operator (line_of S.lines k) x ≡ Some o
       → Spells S Leaf n (suc k) a ts → Spells S Leaf n k b us → Spells S Leaf n (suc k) (S.join o a b) (ts ++ x ∷ us)
   once : (n k : ℕ) (x : Tok) (o : O) (a b : T) (ts us : List Tok) → form_of (line_of S.lines k) ≡ form.Once → operator (line_of S.lines k) x ≡ Some o
       → Spells S Leaf n k a ts → Spells S Leaf n k b us → Spells S Leaf n (suc k) (S.join o a b) (ts ++ x ∷ us)
-  prefix : (n k : ℕ) (x : Tok) (p : P) (t : T) (ts : List Tok) → sign (line_of S.lines k) x ≡ Some p → Spells S Leaf n (suc k) t ts → Spells S Leaf n (suc k) (S.mark p t) (x ∷ ts)
+  prefix : (n k : ℕ) (x : Tok) (p : P) (t : T) (ts : List Tok) → sign (line_of S.lines k) x ≡ Some p → Spells S Leaf n (suc k) t ts
+      → Spells S Leaf n (suc k) (S.mark p t) (x ∷ ts)
 
 -- the tokens stand for the tree, which is at most `room` deep
 abbrev pub IsTerm : {T O P : Type 0} → Syntax T O P → (ℕ → T → List Tok → Type 0) → (n rank room : ℕ) → T → List Tok → Type 0

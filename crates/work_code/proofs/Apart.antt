@@ -24,7 +24,9 @@ one_more text at len to s here passed b =
     record {
       blanks = take len s ∷ b.blanks;
       within = b.within;
-      is = sym here ∙ sym (take-append-drop len s) ∙ ap (λ (l : List ℕ). take len s ++ l) behind ∙ sym (append_assoc (take len s) (concat b.blanks) (drop to text));
+      is =
+          sym here ∙ sym (take-append-drop len s) ∙ ap (λ (l : List ℕ). take len s ++ l) behind
+          ∙ sym (append_assoc (take len s) (concat b.blanks) (drop to text));
       are = (subst (IsPassedOver (take len s)) behind passed, b.are);
     }
 
@@ -47,7 +49,8 @@ from_piece text at c cs (token t len) ms here fits passed later e =
 from_piece text at c cs bad ms here fits passed later e = cc
 from_piece text at c cs big ms here fits passed later e = cc
 
-apart : (text : List ℕ) (skip at : ℕ) (s : List ℕ) (ms : List Mark) → s ≡ drop at text → at ≤ length text → skip ≤ length s → marks skip at s ≡ Ok ms → AreApart text (at + skip) ms
+apart : (text : List ℕ) (skip at : ℕ) (s : List ℕ) (ms : List Mark) → s ≡ drop at text → at ≤ length text → skip ≤ length s → marks skip at s ≡ Ok ms
+    → AreApart text (at + skip) ms
 unfolding marks
 apart text skip at [] [] here within fits e =
     let end : at + skip ≡ length text = omega (arith, ap length here, length-drop at text) in

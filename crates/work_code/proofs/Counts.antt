@@ -15,7 +15,8 @@ cut_few : (b : ℕ) (ts : List Tok) → length (cut b ts) ≤ length ts
 unfolding cut
 cut_few b [] = omega arith
 cut_few b (t ∷ ts) = by (ends_unit b t ts) (cut_few 0 ts) (cut_few (braces_after b t) ts) where
-  by : (c : Bool) → length (cut 0 ts) ≤ length ts → length (cut (braces_after b t) ts) ≤ length ts → length (cond c ((t ∷ []) ∷ cut 0 ts) (to_first t (cut (braces_after b t) ts))) ≤ suc (length ts)
+  by : (c : Bool) → length (cut 0 ts) ≤ length ts → length (cut (braces_after b t) ts) ≤ length ts
+      → length (cond c ((t ∷ []) ∷ cut 0 ts) (to_first t (cut (braces_after b t) ts))) ≤ suc (length ts)
   by true f g = omega arith
   by false f g = first_more t (cut (braces_after b t) ts) (length ts) g
 

@@ -1,5 +1,6 @@
 -- What the cut into units keeps.
-use Rattle.std.proofs.Common.{◌≡◌, ℕ, zero, suc, ◌+◌, ◌-◌, ◌<◌, ◌≤◌, Bool, true, false, List, [], ◌∷◌, ◌++◌, length, drop, get_or, take, refl, sym, ap, ◌∙◌, arith, append_assoc, append-nil, length-drop}
+use Rattle.std.proofs.Common.{◌≡◌, ℕ, zero, suc, ◌+◌, ◌-◌, ◌<◌, ◌≤◌, Bool, true, false, List, [], ◌∷◌, ◌++◌, length, drop, get_or, take, refl, sym, ap, ◌∙◌}
+use Rattle.std.proofs.Common.{arith, append_assoc, append-nil, length-drop}
 use Rattle.std.specs.Prelude.{if◌then◌else◌, map, slice_index_or}
 use Rattle.std.proofs.lemmas.List.{drop_more, drop_all, drop-drop, length-map, drop-map, take-map}
 use Rattle.work_code.specs.declared.sign.Symbol.TheVariants.{OpenBrace, CloseBrace}
@@ -30,7 +31,8 @@ unfolding cut unit_len
 cut-is b [] h = absurd (omega arith)
 cut-is b (t ∷ ts) h = by_end (ends_unit b t ts) ts (braces_after b t) (λ more. cut-is (braces_after b t) ts more)
   where
-    by_end : (c : Bool) (ts : List Tok) (k : ℕ) → (0 < length ts → cut k ts ≡ take (unit_len k ts) ts ∷ cut 0 (drop (unit_len k ts) ts)) → (if c then (t ∷ []) ∷ cut 0 ts else to_first t (cut k ts)) ≡ take (if c then 1 else suc (unit_len k ts)) (t ∷ ts) ∷ cut 0 (drop (if c then 1 else suc (unit_len k ts)) (t ∷ ts))
+    by_end : (c : Bool) (ts : List Tok) (k : ℕ) → (0 < length ts → cut k ts ≡ take (unit_len k ts) ts ∷ cut 0 (drop (unit_len k ts) ts))
+        → (if c then (t ∷ []) ∷ cut 0 ts else to_first t (cut k ts)) ≡ take (if c then 1 else suc (unit_len k ts)) (t ∷ ts) ∷ cut 0 (drop (if c then 1 else suc (unit_len k ts)) (t ∷ ts))
     by_end true ts k more = refl
     by_end false [] k more = refl
     by_end false (u ∷ us) k more = ap (to_first t) (more (omega arith))
@@ -47,14 +49,17 @@ at : (n : ℕ) (ls : List Lexeme) (d : Lexeme) → n < length ls → tokens_of (
 at n ls d h = ap tokens_of (drop_more ls n d h)
 
 -- a token that goes on the unit
-pub length-next : (b n : ℕ) (ls rest : List Lexeme) (d : Lexeme) → n < length ls → rest ≡ drop (n + 1) ls → ends_unit b (token_of (get_or ls n d).token) (tokens_of rest) ≡ false → n + 1 + unit_len (braces_after b (token_of (get_or ls n d).token)) (tokens_of (drop (n + 1) ls)) ≡ n + unit_len b (tokens_of (drop n ls))
+pub length-next : (b n : ℕ) (ls rest : List Lexeme) (d : Lexeme) → n < length ls → rest ≡ drop (n + 1) ls
+    → ends_unit b (token_of (get_or ls n d).token) (tokens_of rest) ≡ false
+    → n + 1 + unit_len (braces_after b (token_of (get_or ls n d).token)) (tokens_of (drop (n + 1) ls)) ≡ n + unit_len b (tokens_of (drop n ls))
 length-next b n ls rest d h is_rest goes =
     let t = token_of (get_or ls n d).token in
     let here : unit_len b (tokens_of (drop n ls)) ≡ suc (unit_len (braces_after b t) (tokens_of (drop (n + 1) ls))) = ap (unit_len b) (at n ls d h) ∙ next b t (tokens_of (drop (n + 1) ls)) (sym (ap (λ r. ends_unit b t (tokens_of r)) is_rest) ∙ goes) in
     omega arith
 
 -- a token that ends the unit
-pub length-last : (b n : ℕ) (ls rest : List Lexeme) (d : Lexeme) → n < length ls → rest ≡ drop (n + 1) ls → ends_unit b (token_of (get_or ls n d).token) (tokens_of rest) ≡ true → unit_len b (tokens_of (drop n ls)) ≡ 1
+pub length-last : (b n : ℕ) (ls rest : List Lexeme) (d : Lexeme) → n < length ls → rest ≡ drop (n + 1) ls
+    → ends_unit b (token_of (get_or ls n d).token) (tokens_of rest) ≡ true → unit_len b (tokens_of (drop n ls)) ≡ 1
 length-last b n ls rest d h is_rest ends =
     let t = token_of (get_or ls n d).token in
     ap (unit_len b) (at n ls d h) ∙ last b t (tokens_of (drop (n + 1) ls)) (sym (ap (λ r. ends_unit b t (tokens_of r)) is_rest) ∙ ends)
@@ -76,7 +81,8 @@ braces-few b t = few (is_symbol OpenBrace t) (is_symbol CloseBrace t)
 pub ruleset lengths = (length-end, braces-few)
 
 -- a unit more
-pub cut-next : (at : ℕ) (ls : List Lexeme) → at < length ls → take (unit_len 0 (tokens_of (drop at ls))) (tokens_of (drop at ls)) ∷ units_of (tokens_of (drop (at + unit_len 0 (tokens_of (drop at ls))) ls)) ≡ units_of (tokens_of (drop at ls))
+pub cut-next : (at : ℕ) (ls : List Lexeme) → at < length ls
+    → take (unit_len 0 (tokens_of (drop at ls))) (tokens_of (drop at ls)) ∷ units_of (tokens_of (drop (at + unit_len 0 (tokens_of (drop at ls))) ls)) ≡ units_of (tokens_of (drop at ls))
 cut-next at ls h =
     let ts = tokens_of (drop at ls) in
     let some : 0 < length ts = omega (arith, length-map (drop at ls) (λ (l : Lexeme). token_of l.token), length-drop at ls) in
@@ -92,10 +98,13 @@ pub unit-some : (ls : List Lexeme) → 0 < length ls → 0 < unit_len 0 (tokens_
 unit-some ls h = unit_more 0 (tokens_of ls) (omega (arith, length-map ls (λ (l : Lexeme). token_of l.token)))
 
 pub unit-fits : (ls : List Lexeme) → unit_len 0 (tokens_of ls) ≤ length ls
-unit-fits ls = let within : unit_len 0 (tokens_of ls) ≤ length (tokens_of ls) = unit_within 0 (tokens_of ls) in omega (arith, length-map ls (λ (l : Lexeme). token_of l.token))
+unit-fits ls =
+    let within : unit_len 0 (tokens_of ls) ≤ length (tokens_of ls) = unit_within 0 (tokens_of ls) in
+    omega (arith, length-map ls (λ (l : Lexeme). token_of l.token))
 
 -- the units so far and one more
-pub units-next : (front : List (List Tok)) (at n : ℕ) (ls rest unit : List Lexeme) → at < length ls → rest ≡ drop at ls → n ≡ unit_len 0 (tokens_of rest) → unit ≡ take n rest → (front ++ tokens_of unit ∷ []) ++ units_of (tokens_of (drop (at + n) ls)) ≡ front ++ units_of (tokens_of (drop at ls))
+pub units-next : (front : List (List Tok)) (at n : ℕ) (ls rest unit : List Lexeme) → at < length ls → rest ≡ drop at ls → n ≡ unit_len 0 (tokens_of rest)
+    → unit ≡ take n rest → (front ++ tokens_of unit ∷ []) ++ units_of (tokens_of (drop (at + n) ls)) ≡ front ++ units_of (tokens_of (drop at ls))
 units-next front at n ls rest unit h is_rest is_n is_unit =
     let ts = tokens_of (drop at ls) in
     let len : n ≡ unit_len 0 ts = is_n ∙ ap (λ r. unit_len 0 (tokens_of r)) is_rest in

@@ -15,7 +15,8 @@ joined-cut : (b : ℕ) (ts : List Tok) → joined (cut b ts) ≡ ts
 unfolding cut
 joined-cut b [] = refl
 joined-cut b (t ∷ ts) = by (ends_unit b t ts) (joined-cut 0 ts) (joined-cut (braces_after b t) ts) where
-  by : (c : Bool) → joined (cut 0 ts) ≡ ts → joined (cut (braces_after b t) ts) ≡ ts → joined (if c then (t ∷ []) ∷ cut 0 ts else to_first t (cut (braces_after b t) ts)) ≡ t ∷ ts
+  by : (c : Bool) → joined (cut 0 ts) ≡ ts → joined (cut (braces_after b t) ts) ≡ ts
+      → joined (if c then (t ∷ []) ∷ cut 0 ts else to_first t (cut (braces_after b t) ts)) ≡ t ∷ ts
   by true here there = ap (λ (l : List Tok). t ∷ l) here
   by false here there = joined-first t (cut (braces_after b t) ts) ∙ ap (λ (l : List Tok). t ∷ l) there
 
@@ -53,8 +54,12 @@ last_unit b t = record {
 more_unit : (b : ℕ) (t : Tok) (u behind : List Tok) → ends_unit b t (u ++ behind) ≡ false → IsUnit (braces_after b t) u behind → IsUnit b (t ∷ u) behind
 more_unit b t u behind goes unit = record { some = omega arith; goes_on = on; ends = λ more. last (unit.ends more) } where
   on : (front back : List Tok) (x : Tok) → t ∷ u ≡ front ++ x ∷ back → 0 < length back → ends_unit (open_behind b front) x (back ++ behind) ≡ false
-  on [] back x is more = let head : t ≡ x = cc in let tail : u ≡ back = cc in subst (λ (l : List Tok). ends_unit b x (l ++ behind) ≡ false) tail (subst (λ (y : Tok). ends_unit b y (u ++ behind) ≡ false) head goes)
-  on (y ∷ front) back x is more = let head : t ≡ y = cc in let tail : u ≡ front ++ x ∷ back = cc in subst (λ (z : Tok). ends_unit (open_behind b (z ∷ front)) x (back ++ behind) ≡ false) head (unit.goes_on front back x tail more)
+  on [] back x is more =
+      let head : t ≡ x = cc in let tail : u ≡ back = cc in
+      subst (λ (l : List Tok). ends_unit b x (l ++ behind) ≡ false) tail (subst (λ (y : Tok). ends_unit b y (u ++ behind) ≡ false) head goes)
+  on (y ∷ front) back x is more =
+      let head : t ≡ y = cc in let tail : u ≡ front ++ x ∷ back = cc in
+      subst (λ (z : Tok). ends_unit (open_behind b (z ∷ front)) x (back ++ behind) ≡ false) head (unit.goes_on front back x tail more)
 
   last : (front : List Tok) × (x : Tok) × (u ≡ front ++ x ∷ []) × (ends_unit (open_behind (braces_after b t) front) x behind ≡ true)
       → (front : List Tok) × (x : Tok) × (t ∷ u ≡ front ++ x ∷ []) × (ends_unit (open_behind b front) x behind ≡ true)
@@ -69,7 +74,8 @@ are-units : (b : ℕ) (ts : List Tok) → AreUnits b (cut b ts)
 unfolding cut
 are-units b [] = tt
 are-units b (t ∷ ts) = by (ends_unit b t ts) refl (are-units 0 ts) (are-units (braces_after b t) ts) where
-  by : (c : Bool) → ends_unit b t ts ≡ c → AreUnits 0 (cut 0 ts) → AreUnits (braces_after b t) (cut (braces_after b t) ts) → AreUnits b (if c then (t ∷ []) ∷ cut 0 ts else to_first t (cut (braces_after b t) ts))
+  by : (c : Bool) → ends_unit b t ts ≡ c → AreUnits 0 (cut 0 ts) → AreUnits (braces_after b t) (cut (braces_after b t) ts)
+      → AreUnits b (if c then (t ∷ []) ∷ cut 0 ts else to_first t (cut (braces_after b t) ts))
   by true is here there = (one_unit b t (joined (cut 0 ts)) (ap (ends_unit b t) (joined-cut 0 ts) ∙ is), here)
   by false is here there = more_units b t (cut (braces_after b t) ts) (ap (ends_unit b t) (joined-cut (braces_after b t) ts) ∙ is) there
 

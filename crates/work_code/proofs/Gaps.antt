@@ -1,12 +1,14 @@
 -- What the lexer passes over is separators and comments.
-use Rattle.std.proofs.Common.{◌≡◌, inl, inr, ℕ, zero, suc, ◌+◌, ◌-◌, ◌<◌, ◌≤◌, Bool, true, false, cond, List, [], ◌∷◌, ◌++◌, length, take, drop, refl, sym, ap, ◌∙◌, subst, arith, length-append}
+use Rattle.std.proofs.Common.{◌≡◌, inl, inr, ℕ, zero, suc, ◌+◌, ◌-◌, ◌<◌, ◌≤◌, Bool, true, false, cond, List, [], ◌∷◌, ◌++◌, length, take, drop, refl, sym, ap}
+use Rattle.std.proofs.Common.{◌∙◌, subst, arith, length-append}
 use Rattle.std.specs.Prelude.{Option, Some, None, ◌==◌, ◌&&◌, ◌||◌, if◌then◌else◌, nat_lt}
 use Rattle.std.specs.List.{prefix_len, list_all}
 use Rattle.std.proofs.lemmas.Bool.{eqb-true}
 use Rattle.std.proofs.Math.Seq.{take-append-add}
 use Rattle.work_code.specs.Symbols.{short_symbol, long_symbol}
 use Rattle.work_code.specs.declared.sign.Symbol.{Symbol}
-use Rattle.work_code.specs.Lexis.{Piece, blank, token, bad, big, piece_at, first_is, begins_with, is_blank, is_letter, is_digit, is_word, is_in_line, block_end, block_piece, name_piece, var_piece, number_piece, decimal_from, most, symbol_piece, short_piece, long_piece}
+use Rattle.work_code.specs.Lexis.{Piece, blank, token, bad, big, piece_at, first_is, begins_with, is_blank, is_letter, is_digit, is_word, is_in_line, block_end}
+use Rattle.work_code.specs.Lexis.{block_piece, name_piece, var_piece, number_piece, decimal_from, most, symbol_piece, short_piece, long_piece}
 use Rattle.work_code.specs.Laws.{IsPassedOver}
 
 -- the blank of a piece is a separator or a comment
@@ -65,7 +67,8 @@ hash_front (c ∷ cs) h =
     kept : (n : ℕ) → begins_with 35 (take (1 + n) (35 ∷ cs)) ≡ true
     kept n = let one : 1 + n ≡ suc n = omega arith in rw one refl
 
-slash_front : (s : List ℕ) → begins_with 47 s && begins_with 47 (drop 1 s) ≡ true → begins_with 47 (take (prefix_len is_in_line s) s) && begins_with 47 (drop 1 (take (prefix_len is_in_line s) s)) ≡ true
+slash_front : (s : List ℕ) → begins_with 47 s && begins_with 47 (drop 1 s) ≡ true
+    → begins_with 47 (take (prefix_len is_in_line s) s) && begins_with 47 (drop 1 (take (prefix_len is_in_line s) s)) ≡ true
 unfolding begins_with is_in_line
 slash_front [] h = cc
 slash_front (c ∷ []) h = absurd (never (c == 47) h) where
@@ -92,7 +95,9 @@ or_left : (a b : Bool) → a ≡ true → a || b ≡ true
 or_left true b e = refl
 or_left false b e = cc
 
-line : (s : List ℕ) → (begins_with 35 (take (prefix_len is_in_line s) s) || begins_with 47 (take (prefix_len is_in_line s) s) && begins_with 47 (drop 1 (take (prefix_len is_in_line s) s))) ≡ true → Passed s (blank (prefix_len is_in_line s))
+line : (s : List ℕ)
+    → (begins_with 35 (take (prefix_len is_in_line s) s) || begins_with 47 (take (prefix_len is_in_line s) s) && begins_with 47 (drop 1 (take (prefix_len is_in_line s) s))) ≡ true
+    → Passed s (blank (prefix_len is_in_line s))
 line s h = inr (inl (record { begins = h; in_line = front-all is_in_line s; ends = front-ends is_in_line s }))
 
 -- ---- A COMMENT UP TO ITS END
@@ -149,10 +154,12 @@ closed n (c ∷ cs) m e = by (c == 42) (begins_with 47 cs) refl refl e (λ f. cl
       star b is = rw is refl
 
       apart : (before after : List ℕ) → c ∷ (k.inside ++ 42 ∷ []) ≡ before ++ 42 ∷ 47 ∷ after → ⊥
-      apart [] after g = let head : c ≡ 42 = cc in let tail : k.inside ++ 42 ∷ [] ≡ 47 ∷ after = cc in not (star c head) (slash_next cs k.inside k.rest after k.is tail)
+      apart [] after g =
+          let head : c ≡ 42 = cc in let tail : k.inside ++ 42 ∷ [] ≡ 47 ∷ after = cc in not (star c head) (slash_next cs k.inside k.rest after k.is tail)
       apart (d ∷ ds) after g = let tail : k.inside ++ 42 ∷ [] ≡ ds ++ 42 ∷ 47 ∷ after = cc in k.first ds after tail
 
-  by : (a b : Bool) → c == 42 ≡ a → begins_with 47 cs ≡ b → (if a && b then Some (n + 2) else block_end (n + 1) cs) ≡ Some m → (block_end (n + 1) cs ≡ Some m → Closed cs (n + 1) m) → Closed (c ∷ cs) n m
+  by : (a b : Bool) → c == 42 ≡ a → begins_with 47 cs ≡ b → (if a && b then Some (n + 2) else block_end (n + 1) cs) ≡ Some m
+      → (block_end (n + 1) cs ≡ Some m → Closed cs (n + 1) m) → Closed (c ∷ cs) n m
   by true true is also f more = here is also f
   by true false is also f more = later (λ x y. none (sym also ∙ y)) (more f) where
     none : false ≡ true → ⊥
@@ -190,7 +197,9 @@ block s h = by (block_end 2 (drop 2 s)) refl where
       let size : m ≡ suc (suc (length k.inside + 2)) = omega (arith, k.len) in
       inr (inr (record {
         inside = k.inside;
-        is = ap (λ (l : List ℕ). take m l) whole ∙ ap (λ (n : ℕ). take n (47 ∷ 42 ∷ (k.inside ++ 42 ∷ 47 ∷ k.rest))) size ∙ ap (λ (l : List ℕ). 47 ∷ 42 ∷ l) (take-inside k.inside k.rest);
+        is =
+            ap (λ (l : List ℕ). take m l) whole ∙ ap (λ (n : ℕ). take n (47 ∷ 42 ∷ (k.inside ++ 42 ∷ 47 ∷ k.rest))) size
+            ∙ ap (λ (l : List ℕ). 47 ∷ 42 ∷ l) (take-inside k.inside k.rest);
         first = k.first;
       }))
 

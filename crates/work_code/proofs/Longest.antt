@@ -1,17 +1,20 @@
 -- Each token is the longest that can stand at its place, and no comment begins there.
-use Rattle.std.proofs.Common.{◌≡◌, ℕ, zero, suc, ◌+◌, ◌-◌, ◌<◌, ◌≤◌, Bool, true, false, List, [], ◌∷◌, ◌++◌, length, take, drop, refl, sym, ap, ◌∙◌, subst, arith, length-append}
+use Rattle.std.proofs.Common.{◌≡◌, ℕ, zero, suc, ◌+◌, ◌-◌, ◌<◌, ◌≤◌, Bool, true, false, List, [], ◌∷◌, ◌++◌, length, take, drop, refl, sym, ap, ◌∙◌, subst}
+use Rattle.std.proofs.Common.{arith, length-append}
 use Rattle.std.specs.Prelude.{Option, Some, None, ◌==◌, ◌&&◌, ◌||◌, if◌then◌else◌, nat_lt}
 use Rattle.std.specs.List.{prefix_len, list_all}
 use Rattle.std.proofs.lemmas.Bool.Decides.{nat_tests}
 use Rattle.work_code.specs.declared.sign.Symbol.{Symbol}
 use Rattle.work_code.specs.declared.sign.Symbol.TheVariants as sign
 use Rattle.work_code.specs.Symbols.{long_symbol, symbol_bytes}
-use Rattle.work_code.specs.Lexis.{Piece, blank, token, bad, big, piece_at, first_is, begins_with, is_blank, is_letter, is_digit, is_word, is_in_line, block_end, block_piece, name_piece, var_piece, number_piece, decimal_from, most, symbol_piece}
+use Rattle.work_code.specs.Lexis.{Piece, blank, token, bad, big, piece_at, first_is, begins_with, is_blank, is_letter, is_digit, is_word, is_in_line, block_end}
+use Rattle.work_code.specs.Lexis.{block_piece, name_piece, var_piece, number_piece, decimal_from, most, symbol_piece}
 use Rattle.work_code.specs.Pieces.{FitsIn}
 use Rattle.work_code.specs.Tok.{Tok, name, var, number, symbol}
 use Rattle.work_code.specs.Laws.{IsWord, IsWrittenAs, begins_comment}
 use Rattle.work_code.proofs.Rooms.{piece_fits}
-use Rattle.work_code.proofs.Spelled.{IsSign, letter_high, high_no_blank, is_no, low_no_letter, long_piece_at, sign_33, sign_38, sign_43, sign_45, sign_60, sign_61, sign_62, sign_124}
+use Rattle.work_code.proofs.Spelled.{IsSign, letter_high, high_no_blank, is_no, low_no_letter, long_piece_at, sign_33, sign_38, sign_43, sign_45, sign_60}
+use Rattle.work_code.proofs.Spelled.{sign_61, sign_62, sign_124}
 
 -- bytes that pass a test at the front of a text are no more than the front that passes it
 prefix-most : (p : ℕ → Bool) (xs ys : List ℕ) → list_all p xs ≡ true → length xs ≤ prefix_len p (xs ++ ys)
@@ -48,7 +51,8 @@ name-most (c ∷ cs) rest t len w e =
 
 -- ---- A VARIABLE
 
-var-front : (c : ℕ) (cs : List ℕ) → is_letter c ≡ true → piece_at (36 ∷ (c ∷ cs)) ≡ token (var (take (prefix_len is_word (c ∷ cs)) (c ∷ cs))) (prefix_len is_word (c ∷ cs) + 1)
+var-front : (c : ℕ) (cs : List ℕ) → is_letter c ≡ true
+    → piece_at (36 ∷ (c ∷ cs)) ≡ token (var (take (prefix_len is_word (c ∷ cs)) (c ∷ cs))) (prefix_len is_word (c ∷ cs) + 1)
 unfolding piece_at first_is begins_with var_piece is_blank is_letter
 var-front c cs first = rw first refl
 
@@ -68,7 +72,8 @@ digit-between : (c : ℕ) → is_digit c ≡ true → (47 < c) × (c < 58)
 unfolding is_digit
 digit-between c is = (grind (arith, nat_tests), grind (arith, nat_tests))
 
-number-front : (c : ℕ) (cs : List ℕ) → is_digit c ≡ true → piece_at (c ∷ cs) ≡ number_piece (decimal_from 0 (take (prefix_len is_digit (c ∷ cs)) (c ∷ cs))) (prefix_len is_digit (c ∷ cs))
+number-front : (c : ℕ) (cs : List ℕ) → is_digit c ≡ true
+    → piece_at (c ∷ cs) ≡ number_piece (decimal_from 0 (take (prefix_len is_digit (c ∷ cs)) (c ∷ cs))) (prefix_len is_digit (c ∷ cs))
 unfolding piece_at first_is begins_with
 number-front c cs is =
     let (low, high) = digit-between c is in
@@ -86,7 +91,8 @@ number-len value n len t e = by (nat_lt most value) e where
   by true f = cc
   by false f = same_len (number value) t n len f
 
-number-most : (bytes rest : List ℕ) (t : Tok) (len : ℕ) → 0 < length bytes → list_all is_digit bytes ≡ true → piece_at (bytes ++ rest) ≡ token t len → length bytes ≤ len
+number-most : (bytes rest : List ℕ) (t : Tok) (len : ℕ) → 0 < length bytes → list_all is_digit bytes ≡ true → piece_at (bytes ++ rest) ≡ token t len
+    → length bytes ≤ len
 number-most [] rest t len some all e = absurd (omega arith)
 number-most (c ∷ cs) rest t len some all e =
     let front = number-front c (cs ++ rest) (first (is_digit c) (list_all is_digit cs) all) in
@@ -100,7 +106,8 @@ number-most (c ∷ cs) rest t len some all e =
 
 -- ---- A SYMBOL
 
-two : (c d : ℕ) (x : Symbol) (rest : List ℕ) (t : Tok) (len : ℕ) → IsSign c → c == 47 ≡ false → long_symbol c d ≡ Some x → piece_at (c ∷ (d ∷ rest)) ≡ token t len → 2 ≤ len
+two : (c d : ℕ) (x : Symbol) (rest : List ℕ) (t : Tok) (len : ℕ) → IsSign c → c == 47 ≡ false → long_symbol c d ≡ Some x
+    → piece_at (c ∷ (d ∷ rest)) ≡ token t len → 2 ≤ len
 two c d x rest t len s other is e =
     let same : 2 ≡ len = same_len (symbol x) t 2 len (sym (long_piece_at c d rest x s other is) ∙ e) in
     omega arith
@@ -139,7 +146,8 @@ symbol-most sign.Arrow rest t len some e = two 45 62 sign.Arrow rest t len sign_
 -- ---- ANY TOKEN
 
 -- no token that could stand where the lexer finds one has more bytes
-pub longest-piece : (s : List ℕ) (t : Tok) (len : ℕ) → 0 < len → piece_at s ≡ token t len → (u : Tok) (bytes rest : List ℕ) → s ≡ bytes ++ rest → IsWrittenAs u bytes → length bytes ≤ len
+pub longest-piece : (s : List ℕ) (t : Tok) (len : ℕ) → 0 < len → piece_at s ≡ token t len → (u : Tok) (bytes rest : List ℕ) → s ≡ bytes ++ rest
+    → IsWrittenAs u bytes → length bytes ≤ len
 longest-piece s t len some e u bytes rest here w = by u w (sym (ap piece_at here) ∙ e) where
   by : (u : Tok) → IsWrittenAs u bytes → piece_at (bytes ++ rest) ≡ token t len → length bytes ≤ len
   by (name text) w f = name-most bytes rest t len (subst IsWord (sym w.0) w.1) f
@@ -150,14 +158,15 @@ longest-piece s t len some e u bytes rest here w = by u w (sym (ap piece_at here
 -- where the lexer finds a token no comment begins
 pub no-comment : (s : List ℕ) (t : Tok) (len : ℕ) → piece_at s ≡ token t len → begins_comment s ≡ false
 unfolding piece_at
-no-comment s t len e = by (first_is is_blank s) (begins_with 35 s) (begins_with 47 s) (begins_with 47 (drop 1 s)) (begins_with 42 (drop 1 s)) (block_end 2 (drop 2 s)) _ e where
-  by : (b hash slash line block : Bool) (end : Option ℕ) (more : Piece)
-      → (if b then blank 1 else (if hash then blank (prefix_len is_in_line s) else (if slash && line then blank (prefix_len is_in_line s) else (if slash && block then block_piece end else more)))) ≡ token t len
-      → hash || slash && (line || block) ≡ false
-  by true hash slash line block end more f = cc
-  by false true slash line block end more f = cc
-  by false false false line block end more f = refl
-  by false false true true block end more f = cc
-  by false false true false true None more f = cc
-  by false false true false true (Some n) more f = cc
-  by false false true false false end more f = refl
+no-comment s t len e =
+    by (first_is is_blank s) (begins_with 35 s) (begins_with 47 s) (begins_with 47 (drop 1 s)) (begins_with 42 (drop 1 s)) (block_end 2 (drop 2 s)) _ e where
+      by : (b hash slash line block : Bool) (end : Option ℕ) (more : Piece)
+          → (if b then blank 1 else (if hash then blank (prefix_len is_in_line s) else (if slash && line then blank (prefix_len is_in_line s) else (if slash && block then block_piece end else more)))) ≡ token t len
+          → hash || slash && (line || block) ≡ false
+      by true hash slash line block end more f = cc
+      by false true slash line block end more f = cc
+      by false false false line block end more f = refl
+      by false false true true block end more f = cc
+      by false false true false true None more f = cc
+      by false false true false true (Some n) more f = cc
+      by false false true false false end more f = refl

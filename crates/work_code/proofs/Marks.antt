@@ -1,5 +1,6 @@
 -- What the lexer keeps as it goes from piece to piece.
-use Rattle.std.proofs.Common.{◌≡◌, ℕ, zero, suc, ◌+◌, ◌-◌, ◌*◌, ◌<◌, ◌≤◌, Bool, true, false, List, [], ◌∷◌, ◌++◌, length, drop, take, get_or, refl, sym, ap, ◌∙◌, arith, append_assoc, append-nil, length-drop}
+use Rattle.std.proofs.Common.{◌≡◌, ℕ, zero, suc, ◌+◌, ◌-◌, ◌*◌, ◌<◌, ◌≤◌, Bool, true, false, List, [], ◌∷◌, ◌++◌, length, drop, take, get_or, refl, sym, ap}
+use Rattle.std.proofs.Common.{◌∙◌, arith, append_assoc, append-nil, length-drop}
 use Rattle.std.specs.Prelude.{Option, Some, None, Result, Ok, Err, map, if◌then◌else◌, ◌==◌, ◌&&◌}
 use Rattle.std.proofs.lemmas.List.{drop_more, drop_all, drop-drop}
 use Rattle.std.proofs.lemmas.List.Sums.{prefix_len-le-length}
@@ -34,7 +35,8 @@ at_blank at len [] n p h k = absurd (omega arith)
 at_blank at len (c ∷ cs) n p h k = rw (p, marks) (step at len c cs h k)
 
 -- the lexer puts the token at the front before those behind it
-pub at_token : (at len : ℕ) (t : Tok) (s : List ℕ) → 0 < length s → piece_at s ≡ token t len → 0 < len → len ≤ length s → marks 0 at s ≡ with_mark (record { tok = t; start = at; end = at + len }) (marks 0 (at + len) (drop len s))
+pub at_token : (at len : ℕ) (t : Tok) (s : List ℕ) → 0 < length s → piece_at s ≡ token t len → 0 < len → len ≤ length s
+    → marks 0 at s ≡ with_mark (record { tok = t; start = at; end = at + len }) (marks 0 (at + len) (drop len s))
 unfolding marks
 at_token at len t [] n p h k = absurd (omega arith)
 at_token at len t (c ∷ cs) n p h k = rw (p, marks) (ap (with_mark (record { tok = t; start = at; end = at + len })) (step at len c cs h k))
@@ -56,19 +58,25 @@ after-with front m (Err fault) = refl
 goes_on : (at len : ℕ) (text : List ℕ) → drop len (drop at text) ≡ drop (at + len) text
 goes_on at len text = drop-drop len at text ∙ ap (λ k. drop k text) (omega arith)
 
-pub marks-blank : (front : List Mark) (at len : ℕ) (text : List ℕ) → at < length text → piece_at (drop at text) ≡ blank len → 0 < len → len ≤ length (drop at text) → after_marks front (marks 0 (at + len) (drop (at + len) text)) ≡ after_marks front (marks 0 at (drop at text))
-marks-blank front at len text h p pos fits = ap (after_marks front) (sym (at_blank at len (drop at text) (omega (arith, length-drop at text)) p pos fits ∙ ap (marks 0 (at + len)) (goes_on at len text)))
+pub marks-blank : (front : List Mark) (at len : ℕ) (text : List ℕ) → at < length text → piece_at (drop at text) ≡ blank len → 0 < len
+    → len ≤ length (drop at text) → after_marks front (marks 0 (at + len) (drop (at + len) text)) ≡ after_marks front (marks 0 at (drop at text))
+marks-blank front at len text h p pos fits =
+    ap (after_marks front) (sym (at_blank at len (drop at text) (omega (arith, length-drop at text)) p pos fits ∙ ap (marks 0 (at + len)) (goes_on at len text)))
 
 -- the same, behind the tokens that were found so far
-pub marks-token : (front : List Mark) (at len : ℕ) (t : Tok) (text : List ℕ) → at < length text → piece_at (drop at text) ≡ token t len → 0 < len → len ≤ length (drop at text) → after_marks (front ++ record { tok = t; start = at; end = at + len } ∷ []) (marks 0 (at + len) (drop (at + len) text)) ≡ after_marks front (marks 0 at (drop at text))
+pub marks-token : (front : List Mark) (at len : ℕ) (t : Tok) (text : List ℕ) → at < length text → piece_at (drop at text) ≡ token t len → 0 < len
+    → len ≤ length (drop at text)
+    → after_marks (front ++ record { tok = t; start = at; end = at + len } ∷ []) (marks 0 (at + len) (drop (at + len) text)) ≡ after_marks front (marks 0 at (drop at text))
 marks-token front at len t text h p pos fits =
     sym (after-with front (record { tok = t; start = at; end = at + len }) (marks 0 (at + len) (drop (at + len) text)))
     ∙ ap (after_marks front) (sym (at_token at len t (drop at text) (omega (arith, length-drop at text)) p pos fits ∙ ap (λ r. with_mark (record { tok = t; start = at; end = at + len }) (marks 0 (at + len) r)) (goes_on at len text)))
 
-pub marks-bad : (front : List Mark) (at : ℕ) (text : List ℕ) → at < length text → piece_at (drop at text) ≡ bad → after_marks front (marks 0 at (drop at text)) ≡ Err (BadByte at)
+pub marks-bad : (front : List Mark) (at : ℕ) (text : List ℕ) → at < length text → piece_at (drop at text) ≡ bad
+    → after_marks front (marks 0 at (drop at text)) ≡ Err (BadByte at)
 marks-bad front at text h p = ap (after_marks front) (at_bad at (drop at text) (omega (arith, length-drop at text)) p)
 
-pub marks-big : (front : List Mark) (at : ℕ) (text : List ℕ) → at < length text → piece_at (drop at text) ≡ big → after_marks front (marks 0 at (drop at text)) ≡ Err (BigNumber at)
+pub marks-big : (front : List Mark) (at : ℕ) (text : List ℕ) → at < length text → piece_at (drop at text) ≡ big
+    → after_marks front (marks 0 at (drop at text)) ≡ Err (BigNumber at)
 marks-big front at text h p = ap (after_marks front) (at_big at (drop at text) (omega (arith, length-drop at text)) p)
 
 pub marks-end : (front : List Mark) (at : ℕ) (text : List ℕ) → length text ≤ at → after_marks front (marks 0 at (drop at text)) ≡ Ok front

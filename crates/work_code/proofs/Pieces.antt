@@ -1,5 +1,6 @@
 -- What the loops of the lexer keep.
-use Rattle.std.proofs.Common.{◌≡◌, ℕ, ◌+◌, ◌-◌, ◌*◌, ◌<◌, ◌≤◌, Bool, true, false, List, [], ◌∷◌, length, drop, get_or, Option, Some, None, refl, sym, ap, ◌∙◌, arith}
+use Rattle.std.proofs.Common.{◌≡◌, ℕ, ◌+◌, ◌-◌, ◌*◌, ◌<◌, ◌≤◌, Bool, true, false, List, [], ◌∷◌, length, drop, get_or, Option, Some, None, refl, sym, ap, ◌∙◌}
+use Rattle.std.proofs.Common.{arith}
 use Rattle.std.proofs.lemmas.List.{drop_more, drop_all, drop-drop}
 use Rattle.work_code.specs.Lexis.{Piece, token, big, begins_with, block_end, decimal_from, most, number_piece, Limited}
 use Rattle.work_code.specs.Tok.{number}
@@ -24,13 +25,15 @@ no_slash n (c ∷ cs) star slash = rw (star, slash) refl
 one_on : (text : List ℕ) (n : ℕ) → drop 1 (drop n text) ≡ drop (n + 1) text
 one_on text n = drop-drop 1 n text ∙ ap (λ k. drop k text) (omega arith)
 
-pub block-found : (text : List ℕ) (n : ℕ) → begins_with 42 (drop n text) ≡ true → begins_with 47 (drop 1 (drop n text)) ≡ true → block_end n (drop n text) ≡ Some (n + 2)
+pub block-found : (text : List ℕ) (n : ℕ) → begins_with 42 (drop n text) ≡ true → begins_with 47 (drop 1 (drop n text)) ≡ true
+    → block_end n (drop n text) ≡ Some (n + 2)
 block-found text n star slash = found n (drop n text) star slash
 
 pub block-no-star : (text : List ℕ) (n : ℕ) → begins_with 42 (drop n text) ≡ false → block_end (n + 1) (drop (n + 1) text) ≡ block_end n (drop n text)
 block-no-star text n star = ap (block_end (n + 1)) (sym (one_on text n)) ∙ no_star n (drop n text) star
 
-pub block-no-slash : (text : List ℕ) (n : ℕ) → begins_with 42 (drop n text) ≡ true → begins_with 47 (drop 1 (drop n text)) ≡ false → block_end (n + 1) (drop (n + 1) text) ≡ block_end n (drop n text)
+pub block-no-slash : (text : List ℕ) (n : ℕ) → begins_with 42 (drop n text) ≡ true → begins_with 47 (drop 1 (drop n text)) ≡ false
+    → block_end (n + 1) (drop (n + 1) text) ≡ block_end n (drop n text)
 block-no-slash text n star slash = ap (block_end (n + 1)) (sym (one_on text n)) ∙ no_slash n (drop n text) star slash
 
 pub block-open : (n : ℕ) → block_end n [] ≡ None
@@ -44,7 +47,8 @@ block-end text n h = ap (block_end n) (drop_all n text h)
 pub ruleset blocks = (block-found, block-no-star, block-no-slash, block-end)
 
 -- one digit more
-pub decimal-next : (digits : List ℕ) (n value : ℕ) → n < length digits → decimal_from (value * 10 + (get_or digits n 0 - 48)) (drop (n + 1) digits) ≡ decimal_from value (drop n digits)
+pub decimal-next : (digits : List ℕ) (n value : ℕ) → n < length digits
+    → decimal_from (value * 10 + (get_or digits n 0 - 48)) (drop (n + 1) digits) ≡ decimal_from value (drop n digits)
 unfolding decimal_from
 decimal-next digits n value h = sym (ap (decimal_from value) (drop_more digits n 0 h))
 
@@ -57,7 +61,8 @@ unfolding decimal_from
 grows value [] = omega arith
 grows value (c ∷ cs) = let more = grows (value * 10 + (c - 48)) cs in omega arith
 
-pub decimal-great : (digits : List ℕ) (n value : ℕ) → n < length digits → most < value * 10 + (get_or digits n 0 - 48) → most < decimal_from value (drop n digits)
+pub decimal-great : (digits : List ℕ) (n value : ℕ) → n < length digits → most < value * 10 + (get_or digits n 0 - 48)
+    → most < decimal_from value (drop n digits)
 decimal-great digits n value h great =
     let same = decimal-next digits n value h in
     let more = grows (value * 10 + (get_or digits n 0 - 48)) (drop (n + 1) digits) in

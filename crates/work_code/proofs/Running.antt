@@ -1,5 +1,6 @@
 -- A body that is run statement by statement.
-use Rattle.std.proofs.Common.{◌≡◌, ℕ, zero, suc, ◌+◌, ◌<◌, ◌≤◌, Ok, Err, Result, ℤ, List, [], ◌∷◌, ◌++◌, length, take, drop, map, get_or, refl, sym, ap, ◌∙◌, subst, arith, append_assoc, add-one, drop-cons}
+use Rattle.std.proofs.Common.{◌≡◌, ℕ, zero, suc, ◌+◌, ◌<◌, ◌≤◌, Ok, Err, Result, ℤ, List, [], ◌∷◌, ◌++◌, length, take, drop, map, get_or, refl, sym, ap, ◌∙◌}
+use Rattle.std.proofs.Common.{subst, arith, append_assoc, add-one, drop-cons}
 use Rattle.std.specs.List.{AllByRecursion}
 use Rattle.std.proofs.lemmas.List.{append-nil, drop_all}
 use Rattle.std.specs.Result.{OnErr}
@@ -27,31 +28,40 @@ pub record SoFar (input : List ℤ) (all rest : List Step) (slots now : List ℤ
   pub last : (ran (in_turn rest) input now).slots ≡ (ran (in_turn all) input slots).slots
   pub within : IsBodyWithin (length input) (length now) (in_turn rest)
 
-pub so_far_start : (input : List ℤ) (all : List Step) (slots : List ℤ) (out : Pushes) → IsBodyWithin (length input) (length slots) (in_turn all) → SoFar input all all slots slots out out
+pub so_far_start : (input : List ℤ) (all : List Step) (slots : List ℤ) (out : Pushes) → IsBodyWithin (length input) (length slots) (in_turn all)
+    → SoFar input all all slots slots out out
 so_far_start input all slots out h = record { given = []; grew = sym (append-nil out); pushes = refl; last = refl; within = h }
 
 -- the next statement runs
-pub so_far_step : (input : List ℤ) (all : List Step) (s : Step) (rest : List Step) (slots now next : List ℤ) (out out' out'' : Pushes) → SoFar input all (s ∷ rest) slots now out out' → out'' ≡ out' ++ (ran_once s input now).pushes → next ≡ (ran_once s input now).slots → length next ≡ length now → SoFar input all rest slots next out out''
+pub so_far_step : (input : List ℤ) (all : List Step) (s : Step) (rest : List Step) (slots now next : List ℤ) (out out' out'' : Pushes)
+    → SoFar input all (s ∷ rest) slots now out out' → out'' ≡ out' ++ (ran_once s input now).pushes → next ≡ (ran_once s input now).slots
+    → length next ≡ length now → SoFar input all rest slots next out out''
 so_far_step input all s rest slots now next out out' out'' f g n e =
     let r = ran_once s input now in
     record {
       given = f.given ++ r.pushes;
       grew = g ∙ ap (λ o. o ++ r.pushes) f.grew ∙ append_assoc out f.given r.pushes;
-      pushes = append_assoc f.given r.pushes (ran (in_turn rest) input next).pushes ∙ ap (λ m. f.given ++ (r.pushes ++ (ran (in_turn rest) input m).pushes)) n ∙ f.pushes;
+      pushes =
+          append_assoc f.given r.pushes (ran (in_turn rest) input next).pushes ∙ ap (λ m. f.given ++ (r.pushes ++ (ran (in_turn rest) input m).pushes)) n
+          ∙ f.pushes;
       last = ap (λ m. (ran (in_turn rest) input m).slots) n ∙ f.last;
       within = subst (λ k. IsBodyWithin (length input) k (in_turn rest)) (sym e) f.within.1;
     }
 
 -- all have run
-pub so_far_end : (input : List ℤ) (all : List Step) (slots now : List ℤ) (out out' : Pushes) → SoFar input all [] slots now out out' → (out' ≡ out ++ (ran (in_turn all) input slots).pushes) × (now ≡ (ran (in_turn all) input slots).slots)
+pub so_far_end : (input : List ℤ) (all : List Step) (slots now : List ℤ) (out out' : Pushes) → SoFar input all [] slots now out out'
+    → (out' ≡ out ++ (ran (in_turn all) input slots).pushes) × (now ≡ (ran (in_turn all) input slots).slots)
 so_far_end input all slots now out out' f = (f.grew ∙ ap (λ g. out ++ g) (sym (append-nil f.given) ∙ f.pushes), f.last)
 
 prefix_of : {X : Type 0} (a b : List X) (n : ℕ) → take (length a + n) (a ++ b) ≡ a ++ take n b
 prefix_of [] b n = ap (λ k. take k b) (let e : 0 + n ≡ n = omega arith in e)
-prefix_of (x ∷ xs) b n = ap (λ k. take k (x ∷ (xs ++ b))) (let e : suc (length xs) + n ≡ suc (length xs + n) = omega arith in e) ∙ ap (λ t. x ∷ t) (prefix_of xs b n)
+prefix_of (x ∷ xs) b n =
+    ap (λ k. take k (x ∷ (xs ++ b))) (let e : suc (length xs) + n ≡ suc (length xs + n) = omega arith in e) ∙ ap (λ t. x ∷ t) (prefix_of xs b n)
 
 -- the next statement is refused in the middle
-pub so_far_refused : (input : List ℤ) (all : List Step) (s : Step) (rest : List Step) (slots now : List ℤ) (out out' out'' : Pushes) → SoFar input all (s ∷ rest) slots now out out' → GrewByPrefix out' (ran_once s input now).pushes out'' → GrewByPrefix out (ran (in_turn all) input slots).pushes out''
+pub so_far_refused : (input : List ℤ) (all : List Step) (s : Step) (rest : List Step) (slots now : List ℤ) (out out' out'' : Pushes)
+    → SoFar input all (s ∷ rest) slots now out out' → GrewByPrefix out' (ran_once s input now).pushes out''
+    → GrewByPrefix out (ran (in_turn all) input slots).pushes out''
 so_far_refused input all s rest slots now out out' out'' f g =
     let r = ran_once s input now in
     let others = ran (in_turn rest) input r.slots in
@@ -71,7 +81,8 @@ so_far_refused input all s rest slots now out out' out'' f g =
     prefix_is (x ∷ xs) b (suc n) = ap (λ t. x ∷ t) (prefix_is xs b n)
 
 -- the statement at a place, and those after it
-pub at_place : (items : List Stmt) (i : ℕ) (s : Stmt) → i < length items → s ≡ get_or items i s → map step (drop i items) ≡ step s ∷ map step (drop (i + 1) items)
+pub at_place : (items : List Stmt) (i : ℕ) (s : Stmt) → i < length items → s ≡ get_or items i s
+    → map step (drop i items) ≡ step s ∷ map step (drop (i + 1) items)
 at_place items i s lt e = ap (map step) (drop-cons items i s lt ∙ ap (λ x. x ∷ drop (suc i) items) (sym e) ∙ ap (λ k. s ∷ drop k items) (sym (add-one i)))
 
 -- what holds of each of some trees holds of one of them

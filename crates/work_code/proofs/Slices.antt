@@ -1,5 +1,6 @@
 -- The tokens of a text are slices of it.
-use Rattle.std.proofs.Common.{◌≡◌, ℕ, zero, suc, ◌+◌, ◌-◌, ◌<◌, ◌≤◌, Bool, true, false, List, [], ◌∷◌, length, take, drop, refl, sym, ap, ◌∙◌, subst, arith, cond}
+use Rattle.std.proofs.Common.{◌≡◌, ℕ, zero, suc, ◌+◌, ◌-◌, ◌<◌, ◌≤◌, Bool, true, false, List, [], ◌∷◌, length, take, drop, refl, sym, ap, ◌∙◌, subst, arith}
+use Rattle.std.proofs.Common.{cond}
 use Rattle.std.proofs.lemmas.List.{length-drop}
 use Rattle.std.specs.Prelude.{Option, Some, None, Result, Ok, Err, ◌==◌, ◌&&◌, if◌then◌else◌, nat_lt}
 use Rattle.std.specs.List.{prefix_len, list_all}
@@ -10,7 +11,9 @@ use Rattle.work_code.specs.declared.sign.Symbol.TheVariants as sign
 use Rattle.work_code.specs.declared.fault.LexFault.{LexFault}
 use Rattle.work_code.specs.declared.fault.LexFault.TheVariants.{BadByte, BigNumber, NoMemory}
 use Rattle.work_code.specs.Symbols.{short_symbol, long_symbol, symbol_bytes}
-use Rattle.work_code.specs.Lexis.{Piece, blank, token, bad, big, marks, with_mark, piece_at, first_is, begins_with, is_blank, is_letter, is_digit, is_word, is_in_line, block_end, block_piece, name_piece, var_piece, number_piece, symbol_piece, short_piece, long_piece, decimal_from, most, tokens_in}
+use Rattle.work_code.specs.Lexis.{Piece, blank, token, bad, big, marks, with_mark, piece_at, first_is, begins_with, is_blank, is_letter, is_digit, is_word}
+use Rattle.work_code.specs.Lexis.{is_in_line, block_end, block_piece, name_piece, var_piece, number_piece, symbol_piece, short_piece, long_piece, decimal_from}
+use Rattle.work_code.specs.Lexis.{most, tokens_in}
 use Rattle.work_code.specs.Pieces.{FitsIn}
 use Rattle.work_code.specs.Tok.{Tok, Mark, name, var, number, symbol}
 use Rattle.work_code.specs.Laws.{IsWord, IsWrittenAs, IsSmall, begins_comment, IsSpan, Ascend, AllSpans, TokensAreSlices, FaultsAreThere}
@@ -21,7 +24,8 @@ use Rattle.std.proofs.lemmas.Bool.Decides.{nat_tests}
 use Rattle.std.proofs.lemmas.List.Folds.{length-prefix_len}
 
 -- a symbol's bytes
-chosen : (b : Bool) (x : Symbol) (o : Option Symbol) (y : Symbol) → (if b then Some x else o) ≡ Some y → (P : Symbol → Type 0) → (b ≡ true → P x) → (o ≡ Some y → P y) → P y
+chosen : (b : Bool) (x : Symbol) (o : Option Symbol) (y : Symbol) → (if b then Some x else o) ≡ Some y → (P : Symbol → Type 0) → (b ≡ true → P x)
+    → (o ≡ Some y → P y) → P y
 chosen true x o y e P here there = subst P (some_inj e) (here refl) where
   some_inj : Some x ≡ Some y → x ≡ y
   some_inj f = cc
@@ -121,14 +125,16 @@ var_right cs = choose (36 ∷ cs) (first_is is_letter cs) _ _ (λ h. ((taken (pr
   taken : (n : ℕ) → take (n + 1) (36 ∷ cs) ≡ 36 ∷ take n cs
   taken n = ap (λ (k : ℕ). take k (36 ∷ cs)) (one_more n)
 
-number_right : (s : List ℕ) (value len : ℕ) → 0 < length (take len s) → list_all is_digit (take len s) ≡ true → decimal_from 0 (take len s) ≡ value → Right s (number_piece value len)
+number_right : (s : List ℕ) (value len : ℕ) → 0 < length (take len s) → list_all is_digit (take len s) ≡ true → decimal_from 0 (take len s) ≡ value
+    → Right s (number_piece value len)
 unfolding number_piece
 number_right s value len some all is = choose s (nat_lt most value) big (token (number value) len) (λ _. tt) (λ h. ((some, all, is), small h)) where
   small : nat_lt most value ≡ false → value ≤ most
   small h = grind (arith, nat_tests)
 
 digits_right : (s : List ℕ) → first_is is_digit s ≡ true → Right s (number_piece (decimal_from 0 (take (prefix_len is_digit s) s)) (prefix_len is_digit s))
-digits_right s h = number_right s (decimal_from 0 (take (prefix_len is_digit s) s)) (prefix_len is_digit s) (omega (arith, digits_has s h, length-prefix_len is_digit s)) (front-all is_digit s) refl
+digits_right s h =
+    number_right s (decimal_from 0 (take (prefix_len is_digit s) s)) (prefix_len is_digit s) (omega (arith, digits_has s h, length-prefix_len is_digit s)) (front-all is_digit s) refl
 
 short_right : (c : ℕ) (cs : List ℕ) → Right (c ∷ cs) (short_piece (short_symbol c))
 short_right c cs = by (short_symbol c) refl where
@@ -221,7 +227,8 @@ after_piece at cs bad = Err (BadByte at)
 after_piece at cs big = Err (BigNumber at)
 
 -- from a piece on
-from_piece : (text : List ℕ) (at c : ℕ) (cs : List ℕ) (p : Piece) (ms : List Mark) → c ∷ cs ≡ drop at text → piece_at (c ∷ cs) ≡ p → FitsIn (length (c ∷ cs)) p → Right (c ∷ cs) p
+from_piece : (text : List ℕ) (at c : ℕ) (cs : List ℕ) (p : Piece) (ms : List Mark) → c ∷ cs ≡ drop at text → piece_at (c ∷ cs) ≡ p → FitsIn (length (c ∷ cs)) p
+    → Right (c ∷ cs) p
     → ((skip : ℕ) (ks : List Mark) → marks skip (at + 1) cs ≡ Ok ks → Known text (at + 1 + skip) ks)
     → after_piece at cs p ≡ Ok ms → Known text at ms
 from_piece text at c cs (blank len) ms here is fits right more e = sooner text at (at + 1 + (len - 1)) ms (omega arith) (more (len - 1) ms e)
@@ -236,7 +243,8 @@ slices : (text : List ℕ) (skip at : ℕ) (s : List ℕ) (ms : List Mark) → s
 unfolding marks
 slices text skip at [] [] here e = (tt, tt)
 slices text skip at [] (m ∷ ms) here e = cc
-slices text (suc skip) at (c ∷ cs) ms here e = sooner text (at + suc skip) (at + 1 + skip) ms (omega arith) (slices text skip (at + 1) cs ms (next_drop text at c cs here) e)
+slices text (suc skip) at (c ∷ cs) ms here e =
+    sooner text (at + suc skip) (at + 1 + skip) ms (omega arith) (slices text skip (at + 1) cs ms (next_drop text at c cs here) e)
 slices text zero at (c ∷ cs) ms here e =
     sooner text (at + zero) at ms (omega arith)
     (from_piece text at c cs (piece_at (c ∷ cs)) ms here refl (piece_fits (c ∷ cs) (omega arith)) (piece_right (c ∷ cs)) (λ skip ks f. slices text skip (at + 1) cs ks (next_drop text at c cs here) f) e)
@@ -255,7 +263,8 @@ from_fault : (text : List ℕ) (at c : ℕ) (cs : List ℕ) (p : Piece) (fault :
     → ((skip : ℕ) → marks skip (at + 1) cs ≡ Err fault → IsThere text fault)
     → after_piece at cs p ≡ Err fault → IsThere text fault
 from_fault text at c cs (blank len) fault here is more e = more (len - 1) e
-from_fault text at c cs (token t len) fault here is more e = more (len - 1) (with-err (record { tok = t; start = at; end = at + len }) (marks (len - 1) (at + 1) cs) fault e)
+from_fault text at c cs (token t len) fault here is more e =
+    more (len - 1) (with-err (record { tok = t; start = at; end = at + len }) (marks (len - 1) (at + 1) cs) fault e)
 from_fault text at c cs bad fault here is more e =
     subst (IsThere text) (err_inj e) (omega (arith, room_left text at (c ∷ cs) here (omega arith)), ap piece_at (sym here) ∙ is)
   where

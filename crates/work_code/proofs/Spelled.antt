@@ -1,5 +1,6 @@
 -- Texts that are spelled token by token: what the lexer makes of them.
-use Rattle.std.proofs.Common.{◌≡◌, ◌⊎◌, inl, inr, ⊎_elim, ℕ, zero, suc, ◌+◌, ◌-◌, ◌*◌, ◌<◌, ◌≤◌, ◌^◌, Bool, true, false, cond, List, [], ◌∷◌, ◌++◌, length, drop, take, refl, sym, ap, ◌∙◌, arith, append_assoc, append-nil, length-append, eqb}
+use Rattle.std.proofs.Common.{◌≡◌, ◌⊎◌, inl, inr, ⊎_elim, ℕ, zero, suc, ◌+◌, ◌-◌, ◌*◌, ◌<◌, ◌≤◌, ◌^◌, Bool, true, false, cond, List, [], ◌∷◌, ◌++◌, length}
+use Rattle.std.proofs.Common.{drop, take, refl, sym, ap, ◌∙◌, arith, append_assoc, append-nil, length-append, eqb}
 use Rattle.std.specs.Prelude.{Option, Some, None, Result, Ok, Err, map, ◌==◌, ◌&&◌, ◌||◌, if◌then◌else◌, nat_lt, nat_le}
 use Rattle.std.specs.List.{prefix_len, list_all}
 use Rattle.std.specs.Fmt.{decimal}
@@ -9,7 +10,8 @@ use Rattle.std.proofs.lemmas.Fmt.{decimal_is_IsNumeral}
 use Rattle.std.proofs.lemmas.Bool.{eqb-true, ne_eqb}
 use Rattle.std.proofs.lemmas.Bool.Decides.{nat_tests}
 use Rattle.std.proofs.Math.Seq.{drop-append_seam, take-append_seam}
-use Rattle.work_code.specs.Lexis.{Piece, blank, token, bad, big, marks, with_mark, piece_at, is_blank, is_in_line, is_letter, is_digit, is_word, first_is, begins_with, name_piece, var_piece, number_piece, decimal_from, most, block_piece, symbol_piece, short_piece, long_piece}
+use Rattle.work_code.specs.Lexis.{Piece, blank, token, bad, big, marks, with_mark, piece_at, is_blank, is_in_line, is_letter, is_digit, is_word, first_is}
+use Rattle.work_code.specs.Lexis.{begins_with, name_piece, var_piece, number_piece, decimal_from, most, block_piece, symbol_piece, short_piece, long_piece}
 use Rattle.work_code.specs.Symbols.{short_symbol, long_symbol, symbol_bytes}
 use Rattle.work_code.specs.Tok.{Tok, Mark, toks, name, var, number, symbol}
 use Rattle.work_code.specs.declared.sign.Symbol.{Symbol}
@@ -54,7 +56,8 @@ spells-nothing ok = record { reads = λ at rest h. ap (λ (k : ℕ). tokens_from
   before-nothing (Some vs) = refl
 
 -- one text behind another
-pub spells-then : {ok then_ok : List ℕ → Type 0} (s : List ℕ) (ts : List Tok) (u : List ℕ) (us : List Tok) → Spells s ts ok → Spells u us then_ok → ((rest : List ℕ) → then_ok rest → ok (u ++ rest)) → Spells (s ++ u) (ts ++ us) then_ok
+pub spells-then : {ok then_ok : List ℕ → Type 0} (s : List ℕ) (ts : List Tok) (u : List ℕ) (us : List Tok) → Spells s ts ok → Spells u us then_ok
+    → ((rest : List ℕ) → then_ok rest → ok (u ++ rest)) → Spells (s ++ u) (ts ++ us) then_ok
 spells-then s ts u us x y follows = record {
   reads = λ at rest h.
       ap (λ (l : List ℕ). tokens_from at l) (append_assoc s u rest) ∙ x.reads at (u ++ rest) (follows rest h)
@@ -82,7 +85,8 @@ spoken-with m (Ok ms) = refl
 spoken-with m (Err fault) = refl
 
 -- what the lexer finds at the front of a text is one token of all its bytes
-from_piece : {ok : List ℕ → Type 0} (s : List ℕ) (t : Tok) → 0 < length s → ((rest : List ℕ) → ok rest → piece_at (s ++ rest) ≡ token t (length s)) → Spells s (t ∷ []) ok
+from_piece : {ok : List ℕ → Type 0} (s : List ℕ) (t : Tok) → 0 < length s → ((rest : List ℕ) → ok rest → piece_at (s ++ rest) ≡ token t (length s))
+    → Spells s (t ∷ []) ok
 from_piece s t some found = record {
   reads = λ at rest h.
       let size : length s ≤ length (s ++ rest) = omega (arith, length-append s rest) in
@@ -103,7 +107,9 @@ before-nothing (Some vs) = refl
 -- a separator is no token
 pub spells-blank : (c : ℕ) → is_blank c ≡ true → Spells (c ∷ []) [] Anything
 spells-blank c is = record {
-  reads = λ at rest h. ap spoken (at_blank at 1 (c ∷ rest) (omega arith) (blank_piece c rest is) (omega arith) (omega arith)) ∙ sym (before-nothing (tokens_from (at + 1) rest));
+  reads =
+      λ at rest h. ap spoken (at_blank at 1 (c ∷ rest) (omega arith) (blank_piece c rest is) (omega arith) (omega arith))
+      ∙ sym (before-nothing (tokens_from (at + 1) rest));
 }
 
 -- a byte that begins a symbol: no other piece begins with it
@@ -138,7 +144,8 @@ spells-short c x s is = from_piece (c ∷ []) (symbol x) (omega arith) found whe
   found (d ∷ ds) alone = short_on c d ds x s is alone
 
 -- a symbol of two bytes
-pub long_piece_at : (c d : ℕ) (rest : List ℕ) (x : Symbol) → IsSign c → c == 47 ≡ false → long_symbol c d ≡ Some x → piece_at (c ∷ (d ∷ rest)) ≡ token (symbol x) 2
+pub long_piece_at : (c d : ℕ) (rest : List ℕ) (x : Symbol) → IsSign c → c == 47 ≡ false → long_symbol c d ≡ Some x
+    → piece_at (c ∷ (d ∷ rest)) ≡ token (symbol x) 2
 unfolding piece_at first_is begins_with symbol_piece
 long_piece_at c d rest x s other is = rw (s.no_blank, s.no_hash, other, s.no_letter, s.no_dollar, s.no_digit, is) refl
 
@@ -186,7 +193,8 @@ name_all : (c : ℕ) (cs : List ℕ) → is_letter c ≡ true → list_all is_wo
 unfolding is_word
 name_all c cs first all = rw first all
 
-name_piece_is : (c : ℕ) (cs rest : List ℕ) → is_letter c ≡ true → list_all is_word cs ≡ true → first_is is_word rest ≡ false → piece_at (c ∷ (cs ++ rest)) ≡ token (name (c ∷ cs)) (length (c ∷ cs))
+name_piece_is : (c : ℕ) (cs rest : List ℕ) → is_letter c ≡ true → list_all is_word cs ≡ true → first_is is_word rest ≡ false
+    → piece_at (c ∷ (cs ++ rest)) ≡ token (name (c ∷ cs)) (length (c ∷ cs))
 unfolding piece_at first_is begins_with
 name_piece_is c cs rest first all next =
     let high = letter_high c first in
@@ -199,13 +207,15 @@ name_piece_is c cs rest first all next =
 -- a word is a name, where no byte of a word follows
 pub spells-name : (text : List ℕ) → is_name_text text ≡ true → Spells text (name text ∷ []) NoWord
 spells-name [] is = cc
-spells-name (c ∷ cs) is = from_piece (c ∷ cs) (name (c ∷ cs)) (omega arith) (λ rest next. name_piece_is c cs rest (parts (is_letter c) (list_all is_word cs) is).0 (parts (is_letter c) (list_all is_word cs) is).1 next) where
-  parts : (a b : Bool) → a && b ≡ true → (a ≡ true) × (b ≡ true)
-  parts true b e = (refl, e)
-  parts false b e = cc
+spells-name (c ∷ cs) is =
+    from_piece (c ∷ cs) (name (c ∷ cs)) (omega arith) (λ rest next. name_piece_is c cs rest (parts (is_letter c) (list_all is_word cs) is).0 (parts (is_letter c) (list_all is_word cs) is).1 next) where
+      parts : (a b : Bool) → a && b ≡ true → (a ≡ true) × (b ≡ true)
+      parts true b e = (refl, e)
+      parts false b e = cc
 
 -- a variable, with its dollar sign
-var_piece_is : (c : ℕ) (cs rest : List ℕ) → is_letter c ≡ true → list_all is_word cs ≡ true → first_is is_word rest ≡ false → piece_at (36 ∷ (c ∷ (cs ++ rest))) ≡ token (var (c ∷ cs)) (length (36 ∷ (c ∷ cs)))
+var_piece_is : (c : ℕ) (cs rest : List ℕ) → is_letter c ≡ true → list_all is_word cs ≡ true → first_is is_word rest ≡ false
+    → piece_at (36 ∷ (c ∷ (cs ++ rest))) ≡ token (var (c ∷ cs)) (length (36 ∷ (c ∷ cs)))
 unfolding piece_at first_is begins_with var_piece is_blank is_letter
 var_piece_is c cs rest first all next =
     let len : prefix_len is_word (c ∷ (cs ++ rest)) ≡ length (c ∷ cs) = word_len is_word (c ∷ cs) rest (name_all c cs first all) next in
@@ -256,7 +266,8 @@ unfolding number_piece
 within n len fits = let small : nat_lt most n ≡ false = grind (arith, nat_tests) in rw small refl
 
 -- the number at the front of digits
-number_piece_is : (c : ℕ) (cs rest : List ℕ) (n : ℕ) → 47 < c → c < 58 → list_all is_digit (c ∷ cs) ≡ true → decimal_from 0 (c ∷ cs) ≡ n → n ≤ most → first_is is_digit rest ≡ false → piece_at (c ∷ (cs ++ rest)) ≡ token (number n) (length (c ∷ cs))
+number_piece_is : (c : ℕ) (cs rest : List ℕ) (n : ℕ) → 47 < c → c < 58 → list_all is_digit (c ∷ cs) ≡ true → decimal_from 0 (c ∷ cs) ≡ n → n ≤ most
+    → first_is is_digit rest ≡ false → piece_at (c ∷ (cs ++ rest)) ≡ token (number n) (length (c ∷ cs))
 unfolding piece_at first_is begins_with
 number_piece_is c cs rest n low high all value fits next =
     let a = high_no_blank c (omega arith) in
@@ -482,7 +493,8 @@ spells-symbol sign.Percent = spells-less (37 ∷ []) (symbol sign.Percent ∷ []
 spells-symbol sign.Open = spells-less (40 ∷ []) (symbol sign.Open ∷ []) (spells-short 40 sign.Open sign_40 refl) (λ rest h. alone_40 rest)
 spells-symbol sign.Close = spells-less (41 ∷ []) (symbol sign.Close ∷ []) (spells-short 41 sign.Close sign_41 refl) (λ rest h. alone_41 rest)
 spells-symbol sign.OpenBracket = spells-less (91 ∷ []) (symbol sign.OpenBracket ∷ []) (spells-short 91 sign.OpenBracket sign_91 refl) (λ rest h. alone_91 rest)
-spells-symbol sign.CloseBracket = spells-less (93 ∷ []) (symbol sign.CloseBracket ∷ []) (spells-short 93 sign.CloseBracket sign_93 refl) (λ rest h. alone_93 rest)
+spells-symbol sign.CloseBracket =
+    spells-less (93 ∷ []) (symbol sign.CloseBracket ∷ []) (spells-short 93 sign.CloseBracket sign_93 refl) (λ rest h. alone_93 rest)
 spells-symbol sign.OpenBrace = spells-less (123 ∷ []) (symbol sign.OpenBrace ∷ []) (spells-short 123 sign.OpenBrace sign_123 refl) (λ rest h. alone_123 rest)
 spells-symbol sign.CloseBrace = spells-less (125 ∷ []) (symbol sign.CloseBrace ∷ []) (spells-short 125 sign.CloseBrace sign_125 refl) (λ rest h. alone_125 rest)
 spells-symbol sign.Comma = spells-less (44 ∷ []) (symbol sign.Comma ∷ []) (spells-short 44 sign.Comma sign_44 refl) (λ rest h. alone_44 rest)

@@ -26,7 +26,8 @@ is_else (var text ∷ ts) = false
 is_else (number value ∷ ts) = false
 is_else (symbol s ∷ ts) = false
 
--- where so many braces are open, a unit ends at token t, behind which come ts: at a semicolon outside braces, at a closing brace where none is open, or at one that closes the last unless else comes
+-- where so many braces are open, a unit ends at token t, behind which come ts: at a semicolon outside braces, at a closing brace where none is open, or at one
+-- that closes the last unless else comes
 unfoldable pub ends_unit : ℕ → Tok → List Tok → Bool
 ends_unit braces t ts =
     is_symbol Semicolon t && (braces == 0)

@@ -43,9 +43,13 @@ loop-var-preserved c =
       | then-var-len+in_ok-add_rows w ↦
           let below : v < many = omega (arith, e, c.len.ensures, w.if-var-len.true) in
           record {
-            tables = w.tables-is ∙ added_next c.args.tables.now c.loop-var.tables vars (list_at c.args.adds.now) i v c.loop-var.number w.at_mut.result.now w.add_rows.new.table c.loop-var-test.true refl below
+            tables =
+                w.tables-is
+                ∙ added_next c.args.tables.now c.loop-var.tables vars (list_at c.args.adds.now) i v c.loop-var.number w.at_mut.result.now w.add_rows.new.table c.loop-var-test.true refl below
                 c.loop-var.invariant.tables c.loop-var.invariant.number (w.at_mut.ensures.value w.at_mut.result.now) (w.in_ok-add_rows.ensures ∙ ap (λ l. fold added w.at_mut.result.now l) (w.at.ensures []));
-            number = w.number-is ∙ ap (λ n. n + 1) c.loop-var.invariant.number ∙ sym (ap length (places_more many vars i v c.loop-var-test.true refl below) ∙ length-append (table_places many (take i vars)) (v ∷ []));
+            number =
+                w.number-is ∙ ap (λ n. n + 1) c.loop-var.invariant.number
+                ∙ sym (ap length (places_more many vars i v c.loop-var-test.true refl below) ∙ length-append (table_places many (take i vars)) (v ∷ []));
           }
       | else-var-len w ↦
           let past : many ≤ v = omega (arith, e, c.len.ensures, w.if-var-len.false) in

@@ -25,5 +25,6 @@ returns c =
       old = c.in-Cross.state;
       was = c.in-Cross.is;
       is = ap state.Cross (one.state ∙ ap (λ (x : item.Item). (d x).1) c.flat_of.ensures);
-      took = subst (λ l. Took c.args.out.now c.give_all.new.self (gives 0 l [])) given (took_from c.args.out.now c.spare_items-items.new.self c.give_all.new.self _ c.spare_items-items.ensures.outs c.spare_items-items.ensures.adds c.in_ok-give_all-in-Cross.ensures);
+      took =
+          subst (λ l. Took c.args.out.now c.give_all.new.self (gives 0 l [])) given (took_from c.args.out.now c.spare_items-items.new.self c.give_all.new.self _ c.spare_items-items.ensures.outs c.spare_items-items.ensures.adds c.in_ok-give_all-in-Cross.ensures);
     }

@@ -15,7 +15,8 @@ pub step-requires-clause-kept : goal.step-requires-clause-kept
 step-requires-clause-kept c = let h = c.requires.state in subst IsAscending (same_rows h.now c.in-Streamer.state (sym h.is ∙ c.in-Streamer.is)) h.ascends
 
 pub step-requires-clause-rows : goal.step-requires-clause-rows
-step-requires-clause-rows c = let h = c.requires.item in subst (λ f. IsAscending (flat_rows f)) (same_flat h.content c.flat_of.result (sym h.is ∙ sym c.flat_of.ensures)) h.holds
+step-requires-clause-rows c =
+    let h = c.requires.item in subst (λ f. IsAscending (flat_rows f)) (same_flat h.content c.flat_of.result (sym h.is ∙ sym c.flat_of.ensures)) h.holds
 
 pub returns-clause-steps : goal.returns-clause-steps
 returns-clause-steps c =
@@ -28,7 +29,8 @@ returns-clause-steps c =
       is = refl;
       steps = subst (λ x. Steps (StandsForStreamer s) (streamer_one s) x c.in-Streamer.state c.step.new.state [] c.step.new.out) c.flat_of.ensures
           (subst (λ l. Steps (StandsForStreamer s) (streamer_one s) (Flat c.flat_of.result) c.in-Streamer.state c.step.new.state l c.step.new.out) c.spare_items-items.ensures.empty c.in_ok-step-in-Streamer.ensures.ok);
-      took = took_from c.args.out.now c.spare_items-items.new.self c.give_all.new.self _ c.spare_items-items.ensures.outs c.spare_items-items.ensures.adds c.in_ok-give_all-in-Streamer.ensures;
+      took =
+          took_from c.args.out.now c.spare_items-items.new.self c.give_all.new.self _ c.spare_items-items.ensures.outs c.spare_items-items.ensures.adds c.in_ok-give_all-in-Streamer.ensures;
     }
 
 pub returns-clause-kept : goal.returns-clause-kept

@@ -24,5 +24,6 @@ returns c =
       is = refl;
       steps = subst (λ x. Steps (StandsForWindow w) (window_one w) x c.in-Window.state c.step.new.state [] c.step.new.out) c.batch_of.ensures
           (subst (λ l. Steps (StandsForWindow w) (window_one w) (Flat (Batched c.batch_of.result)) c.in-Window.state c.step.new.state l c.step.new.out) c.spare_items-items.ensures.empty one);
-      took = took_from c.args.out.now c.spare_items-items.new.self c.give_all.new.self _ c.spare_items-items.ensures.outs c.spare_items-items.ensures.adds c.in_ok-give_all-in-Window.ensures;
+      took =
+          took_from c.args.out.now c.spare_items-items.new.self c.give_all.new.self _ c.spare_items-items.ensures.outs c.spare_items-items.ensures.adds c.in_ok-give_all-in-Window.ensures;
     }

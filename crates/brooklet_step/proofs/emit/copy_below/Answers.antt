@@ -10,7 +10,9 @@ pub push_at-requires : goal.push_at-requires
 push_at-requires c = let e = upto_length _ _ (λ q. c.args.item.now ∷ []) c.loop-port.port c.loop-port.invariant in let r = c.requires in omega (arith, e, r)
 
 pub loop-port-preserved : goal.loop-port-preserved
-loop-port-preserved c = upto_step _ _ _ (λ q. c.args.item.now ∷ []) c.loop-port.port _ c.loop-port.invariant (ap (λ x. x ∷ []) c.in_ok-copy.ensures) c.in_ok-push_at.ensures.ok
+loop-port-preserved c =
+    upto_step _ _ _ (λ q. c.args.item.now ∷ []) c.loop-port.port _ c.loop-port.invariant (ap (λ x. x ∷ []) c.in_ok-copy.ensures) c.in_ok-push_at.ensures.ok
 
 pub returns : goal.returns
-returns c = let e : c.loop-port.port ≡ c.args.ports = omega arith in c.loop-port.invariant ∙ ap (λ n. each_grew c.args.outs.now (upto n (λ q. c.args.item.now ∷ []))) e
+returns c =
+    let e : c.loop-port.port ≡ c.args.ports = omega arith in c.loop-port.invariant ∙ ap (λ n. each_grew c.args.outs.now (upto n (λ q. c.args.item.now ∷ []))) e

@@ -23,7 +23,8 @@ joined_table-requires c =
 
 pub extend_at-requires : goal.extend_at-requires
 extend_at-requires c =
-    let e = upto_length _ _ (beside (length c.args.first.now) (list_at c.args.first.now) (list_at c.args.second.now)) c.loop-table.table c.loop-table.invariant.adds in omega arith
+    let e = upto_length _ _ (beside (length c.args.first.now) (list_at c.args.first.now) (list_at c.args.second.now)) c.loop-table.table c.loop-table.invariant.adds in
+    omega arith
 
 pub loop-table-preserved : goal.loop-table-preserved
 loop-table-preserved c =
@@ -35,7 +36,8 @@ loop-table-preserved c =
     c.joined_table.ensures.taken ∙ ap (λ n. beside n (list_at c.loop-table.first) (list_at c.loop-table.second) t) same ∙ left.rest t (omega arith) in
     record {
       adds = upto_step _ _ _ (join (list_at c.args.first.now) (list_at c.args.second.now)) t _ c.loop-table.invariant.adds one c.in_ok-extend_at.ensures.ok;
-      left = leaves_next join t c.args.first.now c.loop-table.first c.joined_table.new.first c.args.second.now c.loop-table.second c.joined_table.new.second left
+      left =
+          leaves_next join t c.args.first.now c.loop-table.first c.joined_table.new.first c.args.second.now c.loop-table.second c.joined_table.new.second left
           (subst (λ n. StayApart (beside n) t c.loop-table.first c.joined_table.new.first c.loop-table.second c.joined_table.new.second) same c.joined_table.ensures.left);
     }
 

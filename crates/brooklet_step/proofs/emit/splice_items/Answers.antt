@@ -26,7 +26,8 @@ spliced_port-requires-clause-port c =
 
 pub extend_at-requires : goal.extend_at-requires
 extend_at-requires c =
-    let e = upto_length _ _ (splice c.args.at (length c.args.second.now) (list_at c.args.first.now) (list_at c.args.second.now)) c.loop-port.port c.loop-port.invariant.outs in omega arith
+    let e = upto_length _ _ (splice c.args.at (length c.args.second.now) (list_at c.args.first.now) (list_at c.args.second.now)) c.loop-port.port c.loop-port.invariant.outs in
+    omega arith
 
 pub loop-port-preserved : goal.loop-port-preserved
 loop-port-preserved c =

@@ -12,7 +12,8 @@ use Rattle.brooklet_step.proofs.Fires.{kern_of-packed}
 use Rattle.brooklet_step.proofs.Size.{size}
 use Rattle.brooklet_step.proofs.Fused.{Parts, spliced_taken, result_both}
 use Rattle.brooklet_step.proofs.GivenFires.{leaf_applies, leaf_does}
-use Rattle.brooklet_step.proofs.GivenCode.{so_far_start, so_far_takes, so_far_step, packed_taken, packed_port, packed_whole, count_fits, first_taken, takes_on, second_room, both_fire}
+use Rattle.brooklet_step.proofs.GivenCode.{so_far_start, so_far_takes, so_far_step, packed_taken, packed_port, packed_whole, count_fits, first_taken, takes_on}
+use Rattle.brooklet_step.proofs.GivenCode.{second_room, both_fire}
 use Rattle.brooklet_step.proofs.firing.+fire_on.Goals as goal
 
 pub fire_each-loop-item-init : goal.fire_each-loop-item-init
@@ -30,10 +31,12 @@ fire_each-loop-item-preserved t c =
     so_far_step (kern_of c.args.kernel.now) c.args.items.now c.loop-item.items c.pop.new.self c.in-Some.item c.args.out.now c.loop-item.out c.fire_on.new.out c.args.states.now c.loop-item.states c.fire_on.new.states c.in-Some.ensures c.loop-item.invariant c.in_ok-fire_on.ensures
 
 pub fire_on-fire_leaf-requires-clause-applies : goal.fire_on-fire_leaf-requires-clause-applies
-fire_on-fire_leaf-requires-clause-applies t c = leaf_applies (kern_of c.args.kernel.now) c.args.port c.args.item c.args.states.now c.args.out.now (c.if-is_leaf.ensures.0 refl) c.requires
+fire_on-fire_leaf-requires-clause-applies t c =
+    leaf_applies (kern_of c.args.kernel.now) c.args.port c.args.item c.args.states.now c.args.out.now (c.if-is_leaf.ensures.0 refl) c.requires
 
 pub fire_on-returns-then-is_leaf : goal.fire_on-returns-then-is_leaf
-fire_on-returns-then-is_leaf t c = leaf_does (kern_of c.args.kernel.now) c.args.port c.args.item c.args.out.now c.fire_leaf.new.out c.args.states.now c.fire_leaf.new.states (c.if-is_leaf.ensures.0 refl) c.in_ok-fire_leaf.ensures
+fire_on-returns-then-is_leaf t c =
+    leaf_does (kern_of c.args.kernel.now) c.args.port c.args.item c.args.out.now c.fire_leaf.new.out c.args.states.now c.fire_leaf.new.states (c.if-is_leaf.ensures.0 refl) c.in_ok-fire_leaf.ensures
 
 pub fire_on-fire_packed-requires : goal.fire_on-fire_packed-requires
 fire_on-fire_packed-requires t c =
@@ -167,8 +170,12 @@ fire_second-returns t c =
       blank = c.in_ok-last.last;
       last = last;
       is_blank = c.in_ok-last.ensures;
-      fires = subst (λ (l : List item.Item). FiresEach (kern_of c.args.second.now) l c.in_ok-last.last last c.args.states.now c.fire_each.new.states) c.take_port-between.ensures.taken c.in_ok-fire_each.ensures;
-      outs = spliced_taken c.args.at (length last.outs) c.args.out.now.outs c.splice.new.self.outs mid.outs c.take_port-between.new.self.outs (list_at last.outs) c.take_port-between.ensures.outs eo;
-      adds = ea ∙ ap (λ (l : List (List (List ℤ))). each_grew c.args.out.now.adds (beside (length l) (list_at l) (list_at last.adds))) c.take_port-between.ensures.adds;
+      fires =
+          subst (λ (l : List item.Item). FiresEach (kern_of c.args.second.now) l c.in_ok-last.last last c.args.states.now c.fire_each.new.states) c.take_port-between.ensures.taken c.in_ok-fire_each.ensures;
+      outs =
+          spliced_taken c.args.at (length last.outs) c.args.out.now.outs c.splice.new.self.outs mid.outs c.take_port-between.new.self.outs (list_at last.outs) c.take_port-between.ensures.outs eo;
+      adds =
+          ea
+          ∙ ap (λ (l : List (List (List ℤ))). each_grew c.args.out.now.adds (beside (length l) (list_at l) (list_at last.adds))) c.take_port-between.ensures.adds;
     })
     c.splice.ensures.outs c.splice.ensures.adds

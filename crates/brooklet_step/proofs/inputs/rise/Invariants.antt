@@ -5,4 +5,5 @@ use Rattle.brooklet_step.specs.Fit.{instant_of}
 use Rattle.brooklet_step.proofs.inputs.rise.Given as goal
 
 abbrev pub invariant-loop-place : goal.invariant-loop-place
-invariant-loop-place l = (i : ℕ) → i + 1 < l.place → (x y : item.Item) → slice_get l.items i ≡ Some x → slice_get l.items (suc i) ≡ Some y → instant_of x <ℤ instant_of y
+invariant-loop-place l =
+    (i : ℕ) → i + 1 < l.place → (x y : item.Item) → slice_get l.items i ≡ Some x → slice_get l.items (suc i) ≡ Some y → instant_of x <ℤ instant_of y

@@ -4,11 +4,13 @@ use Rattle.kern_rows.specs.Forms.{filter_form}
 use Rattle.river_kernels.specs.Kern.{kern_of, collect, unpack, window, cross, streamer}
 use Rattle.brooklet_model.specs.Shapes.{IsFormed}
 use Rattle.brooklet_step.proofs.Fires.{kern_of-filter}
-use Rattle.brooklet_step.proofs.Starts.{LeafFirst, if_ok, filter_first, deal_first, collect_first, unpack_first, window_first, cross_first, streamer_first, kern_of-deal, kern_of-collect, kern_of-unpack, kern_of-window, kern_of-cross, kern_of-streamer}
+use Rattle.brooklet_step.proofs.Starts.{LeafFirst, if_ok, filter_first, deal_first, collect_first, unpack_first, window_first, cross_first, streamer_first}
+use Rattle.brooklet_step.proofs.Starts.{kern_of-deal, kern_of-collect, kern_of-unpack, kern_of-window, kern_of-cross, kern_of-streamer}
 use Rattle.brooklet_step.proofs.start.leaf_states.Goals as goal
 
 pub filter_states-requires : goal.filter_states-requires
-filter_states-requires c = filter_first (filter_form c.in-Filter.filter) (subst IsFormed (ap kern_of c.in-Filter.is ∙ kern_of-filter c.in-Filter.filter) c.requires.formed)
+filter_states-requires c =
+    filter_first (filter_form c.in-Filter.filter) (subst IsFormed (ap kern_of c.in-Filter.is ∙ kern_of-filter c.in-Filter.filter) c.requires.formed)
 
 pub deal_states-requires : goal.deal_states-requires
 deal_states-requires c = deal_first c.in-Deal.weights (subst IsFormed (ap kern_of c.in-Deal.is ∙ kern_of-deal c.in-Deal.weights) c.requires.formed)

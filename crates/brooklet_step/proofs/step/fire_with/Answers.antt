@@ -8,18 +8,21 @@ pub reads_of-requires : goal.reads_of-requires
 reads_of-requires c = op_there c.args.parts.now.plan c.args.op c.args.port c.requires.enabled.queue c.requires.enabled.reads
 
 pub front-item-requires-clause-queue : goal.front-item-requires-clause-queue
-front-item-requires-clause-queue c = (front_there c.args.parts.now c.args.op c.args.port (slice_index_or c.reads_of.result.now c.args.port 0) c.requires.goes_on c.requires.enabled
+front-item-requires-clause-queue c =
+    (front_there c.args.parts.now c.args.op c.args.port (slice_index_or c.reads_of.result.now c.args.port 0) c.requires.goes_on c.requires.enabled
     (enabled_place c.args.parts.now c.args.op c.args.port (slice_index_or c.reads_of.result.now c.args.port 0) c.reads_of.result.now c.requires.enabled c.reads_of.ensures refl)).0
 
 pub front-item-requires-clause-item : goal.front-item-requires-clause-item
-front-item-requires-clause-item c = (front_there c.args.parts.now c.args.op c.args.port (slice_index_or c.reads_of.result.now c.args.port 0) c.requires.goes_on c.requires.enabled
+front-item-requires-clause-item c =
+    (front_there c.args.parts.now c.args.op c.args.port (slice_index_or c.reads_of.result.now c.args.port 0) c.requires.goes_on c.requires.enabled
     (enabled_place c.args.parts.now c.args.op c.args.port (slice_index_or c.reads_of.result.now c.args.port 0) c.reads_of.result.now c.requires.enabled c.reads_of.ensures refl)).1
 
 pub at_mut-requires : goal.at_mut-requires
 at_mut-requires c = (op_in c.args.parts.now c.args.op c.args.port c.requires.goes_on c.requires.enabled).0
 
 pub fire_op-requires-clause-can : goal.fire_op-requires-clause-can
-fire_op-requires-clause-can c = can_fire c.args.parts.now c.args.op c.args.port (slice_index_or c.reads_of.result.now c.args.port 0) c.front-item.result c.front-item.new.queues c.at_mut.result.now c.requires.goes_on c.requires.enabled
+fire_op-requires-clause-can c =
+    can_fire c.args.parts.now c.args.op c.args.port (slice_index_or c.reads_of.result.now c.args.port 0) c.front-item.result c.front-item.new.queues c.at_mut.result.now c.requires.goes_on c.requires.enabled
     (enabled_place c.args.parts.now c.args.op c.args.port (slice_index_or c.reads_of.result.now c.args.port 0) c.reads_of.result.now c.requires.enabled c.reads_of.ensures refl)
     c.front-item.ensures (c.at_mut.ensures.value [])
 
@@ -27,10 +30,12 @@ pub writes_of-requires : goal.writes_of-requires
 writes_of-requires c = (op_in c.args.parts.now c.args.op c.args.port c.requires.goes_on c.requires.enabled).1
 
 pub send-requires-clause-ports : goal.send-requires-clause-ports
-send-requires-clause-ports c = (send_there c.args.parts.now c.args.op c.args.port (slice_index_or c.reads_of.result.now c.args.port 0) c.front-item.result c.front-item.new.queues c.at_mut.result.now c.fire_op.new.states c.fire_op.new.out c.writes_of.result.now c.requires.goes_on c.requires.enabled c.front-item.ensures (c.at_mut.ensures.value []) c.in_ok-fire_op.ensures c.writes_of.ensures).0
+send-requires-clause-ports c =
+    (send_there c.args.parts.now c.args.op c.args.port (slice_index_or c.reads_of.result.now c.args.port 0) c.front-item.result c.front-item.new.queues c.at_mut.result.now c.fire_op.new.states c.fire_op.new.out c.writes_of.result.now c.requires.goes_on c.requires.enabled c.front-item.ensures (c.at_mut.ensures.value []) c.in_ok-fire_op.ensures c.writes_of.ensures).0
 
 pub send-requires-clause-places : goal.send-requires-clause-places
-send-requires-clause-places c = (send_there c.args.parts.now c.args.op c.args.port (slice_index_or c.reads_of.result.now c.args.port 0) c.front-item.result c.front-item.new.queues c.at_mut.result.now c.fire_op.new.states c.fire_op.new.out c.writes_of.result.now c.requires.goes_on c.requires.enabled c.front-item.ensures (c.at_mut.ensures.value []) c.in_ok-fire_op.ensures c.writes_of.ensures).1
+send-requires-clause-places c =
+    (send_there c.args.parts.now c.args.op c.args.port (slice_index_or c.reads_of.result.now c.args.port 0) c.front-item.result c.front-item.new.queues c.at_mut.result.now c.fire_op.new.states c.fire_op.new.out c.writes_of.result.now c.requires.goes_on c.requires.enabled c.front-item.ensures (c.at_mut.ensures.value []) c.in_ok-fire_op.ensures c.writes_of.ensures).1
 
 pub vars_of-requires : goal.vars_of-requires
 vars_of-requires c = (op_in c.args.parts.now c.args.op c.args.port c.requires.goes_on c.requires.enabled).1

@@ -21,13 +21,17 @@ send_port-requires-clause-port c = let m = c.loop-port.invariant.left.left.many 
 
 pub loop-port-preserved : goal.loop-port-preserved
 loop-port-preserved c = record {
-  queues = send_step c.args.to.now (list_at c.args.outs.now) c.loop-port.port c.args.queues.now c.loop-port.queues c.send_port.new.queues (list_at c.loop-port.outs c.loop-port.port) (omega arith) c.loop-port.invariant.queues
+  queues =
+      send_step c.args.to.now (list_at c.args.outs.now) c.loop-port.port c.args.queues.now c.loop-port.queues c.send_port.new.queues (list_at c.loop-port.outs c.loop-port.port) (omega arith) c.loop-port.invariant.queues
       (c.loop-port.invariant.left.left.rest c.loop-port.port (omega arith)) c.in_ok-send_port.ensures.queues;
-  left = emptied_next c.loop-port.port c.args.outs.now c.loop-port.outs c.send_port.new.outs c.loop-port.invariant.left (let r = c.requires.ports in omega (arith, r)) c.in_ok-send_port.ensures.outs;
+  left =
+      emptied_next c.loop-port.port c.args.outs.now c.loop-port.outs c.send_port.new.outs c.loop-port.invariant.left (let r = c.requires.ports in omega (arith, r)) c.in_ok-send_port.ensures.outs;
 }
 
 pub returns-clause-queues : goal.returns-clause-queues
-returns-clause-queues c = c.loop-port.invariant.queues ∙ ap (λ ws. each_grew c.args.queues.now (joined_at ws (list_at c.args.outs.now))) (take_all c.loop-port.port c.args.to.now (omega arith))
+returns-clause-queues c =
+    c.loop-port.invariant.queues
+    ∙ ap (λ ws. each_grew c.args.queues.now (joined_at ws (list_at c.args.outs.now))) (take_all c.loop-port.port c.args.to.now (omega arith))
 
 pub returns-clause-blank : goal.returns-clause-blank
 returns-clause-blank c = emptied_all c.loop-port.port c.args.outs.now c.loop-port.outs c.loop-port.invariant.left (let r = c.requires.ports in omega (arith, r))

@@ -13,7 +13,8 @@ returns-then-eq c = λ ks. name_there ks c.args.name c.args.sources.now c.loop-s
     (ap (λ n. name_eq n c.args.name) (sym c.item_name.ensures) ∙ sym c.eq.ensures ∙ c.if-eq.true)
 
 pub loop-source-preserved : goal.loop-source-preserved
-loop-source-preserved c = λ ks. name_next ks c.args.name c.args.sources.now c.loop-source.source-index c.source-item.result c.loop-source-test.true c.source-item.is
+loop-source-preserved c =
+    λ ks. name_next ks c.args.name c.args.sources.now c.loop-source.source-index c.source-item.result c.loop-source-test.true c.source-item.is
     (ap (λ n. name_eq n c.args.name) (sym c.item_name.ensures) ∙ sym c.eq.ensures ∙ c.if-eq.false) (c.loop-source.invariant ks)
 
 pub returns : goal.returns

@@ -10,6 +10,8 @@ loop-other-preserved c =
     let inv = c.loop-other.invariant.is in
     let low = c.loop-other.invariant.low in
     elim c.if-eq.branch [
-      | then-eq w ↦ let t = ap one_if (sym c.eq.ensures ∙ w.if-eq.true) in let n = w.n-is in record { is = omega (arith, next, inv, t, n); low = omega (arith, low, n) }
-      | else-eq w ↦ let t = ap one_if (sym c.eq.ensures ∙ w.if-eq.false) in let n = w.n-is in record { is = omega (arith, next, inv, t, n); low = omega (arith, low, n) }
+      | then-eq w ↦ let t =
+          ap one_if (sym c.eq.ensures ∙ w.if-eq.true) in let n = w.n-is in record { is = omega (arith, next, inv, t, n); low = omega (arith, low, n) }
+      | else-eq w ↦ let t =
+          ap one_if (sym c.eq.ensures ∙ w.if-eq.false) in let n = w.n-is in record { is = omega (arith, next, inv, t, n); low = omega (arith, low, n) }
     ]

@@ -1,4 +1,5 @@
-use Rattle.std.proofs.Common.{Bor, List, ℕ, ◌≡◌, ◌+◌, ◌<◌, ◌≤◌, ◌∙◌, sym, subst, refl, rules, arith, ap, inl, inr, Some, ◌∷◌, [], ◌++◌, length, length-append, append_assoc}
+use Rattle.std.proofs.Common.{Bor, List, ℕ, ◌≡◌, ◌+◌, ◌<◌, ◌≤◌, ◌∙◌, sym, subst, refl, rules, arith, ap, inl, inr, Some, ◌∷◌, [], ◌++◌, length, length-append}
+use Rattle.std.proofs.Common.{append_assoc}
 use Rattle.std.specs.Prelude.{ℤ, Err}
 use Rattle.std.proofs.lemmas.Result.{err_from_is_err_and}
 use Rattle.std.proofs.lemmas.List.Elements.{All-nil}
@@ -26,7 +27,8 @@ loop-record-init c =
       last = ap (λ (n : ℕ). n + 100000) c.headers-header.ensures;
       few = omega arith;
       wide = subst (HaveWidth c.args.width) (sym c.requires.none) (All-nil (λ row. length row ≡ c.args.width));
-      read = (strip_bom c.args.bytes.now, [], fr.source, (sym fr.state, refl), rows-none c.args.width c.args.skip_first c.args.more ∙ ap (λ (l : List (List ℤ)). told l) (sym c.requires.none), refl);
+      read =
+          (strip_bom c.args.bytes.now, [], fr.source, (sym fr.state, refl), rows-none c.args.width c.args.skip_first c.args.more ∙ ap (λ (l : List (List ℤ)). told l) (sym c.requires.none), refl);
     }
 
 -- a row

@@ -1,4 +1,5 @@
-use Rattle.std.proofs.Common.{Bor, List, ℕ, ◌≡◌, ◌+◌, ◌<◌, ◌≤◌, ◌∙◌, sym, refl, rules, arith, ap, inl, inr, Some, ◌∷◌, [], ◌++◌, length, length-append, append_assoc}
+use Rattle.std.proofs.Common.{Bor, List, ℕ, ◌≡◌, ◌+◌, ◌<◌, ◌≤◌, ◌∙◌, sym, refl, rules, arith, ap, inl, inr, Some, ◌∷◌, [], ◌++◌, length, length-append}
+use Rattle.std.proofs.Common.{append_assoc}
 use Rattle.std.specs.Prelude.{pos, Err}
 use Rattle.std.proofs.lemmas.Result.{err_from_is_err_and}
 use Rattle.csv.specs.Reading.{Reached, default_config, strip_bom}
@@ -25,7 +26,8 @@ loop-record-init c =
       header = c.headers-header.ensures;
       last = ap (λ (n : ℕ). n + 100000) c.headers-header.ensures;
       few = omega arith;
-      read = (strip_bom c.args.bytes.now, [], fr.source, (sym fr.state, refl), timed-none c.args.width c.args.skip_first ∙ ap (λ (l : List Entry). all_told l) (sym c.requires.none), refl);
+      read =
+          (strip_bom c.args.bytes.now, [], fr.source, (sym fr.state, refl), timed-none c.args.width c.args.skip_first ∙ ap (λ (l : List Entry). all_told l) (sym c.requires.none), refl);
     }
 
 -- a row

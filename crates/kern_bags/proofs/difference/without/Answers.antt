@@ -2,7 +2,8 @@ use Rattle.std.proofs.Common.{◌≡◌, true, false, sym, ap, ◌∙◌, subst,
 use Rattle.river_base.specs.Row.{row_eq}
 use Rattle.kern_bags.specs.Contents.{without}
 use Rattle.kern_bags.proofs.Merged.{Up, up_of, row_taken, row_left, row_last, merged_all, left_in_order}
-use Rattle.kern_bags.proofs.difference.without.Goals.{then-place-len+then-eq, else-place-len+in_ok-push, else-place-len-via-then-place-len+else-eq, else-place-len-via-else-place-len}
+use Rattle.kern_bags.proofs.difference.without.Goals.{then-place-len+then-eq, else-place-len+in_ok-push, else-place-len-via-then-place-len+else-eq}
+use Rattle.kern_bags.proofs.difference.without.Goals.{else-place-len-via-else-place-len}
 use Rattle.kern_bags.proofs.difference.without.Goals as goal
 
 pub loop-row-preserved : goal.loop-row-preserved
@@ -34,12 +35,14 @@ loop-row-preserved c =
                 let e : row_eq y x ≡ false = sym w'.eq.ensures ∙ w'.if-eq.false in
                 record {
                   within = omega arith;
-                  merged = rw (w.place-is, w.left-is) (row_left rows others u v n p q x left (omega arith) at from m y w.push.new.self (omega arith) (w'.at.ensures y) e w.in_ok-push.ensures.ok);
+                  merged =
+                      rw (w.place-is, w.left-is) (row_left rows others u v n p q x left (omega arith) at from m y w.push.new.self (omega arith) (w'.at.ensures y) e w.in_ok-push.ensures.ok);
                 }
             | else-place-len-via-else-place-len w' ↦
                 record {
                   within = omega arith;
-                  merged = rw (w.place-is, w.left-is) (row_last rows others u v n p q x left (omega arith) at from m w.push.new.self (omega arith) w.in_ok-push.ensures.ok);
+                  merged =
+                      rw (w.place-is, w.left-is) (row_last rows others u v n p q x left (omega arith) at from m w.push.new.self (omega arith) w.in_ok-push.ensures.ok);
                 }
           ]
     ]

@@ -22,10 +22,13 @@ loop-place-preserved c =
     let old = c.args.rows.now in
     let change : List ℤ → List ℤ = λ row. map (λ t. val t row []) (terms c.args.list.now) in
     let back = c.loop-place.invariant.back in
-    let lt : n < length xs = let e = c.len-place-end.ensures in let t = c.loop-place-test.true in let a = c.loop-place.invariant.all in omega (arith, e, t, a) in
+    let lt : n < length xs = let e = c.len-place-end.ensures in let t = c.loop-place-test.true in let a = c.loop-place.invariant.all in
+    omega (arith, e, t, a) in
     let done = ap (λ y. set xs n y) c.project_row-row.ensures in
     record {
       all = length-set xs n c.project_row-row.result ∙ c.loop-place.invariant.all;
-      front = ap (take (n + 1)) done ∙ changed_next change xs old n x lt c.loop-place.invariant.all c.loop-place.invariant.front (c.at.ensures x ∙ as_it_was xs old n x back);
+      front =
+          ap (take (n + 1)) done
+          ∙ changed_next change xs old n x lt c.loop-place.invariant.all c.loop-place.invariant.front (c.at.ensures x ∙ as_it_was xs old n x back);
       back = rest_beside xs old n n c.project_row-row.result (omega arith) back;
     }

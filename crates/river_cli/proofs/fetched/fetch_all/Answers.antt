@@ -46,7 +46,8 @@ loop-word-preserved g c =
       stays = c.fetch_one.ensures.stays ∙ c.loop-word.invariant.stays;
       later = omega (arith, c.fetch_one.ensures.later, c.loop-word.invariant.later);
       count = omega (arith, n, m, c.loop-word.invariant.count);
-      comes = subst (λ (l : List (List ℕ)). ComesTo ins held l (drop (i + 1) ins)) (sym c.in_ok-push.ensures.ok) (comes-more ins held c.loop-word.files w (drop (i + 1) ins) bytes far one);
+      comes =
+          subst (λ (l : List (List ℕ)). ComesTo ins held l (drop (i + 1) ins)) (sym c.in_ok-push.ensures.ok) (comes-more ins held c.loop-word.files w (drop (i + 1) ins) bytes far one);
     }
 
 pub returns-clause-passes : goal.returns-clause-passes

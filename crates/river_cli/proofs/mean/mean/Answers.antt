@@ -10,7 +10,8 @@ use Rattle.river_cli.proofs.mean.mean.Goals as goal
 
 pub run_lines-requires : goal.run_lines-requires
 run_lines-requires c = record {
-  fits = subst (λ (l : List (List item.Item)). Fit c.args.plan.now l) (sym c.in_ok-inputs_of-in-River.ensures) (contents-fit c.args.plan.now c.args.files c.requires.contents);
+  fits =
+      subst (λ (l : List (List item.Item)). Fit c.args.plan.now l) (sym c.in_ok-inputs_of-in-River.ensures) (contents-fit c.args.plan.now c.args.files c.requires.contents);
 }
 
 pub mean_cql-requires-clause-files : goal.mean_cql-requires-clause-files

@@ -11,7 +11,8 @@ use Rattle.river_cli.proofs.output.output.Goals as goal
 
 pub run_lines-requires : goal.run_lines-requires
 run_lines-requires c = record {
-  fits = subst (λ (l : List (List item.Item)). Fit c.args.plan.now l) (sym c.in_ok-inputs.ensures) (contents-fit c.args.plan.now c.args.files c.requires.contents);
+  fits =
+      subst (λ (l : List (List item.Item)). Fit c.args.plan.now l) (sym c.in_ok-inputs.ensures) (contents-fit c.args.plan.now c.args.files c.requires.contents);
 }
 
 pub print_outcome-requires-clause-tables : goal.print_outcome-requires-clause-tables

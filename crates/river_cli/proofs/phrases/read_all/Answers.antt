@@ -16,7 +16,8 @@ loop-rest-preserved c =
     let some : 0 < length c.loop-rest.rest.now = grind (arith, c.is_empty.ensures, c.loop-rest-test.true) in
     let g : Grown = record { takes = c.in_ok-taken.taken; said = c.read_phrase.new.said; job = c.read_phrase.new.job } in
     record {
-      apart = still-apart c.args.command c.loop-rest.rest.now c.loop-rest.said c.loop-rest.job (phrase_of c.loop-rest.rest.now) g c.in_ok-taken.ensures.ok c.loop-rest.invariant.apart;
+      apart =
+          still-apart c.args.command c.loop-rest.rest.now c.loop-rest.said c.loop-rest.job (phrase_of c.loop-rest.rest.now) g c.in_ok-taken.ensures.ok c.loop-rest.invariant.apart;
       read = ap (λ l. on_by g.said g.job (phrases c.args.command 0 l)) c.behind-rest.ensures
           ∙ sym (more-words c.args.command c.loop-rest.rest.now c.loop-rest.said c.loop-rest.job g some c.in_ok-taken.ensures.ok) ∙ c.loop-rest.invariant.read;
     }

@@ -13,9 +13,11 @@ loop-place-init c = record {
 
 pub loop-place-preserved : goal.loop-place-preserved
 loop-place-preserved c =
-    let named : c.as_slice.result.now ≡ c.index-decls-place.result.name = c.as_slice.ensures.bytes ∙ ap (λ (d : Decl). d.name) (sym c.index-decls-place.is) in record {
+    let named : c.as_slice.result.now ≡ c.index-decls-place.result.name = c.as_slice.ensures.bytes ∙ ap (λ (d : Decl). d.name) (sym c.index-decls-place.is) in
+    record {
       count = let n = c.take_named.ensures.count in let m = c.loop-place.invariant.count in omega (arith, n, m);
-      arranged = arranged-next c.args.decls.now c.args.ins.now c.loop-place.all c.take_named.new.all c.loop-place.files c.push.new.self (in_order c.args.decls.now c.args.ins.now c.args.all.now)
+      arranged =
+          arranged-next c.args.decls.now c.args.ins.now c.loop-place.all c.take_named.new.all c.loop-place.files c.push.new.self (in_order c.args.decls.now c.args.ins.now c.args.all.now)
           c.loop-place.place c.index-decls-place.result c.take_named.result c.loop-place-test.true c.index-decls-place.is c.requires.apart
           (rw named at c.take_named.ensures.taken) (rw named at c.take_named.ensures.others) c.loop-place.invariant.arranged c.in_ok-push.ensures.ok;
     }

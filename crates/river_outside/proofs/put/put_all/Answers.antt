@@ -13,5 +13,7 @@ loop-done-preserved g c =
     record {
       within = omega (arith, bound, length-drop c.loop-done.done bytes, inv.within);
       later = omega (arith, inv.later, c.write.ensures.later);
-      took = took ∙ ap (λ o. append_known o (take c.in_ok-done.field-0 (drop c.loop-done.done bytes))) inv.took ∙ append_known-more (g.K.Sink.taken c.args.sink.now) bytes c.loop-done.done c.in_ok-done.field-0;
+      took =
+          took ∙ ap (λ o. append_known o (take c.in_ok-done.field-0 (drop c.loop-done.done bytes))) inv.took
+          ∙ append_known-more (g.K.Sink.taken c.args.sink.now) bytes c.loop-done.done c.in_ok-done.field-0;
     }

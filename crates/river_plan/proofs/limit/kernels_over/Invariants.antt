@@ -5,4 +5,5 @@ use Rattle.river_plan.specs.Limits.{kernel_numbers}
 use Rattle.river_plan.proofs.limit.kernels_over.Given as goal
 
 abbrev pub invariant-loop-op : goal.invariant-loop-op
-invariant-loop-op l = first_above l.most (kernel_numbers l.limit (op_forms (drop l.op-index l.op-items))) ≡ first_above l.most (kernel_numbers l.limit (op_forms (l.op-items)))
+invariant-loop-op l =
+    first_above l.most (kernel_numbers l.limit (op_forms (drop l.op-index l.op-items))) ≡ first_above l.most (kernel_numbers l.limit (op_forms (l.op-items)))

@@ -6,4 +6,5 @@ use Rattle.river_plan.proofs.Remains.{Remains}
 use Rattle.river_plan.proofs.once.used_twice.Given as goal
 
 abbrev pub invariant-loop-place : goal.invariant-loop-place
-invariant-loop-place l = Remains (λ before name. Unless (IsOnceAt l.first l.count (length before) (length (list_at l.users (length before)))) name) l.names l.place
+invariant-loop-place l =
+    Remains (λ before name. Unless (IsOnceAt l.first l.count (length before) (length (list_at l.users (length before)))) name) l.names l.place

@@ -6,4 +6,5 @@ use Rattle.river_plan.proofs.Remains.{Remains}
 use Rattle.river_plan.proofs.order.first_early.Given as goal
 
 abbrev pub invariant-loop-port : goal.invariant-loop-port
-invariant-loop-port l = Remains (λ before name. Unless (IsKnownAt (length l.raw.outputs) (length l.raw.inputs) l.op l.writers (slice_index l.places (length before))) name) l.reads l.port
+invariant-loop-port l =
+    Remains (λ before name. Unless (IsKnownAt (length l.raw.outputs) (length l.raw.inputs) l.op l.writers (slice_index l.places (length before))) name) l.reads l.port

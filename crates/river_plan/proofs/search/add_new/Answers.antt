@@ -17,7 +17,8 @@ loop-name-preserved c =
     record {
       seen = new-next c.as_slice-name-items.result.now c.loop-name.name-index c.name-item.result c.loop-name.set c.insert.new.self
           c.loop-name-test.true c.name-item.is z c.in_ok-insert.ensures.added c.loop-name.invariant.seen;
-      rest = remains-next _ _ _ _ c.loop-name-test.true c.name-item.is (ap (count c.name-item.result) (sym c.loop-name.invariant.seen) ∙ z) c.loop-name.invariant.rest;
+      rest =
+          remains-next _ _ _ _ c.loop-name-test.true c.name-item.is (ap (count c.name-item.result) (sym c.loop-name.invariant.seen) ∙ z) c.loop-name.invariant.rest;
     }
 
 pub returns-then-not-branch-clause-first : goal.returns-then-not-branch-clause-first
@@ -31,4 +32,5 @@ returns-clause-first c = subst (λ (l : List Name). IsFirst IsNew l None) c.as_s
     (remains-end _ _ _ c.loop-name-test.false c.loop-name.invariant.rest)
 
 pub returns-clause-all : goal.returns-clause-all
-returns-clause-all c = λ _. c.loop-name.invariant.seen ∙ take_all c.loop-name.name-index c.as_slice-name-items.result.now c.loop-name-test.false ∙ c.as_slice-name-items.ensures
+returns-clause-all c =
+    λ _. c.loop-name.invariant.seen ∙ take_all c.loop-name.name-index c.as_slice-name-items.result.now c.loop-name-test.false ∙ c.as_slice-name-items.ensures

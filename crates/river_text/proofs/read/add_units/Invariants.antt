@@ -6,4 +6,5 @@ use Rattle.river_text.specs.ReadPlans.{read_plan}
 use Rattle.river_text.proofs.read.add_units.Given as goal
 
 abbrev pub invariant-items : goal.invariant-items
-invariant-items l = read_plan l.stage (l.i + 1) (plan_form l.plan) (map unit_tokens (drop l.i l.parts)) ≡ read_plan 0 1 (plan_form l.initial.plan) (map unit_tokens l.parts)
+invariant-items l =
+    read_plan l.stage (l.i + 1) (plan_form l.plan) (map unit_tokens (drop l.i l.parts)) ≡ read_plan 0 1 (plan_form l.initial.plan) (map unit_tokens l.parts)

@@ -9,7 +9,8 @@ use Rattle.rw_fission.specs.declared.form.Form.TheVariants.{Packs, Blocks, Adds}
 use Rattle.rw_fission.proofs.lists.new_vars.Goals as goal
 
 -- the new private variables, by the names that were made
-new_vars_are : (p : PlanForm) (op : OpForm) (l : Name) (n : ℕ) (names : MadeNames) (form : Form) → IsMadeOf l n names → names.splitter ∷ behind_splitter names form ≡ (way_by p op (made_of l) n form).new
+new_vars_are : (p : PlanForm) (op : OpForm) (l : Name) (n : ℕ) (names : MadeNames) (form : Form) → IsMadeOf l n names
+    → names.splitter ∷ behind_splitter names form ≡ (way_by p op (made_of l) n form).new
 new_vars_are p op l n names (Packs u) h = let a = h.splitter in let b = h.joiner in cc
 new_vars_are p op l n names (Blocks pop push) h = let a = h.splitter in let b = h.joiner in let d = h.replicas in cc
 new_vars_are p op l n names Adds h = let a = h.splitter in cc

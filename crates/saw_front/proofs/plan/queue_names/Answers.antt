@@ -5,7 +5,8 @@ use Rattle.saw_front.proofs.Planned.{each_at, map_more}
 use Rattle.saw_front.proofs.plan.queue_names.Goals as goal
 
 pub queue-requires : goal.queue-requires
-queue-requires c = (each_at IsListed c.as_slice-table-items.result.now c.loop-table.table-index c.table-item.result (subst AreListed (sym c.as_slice-table-items.ensures) c.requires) (search rules) c.table-item.is).short
+queue-requires c =
+    (each_at IsListed c.as_slice-table-items.result.now c.loop-table.table-index c.table-item.result (subst AreListed (sym c.as_slice-table-items.ensures) c.requires) (search rules) c.table-item.is).short
 
 pub loop-table-preserved : goal.loop-table-preserved
 loop-table-preserved c =

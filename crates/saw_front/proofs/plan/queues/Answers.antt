@@ -8,10 +8,12 @@ use Rattle.saw_front.proofs.Planned.{each_at, map_more}
 use Rattle.saw_front.proofs.plan.queues.Goals as goal
 
 pub queue-requires : goal.queue-requires
-queue-requires c = (each_at IsListed c.as_slice-table-items.result.now c.loop-table.table-index c.table-item.result (subst AreListed (sym c.as_slice-table-items.ensures) c.requires) (search rules) c.table-item.is).short
+queue-requires c =
+    (each_at IsListed c.as_slice-table-items.result.now c.loop-table.table-index c.table-item.result (subst AreListed (sym c.as_slice-table-items.ensures) c.requires) (search rules) c.table-item.is).short
 
 pub table_width-requires : goal.table_width-requires
-table_width-requires c = (each_at IsListed c.as_slice-table-items.result.now c.loop-table.table-index c.table-item.result (subst AreListed (sym c.as_slice-table-items.ensures) c.requires) (search rules) c.table-item.is).keys
+table_width-requires c =
+    (each_at IsListed c.as_slice-table-items.result.now c.loop-table.table-index c.table-item.result (subst AreListed (sym c.as_slice-table-items.ensures) c.requires) (search rules) c.table-item.is).keys
 
 pub loop-table-preserved : goal.loop-table-preserved
 loop-table-preserved c =

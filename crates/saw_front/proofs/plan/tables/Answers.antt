@@ -9,4 +9,5 @@ loop-unit-preserved c =
     tables_next c.args.units.now c.loop-unit.unit-index c.unit-item.result c.loop-unit.list c.add_table.new.list (tables_in (program_of (unit_forms c.args.units.now))) (search rules) c.unit-item.is (c.in_ok-add_table.ensures {u = tt}) c.loop-unit.invariant
 
 pub returns : goal.returns
-returns c = tables_end c.args.units.now c.loop-unit.unit-index c.loop-unit.list (tables_in (program_of (unit_forms c.args.units.now))) (search rules) c.loop-unit.invariant
+returns c =
+    tables_end c.args.units.now c.loop-unit.unit-index c.loop-unit.list (tables_in (program_of (unit_forms c.args.units.now))) (search rules) c.loop-unit.invariant

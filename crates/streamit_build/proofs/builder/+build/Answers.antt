@@ -8,11 +8,13 @@ use Rattle.streamit_model.specs.Build.{numbered, queue, queues, with_own, splitt
 use Rattle.streamit_build.specs.declared.builder.Declared.TheVariants as made
 use Rattle.streamit_build.specs.Units.{units_of, splitter_of, AreTrees, Built}
 use Rattle.streamit_build.proofs.Branches.{RestSoFar, rest_start, rest_next, rest_returns, split_built}
-use Rattle.streamit_build.proofs.Lines.{short_of, lower_split, LineSoFar, line_start, line_next, at_child, unit_at, lower_of, pipe_returns, last_returns, filter_returns, below_same, trees_same}
+use Rattle.streamit_build.proofs.Lines.{short_of, lower_split, LineSoFar, line_start, line_next, at_child, unit_at, lower_of, pipe_returns, last_returns}
+use Rattle.streamit_build.proofs.Lines.{filter_returns, below_same, trees_same}
 use Rattle.streamit_build.proofs.builder.+build.Goals as goal
 
 pub line-loop-child-init : goal.line-loop-child-init
-line-loop-child-init t c = line_start (units_of c.args.units.now) c.args.parts.front.now c.args.parts.last c.args.i c.args.made.now c.args.from c.args.to c.requires.below.0
+line-loop-child-init t c =
+    line_start (units_of c.args.units.now) c.args.parts.front.now c.args.parts.last c.args.i c.args.made.now c.args.from c.args.to c.requires.below.0
 
 pub line-loop-child-preserved : goal.line-loop-child-preserved
 line-loop-child-preserved t c =
@@ -31,7 +33,8 @@ line-returns t c =
     last_returns us items c.args.parts.last c.args.i c.args.made.now c.loop-child.made c.build-2.new.made c.args.from c.loop-child.start c.args.to c.build-2.result f c.build-2.ensures
 
 pub branches-loop-child-init : goal.branches-loop-child-init
-branches-loop-child-init t c = rest_start (units_of c.args.units.now) c.args.parts.front.now c.args.parts.last c.args.i c.args.made.now c.args.lanes.first c.args.lanes.second c.requires.below.0
+branches-loop-child-init t c =
+    rest_start (units_of c.args.units.now) c.args.parts.front.now c.args.parts.last c.args.i c.args.made.now c.args.lanes.first c.args.lanes.second c.requires.below.0
 
 pub branches-loop-child-preserved : goal.branches-loop-child-preserved
 branches-loop-child-preserved t c =

@@ -31,7 +31,8 @@ abbrev pub decreases-otherwise : goal.decreases-otherwise
 decreases-otherwise l = l.nest * 8 + 5
 
 abbrev pub invariant-stmts-items : goal.invariant-stmts-items
-invariant-stmts-items l = repeated (many_turn at_close (stmt_at l.nest l.brackets)) (map statement l.items.items) l.reader ≡ many at_close (stmt_at l.nest l.brackets) l.fn.reader
+invariant-stmts-items l =
+    repeated (many_turn at_close (stmt_at l.nest l.brackets)) (map statement l.items.items) l.reader ≡ many at_close (stmt_at l.nest l.brackets) l.fn.reader
 
 abbrev pub decreases-stmts-items : goal.decreases-stmts-items
 decreases-stmts-items l = length l.reader

@@ -11,7 +11,8 @@ chain-items-preserved g t c =
     let below = ladder S (leaf c.args.brackets) (within S leaf c.args.brackets) c.args.line (c.args.room - 1) in
     let more = rw c.in-Some.ensures.rest at c.in_ok-left-2.ensures.reads in
     record {
-      same = chained-grown S (g.met.D.Dialect.deeper c.args.dialect.now) c.args.line below c.args.room (g.D.Dialect.view c.items.left.tree) (g.D.Dialect.view c.in_ok-left-2.left.tree) (g.R.TokenSource.rest c.items.reader) (g.R.TokenSource.rest c.grown.new.reader) c.in-Some.op
+      same =
+          chained-grown S (g.met.D.Dialect.deeper c.args.dialect.now) c.args.line below c.args.room (g.D.Dialect.view c.items.left.tree) (g.D.Dialect.view c.in_ok-left-2.left.tree) (g.R.TokenSource.rest c.items.reader) (g.R.TokenSource.rest c.grown.new.reader) c.in-Some.op
           (sym c.in-Some.ensures.found) more
           ∙ c.items.invariant.same;
       small = c.in_ok-left-2.ensures.small;

@@ -14,7 +14,8 @@ loop-count-preserved c =
     let later : c.args.at <ℤ c.index.result.now.0 = grind (arith, ints) in
     record {
       within = omega arith;
-      later = one_earlier (λ (e : Stamped). to_z w64 (of_z w64 c.args.at) <ℤ e.0) es (n - 1) c.index.result.now (omega arith) c.index.ensures (subst (λ (t : ℤ). t <ℤ c.index.result.now.0) (sym at) later)
+      later =
+          one_earlier (λ (e : Stamped). to_z w64 (of_z w64 c.args.at) <ℤ e.0) es (n - 1) c.index.result.now (omega arith) c.index.ensures (subst (λ (t : ℤ). t <ℤ c.index.result.now.0) (sym at) later)
           (subst (λ k. AllByRecursion (λ (e : Stamped). to_z w64 (of_z w64 c.args.at) <ℤ e.0) (drop k es)) same c.loop-count.invariant.later);
     }
 

@@ -16,7 +16,8 @@ use Rattle.kern_tables.proofs.Written.{set_same, short_set, set_is_put}
 use Rattle.kern_tables.proofs.maxima.Maxima.add.Goals as goal
 
 pub invariant_of-self : goal.invariant_of-self
-invariant_of-self c = subst (AreShort 14) (sym (c.get_mut.follows.holds c.add.new.self).0) (short_set 14 c.of_row-key.result c.self.inside.maxima.entries c.add.new.self c.self.invariant)
+invariant_of-self c =
+    subst (AreShort 14) (sym (c.get_mut.follows.holds c.add.new.self).0) (short_set 14 c.of_row-key.result c.self.inside.maxima.entries c.add.new.self c.self.invariant)
 
 pub returns-in-Some-clause-ok : goal.returns-in-Some-clause-ok
 returns-in-Some-clause-ok c =
@@ -34,7 +35,8 @@ returns-in-Some-clause-err c =
     let k = c.of_row-key.result in
     let there : lookup (is_at (row_cmp c.of_row-key.result)) c.self.inside.maxima.entries ≡ Some c.in-Some.kept.now = search rules in
     on_err_weaker c.add.result (λ err.
-    (c.get_mut.follows.holds c.add.new.self).0 ∙ ap (set_value (is_at (row_cmp k)) c.self.inside.maxima.entries) err ∙ set_same k c.self.inside.maxima.entries c.in-Some.kept.now there ∙ c.self.view_is) c.add.ensures.err
+    (c.get_mut.follows.holds c.add.new.self).0 ∙ ap (set_value (is_at (row_cmp k)) c.self.inside.maxima.entries) err
+    ∙ set_same k c.self.inside.maxima.entries c.in-Some.kept.now there ∙ c.self.view_is) c.add.ensures.err
 
 pub invariant_of-self-2 : goal.invariant_of-self-2
 invariant_of-self-2 c =

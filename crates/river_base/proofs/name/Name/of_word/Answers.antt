@@ -9,7 +9,8 @@ pub invariant_of-result : goal.invariant_of-result
 invariant_of-result c =
     let e = shown 64 0 c.args.bytes.now c.loop-i.all c.loop-i.i c.loop-i-test.false c.loop-i.auto.i-end c.loop-i.invariant in
     record {
-      short = short 64 0 c.args.bytes.now c.loop-i.all c.loop-i.i (name_at_most c.args.bytes.now c.requires) c.loop-i-test.false c.loop-i.auto.i-end c.loop-i.invariant;
+      short =
+          short 64 0 c.args.bytes.now c.loop-i.all c.loop-i.i (name_at_most c.args.bytes.now c.requires) c.loop-i-test.false c.loop-i.auto.i-end c.loop-i.invariant;
       named = subst (λ bs. IsTrue (is_name bs)) (sym e) c.requires;
     }
 

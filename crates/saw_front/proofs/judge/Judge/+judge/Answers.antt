@@ -13,7 +13,8 @@ use Rattle.saw_text.proofs.Trees.{block-is, statement-if}
 use Rattle.saw_front.specs.Judging.{at_of}
 use Rattle.saw_front.specs.Valued.{AreValued}
 use Rattle.saw_front.specs.View.{Tells}
-use Rattle.saw_front.proofs.SoFar.{BlockSoFar, block_next, block_err, block_end, at_place, none_left, if_read, if_fault, reads_err, arm_none, kept_by, good as answered}
+use Rattle.saw_front.proofs.SoFar.{BlockSoFar, block_next, block_err, block_end, at_place, none_left, if_read, if_fault, reads_err, arm_none, kept_by}
+use Rattle.saw_front.proofs.SoFar.{good as answered}
 use Rattle.saw_front.proofs.judge.Judge.+judge.Goals as goal
 
 pub block-returns-in_err-statement : goal.block-returns-in_err-statement

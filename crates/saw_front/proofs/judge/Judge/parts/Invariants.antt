@@ -6,4 +6,5 @@ use Rattle.saw_front.proofs.Units.{PartsSoFar}
 use Rattle.saw_front.proofs.judge.Judge.parts.Given as goal
 
 abbrev pub invariant-loop-i : goal.invariant-loop-i
-invariant-loop-i l = PartsSoFar (all_parts 1 (program_of (unit_forms l.units)) (at_of l.initial.self)) l.i (program_of (unit_forms (drop l.i l.units))) l.self l.initial.out l.out
+invariant-loop-i l =
+    PartsSoFar (all_parts 1 (program_of (unit_forms l.units)) (at_of l.initial.self)) l.i (program_of (unit_forms (drop l.i l.units))) l.self l.initial.out l.out

@@ -6,4 +6,6 @@ use Rattle.streamit_build.proofs.Added.{SoFar}
 use Rattle.streamit_build.proofs.streams.Known.children.Given as goal
 
 abbrev pub invariant-loop-i : goal.invariant-loop-i
-invariant-loop-i l = (known : Streamed) → Knows l.self known → SoFar (units_of l.self.declared.items) (may l.branch) known (streams_of (may l.branch) known 0 l.adds.first l.adds.others.items) l.i (drop l.i l.adds.others.items) l.children
+invariant-loop-i l =
+    (known : Streamed) → Knows l.self known
+    → SoFar (units_of l.self.declared.items) (may l.branch) known (streams_of (may l.branch) known 0 l.adds.first l.adds.others.items) l.i (drop l.i l.adds.others.items) l.children

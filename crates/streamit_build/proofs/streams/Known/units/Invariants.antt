@@ -9,5 +9,6 @@ use Rattle.streamit_build.proofs.streams.Known.units.Given as goal
 abbrev pub invariant-loop-i : goal.invariant-loop-i
 invariant-loop-i l = record {
   readable : AreReadable (program_of (drop l.i l.units));
-  judged : (start : Streamed) → Knows l.initial.self start → Judging (all_streams 1 start (program_of l.units)) (l.i + 1) (program_of (drop l.i l.units)) l.self;
+  judged : (start : Streamed) → Knows l.initial.self start
+      → Judging (all_streams 1 start (program_of l.units)) (l.i + 1) (program_of (drop l.i l.units)) l.self;
 }

@@ -9,7 +9,8 @@ use Rattle.work_code.proofs.Running.{step-if}
 use Rattle.work_code.proofs.Texts.{steps-is}
 use Rattle.work_code.specs.declared.code.Stmt as built
 use Rattle.streamit_unroll.proofs.Trees.{block-is, statement-for}
-use Rattle.streamit_unroll.proofs.SoFar.{BlockSoFar, block_next, block_err, block_end, turns_start, turns_next, turns_fault, turns_end, for_turns, for_fault, good as answered, if_read, turn_is, kept_by, at_place, none_left}
+use Rattle.streamit_unroll.proofs.SoFar.{BlockSoFar, block_next, block_err, block_end, turns_start, turns_next, turns_fault, turns_end, for_turns, for_fault}
+use Rattle.streamit_unroll.proofs.SoFar.{good as answered, if_read, turn_is, kept_by, at_place, none_left}
 use Rattle.std.proofs.Common.{subst, sym, ap, ◌∙◌, arith, refl, rules, ◌≡◌, ◌+◌, ◌-◌, Err, [], ◌∷◌, drop, map}
 use Rattle.streamit_unroll.proofs.unroll.Unroller.+unroll.Goals as goal
 
