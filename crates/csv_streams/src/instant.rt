@@ -69,7 +69,7 @@ fn batches(alloc: Global, rows: &[(i64, Row)], instants: &[i64]) -> Result<Items
     requires { IsSortedByKey (λ (e : ℤ × List ℤ). e.0) int_cmp rows.now }
     ensures { IfOk result (λ items. items ≡ time.spread instants.now (time.at_instant rows.now)) }
 {
-    let mut items = Items::new(alloc);
+    let mut items = Items::with_room(alloc, instants.len())?;
     add_batches(alloc, rows, instants, &mut items)?;
     Ok(items)
 }
