@@ -1,6 +1,7 @@
 pub mod ByIndex
 pub mod Fire
 pub mod Firings
+pub mod Fit
 pub mod Histories
 pub mod Laws
 pub mod Machine

@@ -13,7 +13,8 @@ use Rattle.river_base.specs.Places.{list_at}
 use Rattle.river_plan.specs.declared.plan.Decl.{Decl}
 use Rattle.river_plan.specs.Forms.{PlanForm}
 use Rattle.brooklet_model.specs.Typed.{AreInputs}
-use Rattle.brooklet_step.specs.Fit.{Fit, instant_of, instants, Rises, HasInstants, AreInstants, IsStream, NoStream, IsStreamAt}
+use Rattle.brooklet_model.specs.Fit.{Fit, instant_of, instants, Rises, HasInstants, AreInstants}
+use Rattle.brooklet_step.specs.Fit.{IsStream, NoStream, IsStreamAt}
 
 -- what holds at each place of two lists
 abbrev pub EachAt : (Decl → List item.Item → Type 0) → List Decl → List (List item.Item) → Type 0

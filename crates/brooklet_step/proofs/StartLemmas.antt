@@ -35,7 +35,7 @@ use Rattle.brooklet_model.proofs.TypedPlan.{op_fits, inputs_typed}
 use Rattle.brooklet_model.proofs.Complete.{traced_start, nothing_given}
 use Rattle.brooklet_step.specs.declared.machine.Parts.{Parts}
 use Rattle.brooklet_step.specs.declared.state.State.{State}
-use Rattle.brooklet_step.specs.Fit.{Fit}
+use Rattle.brooklet_model.specs.Fit.{Fit}
 use Rattle.brooklet_step.specs.Initial.{IsFirst, CanStart, AreFirst}
 use Rattle.brooklet_step.specs.Tables.{kept_tables}
 use Rattle.brooklet_step.specs.Works.{Stands, Counts, GoesOn, Starts}

@@ -1,7 +1,7 @@
 // A machine before its first firing.
 ghost use Rattle.std.specs.Prelude.{◌≡◌, ◌++◌, ◌∷◌, [], false, length, replicate, IfOk, OnOk};
 ghost use Rattle.river_plan.specs.Forms.{op_forms};
-ghost use Rattle.brooklet_step.specs.Fit.{Fit};
+ghost use Rattle.brooklet_model.specs.Fit.{Fit};
 ghost use Rattle.brooklet_step.specs.Works.{GoesOn, Starts};
 ghost use Rattle.brooklet_step.specs.Initial.{AreFirst, CanStart};
 ghost use Rattle.brooklet_step.specs.Tables.{kept_tables};

@@ -3,7 +3,8 @@ ghost use Rattle.std.specs.Prelude.{◌≡◌, ◌↔◌, ◌<◌, ◌<ℤ◌, I
 ghost use Rattle.river_base.specs.Held.{HasType};
 ghost use Rattle.river_plan.specs.Forms.{plan_form};
 ghost use Rattle.brooklet_model.specs.Typed.{AreInputs};
-ghost use Rattle.brooklet_step.specs.Fit.{Fit, instant_of, instants, Rises, HasInstants, AreInstants, IsStream, IsStreamAt};
+ghost use Rattle.brooklet_model.specs.Fit.{Fit, instant_of, instants, Rises, HasInstants, AreInstants};
+ghost use Rattle.brooklet_step.specs.Fit.{IsStream, IsStreamAt};
 
 use crate::kinds::has_type;
 use river_base::{Flat, FlatType, Item, Items, Listed, QueueType};

@@ -2,7 +2,7 @@
 ghost use Rattle.std.specs.Prelude.{◌≡◌, ◌↔◌, true, false, map, IsTrue, IfOk, OnOk, OnErr};
 ghost use Rattle.river_plan.specs.Forms.{decl_names};
 ghost use Rattle.brooklet_step.specs.Drained.{RunsOn};
-ghost use Rattle.brooklet_step.specs.Fit.{Fit};
+ghost use Rattle.brooklet_model.specs.Fit.{Fit};
 ghost use Rattle.brooklet_step.specs.Works.{IsEnabled, Starts, Steps, AreCounts, queue_of};
 
 use crate::ending::outcome_of;

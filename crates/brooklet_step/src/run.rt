@@ -5,7 +5,7 @@ ghost use Rattle.river_plan.specs.Valid.{IsPlan};
 ghost use Rattle.brooklet_model.specs.Histories.{firings};
 ghost use Rattle.brooklet_model.specs.Meaning.{meaning};
 ghost use Rattle.brooklet_step.specs.Drained.{IsDrained, Follows, RunsOn, DrainedBefore, HasPorts, HasRun};
-ghost use Rattle.brooklet_step.specs.Fit.{Fit};
+ghost use Rattle.brooklet_model.specs.Fit.{Fit};
 ghost use Rattle.brooklet_step.specs.Tables.{defined_tables};
 
 use crate::initial::lines_of;

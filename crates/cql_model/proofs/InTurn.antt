@@ -19,7 +19,8 @@ use Rattle.river_plan.specs.Uses.{total, writes_it, and_writes, ReadsBefore, all
 use Rattle.river_plan.proofs.NameLemmas.{cases_name, count-append, one_same, more_or_zero}
 use Rattle.river_plan.proofs.ShareLemmas.{total-vars}
 use Rattle.cql_model.specs.Accepted.{has_no_at, declared}
-use Rattle.cql_model.specs.InTurn.{mentioned, PlansInTurn}
+use Rattle.cql_model.specs.InTurn.{PlansInTurn}
+use Rattle.river_plan.specs.InTurn.{mentioned}
 use Rattle.cql_model.specs.Program.{Scalar, Source, Columns, Star, Chosen, Query, Register, Ask, Program, registered, streams_of, all_uses}
 use Rattle.cql_model.specs.Scopes.{Named, scope_of, item_named}
 use Rattle.cql_model.specs.Translation.{op, at_word, copies, copy_name, sources, w_name, x_name, window_ops, cross_ops, select_ops, select_last, project_ops}

@@ -1,22 +1,11 @@
--- The order of declarations: queues and variables stand as the operators first use them.
-use Rattle.std.specs.Prelude.{◌≡◌, ◌≤◌, List, [], ◌++◌, flat_map, fold}
-use Rattle.river_plan.specs.Forms.{OpForm, PlanForm, Name, decl_names}
-use Rattle.river_plan.specs.Names.{count, with_name}
-use Rattle.river_plan.specs.Uses.{all_vars}
+-- The order of declarations in the plans of programs.
+use Rattle.std.specs.Prelude.{◌≤◌}
+use Rattle.river_plan.specs.InTurn.{IsInTurn}
+use Rattle.river_plan.specs.Forms.{Name}
+use Rattle.river_plan.specs.Names.{count}
 use Rattle.cql_model.specs.Accepted.{IsAccepted}
 use Rattle.cql_model.specs.Program.{Program, all_uses}
 use Rattle.cql_model.specs.Translation.{plan_of}
-
--- all queues that the operators name, in order
-abbrev pub mentioned : List OpForm → List Name
-mentioned ops = flat_map (λ op. op.reads ++ op.writes) ops
-
-abbrev pub outer : PlanForm → List Name
-outer p = decl_names p.outputs ++ decl_names p.inputs
-
--- behind outputs and inputs each queue stands when it is first named, and each variable when it is first used
-abbrev pub IsInTurn : PlanForm → Type 0
-IsInTurn p = (fold with_name (outer p) (mentioned p.ops) ≡ outer p ++ decl_names p.queues) × (fold with_name [] (all_vars p.ops) ≡ p.vars)
 
 abbrev pub PlansInTurn : Type 0
 PlansInTurn = (p : Program) → IsAccepted p → ((n : Name) → count n (all_uses p) ≤ 1000000000000) → IsInTurn (plan_of p)

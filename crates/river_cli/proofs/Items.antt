@@ -17,7 +17,7 @@ use Rattle.river_base.proofs.Instants.{once_rises}
 use Rattle.river_plan.specs.declared.plan.Decl.{Decl}
 use Rattle.river_plan.specs.Forms.{PlanForm}
 use Rattle.brooklet_model.specs.Typed.{AreInputs}
-use Rattle.brooklet_step.specs.Fit.{Fit, instants, Rises, HasInstants, AreInstants}
+use Rattle.brooklet_model.specs.Fit.{Fit, instants, Rises, HasInstants, AreInstants}
 use Rattle.csv_streams.specs.Timed.{Entry}
 use Rattle.river_cli.specs.Contents.{IsContent, AreContents}
 use Rattle.river_cli.specs.Inputs.{timed_files, instants_of, items_at, all_items}

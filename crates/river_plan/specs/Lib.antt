@@ -4,6 +4,7 @@ pub mod Decided
 pub mod Faults
 pub mod First
 pub mod Forms
+pub mod InTurn
 pub mod Kinds
 pub mod Limits
 pub mod Names

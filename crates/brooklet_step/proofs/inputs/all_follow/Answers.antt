@@ -3,7 +3,7 @@ use Rattle.std.specs.Prelude.{slice_get}
 use Rattle.std.proofs.lemmas.Option.{slice_get_within}
 use Rattle.river_base.specs.Places.{list_at}
 use Rattle.river_plan.specs.declared.plan.Decl.{Decl}
-use Rattle.brooklet_step.specs.Fit.{HasInstants, instants}
+use Rattle.brooklet_model.specs.Fit.{HasInstants, instants}
 use Rattle.brooklet_step.proofs.FitLemmas.{never, always, not_so, until, follows_here, not_follows, instants_by}
 use Rattle.brooklet_step.proofs.inputs.all_follow.Goals as goal
 

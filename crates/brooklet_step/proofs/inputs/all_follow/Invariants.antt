@@ -2,7 +2,7 @@ use Rattle.std.proofs.Common.{◌≡◌, ℕ, ◌<◌, Some}
 use Rattle.std.specs.Prelude.{slice_get}
 use Rattle.river_base.specs.Places.{list_at}
 use Rattle.river_plan.specs.declared.plan.Decl.{Decl}
-use Rattle.brooklet_step.specs.Fit.{HasInstants, instants}
+use Rattle.brooklet_model.specs.Fit.{HasInstants, instants}
 use Rattle.brooklet_step.proofs.inputs.all_follow.Given as goal
 
 abbrev pub invariant-loop-place : goal.invariant-loop-place

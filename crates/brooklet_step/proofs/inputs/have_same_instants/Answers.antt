@@ -2,7 +2,7 @@ use Rattle.std.proofs.Common.{◌≡◌, Some, arith}
 use Rattle.std.specs.Prelude.{slice_get}
 use Rattle.std.proofs.lemmas.Option.{slice_get_within}
 use Rattle.river_base.specs.declared.item.Item as item
-use Rattle.brooklet_step.specs.Fit.{instant_of}
+use Rattle.brooklet_model.specs.Fit.{instant_of}
 use Rattle.brooklet_step.proofs.FitLemmas.{never, always, not_so, until, same_here, not_same, same_by}
 use Rattle.brooklet_step.proofs.inputs.have_same_instants.Goals as goal
 

@@ -1,7 +1,7 @@
 use Rattle.std.proofs.Common.{◌≡◌, ℕ, ◌<◌, Some}
 use Rattle.std.specs.Prelude.{slice_get}
 use Rattle.river_base.specs.declared.item.Item as item
-use Rattle.brooklet_step.specs.Fit.{instant_of}
+use Rattle.brooklet_model.specs.Fit.{instant_of}
 use Rattle.brooklet_step.proofs.inputs.have_same_instants.Given as goal
 
 abbrev pub invariant-loop-place : goal.invariant-loop-place

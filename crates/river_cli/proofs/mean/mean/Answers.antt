@@ -1,6 +1,6 @@
 use Rattle.std.proofs.Common.{List, sym, subst}
 use Rattle.river_base.specs.declared.item.Item as item
-use Rattle.brooklet_step.specs.Fit.{Fit}
+use Rattle.brooklet_model.specs.Fit.{Fit}
 use Rattle.river_cli.proofs.Items.{contents-fit}
 use Rattle.cql_build.specs.Seen as cql
 use Rattle.cql_model.specs.Laws.{AreFiles}

@@ -3,7 +3,7 @@ use Rattle.std.proofs.lemmas.List.{length-map}
 use Rattle.river_base.specs.declared.item.Item as item
 use Rattle.kern_tables.specs.Kept.{kept_of, rows_of}
 use Rattle.brooklet_model.specs.Histories.{all_adds}
-use Rattle.brooklet_step.specs.Fit.{Fit}
+use Rattle.brooklet_model.specs.Fit.{Fit}
 use Rattle.river_cli.specs.Inputs.{all_items}
 use Rattle.river_cli.proofs.Items.{contents-fit}
 use Rattle.river_cli.proofs.Points.{output-says}
