@@ -24,7 +24,7 @@ pub fn fetch_all<S: Shelf>(
     ensures stays { S.held shelf.new ≡ S.held shelf.old }
     ensures later { S.faults shelf.old ≤ S.faults shelf.new }
     ensures count { IfOk result (λ files. length files ≡ length ins.now) }
-    ensures passes { Passes (fetches ins.now) (S.held shelf.old) (Rose (S.faults shelf.old) (S.faults shelf.new)) result }
+    ensures passes { Passes (fetches ins.now) (S.held shelf.old) (Rose S.stays_at_last (S.faults shelf.old) (S.faults shelf.new)) result }
 {
     let mut files = Listed::new(alloc);
     for word in ins {
@@ -37,7 +37,7 @@ pub fn fetch_all<S: Shelf>(
 fn fetch_one<S: Shelf>(alloc: Global, shelf: &mut S, word: &InWord) -> Result<Bytes, Stop>
     ensures stays { S.held shelf.new ≡ S.held shelf.old }
     ensures later { S.faults shelf.old ≤ S.faults shelf.new }
-    ensures passes { Passes (Fetch word.now.file 67108864 (large_input word.now.name)) (S.held shelf.old) (Rose (S.faults shelf.old) (S.faults shelf.new)) result }
+    ensures passes { Passes (Fetch word.now.file 67108864 (large_input word.now.name)) (S.held shelf.old) (Rose S.stays_at_last (S.faults shelf.old) (S.faults shelf.new)) result }
 {
     let large = text::large(alloc, word.name.as_slice())?;
     take_turn(

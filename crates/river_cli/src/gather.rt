@@ -31,7 +31,7 @@ pub fn gather<S: Shelf>(
     requires apart { (q : List ℕ) → count q (decl_names decls.now) ≤ 1 }
     ensures later { S.faults shelf.old ≤ S.faults shelf.new }
     ensures contents { IfOk result (AreContents decls.now) }
-    ensures passes { Passes (of_inputs decls.now ins.now layout) (S.held shelf.old) (Rose (S.faults shelf.old) (S.faults shelf.new)) result }
+    ensures passes { Passes (of_inputs decls.now ins.now layout) (S.held shelf.old) (Rose S.stays_at_last (S.faults shelf.old) (S.faults shelf.new)) result }
 {
     check_names(alloc, decls, ins)?;
     let files = fetch_all(alloc, shelf, ins)?;

@@ -34,7 +34,7 @@ const MOST_SCRIPT: u64 = 65_536;
 pub fn decide<S: Shelf>(alloc: Global, words: &[Text], shelf: &mut S) -> Result<Bytes, Stop>
     ensures later { S.faults shelf.old ≤ S.faults shelf.new }
     ensures unread { IsErrOf result Stop.Usage → shelf.new ≡ shelf.old }
-    ensures decided { Decides (points_of words.now) (S.held shelf.old) (Rose (S.faults shelf.old) (S.faults shelf.new)) result }
+    ensures decided { Decides (points_of words.now) (S.held shelf.old) (Rose S.stays_at_last (S.faults shelf.old) (S.faults shelf.new)) result }
 {
     match read_words(alloc, words) {
         Ok(job) => fetched(alloc, &job, shelf),
@@ -46,7 +46,7 @@ pub fn decide<S: Shelf>(alloc: Global, words: &[Text], shelf: &mut S) -> Result<
 // The program is fetched.
 fn fetched<S: Shelf>(alloc: Global, job: &Job, shelf: &mut S) -> Result<Bytes, Stop>
     ensures later { S.faults shelf.old ≤ S.faults shelf.new }
-    ensures decided { Decides (Some (of_job job.now)) (S.held shelf.old) (Rose (S.faults shelf.old) (S.faults shelf.new)) result }
+    ensures decided { Decides (Some (of_job job.now)) (S.held shelf.old) (Rose S.stays_at_last (S.faults shelf.old) (S.faults shelf.new)) result }
 {
     let file = job.file.as_slice();
     let text = take_turn(alloc, shelf, file, MOST_PROGRAM, text::LARGE_PROGRAM)?;
@@ -57,7 +57,7 @@ fn fetched<S: Shelf>(alloc: Global, job: &Job, shelf: &mut S) -> Result<Bytes, S
 fn compiled<S: Shelf>(alloc: Global, job: &Job, text: &Bytes, shelf: &mut S) -> Result<Bytes, Stop>
     requires { length text.now ≤ 1048576 }
     ensures later { S.faults shelf.old ≤ S.faults shelf.new }
-    ensures passes { Passes (of_text job.now text.now) (S.held shelf.old) (Rose (S.faults shelf.old) (S.faults shelf.new)) result }
+    ensures passes { Passes (of_text job.now text.now) (S.held shelf.old) (Rose S.stays_at_last (S.faults shelf.old) (S.faults shelf.new)) result }
 {
     let compiled = compile(alloc, job.lang, text)?;
     let plan = script(alloc, &job.options, compiled.plan, shelf)?;
@@ -74,7 +74,7 @@ fn script<S: Shelf>(
     ensures stays { S.held shelf.new ≡ S.held shelf.old }
     ensures later { S.faults shelf.old ≤ S.faults shelf.new }
     ensures passes { (program : Program) (source : Source) → IsOf program source plan
-        → PassesAs (IsOf program) (of_script options.now.script source) (S.held shelf.old) (Rose (S.faults shelf.old) (S.faults shelf.new)) result }
+        → PassesAs (IsOf program) (of_script options.now.script source) (S.held shelf.old) (Rose S.stays_at_last (S.faults shelf.old) (S.faults shelf.new)) result }
 {
     match &options.script {
         None => Ok(plan),
@@ -87,7 +87,7 @@ fn rewritten<S: Shelf>(alloc: Global, file: &[u8], plan: &Plan, shelf: &mut S) -
     ensures stays { S.held shelf.new ≡ S.held shelf.old }
     ensures later { S.faults shelf.old ≤ S.faults shelf.new }
     ensures passes { (program : Program) (source : Source) → IsOf program source plan.now
-        → PassesAs (IsOf program) (of_script (Some file.now) source) (S.held shelf.old) (Rose (S.faults shelf.old) (S.faults shelf.new)) result }
+        → PassesAs (IsOf program) (of_script (Some file.now) source) (S.held shelf.old) (Rose S.stays_at_last (S.faults shelf.old) (S.faults shelf.new)) result }
 {
     let text = take_turn(alloc, shelf, file, MOST_SCRIPT, text::LARGE_SCRIPT)?;
     applied(alloc, plan, &text)
@@ -127,7 +127,7 @@ fn command<S: Shelf>(
     requires { IsKnown program.now plan.now }
     ensures later { S.faults shelf.old ≤ S.faults shelf.new }
     ensures passes { (source : Source) → IsOf program.now source plan.now
-        → Passes (of_command job.now source) (S.held shelf.old) (Rose (S.faults shelf.old) (S.faults shelf.new)) result }
+        → Passes (of_command job.now source) (S.held shelf.old) (Rose S.stays_at_last (S.faults shelf.old) (S.faults shelf.new)) result }
 {
     match job.command {
         Command::Run => run(alloc, job, plan, shelf),
@@ -140,7 +140,7 @@ fn command<S: Shelf>(
 fn run<S: Shelf>(alloc: Global, job: &Job, plan: &Plan, shelf: &mut S) -> Result<Bytes, Stop>
     ensures later { S.faults shelf.old ≤ S.faults shelf.new }
     ensures passes { (source : Source) → IsPlanOf source plan.now
-        → Passes (of_run job.now job.now.options.counts source) (S.held shelf.old) (Rose (S.faults shelf.old) (S.faults shelf.new)) result }
+        → Passes (of_run job.now job.now.options.counts source) (S.held shelf.old) (Rose S.stays_at_last (S.faults shelf.old) (S.faults shelf.new)) result }
 {
     let decls = plan.raw().inputs.as_slice();
     let files = gather(alloc, decls, job.ins.as_slice(), job.layout(), shelf)?;
@@ -158,7 +158,7 @@ fn mean<S: Shelf>(
     requires { IsKnown program.now plan.now }
     ensures later { S.faults shelf.old ≤ S.faults shelf.new }
     ensures passes { (source : Source) → IsOf program.now source plan.now
-        → Passes (of_run job.now false source) (S.held shelf.old) (Rose (S.faults shelf.old) (S.faults shelf.new)) result }
+        → Passes (of_run job.now false source) (S.held shelf.old) (Rose S.stays_at_last (S.faults shelf.old) (S.faults shelf.new)) result }
 {
     let decls = plan.raw().inputs.as_slice();
     let files = gather(alloc, decls, job.ins.as_slice(), job.layout(), shelf)?;

@@ -40,20 +40,20 @@ pub fn river<R: Threads, S: Shelf, O: Sink, E: Sink, G: Gate + Sync>(
 
     // 3: a file whose turn came could not be read.
     ensures fault { result ≡ 3
-        → WroteFault (points_of words.now) (S.held shelf.old) (Rose (S.faults shelf.old) (S.faults shelf.new))
-        (E.taken err.old) (E.taken err.new) (Rose (E.faults err.old) (E.faults err.new))
+        → WroteFault (points_of words.now) (S.held shelf.old) (Rose S.stays_at_last (S.faults shelf.old) (S.faults shelf.new))
+        (E.taken err.old) (E.taken err.new) (Rose E.stays_at_last (E.faults err.old) (E.faults err.new))
         × Kept (O.taken out.old) (O.taken out.new) }
 
     // 4: a sink failed within its text.
     ensures stopped { result ≡ 4
         → (Stopped (points_of words.now) (S.held shelf.old) Done (O.taken out.old) (O.taken out.new)
-        (Rose (O.faults out.old) (O.faults out.new))
+        (Rose O.stays_at_last (O.faults out.old) (O.faults out.new))
         × Kept (E.taken err.old) (E.taken err.new))
         ⊎ (Stopped (points_of words.now) (S.held shelf.old) Refused (E.taken err.old) (E.taken err.new)
-        (Rose (E.faults err.old) (E.faults err.new))
+        (Rose E.stays_at_last (E.faults err.old) (E.faults err.new))
         × Kept (O.taken out.old) (O.taken out.new))
         ⊎ (StoppedUsage (points_of words.now) (E.taken err.old) (E.taken err.new)
-        (Rose (E.faults err.old) (E.faults err.new))
+        (Rose E.stays_at_last (E.faults err.old) (E.faults err.new))
         × Kept (O.taken out.old) (O.taken out.new)) }
 
     // 5: memory was wanting, and nothing was written.
@@ -64,12 +64,12 @@ pub fn river<R: Threads, S: Shelf, O: Sink, E: Sink, G: Gate + Sync>(
 
     // Words that are no sentence are told, whatever the shelf.
     ensures no_sentence { points_of words.now ≡ None
-        → (Rose (E.faults err.old) (E.faults err.new) → ⊥) → (result ≡ 2) ⊎ (result ≡ 5) }
+        → (Rose E.stays_at_last (E.faults err.old) (E.faults err.new) → ⊥) → (result ≡ 2) ⊎ (result ≡ 5) }
 
     // Where no count rose, what is held decides.
-    ensures complete { (Rose (S.faults shelf.old) (S.faults shelf.new) → ⊥)
-        → (Rose (O.faults out.old) (O.faults out.new) → ⊥)
-        → (Rose (E.faults err.old) (E.faults err.new) → ⊥)
+    ensures complete { (Rose S.stays_at_last (S.faults shelf.old) (S.faults shelf.new) → ⊥)
+        → (Rose O.stays_at_last (O.faults out.old) (O.faults out.new) → ⊥)
+        → (Rose E.stays_at_last (E.faults err.old) (E.faults err.new) → ⊥)
         → IfSome (S.held shelf.old) (λ held. HasStatus (verdict (points_of words.now) held) result) }
 {
     match decide(alloc, words, shelf) {

@@ -25,7 +25,7 @@ pub fn take_turn<S: Shelf>(
     ensures within { IfOk result (λ got. length got ≤ limit) }
 
     // Where there are no bytes this point decides, whatever the later ones are.
-    ensures passes { Passes (Fetch name.now limit large.now) (S.held shelf.old) (Rose (S.faults shelf.old) (S.faults shelf.new)) result }
+    ensures passes { Passes (Fetch name.now limit large.now) (S.held shelf.old) (Rose S.stays_at_last (S.faults shelf.old) (S.faults shelf.new)) result }
 {
     match fetch(alloc, shelf, name, limit) {
         Ok(bytes) => Ok(bytes),

@@ -1,6 +1,10 @@
 -- When a count of faults rose.
-use Rattle.std.specs.Prelude.{ℕ, ◌+◌, ◌-◌, ◌^◌, ◌≤◌, min}
+use Rattle.std.specs.Prelude.{ℕ, ◌-◌, ◌^◌, ◌<◌, ◌≡◌, ◌⊎◌, Bool, IsTrue}
 
--- the count rose, or stands at its last value
-abbrev pub Rose : ℕ → ℕ → Type 0
-Rose before now = min (before + 1) (2 ^ 64 - 1) ≤ now
+-- the last value of a counter of 64 bits
+abbrev pub last : ℕ
+last = 2 ^ 64 - 1
+
+-- the count rose; or it is one that stays at its last value, which it had before and has now
+abbrev pub Rose : Bool → ℕ → ℕ → Type 0
+Rose stays_at_last before now = (before < now) ⊎ (IsTrue stays_at_last × (before ≡ last) × (now ≡ last))

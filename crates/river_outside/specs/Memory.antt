@@ -38,7 +38,7 @@ read_answer shelf name at room =
 abbrev pub after_read : Kept → Kept
 after_read shelf = record shelf {
   calls = next_number shelf.calls;
-  faults = if call_fails shelf.fails shelf.calls then next_number shelf.faults else shelf.faults;
+  faults = if call_fails shelf.fails shelf.calls then shelf.faults + 1 else shelf.faults;
 }
 
 -- no name stands twice

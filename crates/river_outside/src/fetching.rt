@@ -36,13 +36,13 @@ pub fn fetch<S: Shelf>(
 
     ensures bytes { IfOk result (λ got. IfSome (S.held shelf.old) (λ h. FetchesAll (h name.now) limit got)) }
     ensures within { IfOk result (λ got. length got ≤ limit) }
-    ensures failed { IsErrOf result FetchFault.Failed → Rose (S.faults shelf.old) (S.faults shelf.new) }
+    ensures failed { IsErrOf result FetchFault.Failed → Rose S.stays_at_last (S.faults shelf.old) (S.faults shelf.new) }
     ensures large { IsErrOf result FetchFault.Large → IfSome (S.held shelf.old) (λ h. IsLarger (h name.now) limit) }
     ensures absent { IsErrOf result FetchFault.Absent
-        → MatchOption (S.held shelf.old) (Rose (S.faults shelf.old) (S.faults shelf.new)) (λ h. h name.now ≡ None) }
+        → MatchOption (S.held shelf.old) (Rose S.stays_at_last (S.faults shelf.old) (S.faults shelf.new)) (λ h. h name.now ≡ None) }
 
     // Where the count did not rise, the held bytes and the limit decide.
-    ensures exactly { IfSome (S.held shelf.old) (λ h. (Rose (S.faults shelf.old) (S.faults shelf.new) → ⊥)
+    ensures exactly { IfSome (S.held shelf.old) (λ h. (Rose S.stays_at_last (S.faults shelf.old) (S.faults shelf.new) → ⊥)
         → FetchesExactly (h name.now) limit result) }
 {
     let mut got = Bytes::new(alloc);
@@ -72,10 +72,10 @@ fn take_piece<S: Shelf>(
     ensures most { OnOk result (length got.new ≤ limit + 1) }
     ensures start { OnOk result (IfSome (S.held shelf.old) (λ h. IsStart (h name.now) got.old → IsStart (h name.now) got.new)) }
 
-    ensures failed { IsErrOf result FetchFault.Failed → Rose (S.faults shelf.old) (S.faults shelf.new) }
+    ensures failed { IsErrOf result FetchFault.Failed → Rose S.stays_at_last (S.faults shelf.old) (S.faults shelf.new) }
     ensures not_large { IsErrOf result FetchFault.Large → ⊥ }
     ensures absent { IsErrOf result FetchFault.Absent
-        → MatchOption (S.held shelf.old) (Rose (S.faults shelf.old) (S.faults shelf.new)) (λ h. h name.now ≡ None) }
+        → MatchOption (S.held shelf.old) (Rose S.stays_at_last (S.faults shelf.old) (S.faults shelf.new)) (λ h. h name.now ≡ None) }
 {
     let mut piece = [0u8; PIECE];
     let room = room_for(limit - got.len() as u64);

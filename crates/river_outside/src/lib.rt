@@ -1,6 +1,7 @@
 //! What river reads from and writes to: shelves of named files and sinks of bytes, over memory and over the system.
 #![tactic(auto)]
 
+mod count;
 mod fetching;
 mod memory;
 mod put;

@@ -1,11 +1,12 @@
 // A shelf and a sink in memory, which tell what they hold and took, and whose calls fail where it is asked.
-ghost use Rattle.std.specs.Prelude.{◌≡◌, ◌≤◌, ◌<◌, ◌+◌, ◌-◌, ◌++◌, min, List, [], ℕ, length, take, drop, Option, Some, None, IfSome, IfOk, OnErr, MatchOption, IsErrOf, IsTrue};
+ghost use Rattle.std.specs.Prelude.{◌≡◌, ◌≤◌, ◌<◌, ◌+◌, ◌-◌, ◌++◌, min, List, [], ℕ, Bool, true, false, length, take, drop, Option, Some, None, IfSome, IfOk, OnErr, MatchOption, IsErrOf, IsTrue};
 ghost use Rattle.std.specs.Io.KnownBytes.{append_known};
 ghost use Rattle.river_outside.specs.Causes.{Rose};
 ghost use Rattle.river_outside.specs.Held.{ReadsAt, EndsBy};
 ghost use Rattle.river_outside.specs.Files.{lookup};
 ghost use Rattle.river_outside.specs.Memory as memory;
 
+use crate::count::one_fault_more;
 use crate::{Failed, ReadFault, Shelf, Sink};
 use river_base::{Bytes, Listed, NoMemory, Numbers};
 use std::alloc::Global;
@@ -33,7 +34,8 @@ impl Model for MemShelf {
 
     ghost view = { λ s. record { files = s.files; piece = s.piece; fails = s.fails; calls = s.calls; faults = s.faults } };
 
-    ghost invariant = { λ s. 1 ≤ s.piece };
+    // Only calls whose numbers are below 2^63 fail, so the count of faults never comes to its last value.
+    ghost invariant = { λ s. (1 ≤ s.piece) × (s.faults ≤ s.calls) };
 }
 
 impl MemShelf {
@@ -59,6 +61,8 @@ impl Shelf for MemShelf {
 
     ghost faults = { λ s. s.faults };
 
+    ghost stays_at_last = { false };
+
     fn read(&mut self, name: &[u8], at: u64, into: &mut [u8]) -> Result<usize, ReadFault>
         ensures stays { self.new.files ≡ self.old.files }
         ensures later { self.old.faults ≤ self.new.faults }
@@ -67,7 +71,7 @@ impl Shelf for MemShelf {
         ensures bytes { IfOk result (λ n. ReadsAt (lookup self.old.files name.now) at n into.new) }
         ensures end { IfOk result (λ n. n ≡ 0 → 0 < length into.new → EndsBy (lookup self.old.files name.now) at) }
 
-        ensures failed { IsErrOf result ReadFault.Failed → Rose self.old.faults self.new.faults }
+        ensures failed { IsErrOf result ReadFault.Failed → Rose false self.old.faults self.new.faults }
         ensures absent { IsErrOf result ReadFault.Absent → lookup self.old.files name.now ≡ None }
         ensures honest { (IsErrOf result ReadFault.Failed → ⊥) → self.new.faults ≡ self.old.faults }
 
@@ -78,7 +82,7 @@ impl Shelf for MemShelf {
         let call = self.calls;
         self.calls = call.saturating_add(1);
         if call_fails(&self.fails, call) {
-            self.faults = self.faults.saturating_add(1);
+            self.faults += 1;
             return Err(ReadFault::Failed);
         }
         match find(&self.files, name) {
@@ -175,13 +179,15 @@ impl Sink for MemSink {
 
     ghost faults = { λ s. s.faults };
 
+    ghost stays_at_last = { true };
+
     fn write(&mut self, bytes: &[u8]) -> Result<usize, Failed>
         ensures later { self.old.faults ≤ self.new.faults }
         ensures bound { IfOk result (λ n. n ≤ length bytes.now) }
         ensures moves { IfOk result (λ n. 0 < length bytes.now → 0 < n) }
         ensures took { IfOk result (λ n. self.new.taken ≡ self.old.taken ++ take n bytes.now) }
         ensures nothing { OnErr result (self.new.taken ≡ self.old.taken) }
-        ensures failed { OnErr result (Rose self.old.faults self.new.faults) }
+        ensures failed { OnErr result (Rose true self.old.faults self.new.faults) }
 
         // The room, the piece and the call's number decide.
         ensures exactly { result ≡ memory.write_answer self.old bytes.now }
@@ -191,7 +197,7 @@ impl Sink for MemSink {
         self.calls = call.saturating_add(1);
         let left = self.room as usize - self.taken.len();
         if call_fails(&self.fails, call) || (!bytes.is_empty() && left == 0) {
-            self.faults = self.faults.saturating_add(1);
+            self.faults = one_fault_more(self.faults);
             return Err(Failed);
         }
         let count = cmp::min(cmp::min(self.piece as usize, bytes.len()), left);

@@ -1,6 +1,7 @@
 // The real files and streams. What they hold and take is not told.
-ghost use Rattle.std.specs.Prelude.{◌≡◌, ◌<◌, ◌≤◌, length, None, IfOk};
+ghost use Rattle.std.specs.Prelude.{◌≡◌, ◌<◌, ◌≤◌, length, true, None, IfOk};
 
+use crate::count::one_fault_more;
 use crate::{Failed, ReadFault, Shelf, Sink};
 use std::alloc::Global;
 use std::io::{ErrorKind, Read, Write};
@@ -95,10 +96,12 @@ impl<R: Files> Shelf for FileShelf<'_, R> {
 
     ghost faults = { λ s. s.faults };
 
+    ghost stays_at_last = { true };
+
     fn read(&mut self, name: &[u8], at: u64, into: &mut [u8]) -> Result<usize, ReadFault> {
         let answer = self.next(name, at, into);
         if answer.is_err() {
-            self.faults = self.faults.saturating_add(1);
+            self.faults = one_fault_more(self.faults);
         }
         answer
     }
@@ -139,10 +142,12 @@ impl<W: Write> Sink for StdSink<W> {
 
     ghost faults = { λ s. s.faults };
 
+    ghost stays_at_last = { true };
+
     fn write(&mut self, bytes: &[u8]) -> Result<usize, Failed> {
         let answer = self.next(bytes);
         if answer.is_err() {
-            self.faults = self.faults.saturating_add(1);
+            self.faults = one_fault_more(self.faults);
         }
         answer
     }

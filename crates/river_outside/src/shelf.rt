@@ -1,5 +1,5 @@
 // A shelf of named files.
-ghost use Rattle.std.specs.Prelude.{◌≡◌, ◌≢◌, ◌≤◌, ◌<◌, ◌⊎◌, List, ℕ, length, Option, IfSome, IfOk, MatchOption, IsErrOf, None};
+ghost use Rattle.std.specs.Prelude.{◌≡◌, ◌≢◌, ◌≤◌, ◌<◌, ◌⊎◌, List, ℕ, Bool, length, Option, IfSome, IfOk, MatchOption, IsErrOf, None};
 ghost use Rattle.river_outside.specs.Causes.{Rose};
 ghost use Rattle.river_outside.specs.Held.{Held, ReadsAt, EndsBy};
 
@@ -21,6 +21,9 @@ pub trait Shelf {
     /// How often the shelf has failed.
     ghost faults: { Self → ℕ };
 
+    /// Whether that count stays at 2^64 - 1 once it is there, so that a fault beyond that is not counted.
+    ghost stays_at_last: { Bool };
+
     /// Reads bytes of a name from a place on to the front of `into`, and says how many; none only where `into` is
     /// empty or the place is at or past the end. Over a shelf that tells what it holds, `Absent` comes only where
     /// the name is not held, and such a name gets no other answer but `Failed`.
@@ -34,9 +37,9 @@ pub trait Shelf {
         ensures end { IfOk result (λ n. n ≡ 0 → 0 < length into.new
             → IfSome (held self.old) (λ h. EndsBy (h name.now) at)) }
 
-        ensures failed { IsErrOf result ReadFault.Failed → Rose (faults self.old) (faults self.new) }
+        ensures failed { IsErrOf result ReadFault.Failed → Rose stays_at_last (faults self.old) (faults self.new) }
         ensures absent { IsErrOf result ReadFault.Absent
-            → MatchOption (held self.old) (Rose (faults self.old) (faults self.new)) (λ h. h name.now ≡ None) }
+            → MatchOption (held self.old) (Rose stays_at_last (faults self.old) (faults self.new)) (λ h. h name.now ≡ None) }
 
         // Over a shelf that tells what it holds, only `Failed` counts.
         ensures honest { IfSome (held self.old) (λ h. (IsErrOf result ReadFault.Failed → ⊥)

@@ -1,5 +1,5 @@
 // A sink of bytes.
-ghost use Rattle.std.specs.Prelude.{◌≡◌, ◌≤◌, ◌<◌, List, ℕ, length, take, Option, IfOk, OnErr};
+ghost use Rattle.std.specs.Prelude.{◌≡◌, ◌≤◌, ◌<◌, List, ℕ, Bool, length, take, Option, IfOk, OnErr};
 ghost use Rattle.std.specs.Io.KnownBytes.{append_known};
 ghost use Rattle.river_outside.specs.Causes.{Rose};
 
@@ -16,6 +16,9 @@ pub trait Sink {
     /// How often the sink has failed.
     ghost faults: { Self → ℕ };
 
+    /// Whether that count stays at 2^64 - 1 once it is there, so that a fault beyond that is not counted.
+    ghost stays_at_last: { Bool };
+
     /// Takes bytes from the front, and says how many: at least one where there are bytes. A write that fails takes
     /// nothing.
     fn write(&mut self, bytes: &[u8]) -> Result<usize, Failed>
@@ -24,5 +27,5 @@ pub trait Sink {
         ensures moves { IfOk result (λ n. 0 < length bytes.now → 0 < n) }
         ensures took { IfOk result (λ n. taken self.new ≡ append_known (taken self.old) (take n bytes.now)) }
         ensures nothing { OnErr result (taken self.new ≡ taken self.old) }
-        ensures failed { OnErr result (Rose (faults self.old) (faults self.new)) };
+        ensures failed { OnErr result (Rose stays_at_last (faults self.old) (faults self.new)) };
 }

@@ -1,5 +1,6 @@
 use Rattle.std.proofs.Common.{arith}
 use Rattle.std.proofs.lemmas.Result.{err_from_is_err_and}
+use Rattle.river_outside.proofs.Counts.{rose_before}
 use Rattle.river_outside.specs.Causes.{Rose}
 use Rattle.river_order.specs.Order.{Ends, Done}
 use Rattle.river_cli.specs.Points.{of_job, of_text}
@@ -16,8 +17,8 @@ returns-in_err-text-clause-decided g c =
 pub returns-clause-decided : goal.returns-clause-decided
 returns-clause-decided g c =
     let held = g.S.Shelf.held c.args.shelf.now in
-    let late = Rose (g.S.Shelf.faults c.take_turn.new.shelf) (g.S.Shelf.faults c.compiled.new.shelf) in
-    let early = Rose (g.S.Shelf.faults c.args.shelf.now) (g.S.Shelf.faults c.compiled.new.shelf) in
+    let late = Rose g.S.Shelf.stays_at_last (g.S.Shelf.faults c.take_turn.new.shelf) (g.S.Shelf.faults c.compiled.new.shelf) in
+    let early = Rose g.S.Shelf.stays_at_last (g.S.Shelf.faults c.args.shelf.now) (g.S.Shelf.faults c.compiled.new.shelf) in
     let here = rw c.as_slice-file.ensures at c.in_ok-text.ensures.passes in
     let there = rw c.take_turn.ensures.stays at c.compiled.ensures.passes in
-    job-decides c.args.job.now c.in_ok-text.text held early late (λ r. omega (arith, r, c.take_turn.ensures.later)) c.compiled.result here there
+    job-decides c.args.job.now c.in_ok-text.text held early late (rose_before g.S.Shelf.stays_at_last _ _ _ c.take_turn.ensures.later) c.compiled.result here there

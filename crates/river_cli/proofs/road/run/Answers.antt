@@ -19,7 +19,7 @@ gather-requires-clause-apart g c =
 pub returns-in_err-files-clause-passes : goal.returns-in_err-files-clause-passes
 returns-in_err-files-clause-passes g c source is =
     let p = err_from_is_err_and c.from_residual.result c.from_residual.ensures.1 in
-    let rose = Rose (g.S.Shelf.faults c.args.shelf.now) (g.S.Shelf.faults c.gather.new.shelf) in
+    let rose = Rose g.S.Shelf.stays_at_last (g.S.Shelf.faults c.args.shelf.now) (g.S.Shelf.faults c.gather.new.shelf) in
     let decls : c.as_slice-decls.result.now ≡ c.args.plan.now.inputs = c.as_slice-decls.ensures ∙ ap (λ (q : PlanForm). q.inputs) c.raw.ensures.raw in
     let stops = rw (decls, c.as_slice.ensures, c.layout.ensures) at c.in_err-files.ensures.passes in
     rw (p.1, p.2) (run-stops c.args.job.now c.args.job.now.options.counts source c.args.plan.now (g.S.Shelf.held c.args.shelf.now) is rose c.in_err-files.field-0.0 stops)
