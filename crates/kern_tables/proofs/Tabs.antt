@@ -1,5 +1,5 @@
 -- Tables as tables by keys, and what follows.
-use Rattle.std.proofs.Common.{◌≡◌, ℕ, zero, suc, ◌+ℤ◌, ℤ, pos, Bool, true, false, cond, List, [], ◌∷◌, ◌++◌, refl, sym, ap, ◌∙◌, arith, fold, map, take}
+use Rattle.std.proofs.Common.{◌≡◌, ℕ, zero, suc, ◌+ℤ◌, ℤ, pos, Bool, true, false, cond, List, [], ◌∷◌, ◌++◌, refl, sym, ap, ◌∙◌, arith, fold, map, take, drop, take-append-drop}
 use Rattle.std.specs.Prelude.{flat_map}
 use Rattle.std.specs.Int.{w64, int_wrap}
 use Rattle.std.specs.declared.cmp.Ordering.{Ordering}
@@ -17,7 +17,7 @@ use Rattle.river_base.specs.Bags.{place}
 use Rattle.river_base.specs.Keyed.{keyed, put}
 use Rattle.std.proofs.lemmas.List.{map-append}
 use Rattle.std.proofs.lemmas.List.Sums.{fold-append}
-use Rattle.kern_tables.specs.Kept.{kept_of, added, rows_of, kind_of}
+use Rattle.kern_tables.specs.Kept.{kept_of, added, added_all, rows_of, kind_of}
 use Rattle.kern_tables.specs.declared.kept.Kept.{Kept}
 use Rattle.kern_tables.specs.declared.kept.Kept.TheVariants.{Sums, Rows, Maxima}
 use Rattle.river_base.specs.Number.{wrap}
@@ -202,3 +202,15 @@ added_kind (Maxima best keys es) row = refl
 
 pub tables_keep_adds : TablesKeepAdds
 tables_keep_adds kind = record { rows = kept_rows kind; more = kept_more kind; of_bag = kept_of_bag kind; kind_is = kept_kind kind }
+
+-- one more at the end
+pub added_more : (t : Kept) (rows : List (List ℤ)) (row : List ℤ) → added_all t (rows ++ row ∷ []) ≡ added (added_all t rows) row
+added_more t rows row = fold-append added t rows (row ∷ [])
+
+-- the first rows, and then the others
+pub added_in_two : (t u : Kept) (n : ℕ) (rows : List (List ℤ)) → u ≡ added_all t (take n rows) → added_all u (drop n rows) ≡ added_all t rows
+added_in_two t u n rows e = ap (λ (k : Kept). added_all k (drop n rows)) e ∙ (sym (fold-append added t (take n rows) (drop n rows)) ∙ ap (added_all t) (take-append-drop n rows))
+
+pub added_all_kind : (t : Kept) (rows : List (List ℤ)) → kind_of (added_all t rows) ≡ kind_of t
+added_all_kind t [] = refl
+added_all_kind t (row ∷ rows) = added_all_kind (added t row) rows ∙ added_kind t row

@@ -1,5 +1,5 @@
 -- What a table keeps: what stands at each key.
-use Rattle.std.specs.Prelude.{ℕ, ℤ, pos, List, []}
+use Rattle.std.specs.Prelude.{ℕ, ℤ, pos, List, [], fold}
 use Rattle.kern_tables.specs.declared.kind.TableKind.{TableKind}
 use Rattle.kern_tables.specs.declared.kind.TableKind.TheVariants.{Sum, Collection, Maximum}
 use Rattle.river_base.specs.Bags.{place}
@@ -21,6 +21,10 @@ abbrev pub added : Kept → List ℤ → Kept
 added (Sums keys es) row = Sums keys (put row_cmp (pos 0) add_value es (split keys row))
 added (Rows keys rows) row = Rows keys (place row_lt row rows)
 added (Maxima best keys es) row = Maxima best keys (put row_cmp [] (best_more best) es (split keys row))
+
+-- and after these, one after another
+abbrev pub added_all : Kept → List (List ℤ) → Kept
+added_all t rows = fold added t rows
 
 -- its rows
 abbrev pub rows_of : Kept → List (List ℤ)

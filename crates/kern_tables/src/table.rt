@@ -1,16 +1,18 @@
 // Tables.
-ghost use Rattle.std.specs.Prelude.{◌≡◌, [], length, IfOk, OnOk, OnErr};
-ghost use Rattle.kern_tables.specs.Kept.{kept_of, added, rows_of, kind_of, width_of};
+ghost use Rattle.std.specs.Prelude.{◌≡◌, ◌≤◌, ◌+◌, ◌++◌, [], take, length, IfOk, OnOk, OnErr, All, vec_capacity};
+ghost use Rattle.kern_tables.specs.Kept.{kept_of, added, added_all, shown, rows_of, kind_of, width_of};
 
 use crate::{Kept, Maxima, Sums, TableKind};
 use river_base::{Duplicate, NoMemory, Row, Rows};
 use std::alloc::Global;
 use std::marker::Model;
 
-/// A table, which contracts see as what stands at each key.
+/// A table, which contracts see as what stands at each key. Rows that were added where there was no memory to place them wait;
+/// while some do, the table answers every call with want of memory.
 #[derive(Drop)]
 pub struct Table {
     kept: Kept,
+    waiting: Vec<Row>,
 }
 
 impl Model for Table {
@@ -18,9 +20,9 @@ impl Model for Table {
 
     ghost Value = { kept_type.Kept };
 
-    ghost use Rattle.kern_tables.specs.Kept.{shown};
+    ghost use Rattle.kern_tables.specs.Kept.{shown, added_all};
 
-    ghost view = { λ t. shown t.kept };
+    ghost view = { λ t. added_all (shown t.kept) t.waiting.items };
 }
 
 impl Table {
@@ -43,28 +45,49 @@ impl Table {
                 maxima: Maxima::new(alloc),
             },
         };
-        Table { kept }
+        Table {
+            kept,
+            waiting: Vec::new(alloc),
+        }
     }
 
     /// One more row; changes nothing where there is no memory.
-    #[tactic(auto, using(crate::proofs::Tabs::in_order_more, crate::proofs::Tabs::added_kind))]
     pub fn add(&mut self, row: &Row) -> Result<(), NoMemory>
         requires { length row.now ≡ width_of self.old }
         ensures ok { OnOk result (self.new ≡ added self.old row.now) }
         ensures err { OnErr result (self.new ≡ self.old) }
         ensures kind { kind_of self.new ≡ kind_of self.old }
     {
-        match &mut self.kept {
-            Kept::Sums { keys, sums } => sums.add(*keys as usize, row),
-            Kept::Rows { rows, .. } => rows.push(*row),
-            Kept::Maxima { best, keys, maxima } => maxima.add(*best as usize, *keys as usize, row),
+        if !self.waiting.is_empty() {
+            return Err(NoMemory);
         }
+        place(&mut self.kept, row)
+    }
+
+    /// These rows, one after another; changes nothing where there is no memory for the list of them.
+    #[tactic(auto, using(crate::proofs::Tabs::added_in_two, crate::proofs::Tabs::added_all_kind))]
+    pub fn add_all(&mut self, rows: &[Row]) -> Result<(), NoMemory>
+        requires { All (λ row. length row ≡ width_of self.old) rows.now }
+        ensures ok { OnOk result (self.new ≡ added_all self.old rows.now) }
+        ensures err { OnErr result (self.new ≡ self.old) }
+        ensures kind { kind_of self.new ≡ kind_of self.old }
+    {
+        if !self.waiting.is_empty() {
+            return Err(NoMemory);
+        }
+        self.waiting.reserve(rows.len())?;
+        let placed = place_some(&mut self.kept, rows);
+        wait(&mut self.waiting, &rows[placed..]);
+        Ok(())
     }
 
     /// The rows, in the order in which they are printed.
     pub fn rows(&self, alloc: Global) -> Result<Rows, NoMemory>
         ensures { IfOk result (λ rows. rows ≡ rows_of self.now) }
     {
+        if !self.waiting.is_empty() {
+            return Err(NoMemory);
+        }
         match &self.kept {
             Kept::Sums { sums, .. } => sums.rows(alloc),
             Kept::Rows { rows, .. } => {
@@ -74,5 +97,46 @@ impl Table {
             }
             Kept::Maxima { maxima, .. } => maxima.rows(alloc),
         }
+    }
+}
+
+// One more row, in place; changes nothing where there is no memory.
+#[tactic(auto, using(crate::proofs::Tabs::in_order_more, crate::proofs::Tabs::added_kind))]
+fn place(kept: &mut Kept, row: &Row) -> Result<(), NoMemory>
+    requires { length row.now ≡ width_of (shown kept.old) }
+    ensures ok { OnOk result (shown kept.new ≡ added (shown kept.old) row.now) }
+    ensures err { OnErr result (shown kept.new ≡ shown kept.old) }
+    ensures kind { kind_of (shown kept.new) ≡ kind_of (shown kept.old) }
+{
+    match kept {
+        Kept::Sums { keys, sums } => sums.add(*keys as usize, row),
+        Kept::Rows { rows, .. } => rows.push(*row),
+        Kept::Maxima { best, keys, maxima } => maxima.add(*best as usize, *keys as usize, row),
+    }
+}
+
+// Places rows, up to the first that there is no memory for; answers how many.
+#[tactic(auto, using(crate::proofs::Tabs::added_kind, crate::proofs::Tabs::added_more))]
+fn place_some(kept: &mut Kept, rows: &[Row]) -> usize
+    requires { All (λ row. length row ≡ width_of (shown kept.old)) rows.now }
+    ensures at_most { result ≤ length rows.now }
+    ensures rows { shown kept.new ≡ added_all (shown kept.old) (take result rows.now) }
+    ensures kind { kind_of (shown kept.new) ≡ kind_of (shown kept.old) }
+{
+    for i in 0..rows.len() {
+        if place(kept, &rows[i]).is_err() {
+            return i;
+        }
+    }
+    rows.len()
+}
+
+// Puts rows behind those that wait, for which there is room.
+fn wait(waiting: &mut Vec<Row>, rows: &[Row])
+    requires { length waiting.old.items + length rows.now ≤ vec_capacity waiting.old }
+    ensures { waiting.new.items ≡ waiting.old.items ++ rows.now }
+{
+    for row in rows {
+        waiting.push_reserved(*row);
     }
 }

@@ -32,7 +32,7 @@ placed zs P Q same before (x ∷ xs) e o h =
     o h
 
 -- a name that stands once stands at its place
-standing : (names : List Name) → ((q : Name) → count q names ≤ 1) → (before xs : List Name) (x : Name) → before ++ x ∷ xs ≡ names
+pub standing : (names : List Name) → ((q : Name) → count q names ≤ 1) → (before xs : List Name) (x : Name) → before ++ x ∷ xs ≡ names
     → (0 < count x names) × (place names x ≡ length before)
 standing names once before xs x e =
     let c = ap (count x) (sym e) ∙ count-append x before (x ∷ xs) in
@@ -42,6 +42,17 @@ standing names once before xs x e =
     let f = ap (λ l. place l x) (sym e) ∙ place_back before (x ∷ xs) x z in
     let g = place-here x xs x (name_same x) in
     (omega (arith, c, s), omega (arith, f, g))
+
+-- where no name stands twice, the name at a place has this place
+pub name_at : (names : List Name) → ((q : Name) → count q names ≤ 1) → (before xs : List Name) (i : ℕ) → before ++ xs ≡ names → i < length xs
+    → (v : Name) × (slice_get xs i ≡ Some v) × (0 < count v names) × (place names v ≡ length before + i)
+name_at names once before [] i e lt = absurd (omega (arith, lt))
+name_at names once before (x ∷ xs) zero e lt = let s = standing names once before xs x e in (x, refl, s.0, (let p = s.1 in omega (arith, p)))
+name_at names once before (x ∷ xs) (suc i) e lt =
+    let r = name_at names once (before ++ x ∷ []) xs i (append_assoc before (x ∷ []) xs ∙ e) (omega (arith, lt)) in
+    let n = length-append before (x ∷ []) in
+    let p = r.3 in
+    (r.0, r.1, r.2, omega (arith, n, p))
 
 pub placed_names : (names : List Name) (P : ℕ → Type 0) (Q : Name → Type 0) → ((q : Name) → count q names ≤ 1)
     → ((q : Name) → 0 < count q names → P (place names q) → Q q) → ((q : Name) → 0 < count q names → Q q → P (place names q))
@@ -97,15 +108,15 @@ only_one zero n (suc i) = tt
 only_one (suc x) n zero = tt
 only_one (suc x) n (suc i) = only_one x n i
 
-all-append : (P : ℕ → Type 0) (xs ys : List ℕ) → AllByRecursion P xs → AllByRecursion P ys → AllByRecursion P (xs ++ ys)
+pub all-append : (P : ℕ → Type 0) (xs ys : List ℕ) → AllByRecursion P xs → AllByRecursion P ys → AllByRecursion P (xs ++ ys)
 all-append P [] ys a b = b
 all-append P (x ∷ xs) ys a b = (a.0, all-append P xs ys a.1 b)
 
-all-weaker : (P Q : ℕ → Type 0) → ((y : ℕ) → P y → Q y) → (xs : List ℕ) → AllByRecursion P xs → AllByRecursion Q xs
+pub all-weaker : (P Q : ℕ → Type 0) → ((y : ℕ) → P y → Q y) → (xs : List ℕ) → AllByRecursion P xs → AllByRecursion Q xs
 all-weaker P Q f [] a = tt
 all-weaker P Q f (x ∷ xs) a = (f x a.0, all-weaker P Q f xs a.1)
 
-often-one : (xs : List ℕ) (n i : ℕ) → AllByRecursion (λ y. y ≡ n) (as_often xs n i)
+pub often-one : (xs : List ℕ) (n i : ℕ) → AllByRecursion (λ y. y ≡ n) (as_often xs n i)
 often-one [] n i = tt
 often-one (x ∷ xs) n i = all-append (λ y. y ≡ n) (only x (n ∷ []) i) (as_often xs n i) (only_one x n i) (often-one xs n i)
 

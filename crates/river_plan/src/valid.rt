@@ -1,5 +1,6 @@
 // Valid plans.
 ghost use Rattle.std.specs.Prelude.{◌≡◌, ◌<◌, IfOk, length};
+ghost use Rattle.std.specs.List.Sorted.{IsStrictlyIncreasing};
 ghost use Rattle.river_base.specs.Places.{list_at};
 ghost use Rattle.river_plan.specs.Forms.{plan_form, queue_names, variable_names};
 ghost use Rattle.river_plan.specs.Places.{read_places, write_places, var_places, users_from};
@@ -97,7 +98,8 @@ impl Plan {
     /// The numbers of the operators that have the variable at this place among the names of the variables, in order.
     pub fn users_of(&self, variable: usize) -> &[usize]
         requires { variable < length (variable_names self.now) }
-        ensures { result.now ≡ users_from 0 (var_places self.now) variable }
+        ensures users { result.now ≡ users_from 0 (var_places self.now) variable }
+        ensures rising { IsStrictlyIncreasing result.now }
     {
         self.wiring.vars.by_place.at(variable).as_slice()
     }

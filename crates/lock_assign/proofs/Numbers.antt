@@ -1,0 +1,23 @@
+-- The numbers that lists get as they come are their classes.
+use Rattle.std.proofs.Common.{◌≡◌, ℕ, ℤ, pos, List, [], ◌∷◌, ◌++◌, fold, length, refl, sym, ap, ◌∙◌, subst, append_assoc, append_nil}
+use Rattle.lock_assign.specs.Classes.{AreClasses}
+use Rattle.lock_assign.specs.Sets.{place_in, with_list}
+use Rattle.lock_assign.specs.Numbered.{numbered, class_numbers, NumbersAreClasses}
+use Rattle.lock_assign.proofs.Numbering.{IsNumbered, none_numbered, one_more, are_classes}
+use Rattle.lock_assign.proofs.Unique.{classes_are_unique}
+
+numbered_on : (done seen : List (List ℤ)) (classes : List ℤ) (users : List (List ℤ)) → IsNumbered done seen classes
+    → IsNumbered (done ++ users) (fold with_list seen users) (classes ++ numbered seen users)
+numbered_on done seen classes [] r =
+    subst (λ (d : List (List ℤ)). IsNumbered d seen (classes ++ [])) (sym (append_nil done)) (subst (λ (c : List ℤ). IsNumbered done seen c) (sym (append_nil classes)) r)
+numbered_on done seen classes (ops ∷ users) r =
+    subst (λ (d : List (List ℤ)). IsNumbered d (fold with_list (with_list seen ops) users) (classes ++ numbered seen (ops ∷ users))) (append_assoc done (ops ∷ []) users)
+    (subst (λ (c : List ℤ). IsNumbered ((done ++ ops ∷ []) ++ users) (fold with_list (with_list seen ops) users) c) (append_assoc classes (pos (place_in seen ops) ∷ []) (numbered (with_list seen ops) users))
+    (numbered_on (done ++ ops ∷ []) (with_list seen ops) (classes ++ pos (place_in seen ops) ∷ []) users (one_more done seen classes ops r)))
+
+pub numbers_are_classes : NumbersAreClasses
+numbers_are_classes users = are_classes users (fold with_list [] users) (class_numbers users) (numbered_on [] [] [] users none_numbered)
+
+-- whatever are the classes are these numbers
+pub are_numbers : (users : List (List ℤ)) (classes : List ℤ) → AreClasses users classes → classes ≡ class_numbers users
+are_numbers users classes h = classes_are_unique users classes (class_numbers users) h (numbers_are_classes users)

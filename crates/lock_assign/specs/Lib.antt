@@ -1,0 +1,3 @@
+pub mod Classes
+pub mod Numbered
+pub mod Sets

@@ -1,0 +1,20 @@
+-- The classes of tables as a function of the lists of their users.
+use Rattle.std.specs.Prelude.{ℕ, ℤ, pos, List, [], ◌∷◌, length, fold}
+use Rattle.lock_assign.specs.Classes.{AreClasses}
+use Rattle.lock_assign.specs.Sets.{place_in, with_list}
+
+-- each list has the place at which an equal one stands among those that came first; `first` came before
+abbrev pub numbered : List (List ℤ) → List (List ℤ) → List ℤ
+numbered first [] = []
+numbered first (ops ∷ users) = pos (place_in first ops) ∷ numbered (with_list first ops) users
+
+abbrev pub class_numbers : List (List ℤ) → List ℤ
+class_numbers users = numbered [] users
+
+-- how many classes there are: as many as different lists
+abbrev pub class_count : List (List ℤ) → ℕ
+class_count users = length (fold with_list [] users)
+
+-- these numbers are the classes
+abbrev pub NumbersAreClasses : Type 0
+NumbersAreClasses = (users : List (List ℤ)) → AreClasses users (class_numbers users)

@@ -1,0 +1,86 @@
+// The lines of lock classes.
+ghost use Rattle.std.specs.Prelude.{◌≡◌, ◌≤◌, ◌<◌, ◌^◌, ◌++◌, ◌∷◌, [], ℕ, pos, length, map, codes, OnOk, if◌then◌else◌};
+ghost use Rattle.std.specs.Ordering.{int_eq};
+ghost use Rattle.river_plan.specs.Forms.{table_names};
+ghost use Rattle.plan_classes.specs.Lines.{class_tables, class_line, class_lines, classes_text};
+
+use crate::users::table_users;
+use lock_assign::classes;
+use river_base::{Bytes, NoMemory};
+use river_plan::{Plan, TableDecl};
+use std::alloc::Global;
+
+/// Appends a line for each lock class of the plan's tables.
+pub fn print_classes(alloc: Global, plan: &Plan, to: &mut Bytes) -> Result<(), NoMemory>
+    ensures { OnOk result (to.new ≡ to.old ++ classes_text plan.now) }
+{
+    let users = table_users(alloc, plan)?;
+    let classes = classes(alloc, &users)?;
+    print_lines(alloc, plan.raw().tables.as_slice(), classes.as_slice(), to)
+}
+
+// A line for each class, at the first table that has it.
+#[tactic(auto, using(crate::proofs::Joined::joins))]
+fn print_lines(
+    alloc: Global,
+    tables: &[TableDecl],
+    classes: &[i64],
+    to: &mut Bytes,
+) -> Result<(), NoMemory>
+    requires { length classes.now < 2 ^ 32 }
+    ensures { OnOk result (to.new ≡ to.old ++ class_lines 0 classes.now (table_names tables.now) classes.now) }
+{
+    let mut next: u32 = 0;
+    for class in classes {
+        if *class == i64::from(next) {
+            print_line(alloc, next, tables, classes, to)?;
+            next += 1;
+        }
+    }
+    Ok(())
+}
+
+#[tactic(auto, using(crate::proofs::Joined::joins))]
+fn print_line(
+    alloc: Global,
+    class: u32,
+    tables: &[TableDecl],
+    classes: &[i64],
+    to: &mut Bytes,
+) -> Result<(), NoMemory>
+    ensures { OnOk result (to.new ≡ to.old ++ class_line class (table_names tables.now) classes.now) }
+{
+    to.extend(b"# class ")?;
+    to.extend(class.to_string(alloc)?.as_bytes())?;
+    to.extend(b":")?;
+    print_tables(class, tables, classes, to)?;
+    to.extend(b"\n")
+}
+
+// The tables of the class.
+#[tactic(auto, using(crate::proofs::Joined::joins))]
+fn print_tables(
+    class: u32,
+    tables: &[TableDecl],
+    classes: &[i64],
+    to: &mut Bytes,
+) -> Result<(), NoMemory>
+    ensures { OnOk result (to.new ≡ to.old ++ class_tables class (table_names tables.now) classes.now) }
+{
+    for (table, of) in tables.iter().zip(classes) {
+        print_table(class, *of, table, to)?;
+    }
+    Ok(())
+}
+
+// The table, if it is of the class.
+#[tactic(auto, using(crate::proofs::Joined::joins))]
+fn print_table(class: u32, of: i64, table: &TableDecl, to: &mut Bytes) -> Result<(), NoMemory>
+    ensures { OnOk result (to.new ≡ to.old ++ (if int_eq of (pos class) then codes " $" ++ table.now.name else [])) }
+{
+    if of == i64::from(class) {
+        to.extend(b" $")?;
+        to.extend(table.name.as_slice())?;
+    }
+    Ok(())
+}
