@@ -1,5 +1,6 @@
 -- The numbers that lists get as they come are their classes.
-use Rattle.std.proofs.Common.{◌≡◌, ℕ, ℤ, pos, List, [], ◌∷◌, ◌++◌, fold, length, refl, sym, ap, ◌∙◌, subst, append_assoc, append_nil}
+use Rattle.std.proofs.Common.{◌≡◌, ℕ, ℤ, pos, List, [], ◌∷◌, ◌++◌, fold, length, refl, sym, ap, ◌∙◌, subst, append_assoc}
+use Rattle.std.proofs.lemmas.List.{append-nil}
 use Rattle.lock_assign.specs.Classes.{AreClasses}
 use Rattle.lock_assign.specs.Sets.{place_in, with_list}
 use Rattle.lock_assign.specs.Numbered.{numbered, class_numbers, NumbersAreClasses}
@@ -9,7 +10,7 @@ use Rattle.lock_assign.proofs.Unique.{classes_are_unique}
 numbered_on : (done seen : List (List ℤ)) (classes : List ℤ) (users : List (List ℤ)) → IsNumbered done seen classes
     → IsNumbered (done ++ users) (fold with_list seen users) (classes ++ numbered seen users)
 numbered_on done seen classes [] r =
-    subst (λ (d : List (List ℤ)). IsNumbered d seen (classes ++ [])) (sym (append_nil done)) (subst (λ (c : List ℤ). IsNumbered done seen c) (sym (append_nil classes)) r)
+    subst (λ (d : List (List ℤ)). IsNumbered d seen (classes ++ [])) (sym (append-nil done)) (subst (λ (c : List ℤ). IsNumbered done seen c) (sym (append-nil classes)) r)
 numbered_on done seen classes (ops ∷ users) r =
     subst (λ (d : List (List ℤ)). IsNumbered d (fold with_list (with_list seen ops) users) (classes ++ numbered seen (ops ∷ users))) (append_assoc done (ops ∷ []) users)
     (subst (λ (c : List ℤ). IsNumbered ((done ++ ops ∷ []) ++ users) (fold with_list (with_list seen ops) users) c) (append_assoc classes (pos (place_in seen ops) ∷ []) (numbered (with_list seen ops) users))

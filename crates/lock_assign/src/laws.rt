@@ -9,7 +9,6 @@ pub fn classes_are_unique()
 {}
 
 /// Each table has as its class the place of its operators among the lists that came first.
-#[tactic(auto, using(crate::proofs::Numbers::numbers_are_classes))]
 pub fn numbers_are_classes()
     ensures { NumbersAreClasses }
 {}

@@ -27,7 +27,8 @@ fn print_lines(
     classes: &[i64],
     to: &mut Bytes,
 ) -> Result<(), NoMemory>
-    requires { length classes.now < 2 ^ 32 }
+    requires few { length classes.now < 2 ^ 32 }
+    requires paired { length classes.now ≡ length tables.now }
     ensures { OnOk result (to.new ≡ to.old ++ class_lines 0 classes.now (table_names tables.now) classes.now) }
 {
     let mut next: u32 = 0;
@@ -48,6 +49,7 @@ fn print_line(
     classes: &[i64],
     to: &mut Bytes,
 ) -> Result<(), NoMemory>
+    requires { length classes.now ≡ length tables.now }
     ensures { OnOk result (to.new ≡ to.old ++ class_line class (table_names tables.now) classes.now) }
 {
     to.extend(b"# class ")?;
@@ -65,10 +67,11 @@ fn print_tables(
     classes: &[i64],
     to: &mut Bytes,
 ) -> Result<(), NoMemory>
+    requires { length classes.now ≡ length tables.now }
     ensures { OnOk result (to.new ≡ to.old ++ class_tables class (table_names tables.now) classes.now) }
 {
-    for (table, of) in tables.iter().zip(classes) {
-        print_table(class, *of, table, to)?;
+    for place in 0..tables.len() {
+        print_table(class, classes[place], &tables[place], to)?;
     }
     Ok(())
 }

@@ -31,5 +31,5 @@ returns-clause-rising c =
     let here : place (variable_names p) named.0 ≡ c.args.variable = (let e = named.3 in omega (arith, e)) in
     let rises = each-rising (variable_names p) named.0 named.2 p.ops 0 (each_of named.0 p.ops c.self.invariant.0.vars_apart) in
     let users = c.as_slice.ensures ∙ c.at.ensures []
-        ∙ users-there (length (variable_names p)) c.args.variable (var_places p) _ [] c.self.invariant.1.vars.by_place within in
+    ∙ users-there (length (variable_names p)) c.args.variable (var_places p) _ [] c.self.invariant.1.vars.by_place within in
     subst IsStrictlyIncreasing (sym users) (subst (λ i. IsStrictlyIncreasing (users_from 0 (var_places p) i)) here rises)
