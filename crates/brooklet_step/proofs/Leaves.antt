@@ -151,10 +151,6 @@ pushed_more p (d ∷ es) e =
     (λ ne. ap (λ t. t ++ more) (if_ne d.0 p (Flat (One d.1) ∷ pushed_to p es) (pushed_to p es) ne) ∙ r ∙ sym (if_ne d.0 p (Flat (One d.1) ∷ pushed_to p (es ++ e ∷ [])) (pushed_to p (es ++ e ∷ [])) ne))
     (cases_eq d.0 p)
 
--- what came to lists, where the lists of another were the same
-pub took_from : (old mid new : Emit) (r : Fired) → mid.outs ≡ old.outs → mid.adds ≡ old.adds → Took mid new r → Took old new r
-took_from old mid new r eo ea t = record { outs = t.outs ∙ ap (λ l. each_grew l r.outs) eo; adds = t.adds ∙ ap (λ l. each_grew l r.adds) ea }
-
 -- one more push is given
 pub push_step : (start now new : List (List item.Item)) (es : List (ℕ × List ℤ)) (i : ℕ) (e : ℕ × List ℤ) → i < length es → e ≡ get_or es i e
     → now ≡ each_grew start (λ p. pushed_to p (take i es)) → new ≡ append_at now e.0 (Flat (One e.1) ∷ [])
