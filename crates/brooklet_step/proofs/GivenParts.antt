@@ -64,7 +64,7 @@ flats_held t (Flat f ∷ xs) h =
 flats_held t (Pack fs ∷ xs) h = flats_held t xs (All-tail (IsHeld (FlatOf t)) (Pack fs) xs h)
 
 -- a kernel in a pack has the states of the kernel, and gives its items in packs
-packed_states : (k : Kern) (w : Word) (ss : List Kept) → (run (fire (packed k)) w ss).states ≡ (run (fire k) w ss).states
+pub packed_states : (k : Kern) (w : Word) (ss : List Kept) → (run (fire (packed k)) w ss).states ≡ (run (fire k) w ss).states
 packed_states k [] ss = refl
 packed_states k (e ∷ es) ss = packed_states k es (fire k e.0 e.1 ss).states
 
