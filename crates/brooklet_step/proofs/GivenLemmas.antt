@@ -18,7 +18,6 @@ use Rattle.brooklet_model.specs.Shapes.{IsShaped, HasShape}
 use Rattle.brooklet_model.specs.Typed.{IsTyped, IsOf, AreOf, AreWaiting, AreReceived, ArePaired, Holds, IsWordOf, IsStart, between}
 use Rattle.brooklet_model.specs.Words.{Word, run, at_port, word_of}
 use Rattle.brooklet_model.proofs.Lists.{take_front, drop_front}
-use Rattle.brooklet_model.proofs.Ports.{shaped}
 use Rattle.brooklet_model.proofs.Shapes.{first_shape, fire_shape, shape_length}
 use Rattle.brooklet_model.proofs.Swaps.{at_port_here}
 use Rattle.brooklet_model.proofs.Free.{at_port-append}

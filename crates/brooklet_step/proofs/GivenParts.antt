@@ -255,8 +255,8 @@ fused_does a b at port i st mine' rest' out new mid0 mid last0 last items room b
                 let wb' = word_of 0 ((ran a start_a (w ++ (port, x) ∷ [])).outs at) in (
                   subst (λ (r : Fired). TookHeld (spliced at ms bs) whole out new r) r_is now,
                   parts_after a b at reads start mine' rest' (w ++ (port, x) ∷ []) (fit_length a reads mine' da.came.again) one.1
-                  (subst (λ (l : List QueueType). StandsAfter b l start_b rest' wb') (sym mid_is)
-                  (subst (StandsAfter b (m ∷ []) start_b rest') (sym (word_append 0 past xs) ∙ ap (word_of 0) (sym (more.outs at))) two.1)),
+                      (subst (λ (l : List QueueType). StandsAfter b l start_b rest' wb') (sym mid_is)
+                      (subst (StandsAfter b (m ∷ []) start_b rest') (sym (word_append 0 past xs) ∙ ap (word_of 0) (sym (more.outs at))) two.1)),
                 );
           };
           came = record {

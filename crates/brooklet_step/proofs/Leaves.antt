@@ -25,7 +25,7 @@ use Rattle.kern_rows.proofs.Given.{filter_values, given_items}
 use Rattle.kern_rows.proofs.Lengths.{run_kept_length}
 use Rattle.river_kernels.specs.Fits.{rows}
 use Rattle.river_kernels.specs.Kern.{code, filter, deal, collect, unpack}
-use Rattle.brooklet_model.specs.Firings.{Kept, Slots, Buffered, Turn, Joining, Fired, gives}
+use Rattle.brooklet_model.specs.Firings.{Kept, Slots, Buffered, Turn, Joining, gives}
 use Rattle.brooklet_model.specs.Fire.{fire, code_one, values_of, value_of}
 use Rattle.brooklet_model.proofs.Shapes.{next_turn, put_joined, drain_joined}
 use Rattle.brooklet_model.specs.Typed.{IsOf, AreOf}

@@ -115,13 +115,13 @@ left_many m s q h lt =
 pub enabled_law : EnabledIsItem
 enabled_law m s o port v running h = (
   (λ e.
-  let r = e.reads in
-  let n = left_many m s e.queue h (read_declared m.plan v o port e.queue r) in
-  let i = e.item in
-  record { op = r.op; queue = e.queue; op_is = r.op_is; queue_is = r.queue_is; item = omega (arith, n, i) }),
+      let r = e.reads in
+      let n = left_many m s e.queue h (read_declared m.plan v o port e.queue r) in
+      let i = e.item in
+      record { op = r.op; queue = e.queue; op_is = r.op_is; queue_is = r.queue_is; item = omega (arith, n, i) }),
   (λ i.
-  let r : ReadsAt m.plan o port i.queue = record { op = i.op; op_is = i.op_is; queue_is = i.queue_is } in
-  let n = left_many m s i.queue h (read_declared m.plan v o port i.queue r) in
-  let l = i.item in
-  record { running = running; queue = i.queue; reads = r; item = omega (arith, n, l) }),
+      let r : ReadsAt m.plan o port i.queue = record { op = i.op; op_is = i.op_is; queue_is = i.queue_is } in
+      let n = left_many m s i.queue h (read_declared m.plan v o port i.queue r) in
+      let l = i.item in
+      record { running = running; queue = i.queue; reads = r; item = omega (arith, n, l) }),
 )

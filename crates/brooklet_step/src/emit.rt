@@ -114,11 +114,7 @@ impl Emit {
     }
 
     /// The rows that a body pushed, each at its port. Their list is spare.
-    pub(crate) fn give_pushes(
-        &mut self,
-        pushes: Emitted,
-        spare: &mut Spare,
-    ) -> Result<(), NoMemory>
+    pub(crate) fn give_pushes(&mut self, pushes: Emitted, spare: &mut Spare) -> Result<(), NoMemory>
         requires { All (λ push. push.0 < length self.old.outs) pushes }
         ensures outs { OnOk result (self.new.outs ≡ each_grew self.old.outs (λ port. pushed_to port pushes)) }
         ensures adds { OnOk result (self.new.adds ≡ self.old.adds) }

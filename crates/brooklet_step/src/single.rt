@@ -61,7 +61,9 @@ pub fn fire_leaf(
         Kernel::Select(cond) => fire_select(alloc, cond, item, out, spare),
         Kernel::Project(list) => fire_project(alloc, list, item, out, spare),
         Kernel::Cross => fire_cross(alloc, port, item, &mut states[0], out, spare),
-        Kernel::Streamer(streamer) => { fire_streamer(alloc, streamer, item, &mut states[0], out, spare) }
+        Kernel::Streamer(streamer) => {
+            fire_streamer(alloc, streamer, item, &mut states[0], out, spare)
+        }
         Kernel::Tally => fire_tally(item, out),
         Kernel::Packed(_) | Kernel::Fused { .. } => unreachable!(),
     }

@@ -102,7 +102,15 @@ fn fire_most(
     ensures refused { OnErr result (parts.new.stopped ≡ true) }
 {
     match blank_of(alloc, &parts.plan, op) {
-        Ok(mut out) => fire_all(alloc, parts, op, port, most, &mut out, &mut Spare::new(alloc)),
+        Ok(mut out) => fire_all(
+            alloc,
+            parts,
+            op,
+            port,
+            most,
+            &mut out,
+            &mut Spare::new(alloc),
+        ),
         Err(e) => stop(parts, e),
     }
 }
