@@ -16,23 +16,23 @@ use Rattle.brooklet_model.proofs.Shapes.{shape_length}
 use Rattle.brooklet_model.proofs.Typing.{between_is}
 use Rattle.brooklet_step.specs.declared.state.State.{State}
 use Rattle.brooklet_step.specs.Given.{FitState, IsLeaf, ran, StandsAfter}
-use Rattle.brooklet_step.specs.Laws.{StandFor, FitStatesStand, FiringsStep}
+use Rattle.brooklet_step.specs.Laws.{StandForSome, FitStatesStand, FiringsStep}
 use Rattle.brooklet_step.proofs.GivenLemmas.{leaf_kept, leaf_to, leaf_from, ran_length}
 use Rattle.brooklet_step.proofs.GivenParts.{packed_states, fused_ran}
 use Rattle.brooklet_step.proofs.Standing.{stands_shape}
 
 -- STATES THAT FIT STAND FOR SOME
 
-leaf_stand : (k : Kern) (is : List QueueType) (st : List State) → IsLeaf k → FitState k is st → StandFor k is st
+leaf_stand : (k : Kern) (is : List QueueType) (st : List State) → IsLeaf k → FitState k is st → StandForSome k is st
 leaf_stand k is st l h =
     let s = leaf_kept k is st l h in
     record { start = s.0; is_start = record { shape = stands_shape k st s.0 s.1; holds = s.2 }; stands = leaf_from k is s.0 st [] l s.1 }
 
-packed_stand : (k : Kern) (is : List QueueType) (st : List State) → StandFor k is st → StandFor (packed k) is st
+packed_stand : (k : Kern) (is : List QueueType) (st : List State) → StandForSome k is st → StandForSome (packed k) is st
 packed_stand k is st r = record { start = r.start; is_start = record { shape = r.is_start.shape; holds = r.is_start.holds }; stands = r.stands }
 
-fused_stand : (a b : Kern) (at : ℕ) (is inner : List QueueType) (st : List State) → inner ≡ between at (types_of a is) → StandFor a is (take (privates a) st)
-    → StandFor b inner (drop (privates a) st) → StandFor (fused a b at) is st
+fused_stand : (a b : Kern) (at : ℕ) (is inner : List QueueType) (st : List State) → inner ≡ between at (types_of a is) → StandForSome a is (take (privates a) st)
+    → StandForSome b inner (drop (privates a) st) → StandForSome (fused a b at) is st
 fused_stand a b at is inner st e ra rb =
     let n = privates a in
     let all = ra.start ++ rb.start in

@@ -26,17 +26,21 @@ FiringsChain =
     → FiresAt k port i out out' st st' → IsHeldOf t.reads next j → CanTake k next j st' out'
 
 -- the states of the definition for which states of the code stand, and from which firings may begin
-pub record StandFor (k : Kern) (reads : List QueueType) (st : List State) : Type 0 where
+pub record StandForSome (k : Kern) (reads : List QueueType) (st : List State) : Type 0 where
   pub start : List Kept
   pub is_start : IsStart k reads start
   pub stands : StandsAfter k reads start st []
 
--- all states that fit stand for some of the definition: so what is said of these says something of all states on which a kernel can fire
+-- all states that fit stand for some of the definition: so what is said of these says something of all states on which a kernel can
+-- fire
 abbrev pub FitStatesStand : Type 0
-FitStatesStand = (k : Kern) (reads writes : List QueueType) (vars : List VarKind) (st : List State) → Fits k reads writes vars → FitState k reads st → StandFor k reads st
+FitStatesStand =
+    (k : Kern) (reads writes : List QueueType) (vars : List VarKind) (st : List State) → Fits k reads writes vars → FitState k reads st
+    → StandForSome k reads st
 
--- what a firing gave, and the new states, are those of the definition's firing from the states `now`
-pub record FiredFrom (k : Kern) (reads writes : List QueueType) (port : ℕ) (x : item.Item) (now : List Kept) (out out' : Emit) (st' : List State) : Type 0 where
+-- what a firing gave is what the definition gives from the states `now`, and the new states stand for its next ones
+pub record FiredFrom (k : Kern) (reads writes : List QueueType) (port : ℕ) (x : item.Item) (now : List Kept) (out out' : Emit)
+    (st' : List State) : Type 0 where
   pub outs : out'.outs ≡ each_grew out.outs (λ p. held_at writes p [] ((fire k port x now).outs p))
   pub adds : out'.adds ≡ each_grew out.adds (fire k port x now).adds
   pub next : StandsAfter k reads (fire k port x now).states st' []

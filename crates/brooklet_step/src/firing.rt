@@ -59,11 +59,12 @@ fn add_flat(item: Item, all: &mut Flats) -> Result<(), NoMemory>
     }
 }
 
-/// One firing of a kernel on an item at a port, appended to the lists of `out`. Whatever states of the definition, and whatever word
-/// of firings from there, the states stand for, and whatever item the queue holds this one for, the lists grow by what queues hold
-/// for what the definition gives, and the states stand for that word with this firing. And of the states alone, under each choice of types that they fit: what is given
-/// may be held by queues of the output ports' types, rows for tables have their widths, and the states fit again, so that the
-/// kernel can fire on any item of its types. Where there is no memory, nothing is said of the states and the lists.
+/// One firing of a kernel on an item at a port, appended to the lists of `out`. Whatever states of the definition it is that the
+/// states stand for, after whatever word of firings from there, and whatever item the queue holds this one for: the lists grow by
+/// what queues hold for what the definition gives, and the states stand for that word with this firing. And of the states alone,
+/// under each choice of types that they fit: what is given may be held by queues of the output ports' types, rows for tables have
+/// their widths, and the states fit again, so that the kernel can fire on any item of its types. Where there is no memory, nothing
+/// is said of the states and the lists.
 pub fn fire(
     alloc: Global,
     kernel: &Kernel,
