@@ -59,8 +59,7 @@ pub fn fire_window(
         State::Window(state) => {
             let mut items = spare.take_items(alloc);
             window.step(alloc, state, batch_of(item), &mut items)?;
-            out.give_all(0, items, spare)?;
-            Ok(())
+            out.give_all(0, items, spare)
         }
         _ => unreachable!(),
     }
@@ -80,8 +79,7 @@ pub fn fire_select(
 {
     let mut items = spare.take_items(alloc);
     select(cond, flat_of(item), &mut items)?;
-    out.give_all(0, items, spare)?;
-    Ok(())
+    out.give_all(0, items, spare)
 }
 
 /// A content comes to a projection.
@@ -98,8 +96,7 @@ pub fn fire_project(
 {
     let mut items = spare.take_items(alloc);
     project(list, flat_of(item), &mut items)?;
-    out.give_all(0, items, spare)?;
-    Ok(())
+    out.give_all(0, items, spare)
 }
 
 /// A content comes to a port of a product.
@@ -120,8 +117,7 @@ pub fn fire_cross(
         State::Cross(state) => {
             let mut items = spare.take_items(alloc);
             Cross::step(alloc, state, port, flat_of(item), &mut items)?;
-            out.give_all(0, items, spare)?;
-            Ok(())
+            out.give_all(0, items, spare)
         }
         _ => unreachable!(),
     }
@@ -146,8 +142,7 @@ pub fn fire_streamer(
         State::Streamer(state) => {
             let mut items = spare.take_items(alloc);
             streamer.step(alloc, state, flat_of(item), &mut items)?;
-            out.give_all(0, items, spare)?;
-            Ok(())
+            out.give_all(0, items, spare)
         }
         _ => unreachable!(),
     }

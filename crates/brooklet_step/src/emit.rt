@@ -72,8 +72,7 @@ impl Emit {
         requires { port < length self.old.outs }
         ensures { OnOk result (Took self.old self.new (gives port (item ∷ []) [])) }
     {
-        self.outs.push_at(port, item)?;
-        Ok(())
+        self.outs.push_at(port, item)
     }
 
     /// These items at a port. A list that is left over is spare.
@@ -86,8 +85,7 @@ impl Emit {
         requires { port < length self.old.outs }
         ensures { OnOk result (Took self.old self.new (gives port items [])) }
     {
-        add_items(&mut self.outs, port, items, &mut spare.items)?;
-        Ok(())
+        add_items(&mut self.outs, port, items, &mut spare.items)
     }
 
     /// One more row for a table.
@@ -96,8 +94,7 @@ impl Emit {
         ensures outs { OnOk result (self.new.outs ≡ self.old.outs) }
         ensures adds { OnOk result (self.new.adds ≡ each_grew self.old.adds (only table (row.now ∷ []))) }
     {
-        self.adds.push_at(table, *row)?;
-        Ok(())
+        self.adds.push_at(table, *row)
     }
 
     /// An item for every port: copies, and the item itself at the last.
@@ -150,8 +147,7 @@ impl Emit {
         ensures adds { OnOk result (self.new.adds ≡ each_grew self.old.adds (beside (length first.old.adds) (list_at first.old.adds) (list_at second.old.adds))) }
     {
         splice_items(alloc, &mut self.outs, &mut first.outs, &mut second.outs, at)?;
-        join_rows(alloc, &mut self.adds, &mut first.adds, &mut second.adds)?;
-        Ok(())
+        join_rows(alloc, &mut self.adds, &mut first.adds, &mut second.adds)
     }
 }
 
@@ -174,8 +170,7 @@ fn add_items(
     requires { place < length outs.old }
     ensures { OnOk result (outs.new ≡ append_at outs.old place items) }
 {
-    join(outs.at_mut(place), items, spare)?;
-    Ok(())
+    join(outs.at_mut(place), items, spare)
 }
 
 // Items come to the end of a list; where it has none, it becomes theirs.
@@ -186,8 +181,7 @@ fn join(list: &mut Items, items: Items, spare: &mut Items) -> Result<(), NoMemor
         *spare = replace(list, items);
         return Ok(());
     }
-    list.append(items)?;
-    Ok(())
+    list.append(items)
 }
 
 // The rows that a body pushed, each at its port.

@@ -93,8 +93,7 @@ pub(crate) fn fire_again(
     requires { CanTake (kern_of kernel.now) port item states.old out.old }
     ensures { OnOk result (FiresAt (kern_of kernel.now) port item out.old out.new states.old states.new) }
 {
-    fire_on(alloc, kernel, port, item, states.as_mut_slice(), out, spare)?;
-    Ok(())
+    fire_on(alloc, kernel, port, item, states.as_mut_slice(), out, spare)
 }
 
 #[cycle(fire_on)]

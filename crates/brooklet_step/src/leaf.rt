@@ -128,8 +128,7 @@ fn give_values(
 {
     let mut items = spare.take_items(alloc);
     add_values(values, &mut items)?;
-    out.give_all(0, items, spare)?;
-    Ok(())
+    out.give_all(0, items, spare)
 }
 
 /// A value comes to a filter.
@@ -171,8 +170,7 @@ pub fn fire_deal(
     match state {
         State::Deal(state) => {
             let port = Deal::step(weights, state);
-            out.give(port as usize, item)?;
-            Ok(())
+            out.give(port as usize, item)
         }
         _ => unreachable!(),
     }
@@ -195,8 +193,7 @@ pub fn fire_collect(
         State::Collect(state) => {
             let mut items = spare.take_items(alloc);
             Collect::step(weights, state, port, item, &mut items)?;
-            out.give_all(0, items, spare)?;
-            Ok(())
+            out.give_all(0, items, spare)
         }
         _ => unreachable!(),
     }
@@ -230,8 +227,7 @@ pub fn fire_unpack(
         State::Unpack(state) => {
             let mut items = spare.take_items(alloc);
             Unpack::step(ports, state, port, pack_of(item), &mut items)?;
-            out.give_all(0, items, spare)?;
-            Ok(())
+            out.give_all(0, items, spare)
         }
         _ => unreachable!(),
     }

@@ -232,8 +232,7 @@ fn fire_op(
     ensures { OnOk result (FiredOp plan.now op port item states.old states.new out.new) }
 {
     let kernel = &plan.raw().ops.at(op as usize).kernel;
-    fire_again(alloc, kernel, port, item, states, out, spare)?;
-    Ok(())
+    fire_again(alloc, kernel, port, item, states, out, spare)
 }
 
 // Each port's items move to the end of its queue; none is left.

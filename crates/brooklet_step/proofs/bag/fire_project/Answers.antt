@@ -1,4 +1,5 @@
 use Rattle.std.proofs.Common.{◌≡◌, [], ◌++◌, sym, ap, ◌∙◌, subst}
+use Rattle.std.proofs.lemmas.Result.{on_ok_weaker}
 use Rattle.work_code.specs.Term.{terms}
 use Rattle.river_base.specs.declared.item.Item.TheVariants.{Flat}
 use Rattle.kern_bags.specs.Needs.{flat_rows, CanProject}
@@ -21,4 +22,6 @@ returns c =
     let es = terms c.args.list.now in
     let given : c.project.new.out ≡ project_one es c.args.item =
     c.in_ok-project.ensures.ok ∙ ap (λ l. l ++ project_one es (Flat c.flat_of.result)) c.take_items-items.ensures ∙ ap (project_one es) c.flat_of.ensures in
-    subst (λ l. Took c.args.out.now c.give_all.new.self (gives 0 l [])) given c.in_ok-give_all.ensures
+    on_ok_weaker c.give_all.result (λ took.
+    subst (λ l. Took c.args.out.now c.give_all.new.self (gives 0 l [])) given took
+    ) c.give_all.ensures

@@ -1,4 +1,5 @@
 use Rattle.std.proofs.Common.{[], refl, sym, ◌∙◌, subst}
+use Rattle.std.proofs.lemmas.Result.{on_ok_weaker}
 use Rattle.river_base.specs.Held.{IsAscending}
 use Rattle.river_base.specs.declared.item.Item.TheVariants.{Flat}
 use Rattle.kern_bags.specs.Kept.{StandsForStreamer, Steps}
@@ -20,6 +21,7 @@ step-requires-clause-rows c =
 pub returns-clause-steps : goal.returns-clause-steps
 returns-clause-steps c =
     let s = c.args.streamer.now in
+    on_ok_weaker c.give_all.result (λ took.
     record {
       old = c.in-Streamer.state;
       new = c.step.new.state;
@@ -28,8 +30,10 @@ returns-clause-steps c =
       is = refl;
       steps = subst (λ x. Steps (StandsForStreamer s) (streamer_one s) x c.in-Streamer.state c.step.new.state [] c.step.new.out) c.flat_of.ensures
           (subst (λ l. Steps (StandsForStreamer s) (streamer_one s) (Flat c.flat_of.result) c.in-Streamer.state c.step.new.state l c.step.new.out) c.take_items-items.ensures c.in_ok-step-in-Streamer.ensures.ok);
-      took = c.in_ok-give_all-in-Streamer.ensures;
+      took = took;
     }
+    ) c.give_all.ensures
 
 pub returns-clause-kept : goal.returns-clause-kept
-returns-clause-kept c = record { now = c.step.new.state; is = refl; ascends = c.in_ok-step-in-Streamer.ensures.kept }
+returns-clause-kept c =
+    on_ok_weaker c.give_all.result (λ took. record { now = c.step.new.state; is = refl; ascends = c.in_ok-step-in-Streamer.ensures.kept }) c.give_all.ensures
