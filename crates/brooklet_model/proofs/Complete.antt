@@ -1,6 +1,6 @@
 -- Every complete run has the plan's histories.
 use Rattle.std.proofs.Common.{◌≡◌, ◌≢◌, ℕ, ◌+◌, ◌<◌, ◌≤◌, Some, List, [], ◌∷◌, ◌++◌, length, take, refl, sym, ap, ◌∙◌, subst, arith, length-append, ⊎_elim}
-use Rattle.std.proofs.Common.{nat_eq, false}
+use Rattle.std.proofs.Common.{ℤ, map, nat_eq, false}
 use Rattle.std.specs.Prelude.{if◌then◌else◌, count_by, slice_get}
 use Rattle.std.proofs.lemmas.Bool.{cases_eq}
 use Rattle.std.proofs.lemmas.List.{append-nil, take-append-le, length-map}
@@ -8,6 +8,9 @@ use Rattle.std.proofs.Math.Seq.{take-length}
 use Rattle.river_base.specs.declared.item.Item as item
 use Rattle.river_base.specs.Name.{name_eq}
 use Rattle.river_base.specs.Places.{none, list_at}
+use Rattle.kern_tables.specs.Tables.{tab}
+use Rattle.kern_tables.proofs.Tabs.{tables_are_of_bags}
+use Rattle.river_plan.specs.declared.plan.TableDecl.{TableDecl}
 use Rattle.river_plan.specs.Forms.{Name, OpForm, PlanForm, decl_names, table_names, all_decls}
 use Rattle.river_plan.specs.Kinds.{IsFit, kind_of}
 use Rattle.river_plan.specs.Names.{count}
@@ -16,7 +19,7 @@ use Rattle.river_plan.specs.Valid.{IsPlan}
 use Rattle.river_plan.proofs.NameLemmas.{cases_name, more_or_zero}
 use Rattle.brooklet_model.specs.Firings.{Kept, Fired, and_then, Same}
 use Rattle.brooklet_model.specs.Fire.{fire, ins, first_kept}
-use Rattle.brooklet_model.specs.Histories.{History, lists_of, given, histories, joined, tables_of, adds, inputs_of, lengths, Lists, Solves}
+use Rattle.brooklet_model.specs.Histories.{History, lists_of, given, histories, joined, tables_of, adds, all_adds, inputs_of, lengths, Lists, Solves}
 use Rattle.brooklet_model.specs.Laws.{given_to, RunsAgree}
 use Rattle.brooklet_model.specs.Machine.{Machine, at_key, fired, Run, IsComplete, first_of, times}
 use Rattle.brooklet_model.specs.Traced.{ran, Traced}
@@ -276,4 +279,11 @@ nothing_given names f q z = written_out names f (λ n. []) q z
 pub runs_law : RunsAgree
 runs_law p inputs es s v r done =
     let a = agree p (given_to p inputs) v (λ q z. nothing_given (decl_names p.inputs) (list_at inputs) q z) es s r done in
-    record { queues = a.0; tables = a.1; firings = a.2 }
+    let printed = λ (t : TableDecl). tables_are_of_bags t.kind (s.rows t.name) (all_adds p inputs t.name) (a.1 t.name) in
+    record {
+      queues = a.0;
+      tables = a.1;
+      printed =
+          ap (λ (f : TableDecl → List (List ℤ)). map f p.tables) (funext (λ t. tab t.kind (s.rows t.name)) (λ t. tab t.kind (all_adds p inputs t.name)) printed);
+      firings = a.2;
+    }

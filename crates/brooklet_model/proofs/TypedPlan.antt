@@ -24,7 +24,7 @@ use Rattle.brooklet_model.specs.Histories.{History, lists_of, given, hist, joine
 use Rattle.brooklet_model.specs.Laws.{HistoriesAreTyped}
 use Rattle.brooklet_model.specs.Machine.{Machine, at_key, fired, Step, first_of, start}
 use Rattle.brooklet_model.specs.Shapes.{HasShape}
-use Rattle.brooklet_model.specs.Typed.{IsTyped, IsOf, AreOf, AreInputs, Holds, IsTypedState}
+use Rattle.brooklet_model.specs.Typed.{IsTyped, IsOf, AreOf, IsWordOf, AreInputs, Holds, IsTypedState}
 use Rattle.brooklet_model.specs.Words.{Word, run, word_of, port_by_port}
 use Rattle.brooklet_model.proofs.Lists.{if_true, if_false}
 use Rattle.brooklet_model.proofs.Ports.{shaped}
@@ -48,26 +48,21 @@ module _ (p : PlanForm) (v : IsPlan p) where
   pub op_fits : (o : ℕ) (op : OpForm) → slice_get p.ops o ≡ Some op → IsFit p op
   op_fits o op g = each_at (IsFit p) p.ops o op v.fits g
 
--- all items of a word are of the types of their ports
-abbrev pub AreAt : List QueueType → Word → Type 0
-AreAt is [] = Unit {0}
-AreAt is (e ∷ es) = IsOf is e.0 e.1 × AreAt is es
-
-pub at_append : (is : List QueueType) (u w : Word) → AreAt is u → AreAt is w → AreAt is (u ++ w)
+pub at_append : (is : List QueueType) (u w : Word) → IsWordOf is u → IsWordOf is w → IsWordOf is (u ++ w)
 at_append is [] w a b = b
 at_append is (e ∷ es) w a b = (a.0, at_append is es w a.1 b)
 
-at_word : (is : List QueueType) (p : ℕ) (xs : List item.Item) → All (IsOf is p) xs → AreAt is (word_of p xs)
+pub at_word : (is : List QueueType) (p : ℕ) (xs : List item.Item) → All (IsOf is p) xs → IsWordOf is (word_of p xs)
 at_word is p [] h = tt
 at_word is p (x ∷ xs) h = (All-head (IsOf is p) x xs h, at_word is p xs (All-tail (IsOf is p) x xs h))
 
-at_order : (is : List QueueType) (n q : ℕ) (h : ℕ → List item.Item) → AreOf is h → AreAt is (port_by_port n q h)
+at_order : (is : List QueueType) (n q : ℕ) (h : ℕ → List item.Item) → AreOf is h → IsWordOf is (port_by_port n q h)
 at_order is zero q h t = tt
 at_order is (suc n) q h t = at_append is (word_of q (h q)) (port_by_port n (suc q) h) (at_word is q (h q) (t q)) (at_order is n (suc q) h t)
 
 -- firings of a kernel, one after another
 pub run_typed : (k : Kern) (is os : List QueueType) (vs : List VarKind) (w : Word) (ss : List Kept) → Fits k is os vs → HasShape k ss → Holds k is ss
-    → AreAt is w → AreOf os (run (fire k) w ss).outs
+    → IsWordOf is w → AreOf os (run (fire k) w ss).outs
 run_typed k is os vs [] ss f h t a = λ j. All-nil (IsOf os j)
 run_typed k is os vs (e ∷ es) ss f h t a =
     let one = fire_typed k is os vs e.0 e.1 ss f h t a.0 in

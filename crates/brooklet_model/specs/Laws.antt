@@ -1,8 +1,9 @@
 -- The laws on the order of firings: statements over the definitions alone.
-use Rattle.std.specs.Prelude.{◌≡◌, ℕ, List, All, take, drop, Some, slice_get}
+use Rattle.std.specs.Prelude.{◌≡◌, ℕ, List, All, map, take, drop, Some, slice_get}
 use Rattle.river_base.specs.declared.item.Item as item
 use Rattle.river_base.specs.Held.{HasType}
 use Rattle.river_base.specs.Places.{list_at}
+use Rattle.kern_tables.specs.Tables.{tab}
 use Rattle.river_plan.specs.Forms.{Name, OpForm, PlanForm, decl_names, all_decls}
 use Rattle.river_plan.specs.Kinds.{kind_of}
 use Rattle.river_plan.specs.Uses.{Each, total, writes_it}
@@ -12,6 +13,7 @@ use Rattle.brooklet_model.specs.Firings.{Kept, feed, fused_of, Same}
 use Rattle.brooklet_model.specs.Fire.{fire, ins, outs, tabs, privates}
 use Rattle.brooklet_model.specs.Histories.{History, inputs_of, hist, all_adds, lengths, Solves}
 use Rattle.brooklet_model.specs.Machine.{Machine, Run, IsComplete, start, times}
+use Rattle.brooklet_model.specs.Meaning.{meaning}
 use Rattle.brooklet_model.specs.Shapes.{IsFormed, HasShape}
 use Rattle.brooklet_model.specs.Typed.{AreInputs}
 use Rattle.river_base.specs.Bags.{SameBag}
@@ -51,10 +53,11 @@ OneSolution =
     → ((q : Name) → total (writes_it q) p.ops ≡ 0 → h q ≡ given_to p inputs q) → (q : Name) → h q ≡ hist p inputs q
 
 -- what is defined of a plan, as a machine's state has it after these firings: each queue's history, the bag of rows added to each
--- table, and how often each operator fired, once for each item of its inputs
+-- table, the rows that each table is printed with, and how often each operator fired, once for each item of its inputs
 pub record HasDefined (p : PlanForm) (inputs : List (List item.Item)) (es : List (ℕ × ℕ)) (s : Machine) : Type 0 where
   pub queues : (q : Name) → s.hist q ≡ hist p inputs q
   pub tables : (t : Name) → SameBag (s.rows t) (all_adds p inputs t)
+  pub printed : map (λ t. tab t.kind (s.rows t.name)) p.tables ≡ (meaning p inputs).tables
   pub firings : (o : ℕ) (op : OpForm) → slice_get p.ops o ≡ Some op → times o es ≡ lengths (hist p inputs) op.reads
 
 -- All complete runs agree: whatever operator and port was chosen at each moment, a run of a valid plan from its inputs to a

@@ -1,5 +1,5 @@
 -- Brooklet's machine: queues, variables, and firings in any order (Soulé and others, ESOP 2010).
-use Rattle.std.specs.Prelude.{◌≡◌, ℕ, ℤ, ◌+◌, nat_eq, if◌then◌else◌, Option, Some, None, List, [], ◌∷◌, ◌++◌, length, slice_get}
+use Rattle.std.specs.Prelude.{◌≡◌, ℕ, ℤ, ◌+◌, ◌<◌, nat_eq, if◌then◌else◌, Option, Some, None, List, [], ◌∷◌, ◌++◌, length, slice_get}
 use Rattle.river_base.specs.declared.item.Item as item
 use Rattle.river_base.specs.Name.{name_eq}
 use Rattle.river_base.specs.Places.{list_at}
@@ -42,6 +42,14 @@ pub record Step (p : PlanForm) (s : Machine) (o port : ℕ) (s' : Machine) : Typ
   pub queue_is : slice_get op.reads port ≡ Some queue
   pub item_is : slice_get (s.hist queue) (s.taken queue) ≡ Some item
   pub after : s' ≡ fired (table_names p.tables) o op port queue item s
+
+-- operator number o has at its port p an item that is not taken
+pub record HasItem (p : PlanForm) (s : Machine) (o port : ℕ) : Type 0 where
+  pub op : OpForm
+  pub queue : Name
+  pub op_is : slice_get p.ops o ≡ Some op
+  pub queue_is : slice_get op.reads port ≡ Some queue
+  pub item : s.taken queue < length (s.hist queue)
 
 -- firings one after another, each an operator and a port
 abbrev pub Run : PlanForm → Machine → List (ℕ × ℕ) → Machine → Type 0

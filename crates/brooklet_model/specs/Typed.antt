@@ -16,6 +16,7 @@ use Rattle.brooklet_model.specs.Firings.{Kept, Joining, Received, Crossing}
 use Rattle.brooklet_model.specs.Fire.{privates}
 use Rattle.brooklet_model.specs.Machine.{Machine}
 use Rattle.brooklet_model.specs.Shapes.{HasShape}
+use Rattle.brooklet_model.specs.Words.{Word}
 
 -- the item is one of the port at this place; beyond the ports there is none
 abbrev pub IsTyped : Option QueueType → item.Item → Type 0
@@ -28,6 +29,11 @@ IsOf types p x = IsTyped (slice_get types p) x
 -- all items at all ports are of their types
 abbrev pub AreOf : List QueueType → (ℕ → List item.Item) → Type 0
 AreOf types f = (p : ℕ) → All (IsOf types p) (f p)
+
+-- so are those of a word of firings
+abbrev pub IsWordOf : List QueueType → Word → Type 0
+IsWordOf types [] = Unit {0}
+IsWordOf types (e ∷ es) = IsOf types e.0 e.1 × IsWordOf types es
 
 -- what waits in a joiner is of the types of its ports
 abbrev pub AreWaiting : List QueueType → List Kept → Type 0
@@ -69,6 +75,12 @@ Holds cross is ss = ArePaired is ss
 Holds (streamer s) is ss = AreReceived is ss
 Holds tally is ss = Unit {0}
 Holds (fused a b at) is ss = Holds a is (take (privates a) ss) × Holds b (between at (types_of a is)) (drop (privates a) ss)
+
+-- firings may begin at these states: they are those of the kernel's private variables, and keep only items of what it reads. The first
+-- states are such, and so are the states after each firing on items of these types; there may be others, to which no firings lead
+pub record IsStart (k : Kern) (reads : List QueueType) (start : List Kept) : Type 0 where
+  pub shape : HasShape k start
+  pub holds : Holds k reads start
 
 -- an item at each place of each list is of the type of this place
 abbrev pub AreInputs : List Decl → List (List item.Item) → Type 0

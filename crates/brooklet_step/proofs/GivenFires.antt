@@ -9,21 +9,22 @@ use Rattle.river_base.specs.Places.{each_grew, none}
 use Rattle.river_base.proofs.PlaceLemmas.{each_grew_cong, each_grew-none, each_grew-each_grew}
 use Rattle.river_kernels.specs.Kern.{Kern}
 use Rattle.brooklet_model.specs.Firings.{Kept, Fired, Same, feed, and_then}
-use Rattle.brooklet_model.specs.Fire.{fire, first_kept}
-use Rattle.brooklet_model.specs.Typed.{IsOf, widths_in, IsWide}
+use Rattle.brooklet_model.specs.Fire.{fire}
+use Rattle.brooklet_model.specs.Typed.{IsOf, IsWordOf, IsStart, widths_in, IsWide}
 use Rattle.brooklet_model.specs.Words.{Word, run, at_port, word_of}
 use Rattle.brooklet_model.proofs.Lists.{feed-append, feed_one}
 use Rattle.brooklet_model.proofs.Feeds.{feed_word}
 use Rattle.brooklet_model.proofs.Free.{at_port-append}
+use Rattle.brooklet_model.proofs.TypedPlan.{at_append, at_word as word_typed}
 use Rattle.brooklet_model.proofs.Typing.{fire_typed}
 use Rattle.brooklet_model.proofs.WideAdds.{fire_wide}
 use Rattle.brooklet_step.specs.declared.emit.Emit.{Emit}
 use Rattle.brooklet_step.specs.declared.state.State.{State}
 use Rattle.brooklet_step.specs.Stands.{StandsFor, Fires, Applies}
 use Rattle.brooklet_step.specs.Took.{Took}
-use Rattle.brooklet_step.specs.Given.{held_at, IsHeldOf, AreTyped, IsLeaf, ran, StandsAfter, TookHeld, Gives, FiresAt, GivesAll, FiresEach, CanTake}
+use Rattle.brooklet_step.specs.Given.{held_at, IsHeldOf, IsLeaf, ran, StandsAfter, TookHeld, Gives, FiresAt, GivesAll, FiresEach, CanTake}
 use Rattle.brooklet_step.proofs.Standing.{stands_shape}
-use Rattle.brooklet_step.proofs.GivenLemmas.{at-nil, at-append, at-length, at-same, of_held, all_held, typed_append, typed_word, at_word, word_append, ran_more}
+use Rattle.brooklet_step.proofs.GivenLemmas.{at-nil, at-append, at-length, at-same, of_held, all_held, at_word, word_append, ran_more}
 use Rattle.brooklet_step.proofs.GivenLemmas.{fit_of, leaf_kept, leaf_to, leaf_from}
 
 -- KERNELS WITHOUT A KERNEL INSIDE
@@ -55,19 +56,20 @@ leaf_does k port i out out' st st' l f = record {
       let t = fire_typed k reads writes vars port i s.0 fits shape s.2 (of_held reads port i hi) in
       record {
         gives = record {
-          given = λ w x tw tx sa h.
+          given = λ start w x is_start tw tx sa h.
               let e : x ≡ i = head_item x i (sym (at-same reads port (at_port port w) (x ∷ [])) ∙ h) in
-              let ss = (ran k w).states in
+              let before = ran k start w in
+              let ss = before.states in
               let one : Took out out' (fire k port x ss) × StandsFor k st' (fire k port x ss).states =
-              subst (λ y. Took out out' (fire k port y ss) × StandsFor k st' (fire k port y ss).states) (sym e) (f.given ss (leaf_to k st w l sa)) in
+              subst (λ y. Took out out' (fire k port y ss) × StandsFor k st' (fire k port y ss).states) (sym e) (f.given ss (leaf_to k reads start st w l sa)) in
               let r = fire k port x ss in (
                 record {
                   outs =
                       one.0.outs
-                      ∙ each_grew_cong out.outs r.outs (λ p. held_at writes p ((ran k w).outs p) (r.outs p)) (λ p lt. sym (at-same writes p ((ran k w).outs p) (r.outs p)));
+                      ∙ each_grew_cong out.outs r.outs (λ p. held_at writes p (before.outs p) (r.outs p)) (λ p lt. sym (at-same writes p (before.outs p) (r.outs p)));
                   adds = one.0.adds;
                 },
-                leaf_from k st' (w ++ (port, x) ∷ []) l (subst (StandsFor k st') (sym (ran_more k w port x).states) one.1),
+                leaf_from k reads start st' (w ++ (port, x) ∷ []) l (subst (StandsFor k st') (sym (ran_more k start w port x).states) one.1),
               );
         };
         came = record {
@@ -97,14 +99,15 @@ run-append f (e ∷ u) v ss =
     }
 
 -- the firings of a word and then of a list at the first port
-pub ran_feed : (k : Kern) (u : Word) (zs : List item.Item) → Same (ran k (u ++ word_of 0 zs)) (and_then (ran k u) (feed (fire k 0) zs (ran k u).states))
-ran_feed k u zs =
-    subst (λ (r : Fired). Same (ran k (u ++ word_of 0 zs)) (and_then (ran k u) r)) (feed_word (fire k) 0 zs (ran k u).states) (run-append (fire k) u (word_of 0 zs) (first_kept k))
+pub ran_feed : (k : Kern) (ss : List Kept) (u : Word) (zs : List item.Item)
+    → Same (ran k ss (u ++ word_of 0 zs)) (and_then (ran k ss u) (feed (fire k 0) zs (ran k ss u).states))
+ran_feed k ss u zs =
+    subst (λ (r : Fired). Same (ran k ss (u ++ word_of 0 zs)) (and_then (ran k ss u) r)) (feed_word (fire k) 0 zs (ran k ss u).states) (run-append (fire k) u (word_of 0 zs) ss)
 
 pub each_start : (k : Kern) (out : Emit) (st : List State) → FiresEach k [] out out st st
 each_start k out st = record {
   each = λ reads writes vars fits fs hs. record {
-    gives = record { given = λ w xs tw txs sa h. nothing writes w xs sa (len reads w xs h) };
+    gives = record { given = λ start w xs s tw txs sa h. nothing reads writes start w xs sa (len reads w xs h) };
     came =
         record { outs = none; adds = none; outs_are = sym (each_grew-none out.outs); adds_are = sym (each_grew-none out.adds); held = λ p. All-nil (IsHeldOf writes p); wide = λ t. All-nil (IsWide (slice_get (widths_in vars) t)); again = fs };
   };
@@ -113,18 +116,18 @@ each_start k out st = record {
     len : (reads : List QueueType) (w : Word) (xs : List item.Item) → held_at reads 0 (at_port 0 w) xs ≡ [] → length xs ≡ 0
     len reads w xs h = sym (at-length reads 0 (at_port 0 w) xs) ∙ ap length h
 
-    nothing : (writes : List QueueType) (w : Word) (xs : List item.Item) → StandsAfter k st w → length xs ≡ 0
-        → TookHeld writes (ran k w) out out (feed (fire k 0) xs (ran k w).states) × StandsAfter k st (w ++ word_of 0 xs)
-    nothing writes w [] sa e = (
+    nothing : (reads writes : List QueueType) (ss : List Kept) (w : Word) (xs : List item.Item) → StandsAfter k reads ss st w → length xs ≡ 0
+        → TookHeld writes (ran k ss w) out out (feed (fire k 0) xs (ran k ss w).states) × StandsAfter k reads ss st (w ++ word_of 0 xs)
+    nothing reads writes ss w [] sa e = (
       record {
         outs =
             sym (each_grew-none out.outs)
-            ∙ each_grew_cong out.outs none (λ p. held_at writes p ((ran k w).outs p) []) (λ p lt. sym (at-nil writes p ((ran k w).outs p)));
+            ∙ each_grew_cong out.outs none (λ p. held_at writes p ((ran k ss w).outs p) []) (λ p lt. sym (at-nil writes p ((ran k ss w).outs p)));
         adds = sym (each_grew-none out.adds);
       },
-      subst (StandsAfter k st) (sym (append-nil w)) sa,
+      subst (StandsAfter k reads ss st) (sym (append-nil w)) sa,
     )
-    nothing writes w (x ∷ xs) sa e = absurd (omega (arith, e))
+    nothing reads writes ss w (x ∷ xs) sa e = absurd (omega (arith, e))
 
 -- two lists in a row that are as long as two others in a row are the same, part by part
 pub split_same : {A : Type 0} (a b c d : List A) → length a ≡ length c → a ++ b ≡ c ++ d → (a ≡ c) × (b ≡ d)
@@ -160,11 +163,11 @@ each_step k is i st st1 st2 e e' e'' f u = record {
       let b = u.each reads writes vars fits a.came.again (all_last (IsHeldOf reads 0) is i hs) in
       record {
         gives = record {
-          given = λ w xs tw txs sa h.
+          given = λ start w xs is_start tw txs sa h.
               let n : length xs ≡ length is + 1 = sym (at-length reads 0 (at_port 0 w) xs) ∙ ap length h ∙ length-append is (i ∷ []) in
               let s = last_split xs (length is) n in
-              subst (λ (l : List item.Item). TookHeld writes (ran k w) e e'' (feed (fire k 0) l (ran k w).states) × StandsAfter k st2 (w ++ word_of 0 l)) (sym s.2)
-              (more reads writes w s.0 s.1 tw (subst (All (IsOf reads 0)) s.2 txs) sa (ap (held_at reads 0 (at_port 0 w)) (sym s.2) ∙ h) s.3 a.gives b.gives);
+              subst (λ (l : List item.Item). TookHeld writes (ran k start w) e e'' (feed (fire k 0) l (ran k start w).states) × StandsAfter k reads start st2 (w ++ word_of 0 l)) (sym s.2)
+              (more reads writes start is_start w s.0 s.1 tw (subst (All (IsOf reads 0)) s.2 txs) sa (ap (held_at reads 0 (at_port 0 w)) (sym s.2) ∙ h) s.3 a.gives b.gives);
         };
         came = record {
           outs = λ p. a.came.outs p ++ b.came.outs p;
@@ -178,33 +181,36 @@ each_step k is i st st1 st2 e e' e'' f u = record {
       };
 }
   where
-    more : (reads writes : List QueueType) (w : Word) (ys : List item.Item) (y : item.Item) → AreTyped reads w → All (IsOf reads 0) (ys ++ y ∷ [])
-        → StandsAfter k st w → held_at reads 0 (at_port 0 w) (ys ++ y ∷ []) ≡ is ++ i ∷ [] → length ys ≡ length is
+    more : (reads writes : List QueueType) (start : List Kept) → IsStart k reads start → (w : Word) (ys : List item.Item) (y : item.Item) → IsWordOf reads w
+        → All (IsOf reads 0) (ys ++ y ∷ []) → StandsAfter k reads start st w → held_at reads 0 (at_port 0 w) (ys ++ y ∷ []) ≡ is ++ i ∷ [] → length ys ≡ length is
         → GivesAll k reads writes is e e' st st1 → Gives k reads writes 0 i e' e'' st1 st2
-        → TookHeld writes (ran k w) e e'' (feed (fire k 0) (ys ++ y ∷ []) (ran k w).states) × StandsAfter k st2 (w ++ word_of 0 (ys ++ y ∷ []))
-    more reads writes w ys y tw txs sa h l ga gb =
+        → TookHeld writes (ran k start w) e e'' (feed (fire k 0) (ys ++ y ∷ []) (ran k start w).states)
+        × StandsAfter k reads start st2 (w ++ word_of 0 (ys ++ y ∷ []))
+    more reads writes start is_start w ys y tw txs sa h l ga gb =
         let past = at_port 0 w in
+        let before = ran k start w in
         let parts = split_same (held_at reads 0 past ys) (held_at reads 0 (past ++ ys) (y ∷ [])) is (i ∷ []) (at-length reads 0 past ys ∙ l) (sym (at-append reads 0 past ys (y ∷ [])) ∙ h) in
-        let one = ga.given w ys tw (all_left (IsOf reads 0) ys (y ∷ []) txs) sa parts.0 in
+        let one = ga.given start w ys is_start tw (all_left (IsOf reads 0) ys (y ∷ []) txs) sa parts.0 in
         let w1 = w ++ word_of 0 ys in
         let port_is : at_port 0 w1 ≡ past ++ ys = at_port-append 0 w (word_of 0 ys) ∙ ap (λ m. past ++ m) (at_word 0 ys) in
-        let two = gb.given w1 y (typed_append reads w (word_of 0 ys) tw (typed_word reads 0 ys (all_left (IsOf reads 0) ys (y ∷ []) txs))) (all_last (IsOf reads 0) ys y txs) one.1 (ap (λ m. held_at reads 0 m (y ∷ [])) port_is ∙ parts.1) in
-        let r = feed (fire k 0) ys (ran k w).states in
-        let mid : Same (ran k w1) (and_then (ran k w) r) = ran_feed k w ys in
+        let two = gb.given start w1 y is_start (at_append reads w (word_of 0 ys) tw (word_typed reads 0 ys (all_left (IsOf reads 0) ys (y ∷ []) txs))) (all_last (IsOf reads 0) ys y txs) one.1 (ap (λ m. held_at reads 0 m (y ∷ [])) port_is ∙ parts.1) in
+        let r = feed (fire k 0) ys before.states in
+        let after = ran k start w1 in
+        let mid : Same after (and_then before r) = ran_feed k start w ys in
         let last = fire k 0 y r.states in
-        let all = feed-append (fire k 0) ys (y ∷ []) (ran k w).states in
+        let all = feed-append (fire k 0) ys (y ∷ []) before.states in
         let fone = feed_one (fire k 0) y r.states in
-        let two' : TookHeld writes (ran k w1) e' e'' last = subst (λ us. TookHeld writes (ran k w1) e' e'' (fire k 0 y us)) mid.states two.0 in
-        let whole = feed (fire k 0) (ys ++ y ∷ []) (ran k w).states in (
+        let two' : TookHeld writes after e' e'' last = subst (λ us. TookHeld writes after e' e'' (fire k 0 y us)) mid.states two.0 in
+        let whole = feed (fire k 0) (ys ++ y ∷ []) before.states in (
           record {
-            outs = two'.outs ∙ ap (λ m. each_grew m (λ p. held_at writes p ((ran k w1).outs p) (last.outs p))) one.0.outs
-                ∙ each_grew-each_grew e.outs (λ p. held_at writes p ((ran k w).outs p) (r.outs p)) (λ p. held_at writes p ((ran k w1).outs p) (last.outs p))
-                ∙ each_grew_cong e.outs (λ p. held_at writes p ((ran k w).outs p) (r.outs p) ++ held_at writes p ((ran k w1).outs p) (last.outs p)) (λ p. held_at writes p ((ran k w).outs p) (whole.outs p))
-                (λ p lt. ap (λ m. held_at writes p ((ran k w).outs p) (r.outs p) ++ held_at writes p m (last.outs p)) (mid.outs p)
-                ∙ sym (at-append writes p ((ran k w).outs p) (r.outs p) (last.outs p))
-                ∙ ap (held_at writes p ((ran k w).outs p)) (ap (λ m. r.outs p ++ m) (sym (fone.outs p)) ∙ sym (all.outs p)));
+            outs = two'.outs ∙ ap (λ m. each_grew m (λ p. held_at writes p (after.outs p) (last.outs p))) one.0.outs
+                ∙ each_grew-each_grew e.outs (λ p. held_at writes p (before.outs p) (r.outs p)) (λ p. held_at writes p (after.outs p) (last.outs p))
+                ∙ each_grew_cong e.outs (λ p. held_at writes p (before.outs p) (r.outs p) ++ held_at writes p (after.outs p) (last.outs p)) (λ p. held_at writes p (before.outs p) (whole.outs p))
+                (λ p lt. ap (λ m. held_at writes p (before.outs p) (r.outs p) ++ held_at writes p m (last.outs p)) (mid.outs p)
+                ∙ sym (at-append writes p (before.outs p) (r.outs p) (last.outs p))
+                ∙ ap (held_at writes p (before.outs p)) (ap (λ m. r.outs p ++ m) (sym (fone.outs p)) ∙ sym (all.outs p)));
             adds = two'.adds ∙ ap (λ m. each_grew m last.adds) one.0.adds ∙ each_grew-each_grew e.adds r.adds last.adds
                 ∙ each_grew_cong e.adds (λ p. r.adds p ++ last.adds p) whole.adds (λ p lt. ap (λ m. r.adds p ++ m) (sym (fone.adds p)) ∙ sym (all.adds p));
           },
-          subst (StandsAfter k st2) (append_assoc w (word_of 0 ys) ((0, y) ∷ []) ∙ ap (λ m. w ++ m) (sym (word_append 0 ys (y ∷ [])))) two.1,
+          subst (StandsAfter k reads start st2) (append_assoc w (word_of 0 ys) ((0, y) ∷ []) ∙ ap (λ m. w ++ m) (sym (word_append 0 ys (y ∷ [])))) two.1,
         )

@@ -15,19 +15,18 @@ use Rattle.river_kernels.specs.Kern.{Kern, code, filter, duplicate, deal, collec
 use Rattle.brooklet_model.specs.Firings.{Kept, Slots, Buffered, Turn, Joining, Received, Crossing, Same, and_then}
 use Rattle.brooklet_model.specs.Fire.{fire, first_kept, privates, kept_vars}
 use Rattle.brooklet_model.specs.Shapes.{IsShaped, HasShape}
-use Rattle.brooklet_model.specs.Typed.{IsTyped, IsOf, AreOf, AreWaiting, AreReceived, ArePaired, Holds, between}
+use Rattle.brooklet_model.specs.Typed.{IsTyped, IsOf, AreOf, AreWaiting, AreReceived, ArePaired, Holds, IsWordOf, IsStart, between}
 use Rattle.brooklet_model.specs.Words.{Word, run, at_port, word_of}
 use Rattle.brooklet_model.proofs.Lists.{take_front, drop_front}
-use Rattle.brooklet_model.proofs.Ports.{shaped}
 use Rattle.brooklet_model.proofs.Shapes.{first_shape, fire_shape, shape_length}
 use Rattle.brooklet_model.proofs.Swaps.{at_port_here}
 use Rattle.brooklet_model.proofs.Free.{at_port-append}
 use Rattle.brooklet_model.proofs.Traces.{run_more}
 use Rattle.brooklet_model.proofs.Typing.{first_holds}
-use Rattle.brooklet_model.proofs.TypedPlan.{AreAt, run_typed}
+use Rattle.brooklet_model.proofs.TypedPlan.{at_append, run_typed}
 use Rattle.brooklet_step.specs.declared.state.State.{State}
 use Rattle.brooklet_step.specs.Stands.{StandsFor, StandsForSlots}
-use Rattle.brooklet_step.specs.Given.{held_by, held_at, IsHeldBy, IsHeldOf, AreHeldOf, AreTyped, FitSlots, FitState, IsLeaf, ran, StandsAfter}
+use Rattle.brooklet_step.specs.Given.{held_by, held_at, IsHeldBy, IsHeldOf, AreHeldOf, FitSlots, FitState, IsLeaf, ran, StandsAfter}
 
 -- QUEUES AT PORTS
 
@@ -85,18 +84,6 @@ all_typed ts p (x ∷ xs) h = All-cons (IsOf ts p) x xs (of_held ts p x (All-hea
 
 -- WORDS
 
-pub typed_append : (ts : List QueueType) (u w : Word) → AreTyped ts u → AreTyped ts w → AreTyped ts (u ++ w)
-typed_append ts [] w a b = b
-typed_append ts (e ∷ es) w a b = (a.0, typed_append ts es w a.1 b)
-
-pub typed_word : (ts : List QueueType) (p : ℕ) (xs : List item.Item) → All (IsOf ts p) xs → AreTyped ts (word_of p xs)
-typed_word ts p [] h = tt
-typed_word ts p (x ∷ xs) h = (All-head (IsOf ts p) x xs h, typed_word ts p xs (All-tail (IsOf ts p) x xs h))
-
-typed_at : (ts : List QueueType) (w : Word) → AreTyped ts w → AreAt ts w
-typed_at ts [] a = tt
-typed_at ts (e ∷ es) a = (a.0, typed_at ts es a.1)
-
 pub at_word : (p : ℕ) (xs : List item.Item) → at_port p (word_of p xs) ≡ xs
 at_word p [] = refl
 at_word p (x ∷ xs) = at_port_here p (p, x) (word_of p xs) refl ∙ ap (λ l. x ∷ l) (at_word p xs)
@@ -110,23 +97,28 @@ pub at_next : (p : ℕ) (w : Word) (x : item.Item) → at_port p (w ++ (p, x) �
 at_next p w x = at_port-append p w ((p, x) ∷ []) ∙ ap (λ l. at_port p w ++ l) (at_word p (x ∷ []))
 
 -- one more firing
-pub ran_more : (k : Kern) (w : Word) (p : ℕ) (x : item.Item) → Same (ran k (w ++ (p, x) ∷ [])) (and_then (ran k w) (fire k p x (ran k w).states))
-ran_more k w p x = run_more (fire k) w p x (first_kept k)
+pub ran_more : (k : Kern) (ss : List Kept) (w : Word) (p : ℕ) (x : item.Item)
+    → Same (ran k ss (w ++ (p, x) ∷ [])) (and_then (ran k ss w) (fire k p x (ran k ss w).states))
+ran_more k ss w p x = run_more (fire k) w p x ss
 
 all_right : (P : item.Item → Type 0) (xs ys : List item.Item) → All P (xs ++ ys) → All P ys
 all_right P [] ys h = h
 all_right P (x ∷ xs) ys h = all_right P xs ys (All-tail P x (xs ++ ys) h)
 
 -- what is given for typed items is typed
-pub ran_typed : (k : Kern) (is os : List QueueType) (vs : List VarKind) (w : Word) → Fits k is os vs → AreTyped is w → AreOf os (ran k w).outs
-ran_typed k is os vs w f a =
-    run_typed k is os vs w (first_kept k) f (first_shape k (shaped k is os vs f)) (first_holds k is (shaped k is os vs f)) (typed_at is w a)
+pub ran_typed : (k : Kern) (is os : List QueueType) (vs : List VarKind) (ss : List Kept) (w : Word) → Fits k is os vs → IsStart k is ss → IsWordOf is w
+    → AreOf os (ran k ss w).outs
+ran_typed k is os vs ss w f s a = run_typed k is os vs w ss f s.shape s.holds a
 
-pub fired_typed : (k : Kern) (is os : List QueueType) (vs : List VarKind) (w : Word) (p : ℕ) (x : item.Item) → Fits k is os vs → AreTyped is w → IsOf is p x
-    → AreOf os (fire k p x (ran k w).states).outs
-fired_typed k is os vs w p x f a i q =
-    let all = ran_typed k is os vs (w ++ (p, x) ∷ []) f (typed_append is w ((p, x) ∷ []) a (i, tt)) q in
-    all_right (IsOf os q) ((ran k w).outs q) ((fire k p x (ran k w).states).outs q) (subst (All (IsOf os q)) ((ran_more k w p x).outs q) all)
+pub fired_typed : (k : Kern) (is os : List QueueType) (vs : List VarKind) (ss : List Kept) (w : Word) (p : ℕ) (x : item.Item) → Fits k is os vs
+    → IsStart k is ss → IsWordOf is w → IsOf is p x → AreOf os (fire k p x (ran k ss w).states).outs
+fired_typed k is os vs ss w p x f s a i q =
+    let all = ran_typed k is os vs ss (w ++ (p, x) ∷ []) f s (at_append is w ((p, x) ∷ []) a (i, tt)) q in
+    all_right (IsOf os q) ((ran k ss w).outs q) ((fire k p x (ran k ss w).states).outs q) (subst (All (IsOf os q)) ((ran_more k ss w p x).outs q) all)
+
+-- the first states of a kernel that fits some types are a start
+pub first_is_start : (k : Kern) (is : List QueueType) → IsShaped k → IsStart k is (first_kept k)
+first_is_start k is s = record { shape = first_shape k s; holds = first_holds k is s }
 
 -- WHAT STATES ARE
 
@@ -229,49 +221,55 @@ parts_fit a b at is st st' h h' =
     let l = fit_length a is st h in
     (subst (FitState a is) (sym (take_front st st' (privates a) l)) h, subst (FitState b (between at (types_of a is))) (sym (drop_front st st' (privates a) l)) h')
 
-pub parts_after : (a b : Kern) (at : ℕ) (is : List QueueType) (st st' : List State) (w : Word) → FitState a is st → StandsAfter a st w
-    → StandsAfter b st' (word_of 0 ((ran a w).outs at)) → StandsAfter (fused a b at) (st ++ st') w
-parts_after a b at is st st' w f h h' =
-    let l = fit_length a is st f in
-    (subst (λ (u : List State). StandsAfter a u w) (sym (take_front st st' (privates a) l)) h, subst (λ (u : List State). StandsAfter b u (word_of 0 ((ran a w).outs at))) (sym (drop_front st st' (privates a) l)) h')
+pub parts_after : (a b : Kern) (at : ℕ) (is : List QueueType) (ss : List Kept) (st st' : List State) (w : Word) → length st ≡ privates a
+    → StandsAfter a is (take (privates a) ss) st w
+    → StandsAfter b (between at (types_of a is)) (drop (privates a) ss) st' (word_of 0 ((ran a (take (privates a) ss) w).outs at))
+    → StandsAfter (fused a b at) is ss (st ++ st') w
+parts_after a b at is ss st st' w l h h' =
+    let n = privates a in (
+      subst (λ (u : List State). StandsAfter a is (take n ss) u w) (sym (take_front st st' n l)) h,
+      subst (λ (u : List State). StandsAfter b (between at (types_of a is)) (drop n ss) u (word_of 0 ((ran a (take n ss) w).outs at))) (sym (drop_front st st' n l)) h',
+    )
 
 -- LEAVES
 
-pub leaf_to : (k : Kern) (st : List State) (w : Word) → IsLeaf k → StandsAfter k st w → StandsFor k st (ran k w).states
-leaf_to (code k) st w l h = h
-leaf_to (filter f) st w l h = h
-leaf_to (duplicate n) st w l h = h
-leaf_to (deal ws) st w l h = h
-leaf_to (collect ws) st w l h = h
-leaf_to (packed k) st w l h = absurd l
-leaf_to (unpack n) st w l h = h
-leaf_to (window v) st w l h = h
-leaf_to (select e) st w l h = h
-leaf_to (project es) st w l h = h
-leaf_to cross st w l h = h
-leaf_to (streamer s) st w l h = h
-leaf_to tally st w l h = h
-leaf_to (fused a b at) st w l h = absurd l
+pub leaf_to : (k : Kern) (is : List QueueType) (ss : List Kept) (st : List State) (w : Word) → IsLeaf k → StandsAfter k is ss st w
+    → StandsFor k st (ran k ss w).states
+leaf_to (code k) is ss st w l h = h
+leaf_to (filter f) is ss st w l h = h
+leaf_to (duplicate n) is ss st w l h = h
+leaf_to (deal ws) is ss st w l h = h
+leaf_to (collect ws) is ss st w l h = h
+leaf_to (packed k) is ss st w l h = absurd l
+leaf_to (unpack n) is ss st w l h = h
+leaf_to (window v) is ss st w l h = h
+leaf_to (select e) is ss st w l h = h
+leaf_to (project es) is ss st w l h = h
+leaf_to cross is ss st w l h = h
+leaf_to (streamer s) is ss st w l h = h
+leaf_to tally is ss st w l h = h
+leaf_to (fused a b at) is ss st w l h = absurd l
 
-pub leaf_from : (k : Kern) (st : List State) (w : Word) → IsLeaf k → StandsFor k st (ran k w).states → StandsAfter k st w
-leaf_from (code k) st w l h = h
-leaf_from (filter f) st w l h = h
-leaf_from (duplicate n) st w l h = h
-leaf_from (deal ws) st w l h = h
-leaf_from (collect ws) st w l h = h
-leaf_from (packed k) st w l h = absurd l
-leaf_from (unpack n) st w l h = h
-leaf_from (window v) st w l h = h
-leaf_from (select e) st w l h = h
-leaf_from (project es) st w l h = h
-leaf_from cross st w l h = h
-leaf_from (streamer s) st w l h = h
-leaf_from tally st w l h = h
-leaf_from (fused a b at) st w l h = absurd l
+pub leaf_from : (k : Kern) (is : List QueueType) (ss : List Kept) (st : List State) (w : Word) → IsLeaf k → StandsFor k st (ran k ss w).states
+    → StandsAfter k is ss st w
+leaf_from (code k) is ss st w l h = h
+leaf_from (filter f) is ss st w l h = h
+leaf_from (duplicate n) is ss st w l h = h
+leaf_from (deal ws) is ss st w l h = h
+leaf_from (collect ws) is ss st w l h = h
+leaf_from (packed k) is ss st w l h = absurd l
+leaf_from (unpack n) is ss st w l h = h
+leaf_from (window v) is ss st w l h = h
+leaf_from (select e) is ss st w l h = h
+leaf_from (project es) is ss st w l h = h
+leaf_from cross is ss st w l h = h
+leaf_from (streamer s) is ss st w l h = h
+leaf_from tally is ss st w l h = h
+leaf_from (fused a b at) is ss st w l h = absurd l
 
 shape_ran : (k : Kern) (w : Word) (ss : List Kept) → IsShaped k → HasShape k ss → HasShape k (run (fire k) w ss).states
 shape_ran k [] ss s h = h
 shape_ran k (e ∷ es) ss s h = shape_ran k es (fire k e.0 e.1 ss).states s (fire_shape k e.0 e.1 ss s h)
 
-pub ran_length : (k : Kern) (w : Word) → IsShaped k → length (ran k w).states ≡ privates k
-ran_length k w s = shape_length k (ran k w).states (shape_ran k w (first_kept k) s (first_shape k s))
+pub ran_length : (k : Kern) (ss : List Kept) (w : Word) → IsShaped k → HasShape k ss → length (ran k ss w).states ≡ privates k
+ran_length k ss w s h = shape_length k (ran k ss w).states (shape_ran k w ss s h)

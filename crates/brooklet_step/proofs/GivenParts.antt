@@ -18,16 +18,16 @@ use Rattle.river_kernels.specs.Fits.{Fits, spliced}
 use Rattle.river_kernels.specs.Types.{types_of}
 use Rattle.river_kernels.specs.Kern.{Kern, packed, fused}
 use Rattle.brooklet_model.specs.Firings.{Kept, Fired, Same, feed, splice, beside, fused_of, gives}
-use Rattle.brooklet_model.specs.Fire.{fire, first_kept, outs, tabs, privates}
-use Rattle.brooklet_model.specs.Shapes.{IsShaped}
-use Rattle.brooklet_model.specs.Typed.{IsTyped, between, widths_in, IsWide}
+use Rattle.brooklet_model.specs.Fire.{fire, outs, tabs, privates}
+use Rattle.brooklet_model.specs.Shapes.{IsShaped, HasShape}
+use Rattle.brooklet_model.specs.Typed.{IsTyped, IsStart, Holds, between, widths_in, IsWide}
 use Rattle.brooklet_model.specs.Words.{Word, run, word_of}
 use Rattle.brooklet_model.proofs.Lists.{take_front, drop_front}
 use Rattle.brooklet_model.proofs.Feeds.{feed_word}
 use Rattle.brooklet_model.proofs.FusedRun.{fused_runs}
 use Rattle.brooklet_model.proofs.Ports.{shaped, counts}
-use Rattle.brooklet_model.proofs.Shapes.{first_shape, shape_length}
 use Rattle.brooklet_model.proofs.Spliced.{splice_first, splice_second, splice_last, spliced_got, spliced_all}
+use Rattle.brooklet_model.proofs.TypedPlan.{at_word as word_typed}
 use Rattle.brooklet_model.proofs.Typing.{between_is}
 use Rattle.brooklet_model.proofs.WideAdds.{fused_wide}
 use Rattle.brooklet_step.specs.declared.emit.Emit.{Emit}
@@ -36,7 +36,7 @@ use Rattle.brooklet_step.specs.Took.{Took, HasRoom, IsBlank}
 use Rattle.brooklet_step.specs.Given.{held_by, held_at, IsHeldBy, IsHeldOf, FitState, ran, StandsAfter, TookHeld, Came, Does, FiresAt, FiresEach}
 use Rattle.brooklet_step.proofs.Fires.{grown_list, flats-append, blank_room}
 use Rattle.brooklet_step.proofs.Fused.{splice_cong, beside_cong}
-use Rattle.brooklet_step.proofs.GivenLemmas.{typed_word, at_word, word_append, ran_more, ran_length, ran_typed, fired_typed, parts_fit, parts_after}
+use Rattle.brooklet_step.proofs.GivenLemmas.{at_word, word_append, ran_more, ran_length, ran_typed, fired_typed, fit_length, parts_fit, parts_after}
 
 -- ROOM
 
@@ -64,7 +64,7 @@ flats_held t (Flat f ∷ xs) h =
 flats_held t (Pack fs ∷ xs) h = flats_held t xs (All-tail (IsHeld (FlatOf t)) (Pack fs) xs h)
 
 -- a kernel in a pack has the states of the kernel, and gives its items in packs
-packed_states : (k : Kern) (w : Word) (ss : List Kept) → (run (fire (packed k)) w ss).states ≡ (run (fire k) w ss).states
+pub packed_states : (k : Kern) (w : Word) (ss : List Kept) → (run (fire (packed k)) w ss).states ≡ (run (fire k) w ss).states
 packed_states k [] ss = refl
 packed_states k (e ∷ es) ss = packed_states k es (fire k e.0 e.1 ss).states
 
@@ -89,18 +89,20 @@ packed_does j port i st st' out out' e e' items fs b f ei ef took = record {
       let is : items ≡ d.came.outs 0 = ei ∙ grown_list 1 e.outs e'.outs d.came.outs 0 b d.came.outs_are (omega arith) in
       subst (λ (os : List QueueType). Does (packed j) reads os vars port i out out' st st') (sym fits.3) (record {
         gives = record {
-          given = λ w x tw tx sa h.
-              let g = d.gives.given w x tw tx sa h in
-              let sj = (ran j w).states in
+          given = λ start w x is_start tw tx sa h.
+              let s : IsStart j reads start = record { shape = is_start.shape; holds = is_start.holds } in
+              let g = d.gives.given start w x s tw tx sa h in
+              let before = ran j start w in
+              let sj = before.states in
               let r = fire j port x sj in
-              let past = (ran j w).outs 0 in
+              let past = before.outs 0 in
               let xs = r.outs 0 in
-              let typed_past : All (HasType (FlatOf u)) past = ran_typed j reads (FlatOf u ∷ []) [] w fj tw 0 in
-              let typed_xs : All (HasType (FlatOf u)) xs = fired_typed j reads (FlatOf u ∷ []) [] w port x fj tw tx 0 in
-              let came : items ≡ held (FlatOf u) past xs = ei ∙ grown_list 1 e.outs e'.outs (λ p. held_at (FlatOf u ∷ []) p ((ran j w).outs p) (r.outs p)) 0 b g.0.outs (omega arith) in
-              let whole = ran (packed j) w in
-              let states : whole.states ≡ sj = packed_states j w (first_kept j) in
-              let opens : opened (whole.outs 0) ≡ past = packed_items j w (first_kept j) ∙ items-flats u past typed_past in
+              let typed_past : All (HasType (FlatOf u)) past = ran_typed j reads (FlatOf u ∷ []) [] start w fj s tw 0 in
+              let typed_xs : All (HasType (FlatOf u)) xs = fired_typed j reads (FlatOf u ∷ []) [] start w port x fj s tw tx 0 in
+              let came : items ≡ held (FlatOf u) past xs = ei ∙ grown_list 1 e.outs e'.outs (λ p. held_at (FlatOf u ∷ []) p (before.outs p) (r.outs p)) 0 b g.0.outs (omega arith) in
+              let whole = ran (packed j) start w in
+              let states : whole.states ≡ sj = packed_states j w start in
+              let opens : opened (whole.outs 0) ≡ past = packed_items j w start ∙ items-flats u past typed_past in
               let pack : held (PackOf u) (whole.outs 0) (Pack (flats xs) ∷ []) ≡ Pack fs ∷ [] =
               held-pack u (whole.outs 0) (flats xs)
               ∙ ap (λ (l : List item.Item). Pack (flats (held (FlatOf u) l (as_items (flats xs)))) ∷ []) opens
@@ -165,19 +167,13 @@ splice_held ms bs at p P R Q S lt =
         (cases_lt p at)
 
 -- all that two kernels as one gave, part by part
-pub fused_ran : (a b : Kern) (at : ℕ) (w : Word) → IsShaped (fused a b at)
-    → Same (ran (fused a b at) w) (fused_of at (outs b) (tabs a) (ran a w) (λ xs. ran b (word_of 0 xs)))
-fused_ran a b at w s =
+pub fused_ran : (a b : Kern) (at : ℕ) (ss : List Kept) (w : Word) → IsShaped (fused a b at) → HasShape (fused a b at) ss
+    → Same (ran (fused a b at) ss w) (fused_of at (outs b) (tabs a) (ran a (take (privates a) ss) w) (λ xs. ran b (drop (privates a) ss) (word_of 0 xs)))
+fused_ran a b at ss w s h =
     let k = fused a b at in
-    let sa = first_kept a in
-    let sb = first_kept b in
-    let la = shape_length a sa (first_shape a s.0) in
-    let h = fused_runs a b at w (sa ++ sb) s (first_shape k s) in
-    let h1 : Same (ran k w) (fused_of at (outs b) (tabs a) (run (fire a) w sa) (λ xs. feed (fire b 0) xs (drop (privates a) (sa ++ sb)))) =
-    subst (λ us. Same (ran k w) (fused_of at (outs b) (tabs a) (run (fire a) w us) (λ xs. feed (fire b 0) xs (drop (privates a) (sa ++ sb))))) (take_front sa sb (privates a) la) h in
-    let h2 : Same (ran k w) (fused_of at (outs b) (tabs a) (ran a w) (λ xs. feed (fire b 0) xs sb)) =
-    subst (λ us. Same (ran k w) (fused_of at (outs b) (tabs a) (ran a w) (λ xs. feed (fire b 0) xs us))) (drop_front sa sb (privates a) la) h1 in
-    subst (λ (r : Fired). Same (ran k w) (fused_of at (outs b) (tabs a) (ran a w) (λ xs. r))) (sym (feed_word (fire b) 0 ((ran a w).outs at) sb)) h2
+    let ra = ran a (take (privates a) ss) w in
+    let sb = drop (privates a) ss in
+    subst (λ (r : Fired). Same (ran k ss w) (fused_of at (outs b) (tabs a) ra (λ xs. r))) (sym (feed_word (fire b) 0 (ra.outs at) sb)) (fused_runs a b at w ss s h)
 
 pub fused_does : (a b : Kern) (at port : ℕ) (i : item.Item) (st mine' rest' : List State) (out new mid0 mid last0 last : Emit) (items : List item.Item)
     → HasRoom (fused a b at) out → IsBlank a mid0 → FiresAt a port i mid0 mid (take (privates a) st) mine' → IsBlank b last0 → items ≡ list_at mid.outs at
@@ -220,38 +216,47 @@ fused_does a b at port i st mine' rest' out new mid0 mid last0 last items room b
         (λ q hq. grown_list (tabs b) last0.adds last.adds gb q bl.adds emb hq)) in
         record {
           gives = record {
-            given = λ w x tw tx sa h.
-                let one = da.gives.given w x tw tx sa.0 h in
-                let wa = ran a w in
+            given = λ start w x is_start tw tx sa h.
+                let start_a = take (privates a) start in
+                let start_b = drop (privates a) start in
+                let is_a : IsStart a reads start_a = record { shape = is_start.shape.0; holds = is_start.holds.0 } in
+                let is_b : IsStart b (m ∷ []) start_b = record { shape = is_start.shape.1; holds = subst (λ (l : List QueueType). Holds b l start_b) mid_is is_start.holds.1 } in
+                let one = da.gives.given start_a w x is_a tw tx sa.0 h in
+                let wa = ran a start_a w in
                 let past = wa.outs at in
                 let ra = fire a port x wa.states in
                 let xs = ra.outs at in
                 let wb = word_of 0 past in
-                let typed_past : All (HasType m) past = subst (λ o. All (IsTyped o) past) g (ran_typed a reads ms us w fa tw at) in
-                let typed_xs : All (HasType m) xs = subst (λ o. All (IsTyped o) xs) g (fired_typed a reads ms us w port x fa tw tx at) in
+                let typed_past : All (HasType m) past = subst (λ o. All (IsTyped o) past) g (ran_typed a reads ms us start_a w fa is_a tw at) in
+                let typed_xs : All (HasType m) xs = subst (λ o. All (IsTyped o) xs) g (fired_typed a reads ms us start_a w port x fa is_a tw tx at) in
                 let came : items ≡ held m past xs = is ∙ grown_list (outs a) mid0.outs mid.outs (λ p. held_at ms p (wa.outs p) (ra.outs p)) at bm.outs one.0.outs s.2 ∙ ap (λ o. held_by o past xs) g in
-                let two = db.gives.given wb xs (typed_word (m ∷ []) 0 past typed_past) typed_xs sa.1 (ap (λ l. held m l xs) (at_word 0 past) ∙ sym came) in
-                let rb = feed (fire b 0) xs (ran b wb).states in
-                let whole = ran k w in
-                let parts = fused_ran a b at w s in
-                let la : length wa.states ≡ privates a = ran_length a w s.0 in
-                let ta : take (privates a) whole.states ≡ wa.states = ap (take (privates a)) parts.states ∙ take_front wa.states (ran b wb).states (privates a) la in
-                let tb : drop (privates a) whole.states ≡ (ran b wb).states = ap (drop (privates a)) parts.states ∙ drop_front wa.states (ran b wb).states (privates a) la in
-                let r_is : fused_of at (outs b) (tabs a) ra (λ l. feed (fire b 0) l (ran b wb).states) ≡ fire k port x whole.states =
-                ap (λ us. fused_of at (outs b) (tabs a) (fire a port x us) (λ l. feed (fire b 0) l (ran b wb).states)) (sym ta)
+                let before_b = ran b start_b wb in
+                let stands_b : StandsAfter b (m ∷ []) start_b (drop (privates a) st) wb = subst (λ (l : List QueueType). StandsAfter b l start_b (drop (privates a) st) wb) mid_is sa.1 in
+                let two = db.gives.given start_b wb xs is_b (word_typed (m ∷ []) 0 past typed_past) typed_xs stands_b (ap (λ l. held m l xs) (at_word 0 past) ∙ sym came) in
+                let rb = feed (fire b 0) xs before_b.states in
+                let whole = ran k start w in
+                let parts = fused_ran a b at start w s is_start.shape in
+                let la : length wa.states ≡ privates a = ran_length a start_a w s.0 is_start.shape.0 in
+                let ta : take (privates a) whole.states ≡ wa.states = ap (take (privates a)) parts.states ∙ take_front wa.states before_b.states (privates a) la in
+                let tb : drop (privates a) whole.states ≡ before_b.states = ap (drop (privates a)) parts.states ∙ drop_front wa.states before_b.states (privates a) la in
+                let r_is : fused_of at (outs b) (tabs a) ra (λ l. feed (fire b 0) l before_b.states) ≡ fire k port x whole.states =
+                ap (λ us. fused_of at (outs b) (tabs a) (fire a port x us) (λ l. feed (fire b 0) l before_b.states)) (sym ta)
                 ∙ ap (λ us. fused_of at (outs b) (tabs a) (fire a port x (take (privates a) whole.states)) (λ l. feed (fire b 0) l us)) (sym tb) in
-                let now : TookHeld (spliced at ms bs) whole out new (fused_of at (outs b) (tabs a) ra (λ l. feed (fire b 0) l (ran b wb).states)) = record {
-                  outs = cut (λ p. held_at ms p (wa.outs p) (ra.outs p)) (λ p. held_at bs p ((ran b wb).outs p) (rb.outs p)) one.0.outs two.0.outs
-                      ∙ each_grew_cong out.outs (splice at (length bs) (λ p. held_at ms p (wa.outs p) (ra.outs p)) (λ p. held_at bs p ((ran b wb).outs p) (rb.outs p)))
+                let now : TookHeld (spliced at ms bs) whole out new (fused_of at (outs b) (tabs a) ra (λ l. feed (fire b 0) l before_b.states)) = record {
+                  outs = cut (λ p. held_at ms p (wa.outs p) (ra.outs p)) (λ p. held_at bs p (before_b.outs p) (rb.outs p)) one.0.outs two.0.outs
+                      ∙ each_grew_cong out.outs (splice at (length bs) (λ p. held_at ms p (wa.outs p) (ra.outs p)) (λ p. held_at bs p (before_b.outs p) (rb.outs p)))
                       (λ p. held_at (spliced at ms bs) p (whole.outs p) (splice at (outs b) ra.outs rb.outs p))
-                      (λ p lt. splice_held ms bs at p wa.outs ra.outs (ran b wb).outs rb.outs at_ms
-                      ∙ ap (λ n. held_at (spliced at ms bs) p (splice at n wa.outs (ran b wb).outs p) (splice at n ra.outs rb.outs p)) cb.outs
+                      (λ p lt. splice_held ms bs at p wa.outs ra.outs before_b.outs rb.outs at_ms
+                      ∙ ap (λ n. held_at (spliced at ms bs) p (splice at n wa.outs before_b.outs p) (splice at n ra.outs rb.outs p)) cb.outs
                       ∙ ap (λ l. held_at (spliced at ms bs) p l (splice at (outs b) ra.outs rb.outs p)) (sym (parts.outs p)));
                   adds = cut_adds ra.adds rb.adds one.0.adds two.0.adds;
                 } in
-                let more = ran_more a w port x in (
+                let more = ran_more a start_a w port x in
+                let wb' = word_of 0 ((ran a start_a (w ++ (port, x) ∷ [])).outs at) in (
                   subst (λ (r : Fired). TookHeld (spliced at ms bs) whole out new r) r_is now,
-                  parts_after a b at reads mine' rest' (w ++ (port, x) ∷ []) da.came.again one.1 (subst (StandsAfter b rest') (sym (word_append 0 past xs) ∙ ap (word_of 0) (sym (more.outs at))) two.1),
+                  parts_after a b at reads start mine' rest' (w ++ (port, x) ∷ []) (fit_length a reads mine' da.came.again) one.1
+                      (subst (λ (l : List QueueType). StandsAfter b l start_b rest' wb') (sym mid_is)
+                      (subst (StandsAfter b (m ∷ []) start_b rest') (sym (word_append 0 past xs) ∙ ap (word_of 0) (sym (more.outs at))) two.1)),
                 );
           };
           came = record {

@@ -25,7 +25,7 @@ use Rattle.kern_rows.proofs.Given.{filter_values, given_items}
 use Rattle.kern_rows.proofs.Lengths.{run_kept_length}
 use Rattle.river_kernels.specs.Fits.{rows}
 use Rattle.river_kernels.specs.Kern.{code, filter, deal, collect, unpack}
-use Rattle.brooklet_model.specs.Firings.{Kept, Slots, Buffered, Turn, Joining, Fired, gives}
+use Rattle.brooklet_model.specs.Firings.{Kept, Slots, Buffered, Turn, Joining, gives}
 use Rattle.brooklet_model.specs.Fire.{fire, code_one, values_of, value_of}
 use Rattle.brooklet_model.proofs.Shapes.{next_turn, put_joined, drain_joined}
 use Rattle.brooklet_model.specs.Typed.{IsOf, AreOf}
@@ -150,10 +150,6 @@ pushed_more p (d ∷ es) e =
     (λ eq. ap (λ t. t ++ more) (if_eq d.0 p (Flat (One d.1) ∷ pushed_to p es) (pushed_to p es) eq) ∙ ap (λ t. Flat (One d.1) ∷ t) r ∙ sym (if_eq d.0 p (Flat (One d.1) ∷ pushed_to p (es ++ e ∷ [])) (pushed_to p (es ++ e ∷ [])) eq))
     (λ ne. ap (λ t. t ++ more) (if_ne d.0 p (Flat (One d.1) ∷ pushed_to p es) (pushed_to p es) ne) ∙ r ∙ sym (if_ne d.0 p (Flat (One d.1) ∷ pushed_to p (es ++ e ∷ [])) (pushed_to p (es ++ e ∷ [])) ne))
     (cases_eq d.0 p)
-
--- what came to lists, where the lists of another were the same
-pub took_from : (old mid new : Emit) (r : Fired) → mid.outs ≡ old.outs → mid.adds ≡ old.adds → Took mid new r → Took old new r
-took_from old mid new r eo ea t = record { outs = t.outs ∙ ap (λ l. each_grew l r.outs) eo; adds = t.adds ∙ ap (λ l. each_grew l r.adds) ea }
 
 -- one more push is given
 pub push_step : (start now new : List (List item.Item)) (es : List (ℕ × List ℤ)) (i : ℕ) (e : ℕ × List ℤ) → i < length es → e ≡ get_or es i e

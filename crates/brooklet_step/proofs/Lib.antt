@@ -11,6 +11,7 @@ pub mod GivenLemmas
 pub mod GivenParts
 pub mod KeptTables
 pub mod Leaves
+pub mod Moved
 pub mod Moving
 pub mod NextLemmas
 pub mod OpTables

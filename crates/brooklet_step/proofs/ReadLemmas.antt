@@ -1,17 +1,22 @@
 -- The places of the queues that operators read.
-use Rattle.std.proofs.Common.{◌≡◌, ℕ, zero, suc, ◌<◌, Some, Bool, false, List, [], ◌∷◌, length, map, refl, sym, ap, ◌∙◌, subst, arith}
+use Rattle.std.proofs.Common.{◌≡◌, ℕ, zero, suc, ◌-◌, ◌<◌, length-drop, Some, Bool, false, List, [], ◌∷◌, length, map, refl, sym, ap, ◌∙◌, subst, arith}
 use Rattle.std.specs.Prelude.{IsTrue, slice_get, slice_index_or}
 use Rattle.std.proofs.lemmas.List.{length-map}
 use Rattle.std.proofs.lemmas.Option.{slice_get_within, get_or_from_slice_get}
+use Rattle.river_base.specs.Held.{held}
 use Rattle.river_base.specs.Places.{list_at}
+use Rattle.river_base.proofs.HeldLemmas.{length-held}
 use Rattle.river_plan.specs.declared.plan.RawPlan.{RawPlan}
 use Rattle.river_plan.specs.Forms.{Name, OpForm, PlanForm, plan_form, op_form, queue_names}
+use Rattle.river_plan.specs.Names.{count}
 use Rattle.river_plan.specs.Places.{place, places, read_places}
 use Rattle.river_plan.proofs.PlaceLemmas.{place_below}
+use Rattle.brooklet_model.specs.Machine.{Machine}
 use Rattle.brooklet_model.proofs.Traces.{some_is, read_of}
 use Rattle.brooklet_step.specs.declared.machine.Parts.{Parts}
 use Rattle.brooklet_step.specs.Reading.{IsPlaceOf}
-use Rattle.brooklet_step.specs.Works.{queue_of, ReadsAt, IsEnabled, GoesOn}
+use Rattle.brooklet_step.specs.Laws.{EnabledIsItem}
+use Rattle.brooklet_step.specs.Works.{queue_of, kinds_of, Stands, ReadsAt, IsEnabled, GoesOn}
 use Rattle.brooklet_step.proofs.StepLemmas.{read_declared}
 
 pub got_map : {A B : Type 0} (f : A → B) (xs : List A) (n : ℕ) (x : A) → slice_get xs n ≡ Some x → slice_get (map f xs) n ≡ Some (f x)
@@ -98,3 +103,25 @@ enabled_by m o port n w b run pl e t =
 
 pub not_enabled : (m : Parts) (o port : ℕ) → ((q : Name) → ReadsAt m.plan o port q → ⊥) → IsEnabled m o port → ⊥
 not_enabled m o port h on = h on.queue on.reads
+
+-- WHAT WAITS IN THE STATE OF THE DEFINITION
+
+-- as many items are left of a queue as its history is longer than what was taken
+left_many : (m : Parts) (s : Machine) (q : Name) → Stands m s → 0 < count q (queue_names m.plan) → length (queue_of m q) ≡ length (s.hist q) - s.taken q
+left_many m s q h lt =
+    let all = held (kinds_of m q) [] (s.hist q) in
+    ap length (h.left q lt) ∙ length-drop (s.taken q) all ∙ ap (λ n. n - s.taken q) (length-held (kinds_of m q) [] (s.hist q))
+
+pub enabled_law : EnabledIsItem
+enabled_law m s o port v running h = (
+  (λ e.
+      let r = e.reads in
+      let n = left_many m s e.queue h (read_declared m.plan v o port e.queue r) in
+      let i = e.item in
+      record { op = r.op; queue = e.queue; op_is = r.op_is; queue_is = r.queue_is; item = omega (arith, n, i) }),
+  (λ i.
+      let r : ReadsAt m.plan o port i.queue = record { op = i.op; op_is = i.op_is; queue_is = i.queue_is } in
+      let n = left_many m s i.queue h (read_declared m.plan v o port i.queue r) in
+      let l = i.item in
+      record { running = running; queue = i.queue; reads = r; item = omega (arith, n, l) }),
+)

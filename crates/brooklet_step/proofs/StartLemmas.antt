@@ -221,7 +221,7 @@ first p pl inputs queues cs states tables v fit pe qe f ce te =
       words = λ o. [];
       traced = traced_start p (given_to p inputs) v (λ q z. nothing_given (decl_names p.inputs) (list_at inputs) q z);
       received = λ o op g. tt;
-      kept = λ o op g. (f.stand o op g).after;
+      kept = λ o op g. (f.stand o op g).after (map kinds op.reads);
     } in
     let cs_are : Counts m [] = λ o lt. ap (λ (l : List ℕ). slice_index_or l o 0) ce ∙ zero_at (length p.ops) o ∙ sym (min_zero most_firings) in
     subst (λ (x : PlanForm). First p inputs (record { plan = x; queues = queues; tables = tables; states = states; counts = cs; stopped = false })) (sym pe) (record {

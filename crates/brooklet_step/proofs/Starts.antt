@@ -23,19 +23,22 @@ use Rattle.river_kernels.specs.declared.kernel.Kernel.{fold-roll-Kernel}
 use Rattle.river_kernels.specs.declared.kernel.Kernel.TheVariants as kernel
 use Rattle.river_kernels.specs.declared.kernel.Kernel.TheOpen as layer
 use Rattle.river_kernels.specs.Kern.{Kern, kern_of, kern_at, code, filter, deal, collect, packed, unpack, window, select, project, cross, streamer, fused}
-use Rattle.brooklet_model.specs.Fire.{first_kept, first_slots}
+use Rattle.brooklet_model.specs.Fire.{first_kept, first_slots, privates}
 use Rattle.brooklet_model.specs.Shapes.{IsFormed}
+use Rattle.brooklet_model.specs.Typed.{between}
 use Rattle.brooklet_model.proofs.Ports.{formed_shaped}
-use Rattle.brooklet_model.proofs.Shapes.{first_turn}
+use Rattle.brooklet_model.proofs.Lists.{take_front, drop_front}
+use Rattle.brooklet_model.proofs.Shapes.{first_turn, shape_length}
 use Rattle.brooklet_model.proofs.Typing.{between_is, first_holds}
 use Rattle.river_kernels.specs.Fits.{Fits}
+use Rattle.river_kernels.specs.Types.{types_of}
 use Rattle.brooklet_step.specs.declared.state.State.{State}
 use Rattle.brooklet_step.specs.declared.state.State.TheVariants as state
-use Rattle.brooklet_step.specs.Given.{FitState, IsLeaf}
+use Rattle.brooklet_step.specs.Given.{FitState, IsLeaf, StandsAfter}
 use Rattle.brooklet_step.specs.Initial.{IsFirst}
 use Rattle.brooklet_step.specs.Stands.{StandsForSlots, StandsFor}
 use Rattle.river_kernels.proofs.WellFormed.{can_filter}
-use Rattle.brooklet_step.proofs.GivenLemmas.{fit_of, leaf_from, parts_fit, parts_after}
+use Rattle.brooklet_step.proofs.GivenLemmas.{first_is_start, fit_of, fit_length, leaf_from, parts_fit, parts_after}
 
 -- what is said of each value is said of an answer
 pub if_ok : {A : Type 0} (P Q : A → Type 0) (r : Result A NoMemory) → ((x : A) → P x → Q x) → IfOk r P → IfOk r Q
@@ -117,13 +120,15 @@ second_formed a b at h = record { reads = h.fits.1 ∷ []; writes = h.fits.2; va
 -- a kernel without a kernel inside
 pub leaf_first : (k : Kern) (st : List State) → IsLeaf k → IsFormed k → LeafFirst k st → IsFirst k st
 leaf_first k st l f h = record {
-  after = leaf_from k st [] l h;
+  start = λ reads. first_is_start k reads (formed_shaped k f);
+  after = λ reads. leaf_from k reads (first_kept k) st [] l h;
   again = λ reads writes vars fits. fit_of k reads st (first_kept k) h (first_holds k reads (formed_shaped k f));
 }
 
 -- a kernel whose items go into packs keeps what the kernel inside keeps
 pub packed_first : (k : Kern) (st : List State) → IsFirst k st → IsFirst (packed k) st
 packed_first k st h = record {
+  start = λ reads. let s = h.start reads in record { shape = s.shape; holds = s.holds };
   after = h.after;
   again =
       λ reads writes vars fits. h.again reads (FlatOf fits.1 ∷ []) [] (subst (λ (l : List QueueType). Fits k l (FlatOf fits.1 ∷ []) []) (sym fits.2) fits.5);
@@ -132,7 +137,16 @@ packed_first k st h = record {
 -- two kernels keep what the first keeps and then what the second keeps
 pub fused_first : (a b : Kern) (at : ℕ) (st st' : List State) → IsFormed (fused a b at) → IsFirst a st → IsFirst b st' → IsFirst (fused a b at) (st ++ st')
 fused_first a b at st st' f h g = record {
-  after = parts_after a b at f.reads st st' [] (h.again f.reads f.fits.0 f.fits.3 f.fits.5) h.after g.after;
+  start = λ reads. first_is_start (fused a b at) reads (formed_shaped (fused a b at) f);
+  after = λ reads.
+      let inner = between at (types_of a reads) in
+      let many = fit_length a f.reads st (h.again f.reads f.fits.0 f.fits.3 f.fits.5) in
+      let own = shape_length a (first_kept a) (h.start reads).shape in
+      let mine = take_front (first_kept a) (first_kept b) (privates a) own in
+      let rest = drop_front (first_kept a) (first_kept b) (privates a) own in
+      parts_after a b at reads (first_kept a ++ first_kept b) st st' [] many
+      (subst (λ ss. StandsAfter a reads ss st []) (sym mine) (h.after reads))
+      (subst (λ ss. StandsAfter b inner ss st' []) (sym rest) (g.after inner));
   again = λ reads writes vars fits.
       parts_fit a b at reads st st' (h.again reads fits.0 fits.3 fits.5)
       (subst (λ (l : List QueueType). FitState b l st') (sym (between_is a reads fits.0 fits.1 fits.3 at fits.5 fits.6)) (g.again (fits.1 ∷ []) fits.2 fits.4 fits.7));

@@ -21,26 +21,26 @@ use Rattle.river_plan.specs.Uses.{total, reads_it, writes_it}
 use Rattle.river_plan.specs.Valid.{IsPlan}
 use Rattle.river_plan.proofs.NameLemmas.{cases_name, count-append}
 use Rattle.river_kernels.specs.Fits.{Fits}
-use Rattle.brooklet_model.specs.Fire.{fire, outs, tabs}
+use Rattle.brooklet_model.specs.Fire.{fire, first_kept, outs, tabs}
 use Rattle.brooklet_model.specs.Histories.{joined, tables_of, most_firings, Lists}
 use Rattle.brooklet_model.specs.Laws.{given_to}
 use Rattle.brooklet_model.specs.Machine.{Machine, Step, Run, start, fired, at_key, at_name, times}
-use Rattle.brooklet_model.specs.Typed.{IsTyped, IsOf, AreOf}
+use Rattle.brooklet_model.specs.Typed.{IsTyped, IsOf, AreOf, IsWordOf}
 use Rattle.brooklet_model.specs.Words.{Word, at_port}
 use Rattle.brooklet_model.proofs.Lists.{if_true, if_false, if_eq, if_ne}
 use Rattle.brooklet_model.proofs.Complete.{traced_fired, nothing_given}
-use Rattle.brooklet_model.proofs.Ports.{counts}
+use Rattle.brooklet_model.proofs.Ports.{shaped, counts}
 use Rattle.brooklet_model.proofs.Traces.{some_is, at_most, got_count, joined_out, at_key_same, at_key_other, at_same}
-use Rattle.brooklet_model.proofs.TypedPlan.{op_fits, kind_got, got_all, joined_all}
+use Rattle.brooklet_model.proofs.TypedPlan.{at_append, op_fits, kind_got, got_all, joined_all}
 use Rattle.brooklet_step.specs.declared.emit.Emit.{Emit}
 use Rattle.brooklet_step.specs.declared.machine.Parts.{Parts}
 use Rattle.brooklet_step.specs.declared.state.State.{State}
 use Rattle.brooklet_step.specs.ByPlace.{joined_at}
-use Rattle.brooklet_step.specs.Given.{held_by, held_at, IsHeldBy, IsHeldOf, AreTyped, FitState, StandsAfter, ran, TookHeld, Does, FiresAt, CanTake}
+use Rattle.brooklet_step.specs.Given.{held_by, held_at, IsHeldBy, IsHeldOf, FitState, StandsAfter, ran, TookHeld, Does, FiresAt, CanTake}
 use Rattle.brooklet_step.specs.Tables.{kept_tables, each_added}
 use Rattle.brooklet_step.specs.Took.{IsBlank}
 use Rattle.brooklet_step.specs.Works.{queue_of, kinds_of, states_of, count_of, Stands, ReadsAt, Counts, GoesOn, After, Steps}
-use Rattle.brooklet_step.proofs.GivenLemmas.{typed_append, fired_typed}
+use Rattle.brooklet_step.proofs.GivenLemmas.{first_is_start, fired_typed}
 use Rattle.brooklet_step.proofs.Fires.{blank_room}
 use Rattle.river_plan.specs.Places.{place, places}
 use Rattle.river_plan.proofs.PlaceLemmas.{place_below, place_apart}
@@ -327,17 +327,19 @@ module _ (m : Parts) (o port : ℕ) (q : Name) (i : item.Item) (rest : List item
       let more = within_next s h (slice_get_within (s.hist q) (s.taken q) it.item it.item_is) in
       let x = it.item in
       let w = h.words o in
-      let before = ran r.op.kernel w in
+      let first = first_kept r.op.kernel in
+      let is_start = first_is_start r.op.kernel reads (shaped r.op.kernel reads writes _ fits) in
+      let before = ran r.op.kernel first w in
       let typed_w = h.received o r.op r.op_is in
       let typed_x : IsOf reads port x = subst (λ t. IsTyped t x) (sym (kind_got kinds r.op.reads port q r.queue_is)) (got_all (HasType (kinds q)) (s.hist q) (s.taken q) x (h.typed q) it.item_is) in
       let held_x : held_at reads port (at_port port w) (x ∷ []) ≡ i ∷ [] =
       ap (λ t. held_by t (at_port port w) (x ∷ [])) (kind_got kinds r.op.reads port q r.queue_is)
       ∙ ap (λ l. held (kinds q) l (x ∷ [])) (h.traced.taken o r.op r.op_is port q r.queue_is).0 ∙ it.held_is in
-      let gave = does.gives.given w x typed_w typed_x (h.kept o r.op r.op_is) held_x in
+      let gave = does.gives.given first w x is_start typed_w typed_x (h.kept o r.op r.op_is) held_x in
       let kept_is : before.states ≡ s.kept o = sym (h.traced.kept o r.op r.op_is) in
       let res = fire r.op.kernel port x (s.kept o) in
       let took : TookHeld writes before blank out res = subst (λ us. TookHeld writes before blank out (fire r.op.kernel port x us)) kept_is gave.0 in
-      let typed_out : AreOf writes res.outs = subst (λ us. AreOf writes (fire r.op.kernel port x us).outs) kept_is (fired_typed r.op.kernel reads writes _ w port x fits typed_w typed_x) in
+      let typed_out : AreOf writes res.outs = subst (λ us. AreOf writes (fire r.op.kernel port x us).outs) kept_is (fired_typed r.op.kernel reads writes _ first w port x fits is_start typed_w typed_x) in
       let next = w ++ (port, x) ∷ [] in
       record {
         state = fired (table_names m.plan.tables) o r.op port q x s;
@@ -361,8 +363,8 @@ module _ (m : Parts) (o port : ℕ) (q : Name) (i : item.Item) (rest : List item
           traced =
               traced_fired m.plan (given_to m.plan h.inputs) g.valid (λ n z. nothing_given (decl_names m.plan.inputs) (list_at h.inputs) n z) s h.words o port r.op q x h.traced r.op_is r.queue_is it.item_is;
           received =
-              at_each (λ op u v. AreTyped (map (kinds_of m) op.reads) v) next h.words h.received (typed_append reads w ((port, x) ∷ []) typed_w (typed_x, tt));
-          kept = at_each (λ op u v. StandsAfter op.kernel u v) next h.words h.kept gave.1;
+              at_each (λ op u v. IsWordOf (map (kinds_of m) op.reads) v) next h.words h.received (at_append reads w ((port, x) ∷ []) typed_w (typed_x, tt));
+          kept = at_each (λ op u v. StandsAfter op.kernel (map (kinds_of m) op.reads) (first_kept op.kernel) u v) next h.words h.kept gave.1;
         };
       }
 

@@ -1,4 +1,4 @@
--- Firings after others: what a firing gives where what was received and given before it is known.
+-- Firings from any states of the definition and after any word: what a firing gives where what was received and given before it is known.
 use Rattle.std.specs.Prelude.{◌≡◌, ℕ, ℤ, ◌+◌, ◌<◌, Option, Some, None, List, [], ◌∷◌, ◌++◌, All, length, take, drop, slice_get}
 use Rattle.river_base.specs.declared.item.Item as item
 use Rattle.river_base.specs.declared.kind.QueueType.{QueueType}
@@ -16,9 +16,9 @@ use Rattle.river_kernels.specs.declared.types.VarKind.{VarKind}
 use Rattle.river_kernels.specs.Fits.{Fits}
 use Rattle.river_kernels.specs.Types.{types_of}
 use Rattle.river_kernels.specs.Kern.{Kern, code, filter, duplicate, deal, collect, packed, unpack, window, select, project, cross, streamer, tally, fused}
-use Rattle.brooklet_model.specs.Firings.{Fired, feed, splice, beside}
-use Rattle.brooklet_model.specs.Fire.{fire, first_kept, privates, outs, tabs}
-use Rattle.brooklet_model.specs.Typed.{IsOf, between, widths_in, AreWide}
+use Rattle.brooklet_model.specs.Firings.{Kept, Fired, feed, splice, beside}
+use Rattle.brooklet_model.specs.Fire.{fire, privates, outs, tabs}
+use Rattle.brooklet_model.specs.Typed.{IsOf, IsWordOf, IsStart, between, widths_in, AreWide}
 use Rattle.brooklet_model.specs.Words.{Word, run, at_port, word_of}
 use Rattle.brooklet_step.specs.declared.emit.Emit.{Emit}
 use Rattle.brooklet_step.specs.declared.state.State.{State}
@@ -46,11 +46,6 @@ IsHeldOf types p i = IsHeldBy (slice_get types p) i
 
 abbrev pub AreHeldOf : List QueueType → (ℕ → List item.Item) → Type 0
 AreHeldOf types f = (p : ℕ) → All (IsHeldOf types p) (f p)
-
--- all items of a word are of the types of their ports
-abbrev pub AreTyped : List QueueType → Word → Type 0
-AreTyped types [] = Unit {0}
-AreTyped types (e ∷ es) = IsOf types e.0 e.1 × AreTyped types es
 
 -- WHAT STATES ARE
 
@@ -142,26 +137,30 @@ IsLeaf (fused a b at) = ⊥
 
 -- WHAT STATES STAND FOR
 
--- all that a kernel gives in the firings of a word, and the states after them
-abbrev pub ran : Kern → Word → Fired
-ran k w = run (fire k) w (first_kept k)
+-- all that a kernel gives in the firings of a word that begins at these states, and the states after them
+abbrev pub ran : Kern → List Kept → Word → Fired
+ran k start w = run (fire k) w start
 
--- the states stand for those after this word
-abbrev pub StandsAfter : Kern → List State → Word → Type 0
-StandsAfter (code k) st w = StandsFor (code k) st (ran (code k) w).states
-StandsAfter (filter f) st w = StandsFor (filter f) st (ran (filter f) w).states
-StandsAfter (duplicate n) st w = StandsFor (duplicate n) st (ran (duplicate n) w).states
-StandsAfter (deal ws) st w = StandsFor (deal ws) st (ran (deal ws) w).states
-StandsAfter (collect ws) st w = StandsFor (collect ws) st (ran (collect ws) w).states
-StandsAfter (packed k) st w = StandsAfter k st w
-StandsAfter (unpack n) st w = StandsFor (unpack n) st (ran (unpack n) w).states
-StandsAfter (window v) st w = StandsFor (window v) st (ran (window v) w).states
-StandsAfter (select e) st w = StandsFor (select e) st (ran (select e) w).states
-StandsAfter (project es) st w = StandsFor (project es) st (ran (project es) w).states
-StandsAfter cross st w = StandsFor cross st (ran cross w).states
-StandsAfter (streamer s) st w = StandsFor (streamer s) st (ran (streamer s) w).states
-StandsAfter tally st w = StandsFor tally st (ran tally w).states
-StandsAfter (fused a b at) st w = StandsAfter a (take (privates a) st) w × StandsAfter b (drop (privates a) st) (word_of 0 ((ran a w).outs at))
+-- the states stand for the definition's states after this word of firings, which began at its states `start`; so where the word is empty,
+-- they stand for `start`. The queues at the ports begin there too: what a queue has is what it holds for the items of the word, as though
+-- none had come before the start, whatever `start` keeps
+abbrev pub StandsAfter : Kern → List QueueType → List Kept → List State → Word → Type 0
+StandsAfter (code k) reads start st w = StandsFor (code k) st (ran (code k) start w).states
+StandsAfter (filter f) reads start st w = StandsFor (filter f) st (ran (filter f) start w).states
+StandsAfter (duplicate n) reads start st w = StandsFor (duplicate n) st (ran (duplicate n) start w).states
+StandsAfter (deal ws) reads start st w = StandsFor (deal ws) st (ran (deal ws) start w).states
+StandsAfter (collect ws) reads start st w = StandsFor (collect ws) st (ran (collect ws) start w).states
+StandsAfter (packed k) reads start st w = StandsAfter k reads start st w
+StandsAfter (unpack n) reads start st w = StandsFor (unpack n) st (ran (unpack n) start w).states
+StandsAfter (window v) reads start st w = StandsFor (window v) st (ran (window v) start w).states
+StandsAfter (select e) reads start st w = StandsFor (select e) st (ran (select e) start w).states
+StandsAfter (project es) reads start st w = StandsFor (project es) st (ran (project es) start w).states
+StandsAfter cross reads start st w = StandsFor cross st (ran cross start w).states
+StandsAfter (streamer s) reads start st w = StandsFor (streamer s) st (ran (streamer s) start w).states
+StandsAfter tally reads start st w = StandsFor tally st (ran tally start w).states
+StandsAfter (fused a b at) reads start st w =
+    StandsAfter a reads (take (privates a) start) (take (privates a) st) w
+    × StandsAfter b (between at (types_of a reads)) (drop (privates a) start) (drop (privates a) st) (word_of 0 ((ran a (take (privates a) start) w).outs at))
 
 -- FIRINGS
 
@@ -170,11 +169,14 @@ pub record TookHeld (writes : List QueueType) (before : Fired) (old new : Emit) 
   pub outs : new.outs ≡ each_grew old.outs (λ p. held_at writes p (before.outs p) (r.outs p))
   pub adds : new.adds ≡ each_grew old.adds r.adds
 
--- whatever was received: where the states stand for it, and the item i is what the queue holds for the item x after it, what came
--- is what queues hold for what the firing on x gives, and the new states stand for what was received with x
+-- wherever firings may begin, and whatever was received since: where the states stand for the definition's after it, and the item i is what
+-- the queue holds for the item x after it, what came is what queues hold for what the firing on x gives there, and the new states stand
+-- for the definition's after it and x. Where nothing was received since: let the states stand for states of the definition; then what came
+-- is what the firing gives from these, and the new states stand for the next ones
 pub record Gives (k : Kern) (reads writes : List QueueType) (port : ℕ) (i : item.Item) (out new : Emit) (st st' : List State) : Type 0 where
-  pub given : (w : Word) (x : item.Item) → AreTyped reads w → IsOf reads port x → StandsAfter k st w → held_at reads port (at_port port w) (x ∷ []) ≡ i ∷ []
-      → TookHeld writes (ran k w) out new (fire k port x (ran k w).states) × StandsAfter k st' (w ++ (port, x) ∷ [])
+  pub given : (start : List Kept) (w : Word) (x : item.Item) → IsStart k reads start → IsWordOf reads w → IsOf reads port x → StandsAfter k reads start st w
+      → held_at reads port (at_port port w) (x ∷ []) ≡ i ∷ []
+      → TookHeld writes (ran k start w) out new (fire k port x (ran k start w).states) × StandsAfter k reads start st' (w ++ (port, x) ∷ [])
 
 -- whatever was received: what came is what queues may hold, rows for tables have the tables' widths, and the states fit again
 pub record Came (k : Kern) (reads writes : List QueueType) (vars : List VarKind) (out new : Emit) (st' : List State) : Type 0 where
@@ -197,8 +199,9 @@ pub record FiresAt (k : Kern) (port : ℕ) (i : item.Item) (out new : Emit) (st 
 
 -- the same of the items of a list, one after another at the first port
 pub record GivesAll (k : Kern) (reads writes : List QueueType) (is : List item.Item) (out new : Emit) (st st' : List State) : Type 0 where
-  pub given : (w : Word) (xs : List item.Item) → AreTyped reads w → All (IsOf reads 0) xs → StandsAfter k st w → held_at reads 0 (at_port 0 w) xs ≡ is
-      → TookHeld writes (ran k w) out new (feed (fire k 0) xs (ran k w).states) × StandsAfter k st' (w ++ word_of 0 xs)
+  pub given : (start : List Kept) (w : Word) (xs : List item.Item) → IsStart k reads start → IsWordOf reads w → All (IsOf reads 0) xs
+      → StandsAfter k reads start st w → held_at reads 0 (at_port 0 w) xs ≡ is
+      → TookHeld writes (ran k start w) out new (feed (fire k 0) xs (ran k start w).states) × StandsAfter k reads start st' (w ++ word_of 0 xs)
 
 pub record DoesAll (k : Kern) (reads writes : List QueueType) (vars : List VarKind) (is : List item.Item) (out new : Emit) (st st' : List State) : Type 0 where
   pub gives : GivesAll k reads writes is out new st st'

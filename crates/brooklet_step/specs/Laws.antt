@@ -1,10 +1,22 @@
--- Firings chain: a statement over the contracts of firings alone.
-use Rattle.std.specs.Prelude.{ℕ, List}
+-- Laws of firings, of what waits and of what queues hold: statements over the contracts and the definitions alone.
+use Rattle.std.specs.Prelude.{◌≡◌, ◌↔◌, ℕ, false, List, [], ◌∷◌}
 use Rattle.river_base.specs.declared.item.Item as item
+use Rattle.river_base.specs.declared.kind.QueueType.{QueueType}
+use Rattle.river_base.specs.Held.{HasType, IsHeld}
+use Rattle.river_base.specs.Places.{each_grew}
+use Rattle.river_kernels.specs.declared.types.VarKind.{VarKind}
+use Rattle.river_kernels.specs.Fits.{Fits}
 use Rattle.river_kernels.specs.Kern.{Kern}
+use Rattle.river_plan.specs.Valid.{IsPlan}
+use Rattle.brooklet_model.specs.Firings.{Kept}
+use Rattle.brooklet_model.specs.Fire.{fire}
+use Rattle.brooklet_model.specs.Machine.{Machine, HasItem}
+use Rattle.brooklet_model.specs.Typed.{IsOf, IsStart}
 use Rattle.brooklet_step.specs.declared.emit.Emit.{Emit}
+use Rattle.brooklet_step.specs.declared.machine.Parts.{Parts}
 use Rattle.brooklet_step.specs.declared.state.State.{State}
-use Rattle.brooklet_step.specs.Given.{IsHeldOf, FiresAt, CanTake}
+use Rattle.brooklet_step.specs.Given.{held_at, IsHeldOf, FitState, StandsAfter, FiresAt, CanTake}
+use Rattle.brooklet_step.specs.Works.{Stands, IsEnabled}
 
 -- where a kernel could take an item and fired on it, it can take any other item, at any port, that a queue of the port's type may
 -- hold; the types are those of the first firing
@@ -12,3 +24,43 @@ abbrev pub FiringsChain : Type 0
 FiringsChain =
     (k : Kern) (port next : ℕ) (i j : item.Item) (st st' : List State) (out out' : Emit) (t : CanTake k port i st out)
     → FiresAt k port i out out' st st' → IsHeldOf t.reads next j → CanTake k next j st' out'
+
+-- the states of the definition for which states of the code stand, and from which firings may begin
+pub record StandForSome (k : Kern) (reads : List QueueType) (st : List State) : Type 0 where
+  pub start : List Kept
+  pub is_start : IsStart k reads start
+  pub stands : StandsAfter k reads start st []
+
+-- all states that fit stand for some of the definition: so what is said of these says something of all states on which a kernel can
+-- fire
+abbrev pub FitStatesStand : Type 0
+FitStatesStand =
+    (k : Kern) (reads writes : List QueueType) (vars : List VarKind) (st : List State) → Fits k reads writes vars → FitState k reads st
+    → StandForSome k reads st
+
+-- what a firing gave is what the definition gives from the states `now`, and the new states stand for its next ones
+pub record FiredFrom (k : Kern) (reads writes : List QueueType) (port : ℕ) (x : item.Item) (now : List Kept) (out out' : Emit)
+    (st' : List State) : Type 0 where
+  pub outs : out'.outs ≡ each_grew out.outs (λ p. held_at writes p [] ((fire k port x now).outs p))
+  pub adds : out'.adds ≡ each_grew out.adds (fire k port x now).adds
+  pub next : StandsAfter k reads (fire k port x now).states st' []
+
+-- let the code's states stand for states of the definition before a firing. Then what is given is what the definition gives from these, and
+-- afterwards the code's states stand for the definition's next states. This is so for all such states, and not only for those to
+-- which firings lead from the first ones
+abbrev pub FiringsStep : Type 0
+FiringsStep =
+    (k : Kern) (reads writes : List QueueType) (vars : List VarKind) (port : ℕ) (i x : item.Item) (st st' : List State) (out out' : Emit) (now : List Kept)
+    → Fits k reads writes vars → FitState k reads st → IsHeldOf reads port i → FiresAt k port i out out' st st'
+    → IsStart k reads now → StandsAfter k reads now st [] → IsOf reads port x → held_at reads port [] (x ∷ []) ≡ i ∷ []
+    → FiredFrom k reads writes port x now out out' st'
+
+-- a machine that is not stopped can fire an operator at a port exactly where an item that is not taken is there in the state of the
+-- definition, whichever of the states it is that the machine stands for
+abbrev pub EnabledIsItem : Type 0
+EnabledIsItem =
+    (m : Parts) (s : Machine) (o port : ℕ) → IsPlan m.plan → m.stopped ≡ false → Stands m s → IsEnabled m o port ↔ HasItem m.plan s o port
+
+-- a queue may hold an item exactly where the item is of the queue's type
+abbrev pub HeldIsTyped : Type 0
+HeldIsTyped = (t : QueueType) (x : item.Item) → IsHeld t x ↔ HasType t x

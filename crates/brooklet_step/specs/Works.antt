@@ -14,11 +14,12 @@ use Rattle.brooklet_model.specs.Histories.{most_firings}
 use Rattle.brooklet_model.specs.Machine.{Machine, Step, Run, start, times}
 use Rattle.brooklet_model.specs.Laws.{given_to}
 use Rattle.brooklet_model.specs.Traced.{Traced}
-use Rattle.brooklet_model.specs.Typed.{AreInputs}
+use Rattle.brooklet_model.specs.Fire.{first_kept}
+use Rattle.brooklet_model.specs.Typed.{IsWordOf, AreInputs}
 use Rattle.brooklet_model.specs.Words.{Word}
 use Rattle.brooklet_step.specs.declared.machine.Parts.{Parts}
 use Rattle.brooklet_step.specs.declared.state.State.{State}
-use Rattle.brooklet_step.specs.Given.{AreTyped, FitState, StandsAfter}
+use Rattle.brooklet_step.specs.Given.{FitState, StandsAfter}
 use Rattle.brooklet_step.specs.Tables.{kept_tables}
 
 -- what is kept of a queue: the items that are not taken. From an output nothing is taken, so it is the whole history
@@ -47,8 +48,9 @@ pub record Stands (m : Parts) (s : Machine) : Type 0 where
   pub inputs : List (List item.Item)
   pub words : ℕ → Word
   pub traced : Traced (table_names m.plan.tables) m.plan.ops (given_to m.plan inputs) s words
-  pub received : (o : ℕ) (op : OpForm) → slice_get m.plan.ops o ≡ Some op → AreTyped (map (kinds_of m) op.reads) (words o)
-  pub kept : (o : ℕ) (op : OpForm) → slice_get m.plan.ops o ≡ Some op → StandsAfter op.kernel (states_of m o) (words o)
+  pub received : (o : ℕ) (op : OpForm) → slice_get m.plan.ops o ≡ Some op → IsWordOf (map (kinds_of m) op.reads) (words o)
+  pub kept : (o : ℕ) (op : OpForm) → slice_get m.plan.ops o ≡ Some op
+      → StandsAfter op.kernel (map (kinds_of m) op.reads) (first_kept op.kernel) (states_of m o) (words o)
 
 -- operator number o has a port of this number, which reads this queue
 pub record ReadsAt (p : PlanForm) (o port : ℕ) (queue : Name) : Type 0 where

@@ -12,7 +12,7 @@ ghost use Rattle.brooklet_step.specs.declared.state.State.TheVariants as state_v
 ghost use Rattle.brooklet_step.specs.Took.{Took};
 ghost use Rattle.brooklet_step.specs.Stands.{IsBatch, IsFlat, IsFlatWith, IsWindowState, IsStreamerState, IsCrossState, Stepped, Paired};
 
-use crate::emit::Emit;
+use crate::emit::{Emit, Spare};
 use crate::state::State;
 use kern_bags::{Cross, Streamer, Window, project, select};
 use river_base::{Batch, Flat, Item, NoMemory};
@@ -48,6 +48,7 @@ pub fn fire_window(
     item: Item,
     state: &mut State,
     out: &mut Emit,
+    spare: &mut Spare,
 ) -> Result<(), NoMemory>
     requires item { IsBatch item }
     requires state { IsWindowState window.now state.old }
@@ -56,37 +57,46 @@ pub fn fire_window(
 {
     match state {
         State::Window(state) => {
-            let mut items = out.spare_items(alloc);
+            let mut items = spare.take_items(alloc);
             window.step(alloc, state, batch_of(item), &mut items)?;
-            out.give_all(0, items)?;
-            Ok(())
+            out.give_all(0, items, spare)
         }
         _ => unreachable!(),
     }
 }
 
 /// A batch comes to a selection.
-pub fn fire_select(alloc: Global, cond: &Expr, item: Item, out: &mut Emit) -> Result<(), NoMemory>
+pub fn fire_select(
+    alloc: Global,
+    cond: &Expr,
+    item: Item,
+    out: &mut Emit,
+    spare: &mut Spare,
+) -> Result<(), NoMemory>
     requires item { IsFlatWith (λ f. CanRead (term cond.now) (flat_rows f)) item }
     requires room { 0 < length out.old.outs }
     ensures { OnOk result (Took out.old out.new (gives 0 (select_one (term cond.now) item) [])) }
 {
-    let mut items = out.spare_items(alloc);
+    let mut items = spare.take_items(alloc);
     select(cond, flat_of(item), &mut items)?;
-    out.give_all(0, items)?;
-    Ok(())
+    out.give_all(0, items, spare)
 }
 
 /// A content comes to a projection.
-pub fn fire_project(alloc: Global, list: &Exprs, item: Item, out: &mut Emit) -> Result<(), NoMemory>
+pub fn fire_project(
+    alloc: Global,
+    list: &Exprs,
+    item: Item,
+    out: &mut Emit,
+    spare: &mut Spare,
+) -> Result<(), NoMemory>
     requires item { IsFlatWith (λ f. CanProject (terms list.now) (flat_rows f)) item }
     requires room { 0 < length out.old.outs }
     ensures { OnOk result (Took out.old out.new (gives 0 (project_one (terms list.now) item) [])) }
 {
-    let mut items = out.spare_items(alloc);
+    let mut items = spare.take_items(alloc);
     project(list, flat_of(item), &mut items)?;
-    out.give_all(0, items)?;
-    Ok(())
+    out.give_all(0, items, spare)
 }
 
 /// A content comes to a port of a product.
@@ -96,6 +106,7 @@ pub fn fire_cross(
     item: Item,
     state: &mut State,
     out: &mut Emit,
+    spare: &mut Spare,
 ) -> Result<(), NoMemory>
     requires item { IsFlat item }
     requires state { IsCrossState port item state.old }
@@ -104,10 +115,9 @@ pub fn fire_cross(
 {
     match state {
         State::Cross(state) => {
-            let mut items = out.spare_items(alloc);
+            let mut items = spare.take_items(alloc);
             Cross::step(alloc, state, port, flat_of(item), &mut items)?;
-            out.give_all(0, items)?;
-            Ok(())
+            out.give_all(0, items, spare)
         }
         _ => unreachable!(),
     }
@@ -120,6 +130,7 @@ pub fn fire_streamer(
     item: Item,
     state: &mut State,
     out: &mut Emit,
+    spare: &mut Spare,
 ) -> Result<(), NoMemory>
     requires item { IsFlatWith (λ f. IsAscending (flat_rows f)) item }
     requires state { IsStreamerState state.old }
@@ -129,10 +140,9 @@ pub fn fire_streamer(
 {
     match state {
         State::Streamer(state) => {
-            let mut items = out.spare_items(alloc);
+            let mut items = spare.take_items(alloc);
             streamer.step(alloc, state, flat_of(item), &mut items)?;
-            out.give_all(0, items)?;
-            Ok(())
+            out.give_all(0, items, spare)
         }
         _ => unreachable!(),
     }

@@ -22,9 +22,37 @@ pub type RowLists = Listed<Rows>;
 pub struct Emit {
     pub outs: ItemLists,
     pub adds: RowLists,
-    // lists that were used before: their memory is used again, and nothing is said of what they have
+}
+
+/// Lists that were used before: their memory is used again, and nothing is said of what they have.
+#[derive(Drop)]
+pub struct Spare {
     items: Items,
     pushes: Emitted,
+}
+
+impl Spare {
+    /// Lists without any memory.
+    pub fn new(alloc: Global) -> Spare {
+        Spare {
+            items: Items::new(alloc),
+            pushes: Emitted::new(alloc),
+        }
+    }
+
+    /// An empty list for items, with the memory of one that was used before.
+    pub fn take_items(&mut self, alloc: Global) -> Items
+        ensures { result ≡ [] }
+    {
+        emptied(alloc, &mut self.items)
+    }
+
+    /// An empty list for what a body pushes, with the memory of one that was used before.
+    pub fn take_pushes(&mut self, alloc: Global) -> Emitted
+        ensures { result ≡ [] }
+    {
+        emptied(alloc, &mut self.pushes)
+    }
 }
 
 impl Emit {
@@ -36,8 +64,6 @@ impl Emit {
         Ok(Emit {
             outs: Listed::blanks(alloc, ports)?,
             adds: Listed::blanks(alloc, tables)?,
-            items: Items::new(alloc),
-            pushes: Emitted::new(alloc),
         })
     }
 
@@ -46,35 +72,20 @@ impl Emit {
         requires { port < length self.old.outs }
         ensures { OnOk result (Took self.old self.new (gives port (item ∷ []) [])) }
     {
-        self.outs.push_at(port, item)?;
-        Ok(())
+        self.outs.push_at(port, item)
     }
 
-    /// An empty list for items, with the memory of one that was used before.
-    pub(crate) fn spare_items(&mut self, alloc: Global) -> Items
-        ensures empty { result ≡ [] }
-        ensures outs { self.new.outs ≡ self.old.outs }
-        ensures adds { self.new.adds ≡ self.old.adds }
-    {
-        emptied(alloc, &mut self.items)
-    }
-
-    /// An empty list for what a body pushes, with the memory of one that was used before.
-    pub(crate) fn spare_pushes(&mut self, alloc: Global) -> Emitted
-        ensures empty { result ≡ [] }
-        ensures outs { self.new.outs ≡ self.old.outs }
-        ensures adds { self.new.adds ≡ self.old.adds }
-    {
-        emptied(alloc, &mut self.pushes)
-    }
-
-    /// These items at a port.
-    pub(crate) fn give_all(&mut self, port: usize, items: Items) -> Result<(), NoMemory>
+    /// These items at a port. A list that is left over is spare.
+    pub(crate) fn give_all(
+        &mut self,
+        port: usize,
+        items: Items,
+        spare: &mut Spare,
+    ) -> Result<(), NoMemory>
         requires { port < length self.old.outs }
         ensures { OnOk result (Took self.old self.new (gives port items [])) }
     {
-        add_items(&mut self.outs, port, items, &mut self.items)?;
-        Ok(())
+        add_items(&mut self.outs, port, items, &mut spare.items)
     }
 
     /// One more row for a table.
@@ -83,8 +94,7 @@ impl Emit {
         ensures outs { OnOk result (self.new.outs ≡ self.old.outs) }
         ensures adds { OnOk result (self.new.adds ≡ each_grew self.old.adds (only table (row.now ∷ []))) }
     {
-        self.adds.push_at(table, *row)?;
-        Ok(())
+        self.adds.push_at(table, *row)
     }
 
     /// An item for every port: copies, and the item itself at the last.
@@ -100,14 +110,14 @@ impl Emit {
         Ok(())
     }
 
-    /// The rows that a body pushed, each at its port.
-    pub(crate) fn give_pushes(&mut self, pushes: Emitted) -> Result<(), NoMemory>
+    /// The rows that a body pushed, each at its port. Their list is spare.
+    pub(crate) fn give_pushes(&mut self, pushes: Emitted, spare: &mut Spare) -> Result<(), NoMemory>
         requires { All (λ push. push.0 < length self.old.outs) pushes }
         ensures outs { OnOk result (self.new.outs ≡ each_grew self.old.outs (λ port. pushed_to port pushes)) }
         ensures adds { OnOk result (self.new.adds ≡ self.old.adds) }
     {
         add_pushes(&mut self.outs, &pushes)?;
-        self.pushes = pushes;
+        spare.pushes = pushes;
         Ok(())
     }
 
@@ -137,8 +147,7 @@ impl Emit {
         ensures adds { OnOk result (self.new.adds ≡ each_grew self.old.adds (beside (length first.old.adds) (list_at first.old.adds) (list_at second.old.adds))) }
     {
         splice_items(alloc, &mut self.outs, &mut first.outs, &mut second.outs, at)?;
-        join_rows(alloc, &mut self.adds, &mut first.adds, &mut second.adds)?;
-        Ok(())
+        join_rows(alloc, &mut self.adds, &mut first.adds, &mut second.adds)
     }
 }
 
@@ -161,8 +170,7 @@ fn add_items(
     requires { place < length outs.old }
     ensures { OnOk result (outs.new ≡ append_at outs.old place items) }
 {
-    join(outs.at_mut(place), items, spare)?;
-    Ok(())
+    join(outs.at_mut(place), items, spare)
 }
 
 // Items come to the end of a list; where it has none, it becomes theirs.
@@ -173,8 +181,7 @@ fn join(list: &mut Items, items: Items, spare: &mut Items) -> Result<(), NoMemor
         *spare = replace(list, items);
         return Ok(());
     }
-    list.append(items)?;
-    Ok(())
+    list.append(items)
 }
 
 // The rows that a body pushed, each at its port.

@@ -9,7 +9,7 @@ ghost use Rattle.brooklet_model.specs.Firings.{gives};
 ghost use Rattle.brooklet_step.specs.Took.{IsBlank, Took};
 ghost use Rattle.brooklet_step.specs.Given.{CanTake, CanTakeAll, CanTakeOn, FiresAt, FiresEach, TookOn};
 
-use crate::emit::Emit;
+use crate::emit::{Emit, Spare};
 use crate::single::{fire_leaf, is_leaf};
 use crate::state::{State, States};
 use kern_rows::Line;
@@ -59,11 +59,12 @@ fn add_flat(item: Item, all: &mut Flats) -> Result<(), NoMemory>
     }
 }
 
-/// One firing of a kernel on an item at a port, appended to the lists of `out`. Whatever word of firings the states stand for,
-/// and whatever item the queue holds this one for, the lists grow by what queues hold for what the definition gives, and the
-/// states stand for that word with this firing. And of the states alone, under each choice of types that they fit: what is given
-/// may be held by queues of the output ports' types, rows for tables have their widths, and the states fit again, so that the
-/// kernel can fire on any item of its types. Where there is no memory, nothing is said of the states and the lists.
+/// One firing of a kernel on an item at a port, appended to the lists of `out`. Whatever states of the definition it is that the
+/// states stand for, after whatever word of firings from there, and whatever item the queue holds this one for: the lists grow by
+/// what queues hold for what the definition gives, and the states stand for that word with this firing. And of the states alone,
+/// under each choice of types that they fit: what is given may be held by queues of the output ports' types, rows for tables have
+/// their widths, and the states fit again, so that the kernel can fire on any item of its types. Where there is no memory, nothing
+/// is said of the states and the lists.
 pub fn fire(
     alloc: Global,
     kernel: &Kernel,
@@ -75,8 +76,24 @@ pub fn fire(
     requires { CanTake (kern_of kernel.now) port item states.old out.old }
     ensures { OnOk result (FiresAt (kern_of kernel.now) port item out.old out.new states.old states.new) }
 {
-    fire_on(alloc, kernel, port, item, states.as_mut_slice(), out)?;
-    Ok(())
+    let mut spare = Spare::new(alloc);
+    fire_again(alloc, kernel, port, item, states, out, &mut spare)
+}
+
+/// The same, with lists that earlier firings used.
+pub(crate) fn fire_again(
+    alloc: Global,
+    kernel: &Kernel,
+    port: u32,
+    item: Item,
+    states: &mut States,
+    out: &mut Emit,
+    spare: &mut Spare,
+) -> Result<(), NoMemory>
+    requires { CanTake (kern_of kernel.now) port item states.old out.old }
+    ensures { OnOk result (FiresAt (kern_of kernel.now) port item out.old out.new states.old states.new) }
+{
+    fire_on(alloc, kernel, port, item, states.as_mut_slice(), out, spare)
 }
 
 #[cycle(fire_on)]
@@ -87,18 +104,19 @@ fn fire_on(
     item: Item,
     states: &mut [State],
     out: &mut Emit,
+    spare: &mut Spare,
 ) -> Result<(), NoMemory>
     requires { CanTake (kern_of kernel.now) port item states.old out.old }
     ensures { OnOk result (FiresAt (kern_of kernel.now) port item out.old out.new states.old states.new) }
 {
     if is_leaf(kernel) {
-        fire_leaf(alloc, kernel, port, item, states, out)?;
+        fire_leaf(alloc, kernel, port, item, states, out, spare)?;
         return Ok(());
     }
     match kernel {
-        Kernel::Packed(inner) => fire_packed(alloc, inner, port, item, states, out),
+        Kernel::Packed(inner) => fire_packed(alloc, inner, port, item, states, out, spare),
         Kernel::Fused { first, second, at } => {
-            fire_fused(alloc, first, second, *at, port, item, states, out)
+            fire_fused(alloc, first, second, *at, port, item, states, out, spare)
         }
         _ => unreachable!(),
     }
@@ -113,12 +131,13 @@ fn fire_packed(
     item: Item,
     states: &mut [State],
     out: &mut Emit,
+    spare: &mut Spare,
 ) -> Result<(), NoMemory>
     requires { CanTake (packed (kern_of inner.now)) port item states.old out.old }
     ensures { OnOk result (FiresAt (packed (kern_of inner.now)) port item out.old out.new states.old states.new) }
 {
     let mut given = Emit::blank(alloc, 1, 0)?;
-    fire_on(alloc, inner, port, item, states, &mut given)?;
+    fire_on(alloc, inner, port, item, states, &mut given, spare)?;
     give_pack(alloc, &mut given, out)
 }
 
@@ -145,6 +164,7 @@ fn fire_fused(
     item: Item,
     states: &mut [State],
     out: &mut Emit,
+    spare: &mut Spare,
 ) -> Result<(), NoMemory>
     requires { CanTake (fused (kern_of first.now) (kern_of second.now) at) port item states.old out.old }
     ensures { OnOk result (FiresAt (fused (kern_of first.now) (kern_of second.now) at) port item out.old out.new states.old states.new) }
@@ -152,8 +172,8 @@ fn fire_fused(
     let count = privates_of(first)?;
     let (mine, rest) = states.split_at_mut(count);
     let mut mid = blank_for(alloc, first)?;
-    fire_on(alloc, first, port, item, mine, &mut mid)?;
-    fire_second(alloc, second, at, rest, &mut mid, out)
+    fire_on(alloc, first, port, item, mine, &mut mid, spare)?;
+    fire_second(alloc, second, at, rest, &mut mid, out, spare)
 }
 
 // The second of two kernels fires on each item that the first gave at port `at`, and what both gave is put together.
@@ -165,13 +185,14 @@ fn fire_second(
     states: &mut [State],
     mid: &mut Emit,
     out: &mut Emit,
+    spare: &mut Spare,
 ) -> Result<(), NoMemory>
     requires { CanTakeOn (kern_of second.now) at states.old mid.old out.old }
     ensures { OnOk result (TookOn (kern_of second.now) at mid.old out.old out.new states.old states.new) }
 {
     let mut last = blank_for(alloc, second)?;
     let mut between = mid.take_port(alloc, at as usize);
-    fire_each(alloc, second, &mut between, states, &mut last)?;
+    fire_each(alloc, second, &mut between, states, &mut last, spare)?;
     out.splice(alloc, mid, &mut last, at as usize)
 }
 
@@ -183,12 +204,13 @@ fn fire_each(
     items: &mut Line,
     states: &mut [State],
     out: &mut Emit,
+    spare: &mut Spare,
 ) -> Result<(), NoMemory>
     requires { CanTakeAll (kern_of kernel.now) items.old states.old out.old }
     ensures { OnOk result (FiresEach (kern_of kernel.now) items.old out.old out.new states.old states.new) }
 {
     while let Some(item) = items.pop() {
-        fire_on(alloc, kernel, 0, item, states, out)?;
+        fire_on(alloc, kernel, 0, item, states, out, spare)?;
     }
     Ok(())
 }

@@ -12,7 +12,7 @@ ghost use Rattle.brooklet_model.specs.Firings.{gives};
 ghost use Rattle.brooklet_step.specs.Took.{Took};
 ghost use Rattle.brooklet_step.specs.Stands.{Takes, Applies, Fires, IsRow, IsPack, IsSlots, Pushed, RanKept};
 
-use crate::emit::Emit;
+use crate::emit::{Emit, Spare};
 use crate::state::State;
 use kern_rows::{CodeKernel, Collect, Deal, Filter, Unpack};
 use river_base::{Flat, Flats, Item, Items, NoMemory, Numbers, Row};
@@ -93,13 +93,14 @@ pub fn fire_code(
     item: Item,
     states: &mut [State],
     out: &mut Emit,
+    spare: &mut Spare,
 ) -> Result<(), NoMemory>
     requires { Applies (code_kern (code_form kernel.now)) 0 item states.old out.old }
     ensures { OnOk result (Fires (code_kern (code_form kernel.now)) out.old out.new states.old states.new (fire_lem (code_kern (code_form kernel.now)) 0 item)) }
 {
-    let mut pushes = out.spare_pushes(alloc);
+    let mut pushes = spare.take_pushes(alloc);
     push_all(alloc, kernel, &item, states, &mut pushes)?;
-    out.give_pushes(pushes)?;
+    out.give_pushes(pushes, spare)?;
     Ok(())
 }
 
@@ -116,14 +117,18 @@ fn add_values(values: &Numbers, items: &mut Items) -> Result<(), NoMemory>
 }
 
 // Each value as an item at the first port.
-fn give_values(alloc: Global, values: &Numbers, out: &mut Emit) -> Result<(), NoMemory>
+fn give_values(
+    alloc: Global,
+    values: &Numbers,
+    out: &mut Emit,
+    spare: &mut Spare,
+) -> Result<(), NoMemory>
     requires { 0 < length out.old.outs }
     ensures { OnOk result (Took out.old out.new (gives 0 (map (λ v. variant.Flat (flat.One (v ∷ []))) values.now) [])) }
 {
-    let mut items = out.spare_items(alloc);
+    let mut items = spare.take_items(alloc);
     add_values(values, &mut items)?;
-    out.give_all(0, items)?;
-    Ok(())
+    out.give_all(0, items, spare)
 }
 
 /// A value comes to a filter.
@@ -133,6 +138,7 @@ pub fn fire_filter(
     item: Item,
     state: &mut State,
     out: &mut Emit,
+    spare: &mut Spare,
 ) -> Result<(), NoMemory>
     requires { Applies (filter_kern (filter_form filter.now)) 0 item (state.old ∷ []) out.old }
     ensures { OnOk result (Fires (filter_kern (filter_form filter.now)) out.old out.new (state.old ∷ []) (state.new ∷ []) (fire_lem (filter_kern (filter_form filter.now)) 0 item)) }
@@ -142,7 +148,7 @@ pub fn fire_filter(
             let value = row_of(&item).values()[0];
             let mut values = Numbers::new(alloc);
             filter.step(state, value, &mut values)?;
-            give_values(alloc, &values, out)
+            give_values(alloc, &values, out, spare)
         }
         _ => unreachable!(),
     }
@@ -164,8 +170,7 @@ pub fn fire_deal(
     match state {
         State::Deal(state) => {
             let port = Deal::step(weights, state);
-            out.give(port as usize, item)?;
-            Ok(())
+            out.give(port as usize, item)
         }
         _ => unreachable!(),
     }
@@ -179,16 +184,16 @@ pub fn fire_collect(
     item: Item,
     state: &mut State,
     out: &mut Emit,
+    spare: &mut Spare,
 ) -> Result<(), NoMemory>
     requires { Applies (collect_kern weights.now) port item (state.old ∷ []) out.old }
     ensures { OnOk result (Fires (collect_kern weights.now) out.old out.new (state.old ∷ []) (state.new ∷ []) (fire_lem (collect_kern weights.now) port item)) }
 {
     match state {
         State::Collect(state) => {
-            let mut items = out.spare_items(alloc);
+            let mut items = spare.take_items(alloc);
             Collect::step(weights, state, port, item, &mut items)?;
-            out.give_all(0, items)?;
-            Ok(())
+            out.give_all(0, items, spare)
         }
         _ => unreachable!(),
     }
@@ -213,16 +218,16 @@ pub fn fire_unpack(
     item: Item,
     state: &mut State,
     out: &mut Emit,
+    spare: &mut Spare,
 ) -> Result<(), NoMemory>
     requires { Applies (unpack_kern ports) port item (state.old ∷ []) out.old }
     ensures { OnOk result (Fires (unpack_kern ports) out.old out.new (state.old ∷ []) (state.new ∷ []) (fire_lem (unpack_kern ports) port item)) }
 {
     match state {
         State::Unpack(state) => {
-            let mut items = out.spare_items(alloc);
+            let mut items = spare.take_items(alloc);
             Unpack::step(ports, state, port, pack_of(item), &mut items)?;
-            out.give_all(0, items)?;
-            Ok(())
+            out.give_all(0, items, spare)
         }
         _ => unreachable!(),
     }

@@ -6,7 +6,7 @@ ghost use Rattle.brooklet_step.specs.Given.{IsLeaf};
 ghost use Rattle.brooklet_step.specs.Stands.{Applies, Fires};
 
 use crate::bag::{fire_cross, fire_project, fire_select, fire_streamer, fire_window};
-use crate::emit::Emit;
+use crate::emit::{Emit, Spare};
 use crate::leaf::{fire_code, fire_collect, fire_deal, fire_filter, fire_tally, fire_unpack};
 use crate::state::State;
 use river_base::{Item, NoMemory};
@@ -42,25 +42,28 @@ pub fn fire_leaf(
     item: Item,
     states: &mut [State],
     out: &mut Emit,
+    spare: &mut Spare,
 ) -> Result<(), NoMemory>
     requires leaf { IsLeaf (kern_of kernel.now) }
     requires applies { Applies (kern_of kernel.now) port item states.old out.old }
     ensures { OnOk result (Fires (kern_of kernel.now) out.old out.new states.old states.new (fire_lem (kern_of kernel.now) port item)) }
 {
     match kernel {
-        Kernel::Code(code) => fire_code(alloc, code, item, states, out),
-        Kernel::Filter(filter) => fire_filter(alloc, filter, item, &mut states[0], out),
+        Kernel::Code(code) => fire_code(alloc, code, item, states, out, spare),
+        Kernel::Filter(filter) => fire_filter(alloc, filter, item, &mut states[0], out, spare),
         Kernel::Duplicate(_) => out.give_everywhere(alloc, item),
         Kernel::Deal(weights) => fire_deal(weights, item, &mut states[0], out),
         Kernel::Collect(weights) => {
-            fire_collect(alloc, weights, port, item, &mut states[0], out)
+            fire_collect(alloc, weights, port, item, &mut states[0], out, spare)
         }
-        Kernel::Unpack(ports) => fire_unpack(alloc, *ports, port, item, &mut states[0], out),
-        Kernel::Window(window) => fire_window(alloc, window, item, &mut states[0], out),
-        Kernel::Select(cond) => fire_select(alloc, cond, item, out),
-        Kernel::Project(list) => fire_project(alloc, list, item, out),
-        Kernel::Cross => fire_cross(alloc, port, item, &mut states[0], out),
-        Kernel::Streamer(streamer) => { fire_streamer(alloc, streamer, item, &mut states[0], out) }
+        Kernel::Unpack(ports) => fire_unpack(alloc, *ports, port, item, &mut states[0], out, spare),
+        Kernel::Window(window) => fire_window(alloc, window, item, &mut states[0], out, spare),
+        Kernel::Select(cond) => fire_select(alloc, cond, item, out, spare),
+        Kernel::Project(list) => fire_project(alloc, list, item, out, spare),
+        Kernel::Cross => fire_cross(alloc, port, item, &mut states[0], out, spare),
+        Kernel::Streamer(streamer) => {
+            fire_streamer(alloc, streamer, item, &mut states[0], out, spare)
+        }
         Kernel::Tally => fire_tally(item, out),
         Kernel::Packed(_) | Kernel::Fused { .. } => unreachable!(),
     }

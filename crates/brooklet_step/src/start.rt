@@ -149,8 +149,9 @@ pub(crate) fn states_of(alloc: Global, kernel: &Kernel) -> Result<States, NoMemo
     }
 }
 
-/// The states of a kernel before its first firing, and an empty list for each of its ports and tables. The states stand for those
-/// of the definition after no firing, and under each choice of types that the kernel fits they fit again: the kernel can fire.
+/// The states of a kernel before its first firing, and an empty list for each of its ports and tables. The states stand for the
+/// first ones of the definition, from which firings may begin, and under each choice of types that the kernel fits they fit: the
+/// kernel can fire.
 pub fn first_states(alloc: Global, kernel: &Kernel) -> Result<(States, Emit), NoMemory>
     requires { IsFormed (kern_of kernel.now) }
     ensures states { IfOk result (λ both. IsFirst (kern_of kernel.now) both.0) }

@@ -8,8 +8,8 @@ ghost use Rattle.brooklet_step.specs.Drained.{RunsOn};
 ghost use Rattle.brooklet_step.specs.Reading.{IsPlaceRead, IsFront, CanFire, IsBlankOf, FiredOp};
 
 use crate::add::add_all;
-use crate::emit::clear_all;
-use crate::firing::{blank_for, fire};
+use crate::emit::{Spare, clear_all};
+use crate::firing::{blank_for, fire_again};
 use crate::machine::{Lines, Parts, Sizes};
 use crate::{Emit, ItemLists, States};
 use kern_rows::Line;
@@ -60,7 +60,7 @@ pub(crate) fn fire_next(
     ensures refused { OnErr result (parts.new.stopped ≡ true) }
 {
     match blank_of(alloc, &parts.plan, op) {
-        Ok(mut out) => fire_with(alloc, parts, op, port, &mut out),
+        Ok(mut out) => fire_with(alloc, parts, op, port, &mut out, &mut Spare::new(alloc)),
         Err(e) => stop(parts, e),
     }
 }
@@ -102,7 +102,15 @@ fn fire_most(
     ensures refused { OnErr result (parts.new.stopped ≡ true) }
 {
     match blank_of(alloc, &parts.plan, op) {
-        Ok(mut out) => fire_all(alloc, parts, op, port, most, &mut out),
+        Ok(mut out) => fire_all(
+            alloc,
+            parts,
+            op,
+            port,
+            most,
+            &mut out,
+            &mut Spare::new(alloc),
+        ),
         Err(e) => stop(parts, e),
     }
 }
@@ -115,6 +123,7 @@ fn fire_all(
     port: u32,
     most: usize,
     out: &mut Emit,
+    spare: &mut Spare,
 ) -> Result<(), NoMemory>
     requires running { parts.old.stopped ≡ false }
     requires goes_on { GoesOn parts.old }
@@ -127,7 +136,7 @@ fn fire_all(
         if !is_enabled(parts, op as usize, port as usize) {
             return Ok(());
         }
-        fire_with(alloc, parts, op, port, out)?;
+        fire_with(alloc, parts, op, port, out, spare)?;
     }
     Ok(())
 }
@@ -156,6 +165,7 @@ fn fire_with(
     op: u32,
     port: u32,
     out: &mut Emit,
+    spare: &mut Spare,
 ) -> Result<(), NoMemory>
     requires goes_on { GoesOn parts.old }
     requires enabled { IsEnabled parts.old op port }
@@ -176,6 +186,7 @@ fn fire_with(
         item,
         parts.states.at_mut(op as usize),
         out,
+        spare,
     )?;
     send(
         &mut parts.queues,
@@ -214,14 +225,14 @@ fn fire_op(
     item: Item,
     states: &mut States,
     out: &mut Emit,
+    spare: &mut Spare,
 ) -> Result<(), NoMemory>
     requires can { CanFire plan.now op port item states.old }
     requires blank { IsBlankOf plan.now op out.old }
     ensures { OnOk result (FiredOp plan.now op port item states.old states.new out.new) }
 {
     let kernel = &plan.raw().ops.at(op as usize).kernel;
-    fire(alloc, kernel, port, item, states, out)?;
-    Ok(())
+    fire_again(alloc, kernel, port, item, states, out, spare)
 }
 
 // Each port's items move to the end of its queue; none is left.

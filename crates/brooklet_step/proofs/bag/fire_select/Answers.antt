@@ -1,11 +1,11 @@
 use Rattle.std.proofs.Common.{◌≡◌, [], ◌++◌, sym, ap, ◌∙◌, subst}
+use Rattle.std.proofs.lemmas.Result.{on_ok_weaker}
 use Rattle.work_code.specs.Term.{term}
 use Rattle.river_base.specs.declared.item.Item.TheVariants.{Flat}
 use Rattle.kern_bags.specs.Needs.{flat_rows, CanRead}
 use Rattle.kern_bags.specs.Steps.{select_one}
 use Rattle.brooklet_model.specs.Firings.{gives}
 use Rattle.brooklet_step.specs.Took.{Took}
-use Rattle.brooklet_step.proofs.Leaves.{took_from}
 use Rattle.brooklet_step.proofs.BagLeaves.{same_flat}
 use Rattle.brooklet_step.proofs.bag.fire_select.Goals as goal
 
@@ -21,5 +21,7 @@ pub returns : goal.returns
 returns c =
     let es = term c.args.cond.now in
     let given : c.select.new.out ≡ select_one es c.args.item =
-    c.in_ok-select.ensures.ok ∙ ap (λ l. l ++ select_one es (Flat c.flat_of.result)) c.spare_items-items.ensures.empty ∙ ap (select_one es) c.flat_of.ensures in
-    subst (λ l. Took c.args.out.now c.give_all.new.self (gives 0 l [])) given (took_from c.args.out.now c.spare_items-items.new.self c.give_all.new.self _ c.spare_items-items.ensures.outs c.spare_items-items.ensures.adds c.in_ok-give_all.ensures)
+    c.in_ok-select.ensures.ok ∙ ap (λ l. l ++ select_one es (Flat c.flat_of.result)) c.take_items-items.ensures ∙ ap (select_one es) c.flat_of.ensures in
+    on_ok_weaker c.give_all.result (λ took.
+    subst (λ l. Took c.args.out.now c.give_all.new.self (gives 0 l [])) given took
+    ) c.give_all.ensures

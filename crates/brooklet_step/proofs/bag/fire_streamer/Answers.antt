@@ -1,10 +1,10 @@
 use Rattle.std.proofs.Common.{[], refl, sym, ◌∙◌, subst}
+use Rattle.std.proofs.lemmas.Result.{on_ok_weaker}
 use Rattle.river_base.specs.Held.{IsAscending}
 use Rattle.river_base.specs.declared.item.Item.TheVariants.{Flat}
 use Rattle.kern_bags.specs.Kept.{StandsForStreamer, Steps}
 use Rattle.kern_bags.specs.Needs.{flat_rows}
 use Rattle.kern_bags.specs.Steps.{streamer_one}
-use Rattle.brooklet_step.proofs.Leaves.{took_from}
 use Rattle.brooklet_step.proofs.BagLeaves.{same_flat, same_rows}
 use Rattle.brooklet_step.proofs.bag.fire_streamer.Goals as goal
 
@@ -21,6 +21,7 @@ step-requires-clause-rows c =
 pub returns-clause-steps : goal.returns-clause-steps
 returns-clause-steps c =
     let s = c.args.streamer.now in
+    on_ok_weaker c.give_all.result (λ took.
     record {
       old = c.in-Streamer.state;
       new = c.step.new.state;
@@ -28,10 +29,11 @@ returns-clause-steps c =
       was = c.in-Streamer.is;
       is = refl;
       steps = subst (λ x. Steps (StandsForStreamer s) (streamer_one s) x c.in-Streamer.state c.step.new.state [] c.step.new.out) c.flat_of.ensures
-          (subst (λ l. Steps (StandsForStreamer s) (streamer_one s) (Flat c.flat_of.result) c.in-Streamer.state c.step.new.state l c.step.new.out) c.spare_items-items.ensures.empty c.in_ok-step-in-Streamer.ensures.ok);
-      took =
-          took_from c.args.out.now c.spare_items-items.new.self c.give_all.new.self _ c.spare_items-items.ensures.outs c.spare_items-items.ensures.adds c.in_ok-give_all-in-Streamer.ensures;
+          (subst (λ l. Steps (StandsForStreamer s) (streamer_one s) (Flat c.flat_of.result) c.in-Streamer.state c.step.new.state l c.step.new.out) c.take_items-items.ensures c.in_ok-step-in-Streamer.ensures.ok);
+      took = took;
     }
+    ) c.give_all.ensures
 
 pub returns-clause-kept : goal.returns-clause-kept
-returns-clause-kept c = record { now = c.step.new.state; is = refl; ascends = c.in_ok-step-in-Streamer.ensures.kept }
+returns-clause-kept c =
+    on_ok_weaker c.give_all.result (λ took. record { now = c.step.new.state; is = refl; ascends = c.in_ok-step-in-Streamer.ensures.kept }) c.give_all.ensures

@@ -1,9 +1,9 @@
 use Rattle.std.proofs.Common.{[], refl, sym, ◌∙◌, subst}
+use Rattle.std.proofs.lemmas.Result.{on_ok_weaker}
 use Rattle.river_base.specs.declared.item.Item.TheVariants.{Flat}
 use Rattle.river_base.specs.declared.item.Flat.TheVariants.{Batch as Batched}
 use Rattle.kern_bags.specs.Kept.{IsWindowKept, StandsForWindow, Steps}
 use Rattle.kern_bags.specs.Steps.{window_one}
-use Rattle.brooklet_step.proofs.Leaves.{took_from}
 use Rattle.brooklet_step.proofs.BagLeaves.{same_window}
 use Rattle.brooklet_step.proofs.bag.fire_window.Goals as goal
 
@@ -16,6 +16,7 @@ pub returns : goal.returns
 returns c =
     let w = c.args.window.now in
     let one = c.in_ok-step-in-Window.ensures.ok in
+    on_ok_weaker c.give_all.result (λ took.
     record {
       old = c.in-Window.state;
       new = c.step.new.state;
@@ -23,7 +24,7 @@ returns c =
       was = c.in-Window.is;
       is = refl;
       steps = subst (λ x. Steps (StandsForWindow w) (window_one w) x c.in-Window.state c.step.new.state [] c.step.new.out) c.batch_of.ensures
-          (subst (λ l. Steps (StandsForWindow w) (window_one w) (Flat (Batched c.batch_of.result)) c.in-Window.state c.step.new.state l c.step.new.out) c.spare_items-items.ensures.empty one);
-      took =
-          took_from c.args.out.now c.spare_items-items.new.self c.give_all.new.self _ c.spare_items-items.ensures.outs c.spare_items-items.ensures.adds c.in_ok-give_all-in-Window.ensures;
+          (subst (λ l. Steps (StandsForWindow w) (window_one w) (Flat (Batched c.batch_of.result)) c.in-Window.state c.step.new.state l c.step.new.out) c.take_items-items.ensures one);
+      took = took;
     }
+    ) c.give_all.ensures

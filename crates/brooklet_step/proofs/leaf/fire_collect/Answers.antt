@@ -1,6 +1,7 @@
 use Rattle.std.proofs.Common.{refl, ap, ◌∙◌, ◌++◌}
+use Rattle.std.proofs.lemmas.Result.{on_ok_weaker}
 use Rattle.kern_rows.specs.Turns.{shares, joins, itself}
-use Rattle.brooklet_step.proofs.Leaves.{took_from, collect_shares, collect_port, collect_fires}
+use Rattle.brooklet_step.proofs.Leaves.{collect_shares, collect_port, collect_fires}
 use Rattle.brooklet_step.proofs.leaf.fire_collect.Goals as goal
 
 pub step-requires-clause-weights : goal.step-requires-clause-weights
@@ -11,4 +12,6 @@ step-requires-clause-port c = collect_port c.args.weights.now c.args.port c.args
 
 pub returns : goal.returns
 returns c =
-    collect_fires c.args.weights.now c.args.port c.args.item c.args.state.now _ c.in-Collect.state c.step.new.state _ c.args.out.now c.give_all.new.self c.requires c.in-Collect.is refl (c.in_ok-step-in-Collect.ensures.given ∙ ap (λ l. l ++ (joins itself (shares c.args.weights.now) c.args.port c.args.item c.in-Collect.state).0) c.spare_items-items.ensures.empty) c.in_ok-step-in-Collect.ensures.state (took_from c.args.out.now c.spare_items-items.new.self c.give_all.new.self _ c.spare_items-items.ensures.outs c.spare_items-items.ensures.adds c.in_ok-give_all-in-Collect.ensures)
+    on_ok_weaker c.give_all.result (λ took.
+    collect_fires c.args.weights.now c.args.port c.args.item c.args.state.now _ c.in-Collect.state c.step.new.state _ c.args.out.now c.give_all.new.self c.requires c.in-Collect.is refl (c.in_ok-step-in-Collect.ensures.given ∙ ap (λ l. l ++ (joins itself (shares c.args.weights.now) c.args.port c.args.item c.in-Collect.state).0) c.take_items-items.ensures) c.in_ok-step-in-Collect.ensures.state took
+    ) c.give_all.ensures
