@@ -9,7 +9,7 @@ use Rattle.river_plan.specs.Forms.{Name, OpForm}
 use Rattle.river_plan.specs.Names.{count}
 use Rattle.river_plan.specs.declared.plan.Decl.{Decl}
 use Rattle.river_plan.specs.declared.plan.RawPlan.{RawPlan}
-use Rattle.cql_model.specs.Accepted.{IsQuery, AreQueries, declared}
+use Rattle.cql_model.specs.Plannable.{IsQuery, AreQueries, declared}
 use Rattle.cql_model.specs.Faults.{IsShortName, AreShort}
 use Rattle.cql_model.specs.Program as program
 use Rattle.cql_model.specs.Program.{Scalar, Columns, Query, Register, Ask, Program, streams_of, all_uses}

@@ -16,7 +16,7 @@ use Rattle.river_plan.specs.declared.fault.PlanFault.{PlanFault}
 use Rattle.river_plan.specs.declared.fault.PlanFault.TheVariants.{P1, P2, P3, P4, P5, P6, P7, P8, P9, NoMemory}
 use Rattle.river_plan.specs.declared.plan.Decl.{Decl}
 use Rattle.river_plan.specs.declared.plan.RawPlan.{RawPlan}
-use Rattle.cql_model.specs.Accepted.{IsAccepted, exceeds, declared}
+use Rattle.cql_model.specs.Plannable.{IsPlannable, exceeds, declared}
 use Rattle.cql_model.specs.Faults.{IsShortName, AreShort, first_fault, or_refused, refusal_of}
 use Rattle.cql_model.specs.Program as program
 use Rattle.cql_model.specs.Program.{Register, Ask, Program, registered, all_uses}
@@ -76,7 +76,7 @@ many_exceed p lt = step (exceeds (plan_of p)) refl where
       omega (arith, h, a, b, lt))
 
 -- of a program of fewer a fault is told exactly where it exceeds a limit
-pub told_few : (p : Program) (form : PlanForm) → IsAccepted p → length (all_uses p) ≤ 256 → form ≡ plan_of p → (o : Option PlanFault) → FirstFault form o
+pub told_few : (p : Program) (form : PlanForm) → IsPlannable p → length (all_uses p) ≤ 256 → form ≡ plan_of p → (o : Option PlanFault) → FirstFault form o
     → exceeds form ≡ is_some o
 told_few p form a few e o h =
     ap exceeds e ∙ (only_limits p o a (λ n. let c = count-length n (all_uses p) in omega (arith, c, few)) (subst (λ (x : PlanForm). FirstFault x o) e h)).1

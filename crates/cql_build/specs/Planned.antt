@@ -6,7 +6,7 @@ use Rattle.river_plan.specs.Names.{count}
 use Rattle.river_plan.specs.declared.fault.PlanFault.{PlanFault}
 use Rattle.river_plan.specs.declared.fault.PlanFault.TheVariants.{P1, P2, P3, P4, P5, P6, P7, P8, P9, NoMemory}
 use Rattle.river_plan.specs.declared.plan.Decl.{Decl}
-use Rattle.cql_model.specs.Accepted.{exceeds}
+use Rattle.cql_model.specs.Plannable.{exceeds}
 use Rattle.cql_model.specs.Faults.{IsShortName, refusal_of}
 use Rattle.cql_model.specs.Program.{Part, Register, Ask, Program}
 use Rattle.cql_model.specs.Translation.{decl, copy_decls, copy_ops}

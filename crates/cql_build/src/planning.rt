@@ -5,7 +5,7 @@ ghost use Rattle.river_plan.specs.Forms.{PlanForm, plan_form, op_forms, empty_fo
 ghost use Rattle.river_plan.specs.Uses.{all_vars};
 ghost use Rattle.river_plan.specs.Valid.{FirstFault};
 ghost use Rattle.river_plan.specs.declared.fault.PlanFault as plan_fault;
-ghost use Rattle.cql_model.specs.Accepted.{IsAccepted, exceeds};
+ghost use Rattle.cql_model.specs.Plannable.{IsPlannable, exceeds};
 ghost use Rattle.cql_model.specs.Faults.{AreSpoken, AreShort, first_fault, refusal_of};
 ghost use Rattle.cql_model.specs.Program.{registered, all_uses};
 ghost use Rattle.cql_model.specs.Translation.{input_decls, input_copies, input_ops, plan_of};
@@ -60,7 +60,7 @@ pub fn plan(alloc: Global, parts: &[Part]) -> Result<Plan, Refused>
 
 // The same, where no unit has a fault.
 fn faultless(alloc: Global, parts: &[Part]) -> Result<Plan, Refused>
-    requires accepted { IsAccepted (program_of parts.now) }
+    requires accepted { IsPlannable (program_of parts.now) }
     requires short { AreShort (program_of parts.now) }
     requires none { first_fault [] 0 1 (program_of parts.now) ≡ None }
     ensures plan { IfOk result (λ plan. (refusal_of (program_of parts.now) ≡ None) × (plan ≡ plan_of (program_of parts.now))) }
@@ -116,7 +116,7 @@ fn told(fault: PlanFault, unit: usize) -> Refused
 
 // The lists of the plan.
 fn lists(alloc: Global, uses: &mut Uses, parts: &[Part]) -> Result<RawPlan, NoMemory>
-    requires accepted { IsAccepted (program_of parts.now) }
+    requires accepted { IsPlannable (program_of parts.now) }
     requires short { AreShort (program_of parts.now) }
     requires inputs { uses.old.inputs ≡ registered (program_of parts.now) }
     requires all { uses.old.all ≡ all_uses (program_of parts.now) }
@@ -131,7 +131,7 @@ fn lists(alloc: Global, uses: &mut Uses, parts: &[Part]) -> Result<RawPlan, NoMe
 // Fills lists that are empty.
 fn fill(alloc: Global, raw: &mut RawPlan, uses: &mut Uses, parts: &[Part]) -> Result<(), NoMemory>
     requires empty { plan_form raw.old ≡ empty_form }
-    requires accepted { IsAccepted (program_of parts.now) }
+    requires accepted { IsPlannable (program_of parts.now) }
     requires short { AreShort (program_of parts.now) }
     requires inputs { uses.old.inputs ≡ registered (program_of parts.now) }
     requires all { uses.old.all ≡ all_uses (program_of parts.now) }

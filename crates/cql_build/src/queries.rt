@@ -3,7 +3,7 @@ ghost use Rattle.std.specs.Prelude.{◌≡◌, ◌≤◌, ◌<◌, ◌++◌, ◌
 ghost use Rattle.std.specs.List.{AllByRecursion};
 ghost use Rattle.river_kernels.specs.Fits.{stream};
 ghost use Rattle.river_plan.specs.Names.{count};
-ghost use Rattle.cql_model.specs.Accepted.{IsQuery, AreQueries};
+ghost use Rattle.cql_model.specs.Plannable.{IsQuery, AreQueries};
 ghost use Rattle.cql_model.specs.Faults.{IsShortName, AreShort};
 ghost use Rattle.cql_model.specs.Program.{streams_of};
 ghost use Rattle.cql_model.specs.Scopes.{Named, scope_of};

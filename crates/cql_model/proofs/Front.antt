@@ -13,7 +13,7 @@ use Rattle.river_base.proofs.Instants.{once_rises, once_has, has_once}
 use Rattle.river_plan.specs.Forms.{Name}
 use Rattle.river_plan.specs.Names.{count}
 use Rattle.river_plan.proofs.NameLemmas.{one_same}
-use Rattle.cql_model.specs.Accepted.{AreQueries}
+use Rattle.cql_model.specs.Plannable.{AreQueries}
 use Rattle.cql_model.specs.Instants.{stands_in, InstantsRise, InstantsAreStamps, PlansMean}
 use Rattle.cql_model.specs.Laws.{AreAsked}
 use Rattle.cql_model.specs.Program.{Register, Ask, Program, registered}

@@ -18,7 +18,7 @@ use Rattle.river_plan.specs.Names.{one_if, count, with_name}
 use Rattle.river_plan.specs.Uses.{total, writes_it, and_writes, ReadsBefore, all_writes, all_vars}
 use Rattle.river_plan.proofs.NameLemmas.{cases_name, count-append, one_same, more_or_zero}
 use Rattle.river_plan.proofs.ShareLemmas.{total-vars}
-use Rattle.cql_model.specs.Accepted.{has_no_at, declared}
+use Rattle.cql_model.specs.Plannable.{has_no_at, declared}
 use Rattle.cql_model.specs.InTurn.{PlansInTurn}
 use Rattle.river_plan.specs.InTurn.{mentioned}
 use Rattle.cql_model.specs.Program.{Scalar, Source, Columns, Star, Chosen, Query, Register, Ask, Program, registered, streams_of, all_uses}

@@ -21,6 +21,11 @@ pub mod Examples
 pub mod Front
 pub mod Kernels
 pub mod Fit
+pub mod First
+pub mod Earlier
+pub mod SpotFaults
+pub mod UnitFaults
 pub mod Faultless
+pub mod Judged
 pub mod Unrefused
 pub mod InTurn

@@ -9,7 +9,7 @@ use Rattle.river_base.specs.Name.{name_eq}
 use Rattle.river_plan.specs.Forms.{Name}
 use Rattle.river_plan.specs.Names.{one_if, count}
 use Rattle.river_plan.proofs.NameLemmas.{cases_name, cases_bool, name_same, more_or_zero}
-use Rattle.cql_model.specs.Accepted.{has_no_at}
+use Rattle.cql_model.specs.Plannable.{has_no_at}
 use Rattle.cql_model.specs.Translation.{at_word}
 
 -- what stands before the first `@`, and what behind it

@@ -22,7 +22,7 @@ use Rattle.river_plan.specs.Valid.{IsPlan, FirstFault}
 use Rattle.river_plan.proofs.ValidLaw.{once-names, total-labels, all-along, each-along, names-along, all-declared, reads-order, every-each, no_fault-valid}
 use Rattle.river_plan.proofs.ValidLaw.{valid-no_fault}
 use Rattle.river_plan.proofs.OneFirst.{fault-one}
-use Rattle.cql_model.specs.Accepted.{KeepsRules, IsLimit, exceeds, OnlyLimits, PlansAreValid}
+use Rattle.cql_model.specs.Plannable.{KeepsRules, IsLimit, exceeds, OnlyLimits, PlansAreValid}
 use Rattle.cql_model.specs.Translation.{ops_of, plan_of}
 use Rattle.cql_model.proofs.Valid.{few_uses, plans_keep}
 

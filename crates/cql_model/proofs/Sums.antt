@@ -7,7 +7,7 @@ use Rattle.river_plan.specs.Forms.{Name, decl_names}
 use Rattle.river_plan.specs.Names.{count}
 use Rattle.river_plan.specs.Uses.{total, writes_it, reads_it, vars_it, named_it}
 use Rattle.river_plan.proofs.NameLemmas.{count-append}
-use Rattle.cql_model.specs.Accepted.{has_no_at, declared}
+use Rattle.cql_model.specs.Plannable.{has_no_at, declared}
 use Rattle.cql_model.specs.Program.{Source, Query, Part, Register, Ask, Program, registered, streams_of, all_uses}
 use Rattle.cql_model.specs.Scopes.{Named, scope_of}
 use Rattle.cql_model.specs.Translation.{source_at, sources, query_ops, query_named, ask_ops, copy_ops, input_ops, query_decls, ask_decls, copy_decls}

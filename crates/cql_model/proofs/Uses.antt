@@ -9,7 +9,7 @@ use Rattle.std.proofs.lemmas.Fmt.{decimal_injective}
 use Rattle.river_plan.specs.Forms.{Name}
 use Rattle.river_plan.specs.Names.{one_if, count}
 use Rattle.river_plan.proofs.NameLemmas.{cases_name, count-append, one_same, more_or_zero}
-use Rattle.cql_model.specs.Accepted.{has_no_at}
+use Rattle.cql_model.specs.Plannable.{has_no_at}
 use Rattle.cql_model.specs.Program.{Query, Register, Ask, Program}
 use Rattle.cql_model.specs.Translation.{source_at, sources}
 use Rattle.cql_model.proofs.Naming.{split, Tag, tagged, tags, class, split_tagged, own_count, own_base, starts_low, low_class}

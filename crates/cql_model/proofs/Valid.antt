@@ -19,7 +19,7 @@ use Rattle.river_plan.specs.Names.{one_if, count}
 use Rattle.river_plan.specs.Uses.{Each, total, writes_it, reads_it, vars_it, named_it, all_vars, ReadsBefore}
 use Rattle.river_plan.proofs.NameLemmas.{cases_name, name_same, count-append, one_same, more_or_zero}
 use Rattle.river_plan.proofs.ShareLemmas.{total-vars}
-use Rattle.cql_model.specs.Accepted.{has_no_at, declared, IsQuery, AreQueries, PlansKeep}
+use Rattle.cql_model.specs.Plannable.{has_no_at, declared, IsQuery, AreQueries, PlansKeep}
 use Rattle.cql_model.specs.Laws.{known_names, AreKnown}
 use Rattle.cql_model.specs.Program.{Scalar, Source, Columns, Star, Chosen, Query, Register, Ask, Program, registered, streams_of, all_uses}
 use Rattle.cql_model.specs.Scopes.{Named, scope_of, item_named}

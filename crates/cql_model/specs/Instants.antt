@@ -1,14 +1,12 @@
 -- What programs mean at the instants of a run, which are all timestamps of its files.
-use Rattle.std.specs.Prelude.{◌≡◌, ◌≤◌, ℤ, Bool, List, [], map, All}
+use Rattle.std.specs.Prelude.{◌≡◌, ℤ, Bool, List, [], map}
 use Rattle.std.specs.List.{list_any}
 use Rattle.std.specs.Ordering.{int_eq}
 use Rattle.river_base.specs.declared.item.Item as item
 pub use Rattle.river_base.specs.Instants.{stamps, instants}
 use Rattle.river_base.specs.Instants.{at_instant, spread}
 use Rattle.brooklet_model.specs.Meaning.{meaning}
-use Rattle.river_kernels.specs.declared.limit.Limit.{Limit}
-use Rattle.river_plan.specs.Limits.{most_of, numbers}
-use Rattle.cql_model.specs.Accepted.{IsAccepted}
+use Rattle.cql_model.specs.Plannable.{IsPlannable, KeepsLimits}
 use Rattle.cql_model.specs.Laws.{AreFiles}
 use Rattle.cql_model.specs.Meaning.{answers}
 use Rattle.cql_model.specs.Program.{Program}
@@ -34,8 +32,8 @@ program_means p files = map (spread (instants files)) (answers (instants files) 
 abbrev pub inputs_for : List (List (ℤ × List ℤ)) → List (List item.Item)
 inputs_for files = map (λ f. spread (instants files) (at_instant f)) files
 
--- the plan of an accepted program means what the program means
+-- a plan that can be made and keeps the limits of plans means what the program means
 abbrev pub PlansMean : Type 0
 PlansMean =
-    (p : Program) (files : List (List (ℤ × List ℤ))) → IsAccepted p → ((l : Limit) → All (λ n. n ≤ most_of l) (numbers l (plan_of p))) → AreFiles p files
+    (p : Program) (files : List (List (ℤ × List ℤ))) → IsPlannable p → KeepsLimits (plan_of p) → AreFiles p files
     → meaning (plan_of p) (inputs_for files) ≡ record { outs = program_means p files; tables = [] }

@@ -1,9 +1,10 @@
 //! Laws over the definitions alone.
-ghost use Rattle.cql_model.specs.Accepted.{PlansAreValid, PlansKeep, OnlyLimits};
-ghost use Rattle.cql_model.specs.Faults.{FaultlessAccepted, UnrefusedAreValid, UnrefusedMean};
+ghost use Rattle.cql_model.specs.Plannable.{PlansAreValid, PlansKeep, OnlyLimits};
+ghost use Rattle.cql_model.specs.Faults.{FaultlessPlannable, UnrefusedAreValid, UnrefusedMean};
 ghost use Rattle.cql_model.specs.Fit.{FilesFit};
 ghost use Rattle.cql_model.specs.Instants.{InstantsRise, InstantsAreStamps, PlansMean};
 ghost use Rattle.cql_model.specs.InTurn.{PlansInTurn};
+ghost use Rattle.cql_model.specs.Refused.{RefusalsAre, AcceptedAre, AcceptedPlannable};
 ghost use Rattle.cql_model.specs.Kernels.{WindowsAre, SelectsAre, ProjectsAre, StreamersAre, CrossesAre};
 
 /// Fed with batches, the kernels on bags give one after another what CQL's operators give: the window's content after each batch,
@@ -23,13 +24,22 @@ pub fn instants_are_stamps()
     ensures all { InstantsAreStamps }
 {}
 
-/// A program in which no unit has a fault is accepted.
-pub fn faultless_are_accepted()
-    ensures { FaultlessAccepted }
+/// A program is refused exactly where the first place in the order of reading that has a fault has this one, and stands in this
+/// unit; or where no place has one, but the plan exceeds a limit of plans, which is told at the last unit. It is accepted exactly
+/// where no place has a fault and the plan keeps the limits.
+pub fn first_faults_are_told()
+    ensures refused { RefusalsAre }
+    ensures accepted { AcceptedAre }
 {}
 
-/// The plan of an accepted program keeps the rules of plans, whatever its size, and so is valid where it keeps their limits. A
-/// fault is told of it exactly where it exceeds a limit, and this is the fault.
+/// Of a program that the grammar gives and that is accepted a plan can be made; and so of one in which no unit has a fault.
+pub fn accepted_are_plannable()
+    ensures accepted { AcceptedPlannable }
+    ensures faultless { FaultlessPlannable }
+{}
+
+/// Where a plan can be made, it keeps the rules of plans, whatever its size, and so is valid where it keeps their limits. A fault is
+/// told of it exactly where it exceeds a limit, and this is the fault.
 pub fn plans_are_valid()
     ensures valid { PlansAreValid }
     ensures rules { PlansKeep }
@@ -47,7 +57,7 @@ pub fn files_fit()
     ensures { FilesFit }
 {}
 
-/// The plan of an accepted program that keeps the limits of plans means what the program means.
+/// A plan that can be made and keeps the limits of plans means what the program means.
 pub fn plans_mean()
     ensures { PlansMean }
 {}
