@@ -18,6 +18,7 @@ pub mod AllFit
 pub mod Valid
 pub mod OnlyLimits
 pub mod Examples
+pub mod Stamps
 pub mod Front
 pub mod Kernels
 pub mod Fit

@@ -2,7 +2,7 @@
 ghost use Rattle.cql_model.specs.Plannable.{PlansAreValid, PlansKeep, OnlyLimits};
 ghost use Rattle.cql_model.specs.Faults.{FaultlessPlannable, UnrefusedAreValid, UnrefusedMean};
 ghost use Rattle.cql_model.specs.Fit.{FilesFit};
-ghost use Rattle.cql_model.specs.Instants.{InstantsRise, InstantsAreStamps, PlansMean};
+ghost use Rattle.cql_model.specs.Instants.{InstantsAre, MeansAtInstants, PlansMean};
 ghost use Rattle.cql_model.specs.InTurn.{PlansInTurn};
 ghost use Rattle.cql_model.specs.Refused.{RefusalsAre, AcceptedAre, AcceptedPlannable};
 ghost use Rattle.cql_model.specs.Kernels.{WindowsAre, SelectsAre, ProjectsAre, StreamersAre, CrossesAre};
@@ -18,10 +18,11 @@ pub fn kernels_mean()
     ensures products { CrossesAre }
 {}
 
-/// The instants of a run rise, and are just the timestamps of its files.
+/// The instants of a run rise, and are exactly the timestamps of its files: a time is an instant where a file has a row with it. What
+/// a program means has a batch at each of them, for each of its queries.
 pub fn instants_are_stamps()
-    ensures rise { InstantsRise }
-    ensures all { InstantsAreStamps }
+    ensures instants { InstantsAre }
+    ensures means { MeansAtInstants }
 {}
 
 /// A program is refused exactly where the first place in the order of reading that has a fault has this one, and stands in this
@@ -52,7 +53,7 @@ pub fn plans_in_turn()
 {}
 
 /// Files whose rows have the widths of a program's streams fit its plan: they are of the types of its inputs, and all have the same
-/// instants.
+/// instants, which are those of the run.
 pub fn files_fit()
     ensures { FilesFit }
 {}
