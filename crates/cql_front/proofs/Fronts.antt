@@ -23,7 +23,8 @@ use Rattle.cql_text.specs.Tree.{Part}
 use Rattle.cql_text.specs.declared.fault.CqlTextFault.TheVariants.{Syntax as Syntax_at}
 use Rattle.cql_front.proofs.Spoken.{spoken, shortened}
 use Rattle.cql_text.proofs.Texts.{text-read, text-reads, units-bad, units-reads, units-told}
-use Rattle.cql_model.proofs.Unrefused.{unrefused_are_valid, unrefused_mean}
+use Rattle.cql_model.proofs.Accepted.{accepted_are_valid, accepted_mean}
+use Rattle.cql_model.proofs.Judged.{refusals_are, accepted_are}
 use Rattle.cql_front.specs.declared.fault.CqlFault.{CqlFault}
 use Rattle.cql_front.specs.declared.fault.CqlFault.TheVariants.{Text, UnknownStream, UnknownField, AmbiguousField, NameTwice, Limit, NoMemory}
 use Rattle.cql_front.specs.Laws.{HasFault, Has, MeansWhatItHas, PlansMean}
@@ -47,10 +48,10 @@ unfolding compiled
 lexed-means text fault e = ap then_read e
 
 fault-means : (text : List ℕ) (fault : CqlFault) → HasFault text fault → compiled text ≡ Err fault
-fault-means text fault h = stands-means text h.program h.stands ∙ ap (or_refused h.program) h.refused ∙ ap Err (sym h.is)
+fault-means text fault h = stands-means text h.program h.stands ∙ ap (or_refused h.program) ((refusals_are (program_of h.program) h.refusal).1 h.refused) ∙ ap Err (sym h.is)
 
 has-means : (text : List ℕ) (meant : Result (List Part) CqlFault) → Has text meant → compiled text ≡ meant
-has-means text (Ok p) h = stands-means text p h.0 ∙ ap (or_refused p) h.1
+has-means text (Ok p) h = stands-means text p h.0 ∙ ap (or_refused p) ((accepted_are (program_of p)).1 h.1)
 has-means text (Err (Text (BadByte at))) h = lexed-means text (lex.BadByte at) h
 has-means text (Err (Text (BigNumber at))) h = lexed-means text (lex.BigNumber at) h
 has-means text (Err (Text (Syntax unit))) h = bad-means text unit h
@@ -66,7 +67,7 @@ has-means text (Err NoMemory) h = absurd h
 fault-has : (text : List ℕ) (p : List Part) (r : Refusal) → IsText text p → refusal_of (program_of p) ≡ Some r → Has text (Err (fault_at r.unit r.fault))
 fault-has text p r t j = by r.fault refl where
   has : (f : model.Fault) → r.fault ≡ f → HasFault text (fault_at r.unit f)
-  has f is = record { program = p; refusal = r; stands = t; refused = j; is = ap (fault_at r.unit) (sym is) }
+  has f is = record { program = p; refusal = r; stands = t; refused = (refusals_are (program_of p) r).0 j; is = ap (fault_at r.unit) (sym is) }
 
   by : (f : model.Fault) → r.fault ≡ f → Has text (Err (fault_at r.unit f))
   by model_fault.UnknownStream is = has model_fault.UnknownStream is
@@ -78,7 +79,7 @@ fault-has text p r t j = by r.fault refl where
 accepted-has : (text : List ℕ) (p : List Part) → IsText text p → Has text (accepted p)
 accepted-has text p t = by (refusal_of (program_of p)) refl where
   by : (o : Option Refusal) → refusal_of (program_of p) ≡ o → Has text (or_refused p o)
-  by None j = (t, j)
+  by None j = (t, (accepted_are (program_of p)).0 j)
   by (Some r) j = fault-has text p r t j
 
 means-has : (text : List ℕ) → Has text (compiled text)
@@ -103,7 +104,7 @@ pub plans_mean : PlansMean
 plans_mean text p e =
     let h : Has text (Ok p) = subst (Has text) e (means-has text) in
     let s = spoken p (units_of (toks h.0.marks)) h.0.formed in
-    (unrefused_are_valid (program_of p) s h.1, λ files are. unrefused_mean (program_of p) files s h.1 are)
+    (accepted_are_valid (program_of p) s h.1, λ files are. accepted_mean (program_of p) files s h.1 are)
 
 -- ---- WHAT THE FRONT ANSWERS
 

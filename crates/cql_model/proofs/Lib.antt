@@ -28,5 +28,5 @@ pub mod SpotFaults
 pub mod UnitFaults
 pub mod Faultless
 pub mod Judged
-pub mod Unrefused
+pub mod Accepted
 pub mod InTurn

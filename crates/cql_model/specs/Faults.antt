@@ -151,13 +151,3 @@ pub record AreShort (p : Program) : Type 0 where
 -- of a program without a fault a plan can be made
 abbrev pub FaultlessPlannable : Type 0
 FaultlessPlannable = (p : Program) → AreSpoken p → first_fault [] 0 1 p ≡ None → IsPlannable p
-
--- the plan of a program that is not refused is valid
-abbrev pub UnrefusedAreValid : Type 0
-UnrefusedAreValid = (p : Program) → AreSpoken p → refusal_of p ≡ None → IsPlan (plan_of p)
-
--- and means what the program means
-abbrev pub UnrefusedMean : Type 0
-UnrefusedMean =
-    (p : Program) (files : List (List (ℤ × List ℤ))) → AreSpoken p → refusal_of p ≡ None → AreFiles p files
-    → meaning (plan_of p) (inputs_for files) ≡ record { outs = program_means p files; tables = [] }

@@ -1,15 +1,19 @@
 -- Which programs are accepted, and why others are refused: the faults of a place, each in its own words, and the first of them all.
-use Rattle.std.specs.Prelude.{◌≡◌, ◌↔◌, ℕ, ◌+◌, ◌<◌, List, [], ◌∷◌, ◌++◌, length, map, filter, flat_map, Option, Some, None, ◌⊎◌}
+use Rattle.std.specs.Prelude.{◌≡◌, ◌↔◌, ℕ, ℤ, ◌+◌, ◌<◌, List, [], ◌∷◌, ◌++◌, length, map, filter, flat_map, Option, Some, None, ◌⊎◌}
 use Rattle.std.specs.List.{AllByRecursion}
 use Rattle.river_base.specs.Name.{name_eq}
 use Rattle.kern_bags.specs.declared.kernel.Window.{Window}
 use Rattle.kern_bags.specs.declared.kernel.Window.TheVariants.{Now, Range, Unbounded, Latest}
 use Rattle.river_plan.specs.Forms.{Name}
 use Rattle.river_plan.specs.Names.{count}
+use Rattle.river_plan.specs.Valid.{IsPlan}
+use Rattle.brooklet_model.specs.Meaning.{meaning}
 use Rattle.cql_model.specs.declared.fault.Fault.{Fault}
 use Rattle.cql_model.specs.declared.fault.Fault.TheVariants.{UnknownStream, UnknownField, AmbiguousField, NameTwice, Limit}
 use Rattle.cql_model.specs.declared.fault.Refusal.{Refusal}
 use Rattle.cql_model.specs.Faults.{refusal_of, AreSpoken}
+use Rattle.cql_model.specs.Instants.{program_means, inputs_for}
+use Rattle.cql_model.specs.Laws.{AreFiles}
 use Rattle.cql_model.specs.Places.{known_by, Mention, Alone, OfItem, Spot, StreamName, FieldName, QueryName, ItemStream, ItemWindow, ItemName, ColumnStart}
 use Rattle.cql_model.specs.Places.{FieldUse, Place, places}
 use Rattle.cql_model.specs.Plannable.{declared, KeepsLimits, IsPlannable}
@@ -116,3 +120,13 @@ AcceptedAre = (p : Program) → (refusal_of p ≡ None) ↔ IsAccepted p
 -- an accepted program of the grammar has what its plan needs
 abbrev pub AcceptedPlannable : Type 0
 AcceptedPlannable = (p : Program) → AreSpoken p → IsAccepted p → IsPlannable p
+
+-- its plan is valid
+abbrev pub AcceptedAreValid : Type 0
+AcceptedAreValid = (p : Program) → AreSpoken p → IsAccepted p → IsPlan (plan_of p)
+
+-- and means what the program means
+abbrev pub AcceptedMean : Type 0
+AcceptedMean =
+    (p : Program) (files : List (List (ℤ × List ℤ))) → AreSpoken p → IsAccepted p → AreFiles p files
+    → meaning (plan_of p) (inputs_for files) ≡ record { outs = program_means p files; tables = [] }

@@ -1,10 +1,10 @@
 //! Laws over the definitions alone.
 ghost use Rattle.cql_model.specs.Plannable.{PlansAreValid, PlansKeep, OnlyLimits};
-ghost use Rattle.cql_model.specs.Faults.{FaultlessPlannable, UnrefusedAreValid, UnrefusedMean};
+ghost use Rattle.cql_model.specs.Faults.{FaultlessPlannable};
 ghost use Rattle.cql_model.specs.Fit.{FilesFit};
 ghost use Rattle.cql_model.specs.Instants.{InstantsAre, MeansAtInstants, PlansMean};
 ghost use Rattle.cql_model.specs.InTurn.{PlansInTurn};
-ghost use Rattle.cql_model.specs.Refused.{RefusalsAre, AcceptedAre, AcceptedPlannable};
+ghost use Rattle.cql_model.specs.Refused.{RefusalsAre, AcceptedAre, AcceptedPlannable, AcceptedAreValid, AcceptedMean};
 ghost use Rattle.cql_model.specs.Kernels.{WindowsAre, SelectsAre, ProjectsAre, StreamersAre, CrossesAre};
 
 /// Fed with batches, the kernels on bags give one after another what CQL's operators give: the window's content after each batch,
@@ -63,8 +63,8 @@ pub fn plans_mean()
     ensures { PlansMean }
 {}
 
-/// The plan of a program that is not refused is valid, and means what the program means.
-pub fn unrefused_mean()
-    ensures valid { UnrefusedAreValid }
-    ensures means { UnrefusedMean }
+/// The plan of an accepted program is valid, and means what the program means.
+pub fn accepted_mean()
+    ensures valid { AcceptedAreValid }
+    ensures means { AcceptedMean }
 {}
