@@ -8,6 +8,7 @@ pub mod Contents
 pub mod Widths
 pub mod Walk
 pub mod Means
+pub mod Numerals
 pub mod Naming
 pub mod Counting
 pub mod Sums

@@ -5,6 +5,7 @@ pub mod Instants
 pub mod Kernels
 pub mod Laws
 pub mod Meaning
+pub mod Numeral
 pub mod Places
 pub mod Plannable
 pub mod Program

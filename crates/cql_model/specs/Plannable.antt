@@ -6,7 +6,7 @@ use Rattle.river_kernels.specs.Formed.{is_width, is_window}
 use Rattle.river_plan.specs.Forms.{Name, PlanForm, decl_names, queue_names, variable_names}
 use Rattle.river_plan.specs.Names.{count}
 use Rattle.cql_model.specs.Laws.{AreKnown}
-use Rattle.cql_model.specs.Program.{Scalar, Number, Field, ItemField, Neg, Not, Bin, Columns, Star, Chosen, Query, Register, Ask, Program, streams_of, all_uses}
+use Rattle.cql_model.specs.Program.{Scalar, Number, Field, ItemField, Neg, Not, Bin, Columns, Star, Chosen, Query, Register, Ask, Program, streams_of}
 use Rattle.cql_model.specs.Scopes.{Named, scope_of}
 use Rattle.river_kernels.specs.declared.limit.Limit.{Limit}
 use Rattle.river_plan.specs.Limits.{most_of, limits, numbers}
@@ -91,9 +91,9 @@ pub record KeepsRules (p : PlanForm) : Type 0 where
   pub vars_apart : Each (λ op. (v : Name) → vars_it v op ≤ 1) p.ops
   pub private_once : (v : Name) → 0 < count v p.vars → total (vars_it v) p.ops ≤ 1
 
--- the plan of such a program keeps them, whatever its size; no text has more uses of a stream than this
+-- the plan of such a program keeps them, whatever its size
 abbrev pub PlansKeep : Type 0
-PlansKeep = (p : Program) → IsPlannable p → ((n : Name) → count n (all_uses p) ≤ 1000000000000) → KeepsRules (plan_of p)
+PlansKeep = (p : Program) → IsPlannable p → KeepsRules (plan_of p)
 
 -- so no fault but a limit is ever told of it
 abbrev pub IsLimit : Option PlanFault → Type 0
@@ -116,5 +116,4 @@ exceeds plan = list_any (λ l. list_any (λ n. nat_lt (most_of l) n) (numbers l 
 -- a fault is told of it exactly where it exceeds a limit
 abbrev pub OnlyLimits : Type 0
 OnlyLimits =
-    (p : Program) (o : Option PlanFault) → IsPlannable p → ((n : Name) → count n (all_uses p) ≤ 1000000000000) → FirstFault (plan_of p) o
-    → IsLimit o × (exceeds (plan_of p) ≡ is_some o)
+    (p : Program) (o : Option PlanFault) → IsPlannable p → FirstFault (plan_of p) o → IsLimit o × (exceeds (plan_of p) ≡ is_some o)
