@@ -23,7 +23,7 @@ use Rattle.cql_model.specs.Program.{Register, Ask, Program, registered, all_uses
 use Rattle.cql_model.specs.Translation.{input_decls, input_copies, input_ops, output_decls, ask_decls, ask_ops, ops_of, plan_of}
 use Rattle.cql_model.specs.declared.fault.Refusal as model
 use Rattle.cql_model.proofs.OnlyLimits.{only_limits, within_where}
-use Rattle.cql_model.proofs.Valid.{length-uses, count-length}
+use Rattle.cql_model.proofs.Valid.{length-uses}
 use Rattle.cql_text.specs.declared.tree.Part.{Part}
 use Rattle.cql_build.specs.declared.uses.Uses.{Uses}
 use Rattle.cql_build.specs.declared.planning.Refused.{Refused}
@@ -75,11 +75,9 @@ many_exceed p lt = step (exceeds (plan_of p)) refl where
       let b = length-uses (registered p) (all_uses p) [] [] p in
       omega (arith, h, a, b, lt))
 
--- of a program of fewer a fault is told exactly where it exceeds a limit
-pub told_few : (p : Program) (form : PlanForm) → IsPlannable p → length (all_uses p) ≤ 256 → form ≡ plan_of p → (o : Option PlanFault) → FirstFault form o
-    → exceeds form ≡ is_some o
-told_few p form a few e o h =
-    ap exceeds e ∙ (only_limits p o a (λ n. let c = count-length n (all_uses p) in omega (arith, c, few)) (subst (λ (x : PlanForm). FirstFault x o) e h)).1
+-- of the plan of a program a fault is told exactly where it exceeds a limit
+pub told_limit : (p : Program) (form : PlanForm) → IsPlannable p → form ≡ plan_of p → (o : Option PlanFault) → FirstFault form o → exceeds form ≡ is_some o
+told_limit p form a e o h = ap exceeds e ∙ (only_limits p o a (subst (λ (x : PlanForm). FirstFault x o) e h)).1
 
 or_none : (a b : Option model.Refusal) → a ≡ None → or_refused a b ≡ b
 or_none a b e = ap (λ x. or_refused x b) e

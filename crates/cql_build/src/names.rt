@@ -50,6 +50,7 @@ fn text(alloc: Global, base: Name, mark: Mark) -> Result<Bytes, NoMemory>
 }
 
 // Appends the word of a mark.
+#[tactic(auto, using(cql_model::proofs::Numerals::numeral_decimal))]
 fn put_mark(alloc: Global, mark: Mark, to: &mut Bytes) -> Result<(), NoMemory>
     ensures put { OnOk result (to.new ≡ to.old ++ word mark) }
     ensures low { OnOk result (IsLow mark) }

@@ -58,6 +58,7 @@ impl Uses {
 
     /// The queue from which the next item that names this stream reads: the stream's own where it is registered and named once, and
     /// otherwise the next of its copies.
+    #[tactic(auto, using(crate::proofs::Lists::once_more))]
     pub(crate) fn source(&mut self, alloc: Global, stream: Name) -> Result<Name, NoMemory>
         requires { length stream ≤ 40 }
         ensures name { IfOk result (λ source. source ≡ source_at self.old.inputs self.old.all stream (count stream self.old.past)) }
@@ -65,22 +66,12 @@ impl Uses {
         ensures inputs { self.new.inputs ≡ self.old.inputs }
         ensures all { self.new.all ≡ self.old.all }
     {
-        let used = count(self.past.as_slice(), stream);
         self.past.push(stream)?;
         if count(self.inputs.as_slice(), stream) > 0 && self.count(stream) <= 1 {
             return Ok(stream);
         }
-        marked(alloc, stream, Mark::Copy(next(used)?))
-    }
-}
-
-// The number behind this one.
-pub(crate) fn next(number: usize) -> Result<usize, NoMemory>
-    ensures { IfOk result (λ n. n ≡ number + 1) }
-{
-    match number.checked_add(1) {
-        Some(n) => Ok(n),
-        None => Err(NoMemory),
+        let number = count(self.past.as_slice(), stream);
+        marked(alloc, stream, Mark::Copy(number))
     }
 }
 

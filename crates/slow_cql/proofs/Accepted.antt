@@ -10,6 +10,7 @@ use Rattle.cql_model.proofs.Judged.{accepted_plannable}
 use Rattle.cql_text.specs.Tree.{Part}
 use Rattle.cql_build.specs.Seen.{program_of}
 use Rattle.slow_cql.specs.Contents.{HaveColumns}
+use Rattle.slow_cql.specs.Laws.{CompiledHaveColumns}
 use Rattle.cql_front.specs.Laws.{Has}
 use Rattle.cql_front.specs.Meaning.{compiled}
 use Rattle.cql_front.proofs.Fronts.{means_what_it_has}
@@ -20,7 +21,7 @@ have_columns known [] h = tt
 have_columns known (Register name fields ∷ ps) h = have_columns (record { name = name; fields = fields } ∷ known) ps h.1
 have_columns known (Ask q ∷ ps) h = (h.0.columns, have_columns (query_named known q ∷ known) ps h.1)
 
-pub accepted_columns : (text : List ℕ) (p : List Part) → compiled text ≡ Ok p → HaveColumns [] (program_of p)
+pub accepted_columns : CompiledHaveColumns
 accepted_columns text p e =
     let h : Has text (Ok p) = (means_what_it_has text (Ok p)).0 e in
     let s = spoken p (units_of (toks h.0.marks)) h.0.formed in
