@@ -1,10 +1,12 @@
 -- What a text of CQL means is what it has in the grammar, and what the front answers.
-use Rattle.std.proofs.Common.{◌≡◌, ℕ, List, Option, Some, None, Result, Ok, Err, refl, sym, ap, ◌∙◌, subst}
+use Rattle.std.proofs.Common.{◌≡◌, ℕ, List, Option, Some, None, Result, Ok, Err, refl, sym, ap, ◌∙◌, subst, arith, [], ◌∷◌, length, ◌≤◌}
+use Rattle.std.proofs.lemmas.List.{length-map}
 use Rattle.work_code.specs.Cut.{units_of}
 use Rattle.work_code.specs.Lexis.{tokens_in}
-use Rattle.work_code.specs.Tok.{Mark, toks}
+use Rattle.work_code.specs.Tok.{Tok, Mark, toks}
 use Rattle.work_code.specs.declared.fault.LexFault.{LexFault}
 use Rattle.work_code.specs.declared.fault.LexFault.TheVariants as lex
+use Rattle.work_code.proofs.Counts.{units-few}
 use Rattle.work_code.proofs.Slices.{no_want}
 use Rattle.text_forms.specs.Refusals.{of_lexer}
 use Rattle.text_forms.specs.declared.refusal.Refusal.TheVariants.{BadByte, BigNumber, Syntax}
@@ -15,16 +17,16 @@ use Rattle.cql_model.specs.declared.fault.Fault.TheVariants as model_fault
 use Rattle.cql_model.specs.declared.fault.Refusal.{Refusal}
 use Rattle.cql_model.specs.Translation.{plan_of}
 use Rattle.cql_text.specs.Faults.{StandFor, Refuses}
-use Rattle.cql_text.specs.Grammar.{IsText}
+use Rattle.cql_text.specs.Grammar.{IsText, AreParts}
 use Rattle.cql_text.specs.Laws.{IsBadAt}
 use Rattle.cql_text.specs.Reading.{parts_in}
-use Rattle.cql_build.specs.Seen.{program_of}
+use Rattle.cql_build.specs.Seen.{part_of, program_of}
 use Rattle.cql_text.specs.Tree.{Part}
 use Rattle.cql_text.specs.declared.fault.CqlTextFault.TheVariants.{Syntax as Syntax_at}
 use Rattle.cql_front.proofs.Spoken.{spoken, shortened}
 use Rattle.cql_text.proofs.Texts.{text-read, text-reads, units-bad, units-reads, units-told}
 use Rattle.cql_model.proofs.Accepted.{accepted_are_valid, accepted_mean}
-use Rattle.cql_model.proofs.Judged.{refusals_are, accepted_are}
+use Rattle.cql_model.proofs.Judged.{refusals_are, accepted_are, unit_low}
 use Rattle.cql_front.specs.declared.fault.CqlFault.{CqlFault}
 use Rattle.cql_front.specs.declared.fault.CqlFault.TheVariants.{Text, UnknownStream, UnknownField, AmbiguousField, NameTwice, Limit, NoMemory}
 use Rattle.cql_front.specs.Laws.{HasFault, Has, MeansWhatItHas, PlansMean}
@@ -125,6 +127,16 @@ read-spoken marks p e = spoken p (units_of (toks marks)) e
 pub read-short : (marks : List Mark) (p : List Part) → StandFor marks p → AreShort (program_of p)
 read-short marks p e = shortened p (units_of (toks marks)) e
 
+parts-many : (p : List Part) (units : List (List Tok)) → AreParts p units → length p ≡ length units
+parts-many [] [] h = refl
+parts-many [] (u ∷ us) h = absurd h
+parts-many (p ∷ ps) [] h = absurd h
+parts-many (p ∷ ps) (u ∷ us) h = let m = parts-many ps us h.1 in omega (arith, m)
+
+-- a program has no more units than its text has tokens
+pub read-few : (marks : List Mark) (p : List Part) → StandFor marks p → length p ≤ length marks
+read-few marks p e = let m = parts-many p (units_of (toks marks)) e in let f = units-few marks in omega (arith, m, f)
+
 pub ruleset fronts = (read-planned, read-refused, read-spoken, read-short)
 
 -- tokens with a unit that is not in the grammar mean the first of them
@@ -136,6 +148,10 @@ pub ruleset readings = (read-bad)
 -- a program that is not refused is the one that is meant, and this is its plan
 pub planned-plans : (p : List Part) (plan : PlanForm) → refusal_of (program_of p) ≡ None → plan ≡ plan_of (program_of p) → Plans (accepted p) p plan
 planned-plans p plan e is = record { accepted = ap (or_refused p) e; planned = is }
+
+-- the unit of a refusal is one of the program
+pub planned-low : (p : List Part) (r : Refusal) → refusal_of (program_of p) ≡ Some r → r.unit ≤ length p
+planned-low p r e = let u = unit_low (program_of p) r e in let l = length-map p part_of in omega (arith, u, l)
 
 -- a program that is refused means the fault
 pub planned-refused : (p : List Part) (r : Refusal) → refusal_of (program_of p) ≡ Some r → accepted p ≡ Err (fault_at r.unit r.fault)

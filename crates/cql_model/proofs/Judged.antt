@@ -13,7 +13,8 @@ use Rattle.cql_model.specs.Places.{known_by, Spot, spots, Place, unit_places, pl
 use Rattle.cql_model.specs.Plannable.{exceeds, KeepsLimits}
 use Rattle.cql_model.specs.Program.{Register, Ask, Part, Program, registered}
 use Rattle.cql_model.specs.Refused.{HasFault, rank, IsFirstFault, IsFaultless, HasFirstFault, IsTooLarge, IsRefused, IsAccepted, RefusalsAre, AcceptedAre, AcceptedPlannable}
-use Rattle.cql_model.specs.Translation.{plan_of}
+use Rattle.cql_model.specs.Scopes.{Named}
+use Rattle.cql_model.specs.Translation.{query_named, plan_of}
 use Rattle.cql_model.proofs.Earlier.{behind, behind-none, behind-nil, behind-cons}
 use Rattle.cql_model.proofs.Faultless.{faultless_plannable}
 use Rattle.cql_model.proofs.First.{first_of, Finds, finds_both, finds_none, none_finds, finds_some, some_finds, finds_same, named_as, finds_map}
@@ -194,3 +195,28 @@ accepted_are p =
 
 pub accepted_plannable : AcceptedPlannable
 accepted_plannable p s a = faultless_plannable p s (faulty_none p a.faultless)
+
+-- THE UNIT OF A REFUSAL
+
+in_unit_low : (unit n : ℕ) (o : Option Fault) (rest : Option Refusal) (r : Refusal) → in_unit unit o rest ≡ Some r → (rest ≡ Some r → r.unit < unit + 1 + n)
+    → r.unit < unit + suc n
+in_unit_low unit n None rest r e low = let m = low e in omega (arith, m)
+in_unit_low unit n (Some f) rest r e low = let s : unit ≡ r.unit = here e in omega (arith, s) where
+  here : (Some (record { unit = unit; fault = f })) ≡ Some r → unit ≡ r.unit
+  here g = ap (λ o. unit_or unit o) g where
+    unit_or : ℕ → Option Refusal → ℕ
+    unit_or n None = n
+    unit_or n (Some s) = s.unit
+
+first_low : (ks : List Named) (many unit : ℕ) (ps : Program) (r : Refusal) → first_fault ks many unit ps ≡ Some r → r.unit < unit + length ps
+first_low ks many unit [] r e = absurd (cc e)
+first_low ks many unit (Register name fields ∷ ps) r e =
+    in_unit_low unit (length ps) (stream_fault ks many name fields) _ r e (first_low (record { name = name; fields = fields } ∷ ks) (many + 1) (unit + 1) ps r)
+first_low ks many unit (Ask q ∷ ps) r e = in_unit_low unit (length ps) (query_fault ks q) _ r e (first_low (query_named ks q ∷ ks) many (unit + 1) ps r)
+
+-- it is a unit of the program
+pub unit_low : (p : Program) (r : Refusal) → refusal_of p ≡ Some r → r.unit ≤ length p
+unit_low p r e = ⊎_elim
+    (λ h. let m = first_low [] 0 1 p r (is_first p r h) in omega (arith, m))
+    (λ h. let u = h.unit in omega (arith, u))
+    ((refusals_are p r).0 e)
