@@ -50,6 +50,11 @@ abbrev pub IsShortRegistered : Part → Type 0
 IsShortRegistered (Register name fields) = IsShortName name
 IsShortRegistered (Ask q) = Unit {0}
 
+-- it has at most 16 fields
+abbrev pub IsNarrow : Part → Type 0
+IsNarrow (Register name fields) = length fields ≤ 16
+IsNarrow (Ask q) = Unit {0}
+
 abbrev pub unit_inputs : Part → List Decl
 unit_inputs (Register name fields) = decl name (stream (length fields)) ∷ []
 unit_inputs (Ask q) = []

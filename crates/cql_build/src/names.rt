@@ -9,7 +9,7 @@ use std::alloc::Global;
 
 /// What a made name is for.
 #[derive(Clone, Copy, Debug)]
-pub enum Mark {
+pub(crate) enum Mark {
     /// A window, by its item's number, from 1.
     Window(usize),
     /// A product, by the number of its second item.
@@ -29,7 +29,7 @@ pub enum Mark {
 }
 
 /// The name for this mark.
-pub fn marked(alloc: Global, base: Name, mark: Mark) -> Result<Name, NoMemory>
+pub(crate) fn marked(alloc: Global, base: Name, mark: Mark) -> Result<Name, NoMemory>
     requires { length base ≤ 40 }
     ensures { IfOk result (λ name. name ≡ marked base mark) }
 {

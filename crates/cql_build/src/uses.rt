@@ -15,7 +15,7 @@ use std::alloc::Global;
 
 /// The streams that are registered, those that items name, and of these those whose queue is known.
 #[derive(Drop)]
-pub struct Uses {
+pub(crate) struct Uses {
     pub inputs: Names,
     pub all: Names,
     pub past: Names,
@@ -23,7 +23,7 @@ pub struct Uses {
 
 impl Uses {
     /// Those of a program, none of which has its queue.
-    pub fn of(alloc: Global, parts: &[Part]) -> Result<Uses, NoMemory>
+    pub(crate) fn of(alloc: Global, parts: &[Part]) -> Result<Uses, NoMemory>
         ensures inputs { IfOk result (λ uses. uses.inputs ≡ registered (program_of parts.now)) }
         ensures all { IfOk result (λ uses. uses.all ≡ all_uses (program_of parts.now)) }
         ensures past { IfOk result (λ uses. uses.past ≡ []) }
