@@ -9,7 +9,7 @@ use Rattle.river_plan.specs.Forms.{Name, OpForm}
 use Rattle.river_plan.specs.Names.{count}
 use Rattle.river_plan.specs.declared.plan.Decl.{Decl}
 use Rattle.river_plan.specs.declared.plan.RawPlan.{RawPlan}
-use Rattle.cql_model.specs.Accepted.{IsQuery, AreQueries, declared}
+use Rattle.cql_model.specs.Plannable.{IsQuery, AreQueries, declared}
 use Rattle.cql_model.specs.Faults.{IsShortName, AreShort}
 use Rattle.cql_model.specs.Program as program
 use Rattle.cql_model.specs.Program.{Scalar, Columns, Query, Register, Ask, Program, streams_of, all_uses}
@@ -23,7 +23,7 @@ use Rattle.cql_build.specs.declared.item.Item.{Item}
 use Rattle.cql_build.specs.declared.known.Known.{Known}
 use Rattle.cql_build.specs.declared.uses.Uses.{Uses}
 use Rattle.cql_build.specs.Grown.{Grew, Used, products, stream_ops, tail_decls, IsUnit, IsShortUnit, unit_outputs, unit_decls, unit_ops, unit_uses}
-use Rattle.cql_build.specs.Judged.{part_named}
+use Rattle.cql_model.specs.Places.{declares}
 use Rattle.cql_build.specs.Knowing.{Knows}
 use Rattle.cql_build.specs.Views.{part_of, program_of, sources_of, named, scope}
 use Rattle.cql_build.proofs.Growing.{Left, left_start, left_next, left_is, left_end, grew_then}
@@ -100,7 +100,7 @@ each_back P (x ∷ xs) ys h = each_back P xs ys h.1
 record Apart (ks : List Named) (p : program.Part) (ps : Program) : Type 0 where
   pub unit : IsUnit ks p
   pub short : IsShortUnit p
-  pub good : AreQueries (part_named ks p ∷ ks) ps
+  pub good : AreQueries (declares ks p ∷ ks) ps
   pub names : AllByRecursion IsShortName (declared ps)
   pub uses : AllByRecursion IsShortName (all_uses ps)
 
@@ -128,17 +128,17 @@ pub asking_good : (old now : RawPlan) (before after : Uses) (parts : List Part) 
     → ((ks : List Named) × Knows k ks × IsUnit ks (part_of p)) × IsShortUnit (part_of p)
 asking_good old now before after parts i k p a lt e = let s = at old now before after parts i k p a lt e in ((a.ks, a.knows, s.unit), s.short)
 
-outputs_one : (ks : List Named) (p : program.Part) (ps : Program) → output_decls ks (p ∷ ps) ≡ unit_outputs ks p ++ output_decls (part_named ks p ∷ ks) ps
+outputs_one : (ks : List Named) (p : program.Part) (ps : Program) → output_decls ks (p ∷ ps) ≡ unit_outputs ks p ++ output_decls (declares ks p ∷ ks) ps
 outputs_one ks (Register name fields) ps = refl
 outputs_one ks (Ask q) ps = refl
 
 decls_one : (all : List Name) (ks : List Named) (p : program.Part) (ps : Program)
-    → ask_decls all ks (p ∷ ps) ≡ unit_decls all ks p ++ ask_decls all (part_named ks p ∷ ks) ps
+    → ask_decls all ks (p ∷ ps) ≡ unit_decls all ks p ++ ask_decls all (declares ks p ∷ ks) ps
 decls_one all ks (Register name fields) ps = refl
 decls_one all ks (Ask q) ps = refl
 
 ops_one : (inputs all past later : List Name) (ks : List Named) (p : program.Part) (ps : Program) → later ≡ past ++ unit_uses p
-    → ask_ops inputs all ks past (p ∷ ps) ≡ unit_ops inputs all ks past p ++ ask_ops inputs all (part_named ks p ∷ ks) later ps
+    → ask_ops inputs all ks past (p ∷ ps) ≡ unit_ops inputs all ks past p ++ ask_ops inputs all (declares ks p ∷ ks) later ps
 ops_one inputs all past later ks (Register name fields) ps e =
     ap (λ l. ask_ops inputs all (record { name = name; fields = fields } ∷ ks) l ps) (sym (e ∙ nil past)) where
       nil : (l : List Name) → l ++ [] ≡ l
@@ -150,7 +150,7 @@ pub asking_next : (old now next : RawPlan) (before after later : Uses) (parts : 
     → i < length parts → p ≡ get_or parts i p
     → ((ks : List Named) → Knows k ks → Grew now next (unit_outputs ks (part_of p)) (unit_decls after.all ks (part_of p)) (unit_ops after.inputs after.all ks after.past (part_of p)))
     → Used after later (unit_uses (part_of p))
-    → ((ks : List Named) → Knows k ks → Knows k' (part_named ks (part_of p) ∷ ks)) → Asking old next before later parts (i + 1) k'
+    → ((ks : List Named) → Knows k ks → Knows k' (declares ks (part_of p) ∷ ks)) → Asking old next before later parts (i + 1) k'
 asking_next old now next before after later parts i k k' p a lt e g u n =
     let s = at old now before after parts i k p a lt e in
     let d : program_of (drop i parts) ≡ part_of p ∷ program_of (drop (i + 1) parts) = ap program_of (drop_next parts i p lt e) in
@@ -158,7 +158,7 @@ asking_next old now next before after later parts i k k' p a lt e g u n =
     let g1 = subst (λ (l : List Name). Grew now next (unit_outputs a.ks (part_of p)) (unit_decls l a.ks (part_of p)) (unit_ops after.inputs l a.ks after.past (part_of p))) a.all (g a.ks a.knows) in
     let g2 = subst (λ (l : List Name). Grew now next (unit_outputs a.ks (part_of p)) (unit_decls before.all a.ks (part_of p)) (unit_ops l before.all a.ks after.past (part_of p))) a.inputs g1 in
     record {
-      ks = part_named a.ks (part_of p) ∷ a.ks;
+      ks = declares a.ks (part_of p) ∷ a.ks;
       knows = n a.ks a.knows;
       good = s.good;
       names = s.names;
@@ -167,8 +167,8 @@ asking_next old now next before after later parts i k k' p a lt e g u n =
       all = u.all ∙ a.all;
       left =
           left_next old now next _ (unit_outputs a.ks (part_of p)) _ _ (unit_decls before.all a.ks (part_of p)) _ _ (unit_ops before.inputs before.all a.ks after.past (part_of p)) _
-          (left_is old now _ _ (unit_outputs a.ks (part_of p) ++ output_decls (part_named a.ks (part_of p) ∷ a.ks) rest) _ _ (unit_decls before.all a.ks (part_of p) ++ ask_decls before.all (part_named a.ks (part_of p) ∷ a.ks) rest) _ _
-          (unit_ops before.inputs before.all a.ks after.past (part_of p) ++ ask_ops before.inputs before.all (part_named a.ks (part_of p) ∷ a.ks) later.past rest) a.left
+          (left_is old now _ _ (unit_outputs a.ks (part_of p) ++ output_decls (declares a.ks (part_of p) ∷ a.ks) rest) _ _ (unit_decls before.all a.ks (part_of p) ++ ask_decls before.all (declares a.ks (part_of p) ∷ a.ks) rest) _ _
+          (unit_ops before.inputs before.all a.ks after.past (part_of p) ++ ask_ops before.inputs before.all (declares a.ks (part_of p) ∷ a.ks) later.past rest) a.left
           (ap (output_decls a.ks) d ∙ outputs_one a.ks (part_of p) rest)
           (ap (ask_decls before.all a.ks) d ∙ decls_one before.all a.ks (part_of p) rest)
           (ap (ask_ops before.inputs before.all a.ks after.past) d ∙ ops_one before.inputs before.all after.past later.past a.ks (part_of p) rest u.past)) g2;

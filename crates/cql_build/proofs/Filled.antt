@@ -1,11 +1,12 @@
 -- The plan of a program, or why it has none.
-use Rattle.std.proofs.Common.{◌≡◌, ℕ, ◌+◌, ◌<◌, ◌≤◌, Bool, true, false, Result, Ok, Err, Option, Some, None, List, [], ◌∷◌, ◌++◌, length, drop, map, get_or}
+use Rattle.std.proofs.Common.{◌≡◌, ℕ, zero, suc, ◌+◌, ◌<◌, ◌≤◌, Bool, true, false, Result, Ok, Err, Option, Some, None, List, [], ◌∷◌, ◌++◌, length, drop, map, get_or}
 use Rattle.std.proofs.Common.{refl, sym, ap, ◌∙◌, subst, arith, append_assoc, append-nil, length-append}
-use Rattle.std.specs.Prelude.{All, IfErr, if◌then◌else◌}
+use Rattle.std.specs.Prelude.{All, IsTrue, IfErr, if◌then◌else◌}
 use Rattle.std.specs.List.{AllByRecursion}
 use Rattle.std.specs.Option.{is_some}
 use Rattle.std.proofs.lemmas.List.{length-map}
 use Rattle.std.proofs.lemmas.List.Elements.{All-head}
+use Rattle.river_kernels.specs.Formed.{is_width}
 use Rattle.river_kernels.specs.declared.limit.Limit.TheVariants.{Operators}
 use Rattle.river_plan.specs.Forms.{Name, OpForm, PlanForm, plan_form, op_forms, empty_form}
 use Rattle.river_plan.specs.Limits.{most_of, numbers}
@@ -16,20 +17,21 @@ use Rattle.river_plan.specs.declared.fault.PlanFault.{PlanFault}
 use Rattle.river_plan.specs.declared.fault.PlanFault.TheVariants.{P1, P2, P3, P4, P5, P6, P7, P8, P9, NoMemory}
 use Rattle.river_plan.specs.declared.plan.Decl.{Decl}
 use Rattle.river_plan.specs.declared.plan.RawPlan.{RawPlan}
-use Rattle.cql_model.specs.Accepted.{IsAccepted, exceeds, declared}
+use Rattle.cql_model.specs.Plannable.{IsPlannable, AreQueries, exceeds, declared}
 use Rattle.cql_model.specs.Faults.{IsShortName, AreShort, first_fault, or_refused, refusal_of}
 use Rattle.cql_model.specs.Program as program
 use Rattle.cql_model.specs.Program.{Register, Ask, Program, registered, all_uses}
-use Rattle.cql_model.specs.Translation.{input_decls, input_copies, input_ops, output_decls, ask_decls, ask_ops, ops_of, plan_of}
+use Rattle.cql_model.specs.Scopes.{Named}
+use Rattle.cql_model.specs.Translation.{input_decls, input_copies, input_ops, output_decls, ask_decls, ask_ops, ops_of, query_named, plan_of}
 use Rattle.cql_model.specs.declared.fault.Refusal as model
 use Rattle.cql_model.proofs.OnlyLimits.{only_limits, within_where}
-use Rattle.cql_model.proofs.Valid.{length-uses, count-length}
+use Rattle.cql_model.proofs.Valid.{length-uses}
 use Rattle.cql_text.specs.declared.tree.Part.{Part}
 use Rattle.cql_build.specs.declared.uses.Uses.{Uses}
 use Rattle.cql_build.specs.declared.planning.Refused.{Refused}
 use Rattle.cql_build.specs.declared.planning.Refused.TheVariants as refused
 use Rattle.cql_build.specs.Grown.{Grew}
-use Rattle.cql_build.specs.Planned.{IsRefused, IsLimited, limit_of, limit_at, refused_of, unit_inputs, unit_copies, unit_copying, IsShortRegistered}
+use Rattle.cql_build.specs.Planned.{IsRefused, IsLimited, limit_of, limit_at, refused_of, unit_inputs, unit_copies, unit_copying, IsShortRegistered, IsNarrow}
 use Rattle.cql_build.specs.Views.{part_of, program_of}
 use Rattle.cql_build.proofs.Growing.{Left, left_start, left_next, left_is, left_end}
 use Rattle.cql_build.proofs.Lists.{drop_next, drop_all}
@@ -75,11 +77,9 @@ many_exceed p lt = step (exceeds (plan_of p)) refl where
       let b = length-uses (registered p) (all_uses p) [] [] p in
       omega (arith, h, a, b, lt))
 
--- of a program of fewer a fault is told exactly where it exceeds a limit
-pub told_few : (p : Program) (form : PlanForm) → IsAccepted p → length (all_uses p) ≤ 256 → form ≡ plan_of p → (o : Option PlanFault) → FirstFault form o
-    → exceeds form ≡ is_some o
-told_few p form a few e o h =
-    ap exceeds e ∙ (only_limits p o a (λ n. let c = count-length n (all_uses p) in omega (arith, c, few)) (subst (λ (x : PlanForm). FirstFault x o) e h)).1
+-- of the plan of a program a fault is told exactly where it exceeds a limit
+pub told_limit : (p : Program) (form : PlanForm) → IsPlannable p → form ≡ plan_of p → (o : Option PlanFault) → FirstFault form o → exceeds form ≡ is_some o
+told_limit p form a e o h = ap exceeds e ∙ (only_limits p o a (subst (λ (x : PlanForm). FirstFault x o) e h)).1
 
 or_none : (a b : Option model.Refusal) → a ≡ None → or_refused a b ≡ b
 or_none a b e = ap (λ x. or_refused x b) e
@@ -102,6 +102,20 @@ limited_refused parts form (refused.Program x) n e h = over_limit parts n (sym (
 limited_refused parts form refused.NoMemory n e h = tt
 
 -- INPUTS
+
+-- the streams of a program of which a plan can be made are narrow
+pub narrow_all : (ks : List Named) (ps : Program) → AreQueries ks ps → AllByRecursion IsNarrow ps
+narrow_all ks [] h = tt
+narrow_all ks (Register name fields ∷ ps) h = (at_most (length fields) h.0, narrow_all (record { name = name; fields = fields } ∷ ks) ps h.1) where
+  at_most : (n : ℕ) → IsTrue (is_width n) → n ≤ 16
+  at_most n e = grind (arith, e)
+narrow_all ks (Ask q ∷ ps) h = (tt, narrow_all (query_named ks q ∷ ks) ps h.1)
+
+pub narrow_at : (parts : List Part) (i : ℕ) (p : Part) → AllByRecursion IsNarrow (program_of parts) → i < length parts → p ≡ get_or parts i p
+    → IsNarrow (part_of p)
+narrow_at [] i p h lt e = absurd (omega (arith, lt))
+narrow_at (q ∷ qs) zero p h lt e = subst (λ (x : Part). IsNarrow (part_of x)) (sym e) h.0
+narrow_at (q ∷ qs) (suc i) p h lt e = narrow_at qs i p h.1 (omega (arith, lt)) e
 
 pub inputs_next : (parts : List Part) (i : ℕ) (p : Part) (start now later : List Decl)
     → start ++ input_decls (program_of parts) ≡ now ++ input_decls (program_of (drop i parts)) → i < length parts → p ≡ get_or parts i p

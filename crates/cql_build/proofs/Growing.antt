@@ -1,6 +1,6 @@
 -- What is made one after another.
 use Rattle.std.proofs.Common.{◌≡◌, ℕ, zero, suc, ◌-◌, ◌+◌, ◌<◌, ◌≤◌, Result, Ok, Err, List, [], ◌∷◌, ◌++◌, length, drop, map, get_or, refl, sym, ap, ◌∙◌, subst}
-use Rattle.std.proofs.Common.{arith, append_assoc, append-nil}
+use Rattle.std.proofs.Common.{arith, append_assoc, append-nil, ◌^◌}
 use Rattle.std.specs.Prelude.{codes, OnOk}
 use Rattle.std.specs.List.{AllByRecursion}
 use Rattle.kern_bags.specs.declared.kernel.Streamer.{Streamer}
@@ -15,6 +15,7 @@ use Rattle.cql_model.specs.Faults.{IsShortName}
 use Rattle.cql_model.specs.Program.{streams_of}
 use Rattle.cql_model.specs.Translation.{op, decl, sources, source_at, w_name, x_name, window_ops, window_decls, cross_ops, cross_decls, cross_last, widths_of}
 use Rattle.cql_model.specs.Translation.{copies, copy_name, decls, at_word, copy_decls, copy_ops, out_name, out_decls}
+use Rattle.cql_model.proofs.Valid.{count-length}
 use Rattle.cql_text.specs.declared.tree.Source.{Source}
 use Rattle.cql_build.specs.declared.item.Item.{Item}
 use Rattle.cql_build.specs.declared.uses.Uses.{Uses}
@@ -116,6 +117,14 @@ pub windows_short : (old now : RawPlan) (before after : Uses) (q : Name) (all : 
     → i < length all → x ≡ get_or all i x → length x.stream ≤ 40
 windows_short old now before after q all items i x w lt e =
     (subst (λ l. AllByRecursion IsShortName (streams_of (sources_of l))) (drop_next all i x lt e) w.short).0
+
+-- each item is at most as wide as all
+pub width_at : (xs : List Item) (i : ℕ) (x : Item) → i < length xs → x ≡ get_or xs i x → widths_of (scope xs) ≤ 16 → length x.fields.now < 2 ^ 32
+width_at xs i x lt e low = let m = at_most xs i lt e in omega (arith, m, low) where
+  at_most : (ys : List Item) (i : ℕ) → i < length ys → x ≡ get_or ys i x → length x.fields.now ≤ widths_of (scope ys)
+  at_most [] i lt e = absurd (omega (arith, lt))
+  at_most (y ∷ ys) zero lt e = let l = ap (λ (z : Item). length z.fields.now) e in omega (arith, l)
+  at_most (y ∷ ys) (suc i) lt e = let m = at_most ys i (omega (arith, lt)) e in omega (arith, m)
 
 -- one window more
 pub windows_next : (old now next : RawPlan) (before after later : Uses) (q name from : Name) (kind : QueueType) (all : List Source) (items : List Item) (i : ℕ) (x : Source) (y : Item)
@@ -245,6 +254,21 @@ copies_none b k n le = ap (copies b k) (let e : n - k ≡ 0 = omega (arith, le) 
 pub length-copies : (b : Name) (k u : ℕ) → length (copies b k u) ≡ u
 length-copies b k zero = refl
 length-copies b k (suc u) = ap suc (length-copies b (k + 1) u)
+
+-- few copies
+pub copies_few : (b : Name) (u : ℕ) (names : List Name) → names ≡ copies b 0 u → u ≤ 256 → length names < 2 ^ 32
+copies_few b u names e le = let l = length-copies b 0 u in let n = ap (λ (ns : List Name). length ns) e in omega (arith, l, n, le)
+
+pub copies_few_more : (b q : Name) (u : ℕ) (own made names : List Name) → own ≡ q ∷ [] → made ≡ copies b 0 u → names ≡ own ++ made → u ≤ 256
+    → length names < 2 ^ 32
+copies_few_more b q u own made names o m e le =
+    let l = length-copies b 0 u in
+    let a = ap (λ (ns : List Name). length ns) m in
+    let c = ap (λ (ns : List Name). length ns) (e ∙ ap (λ ns. ns ++ made) o) in
+    omega (arith, l, a, c, le)
+
+pub count_few : (n : Name) (ns : List Name) → length ns ≤ 256 → count n ns ≤ 256
+count_few n ns le = let c = count-length n ns in omega (arith, c, le)
 
 -- where a call did what it says, there is what follows from it
 pub on_ok_then : {E P Q : Type 0} (r : Result (Unit {0}) E) → (P → Q) → OnOk r P → OnOk r Q

@@ -6,7 +6,7 @@ use Rattle.std.proofs.lemmas.List.{take_more, map-append}
 use Rattle.river_base.specs.Name.{name_eq}
 use Rattle.river_plan.specs.Forms.{Name}
 use Rattle.river_plan.specs.Names.{one_if, count}
-use Rattle.river_plan.proofs.NameLemmas.{count-append}
+use Rattle.river_plan.proofs.NameLemmas.{count-append, one_same}
 use Rattle.cql_model.specs.Faults.{places, item_places, then_fault, fault_if, scalar_fault, chosen_fault}
 use Rattle.cql_model.specs.declared.fault.Fault.TheVariants.{Limit}
 use Rattle.cql_text.specs.declared.tree.Column.{Column}
@@ -25,6 +25,10 @@ drop_next xs i x lt e = drop-cons xs i x lt ∙ ap (λ y. y ∷ drop (suc i) xs)
 pub count_next : (q : Name) (xs : List Name) (i : ℕ) (x : Name) → i < length xs → x ≡ get_or xs i x
     → count q (take (i + 1) xs) ≡ count q (take i xs) + one_if (name_eq x q)
 count_next q xs i x lt e = let a = count-append q (take i xs) (x ∷ []) in ap (count q) (take_next xs i x lt e) ∙ omega (arith, a)
+
+-- a name behind those that are there counts once more
+pub once_more : (q : Name) (xs : List Name) → count q (xs ++ q ∷ []) ≡ count q xs + 1
+once_more q xs = let a = count-append q xs (q ∷ []) in let o = one_same q in omega (arith, a, o)
 
 -- one item more
 places-append : (f : Name) (xs : List Named) (k : Named) → places f (xs ++ k ∷ []) ≡ places f xs + count f k.fields

@@ -1,5 +1,5 @@
 -- The names that are made are names.
-use Rattle.std.proofs.Common.{◌≡◌, ℕ, ◌+◌, ◌%◌, ◌^◌, ◌<◌, ◌≤◌, Bool, true, false, List, [], ◌∷◌, ◌++◌, length, refl, sym, ap, ◌∙◌, arith, length-append}
+use Rattle.std.proofs.Common.{◌≡◌, ℕ, ◌+◌, ◌%◌, ◌^◌, ◌<◌, ◌≤◌, Bool, true, false, List, [], ◌∷◌, ◌++◌, length, refl, sym, ap, ◌∙◌, subst, arith, length-append}
 use Rattle.std.specs.Prelude.{codes, ◌&&◌, ◌||◌, ◌==◌, nat_le}
 use Rattle.std.specs.List.{list_all}
 use Rattle.std.specs.Fmt.{decimal}
@@ -10,7 +10,9 @@ use Rattle.std.proofs.lemmas.Bool.{and_parts, true≢false}
 use Rattle.std.proofs.lemmas.Bool.Decides.{nat_tests}
 use Rattle.river_base.specs.Name.{is_letter, is_digit, is_word, is_name}
 use Rattle.river_plan.specs.Forms.{Name}
+use Rattle.cql_model.specs.Numeral.{numeral}
 use Rattle.cql_model.specs.Translation.{at_word}
+use Rattle.cql_model.proofs.Numerals.{numeral_decimal}
 use Rattle.cql_build.specs.Marks.{word, marked, IsLow}
 use Rattle.cql_build.specs.declared.names.Mark.{Mark}
 use Rattle.cql_build.specs.declared.names.Mark.TheVariants.{Window, Cross, Copy, Select, Project, Stream, Output, Copies}
@@ -49,11 +51,18 @@ word_behind (b ∷ bs) w h len g few =
 digits_few : (k : ℕ) → k < 2 ^ 64 → length (decimal k) ≤ 20
 digits_few k lt = length-decimal-le 20 k (omega arith) (omega (arith, lt)) lt
 
+-- so may those of a number in a name of the plan
+numeral_goes : (n : ℕ) → n < 2 ^ 64 → list_all is_word (numeral n) ≡ true
+numeral_goes n lt = ap (list_all is_word) (numeral_decimal n lt) ∙ decimal_goes n lt
+
+numeral_few : (k : ℕ) → k < 2 ^ 64 → length (numeral k) ≤ 20
+numeral_few k lt = subst (λ (ds : List ℕ). length ds ≤ 20) (sym (numeral_decimal k lt)) (digits_few k lt)
+
 pub word_goes : (m : Mark) → IsLow m → (list_all is_word (word m) ≡ true) × (length (word m) ≤ 23)
 unfolding is_word is_letter is_digit
-word_goes (Window k) lt = (decimal_goes k lt, (let l = digits_few k lt in omega (arith, l)))
-word_goes (Cross k) lt = (decimal_goes k lt, (let l = digits_few k lt in omega (arith, l)))
-word_goes (Copy k) lt = (decimal_goes k lt, (let l = digits_few k lt in omega (arith, l)))
+word_goes (Window k) lt = (numeral_goes k lt, (let l = numeral_few k lt in omega (arith, l)))
+word_goes (Cross k) lt = (numeral_goes k lt, (let l = numeral_few k lt in omega (arith, l)))
+word_goes (Copy k) lt = (numeral_goes k lt, (let l = numeral_few k lt in omega (arith, l)))
 word_goes Select lt = (refl, omega arith)
 word_goes Project lt = (refl, omega arith)
 word_goes Stream lt = (refl, omega arith)

@@ -7,7 +7,7 @@ use Rattle.river_plan.specs.declared.plan.RawPlan.{RawPlan}
 use Rattle.kern_bags.specs.declared.kernel.Streamer.{Streamer}
 use Rattle.river_kernels.specs.Fits.{stream}
 use Rattle.river_kernels.specs.Kern.{streamer}
-use Rattle.cql_model.specs.Accepted.{IsQuery}
+use Rattle.cql_model.specs.Plannable.{IsQuery}
 use Rattle.cql_model.specs.Faults.{IsShortName}
 use Rattle.cql_model.specs.Scopes.{Named, scope_of}
 use Rattle.cql_model.specs.Translation.{op, at_word, cross_decls, out_name, out_ops, out_decls, decl, select_decls, project_decls, widths_of, columns_width}

@@ -1,9 +1,8 @@
--- A unit of a program: its first fault, and what is known behind it.
+-- A unit of a program: its first fault.
 use Rattle.std.specs.Prelude.{ℕ, List, Option}
 use Rattle.cql_model.specs.Faults.{stream_fault, query_fault}
 use Rattle.cql_model.specs.Program.{Part, Register, Ask}
 use Rattle.cql_model.specs.Scopes.{Named}
-use Rattle.cql_model.specs.Translation.{query_named}
 use Rattle.cql_model.specs.declared.fault.Fault.{Fault}
 
 -- its first fault, behind so many registered streams
@@ -15,8 +14,3 @@ unit_fault known many (Ask q) = query_fault known q
 abbrev pub registers : Part → ℕ
 registers (Register name fields) = 1
 registers (Ask q) = 0
-
--- what is known by it
-abbrev pub part_named : List Named → Part → Named
-part_named known (Register name fields) = record { name = name; fields = fields }
-part_named known (Ask q) = query_named known q

@@ -1,16 +1,16 @@
 -- The names that a plan makes.
 use Rattle.std.specs.Prelude.{ℕ, ◌<◌, ◌^◌, List, [], ◌++◌, codes}
-use Rattle.std.specs.Fmt.{decimal}
 use Rattle.river_plan.specs.Forms.{Name}
+use Rattle.cql_model.specs.Numeral.{numeral}
 use Rattle.cql_model.specs.Translation.{at_word}
 use Rattle.cql_build.specs.declared.names.Mark.{Mark}
 use Rattle.cql_build.specs.declared.names.Mark.TheVariants.{Window, Cross, Copy, Select, Project, Stream, Output, Copies}
 
 -- the word of a mark
 abbrev pub word : Mark → List ℕ
-word (Window k) = codes "w" ++ decimal k
-word (Cross k) = codes "x" ++ decimal k
-word (Copy k) = [] ++ decimal k
+word (Window k) = codes "w" ++ numeral k
+word (Cross k) = codes "x" ++ numeral k
+word (Copy k) = [] ++ numeral k
 word Select = codes "s"
 word Project = codes "p"
 word Stream = codes "i"

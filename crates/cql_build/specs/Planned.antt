@@ -6,7 +6,7 @@ use Rattle.river_plan.specs.Names.{count}
 use Rattle.river_plan.specs.declared.fault.PlanFault.{PlanFault}
 use Rattle.river_plan.specs.declared.fault.PlanFault.TheVariants.{P1, P2, P3, P4, P5, P6, P7, P8, P9, NoMemory}
 use Rattle.river_plan.specs.declared.plan.Decl.{Decl}
-use Rattle.cql_model.specs.Accepted.{exceeds}
+use Rattle.cql_model.specs.Plannable.{exceeds}
 use Rattle.cql_model.specs.Faults.{IsShortName, refusal_of}
 use Rattle.cql_model.specs.Program.{Part, Register, Ask, Program}
 use Rattle.cql_model.specs.Translation.{decl, copy_decls, copy_ops}
@@ -49,6 +49,11 @@ IsLimited p unit refused.NoMemory = Unit {0}
 abbrev pub IsShortRegistered : Part → Type 0
 IsShortRegistered (Register name fields) = IsShortName name
 IsShortRegistered (Ask q) = Unit {0}
+
+-- it has at most 16 fields
+abbrev pub IsNarrow : Part → Type 0
+IsNarrow (Register name fields) = length fields ≤ 16
+IsNarrow (Ask q) = Unit {0}
 
 abbrev pub unit_inputs : Part → List Decl
 unit_inputs (Register name fields) = decl name (stream (length fields)) ∷ []

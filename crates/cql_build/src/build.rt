@@ -1,12 +1,12 @@
 // The queues and operators of a query.
-ghost use Rattle.std.specs.Prelude.{◌≡◌, ◌≤◌, ◌<◌, ◌+◌, ◌++◌, ◌∷◌, [], IfOk, OnOk, length, drop};
+ghost use Rattle.std.specs.Prelude.{◌≡◌, ◌≤◌, ◌<◌, ◌^◌, ◌+◌, ◌++◌, ◌∷◌, [], IfOk, OnOk, length, drop};
 ghost use Rattle.std.specs.List.{AllByRecursion};
 ghost use Rattle.river_kernels.specs.Fits.{stream, relation};
 ghost use Rattle.river_kernels.specs.Kern.{window, cross};
 ghost use Rattle.river_plan.specs.Forms.{op_form};
 ghost use Rattle.cql_model.specs.Faults.{IsShortName};
 ghost use Rattle.cql_model.specs.Program.{Chosen, streams_of};
-ghost use Rattle.cql_model.specs.Translation.{op, decl, sources as queues_of, widths_of, window_ops, window_decls, w_name, cross_ops, cross_last, select_ops, select_last, select_decls, project_ops, project_last, project_decls};
+ghost use Rattle.cql_model.specs.Translation.{op, decl, sources as queues_of, widths_of, columns_width, window_ops, window_decls, w_name, cross_ops, cross_last, select_ops, select_last, select_decls, project_ops, project_last, project_decls};
 ghost use Rattle.cql_build.specs.Grown.{Grew, Used, products};
 ghost use Rattle.cql_build.specs.Views.{window_of, sources_of, chosen_of, columns_of, condition_of, scope};
 
@@ -19,24 +19,20 @@ use river_base::{Name, NoMemory};
 use river_plan::{Decl, FlatType, Op, QueueType, RawPlan};
 use std::alloc::Global;
 
-// A stream of rows that are so wide.
-pub(crate) fn stream(width: usize) -> Result<QueueType, NoMemory>
-    ensures { IfOk result (λ kind. kind ≡ stream width) }
+/// A stream of rows that are so wide.
+pub(crate) fn stream(width: usize) -> QueueType
+    requires { width < 2 ^ 32 }
+    ensures { result ≡ stream width }
 {
-    match u32::try_from(width) {
-        Ok(width) => Ok(QueueType::Flat(FlatType::Stream(width))),
-        Err(_) => Err(NoMemory),
-    }
+    QueueType::Flat(FlatType::Stream(width as u32))
 }
 
 // A relation of rows that are so wide.
-fn relation(width: usize) -> Result<QueueType, NoMemory>
-    ensures { IfOk result (λ kind. kind ≡ relation width) }
+fn relation(width: usize) -> QueueType
+    requires { width < 2 ^ 32 }
+    ensures { result ≡ relation width }
 {
-    match u32::try_from(width) {
-        Ok(width) => Ok(QueueType::Flat(FlatType::Relation(width))),
-        Err(_) => Err(NoMemory),
-    }
+    QueueType::Flat(FlatType::Relation(width as u32))
 }
 
 // Another operator, and the queue of its own that it writes.
@@ -57,6 +53,7 @@ pub(crate) fn windows(
     items: &[Item<'_>],
 ) -> Result<(), NoMemory>
     requires each { length items.now ≡ length sources.now }
+    requires narrow { widths_of (scope items.now) ≤ 16 }
     requires short { length query ≤ 40 }
     requires streams { AllByRecursion IsShortName (streams_of (sources_of sources.now)) }
     ensures grew { OnOk result (Grew raw.old raw.new [] (window_decls query 1 (scope items.now)) (window_ops query 1 (sources_of sources.now) (queues_of uses.old.inputs uses.old.all uses.old.past (streams_of (sources_of sources.now))))) }
@@ -64,7 +61,7 @@ pub(crate) fn windows(
 {
     for i in 0..sources.len() {
         let name = marked(alloc, query, Mark::Window(i + 1))?;
-        let kind = relation(items[i].fields.len())?;
+        let kind = relation(items[i].fields.len());
         let from = uses.source(alloc, sources[i].stream)?;
         window(alloc, raw, name, kind, &sources[i], from)?;
     }
@@ -122,9 +119,10 @@ fn cross(
     left: Name,
     right: Name,
 ) -> Result<(), NoMemory>
+    requires { width < 2 ^ 32 }
     ensures { OnOk result (Grew raw.old raw.new [] (decl name (relation width) ∷ []) (op name cross (left ∷ right ∷ []) (name ∷ []) (name ∷ []) ∷ [])) }
 {
-    let kind = relation(width)?;
+    let kind = relation(width);
     let op = cross_op(alloc, name, left, right)?;
     add(raw, op, name, kind)
 }
@@ -147,7 +145,7 @@ pub(crate) fn select(
         return Ok(last);
     };
     let name = marked(alloc, query, Mark::Select)?;
-    let kind = relation(width(items))?;
+    let kind = relation(width(items));
     let op = select_op(alloc, name, items, value, last)?;
     add(raw, op, name, kind)?;
     Ok(name)
@@ -176,6 +174,7 @@ pub(crate) fn project(
 ) -> Result<Name, NoMemory>
     requires short { length query ≤ 40 }
     requires narrow { widths_of (scope items.now) ≤ 16 }
+    requires few { columns_width (scope items.now) (columns_of columns.now) < 2 ^ 32 }
     ensures grew { OnOk result (Grew raw.old raw.new [] (project_decls query (columns_of columns.now)) (project_ops query (scope items.now) last (columns_of columns.now))) }
     ensures last { IfOk result (λ name. name ≡ project_last query last (columns_of columns.now)) }
 {
@@ -196,11 +195,12 @@ fn chosen(
 ) -> Result<Name, NoMemory>
     requires short { length query ≤ 40 }
     requires narrow { widths_of (scope items.now) ≤ 16 }
+    requires few { length columns.now < 2 ^ 32 }
     ensures grew { OnOk result (Grew raw.old raw.new [] (project_decls query (Chosen (chosen_of columns.now))) (project_ops query (scope items.now) last (Chosen (chosen_of columns.now)))) }
     ensures last { IfOk result (λ name. name ≡ project_last query last (Chosen (chosen_of columns.now))) }
 {
     let name = marked(alloc, query, Mark::Project)?;
-    let kind = relation(columns.len())?;
+    let kind = relation(columns.len());
     let op = project_op(alloc, name, items, columns, last)?;
     add(raw, op, name, kind)?;
     Ok(name)

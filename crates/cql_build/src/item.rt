@@ -11,7 +11,7 @@ use std::alloc::Global;
 
 /// An item of a query: its name, and the fields of its stream.
 #[derive(Clone, Copy)]
-pub struct Item<'a> {
+pub(crate) struct Item<'a> {
     pub name: Name,
     pub fields: &'a [Name],
 }

@@ -4,7 +4,8 @@ ghost use Rattle.cql_model.specs.Faults.{fields_fault, stream_fault, query_fault
 ghost use Rattle.cql_model.specs.Scopes.{Named, scope_of, column_names};
 ghost use Rattle.cql_build.specs.Knowing.{Knows};
 ghost use Rattle.cql_build.specs.Views.{query_of, part_of, program_of};
-ghost use Rattle.cql_build.specs.Judged.{unit_fault, registers, part_named};
+ghost use Rattle.cql_model.specs.Places.{declares};
+ghost use Rattle.cql_build.specs.Judged.{unit_fault, registers};
 
 use crate::Known;
 use crate::columns::{column_names, copied};
@@ -16,7 +17,7 @@ use river_plan::Names;
 use std::alloc::Global;
 
 /// The first fault of the units of a program, one after another, and its unit, from 1.
-pub fn first_fault(alloc: Global, parts: &[Part]) -> Result<Option<Refusal>, NoMemory>
+pub(crate) fn first_fault(alloc: Global, parts: &[Part]) -> Result<Option<Refusal>, NoMemory>
     ensures { IfOk result (λ refusal. refusal ≡ first_fault [] 0 1 (program_of parts.now)) }
 {
     let mut known = Known::new(alloc);
@@ -71,7 +72,7 @@ fn fields_fault(fields: &[Name]) -> Option<Fault>
 impl Known {
     /// The stream that a unit registers, or the query that it asks, is known besides.
     pub(crate) fn add(&mut self, alloc: Global, part: &Part) -> Result<(), NoMemory>
-        ensures { (ks : List Named) → Knows self.old ks → OnOk result (Knows self.new (part_named ks (part_of part.now) ∷ ks)) }
+        ensures { (ks : List Named) → Knows self.old ks → OnOk result (Knows self.new (declares ks (part_of part.now) ∷ ks)) }
     {
         match part {
             Part::Register(stream) => {

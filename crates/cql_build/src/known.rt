@@ -11,13 +11,13 @@ use std::alloc::Global;
 
 /// The streams and queries that are known, and their fields.
 #[derive(Drop)]
-pub struct Known {
+pub(crate) struct Known {
     pub streams: IndexMap<Name, Names>,
 }
 
 impl Known {
     /// Nothing is known.
-    pub fn new(alloc: Global) -> Known
+    pub(crate) fn new(alloc: Global) -> Known
         ensures { Knows result [] }
     {
         Known {
@@ -26,7 +26,7 @@ impl Known {
     }
 
     /// The fields of this name, where it is known.
-    pub fn fields(&self, name: Name) -> Option<&[Name]>
+    pub(crate) fn fields(&self, name: Name) -> Option<&[Name]>
         ensures { (ks : List Named) → Knows self.now ks → IsFound (option_copied result) ks name }
     {
         match self.streams.get(&name) {
@@ -36,7 +36,7 @@ impl Known {
     }
 
     /// This name is known besides, with these fields.
-    pub fn declare(&mut self, name: Name, fields: Names) -> Result<(), NoMemory>
+    pub(crate) fn declare(&mut self, name: Name, fields: Names) -> Result<(), NoMemory>
         ensures { (ks : List Named) → Knows self.old ks → OnOk result (Knows self.new (record { name = name; fields = fields } ∷ ks)) }
     {
         self.streams.insert(name, fields)?;

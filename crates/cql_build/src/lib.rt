@@ -17,8 +17,7 @@ mod shape;
 mod uses;
 mod values;
 
-pub use item::Item;
-pub use judge::first_fault;
-pub use known::Known;
-pub use names::{Mark, marked};
 pub use planning::{Refused, plan};
+
+use item::Item;
+use known::Known;

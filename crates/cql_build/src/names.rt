@@ -9,7 +9,7 @@ use std::alloc::Global;
 
 /// What a made name is for.
 #[derive(Clone, Copy, Debug)]
-pub enum Mark {
+pub(crate) enum Mark {
     /// A window, by its item's number, from 1.
     Window(usize),
     /// A product, by the number of its second item.
@@ -29,7 +29,7 @@ pub enum Mark {
 }
 
 /// The name for this mark.
-pub fn marked(alloc: Global, base: Name, mark: Mark) -> Result<Name, NoMemory>
+pub(crate) fn marked(alloc: Global, base: Name, mark: Mark) -> Result<Name, NoMemory>
     requires { length base ≤ 40 }
     ensures { IfOk result (λ name. name ≡ marked base mark) }
 {
@@ -50,6 +50,7 @@ fn text(alloc: Global, base: Name, mark: Mark) -> Result<Bytes, NoMemory>
 }
 
 // Appends the word of a mark.
+#[tactic(auto, using(cql_model::proofs::Numerals::numeral_decimal))]
 fn put_mark(alloc: Global, mark: Mark, to: &mut Bytes) -> Result<(), NoMemory>
     ensures put { OnOk result (to.new ≡ to.old ++ word mark) }
     ensures low { OnOk result (IsLow mark) }

@@ -1,5 +1,5 @@
 // The streams of queries, and copies of streams.
-ghost use Rattle.std.specs.Prelude.{◌≡◌, ◌≤◌, ◌<◌, ◌++◌, ◌∷◌, [], codes, IfOk, OnOk, length, suc};
+ghost use Rattle.std.specs.Prelude.{◌≡◌, ◌≤◌, ◌<◌, ◌^◌, ◌++◌, ◌∷◌, [], codes, IfOk, OnOk, length, suc};
 ghost use Rattle.river_kernels.specs.Fits.{stream};
 ghost use Rattle.river_kernels.specs.Kern.{duplicate, streamer};
 ghost use Rattle.river_plan.specs.Names.{count};
@@ -27,10 +27,12 @@ pub(crate) fn output(
     uses: usize,
     width: usize,
 ) -> Result<(), NoMemory>
-    requires { length query ≤ 40 }
+    requires short { length query ≤ 40 }
+    requires few { uses ≤ 256 }
+    requires narrow { width < 2 ^ 32 }
     ensures { OnOk result (Grew raw.old raw.new (decl query (stream width) ∷ []) (out_decls query width uses) (stream_ops query (kind_of kind) last uses)) }
 {
-    let carried = stream(width)?;
+    let carried = stream(width);
     let to = out_name(alloc, query, uses)?;
     stream_to(alloc, raw, query, kind, last, to)?;
     raw.outputs.push(Decl {
@@ -80,7 +82,8 @@ fn copy_output(
     uses: usize,
     kind: QueueType,
 ) -> Result<(), NoMemory>
-    requires { length query ≤ 40 }
+    requires short { length query ≤ 40 }
+    requires few { uses ≤ 256 }
     ensures { OnOk result (Grew raw.old raw.new [] (decl from kind ∷ decls (copies query 0 uses) kind) (op (at_word query (codes "d")) (duplicate (suc uses)) (from ∷ []) (query ∷ copies query 0 uses) [] ∷ [])) }
 {
     raw.queues.push(Decl { name: from, kind })?;
@@ -98,22 +101,25 @@ pub(crate) fn copy_input(
     uses: &Uses,
     registered: &Stream,
 ) -> Result<(), NoMemory>
-    requires { length registered.now.name ≤ 40 }
+    requires short { length registered.now.name ≤ 40 }
+    requires few { length uses.now.all ≤ 256 }
+    requires narrow { length registered.now.fields.items ≤ 16 }
     ensures { OnOk result (Grew raw.old raw.new [] (copy_decls registered.now.name (length registered.now.fields.items) (count registered.now.name uses.now.all)) (copy_ops registered.now.name (count registered.now.name uses.now.all))) }
 {
     let count = uses.count(registered.name);
     if count < 2 {
         return Ok(());
     }
-    let kind = carried(registered)?;
+    let kind = carried(registered);
     let writes = copies(alloc, registered.name, count)?;
     declare(&mut raw.queues, writes.as_slice(), kind)?;
     copy(alloc, raw, registered.name, registered.name, writes)
 }
 
 /// What a registered stream carries.
-pub(crate) fn carried(registered: &Stream) -> Result<QueueType, NoMemory>
-    ensures { IfOk result (λ kind. kind ≡ stream (length registered.now.fields.items)) }
+pub(crate) fn carried(registered: &Stream) -> QueueType
+    requires { length registered.now.fields.items ≤ 16 }
+    ensures { result ≡ stream (length registered.now.fields.items) }
 {
     let fields = registered.fields.as_slice();
     stream(fields.len())
@@ -127,12 +133,11 @@ fn copy(
     from: Name,
     writes: Names,
 ) -> Result<(), NoMemory>
-    requires { length base ≤ 40 }
+    requires short { length base ≤ 40 }
+    requires few { length writes < 2 ^ 32 }
     ensures { OnOk result (Grew raw.old raw.new [] [] (op (at_word base (codes "d")) (duplicate (length writes)) (from ∷ []) writes [] ∷ [])) }
 {
-    let Ok(count) = u32::try_from(writes.len()) else {
-        return Err(NoMemory);
-    };
+    let count = writes.len() as u32;
     let name = marked(alloc, base, Mark::Copies)?;
     let op = copy_op(alloc, name, count, from, writes)?;
     raw.ops.push(op)

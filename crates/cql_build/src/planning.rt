@@ -1,16 +1,17 @@
 // The plan of a program.
 ghost use Rattle.std.specs.Prelude.{◌≡◌, ◌≤◌, ◌++◌, [], List, Option, Some, None, false, IfOk, IfErr, OnOk, length};
+ghost use Rattle.std.specs.List.{AllByRecursion};
 ghost use Rattle.std.specs.Option.{is_some};
 ghost use Rattle.river_plan.specs.Forms.{PlanForm, plan_form, op_forms, empty_form};
 ghost use Rattle.river_plan.specs.Uses.{all_vars};
 ghost use Rattle.river_plan.specs.Valid.{FirstFault};
 ghost use Rattle.river_plan.specs.declared.fault.PlanFault as plan_fault;
-ghost use Rattle.cql_model.specs.Accepted.{IsAccepted, exceeds};
+ghost use Rattle.cql_model.specs.Plannable.{IsPlannable, exceeds};
 ghost use Rattle.cql_model.specs.Faults.{AreSpoken, AreShort, first_fault, refusal_of};
 ghost use Rattle.cql_model.specs.Program.{registered, all_uses};
 ghost use Rattle.cql_model.specs.Translation.{input_decls, input_copies, input_ops, plan_of};
 ghost use Rattle.cql_build.specs.Grown.{Grew};
-ghost use Rattle.cql_build.specs.Planned.{IsRefused, IsLimited, limit_at, refused_of, unit_inputs, unit_copies, unit_copying, IsShortRegistered};
+ghost use Rattle.cql_build.specs.Planned.{IsRefused, IsLimited, limit_at, refused_of, unit_inputs, unit_copies, unit_copying, IsShortRegistered, IsNarrow};
 ghost use Rattle.cql_build.specs.Views.{part_of, program_of};
 
 use crate::columns::append;
@@ -60,7 +61,7 @@ pub fn plan(alloc: Global, parts: &[Part]) -> Result<Plan, Refused>
 
 // The same, where no unit has a fault.
 fn faultless(alloc: Global, parts: &[Part]) -> Result<Plan, Refused>
-    requires accepted { IsAccepted (program_of parts.now) }
+    requires accepted { IsPlannable (program_of parts.now) }
     requires short { AreShort (program_of parts.now) }
     requires none { first_fault [] 0 1 (program_of parts.now) ≡ None }
     ensures plan { IfOk result (λ plan. (refusal_of (program_of parts.now) ≡ None) × (plan ≡ plan_of (program_of parts.now))) }
@@ -116,8 +117,9 @@ fn told(fault: PlanFault, unit: usize) -> Refused
 
 // The lists of the plan.
 fn lists(alloc: Global, uses: &mut Uses, parts: &[Part]) -> Result<RawPlan, NoMemory>
-    requires accepted { IsAccepted (program_of parts.now) }
+    requires accepted { IsPlannable (program_of parts.now) }
     requires short { AreShort (program_of parts.now) }
+    requires few { length uses.old.all ≤ 256 }
     requires inputs { uses.old.inputs ≡ registered (program_of parts.now) }
     requires all { uses.old.all ≡ all_uses (program_of parts.now) }
     requires past { uses.old.past ≡ [] }
@@ -131,8 +133,9 @@ fn lists(alloc: Global, uses: &mut Uses, parts: &[Part]) -> Result<RawPlan, NoMe
 // Fills lists that are empty.
 fn fill(alloc: Global, raw: &mut RawPlan, uses: &mut Uses, parts: &[Part]) -> Result<(), NoMemory>
     requires empty { plan_form raw.old ≡ empty_form }
-    requires accepted { IsAccepted (program_of parts.now) }
+    requires accepted { IsPlannable (program_of parts.now) }
     requires short { AreShort (program_of parts.now) }
+    requires few { length uses.old.all ≤ 256 }
     requires inputs { uses.old.inputs ≡ registered (program_of parts.now) }
     requires all { uses.old.all ≡ all_uses (program_of parts.now) }
     requires past { uses.old.past ≡ [] }
@@ -146,6 +149,7 @@ fn fill(alloc: Global, raw: &mut RawPlan, uses: &mut Uses, parts: &[Part]) -> Re
 
 // The registered streams are inputs.
 fn declare_inputs(to: &mut Decls, parts: &[Part]) -> Result<(), NoMemory>
+    requires { AllByRecursion IsNarrow (program_of parts.now) }
     ensures { OnOk result (to.new ≡ to.old ++ input_decls (program_of parts.now)) }
 {
     for part in parts {
@@ -156,12 +160,13 @@ fn declare_inputs(to: &mut Decls, parts: &[Part]) -> Result<(), NoMemory>
 
 // A registered stream.
 fn declare_input(to: &mut Decls, part: &Part) -> Result<(), NoMemory>
+    requires { IsNarrow (part_of part.now) }
     ensures { OnOk result (to.new ≡ to.old ++ unit_inputs (part_of part.now)) }
 {
     match part {
         Part::Register(registered) => to.push(Decl {
             name: registered.name,
-            kind: carried(registered)?,
+            kind: carried(registered),
         }),
         Part::Ask(_) => Ok(()),
     }
@@ -174,7 +179,9 @@ fn copy_inputs(
     uses: &Uses,
     parts: &[Part],
 ) -> Result<(), NoMemory>
-    requires { AreShort (program_of parts.now) }
+    requires short { AreShort (program_of parts.now) }
+    requires few { length uses.now.all ≤ 256 }
+    requires narrow { AllByRecursion IsNarrow (program_of parts.now) }
     ensures { OnOk result (Grew raw.old raw.new [] (input_copies uses.now.all (program_of parts.now)) (input_ops uses.now.all (program_of parts.now))) }
 {
     for part in parts {
@@ -185,7 +192,9 @@ fn copy_inputs(
 
 // One of them.
 fn copy_unit(alloc: Global, raw: &mut RawPlan, uses: &Uses, part: &Part) -> Result<(), NoMemory>
-    requires { IsShortRegistered (part_of part.now) }
+    requires short { IsShortRegistered (part_of part.now) }
+    requires few { length uses.now.all ≤ 256 }
+    requires narrow { IsNarrow (part_of part.now) }
     ensures { OnOk result (Grew raw.old raw.new [] (unit_copies uses.now.all (part_of part.now)) (unit_copying uses.now.all (part_of part.now))) }
 {
     match part {

@@ -1,9 +1,9 @@
 // The queries of a program, one after another.
-ghost use Rattle.std.specs.Prelude.{◌≡◌, ◌≤◌, ◌<◌, ◌++◌, ◌∷◌, [], List, IfOk, OnOk, length};
+ghost use Rattle.std.specs.Prelude.{◌≡◌, ◌≤◌, ◌<◌, ◌^◌, ◌++◌, ◌∷◌, [], List, IfOk, OnOk, length};
 ghost use Rattle.std.specs.List.{AllByRecursion};
 ghost use Rattle.river_kernels.specs.Fits.{stream};
 ghost use Rattle.river_plan.specs.Names.{count};
-ghost use Rattle.cql_model.specs.Accepted.{IsQuery, AreQueries};
+ghost use Rattle.cql_model.specs.Plannable.{IsQuery, AreQueries};
 ghost use Rattle.cql_model.specs.Faults.{IsShortName, AreShort};
 ghost use Rattle.cql_model.specs.Program.{streams_of};
 ghost use Rattle.cql_model.specs.Scopes.{Named, scope_of};
@@ -30,6 +30,7 @@ pub(crate) fn queries(
 ) -> Result<(), NoMemory>
     requires good { AreQueries [] (program_of parts.now) }
     requires short { AreShort (program_of parts.now) }
+    requires few { length uses.old.all ≤ 256 }
     ensures { OnOk result (Grew raw.old raw.new (output_decls [] (program_of parts.now)) (ask_decls uses.old.all [] (program_of parts.now)) (ask_ops uses.old.inputs uses.old.all [] uses.old.past (program_of parts.now))) }
 {
     let mut known = Known::new(alloc);
@@ -47,6 +48,7 @@ fn queries_among(
     requires nothing { Knows known.old [] }
     requires good { AreQueries [] (program_of parts.now) }
     requires short { AreShort (program_of parts.now) }
+    requires few { length uses.old.all ≤ 256 }
     ensures { OnOk result (Grew raw.old raw.new (output_decls [] (program_of parts.now)) (ask_decls uses.old.all [] (program_of parts.now)) (ask_ops uses.old.inputs uses.old.all [] uses.old.past (program_of parts.now))) }
 {
     for part in parts {
@@ -67,6 +69,7 @@ impl Known {
     ) -> Result<(), NoMemory>
         requires good { (ks : List Named) × Knows self.now ks × IsUnit ks (part_of part.now) }
         requires short { IsShortUnit (part_of part.now) }
+        requires few { length uses.old.all ≤ 256 }
         ensures grew { (ks : List Named) → Knows self.now ks → OnOk result (Grew raw.old raw.new (unit_outputs ks (part_of part.now)) (unit_decls uses.old.all ks (part_of part.now)) (unit_ops uses.old.inputs uses.old.all ks uses.old.past (part_of part.now))) }
         ensures used { OnOk result (Used uses.old uses.new (unit_uses (part_of part.now))) }
     {
@@ -87,6 +90,7 @@ impl Known {
         requires good { (ks : List Named) × Knows self.now ks × IsQuery ks (query_of query.now) }
         requires short { length query.now.name ≤ 40 }
         requires streams { AllByRecursion IsShortName (streams_of (query_of query.now).items) }
+        requires few { length uses.old.all ≤ 256 }
         ensures grew { (ks : List Named) → Knows self.now ks → OnOk result (Grew raw.old raw.new (decl query.now.name (stream (columns_width (scope_of ks (query_of query.now).items) (query_of query.now).columns)) ∷ []) (query_decls uses.old.all ks (query_of query.now)) (query_ops uses.old.inputs uses.old.all ks uses.old.past (query_of query.now))) }
         ensures used { OnOk result (Used uses.old uses.new (streams_of (query_of query.now).items)) }
     {
@@ -106,8 +110,10 @@ fn query_on(
     requires some { 0 < length items.now }
     requires each { length items.now ≡ length query.now.items.items }
     requires narrow { widths_of (scope items.now) ≤ 16 }
+    requires columns { columns_width (scope items.now) (columns_of query.now.columns) < 2 ^ 32 }
     requires short { length query.now.name ≤ 40 }
     requires streams { AllByRecursion IsShortName (streams_of (query_of query.now).items) }
+    requires few { length uses.old.all ≤ 256 }
     ensures grew { (ks : List Named) → scope items.now ≡ scope_of ks (query_of query.now).items → OnOk result (Grew raw.old raw.new (decl query.now.name (stream (columns_width (scope_of ks (query_of query.now).items) (query_of query.now).columns)) ∷ []) (query_decls uses.old.all ks (query_of query.now)) (query_ops uses.old.inputs uses.old.all ks uses.old.past (query_of query.now))) }
     ensures used { OnOk result (Used uses.old uses.new (streams_of (query_of query.now).items)) }
 {
@@ -128,7 +134,9 @@ fn tail(
     used: usize,
 ) -> Result<(), NoMemory>
     requires narrow { widths_of (scope items.now) ≤ 16 }
+    requires columns { columns_width (scope items.now) (columns_of query.now.columns) < 2 ^ 32 }
     requires short { length query.now.name ≤ 40 }
+    requires few { used ≤ 256 }
     ensures { OnOk result (Grew raw.old raw.new (decl query.now.name (stream (columns_width (scope items.now) (columns_of query.now.columns))) ∷ []) (tail_decls (query_of query.now) (scope items.now) used) (tail_ops (query_of query.now) (scope items.now) used last)) }
 {
     let last = select(alloc, raw, query.name, items, last, &query.condition)?;

@@ -15,7 +15,7 @@ use std::alloc::Global;
 
 /// The streams that are registered, those that items name, and of these those whose queue is known.
 #[derive(Drop)]
-pub struct Uses {
+pub(crate) struct Uses {
     pub inputs: Names,
     pub all: Names,
     pub past: Names,
@@ -23,7 +23,7 @@ pub struct Uses {
 
 impl Uses {
     /// Those of a program, none of which has its queue.
-    pub fn of(alloc: Global, parts: &[Part]) -> Result<Uses, NoMemory>
+    pub(crate) fn of(alloc: Global, parts: &[Part]) -> Result<Uses, NoMemory>
         ensures inputs { IfOk result (λ uses. uses.inputs ≡ registered (program_of parts.now)) }
         ensures all { IfOk result (λ uses. uses.all ≡ all_uses (program_of parts.now)) }
         ensures past { IfOk result (λ uses. uses.past ≡ []) }
@@ -58,6 +58,7 @@ impl Uses {
 
     /// The queue from which the next item that names this stream reads: the stream's own where it is registered and named once, and
     /// otherwise the next of its copies.
+    #[tactic(auto, using(crate::proofs::Lists::once_more))]
     pub(crate) fn source(&mut self, alloc: Global, stream: Name) -> Result<Name, NoMemory>
         requires { length stream ≤ 40 }
         ensures name { IfOk result (λ source. source ≡ source_at self.old.inputs self.old.all stream (count stream self.old.past)) }
@@ -65,22 +66,12 @@ impl Uses {
         ensures inputs { self.new.inputs ≡ self.old.inputs }
         ensures all { self.new.all ≡ self.old.all }
     {
-        let used = count(self.past.as_slice(), stream);
         self.past.push(stream)?;
         if count(self.inputs.as_slice(), stream) > 0 && self.count(stream) <= 1 {
             return Ok(stream);
         }
-        marked(alloc, stream, Mark::Copy(next(used)?))
-    }
-}
-
-// The number behind this one.
-pub(crate) fn next(number: usize) -> Result<usize, NoMemory>
-    ensures { IfOk result (λ n. n ≡ number + 1) }
-{
-    match number.checked_add(1) {
-        Some(n) => Ok(n),
-        None => Err(NoMemory),
+        let number = count(self.past.as_slice(), stream);
+        marked(alloc, stream, Mark::Copy(number))
     }
 }
 

@@ -83,9 +83,16 @@ pub(crate) fn selected_fault(
 ) -> Option<Fault>
     ensures { result ≡ then_fault (columns_fault (scope items.now) (columns_of columns.now)) (condition_fault (scope items.now) (condition_of condition.now)) }
 {
-    if let Some(fault) = columns_fault(items, columns) {
-        return Some(fault);
+    match columns_fault(items, columns) {
+        Some(fault) => Some(fault),
+        None => condition_fault(items, condition),
     }
+}
+
+// The first fault of the condition.
+fn condition_fault(items: &[Item<'_>], condition: &Option<Scalar>) -> Option<Fault>
+    ensures { result ≡ condition_fault (scope items.now) (condition_of condition.now) }
+{
     match condition {
         Some(value) => value_fault(items, value),
         None => None,

@@ -1,10 +1,12 @@
 -- What a text of CQL means is what it has in the grammar, and what the front answers.
-use Rattle.std.proofs.Common.{◌≡◌, ℕ, List, Option, Some, None, Result, Ok, Err, refl, sym, ap, ◌∙◌, subst}
+use Rattle.std.proofs.Common.{◌≡◌, ℕ, List, Option, Some, None, Result, Ok, Err, refl, sym, ap, ◌∙◌, subst, arith, [], ◌∷◌, length, ◌≤◌}
+use Rattle.std.proofs.lemmas.List.{length-map}
 use Rattle.work_code.specs.Cut.{units_of}
 use Rattle.work_code.specs.Lexis.{tokens_in}
-use Rattle.work_code.specs.Tok.{Mark, toks}
+use Rattle.work_code.specs.Tok.{Tok, Mark, toks}
 use Rattle.work_code.specs.declared.fault.LexFault.{LexFault}
 use Rattle.work_code.specs.declared.fault.LexFault.TheVariants as lex
+use Rattle.work_code.proofs.Counts.{units-few}
 use Rattle.work_code.proofs.Slices.{no_want}
 use Rattle.text_forms.specs.Refusals.{of_lexer}
 use Rattle.text_forms.specs.declared.refusal.Refusal.TheVariants.{BadByte, BigNumber, Syntax}
@@ -15,15 +17,16 @@ use Rattle.cql_model.specs.declared.fault.Fault.TheVariants as model_fault
 use Rattle.cql_model.specs.declared.fault.Refusal.{Refusal}
 use Rattle.cql_model.specs.Translation.{plan_of}
 use Rattle.cql_text.specs.Faults.{StandFor, Refuses}
-use Rattle.cql_text.specs.Grammar.{IsText}
+use Rattle.cql_text.specs.Grammar.{IsText, AreParts}
 use Rattle.cql_text.specs.Laws.{IsBadAt}
 use Rattle.cql_text.specs.Reading.{parts_in}
-use Rattle.cql_build.specs.Seen.{program_of}
+use Rattle.cql_build.specs.Seen.{part_of, program_of}
 use Rattle.cql_text.specs.Tree.{Part}
 use Rattle.cql_text.specs.declared.fault.CqlTextFault.TheVariants.{Syntax as Syntax_at}
 use Rattle.cql_front.proofs.Spoken.{spoken, shortened}
 use Rattle.cql_text.proofs.Texts.{text-read, text-reads, units-bad, units-reads, units-told}
-use Rattle.cql_model.proofs.Unrefused.{unrefused_are_valid, unrefused_mean}
+use Rattle.cql_model.proofs.Accepted.{accepted_are_valid, accepted_mean}
+use Rattle.cql_model.proofs.Judged.{refusals_are, accepted_are, unit_low}
 use Rattle.cql_front.specs.declared.fault.CqlFault.{CqlFault}
 use Rattle.cql_front.specs.declared.fault.CqlFault.TheVariants.{Text, UnknownStream, UnknownField, AmbiguousField, NameTwice, Limit, NoMemory}
 use Rattle.cql_front.specs.Laws.{HasFault, Has, MeansWhatItHas, PlansMean}
@@ -47,10 +50,10 @@ unfolding compiled
 lexed-means text fault e = ap then_read e
 
 fault-means : (text : List ℕ) (fault : CqlFault) → HasFault text fault → compiled text ≡ Err fault
-fault-means text fault h = stands-means text h.program h.stands ∙ ap (or_refused h.program) h.refused ∙ ap Err (sym h.is)
+fault-means text fault h = stands-means text h.program h.stands ∙ ap (or_refused h.program) ((refusals_are (program_of h.program) h.refusal).1 h.refused) ∙ ap Err (sym h.is)
 
 has-means : (text : List ℕ) (meant : Result (List Part) CqlFault) → Has text meant → compiled text ≡ meant
-has-means text (Ok p) h = stands-means text p h.0 ∙ ap (or_refused p) h.1
+has-means text (Ok p) h = stands-means text p h.0 ∙ ap (or_refused p) ((accepted_are (program_of p)).1 h.1)
 has-means text (Err (Text (BadByte at))) h = lexed-means text (lex.BadByte at) h
 has-means text (Err (Text (BigNumber at))) h = lexed-means text (lex.BigNumber at) h
 has-means text (Err (Text (Syntax unit))) h = bad-means text unit h
@@ -66,7 +69,7 @@ has-means text (Err NoMemory) h = absurd h
 fault-has : (text : List ℕ) (p : List Part) (r : Refusal) → IsText text p → refusal_of (program_of p) ≡ Some r → Has text (Err (fault_at r.unit r.fault))
 fault-has text p r t j = by r.fault refl where
   has : (f : model.Fault) → r.fault ≡ f → HasFault text (fault_at r.unit f)
-  has f is = record { program = p; refusal = r; stands = t; refused = j; is = ap (fault_at r.unit) (sym is) }
+  has f is = record { program = p; refusal = r; stands = t; refused = (refusals_are (program_of p) r).0 j; is = ap (fault_at r.unit) (sym is) }
 
   by : (f : model.Fault) → r.fault ≡ f → Has text (Err (fault_at r.unit f))
   by model_fault.UnknownStream is = has model_fault.UnknownStream is
@@ -78,7 +81,7 @@ fault-has text p r t j = by r.fault refl where
 accepted-has : (text : List ℕ) (p : List Part) → IsText text p → Has text (accepted p)
 accepted-has text p t = by (refusal_of (program_of p)) refl where
   by : (o : Option Refusal) → refusal_of (program_of p) ≡ o → Has text (or_refused p o)
-  by None j = (t, j)
+  by None j = (t, (accepted_are (program_of p)).0 j)
   by (Some r) j = fault-has text p r t j
 
 means-has : (text : List ℕ) → Has text (compiled text)
@@ -103,7 +106,7 @@ pub plans_mean : PlansMean
 plans_mean text p e =
     let h : Has text (Ok p) = subst (Has text) e (means-has text) in
     let s = spoken p (units_of (toks h.0.marks)) h.0.formed in
-    (unrefused_are_valid (program_of p) s h.1, λ files are. unrefused_mean (program_of p) files s h.1 are)
+    (accepted_are_valid (program_of p) s h.1, λ files are. accepted_mean (program_of p) files s h.1 are)
 
 -- ---- WHAT THE FRONT ANSWERS
 
@@ -124,6 +127,16 @@ read-spoken marks p e = spoken p (units_of (toks marks)) e
 pub read-short : (marks : List Mark) (p : List Part) → StandFor marks p → AreShort (program_of p)
 read-short marks p e = shortened p (units_of (toks marks)) e
 
+parts-many : (p : List Part) (units : List (List Tok)) → AreParts p units → length p ≡ length units
+parts-many [] [] h = refl
+parts-many [] (u ∷ us) h = absurd h
+parts-many (p ∷ ps) [] h = absurd h
+parts-many (p ∷ ps) (u ∷ us) h = let m = parts-many ps us h.1 in omega (arith, m)
+
+-- a program has no more units than its text has tokens
+pub read-few : (marks : List Mark) (p : List Part) → StandFor marks p → length p ≤ length marks
+read-few marks p e = let m = parts-many p (units_of (toks marks)) e in let f = units-few marks in omega (arith, m, f)
+
 pub ruleset fronts = (read-planned, read-refused, read-spoken, read-short)
 
 -- tokens with a unit that is not in the grammar mean the first of them
@@ -135,6 +148,10 @@ pub ruleset readings = (read-bad)
 -- a program that is not refused is the one that is meant, and this is its plan
 pub planned-plans : (p : List Part) (plan : PlanForm) → refusal_of (program_of p) ≡ None → plan ≡ plan_of (program_of p) → Plans (accepted p) p plan
 planned-plans p plan e is = record { accepted = ap (or_refused p) e; planned = is }
+
+-- the unit of a refusal is one of the program
+pub planned-low : (p : List Part) (r : Refusal) → refusal_of (program_of p) ≡ Some r → r.unit ≤ length p
+planned-low p r e = let u = unit_low (program_of p) r e in let l = length-map p part_of in omega (arith, u, l)
 
 -- a program that is refused means the fault
 pub planned-refused : (p : List Part) (r : Refusal) → refusal_of (program_of p) ≡ Some r → accepted p ≡ Err (fault_at r.unit r.fault)

@@ -8,7 +8,7 @@ use Rattle.work_code.specs.Tok.{Tok}
 use Rattle.work_code.specs.declared.sign.Symbol.TheVariants as sign
 use Rattle.text_forms.specs.Forms as form
 use Rattle.text_forms.specs.Parse.{is_short}
-use Rattle.cql_model.specs.Accepted.{has_no_at, AreShallow, IsShallow, depth, declared}
+use Rattle.cql_model.specs.Plannable.{has_no_at, AreShallow, IsShallow, depth, declared}
 use Rattle.cql_model.specs.Faults.{has_columns, AreSpoken, IsShortName, AreShort}
 use Rattle.cql_model.specs.Program as program
 use Rattle.cql_model.specs.Program.{Program, streams_of, all_uses}

@@ -1,14 +1,14 @@
 -- What is true of all texts.
-use Rattle.std.specs.Prelude.{◌≡◌, ◌↔◌, ℕ, ℤ, List, [], Some, None, Result, Ok, Err}
+use Rattle.std.specs.Prelude.{◌≡◌, ◌↔◌, ℕ, ℤ, List, [], Result, Ok, Err}
 use Rattle.work_code.specs.Lexis.{tokens_in}
 use Rattle.work_code.specs.declared.fault.LexFault.TheVariants as lex
 use Rattle.text_forms.specs.declared.refusal.Refusal.TheVariants.{BadByte, BigNumber, Syntax}
 use Rattle.river_plan.specs.Valid.{IsPlan}
 use Rattle.river_print.specs.Printable.{IsPrintable}
 use Rattle.brooklet_model.specs.Meaning.{meaning}
-use Rattle.cql_model.specs.Faults.{refusal_of}
 use Rattle.cql_model.specs.Instants.{inputs_for, program_means}
 use Rattle.cql_model.specs.Laws.{AreFiles}
+use Rattle.cql_model.specs.Refused.{IsRefused, IsAccepted}
 use Rattle.cql_model.specs.Translation.{plan_of}
 use Rattle.cql_model.specs.declared.fault.Refusal.{Refusal}
 use Rattle.cql_text.specs.Grammar.{IsText}
@@ -24,13 +24,13 @@ pub record HasFault (text : List ℕ) (fault : CqlFault) : Type 0 where
   pub program : List Part
   pub refusal : Refusal
   pub stands : IsText text program
-  pub refused : refusal_of (program_of program) ≡ Some refusal
+  pub refused : IsRefused (program_of program) refusal
   pub is : fault ≡ fault_at refusal.unit refusal.fault
 
--- the grammar has the text for a program that is not refused; or for one that is; or it has a first unit that is not in the
+-- the grammar has the text for a program that is accepted; or for one that is refused; or it has a first unit that is not in the
 -- grammar, or a first fault of its bytes
 abbrev pub Has : List ℕ → Result (List Part) CqlFault → Type 0
-Has text (Ok p) = IsText text p × (refusal_of (program_of p) ≡ None)
+Has text (Ok p) = IsText text p × IsAccepted (program_of p)
 Has text (Err (Text (BadByte at))) = tokens_in text ≡ Err (lex.BadByte at)
 Has text (Err (Text (BigNumber at))) = tokens_in text ≡ Err (lex.BigNumber at)
 Has text (Err (Text (Syntax unit))) = IsBadAt text unit

@@ -69,6 +69,7 @@ fn read(alloc: Global, tokens: &Tokens<'_>) -> Result<CqlProgram, CqlFault>
 fn planned(alloc: Global, parts: &[Part]) -> Result<Plan, CqlFault>
     requires spoken { AreSpoken (program_of (map part_of parts.now)) }
     requires short { AreShort (program_of (map part_of parts.now)) }
+    requires few { length parts.now < 2 ^ 32 }
     ensures plan { IfOk result (Plans (accepted (map part_of parts.now)) (map part_of parts.now)) }
     ensures refused { IfErr result (Refused (accepted (map part_of parts.now))) }
 {
@@ -79,13 +80,12 @@ fn planned(alloc: Global, parts: &[Part]) -> Result<Plan, CqlFault>
     }
 }
 
-// The fault of a unit; where its number has no place, there was no memory for so many.
+// The fault of a unit.
 fn fault(refusal: Refusal) -> CqlFault
+    requires { refusal.unit < 2 ^ 32 }
     ensures { (p : List tree.Part) → refusal_of (program_of p) ≡ Some refusal → Refused (accepted p) result }
 {
-    let Ok(unit) = u32::try_from(refusal.unit) else {
-        return CqlFault::NoMemory;
-    };
+    let unit = refusal.unit as u32;
     match refusal.fault {
         Fault::UnknownStream => CqlFault::UnknownStream { unit },
         Fault::UnknownField => CqlFault::UnknownField { unit },

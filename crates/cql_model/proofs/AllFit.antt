@@ -14,7 +14,7 @@ use Rattle.river_plan.specs.Forms.{Name}
 use Rattle.river_plan.specs.Names.{one_if, count}
 use Rattle.river_plan.specs.Uses.{Each}
 use Rattle.river_plan.proofs.NameLemmas.{cases_name, one_same}
-use Rattle.cql_model.specs.Accepted.{AreQueries}
+use Rattle.cql_model.specs.Plannable.{AreQueries}
 use Rattle.cql_model.specs.Laws.{known_names, AreKnown}
 use Rattle.cql_model.specs.Program.{Source, Columns, Star, Chosen, Query, Register, Ask, Program, streams_of, all_uses}
 use Rattle.cql_model.specs.Scopes.{Named, scope_of, fields_of, column_names}

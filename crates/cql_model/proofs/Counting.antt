@@ -1,13 +1,13 @@
 -- How often a name stands among a plan's queues, variables and labels, part by part.
 use Rattle.std.proofs.Common.{◌≡◌, ℕ, zero, suc, ◌+◌, ◌<◌, ◌≤◌, ◌^◌, Option, Some, None, List, [], ◌∷◌, ◌++◌, refl, ap, ◌∙◌, arith, length, map}
 use Rattle.std.specs.Prelude.{codes}
-use Rattle.std.specs.Fmt.{decimal}
 use Rattle.river_base.specs.Name.{name_eq}
 use Rattle.river_plan.specs.declared.plan.Decl.{Decl}
 use Rattle.river_base.specs.declared.kind.QueueType.{QueueType}
 use Rattle.river_plan.specs.Forms.{Name, OpForm, decl_names}
 use Rattle.river_plan.specs.Names.{one_if, count}
 use Rattle.river_plan.specs.Uses.{total, writes_it, reads_it, vars_it, named_it}
+use Rattle.cql_model.specs.Numeral.{numeral}
 use Rattle.cql_model.specs.Program.{Scalar, Source, Columns, Star, Chosen, Query}
 use Rattle.cql_model.specs.Scopes.{Named, scope_of, item_named}
 use Rattle.river_kernels.specs.Kern.{streamer}
@@ -69,7 +69,7 @@ query_tags u q = (None ∷ []) ++ (numbers [] 1 u ++ inner_tags u q)
 
 pub copies_are : (b : Name) (k u : ℕ) → copies b k u ≡ map (tagged b) (numbers [] (k + 1) u)
 copies_are b k zero = refl
-copies_are b k (suc u) = ap (λ l. at_word b (decimal (k + 1)) ∷ l) (copies_are b (k + 1) u)
+copies_are b k (suc u) = ap (λ l. at_word b (numeral (k + 1)) ∷ l) (copies_are b (k + 1) u)
 
 windows_write : (z b : Name) (k : ℕ) (items : List Source) (srcs : List Name) → length srcs ≡ length items
     → total (writes_it z) (window_ops b k items srcs) ≡ among z b (w_tags k items)
@@ -354,15 +354,12 @@ block_decls z all known q =
 
 -- TAGS STAND ONCE
 
-pub few : (k : ℕ) → k ≤ 2000000000000 → k < 2 ^ 64
-few k h = omega (arith, h)
-
 items_from : (items : List Source) → length items ≤ 4 → From 119 (w_tags 1 items ++ x_tags 2 (rest_of items))
 items_from items h =
-    from_more 119 120 (w_tags 1 items) (x_tags 2 (rest_of items)) (omega arith) (of_letter 119 1 (length items) (omega arith) (few (1 + length items) (omega (arith, h)))) (x_from items h) where
+    from_more 119 120 (w_tags 1 items) (x_tags 2 (rest_of items)) (omega arith) (of_letter 119 1 (length items) (omega arith)) (x_from items h) where
       x_from : (is : List Source) → length is ≤ 4 → From 120 (x_tags 2 (rest_of is))
       x_from [] h = from_nil 120
-      x_from (i ∷ is) h = all_from (of_letter 120 2 (length is) (omega arith) (few (2 + length is) (omega (arith, h)))) where
+      x_from (i ∷ is) h = all_from (of_letter 120 2 (length is) (omega arith)) where
         all_from : Of 120 (x_tags 2 is) → From 120 (x_tags 2 is)
         all_from o = record { once = o.once; above = λ t lt. let e = o.only t lt in omega (arith, e) }
 
@@ -385,10 +382,10 @@ d_from (suc u) ts f = from_more 100 105 (word (codes "d")) ts (omega arith) (of_
 pub inner_from : (u : ℕ) (q : Query) → length q.items ≤ 4 → From 111 (inner_tags u q)
 inner_from u q h = o_from u _ (p_from q.columns _ (s_from q.condition _ (items_from q.items h)))
 
-pub query_from : (u : ℕ) (q : Query) → length q.items ≤ 4 → u ≤ 1000000000000 → From 0 (query_tags u q)
-query_from u q h k =
+pub query_from : (u : ℕ) (q : Query) → length q.items ≤ 4 → From 0 (query_tags u q)
+query_from u q h =
     from_more 0 2 (None ∷ []) (numbers [] 1 u ++ inner_tags u q) (omega arith) (of_one None)
-    (from_more 2 111 (numbers [] 1 u) (inner_tags u q) (omega arith) (of_numbers 1 u (few (1 + u) (omega (arith, k)))) (inner_from u q h))
+    (from_more 2 111 (numbers [] 1 u) (inner_tags u q) (omega arith) (of_numbers 1 u) (inner_from u q h))
 
 pub vars_from : (q : Query) → length q.items ≤ 4 → From 105 (var_tags q)
 vars_from q h =

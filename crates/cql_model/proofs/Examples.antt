@@ -1,7 +1,7 @@
 -- Worked cases, by hand.
 use Rattle.std.proofs.Common.{◌≡◌, ℕ, ℤ, pos, Some, None, List, [], ◌∷◌, refl, map}
 use Rattle.std.specs.Prelude.{codes}
-use Rattle.std.specs.Fmt.{digits}
+use Rattle.cql_model.specs.Numeral.{numeral}
 use Rattle.river_base.specs.Instants.{Timed}
 use Rattle.work_code.specs.declared.expr.BinOp.TheVariants as o
 use Rattle.kern_bags.specs.declared.kernel.Window.TheVariants.{Now, Range, Latest}
@@ -55,7 +55,7 @@ unfolding where_range
 where_case = refl
 
 where_queues : map (λ (d : Decl). d.name) (plan_of where_range).queues ≡ codes "q@w1" ∷ codes "q@s" ∷ codes "q@p" ∷ []
-unfolding where_range digits
+unfolding where_range numeral
 where_queues = refl
 
 where_ops : map with_vars (plan_of where_range).ops ≡
@@ -63,7 +63,7 @@ where_ops : map with_vars (plan_of where_range).ops ≡
     ∷ (codes "q@s", codes "q@w1" ∷ [], codes "q@s" ∷ [], [])
     ∷ (codes "q@p", codes "q@s" ∷ [], codes "q@p" ∷ [], [])
     ∷ (codes "q@i", codes "q@p" ∷ [], codes "q" ∷ [], codes "q@i" ∷ []) ∷ []
-unfolding where_range digits
+unfolding where_range numeral
 where_ops = refl
 
 -- Select Rstream(a) From S [Rows 1], on two rows of one instant
@@ -93,7 +93,7 @@ pairs_ops : map queues_of (plan_of pairs_of_s).ops ≡
     ∷ (codes "q@w2", codes "S@2" ∷ [], codes "q@w2" ∷ [])
     ∷ (codes "q@x2", codes "q@w1" ∷ codes "q@w2" ∷ [], codes "q@x2" ∷ [])
     ∷ (codes "q@i", codes "q@x2" ∷ [], codes "q" ∷ []) ∷ []
-unfolding pairs_of_s digits
+unfolding pairs_of_s numeral
 pairs_ops = refl
 
 -- Select Dstream(a) From S [Now], with another stream's instant between
@@ -123,9 +123,9 @@ chained_ops : map queues_of (plan_of chained).ops ≡
     ∷ (codes "r@w1", codes "p@1" ∷ [], codes "r@w1" ∷ [])
     ∷ (codes "r@p", codes "r@w1" ∷ [], codes "r@p" ∷ [])
     ∷ (codes "r@i", codes "r@p" ∷ [], codes "r" ∷ []) ∷ []
-unfolding chained digits
+unfolding chained numeral
 chained_ops = refl
 
 chained_queues : map (λ (d : Decl). d.name) (plan_of chained).queues ≡ codes "p@w1" ∷ codes "p@p" ∷ codes "p@o" ∷ codes "p@1" ∷ codes "r@w1" ∷ codes "r@p" ∷ []
-unfolding chained digits
+unfolding chained numeral
 chained_queues = refl

@@ -12,12 +12,12 @@ use Rattle.river_kernels.specs.declared.types.VarKind.TheVariants.{Private}
 use Rattle.river_plan.specs.Forms.{Name}
 use Rattle.river_plan.specs.Names.{one_if, count}
 use Rattle.river_plan.proofs.NameLemmas.{cases_name}
-use Rattle.cql_model.specs.Accepted.{has_no_at, declared, IsQuery, AreQueries}
+use Rattle.cql_model.specs.Plannable.{has_no_at, declared, IsQuery, AreQueries}
 use Rattle.cql_model.specs.declared.fault.Fault.{Fault}
 use Rattle.cql_model.specs.declared.fault.Fault.TheVariants.{UnknownStream, NameTwice, Limit}
 use Rattle.cql_model.specs.declared.fault.Refusal.{Refusal}
 use Rattle.cql_model.specs.Faults.{then_fault, fault_if, is_rows_fault, item_fault, items_fault, chosen_fault, columns_fault, condition_fault, query_fault}
-use Rattle.cql_model.specs.Faults.{fields_fault, stream_fault, in_unit, first_fault, IsSpoken, AreSpoken, FaultlessAccepted, has_columns, scalar_fault}
+use Rattle.cql_model.specs.Faults.{fields_fault, stream_fault, in_unit, first_fault, IsSpoken, AreSpoken, FaultlessPlannable, has_columns, scalar_fault}
 use Rattle.cql_model.specs.Laws.{known_names, AreKnown}
 use Rattle.cql_model.specs.Program.{Source, Column, Columns, Star, Chosen, Query, Register, Ask, Program, streams_of}
 use Rattle.cql_model.specs.Scopes.{Named, item_named, scope_of}
@@ -195,8 +195,8 @@ queries_good ks many unit (Ask q ∷ ps) z s h =
     let g = query_good ks q z s.1 u.0 in
     (g, queries_good (k ∷ ks) many (unit + 1) ps (ap is_width (columns_many (scope_of ks q.items) q.columns) ∙ g.columns, z) s.2 u.1)
 
-pub faultless_accepted : FaultlessAccepted
-faultless_accepted p s h = record {
+pub faultless_plannable : FaultlessPlannable
+faultless_plannable p s h = record {
   names = names_good p s;
   once = λ n. let o = names_once [] 0 1 p (λ m. omega arith) h n in omega (arith, o);
   queries = queries_good [] 0 1 p tt s h;

@@ -19,9 +19,9 @@ use Rattle.brooklet_model.specs.Fire.{fire, first_kept, crossed_fired}
 use Rattle.brooklet_model.specs.Words.{Word, feed_all, run, word_of}
 use Rattle.brooklet_model.proofs.Lists.{if_lt}
 use Rattle.brooklet_model.proofs.Feeds.{feed_word}
-use Rattle.cql_model.specs.Streams.{Rises, last_of, at_last, before, changed}
+use Rattle.cql_model.specs.Streams.{last_of, at_last, before, changed}
 use Rattle.cql_model.proofs.Feeding.{received_fed, given_spread, mapped_fed}
-use Rattle.cql_model.proofs.Instants.{below_front}
+use Rattle.cql_model.proofs.Instants.{Ascends, below_front}
 use Rattle.cql_model.proofs.Bags.{difference_is}
 
 pub select_fed : (e : Term) (ts : List ℤ) (s : Timed) (ss : List Kept) → (feed (fire (select e) 0) (spread ts s) ss).outs 0 ≡ spread ts (λ t. selected e (s t))
@@ -55,14 +55,14 @@ last_in_order r c [] h = refl
 last_in_order r c (u ∷ []) h = h u
 last_in_order r c (u ∷ v ∷ vs) h = last_in_order r c (v ∷ vs) h
 
-streamer_step : (k : Streamer) (ts : List ℤ) (r c : Timed) → Rises ts → ((t : ℤ) → r t ≡ in_order (c t)) → (us vs : List ℤ) (t : ℤ) → ts ≡ us ++ (t ∷ vs)
+streamer_step : (k : Streamer) (ts : List ℤ) (r c : Timed) → Ascends ts → ((t : ℤ) → r t ≡ in_order (c t)) → (us vs : List ℤ) (t : ℤ) → ts ≡ us ++ (t ∷ vs)
     → streamer_one k (spread us r) (item_at t (r t)) ≡ item_at t (in_order (changed k (before ts c t) (c t))) ∷ []
 streamer_step k ts r c up h us vs t e =
-    let front : filter (λ u. int_lt u t) ts ≡ us = ap (filter (λ u. int_lt u t)) e ∙ below_front us vs t (subst Rises e up) in
+    let front : filter (λ u. int_lt u t) ts ≡ us = ap (filter (λ u. int_lt u t)) e ∙ below_front us vs t (subst Ascends e up) in
     let old : steps.last_rows (batches (spread us r)) ≡ in_order (before ts c t) = rows_last r us ∙ last_in_order r c us h ∙ ap (λ l. in_order (at_last c (last_of l))) (sym front) in
     ap (λ l. item_at t l ∷ []) (ap (λ l. steps.streamed k l (r t)) old ∙ ap (steps.streamed k (in_order (before ts c t))) (h t) ∙ streamed_is k (before ts c t) (c t))
 
-pub streamer_fed : (k : Streamer) (ts : List ℤ) (r c : Timed) → Rises ts → ((t : ℤ) → r t ≡ in_order (c t))
+pub streamer_fed : (k : Streamer) (ts : List ℤ) (r c : Timed) → Ascends ts → ((t : ℤ) → r t ≡ in_order (c t))
     → (feed (fire (streamer k) 0) (spread ts r) (first_kept (streamer k))).outs 0 ≡ spread ts (λ t. in_order (changed k (before ts c t) (c t)))
 streamer_fed k ts r c up h =
     received_fed (streamer_one k) [] (spread ts r)

@@ -19,7 +19,7 @@ use Rattle.river_plan.specs.Kinds.{FitsAt}
 use Rattle.river_plan.specs.Names.{count}
 use Rattle.river_plan.specs.Uses.{Each}
 use Rattle.river_plan.proofs.NameLemmas.{one_same}
-use Rattle.cql_model.specs.Accepted.{depth, AreShallow, IsShallow, IsQuery}
+use Rattle.cql_model.specs.Plannable.{depth, AreShallow, IsShallow, IsQuery}
 use Rattle.cql_model.specs.Program.{Scalar, Number, Field, ItemField, Neg, Not, Bin, Source, Column, Columns, Star, Chosen, Query}
 use Rattle.cql_model.specs.Scopes.{Named, scope_of, item_named, fields_of}
 use Rattle.cql_model.specs.Translation.{plus, or_place, place_in, field_place, item_place, at_place, resolved, at_word, copies, w_name, x_name, window_ops}

@@ -3,7 +3,6 @@ use Rattle.std.proofs.Common.{◌≡◌, ℕ, zero, suc, ◌+◌, ◌<◌, ◌�
 use Rattle.std.proofs.Common.{subst, length, ⊎_elim, append_assoc}
 use Rattle.std.specs.Prelude.{nat_eq, filter, fold, codes, IsTrue}
 use Rattle.std.specs.List.{AllByRecursion}
-use Rattle.std.specs.Fmt.{decimal}
 use Rattle.std.proofs.lemmas.List.{append-nil}
 use Rattle.std.proofs.lemmas.List.Concat.{flat_map-append}
 use Rattle.std.proofs.lemmas.List.Elements.{filter-append}
@@ -18,9 +17,10 @@ use Rattle.river_plan.specs.Names.{one_if, count, with_name}
 use Rattle.river_plan.specs.Uses.{total, writes_it, and_writes, ReadsBefore, all_writes, all_vars}
 use Rattle.river_plan.proofs.NameLemmas.{cases_name, count-append, one_same, more_or_zero}
 use Rattle.river_plan.proofs.ShareLemmas.{total-vars}
-use Rattle.cql_model.specs.Accepted.{has_no_at, declared}
+use Rattle.cql_model.specs.Plannable.{has_no_at, declared}
 use Rattle.cql_model.specs.InTurn.{PlansInTurn}
 use Rattle.river_plan.specs.InTurn.{mentioned}
+use Rattle.cql_model.specs.Numeral.{numeral}
 use Rattle.cql_model.specs.Program.{Scalar, Source, Columns, Star, Chosen, Query, Register, Ask, Program, registered, streams_of, all_uses}
 use Rattle.cql_model.specs.Scopes.{Named, scope_of, item_named}
 use Rattle.cql_model.specs.Translation.{op, at_word, copies, copy_name, sources, w_name, x_name, window_ops, cross_ops, select_ops, select_last, project_ops}
@@ -144,13 +144,13 @@ module _ (f : Name → Bool) where
   windows_kept b known k [] srcs e h = refl
   windows_kept b known k (i ∷ is) [] e h = absurd (omega (arith, e))
   windows_kept b known k (i ∷ is) (s ∷ srcs) e h =
-      keep (w_name b k) (all_writes (window_ops b (k + 1) is srcs)) (h (codes "w" ++ decimal k)) ∙ ap (λ l. w_name b k ∷ l) (windows_kept b known (k + 1) is srcs (omega (arith, e)) h)
+      keep (w_name b k) (all_writes (window_ops b (k + 1) is srcs)) (h (codes "w" ++ numeral k)) ∙ ap (λ l. w_name b k ∷ l) (windows_kept b known (k + 1) is srcs (omega (arith, e)) h)
 
   crosses_kept : (b last : Name) (known : List Named) (width k : ℕ) (items : List Source) → Keeps b
       → kept (cross_ops b last k items) ≡ decl_names (cross_decls b width k (scope_of known items))
   crosses_kept b last known width k [] h = refl
   crosses_kept b last known width k (i ∷ is) h =
-      keep (x_name b k) (all_writes (cross_ops b (x_name b k) (k + 1) is)) (h (codes "x" ++ decimal k))
+      keep (x_name b k) (all_writes (cross_ops b (x_name b k) (k + 1) is)) (h (codes "x" ++ numeral k))
       ∙ ap (λ l. x_name b k ∷ l) (crosses_kept b (x_name b k) known (width + length (item_named known i).fields) (k + 1) is h)
 
   items_kept : (b : Name) (known : List Named) (items : List Source) (srcs : List Name) → length srcs ≡ length items → Keeps b
@@ -171,7 +171,7 @@ module _ (f : Name → Bool) where
 
   copies_kept : (b : Name) (k u : ℕ) → Keeps b → filter f (copies b k u) ≡ copies b k u
   copies_kept b k zero h = refl
-  copies_kept b k (suc u) h = keep (copy_name b k) (copies b (k + 1) u) (h (decimal (k + 1))) ∙ ap (λ l. copy_name b k ∷ l) (copies_kept b (k + 1) u h)
+  copies_kept b k (suc u) h = keep (copy_name b k) (copies b (k + 1) u) (h (numeral (k + 1))) ∙ ap (λ l. copy_name b k ∷ l) (copies_kept b (k + 1) u h)
 
   out_kept : (q : Query) (p : Name) (width u : ℕ) → Keeps q.name → f q.name ≡ false
       → kept (op (at_word q.name (codes "i")) (streamer q.kind) (p ∷ []) (out_name q.name u ∷ []) (at_word q.name (codes "i") ∷ []) ∷ out_ops q.name u) ≡ decl_names (out_decls q.name width u)
@@ -259,12 +259,12 @@ all_kept outs (Ask q ∷ ps) a b t = (
 )
 
 pub plans_in_turn : PlansInTurn
-plans_in_turn p a small =
+plans_in_turn p a =
     let all = all_uses p in
     let ins = registered p in
     let outs = decl_names (output_decls [] p) in
     let inputs = decl_names (input_decls p) in
-    let k = plans_keep p a small in
+    let k = plans_keep p a in
     let are = outputs_are [] p in
     let good : AreKept (other outs) p = all_kept outs p (subst Plain (sym are) (plain_asked p a.names)) a.names (λ z lt. subst (λ l. 0 < count z l) (sym are) lt) in
     let io = input_ops all p in let ao = ask_ops ins all [] [] p in (

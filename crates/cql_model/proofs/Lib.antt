@@ -8,6 +8,7 @@ pub mod Contents
 pub mod Widths
 pub mod Walk
 pub mod Means
+pub mod Numerals
 pub mod Naming
 pub mod Counting
 pub mod Sums
@@ -18,9 +19,15 @@ pub mod AllFit
 pub mod Valid
 pub mod OnlyLimits
 pub mod Examples
+pub mod Stamps
 pub mod Front
 pub mod Kernels
 pub mod Fit
+pub mod First
+pub mod Earlier
+pub mod SpotFaults
+pub mod UnitFaults
 pub mod Faultless
-pub mod Unrefused
+pub mod Judged
+pub mod Accepted
 pub mod InTurn

@@ -14,11 +14,11 @@ use Rattle.brooklet_model.proofs.Solutions.{solve_law, lists_written}
 use Rattle.cql_model.specs.Laws.{known_names, AreKnown, IsAsked, AreAsked, AreFiles, TranslationMeans}
 use Rattle.cql_model.specs.Program.{Source, Query, Register, Ask, Program, registered, streams_of, all_uses}
 use Rattle.cql_model.specs.Scopes.{scope_of}
-use Rattle.cql_model.specs.Streams.{Rises}
 use Rattle.cql_model.specs.Meaning.{Known, names_of, rows_of, answer, asked, given, first_file, other_files, answers}
 use Rattle.cql_model.specs.Translation.{copy_name, source_at, sources, item_ops, item_last, tail_ops, query_ops, query_named, ask_ops, copy_ops, input_ops}
 use Rattle.cql_model.specs.Translation.{input_decls, output_decls, plan_of}
 use Rattle.cql_model.proofs.Fed.{copy_fed}
+use Rattle.cql_model.proofs.Instants.{Ascends, ascends}
 use Rattle.cql_model.proofs.Walk.{each-append, Has, Reads, Gives, copies_have, items_have, tail_has}
 use Rattle.cql_model.proofs.Widths.{AllWide, answer_wide, file_wide}
 
@@ -32,7 +32,7 @@ source_copy inputs all n k lt = grind (arith, lt)
 source_query : (inputs all : List Name) (n : Name) (k : ℕ) → count n inputs ≡ 0 → source_at inputs all n k ≡ copy_name n k
 source_query inputs all n k z = grind (arith, z)
 
-module _ (h : History) (ts : List ℤ) (up : Rises ts) (inputs all : List Name) where
+module _ (h : History) (ts : List ℤ) (up : Ascends ts) (inputs all : List Name) where
   -- each use of a stream reads a queue that has its rows
   abbrev pub ServedBy : Name → Timed → Type 0
   ServedBy n r = (j : ℕ) → j < count n all → Has h ts up (source_at inputs all n j) r
@@ -152,7 +152,7 @@ module _ (h : History) (ts : List ℤ) (up : Rises ts) (inputs all : List Name) 
 
 -- THE PLAN
 
-inputs_all : (h : History) (ts : List ℤ) (up : Rises ts) (all front : List Name) (ps : Program) → AreInputs h ts up (front ++ registered ps) all ps
+inputs_all : (h : History) (ts : List ℤ) (up : Ascends ts) (all front : List Name) (ps : Program) → AreInputs h ts up (front ++ registered ps) all ps
 inputs_all h ts up all front [] = tt
 inputs_all h ts up all front (Register name fields ∷ ps) = (
   (let a = count-append name front (name ∷ registered ps) in let o = one_same name in omega (arith, a, o)),
@@ -161,7 +161,8 @@ inputs_all h ts up all front (Register name fields ∷ ps) = (
 inputs_all h ts up all front (Ask q ∷ ps) = inputs_all h ts up all front ps
 
 pub translation_means : TranslationMeans
-translation_means p ts files asked_well are up v =
+translation_means p ts files asked_well are rise v =
+    let up = ascends ts rise in
     let lists = map (λ f. spread ts (at_instant f)) files in
     let all = all_uses p in
     let ins = registered p in

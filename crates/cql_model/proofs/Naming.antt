@@ -2,15 +2,15 @@
 use Rattle.std.proofs.Common.{◌≡◌, ℕ, zero, suc, ◌+◌, ◌%◌, ◌<◌, ◌≤◌, ◌^◌, Bool, true, false, Option, Some, None, List, [], ◌∷◌, ◌++◌, refl, sym, ap, ◌∙◌, arith}
 use Rattle.std.proofs.Common.{subst, map, ⊎_elim}
 use Rattle.std.specs.Prelude.{if◌then◌else◌, nat_eq, nat_lt, not, ◌&&◌, IsTrue}
-use Rattle.std.specs.Fmt.{decimal}
 use Rattle.std.proofs.lemmas.Bool.{and_parts}
-use Rattle.std.proofs.lemmas.Fmt.{decimal_injective, decimal_by_steps}
 use Rattle.river_base.specs.Name.{name_eq}
 use Rattle.river_plan.specs.Forms.{Name}
 use Rattle.river_plan.specs.Names.{one_if, count}
 use Rattle.river_plan.proofs.NameLemmas.{cases_name, cases_bool, name_same, more_or_zero}
-use Rattle.cql_model.specs.Accepted.{has_no_at}
+use Rattle.cql_model.specs.Numeral.{numeral}
+use Rattle.cql_model.specs.Plannable.{has_no_at}
 use Rattle.cql_model.specs.Translation.{at_word}
+use Rattle.cql_model.proofs.Numerals.{numeral_injective, by_steps}
 
 -- what stands before the first `@`, and what behind it
 pub split : Name → Name × Option (List ℕ)
@@ -139,14 +139,14 @@ of_one t = record {
 
 abbrev pub numbers : List ℕ → ℕ → ℕ → List Tag
 numbers letter k zero = []
-numbers letter k (suc n) = Some (letter ++ decimal k) ∷ numbers letter (k + 1) n
+numbers letter k (suc n) = Some (letter ++ numeral k) ∷ numbers letter (k + 1) n
 
 abbrev StartsLow : List ℕ → Type 0
 StartsLow [] = ⊥
 StartsLow (c ∷ cs) = c < 58
 
-pub starts_low : (n : ℕ) → n < 2 ^ 64 → StartsLow (decimal n)
-starts_low n lt = decimal_by_steps (λ m ds. StartsLow ds) (λ m small. omega (arith, small)) (λ m ds big h. more m ds h) n lt where
+pub starts_low : (n : ℕ) → StartsLow (numeral n)
+starts_low n = by_steps (λ m ds. StartsLow ds) (λ m small. omega (arith, small)) (λ m ds big h. more m ds h) n where
   more : (m : ℕ) (ds : List ℕ) → StartsLow ds → StartsLow (ds ++ ((48 + m % 10) ∷ []))
   more m [] h = absurd h
   more m (c ∷ cs) h = h
@@ -158,47 +158,47 @@ front_same (c ∷ cs) a b = ap (λ x. x && name_eq (cs ++ a) (cs ++ b)) (eq_self
   eq_self n = grind arith
 
 -- a number below them is not there
-below_none : (letter : List ℕ) (j k n : ℕ) → j < k → k + n < 2 ^ 64 → tags (Some (letter ++ decimal j)) (numbers letter k n) ≡ 0
-below_none letter j k zero lt top = refl
-below_none letter j k (suc n) lt top =
-    let m = below_none letter j (k + 1) n (omega (arith, lt)) (omega (arith, top)) in
+below_none : (letter : List ℕ) (j k n : ℕ) → j < k → tags (Some (letter ++ numeral j)) (numbers letter k n) ≡ 0
+below_none letter j k zero lt = refl
+below_none letter j k (suc n) lt =
+    let m = below_none letter j (k + 1) n (omega (arith, lt)) in
     ⊎_elim
-    (λ c. absurd (let e = decimal_injective k j (omega (arith, top)) (omega (arith, lt, top)) c.0 in omega (arith, e, lt)))
-    (λ c. let o = ap one_if (front_same letter (decimal k) (decimal j) ∙ c.1) in omega (arith, o, m))
-    (cases_name (decimal k) (decimal j))
+    (λ c. absurd (let e = numeral_injective k j c.0 in omega (arith, e, lt)))
+    (λ c. let o = ap one_if (front_same letter (numeral k) (numeral j) ∙ c.1) in omega (arith, o, m))
+    (cases_name (numeral k) (numeral j))
 
-numbers_once : (letter : List ℕ) (k n : ℕ) → k + n < 2 ^ 64 → (t : Tag) → tags t (numbers letter k n) ≤ 1
-numbers_once letter k zero top t = omega arith
-numbers_once letter k (suc n) top t = ⊎_elim
-    (λ y. let is = tag_is (Some (letter ++ decimal k)) t y in
-    let z : tags t (numbers letter (k + 1) n) ≡ 0 = subst (λ s. tags s (numbers letter (k + 1) n) ≡ 0) is (below_none letter k (k + 1) n (omega arith) (omega (arith, top))) in
-    let b = bit_small (tag_eq (Some (letter ++ decimal k)) t) in omega (arith, z, b))
-    (λ f. let o = ap one_if f in let m = numbers_once letter (k + 1) n (omega (arith, top)) t in omega (arith, o, m))
-    (cases_bool (tag_eq (Some (letter ++ decimal k)) t))
+numbers_once : (letter : List ℕ) (k n : ℕ) (t : Tag) → tags t (numbers letter k n) ≤ 1
+numbers_once letter k zero t = omega arith
+numbers_once letter k (suc n) t = ⊎_elim
+    (λ y. let is = tag_is (Some (letter ++ numeral k)) t y in
+    let z : tags t (numbers letter (k + 1) n) ≡ 0 = subst (λ s. tags s (numbers letter (k + 1) n) ≡ 0) is (below_none letter k (k + 1) n (omega arith)) in
+    let b = bit_small (tag_eq (Some (letter ++ numeral k)) t) in omega (arith, z, b))
+    (λ f. let o = ap one_if f in let m = numbers_once letter (k + 1) n t in omega (arith, o, m))
+    (cases_bool (tag_eq (Some (letter ++ numeral k)) t))
 
-numbers_only : (letter : List ℕ) (n : ℕ) (c : (k : ℕ) → k < 2 ^ 64 → class (Some (letter ++ decimal k)) ≡ n) (k m : ℕ) → k + m < 2 ^ 64 → (t : Tag)
+numbers_only : (letter : List ℕ) (n : ℕ) (c : (k : ℕ) → class (Some (letter ++ numeral k)) ≡ n) (k m : ℕ) (t : Tag)
     → 0 < tags t (numbers letter k m) → class t ≡ n
-numbers_only letter n c k zero top t lt = absurd (omega (arith, lt))
-numbers_only letter n c k (suc m) top t lt = ⊎_elim
-    (λ y. ap class (sym (tag_is (Some (letter ++ decimal k)) t y)) ∙ c k (omega (arith, top)))
-    (λ f. let o = ap one_if f in numbers_only letter n c (k + 1) m (omega (arith, top)) t (omega (arith, o, lt)))
-    (cases_bool (tag_eq (Some (letter ++ decimal k)) t))
+numbers_only letter n c k zero t lt = absurd (omega (arith, lt))
+numbers_only letter n c k (suc m) t lt = ⊎_elim
+    (λ y. ap class (sym (tag_is (Some (letter ++ numeral k)) t y)) ∙ c k)
+    (λ f. let o = ap one_if f in numbers_only letter n c (k + 1) m t (omega (arith, o, lt)))
+    (cases_bool (tag_eq (Some (letter ++ numeral k)) t))
 
 pub low_class : (ds : List ℕ) → StartsLow ds → class (Some ds) ≡ 2
 low_class [] h = absurd h
 low_class (c ∷ cs) h = grind (arith, h)
 
-pub of_numbers : (k m : ℕ) → k + m < 2 ^ 64 → Of 2 (numbers [] k m)
-of_numbers k m top = record {
-  once = numbers_once [] k m top;
-  only = numbers_only [] 2 (λ j lt. low_class (decimal j) (starts_low j lt)) k m top;
+pub of_numbers : (k m : ℕ) → Of 2 (numbers [] k m)
+of_numbers k m = record {
+  once = numbers_once [] k m;
+  only = numbers_only [] 2 (λ j. low_class (numeral j) (starts_low j)) k m;
 }
 
 letter_class : (c : ℕ) (ds : List ℕ) → 58 ≤ c → class (Some (c ∷ ds)) ≡ c
 letter_class c ds big = grind (arith, big)
 
-pub of_letter : (c k m : ℕ) → 58 ≤ c → k + m < 2 ^ 64 → Of c (numbers (c ∷ []) k m)
-of_letter c k m big top = record {
-  once = numbers_once (c ∷ []) k m top;
-  only = numbers_only (c ∷ []) c (λ j lt. letter_class c (decimal j) big) k m top;
+pub of_letter : (c k m : ℕ) → 58 ≤ c → Of c (numbers (c ∷ []) k m)
+of_letter c k m big = record {
+  once = numbers_once (c ∷ []) k m;
+  only = numbers_only (c ∷ []) c (λ j. letter_class c (numeral j) big) k m;
 }

@@ -22,9 +22,9 @@ use Rattle.river_plan.specs.Valid.{IsPlan, FirstFault}
 use Rattle.river_plan.proofs.ValidLaw.{once-names, total-labels, all-along, each-along, names-along, all-declared, reads-order, every-each, no_fault-valid}
 use Rattle.river_plan.proofs.ValidLaw.{valid-no_fault}
 use Rattle.river_plan.proofs.OneFirst.{fault-one}
-use Rattle.cql_model.specs.Accepted.{KeepsRules, IsLimit, exceeds, OnlyLimits, PlansAreValid}
+use Rattle.cql_model.specs.Plannable.{KeepsRules, IsLimit, exceeds, OnlyLimits, PlansAreValid}
 use Rattle.cql_model.specs.Translation.{ops_of, plan_of}
-use Rattle.cql_model.proofs.Valid.{few_uses, plans_keep}
+use Rattle.cql_model.proofs.Valid.{plans_keep}
 
 -- A SEARCH THAT FINDS NOTHING FINDS NOTHING ELSE
 
@@ -209,9 +209,7 @@ told_where p (Some f) k h = step (exceeds p) refl where
   step false e = some_none f (fault-one p (Some f) None h (valid-no_fault p (valid_within p k (within_where p e))))
 
 pub only_limits : OnlyLimits
-only_limits p o a small h = let k = plans_keep p a small in (only_limit (plan_of p) k o h, told_where (plan_of p) o k h)
+only_limits p o a h = let k = plans_keep p a in (only_limit (plan_of p) k o h, told_where (plan_of p) o k h)
 
 pub plans_are_valid : PlansAreValid
-plans_are_valid p a within =
-    let few = few_uses p (All-head (λ (n : ℕ). n ≤ 256) (length (ops_of p)) [] (within Operators)) in
-    valid_within (plan_of p) (plans_keep p a (λ n. let f = few n in omega (arith, f))) within
+plans_are_valid p a within = valid_within (plan_of p) (plans_keep p a) within

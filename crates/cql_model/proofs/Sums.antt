@@ -7,7 +7,7 @@ use Rattle.river_plan.specs.Forms.{Name, decl_names}
 use Rattle.river_plan.specs.Names.{count}
 use Rattle.river_plan.specs.Uses.{total, writes_it, reads_it, vars_it, named_it}
 use Rattle.river_plan.proofs.NameLemmas.{count-append}
-use Rattle.cql_model.specs.Accepted.{has_no_at, declared}
+use Rattle.cql_model.specs.Plannable.{has_no_at, declared}
 use Rattle.cql_model.specs.Program.{Source, Query, Part, Register, Ask, Program, registered, streams_of, all_uses}
 use Rattle.cql_model.specs.Scopes.{Named, scope_of}
 use Rattle.cql_model.specs.Translation.{source_at, sources, query_ops, query_named, ask_ops, copy_ops, input_ops, query_decls, ask_decls, copy_decls}
@@ -15,7 +15,7 @@ use Rattle.cql_model.specs.Translation.{input_copies, input_decls, output_decls,
 use Rattle.cql_model.proofs.Naming.{split, Tag, tags, numbers, From, Of, from_nil, from_more, of_one, of_numbers, own_once}
 use Rattle.river_plan.proofs.ValidLaw.{total-append}
 use Rattle.cql_model.proofs.Counting.{among, among-append, word, query_tags, inner_tags, var_tags, label_tags, copies_are, block_writes, block_reads}
-use Rattle.cql_model.proofs.Counting.{block_vars, block_labels, block_decls, query_from, inner_from, vars_from, labels_from, names-append, names_decls, few}
+use Rattle.cql_model.proofs.Counting.{block_vars, block_labels, block_decls, query_from, inner_from, vars_from, labels_from, names-append, names_decls}
 
 -- THE TAGS OF A PART
 
@@ -74,27 +74,24 @@ pub sums_once : (f : Part → List Tag) (z : Name) (ps : Program) → AllByRecur
     → ((n : Name) → count n (declared ps) ≤ 1) → AreOnce f ps → sums f z ps ≤ 1
 sums_once f z ps names single once = let a = sums_base f z ps names once in let b = single (split z).0 in omega (arith, a, b)
 
--- queries have few items, and streams few uses
+-- queries have few items
 abbrev pub FewItems : Program → Type 0
 FewItems [] = Unit {0}
 FewItems (Register name fields ∷ ps) = FewItems ps
 FewItems (Ask q ∷ ps) = (0 < length q.items) × (length q.items ≤ 4) × FewItems ps
 
-abbrev pub FewUses : List Name → Type 0
-FewUses all = (n : Name) → count n all ≤ 1000000000000
-
-copies_from : (u : ℕ) → u ≤ 1000000000000 → From 0 ((None ∷ []) ++ copy_tags u)
-copies_from zero h = from_more 0 2 (None ∷ []) [] (omega arith) (of_one None) (from_nil 2)
-copies_from (suc zero) h = from_more 0 2 (None ∷ []) [] (omega arith) (of_one None) (from_nil 2)
-copies_from (suc (suc u)) h =
-    from_more 0 2 (None ∷ []) (numbers [] 1 (suc (suc u))) (omega arith) (of_one None) (as_from (of_numbers 1 (suc (suc u)) (few (1 + suc (suc u)) (omega (arith, h))))) where
+copies_from : (u : ℕ) → From 0 ((None ∷ []) ++ copy_tags u)
+copies_from zero = from_more 0 2 (None ∷ []) [] (omega arith) (of_one None) (from_nil 2)
+copies_from (suc zero) = from_more 0 2 (None ∷ []) [] (omega arith) (of_one None) (from_nil 2)
+copies_from (suc (suc u)) =
+    from_more 0 2 (None ∷ []) (numbers [] 1 (suc (suc u))) (omega arith) (of_one None) (as_from (of_numbers 1 (suc (suc u)))) where
       as_from : Of 2 (numbers [] 1 (suc (suc u))) → From 2 (numbers [] 1 (suc (suc u)))
       as_from o = record { once = o.once; above = λ t lt. let e = o.only t lt in omega (arith, e) }
 
-pub queues_once : (all : List Name) (ps : Program) → FewItems ps → FewUses all → AreOnce (queues_of all) ps
-queues_once all [] h u = tt
-queues_once all (Register name fields ∷ ps) h u = ((copies_from (count name all) (u name)).once, queues_once all ps h u)
-queues_once all (Ask q ∷ ps) h u = ((query_from (count q.name all) q h.1 (u q.name)).once, queues_once all ps h.2 u)
+pub queues_once : (all : List Name) (ps : Program) → FewItems ps → AreOnce (queues_of all) ps
+queues_once all [] h = tt
+queues_once all (Register name fields ∷ ps) h = ((copies_from (count name all)).once, queues_once all ps h)
+queues_once all (Ask q ∷ ps) h = ((query_from (count q.name all) q h.1).once, queues_once all ps h.2)
 
 pub vars_once : (ps : Program) → FewItems ps → AreOnce vars_of ps
 vars_once [] h = tt

@@ -2,19 +2,19 @@
 use Rattle.std.proofs.Common.{◌≡◌, ℕ, zero, suc, ◌+◌, ◌<◌, ◌≤◌, ◌^◌, ◌⊎◌, inl, inr, Some, None, List, [], ◌∷◌, ◌++◌, refl, sym, ap, ◌∙◌, arith, subst, length}
 use Rattle.std.proofs.Common.{⊎_elim}
 use Rattle.std.specs.Prelude.{IsTrue, unwrap_or}
-use Rattle.std.specs.Fmt.{decimal}
 use Rattle.std.specs.List.{AllByRecursion}
 use Rattle.std.proofs.lemmas.Bool.{cases_lt}
-use Rattle.std.proofs.lemmas.Fmt.{decimal_injective}
 use Rattle.river_plan.specs.Forms.{Name}
 use Rattle.river_plan.specs.Names.{one_if, count}
 use Rattle.river_plan.proofs.NameLemmas.{cases_name, count-append, one_same, more_or_zero}
-use Rattle.cql_model.specs.Accepted.{has_no_at}
+use Rattle.cql_model.specs.Numeral.{numeral}
+use Rattle.cql_model.specs.Plannable.{has_no_at}
 use Rattle.cql_model.specs.Program.{Query, Register, Ask, Program}
 use Rattle.cql_model.specs.Translation.{source_at, sources}
 use Rattle.cql_model.proofs.Naming.{split, Tag, tagged, tags, class, split_tagged, own_count, own_base, starts_low, low_class}
 use Rattle.cql_model.proofs.Counting.{among, among-append, inner_tags, inner_from}
-use Rattle.cql_model.proofs.Sums.{taken_of, copy_read, sums, FewItems, FewUses}
+use Rattle.cql_model.proofs.Numerals.{numeral_injective}
+use Rattle.cql_model.proofs.Sums.{taken_of, copy_read, sums, FewItems}
 
 -- a use reads the stream's own queue, or a copy
 pub record Own (inputs all : List Name) (n : Name) (k : ℕ) : Type 0 where
@@ -23,7 +23,7 @@ pub record Own (inputs all : List Name) (n : Name) (k : ℕ) : Type 0 where
   pub is : source_at inputs all n k ≡ tagged n None
 
 pub record Copied (inputs all : List Name) (n : Name) (k : ℕ) : Type 0 where
-  pub is : source_at inputs all n k ≡ tagged n (Some (decimal (k + 1)))
+  pub is : source_at inputs all n k ≡ tagged n (Some (numeral (k + 1)))
 
 pub which : (inputs all : List Name) (n : Name) (k : ℕ) → Own inputs all n k ⊎ Copied inputs all n k
 which inputs all n k = ⊎_elim
@@ -42,18 +42,18 @@ module _ (inputs all : List Name) where
   some_is v w h = ap (λ o. unwrap_or o v) h
 
   -- two uses that read one queue are one, or the stream is used once
-  pub one_use : (n m : Name) (k j : ℕ) → IsTrue (has_no_at n) → IsTrue (has_no_at m) → k + 1 < 2 ^ 64 → j + 1 < 2 ^ 64
+  pub one_use : (n m : Name) (k j : ℕ) → IsTrue (has_no_at n) → IsTrue (has_no_at m)
       → source_at inputs all n k ≡ source_at inputs all m j
       → (n ≡ m) × ((k ≡ j) ⊎ (count n all ≤ 1))
-  one_use n m k j hn hm bk bj e = ⊎_elim
+  one_use n m k j hn hm e = ⊎_elim
       (λ a. ⊎_elim
       (λ b. let s = pair (tagged n None) (tagged m None) None None (sym a.is ∙ e ∙ b.is) (split_tagged n None hn) (split_tagged m None hm) in (s.0, inr a.few))
-      (λ b. let s = pair (tagged n None) (tagged m (Some (decimal (j + 1)))) None (Some (decimal (j + 1))) (sym a.is ∙ e ∙ b.is) (split_tagged n None hn) (split_tagged m (Some (decimal (j + 1))) hm) in absurd (no_word s.1))
+      (λ b. let s = pair (tagged n None) (tagged m (Some (numeral (j + 1)))) None (Some (numeral (j + 1))) (sym a.is ∙ e ∙ b.is) (split_tagged n None hn) (split_tagged m (Some (numeral (j + 1))) hm) in absurd (no_word s.1))
       (which inputs all m j))
       (λ a. ⊎_elim
-      (λ b. let s = pair (tagged n (Some (decimal (k + 1)))) (tagged m None) (Some (decimal (k + 1))) None (sym a.is ∙ e ∙ b.is) (split_tagged n (Some (decimal (k + 1))) hn) (split_tagged m None hm) in absurd (no_word (sym s.1)))
-      (λ b. let s = pair (tagged n (Some (decimal (k + 1)))) (tagged m (Some (decimal (j + 1)))) (Some (decimal (k + 1))) (Some (decimal (j + 1))) (sym a.is ∙ e ∙ b.is) (split_tagged n (Some (decimal (k + 1))) hn) (split_tagged m (Some (decimal (j + 1))) hm) in
-      let d = decimal_injective (k + 1) (j + 1) bk bj (some_is (decimal (k + 1)) (decimal (j + 1)) s.1) in (s.0, inl (omega (arith, d))))
+      (λ b. let s = pair (tagged n (Some (numeral (k + 1)))) (tagged m None) (Some (numeral (k + 1))) None (sym a.is ∙ e ∙ b.is) (split_tagged n (Some (numeral (k + 1))) hn) (split_tagged m None hm) in absurd (no_word (sym s.1)))
+      (λ b. let s = pair (tagged n (Some (numeral (k + 1)))) (tagged m (Some (numeral (j + 1)))) (Some (numeral (k + 1))) (Some (numeral (j + 1))) (sym a.is ∙ e ∙ b.is) (split_tagged n (Some (numeral (k + 1))) hn) (split_tagged m (Some (numeral (j + 1))) hm) in
+      let d = numeral_injective (k + 1) (j + 1) (some_is (numeral (k + 1)) (numeral (j + 1)) s.1) in (s.0, inl (omega (arith, d))))
       (which inputs all m j))
       (which inputs all n k)
     where
@@ -70,27 +70,27 @@ module _ (inputs all : List Name) where
   next_room past m ns r n = let a = count-append n past (m ∷ []) in let b = r n in omega (arith, a, b)
 
   -- what an earlier use reads is not read again
-  pub not_again : (small : FewUses all) (n : Name) (k : ℕ) (past ns : List Name) → IsTrue (has_no_at n) → Plain ns → Room past ns → k < count n past
+  pub not_again : (n : Name) (k : ℕ) (past ns : List Name) → IsTrue (has_no_at n) → Plain ns → Room past ns → k < count n past
       → count (source_at inputs all n k) (sources inputs all past ns) ≡ 0
-  not_again small n k past [] hn hs r lt = refl
-  not_again small n k past (m ∷ ms) hn hs r lt =
-      let top = small n in let top2 = small m in let rn = r n in let rm = r m in
-      let rest = not_again small n k (past ++ m ∷ []) ms hn hs.1 (next_room past m ms r) (let a = count-append n past (m ∷ []) in omega (arith, a, lt)) in
+  not_again n k past [] hn hs r lt = refl
+  not_again n k past (m ∷ ms) hn hs r lt =
+      let rn = r n in let rm = r m in
+      let rest = not_again n k (past ++ m ∷ []) ms hn hs.1 (next_room past m ms r) (let a = count-append n past (m ∷ []) in omega (arith, a, lt)) in
       let o = one_same m in
       ⊎_elim
-      (λ c. let u = one_use m n (count m past) k hs.0 hn (omega (arith, top2, rm)) (omega (arith, top, rn, lt)) c.0 in
+      (λ c. let u = one_use m n (count m past) k hs.0 hn c.0 in
       let lt' : k < count m past = subst (λ x. k < count x past) (sym u.0) lt in
       absurd (⊎_elim (λ e. omega (arith, e, lt')) (λ le. omega (arith, le, lt', rm, o)) u.1))
       (λ c. let z = ap one_if c.1 in omega (arith, z, rest))
       (cases_name (source_at inputs all m (count m past)) (source_at inputs all n k))
 
-  pub read_once : (small : FewUses all) (z : Name) (past ns : List Name) → Plain ns → Room past ns → count z (sources inputs all past ns) ≤ 1
-  read_once small z past [] hs r = omega arith
-  read_once small z past (m ∷ ms) hs r = ⊎_elim
-      (λ c. let rest = not_again small m (count m past) (past ++ m ∷ []) ms hs.0 hs.1 (next_room past m ms r) (let a = count-append m past (m ∷ []) in let o = one_same m in omega (arith, a, o)) in
+  pub read_once : (z : Name) (past ns : List Name) → Plain ns → Room past ns → count z (sources inputs all past ns) ≤ 1
+  read_once z past [] hs r = omega arith
+  read_once z past (m ∷ ms) hs r = ⊎_elim
+      (λ c. let rest = not_again m (count m past) (past ++ m ∷ []) ms hs.0 hs.1 (next_room past m ms r) (let a = count-append m past (m ∷ []) in let o = one_same m in omega (arith, a, o)) in
       let rest2 : count z (sources inputs all (past ++ m ∷ []) ms) ≡ 0 = subst (λ x. count x (sources inputs all (past ++ m ∷ []) ms) ≡ 0) c.0 rest in
       let f = ap one_if c.1 in omega (arith, f, rest2))
-      (λ c. let f = ap one_if c.1 in let m2 = read_once small z (past ++ m ∷ []) ms hs.1 (next_room past m ms r) in omega (arith, f, m2))
+      (λ c. let f = ap one_if c.1 in let m2 = read_once z (past ++ m ∷ []) ms hs.1 (next_room past m ms r) in omega (arith, f, m2))
       (cases_name (source_at inputs all m (count m past)) z)
 
   -- a queue that a use reads
@@ -169,11 +169,10 @@ module _ (inputs all : List Name) where
       let b = among-append z q.name (None ∷ []) (inner_tags u q) in
       omega (arith, m, inner, b, plain)
 
-  pub hit_apart : (z : Name) (ps : Program) → FewUses all → Hit z → Apart ps → FewItems ps → sums (taken_of all) z ps ≡ 0
-  hit_apart z ps small g a h = ⊎_elim
+  pub hit_apart : (z : Name) (ps : Program) → Hit z → Apart ps → FewItems ps → sums (taken_of all) z ps ≡ 0
+  hit_apart z ps g a h = ⊎_elim
       (λ o. subst (λ x. sums (taken_of all) x ps ≡ 0) (sym o.is ∙ g.is) (own_apart g.stream ps g.plain o.input o.few a h))
       (λ c. let k = g.number in
-      let s : (split z).1 ≡ Some (decimal (k + 1)) = ap (λ x. (split x).1) (sym g.is ∙ c.is) ∙ ap (λ (x : Name × Tag). x.1) (split_tagged g.stream (Some (decimal (k + 1))) g.plain) in
-      let f = small g.stream in let lt = g.below in
-      copy_apart z (decimal (k + 1)) ps s (low_class (decimal (k + 1)) (starts_low (k + 1) (omega (arith, f, lt)))) a h)
+      let s : (split z).1 ≡ Some (numeral (k + 1)) = ap (λ x. (split x).1) (sym g.is ∙ c.is) ∙ ap (λ (x : Name × Tag). x.1) (split_tagged g.stream (Some (numeral (k + 1))) g.plain) in
+      copy_apart z (numeral (k + 1)) ps s (low_class (numeral (k + 1)) (starts_low (k + 1))) a h)
       (which inputs all g.stream g.number)

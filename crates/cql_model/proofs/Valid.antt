@@ -19,7 +19,7 @@ use Rattle.river_plan.specs.Names.{one_if, count}
 use Rattle.river_plan.specs.Uses.{Each, total, writes_it, reads_it, vars_it, named_it, all_vars, ReadsBefore}
 use Rattle.river_plan.proofs.NameLemmas.{cases_name, name_same, count-append, one_same, more_or_zero}
 use Rattle.river_plan.proofs.ShareLemmas.{total-vars}
-use Rattle.cql_model.specs.Accepted.{has_no_at, declared, IsQuery, AreQueries, PlansKeep}
+use Rattle.cql_model.specs.Plannable.{has_no_at, declared, IsQuery, AreQueries, PlansKeep}
 use Rattle.cql_model.specs.Laws.{known_names, AreKnown}
 use Rattle.cql_model.specs.Program.{Scalar, Source, Columns, Star, Chosen, Query, Register, Ask, Program, registered, streams_of, all_uses}
 use Rattle.cql_model.specs.Scopes.{Named, scope_of, item_named}
@@ -135,13 +135,6 @@ length-uses inputs all past ks (Ask q ∷ ps) =
     let c = length-append io to in
     let l = length-items q.name q.items srcs (as_many inputs all past q.items) in
     omega (arith, m, a, e, b, c, l)
-
-pub few_uses : (p : Program) → length (ops_of p) ≤ 256 → (n : Name) → count n (all_uses p) ≤ 256
-few_uses p h n =
-    let a = length-append (input_ops (all_uses p) p) (ask_ops (registered p) (all_uses p) [] [] p) in
-    let b = length-uses (registered p) (all_uses p) [] [] p in
-    let c = count-length n (all_uses p) in
-    omega (arith, a, b, c, h)
 
 -- TYPES OF DECLARATIONS
 
@@ -273,7 +266,7 @@ single_from (o ∷ os) h = ((λ v. let t = h v in omega (arith, t)), single_from
 -- THE PLAN
 
 pub plans_keep : PlansKeep
-plans_keep p a small =
+plans_keep p a =
     let all = all_uses p in
     let ins = registered p in
     let io = input_ops all p in
@@ -286,7 +279,7 @@ plans_keep p a small =
     let others = others_in ins all p queries_apart in
     let there = inputs_there ins all p (λ n lt. lt) in
     -- how often names stand
-    let queues : (z : Name) → sums (queues_of all) z p ≤ 1 = λ z. sums_once (queues_of all) z p a.names a.once (queues_once all p items small) in
+    let queues : (z : Name) → sums (queues_of all) z p ≤ 1 = λ z. sums_once (queues_of all) z p a.names a.once (queues_once all p items) in
     let split_ops : (f : OpForm → ℕ) → total f (ops_of p) ≡ total f io + total f ao = λ f. total-append f io ao in
     let names_are : (z : Name) → count z (queue_names (plan_of p)) ≡ sums (queues_of all) z p = λ z.
     (let a1 = count-append z (decl_names (output_decls [] p)) (decl_names (input_decls p) ++ decl_names (input_copies all p ++ ask_decls all [] p)) in
@@ -300,9 +293,9 @@ plans_keep p a small =
     let vars : (v : Name) → total (vars_it v) (ops_of p) ≤ 1 = λ v.
     (let s = split_ops (vars_it v) in let e = all_vars_sum v ins all [] [] p in let o = sums_once vars_of v p a.names a.once (vars_once p items) in omega (arith, s, e, o)) in
     let read_by_one : (z : Name) → sums (taken_of all) z p + count z (sources ins all [] all) ≤ 1 = λ z.
-    (let o = sums_once (taken_of all) z p a.names a.once (taken_once all p items) in let r = read_once ins all small z [] all plain room in
+    (let o = sums_once (taken_of all) z p a.names a.once (taken_once all p items) in let r = read_once ins all z [] all plain room in
     ⊎_elim
-    (λ lt. let n = hit_apart ins all z p small (hit ins all z [] all plain room lt) apart items in omega (arith, n, r))
+    (λ lt. let n = hit_apart ins all z p (hit ins all z [] all plain room lt) apart items in omega (arith, n, r))
     (λ none. omega (arith, none, o))
     (more_or_zero (count z (sources ins all [] all)))) in
     -- the order

@@ -16,7 +16,8 @@ use Rattle.brooklet_model.proofs.Feeds.{one_input}
 use Rattle.brooklet_model.proofs.Lists.{funext}
 use Rattle.cql_model.specs.Program.{Scalar, Source, Columns, Star, Chosen, Query}
 use Rattle.cql_model.specs.Scopes.{Named, scope_of}
-use Rattle.cql_model.specs.Streams.{Rises, windowed}
+use Rattle.cql_model.specs.Streams.{windowed}
+use Rattle.cql_model.proofs.Instants.{Ascends}
 use Rattle.cql_model.specs.Meaning.{Known, names_of, rows_of, Tuple, with_each, product_of, where_true, row_of, windows_at, content, answer}
 use Rattle.cql_model.specs.Translation.{copies, copy_name, op, w_name, x_name, window_ops, cross_ops, cross_last, select_ops, select_last, project_ops}
 use Rattle.cql_model.specs.Translation.{project_last, out_ops, out_name, tail_ops, item_ops, item_last, resolved, terms_of, at_word}
@@ -37,7 +38,7 @@ one_solved k h r q e = ap (λ (f : Fired). f.outs q) (one_input k (lists_of h (r
 same_spread : (ts : List ℤ) (a b : Timed) → ((t : ℤ) → a t ≡ b t) → spread ts a ≡ spread ts b
 same_spread ts a b e = ap (spread ts) (funext a b e)
 
-module _ (h : History) (ts : List ℤ) (up : Rises ts) where
+module _ (h : History) (ts : List ℤ) (up : Ascends ts) where
   -- the queue has these rows at each instant
   abbrev pub Has : Name → Timed → Type 0
   Has q r = h q ≡ spread ts r

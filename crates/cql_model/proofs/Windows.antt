@@ -15,9 +15,9 @@ use Rattle.kern_bags.specs.declared.kernel.Window.TheVariants.{Now, Range, Unbou
 use Rattle.river_kernels.specs.Kern.{window}
 use Rattle.brooklet_model.specs.Firings.{feed}
 use Rattle.brooklet_model.specs.Fire.{fire, first_kept}
-use Rattle.cql_model.specs.Streams.{Rises, in_reach, kept, windowed}
+use Rattle.cql_model.specs.Streams.{in_reach, kept, windowed}
 use Rattle.cql_model.proofs.Feeding.{received_fed, given_spread, spread-append}
-use Rattle.cql_model.proofs.Instants.{AllBelow, AllAbove, rises_below, reach_front}
+use Rattle.cql_model.proofs.Instants.{AllBelow, AllAbove, Ascends, ascends_below, reach_front}
 
 -- the batches of a stream
 abbrev batch_at : Timed → ℤ → Batch
@@ -34,13 +34,13 @@ batches_spread (u ∷ us) s = ap (λ l. batch_at s u ∷ l) (batches_spread us s
 later_up : (t u : ℤ) → int_lt t u ≡ true → later t u ≡ u
 later_up t u h = ap (λ b. cond b u t) h
 
-greatest_from : (s : Timed) (a : ℤ) (us : List ℤ) (t : ℤ) → Rises (us ++ t ∷ []) → AllAbove a (us ++ t ∷ [])
+greatest_from : (s : Timed) (a : ℤ) (us : List ℤ) (t : ℤ) → Ascends (us ++ t ∷ []) → AllAbove a (us ++ t ∷ [])
     → fold (λ x (c : Batch). later x c.at) a (batched (us ++ t ∷ []) s) ≡ t
 greatest_from s a [] t r h = later_up a t h.0
 greatest_from s a (u ∷ us) t r h =
     ap (λ x. fold (λ y (c : Batch). later y c.at) x (batched (us ++ t ∷ []) s)) (later_up a u h.0) ∙ greatest_from s u us t r.1 r.0
 
-greatest_last : (s : Timed) (us : List ℤ) (t : ℤ) → Rises (us ++ t ∷ []) → greatest (batched (us ++ t ∷ []) s) ≡ t
+greatest_last : (s : Timed) (us : List ℤ) (t : ℤ) → Ascends (us ++ t ∷ []) → greatest (batched (us ++ t ∷ []) s) ≡ t
 greatest_last s [] t r = refl
 greatest_last s (u ∷ us) t r = greatest_from s u us t r.1 r.0
 
@@ -66,14 +66,14 @@ batched-append : (us vs : List ℤ) (s : Timed) → batched (us ++ vs) s ≡ bat
 batched-append [] vs s = refl
 batched-append (u ∷ us) vs s = ap (λ l. batch_at s u ∷ l) (batched-append us vs s)
 
-order_from : (us vs : List ℤ) (s : Timed) → Rises (us ++ vs) → fold (λ done b. put_batch b done) (batched us s) (batched vs s) ≡ batched (us ++ vs) s
+order_from : (us vs : List ℤ) (s : Timed) → Ascends (us ++ vs) → fold (λ done b. put_batch b done) (batched us s) (batched vs s) ≡ batched (us ++ vs) s
 order_from us [] s r = ap (λ l. batched l s) (sym (append-nil us))
 order_from us (v ∷ vs) s r =
-    ap (λ l. fold (λ done b. put_batch b done) l (batched vs s)) (put_last (batch_at s v) us s (rises_below us vs v r) ∙ sym (batched-append us (v ∷ []) s))
-    ∙ order_from (us ++ v ∷ []) vs s (subst Rises (sym (append_assoc us (v ∷ []) vs)) r)
+    ap (λ l. fold (λ done b. put_batch b done) l (batched vs s)) (put_last (batch_at s v) us s (ascends_below us vs v r) ∙ sym (batched-append us (v ∷ []) s))
+    ∙ order_from (us ++ v ∷ []) vs s (subst Ascends (sym (append_assoc us (v ∷ []) vs)) r)
     ∙ ap (λ l. batched l s) (append_assoc us (v ∷ []) vs)
 
-by_instant_is : (us : List ℤ) (s : Timed) → Rises us → by_instant (batched us s) ≡ batched us s
+by_instant_is : (us : List ℤ) (s : Timed) → Ascends us → by_instant (batched us s) ≡ batched us s
 by_instant_is us s r = order_from [] us s r
 
 -- what the two definitions of a range say
@@ -89,7 +89,7 @@ filter-same p q [] h = refl
 filter-same p q (u ∷ us) h = ap (λ b. cond b (u ∷ filter p us) (filter p us)) (h u) ∙ ap (λ l. cond (q u) (u ∷ l) l) (filter-same p q us h)
 
 -- a window on batches has the rows of the instants in reach
-window_rows : (w : Window) (t : ℤ) (us : List ℤ) (s : Timed) → Rises us → in_window w t (batched us s) ≡ kept w (flat_map s (filter (in_reach w t) us))
+window_rows : (w : Window) (t : ℤ) (us : List ℤ) (s : Timed) → Ascends us → in_window w t (batched us s) ≡ kept w (flat_map s (filter (in_reach w t) us))
 window_rows Now t us s r = rows_where_is (λ u. int_eq u t) us s
 window_rows (Range span) t us s r =
     rows_where_is (λ u. int_le u t && int_le (later (pos 0) (t -ℤ span)) u) us s
@@ -98,18 +98,18 @@ window_rows Unbounded t us s r = rows_where_is (λ u. int_le u t) us s
 window_rows (Latest n) t us s r =
     ap (λ l. contents.last_of n (rows_where (λ u. int_le u t) l)) (by_instant_is us s r) ∙ ap (contents.last_of n) (rows_where_is (λ u. int_le u t) us s)
 
-rises_front : (us vs : List ℤ) → Rises (us ++ vs) → Rises us
-rises_front [] vs r = tt
-rises_front (u ∷ us) vs r = (front us r.0, rises_front us vs r.1) where
+ascends_front : (us vs : List ℤ) → Ascends (us ++ vs) → Ascends us
+ascends_front [] vs r = tt
+ascends_front (u ∷ us) vs r = (front us r.0, ascends_front us vs r.1) where
   front : (xs : List ℤ) → AllAbove u (xs ++ vs) → AllAbove u xs
   front [] h = tt
   front (x ∷ xs) h = (h.0, front xs h.1)
 
-window_step : (w : Window) (ts : List ℤ) (s : Timed) → Rises ts → (us vs : List ℤ) (t : ℤ) → ts ≡ us ++ (t ∷ vs)
+window_step : (w : Window) (ts : List ℤ) (s : Timed) → Ascends ts → (us vs : List ℤ) (t : ℤ) → ts ≡ us ++ (t ∷ vs)
     → window_one w (spread us s) (item_at t (s t)) ≡ item_at t (in_order (windowed w ts s t)) ∷ []
 window_step w ts s r us vs t e =
-    let all : Rises (us ++ (t ∷ vs)) = subst Rises e r in
-    let here : Rises (us ++ t ∷ []) = rises_front (us ++ t ∷ []) vs (subst Rises (sym (append_assoc us (t ∷ []) vs)) all) in
+    let all : Ascends (us ++ (t ∷ vs)) = subst Ascends e r in
+    let here : Ascends (us ++ t ∷ []) = ascends_front (us ++ t ∷ []) vs (subst Ascends (sym (append_assoc us (t ∷ []) vs)) all) in
     let bs : batches (spread us s ++ item_at t (s t) ∷ []) ≡ batched (us ++ t ∷ []) s = ap batches (sym (spread-append us (t ∷ []) s)) ∙ batches_spread (us ++ t ∷ []) s in
     let rows : content_of w (batches (spread us s ++ item_at t (s t) ∷ [])) ≡ in_order (windowed w ts s t) =
     ap (content_of w) bs
@@ -119,7 +119,7 @@ window_step w ts s r us vs t e =
     ∙ ap (λ l. in_order (kept w (flat_map s (filter (in_reach w t) l)))) (sym e) in
     ap (λ l. item_at t l ∷ []) rows
 
-pub window_fed : (w : Window) (ts : List ℤ) (s : Timed) → Rises ts
+pub window_fed : (w : Window) (ts : List ℤ) (s : Timed) → Ascends ts
     → (feed (fire (window w) 0) (spread ts s) (first_kept (window w))).outs 0 ≡ spread ts (λ t. in_order (windowed w ts s t))
 window_fed w ts s r =
     received_fed (window_one w) [] (spread ts s) ∙ given_spread ts s (λ t. in_order (windowed w ts s t)) (window_one w) (window_step w ts s r) [] ts refl

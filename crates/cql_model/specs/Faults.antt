@@ -12,7 +12,7 @@ use Rattle.brooklet_model.specs.Meaning.{meaning}
 use Rattle.cql_model.specs.declared.fault.Fault.{Fault}
 use Rattle.cql_model.specs.declared.fault.Fault.TheVariants.{UnknownStream, UnknownField, AmbiguousField, NameTwice, Limit}
 use Rattle.cql_model.specs.declared.fault.Refusal.{Refusal}
-use Rattle.cql_model.specs.Accepted.{has_no_at, declared, AreShallow, IsShallow, IsAccepted, exceeds}
+use Rattle.cql_model.specs.Plannable.{has_no_at, declared, AreShallow, IsShallow, IsPlannable, exceeds}
 use Rattle.cql_model.specs.Instants.{program_means, inputs_for}
 use Rattle.cql_model.specs.Laws.{known_names, AreFiles}
 use Rattle.cql_model.specs.Program.{Scalar, Number, Field, ItemField, Neg, Not, Bin, Source, Column, Columns, Star, Chosen, Query, Register, Ask, Program}
@@ -148,16 +148,6 @@ pub record AreShort (p : Program) : Type 0 where
   pub names : AllByRecursion IsShortName (declared p)
   pub uses : AllByRecursion IsShortName (all_uses p)
 
--- a program without a fault is accepted
-abbrev pub FaultlessAccepted : Type 0
-FaultlessAccepted = (p : Program) → AreSpoken p → first_fault [] 0 1 p ≡ None → IsAccepted p
-
--- the plan of a program that is not refused is valid
-abbrev pub UnrefusedAreValid : Type 0
-UnrefusedAreValid = (p : Program) → AreSpoken p → refusal_of p ≡ None → IsPlan (plan_of p)
-
--- and means what the program means
-abbrev pub UnrefusedMean : Type 0
-UnrefusedMean =
-    (p : Program) (files : List (List (ℤ × List ℤ))) → AreSpoken p → refusal_of p ≡ None → AreFiles p files
-    → meaning (plan_of p) (inputs_for files) ≡ record { outs = program_means p files; tables = [] }
+-- of a program without a fault a plan can be made
+abbrev pub FaultlessPlannable : Type 0
+FaultlessPlannable = (p : Program) → AreSpoken p → first_fault [] 0 1 p ≡ None → IsPlannable p

@@ -1,4 +1,3 @@
-pub mod Accepted
 pub mod Faults
 pub mod Fit
 pub mod InTurn
@@ -6,7 +5,11 @@ pub mod Instants
 pub mod Kernels
 pub mod Laws
 pub mod Meaning
+pub mod Numeral
+pub mod Places
+pub mod Plannable
 pub mod Program
+pub mod Refused
 pub mod Scopes
 pub mod Streams
 pub mod Translation

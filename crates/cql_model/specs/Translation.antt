@@ -1,6 +1,5 @@
 -- The plan of a program.
 use Rattle.std.specs.Prelude.{ℕ, zero, suc, ◌+◌, pos, nat_lt, nat_le, ◌&&◌, List, [], ◌∷◌, ◌++◌, length, map, Option, Some, None, codes, if◌then◌else◌}
-use Rattle.std.specs.Fmt.{decimal}
 use Rattle.river_base.specs.Name.{name_eq}
 use Rattle.work_code.specs.Term.{Term}
 use Rattle.work_code.specs.Term as term
@@ -11,6 +10,7 @@ use Rattle.river_base.specs.declared.kind.QueueType.{QueueType}
 use Rattle.river_plan.specs.Forms.{Name, OpForm, PlanForm}
 use Rattle.river_plan.specs.Names.{count}
 use Rattle.river_plan.specs.Uses.{all_vars}
+use Rattle.cql_model.specs.Numeral.{numeral}
 use Rattle.cql_model.specs.Program.{Scalar, Number, Field, ItemField, Neg, Not, Bin, Source, Column, Columns, Star, Chosen, Query, Register, Ask, Program}
 use Rattle.cql_model.specs.Program.{registered, streams_of, all_uses}
 use Rattle.cql_model.specs.Scopes.{Named, scope_of, column_names}
@@ -57,7 +57,7 @@ at_word n word = n ++ (codes "@" ++ word)
 
 -- q@w1, q@x2: numbers from 1
 abbrev pub numbered : Name → List ℕ → ℕ → Name
-numbered n word k = at_word n (word ++ decimal k)
+numbered n word k = at_word n (word ++ numeral k)
 
 -- the copy of a stream for its use number k, from 0
 abbrev pub copy_name : Name → ℕ → Name

@@ -1,9 +1,10 @@
 //! Laws over the definitions alone.
-ghost use Rattle.cql_model.specs.Accepted.{PlansAreValid, PlansKeep, OnlyLimits};
-ghost use Rattle.cql_model.specs.Faults.{FaultlessAccepted, UnrefusedAreValid, UnrefusedMean};
+ghost use Rattle.cql_model.specs.Plannable.{PlansAreValid, PlansKeep, OnlyLimits};
+ghost use Rattle.cql_model.specs.Faults.{FaultlessPlannable};
 ghost use Rattle.cql_model.specs.Fit.{FilesFit};
-ghost use Rattle.cql_model.specs.Instants.{InstantsRise, InstantsAreStamps, PlansMean};
+ghost use Rattle.cql_model.specs.Instants.{InstantsAre, MeansAtInstants, PlansMean};
 ghost use Rattle.cql_model.specs.InTurn.{PlansInTurn};
+ghost use Rattle.cql_model.specs.Refused.{RefusalsAre, AcceptedAre, AcceptedPlannable, AcceptedAreValid, AcceptedMean};
 ghost use Rattle.cql_model.specs.Kernels.{WindowsAre, SelectsAre, ProjectsAre, StreamersAre, CrossesAre};
 
 /// Fed with batches, the kernels on bags give one after another what CQL's operators give: the window's content after each batch,
@@ -17,19 +18,29 @@ pub fn kernels_mean()
     ensures products { CrossesAre }
 {}
 
-/// The instants of a run rise, and are just the timestamps of its files.
+/// The instants of a run rise, and are exactly the timestamps of its files: a time is an instant where a file has a row with it. What
+/// a program means has a batch at each of them, for each of its queries.
 pub fn instants_are_stamps()
-    ensures rise { InstantsRise }
-    ensures all { InstantsAreStamps }
+    ensures instants { InstantsAre }
+    ensures means { MeansAtInstants }
 {}
 
-/// A program in which no unit has a fault is accepted.
-pub fn faultless_are_accepted()
-    ensures { FaultlessAccepted }
+/// A program is refused exactly where the first place in the order of reading that has a fault has this one, and stands in this
+/// unit; or where no place has one, but the plan exceeds a limit of plans, which is told at the last unit. It is accepted exactly
+/// where no place has a fault and the plan keeps the limits.
+pub fn first_faults_are_told()
+    ensures refused { RefusalsAre }
+    ensures accepted { AcceptedAre }
 {}
 
-/// The plan of an accepted program keeps the rules of plans, whatever its size, and so is valid where it keeps their limits. A
-/// fault is told of it exactly where it exceeds a limit, and this is the fault.
+/// Of a program that the grammar gives and that is accepted a plan can be made; and so of one in which no unit has a fault.
+pub fn accepted_are_plannable()
+    ensures accepted { AcceptedPlannable }
+    ensures faultless { FaultlessPlannable }
+{}
+
+/// Where a plan can be made, it keeps the rules of plans, whatever its size, and so is valid where it keeps their limits. A fault is
+/// told of it exactly where it exceeds a limit, and this is the fault.
 pub fn plans_are_valid()
     ensures valid { PlansAreValid }
     ensures rules { PlansKeep }
@@ -42,18 +53,18 @@ pub fn plans_in_turn()
 {}
 
 /// Files whose rows have the widths of a program's streams fit its plan: they are of the types of its inputs, and all have the same
-/// instants.
+/// instants, which are those of the run.
 pub fn files_fit()
     ensures { FilesFit }
 {}
 
-/// The plan of an accepted program that keeps the limits of plans means what the program means.
+/// A plan that can be made and keeps the limits of plans means what the program means.
 pub fn plans_mean()
     ensures { PlansMean }
 {}
 
-/// The plan of a program that is not refused is valid, and means what the program means.
-pub fn unrefused_mean()
-    ensures valid { UnrefusedAreValid }
-    ensures means { UnrefusedMean }
+/// The plan of an accepted program is valid, and means what the program means.
+pub fn accepted_mean()
+    ensures valid { AcceptedAreValid }
+    ensures means { AcceptedMean }
 {}

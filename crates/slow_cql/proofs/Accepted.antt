@@ -2,32 +2,27 @@
 use Rattle.std.proofs.Common.{◌≡◌, ℕ, Option, Some, None, Ok, List, [], ◌∷◌, refl}
 use Rattle.work_code.specs.Cut.{units_of}
 use Rattle.work_code.specs.Tok.{toks}
-use Rattle.cql_model.specs.Accepted.{AreQueries}
+use Rattle.cql_model.specs.Plannable.{AreQueries}
 use Rattle.cql_model.specs.Program.{Register, Ask, Program}
 use Rattle.cql_model.specs.Scopes.{Named}
 use Rattle.cql_model.specs.Translation.{query_named}
-use Rattle.cql_model.specs.Faults.{first_fault, or_refused}
-use Rattle.cql_model.specs.declared.fault.Refusal.{Refusal}
-use Rattle.cql_model.proofs.Faultless.{faultless_accepted}
+use Rattle.cql_model.proofs.Judged.{accepted_plannable}
 use Rattle.cql_text.specs.Tree.{Part}
 use Rattle.cql_build.specs.Seen.{program_of}
 use Rattle.slow_cql.specs.Contents.{HaveColumns}
+use Rattle.slow_cql.specs.Laws.{CompiledHaveColumns}
 use Rattle.cql_front.specs.Laws.{Has}
 use Rattle.cql_front.specs.Meaning.{compiled}
 use Rattle.cql_front.proofs.Fronts.{means_what_it_has}
 use Rattle.cql_front.proofs.Spoken.{spoken}
-
-first_none : (a b : Option Refusal) → or_refused a b ≡ None → a ≡ None
-first_none None b h = refl
-first_none (Some r) b h = absurd (cc h)
 
 have_columns : (known : List Named) (ps : Program) → AreQueries known ps → HaveColumns known ps
 have_columns known [] h = tt
 have_columns known (Register name fields ∷ ps) h = have_columns (record { name = name; fields = fields } ∷ known) ps h.1
 have_columns known (Ask q ∷ ps) h = (h.0.columns, have_columns (query_named known q ∷ known) ps h.1)
 
-pub accepted_columns : (text : List ℕ) (p : List Part) → compiled text ≡ Ok p → HaveColumns [] (program_of p)
+pub accepted_columns : CompiledHaveColumns
 accepted_columns text p e =
     let h : Has text (Ok p) = (means_what_it_has text (Ok p)).0 e in
     let s = spoken p (units_of (toks h.0.marks)) h.0.formed in
-    have_columns [] (program_of p) (faultless_accepted (program_of p) s (first_none (first_fault [] 0 1 (program_of p)) _ h.1)).queries
+    have_columns [] (program_of p) (accepted_plannable (program_of p) s h.1).queries

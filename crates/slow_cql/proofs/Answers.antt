@@ -6,7 +6,7 @@ use Rattle.river_base.specs.declared.item.Item as item
 use Rattle.river_base.specs.Row.{in_order}
 use Rattle.kern_bags.specs.declared.kernel.Streamer.{Streamer}
 use Rattle.cql_model.specs.Streams.{Timed, Rises, last_of, at_last, before, changed, streamed, item_at, spread}
-use Rattle.cql_model.proofs.Instants.{below_front}
+use Rattle.cql_model.proofs.Instants.{Ascends, ascends, below_front}
 use Rattle.slow_cql.proofs.Tuples.{left_at}
 
 last_push : (us : List ℤ) (t : ℤ) → last_of (us ++ t ∷ []) ≡ Some t
@@ -27,7 +27,7 @@ before_is : (ts : List ℤ) (r : Timed) (n : ℕ) (t : ℤ) → Rises ts → n <
 before_is ts r n t up lt e =
     let split : ts ≡ take n ts ++ (t ∷ drop (n + 1) ts) = sym (take-append-drop n ts) ∙ ap (λ l. take n ts ++ l) (left_at ts n t lt e) in
     ap (λ l. at_last r (last_of (filter (λ u. int_lt u t) l))) split
-    ∙ ap (λ l. at_last r (last_of l)) (below_front (take n ts) (drop (n + 1) ts) t (subst Rises split up))
+    ∙ ap (λ l. at_last r (last_of l)) (below_front (take n ts) (drop (n + 1) ts) t (subst Ascends split (ascends ts up)))
 
 pub batch_more : (k : Streamer) (ts : List ℤ) (r : Timed) (n : ℕ) (t : ℤ) (old : List (List ℤ)) (items more : List item.Item) → Rises ts → n < length ts
     → t ≡ get_or ts n t

@@ -5,13 +5,13 @@ use Rattle.river_base.specs.Instants.{instants, spread}
 use Rattle.cql_model.specs.Instants.{program_means}
 use Rattle.cql_model.specs.Meaning.{answers}
 use Rattle.cql_model.specs.Streams.{Rises}
-use Rattle.cql_model.proofs.Front.{instants_rise}
+use Rattle.cql_model.proofs.Stamps.{instants_are}
 use Rattle.cql_text.specs.declared.tree.Part.{Part}
 use Rattle.cql_build.specs.Views.{program_of}
 use Rattle.slow_cql.specs.Kept.{Entry}
 
 pub sorted_rise : (files : List (List Entry)) (ts : List ℤ) → ts ≡ instants files → Rises ts
-sorted_rise files ts e = subst Rises (sym e) (instants_rise files)
+sorted_rise files ts e = subst Rises (sym e) (instants_are files).rise
 
 pub sorted_mean : (ps parts : List Part) (fs files : List (List Entry)) (ts : List ℤ) (outs : List (List item.Item)) → ts ≡ instants files → ps ≡ parts
     → fs ≡ files

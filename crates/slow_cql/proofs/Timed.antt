@@ -8,6 +8,7 @@ use Rattle.std.proofs.lemmas.List.{map-append}
 use Rattle.std.proofs.lemmas.List.Elements.{filter-append}
 use Rattle.kern_bags.specs.declared.kernel.Window.{Window}
 use Rattle.cql_model.specs.Streams.{Timed, Rises, in_reach, kept, windowed, spread}
+use Rattle.cql_model.proofs.Instants.{Ascends, ascends}
 use Rattle.slow_cql.specs.Kept.{Entry, timed, is_in_order, entries_in, reached}
 
 pub entries-spread : (ts : List ℤ) (s : Timed) → entries_in (spread ts s) ≡ timed ts s
@@ -88,6 +89,9 @@ behind_in_order : (t : ℤ) (rows : List (List ℤ)) (es : List Entry) → NotBe
 behind_in_order t [] es n o = o
 behind_in_order t (r ∷ rs) es n o = in_order_cons (t, r) (behind t rs ++ es) (behind_not_below t t rs es (itself t) n) (behind_in_order t rs es n o)
 
+ascending : (ts : List ℤ) (s : Timed) → Ascends ts → is_in_order (timed ts s)
+ascending [] s h = λ k d low high. absurd (omega (arith, high))
+ascending (t ∷ ts) s h = behind_in_order t (s t) (timed ts s) (timed_not_below t ts s h.0) (ascending ts s h.1)
+
 pub timed_in_order : (ts : List ℤ) (s : Timed) → Rises ts → is_in_order (timed ts s)
-timed_in_order [] s h = λ k d low high. absurd (omega (arith, high))
-timed_in_order (t ∷ ts) s h = behind_in_order t (s t) (timed ts s) (timed_not_below t ts s h.0) (timed_in_order ts s h.1)
+timed_in_order ts s h = ascending ts s (ascends ts h)

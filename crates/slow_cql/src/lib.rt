@@ -5,6 +5,7 @@ mod answer;
 mod bag;
 mod content;
 mod kept;
+pub mod laws;
 mod names;
 mod program;
 mod value;

@@ -1,7 +1,12 @@
 use Rattle.std.proofs.Common.{◌≡◌, ◌++◌, ap, ◌∙◌}
 use Rattle.cql_model.specs.Translation.{decls}
-use Rattle.cql_build.proofs.Growing.{on_ok_then, copied_output}
+use Rattle.cql_build.proofs.Growing.{on_ok_then, copied_output, copies_few_more}
 use Rattle.cql_build.proofs.output.copy_output.Goals as goal
+
+pub copy-requires-clause-few : goal.copy-requires-clause-few
+copy-requires-clause-few c =
+    copies_few_more c.args.query c.args.query c.args.uses c.in_ok-writes.writes c.in_ok-made.made c.append.new.to c.in_ok-writes.ensures c.in_ok-made.ensures
+    (c.in_ok-append.ensures ∙ ap (λ l. c.in_ok-writes.writes ++ l) c.as_slice-2.ensures) c.requires.few
 
 pub returns : goal.returns
 returns c =

@@ -1,9 +1,9 @@
-use Rattle.std.proofs.Common.{◌≡◌, ◌<◌, ◌≤◌, List, length, sym, ap, subst, arith}
+use Rattle.std.proofs.Common.{◌≡◌, ◌<◌, List, length, sym, ap, subst, arith}
 use Rattle.river_plan.specs.Forms.{Name, plan_form}
 use Rattle.cql_model.specs.Program.{all_uses}
 use Rattle.cql_build.specs.Planned.{IsRefused, IsLimited}
 use Rattle.cql_build.specs.Views.{program_of}
-use Rattle.cql_build.proofs.Filled.{if_err_then, many_exceed, told_few, over_limit, limited_refused}
+use Rattle.cql_build.proofs.Filled.{if_err_then, many_exceed, told_limit, over_limit, limited_refused}
 use Rattle.cql_build.proofs.planning.faultless.Goals as goal
 
 pub returns-then-len-gt256-clause-refused : goal.returns-then-len-gt256-clause-refused
@@ -15,10 +15,7 @@ returns-then-len-gt256-clause-refused c =
 
 pub checked-requires : goal.checked-requires
 checked-requires c =
-    let p = program_of c.args.parts.now in
-    let n = ap (λ (l : List Name). length l) c.in_ok-uses.ensures.all in
-    let few : length (all_uses p) ≤ 256 = let a = c.if-len-gt256.false in let b = c.len.ensures in omega (arith, a, b, n) in
-    told_few p (plan_form c.in_ok-raw.raw) c.requires.accepted few c.in_ok-raw.ensures
+    told_limit (program_of c.args.parts.now) (plan_form c.in_ok-raw.raw) c.requires.accepted c.in_ok-raw.ensures
 
 pub returns-clause-refused : goal.returns-clause-refused
 returns-clause-refused c =

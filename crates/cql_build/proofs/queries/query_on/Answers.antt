@@ -4,9 +4,13 @@ use Rattle.cql_model.specs.Translation.{sources, window_ops, window_decls, cross
 use Rattle.cql_model.specs.Program.{streams_of}
 use Rattle.cql_build.specs.Grown.{Grew, products}
 use Rattle.cql_build.specs.Views.{query_of, sources_of, scope}
-use Rattle.cql_build.proofs.Growing.{on_ok_then}
+use Rattle.cql_build.proofs.Growing.{on_ok_then, count_few}
 use Rattle.cql_build.proofs.Asking.{query_made, sources_length}
 use Rattle.cql_build.proofs.queries.query_on.Goals as goal
+
+pub tail-requires-clause-few : goal.tail-requires-clause-few
+tail-requires-clause-few c =
+    let e = c.count-used.ensures in let f = count_few c.args.query.now.name c.args.uses.now.all c.requires.few in omega (arith, e, f)
 
 pub returns-clause-grew : goal.returns-clause-grew
 returns-clause-grew c = λ ks e.

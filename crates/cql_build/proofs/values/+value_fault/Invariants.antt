@@ -1,4 +1,4 @@
-use Rattle.cql_model.specs.Accepted.{depth}
+use Rattle.cql_model.specs.Plannable.{depth}
 use Rattle.cql_build.specs.Views.{value_of}
 use Rattle.cql_build.proofs.values.+value_fault.Given as goal
 

@@ -1,4 +1,4 @@
--- Which programs the front accepts, as far as their plans need it.
+-- Programs of which a plan can be made: what plans need of the names, the queries and the values of a program.
 use Rattle.std.specs.Prelude.{All, ℕ, suc, ◌<◌, ◌≤◌, Bool, not, nat_eq, nat_lt, ◌≡◌, List, [], ◌∷◌, length, max, Option, Some, None, IsTrue, ◌+◌}
 use Rattle.std.specs.List.{list_all, list_any, AllByRecursion}
 use Rattle.std.specs.Option.{is_some}
@@ -6,7 +6,7 @@ use Rattle.river_kernels.specs.Formed.{is_width, is_window}
 use Rattle.river_plan.specs.Forms.{Name, PlanForm, decl_names, queue_names, variable_names}
 use Rattle.river_plan.specs.Names.{count}
 use Rattle.cql_model.specs.Laws.{AreKnown}
-use Rattle.cql_model.specs.Program.{Scalar, Number, Field, ItemField, Neg, Not, Bin, Columns, Star, Chosen, Query, Register, Ask, Program, streams_of, all_uses}
+use Rattle.cql_model.specs.Program.{Scalar, Number, Field, ItemField, Neg, Not, Bin, Columns, Star, Chosen, Query, Register, Ask, Program, streams_of}
 use Rattle.cql_model.specs.Scopes.{Named, scope_of}
 use Rattle.river_kernels.specs.declared.limit.Limit.{Limit}
 use Rattle.river_plan.specs.Limits.{most_of, limits, numbers}
@@ -59,14 +59,18 @@ AreQueries known [] = Unit {0}
 AreQueries known (Register name fields ∷ ps) = IsTrue (is_width (length fields)) × AreQueries (record { name = name; fields = fields } ∷ known) ps
 AreQueries known (Ask q ∷ ps) = IsQuery known q × AreQueries (query_named known q ∷ known) ps
 
-pub record IsAccepted (p : Program) : Type 0 where
+pub record IsPlannable (p : Program) : Type 0 where
   pub names : AllByRecursion (λ n. IsTrue (has_no_at n)) (declared p)
   pub once : (n : Name) → count n (declared p) ≤ 1
   pub queries : AreQueries [] p
 
--- the plan of an accepted program that keeps to the limits of plans is valid
+-- no number of a plan is above its limit
+abbrev pub KeepsLimits : PlanForm → Type 0
+KeepsLimits plan = (l : Limit) → All (λ n. n ≤ most_of l) (numbers l plan)
+
+-- the plan of such a program that keeps the limits of plans is valid
 abbrev pub PlansAreValid : Type 0
-PlansAreValid = (p : Program) → IsAccepted p → ((l : Limit) → All (λ n. n ≤ most_of l) (numbers l (plan_of p))) → IsPlan (plan_of p)
+PlansAreValid = (p : Program) → IsPlannable p → KeepsLimits (plan_of p) → IsPlan (plan_of p)
 
 -- all conditions of a valid plan but the limits
 pub record KeepsRules (p : PlanForm) : Type 0 where
@@ -87,9 +91,9 @@ pub record KeepsRules (p : PlanForm) : Type 0 where
   pub vars_apart : Each (λ op. (v : Name) → vars_it v op ≤ 1) p.ops
   pub private_once : (v : Name) → 0 < count v p.vars → total (vars_it v) p.ops ≤ 1
 
--- the plan of an accepted program keeps them, whatever its size; no text has more uses of a stream than this
+-- the plan of such a program keeps them, whatever its size
 abbrev pub PlansKeep : Type 0
-PlansKeep = (p : Program) → IsAccepted p → ((n : Name) → count n (all_uses p) ≤ 1000000000000) → KeepsRules (plan_of p)
+PlansKeep = (p : Program) → IsPlannable p → KeepsRules (plan_of p)
 
 -- so no fault but a limit is ever told of it
 abbrev pub IsLimit : Option PlanFault → Type 0
@@ -112,5 +116,4 @@ exceeds plan = list_any (λ l. list_any (λ n. nat_lt (most_of l) n) (numbers l 
 -- a fault is told of it exactly where it exceeds a limit
 abbrev pub OnlyLimits : Type 0
 OnlyLimits =
-    (p : Program) (o : Option PlanFault) → IsAccepted p → ((n : Name) → count n (all_uses p) ≤ 1000000000000) → FirstFault (plan_of p) o
-    → IsLimit o × (exceeds (plan_of p) ≡ is_some o)
+    (p : Program) (o : Option PlanFault) → IsPlannable p → FirstFault (plan_of p) o → IsLimit o × (exceeds (plan_of p) ≡ is_some o)
