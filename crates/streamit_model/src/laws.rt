@@ -1,5 +1,5 @@
 //! Laws over the definitions alone.
-ghost use Rattle.streamit_model.specs.Laws.{FedFilters, FedSplitters, FedJoiners, CollectsLongest, FiltersMean, SolutionsMean, PlansAreValid, TranslationMeans, ProgramsMean};
+ghost use Rattle.streamit_model.specs.Laws.{FedFilters, FedSplitters, FedJoiners, CollectsLongest, FiltersMean, SolutionsMean, PlansAreValid, PlansInTurn, TranslationMeans, ProgramsMean};
 
 /// Fed with the items of an input, the kernels of a program give what the program's filters, splitters and joiners give.
 pub fn kernels_mean()
@@ -26,6 +26,11 @@ pub fn solutions_mean()
 /// The plan of a stream is valid.
 pub fn plans_are_valid()
     ensures { PlansAreValid }
+{}
+
+/// Its queues and variables are declared in the order in which the operators first use them.
+pub fn plans_in_turn()
+    ensures { PlansInTurn }
 {}
 
 /// It means what the stream means.
