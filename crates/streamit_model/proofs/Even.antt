@@ -66,7 +66,8 @@ even_enclosed b ws h n =
     let e0 = leaves_nothing (enters n) ns (λ m. refl) in let x0 = leaves_nothing (exits n) ns (λ m. refl) in
     (omega (arith, p, k, l, k0, l0), omega (arith, q, e, x, e0, x0))
 
-pub even_turns : (n : Name) (block : Values → List Word) (vs : List ℕ) (turns : Values) → ((inner : Values) → IsEven (block inner)) → IsEven (turning n block vs turns)
+pub even_turns : (n : Name) (block : Values → List Word) (vs : List ℕ) (turns : Values) → ((inner : Values) → IsEven (block inner))
+    → IsEven (turning n block vs turns)
 even_turns n block [] turns h m = (refl, refl)
 even_turns n block (v ∷ vs) turns h m =
     let b = block (at_name n (pos v) turns) in
@@ -80,7 +81,8 @@ even_turns n block (v ∷ vs) turns h m =
 -- the local that a statement declares is one of its block
 abbrev pub IsStatementEven : List Word → Statement → Type 0
 IsStatementEven ws c =
-    (n : Name) (b : Block) → (over (knows n) ws + count n (locals_of b) ≡ over (leaves n) ws + count n (locals_of (Then c b))) × (over (enters n) ws ≡ over (exits n) ws)
+    (n : Name) (b : Block) → (over (knows n) ws + count n (locals_of b) ≡ over (leaves n) ws + count n (locals_of (Then c b)))
+    × (over (enters n) ws ≡ over (exits n) ws)
 
 even_arms : (xs ys : List Word) → IsEven xs → IsEven ys → IsEven (arms xs ys)
 even_arms xs ys a b =
@@ -104,13 +106,16 @@ mutual
       let p = (even n).0 in let q = (even n).1 in (omega (arith, p), omega (arith, q))
   even_statement Pop turns n b = (omega arith, refl)
   even_statement (If t a o) turns n b =
-      let even = even-append (spelled t turns) (arms (enclosed a (all_read a turns)) (optional_read o turns)) (even_spelled t turns) (even_arms (enclosed a (all_read a turns)) (optional_read o turns) (even_enclosed a (all_read a turns) (even_all a turns)) (even_optional o turns)) in
+      let even = even-append (spelled t turns) (arms (enclosed a (all_read a turns)) (optional_read o turns)) (even_spelled t turns)
+      (even_arms (enclosed a (all_read a turns)) (optional_read o turns) (even_enclosed a (all_read a turns) (even_all a turns)) (even_optional o turns)) in
       let p = (even n).0 in let q = (even n).1 in (omega (arith, p), omega (arith, q))
   even_statement (For m low upto high c) turns n b =
       let l = fixed_value low turns in let h = fixed_value high turns in
-      let inside = even_turns m (λ inner. enclosed c (all_read c inner)) (turns_between l upto h) turns (λ inner. even_enclosed c (all_read c inner) (even_all c inner)) in
+      let inside = even_turns m (λ inner. enclosed c (all_read c inner)) (turns_between l upto h) turns
+      (λ inner. even_enclosed c (all_read c inner) (even_all c inner)) in
       let even = even_cons (Loops m) _ (λ n. (refl, refl))
-      (even-append (fixed low) (Bounds l ∷ (fixed high ++ Bounds h ∷ turning m (λ inner. enclosed c (all_read c inner)) (turns_between l upto h) turns)) (even_fixed low)
+      (even-append (fixed low) (Bounds l ∷ (fixed high ++ Bounds h ∷ turning m (λ inner. enclosed c (all_read c inner)) (turns_between l upto h) turns))
+      (even_fixed low)
       (even_cons (Bounds l) _ (λ n. (refl, refl))
       (even-append (fixed high) (Bounds h ∷ turning m (λ inner. enclosed c (all_read c inner)) (turns_between l upto h) turns) (even_fixed high)
       (even_cons (Bounds h) _ (λ n. (refl, refl)) inside)))) in

@@ -85,5 +85,6 @@ plans_in_turn s ok small few =
           (let o = one_same (codes "out") in omega (arith, o))
           (λ z n. let w = k.written_once z in let o = ap one_if n in omega (arith, w, o))
           ∙ ap (λ l. outer ++ l) (sym (names_of (own_queues (ops_from s)))),
-      all_new [] (all_vars (ops_from s)) (λ v. ⊎_elim (λ lt. let o = k.private_once v lt in let t = total-vars v (ops_from s) in omega (arith, o, t)) (λ z. omega (arith, z)) (more_or_zero (count v (all_vars (ops_from s))))),
+      all_new [] (all_vars (ops_from s)) (λ v. ⊎_elim (λ lt. let o = k.private_once v lt in let t = total-vars v (ops_from s) in omega (arith, o, t))
+          (λ z. omega (arith, z)) (more_or_zero (count v (all_vars (ops_from s))))),
     )

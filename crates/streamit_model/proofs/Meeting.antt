@@ -1,12 +1,14 @@
 -- What judging says of the spots that it goes over: all are right, and the answer is there; or the fault is the first of them.
-use Rattle.std.proofs.Common.{◌≡◌, ℕ, ◌<◌, ◌⊎◌, inl, inr, Bool, true, false, List, [], ◌∷◌, ◌++◌, Result, Ok, Err, refl, sym, ap, ◌∙◌, subst, arith, append_assoc}
+use Rattle.std.proofs.Common.{◌≡◌, ℕ, ◌<◌, ◌⊎◌, inl, inr, Bool, true, false, List, [], ◌∷◌, ◌++◌, Result, Ok, Err, refl, sym, ap, ◌∙◌, subst, arith}
+use Rattle.std.proofs.Common.{append_assoc}
 use Rattle.std.specs.Prelude.{if◌then◌else◌}
 use Rattle.std.proofs.lemmas.List.{append-nil}
 use Rattle.streamit_model.specs.Elaborate.{Fault, UnknownName, NameTwice, Rates, PeekRange, NotConstant, BranchRates, Limit, Weights, on_ok}
 use Rattle.streamit_model.specs.Program.{Declared}
 use Rattle.streamit_model.specs.Words.{Word}
 use Rattle.streamit_model.specs.Places.{Spot, Reads, each_word}
-use Rattle.streamit_model.specs.Faulty.{IsUnknown, IsTwice, AreRatesApart, IsOutside, IsVariable, AreArmsApart, IsOverLimit, AreWeightsWrong, HasFault, rank, IsFirstFault}
+use Rattle.streamit_model.specs.Faulty.{IsUnknown, IsTwice, AreRatesApart, IsOutside, IsVariable, AreArmsApart, IsOverLimit, AreWeightsWrong, HasFault, rank}
+use Rattle.streamit_model.specs.Faulty.{IsFirstFault}
 use Rattle.std.specs.Prelude.{ℤ}
 
 -- the spot has no fault
@@ -170,7 +172,8 @@ module _ (above : List Declared) where
   chain ss ts (Err f) g P Q h k = first_front ss ts f h
 
   -- an answer, and what is made of it
-  pub finish : {A B : Type 0} (ss : List Spot) (r : Result A Fault) (g : A → B) (P : A → Type 0) (Q : B → Type 0) → Meets above ss r P → ((x : A) → P x → Q (g x))
+  pub finish : {A B : Type 0} (ss : List Spot) (r : Result A Fault) (g : A → B) (P : A → Type 0) (Q : B → Type 0) → Meets above ss r P
+      → ((x : A) → P x → Q (g x))
       → Meets above ss (on_ok r (λ x. Ok (g x))) Q
   finish ss (Ok x) g P Q h k = (h.0, k x h.1)
   finish ss (Err f) g P Q h k = h
@@ -203,7 +206,8 @@ module _ (above : List Declared) where
   read-append : (e : ℕ) (before xs ys : List Word) → each_word e before (xs ++ ys) ≡ each_word e before xs ++ each_word e (before ++ xs) ys
   read-append e before [] ys = ap (λ b. each_word e b ys) (sym (append-nil before))
   read-append e before (x ∷ xs) ys =
-      ap (λ l. Reads e before x ∷ l) (read-append e (before ++ x ∷ []) xs ys ∙ ap (λ b. each_word e (before ++ x ∷ []) xs ++ each_word e b ys) (append_assoc before (x ∷ []) xs))
+      ap (λ l. Reads e before x ∷ l) (read-append e (before ++ x ∷ []) xs ys ∙ ap (λ b. each_word e (before ++ x ∷ []) xs ++ each_word e b ys)
+      (append_assoc before (x ∷ []) xs))
 
   -- the words of one answer, and then those of the next
   pub next : {A B : Type 0} (e : ℕ) (before xs ys : List Word) (r : Result A Fault) (g : A → Result B Fault) (P : A → Type 0) (Q : B → Type 0)

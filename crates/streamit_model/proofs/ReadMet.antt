@@ -10,15 +10,19 @@ use Rattle.work_code.specs.Steps as steps
 use Rattle.river_plan.specs.Forms.{Name}
 use Rattle.text_forms.specs.Tree.{Spoken}
 use Rattle.brooklet_model.specs.Machine.{at_name}
-use Rattle.streamit_model.specs.Source.{Statement, Declare, Assign, Push, Pop, If, For, Block, End, Then, Optional, Unwritten, Written, Values, pops, numbers, turns_between}
+use Rattle.streamit_model.specs.Source.{Statement, Declare, Assign, Push, Pop, If, For, Block, End, Then, Optional, Unwritten, Written, Values, pops, numbers}
+use Rattle.streamit_model.specs.Source.{turns_between}
 use Rattle.streamit_model.specs.Elaborate.{Fault, BranchRates, Limit, on_ok, Known, Var, Turn, find, constant, term_of, At, counted, has_slot}
-use Rattle.streamit_model.specs.Elaborate.{is_new, slot_of, bound_of, first_term, first_popped, joined, one_step, Read, declared, after_arms, unrolled, step_of, steps_of, optional_of}
+use Rattle.streamit_model.specs.Elaborate.{is_new, slot_of, bound_of, first_term, first_popped, joined, one_step, Read, declared, after_arms, unrolled, step_of}
+use Rattle.streamit_model.specs.Elaborate.{steps_of, optional_of}
 use Rattle.streamit_model.specs.Program.{Declared}
-use Rattle.streamit_model.specs.Words.{Word, Begins, Declares, Knows, Leaves, Sets, Drops, Bounds, Loops, Enters, Exits, Pushes, Otherwise, Joins, knows, leaves, enters, exits}
+use Rattle.streamit_model.specs.Words.{Word, Begins, Declares, Knows, Leaves, Sets, Drops, Bounds, Loops, Enters, Exits, Pushes, Otherwise, Joins, knows}
+use Rattle.streamit_model.specs.Words.{leaves, enters, exits}
 use Rattle.streamit_model.specs.Words.{takes, begins, pops_one, pushes_one, pops_beside, pushes_beside, popped_in, pushed_in}
 use Rattle.streamit_model.specs.Text.{fixed, fixed_value, spelled, spelled_first, locals_of, enclosed, turning, arms, read_of, all_read, optional_read}
 use Rattle.streamit_model.specs.Places.{Reads, each_word}
-use Rattle.streamit_model.proofs.Meeting.{IsFree, AllFree, Meets, free, first_twice, first_unknown, first_variable, first_limit, first_arms, behind, finish, test, last_test}
+use Rattle.streamit_model.proofs.Meeting.{IsFree, AllFree, Meets, free, first_twice, first_unknown, first_variable, first_limit, first_arms, behind, finish}
+use Rattle.streamit_model.proofs.Meeting.{test, last_test}
 use Rattle.streamit_model.proofs.Meeting.{next, ended, beyond, weaken}
 use Rattle.streamit_model.proofs.Standing.{over-append, Counted, Stands, none_known, IsEven, names_on, counted_on, moved}
 use Rattle.streamit_model.proofs.Standing.{unmoved, regrouped, with_local, with_turn, leaves_nothing, left_behind}
@@ -66,7 +70,8 @@ module _ (above : List Declared) (e : ℕ) where
   -- ONE CHECK, AND WHAT COMES THEN
 
   begins_met : {B : Type 0} (before ws : List Word) (s : At) (turns : Values) (g : At → Result B Fault) (Q : B → Type 0) → Stands before s turns
-      → (Stands (before ++ Begins ∷ []) (record s { size = s.size + 1 }) turns → Meets above (each_word e (before ++ Begins ∷ []) ws) (g (record s { size = s.size + 1 })) Q)
+      → (Stands (before ++ Begins ∷ []) (record s { size = s.size + 1 }) turns → Meets above (each_word e (before ++ Begins ∷ []) ws)
+      (g (record s { size = s.size + 1 })) Q)
       → Meets above (each_word e before (Begins ∷ ws)) (on_ok (counted s) g) Q
   begins_met before ws s turns g Q h k =
       let spot = Reads e before Begins in
@@ -77,10 +82,12 @@ module _ (above : List Declared) (e : ℕ) where
       let lt = lt_holds s.size 16384 t in
       behind above (spot ∷ []) rest (g (record s { size = s.size + 1 })) Q
       (free above spot (λ h. h) (λ h. h) (λ d c h. h) (λ i r h. h) (λ h. h) (λ h. h) (λ h. omega (arith, lt, z, h)) (λ h. h), tt)
-      (k (moved before (Begins ∷ []) s turns s.slots s.popped s.pushed (s.size + 1) h (λ n. (refl, refl)) (omega arith) (omega arith) (omega arith) (omega arith))))
+      (k (moved before (Begins ∷ []) s turns s.slots s.popped s.pushed (s.size + 1) h (λ n. (refl, refl)) (omega arith) (omega arith) (omega arith)
+      (omega arith))))
       (λ f. let le = lt_fails s.size 16384 f in inl (first_limit above spot (omega (arith, le, z)) (λ h. h) (λ h. h) (λ h. h) (λ h. h) (λ i r h. h)))
 
-  pub declares_met : {B : Type 0} (before ws : List Word) (s : At) (turns : Values) (n : Name) (o : Option Known) (r : Result B Fault) (Q : B → Type 0) → find s.scope n ≡ o
+  pub declares_met : {B : Type 0} (before ws : List Word) (s : At) (turns : Values) (n : Name) (o : Option Known) (r : Result B Fault) (Q : B → Type 0)
+      → find s.scope n ≡ o
       → Stands before s turns
       → (find s.scope n ≡ None → Stands (before ++ Declares n ∷ []) s turns → Meets above (each_word e (before ++ Declares n ∷ []) ws) r Q)
       → Meets above (each_word e before (Declares n ∷ ws)) (on_ok (is_new o) (λ u. on_ok (has_slot s) (λ w. r))) Q
@@ -99,7 +106,8 @@ module _ (above : List Declared) (e : ℕ) where
       (k f (unmoved before (Declares n) s turns h (λ m. (refl, refl)) refl refl refl refl refl refl)))
       (λ t. let le = lt_fails s.slots 256 t in inl (first_limit above spot (omega (arith, le, z)) new (λ h. h) (λ h. h) (λ h. h) (λ i r h. h)))
 
-  loops_met : {B : Type 0} (before ws : List Word) (s : At) (turns : Values) (n : Name) (o : Option Known) (r : Result B Fault) (Q : B → Type 0) → find s.scope n ≡ o
+  loops_met : {B : Type 0} (before ws : List Word) (s : At) (turns : Values) (n : Name) (o : Option Known) (r : Result B Fault) (Q : B → Type 0)
+      → find s.scope n ≡ o
       → Stands before s turns
       → (find s.scope n ≡ None → Stands (before ++ Loops n ∷ []) s turns → Meets above (each_word e (before ++ Loops n ∷ []) ws) r Q)
       → Meets above (each_word e before (Loops n ∷ ws)) (on_ok (is_new o) (λ u. r)) Q
@@ -111,7 +119,8 @@ module _ (above : List Declared) (e : ℕ) where
       (free above spot (λ h. h) (none_known before s.scope turns n f (h.names n)) (λ d c h. h) (λ i r h. h) (λ h. h) (λ h. h) (λ h. h) (λ h. h), tt)
       (k f (unmoved before (Loops n) s turns h (λ m. (refl, refl)) refl refl refl refl refl refl))
 
-  sets_met : {B : Type 0} (before ws : List Word) (s : At) (turns : Values) (n : Name) (o : Option Known) (g : ℕ → Result B Fault) (Q : B → Type 0) → find s.scope n ≡ o
+  sets_met : {B : Type 0} (before ws : List Word) (s : At) (turns : Values) (n : Name) (o : Option Known) (g : ℕ → Result B Fault) (Q : B → Type 0)
+      → find s.scope n ≡ o
       → Stands before s turns → ((i : ℕ) → Stands (before ++ Sets n ∷ []) s turns → Meets above (each_word e (before ++ Sets n ∷ []) ws) (g i) Q)
       → Meets above (each_word e before (Sets n ∷ ws)) (on_ok (slot_of o) g) Q
   sets_met before ws s turns n None g Q f h k =
@@ -200,8 +209,10 @@ module _ (above : List Declared) (e : ℕ) where
       let b2 = b1 ++ Sets n ∷ [] in
       let Q = Went before (read_of (Assign n t) turns) s turns in
       begins_met before (Sets n ∷ sp) s turns
-      (λ s. on_ok (slot_of (find s.scope n)) (λ i. on_ok (term_of e s.scope t s.popped) (λ v. Ok (one_step (steps.Set i v), record s { popped = s.popped + pops t })))) Q h
-      (λ h1. sets_met b1 sp o turns n (find s.scope n) (λ i. on_ok (term_of e s.scope t s.popped) (λ v. Ok (one_step (steps.Set i v), record o { popped = o.popped + pops t }))) Q refl h1
+      (λ s. on_ok (slot_of (find s.scope n)) (λ i. on_ok (term_of e s.scope t s.popped)
+      (λ v. Ok (one_step (steps.Set i v), record s { popped = s.popped + pops t })))) Q h
+      (λ h1. sets_met b1 sp o turns n (find s.scope n) (λ i. on_ok (term_of e s.scope t s.popped)
+      (λ v. Ok (one_step (steps.Set i v), record o { popped = o.popped + pops t }))) Q refl h1
       (λ i h2. finish above (each_word e b2 sp) (term_of e s.scope t s.popped) (λ v. (one_step (steps.Set i v), record o { popped = o.popped + pops t }))
       (λ u. Stands (b2 ++ sp) (record o { popped = o.popped + pops t }) turns) Q (spelled_met above e t b2 o turns small h2)
       (λ v f. went_by before (b2 ++ sp) (read_of (Assign n t) turns) s turns (one_step (steps.Set i v), record o { popped = o.popped + pops t })
@@ -217,13 +228,16 @@ module _ (above : List Declared) (e : ℕ) where
       let o1 = record o { popped = o.popped + pops t } in
       let y : Term → Steps × At = λ v. (one_step (steps.Push 0 (v ∷ [])), record o { popped = o.popped + pops t; pushed = o.pushed + 1 }) in
       begins_met before (sp ++ Pushes ∷ []) s turns
-      (λ s. on_ok (term_of e s.scope t s.popped) (λ v. Ok (one_step (steps.Push 0 (v ∷ [])), record s { popped = s.popped + pops t; pushed = s.pushed + 1 }))) Q h
-      (λ h1. next above e b1 sp (Pushes ∷ []) (term_of e s.scope t s.popped) (λ v. Ok (y v)) (λ u. Stands (b1 ++ sp) o1 turns) Q (spelled_met above e t b1 o turns small h1)
+      (λ s. on_ok (term_of e s.scope t s.popped) (λ v. Ok (one_step (steps.Push 0 (v ∷ [])), record s { popped = s.popped + pops t; pushed = s.pushed + 1 })))
+      Q h
+      (λ h1. next above e b1 sp (Pushes ∷ []) (term_of e s.scope t s.popped) (λ v. Ok (y v)) (λ u. Stands (b1 ++ sp) o1 turns) Q
+      (spelled_met above e t b1 o turns small h1)
       (λ v f. (
         (pushes_free (b1 ++ sp), tt),
         went_by before ((b1 ++ sp) ++ Pushes ∷ []) (read_of (Push t) turns) s turns (y v)
             (append_assoc b1 sp (Pushes ∷ []) ∙ regroup before Begins (sp ++ Pushes ∷ []))
-            (moved (b1 ++ sp) (Pushes ∷ []) o1 turns o1.slots o1.popped (o1.pushed + 1) o1.size f (λ m. (refl, refl)) (omega arith) (omega arith) (omega arith) (omega arith))
+            (moved (b1 ++ sp) (Pushes ∷ []) o1 turns o1.slots o1.popped (o1.pushed + 1) o1.size f (λ m. (refl, refl)) (omega arith) (omega arith) (omega arith)
+            (omega arith))
             (omega arith) (omega arith),
       )))
 
@@ -232,7 +246,8 @@ module _ (above : List Declared) (e : ℕ) where
   drop_met before s turns h = (
     (drops_free before, tt),
     record {
-      stands = moved before (Drops ∷ []) s turns s.slots (s.popped + 1) s.pushed s.size h (λ m. (refl, refl)) (omega arith) (omega arith) (omega arith) (omega arith);
+      stands = moved before (Drops ∷ []) s turns s.slots (s.popped + 1) s.pushed s.size h (λ m. (refl, refl)) (omega arith) (omega arith) (omega arith)
+          (omega arith);
       popped = omega arith;
       pushed = omega arith;
     },
@@ -241,7 +256,8 @@ module _ (above : List Declared) (e : ℕ) where
   -- ARMS
 
   -- where the second arm begins
-  second_stands : (before ws : List Word) (s t : At) (turns : Values) → IsEven ws → Stands before s turns → Stands (before ++ ws) (record t { scope = s.scope }) turns
+  second_stands : (before ws : List Word) (s t : At) (turns : Values) → IsEven ws → Stands before s turns
+      → Stands (before ++ ws) (record t { scope = s.scope }) turns
       → s.popped ≤ t.popped → s.pushed ≤ t.pushed
       → Stands ((before ++ ws) ++ Otherwise (popped_in ws) (pushed_in ws) ∷ []) (record s { slots = t.slots; size = t.size }) turns
   second_stands before ws s t turns even h g a b =
@@ -282,7 +298,8 @@ module _ (above : List Declared) (e : ℕ) where
       → Meets above (Reads e before (Joins a b a' b') ∷ []) (after_arms s c p q) Q
   joins_met before s turns c p q a b a' b' Q f g f' g' k =
       let spot = Reads e before (Joins a b a' b') in
-      last_test above (spot ∷ []) (nat_eq p.1.popped q.1.popped && nat_eq p.1.pushed q.1.pushed) (one_step (steps.If c p.0 q.0), record q.1 { scope = s.scope }) BranchRates Q
+      last_test above (spot ∷ []) (nat_eq p.1.popped q.1.popped && nat_eq p.1.pushed q.1.pushed)
+      (one_step (steps.If c p.0 q.0), record q.1 { scope = s.scope }) BranchRates Q
       (λ t.
       let same = same_numbers p.1.popped q.1.popped p.1.pushed q.1.pushed t in (
         (free above spot (λ h. h) (λ h. h) (λ d c h. h) (λ i r h. h) (λ h. h) (λ h. h (g same.0, g' same.1)) (λ h. h) (λ h. h), tt),
@@ -295,7 +312,9 @@ module _ (above : List Declared) (e : ℕ) where
   -- TURNS
 
   abbrev pub IsRead : (Values → List Word) → (At → Read) → Type 0
-  IsRead block f = (before : List Word) (s : At) (turns : Values) → Stands before s turns → Meets above (each_word e before (block turns)) (f s) (Within before (block turns) s turns)
+  IsRead block f =
+      (before : List Word) (s : At) (turns : Values) → Stands before s turns → Meets above (each_word e before (block turns)) (f s)
+      (Within before (block turns) s turns)
 
   turns_met : (block : Values → List Word) (f : At → Read) → IsRead block f → ((inner : Values) → IsEven (block inner)) → (n : Name) (vs : List ℕ)
       → (before : List Word) (s : At) (turns : Values) → find s.scope n ≡ None → Stands before s turns
@@ -314,7 +333,8 @@ module _ (above : List Declared) (e : ℕ) where
       let b4 = b3 ++ Exits n ∷ [] in
       let Q = Went before (turning n block (v ∷ vs) turns) s turns in
       begins_met before (Enters n ∷ (bw ++ Exits n ∷ rest)) s turns
-      (λ t. on_ok (f (record t { scope = (n, Turn v) ∷ s.scope })) (λ a. on_ok (unrolled f n vs (record a.1 { scope = s.scope })) (λ b. Ok (joined a.0 b.0, b.1)))) Q h
+      (λ t. on_ok (f (record t { scope = (n, Turn v) ∷ s.scope })) (λ a. on_ok (unrolled f n vs (record a.1 { scope = s.scope }))
+      (λ b. Ok (joined a.0 b.0, b.1)))) Q h
       (λ h1. beyond above e b1 (Enters n ∷ []) (bw ++ Exits n ∷ rest) _ Q (enters_free b1 n, tt)
       (next above e b2 bw (Exits n ∷ rest) (f i) (λ a. on_ok (unrolled f n vs (record a.1 { scope = s.scope })) (λ b. Ok (joined a.0 b.0, b.1)))
       (Within b2 bw i inner) Q (reads b2 i inner (with_turn b1 o turns n v new h1))
@@ -323,10 +343,12 @@ module _ (above : List Declared) (e : ℕ) where
       let ws = Enters n ∷ (bw ++ Exits n ∷ []) in
       let g : b1 ++ ws ≡ b4 = sym (append_assoc b2 bw (Exits n ∷ []) ∙ regroup b1 (Enters n) (bw ++ Exits n ∷ [])) in
       let c : Counted b4 t.slots t.size t.popped t.pushed =
-      counted_on b3 (Exits n ∷ []) t.slots t.size t.popped t.pushed t.slots t.size t.popped t.pushed w.stands.counts (omega arith) (omega arith) (omega arith) (omega arith) in
+      counted_on b3 (Exits n ∷ []) t.slots t.size t.popped t.pushed t.slots t.size t.popped t.pushed w.stands.counts (omega arith) (omega arith) (omega arith)
+      (omega arith) in
       let at : Stands b4 t turns =
       regrouped (b1 ++ ws) b4 t turns g
-      (left_behind b1 ws o turns t.slots t.size t.popped t.pushed h1 (even_turn n bw (even inner)) (subst (λ b. Counted b t.slots t.size t.popped t.pushed) (sym g) c)) in
+      (left_behind b1 ws o turns t.slots t.size t.popped t.pushed h1 (even_turn n bw (even inner))
+      (subst (λ b. Counted b t.slots t.size t.popped t.pushed) (sym g) c)) in
       let wp = w.popped in let wq = w.pushed in
       beyond above e b3 (Exits n ∷ []) rest _ Q (exits_free b3 n, tt)
       (finish above (each_word e b4 rest) (unrolled f n vs t) (λ b. (joined a.0 b.0, b.1)) (Went b4 rest t turns) Q
@@ -334,7 +356,8 @@ module _ (above : List Declared) (e : ℕ) where
       (λ b z.
       let zp = z.popped in let zq = z.pushed in
       went_by before (b4 ++ rest) (turning n block (v ∷ vs) turns) s turns (joined a.0 b.0, b.1)
-      (regroup b3 (Exits n) rest ∙ append_assoc b2 bw (Exits n ∷ rest) ∙ regroup b1 (Enters n) (bw ++ Exits n ∷ rest) ∙ regroup before Begins (Enters n ∷ (bw ++ Exits n ∷ rest)))
+      (regroup b3 (Exits n) rest ∙ append_assoc b2 bw (Exits n ∷ rest) ∙ regroup b1 (Enters n) (bw ++ Exits n ∷ rest) ∙ regroup before Begins
+      (Enters n ∷ (bw ++ Exits n ∷ rest)))
       z.stands (omega (arith, wp, zp)) (omega (arith, wq, zq)))))))
     where
       even_turn : (n : Name) (bw : List Word) → IsEven bw → IsEven (Enters n ∷ (bw ++ Exits n ∷ []))
@@ -364,25 +387,30 @@ module _ (above : List Declared) (e : ℕ) where
       counted_on (before ++ ws) (map Leaves ns) t.slots t.size t.popped t.pushed t.slots t.size t.popped t.pushed w.stands.counts
       (omega (arith, z0)) (omega (arith, z1)) (omega (arith, z2, z3)) (omega (arith, z4, z5)) in
       record {
-        stands = left_behind before (enclosed b ws) s turns t.slots t.size t.popped t.pushed h (even_block b turns) (subst (λ x. Counted x t.slots t.size t.popped t.pushed) g c);
+        stands = left_behind before (enclosed b ws) s turns t.slots t.size t.popped t.pushed h (even_block b turns)
+            (subst (λ x. Counted x t.slots t.size t.popped t.pushed) g c);
         popped = w.popped;
         pushed = w.pushed;
       })
 
-  then_met : (xs ys : List Word) (r : Read) (g : At → Read) (before : List Word) (s : At) (turns : Values) → Meets above (each_word e before xs) r (Went before xs s turns)
+  then_met : (xs ys : List Word) (r : Read) (g : At → Read) (before : List Word) (s : At) (turns : Values)
+      → Meets above (each_word e before xs) r (Went before xs s turns)
       → ((b : List Word) (t : At) → Stands b t turns → Meets above (each_word e b ys) (g t) (Went b ys t turns))
       → Meets above (each_word e before (xs ++ ys)) (on_ok r (λ p. on_ok (g p.1) (λ q. Ok (joined p.0 q.0, q.1)))) (Went before (xs ++ ys) s turns)
   then_met xs ys r g before s turns m k =
       next above e before xs ys r (λ p. on_ok (g p.1) (λ q. Ok (joined p.0 q.0, q.1))) (Went before xs s turns) (Went before (xs ++ ys) s turns) m
-      (λ p w. finish above (each_word e (before ++ xs) ys) (g p.1) (λ q. (joined p.0 q.0, q.1)) (Went (before ++ xs) ys p.1 turns) (Went before (xs ++ ys) s turns)
+      (λ p w. finish above (each_word e (before ++ xs) ys) (g p.1) (λ q. (joined p.0 q.0, q.1)) (Went (before ++ xs) ys p.1 turns)
+      (Went before (xs ++ ys) s turns)
       (k (before ++ xs) p.1 w.stands)
       (λ q z.
       let wp = w.popped in let wq = w.pushed in let zp = z.popped in let zq = z.pushed in
-      went_by before ((before ++ xs) ++ ys) (xs ++ ys) s turns (joined p.0 q.0, q.1) (append_assoc before xs ys) z.stands (omega (arith, wp, zp)) (omega (arith, wq, zq))))
+      went_by before ((before ++ xs) ++ ys) (xs ++ ys) s turns (joined p.0 q.0, q.1) (append_assoc before xs ys) z.stands (omega (arith, wp, zp))
+      (omega (arith, wq, zq))))
 
   if_met : (t : Spoken) (a : Block) (b : Optional) (before : List Word) (s : At) (turns : Values) → e ≤ 65536 → Stands before s turns
       → ((x : List Word) (u : At) → Stands x u turns → Meets above (each_word e x (all_read a turns)) (steps_of e a u) (Went x (all_read a turns) u turns))
-      → ((x : List Word) (u : At) → Stands x u turns → Meets above (each_word e x (optional_read b turns)) (optional_of e b u) (Within x (optional_read b turns) u turns))
+      → ((x : List Word) (u : At) → Stands x u turns → Meets above (each_word e x (optional_read b turns)) (optional_of e b u)
+      (Within x (optional_read b turns) u turns))
       → Meets above (each_word e before (read_of (If t a b) turns)) (step_of e (If t a b) s) (Went before (read_of (If t a b) turns) s turns)
   if_met t a b before s turns small h ra rb =
       let sp = spelled t turns in
@@ -405,7 +433,8 @@ module _ (above : List Declared) (e : ℕ) where
       (λ h1. next above e b1 sp (arms A B) (term_of e s.scope t s.popped)
       (λ c. on_ok (steps_of e a s1) (λ p. on_ok (optional_of e b (record s1 { slots = p.1.slots; size = p.1.size })) (after_arms o c p)))
       (λ u. Stands b2 s1 turns) Q (spelled_met above e t b1 o turns small h1)
-      (λ c f. next above e b2 A (O ∷ (B ++ J ∷ [])) (steps_of e a s1) (λ p. on_ok (optional_of e b (record s1 { slots = p.1.slots; size = p.1.size })) (after_arms o c p))
+      (λ c f. next above e b2 A (O ∷ (B ++ J ∷ [])) (steps_of e a s1) (λ p. on_ok (optional_of e b (record s1 { slots = p.1.slots; size = p.1.size }))
+      (after_arms o c p))
       (Within b2 A s1 turns) Q (block_by a b2 s1 turns f (ra b2 s1 f))
       (λ p w.
       let s2 = record s1 { slots = p.1.slots; size = p.1.size } in
@@ -419,15 +448,19 @@ module _ (above : List Declared) (e : ℕ) where
       let qb = arm_pushes b4 B s2 (record q.1 { scope = s2.scope }) turns at z.stands in
       let wp = w.popped in let wq = w.pushed in let zp = z.popped in let zq = z.pushed in
       joins_met b5 o turns c p q (popped_in A) (pushed_in A) (popped_in B) (pushed_in B) Q
-      (λ x. omega (arith, pa, pb, wp, zp, x)) (λ x. omega (arith, pa, pb, wp, zp, x)) (λ x. omega (arith, qa, qb, wq, zq, x)) (λ x. omega (arith, qa, qb, wq, zq, x))
+      (λ x. omega (arith, pa, pb, wp, zp, x)) (λ x. omega (arith, pa, pb, wp, zp, x)) (λ x. omega (arith, qa, qb, wq, zq, x))
+      (λ x. omega (arith, qa, qb, wq, zq, x))
       (went_by before (b5 ++ J ∷ []) (read_of (If t a b) turns) s turns (one_step (steps.If c p.0 q.0), record q.1 { scope = o.scope })
-      (append_assoc b4 B (J ∷ []) ∙ regroup b3 O (B ++ J ∷ []) ∙ append_assoc b2 A (O ∷ (B ++ J ∷ [])) ∙ append_assoc b1 sp (arms A B) ∙ regroup before Begins (sp ++ arms A B))
+      (append_assoc b4 B (J ∷ []) ∙ regroup b3 O (B ++ J ∷ []) ∙ append_assoc b2 A (O ∷ (B ++ J ∷ [])) ∙ append_assoc b1 sp (arms A B) ∙ regroup before Begins
+      (sp ++ arms A B))
       (unmoved b5 J (record q.1 { scope = s.scope }) turns z.stands (λ n. (refl, refl)) refl refl refl refl refl refl)
       (omega (arith, zp)) (omega (arith, zq))))))))
 
   for_met : (n : Name) (low : Spoken) (upto : Bool) (high : Spoken) (b : Block) (before : List Word) (s : At) (turns : Values) → Stands before s turns
-      → ((x : List Word) (u : At) (inner : Values) → Stands x u inner → Meets above (each_word e x (all_read b inner)) (steps_of e b u) (Went x (all_read b inner) u inner))
-      → Meets above (each_word e before (read_of (For n low upto high b) turns)) (step_of e (For n low upto high b) s) (Went before (read_of (For n low upto high b) turns) s turns)
+      → ((x : List Word) (u : At) (inner : Values) → Stands x u inner → Meets above (each_word e x (all_read b inner)) (steps_of e b u)
+      (Went x (all_read b inner) u inner))
+      → Meets above (each_word e before (read_of (For n low upto high b) turns)) (step_of e (For n low upto high b) s)
+      (Went before (read_of (For n low upto high b) turns) s turns)
   for_met n low upto high b before s turns h rb =
       let fl = fixed low in
       let fh = fixed high in
@@ -443,7 +476,8 @@ module _ (above : List Declared) (e : ℕ) where
       let Q = Went before (read_of (For n low upto high b) turns) s turns in
       let to = λ (l h : ℕ). unrolled (steps_of e b) n (numbers l (h + (if upto then 1 else 0) - l)) s in
       let second = λ (l : ℕ). on_ok (constant s.scope high) (λ y. on_ok (bound_of y) (to l)) in
-      loops_met before (fl ++ Bounds lv ∷ (fh ++ Bounds hv ∷ T)) s turns n (find s.scope n) (on_ok (constant s.scope low) (λ x. on_ok (bound_of x) second)) Q refl h
+      loops_met before (fl ++ Bounds lv ∷ (fh ++ Bounds hv ∷ T)) s turns n (find s.scope n) (on_ok (constant s.scope low) (λ x. on_ok (bound_of x) second)) Q
+      refl h
       (λ new h1. next above e b1 fl (Bounds lv ∷ (fh ++ Bounds hv ∷ T)) (constant s.scope low) (λ x. on_ok (bound_of x) second) (Fixed above e b1 low s turns) Q
       (fixed_met above e low b1 s turns h1)
       (λ x f. subst (λ z. Meets above (each_word e b2 (Bounds lv ∷ (fh ++ Bounds hv ∷ T))) (on_ok (bound_of z) second) Q) (f.value [] 0)
@@ -453,12 +487,15 @@ module _ (above : List Declared) (e : ℕ) where
       (λ y g. subst (λ z. Meets above (each_word e b4 (Bounds hv ∷ T)) (on_ok (bound_of z) (to l)) Q) (g.value [] 0)
       (bounds_at b4 T s turns hv (to l) Q g.stands
       (λ k is' h3.
-      let same : turns_between lv upto hv ≡ numbers l (k + (if upto then 1 else 0) - l) = ap (λ z. turns_between z upto hv) is ∙ ap (λ z. turns_between (pos l) upto z) is' in
+      let same : turns_between lv upto hv ≡ numbers l (k + (if upto then 1 else 0) - l) = ap (λ z. turns_between z upto hv) is ∙ ap
+      (λ z. turns_between (pos l) upto z) is' in
       subst (λ vs. Meets above (each_word e b5 T) (unrolled (steps_of e b) n vs s) Q) same
       (weaken above (each_word e b5 T) (unrolled (steps_of e b) n (turns_between lv upto hv) s) (Went b5 T s turns) Q
-      (turns_met block (steps_of e b) (λ x u inner st. block_by b x u inner st (rb x u inner st)) (λ inner. even_block b inner) n (turns_between lv upto hv) b5 s turns new h3)
+      (turns_met block (steps_of e b) (λ x u inner st. block_by b x u inner st (rb x u inner st)) (λ inner. even_block b inner) n (turns_between lv upto hv) b5
+      s turns new h3)
       (λ y w. went_by before (b5 ++ T) (read_of (For n low upto high b) turns) s turns y
-      (regroup b4 (Bounds hv) T ∙ append_assoc b3 fh (Bounds hv ∷ T) ∙ regroup b2 (Bounds lv) (fh ++ Bounds hv ∷ T) ∙ append_assoc b1 fl (Bounds lv ∷ (fh ++ Bounds hv ∷ T))
+      (regroup b4 (Bounds hv) T ∙ append_assoc b3 fh (Bounds hv ∷ T) ∙ regroup b2 (Bounds lv) (fh ++ Bounds hv ∷ T) ∙ append_assoc b1 fl
+      (Bounds lv ∷ (fh ++ Bounds hv ∷ T))
       ∙ regroup before (Loops n) (fl ++ Bounds lv ∷ (fh ++ Bounds hv ∷ T)))
       w.stands w.popped w.pushed)))))))))
 

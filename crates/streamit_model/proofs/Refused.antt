@@ -133,7 +133,8 @@ right_map : (k : ℕ) (above : List Declared) (ss : List Spot) → AllFree above
 right_map k above [] h = tt
 right_map k above (s ∷ ss) h = (h.0, right_map k above ss h.1)
 
-first_map : (k : ℕ) (above : List Declared) (ss : List Spot) (f : Fault) → FirstIn above ss f → FirstPlace (map (place k above) ss) (record { unit = k; fault = f })
+first_map : (k : ℕ) (above : List Declared) (ss : List Spot) (f : Fault) → FirstIn above ss f
+    → FirstPlace (map (place k above) ss) (record { unit = k; fault = f })
 first_map k above [] f h = absurd h
 first_map k above (s ∷ ss) f (inl h) = inl (h, refl)
 first_map k above (s ∷ ss) f (inr h) = inr (h.0, first_map k above ss f h.1)
@@ -147,7 +148,8 @@ fine x = Ok x
 abbrev ends : ℕ → Streamed → Result Streamed Refusal
 ends n known = in_unit n (few_operators known) (λ u. Ok known)
 
-finishes : (k n : ℕ) (above : List Declared) (known : Streamed) → n ≡ k → LastIs known (last_operators above) → Told (place k above Finishes ∷ []) (ends n known)
+finishes : (k n : ℕ) (above : List Declared) (known : Streamed) → n ≡ k → LastIs known (last_operators above)
+    → Told (place k above Finishes ∷ []) (ends n known)
 finishes k n above [] same h =
     (free above Finishes (λ h. h) (λ h. h) (λ d c h. h) (λ i r h. h) (λ h. h) (λ h. h) (λ x. omega (arith, h, x)) (λ h. h), tt)
 finishes k n above (e ∷ known) same h = by_test (nat_le (ops_in e.1) 256)
@@ -169,7 +171,8 @@ unit_told : (k n : ℕ) (above : List Declared) (known : Streamed) (u : Declared
     → Told (map (place (suc k) above) (unit_spots u) ++ places_behind (suc k) (u ∷ above) us)
     (on_fine (in_unit (suc k) r (λ s. all_streams (suc (suc k)) ((u.name, s) ∷ known) us)) (ends n))
 unit_told k n above known u us (Ok s) m go =
-    behind (map (place (suc k) above) (unit_spots u)) (places_behind (suc k) (u ∷ above) us) (on_fine (all_streams (suc (suc k)) ((u.name, s) ∷ known) us) (ends n))
+    behind (map (place (suc k) above) (unit_spots u)) (places_behind (suc k) (u ∷ above) us)
+    (on_fine (all_streams (suc (suc k)) ((u.name, s) ∷ known) us) (ends n))
     (right_map (suc k) above (unit_spots u) m.0) (go s m.1)
 unit_told k n above known u us (Err f) m go =
     first_front (map (place (suc k) above) (unit_spots u)) (places_behind (suc k) (u ∷ above) us) (record { unit = suc k; fault = f })
@@ -195,7 +198,8 @@ first_right (p ∷ ps) r (inr h) a = first_right ps r h.1 a.1
 same_first : (ps : List Place) (q r : Refusal) → FirstPlace ps q → FirstPlace ps r → q ≡ r
 same_first [] q r h g = absurd h
 same_first (p ∷ ps) q r (inl h) (inl g) =
-    ap (λ x. record { unit = x; fault = q.fault }) (h.1 ∙ sym g.1) ∙ ap (λ x. record { unit = r.unit; fault = x }) (same_fault p.above p.spot q.fault r.fault h.0 g.0)
+    ap (λ x. record { unit = x; fault = q.fault }) (h.1 ∙ sym g.1) ∙ ap (λ x. record { unit = r.unit; fault = x })
+    (same_fault p.above p.spot q.fault r.fault h.0 g.0)
 same_first (p ∷ ps) q r (inl h) (inr g) = absurd (g.0 q.fault h.0.has)
 same_first (p ∷ ps) q r (inr h) (inl g) = absurd (h.0 r.fault g.0.has)
 same_first (p ∷ ps) q r (inr h) (inr g) = same_first ps q r h.1 g.1
@@ -230,7 +234,8 @@ refusals_are p unit f =
       (λ h.
           let q = parted (places_of p) r (subst (Told (places_of p)) h (judged_told p)) in
           record { before = q.before; place = q.at; behind = q.rest; parts = q.parts; right = q.right; faulty = q.faulty; there = q.there }),
-      (λ h. refused_as (places_of p) (judged p) r (judged_told p) (subst (λ ps. FirstPlace ps r) (sym h.parts) (first_back h.before (h.place ∷ h.behind) r h.right (inl (h.faulty, h.there))))),
+      (λ h. refused_as (places_of p) (judged p) r (judged_told p) (subst (λ ps. FirstPlace ps r) (sym h.parts)
+          (first_back h.before (h.place ∷ h.behind) r h.right (inl (h.faulty, h.there))))),
     )
 
 pub accepted_are : AcceptedAre

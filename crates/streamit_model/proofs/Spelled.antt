@@ -11,7 +11,8 @@ use Rattle.river_plan.specs.Forms.{Name}
 use Rattle.text_forms.specs.Tree.{Spoken}
 use Rattle.text_forms.specs.Tree as tree
 use Rattle.streamit_model.specs.Source.{Values, said, pops}
-use Rattle.streamit_model.specs.Elaborate.{UnknownName, NotConstant, PeekRange, Limit, on_ok, Known, Var, Turn, find, constant_of, constant, named, peeked, term_of, At}
+use Rattle.streamit_model.specs.Elaborate.{UnknownName, NotConstant, PeekRange, Limit, on_ok, Known, Var, Turn, find, constant_of, constant, named, peeked}
+use Rattle.streamit_model.specs.Elaborate.{term_of, At}
 use Rattle.streamit_model.specs.Elaborate.{first_term, first_popped}
 use Rattle.streamit_model.specs.Program.{Declared}
 use Rattle.streamit_model.specs.Words.{Word, Uses, Fixes, Varies, Foreign, Pops, Peeks, over, knows, leaves, enters, exits, IsLocal, IsTurn, IsKnown, popped_in}
@@ -114,10 +115,12 @@ module _ (above : List Declared) (e : ℕ) where
   fixed_met (tree.Peek t) before s turns h = varies before
   fixed_met tree.Pop before s turns h = varies before
   fixed_met (tree.Neg t) before s turns h =
-      finish above (each_word e before (fixed t)) (constant s.scope t) negate (Fixed before t s turns) (Fixed before (tree.Neg t) s turns) (fixed_met t before s turns h)
+      finish above (each_word e before (fixed t)) (constant s.scope t) negate (Fixed before t s turns) (Fixed before (tree.Neg t) s turns)
+      (fixed_met t before s turns h)
       (λ z f. record { stands = f.stands; value = λ xs k. ap negate (f.value xs k); none = f.none })
   fixed_met (tree.Not t) before s turns h =
-      finish above (each_word e before (fixed t)) (constant s.scope t) (λ a. truth (int_eq a (pos 0))) (Fixed before t s turns) (Fixed before (tree.Not t) s turns)
+      finish above (each_word e before (fixed t)) (constant s.scope t) (λ a. truth (int_eq a (pos 0))) (Fixed before t s turns)
+      (Fixed before (tree.Not t) s turns)
       (fixed_met t before s turns h)
       (λ z f. record { stands = f.stands; value = λ xs k. ap (λ a. truth (int_eq a (pos 0))) (f.value xs k); none = f.none })
   fixed_met (tree.Bin o l r) before s turns h =
@@ -152,7 +155,8 @@ module _ (above : List Declared) (e : ℕ) where
       ))
       (λ f.
       let le = lt_fails (k + i) e f in
-      inl (first_peek above s (pos i) e ((λ h. let n = natural i h.0 h.1 in let m = h.2 in omega (arith, le, is, n, m)), refl, refl) (λ h. h) (λ h. h) (λ h. h) (λ h. h)))
+      inl (first_peek above s (pos i) e ((λ h. let n = natural i h.0 h.1 in let m = h.2 in omega (arith, le, is, n, m)), refl, refl) (λ h. h) (λ h. h) (λ h. h)
+      (λ h. h)))
 
   peeks : (before : List Word) (i z : ℤ) (k : ℕ) (Q : Term → Type 0) → i ≡ z → e ≤ 65536 → popped_in before ≡ k → ((u : Term) → Q u)
       → Meets above (Reads e before (Peeks i) ∷ []) (peeked e k z) Q
@@ -179,11 +183,15 @@ module _ (above : List Declared) (e : ℕ) where
 
   pub spelled_met : (t : Spoken) (before : List Word) (s : At) (turns : Values) → e ≤ 65536 → Stands before s turns
       → Meets above (each_word e before (spelled t turns)) (term_of e s.scope t s.popped) (λ u. After before (spelled t turns) s turns (pops t))
-  spelled_met (tree.Number v) before s turns small h =
-      (tt, regrouped before (before ++ []) (record s { popped = s.popped + 0 }) turns (sym (append-nil before)) (repopped before s turns s.popped (s.popped + 0) (omega arith) h))
+  spelled_met (tree.Number v) before s turns small h = (
+    tt,
+    regrouped before (before ++ []) (record s { popped = s.popped + 0 }) turns (sym (append-nil before))
+        (repopped before s turns s.popped (s.popped + 0) (omega arith) h),
+  )
   spelled_met (tree.Name n) before s turns small h =
       uses before n (find s.scope n) (turns n) (λ u. After before (Uses n ∷ []) s turns 0) (λ f. none_known before s.scope turns n f (h.names n)) (h.names n)
-      (λ u. repopped (before ++ Uses n ∷ []) s turns s.popped (s.popped + 0) (omega arith) (unmoved before (Uses n) s turns h (λ m. (refl, refl)) refl refl refl refl refl refl))
+      (λ u. repopped (before ++ Uses n ∷ []) s turns s.popped (s.popped + 0) (omega arith)
+      (unmoved before (Uses n) s turns h (λ m. (refl, refl)) refl refl refl refl refl refl))
   spelled_met (tree.Input p) before s turns small h = foreign before
   spelled_met (tree.Slot p) before s turns small h = foreign before
   spelled_met (tree.Peek t) before s turns small h =
@@ -193,13 +201,15 @@ module _ (above : List Declared) (e : ℕ) where
       (f.value [] 0) small (stands_popped (before ++ fixed t) s turns f.stands)
       (λ u.
       let n = f.none in
-      regrouped ((before ++ fixed t) ++ Peeks (fixed_value t turns) ∷ []) (before ++ (fixed t ++ Peeks (fixed_value t turns) ∷ [])) (record s { popped = s.popped + pops t }) turns
+      regrouped ((before ++ fixed t) ++ Peeks (fixed_value t turns) ∷ []) (before ++ (fixed t ++ Peeks (fixed_value t turns) ∷ []))
+      (record s { popped = s.popped + pops t }) turns
       (append_assoc before (fixed t) (Peeks (fixed_value t turns) ∷ []))
       (repopped ((before ++ fixed t) ++ Peeks (fixed_value t turns) ∷ []) s turns s.popped (s.popped + pops t) (omega (arith, n))
       (unmoved (before ++ fixed t) (Peeks (fixed_value t turns)) s turns f.stands (λ m. (refl, refl)) refl refl refl refl refl refl))))
   spelled_met tree.Pop before s turns small h =
       pops_here before s.popped (λ u. After before (Pops ∷ []) s turns 1) (stands_popped before s turns h)
-      (λ u. moved before (Pops ∷ []) s turns s.slots (s.popped + 1) s.pushed s.size h (λ m. (refl, refl)) (omega arith) (omega arith) (omega arith) (omega arith))
+      (λ u. moved before (Pops ∷ []) s turns s.slots (s.popped + 1) s.pushed s.size h (λ m. (refl, refl)) (omega arith) (omega arith) (omega arith)
+      (omega arith))
   spelled_met (tree.Neg t) before s turns small h =
       finish above (each_word e before (spelled t turns)) (term_of e s.scope t s.popped) term.Neg (λ u. After before (spelled t turns) s turns (pops t))
       (λ u. After before (spelled t turns) s turns (pops t)) (spelled_met t before s turns small h) (λ u a. a)
@@ -211,7 +221,8 @@ module _ (above : List Declared) (e : ℕ) where
       let mid = record s { popped = k } in
       let ls = spelled l turns in
       let rs = spelled r turns in
-      next above e before ls rs (term_of e s.scope l s.popped) (λ a. on_ok (term_of e s.scope r k) (λ b. Ok (term.Bin o a b))) (λ u. After before ls s turns (pops l))
+      next above e before ls rs (term_of e s.scope l s.popped) (λ a. on_ok (term_of e s.scope r k) (λ b. Ok (term.Bin o a b)))
+      (λ u. After before ls s turns (pops l))
       (λ u. After before (ls ++ rs) s turns (pops l + pops r)) (spelled_met l before s turns small h)
       (λ a f. finish above (each_word e (before ++ ls) rs) (term_of e s.scope r k) (term.Bin o a) (λ u. After (before ++ ls) rs mid turns (pops r))
       (λ u. After before (ls ++ rs) s turns (pops l + pops r)) (spelled_met r (before ++ ls) mid turns small f)
@@ -221,6 +232,9 @@ module _ (above : List Declared) (e : ℕ) where
   -- the first value of a local
   pub first_met : (t : Option Spoken) (before : List Word) (s : At) (turns : Values) → e ≤ 65536 → Stands before s turns
       → Meets above (each_word e before (spelled_first t turns)) (first_term e t s) (λ u. After before (spelled_first t turns) s turns (first_popped t))
-  first_met None before s turns small h =
-      (tt, regrouped before (before ++ []) (record s { popped = s.popped + 0 }) turns (sym (append-nil before)) (repopped before s turns s.popped (s.popped + 0) (omega arith) h))
+  first_met None before s turns small h = (
+    tt,
+    regrouped before (before ++ []) (record s { popped = s.popped + 0 }) turns (sym (append-nil before))
+        (repopped before s turns s.popped (s.popped + 0) (omega arith) h),
+  )
   first_met (Some t) before s turns small h = spelled_met t before s turns small h

@@ -105,17 +105,20 @@ pub even_one : (w : Word) → ((n : Name) → (knows n w ≡ leaves n w) × (ent
 even_one w h n = let a = (h n).0 in let b = (h n).1 in (omega (arith, a), omega (arith, b))
 
 -- a word that counts for nothing
-pub unmoved : (before : List Word) (w : Word) (s : At) (turns : Values) → Stands before s turns → ((n : Name) → (knows n w ≡ leaves n w) × (enters n w ≡ exits n w))
+pub unmoved : (before : List Word) (w : Word) (s : At) (turns : Values) → Stands before s turns
+    → ((n : Name) → (knows n w ≡ leaves n w) × (enters n w ≡ exits n w))
     → takes w ≡ 0 → begins w ≡ 0 → pops_one w ≡ 0 → pops_beside w ≡ 0 → pushes_one w ≡ 0 → pushes_beside w ≡ 0 → Stands (before ++ w ∷ []) s turns
 unmoved before w s turns h even a b c d e f =
-    moved before (w ∷ []) s turns s.slots s.popped s.pushed s.size h (even_one w even) (omega (arith, a)) (omega (arith, b)) (omega (arith, c, d)) (omega (arith, e, f))
+    moved before (w ∷ []) s turns s.slots s.popped s.pushed s.size h (even_one w even) (omega (arith, a)) (omega (arith, b)) (omega (arith, c, d))
+    (omega (arith, e, f))
 
 -- the same place, with the words before it in another grouping
 pub regrouped : (xs ys : List Word) (s : At) (turns : Values) → xs ≡ ys → Stands xs s turns → Stands ys s turns
 regrouped xs ys s turns e h = subst (λ b. Stands b s turns) e h
 
 -- the pops by another sum
-pub repopped : (before : List Word) (s : At) (turns : Values) (a b : ℕ) → a ≡ b → Stands before (record s { popped = a }) turns → Stands before (record s { popped = b }) turns
+pub repopped : (before : List Word) (s : At) (turns : Values) (a b : ℕ) → a ≡ b → Stands before (record s { popped = a }) turns
+    → Stands before (record s { popped = b }) turns
 repopped before s turns a b e h = subst (λ k. Stands before (record s { popped = k }) turns) e h
 
 -- NAMES THAT BEGIN
@@ -126,20 +129,24 @@ pub with_local : (before : List Word) (s : At) (turns : Values) (n : Name) → f
 with_local before s turns n new h =
     let ws = Knows n ∷ [] in
     record {
-      counts = counted_on before ws s.slots s.size s.popped s.pushed (s.slots + 1) s.size s.popped s.pushed h.counts (omega arith) (omega arith) (omega arith) (omega arith);
+      counts = counted_on before ws s.slots s.size s.popped s.pushed (s.slots + 1) s.size s.popped s.pushed h.counts (omega arith) (omega arith) (omega arith)
+          (omega arith);
       names = λ m.
           let k = over-append (knows m) before ws in let l = over-append (leaves m) before ws in
           let e = over-append (enters m) before ws in let x = over-append (exits m) before ws in ⊎_elim
           (λ c.
           let o = ap one_if c.1 in
           let was : NameIs None (over (knows m) before) (over (leaves m) before) (over (enters m) before) (over (exits m) before) (turns m) =
-          subst (λ f. NameIs f (over (knows m) before) (over (leaves m) before) (over (enters m) before) (over (exits m) before) (turns m)) (ap (find s.scope) (sym c.0) ∙ new) (h.names m) in
+          subst (λ f. NameIs f (over (knows m) before) (over (leaves m) before) (over (enters m) before) (over (exits m) before) (turns m))
+          (ap (find s.scope) (sym c.0) ∙ new) (h.names m) in
           let p = was.0 in let q = was.1 in
-          subst (λ f. NameIs f (over (knows m) (before ++ ws)) (over (leaves m) (before ++ ws)) (over (enters m) (before ++ ws)) (over (exits m) (before ++ ws)) (turns m)) (sym (found_here n m (Var s.slots) s.scope c.1))
+          subst (λ f. NameIs f (over (knows m) (before ++ ws)) (over (leaves m) (before ++ ws)) (over (enters m) (before ++ ws))
+          (over (exits m) (before ++ ws)) (turns m)) (sym (found_here n m (Var s.slots) s.scope c.1))
           (omega (arith, o, k, l, p), omega (arith, e, x, q)))
           (λ c.
           let o = ap one_if c.1 in
-          subst (λ f. NameIs f (over (knows m) (before ++ ws)) (over (leaves m) (before ++ ws)) (over (enters m) (before ++ ws)) (over (exits m) (before ++ ws)) (turns m)) (sym (found_other n m (Var s.slots) s.scope c.1))
+          subst (λ f. NameIs f (over (knows m) (before ++ ws)) (over (leaves m) (before ++ ws)) (over (enters m) (before ++ ws))
+          (over (exits m) (before ++ ws)) (turns m)) (sym (found_other n m (Var s.slots) s.scope c.1))
           (name_moves (find s.scope m) _ _ _ _ _ _ _ _ (turns m) (omega (arith, o, k, l)) (omega (arith, e, x)) (h.names m)))
           (cases_name n m);
     }
@@ -150,21 +157,26 @@ pub with_turn : (before : List Word) (s : At) (turns : Values) (n : Name) (v : �
 with_turn before s turns n v new h =
     let ws = Enters n ∷ [] in
     record {
-      counts = counted_on before ws s.slots s.size s.popped s.pushed s.slots s.size s.popped s.pushed h.counts (omega arith) (omega arith) (omega arith) (omega arith);
+      counts = counted_on before ws s.slots s.size s.popped s.pushed s.slots s.size s.popped s.pushed h.counts (omega arith) (omega arith) (omega arith)
+          (omega arith);
       names = λ m.
           let k = over-append (knows m) before ws in let l = over-append (leaves m) before ws in
           let e = over-append (enters m) before ws in let x = over-append (exits m) before ws in ⊎_elim
           (λ c.
           let o = ap one_if c.1 in
           let was : NameIs None (over (knows m) before) (over (leaves m) before) (over (enters m) before) (over (exits m) before) (turns m) =
-          subst (λ f. NameIs f (over (knows m) before) (over (leaves m) before) (over (enters m) before) (over (exits m) before) (turns m)) (ap (find s.scope) (sym c.0) ∙ new) (h.names m) in
+          subst (λ f. NameIs f (over (knows m) before) (over (leaves m) before) (over (enters m) before) (over (exits m) before) (turns m))
+          (ap (find s.scope) (sym c.0) ∙ new) (h.names m) in
           let p = was.0 in let q = was.1 in
-          subst (λ f. NameIs f (over (knows m) (before ++ ws)) (over (leaves m) (before ++ ws)) (over (enters m) (before ++ ws)) (over (exits m) (before ++ ws)) (at_name n (pos v) turns m)) (sym (found_here n m (Turn v) s.scope c.1))
+          subst (λ f. NameIs f (over (knows m) (before ++ ws)) (over (leaves m) (before ++ ws)) (over (enters m) (before ++ ws))
+          (over (exits m) (before ++ ws)) (at_name n (pos v) turns m)) (sym (found_here n m (Turn v) s.scope c.1))
           (omega (arith, k, l, p), omega (arith, o, e, x, q), at_here n m (pos v) turns c.1))
           (λ c.
           let o = ap one_if c.1 in
-          subst (λ f. NameIs f (over (knows m) (before ++ ws)) (over (leaves m) (before ++ ws)) (over (enters m) (before ++ ws)) (over (exits m) (before ++ ws)) (at_name n (pos v) turns m)) (sym (found_other n m (Turn v) s.scope c.1))
-          (subst (λ z. NameIs (find s.scope m) (over (knows m) (before ++ ws)) (over (leaves m) (before ++ ws)) (over (enters m) (before ++ ws)) (over (exits m) (before ++ ws)) z) (sym (at_other n m (pos v) turns c.1))
+          subst (λ f. NameIs f (over (knows m) (before ++ ws)) (over (leaves m) (before ++ ws)) (over (enters m) (before ++ ws))
+          (over (exits m) (before ++ ws)) (at_name n (pos v) turns m)) (sym (found_other n m (Turn v) s.scope c.1))
+          (subst (λ z. NameIs (find s.scope m) (over (knows m) (before ++ ws)) (over (leaves m) (before ++ ws)) (over (enters m) (before ++ ws))
+          (over (exits m) (before ++ ws)) z) (sym (at_other n m (pos v) turns c.1))
           (name_moves (find s.scope m) _ _ _ _ _ _ _ _ (turns m) (omega (arith, k, l)) (omega (arith, o, e, x)) (h.names m))))
           (cases_name n m);
     }

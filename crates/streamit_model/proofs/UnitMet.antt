@@ -1,5 +1,6 @@
 -- Units are read spot by spot: the first spot that has a fault is told.
-use Rattle.std.proofs.Common.{◌≡◌, ℕ, suc, ◌+◌, ◌<◌, ◌≤◌, ◌⊎◌, inl, inr, Bool, true, false, List, [], ◌∷◌, ◌++◌, length, map, max, Option, Some, None, Result, Ok, refl, sym}
+use Rattle.std.proofs.Common.{◌≡◌, ℕ, suc, ◌+◌, ◌<◌, ◌≤◌, ◌⊎◌, inl, inr, Bool, true, false, List, [], ◌∷◌, ◌++◌, length, map, max, Option, Some, None, Result}
+use Rattle.std.proofs.Common.{Ok, refl, sym}
 use Rattle.std.proofs.Common.{ap, ◌∙◌, subst, arith, ⊎_elim, nat_lt, nat_le, nat_eq}
 use Rattle.std.specs.Prelude.{◌&&◌, if◌then◌else◌}
 use Rattle.std.specs.List.{list_all, AllByRecursion}
@@ -13,14 +14,17 @@ use Rattle.brooklet_model.specs.ByIndex.{cycle}
 use Rattle.streamit_model.specs.Stream.{RoundRobin, Stream, Filter, Pipeline, SplitJoin, Streams, Last, Then, nesting, deepest, IsRound}
 use Rattle.streamit_model.specs.Build.{ops_in, ops_of}
 use Rattle.streamit_model.specs.Elaborate.{Fault, Rates, Limit, Weights, on_ok, demand, Var, find, At, steps_of, optional_of}
-use Rattle.streamit_model.specs.FilterSource.{FilterTree, push_of, pop_of, peek_of, nought, read_field, read_fields, nothing_read, form_of, rates_of, kept_rates, elaborated}
+use Rattle.streamit_model.specs.FilterSource.{FilterTree, push_of, pop_of, peek_of, nought, read_field, read_fields, nothing_read, form_of, rates_of}
+use Rattle.streamit_model.specs.FilterSource.{kept_rates, elaborated}
 use Rattle.streamit_model.specs.Program.{Dealing, Copies, Turns, Body, AFilter, APipeline, ASplitJoin, Declared, weights_for, look, branch_count}
 use Rattle.streamit_model.specs.Judged.{Streamed, found, added, streams_of, any, branches, round_of, splitter_of, stream_of, not_there, unit_of}
 use Rattle.streamit_model.specs.Words.{Word, Declares, Knows, pops_one, pushes_one, pops_beside, pushes_beside, popped_in, pushed_in}
 use Rattle.streamit_model.specs.Text.{all_read, optional_read}
-use Rattle.streamit_model.specs.Places.{Names, Rated, Counts, Branch, Added, Weighs, each_word, fields_read, filter_spots, branch_spots, split_spots, body_spots}
+use Rattle.streamit_model.specs.Places.{Names, Rated, Counts, Branch, Added, Weighs, each_word, fields_read, filter_spots, branch_spots, split_spots}
+use Rattle.streamit_model.specs.Places.{body_spots}
 use Rattle.streamit_model.specs.Places.{unit_spots, most, in_all, body_depth, depth_above, body_operators, operators_above, last_operators}
-use Rattle.streamit_model.proofs.Meeting.{Meets, free, first_twice, first_unknown, first_limit, first_weights, first_rates, behind, chain, finish, test, last_test, weaken}
+use Rattle.streamit_model.proofs.Meeting.{Meets, free, first_twice, first_unknown, first_limit, first_weights, first_rates, behind, chain, finish, test}
+use Rattle.streamit_model.proofs.Meeting.{last_test, weaken}
 use Rattle.streamit_model.proofs.Meeting.{next}
 use Rattle.streamit_model.proofs.Standing.{over-append, Stands, with_local, regrouped}
 use Rattle.streamit_model.proofs.Spelled.{lt_holds, lt_fails, le_holds, le_fails}
@@ -53,17 +57,21 @@ module _ (above : List Declared) where
       (λ new g. ((knows_free above 0 (before ++ Declares n ∷ []) n, tt), (with_local (before ++ Declares n ∷ []) s nought n new g, refl, refl)))
 
   fields_met : (ns : List Name) (before : List Word) (s : At) → Stands before s nought
-      → Meets above (each_word 0 before (fields_read ns)) (read_fields ns s) (λ t. Stands (before ++ fields_read ns) t nought × (t.popped ≡ s.popped) × (t.pushed ≡ s.pushed))
+      → Meets above (each_word 0 before (fields_read ns)) (read_fields ns s)
+      (λ t. Stands (before ++ fields_read ns) t nought × (t.popped ≡ s.popped) × (t.pushed ≡ s.pushed))
   fields_met [] before s h = (tt, (regrouped before (before ++ []) s nought (sym (append-nil before)) h, refl, refl))
   fields_met (n ∷ ns) before s h =
       let b = (before ++ Declares n ∷ []) ++ Knows n ∷ [] in
-      let eq : b ++ fields_read ns ≡ before ++ fields_read (n ∷ ns) = regroup (before ++ Declares n ∷ []) (Knows n) (fields_read ns) ∙ regroup before (Declares n) (Knows n ∷ fields_read ns) in
+      let eq : b ++ fields_read ns ≡ before ++ fields_read (n ∷ ns) = regroup (before ++ Declares n ∷ []) (Knows n) (fields_read ns) ∙ regroup before
+      (Declares n) (Knows n ∷ fields_read ns) in
       next above 0 before (Declares n ∷ Knows n ∷ []) (fields_read ns) (read_field n s) (read_fields ns)
       (λ t. Stands b t nought × (t.popped ≡ s.popped) × (t.pushed ≡ s.pushed))
       (λ t. Stands (before ++ fields_read (n ∷ ns)) t nought × (t.popped ≡ s.popped) × (t.pushed ≡ s.pushed)) (field_met n before s h)
-      (λ t f. subst (λ x. Meets above (each_word 0 x (fields_read ns)) (read_fields ns t) (λ t. Stands (before ++ fields_read (n ∷ ns)) t nought × (t.popped ≡ s.popped) × (t.pushed ≡ s.pushed)))
+      (λ t f. subst (λ x. Meets above (each_word 0 x (fields_read ns)) (read_fields ns t)
+      (λ t. Stands (before ++ fields_read (n ∷ ns)) t nought × (t.popped ≡ s.popped) × (t.pushed ≡ s.pushed)))
       (regroup before (Declares n) (Knows n ∷ []))
-      (weaken above (each_word 0 b (fields_read ns)) (read_fields ns t) (λ u. Stands (b ++ fields_read ns) u nought × (u.popped ≡ t.popped) × (u.pushed ≡ t.pushed))
+      (weaken above (each_word 0 b (fields_read ns)) (read_fields ns t)
+      (λ u. Stands (b ++ fields_read ns) u nought × (u.popped ≡ t.popped) × (u.pushed ≡ t.pushed))
       (λ t. Stands (before ++ fields_read (n ∷ ns)) t nought × (t.popped ≡ s.popped) × (t.pushed ≡ s.pushed)) (fields_met ns b t f.0)
       (λ u g. (regrouped (b ++ fields_read ns) (before ++ fields_read (n ∷ ns)) u nought eq g.0, g.1 ∙ f.1, g.2 ∙ f.2))))
 
@@ -78,7 +86,9 @@ module _ (above : List Declared) where
       test above (spot ∷ []) (nat_le 1 pop) tt Limit (λ v. demand (nat_le pop peek) (Rates peek pop)) (λ u. peek ≤ 65536)
       (λ t2.
       let some = le_holds 1 pop t2 in
-      let low : (65536 < push) ⊎ (65536 < pop) ⊎ (65536 < peek) ⊎ (pop ≡ 0) → ⊥ = (λ h. ⊎_elim (λ x. omega (arith, a, x)) (λ h2. ⊎_elim (λ x. omega (arith, b, x)) (λ h3. ⊎_elim (λ x. omega (arith, c, x)) (λ x. omega (arith, some, x)) h3) h2) h) in
+      let low : (65536 < push) ⊎ (65536 < pop) ⊎ (65536 < peek) ⊎ (pop ≡ 0)
+      → ⊥ = (λ h. ⊎_elim (λ x. omega (arith, a, x)) (λ h2. ⊎_elim (λ x. omega (arith, b, x))
+      (λ h3. ⊎_elim (λ x. omega (arith, c, x)) (λ x. omega (arith, some, x)) h3) h2) h) in
       last_test above (spot ∷ []) (nat_le pop peek) tt (Rates peek pop) (λ u. peek ≤ 65536)
       (λ t3.
       let le = le_holds pop peek t3 in (
@@ -101,7 +111,8 @@ module _ (above : List Declared) where
         (free above spot (λ h. h) (λ h. h) (λ x y h. h.0 (omega (arith, e, same))) (λ i r h. h) (λ h. h) (λ h. h) (λ h. h) (λ h. h), tt),
         tt,
       ))
-      (λ f. inl (first_rates above spot d k ((λ h. eq_fails k d f (omega (arith, h, same))), refl, sym same) (λ h. h) (λ h. h) (λ h. h) (λ h. h) (λ i r h. h) (λ h. h)))
+      (λ f. inl (first_rates above spot d k ((λ h. eq_fails k d f (omega (arith, h, same))), refl, sym same) (λ h. h) (λ h. h) (λ h. h) (λ h. h) (λ i r h. h)
+      (λ h. h)))
 
   counts_met : (push pop : ℕ) (work : List Word) (s : At) → popped_in work ≡ s.popped → pushed_in work ≡ s.pushed
       → Meets above (Counts pop (popped_in work) ∷ Counts push (pushed_in work) ∷ []) (kept_rates push pop s) (λ u. Unit {0})
@@ -136,8 +147,10 @@ module _ (above : List Declared) where
       let work = all_read t.work nought in
       let push = push_of t in let pop = pop_of t in let peek = peek_of t in
       let ends = Counts pop (popped_in work) ∷ Counts push (pushed_in work) ∷ [] in
-      chain above (each_word 0 [] fields) (each_word 0 fields init ++ Rated push pop peek ∷ (each_word peek fields work ++ ends)) (read_fields t.fields nothing_read)
-      (λ s. on_ok (optional_of 0 t.init s) (λ i. on_ok (rates_of push pop peek) (λ u. on_ok (steps_of peek t.work s) (λ w. on_ok (kept_rates push pop w.1) (λ v. Ok (form_of t i w))))))
+      chain above (each_word 0 [] fields) (each_word 0 fields init ++ Rated push pop peek ∷ (each_word peek fields work ++ ends))
+      (read_fields t.fields nothing_read)
+      (λ s. on_ok (optional_of 0 t.init s) (λ i. on_ok (rates_of push pop peek)
+      (λ u. on_ok (steps_of peek t.work s) (λ w. on_ok (kept_rates push pop w.1) (λ v. Ok (form_of t i w))))))
       (λ s. Stands fields s nought × (s.popped ≡ 0) × (s.pushed ≡ 0)) (λ f. Unit {0}) (fields_met t.fields [] nothing_read nothing_stands)
       (λ s h. chain above (each_word 0 fields init) (Rated push pop peek ∷ (each_word peek fields work ++ ends)) (optional_of 0 t.init s)
       (λ i. on_ok (rates_of push pop peek) (λ u. on_ok (steps_of peek t.work s) (λ w. on_ok (kept_rates push pop w.1) (λ v. Ok (form_of t i w)))))
@@ -170,7 +183,8 @@ pub record KnowsAbove (above : List Declared) (known : Streamed) : Type 0 where
   pub last : LastIs known (last_operators above)
 
 -- one stream more
-pub one_more : (above : List Declared) (known : Streamed) (u : Declared) (s : Stream) → KnowsAbove above known → nesting s ≡ body_depth (depth_above above) u.body
+pub one_more : (above : List Declared) (known : Streamed) (u : Declared) (s : Stream) → KnowsAbove above known
+    → nesting s ≡ body_depth (depth_above above) u.body
     → ops_in s ≡ body_operators (operators_above above) u.body → KnowsAbove (u ∷ above) ((u.name, s) ∷ known)
 one_more above known u s k d o = record {
   last = o;
@@ -185,14 +199,16 @@ one_more above known u s k d o = record {
       (λ c.
       let q = ap one_if c.1 in
       subst (λ x. SaysOf (u ∷ above) x n) (sym (ap (λ b. if b then Some s else look known n) c.1))
-      (other (look known n) (count n (map (λ u. u.name) above)) (one_if (name_eq u.name n)) (depth_above above n) (depth_above (u ∷ above) n) (operators_above above n) (operators_above (u ∷ above) n) q
+      (other (look known n) (count n (map (λ u. u.name) above)) (one_if (name_eq u.name n)) (depth_above above n) (depth_above (u ∷ above) n)
+      (operators_above above n) (operators_above (u ∷ above) n) q
       (sym (ap (λ b. if b then body_depth (depth_above above) u.body else depth_above above n) c.1))
       (sym (ap (λ b. if b then body_operators (operators_above above) u.body else operators_above above n) c.1))
       (k.each n)))
       (cases_name u.name n);
 }
   where
-    other : (x : Option Stream) (times here depth depth' operators operators' : ℕ) → here ≡ 0 → depth ≡ depth' → operators ≡ operators' → IsSaid x times depth operators
+    other : (x : Option Stream) (times here depth depth' operators operators' : ℕ) → here ≡ 0 → depth ≡ depth' → operators ≡ operators'
+        → IsSaid x times depth operators
         → IsSaid x (here + times) depth' operators'
     other None times here depth depth' operators operators' z a b h = omega (arith, z, h)
     other (Some s) times here depth depth' operators operators' z a b h = let p = h.0 in (omega (arith, p), h.1 ∙ a, h.2 ∙ b)
@@ -230,7 +246,8 @@ module _ (above : List Declared) (known : Streamed) (k : KnowsAbove above known)
   branch_added : (i : ℕ) (n : Name) → Meets above (Branch i ∷ Added n ∷ []) (added branches known i n) (IsAs n)
   branch_added i n =
       let spot = Branch i in
-      test above (spot ∷ Added n ∷ []) (nat_lt i 64) tt Limit (λ u. on_ok (found (look known n)) (λ s. on_ok (demand (nat_lt (nesting s) 64) Limit) (λ v. Ok s))) (IsAs n)
+      test above (spot ∷ Added n ∷ []) (nat_lt i 64) tt Limit (λ u. on_ok (found (look known n))
+      (λ s. on_ok (demand (nat_lt (nesting s) 64) Limit) (λ v. Ok s))) (IsAs n)
       (λ t.
       let lt = lt_holds i 64 t in
       behind above (spot ∷ []) (Added n ∷ []) (on_ok (found (look known n)) (λ s. on_ok (demand (nat_lt (nesting s) 64) Limit) (λ v. Ok s))) (IsAs n)
@@ -249,15 +266,19 @@ module _ (above : List Declared) (known : Streamed) (k : KnowsAbove above known)
   line_met : (n : Name) (ms : List Name) (i : ℕ) → Meets above (map Added (n ∷ ms)) (streams_of any known i n ms) (AreAs n ms)
   line_met n [] i = finish above (Added n ∷ []) (added any known i n) Last (IsAs n) (AreAs n []) (any_added i n) (λ s h. h)
   line_met n (m ∷ ms) i =
-      chain above (Added n ∷ []) (map Added (m ∷ ms)) (added any known i n) (λ s. on_ok (streams_of any known (suc i) m ms) (λ ss. Ok (Then s ss))) (IsAs n) (AreAs n (m ∷ ms)) (any_added i n)
-      (λ s h. finish above (map Added (m ∷ ms)) (streams_of any known (suc i) m ms) (Then s) (AreAs m ms) (AreAs n (m ∷ ms)) (line_met m ms (suc i)) (λ ss g. both_as n m ms s ss h g))
+      chain above (Added n ∷ []) (map Added (m ∷ ms)) (added any known i n) (λ s. on_ok (streams_of any known (suc i) m ms) (λ ss. Ok (Then s ss))) (IsAs n)
+      (AreAs n (m ∷ ms)) (any_added i n)
+      (λ s h. finish above (map Added (m ∷ ms)) (streams_of any known (suc i) m ms) (Then s) (AreAs m ms) (AreAs n (m ∷ ms)) (line_met m ms (suc i))
+      (λ ss g. both_as n m ms s ss h g))
 
   branches_met : (n : Name) (ms : List Name) (i : ℕ) → Meets above (branch_spots i (n ∷ ms)) (streams_of branches known i n ms) (AreAs n ms)
   branches_met n [] i = finish above (Branch i ∷ Added n ∷ []) (added branches known i n) Last (IsAs n) (AreAs n []) (branch_added i n) (λ s h. h)
   branches_met n (m ∷ ms) i =
-      chain above (Branch i ∷ Added n ∷ []) (branch_spots (suc i) (m ∷ ms)) (added branches known i n) (λ s. on_ok (streams_of branches known (suc i) m ms) (λ ss. Ok (Then s ss)))
+      chain above (Branch i ∷ Added n ∷ []) (branch_spots (suc i) (m ∷ ms)) (added branches known i n)
+      (λ s. on_ok (streams_of branches known (suc i) m ms) (λ ss. Ok (Then s ss)))
       (IsAs n) (AreAs n (m ∷ ms)) (branch_added i n)
-      (λ s h. finish above (branch_spots (suc i) (m ∷ ms)) (streams_of branches known (suc i) m ms) (Then s) (AreAs m ms) (AreAs n (m ∷ ms)) (branches_met m ms (suc i)) (λ ss g. both_as n m ms s ss h g))
+      (λ s h. finish above (branch_spots (suc i) (m ∷ ms)) (streams_of branches known (suc i) m ms) (Then s) (AreAs m ms) (AreAs n (m ∷ ms))
+      (branches_met m ms (suc i)) (λ ss g. both_as n m ms s ss h g))
 
   -- WEIGHTS
 
@@ -273,7 +294,8 @@ module _ (above : List Declared) (known : Streamed) (k : KnowsAbove above known)
       both_true a b x y = rw x y
 
   fits : (vs : List ℕ) (n : ℕ) → nat_eq (length vs) n && list_all (λ w. nat_le 1 w) vs ≡ true → IsRound vs n
-  fits vs n h = let p = and_parts (nat_eq (length vs) n) (list_all (λ w. nat_le 1 w) vs) h in record { number = eq_holds (length vs) n p.0; each = each_some vs p.1 }
+  fits vs n h =
+      let p = and_parts (nat_eq (length vs) n) (list_all (λ w. nat_le 1 w) vs) h in record { number = eq_holds (length vs) n p.0; each = each_some vs p.1 }
 
   misfits : (vs : List ℕ) (n : ℕ) → nat_eq (length vs) n && list_all (λ w. nat_le 1 w) vs ≡ false → IsRound vs n → ⊥
   misfits vs n h r = let a = r.number in let b = some_each vs r.each in grind (arith, a, b, h)
@@ -282,7 +304,8 @@ module _ (above : List Declared) (known : Streamed) (k : KnowsAbove above known)
   weights_met ws n =
       let vs = weights_for ws n in
       let spot = Weighs ws n in
-      test above (spot ∷ []) (nat_eq (length vs) n && list_all (λ w. nat_le 1 w) vs) tt Weights (λ u. on_ok (demand (nat_le (cycle vs) 65536) Limit) (λ v. Ok vs)) (λ vs. Unit {0})
+      test above (spot ∷ []) (nat_eq (length vs) n && list_all (λ w. nat_le 1 w) vs) tt Weights
+      (λ u. on_ok (demand (nat_le (cycle vs) 65536) Limit) (λ v. Ok vs)) (λ vs. Unit {0})
       (λ t.
       let r = fits vs n t in
       test above (spot ∷ []) (nat_le (cycle vs) 65536) tt Limit (λ v. Ok vs) (λ vs. Unit {0})
@@ -301,9 +324,11 @@ module _ (above : List Declared) (known : Streamed) (k : KnowsAbove above known)
   -- WHAT IS DECLARED
 
   body_met : (name : Name) (b : Body) → Meets above (body_spots b) (stream_of known name b) (IsBodyAs above b)
-  body_met name (AFilter t) = finish above (filter_spots t) (elaborated t) (Filter name) (λ f. Unit {0}) (IsBodyAs above (AFilter t)) (filter_met above t) (λ f h. (refl, refl))
+  body_met name (AFilter t) =
+      finish above (filter_spots t) (elaborated t) (Filter name) (λ f. Unit {0}) (IsBodyAs above (AFilter t)) (filter_met above t) (λ f h. (refl, refl))
   body_met name (APipeline a) =
-      finish above (map Added (a.first ∷ a.others)) (streams_of any known 0 a.first a.others) Pipeline (AreAs a.first a.others) (IsBodyAs above (APipeline a)) (line_met a.first a.others 0)
+      finish above (map Added (a.first ∷ a.others)) (streams_of any known 0 a.first a.others) Pipeline (AreAs a.first a.others) (IsBodyAs above (APipeline a))
+      (line_met a.first a.others 0)
       (λ ss h. (ap suc h.0, h.1))
   body_met name (ASplitJoin d a ws) =
       let n = branch_count a in
@@ -311,7 +336,8 @@ module _ (above : List Declared) (known : Streamed) (k : KnowsAbove above known)
       let Q = IsBodyAs above (ASplitJoin d a ws) in
       chain above (split_spots d n) (bs ++ Weighs ws n ∷ []) (splitter_of d n)
       (λ p. on_ok (streams_of branches known 0 a.first a.others) (λ ss. on_ok (round_of ws n) (λ vs. Ok (SplitJoin p ss vs)))) (λ p. Unit {0}) Q (split_met d n)
-      (λ p u. chain above bs (Weighs ws n ∷ []) (streams_of branches known 0 a.first a.others) (λ ss. on_ok (round_of ws n) (λ vs. Ok (SplitJoin p ss vs))) (AreAs a.first a.others) Q
+      (λ p u. chain above bs (Weighs ws n ∷ []) (streams_of branches known 0 a.first a.others) (λ ss. on_ok (round_of ws n) (λ vs. Ok (SplitJoin p ss vs)))
+      (AreAs a.first a.others) Q
       (branches_met a.first a.others 0)
       (λ ss h. finish above (Weighs ws n ∷ []) (round_of ws n) (λ vs. SplitJoin p ss vs) (λ vs. Unit {0}) Q (weights_met ws n)
       (λ vs v. (ap suc h.0, ap (λ x. 1 + (x + 1)) h.1))))

@@ -4,8 +4,10 @@ use Rattle.text_forms.specs.Tree.{Spoken}
 use Rattle.text_forms.specs.Tree as tree
 use Rattle.river_plan.specs.Forms.{Name}
 use Rattle.brooklet_model.specs.Machine.{at_name}
-use Rattle.streamit_model.specs.Source.{Statement, Declare, Assign, Push, Pop, If, For, Block, End, Then, Optional, Unwritten, Written, Values, said, turns_between}
-use Rattle.streamit_model.specs.Words.{Word, Begins, Declares, Knows, Leaves, Sets, Uses, Fixes, Varies, Foreign, Pops, Drops, Peeks, Bounds, Loops, Enters, Exits, Pushes}
+use Rattle.streamit_model.specs.Source.{Statement, Declare, Assign, Push, Pop, If, For, Block, End, Then, Optional, Unwritten, Written, Values, said}
+use Rattle.streamit_model.specs.Source.{turns_between}
+use Rattle.streamit_model.specs.Words.{Word, Begins, Declares, Knows, Leaves, Sets, Uses, Fixes, Varies, Foreign, Pops, Drops, Peeks, Bounds, Loops, Enters}
+use Rattle.streamit_model.specs.Words.{Exits, Pushes}
 use Rattle.streamit_model.specs.Words.{Otherwise, Joins, popped_in, pushed_in}
 
 -- the words of a bound or an index
@@ -58,7 +60,8 @@ turning n block (v ∷ vs) turns = Begins ∷ Enters n ∷ (block (at_name n (po
 
 -- an `if` behind its condition
 abbrev pub arms : List Word → List Word → List Word
-arms first second = first ++ Otherwise (popped_in first) (pushed_in first) ∷ (second ++ Joins (popped_in first) (pushed_in first) (popped_in second) (pushed_in second) ∷ [])
+arms first second =
+    first ++ Otherwise (popped_in first) (pushed_in first) ∷ (second ++ Joins (popped_in first) (pushed_in first) (popped_in second) (pushed_in second) ∷ [])
 
 abbrev mutual
   pub read_of : Statement → Values → List Word
