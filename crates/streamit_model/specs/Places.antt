@@ -57,6 +57,7 @@ filter_spots t =
     ∷ (each_word (peek_of t) fields work
     ++ Counts (pop_of t) (popped_in work) ∷ Counts (push_of t) (pushed_in work) ∷ []))
 
+-- the branches of a split-join from number i on
 abbrev pub branch_spots : ℕ → List Name → List Spot
 branch_spots i [] = []
 branch_spots i (n ∷ ns) = Branch i ∷ Added n ∷ branch_spots (suc i) ns
@@ -66,6 +67,7 @@ abbrev pub split_spots : Dealing → ℕ → List Spot
 split_spots Copies n = []
 split_spots (Turns ws) n = Weighs ws n ∷ []
 
+-- a split-join is read in the order in which it is written: the splitter, the branches, the joiner
 abbrev pub body_spots : Body → List Spot
 body_spots (AFilter t) = filter_spots t
 body_spots (APipeline a) = map Added (a.first ∷ a.others)
@@ -95,6 +97,7 @@ abbrev pub most : (Name → ℕ) → Name → List Name → ℕ
 most f n [] = f n
 most f n (m ∷ ms) = max (f n) (most f m ms)
 
+-- and the sum
 abbrev pub in_all : (Name → ℕ) → Name → List Name → ℕ
 in_all f n [] = f n
 in_all f n (m ∷ ms) = f n + in_all f m ms

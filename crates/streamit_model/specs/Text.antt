@@ -53,17 +53,18 @@ locals_of (Then c b) = locals_of b
 abbrev pub enclosed : Block → List Word → List Word
 enclosed b ws = ws ++ map Leaves (locals_of b)
 
--- the turns of a loop
+-- the turns of a loop, of which each is its block with another value of the variable
 abbrev pub turning : Name → (Values → List Word) → List ℕ → Values → List Word
 turning n block [] turns = []
 turning n block (v ∷ vs) turns = Begins ∷ Enters n ∷ (block (at_name n (pos v) turns) ++ Exits n ∷ turning n block vs turns)
 
--- an `if` behind its condition
+-- an `if` behind its condition: the first arm, the second one, and the end
 abbrev pub arms : List Word → List Word → List Word
 arms first second =
     first ++ Otherwise (popped_in first) (pushed_in first) ∷ (second ++ Joins (popped_in first) (pushed_in first) (popped_in second) (pushed_in second) ∷ [])
 
 abbrev mutual
+  -- the words of a statement; a declaration's first value is read before its name is known
   pub read_of : Statement → Values → List Word
   read_of (Declare n t) turns = Begins ∷ Declares n ∷ (spelled_first t turns ++ Knows n ∷ [])
   read_of (Assign n t) turns = Begins ∷ Sets n ∷ spelled t turns
@@ -75,6 +76,7 @@ abbrev mutual
       let h = fixed_value high turns in
       Loops n ∷ (fixed low ++ Bounds l ∷ (fixed high ++ Bounds h ∷ turning n (λ inner. enclosed b (all_read b inner)) (turns_between l upto h) turns))
 
+  -- those of a block, without its end
   pub all_read : Block → Values → List Word
   all_read End turns = []
   all_read (Then c b) turns = read_of c turns ++ all_read b turns
