@@ -1,5 +1,5 @@
 -- Names with numbers behind them.
-use Rattle.std.proofs.Common.{◌≡◌, ℕ, zero, suc, ◌+◌, ◌^◌, ◌<◌, ◌≤◌, Bool, true, List, [], ◌∷◌, ◌++◌, length, sym, ap, ◌∙◌, arith, length-append, add-one, map}
+use Rattle.std.proofs.Common.{◌≡◌, ℕ, zero, suc, ◌+◌, ◌^◌, ◌<◌, ◌≤◌, Bool, true, List, [], ◌∷◌, ◌++◌, length, sym, ap, ◌∙◌, arith, length-append, add-one}
 use Rattle.std.proofs.Common.{get_or, take, pos}
 use Rattle.std.specs.Prelude.{◌&&◌, codes, nat_le}
 use Rattle.std.specs.List.{list_all}
@@ -10,7 +10,7 @@ use Rattle.std.proofs.lemmas.List.{take_more, map-append}
 use Rattle.std.proofs.lemmas.List.Folds.{list_all-append}
 use Rattle.river_base.specs.Name.{is_letter, is_digit, is_word, is_name}
 use Rattle.river_plan.specs.Forms.{Name}
-use Rattle.streamit_model.specs.Build.{numbered, queue, queues, weights, values_in}
+use Rattle.streamit_model.specs.Build.{numbered, queue, queues, weights}
 use Rattle.streamit_model.proofs.Named.{decimal_goes}
 
 queues-suc : (k n : ℕ) → queues k (suc n) ≡ queues k n ++ queue (k + n) ∷ []
@@ -21,10 +21,6 @@ queues-suc k (suc n) =
 -- one queue more
 pub queues-more : (k n : ℕ) → queues k (n + 1) ≡ queues k n ++ queue (k + n) ∷ []
 queues-more k n = ap (queues k) (add-one n) ∙ queues-suc k n
-
--- one queue more that is declared
-pub decls-more : (k n : ℕ) → map values_in (queues k (n + 1)) ≡ map values_in (queues k n) ++ values_in (queue (k + n)) ∷ []
-decls-more k n = ap (map values_in) (queues-more k n) ∙ map-append values_in (queues k n) (queue (k + n) ∷ [])
 
 -- one weight more
 pub weights-more : (ws : List ℕ) (i w : ℕ) → i < length ws → w ≡ get_or ws i w → weights (take (i + 1) ws) ≡ weights (take i ws) ++ pos w ∷ []

@@ -1,15 +1,15 @@
 -- The lists of a plan.
-use Rattle.std.specs.Prelude.{ℕ, List, [], ◌∷◌, map, codes}
+use Rattle.std.specs.Prelude.{List, [], ◌∷◌, map, codes}
 use Rattle.river_plan.specs.Forms.{OpForm, PlanForm}
 use Rattle.river_plan.specs.Uses.{all_vars}
-use Rattle.streamit_model.specs.Build.{queues, values_in}
+use Rattle.streamit_model.specs.Build.{own_queues, values_in}
 
--- with these operators, and so many queues of its own
-abbrev pub lists_of : List OpForm → ℕ → PlanForm
-lists_of ops n = record {
+-- with these operators
+abbrev pub lists_of : List OpForm → PlanForm
+lists_of ops = record {
   outputs = values_in (codes "out") ∷ [];
   inputs = values_in (codes "in") ∷ [];
-  queues = map values_in (queues 1 n);
+  queues = map values_in (own_queues ops);
   tables = [];
   vars = all_vars ops;
   ops = ops;

@@ -1,9 +1,9 @@
 // The plan of a program.
-ghost use Rattle.std.specs.Prelude.{◌≡◌, ◌<◌, ◌+◌, ◌-◌, [], ◌∷◌, ◌++◌, ◌^◌, codes, length, map, OnOk, IfOk};
+ghost use Rattle.std.specs.Prelude.{◌≡◌, ◌<◌, [], ◌∷◌, ◌++◌, ◌^◌, codes, filter, length, map, OnOk, IfOk};
 ghost use Rattle.river_plan.specs.Forms.{plan_form, op_forms, empty_form};
 ghost use Rattle.river_plan.specs.Uses.{all_vars};
 ghost use Rattle.streamit_model.specs.Stream.{Stream};
-ghost use Rattle.streamit_model.specs.Build.{queues, values_in as queue_of, ops_from, queues_in, plan_of};
+ghost use Rattle.streamit_model.specs.Build.{values_in as queue_of, is_own, own_queues, ops_from, plan_of};
 ghost use Rattle.streamit_build.specs.Units.{units_of, AreLower, AreShort, IsTree};
 ghost use Rattle.streamit_model.specs.Judged.{Streamed, judged};
 ghost use Rattle.streamit_build.specs.Knowing.{IsEntry, Knows};
@@ -12,7 +12,7 @@ ghost use Rattle.streamit_build.specs.Program.{program_of};
 ghost use Rattle.streamit_build.specs.Told.{AreReadable, KnowsLast, PlansLast, PlansBy};
 
 use crate::builder::build;
-use crate::names::{name_of, queue, sum};
+use crate::names::name_of;
 use crate::{Declaration, Entry, Known, Made, Refusal};
 use river_base::{FlatType, Name, NoMemory, QueueType};
 use river_plan::{Decl, Decls, Names, Ops, RawPlan};
@@ -84,18 +84,17 @@ impl Known {
         requires short { AreShort (units_of self.now.declared.items) }
         ensures { (s : Stream) → IsTree (units_of self.now.declared.items) top s → IfOk result (λ raw. plan_form raw ≡ plan_of s) }
     {
-        let made = self.operators(alloc, top)?;
-        lists(alloc, made)
+        let ops = self.operators(alloc, top)?;
+        lists(alloc, ops)
     }
 
     // Its operators, between the queues `in` and `out`.
     #[tactic(auto, unfolding(river_base::specs::Name::is_word, river_base::specs::Name::is_letter, river_base::specs::Name::is_digit))]
-    fn operators(&self, alloc: Global, top: usize) -> Result<Made, NoMemory>
+    fn operators(&self, alloc: Global, top: usize) -> Result<Ops, NoMemory>
         requires there { top < length self.now.declared.items }
         requires lower { AreLower (units_of self.now.declared.items) }
         requires short { AreShort (units_of self.now.declared.items) }
-        ensures ops { (s : Stream) → IsTree (units_of self.now.declared.items) top s → IfOk result (λ made. op_forms made.ops ≡ ops_from s) }
-        ensures queues { (s : Stream) → IsTree (units_of self.now.declared.items) top s → IfOk result (λ made. made.next_queue ≡ 1 + queues_in s) }
+        ensures { (s : Stream) → IsTree (units_of self.now.declared.items) top s → IfOk result (λ ops. op_forms ops ≡ ops_from s) }
     {
         let mut made = Made {
             ops: Ops::new(alloc),
@@ -105,42 +104,43 @@ impl Known {
         let from = name_of(b"in");
         let to = name_of(b"out");
         build(alloc, self.declared.as_slice(), top, from, to, &mut made)?;
-        Ok(made)
+        Ok(made.ops)
     }
 }
 
 // The lists of a plan with these operators.
-fn lists(alloc: Global, made: Made) -> Result<RawPlan, NoMemory>
-    ensures { IfOk result (λ raw. plan_form raw ≡ lists_of (op_forms made.ops) (made.next_queue - 1)) }
+fn lists(alloc: Global, ops: Ops) -> Result<RawPlan, NoMemory>
+    ensures { IfOk result (λ raw. plan_form raw ≡ lists_of (op_forms ops)) }
 {
     let mut raw = RawPlan::new(alloc);
-    fill(alloc, &mut raw, made)?;
+    fill(&mut raw, ops)?;
     Ok(raw)
 }
 
 // Fills lists that are empty.
-fn fill(alloc: Global, raw: &mut RawPlan, made: Made) -> Result<(), NoMemory>
+fn fill(raw: &mut RawPlan, ops: Ops) -> Result<(), NoMemory>
     requires { plan_form raw.old ≡ empty_form }
-    ensures { OnOk result (plan_form raw.new ≡ lists_of (op_forms made.ops) (made.next_queue - 1)) }
+    ensures { OnOk result (plan_form raw.new ≡ lists_of (op_forms ops)) }
 {
-    declare(alloc, raw, &made)?;
-    raw.ops = made.ops;
+    declare(raw, &ops)?;
+    raw.ops = ops;
     Ok(())
 }
 
-// The queues and variables of what was built, and the queues `in` and `out`.
+// The queues and variables of these operators, and the queues `in` and `out`.
 #[tactic(auto, unfolding(river_base::specs::Name::is_word, river_base::specs::Name::is_letter, river_base::specs::Name::is_digit))]
-fn declare(alloc: Global, raw: &mut RawPlan, made: &Made) -> Result<(), NoMemory>
+fn declare(raw: &mut RawPlan, ops: &Ops) -> Result<(), NoMemory>
     ensures outputs { OnOk result (raw.new.outputs ≡ raw.old.outputs ++ queue_of (codes "out") ∷ []) }
     ensures inputs { OnOk result (raw.new.inputs ≡ raw.old.inputs ++ queue_of (codes "in") ∷ []) }
-    ensures queues { OnOk result (raw.new.queues ≡ raw.old.queues ++ map queue_of (queues 1 (made.now.next_queue - 1))) }
-    ensures vars { OnOk result (raw.new.vars ≡ raw.old.vars ++ all_vars (op_forms made.now.ops)) }
+    ensures queues { OnOk result (raw.new.queues ≡ raw.old.queues ++ map queue_of (own_queues (op_forms ops.now))) }
+    ensures vars { OnOk result (raw.new.vars ≡ raw.old.vars ++ all_vars (op_forms ops.now)) }
     ensures tables { raw.new.tables ≡ raw.old.tables }
 {
-    raw.outputs.push(values_in(name_of(b"out")))?;
+    let out = name_of(b"out");
+    raw.outputs.push(values_in(out))?;
     raw.inputs.push(values_in(name_of(b"in")))?;
-    declare_queues(alloc, &mut raw.queues, made.next_queue.saturating_sub(1))?;
-    declare_vars(&mut raw.vars, &made.ops)
+    declare_queues(&mut raw.queues, ops, out)?;
+    declare_vars(&mut raw.vars, ops)
 }
 
 // A queue of single values.
@@ -153,14 +153,26 @@ fn values_in(name: Name) -> Decl
     }
 }
 
-// So many queues of its own.
-fn declare_queues(alloc: Global, to: &mut Decls, count: u32) -> Result<(), NoMemory>
-    ensures { OnOk result (to.new ≡ to.old ++ map queue_of (queues 1 count)) }
+// The queues that the operators write, in order, but for this one.
+fn declare_queues(to: &mut Decls, ops: &Ops, out: Name) -> Result<(), NoMemory>
+    requires { out ≡ codes "out" }
+    ensures { OnOk result (to.new ≡ to.old ++ map queue_of (own_queues (op_forms ops.now))) }
 {
-    for i in 0..count {
-        let number = sum(1, i)?;
-        let name = queue(alloc, number)?;
-        to.push(values_in(name))?;
+    for op in ops.as_slice() {
+        declare_written(to, &op.writes, out)?;
+    }
+    Ok(())
+}
+
+// These queues, but for this one.
+fn declare_written(to: &mut Decls, names: &Names, out: Name) -> Result<(), NoMemory>
+    requires { out ≡ codes "out" }
+    ensures { OnOk result (to.new ≡ to.old ++ map queue_of (filter is_own names.now)) }
+{
+    for name in names.as_slice() {
+        if *name != out {
+            to.push(values_in(*name))?;
+        }
     }
     Ok(())
 }

@@ -24,7 +24,9 @@ use Rattle.streamit_model.specs.Elaborate as model
 use Rattle.streamit_model.specs.Stream.{Stream}
 use Rattle.streamit_model.specs.Program.{Program, AreShallowUnits}
 use Rattle.streamit_model.specs.Judged.{Streamed, Refusal, on_fine, in_unit, unit_of, all_streams, few_operators, judged}
+use Rattle.streamit_model.specs.Faulty.{IsFaultOf}
 use Rattle.streamit_model.proofs.Programs.{programs_mean}
+use Rattle.streamit_model.proofs.Refused.{refusals_are}
 use Rattle.streamit_build.specs.declared.program.Declaration.{Declaration}
 use Rattle.streamit_build.specs.Program.{declared_of, program_of}
 use Rattle.streamit_build.specs.Told.{AreReadable, PlansBy}
@@ -71,7 +73,7 @@ unfolding compiled
 lexed-means text fault e = ap then_read e
 
 fault-means : (text : List ℕ) (fault : StreamitFault) → HasFault text fault → compiled text ≡ Err fault
-fault-means text fault (p, e, t, j, is) = stands-means text p t ∙ ap (or_fault p) j ∙ ap Err (sym is)
+fault-means text fault (p, unit, f, t, first, is) = stands-means text p t ∙ ap (or_fault p) ((refusals_are p unit f).1 first) ∙ ap Err (sym is)
 
 has-means : (text : List ℕ) (meant : Result Accepted StreamitFault) → Has text meant → compiled text ≡ meant
 has-means text (Ok a) (name, others, t, j) = stands-means text a.program t ∙ ap (or_fault a.program) j
@@ -91,11 +93,12 @@ has-means text (Err NoMemory) h = absurd h
 -- ---- TO THE GRAMMAR
 
 -- a program has a stream
-abbrev HasStream : Streamed → Type 0
+abbrev pub HasStream : Streamed → Type 0
 HasStream [] = ⊥
 HasStream (e ∷ others) = Unit {0}
 
-abbrev AllHave : Result Streamed Refusal → Type 0
+-- a program that is accepted has one
+abbrev pub AllHave : Result Streamed Refusal → Type 0
 AllHave (Ok known) = HasStream known
 AllHave (Err e) = Unit {0}
 
@@ -114,7 +117,8 @@ first-have (u ∷ us) some = by (unit_of [] u) where
   by (Ok s) = streams-have 2 ((u.name, s) ∷ []) us tt
   by (Err f) = tt
 
-judged-have : (p : Program) → IsSome p → AllHave (judged p)
+-- judging a program of a unit or more gives a stream, or a fault
+pub judged-have : (p : Program) → IsSome p → AllHave (judged p)
 judged-have p some = by (all_streams 1 [] p) (first-have p some) where
   limited : (k : ℕ) (known : Streamed) (r : Result (Unit {0}) model.Fault) → HasStream known → AllHave (in_unit k r (λ u. Ok known))
   limited k known (Ok u) h = h
@@ -125,16 +129,16 @@ judged-have p some = by (all_streams 1 [] p) (first-have p some) where
   by (Err e) h = tt
 
 fault-has : (text : List ℕ) (p : Program) (e : Refusal) → IsText text p → judged p ≡ Err e → Has text (Err (fault_at e.unit e.fault))
-fault-has text p e t j = by e.fault refl where
-  by : (f : model.Fault) → e.fault ≡ f → Has text (Err (fault_at e.unit f))
-  by model.UnknownName is = (p, e, t, j, ap (fault_at e.unit) (sym is))
-  by model.NameTwice is = (p, e, t, j, ap (fault_at e.unit) (sym is))
-  by (model.Rates declared counted) is = (p, e, t, j, ap (fault_at e.unit) (sym is))
-  by (model.PeekRange index peek) is = (p, e, t, j, ap (fault_at e.unit) (sym is))
-  by model.NotConstant is = (p, e, t, j, ap (fault_at e.unit) (sym is))
-  by model.BranchRates is = (p, e, t, j, ap (fault_at e.unit) (sym is))
-  by model.Limit is = (p, e, t, j, ap (fault_at e.unit) (sym is))
-  by model.Weights is = (p, e, t, j, ap (fault_at e.unit) (sym is))
+fault-has text p e t j = by e.fault ((refusals_are p e.unit e.fault).0 j) where
+  by : (f : model.Fault) → IsFaultOf p e.unit f → Has text (Err (fault_at e.unit f))
+  by model.UnknownName first = (p, e.unit, model.UnknownName, t, first, refl)
+  by model.NameTwice first = (p, e.unit, model.NameTwice, t, first, refl)
+  by (model.Rates declared counted) first = (p, e.unit, model.Rates declared counted, t, first, refl)
+  by (model.PeekRange index peek) first = (p, e.unit, model.PeekRange index peek, t, first, refl)
+  by model.NotConstant first = (p, e.unit, model.NotConstant, t, first, refl)
+  by model.BranchRates first = (p, e.unit, model.BranchRates, t, first, refl)
+  by model.Limit first = (p, e.unit, model.Limit, t, first, refl)
+  by model.Weights first = (p, e.unit, model.Weights, t, first, refl)
 
 accepted-has : (text : List ℕ) (p : Program) → IsText text p → Has text (accepted p)
 accepted-has text p t = by (judged p) refl (judged-have p t.some) where

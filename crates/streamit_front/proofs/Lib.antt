@@ -1,3 +1,4 @@
+pub mod Accepting
 pub mod Fronts
 pub mod Nested
 pub mod Printable

@@ -1,25 +1,23 @@
 -- The grammar lets `if` and `for` nest at most 16 deep, and no `if` of a plan nests deeper than they do in its program.
-use Rattle.std.proofs.Common.{◌≡◌, ℕ, zero, suc, ◌≤◌, ◌+◌, ◌-◌, Bool, true, false, List, [], ◌∷◌, ◌++◌, Option, Some, None, Result, Ok, Err, refl, sym, subst}
-use Rattle.std.proofs.Common.{ap, ◌∙◌, arith}
-use Rattle.std.specs.Prelude.{max, codes, cond, if◌then◌else◌, nat_eq, nat_lt, nat_le, ◌&&◌}
+use Rattle.std.proofs.Common.{◌≡◌, ℕ, zero, suc, ◌≤◌, ◌+◌, ◌-◌, Bool, true, false, List, [], ◌∷◌, Option, Some, None, Ok, Err, sym, subst}
+use Rattle.std.proofs.Common.{arith}
+use Rattle.std.specs.Prelude.{max, codes, if◌then◌else◌, nat_eq, ◌&&◌}
 use Rattle.std.specs.Str.{bytes_eq}
 use Rattle.work_code.specs.Steps.{Step, Steps, Done}
 use Rattle.work_code.specs.Steps as steps
 use Rattle.work_code.specs.Term.{Term}
 use Rattle.work_code.specs.Tok.{Tok}
-use Rattle.work_code.specs.declared.sign.Symbol.{Symbol}
 use Rattle.text_forms.specs.Forms as form
-use Rattle.text_forms.specs.Tree.{Spoken}
 use Rattle.kern_rows.specs.Forms.{FilterForm}
 use Rattle.river_plan.specs.Forms.{Name}
 use Rattle.streamit_model.specs.Source.{Statement, Declare, Assign, Push, Pop, If, For, Block, End, Then, pops, numbers, Optional, Unwritten, Written}
-use Rattle.streamit_model.specs.Elaborate.{Fault, At, Read, on_ok, joined, one_step, counted, is_new, has_slot, first_term, declared, slot_of, term_of}
+use Rattle.streamit_model.specs.Elaborate.{At, Read, on_ok, joined, one_step, counted, is_new, has_slot, first_term, declared, slot_of, term_of}
 use Rattle.streamit_model.specs.Elaborate.{constant, bound_of, after_arms, unrolled, step_of, steps_of, find, BranchRates, Turn, optional_of}
 use Rattle.streamit_model.specs.FilterSource.{FilterTree, elaborated, read_fields, nothing_read, rates_of, kept_rates, form_of, push_of, pop_of, peek_of}
 use Rattle.streamit_model.proofs.Elaborated.{fine, ok_parts, ok_is}
 use Rattle.streamit_unroll.specs.View.{in_turn, or_unwritten}
-use Rattle.streamit_text.specs.Grammar.{Round, IsDeclare, IsAssign, IsPush, IsPop, IsIf, IsFor, IsBlockOf, StmtAfter, IsStmt, IsBlock, is_own}
-use Rattle.river_print.specs.Writable.{depth_once, depths}
+use Rattle.streamit_text.specs.Grammar.{IsAssign, IsIf, IsFor, IsBlockOf, StmtAfter, IsStmt, IsBlock, is_own}
+use Rattle.river_print.specs.Writable.{depths}
 use Rattle.streamit_front.proofs.Readable.{chosen, enclosed}
 
 -- how deep `if` and `for` nest

@@ -1,5 +1,5 @@
 -- The plan of a program that a text stands for can be written as River text: `if` nests at most 16 deep, and no window is there.
-use Rattle.std.proofs.Common.{◌≡◌, ℕ, suc, ◌≤◌, ◌+◌, Bool, true, false, List, [], ◌∷◌, ◌++◌, length, Option, Some, None, Result, Ok, Err, refl, sym, subst, ap}
+use Rattle.std.proofs.Common.{◌≡◌, ℕ, suc, ◌≤◌, ◌+◌, Bool, true, false, List, [], ◌∷◌, length, Option, Some, None, Result, Ok, Err, refl, sym, subst, ap}
 use Rattle.std.proofs.Common.{◌∙◌, arith}
 use Rattle.std.specs.Prelude.{codes, if◌then◌else◌, nat_lt}
 use Rattle.std.specs.Str.{bytes_eq}
@@ -16,12 +16,11 @@ use Rattle.streamit_model.specs.Elaborate.{Fault, on_ok, demand, Limit}
 use Rattle.streamit_model.specs.FilterSource.{FilterTree, elaborated}
 use Rattle.streamit_model.specs.Judged.{Refusal, Streamed, on_fine, in_unit, found, added, streams_of, any, branches, round_of, splitter_of, stream_of}
 use Rattle.streamit_model.specs.Judged.{not_there, unit_of, all_streams, few_operators, judged}
-use Rattle.streamit_model.specs.Program.{Dealing, Body, AFilter, APipeline, ASplitJoin, Declared, Program, look, branch_count}
+use Rattle.streamit_model.specs.Program.{Body, AFilter, APipeline, ASplitJoin, Declared, Program, look, branch_count}
 use Rattle.streamit_model.specs.Stream.{Splitter, Duplicate, RoundRobin, Stream, Filter, Pipeline, SplitJoin, Streams, Last, Then, number_of, nesting}
 use Rattle.streamit_model.proofs.Elaborated.{fine, ok_parts, ok_is}
 use Rattle.streamit_text.specs.Grammar.{InFilter, BodyAfter, IsUnit, AreUnits}
 use Rattle.streamit_front.specs.Laws.{Has, PlansArePrintable}
-use Rattle.streamit_front.specs.Meaning.{Accepted, compiled}
 use Rattle.streamit_front.proofs.Fronts.{means_what_it_has}
 use Rattle.streamit_front.proofs.Nested.{nests, block-nested, filter-below}
 use Rattle.streamit_front.proofs.Readable.{chosen, enclosed}

@@ -1,15 +1,20 @@
 -- What is true of all texts.
 use Rattle.std.specs.Prelude.{◌≡◌, ◌↔◌, ℕ, ℤ, List, [], ◌∷◌, Result, Ok, Err}
+use Rattle.std.specs.List.{AllByRecursion}
 use Rattle.work_code.specs.Lexis.{tokens_in}
 use Rattle.work_code.specs.declared.fault.LexFault.TheVariants as lex
 use Rattle.text_forms.specs.declared.refusal.Refusal.TheVariants.{BadByte, BigNumber, Syntax}
 use Rattle.river_plan.specs.Forms.{Name}
+use Rattle.river_plan.specs.InTurn.{IsInTurn}
 use Rattle.river_plan.specs.Valid.{IsPlan}
 use Rattle.river_print.specs.Printable.{IsPrintable}
 use Rattle.brooklet_model.specs.Meaning.{meaning}
 use Rattle.streamit_model.specs.Build.{plan_of}
+use Rattle.streamit_model.specs.Elaborate as model
+use Rattle.streamit_model.specs.Faulty.{IsRight, IsFaultOf}
+use Rattle.streamit_model.specs.Places.{places_of}
 use Rattle.streamit_model.specs.Program.{Program, program_outputs}
-use Rattle.streamit_model.specs.Judged.{Streamed, Refusal, judged}
+use Rattle.streamit_model.specs.Judged.{Streamed, judged}
 use Rattle.streamit_model.specs.Laws.{as_items}
 use Rattle.streamit_text.specs.Grammar.{IsText}
 use Rattle.streamit_text.specs.Laws.{IsBadAt}
@@ -17,9 +22,9 @@ use Rattle.streamit_front.specs.declared.fault.StreamitFault.{StreamitFault}
 use Rattle.streamit_front.specs.declared.fault.StreamitFault.TheVariants.{Text, NoMemory}
 use Rattle.streamit_front.specs.Meaning.{Accepted, fault_at, compiled}
 
--- the grammar has the text for a program that has this first fault
+-- the grammar has the text for a program whose first fault this is
 abbrev pub HasFault : List ℕ → StreamitFault → Type 0
-HasFault text fault = (p : Program) × (e : Refusal) × IsText text p × (judged p ≡ Err e) × (fault ≡ fault_at e.unit e.fault)
+HasFault text fault = (p : Program) × (unit : ℕ) × (f : model.Fault) × IsText text p × IsFaultOf p unit f × (fault ≡ fault_at unit f)
 
 -- the grammar has the text for a program that is accepted, whose last stream this is; or for one that has a fault; or it has a
 -- first unit that is not in the grammar, or a first fault of its bytes
@@ -44,3 +49,11 @@ PlansMean =
 -- the plan of a text's program is within the bounds of River text: what is printed of it stands for it, by the promise of the printer
 abbrev pub PlansArePrintable : Type 0
 PlansArePrintable = (text : List ℕ) (a : Accepted) → compiled text ≡ Ok a → IsPrintable (plan_of a.stream)
+
+-- a text is accepted exactly where the grammar has it for a program of which no place has a fault
+abbrev pub TextsAreAccepted : Type 0
+TextsAreAccepted = (text : List ℕ) → ((a : Accepted) × (compiled text ≡ Ok a)) ↔ ((p : Program) × IsText text p × AllByRecursion IsRight (places_of p))
+
+-- the plan of a text's program declares queues and variables in the order in which its operators first use them
+abbrev pub PlansInTurn : Type 0
+PlansInTurn = (text : List ℕ) (a : Accepted) → compiled text ≡ Ok a → IsInTurn (plan_of a.stream)

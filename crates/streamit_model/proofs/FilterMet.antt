@@ -1,6 +1,6 @@
 -- A filter of a plan gives what the filter as it is written gives.
 use Rattle.std.proofs.Common.{◌≡◌, ℕ, zero, suc, ℤ, pos, ◌+◌, ◌-◌, ◌*◌, ◌<◌, ◌≤◌, true, List, [], ◌∷◌, ◌++◌, length, map, take, drop, replicate, None, Ok, refl}
-use Rattle.std.proofs.Common.{sym, ap, ◌∙◌, subst, arith, nat_le, nat_eq, ⊎_elim, length-append, Option, Some}
+use Rattle.std.proofs.Common.{sym, ap, ◌∙◌, subst, arith, nat_le, nat_eq, ⊎_elim, length-append}
 use Rattle.std.specs.Prelude.{if◌then◌else◌, ◌&&◌, slice_index_or, nat_lt}
 use Rattle.std.proofs.lemmas.Bool.{and_parts}
 use Rattle.std.proofs.lemmas.List.{length-replicate}

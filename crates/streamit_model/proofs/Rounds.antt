@@ -9,7 +9,7 @@ use Rattle.river_base.specs.declared.item.Flat.TheVariants.{One}
 use Rattle.river_base.specs.Places.{list_at, each_grew}
 use Rattle.kern_rows.specs.Turns.{shares}
 use Rattle.river_kernels.specs.Kern.{duplicate}
-use Rattle.brooklet_model.specs.ByIndex.{cycle, branch, picked, number_at, item_at, and_more, front_of, size_of, collected}
+use Rattle.brooklet_model.specs.ByIndex.{branch, picked, number_at, item_at, and_more, front_of, size_of, collected}
 use Rattle.brooklet_model.specs.Fire.{fire}
 use Rattle.brooklet_model.specs.Firings.{feed}
 use Rattle.brooklet_model.proofs.Cycles.{positive_cycle}
@@ -17,7 +17,6 @@ use Rattle.brooklet_model.proofs.Lists.{if_lt, if_eq, if_ne}
 use Rattle.brooklet_model.proofs.Longest.{longest}
 use Rattle.streamit_model.specs.Build.{weights}
 use Rattle.streamit_model.specs.Laws.{CollectsLongest}
-use Rattle.streamit_model.specs.Stream.{IsRound}
 
 -- COPIES
 

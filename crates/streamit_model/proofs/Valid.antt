@@ -10,7 +10,7 @@ use Rattle.river_kernels.specs.declared.limit.Limit.TheVariants as limit
 use Rattle.river_kernels.specs.declared.types.VarKind.TheVariants.{Private, Table}
 use Rattle.river_plan.specs.Forms.{Name, OpForm, decl_names, queue_names, all_decls}
 use Rattle.river_plan.specs.Names.{one_if, count}
-use Rattle.river_plan.specs.Uses.{Each, total, reads_it, writes_it, vars_it, named_it, all_vars}
+use Rattle.river_plan.specs.Uses.{Each, total, reads_it, writes_it, vars_it, named_it, all_writes, all_vars}
 use Rattle.river_plan.specs.Faults.{IsOuter, HasWidth, IsTable}
 use Rattle.river_plan.specs.Kinds.{kind_in, kind_of, private_in, var_kind}
 use Rattle.river_plan.specs.Limits.{most_of, numbers}
@@ -18,12 +18,13 @@ use Rattle.river_plan.specs.Valid.{IsPlan}
 use Rattle.river_plan.proofs.NameLemmas.{cases_name, one_same}
 use Rattle.river_plan.proofs.ShareLemmas.{total-vars}
 use Rattle.streamit_model.specs.Stream.{Stream, IsStream, IsSmall}
-use Rattle.streamit_model.specs.Build.{queues, ops_in, queues_in, values_in, ops_from, plan_of}
+use Rattle.streamit_model.specs.Build.{queues, ops_in, queues_in, values_in, ops_from, own_queues, plan_of}
 use Rattle.streamit_model.specs.Laws.{PlansAreValid}
 use Rattle.streamit_model.proofs.Numbers.{number_in, meets_once, queue_count, queues_once}
 use Rattle.streamit_model.proofs.Counts.{writes, reads, named, operators, few_queues}
 use Rattle.streamit_model.proofs.EachOp.{each_op}
 use Rattle.streamit_model.proofs.Ordered.{ordered}
+use Rattle.streamit_model.proofs.OwnQueues.{total-writes, own_never, own_other, own_length, written_length}
 use Rattle.streamit_model.proofs.Fitting.{OwnsIt, own_each, IsFitting, fits_each, all_fit, IsWithin, within_each, ports_within, kernels_within, nested_within}
 
 -- NAMES
@@ -37,7 +38,8 @@ no_out : (n k : ℕ) → count (codes "out") (queues k n) ≡ 0
 no_out zero k = refl
 no_out (suc n) k = let e = no_out n (suc k) in omega (arith, e)
 
-names_of : (ns : List Name) → decl_names (map values_in ns) ≡ ns
+-- the names of queues that are declared
+pub names_of : (ns : List Name) → decl_names (map values_in ns) ≡ ns
 names_of [] = refl
 names_of (n ∷ ns) = ap (λ l. n ∷ l) (names_of ns)
 
@@ -70,10 +72,6 @@ few_vars (op ∷ ops) h = let a = h.0.vars in let b = few_vars ops h.1 in let l 
 one : (most n : ℕ) → n ≤ most → All (λ (m : ℕ). m ≤ most) (n ∷ [])
 one most n h = All-cons (λ (m : ℕ). m ≤ most) n [] h (All-nil (λ (m : ℕ). m ≤ most))
 
-length-queues : (n k : ℕ) → length (queues k n) ≡ n
-length-queues zero k = refl
-length-queues (suc n) k = ap suc (length-queues n (suc k))
-
 widths : (ns : List Name) → All HasWidth (map values_in ns)
 widths [] = All-nil HasWidth
 widths (n ∷ ns) = All-cons HasWidth (values_in n) (map values_in ns) refl (widths ns)
@@ -82,40 +80,68 @@ module _ (s : Stream) (ok : IsStream s) (small : IsSmall s) (few : ops_in s ≤ 
   abbrev ops : List OpForm
   ops = ops_from s
 
-  abbrev all : List Name
-  all = codes "out" ∷ codes "in" ∷ queues 1 (queues_in s)
-
   abbrev ours : List Name
-  ours = queues 1 (queues_in s)
+  ours = own_queues ops
+
+  abbrev all : List Name
+  all = codes "out" ∷ codes "in" ∷ ours
+
+  numbered_ones : (q : Name) → total (writes_it q) ops ≡ one_if (name_eq (codes "out") q) + count q (queues 1 (queues_in s))
+  numbered_ones q = writes s 1 1 (codes "in") (codes "out") q ∙ ap (λ n. one_if (name_eq (codes "out") q) + n) (sym (queue_count q (queues_in s) 1))
+
+  -- a queue is declared as often as its number is one of the stream's
+  ours_are : (q : Name) → count q ours ≡ count q (queues 1 (queues_in s))
+  ours_are q = ⊎_elim
+      (λ c.
+      let n : count q (queues 1 (queues_in s)) ≡ 0 = subst (λ n. count n (queues 1 (queues_in s)) ≡ 0) c.0 (no_out (queues_in s) 1) in
+      let o : count q ours ≡ 0 = subst (λ n. count n ours ≡ 0) c.0 (own_never (all_writes ops)) in
+      omega (arith, n, o))
+      (λ c.
+      let a = own_other q (all_writes ops) c.1 in
+      let t = total-writes q ops in
+      let w = numbered_ones q in
+      let o : one_if (name_eq (codes "out") q) ≡ 0 = ap one_if c.1 in
+      omega (arith, a, t, w, o))
+      (cases_name (codes "out") q)
 
   queue_names_are : queue_names (plan_of s) ≡ all
   queue_names_are = ap (λ l. codes "out" ∷ codes "in" ∷ l) (names_of ours)
 
   ours_once : (q : Name) → count q ours ≤ 1
-  ours_once q = let e = few_queues s in queues_once q (queues_in s) 1 (omega (arith, e, few))
+  ours_once q = let a = ours_are q in let e = few_queues s in let b = queues_once q (queues_in s) 1 (omega (arith, e, few)) in omega (arith, a, b)
 
   all_once : (q : Name) → count q all ≤ 1
   all_once q = ⊎_elim
       (λ c.
       let o : one_if (name_eq (codes "out") q) ≡ 1 = ap one_if c.1 in
       let i : one_if (name_eq (codes "in") q) ≡ 0 = subst (λ n. one_if (name_eq (codes "in") n) ≡ 0) c.0 refl in
-      let n : count q ours ≡ 0 = subst (λ n. count n ours ≡ 0) c.0 (no_out (queues_in s) 1) in
+      let n : count q ours ≡ 0 = subst (λ n. count n ours ≡ 0) c.0 (own_never (all_writes ops)) in
       omega (arith, o, i, n))
       (λ c.
       let o : one_if (name_eq (codes "out") q) ≡ 0 = ap one_if c.1 in ⊎_elim
       (λ d.
       let i : one_if (name_eq (codes "in") q) ≡ 1 = ap one_if d.1 in
-      let n : count q ours ≡ 0 = subst (λ n. count n ours ≡ 0) d.0 (no_in (queues_in s) 1) in
+      let n : count q ours ≡ 0 = subst (λ n. count n ours ≡ 0) d.0 (ours_are (codes "in") ∙ no_in (queues_in s) 1) in
       omega (arith, o, i, n))
       (λ d. let i : one_if (name_eq (codes "in") q) ≡ 0 = ap one_if d.1 in let n = ours_once q in omega (arith, o, i, n))
       (cases_name (codes "in") q))
       (cases_name (codes "out") q)
 
   written : (q : Name) → total (writes_it q) ops ≡ one_if (name_eq (codes "out") q) + count q ours
-  written q = writes s 1 1 (codes "in") (codes "out") q ∙ ap (λ n. one_if (name_eq (codes "out") q) + n) (sym (queue_count q (queues_in s) 1))
+  written q = numbered_ones q ∙ ap (λ n. one_if (name_eq (codes "out") q) + n) (sym (ours_are q))
 
   read : (q : Name) → total (reads_it q) ops ≡ one_if (name_eq (codes "in") q) + count q ours
-  read q = reads s 1 1 (codes "in") (codes "out") q ∙ ap (λ n. one_if (name_eq (codes "in") q) + n) (sym (queue_count q (queues_in s) 1))
+  read q = reads s 1 1 (codes "in") (codes "out") q ∙ ap (λ n. one_if (name_eq (codes "in") q) + n) (sym (ours_are q ∙ queue_count q (queues_in s) 1))
+
+  ours_length : length ours ≡ queues_in s
+  ours_length =
+      let a = own_length (all_writes ops) in
+      let b = written_length s 1 1 (codes "in") (codes "out") in
+      let t = total-writes (codes "out") ops in
+      let w = written (codes "out") in
+      let n = own_never (all_writes ops) in
+      let o = one_same (codes "out") in
+      omega (arith, a, b, t, w, n, o)
 
   labels : (l : Name) → total (named_it l) ops ≤ 1
   labels l =
@@ -142,7 +168,7 @@ module _ (s : Stream) (ok : IsStream s) (small : IsSmall s) (few : ops_in s ≤ 
   limited limit.Inputs = one 8 1 (omega arith)
   limited limit.Operators = one 256 (length ops) (let e = operators s 1 1 (codes "in") (codes "out") in omega (arith, e, few))
   limited limit.Queues =
-      one 512 (1 + (1 + length (map values_in ours))) (let a = length-map ours values_in in let b = length-queues (queues_in s) 1 in let c = few_queues s in omega (arith, a, b, c, few))
+      one 512 (1 + (1 + length (map values_in ours))) (let a = length-map ours values_in in let b = ours_length in let c = few_queues s in omega (arith, a, b, c, few))
   limited limit.Variables =
       one 256 (0 + length (all_vars ops)) (let a = few_vars ops within in let e = operators s 1 1 (codes "in") (codes "out") in omega (arith, a, e, few))
   limited limit.Ports = ports_within ops within

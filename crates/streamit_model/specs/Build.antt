@@ -1,11 +1,13 @@
 -- The plan of a stream: operators numbered in order, joined by numbered queues.
-use Rattle.std.specs.Prelude.{ℕ, zero, suc, ℤ, pos, ◌+◌, List, [], ◌∷◌, ◌++◌, map, codes}
+use Rattle.std.specs.Prelude.{ℕ, zero, suc, ℤ, pos, ◌+◌, Bool, not, List, [], ◌∷◌, ◌++◌, map, filter, codes}
 use Rattle.std.specs.Fmt.{decimal}
 use Rattle.river_kernels.specs.Fits.{rows}
-use Rattle.river_kernels.specs.Kern.{Kern, filter, duplicate, deal, collect}
+use Rattle.river_base.specs.Name.{name_eq}
+use Rattle.river_kernels.specs.Kern.{Kern, duplicate, deal, collect}
+use Rattle.river_kernels.specs.Kern as kern
 use Rattle.river_plan.specs.declared.plan.Decl.{Decl}
 use Rattle.river_plan.specs.Forms.{Name, OpForm, PlanForm}
-use Rattle.river_plan.specs.Uses.{all_vars}
+use Rattle.river_plan.specs.Uses.{all_writes, all_vars}
 use Rattle.streamit_model.specs.Stream.{Splitter, Duplicate, RoundRobin, Stream, Filter, Pipeline, SplitJoin, Streams, Last, Then, number_of}
 
 -- a name with a number behind it
@@ -63,7 +65,7 @@ joiner ws label from to = with_own label (collect (weights ws)) from (to ∷ [])
 -- the operators of a stream from one queue to another, where c is the number of the first of them, and k that of the first queue made
 abbrev mutual
   pub build : Stream → ℕ → ℕ → Name → Name → List OpForm
-  build (Filter name f) c k from to = with_own (numbered name c) (filter f) (from ∷ []) (to ∷ []) ∷ []
+  build (Filter name f) c k from to = with_own (numbered name c) (kern.filter f) (from ∷ []) (to ∷ []) ∷ []
   build (Pipeline ss) c k from to = build_line ss c k from to
   build (SplitJoin d ss ws) c k from to =
       let n = number_of ss in
@@ -88,12 +90,20 @@ values_in name = record { name = name; kind = rows 1 }
 abbrev pub ops_from : Stream → List OpForm
 ops_from s = build s 1 1 (codes "in") (codes "out")
 
+-- a queue of the plan's own: not its output
+abbrev pub is_own : Name → Bool
+is_own q = not (name_eq q (codes "out"))
+
+-- the queues of its own, in the order in which the operators write them
+abbrev pub own_queues : List OpForm → List Name
+own_queues ops = filter is_own (all_writes ops)
+
 abbrev pub plan_of : Stream → PlanForm
 plan_of s =
     record {
       outputs = values_in (codes "out") ∷ [];
       inputs = values_in (codes "in") ∷ [];
-      queues = map values_in (queues 1 (queues_in s));
+      queues = map values_in (own_queues (ops_from s));
       tables = [];
       vars = all_vars (ops_from s);
       ops = ops_from s;

@@ -7,6 +7,7 @@ use Rattle.river_base.specs.declared.item.Flat.TheVariants.{One}
 use Rattle.kern_rows.specs.Forms.{FilterForm}
 use Rattle.river_kernels.specs.Kern.{filter, duplicate, deal, collect}
 use Rattle.river_plan.specs.Forms.{Name}
+use Rattle.river_plan.specs.InTurn.{IsInTurn}
 use Rattle.river_plan.specs.Uses.{Each}
 use Rattle.river_plan.specs.Valid.{IsPlan}
 use Rattle.brooklet_model.specs.Fire.{first_kept}
@@ -55,6 +56,10 @@ SolutionsMean =
 -- the plan of a stream of at most 256 operators is valid
 abbrev pub PlansAreValid : Type 0
 PlansAreValid = (s : Stream) → IsStream s → IsSmall s → ops_in s ≤ 256 → IsPlan (plan_of s)
+
+-- its queues and variables are declared in the order in which the operators first use them
+abbrev pub PlansInTurn : Type 0
+PlansInTurn = (s : Stream) → IsStream s → IsSmall s → ops_in s ≤ 256 → IsInTurn (plan_of s)
 
 -- and it means what the stream means
 abbrev pub TranslationMeans : Type 0

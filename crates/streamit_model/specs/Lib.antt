@@ -1,11 +1,15 @@
 pub mod Build
 pub mod Elaborate
+pub mod Faulty
 pub mod FilterSource
 pub mod Filters
 pub mod Judged
 pub mod Laws
 pub mod Means
+pub mod Places
 pub mod Program
 pub mod Shallow
 pub mod Source
 pub mod Stream
+pub mod Text
+pub mod Words

@@ -1,5 +1,6 @@
 //! Laws over the definitions alone.
-ghost use Rattle.streamit_model.specs.Laws.{FedFilters, FedSplitters, FedJoiners, CollectsLongest, FiltersMean, SolutionsMean, PlansAreValid, TranslationMeans, ProgramsMean};
+ghost use Rattle.streamit_model.specs.Laws.{FedFilters, FedSplitters, FedJoiners, CollectsLongest, FiltersMean, SolutionsMean, PlansAreValid, PlansInTurn, TranslationMeans, ProgramsMean};
+ghost use Rattle.streamit_model.specs.Faulty.{RefusalsAre, AcceptedAre};
 
 /// Fed with the items of an input, the kernels of a program give what the program's filters, splitters and joiners give.
 pub fn kernels_mean()
@@ -28,6 +29,11 @@ pub fn plans_are_valid()
     ensures { PlansAreValid }
 {}
 
+/// Its queues and variables are declared in the order in which the operators first use them.
+pub fn plans_in_turn()
+    ensures { PlansInTurn }
+{}
+
 /// It means what the stream means.
 pub fn translation_means()
     ensures { TranslationMeans }
@@ -36,4 +42,10 @@ pub fn translation_means()
 /// The plan of a program that is accepted is valid, and means what the program means.
 pub fn programs_mean()
     ensures { ProgramsMean }
+{}
+
+/// A program is refused with the fault of the first place that has one, in that place's unit, and accepted where none has one.
+pub fn refusals_are()
+    ensures refused { RefusalsAre }
+    ensures accepted { AcceptedAre }
 {}

@@ -1,6 +1,7 @@
-use Rattle.std.proofs.Common.{◌≡◌, ◌++◌, map}
-use Rattle.streamit_model.specs.Build.{queues, values_in}
+use Rattle.std.proofs.Common.{◌≡◌, ◌++◌, map, take}
+use Rattle.river_plan.specs.Forms.{op_form}
+use Rattle.streamit_model.specs.Build.{own_queues, values_in}
 use Rattle.streamit_build.proofs.planning.declare_queues.Given as goal
 
-abbrev pub invariant-loop-i : goal.invariant-loop-i
-invariant-loop-i l = l.to ≡ l.initial.to ++ map values_in (queues 1 l.i)
+abbrev pub invariant-loop-op : goal.invariant-loop-op
+invariant-loop-op l = l.to ≡ l.initial.to ++ map values_in (own_queues (map op_form (take l.op-index l.op-items)))
