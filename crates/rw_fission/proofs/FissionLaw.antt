@@ -73,7 +73,7 @@ below_all m (k ∷ ks) h =
     and_from (nat_le k m) (list_all (λ j. nat_le j m) ks) (let a = All-head (λ j. j ≤ m) k ks h in grind (arith, a)) (below_all m ks (All-tail (λ j. j ≤ m) k ks h))
 
 -- each limit is in the list of all
-limit_in : (t : Limit → Bool) → list_all t limits ≡ true → (limit : Limit) → t limit ≡ true
+pub limit_in : (t : Limit → Bool) → list_all t limits ≡ true → (limit : Limit) → t limit ≡ true
 limit_in t h Inputs = grind (arith, h)
 limit_in t h Operators = grind (arith, h)
 limit_in t h Queues = grind (arith, h)
