@@ -68,8 +68,8 @@ scope_kept b ms sc s none a = record {
   known = λ n w d. ⊎_elim (λ x. a.known n w x) (λ x. absurd (none n w x)) (known_parts b ms n w s d);
 }
 
-given_is : (n m : Name) (v w : What) → Some (n, v) ≡ Some (m, w) → (n ≡ m) × (v ≡ w)
-given_is n m v w h = let e : (n, v) ≡ (m, w) = cc h in (ap (λ x. x.0) e, ap (λ x. x.1) e)
+given_is : (a c : Name × What) → Some a ≡ Some c → (a.0 ≡ c.0) × (a.1 ≡ c.1)
+given_is a c h = let e : a ≡ c = cc h in (ap (λ x. x.0) e, ap (λ x. x.1) e)
 
 -- a name that was not known
 scope_named : (b : List Mark) (m : Mark) (sc : Scope) (n : Name) (e : Entry) → gives m ≡ Some (n, what_of e) → ((k : ℕ) → stays k (m ∷ []) ≡ true)
@@ -91,7 +91,7 @@ scope_named b m sc n e g s new a = record {
       (cases_name n x))
       (λ k. ⊎_elim
       (λ h.
-      let i = given_is n x (what_of e) w (sym g ∙ h.0) in ⊎_elim
+      let i = given_is (n, what_of e) (x, w) (sym g ∙ h.0) in ⊎_elim
       (λ c. (e, if_true (name_eq n x) (Some e) (find sc x) c.1, i.1))
       (λ c. absurd (c.0 i.0))
       (cases_name n x))
@@ -330,7 +330,7 @@ declare_read n t b s0 a0 =
     let s = record s0 { size = s0.size + 1 } in
     let b1 = b ++ Begins ∷ [] in
     let b2 = b1 ++ Declares n ∷ [] in
-    let value = λ (v : Term). Ok (declared n s v) in
+    let value : Term → Result (Steps × At) Fault = λ v. Ok (declared n s v) in
     begins b (Declares n ∷ ms) s0 (λ s. on_ok (is_new (find s.scope n)) (λ u. on_ok (has_slot s) (λ w. on_ok (first_term t s.scope) (λ v. Ok (declared n s v))))) a0
     (λ a. on_new AtEnd b1 (Declares n ∷ ms) (find s.scope n) (λ u. on_ok (has_slot s) (λ w. on_ok (first_term t s.scope) value))
     (λ none. on_test AtEnd b1 (Declares n ∷ ms) (nat_lt s.slots 256) tt Limit (λ w. on_ok (first_term t s.scope) value)
@@ -366,7 +366,7 @@ emitted_read : (n : Name) (p : ℕ) (k : TableKind) (i : ℕ) (us : List Term) (
 emitted_read n p k i us v w b s a e =
     let ms = term_marks v ++ weight_marks n w in
     let b1 = b ++ Indexed n i ∷ [] in
-    let last = λ (u : Term). λ (ws : List Term). (one_step (steps.Push p (us ++ u ∷ ws)), s) in
+    let last : Term → List Term → Steps × At = λ u ws. (one_step (steps.Push p (us ++ u ∷ ws)), s) in
     on_test AtEnd b (Indexed n i ∷ ms) (nat_eq i (keys_in k)) tt Shape (λ x. on_ok (term_of s.scope v) (λ u. on_ok (weight_of k w s.scope) (λ ws. Ok (last u ws))))
     (λ y. next AtEnd b (Indexed n i) ms (on_ok (term_of s.scope v) (λ u. on_ok (weight_of k w s.scope) (λ ws. Ok (last u ws))))
     (fine_by b (Indexed n i) (λ h. h) (λ h. h) (λ h. h.2 (eqb-true i (keys_in k) y ∙ ap keys_in (the_kind b n p k h.0 s a e h.1))) (λ h. h))
@@ -411,9 +411,9 @@ mutual
       let b5 = b4 ++ Enters ∷ [] in
       let second = Enters ∷ (block_marks y ++ Leaves ∷ []) in
       let first = Enters ∷ (block_marks x ++ Leaves ∷ second) in
-      let done = λ (c : Term) (p q : Steps × At). (one_step (steps.If c p.0 q.0), record q.1 { scope = s.scope }) in
-      let two = λ (c : Term) (p : Steps × At). on_ok (steps_of y (record s { slots = p.1.slots; size = p.1.size })) (λ q. Ok (done c p q)) in
-      let one = λ (c : Term). on_ok (steps_of x s) (λ p. two c p) in
+      let done : Term → Steps × At → Steps × At → Steps × At = λ c p q. (one_step (steps.If c p.0 q.0), record q.1 { scope = s.scope }) in
+      let two : Term → Steps × At → Result (Steps × At) Fault = λ c p. on_ok (steps_of y (record s { slots = p.1.slots; size = p.1.size })) (λ q. Ok (done c p q)) in
+      let one : Term → Result (Steps × At) Fault = λ c. on_ok (steps_of x s) (λ p. two c p) in
       begins b (term_marks t ++ first) s0
       (λ s. on_ok (term_of s.scope t) (λ c. on_ok (steps_of x s) (λ p. on_ok (steps_of y (record s { slots = p.1.slots; size = p.1.size })) (λ q. Ok (one_step (steps.If c p.0 q.0), record q.1 { scope = s.scope })))))
       a0
@@ -465,7 +465,7 @@ pub part_read : (c : Part) (b : List Mark) (s : At) → IsAt b s → Verdict AtE
 part_read (Does c) b s a = statement_read c b s a
 part_read (Table n k) b s a =
     let m = Tables n k in
-    let keys = λ (x : Unit {0}). Ok (tabled n k s) in
+    let keys : Unit {0} → Result (Steps × At) Fault = λ x. Ok (tabled n k s) in
     on_new AtEnd b (m ∷ []) (find s.scope n)
     (λ u. on_ok (if nat_lt s.tables 64 then Ok tt else Err Limit) (λ v. on_ok (if is_best k then Ok tt else Err Limit) (λ w. on_ok (if nat_le (keys_in k) 8 then Ok tt else Err Limit) keys)))
     (λ none.

@@ -13,7 +13,7 @@ use Rattle.saw_model.specs.Places.{stays, Known, is_statement, is_local, is_tabl
 -- HOW MANY
 
 pub many_append : (t : Mark → Bool) (xs ys : List Mark) → how_many t (xs ++ ys) ≡ how_many t xs + how_many t ys
-many_append t [] ys = refl
+many_append t [] ys = omega arith
 many_append t (x ∷ xs) ys = let e = many_append t xs ys in omega (arith, e)
 
 -- BLOCKS
@@ -60,12 +60,12 @@ pub known_second : (xs ys : List Mark) (n : Name) (w : What) → Known ys n w �
 known_second [] ys n w d = d
 known_second (x ∷ xs) ys n w d = inr (known_second xs ys n w d)
 
-none_given : (n : Name) (w : What) → None ≡ Some (n, w) → ⊥
-none_given n w h = cc h
+none_given : (e : Name × What) → None ≡ Some e → ⊥
+none_given e h = cc h
 
 -- a mark that gives no name
 pub known_behind : (m : Mark) (ms : List Mark) (n : Name) (w : What) → gives m ≡ None → Known (m ∷ ms) n w → Known ms n w
-known_behind m ms n w e d = ⊎_elim (λ a. absurd (none_given n w (sym e ∙ a.0))) (λ a. a) d
+known_behind m ms n w e d = ⊎_elim (λ a. absurd (none_given (n, w) (sym e ∙ a.0))) (λ a. a) d
 
 -- a text behind which no name of it is known
 abbrev pub IsQuiet : List Mark → Type 0
@@ -186,7 +186,8 @@ pub record IsBody (ms : List Mark) : Type 0 where
   pub shut : IsShut ms
   pub tables : how_many is_table ms ≡ 0
 
-plain_body : (ms : List Mark) → IsPlain ms → IsBody ms
+-- a plain text is one
+pub plain_body : (ms : List Mark) → IsPlain ms → IsBody ms
 plain_body ms p = record { steady = p.steady; shut = λ ys n w h d. p.quiet ys n w d; tables = p.tables }
 
 body_both : (xs ys : List Mark) → IsBody xs → IsBody ys → IsBody (xs ++ ys)
@@ -215,14 +216,14 @@ local_body n = record {
 }
 
 -- a block that is entered and left
-pub block_whole : (as rest : List Mark) → IsBody as → IsBody rest → IsBody (Enters ∷ (as ++ Leaves ∷ rest))
-block_whole as rest a r = record {
-  steady = λ k ys. ap (stays (suc k)) (append_assoc as (Leaves ∷ rest) ys) ∙ a.steady (suc k) (Leaves ∷ (rest ++ ys)) ∙ r.steady k ys;
+pub block_whole : (xs rest : List Mark) → IsBody xs → IsBody rest → IsBody (Enters ∷ (xs ++ Leaves ∷ rest))
+block_whole xs rest a r = record {
+  steady = λ k ys. ap (stays (suc k)) (append_assoc xs (Leaves ∷ rest) ys) ∙ a.steady (suc k) (Leaves ∷ (rest ++ ys)) ∙ r.steady k ys;
   shut = λ ys n w h d.
-      let e = known_behind Enters ((as ++ Leaves ∷ rest) ++ ys) n w refl d in
-      let f = a.shut (Leaves ∷ (rest ++ ys)) n w refl (subst (λ ms. Known ms n w) (append_assoc as (Leaves ∷ rest) ys) e) in
+      let e = known_behind Enters ((xs ++ Leaves ∷ rest) ++ ys) n w refl d in
+      let f = a.shut (Leaves ∷ (rest ++ ys)) n w refl (subst (λ ms. Known ms n w) (append_assoc xs (Leaves ∷ rest) ys) e) in
       r.shut ys n w h (known_behind Leaves (rest ++ ys) n w refl f);
-  tables = let e = many_append is_table as (Leaves ∷ rest) in let x = a.tables in let y = r.tables in omega (arith, e, x, y);
+  tables = let e = many_append is_table xs (Leaves ∷ rest) in let x = a.tables in let y = r.tables in omega (arith, e, x, y);
 }
 
 mutual

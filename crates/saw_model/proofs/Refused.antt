@@ -26,15 +26,15 @@ later : (b : List Mark) (k : ℕ) (c : Part) (ps : Program) (p : Steps × At) �
 later b k c ps p f (Ok q) a = fine_both b (part_marks c) (program_marks ps) f a
 later b k c ps p f (Err e) a = inr (f, a)
 
-mutual
-  unit_read : (b : List Mark) (k : ℕ) (c : Part) (ps : Program) (r : Result (Steps × At) Fault) → Verdict AtEnd b (part_marks c) r
-      → Answers b k (c ∷ ps) (in_unit k r (λ p. on_fine (all_parts (suc k) ps p.1) (λ q. Ok (joined p.0 q.0, q.1))))
-  unit_read b k c ps (Ok p) v = later b k c ps p v.0 (all_parts (suc k) ps p.1) (units_read (b ++ part_marks c) (suc k) ps p.1 v.1)
-  unit_read b k c ps (Err e) v = inl (refl, v)
+unit_read : (b : List Mark) (k : ℕ) (c : Part) (ps : Program) (r : Result (Steps × At) Fault) → Verdict AtEnd b (part_marks c) r
+    → ((s : At) → IsAt (b ++ part_marks c) s → Answers (b ++ part_marks c) (suc k) ps (all_parts (suc k) ps s))
+    → Answers b k (c ∷ ps) (in_unit k r (λ p. on_fine (all_parts (suc k) ps p.1) (λ q. Ok (joined p.0 q.0, q.1))))
+unit_read b k c ps (Ok p) v more = later b k c ps p v.0 (all_parts (suc k) ps p.1) (more p.1 v.1)
+unit_read b k c ps (Err e) v more = inl (refl, v)
 
-  units_read : (b : List Mark) (k : ℕ) (ps : Program) (s : At) → IsAt b s → Answers b k ps (all_parts k ps s)
-  units_read b k [] s a = tt
-  units_read b k (c ∷ ps) s a = unit_read b k c ps (part_of c s) (part_read c b s a)
+units_read : (b : List Mark) (k : ℕ) (ps : Program) (s : At) → IsAt b s → Answers b k ps (all_parts k ps s)
+units_read b k [] s a = tt
+units_read b k (c ∷ ps) s a = unit_read b k c ps (part_of c s) (part_read c b s a) (λ t h. units_read (b ++ part_marks c) (suc k) ps t h)
 
 program_read : (p : Program) → Answers [] 1 p (judged p)
 program_read p = units_read [] 1 p nothing_read nothing_at
@@ -64,7 +64,7 @@ told b k (c ∷ ps) r h = ⊎_elim
       unit = c;
       others = ps;
       parts = refl;
-      counted = x.0;
+      counted = let n = x.0 in omega (arith, n);
       read = s.read;
       here = s.here;
       left = s.left;
@@ -108,7 +108,7 @@ is_told : (b : List Mark) (k : ℕ) (units : Program) (unit : Part) (others : Pr
     → AreFine b (program_marks units ++ read)
     → IsFirstFault (b ++ (program_marks units ++ read)) here r.fault
     → FirstIn b k (units ++ unit ∷ others) r
-is_told b k [] unit others read here left r n e f h = inl (n, subst (λ ms. HasFirst b ms r.fault) (sym e) (stands_first b read here left r.fault f h))
+is_told b k [] unit others read here left r n e f h = inl (omega (arith, n), subst (λ ms. HasFirst b ms r.fault) (sym e) (stands_first b read here left r.fault f h))
 is_told b k (c ∷ cs) unit others read here left r n e f h =
     let a = append_assoc (part_marks c) (program_marks cs) read in
     let s = fine_parts b (part_marks c) (program_marks cs ++ read) (subst (AreFine b) a f) in
