@@ -1,4 +1,5 @@
 pub mod Edit
+pub mod Judging
 pub mod KindLoops
 pub mod Lookups
 pub mod MeaningSame

@@ -1,4 +1,5 @@
 pub mod Answered
+pub mod Judged
 pub mod Lists
 pub mod Meaning
 pub mod Words

@@ -20,5 +20,5 @@ pub record SameMeaning (p p' : PlanForm) (inputs : List (List item.Item)) : Type
   pub adds : (t : Name) → SameBag (all_adds p' inputs t) (all_adds p inputs t)
 
 -- all items in the plan are of their queues' types
-abbrev pub AreTyped : PlanForm → List (List item.Item) → Type 0
-AreTyped p inputs = (q : Name) → All (HasType (kind_of (all_decls p) q)) (hist p inputs q)
+abbrev pub AreTypedHistories : PlanForm → List (List item.Item) → Type 0
+AreTypedHistories p inputs = (q : Name) → All (HasType (kind_of (all_decls p) q)) (hist p inputs q)

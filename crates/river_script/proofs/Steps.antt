@@ -8,11 +8,11 @@ use Rattle.river_plan.specs.Valid.{IsPlan}
 use Rattle.brooklet_model.specs.Typed.{AreInputs}
 use Rattle.plan_edits.specs.declared.unfit.Unfit.{Unfit}
 use Rattle.plan_edits.specs.Meaning.{SameOuter, SameMeaning}
-use Rattle.rw_fission.proofs.FissionLaw.{fission_keeps}
+use Rattle.rw_fission.proofs.FissionLaw.{fission_same}
 use Rattle.plan_edits.proofs.MeaningSame.{meaning_same}
 use Rattle.river_script.specs.Script.{StepForm, fusing, hoisting, splitting, step_of, then_all, script_from, ScriptKeeps, ScriptMeans}
-use Rattle.rw_local.proofs.FuseSteps.{fuse_law}
-use Rattle.rw_local.proofs.HoistSteps.{hoist_law}
+use Rattle.rw_local.proofs.FuseSteps.{fuse_same}
+use Rattle.rw_local.proofs.HoistSteps.{hoist_same}
 use Rattle.brooklet_model.proofs.TypedPlan.{typed_law}
 
 -- a valid plan of the same meaning, on all inputs that fit
@@ -41,9 +41,9 @@ keeps_trans p q r a b = (
 
 -- each step keeps what a plan means
 pub step_keeps : (p p' : PlanForm) (s : StepForm) → IsPlan p → step_of p s ≡ Ok p' → Keeps p p'
-step_keeps p p' (fusing q) v h = let k = fuse_law p p' q v h in (k.0, k.1, λ inputs a. k.2 inputs)
-step_keeps p p' (hoisting l) v h = let k = hoist_law p p' l v h in (k.0, k.1, λ inputs a. k.2 inputs (typed_law p inputs v a))
-step_keeps p p' (splitting l n) v h = let k = fission_keeps p p' l n v h in (k.0, k.1, λ inputs a. k.2 inputs (typed_law p inputs v a))
+step_keeps p p' (fusing q) v h = let k = fuse_same p p' q v h in (k.0, k.1, λ inputs a. k.2 inputs)
+step_keeps p p' (hoisting l) v h = let k = hoist_same p p' l v h in (k.0, k.1, λ inputs a. k.2 inputs (typed_law p inputs v a))
+step_keeps p p' (splitting l n) v h = let k = fission_same p p' l n v h in (k.0, k.1, λ inputs a. k.2 inputs (typed_law p inputs v a))
 
 no_script : (f : ℕ × Unfit) (p' : PlanForm) → Err f ≡ Ok p' → ⊥
 no_script f p' h = cc h

@@ -39,7 +39,7 @@ not_ok h = absurd (cc h)
 some_ok : (p q : PlanForm) → yes p ≡ yes q → p ≡ q
 some_ok p q h = cc h
 
-no_some : {A : Type 0} (a : A) → None ≡ Some a → ⊥
+pub no_some : {A : Type 0} (a : A) → None ≡ Some a → ⊥
 no_some a h = absurd (cc h)
 
 some_is : {A : Type 0} (a b : A) → Some a ≡ Some b → a ≡ b
@@ -129,7 +129,8 @@ packs_to_is p op m n source out t w (Flat u) r ki ws vs ko h =
     record { out = out; type = u; may = record { reads = r; writes = ws; vars = vs; kind_in = ki; kind_out = ko }; is = sym (some_is _ _ h) }
 packs_to_is p op m n source out t w (Pack u) r ki ws vs ko h = absurd (no_some w h)
 
-packs_is : (p : PlanForm) (op : OpForm) (m : Made) (n : ℕ) (source : Name) (t : FlatType) (w : Way) (ws vs : List Name) → op.reads ≡ source ∷ []
+-- one output and no variable
+pub packs_is : (p : PlanForm) (op : OpForm) (m : Made) (n : ℕ) (source : Name) (t : FlatType) (w : Way) (ws vs : List Name) → op.reads ≡ source ∷ []
     → kind_of (all_decls p) source ≡ Flat t
     → op.writes ≡ ws → op.vars ≡ vs → packs_way p op m n ws vs ≡ Some w → IsPacks p op m n source t w
 packs_is p op m n source t w [] vs r ki ew ev h = absurd (no_some w h)
@@ -141,7 +142,8 @@ nil_is : {A : Type 0} (xs : List A) → is_nil xs ≡ true → xs ≡ []
 nil_is [] h = refl
 nil_is (x ∷ xs) h = absurd (cc h)
 
-blocks_is : (p : PlanForm) (op : OpForm) (m : Made) (n : ℕ) (source : Name) (w : Way) (k : Kern) → op.reads ≡ source ∷ [] → op.kernel ≡ k
+-- a filter that takes all that it looks at
+pub blocks_is : (p : PlanForm) (op : OpForm) (m : Made) (n : ℕ) (source : Name) (w : Way) (k : Kern) → op.reads ≡ source ∷ [] → op.kernel ≡ k
     → blocks_way p op m n k ≡ Some w → IsBlocks p op m n source w
 blocks_is p op m n source w (filter f) r e h = ⊎_elim
     (λ t.
@@ -178,7 +180,8 @@ each_table tables (v ∷ vs) h x lt =
     (λ c. each_table tables vs a.1 x (let e = ap one_if c.1 in omega (arith, lt, e)))
     (cases_name v x)
 
-adds_is : (p : PlanForm) (op : OpForm) (m : Made) (source : Name) (t : FlatType) (w : Way) (ws vs : List Name) → op.reads ≡ source ∷ []
+-- tables alone
+pub adds_is : (p : PlanForm) (op : OpForm) (m : Made) (source : Name) (t : FlatType) (w : Way) (ws vs : List Name) → op.reads ≡ source ∷ []
     → kind_of (all_decls p) source ≡ Flat t
     → op.writes ≡ ws → op.vars ≡ vs → adds_way p op m ws vs ≡ Some w → IsAdds p op m source t w
 adds_is p op m source t w [] [] r ki ew ev h = absurd (no_some w h)

@@ -1,6 +1,6 @@
 -- Fission keeps a plan valid, and what it means.
 use Rattle.std.proofs.Common.{◌≡◌, ℕ, ◌<◌, Some, List, [], ◌∷◌, sym, subst, arith, ⊎_elim, Bool, true, ◌&&◌, ◌≤◌, refl, ap}
-use Rattle.std.specs.Prelude.{All, nat_le}
+use Rattle.std.specs.Prelude.{All, nat_le, Ok}
 use Rattle.std.specs.List.{list_all}
 use Rattle.std.proofs.lemmas.Bool.{and_parts, and_from}
 use Rattle.river_kernels.specs.declared.limit.Limit.{Limit}
@@ -23,7 +23,10 @@ use Rattle.river_plan.specs.Valid.{IsPlan}
 use Rattle.brooklet_model.specs.Histories.{hist}
 use Rattle.rw_fission.specs.Fission.{Way, split_by, by_packs, by_blocks, by_adds}
 use Rattle.plan_edits.specs.Lists.{first_with}
-use Rattle.plan_edits.specs.Meaning.{SameOuter, AreTyped, SameMeaning}
+use Rattle.plan_edits.specs.Meaning.{SameOuter, AreTypedHistories, SameMeaning}
+use Rattle.brooklet_model.proofs.TypedPlan.{typed_law}
+use Rattle.plan_edits.proofs.MeaningSame.{meaning_same}
+use Rattle.rw_fission.specs.Asked.{fission_of}
 use Rattle.rw_fission.specs.Laws.{FissionKeeps, FissionApart}
 use Rattle.rw_fission.specs.Made.{Made, made_of}
 use Rattle.rw_fission.specs.May.{IsApart, is_apart, is_within, stand_once}
@@ -70,7 +73,7 @@ below_all m (k ∷ ks) h =
     and_from (nat_le k m) (list_all (λ j. nat_le j m) ks) (let a = All-head (λ j. j ≤ m) k ks h in grind (arith, a)) (below_all m ks (All-tail (λ j. j ≤ m) k ks h))
 
 -- each limit is in the list of all
-limit_in : (t : Limit → Bool) → list_all t limits ≡ true → (limit : Limit) → t limit ≡ true
+pub limit_in : (t : Limit → Bool) → list_all t limits ≡ true → (limit : Limit) → t limit ≡ true
 limit_in t h Inputs = grind (arith, h)
 limit_in t h Operators = grind (arith, h)
 limit_in t h Queues = grind (arith, h)
@@ -123,8 +126,8 @@ any_good (x ∷ xs) = All-cons (λ x. Unit {0}) x xs tt (any_good xs)
 
 -- THE RESULT OF A FORM IS VALID, AND MEANS THE SAME
 
-abbrev Keeps : PlanForm → PlanForm → Type 0
-Keeps p p' = IsPlan p' × SameOuter p p' × ((inputs : List (List item.Item)) → AreTyped p inputs → SameMeaning p p' inputs)
+abbrev pub Keeps : PlanForm → PlanForm → Type 0
+Keeps p p' = IsPlan p' × SameOuter p p' × ((inputs : List (List item.Item)) → AreTypedHistories p inputs → SameMeaning p p' inputs)
 
 module _ (p : PlanForm) (l : Name) (op : OpForm) (n : ℕ) (source : Name) (v : IsPlan p) (here : first_with (named_it l) p.ops ≡ Some op) (some : 0 < n) where
   abbrev m : Made
@@ -176,12 +179,17 @@ module _ (p : PlanForm) (l : Name) (op : OpForm) (n : ℕ) (source : Name) (v : 
           → Keeps p (split_by p l op m n (kind_of (all_decls p) source) w)
       by_type t e f = subst (λ q. IsApart (split_by p l op m n q w) → Keeps p (split_by p l op m n q w)) (sym e) f a
 
--- the law of fission
-pub fission_keeps : FissionKeeps
-fission_keeps p p' l n v h =
+-- fission keeps a plan valid, and all its histories and rows, where all items are of their queues' types
+pub fission_same : (p p' : PlanForm) (l : Name) (n : ℕ) → IsPlan p → fission_of p l n ≡ Ok p' → Keeps p p'
+fission_same p p' l n v h =
     let c = accepted p l n p' h in
     let some : 0 < n = (let a = c.many in omega (arith, a)) in
     subst (Keeps p) (sym c.is) (way_keeps p l c.op n c.source v c.here some c.way (way_is p c.op (made_of l) n c.source c.way c.reads c.way_is) (apart_is _ c.apart))
+
+-- the law of fission
+pub fission_keeps : FissionKeeps
+fission_keeps p p' l n v h =
+    let k = fission_same p p' l n v h in (k.0, k.1, λ inputs a. meaning_same p p' inputs k.1 (k.2 inputs (typed_law p inputs v a)))
 
 -- the last condition is exact
 pub fission_apart : FissionApart

@@ -7,8 +7,10 @@ pub mod ByPacks
 pub mod CodeLemmas
 pub mod Dealt
 pub mod Declared
+pub mod FissionJudged
 pub mod FissionLaw
 pub mod Flatness
+pub mod FormJudged
 pub mod Instances
 pub mod MadeNames
 pub mod Packs

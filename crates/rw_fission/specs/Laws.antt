@@ -5,18 +5,20 @@ use Rattle.river_plan.specs.Forms.{Name, OpForm, PlanForm, all_decls}
 use Rattle.river_plan.specs.Kinds.{kind_of}
 use Rattle.river_plan.specs.Uses.{named_it}
 use Rattle.river_plan.specs.Valid.{IsPlan}
+use Rattle.brooklet_model.specs.Meaning.{meaning}
+use Rattle.brooklet_model.specs.Typed.{AreInputs}
 use Rattle.rw_fission.specs.Asked.{fission_of, way_of}
 use Rattle.rw_fission.specs.Fission.{Way, split_by}
 use Rattle.plan_edits.specs.Lists.{first_with}
 use Rattle.rw_fission.specs.Made.{made_of}
 use Rattle.rw_fission.specs.May.{is_apart}
-use Rattle.plan_edits.specs.Meaning.{SameOuter, SameMeaning, AreTyped}
+use Rattle.plan_edits.specs.Meaning.{SameOuter}
 
--- an accepted step gives a valid plan, which means what the plan means, on all inputs on which the plan's histories are of their types
+-- What is split is a valid plan with the same inputs, outputs and tables, and means the same on all inputs that fit.
 abbrev pub FissionKeeps : Type 0
 FissionKeeps =
     (p p' : PlanForm) (l : Name) (n : ℕ) → IsPlan p → fission_of p l n ≡ Ok p'
-    → IsPlan p' × SameOuter p p' × ((inputs : List (List item.Item)) → AreTyped p inputs → SameMeaning p p' inputs)
+    → IsPlan p' × SameOuter p p' × ((inputs : List (List item.Item)) → AreInputs p.inputs inputs → meaning p' inputs ≡ meaning p inputs)
 
 -- of a result, a valid plan is one in which no name stands twice and no number is above its limit
 abbrev pub FissionApart : Type 0

@@ -2,6 +2,7 @@
 use Rattle.std.proofs.Common.{◌≡◌, ◌<◌, false, Some, None, List, [], ◌∷◌, length, refl, sym, ap, ◌∙◌, subst, arith, ⊎_elim, nat_lt}
 use Rattle.std.specs.Prelude.{Option, Result, Ok, Err}
 use Rattle.std.proofs.lemmas.Bool.{cases_lt, cases_eq, or_parts, ltb-false}
+use Rattle.river_base.specs.declared.item.Item as item
 use Rattle.river_kernels.specs.Limits.{nesting}
 use Rattle.river_plan.specs.Forms.{Name, OpForm, PlanForm, queue_names}
 use Rattle.river_plan.specs.Names.{count, one_if}
@@ -13,6 +14,7 @@ use Rattle.plan_edits.specs.declared.unfit.Unfit.{Unfit}
 use Rattle.plan_edits.specs.declared.unfit.Unfit.TheVariants.{U1, U2, U3, U4, U5}
 use Rattle.plan_edits.specs.Lists.{first_with}
 use Rattle.plan_edits.specs.Meaning.{SameOuter, SameMeaning}
+use Rattle.plan_edits.proofs.MeaningSame.{meaning_same}
 use Rattle.rw_local.specs.Fuse.{fused_op, fused_plan, share, is_large, fuse_two, fuse_found, fuse_of, MayFuse, FuseKeeps}
 use Rattle.rw_local.proofs.FuseLaw.{fuse_keeps}
 
@@ -82,12 +84,17 @@ module _ (p : PlanForm) (q : Name) (p' : PlanForm) where
       (λ ge. absurd (not_ok U1 p' (sym (if_ge 0 (count q (queue_names p)) _ _ ge) ∙ h)))
       (cases_lt 0 (count q (queue_names p)))
 
--- the law of fusion
-pub fuse_law : FuseKeeps
-fuse_law p p' q v h =
+-- fusion keeps a plan valid, and all its histories and rows, on all inputs
+pub fuse_same : (p p' : PlanForm) (q : Name) → IsPlan p → fuse_of p q ≡ Ok p'
+    → IsPlan p' × SameOuter p p' × ((inputs : List (List item.Item)) → SameMeaning p p' inputs)
+fuse_same p p' q v h =
     let a = accepted p q p' h in
     let k = fuse_keeps p q a.writer a.reader v a.may in (
       subst IsPlan a.is k.0,
       subst (SameOuter p) a.is (record { outputs = refl; inputs = refl; tables = refl }),
       λ inputs. subst (λ x. SameMeaning p x inputs) a.is (k.1 inputs),
     )
+
+-- the law of fusion
+pub fuse_law : FuseKeeps
+fuse_law p p' q v h = let k = fuse_same p p' q v h in (k.0, k.1, λ inputs a. meaning_same p p' inputs k.1 (k.2 inputs))

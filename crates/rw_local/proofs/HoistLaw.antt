@@ -33,7 +33,7 @@ use Rattle.brooklet_model.proofs.Lists.{if_true, funext}
 use Rattle.brooklet_model.proofs.Ports.{counts, length-spliced}
 use Rattle.brooklet_model.proofs.Solutions.{stays, written_out, plan_solves}
 use Rattle.plan_edits.specs.Lists.{retyped}
-use Rattle.plan_edits.specs.Meaning.{SameMeaning, AreTyped}
+use Rattle.plan_edits.specs.Meaning.{SameMeaning, AreTypedHistories}
 use Rattle.rw_local.specs.Hoist.{first_width, raised, lowered, hoisted_plan, MayHoist}
 use Rattle.plan_edits.proofs.Edit.{Edit, Cut, cut_of, edit_of, Stays, sum_old, sum_new, Parts, parts, together, reordered, edited, edited_adds}
 use Rattle.plan_edits.proofs.Lookups.{map_agree}
@@ -354,7 +354,7 @@ module _ (p : PlanForm) (l : Name) (u b : OpForm) (t : Term) (side : ℕ) (t' : 
       (tables_length p.tables p.vars b.vars (λ x lt. v.vars_declared x (let a = sum_old p.ops p'.ops e (vars_it x) in omega (arith, a, lt)))
       ∙ (counts b.kernel _ _ _ b_fit).tables ∙ passed_tables (first_width (map kind b.reads)) b.kernel t side t' is_passed)
 
-  module _ (inputs : List (List item.Item)) (typed : AreTyped p inputs) where
+  module _ (inputs : List (List item.Item)) (typed : AreTypedHistories p inputs) where
     abbrev g : History
     g = inputs_of (decl_names p.inputs) (list_at inputs)
 
@@ -446,5 +446,5 @@ module _ (p : PlanForm) (l : Name) (u b : OpForm) (t : Term) (side : ℕ) (t' : 
 -- hoisting keeps a plan valid, and what it means
 pub hoist_keeps : (p : PlanForm) (l : Name) (u b : OpForm) (t : Term) (side : ℕ) (t' : Term) (src mid out : Name) → IsPlan p
     → MayHoist p l u b t side t' src mid out
-    → IsPlan (hoisted_plan p u b side t' src mid out) × ((inputs : List (List item.Item)) → AreTyped p inputs → SameMeaning p (hoisted_plan p u b side t' src mid out) inputs)
+    → IsPlan (hoisted_plan p u b side t' src mid out) × ((inputs : List (List item.Item)) → AreTypedHistories p inputs → SameMeaning p (hoisted_plan p u b side t' src mid out) inputs)
 hoist_keeps p l u b t side t' src mid out v m = (valid p l u b t side t' src mid out v m, same p l u b t side t' src mid out v m)

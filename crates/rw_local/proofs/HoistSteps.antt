@@ -2,6 +2,7 @@
 use Rattle.std.proofs.Common.{◌≡◌, ℕ, Some, None, List, [], ◌∷◌, length, refl, sym, ap, ◌∙◌, subst, ⊎_elim, map}
 use Rattle.std.specs.Prelude.{Option, Result, Ok, Err, slice_get}
 use Rattle.std.proofs.lemmas.Bool.{cases_eq}
+use Rattle.river_base.specs.declared.item.Item as item
 use Rattle.work_code.specs.Term.{Term}
 use Rattle.river_kernels.specs.Kern.{Kern, code, filter, duplicate, deal, collect, packed, unpack, window, select, project, cross, streamer, tally, fused}
 use Rattle.river_plan.specs.Forms.{Name, OpForm, PlanForm, all_decls}
@@ -12,7 +13,9 @@ use Rattle.brooklet_model.proofs.Lists.{if_eq, if_ne}
 use Rattle.plan_edits.specs.declared.unfit.Unfit.{Unfit}
 use Rattle.plan_edits.specs.declared.unfit.Unfit.TheVariants.{H1, H2}
 use Rattle.plan_edits.specs.Lists.{first_with}
-use Rattle.plan_edits.specs.Meaning.{SameOuter, SameMeaning}
+use Rattle.plan_edits.specs.Meaning.{SameOuter, SameMeaning, AreTypedHistories}
+use Rattle.brooklet_model.proofs.TypedPlan.{typed_law}
+use Rattle.plan_edits.proofs.MeaningSame.{meaning_same}
 use Rattle.rw_local.specs.Hoist.{first_width, passes, hoisted_plan, hoist_at, hoist_passed, hoist_past, hoist_between, hoist_kernel, hoist_found, hoist_of}
 use Rattle.rw_local.specs.Hoist.{HoistKeeps, MayHoist}
 use Rattle.rw_local.proofs.FuseSteps.{not_ok, ok_same}
@@ -100,12 +103,18 @@ module _ (p : PlanForm) (l : Name) (p' : PlanForm) where
   pub accepted : hoist_of p l ≡ Ok p' → Accepted p l p'
   accepted h = found (first_with (named_it l) p.ops) refl h
 
--- the law of hoisting
-pub hoist_law : HoistKeeps
-hoist_law p p' l v h =
+-- hoisting keeps a plan valid, and all its histories and rows, where all items are of their queues' types
+pub hoist_same : (p p' : PlanForm) (l : Name) → IsPlan p → hoist_of p l ≡ Ok p'
+    → IsPlan p' × SameOuter p p' × ((inputs : List (List item.Item)) → AreTypedHistories p inputs → SameMeaning p p' inputs)
+hoist_same p p' l v h =
     let a = accepted p l p' h in
     let k = hoist_keeps p l a.above a.below a.cond a.side a.moved a.src a.mid a.out v a.may in (
       subst IsPlan a.is k.0,
       subst (SameOuter p) a.is (record { outputs = refl; inputs = refl; tables = refl }),
       λ inputs typed. subst (λ x. SameMeaning p x inputs) a.is (k.1 inputs typed),
     )
+
+-- the law of hoisting
+pub hoist_law : HoistKeeps
+hoist_law p p' l v h =
+    let k = hoist_same p p' l v h in (k.0, k.1, λ inputs a. meaning_same p p' inputs k.1 (k.2 inputs (typed_law p inputs v a)))

@@ -1,10 +1,14 @@
+pub mod Becoming
 pub mod CodeLemmas
+pub mod Cuts
 pub mod Fields
 pub mod FuseCode
+pub mod FuseJudged
 pub mod FuseLaw
 pub mod FuseLemmas
 pub mod FuseSteps
 pub mod HoistCode
+pub mod HoistJudged
 pub mod HoistLaw
 pub mod HoistLemmas
 pub mod HoistSteps

@@ -9,10 +9,12 @@ use Rattle.river_plan.specs.Forms.{Name, OpForm, PlanForm, queue_names}
 use Rattle.river_plan.specs.Names.{count}
 use Rattle.river_plan.specs.Uses.{writes_it, reads_it}
 use Rattle.river_plan.specs.Valid.{IsPlan}
+use Rattle.brooklet_model.specs.Meaning.{meaning}
+use Rattle.brooklet_model.specs.Typed.{AreInputs}
 use Rattle.plan_edits.specs.declared.unfit.Unfit.{Unfit}
 use Rattle.plan_edits.specs.declared.unfit.Unfit.TheVariants.{U1, U2, U3, U4, U5}
 use Rattle.plan_edits.specs.Lists.{place, undeclared, first_with, replaced}
-use Rattle.plan_edits.specs.Meaning.{SameOuter, SameMeaning}
+use Rattle.plan_edits.specs.Meaning.{SameOuter}
 
 -- one operator with the writer's label and inputs; the reader's outputs stand in the place of the queue among the writer's outputs
 abbrev pub fused_op : Name → OpForm → OpForm → OpForm
@@ -58,7 +60,8 @@ pub record MayFuse (p : PlanForm) (q : Name) (w r : OpForm) : Type 0 where
   pub ports : length (fused_op q w r).writes ≤ 64
   pub apart : (v : Name) → 0 < count v w.vars → count v r.vars ≡ 0
 
--- What is fused is a valid plan of the same meaning, on all inputs.
+-- What is fused is a valid plan with the same inputs, outputs and tables, and means the same on all inputs that fit.
 abbrev pub FuseKeeps : Type 0
 FuseKeeps =
-    (p p' : PlanForm) (q : Name) → IsPlan p → fuse_of p q ≡ Ok p' → IsPlan p' × SameOuter p p' × ((inputs : List (List item.Item)) → SameMeaning p p' inputs)
+    (p p' : PlanForm) (q : Name) → IsPlan p → fuse_of p q ≡ Ok p'
+    → IsPlan p' × SameOuter p p' × ((inputs : List (List item.Item)) → AreInputs p.inputs inputs → meaning p' inputs ≡ meaning p inputs)

@@ -13,10 +13,12 @@ use Rattle.river_plan.specs.Forms.{Name, OpForm, PlanForm, all_decls}
 use Rattle.river_plan.specs.Kinds.{kind_of}
 use Rattle.river_plan.specs.Uses.{writes_it, named_it}
 use Rattle.river_plan.specs.Valid.{IsPlan}
+use Rattle.brooklet_model.specs.Meaning.{meaning}
+use Rattle.brooklet_model.specs.Typed.{AreInputs}
 use Rattle.plan_edits.specs.declared.unfit.Unfit.{Unfit}
 use Rattle.plan_edits.specs.declared.unfit.Unfit.TheVariants.{H1, H2, H3, H4}
 use Rattle.plan_edits.specs.Lists.{first_with, replaced, retyped}
-use Rattle.plan_edits.specs.Meaning.{SameOuter, SameMeaning, AreTyped}
+use Rattle.plan_edits.specs.Meaning.{SameOuter}
 
 -- FIELDS
 
@@ -172,11 +174,11 @@ hoist_found p (Some u) = hoist_kernel p u u.kernel
 abbrev pub hoist_of : PlanForm → Name → Result PlanForm Unfit
 hoist_of p l = hoist_found p (first_with (named_it l) p.ops)
 
--- What is hoisted is a valid plan of the same meaning, where all items are of their queues' types.
+-- What is hoisted is a valid plan with the same inputs, outputs and tables, and means the same on all inputs that fit.
 abbrev pub HoistKeeps : Type 0
 HoistKeeps =
     (p p' : PlanForm) (l : Name) → IsPlan p → hoist_of p l ≡ Ok p'
-    → IsPlan p' × SameOuter p p' × ((inputs : List (List item.Item)) → AreTyped p inputs → SameMeaning p p' inputs)
+    → IsPlan p' × SameOuter p p' × ((inputs : List (List item.Item)) → AreInputs p.inputs inputs → meaning p' inputs ≡ meaning p inputs)
 
 -- the step is accepted, with this selection and the operator that feeds it
 pub record MayHoist (p : PlanForm) (l : Name) (u b : OpForm) (t : Term) (side : ℕ) (t' : Term) (src mid out : Name) : Type 0 where

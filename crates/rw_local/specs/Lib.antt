@@ -1,3 +1,5 @@
 pub mod Fuse
+pub mod Fusion
 pub mod Hoist
 pub mod HoistCode
+pub mod Hoisting

@@ -67,7 +67,8 @@ tallies_ordered known (t ∷ ts) h = (
   tallies_ordered (and_writes known (tally_op t)) ts (λ q lt. let k = h q (omega (arith, lt)) in omega (arith, k)),
 )
 
-names_of : (ts : List TableDecl) → decl_names (queue_decls ts) ≡ queues_of ts
+-- the names of the queues
+pub names_of : (ts : List TableDecl) → decl_names (queue_decls ts) ≡ queues_of ts
 names_of [] = refl
 names_of (t ∷ ts) = ap (λ l. queue_name t.name ∷ l) (names_of ts)
 
@@ -202,6 +203,16 @@ once_nested : (ts : List TableDecl) → All (λ n. n ≤ 32) (nestings (tallies 
 once_nested [] = nothing 32
 once_nested (t ∷ ts) = more 32 1 (nestings (tallies ts)) (omega arith) (once_nested ts)
 
+-- the input and the queues have names of their own
+pub in_and_queues : (ts : List TableDecl) → AreOnce (table_names ts) → (q : Name) → count q (codes "in" ∷ queues_of ts) ≤ 1
+in_and_queues ts once q = ⊎_elim
+    (λ c.
+    let e = ap one_if c.1 in
+    let n : count q (queues_of ts) ≡ 0 = subst (λ x. count x (queues_of ts) ≡ 0) c.0 (end_none (codes "@q") (codes "in") not_in ts) in
+    omega (arith, e, n))
+    (λ c. let e = ap one_if c.1 in let n = end_once (codes "@q") ts once q in omega (arith, e, n))
+    (cases_name (codes "in") q)
+
 module _ (p : Program) (read : Steps × At) (low : AreShallowParts p) (h : parts_read p nothing_read ≡ fine read) where
   abbrev ts : List TableDecl
   ts = tables_in p
@@ -218,9 +229,6 @@ module _ (p : Program) (read : Steps × At) (low : AreShallowParts p) (h : parts
   queues_once : AreOnce (queues_of ts)
   queues_once = end_once (codes "@q") ts once
 
-  no_in : count (codes "in") (queues_of ts) ≡ 0
-  no_in = end_none (codes "@q") (codes "in") not_in ts
-
   good : AreGood ts
   good = goods p nothing_read read h
 
@@ -234,10 +242,7 @@ module _ (p : Program) (read : Steps × At) (low : AreShallowParts p) (h : parts
   queue_names_are = ap (λ l. codes "in" ∷ l) (names_of ts)
 
   all_once : (q : Name) → count q (codes "in" ∷ queues_of ts) ≤ 1
-  all_once q = ⊎_elim
-      (λ c. let e = ap one_if c.1 in let n : count q (queues_of ts) ≡ 0 = subst (λ x. count x (queues_of ts) ≡ 0) c.0 no_in in omega (arith, e, n))
-      (λ c. let e = ap one_if c.1 in let n = queues_once q in omega (arith, e, n))
-      (cases_name (codes "in") q)
+  all_once q = in_and_queues ts once q
 
   written : (q : Name) → total (writes_it q) ops ≡ count q (queues_of ts)
   written q = let e = tallies_write q ts in omega (arith, e)

@@ -1,0 +1,253 @@
+-- Texts of marks: what is known behind them, and how much they have.
+use Rattle.std.proofs.Common.{◌≡◌, ℕ, zero, suc, ◌+◌, ◌⊎◌, inl, inr, Bool, true, false, List, [], ◌∷◌, ◌++◌, length, Option, Some, None, refl, sym, ap, ◌∙◌}
+use Rattle.std.proofs.Common.{subst, arith, ⊎_elim, append_assoc, append-nil}
+use Rattle.river_plan.specs.Forms.{Name}
+use Rattle.river_plan.specs.Names.{one_if}
+use Rattle.text_forms.specs.Tree.{Spoken}
+use Rattle.text_forms.specs.Tree as tree
+use Rattle.saw_model.specs.Source.{Statement, Declare, Assign, Emit, If, Block, End, Then}
+use Rattle.saw_model.specs.Places.{Mark, Begins, Enters, Leaves, Names, Reads, Foreign, Declares, Local, Sets, Emits, Index, Indexed, Weighted, Unweighted, Tables}
+use Rattle.saw_model.specs.Places.{term_marks, value_marks, index_marks, weight_marks, statement_marks, block_marks, What, gives, Turn, In, Out, Along, turn, past}
+use Rattle.saw_model.specs.Places.{stays, Known, is_statement, is_local, is_table, how_many}
+
+-- HOW MANY
+
+pub many_append : (t : Mark → Bool) (xs ys : List Mark) → how_many t (xs ++ ys) ≡ how_many t xs + how_many t ys
+many_append t [] ys = omega arith
+many_append t (x ∷ xs) ys = let e = many_append t xs ys in omega (arith, e)
+
+-- BLOCKS
+
+past_same : (t : Turn) (k : ℕ) (f g : ℕ → Bool) → ((j : ℕ) → f j ≡ g j) → past t k f ≡ past t k g
+past_same In k f g h = h (suc k)
+past_same Out zero f g h = refl
+past_same Out (suc k) f g h = h k
+past_same Along k f g h = h k
+
+-- what stays within any blocks says nothing of the text before it
+pub stays_before : (xs ys : List Mark) → ((k : ℕ) → stays k ys ≡ true) → (k : ℕ) → stays k (xs ++ ys) ≡ stays k xs
+stays_before [] ys h k = h k
+stays_before (x ∷ xs) ys h k = past_same (turn x) k (λ j. stays j (xs ++ ys)) (λ j. stays j xs) (λ j. stays_before xs ys h j)
+
+-- a text that leaves as many blocks as it enters, and none before
+abbrev pub IsSteady : List Mark → Type 0
+IsSteady xs = (k : ℕ) (ys : List Mark) → stays k (xs ++ ys) ≡ stays k ys
+
+pub steady_stays : (xs : List Mark) → IsSteady xs → (k : ℕ) → stays k xs ≡ true
+steady_stays xs h k = ap (stays k) (sym (append-nil xs)) ∙ h k []
+
+pub steady_both : (xs ys : List Mark) → IsSteady xs → IsSteady ys → IsSteady (xs ++ ys)
+steady_both xs ys a b k zs = ap (stays k) (append_assoc xs ys zs) ∙ a k (ys ++ zs) ∙ b k zs
+
+-- WHAT IS KNOWN
+
+-- behind two texts a name is known from one of them
+pub known_parts : (xs ys : List Mark) (n : Name) (w : What) → ((k : ℕ) → stays k ys ≡ true) → Known (xs ++ ys) n w → Known xs n w ⊎ Known ys n w
+known_parts [] ys n w h d = inr d
+known_parts (x ∷ xs) ys n w h d = ⊎_elim
+    (λ e. inl (inl (e.0, sym (stays_before xs ys h 0) ∙ e.1)))
+    (λ e. ⊎_elim (λ a. inl (inr a)) (λ a. inr a) (known_parts xs ys n w h e))
+    d
+
+pub known_first : (xs ys : List Mark) (n : Name) (w : What) → ((k : ℕ) → stays k ys ≡ true) → Known xs n w → Known (xs ++ ys) n w
+known_first [] ys n w h d = absurd d
+known_first (x ∷ xs) ys n w h d = ⊎_elim
+    (λ e. inl (e.0, stays_before xs ys h 0 ∙ e.1))
+    (λ e. inr (known_first xs ys n w h e))
+    d
+
+pub known_second : (xs ys : List Mark) (n : Name) (w : What) → Known ys n w → Known (xs ++ ys) n w
+known_second [] ys n w d = d
+known_second (x ∷ xs) ys n w d = inr (known_second xs ys n w d)
+
+none_given : (e : Name × What) → None ≡ Some e → ⊥
+none_given e h = cc h
+
+-- a mark that gives no name
+pub known_behind : (m : Mark) (ms : List Mark) (n : Name) (w : What) → gives m ≡ None → Known (m ∷ ms) n w → Known ms n w
+known_behind m ms n w e d = ⊎_elim (λ a. absurd (none_given (n, w) (sym e ∙ a.0))) (λ a. a) d
+
+-- a text behind which no name of it is known
+abbrev pub IsQuiet : List Mark → Type 0
+IsQuiet xs = (ys : List Mark) (n : Name) (w : What) → Known (xs ++ ys) n w → Known ys n w
+
+-- a text of which no name is known once its block is left
+abbrev pub IsShut : List Mark → Type 0
+IsShut xs = (ys : List Mark) (n : Name) (w : What) → stays 0 ys ≡ false → Known (xs ++ ys) n w → Known ys n w
+
+pub quiet_both : (xs ys : List Mark) → IsQuiet xs → IsQuiet ys → IsQuiet (xs ++ ys)
+quiet_both xs ys a b zs n w d = b zs n w (a (ys ++ zs) n w (subst (λ ms. Known ms n w) (append_assoc xs ys zs) d))
+
+pub quiet_alone : (xs : List Mark) → IsQuiet xs → (n : Name) (w : What) → Known xs n w → ⊥
+quiet_alone xs h n w d = h [] n w (subst (λ ms. Known ms n w) (sym (append-nil xs)) d)
+
+-- PLAIN TEXTS
+
+-- it enters and leaves no block, declares nothing and begins no statement
+pub record IsPlain (ms : List Mark) : Type 0 where
+  pub steady : IsSteady ms
+  pub quiet : IsQuiet ms
+  pub statements : how_many is_statement ms ≡ 0
+  pub locals : how_many is_local ms ≡ 0
+  pub tables : how_many is_table ms ≡ 0
+
+pub plain_none : IsPlain []
+plain_none = record { steady = λ k ys. refl; quiet = λ ys n w d. d; statements = refl; locals = refl; tables = refl }
+
+pub plain_both : (xs ys : List Mark) → IsPlain xs → IsPlain ys → IsPlain (xs ++ ys)
+plain_both xs ys a b = record {
+  steady = steady_both xs ys a.steady b.steady;
+  quiet = quiet_both xs ys a.quiet b.quiet;
+  statements = let e = many_append is_statement xs ys in let x = a.statements in let y = b.statements in omega (arith, e, x, y);
+  locals = let e = many_append is_local xs ys in let x = a.locals in let y = b.locals in omega (arith, e, x, y);
+  tables = let e = many_append is_table xs ys in let x = a.tables in let y = b.tables in omega (arith, e, x, y);
+}
+
+-- a mark that only has a place
+pub record IsAlong (m : Mark) : Type 0 where
+  pub turn : turn m ≡ Along
+  pub gives : gives m ≡ None
+  pub statement : is_statement m ≡ false
+  pub local : is_local m ≡ false
+  pub table : is_table m ≡ false
+
+pub plain_next : (m : Mark) (ms : List Mark) → IsAlong m → IsPlain ms → IsPlain (m ∷ ms)
+plain_next m ms a p = record {
+  steady = λ k ys. ap (λ t. past t k (λ j. stays j (ms ++ ys))) a.turn ∙ p.steady k ys;
+  quiet = λ ys n w d. p.quiet ys n w (known_behind m (ms ++ ys) n w a.gives d);
+  statements = let x = ap one_if a.statement in let y = p.statements in omega (arith, x, y);
+  locals = let x = ap one_if a.local in let y = p.locals in omega (arith, x, y);
+  tables = let x = ap one_if a.table in let y = p.tables in omega (arith, x, y);
+}
+
+pub along_names : (n : Name) → IsAlong (Names n)
+along_names n = record { turn = refl; gives = refl; statement = refl; local = refl; table = refl }
+
+pub along_reads : (n : ℕ) → IsAlong (Reads n)
+along_reads n = record { turn = refl; gives = refl; statement = refl; local = refl; table = refl }
+
+pub along_foreign : IsAlong Foreign
+along_foreign = record { turn = refl; gives = refl; statement = refl; local = refl; table = refl }
+
+pub along_declares : (n : Name) → IsAlong (Declares n)
+along_declares n = record { turn = refl; gives = refl; statement = refl; local = refl; table = refl }
+
+pub along_sets : (n : Name) → IsAlong (Sets n)
+along_sets n = record { turn = refl; gives = refl; statement = refl; local = refl; table = refl }
+
+pub along_emits : (n : Name) → IsAlong (Emits n)
+along_emits n = record { turn = refl; gives = refl; statement = refl; local = refl; table = refl }
+
+pub along_index : (n : ℕ) → IsAlong (Index n)
+along_index n = record { turn = refl; gives = refl; statement = refl; local = refl; table = refl }
+
+pub along_indexed : (n : Name) (i : ℕ) → IsAlong (Indexed n i)
+along_indexed n i = record { turn = refl; gives = refl; statement = refl; local = refl; table = refl }
+
+pub along_weighted : (n : Name) → IsAlong (Weighted n)
+along_weighted n = record { turn = refl; gives = refl; statement = refl; local = refl; table = refl }
+
+pub along_unweighted : (n : Name) → IsAlong (Unweighted n)
+along_unweighted n = record { turn = refl; gives = refl; statement = refl; local = refl; table = refl }
+
+pub plain_one : (m : Mark) → IsAlong m → IsPlain (m ∷ [])
+plain_one m a = plain_next m [] a plain_none
+
+pub term_plain : (t : Spoken) → IsPlain (term_marks t)
+term_plain (tree.Number v) = plain_none
+term_plain (tree.Name n) = plain_one (Names n) (along_names n)
+term_plain (tree.Input p) = plain_one (Reads p) (along_reads p)
+term_plain (tree.Slot p) = plain_one Foreign along_foreign
+term_plain (tree.Peek t) = plain_one Foreign along_foreign
+term_plain tree.Pop = plain_one Foreign along_foreign
+term_plain (tree.Neg t) = term_plain t
+term_plain (tree.Not t) = term_plain t
+term_plain (tree.Bin o l r) = plain_both (term_marks l) (term_marks r) (term_plain l) (term_plain r)
+
+pub value_plain : (t : Option Spoken) → IsPlain (value_marks t)
+value_plain None = plain_none
+value_plain (Some t) = term_plain t
+
+pub index_plain : (n : ℕ) (ts : List Spoken) → IsPlain (index_marks n ts)
+index_plain n [] = plain_none
+index_plain n (t ∷ ts) =
+    plain_next (Index (n + 1)) (term_marks t ++ index_marks (n + 1) ts) (along_index (n + 1))
+    (plain_both (term_marks t) (index_marks (n + 1) ts) (term_plain t) (index_plain (n + 1) ts))
+
+pub weight_plain : (n : Name) (t : Option Spoken) → IsPlain (weight_marks n t)
+weight_plain n None = plain_one (Unweighted n) (along_unweighted n)
+weight_plain n (Some t) = plain_next (Weighted n) (term_marks t) (along_weighted n) (term_plain t)
+
+-- BLOCKS OF STATEMENTS
+
+-- it leaves what it enters, nothing of it is known once its block is left, and it has no table
+pub record IsBody (ms : List Mark) : Type 0 where
+  pub steady : IsSteady ms
+  pub shut : IsShut ms
+  pub tables : how_many is_table ms ≡ 0
+
+-- a plain text is one
+pub plain_body : (ms : List Mark) → IsPlain ms → IsBody ms
+plain_body ms p = record { steady = p.steady; shut = λ ys n w h d. p.quiet ys n w d; tables = p.tables }
+
+body_both : (xs ys : List Mark) → IsBody xs → IsBody ys → IsBody (xs ++ ys)
+body_both xs ys a b = record {
+  steady = steady_both xs ys a.steady b.steady;
+  shut = λ zs n w h d. b.shut zs n w h (a.shut (ys ++ zs) n w (b.steady 0 zs ∙ h) (subst (λ ms. Known ms n w) (append_assoc xs ys zs) d));
+  tables = let e = many_append is_table xs ys in let x = a.tables in let y = b.tables in omega (arith, e, x, y);
+}
+
+-- a statement that begins
+begun : (ms : List Mark) → IsBody ms → IsBody (Begins ∷ ms)
+begun ms b = record {
+  steady = λ k ys. b.steady k ys;
+  shut = λ ys n w h d. b.shut ys n w h (known_behind Begins (ms ++ ys) n w refl d);
+  tables = let x = b.tables in omega (arith, x);
+}
+
+clash : (b : Bool) → b ≡ false → b ≡ true → ⊥
+clash b h e = absurd (let d : false ≡ true = sym h ∙ e in cc d)
+
+local_body : (n : Name) → IsBody (Local n ∷ [])
+local_body n = record {
+  steady = λ k ys. refl;
+  shut = λ ys x w h d. ⊎_elim (λ e. absurd (clash (stays 0 ys) h e.1)) (λ e. e) d;
+  tables = refl;
+}
+
+-- a block that is entered and left
+pub block_whole : (xs rest : List Mark) → IsBody xs → IsBody rest → IsBody (Enters ∷ (xs ++ Leaves ∷ rest))
+block_whole xs rest a r = record {
+  steady = λ k ys. ap (stays (suc k)) (append_assoc xs (Leaves ∷ rest) ys) ∙ a.steady (suc k) (Leaves ∷ (rest ++ ys)) ∙ r.steady k ys;
+  shut = λ ys n w h d.
+      let e = known_behind Enters ((xs ++ Leaves ∷ rest) ++ ys) n w refl d in
+      let f = a.shut (Leaves ∷ (rest ++ ys)) n w refl (subst (λ ms. Known ms n w) (append_assoc xs (Leaves ∷ rest) ys) e) in
+      r.shut ys n w h (known_behind Leaves (rest ++ ys) n w refl f);
+  tables = let e = many_append is_table xs (Leaves ∷ rest) in let x = a.tables in let y = r.tables in omega (arith, e, x, y);
+}
+
+mutual
+  pub statement_body : (c : Statement) → IsBody (statement_marks c)
+  statement_body (Declare n t) =
+      begun (Declares n ∷ (value_marks t ++ Local n ∷ []))
+      (body_both (Declares n ∷ []) (value_marks t ++ Local n ∷ []) (plain_body (Declares n ∷ []) (plain_one (Declares n) (along_declares n)))
+      (body_both (value_marks t) (Local n ∷ []) (plain_body (value_marks t) (value_plain t)) (local_body n)))
+  statement_body (Assign n t) =
+      begun (Sets n ∷ term_marks t) (plain_body (Sets n ∷ term_marks t) (plain_next (Sets n) (term_marks t) (along_sets n) (term_plain t)))
+  statement_body (Emit n is v w) =
+      let last = term_marks v ++ weight_marks n w in
+      let more = plain_next (Indexed n (length is)) last (along_indexed n (length is)) (plain_both (term_marks v) (weight_marks n w) (term_plain v) (weight_plain n w)) in
+      let all = index_marks 0 is ++ Indexed n (length is) ∷ last in
+      begun (Emits n ∷ all)
+      (plain_body (Emits n ∷ all)
+      (plain_next (Emits n) all (along_emits n) (plain_both (index_marks 0 is) (Indexed n (length is) ∷ last) (index_plain 0 is) more)))
+  statement_body (If t a b) =
+      let second = Enters ∷ (block_marks b ++ Leaves ∷ []) in
+      let first = Enters ∷ (block_marks a ++ Leaves ∷ second) in
+      begun (term_marks t ++ first)
+      (body_both (term_marks t) first (plain_body (term_marks t) (term_plain t))
+      (block_whole (block_marks a) second (block_body a) (block_whole (block_marks b) [] (block_body b) (plain_body [] plain_none))))
+
+  pub block_body : (b : Block) → IsBody (block_marks b)
+  block_body End = plain_body [] plain_none
+  block_body (Then c b) = body_both (statement_marks c) (block_marks b) (statement_body c) (block_body b)

@@ -1,0 +1,96 @@
+-- The faults of a program: which place has which, by the text before it, and which is told.
+use Rattle.std.specs.Prelude.{◌≡◌, ◌↔◌, ◌⊎◌, ℕ, ◌+◌, ◌<◌, List, [], ◌∷◌, ◌++◌, length, Ok, Err}
+use Rattle.work_code.specs.Steps.{Steps}
+use Rattle.kern_tables.specs.declared.kind.TableKind.{TableKind}
+use Rattle.kern_tables.specs.declared.kind.TableKind.TheVariants.{Sum, Collection, Maximum}
+use Rattle.saw_model.specs.Elaborate.{Fault, UnknownName, NameTwice, Shape, Limit, At, keys_in}
+use Rattle.saw_model.specs.Judged.{Refusal, judged}
+use Rattle.saw_model.specs.Places.{Mark, Begins, Names, Reads, Foreign, Declares, Sets, Emits, Index, Indexed, Weighted, Unweighted, Tables, What, ALocal, ATable}
+use Rattle.saw_model.specs.Places.{Known, is_statement, is_local, is_table, how_many, part_marks, program_marks}
+use Rattle.saw_model.specs.Source.{Part, Program}
+
+-- a value's name or a name that is set is no known local, or the name behind emit is no table that is declared above
+abbrev pub IsUnknown : List Mark → Mark → Type 0
+IsUnknown before (Names n) = Known before n ALocal → ⊥
+IsUnknown before (Sets n) = Known before n ALocal → ⊥
+IsUnknown before (Emits n) = (k : TableKind) → Known before n (ATable k) → ⊥
+IsUnknown before Foreign = Unit {0}
+IsUnknown before m = ⊥
+
+-- a name that is known there is declared again
+abbrev pub IsTwice : List Mark → Mark → Type 0
+IsTwice before (Declares n) = (w : What) × Known before n w
+IsTwice before (Tables n k) = (w : What) × Known before n w
+IsTwice before m = ⊥
+
+abbrev pub IsMaximum : TableKind → Type 0
+IsMaximum (Sum keys) = ⊥
+IsMaximum (Collection keys) = ⊥
+IsMaximum (Maximum best keys) = Unit {0}
+
+-- an emit has another number of indexes than its table, or a weight where there is none, or none where there is one
+abbrev pub IsMisshapen : List Mark → Mark → Type 0
+IsMisshapen before (Indexed n i) = (k : TableKind) × Known before n (ATable k) × (i ≡ keys_in k → ⊥)
+IsMisshapen before (Weighted n) = (k : TableKind) × Known before n (ATable k) × (IsMaximum k → ⊥)
+IsMisshapen before (Unweighted n) = (k : TableKind) × Known before n (ATable k) × IsMaximum k
+IsMisshapen before m = ⊥
+
+-- a maximum of 0 or above 1,000,000
+abbrev pub IsNoBest : TableKind → Type 0
+IsNoBest (Sum keys) = ⊥
+IsNoBest (Collection keys) = ⊥
+IsNoBest (Maximum best keys) = (best ≡ 0) ⊎ (1000000 < best)
+
+-- input[N] with N above 15, more than 8 indexes, such a maximum, more than 64 tables, 256 locals or 16,384 statements
+abbrev pub IsTooMuch : List Mark → Mark → Type 0
+IsTooMuch before (Reads n) = 15 < n
+IsTooMuch before (Index n) = 8 < n
+IsTooMuch before (Tables n k) = (64 < how_many is_table before + 1) ⊎ (IsNoBest k ⊎ (8 < keys_in k))
+IsTooMuch before (Declares n) = 256 < how_many is_local before + 1
+IsTooMuch before Begins = 16384 < how_many is_statement before + 1
+IsTooMuch before m = ⊥
+
+-- behind this text the place has this fault, whichever others it has
+abbrev pub HasFault : List Mark → Mark → Fault → Type 0
+HasFault before m UnknownName = IsUnknown before m
+HasFault before m NameTwice = IsTwice before m
+HasFault before m Shape = IsMisshapen before m
+HasFault before m Limit = IsTooMuch before m
+
+-- the order in which the faults of one place are told
+abbrev pub rank : Fault → ℕ
+rank UnknownName = 0
+rank NameTwice = 1
+rank Shape = 2
+rank Limit = 3
+
+-- it is the first fault of the place
+pub record IsFirstFault (before : List Mark) (m : Mark) (f : Fault) : Type 0 where
+  pub has : HasFault before m f
+  pub first : (g : Fault) → rank g < rank f → HasFault before m g → ⊥
+
+-- no place of the text has a fault
+abbrev pub IsFaultless : List Mark → Type 0
+IsFaultless text = (before : List Mark) (m : Mark) (after : List Mark) → text ≡ before ++ m ∷ after → (f : Fault) → HasFault before m f → ⊥
+
+-- the first place of the program that has a fault stands in this unit, counted from 1, and this is its first fault
+pub record IsFaultAt (p : Program) (number : ℕ) (f : Fault) : Type 0 where
+  pub units : Program
+  pub unit : Part
+  pub others : Program
+  pub parts : p ≡ units ++ unit ∷ others
+  pub counted : number ≡ length units + 1
+  pub read : List Mark
+  pub here : Mark
+  pub left : List Mark
+  pub marks : part_marks unit ≡ read ++ here ∷ left
+  pub faultless : IsFaultless (program_marks units ++ read)
+  pub fault : IsFirstFault (program_marks units ++ read) here f
+
+-- a program is refused with a fault at a unit exactly where the first place that has one has it, and stands there
+abbrev pub RefusedAtFirst : Type 0
+RefusedAtFirst = (p : Program) (r : Refusal) → (judged p ≡ Err r) ↔ IsFaultAt p r.unit r.fault
+
+-- it is accepted exactly where no place has a fault
+abbrev pub AcceptedFaultless : Type 0
+AcceptedFaultless = (p : Program) → ((read : Steps × At) × (judged p ≡ Ok read)) ↔ IsFaultless (program_marks p)

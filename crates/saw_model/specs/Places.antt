@@ -1,0 +1,139 @@
+-- The places of a program in reading order, and what is known at each: a function of the text before it.
+use Rattle.std.specs.Prelude.{◌≡◌, ◌⊎◌, ℕ, zero, suc, ◌+◌, Bool, true, false, List, [], ◌∷◌, ◌++◌, length, Option, Some, None}
+use Rattle.kern_tables.specs.declared.kind.TableKind.{TableKind}
+use Rattle.river_plan.specs.Forms.{Name}
+use Rattle.river_plan.specs.Names.{one_if}
+use Rattle.text_forms.specs.Tree.{Spoken}
+use Rattle.text_forms.specs.Tree as tree
+use Rattle.saw_model.specs.Source.{Statement, Declare, Assign, Emit, If, Block, End, Then, Part, Table, Does, Program}
+
+-- WHAT IS READ
+
+pub data Mark : Type 0 where
+  -- a statement begins; a block is entered, and left
+  Begins : Mark
+  Enters : Mark
+  Leaves : Mark
+  -- in an expression a name, input[N], or a leaf that no text of Sawzall has
+  Names : Name → Mark
+  Reads : ℕ → Mark
+  Foreign : Mark
+  -- the name of a local that is declared; behind its first value the local is there
+  Declares : Name → Mark
+  Local : Name → Mark
+  -- a name that is set
+  Sets : Name → Mark
+  -- the name behind emit; index number N of an emit, from 1; behind its N indexes, an emit to this table; behind its value,
+  -- one with a weight or without
+  Emits : Name → Mark
+  Index : ℕ → Mark
+  Indexed : Name → ℕ → Mark
+  Weighted : Name → Mark
+  Unweighted : Name → Mark
+  -- a table
+  Tables : Name → TableKind → Mark
+
+abbrev pub term_marks : Spoken → List Mark
+term_marks (tree.Number v) = []
+term_marks (tree.Name n) = Names n ∷ []
+term_marks (tree.Input p) = Reads p ∷ []
+term_marks (tree.Slot p) = Foreign ∷ []
+term_marks (tree.Peek t) = Foreign ∷ []
+term_marks tree.Pop = Foreign ∷ []
+term_marks (tree.Neg t) = term_marks t
+term_marks (tree.Not t) = term_marks t
+term_marks (tree.Bin o l r) = term_marks l ++ term_marks r
+
+-- the first value of a local
+abbrev pub value_marks : Option Spoken → List Mark
+value_marks None = []
+value_marks (Some t) = term_marks t
+
+-- the indexes of an emit, behind n others
+abbrev pub index_marks : ℕ → List Spoken → List Mark
+index_marks n [] = []
+index_marks n (t ∷ ts) = Index (n + 1) ∷ (term_marks t ++ index_marks (n + 1) ts)
+
+abbrev pub weight_marks : Name → Option Spoken → List Mark
+weight_marks n None = Unweighted n ∷ []
+weight_marks n (Some t) = Weighted n ∷ term_marks t
+
+abbrev mutual
+  pub statement_marks : Statement → List Mark
+  statement_marks (Declare n t) = Begins ∷ Declares n ∷ (value_marks t ++ Local n ∷ [])
+  statement_marks (Assign n t) = Begins ∷ Sets n ∷ term_marks t
+  statement_marks (Emit n is v w) = Begins ∷ Emits n ∷ (index_marks 0 is ++ Indexed n (length is) ∷ (term_marks v ++ weight_marks n w))
+  statement_marks (If t a b) = Begins ∷ (term_marks t ++ Enters ∷ (block_marks a ++ Leaves ∷ Enters ∷ (block_marks b ++ Leaves ∷ [])))
+
+  pub block_marks : Block → List Mark
+  block_marks End = []
+  block_marks (Then c b) = statement_marks c ++ block_marks b
+
+abbrev pub part_marks : Part → List Mark
+part_marks (Table n k) = Tables n k ∷ []
+part_marks (Does c) = statement_marks c
+
+-- the places of a program, in reading order
+abbrev pub program_marks : Program → List Mark
+program_marks [] = []
+program_marks (c ∷ ps) = part_marks c ++ program_marks ps
+
+-- WHAT IS KNOWN
+
+-- what a name is
+pub data What : Type 0 where
+  ALocal : What
+  ATable : TableKind → What
+
+-- the name that is known from here on
+abbrev pub gives : Mark → Option (Name × What)
+gives (Local n) = Some (n, ALocal)
+gives (Tables n k) = Some (n, ATable k)
+gives m = None
+
+-- into a block, out of one, or neither
+pub data Turn : Type 0 where
+  In : Turn
+  Out : Turn
+  Along : Turn
+
+abbrev pub turn : Mark → Turn
+turn Enters = In
+turn Leaves = Out
+turn m = Along
+
+-- what is said of the text behind a mark, within one block more, or one less, or as many
+abbrev pub past : Turn → ℕ → (ℕ → Bool) → Bool
+past In k f = f (suc k)
+past Out zero f = false
+past Out (suc k) f = f k
+past Along k f = f k
+
+-- a text that is read within k blocks leaves no other
+abbrev pub stays : ℕ → List Mark → Bool
+stays k [] = true
+stays k (m ∷ ms) = past (turn m) k (λ j. stays j ms)
+
+-- Behind this text the name is known as this: it is declared there, and behind that no block is left but those that are entered
+-- there.
+abbrev pub Known : List Mark → Name → What → Type 0
+Known [] n w = ⊥
+Known (m ∷ ms) n w = ((gives m ≡ Some (n, w)) × (stays 0 ms ≡ true)) ⊎ Known ms n w
+
+-- HOW MANY THERE WERE
+
+abbrev pub is_statement : Mark → Bool
+is_statement Begins = true
+is_statement m = false
+
+abbrev pub is_local : Mark → Bool
+is_local (Local n) = true
+is_local m = false
+
+abbrev pub is_table : Mark → Bool
+is_table (Tables n k) = true
+is_table m = false
+
+abbrev pub how_many : (Mark → Bool) → List Mark → ℕ
+how_many t [] = 0
+how_many t (m ∷ ms) = one_if (t m) + how_many t ms
