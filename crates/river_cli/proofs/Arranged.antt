@@ -10,7 +10,7 @@ use Rattle.river_plan.proofs.NameLemmas.{name_same, name_sym}
 use Rattle.river_cli.specs.Inputs.{content_named, in_order, NamesPlace}
 use Rattle.river_cli.specs.declared.content.Content.{Content}
 use Rattle.river_cli.specs.declared.content.Content.TheVariants.{Rows as Plain}
-use Rattle.river_cli.specs.declared.job.InWord.{InWord}
+use Rattle.river_cli.specs.declared.command.InWord.{InWord}
 
 -- another content at the place of a word is none of another name
 pub other-kept : (ins : List InWord) (all : List Content) (i : ℕ) (w : InWord) (x : Content) (q : List ℕ) → i < length ins → w ≡ get_or ins i w

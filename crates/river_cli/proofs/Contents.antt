@@ -25,8 +25,8 @@ use Rattle.river_cli.specs.Contents.{IsContent, AreContents}
 use Rattle.river_cli.specs.Inputs.{names, names_fit, or_told, read_as, content_of, content_reader, file_read, with_first, all_read, content_named, in_order}
 use Rattle.river_cli.specs.declared.content.Content.{Content}
 use Rattle.river_cli.specs.declared.content.Content.TheVariants.{Rows as Plain, Timed}
-use Rattle.river_cli.specs.declared.job.InWord.{InWord}
-use Rattle.river_cli.specs.declared.job.Layout.{Layout}
+use Rattle.river_cli.specs.declared.command.InWord.{InWord}
+use Rattle.river_cli.specs.declared.command.Layout.{Layout}
 use Rattle.river_cli.proofs.Inputs.{IsNamed, all-named}
 
 -- WHAT IS READ FITS ITS TYPE

@@ -11,7 +11,7 @@ use Rattle.river_order.proofs.Comes.{Comes-same, Comes-on}
 use Rattle.river_order.proofs.Turns.{Stops-later}
 use Rattle.river_cli.specs.Inputs.{fetches}
 use Rattle.river_cli.specs.Text.{large_input}
-use Rattle.river_cli.specs.declared.job.InWord.{InWord}
+use Rattle.river_cli.specs.declared.command.InWord.{InWord}
 
 -- the files so far, and then those of the words that are left
 abbrev pub after : List (List ℕ) → (List (List ℕ) → Order) → List (List ℕ) → Order

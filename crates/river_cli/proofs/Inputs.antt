@@ -23,8 +23,8 @@ use Rattle.river_cli.specs.Inputs.{all_read, content_named, in_order, of_inputs}
 use Rattle.river_cli.specs.Text.{unknown_input, missing_input}
 use Rattle.river_cli.specs.declared.content.Content.{Content}
 use Rattle.river_cli.specs.declared.content.Content.TheVariants.{Rows as Plain}
-use Rattle.river_cli.specs.declared.job.InWord.{InWord}
-use Rattle.river_cli.specs.declared.job.Layout.{Layout}
+use Rattle.river_cli.specs.declared.command.InWord.{InWord}
+use Rattle.river_cli.specs.declared.command.Layout.{Layout}
 
 -- an input that is declared has a width
 declared_width : (decls : List Decl) (name : List ℕ) → All HasWidth decls → 0 < count name (decl_names decls) → IsTrue (is_width (width_named decls name))

@@ -1,4 +1,4 @@
--- The points of a job, and the calls that do them.
+-- The points of a command, and the calls that do them.
 use Rattle.std.proofs.Common.{◌≡◌, ℕ, ℤ, List, ◌++◌, Bool, false, refl, sym, ap, ◌∙◌, subst}
 use Rattle.std.specs.Prelude.{Option, Some, Result, Ok, Err, IfOk, pos, map}
 use Rattle.csv_streams.specs.Outcome.{outputs_text, tables_text, firings_text, asked, printed_outcome}
@@ -7,9 +7,10 @@ use Rattle.river_base.specs.declared.memory.NoMemory.{NoMemory}
 use Rattle.river_outside.specs.Held.{Held}
 use Rattle.river_order.specs.Order.{Order, Fetch, Comes}
 use Rattle.river_order.specs.Decides.{Decides, Stops}
-use Rattle.river_order.specs.Passes.{past, Refuses, StandsFor, Passes}
+use Rattle.river_order.specs.Passes.{past, Refuses, StandsFor, AnswersAs, Passes, PassesAs}
 use Rattle.river_order.specs.declared.stop.Stop.{Stop}
-use Rattle.river_order.proofs.Comes.{Comes-same}
+use Rattle.river_order.proofs.Comes.{Comes-same, Comes-on}
+use Rattle.river_order.proofs.Turns.{Stops-later}
 use Rattle.river_order.proofs.Passes.{past-refused, past-as, then-passes, passed-decides}
 use Rattle.river_plan.specs.Forms.{PlanForm, table_names, labels}
 use Rattle.river_print.specs.Printed.{plan_text}
@@ -18,96 +19,166 @@ use Rattle.brooklet_model.specs.Meaning.{Results, meaning}
 use Rattle.river_cli.specs.Contents.{AreContents}
 use Rattle.river_cli.specs.Layouts.{layout_of}
 use Rattle.river_cli.specs.Inputs.{of_inputs, all_items}
-use Rattle.river_cli.specs.Points.{of_run, of_command, of_script, of_text, of_job}
+use Rattle.plan_classes.specs.Lines.{classes_text}
+use Rattle.river_cli.specs.Points.{of_program, of_script, of_inputs_run, of_run, of_show, of_mean, of_command, ended, shown}
 use Rattle.river_cli.specs.Source.{Source, source_of, IsPlanOf, IsOf, IsKnown, IsCompiled, Gives, printed}
 use Rattle.river_cli.specs.Text.{large_program}
 use Rattle.river_cli.specs.declared.compile.Compiled.{Compiled}
 use Rattle.river_cli.specs.declared.content.Content.{Content}
-use Rattle.river_cli.specs.declared.job.Command.TheVariants.{Run, Mean, Show}
-use Rattle.river_cli.specs.declared.job.Job.{Job}
+use Rattle.river_cli.specs.declared.command.Command.{Command}
+use Rattle.river_cli.specs.declared.command.Command.TheVariants.{Run, Show, Mean}
+use Rattle.river_cli.specs.declared.command.InWord.{InWord}
+use Rattle.river_cli.specs.declared.command.Lang.{Lang}
+use Rattle.river_cli.specs.declared.command.Layout.{Layout}
+use Rattle.river_cli.proofs.Scripts.{as_passed}
 
--- the program was fetched
-pub job-decides : (job : Job) (text : List ℕ) (held : Option Held) (early late : Type 0) → (late → early) → (result : Result (List ℕ) Stop)
-    → ((next : List ℕ → Order) → Comes (Fetch job.file 1048576 large_program next) held (next text)) → Passes (of_text job text) held late result
-    → Decides (Some (of_job job)) held early result
-unfolding of_job
-job-decides job text held early late sooner result here there =
-    passed-decides (λ next. Fetch job.file 1048576 large_program (λ t. of_text job t next)) held early result
-    (then-passes (Fetch job.file 1048576 large_program) (λ t next. of_text job t next) held early late sooner text result here there)
+-- a point whose value stands for something, and the points after it
+pub as-then : {A B C : Type 0} (stands : A → B → Type 0) (first : (A → Order) → Order) (second : A → (C → Order) → Order) (held : Option Held) (mid early late : Type 0)
+    → (late → early) → (y : B) (result : Result C Stop) → PassesAs stands first held mid (Ok y) → ((x : A) → stands x y → Passes (second x) held late result)
+    → Passes (λ next. first (λ x. second x next)) held early result
+as-then stands first second held mid early late sooner y result here later = then-passes first second held early late sooner here.0 result here.2 (later here.0 here.1)
 
--- it was compiled, and its plan rewritten
-pub text-passes : (job : Job) (text : List ℕ) (held : Option Held) (early late : Type 0) → (late → early)
-    → (c : Compiled) (plan : PlanForm) (result : Result (List ℕ) Stop) → StandsFor IsCompiled (source_of job.lang text) c
-    → ((source : Source) → IsOf c.program source c.plan → (later : Source) × IsOf c.program later plan × ((next : Source → Order) → Comes (of_script job.options.script source next) held (next later)))
-    → ((source : Source) → IsOf c.program source plan → Passes (of_command job source) held late result) → Passes (of_text job text) held early result
-unfolding of_text
-text-passes job text held early late sooner c plan (Ok out) told script command =
-    past-as IsCompiled (source_of job.lang text) c (λ source next. of_script job.options.script source (λ later. of_command job later next)) held early (Ok out) told
-    (λ source is. let s = script source is in then-passes (of_script job.options.script source) (λ later next. of_command job later next) held early late sooner s.0 (Ok out) s.2 (command s.0 s.1))
-text-passes job text held early late sooner c plan (Err f) told script command =
-    past-as IsCompiled (source_of job.lang text) c (λ source next. of_script job.options.script source (λ later. of_command job later next)) held early (Err f) told
-    (λ source is. let s = script source is in then-passes (of_script job.options.script source) (λ later next. of_command job later next) held early late sooner s.0 (Err f) s.2 (command s.0 s.1))
+-- THE PROGRAM
 
--- it is refused
-pub text-stops : (job : Job) (text : List ℕ) (held : Option Held) (rose : Type 0) (s : Stop) → Refuses (source_of job.lang text) s → (next : List ℕ → Order)
-    → Stops (Some (of_text job text next)) held rose s
-unfolding of_text
-text-stops job text held rose s told next =
-    past-refused (source_of job.lang text) s held rose told (λ source. of_script job.options.script source (λ later. of_command job later next))
+module _ (lang : Lang) (file text : List ℕ) (held : Option Held) (rose : Type 0) where
+  -- it was fetched, and compiled or refused
+  pub program-passes : (result : Result Compiled Stop) → ((next : List ℕ → Order) → Comes (Fetch file 1048576 large_program next) held (next text))
+      → AnswersAs IsCompiled (source_of lang text) result → PassesAs IsCompiled (of_program lang file) held rose result
+  unfolding of_program
+  program-passes (Ok c) here told =
+      let s = as_passed IsCompiled (source_of lang text) c held told in
+      (s.0, s.1, λ next. Comes-on (Fetch file 1048576 large_program (λ t. past (source_of lang t) next)) (past (source_of lang text) next) (next s.0) held (here (λ t. past (source_of lang t) next)) (s.2 next))
+  program-passes (Err s) here told = λ next.
+      Stops-later (Fetch file 1048576 large_program (λ t. past (source_of lang t) next)) (past (source_of lang text) next) held rose rose (λ r. r) s (here (λ t. past (source_of lang t) next))
+      (past-refused (source_of lang text) s held rose told next)
 
--- its script stops it
-pub script-stops : (job : Job) (text : List ℕ) (held : Option Held) (rose : Type 0) (c : Compiled) (s : Stop) → StandsFor IsCompiled (source_of job.lang text) c
-    → ((source : Source) → IsOf c.program source c.plan → (next : Source → Order) → Stops (Some (of_script job.options.script source next)) held rose s)
-    → (next : List ℕ → Order) → Stops (Some (of_text job text next)) held rose s
-unfolding of_text
-script-stops job text held rose c s told stops =
-    past-as IsCompiled (source_of job.lang text) c (λ source next. of_script job.options.script source (λ later. of_command job later next)) held rose (Err s) told
-    (λ source is next. stops source is (λ later. of_command job later next))
+  -- it cannot be fetched
+  pub program-stops : (s : Stop) → ((next : List ℕ → Order) → Stops (Some (Fetch file 1048576 large_program next)) held rose s)
+      → (next : Source → Order) → Stops (Some (of_program lang file next)) held rose s
+  unfolding of_program
+  program-stops s stops next = stops (λ t. past (source_of lang t) next)
 
--- ---- THE COMMANDS
+-- THE COMMANDS
 
-module _ (job : Job) (source : Source) (held : Option Held) (rose : Type 0) where
-  pub run-passes : (result : Result (List ℕ) Stop) → job.command ≡ Run → Passes (of_run job job.options.counts source) held rose result
-      → Passes (of_command job source) held rose result
-  unfolding of_command of_run
-  run-passes (Ok text) is passed = λ next. rw is (passed next)
-  run-passes (Err s) is passed = λ next. rw is (passed next)
+module _ (lang : Lang) (file : List ℕ) (held : Option Held) where
+  module _ (ins : List InWord) (script : Option (List ℕ)) (header counts : Bool) where
+    abbrev run_after : Source → (List ℕ → Order) → Order
+    run_after source next = of_script script source (λ later. of_inputs_run ins (layout_of lang header) counts later next)
 
-  pub mean-passes : (result : Result (List ℕ) Stop) → job.command ≡ Mean → Passes (of_run job false source) held rose result
-      → Passes (of_command job source) held rose result
-  unfolding of_command of_run
-  mean-passes (Ok text) is passed = λ next. rw is (passed next)
-  mean-passes (Err s) is passed = λ next. rw is (passed next)
+    pub run-first : (rose : Type 0) (s : Stop) → ((next : Source → Order) → Stops (Some (of_program lang file next)) held rose s)
+        → (next : List ℕ → Order) → Stops (Some (of_run lang file ins script header counts next)) held rose s
+    unfolding of_run
+    run-first rose s stops next = stops (λ source. run_after source next)
 
-  -- the plan is printed
-  pub show-passes : (plan : PlanForm) (text : List ℕ) → job.command ≡ Show → IsPlanOf source plan → text ≡ plan_text plan
-      → Passes (of_command job source) held rose (Ok text)
+    pub run-script : (mid early late : Type 0) → (late → early) → (c : Compiled) (s : Stop) → PassesAs IsCompiled (of_program lang file) held mid (Ok c)
+        → ((source : Source) → IsOf c.program source c.plan → (next : Source → Order) → Stops (Some (of_script script source next)) held late s)
+        → (next : List ℕ → Order) → Stops (Some (of_run lang file ins script header counts next)) held early s
+    unfolding of_run
+    run-script mid early late sooner c s here stops =
+        as-then IsCompiled (of_program lang file) run_after held mid early late sooner c (Err s) here (λ source is next. stops source is (λ later. of_inputs_run ins (layout_of lang header) counts later next))
+
+    pub run-last : (mid half early late : Type 0) → (late → early) → (c : Compiled) (plan : PlanForm) (result : Result (List ℕ) Stop)
+        → PassesAs IsCompiled (of_program lang file) held mid (Ok c)
+        → ((source : Source) → IsOf c.program source c.plan → PassesAs (IsOf c.program) (of_script script source) held half (Ok plan))
+        → ((later : Source) → IsPlanOf later plan → Passes (of_inputs_run ins (layout_of lang header) counts later) held late result)
+        → Passes (of_run lang file ins script header counts) held early result
+    unfolding of_run
+    run-last mid half early late sooner c plan result here scripted over =
+        as-then IsCompiled (of_program lang file) run_after held mid early late sooner c result here (λ source is.
+        as-then (IsOf c.program) (of_script script source) (of_inputs_run ins (layout_of lang header) counts) held half late late (λ r. r) plan result (scripted source is) (λ later of. over later of.plan))
+
+  module _ (script : Option (List ℕ)) where
+    abbrev show_after : Source → (List ℕ → Order) → Order
+    show_after source next = of_script script source (λ later. next (shown later.plan))
+
+    pub show-first : (rose : Type 0) (s : Stop) → ((next : Source → Order) → Stops (Some (of_program lang file next)) held rose s)
+        → (next : List ℕ → Order) → Stops (Some (of_show lang file script next)) held rose s
+    unfolding of_show
+    show-first rose s stops next = stops (λ source. show_after source next)
+
+    pub show-script : (mid early late : Type 0) → (late → early) → (c : Compiled) (s : Stop) → PassesAs IsCompiled (of_program lang file) held mid (Ok c)
+        → ((source : Source) → IsOf c.program source c.plan → (next : Source → Order) → Stops (Some (of_script script source next)) held late s)
+        → (next : List ℕ → Order) → Stops (Some (of_show lang file script next)) held early s
+    unfolding of_show
+    show-script mid early late sooner c s here stops =
+        as-then IsCompiled (of_program lang file) show_after held mid early late sooner c (Err s) here (λ source is next. stops source is (λ later. next (shown later.plan)))
+
+    pub show-last : (mid half rose : Type 0) (c : Compiled) (plan : PlanForm) (text : List ℕ)
+        → PassesAs IsCompiled (of_program lang file) held mid (Ok c)
+        → ((source : Source) → IsOf c.program source c.plan → PassesAs (IsOf c.program) (of_script script source) held half (Ok plan))
+        → text ≡ shown plan → (next : List ℕ → Order) → Comes (of_show lang file script next) held (next text)
+    unfolding of_show
+    show-last mid half rose c plan text here scripted says =
+        as-then IsCompiled (of_program lang file) show_after held mid rose rose (λ r. r) c (Ok text) here (λ source is.
+        as-then (IsOf c.program) (of_script script source) (λ (later : Source) (next : List ℕ → Order). next (shown later.plan)) held half rose rose (λ r. r) plan (Ok text) (scripted source is) (λ later of next.
+        let same : text ≡ shown later.plan = says ∙ ap shown of.plan.plan in
+        subst (λ t. Comes (next (shown later.plan)) held (next t)) (sym same) (Comes-same (next (shown later.plan)) held)))
+
+  module _ (ins : List InWord) (header : Bool) where
+    pub mean-first : (rose : Type 0) (s : Stop) → ((next : Source → Order) → Stops (Some (of_program lang file next)) held rose s)
+        → (next : List ℕ → Order) → Stops (Some (of_mean lang file ins header next)) held rose s
+    unfolding of_mean
+    mean-first rose s stops next = stops (λ source. of_inputs_run ins (layout_of lang header) false source next)
+
+    pub mean-last : (mid early late : Type 0) → (late → early) → (c : Compiled) (result : Result (List ℕ) Stop)
+        → PassesAs IsCompiled (of_program lang file) held mid (Ok c)
+        → ((source : Source) → IsOf c.program source c.plan → Passes (of_inputs_run ins (layout_of lang header) false source) held late result)
+        → Passes (of_mean lang file ins header) held early result
+    unfolding of_mean
+    mean-last mid early late sooner c result here over =
+        as-then IsCompiled (of_program lang file) (of_inputs_run ins (layout_of lang header) false) held mid early late sooner c result here over
+
+-- what a command answers decides
+pub command-decides : (command : Command) (held : Option Held) (rose : Type 0) (result : Result (List ℕ) Stop) → Passes (of_command command) held rose result
+    → Decides (Some (ended command)) held rose result
+unfolding ended
+command-decides command held rose result passed = passed-decides (of_command command) held rose result passed
+
+-- each command does what it names
+module _ (held : Option Held) (rose : Type 0) where
+  pub run-answers : (lang : Lang) (file : List ℕ) (ins : List InWord) (script : Option (List ℕ)) (header counts : Bool) (result : Result (List ℕ) Stop)
+      → Passes (of_run lang file ins script header counts) held rose result → Passes (of_command (Run lang file ins script header counts)) held rose result
   unfolding of_command
-  show-passes plan text is of says = λ next. rw is (
-      let same : text ≡ plan_text source.plan = says ∙ ap plan_text of.plan in
-      subst (λ t. Comes (next (plan_text source.plan)) held (next t)) (sym same) (Comes-same (next (plan_text source.plan)) held))
+  run-answers lang file ins script header counts (Ok text) passed = passed
+  run-answers lang file ins script header counts (Err s) passed = passed
 
-module _ (job : Job) (counted : Bool) (source : Source) (plan : PlanForm) (held : Option Held) (is : IsPlanOf source plan) where
+  pub show-answers : (lang : Lang) (file : List ℕ) (script : Option (List ℕ)) (result : Result (List ℕ) Stop)
+      → Passes (of_show lang file script) held rose result → Passes (of_command (Show lang file script)) held rose result
+  unfolding of_command
+  show-answers lang file script (Ok text) passed = passed
+  show-answers lang file script (Err s) passed = passed
+
+  pub mean-answers : (lang : Lang) (file : List ℕ) (ins : List InWord) (header : Bool) (result : Result (List ℕ) Stop)
+      → Passes (of_mean lang file ins header) held rose result → Passes (of_command (Mean lang file ins header)) held rose result
+  unfolding of_command
+  mean-answers lang file ins header (Ok text) passed = passed
+  mean-answers lang file ins header (Err s) passed = passed
+
+-- a text with a line for each class
+pub shown_is : (p : PlanForm) (a b : List ℕ) → a ≡ plan_text p → b ≡ a ++ classes_text p → b ≡ shown p
+shown_is p a b e f = f ∙ ap (λ (l : List ℕ). l ++ classes_text p) e
+
+module _ (ins : List InWord) (layout : Layout) (counted : Bool) (source : Source) (plan : PlanForm) (held : Option Held) (is : IsPlanOf source plan) where
   abbrev from_inputs : (List ℕ → Order) → Order
-  from_inputs next = of_inputs source.inputs job.ins (layout_of job) (λ rows. next (printed source counted rows))
+  from_inputs next = of_inputs source.inputs ins layout (λ rows. next (printed source counted rows))
 
-  run_is : (next : List ℕ → Order) → of_run job counted source next ≡ from_inputs next
-  unfolding of_run
+  run_is : (next : List ℕ → Order) → of_inputs_run ins layout counted source next ≡ from_inputs next
+  unfolding of_inputs_run
   run_is next = refl
 
   -- its inputs stop it
-  pub run-stops : (rose : Type 0) (s : Stop) → ((next : List Content → Order) → Stops (Some (of_inputs plan.inputs job.ins (layout_of job) next)) held rose s)
-      → (next : List ℕ → Order) → Stops (Some (of_run job counted source next)) held rose s
+  pub run-stops : (rose : Type 0) (s : Stop) → ((next : List Content → Order) → Stops (Some (of_inputs plan.inputs ins layout next)) held rose s)
+      → (next : List ℕ → Order) → Stops (Some (of_inputs_run ins layout counted source next)) held rose s
   run-stops rose s stops next =
-      let here = subst (λ d. Stops (Some (of_inputs d job.ins (layout_of job) (λ rows. next (printed source counted rows)))) held rose s) is.inputs (stops (λ rows. next (printed source counted rows))) in
+      let here = subst (λ d. Stops (Some (of_inputs d ins layout (λ rows. next (printed source counted rows)))) held rose s) is.inputs (stops (λ rows. next (printed source counted rows))) in
       subst (λ o. Stops (Some o) held rose s) (sym (run_is next)) here
 
   -- it is run
   pub run-comes : (all : List Content) (text : List ℕ)
-      → ((next : List Content → Order) → Comes (of_inputs plan.inputs job.ins (layout_of job) next) held (next all))
-      → text ≡ printed source counted all → (next : List ℕ → Order) → Comes (of_run job counted source next) held (next text)
+      → ((next : List Content → Order) → Comes (of_inputs plan.inputs ins layout next) held (next all))
+      → text ≡ printed source counted all → (next : List ℕ → Order) → Comes (of_inputs_run ins layout counted source next) held (next text)
   run-comes all text comes says next =
-      let here = subst (λ d. Comes (of_inputs d job.ins (layout_of job) (λ rows. next (printed source counted rows))) held (next (printed source counted all))) is.inputs (comes (λ rows. next (printed source counted rows))) in
+      let here = subst (λ d. Comes (of_inputs d ins layout (λ rows. next (printed source counted rows))) held (next (printed source counted all))) is.inputs (comes (λ rows. next (printed source counted rows))) in
       let there = subst (λ t. Comes (from_inputs next) held (next t)) (sym says) here in
       subst (λ o. Comes o held (next text)) (sym (run_is next)) there
 
@@ -131,12 +202,3 @@ pub output-says : (plan : PlanForm) (counted : Bool) (all : List Content) (outs 
 output-says plan counted all outs tables counts (Ok text) says outs_is tables_is counts_is typed = λ source is.
     says ∙ (λ i. printed_outcome plan (outs_is i) (tables_is i) (asked counted (counts_is i))) ∙ output-printed source plan counted all is typed
 output-says plan counted all outs tables counts (Err e) says outs_is tables_is counts_is typed = tt
-
--- there is a source for the rewritten plan too
-pub known-later : (job : Job) (text : List ℕ) (held : Option Held) (c : Compiled) (plan : PlanForm) → StandsFor IsCompiled (source_of job.lang text) c
-    → ((source : Source) → IsOf c.program source c.plan → (later : Source) × IsOf c.program later plan × ((next : Source → Order) → Comes (of_script job.options.script source next) held (next later)))
-    → IsKnown c.program plan
-known-later job text held c plan told script = by (source_of job.lang text) told where
-  by : (r : Result Source (List ℕ)) → StandsFor IsCompiled r c → IsKnown c.program plan
-  by (Ok source) is = let s = script source is in (s.0, s.1)
-  by (Err t) is = absurd is

@@ -7,11 +7,11 @@ use Rattle.river_base.specs.Name.{name_eq}
 use Rattle.river_plan.specs.Names.{count, one_if}
 use Rattle.river_plan.proofs.NameLemmas.{count-append, name_sym}
 use Rattle.river_cli.specs.Phrases.{Phrase, phrase_of, one_more, phrases, made, are_apart, with_phrases}
-use Rattle.river_cli.specs.Said.{Grown, grown, with_phrase}
-use Rattle.river_cli.specs.declared.job.Command.{Command}
-use Rattle.river_cli.specs.declared.job.Job.{Job}
-use Rattle.river_cli.specs.declared.job.WordFault.{WordFault}
-use Rattle.river_cli.specs.declared.job.WordFault.TheVariants as fault
+use Rattle.river_cli.specs.Commands.{MayMake}
+use Rattle.river_cli.specs.Said.{Grown, grown, said_once, said_fitting, with_phrase}
+use Rattle.river_cli.specs.declared.command.Command.{Command}
+use Rattle.river_cli.specs.declared.command.WordFault.{WordFault}
+use Rattle.river_cli.specs.declared.command.WordFault.TheVariants as fault
 
 -- words of which one stands before are not apart
 one_before : (w : List ℕ) (ws more : List (List ℕ)) → 0 < count w ws → are_apart (ws ++ w ∷ more) ≡ false
@@ -42,92 +42,118 @@ still_apart w (v ∷ vs) a z = by (name_eq v w) refl (still_apart w vs)
         let l = later rest none in
         grind (arith, nat_tests, a, n, f, l)
 
--- the job that further phrases make, where this was said before
-abbrev pub on_by : List (List ℕ) → Job → Option (List Phrase) → Option Job
-on_by said job None = None
-on_by said job (Some ps) = if are_apart (said ++ map (λ p. p.once) ps) then Some (made ps job) else None
+-- WHAT A PHRASE MAKES
 
-pub on-nothing : (job : Job) (ps : Option (List Phrase)) → on_by [] job ps ≡ with_phrases job ps
-on-nothing job None = refl
-on-nothing job (Some ps) = refl
+-- the command takes the phrase, which was not said before
+pub noted : (fits : Bool) (takes : ℕ) (made : Option Command) (command : Command) (key : List ℕ) (said said' : List (List ℕ)) → MayMake fits made command
+    → said_fitting fits key said ≡ Some said' → grown takes made (said_once key said) ≡ Some (record { takes = takes; said = said'; command = command })
+noted true takes made command key said said' m e = rw (m, e) refl
+noted false takes made command key said said' m e = cc
+
+-- it does not, or it was
+pub not_noted : (fits : Bool) (takes : ℕ) (made : Option Command) (command : Command) (key : List ℕ) (said : List (List ℕ)) → MayMake fits made command
+    → said_fitting fits key said ≡ None → grown takes made (said_once key said) ≡ None
+not_noted true takes made command key said m e = rw (m, e) refl
+not_noted false takes made command key said m e = rw m refl
+
+-- the command that further phrases make, where this was said before
+abbrev pub on_by : List (List ℕ) → Command → Option (List Phrase) → Option Command
+on_by said command None = None
+on_by said command (Some ps) = if are_apart (said ++ map (λ p. p.once) ps) then made ps command else None
+
+pub on-nothing : (command : Command) (ps : Option (List Phrase)) → on_by [] command ps ≡ with_phrases command ps
+on-nothing command None = refl
+on-nothing command (Some ps) = refl
 
 -- at the end of the words
-pub on-end : (said : List (List ℕ)) (job : Job) → are_apart said ≡ true → on_by said job (Some []) ≡ Some job
-on-end said job apart = ap (λ l. if are_apart l then Some job else None) (append-nil said) ∙ rw apart refl
+pub on-end : (said : List (List ℕ)) (command : Command) → are_apart said ≡ true → on_by said command (Some []) ≡ Some command
+on-end said command apart = ap (λ l. if are_apart l then Some command else None) (append-nil said) ∙ rw apart refl
 
 -- words that a phrase takes are passed over
-taken : (command : Command) (k : ℕ) (words : List (List ℕ)) → phrases command k words ≡ phrases command 0 (drop k words)
-taken command zero words = refl
-taken command (suc k) [] = refl
-taken command (suc k) (word ∷ words) = taken command k words
+taken : (k : ℕ) (words : List (List ℕ)) → phrases k words ≡ phrases 0 (drop k words)
+taken zero words = refl
+taken (suc k) [] = refl
+taken (suc k) (word ∷ words) = taken k words
 
-abbrev after : Command → List (List ℕ) → Option Phrase → Option (List Phrase)
-after command behind None = None
-after command behind (Some p) = if p.of command then one_more p (phrases command p.takes behind) else None
+abbrev after : List (List ℕ) → Option Phrase → Option (List Phrase)
+after behind None = None
+after behind (Some p) = one_more p (phrases p.takes behind)
 
-module _ (command : Command) (behind said : List (List ℕ)) (job : Job) where
-  -- a phrase that is not said before
-  one_phrase : (p : Phrase) (later : Option (List Phrase)) → on_by said job (one_more p later) ≡ on_by (said ++ p.once ∷ []) (p.makes job) later
-  one_phrase p None = refl
-  one_phrase p (Some ps) = ap (λ l. if are_apart l then Some (made ps (p.makes job)) else None) (sym (append_assoc said (p.once ∷ []) (map (λ q. q.once) ps)))
+module _ (behind said : List (List ℕ)) (command : Command) where
+  -- a phrase that the command takes
+  one_phrase : (p : Phrase) (next : Command) (later : Option (List Phrase)) → p.makes command ≡ Some next
+      → on_by said command (one_more p later) ≡ on_by (said ++ p.once ∷ []) next later
+  one_phrase p next None e = refl
+  one_phrase p next (Some ps) e =
+      ap (λ (o : Option Command). if are_apart (said ++ p.once ∷ map (λ q. q.once) ps) then (elim o [ | None ↦ None | Some n ↦ made ps n ]) else None) e
+      ∙ ap (λ l. if are_apart l then made ps next else None) (sym (append_assoc said (p.once ∷ []) (map (λ q. q.once) ps)))
 
-  -- one that is
-  twice : (p : Phrase) (later : Option (List Phrase)) → 0 < count p.once said → on_by said job (one_more p later) ≡ None
+  -- one that it does not take
+  no_phrase : (p : Phrase) (later : Option (List Phrase)) → p.makes command ≡ None → on_by said command (one_more p later) ≡ None
+  no_phrase p None e = refl
+  no_phrase p (Some ps) e = by (are_apart (said ++ p.once ∷ map (λ q. q.once) ps))
+    where
+      by : (apart : Bool) → (if apart then made (p ∷ ps) command else None) ≡ None
+      by true = ap (λ (o : Option Command). elim o [ | None ↦ None | Some n ↦ made ps n ]) e
+      by false = refl
+
+  -- one that was said before
+  twice : (p : Phrase) (later : Option (List Phrase)) → 0 < count p.once said → on_by said command (one_more p later) ≡ None
   twice p None lt = refl
   twice p (Some ps) lt = rw (one_before p.once said (map (λ q. q.once) ps) lt) refl
 
-  pub one-more : (o : Option Phrase) (g : Grown) → with_phrase command o said job ≡ Some g
-      → on_by said job (after command behind o) ≡ on_by g.said g.job (phrases command 0 (drop g.takes behind))
+  pub one-more : (o : Option Phrase) (g : Grown) → with_phrase o said command ≡ Some g
+      → on_by said command (after behind o) ≡ on_by g.said g.command (phrases 0 (drop g.takes behind))
   one-more None g e = cc
-  one-more (Some p) g e = by (p.of command) (count p.once said == 0) refl refl e
+  one-more (Some p) g e = by (p.makes command) (count p.once said == 0) refl refl e
     where
-      by : (fits fresh : Bool) → p.of command ≡ fits → (count p.once said == 0) ≡ fresh
-          → grown p job (if fits && fresh then Some (said ++ p.once ∷ []) else None) ≡ Some g
-          → on_by said job (if p.of command then one_more p (phrases command p.takes behind) else None) ≡ on_by g.said g.job (phrases command 0 (drop g.takes behind))
-      by true true fits fresh e =
-          let is : record { takes = p.takes; said = said ++ p.once ∷ []; job = p.makes job } ≡ g = cc in
-          rw fits (one_phrase p (phrases command p.takes behind) ∙ ap (on_by (said ++ p.once ∷ []) (p.makes job)) (taken command p.takes behind) ∙ ap (λ (h : Grown). on_by h.said h.job (phrases command 0 (drop h.takes behind))) is)
-      by true false fits fresh e = cc
-      by false fresh fits _ e = cc
+      by : (makes : Option Command) (fresh : Bool) → p.makes command ≡ makes → (count p.once said == 0) ≡ fresh
+          → grown p.takes makes (if fresh then Some (said ++ p.once ∷ []) else None) ≡ Some g
+          → on_by said command (one_more p (phrases p.takes behind)) ≡ on_by g.said g.command (phrases 0 (drop g.takes behind))
+      by (Some next) true m fresh e =
+          let is : record { takes = p.takes; said = said ++ p.once ∷ []; command = next } ≡ g = cc in
+          one_phrase p next (phrases p.takes behind) m ∙ ap (on_by (said ++ p.once ∷ []) next) (taken p.takes behind) ∙ ap (λ (h : Grown). on_by h.said h.command (phrases 0 (drop h.takes behind))) is
+      by (Some next) false m fresh e = cc
+      by None fresh m _ e = cc
 
-  pub no-more : (o : Option Phrase) → with_phrase command o said job ≡ None → on_by said job (after command behind o) ≡ None
+  pub no-more : (o : Option Phrase) → with_phrase o said command ≡ None → on_by said command (after behind o) ≡ None
   no-more None e = refl
-  no-more (Some p) e = by (p.of command) (count p.once said == 0) refl refl e
+  no-more (Some p) e = by (p.makes command) (count p.once said == 0) refl refl e
     where
-      by : (fits fresh : Bool) → p.of command ≡ fits → (count p.once said == 0) ≡ fresh
-          → grown p job (if fits && fresh then Some (said ++ p.once ∷ []) else None) ≡ None
-          → on_by said job (if p.of command then one_more p (phrases command p.takes behind) else None) ≡ None
-      by true true fits fresh e = cc
-      by true false fits fresh e = rw fits (twice p (phrases command p.takes behind) (grind (arith, nat_tests, fresh)))
-      by false fresh fits _ e = rw fits refl
+      by : (makes : Option Command) (fresh : Bool) → p.makes command ≡ makes → (count p.once said == 0) ≡ fresh
+          → grown p.takes makes (if fresh then Some (said ++ p.once ∷ []) else None) ≡ None
+          → on_by said command (one_more p (phrases p.takes behind)) ≡ None
+      by (Some next) true m fresh e = cc
+      by (Some next) false m fresh e = twice p (phrases p.takes behind) (grind (arith, nat_tests, fresh))
+      by None fresh m _ e = no_phrase p (phrases p.takes behind) m
 
   -- what was said is still apart
-  pub still-apart : (o : Option Phrase) (g : Grown) → with_phrase command o said job ≡ Some g → are_apart said ≡ true → are_apart g.said ≡ true
+  pub still-apart : (o : Option Phrase) (g : Grown) → with_phrase o said command ≡ Some g → are_apart said ≡ true → are_apart g.said ≡ true
   still-apart None g e a = cc
-  still-apart (Some p) g e a = by (p.of command) (count p.once said == 0) refl e
+  still-apart (Some p) g e a = by (p.makes command) (count p.once said == 0) refl e
     where
-      by : (fits fresh : Bool) → (count p.once said == 0) ≡ fresh → grown p job (if fits && fresh then Some (said ++ p.once ∷ []) else None) ≡ Some g
+      by : (makes : Option Command) (fresh : Bool) → (count p.once said == 0) ≡ fresh → grown p.takes makes (if fresh then Some (said ++ p.once ∷ []) else None) ≡ Some g
           → are_apart g.said ≡ true
-      by true true fresh e =
-          let is : record { takes = p.takes; said = said ++ p.once ∷ []; job = p.makes job } ≡ g = cc in
+      by (Some next) true fresh e =
+          let is : record { takes = p.takes; said = said ++ p.once ∷ []; command = next } ≡ g = cc in
           ap (λ (h : Grown). are_apart h.said) (sym is) ∙ still_apart p.once said a (grind (arith, nat_tests, fresh))
-      by true false fresh e = cc
-      by false fresh _ e = cc
+      by (Some next) false fresh e = cc
+      by None fresh _ e = cc
 
 -- the words from here on begin with a phrase
-pub more-words : (command : Command) (rest said : List (List ℕ)) (job : Job) (g : Grown) → 0 < length rest
-    → with_phrase command (phrase_of rest) said job ≡ Some g
-    → on_by said job (phrases command 0 rest) ≡ on_by g.said g.job (phrases command 0 (drop (1 + g.takes) rest))
-more-words command [] said job g some e = absurd (omega (arith, some))
-more-words command (word ∷ behind) said job g some e =
+pub more-words : (rest said : List (List ℕ)) (command : Command) (g : Grown) → 0 < length rest
+    → with_phrase (phrase_of rest) said command ≡ Some g
+    → on_by said command (phrases 0 rest) ≡ on_by g.said g.command (phrases 0 (drop (1 + g.takes) rest))
+more-words [] said command g some e = absurd (omega (arith, some))
+more-words (word ∷ behind) said command g some e =
     let n : suc g.takes ≡ 1 + g.takes = omega arith in
-    one-more command behind said job (phrase_of (word ∷ behind)) g e ∙ ap (λ k. on_by g.said g.job (phrases command 0 (drop k (word ∷ behind)))) n
+    one-more behind said command (phrase_of (word ∷ behind)) g e ∙ ap (λ k. on_by g.said g.command (phrases 0 (drop k (word ∷ behind)))) n
 
 -- they begin with none that may be added
-pub no-words : (command : Command) (rest said : List (List ℕ)) (job : Job) → 0 < length rest → with_phrase command (phrase_of rest) said job ≡ None
-    → on_by said job (phrases command 0 rest) ≡ None
-no-words command [] said job some e = absurd (omega (arith, some))
-no-words command (word ∷ behind) said job some e = no-more command behind said job (phrase_of (word ∷ behind)) e
+pub no-words : (rest said : List (List ℕ)) (command : Command) → 0 < length rest → with_phrase (phrase_of rest) said command ≡ None
+    → on_by said command (phrases 0 rest) ≡ None
+no-words [] said command some e = absurd (omega (arith, some))
+no-words (word ∷ behind) said command some e = no-more behind said command (phrase_of (word ∷ behind)) e
 
 -- a fault is the same behind `?`
 pub same-fault : (A B : Type 0) (f : WordFault) → IsErrOf {T = A} (Err f) fault.Usage → IsErrOf {T = B} (Err f) fault.Usage

@@ -1,4 +1,4 @@
--- The script of a job.
+-- The script of a command.
 use Rattle.std.proofs.Common.{◌≡◌, ℕ, List, refl, sym, ap, ◌∙◌, subst}
 use Rattle.std.specs.Prelude.{Option, Some, None, Result, Ok, Err}
 use Rattle.river_outside.specs.Held.{Held}
@@ -49,7 +49,8 @@ made-stands program source p made text v of e =
     still (variant.Sawzall t) source made is = record { accepted = is.accepted; valued = is.valued; means = is.means }
     still (variant.Cql t) source made is = record { columns = is.columns; inputs = is.inputs; means = is.means }
 
-as_passed : {A B : Type 0} (stands : A → B → Type 0) (found : Result A (List ℕ)) (y : B) (held : Option Held) → StandsFor stands found y
+-- what is found, and stands for what the call gives, is handed on
+pub as_passed : {A B : Type 0} (stands : A → B → Type 0) (found : Result A (List ℕ)) (y : B) (held : Option Held) → StandsFor stands found y
     → (x : A) × stands x y × ((next : A → Order) → Comes (past found next) held (next x))
 as_passed stands (Ok x) y held told = (x, told, λ next. Comes-same (next x) held)
 as_passed stands (Err t) y held told = absurd told

@@ -22,8 +22,8 @@ use Rattle.river_plan.specs.Names.{count}
 use Rattle.river_cli.specs.Text.{unknown_input, missing_input, large_input, input_refused, in_words}
 use Rattle.river_cli.specs.declared.content.Content.{Content}
 use Rattle.river_cli.specs.declared.content.Content.TheVariants.{Rows as Plain, Timed}
-use Rattle.river_cli.specs.declared.job.InWord.{InWord}
-use Rattle.river_cli.specs.declared.job.Layout.{Layout}
+use Rattle.river_cli.specs.declared.command.InWord.{InWord}
+use Rattle.river_cli.specs.declared.command.Layout.{Layout}
 
 -- ---- THE NAMES
 

@@ -1,9 +1,8 @@
--- How the records of a job's files are written.
+-- How the records of a program's files are written.
 use Rattle.std.specs.Prelude.{Bool, true, false}
-use Rattle.river_cli.specs.declared.job.Job.{Job}
-use Rattle.river_cli.specs.declared.job.Lang.{Lang}
-use Rattle.river_cli.specs.declared.job.Lang.TheVariants.{River, Streamit, Sawzall, Cql}
-use Rattle.river_cli.specs.declared.job.Layout.{Layout}
+use Rattle.river_cli.specs.declared.command.Lang.{Lang}
+use Rattle.river_cli.specs.declared.command.Lang.TheVariants.{River, Streamit, Sawzall, Cql}
+use Rattle.river_cli.specs.declared.command.Layout.{Layout}
 
 -- a record may have further fields
 abbrev pub takes_more : Lang → Bool
@@ -12,5 +11,5 @@ takes_more Streamit = false
 takes_more Sawzall = true
 takes_more Cql = false
 
-abbrev pub layout_of : Job → Layout
-layout_of job = record { header = job.options.header; more = takes_more job.lang }
+abbrev pub layout_of : Lang → Bool → Layout
+layout_of lang header = record { header = header; more = takes_more lang }

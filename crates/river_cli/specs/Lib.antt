@@ -1,11 +1,12 @@
 pub mod Answer
+pub mod Commands
 pub mod Contents
 pub mod Inputs
-pub mod Jobs
 pub mod Layouts
 pub mod Phrases
 pub mod Points
 pub mod Said
+pub mod Sentences
 pub mod Source
 pub mod Text
 pub mod Words

@@ -2,23 +2,27 @@
 use Rattle.std.specs.Prelude.{ℕ, List, [], ◌∷◌, ◌++◌, ◌==◌, ◌&&◌, Bool, Option, None, Some, if◌then◌else◌}
 use Rattle.river_plan.specs.Names.{count}
 use Rattle.river_cli.specs.Phrases.{Phrase}
-use Rattle.river_cli.specs.declared.job.Command.{Command}
-use Rattle.river_cli.specs.declared.job.Job.{Job}
+use Rattle.river_cli.specs.declared.command.Command.{Command}
 
--- what was said, and one thing more, if the command takes it and it was not said before
-abbrev pub said_once : Bool → List ℕ → List (List ℕ) → Option (List (List ℕ))
-said_once fits key said = if fits && (count key said == 0) then Some (said ++ key ∷ []) else None
+-- what was said, and one thing more, if it was not said before
+abbrev pub said_once : List ℕ → List (List ℕ) → Option (List (List ℕ))
+said_once key said = if count key said == 0 then Some (said ++ key ∷ []) else None
 
--- how many words a phrase took behind its first, and what was said and the job with it
+-- the same, if the command takes it
+abbrev pub said_fitting : Bool → List ℕ → List (List ℕ) → Option (List (List ℕ))
+said_fitting fits key said = if fits then said_once key said else None
+
+-- how many words a phrase took behind its first, and what was said and the command with it
 pub record Grown : Type 0 where
   pub takes : ℕ
   pub said : List (List ℕ)
-  pub job : Job
+  pub command : Command
 
-abbrev pub grown : Phrase → Job → Option (List (List ℕ)) → Option Grown
-grown p job None = None
-grown p job (Some said) = Some (record { takes = p.takes; said = said; job = p.makes job })
+abbrev pub grown : ℕ → Option Command → Option (List (List ℕ)) → Option Grown
+grown takes None said = None
+grown takes (Some command) None = None
+grown takes (Some command) (Some said) = Some (record { takes = takes; said = said; command = command })
 
-abbrev pub with_phrase : Command → Option Phrase → List (List ℕ) → Job → Option Grown
-with_phrase command None said job = None
-with_phrase command (Some p) said job = grown p job (said_once (p.of command) p.once said)
+abbrev pub with_phrase : Option Phrase → List (List ℕ) → Command → Option Grown
+with_phrase None said command = None
+with_phrase (Some p) said command = grown p.takes (p.makes command) (said_once p.once said)

@@ -44,8 +44,8 @@ use Rattle.river_cli.specs.declared.compile.Program.{Program}
 use Rattle.river_cli.specs.declared.compile.Program.TheVariants as program
 use Rattle.river_cli.specs.declared.content.Content.{Content}
 use Rattle.river_cli.specs.declared.content.Content.TheVariants.{Rows as Plain, Timed}
-use Rattle.river_cli.specs.declared.job.Lang.{Lang}
-use Rattle.river_cli.specs.declared.job.Lang.TheVariants.{River, Streamit, Sawzall, Cql}
+use Rattle.river_cli.specs.declared.command.Lang.{Lang}
+use Rattle.river_cli.specs.declared.command.Lang.TheVariants.{River, Streamit, Sawzall, Cql}
 
 -- a program: its inputs, the names of its outputs and of its tables, what these have for the files of its inputs, and its plan
 pub record Source : Type 0 where

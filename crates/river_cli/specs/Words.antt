@@ -1,19 +1,9 @@
 -- What a word of the command line may be.
 use Rattle.std.specs.Prelude.{ℕ, List, [], ◌∷◌, ◌==◌, not, Bool, false, Option, None, Some, codes, if◌then◌else◌}
 use Rattle.std.specs.Str.{bytes_eq}
-use Rattle.river_cli.specs.declared.job.Command.{Command}
-use Rattle.river_cli.specs.declared.job.Command.TheVariants.{Run, Mean, Show}
-use Rattle.river_cli.specs.declared.job.InWord.{InWord}
-use Rattle.river_cli.specs.declared.job.Lang.{Lang}
-use Rattle.river_cli.specs.declared.job.Lang.TheVariants.{River, Streamit, Sawzall, Cql}
-
--- the command that a word names
-abbrev pub command_named : List ℕ → Option Command
-command_named word =
-    if bytes_eq word (codes "run") then Some Run
-    else if bytes_eq word (codes "mean") then Some Mean
-    else if bytes_eq word (codes "plan") then Some Show
-    else None
+use Rattle.river_cli.specs.declared.command.InWord.{InWord}
+use Rattle.river_cli.specs.declared.command.Lang.{Lang}
+use Rattle.river_cli.specs.declared.command.Lang.TheVariants.{River, Streamit, Sawzall, Cql}
 
 -- the language that a word names
 abbrev pub lang_named : List ℕ → Option Lang

@@ -12,7 +12,7 @@ ghost use Rattle.saw_front.specs.Meaning.{compiled as saw_compiled};
 ghost use Rattle.saw_front.specs.Words.{saw_words};
 ghost use Rattle.river_cli.specs.Text.{program_refused};
 
-use crate::job::Lang;
+use crate::command::Lang;
 use crate::text;
 use cql_front::{CqlFault, compile_cql};
 use cql_text::CqlProgram;

@@ -6,7 +6,7 @@ ghost use Rattle.river_order.specs.Passes.{Passes};
 ghost use Rattle.river_cli.specs.Inputs.{fetches};
 ghost use Rattle.river_cli.specs.Text.{large_input};
 
-use crate::job::InWord;
+use crate::command::InWord;
 use crate::text;
 use river_base::{Bytes, Listed};
 use river_order::{Stop, take_turn};

@@ -10,7 +10,7 @@ ghost use Rattle.river_cli.specs.Inputs.{of_inputs};
 
 use crate::content::Content;
 use crate::fetched::fetch_all;
-use crate::job::{InWord, Layout};
+use crate::command::{InWord, Layout};
 use crate::names::check_names;
 use crate::rows::read_inputs;
 use river_base::Listed;

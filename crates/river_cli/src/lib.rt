@@ -1,11 +1,11 @@
 //! The top call of river: all that the program does, over a shelf and two sinks that are handed in.
 #![tactic(auto)]
 
+mod command;
 mod compile;
 mod content;
 mod fetched;
 mod gather;
-mod job;
 mod mean;
 mod names;
 mod output;
@@ -17,6 +17,6 @@ mod top;
 mod word_set;
 mod words;
 
-pub use job::{Command, InWord, InWords, Job, Lang, Options, WordFault};
+pub use command::{Command, InWord, InWords, Lang, WordFault};
 pub use top::river;
 pub use words::read_words;

@@ -5,7 +5,7 @@ ghost use Rattle.river_plan.specs.Forms.{decl_names};
 ghost use Rattle.river_plan.specs.Names.{count};
 ghost use Rattle.river_cli.specs.Inputs.{names, unknown, missing, names_fit};
 
-use crate::job::InWord;
+use crate::command::InWord;
 use crate::text;
 use river_order::Stop;
 use river_plan::Decl;

@@ -4,20 +4,22 @@ ghost use Rattle.river_outside.specs.Causes.{Rose};
 ghost use Rattle.river_order.specs.Decides.{Decides};
 ghost use Rattle.river_order.specs.Passes.{Passes, PassesAs, AnswersAs};
 ghost use Rattle.river_plan.specs.Valid.{IsPlan};
-ghost use Rattle.river_cli.specs.Points.{points_of, of_job, of_text, of_script, with_plan, of_command, of_run};
+ghost use Rattle.river_cli.specs.Points.{points_of, of_command, of_run, of_show, of_mean, of_program, of_script, with_plan, of_inputs_run, shown as shown_text};
 ghost use Rattle.river_script.specs.Meaning.{rewritten as rewritten_plan};
 ghost use Rattle.river_script.specs.Words.{script_words};
+ghost use Rattle.river_cli.specs.Layouts.{layout_of};
 ghost use Rattle.river_cli.specs.Text.{script_refused as script_text};
 ghost use Rattle.river_cli.specs.Source.{Source, IsPlanOf, IsOf, IsKnown, IsCompiled, printed};
 ghost use Rattle.river_cli.specs.declared.compile.Program.{Program};
 
-use crate::compile::{Program, compile};
+use crate::compile::{Compiled, Program, compile};
 use crate::gather::gather;
-use crate::job::{Command, Job, Options, WordFault};
+use crate::command::{Command, InWords, Lang, Layout, WordFault};
 use crate::mean::mean_text;
 use crate::output::output;
 use crate::text;
 use crate::words::read_words;
+use plan_classes::print_classes;
 use river_base::{Bytes, NoMemory, Text};
 use river_order::{Stop, take_turn};
 use river_outside::Shelf;
@@ -37,46 +39,133 @@ pub fn decide<S: Shelf>(alloc: Global, words: &[Text], shelf: &mut S) -> Result<
     ensures decided { Decides (points_of words.now) (S.held shelf.old) (Rose S.stays_at_last (S.faults shelf.old) (S.faults shelf.new)) result }
 {
     match read_words(alloc, words) {
-        Ok(job) => fetched(alloc, &job, shelf),
+        Ok(command) => answered(alloc, &command, shelf),
         Err(WordFault::Usage) => Err(Stop::Usage),
         Err(WordFault::NoMemory) => Err(Stop::NoMemory),
     }
 }
 
-// The program is fetched.
-fn fetched<S: Shelf>(alloc: Global, job: &Job, shelf: &mut S) -> Result<Bytes, Stop>
+// What a command prints.
+fn answered<S: Shelf>(alloc: Global, command: &Command, shelf: &mut S) -> Result<Bytes, Stop>
     ensures later { S.faults shelf.old ≤ S.faults shelf.new }
-    ensures decided { Decides (Some (of_job job.now)) (S.held shelf.old) (Rose S.stays_at_last (S.faults shelf.old) (S.faults shelf.new)) result }
+    ensures passes { Passes (of_command command.now) (S.held shelf.old) (Rose S.stays_at_last (S.faults shelf.old) (S.faults shelf.new)) result }
 {
-    let file = job.file.as_slice();
-    let text = take_turn(alloc, shelf, file, MOST_PROGRAM, text::LARGE_PROGRAM)?;
-    compiled(alloc, job, &text, shelf)
+    match command {
+        Command::Run {
+            lang,
+            file,
+            ins,
+            script,
+            header,
+            counts,
+        } => run(alloc, *lang, file, ins, script, *header, *counts, shelf),
+        Command::Show { lang, file, script } => show(alloc, *lang, file, script, shelf),
+        Command::Mean {
+            lang,
+            file,
+            ins,
+            header,
+        } => mean(alloc, *lang, file, ins, *header, shelf),
+    }
 }
 
-// It is compiled, and its plan is rewritten.
-fn compiled<S: Shelf>(alloc: Global, job: &Job, text: &Bytes, shelf: &mut S) -> Result<Bytes, Stop>
-    requires { length text.now ≤ 1048576 }
+// A program is compiled, its plan is rewritten, and it is run over its inputs.
+fn run<S: Shelf>(
+    alloc: Global,
+    lang: Lang,
+    file: &Text,
+    ins: &InWords,
+    name: &Option<Text>,
+    header: bool,
+    counts: bool,
+    shelf: &mut S,
+) -> Result<Bytes, Stop>
     ensures later { S.faults shelf.old ≤ S.faults shelf.new }
-    ensures passes { Passes (of_text job.now text.now) (S.held shelf.old) (Rose S.stays_at_last (S.faults shelf.old) (S.faults shelf.new)) result }
+    ensures passes { Passes (of_run lang file.now ins.now name.now header counts) (S.held shelf.old) (Rose S.stays_at_last (S.faults shelf.old) (S.faults shelf.new)) result }
 {
-    let compiled = compile(alloc, job.lang, text)?;
-    let plan = script(alloc, &job.options, compiled.plan, shelf)?;
-    command(alloc, job, &plan, &compiled.program, shelf)
+    let compiled = compiled(alloc, lang, file, shelf)?;
+    let plan = script(alloc, name, compiled.plan, shelf)?;
+    run_over(alloc, ins, layout(lang, header), counts, &plan, shelf)
+}
+
+// It is compiled, and its plan is rewritten and shown.
+fn show<S: Shelf>(
+    alloc: Global,
+    lang: Lang,
+    file: &Text,
+    name: &Option<Text>,
+    shelf: &mut S,
+) -> Result<Bytes, Stop>
+    ensures later { S.faults shelf.old ≤ S.faults shelf.new }
+    ensures passes { Passes (of_show lang file.now name.now) (S.held shelf.old) (Rose S.stays_at_last (S.faults shelf.old) (S.faults shelf.new)) result }
+{
+    let compiled = compiled(alloc, lang, file, shelf)?;
+    let plan = script(alloc, name, compiled.plan, shelf)?;
+    Ok(shown(alloc, &plan)?)
+}
+
+// It is compiled, and what it means over its inputs is printed.
+fn mean<S: Shelf>(
+    alloc: Global,
+    lang: Lang,
+    file: &Text,
+    ins: &InWords,
+    header: bool,
+    shelf: &mut S,
+) -> Result<Bytes, Stop>
+    ensures later { S.faults shelf.old ≤ S.faults shelf.new }
+    ensures passes { Passes (of_mean lang file.now ins.now header) (S.held shelf.old) (Rose S.stays_at_last (S.faults shelf.old) (S.faults shelf.new)) result }
+{
+    let compiled = compiled(alloc, lang, file, shelf)?;
+    mean_over(
+        alloc,
+        ins,
+        layout(lang, header),
+        &compiled.plan,
+        &compiled.program,
+        shelf,
+    )
+}
+
+// How the records of a program's files are written.
+fn layout(lang: Lang, header: bool) -> Layout
+    ensures { result ≡ layout_of lang header }
+{
+    Layout {
+        header,
+        more: lang.takes_more(),
+    }
+}
+
+// The program is fetched and compiled.
+fn compiled<S: Shelf>(
+    alloc: Global,
+    lang: Lang,
+    file: &Text,
+    shelf: &mut S,
+) -> Result<Compiled, Stop>
+    ensures stays { S.held shelf.new ≡ S.held shelf.old }
+    ensures later { S.faults shelf.old ≤ S.faults shelf.new }
+    ensures passes { PassesAs IsCompiled (of_program lang file.now) (S.held shelf.old) (Rose S.stays_at_last (S.faults shelf.old) (S.faults shelf.new)) result }
+{
+    let file = file.as_slice();
+    let text = take_turn(alloc, shelf, file, MOST_PROGRAM, text::LARGE_PROGRAM)?;
+    compile(alloc, lang, &text)
 }
 
 // The plan that the script makes of it, where one is given.
 fn script<S: Shelf>(
     alloc: Global,
-    options: &Options,
+    name: &Option<Text>,
     plan: Plan,
     shelf: &mut S,
 ) -> Result<Plan, Stop>
     ensures stays { S.held shelf.new ≡ S.held shelf.old }
     ensures later { S.faults shelf.old ≤ S.faults shelf.new }
     ensures passes { (program : Program) (source : Source) → IsOf program source plan
-        → PassesAs (IsOf program) (of_script options.now.script source) (S.held shelf.old) (Rose S.stays_at_last (S.faults shelf.old) (S.faults shelf.new)) result }
+        → PassesAs (IsOf program) (of_script name.now source) (S.held shelf.old) (Rose S.stays_at_last (S.faults shelf.old) (S.faults shelf.new)) result }
 {
-    match &options.script {
+    match name {
         None => Ok(plan),
         Some(file) => rewritten(alloc, file.as_slice(), &plan, shelf),
     }
@@ -116,41 +205,39 @@ fn script_refused(alloc: Global, fault: ScriptFault) -> Result<Bytes, NoMemory>
     text::script(alloc, words.as_slice())
 }
 
-// What the command makes of it.
-fn command<S: Shelf>(
-    alloc: Global,
-    job: &Job,
-    plan: &Plan,
-    program: &Program,
-    shelf: &mut S,
-) -> Result<Bytes, Stop>
-    requires { IsKnown program.now plan.now }
-    ensures later { S.faults shelf.old ≤ S.faults shelf.new }
-    ensures passes { (source : Source) → IsOf program.now source plan.now
-        → Passes (of_command job.now source) (S.held shelf.old) (Rose S.stays_at_last (S.faults shelf.old) (S.faults shelf.new)) result }
+// The text of a plan, and its lock classes.
+#[tactic(auto, using(crate::proofs::Points::shown_is))]
+fn shown(alloc: Global, plan: &Plan) -> Result<Bytes, NoMemory>
+    ensures { IfOk result (λ text. text ≡ shown_text plan.now) }
 {
-    match job.command {
-        Command::Run => run(alloc, job, plan, shelf),
-        Command::Mean => mean(alloc, job, plan, program, shelf),
-        Command::Show => Ok(print_river(alloc, plan)?),
-    }
+    let mut text = print_river(alloc, plan)?;
+    print_classes(alloc, plan, &mut text)?;
+    Ok(text)
 }
 
-// It is run over its inputs, and what this gives is printed.
-fn run<S: Shelf>(alloc: Global, job: &Job, plan: &Plan, shelf: &mut S) -> Result<Bytes, Stop>
+// A plan is run over its inputs, and what this gives is printed.
+fn run_over<S: Shelf>(
+    alloc: Global,
+    ins: &InWords,
+    layout: Layout,
+    counts: bool,
+    plan: &Plan,
+    shelf: &mut S,
+) -> Result<Bytes, Stop>
     ensures later { S.faults shelf.old ≤ S.faults shelf.new }
     ensures passes { (source : Source) → IsPlanOf source plan.now
-        → Passes (of_run job.now job.now.options.counts source) (S.held shelf.old) (Rose S.stays_at_last (S.faults shelf.old) (S.faults shelf.new)) result }
+        → Passes (of_inputs_run ins.now layout counts source) (S.held shelf.old) (Rose S.stays_at_last (S.faults shelf.old) (S.faults shelf.new)) result }
 {
     let decls = plan.raw().inputs.as_slice();
-    let files = gather(alloc, decls, job.ins.as_slice(), job.layout(), shelf)?;
-    Ok(output(alloc, plan, files, job.options.counts)?)
+    let files = gather(alloc, decls, ins.as_slice(), layout, shelf)?;
+    Ok(output(alloc, plan, files, counts)?)
 }
 
-// What it means over its inputs is printed, without a run of its plan.
-fn mean<S: Shelf>(
+// What a program means over its inputs is printed, without a run of its plan.
+fn mean_over<S: Shelf>(
     alloc: Global,
-    job: &Job,
+    ins: &InWords,
+    layout: Layout,
     plan: &Plan,
     program: &Program,
     shelf: &mut S,
@@ -158,9 +245,9 @@ fn mean<S: Shelf>(
     requires { IsKnown program.now plan.now }
     ensures later { S.faults shelf.old ≤ S.faults shelf.new }
     ensures passes { (source : Source) → IsOf program.now source plan.now
-        → Passes (of_run job.now false source) (S.held shelf.old) (Rose S.stays_at_last (S.faults shelf.old) (S.faults shelf.new)) result }
+        → Passes (of_inputs_run ins.now layout false source) (S.held shelf.old) (Rose S.stays_at_last (S.faults shelf.old) (S.faults shelf.new)) result }
 {
     let decls = plan.raw().inputs.as_slice();
-    let files = gather(alloc, decls, job.ins.as_slice(), job.layout(), shelf)?;
+    let files = gather(alloc, decls, ins.as_slice(), layout, shelf)?;
     Ok(mean_text(alloc, plan, program, files)?)
 }

@@ -14,7 +14,7 @@ ghost use Rattle.river_cli.specs.Inputs.{width_named, file_read, read_as, conten
 ghost use Rattle.river_cli.specs.declared.content.Content.TheVariants.{Rows as Plain, Timed};
 
 use crate::content::Content;
-use crate::job::{InWord, Layout};
+use crate::command::{InWord, Layout};
 use crate::text;
 use csv_streams::{InFault, read_even, read_timed};
 use kern_rows::EvenRows;

@@ -1,25 +1,21 @@
 // The words of the command line.
 ghost use Rattle.std.specs.Prelude.{◌≡◌, Some, None, IfOk, IsErrOf};
-ghost use Rattle.river_cli.specs.Words.{command_named, lang_named, is_file};
-ghost use Rattle.river_cli.specs.Jobs.{no_options, plain, asked, job_of};
+ghost use Rattle.river_cli.specs.Words.{lang_named, is_file};
+ghost use Rattle.river_cli.specs.Sentences.{plain, with_words, asked, command_of};
 
-use crate::job::{Command, InWords, Job, Lang, Options, WordFault};
+use crate::command::{Command, InWords, Lang, WordFault};
 use crate::phrases::read_phrases;
 use river_base::{NoMemory, Text};
 use std::alloc::Global;
 
-/// The job that the words ask for. A sentence is `run LANG FILE`, `mean LANG FILE` or `plan LANG FILE`, and behind it, in
+/// The command that the words ask for. A sentence is `run LANG FILE`, `mean LANG FILE` or `plan LANG FILE`, and behind it, in
 /// any order, what the command takes: `run` and `mean` take words NAME=FILE and `-H`, `run` also `-c`, and `run` and `plan` take
-/// `-r SCRIPT`. FILE behind the
-/// language is not empty and does not begin with `-`; no option and no NAME stands twice.
-pub fn read_words(alloc: Global, words: &[Text]) -> Result<Job, WordFault>
-    ensures ok { IfOk result (λ job. job_of words.now ≡ Some job) }
-    ensures usage { IsErrOf result WordFault.Usage → job_of words.now ≡ None }
+/// `-r SCRIPT`. FILE behind the language is not empty and does not begin with `-`; no option and no NAME stands twice.
+pub fn read_words(alloc: Global, words: &[Text]) -> Result<Command, WordFault>
+    ensures ok { IfOk result (λ command. command_of words.now ≡ Some command) }
+    ensures usage { IsErrOf result WordFault.Usage → command_of words.now ≡ None }
 {
-    let [command, lang, file, behind @ ..] = words else {
-        return Err(WordFault::Usage);
-    };
-    let Some(command) = command_named(command.as_slice()) else {
+    let [word, lang, file, behind @ ..] = words else {
         return Err(WordFault::Usage);
     };
     let Some(lang) = lang_named(lang.as_slice()) else {
@@ -28,9 +24,25 @@ pub fn read_words(alloc: Global, words: &[Text]) -> Result<Job, WordFault>
     if !is_file(file.as_slice()) {
         return Err(WordFault::Usage);
     }
-    let mut job = plain(alloc, command, lang, file.as_slice())?;
-    read_phrases(alloc, command, behind, &mut job)?;
-    Ok(job)
+    read_command(alloc, word.as_slice(), lang, file.as_slice(), behind)
+}
+
+// The command that a word names, with this program and what the words behind it say.
+fn read_command(
+    alloc: Global,
+    word: &[u8],
+    lang: Lang,
+    file: &[u8],
+    behind: &[Text],
+) -> Result<Command, WordFault>
+    ensures ok { IfOk result (λ command. with_words behind.now (plain word.now lang file.now) ≡ Some command) }
+    ensures usage { IsErrOf result WordFault.Usage → with_words behind.now (plain word.now lang file.now) ≡ None }
+{
+    let Some(mut command) = plain(alloc, word, lang, file)? else {
+        return Err(WordFault::Usage);
+    };
+    read_phrases(alloc, behind, &mut command)?;
+    Ok(command)
 }
 
 const RUN: &[u8] = b"run";
@@ -47,17 +59,40 @@ const SAWZALL: &[u8] = b"sawzall";
 
 const CQL: &[u8] = b"cql";
 
-fn command_named(word: &[u8]) -> Option<Command>
-    ensures { result ≡ command_named word.now }
+// The command that a word names, with a program and nothing else.
+fn plain(
+    alloc: Global,
+    word: &[u8],
+    lang: Lang,
+    file: &[u8],
+) -> Result<Option<Command>, NoMemory>
+    ensures { IfOk result (λ command. command ≡ plain word.now lang file.now) }
 {
+    let file = Text::from_slice(alloc, file)?;
     if word == RUN {
-        Some(Command::Run)
+        Ok(Some(Command::Run {
+            lang,
+            file,
+            ins: InWords::new(alloc),
+            script: None,
+            header: false,
+            counts: false,
+        }))
     } else if word == MEAN {
-        Some(Command::Mean)
+        Ok(Some(Command::Mean {
+            lang,
+            file,
+            ins: InWords::new(alloc),
+            header: false,
+        }))
     } else if word == PLAN {
-        Some(Command::Show)
+        Ok(Some(Command::Show {
+            lang,
+            file,
+            script: None,
+        }))
     } else {
-        None
+        Ok(None)
     }
 }
 
@@ -85,28 +120,4 @@ pub(crate) fn is_file(word: &[u8]) -> bool
         Some(&c) => c != b'-',
         None => false,
     }
-}
-
-// No option is given.
-fn no_options() -> Options
-    ensures { result ≡ no_options }
-{
-    Options {
-        header: false,
-        counts: false,
-        script: None,
-    }
-}
-
-// A command with a program and nothing else.
-fn plain(alloc: Global, command: Command, lang: Lang, file: &[u8]) -> Result<Job, NoMemory>
-    ensures { IfOk result (λ job. job ≡ plain command lang file.now) }
-{
-    Ok(Job {
-        command,
-        lang,
-        file: Text::from_slice(alloc, file)?,
-        ins: InWords::new(alloc),
-        options: no_options(),
-    })
 }

@@ -3,7 +3,7 @@ use Rattle.std.proofs.lemmas.List.{drop_more, drop_all, length-append}
 use Rattle.std.proofs.lemmas.Result.{err_from_is_err_and}
 use Rattle.river_outside.proofs.Counts.{rose_before}
 use Rattle.river_outside.specs.Causes.{Rose}
-use Rattle.river_cli.specs.declared.job.InWord.{InWord}
+use Rattle.river_cli.specs.declared.command.InWord.{InWord}
 use Rattle.river_cli.proofs.Fetches.{ComesTo, comes-first, comes-more, comes-all, stops-more}
 use Rattle.river_cli.proofs.fetched.fetch_all.Goals as goal
 

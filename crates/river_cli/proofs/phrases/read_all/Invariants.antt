@@ -6,7 +6,7 @@ use Rattle.river_cli.proofs.phrases.read_all.Given as goal
 abbrev pub invariant-loop-rest : goal.invariant-loop-rest
 invariant-loop-rest l = record {
   apart : are_apart l.said ≡ true;
-  read : on_by l.said l.job (phrases l.command 0 l.rest) ≡ with_phrases l.initial.job (phrases l.command 0 l.words);
+  read : on_by l.said l.command (phrases 0 l.rest) ≡ with_phrases l.initial.command (phrases 0 l.words);
 }
 
 abbrev pub decreases-loop-rest : goal.decreases-loop-rest

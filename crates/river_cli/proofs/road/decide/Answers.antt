@@ -1,10 +1,14 @@
 use Rattle.std.proofs.Common.{refl}
+use Rattle.river_outside.specs.Causes.{Rose}
 use Rattle.river_cli.specs.Points.{points_of}
+use Rattle.river_cli.proofs.Points.{command-decides}
 use Rattle.river_cli.proofs.road.decide.Goals as goal
 
 pub returns-in-Ok-clause-decided : goal.returns-in-Ok-clause-decided
 unfolding points_of
-returns-in-Ok-clause-decided g c = rw c.in-Ok.ensures.ok c.fetched.ensures.decided
+returns-in-Ok-clause-decided g c =
+    let rose = Rose g.S.Shelf.stays_at_last (g.S.Shelf.faults c.args.shelf.now) (g.S.Shelf.faults c.answered.new.shelf) in
+    rw c.in-Ok.ensures.ok (command-decides c.in-Ok.command (g.S.Shelf.held c.args.shelf.now) rose c.answered.result c.answered.ensures.passes)
 
 pub returns-in-Err-Usage-clause-decided : goal.returns-in-Err-Usage-clause-decided
 unfolding points_of

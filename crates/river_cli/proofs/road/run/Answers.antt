@@ -1,31 +1,34 @@
-use Rattle.std.proofs.Common.{◌≡◌, ap, ◌∙◌}
+use Rattle.std.proofs.Common.{arith}
 use Rattle.std.proofs.lemmas.Result.{err_from_is_err_and}
+use Rattle.river_outside.proofs.Counts.{rose_before}
 use Rattle.river_outside.specs.Causes.{Rose}
-use Rattle.river_plan.specs.Forms.{PlanForm}
-use Rattle.river_cli.proofs.Contents.{inputs-apart}
-use Rattle.river_cli.proofs.Points.{run-stops, run-comes}
+use Rattle.river_cli.proofs.Points.{run-first, run-script, run-last}
 use Rattle.river_cli.proofs.road.run.Goals as goal
 
-pub gather-requires-clause-outer : goal.gather-requires-clause-outer
-gather-requires-clause-outer g c =
-    let decls : c.as_slice-decls.result.now ≡ c.args.plan.now.inputs = c.as_slice-decls.ensures ∙ ap (λ (q : PlanForm). q.inputs) c.raw.ensures.raw in
-    rw decls c.raw.ensures.valid.inputs_typed
-
-pub gather-requires-clause-apart : goal.gather-requires-clause-apart
-gather-requires-clause-apart g c =
-    let decls : c.as_slice-decls.result.now ≡ c.args.plan.now.inputs = c.as_slice-decls.ensures ∙ ap (λ (q : PlanForm). q.inputs) c.raw.ensures.raw in
-    rw decls (inputs-apart c.args.plan.now c.raw.ensures.valid)
-
-pub returns-in_err-files-clause-passes : goal.returns-in_err-files-clause-passes
-returns-in_err-files-clause-passes g c source is =
+pub returns-in_err-compiled-clause-passes : goal.returns-in_err-compiled-clause-passes
+returns-in_err-compiled-clause-passes g c =
     let p = err_from_is_err_and c.from_residual.result c.from_residual.ensures.1 in
-    let rose = Rose g.S.Shelf.stays_at_last (g.S.Shelf.faults c.args.shelf.now) (g.S.Shelf.faults c.gather.new.shelf) in
-    let decls : c.as_slice-decls.result.now ≡ c.args.plan.now.inputs = c.as_slice-decls.ensures ∙ ap (λ (q : PlanForm). q.inputs) c.raw.ensures.raw in
-    let stops = rw (decls, c.as_slice.ensures, c.layout.ensures) at c.in_err-files.ensures.passes in
-    rw (p.1, p.2) (run-stops c.args.job.now c.args.job.now.options.counts source c.args.plan.now (g.S.Shelf.held c.args.shelf.now) is rose c.in_err-files.field-0.0 stops)
+    let rose = Rose g.S.Shelf.stays_at_last (g.S.Shelf.faults c.args.shelf.now) (g.S.Shelf.faults c.compiled.new.shelf) in
+    rw (p.1, p.2) (run-first c.args.lang c.args.file.now (g.S.Shelf.held c.args.shelf.now) c.args.ins.now c.args.name.now c.args.header c.args.counts rose c.in_err-compiled.field-0.0 c.in_err-compiled.ensures.passes)
+
+pub returns-in_err-plan-clause-passes : goal.returns-in_err-plan-clause-passes
+returns-in_err-plan-clause-passes g c =
+    let p = err_from_is_err_and c.from_residual-in_err-plan.result c.from_residual-in_err-plan.ensures.1 in
+    let mid = Rose g.S.Shelf.stays_at_last (g.S.Shelf.faults c.args.shelf.now) (g.S.Shelf.faults c.compiled.new.shelf) in
+    let early = Rose g.S.Shelf.stays_at_last (g.S.Shelf.faults c.args.shelf.now) (g.S.Shelf.faults c.script.new.shelf) in
+    let late = Rose g.S.Shelf.stays_at_last (g.S.Shelf.faults c.compiled.new.shelf) (g.S.Shelf.faults c.script.new.shelf) in
+    let stops = rw c.compiled.ensures.stays at c.in_err-plan.ensures.passes in
+    rw (p.1, p.2) (run-script c.args.lang c.args.file.now (g.S.Shelf.held c.args.shelf.now) c.args.ins.now c.args.name.now c.args.header c.args.counts mid early late (rose_before g.S.Shelf.stays_at_last _ _ _ c.compiled.ensures.later) c.in_ok-compiled.compiled c.in_err-plan.field-0.0 c.in_ok-compiled.ensures.passes
+    (λ source is. stops c.in_ok-compiled.compiled.program source is))
 
 pub returns-clause-passes : goal.returns-clause-passes
-returns-clause-passes g c source is =
-    let decls : c.as_slice-decls.result.now ≡ c.args.plan.now.inputs = c.as_slice-decls.ensures ∙ ap (λ (q : PlanForm). q.inputs) c.raw.ensures.raw in
-    let comes = rw (decls, c.as_slice.ensures, c.layout.ensures) at c.in_ok-files.ensures.passes in
-    run-comes c.args.job.now c.args.job.now.options.counts source c.args.plan.now (g.S.Shelf.held c.args.shelf.now) is c.in_ok-files.files c.in_ok-output.field-0 comes (c.in_ok-output.ensures source is)
+returns-clause-passes g c =
+    let mid = Rose g.S.Shelf.stays_at_last (g.S.Shelf.faults c.args.shelf.now) (g.S.Shelf.faults c.compiled.new.shelf) in
+    let half = Rose g.S.Shelf.stays_at_last (g.S.Shelf.faults c.compiled.new.shelf) (g.S.Shelf.faults c.script.new.shelf) in
+    let early = Rose g.S.Shelf.stays_at_last (g.S.Shelf.faults c.args.shelf.now) (g.S.Shelf.faults c.run_over.new.shelf) in
+    let late = Rose g.S.Shelf.stays_at_last (g.S.Shelf.faults c.script.new.shelf) (g.S.Shelf.faults c.run_over.new.shelf) in
+    let scripted = rw c.compiled.ensures.stays at c.in_ok-plan.ensures.passes in
+    let over = rw (c.script.ensures.stays, c.compiled.ensures.stays, c.layout.ensures) at c.run_over.ensures.passes in
+    let later = omega (arith, c.compiled.ensures.later, c.script.ensures.later) in
+    run-last c.args.lang c.args.file.now (g.S.Shelf.held c.args.shelf.now) c.args.ins.now c.args.name.now c.args.header c.args.counts mid half early late (rose_before g.S.Shelf.stays_at_last _ _ _ later) c.in_ok-compiled.compiled c.in_ok-plan.plan c.run_over.result c.in_ok-compiled.ensures.passes
+    (λ source is. scripted c.in_ok-compiled.compiled.program source is) over

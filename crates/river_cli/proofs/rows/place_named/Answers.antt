@@ -2,7 +2,7 @@ use Rattle.std.proofs.Common.{◌≡◌, true, refl, sym, ap, ◌∙◌}
 use Rattle.river_base.specs.Name.{name_eq}
 use Rattle.river_plan.proofs.NameLemmas.{name_is}
 use Rattle.river_cli.specs.Inputs.{content_named}
-use Rattle.river_cli.specs.declared.job.InWord.{InWord}
+use Rattle.river_cli.specs.declared.command.InWord.{InWord}
 use Rattle.river_cli.proofs.Inputs.{content-skip}
 use Rattle.river_cli.proofs.Arranged.{named-at, named-none}
 use Rattle.river_cli.proofs.rows.place_named.Goals as goal

@@ -1,0 +1,30 @@
+-- Which words are a sentence, and the command that they ask for.
+use Rattle.std.specs.Prelude.{ℕ, List, [], ◌∷◌, false, Option, None, Some, codes, if◌then◌else◌}
+use Rattle.std.specs.Str.{bytes_eq}
+use Rattle.river_cli.specs.Phrases.{phrases, with_phrases}
+use Rattle.river_cli.specs.Words.{lang_named, is_file}
+use Rattle.river_cli.specs.declared.command.Command.{Command}
+use Rattle.river_cli.specs.declared.command.Command.TheVariants.{Run, Show, Mean}
+use Rattle.river_cli.specs.declared.command.Lang.{Lang}
+
+-- the command that a word names, with a program and nothing else
+abbrev pub plain : List ℕ → Lang → List ℕ → Option Command
+plain word lang file =
+    if bytes_eq word (codes "run") then Some (Run lang file [] None false false)
+    else if bytes_eq word (codes "mean") then Some (Mean lang file [] false)
+    else if bytes_eq word (codes "plan") then Some (Show lang file None)
+    else None
+
+abbrev pub with_words : List (List ℕ) → Option Command → Option Command
+with_words words None = None
+with_words words (Some command) = with_phrases command (phrases 0 words)
+
+-- `COMMAND LANG FILE` and what stands behind it
+abbrev pub asked : List ℕ → Option Lang → List ℕ → List (List ℕ) → Option Command
+asked word None file words = None
+asked word (Some lang) file words = if is_file file then with_words words (plain word lang file) else None
+
+-- the command that the words ask for, if they are a sentence
+abbrev pub command_of : List (List ℕ) → Option Command
+command_of (word ∷ lang ∷ file ∷ words) = asked word (lang_named lang) file words
+command_of words = None

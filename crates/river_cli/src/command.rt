@@ -1,0 +1,178 @@
+// What the words of the command line ask for.
+ghost use Rattle.std.specs.Prelude.{◌≡◌, IfOk};
+ghost use Rattle.river_cli.specs.Layouts.{takes_more};
+ghost use Rattle.river_cli.specs.Commands.{MayMake, with_header, with_counts, with_script, with_input};
+
+use river_base::{Listed, NoMemory, Text};
+
+/// A source language.
+#[derive(Clone, Copy, Debug, PartialEq, Eq)]
+pub enum Lang {
+    /// River text.
+    River,
+    /// StreamIt.
+    Streamit,
+    /// Sawzall.
+    Sawzall,
+    /// CQL.
+    Cql,
+}
+
+impl Lang {
+    /// Whether a record of an input may have further fields, which are not looked at.
+    pub fn takes_more(self) -> bool
+        ensures { result ≡ takes_more self }
+    {
+        match self {
+            Lang::River | Lang::Streamit | Lang::Cql => false,
+            Lang::Sawzall => true,
+        }
+    }
+}
+
+/// How the records of the files are written.
+#[derive(Clone, Copy, Debug)]
+pub struct Layout {
+    /// Each file begins with a header.
+    pub header: bool,
+    /// A record may have further fields, which are not looked at.
+    pub more: bool,
+}
+
+/// A word NAME=FILE: the input of this name is the file.
+#[derive(Drop)]
+pub struct InWord {
+    /// The name of the input.
+    pub name: Text,
+    /// The name of the file.
+    pub file: Text,
+}
+
+/// Words NAME=FILE, in their order.
+pub type InWords = Listed<InWord>;
+
+/// What the words ask for.
+#[derive(Drop)]
+pub enum Command {
+    /// `run`: a program is compiled and run over its inputs, and its outputs are printed.
+    Run {
+        /// The language of the program.
+        lang: Lang,
+        /// The name of the program's file.
+        file: Text,
+        /// The inputs, in the order of the words.
+        ins: InWords,
+        /// `-r SCRIPT`: the plan is rewritten by the script of this file.
+        script: Option<Text>,
+        /// `-H`: each input begins with a header.
+        header: bool,
+        /// `-c`: the firings of each operator are printed too.
+        counts: bool,
+    },
+    /// `plan`: it is compiled, and its plan and the lock classes of its tables are printed.
+    Show {
+        /// The language of the program.
+        lang: Lang,
+        /// The name of the program's file.
+        file: Text,
+        /// `-r SCRIPT`: the plan is rewritten by the script of this file.
+        script: Option<Text>,
+    },
+    /// `mean`: its slow meaning over its inputs is printed.
+    Mean {
+        /// The language of the program.
+        lang: Lang,
+        /// The name of the program's file.
+        file: Text,
+        /// The inputs, in the order of the words.
+        ins: InWords,
+        /// `-H`: each input begins with a header.
+        header: bool,
+    },
+}
+
+impl Command {
+    /// Notes that each input begins with a header, if the command reads inputs.
+    pub(crate) fn set_header(&mut self) -> bool
+        ensures { MayMake result (with_header self.old) self.new }
+    {
+        match self {
+            Command::Run { header, .. } => {
+                *header = true;
+                true
+            }
+            Command::Mean { header, .. } => {
+                *header = true;
+                true
+            }
+            Command::Show { .. } => false,
+        }
+    }
+
+    /// Notes that firings are counted, if the command is a run.
+    pub(crate) fn set_counts(&mut self) -> bool
+        ensures { MayMake result (with_counts self.old) self.new }
+    {
+        match self {
+            Command::Run { counts, .. } => {
+                *counts = true;
+                true
+            }
+            Command::Mean { .. } | Command::Show { .. } => false,
+        }
+    }
+
+    /// Notes the script, if the plan of the command may be rewritten.
+    pub(crate) fn set_script(&mut self, name: Text) -> bool
+        ensures { MayMake result (with_script name self.old) self.new }
+    {
+        match self {
+            Command::Run { script, .. } => {
+                *script = Some(name);
+                true
+            }
+            Command::Show { script, .. } => {
+                *script = Some(name);
+                true
+            }
+            Command::Mean { .. } => false,
+        }
+    }
+
+    /// Adds an input, if the command reads inputs.
+    pub(crate) fn add_input(&mut self, input: InWord) -> Result<bool, NoMemory>
+        ensures { IfOk result (λ fits. MayMake fits (with_input input self.old) self.new) }
+    {
+        match self {
+            Command::Run { ins, .. } => {
+                ins.push(input)?;
+                Ok(true)
+            }
+            Command::Mean { ins, .. } => {
+                ins.push(input)?;
+                Ok(true)
+            }
+            Command::Show { .. } => Ok(false),
+        }
+    }
+}
+
+/// Why the words ask for nothing.
+#[derive(Clone, Copy, Debug, PartialEq, Eq)]
+pub enum WordFault {
+    /// They are no sentence.
+    Usage,
+    /// There was no memory.
+    NoMemory,
+}
+
+impl From<NoMemory> for WordFault {
+    ghost use Rattle.std.specs.Prelude.{◌≡◌};
+    ghost use Rattle.river_cli.specs.declared.command.WordFault.TheVariants as fault;
+
+    ghost from_gives = { λ _ e. e ≡ fault.NoMemory };
+
+    fn from(_: NoMemory) -> Self {
+        WordFault::NoMemory
+    }
+}
