@@ -24,3 +24,4 @@ pub mod StartLemmas
 pub mod Starts
 pub mod StepLemmas
 pub mod Tallies
+pub mod Worked

@@ -9,4 +9,5 @@ pub mod Reading
 pub mod Stands
 pub mod Tables
 pub mod Took
+pub mod Worked
 pub mod Works

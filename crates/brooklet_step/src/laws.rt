@@ -1,6 +1,7 @@
 //! Laws of firings: each is the definition's from whatever states, they chain, and their order is free.
 ghost use Rattle.brooklet_model.specs.Laws.{FusedRuns, OrderIsFree, HistoriesSolve, OneSolution, RunsAgree, HistoriesAreTyped};
 ghost use Rattle.brooklet_step.specs.Laws.{FiringsChain, FitStatesStand, FiringsStep, EnabledIsItem, HeldIsTyped};
+ghost use Rattle.brooklet_step.specs.Worked.{SlotsAreGiven};
 
 /// Over any firings, a fused kernel gives what its two parts give.
 pub fn fused_runs()
@@ -47,6 +48,11 @@ pub fn fit_states_stand()
 /// next states.
 pub fn firings_step()
     ensures { FiringsStep }
+{}
+
+/// A worked row: `code(1, 1) (1) (5) { push 0 (slot[0]); }` gives what its slot has, also where no firing leads to that.
+pub fn slots_are_given()
+    ensures { SlotsAreGiven }
 {}
 
 /// What `Machine::enabled` answers of a machine that is not stopped is whether the definition's state has an item there.

@@ -17,7 +17,6 @@ mod shape;
 mod uses;
 mod values;
 
-pub use planning::{Refused, plan};
-
 use item::Item;
 use known::Known;
+pub use planning::{Refused, plan};

@@ -1,5 +1,5 @@
 -- How often a name stands among a plan's queues, variables and labels, part by part.
-use Rattle.std.proofs.Common.{◌≡◌, ℕ, zero, suc, ◌+◌, ◌<◌, ◌≤◌, ◌^◌, Option, Some, None, List, [], ◌∷◌, ◌++◌, refl, ap, ◌∙◌, arith, length, map}
+use Rattle.std.proofs.Common.{◌≡◌, ℕ, zero, suc, ◌+◌, ◌<◌, ◌≤◌, Option, Some, None, List, [], ◌∷◌, ◌++◌, refl, ap, ◌∙◌, arith, length, map}
 use Rattle.std.specs.Prelude.{codes}
 use Rattle.river_base.specs.Name.{name_eq}
 use Rattle.river_plan.specs.declared.plan.Decl.{Decl}

@@ -1,7 +1,5 @@
 -- Lists whose elements stand with those before them.
 use Rattle.std.proofs.Common.{◌≡◌, List, [], ◌∷◌, ◌++◌, map, refl, sym, ap, ◌∙◌, append_assoc}
-use Rattle.std.specs.Prelude.{flat_map}
-use Rattle.std.proofs.lemmas.List.Concat.{flat_map-append}
 use Rattle.cql_model.specs.Places.{with_earlier}
 
 -- the elements of a list that stands behind others
@@ -38,5 +36,5 @@ unfolding behind
 behind-cons {A = A} past x xs =
     ap (λ (l : List A). (l, x) ∷ map (λ e. (past ++ e.0, e.1)) (map (λ e. (x ∷ e.0, e.1)) (with_earlier xs))) (nil-append past)
     ∙ ap (λ l. (past, x) ∷ l) (map-both (λ (e : List A × A). (past ++ e.0, e.1)) (λ (e : List A × A). (x ∷ e.0, e.1)) (with_earlier xs)
-        ∙ map-same (λ (e : List A × A). (past ++ (x ∷ e.0), e.1)) (λ (e : List A × A). ((past ++ x ∷ []) ++ e.0, e.1))
-            (λ e. ap (λ (l : List A). (l, e.1)) (sym (append_assoc past (x ∷ []) e.0))) (with_earlier xs))
+    ∙ map-same (λ (e : List A × A). (past ++ (x ∷ e.0), e.1)) (λ (e : List A × A). ((past ++ x ∷ []) ++ e.0, e.1))
+    (λ e. ap (λ (l : List A). (l, e.1)) (sym (append_assoc past (x ∷ []) e.0))) (with_earlier xs))

@@ -52,7 +52,7 @@ module _ {X R : Type 0} (Silent : X → Type 0) (Says : X → R → Type 0) wher
   finds_some (x ∷ xs) r f =
       ⊎_elim (λ s. record { before = []; element = x; behind = xs; parts = refl; silent = tt; says = subst (Says x) (some_is r s.0 s.1) s.2 })
       (λ s. let m = finds_some xs r s.1 in
-          record { before = x ∷ m.before; element = m.element; behind = m.behind; parts = ap (λ l. x ∷ l) m.parts; silent = (s.0, m.silent); says = m.says }) f
+      record { before = x ∷ m.before; element = m.element; behind = m.behind; parts = ap (λ l. x ∷ l) m.parts; silent = (s.0, m.silent); says = m.says }) f
 
   pub some_finds : (before : List X) (x : X) (behind : List X) (r : R) → AllByRecursion Silent before → Says x r
       → Finds Silent Says (before ++ x ∷ behind) (Some r)

@@ -1,5 +1,5 @@
 -- The files of a program fit its plan.
-use Rattle.std.proofs.Common.{◌≡◌, ℕ, ℤ, List, [], ◌∷◌, refl, ap, length, map}
+use Rattle.std.proofs.Common.{ℕ, ℤ, List, [], ◌∷◌, length, map}
 use Rattle.std.specs.Prelude.{All}
 use Rattle.std.proofs.lemmas.List.Elements.{All-cons, All-nil}
 use Rattle.river_base.specs.Instants.{Timed, at_instant, instants, item_at, spread}
@@ -35,10 +35,12 @@ inputs_timed ts (Ask q ∷ ps) files = inputs_timed ts ps files
 
 pub files_fit : FilesFit
 files_fit p files a =
-    let i = instants_are files in
-    (record {
-      typed = inputs_typed (instants files) p files a;
-      instants_of = instants files;
-      ascending = i.rise;
-      streams = inputs_timed (instants files) p files;
-    }, i)
+    let i = instants_are files in (
+      record {
+        typed = inputs_typed (instants files) p files a;
+        instants_of = instants files;
+        ascending = i.rise;
+        streams = inputs_timed (instants files) p files;
+      },
+      i,
+    )

@@ -1,18 +1,19 @@
 -- A program is refused exactly for its first fault.
-use Rattle.std.proofs.Common.{◌≡◌, ℕ, zero, suc, ◌+◌, ◌<◌, ◌≤◌, Bool, true, false, Option, Some, None, List, [], ◌∷◌, ◌++◌, map, length, refl, sym, ap, ◌∙◌, subst, arith}
+use Rattle.std.proofs.Common.{◌≡◌, ℕ, zero, suc, ◌+◌, ◌<◌, ◌≤◌, Bool, true, false, Option, Some, None, List, [], ◌∷◌, ◌++◌, length}
+use Rattle.std.proofs.Common.{refl, sym, ap, ◌∙◌, subst, arith}
 use Rattle.std.proofs.Common.{◌⊎◌, inl, inr, ⊎_elim, length-append}
-use Rattle.std.specs.Prelude.{flat_map, if◌then◌else◌, ◌↔◌}
+use Rattle.std.specs.Prelude.{flat_map, if◌then◌else◌}
 use Rattle.std.specs.List.{AllByRecursion}
 use Rattle.std.proofs.lemmas.Bool.{cases_lt}
 use Rattle.river_plan.proofs.NameLemmas.{true_false}
 use Rattle.cql_model.specs.declared.fault.Fault.{Fault}
 use Rattle.cql_model.specs.declared.fault.Fault.TheVariants.{UnknownStream, UnknownField, AmbiguousField, NameTwice, Limit}
 use Rattle.cql_model.specs.declared.fault.Refusal.{Refusal}
-use Rattle.cql_model.specs.Faults.{query_fault, stream_fault, in_unit, first_fault, or_refused, refusal_of, AreSpoken}
-use Rattle.cql_model.specs.Places.{known_by, Spot, spots, Place, unit_places, places, with_earlier}
+use Rattle.cql_model.specs.Faults.{query_fault, stream_fault, in_unit, first_fault, or_refused, refusal_of}
+use Rattle.cql_model.specs.Places.{known_by, Spot, spots, Place, unit_places, places}
 use Rattle.cql_model.specs.Plannable.{exceeds, KeepsLimits}
 use Rattle.cql_model.specs.Program.{Register, Ask, Part, Program, registered}
-use Rattle.cql_model.specs.Refused.{HasFault, rank, IsFirstFault, IsFaultless, HasFirstFault, IsTooLarge, IsRefused, IsAccepted, RefusalsAre, AcceptedAre, AcceptedPlannable}
+use Rattle.cql_model.specs.Refused.{rank, IsFirstFault, IsFaultless, HasFirstFault, IsRefused, RefusalsAre, AcceptedAre, AcceptedPlannable}
 use Rattle.cql_model.specs.Scopes.{Named}
 use Rattle.cql_model.specs.Translation.{query_named, plan_of}
 use Rattle.cql_model.proofs.Earlier.{behind, behind-none, behind-nil, behind-cons}
@@ -55,25 +56,27 @@ one_unit before u ps o rest f g =
     subst (λ (l : List (Program × Part)). Judged (flat_map unit_places l) (in_unit (length before + 1) o rest)) (sym (behind-cons before u ps))
     (subst (Judged (unit_places (before, u) ++ flat_map unit_places (behind (before ++ u ∷ []) ps))) (unit_then (length before + 1) o rest)
     (finds_both IsFaultless Tells (unit_places (before, u)) (flat_map unit_places (behind (before ++ u ∷ []) ps)) (named_as (at_unit before) o) rest
-        (unit_found before u o f) g))
+    (unit_found before u o f) g))
+
+-- the same is known, as many streams are registered, and the unit has the same number
+same_state : {ks ls : List Named} {m n i j : ℕ} → ks ≡ ls → m ≡ n → i ≡ j → (ps : Program) → first_fault ks m (i + 1) ps ≡ first_fault ls n (j + 1) ps
+same_state a b c ps = λ k. first_fault (a k) (b k) (c k + 1) ps
 
 units : (before ps : Program)
     → Judged (flat_map unit_places (behind before ps)) (first_fault (known_by before) (length (registered before)) (length before + 1) ps)
 units before [] = subst (λ (l : List (Program × Part)). Judged (flat_map unit_places l) None) (sym (behind-nil before)) refl
 units before (Register name fields ∷ ps) =
     let u = Register name fields in
+    let more = before ++ u ∷ [] in
     one_unit before u ps (stream_fault (known_by before) (length (registered before)) name fields) _ (stream before name fields)
-    (subst (λ k. Judged (flat_map unit_places (behind (before ++ u ∷ []) ps)) (first_fault k (length (registered before) + 1) (length before + 1 + 1) ps)) (known-more before u)
-    (subst (λ (n : ℕ). Judged (flat_map unit_places (behind (before ++ u ∷ []) ps)) (first_fault (known_by (before ++ u ∷ [])) n (length before + 1 + 1) ps)) (registered-more before name fields)
-    (subst (λ (n : ℕ). Judged (flat_map unit_places (behind (before ++ u ∷ []) ps)) (first_fault (known_by (before ++ u ∷ [])) (length (registered (before ++ u ∷ []))) (n + 1) ps)) (longer before u)
-    (units (before ++ u ∷ []) ps))))
+    (subst (Judged (flat_map unit_places (behind more ps)))
+    (same_state (known-more before u) (registered-more before name fields) (longer before u) ps) (units more ps))
 units before (Ask q ∷ ps) =
     let u = Ask q in
+    let more = before ++ u ∷ [] in
     one_unit before u ps (query_fault (known_by before) q) _ (query before q)
-    (subst (λ k. Judged (flat_map unit_places (behind (before ++ u ∷ []) ps)) (first_fault k (length (registered before)) (length before + 1 + 1) ps)) (known-more before u)
-    (subst (λ (n : ℕ). Judged (flat_map unit_places (behind (before ++ u ∷ []) ps)) (first_fault (known_by (before ++ u ∷ [])) n (length before + 1 + 1) ps)) (registered-same before q)
-    (subst (λ (n : ℕ). Judged (flat_map unit_places (behind (before ++ u ∷ []) ps)) (first_fault (known_by (before ++ u ∷ [])) (length (registered (before ++ u ∷ []))) (n + 1) ps)) (longer before u)
-    (units (before ++ u ∷ []) ps))))
+    (subst (Judged (flat_map unit_places (behind more ps)))
+    (same_state (known-more before u) (registered-same before q) (longer before u) ps) (units more ps))
 
 -- the first fault of a program
 judged : (p : Program) → Judged (places p) (first_fault [] 0 1 p)
@@ -104,8 +107,10 @@ one_fault : (place : Place) (f g : Fault) → IsFirstFault place f → IsFirstFa
 one_fault place f g a b = by (rank f) (rank g) refl refl where
   by : (m n : ℕ) → rank f ≡ m → rank g ≡ n → f ≡ g
   by m n e h = ⊎_elim (λ lt. absurd (b.first f (omega (arith, lt, e, h)) a.has))
-      (λ le. ⊎_elim (λ lt. absurd (a.first g (omega (arith, lt, e, h)) b.has)) (λ same. sym (ranked f) ∙ ap fault_at (e ∙ same ∙ sym h) ∙ ranked g) (below_or_same m n le))
+      (λ le. ⊎_elim (λ lt. absurd (a.first g (omega (arith, lt, e, h)) b.has))
+      (λ same. sym (ranked f) ∙ ap fault_at (e ∙ same ∙ sym h) ∙ ranked g) (below_or_same m n le))
       (cases_lt m n)
+
 one_refusal : (place : Place) (r s : Refusal) → Tells place r → Tells place s → r ≡ s
 one_refusal place r s a b =
     let f = one_fault place r.fault s.fault a.faulty b.faulty in
@@ -131,7 +136,8 @@ first_is p r e =
 is_first : (p : Program) (r : Refusal) → HasFirstFault p r → first_fault [] 0 1 p ≡ Some r
 is_first p r h =
     finds_same IsFaultless Tells silent_tells one_refusal (places p) (first_fault [] 0 1 p) (Some r) (judged p)
-    (subst (λ l. Judged l (Some r)) (sym h.places) (some_finds IsFaultless Tells h.before h.place h.behind r h.faultless (record { faulty = h.faulty; unit = h.unit })))
+    (subst (λ l. Judged l (Some r)) (sym h.places)
+    (some_finds IsFaultless Tells h.before h.place h.behind r h.faultless (record { faulty = h.faulty; unit = h.unit })))
 
 none_faulty : (p : Program) → first_fault [] 0 1 p ≡ None → AllByRecursion IsFaultless (places p)
 none_faulty p e = finds_none IsFaultless Tells (places p) (subst (Judged (places p)) e (judged p))
@@ -165,17 +171,19 @@ refusal-is : (p : Program) → refusal_of p ≡ or_refused (first_fault [] 0 1 p
 unfolding or_limit last_limit
 refusal-is p = refl
 
-limit_told : (p : Program) (b : Bool) → exceeds (plan_of p) ≡ b → (KeepsLimits (plan_of p) → ⊥) → (r : Refusal) → r.fault ≡ Limit → r.unit ≡ length p → or_limit b p ≡ Some r
+limit_told : (p : Program) (b : Bool) → exceeds (plan_of p) ≡ b → (KeepsLimits (plan_of p) → ⊥) → (r : Refusal) → r.fault ≡ Limit → r.unit ≡ length p
+    → or_limit b p ≡ Some r
 unfolding or_limit last_limit
 limit_told p true e n r f u = λ i. Some (record { unit = sym u i; fault = sym f i })
 limit_told p false e n r f u = absurd (n (within_where (plan_of p) e))
 
 pub refusals_are : RefusalsAre
-refusals_are p r =
-    ((λ h. told p (first_fault [] 0 1 p) (exceeds (plan_of p)) refl refl r (sym (refusal-is p) ∙ h)),
-    ⊎_elim (λ h. refusal-is p ∙ ap (λ o. or_refused o (or_limit (exceeds (plan_of p)) p)) (is_first p r h))
-    (λ h. refusal-is p ∙ ap (λ o. or_refused o (or_limit (exceeds (plan_of p)) p)) (faulty_none p h.faultless)
-        ∙ limit_told p (exceeds (plan_of p)) refl h.exceeds r h.fault h.unit))
+refusals_are p r = (
+  (λ h. told p (first_fault [] 0 1 p) (exceeds (plan_of p)) refl refl r (sym (refusal-is p) ∙ h)),
+  ⊎_elim (λ h. refusal-is p ∙ ap (λ o. or_refused o (or_limit (exceeds (plan_of p)) p)) (is_first p r h))
+      (λ h. refusal-is p ∙ ap (λ o. or_refused o (or_limit (exceeds (plan_of p)) p)) (faulty_none p h.faultless)
+      ∙ limit_told p (exceeds (plan_of p)) refl h.exceeds r h.fault h.unit),
+)
 
 both_none : (a b : Option Refusal) → or_refused a b ≡ None → (a ≡ None) × (b ≡ None)
 both_none None b h = (refl, h)
@@ -187,11 +195,12 @@ none_over p true e h = absurd (cc h)
 none_over p false e h = refl
 
 pub accepted_are : AcceptedAre
-accepted_are p =
-    ((λ h. let b = both_none (first_fault [] 0 1 p) (or_limit (exceeds (plan_of p)) p) (sym (refusal-is p) ∙ h) in
-        record { faultless = none_faulty p b.0; within = within p (exceeds (plan_of p)) refl b.1 }),
-    λ h. refusal-is p ∙ ap (λ o. or_refused o (or_limit (exceeds (plan_of p)) p)) (faulty_none p h.faultless)
-        ∙ none_over p (exceeds (plan_of p)) refl (where_within (plan_of p) h.within))
+accepted_are p = (
+  (λ h. let b = both_none (first_fault [] 0 1 p) (or_limit (exceeds (plan_of p)) p) (sym (refusal-is p) ∙ h) in
+      record { faultless = none_faulty p b.0; within = within p (exceeds (plan_of p)) refl b.1 }),
+  λ h. refusal-is p ∙ ap (λ o. or_refused o (or_limit (exceeds (plan_of p)) p)) (faulty_none p h.faultless)
+      ∙ none_over p (exceeds (plan_of p)) refl (where_within (plan_of p) h.within),
+)
 
 pub accepted_plannable : AcceptedPlannable
 accepted_plannable p s a = faultless_plannable p s (faulty_none p a.faultless)

@@ -1,5 +1,6 @@
 -- Numbers in names: no two are alike.
-use Rattle.std.proofs.Common.{◌≡◌, ℕ, zero, suc, ◌+◌, ◌-◌, ◌*◌, ◌/◌, ◌%◌, ◌^◌, ◌<◌, ◌≤◌, Bool, true, false, List, [], ◌∷◌, ◌++◌, refl, sym, ap, ◌∙◌, subst, arith, ⊎_elim, cond}
+use Rattle.std.proofs.Common.{◌≡◌, ℕ, zero, suc, ◌+◌, ◌-◌, ◌*◌, ◌/◌, ◌%◌, ◌^◌, ◌<◌, ◌≤◌, true, false, List, []}
+use Rattle.std.proofs.Common.{◌∷◌, ◌++◌, sym, ap, ◌∙◌, subst, arith, ⊎_elim, cond}
 use Rattle.std.proofs.Common.{add-one}
 use Rattle.std.specs.Prelude.{nat_lt, fold}
 use Rattle.std.specs.Fmt.{decimal}
@@ -26,7 +27,8 @@ enough zero k n a b = absurd (omega (arith, a))
 enough (suc j) zero n a b = absurd (omega (arith, b))
 enough (suc j) (suc k) n a b = ⊎_elim
     (λ lt. one_digit j n lt ∙ sym (one_digit k n lt))
-    (λ le. more_digits j n le ∙ ap (λ l. l ++ (48 + n % 10) ∷ []) (enough j k (n / 10) (omega (arith, le, a)) (omega (arith, le, b))) ∙ sym (more_digits k n le))
+    (λ le. more_digits j n le
+    ∙ ap (λ l. l ++ (48 + n % 10) ∷ []) (enough j k (n / 10) (omega (arith, le, a)) (omega (arith, le, b))) ∙ sym (more_digits k n le))
     (cases_lt n 10)
 
 pub numeral_digit : (n : ℕ) → n < 10 → numeral n ≡ (48 + n) ∷ []

@@ -1,5 +1,5 @@
 -- Of the plan of an accepted program no fault is told but that it exceeds a limit.
-use Rattle.std.proofs.Common.{◌≡◌, ℕ, ◌≤◌, List, [], ◌∷◌, ◌++◌, Option, Some, None, Bool, true, false, refl, ap, ◌∙◌, subst, arith, length, ⊎_elim}
+use Rattle.std.proofs.Common.{◌≡◌, ℕ, ◌≤◌, List, [], ◌∷◌, ◌++◌, Option, Some, None, Bool, true, false, refl, ap, ◌∙◌, subst, arith, ⊎_elim}
 use Rattle.std.specs.Prelude.{All, nat_lt, ◌||◌}
 use Rattle.std.specs.List.{list_any, AllByRecursion}
 use Rattle.std.specs.Option.{is_some}
@@ -23,7 +23,7 @@ use Rattle.river_plan.proofs.ValidLaw.{once-names, total-labels, all-along, each
 use Rattle.river_plan.proofs.ValidLaw.{valid-no_fault}
 use Rattle.river_plan.proofs.OneFirst.{fault-one}
 use Rattle.cql_model.specs.Plannable.{KeepsRules, IsLimit, exceeds, OnlyLimits, PlansAreValid}
-use Rattle.cql_model.specs.Translation.{ops_of, plan_of}
+use Rattle.cql_model.specs.Translation.{plan_of}
 use Rattle.cql_model.proofs.Valid.{plans_keep}
 
 -- A SEARCH THAT FINDS NOTHING FINDS NOTHING ELSE

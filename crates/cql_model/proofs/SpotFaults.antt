@@ -1,28 +1,20 @@
 -- The faults of what is read in a unit, against the tests that look for them.
-use Rattle.std.proofs.Common.{◌≡◌, ℕ, zero, suc, ◌+◌, ◌<◌, ◌≤◌, Bool, true, false, Option, Some, None, List, [], ◌∷◌, ◌++◌, map, length, filter}
-use Rattle.std.proofs.Common.{refl, sym, ap, ◌∙◌, subst, arith, inl, inr, ⊎_elim, cond}
-use Rattle.std.specs.Prelude.{◌⊎◌, nat_lt, nat_eq, flat_map, if◌then◌else◌, ◌||◌}
-use Rattle.std.proofs.lemmas.List.{length-map, map-append}
-use Rattle.river_base.specs.Name.{name_eq}
+use Rattle.std.proofs.Common.{◌≡◌, ℕ, zero, suc, ◌+◌, ◌<◌, ◌≤◌, Bool, true, false, Option, List, [], ◌∷◌}
+use Rattle.std.proofs.Common.{refl, sym, arith, inl, inr, ⊎_elim}
+use Rattle.std.specs.Prelude.{◌⊎◌, nat_lt, nat_eq, ◌||◌}
 use Rattle.kern_bags.specs.declared.kernel.Window.{Window}
 use Rattle.kern_bags.specs.declared.kernel.Window.TheVariants.{Now, Range, Unbounded, Latest}
 use Rattle.river_plan.specs.Forms.{Name}
-use Rattle.river_plan.specs.Names.{one_if, count}
-use Rattle.river_plan.proofs.NameLemmas.{count-append}
+use Rattle.river_plan.specs.Names.{count}
 use Rattle.cql_model.specs.declared.fault.Fault.{Fault}
 use Rattle.cql_model.specs.declared.fault.Fault.TheVariants.{UnknownStream, UnknownField, AmbiguousField, NameTwice, Limit}
-use Rattle.cql_model.specs.Faults.{then_fault, fault_if, places, item_places, field_fault, scalar_fault, is_rows_fault, item_fault, items_fault, chosen_fault}
-use Rattle.cql_model.specs.Faults.{columns_fault, condition_fault, query_fault, fields_fault, stream_fault}
-use Rattle.cql_model.specs.Laws.{known_names}
-use Rattle.cql_model.specs.Places.{known_by, Mention, Alone, OfItem, mentions, Spot, StreamName, FieldName, QueryName, ItemStream, ItemWindow, ItemName, ColumnStart}
-use Rattle.cql_model.specs.Places.{FieldUse, item_spots, value_spots, column_spots, columns_spots, condition_spots, spots, with_earlier}
-use Rattle.cql_model.specs.Plannable.{declared}
-use Rattle.cql_model.specs.Program.{Scalar, Number, Field, ItemField, Neg, Not, Bin, Source, Column, Columns, Star, Chosen, Query, Register, Ask, Part, Program, registered}
-use Rattle.cql_model.specs.Refused.{called, meant, field_of, HasBadRows, HasFault, rank}
-use Rattle.cql_model.specs.Scopes.{Named, item_named, scope_of}
-use Rattle.cql_model.specs.Translation.{widths_of}
-use Rattle.cql_model.proofs.Earlier.{behind, behind-none, behind-nil, behind-cons}
-use Rattle.cql_model.proofs.First.{first_of, Finds, finds_silent, finds_one, finds_both}
+use Rattle.cql_model.specs.Faults.{then_fault, fault_if, field_fault, is_rows_fault}
+use Rattle.cql_model.specs.Places.{known_by, Mention, Spot, QueryName, ItemStream}
+use Rattle.cql_model.specs.Places.{FieldUse}
+use Rattle.cql_model.specs.Program.{Source, Program}
+use Rattle.cql_model.specs.Refused.{meant, field_of, HasBadRows, HasFault, rank}
+use Rattle.cql_model.specs.Scopes.{scope_of}
+use Rattle.cql_model.proofs.First.{Finds, finds_silent, finds_one}
 
 -- TESTS
 
@@ -101,8 +93,11 @@ Never before s f = HasFault before s f → ⊥
 -- a spot with a name that may stand there twice, and be one too many
 pub twice_or_many : (before : Program) (s : Spot) (b c : Bool) → Never before s UnknownStream → Never before s UnknownField → Never before s AmbiguousField
     → Tests b (HasFault before s NameTwice) → Tests c (HasFault before s Limit) → Found before (s ∷ []) (then_fault (fault_if b NameTwice) (fault_if c Limit))
-twice_or_many before s true c n1 n2 n3 t u = finds_one (Silent before) (Says before) s NameTwice
-    (t.yes refl, by_fault (λ g. rank g < 3 → Never before s g) (λ lt. n1) (λ lt. n2) (λ lt. n3) (λ lt. absurd (omega (arith, lt))) (λ lt. absurd (omega (arith, lt))))
+twice_or_many before s true c n1 n2 n3 t u = finds_one (Silent before) (Says before) s NameTwice (
+  t.yes refl,
+  by_fault (λ g. rank g < 3 → Never before s g) (λ lt. n1) (λ lt. n2) (λ lt. n3)
+      (λ lt. absurd (omega (arith, lt))) (λ lt. absurd (omega (arith, lt))),
+)
 twice_or_many before s false true n1 n2 n3 t u = finds_one (Silent before) (Says before) s Limit
     (u.yes refl, by_fault (λ g. rank g < 4 → Never before s g) (λ lt. n1) (λ lt. n2) (λ lt. n3) (λ lt. t.no refl) (λ lt. absurd (omega (arith, lt))))
 twice_or_many before s false false n1 n2 n3 t u = finds_silent (Silent before) (Says before) s (by_fault (Never before s) n1 n2 n3 (t.no refl) (u.no refl))
@@ -126,19 +121,29 @@ only_limit before s true n1 n2 n3 n4 u = finds_one (Silent before) (Says before)
 only_limit before s false n1 n2 n3 n4 u = finds_silent (Silent before) (Says before) s (by_fault (Never before s) n1 n2 n3 n4 (u.no refl))
 
 -- the name of a query
-pub only_twice : (before : Program) (n : Name) (b : Bool) → Tests b (HasFault before (QueryName n) NameTwice) → Found before (QueryName n ∷ []) (fault_if b NameTwice)
-only_twice before n true t = let s = QueryName n in finds_one (Silent before) (Says before) s NameTwice
-    (t.yes refl, by_fault (λ g. rank g < 3 → Never before s g) (λ lt h. h) (λ lt h. h) (λ lt h. h) (λ lt. absurd (omega (arith, lt))) (λ lt. absurd (omega (arith, lt))))
+pub only_twice : (before : Program) (n : Name) (b : Bool) → Tests b (HasFault before (QueryName n) NameTwice)
+    → Found before (QueryName n ∷ []) (fault_if b NameTwice)
+only_twice before n true t = let s = QueryName n in finds_one (Silent before) (Says before) s NameTwice (
+  t.yes refl,
+  by_fault (λ g. rank g < 3 → Never before s g) (λ lt h. h) (λ lt h. h) (λ lt h. h)
+      (λ lt. absurd (omega (arith, lt))) (λ lt. absurd (omega (arith, lt))),
+)
 only_twice before n false t = let s = QueryName n in
     finds_silent (Silent before) (Says before) s (by_fault (Never before s) (λ h. h) (λ h. h) (λ h. h) (t.no refl) (λ h. h))
 
 -- a field that stands in so many places
 pub field_use : (before : Program) (items : List Source) (m : Mention) (n : ℕ) → n ≡ count (field_of m) (meant (scope_of (known_by before) items) m)
     → Found before (FieldUse items m ∷ []) (field_fault n)
-field_use before items m zero e = let s = FieldUse items m in finds_one (Silent before) (Says before) s UnknownField
-    (sym e, by_fault (λ g. rank g < 1 → Never before s g) (λ lt h. h) (λ lt. absurd (omega (arith, lt))) (λ lt. absurd (omega (arith, lt))) (λ lt. absurd (omega (arith, lt))) (λ lt. absurd (omega (arith, lt))))
+field_use before items m zero e = let s = FieldUse items m in finds_one (Silent before) (Says before) s UnknownField (
+  sym e,
+  by_fault (λ g. rank g < 1 → Never before s g) (λ lt h. h)
+      (λ lt. absurd (omega (arith, lt))) (λ lt. absurd (omega (arith, lt))) (λ lt. absurd (omega (arith, lt))) (λ lt. absurd (omega (arith, lt))),
+)
 field_use before items m (suc zero) e = let s = FieldUse items m in
-    finds_silent (Silent before) (Says before) s (by_fault (Never before s) (λ h. h) (λ h. absurd (omega (arith, h, e))) (λ h. absurd (omega (arith, h, e))) (λ h. h) (λ h. h))
-field_use before items m (suc (suc k)) e = let s = FieldUse items m in finds_one (Silent before) (Says before) s AmbiguousField
-    (omega (arith, e),
-    by_fault (λ g. rank g < 2 → Never before s g) (λ lt h. h) (λ lt h. absurd (omega (arith, h, e))) (λ lt. absurd (omega (arith, lt))) (λ lt. absurd (omega (arith, lt))) (λ lt. absurd (omega (arith, lt))))
+    finds_silent (Silent before) (Says before) s
+    (by_fault (Never before s) (λ h. h) (λ h. absurd (omega (arith, h, e))) (λ h. absurd (omega (arith, h, e))) (λ h. h) (λ h. h))
+field_use before items m (suc (suc k)) e = let s = FieldUse items m in finds_one (Silent before) (Says before) s AmbiguousField (
+  omega (arith, e),
+  by_fault (λ g. rank g < 2 → Never before s g) (λ lt h. h) (λ lt h. absurd (omega (arith, h, e)))
+      (λ lt. absurd (omega (arith, lt))) (λ lt. absurd (omega (arith, lt))) (λ lt. absurd (omega (arith, lt))),
+)

@@ -1,18 +1,16 @@
 -- The instants of a run are exactly the timestamps of its files.
-use Rattle.std.proofs.Common.{◌≡◌, ℕ, ◌<◌, ◌<ℤ◌, ℤ, List, [], ◌∷◌, ◌++◌, length, map, refl, sym, ap, ◌∙◌, subst, arith, ⊎_elim, get_or}
-use Rattle.std.specs.Prelude.{flat_map}
+use Rattle.std.proofs.Common.{◌≡◌, ◌<ℤ◌, ℤ, List, [], ◌∷◌, map, refl, sym, ap, subst, arith, ⊎_elim}
 use Rattle.std.specs.List.{AllByRecursion, Contains}
 use Rattle.std.specs.List.Sorted.{IsStrictlySortedBy}
 use Rattle.std.specs.Ordering.{int_cmp}
 use Rattle.std.specs.declared.cmp.Ordering.TheVariants.{Less}
 use Rattle.std.proofs.lemmas.List.Elements.{Contains-append_left, Contains-append_right, Contains-push, Contains-push_cases, Contains-append_cases}
-use Rattle.river_base.specs.Instants.{Timed, item_at, stamps, instants, spread}
+use Rattle.river_base.specs.Instants.{Timed, stamps, instants, spread}
 use Rattle.river_base.proofs.Instants.{once_rises, once_has, has_once}
 use Rattle.brooklet_model.specs.Fit.{Rises}
 use Rattle.brooklet_model.specs.Fit as fit
-use Rattle.cql_model.specs.Instants.{IsStamped, AreInstantsOf, InstantsAre, MeansAtInstants, program_means}
+use Rattle.cql_model.specs.Instants.{IsStamped, AreInstantsOf, InstantsAre, MeansAtInstants}
 use Rattle.cql_model.specs.Meaning.{answers}
-use Rattle.cql_model.specs.Program.{Program}
 
 -- THEY RISE
 

@@ -1,24 +1,25 @@
 -- The first fault of a unit, spot by spot.
-use Rattle.std.proofs.Common.{◌≡◌, ℕ, ◌+◌, ◌<◌, Bool, true, false, Option, Some, None, List, [], ◌∷◌, ◌++◌, map, length, filter, refl, sym, ap, ◌∙◌, subst, arith}
-use Rattle.std.proofs.Common.{⊎_elim, cond, length-append}
+use Rattle.std.proofs.Common.{◌≡◌, ℕ, ◌+◌, Bool, true, false, Option, Some, None, List, [], ◌∷◌, ◌++◌, map, length, filter, refl, sym, ap, ◌∙◌, subst, arith}
+use Rattle.std.proofs.Common.{cond, length-append}
 use Rattle.std.specs.Prelude.{nat_lt, nat_eq, flat_map, fold, if◌then◌else◌}
 use Rattle.std.proofs.lemmas.List.{length-map, map-append}
-use Rattle.std.proofs.lemmas.List.Concat.{flat_map-append}
 use Rattle.std.proofs.lemmas.Grind.{fold-append}
 use Rattle.river_base.specs.Name.{name_eq}
 use Rattle.river_plan.specs.Forms.{Name}
-use Rattle.river_plan.specs.Names.{one_if, count}
-use Rattle.river_plan.proofs.NameLemmas.{count-append, cases_bool}
+use Rattle.river_plan.specs.Names.{count}
+use Rattle.river_plan.proofs.NameLemmas.{count-append}
 use Rattle.cql_model.specs.declared.fault.Fault.{Fault}
 use Rattle.cql_model.specs.declared.fault.Fault.TheVariants.{UnknownStream, NameTwice, Limit}
 use Rattle.cql_model.specs.Faults.{then_fault, fault_if, places, item_places, scalar_fault, is_rows_fault, item_fault, items_fault, chosen_fault, columns_fault}
 use Rattle.cql_model.specs.Faults.{condition_fault, query_fault, fields_fault, stream_fault}
 use Rattle.cql_model.specs.Laws.{known_names}
-use Rattle.cql_model.specs.Places.{with_earlier, declares, known_by, Mention, Alone, OfItem, mentions, Spot, StreamName, FieldName, QueryName, ItemStream, ItemWindow, ItemName}
+use Rattle.cql_model.specs.Places.{with_earlier, declares, known_by, Alone, OfItem, mentions}
+use Rattle.cql_model.specs.Places.{Spot, StreamName, FieldName, QueryName, ItemStream, ItemWindow, ItemName}
 use Rattle.cql_model.specs.Places.{ColumnStart, FieldUse, item_spots, value_spots, column_spots, columns_spots, condition_spots, spots}
 use Rattle.cql_model.specs.Plannable.{declared}
-use Rattle.cql_model.specs.Program.{Scalar, Number, Field, ItemField, Neg, Not, Bin, Source, Column, Columns, Star, Chosen, Query, Register, Ask, Part, Program, registered}
-use Rattle.cql_model.specs.Refused.{called, meant, field_of}
+use Rattle.cql_model.specs.Program.{Scalar, Number, Field, ItemField, Neg, Not, Bin, Source, Column, Columns, Star, Chosen}
+use Rattle.cql_model.specs.Program.{Query, Register, Ask, Part, Program, registered}
+use Rattle.cql_model.specs.Refused.{called, meant}
 use Rattle.cql_model.specs.Scopes.{Named, item_named, scope_of}
 use Rattle.cql_model.specs.Translation.{widths_of}
 use Rattle.cql_model.proofs.Earlier.{behind, behind-none, behind-nil, behind-cons, map-both}
@@ -87,9 +88,11 @@ value before items (Neg e) = value before items e
 value before items (Not e) = value before items e
 value before items (Bin o l r) =
     let scope = scope_of (known_by before) items in
-    subst (λ (s : List Spot). Found before s (then_fault (scalar_fault scope l) (scalar_fault scope r))) (sym (map-append (FieldUse items) (mentions l) (mentions r)))
-    (both before (value_spots items l) (value_spots items r) (scalar_fault scope l) (scalar_fault scope r) _ (then_first (scalar_fault scope l) (scalar_fault scope r))
-        (value before items l) (value before items r))
+    subst (λ (s : List Spot). Found before s (then_fault (scalar_fault scope l) (scalar_fault scope r)))
+    (sym (map-append (FieldUse items) (mentions l) (mentions r)))
+    (both before (value_spots items l) (value_spots items r) (scalar_fault scope l) (scalar_fault scope r) _
+    (then_first (scalar_fault scope l) (scalar_fault scope r))
+    (value before items l) (value before items r))
 
 -- ITEMS
 
@@ -118,13 +121,14 @@ item before past i =
     let e = fault_if (nat_lt 16 (widths_of (scope ++ named ∷ []))) Limit in
     both before (ItemStream past i ∷ []) (ItemWindow i.window ∷ ItemName past i ∷ []) (then_fault a b) (first_of c (then_fault d e)) _ (regroup a b c d e)
     (stream_or_many before past i (nat_eq (count i.stream (known_names ks)) 0) (nat_lt 3 (length scope))
-        (none_among (count i.stream (known_names ks)) (count i.stream (declared before)) (known_are i.stream before))
-        (one_more 3 (length scope) (length past) (length-map past (item_named ks))))
+    (none_among (count i.stream (known_names ks)) (count i.stream (declared before)) (known_are i.stream before))
+    (one_more 3 (length scope) (length past) (length-map past (item_named ks))))
     (both before (ItemWindow i.window ∷ []) (ItemName past i ∷ []) c (then_fault d e) _ refl
-        (only_limit before (ItemWindow i.window) (is_rows_fault i.window) (λ h. h) (λ h. h) (λ h. h) (λ h. h) (bad_rows i.window))
-        (twice_or_many before (ItemName past i) (nat_lt 0 (count named.name (known_names scope))) (nat_lt 16 (widths_of (scope ++ named ∷ []))) (λ h. h) (λ h. h) (λ h. h)
-            (some_among (count named.name (known_names scope)) (count (called i) (map called past)) (ap (count (called i)) (names-called ks past)))
-            (above 16 (widths_of (scope ++ named ∷ [])) (widths_of (scope_of ks (past ++ i ∷ []))) (ap widths_of (scope-more ks past i)))))
+    (only_limit before (ItemWindow i.window) (is_rows_fault i.window) (λ h. h) (λ h. h) (λ h. h) (λ h. h) (bad_rows i.window))
+    (twice_or_many before (ItemName past i) (nat_lt 0 (count named.name (known_names scope))) (nat_lt 16 (widths_of (scope ++ named ∷ [])))
+    (λ h. h) (λ h. h) (λ h. h)
+    (some_among (count named.name (known_names scope)) (count (called i) (map called past)) (ap (count (called i)) (names-called ks past)))
+    (above 16 (widths_of (scope ++ named ∷ [])) (widths_of (scope_of ks (past ++ i ∷ []))) (ap widths_of (scope-more ks past i)))))
 
 items : (before : Program) (past is : List Source)
     → Found before (flat_map item_spots (behind past is)) (items_fault (known_by before) (scope_of (known_by before) past) is)
@@ -135,8 +139,8 @@ items before past (i ∷ is) =
     let rest = items_fault ks (scope_of ks (past ++ i ∷ [])) is in
     subst (λ (l : List (List Source × Source)). Found before (flat_map item_spots l) (items_fault ks scope (i ∷ is))) (sym (behind-cons past i is))
     (both before (item_spots (past, i)) (flat_map item_spots (behind (past ++ i ∷ []) is)) (item_fault ks scope i) rest _
-        (then_first (item_fault ks scope i) rest ∙ ap (λ (l : List Named). then_fault (item_fault ks scope i) (items_fault ks l is)) (sym (scope-more ks past i)))
-        (item before past i) (items before (past ++ i ∷ []) is))
+    (then_first (item_fault ks scope i) rest ∙ ap (λ (l : List Named). then_fault (item_fault ks scope i) (items_fault ks l is)) (sym (scope-more ks past i)))
+    (item before past i) (items before (past ++ i ∷ []) is))
 
 -- COLUMNS AND CONDITIONS
 
@@ -151,13 +155,14 @@ chosen before its past (c ∷ cs) =
     let a = fault_if (nat_lt 15 (length past)) Limit in
     let b = scalar_fault scope c.value in
     let rest = chosen_fault scope (length (past ++ c ∷ [])) cs in
-    subst (λ (l : List (List Column × Column)). Found before (flat_map (column_spots its) l) (chosen_fault scope (length past) (c ∷ cs))) (sym (behind-cons past c cs))
+    subst (λ (l : List (List Column × Column)). Found before (flat_map (column_spots its) l) (chosen_fault scope (length past) (c ∷ cs)))
+    (sym (behind-cons past c cs))
     (both before (column_spots its (past, c)) (flat_map (column_spots its) (behind (past ++ c ∷ []) cs)) (then_fault a b) rest _
-        (then_more a b rest ∙ ap (λ (k : ℕ). then_fault a (then_fault b (chosen_fault scope k cs))) (sym (one_longer past c)))
-        (both before (ColumnStart past ∷ []) (value_spots its c.value) a b _ (then_first a b)
-            (only_limit before (ColumnStart past) (nat_lt 15 (length past)) (λ h. h) (λ h. h) (λ h. h) (λ h. h) (one_more 15 (length past) (length past) refl))
-            (value before its c.value))
-        (chosen before its (past ++ c ∷ []) cs))
+    (then_more a b rest ∙ ap (λ (k : ℕ). then_fault a (then_fault b (chosen_fault scope k cs))) (sym (one_longer past c)))
+    (both before (ColumnStart past ∷ []) (value_spots its c.value) a b _ (then_first a b)
+    (only_limit before (ColumnStart past) (nat_lt 15 (length past)) (λ h. h) (λ h. h) (λ h. h) (λ h. h) (one_more 15 (length past) (length past) refl))
+    (value before its c.value))
+    (chosen before its (past ++ c ∷ []) cs))
 
 columns : (before : Program) (its : List Source) (cs : Columns)
     → Found before (columns_spots its cs) (columns_fault (scope_of (known_by before) its) cs)
@@ -186,10 +191,10 @@ query before q =
     let ws = condition_spots q.items q.condition in
     both before (QueryName q.name ∷ []) (is ++ (cs ++ ws)) a (then_fault b (then_fault c d)) _ (then_first a (then_fault b (then_fault c d)))
     (only_twice before q.name (nat_lt 0 (count q.name (known_names ks)))
-        (some_among (count q.name (known_names ks)) (count q.name (declared before)) (known_are q.name before)))
+    (some_among (count q.name (known_names ks)) (count q.name (declared before)) (known_are q.name before)))
     (both before is (cs ++ ws) b (then_fault c d) _ (then_first b (then_fault c d))
-        (subst (λ (l : List (List Source × Source)). Found before (flat_map item_spots l) b) (behind-none q.items) (items before [] q.items))
-        (both before cs ws c d _ (then_first c d) (columns before q.items q.columns) (condition before q.items q.condition)))
+    (subst (λ (l : List (List Source × Source)). Found before (flat_map item_spots l) b) (behind-none q.items) (items before [] q.items))
+    (both before cs ws c d _ (then_first c d) (columns before q.items q.columns) (condition before q.items q.condition)))
 
 abbrev field_spot : List Name × Name → Spot
 field_spot e = FieldName e.0 e.1
@@ -202,9 +207,9 @@ fields before past (f ∷ fs) =
     let rest = fields_fault (past ++ f ∷ []) fs in
     subst (λ (l : List (List Name × Name)). Found before (map field_spot l) (fields_fault past (f ∷ fs))) (sym (behind-cons past f fs))
     (both before (FieldName past f ∷ []) (map field_spot (behind (past ++ f ∷ []) fs)) (then_fault a b) rest _ (then_more a b rest)
-        (twice_or_many before (FieldName past f) (nat_lt 0 (count f past)) (nat_lt 15 (length past)) (λ h. h) (λ h. h) (λ h. h)
-            (some_among (count f past) (count f past) refl) (one_more 15 (length past) (length past) refl))
-        (fields before (past ++ f ∷ []) fs))
+    (twice_or_many before (FieldName past f) (nat_lt 0 (count f past)) (nat_lt 15 (length past)) (λ h. h) (λ h. h) (λ h. h)
+    (some_among (count f past) (count f past) refl) (one_more 15 (length past) (length past) refl))
+    (fields before (past ++ f ∷ []) fs))
 
 pub stream : (before : Program) (name : Name) (fs : List Name)
     → Found before (spots (Register name fs)) (stream_fault (known_by before) (length (registered before)) name fs)
@@ -215,6 +220,6 @@ stream before name fs =
     let c = fields_fault [] fs in
     both before (StreamName name ∷ []) (map field_spot (with_earlier fs)) (then_fault a b) c _ (then_more a b c)
     (twice_or_many before (StreamName name) (nat_lt 0 (count name (known_names ks))) (nat_lt 7 (length (registered before))) (λ h. h) (λ h. h) (λ h. h)
-        (some_among (count name (known_names ks)) (count name (declared before)) (known_are name before))
-        (one_more 7 (length (registered before)) (length (registered before)) refl))
+    (some_among (count name (known_names ks)) (count name (declared before)) (known_are name before))
+    (one_more 7 (length (registered before)) (length (registered before)) refl))
     (subst (λ (l : List (List Name × Name)). Found before (map field_spot l) c) (behind-none fs) (fields before [] fs))

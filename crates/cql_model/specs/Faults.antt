@@ -1,5 +1,5 @@
 -- Why a program is refused: the first fault in reading order, and the unit in which it stands.
-use Rattle.std.specs.Prelude.{◌<◌, ◌≤◌, IsTrue, ◌≡◌, ℕ, ℤ, zero, suc, ◌+◌, Bool, true, false, ◌||◌, nat_lt, nat_eq, List, [], ◌∷◌, ◌++◌, length, Option, Some}
+use Rattle.std.specs.Prelude.{◌<◌, ◌≤◌, IsTrue, ◌≡◌, ℕ, zero, suc, ◌+◌, Bool, true, false, ◌||◌, nat_lt, nat_eq, List, [], ◌∷◌, ◌++◌, length, Option, Some}
 use Rattle.std.specs.Prelude.{None, if◌then◌else◌}
 use Rattle.std.specs.List.{AllByRecursion}
 use Rattle.river_base.specs.Name.{name_eq}
@@ -7,14 +7,11 @@ use Rattle.kern_bags.specs.declared.kernel.Window.{Window}
 use Rattle.kern_bags.specs.declared.kernel.Window.TheVariants.{Now, Range, Unbounded, Latest}
 use Rattle.river_plan.specs.Forms.{Name}
 use Rattle.river_plan.specs.Names.{count}
-use Rattle.river_plan.specs.Valid.{IsPlan}
-use Rattle.brooklet_model.specs.Meaning.{meaning}
 use Rattle.cql_model.specs.declared.fault.Fault.{Fault}
 use Rattle.cql_model.specs.declared.fault.Fault.TheVariants.{UnknownStream, UnknownField, AmbiguousField, NameTwice, Limit}
 use Rattle.cql_model.specs.declared.fault.Refusal.{Refusal}
 use Rattle.cql_model.specs.Plannable.{has_no_at, declared, AreShallow, IsShallow, IsPlannable, exceeds}
-use Rattle.cql_model.specs.Instants.{program_means, inputs_for}
-use Rattle.cql_model.specs.Laws.{known_names, AreFiles}
+use Rattle.cql_model.specs.Laws.{known_names}
 use Rattle.cql_model.specs.Program.{Scalar, Number, Field, ItemField, Neg, Not, Bin, Source, Column, Columns, Star, Chosen, Query, Register, Ask, Program}
 use Rattle.cql_model.specs.Program.{all_uses}
 use Rattle.cql_model.specs.Scopes.{Named, item_named, scope_of}

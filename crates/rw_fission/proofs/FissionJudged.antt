@@ -1,15 +1,14 @@
 -- What fission answers, by its conditions.
-use Rattle.std.proofs.Common.{◌≡◌, ℕ, zero, suc, ◌+◌, ◌-◌, ◌<◌, ◌≤◌, ◌⊎◌, inl, inr, Bool, true, false, ◌&&◌, Option, Some, None, List, [], ◌∷◌, ◌++◌, length, map, refl, sym, ap, ◌∙◌, subst, arith, ⊎_elim}
+use Rattle.std.proofs.Common.{◌≡◌, ℕ, zero, suc, ◌+◌, ◌-◌, ◌<◌, ◌≤◌, ◌⊎◌, inl, inr, Bool, true, false, ◌&&◌, Option, Some, None, List, [], ◌∷◌, ◌++◌}
+use Rattle.std.proofs.Common.{length, refl, sym, ap, ◌∙◌, subst, arith, ⊎_elim}
 use Rattle.std.proofs.Common.{length-append}
-use Rattle.std.specs.Prelude.{Result, Ok, Err, nat_le, slice_get}
+use Rattle.std.specs.Prelude.{Result, nat_le, slice_get}
 use Rattle.std.specs.List.{list_all}
 use Rattle.std.proofs.lemmas.Bool.{and_parts, and_cases, leb-true, leb-false}
 use Rattle.std.proofs.lemmas.List.{map-append}
 use Rattle.river_base.specs.Name.{name_eq}
-use Rattle.river_kernels.specs.Fits.{rows}
 use Rattle.river_kernels.specs.Kern.{Kern}
 use Rattle.river_base.specs.declared.kind.QueueType.{QueueType}
-use Rattle.river_kernels.specs.declared.limit.Limit.{Limit}
 use Rattle.river_plan.specs.Forms.{Name, OpForm, PlanForm, all_decls, queue_names, variable_names, labels}
 use Rattle.river_plan.specs.Kinds.{kind_of}
 use Rattle.river_plan.specs.Limits.{most_of, numbers, limits}
@@ -20,16 +19,16 @@ use Rattle.river_plan.proofs.NameLemmas.{cases_bool, cases_name, name_is, name_s
 use Rattle.brooklet_model.proofs.Lists.{if_lt}
 use Rattle.plan_edits.specs.declared.unfit.Unfit.{Unfit}
 use Rattle.plan_edits.specs.declared.unfit.Unfit.TheVariants.{U1, U2, U3, U4, U5, H1, H2, H3, H4, N1, N2, N3, N4, N5, NoMemory}
-use Rattle.plan_edits.specs.Judged.{rank, IsFirstToFail, IsJudged}
+use Rattle.plan_edits.specs.Judged.{rank, IsJudged}
 use Rattle.plan_edits.specs.Lists.{first_with, swapped}
 use Rattle.plan_edits.proofs.Judging.{rank_most, judged_law, by_if}
 use Rattle.plan_edits.proofs.Surgery.{total-append, first_past, found, some_op}
 use Rattle.plan_edits.proofs.Swap.{swapped_past}
 use Rattle.rw_fission.specs.Asked.{all_made, are_short, way_of, by_way, by_reads, by_op, fission_of}
 use Rattle.rw_fission.specs.Code.{longest}
-use Rattle.rw_fission.specs.Fission.{Way, by_packs, by_blocks, by_adds, replica_op, each_op, joiner_ops, splitter_op, split_ops, split_by}
+use Rattle.rw_fission.specs.Fission.{Way, replica_op, each_op, joiner_ops, split_ops, split_by}
 use Rattle.rw_fission.specs.Made.{Made, made_of, each_name, digits}
-use Rattle.rw_fission.specs.May.{MayBlock, is_apart, is_within, stand_once}
+use Rattle.rw_fission.specs.May.{is_apart, is_within, stand_once}
 use Rattle.rw_fission.specs.Splits.{given_names}
 use Rattle.rw_fission.specs.Splitting.{IsLabelled, Takes, IsSplit, IsOver, HasTwice, new_names, HasLong, FissionFails, FissionIsJudged}
 use Rattle.rw_fission.proofs.ByBlocks as blocking
@@ -180,7 +179,8 @@ new_short : (p : PlanForm) (l : Name) (op : OpForm) (n : ℕ) (source : Name) (w
     → list_all fits_64 (each_name (made_of l).replica n) ≡ true
     → list_all fits_64 w.new ≡ true
 new_short p l op n source w t a b c =
-    let two : list_all fits_64 ((made_of l).splitter ∷ (made_of l).joiner ∷ []) ≡ true = ap (λ x. x && (fits_64 (made_of l).joiner && true)) a ∙ ap (λ x. x && true) b in
+    let two : list_all fits_64 ((made_of l).splitter ∷ (made_of l).joiner ∷ []) ≡ true = ap (λ x. x && (fits_64 (made_of l).joiner && true)) a
+    ∙ ap (λ x. x && true) b in
     let one : list_all fits_64 ((made_of l).splitter ∷ []) ≡ true = ap (λ x. x && true) a in
     let last : list_all fits_64 ((made_of l).joiner ∷ []) ≡ true = ap (λ x. x && true) b in
     ⊎_elim
@@ -400,13 +400,15 @@ module _ (p : PlanForm) (l : Name) (n : ℕ) (v : IsPlan p) where
         inputs (leb-true 2 n a.0) (leb-true n 16 a.1) op.reads refl)
         (λ f. record {
           fails = ⊎_elim (λ e. inl (leb-false 2 n e)) (λ e. inr (leb-false n 16 e)) (and_cases (nat_le 2 n) (nat_le n 16) f);
-          first = nots 10 (λ x. no1) (λ x. absurd (omega (arith, x))) (λ x. absurd (omega (arith, x))) (λ x. absurd (omega (arith, x))) (λ x. absurd (omega (arith, x)));
+          first = nots 10 (λ x. no1) (λ x. absurd (omega (arith, x))) (λ x. absurd (omega (arith, x))) (λ x. absurd (omega (arith, x)))
+              (λ x. absurd (omega (arith, x)));
         })
 
   any : (o : Option OpForm) → first_with (named_it l) p.ops ≡ o → Judged (by_op p l n o)
   any None h = record {
     fails = λ op a. no_op op (sym h ∙ labelled_first op a);
-    first = nots 9 (λ x. absurd (omega (arith, x))) (λ x. absurd (omega (arith, x))) (λ x. absurd (omega (arith, x))) (λ x. absurd (omega (arith, x))) (λ x. absurd (omega (arith, x)));
+    first = nots 9 (λ x. absurd (omega (arith, x))) (λ x. absurd (omega (arith, x))) (λ x. absurd (omega (arith, x)))
+        (λ x. absurd (omega (arith, x))) (λ x. absurd (omega (arith, x)));
   }
   any (Some op) h = number op (labelled op h)
 

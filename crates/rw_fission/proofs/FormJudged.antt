@@ -1,6 +1,6 @@
 -- Which form an operator takes: the first that it has.
-use Rattle.std.proofs.Common.{◌≡◌, ℕ, ◌<◌, ◌≤◌, inl, inr, Bool, true, ◌&&◌, Option, Some, None, List, [], ◌∷◌, length, refl, sym, ap, ◌∙◌, subst, arith, ⊎_elim}
-use Rattle.std.specs.Prelude.{if◌then◌else◌, nat_le, nat_lt, nat_eq}
+use Rattle.std.proofs.Common.{◌≡◌, ℕ, ◌<◌, inl, inr, Bool, true, ◌&&◌, Option, Some, None, List, [], ◌∷◌, length, refl, sym, ap, ◌∙◌, subst, arith, ⊎_elim}
+use Rattle.std.specs.Prelude.{nat_le, nat_lt, nat_eq}
 use Rattle.std.specs.List.{list_all}
 use Rattle.std.proofs.lemmas.Bool.{and_from, lt-ltb, le-leb, eq-eqb}
 use Rattle.river_base.specs.declared.kind.FlatType.{FlatType}
@@ -8,19 +8,19 @@ use Rattle.river_base.specs.declared.kind.QueueType.{QueueType}
 use Rattle.river_base.specs.declared.kind.QueueType.TheVariants.{Flat, Pack}
 use Rattle.kern_rows.specs.Forms.{FilterForm}
 use Rattle.river_kernels.specs.Fits.{rows}
-use Rattle.river_kernels.specs.Kern.{Kern, filter}
+use Rattle.river_kernels.specs.Kern.{filter}
 use Rattle.river_kernels.specs.Limits.{either}
 use Rattle.river_plan.specs.Forms.{Name, OpForm, PlanForm, all_decls, table_names}
 use Rattle.river_plan.specs.Kinds.{kind_of}
-use Rattle.river_plan.specs.Names.{count, one_if}
+use Rattle.river_plan.specs.Names.{count}
 use Rattle.brooklet_model.proofs.Lists.{if_true}
 use Rattle.brooklet_model.proofs.Solutions.{count_here}
-use Rattle.rw_fission.specs.Asked.{packs_to, packs_way, is_nil, blocks_way, adds_way, flat_way, way_of}
+use Rattle.rw_fission.specs.Asked.{packs_to, packs_way, is_nil, blocks_way, adds_way, way_of}
 use Rattle.rw_fission.specs.Fission.{Way, by_packs, by_blocks, by_adds}
 use Rattle.rw_fission.specs.Made.{Made}
 use Rattle.rw_fission.specs.May.{MayPack, MayBlock, MayAdd}
 use Rattle.rw_fission.specs.Splitting.{CanPack, CanBlock, CanAdd, Takes}
-use Rattle.rw_fission.proofs.Accepted.{IsPacks, IsBlocks, IsAdds, packs_is, blocks_is, adds_is, no_some}
+use Rattle.rw_fission.proofs.Accepted.{packs_is, blocks_is, adds_is, no_some}
 
 all_named : (t : Name → Bool) (ws : List Name) → ((x : Name) → 0 < count x ws → t x ≡ true) → list_all t ws ≡ true
 all_named t [] h = refl
@@ -78,7 +78,8 @@ module _ (p : PlanForm) (op : OpForm) (m : Made) (n : ℕ) (source : Name) where
   WayJudged None = (CanPack p op source → ⊥) × (CanBlock p op source → ⊥) × (CanAdd p op source → ⊥)
 
   module _ (reads : op.reads ≡ source ∷ []) where
-    flat : (t : FlatType) → kind_of (all_decls p) source ≡ Flat t → (a b c : Option Way) → packs_way p op m n op.writes op.vars ≡ a → blocks_way p op m n op.kernel ≡ b
+    flat : (t : FlatType) → kind_of (all_decls p) source ≡ Flat t → (a b c : Option Way) → packs_way p op m n op.writes op.vars ≡ a
+        → blocks_way p op m n op.kernel ≡ b
         → adds_way p op m op.writes op.vars ≡ c
         → WayJudged (either a (either b c))
     flat t k (Some w) b c ea eb ec = let s = packs_is p op m n source t w op.writes op.vars reads k refl refl ea in inl (s.out, t, s.type, s.may, s.is)
@@ -86,13 +87,19 @@ module _ (p : PlanForm) (op : OpForm) (m : Made) (n : ℕ) (source : Name) where
         let s = blocks_is p op m n source w op.kernel reads refl eb in inr (inl ((λ h. some_none _ _ ea (packs_some h.0 h.1 h.2 h.3)), s.form, s.may, s.is))
     flat t k None None (Some w) ea eb ec =
         let s = adds_is p op m source t w op.writes op.vars reads k refl refl ec in
-        inr (inr ((λ h. some_none _ _ ea (packs_some h.0 h.1 h.2 h.3)), (λ h. some_none _ _ eb (blocks_some h.0 h.1)), (t, s.may, some_vars op.writes op.vars w ec), s.is))
+        inr (inr (
+          (λ h. some_none _ _ ea (packs_some h.0 h.1 h.2 h.3)),
+          (λ h. some_none _ _ eb (blocks_some h.0 h.1)),
+          (t, s.may, some_vars op.writes op.vars w ec),
+          s.is,
+        ))
     flat t k None None None ea eb ec =
         ((λ h. some_none _ _ ea (packs_some h.0 h.1 h.2 h.3)), (λ h. some_none _ _ eb (blocks_some h.0 h.1)), (λ h. some_none _ _ ec (adds_some h)))
 
     by_kind : (k : QueueType) → kind_of (all_decls p) source ≡ k → ((f : FilterForm) → MayBlock p op source f → kind_of (all_decls p) source ≡ rows 1)
         → WayJudged (way_of p op m n k)
-    by_kind (Flat t) e block = flat t e (packs_way p op m n op.writes op.vars) (blocks_way p op m n op.kernel) (adds_way p op m op.writes op.vars) refl refl refl
+    by_kind (Flat t) e block = flat t e (packs_way p op m n op.writes op.vars) (blocks_way p op m n op.kernel)
+        (adds_way p op m op.writes op.vars) refl refl refl
     by_kind (Pack t) e block = (
       (λ h. not_flat t h.1 (sym e ∙ h.3.kind_in)),
       (λ h. not_flat t _ (sym e ∙ block h.0 h.1)),
@@ -100,7 +107,8 @@ module _ (p : PlanForm) (op : OpForm) (m : Made) (n : ℕ) (source : Name) where
     )
 
     -- the way that is found is by the first form that there is
-    pub way_judged : ((f : FilterForm) → MayBlock p op source f → kind_of (all_decls p) source ≡ rows 1) → WayJudged (way_of p op m n (kind_of (all_decls p) source))
+    pub way_judged : ((f : FilterForm) → MayBlock p op source f → kind_of (all_decls p) source ≡ rows 1)
+        → WayJudged (way_of p op m n (kind_of (all_decls p) source))
     way_judged block = by_kind (kind_of (all_decls p) source) refl block
 
   -- there is one way
@@ -117,7 +125,8 @@ module _ (p : PlanForm) (op : OpForm) (m : Made) (n : ℕ) (source : Name) where
       (λ y. absurd (x.0 (y.0, y.1, y.2, y.3)))
       (λ r. ⊎_elim (λ y. absurd (x.1 (y.1, y.2))) (λ y. x.3 ∙ sym y.3) r) b) s) a
     where
-      packs_same : (o : Name) (t v : FlatType) (o' : Name) (t' v' : FlatType) (w u : Way) → MayPack p op source o t v → w ≡ by_packs p op m n v → MayPack p op source o' t' v'
+      packs_same : (o : Name) (t v : FlatType) (o' : Name) (t' v' : FlatType) (w u : Way) → MayPack p op source o t v → w ≡ by_packs p op m n v
+          → MayPack p op source o' t' v'
           → u ≡ by_packs p op m n v'
           → w ≡ u
       packs_same o t v o' t' v' w u x e y d =

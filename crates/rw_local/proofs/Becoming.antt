@@ -1,5 +1,5 @@
 -- Conditions whose fields become others, and which operators they pass.
-use Rattle.std.proofs.Common.{◌≡◌, ℕ, ◌+◌, ◌-◌, ◌<◌, ◌≤◌, ◌⊎◌, inl, inr, Some, None, List, [], ◌∷◌, length, refl, sym, ap, ◌∙◌, subst, arith, ⊎_elim}
+use Rattle.std.proofs.Common.{◌≡◌, ℕ, ◌+◌, ◌-◌, ◌<◌, ◌≤◌, ◌⊎◌, inl, inr, Some, None, List, length, refl, sym, ap, ◌∙◌, subst, arith, ⊎_elim}
 use Rattle.std.specs.Prelude.{Option, Result, Ok, Err, slice_get}
 use Rattle.std.proofs.lemmas.Bool.{cases_lt}
 use Rattle.river_base.specs.declared.kind.QueueType.{QueueType}
@@ -144,7 +144,8 @@ module _ (w : ℕ) (t : Term) where
     (refl, becomes_too (By (of_projection es)) (IsCopy es) t t' (λ i j h. plain_is (slice_get es i) j h) (some_becomes (of_projection es) t t' e)),
   )
 
-  product : (a b : Option Term) → refielded (of_first w) t ≡ a → refielded (of_second w) t ≡ b → PassJudged cross (or_h4 (either_side (at_side 0 a) (at_side 1 b)))
+  product : (a b : Option Term) → refielded (of_first w) t ≡ a → refielded (of_second w) t ≡ b
+      → PassJudged cross (or_h4 (either_side (at_side 0 a) (at_side 1 b)))
   product (Some t') b e d = (
     tt,
     (λ s. let r = read_some (of_first w) t t' s.1 e s.3 in let lt = (first_is w s.1 r.0 r.1).0 in let ge = s.5 in omega (arith, lt, ge)),
@@ -227,7 +228,8 @@ module _ (w : ℕ) (t : Term) where
   goes_passes (fused a b at) side moved g = absurd g
 
   -- the side is one of the operator's
-  pub goes_below : (k : Kern) (side : ℕ) (moved : Term) (is os : List QueueType) (vs : List VarKind) → Goes w k t side moved → Fits k is os vs → side < length is
+  pub goes_below : (k : Kern) (side : ℕ) (moved : Term) (is os : List QueueType) (vs : List VarKind) → Goes w k t side moved → Fits k is os vs
+      → side < length is
   goes_below (code k) side moved is os vs g f = absurd g
   goes_below (filter f') side moved is os vs g f = absurd g
   goes_below (duplicate n) side moved is os vs g f = absurd g

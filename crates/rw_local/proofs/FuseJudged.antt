@@ -1,19 +1,20 @@
 -- What fusion answers, by its conditions.
-use Rattle.std.proofs.Common.{◌≡◌, ◌≢◌, ℕ, ◌+◌, ◌<◌, ◌≤◌, ◌⊎◌, inl, inr, Bool, true, false, Some, None, List, [], ◌∷◌, ◌++◌, length, refl, sym, ap, ◌∙◌, subst, arith, ⊎_elim}
-use Rattle.std.specs.Prelude.{Option, Result, Ok, Err, ◌||◌, nat_eq, nat_lt}
+use Rattle.std.proofs.Common.{◌≡◌, ℕ, ◌+◌, ◌<◌, ◌≤◌, ◌⊎◌, inl, inr, Bool, true, false, Some, None, List, [], ◌∷◌, ◌++◌, length, refl, sym, ap}
+use Rattle.std.proofs.Common.{◌∙◌, subst, arith, ⊎_elim}
+use Rattle.std.specs.Prelude.{Option, Result, Err, ◌||◌, nat_eq, nat_lt}
 use Rattle.std.proofs.lemmas.Bool.{ltb-true, ltb-false, eqb-true, eqb-false, or_parts}
 use Rattle.river_kernels.specs.Fits.{spliced}
 use Rattle.river_kernels.specs.Kern.{fused}
 use Rattle.river_kernels.specs.Limits.{nesting}
 use Rattle.river_plan.specs.Forms.{Name, OpForm, PlanForm, decl_names, queue_names}
-use Rattle.river_plan.specs.Names.{count, one_if}
+use Rattle.river_plan.specs.Names.{count}
 use Rattle.river_plan.specs.Uses.{total, writes_it, reads_it}
 use Rattle.river_plan.specs.Valid.{IsPlan}
-use Rattle.river_plan.proofs.NameLemmas.{cases_bool, count-append, one_same}
+use Rattle.river_plan.proofs.NameLemmas.{count-append, one_same}
 use Rattle.brooklet_model.proofs.Lists.{if_lt, if_ge}
 use Rattle.plan_edits.specs.declared.unfit.Unfit.{Unfit}
 use Rattle.plan_edits.specs.declared.unfit.Unfit.TheVariants.{U1, U2, U3, U4, U5, H1, H2, H3, H4, N1, N2, N3, N4, N5, NoMemory}
-use Rattle.plan_edits.specs.Judged.{rank, IsFirstToFail, IsJudged}
+use Rattle.plan_edits.specs.Judged.{rank, IsJudged}
 use Rattle.plan_edits.specs.Lists.{first_with, place, undeclared}
 use Rattle.plan_edits.proofs.Edit.{Cut, cut_of, replaced_is}
 use Rattle.plan_edits.proofs.Judging.{rank_most, judged_law, by_if}
@@ -56,7 +57,6 @@ small op h b =
     b
 
 module _ (p : PlanForm) (q : Name) (v : IsPlan p) where
-
   -- WRITER AND READER
 
   module _ (w r : OpForm) (f : Feeds p q w r) where
@@ -276,7 +276,8 @@ module _ (p : PlanForm) (q : Name) (v : IsPlan p) where
   unfed : 0 < count q (queue_names p) → Fails U2 → Judged (Err U2)
   unfed lt h = record {
     fails = h;
-    first = nots 1 (λ l z. omega (arith, lt, z)) (λ l. absurd (omega (arith, l))) (λ l. absurd (omega (arith, l))) (λ l. absurd (omega (arith, l))) (λ l. absurd (omega (arith, l)));
+    first = nots 1 (λ l z. omega (arith, lt, z)) (λ l. absurd (omega (arith, l))) (λ l. absurd (omega (arith, l))) (λ l. absurd (omega (arith, l)))
+        (λ l. absurd (omega (arith, l)));
   }
 
   both : 0 < count q (queue_names p) → (o o' : Option OpForm) → first_with (writes_it q) p.ops ≡ o → first_with (reads_it q) p.ops ≡ o'
@@ -285,7 +286,8 @@ module _ (p : PlanForm) (q : Name) (v : IsPlan p) where
   both lt (Some w) None a b = unfed lt (λ x r f. no_op r (sym b ∙ read_first x r f))
   both lt (Some w) (Some r) a b =
       let c = cut_of p q w r v a b in
-      two w r (record { before = c.before; middle = c.middle; behind = c.behind; ops = c.is; written = c.w_writes; read = c.r_reads }) (declared_there p q w r v a b)
+      two w r (record { before = c.before; middle = c.middle; behind = c.behind; ops = c.is; written = c.w_writes; read = c.r_reads })
+      (declared_there p q w r v a b)
 
   pub fuse_judged : Judged (fuse_of p q)
   fuse_judged = by_if Judged (nat_lt 0 (count q (queue_names p))) _ _

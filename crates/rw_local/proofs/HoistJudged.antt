@@ -1,5 +1,6 @@
 -- What hoisting answers, by its conditions.
-use Rattle.std.proofs.Common.{◌≡◌, ℕ, zero, suc, ◌+◌, ◌<◌, ◌≤◌, true, false, Some, None, List, [], ◌∷◌, ◌++◌, length, map, refl, sym, ap, ◌∙◌, subst, arith, ⊎_elim, append_assoc}
+use Rattle.std.proofs.Common.{◌≡◌, ℕ, zero, suc, ◌<◌, true, Some, None, List, [], ◌∷◌, ◌++◌, length, map, refl, sym, ap, ◌∙◌, subst}
+use Rattle.std.proofs.Common.{arith, ⊎_elim, append_assoc}
 use Rattle.std.specs.Prelude.{Option, Result, Ok, Err, nat_eq, slice_get}
 use Rattle.std.proofs.lemmas.Bool.{eqb-true, eqb-false}
 use Rattle.std.proofs.lemmas.List.{length-map}
@@ -20,14 +21,15 @@ use Rattle.river_plan.proofs.ShareLemmas.{each_back}
 use Rattle.brooklet_model.proofs.Lists.{if_lt}
 use Rattle.plan_edits.specs.declared.unfit.Unfit.{Unfit}
 use Rattle.plan_edits.specs.declared.unfit.Unfit.TheVariants.{U1, U2, U3, U4, U5, H1, H2, H3, H4, N1, N2, N3, N4, N5, NoMemory}
-use Rattle.plan_edits.specs.Judged.{rank, IsFirstToFail, IsJudged}
+use Rattle.plan_edits.specs.Judged.{rank, IsJudged}
 use Rattle.plan_edits.specs.Lists.{first_with, replaced, retyped}
 use Rattle.plan_edits.proofs.Edit.{cut_of, replaced_is}
 use Rattle.plan_edits.proofs.Judging.{rank_most, judged_law, by_if}
 use Rattle.plan_edits.proofs.Lookups.{names_append}
 use Rattle.plan_edits.proofs.Surgery.{total-append, first_past, found, some_op}
 use Rattle.rw_local.specs.Fusion.{Feeds}
-use Rattle.rw_local.specs.Hoist.{width_at, first_width, passes, raised, lowered, hoisted_plan, hoist_at, hoist_passed, hoist_past, hoist_between, hoist_kernel, hoist_found}
+use Rattle.rw_local.specs.Hoist.{first_width, passes, raised, lowered, hoisted_plan, hoist_at, hoist_passed, hoist_past, hoist_between}
+use Rattle.rw_local.specs.Hoist.{hoist_kernel, hoist_found}
 use Rattle.rw_local.specs.Hoist.{hoist_of}
 use Rattle.rw_local.specs.Hoisting.{Selects, IsFed, HasFirstWidth, LetsPass, Stops, Goes, HoistFails, IsHoisted, HoistingIsJudged}
 use Rattle.rw_local.proofs.Becoming.{PassJudged, passes_judged, goes_passes, goes_below, passed_reads}
@@ -246,13 +248,15 @@ module _ (p : PlanForm) (l : Name) (v : IsPlan p) where
     read_there : first_with (reads_it mid) p.ops ≡ Some u
     read_there = read_first p mid v b u (feeds b u mid t f)
 
-    module _ (side : ℕ) (t' : Term) (src out : Name) (g : Goes width b.kernel t side t') (first : HasFirstWidth p b width) (so : slice_get b.reads side ≡ Some src) (wo : u.writes ≡ out ∷ []) where
+    module _ (side : ℕ) (t' : Term) (src out : Name) (g : Goes width b.kernel t side t') (first : HasFirstWidth p b width)
+        (so : slice_get b.reads side ≡ Some src) (wo : u.writes ≡ out ∷ []) where
       is_hoisted : IsHoisted p l (hoisted_plan p u b side t' src mid out)
       is_hoisted =
           let c = placed b.reads side src so in
           let d = declared mid p.queues (declared_there p mid b u v at_mid read_there) in
           let s : spliced side b.reads (mid ∷ []) ≡ c.left ++ mid ∷ c.right =
-          ap (λ n. spliced n b.reads (mid ∷ [])) (sym c.at) ∙ ap (λ rs. spliced (length c.left) rs (mid ∷ [])) c.is ∙ spliced_cut c.left src c.right (mid ∷ []) in
+          ap (λ n. spliced n b.reads (mid ∷ [])) (sym c.at) ∙ ap (λ rs. spliced (length c.left) rs (mid ∷ [])) c.is
+          ∙ spliced_cut c.left src c.right (mid ∷ []) in
           record {
             below = b;
             above = u;
@@ -285,7 +289,8 @@ module _ (p : PlanForm) (l : Name) (v : IsPlan p) where
           }
 
     -- an operator that is passed
-    source : (out : Name) → u.writes ≡ out ∷ [] → (x : ℕ × Term) → LetsPass b.kernel → (Stops width b.kernel t → ⊥) → Goes width b.kernel t x.0 x.1 → (o : Option Name)
+    source : (out : Name) → u.writes ≡ out ∷ [] → (x : ℕ × Term) → LetsPass b.kernel → (Stops width b.kernel t → ⊥) → Goes width b.kernel t x.0 x.1
+        → (o : Option Name)
         → slice_get b.reads x.0 ≡ o
         → Judged (hoist_at p u b mid out x o)
     source out wo x pass stop g None e =
@@ -327,10 +332,11 @@ module _ (p : PlanForm) (l : Name) (v : IsPlan p) where
     s : Selects p l u t
     s = selected u t h k
 
-    past : (mid out : Name) → u.reads ≡ mid ∷ [] → u.writes ≡ out ∷ [] → (o : Option OpForm) → first_with (writes_it mid) p.ops ≡ o → Judged (hoist_past p u t mid out o)
+    past : (mid out : Name) → u.reads ≡ mid ∷ [] → u.writes ≡ out ∷ [] → (o : Option OpForm) → first_with (writes_it mid) p.ops ≡ o
+        → Judged (hoist_past p u t mid out o)
     past mid out r w None e = unfed u t s (λ x m f.
-      let d = same_name m mid (sym f.reads ∙ r) in
-      no_op x (sym e ∙ subst (λ q. first_with (writes_it q) p.ops ≡ Some x) d (written_first p m v x u (feeds x u m t f))))
+        let d = same_name m mid (sym f.reads ∙ r) in
+        no_op x (sym e ∙ subst (λ q. first_with (writes_it q) p.ops ≡ Some x) d (written_first p m v x u (feeds x u m t f))))
     past mid out r w (Some b) e = by_if Judged (nat_eq (length b.writes) 1) _ _
         (λ one.
         let has = (found (writes_it mid) p.ops b e).has in
@@ -367,8 +373,8 @@ module _ (p : PlanForm) (l : Name) (v : IsPlan p) where
 
   other : (u : OpForm) (k : Kern) → first_with (named_it l) p.ops ≡ Some u → u.kernel ≡ k → selecting k ≡ 0 → Judged (Err H1)
   other u k h e z = unselected (λ w t s.
-    let d = some_op u w (sym h ∙ selects_first w t s) in
-    no_select k t z (sym e ∙ ap (λ (o : OpForm). o.kernel) d ∙ s.kernel))
+      let d = some_op u w (sym h ∙ selects_first w t s) in
+      no_select k t z (sym e ∙ ap (λ (o : OpForm). o.kernel) d ∙ s.kernel))
 
   kernel : (u : OpForm) (k : Kern) → first_with (named_it l) p.ops ≡ Some u → u.kernel ≡ k → Judged (hoist_kernel p u k)
   kernel u (code k) h e = other u (code k) h e refl
@@ -407,7 +413,8 @@ module _ (p : PlanForm) (l : Name) (v : IsPlan p) where
       let goes = goes_passes width k.cond b.kernel side k.moved (subst (λ n. Goes n b.kernel k.cond side k.moved) (sym e) k.goes) in
       let src : slice_get b.reads side ≡ Some k.src = ap (λ rs. slice_get rs side) k.sides ∙ there k.left k.src k.right in
       let feed = feeds b u k.mid k.cond f in
-      let s : spliced side b.reads (k.mid ∷ []) ≡ k.left ++ k.mid ∷ k.right = ap (λ rs. spliced side rs (k.mid ∷ [])) k.sides ∙ spliced_cut k.left k.src k.right (k.mid ∷ []) in
+      let s : spliced side b.reads (k.mid ∷ []) ≡ k.left ++ k.mid ∷ k.right = ap (λ rs. spliced side rs (k.mid ∷ [])) k.sides
+      ∙ spliced_cut k.left k.src k.right (k.mid ∷ []) in
       let ops : p'.ops ≡ replaced k.mid (raised u k.moved k.src k.mid ∷ lowered b side k.mid k.out ∷ []) p.ops =
       k.ops ∙ ap (λ rs. f.before ++ raised u k.moved k.src k.mid ∷ record b { reads = rs; writes = k.out ∷ [] } ∷ (f.middle ++ f.behind)) (sym s)
       ∙ sym (replaced_is p.ops k.mid b u (raised u k.moved k.src k.mid ∷ lowered b side k.mid k.out ∷ []) (cut p k.mid v b u feed)) in
@@ -418,7 +425,8 @@ module _ (p : PlanForm) (l : Name) (v : IsPlan p) where
       let o = v.queues_once k.mid in
       let n = names_of (decl_names p.outputs) (decl_names p.inputs) (decl_names p.queues) k.mid in
       let queues : p'.queues ≡ retyped k.mid (kind k.src) p.queues =
-      k.queues' ∙ sym (retyped_cut k.ahead k.after k.decl k.mid (kind k.src) k.named (omega (arith, a, c, d, one, o, n))) ∙ sym (ap (retyped k.mid (kind k.src)) k.queues) in
+      k.queues' ∙ sym (retyped_cut k.ahead k.after k.decl k.mid (kind k.src) k.named (omega (arith, a, c, d, one, o, n)))
+      ∙ sym (ap (retyped k.mid (kind k.src)) k.queues) in
       let same : hoisted_plan p u b side k.moved k.src k.mid k.out ≡ p' =
       λ i. record { outputs = sym k.outputs i; inputs = sym k.inputs i; queues = sym queues i; tables = sym k.tables i; vars = sym k.vars i; ops = sym ops i } in
       hoist_upto p l u b k.cond k.mid k.out width (selects_first u k.cond (fed_selects b u k.mid k.cond f)) f.kernel

@@ -19,9 +19,11 @@ use Rattle.river_plan.proofs.JudgeLemmas.{fault_of-is}
 use Rattle.river_plan.proofs.ValidLaw.{valid-no_fault}
 use Rattle.saw_model.specs.Elaborate as model
 use Rattle.saw_model.specs.Elaborate.{At}
+use Rattle.saw_model.specs.Faults.{IsFaultAt}
 use Rattle.saw_model.specs.Judged.{Refusal, judged}
 use Rattle.saw_model.specs.Shallow.{AreShallowParts}
 use Rattle.saw_model.proofs.Means.{translation_means}
+use Rattle.saw_model.proofs.Refused.{refused_at_first}
 use Rattle.saw_model.proofs.Valid.{plans_are_valid}
 use Rattle.saw_text.specs.Faults.{StandFor, Refuses}
 use Rattle.saw_text.specs.Grammar.{IsText}
@@ -59,7 +61,7 @@ unfolding compiled
 lexed-means text fault e = ap then_read e
 
 fault-means : (text : List ℕ) (fault : SawFault) → HasFault text fault → compiled text ≡ Err fault
-fault-means text fault (us, e, t, j, is) = stands-means text us t ∙ ap (or_fault us) j ∙ ap Err (sym is)
+fault-means text fault (us, e, t, j, is) = stands-means text us t ∙ ap (or_fault us) ((refused_at_first (program_of us) e).1 j) ∙ ap Err (sym is)
 
 has-means : (text : List ℕ) (meant : Result Accepted SawFault) → Has text meant → compiled text ≡ meant
 has-means text (Ok a) (t, j) = stands-means text a.units t ∙ ap (or_fault a.units) j
@@ -76,11 +78,14 @@ has-means text (Err NoMemory) h = absurd h
 
 fault-has : (text : List ℕ) (us : List UnitForm) (e : Refusal) → IsText text us → judged (program_of us) ≡ Err e → Has text (Err (fault_at e.unit e.fault))
 fault-has text us e t j = by e.fault refl where
+  first : IsFaultAt (program_of us) e.unit e.fault
+  first = (refused_at_first (program_of us) e).0 j
+
   by : (f : model.Fault) → e.fault ≡ f → Has text (Err (fault_at e.unit f))
-  by model.UnknownName is = (us, e, t, j, ap (fault_at e.unit) (sym is))
-  by model.NameTwice is = (us, e, t, j, ap (fault_at e.unit) (sym is))
-  by model.Shape is = (us, e, t, j, ap (fault_at e.unit) (sym is))
-  by model.Limit is = (us, e, t, j, ap (fault_at e.unit) (sym is))
+  by model.UnknownName is = (us, e, t, first, ap (fault_at e.unit) (sym is))
+  by model.NameTwice is = (us, e, t, first, ap (fault_at e.unit) (sym is))
+  by model.Shape is = (us, e, t, first, ap (fault_at e.unit) (sym is))
+  by model.Limit is = (us, e, t, first, ap (fault_at e.unit) (sym is))
 
 accepted-has : (text : List ℕ) (us : List UnitForm) → IsText text us → Has text (accepted us)
 accepted-has text us t = by (judged (program_of us)) refl where

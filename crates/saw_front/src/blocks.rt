@@ -7,7 +7,8 @@ ghost use Rattle.saw_front.specs.Judging.{at_of, Reads, ReadsArm};
 ghost use Rattle.saw_front.specs.Valued.{IsValued, AreValued};
 
 use crate::term::term;
-use crate::{Fault, Judge};
+use crate::fault::Fault;
+use crate::judge::Judge;
 use saw_text::{Block, Statement};
 use std::alloc::Global;
 use work_code::{Stmt, Stmts};

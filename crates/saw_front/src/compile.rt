@@ -13,8 +13,10 @@ ghost use Rattle.saw_front.specs.Judging.{Told};
 ghost use Rattle.saw_front.specs.Meaning.{accepted, or_fault, of_tokens, compiled, Plans, PlansBy, Refused};
 ghost use Rattle.saw_front.specs.Valued.{AreValuedParts};
 
+use crate::fault::Fault;
+use crate::judge::{Judge, Refusal};
 use crate::plan::lists;
-use crate::{Fault, Judge, Refusal, SawFault, SawProgram};
+use crate::{SawFault, SawProgram};
 use river_base::{Bytes, NoMemory};
 use river_plan::{Plan, PlanFault, RawPlan, check};
 use saw_text::{SawTextFault, Unit, read_sawzall};

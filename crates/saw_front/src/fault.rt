@@ -64,7 +64,7 @@ fn at_unit(alloc: Global, word: &[u8], number: u32, to: &mut Bytes) -> Result<()
 
 /// Why a unit is refused.
 #[derive(Clone, Copy)]
-pub enum Fault {
+pub(crate) enum Fault {
     /// A name that is no local, or none of a table, that is known where it stands.
     UnknownName,
     /// A name that is known is declared again.

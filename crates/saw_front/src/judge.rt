@@ -4,30 +4,31 @@ ghost use Rattle.saw_model.specs.Elaborate.{counted, find, is_new, slot_of, port
 ghost use Rattle.saw_front.specs.View.{Judges};
 ghost use Rattle.saw_front.specs.Judging.{at_of};
 
-use crate::{Fault, Known, Names};
+use crate::fault::Fault;
+use crate::names::{Known, Names};
 use kern_tables::TableKind;
 use river_base::Name;
 use std::alloc::Global;
 
 /// What is known where the reading stands, and how many slots, statements and tables there were.
 #[derive(Drop)]
-pub struct Judge {
-    pub names: Names,
-    pub slots: u32,
-    pub size: u32,
-    pub tables: u32,
+pub(crate) struct Judge {
+    pub(crate) names: Names,
+    pub(crate) slots: u32,
+    pub(crate) size: u32,
+    pub(crate) tables: u32,
 }
 
 /// The fault that comes first, and the number of its unit, from 1.
 #[derive(Clone, Copy)]
-pub struct Refusal {
-    pub unit: usize,
-    pub fault: Fault,
+pub(crate) struct Refusal {
+    pub(crate) unit: usize,
+    pub(crate) fault: Fault,
 }
 
 impl Judge {
     /// Nothing was read.
-    pub fn new(alloc: Global) -> Judge
+    pub(crate) fn new(alloc: Global) -> Judge
         ensures { at_of result ≡ nothing_read }
     {
         Judge {
@@ -41,7 +42,7 @@ impl Judge {
     }
 
     /// One statement more.
-    pub fn counted(&mut self) -> Result<(), Fault>
+    pub(crate) fn counted(&mut self) -> Result<(), Fault>
         ensures judged { Judges (λ _. at_of self.new) result (counted (at_of self.old)) }
         ensures names { self.new.names ≡ self.old.names }
     {
@@ -54,7 +55,7 @@ impl Judge {
     }
 
     /// A name is not known yet.
-    pub fn new_name(&self, name: &Name) -> Result<(), Fault>
+    pub(crate) fn new_name(&self, name: &Name) -> Result<(), Fault>
         ensures { Judges (λ u. u) result (is_new (find (at_of self.now).scope name.now)) }
     {
         match self.names.find(name) {
@@ -64,7 +65,7 @@ impl Judge {
     }
 
     /// The slot that an assignment sets.
-    pub fn slot_of(&self, name: &Name) -> Result<u32, Fault>
+    pub(crate) fn slot_of(&self, name: &Name) -> Result<u32, Fault>
         ensures { Judges (λ n. n) result (slot_of (find (at_of self.now).scope name.now)) }
     {
         match self.names.find(name) {
@@ -74,7 +75,7 @@ impl Judge {
     }
 
     /// The place and the kind of a table.
-    pub fn port_of(&self, name: &Name) -> Result<(u32, TableKind), Fault>
+    pub(crate) fn port_of(&self, name: &Name) -> Result<(u32, TableKind), Fault>
         ensures { Judges (λ p. p) result (port_of (find (at_of self.now).scope name.now)) }
     {
         match self.names.find(name) {

@@ -15,7 +15,5 @@ mod simple;
 mod term;
 
 pub use compile::compile_sawzall;
-pub use fault::{Fault, SawFault};
-pub use judge::{Judge, Refusal};
-pub use names::{Known, Names};
+pub use fault::SawFault;
 pub use program::SawProgram;

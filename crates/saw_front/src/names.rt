@@ -8,7 +8,7 @@ use river_base::Name;
 
 /// What a name stands for.
 #[derive(Clone, Copy)]
-pub enum Known {
+pub(crate) enum Known {
     /// A local, in its slot.
     Slot(u32),
     /// A table, by its place among the tables.
@@ -17,13 +17,13 @@ pub enum Known {
 
 /// The names that are known, the newest last.
 #[derive(Drop)]
-pub struct Names {
-    pub items: Vec<(Name, Known)>,
+pub(crate) struct Names {
+    pub(crate) items: Vec<(Name, Known)>,
 }
 
 impl Names {
     /// What a name stands for.
-    pub fn find(&self, name: &Name) -> Option<Known>
+    pub(crate) fn find(&self, name: &Name) -> Option<Known>
         ensures { option_known result ≡ find (scope_of self.now.items.items) name.now }
     {
         let mut i = self.items.len();

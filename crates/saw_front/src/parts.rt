@@ -8,7 +8,9 @@ ghost use Rattle.saw_front.specs.View.{Judges};
 ghost use Rattle.saw_front.specs.Judging.{at_of, fits_of, within, Reads, ReadsTable, JudgesAll};
 ghost use Rattle.saw_front.specs.Valued.{IsValuedPart, AreValuedParts};
 
-use crate::{Fault, Judge, Known, Refusal};
+use crate::fault::Fault;
+use crate::judge::{Judge, Refusal};
+use crate::names::Known;
 use kern_tables::TableKind;
 use saw_text::{Kind, Table, Unit};
 use std::alloc::Global;

@@ -9,8 +9,10 @@ ghost use Rattle.saw_front.specs.View.{scope_of, option_terms, Judges};
 ghost use Rattle.saw_front.specs.Judging.{at_of, Reads, row_of};
 ghost use Rattle.saw_front.specs.Valued.{AreValues, AllValues};
 
+use crate::fault::Fault;
+use crate::judge::Judge;
+use crate::names::Known;
 use crate::term::term;
-use crate::{Fault, Judge, Known};
 use kern_tables::TableKind;
 use river_base::Name;
 use saw_text::Expr as Written;

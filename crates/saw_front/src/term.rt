@@ -6,7 +6,8 @@ ghost use Rattle.saw_text.specs.Tree.{said};
 ghost use Rattle.saw_front.specs.View.{scope_of, Judges};
 ghost use Rattle.saw_front.specs.Valued.{AreValues};
 
-use crate::{Fault, Known, Names};
+use crate::fault::Fault;
+use crate::names::{Known, Names};
 use saw_text::Expr as Written;
 use std::alloc::Global;
 use work_code::Expr;
@@ -22,7 +23,7 @@ fn boxed(alloc: Global, names: &Names, written: &Written) -> Result<Box<Expr>, F
 
 /// An expression on the fields of a record and the slots.
 #[cycle(term)]
-pub fn term(alloc: Global, names: &Names, written: &Written) -> Result<Expr, Fault>
+pub(crate) fn term(alloc: Global, names: &Names, written: &Written) -> Result<Expr, Fault>
     requires { AreValues (said written.now) }
     ensures { Judges term result (term_of (scope_of names.now.items.items) (said written.now)) }
 {

@@ -1,12 +1,12 @@
 -- Queues and tables are declared in the order in which the operators first use them.
-use Rattle.std.proofs.Common.{◌≡◌, ℕ, ◌+◌, ◌<◌, ◌≤◌, List, [], ◌∷◌, ◌++◌, map, refl, sym, ap, ◌∙◌, subst, arith, ⊎_elim, append_assoc, append-nil}
+use Rattle.std.proofs.Common.{◌≡◌, ◌+◌, ◌<◌, ◌≤◌, List, [], ◌∷◌, ◌++◌, map, refl, sym, ap, ◌∙◌, arith, append_assoc, append-nil}
 use Rattle.std.specs.Prelude.{fold, codes}
 use Rattle.std.proofs.lemmas.List.Sums.{fold-append}
 use Rattle.work_code.specs.Steps.{Steps}
 use Rattle.river_plan.specs.declared.plan.TableDecl.{TableDecl}
-use Rattle.river_plan.specs.Forms.{Name, OpForm, decl_names, table_names}
+use Rattle.river_plan.specs.Forms.{Name, decl_names, table_names}
 use Rattle.river_plan.specs.InTurn.{mentioned}
-use Rattle.river_plan.specs.Names.{count, with_name, one_if}
+use Rattle.river_plan.specs.Names.{count, with_name}
 use Rattle.river_plan.specs.Uses.{all_vars}
 use Rattle.river_plan.proofs.NameLemmas.{count-append, one_same}
 use Rattle.brooklet_model.proofs.Lists.{if_lt, if_ge}
@@ -16,7 +16,7 @@ use Rattle.saw_model.specs.Plan.{queue_name, queues_of, queue_decls, tally_op}
 use Rattle.saw_model.specs.Source.{Program, tables_in}
 use Rattle.saw_model.proofs.Elaborated.{fine}
 use Rattle.saw_model.proofs.Parts.{parts_read, reads_parts, tables_once}
-use Rattle.saw_model.proofs.Suffixed.{AreOnce, end_once, end_none, not_in}
+use Rattle.saw_model.proofs.Suffixed.{AreOnce}
 use Rattle.saw_model.proofs.Valid.{names_of, in_and_queues}
 
 -- names that are there stay

@@ -1,6 +1,7 @@
 -- A program is judged place by place: what is known is what the text before says.
-use Rattle.std.proofs.Common.{◌≡◌, ℕ, pos, ◌+◌, ◌<◌, ◌≤◌, inl, inr, Bool, true, false, List, [], ◌∷◌, ◌++◌, length, Option, Some, None, refl, sym, ap, ◌∙◌, subst, arith, ⊎_elim, append_assoc, append-nil}
-use Rattle.std.specs.Prelude.{Result, Ok, Err, if◌then◌else◌, ◌&&◌, nat_lt, nat_le, nat_eq}
+use Rattle.std.proofs.Common.{◌≡◌, ℕ, ◌+◌, inl, inr, Bool, true, false, List, [], ◌∷◌, ◌++◌, length, Option, Some, None, refl, sym, ap, ◌∙◌, subst}
+use Rattle.std.proofs.Common.{arith, ⊎_elim, append_assoc, append-nil}
+use Rattle.std.specs.Prelude.{Result, Ok, Err, if◌then◌else◌, nat_lt, nat_le, nat_eq}
 use Rattle.std.proofs.lemmas.Bool.{and_parts, and_cases, ltb-true, ltb-false, leb-true, leb-false, eqb-true, eqb-false}
 use Rattle.river_base.specs.Name.{name_eq}
 use Rattle.kern_tables.specs.declared.kind.TableKind.{TableKind}
@@ -15,17 +16,24 @@ use Rattle.brooklet_model.proofs.Lists.{if_true, if_false}
 use Rattle.text_forms.specs.Tree.{Spoken}
 use Rattle.text_forms.specs.Tree as tree
 use Rattle.saw_model.specs.Source.{Statement, Declare, Assign, Emit, If, Block, End, Then, Part, Table, Does}
-use Rattle.saw_model.specs.Elaborate.{Fault, UnknownName, NameTwice, Shape, Limit, on_ok, Known as Entry, Var, Port, Scope, find, named, term_of, At, counted, has_slot, is_new}
-use Rattle.saw_model.specs.Elaborate.{slot_of, port_of, first_term, indexes_of, keys_in, weight_of, joined, one_step, declared, emitted, step_of, steps_of, is_best, tabled, table_of}
+use Rattle.saw_model.specs.Elaborate.{Fault, UnknownName, NameTwice, Shape, Limit, on_ok, Known as Entry, Var, Port, Scope, find, named, term_of, At}
+use Rattle.saw_model.specs.Elaborate.{counted, has_slot, is_new}
+use Rattle.saw_model.specs.Elaborate.{slot_of, port_of, first_term, indexes_of, keys_in, weight_of, joined, one_step, declared, emitted, step_of}
+use Rattle.saw_model.specs.Elaborate.{steps_of, is_best, tabled}
 use Rattle.saw_model.specs.Elaborate.{part_of}
-use Rattle.saw_model.specs.Faults.{IsUnknown, IsTwice, IsMisshapen, IsMaximum, IsNoBest, IsTooMuch}
-use Rattle.saw_model.specs.Places.{Mark, Begins, Enters, Leaves, Names, Reads, Foreign, Declares, Local, Sets, Emits, Index, Indexed, Weighted, Unweighted, Tables}
-use Rattle.saw_model.specs.Places.{term_marks, value_marks, index_marks, weight_marks, statement_marks, block_marks, part_marks, What, ALocal, ATable, gives, stays, Known}
+use Rattle.saw_model.specs.Faults.{IsTwice, IsMaximum, IsNoBest}
+use Rattle.saw_model.specs.Places.{Mark, Begins, Enters, Leaves, Names, Reads, Foreign, Declares, Local, Sets, Emits, Index, Indexed, Weighted}
+use Rattle.saw_model.specs.Places.{Unweighted, Tables}
+use Rattle.saw_model.specs.Places.{term_marks, value_marks, index_marks, weight_marks, statement_marks, block_marks, part_marks, What, ALocal, ATable}
+use Rattle.saw_model.specs.Places.{gives, stays, Known}
 use Rattle.saw_model.specs.Places.{is_statement, is_local, is_table, how_many}
-use Rattle.saw_model.proofs.Marks.{many_append, steady_stays, known_parts, known_first, known_second, known_behind, quiet_alone, IsPlain, IsAlong, plain_one, along_names}
-use Rattle.saw_model.proofs.Marks.{along_reads, along_declares, along_sets, along_emits, along_index, along_indexed, along_weighted, along_unweighted, IsBody, plain_none}
+use Rattle.saw_model.proofs.Marks.{many_append, steady_stays, known_parts, known_first, known_second, known_behind, quiet_alone, IsPlain, IsAlong}
+use Rattle.saw_model.proofs.Marks.{plain_one, along_names}
+use Rattle.saw_model.proofs.Marks.{along_reads, along_declares, along_sets, along_emits, along_index, along_indexed, along_weighted, along_unweighted}
+use Rattle.saw_model.proofs.Marks.{IsBody, plain_none}
 use Rattle.saw_model.proofs.Marks.{plain_body, block_whole, block_body}
-use Rattle.saw_model.proofs.Verdicts.{IsFine, fine_by, first_unknown, first_twice, first_shape, first_limit, HasFirst, Verdict, then_read, then_is, next, by_test}
+use Rattle.saw_model.proofs.Verdicts.{IsFine, fine_by, first_unknown, first_twice, first_shape, first_limit, HasFirst, Verdict, then_read, then_is}
+use Rattle.saw_model.proofs.Verdicts.{next, by_test}
 
 -- WHAT IS KNOWN
 
@@ -145,7 +153,8 @@ left_at b ms s q r body a z e1 e2 e3 e4 =
     let none = λ (n : Name) (w : What) (d : Known whole n w).
     known_behind Leaves [] n w refl (body.shut (Leaves ∷ []) n w refl (known_behind Enters (ms ++ Leaves ∷ []) n w refl d)) in
     record {
-      scope = subst (λ x. IsScope x r.scope) (sym same) (subst (IsScope (b ++ whole)) (sym e1) (scope_kept b whole s.scope (steady_stays whole block.steady) none a));
+      scope = subst (λ x. IsScope x r.scope) (sym same) (subst (IsScope (b ++ whole)) (sym e1)
+          (scope_kept b whole s.scope (steady_stays whole block.steady) none a));
       slots = let e = many_append is_local inner (Leaves ∷ []) in let y = z.slots in omega (arith, e, y, e2);
       size = let e = many_append is_statement inner (Leaves ∷ []) in let y = z.size in omega (arith, e, y, e3);
       tables = let e = many_append is_table inner (Leaves ∷ []) in let y = z.tables in omega (arith, e, y, e4);
@@ -259,9 +268,11 @@ module _ (s : At) where
   term_read b (tree.Not t) a =
       then_is (λ x u. IsAt x s) (λ x u. IsAt x s) b (term_marks t) (term_of s.scope t) term.Not (term_read b t a) (λ u q. q)
   term_read b (tree.Bin o l r) a =
-      then_read (λ x u. IsAt x s) (λ x u. IsAt x s) b (term_marks l) (term_marks r) (term_of s.scope l) (λ y. on_ok (term_of s.scope r) (λ z. Ok (term.Bin o y z)))
+      then_read (λ x u. IsAt x s) (λ x u. IsAt x s) b (term_marks l) (term_marks r) (term_of s.scope l) (λ y. on_ok (term_of s.scope r)
+      (λ z. Ok (term.Bin o y z)))
       (term_read b l a)
-      (λ y q. then_is (λ x u. IsAt x s) (λ x u. IsAt x s) (b ++ term_marks l) (term_marks r) (term_of s.scope r) (term.Bin o y) (term_read (b ++ term_marks l) r q) (λ u k. k))
+      (λ y q. then_is (λ x u. IsAt x s) (λ x u. IsAt x s) (b ++ term_marks l) (term_marks r) (term_of s.scope r) (term.Bin o y)
+      (term_read (b ++ term_marks l) r q) (λ u k. k))
 
   value_read : (b : List Mark) (t : Option Spoken) → IsAt b s → Verdict (λ x u. IsAt x s) b (value_marks t) (first_term t s.scope)
   value_read b None a = (tt, none_at b s a)
@@ -272,10 +283,12 @@ module _ (s : At) where
   indexes_read b n (t ∷ ts) a =
       let rest = term_marks t ++ index_marks (n + 1) ts in
       let b1 = b ++ Index (n + 1) ∷ [] in
-      by_test (λ x u. IsAt x s) b (Index (n + 1) ∷ rest) (nat_lt n 8) (on_ok (term_of s.scope t) (λ u. on_ok (indexes_of s.scope (n + 1) ts) (λ us. Ok (u ∷ us)))) (Err Limit)
+      by_test (λ x u. IsAt x s) b (Index (n + 1) ∷ rest) (nat_lt n 8) (on_ok (term_of s.scope t) (λ u. on_ok (indexes_of s.scope (n + 1) ts)
+      (λ us. Ok (u ∷ us)))) (Err Limit)
       (λ y. next (λ x u. IsAt x s) b (Index (n + 1)) rest (on_ok (term_of s.scope t) (λ u. on_ok (indexes_of s.scope (n + 1) ts) (λ us. Ok (u ∷ us))))
       (fine_by b (Index (n + 1)) (λ h. h) (λ h. h) (λ h. h) (λ h. let lt = ltb-true n 8 y in omega (arith, h, lt)))
-      (then_read (λ x u. IsAt x s) (λ x u. IsAt x s) b1 (term_marks t) (index_marks (n + 1) ts) (term_of s.scope t) (λ u. on_ok (indexes_of s.scope (n + 1) ts) (λ us. Ok (u ∷ us)))
+      (then_read (λ x u. IsAt x s) (λ x u. IsAt x s) b1 (term_marks t) (index_marks (n + 1) ts) (term_of s.scope t)
+      (λ u. on_ok (indexes_of s.scope (n + 1) ts) (λ us. Ok (u ∷ us)))
       (term_read b1 t (along_at b (Index (n + 1)) s (along_index (n + 1)) a))
       (λ u q. then_is (λ x v. IsAt x s) (λ x v. IsAt x s) (b1 ++ term_marks t) (index_marks (n + 1) ts) (indexes_of s.scope (n + 1) ts) (λ us. u ∷ us)
       (indexes_read (b1 ++ term_marks t) (n + 1) ts q) (λ us k. k))))
@@ -331,18 +344,21 @@ declare_read n t b s0 a0 =
     let b1 = b ++ Begins ∷ [] in
     let b2 = b1 ++ Declares n ∷ [] in
     let value : Term → Result (Steps × At) Fault = λ v. Ok (declared n s v) in
-    begins b (Declares n ∷ ms) s0 (λ s. on_ok (is_new (find s.scope n)) (λ u. on_ok (has_slot s) (λ w. on_ok (first_term t s.scope) (λ v. Ok (declared n s v))))) a0
+    begins b (Declares n ∷ ms) s0 (λ s. on_ok (is_new (find s.scope n)) (λ u. on_ok (has_slot s) (λ w. on_ok (first_term t s.scope)
+    (λ v. Ok (declared n s v))))) a0
     (λ a. on_new AtEnd b1 (Declares n ∷ ms) (find s.scope n) (λ u. on_ok (has_slot s) (λ w. on_ok (first_term t s.scope) value))
     (λ none. on_test AtEnd b1 (Declares n ∷ ms) (nat_lt s.slots 256) tt Limit (λ w. on_ok (first_term t s.scope) value)
     (λ y. next AtEnd b1 (Declares n) ms (on_ok (first_term t s.scope) value)
-    (fine_by b1 (Declares n) (λ h. h) (λ h. unknown b1 n h.0 s a none h.1) (λ h. h) (λ h. let lt = ltb-true s.slots 256 y in let e = a.slots in omega (arith, h, lt, e)))
+    (fine_by b1 (Declares n) (λ h. h) (λ h. unknown b1 n h.0 s a none h.1) (λ h. h)
+    (λ h. let lt = ltb-true s.slots 256 y in let e = a.slots in omega (arith, h, lt, e)))
     (then_read (λ x u. IsAt x s) AtEnd b2 (value_marks t) (Local n ∷ []) (first_term t s.scope) value
     (value_read s b2 t (along_at b1 (Declares n) s (along_declares n) a))
     (λ v q. (
       (fine_by (b2 ++ value_marks t) (Local n) (λ h. h) (λ h. h) (λ h. h) (λ h. h), tt),
       local_at (b2 ++ value_marks t) n s none q,
     ))))
-    (λ f. inl (first_limit b1 (Declares n) (λ h. h) (λ h. unknown b1 n h.0 s a none h.1) (λ h. h) (let ge = ltb-false s.slots 256 f in let e = a.slots in omega (arith, ge, e)))))
+    (λ f. inl (first_limit b1 (Declares n) (λ h. h) (λ h. unknown b1 n h.0 s a none h.1) (λ h. h)
+    (let ge = ltb-false s.slots 256 f in let e = a.slots in omega (arith, ge, e)))))
     (λ e i. inl (first_twice b1 (Declares n) (λ h. h) (what_of e, a.scope.found n e i))))
 
 assign_read : (n : Name) (t : Spoken) (b : List Mark) (s : At) → IsAt b s → Verdict AtEnd b (statement_marks (Assign n t)) (step_of (Assign n t) s)
@@ -367,7 +383,8 @@ emitted_read n p k i us v w b s a e =
     let ms = term_marks v ++ weight_marks n w in
     let b1 = b ++ Indexed n i ∷ [] in
     let last : Term → List Term → Steps × At = λ u ws. (one_step (steps.Push p (us ++ u ∷ ws)), s) in
-    on_test AtEnd b (Indexed n i ∷ ms) (nat_eq i (keys_in k)) tt Shape (λ x. on_ok (term_of s.scope v) (λ u. on_ok (weight_of k w s.scope) (λ ws. Ok (last u ws))))
+    on_test AtEnd b (Indexed n i ∷ ms) (nat_eq i (keys_in k)) tt Shape (λ x. on_ok (term_of s.scope v) (λ u. on_ok (weight_of k w s.scope)
+    (λ ws. Ok (last u ws))))
     (λ y. next AtEnd b (Indexed n i) ms (on_ok (term_of s.scope v) (λ u. on_ok (weight_of k w s.scope) (λ ws. Ok (last u ws))))
     (fine_by b (Indexed n i) (λ h. h) (λ h. h) (λ h. h.2 (eqb-true i (keys_in k) y ∙ ap keys_in (the_kind b n p k h.0 s a e h.1))) (λ h. h))
     (then_read (λ x u. IsAt x s) AtEnd b1 (term_marks v) (weight_marks n w) (term_of s.scope v) (λ u. on_ok (weight_of k w s.scope) (λ ws. Ok (last u ws)))
@@ -412,10 +429,12 @@ mutual
       let second = Enters ∷ (block_marks y ++ Leaves ∷ []) in
       let first = Enters ∷ (block_marks x ++ Leaves ∷ second) in
       let done : Term → Steps × At → Steps × At → Steps × At = λ c p q. (one_step (steps.If c p.0 q.0), record q.1 { scope = s.scope }) in
-      let two : Term → Steps × At → Result (Steps × At) Fault = λ c p. on_ok (steps_of y (record s { slots = p.1.slots; size = p.1.size })) (λ q. Ok (done c p q)) in
+      let two : Term → Steps × At → Result (Steps × At) Fault = λ c p. on_ok (steps_of y (record s { slots = p.1.slots; size = p.1.size }))
+      (λ q. Ok (done c p q)) in
       let one : Term → Result (Steps × At) Fault = λ c. on_ok (steps_of x s) (λ p. two c p) in
       begins b (term_marks t ++ first) s0
-      (λ s. on_ok (term_of s.scope t) (λ c. on_ok (steps_of x s) (λ p. on_ok (steps_of y (record s { slots = p.1.slots; size = p.1.size })) (λ q. Ok (one_step (steps.If c p.0 q.0), record q.1 { scope = s.scope })))))
+      (λ s. on_ok (term_of s.scope t) (λ c. on_ok (steps_of x s) (λ p. on_ok (steps_of y (record s { slots = p.1.slots; size = p.1.size }))
+      (λ q. Ok (one_step (steps.If c p.0 q.0), record q.1 { scope = s.scope })))))
       a0
       (λ a. then_read (λ z u. IsAt z s) AtEnd b1 (term_marks t) first (term_of s.scope t) one (term_read s b1 t a)
       (λ c h. next AtEnd b2 Enters (block_marks x ++ Leaves ∷ second) (one c) (quiet_fine b2).0
@@ -439,8 +458,10 @@ mutual
   pub block_read : (c : Block) (b : List Mark) (s : At) → IsAt b s → Verdict AtEnd b (block_marks c) (steps_of c s)
   block_read End b s a = (tt, none_at b s a)
   block_read (Then c d) b s a =
-      then_read AtEnd AtEnd b (statement_marks c) (block_marks d) (step_of c s) (λ p. on_ok (steps_of d p.1) (λ q. Ok (joined p.0 q.0, q.1))) (statement_read c b s a)
-      (λ p h. then_is AtEnd AtEnd (b ++ statement_marks c) (block_marks d) (steps_of d p.1) (λ q. (joined p.0 q.0, q.1)) (block_read d (b ++ statement_marks c) p.1 h) (λ q k. k))
+      then_read AtEnd AtEnd b (statement_marks c) (block_marks d) (step_of c s) (λ p. on_ok (steps_of d p.1) (λ q. Ok (joined p.0 q.0, q.1)))
+      (statement_read c b s a)
+      (λ p h. then_is AtEnd AtEnd (b ++ statement_marks c) (block_marks d) (steps_of d p.1) (λ q. (joined p.0 q.0, q.1))
+      (block_read d (b ++ statement_marks c) p.1 h) (λ q k. k))
 
 -- UNITS
 
@@ -467,17 +488,22 @@ part_read (Table n k) b s a =
     let m = Tables n k in
     let keys : Unit {0} → Result (Steps × At) Fault = λ x. Ok (tabled n k s) in
     on_new AtEnd b (m ∷ []) (find s.scope n)
-    (λ u. on_ok (if nat_lt s.tables 64 then Ok tt else Err Limit) (λ v. on_ok (if is_best k then Ok tt else Err Limit) (λ w. on_ok (if nat_le (keys_in k) 8 then Ok tt else Err Limit) keys)))
+    (λ u. on_ok (if nat_lt s.tables 64 then Ok tt else Err Limit) (λ v. on_ok (if is_best k then Ok tt else Err Limit)
+    (λ w. on_ok (if nat_le (keys_in k) 8 then Ok tt else Err Limit) keys)))
     (λ none.
     let new = λ (h : IsTwice b m). unknown b n h.0 s a none h.1 in
-    on_test AtEnd b (m ∷ []) (nat_lt s.tables 64) tt Limit (λ v. on_ok (if is_best k then Ok tt else Err Limit) (λ w. on_ok (if nat_le (keys_in k) 8 then Ok tt else Err Limit) keys))
+    on_test AtEnd b (m ∷ []) (nat_lt s.tables 64) tt Limit (λ v. on_ok (if is_best k then Ok tt else Err Limit)
+    (λ w. on_ok (if nat_le (keys_in k) 8 then Ok tt else Err Limit) keys))
     (λ y1. on_test AtEnd b (m ∷ []) (is_best k) tt Limit (λ w. on_ok (if nat_le (keys_in k) 8 then Ok tt else Err Limit) keys)
     (λ y2. on_test AtEnd b (m ∷ []) (nat_le (keys_in k) 8) tt Limit keys
     (λ y3. (
-      (fine_by b m (λ h. h) new (λ h. h)
-      (λ h. ⊎_elim
-      (λ gt. let lt = ltb-true s.tables 64 y1 in let e = a.tables in omega (arith, gt, lt, e))
-      (λ r. ⊎_elim (λ z. best_fine k y2 z) (λ gt. let le = leb-true (keys_in k) 8 y3 in omega (arith, gt, le)) r) h), tt),
+      (
+        fine_by b m (λ h. h) new (λ h. h)
+            (λ h. ⊎_elim
+            (λ gt. let lt = ltb-true s.tables 64 y1 in let e = a.tables in omega (arith, gt, lt, e))
+            (λ r. ⊎_elim (λ z. best_fine k y2 z) (λ gt. let le = leb-true (keys_in k) 8 y3 in omega (arith, gt, le)) r) h),
+        tt,
+      ),
       table_at b n k s none a,
     ))
     (λ f. inl (first_limit b m (λ h. h) new (λ h. h) (inr (inr (leb-false (keys_in k) 8 f))))))

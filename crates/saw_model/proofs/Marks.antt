@@ -6,8 +6,9 @@ use Rattle.river_plan.specs.Names.{one_if}
 use Rattle.text_forms.specs.Tree.{Spoken}
 use Rattle.text_forms.specs.Tree as tree
 use Rattle.saw_model.specs.Source.{Statement, Declare, Assign, Emit, If, Block, End, Then}
-use Rattle.saw_model.specs.Places.{Mark, Begins, Enters, Leaves, Names, Reads, Foreign, Declares, Local, Sets, Emits, Index, Indexed, Weighted, Unweighted, Tables}
-use Rattle.saw_model.specs.Places.{term_marks, value_marks, index_marks, weight_marks, statement_marks, block_marks, What, gives, Turn, In, Out, Along, turn, past}
+use Rattle.saw_model.specs.Places.{Mark, Begins, Enters, Leaves, Names, Reads, Foreign, Declares, Local, Sets, Emits, Index, Indexed, Weighted, Unweighted}
+use Rattle.saw_model.specs.Places.{term_marks, value_marks, index_marks, weight_marks, statement_marks, block_marks, What, gives, Turn, In, Out}
+use Rattle.saw_model.specs.Places.{Along, turn, past}
 use Rattle.saw_model.specs.Places.{stays, Known, is_statement, is_local, is_table, how_many}
 
 -- HOW MANY
@@ -236,7 +237,8 @@ mutual
       begun (Sets n ∷ term_marks t) (plain_body (Sets n ∷ term_marks t) (plain_next (Sets n) (term_marks t) (along_sets n) (term_plain t)))
   statement_body (Emit n is v w) =
       let last = term_marks v ++ weight_marks n w in
-      let more = plain_next (Indexed n (length is)) last (along_indexed n (length is)) (plain_both (term_marks v) (weight_marks n w) (term_plain v) (weight_plain n w)) in
+      let more = plain_next (Indexed n (length is)) last (along_indexed n (length is))
+      (plain_both (term_marks v) (weight_marks n w) (term_plain v) (weight_plain n w)) in
       let all = index_marks 0 is ++ Indexed n (length is) ∷ last in
       begun (Emits n ∷ all)
       (plain_body (Emits n ∷ all)

@@ -1,5 +1,5 @@
 -- The first fault of a program and its unit.
-use Rattle.std.proofs.Common.{◌≡◌, ◌↔◌, ℕ, suc, ◌+◌, ◌⊎◌, inl, inr, List, [], ◌∷◌, ◌++◌, length, refl, sym, ap, ◌∙◌, subst, arith, ⊎_elim, append_assoc}
+use Rattle.std.proofs.Common.{◌≡◌, ℕ, suc, ◌+◌, ◌⊎◌, inl, inr, List, [], ◌∷◌, ◌++◌, length, refl, sym, ap, ◌∙◌, subst, arith, ⊎_elim, append_assoc}
 use Rattle.std.specs.Prelude.{Result, Ok, Err}
 use Rattle.work_code.specs.Steps.{Steps}
 use Rattle.saw_model.specs.Source.{Part, Program}
@@ -85,10 +85,12 @@ told b k (c ∷ ps) r h = ⊎_elim
       here = s.here;
       left = s.left;
       marks = s.marks;
-      fine = subst (AreFine b) (sym (append_assoc (part_marks c) (program_marks s.units) s.read)) (fine_both b (part_marks c) (program_marks s.units ++ s.read) x.0 s.fine);
+      fine = subst (AreFine b) (sym (append_assoc (part_marks c) (program_marks s.units) s.read))
+          (fine_both b (part_marks c) (program_marks s.units ++ s.read) x.0 s.fine);
       fault =
           subst (λ y. IsFirstFault y s.here r.fault)
-          (append_assoc b (part_marks c) (program_marks s.units ++ s.read) ∙ ap (λ y. b ++ y) (sym (append_assoc (part_marks c) (program_marks s.units) s.read)))
+          (append_assoc b (part_marks c) (program_marks s.units ++ s.read) ∙ ap (λ y. b ++ y) (sym
+          (append_assoc (part_marks c) (program_marks s.units) s.read)))
           s.fault;
     })
     h
@@ -108,7 +110,11 @@ is_told : (b : List Mark) (k : ℕ) (units : Program) (unit : Part) (others : Pr
     → AreFine b (program_marks units ++ read)
     → IsFirstFault (b ++ (program_marks units ++ read)) here r.fault
     → FirstIn b k (units ++ unit ∷ others) r
-is_told b k [] unit others read here left r n e f h = inl (omega (arith, n), subst (λ ms. HasFirst b ms r.fault) (sym e) (stands_first b read here left r.fault f h))
+is_told b k [] unit others read here left r n e f h = inl (
+  omega (arith, n),
+  subst (λ ms. HasFirst b ms r.fault) (sym e)
+      (stands_first b read here left r.fault f h),
+)
 is_told b k (c ∷ cs) unit others read here left r n e f h =
     let a = append_assoc (part_marks c) (program_marks cs) read in
     let s = fine_parts b (part_marks c) (program_marks cs ++ read) (subst (AreFine b) a f) in
@@ -157,20 +163,20 @@ refused_by p r h (Err e) a = ap (λ x. Err x) (one_told [] 1 p e r a (fault_in p
 pub refused_at_first : RefusedAtFirst
 refused_at_first p r = (
   (λ e.
-  let t = told [] 1 p r (subst (Answers [] 1 p) e (program_read p)) in
-  record {
-    units = t.units;
-    unit = t.unit;
-    others = t.others;
-    parts = t.parts;
-    counted = t.counted;
-    read = t.read;
-    here = t.here;
-    left = t.left;
-    marks = t.marks;
-    faultless = faultless_is (program_marks t.units ++ t.read) t.fine;
-    fault = t.fault;
-  }),
+      let t = told [] 1 p r (subst (Answers [] 1 p) e (program_read p)) in
+      record {
+        units = t.units;
+        unit = t.unit;
+        others = t.others;
+        parts = t.parts;
+        counted = t.counted;
+        read = t.read;
+        here = t.here;
+        left = t.left;
+        marks = t.marks;
+        faultless = faultless_is (program_marks t.units ++ t.read) t.fine;
+        fault = t.fault;
+      }),
   (λ h. refused_by p r h (judged p) (program_read p)),
 )
 

@@ -1,5 +1,5 @@
 -- Whether a text has a fault, mark by mark, and the first that it has.
-use Rattle.std.proofs.Common.{◌≡◌, ℕ, ◌+◌, ◌<◌, ◌≤◌, ◌⊎◌, inl, inr, Bool, true, false, List, [], ◌∷◌, ◌++◌, refl, sym, ap, ◌∙◌, subst, arith, ⊎_elim, append_assoc, append-nil}
+use Rattle.std.proofs.Common.{◌≡◌, ℕ, ◌<◌, ◌⊎◌, inl, inr, Bool, true, false, List, [], ◌∷◌, ◌++◌, refl, sym, ap, subst, arith, ⊎_elim, append_assoc, append-nil}
 use Rattle.std.specs.Prelude.{Result, Ok, Err, if◌then◌else◌}
 use Rattle.saw_model.specs.Elaborate.{Fault, UnknownName, NameTwice, Shape, Limit, on_ok}
 use Rattle.saw_model.specs.Faults.{IsUnknown, IsTwice, IsMisshapen, IsTooMuch, HasFault, rank, IsFirstFault, IsFaultless}

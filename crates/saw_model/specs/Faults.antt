@@ -1,11 +1,12 @@
 -- The faults of a program: which place has which, by the text before it, and which is told.
-use Rattle.std.specs.Prelude.{◌≡◌, ◌↔◌, ◌⊎◌, ℕ, ◌+◌, ◌<◌, List, [], ◌∷◌, ◌++◌, length, Ok, Err}
+use Rattle.std.specs.Prelude.{◌≡◌, ◌↔◌, ◌⊎◌, ℕ, ◌+◌, ◌<◌, List, ◌∷◌, ◌++◌, length, Ok, Err}
 use Rattle.work_code.specs.Steps.{Steps}
 use Rattle.kern_tables.specs.declared.kind.TableKind.{TableKind}
 use Rattle.kern_tables.specs.declared.kind.TableKind.TheVariants.{Sum, Collection, Maximum}
 use Rattle.saw_model.specs.Elaborate.{Fault, UnknownName, NameTwice, Shape, Limit, At, keys_in}
 use Rattle.saw_model.specs.Judged.{Refusal, judged}
-use Rattle.saw_model.specs.Places.{Mark, Begins, Names, Reads, Foreign, Declares, Sets, Emits, Index, Indexed, Weighted, Unweighted, Tables, What, ALocal, ATable}
+use Rattle.saw_model.specs.Places.{Mark, Begins, Names, Reads, Foreign, Declares, Sets, Emits, Index, Indexed, Weighted, Unweighted, Tables, What}
+use Rattle.saw_model.specs.Places.{ALocal, ATable}
 use Rattle.saw_model.specs.Places.{Known, is_statement, is_local, is_table, how_many, part_marks, program_marks}
 use Rattle.saw_model.specs.Source.{Part, Program}
 

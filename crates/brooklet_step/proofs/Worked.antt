@@ -1,0 +1,20 @@
+-- A firing at a state to which no firings lead.
+use Rattle.std.proofs.Common.{List, [], ◌∷◌, refl, ◌∙◌, arith}
+use Rattle.brooklet_model.specs.Firings.{Kept, Slots}
+use Rattle.brooklet_model.specs.Fire.{fire}
+use Rattle.brooklet_step.specs.declared.state.State.TheVariants as state
+use Rattle.brooklet_step.specs.Given.{held_at}
+use Rattle.brooklet_step.specs.Worked.{give_slot, row_of, SlotsAreGiven}
+use Rattle.brooklet_step.proofs.Fires.{grown_list}
+use Rattle.brooklet_step.proofs.GivenLemmas.{at-same, of_held}
+use Rattle.brooklet_step.proofs.Moved.{step_law}
+
+pub slots_law : SlotsAreGiven
+slots_law z v reads writes vars out out' st' f hi b fires =
+    let now : List Kept = Slots (z ∷ []) ∷ [] in
+    let x = row_of v in
+    let g = step_law give_slot reads writes vars 0 x x (state.Slots (z ∷ []) ∷ []) st' out out' now f
+    (record { slots = z ∷ []; code = refl; count = refl }) hi fires (record { shape = refl; holds = tt })
+    (record { slots = z ∷ []; code = refl; defined = refl; count = refl }) (of_held reads 0 x hi) (at-same reads 0 [] (x ∷ [])) in
+    grown_list 1 out.outs out'.outs (λ p. held_at writes p [] ((fire give_slot 0 x now).outs p)) 0 b.outs g.outs (omega arith)
+    ∙ at-same writes 0 [] ((fire give_slot 0 x now).outs 0)
