@@ -14,7 +14,8 @@ use Rattle.streamit_front.proofs.Fronts.{AllHave, judged-have, means_what_it_has
 use Rattle.streamit_front.proofs.Readable.{units-fine}
 
 -- a program that is accepted has a stream that is the last
-compiled-as : (text : List ℕ) (p : Program) (known : Streamed) → IsText text p → judged p ≡ Ok known → AllHave (judged p) → (a : Accepted) × (compiled text ≡ Ok a)
+compiled-as : (text : List ℕ) (p : Program) (known : Streamed) → IsText text p → judged p ≡ Ok known → AllHave (judged p)
+    → (a : Accepted) × (compiled text ≡ Ok a)
 compiled-as text p [] t j h = absurd (subst AllHave j h)
 compiled-as text p (newest ∷ others) t j h = (record { program = p; stream = newest.1 }, stands-means text p t ∙ ap (or_fault p) j)
 

@@ -168,7 +168,8 @@ module _ (s : Stream) (ok : IsStream s) (small : IsSmall s) (few : ops_in s ≤ 
   limited limit.Inputs = one 8 1 (omega arith)
   limited limit.Operators = one 256 (length ops) (let e = operators s 1 1 (codes "in") (codes "out") in omega (arith, e, few))
   limited limit.Queues =
-      one 512 (1 + (1 + length (map values_in ours))) (let a = length-map ours values_in in let b = ours_length in let c = few_queues s in omega (arith, a, b, c, few))
+      one 512 (1 + (1 + length (map values_in ours)))
+      (let a = length-map ours values_in in let b = ours_length in let c = few_queues s in omega (arith, a, b, c, few))
   limited limit.Variables =
       one 256 (0 + length (all_vars ops)) (let a = few_vars ops within in let e = operators s 1 1 (codes "in") (codes "out") in omega (arith, a, e, few))
   limited limit.Ports = ports_within ops within
