@@ -1,15 +1,13 @@
 -- Queries that are made one after another.
-use Rattle.std.proofs.Common.{◌≡◌, ℕ, ◌+◌, ◌<◌, ◌≤◌, Result, Ok, Err, List, [], ◌∷◌, ◌++◌, length, drop, map, get_or, Option, refl, sym, ap, ◌∙◌, subst, arith}
-use Rattle.std.proofs.Common.{append_assoc}
+use Rattle.std.proofs.Common.{◌≡◌, ℕ, ◌+◌, ◌<◌, ◌≤◌, List, [], ◌∷◌, ◌++◌, length, drop, get_or, Option, refl, sym, ap, ◌∙◌, subst, arith}
 use Rattle.std.specs.List.{AllByRecursion}
 use Rattle.std.proofs.lemmas.List.{length-map}
 use Rattle.kern_bags.specs.declared.kernel.Streamer.{Streamer}
 use Rattle.river_kernels.specs.Fits.{stream}
-use Rattle.river_plan.specs.Forms.{Name, OpForm}
+use Rattle.river_plan.specs.Forms.{Name}
 use Rattle.river_plan.specs.Names.{count}
-use Rattle.river_plan.specs.declared.plan.Decl.{Decl}
 use Rattle.river_plan.specs.declared.plan.RawPlan.{RawPlan}
-use Rattle.cql_model.specs.Plannable.{IsQuery, AreQueries, declared}
+use Rattle.cql_model.specs.Plannable.{AreQueries, declared}
 use Rattle.cql_model.specs.Faults.{IsShortName, AreShort}
 use Rattle.cql_model.specs.Program as program
 use Rattle.cql_model.specs.Program.{Scalar, Columns, Query, Register, Ask, Program, streams_of, all_uses}

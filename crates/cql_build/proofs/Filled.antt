@@ -1,16 +1,13 @@
 -- The plan of a program, or why it has none.
-use Rattle.std.proofs.Common.{◌≡◌, ℕ, zero, suc, ◌+◌, ◌<◌, ◌≤◌, Bool, true, false, Result, Ok, Err, Option, Some, None, List, [], ◌∷◌, ◌++◌, length, drop, map, get_or}
+use Rattle.std.proofs.Common.{◌≡◌, ℕ, zero, suc, ◌+◌, ◌<◌, ◌≤◌, Bool, true, false, Result, Ok, Err, Option, Some, None, List, [], ◌∷◌, ◌++◌, length, drop, get_or}
 use Rattle.std.proofs.Common.{refl, sym, ap, ◌∙◌, subst, arith, append_assoc, append-nil, length-append}
-use Rattle.std.specs.Prelude.{All, IsTrue, IfErr, if◌then◌else◌}
+use Rattle.std.specs.Prelude.{IsTrue, IfErr, if◌then◌else◌}
 use Rattle.std.specs.List.{AllByRecursion}
 use Rattle.std.specs.Option.{is_some}
-use Rattle.std.proofs.lemmas.List.{length-map}
 use Rattle.std.proofs.lemmas.List.Elements.{All-head}
 use Rattle.river_kernels.specs.Formed.{is_width}
 use Rattle.river_kernels.specs.declared.limit.Limit.TheVariants.{Operators}
-use Rattle.river_plan.specs.Forms.{Name, OpForm, PlanForm, plan_form, op_forms, empty_form}
-use Rattle.river_plan.specs.Limits.{most_of, numbers}
-use Rattle.river_plan.specs.Names.{count}
+use Rattle.river_plan.specs.Forms.{Name, PlanForm, plan_form, op_forms, empty_form}
 use Rattle.river_plan.specs.Uses.{all_vars}
 use Rattle.river_plan.specs.Valid.{FirstFault, IsJudged}
 use Rattle.river_plan.specs.declared.fault.PlanFault.{PlanFault}
@@ -31,7 +28,7 @@ use Rattle.cql_build.specs.declared.uses.Uses.{Uses}
 use Rattle.cql_build.specs.declared.planning.Refused.{Refused}
 use Rattle.cql_build.specs.declared.planning.Refused.TheVariants as refused
 use Rattle.cql_build.specs.Grown.{Grew}
-use Rattle.cql_build.specs.Planned.{IsRefused, IsLimited, limit_of, limit_at, refused_of, unit_inputs, unit_copies, unit_copying, IsShortRegistered, IsNarrow}
+use Rattle.cql_build.specs.Planned.{IsRefused, IsLimited, limit_of, refused_of, unit_inputs, unit_copies, unit_copying, IsShortRegistered, IsNarrow}
 use Rattle.cql_build.specs.Views.{part_of, program_of}
 use Rattle.cql_build.proofs.Growing.{Left, left_start, left_next, left_is, left_end}
 use Rattle.cql_build.proofs.Lists.{drop_next, drop_all}

@@ -1,5 +1,5 @@
 -- What is made one after another.
-use Rattle.std.proofs.Common.{◌≡◌, ℕ, zero, suc, ◌-◌, ◌+◌, ◌<◌, ◌≤◌, Result, Ok, Err, List, [], ◌∷◌, ◌++◌, length, drop, map, get_or, refl, sym, ap, ◌∙◌, subst}
+use Rattle.std.proofs.Common.{◌≡◌, ℕ, zero, suc, ◌-◌, ◌+◌, ◌<◌, ◌≤◌, Result, Ok, Err, List, [], ◌∷◌, ◌++◌, length, drop, get_or, refl, sym, ap, ◌∙◌, subst}
 use Rattle.std.proofs.Common.{arith, append_assoc, append-nil, ◌^◌}
 use Rattle.std.specs.Prelude.{codes, OnOk}
 use Rattle.std.specs.List.{AllByRecursion}
@@ -20,7 +20,7 @@ use Rattle.cql_text.specs.declared.tree.Source.{Source}
 use Rattle.cql_build.specs.declared.item.Item.{Item}
 use Rattle.cql_build.specs.declared.uses.Uses.{Uses}
 use Rattle.cql_build.specs.Grown.{Grew, Used, products, stream_ops}
-use Rattle.cql_build.specs.Views.{source_of, sources_of, window_of, named, scope}
+use Rattle.cql_build.specs.Views.{sources_of, window_of, scope}
 use Rattle.cql_build.proofs.Lists.{drop_next, drop_all, drop_some}
 
 -- what is left to be made of these lists

@@ -1,12 +1,11 @@
 -- Units that are judged one after another.
-use Rattle.std.proofs.Common.{◌≡◌, ℕ, ◌+◌, ◌<◌, List, [], ◌∷◌, length, drop, get_or, Option, Some, None, refl, sym, ap, ◌∙◌, arith}
+use Rattle.std.proofs.Common.{◌≡◌, ℕ, ◌+◌, ◌<◌, List, [], ◌∷◌, length, drop, get_or, Some, None, refl, sym, ap, ◌∙◌, arith}
 use Rattle.cql_model.specs.Faults.{in_unit, query_fault, first_fault}
 use Rattle.cql_model.specs.Program as program
 use Rattle.cql_model.specs.Program.{Register, Ask, Program}
 use Rattle.cql_model.specs.Scopes.{Named}
 use Rattle.cql_model.specs.Translation.{query_named}
 use Rattle.cql_model.specs.declared.fault.Fault.{Fault}
-use Rattle.cql_model.specs.declared.fault.Refusal.{Refusal}
 use Rattle.cql_text.specs.declared.tree.Part.{Part}
 use Rattle.cql_model.specs.Places.{declares}
 use Rattle.cql_build.specs.Judged.{unit_fault, registers}

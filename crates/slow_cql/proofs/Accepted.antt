@@ -1,5 +1,5 @@
 -- The program of a text that is not refused has what its meaning asks for.
-use Rattle.std.proofs.Common.{◌≡◌, ℕ, Option, Some, None, Ok, List, [], ◌∷◌, refl}
+use Rattle.std.proofs.Common.{Ok, List, [], ◌∷◌}
 use Rattle.work_code.specs.Cut.{units_of}
 use Rattle.work_code.specs.Tok.{toks}
 use Rattle.cql_model.specs.Plannable.{AreQueries}
@@ -7,12 +7,10 @@ use Rattle.cql_model.specs.Program.{Register, Ask, Program}
 use Rattle.cql_model.specs.Scopes.{Named}
 use Rattle.cql_model.specs.Translation.{query_named}
 use Rattle.cql_model.proofs.Judged.{accepted_plannable}
-use Rattle.cql_text.specs.Tree.{Part}
 use Rattle.cql_build.specs.Seen.{program_of}
 use Rattle.slow_cql.specs.Contents.{HaveColumns}
 use Rattle.slow_cql.specs.Laws.{CompiledHaveColumns}
 use Rattle.cql_front.specs.Laws.{Has}
-use Rattle.cql_front.specs.Meaning.{compiled}
 use Rattle.cql_front.proofs.Fronts.{means_what_it_has}
 use Rattle.cql_front.proofs.Spoken.{spoken}
 

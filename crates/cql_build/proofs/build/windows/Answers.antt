@@ -1,4 +1,4 @@
-use Rattle.std.proofs.Common.{◌≡◌, ◌<◌, length, ap, arith}
+use Rattle.std.proofs.Common.{length, ap, arith}
 use Rattle.cql_build.specs.declared.item.Item.{Item}
 use Rattle.cql_build.proofs.Growing.{width_at}
 use Rattle.cql_build.proofs.build.windows.Goals as goal

@@ -1,4 +1,4 @@
-use Rattle.std.proofs.Common.{◌≡◌, ◌≤◌, ◌++◌, length, sym, ap, subst, ◌∙◌, arith}
+use Rattle.std.proofs.Common.{◌≤◌, ◌++◌, length, ap, ◌∙◌, arith}
 use Rattle.river_plan.specs.Names.{count}
 use Rattle.cql_model.specs.Translation.{copies, decls}
 use Rattle.cql_build.proofs.Growing.{on_ok_then, copied_input, copies_few, count_few}

@@ -1,4 +1,3 @@
-use Rattle.std.proofs.Common.{◌≡◌}
 use Rattle.cql_build.specs.Seen.{kind_of}
 use Rattle.cql_build.proofs.Growing.{output_used}
 use Rattle.cql_build.proofs.output.output.Goals as goal

@@ -1,4 +1,4 @@
-use Rattle.std.proofs.Common.{◌≡◌, ◌<◌, List, length, sym, ap, subst, arith}
+use Rattle.std.proofs.Common.{◌<◌, List, length, sym, ap, subst, arith}
 use Rattle.river_plan.specs.Forms.{Name, plan_form}
 use Rattle.cql_model.specs.Program.{all_uses}
 use Rattle.cql_build.specs.Planned.{IsRefused, IsLimited}

@@ -1,4 +1,4 @@
-use Rattle.std.proofs.Common.{◌≡◌, sym, ◌∙◌}
+use Rattle.std.proofs.Common.{sym, ◌∙◌}
 use Rattle.cql_model.proofs.Faultless.{faultless_plannable}
 use Rattle.cql_build.specs.Views.{program_of}
 use Rattle.cql_build.proofs.planning.plan.Goals as goal

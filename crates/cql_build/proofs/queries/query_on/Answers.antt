@@ -1,4 +1,4 @@
-use Rattle.std.proofs.Common.{◌≡◌, ◌<◌, ℕ, List, [], length, sym, ap, subst, ◌∙◌, arith, drop}
+use Rattle.std.proofs.Common.{◌<◌, List, [], length, ap, subst, ◌∙◌, arith, drop}
 use Rattle.cql_text.specs.declared.tree.Source.{Source}
 use Rattle.cql_model.specs.Translation.{sources, window_ops, window_decls, cross_ops, cross_last, w_name}
 use Rattle.cql_model.specs.Program.{streams_of}
