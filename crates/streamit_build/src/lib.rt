@@ -10,9 +10,8 @@ mod program;
 mod rounds;
 mod streams;
 
-pub use builder::{Declared, Made, build};
+use builder::{Declared, Made};
 pub use judge::Refusal;
 pub use planning::plan;
 pub use program::{Adds, Body, Declaration, RoundRobin, Split, SplitJoin};
-pub use rounds::round;
-pub use streams::{Children, Entry, Known};
+use streams::{Entry, Known};

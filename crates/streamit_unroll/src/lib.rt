@@ -12,6 +12,6 @@ mod unroll;
 
 pub use fault::Fault;
 pub use filters::filter;
-pub use names::{Known, Names};
+use names::{Known, Names};
 pub use tree::{Block, Expression, FilterTree, Rates, Statement, Until};
-pub use unroll::Unroller;
+use unroll::Unroller;
