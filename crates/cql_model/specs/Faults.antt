@@ -1,4 +1,5 @@
--- Why a program is refused: the first fault in reading order, and the unit in which it stands.
+-- Why a program is refused, reckoned unit by unit: the first fault in reading order, and the unit in which it stands.
+-- That it is the first fault of the first place that has one, in the words of each fault, is a law of specs/Refused.
 use Rattle.std.specs.Prelude.{◌<◌, ◌≤◌, IsTrue, ◌≡◌, ℕ, zero, suc, ◌+◌, Bool, true, false, ◌||◌, nat_lt, nat_eq, List, [], ◌∷◌, ◌++◌, length, Option, Some}
 use Rattle.std.specs.Prelude.{None, if◌then◌else◌}
 use Rattle.std.specs.List.{AllByRecursion}
