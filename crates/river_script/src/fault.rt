@@ -1,5 +1,5 @@
 // Why a script makes no plan, and what is told of it.
-ghost use Rattle.std.specs.Prelude.{◌≡◌, ◌++◌, OnOk, codes};
+ghost use Rattle.std.specs.Prelude.{◌≡◌, ◌++◌, OnOk, codes, IfOk, OnErr};
 ghost use Rattle.std.specs.Fmt.{decimal};
 ghost use Rattle.plan_edits.specs.Words.{unfit_word};
 ghost use Rattle.text_forms.specs.Refusals.{refusal_words};
@@ -45,8 +45,25 @@ impl From<LexFault> for ScriptFault {
 }
 
 impl ScriptFault {
-    /// Appends what is told of it.
+    /// Appends what is told of it; changes nothing where there is no memory.
     pub fn put(self, alloc: Global, to: &mut Bytes) -> Result<(), NoMemory>
+        ensures ok { OnOk result (to.new ≡ to.old ++ script_words self) }
+        ensures err { OnErr result (to.new ≡ to.old) }
+    {
+        let text = self.words(alloc)?;
+        to.extend(text.as_slice())
+    }
+
+    // What is told of it.
+    fn words(self, alloc: Global) -> Result<Bytes, NoMemory>
+        ensures { IfOk result (λ text. text ≡ script_words self) }
+    {
+        let mut text = Bytes::new(alloc);
+        self.write(alloc, &mut text)?;
+        Ok(text)
+    }
+
+    fn write(self, alloc: Global, to: &mut Bytes) -> Result<(), NoMemory>
         ensures { OnOk result (to.new ≡ to.old ++ script_words self) }
     {
         match self {

@@ -1,5 +1,5 @@
 // Why a River text has no plan, and what is told of it.
-ghost use Rattle.std.specs.Prelude.{◌≡◌, ◌++◌, codes, OnOk};
+ghost use Rattle.std.specs.Prelude.{◌≡◌, ◌++◌, codes, OnOk, IfOk, OnErr};
 ghost use Rattle.std.specs.Fmt.{decimal};
 ghost use Rattle.river_text.specs.Meaning.{from_text, from_plan};
 ghost use Rattle.river_text.specs.Words.{limit_word, name_words, plan_words, river_words};
@@ -49,8 +49,25 @@ impl From<PlanFault> for RiverFault {
 }
 
 impl RiverFault {
-    /// Appends what is told of it.
+    /// Appends what is told of it; changes nothing where there is no memory.
     pub fn put(self, alloc: Global, to: &mut Bytes) -> Result<(), NoMemory>
+        ensures ok { OnOk result (to.new ≡ to.old ++ river_words self) }
+        ensures err { OnErr result (to.new ≡ to.old) }
+    {
+        let text = self.words(alloc)?;
+        to.extend(text.as_slice())
+    }
+
+    // What is told of it.
+    fn words(self, alloc: Global) -> Result<Bytes, NoMemory>
+        ensures { IfOk result (λ text. text ≡ river_words self) }
+    {
+        let mut text = Bytes::new(alloc);
+        self.write(alloc, &mut text)?;
+        Ok(text)
+    }
+
+    fn write(self, alloc: Global, to: &mut Bytes) -> Result<(), NoMemory>
         ensures { OnOk result (to.new ≡ to.old ++ river_words self) }
     {
         match self {

@@ -1,5 +1,5 @@
 // Why a text is no program, and what is told of it.
-ghost use Rattle.std.specs.Prelude.{◌≡◌, ◌++◌, codes, OnOk};
+ghost use Rattle.std.specs.Prelude.{◌≡◌, ◌++◌, codes, OnOk, IfOk, OnErr};
 ghost use Rattle.std.specs.Fmt.{decimal};
 ghost use Rattle.saw_front.specs.Words.{saw_words};
 
@@ -37,8 +37,25 @@ impl From<NoMemory> for SawFault {
 }
 
 impl SawFault {
-    /// Appends what is told of it.
+    /// Appends what is told of it; changes nothing where there is no memory.
     pub fn put(self, alloc: Global, to: &mut Bytes) -> Result<(), NoMemory>
+        ensures ok { OnOk result (to.new ≡ to.old ++ saw_words self) }
+        ensures err { OnErr result (to.new ≡ to.old) }
+    {
+        let text = self.words(alloc)?;
+        to.extend(text.as_slice())
+    }
+
+    // What is told of it.
+    fn words(self, alloc: Global) -> Result<Bytes, NoMemory>
+        ensures { IfOk result (λ text. text ≡ saw_words self) }
+    {
+        let mut text = Bytes::new(alloc);
+        self.write(alloc, &mut text)?;
+        Ok(text)
+    }
+
+    fn write(self, alloc: Global, to: &mut Bytes) -> Result<(), NoMemory>
         ensures { OnOk result (to.new ≡ to.old ++ saw_words self) }
     {
         match self {
