@@ -1,5 +1,6 @@
 pub mod Fronts
 pub mod Instances
+pub mod Judging
 pub mod Loops
 pub mod Printable
 pub mod Scripts

@@ -6,7 +6,7 @@ use Rattle.river_plan.specs.Forms.{Name, OpForm, PlanForm}
 use Rattle.river_plan.specs.Names.{count}
 use Rattle.river_plan.specs.Uses.{writes_it, reads_it, named_it}
 use Rattle.river_base.specs.declared.kind.QueueType.{QueueType}
-use Rattle.river_print.specs.Printable.{IsShallow, HasForward, IsPrintable}
+use Rattle.river_print.specs.Printable.{IsShallow, HasForward}
 use Rattle.river_print.specs.Writable.{Every}
 use Rattle.river_print.proofs.Spoken.{IsSpoken, every-joined, spoken-printable, printable-spoken}
 use Rattle.plan_edits.specs.declared.unfit.Unfit.{Unfit}
@@ -16,7 +16,7 @@ use Rattle.rw_local.specs.Hoist.{raised, lowered, hoist_of}
 use Rattle.rw_local.proofs.FuseSteps as fusion
 use Rattle.rw_local.proofs.HoistSteps as hoisting_up
 use Rattle.rw_fission.specs.Asked.{fission_of}
-use Rattle.rw_fission.specs.Fission.{Way, by_packs, by_blocks, by_adds, splitter_op, replica_op, each_op, joiner_ops, split_ops}
+use Rattle.rw_fission.specs.Fission.{Way, replica_op, each_op, joiner_ops, split_ops}
 use Rattle.rw_fission.specs.Made.{Made, made_of}
 use Rattle.rw_fission.proofs.Accepted as fission
 use Rattle.river_script.specs.Script.{StepForm, fusing, hoisting, splitting, step_of, then_all, script_from, ScriptIsPrintable}

@@ -1,4 +1,5 @@
 pub mod Grammar
+pub mod Judged
 pub mod Laws
 pub mod Meaning
 pub mod Reading

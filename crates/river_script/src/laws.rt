@@ -1,5 +1,6 @@
 //! Laws of scripts.
 ghost use Rattle.river_script.specs.Grammar.{OneScript};
+ghost use Rattle.river_script.specs.Judged.{ScriptIsJudged};
 ghost use Rattle.river_script.specs.Laws.{MakesWhatItHas};
 ghost use Rattle.river_script.specs.Script.{ScriptIsPrintable, ScriptKeeps, ScriptMeans};
 
@@ -13,6 +14,12 @@ pub fn one_script()
 /// exactly where the text stands for steps of which it is the first that fails.
 pub fn makes_what_it_has()
     ensures { MakesWhatItHas }
+{}
+
+/// The steps of a script give the plan to which they lead one after another, and otherwise the first step that fails with the first of
+/// its conditions that does: each condition and each step's plan as they are described.
+pub fn script_is_judged()
+    ensures { ScriptIsJudged }
 {}
 
 /// A script keeps a plan valid, and its inputs, outputs and tables, and what it means on all inputs that fit.
