@@ -7,6 +7,7 @@ pub mod Dealt
 pub mod Drained
 pub mod Feeds
 pub mod FewMoves
+pub mod FewRounds
 pub mod Free
 pub mod Fronts
 pub mod FusedRun
