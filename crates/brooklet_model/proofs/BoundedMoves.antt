@@ -1,5 +1,6 @@
 -- Bounded states: some move is there, and moves are those of the machine.
-use Rattle.std.proofs.Common.{◌≡◌, ℕ, zero, suc, ◌+◌, ◌<◌, Some, List, [], ◌∷◌, ◌++◌, length, refl, sym, ap, ◌∙◌, subst, arith, ⊎_elim, ◌⊎◌, inl, inr, append_assoc, length-append}
+use Rattle.std.proofs.Common.{◌≡◌, ℕ, zero, suc, ◌+◌, ◌<◌, Some, List, [], ◌∷◌, ◌++◌, length, refl, sym, ap, ◌∙◌, subst, arith, ⊎_elim, ◌⊎◌, inl, inr}
+use Rattle.std.proofs.Common.{append_assoc, length-append}
 use Rattle.std.specs.Prelude.{slice_get}
 use Rattle.river_base.specs.declared.item.Item as item
 use Rattle.river_base.specs.Name.{name_eq}
@@ -19,6 +20,7 @@ use Rattle.brooklet_model.proofs.Received.{got_mid, writer_before}
 
 -- SOME MOVE
 
+-- each of these queues is empty
 abbrev pub AllNone : History → List Name → Type 0
 AllNone f qs = (q : Name) → 0 < count q qs → f q ≡ []
 
@@ -42,6 +44,7 @@ some_in f (w ∷ ws) = ⊎_elim
     (some_in f ws))
     (empty_or (f w))
 
+-- an operator has no pending and no untaken item
 record Quiet (b : Bounded) (op : OpForm) : Type 0 where
   pending : AllNone b.pending op.writes
   left : AllNone b.left op.reads
@@ -80,7 +83,8 @@ last_busy b (a ∷ ops) = ⊎_elim
     behind l zero op' g lt = absurd (omega (arith, lt))
     behind l (suc i) op' g lt = l.later i op' g (omega (arith, lt))
 
-    first_behind : ((i : ℕ) (op : OpForm) → slice_get ops i ≡ Some op → Quiet b op) → (i : ℕ) (op' : OpForm) → slice_get (a ∷ ops) i ≡ Some op' → 0 < i → Quiet b op'
+    first_behind : ((i : ℕ) (op : OpForm) → slice_get ops i ≡ Some op → Quiet b op) → (i : ℕ) (op' : OpForm) → slice_get (a ∷ ops) i ≡ Some op' → 0 < i
+        → Quiet b op'
     first_behind q zero op' g lt = absurd (omega (arith, lt))
     first_behind q (suc i) op' g lt = q i op' g
 
@@ -88,7 +92,8 @@ last_busy b (a ∷ ops) = ⊎_elim
     each q n zero op g = let e : a ≡ op = cc g in subst (Quiet b) e n
     each q n (suc i) op g = q i op g
 
-pub reader_of : (ops : List OpForm) (q : Name) → 0 < total (reads_it q) ops → (o : ℕ) × (op : OpForm) × (slice_get ops o ≡ Some op) × (0 < count q op.reads)
+-- a queue that is read is read by an operator
+reader_of : (ops : List OpForm) (q : Name) → 0 < total (reads_it q) ops → (o : ℕ) × (op : OpForm) × (slice_get ops o ≡ Some op) × (0 < count q op.reads)
 reader_of [] q lt = absurd (omega (arith, lt))
 reader_of (a ∷ ops) q lt = ⊎_elim
     (λ k. (0, a, refl, k))
@@ -96,7 +101,8 @@ reader_of (a ∷ ops) q lt = ⊎_elim
     (more_or_zero (count q a.reads))
 
 -- the reader of a queue stands behind its writer
-pub reader_behind : (p : PlanForm) (v : IsPlan p) (o o' : ℕ) (op op' : OpForm) (q : Name) → slice_get p.ops o ≡ Some op → 0 < count q op.writes → slice_get p.ops o' ≡ Some op' → 0 < count q op'.reads → o < o'
+reader_behind : (p : PlanForm) (v : IsPlan p) (o o' : ℕ) (op op' : OpForm) (q : Name) → slice_get p.ops o ≡ Some op → 0 < count q op.writes
+    → slice_get p.ops o' ≡ Some op' → 0 < count q op'.reads → o < o'
 reader_behind p v o o' op op' q g lt g' lt' =
     let w = v.written_once q in
     let m = at_most (writes_it q) p.ops o op g in
@@ -174,20 +180,25 @@ some_move_law p caps b o op v lc g k = ⊎_elim
 
 -- MOVES ARE STEPS
 
-pub passed_history : (q : Name) (x : item.Item) (rest : List item.Item) (b : Bounded) → b.pending q ≡ x ∷ rest → (n : Name) → history (passed q x rest b) n ≡ history b n
+-- a send changes no history
+pub passed_history : (q : Name) (x : item.Item) (rest : List item.Item) (b : Bounded) → b.pending q ≡ x ∷ rest → (n : Name)
+    → history (passed q x rest b) n ≡ history b n
 passed_history q x rest b e n = ⊎_elim
     (λ c.
     ap (λ l. (b.taken n ++ l) ++ at_name q rest b.pending n) (if_true (name_eq q n) (b.left q ++ x ∷ []) (b.left n) c.1)
     ∙ ap (λ l. (b.taken n ++ (b.left q ++ x ∷ [])) ++ l) (if_true (name_eq q n) rest (b.pending n) c.1)
     ∙ ap (λ m. (b.taken n ++ (b.left m ++ x ∷ [])) ++ rest) c.0
-    ∙ append_assoc (b.taken n) (b.left n ++ x ∷ []) rest ∙ ap (λ l. b.taken n ++ l) (append_assoc (b.left n) (x ∷ []) rest) ∙ sym (append_assoc (b.taken n) (b.left n) (x ∷ rest))
+    ∙ append_assoc (b.taken n) (b.left n ++ x ∷ []) rest ∙ ap (λ l. b.taken n ++ l) (append_assoc (b.left n) (x ∷ []) rest)
+    ∙ sym (append_assoc (b.taken n) (b.left n) (x ∷ rest))
     ∙ ap (λ l. (b.taken n ++ b.left n) ++ l) (sym e ∙ ap b.pending c.0))
     (λ c.
     ap (λ l. (b.taken n ++ l) ++ at_name q rest b.pending n) (if_false (name_eq q n) (b.left q ++ x ∷ []) (b.left n) c.1)
     ∙ ap (λ l. (b.taken n ++ b.left n) ++ l) (if_false (name_eq q n) rest (b.pending n) c.1))
     (cases_name q n)
 
-pub took_sent : (q : Name) (x : item.Item) (rest : List item.Item) (b : Bounded) → b.left q ≡ x ∷ rest → (n : Name) → at_name q (b.taken q ++ x ∷ []) b.taken n ++ at_name q rest b.left n ≡ b.taken n ++ b.left n
+-- a take changes nothing of what was sent
+pub took_sent : (q : Name) (x : item.Item) (rest : List item.Item) (b : Bounded) → b.left q ≡ x ∷ rest → (n : Name)
+    → at_name q (b.taken q ++ x ∷ []) b.taken n ++ at_name q rest b.left n ≡ b.taken n ++ b.left n
 took_sent q x rest b e n = ⊎_elim
     (λ c.
     ap (λ l. l ++ at_name q rest b.left n) (if_true (name_eq q n) (b.taken q ++ x ∷ []) (b.taken n) c.1)
@@ -198,14 +209,18 @@ took_sent q x rest b e n = ⊎_elim
     ∙ ap (λ l. b.taken n ++ l) (if_false (name_eq q n) rest (b.left n) c.1))
     (cases_name q n)
 
-took_taken : (q : Name) (x : item.Item) (b : Bounded) (n : Name) → length (at_name q (b.taken q ++ x ∷ []) b.taken n) ≡ at_name q (length (b.taken q) + 1) (λ m. length (b.taken m)) n
+took_taken : (q : Name) (x : item.Item) (b : Bounded) (n : Name)
+    → length (at_name q (b.taken q ++ x ∷ []) b.taken n) ≡ at_name q (length (b.taken q) + 1) (λ m. length (b.taken m)) n
 took_taken q x b n = ⊎_elim
-    (λ c. let a = ap length (if_true (name_eq q n) (b.taken q ++ x ∷ []) (b.taken n) c.1) in let d = length-append (b.taken q) (x ∷ []) in let f = if_true (name_eq q n) (length (b.taken q) + 1) (length (b.taken n)) c.1 in omega (arith, a, d, f))
-    (λ c. ap length (if_false (name_eq q n) (b.taken q ++ x ∷ []) (b.taken n) c.1) ∙ sym (if_false (name_eq q n) (length (b.taken q) + 1) (length (b.taken n)) c.1))
+    (λ c. let a = ap length (if_true (name_eq q n) (b.taken q ++ x ∷ []) (b.taken n) c.1) in let d = length-append (b.taken q) (x ∷ []) in
+    let f = if_true (name_eq q n) (length (b.taken q) + 1) (length (b.taken n)) c.1 in omega (arith, a, d, f))
+    (λ c. ap length (if_false (name_eq q n) (b.taken q ++ x ∷ []) (b.taken n) c.1)
+    ∙ sym (if_false (name_eq q n) (length (b.taken q) + 1) (length (b.taken n)) c.1))
     (cases_name q n)
 
--- machines with the same histories and numbers taken
-with_parts : (s : Machine) (hist : History) (taken : Name → ℕ) → hist ≡ s.hist → taken ≡ s.taken → record { hist = hist; taken = taken; kept = s.kept; rows = s.rows } ≡ s
+-- a machine with equal histories and numbers taken is the same
+with_parts : (s : Machine) (hist : History) (taken : Name → ℕ) → hist ≡ s.hist → taken ≡ s.taken
+    → record { hist = hist; taken = taken; kept = s.kept; rows = s.rows } ≡ s
 with_parts s hist taken a b = λ i. record { hist = a i; taken = b i; kept = s.kept; rows = s.rows }
 
 module _ (p : PlanForm) (caps : Capacities) where
@@ -228,15 +243,21 @@ module _ (p : PlanForm) (caps : Capacities) where
             ap (λ l. slice_get ((b.taken q ++ l) ++ b.pending q) (length (b.taken q))) m.item_is
             ∙ ap (λ l. slice_get l (length (b.taken q))) (append_assoc (b.taken q) (x ∷ m.rest) (b.pending q))
             ∙ got_mid (b.taken q) (m.rest ++ b.pending q) x (length (b.taken q)) refl;
-        after = ap machine_of m.after ∙ with_parts (fired (table_names p.tables) o m.op port q x (machine_of b)) (history (took (table_names p.tables) o m.op port q x m.rest b)) (λ n. length (at_name q (b.taken q ++ x ∷ []) b.taken n)) hist_is (funext (λ n. length (at_name q (b.taken q ++ x ∷ []) b.taken n)) (at_name q (length (b.taken q) + 1) (λ n. length (b.taken n))) (took_taken q x b));
+        after = ap machine_of m.after ∙ with_parts (fired (table_names p.tables) o m.op port q x (machine_of b))
+            (history (took (table_names p.tables) o m.op port q x m.rest b))
+            (λ n. length (at_name q (b.taken q ++ x ∷ []) b.taken n)) hist_is (funext (λ n. length (at_name q (b.taken q ++ x ∷ []) b.taken n))
+            (at_name q (length (b.taken q) + 1) (λ n. length (b.taken n))) (took_taken q x b));
       }
     where
-      hist_is : history (took (table_names p.tables) o m.op port m.queue m.item m.rest b) ≡ (fired (table_names p.tables) o m.op port m.queue m.item (machine_of b)).hist
-      hist_is = funext (history (took (table_names p.tables) o m.op port m.queue m.item m.rest b)) (fired (table_names p.tables) o m.op port m.queue m.item (machine_of b)).hist
+      hist_is : history (took (table_names p.tables) o m.op port m.queue m.item m.rest b)
+          ≡ (fired (table_names p.tables) o m.op port m.queue m.item (machine_of b)).hist
+      hist_is = funext (history (took (table_names p.tables) o m.op port m.queue m.item m.rest b))
+          (fired (table_names p.tables) o m.op port m.queue m.item (machine_of b)).hist
           (λ n. let r = fire m.op.kernel port m.item (b.kept o) in
           ap (λ l. l ++ (b.pending n ++ joined m.op.writes r.outs n)) (took_sent m.queue m.item m.rest b m.item_is n)
           ∙ sym (append_assoc (b.taken n ++ b.left n) (b.pending n) (joined m.op.writes r.outs n)))
 
+  -- sends keep the capacities
   pub sends_keep : (b b' : Bounded) (o port : ℕ) → Send p caps b o port b' → IsWithin p caps b → IsWithin p caps b'
   sends_keep b b' o port m w q lw lr =
       let e = ap (λ (c : Bounded). length (c.left q)) m.after in
@@ -251,6 +272,7 @@ module _ (p : PlanForm) (caps : Capacities) where
       (λ c. let a = ap length (if_false (name_eq m.queue q) (b.left m.queue ++ m.item ∷ []) (b.left q) c.1) in let old = w q lw lr in omega (arith, e, a, old))
       (cases_name m.queue q)
 
+  -- and so do takes
   pub takes_keep : (b b' : Bounded) (o port : ℕ) → Take p b o port b' → IsWithin p caps b → IsWithin p caps b'
   takes_keep b b' o port m w q lw lr =
       let e = ap (λ (c : Bounded). length (c.left q)) m.after in

@@ -9,7 +9,6 @@ use Rattle.river_plan.specs.Uses.{total, writes_it, reads_it}
 use Rattle.river_plan.proofs.NameLemmas.{cases_name, more_or_zero, count-append, one_same}
 use Rattle.brooklet_model.specs.Fire.{ins}
 use Rattle.brooklet_model.specs.Histories.{History, lists_of, hist, Lists, lengths}
-use Rattle.brooklet_model.specs.Laws.{given_to}
 use Rattle.brooklet_model.specs.Words.{Word, PortsBelow, port_by_port}
 use Rattle.brooklet_model.proofs.Complete.{nothing_given}
 use Rattle.brooklet_model.proofs.Lists.{if_true, if_false}
@@ -37,7 +36,8 @@ unfolding without
 without_lengths h q [] lt = absurd (omega (arith, lt))
 without_lengths h q (w ∷ ws) lt = ⊎_elim
     (λ c. let e = ap (lengths h) (if_true (name_eq w q) ws (w ∷ without q ws) c.1) in let d = ap (λ n. length (h n)) c.0 in omega (arith, e, d))
-    (λ c. let e = ap (lengths h) (if_false (name_eq w q) ws (w ∷ without q ws) c.1) in let o = ap one_if c.1 in let i = without_lengths h q ws (omega (arith, o, lt)) in omega (arith, e, i))
+    (λ c. let e = ap (lengths h) (if_false (name_eq w q) ws (w ∷ without q ws) c.1) in let o = ap one_if c.1 in
+    let i = without_lengths h q ws (omega (arith, o, lt)) in omega (arith, e, i))
     (cases_name w q)
 
 without_count : (q n : Name) (ws : List Name) → 0 < count q ws → count n ws ≡ one_if (name_eq q n) + count n (without q ws)
@@ -45,7 +45,8 @@ unfolding without
 without_count q n [] lt = absurd (omega (arith, lt))
 without_count q n (w ∷ ws) lt = ⊎_elim
     (λ c. let e = ap (count n) (if_true (name_eq w q) ws (w ∷ without q ws) c.1) in let d = ap (λ (x : Name). one_if (name_eq x n)) c.0 in omega (arith, e, d))
-    (λ c. let e = ap (count n) (if_false (name_eq w q) ws (w ∷ without q ws) c.1) in let o = ap one_if c.1 in let i = without_count q n ws (omega (arith, o, lt)) in omega (arith, e, i))
+    (λ c. let e = ap (count n) (if_false (name_eq w q) ws (w ∷ without q ws) c.1) in let o = ap one_if c.1 in
+    let i = without_count q n ws (omega (arith, o, lt)) in omega (arith, e, i))
     (cases_name w q)
 
 -- fewer names have fewer items
@@ -74,7 +75,8 @@ unfolding flat
 flat_lengths h f [] = refl
 flat_lengths h f (op ∷ ops) = let i = flat_lengths h f ops in let c = lengths-append h (f op) (flat f ops) in omega (arith, i, c)
 
-total_lengths : (h : History) (f : OpForm → List Name) (ops : List OpForm) (qs : List Name) → ((q : Name) → total (λ op. count q (f op)) ops ≤ count q qs) → total (λ op. lengths h (f op)) ops ≤ lengths h qs
+total_lengths : (h : History) (f : OpForm → List Name) (ops : List OpForm) (qs : List Name) → ((q : Name) → total (λ op. count q (f op)) ops ≤ count q qs)
+    → total (λ op. lengths h (f op)) ops ≤ lengths h qs
 total_lengths h f ops qs e =
     let a = flat_lengths h f ops in
     let b = sub_lengths h (flat f ops) qs (λ q. let x = e q in let y = flat_count f ops q in omega (arith, x, y)) in
@@ -95,8 +97,11 @@ moves_most : (ops : List OpForm) (o : ℕ) (ws : ℕ → Word) (sent : ℕ → �
 moves_most [] o ws sent h e = omega arith
 moves_most (op ∷ ops) o ws sent h e =
     let z : o + 0 ≡ o = omega arith in
-    let a : (length (ws o) ≤ lengths h op.reads) × (sent o ≤ lengths h op.writes) = subst (λ n. (length (ws n) ≤ lengths h op.reads) × (sent n ≤ lengths h op.writes)) z (e 0 op refl) in
-    let i = moves_most ops (suc o) ws sent h (λ i b g. let y : o + suc i ≡ suc o + i = omega arith in subst (λ n. (length (ws n) ≤ lengths h b.reads) × (sent n ≤ lengths h b.writes)) y (e (suc i) b g)) in
+    let a : (length (ws o) ≤ lengths h op.reads) × (sent o ≤ lengths h op.writes) = subst
+    (λ n. (length (ws n) ≤ lengths h op.reads) × (sent n ≤ lengths h op.writes)) z (e 0 op refl) in
+    let i = moves_most ops (suc o) ws sent h
+    (λ i b g. let y : o + suc i ≡ suc o + i = omega arith in
+    subst (λ n. (length (ws n) ≤ lengths h b.reads) × (sent n ≤ lengths h b.writes)) y (e (suc i) b g)) in
     let a0 = a.0 in
     let a1 = a.1 in
     omega (arith, a0, a1, i)
@@ -112,7 +117,8 @@ few_law p inputs ws sent v a hs =
     subst (λ n. (length (ws n) ≤ lengths h op.reads) × (sent n ≤ lengths h op.writes)) z
     (let n = reads_are p v i op g in
     let l = lists_of h op.reads in
-    let f = filled_is op.kernel (ws i) l (below_ins p inputs v ws (hist_by p inputs ws) early i op g) (at_ports p inputs v ws (hist_by p inputs ws) early i op h g (λ q lt. fronts q)) in
+    let f = filled_is op.kernel (ws i) l (below_ins p inputs v ws (hist_by p inputs ws) early i op g)
+    (at_ports p inputs v ws (hist_by p inputs ws) early i op h g (λ q lt. fronts q)) in
     let long = word_lengths op.reads h (filled op.kernel (ws i) l) (subst (λ k. PortsBelow k (filled op.kernel (ws i) l)) (sym n) f.below)
     (λ port q r. f.lists port (let b = got_below op.reads port q r in omega (arith, b, n)) ∙ got_read h op.reads port q r) in
     let more = length-append (ws i) (port_by_port (ins op.kernel) 0 (rests (ws i) l)) in
@@ -120,6 +126,10 @@ few_law p inputs ws sent v a hs =
     let t = lists_lengths op.writes (ran op (ws i)).outs (hist_by p inputs ws) (by_words p inputs ws v i op g) in
     let u = longer op.writes (hist_by p inputs ws) h fronts in
     (omega (arith, long, more), omega (arith, s, t, u)))) in
-    let r = total_lengths h (λ op. op.reads) p.ops (queue_names p) (λ q. let w = v.read_once q in ⊎_elim (λ lt. let d = v.reads_declared q lt in omega (arith, w, d)) (λ z. omega (arith, z)) (more_or_zero (total (reads_it q) p.ops))) in
-    let w = total_lengths h (λ op. op.writes) p.ops (queue_names p) (λ q. let w = v.written_once q in ⊎_elim (λ lt. let d = v.writes_declared q lt in omega (arith, w, d)) (λ z. omega (arith, z)) (more_or_zero (total (writes_it q) p.ops))) in
+    let r = total_lengths h (λ op. op.reads) p.ops (queue_names p)
+    (λ q. let w = v.read_once q in ⊎_elim (λ lt. let d = v.reads_declared q lt in omega (arith, w, d)) (λ z. omega (arith, z))
+    (more_or_zero (total (reads_it q) p.ops))) in
+    let w = total_lengths h (λ op. op.writes) p.ops (queue_names p)
+    (λ q. let w = v.written_once q in ⊎_elim (λ lt. let d = v.writes_declared q lt in omega (arith, w, d)) (λ z. omega (arith, z))
+    (more_or_zero (total (writes_it q) p.ops))) in
     omega (arith, m, r, w)

@@ -1,5 +1,6 @@
 -- There are few rounds.
-use Rattle.std.proofs.Common.{◌≡◌, ◌≢◌, ℕ, zero, suc, ◌+◌, ◌*◌, ◌<◌, ◌≤◌, true, false, refl, Option, Some, None, List, [], ◌∷◌, ◌++◌, length, sym, ap, ◌∙◌, subst, arith}
+use Rattle.std.proofs.Common.{◌≡◌, ◌≢◌, ℕ, zero, suc, ◌+◌, ◌*◌, ◌≤◌, true, false, refl, Option, Some, None, List, [], ◌∷◌, ◌++◌, length, sym, ap, ◌∙◌}
+use Rattle.std.proofs.Common.{subst, arith}
 use Rattle.std.proofs.Common.{⊎_elim, length-append}
 use Rattle.std.specs.Prelude.{slice_get}
 use Rattle.river_base.specs.declared.item.Item as item
@@ -9,7 +10,7 @@ use Rattle.river_plan.specs.Names.{one_if, count}
 use Rattle.river_plan.specs.Uses.{total, writes_it}
 use Rattle.river_plan.specs.Valid.{IsPlan}
 use Rattle.river_plan.proofs.NameLemmas.{cases_name}
-use Rattle.brooklet_model.specs.Bounded.{Bounded, Capacities, sent, at_first, Send, Take, Moves, ManyMoves, Rounds, MoveOrEnd}
+use Rattle.brooklet_model.specs.Bounded.{Bounded, Capacities, sent, at_first, Send, Take, ManyMoves, Rounds, MoveOrEnd}
 use Rattle.brooklet_model.specs.Histories.{History, hist, lengths}
 use Rattle.brooklet_model.specs.NetLaws.{NetsStay, RoundsAreFew}
 use Rattle.brooklet_model.specs.Nets.{IsNet, and_took, sent_in}

@@ -1,5 +1,6 @@
 -- The named run is a run.
-use Rattle.std.proofs.Common.{◌≡◌, ◌≢◌, ℕ, ℤ, zero, suc, ◌+◌, ◌<◌, Bool, Some, List, [], ◌∷◌, ◌++◌, length, refl, sym, ap, ◌∙◌, subst, arith, ⊎_elim, append_assoc}
+use Rattle.std.proofs.Common.{◌≡◌, ◌≢◌, ℕ, ℤ, zero, suc, ◌+◌, ◌<◌, Bool, Some, List, [], ◌∷◌, ◌++◌, length, refl, sym, ap, ◌∙◌, subst, arith, ⊎_elim}
+use Rattle.std.proofs.Common.{append_assoc}
 use Rattle.std.specs.Prelude.{count_by, slice_get}
 use Rattle.std.proofs.lemmas.Bool.{cases_lt}
 use Rattle.std.proofs.lemmas.List.{append-nil, length-take}
@@ -25,6 +26,7 @@ use Rattle.brooklet_model.specs.Received.{hist_by, added, AreWords, events, name
 use Rattle.brooklet_model.specs.NetLaws.{NamedRuns}
 use Rattle.brooklet_model.proofs.Received.{got_mid, writer_before, by_words, unwritten_by, only_words}
 
+-- a run, and a run that goes on where it ended
 pub run_append : (p : PlanForm) (es fs : List (ℕ × ℕ)) (s m s' : Machine) → Run p s es m → Run p m fs s' → Run p s (es ++ fs) s'
 run_append p [] fs s m s' r r' = subst (λ n. Run p n fs s') r r'
 run_append p (e ∷ es) fs s m s' r r' = (r.0, r.1, run_append p es fs r.0 m s' r.2 r')
@@ -70,6 +72,7 @@ times_named (op ∷ rest) o (suc i) ws lt =
     let c = times_named rest (suc o) i ws (omega (arith, lt)) in
     omega (arith, a, b, c))
 
+-- how often a row was added to a table is a sum over the operators with their numbers
 pub added_numbered : (tables : List Name) (ops : List OpForm) (o : ℕ) (ws : ℕ → Word) (t : Name) (test : List ℤ → Bool)
     → count_by test (added tables o ops ws t) ≡ numbered (λ i op. count_by test (joined (tables_of tables op) (ran op (ws i)).adds t)) o ops
 added_numbered tables [] o ws t test = refl
@@ -101,7 +104,8 @@ module _ (p : PlanForm) (inputs : List (List item.Item)) (v : IsPlan p) (ws : �
     at : W o ≡ u
     after : (i : ℕ) → o < i → W i ≡ []
 
-  whole : (o : ℕ) (op : OpForm) (q : Name) (s : Machine) (W : ℕ → Word) → slice_get ops o ≡ Some op → 0 < count q op.reads → Traced tables ops first s W → ((i : ℕ) → i < o → W i ≡ ws i) → s.hist q ≡ h q
+  whole : (o : ℕ) (op : OpForm) (q : Name) (s : Machine) (W : ℕ → Word) → slice_get ops o ≡ Some op → 0 < count q op.reads → Traced tables ops first s W
+      → ((i : ℕ) → i < o → W i ≡ ws i) → s.hist q ≡ h q
   whole o op q s W g lt t b = ⊎_elim
       (λ k. let z : total (writes_it q) ops ≡ 0 = (let w = v.written_once q in omega (arith, k, w)) in t.unwritten q z ∙ sym (unwritten_by p inputs ws q z))
       (λ w. lists_one w.1.writes (ran w.1 (ws w.0)).outs s.hist h
@@ -110,7 +114,8 @@ module _ (p : PlanForm) (inputs : List (List item.Item)) (v : IsPlan p) (ws : �
       (writer_before ops (λ n. count n (decl_names p.inputs)) o op q g lt v.in_order)
 
   -- the next item that the operator received is the front of what is not taken
-  next_is : (o : ℕ) (op : OpForm) (u es : Word) (e : ℕ × item.Item) (q : Name) (s : Machine) (W : ℕ → Word) → slice_get ops o ≡ Some op → slice_get op.reads e.0 ≡ Some q → Half o u s W → ws o ≡ u ++ e ∷ es
+  next_is : (o : ℕ) (op : OpForm) (u es : Word) (e : ℕ × item.Item) (q : Name) (s : Machine) (W : ℕ → Word) → slice_get ops o ≡ Some op
+      → slice_get op.reads e.0 ≡ Some q → Half o u s W → ws o ≡ u ++ e ∷ es
       → slice_get (s.hist q) (s.taken q) ≡ Some e.1
   next_is o op u es e q s W g r k is =
       let front = a.fronts o op g e.0 q r in
@@ -119,7 +124,8 @@ module _ (p : PlanForm) (inputs : List (List item.Item)) (v : IsPlan p) (ws : �
       let xs = at_port e.0 u in
       let tail = at_port e.0 es in
       let split : s.hist q ≡ xs ++ e.1 ∷ (tail ++ front.0) =
-      all ∙ sym front.1 ∙ ap (λ w. at_port e.0 w ++ front.0) is ∙ ap (λ l. l ++ front.0) (at_port-append e.0 u (e ∷ es) ∙ ap (λ l. xs ++ l) (at_port_here e.0 e es refl))
+      all ∙ sym front.1 ∙ ap (λ w. at_port e.0 w ++ front.0) is
+      ∙ ap (λ l. l ++ front.0) (at_port-append e.0 u (e ∷ es) ∙ ap (λ l. xs ++ l) (at_port_here e.0 e es refl))
       ∙ append_assoc xs (e.1 ∷ tail) front.0 in
       let long : length xs ≡ s.taken q =
       (let b = ap length (ap (at_port e.0) (sym k.at) ∙ old.0) in let c = length-take (s.taken q) (s.hist q) in let d = old.1 in omega (arith, b, c, d)) in
@@ -159,14 +165,20 @@ module _ (p : PlanForm) (inputs : List (List item.Item)) (v : IsPlan p) (ws : �
         at = one.3.after (suc o) (omega arith);
         after = λ i lt. one.3.after i (omega (arith, lt));
       } in
-      let more = all rest (suc o) one.0 one.1 (λ i. let y : o + suc i ≡ suc o + i = omega arith in subst (λ n. slice_get rest i ≡ slice_get ops n) y (g (suc i))) k1 in (
+      let more = all rest (suc o) one.0 one.1 (λ i. let y : o + suc i ≡ suc o + i = omega arith in
+      subst (λ n. slice_get rest i ≡ slice_get ops n) y (g (suc i))) k1 in (
         more.0, more.1, run_append p (events o (ws o)) (named_from (suc o) rest ws) s one.0 more.0 one.2 more.2, more.3, λ i lt. more.4 i (omega (arith, lt)),
       )
 
   -- the machine after the named run, as what is known of it
   pub reached : (s : Machine) × Run p (start p inputs) (named p ws) s × Traced tables ops first s ws
   reached =
-      let k : Half 0 [] (start p inputs) (λ o. []) = record { traced = traced_start p first v empty; before = λ i lt. absurd (omega (arith, lt)); at = refl; after = λ i lt. refl } in
+      let k : Half 0 [] (start p inputs) (λ o. []) = record {
+        traced = traced_start p first v empty;
+        before = λ i lt. absurd (omega (arith, lt));
+        at = refl;
+        after = λ i lt. refl;
+      } in
       let l = all ops 0 (start p inputs) (λ o. []) (λ i. let z : i ≡ 0 + i = omega arith in ap (slice_get ops) z) k in
       let t = l.3 in
       let same : (o : ℕ) (op : OpForm) → slice_get ops o ≡ Some op → l.1 o ≡ ws o = (λ o op g. l.4 o (let b = got_below ops o op g in omega (arith, b))) in (
@@ -178,9 +190,11 @@ module _ (p : PlanForm) (inputs : List (List item.Item)) (v : IsPlan p) (ws : �
           unwritten = t.unwritten;
           below = a.below;
           taken = λ o op g port q r. let old = t.taken o op g port q r in (ap (at_port port) (sym (same o op g)) ∙ old.0, old.1);
-          rows = λ u test. t.rows u test ∙ numbered_same (λ i op. count_by test (joined (tables_of tables op) (ran op (l.1 i)).adds u)) (λ i op. count_by test (joined (tables_of tables op) (ran op (ws i)).adds u)) ops 0
+          rows = λ u test. t.rows u test ∙ numbered_same (λ i op. count_by test (joined (tables_of tables op) (ran op (l.1 i)).adds u))
+              (λ i op. count_by test (joined (tables_of tables op) (ran op (ws i)).adds u)) ops 0
               (λ i op g. let y : i ≡ 0 + i = omega arith in
-              subst (λ n. count_by test (joined (tables_of tables op) (ran op (l.1 n)).adds u) ≡ count_by test (joined (tables_of tables op) (ran op (ws n)).adds u)) y
+              subst (λ n. count_by test (joined (tables_of tables op) (ran op (l.1 n)).adds u) ≡ count_by test (joined (tables_of tables op)
+              (ran op (ws n)).adds u)) y
               (ap (λ w. count_by test (joined (tables_of tables op) (ran op w).adds u)) (same i op g)));
         },
       )
@@ -194,9 +208,11 @@ named_law p inputs ws v a =
       record {
         run = r.1;
         hist = only_words p inputs ws s.hist v t.written_by t.unwritten;
-        taken = λ o op g port q is. let old = t.taken o op g port q is in let b = ap length old.0 in let c = length-take (s.taken q) (s.hist q) in let d = old.1 in omega (arith, b, c, d);
+        taken = λ o op g port q is. let old = t.taken o op g port q is in let b = ap length old.0 in let c = length-take (s.taken q) (s.hist q) in
+            let d = old.1 in omega (arith, b, c, d);
         kept = t.kept;
         rows = λ u test. t.rows u test ∙ sym (added_numbered (table_names p.tables) p.ops 0 ws u test);
-        times_of = λ o op g. let z : 0 + o ≡ o = omega arith in subst (λ n. times n (named p ws) ≡ length (ws n)) z (times_named p.ops 0 o ws (got_below p.ops o op g));
+        times_of = λ o op g. let z : 0 + o ≡ o = omega arith in
+            subst (λ n. times n (named p ws) ≡ length (ws n)) z (times_named p.ops 0 o ws (got_below p.ops o op g));
       },
     )

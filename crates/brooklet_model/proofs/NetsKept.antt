@@ -1,5 +1,6 @@
 -- What a net keeps stays through each move.
-use Rattle.std.proofs.Common.{◌≡◌, ◌≢◌, ◌⊎◌, inl, inr, false, ℕ, suc, ◌<◌, ◌≤◌, Some, List, [], ◌∷◌, ◌++◌, length, drop, refl, sym, ap, ◌∙◌, subst, arith, ⊎_elim, append_assoc, length-append}
+use Rattle.std.proofs.Common.{◌≡◌, ◌≢◌, inl, inr, false, ℕ, suc, ◌<◌, ◌≤◌, Some, List, [], ◌∷◌, ◌++◌, length, drop, refl, sym, ap, ◌∙◌, subst, arith}
+use Rattle.std.proofs.Common.{⊎_elim, append_assoc, length-append}
 use Rattle.std.specs.Prelude.{slice_get, count_by}
 use Rattle.std.proofs.lemmas.Bool.{cases_eq}
 use Rattle.std.proofs.lemmas.List.{append-nil, take-append-drop, length-take}
@@ -32,7 +33,8 @@ use Rattle.brooklet_model.proofs.Received.{got_mid, only_words, by_words, writer
 use Rattle.brooklet_model.proofs.NamedRun.{reached, named_law, added_numbered}
 
 -- what is known of a machine after its firings, as words
-pub traced_words : (p : PlanForm) (inputs : List (List item.Item)) (s : Machine) (ws : ℕ → Word) → IsPlan p → Traced (table_names p.tables) p.ops (given_to p inputs) s ws
+pub traced_words : (p : PlanForm) (inputs : List (List item.Item)) (s : Machine) (ws : ℕ → Word) → IsPlan p
+    → Traced (table_names p.tables) p.ops (given_to p inputs) s ws
     → AreWords p inputs ws × ((q : Name) → s.hist q ≡ hist_by p inputs ws q)
 traced_words p inputs s ws v t =
     let same = only_words p inputs ws s.hist v t.written_by t.unwritten in (
@@ -40,7 +42,8 @@ traced_words p inputs s ws v t =
         below = t.below;
         fronts = λ o op g port q is.
             let old = (t.taken o op g port q is).0 in
-            subst (IsFront (at_port port (ws o))) (same q) (drop (s.taken q) (s.hist q), ap (λ l. l ++ drop (s.taken q) (s.hist q)) old ∙ take-append-drop (s.taken q) (s.hist q));
+            subst (IsFront (at_port port (ws o))) (same q)
+            (drop (s.taken q) (s.hist q), ap (λ l. l ++ drop (s.taken q) (s.hist q)) old ∙ take-append-drop (s.taken q) (s.hist q));
       },
       same,
     )
@@ -93,14 +96,16 @@ module _ (p : PlanForm) (inputs : List (List item.Item)) (caps : Capacities) (v 
         within = subst (IsWithin p caps) m.after (sends_keep p caps b b' o port m n.within);
       })
 
-  net_takes : (ws : ℕ → Word) (b b' : Bounded) (o port : ℕ) → (m : Take p b o port b') → IsNet p inputs caps ws b → IsNet p inputs caps (and_took o port m.item ws) b'
+  net_takes : (ws : ℕ → Word) (b b' : Bounded) (o port : ℕ) → (m : Take p b o port b') → IsNet p inputs caps ws b
+      → IsNet p inputs caps (and_took o port m.item ws) b'
   net_takes ws b b' o port m n =
       subst (IsNet p inputs caps ws') (sym m.after) (record {
         words = w.0;
         histories = hist_is;
         taken = taken_is;
         unread = λ n' z. ⊎_elim
-            (λ c. absurd (let l = got_count m.op.reads port q m.queue_is in let a = at_most (reads_it q) p.ops o m.op m.op_is in let y = ap (λ x. total (reads_it x) p.ops) c.0 in omega (arith, l, a, y, z)))
+            (λ c. absurd (let l = got_count m.op.reads port q m.queue_is in let a = at_most (reads_it q) p.ops o m.op m.op_is in
+            let y = ap (λ x. total (reads_it x) p.ops) c.0 in omega (arith, l, a, y, z)))
             (λ c. if_false (name_eq q n') (b.taken q ++ m.item ∷ []) (b.taken n') c.1 ∙ n.unread n' z)
             (cases_name q n');
         unwritten = λ x z.
@@ -108,8 +113,10 @@ module _ (p : PlanForm) (inputs : List (List item.Item)) (caps : Capacities) (v 
             ∙ joined_out m.op.writes r.outs x (let a = at_most (writes_it x) p.ops o m.op m.op_is in omega (arith, a, z));
         kept = λ o' op' g'. ⊎_elim
             (λ e. at_same p.ops (λ i j. at_key o r.states b.kept i ≡ (ran j (ws' i)).states) o o' m.op op' m.op_is g' e
-            (at_key_same o r.states b.kept ∙ sym (at_key_same o (fire m.op.kernel port m.item (s.kept o)).states s.kept ∙ ap (λ us. (fire m.op.kernel port m.item us).states) kept_is) ∙ t1.kept o m.op m.op_is))
-            (λ ne. at_key_other o r.states b.kept o' ne ∙ n.kept o' op' g' ∙ sym (ap (λ u. (ran op' u).states) (at_key_other o (ws o ++ (port, m.item) ∷ []) ws o' ne)))
+            (at_key_same o r.states b.kept ∙ sym (at_key_same o (fire m.op.kernel port m.item (s.kept o)).states s.kept
+            ∙ ap (λ us. (fire m.op.kernel port m.item us).states) kept_is) ∙ t1.kept o m.op m.op_is))
+            (λ ne. at_key_other o r.states b.kept o' ne ∙ n.kept o' op' g'
+            ∙ sym (ap (λ u. (ran op' u).states) (at_key_other o (ws o ++ (port, m.item) ∷ []) ws o' ne)))
             (cases_eq o o');
         rows = λ u test.
             let a = t1.rows u test in
@@ -153,8 +160,10 @@ module _ (p : PlanForm) (inputs : List (List item.Item)) (caps : Capacities) (v 
       got =
           let old = t.taken o m.op m.op_is port q m.queue_is in
           let long : length (b.taken q) ≡ s.taken q =
-          (let x = ap length (n.taken o m.op m.op_is port q m.queue_is) in let y = ap length old.0 in let c = length-take (s.taken q) (s.hist q) in let d = old.1 in omega (arith, x, y, c, d)) in
-          ap (λ l. slice_get l (s.taken q)) (same q ∙ sym (n.histories q) ∙ ap (λ l. (b.taken q ++ l) ++ b.pending q) m.item_is ∙ append_assoc (b.taken q) (m.item ∷ m.rest) (b.pending q))
+          (let x = ap length (n.taken o m.op m.op_is port q m.queue_is) in let y = ap length old.0 in let c = length-take (s.taken q) (s.hist q) in
+          let d = old.1 in omega (arith, x, y, c, d)) in
+          ap (λ l. slice_get l (s.taken q)) (same q ∙ sym (n.histories q) ∙ ap (λ l. (b.taken q ++ l) ++ b.pending q) m.item_is
+          ∙ append_assoc (b.taken q) (m.item ∷ m.rest) (b.pending q))
           ∙ got_mid (b.taken q) (m.rest ++ b.pending q) m.item (s.taken q) long
 
       s1 : Machine
@@ -177,9 +186,11 @@ module _ (p : PlanForm) (inputs : List (List item.Item)) (caps : Capacities) (v 
       here : b.taken q ++ m.item ∷ [] ≡ at_port port (ws' o)
       here =
           ap (λ l. l ++ m.item ∷ []) (n.taken o m.op m.op_is port q m.queue_is)
-          ∙ sym (ap (at_port port) (at_key_same o (ws o ++ (port, m.item) ∷ []) ws) ∙ at_port-append port (ws o) ((port, m.item) ∷ []) ∙ ap (λ l. at_port port (ws o) ++ l) (at_port_here port (port, m.item) [] refl))
+          ∙ sym (ap (at_port port) (at_key_same o (ws o ++ (port, m.item) ∷ []) ws) ∙ at_port-append port (ws o) ((port, m.item) ∷ [])
+          ∙ ap (λ l. at_port port (ws o) ++ l) (at_port_here port (port, m.item) [] refl))
 
-      taken_is : (o' : ℕ) (op' : OpForm) → slice_get p.ops o' ≡ Some op' → (port' : ℕ) (x : Name) → slice_get op'.reads port' ≡ Some x → at_name q (b.taken q ++ m.item ∷ []) b.taken x ≡ at_port port' (ws' o')
+      taken_is : (o' : ℕ) (op' : OpForm) → slice_get p.ops o' ≡ Some op' → (port' : ℕ) (x : Name) → slice_get op'.reads port' ≡ Some x
+          → at_name q (b.taken q ++ m.item ∷ []) b.taken x ≡ at_port port' (ws' o')
       taken_is o' op' g' port' x is = ⊎_elim
           (λ c.
           let lt : 0 < count q m.op.reads = got_count m.op.reads port q m.queue_is in
@@ -188,7 +199,9 @@ module _ (p : PlanForm) (inputs : List (List item.Item)) (caps : Capacities) (v 
           let eo = one_place (reads_it q) p.ops o o' m.op op' (let u = v.read_once q in omega (arith, u)) m.op_is g' lt lt' in
           if_true (name_eq q x) (b.taken q ++ m.item ∷ []) (b.taken x) c.1
           ∙ at_same p.ops (λ i j. slice_get j.reads port' ≡ Some q → b.taken q ++ m.item ∷ [] ≡ at_port port' (ws' i)) o o' m.op op' m.op_is g' eo
-          (λ h. subst (λ k. b.taken q ++ m.item ∷ [] ≡ at_port k (ws' o)) (place_once m.op.reads port port' q (let a = at_most (reads_it q) p.ops o m.op m.op_is in let u = v.read_once q in omega (arith, a, u)) m.queue_is h) here) is2)
+          (λ h. subst (λ k. b.taken q ++ m.item ∷ [] ≡ at_port k (ws' o))
+          (place_once m.op.reads port port' q (let a = at_most (reads_it q) p.ops o m.op m.op_is in let u = v.read_once q in
+          omega (arith, a, u)) m.queue_is h) here) is2)
           (λ c.
           if_false (name_eq q x) (b.taken q ++ m.item ∷ []) (b.taken x) c.1 ∙ n.taken o' op' g' port' x is
           ∙ sym (⊎_elim
@@ -196,7 +209,8 @@ module _ (p : PlanForm) (inputs : List (List item.Item)) (caps : Capacities) (v 
           at_same p.ops (λ i j. slice_get j.reads port' ≡ Some x → at_port port' (ws' i) ≡ at_port port' (ws i)) o o' m.op op' m.op_is g' e
           (λ h.
           let np : port ≢ port' = λ ep. c.0 (some_is q x (sym m.queue_is ∙ ap (slice_get m.op.reads) ep ∙ h)) in
-          ap (at_port port') (at_key_same o (ws o ++ (port, m.item) ∷ []) ws) ∙ at_port-append port' (ws o) ((port, m.item) ∷ []) ∙ ap (λ l. at_port port' (ws o) ++ l) (at_port_past port' (port, m.item) [] np) ∙ append-nil (at_port port' (ws o))) is)
+          ap (at_port port') (at_key_same o (ws o ++ (port, m.item) ∷ []) ws) ∙ at_port-append port' (ws o) ((port, m.item) ∷ [])
+          ∙ ap (λ l. at_port port' (ws o) ++ l) (at_port_past port' (port, m.item) [] np) ∙ append-nil (at_port port' (ws o))) is)
           (λ ne. ap (at_port port') (at_key_other o (ws o ++ (port, m.item) ∷ []) ws o' ne))
           (cases_eq o o')))
           (cases_name q x)
@@ -222,8 +236,10 @@ module _ (p : PlanForm) (inputs : List (List item.Item)) (caps : Capacities) (v 
       let i = sent_most qs (λ j. f (suc j)) b l.1 in
       omega (arith, e, a, i)
 
-  net_sent : (ws : ℕ → Word) (b : Bounded) (o : ℕ) (op : OpForm) → IsNet p inputs caps ws b → slice_get p.ops o ≡ Some op → sent_in b op.writes ≤ lengths_at op.writes (ran op (ws o)).outs
-  net_sent ws b o op n g = sent_most op.writes (ran op (ws o)).outs b (subst (λ (h : History). Lists op.writes (ran op (ws o)).outs h) (funext (hist_by p inputs ws) (history b) (λ q. sym (n.histories q))) (by_words p inputs ws v o op g))
+  net_sent : (ws : ℕ → Word) (b : Bounded) (o : ℕ) (op : OpForm) → IsNet p inputs caps ws b → slice_get p.ops o ≡ Some op
+      → sent_in b op.writes ≤ lengths_at op.writes (ran op (ws o)).outs
+  net_sent ws b o op n g = sent_most op.writes (ran op (ws o)).outs b (subst (λ (h : History). Lists op.writes (ran op (ws o)).outs h)
+      (funext (hist_by p inputs ws) (history b) (λ q. sym (n.histories q))) (by_words p inputs ws v o op g))
 
   -- where nobody is busy, what was taken of a queue that is read is its whole history
   net_ends : (ws : ℕ → Word) (b : Bounded) → IsNet p inputs caps ws b
@@ -242,4 +258,11 @@ module _ (p : PlanForm) (inputs : List (List item.Item)) (caps : Capacities) (v 
       nothing_pending = ⊎_elim (λ lt. written (writer_of p.ops q lt)) (λ z. n.unwritten q z) (more_or_zero (total (writes_it q) p.ops))
 
 pub nets_law : NetsAreKept
-nets_law p inputs caps v = record { first = net_first p inputs caps v; sends = net_sends p inputs caps v; takes = net_takes p inputs caps v; leads = net_leads p inputs caps v; sent = net_sent p inputs caps v; ends = net_ends p inputs caps v }
+nets_law p inputs caps v = record {
+  first = net_first p inputs caps v;
+  sends = net_sends p inputs caps v;
+  takes = net_takes p inputs caps v;
+  leads = net_leads p inputs caps v;
+  sent = net_sent p inputs caps v;
+  ends = net_ends p inputs caps v;
+}

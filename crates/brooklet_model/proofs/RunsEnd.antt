@@ -6,7 +6,6 @@ use Rattle.river_plan.specs.Kinds.{IsFit}
 use Rattle.river_plan.specs.Names.{count}
 use Rattle.brooklet_model.specs.Fire.{fire, ins, first_kept}
 use Rattle.brooklet_model.specs.Histories.{lists_of, hist}
-use Rattle.brooklet_model.specs.Laws.{given_to}
 use Rattle.brooklet_model.specs.Machine.{IsComplete}
 use Rattle.brooklet_model.specs.Words.{Word, run, at_port, PortsBelow, port_by_port, word_of}
 use Rattle.brooklet_model.proofs.Complete.{runs_law, nothing_given}

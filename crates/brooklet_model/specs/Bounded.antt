@@ -1,6 +1,6 @@
 -- Bounded states: each operator has what it gave and did not send yet, and a queue with a writer and a reader holds at most
 -- its capacity. Their moves: sends and takes.
-use Rattle.std.specs.Prelude.{◌≡◌, ℕ, zero, suc, ℤ, ◌+◌, ◌<◌, ◌≤◌, ◌⊎◌, List, [], ◌∷◌, ◌++◌, Some, slice_get, length}
+use Rattle.std.specs.Prelude.{◌≡◌, ℕ, zero, suc, ℤ, ◌<◌, ◌≤◌, ◌⊎◌, List, [], ◌∷◌, ◌++◌, Some, slice_get, length}
 use Rattle.river_base.specs.declared.item.Item as item
 use Rattle.river_plan.specs.Forms.{Name, OpForm, PlanForm, table_names}
 use Rattle.river_plan.specs.Names.{count}

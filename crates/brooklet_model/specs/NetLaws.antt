@@ -4,7 +4,7 @@ use Rattle.river_base.specs.declared.item.Item as item
 use Rattle.river_base.specs.Bags.{SameBag}
 use Rattle.river_plan.specs.Forms.{Name, OpForm, PlanForm, table_names, queue_names}
 use Rattle.river_plan.specs.Valid.{IsPlan}
-use Rattle.brooklet_model.specs.Bounded.{Bounded, Capacities, at_first, machine_of, Send, Take, Moves, IsWithin, IsBusy, LastMoves, Rounds, MoveOrEnd}
+use Rattle.brooklet_model.specs.Bounded.{Bounded, Capacities, at_first, machine_of, Send, Take, IsWithin, IsBusy, LastMoves, Rounds, MoveOrEnd}
 use Rattle.brooklet_model.specs.Histories.{hist, all_adds, given, lengths}
 use Rattle.brooklet_model.specs.Machine.{Machine, Run, Step, start}
 use Rattle.brooklet_model.specs.Nets.{IsNet, Leads, and_took, sent_in}
