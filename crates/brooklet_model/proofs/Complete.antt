@@ -58,6 +58,13 @@ lists_none (w ∷ ws) h e = (e w (count_here w ws), lists_none ws h (λ q lt. e 
 abbrev pub started : PlanForm → History → Machine
 started p h = record { hist = h; taken = λ q. 0; kept = λ o. first_of (slice_get p.ops o); rows = λ t. [] }
 
+-- an operator of a valid plan reads as many queues as its kernel has ports
+pub reads_are : (p : PlanForm) → IsPlan p → (o : ℕ) (op : OpForm) → slice_get p.ops o ≡ Some op → length op.reads ≡ ins op.kernel
+reads_are p v o op g =
+    let fit : IsFit p op = each_at (IsFit p) p.ops o op v.fits g in
+    let c = counts op.kernel _ _ _ fit in
+    sym (length-map op.reads (kind_of (all_decls p))) ∙ c.ins
+
 module _ (pl : PlanForm) (inputs : History) (v : IsPlan pl) (empty : (q : Name) → count q (decl_names pl.inputs) ≡ 0 → inputs q ≡ []) where
   abbrev ops : List OpForm
   ops = pl.ops
@@ -218,12 +225,6 @@ module _ (pl : PlanForm) (inputs : History) (v : IsPlan pl) (empty : (q : Name) 
       (rest.0, rest.1, λ o. let a = rest.2 o in let b = one_more e.0 o (e.1, st.item) ws in omega (arith, a, b))
 
   -- in a complete state the firings of an operator are an interleaving of its inputs
-  reads_are : (o : ℕ) (op : OpForm) → slice_get ops o ≡ Some op → length op.reads ≡ ins op.kernel
-  reads_are o op g =
-      let fit : IsFit pl op = each_at (IsFit pl) ops o op v.fits g in
-      let c = counts op.kernel _ _ _ fit in
-      sym (length-map op.reads (kind_of (all_decls pl))) ∙ c.ins
-
   came : (s : Machine) (ws : ℕ → Word) (o : ℕ) (op : OpForm) → Traced tables ops inputs s ws → IsComplete pl s → slice_get ops o ≡ Some op → (p : ℕ) (q : Name)
       → slice_get op.reads p ≡ Some q → at_port p (ws o) ≡ s.hist q
   came s ws o op t done g p q is = (t.taken o op g p q is).0 ∙ ap (λ n. take n (s.hist q)) (done o p op q g is) ∙ take-length (s.hist q)
@@ -232,7 +233,7 @@ module _ (pl : PlanForm) (inputs : History) (v : IsPlan pl) (empty : (q : Name) 
       → Alike (ran op (ws o)) (given op s.hist)
   operator_is s ws o op t done g =
       let fit : IsFit pl op = each_at (IsFit pl) ops o op v.fits g in
-      let e = reads_are o op g in
+      let e = reads_are pl v o op g in
       let f = shaped op.kernel _ _ _ fit in
       order_is_free op.kernel (lists_of s.hist op.reads) (ws o) (first_kept op.kernel) f (first_shape op.kernel f)
       (record {

@@ -115,7 +115,8 @@ at_port-in_order_below (suc n) q h p lt =
     ∙ ap (λ t. t ++ at_port p (port_by_port n (suc q) h)) (at_port-word_other p q (h q) (omega arith))
     ∙ at_port-in_order_below n (suc q) h p (omega arith)
 
-at_port-port_by_port : (n q : ℕ) (h : ℕ → List item.Item) (p : ℕ) → q ≤ p → p < q + n → at_port p (port_by_port n q h) ≡ h p
+-- a word that feeds n ports one after another, from port q on, has at each of them its list
+pub at_port-port_by_port : (n q : ℕ) (h : ℕ → List item.Item) (p : ℕ) → q ≤ p → p < q + n → at_port p (port_by_port n q h) ≡ h p
 at_port-port_by_port zero q h p le lt = absurd (omega arith)
 at_port-port_by_port (suc n) q h p le lt =
     at_port-append p (word_of q (h q)) (port_by_port n (suc q) h)

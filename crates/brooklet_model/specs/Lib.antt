@@ -1,3 +1,4 @@
+pub mod Bounded
 pub mod ByIndex
 pub mod Fire
 pub mod Firings
@@ -6,6 +7,9 @@ pub mod Histories
 pub mod Laws
 pub mod Machine
 pub mod Meaning
+pub mod NetLaws
+pub mod Nets
+pub mod Received
 pub mod Shapes
 pub mod Traced
 pub mod Typed

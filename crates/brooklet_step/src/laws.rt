@@ -1,5 +1,7 @@
-//! Laws of firings: each is the definition's from whatever states, they chain, and their order is free.
+//! Laws of firings: each is the definition's from whatever states, they chain, and their order is free. And laws of bounded moves, by
+//! which operators send to queues of any capacities and take from them.
 ghost use Rattle.brooklet_model.specs.Laws.{FusedRuns, OrderIsFree, HistoriesSolve, OneSolution, RunsAgree, HistoriesAreTyped};
+ghost use Rattle.brooklet_model.specs.NetLaws.{NamedRuns, RunsAreFronts, WordsAreFronts, MovesAreFew, RoundsAreFew, DoneIsWhole, SomeMove, MovesAreSteps, NetsAreKept};
 ghost use Rattle.brooklet_step.specs.Laws.{FiringsChain, FitStatesStand, FiringsStep, EnabledIsItem, HeldIsTyped};
 ghost use Rattle.brooklet_step.specs.Worked.{SlotsAreGiven};
 
@@ -63,4 +65,52 @@ pub fn enabled_is_item()
 /// What `item_fits` answers is whether the item has the type.
 pub fn held_is_typed()
     ensures { HeldIsTyped }
+{}
+
+/// Where what each operator received is the front of what was given there, the run that fires operator by operator, each at the ports at
+/// which it took, is a run; it reaches the histories and states that the operators have.
+pub fn named_runs()
+    ensures { NamedRuns }
+{}
+
+/// The histories of a run that stopped early are fronts of the defined ones.
+pub fn runs_are_fronts()
+    ensures { RunsAreFronts }
+{}
+
+/// So are the histories of what operators received.
+pub fn words_are_fronts()
+    ensures { WordsAreFronts }
+{}
+
+/// There are at most twice as many moves, takes and sends, as items in the defined histories.
+pub fn moves_are_few()
+    ensures { MovesAreFew }
+{}
+
+/// Where each round of moves moves something or is the last, there are at most one more rounds than twice the items in the defined
+/// histories, whatever the capacities.
+pub fn rounds_are_few()
+    ensures { RoundsAreFew }
+{}
+
+/// Where each operator received all that was given, histories, rows of tables and firings are as defined.
+pub fn done_is_whole()
+    ensures { DoneIsWhole }
+{}
+
+/// While an operator has a pending or an untaken item, some move is there, for all capacities from 1: one of the last such operator.
+pub fn some_move()
+    ensures { SomeMove }
+{}
+
+/// Bounded moves are moves of the machine: a send is none, a take is a firing; and they keep the capacities.
+pub fn moves_are_steps()
+    ensures { MovesAreSteps }
+{}
+
+/// What a net keeps holds at the beginning and stays through each move; the named run leads to its state, and where no operator has a
+/// pending or an untaken item, each received all.
+pub fn nets_are_kept()
+    ensures { NetsAreKept }
 {}
