@@ -1,19 +1,18 @@
 -- What the calls of the table ask of a place, and where they leave it.
-use Rattle.std.proofs.Common.{◌≡◌, ◌≢◌, ℕ, zero, suc, ◌+◌, ◌<◌, ◌⊎◌, Bool, List, [], ◌∷◌, ◌++◌, length, drop, sym, refl, ap, ◌∙◌, subst, inl, inr, ⊎_elim, arith, eqb, Option, Some, None, unwrap_or}
-use mathlib.Core.Option.{none, some}
+use Rattle.std.proofs.Common.{◌≡◌, ◌≢◌, ℕ, suc, ◌+◌, ◌<◌, List, [], ◌∷◌, ◌++◌, length, drop, sym, refl, ap, ◌∙◌, subst, ⊎_elim, arith, eqb, Option, Some, None, unwrap_or}
+use mathlib.Core.Option.{none}
 use prog.Atomic.{either}
-use Rattle.atomic_table.specs.Table.{Me, rest, step, Allows, Joins}
+use Rattle.atomic_table.specs.Table.{rest, step, Allows, Joins}
 use Rattle.atomic_table.specs.Seated.{TableId}
 use Rattle.atomic_table.specs.declared.shared.Seat.{Seat}
-use Rattle.class_locks.specs.declared.log.LogEntry.{LogEntry}
 use Rattle.class_locks.specs.declared.view.View.{View}
 use Rattle.class_locks.specs.declared.view.About.{About}
 use Rattle.class_locks.specs.declared.view.Held.{Held}
 use Rattle.class_locks.specs.Logs.{Holding}
-use Rattle.class_locks.specs.Views.{Has, Took, find_held, without, Belong, taking, tried, parked, fetched, with_class, after_put, both, spent, claims_of, log_length}
-use Rattle.class_locks.specs.Rule.{Locks, Mine, IsKept, IsLogged, IsAlone, took, took_by, parks, fetches, fetches_by, frees, beyond}
+use Rattle.class_locks.specs.Views.{Has, Took, find_held, without, Belong, taking, tried, fetched, after_put, both, spent, claims_of, log_length}
+use Rattle.class_locks.specs.Rule.{Locks, Mine, IsKept, IsLogged, took, took_by, parks, fetches, frees, beyond}
 use Rattle.class_locks.specs.Seats.{IsSeated, MayPut}
-use Rattle.class_locks.proofs.Lists.{took_without, find_took, has_left}
+use Rattle.class_locks.proofs.Lists.{find_took, has_left}
 use Rattle.class_locks.proofs.Takes.{takes_ok, parks_ok, fetches_ok, frees_ok}
 use Rattle.class_locks.proofs.Arrivals.{joins_ok}
 

@@ -1,5 +1,5 @@
 -- Each step keeps the rule: what is shared.
-use Rattle.std.proofs.Common.{◌≡◌, ◌≢◌, ℕ, zero, suc, ◌+◌, ◌<◌, ◌⊎◌, Bool, true, false, List, [], ◌∷◌, ◌++◌, length, get_or, set, sym, refl, ap, ◌∙◌, subst, inl, inr, ⊎_elim, length-append, append_assoc, append-nil, arith, Option, Some, None}
+use Rattle.std.proofs.Common.{◌≡◌, ◌≢◌, ℕ, suc, ◌<◌, ◌⊎◌, Bool, true, false, List, [], ◌∷◌, ◌++◌, length, set, sym, refl, ap, ◌∙◌, subst, inr, ⊎_elim, append_assoc, append-nil, arith, Option, Some}
 use Rattle.std.proofs.lemmas.List.{get_or-set_same, get_or-set_other, length-set}
 use mathlib.Core.Option.{none, some, some-injective, some-ne-none}
 use mathlib.Core.Option as maybe
@@ -13,10 +13,10 @@ use Rattle.class_locks.specs.declared.view.Held.{Held}
 use Rattle.class_locks.specs.declared.view.Claim.{Claim}
 use Rattle.class_locks.specs.declared.view.Tried.{Tried}
 use Rattle.class_locks.specs.Logs.{Holding, part}
-use Rattle.class_locks.specs.Views.{Has, Took, own, Belong, entries_of, claims_of}
-use Rattle.class_locks.specs.Rule.{Locks, word_of, Grip, lies, Logged, ClassOk, Holds, SeatOk, IsOpen, IsShut, IsKept, IsLogged}
+use Rattle.class_locks.specs.Views.{Has, own, Belong, entries_of, claims_of}
+use Rattle.class_locks.specs.Rule.{Locks, word_of, Grip, lies, Logged, ClassOk, SeatOk, IsOpen, IsShut, IsKept, IsLogged}
 use Rattle.class_locks.proofs.Lists.{at_within, at_end, at_one, put, put_here, put_else}
-use Rattle.class_locks.proofs.Owns.{part-append, own-append, own_same, own_other, part_none}
+use Rattle.class_locks.proofs.Owns.{part-append, own-append, own_same, part_none}
 
 module _ (n : ℕ) (starts : List Holding) where
   -- LOGS

@@ -1,8 +1,7 @@
 -- Several classes that a seat holds: what a put and a take make of them.
-use Rattle.std.proofs.Common.{◌≡◌, ◌≢◌, ℕ, suc, ◌+◌, ◌<◌, ◌≤◌, ◌==◌, All, Bool, true, false, cond, not, Some, List, [], ◌∷◌, ◌++◌, length, drop, map, reverse, sym, refl, ap, ◌∙◌, subst, append_assoc, eq-eqb, ne_eqb, inl, inr, arith}
+use Rattle.std.proofs.Common.{◌≡◌, ℕ, ◌<◌, ◌≤◌, Bool, cond, not, Some, List, [], ◌∷◌, ◌++◌, length, drop, reverse, sym, refl, ap, ◌∙◌, subst, append_assoc, eq-eqb, ne_eqb, inl, inr, arith}
 use Rattle.std.proofs.lemmas.List.{reverse-append, append-nil, map-append, drop_all}
 use Rattle.std.proofs.lemmas.List.Elements.{All-nil, All-cons, All-append}
-use mathlib.Core.Option.{some}
 use lib.ListN.{get_elem?}
 use Rattle.class_locks.specs.declared.log.LogEntry.{LogEntry}
 use Rattle.class_locks.specs.declared.view.View.{View}
@@ -11,9 +10,9 @@ use Rattle.class_locks.specs.declared.view.Claim.{Claim}
 use Rattle.class_locks.specs.Logs.{Holding}
 use Rattle.class_locks.specs.Logs.{part}
 use Rattle.class_locks.specs.Rule.{IsLogged}
-use Rattle.class_locks.specs.Views.{Has, own, Took, Belong, find_held, without, claims_of, log_length, with_class, tried, after_put}
+use Rattle.class_locks.specs.Views.{Has, own, Took, find_held, without, claims_of, log_length, with_class, tried, after_put}
 use Rattle.class_locks.specs.Seats.{MayPut, IsAbove}
-use Rattle.class_locks.specs.Piles.{Piled, HasGained, AllBelow, Matches, IsPile, gained, HasLooked, HasTaken, HasPut}
+use Rattle.class_locks.specs.Piles.{Piled, AllBelow, Matches, IsPile, gained, HasLooked, HasTaken, HasPut}
 use Rattle.class_locks.proofs.Lists.{at_one}
 
 -- CLASSES THAT DESCEND

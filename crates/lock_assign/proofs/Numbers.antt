@@ -1,5 +1,5 @@
 -- The numbers that lists get as they come are their classes.
-use Rattle.std.proofs.Common.{◌≡◌, ℕ, ℤ, pos, List, [], ◌∷◌, ◌++◌, fold, length, refl, sym, ap, ◌∙◌, subst, append_assoc}
+use Rattle.std.proofs.Common.{◌≡◌, ℤ, pos, List, [], ◌∷◌, ◌++◌, fold, sym, subst, append_assoc}
 use Rattle.std.proofs.lemmas.List.{append-nil}
 use Rattle.lock_assign.specs.Classes.{AreClasses}
 use Rattle.lock_assign.specs.Sets.{place_in, with_list}

@@ -1,5 +1,5 @@
 -- Which operators use each table of a plan.
-use Rattle.std.specs.Prelude.{ℕ, suc, ℤ, pos, ◌<◌, nat_lt, List, [], ◌∷◌, map, if◌then◌else◌}
+use Rattle.std.specs.Prelude.{ℕ, suc, ℤ, pos, nat_lt, List, [], ◌∷◌, map, if◌then◌else◌}
 use Rattle.river_plan.specs.Forms.{Name, OpForm, PlanForm}
 use Rattle.river_plan.specs.Uses.{vars_it}
 

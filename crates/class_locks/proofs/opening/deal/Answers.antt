@@ -1,8 +1,7 @@
-use Rattle.std.proofs.Common.{◌≡◌, ◌<◌, ◌∙◌, ◌+◌, suc, ℕ, List, [], ◌∷◌, refl, sym, ap, subst, inl, arith}
+use Rattle.std.proofs.Common.{◌<◌, ◌∙◌, ◌+◌, suc, [], ◌∷◌, refl, sym, ap, subst, inl, arith}
 use Rattle.class_locks.specs.declared.view.View.{View}
-use Rattle.class_locks.specs.Views.{Has, count_up, other_parts, first_part}
+use Rattle.class_locks.specs.Views.{count_up, other_parts, first_part}
 use Rattle.class_locks.specs.Rule.{Mine}
-use Rattle.class_locks.specs.Seats.{with_parts}
 use Rattle.class_locks.proofs.Lists.{counted}
 use Rattle.class_locks.proofs.Arrivals.{splits_ok}
 use Rattle.class_locks.proofs.Rounds.{two_parts, dealt, dealt_first, sits}

@@ -1,6 +1,5 @@
-use Rattle.std.proofs.Common.{◌≡◌, rules, refl, sym, ap, ◌∙◌, ◌++◌, ◌∷◌, [], subst, reverse}
+use Rattle.std.proofs.Common.{◌≡◌, rules, sym, ap, ◌∙◌, ◌++◌, ◌∷◌, [], subst, reverse}
 use Rattle.class_locks.specs.declared.view.View.{View}
-use Rattle.class_locks.specs.Views.{after_put}
 use Rattle.class_locks.specs.Piles.{IsPile, gained}
 use Rattle.class_locks.proofs.Piles.{puts, gained_turned}
 use Rattle.class_locks.proofs.pile.put_all.Goals as goal

@@ -1,11 +1,10 @@
-use Rattle.std.proofs.Common.{rules, ◌≡◌, ◌++◌, ℤ, List, length, map, sym, ap, ◌∙◌, subst, arith}
+use Rattle.std.proofs.Common.{◌≡◌, ◌++◌, ℤ, List, length, ap, ◌∙◌, subst, arith}
 use Rattle.std.specs.Prelude.{OnOk}
 use Rattle.river_plan.specs.Forms.{Name, PlanForm, table_names}
 use Rattle.lock_assign.proofs.Numbers.{are_numbers}
-use Rattle.lock_assign.specs.Classes.{AreClasses}
 use Rattle.lock_assign.specs.Numbered.{class_numbers}
 use Rattle.plan_classes.specs.Users.{table_users, having}
-use Rattle.plan_classes.specs.Lines.{class_lines, classes_text}
+use Rattle.plan_classes.specs.Lines.{class_lines}
 use Rattle.plan_classes.proofs.Named.{few_tables, map-length}
 use Rattle.plan_classes.proofs.lines.print_classes.Goals as goal
 

@@ -2,7 +2,6 @@ use Rattle.std.proofs.Common.{◌≡◌, ◌<◌, ◌+◌, ℕ, ℤ, suc, pos, L
 use Rattle.std.proofs.lemmas.List.{map-append}
 use Rattle.kern_tables.specs.declared.kind.TableKind.TheVariants.{Sum}
 use Rattle.river_plan.specs.Forms.{PlanForm}
-use Rattle.river_plan.specs.Places.{users_from, var_places}
 use Rattle.river_plan.specs.declared.plan.TableDecl.{TableDecl}
 use Rattle.plan_classes.specs.Users.{having}
 use Rattle.plan_classes.proofs.Named.{users_named, few_users}

@@ -1,4 +1,4 @@
-use Rattle.std.proofs.Common.{rules, ◌≡◌, ◌∙◌, sym, ap, subst, refl, List, [], ◌∷◌, ◌++◌, slice_get}
+use Rattle.std.proofs.Common.{◌∙◌, sym, ap, refl, List, [], ◌∷◌, ◌++◌, slice_get}
 use Rattle.class_locks.specs.declared.log.LogEntry.{LogEntry}
 use Rattle.class_locks.specs.Logs.{Holding}
 use Rattle.class_locks.proofs.Cells.{wide_rows, after_add}
