@@ -149,7 +149,10 @@ module _ (p : PlanForm) (inputs : List (List item.Item)) (v : IsPlan p) (ws : �
       } in
       let more = work o op es (u ++ e ∷ []) s1 W1 g k1 (is ∙ sym (append_assoc u (e ∷ []) es)) in
       let st : Step p s o e.0 s1 = record { op = op; queue = r.0; item = e.1; op_is = g; queue_is = r.1; item_is = got; after = refl } in (
-        more.0, more.1, (s1, st, more.2), more.3,
+        more.0,
+        more.1,
+        (s1, st, more.2),
+        more.3,
       )
 
   all : (rest : List OpForm) (o : ℕ) (s : Machine) (W : ℕ → Word) → ((i : ℕ) → slice_get rest i ≡ slice_get ops (o + i)) → Half o [] s W
@@ -167,7 +170,11 @@ module _ (p : PlanForm) (inputs : List (List item.Item)) (v : IsPlan p) (ws : �
       } in
       let more = all rest (suc o) one.0 one.1 (λ i. let y : o + suc i ≡ suc o + i = omega arith in
       subst (λ n. slice_get rest i ≡ slice_get ops n) y (g (suc i))) k1 in (
-        more.0, more.1, run_append p (events o (ws o)) (named_from (suc o) rest ws) s one.0 more.0 one.2 more.2, more.3, λ i lt. more.4 i (omega (arith, lt)),
+        more.0,
+        more.1,
+        run_append p (events o (ws o)) (named_from (suc o) rest ws) s one.0 more.0 one.2 more.2,
+        more.3,
+        λ i lt. more.4 i (omega (arith, lt)),
       )
 
   -- the machine after the named run, as what is known of it

@@ -1,7 +1,8 @@
 //! Laws of firings: each is the definition's from whatever states, they chain, and their order is free. And laws of bounded moves, by
 //! which operators send to queues of any capacities and take from them.
 ghost use Rattle.brooklet_model.specs.Laws.{FusedRuns, OrderIsFree, HistoriesSolve, OneSolution, RunsAgree, HistoriesAreTyped};
-ghost use Rattle.brooklet_model.specs.NetLaws.{NamedRuns, RunsAreFronts, WordsAreFronts, MovesAreFew, RoundsAreFew, DoneIsWhole, SomeMove, MovesAreSteps, NetsAreKept};
+ghost use Rattle.brooklet_model.specs.NetLaws.{NamedRuns, RunsAreFronts, WordsAreFronts, MovesAreFew, RoundsAreFew, DoneIsWhole};
+ghost use Rattle.brooklet_model.specs.NetLaws.{SomeMove, MovesAreSteps, NetsAreKept};
 ghost use Rattle.brooklet_step.specs.Laws.{FiringsChain, FitStatesStand, FiringsStep, EnabledIsItem, HeldIsTyped};
 ghost use Rattle.brooklet_step.specs.Worked.{SlotsAreGiven};
 
