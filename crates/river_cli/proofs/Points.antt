@@ -1,14 +1,15 @@
 -- The points of a command, and the calls that do them.
 use Rattle.std.proofs.Common.{◌≡◌, ℕ, ℤ, List, ◌++◌, Bool, false, refl, sym, ap, ◌∙◌, subst}
-use Rattle.std.specs.Prelude.{Option, Some, Result, Ok, Err, IfOk, pos, map}
+use Rattle.std.specs.Prelude.{Option, Some, None, Result, Ok, Err, IfOk, IsErrOf, pos, map}
 use Rattle.csv_streams.specs.Outcome.{outputs_text, tables_text, firings_text, asked, printed_outcome}
 use Rattle.river_base.specs.declared.item.Item as item
 use Rattle.river_base.specs.declared.memory.NoMemory.{NoMemory}
 use Rattle.river_outside.specs.Held.{Held}
-use Rattle.river_order.specs.Order.{Order, Fetch, Comes}
+use Rattle.river_order.specs.Order.{Order, Ends, Done, Fetch, Comes}
 use Rattle.river_order.specs.Decides.{Decides, Stops}
 use Rattle.river_order.specs.Passes.{past, Refuses, StandsFor, AnswersAs, Passes, PassesAs}
 use Rattle.river_order.specs.declared.stop.Stop.{Stop}
+use Rattle.river_order.specs.declared.stop.Stop.TheVariants as stop
 use Rattle.river_order.proofs.Comes.{Comes-same, Comes-on}
 use Rattle.river_order.proofs.Turns.{Stops-later}
 use Rattle.river_order.proofs.Passes.{past-refused, past-as, then-passes, passed-decides}
@@ -133,6 +134,17 @@ pub command-decides : (command : Command) (held : Option Held) (rose : Type 0) (
     → Decides (Some (ended command)) held rose result
 unfolding ended
 command-decides command held rose result passed = passed-decides (of_command command) held rose result passed
+
+-- a point is no reason to tell the usage
+pub never-usage : (point : (List ℕ → Order) → Order) (held : Option Held) (rose : Type 0) (result : Result (List ℕ) Stop) → Passes point held rose result
+    → IsErrOf result stop.Usage → ⊥
+never-usage point held rose (Ok text) passed is = absurd (cc is)
+never-usage point held rose (Err s) passed is =
+    let same : s ≡ stop.Usage = cc is in
+    some_is_not_none (subst (λ (t : Stop). Stops (Some (point (λ text. Ends (Done text)))) held rose t) same (passed (λ text. Ends (Done text))))
+  where
+    some_is_not_none : Some (point (λ text. Ends (Done text))) ≡ None → ⊥
+    some_is_not_none e = absurd (cc e)
 
 -- each command does what it names
 module _ (held : Option Held) (rose : Type 0) where

@@ -85,7 +85,7 @@ module _ (behind said : List (List ℕ)) (command : Command) where
       → on_by said command (one_more p later) ≡ on_by (said ++ p.once ∷ []) next later
   one_phrase p next None e = refl
   one_phrase p next (Some ps) e =
-      ap (λ (o : Option Command). if are_apart (said ++ p.once ∷ map (λ q. q.once) ps) then (elim o [ | None ↦ None | Some n ↦ made ps n ]) else None) e
+      ap (λ (o : Option Command). if are_apart (said ++ p.once ∷ map (λ q. q.once) ps) then (elim o [ None ↦ None | Some n ↦ made ps n ]) else None) e
       ∙ ap (λ l. if are_apart l then made ps next else None) (sym (append_assoc said (p.once ∷ []) (map (λ q. q.once) ps)))
 
   -- one that it does not take
@@ -94,7 +94,7 @@ module _ (behind said : List (List ℕ)) (command : Command) where
   no_phrase p (Some ps) e = by (are_apart (said ++ p.once ∷ map (λ q. q.once) ps))
     where
       by : (apart : Bool) → (if apart then made (p ∷ ps) command else None) ≡ None
-      by true = ap (λ (o : Option Command). elim o [ | None ↦ None | Some n ↦ made ps n ]) e
+      by true = ap (λ (o : Option Command). elim o [ None ↦ None | Some n ↦ made ps n ]) e
       by false = refl
 
   -- one that was said before

@@ -8,9 +8,9 @@ ghost use Rattle.river_plan.specs.Names.{count};
 ghost use Rattle.river_cli.specs.Contents.{AreContents};
 ghost use Rattle.river_cli.specs.Inputs.{of_inputs};
 
+use crate::command::{InWord, Layout};
 use crate::content::Content;
 use crate::fetched::fetch_all;
-use crate::command::{InWord, Layout};
 use crate::names::check_names;
 use crate::rows::read_inputs;
 use river_base::Listed;

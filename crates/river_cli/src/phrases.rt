@@ -12,11 +12,7 @@ use river_base::{NoMemory, Text};
 use std::alloc::Global;
 
 /// Adds to a command what the words behind its file say, if they are phrases that it takes, of which none stands twice.
-pub fn read_phrases(
-    alloc: Global,
-    words: &[Text],
-    command: &mut Command,
-) -> Result<(), WordFault>
+pub fn read_phrases(alloc: Global, words: &[Text], command: &mut Command) -> Result<(), WordFault>
     ensures ok { OnOk result (with_phrases command.old (phrases 0 words.now) ≡ Some command.new) }
     ensures usage { IsErrOf result WordFault.Usage → with_phrases command.old (phrases 0 words.now) ≡ None }
 {

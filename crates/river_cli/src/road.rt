@@ -12,9 +12,9 @@ ghost use Rattle.river_cli.specs.Text.{script_refused as script_text};
 ghost use Rattle.river_cli.specs.Source.{Source, IsPlanOf, IsOf, IsKnown, IsCompiled, printed};
 ghost use Rattle.river_cli.specs.declared.compile.Program.{Program};
 
+use crate::command::{Command, InWords, Lang, Layout, WordFault};
 use crate::compile::{Compiled, Program, compile};
 use crate::gather::gather;
-use crate::command::{Command, InWords, Lang, Layout, WordFault};
 use crate::mean::mean_text;
 use crate::output::output;
 use crate::text;

@@ -13,8 +13,8 @@ ghost use Rattle.river_plan.specs.Names.{count};
 ghost use Rattle.river_cli.specs.Inputs.{width_named, file_read, read_as, content_of, content_reader, all_read, content_named, in_order, NamesNone, NamesPlace};
 ghost use Rattle.river_cli.specs.declared.content.Content.TheVariants.{Rows as Plain, Timed};
 
-use crate::content::Content;
 use crate::command::{InWord, Layout};
+use crate::content::Content;
 use crate::text;
 use csv_streams::{InFault, read_even, read_timed};
 use kern_rows::EvenRows;

@@ -60,12 +60,7 @@ const SAWZALL: &[u8] = b"sawzall";
 const CQL: &[u8] = b"cql";
 
 // The command that a word names, with a program and nothing else.
-fn plain(
-    alloc: Global,
-    word: &[u8],
-    lang: Lang,
-    file: &[u8],
-) -> Result<Option<Command>, NoMemory>
+fn plain(alloc: Global, word: &[u8], lang: Lang, file: &[u8]) -> Result<Option<Command>, NoMemory>
     ensures { IfOk result (λ command. command ≡ plain word.now lang file.now) }
 {
     let file = Text::from_slice(alloc, file)?;

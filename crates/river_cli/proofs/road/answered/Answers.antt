@@ -5,10 +5,14 @@ use Rattle.river_cli.proofs.road.answered.Goals as goal
 pub returns-in-Run-clause-passes : goal.returns-in-Run-clause-passes
 returns-in-Run-clause-passes g c =
     let rose = Rose g.S.Shelf.stays_at_last (g.S.Shelf.faults c.args.shelf.now) (g.S.Shelf.faults c.run.new.shelf) in
-    ?
+    rw c.in-Run.is (run-answers (g.S.Shelf.held c.args.shelf.now) rose c.in-Run.lang c.in-Run.file c.in-Run.ins c.in-Run.script c.in-Run.header c.in-Run.counts c.run.result c.run.ensures.passes)
 
 pub returns-in-Show-clause-passes : goal.returns-in-Show-clause-passes
-returns-in-Show-clause-passes g c = ?
+returns-in-Show-clause-passes g c =
+    let rose = Rose g.S.Shelf.stays_at_last (g.S.Shelf.faults c.args.shelf.now) (g.S.Shelf.faults c.show.new.shelf) in
+    rw c.in-Show.is (show-answers (g.S.Shelf.held c.args.shelf.now) rose c.in-Show.lang c.in-Show.file c.in-Show.script c.show.result c.show.ensures.passes)
 
 pub returns-in-Mean-clause-passes : goal.returns-in-Mean-clause-passes
-returns-in-Mean-clause-passes g c = ?
+returns-in-Mean-clause-passes g c =
+    let rose = Rose g.S.Shelf.stays_at_last (g.S.Shelf.faults c.args.shelf.now) (g.S.Shelf.faults c.mean.new.shelf) in
+    rw c.in-Mean.is (mean-answers (g.S.Shelf.held c.args.shelf.now) rose c.in-Mean.lang c.in-Mean.file c.in-Mean.ins c.in-Mean.header c.mean.result c.mean.ensures.passes)

@@ -1,7 +1,7 @@
 use Rattle.std.proofs.Common.{refl}
 use Rattle.river_outside.specs.Causes.{Rose}
-use Rattle.river_cli.specs.Points.{points_of}
-use Rattle.river_cli.proofs.Points.{command-decides}
+use Rattle.river_cli.specs.Points.{points_of, of_command}
+use Rattle.river_cli.proofs.Points.{command-decides, never-usage}
 use Rattle.river_cli.proofs.road.decide.Goals as goal
 
 pub returns-in-Ok-clause-decided : goal.returns-in-Ok-clause-decided
@@ -13,3 +13,8 @@ returns-in-Ok-clause-decided g c =
 pub returns-in-Err-Usage-clause-decided : goal.returns-in-Err-Usage-clause-decided
 unfolding points_of
 returns-in-Err-Usage-clause-decided g c = rw ((rw c.in-Err-Usage.field-0-is at c.in-Err-Usage.ensures.usage) refl) refl
+
+pub returns-in-Ok-clause-unread : goal.returns-in-Ok-clause-unread
+returns-in-Ok-clause-unread g c is =
+    let rose = Rose g.S.Shelf.stays_at_last (g.S.Shelf.faults c.args.shelf.now) (g.S.Shelf.faults c.answered.new.shelf) in
+    absurd (never-usage (of_command c.in-Ok.command) (g.S.Shelf.held c.args.shelf.now) rose c.answered.result c.answered.ensures.passes is)

@@ -1,4 +1,4 @@
-use Rattle.std.proofs.Common.{arith}
+use Rattle.std.proofs.Common.{arith, ◌≤◌}
 use Rattle.std.proofs.lemmas.Result.{err_from_is_err_and}
 use Rattle.river_outside.proofs.Counts.{rose_before}
 use Rattle.river_outside.specs.Causes.{Rose}
@@ -29,6 +29,6 @@ returns-clause-passes g c =
     let late = Rose g.S.Shelf.stays_at_last (g.S.Shelf.faults c.script.new.shelf) (g.S.Shelf.faults c.run_over.new.shelf) in
     let scripted = rw c.compiled.ensures.stays at c.in_ok-plan.ensures.passes in
     let over = rw (c.script.ensures.stays, c.compiled.ensures.stays, c.layout.ensures) at c.run_over.ensures.passes in
-    let later = omega (arith, c.compiled.ensures.later, c.script.ensures.later) in
+    let later : g.S.Shelf.faults c.args.shelf.now ≤ g.S.Shelf.faults c.script.new.shelf = omega (arith, c.compiled.ensures.later, c.script.ensures.later) in
     run-last c.args.lang c.args.file.now (g.S.Shelf.held c.args.shelf.now) c.args.ins.now c.args.name.now c.args.header c.args.counts mid half early late (rose_before g.S.Shelf.stays_at_last _ _ _ later) c.in_ok-compiled.compiled c.in_ok-plan.plan c.run_over.result c.in_ok-compiled.ensures.passes
     (λ source is. scripted c.in_ok-compiled.compiled.program source is) over
