@@ -1,15 +1,16 @@
-//! Runs worked cases of the top call over memory. The cases stand in the standard input, whose head says how they are
-//! written. Prints each case that gives something else, with what it gave, and last how many were right. Ends with status 1
-//! where one was not, where a line cannot be read, or where there are not as many cases as the first line says.
+//! Runs worked cases of the top call over memory. They stand in the files that its words name, one file for each subject; the
+//! head of the first says how they are written. Prints each case that gives something else, with what it gave, and for each
+//! file how many were right. Ends with status 1 where one was not, where a line cannot be read, where a file has no case, or
+//! not as many as its first line says, and where no file is named.
 #![tactic(auto)]
 
 use river_base::{NoGate, Text};
 use river_cli::river;
 use river_outside::{MemShelf, MemSink};
 use std::alloc::Global;
-use std::io;
 use std::process::ExitCode;
 use std::thread::Threads;
+use std::{env, fs, io};
 use worked_cases::{Runner, go_through};
 
 // The top call.
@@ -33,8 +34,16 @@ impl<R: Threads> Runner for River<'_, R> {
 
 fn main(rt: HostRuntime) -> io::Result<ExitCode> {
     let alloc = rt.alloc();
-    let text = io::read_to_string(alloc, rt.reader())?;
     let top = River { rt: &rt, alloc };
-    let is_right = go_through(&rt, alloc, &top, text.as_str())?;
+    let mut files = 0u32;
+    let mut right = 0u32;
+    for name in env::args(&rt)?.skip(1) {
+        let text = fs::read_to_string(&rt, name.as_str())?;
+        print!(rt; "{name}: ")?;
+        let is_right = go_through(&rt, alloc, &top, text.as_str())?;
+        files = files.saturating_add(1);
+        right = right.saturating_add(u32::from(is_right));
+    }
+    let is_right = files > 0 && right == files;
     Ok(ExitCode::from(u8::from(!is_right)))
 }

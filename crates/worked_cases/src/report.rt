@@ -18,9 +18,9 @@ impl Tally {
         self.right = self.right.saturating_add(u32::from(is_right));
     }
 
-    /// Whether so many were tried, and all were right.
+    /// Whether so many were tried, one at least, and all were right.
     pub fn is_right(self, wanted: u32) -> bool {
-        self.right == self.tried && self.tried == wanted
+        self.tried > 0 && self.right == self.tried && self.tried == wanted
     }
 }
 
