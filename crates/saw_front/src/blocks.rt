@@ -6,9 +6,9 @@ ghost use Rattle.saw_text.specs.View.{option_block};
 ghost use Rattle.saw_front.specs.Judging.{at_of, Reads, ReadsArm};
 ghost use Rattle.saw_front.specs.Valued.{IsValued, AreValued};
 
-use crate::term::term;
 use crate::fault::Fault;
 use crate::judge::Judge;
+use crate::term::term;
 use saw_text::{Block, Statement};
 use std::alloc::Global;
 use work_code::{Stmt, Stmts};
