@@ -1,0 +1,1 @@
+Register Stream S (a); Query q: Select Istream(a) From S [Now] x, S [Now] y;

@@ -1,0 +1,1 @@
+Register Stream S (a); Query q: Select Istream(b) From S [Now];
