@@ -111,6 +111,7 @@ reader_behind p v o o' op op' q g lt g' lt' =
     (λ b. let e = one_place (writes_it q) p.ops b.0 o b.1 op (omega (arith, w)) b.3 g b.4 lt in let l = b.2 in omega (arith, e, l))
     (writer_before p.ops (λ n. count n (decl_names p.inputs)) o' op' q g' lt' v.in_order)
 
+-- while an operator has a pending or an untaken item, the last such operator can move
 pub some_move_law : SomeMove
 some_move_law p caps b o op v lc g k = ⊎_elim
     (λ l. ⊎_elim (λ i. moves l (send l i)) (λ i. moves l (take l i)) l.busy)
@@ -286,5 +287,6 @@ module _ (p : PlanForm) (caps : Capacities) where
       (λ c. let a = ap length (if_false (name_eq m.queue q) m.rest (b.left q) c.1) in omega (arith, e, a, old))
       (cases_name m.queue q)
 
+-- bounded moves are moves of the machine
 pub steps_law : MovesAreSteps
 steps_law p caps = record { sends = sends_same p caps; takes = takes_step p caps; sends_within = sends_keep p caps; takes_within = takes_keep p caps }

@@ -100,6 +100,7 @@ front_at_none [] p e = refl
 front_at_none (r ∷ rs) zero e = ap (front_in itself) e
 front_at_none (r ∷ rs) (suc p) e = front_at_none rs p e
 
+-- the front at a port that has items is the first of them
 pub front_at_some : (rs : List (List item.Item)) (p : ℕ) (x : item.Item) (xs : List item.Item) → list_at rs p ≡ x ∷ xs → front_at itself rs p ≡ Some (x ∷ [])
 front_at_some [] p x xs e = absurd (cc e)
 front_at_some (r ∷ rs) zero x xs e = ap (front_in itself) e
@@ -117,11 +118,13 @@ rest_other (r ∷ rs) zero (suc q) ne = refl
 rest_other (r ∷ rs) (suc p) zero ne = refl
 rest_other (r ∷ rs) (suc p) (suc q) ne = rest_other rs p q (λ e. ne (ap suc e))
 
+-- where nothing is behind a place, there is nothing at it
 pub got_none : {A : Type 0} (xs : List A) (n : ℕ) → drop n xs ≡ [] → slice_get xs n ≡ None
 got_none [] n e = refl
 got_none (x ∷ xs) zero e = absurd (cc e)
 got_none (x ∷ xs) (suc n) e = got_none xs n e
 
+-- the first item behind a place stands at it
 pub got_some : {A : Type 0} (xs : List A) (n : ℕ) (y : A) (ys : List A) → drop n xs ≡ y ∷ ys → slice_get xs n ≡ Some y
 got_some [] zero y ys e = absurd (cc e)
 got_some [] (suc n) y ys e = absurd (cc e)
@@ -131,10 +134,12 @@ got_some (x ∷ xs) (suc n) y ys e = got_some xs n y ys e
 dropped_one : {A : Type 0} (xs : List A) (n : ℕ) (y : A) (ys : List A) → drop n xs ≡ y ∷ ys → drop (n + 1) xs ≡ ys
 dropped_one xs n y ys e = sym (drop-drop 1 n xs) ∙ ap (drop 1) e
 
+-- a list is empty or has a first item
 pub cases_list : {A B : Type 0} (l : List A) → (l ≡ [] → B) → ((y : A) (ys : List A) → l ≡ y ∷ ys → B) → B
 cases_list [] f g = f refl
 cases_list (y ∷ ys) f g = g y ys refl
 
+-- what is left for a joiner after it took one item more
 pub left_next : (ws : List ℕ) (ls rs : List (List item.Item)) (x : ℕ) (y : item.Item) (ys : List item.Item) → 0 < cycle ws → IsLeft ws ls rs x
     → list_at rs (branch ws x) ≡ y ∷ ys → IsLeft ws ls (rest_at rs (branch ws x)) (suc x)
 left_next ws ls rs x y ys lt left e = record {
@@ -176,10 +181,12 @@ passes_front ws ls rs (suc n) x pos lt left =
     ∙ ap (λ l. y ∷ l) (passes_front ws ls (rest_at rs b) n (suc x) pos lt (left_next ws ls rs x y ys lt left e))
     ∙ sym (ap more (got_some (list_at ls b) (number_at ws x) y ys (sym here ∙ e))))
 
+-- the number of items that wait, said in two ways
 pub waiting_is : (ls : List (List item.Item)) → waiting ls ≡ size_of ls
 waiting_is [] = refl
 waiting_is (l ∷ ls) = ap (λ n. length l + n) (waiting_is ls)
 
+-- a joiner that drains what waits gives what it collects by index
 pub settles : (ws : List ℕ) (ls : List (List item.Item)) → Positive ws → 0 < cycle ws
     → (settled itself ws (record { port = 0; had = 0; lists = ls })).0 ≡ collected ws ls
 settles ws ls pos lt =
@@ -191,6 +198,7 @@ settles ws ls pos lt =
 
 -- THE LISTS THAT CAME, PORT BY PORT
 
+-- lists that are filled up from empty ones are the given ones
 pub blanks_filled : (ls : List (List item.Item)) (g : ℕ → List item.Item) → ((p : ℕ) → g p ≡ list_at ls p) → each_grew (replicate (length ls) []) g ≡ ls
 blanks_filled [] g e = refl
 blanks_filled (l ∷ ls) g e =

@@ -75,6 +75,7 @@ module _ (pl : PlanForm) (inputs : History) (v : IsPlan pl) (empty : (q : Name) 
   abbrev tabs : OpForm → List Name
   tabs op = tables_of tables op
 
+  -- the first state is traced by empty words
   pub traced_start : Traced tables ops inputs (started pl inputs) (λ o. [])
   traced_start = record {
     kept = λ o op g. ap first_of g;
@@ -94,6 +95,7 @@ module _ (pl : PlanForm) (inputs : History) (v : IsPlan pl) (empty : (q : Name) 
       zeros [] = refl
       zeros (x ∷ xs) = let e = zeros xs in omega (arith, e)
 
+  -- a state that is traced by words stays so, where an operator fires once more
   pub traced_fired : (s : Machine) (ws : ℕ → Word) (o p : ℕ) (op : OpForm) (q : Name) (x : item.Item) → Traced tables ops inputs s ws
       → slice_get ops o ≡ Some op → slice_get op.reads p ≡ Some q → slice_get (s.hist q) (s.taken q) ≡ Some x
       → Traced tables ops inputs (fired tables o op p q x s) (at_key o (ws o ++ (p, x) ∷ []) ws)
@@ -277,6 +279,7 @@ module _ (pl : PlanForm) (inputs : History) (v : IsPlan pl) (empty : (q : Name) 
 pub nothing_given : (names : List Name) (f : ℕ → List item.Item) (q : Name) → count q names ≡ 0 → inputs_of names f q ≡ []
 nothing_given names f q z = written_out names f (λ n. []) q z
 
+-- every complete run has the defined histories, rows and firings
 pub runs_law : RunsAgree
 runs_law p inputs es s v r done =
     let a = agree p (given_to p inputs) v (λ q z. nothing_given (decl_names p.inputs) (list_at inputs) q z) es s r done in

@@ -9,6 +9,7 @@ use Rattle.kern_rows.specs.Turns.{next_port, next_had}
 use Rattle.brooklet_model.proofs.Lists.{if_lt, if_ge}
 use Rattle.brooklet_model.specs.ByIndex.{cycle, part, within, branch, number_at}
 
+-- each weight is above 0
 abbrev pub Positive : List ℕ → Type 0
 Positive ws = AllByRecursion (λ w. 0 < w) ws
 
@@ -153,12 +154,14 @@ next_turn ws x pos lt =
       if_ge (d + 1) share (d + 1) 0 l.0 ∙ sym z.1 ∙ ap (within ws) (sym s.0),
     ))
 
+-- a cycle begins at the first port
 pub first_turn : (ws : List ℕ) → Positive ws → 0 < cycle ws → (branch ws 0 ≡ 0) × (within ws (0 % cycle ws) ≡ 0)
 first_turn ws pos lt =
     let z = (zero_is (cycle ws) lt).0 in
     let s = starts ws pos lt in
     (ap (part ws) z ∙ s.0, ap (within ws) z ∙ s.1)
 
+-- a cycle of weights above 0 has items for each port
 pub positive_cycle : (ws : List ℕ) (n p : ℕ) → Positive ws → length ws ≡ n → p < n → 0 < cycle ws
 positive_cycle [] n p pos e lt = absurd (omega (arith, e, lt))
 positive_cycle (w ∷ ws) n p pos e lt = let h = pos.0 in omega (arith, h)
@@ -217,12 +220,14 @@ before_other (w ∷ ws) (suc p) m ne = ⊎_elim
 abbrev pub taken : List ℕ → ℕ → ℕ → ℕ
 taken ws p x = x / cycle ws * slice_index_or ws p 0 + before ws p (x % cycle ws)
 
+-- before the first item no port was given one
 pub taken_none : (ws : List ℕ) (p : ℕ) → 0 < cycle ws → taken ws p 0 ≡ 0
 taken_none ws p lt =
     let d = (zero_is (cycle ws) lt).1 in
     let m = (zero_is (cycle ws) lt).0 in
     ap (λ k. k * slice_index_or ws p 0 + before ws p (0 % cycle ws)) d ∙ ap (λ k. 0 * slice_index_or ws p 0 + before ws p k) m ∙ (let b = before_none ws p in omega (arith, b))
 
+-- of the items before number x, port `branch ws x` was given as many as x has before it there
 pub taken_here : (ws : List ℕ) (x : ℕ) → 0 < cycle ws → taken ws (branch ws x) x ≡ number_at ws x
 taken_here ws x lt = ap (λ k. x / cycle ws * slice_index_or ws (branch ws x) 0 + k) (before_here ws (x % cycle ws) (mod_below x (cycle ws) lt))
 
@@ -242,10 +247,12 @@ taken_next ws p x n lt e = cases_cycle (cycle ws) x lt
     ∙ ap (λ k. (x / cycle ws + 1) * slice_index_or ws p 0 + before ws p k) s.0
     ∙ (omega (arith, e, a, b, c)))
 
+-- item x goes to its port
 pub taken_same : (ws : List ℕ) (p x : ℕ) → 0 < cycle ws → branch ws x ≡ p → taken ws p (suc x) ≡ taken ws p x + 1
 taken_same ws p x lt e =
     taken_next ws p x 1 lt (subst (λ k. before ws k (x % cycle ws + 1) ≡ before ws k (x % cycle ws) + 1) e (before_same ws (x % cycle ws) (mod_below x (cycle ws) lt)))
 
+-- item x goes to no other port
 pub taken_other : (ws : List ℕ) (p x : ℕ) → 0 < cycle ws → branch ws x ≢ p → taken ws p (suc x) ≡ taken ws p x
 taken_other ws p x lt ne =
     taken_next ws p x 0 lt (let e = before_other ws p (x % cycle ws) ne in omega (arith, e)) ∙ (let z : taken ws p x + 0 ≡ taken ws p x = omega arith in z)

@@ -33,6 +33,7 @@ dealt_from ws p x (y ∷ ys) pos lt =
     ∙ sym (if_ne (branch ws x) p _ _ ne))
     (cases_eq (branch ws x) p)
 
+-- a splitter that is fed gives each port what index arithmetic says
 pub deals : (ws : List ℕ) (p : ℕ) (xs : List item.Item) → Positive ws → 0 < cycle ws → (feed (deal_one ws) xs (Turn 0 0 ∷ [])).outs p ≡ dealt ws p xs
 deals ws p xs pos lt =
     let f = first_turn ws pos lt in

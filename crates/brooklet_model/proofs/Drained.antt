@@ -60,6 +60,7 @@ module _ (ports : ℕ) (S : Type 0) (front : S → Option (List item.Item)) (res
       subst (λ b. Agree b m (suc l) s q y) (sym e)
       (append_assoc o c.0 (drain front rest m (put q y c.1)).0 ∙ ap (λ t. o ++ t) a.0 ∙ sym (ap (λ r. r.0) g), a.1 ∙ sym (ap (λ r. r.1) g))
 
+  -- an item that comes before or after a drain makes no difference
   pub put_drain : (n m l : ℕ) (s : S) (q : ℕ) (y : item.Item) → size s ≤ n → size (put q y (drain front rest n s).1) ≤ m → size (put q y s) ≤ l
       → Agree (drain front rest n s) m l s q y
   put_drain zero m l s q y hn hm hl = agree_done (drain front rest 0 s) m l s q y refl hm hl

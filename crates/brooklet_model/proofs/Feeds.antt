@@ -12,6 +12,7 @@ pub feed_word : (f : ℕ → item.Item → List Kept → Fired) (p : ℕ) (xs : 
 feed_word f p [] ss = refl
 feed_word f p (x ∷ xs) ss = ap (and_then (f p x ss)) (feed_word f p xs (f p x ss).states)
 
+-- a kernel of one port is fed with that port alone
 pub one_input : (k : Kern) (h : ℕ → List item.Item) (ss : List Kept) → ins k ≡ 1 → feed_all k h ss ≡ feed (fire k 0) (h 0) ss
 one_input k h ss e =
     ap (λ n. run (fire k) (port_by_port n 0 h) ss) e ∙ ap (λ w. run (fire k) w ss) (append-nil (word_of 0 (h 0))) ∙ feed_word (fire k) 0 (h 0) ss

@@ -106,6 +106,7 @@ moves_most (op ∷ ops) o ws sent h e =
     let a1 = a.1 in
     omega (arith, a0, a1, i)
 
+-- there are at most twice as many moves as items in the histories
 pub few_law : MovesAreFew
 few_law p inputs ws sent v a hs =
     let h = hist p inputs in

@@ -156,6 +156,7 @@ module _ (p : PlanForm) (inputs : List (List item.Item)) (caps : Capacities) (v 
       let k = m.made in
       omega (arith, few, all, k)
 
+-- there is at most one more round than moves
 pub rounds_law : RoundsAreFew
 rounds_law p inputs caps rounds b v r e =
     let i = made_rounds p inputs caps v rounds 0 (at_first p inputs) b (made_first p inputs caps v) r e in

@@ -6,7 +6,7 @@ use Rattle.std.proofs.lemmas.List.{append-nil}
 use Rattle.river_base.specs.declared.item.Item as item
 use Rattle.river_base.specs.Held.{items_of}
 use Rattle.kern_rows.specs.Turns.{shares, ones, itself}
-use Rattle.river_kernels.specs.Kern.{Kern, code, filter, duplicate, deal, collect, packed, unpack, window, select, project, cross, streamer, tally, fused}
+use Rattle.river_kernels.specs.Kern.{Kern, collect, unpack, cross, fused}
 use Rattle.brooklet_model.specs.Firings.{Kept, Fired, feed, splice, beside, fused_of}
 use Rattle.brooklet_model.specs.Fire.{fire, ins, outs, tabs, privates}
 use Rattle.brooklet_model.specs.Laws.{OrderIsFree}
@@ -71,28 +71,20 @@ alike_fused at n t r s second a = record {
 -- any two words with the same items at each port are alike
 pub free : (k : Kern) (w w' : Word) (ss : List Kept) → IsShaped k → HasShape k ss → PortsBelow (ins k) w → PortsBelow (ins k) w'
     → ((p : ℕ) → p < ins k → at_port p w ≡ at_port p w') → Alike (run (fire k) w ss) (run (fire k) w' ss)
-free (code k) w w' ss f h b b' e = same_lists 1 (fire (code k)) (HasShape (code k)) (one_port (code k) refl f) w' w ss b b' h e
-free (filter g) w w' ss f h b b' e = same_lists 1 (fire (filter g)) (HasShape (filter g)) (one_port (filter g) refl f) w' w ss b b' h e
-free (duplicate n) w w' ss f h b b' e = same_lists 1 (fire (duplicate n)) (HasShape (duplicate n)) (one_port (duplicate n) refl f) w' w ss b b' h e
-free (deal ws) w w' ss f h b b' e = same_lists 1 (fire (deal ws)) (HasShape (deal ws)) (one_port (deal ws) refl f) w' w ss b b' h e
 free (collect ws) w w' ss f h b b' e = same_lists (length ws) (fire (collect ws)) (HasShape (collect ws)) (collect_swaps ws f) w' w ss b b' h e
-free (packed k) w w' ss f h b b' e = same_lists 1 (fire (packed k)) (HasShape (packed k)) (one_port (packed k) refl f) w' w ss b b' h e
 free (unpack n) w w' ss f h b b' e = same_lists n (fire (unpack n)) (HasShape (unpack n)) (unpack_swaps n f) w' w ss b b' h e
-free (window u) w w' ss f h b b' e = same_lists 1 (fire (window u)) (HasShape (window u)) (one_port (window u) refl f) w' w ss b b' h e
-free (select t) w w' ss f h b b' e = same_lists 1 (fire (select t)) (HasShape (select t)) (one_port (select t) refl f) w' w ss b b' h e
-free (project ts) w w' ss f h b b' e = same_lists 1 (fire (project ts)) (HasShape (project ts)) (one_port (project ts) refl f) w' w ss b b' h e
 free cross w w' ss f h b b' e = same_lists 2 (fire cross) (HasShape cross) (cross_swaps f) w' w ss b b' h e
-free (streamer s) w w' ss f h b b' e = same_lists 1 (fire (streamer s)) (HasShape (streamer s)) (one_port (streamer s) refl f) w' w ss b b' h e
-free tally w w' ss f h b b' e = same_lists 1 (fire tally) (HasShape tally) (one_port tally refl f) w' w ss b b' h e
 free (fused a b at) w w' ss f h bw bw' e =
     let second = λ (xs : List item.Item). feed (fire b 0) xs (drop (privates a) ss) in
     let ih = free a w w' (take (privates a) ss) f.0 h.0 bw bw' e in
     alike_trans _ _ _ (alike_same _ _ (fused_runs a b at w ss f h))
     (alike_trans _ _ _ (alike_fused at (outs b) (tabs a) _ _ second ih)
     (alike_sym _ _ (alike_same _ _ (fused_runs a b at w' ss f h))))
+free kernel w w' ss f h b b' e = same_lists 1 (fire kernel) (HasShape kernel) (one_port kernel refl f) w' w ss b b' h e
 
 -- THE ORDER OF FEEDING
 
+-- the items of a port in two words, one after the other
 pub at_port-append : (p : ℕ) (u v : Word) → at_port p (u ++ v) ≡ at_port p u ++ at_port p v
 at_port-append p [] v = refl
 at_port-append p (e ∷ es) v = ⊎_elim
@@ -131,6 +123,7 @@ at_port-port_by_port (suc n) q h p le lt =
     ∙ at_port-port_by_port n (suc q) h p (omega arith) (omega arith))
     (cases_eq q p)
 
+-- two words whose ports are below n, one after the other
 pub below-append : (n : ℕ) (u v : Word) → PortsBelow n u → PortsBelow n v → PortsBelow n (u ++ v)
 below-append n [] v a b = b
 below-append n (e ∷ es) v a b = (a.0, below-append n es v a.1 b)
@@ -139,16 +132,19 @@ below-word : (n p : ℕ) (xs : List item.Item) → p < n → PortsBelow n (word_
 below-word n p [] h = tt
 below-word n p (x ∷ xs) h = (h, below-word n p xs h)
 
+-- the ports of a word that goes port by port are below the last one
 pub below-port_by_port : (m n q : ℕ) (h : ℕ → List item.Item) → q + n ≤ m → PortsBelow m (port_by_port n q h)
 below-port_by_port m zero q h le = tt
 below-port_by_port m (suc n) q h le =
     below-append m (word_of q (h q)) (port_by_port n (suc q) h) (below-word m q (h q) (omega arith)) (below-port_by_port m n (suc q) h (omega arith))
 
+-- any word that has these items at its ports does what feeding port by port does
 pub order_is_free : (k : Kern) (h : ℕ → List item.Item) (w : Word) (ss : List Kept) → IsShaped k → HasShape k ss → IsInterleaving (ins k) h w
     → Alike (run (fire k) w ss) (feed_all k h ss)
 order_is_free k h w ss f sh i =
     free k w (port_by_port (ins k) 0 h) ss f sh i.below (below-port_by_port (ins k) (ins k) 0 h (omega arith))
     (λ p lt. i.lists p lt ∙ sym (at_port-port_by_port (ins k) 0 h p (omega arith) (omega (arith, lt))))
 
+-- in whatever order items come, a kernel gives the same
 pub order_law : OrderIsFree
 order_law k h w ss f sh i = order_is_free k h w ss (formed_shaped k f) sh i

@@ -155,9 +155,11 @@ pub early_words : (p : PlanForm) (inputs : List (List item.Item)) (ws : ℕ → 
     → Early p (given_to p inputs) ws (hist_by p inputs ws)
 early_words p inputs ws v a = record { written = by_words p inputs ws v; unwritten = unwritten_by p inputs ws; below = a.below; fronts = a.fronts }
 
+-- the histories of what operators received are fronts of the defined ones
 pub words_fronts_law : WordsAreFronts
 words_fronts_law p inputs ws v a = all_fronts p inputs v ws (hist_by p inputs ws) (early_words p inputs ws v a)
 
+-- the histories of a run that stopped early are fronts of the defined ones
 pub runs_fronts_law : RunsAreFronts
 runs_fronts_law p inputs es s v r =
     let e = λ (q : Name) (z : count q (decl_names p.inputs) ≡ 0). nothing_given (decl_names p.inputs) (list_at inputs) q z in

@@ -51,6 +51,7 @@ splice_same at n f g g' h p = ap (λ l. if nat_lt p at then f p else (if nat_lt 
 pub beside_same : {A : Type 0} (n : ℕ) (f g g' : ℕ → A) → ((q : ℕ) → g q ≡ g' q) → (p : ℕ) → beside n f g p ≡ beside n f g' p
 beside_same n f g g' h p = ap (λ l. if nat_lt p n then f p else l) (h (p - n))
 
+-- a run of a fused kernel is one of its first part, and its second part fed with what that gave
 pub fused_runs : (a b : Kern) (at : ℕ) (w : Word) (ss : List Kept) → IsShaped (fused a b at) → HasShape (fused a b at) ss
     → Same (run (fire (fused a b at)) w ss) (fused_of at (outs b) (tabs a) (run (fire a) w (take (privates a) ss)) (λ xs. feed (fire b 0) xs (drop (privates a) ss)))
 fused_runs a b at [] ss f h = record {
@@ -83,5 +84,6 @@ fused_runs a b at (e ∷ es) ss f h =
       states = ih'.states ∙ ap (λ us. sa.states ++ us) (sym fa.states);
     }
 
+-- over any firings, a fused kernel gives what its two parts give
 pub fused_law : FusedRuns
 fused_law a b at w ss f h = fused_runs a b at w ss (formed_shaped (fused a b at) f) h

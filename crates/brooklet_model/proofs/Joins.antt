@@ -85,6 +85,7 @@ only_append xs ys (suc p) = refl
 abbrev pub Exchanges : (ℕ → item.Item → List Kept → Fired) → ℕ → ℕ → item.Item → item.Item → List Kept → Type 0
 Exchanges f p q x y ss = Alike (and_then (f p x ss) (f q y (f p x ss).states)) (and_then (f q y ss) (f p x (f q y ss).states))
 
+-- two items at two ports of a joiner change places
 pub join_swap : (give : item.Item → List item.Item) (ws : List ℕ) (n p q : ℕ) (x y : item.Item) (ss : List Kept) → p < n → q < n → p ≢ q
     → IsOne (IsJoining ws) ss → Exchanges (join_one give ws) p q x y ss
 join_swap give ws n p q x y [] hp hq ne h = absurd h
@@ -166,6 +167,7 @@ pair_keeps = record {
   swaps = put_swaps;
 }
 
+-- two items at the two ports of a product change places
 pub cross_swap : (p q : ℕ) (x y : item.Item) (ss : List Kept) → p < 2 → q < 2 → p ≢ q → IsOne IsCrossing ss → Exchanges cross_one p q x y ss
 cross_swap p q x y [] hp hq ne h = absurd h
 cross_swap p q x y (Slots zs ∷ []) hp hq ne h = absurd h

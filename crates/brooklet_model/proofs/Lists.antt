@@ -6,21 +6,27 @@ use Rattle.std.proofs.lemmas.List.{append-nil}
 use Rattle.river_base.specs.declared.item.Item as item
 use Rattle.brooklet_model.specs.Firings.{Kept, Fired, Same, feed, and_then}
 
+-- an `if` whose test is true
 pub if_true : {A : Type 0} (b : Bool) (x y : A) → b ≡ true → (if b then x else y) ≡ x
 if_true b x y h = ap (λ c. if c then x else y) h
 
+-- an `if` whose test is false
 pub if_false : {A : Type 0} (b : Bool) (x y : A) → b ≡ false → (if b then x else y) ≡ y
 if_false b x y h = ap (λ c. if c then x else y) h
 
+-- an `if` that asks for less, where it is
 pub if_lt : {A : Type 0} (a b : ℕ) (x y : A) → a < b → (if nat_lt a b then x else y) ≡ x
 if_lt a b x y h = grind arith
 
+-- an `if` that asks for less, where it is not
 pub if_ge : {A : Type 0} (a b : ℕ) (x y : A) → b ≤ a → (if nat_lt a b then x else y) ≡ y
 if_ge a b x y h = grind arith
 
+-- an `if` that asks for equality, where it is
 pub if_eq : {A : Type 0} (a b : ℕ) (x y : A) → a ≡ b → (if nat_eq a b then x else y) ≡ x
 if_eq a b x y h = grind arith
 
+-- an `if` that asks for equality, where it is not
 pub if_ne : {A : Type 0} (a b : ℕ) (x y : A) → a ≢ b → (if nat_eq a b then x else y) ≡ y
 if_ne a b x y h = grind arith
 
@@ -28,12 +34,14 @@ if_ne a b x y h = grind arith
 pub funext : {A B : Type 0} (f g : A → B) → ((x : A) → f x ≡ g x) → f ≡ g
 funext f g h = λ i x. h x i
 
+-- as many items as the first list has are the first list
 pub take_front : {A : Type 0} (xs ys : List A) (n : ℕ) → length xs ≡ n → take n (xs ++ ys) ≡ xs
 take_front [] ys zero e = refl
 take_front [] ys (suc n) e = absurd (omega arith)
 take_front (x ∷ xs) ys zero e = absurd (omega arith)
 take_front (x ∷ xs) ys (suc n) e = ap (λ t. x ∷ t) (take_front xs ys n (omega arith))
 
+-- behind as many items as the first list has stands the second
 pub drop_front : {A : Type 0} (xs ys : List A) (n : ℕ) → length xs ≡ n → drop n (xs ++ ys) ≡ ys
 drop_front [] ys zero e = refl
 drop_front [] ys (suc n) e = absurd (omega arith)
@@ -57,6 +65,7 @@ feed-append f (x ∷ xs) ys ss =
       states = h.states;
     }
 
+-- feeding one item is one firing
 pub feed_one : (f : item.Item → List Kept → Fired) (x : item.Item) (ss : List Kept) → Same (feed f (x ∷ []) ss) (f x ss)
 feed_one f x ss = record { outs = λ p. append-nil ((f x ss).outs p); adds = λ t. append-nil ((f x ss).adds t); states = refl }
 

@@ -206,6 +206,7 @@ module _ (p : PlanForm) (inputs : List (List item.Item)) (v : IsPlan p) (ws : â„
         },
       )
 
+-- the run that fires operator by operator is a run, and reaches what the operators have
 pub named_law : NamedRuns
 named_law p inputs ws v a =
     let r = reached p inputs v ws a in

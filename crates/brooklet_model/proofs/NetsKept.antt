@@ -257,6 +257,7 @@ module _ (p : PlanForm) (inputs : List (List item.Item)) (caps : Capacities) (v 
       nothing_pending : b.pending q ≡ []
       nothing_pending = ⊎_elim (λ lt. written (writer_of p.ops q lt)) (λ z. n.unwritten q z) (more_or_zero (total (writes_it q) p.ops))
 
+-- what a net keeps holds at the beginning and stays through each move
 pub nets_law : NetsAreKept
 nets_law p inputs caps v = record {
   first = net_first p inputs caps v;

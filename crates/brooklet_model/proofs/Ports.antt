@@ -14,7 +14,7 @@ use Rattle.river_kernels.specs.declared.types.VarKind.{VarKind}
 use Rattle.river_kernels.specs.declared.types.VarKind.TheVariants.{Private, Table}
 use Rattle.river_kernels.specs.Formed.{are_weights}
 use Rattle.river_kernels.specs.Fits.{Fits, rows, is_sized, kept, spliced}
-use Rattle.river_kernels.specs.Kern.{Kern, code, filter, duplicate, deal, collect, packed, unpack, window, select, project, cross, streamer, tally, fused}
+use Rattle.river_kernels.specs.Kern.{Kern, code, filter, duplicate, deal, collect, packed, unpack, cross, fused}
 use Rattle.brooklet_model.specs.Fire.{ins, outs, tabs, privates, kept_vars}
 use Rattle.brooklet_model.specs.Shapes.{IsFormed, IsShaped}
 
@@ -24,6 +24,7 @@ privates_in [] = 0
 privates_in (Private ∷ vs) = 1 + privates_in vs
 privates_in (Table n ∷ vs) = privates_in vs
 
+-- how many variables are tables
 abbrev pub tables_in : List VarKind → ℕ
 tables_in [] = 0
 tables_in (Private ∷ vs) = tables_in vs
@@ -59,9 +60,11 @@ kept_tables : (zs : List ℤ) → tables_in (kept zs) ≡ 0
 kept_tables [] = refl
 kept_tables (z ∷ zs) = refl
 
+-- what is got stands below the length
 pub got_below : {A : Type 0} (xs : List A) (n : ℕ) (x : A) → slice_get xs n ≡ Some x → n < length xs
 got_below xs n x h = ⊎_elim (λ lt. lt) (λ ge. absurd (let e : None ≡ Some x = sym (slice_get_past xs n ge) ∙ h in cc)) (cases_lt n (length xs))
 
+-- one item is replaced by a list
 pub length-spliced : {A : Type 0} (at : ℕ) (ms bs : List A) → at < length ms → length (spliced at ms bs) ≡ length ms + length bs - 1
 length-spliced at ms bs lt =
     let a = length-append (take at ms) (bs ++ drop (at + 1) ms) in
@@ -70,6 +73,7 @@ length-spliced at ms bs lt =
     let d = length-drop (at + 1) ms in
     omega (arith, a, b, c, d, lt)
 
+-- a kernel that fits types has as many ports and variables as its shape says
 pub counts : (k : Kern) (is os : List QueueType) (vs : List VarKind) → Fits k is os vs → Counts k is os vs
 counts (code k) is os vs h =
     counts_of (code k) is _ os _ vs _ h.0 h.1 h.2 refl (length-map k.outs (λ w. rows (count_of w))) (kept_privates k.starts) (kept_tables k.starts)
@@ -81,12 +85,7 @@ counts (packed k) is os vs h =
     let c = counts k _ _ _ h.5 in
     counts_of (packed k) is _ os _ vs _ h.2 h.3 h.4 refl refl c.privates refl
 counts (unpack n) is os vs h = counts_of (unpack n) is _ os _ vs _ h.1 h.2 h.3 (length-replicate n _) refl refl refl
-counts (window w) is os vs h = counts_of (window w) is _ os _ vs _ h.1 h.2 h.3 refl refl refl refl
-counts (select e) is os vs h = counts_of (select e) is _ os _ vs _ h.1 h.2 h.3 refl refl refl refl
-counts (project es) is os vs h = counts_of (project es) is _ os _ vs _ h.1 h.2 h.3 refl refl refl refl
 counts cross is os vs h = counts_of cross is _ os _ vs _ h.2 h.3 h.4 refl refl refl refl
-counts (streamer s) is os vs h = counts_of (streamer s) is _ os _ vs _ h.1 h.2 h.3 refl refl refl refl
-counts tally is os vs h = counts_of tally is _ os _ vs _ h.1 h.2 h.3 refl refl refl refl
 counts (fused a b at) is os vs h =
     let ms = h.0 in
     let bs = h.2 in
@@ -100,6 +99,7 @@ counts (fused a b at) is os vs h =
       privates = ap privates_in h.9 ∙ privates_in-append us ws ∙ ap (λ n. n + privates_in ws) ca.privates ∙ ap (λ n. privates a + n) cb.privates;
       tables = ap tables_in h.9 ∙ tables_in-append us ws ∙ ap (λ n. n + tables_in ws) ca.tables ∙ ap (λ n. tabs a + n) cb.tables;
     }
+counts kernel is os vs h = counts_of kernel is _ os _ vs _ h.1 h.2 h.3 refl refl refl refl
 
 -- SHARES
 
@@ -131,25 +131,18 @@ ones_shares b n h =
 
 -- a well-formed kernel has what its firings need
 pub shaped : (k : Kern) (is os : List QueueType) (vs : List VarKind) → Fits k is os vs → IsShaped k
-shaped (code k) is os vs h = tt
-shaped (filter f) is os vs h = tt
-shaped (duplicate n) is os vs h = tt
 shaped (deal ws) is os vs h = weights_shares (is_sized h.0) ws h.4
 shaped (collect ws) is os vs h = weights_shares (is_sized h.0) ws h.4
 shaped (packed k) is os vs h =
     let c = counts k _ _ _ h.5 in
     (shaped k _ _ _ h.5, sym c.ins, sym c.outs, sym c.tables, sym c.privates)
 shaped (unpack n) is os vs h = ones_shares (is_sized h.0) n h.4
-shaped (window w) is os vs h = tt
-shaped (select e) is os vs h = tt
-shaped (project es) is os vs h = tt
-shaped cross is os vs h = tt
-shaped (streamer s) is os vs h = tt
-shaped tally is os vs h = tt
 shaped (fused a b at) is os vs h =
     let ca = counts a is h.0 h.3 h.5 in
     let cb = counts b (h.1 ∷ []) h.2 h.4 h.7 in
     (shaped a is h.0 h.3 h.5, shaped b (h.1 ∷ []) h.2 h.4 h.7, subst (λ n. at < n) ca.outs (got_below h.0 at h.1 h.6), sym cb.ins)
+shaped kernel is os vs h = tt
 
+-- a kernel that is right in itself has weights above 0
 pub formed_shaped : (k : Kern) → IsFormed k → IsShaped k
 formed_shaped k f = shaped k f.reads f.writes f.vars f.fits

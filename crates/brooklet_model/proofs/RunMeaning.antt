@@ -14,6 +14,7 @@ use Rattle.brooklet_model.proofs.Lists.{funext}
 pub hist_is : (p : PlanForm) (inputs : List (List item.Item)) (es : List (ℕ × ℕ)) (s : Machine) → HasDefined p inputs es s → s.hist ≡ hist p inputs
 hist_is p inputs es s d = funext s.hist (hist p inputs) d.queues
 
+-- the histories of the outputs are what the plan means
 pub outs_are : (p : PlanForm) (inputs : List (List item.Item)) (es : List (ℕ × ℕ)) (s : Machine) → HasDefined p inputs es s
     → map s.hist (decl_names p.outputs) ≡ (meaning p inputs).outs
 outs_are p inputs es s d = ap (λ (h : History). map h (decl_names p.outputs)) (hist_is p inputs es s d)

@@ -29,6 +29,7 @@ one_port (e ∷ es) b =
     let first : e ≡ (0, e.1) = (λ j. (z j, e.1)) in
     ap (λ x. x ∷ es) first ∙ ap (λ l. (0, e.1) ∷ l) i ∙ sym (ap (word_of 0) (at_port_here 0 e es z))
 
+-- where each operator received all, histories, rows and firings are as defined
 pub done_law : DoneIsWhole
 done_law p inputs ws v a d =
     let r = named_law p inputs ws v a in

@@ -65,6 +65,7 @@ weight_at (w ∷ ws) (suc p) h lt = weight_at ws p h.1 (omega arith)
 turn_by : (ws : List ℕ) (p q p' q' : ℕ) → p ≡ p' → q ≡ q' → IsTurn ws p' q' → IsTurn ws p q
 turn_by ws p q p' q' e f h = rw (e, f) h
 
+-- the turn behind a turn is one
 pub next_turn : (ws : List ℕ) (port had : ℕ) → HaveShares ws → IsTurn ws port had → IsTurn ws (next_port ws port had) (next_had ws port had)
 next_turn ws port had all h =
     let other : ℕ = if nat_lt (port + 1) (length ws) then port + 1 else 0 in
@@ -76,6 +77,7 @@ next_turn ws port had all h =
     (cases_lt (port + 1) (length ws))))
     (cases_lt (had + 1) (slice_index_or ws port 0))
 
+-- the first turn is one
 pub first_turn : (ws : List ℕ) → HaveShares ws → IsTurn ws 0 0
 first_turn ws all = (all.0, weight_at ws 0 all.1 all.0)
 
@@ -89,6 +91,7 @@ length-append_at [] p xs = refl
 length-append_at (l ∷ ls) zero xs = refl
 length-append_at (l ∷ ls) (suc p) xs = ap suc (length-append_at ls p xs)
 
+-- a joiner that drains keeps its shape
 pub drain_joined : (give : item.Item → List item.Item) (ws : List ℕ) (n : ℕ) (s : Turns) → HaveShares ws → IsJoiner ws s
     → IsJoiner ws (drain (front_of give) (passed ws) n s).1
 drain_joined give ws zero s all j = j
@@ -98,6 +101,7 @@ drain_joined give ws (suc n) s all j =
       | Some x ↦ drain_joined give ws n (passed ws s) all (record { turn = next_turn ws s.port s.had all j.turn; lists = length-rest_at s.lists s.port ∙ j.lists })
     ]
 
+-- a joiner that an item comes to keeps its shape
 pub put_joined : (ws : List ℕ) (p : ℕ) (x : item.Item) (s : Turns) → IsJoiner ws s → IsJoiner ws (put p x s)
 put_joined ws p x s j = record { turn = j.turn; lists = length-append_at s.lists p (x ∷ []) ∙ j.lists }
 
@@ -204,22 +208,17 @@ first_slots_shape : (zs : List ℤ) → HasSlots zs (first_slots zs)
 first_slots_shape [] = tt
 first_slots_shape (z ∷ zs) = refl
 
+-- the first states of a kernel have its shape
 pub first_shape : (k : Kern) → IsShaped k → HasShape k (first_kept k)
 first_shape (code k) f = first_slots_shape k.starts
 first_shape (filter g) f = refl
-first_shape (duplicate n) f = tt
 first_shape (deal ws) f = first_turn (shares ws) f
 first_shape (collect ws) f = record { turn = first_turn (shares ws) f; lists = length-replicate (length ws) [] ∙ sym (length-map ws count_of) }
 first_shape (packed k) f = first_shape k f.0
 first_shape (unpack n) f = record { turn = first_turn (ones n) f; lists = length-replicate n [] ∙ sym (length-replicate n 1) }
-first_shape (window w) f = tt
-first_shape (select e) f = tt
-first_shape (project es) f = tt
-first_shape cross f = tt
-first_shape (streamer s) f = tt
-first_shape tally f = tt
 first_shape (fused a b at) f =
     let ha = first_shape a f.0 in
     let hb = first_shape b f.1 in
     let la = shape_length a (first_kept a) ha in
     (subst (HasShape a) (sym (take_front (first_kept a) (first_kept b) (privates a) la)) ha, subst (HasShape b) (sym (drop_front (first_kept a) (first_kept b) (privates a) la)) hb)
+first_shape kernel f = tt

@@ -13,9 +13,11 @@ use Rattle.brooklet_model.specs.Laws.{given_to, HistoriesSolve, OneSolution}
 use Rattle.brooklet_model.specs.Words.{feed_all}
 use Rattle.brooklet_model.proofs.Lists.{if_true, if_false, funext}
 
+-- the first name of a list stands in it
 pub count_here : (w : Name) (ws : List Name) → 0 < count w (w ∷ ws)
 count_here w ws = let e = one_same w in omega (arith, e)
 
+-- equal names count as one
 pub one_of : (a b : Name) → a ≡ b → one_if (name_eq a b) ≡ 1
 one_of a b e = subst (λ c. one_if (name_eq a c) ≡ 1) e (one_same a)
 
@@ -28,6 +30,7 @@ lists_by_place h h' (r ∷ rs) e (suc p) = lists_by_place h h' rs (λ q lt. e q 
 pub lists_same : (h h' : History) (rs : List Name) → ((q : Name) → 0 < count q rs → h q ≡ h' q) → lists_of h rs ≡ lists_of h' rs
 lists_same h h' rs e = funext (lists_of h rs) (lists_of h' rs) (lists_by_place h h' rs e)
 
+-- an operator gives the same for histories that agree at what it reads
 pub given_same : (op : OpForm) (h h' : History) → ((q : Name) → 0 < count q op.reads → h q ≡ h' q) → given op h ≡ given op h'
 given_same op h h' e = ap (λ l. feed_all op.kernel l (first_kept op.kernel)) (lists_same h h' op.reads e)
 
@@ -57,6 +60,7 @@ written_out (w ∷ ws) f h q z = ⊎_elim
     (λ c. if_false (name_eq w q) _ _ c.1 ∙ written_out ws (λ j. f (suc j)) h q (omega (arith, z)))
     (cases_name w q)
 
+-- a queue that no operator writes keeps its history
 pub stays : (ops : List OpForm) (h : History) (q : Name) → total (writes_it q) ops ≡ 0 → histories ops h q ≡ h q
 stays [] h q z = refl
 stays (op ∷ ops) h q z = stays ops (written op.writes (given op h).outs h) q (omega (arith, z)) ∙ written_out op.writes (given op h).outs h q (omega (arith, z))
@@ -93,6 +97,7 @@ solves (op ∷ ops) known h r k once =
           (λ q. let o = once q in omega (arith, o)),
     )
 
+-- the histories of a plan solve the equations of its operators
 pub plan_solves : (p : PlanForm) → IsPlan p → (g : History) → Each (Solves (histories p.ops g)) p.ops
 plan_solves p v g = solves p.ops (λ q. count q (decl_names p.inputs)) g v.in_order
     (λ q lt. let o = v.written_once q in omega (arith, o, lt))
@@ -108,8 +113,10 @@ plan_unique p v g h e s q = ⊎_elim
     (λ z. e q z ∙ sym (stays p.ops g q z))
     (more_or_zero (total (writes_it q) p.ops))
 
+-- the histories of every valid plan do
 pub solve_law : HistoriesSolve
 solve_law p inputs v = (plan_solves p v (given_to p inputs), λ q z. stays p.ops (given_to p inputs) q z)
 
+-- nothing else does
 pub one_solution_law : OneSolution
 one_solution_law p inputs h v s e q = plan_unique p v (given_to p inputs) h e s q

@@ -8,12 +8,15 @@ use Rattle.river_kernels.specs.Fits.{spliced}
 use Rattle.brooklet_model.specs.Firings.{splice}
 use Rattle.brooklet_model.proofs.Lists.{if_lt, if_ge}
 
+-- below the place, the first list's
 pub splice_first : {A : Type 0} (at n : ℕ) (f g : ℕ → A) (p : ℕ) → p < at → splice at n f g p ≡ f p
 splice_first at n f g p lt = if_lt p at (f p) _ lt
 
+-- from the place on, the second list's
 pub splice_second : {A : Type 0} (at n : ℕ) (f g : ℕ → A) (p : ℕ) → at ≤ p → p - at < n → splice at n f g p ≡ g (p - at)
 splice_second at n f g p ge lt = if_ge p at (f p) _ ge ∙ if_lt (p - at) n (g (p - at)) (f (p - n + 1)) lt
 
+-- behind that, the first list's again, one later
 pub splice_last : {A : Type 0} (at n : ℕ) (f g : ℕ → A) (p : ℕ) → at ≤ p → n ≤ p - at → splice at n f g p ≡ f (p - n + 1)
 splice_last at n f g p ge le = if_ge p at (f p) _ ge ∙ if_ge (p - at) n (g (p - at)) (f (p - n + 1)) le
 

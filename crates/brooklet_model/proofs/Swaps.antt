@@ -12,15 +12,19 @@ use Rattle.brooklet_model.proofs.Lists.{if_eq, if_ne}
 pub alike_refl : (r : Fired) → Alike r r
 alike_refl r = record { outs = λ p. refl; adds = λ t test. refl; states = refl }
 
+-- alike is transitive
 pub alike_trans : (r s t : Fired) → Alike r s → Alike s t → Alike r t
 alike_trans r s t a b = record { outs = λ p. a.outs p ∙ b.outs p; adds = λ u test. a.adds u test ∙ b.adds u test; states = a.states ∙ b.states }
 
+-- alike is symmetric
 pub alike_sym : (r s : Fired) → Alike r s → Alike s r
 alike_sym r s a = record { outs = λ p. sym (a.outs p); adds = λ u test. sym (a.adds u test); states = sym a.states }
 
+-- what is the same is alike
 pub alike_same : (r s : Fired) → Same r s → Alike r s
 alike_same r s a = record { outs = a.outs; adds = λ u test. ap (count_by test) (a.adds u); states = a.states }
 
+-- how many of two lists pass a test
 pub count_by-append : {A : Type 0} (test : A → Bool) (xs ys : List A) → count_by test (xs ++ ys) ≡ count_by test xs + count_by test ys
 count_by-append test xs ys = sum_by-append (λ x. if test x then 1 else 0) xs ys
 
@@ -48,9 +52,11 @@ pub same_assoc : (a b c : Fired) → Same (and_then (and_then a b) c) (and_then 
 same_assoc a b c =
     record { outs = λ p. append_assoc (a.outs p) (b.outs p) (c.outs p); adds = λ t. append_assoc (a.adds t) (b.adds t) (c.adds t); states = refl }
 
+-- the first item of a word, at its port
 pub at_port_here : (p : ℕ) (e : ℕ × item.Item) (es : Word) → e.0 ≡ p → at_port p (e ∷ es) ≡ e.1 ∷ at_port p es
 at_port_here p e es h = if_eq e.0 p (e.1 ∷ at_port p es) (at_port p es) h
 
+-- the first item of a word is at no other port
 pub at_port_past : (p : ℕ) (e : ℕ × item.Item) (es : Word) → e.0 ≢ p → at_port p (e ∷ es) ≡ at_port p es
 at_port_past p e es h = if_ne e.0 p (e.1 ∷ at_port p es) (at_port p es) h
 

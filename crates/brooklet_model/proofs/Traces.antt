@@ -25,14 +25,17 @@ use Rattle.brooklet_model.proofs.Swaps.{count_by-append, at_port_here, at_port_p
 
 -- BY NUMBER AND BY SUM
 
+-- what stands in equal options is equal
 pub some_is : {A : Type 0} (a b : A) → Some a ≡ Some b → a ≡ b
 some_is a b e = cc
 
+-- an operator's number is at most the sum
 pub at_most : (f : OpForm → ℕ) (ops : List OpForm) (o : ℕ) (op : OpForm) → slice_get ops o ≡ Some op → f op ≤ total f ops
 at_most f [] o op g = absurd (cc g)
 at_most f (a ∷ ops) zero op g = let e = ap f (some_is a op g) in omega (arith, e)
 at_most f (a ∷ ops) (suc o) op g = let i = at_most f ops o op g in omega (arith, i)
 
+-- where the sum is at most 1, only one operator has a number above 0
 pub one_place : (f : OpForm → ℕ) (ops : List OpForm) (o o' : ℕ) (op op' : OpForm) → total f ops ≤ 1 → slice_get ops o ≡ Some op → slice_get ops o' ≡ Some op'
     → 0 < f op → 0 < f op' → o ≡ o'
 one_place f [] o o' op op' h g g' i i' = absurd (cc g)
@@ -43,11 +46,13 @@ one_place f (a ∷ ops) (suc o) zero op op' h g g' i i' =
     absurd (let e = ap f (some_is a op' g') in let m = at_most f ops o op g in omega (arith, e, m, h, i, i'))
 one_place f (a ∷ ops) (suc o) (suc o') op op' h g g' i i' = ap suc (one_place f ops o o' op op' (omega (arith, h)) g g' i i')
 
+-- a name that is got stands in the list
 pub got_count : (rs : List Name) (p : ℕ) (q : Name) → slice_get rs p ≡ Some q → 0 < count q rs
 got_count [] p q g = absurd (cc g)
 got_count (r ∷ rs) zero q g = let e = one_of r q (some_is r q g) in omega (arith, e)
 got_count (r ∷ rs) (suc p) q g = let e = got_count rs p q g in omega (arith, e)
 
+-- a name that stands once has one place
 pub place_once : (rs : List Name) (p p' : ℕ) (q : Name) → count q rs ≤ 1 → slice_get rs p ≡ Some q → slice_get rs p' ≡ Some q → p ≡ p'
 place_once [] p p' q h g g' = absurd (cc g)
 place_once (r ∷ rs) zero zero q h g g' = refl
@@ -55,20 +60,24 @@ place_once (r ∷ rs) zero (suc p') q h g g' = absurd (let e = one_of r q (some_
 place_once (r ∷ rs) (suc p) zero q h g g' = absurd (let e = one_of r q (some_is r q g') in let c = got_count rs p q g in omega (arith, e, c, h))
 place_once (r ∷ rs) (suc p) (suc p') q h g g' = ap suc (place_once rs p p' q (omega (arith, h)) g g')
 
+-- what holds of each operator holds of the one that is got
 pub each_at : (P : OpForm → Type 0) (ops : List OpForm) (o : ℕ) (op : OpForm) → Each P ops → slice_get ops o ≡ Some op → P op
 each_at P [] o op h g = absurd (cc g)
 each_at P (a ∷ ops) zero op h g = subst P (some_is a op g) h.0
 each_at P (a ∷ ops) (suc o) op h g = each_at P ops o op h.1 g
 
+-- what holds of each operator that is got holds of each
 pub each_of : (P : OpForm → Type 0) (ops : List OpForm) → ((o : ℕ) (op : OpForm) → slice_get ops o ≡ Some op → P op) → Each P ops
 each_of P [] h = tt
 each_of P (a ∷ ops) h = (h 0 a refl, each_of P ops (λ o op g. h (suc o) op g))
 
+-- the history of the queue at a port
 pub got_read : (h : History) (rs : List Name) (p : ℕ) (q : Name) → slice_get rs p ≡ Some q → lists_of h rs p ≡ h q
 got_read h [] p q g = absurd (cc g)
 got_read h (r ∷ rs) zero q g = ap h (some_is r q g)
 got_read h (r ∷ rs) (suc p) q g = got_read h rs p q g
 
+-- a port below the number of reads has a queue
 pub read_of : (rs : List Name) (p : ℕ) → p < length rs → (q : Name) × (slice_get rs p ≡ Some q)
 read_of [] p lt = absurd (omega (arith, lt))
 read_of (r ∷ rs) zero lt = (r, refl)
@@ -76,6 +85,7 @@ read_of (r ∷ rs) (suc p) lt = read_of rs p (omega (arith, lt))
 
 -- WHAT COMES TO THE QUEUES
 
+-- a queue that is not written is given nothing
 pub joined_out : {A : Type 0} (ws : List Name) (f : ℕ → List A) (q : Name) → count q ws ≡ 0 → joined ws f q ≡ []
 joined_out [] f q z = refl
 joined_out (w ∷ ws) f q z = ⊎_elim
@@ -83,6 +93,7 @@ joined_out (w ∷ ws) f q z = ⊎_elim
     (λ c. ap (λ l. l ++ joined ws (λ j. f (suc j)) q) (if_false (name_eq w q) (f 0) [] c.1) ∙ joined_out ws (λ j. f (suc j)) q (omega (arith, z)))
     (cases_name w q)
 
+-- lists that stand for histories still do, where both grow alike
 pub lists_more : (ws : List Name) (F f : ℕ → List item.Item) (H g : Name → List item.Item) → ((q : Name) → count q ws ≤ 1)
     → ((q : Name) → 0 < count q ws → g q ≡ joined ws f q) → Lists ws F H → Lists ws (λ j. F j ++ f j) (λ q. H q ++ g q)
 lists_more [] F f H g once e l = tt
@@ -99,6 +110,7 @@ lists_more (w ∷ ws) F f H g once e l = (
       (cases_name w q)) l.1,
 )
 
+-- what is joined of two lists at each port, counted
 pub joined-append : {A : Type 0} (test : A → Bool) (ws : List Name) (f g : ℕ → List A) (q : Name)
     → count_by test (joined ws (λ j. f j ++ g j) q) ≡ count_by test (joined ws f q) + count_by test (joined ws g q)
 joined-append {A} test [] f g q = refl
@@ -122,6 +134,7 @@ joined-append {A} test (w ∷ ws) f g q =
     omega (arith, e1, e2, e3, i))
     (cases_name w q)
 
+-- of empty lists nothing is joined
 pub joined_none : {A : Type 0} (ws : List Name) (q : Name) → joined {A = A} ws none q ≡ []
 joined_none [] q = refl
 joined_none (w ∷ ws) q = ⊎_elim
@@ -129,6 +142,7 @@ joined_none (w ∷ ws) q = ⊎_elim
     (λ c. ap (λ l. l ++ joined ws none q) (if_false (name_eq w q) [] [] c.1) ∙ joined_none ws q)
     (cases_name w q)
 
+-- of equal bags equal bags are joined
 pub joined_bag : (test : List ℤ → Bool) (ws : List Name) (f g : ℕ → List (List ℤ)) (q : Name) → ((j : ℕ) → SameBag (f j) (g j))
     → count_by test (joined ws f q) ≡ count_by test (joined ws g q)
 joined_bag test [] f g q h = refl
@@ -149,9 +163,11 @@ joined_bag test (w ∷ ws) f g q h =
     omega (arith, e2, e3, i))
     (cases_name w q)
 
+-- at its own key a value stands
 pub at_key_same : {A : Type 0} (k : ℕ) (v : A) (f : ℕ → A) → at_key k v f k ≡ v
 at_key_same k v f = if_eq k k v (f k) refl
 
+-- at other keys nothing changes
 pub at_key_other : {A : Type 0} (k : ℕ) (v : A) (f : ℕ → A) (q : ℕ) → k ≢ q → at_key k v f q ≡ f q
 at_key_other k v f q ne = if_ne k q v (f q) ne
 
@@ -176,12 +192,14 @@ at_same ops F o o' op op' g g' e h =
     let eo : op ≡ op' = some_is op op' (sym g ∙ ap (slice_get ops) e ∙ g') in
     subst (λ i. F i op') e (subst (F o) eo h)
 
+-- one item more is taken
 pub take_next : (xs more : List item.Item) (n : ℕ) (x : item.Item) → slice_get xs n ≡ Some x → take (n + 1) (xs ++ more) ≡ take n xs ++ x ∷ []
 take_next xs more n x h =
     let lt = got_below xs n x h in
     let x_is : get_or xs n x ≡ x = let g : Some (get_or xs n x) ≡ Some x = sym (slice_get-get_or xs n x lt) ∙ h in cc in
     take-append-le (n + 1) xs more (omega (arith, lt)) ∙ take_more xs n x lt ∙ ap (λ y. take n xs ++ y ∷ []) x_is
 
+-- sums by place are equal, where their parts are
 pub numbered_same : (f f' : ℕ → OpForm → ℕ) (ops : List OpForm) (j : ℕ) → ((i : ℕ) (op : OpForm) → slice_get ops i ≡ Some op → f (j + i) op ≡ f' (j + i) op)
     → numbered f j ops ≡ numbered f' j ops
 numbered_same f f' [] j h = refl
@@ -208,20 +226,24 @@ numbered_more f f' (a ∷ ops) j (suc o) d op g e h =
     let u = h j a (let ne : j ≢ j + suc o = omega arith in ne) in
     omega (arith, t, u)
 
+-- a sum by place that asks for no place is the sum
 pub numbered_total : (f : OpForm → ℕ) (ops : List OpForm) (j : ℕ) → numbered (λ i op. f op) j ops ≡ total f ops
 numbered_total f [] j = refl
 numbered_total f (op ∷ ops) j = let e = numbered_total f ops (suc j) in omega (arith, e)
 
+-- of equal lists equal lists are joined
 pub joined_cong : {A : Type 0} (ts : List Name) (f g : ℕ → List A) (t : Name) → ((j : ℕ) → f j ≡ g j) → joined ts f t ≡ joined ts g t
 joined_cong [] f g t e = refl
 joined_cong (w ∷ ws) f g t e =
     ap (λ l. (if name_eq w t then l else []) ++ joined ws (λ j. f (suc j)) t) (e 0)
     ∙ ap (λ l. (if name_eq w t then g 0 else []) ++ l) (joined_cong ws (λ j. f (suc j)) (λ j. g (suc j)) t (λ j. e (suc j)))
 
+-- lists stand for histories, where equal ones do
 pub lists_cong : (ws : List Name) (f g : ℕ → List item.Item) (h : History) → ((j : ℕ) → f j ≡ g j) → Lists ws f h → Lists ws g h
 lists_cong [] f g h e l = tt
 lists_cong (w ∷ ws) f g h e l = (l.0 ∙ e 0, lists_cong ws (λ j. f (suc j)) (λ j. g (suc j)) h (λ j. e (suc j)) l.1)
 
+-- histories that agree at what is written are stood for alike
 pub lists_agree : (ws : List Name) (f : ℕ → List item.Item) (h h' : History) → ((q : Name) → 0 < count q ws → h q ≡ h' q) → Lists ws f h → Lists ws f h'
 lists_agree [] f h h' e l = tt
 lists_agree (w ∷ ws) f h h' e l = (sym (e w (count_here w ws)) ∙ l.0, lists_agree ws (λ j. f (suc j)) h h' (λ q lt. e q (omega (arith, lt))) l.1)
@@ -230,6 +252,7 @@ lists_agree (w ∷ ws) f h h' e l = (sym (e w (count_here w ws)) ∙ l.0, lists_
 abbrev pub adds_it : List Name → History → Name → (List ℤ → Bool) → OpForm → ℕ
 adds_it tables h t test op = count_by test (joined (tables_of tables op) (given op h).adds t)
 
+-- how many of the rows that all operators add to a table pass a test
 pub adds_total : (tables : List Name) (ops : List OpForm) (h : History) (t : Name) (test : List ℤ → Bool)
     → count_by test (adds tables ops h t) ≡ total (adds_it tables h t test) ops
 adds_total tables [] h t test = refl

@@ -48,10 +48,12 @@ module _ (p : PlanForm) (v : IsPlan p) where
   pub op_fits : (o : ℕ) (op : OpForm) → slice_get p.ops o ≡ Some op → IsFit p op
   op_fits o op g = each_at (IsFit p) p.ops o op v.fits g
 
+-- two words of typed items, one after the other
 pub at_append : (is : List QueueType) (u w : Word) → IsWordOf is u → IsWordOf is w → IsWordOf is (u ++ w)
 at_append is [] w a b = b
 at_append is (e ∷ es) w a b = (a.0, at_append is es w a.1 b)
 
+-- typed items of one port are a typed word
 pub at_word : (is : List QueueType) (p : ℕ) (xs : List item.Item) → All (IsOf is p) xs → IsWordOf is (word_of p xs)
 at_word is p [] h = tt
 at_word is p (x ∷ xs) h = (All-head (IsOf is p) x xs h, at_word is p xs (All-tail (IsOf is p) x xs h))
@@ -139,6 +141,7 @@ inputs_found (d ∷ ds) (xs ∷ ls) a q lt = ⊎_elim
     (inputs_found ds ls a.1 q (let e = ap one_if c.1 in omega (arith, e, lt)))))
     (cases_name d.name q)
 
+-- the histories of the inputs are of their types
 pub inputs_typed : (p : PlanForm) → IsPlan p → (inputs : List (List item.Item)) → AreInputs p.inputs inputs
     → EachQueue (kind_of (all_decls p)) (inputs_of (decl_names p.inputs) (list_at inputs))
 inputs_typed p v inputs a q = ⊎_elim
@@ -218,5 +221,6 @@ module _ (p : PlanForm) (v : IsPlan p) where
   pub step_typed : (s s' : Machine) (o port : ℕ) → IsTypedState p s → Step p s o port s' → IsTypedState p s'
   step_typed s s' o port t st = subst (IsTypedState p) (sym st.after) (fired_typed o port st.op st.queue st.item s t st.op_is st.queue_is st.item_is)
 
+-- all items of all histories are of their queues' types
 pub typed_law : HistoriesAreTyped
 typed_law p inputs v a q = histories_typed p v inputs a q

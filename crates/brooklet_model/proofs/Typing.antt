@@ -392,22 +392,17 @@ waits_none is (suc n) (suc p) = go n p
     go (suc n) zero = All-nil (IsOf is (suc p))
     go (suc n) (suc q) = go n q
 
+-- the first states of a kernel keep items of the types that it reads
 pub first_holds : (k : Kern) (is : List QueueType) → IsShaped k → Holds k is (first_kept k)
-first_holds (code k) is f = tt
-first_holds (filter g) is f = tt
-first_holds (duplicate n) is f = tt
-first_holds (deal ws) is f = tt
 first_holds (collect ws) is f = λ p. waits_none is (length ws) p
 first_holds (packed k) is f = first_holds k is f.0
 first_holds (unpack n) is f = λ p. waits_none is n p
 first_holds (window w) is f = All-nil (IsOf is 0)
-first_holds (select e) is f = tt
-first_holds (project es) is f = tt
 first_holds cross is f = (All-nil (IsOf is 0), All-nil (IsOf is 1))
 first_holds (streamer s) is f = All-nil (IsOf is 0)
-first_holds tally is f = tt
 first_holds (fused a b at) is f =
     let la = shape_length a (first_kept a) (first_shape a f.0) in (
       subst (Holds a is) (sym (take_front (first_kept a) (first_kept b) (privates a) la)) (first_holds a is f.0),
       subst (Holds b (between at (types_of a is))) (sym (drop_front (first_kept a) (first_kept b) (privates a) la)) (first_holds b (between at (types_of a is)) f.1),
     )
+first_holds kernel is f = tt

@@ -19,20 +19,12 @@ pub record IsFormed (k : Kern) : Type 0 where
 -- what well-formed kernels have, whatever the types: ports that take turns have shares, a pack and the second of two
 -- kernels have one input, and the port between two kernels is there
 abbrev pub IsShaped : Kern → Type 0
-IsShaped (code k) = Unit {0}
-IsShaped (filter f) = Unit {0}
-IsShaped (duplicate n) = Unit {0}
 IsShaped (deal ws) = HaveShares (shares ws)
 IsShaped (collect ws) = HaveShares (shares ws)
 IsShaped (packed k) = IsShaped k × (ins k ≡ 1) × (outs k ≡ 1) × (tabs k ≡ 0) × (privates k ≡ 0)
 IsShaped (unpack n) = HaveShares (ones n)
-IsShaped (window w) = Unit {0}
-IsShaped (select e) = Unit {0}
-IsShaped (project es) = Unit {0}
-IsShaped cross = Unit {0}
-IsShaped (streamer s) = Unit {0}
-IsShaped tally = Unit {0}
 IsShaped (fused a b at) = IsShaped a × IsShaped b × (at < outs a) × (ins b ≡ 1)
+IsShaped kernel = Unit {0}
 
 -- so many slots
 abbrev pub AreSlots : ℕ → Kept → Type 0

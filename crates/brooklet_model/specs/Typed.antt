@@ -11,7 +11,7 @@ use Rattle.river_kernels.specs.declared.types.Types.{Types}
 use Rattle.river_kernels.specs.declared.types.VarKind.{VarKind}
 use Rattle.river_kernels.specs.declared.types.VarKind.TheVariants.{Private, Table}
 use Rattle.river_kernels.specs.Types.{types_of}
-use Rattle.river_kernels.specs.Kern.{Kern, code, filter, duplicate, deal, collect, packed, unpack, window, select, project, cross, streamer, tally, fused}
+use Rattle.river_kernels.specs.Kern.{Kern, collect, packed, unpack, window, cross, streamer, fused}
 use Rattle.brooklet_model.specs.Firings.{Kept, Joining, Received, Crossing}
 use Rattle.brooklet_model.specs.Fire.{privates}
 use Rattle.brooklet_model.specs.Machine.{Machine}
@@ -61,20 +61,14 @@ between at (Some types) = one_type (slice_get types.outs at)
 
 -- the states of a kernel on rows that reads these types keep only items of them
 abbrev pub Holds : Kern → List QueueType → List Kept → Type 0
-Holds (code k) is ss = Unit {0}
-Holds (filter f) is ss = Unit {0}
-Holds (duplicate n) is ss = Unit {0}
-Holds (deal ws) is ss = Unit {0}
 Holds (collect ws) is ss = AreWaiting is ss
 Holds (packed k) is ss = Holds k is ss
 Holds (unpack n) is ss = AreWaiting is ss
 Holds (window w) is ss = AreReceived is ss
-Holds (select e) is ss = Unit {0}
-Holds (project es) is ss = Unit {0}
 Holds cross is ss = ArePaired is ss
 Holds (streamer s) is ss = AreReceived is ss
-Holds tally is ss = Unit {0}
 Holds (fused a b at) is ss = Holds a is (take (privates a) ss) × Holds b (between at (types_of a is)) (drop (privates a) ss)
+Holds kernel is ss = Unit {0}
 
 -- firings may begin at these states: they are those of the kernel's private variables, and keep only items of what it reads. The first
 -- states are such, and so are the states after each firing on items of these types; there may be others, to which no firings lead

@@ -18,6 +18,7 @@ use Rattle.brooklet_step.proofs.QueuePlaces.{joined_at-more}
 
 -- ROWS FOR ONE TABLE
 
+-- adding rows keeps the width of a table
 pub all_width : (t : Kept) (rows : List (List ℤ)) → width_of (fold added t rows) ≡ width_of t
 all_width t [] = refl
 all_width t (r ∷ rs) = all_width (added t r) rs ∙ ap table_width (added_kind t r)
@@ -31,6 +32,7 @@ added_step t now new rows i row lt e h a =
 
 -- ALL TABLES
 
+-- adding rows to tables keeps their number
 pub length-each_added : (ts : List Kept) (f : ℕ → List (List ℤ)) → length (each_added ts f) ≡ length ts
 length-each_added [] f = refl
 length-each_added (t ∷ ts) f = ap suc (length-each_added ts (λ p. f (suc p)))
@@ -40,6 +42,7 @@ each_added-cong [] f g h = refl
 each_added-cong (t ∷ ts) f g h =
     let a = ap (fold added t) (h 0) in let b = each_added-cong ts (λ p. f (suc p)) (λ p. g (suc p)) (λ p. h (suc p)) in λ i. a i ∷ b i
 
+-- adding no rows keeps each table
 pub each_added-none : (ts : List Kept) → each_added ts (λ p. []) ≡ ts
 each_added-none [] = refl
 each_added-none (t ∷ ts) = ap (λ l. t ∷ l) (each_added-none ts)

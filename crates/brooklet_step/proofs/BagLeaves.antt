@@ -61,6 +61,7 @@ content_of n (Pack fs) h = absurd h
 content_at : (n p : ℕ) (reads : List QueueType) (x : item.Item) → reads ≡ relation n ∷ [] → IsOf reads p x → IsContent n x
 content_at n p reads x e h = content_of n x (at_only (relation n) p x (subst (λ (l : List QueueType). IsOf l p x) e h))
 
+-- equal items of one part have equal parts
 pub same_flat : (f g : flat.Flat) → Flat f ≡ Flat g → f ≡ g
 same_flat f g h = cc
 
@@ -84,17 +85,21 @@ module _ (k : Kern) (w : Window) (port : ℕ) (x : item.Item) (st : List State) 
   b : Applies (window w) port x st out
   b = subst (λ (j : Kern). Applies j port x st out) ek a
 
+  -- what a window takes is a batch
   pub window_item : IsBatch x
   window_item = let f = b.takes.fitted.fits in stream_batch f.0 x (at_only (stream f.0) port x (subst (λ (l : List QueueType). IsOf l port x) f.1 b.takes.item))
 
+  -- what a window keeps is a window's state
   pub window_state : (d s : State) → s ≡ get_or st 0 d → IsWindowState w s
   window_state d s g =
       let h = b.takes.fitted.keeps.stands in
       record { now = h.now; is = only_state st d s (state.Window h.now) g h.code; kept = record { past = h.past; stands = h.stands } }
 
+-- equal states of windows keep the same
 pub same_window : (u v : WindowKept) → state.Window u ≡ state.Window v → u ≡ v
 same_window u v h = cc
 
+-- a window's step is its firing
 pub window_fires : (k : Kern) (w : Window) (port : ℕ) (x : item.Item) (st : List State) (d s s' : State) (out out' : Emit) → k ≡ window w → s ≡ get_or st 0 d
     → Stepped (λ n. state.Window n) (StandsForWindow w) (window_one w) x s s' out out' → Fires k out out' st (set st 0 s') (fire k port x)
 window_fires k w port x st d s s' out out' ek g t =
@@ -151,6 +156,7 @@ select_in (Relation n) e (Flat (Batched b)) g h =
 select_in (Relation n) e (Flat (One row)) g h = absurd h
 select_in (Relation n) e (Pack fs) g h = absurd h
 
+-- what a selection takes has rows that its condition can read
 pub select_item : (k : Kern) (e : Term) (port : ℕ) (x : item.Item) (st : List State) → k ≡ select e → Takes k port x st
     → IsFlatWith (λ f. CanRead e (flat_rows f)) x
 select_item k e port x st ek t =
@@ -158,6 +164,7 @@ select_item k e port x st ek t =
     let f = u.fitted.fits in
     select_in f.0 e x f.4 (at_only (FlatOf f.0) port x (subst (λ (l : List QueueType). IsOf l port x) f.1 u.item))
 
+-- a selection's step is its firing
 pub select_fires : (k : Kern) (e : Term) (port : ℕ) (x : item.Item) (st : List State) (out out' : Emit) → k ≡ select e
     → Took out out' (gives 0 (select_one e x) []) → Fires k out out' st st (fire k port x)
 select_fires k e port x st out out' ek t =
@@ -172,6 +179,7 @@ can_project n es rows g h =
     let r = and_parts (nat_le 1 (length es)) (nat_le (length es) 16) q.0 in
     record { some = le_by 1 (length es) r.0; at_most = le_by (length es) 16 r.1; within = λ k d lt. subst (λ m. AllByRecursion (IsWithin m 0) es) (sym (h k d lt)) (terms_within n 0 es q.1) }
 
+-- what a projection takes has rows that its expressions can read
 pub project_item : (k : Kern) (es : List Term) (port : ℕ) (x : item.Item) (st : List State) → k ≡ project es → Takes k port x st
     → IsFlatWith (λ f. CanProject es (flat_rows f)) x
 project_item k es port x st ek t =
@@ -180,6 +188,7 @@ project_item k es port x st ek t =
     let c = content_at f.0 port u.reads x f.1 u.item in
     record { content = c.content; is = c.is; holds = can_project f.0 es (flat_rows c.content) f.4 c.wide }
 
+-- a projection's step is its firing
 pub project_fires : (k : Kern) (es : List Term) (port : ℕ) (x : item.Item) (st : List State) (out out' : Emit) → k ≡ project es
     → Took out out' (gives 0 (project_one es x) []) → Fires k out out' st st (fire k port x)
 project_fires k es port x st out out' ek t =
@@ -192,15 +201,19 @@ module _ (k : Kern) (s : Streamer) (port : ℕ) (x : item.Item) (st : List State
   u : Takes (streamer s) port x st
   u = subst (λ (j : Kern). Takes j port x st) ek t
 
+  -- what a streamer takes has ascending rows
   pub streamer_item : IsFlatWith (λ f. IsAscending (flat_rows f)) x
   streamer_item = let f = u.fitted.fits in let c = content_at f.0 port u.reads x f.1 u.item in record { content = c.content; is = c.is; holds = c.up }
 
+  -- what a streamer keeps is a streamer's state
   pub streamer_state : (d v : State) → v ≡ get_or st 0 d → IsStreamerState v
   streamer_state d v g = let h = u.fitted.keeps.stands in record { now = h.now; is = only_state st d v (state.Streamer h.now) g h.code; ascends = h.ascends }
 
+-- equal states of streamers keep the same rows
 pub same_rows : (u v : List (List ℤ)) → state.Streamer u ≡ state.Streamer v → u ≡ v
 same_rows u v h = cc
 
+-- a streamer's step is its firing
 pub streamer_fires : (k : Kern) (s : Streamer) (port : ℕ) (x : item.Item) (st : List State) (d v v' : State) (out out' : Emit) → k ≡ streamer s
     → v ≡ get_or st 0 d
     → Stepped (λ n. state.Streamer n) (StandsForStreamer s) (streamer_one s) x v v' out out' → IsStreamerState v'
@@ -256,9 +269,11 @@ module _ (k : Kern) (port : ℕ) (x : item.Item) (st : List State) (ek : k ≡ c
   c : Takes cross port x st
   c = subst (λ (j : Kern). Takes j port x st) ek t
 
+  -- what a product takes is one batch
   pub cross_item : IsFlat x
   cross_item = let f = c.fitted.fits in pair_flat f.0 f.1 port x (subst (λ (l : List QueueType). IsOf l port x) f.2 c.item)
 
+  -- what a product keeps is a product's state
   pub cross_state : (d s : State) → s ≡ get_or st 0 d → IsCrossState port x s
   cross_state d s g =
       let f = c.fitted.fits in
@@ -273,9 +288,11 @@ module _ (k : Kern) (port : ℕ) (x : item.Item) (st : List State) (ek : k ≡ c
         can = pair_can f.0 f.1 port x h.now few (subst (λ (l : List QueueType). IsOf l port x) f.2 c.item) w.0 w.1;
       }
 
+-- equal states of products keep the same
 pub same_pairing : (u v : Pairing) → state.Cross u ≡ state.Cross v → u ≡ v
 same_pairing u v h = cc
 
+-- a product's step is its firing
 pub cross_fires : (k : Kern) (port : ℕ) (x : item.Item) (st : List State) (d s s' : State) (out out' : Emit) → k ≡ cross → s ≡ get_or st 0 d
     → Paired port x s s' out out' → Fires k out out' st (set st 0 s') (fire k port x)
 cross_fires k port x st d s s' out out' ek g t =

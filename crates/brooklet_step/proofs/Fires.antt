@@ -28,6 +28,7 @@ use Rattle.brooklet_step.specs.Stands.{StandsFor, Fires, Takes}
 
 -- PACKS OF WHAT ITEMS ARE
 
+-- the parts of two lists of items, one after the other
 pub flats-append : (xs ys : List item.Item) → flats (xs ++ ys) ≡ flats xs ++ flats ys
 flats-append [] ys = refl
 flats-append (Flat f ∷ xs) ys = ap (λ t. f ∷ t) (flats-append xs ys)
@@ -39,17 +40,21 @@ pub flats_next : (all all' : List flat.Flat) (whole items rest : List item.Item)
 flats_next all all' whole items rest x h e n =
     ap (λ l. l ++ flats rest) n ∙ append_assoc all (flats (x ∷ [])) (flats rest) ∙ ap (λ l. all ++ l) (sym (flats-append (x ∷ []) rest)) ∙ ap (λ l. all ++ flats l) (sym e) ∙ h
 
+-- a packed kernel as plain data
 pub kern_of-packed : (a : Box Kernel Global) → kern_of (kernel.Packed a) ≡ packed (kern_of a.value)
 kern_of-packed a = ap kern_of (sym (kernel.rolls-Packed a)) ∙ fold-roll-Kernel Kern kern_at (layer.Packed a)
 
+-- a filter as plain data
 pub kern_of-filter : (f : Filter) → kern_of (kernel.Filter f) ≡ filter (filter_form f)
 kern_of-filter f = ap kern_of (sym (kernel.rolls-Filter f)) ∙ fold-roll-Kernel Kern kern_at (layer.Filter f)
 
+-- a kernel that copies, as plain data
 pub kern_of-duplicate : (n : ℕ) → kern_of (kernel.Duplicate n) ≡ duplicate n
 kern_of-duplicate n = ap kern_of (sym (kernel.rolls-Duplicate n)) ∙ fold-roll-Kernel Kern kern_at (layer.Duplicate n)
 
 -- ROOM
 
+-- empty lists have a place for each port and table
 pub blank_room : (k : Kern) (e : Emit) → IsBlank k e → HasRoom k e
 blank_room k e b = record { outs = ap length b.outs ∙ length-replicate (outs k) []; adds = ap length b.adds ∙ length-replicate (tabs k) [] }
 
@@ -72,6 +77,7 @@ on_both P Q R (Err e) f h g = h
 
 -- A FILTER, AND COPIES
 
+-- a filter's firing on its one state is its firing on all states
 pub filter_whole : (k : Kern) (f : FilterForm) (port : ℕ) (x : item.Item) (st : List State) (d s s' : State) (out out' : Emit) → k ≡ filter f
     → Takes k port x st → s ≡ get_or st 0 d → Fires (filter f) out out' (s ∷ []) (s' ∷ []) (fire (filter f) 0 x)
     → Fires k out out' st (set st 0 s') (fire k port x)
@@ -82,6 +88,7 @@ filter_whole k f port x st d s s' out out' ek t g h =
     let whole : Fires (filter f) out out' st (set st 0 s') (fire (filter f) port x) = subst (λ (l : List State). Fires (filter f) out out' l (set l 0 s') (fire (filter f) port x)) (sym e) h in
     subst (λ (j : Kern). Fires j out out' st (set st 0 s') (fire j port x)) (sym ek) whole
 
+-- giving an item at each port is the firing of a kernel that copies
 pub duplicate_fires : (k : Kern) (n port : ℕ) (x : item.Item) (st : List State) (out out' : Emit) → k ≡ duplicate n → HasRoom k out
     → out'.outs ≡ each_grew out.outs (λ p. x ∷ []) → out'.adds ≡ out.adds → Fires k out out' st st (fire k port x)
 duplicate_fires k n port x st out out' ek room eo ea =

@@ -29,12 +29,14 @@ inputs_at (e ∷ ds) [] a i d g = absurd a
 inputs_at (e ∷ ds) (xs ∷ ls) a zero d g = subst (λ (x : Decl). All (HasType x.kind) xs) (decl_is e d g) a.0
 inputs_at (e ∷ ds) (xs ∷ ls) a (suc i) d g = inputs_at ds ls a.1 i d g
 
+-- lists that have the declared types, place by place, are inputs
 pub inputs_by : (ds : List Decl) (ls : List (List item.Item)) → length ds ≡ length ls → EachAt (λ d xs. All (HasType d.kind) xs) ds ls → AreInputs ds ls
 inputs_by [] [] e h = tt
 inputs_by [] (xs ∷ ls) e h = absurd (omega (arith, e))
 inputs_by (d ∷ ds) [] e h = absurd (omega (arith, e))
 inputs_by (d ∷ ds) (xs ∷ ls) e h = (h 0 d refl, inputs_by ds ls (omega (arith, e)) (λ i x g. h (suc i) x g))
 
+-- there is a list for each input
 pub inputs_long : (ds : List Decl) (ls : List (List item.Item)) → AreInputs ds ls → length ls ≡ length ds
 inputs_long [] [] a = refl
 inputs_long [] (xs ∷ ls) a = absurd a
@@ -48,6 +50,7 @@ instants_at (x ∷ ds) ts [] e a i d g = absurd (omega (arith, e))
 instants_at (x ∷ ds) ts (xs ∷ ls) e a zero d g = subst (λ (y : Decl). HasInstants y.kind ts xs) (decl_is x d g) a.0
 instants_at (x ∷ ds) ts (xs ∷ ls) e a (suc i) d g = instants_at ds ts ls (omega (arith, e)) a.1 i d g
 
+-- lists that follow these instants, place by place
 pub instants_by : (ds : List Decl) (ts : List ℤ) (ls : List (List item.Item)) → EachAt (λ d xs. HasInstants d.kind ts xs) ds ls → AreInstants ds ts ls
 instants_by [] ts ls h = tt
 instants_by (d ∷ ds) ts [] h = tt
@@ -103,6 +106,7 @@ rises_at (a ∷ b ∷ xs) r zero x y g h = subst (λ z. instant_of z <ℤ instan
     got u v e = cc
 rises_at (a ∷ b ∷ xs) r (suc i) x y g h = rises_at (b ∷ xs) r.1 i x y g h
 
+-- instants rise, where each is below the next
 pub rises_by : (xs : List item.Item) → ((i : ℕ) (x y : item.Item) → slice_get xs i ≡ Some x → slice_get xs (suc i) ≡ Some y → instant_of x <ℤ instant_of y)
     → Rises (instants xs)
 rises_by [] h = tt
@@ -119,6 +123,7 @@ same_at xs ys e i x y g h =
     got_map (w ∷ ws) zero z k = let q : w ≡ z = cc in ap (λ v. Some (instant_of v)) q
     got_map (w ∷ ws) (suc n) z k = got_map ws n z k
 
+-- instants are the same, where they are at each place
 pub same_by : (xs ys : List item.Item) → length xs ≡ length ys
     → ((i : ℕ) (x y : item.Item) → slice_get xs i ≡ Some x → slice_get ys i ≡ Some y → instant_of x ≡ instant_of y) → instants xs ≡ instants ys
 same_by [] [] e h = refl
@@ -135,6 +140,7 @@ instants_long (x ∷ xs) (y ∷ ys) e = ap suc (instants_long xs ys (let t : ins
 
 -- LOOPS
 
+-- what holds below n and at n holds below n + 1
 pub until : (P : ℕ → Type 0) (n : ℕ) → ((i : ℕ) → i < n → P i) → P n → (i : ℕ) → i < n + 1 → P i
 until P n h last i lt = ⊎_elim (λ below. h i below) (λ ge. subst P (let e : n ≡ i = omega (arith, lt, ge) in e) last) (cases_lt i n)
 
@@ -144,11 +150,13 @@ got_here xs n x y lt e g = let s : Some x ≡ Some y = ap Some e ∙ sym (slice_
 got_at : {A : Type 0} (xs : List A) (n : ℕ) (x : A) → n < length xs → x ≡ get_or xs n x → slice_get xs n ≡ Some x
 got_at xs n x lt e = slice_get-get_or xs n x lt ∙ ap Some (sym e)
 
+-- the list at this place has its type
 pub typed_here : (ds : List Decl) (ls : List (List item.Item)) (n : ℕ) (d : Decl) (xs : List item.Item) → n < length ds → d ≡ get_or ds n d → xs ≡ list_at ls n
     → All (HasType d.kind) xs → (e : Decl) → slice_get ds n ≡ Some e → All (HasType e.kind) (list_at ls n)
 typed_here ds ls n d xs lt de xe a e g =
     subst (λ (x : Decl). All (HasType x.kind) (list_at ls n)) (got_here ds n d e lt de g) (subst (All (HasType d.kind)) xe a)
 
+-- a list without its type is no input
 pub not_typed : (ds : List Decl) (ls : List (List item.Item)) (n : ℕ) (d : Decl) (xs : List item.Item) → n < length ds → d ≡ get_or ds n d → xs ≡ list_at ls n
     → (All (HasType d.kind) xs → ⊥) → AreInputs ds ls → ⊥
 not_typed ds ls n d xs lt de xe h a = h (subst (All (HasType d.kind)) (sym xe) (inputs_at ds ls a n d (got_at ds n d lt de)))
@@ -161,11 +169,13 @@ pub stream_found : (ds : List Decl) (n : ℕ) (d : Decl) → n < length ds → d
     → (e : Decl) × (slice_get ds n ≡ Some e) × IsStream e.kind
 stream_found ds n d lt de s = (d, got_at ds n d lt de, s)
 
+-- the list at this place follows the instants
 pub follows_here : (ds : List Decl) (ts : List ℤ) (ls : List (List item.Item)) (n : ℕ) (d : Decl) (xs : List item.Item) → n < length ds → d ≡ get_or ds n d
     → xs ≡ list_at ls n → HasInstants d.kind ts xs → (e : Decl) → slice_get ds n ≡ Some e → HasInstants e.kind ts (list_at ls n)
 follows_here ds ts ls n d xs lt de xe h e g =
     subst (λ (x : Decl). HasInstants x.kind ts (list_at ls n)) (got_here ds n d e lt de g) (subst (HasInstants d.kind ts) xe h)
 
+-- a list that does not follow them is told
 pub not_follows : (ds : List Decl) (ts : List ℤ) (ls : List (List item.Item)) (n : ℕ) (d : Decl) (xs : List item.Item) → length ls ≡ length ds → n < length ds
     → d ≡ get_or ds n d → xs ≡ list_at ls n → (HasInstants d.kind ts xs → ⊥) → AreInstants ds ts ls → ⊥
 not_follows ds ts ls n d xs l lt de xe h a = h (subst (HasInstants d.kind ts) (sym xe) (instants_at ds ts ls l a n d (got_at ds n d lt de)))
@@ -177,27 +187,33 @@ later_here xs n m a b lt ae be me h x y g k =
     let eb : b ≡ y = got_here xs (suc n) b y (omega (arith, lt)) (be ∙ ap (λ i. get_or xs i b) me) k in
     subst (λ z. instant_of x <ℤ instant_of z) eb (subst (λ z. instant_of z <ℤ instant_of b) ea h)
 
+-- an instant that is not below the next is told
 pub not_later : (xs : List item.Item) (n m : ℕ) (a b : item.Item) → n + 1 < length xs → a ≡ get_or xs n a → b ≡ get_or xs m b → m ≡ suc n
     → (instant_of a <ℤ instant_of b → ⊥) → Rises (instants xs) → ⊥
 not_later xs n m a b lt ae be me h r =
     h (rises_at xs r n a b (got_at xs n a (omega (arith, lt)) ae) (got_at xs (suc n) b (omega (arith, lt)) (be ∙ ap (λ i. get_or xs i b) me)))
 
+-- the instants at this place are the same
 pub same_here : (xs ys : List item.Item) (n : ℕ) (a b : item.Item) → n < length xs → n < length ys → a ≡ get_or xs n a → b ≡ get_or ys n b
     → instant_of a ≡ instant_of b → (x y : item.Item) → slice_get xs n ≡ Some x → slice_get ys n ≡ Some y → instant_of x ≡ instant_of y
 same_here xs ys n a b lx ly ae be h x y g k = ap instant_of (sym (got_here xs n a x lx ae g)) ∙ h ∙ ap instant_of (got_here ys n b y ly be k)
 
+-- instants that differ are told
 pub not_same : (xs ys : List item.Item) (n : ℕ) (a b : item.Item) → n < length xs → n < length ys → a ≡ get_or xs n a → b ≡ get_or ys n b
     → (instant_of a ≡ instant_of b → ⊥) → instants xs ≡ instants ys → ⊥
 not_same xs ys n a b lx ly ae be h e = h (same_at xs ys e n a b (got_at xs n a lx ae) (got_at ys n b ly be))
 
 -- A TEST'S ANSWER
 
+-- what is not so is decided by false
 pub never : {A : Type 0} → (A → ⊥) → (IsTrue false → A) × (A → IsTrue false)
 never h = ((λ t. absurd (let e : false ≡ true = t in cc e)), (λ a. absurd (h a)))
 
+-- what is so is decided by true
 pub always : {A : Type 0} → A → (IsTrue true → A) × (A → IsTrue true)
 always a = ((λ t. a), (λ b. refl))
 
+-- what is decided by false is not so
 pub not_so : {A : Type 0} (b : Bool) → b ≡ false → (IsTrue b → A) × (A → IsTrue b) → A → ⊥
 not_so b f h a = let t : b ≡ true = h.1 a in let e : false ≡ true = sym f ∙ t in absurd (cc e)
 
@@ -217,9 +233,11 @@ module _ (p : PlanForm) (ds : List Decl) (ls : List (List item.Item)) (e : ds �
   typed : AreInputs p.inputs ls
   typed = subst (λ (x : List Decl). AreInputs x ls) e a
 
+  -- the place of a stream is that of a list
   pub stream_in : (i : ℕ) → IsStreamAt ds (Some i) → i < length ls
   stream_in i s = let w = slice_get_within ds i s.0 s.1 in let l = inputs_long ds ls a in omega (arith, w, l)
 
+  -- where the first stream's instants rise, the others decide
   pub fits_then : (i : ℕ) (xs : List item.Item) (b : Bool) → IsStreamAt ds (Some i) → xs ≡ list_at ls i → Rises (instants xs)
       → (IsTrue b → AreInstants ds (instants xs) ls) × (AreInstants ds (instants xs) ls → IsTrue b) → (IsTrue b → Fit p ls) × (Fit p ls → IsTrue b)
   fits_then i xs b s x r h =
@@ -228,6 +246,7 @@ module _ (p : PlanForm) (ds : List Decl) (ls : List (List item.Item)) (e : ds �
         (λ f. h.1 (subst (λ (y : List Decl). AreInstants y (instants xs) ls) (sym e) (some_fit p ls i s'.0 xs s'.1 s'.2 x f).1)),
       )
 
+  -- where they do not, nothing fits
   pub fits_else : (i : ℕ) (xs : List item.Item) (b : Bool) → IsStreamAt ds (Some i) → xs ≡ list_at ls i → b ≡ false
       → (IsTrue b → Rises (instants xs)) × (Rises (instants xs) → IsTrue b) → (IsTrue b → Fit p ls) × (Fit p ls → IsTrue b)
   fits_else i xs b s x f h =
@@ -236,5 +255,6 @@ module _ (p : PlanForm) (ds : List Decl) (ls : List (List item.Item)) (e : ds �
         (λ k. h.1 (some_fit p ls i s'.0 xs s'.1 s'.2 x k).0),
       )
 
+  -- without streams there are no instants to follow
   pub fits_none : IsStreamAt ds None → Fit p ls
   fits_none n = fit_none p ls typed (subst (λ (y : List Decl). NoStream (length y) y) e n)

@@ -18,6 +18,7 @@ gt_back Less h = absurd (cc h)
 gt_back Equal h = absurd (cc h)
 gt_back Greater h = refl
 
+-- rows ascend, where each stands before the next
 pub ascends_by : (rows : List (List ℤ)) (r : Bool) → IsAllAdjacentAnswer (λ x y b. partial_le (λ (p q : List ℤ). Some (row_cmp p q)) x y ≡ b) rows r
     → (IsTrue r → IsAscending rows) × (IsAscending rows → IsTrue r)
 ascends_by rows true h = (

@@ -165,9 +165,11 @@ pub record Parts (k a b : Kern) (at count : ℕ) (st mine rest : List State) : T
   pub front : mine ≡ take count st
   pub back : rest ≡ drop count st
 
+-- the first part's states are the first ones
 pub mine_is : (k a b : Kern) (at count : ℕ) (st mine rest : List State) → Parts k a b at count st mine rest → mine ≡ take (privates a) st
 mine_is k a b at count st mine rest p = p.front ∙ ap (λ n. take n st) p.counted
 
+-- the second part's states are those behind them
 pub rest_is : (k a b : Kern) (at count : ℕ) (st mine rest : List State) → Parts k a b at count st mine rest → rest ≡ drop (privates a) st
 rest_is k a b at count st mine rest p = p.back ∙ ap (λ n. drop n st) p.counted
 

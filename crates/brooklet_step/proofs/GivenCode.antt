@@ -78,6 +78,7 @@ so_far_end k all left e e' st st' is s =
 
 -- A KERNEL IN A PACK
 
+-- what a packed kernel can take, the kernel inside can take
 pub packed_taken : (k j j1 : Kern) (port : ℕ) (x : item.Item) (st : List State) (out e : Emit) → k ≡ packed j → j1 ≡ j → CanTake k port x st out
     → e.outs ≡ replicate 1 [] → e.adds ≡ replicate 0 [] → CanTake j1 port x st e
 packed_taken k j j1 port x st out e ek ej t o a =
@@ -101,6 +102,7 @@ packed_port j port x st st' out e e' t u f =
     let o = r.outs in
     omega (arith, o, s.2)
 
+-- what the kernel inside gave, packed, is the firing
 pub packed_whole : (k j j1 : Kern) (port : ℕ) (x : item.Item) (st st' : List State) (out out' e e' : Emit) (items : List item.Item) (fs : List flat.Flat)
     → k ≡ packed j → j1 ≡ j → CanTake k port x st out → e.outs ≡ replicate 1 [] → FiresAt j1 port x e e' st st' → items ≡ list_at e'.outs 0 → fs ≡ flats items
     → Took out out' (gives 0 (Pack fs ∷ []) []) → FiresAt k port x out out' st st'
@@ -110,6 +112,7 @@ packed_whole k j j1 port x st st' out out' e e' items fs ek ej t b f ei ef took 
 
 -- TWO KERNELS
 
+-- the first part has no more states than there are
 pub count_fits : (k a b : Kern) (at count port : ℕ) (x : item.Item) (st : List State) (out : Emit) → k ≡ fused a b at → count ≡ privates a
     → CanTake k port x st out → count ≤ length st
 count_fits k a b at count port x st out ek ec t =
@@ -175,10 +178,12 @@ module _ (k a b : Kern) (at count port : ℕ) (x : item.Item) (st mine rest : Li
         let lt = is_shaped.2 in
         record { place = at_below; outs = omega (arith, fo, ro, lt); adds = omega (arith, fa, ra); takes = λ blank bl. second_of blank (list_at mid.outs at) refl bl }
 
+-- what a fused kernel can take, its first part can take
 pub first_taken : (k a b : Kern) (at count port : ℕ) (x : item.Item) (st mine rest : List State) (out mid0 : Emit) → Parts k a b at count st mine rest
     → CanTake k port x st out → IsBlank a mid0 → CanTake a port x mine mid0
 first_taken k a b at count port x st mine rest out mid0 p t bm = first_of k a b at count port x st mine rest out mid0 p t bm
 
+-- the second part can take what the first one gave
 pub takes_on : (k a b : Kern) (at count port : ℕ) (x : item.Item) (st mine rest mine' : List State) (out mid0 mid : Emit) → Parts k a b at count st mine rest
     → CanTake k port x st out → IsBlank a mid0 → FiresAt a port x mid0 mid mine mine' → CanTakeOn b at rest mid out
 takes_on k a b at count port x st mine rest mine' out mid0 mid p t bm fm = on_of k a b at count port x st mine rest out mid0 p t bm mine' mid fm
@@ -200,6 +205,7 @@ parts_fire k a b at count port x st mine rest mine' rest' out new mid0 mid last0
     let t' = subst (λ (j : Kern). CanTake j port x st out) p.kernel t in
     subst (λ (j : Kern). FiresAt j port x out new st (mine' ++ rest')) (sym p.kernel) (fused_does a b at port x st mine' rest' out new mid0 mid last0 last items t'.room bm fm' bl is fl' eo ea)
 
+-- after all firings of the second part there is still a place for each port
 pub second_room : (b : Kern) (at : ℕ) (st st' : List State) (mid out last0 last : Emit) (items : List item.Item) → CanTakeOn b at st mid out → IsBlank b last0
     → items ≡ list_at mid.outs at → FiresEach b items last0 last st st' → HasRoom b last
 second_room b at st st' mid out last0 last items t bl is f =

@@ -104,6 +104,7 @@ pub ran_feed : (k : Kern) (ss : List Kept) (u : Word) (zs : List item.Item)
 ran_feed k ss u zs =
     subst (λ (r : Fired). Same (ran k ss (u ++ word_of 0 zs)) (and_then (ran k ss u) r)) (feed_word (fire k) 0 zs (ran k ss u).states) (run-append (fire k) u (word_of 0 zs) ss)
 
+-- before the first item nothing was fired
 pub each_start : (k : Kern) (out : Emit) (st : List State) → FiresEach k [] out out st st
 each_start k out st = record {
   each = λ reads writes vars fits fs hs. record {

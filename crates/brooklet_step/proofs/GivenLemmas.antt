@@ -46,13 +46,16 @@ by-same : (o : Option QueueType) (past xs : List item.Item) → held_by o past x
 by-same None past xs = refl
 by-same (Some t) past xs = held-same t past xs
 
+-- for no items a queue holds none
 pub at-nil : (ts : List QueueType) (p : ℕ) (past : List item.Item) → held_at ts p past [] ≡ []
 at-nil ts p past = by-nil (slice_get ts p) past
 
+-- what a queue holds for two lists, one after the other
 pub at-append : (ts : List QueueType) (p : ℕ) (past xs ys : List item.Item)
     → held_at ts p past (xs ++ ys) ≡ held_at ts p past xs ++ held_at ts p (past ++ xs) ys
 at-append ts p past xs ys = by-append (slice_get ts p) past xs ys
 
+-- a queue holds as many items as it stands for
 pub at-length : (ts : List QueueType) (p : ℕ) (past xs : List item.Item) → length (held_at ts p past xs) ≡ length xs
 at-length ts p past xs = by-length (slice_get ts p) past xs
 
@@ -68,12 +71,14 @@ typed_held : (o : Option QueueType) (x : item.Item) → IsHeldBy o x → IsTyped
 typed_held None x h = h
 typed_held (Some t) x h = typed-held t x h
 
+-- an item that a queue may hold has the queue's type
 pub of_held : (ts : List QueueType) (p : ℕ) (x : item.Item) → IsHeldOf ts p x → IsOf ts p x
 of_held ts p x h = typed_held (slice_get ts p) x h
 
 pub held_of : (ts : List QueueType) (p : ℕ) (x : item.Item) → IsOf ts p x → IsHeldOf ts p x
 held_of ts p x h = held_typed (slice_get ts p) x h
 
+-- typed items are items that a queue may hold
 pub all_held : (ts : List QueueType) (p : ℕ) (xs : List item.Item) → All (IsOf ts p) xs → All (IsHeldOf ts p) xs
 all_held ts p [] h = All-nil (IsHeldOf ts p)
 all_held ts p (x ∷ xs) h = All-cons (IsHeldOf ts p) x xs (held_of ts p x (All-head (IsOf ts p) x xs h)) (all_held ts p xs (All-tail (IsOf ts p) x xs h))
@@ -84,10 +89,12 @@ all_typed ts p (x ∷ xs) h = All-cons (IsOf ts p) x xs (of_held ts p x (All-hea
 
 -- WORDS
 
+-- the items of a word of one port
 pub at_word : (p : ℕ) (xs : List item.Item) → at_port p (word_of p xs) ≡ xs
 at_word p [] = refl
 at_word p (x ∷ xs) = at_port_here p (p, x) (word_of p xs) refl ∙ ap (λ l. x ∷ l) (at_word p xs)
 
+-- a word of one port, of two lists
 pub word_append : (p : ℕ) (xs ys : List item.Item) → word_of p (xs ++ ys) ≡ word_of p xs ++ word_of p ys
 word_append p [] ys = refl
 word_append p (x ∷ xs) ys = ap (λ l. (p, x) ∷ l) (word_append p xs ys)
@@ -110,6 +117,7 @@ pub ran_typed : (k : Kern) (is os : List QueueType) (vs : List VarKind) (ss : Li
     → AreOf os (ran k ss w).outs
 ran_typed k is os vs ss w f s a = run_typed k is os vs w ss f s.shape s.holds a
 
+-- what a firing gives has the types of the ports
 pub fired_typed : (k : Kern) (is os : List QueueType) (vs : List VarKind) (ss : List Kept) (w : Word) (p : ℕ) (x : item.Item) → Fits k is os vs
     → IsStart k is ss → IsWordOf is w → IsOf is p x → AreOf os (fire k p x (ran k ss w).states).outs
 fired_typed k is os vs ss w p x f s a i q =
@@ -197,22 +205,16 @@ fit_slots_length (z ∷ zs) st h = ap length h.code
 -- there is a state for each private variable
 pub fit_length : (k : Kern) (is : List QueueType) (st : List State) → FitState k is st → length st ≡ privates k
 fit_length (code k) is st h = fit_slots_length k.starts st h
-fit_length (filter f) is st h = ap length h.code
 fit_length (duplicate n) is st h = ap length h
-fit_length (deal ws) is st h = ap length h.code
-fit_length (collect ws) is st h = ap length h.code
 fit_length (packed k) is st h = fit_length k is st h
-fit_length (unpack n) is st h = ap length h.code
-fit_length (window w) is st h = ap length h.code
 fit_length (select e) is st h = ap length h
 fit_length (project es) is st h = ap length h
-fit_length cross is st h = ap length h.code
-fit_length (streamer s) is st h = ap length h.code
 fit_length tally is st h = ap length h
 fit_length (fused a b at) is st h =
     let la = fit_length a is (take (privates a) st) h.0 in
     let lb = fit_length b (between at (types_of a is)) (drop (privates a) st) h.1 in
     omega (arith, length-take (privates a) st, length-drop (privates a) st, la, lb)
+fit_length kernel is st h = ap length h.code
 
 -- the states of two kernels
 pub parts_fit : (a b : Kern) (at : ℕ) (is : List QueueType) (st st' : List State) → FitState a is st → FitState b (between at (types_of a is)) st'
@@ -221,6 +223,7 @@ parts_fit a b at is st st' h h' =
     let l = fit_length a is st h in
     (subst (FitState a is) (sym (take_front st st' (privates a) l)) h, subst (FitState b (between at (types_of a is))) (sym (drop_front st st' (privates a) l)) h')
 
+-- states of two parts stand after a word, where each part's do
 pub parts_after : (a b : Kern) (at : ℕ) (is : List QueueType) (ss : List Kept) (st st' : List State) (w : Word) → length st ≡ privates a
     → StandsAfter a is (take (privates a) ss) st w
     → StandsAfter b (between at (types_of a is)) (drop (privates a) ss) st' (word_of 0 ((ran a (take (privates a) ss) w).outs at))
@@ -233,43 +236,24 @@ parts_after a b at is ss st st' w l h h' =
 
 -- LEAVES
 
+-- of a kernel without kernels inside: states that stand after a word stand for the definition's
 pub leaf_to : (k : Kern) (is : List QueueType) (ss : List Kept) (st : List State) (w : Word) → IsLeaf k → StandsAfter k is ss st w
     → StandsFor k st (ran k ss w).states
-leaf_to (code k) is ss st w l h = h
-leaf_to (filter f) is ss st w l h = h
-leaf_to (duplicate n) is ss st w l h = h
-leaf_to (deal ws) is ss st w l h = h
-leaf_to (collect ws) is ss st w l h = h
 leaf_to (packed k) is ss st w l h = absurd l
-leaf_to (unpack n) is ss st w l h = h
-leaf_to (window v) is ss st w l h = h
-leaf_to (select e) is ss st w l h = h
-leaf_to (project es) is ss st w l h = h
-leaf_to cross is ss st w l h = h
-leaf_to (streamer s) is ss st w l h = h
-leaf_to tally is ss st w l h = h
 leaf_to (fused a b at) is ss st w l h = absurd l
+leaf_to kernel is ss st w l h = h
 
+-- and back
 pub leaf_from : (k : Kern) (is : List QueueType) (ss : List Kept) (st : List State) (w : Word) → IsLeaf k → StandsFor k st (ran k ss w).states
     → StandsAfter k is ss st w
-leaf_from (code k) is ss st w l h = h
-leaf_from (filter f) is ss st w l h = h
-leaf_from (duplicate n) is ss st w l h = h
-leaf_from (deal ws) is ss st w l h = h
-leaf_from (collect ws) is ss st w l h = h
 leaf_from (packed k) is ss st w l h = absurd l
-leaf_from (unpack n) is ss st w l h = h
-leaf_from (window v) is ss st w l h = h
-leaf_from (select e) is ss st w l h = h
-leaf_from (project es) is ss st w l h = h
-leaf_from cross is ss st w l h = h
-leaf_from (streamer s) is ss st w l h = h
-leaf_from tally is ss st w l h = h
 leaf_from (fused a b at) is ss st w l h = absurd l
+leaf_from kernel is ss st w l h = h
 
 shape_ran : (k : Kern) (w : Word) (ss : List Kept) → IsShaped k → HasShape k ss → HasShape k (run (fire k) w ss).states
 shape_ran k [] ss s h = h
 shape_ran k (e ∷ es) ss s h = shape_ran k es (fire k e.0 e.1 ss).states s (fire_shape k e.0 e.1 ss s h)
 
+-- a run keeps the number of states
 pub ran_length : (k : Kern) (ss : List Kept) (w : Word) → IsShaped k → HasShape k ss → length (ran k ss w).states ≡ privates k
 ran_length k ss w s h = shape_length k (ran k ss w).states (shape_ran k w ss s h)

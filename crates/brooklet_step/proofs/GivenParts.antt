@@ -40,6 +40,7 @@ use Rattle.brooklet_step.proofs.GivenLemmas.{at_word, word_append, ran_more, ran
 
 -- ROOM
 
+-- a firing keeps a place for each port
 pub came_room : (k : Kern) (reads writes : List QueueType) (vars : List VarKind) (e e' : Emit) (st' : List State) → HasRoom k e
     → Came k reads writes vars e e' st' → HasRoom k e'
 came_room k reads writes vars e e' st' h c =
@@ -77,6 +78,7 @@ packed_items k (e ∷ es) ss =
     ∙ sym (as_items-append (flats (r.outs 0)) (flats (rest.outs 0)))
     ∙ ap as_items (sym (flats-append (r.outs 0) (rest.outs 0)))
 
+-- what the kernel inside does is what the packed kernel does
 pub packed_does : (j : Kern) (port : ℕ) (i : item.Item) (st st' : List State) (out out' e e' : Emit) (items : List item.Item) (fs : List flat.Flat)
     → e.outs ≡ replicate 1 [] → FiresAt j port i e e' st st' → items ≡ list_at e'.outs 0 → fs ≡ flats items → Took out out' (gives 0 (Pack fs ∷ []) [])
     → FiresAt (packed j) port i out out' st st'
@@ -175,6 +177,7 @@ fused_ran a b at ss w s h =
     let sb = drop (privates a) ss in
     subst (λ (r : Fired). Same (ran k ss w) (fused_of at (outs b) (tabs a) ra (λ xs. r))) (sym (feed_word (fire b) 0 (ra.outs at) sb)) (fused_runs a b at w ss s h)
 
+-- what two parts do, one behind the other, is what the fused kernel does
 pub fused_does : (a b : Kern) (at port : ℕ) (i : item.Item) (st mine' rest' : List State) (out new mid0 mid last0 last : Emit) (items : List item.Item)
     → HasRoom (fused a b at) out → IsBlank a mid0 → FiresAt a port i mid0 mid (take (privates a) st) mine' → IsBlank b last0 → items ≡ list_at mid.outs at
     → FiresEach b items last0 last (drop (privates a) st) rest'

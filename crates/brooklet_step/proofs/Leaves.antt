@@ -61,6 +61,7 @@ row_is n p reads x e h = row_by n x (at_first (rows n) p x (subst (λ (l : List 
 pub code_row : (k : CodeForm) (x : item.Item) (st : List State) → Takes (code k) 0 x st → IsRow x × (length (values_of x) ≡ k.body.inputs)
 code_row k x st t = row_is k.body.inputs 0 t.reads x t.fitted.fits.0 t.item
 
+-- what a body takes, it can run on
 pub code_can : (k : CodeForm) (p : ℕ) (x : item.Item) (st : List State) → Takes (code k) p x st → CanCode k
 code_can k p x st t = can_code k t.fitted.fits.3
 
@@ -190,6 +191,7 @@ code_fires k x st st' out out' pushes p eo ea = record {
 pub filter_row : (f : FilterForm) (x : item.Item) (st : List State) → Takes (filter f) 0 x st → IsRow x × (length (values_of x) ≡ 1)
 filter_row f x st t = row_is 1 0 t.reads x t.fitted.fits.0 t.item
 
+-- what a filter takes, it can run on
 pub filter_can : (f : FilterForm) (p : ℕ) (x : item.Item) (st : List State) → Takes (filter f) p x st → CanFilter f
 filter_can f p x st t = can_filter f t.fitted.fits.3
 
@@ -209,12 +211,14 @@ filter_count f x s w e t =
     let g = filter_state f x s t in
     ap (λ (v : Waiting). length v.kept) (same_filter w g.0 (sym e ∙ g.1)) ∙ g.2
 
+-- the number that a filter reads is that of the item
 pub number_is : (v : ℤ) (vals row : List ℤ) (x : item.Item) → All IsValue row → 1 ≤ length row → vals ≡ row → row ≡ values_of x
     → v ≡ to_z w64 (of_z w64 (slice_index_or vals 0 (pos 0))) → v ≡ value_of x
 number_is v vals row x all some ew e ev =
     let z : ℤ = slice_index_or row 0 (pos 0) in
     ev ∙ ap (λ (r : List ℤ). to_z w64 (of_z w64 (slice_index_or r 0 (pos 0)))) ew ∙ to_z-of_z w64 z (all 0 (pos 0) (omega (arith, some))) ∙ ap (λ (r : List ℤ). slice_index_or r 0 (pos 0)) e
 
+-- a filter's step is its firing
 pub filter_fires : (f : FilterForm) (x : item.Item) (s s' : State) (old new : Waiting) (v : ℤ) (values : List ℤ) (items : List item.Item) (out out' : Emit)
     → CanFilter f → HasRoom (filter f) out → s ≡ state.Filter old → s' ≡ state.Filter new → v ≡ value_of x → Filters f v old new [] values
     → length new.kept ≡ length old.kept → items ≡ map (λ z. Flat (One (z ∷ []))) values → Took out out' (gives 0 items [])
@@ -259,9 +263,11 @@ deal_turn ws x s old e t =
     let h = t.fitted.keeps.stands in
     subst (λ (d : Dealing). IsTurn (shares ws) d.port d.had) (sym (same_turn old h.now (sym e ∙ head_is s (state.Deal h.now) h.code))) h.turn
 
+-- a splitter that takes an item has weights above 0
 pub deal_shares : (ws : List ℤ) (x : item.Item) (st : List State) → Takes (deal ws) 0 x st → HaveShares (shares ws)
 deal_shares ws x st t = shaped (deal ws) t.reads t.fitted.writes t.fitted.vars t.fitted.fits
 
+-- a splitter's step is its firing
 pub deal_fires : (ws : List ℤ) (x : item.Item) (s s' : State) (old new : Dealing) (out out' : Emit) (port : ℕ) → Applies (deal ws) 0 x (s ∷ []) out
     → s ≡ state.Deal old → s' ≡ state.Deal new → port ≡ old.port → new.port ≡ next_port (shares ws) old.port old.had
     → new.had ≡ next_had (shares ws) old.port old.had → Took out out' (gives port (x ∷ []) [])
@@ -308,9 +314,11 @@ joined_after give wrap ws port x s' old new all j e en = record {
   joined = subst (IsJoiner ws) (sym en) (drain_joined give ws (waiting (put port x old).lists) (put port x old) all (put_joined ws port x old j));
 }
 
+-- a joiner that takes an item has weights above 0
 pub collect_shares : (ws : List ℤ) (port : ℕ) (x : item.Item) (st : List State) → Takes (collect ws) port x st → HaveShares (shares ws)
 collect_shares ws port x st t = shaped (collect ws) t.reads t.fitted.writes t.fitted.vars t.fitted.fits
 
+-- a joiner takes items at its own ports
 pub collect_port : (ws : List ℤ) (port : ℕ) (x : item.Item) (st : List State) → Takes (collect ws) port x st → port < length ws
 collect_port ws port x st t = port_below (length ws) _ t.reads port x t.fitted.fits.1 t.item
 
@@ -320,6 +328,7 @@ collect_joined ws port x s old e t =
     let h = t.fitted.keeps.stands in
     subst (IsJoiner (shares ws)) (sym (same_collect old h.now (sym e ∙ head_is s (state.Collect h.now) h.code))) h.joined
 
+-- a joiner's step is its firing
 pub collect_fires : (ws : List ℤ) (port : ℕ) (x : item.Item) (s s' : State) (old new : Turns) (items : List item.Item) (out out' : Emit)
     → Applies (collect ws) port x (s ∷ []) out → s ≡ state.Collect old → s' ≡ state.Collect new → items ≡ (joins itself (shares ws) port x old).0
     → new ≡ (joins itself (shares ws) port x old).1 → Took out out' (gives 0 items [])
@@ -334,6 +343,7 @@ collect_fires ws port x s s' old new items out out' a e e' ei en took = record {
       subst (λ (us : List Kept). Took out out' (fire (collect ws) port x us) × StandsForJoiner (λ t. state.Collect t) (shares ws) (s' ∷ []) (fire (collect ws) port x us).states) (sym eq) (grew, after);
 }
 
+-- the step of a joiner of packs is its firing
 pub unpack_fires : (n : ℕ) (port : ℕ) (x : item.Item) (s s' : State) (old new : Turns) (items : List item.Item) (out out' : Emit)
     → Applies (unpack n) port x (s ∷ []) out → s ≡ state.Unpack old → s' ≡ state.Unpack new → items ≡ (joins items_of (ones n) port x old).0
     → new ≡ (joins items_of (ones n) port x old).1 → Took out out' (gives 0 items []) → Fires (unpack n) out out' (s ∷ []) (s' ∷ []) (fire (unpack n) port x)

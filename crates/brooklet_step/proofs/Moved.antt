@@ -4,7 +4,7 @@ use Rattle.river_base.specs.declared.kind.QueueType.{QueueType}
 use Rattle.river_base.specs.declared.kind.QueueType.TheVariants.{Flat as FlatOf}
 use Rattle.river_kernels.specs.Fits.{Fits}
 use Rattle.river_kernels.specs.Types.{types_of}
-use Rattle.river_kernels.specs.Kern.{Kern, code, filter, duplicate, deal, collect, packed, unpack, window, select, project, cross, streamer, tally, fused}
+use Rattle.river_kernels.specs.Kern.{Kern, packed, fused}
 use Rattle.brooklet_model.specs.Firings.{Kept}
 use Rattle.brooklet_model.specs.Fire.{privates}
 use Rattle.brooklet_model.specs.Shapes.{IsShaped, HasShape}
@@ -54,26 +54,16 @@ fused_stand a b at is inner st e ra rb =
       );
     }
 
+-- all states that fit a kernel stand for some of the definition
 pub fit_law : FitStatesStand
-fit_law (code k) is os vs st f h = leaf_stand (code k) is st tt h
-fit_law (filter g) is os vs st f h = leaf_stand (filter g) is st tt h
-fit_law (duplicate n) is os vs st f h = leaf_stand (duplicate n) is st tt h
-fit_law (deal ws) is os vs st f h = leaf_stand (deal ws) is st tt h
-fit_law (collect ws) is os vs st f h = leaf_stand (collect ws) is st tt h
 fit_law (packed k) is os vs st f h =
     packed_stand k is st (fit_law k is (FlatOf f.1 ∷ []) [] st (subst (λ (l : List QueueType). Fits k l (FlatOf f.1 ∷ []) []) (sym f.2) f.5) h)
-fit_law (unpack n) is os vs st f h = leaf_stand (unpack n) is st tt h
-fit_law (window w) is os vs st f h = leaf_stand (window w) is st tt h
-fit_law (select e) is os vs st f h = leaf_stand (select e) is st tt h
-fit_law (project es) is os vs st f h = leaf_stand (project es) is st tt h
-fit_law cross is os vs st f h = leaf_stand cross is st tt h
-fit_law (streamer s) is os vs st f h = leaf_stand (streamer s) is st tt h
-fit_law tally is os vs st f h = leaf_stand tally is st tt h
 fit_law (fused a b at) is os vs st f h =
     let mid = between_is a is f.0 f.1 f.3 at f.5 f.6 in
     fused_stand a b at is (f.1 ∷ []) st (sym mid)
     (fit_law a is f.0 f.3 (take (privates a) st) f.5 h.0)
     (fit_law b (f.1 ∷ []) f.2 f.4 (drop (privates a) st) f.7 (subst (λ (l : List QueueType). FitState b l (drop (privates a) st)) mid h.1))
+fit_law kernel is os vs st f h = leaf_stand kernel is st tt h
 
 -- THE STATES AFTER A WORD AS A START
 
@@ -85,20 +75,8 @@ leaf_moved k is ss st w l h = leaf_from k is (ran k ss w).states st [] l (leaf_t
 -- changes
 pub moved : (k : Kern) (is : List QueueType) (ss : List Kept) (st : List State) (w : Word) → IsShaped k → HasShape k ss → StandsAfter k is ss st w
     → StandsAfter k is (ran k ss w).states st []
-moved (code k) is ss st w s c h = leaf_moved (code k) is ss st w tt h
-moved (filter f) is ss st w s c h = leaf_moved (filter f) is ss st w tt h
-moved (duplicate n) is ss st w s c h = leaf_moved (duplicate n) is ss st w tt h
-moved (deal ws) is ss st w s c h = leaf_moved (deal ws) is ss st w tt h
-moved (collect ws) is ss st w s c h = leaf_moved (collect ws) is ss st w tt h
 moved (packed k) is ss st w s c h =
     subst (λ (us : List Kept). StandsAfter k is us st []) (sym (packed_states k w ss)) (moved k is ss st w s.0 c h)
-moved (unpack n) is ss st w s c h = leaf_moved (unpack n) is ss st w tt h
-moved (window v) is ss st w s c h = leaf_moved (window v) is ss st w tt h
-moved (select e) is ss st w s c h = leaf_moved (select e) is ss st w tt h
-moved (project es) is ss st w s c h = leaf_moved (project es) is ss st w tt h
-moved cross is ss st w s c h = leaf_moved cross is ss st w tt h
-moved (streamer t) is ss st w s c h = leaf_moved (streamer t) is ss st w tt h
-moved tally is ss st w s c h = leaf_moved tally is ss st w tt h
 moved (fused a b at) is ss st w s c h =
     let n = privates a in
     let inner = between at (types_of a is) in
@@ -112,7 +90,9 @@ moved (fused a b at) is ss st w s c h =
       subst (λ (us : List Kept). StandsAfter a is us (take n st) []) (sym ta) (moved a is (take n ss) (take n st) w s.0 c.0 h.0),
       subst (λ (us : List Kept). StandsAfter b inner us (drop n st) []) (sym tb) (moved b inner (drop n ss) (drop n st) wb s.1 c.1 h.1),
     )
+moved kernel is ss st w s c h = leaf_moved kernel is ss st w tt h
 
+-- from whatever states they stand for, a firing is the definition's
 pub step_law : FiringsStep
 step_law k is os vs port i x st st' out out' now f fs hi fires start stands tx held =
     let d = fires.each is os vs f fs hi in

@@ -45,6 +45,7 @@ pub record Emptied {A : Type 0} (done : ℕ) (first now : List (List A)) : Type 
   pub left : Untouched done first now
   pub nothing : (q : ℕ) → q < done → list_at now q ≡ []
 
+-- before the first list was moved, nothing was
 pub emptied : {A : Type 0} (first : List (List A)) → Emptied 0 first first
 emptied first = record { left = untouched first; nothing = λ q lt. absurd (omega (arith, lt)) }
 
@@ -67,6 +68,7 @@ emptied_all done first now u le =
 
 -- FROM THE END OF A LIST TO THE END OF A LINE
 
+-- a list without its last item is shorter
 pub one_less : {A : Type 0} (items items' : List A) (x : A) → items ≡ items' ++ x ∷ [] → length items' < length items
 one_less items items' x e = let l = ap length e ∙ length-append items' (x ∷ []) in omega (arith, l)
 

@@ -54,10 +54,12 @@ op_there raw p o op v g =
 pub blank_by : (k k' : Kern) (n t : ℕ) (e : Emit) → k ≡ k' → n ≡ outs k → t ≡ tabs k → e.outs ≡ replicate n [] → e.adds ≡ replicate t [] → IsBlank k' e
 blank_by k k' n t e q en et o a = subst (λ j. IsBlank j e) q (record { outs = o ∙ ap (λ i. replicate i []) en; adds = a ∙ ap (λ i. replicate i []) et })
 
+-- what an operator can fire on, its kernel can take
 pub fire_applies : (p : PlanForm) (o port : ℕ) (x : item.Item) (st : List State) (blank : Emit) (k : Kern) → (c : CanFire p o port x st) → k ≡ c.op.kernel
     → IsBlank c.op.kernel blank → CanTake k port x st blank
 fire_applies p o port x st blank k c e b = subst (λ j. CanTake j port x st blank) (sym e) (c.applies blank b)
 
+-- what its kernel fired, the operator fired
 pub fired_op : (p : PlanForm) (o port : ℕ) (x : item.Item) (st st' : List State) (blank out : Emit) (k : Kern) → (c : CanFire p o port x st) → k ≡ c.op.kernel
     → IsBlank c.op.kernel blank → FiresAt k port x blank out st st' → FiredOp p o port x st st' out
 fired_op p o port x st st' blank out k c e b f = record {
@@ -88,6 +90,7 @@ pub enabled_place : (m : Parts) (o port n : ℕ) (ps : List ℕ) (e : IsEnabled 
     → n ≡ place (queue_names m.plan) e.queue
 enabled_place m o port n ps e pe ne = ne ∙ ap (λ (l : List ℕ). slice_index_or l port 0) pe ∙ place_of m.plan o port e.queue e.reads
 
+-- an enabled port has an item in front
 pub front_there : (m : Parts) (o port n : ℕ) (g : GoesOn m) (e : IsEnabled m o port) → n ≡ place (queue_names m.plan) e.queue
     → (n < length m.queues) × (0 < length (list_at m.queues n))
 front_there m o port n g e at =
@@ -96,6 +99,7 @@ front_there m o port n g e at =
       subst (λ i. 0 < length (list_at m.queues i)) (sym at) e.item,
     )
 
+-- an operator that is enabled is one of the plan's
 pub op_in : (m : Parts) (o port : ℕ) (g : GoesOn m) (e : IsEnabled m o port) → (o < length m.states) × (o < length m.plan.ops) × (o < length m.counts)
 op_in m o port g e =
     let w = slice_get_within m.plan.ops o e.reads.op e.reads.op_is in
@@ -190,6 +194,7 @@ pub record Next (m m' : Parts) (o port : ℕ) : Type 0 where
   pub steps : Steps m m' o port
   pub goes_on : GoesOn m'
 
+-- one firing more: the machine goes on
 pub next : (m : Parts) (o port n : ℕ) (x : item.Item) (st st' : List State) (out : Emit) (ws : List ℕ) (less queues : List (List item.Item)) (vs cs : List ℕ) (ts : List Kept) (g : GoesOn m) (e : IsEnabled m o port)
     → n ≡ place (queue_names m.plan) e.queue → IsFront m.queues n x less
     → st ≡ list_at m.states o → FiredOp m.plan o port x st st' out → ws ≡ list_at (write_places m.plan) o

@@ -64,6 +64,7 @@ places_are names others (v ∷ vs) =
     ∙ ap (places names) (sym (if_ge 0 (count v names) (v ∷ among names vs) (among names vs) ge)))
     (cases_lt 0 (count v names))
 
+-- the places of an operator's tables among all tables
 pub table_places_are : (p : PlanForm) (op : OpForm) (n : ℕ) → n ≡ length p.tables
     → table_places n (places (variable_names p) op.vars) ≡ places (table_names p.tables) (tables_of (table_names p.tables) op)
 table_places_are p op n e =

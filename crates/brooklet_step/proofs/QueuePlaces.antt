@@ -20,6 +20,7 @@ use Rattle.brooklet_step.specs.ByPlace.{joined_at}
 
 -- WHERE A NAME STANDS
 
+-- a name that stands once is at the place where it was got
 pub place_is : (names : List Name) (i : ℕ) (q : Name) → count q names ≤ 1 → 0 < count q names → slice_get names i ≡ Some q → place names q ≡ i
 place_is names i q once lt g = place_once names (place names q) i q once (place_at names q lt) g
 
@@ -31,6 +32,7 @@ place_past w ws q f = if_false (name_eq w q) 0 (suc (place ws q)) f
 
 -- WHAT COMES TO QUEUES
 
+-- one queue more is written
 pub joined_at-more : {A : Type 0} (ws : List ℕ) (w : ℕ) (f : ℕ → List A) (q : ℕ) → joined_at (ws ++ w ∷ []) f q ≡ joined_at ws f q ++ only w (f (length ws)) q
 joined_at-more [] w f q = append-nil (if nat_eq w q then f 0 else []) ∙ ⊎_elim
     (λ e. if_eq w q (f 0) [] e ∙ sym (only_same w (f 0)) ∙ ap (only w (f 0)) e)
@@ -53,9 +55,11 @@ send_step to f n start now new xs lt en ex e =
     ∙ each_grew_cong start _ _ (λ q _. sym (joined_at-more (take n to) w f q))
     ∙ ap (λ ws. each_grew start (joined_at ws f)) (sym more)
 
+-- before the first port nothing was sent
 pub send_start : {A : Type 0} (f : ℕ → List A) (start : List (List A)) → start ≡ each_grew start (joined_at [] f)
 send_start f start = sym (each_grew_cong start (joined_at [] f) none (λ p _. refl) ∙ each_grew-none start)
 
+-- what is joined depends on the lists of the ports alone
 pub joined_cong_below : {A : Type 0} (ws : List Name) (f g : ℕ → List A) (q : Name) → ((j : ℕ) → j < length ws → f j ≡ g j) → joined ws f q ≡ joined ws g q
 joined_cong_below [] f g q h = refl
 joined_cong_below (w ∷ ws) f g q h =

@@ -19,11 +19,13 @@ use Rattle.brooklet_step.specs.Laws.{EnabledIsItem}
 use Rattle.brooklet_step.specs.Works.{queue_of, kinds_of, Stands, ReadsAt, IsEnabled, GoesOn}
 use Rattle.brooklet_step.proofs.StepLemmas.{read_declared}
 
+-- what is got of a mapped list
 pub got_map : {A B : Type 0} (f : A → B) (xs : List A) (n : ℕ) (x : A) → slice_get xs n ≡ Some x → slice_get (map f xs) n ≡ Some (f x)
 got_map f [] n x h = absurd (cc h)
 got_map f (y ∷ ys) zero x h = let e : y ≡ x = cc in ap (λ z. Some (f z)) e
 got_map f (y ∷ ys) (suc n) x h = got_map f ys n x h
 
+-- below the number of operators there is one
 pub op_at : (ops : List OpForm) (o : ℕ) → o < length ops → (op : OpForm) × (slice_get ops o ≡ Some op)
 op_at [] o lt = absurd (omega (arith, lt))
 op_at (op ∷ ops) zero lt = (op, refl)
@@ -35,6 +37,7 @@ pub places_at : (f : OpForm → List Name) (names : List Name) (ops : List OpFor
 places_at f names ops o op g =
     get_or_from_slice_get (map (λ d. places names (f d)) ops) o (places names (f op)) [] (got_map (λ d. places names (f d)) ops o op g)
 
+-- the place that stands at a port is that of its queue
 pub place_got : (names qs : List Name) (port : ℕ) (q : Name) → slice_get qs port ≡ Some q → slice_index_or (places names qs) port 0 ≡ place names q
 place_got names qs port q g = get_or_from_slice_get (places names qs) port (place names q) 0 (got_map (place names) qs port q g)
 
@@ -44,6 +47,7 @@ place_of p o port q r =
     ap (λ (l : List ℕ). slice_index_or l port 0) (places_at (λ d. d.reads) (queue_names p) p.ops o r.op r.op_is)
     ∙ place_got (queue_names p) r.op.reads port q r.queue_is
 
+-- a queue that is read is one of the machine's
 pub place_in_queues : (m : Parts) (o port : ℕ) (q : Name) → GoesOn m → ReadsAt m.plan o port q → place (queue_names m.plan) q < length m.queues
 place_in_queues m o port q g r =
     let b = place_below (queue_names m.plan) q (read_declared m.plan g.valid o port q r) in
@@ -54,6 +58,7 @@ place_in_queues m o port q g r =
 pub op_there : (p : PlanForm) (o port : ℕ) (q : Name) → ReadsAt p o port q → o < length p.ops
 op_there p o port q r = slice_get_within p.ops o r.op r.op_is
 
+-- a port that reads a queue is one of the operator's
 pub port_there : (p : PlanForm) (o port : ℕ) (q : Name) → ReadsAt p o port q → port < length (list_at (read_places p) o)
 port_there p o port q r =
     let w = slice_get_within r.op.reads port q r.queue_is in
@@ -101,6 +106,7 @@ enabled_by m o port n w b run pl e t =
           t.1 (omega (arith, i, h))),
     )
 
+-- a port that reads nothing is not enabled
 pub not_enabled : (m : Parts) (o port : ℕ) → ((q : Name) → ReadsAt m.plan o port q → ⊥) → IsEnabled m o port → ⊥
 not_enabled m o port h on = h on.queue on.reads
 
@@ -112,6 +118,7 @@ left_many m s q h lt =
     let all = held (kinds_of m q) [] (s.hist q) in
     ap length (h.left q lt) ∙ length-drop (s.taken q) all ∙ ap (λ n. n - s.taken q) (length-held (kinds_of m q) [] (s.hist q))
 
+-- `enabled` tells whether the definition's state has an item there
 pub enabled_law : EnabledIsItem
 enabled_law m s o port v running h = (
   (λ e.

@@ -89,6 +89,7 @@ reads_in p p' o port q e r = subst (λ (x : PlanForm). ReadsAt x o port q) e r
 declared_in : (m m' : Parts) → m'.plan ≡ m.plan → (q : Name) → 0 < count q (queue_names m.plan) → 0 < count q (queue_names m'.plan)
 declared_in m m' e q lt = subst (λ (x : PlanForm). 0 < count q (queue_names x)) (sym e) lt
 
+-- a step follows its operator
 pub follows_step : (m m' : Parts) (o port : ℕ) → IsPlan m.plan → Steps m m' o port → Follows m m' o
 follows_step m m' o port v st = record {
   plan = st.plan;
@@ -115,9 +116,11 @@ follows_step m m' o port v st = record {
       omega (arith, s, g, b, h, h');
 }
 
+-- nothing follows any operator
 pub follows_none : (m : Parts) (o : ℕ) → m.stopped ≡ false → Follows m m o
 follows_none m o e = record { plan = refl; running = e; ran = λ inputs r. r; drained = λ inputs r o' port' le d. d }
 
+-- two such runs, one after the other
 pub follows_more : (m m' m'' : Parts) (o : ℕ) → Follows m m' o → Follows m' m'' o → Follows m m'' o
 follows_more m m' m'' o f g = record {
   plan = g.plan ∙ f.plan;
@@ -162,12 +165,15 @@ not_enabled_drained m o port run idle q r =
 
 -- TURNS
 
+-- a machine that is not stopped runs on by nothing
 pub runs_none : (m : Parts) → m.stopped ≡ false → RunsOn m m
 runs_none m e = record { plan = refl; running = e; ran = λ inputs r. r }
 
+-- two runs, one after the other
 pub runs_more : (m m' m'' : Parts) → RunsOn m m' → RunsOn m' m'' → RunsOn m m''
 runs_more m m' m'' f g = record { plan = g.plan ∙ f.plan; running = g.running; ran = λ inputs r. g.ran inputs (f.ran inputs r) }
 
+-- a run and a step more
 pub runs_step : (m m' m'' : Parts) (o port : ℕ) → IsPlan m.plan → RunsOn m m' → Steps m' m'' o port → RunsOn m m''
 runs_step m m' m'' o port v f st =
     let g = follows_step m' m'' o port (subst IsPlan (sym f.plan) v) st in
@@ -229,6 +235,7 @@ ran_first p inputs m s = record {
 pub has_run : (m m' : Parts) (o : ℕ) → Follows m m' o → HasRun m → HasRun m'
 has_run m m' o f r = record { inputs = r.inputs; ran = f.ran r.inputs r.ran }
 
+-- an equal plan is valid too
 pub plan_valid : (p q : PlanForm) → p ≡ q → IsPlan q → IsPlan p
 plan_valid p q e v = subst IsPlan (sym e) v
 
@@ -242,6 +249,7 @@ drained_next m0 m m' o n r f g d last port lt = ⊎_elim
 
 -- THE NUMBERS OF OPERATORS AND PORTS
 
+-- a valid plan has at most 256 operators
 pub ops_few : (raw : RawPlan) (p : PlanForm) → plan_form raw ≡ p → IsPlan p → (length raw.ops ≡ length p.ops) × (length p.ops ≤ 256)
 ops_few raw p e v = (
   sym (length-map raw.ops op_form) ∙ ap (λ (x : PlanForm). length x.ops) e,
@@ -259,6 +267,7 @@ pub record PortsAt (p : PlanForm) (o n : ℕ) : Type 0 where
   pub ports : HasPorts p o n
   pub few : n ≤ 64
 
+-- the ports of an operator, as the code has them
 pub ports_at : (raw : RawPlan) (p : PlanForm) (o n : ℕ) (d : Op) → plan_form raw ≡ p → IsPlan p → o < length raw.ops → d ≡ get_or raw.ops o d
     → n ≡ length d.reads → PortsAt p o n
 ports_at raw p o n d e v lt de ne =
@@ -267,6 +276,7 @@ ports_at raw p o n d e v lt de ne =
     let f = ports_few p.ops o (op_form d) (v.within Ports) g in
     record { ports = record { op = op_form d; op_is = g; many = ne }; few = omega (arith, f, ne) }
 
+-- where all ports of an operator are drained, the next operator's turn comes
 pub all_next : (m0 m m' : Parts) (p : PlanForm) (o n : ℕ) → m0.plan ≡ p → DrainedBefore m0 m o → Follows m m' o → HasPorts p o n
     → ((port : ℕ) → port < n → IsDrained m' o port) → DrainedBefore m0 m' (o + 1)
 all_next m0 m m' p o n e b f h d =
@@ -337,12 +347,14 @@ module _ (p : PlanForm) (inputs : List (List item.Item)) (m0 m : Parts) (v : IsP
   defined : HasDefined m.plan inputs ran.events ran.state
   defined = runs_law m.plan inputs ran.events ran.state valid ran.run (complete m inputs valid ran all_drained)
 
+  -- the histories of the outputs are those of the plan's meaning
   pub run_outs : (outs : List (List item.Item)) → outs ≡ map (queue_of m) (decl_names m.plan.outputs) → outs ≡ (meaning p inputs).outs
   run_outs outs e =
       e ∙ map_on (queue_of m) ran.state.hist (decl_names m.plan.outputs)
       (λ i q g. ran.stands.left q (output_there m.plan i q g) ∙ ap (λ n. drop n (held (kinds_of m q) [] (ran.state.hist q))) (ran.stands.unread q (output_unread m.plan valid i q g)) ∙ held-same (kinds_of m q) [] (ran.state.hist q))
       ∙ outs_are m.plan inputs ran.events ran.state defined ∙ ap (λ (x : PlanForm). (meaning x inputs).outs) plan_is
 
+  -- the counts are the plan's firings
   pub run_counts : (values : List ℤ) → AreCounts m values → values ≡ map pos (firings p inputs)
   run_counts values c = same_by values (map pos (firings m.plan inputs))
       (c.many ∙ sym (length-map (firings m.plan inputs) pos ∙ length-map m.plan.ops _))

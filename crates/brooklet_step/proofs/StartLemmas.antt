@@ -44,6 +44,7 @@ use Rattle.brooklet_step.proofs.ReadLemmas.{got_map}
 
 -- THE FIRST STATES
 
+-- what is got of two lists, below the length of the first
 pub got_front : {A : Type 0} (xs ys : List A) (n : ℕ) → n < length xs → slice_get (xs ++ ys) n ≡ slice_get xs n
 got_front [] ys n lt = absurd (omega (arith, lt))
 got_front (x ∷ xs) ys zero lt = refl
@@ -94,6 +95,7 @@ first_next ops i d states states' st lt e f h n =
     subst (λ (l : List OpForm). AreFirst l states') (sym (map_more op_form ops i d lt e))
     (subst (AreFirst (op_forms (take i ops) ++ op_form d ∷ [])) (sym n) (first_more (op_forms (take i ops)) (op_form d) states st f h))
 
+-- the kernel at this place is right in itself
 pub can_start_at : (ops : List Op) (i : ℕ) (d : Op) → CanStart (op_forms ops) → i < length ops → d ≡ get_or ops i d → IsFormed (kern_of d.kernel)
 can_start_at ops i d c lt e =
     let s : slice_get ops i ≡ Some d = slice_get-get_or ops i d lt ∙ ap Some (sym e) in
@@ -254,5 +256,6 @@ first_by raw p pl inputs queues cs states tables v fit e pe qe fs ce te =
     (first (plan_form raw) pl inputs queues cs states tables (subst IsPlan (sym e) v) (subst (λ (x : PlanForm). Fit x inputs) (sym e) fit) (pe ∙ sym e)
     qe fs (ce ∙ ap (λ (i : ℕ). replicate i 0) (sym (length-map raw.ops op_form))) te)
 
+-- so are all kernels of a valid plan
 pub can_start_by : (raw : RawPlan) (p : PlanForm) → plan_form raw ≡ p → IsPlan p → CanStart (op_forms raw.ops)
 can_start_by raw p e v = subst (λ (x : PlanForm). CanStart x.ops) (sym e) (can_start p v)

@@ -52,19 +52,24 @@ LeafFirst k st = StandsFor k st (first_kept k)
 pub first_at : (k j : Kern) (st : List State) → k ≡ j → LeafFirst j st → LeafFirst k st
 first_at k j st e h = subst (λ (i : Kern). LeafFirst i st) (sym e) h
 
+-- without starts no state is kept
 pub no_slots : (zs : List ℤ) → zs ≡ [] → StandsForSlots zs [] (first_slots zs)
 no_slots zs e = subst (λ (l : List ℤ). StandsForSlots l [] (first_slots l)) (sym e) (record { code = refl; defined = refl })
 
+-- with starts one state keeps the slots
 pub some_slots : (zs : List ℤ) (st : List State) → (zs ≡ [] → ⊥) → st ≡ state.Slots zs ∷ [] → StandsForSlots zs st (first_slots zs)
 some_slots [] st n e = absurd (n refl)
 some_slots (z ∷ zs) st n e = record { slots = z ∷ zs; code = e; defined = refl; count = refl }
 
+-- a filter that is right in itself can run
 pub filter_first : (f : FilterForm) → IsFormed (filter f) → CanFilter f
 filter_first f h = can_filter f h.fits.3
 
+-- a splitter that is right in itself has weights above 0
 pub deal_first : (ws : List ℤ) → IsFormed (deal ws) → HaveShares (shares ws)
 deal_first ws h = formed_shaped (deal ws) h
 
+-- the first state of a joiner
 pub collect_first : (ws : List ℤ) (st : List State) → IsFormed (collect ws) → st ≡ state.Collect (turns_start (length ws)) ∷ [] → LeafFirst (collect ws) st
 collect_first ws st h e = record {
   now = turns_start (length ws);
@@ -73,6 +78,7 @@ collect_first ws st h e = record {
   joined = record { turn = first_turn (shares ws) (formed_shaped (collect ws) h); lists = length-replicate (length ws) [] ∙ sym (length-map ws count_of) };
 }
 
+-- the first state of a joiner of packs
 pub unpack_first : (n : ℕ) (st : List State) → IsFormed (unpack n) → st ≡ state.Unpack (turns_start n) ∷ [] → LeafFirst (unpack n) st
 unpack_first n st h e = record {
   now = turns_start n;
@@ -95,9 +101,11 @@ still_none (Latest n) t = drop_none (0 - n)
 pub window_first : (w : Window) (st : List State) → st ≡ state.Window window_start ∷ [] → LeafFirst (window w) st
 window_first w st e = record { now = window_start; past = []; code = e; defined = refl; stands = record { now = refl; rows = sym (still_none w (pos 0)) } }
 
+-- the first state of a product
 pub cross_first : (st : List State) → st ≡ state.Cross pairing_start ∷ [] → LeafFirst cross st
 cross_first st e = record { now = pairing_start; code = e; defined = refl }
 
+-- the first state of a streamer
 pub streamer_first : (s : Streamer) (st : List State) → st ≡ state.Streamer [] ∷ [] → LeafFirst (streamer s) st
 streamer_first s st e = record { now = []; past = []; code = e; defined = refl; stands = nothing_kept s; ascends = λ k d from to. absurd (omega arith) }
   where
@@ -157,26 +165,34 @@ fused_first a b at st st' f h g = record {
 pub kern_of-code : (k : CodeKernel) → kern_of (kernel.Code k) ≡ code (code_form k)
 kern_of-code k = ap kern_of (sym (kernel.rolls-Code k)) ∙ fold-roll-Kernel Kern kern_at (layer.Code k)
 
+-- a splitter as plain data
 pub kern_of-deal : (ws : List ℤ) → kern_of (kernel.Deal ws) ≡ deal ws
 kern_of-deal ws = ap kern_of (sym (kernel.rolls-Deal ws)) ∙ fold-roll-Kernel Kern kern_at (layer.Deal ws)
 
+-- a joiner as plain data
 pub kern_of-collect : (ws : List ℤ) → kern_of (kernel.Collect ws) ≡ collect ws
 kern_of-collect ws = ap kern_of (sym (kernel.rolls-Collect ws)) ∙ fold-roll-Kernel Kern kern_at (layer.Collect ws)
 
+-- a window as plain data
 pub kern_of-window : (w : Window) → kern_of (kernel.Window w) ≡ window w
 kern_of-window w = ap kern_of (sym (kernel.rolls-Window w)) ∙ fold-roll-Kernel Kern kern_at (layer.Window w)
 
+-- a selection as plain data
 pub kern_of-select : (e : Expr) → kern_of (kernel.Select e) ≡ select (term e)
 kern_of-select e = ap kern_of (sym (kernel.rolls-Select e)) ∙ fold-roll-Kernel Kern kern_at (layer.Select e)
 
+-- a projection as plain data
 pub kern_of-project : (es : Exprs) → kern_of (kernel.Project es) ≡ project (terms es)
 kern_of-project es = ap kern_of (sym (kernel.rolls-Project es)) ∙ fold-roll-Kernel Kern kern_at (layer.Project es)
 
+-- a product as plain data
 pub kern_of-cross : kern_of kernel.Cross ≡ cross
 kern_of-cross = ap kern_of (sym kernel.rolls-Cross) ∙ fold-roll-Kernel Kern kern_at layer.Cross
 
+-- a streamer as plain data
 pub kern_of-streamer : (s : Streamer) → kern_of (kernel.Streamer s) ≡ streamer s
 kern_of-streamer s = ap kern_of (sym (kernel.rolls-Streamer s)) ∙ fold-roll-Kernel Kern kern_at (layer.Streamer s)
 
+-- a joiner of packs as plain data
 pub kern_of-unpack : (n : ℕ) → kern_of (kernel.Unpack n) ≡ unpack n
 kern_of-unpack n = ap kern_of (sym (kernel.rolls-Unpack n)) ∙ fold-roll-Kernel Kern kern_at (layer.Unpack n)

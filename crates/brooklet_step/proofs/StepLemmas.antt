@@ -50,6 +50,7 @@ use Rattle.brooklet_step.proofs.QueuePlaces.{joined_places, joined_cong_below}
 
 -- RUNS
 
+-- a run and a step more
 pub run_next : (p : PlanForm) (s m s' : Machine) (es : List (ℕ × ℕ)) (o port : ℕ) → Run p s es m → Step p m o port s' → Run p s (es ++ (o, port) ∷ []) s'
 run_next p s m s' [] o port r st = (s', subst (λ x. Step p x o port s') r st, refl)
 run_next p s m s' (e ∷ es) o port r st = (r.0, r.1, run_next p r.0 m s' es o port r.2 st)
@@ -67,6 +68,7 @@ read_declared p v o port q r =
     let c = got_count r.op.reads port q r.queue_is in
     v.reads_declared q (omega (arith, m, c))
 
+-- a queue that is written is declared
 pub write_declared : (p : PlanForm) → IsPlan p → (o : ℕ) (op : OpForm) → slice_get p.ops o ≡ Some op → (q : Name) → 0 < count q op.writes
     → 0 < count q (queue_names p)
 write_declared p v o op g q lt =
@@ -391,9 +393,11 @@ module _ (m : Parts) (o port : ℕ) (q : Name) (i : item.Item) (rest : List item
       get_or-set_other m.counts o n (min most_firings (count_of m o + 1)) 0 (λ e. ne (sym e)) ∙ c ∙ ap (min most_firings) (sym (t ∙ ap (λ k. times n es + k) none ∙ omega arith)))
       (cases_eq o n)
 
+  -- the machine made one step of the definition
   pub steps : Steps m m' o port
   steps = record { plan = refl; running = refl; each = after; counts = counts_next }
 
+  -- and goes on
   pub goes_on : GoesOn m'
   goes_on =
       let l = g.laid_out in

@@ -14,6 +14,7 @@ use Rattle.brooklet_step.specs.Took.{HasRoom}
 use Rattle.brooklet_step.specs.Stands.{IsRow, Fires, Takes}
 use Rattle.brooklet_step.proofs.Leaves.{row_is}
 
+-- a tally as plain data
 pub kern_of-tally : kern_of kernel.Tally ≡ tally
 kern_of-tally = ap kern_of (sym kernel.rolls-Tally) ∙ fold-roll-Kernel Kern kern_at layer.Tally
 
@@ -25,6 +26,7 @@ tally_row k port x st ek t = let u = subst (λ (j : Kern). Takes j port x st) ek
 pub tally_room : (k : Kern) (out : Emit) → k ≡ tally → HasRoom k out → 0 < length out.adds
 tally_room k out ek r = let e = r.adds ∙ ap tabs ek in omega (arith, e)
 
+-- adding a row to a table is the firing of a tally
 pub tally_fires : (k : Kern) (port : ℕ) (x : item.Item) (st : List State) (out out' : Emit) → k ≡ tally → out'.outs ≡ out.outs
     → out'.adds ≡ each_grew out.adds (only 0 (values_of x ∷ [])) → Fires k out out' st st (fire k port x)
 tally_fires k port x st out out' ek eo ea =

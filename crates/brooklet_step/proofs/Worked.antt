@@ -9,6 +9,7 @@ use Rattle.brooklet_step.proofs.Fires.{grown_list}
 use Rattle.brooklet_step.proofs.GivenLemmas.{at-same, of_held}
 use Rattle.brooklet_step.proofs.Moved.{step_law}
 
+-- the worked row on slots
 pub slots_law : SlotsAreGiven
 slots_law z v reads writes vars out out' st' f hi b fires =
     let now : List Kept = Slots (z ∷ []) ∷ [] in

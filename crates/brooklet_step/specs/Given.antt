@@ -120,20 +120,9 @@ FitState (fused a b at) reads st = FitState a reads (take (privates a) st) × Fi
 
 -- kernels without a kernel inside
 abbrev pub IsLeaf : Kern → Type 0
-IsLeaf (code k) = Unit {0}
-IsLeaf (filter f) = Unit {0}
-IsLeaf (duplicate n) = Unit {0}
-IsLeaf (deal ws) = Unit {0}
-IsLeaf (collect ws) = Unit {0}
 IsLeaf (packed k) = ⊥
-IsLeaf (unpack n) = Unit {0}
-IsLeaf (window w) = Unit {0}
-IsLeaf (select e) = Unit {0}
-IsLeaf (project es) = Unit {0}
-IsLeaf cross = Unit {0}
-IsLeaf (streamer s) = Unit {0}
-IsLeaf tally = Unit {0}
 IsLeaf (fused a b at) = ⊥
+IsLeaf kernel = Unit {0}
 
 -- WHAT STATES STAND FOR
 
@@ -145,22 +134,11 @@ ran k start w = run (fire k) w start
 -- they stand for `start`. The queues at the ports begin there too: what a queue has is what it holds for the items of the word, as though
 -- none had come before the start, whatever `start` keeps
 abbrev pub StandsAfter : Kern → List QueueType → List Kept → List State → Word → Type 0
-StandsAfter (code k) reads start st w = StandsFor (code k) st (ran (code k) start w).states
-StandsAfter (filter f) reads start st w = StandsFor (filter f) st (ran (filter f) start w).states
-StandsAfter (duplicate n) reads start st w = StandsFor (duplicate n) st (ran (duplicate n) start w).states
-StandsAfter (deal ws) reads start st w = StandsFor (deal ws) st (ran (deal ws) start w).states
-StandsAfter (collect ws) reads start st w = StandsFor (collect ws) st (ran (collect ws) start w).states
 StandsAfter (packed k) reads start st w = StandsAfter k reads start st w
-StandsAfter (unpack n) reads start st w = StandsFor (unpack n) st (ran (unpack n) start w).states
-StandsAfter (window v) reads start st w = StandsFor (window v) st (ran (window v) start w).states
-StandsAfter (select e) reads start st w = StandsFor (select e) st (ran (select e) start w).states
-StandsAfter (project es) reads start st w = StandsFor (project es) st (ran (project es) start w).states
-StandsAfter cross reads start st w = StandsFor cross st (ran cross start w).states
-StandsAfter (streamer s) reads start st w = StandsFor (streamer s) st (ran (streamer s) start w).states
-StandsAfter tally reads start st w = StandsFor tally st (ran tally start w).states
 StandsAfter (fused a b at) reads start st w =
     StandsAfter a reads (take (privates a) start) (take (privates a) st) w
     × StandsAfter b (between at (types_of a reads)) (drop (privates a) start) (drop (privates a) st) (word_of 0 ((ran a (take (privates a) start) w).outs at))
+StandsAfter kernel reads start st w = StandsFor kernel st (ran kernel start w).states
 
 -- FIRINGS
 

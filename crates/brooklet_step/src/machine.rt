@@ -7,7 +7,7 @@ ghost use Rattle.brooklet_step.specs.Works.{IsEnabled, Starts, Steps, AreCounts,
 
 use crate::ending::outcome_of;
 use crate::initial::{first_parts, lines_of};
-use crate::step::{fire_next, is_enabled, take_turn};
+use crate::step::{fire_next, is_enabled, fire_turn};
 use crate::{Inputs, Outcome, States};
 use kern_rows::Line;
 use kern_tables::Table;
@@ -132,7 +132,7 @@ impl Machine {
         ensures ran { OnOk result (RunsOn self.old self.new) }
         ensures refused { OnErr result (self.new.stopped ≡ true) }
     {
-        let fired = take_turn(alloc, &mut self.parts, op, port, most)?;
+        let fired = fire_turn(alloc, &mut self.parts, op, port, most)?;
         Ok(fired)
     }
 

@@ -18,19 +18,8 @@ pub fn is_leaf(kernel: &Kernel) -> bool
     ensures { IsTrue result ↔ IsLeaf (kern_of kernel.now) }
 {
     match kernel {
-        Kernel::Code(_)
-        | Kernel::Filter(_)
-        | Kernel::Duplicate(_)
-        | Kernel::Deal(_)
-        | Kernel::Collect(_)
-        | Kernel::Unpack(_)
-        | Kernel::Window(_)
-        | Kernel::Select(_)
-        | Kernel::Project(_)
-        | Kernel::Cross
-        | Kernel::Streamer(_)
-        | Kernel::Tally => true,
         Kernel::Packed(_) | Kernel::Fused { .. } => false,
+        _ => true,
     }
 }
 

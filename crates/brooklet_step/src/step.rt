@@ -67,7 +67,7 @@ pub(crate) fn fire_next(
 
 /// Firings on the items at a port of an operator, one after another, at most so many: whether there are any. They share the lists
 /// for what they give. Where one is refused the machine is stopped.
-pub(crate) fn take_turn(
+pub(crate) fn fire_turn(
     alloc: Global,
     parts: &mut Parts,
     op: u32,

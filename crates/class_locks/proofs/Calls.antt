@@ -16,15 +16,19 @@ use Rattle.class_locks.proofs.Lists.{find_took, has_left}
 use Rattle.class_locks.proofs.Takes.{takes_ok, parks_ok, fetches_ok, frees_ok}
 use Rattle.class_locks.proofs.Arrivals.{joins_ok}
 
+-- a place at the table of the locks
 abbrev pub Place : Type 0
 Place = Seat (Option Holding) View
 
+-- a list that has a first element is that and the rest
 pub front : (l r : List (ℕ × Option Holding)) (a : ℕ × Option Holding) → l ≡ a ∷ r → l ≡ a ∷ rest l
 front l r a e = e ∙ (λ i. a ∷ rest (sym e i))
 
+-- the word was 0: the class was taken
 pub took_it : (c found : ℕ) (m m' : Mine) → took_by c m found m' → found ≡ 0 → (x : Holding) × (m' ≡ (taking c x m.0, (c, Some x) ∷ m.1)) × IsLogged m.0 c x
 took_it c found m m' t z = ⊎_elim (λ h. h.1) (λ h. absurd (let e = h.0 in omega arith)) t
 
+-- the word was not 0: nothing happened but the try
 pub missed : (c found : ℕ) (m m' : Mine) → took_by c m found m' → found ≢ 0 → m' ≡ (tried c 1 m.0, m.1)
 missed c found m m' t ne = ⊎_elim (λ h. absurd (ne h.0)) (λ h. h.1 ∙ ap (λ n. (tried c n m.0, m.1)) h.0) t
 
@@ -52,6 +56,7 @@ module _ (z : TableId) (about : About) where
   inside : (p : Place) (c : ℕ) → IsSeated z about p → c < length about.cells.value → c + 1 < z.words
   inside p c h lt = subst (λ n. c + 1 < n) (sym h.wide) (omega arith)
 
+  -- what a take asks of the table
   pub take_asks : (p : Place) (c : ℕ) → IsSeated z about p → c < length p.me.0.starts
       → (p.table_id ≡ z) × (c + 1 < z.words) × Allows Rule z.slots p.id p.me (c + 1) (λ w. either (eqb w 0) 1 w) (took (step z.slots (c + 1) 0 1 none) p.me)
   take_asks p c h lt =
@@ -64,6 +69,7 @@ module _ (z : TableId) (about : About) where
             (subst (λ (m : List (ℕ × Option Holding)). Allows Rule z.slots p.id (p.me.0, m) (suc c) (λ w. either (eqb w 0) 1 w) (took (step z.slots (suc c) 0 1 none) (p.me.0, m))) (sym h.empty) ok),
       )
 
+  -- what parking the empty slot asks of the table
   pub park_asks : (p p' : Place) (c : ℕ) (v : View) (x : Holding) → IsSeated z about p → c < length p.me.0.starts → p'.table_id ≡ z → p'.me ≡ (v, (c, None) ∷ []) → v.parts ≡ p.me.0.parts → v.hand ≡ record { class = c; taken = x } ∷ []
       → (p'.table_id ≡ z) × (c + 1 < z.words) × Allows Rule z.slots p'.id p'.me (c + 1) (λ w. w) (parks (step z.slots (c + 1) 0 0 none) p'.me)
   park_asks p p' c v x h lt table me parts hand =
@@ -76,6 +82,7 @@ module _ (z : TableId) (about : About) where
             (subst (λ (m : Mine). Allows Rule z.slots p'.id m (suc c) (λ w. w) (parks (step z.slots (suc c) 0 0 none) m)) (sym me) ok),
       )
 
+  -- what fetching it again asks of the table
   pub fetch_asks : (p : Place) (c : ℕ) (x : Holding) → IsSeated z about p → find_held c p.me.0.held ≡ Some x
       → (p.table_id ≡ z) × (c + 1 < z.words) × Allows Rule z.slots p.id p.me (c + 1) (λ w. w) (fetches (step z.slots (c + 1) 0 0 none) p.me)
   fetch_asks p c x h found =
@@ -87,6 +94,7 @@ module _ (z : TableId) (about : About) where
             (subst (λ (m : List (ℕ × Option Holding)). Allows Rule z.slots p.id (p.me.0, m) (suc c) (λ w. w) (fetches (step z.slots (suc c) 0 0 none) (p.me.0, m))) (sym h.empty) ok),
       )
 
+  -- what freeing a class asks of the table
   pub free_asks : (p p' : Place) (c : ℕ) (x y : Holding) → IsSeated z about p → p'.table_id ≡ z → p'.me ≡ (fetched c x p.me.0, (c, Some y) ∷ []) → find_held c p.me.0.held ≡ Some x → MayPut c y p.me.0
       → (p'.table_id ≡ z) × (c + 1 < z.words) × Allows Rule z.slots p'.id p'.me (c + 1) (λ _. 0) (λ _. frees (step z.slots (c + 1) 0 0 none) p'.me 0)
   free_asks p p' c x y h table me found may =
@@ -99,6 +107,7 @@ module _ (z : TableId) (about : About) where
             (subst (λ (m : Mine). Allows Rule z.slots p'.id m (suc c) (λ _. 0) (λ _. frees (step z.slots (suc c) 0 0 none) m 0)) (sym me) ok),
       )
 
+  -- what joining two seats asks of the table
   pub join_asks : (p q : Place) → IsSeated z about p → q.table_id ≡ z → q.me.0.hand ≡ [] → q.me.0.held ≡ [] → q.me.1 ≡ []
       → (p.table_id ≡ z) × (q.table_id ≡ z) × (q.me.1 ≡ []) × (0 < z.words) × Joins Rule p.id p.me.0 q.id q.me.0 (both p.me.0 q.me.0) spent
   join_asks p q h table hand held empty = (h.table, table, empty, subst (λ n. 0 < n) (sym h.wide) (omega arith), joins_ok about.seats about.cells.value p.id p.me.0 q.id q.me.0 h.one h.has hand held)
@@ -131,5 +140,6 @@ exchanged_me k w a b m m' l e nil x = x ∙ (ap (λ (q : Mine). (q.0, (k, b) ∷
 pub stored_me : (k : ℕ) (x y : Holding) (v : View) (m m' : Mine) → find_held k v.held ≡ Some x → m ≡ (fetched k x v, (k, Some y) ∷ []) → m' ≡ (record m.0 { hand = []; claims = m.0.claims ++ beyond m.0.hand m.1 }, []) → m' ≡ (after_put k y v, [])
 stored_me k x y v m m' found e s = s ∙ (ap (λ (q : Mine). (record q.0 { hand = []; claims = q.0.claims ++ beyond q.0.hand q.1 }, [])) e ∙ ap (λ (w : View). (w, [])) (put_view k x y v found))
 
+-- one class more is held, and all are below n
 pub took_more : (k n : ℕ) (x : Holding) (hs : List Held) → k < n → ((c : ℕ) (y : Holding) → Took c y hs → c < n) → (c : ℕ) (y : Holding) → Took c y (record { class = k; taken = x } ∷ hs) → c < n
 took_more k n x hs lt f c y t = ⊎_elim (λ h. subst (λ m. m < n) h.0 lt) (λ h. f c y h) t

@@ -68,10 +68,12 @@ puts_held v items c x (h ∷ hs) e m b =
 turned : (items : List Piled) (p : Piled) → reverse (items ++ p ∷ []) ≡ p ∷ reverse items
 turned items p = reverse-append items (p ∷ [])
 
+-- the last cell of a pile may be put
 pub puts : (v : View) (items all : List Piled) (c : ℕ) (x : Holding) → all ≡ items ++ (c, x) ∷ [] → IsPile v all → Puts v items c x v.held
 puts v items all c x e p =
     puts_held v items c x v.held refl (subst (λ (l : List Piled). Matches v.seats v.parts l v.held) (ap reverse e ∙ turned items (c, x)) p.matches) p.descend
 
+-- what a pile gained, the last cell first
 pub gained_turned : (items all : List Piled) (c : ℕ) (x : Holding) (hs : List Held) → all ≡ items ++ (c, x) ∷ [] → gained (reverse all) hs ≡ gained ((c, x) ∷ reverse items) hs
 gained_turned items all c x hs e = ap (λ (l : List Piled). gained l hs) (ap reverse e ∙ turned items (c, x))
 

@@ -98,6 +98,7 @@ unread_none : (field : List ℕ) (o : Option ℤ) → number_of field ≡ o → 
 unread_none field None e h = e
 unread_none field (Some z) e h = absurd (h z (read-is_written field z e))
 
+-- the first field that is no number is told
 pub fault_field : (rec k : ℕ) (fields : List (List ℕ)) → IsFirstUnread k fields → numbered (value_in rec) 1 fields ≡ Err (fault.NotNumber rec k)
 fault_field rec k fields h =
     ap (numbered (value_in rec) 1) h.parts
@@ -106,6 +107,7 @@ fault_field rec k fields h =
 
 -- A RECORD
 
+-- a record of the right number of fields
 pub wide : (w : ℕ) (more : Bool) (n : ℕ) → has_width w more n ≡ true → HasWidth w more n
 wide w true n e = grind (arith, nat_tests, e)
 wide w false n e = grind (arith, nat_tests, e)
@@ -162,6 +164,7 @@ module _ (w : ℕ) (more : Bool) (last rec : ℕ) (fields : List (List ℕ)) whe
       clash : last < rec → ⊥
       clash late = grind (arith, nat_tests, p, late)
 
+  -- what is told of a record is its fault
   pub row_told : (f : InFault) → row_in w more last rec fields ≡ Err f → Is f
   row_told f e = told (nat_lt last rec) (has_width w more (length fields)) refl refl f e
 
@@ -226,5 +229,6 @@ told_fault bytes w skip more f h =
     (rows_written w more last (headers skip + 1) h.read h.rows h.written (omega (arith, few))) refl
     (fault_row w more last (headers skip + 1 + length h.read) h.fields f h.faulty)
 
+-- files of rows are refused for their first fault
 pub faults_are : FaultsAre
 faults_are bytes w skip more f = (fault_told bytes w skip more f, told_fault bytes w skip more f)

@@ -9,6 +9,7 @@ use Rattle.csv_streams.specs.declared.fault.InFault.{InFault}
 use Rattle.csv_streams.specs.declared.fault.InFault.TheVariants as fault
 use Rattle.csv_streams.proofs.Numbered.{numbered-push, numbered-fault}
 
+-- the rows of a file
 abbrev pub told : List (List ℤ) → Result (List (List ℤ)) InFault
 told rows = Ok rows
 
@@ -63,6 +64,7 @@ within_by : (last rec : ℕ) (b : Bool) (others : Result (List ℤ) InFault) (ro
 within_by last rec true others row is e = cc
 within_by last rec false others row is e = grind (arith, nat_tests)
 
+-- a record that is read is within the limit
 pub row_within : (w : ℕ) (more : Bool) (last rec : ℕ) (fields : List (List ℕ)) (row : List ℤ) → row_in w more last rec fields ≡ Ok row → rec ≤ last
 row_within w more last rec fields row e = within_by last rec (nat_lt last rec) _ row refl e
 

@@ -11,6 +11,7 @@ use Rattle.csv_streams.specs.declared.fault.InFault.TheVariants as fault
 use Rattle.csv_streams.proofs.Numbered.{first_and_later}
 use Rattle.csv_streams.proofs.RowsIn.{row_within}
 
+-- the rows of a file with their timestamps
 abbrev pub all_told : List Entry → Result (List Entry) InFault
 all_told es = Ok es
 
@@ -117,6 +118,7 @@ in_time_ok rec t at true c e d p q h = cc
 in_time_ok rec t at false true e d p q h = cc
 in_time_ok rec t at false false e d p q h = let same : e ≡ d = cc in (same, p, q)
 
+-- a record with its timestamp
 pub stamped_ok : (rec : ℕ) (t : ℤ) (r : Result (List ℤ) InFault) (e : Entry) → stamped rec t r ≡ Ok e
     → (r ≡ Ok (e.0 ∷ e.1)) × (int_lt e.0 (pos 0) ≡ false) × (int_lt e.0 t ≡ false)
 stamped_ok rec t (Err f) e h = cc

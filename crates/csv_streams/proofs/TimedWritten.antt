@@ -78,6 +78,7 @@ written-read bytes w skip es writes =
     let few = writes.few in
     all_written w (headers skip + most_rows) (pos 0) (headers skip + 1) (drop (headers skip) (csv_records bytes)) es writes.written (omega (arith, few))
 
+-- rows that are read are those that the file writes
 pub timed_are_written : ReadTimedAreWritten
 timed_are_written bytes w skip es = (read-written bytes w skip es, written-read bytes w skip es)
 
@@ -89,6 +90,7 @@ widths w t (fields ∷ recs) (e ∷ es) all =
     let long = row-width (w + 1) false fields (e.0 ∷ e.1) all.0.written in
     All-cons (λ r. length r ≡ w) e.1 (map (λ (d : Entry). d.1) es) (omega (arith, long)) (widths w e.0 recs es all.1)
 
+-- and have the width
 pub timed_have_width : ReadTimedHaveWidth
 timed_have_width bytes w skip es h = widths w (pos 0) (drop (headers skip) (csv_records bytes)) es (read-written bytes w skip es h).written
 
@@ -317,5 +319,6 @@ told_fault bytes w skip f h =
     (all_written w last (pos 0) (headers skip + 1) h.read h.rows h.written (omega (arith, few))) refl
     (fault_timed w last (stamp_after (pos 0) h.rows) (headers skip + 1 + length h.read) h.fields f h.faulty)
 
+-- files of timed rows are refused for their first fault
 pub timed_faults_are : TimedFaultsAre
 timed_faults_are bytes w skip f = (fault_told bytes w skip f, told_fault bytes w skip f)

@@ -151,6 +151,7 @@ signed-is : (text : List ℕ) (z : ℤ) → signed text ≡ Some z → IsNumber 
 signed-is [] z e = cc
 signed-is (c ∷ cs) z e = minus_by c cs z (c == 45) refl e
 
+-- a number that is read is the one that the field writes
 pub read-is_written : (field : List ℕ) (z : ℤ) → number_of field ≡ Some z → Writes field z
 read-is_written field z e =
     let front = front-of field in
@@ -227,6 +228,7 @@ signed-from sign digits after z some all blank (inr (inl none, lt, is)) =
 signed-from sign digits after z some all blank (inr (inr plus, lt, is)) =
     rw (plus, is) (ap (option_and_then positive) (whole-from digits after some all blank) ∙ positive-from (value_after 0 digits) lt)
 
+-- and back
 pub written-is_read : (field : List ℕ) (z : ℤ) → Writes field z → number_of field ≡ Some z
 written-is_read field z w =
     ap number_of w.parts ∙ ap signed (skip-spaces w.before (w.sign ++ (w.digits ++ w.after)) w.blank)

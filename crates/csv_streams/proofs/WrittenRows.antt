@@ -20,6 +20,7 @@ value_some : (rec k : ℕ) (o : Option ℤ) (x : ℤ) → value_or rec k o ≡ O
 value_some rec k (Some y) x e = let is : y ≡ x = cc in ap (λ (z : ℤ). Some z) is
 value_some rec k None x e = cc
 
+-- fields that are read write these numbers
 pub values_read : (rec k : ℕ) (fields : List (List ℕ)) (xs : List ℤ) → numbered (value_in rec) k fields ≡ Ok xs → AllWrite fields xs
 values_read rec k [] [] e = tt
 values_read rec k [] (x ∷ xs) e = cc
@@ -27,6 +28,7 @@ values_read rec k (f ∷ fs) xs e =
     let (y, ys, first, later, parts) = first_and_later (value_in rec k f) (numbered (value_in rec) (k + 1) fs) xs e in
     rw parts (read-is_written f y (value_some rec k (number_of f) y first), values_read rec (k + 1) fs ys later)
 
+-- and back
 pub values_written : (rec k : ℕ) (fields : List (List ℕ)) (xs : List ℤ) → AllWrite fields xs → numbered (value_in rec) k fields ≡ Ok xs
 values_written rec k [] [] all = refl
 values_written rec k [] (x ∷ xs) all = absurd all
@@ -44,10 +46,12 @@ row_by w more last rec fields row true fits is has e = cc
 row_by w more last rec fields row false true is has e = (grind (arith, nat_tests), (has, values_read rec 1 (take w fields) row e))
 row_by w more last rec fields row false false is has e = cc
 
+-- a record that is read writes this row
 pub row_read : (w : ℕ) (more : Bool) (last rec : ℕ) (fields : List (List ℕ)) (row : List ℤ) → row_in w more last rec fields ≡ Ok row
     → (rec ≤ last) × WritesRow w more fields row
 row_read w more last rec fields row e = row_by w more last rec fields row (nat_lt last rec) (has_width w more (length fields)) refl refl e
 
+-- and back
 pub row_written : (w : ℕ) (more : Bool) (last rec : ℕ) (fields : List (List ℕ)) (row : List ℤ) → rec ≤ last → WritesRow w more fields row
     → row_in w more last rec fields ≡ Ok row
 row_written w more last rec fields row le writes =
@@ -67,6 +71,7 @@ rows_read w more last k (fields ∷ recs) rows e =
     let rest = rows_read w more last (k + 1) recs others later in
     rw parts ((r.1, rest.0), omega (arith, r.0, rest.1))
 
+-- records that write rows are read as these
 pub rows_written : (w : ℕ) (more : Bool) (last k : ℕ) (recs : List (List (List ℕ))) (rows : List (List ℤ)) → WriteRows w more recs rows
     → length rows + k ≤ last + 1 → numbered (row_in w more last) k recs ≡ Ok rows
 rows_written w more last k [] [] all few = refl
@@ -76,12 +81,14 @@ rows_written w more last k (fields ∷ recs) (row ∷ rows) all few =
     ap (λ (r : Result (List ℤ) InFault). before r (numbered (row_in w more last) (k + 1) recs)) (row_written w more last k fields row (omega (arith, few)) all.0)
     ∙ ap (λ (r : Result (List (List ℤ)) InFault). before (Ok row) r) (rows_written w more last (k + 1) recs rows all.1 (omega (arith, few)))
 
+-- a file that is read writes these rows
 pub read_rows-written : (bytes : List ℕ) (w : ℕ) (skip more : Bool) (rows : List (List ℤ)) → rows_of bytes w skip more ≡ Ok rows
     → FileWrites bytes w skip more rows
 read_rows-written bytes w skip more rows e =
     let r = rows_read w more (headers skip + most_rows) (headers skip + 1) (drop (headers skip) (csv_records bytes)) rows e in
     record { written = r.0; few = omega (arith, r.1) }
 
+-- and back
 pub written_rows-read : (bytes : List ℕ) (w : ℕ) (skip more : Bool) (rows : List (List ℤ)) → FileWrites bytes w skip more rows
     → rows_of bytes w skip more ≡ Ok rows
 written_rows-read bytes w skip more rows writes =
@@ -98,6 +105,7 @@ enough : (w n : ℕ) (more : Bool) → IsTrue (has_width w more n) → w ≤ n
 enough w n true t = grind (arith, nat_tests, t)
 enough w n false t = grind (arith, nat_tests, t)
 
+-- a row has the width
 pub row-width : (w : ℕ) (more : Bool) (fields : List (List ℕ)) (row : List ℤ) → WritesRow w more fields row → length row ≡ w
 row-width w more fields row writes = values-length (take w fields) row writes.1 ∙ length-take-le w fields (enough w (length fields) more writes.0)
 
@@ -108,5 +116,6 @@ rows-width w more (fields ∷ recs) [] all = absurd all
 rows-width w more (fields ∷ recs) (row ∷ rows) all =
     All-cons (λ r. length r ≡ w) row rows (row-width w more fields row all.0) (rows-width w more recs rows all.1)
 
+-- so have all rows
 pub read_rows-width : (bytes : List ℕ) (w : ℕ) (skip more : Bool) (rows : List (List ℤ)) → rows_of bytes w skip more ≡ Ok rows → HaveWidth w rows
 read_rows-width bytes w skip more rows e = rows-width w more (drop (headers skip) (csv_records bytes)) rows (read_rows-written bytes w skip more rows e).written

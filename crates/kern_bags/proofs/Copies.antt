@@ -14,6 +14,7 @@ use Rattle.kern_bags.specs.Laws.{DifferencesAre, StreamersAre, SelectionsAre, Pr
 
 -- COUNTS OF LISTS
 
+-- how many of two lists pass a test
 pub count-append : {K : Type 0} (test : K → Bool) (xs ys : List K) → count_by test (xs ++ ys) ≡ count_by test xs + count_by test ys
 count-append test xs ys = sum_by-append (λ x. cond (test x) 1 0) xs ys
 
@@ -27,6 +28,7 @@ count-flat_map test g [] = refl
 count-flat_map test g (x ∷ xs) =
     count-append test (g x) (flat_map g xs) ∙ ap (λ n. count_by test (g x) + n) (count-flat_map test g xs) ∙ sym (sum_by-cons (λ y. count_by test (g y)) x xs)
 
+-- sums of equal numbers are equal
 pub sum-cong : {K : Type 0} (f g : K → ℕ) (xs : List K) → ((x : K) → f x ≡ g x) → sum_by f xs ≡ sum_by g xs
 sum-cong f g [] h = refl
 sum-cong f g (x ∷ xs) h = sum_by-cons f x xs ∙ (λ i. h x i + sum-cong f g xs h i) ∙ sym (sum_by-cons g x xs)
@@ -60,14 +62,17 @@ copies-take_out row y (x ∷ xs) = step (row_eq x y) refl (copies-take_out row y
   step false e h =
       let c = count-cons (row_eq row) x xs in let d = count-cons (row_eq row) x (take_out y xs) in let n = never_both row x y e in omega (arith, c, d, n, h)
 
+-- how many copies are left of a row
 pub copies-without : (row : List ℤ) (xs ys : List (List ℤ)) → copies row (without xs ys) ≡ copies row xs - copies row ys
 copies-without row xs [] = omega arith
 copies-without row xs (y ∷ ys) =
     let a = copies-without row (take_out y xs) ys in let b = copies-take_out row y xs in let c = count-cons (row_eq row) y ys in omega (arith, a, b, c)
 
+-- a difference has as many copies as one has more than the other
 pub differences_are : DifferencesAre
 differences_are xs ys row = copies-in_order row (without xs ys) ∙ copies-without row xs ys
 
+-- streamers by copies
 pub streamers_are : StreamersAre
 streamers_are before rows row = record { came = differences_are rows before row; went = differences_are before rows row; all = refl }
 
@@ -93,11 +98,13 @@ copies-filter p row (x ∷ xs) = step (p x) refl (row_eq row x) refl (copies-fil
       h ∙ ap (λ b. cond b (copies row xs) 0) t ∙ sym (ap (λ b. cond b (copies row (x ∷ xs)) 0) t)
   step false e false g h = h ∙ ap (λ n. cond (p row) n 0) (sym (count_fail (row_eq row) x xs g))
 
+-- selections by copies
 pub selections_are : SelectionsAre
 selections_are t rows row = copies-filter (λ r. is_true (val t r [])) row rows
 
 -- PROJECTIONS
 
+-- projections by copies
 pub projections_are : ProjectionsAre
 projections_are ts rows row = copies-in_order row (map (λ r. map (λ t. val t r []) ts) rows) ∙ count-map (row_eq row) (λ r. map (λ t. val t r []) ts) rows
 
@@ -154,11 +161,13 @@ times_are x y (u ∷ us) ys w =
     spread true m n = grind arith
     spread false m n = grind arith
 
+-- products by copies
 pub products_are : ProductsAre
 products_are xs ys = record { pairs = pairs_are xs ys; times = λ x y w. pairs_are xs ys (x ++ y) ∙ times_are x y xs ys w }
 
 -- ORDER
 
+-- what is put in order ascends
 pub ascend : Ascend
 ascend = record {
   contents = λ w bs. in_order_ascends (in_window w (greatest bs) bs);

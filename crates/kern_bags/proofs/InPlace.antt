@@ -9,6 +9,7 @@ pub as_it_was : {A : Type 0} (xs old : List A) (n : ℕ) (d : A) → drop n xs �
 as_it_was xs old n d back =
     ap (λ i. get_or xs i d) (omega arith) ∙ sym (get_or-drop n xs 0 d) ∙ ap (λ l. get_or l 0 d) back ∙ get_or-drop n old 0 d ∙ ap (λ i. get_or old i d) (omega arith)
 
+-- what is behind the next place is as it was
 pub rest_as_it_was : {A : Type 0} (xs old : List A) (n : ℕ) → drop n xs ≡ drop n old → drop (n + 1) xs ≡ drop (n + 1) old
 rest_as_it_was xs old n back = sym (drop-drop 1 n xs) ∙ ap (drop 1) back ∙ drop-drop 1 n old
 

@@ -10,15 +10,19 @@ use Rattle.kern_bags.specs.Kept.{Stamped, stamped, AreInTurn, inserted, since}
 
 -- TESTS ON INSTANTS
 
+-- the test for at most, where it is so
 pub le_true : (a b : ℤ) → a ≤ℤ b → int_le a b ≡ true
 le_true a b h = grind (arith, h)
 
+-- the test for at most, where it is not
 pub le_false : (a b : ℤ) → b <ℤ a → int_le a b ≡ false
 le_false a b h = grind (arith, h)
 
+-- the test for less, where it is so
 pub lt_true : (a b : ℤ) → a <ℤ b → int_lt a b ≡ true
 lt_true a b h = grind (arith, h)
 
+-- the test for less, where it is not
 pub lt_false : (a b : ℤ) → b ≤ℤ a → int_lt a b ≡ false
 lt_false a b h = grind (arith, h)
 
@@ -35,14 +39,17 @@ module _ {K : Type 0} where
   filter_none p [] h = refl
   filter_none p (x ∷ xs) h = ap (λ b. cond b (x ∷ filter p xs) (filter p xs)) h.0 ∙ filter_none p xs h.1
 
+  -- what holds of all, with a weaker condition
   pub all_as : (P Q : K → Type 0) (xs : List K) → ((x : K) → P x → Q x) → AllByRecursion P xs → AllByRecursion Q xs
   all_as P Q [] f h = tt
   all_as P Q (x ∷ xs) f h = (f x h.0, all_as P Q xs f h.1)
 
+  -- what holds of the elements of two lists
   pub all_join : (P : K → Type 0) (xs ys : List K) → AllByRecursion P xs → AllByRecursion P ys → AllByRecursion P (xs ++ ys)
   all_join P [] ys h g = g
   all_join P (x ∷ xs) ys h g = (h.0, all_join P xs ys h.1 g)
 
+  -- what holds of all holds of those that pass
   pub all_filter : (P : K → Type 0) (p : K → Bool) (xs : List K) → AllByRecursion P xs → AllByRecursion P (filter p xs)
   all_filter P p [] h = tt
   all_filter P p (x ∷ xs) h = step (p x) (all_filter P p xs h.1) where
@@ -50,6 +57,7 @@ module _ {K : Type 0} where
     step true more = (h.0, more)
     step false more = more
 
+  -- what holds of all holds behind a place
   pub all_from : (P : K → Type 0) (n : ℕ) (xs : List K) → AllByRecursion P xs → AllByRecursion P (drop n xs)
   all_from P zero xs h = h
   all_from P (suc n) [] h = tt
@@ -127,6 +135,7 @@ since_all low (x ∷ xs) e t is l =
     let first = subst (λ (y : Stamped). low ≤ℤ y.0) is l in
     filter_all (λ (f : Stamped). int_le low f.0) (x ∷ xs) (le_true low x.0 first, all_as (λ (f : Stamped). x.0 ≤ℤ f.0) (λ (f : Stamped). int_le low f.0 ≡ true) xs (λ f k. le_true low f.0 (omega (arith, ints, first, k))) t.0)
 
+-- rows in order of instants without the first
 pub rest_in_turn : (es : List Stamped) → AreInTurn es → AreInTurn (drop 1 es)
 rest_in_turn [] t = tt
 rest_in_turn (x ∷ xs) t = t.1

@@ -12,9 +12,11 @@ use Rattle.kern_bags.specs.Kept.{Stamped, stamped, in_turn, AreInTurn, inserted,
 use Rattle.kern_bags.proofs.InTurn.{le_true, le_false, lt_true, lt_false, filter_all, filter_none, all_as, all_join}
 use Rattle.kern_bags.proofs.Windowed.{bounded}
 
+-- the rows of a batch with its instant
 abbrev pub rows_with : Batch → List Stamped
 rows_with b = stamped b.at b.rows
 
+-- the rows of all batches with their instants
 abbrev pub rows_of_all : List Batch → List Stamped
 rows_of_all bs = flat_map rows_with bs
 
@@ -62,6 +64,7 @@ sum_put f b (c ∷ cs) = step (int_lt b.at c.at) (sum_put f b cs) where
   step true h = sum_by-cons f b (c ∷ cs)
   step false h = let x = sum_by-cons f c (put_batch b cs) in let y = sum_by-cons f c cs in omega (arith, x, y, h)
 
+-- a sum over batches that were put in order
 pub sum_all : (f : Batch → ℕ) (done bs : List Batch) → sum_by f (fold (λ d b. put_batch b d) done bs) ≡ sum_by f done + sum_by f bs
 sum_all f done [] = omega arith
 sum_all f done (b ∷ bs) = let m = sum_all f (put_batch b done) bs in let p = sum_put f b done in let c = sum_by-cons f b bs in omega (arith, m, p, c)
@@ -140,6 +143,7 @@ pub now_more : (bs : List Batch) (b : Batch) → now_of (bs ++ b ∷ []) ≡ Som
 now_more [] b = refl
 now_more (c ∷ cs) b = ap Some (fold_more (λ t (d : Batch). later t d.at) c.at cs b)
 
+-- the greatest instant with one batch more
 pub greatest_more : (bs : List Batch) (b : Batch) → greatest (bs ++ b ∷ []) ≡ now_after (now_of bs) b.at
 greatest_more [] b = refl
 greatest_more (c ∷ cs) b = fold_more (λ t (d : Batch). later t d.at) c.at cs b

@@ -339,6 +339,7 @@ content_is w bs = content_by w (greatest bs) bs (none_later bs)
 
 -- STEPS
 
+-- the batches of a list with one more
 pub batches_more : (past : List item.Item) (b : Batch) → batches (past ++ Flat (Batched b) ∷ []) ≡ batches past ++ b ∷ []
 batches_more [] b = refl
 batches_more (Flat (Batched c) ∷ xs) b = ap (λ l. c ∷ l) (batches_more xs b)

@@ -27,6 +27,7 @@ up_tail x xs h k d low high = simp unary_clauses (simp unary_clauses at (h (suc 
 above_all : (x y : List ℤ) (ys : List (List ℤ)) → row_lt y x ≡ false → AllByRecursion (λ z. row_lt z y ≡ false) ys → AllByRecursion (λ z. row_lt z x ≡ false) ys
 above_all x y ys h a = all_as (λ z. row_lt z y ≡ false) (λ z. row_lt z x ≡ false) ys (λ z g. rows_ranked.chain z y x g h) a
 
+-- rows that are sorted go up
 pub up_of : (xs : List (List ℤ)) → IsSortedBy row_lt xs → Up xs
 up_of [] h = tt
 up_of (x ∷ []) h = (tt, tt)
@@ -210,6 +211,7 @@ pub place_next : (row y : List ℤ) (rows : List (List ℤ)) (n : ℕ) → n < l
 place_next row y rows n lt is l =
     sym (ap (rows_from row) (at_front rows n y lt is) ∙ ap (λ b. cond b (rows_from row (drop (n + 1) rows)) (y ∷ drop (n + 1) rows)) l)
 
+-- the place where a row is to stand
 pub place_found : (row y : List ℤ) (rows : List (List ℤ)) (n : ℕ) → n < length rows → y ≡ get_or rows n y → row_lt y row ≡ false
     → drop n rows ≡ rows_from row (drop n rows)
 place_found row y rows n lt is l =

@@ -43,6 +43,7 @@ so_far_start s out h = record { given = []; grew = sym (append-nil out); all = r
 next_is : (now next : Pairing) (x y : item.Item) → TakesPair now next x y → crossed now ≡ (joined_batch x y ++ (crossed next).0, (crossed next).1)
 next_is now next x y t = crossed_is now ∙ (λ i. zipped (t.left i) (t.right i)) ∙ ap (λ d. (joined_batch x y ++ d.0, d.1)) (sym (crossed_is next))
 
+-- one pair more has passed
 pub so_far_step : (start now next : Pairing) (out out' out'' : List item.Item) (x y : item.Item) → SoFar start now out out' → TakesPair now next x y
     → out'' ≡ out' ++ joined_batch x y → SoFar start next out out''
 so_far_step start now next out out' out'' x y f t g =

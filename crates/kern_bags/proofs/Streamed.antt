@@ -31,10 +31,12 @@ module _ (b : Batch) (old new : List (List ℤ)) (out out' : List item.Item) whe
   abbrev gave : List (List ℤ) → List item.Item
   gave rows = out ++ Flat (Batched (record { at = b.at; rows = rows })) ∷ []
 
+  -- what came is what Istream gives
   pub came_steps : new ≡ b.rows → out' ≡ gave (difference b.rows old)
       → Steps (StandsForStreamer Istream) (streamer_one Istream) (Flat (Batched b)) old new out out'
   came_steps n g = record { each = λ past h. (g ∙ ap (λ l. gave (difference b.rows l)) h, n ∙ sym (last_come past b)) }
 
+  -- what went is what Dstream gives
   pub gone_steps : new ≡ b.rows → out' ≡ gave (difference old b.rows)
       → Steps (StandsForStreamer Dstream) (streamer_one Dstream) (Flat (Batched b)) old new out out'
   gone_steps n g = record { each = λ past h. (g ∙ ap (λ l. gave (difference l b.rows)) h, n ∙ sym (last_come past b)) }

@@ -11,6 +11,7 @@ map_next f xs n x start old new lt is o e =
     e ∙ ap (λ l. l ++ f x ∷ []) o ∙ append_assoc start (map f (take n xs)) (f x ∷ [])
     ∙ ap (λ l. start ++ l) (ap (λ y. map f (take n xs) ++ f y ∷ []) is ∙ sym (map-append f (take n xs) (get_or xs n x ∷ [])) ∙ ap (map f) (sym (take_more xs n x lt)))
 
+-- the pairs of one row more
 pub join_next : {A B : Type 0} (f : A → List B) (xs : List A) (n : ℕ) (x : A) (old new : List B) → n < length xs → x ≡ get_or xs n x
     → old ≡ flat_map f (take n xs) → new ≡ old ++ f x → new ≡ flat_map f (take (n + 1) xs)
 join_next f xs n x old new lt is o e =

@@ -40,6 +40,7 @@ later_of span now at = step (int_lt (pos 0) (now -ℤ span)) refl where
 nothing_more : (n : ℕ) → n ≡ 0 + n
 nothing_more n = omega arith
 
+-- how many copies of a row have an instant that passes
 pub copies-where : (row : List ℤ) (p : ℤ → Bool) (bs : List Batch)
     → copies row (rows_where p bs) ≡ sum_by (λ (b : Batch). cond (p b.at) (copies row b.rows) 0) bs
 copies-where row p [] = refl
@@ -52,6 +53,7 @@ copies-where row p (b ∷ bs) = step (p b.at) refl (copies-where row p bs) where
   step true e h = count-append (row_eq row) b.rows (rows_where p bs) ∙ (λ i. cond (sym e i) (copies row b.rows) 0 + h i) ∙ sym (sum_by-cons f b bs)
   step false e h = h ∙ nothing_more (sum_by f bs) ∙ ap (λ q. cond q (copies row b.rows) 0 + sum_by f bs) (sym e) ∙ sym (sum_by-cons f b bs)
 
+-- contents of windows by copies
 pub contents_are : ContentsAre
 contents_are Now bs row y = copies-in_order row (in_window Now (greatest bs) bs) ∙ copies-where row (λ u. int_eq u (greatest bs)) bs
 contents_are (Range span) bs row y =
@@ -65,12 +67,14 @@ contents_are (Latest n) bs row y = absurd y
 
 -- NOW
 
+-- the later of two instants is at least the first
 pub later_from : (t u : ℤ) → t ≤ℤ later t u
 later_from t u = step (int_lt t u) refl where
   step : (b : Bool) → int_lt t u ≡ b → t ≤ℤ cond b u t
   step true e = before t u e
   step false e = omega (arith, ints)
 
+-- and at least the second
 pub later_to : (t u : ℤ) → u ≤ℤ later t u
 later_to t u = step (int_lt t u) refl where
   step : (b : Bool) → int_lt t u ≡ b → u ≤ℤ cond b u t
@@ -107,9 +111,11 @@ some_there t (b ∷ bs) = step (int_lt t b.at) (some_there b.at bs) (some_there 
   step true c d = deeper t (b.at ∷ map at_of bs) (latest_from b.at bs) c
   step false c d = over_second t b.at (map at_of bs) (latest_from t bs) d
 
+-- the greatest instant, said in two ways
 pub greatest_is_now : GreatestIsNow
 greatest_is_now b bs = record { none_later = none_above b.at bs; some = some_there b.at bs }
 
+-- each instant is at most the greatest
 pub bounded : (bs : List Batch) → AllByRecursion (λ (c : Batch). c.at ≤ℤ greatest bs) bs
 bounded [] = tt
 bounded (b ∷ bs) = none_above b.at bs
@@ -332,6 +338,7 @@ later_than (suc n) [] h = tt
 later_than (suc n) (e ∷ es) h =
     with_both (λ k. IsLater k e) (λ k. AllByRecursion (IsLater k) (take n es)) (drop n es) (all_drop (λ k. IsLater k e) n es h.0) (later_than n es h.1)
 
+-- the last rows by copies
 pub latest_are : LatestAre
 latest_are n bs =
     let es = all_rows (sorted bs) in

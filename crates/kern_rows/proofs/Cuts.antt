@@ -8,6 +8,7 @@ use Rattle.std.proofs.Math.Nat.{mul-le-mul_left, mul-le-mul_right}
 use Rattle.std.proofs.Math.Numerals.{add-one}
 use Rattle.kern_rows.specs.Even.{cut, AreEven, AreAsWide}
 
+-- values are cut into as many rows as asked
 pub length-cut : (w n : ℕ) (vs : List ℤ) → length (cut w n vs) ≡ n
 length-cut w zero vs = refl
 length-cut w (suc n) vs = ap suc (length-cut w n (drop w vs))
@@ -64,6 +65,7 @@ push-suc w (suc n) vs row new rows h v wide e =
     let is : w ≡ length row = (wide-is w (suc n) vs row rows (λ z. absurd (omega (arith, z))) h v).1 wide in
     ap (λ k. cut k (suc (suc n)) new) (sym is) ∙ ap (cut w (suc (suc n))) e ∙ cut-more w (suc n) vs row h.whole (sym is) ∙ ap (λ l. l ++ row ∷ []) v
 
+-- a row more is a row more of the cut
 pub push-is : (w n : ℕ) (vs row new : List ℤ) (rows : List (List ℤ)) → AreEven w n vs → cut w n vs ≡ rows → AreAsWide row rows → new ≡ vs ++ row
     → cut (length row) (n + 1) new ≡ rows ++ row ∷ []
 push-is w n vs row new rows h v wide e = ap (λ k. cut (length row) k new) (add-one n) ∙ push-suc w n vs row new rows h v wide e
@@ -77,6 +79,7 @@ whole-more w (suc n) vs row new rows h v wide e =
     let k : length vs ≡ suc n * length row = h.whole ∙ ap (λ m. suc n * m) is in
     omega (arith, k, ap length e, length-append vs row)
 
+-- rows of one width and one more of it
 pub even-more : (w n : ℕ) (vs row new : List ℤ) (rows : List (List ℤ)) → AreEven w n vs → cut w n vs ≡ rows → AreAsWide row rows → 1 ≤ length row
     → length row ≤ 16
     → new ≡ vs ++ row → AreEven (length row) (n + 1) new
@@ -110,6 +113,7 @@ pop-is w (suc n) vs some =
     let e : suc n - 1 ≡ n = omega arith in
     ap (λ k. take w vs ∷ cut w k (drop w vs)) (sym e)
 
+-- rows of one width without the first
 pub even-rest : (w n : ℕ) (vs : List ℤ) → (n ≡ 0 → ⊥) → AreEven w n vs → AreEven w (n - 1) (drop w vs)
 even-rest w zero vs some h = absurd (some refl)
 even-rest w (suc n) vs some h =

@@ -25,6 +25,7 @@ set_rest [] p x line lt h = absurd (omega (arith, lt))
 set_rest (l ∷ ls) zero x line lt h = ap (λ t. t ∷ ls) (sym (ap rest_in h))
 set_rest (l ∷ ls) (suc p) x line lt h = ap (λ t. l ∷ t) (set_rest ls p x line (omega arith) h)
 
+-- the port whose turn it is has no item: nothing passes
 pub stuck_is : (now : Turns) (port had : ℕ) (lists : List (List item.Item)) (line left : List item.Item) → turns port had lists ≡ now
     → now.port < length now.lists → line ≡ get_or lists port line → line ≡ [] → left ≡ [] → IsStuck now (turns port had (set lists port left))
 stuck_is now port had lists line left v lt at none gone =
@@ -33,6 +34,7 @@ stuck_is now port had lists line left v lt at none gone =
     subst (λ s. IsStuck s (turns port had (set lists port left))) v
     (record { front = λ give. front_none give lists port e; same = ap (turns port had) (set_same lists port left less (e ∙ sym gone)) })
 
+-- the port whose turn it is has an item: it passes
 pub passes_is : (now : Turns) (share port had count next next_had : ℕ) (lists : List (List item.Item)) (line left : List item.Item) (x : item.Item)
     → turns port had lists ≡ now → now.port < length now.lists → line ≡ get_or lists port line → line ≡ x ∷ left → count ≡ length lists
     → next ≡ port_after share count port had → next_had ≡ had_after share had → Passes share now (turns next next_had (set lists port left)) x

@@ -33,6 +33,7 @@ mutual
   once_values (If cond when otherwise) input slots h =
       either (is_true (val cond input slots)) (ran when input slots) (ran otherwise input slots) (ran_values when input slots h.0) (ran_values otherwise input slots h.1)
 
+  -- what a body pushes are values of 64 bits
   pub ran_values : (ss : Steps) (input slots : List ℤ) → GivesValues ss → AreValues (ran ss input slots).pushes
   ran_values Done input slots h = tt
   ran_values (Then s ss) input slots h =

@@ -18,6 +18,7 @@ mutual
   once_length (If cond when otherwise) input slots =
       either_length (is_true (val cond input slots)) (ran when input slots) (ran otherwise input slots) (length slots) (ran_length when input slots) (ran_length otherwise input slots)
 
+  -- a run keeps the number of slots
   pub ran_length : (ss : Steps) (input slots : List ℤ) → length (ran ss input slots).slots ≡ length slots
   ran_length Done input slots = refl
   ran_length (Then s ss) input slots = ran_length ss input (ran_once s input slots).slots ∙ once_length s input slots

@@ -17,12 +17,14 @@ use Rattle.kern_rows.specs.Turns.{turns_start}
 
 -- WHAT IS IN FRONT
 
+-- the front at a port that has items
 pub front_is : (give : item.Item → List item.Item) (ls : List (List item.Item)) (p : ℕ) (x : item.Item) (xs : List item.Item) → p < length ls
     → get_or ls p [] ≡ x ∷ xs → front_at give ls p ≡ Some (give x)
 front_is give [] p x xs lt h = absurd (omega (arith, lt))
 front_is give (l ∷ ls) zero x xs lt h = ap (front_in give) h
 front_is give (l ∷ ls) (suc p) x xs lt h = front_is give ls p x xs (omega arith) h
 
+-- there is none where no item is
 pub front_none : (give : item.Item → List item.Item) (ls : List (List item.Item)) (p : ℕ) → get_or ls p [] ≡ [] → front_at give ls p ≡ None
 front_none give [] p h = refl
 front_none give (l ∷ ls) zero h = ap (front_in give) h
@@ -77,6 +79,7 @@ passed_is : (ws : List ℕ) (s : Turns) → length s.lists ≡ length ws → pas
 passed_is ws s e =
     ap (λ n. record (passed ws s) { port = if nat_lt (s.had + 1) (slice_index_or ws s.port 0) then s.port else (if nat_lt (s.port + 1) n then s.port + 1 else 0) }) e
 
+-- a joiner that an item comes to keeps its shape
 pub joined_put : (ws : List ℕ) (p : ℕ) (x : item.Item) (s : Turns) → IsJoiner ws s → IsJoiner ws (put p x s)
 joined_put ws p x s j = record { turn = j.turn; lists = length-append_at s.lists p (x ∷ []) ∙ j.lists }
 
@@ -120,6 +123,7 @@ module _ (give : item.Item → List item.Item) (ws : List ℕ) where
   pub so_far_start : (s : Turns) (out : List item.Item) → IsJoiner ws s → SoFar give ws s s out out
   so_far_start s out j = record { given = []; grew = sym (append-nil out); all = refl; last = refl; joined = j }
 
+  -- one item more has passed
   pub so_far_step : (start now next : Turns) (out out' out'' : List item.Item) (x : item.Item) → HaveShares ws → SoFar give ws start now out out'
       → Passes (slice_index_or ws now.port 0) now next x → out'' ≡ out' ++ give x → SoFar give ws start next out out''
   so_far_step start now next out out' out'' x shares f p g =
@@ -133,6 +137,7 @@ module _ (give : item.Item → List item.Item) (ws : List ℕ) where
         joined = record { turn = next_turn ws now.port now.had shares f.joined.turn; lists = length-rest_at now.lists now.port ∙ f.joined.lists };
       })
 
+  -- and one item less waits
   pub so_far_less : (start now next : Turns) (out out' : List item.Item) (x : item.Item) → SoFar give ws start now out out'
       → Passes (slice_index_or ws now.port 0) now next x → waiting next.lists < waiting now.lists
   so_far_less start now next out out' x f p =
@@ -178,6 +183,7 @@ pub passes_at : (ws : List ℕ) (share port : ℕ) (now next : Turns) (x : item.
     → Passes (slice_index_or ws now.port 0) now next x
 passes_at ws share port now next x s p h = subst (λ k. Passes k now next x) (s ∙ ap (λ q. slice_index_or ws q 0) p) h
 
+-- nothing was appended
 pub grew_by_none : {X : Type 0} (old new all : List X) → new ≡ old → GrewByPrefix old all new
 grew_by_none old new all e = record { n = 0; is = e ∙ sym (append-nil old) }
 
@@ -187,6 +193,7 @@ one_at zero p h = absurd (omega (arith, h))
 one_at (suc n) zero h = refl
 one_at (suc n) (suc p) h = one_at n p (omega arith)
 
+-- a turn of weight 1
 pub passes_one : (n : ℕ) (now next : Turns) (x : item.Item) → now.port < length (ones n) → Passes 1 now next x
     → Passes (slice_index_or (ones n) now.port 0) now next x
 passes_one n now next x lt h = subst (λ k. Passes k now next x) (sym (one_at n now.port lt)) h
@@ -195,6 +202,7 @@ are_ones : (n : ℕ) → AllByRecursion (λ w. 0 < w) (ones n)
 are_ones zero = tt
 are_ones (suc n) = (omega arith, are_ones n)
 
+-- weights of 1 are above 0
 pub ones_shares : (n : ℕ) → 0 < n → HaveShares (ones n)
 ones_shares zero h = absurd (omega (arith, h))
 ones_shares (suc n) h = (omega arith, are_ones (suc n))

@@ -153,6 +153,7 @@ module _ {V : Type 0} (start : V) (merge : V → List ℤ → V) where
   abbrev pub value_at : ℕ → List (List ℤ) → List ℤ → V
   value_at keys adds key = fold merge start (under keys key adds)
 
+  -- a key with its value
   abbrev pub with_value : ℕ → List (List ℤ) → List ℤ → List ℤ × V
   with_value keys adds key = (key, value_at keys adds key)
 
@@ -273,5 +274,6 @@ module _ {V : Type 0} (start : V) (merge : V → List ℤ → V) where
     pub grouped_keyed : (keys : ℕ) (adds : List (List ℤ)) → grouped keys adds ≡ keyed row_cmp start merge (splits keys adds)
     grouped_keyed keys adds = grouped_from keys [] adds refl
 
+    -- keys rise
     pub keys_rise : (keys : ℕ) (adds : List (List ℤ)) → IsStrictlySortedBy row_cmp (keys_of keys adds)
     keys_rise keys adds = sorted_keys keys adds (grouped_keyed keys adds)

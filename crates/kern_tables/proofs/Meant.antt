@@ -114,6 +114,7 @@ wrap_zero : wrap (pos 0) ≡ pos 0
 unfolding int_wrap
 wrap_zero = refl
 
+-- sums by the bag of rows
 pub sums_are : SumsAre
 sums_are keys adds =
     let f : List ℤ → ℤ = λ key. sum_of (under keys key adds) in
@@ -190,6 +191,7 @@ best_are best rests =
       none_before = none_over best xs r;
     }
 
+-- maxima by the bag of rows
 pub maxima_are : MaximaAre
 maxima_are keys best adds =
     let f : List ℤ → List Ranked = λ key. best_of best (under keys key adds) in

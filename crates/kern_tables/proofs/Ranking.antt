@@ -17,6 +17,7 @@ use Rattle.kern_tables.proofs.Tabs.{ranked_weakly, apart_ranks}
 abbrev by_rank : List Ranked → List Ranked
 by_rank xs = ascending ranks_before xs
 
+-- one row more, by rank
 pub pushed : (x : Ranked) (xs ys : List Ranked) → IsPermutation (x ∷ xs) ys → by_rank ys ≡ place ranks_before x (by_rank xs)
 pushed x xs ys h =
     sym (order.ascending-IsPermutation ranks_before ranked_weakly apart_ranks (x ∷ xs) ys h) ∙ order.ascending-cons ranks_before ranked_weakly apart_ranks x xs
@@ -76,6 +77,7 @@ fold_rises : (acc xs : List Ranked) → Rises acc → Rises (fold (λ done x. pl
 fold_rises acc [] r = r
 fold_rises acc (x ∷ xs) r = fold_rises (place ranks_before x acc) xs (place_rises x acc r)
 
+-- rows by rank rise
 pub rises : (xs : List Ranked) → Rises (by_rank xs)
 rises xs = fold_rises [] xs Empty
 

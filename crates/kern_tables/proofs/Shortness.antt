@@ -16,6 +16,7 @@ use Rattle.std.specs.BTreeMap.{insert_entry}
 use Rattle.river_base.specs.Row.{row_cmp}
 use Rattle.kern_tables.specs.Entries.{AreShort}
 
+-- keys stay short where a short one is put in
 pub short_insert : {V : Type 0} (n : ℕ) (es : List (List ℤ × V)) (k : List ℤ) (v : V) → AreShort n es → length k ≤ n → AreShort n (insert_entry row_cmp es k v)
 short_insert n [] k v a h = (h, tt)
 short_insert {V} n (e ∷ es) k v a h = step (row_cmp k e.0) (short_insert n es k v a.1 h) where

@@ -46,9 +46,11 @@ exact_ranks a b h = step (int_cmp b.weight a.weight) refl h where
       λ i. record { weight = sym w i; value = v i }
   step Greater e g = cc
 
+-- ranks are a strict weak order
 pub ranked_weakly : IsStrictWeakOrder ranks_before
 ranked_weakly = ranks_by rank_total (λ x. x)
 
+-- rows of which neither ranks before the other are equal
 pub apart_ranks : (x y : Ranked) → ranks_before x y ≡ false → ranks_before y x ≡ false → x ≡ y
 apart_ranks x y h g = step (rank_cmp x y) refl h where
   step : (r : Ordering) → rank_cmp x y ≡ r → is_lt r ≡ false → x ≡ y
@@ -58,6 +60,7 @@ apart_ranks x y h g = step (rank_cmp x y) refl h where
 
 -- SUMS
 
+-- two rows may be added to a sum in either order
 pub sums_commute : (v : ℤ) (w u : List ℤ) → add_value (add_value v w) u ≡ add_value (add_value v u) w
 sums_commute v w u =
     let a = value_in w in
@@ -65,6 +68,7 @@ sums_commute v w u =
     let turn : (v +ℤ a) +ℤ b ≡ (v +ℤ b) +ℤ a = omega (arith, ints) in
     int_wrap-add_left w64 (v +ℤ a) b ∙ ap (int_wrap w64) turn ∙ sym (int_wrap-add_left w64 (v +ℤ b) a)
 
+-- a sum that wraps at each row is the sum that wraps once
 pub wrapped_sum : (z : ℤ) (rests : List (List ℤ)) → fold add_value (wrap z) rests ≡ wrap (fold (λ sum rest. sum +ℤ value_in rest) z rests)
 wrapped_sum z [] = refl
 wrapped_sum z (r ∷ rs) = ap (λ v. fold add_value v rs) (int_wrap-add_left w64 z (value_in r)) ∙ wrapped_sum (z +ℤ value_in r) rs
@@ -94,6 +98,7 @@ cut_place lt (suc n) x (y ∷ ys) = step (lt y x) refl (cut_place lt n x ys) whe
       ap (λ b. take (suc n) (cond b (y ∷ place lt x (take n ys)) (x ∷ (y ∷ take n ys)))) h ∙ ap (λ l. x ∷ l) (shorter n y ys)
       ∙ sym (ap (λ b. take (suc n) (cond b (y ∷ place lt x ys) (x ∷ (y ∷ ys)))) h)
 
+-- two rows may come to a maximum in either order
 pub maxima_commute : (best : ℕ) (v : List Ranked) (w u : List ℤ) → best_more best (best_more best v w) u ≡ best_more best (best_more best v u) w
 maxima_commute best v w u =
     let a = ranked_in w in
@@ -156,14 +161,17 @@ tab-IsPermutation (Maximum best keys) xs ys h =
     ∙ ap maximum_rows (tables.keyed-IsPermutation row_cmp row_total exact_rows [] (best_more best) (maxima_commute best) (splits keys xs) (splits keys ys) (IsPermutation-map (split keys) xs ys h))
     ∙ maxima_keyed best keys ys
 
+-- what a table keeps is a function of the bag of its rows
 pub tables_are_of_bags : TablesAreOfBags
 tables_are_of_bags kind xs ys h = tab-IsPermutation kind xs ys (permutation_from_bag xs ys h)
 
+-- a collection has the rows in order
 pub collections_are : CollectionsAre
 collections_are keys adds = ((λ row. sym (bag_from_permutation adds (in_order adds) (in_order_bag adds) (row_eq row))), in_order_ascends adds)
 
 -- WHAT A TABLE HOLDS
 
+-- one row more in order
 pub in_order_more : (rows : List (List ℤ)) (row : List ℤ) → in_order (rows ++ row ∷ []) ≡ place row_lt row (in_order rows)
 in_order_more rows row = fold-append (λ done x. place row_lt x done) [] rows (row ∷ [])
 
@@ -195,11 +203,13 @@ kept_kind (Sum keys) adds = refl
 kept_kind (Collection keys) adds = refl
 kept_kind (Maximum best keys) adds = refl
 
+-- adding a row keeps the kind
 pub added_kind : (t : Kept) (row : List ℤ) → kind_of (added t row) ≡ kind_of t
 added_kind (Sums keys es) row = refl
 added_kind (Rows keys rows) row = refl
 added_kind (Maxima best keys es) row = refl
 
+-- a table keeps what its rows make of it
 pub tables_keep_adds : TablesKeepAdds
 tables_keep_adds kind = record { rows = kept_rows kind; more = kept_more kind; of_bag = kept_of_bag kind; kind_is = kept_kind kind }
 
@@ -211,6 +221,7 @@ added_more t rows row = fold-append added t rows (row ∷ [])
 pub added_in_two : (t u : Kept) (n : ℕ) (rows : List (List ℤ)) → u ≡ added_all t (take n rows) → added_all u (drop n rows) ≡ added_all t rows
 added_in_two t u n rows e = ap (λ (k : Kept). added_all k (drop n rows)) e ∙ (sym (fold-append added t (take n rows) (drop n rows)) ∙ ap (added_all t) (take-append-drop n rows))
 
+-- adding rows keeps the kind
 pub added_all_kind : (t : Kept) (rows : List (List ℤ)) → kind_of (added_all t rows) ≡ kind_of t
 added_all_kind t [] = refl
 added_all_kind t (row ∷ rows) = added_all_kind (added t row) rows ∙ added_kind t row

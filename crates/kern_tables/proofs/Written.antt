@@ -33,6 +33,7 @@ module _ {V : Type 0} where
     step true g more = let same : e.1 ≡ v = one_value (sym (lookup_head (here k) e es g) ∙ h) in set_here k e es v g ∙ (λ i. (e.0, sym same i) ∷ es)
     step false g more = set_past k e es v g ∙ ap (λ l. e ∷ l) (more (sym (lookup_tail (here k) e es g) ∙ h))
 
+  -- keys stay short where a value is set
   pub short_set : (n : ℕ) (k : List ℤ) (es : List (List ℤ × V)) (v : V) → AreShort n es → AreShort n (set_value (here k) es v)
   short_set n k [] v a = tt
   short_set n k (e ∷ es) v a = step (here k e.0) (short_set n k es v a.1) where

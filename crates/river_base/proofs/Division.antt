@@ -55,6 +55,7 @@ remainder_from (pos a) b h = step (int_eq b (pos 0)) where
   step false = omega (arith, ints)
 remainder_from (negsuc a) b h = absurd (omega (arith, ints))
 
+-- the remainder of a number below 0 is at most 0
 pub remainder_to : (a b : ℤ) → a ≤ℤ pos 0 → rem a b ≤ℤ pos 0
 remainder_to (pos zero) b h = step (int_eq b (pos 0)) where
   step : (t : Bool) → cond t (pos 0) (int_rem (pos 0) b) ≤ℤ pos 0
@@ -70,6 +71,7 @@ remainder_to (negsuc a) b h = step (int_eq b (pos 0)) where
 pub divided_by_nought : (a : ℤ) → (quot a (pos 0) ≡ pos 0) × (rem a (pos 0) ≡ pos 0)
 divided_by_nought a = (refl, refl)
 
+-- the least value by -1: it stays, and nothing is left
 pub least_divided : (quot least_value (negsuc 0) ≡ least_value) × (rem least_value (negsuc 0) ≡ pos 0)
 unfolding int_wrap
 least_divided = (refl, refl)

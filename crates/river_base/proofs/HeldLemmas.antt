@@ -50,6 +50,7 @@ pub held-typed : (t : queue_type.QueueType) (x : item.Item) → HasType t x → 
 unfolding IsHeld
 held-typed t x h = h
 
+-- an item that a queue may hold has its type
 pub typed-held : (t : queue_type.QueueType) (x : item.Item) → IsHeld t x → HasType t x
 unfolding IsHeld
 typed-held t x h = h

@@ -31,6 +31,7 @@ pub once_has : (ts : List ℤ) (t : ℤ) → Contains ts t → Contains (each_on
 once_has ts t h =
     Contains-dedup int_eq_equiv same (ascending earlier ts) t (Contains-permutation ts (ascending earlier ts) t (order.ascending_bag earlier earlier_ranked apart ts) h)
 
+-- an instant of the list is one of those that are kept once
 pub has_once : (ts : List ℤ) (t : ℤ) → Contains (each_once ts) t → Contains ts t
 has_once ts t h =
     let bag = order.ascending_bag earlier earlier_ranked apart ts in

@@ -15,6 +15,7 @@ cast_is_wrap (negsuc n) h =
     let e : n % 2 ^ 64 ≡ n = mod-eq_of_lt below in
     ap (cast_signed w64) (omega arith)
 
+-- the size of a number below 0
 pub abs_negated : (n : ℕ) → unsigned_abs (neg_ℤ (pos n)) ≡ n
 abs_negated zero = refl
 abs_negated (suc n) = refl
@@ -30,6 +31,7 @@ abs_below : (a : ℤ) → FitsSigned w64 a → unsigned_abs a < 2 ^ 64
 abs_below (pos n) f = omega (arith, f.sfits)
 abs_below (negsuc n) f = omega (arith, f.sfits)
 
+-- division wraps as the definition says
 pub int_div_wraps : (a b : ℤ) → FitsSigned w64 a → cast_signed w64 (cast_unsigned w64 (int_div a b)) ≡ int_wrap w64 (int_div a b)
 int_div_wraps a b f = cast_is_wrap (int_div a b) (omega (arith, int_div_small a b, abs_below a f))
 

@@ -12,53 +12,63 @@ append_at_set [] n d xs h = refl
 append_at_set (l ∷ ls) zero d xs h = refl
 append_at_set (l ∷ ls) (suc n) d xs h = ap (λ t. l ∷ t) (append_at_set ls n d xs (omega arith))
 
+-- a list at one place grew
 pub append_at_by : {A : Type 0} (ls now : List (List A)) (n : ℕ) (old xs new : List A) → ls ≡ now → n < length now → old ≡ get_or ls n old → new ≡ old ++ xs
     → set ls n new ≡ append_at now n xs
 append_at_by ls now n old xs new v h o e =
     let h' : n < length ls = rw v h in
     ap (λ t. set ls n t) (e ∙ ap (λ t. t ++ xs) o) ∙ append_at_set ls n old xs h' ∙ ap (λ t. append_at t n xs) v
 
+-- the number of lists stays
 pub length-append_at : {A : Type 0} (ls : List (List A)) (p : ℕ) (xs : List A) → length (append_at ls p xs) ≡ length ls
 length-append_at [] p xs = refl
 length-append_at (l ∷ ls) zero xs = refl
 length-append_at (l ∷ ls) (suc p) xs = ap suc (length-append_at ls p xs)
 
+-- lists grow alike by equal lists
 pub each_grew_cong : {A : Type 0} (ls : List (List A)) (f g : ℕ → List A) → ((p : ℕ) → p < length ls → f p ≡ g p) → each_grew ls f ≡ each_grew ls g
 each_grew_cong [] f g h = refl
 each_grew_cong (l ∷ ls) f g h =
     ap (λ t. (l ++ t) ∷ each_grew ls (λ p. f (suc p))) (h 0 (omega arith))
     ∙ ap (λ t. (l ++ g 0) ∷ t) (each_grew_cong ls (λ p. f (suc p)) (λ p. g (suc p)) (λ p lt. h (suc p) (omega arith)))
 
+-- lists that grow by nothing stay
 pub each_grew-none : {A : Type 0} (ls : List (List A)) → each_grew ls none ≡ ls
 each_grew-none [] = refl
 each_grew-none (l ∷ ls) = ap (λ t. t ∷ each_grew ls none) (append-nil l) ∙ ap (λ t. l ∷ t) (each_grew-none ls)
 
+-- lists of which one grows
 pub each_grew-only : {A : Type 0} (ls : List (List A)) (n : ℕ) (xs : List A) → each_grew ls (only n xs) ≡ append_at ls n xs
 each_grew-only [] n xs = refl
 each_grew-only (l ∷ ls) zero xs = ap (λ t. (l ++ xs) ∷ t) (each_grew-none ls)
 each_grew-only (l ∷ ls) (suc n) xs =
     ap (λ t. t ∷ each_grew ls (only n xs)) (append-nil l) ∙ ap (λ t. l ∷ t) (each_grew-only ls n xs)
 
+-- lists that grow twice
 pub each_grew-each_grew : {A : Type 0} (ls : List (List A)) (f g : ℕ → List A) → each_grew (each_grew ls f) g ≡ each_grew ls (λ p. f p ++ g p)
 each_grew-each_grew [] f g = refl
 each_grew-each_grew (l ∷ ls) f g =
     ap (λ t. t ∷ each_grew (each_grew ls (λ p. f (suc p))) (λ p. g (suc p))) (append_assoc l (f 0) (g 0))
     ∙ ap (λ t. (l ++ (f 0 ++ g 0)) ∷ t) (each_grew-each_grew ls (λ p. f (suc p)) (λ p. g (suc p)))
 
+-- the number of lists stays where each grows
 pub length-each_grew : {A : Type 0} (ls : List (List A)) (f : ℕ → List A) → length (each_grew ls f) ≡ length ls
 length-each_grew [] f = refl
 length-each_grew (l ∷ ls) f = ap suc (length-each_grew ls (λ p. f (suc p)))
 
+-- a list that grew
 pub get_or-each_grew : {A : Type 0} (ls : List (List A)) (f : ℕ → List A) (n : ℕ) (d : List A) → n < length ls
     → get_or (each_grew ls f) n d ≡ get_or ls n d ++ f n
 get_or-each_grew [] f n d h = absurd (omega arith)
 get_or-each_grew (l ∷ ls) f zero d h = refl
 get_or-each_grew (l ∷ ls) f (suc n) d h = get_or-each_grew ls (λ p. f (suc p)) n d (omega arith)
 
+-- at its own place the list
 pub only_same : {A : Type 0} (n : ℕ) (xs : List A) → only n xs n ≡ xs
 only_same zero xs = refl
 only_same (suc n) xs = only_same n xs
 
+-- at other places nothing
 pub only_other : {A : Type 0} (n q : ℕ) (xs : List A) → q ≢ n → only n xs q ≡ []
 only_other zero zero xs h = absurd (h refl)
 only_other zero (suc q) xs h = refl
@@ -70,9 +80,11 @@ pub append_at-each_grew : {A : Type 0} (ls : List (List A)) (f : ℕ → List A)
     → append_at (each_grew ls f) n xs ≡ each_grew ls (λ p. f p ++ only n xs p)
 append_at-each_grew ls f n xs = sym (each_grew-only (each_grew ls f) n xs) ∙ each_grew-each_grew ls f (only n xs)
 
+-- an `if` that asks for less, where it is
 pub if_lt : {A : Type 0} (a b : ℕ) (x y : A) → a < b → (if nat_lt a b then x else y) ≡ x
 if_lt a b x y h = grind arith
 
+-- an `if` that asks for less, where it is not
 pub if_ge : {A : Type 0} (a b : ℕ) (x y : A) → b ≤ a → (if nat_lt a b then x else y) ≡ y
 if_ge a b x y h = grind arith
 
@@ -85,13 +97,16 @@ upto_more n f q = ⊎_elim
     (cases_lt q (n + 1)))
     (cases_lt q n)
 
+-- one list more grew
 pub append_at-upto : {A : Type 0} (ls : List (List A)) (f : ℕ → List A) (n : ℕ) → append_at (each_grew ls (upto n f)) n (f n) ≡ each_grew ls (upto (n + 1) f)
 append_at-upto ls f n =
     append_at-each_grew ls (upto n f) n (f n) ∙ each_grew_cong ls (λ p. upto n f p ++ only n (f n) p) (upto (n + 1) f) (λ p h. upto_more n f p)
 
+-- before the first list nothing grew
 pub each_grew-upto_none : {A : Type 0} (ls : List (List A)) (f : ℕ → List A) → each_grew ls (upto 0 f) ≡ ls
 each_grew-upto_none ls f = each_grew_cong ls (upto 0 f) none (λ p h. if_ge p 0 (f p) [] (omega arith)) ∙ each_grew-none ls
 
+-- after the last list all grew
 pub each_grew-upto_all : {A : Type 0} (ls : List (List A)) (f : ℕ → List A) (n : ℕ) → length ls ≤ n → each_grew ls (upto n f) ≡ each_grew ls f
 each_grew-upto_all ls f n e = each_grew_cong ls (upto n f) f (λ p h. if_lt p n (f p) [] (omega arith))
 
@@ -100,9 +115,11 @@ pub upto_step : {A : Type 0} (start now new : List (List A)) (f : ℕ → List A
     → new ≡ append_at now n xs → new ≡ each_grew start (upto (n + 1) f)
 upto_step start now new f n xs e x a = a ∙ ap (λ t. append_at t n xs) e ∙ ap (λ t. append_at (each_grew start (upto n f)) n t) x ∙ append_at-upto start f n
 
+-- the number of lists stays on the way
 pub upto_length : {A : Type 0} (start now : List (List A)) (f : ℕ → List A) (n : ℕ) → now ≡ each_grew start (upto n f) → length now ≡ length start
 upto_length start now f n e = ap length e ∙ length-each_grew start (upto n f)
 
+-- empty lists that grow
 pub each_grew-blanks : {A : Type 0} (n : ℕ) (f : ℕ → List A) (p : ℕ) (d : List A) → p < n → get_or (each_grew (replicate n []) f) p d ≡ f p
 each_grew-blanks zero f p d h = absurd (omega arith)
 each_grew-blanks (suc n) f zero d h = refl

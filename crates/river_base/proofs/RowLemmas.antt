@@ -26,6 +26,7 @@ pub shown : {X : Type 0} (most : ℕ) (z : X) (vs all : List X) (i : ℕ) → le
     → take (length vs) all ≡ vs
 shown most z vs all i h g e = ap (take (length vs)) (e ∙ filled_all most z vs i h g) ∙ take-append_seam vs (replicate (most - length vs) z)
 
+-- the first values, filled up with zeros
 pub short : {X : Type 0} (most : ℕ) (z : X) (vs all : List X) (i : ℕ) → length vs ≤ most → length vs ≤ i → i ≤ length vs
     → all ≡ take i vs ++ replicate (most - i) z → IsShort most z (length vs) all
 short most z vs all i b h g e = subst (λ l. IsShort most z (length vs) l) (sym (e ∙ filled_all most z vs i h g)) (IsShort-padded most z vs b)
@@ -41,6 +42,7 @@ IsShort-pushed most z len values x h g =
       rest = drop-set-lt (len + 1) values len x (omega arith) ∙ rest;
     }
 
+-- one value more
 pub shown_pushed : {X : Type 0} (most : ℕ) (z : X) (len : ℕ) (values row : List X) (x : X) → IsShort most z len values → len < most → take len values ≡ row
     → take (len + 1) (set values len x) ≡ row ++ x ∷ []
 shown_pushed most z len values row x h g e = take_more_set values len x (omega (arith, h.full)) ∙ ap (λ l. l ++ x ∷ []) e

@@ -22,9 +22,11 @@ exact_lists {K} R exact (x ∷ xs) (y ∷ ys) h = step (R x y) refl h (exact_lis
   step Equal e g more = let p : x ≡ y = exact x y e in let q : xs ≡ ys = more g in λ i. p i ∷ q i
   step Greater e g more = cc
 
+-- rows that compare as equal are equal
 pub exact_rows : CmpEqualImpliesEq row_cmp
 exact_rows = exact_lists int_cmp exact_signed
 
+-- the order of rows is a strict weak order
 pub rows_ranked : IsStrictWeakOrder row_lt
 rows_ranked = ranks_by row_total (λ x. x)
 
@@ -35,6 +37,7 @@ apart {K} {R} o exact x y h g = step (R x y) refl h where
   step Equal e l = exact x y e
   step Greater e l = let back : R y x ≡ Less = o.antisymm y x ∙ ap ordering_reverse e in absurd (true≢false (sym (ap is_lt back) ∙ g))
 
+-- rows of which neither stands before the other are equal
 pub apart_rows : (x y : List ℤ) → row_lt x y ≡ false → row_lt y x ≡ false → x ≡ y
 apart_rows = apart row_total exact_rows
 

@@ -97,6 +97,7 @@ known_all (d ∷ ds) apart =
     let other : (q : Name) → 0 < count q (decl_names ds) → name_eq d.name q ≡ false = λ q lt. ⊎_elim (λ c. absurd (let t = ap one_if c.1 in omega (arith, t, lt, apart q))) (λ c. c.1) (cases_name d.name q) in
     (here, known_more d ds ds other (known_all ds (λ q. omega (arith, apart q))))
 
+-- no two inputs of a valid plan have one name
 pub inputs-apart : (p : PlanForm) → IsPlan p → (q : Name) → count q (decl_names p.inputs) ≤ 1
 inputs-apart p v q =
     let s = count-append q (decl_names p.outputs) (decl_names p.inputs ++ decl_names p.queues) in
@@ -116,6 +117,7 @@ module _ (decls : List Decl) (layout : Layout) (ins : List InWord) (files : List
         each_content ds k.1 (All-tail IsOuter d ds o) (All-tail (λ e. IsNamed ins e) d ds n),
       )
 
+-- what is read of the files is what the inputs may have
 pub read-contents : (decls : List Decl) (layout : Layout) (ins : List InWord) (files : List (List ℕ)) (result : Result (List Content) Stop) → All IsOuter decls
     → ((q : Name) → count q (decl_names decls) ≤ 1)
     → names_fit decls ins ≡ Ok tt → length files ≡ length ins

@@ -43,6 +43,7 @@ widths-are w (e ∷ rows) h =
     let all = map (λ (f : Entry). f.1) rows in
     All-cons (λ (f : Entry). length f.1 ≡ w) e rows (All-head (λ l. length l ≡ w) e.1 all h) (widths-are w rows (All-tail (λ l. length l ≡ w) e.1 all h))
 
+-- the files fit the registered streams
 pub files-are : (p : Program) (files : List Content) → AreContents (input_decls p) files → AreFiles p (timed_files files)
 files-are [] [] h = tt
 files-are [] (f ∷ files) h = absurd h

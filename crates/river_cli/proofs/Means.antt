@@ -44,6 +44,7 @@ pub mean-printed : (source : Source) (p : PlanForm) (all : List Content) (o : Ou
 mean-printed source p all o is gives = λ i.
     outputs_text (is.outputs i) (gives.outs i) ++ (tables_text (is.tables i) (gives.tables i) ++ firings_text (labels (is.plan i).ops) (asked false o.counts))
 
+-- what is printed of the slow meaning
 pub mean-says : (it : Program) (p : PlanForm) (all : List Content) (o : Outcome) (result : Result (List ℕ) NoMemory)
     → IfOk result (λ text. text ≡ printed_outcome p o.outs (map rows_of o.tables) (asked false o.counts))
     → ((source : Source) → IsOf it source p → Gives o (source.means all))
@@ -62,6 +63,7 @@ module _ (it : Program) (p : PlanForm) (all : List Content) (o : Outcome) (typed
       ap length (gives known.0 known.1).outs ∙ ap (λ (r : Results). length r.outs) same
       ∙ length-map (decl_names p.outputs) (hist p (all_items all)) ∙ length-map p.outputs (λ d. d.name)
 
+  -- there are rows for each table
   pub given-tables : length o.tables ≡ length p.tables
   given-tables =
       sym (length-map o.tables rows_of) ∙ ap length (gives known.0 known.1).tables ∙ ap (λ (r : Results). length r.tables) same

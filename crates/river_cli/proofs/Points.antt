@@ -27,7 +27,7 @@ use Rattle.river_cli.specs.Text.{large_program}
 use Rattle.river_cli.specs.declared.compile.Compiled.{Compiled}
 use Rattle.river_cli.specs.declared.content.Content.{Content}
 use Rattle.river_cli.specs.declared.command.Command.{Command}
-use Rattle.river_cli.specs.declared.command.Command.TheVariants.{Run, Show, Mean}
+use Rattle.river_cli.specs.declared.command.Command.TheVariants.{Run, Plan, Mean}
 use Rattle.river_cli.specs.declared.command.InWord.{InWord}
 use Rattle.river_cli.specs.declared.command.Lang.{Lang}
 use Rattle.river_cli.specs.declared.command.Layout.{Layout}
@@ -66,11 +66,13 @@ module _ (lang : Lang) (file : List ℕ) (held : Option Held) where
     abbrev run_after : Source → (List ℕ → Order) → Order
     run_after source next = of_script script source (λ later. of_inputs_run ins (layout_of lang header) counts later next)
 
+    -- `run`: the program stops it
     pub run-first : (rose : Type 0) (s : Stop) → ((next : Source → Order) → Stops (Some (of_program lang file next)) held rose s)
         → (next : List ℕ → Order) → Stops (Some (of_run lang file ins script header counts next)) held rose s
     unfolding of_run
     run-first rose s stops next = stops (λ source. run_after source next)
 
+    -- `run`: the script stops it
     pub run-script : (mid early late : Type 0) → (late → early) → (c : Compiled) (s : Stop) → PassesAs IsCompiled (of_program lang file) held mid (Ok c)
         → ((source : Source) → IsOf c.program source c.plan → (next : Source → Order) → Stops (Some (of_script script source next)) held late s)
         → (next : List ℕ → Order) → Stops (Some (of_run lang file ins script header counts next)) held early s
@@ -78,6 +80,7 @@ module _ (lang : Lang) (file : List ℕ) (held : Option Held) where
     run-script mid early late sooner c s here stops =
         as-then IsCompiled (of_program lang file) run_after held mid early late sooner c (Err s) here (λ source is next. stops source is (λ later. of_inputs_run ins (layout_of lang header) counts later next))
 
+    -- `run`: the inputs stop it, or it is run
     pub run-last : (mid half early late : Type 0) → (late → early) → (c : Compiled) (plan : PlanForm) (result : Result (List ℕ) Stop)
         → PassesAs IsCompiled (of_program lang file) held mid (Ok c)
         → ((source : Source) → IsOf c.program source c.plan → PassesAs (IsOf c.program) (of_script script source) held half (Ok plan))
@@ -92,11 +95,13 @@ module _ (lang : Lang) (file : List ℕ) (held : Option Held) where
     abbrev show_after : Source → (List ℕ → Order) → Order
     show_after source next = of_script script source (λ later. next (shown later.plan))
 
+    -- `plan`: the program stops it
     pub show-first : (rose : Type 0) (s : Stop) → ((next : Source → Order) → Stops (Some (of_program lang file next)) held rose s)
         → (next : List ℕ → Order) → Stops (Some (of_show lang file script next)) held rose s
     unfolding of_show
     show-first rose s stops next = stops (λ source. show_after source next)
 
+    -- `plan`: the script stops it
     pub show-script : (mid early late : Type 0) → (late → early) → (c : Compiled) (s : Stop) → PassesAs IsCompiled (of_program lang file) held mid (Ok c)
         → ((source : Source) → IsOf c.program source c.plan → (next : Source → Order) → Stops (Some (of_script script source next)) held late s)
         → (next : List ℕ → Order) → Stops (Some (of_show lang file script next)) held early s
@@ -104,6 +109,7 @@ module _ (lang : Lang) (file : List ℕ) (held : Option Held) where
     show-script mid early late sooner c s here stops =
         as-then IsCompiled (of_program lang file) show_after held mid early late sooner c (Err s) here (λ source is next. stops source is (λ later. next (shown later.plan)))
 
+    -- `plan`: it is shown
     pub show-last : (mid half rose : Type 0) (c : Compiled) (plan : PlanForm) (text : List ℕ)
         → PassesAs IsCompiled (of_program lang file) held mid (Ok c)
         → ((source : Source) → IsOf c.program source c.plan → PassesAs (IsOf c.program) (of_script script source) held half (Ok plan))
@@ -116,11 +122,13 @@ module _ (lang : Lang) (file : List ℕ) (held : Option Held) where
         subst (λ t. Comes (next (shown later.plan)) held (next t)) (sym same) (Comes-same (next (shown later.plan)) held)))
 
   module _ (ins : List InWord) (header : Bool) where
+    -- `mean`: the program stops it
     pub mean-first : (rose : Type 0) (s : Stop) → ((next : Source → Order) → Stops (Some (of_program lang file next)) held rose s)
         → (next : List ℕ → Order) → Stops (Some (of_mean lang file ins header next)) held rose s
     unfolding of_mean
     mean-first rose s stops next = stops (λ source. of_inputs_run ins (layout_of lang header) false source next)
 
+    -- `mean`: the inputs stop it, or it is printed
     pub mean-last : (mid early late : Type 0) → (late → early) → (c : Compiled) (result : Result (List ℕ) Stop)
         → PassesAs IsCompiled (of_program lang file) held mid (Ok c)
         → ((source : Source) → IsOf c.program source c.plan → Passes (of_inputs_run ins (layout_of lang header) false source) held late result)
@@ -148,18 +156,21 @@ never-usage point held rose (Err s) passed is =
 
 -- each command does what it names
 module _ (held : Option Held) (rose : Type 0) where
+  -- what `run` passes the command passes
   pub run-answers : (lang : Lang) (file : List ℕ) (ins : List InWord) (script : Option (List ℕ)) (header counts : Bool) (result : Result (List ℕ) Stop)
       → Passes (of_run lang file ins script header counts) held rose result → Passes (of_command (Run lang file ins script header counts)) held rose result
   unfolding of_command
   run-answers lang file ins script header counts (Ok text) passed = passed
   run-answers lang file ins script header counts (Err s) passed = passed
 
+  -- what `plan` passes the command passes
   pub show-answers : (lang : Lang) (file : List ℕ) (script : Option (List ℕ)) (result : Result (List ℕ) Stop)
-      → Passes (of_show lang file script) held rose result → Passes (of_command (Show lang file script)) held rose result
+      → Passes (of_show lang file script) held rose result → Passes (of_command (Plan lang file script)) held rose result
   unfolding of_command
   show-answers lang file script (Ok text) passed = passed
   show-answers lang file script (Err s) passed = passed
 
+  -- what `mean` passes the command passes
   pub mean-answers : (lang : Lang) (file : List ℕ) (ins : List InWord) (header : Bool) (result : Result (List ℕ) Stop)
       → Passes (of_mean lang file ins header) held rose result → Passes (of_command (Mean lang file ins header)) held rose result
   unfolding of_command
@@ -206,6 +217,7 @@ output-printed source plan counted all is typed =
     fired : PlanForm → List ℕ
     fired q = firings_text (labels q.ops) (asked counted (map pos (firings q (all_items all))))
 
+-- what is printed of a run
 pub output-says : (plan : PlanForm) (counted : Bool) (all : List Content) (outs : List (List item.Item)) (tables : List (List (List ℤ))) (counts : List ℤ) (result : Result (List ℕ) NoMemory)
     → IfOk result (λ text. text ≡ printed_outcome plan outs tables (asked counted counts)) → outs ≡ (meaning plan (all_items all)).outs
     → tables ≡ (meaning plan (all_items all)).tables

@@ -1,31 +1,31 @@
 -- What options and inputs make of a command; None where the command takes no such thing.
 use Rattle.std.specs.Prelude.{◌≡◌, List, ℕ, [], ◌∷◌, ◌++◌, Bool, true, false, Option, None, Some}
 use Rattle.river_cli.specs.declared.command.Command.{Command}
-use Rattle.river_cli.specs.declared.command.Command.TheVariants.{Run, Show, Mean}
+use Rattle.river_cli.specs.declared.command.Command.TheVariants.{Run, Plan, Mean}
 use Rattle.river_cli.specs.declared.command.InWord.{InWord}
 
 -- `-H`: each input begins with a header
 abbrev pub with_header : Command → Option Command
 with_header (Run lang file ins script header counts) = Some (Run lang file ins script true counts)
-with_header (Show lang file script) = None
+with_header (Plan lang file script) = None
 with_header (Mean lang file ins header) = Some (Mean lang file ins true)
 
 -- `-c`: firings are counted
 abbrev pub with_counts : Command → Option Command
 with_counts (Run lang file ins script header counts) = Some (Run lang file ins script header true)
-with_counts (Show lang file script) = None
+with_counts (Plan lang file script) = None
 with_counts (Mean lang file ins header) = None
 
 -- `-r`: the plan is rewritten by the script of this file
 abbrev pub with_script : List ℕ → Command → Option Command
 with_script name (Run lang file ins script header counts) = Some (Run lang file ins (Some name) header counts)
-with_script name (Show lang file script) = Some (Show lang file (Some name))
+with_script name (Plan lang file script) = Some (Plan lang file (Some name))
 with_script name (Mean lang file ins header) = None
 
 -- one input more
 abbrev pub with_input : InWord → Command → Option Command
 with_input input (Run lang file ins script header counts) = Some (Run lang file (ins ++ input ∷ []) script header counts)
-with_input input (Show lang file script) = None
+with_input input (Plan lang file script) = None
 with_input input (Mean lang file ins header) = Some (Mean lang file (ins ++ input ∷ []) header)
 
 -- a command was made, and it is this one; or none was

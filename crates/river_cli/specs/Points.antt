@@ -14,7 +14,7 @@ use Rattle.river_script.specs.Meaning.{rewritten}
 use Rattle.river_script.specs.Words.{script_words}
 use Rattle.river_script.specs.declared.fault.ScriptFault.{ScriptFault}
 use Rattle.river_cli.specs.declared.command.Command.{Command}
-use Rattle.river_cli.specs.declared.command.Command.TheVariants.{Run, Show, Mean}
+use Rattle.river_cli.specs.declared.command.Command.TheVariants.{Run, Plan, Mean}
 use Rattle.river_cli.specs.declared.command.InWord.{InWord}
 use Rattle.river_cli.specs.declared.command.Lang.{Lang}
 use Rattle.river_cli.specs.declared.command.Layout.{Layout}
@@ -57,7 +57,7 @@ of_mean lang file ins header next = of_program lang file (λ source. of_inputs_r
 -- the points of a command
 unfoldable pub of_command : Command → (List ℕ → Order) → Order
 of_command (Run lang file ins script header counts) next = of_run lang file ins script header counts next
-of_command (Show lang file script) next = of_show lang file script next
+of_command (Plan lang file script) next = of_show lang file script next
 of_command (Mean lang file ins header) next = of_mean lang file ins header next
 
 -- at last the text is the output

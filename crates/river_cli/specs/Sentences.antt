@@ -4,7 +4,7 @@ use Rattle.std.specs.Str.{bytes_eq}
 use Rattle.river_cli.specs.Phrases.{phrases, with_phrases}
 use Rattle.river_cli.specs.Words.{lang_named, is_file}
 use Rattle.river_cli.specs.declared.command.Command.{Command}
-use Rattle.river_cli.specs.declared.command.Command.TheVariants.{Run, Show, Mean}
+use Rattle.river_cli.specs.declared.command.Command.TheVariants.{Run, Plan, Mean}
 use Rattle.river_cli.specs.declared.command.Lang.{Lang}
 
 -- the command that a word names, with a program and nothing else
@@ -12,7 +12,7 @@ abbrev pub plain : List ℕ → Lang → List ℕ → Option Command
 plain word lang file =
     if bytes_eq word (codes "run") then Some (Run lang file [] None false false)
     else if bytes_eq word (codes "mean") then Some (Mean lang file [] false)
-    else if bytes_eq word (codes "plan") then Some (Show lang file None)
+    else if bytes_eq word (codes "plan") then Some (Plan lang file None)
     else None
 
 abbrev pub with_words : List (List ℕ) → Option Command → Option Command

@@ -70,7 +70,7 @@ pub enum Command {
         counts: bool,
     },
     /// `plan`: it is compiled, and its plan and the lock classes of its tables are printed.
-    Show {
+    Plan {
         /// The language of the program.
         lang: Lang,
         /// The name of the program's file.
@@ -105,7 +105,7 @@ impl Command {
                 *header = true;
                 true
             }
-            Command::Show { .. } => false,
+            Command::Plan { .. } => false,
         }
     }
 
@@ -118,7 +118,7 @@ impl Command {
                 *counts = true;
                 true
             }
-            Command::Mean { .. } | Command::Show { .. } => false,
+            Command::Mean { .. } | Command::Plan { .. } => false,
         }
     }
 
@@ -131,7 +131,7 @@ impl Command {
                 *script = Some(name);
                 true
             }
-            Command::Show { script, .. } => {
+            Command::Plan { script, .. } => {
                 *script = Some(name);
                 true
             }
@@ -152,7 +152,7 @@ impl Command {
                 ins.push(input)?;
                 Ok(true)
             }
-            Command::Show { .. } => Ok(false),
+            Command::Plan { .. } => Ok(false),
         }
     }
 }

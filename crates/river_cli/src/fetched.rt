@@ -9,7 +9,7 @@ ghost use Rattle.river_cli.specs.Text.{large_input};
 use crate::command::InWord;
 use crate::text;
 use river_base::{Bytes, Listed};
-use river_order::{Stop, take_turn};
+use river_order::{Stop, fetch_turn};
 use river_outside::Shelf;
 use std::alloc::Global;
 
@@ -40,7 +40,7 @@ fn fetch_one<S: Shelf>(alloc: Global, shelf: &mut S, word: &InWord) -> Result<By
     ensures passes { Passes (Fetch word.now.file 67108864 (large_input word.now.name)) (S.held shelf.old) (Rose S.stays_at_last (S.faults shelf.old) (S.faults shelf.new)) result }
 {
     let large = text::large(alloc, word.name.as_slice())?;
-    take_turn(
+    fetch_turn(
         alloc,
         shelf,
         word.file.as_slice(),

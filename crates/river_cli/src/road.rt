@@ -21,7 +21,7 @@ use crate::text;
 use crate::words::read_words;
 use plan_classes::print_classes;
 use river_base::{Bytes, NoMemory, Text};
-use river_order::{Stop, take_turn};
+use river_order::{Stop, fetch_turn};
 use river_outside::Shelf;
 use river_plan::Plan;
 use river_print::print_river;
@@ -59,7 +59,7 @@ fn answered<S: Shelf>(alloc: Global, command: &Command, shelf: &mut S) -> Result
             header,
             counts,
         } => run(alloc, *lang, file, ins, script, *header, *counts, shelf),
-        Command::Show { lang, file, script } => show(alloc, *lang, file, script, shelf),
+        Command::Plan { lang, file, script } => show(alloc, *lang, file, script, shelf),
         Command::Mean {
             lang,
             file,
@@ -149,7 +149,7 @@ fn compiled<S: Shelf>(
     ensures passes { PassesAs IsCompiled (of_program lang file.now) (S.held shelf.old) (Rose S.stays_at_last (S.faults shelf.old) (S.faults shelf.new)) result }
 {
     let file = file.as_slice();
-    let text = take_turn(alloc, shelf, file, MOST_PROGRAM, text::LARGE_PROGRAM)?;
+    let text = fetch_turn(alloc, shelf, file, MOST_PROGRAM, text::LARGE_PROGRAM)?;
     compile(alloc, lang, &text)
 }
 
@@ -178,7 +178,7 @@ fn rewritten<S: Shelf>(alloc: Global, file: &[u8], plan: &Plan, shelf: &mut S) -
     ensures passes { (program : Program) (source : Source) → IsOf program source plan.now
         → PassesAs (IsOf program) (of_script (Some file.now) source) (S.held shelf.old) (Rose S.stays_at_last (S.faults shelf.old) (S.faults shelf.new)) result }
 {
-    let text = take_turn(alloc, shelf, file, MOST_SCRIPT, text::LARGE_SCRIPT)?;
+    let text = fetch_turn(alloc, shelf, file, MOST_SCRIPT, text::LARGE_SCRIPT)?;
     applied(alloc, plan, &text)
 }
 

@@ -81,7 +81,7 @@ fn plain(alloc: Global, word: &[u8], lang: Lang, file: &[u8]) -> Result<Option<C
             header: false,
         }))
     } else if word == PLAN {
-        Ok(Some(Command::Show {
+        Ok(Some(Command::Plan {
             lang,
             file,
             script: None,

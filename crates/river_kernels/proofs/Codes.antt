@@ -195,22 +195,11 @@ add_kern a_tally st = tally ∷ st
 add_kern (a_fused at) st = add_fused at st
 
 kern_read : (k : Kern) (st : List Kern) → acts add_kern (kern_parts k) st ≡ k ∷ st
-kern_read (code k) st = refl
-kern_read (filter f) st = refl
-kern_read (duplicate n) st = refl
-kern_read (deal ws) st = refl
-kern_read (collect ws) st = refl
 kern_read (packed k) st = acts-append add_kern (kern_parts k) (a_packed ∷ []) st ∙ ap (acts add_kern (a_packed ∷ [])) (kern_read k st)
-kern_read (unpack n) st = refl
-kern_read (window w) st = refl
-kern_read (select e) st = refl
-kern_read (project es) st = refl
-kern_read cross st = refl
-kern_read (streamer s) st = refl
-kern_read tally st = refl
 kern_read (fused a b at) st =
     acts-append add_kern (kern_parts a) (kern_parts b ++ a_fused at ∷ []) st ∙ ap (acts add_kern (kern_parts b ++ a_fused at ∷ [])) (kern_read a st)
     ∙ acts-append add_kern (kern_parts b) (a_fused at ∷ []) (a ∷ st) ∙ ap (acts add_kern (a_fused at ∷ [])) (kern_read b (a ∷ st))
+kern_read kernel st = refl
 
 abbrev top_kern : List Kern → Kern
 top_kern [] = tally
@@ -219,5 +208,6 @@ top_kern (k ∷ st) = k
 kern_part_code : Coded KernPart
 kern_part_code = hlevel (codes, term_code, steps_code)
 
+-- kernels have a code
 pub kern_code : Coded Kern
 kern_code = code_by (List KernPart) (coded_list kern_part_code) kern_parts (λ ks. top_kern (acts add_kern ks [])) (λ k. ap top_kern (kern_read k []))

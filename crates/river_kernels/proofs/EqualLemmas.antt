@@ -33,6 +33,7 @@ queue_eq (Flat t) (Pack u) = (apart_eq t u).0
 queue_eq (Pack t) (Flat u) = (apart_eq t u).1
 queue_eq (Pack t) (Pack u) = (flat_eq t u).1
 
+-- the test for equal types of queues decides
 pub queue_decides : (a b : QueueType) → Decides (queue.eq-value.it a b) (a ≡ b)
 queue_decides a b = (λ h. same_type_is a b (sym (queue_eq a b) ∙ h), λ e. subst (λ c. queue.eq-value.it a c ≡ true) e (queue_eq a a ∙ type_same a))
 
@@ -46,5 +47,6 @@ var_same : (a : VarKind) → var.eq-value.it a a ≡ true
 var_same Private = refl
 var_same (Table n) = eq_same n
 
+-- the test for equal kinds of variables decides
 pub var_decides : (a b : VarKind) → Decides (var.eq-value.it a b) (a ≡ b)
 var_decides a b = (var_eq a b, λ e. subst (λ c. var.eq-value.it a c ≡ true) e (var_same a))

@@ -12,6 +12,7 @@ use Rattle.river_kernels.specs.Types.{given, joined, behind, fused_of, types_of,
 use Rattle.river_kernels.proofs.TypeLemmas.{not_some, some_same}
 use Rattle.river_kernels.proofs.FitsLaw.{fits_types, types_fits}
 
+-- what is got stands below the length
 pub get_below : {A : Type 0} (xs : List A) (i : ℕ) (x : A) → slice_get xs i ≡ Some x → i < length xs
 get_below [] i x h = absurd (not_some h)
 get_below (y ∷ ys) zero x h = omega arith
@@ -112,6 +113,7 @@ decided k is os vs (Some q) (Some p) h g f = ap (λ t. Some t) (g ∙ some_same 
 pub none_fits : (k : Kern) (is os : List QueueType) (vs : List VarKind) → IsFound (length os) (types_of k is) None → Fits k is os vs → ⊥
 none_fits k is os vs g f = not_some (decided k is os vs (types_of k is) None refl g f)
 
+-- types that fit are those that are found
 pub fits_found : (k : Kern) (is os : List QueueType) (vs : List VarKind) (r : Types) → IsFound (length os) (types_of k is) (Some r) → Fits k is os vs
     → (r.outs ≡ os) × (r.vars ≡ vs)
 fits_found k is os vs r g f =

@@ -39,6 +39,7 @@ above-told most n lt =
 
 pub ruleset tellings = (above-told)
 
+-- the first number above a limit in two lists
 pub first_above-append : (most : ℕ) (xs ys : List ℕ) → first_above most (xs ++ ys) ≡ either (first_above most xs) (first_above most ys)
 first_above-append most xs ys = by_case (first_above most xs) refl
   where

@@ -15,15 +15,19 @@ use Rattle.river_kernels.specs.Fits.{relation}
 use Rattle.river_kernels.specs.Types.{given, gives, bind, flat_in, rows_in, stream_in, relation_in, same_flat, same_type, flats_in, packs_in, two_relations}
 use Rattle.river_kernels.specs.Types.{IsFound}
 
+-- a number is equal to itself
 pub eq_same : (n : ℕ) → nat_eq n n ≡ true
 eq_same n = grind arith
 
+-- numbers that are found equal are equal
 pub same_eq : (m n : ℕ) → nat_eq m n ≡ true → m ≡ n
 same_eq m n h = grind arith
 
+-- nothing is not something
 pub not_some : {A : Type 0} {x : A} → (None ≡ Some x) → ⊥
 not_some {A} {x} h = absurd (cc)
 
+-- what stands in equal options is equal
 pub some_same : {A : Type 0} {x y : A} → Some x ≡ Some y → x ≡ y
 some_same {A} {x} {y} h = cc
 
@@ -43,10 +47,12 @@ same_flat_is (Relation m) (Rows n) h = absurd (true≢false (sym h))
 same_flat_is (Relation m) (Stream n) h = absurd (true≢false (sym h))
 same_flat_is (Relation m) (Relation n) h = ap (λ k. Relation k) (same_eq m n h)
 
+-- a type is equal to itself
 pub type_same : (t : QueueType) → same_type t t ≡ true
 type_same (Flat t) = flat_same t
 type_same (Pack t) = flat_same t
 
+-- types that are found equal are equal
 pub same_type_is : (t u : QueueType) → same_type t u ≡ true → t ≡ u
 same_type_is (Flat t) (Flat u) h = ap (λ k. Flat k) (same_flat_is t u h)
 same_type_is (Flat t) (Pack u) h = absurd (true≢false (sym h))
@@ -76,6 +82,7 @@ pub record Gives (b : Bool) (os : List QueueType) (vs : List VarKind) (p : Types
   pub outs : p.outs ≡ os
   pub vars : p.vars ≡ vs
 
+-- what is given under a condition, where it is given
 pub gives_some : (b : Bool) (os : List QueueType) (vs : List VarKind) (p : Types) → gives b os vs ≡ Some p → Gives b os vs p
 gives_some true os vs p h =
     let e : given os vs ≡ p = some_same h in
@@ -87,6 +94,7 @@ pub record OneFlat (is : List QueueType) (f : FlatType → Option Types) (p : Ty
   pub reads : is ≡ Flat type ∷ []
   pub some : f type ≡ Some p
 
+-- the one flat type that is read
 pub flat_some : (is : List QueueType) (f : FlatType → Option Types) (p : Types) → flat_in is f ≡ Some p → OneFlat is f p
 flat_some [] f p h = absurd (not_some h)
 flat_some (Flat t ∷ []) f p h = record { type = t; reads = refl; some = h }
@@ -99,16 +107,19 @@ pub record Width (t : FlatType) (of : ℕ → FlatType) (f : ℕ → Option Type
   pub is : t ≡ of width
   pub some : f width ≡ Some p
 
+-- the width of rows
 pub rows_some : (t : FlatType) (f : ℕ → Option Types) (p : Types) → rows_in t f ≡ Some p → Width t (λ n. Rows n) f p
 rows_some (Rows n) f p h = record { width = n; is = refl; some = h }
 rows_some (Stream n) f p h = absurd (not_some h)
 rows_some (Relation n) f p h = absurd (not_some h)
 
+-- the width of a stream
 pub stream_some : (t : FlatType) (f : ℕ → Option Types) (p : Types) → stream_in t f ≡ Some p → Width t (λ n. Stream n) f p
 stream_some (Rows n) f p h = absurd (not_some h)
 stream_some (Stream n) f p h = record { width = n; is = refl; some = h }
 stream_some (Relation n) f p h = absurd (not_some h)
 
+-- the width of a relation
 pub relation_some : (t : FlatType) (f : ℕ → Option Types) (p : Types) → relation_in t f ≡ Some p → Width t (λ n. Relation n) f p
 relation_some (Rows n) f p h = absurd (not_some h)
 relation_some (Stream n) f p h = absurd (not_some h)
@@ -130,6 +141,7 @@ many_reads n t ts h =
     let e : n ≡ suc (length ts) = omega (arith, same_eq (length ts + 1) n p.0) in
     ap (λ l. t ∷ l) (all_same_is t ts p.1) ∙ sym (ap (λ k. replicate k t) e)
 
+-- the flat type that all ports read
 pub flats_some : (n : ℕ) (is : List QueueType) (f : FlatType → Option Types) (p : Types) → flats_in n is f ≡ Some p → Many n (λ t. Flat t) is f p
 flats_some n [] f p h = absurd (not_some h)
 flats_some n (Flat t ∷ ts) f p h =
@@ -137,6 +149,7 @@ flats_some n (Flat t ∷ ts) f p h =
     record { type = t; reads = many_reads n (Flat t) ts c.0; some = c.1 }
 flats_some n (Pack t ∷ ts) f p h = absurd (not_some h)
 
+-- the packed type that all ports read
 pub packs_some : (n : ℕ) (is : List QueueType) (f : FlatType → Option Types) (p : Types) → packs_in n is f ≡ Some p → Many n (λ t. Pack t) is f p
 packs_some n [] f p h = absurd (not_some h)
 packs_some n (Flat t ∷ ts) f p h = absurd (not_some h)
@@ -153,11 +166,13 @@ many_test m t =
     let e : length (replicate m t) + 1 ≡ suc m = omega (arith, length-replicate m t) in
     and_from (nat_eq (length (replicate m t) + 1) (suc m)) (list_all (same_type t) (replicate m t)) (ap (λ k. nat_eq k (suc m)) e ∙ eq_same (suc m)) (all_same t m)
 
+-- ports that read one flat type
 pub flats_all : (n : ℕ) (t : FlatType) (f : FlatType → Option Types) → 1 ≤ n → flats_in n (replicate n (Flat t)) f ≡ f t
 flats_all zero t f h = absurd (omega arith)
 flats_all (suc m) t f h =
     ap (λ o. bind o f) (if_true (nat_eq (length (replicate m (Flat t)) + 1) (suc m) && list_all (same_type (Flat t)) (replicate m (Flat t))) (Some t) None (many_test m (Flat t)))
 
+-- ports that read one packed type
 pub packs_all : (n : ℕ) (t : FlatType) (f : FlatType → Option Types) → 1 ≤ n → packs_in n (replicate n (Pack t)) f ≡ f t
 packs_all zero t f h = absurd (omega arith)
 packs_all (suc m) t f h =
@@ -170,6 +185,7 @@ pub record Two (is : List QueueType) (f : ℕ × ℕ → Option Types) (p : Type
   pub reads : is ≡ relation left ∷ relation right ∷ []
   pub some : f (left, right) ≡ Some p
 
+-- the two relations of a product
 pub pair_some : (is : List QueueType) (f : ℕ × ℕ → Option Types) (p : Types) → bind (two_relations is) f ≡ Some p → Two is f p
 pair_some [] f p h = absurd (not_some h)
 pair_some (t ∷ []) f p h = absurd (not_some h)

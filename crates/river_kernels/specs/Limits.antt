@@ -8,7 +8,7 @@ use Rattle.river_kernels.specs.declared.limit.Limit.{Limit}
 use Rattle.river_kernels.specs.declared.limit.Limit.TheVariants.{Inputs, Operators, Queues, Variables, Ports, Statements, Slots, Rates, Weights, Nesting}
 use Rattle.river_kernels.specs.declared.limit.Limit.TheVariants.{Latest, Best}
 use Rattle.river_base.specs.Number.{count_of}
-use Rattle.river_kernels.specs.Kern.{Kern, code, filter, duplicate, deal, collect, packed, unpack, window, select, project, cross, streamer, tally, fused}
+use Rattle.river_kernels.specs.Kern.{Kern, code, filter, deal, collect, packed, window, fused}
 
 -- a number as it is told; from 2^128 on it is told as 2^128 - 1
 abbrev pub told : ℕ → ℕ
@@ -42,20 +42,9 @@ weight_sum (w ∷ ws) = count_of w + weight_sum ws
 
 -- 1 more than the greatest of the parts of `packed` and `fused`; 1 for other kernels
 abbrev pub nesting : Kern → ℕ
-nesting (code k) = 1
-nesting (filter f) = 1
-nesting (duplicate n) = 1
-nesting (deal ws) = 1
-nesting (collect ws) = 1
 nesting (packed k) = 1 + nesting k
-nesting (unpack n) = 1
-nesting (window w) = 1
-nesting (select e) = 1
-nesting (project es) = 1
-nesting cross = 1
-nesting (streamer s) = 1
-nesting tally = 1
 nesting (fused a b at) = 1 + max (nesting a) (nesting b)
+nesting kernel = 1
 
 -- the statements, or the slots, of one body
 abbrev pub body_numbers : Limit → Body → List ℕ
@@ -127,15 +116,9 @@ window_numbers Best w = []
 abbrev pub part_numbers : Limit → Kern → List ℕ
 part_numbers limit (code k) = body_numbers limit k.body
 part_numbers limit (filter f) = body_numbers limit f.body ++ rate_numbers limit f
-part_numbers limit (duplicate n) = []
 part_numbers limit (deal ws) = weight_numbers limit ws
 part_numbers limit (collect ws) = weight_numbers limit ws
 part_numbers limit (packed k) = part_numbers limit k
-part_numbers limit (unpack n) = []
 part_numbers limit (window w) = window_numbers limit w
-part_numbers limit (select e) = []
-part_numbers limit (project es) = []
-part_numbers limit cross = []
-part_numbers limit (streamer s) = []
-part_numbers limit tally = []
 part_numbers limit (fused a b at) = part_numbers limit a ++ part_numbers limit b
+part_numbers limit kernel = []

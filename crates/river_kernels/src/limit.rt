@@ -61,13 +61,7 @@ pub fn first_above(kernel: &Kernel, limit: Limit, most: u64) -> Option<u128>
             let number = first_above(first, limit, most);
             either(number, first_above(second, limit, most))
         }
-        Kernel::Duplicate(_)
-        | Kernel::Unpack(_)
-        | Kernel::Select(_)
-        | Kernel::Project(_)
-        | Kernel::Cross
-        | Kernel::Streamer(_)
-        | Kernel::Tally => None,
+        _ => None,
     }
 }
 

@@ -5,6 +5,7 @@ use Rattle.river_outside.specs.Held.{Held}
 use Rattle.river_order.specs.Order.{Order, Ends, Fetch, Verdict, EndsIn, Reaches}
 use Rattle.river_order.specs.Order.{Comes}
 
+-- a point comes to itself
 pub Comes-same : (order : Order) (held : Option Held) → Comes order held order
 Comes-same (Ends v) held = refl
 Comes-same (Fetch name limit large next) held = inl refl
@@ -22,6 +23,7 @@ EndsIn-later (Fetch n l g k) later held v (inl here) end = subst (λ (o : Order)
 EndsIn-later (Fetch n l g k) later held v (inr far) end =
     (Some far.0, far.1, rw far.2 (EndsIn-later (k far.0) later held v far.3 end))
 
+-- what is reached later is reached
 pub Reaches-later : (from later : Order) (held : Option Held) (file : List ℕ) → Comes from held later → Reaches later held file → Reaches from held file
 Reaches-later (Ends w) later held file far turn = subst (λ (o : Order). Reaches o held file) (sym far) turn
 Reaches-later (Fetch n l g k) later held file (inl here) turn = subst (λ (o : Order). Reaches o held file) (sym here) turn

@@ -41,6 +41,7 @@ end-is : (order : Order) (h : Held) → EndsIn order (Some h) (end_of order h)
 end-is (Ends v) h = refl
 end-is (Fetch name limit large next) h = ended h name limit large next (h name) refl (λ bytes. end-is (next bytes) h)
 
+-- the verdict is one
 pub verdict-is : (points : Option Order) (h : Held) → IsVerdict points (Some h) (verdict points h)
 verdict-is None h = refl
 verdict-is (Some order) h = end-is order h
@@ -61,6 +62,7 @@ end-untold : (order : Order) (h : Held) (v : Verdict) → EndsIn order (Some h) 
 end-untold (Ends w) h v e = e
 end-untold (Fetch name limit large next) h v e = (e.0, tt, given_untold h limit large name next v e.0 (λ bytes then. end-untold (next bytes) h v then) e.2)
 
+-- a verdict may be said where files are not told
 pub verdict-untold : (points : Option Order) (h : Held) (v : Verdict) → IsVerdict points (Some h) v → IsVerdict points None v
 verdict-untold None h v e = e
 verdict-untold (Some order) h v e = end-untold order h v e
@@ -82,6 +84,7 @@ end-same (Ends v) h k same = refl
 end-same (Fetch name limit large next) h k same =
     same_fetch h k name limit large next (h name) refl (sym (same name (inl refl))) (λ bytes is le. end-same (next bytes) h k (λ file turn. same file (inr (bytes, is, le, turn))))
 
+-- only files whose turn comes matter
 pub verdict-same : (points : Option Order) (h k : Held) → ((file : List ℕ) → IsTurn points (Some h) file → h file ≡ k file)
     → verdict points h ≡ verdict points k
 verdict-same None h k same = refl

@@ -39,6 +39,7 @@ cause-sooner : (held : Option Held) (early late : Type 0) → (late → early) �
 cause-sooner None early late sooner c = sooner c
 cause-sooner (Some h) early late sooner c = tt
 
+-- what stops later stops
 pub Stops-later : (from later : Order) (held : Option Held) (early late : Type 0) → (late → early) → (s : Stop) → Comes from held later
     → Stops (Some later) held late s → Stops (Some from) held early s
 Stops-later from later held early late sooner stop.Usage far here = cc
@@ -54,6 +55,7 @@ large_end : (held : Option Held) (name : List ℕ) (limit : ℕ) (large : List �
     → limit < length bytes → EndsIn (Fetch name limit large next) held (Refused large)
 large_end held name limit large next bytes is more = (Some bytes, is, rw (over limit (length bytes) more) refl)
 
+-- a file that is too large is refused
 pub EndsIn-large : (held : Option Held) (name : List ℕ) (limit : ℕ) (large : List ℕ) (next : List ℕ → Order) → IfSome held (λ h. IsLarger (h name) limit)
     → EndsIn (Fetch name limit large next) held (Refused large)
 EndsIn-large None name limit large next more =
@@ -79,6 +81,7 @@ cause-absent : (held : Option Held) (rose : Type 0) (name : List ℕ) → MatchO
 cause-absent None rose name c = c
 cause-absent (Some h) rose name c = tt
 
+-- a file that is not held stops
 pub Stops-absent : (held : Option Held) (rose : Type 0) (name : List ℕ) (limit : ℕ) (large : List ℕ) (next : List ℕ → Order) (text : List ℕ)
     → text ≡ absent_text name → MatchOption held rose (λ h. h name ≡ None) → Stops (Some (Fetch name limit large next)) held rose (stop.Absent text)
 Stops-absent held rose name limit large next text says none =

@@ -10,4 +10,4 @@ mod text;
 mod turn;
 
 pub use stop::Stop;
-pub use turn::take_turn;
+pub use turn::fetch_turn;

@@ -11,7 +11,7 @@ use river_outside::{FetchFault, Shelf, fetch};
 use std::alloc::Global;
 
 /// The bytes of a file whose turn has come. Where it has more than `limit` it is refused with the text `large`.
-pub fn take_turn<S: Shelf>(
+pub fn fetch_turn<S: Shelf>(
     alloc: Global,
     shelf: &mut S,
     name: &[u8],

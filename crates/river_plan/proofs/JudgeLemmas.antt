@@ -28,14 +28,17 @@ fault-first p (Some f) n l = inr (n.0, inr (n.1, l))
 pub queue-again : (p : PlanForm) (q : Name) → IsFirst IsNew (queue_names p) (Some q) → FirstFault p (Some (P1 (Queue q)))
 queue-again p q h = inl (Queue q, refl, inl (q, refl, h))
 
+-- the first variable that stands twice is the fault, where no queue does
 pub variable-again : (p : PlanForm) (v : Name) → IsFirst IsNew (queue_names p) None → IsFirst IsNew (variable_names p) (Some v)
     → FirstFault p (Some (P1 (Variable v)))
 variable-again p v q h = inl (Variable v, refl, inr (q, inl (v, refl, h)))
 
+-- the first label that stands twice is the fault, where no queue and no variable does
 pub label-again : (p : PlanForm) (l : Name) → IsFirst IsNew (queue_names p) None → IsFirst IsNew (variable_names p) None
     → IsFirst IsNew (labels p.ops) (Some l) → FirstFault p (Some (P1 (Label l)))
 label-again p l q v h = inl (Label l, refl, inr (q, inr (v, (l, refl, h))))
 
+-- no name stands twice
 pub names-once : (p : PlanForm) → IsFirst IsNew (queue_names p) None → IsFirst IsNew (variable_names p) None → IsFirst IsNew (labels p.ops) None
     → Repeated p None
 names-once p q v l = (q, (v, l))
@@ -46,6 +49,7 @@ pub undeclared-among : (p : PlanForm) (queues variables : List Name) → queues 
 undeclared-among p queues variables q v o h =
     subst (λ (l : List Name). Along (λ before op. UndeclaredAt (queue_names p) l op) [] p.ops o) v (subst (λ (l : List Name). Along (λ before op. UndeclaredAt l variables op) [] p.ops o) q h)
 
+-- the first name that is not declared is the fault, where no name stands twice
 pub undeclared-first : (p : PlanForm) (n : Named) → Repeated p None → Undeclared p (Some n) → FirstFault p (Some (P2 n))
 undeclared-first p n r u = inr (r, inl (n, refl, u))
 

@@ -11,14 +11,17 @@ use Rattle.river_base.specs.Name.{name_eq}
 use Rattle.river_plan.specs.Forms.{Name}
 use Rattle.river_plan.specs.Names.{one_if, count, with_name}
 
+-- a name is equal to itself
 pub name_same : (a : Name) → name_eq a a ≡ true
 name_same [] = refl
 name_same (x ∷ xs) = let e = name_same xs in grind (arith, e)
 
+-- a test is true or false
 pub cases_bool : (b : Bool) → (b ≡ true) ⊎ (b ≡ false)
 cases_bool true = inl refl
 cases_bool false = inr refl
 
+-- names that are found equal are equal
 pub name_is : (a b : Name) → name_eq a b ≡ true → a ≡ b
 name_is [] [] h = refl
 name_is [] (y ∷ ys) h = absurd (cc h)
@@ -29,6 +32,7 @@ name_is (x ∷ xs) (y ∷ ys) h =
     (λ n. absurd (let t : false ≡ true = grind (arith, n, h) in cc t))
     (cases_eq x y)
 
+-- true is not false
 pub true_false : true ≡ false → ⊥
 true_false h = cc h
 
@@ -39,16 +43,19 @@ cases_name a b = ⊎_elim
     (λ f. inr ((λ e. true_false (sym (subst (λ c. name_eq a c ≡ true) e (name_same a)) ∙ f)), f))
     (cases_bool (name_eq a b))
 
+-- the test for equal names is symmetric
 pub name_sym : (a b : Name) → name_eq a b ≡ name_eq b a
 name_sym a b = ⊎_elim
     (λ c. c.1 ∙ sym (subst (λ x. name_eq x a ≡ true) c.0 (name_same a)))
     (λ c. ⊎_elim (λ d. absurd (c.0 (sym d.0))) (λ d. c.1 ∙ sym d.1) (cases_name b a))
     (cases_name a b)
 
+-- how often a name stands in two lists
 pub count-append : (q : Name) (xs ys : List Name) → count q (xs ++ ys) ≡ count q xs + count q ys
 count-append q [] ys = omega arith
 count-append q (x ∷ xs) ys = let e = count-append q xs ys in omega (arith, e)
 
+-- a name counts once against itself
 pub one_same : (a : Name) → one_if (name_eq a a) ≡ 1
 one_same a = ap one_if (name_same a)
 
@@ -60,27 +67,33 @@ any-count k (w ∷ ws) = ⊎_elim
     (λ c. let e = ap one_if (name_sym w k ∙ c.1) in let f = any-count k ws in grind (arith, e, f, c.1))
     (cases_name k w)
 
+-- a name is found in a set exactly where it was put there
 pub member-count : (k : Name) (ws keys : List Name) (r : Bool) → keys ≡ ws → r ≡ list_any (name_eq k) keys
     → (IsTrue r → 0 < count k ws) × (0 < count k ws → IsTrue r)
 member-count k ws keys r v h =
     let e : r ≡ nat_lt 0 (count k ws) = h ∙ ap (λ l. list_any (name_eq k) l) v ∙ any-count k ws in
     rw e (grind (arith, nat_tests))
 
+-- a name is new to a set exactly where it was not put there
 pub fresh-count : (k : Name) (ws keys : List Name) (r : Bool) → keys ≡ ws → r ≡ not (list_any (name_eq k) keys)
     → (IsTrue r → count k ws ≡ 0) × (count k ws ≡ 0 → IsTrue r)
 fresh-count k ws keys r v h =
     let e : r ≡ not (nat_lt 0 (count k ws)) = h ∙ ap (λ l. not (list_any (name_eq k) l)) v ∙ ap not (any-count k ws) in
     rw e (grind (arith, nat_tests))
 
+-- putting a name into a set is adding it, where it is new
 pub with_name-is : (k : Name) (ws keys new : List Name) → keys ≡ ws → new ≡ (if list_any (name_eq k) keys then keys else keys ++ k ∷ []) → new ≡ with_name ws k
 with_name-is k ws keys new v h = h ∙ ap (λ l. if list_any (name_eq k) l then l else l ++ k ∷ []) v ∙ ap (λ b. if b then ws else ws ++ k ∷ []) (any-count k ws)
 
+-- what is not above 0 is 0
 pub nat_zero : {n : ℕ} → (0 < n → ⊥) → n ≡ 0
 nat_zero {n = n} h = omega (arith, h)
 
+-- false is not true
 pub not_false : IsTrue false → ⊥
 not_false h = cc h
 
+-- a number is above 0 or 0
 pub more_or_zero : (n : ℕ) → (0 < n) ⊎ (n ≡ 0)
 more_or_zero zero = inr refl
 more_or_zero (suc n) = inl (omega arith)

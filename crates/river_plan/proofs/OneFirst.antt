@@ -67,6 +67,7 @@ over-one : (p : PlanForm) → IsOne (OverLimit p)
 over-one p =
     along-one (λ b limit. OverLimitAt p limit) (λ b limit. as_first-one (λ n. P8 limit (told n)) (λ c n. n ≤ most_of limit) (numbers limit p)) [] limits
 
+-- a plan has one first fault
 pub fault-one : (p : PlanForm) (o q : Option PlanFault) → FirstFault p o → FirstFault p q → o ≡ q
 fault-one p =
     or_else-one _ _ (as-one P1 _ (repeated-one p))

@@ -17,14 +17,17 @@ module _ {C : Type 0} (most : ℕ) (F : List C → List ℕ) (g : C → List ℕ
       ap (λ l. first_above most (F l)) (drop_more xs i x lt ∙ ap (λ y. y ∷ drop (i + 1) xs) (sym e)) ∙ ap (first_above most) (cons x (drop (i + 1) xs))
       ∙ first_above-append most (g x) (F (drop (i + 1) xs))
 
+  -- this number is within the limit: the search goes on
   pub over-next : (xs : List C) (i : ℕ) (x : C) → i < length xs → x ≡ get_or xs i x → None ≡ first_above most (g x)
       → first_above most (F (drop i xs)) ≡ first_above most (F xs) → first_above most (F (drop (i + 1) xs)) ≡ first_above most (F xs)
   over-next xs i x lt e n h = ap (λ o. either o (first_above most (F (drop (i + 1) xs)))) n ∙ sym (step xs i x lt e) ∙ h
 
+  -- this number is above the limit: it is the first
   pub over-found : (xs : List C) (i : ℕ) (x : C) (n : ℕ) → i < length xs → x ≡ get_or xs i x → Some n ≡ first_above most (g x)
       → first_above most (F (drop i xs)) ≡ first_above most (F xs) → Some n ≡ first_above most (F xs)
   over-found xs i x n lt e f h = ap (λ o. either o (first_above most (F (drop (i + 1) xs)))) f ∙ sym (step xs i x lt e) ∙ h
 
+  -- all numbers are within the limit
   pub over-end : (xs : List C) (i : ℕ) → length xs ≤ i → F [] ≡ [] → first_above most (F (drop i xs)) ≡ first_above most (F xs) → None ≡ first_above most (F xs)
   over-end xs i le z h = sym (ap (first_above most) z) ∙ sym (ap (λ l. first_above most (F l)) (drop_all i xs le)) ∙ h
 
@@ -49,6 +52,7 @@ along_above most f before (x ∷ xs) o e = by_case (nat_lt most x) refl o e (alo
         below_case None q = (ltb-false most x t, go None q)
         below_case (Some n) q = let r = go (Some n) q in (r.0, r.1, inr (ltb-false most x t, r.2))
 
+-- the first number above a limit is the first of the definition
 pub first-above : {B : Type 0} (most : ℕ) (f : ℕ → B) (xs : List ℕ) (o : Option ℕ) → o ≡ first_above most xs
     → As (λ n. f (told n)) (IsFirst (λ before n. n ≤ most) xs) (option_map f o)
 first-above most f xs o e = along_above most f [] xs o e

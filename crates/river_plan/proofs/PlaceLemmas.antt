@@ -47,9 +47,11 @@ place-found names keys q o n k e l =
 
 -- NAMES THAT STAND THERE
 
+-- the place of the first name
 pub place-here : (w : Name) (ws : List Name) (q : Name) → name_eq w q ≡ true → place (w ∷ ws) q ≡ 0
 place-here w ws q t = ap (λ b. if b then 0 else suc (place ws q)) t
 
+-- the place of a later name
 pub place-past : (w : Name) (ws : List Name) (q : Name) → name_eq w q ≡ false → place (w ∷ ws) q ≡ suc (place ws q)
 place-past w ws q f = ap (λ b. if b then 0 else suc (place ws q)) f
 
@@ -61,9 +63,11 @@ place_at (w ∷ ws) q lt = ⊎_elim
     (λ c. ap (slice_get (w ∷ ws)) (place-past w ws q c.1) ∙ place_at ws q (let e = ap one_if c.1 in omega (arith, e, lt)))
     (cases_name w q)
 
+-- a name that stands in the list has a place below its length
 pub place_below : (names : List Name) (q : Name) → 0 < count q names → place names q < length names
 place_below names q lt = slice_get_within names (place names q) q (place_at names q lt)
 
+-- what stands in equal options is equal
 pub some_is : (a b : Name) → Some a ≡ Some b → a ≡ b
 some_is a b e = cc e
 

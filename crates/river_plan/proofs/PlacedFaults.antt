@@ -165,16 +165,19 @@ module _ (p : PlanForm) (w : Wiring) (named : AreNamed p) (wired : IsWired p w) 
             let i : slice_index ps (length b) ≡ place names r = ap (λ l. slice_index l (length b)) (e ∙ ap (places names) (sym d)) ∙ place_there names b xs r in
             ((λ k. known-written r lt (subst (IsKnownAt outputs inputs n w.writes.by_place) i k)), (λ h. subst (IsKnownAt outputs inputs n w.writes.by_place) (sym i) (written-known r lt h)))
 
+-- a queue is known at equal places alike
 pub same_known : (a a' b b' n i i' : ℕ) (us : List (List ℕ)) → a ≡ a' → b ≡ b' → i ≡ i' → IsKnownAt a b n us i → IsKnownAt a' b' n us i'
 same_known a a' b b' n i i' us d e f h = subst (λ k. IsKnownAt k b' n us i') d (subst (λ k. IsKnownAt a k n us i') e (subst (IsKnownAt a b n us) f h))
 
 -- the same at an operator of the lists
 module _ (p : PlanForm) (w : Wiring) (ops : List Op) (i : ℕ) (op : Op) (are : p.ops ≡ op_forms ops) (wired : IsWired p w) (lt : i < length ops) (e : op ≡ get_or ops i op) where
+  -- the places that an operator reads
   pub read_there : (ps : List ℕ) → ps ≡ list_at w.reads.by_op i → ps ≡ places (queue_names p) op.reads
   read_there ps h =
       h ∙ ap (λ l. list_at l i) (wired.reads.by_op ∙ ap (map (λ (o : OpForm). places (queue_names p) o.reads)) are)
       ∙ at_op (λ o. places (queue_names p) o.reads) ops i op lt e
 
+  -- the first queue that is read before it is written
   pub early_at : (ps : List ℕ) (outputs inputs : ℕ) → AreNamed p → ps ≡ list_at w.reads.by_op i → outputs ≡ length p.outputs → inputs ≡ length p.inputs
       → (o : Option Name) → IsFirst (λ b r. IsKnownAt outputs inputs i w.writes.by_place (slice_index ps (length b))) op.reads o
       → IsFirst (λ b r. IsWritten (decl_names p.inputs) (op_forms (take i ops)) r) op.reads o

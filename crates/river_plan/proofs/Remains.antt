@@ -8,6 +8,7 @@ use Rattle.river_plan.specs.First.{OrElse, Unless, Along, IsFirst}
 pub record Remains {A B : Type 0} (s : List A → A → Option B → Type 0) (xs : List A) (i : ℕ) : Type 0 where
   pub rest : (o : Option B) → Along s (take i xs) (drop i xs) o → Along s [] xs o
 
+-- at the beginning all is left to search
 pub remains-start : {A B : Type 0} (s : List A → A → Option B → Type 0) (xs : List A) → Remains s xs 0
 remains-start s xs = record { rest = λ o h. h }
 
@@ -39,6 +40,7 @@ pub remains_at-next : {A : Type 0} (P : ℕ → Type 0) (xs : List A) (i : ℕ) 
 remains_at-next P xs i x lt p r =
     remains-next (λ before y. Unless (P (length before)) y) xs i (get_or xs i x) lt (get_or_default xs i x (get_or xs i x) lt) (subst P (sym (length-take-le i xs (omega (arith, lt)))) p) r
 
+-- what is found is the first of its kind
 pub remains_at-found : {A : Type 0} (P : ℕ → Type 0) (xs : List A) (i : ℕ) (x : A) → i < length xs → x ≡ get_or xs i x → (P i → ⊥)
     → Remains (λ before y. Unless (P (length before)) y) xs i → IsFirst (λ before y. P (length before)) xs (Some x)
 remains_at-found P xs i x lt e n r =
@@ -48,6 +50,7 @@ remains_at-found P xs i x lt e n r =
 pub record RemainsBy {A B C : Type 0} (f : C → A) (s : List A → A → Option B → Type 0) (xs : List C) (i : ℕ) : Type 0 where
   pub rest : (o : Option B) → Along s (map f (take i xs)) (map f (drop i xs)) o → Along s [] (map f xs) o
 
+-- at the beginning all is left to search, through a map
 pub remains_by-start : {A B C : Type 0} (f : C → A) (s : List A → A → Option B → Type 0) (xs : List C) → RemainsBy f s xs 0
 remains_by-start f s xs = record { rest = λ o h. h }
 
@@ -58,6 +61,7 @@ mapped_take : {A C : Type 0} (f : C → A) (xs : List C) (i : ℕ) (x : C) → i
     → map f (take (i + 1) xs) ≡ map f (take i xs) ++ f x ∷ []
 mapped_take f xs i x lt e = ap (map f) (take_more xs i x lt ∙ ap (λ y. take i xs ++ y ∷ []) (sym e)) ∙ map-append f (take i xs) (x ∷ [])
 
+-- nothing was found here: the search goes on
 pub remains_by-next : {A B C : Type 0} (f : C → A) (s : List A → A → Option B → Type 0) (xs : List C) (i : ℕ) (x : C) → i < length xs → x ≡ get_or xs i x
     → s (map f (take i xs)) (f x) None → RemainsBy f s xs i → RemainsBy f s xs (i + 1)
 remains_by-next {B = B} f s xs i x lt e n r = record {
@@ -70,11 +74,13 @@ remains_by-next {B = B} f s xs i x lt e n r = record {
     skipped None h = (n, h)
     skipped (Some b) h = inr (n, h)
 
+-- what is found is the first
 pub remains_by-found : {A B C : Type 0} (f : C → A) (s : List A → A → Option B → Type 0) (xs : List C) (i : ℕ) (x : C) (b : B) → i < length xs
     → x ≡ get_or xs i x → s (map f (take i xs)) (f x) (Some b) → RemainsBy f s xs i → Along s [] (map f xs) (Some b)
 remains_by-found f s xs i x b lt e g r =
     r.rest (Some b) (subst (λ l. Along s (map f (take i xs)) l (Some b)) (sym (mapped_drop f xs i x lt e)) (inl g))
 
+-- nothing was found
 pub remains_by-end : {A B C : Type 0} (f : C → A) (s : List A → A → Option B → Type 0) (xs : List C) (i : ℕ) → length xs ≤ i → RemainsBy f s xs i
     → Along s [] (map f xs) None
 remains_by-end f s xs i le r = r.rest None (subst (λ l. Along s (map f (take i xs)) l None) (sym (ap (map f) (drop_all i xs le))) tt)

@@ -3,6 +3,7 @@ use Rattle.std.specs.Option.{option_map}
 use Rattle.std.proofs.Common.{refl, List, [], ◌∷◌, ◌++◌, Option, Some, None, inl, inr, ⊎_elim}
 use Rattle.river_plan.specs.First.{OrElse, As, Unless, Along, IsFirst}
 
+-- one search and then another, where both are replaced by equal ones
 pub or_else-cong : {B : Type 0} (s s' t t' : Option B → Type 0) → ((o : Option B) → s o → s' o) → ((o : Option B) → t o → t' o) → (o : Option B) → OrElse s t o
     → OrElse s' t' o
 or_else-cong s s' t t' f g None h = (f None h.0, g None h.1)
@@ -12,6 +13,7 @@ pub as-cong : {A B : Type 0} (m : A → B) (s s' : Option A → Type 0) → ((o 
 as-cong m s s' f None h = f None h
 as-cong m s s' f (Some b) h = (h.0, h.1, f (Some h.0) h.2)
 
+-- a search that tells what is not so, where that is replaced by an equal condition
 pub unless-cong : {A : Type 0} (P Q : Type 0) (y : A) → (P → Q) → (Q → P) → (o : Option A) → Unless P y o → Unless Q y o
 unless-cong P Q y f g None h = f h
 unless-cong P Q y f g (Some x) h = (λ q. h.0 (g q), h.1)

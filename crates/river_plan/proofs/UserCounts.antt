@@ -19,6 +19,7 @@ use Rattle.river_plan.proofs.Searches.{or_else-cong, unless-cong}
 
 -- A SEARCH BY PLACES IS ONE BY ELEMENTS
 
+-- what holds of each place holds of what stands there
 pub placed : {A : Type 0} (zs : List A) (P : ℕ → Type 0) (Q : A → Type 0)
     → ((before xs : List A) (x : A) → before ++ x ∷ xs ≡ zs → (P (length before) → Q x) × (Q x → P (length before)))
     → (before xs : List A) → before ++ xs ≡ zs → (o : Option A) → Along (λ b y. Unless (P (length b)) y) before xs o → Along (λ b y. Unless (Q y) y) before xs o
@@ -54,6 +55,7 @@ name_at names once before (x ∷ xs) (suc i) e lt =
     let p = r.3 in
     (r.0, r.1, r.2, omega (arith, n, p))
 
+-- the same of names that stand once
 pub placed_names : (names : List Name) (P : ℕ → Type 0) (Q : Name → Type 0) → ((q : Name) → count q names ≤ 1)
     → ((q : Name) → 0 < count q names → P (place names q) → Q q) → ((q : Name) → 0 < count q names → Q q → P (place names q))
     → (o : Option Name) → IsFirst (λ b q. P (length b)) names o → IsFirst (λ b q. Q q) names o
@@ -82,6 +84,7 @@ module _ (names : List Name) (q : Name) (lt : 0 < count q names) where
       (λ c. ap length (only_other (place names w) (place names q) (n ∷ []) (λ e. c.0 (place_is names w q (ap (slice_get names) (sym e) ∙ place_at names q lt)))) ∙ sym (ap one_if c.1))
       (cases_name w q)
 
+  -- a place is listed as often as its name stands
   pub often-count : (ws : List Name) (n : ℕ) → length (as_often (places names ws) n (place names q)) ≡ count q ws
   often-count [] n = refl
   often-count (w ∷ ws) n =
@@ -91,6 +94,7 @@ module _ (names : List Name) (q : Name) (lt : 0 < count q names) where
       omega (arith, a, b, c)
 
   module _ (f : OpForm → List Name) where
+    -- a name has as many users as operators that name it
     pub users-count : (ops : List OpForm) (n : ℕ)
         → length (users_from n (map (λ op. places names (f op)) ops) (place names q)) ≡ total (λ op. count q (f op)) ops
     users-count [] n = refl
@@ -108,14 +112,17 @@ only_one zero n (suc i) = tt
 only_one (suc x) n zero = tt
 only_one (suc x) n (suc i) = only_one x n i
 
+-- what holds of the numbers of two lists
 pub all-append : (P : ℕ → Type 0) (xs ys : List ℕ) → AllByRecursion P xs → AllByRecursion P ys → AllByRecursion P (xs ++ ys)
 all-append P [] ys a b = b
 all-append P (x ∷ xs) ys a b = (a.0, all-append P xs ys a.1 b)
 
+-- what holds of all, with a weaker condition
 pub all-weaker : (P Q : ℕ → Type 0) → ((y : ℕ) → P y → Q y) → (xs : List ℕ) → AllByRecursion P xs → AllByRecursion Q xs
 all-weaker P Q f [] a = tt
 all-weaker P Q f (x ∷ xs) a = (f x a.0, all-weaker P Q f xs a.1)
 
+-- only this operator is listed
 pub often-one : (xs : List ℕ) (n i : ℕ) → AllByRecursion (λ y. y ≡ n) (as_often xs n i)
 often-one [] n i = tt
 often-one (x ∷ xs) n i = all-append (λ y. y ≡ n) (only x (n ∷ []) i) (as_often xs n i) (only_one x n i) (often-one xs n i)
@@ -149,6 +156,7 @@ module _ (n : ℕ) (rest : List ℕ) where
   parts-rising (x ∷ y ∷ ys) a b le h = absurd (omega (arith, le))
 
 module _ (names : List Name) (v : Name) (lt : 0 < count v names) where
+  -- users rise, so no operator names it twice
   pub rising-each : (ops : List OpForm) (n : ℕ) → IsStrictlyIncreasing (users_from n (map (λ op. places names op.vars) ops) (place names v))
       → Each (λ op. vars_it v op ≤ 1) ops
   rising-each [] n h = tt
@@ -159,6 +167,7 @@ module _ (names : List Name) (v : Name) (lt : 0 < count v names) where
       let le = p.0 in
       (omega (arith, c, le), rising-each ops (suc n) p.1)
 
+  -- no operator names it twice, so users rise
   pub each-rising : (ops : List OpForm) (n : ℕ) → Each (λ op. vars_it v op ≤ 1) ops
       → IsStrictlyIncreasing (users_from n (map (λ op. places names op.vars) ops) (place names v))
   each-rising [] n h = λ k l. absurd (omega (arith, l))
@@ -190,6 +199,7 @@ module _ (names : List Name) (q : Name) (lt : 0 < count q names) (f : OpForm →
   none-before m [] a b = b
   none-before m (x ∷ us) a b = omega (arith, a.0, b)
 
+  -- an operator before this one writes it, so the first writer is before
   pub written-before : (before : List OpForm) (n m : ℕ) → m ≡ n + length before → 0 < total (λ op. count q (f op)) before
       → IsBefore m (uses_from n (before ++ after))
   written-before [] n m e u = absurd (omega (arith, u))
@@ -198,6 +208,7 @@ module _ (names : List Name) (q : Name) (lt : 0 < count q names) (f : OpForm →
       used-before n m (total (λ o. count q (f o)) ops) (uses_from (suc n) (ops ++ after)) (as_often (places names (f op)) n (place names q)) (often-one (places names (f op)) n (place names q))
       (omega (arith, e)) (written-before ops (suc n) m (omega (arith, e))) (omega (arith, c, u))
 
+  -- the first writer is before, so an operator before this one writes it
   pub before-written : (before : List OpForm) (n m : ℕ) → m ≡ n + length before → IsBefore m (uses_from n (before ++ after))
       → 0 < total (λ op. count q (f op)) before
   before-written [] n m e b = absurd (none-before m (uses_from n after)

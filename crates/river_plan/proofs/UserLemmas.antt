@@ -28,6 +28,7 @@ users-more n (m ∷ ms) l i =
 pub often-start : (ls : List (List ℕ)) (n : ℕ) → ls ≡ each_grew ls (as_often [] n)
 often-start ls n = sym (each_grew-none ls)
 
+-- one place more of an operator
 pub often-next : (start now new : List (List ℕ)) (xs : List ℕ) (k x n : ℕ) → k < length xs → x ≡ get_or xs k x
     → now ≡ each_grew start (as_often (take k xs) n) → new ≡ each_grew now (only x (n ∷ [])) → new ≡ each_grew start (as_often (take (k + 1) xs) n)
 often-next start now new xs k x n lt e h a =
@@ -39,6 +40,7 @@ often-next start now new xs k x n lt e h a =
 pub users-start : (m : ℕ) (all : List (List ℕ)) → all ≡ replicate m [] → all ≡ users m []
 users-start m all e = e ∙ sym (each_grew-none (replicate m []))
 
+-- one operator more
 pub users-next : (m k : ℕ) (now new ls : List (List ℕ)) (l : List ℕ) → k < length ls → l ≡ get_or ls k l → now ≡ users m (take k ls)
     → new ≡ each_grew now (as_often l k) → new ≡ users m (take (k + 1) ls)
 users-next m k now new ls l lt e h a =
@@ -57,6 +59,7 @@ users-length ls all xs ys e h =
 pub users-below : (m i : ℕ) (ls all : List (List ℕ)) → all ≡ users m ls → i < m → i < length all
 users-below m i ls all e lt = let n = ap length e ∙ length-each_grew (replicate m []) (users_from 0 ls) ∙ length-replicate m [] in omega (arith, n, lt)
 
+-- the users of this place
 pub users-there : (m i : ℕ) (ls all : List (List ℕ)) (d : List ℕ) → all ≡ users m ls → i < m → get_or all i d ≡ users_from 0 ls i
 users-there m i ls all d e lt = ap (λ l. get_or l i d) e ∙ each_grew-blanks m (users_from 0 ls) i d lt
 

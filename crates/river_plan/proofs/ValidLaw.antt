@@ -35,12 +35,15 @@ once-new before (x ∷ xs) h = (
   once-new (before ++ x ∷ []) xs (λ q. let a = count-append q before (x ∷ []) in let b = h q in omega (arith, a, b)),
 )
 
+-- where no name is found twice, each stands once
 pub names-once : (xs : List Name) → IsFirst IsNew xs None → (q : Name) → count q xs ≤ 1
 names-once xs h q = let a = new-once [] xs (λ r. omega arith) h q in omega (arith, a)
 
+-- and back
 pub once-names : (xs : List Name) → ((q : Name) → count q xs ≤ 1) → IsFirst IsNew xs None
 once-names xs h = once-new [] xs (λ q. let a = h q in omega (arith, a))
 
+-- how many operators have a label
 pub total-labels : (l : Name) (ops : List OpForm) → total (named_it l) ops ≡ count l (labels ops)
 total-labels l [] = refl
 total-labels l (op ∷ ops) = let e = total-labels l ops in omega (arith, e)
@@ -83,6 +86,7 @@ names-along P before (x ∷ xs) h = (
 
 -- WHAT IS DECLARED
 
+-- where nothing undeclared is found, all that is read is declared
 pub declared-all : (queues variables : List Name) (before ops : List OpForm) → Along (λ b op. UndeclaredAt queues variables op) before ops None
     → ((q : Name) → 0 < total (reads_it q) ops → 0 < count q queues) × ((q : Name) → 0 < total (writes_it q) ops → 0 < count q queues)
     × ((v : Name) → 0 < total (vars_it v) ops → 0 < count v variables)
@@ -152,6 +156,7 @@ total-each v (op ∷ ops) h = ((omega (arith, h)), total-each v ops (omega (arit
 
 -- THE LAW
 
+-- a plan without a fault is valid
 pub no_fault-valid : (p : PlanForm) → FirstFault p None → IsPlan p
 no_fault-valid p h =
     let p1 = h.0 in let p2 = h.1.0 in let p3 = h.1.1.0 in let p4 = h.1.1.1.0 in let p5 = h.1.1.1.1.0 in let p6 = h.1.1.1.1.1.0 in
@@ -215,6 +220,7 @@ no_fault-valid p h =
     limit_part p Latest h = h.1.1.1.1.1.1.1.1.1.1.0
     limit_part p Best h = h.1.1.1.1.1.1.1.1.1.1.1.0
 
+-- a valid plan has no fault
 pub valid-no_fault : (p : PlanForm) → IsPlan p → FirstFault p None
 valid-no_fault p v = (
   (once-names (queue_names p) v.queues_once, (once-names (variable_names p) v.variables_once, once-names (labels p.ops) (λ l. let a = v.labels_once l in let e = total-labels l p.ops in omega (arith, a, e)))),

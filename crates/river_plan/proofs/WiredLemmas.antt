@@ -102,10 +102,12 @@ module _ (p : PlanForm) (w : Wiring) (queues : List QueueType) (kinds : List Var
     vars : map (var_at kinds) (list_at w.vars.by_op i) ≡ map (var_kind p.tables p.vars) op.vars
     vars = variables op.vars (list_at w.vars.by_op i) (at_places ops are lt e (λ o. places (variable_names p) o.vars) w.vars.by_op wired.vars.by_op)
 
+    -- a kernel that fits by places fits by names
     pub fits-named : FitsPlaces queues kinds (kern_of op.kernel) (list_at w.reads.by_op i) (list_at w.writes.by_op i) (list_at w.vars.by_op i)
         → IsFit p (op_form op)
     fits-named h = same (kern_of op.kernel) _ _ _ _ _ _ reads writes vars h
 
+    -- and back
     pub fits-placed : IsFit p (op_form op)
         → FitsPlaces queues kinds (kern_of op.kernel) (list_at w.reads.by_op i) (list_at w.writes.by_op i) (list_at w.vars.by_op i)
     fits-placed h = same (kern_of op.kernel) _ _ _ _ _ _ (sym reads) (sym writes) (sym vars) h

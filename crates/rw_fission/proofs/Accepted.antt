@@ -7,7 +7,7 @@ use Rattle.river_base.specs.declared.kind.FlatType.{FlatType}
 use Rattle.river_base.specs.declared.kind.QueueType.{QueueType}
 use Rattle.river_base.specs.declared.kind.QueueType.TheVariants.{Flat, Pack}
 use Rattle.kern_rows.specs.Forms.{FilterForm}
-use Rattle.river_kernels.specs.Kern.{Kern, code, filter, duplicate, deal, collect, packed, unpack, window, select, project, cross, streamer, tally, fused}
+use Rattle.river_kernels.specs.Kern.{Kern, filter}
 use Rattle.river_kernels.specs.Limits.{either}
 use Rattle.river_plan.specs.Forms.{Name, OpForm, PlanForm, all_decls, table_names}
 use Rattle.river_plan.specs.Kinds.{kind_of}
@@ -156,19 +156,7 @@ blocks_is p op m n source w (filter f) r e h = ⊎_elim
     })
     (λ g. absurd (no_some w (sym (ap (λ c. if c then Some (by_blocks p op m n f.pop f.push) else None) g) ∙ h)))
     (cases_bool (nat_eq f.peek f.pop && (is_nil f.starts && nat_le 1 f.push)))
-blocks_is p op m n source w (code k) r e h = absurd (no_some w h)
-blocks_is p op m n source w (duplicate i) r e h = absurd (no_some w h)
-blocks_is p op m n source w (deal ws) r e h = absurd (no_some w h)
-blocks_is p op m n source w (collect ws) r e h = absurd (no_some w h)
-blocks_is p op m n source w (packed k) r e h = absurd (no_some w h)
-blocks_is p op m n source w (unpack i) r e h = absurd (no_some w h)
-blocks_is p op m n source w (window u) r e h = absurd (no_some w h)
-blocks_is p op m n source w (select t) r e h = absurd (no_some w h)
-blocks_is p op m n source w (project ts) r e h = absurd (no_some w h)
-blocks_is p op m n source w cross r e h = absurd (no_some w h)
-blocks_is p op m n source w (streamer s) r e h = absurd (no_some w h)
-blocks_is p op m n source w tally r e h = absurd (no_some w h)
-blocks_is p op m n source w (fused a b at) r e h = absurd (no_some w h)
+blocks_is p op m n source w kernel r e h = absurd (no_some w h)
 
 each_table : (tables vs : List Name) → list_all (λ x. nat_lt 0 (count x tables)) vs ≡ true → (x : Name) → 0 < count x vs → 0 < count x tables
 each_table tables [] h x lt = absurd (omega (arith, lt))

@@ -4,7 +4,7 @@ use Rattle.std.specs.Prelude.{length}
 use Rattle.std.specs.List.{list_all}
 use Rattle.river_base.specs.declared.kind.QueueType.{QueueType}
 use Rattle.river_base.specs.declared.kind.QueueType.TheVariants.{Flat, Pack}
-use Rattle.river_kernels.specs.Kern.{Kern, code, filter, duplicate, deal, collect, packed, unpack, window, select, project, cross, streamer, tally, fused}
+use Rattle.river_kernels.specs.Kern.{Kern, filter}
 use Rattle.river_kernels.specs.Limits.{either}
 use Rattle.river_plan.specs.Forms.{Name, OpForm, PlanForm, all_decls, table_names}
 use Rattle.river_plan.specs.Kinds.{kind_of}
@@ -37,19 +37,7 @@ is_nil (x ∷ xs) = false
 -- a filter that takes all that it looks at, keeps no slot and pushes something
 abbrev pub blocks_way : PlanForm → OpForm → Made → ℕ → Kern → Option Way
 blocks_way p op m n (filter f) = if nat_eq f.peek f.pop && (is_nil f.starts && nat_le 1 f.push) then Some (by_blocks p op m n f.pop f.push) else None
-blocks_way p op m n (code k) = None
-blocks_way p op m n (duplicate i) = None
-blocks_way p op m n (deal ws) = None
-blocks_way p op m n (collect ws) = None
-blocks_way p op m n (packed k) = None
-blocks_way p op m n (unpack i) = None
-blocks_way p op m n (window w) = None
-blocks_way p op m n (select e) = None
-blocks_way p op m n (project es) = None
-blocks_way p op m n cross = None
-blocks_way p op m n (streamer s) = None
-blocks_way p op m n tally = None
-blocks_way p op m n (fused a b at) = None
+blocks_way p op m n kernel = None
 
 -- no output, at least one variable, all of them tables
 abbrev pub adds_way : PlanForm → OpForm → Made → (writes vars : List Name) → Option Way

@@ -5,7 +5,7 @@ use Rattle.std.proofs.lemmas.Bool.{cases_lt}
 use Rattle.river_base.specs.declared.kind.QueueType.{QueueType}
 use Rattle.work_code.specs.Term.{Term, Const, Input, Slot, Neg, Not, Bin}
 use Rattle.kern_bags.specs.declared.kernel.Window.TheVariants.{Now, Range, Unbounded, Latest}
-use Rattle.river_kernels.specs.Kern.{Kern, code, filter, duplicate, deal, collect, packed, unpack, window, select, project, cross, streamer, tally, fused}
+use Rattle.river_kernels.specs.Kern.{Kern, window, project, cross, streamer}
 use Rattle.river_kernels.specs.Fits.{Fits}
 use Rattle.river_kernels.specs.declared.types.VarKind.{VarKind}
 use Rattle.brooklet_model.proofs.Lists.{if_lt, if_ge}
@@ -167,23 +167,13 @@ module _ (w : ℕ) (t : Term) where
       (tt, (m.0, n.0, m.1, n.1, none_second w m.0 m.2, none_first w n.0 n.2))
 
   pub passes_judged : (k : Kern) → PassJudged k (passes w k t)
-  passes_judged (code k) = λ h. h
-  passes_judged (filter f) = λ h. h
-  passes_judged (duplicate n) = λ h. h
-  passes_judged (deal ws) = λ h. h
-  passes_judged (collect ws) = λ h. h
-  passes_judged (packed k) = λ h. h
-  passes_judged (unpack n) = λ h. h
   passes_judged (window Now) = (tt, (λ h. h), (refl, refl))
   passes_judged (window (Range span)) = (tt, (λ h. h), (refl, refl))
   passes_judged (window Unbounded) = (tt, (λ h. h), (refl, refl))
-  passes_judged (window (Latest n)) = λ h. h
-  passes_judged (select e) = λ h. h
   passes_judged (project es) = projection es (refielded (of_projection es) t) refl
   passes_judged cross = product (refielded (of_first w) t) (refielded (of_second w) t) refl refl
   passes_judged (streamer s) = (tt, (λ h. h), (refl, refl))
-  passes_judged tally = λ h. h
-  passes_judged (fused a b at) = λ h. h
+  passes_judged kernel = λ h. h
 
   abbrev Found : ℕ → Term → Result (ℕ × Term) Unfit
   Found side moved = Ok (side, moved)
@@ -193,18 +183,9 @@ module _ (w : ℕ) (t : Term) where
 
   -- where the selection goes is what is answered
   pub goes_passes : (k : Kern) (side : ℕ) (moved : Term) → Goes w k t side moved → passes w k t ≡ Ok (side, moved)
-  goes_passes (code k) side moved g = absurd g
-  goes_passes (filter f) side moved g = absurd g
-  goes_passes (duplicate n) side moved g = absurd g
-  goes_passes (deal ws) side moved g = absurd g
-  goes_passes (collect ws) side moved g = absurd g
-  goes_passes (packed k) side moved g = absurd g
-  goes_passes (unpack n) side moved g = absurd g
   goes_passes (window Now) side moved g = at_first side moved g
   goes_passes (window (Range span)) side moved g = at_first side moved g
   goes_passes (window Unbounded) side moved g = at_first side moved g
-  goes_passes (window (Latest n)) side moved g = absurd g
-  goes_passes (select e) side moved g = absurd g
   goes_passes (project es) side moved g =
       let e = becomes_some (of_projection es) t moved (becomes_too (IsCopy es) (By (of_projection es)) t moved (λ i j h. ap plain_field h) g.1) in
       ap (λ o. or_h4 (at_side 0 o)) e ∙ ap (λ s. Found s moved) (sym g.0)
@@ -224,44 +205,24 @@ module _ (w : ℕ) (t : Term) where
       not_first i j r s (Some t') e =
           let a = read_some (of_first w) t t' i e r in let lt = (first_is w i a.0 a.1).0 in absurd (omega (arith, lt, s))
   goes_passes (streamer s) side moved g = at_first side moved g
-  goes_passes tally side moved g = absurd g
-  goes_passes (fused a b at) side moved g = absurd g
+  goes_passes kernel side moved g = absurd g
 
   -- the side is one of the operator's
   pub goes_below : (k : Kern) (side : ℕ) (moved : Term) (is os : List QueueType) (vs : List VarKind) → Goes w k t side moved → Fits k is os vs
       → side < length is
-  goes_below (code k) side moved is os vs g f = absurd g
-  goes_below (filter f') side moved is os vs g f = absurd g
-  goes_below (duplicate n) side moved is os vs g f = absurd g
-  goes_below (deal ws) side moved is os vs g f = absurd g
-  goes_below (collect ws) side moved is os vs g f = absurd g
-  goes_below (packed k) side moved is os vs g f = absurd g
-  goes_below (unpack n) side moved is os vs g f = absurd g
   goes_below (window Now) side moved is os vs g f = let a = ap length f.1 in let b = g.0 in omega (arith, a, b)
   goes_below (window (Range span)) side moved is os vs g f = let a = ap length f.1 in let b = g.0 in omega (arith, a, b)
   goes_below (window Unbounded) side moved is os vs g f = let a = ap length f.1 in let b = g.0 in omega (arith, a, b)
-  goes_below (window (Latest n)) side moved is os vs g f = absurd g
-  goes_below (select e) side moved is os vs g f = absurd g
   goes_below (project es) side moved is os vs g f = let a = ap length f.1 in let b = g.0 in omega (arith, a, b)
   goes_below cross side moved is os vs g f =
       let a = ap length f.2 in ⊎_elim (λ h. let b = h.0 in omega (arith, a, b)) (λ h. let b = h.0 in omega (arith, a, b)) g
   goes_below (streamer s) side moved is os vs g f = let a = ap length f.1 in let b = g.0 in omega (arith, a, b)
-  goes_below tally side moved is os vs g f = absurd g
-  goes_below (fused x y at) side moved is os vs g f = absurd g
+  goes_below kernel side moved is os vs g f = absurd g
 
 -- an operator that lets a selection pass has an input
 pub passed_reads : (k : Kern) (is os : List QueueType) (vs : List VarKind) → LetsPass k → Fits k is os vs → 0 < length is
-passed_reads (code k) is os vs g f = absurd g
-passed_reads (filter f') is os vs g f = absurd g
-passed_reads (duplicate n) is os vs g f = absurd g
-passed_reads (deal ws) is os vs g f = absurd g
-passed_reads (collect ws) is os vs g f = absurd g
-passed_reads (packed k) is os vs g f = absurd g
-passed_reads (unpack n) is os vs g f = absurd g
 passed_reads (window w) is os vs g f = let a = ap length f.1 in omega (arith, a)
-passed_reads (select e) is os vs g f = absurd g
 passed_reads (project es) is os vs g f = let a = ap length f.1 in omega (arith, a)
 passed_reads cross is os vs g f = let a = ap length f.2 in omega (arith, a)
 passed_reads (streamer s) is os vs g f = let a = ap length f.1 in omega (arith, a)
-passed_reads tally is os vs g f = absurd g
-passed_reads (fused x y at) is os vs g f = absurd g
+passed_reads kernel is os vs g f = absurd g

@@ -9,7 +9,7 @@ use Rattle.river_base.specs.declared.kind.QueueType.{QueueType}
 use Rattle.river_base.specs.declared.kind.QueueType.TheVariants.{Flat}
 use Rattle.work_code.specs.Term.{Term}
 use Rattle.river_kernels.specs.Fits.{Fits, spliced}
-use Rattle.river_kernels.specs.Kern.{Kern, code, filter, duplicate, deal, collect, packed, unpack, window, select, project, cross, streamer, tally, fused}
+use Rattle.river_kernels.specs.Kern.{Kern, select}
 use Rattle.river_kernels.specs.declared.types.VarKind.{VarKind}
 use Rattle.river_plan.specs.Forms.{Name, OpForm, PlanForm, all_decls, decl_names}
 use Rattle.river_plan.specs.Kinds.{kind_of, var_kind, IsFit}
@@ -76,20 +76,8 @@ one_read ws mid e = let a = ap (count mid) e in let s = one_same mid in omega (a
 
 -- a selection has this number, and no other kernel
 abbrev selecting : Kern → ℕ
-selecting (code k) = 0
-selecting (filter f) = 0
-selecting (duplicate n) = 0
-selecting (deal ws) = 0
-selecting (collect ws) = 0
-selecting (packed k) = 0
-selecting (unpack n) = 0
-selecting (window w) = 0
 selecting (select e) = 1
-selecting (project es) = 0
-selecting cross = 0
-selecting (streamer s) = 0
-selecting tally = 0
-selecting (fused a b at) = 0
+selecting kernel = 0
 
 no_select : (k : Kern) (t : Term) → selecting k ≡ 0 → k ≡ select t → ⊥
 no_select k t z e = let a = ap selecting e in omega (arith, z, a)
@@ -377,20 +365,8 @@ module _ (p : PlanForm) (l : Name) (v : IsPlan p) where
       no_select k t z (sym e ∙ ap (λ (o : OpForm). o.kernel) d ∙ s.kernel))
 
   kernel : (u : OpForm) (k : Kern) → first_with (named_it l) p.ops ≡ Some u → u.kernel ≡ k → Judged (hoist_kernel p u k)
-  kernel u (code k) h e = other u (code k) h e refl
-  kernel u (filter f) h e = other u (filter f) h e refl
-  kernel u (duplicate n) h e = other u (duplicate n) h e refl
-  kernel u (deal ws) h e = other u (deal ws) h e refl
-  kernel u (collect ws) h e = other u (collect ws) h e refl
-  kernel u (packed k) h e = other u (packed k) h e refl
-  kernel u (unpack n) h e = other u (unpack n) h e refl
-  kernel u (window w) h e = other u (window w) h e refl
   kernel u (select t) h e = between u t h e
-  kernel u (project es) h e = other u (project es) h e refl
-  kernel u cross h e = other u cross h e refl
-  kernel u (streamer s) h e = other u (streamer s) h e refl
-  kernel u tally h e = other u tally h e refl
-  kernel u (fused a b at) h e = other u (fused a b at) h e refl
+  kernel u any h e = other u any h e refl
 
   labelled : (o : Option OpForm) → first_with (named_it l) p.ops ≡ o → Judged (hoist_found p o)
   labelled None h = unselected (λ u t s. no_op u (sym h ∙ selects_first u t s))

@@ -4,7 +4,7 @@ use Rattle.std.specs.Prelude.{Option, Result, Ok, Err, slice_get}
 use Rattle.std.proofs.lemmas.Bool.{cases_eq}
 use Rattle.river_base.specs.declared.item.Item as item
 use Rattle.work_code.specs.Term.{Term}
-use Rattle.river_kernels.specs.Kern.{Kern, code, filter, duplicate, deal, collect, packed, unpack, window, select, project, cross, streamer, tally, fused}
+use Rattle.river_kernels.specs.Kern.{Kern, select}
 use Rattle.river_plan.specs.Forms.{Name, OpForm, PlanForm, all_decls}
 use Rattle.river_plan.specs.Kinds.{kind_of}
 use Rattle.river_plan.specs.Uses.{writes_it, named_it}
@@ -80,20 +80,8 @@ module _ (p : PlanForm) (l : Name) (p' : PlanForm) where
       past u t mid out (first_with (writes_it mid) p.ops) a k (ap (λ x. slice_get x 0) r) (ap (λ x. slice_get x 0) w) refl h
 
   kernel : (u : OpForm) (k : Kern) → first_with (named_it l) p.ops ≡ Some u → u.kernel ≡ k → hoist_kernel p u k ≡ Ok p' → Accepted p l p'
-  kernel u (code k) a e h = absurd (not_ok H1 p' h)
-  kernel u (filter f) a e h = absurd (not_ok H1 p' h)
-  kernel u (duplicate n) a e h = absurd (not_ok H1 p' h)
-  kernel u (deal ws) a e h = absurd (not_ok H1 p' h)
-  kernel u (collect ws) a e h = absurd (not_ok H1 p' h)
-  kernel u (packed k) a e h = absurd (not_ok H1 p' h)
-  kernel u (unpack n) a e h = absurd (not_ok H1 p' h)
-  kernel u (window w) a e h = absurd (not_ok H1 p' h)
   kernel u (select t) a e h = between u t u.reads u.writes a e refl refl h
-  kernel u (project es) a e h = absurd (not_ok H1 p' h)
-  kernel u cross a e h = absurd (not_ok H1 p' h)
-  kernel u (streamer s) a e h = absurd (not_ok H1 p' h)
-  kernel u tally a e h = absurd (not_ok H1 p' h)
-  kernel u (fused x y at) a e h = absurd (not_ok H1 p' h)
+  kernel u any a e h = absurd (not_ok H1 p' h)
 
   found : (o : Option OpForm) → first_with (named_it l) p.ops ≡ o → hoist_found p o ≡ Ok p' → Accepted p l p'
   found None a h = absurd (not_ok H1 p' h)

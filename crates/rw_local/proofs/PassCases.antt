@@ -11,7 +11,7 @@ use Rattle.river_base.specs.declared.kind.QueueType.TheVariants.{Flat}
 use Rattle.work_code.specs.Term.{Term}
 use Rattle.kern_bags.specs.declared.kernel.Window.{Window}
 use Rattle.kern_bags.specs.declared.kernel.Window.TheVariants.{Now, Range, Unbounded, Latest}
-use Rattle.river_kernels.specs.Kern.{Kern, code, filter, duplicate, deal, collect, packed, unpack, window, select, project, cross, streamer, tally, fused}
+use Rattle.river_kernels.specs.Kern.{Kern, window, select, project, cross, streamer}
 use Rattle.river_kernels.specs.Formed.{is_width, is_term}
 use Rattle.river_kernels.specs.Fits.{Fits, relation, stream, width_of, is_sized, is_bag}
 use Rattle.river_kernels.specs.declared.types.VarKind.{VarKind}
@@ -32,20 +32,11 @@ with_at side xs h p = if nat_eq p side then xs else h p
 
 -- a selection by t passes the kernel, and stands then at this side with the condition t'
 abbrev pub Passed : ℕ → Kern → Term → ℕ → Term → Type 0
-Passed width (code k) t side t' = ⊥
-Passed width (filter f) t side t' = ⊥
-Passed width (duplicate n) t side t' = ⊥
-Passed width (deal ws) t side t' = ⊥
-Passed width (collect ws) t side t' = ⊥
-Passed width (packed k) t side t' = ⊥
-Passed width (unpack n) t side t' = ⊥
 Passed width (window w) t side t' = (side ≡ 0) × (t ≡ t') × IsPassed w
-Passed width (select e) t side t' = ⊥
 Passed width (project es) t side t' = (side ≡ 0) × (refielded (of_projection es) t ≡ Some t')
 Passed width cross t side t' = ((side ≡ 0) × (refielded (of_first width) t ≡ Some t')) ⊎ ((side ≡ 1) × (refielded (of_second width) t ≡ Some t'))
 Passed width (streamer s) t side t' = (side ≡ 0) × (t ≡ t')
-Passed width tally t side t' = ⊥
-Passed width (fused a b at) t side t' = ⊥
+Passed width kernel t side t' = ⊥
 
 h4_some : (o : Option (ℕ × Term)) (x : ℕ × Term) → or_h4 o ≡ Ok x → o ≡ Some x
 h4_some None x h = absurd (cc h)
@@ -73,40 +64,22 @@ window_passed (Latest n) t x h = absurd (no_pair H3 x h)
 
 -- what a selection passes, by cases
 pub passed : (width : ℕ) (k : Kern) (t : Term) (x : ℕ × Term) → passes width k t ≡ Ok x → Passed width k t x.0 x.1
-passed width (code k) t x h = absurd (no_pair H3 x h)
-passed width (filter f) t x h = absurd (no_pair H3 x h)
-passed width (duplicate n) t x h = absurd (no_pair H3 x h)
-passed width (deal ws) t x h = absurd (no_pair H3 x h)
-passed width (collect ws) t x h = absurd (no_pair H3 x h)
-passed width (packed k) t x h = absurd (no_pair H3 x h)
-passed width (unpack n) t x h = absurd (no_pair H3 x h)
 passed width (window w) t x h = window_passed w t x h
-passed width (select e) t x h = absurd (no_pair H3 x h)
 passed width (project es) t x h = side_some 0 (refielded (of_projection es) t) x (h4_some (at_side 0 (refielded (of_projection es) t)) x h)
 passed width cross t x h = ⊎_elim
     (λ a. inl (side_some 0 (refielded (of_first width) t) x a))
     (λ b. inr (side_some 1 (refielded (of_second width) t) x b))
     (either_some (at_side 0 (refielded (of_first width) t)) (at_side 1 (refielded (of_second width) t)) x (h4_some _ x h))
 passed width (streamer s) t x h = let e = ok_pair (0, t) x (Ok (0, t)) refl h in (sym (ap (λ y. y.0) e), ap (λ y. y.1) e)
-passed width tally t x h = absurd (no_pair H3 x h)
-passed width (fused a b at) t x h = absurd (no_pair H3 x h)
+passed width kernel t x h = absurd (no_pair H3 x h)
 
 -- such a kernel has no table
 pub passed_tables : (width : ℕ) (k : Kern) (t : Term) (side : ℕ) (t' : Term) → Passed width k t side t' → tabs k ≡ 0
-passed_tables width (code k) t side t' h = absurd h
-passed_tables width (filter f) t side t' h = absurd h
-passed_tables width (duplicate n) t side t' h = absurd h
-passed_tables width (deal ws) t side t' h = absurd h
-passed_tables width (collect ws) t side t' h = absurd h
-passed_tables width (packed k) t side t' h = absurd h
-passed_tables width (unpack n) t side t' h = absurd h
 passed_tables width (window w) t side t' h = refl
-passed_tables width (select e) t side t' h = absurd h
 passed_tables width (project es) t side t' h = refl
 passed_tables width cross t side t' h = refl
 passed_tables width (streamer s) t side t' h = refl
-passed_tables width tally t side t' h = absurd h
-passed_tables width (fused a b at) t side t' h = absurd h
+passed_tables width kernel t side t' h = absurd h
 
 -- TYPES
 
@@ -139,18 +112,10 @@ got_type is js side n s u e f h g = cc (sym g ∙ sym (ap (slice_get js) f) ∙ 
 pub passed_fits : (k : Kern) (is : List QueueType) (m : QueueType) (vs : List VarKind) (t : Term) (os : List QueueType) (us : List VarKind) (side : ℕ) (t' : Term) (s : QueueType)
     → Fits k is (m ∷ []) vs → Fits (select t) (m ∷ []) os us → Passed (first_width is) k t side t' → slice_get is side ≡ Some s
     → Fits (select t') (s ∷ []) (s ∷ []) []
-passed_fits (code k) is m vs t os us side t' s f g h e = absurd h
-passed_fits (filter k) is m vs t os us side t' s f g h e = absurd h
-passed_fits (duplicate n) is m vs t os us side t' s f g h e = absurd h
-passed_fits (deal ws) is m vs t os us side t' s f g h e = absurd h
-passed_fits (collect ws) is m vs t os us side t' s f g h e = absurd h
-passed_fits (packed k) is m vs t os us side t' s f g h e = absurd h
-passed_fits (unpack n) is m vs t os us side t' s f g h e = absurd h
 passed_fits (window w) is m vs t os us side t' s f g h e =
     let z = selects t m os us (Relation f.0) g (head_is m (relation f.0) [] [] f.2) in
     subst (λ q. Fits (select t') (q ∷ []) (q ∷ []) []) (got_type is (stream f.0 ∷ []) side 0 s (stream f.0) f.1 h.0 e refl)
     (fits_select t' (Stream f.0) refl (subst (Selects f.0) h.1 z))
-passed_fits (select c) is m vs t os us side t' s f g h e = absurd h
 passed_fits (project es) is m vs t os us side t' s f g h e =
     let z = selects t m os us (Relation (length es)) g (head_is m (relation (length es)) [] [] f.2) in
     let w = and_parts (is_width f.0) (is_width (length es) && list_all (is_term f.0 0) es) f.4 in
@@ -177,8 +142,7 @@ passed_fits (streamer c) is m vs t os us side t' s f g h e =
     let z = selects t m os us (Stream f.0) g (head_is m (stream f.0) [] [] f.2) in
     subst (λ q. Fits (select t') (q ∷ []) (q ∷ []) []) (got_type is (relation f.0 ∷ []) side 0 s (relation f.0) f.1 h.0 e refl)
     (fits_select t' (Relation f.0) refl (subst (Selects f.0) h.1 z))
-passed_fits tally is m vs t os us side t' s f g h e = absurd h
-passed_fits (fused a b at) is m vs t os us side t' s f g h e = absurd h
+passed_fits kernel is m vs t os us side t' s f g h e = absurd h
 
 -- EFFECT
 
@@ -189,18 +153,10 @@ Commutes k t side t' h = sift t ((feed_all k h (first_kept k)).outs 0) ≡ (feed
 -- a selection and what it passes change places
 pub passed_commutes : (k : Kern) (is os : List QueueType) (vs : List VarKind) (t : Term) (side : ℕ) (t' : Term) → Fits k is os vs
     → Passed (first_width is) k t side t' → (h : ℕ → List item.Item) → AreOf is h → Commutes k t side t' h
-passed_commutes (code k) is os vs t side t' f p h a = absurd p
-passed_commutes (filter k) is os vs t side t' f p h a = absurd p
-passed_commutes (duplicate n) is os vs t side t' f p h a = absurd p
-passed_commutes (deal ws) is os vs t side t' f p h a = absurd p
-passed_commutes (collect ws) is os vs t side t' f p h a = absurd p
-passed_commutes (packed k) is os vs t side t' f p h a = absurd p
-passed_commutes (unpack n) is os vs t side t' f p h a = absurd p
 passed_commutes (window w) is os vs t side t' f p h a =
     subst (λ n. Commutes (window w) t n t' h) (sym p.0)
     (subst (λ u. Commutes (window w) t 0 u h) p.1
     (pass_window t w p.2 h ∙ sym (ap (λ r. r.outs 0) (one_input (window w) (with_at 0 (sift t (h 0)) h) (first_kept (window w)) refl))))
-passed_commutes (select e) is os vs t side t' f p h a = absurd p
 passed_commutes (project es) is os vs t side t' f p h a =
     subst (λ n. Commutes (project es) t n t' h) (sym p.0)
     (pass_project es t t' p.1 h ∙ sym (ap (λ r. r.outs 0) (one_input (project es) (with_at 0 (sift t' (h 0)) h) (first_kept (project es)) refl)))
@@ -219,5 +175,4 @@ passed_commutes (streamer s) is os vs t side t' f p h a =
     subst (λ n. Commutes (streamer s) t n t' h) (sym p.0)
     (subst (λ u. Commutes (streamer s) t 0 u h) p.1
     (pass_streamer t s h ∙ sym (ap (λ r. r.outs 0) (one_input (streamer s) (with_at 0 (sift t (h 0)) h) (first_kept (streamer s)) refl))))
-passed_commutes tally is os vs t side t' f p h a = absurd p
-passed_commutes (fused x y at) is os vs t side t' f p h a = absurd p
+passed_commutes kernel is os vs t side t' f p h a = absurd p

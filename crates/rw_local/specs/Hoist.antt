@@ -7,7 +7,7 @@ use Rattle.river_base.specs.declared.kind.QueueType.TheVariants.{Flat, Pack}
 use Rattle.work_code.specs.Term.{Term, Const, Input, Slot, Neg, Not, Bin}
 use Rattle.kern_bags.specs.declared.kernel.Window.{Window}
 use Rattle.kern_bags.specs.declared.kernel.Window.TheVariants.{Now, Range, Unbounded, Latest}
-use Rattle.river_kernels.specs.Kern.{Kern, code, filter, duplicate, deal, collect, packed, unpack, window, select, project, cross, streamer, tally, fused}
+use Rattle.river_kernels.specs.Kern.{Kern, window, select, project, cross, streamer}
 use Rattle.river_kernels.specs.Fits.{spliced}
 use Rattle.river_plan.specs.Forms.{Name, OpForm, PlanForm, all_decls}
 use Rattle.river_plan.specs.Kinds.{kind_of}
@@ -99,20 +99,11 @@ first_width (t ∷ ts) = width_at t
 -- a selection by this condition passes an operator of this kernel, whose first input has rows of this width: at which of its
 -- inputs it stands then, and with which condition; or H3 or H4
 abbrev pub passes : ℕ → Kern → Term → Result (ℕ × Term) Unfit
-passes width (code k) t = Err H3
-passes width (filter f) t = Err H3
-passes width (duplicate n) t = Err H3
-passes width (deal ws) t = Err H3
-passes width (collect ws) t = Err H3
-passes width (packed k) t = Err H3
-passes width (unpack n) t = Err H3
 passes width (window w) t = past_window w t
-passes width (select e) t = Err H3
 passes width (project es) t = or_h4 (at_side 0 (refielded (of_projection es) t))
 passes width cross t = or_h4 (either_side (at_side 0 (refielded (of_first width) t)) (at_side 1 (refielded (of_second width) t)))
 passes width (streamer s) t = Ok (0, t)
-passes width tally t = Err H3
-passes width (fused a b at) t = Err H3
+passes width kernel t = Err H3
 
 -- THE PLAN
 
@@ -151,20 +142,8 @@ hoist_between p u t (mid ∷ rs) [] = Err H1
 hoist_between p u t (mid ∷ rs) (out ∷ ws) = hoist_past p u t mid out (first_with (writes_it mid) p.ops)
 
 abbrev pub hoist_kernel : PlanForm → OpForm → Kern → Result PlanForm Unfit
-hoist_kernel p u (code k) = Err H1
-hoist_kernel p u (filter f) = Err H1
-hoist_kernel p u (duplicate n) = Err H1
-hoist_kernel p u (deal ws) = Err H1
-hoist_kernel p u (collect ws) = Err H1
-hoist_kernel p u (packed k) = Err H1
-hoist_kernel p u (unpack n) = Err H1
-hoist_kernel p u (window w) = Err H1
 hoist_kernel p u (select t) = hoist_between p u t u.reads u.writes
-hoist_kernel p u (project es) = Err H1
-hoist_kernel p u cross = Err H1
-hoist_kernel p u (streamer s) = Err H1
-hoist_kernel p u tally = Err H1
-hoist_kernel p u (fused a b at) = Err H1
+hoist_kernel p u kernel = Err H1
 
 abbrev pub hoist_found : PlanForm → Option OpForm → Result PlanForm Unfit
 hoist_found p None = Err H1

@@ -2,7 +2,7 @@
 use Rattle.std.specs.Prelude.{◌≡◌, ◌↔◌, ◌⊎◌, ℕ, ◌+◌, ◌<◌, ◌≤◌, Result, Some, List, [], ◌∷◌, ◌++◌, length, slice_get}
 use Rattle.work_code.specs.Term.{Term, Const, Input, Slot, Neg, Not, Bin}
 use Rattle.kern_bags.specs.declared.kernel.Window.TheVariants.{Now, Range, Unbounded, Latest}
-use Rattle.river_kernels.specs.Kern.{Kern, code, filter, duplicate, deal, collect, packed, unpack, window, select, project, cross, streamer, tally, fused}
+use Rattle.river_kernels.specs.Kern.{Kern, window, select, project, cross, streamer}
 use Rattle.river_plan.specs.declared.plan.Decl.{Decl}
 use Rattle.river_plan.specs.Forms.{Name, OpForm, PlanForm, all_decls}
 use Rattle.river_plan.specs.Kinds.{kind_of}
@@ -66,65 +66,34 @@ pub record HasFirstWidth (p : PlanForm) (x : OpForm) (w : ℕ) : Type 0 where
 
 -- project, now, range, unbounded, cross, istream, dstream or rstream
 abbrev pub LetsPass : Kern → Type 0
-LetsPass (code k) = ⊥
-LetsPass (filter f) = ⊥
-LetsPass (duplicate n) = ⊥
-LetsPass (deal ws) = ⊥
-LetsPass (collect ws) = ⊥
-LetsPass (packed k) = ⊥
-LetsPass (unpack n) = ⊥
 LetsPass (window Now) = Unit {0}
 LetsPass (window (Range span)) = Unit {0}
 LetsPass (window Unbounded) = Unit {0}
-LetsPass (window (Latest n)) = ⊥
-LetsPass (select e) = ⊥
 LetsPass (project es) = Unit {0}
 LetsPass cross = Unit {0}
 LetsPass (streamer s) = Unit {0}
-LetsPass tally = ⊥
-LetsPass (fused a b at) = ⊥
+LetsPass kernel = ⊥
 
 -- a field that the condition reads is no plain input[j] of the projection; of a product, whose first side has rows of this
 -- width, it reads fields of both sides
 abbrev pub Stops : ℕ → Kern → Term → Type 0
-Stops w (code k) cond = ⊥
-Stops w (filter f) cond = ⊥
-Stops w (duplicate n) cond = ⊥
-Stops w (deal ws) cond = ⊥
-Stops w (collect ws) cond = ⊥
-Stops w (packed k) cond = ⊥
-Stops w (unpack n) cond = ⊥
-Stops w (window v) cond = ⊥
-Stops w (select e) cond = ⊥
 Stops w (project es) cond = (i : ℕ) × ReadsField i cond × ((j : ℕ) → IsCopy es i j → ⊥)
 Stops w cross cond = (i : ℕ) × (j : ℕ) × ReadsField i cond × ReadsField j cond × (i < w) × (w ≤ j)
-Stops w (streamer s) cond = ⊥
-Stops w tally cond = ⊥
-Stops w (fused a b at) cond = ⊥
+Stops w kernel cond = ⊥
 
 -- Before an operator of this kernel the selection stands at this of its inputs, by the second condition. Of a projection,
 -- field i becomes j. Of a product it stands at the first side, where all fields that it reads are the first's; or at the
 -- second, where it reads some and all are the second's, and there they are counted from 0. Else the condition stays.
 abbrev pub Goes : ℕ → Kern → Term → ℕ → Term → Type 0
-Goes w (code k) cond side moved = ⊥
-Goes w (filter f) cond side moved = ⊥
-Goes w (duplicate n) cond side moved = ⊥
-Goes w (deal ws) cond side moved = ⊥
-Goes w (collect ws) cond side moved = ⊥
-Goes w (packed k) cond side moved = ⊥
-Goes w (unpack n) cond side moved = ⊥
 Goes w (window Now) cond side moved = (side ≡ 0) × (moved ≡ cond)
 Goes w (window (Range span)) cond side moved = (side ≡ 0) × (moved ≡ cond)
 Goes w (window Unbounded) cond side moved = (side ≡ 0) × (moved ≡ cond)
-Goes w (window (Latest n)) cond side moved = ⊥
-Goes w (select e) cond side moved = ⊥
 Goes w (project es) cond side moved = (side ≡ 0) × Becomes (IsCopy es) cond moved
 Goes w cross cond side moved =
     ((side ≡ 0) × (moved ≡ cond) × ((i : ℕ) → ReadsField i cond → i < w))
     ⊎ ((side ≡ 1) × ((i : ℕ) × ReadsField i cond) × Becomes (λ i j. i ≡ w + j) cond moved)
 Goes w (streamer s) cond side moved = (side ≡ 0) × (moved ≡ cond)
-Goes w tally cond side moved = ⊥
-Goes w (fused a b at) cond side moved = ⊥
+Goes w kernel cond side moved = ⊥
 
 -- THE CONDITIONS
 

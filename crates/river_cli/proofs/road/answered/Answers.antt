@@ -7,10 +7,10 @@ returns-in-Run-clause-passes g c =
     let rose = Rose g.S.Shelf.stays_at_last (g.S.Shelf.faults c.args.shelf.now) (g.S.Shelf.faults c.run.new.shelf) in
     rw c.in-Run.is (run-answers (g.S.Shelf.held c.args.shelf.now) rose c.in-Run.lang c.in-Run.file c.in-Run.ins c.in-Run.script c.in-Run.header c.in-Run.counts c.run.result c.run.ensures.passes)
 
-pub returns-in-Show-clause-passes : goal.returns-in-Show-clause-passes
-returns-in-Show-clause-passes g c =
+pub returns-in-Plan-clause-passes : goal.returns-in-Plan-clause-passes
+returns-in-Plan-clause-passes g c =
     let rose = Rose g.S.Shelf.stays_at_last (g.S.Shelf.faults c.args.shelf.now) (g.S.Shelf.faults c.show.new.shelf) in
-    rw c.in-Show.is (show-answers (g.S.Shelf.held c.args.shelf.now) rose c.in-Show.lang c.in-Show.file c.in-Show.script c.show.result c.show.ensures.passes)
+    rw c.in-Plan.is (show-answers (g.S.Shelf.held c.args.shelf.now) rose c.in-Plan.lang c.in-Plan.file c.in-Plan.script c.show.result c.show.ensures.passes)
 
 pub returns-in-Mean-clause-passes : goal.returns-in-Mean-clause-passes
 returns-in-Mean-clause-passes g c =
