@@ -4,9 +4,8 @@ ghost use Rattle.text_forms.specs.Gives.{Gives};
 ghost use Rattle.text_forms.specs.Parse.{Parse};
 ghost use Rattle.text_blocks.specs.Parts.{ended_at, round_at, square_at, first_value_at, optional};
 
-use crate::end::closed;
 use std::alloc::Global;
-use text_forms::{Fault, Reader};
+use text_forms::{Fault, Reader, closed};
 use work_code::Symbol;
 
 /// A language's expressions, as its statements have them.

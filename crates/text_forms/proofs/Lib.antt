@@ -13,3 +13,4 @@ pub mod Steps
 pub mod Symbols
 pub mod Texts
 pub mod Tokens
+pub mod Units

@@ -14,3 +14,4 @@ pub mod Repeat
 pub mod Tail
 pub mod Texts
 pub mod Tree
+pub mod Units
