@@ -9,7 +9,7 @@ use Rattle.text_forms.specs.declared.unit_fault.UnitFault.TheVariants.{Syntax, N
 
 -- the values of the units, of which the first has number n; or which unit is the first that is none
 abbrev pub units_from : {A : Type 0} → Parse A → ℕ → List (List Tok) → Result (List A) ℕ
-units_from {A} unit n us = read_units {Unit {0}} {A} (λ u. unit) (λ u v. tt) tt n us
+units_from {A} unit n us = read_units {S = Unit {0}} {A = A} (λ u. unit) (λ u v. tt) tt n us
 
 -- the units of a text
 abbrev pub all_units : {A : Type 0} → Parse A → List (List Tok) → Result (List A) ℕ
