@@ -9,7 +9,7 @@ mod sign;
 mod words;
 
 pub use blocks::{Blocks, block, rest};
-pub use exprs::{Exprs, ended, first_value, round, square};
-pub use opening::Opening;
+pub use exprs::{Exprs, ended, first_value, place, round, square};
+pub use opening::{NoLoop, Opening};
 pub use sign::{Sign, take_operator, take_sign};
 pub use words::is_free;

@@ -1,3 +1,4 @@
+pub mod AllUnits
 pub mod Choices
 pub mod Climbs
 pub mod Exact
@@ -13,4 +14,3 @@ pub mod Steps
 pub mod Symbols
 pub mod Texts
 pub mod Tokens
-pub mod Units

@@ -1,3 +1,4 @@
+pub mod AllUnits
 pub mod Deep
 pub mod Deepest
 pub mod Exact
@@ -14,4 +15,3 @@ pub mod Repeat
 pub mod Tail
 pub mod Texts
 pub mod Tree
-pub mod Units

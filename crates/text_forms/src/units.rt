@@ -5,7 +5,7 @@ ghost use Rattle.work_code.specs.Tok.{tokens_of, toks};
 ghost use Rattle.text_forms.specs.Gives.{Gives, Makes};
 ghost use Rattle.text_forms.specs.Parse.{Parse};
 ghost use Rattle.text_forms.specs.Texts.{whole};
-ghost use Rattle.text_forms.specs.Units.{all_units, GivesUnits};
+ghost use Rattle.text_forms.specs.AllUnits.{all_units, GivesUnits};
 
 use crate::end::kept;
 use crate::{Fault, Reader, UnitFault};
@@ -30,7 +30,7 @@ pub trait Units {
 }
 
 // The unit that whole tokens stand for.
-#[tactic(auto, using(crate::proofs::Units::whole_none))]
+#[tactic(auto, using(crate::proofs::AllUnits::whole_none))]
 fn whole_unit<L: Units>(
     language: &L,
     alloc: Global,

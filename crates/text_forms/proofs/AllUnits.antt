@@ -10,7 +10,7 @@ use Rattle.work_code.specs.declared.token.Lexeme.{Lexeme}
 use Rattle.text_forms.specs.Gives.{Makes}
 use Rattle.text_forms.specs.Parse.{Parse}
 use Rattle.text_forms.specs.Texts.{whole, after_unit, put_first}
-use Rattle.text_forms.specs.Units.{units_from}
+use Rattle.text_forms.specs.AllUnits.{units_from}
 use Rattle.text_forms.specs.declared.fault.Fault.{Fault}
 use Rattle.text_forms.specs.declared.fault.Fault.TheVariants.{Syntax}
 
