@@ -1,5 +1,10 @@
--- Sawzall programs as they are written, and what they emit.
-use Rattle.std.specs.Prelude.{ℕ, suc, ℤ, pos, List, [], ◌∷◌, ◌++◌, map, flat_map, max, Option, Some, None, if◌then◌else◌, slice_index_or}
+-- What a Sawzall program means. Read in this order:
+--   1. the tree of a program, as it is written: saw_text/specs/Tree, and which text has which tree: saw_text/specs/Grammar;
+--   2. here: what an expression says (`eval`), what a statement does (`exec`), what one record emits (`emits`), and what a program
+--      means for all records (`program_tables`);
+--   3. which programs are accepted, and which fault is told first: specs/Places and specs/Faults, in the order of the text;
+--   4. the plan of a program, for which specs/Elaborate and specs/Judged read it once: specs/Plan. The laws on it: specs/Laws.
+use Rattle.std.specs.Prelude.{ℕ, suc, length, ℤ, pos, List, [], ◌∷◌, ◌++◌, map, flat_map, max, Option, Some, None, if◌then◌else◌, slice_index_or}
 use Rattle.std.specs.Ordering.{int_eq}
 use Rattle.river_base.specs.Name.{name_eq}
 use Rattle.river_base.specs.Number.{negate}
@@ -8,35 +13,30 @@ use Rattle.kern_tables.specs.declared.kind.TableKind.{TableKind}
 use Rattle.river_plan.specs.declared.plan.TableDecl.{TableDecl}
 use Rattle.river_plan.specs.Forms.{Name}
 use Rattle.brooklet_model.specs.Machine.{at_name}
-use Rattle.text_forms.specs.Tree.{Spoken}
-use Rattle.text_forms.specs.Tree as tree
+use Rattle.saw_text.specs.Tree.{Expression, Statement, Declare, Assign, Emit, If, Block, End, Then, TableForm, UnitForm, TableUnit, StatementUnit, Program}
+use Rattle.saw_text.specs.Tree as tree
+use Rattle.saw_text.specs.declared.tree.Kind.{Kind}
+use Rattle.saw_text.specs.declared.tree.Kind.TheVariants as code
+use Rattle.kern_tables.specs.declared.kind.TableKind.TheVariants as kind
 use Rattle.kern_tables.specs.Tables.{tab}
 
-mutual
-  pub data Statement : Type 0 where
-    Declare : Name → Option Spoken → Statement
-    Assign : Name → Spoken → Statement
-    -- the table, the indexes, the value, the weight
-    Emit : Name → List Spoken → Spoken → Option Spoken → Statement
-    If : Spoken → Block → Block → Statement
+-- the names of fields mean nothing: a table has as many keys as it has indexes
+abbrev pub kind_of : Kind → ℕ → TableKind
+kind_of code.Sum keys = kind.Sum keys
+kind_of code.Collection keys = kind.Collection keys
+kind_of (code.Maximum best) keys = kind.Maximum best keys
 
-  pub data Block : Type 0 where
-    End : Block
-    Then : Statement → Block → Block
+abbrev pub table_kind : TableForm → TableKind
+table_kind t = kind_of t.kind (length t.indexes)
 
--- a unit of a program: a table, or a statement
-pub data Part : Type 0 where
-  Table : Name → TableKind → Part
-  Does : Statement → Part
-
-abbrev pub Program : Type 0
-Program = List Part
+abbrev pub table_decl : TableForm → TableDecl
+table_decl t = record { name = t.name; kind = table_kind t }
 
 -- the tables, in order
 abbrev pub tables_in : Program → List TableDecl
 tables_in [] = []
-tables_in (Table n k ∷ ps) = record { name = n; kind = k } ∷ tables_in ps
-tables_in (Does c ∷ ps) = tables_in ps
+tables_in (TableUnit tb ∷ ps) = table_decl tb ∷ tables_in ps
+tables_in (StatementUnit c ∷ ps) = tables_in ps
 
 -- WHAT ONE RECORD EMITS
 
@@ -44,64 +44,61 @@ abbrev pub Values : Type 0
 Values = Name → ℤ
 
 -- the value of an expression, for a record and the values of names
-abbrev pub said : Spoken → List ℤ → Values → ℤ
-said (tree.Number v) r env = pos v
-said (tree.Name n) r env = env n
-said (tree.Input p) r env = slice_index_or r p (pos 0)
-said (tree.Slot p) r env = pos 0
-said (tree.Peek t) r env = pos 0
-said tree.Pop r env = pos 0
-said (tree.Neg t) r env = negate (said t r env)
-said (tree.Not t) r env = truth (int_eq (said t r env) (pos 0))
-said (tree.Bin o a b) r env = applied o (said a r env) (said b r env)
+abbrev pub eval : Expression → List ℤ → Values → ℤ
+eval (tree.Number v) r env = pos v
+eval (tree.Name n) r env = env n
+eval (tree.Input p) r env = slice_index_or r p (pos 0)
+eval (tree.Neg t) r env = negate (eval t r env)
+eval (tree.Not t) r env = truth (int_eq (eval t r env) (pos 0))
+eval (tree.Bin o a b) r env = applied o (eval a r env) (eval b r env)
 
 -- a row with its table
 abbrev pub Emitted : Type 0
 Emitted = Name × List ℤ
 
--- where the run stands
-pub record Now : Type 0 where
+-- where the run of a program stands
+pub record State : Type 0 where
   pub values : Values
   pub emitted : List Emitted
 
-abbrev pub said_or : ℤ → Option Spoken → List ℤ → Values → ℤ
-said_or z None r env = z
-said_or z (Some t) r env = said t r env
+abbrev pub eval_or : ℤ → Option Expression → List ℤ → Values → ℤ
+eval_or z None r env = z
+eval_or z (Some t) r env = eval t r env
 
-abbrev pub said_all : List Spoken → List ℤ → Values → List ℤ
-said_all [] r env = []
-said_all (t ∷ ts) r env = said t r env ∷ said_all ts r env
+abbrev pub eval_all : List Expression → List ℤ → Values → List ℤ
+eval_all [] r env = []
+eval_all (t ∷ ts) r env = eval t r env ∷ eval_all ts r env
 
-abbrev pub listed : Option Spoken → List Spoken
+abbrev pub listed : Option Expression → List Expression
 listed None = []
 listed (Some t) = t ∷ []
 
 -- the row of an emit: the indexes, the value, the weight
-abbrev pub parts_of : List Spoken → Spoken → Option Spoken → List Spoken
+abbrev pub parts_of : List Expression → Expression → Option Expression → List Expression
 parts_of is v w = is ++ v ∷ listed w
 
 abbrev mutual
-  pub does : Statement → List ℤ → Now → Now
-  does (Declare n t) r s = record s { values = at_name n (said_or (pos 0) t r s.values) s.values }
-  does (Assign n t) r s = record s { values = at_name n (said t r s.values) s.values }
-  does (Emit t is v w) r s = record s { emitted = s.emitted ++ (t, said_all (parts_of is v w) r s.values) ∷ [] }
-  does (If t a b) r s = if is_true (said t r s.values) then do_all a r s else do_all b r s
+  pub exec : Statement → List ℤ → State → State
+  exec (Declare n t) r s = record s { values = at_name n (eval_or (pos 0) t r s.values) s.values }
+  exec (Assign n t) r s = record s { values = at_name n (eval t r s.values) s.values }
+  exec (Emit t is v w) r s = record s { emitted = s.emitted ++ (t, eval_all (parts_of is v w) r s.values) ∷ [] }
+  exec (If t a b) r s = if is_true (eval t r s.values) then exec_block a r s else exec_block b r s
 
-  pub do_all : Block → List ℤ → Now → Now
-  do_all End r s = s
-  do_all (Then c b) r s = do_all b r (does c r s)
+  pub exec_block : Block → List ℤ → State → State
+  exec_block End r s = s
+  exec_block (Then c b) r s = exec_block b r (exec c r s)
 
-abbrev pub do_parts : Program → List ℤ → Now → Now
-do_parts [] r s = s
-do_parts (Table n k ∷ ps) r s = do_parts ps r s
-do_parts (Does c ∷ ps) r s = do_parts ps r (does c r s)
+abbrev pub exec_units : Program → List ℤ → State → State
+exec_units [] r s = s
+exec_units (TableUnit tb ∷ ps) r s = exec_units ps r s
+exec_units (StatementUnit c ∷ ps) r s = exec_units ps r (exec c r s)
 
 -- with fresh locals
-abbrev pub fresh : Now
+abbrev pub fresh : State
 fresh = record { values = λ n. pos 0; emitted = [] }
 
 abbrev pub emits : Program → List ℤ → List Emitted
-emits p r = (do_parts p r fresh).emitted
+emits p r = (exec_units p r fresh).emitted
 
 -- WHAT A PROGRAM MEANS
 
@@ -116,36 +113,33 @@ program_tables p records = map (λ t. tab t.kind (rows_for t.name (flat_map (emi
 
 -- HOW MANY FIELDS ARE READ
 
-abbrev pub reach : Spoken → ℕ
+abbrev pub reach : Expression → ℕ
 reach (tree.Number v) = 0
 reach (tree.Name n) = 0
 reach (tree.Input p) = suc p
-reach (tree.Slot p) = 0
-reach (tree.Peek t) = 0
-reach tree.Pop = 0
 reach (tree.Neg t) = reach t
 reach (tree.Not t) = reach t
 reach (tree.Bin o a b) = max (reach a) (reach b)
 
-abbrev pub reach_all : List Spoken → ℕ
+abbrev pub reach_all : List Expression → ℕ
 reach_all [] = 0
 reach_all (t ∷ ts) = max (reach t) (reach_all ts)
 
 abbrev mutual
-  pub reach_once : Statement → ℕ
-  reach_once (Declare n t) = reach_all (listed t)
-  reach_once (Assign n t) = reach t
-  reach_once (Emit t is v w) = reach_all (parts_of is v w)
-  reach_once (If t a b) = max (reach t) (max (reach_block a) (reach_block b))
+  pub reach_statement : Statement → ℕ
+  reach_statement (Declare n t) = reach_all (listed t)
+  reach_statement (Assign n t) = reach t
+  reach_statement (Emit t is v w) = reach_all (parts_of is v w)
+  reach_statement (If t a b) = max (reach t) (max (reach_block a) (reach_block b))
 
   pub reach_block : Block → ℕ
   reach_block End = 0
-  reach_block (Then c b) = max (reach_once c) (reach_block b)
+  reach_block (Then c b) = max (reach_statement c) (reach_block b)
 
 abbrev pub reach_parts : Program → ℕ
 reach_parts [] = 0
-reach_parts (Table n k ∷ ps) = reach_parts ps
-reach_parts (Does c ∷ ps) = max (reach_once c) (reach_parts ps)
+reach_parts (TableUnit tb ∷ ps) = reach_parts ps
+reach_parts (StatementUnit c ∷ ps) = max (reach_statement c) (reach_parts ps)
 
 -- one more than the greatest index, at least 1
 abbrev pub width : Program → ℕ
