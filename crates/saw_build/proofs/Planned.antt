@@ -56,10 +56,12 @@ longer_name (b ∷ bs) end w few h len =
     let short : length (bs ++ end) ≤ 63 = (let a = length-append bs end in omega (arith, a, few, len)) in
     both_true (is_letter b) _ p.0 (both_true (list_all is_word (bs ++ end)) _ all (le_true (length (bs ++ end)) 63 short))
 
+-- the name of a queue is one
 pub queue_is_name : (name : Name) → is_name name ≡ true → length name ≤ 40 → is_name (name ++ codes "@q") ≡ true
 unfolding is_word is_letter is_digit
 queue_is_name name h len = longer_name name (codes "@q") refl (omega arith) h len
 
+-- and so is that of a tally
 pub tally_is_name : (name : Name) → is_name name ≡ true → length name ≤ 40 → is_name (name ++ codes "@tally") ≡ true
 unfolding is_word is_letter is_digit
 tally_is_name name h len = longer_name name (codes "@tally") refl (omega arith) h len
@@ -97,6 +99,7 @@ tables_next us i u list more whole lt e is h =
     ∙ ap (λ l. list ++ l) (split_first (unit_form u) rest ∙ ap tables_in (sym (at_place unit_form us i u lt e)))
     ∙ h
 
+-- behind the last unit all tables are listed
 pub tables_end : (us : List tree.Unit) (i : ℕ) (list whole : List TableDecl) → length us ≤ i → list ++ tables_in (unit_forms (drop i us)) ≡ whole
     → list ≡ whole
 tables_end us i list whole le h = sym (append-nil list) ∙ ap (λ (p : List UnitForm). list ++ tables_in p) (sym (none_left unit_form us i le)) ∙ h

@@ -24,6 +24,7 @@ reach-emit is v w = reach_all-append is (v ∷ listed w)
 
 pub ruleset reaches = (reach-emit)
 
+-- what a program reads is the most that its units read
 pub reach-parts : (c : UnitForm) (ps : List UnitForm) → reach_parts (c ∷ ps) ≡ max (reach_part c) (reach_parts ps)
 reach-parts (TableUnit tb) ps = sym (zero_max (reach_parts ps))
 reach-parts (StatementUnit c) ps = refl
@@ -32,8 +33,10 @@ reach-parts (StatementUnit c) ps = refl
 pub so_far_start : (n : ℕ) → max 0 n ≡ n
 so_far_start n = zero_max n
 
+-- one part more
 pub so_far_next : (most here rest whole next : ℕ) → max most (max here rest) ≡ whole → next ≡ max most here → max next rest ≡ whole
 so_far_next most here rest whole next h e = ap (λ n. max n rest) e ∙ max_assoc most here rest ∙ h
 
+-- behind the last part
 pub so_far_end : (most whole : ℕ) → max most 0 ≡ whole → most ≡ whole
 so_far_end most whole h = sym (max_zero most) ∙ h

@@ -2,7 +2,7 @@
 use Rattle.std.specs.Prelude.{◌<◌, ◌≤◌, ◌^◌, List, [], ◌∷◌, length}
 use Rattle.saw_text.specs.Tree.{Expression}
 use Rattle.saw_text.specs.Tree as tree
-use Rattle.saw_text.specs.Tree.{Statement, Declare, Assign, Emit, If, Block, End, Then, UnitForm, TableUnit, StatementUnit, Program}
+use Rattle.saw_text.specs.Tree.{Statement, Declare, Assign, Emit, If, Block, End, Then, Optional, Unwritten, Written, UnitForm, TableUnit, StatementUnit, Program}
 use Rattle.saw_model.specs.Meaning.{listed, table_kind, table_decl}
 
 -- each number of an expression is below 2^63
@@ -23,11 +23,15 @@ abbrev mutual
   IsValued (Declare n t) = AllValues (listed t)
   IsValued (Assign n t) = AreValues t
   IsValued (Emit t is v w) = AllValues is × AreValues v × AllValues (listed w)
-  IsValued (If t a b) = AreValues t × AreValued a × AreValued b
+  IsValued (If t a b) = AreValues t × AreValued a × AreValuedOptional b
 
   pub AreValued : Block → Type 0
   AreValued End = Unit {0}
   AreValued (Then c b) = IsValued c × AreValued b
+
+  pub AreValuedOptional : Optional → Type 0
+  AreValuedOptional Unwritten = Unit {0}
+  AreValuedOptional (Written b) = AreValued b
 
 abbrev pub IsValuedPart : UnitForm → Type 0
 IsValuedPart (TableUnit tb) = length tb.name ≤ 40

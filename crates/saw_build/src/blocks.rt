@@ -1,10 +1,10 @@
 // Blocks.
 ghost use Rattle.std.specs.Prelude.{◌≡◌};
-ghost use Rattle.saw_model.specs.Elaborate.{step_of, steps_of};
-ghost use Rattle.saw_text.specs.Tree.{statement, block, or_end};
+ghost use Rattle.saw_model.specs.Elaborate.{step_of, steps_of, steps_optional};
+ghost use Rattle.saw_text.specs.Tree.{statement, block, or_unwritten};
 ghost use Rattle.saw_text.specs.View.{option_block};
 ghost use Rattle.saw_build.specs.Judging.{at_of, Reads, ReadsArm};
-ghost use Rattle.saw_build.specs.Valued.{IsValued, AreValued};
+ghost use Rattle.saw_build.specs.Valued.{IsValued, AreValued, AreValuedOptional};
 
 use crate::fault::Fault;
 use crate::judge::Judge;
@@ -72,8 +72,8 @@ impl Judge {
     // Those behind `else`, where it is written.
     #[cycle(judge)]
     fn otherwise(&mut self, alloc: Global, no: &Option<Block>) -> Result<Stmts, Fault>
-        requires { AreValued (or_end (option_block no.now)) }
-        ensures { ReadsArm result self.old self.new (steps_of (or_end (option_block no.now)) (at_of self.old)) }
+        requires { AreValuedOptional (or_unwritten (option_block no.now)) }
+        ensures { ReadsArm result self.old self.new (steps_optional (or_unwritten (option_block no.now)) (at_of self.old)) }
     {
         match no {
             None => Ok(Stmts::new(alloc)),

@@ -1,7 +1,7 @@
 // How many fields of a record a program reads.
 ghost use Rattle.std.specs.Prelude.{◌≡◌, max};
-ghost use Rattle.saw_model.specs.Meaning.{reach, reach_all, reach_statement, reach_block, reach_parts, listed, parts_of};
-ghost use Rattle.saw_text.specs.Tree.{expression, option_expression, statement, block, or_end, unit_form, unit_forms};
+ghost use Rattle.saw_model.specs.Meaning.{reach, reach_all, reach_statement, reach_block, reach_optional, reach_parts, listed, parts_of};
+ghost use Rattle.saw_text.specs.Tree.{expression, option_expression, statement, block, or_unwritten, unit_form, unit_forms};
 ghost use Rattle.saw_text.specs.View.{expressions, option_block};
 ghost use Rattle.saw_build.specs.Reach.{reach_part};
 
@@ -94,7 +94,7 @@ fn reach_block(b: &Block) -> u64
 // Those that the block behind `else` reads, where it is written.
 #[cycle(statements)]
 fn reach_else(no: &Option<Block>) -> u64
-    ensures { result ≡ reach_block (or_end (option_block no.now)) }
+    ensures { result ≡ reach_optional (or_unwritten (option_block no.now)) }
 {
     match no {
         None => 0,

@@ -124,6 +124,7 @@ compiled-valued text a e =
     let h : Has text (Ok a) = subst (Has text) e (means-has text) in
     (units-fine a.units (cut_units (toks h.0.marks)) h.0.formed).0
 
+-- and the judge reads it as its meaning says
 pub compiled-judged : (text : List ℕ) (a : Accepted) → compiled text ≡ Ok a → judged (program_in a) ≡ Ok a.read
 compiled-judged text a e =
     let h : Has text (Ok a) = subst (Has text) e (means-has text) in

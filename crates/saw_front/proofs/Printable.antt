@@ -17,15 +17,15 @@ use Rattle.river_plan.specs.Forms.{Name}
 use Rattle.river_print.specs.Printable.{IsPrintable}
 use Rattle.river_print.specs.Writable.{Every, depths}
 use Rattle.river_print.proofs.Spoken.{IsSpoken, spoken-printable}
-use Rattle.saw_text.specs.Tree.{Statement, Declare, Assign, Emit, If, Block, End, Then, UnitForm, TableUnit, StatementUnit, Program}
+use Rattle.saw_text.specs.Tree.{Statement, Declare, Assign, Emit, If, Block, End, Then, Optional, Unwritten, Written, UnitForm, TableUnit, StatementUnit, Program}
 use Rattle.saw_model.specs.Meaning.{tables_in, table_kind, table_decl}
 use Rattle.saw_model.specs.Elaborate.{Fault, Limit, Shape, At, on_ok, demand, joined, one_step, counted, is_new, has_slot, first_term, declared, slot_of}
-use Rattle.saw_model.specs.Elaborate.{port_of, indexes_of, term_of, weight_of, keys_in, emitted, is_best, tabled, table_of, find, step_of, steps_of}
+use Rattle.saw_model.specs.Elaborate.{port_of, indexes_of, term_of, weight_of, keys_in, emitted, is_best, tabled, table_of, find, step_of, steps_of, steps_optional}
 use Rattle.saw_model.specs.Elaborate.{part_of as read_part, nothing_read}
 use Rattle.saw_model.specs.Judged.{Refusal, on_fine, in_unit, all_parts}
 use Rattle.saw_model.specs.Plan.{tally_op, plan_of}
 use Rattle.saw_model.proofs.Elaborated.{fine, ok_parts, ok_is}
-use Rattle.saw_text.specs.Tree.{in_turn, or_end, UnitForm}
+use Rattle.saw_text.specs.Tree.{in_turn, or_unwritten, UnitForm}
 use Rattle.text_blocks.specs.Statements.{IsRest}
 use Rattle.text_blocks.specs.Parts.{Round}
 use Rattle.text_blocks.proofs.Every.{chosen, IfThere, every-rest}
@@ -43,11 +43,15 @@ abbrev mutual
   nest (Declare n t) = 0
   nest (Assign n t) = 0
   nest (Emit t is v w) = 0
-  nest (If t a b) = suc (max (nests a) (nests b))
+  nest (If t a b) = suc (max (nests a) (nests_optional b))
 
   nests : Block → ℕ
   nests End = 0
   nests (Then c b) = max (nest c) (nests b)
+
+  nests_optional : Optional → ℕ
+  nests_optional Unwritten = 0
+  nests_optional (Written b) = nests b
 
 -- THE GRAMMAR
 
@@ -68,7 +72,7 @@ plain-nests k n w s ts h =
 
 branch-nests : (k n : ℕ) (c : Expression) (ts : List Tok) (a : Block) (o : Option Block) → Round IsExpression n c ts → AreNested k a
     → IfThere (AreNested k) o
-    → IsNested (suc k) (If c a (or_end o))
+    → IsNested (suc k) (If c a (or_unwritten o))
 branch-nests k n c ts a None h x y = omega (arith, x)
 branch-nests k n c ts a (Some b) h x y = omega (arith, x, y)
 
@@ -158,15 +162,15 @@ mutual
       emit-below a.0 b.0 (length is) c.0 v w y c.2
   step-below (If t a b) s0 y h =
       let end = λ (s : At) (c : Term) (p q : Steps × At). fine (one_step (steps.If c p.0 q.0), record q.1 { scope = s.scope }) in
-      let f3 = λ (s : At) (c : Term) (p : Steps × At). on_ok (steps_of b (record s { slots = p.1.slots; size = p.1.size })) (end s c p) in
+      let f3 = λ (s : At) (c : Term) (p : Steps × At). on_ok (steps_optional b (record s { slots = p.1.slots; size = p.1.size })) (end s c p) in
       let f2 = λ (s : At) (c : Term). on_ok (steps_of a s) (f3 s c) in
       let w = ok_parts (counted s0) (λ s. on_ok (term_of s.scope t) (f2 s)) y h in
       let c = ok_parts (term_of w.0.scope t) (f2 w.0) y w.2 in
       let p = ok_parts (steps_of a w.0) (f3 w.0 c.0) y c.2 in
-      let q = ok_parts (steps_of b (record w.0 { slots = p.0.1.slots; size = p.0.1.size })) (end w.0 c.0 p.0) y p.2 in
+      let q = ok_parts (steps_optional b (record w.0 { slots = p.0.1.slots; size = p.0.1.size })) (end w.0 c.0 p.0) y p.2 in
       let i = steps-below a w.0 p.0 p.1 in
-      let j = steps-below b (record w.0 { slots = p.0.1.slots; size = p.0.1.size }) q.0 q.1 in
-      by-steps (suc (max (nests a) (nests b))) (one_step (steps.If c.0 p.0.0 q.0.0), record q.0.1 { scope = w.0.scope }) y q.2 (omega (arith, i, j))
+      let j = optional-below b (record w.0 { slots = p.0.1.slots; size = p.0.1.size }) q.0 q.1 in
+      by-steps (suc (max (nests a) (nests_optional b))) (one_step (steps.If c.0 p.0.0 q.0.0), record q.0.1 { scope = w.0.scope }) y q.2 (omega (arith, i, j))
 
   steps-below : (b : Block) (s : At) (y : Steps × At) → steps_of b s ≡ fine y → depths y.0 ≤ nests b
   steps-below End s y h = by-steps 0 (Done, s) y h (omega arith)
@@ -177,6 +181,10 @@ mutual
       let j = steps-below b p.0.1 q.0 q.1 in
       by-steps (max (nest c) (nests b)) (joined p.0.0 q.0.0, q.0.1) y q.2
       (joined-below (max (nest c) (nests b)) p.0.0 q.0.0 (omega (arith, i)) (omega (arith, j)))
+
+  optional-below : (o : Optional) (s : At) (y : Steps × At) → steps_optional o s ≡ fine y → depths y.0 ≤ nests_optional o
+  optional-below Unwritten s y h = by-steps 0 (Done, s) y h (omega arith)
+  optional-below (Written b) s y h = steps-below b s y h
 
 table-below : (n : Name) (k : TableKind) (s : At) (y : Steps × At) → table_of n k s ≡ fine y → depths y.0 ≤ 0
 table-below n k s y h =

@@ -17,7 +17,7 @@ use Rattle.saw_text.specs.Tree.{Statement, If, Block, UnitForm}
 use Rattle.saw_model.specs.Meaning.{listed}
 use Rattle.saw_model.specs.Shallow.{IsLow, AreLow, IsShallow, AreShallow, IsShallowPart, AreShallowParts}
 use Rattle.saw_model.proofs.Formed.{le_by}
-use Rattle.saw_text.specs.Tree.{in_turn, or_end, TableForm, UnitForm, TableUnit}
+use Rattle.saw_text.specs.Tree.{in_turn, or_unwritten, TableForm, UnitForm, TableUnit}
 use Rattle.text_blocks.specs.Statements.{IsRest}
 use Rattle.text_blocks.specs.Parts.{Round, Square}
 use Rattle.text_blocks.specs.declared.sign.Sign.{Sign}
@@ -116,7 +116,7 @@ plain-fine k n w s ts h =
     chosen (IsFineStep s) _ _ (is_user w) s ts h (λ e f. named-fine w n s ts f) (λ h. absurd h))
 
 branch-fine : (k n : ℕ) (c : Expression) (ts : List Tok) (a : Block) (o : Option Block) → Round IsExpression n c ts → AreFine a → IfThere AreFine o
-    → IsFineStep (If c a (or_end o))
+    → IsFineStep (If c a (or_unwritten o))
 branch-fine k n c ts a None h x y = let z = round-fine n c ts h in ((z.0, x.0, tt), (z.1, x.1, tt))
 branch-fine k n c ts a (Some b) h x y = let z = round-fine n c ts h in ((z.0, x.0, y.0), (z.1, x.1, y.1))
 

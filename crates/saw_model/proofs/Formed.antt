@@ -18,14 +18,14 @@ use Rattle.river_plan.specs.Forms.{Name}
 use Rattle.river_plan.specs.declared.plan.TableDecl.{TableDecl}
 use Rattle.saw_text.specs.Tree.{Expression}
 use Rattle.saw_text.specs.Tree as tree
-use Rattle.saw_text.specs.Tree.{Statement, Declare, Assign, Emit, If, Block, End, Then, UnitForm, TableUnit, StatementUnit, Program}
+use Rattle.saw_text.specs.Tree.{Statement, Declare, Assign, Emit, If, Block, End, Then, Optional, Unwritten, Written, UnitForm, TableUnit, StatementUnit, Program}
 use Rattle.saw_model.specs.Meaning.{tables_in, listed, parts_of, reach, table_kind, table_decl}
-use Rattle.saw_model.specs.Meaning.{reach_all, reach_statement, reach_block, reach_parts}
-use Rattle.saw_model.specs.Shallow.{IsLow, AreLow, IsShallow, AreShallow, AreShallowParts}
+use Rattle.saw_model.specs.Meaning.{reach_all, reach_statement, reach_block, reach_optional, reach_parts}
+use Rattle.saw_model.specs.Shallow.{IsLow, AreLow, IsShallow, AreShallow, AreShallowOptional, AreShallowParts}
 use Rattle.saw_model.specs.Elaborate.{Limit, on_ok, Known, Var, Port, Scope, find, named, term_of, At, first_term, indexes_of, keys_in, weight_of, joined}
-use Rattle.saw_model.specs.Elaborate.{one_step, step_of, steps_of, part_of}
+use Rattle.saw_model.specs.Elaborate.{one_step, step_of, steps_of, steps_optional, part_of}
 use Rattle.saw_model.proofs.Elaborated.{fine, ok_is, ok_parts, if_ok, if_both, IsSound, ArePorts, more_slots, sound_port, one_more}
-use Rattle.saw_model.proofs.Statements.{second_at, declared_parts, assigned_parts, sent_parts, forked_parts, followed_parts, grows, grows_all}
+use Rattle.saw_model.proofs.Statements.{second_at, declared_parts, assigned_parts, sent_parts, forked_parts, followed_parts, grows, grows_all, grows_optional}
 use Rattle.saw_model.proofs.Parts.{parts_read, tabled_parts, split_parts, parts_slots, got_here, ports_new}
 
 -- EXPRESSIONS
@@ -105,7 +105,7 @@ mutual
       let d = forked_parts t a b s y h in
       let x = term_reach s.scope t d.cond d.cond_is in
       let f = steps_reach a (one_more s) d.first d.first_is in
-      let g = steps_reach b (second_at s d.first) d.second d.second_is in
+      let g = optional_reach b (second_at s d.first) d.second d.second_is in
       omega (arith, x, f, g)
 
   steps_reach : (b : Block) (s : At) (y : Steps × At) → steps_of b s ≡ fine y → reach_block b ≤ 16
@@ -115,6 +115,10 @@ mutual
       let f = step_reach c s d.first d.first_is in
       let g = steps_reach b d.first.1 d.others d.others_is in
       omega (arith, f, g)
+
+  optional_reach : (o : Optional) (s : At) (y : Steps × At) → steps_optional o s ≡ fine y → reach_optional o ≤ 16
+  optional_reach Unwritten s y h = omega arith
+  optional_reach (Written b) s y h = steps_reach b s y h
 
 pub parts_reach : (p : Program) (s : At) (y : Steps × At) → parts_read p s ≡ fine y → reach_parts p ≤ 16
 parts_reach [] s y h = omega arith
@@ -155,7 +159,7 @@ mutual
   step_counts (If t a b) s y h =
       let d = forked_parts t a b s y h in let r = lt_by s.size 16384 d.room in
       let f = steps_count a (one_more s) d.first d.first_is in
-      let g = steps_count b (second_at s d.first) d.second d.second_is in
+      let g = optional_counts b (second_at s d.first) d.second d.second_is in
       let x = f.size in let z = g.size in
       subst (Counts s) d.is (record { size = omega (arith, x, z); small = λ h. g.small (f.small (omega (arith, r))); few = λ h. g.few (f.few h) })
 
@@ -164,6 +168,10 @@ mutual
   steps_count (Then c b) s y h =
       let d = followed_parts c b s y h in
       subst (Counts s) d.is (counts_both s d.first d.others (step_counts c s d.first d.first_is) (steps_count b d.first.1 d.others d.others_is))
+
+  optional_counts : (o : Optional) (s : At) (y : Steps × At) → steps_optional o s ≡ fine y → Counts s y
+  optional_counts Unwritten s y h = subst (Counts s) (ok_is (Done, s) y h) (record { size = omega arith; small = λ h. h; few = λ h. h })
+  optional_counts (Written b) s y h = steps_count b s y h
 
 part_counts : (c : UnitForm) (s : At) (y : Steps × At) → part_of c s ≡ fine y → Counts s y
 part_counts (TableUnit tb) s y h = let d = tabled_parts tb.name (table_kind tb) s y h in subst (Counts s) d.is (record { size = omega arith; small = λ h. h; few = λ h. h })
@@ -335,13 +343,13 @@ module _ (w m : ℕ) (ts : List TableDecl) where
     step_formed (If t a b) s y low le h ok ports sl =
         let d = forked_parts t a b s y h in
         let g = grows_all a (one_more s) d.first d.first_is in
-        let e = grows_all b (second_at s d.first) d.second d.second_is in
+        let e = grows_optional b (second_at s d.first) d.second d.second_is in
         let last : d.second.1.slots ≤ m = subst (λ (q : Steps × At). q.1.slots ≤ m) (sym d.is) sl in
         let l1 : d.first.1.slots ≤ m = (let x = e.slots in omega (arith, x, last)) in
         let gs = g.slots in
         let cond = one_fits s.scope t d.cond low.0 (omega (arith, le)) (below_of s ok (omega (arith, gs, l1))) d.cond_is in
         let x = steps_formed a (one_more s) d.first low.1 (omega (arith, le)) d.first_is ok ports l1 in
-        let z = steps_formed b (second_at s d.first) d.second low.2 (omega (arith, le)) d.second_is (more_slots s.scope s.slots d.first.1.slots gs ok) ports last in
+        let z = optional_formed b (second_at s d.first) d.second low.2 (omega (arith, le)) d.second_is (more_slots s.scope s.slots d.first.1.slots gs ok) ports last in
         subst Formed d.is (one_formed (steps.If d.cond d.first.0 d.second.0)
         (both_true (is_term w m d.cond) (is_steps w m outs d.first.0 && is_steps w m outs d.second.0) cond (both_true (is_steps w m outs d.first.0) (is_steps w m outs d.second.0) x z)))
 
@@ -357,6 +365,11 @@ module _ (w m : ℕ) (ts : List TableDecl) where
         let x = step_formed c s d.first low.0 (omega (arith, le)) d.first_is ok ports (omega (arith, es, last)) in
         let z = steps_formed b d.first.1 d.others low.1 (omega (arith, le)) d.others_is (g.sound ok) (g.ports ts ports) last in
         subst Formed d.is (steps_joined d.first.0 d.others.0 x z)
+
+    optional_formed : (o : Optional) (s : At) (y : Steps × At) → AreShallowOptional o → reach_optional o ≤ w → steps_optional o s ≡ fine y
+        → IsSound s.scope s.slots → ArePorts ts s.scope → y.1.slots ≤ m → Formed y
+    optional_formed Unwritten s y low le h ok ports sl = subst Formed (ok_is (Done, s) y h) refl
+    optional_formed (Written b) s y low le h ok ports sl = steps_formed b s y low le h ok ports sl
 
   pub parts_formed : (p : Program) (s : At) (y : Steps × At) (done : List TableDecl) → AreShallowParts p → reach_parts p ≤ w → parts_read p s ≡ fine y
       → IsSound s.scope s.slots → ArePorts ts s.scope → y.1.slots ≤ m

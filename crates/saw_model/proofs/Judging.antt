@@ -15,24 +15,24 @@ use Rattle.work_code.specs.Term as term
 use Rattle.brooklet_model.proofs.Lists.{if_true, if_false}
 use Rattle.saw_text.specs.Tree.{Expression}
 use Rattle.saw_text.specs.Tree as tree
-use Rattle.saw_text.specs.Tree.{Statement, Declare, Assign, Emit, If, Block, End, Then, UnitForm, TableUnit, StatementUnit}
+use Rattle.saw_text.specs.Tree.{Statement, Declare, Assign, Emit, If, Block, End, Then, Optional, Unwritten, Written, UnitForm, TableUnit, StatementUnit}
 use Rattle.saw_model.specs.Meaning.{table_kind}
 use Rattle.saw_model.specs.Elaborate.{Fault, UnknownName, NameTwice, Shape, Limit, on_ok, Known as Entry, Var, Port, Scope, find, named, term_of, At}
 use Rattle.saw_model.specs.Elaborate.{counted, has_slot, is_new}
 use Rattle.saw_model.specs.Elaborate.{slot_of, port_of, first_term, indexes_of, keys_in, weight_of, joined, one_step, declared, emitted, step_of}
-use Rattle.saw_model.specs.Elaborate.{steps_of, is_best, tabled}
+use Rattle.saw_model.specs.Elaborate.{steps_of, steps_optional, is_best, tabled}
 use Rattle.saw_model.specs.Elaborate.{part_of}
 use Rattle.saw_model.specs.Faults.{IsTwice, IsMaximum, IsNoBest}
 use Rattle.saw_model.specs.Places.{Mark, Begins, Enters, Leaves, Names, Reads, Declares, Local, Sets, Emits, Index, Indexed, Weighted}
 use Rattle.saw_model.specs.Places.{Unweighted, Tables}
-use Rattle.saw_model.specs.Places.{term_marks, value_marks, index_marks, weight_marks, statement_marks, block_marks, part_marks, What, ALocal, ATable}
+use Rattle.saw_model.specs.Places.{term_marks, value_marks, index_marks, weight_marks, statement_marks, block_marks, optional_marks, part_marks, What, ALocal, ATable}
 use Rattle.saw_model.specs.Places.{gives, stays, Known}
 use Rattle.saw_model.specs.Places.{is_statement, is_local, is_table, how_many}
 use Rattle.saw_model.proofs.Marks.{many_append, steady_stays, known_parts, known_first, known_second, known_behind, quiet_alone, IsPlain, IsAlong}
 use Rattle.saw_model.proofs.Marks.{plain_one, along_names}
 use Rattle.saw_model.proofs.Marks.{along_reads, along_declares, along_sets, along_emits, along_index, along_indexed, along_weighted, along_unweighted}
 use Rattle.saw_model.proofs.Marks.{IsBody, plain_none}
-use Rattle.saw_model.proofs.Marks.{plain_body, block_whole, block_body}
+use Rattle.saw_model.proofs.Marks.{plain_body, block_whole, block_body, optional_body}
 use Rattle.saw_model.proofs.Verdicts.{IsFine, fine_by, first_unknown, first_twice, first_shape, first_limit, HasFirst, Verdict, then_read, then_is}
 use Rattle.saw_model.proofs.Verdicts.{next, by_test}
 
@@ -424,14 +424,14 @@ mutual
       let b3 = b2 ++ Enters ∷ [] in
       let b4 = (b3 ++ block_marks x) ++ Leaves ∷ [] in
       let b5 = b4 ++ Enters ∷ [] in
-      let second = Enters ∷ (block_marks y ++ Leaves ∷ []) in
+      let second = Enters ∷ (optional_marks y ++ Leaves ∷ []) in
       let first = Enters ∷ (block_marks x ++ Leaves ∷ second) in
       let done : Term → Steps × At → Steps × At → Steps × At = λ c p q. (one_step (steps.If c p.0 q.0), record q.1 { scope = s.scope }) in
-      let two : Term → Steps × At → Result (Steps × At) Fault = λ c p. on_ok (steps_of y (record s { slots = p.1.slots; size = p.1.size }))
+      let two : Term → Steps × At → Result (Steps × At) Fault = λ c p. on_ok (steps_optional y (record s { slots = p.1.slots; size = p.1.size }))
       (λ q. Ok (done c p q)) in
       let one : Term → Result (Steps × At) Fault = λ c. on_ok (steps_of x s) (λ p. two c p) in
       begins b (term_marks t ++ first) s0
-      (λ s. on_ok (term_of s.scope t) (λ c. on_ok (steps_of x s) (λ p. on_ok (steps_of y (record s { slots = p.1.slots; size = p.1.size }))
+      (λ s. on_ok (term_of s.scope t) (λ c. on_ok (steps_of x s) (λ p. on_ok (steps_optional y (record s { slots = p.1.slots; size = p.1.size }))
       (λ q. Ok (one_step (steps.If c p.0 q.0), record q.1 { scope = s.scope })))))
       a0
       (λ a. then_read (λ z u. IsAt z s) AtEnd b1 (term_marks t) first (term_of s.scope t) one (term_read s b1 t a)
@@ -446,11 +446,11 @@ mutual
       let t1 = i.tables in
       let j : IsAt b4 s1 = left_at b2 (block_marks x) s p.1 s1 (block_body x) h.scope i refl refl refl (omega (arith, none, m1, m2, t0, t1)) in
       next AtEnd (b3 ++ block_marks x) Leaves second (two c p) (quiet_fine (b3 ++ block_marks x)).1
-      (next AtEnd b4 Enters (block_marks y ++ Leaves ∷ []) (two c p) (quiet_fine b4).0
-      (then_read AtEnd AtEnd b5 (block_marks y) (Leaves ∷ []) (steps_of y s1) (λ q. Ok (done c p q)) (block_read y b5 s1 (entered_at b4 s1 j))
+      (next AtEnd b4 Enters (optional_marks y ++ Leaves ∷ []) (two c p) (quiet_fine b4).0
+      (then_read AtEnd AtEnd b5 (optional_marks y) (Leaves ∷ []) (steps_optional y s1) (λ q. Ok (done c p q)) (optional_read y b5 s1 (entered_at b4 s1 j))
       (λ q k. (
-        ((quiet_fine (b5 ++ block_marks y)).1, tt),
-        left_at b4 (block_marks y) s1 q.1 (record q.1 { scope = s.scope }) (block_body y) j.scope k refl refl refl refl,
+        ((quiet_fine (b5 ++ optional_marks y)).1, tt),
+        left_at b4 (optional_marks y) s1 q.1 (record q.1 { scope = s.scope }) (optional_body y) j.scope k refl refl refl refl,
       ))))))))
 
   pub block_read : (c : Block) (b : List Mark) (s : At) → IsAt b s → Verdict AtEnd b (block_marks c) (steps_of c s)
@@ -460,6 +460,10 @@ mutual
       (statement_read c b s a)
       (λ p h. then_is AtEnd AtEnd (b ++ statement_marks c) (block_marks d) (steps_of d p.1) (λ q. (joined p.0 q.0, q.1))
       (block_read d (b ++ statement_marks c) p.1 h) (λ q k. k))
+
+  optional_read : (o : Optional) (b : List Mark) (s : At) → IsAt b s → Verdict AtEnd b (optional_marks o) (steps_optional o s)
+  optional_read Unwritten b s a = (tt, none_at b s a)
+  optional_read (Written c) b s a = block_read c b s a
 
 -- UNITS
 

@@ -5,9 +5,9 @@ use Rattle.river_plan.specs.Forms.{Name}
 use Rattle.river_plan.specs.Names.{one_if}
 use Rattle.saw_text.specs.Tree.{Expression}
 use Rattle.saw_text.specs.Tree as tree
-use Rattle.saw_text.specs.Tree.{Statement, Declare, Assign, Emit, If, Block, End, Then}
+use Rattle.saw_text.specs.Tree.{Statement, Declare, Assign, Emit, If, Block, End, Then, Optional, Unwritten, Written}
 use Rattle.saw_model.specs.Places.{Mark, Begins, Enters, Leaves, Names, Reads, Declares, Local, Sets, Emits, Index, Indexed, Weighted, Unweighted}
-use Rattle.saw_model.specs.Places.{term_marks, value_marks, index_marks, weight_marks, statement_marks, block_marks, What, gives, Turn, In, Out}
+use Rattle.saw_model.specs.Places.{term_marks, value_marks, index_marks, weight_marks, statement_marks, block_marks, optional_marks, What, gives, Turn, In, Out}
 use Rattle.saw_model.specs.Places.{Along, turn, past}
 use Rattle.saw_model.specs.Places.{stays, Known, is_statement, is_local, is_table, how_many}
 
@@ -238,12 +238,16 @@ mutual
       (plain_body (Emits n ∷ all)
       (plain_next (Emits n) all (along_emits n) (plain_both (index_marks 0 is) (Indexed n (length is) ∷ last) (index_plain 0 is) more)))
   statement_body (If t a b) =
-      let second = Enters ∷ (block_marks b ++ Leaves ∷ []) in
+      let second = Enters ∷ (optional_marks b ++ Leaves ∷ []) in
       let first = Enters ∷ (block_marks a ++ Leaves ∷ second) in
       begun (term_marks t ++ first)
       (body_both (term_marks t) first (plain_body (term_marks t) (term_plain t))
-      (block_whole (block_marks a) second (block_body a) (block_whole (block_marks b) [] (block_body b) (plain_body [] plain_none))))
+      (block_whole (block_marks a) second (block_body a) (block_whole (optional_marks b) [] (optional_body b) (plain_body [] plain_none))))
 
   pub block_body : (b : Block) → IsBody (block_marks b)
   block_body End = plain_body [] plain_none
   block_body (Then c b) = body_both (statement_marks c) (block_marks b) (statement_body c) (block_body b)
+
+  pub optional_body : (o : Optional) → IsBody (optional_marks o)
+  optional_body Unwritten = plain_body [] plain_none
+  optional_body (Written b) = block_body b

@@ -15,11 +15,11 @@ use Rattle.river_plan.specs.declared.plan.TableDecl.{TableDecl}
 use Rattle.river_plan.proofs.NameLemmas.{name_same}
 use Rattle.brooklet_model.specs.Machine.{at_name}
 use Rattle.saw_text.specs.Tree.{Expression}
-use Rattle.saw_text.specs.Tree.{Statement, Declare, Assign, Emit, If, Block, End, Then}
-use Rattle.saw_model.specs.Meaning.{eval, State, eval_or, eval_all, listed, parts_of, exec, exec_block, reach}
-use Rattle.saw_model.specs.Meaning.{reach_all, reach_statement, reach_block}
+use Rattle.saw_text.specs.Tree.{Statement, Declare, Assign, Emit, If, Block, End, Then, Optional, Unwritten, Written}
+use Rattle.saw_model.specs.Meaning.{eval, State, eval_or, eval_all, listed, parts_of, exec, exec_block, exec_optional, reach}
+use Rattle.saw_model.specs.Meaning.{reach_all, reach_statement, reach_block, reach_optional}
 use Rattle.saw_model.specs.Elaborate.{Shape, Limit, on_ok, demand, has_slot, Known, Var, Port, Scope, find, term_of, At, is_new, slot_of, port_of, first_term}
-use Rattle.saw_model.specs.Elaborate.{indexes_of, keys_in, weight_of, joined, one_step, Read, declared, emitted, step_of, steps_of}
+use Rattle.saw_model.specs.Elaborate.{indexes_of, keys_in, weight_of, joined, one_step, Read, declared, emitted, step_of, steps_of, steps_optional}
 use Rattle.saw_model.proofs.Elaborated.{fine, ok_is, ok_parts, demanded, room_for, found_here, found_other, Agrees, IsSound, ArePorts, Keeps, agrees_within}
 use Rattle.saw_model.proofs.Elaborated.{more_slots, keeps_new, sound_var, ports_var, agrees_set, term_is, vals, first_is, indexes_are, weight_is}
 use Rattle.saw_model.proofs.Elaborated.{eval_all-append, reach-append, Grows, grows_same, grows_trans, grows_back, one_more, counted_on, Met, none_met}
@@ -123,26 +123,26 @@ sent_parts t is v w s0 y h =
       made = ok_is _ y f.2;
     }
 
-pub record Forked (t : Expression) (a b : Block) (s0 : At) (y : Steps × At) : Type 0 where
+pub record Forked (t : Expression) (a : Block) (b : Optional) (s0 : At) (y : Steps × At) : Type 0 where
   pub room : nat_lt s0.size 16384 ≡ true
   pub cond : Term
   pub cond_is : term_of s0.scope t ≡ Ok cond
   pub first : Steps × At
   pub first_is : steps_of a (one_more s0) ≡ Ok first
   pub second : Steps × At
-  pub second_is : steps_of b (record (one_more s0) { slots = first.1.slots; size = first.1.size }) ≡ Ok second
+  pub second_is : steps_optional b (record (one_more s0) { slots = first.1.slots; size = first.1.size }) ≡ Ok second
   pub is : (one_step (steps.If cond first.0 second.0), record second.1 { scope = s0.scope }) ≡ y
 
-pub forked_parts : (t : Expression) (a b : Block) (s0 : At) (y : Steps × At) → step_of (If t a b) s0 ≡ fine y → Forked t a b s0 y
+pub forked_parts : (t : Expression) (a : Block) (b : Optional) (s0 : At) (y : Steps × At) → step_of (If t a b) s0 ≡ fine y → Forked t a b s0 y
 forked_parts t a b s0 y h =
     let f3 : At → Term → Steps × At → Steps × At → Read = λ s c p q. Ok (one_step (steps.If c p.0 q.0), record q.1 { scope = s.scope }) in
-    let f2 : At → Term → Steps × At → Read = λ s c p. on_ok (steps_of b (record s { slots = p.1.slots; size = p.1.size })) (f3 s c p) in
+    let f2 : At → Term → Steps × At → Read = λ s c p. on_ok (steps_optional b (record s { slots = p.1.slots; size = p.1.size })) (f3 s c p) in
     let f1 : At → Read = λ s. on_ok (term_of s.scope t) (λ c. on_ok (steps_of a s) (f2 s c)) in
     let c = counted_on s0 f1 y h in
     let s = one_more s0 in
     let d = ok_parts (term_of s0.scope t) (λ c. on_ok (steps_of a s) (f2 s c)) y c in
     let e = ok_parts (steps_of a s) (f2 s d.0) y d.2 in
-    let f = ok_parts (steps_of b (record s { slots = e.0.1.slots; size = e.0.1.size })) (f3 s d.0 e.0) y e.2 in
+    let f = ok_parts (steps_optional b (record s { slots = e.0.1.slots; size = e.0.1.size })) (f3 s d.0 e.0) y e.2 in
     record { room = room_for s0 f1 y h; cond = d.0; cond_is = d.1; first = e.0; first_is = e.1; second = f.0; second_is = f.1; is = ok_is _ y f.2 }
 
 pub record Followed (c : Statement) (b : Block) (s : At) (y : Steps × At) : Type 0 where
@@ -180,7 +180,7 @@ mutual
   grows (If t a b) s y h =
       let d = forked_parts t a b s y h in
       let g = grows_all a (one_more s) d.first d.first_is in
-      let k = grows_all b (second_at s d.first) d.second d.second_is in
+      let k = grows_optional b (second_at s d.first) d.second d.second_is in
       subst (λ (q : Steps × At). Grows s q.1) d.is (grows_back s d.second.1 (let m = g.slots in let n = k.slots in omega (arith, m, n)) k.tables)
 
   pub grows_all : (b : Block) (s : At) (y : Steps × At) → steps_of b s ≡ fine y → Grows s y.1
@@ -188,6 +188,10 @@ mutual
   grows_all (Then c b) s y h =
       let d = followed_parts c b s y h in
       subst (λ (q : Steps × At). Grows s q.1) d.is (grows_trans s d.first.1 d.others.1 (grows c s d.first d.first_is) (grows_all b d.first.1 d.others d.others_is))
+
+  pub grows_optional : (o : Optional) (s : At) (y : Steps × At) → steps_optional o s ≡ fine y → Grows s y.1
+  grows_optional Unwritten s y h = subst (λ (q : Steps × At). Grows s q.1) (ok_is (Done, s) y h) (grows_same s s refl refl refl)
+  grows_optional (Written b) s y h = grows_all b s y h
 
 -- THE RUN
 
@@ -270,19 +274,19 @@ module _ (w : ℕ) (r : List ℤ) (ts : List TableDecl) where
     met (If t a o) s y now mem h b k len =
         let d = forked_parts t a o s y h in
         let g = grows_all a (one_more s) d.first d.first_is in
-        let e = grows_all o (second_at s d.first) d.second d.second_is in
+        let e = grows_optional o (second_at s d.first) d.second d.second_is in
         let last : d.second.1.slots ≤ length mem = subst (λ (q : Steps × At). q.1.slots ≤ length mem) (sym d.is) len in
         let l1 : d.first.1.slots ≤ length mem = (let x = e.slots in omega (arith, x, last)) in
         let b1 : reach t ≤ w = omega (arith, b) in
         let b2 : reach_block a ≤ w = omega (arith, b) in
-        let b3 : reach_block o ≤ w = omega (arith, b) in
+        let b3 : reach_optional o ≤ w = omega (arith, b) in
         let cond = term_is w r s.scope t now.values mem d.cond b1 k.agrees d.cond_is in
         let k1 : Ready (one_more s) now mem = record { sound = k.sound; ports = k.ports; agrees = k.agrees } in
         let k2 : Ready (second_at s d.first) now mem = record { sound = more_slots s.scope s.slots d.first.1.slots g.slots k.sound; ports = k.ports; agrees = k.agrees } in
         let m1 = within now (exec_block a r now) s.scope d.first.1.scope (ran d.first.0 (take w r) mem) g.keeps (met_all a (one_more s) d.first now mem d.first_is b2 k1 l1) in
-        let m2 = within now (exec_block o r now) s.scope d.second.1.scope (ran d.second.0 (take w r) mem) e.keeps (met_all o (second_at s d.first) d.second now mem d.second_is b3 k2 last) in
+        let m2 = within now (exec_optional o r now) s.scope d.second.1.scope (ran d.second.0 (take w r) mem) e.keeps (met_optional o (second_at s d.first) d.second now mem d.second_is b3 k2 last) in
         let both : Met ts now (exec (If t a o) r now) s.scope (ran_once (steps.If d.cond d.first.0 d.second.0) (take w r) mem) =
-        if_met (λ n q. Met ts now n s.scope q) (is_true (eval t r now.values)) (is_true (val d.cond (take w r) mem)) (exec_block a r now) (exec_block o r now) (ran d.first.0 (take w r) mem) (ran d.second.0 (take w r) mem) (ap is_true cond) m1 m2
+        if_met (λ n q. Met ts now n s.scope q) (is_true (eval t r now.values)) (is_true (val d.cond (take w r) mem)) (exec_block a r now) (exec_optional o r now) (ran d.first.0 (take w r) mem) (ran d.second.0 (take w r) mem) (ap is_true cond) m1 m2
         in
         subst (λ (q : Steps × At). MetBy s now (exec (If t a o) r now) q mem) d.is
         (subst (Met ts now (exec (If t a o) r now) s.scope) (one_ran (steps.If d.cond d.first.0 d.second.0) (take w r) mem) both)
@@ -305,3 +309,9 @@ module _ (w : ℕ) (r : List ℤ) (ts : List TableDecl) where
         let n = met_all o d.first.1 d.others (exec c r now) mem' d.others_is b2 (ready_after s now (exec c r now) d.first mem k g m) (omega (arith, last, size)) in
         subst (λ (q : Steps × At). MetBy s now (exec_block (Then c o) r now) q mem) d.is
         (met_more w r ts now (exec c r now) (exec_block o r (exec c r now)) d.first.1.scope d.others.1.scope d.first.0 d.others.0 mem m n)
+
+    pub met_optional : (o : Optional) (s : At) (y : Steps × At) (now : State) (mem : List ℤ) → steps_optional o s ≡ fine y → reach_optional o ≤ w → Ready s now mem
+        → y.1.slots ≤ length mem → MetBy s now (exec_optional o r now) y mem
+    met_optional Unwritten s y now mem h b k len =
+        subst (λ (q : Steps × At). MetBy s now now q mem) (ok_is (Done, s) y h) (none_met w r ts now now s.scope mem refl k.agrees)
+    met_optional (Written o) s y now mem h b k len = met_all o s y now mem h b k len

@@ -11,7 +11,7 @@ use Rattle.kern_tables.specs.declared.kind.TableKind.TheVariants.{Sum, Collectio
 use Rattle.river_plan.specs.Forms.{Name}
 use Rattle.saw_text.specs.Tree.{Expression}
 use Rattle.saw_text.specs.Tree as tree
-use Rattle.saw_text.specs.Tree.{Statement, Declare, Assign, Emit, If, Block, End, Then, UnitForm, TableUnit, StatementUnit}
+use Rattle.saw_text.specs.Tree.{Statement, Declare, Assign, Emit, If, Block, End, Then, Optional, Unwritten, Written, UnitForm, TableUnit, StatementUnit}
 use Rattle.saw_model.specs.Meaning.{table_kind, table_decl}
 
 -- why a program is refused
@@ -139,11 +139,15 @@ abbrev mutual
   step_of (If t a b) s0 =
       on_ok (counted s0) (λ s. on_ok (term_of s.scope t) (λ c.
       on_ok (steps_of a s) (λ p.
-      on_ok (steps_of b (record s { slots = p.1.slots; size = p.1.size })) (λ q. Ok (one_step (steps.If c p.0 q.0), record q.1 { scope = s.scope })))))
+      on_ok (steps_optional b (record s { slots = p.1.slots; size = p.1.size })) (λ q. Ok (one_step (steps.If c p.0 q.0), record q.1 { scope = s.scope })))))
 
   pub steps_of : Block → At → Read
   steps_of End s = Ok (Done, s)
   steps_of (Then c b) s = on_ok (step_of c s) (λ p. on_ok (steps_of b p.1) (λ q. Ok (joined p.0 q.0, q.1)))
+
+  pub steps_optional : Optional → At → Read
+  steps_optional Unwritten s = Ok (Done, s)
+  steps_optional (Written b) s = steps_of b s
 
 -- a maximum keeps 1 to 1,000,000 rows for each key
 abbrev pub is_best : TableKind → Bool

@@ -13,7 +13,7 @@ use Rattle.kern_tables.specs.declared.kind.TableKind.{TableKind}
 use Rattle.river_plan.specs.declared.plan.TableDecl.{TableDecl}
 use Rattle.river_plan.specs.Forms.{Name}
 use Rattle.brooklet_model.specs.Machine.{at_name}
-use Rattle.saw_text.specs.Tree.{Expression, Statement, Declare, Assign, Emit, If, Block, End, Then, TableForm, UnitForm, TableUnit, StatementUnit, Program}
+use Rattle.saw_text.specs.Tree.{Expression, Statement, Declare, Assign, Emit, If, Block, End, Then, Optional, Unwritten, Written, TableForm, UnitForm, TableUnit, StatementUnit, Program}
 use Rattle.saw_text.specs.Tree as tree
 use Rattle.saw_text.specs.declared.tree.Kind.{Kind}
 use Rattle.saw_text.specs.declared.tree.Kind.TheVariants as code
@@ -82,11 +82,15 @@ abbrev mutual
   exec (Declare n t) r s = record s { values = at_name n (eval_or (pos 0) t r s.values) s.values }
   exec (Assign n t) r s = record s { values = at_name n (eval t r s.values) s.values }
   exec (Emit t is v w) r s = record s { emitted = s.emitted ++ (t, eval_all (parts_of is v w) r s.values) ∷ [] }
-  exec (If t a b) r s = if is_true (eval t r s.values) then exec_block a r s else exec_block b r s
+  exec (If t a b) r s = if is_true (eval t r s.values) then exec_block a r s else exec_optional b r s
 
   pub exec_block : Block → List ℤ → State → State
   exec_block End r s = s
   exec_block (Then c b) r s = exec_block b r (exec c r s)
+
+  pub exec_optional : Optional → List ℤ → State → State
+  exec_optional Unwritten r s = s
+  exec_optional (Written b) r s = exec_block b r s
 
 abbrev pub exec_units : Program → List ℤ → State → State
 exec_units [] r s = s
@@ -130,11 +134,15 @@ abbrev mutual
   reach_statement (Declare n t) = reach_all (listed t)
   reach_statement (Assign n t) = reach t
   reach_statement (Emit t is v w) = reach_all (parts_of is v w)
-  reach_statement (If t a b) = max (reach t) (max (reach_block a) (reach_block b))
+  reach_statement (If t a b) = max (reach t) (max (reach_block a) (reach_optional b))
 
   pub reach_block : Block → ℕ
   reach_block End = 0
   reach_block (Then c b) = max (reach_statement c) (reach_block b)
+
+  pub reach_optional : Optional → ℕ
+  reach_optional Unwritten = 0
+  reach_optional (Written b) = reach_block b
 
 abbrev pub reach_parts : Program → ℕ
 reach_parts [] = 0

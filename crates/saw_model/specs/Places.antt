@@ -5,7 +5,7 @@ use Rattle.river_plan.specs.Forms.{Name}
 use Rattle.river_plan.specs.Names.{one_if}
 use Rattle.saw_text.specs.Tree.{Expression}
 use Rattle.saw_text.specs.Tree as tree
-use Rattle.saw_text.specs.Tree.{Statement, Declare, Assign, Emit, If, Block, End, Then, UnitForm, TableUnit, StatementUnit, Program}
+use Rattle.saw_text.specs.Tree.{Statement, Declare, Assign, Emit, If, Block, End, Then, Optional, Unwritten, Written, UnitForm, TableUnit, StatementUnit, Program}
 use Rattle.saw_model.specs.Meaning.{table_kind}
 
 -- WHAT IS READ
@@ -60,11 +60,16 @@ abbrev mutual
   statement_marks (Declare n t) = Begins ∷ Declares n ∷ (value_marks t ++ Local n ∷ [])
   statement_marks (Assign n t) = Begins ∷ Sets n ∷ term_marks t
   statement_marks (Emit n is v w) = Begins ∷ Emits n ∷ (index_marks 0 is ++ Indexed n (length is) ∷ (term_marks v ++ weight_marks n w))
-  statement_marks (If t a b) = Begins ∷ (term_marks t ++ Enters ∷ (block_marks a ++ Leaves ∷ Enters ∷ (block_marks b ++ Leaves ∷ [])))
+  statement_marks (If t a b) = Begins ∷ (term_marks t ++ Enters ∷ (block_marks a ++ Leaves ∷ Enters ∷ (optional_marks b ++ Leaves ∷ [])))
 
   pub block_marks : Block → List Mark
   block_marks End = []
   block_marks (Then c b) = statement_marks c ++ block_marks b
+
+  -- a missing `else` is an empty block
+  pub optional_marks : Optional → List Mark
+  optional_marks Unwritten = []
+  optional_marks (Written b) = block_marks b
 
 abbrev pub part_marks : UnitForm → List Mark
 part_marks (TableUnit tb) = Tables tb.name (table_kind tb) ∷ []

@@ -12,7 +12,7 @@ use Rattle.text_blocks.specs.Parts.{Round, Square, Ended, FirstValue, round_at, 
 use Rattle.text_blocks.specs.declared.opening.Opening.{Opening}
 use Rattle.text_blocks.specs.declared.opening.Opening.TheVariants.{Branch, Plain}
 use Rattle.saw_text.specs.Expressions.{IsExpression, term_at}
-use Rattle.saw_text.specs.Tree.{Expression, Statement, Declare, Assign, Emit, If, Block, in_turn, or_end}
+use Rattle.saw_text.specs.Tree.{Expression, Statement, Declare, Assign, Emit, If, Block, in_turn, or_unwritten}
 use Rattle.saw_text.specs.Words.{is_user}
 
 -- THE GRAMMAR
@@ -93,7 +93,7 @@ condition_at n = round_at term_at n
 abbrev pub style : Style Expression ⊥ Statement Block
 style = record {
   opening = opening;
-  branch = λ c a b. If c a (or_end b);
+  branch = λ c a b. If c a (or_unwritten b);
   loop = λ h b. absurd h;
   block = in_turn;
   condition = condition_at;

@@ -40,11 +40,16 @@ mutual
     Assign : List ℕ → Expression → Statement
     -- the table, the indexes, the value, the weight
     Emit : List ℕ → List Expression → Expression → Option Expression → Statement
-    If : Expression → Block → Block → Statement
+    If : Expression → Block → Optional → Statement
 
   pub data Block : Type 0 where
     End : Block
     Then : Statement → Block → Block
+
+  -- what may be written behind `else`
+  pub data Optional : Type 0 where
+    Unwritten : Optional
+    Written : Block → Optional
 
 -- a table
 pub record TableForm : Type 0 where
@@ -84,16 +89,15 @@ abbrev pub in_turn : List Statement → Block
 in_turn [] = End
 in_turn (s ∷ ss) = Then s (in_turn ss)
 
--- a block that is not written is an empty one
-abbrev pub or_end : Option Block → Block
-or_end None = End
-or_end (Some b) = b
+abbrev pub or_unwritten : Option Block → Optional
+or_unwritten None = Unwritten
+or_unwritten (Some b) = Written b
 
 abbrev pub statement_at : Statement-F Statement Block → Statement
 statement_at (layer.Declare name value) = Declare name (option_expression value)
 statement_at (layer.Assign name value) = Assign name (expression value)
 statement_at (layer.Emit table indexes value weight) = Emit table (map expression indexes.items) (expression value) (option_expression weight)
-statement_at (layer.If cond one two) = If (expression cond) one (or_end two)
+statement_at (layer.If cond one two) = If (expression cond) one (or_unwritten two)
 
 abbrev pub block_at : Block-F Statement Block → Block
 block_at all = in_turn all.statements.items

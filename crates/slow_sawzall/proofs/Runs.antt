@@ -5,9 +5,9 @@ use Rattle.std.proofs.lemmas.Int.{to_z-of_z}
 use Rattle.std.specs.Prelude.{if◌then◌else◌}
 use Rattle.work_code.specs.Value.{is_true}
 use Rattle.saw_text.specs.Tree.{Expression}
-use Rattle.saw_text.specs.Tree.{Statement, Declare, Assign, Emit, If, Block, End, Then, UnitForm, TableUnit, StatementUnit, Program}
+use Rattle.saw_text.specs.Tree.{Statement, Declare, Assign, Emit, If, Block, End, Then, Optional, Unwritten, Written, UnitForm, TableUnit, StatementUnit, Program}
 use Rattle.saw_model.specs.Meaning.{Values, eval, eval_all, Emitted, State, table_kind, table_decl}
-use Rattle.saw_model.specs.Meaning.{parts_of, listed, exec, exec_block, exec_units, fresh, emits}
+use Rattle.saw_model.specs.Meaning.{parts_of, listed, exec, exec_block, exec_optional, exec_units, fresh, emits}
 use Rattle.saw_model.proofs.Elaborated.{eval_all-append}
 use Rattle.saw_text.specs.declared.tree.Expr.{Expr}
 use Rattle.saw_text.specs.declared.tree.Statement as tree
@@ -39,12 +39,16 @@ mutual
       let e = append_assoc es s.emitted ((t, eval_all (parts_of is v w) r s.values) ∷ []) in
       λ i. record { values = s.values; emitted = e i }
   exec-behind (If t a b) r es s =
-      if_behind (is_true (eval t r s.values)) es (exec_block a r (behind es s)) (exec_block b r (behind es s)) (exec_block a r s) (exec_block b r s)
-      (exec_block-behind a r es s) (exec_block-behind b r es s)
+      if_behind (is_true (eval t r s.values)) es (exec_block a r (behind es s)) (exec_optional b r (behind es s)) (exec_block a r s) (exec_optional b r s)
+      (exec_block-behind a r es s) (exec_optional-behind b r es s)
 
   exec_block-behind : (b : Block) (r : List ℤ) (es : List Emitted) (s : State) → exec_block b r (behind es s) ≡ behind es (exec_block b r s)
   exec_block-behind End r es s = refl
   exec_block-behind (Then c b) r es s = ap (exec_block b r) (exec-behind c r es s) ∙ exec_block-behind b r es (exec c r s)
+
+  exec_optional-behind : (o : Optional) (r : List ℤ) (es : List Emitted) (s : State) → exec_optional o r (behind es s) ≡ behind es (exec_optional o r s)
+  exec_optional-behind Unwritten r es s = refl
+  exec_optional-behind (Written b) r es s = exec_block-behind b r es s
 
 exec_units-behind : (p : Program) (r : List ℤ) (es : List Emitted) (s : State) → exec_units p r (behind es s) ≡ behind es (exec_units p r s)
 exec_units-behind [] r es s = refl
@@ -85,9 +89,11 @@ module _ (all : Program) (us : List unit.Unit) (i : ℕ) (u : unit.Unit) (r : Li
   pub part_runnable : IsRunnablePart here
   part_runnable = split.runnable.0
 
+  -- one unit more
   pub parts_next : (next : State) → next ≡ do_part here r now → PartsLeft all rest r first next
   parts_next next is = record { done = ap (exec_units rest r) is ∙ sym (exec_units-cons here rest r now) ∙ split.done; runnable = split.runnable.1 }
 
+-- behind the last unit the record was run
 pub parts_end : (all : Program) (us : List unit.Unit) (i : ℕ) (r : List ℤ) (first now : State) → length us ≤ i
     → PartsLeft all (unit_forms (drop i us)) r first now → now ≡ exec_units all r first
 parts_end all us i r first now le f = ap (λ p. exec_units p r now) (sym (parts_none us i le)) ∙ f.done
@@ -110,9 +116,11 @@ module _ (all : List Statement) (ss : List tree.Statement) (i : ℕ) (s : tree.S
   pub statement_runnable : IsRunnable (statement s)
   statement_runnable = cut.runnable.0
 
+  -- one statement more
   pub block_next : (next : State) → next ≡ exec (statement s) r now → BlockLeft all others r first next
   block_next next is = record { done = ap (exec_block (in_turn others) r) is ∙ cut.done; runnable = cut.runnable.1 }
 
+-- behind the last statement the block was run
 pub block_end : (all : List Statement) (ss : List tree.Statement) (i : ℕ) (r : List ℤ) (first now : State) → length ss ≤ i
     → BlockLeft all (map statement (drop i ss)) r first now → now ≡ exec_block (in_turn all) r first
 block_end all ss i r first now le f = ap (λ l. exec_block (in_turn l) r now) (sym (none_left statement ss i le)) ∙ f.done
@@ -145,11 +153,12 @@ emit_values is v w r env a b c ea eb ec =
     ∙ append_assoc (eval_all is r env) (eval v r env ∷ []) (eval_all (listed w) r env)
     ∙ sym (eval_all-append 0 r is (v ∷ listed w) env)
 
-pub said_many : (ts : List Expression) (r : List ℤ) (env : Values) → length (eval_all ts r env) ≡ length ts
-said_many [] r env = refl
-said_many (t ∷ ts) r env = let e = said_many ts r env in omega (arith, e)
+-- a list of expressions has as many values
+pub evals_many : (ts : List Expression) (r : List ℤ) (env : Values) → length (eval_all ts r env) ≡ length ts
+evals_many [] r env = refl
+evals_many (t ∷ ts) r env = let e = evals_many ts r env in omega (arith, e)
 
 -- the row of an emit is as long as it has parts
 pub row_few : (is : List Expression) (v : Expression) (w : Option Expression) (r : List ℤ) (env : Values) (xs : List ℤ) → xs ≡ eval_all (parts_of is v w) r env
     → length (parts_of is v w) ≤ 16 → length xs ≤ 16
-row_few is v w r env xs e le = let m = said_many (parts_of is v w) r env in let l = ap length e in omega (arith, m, l, le)
+row_few is v w r env xs e le = let m = evals_many (parts_of is v w) r env in let l = ap length e in omega (arith, m, l, le)

@@ -38,6 +38,7 @@ row_other n e es h = ap (λ b. if b then e.1 ∷ rows_for n es else rows_for n e
 pub new_kind : (kind : TableKind) (table : Kept) → table ≡ kept_of kind [] → kind_of table ≡ kind
 new_kind kind table e = ap kind_of e ∙ (tables_keep_adds kind).kind_is []
 
+-- a table to which nothing was emitted
 pub new_none : (kind : TableKind) (table : Kept) → table ≡ kept_of kind [] → table ≡ kept_of (kind_of table) []
 new_none kind table e = e ∙ ap (λ k. kept_of k []) (sym (new_kind kind table e))
 
@@ -85,6 +86,7 @@ module _ (kind : TableKind) (n : Name) (es : List Emitted) (i : ℕ) (e : Emitte
     wide = subst (AreWide (table_width kind)) (row_other n e (drop (i + 1) es) h) left;
   }
 
+-- behind the last row all were added
 pub added_end : (kind : TableKind) (n : Name) (es : List Emitted) (i : ℕ) (table : Kept) → length es ≤ i → AddedSoFar kind n es i table
     → rows_of table ≡ tab kind (rows_for n es)
 added_end kind n es i table le f = ap rows_of f.kept ∙ (tables_keep_adds kind).rows (rows_for n (take i es))
@@ -115,6 +117,7 @@ module _ (all : Program) (us : List unit.Unit) (i : ℕ) (u : unit.Unit) (es : L
   pub table_wide : IsWideFor here es
   table_wide = split.wide.0
 
+  -- one table more
   pub tables_next : (next : List Kept) → map rows_of next ≡ map rows_of made ++ tables_for (here ∷ []) es → TablesLeft all rest es next
   tables_next next is = record {
     done = ap (λ l. l ++ tables_for rest es) is ∙ append_assoc (map rows_of made) (tables_for (here ∷ []) es) (tables_for rest es)
@@ -122,6 +125,7 @@ module _ (all : Program) (us : List unit.Unit) (i : ℕ) (u : unit.Unit) (es : L
     wide = split.wide.1;
   }
 
+-- behind the last unit all tables are made
 pub tables_end : (all : Program) (us : List unit.Unit) (i : ℕ) (es : List Emitted) (made : List Kept) → length us ≤ i
     → TablesLeft all (unit_forms (drop i us)) es made → map rows_of made ≡ tables_for all es
 tables_end all us i es made le f = sym (append-nil (map rows_of made)) ∙ ap (λ p. map rows_of made ++ tables_for p es) (sym (parts_none us i le)) ∙ f.done

@@ -14,17 +14,17 @@ use Rattle.river_plan.specs.Forms.{Name, table_names}
 use Rattle.river_plan.specs.declared.plan.TableDecl.{TableDecl}
 use Rattle.river_plan.proofs.NameLemmas.{cases_bool, name_is}
 use Rattle.saw_text.specs.Tree.{Expression}
-use Rattle.saw_text.specs.Tree.{Statement, Declare, Assign, Emit, If, Block, End, Then, TableUnit, StatementUnit, Program}
+use Rattle.saw_text.specs.Tree.{Statement, Declare, Assign, Emit, If, Block, End, Then, Optional, Unwritten, Written, TableUnit, StatementUnit, Program}
 use Rattle.saw_model.specs.Meaning.{tables_in, eval, eval_all, Emitted, State, table_kind, table_decl}
-use Rattle.saw_model.specs.Meaning.{parts_of, listed, exec, exec_block, exec_units, fresh, emits, rows_for}
-use Rattle.saw_model.specs.Elaborate.{Limit, on_ok, Scope, term_of, At, indexes_of, keys_in, weight_of, step_of, steps_of, nothing_read}
+use Rattle.saw_model.specs.Meaning.{parts_of, listed, exec, exec_block, exec_optional, exec_units, fresh, emits, rows_for}
+use Rattle.saw_model.specs.Elaborate.{Limit, on_ok, Scope, term_of, At, indexes_of, keys_in, weight_of, step_of, steps_of, steps_optional, nothing_read}
 use Rattle.saw_model.proofs.Elaborated.{fine, ok_parts, if_both, some_is, ArePorts, one_more}
 use Rattle.saw_model.proofs.Fed.{AreOnce, one_place}
 use Rattle.saw_model.proofs.Parts.{parts_read, reads_parts, tabled_parts, split_parts, tables_once, got_here, ports_new}
 use Rattle.saw_model.proofs.Statements.{second_at, Sent, sent_parts, forked_parts, followed_parts, grows}
-use Rattle.saw_build.specs.Valued.{IsValued, AreValued, AreValuedParts}
-use Rattle.slow_sawzall.specs.Sawzall.{IsAccepted, IsRunnable, AreRunnable, AreRunnableParts, AreWide, AreWideFor}
-use Rattle.slow_sawzall.proofs.Runs.{said_many}
+use Rattle.saw_build.specs.Valued.{IsValued, AreValued, AreValuedOptional, AreValuedParts}
+use Rattle.slow_sawzall.specs.Sawzall.{IsAccepted, IsRunnable, AreRunnable, AreRunnableOptional, AreRunnableParts, AreWide, AreWideFor}
+use Rattle.slow_sawzall.proofs.Runs.{evals_many}
 
 -- THE PARTS OF AN EMIT
 
@@ -77,13 +77,17 @@ mutual
   step_runs (Emit t is x w) s y h v = (v.0, v.1, v.2, sent_few t is x w s y (sent_parts t is x w s y h))
   step_runs (If t a b) s y h v =
       let d = forked_parts t a b s y h in
-      (v.0, steps_run a (one_more s) d.first d.first_is v.1, steps_run b (second_at s d.first) d.second d.second_is v.2)
+      (v.0, steps_run a (one_more s) d.first d.first_is v.1, optional_runs b (second_at s d.first) d.second d.second_is v.2)
 
   steps_run : (b : Block) (s : At) (y : Steps × At) → steps_of b s ≡ fine y → AreValued b → AreRunnable b
   steps_run End s y h v = tt
   steps_run (Then c b) s y h v =
       let d = followed_parts c b s y h in
       (step_runs c s d.first d.first_is v.0, steps_run b d.first.1 d.others d.others_is v.1)
+
+  optional_runs : (o : Optional) (s : At) (y : Steps × At) → steps_optional o s ≡ fine y → AreValuedOptional o → AreRunnableOptional o
+  optional_runs Unwritten s y h v = tt
+  optional_runs (Written b) s y h v = steps_run b s y h v
 
 parts_run : (p : Program) (s : At) (y : Steps × At) → parts_read p s ≡ fine y → AreValuedParts p → AreRunnableParts p
 parts_run [] s y h v = tt
@@ -108,11 +112,15 @@ module _ (ts : List TableDecl) where
     IsStepWide (Declare n t) = Unit {0}
     IsStepWide (Assign n t) = Unit {0}
     IsStepWide (Emit t is v w) = IsTableWide ts t (length (parts_of is v w))
-    IsStepWide (If t a b) = AreStepsWide a × AreStepsWide b
+    IsStepWide (If t a b) = AreStepsWide a × IsOptionalWide b
 
     AreStepsWide : Block → Type 0
     AreStepsWide End = Unit {0}
     AreStepsWide (Then c b) = IsStepWide c × AreStepsWide b
+
+    IsOptionalWide : Optional → Type 0
+    IsOptionalWide Unwritten = Unit {0}
+    IsOptionalWide (Written b) = AreStepsWide b
 
   abbrev ArePartsWide : Program → Type 0
   ArePartsWide [] = Unit {0}
@@ -150,13 +158,17 @@ module _ (ts : List TableDecl) where
     step_wide once (Emit t is v w) s y h a = sent_wide once t is v w s y (sent_parts t is v w s y h) a
     step_wide once (If t x z) s y h a =
         let d = forked_parts t x z s y h in
-        (steps_wide once x (one_more s) d.first d.first_is a, steps_wide once z (second_at s d.first) d.second d.second_is a)
+        (steps_wide once x (one_more s) d.first d.first_is a, optional_wide once z (second_at s d.first) d.second d.second_is a)
 
     steps_wide : AreOnce (table_names ts) → (b : Block) (s : At) (y : Steps × At) → steps_of b s ≡ fine y → ArePorts ts s.scope → AreStepsWide b
     steps_wide once End s y h a = tt
     steps_wide once (Then c b) s y h a =
         let d = followed_parts c b s y h in
         (step_wide once c s d.first d.first_is a, steps_wide once b d.first.1 d.others d.others_is ((grows c s d.first d.first_is).ports ts a))
+
+    optional_wide : AreOnce (table_names ts) → (o : Optional) (s : At) (y : Steps × At) → steps_optional o s ≡ fine y → ArePorts ts s.scope → IsOptionalWide o
+    optional_wide once Unwritten s y h a = tt
+    optional_wide once (Written b) s y h a = steps_wide once b s y h a
 
   parts_wide : AreOnce (table_names ts) → (p : Program) (s : At) (y : Steps × At) (done : List TableDecl) → parts_read p s ≡ fine y
       → ArePorts ts s.scope → ts ≡ done ++ tables_in p → s.tables ≡ length done → ArePartsWide p
@@ -189,27 +201,31 @@ module _ (ts : List TableDecl) where
   if_wide false x y h k = k
 
   mutual
-    does_wide : (c : Statement) (r : List ℤ) (s : State) → IsStepWide c → AreRowsWide s.emitted → AreRowsWide (exec c r s).emitted
-    does_wide (Declare n t) r s h k = k
-    does_wide (Assign n t) r s h k = k
-    does_wide (Emit t is v w) r s h k =
+    exec_wide : (c : Statement) (r : List ℤ) (s : State) → IsStepWide c → AreRowsWide s.emitted → AreRowsWide (exec c r s).emitted
+    exec_wide (Declare n t) r s h k = k
+    exec_wide (Assign n t) r s h k = k
+    exec_wide (Emit t is v w) r s h k =
         let parts = parts_of is v w in
-        let one : IsTableWide ts t (length (eval_all parts r s.values)) = subst (IsTableWide ts t) (sym (said_many parts r s.values)) h in
+        let one : IsTableWide ts t (length (eval_all parts r s.values)) = subst (IsTableWide ts t) (sym (evals_many parts r s.values)) h in
         wide-append s.emitted ((t, eval_all parts r s.values) ∷ []) k (one, tt)
-    does_wide (If t a b) r s h k = if_wide (is_true (eval t r s.values)) (exec_block a r s) (exec_block b r s) (do_all_wide a r s h.0 k) (do_all_wide b r s h.1 k)
+    exec_wide (If t a b) r s h k = if_wide (is_true (eval t r s.values)) (exec_block a r s) (exec_optional b r s) (exec_block_wide a r s h.0 k) (exec_optional_wide b r s h.1 k)
 
-    do_all_wide : (b : Block) (r : List ℤ) (s : State) → AreStepsWide b → AreRowsWide s.emitted → AreRowsWide (exec_block b r s).emitted
-    do_all_wide End r s h k = k
-    do_all_wide (Then c b) r s h k = do_all_wide b r (exec c r s) h.1 (does_wide c r s h.0 k)
+    exec_block_wide : (b : Block) (r : List ℤ) (s : State) → AreStepsWide b → AreRowsWide s.emitted → AreRowsWide (exec_block b r s).emitted
+    exec_block_wide End r s h k = k
+    exec_block_wide (Then c b) r s h k = exec_block_wide b r (exec c r s) h.1 (exec_wide c r s h.0 k)
 
-  do_parts_wide : (p : Program) (r : List ℤ) (s : State) → ArePartsWide p → AreRowsWide s.emitted → AreRowsWide (exec_units p r s).emitted
-  do_parts_wide [] r s h k = k
-  do_parts_wide (TableUnit tb ∷ ps) r s h k = do_parts_wide ps r s h k
-  do_parts_wide (StatementUnit c ∷ ps) r s h k = do_parts_wide ps r (exec c r s) h.1 (does_wide c r s h.0 k)
+    exec_optional_wide : (o : Optional) (r : List ℤ) (s : State) → IsOptionalWide o → AreRowsWide s.emitted → AreRowsWide (exec_optional o r s).emitted
+    exec_optional_wide Unwritten r s h k = k
+    exec_optional_wide (Written b) r s h k = exec_block_wide b r s h k
+
+  exec_units_wide : (p : Program) (r : List ℤ) (s : State) → ArePartsWide p → AreRowsWide s.emitted → AreRowsWide (exec_units p r s).emitted
+  exec_units_wide [] r s h k = k
+  exec_units_wide (TableUnit tb ∷ ps) r s h k = exec_units_wide ps r s h k
+  exec_units_wide (StatementUnit c ∷ ps) r s h k = exec_units_wide ps r (exec c r s) h.1 (exec_wide c r s h.0 k)
 
   all_wide : (p : Program) (rows : List (List ℤ)) → ArePartsWide p → AreRowsWide (flat_map (emits p) rows)
   all_wide p [] h = tt
-  all_wide p (r ∷ rs) h = wide-append (emits p r) (flat_map (emits p) rs) (do_parts_wide p r fresh h tt) (all_wide p rs h)
+  all_wide p (r ∷ rs) h = wide-append (emits p r) (flat_map (emits p) rs) (exec_units_wide p r fresh h tt) (all_wide p rs h)
 
   -- TABLE BY TABLE
 

@@ -6,7 +6,7 @@ use Rattle.kern_tables.specs.Tables.{tab, table_width}
 use Rattle.river_plan.specs.Forms.{Name}
 use Rattle.brooklet_model.specs.Machine.{at_name}
 use Rattle.saw_text.specs.Tree.{Expression}
-use Rattle.saw_text.specs.Tree.{Statement, Declare, Assign, Emit, If, Block, End, Then, UnitForm, TableUnit, StatementUnit, Program}
+use Rattle.saw_text.specs.Tree.{Statement, Declare, Assign, Emit, If, Block, End, Then, Optional, Unwritten, Written, UnitForm, TableUnit, StatementUnit, Program}
 use Rattle.saw_model.specs.Meaning.{tables_in, Values, Emitted, State, listed, table_kind, table_decl}
 use Rattle.saw_model.specs.Meaning.{parts_of, exec, rows_for}
 use Rattle.saw_model.specs.Elaborate.{At}
@@ -49,11 +49,15 @@ abbrev mutual
   IsRunnable (Declare n t) = AllValues (listed t)
   IsRunnable (Assign n t) = AreValues t
   IsRunnable (Emit t is v w) = AreEmitted is v w
-  IsRunnable (If t a b) = AreValues t × AreRunnable a × AreRunnable b
+  IsRunnable (If t a b) = AreValues t × AreRunnable a × AreRunnableOptional b
 
   pub AreRunnable : Block → Type 0
   AreRunnable End = Unit {0}
   AreRunnable (Then c b) = IsRunnable c × AreRunnable b
+
+  pub AreRunnableOptional : Optional → Type 0
+  AreRunnableOptional Unwritten = Unit {0}
+  AreRunnableOptional (Written b) = AreRunnable b
 
 abbrev pub IsRunnablePart : UnitForm → Type 0
 IsRunnablePart (TableUnit tb) = Unit {0}

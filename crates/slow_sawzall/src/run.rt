@@ -1,11 +1,11 @@
 // What a Sawzall program does for a record, statement by statement.
 ghost use Rattle.std.specs.Prelude.{◌≡◌, [], ◌++◌, flat_map, length, IfOk, OnOk};
 ghost use Rattle.saw_text.specs.Tree.{Declare, Assign, Emit};
-ghost use Rattle.saw_model.specs.Meaning.{eval_all, parts_of, listed, exec, exec_block, exec_units, emits};
-ghost use Rattle.saw_text.specs.Tree.{expression, option_expression, statement, block, or_end, unit_form, unit_forms};
+ghost use Rattle.saw_model.specs.Meaning.{eval_all, parts_of, listed, exec, exec_block, exec_optional, exec_units, emits};
+ghost use Rattle.saw_text.specs.Tree.{expression, option_expression, statement, block, or_unwritten, unit_form, unit_forms};
 ghost use Rattle.saw_text.specs.View.{expressions, option_block};
 ghost use Rattle.saw_build.specs.Valued.{AreValues, AllValues};
-ghost use Rattle.slow_sawzall.specs.Sawzall.{values_of, now_of, do_part, AreEmitted, IsRunnable, AreRunnable, IsRunnablePart, AreRunnableParts};
+ghost use Rattle.slow_sawzall.specs.Sawzall.{values_of, now_of, do_part, AreEmitted, IsRunnable, AreRunnable, AreRunnableOptional, IsRunnablePart, AreRunnableParts};
 
 use crate::value::{first_value, set, value};
 use river_base::{Name, NoMemory, Row};
@@ -113,8 +113,8 @@ impl Run {
     // The statements behind `else`, where it is written.
     #[cycle(statements)]
     fn otherwise(&mut self, alloc: Global, no: &Option<Block>, row: &Row) -> Result<(), NoMemory>
-        requires { AreRunnable (or_end (option_block no.now)) }
-        ensures { OnOk result (now_of self.new ≡ exec_block (or_end (option_block no.now)) row.now (now_of self.old)) }
+        requires { AreRunnableOptional (or_unwritten (option_block no.now)) }
+        ensures { OnOk result (now_of self.new ≡ exec_optional (or_unwritten (option_block no.now)) row.now (now_of self.old)) }
     {
         match no {
             None => Ok(()),

@@ -14,7 +14,7 @@ reach_block-loop-s-preserved t c =
     let s = c.s-item.result in
     so_far_next c.loop-s.most (reach_statement (statement s)) (reach_block (in_turn (map statement (drop (i + 1) items)))) (reach_block (in_turn (map statement items))) c.greater-most.result
     (ap (λ l. max c.loop-s.most (reach_block (in_turn l))) (sym (at_place statement items i s (omega arith) c.s-item.is)) ∙ c.loop-s.invariant)
-    (c.greater-most.ensures ∙ ap (max c.loop-s.most) c.reach_once.ensures)
+    (c.greater-most.ensures ∙ ap (max c.loop-s.most) c.reach_statement.ensures)
 
 pub reach_block-returns : goal.reach_block-returns
 reach_block-returns t c =

@@ -4,8 +4,8 @@ use Rattle.saw_model.specs.Meaning.{reach_block}
 use Rattle.saw_text.specs.Tree.{statement, in_turn}
 use Rattle.saw_build.proofs.reach.+statements.Given as goal
 
-abbrev pub decreases-reach_once : goal.decreases-reach_once
-decreases-reach_once l = goal.size-reach_once l * 2
+abbrev pub decreases-reach_statement : goal.decreases-reach_statement
+decreases-reach_statement l = goal.size-reach_statement l * 2
 
 abbrev pub decreases-reach_block : goal.decreases-reach_block
 decreases-reach_block l = goal.size-reach_block l * 2
