@@ -15,11 +15,12 @@ use Rattle.river_plan.specs.declared.fault.PlanFault.TheVariants.{P1, P2, P3, P4
 use Rattle.river_plan.specs.declared.plan.Decl.{Decl}
 use Rattle.river_plan.specs.declared.plan.RawPlan.{RawPlan}
 use Rattle.cql_model.specs.Plannable.{IsPlannable, AreQueries, exceeds, declared}
-use Rattle.cql_model.specs.Faults.{IsShortName, AreShort, first_fault, or_refused, refusal_of}
-use Rattle.cql_model.specs.Program as program
-use Rattle.cql_model.specs.Program.{Register, Ask, Program, registered, all_uses}
+use Rattle.cql_model.specs.Faults.{IsShortName, HaveShortNames, first_fault, then_refusal, refusal_of}
+use Rattle.cql_text.specs.Tree as tree
+use Rattle.cql_model.specs.Program.{registered, all_uses}
+use Rattle.cql_text.specs.Tree.{Register, AQuery, Program}
 use Rattle.cql_model.specs.Scopes.{Named}
-use Rattle.cql_model.specs.Translation.{input_decls, input_copies, input_ops, output_decls, ask_decls, ask_ops, ops_of, query_named, plan_of}
+use Rattle.cql_model.specs.Translation.{input_decls, input_copies, input_ops, output_decls, queries_decls, queries_ops, ops_of, query_named, plan_of}
 use Rattle.cql_model.specs.declared.fault.Refusal as model
 use Rattle.cql_model.proofs.OnlyLimits.{only_limits, within_where}
 use Rattle.cql_model.proofs.Valid.{length-uses}
@@ -28,8 +29,8 @@ use Rattle.cql_build.specs.declared.uses.Uses.{Uses}
 use Rattle.cql_build.specs.declared.planning.Refused.{Refused}
 use Rattle.cql_build.specs.declared.planning.Refused.TheVariants as refused
 use Rattle.cql_build.specs.Grown.{Grew}
-use Rattle.cql_build.specs.Planned.{IsRefused, IsLimited, limit_of, refused_of, unit_inputs, unit_copies, unit_copying, IsShortRegistered, IsNarrow}
-use Rattle.cql_build.specs.Views.{part_of, program_of}
+use Rattle.cql_build.specs.Planned.{IsTold, IsLimited, limit_of, refused_of, unit_inputs, unit_copies, unit_copying, IsShortRegistered, IsNarrow}
+use Rattle.cql_text.specs.Tree.{part_of, parts_of}
 use Rattle.cql_build.proofs.Growing.{Left, left_start, left_next, left_is, left_end}
 use Rattle.cql_build.proofs.Lists.{drop_next, drop_all}
 
@@ -59,7 +60,7 @@ if_err_then (Err e) P Q f h = f e h
 
 -- REFUSALS
 
-parts_length : (parts : List Part) → length (program_of parts) ≡ length parts
+parts_length : (parts : List Part) → length (parts_of parts) ≡ length parts
 parts_length [] = refl
 parts_length (p ∷ ps) = let m = parts_length ps in omega (arith, m)
 
@@ -70,7 +71,7 @@ many_exceed p lt = step (exceeds (plan_of p)) refl where
   step true e = refl
   step false e = absurd
       (let h = All-head (λ (n : ℕ). n ≤ 256) (length (ops_of p)) [] (within_where (plan_of p) e Operators) in
-      let a = length-append (input_ops (all_uses p) p) (ask_ops (registered p) (all_uses p) [] [] p) in
+      let a = length-append (input_ops (all_uses p) p) (queries_ops (registered p) (all_uses p) [] [] p) in
       let b = length-uses (registered p) (all_uses p) [] [] p in
       omega (arith, h, a, b, lt))
 
@@ -78,23 +79,23 @@ many_exceed p lt = step (exceeds (plan_of p)) refl where
 pub told_limit : (p : Program) (form : PlanForm) → IsPlannable p → form ≡ plan_of p → (o : Option PlanFault) → FirstFault form o → exceeds form ≡ is_some o
 told_limit p form a e o h = ap exceeds e ∙ (only_limits p o a (subst (λ (x : PlanForm). FirstFault x o) e h)).1
 
-or_none : (a b : Option model.Refusal) → a ≡ None → or_refused a b ≡ b
-or_none a b e = ap (λ x. or_refused x b) e
+or_none : (a b : Option model.Refusal) → a ≡ None → then_refusal a b ≡ b
+or_none a b e = ap (λ x. then_refusal x b) e
 
 -- a program without a fault whose plan exceeds no limit
 pub unrefused : (p : Program) → first_fault [] 0 1 p ≡ None → exceeds (plan_of p) ≡ false → refusal_of p ≡ None
 unrefused p n e = or_none (first_fault [] 0 1 p) _ n ∙ ap (λ b. if b then Some (limit_of (length p)) else None) e
 
 -- and one whose plan exceeds a limit
-pub over_limit : (parts : List Part) → first_fault [] 0 1 (program_of parts) ≡ None → exceeds (plan_of (program_of parts)) ≡ true
-    → refusal_of (program_of parts) ≡ Some (limit_of (length parts))
+pub over_limit : (parts : List Part) → first_fault [] 0 1 (parts_of parts) ≡ None → exceeds (plan_of (parts_of parts)) ≡ true
+    → refusal_of (parts_of parts) ≡ Some (limit_of (length parts))
 over_limit parts n e =
-    or_none (first_fault [] 0 1 (program_of parts)) _ n ∙ ap (λ b. if b then Some (limit_of (length (program_of parts))) else None) e
+    or_none (first_fault [] 0 1 (parts_of parts)) _ n ∙ ap (λ b. if b then Some (limit_of (length (parts_of parts))) else None) e
     ∙ ap (λ m. Some (limit_of m)) (parts_length parts)
 
 -- what is told of the plan is told of the program
-pub limited_refused : (parts : List Part) (form : PlanForm) (r : Refused) → first_fault [] 0 1 (program_of parts) ≡ None → form ≡ plan_of (program_of parts)
-    → IsLimited form (length parts) r → IsRefused (program_of parts) r
+pub limited_refused : (parts : List Part) (form : PlanForm) (r : Refused) → first_fault [] 0 1 (parts_of parts) ≡ None → form ≡ plan_of (parts_of parts)
+    → IsLimited form (length parts) r → IsTold (parts_of parts) r
 limited_refused parts form (refused.Program x) n e h = over_limit parts n (sym (ap exceeds e) ∙ h.0) ∙ ap Some (sym h.1)
 limited_refused parts form refused.NoMemory n e h = tt
 
@@ -106,91 +107,92 @@ narrow_all ks [] h = tt
 narrow_all ks (Register name fields ∷ ps) h = (at_most (length fields) h.0, narrow_all (record { name = name; fields = fields } ∷ ks) ps h.1) where
   at_most : (n : ℕ) → IsTrue (is_width n) → n ≤ 16
   at_most n e = grind (arith, e)
-narrow_all ks (Ask q ∷ ps) h = (tt, narrow_all (query_named ks q ∷ ks) ps h.1)
+narrow_all ks (AQuery q ∷ ps) h = (tt, narrow_all (query_named ks q ∷ ks) ps h.1)
 
-pub narrow_at : (parts : List Part) (i : ℕ) (p : Part) → AllByRecursion IsNarrow (program_of parts) → i < length parts → p ≡ get_or parts i p
+-- each stream of a narrow program is narrow
+pub narrow_at : (parts : List Part) (i : ℕ) (p : Part) → AllByRecursion IsNarrow (parts_of parts) → i < length parts → p ≡ get_or parts i p
     → IsNarrow (part_of p)
 narrow_at [] i p h lt e = absurd (omega (arith, lt))
 narrow_at (q ∷ qs) zero p h lt e = subst (λ (x : Part). IsNarrow (part_of x)) (sym e) h.0
 narrow_at (q ∷ qs) (suc i) p h lt e = narrow_at qs i p h.1 (omega (arith, lt)) e
 
 pub inputs_next : (parts : List Part) (i : ℕ) (p : Part) (start now later : List Decl)
-    → start ++ input_decls (program_of parts) ≡ now ++ input_decls (program_of (drop i parts)) → i < length parts → p ≡ get_or parts i p
-    → later ≡ now ++ unit_inputs (part_of p) → start ++ input_decls (program_of parts) ≡ later ++ input_decls (program_of (drop (i + 1) parts))
+    → start ++ input_decls (parts_of parts) ≡ now ++ input_decls (parts_of (drop i parts)) → i < length parts → p ≡ get_or parts i p
+    → later ≡ now ++ unit_inputs (part_of p) → start ++ input_decls (parts_of parts) ≡ later ++ input_decls (parts_of (drop (i + 1) parts))
 inputs_next parts i p start now later h lt e g =
-    h ∙ ap (λ l. now ++ input_decls (program_of l)) (drop_next parts i p lt e) ∙ ap (λ l. now ++ l) (one (part_of p) (program_of (drop (i + 1) parts)))
-    ∙ sym (append_assoc now (unit_inputs (part_of p)) (input_decls (program_of (drop (i + 1) parts)))) ∙ ap (λ l. l ++ input_decls (program_of (drop (i + 1) parts))) (sym g)
+    h ∙ ap (λ l. now ++ input_decls (parts_of l)) (drop_next parts i p lt e) ∙ ap (λ l. now ++ l) (one (part_of p) (parts_of (drop (i + 1) parts)))
+    ∙ sym (append_assoc now (unit_inputs (part_of p)) (input_decls (parts_of (drop (i + 1) parts)))) ∙ ap (λ l. l ++ input_decls (parts_of (drop (i + 1) parts))) (sym g)
   where
-    one : (p : program.Part) (ps : Program) → input_decls (p ∷ ps) ≡ unit_inputs p ++ input_decls ps
+    one : (p : tree.Part) (ps : Program) → input_decls (p ∷ ps) ≡ unit_inputs p ++ input_decls ps
     one (Register name fields) ps = refl
-    one (Ask q) ps = refl
+    one (AQuery q) ps = refl
 
 -- COPIES
 
 pub record Copying (old now : RawPlan) (all : List Name) (parts : List Part) (i : ℕ) : Type 0 where
-  pub left : Left old now [] [] (input_copies all (program_of parts)) (input_copies all (program_of (drop i parts))) (input_ops all (program_of parts)) (input_ops all (program_of (drop i parts)))
-  pub names : AllByRecursion IsShortName (declared (program_of (drop i parts)))
+  pub left : Left old now [] [] (input_copies all (parts_of parts)) (input_copies all (parts_of (drop i parts))) (input_ops all (parts_of parts)) (input_ops all (parts_of (drop i parts)))
+  pub names : AllByRecursion IsShortName (declared (parts_of (drop i parts)))
 
-pub copying_start : (raw : RawPlan) (all : List Name) (parts : List Part) → AreShort (program_of parts) → Copying raw raw all parts 0
+pub copying_start : (raw : RawPlan) (all : List Name) (parts : List Part) → HaveShortNames (parts_of parts) → Copying raw raw all parts 0
 copying_start raw all parts s = record { left = left_start raw _ _ _; names = s.names }
 
-short_one : (p : program.Part) (ps : Program) → AllByRecursion IsShortName (declared (p ∷ ps)) → IsShortRegistered p × AllByRecursion IsShortName (declared ps)
+short_one : (p : tree.Part) (ps : Program) → AllByRecursion IsShortName (declared (p ∷ ps)) → IsShortRegistered p × AllByRecursion IsShortName (declared ps)
 short_one (Register name fields) ps h = (h.0, h.1)
-short_one (Ask q) ps h = (tt, h.1)
+short_one (AQuery q) ps h = (tt, h.1)
 
 pub copying_short : (old now : RawPlan) (all : List Name) (parts : List Part) (i : ℕ) (p : Part) → Copying old now all parts i → i < length parts
     → p ≡ get_or parts i p → IsShortRegistered (part_of p)
 copying_short old now all parts i p c lt e =
-    (short_one (part_of p) (program_of (drop (i + 1) parts)) (subst (λ (l : List Part). AllByRecursion IsShortName (declared (program_of l))) (drop_next parts i p lt e) c.names)).0
+    (short_one (part_of p) (parts_of (drop (i + 1) parts)) (subst (λ (l : List Part). AllByRecursion IsShortName (declared (parts_of l))) (drop_next parts i p lt e) c.names)).0
 
 pub copying_next : (old now next : RawPlan) (all : List Name) (parts : List Part) (i : ℕ) (p : Part) → Copying old now all parts i → i < length parts
     → p ≡ get_or parts i p
     → Grew now next [] (unit_copies all (part_of p)) (unit_copying all (part_of p)) → Copying old next all parts (i + 1)
 copying_next old now next all parts i p c lt e g =
     let d = drop_next parts i p lt e in
-    let rest = program_of (drop (i + 1) parts) in
+    let rest = parts_of (drop (i + 1) parts) in
     record {
       left = left_next old now next _ [] _ _ (unit_copies all (part_of p)) _ _ (unit_copying all (part_of p)) _
           (left_is old now _ _ [] _ _ (unit_copies all (part_of p) ++ input_copies all rest) _ _ (unit_copying all (part_of p) ++ input_ops all rest) c.left refl
-          (ap (λ l. input_copies all (program_of l)) d ∙ copies_one (part_of p) rest) (ap (λ l. input_ops all (program_of l)) d ∙ ops_one (part_of p) rest)) g;
-      names = (short_one (part_of p) rest (subst (λ (l : List Part). AllByRecursion IsShortName (declared (program_of l))) d c.names)).1;
+          (ap (λ l. input_copies all (parts_of l)) d ∙ copies_one (part_of p) rest) (ap (λ l. input_ops all (parts_of l)) d ∙ ops_one (part_of p) rest)) g;
+      names = (short_one (part_of p) rest (subst (λ (l : List Part). AllByRecursion IsShortName (declared (parts_of l))) d c.names)).1;
     }
   where
-    copies_one : (p : program.Part) (ps : Program) → input_copies all (p ∷ ps) ≡ unit_copies all p ++ input_copies all ps
+    copies_one : (p : tree.Part) (ps : Program) → input_copies all (p ∷ ps) ≡ unit_copies all p ++ input_copies all ps
     copies_one (Register name fields) ps = refl
-    copies_one (Ask q) ps = refl
+    copies_one (AQuery q) ps = refl
 
-    ops_one : (p : program.Part) (ps : Program) → input_ops all (p ∷ ps) ≡ unit_copying all p ++ input_ops all ps
+    ops_one : (p : tree.Part) (ps : Program) → input_ops all (p ∷ ps) ≡ unit_copying all p ++ input_ops all ps
     ops_one (Register name fields) ps = refl
-    ops_one (Ask q) ps = refl
+    ops_one (AQuery q) ps = refl
 
 pub copying_end : (old now : RawPlan) (all : List Name) (parts : List Part) (i : ℕ) → Copying old now all parts i → length parts ≤ i
-    → Grew old now [] (input_copies all (program_of parts)) (input_ops all (program_of parts))
+    → Grew old now [] (input_copies all (parts_of parts)) (input_ops all (parts_of parts))
 copying_end old now all parts i c le =
     let d = drop_all parts i le in
-    left_end old now _ _ _ (left_is old now _ _ [] _ _ [] _ _ [] c.left refl (ap (λ l. input_copies all (program_of l)) d) (ap (λ l. input_ops all (program_of l)) d))
+    left_end old now _ _ _ (left_is old now _ _ [] _ _ [] _ _ [] c.left refl (ap (λ l. input_copies all (parts_of l)) d) (ap (λ l. input_ops all (parts_of l)) d))
 
 -- ALL LISTS
 
 -- inputs, copies, queries and variables, in lists that were empty
 pub all_filled : (parts : List Part) (raw copied asked : RawPlan) (inputs : List Decl) (vars : List Name) (uses : Uses) → plan_form raw ≡ empty_form
-    → uses.inputs ≡ registered (program_of parts) → uses.all ≡ all_uses (program_of parts) → uses.past ≡ []
-    → inputs ≡ raw.inputs ++ input_decls (program_of parts)
-    → Grew (record raw { inputs = inputs }) copied [] (input_copies uses.all (program_of parts)) (input_ops uses.all (program_of parts))
-    → Grew copied asked (output_decls [] (program_of parts)) (ask_decls uses.all [] (program_of parts)) (ask_ops uses.inputs uses.all [] uses.past (program_of parts))
-    → vars ≡ asked.vars ++ all_vars (op_forms asked.ops) → plan_form (record asked { vars = vars }) ≡ plan_of (program_of parts)
+    → uses.inputs ≡ registered (parts_of parts) → uses.all ≡ all_uses (parts_of parts) → uses.past ≡ []
+    → inputs ≡ raw.inputs ++ input_decls (parts_of parts)
+    → Grew (record raw { inputs = inputs }) copied [] (input_copies uses.all (parts_of parts)) (input_ops uses.all (parts_of parts))
+    → Grew copied asked (output_decls [] (parts_of parts)) (queries_decls uses.all [] (parts_of parts)) (queries_ops uses.inputs uses.all [] uses.past (parts_of parts))
+    → vars ≡ asked.vars ++ all_vars (op_forms asked.ops) → plan_form (record asked { vars = vars }) ≡ plan_of (parts_of parts)
 all_filled parts raw copied asked inputs vars uses em ui ua up ei g h ev =
-    let p = program_of parts in
+    let p = parts_of parts in
     let outs : asked.outputs ≡ output_decls [] p = h.outputs ∙ ap (λ l. l ++ output_decls [] p) (g.outputs ∙ append-nil raw.outputs ∙ ap (λ (x : PlanForm). x.outputs) em) in
     let ins : asked.inputs ≡ input_decls p = h.inputs ∙ g.inputs ∙ ei ∙ ap (λ l. l ++ input_decls p) (ap (λ (x : PlanForm). x.inputs) em) in
-    let qs : asked.queues ≡ input_copies (all_uses p) p ++ ask_decls (all_uses p) [] p =
-    h.queues ∙ ap (λ l. l ++ ask_decls uses.all [] p) (g.queues ∙ ap (λ l. l ++ input_copies uses.all p) (ap (λ (x : PlanForm). x.queues) em))
-    ∙ ap (λ u. input_copies u p ++ ask_decls u [] p) ua in
+    let qs : asked.queues ≡ input_copies (all_uses p) p ++ queries_decls (all_uses p) [] p =
+    h.queues ∙ ap (λ l. l ++ queries_decls uses.all [] p) (g.queues ∙ ap (λ l. l ++ input_copies uses.all p) (ap (λ (x : PlanForm). x.queues) em))
+    ∙ ap (λ u. input_copies u p ++ queries_decls u [] p) ua in
     let os : op_forms asked.ops ≡ ops_of p =
-    h.ops ∙ ap (λ l. l ++ ask_ops uses.inputs uses.all [] uses.past p) (g.ops ∙ ap (λ l. l ++ input_ops uses.all p) (ap (λ (x : PlanForm). x.ops) em))
-    ∙ ap (λ u. input_ops u p ++ ask_ops uses.inputs u [] uses.past p) ua
-    ∙ ap (λ n. input_ops (all_uses p) p ++ ask_ops n (all_uses p) [] uses.past p) ui
-    ∙ ap (λ n. input_ops (all_uses p) p ++ ask_ops (registered p) (all_uses p) [] n p) up in
+    h.ops ∙ ap (λ l. l ++ queries_ops uses.inputs uses.all [] uses.past p) (g.ops ∙ ap (λ l. l ++ input_ops uses.all p) (ap (λ (x : PlanForm). x.ops) em))
+    ∙ ap (λ u. input_ops u p ++ queries_ops uses.inputs u [] uses.past p) ua
+    ∙ ap (λ n. input_ops (all_uses p) p ++ queries_ops n (all_uses p) [] uses.past p) ui
+    ∙ ap (λ n. input_ops (all_uses p) p ++ queries_ops (registered p) (all_uses p) [] n p) up in
     let ts : asked.tables ≡ [] = h.tables ∙ g.tables ∙ ap (λ (x : PlanForm). x.tables) em in
     let vs : vars ≡ all_vars (ops_of p) = ev ∙ ap (λ l. l ++ all_vars (op_forms asked.ops)) (h.vars ∙ g.vars ∙ ap (λ (x : PlanForm). x.vars) em) ∙ ap all_vars os in
     λ i. record { outputs = outs i; inputs = ins i; queues = qs i; tables = ts i; vars = vs i; ops = os i }

@@ -3,7 +3,8 @@ use Rattle.std.proofs.Common.{◌≡◌, ℕ, zero, suc, ◌-◌, ◌+◌, ◌<�
 use Rattle.std.proofs.Common.{arith, append_assoc, append-nil, ◌^◌}
 use Rattle.std.specs.Prelude.{codes, OnOk}
 use Rattle.std.specs.List.{AllByRecursion}
-use Rattle.kern_bags.specs.declared.kernel.Streamer.{Streamer}
+use Rattle.cql_text.specs.declared.tree.Kind.{Kind}
+use Rattle.cql_model.specs.KernelWords.{streamer_of, kernel_window}
 use Rattle.river_base.specs.declared.kind.QueueType.{QueueType}
 use Rattle.river_kernels.specs.Fits.{relation, stream}
 use Rattle.river_kernels.specs.Kern.{window, cross, duplicate, streamer}
@@ -13,14 +14,15 @@ use Rattle.river_plan.specs.declared.plan.Decl.{Decl}
 use Rattle.river_plan.specs.declared.plan.RawPlan.{RawPlan}
 use Rattle.cql_model.specs.Faults.{IsShortName}
 use Rattle.cql_model.specs.Program.{streams_of}
-use Rattle.cql_model.specs.Translation.{op, decl, sources, source_at, w_name, x_name, window_ops, window_decls, cross_ops, cross_decls, cross_last, widths_of}
-use Rattle.cql_model.specs.Translation.{copies, copy_name, decls, at_word, copy_decls, copy_ops, out_name, out_decls}
+use Rattle.cql_model.specs.Translation.{op, decl, queues_of_uses, queue_of_use, w_name, x_name, window_ops, window_decls, cross_ops, cross_decls, cross_last, widths_of}
+use Rattle.cql_model.specs.Translation.{copy_names, copy_name, decls_of, at_word, copy_decls, copy_ops, out_name, out_decls}
 use Rattle.cql_model.proofs.Valid.{count-length}
 use Rattle.cql_text.specs.declared.tree.Source.{Source}
 use Rattle.cql_build.specs.declared.item.Item.{Item}
 use Rattle.cql_build.specs.declared.uses.Uses.{Uses}
-use Rattle.cql_build.specs.Grown.{Grew, Used, products, stream_ops}
-use Rattle.cql_build.specs.Views.{sources_of, window_of, scope}
+use Rattle.cql_build.specs.Grown.{Grew, Used, product_decls, stream_ops}
+use Rattle.cql_text.specs.Tree.{sources_of, window_of}
+use Rattle.cql_build.specs.Views.{scope}
 use Rattle.cql_build.proofs.Lists.{drop_next, drop_all, drop_some}
 
 -- what is left to be made of these lists
@@ -100,8 +102,8 @@ grew_nothing raw = record {
 -- the windows from number i on are left
 pub record WindowsLeft (old now : RawPlan) (before after : Uses) (q : Name) (all : List Source) (items : List Item) (i : ℕ) : Type 0 where
   pub left : Left old now [] [] (window_decls q 1 (scope items)) (window_decls q (i + 1) (scope (drop i items)))
-      (window_ops q 1 (sources_of all) (sources before.inputs before.all before.past (streams_of (sources_of all))))
-      (window_ops q (i + 1) (sources_of (drop i all)) (sources before.inputs before.all after.past (streams_of (sources_of (drop i all)))))
+      (window_ops q 1 (sources_of all) (queues_of_uses before.inputs before.all before.past (streams_of (sources_of all))))
+      (window_ops q (i + 1) (sources_of (drop i all)) (queues_of_uses before.inputs before.all after.past (streams_of (sources_of (drop i all)))))
   pub past : before.past ++ streams_of (sources_of all) ≡ after.past ++ streams_of (sources_of (drop i all))
   pub inputs : after.inputs ≡ before.inputs
   pub uses : after.all ≡ before.all
@@ -129,28 +131,28 @@ width_at xs i x lt e low = let m = at_most xs i lt e in omega (arith, m, low) wh
 -- one window more
 pub windows_next : (old now next : RawPlan) (before after later : Uses) (q name from : Name) (kind : QueueType) (all : List Source) (items : List Item) (i : ℕ) (x : Source) (y : Item)
     → WindowsLeft old now before after q all items i → i < length all → x ≡ get_or all i x → i < length items → y ≡ get_or items i y
-    → name ≡ w_name q (i + 1) → kind ≡ relation (length y.fields.now) → from ≡ source_at after.inputs after.all x.stream (count x.stream after.past)
+    → name ≡ w_name q (i + 1) → kind ≡ relation (length y.fields.now) → from ≡ queue_of_use after.inputs after.all x.stream (count x.stream after.past)
     → later.past ≡ after.past ++ x.stream ∷ [] → later.inputs ≡ after.inputs → later.all ≡ after.all
-    → Grew now next [] (decl name kind ∷ []) (op name (window (window_of x.window)) (from ∷ []) (name ∷ []) (name ∷ []) ∷ [])
+    → Grew now next [] (decl name kind ∷ []) (op name (window (kernel_window (window_of x.window))) (from ∷ []) (name ∷ []) (name ∷ []) ∷ [])
     → WindowsLeft old next before later q all items (i + 1)
 windows_next old now next before after later q name from kind all items i x y w lt e lt' e' n k f p a b g =
     let rest = drop (i + 1) all in
-    let srcs = sources before.inputs before.all in
-    let now_src : from ≡ source_at before.inputs before.all x.stream (count x.stream after.past) =
-    f ∙ ap (λ l. source_at l after.all x.stream (count x.stream after.past)) w.inputs ∙ ap (λ l. source_at before.inputs l x.stream (count x.stream after.past)) w.uses in
+    let srcs = queues_of_uses before.inputs before.all in
+    let now_src : from ≡ queue_of_use before.inputs before.all x.stream (count x.stream after.past) =
+    f ∙ ap (λ l. queue_of_use l after.all x.stream (count x.stream after.past)) w.inputs ∙ ap (λ l. queue_of_use before.inputs l x.stream (count x.stream after.past)) w.uses in
     let ds : window_decls q (i + 1) (scope (drop i items)) ≡ decl name kind ∷ window_decls q (i + 1 + 1) (scope (drop (i + 1) items)) =
     ap (λ l. window_decls q (i + 1) (scope l)) (drop_next items i y lt' e')
     ∙ ap (λ m. decl m (relation (length y.fields.now)) ∷ window_decls q (i + 1 + 1) (scope (drop (i + 1) items))) (sym n)
     ∙ ap (λ m. decl name m ∷ window_decls q (i + 1 + 1) (scope (drop (i + 1) items))) (sym k) in
     let os : window_ops q (i + 1) (sources_of (drop i all)) (srcs after.past (streams_of (sources_of (drop i all))))
-    ≡ op name (window (window_of x.window)) (from ∷ []) (name ∷ []) (name ∷ []) ∷ window_ops q (i + 1 + 1) (sources_of rest) (srcs later.past (streams_of (sources_of rest))) =
+    ≡ op name (window (kernel_window (window_of x.window))) (from ∷ []) (name ∷ []) (name ∷ []) ∷ window_ops q (i + 1 + 1) (sources_of rest) (srcs later.past (streams_of (sources_of rest))) =
     ap (λ l. window_ops q (i + 1) (sources_of l) (srcs after.past (streams_of (sources_of l)))) (drop_next all i x lt e)
-    ∙ ap (λ m. op m (window (window_of x.window)) (source_at before.inputs before.all x.stream (count x.stream after.past) ∷ []) (m ∷ []) (m ∷ []) ∷ window_ops q (i + 1 + 1) (sources_of rest) (srcs (after.past ++ x.stream ∷ []) (streams_of (sources_of rest)))) (sym n)
-    ∙ ap (λ m. op name (window (window_of x.window)) (m ∷ []) (name ∷ []) (name ∷ []) ∷ window_ops q (i + 1 + 1) (sources_of rest) (srcs (after.past ++ x.stream ∷ []) (streams_of (sources_of rest)))) (sym now_src)
-    ∙ ap (λ l. op name (window (window_of x.window)) (from ∷ []) (name ∷ []) (name ∷ []) ∷ window_ops q (i + 1 + 1) (sources_of rest) (srcs l (streams_of (sources_of rest)))) (sym p) in
+    ∙ ap (λ m. op m (window (kernel_window (window_of x.window))) (queue_of_use before.inputs before.all x.stream (count x.stream after.past) ∷ []) (m ∷ []) (m ∷ []) ∷ window_ops q (i + 1 + 1) (sources_of rest) (srcs (after.past ++ x.stream ∷ []) (streams_of (sources_of rest)))) (sym n)
+    ∙ ap (λ m. op name (window (kernel_window (window_of x.window))) (m ∷ []) (name ∷ []) (name ∷ []) ∷ window_ops q (i + 1 + 1) (sources_of rest) (srcs (after.past ++ x.stream ∷ []) (streams_of (sources_of rest)))) (sym now_src)
+    ∙ ap (λ l. op name (window (kernel_window (window_of x.window))) (from ∷ []) (name ∷ []) (name ∷ []) ∷ window_ops q (i + 1 + 1) (sources_of rest) (srcs l (streams_of (sources_of rest)))) (sym p) in
     record {
       left = left_next old now next [] [] [] (window_decls q 1 (scope items)) (decl name kind ∷ []) (window_decls q (i + 1 + 1) (scope (drop (i + 1) items)))
-          (window_ops q 1 (sources_of all) (srcs before.past (streams_of (sources_of all)))) (op name (window (window_of x.window)) (from ∷ []) (name ∷ []) (name ∷ []) ∷ [])
+          (window_ops q 1 (sources_of all) (srcs before.past (streams_of (sources_of all)))) (op name (window (kernel_window (window_of x.window))) (from ∷ []) (name ∷ []) (name ∷ []) ∷ [])
           (window_ops q (i + 1 + 1) (sources_of rest) (srcs later.past (streams_of (sources_of rest))))
           (left_is old now [] [] [] (window_decls q 1 (scope items)) _ _ (window_ops q 1 (sources_of all) (srcs before.past (streams_of (sources_of all)))) _ _ w.left refl ds os) g;
       past =
@@ -165,13 +167,13 @@ windows_next old now next before after later q name from kind all items i x y w 
 pub windows_end : (old now : RawPlan) (before after : Uses) (q : Name) (all : List Source) (items : List Item) (i : ℕ)
     → WindowsLeft old now before after q all items i
     → length all ≤ i → length items ≤ i
-    → Grew old now [] (window_decls q 1 (scope items)) (window_ops q 1 (sources_of all) (sources before.inputs before.all before.past (streams_of (sources_of all))))
+    → Grew old now [] (window_decls q 1 (scope items)) (window_ops q 1 (sources_of all) (queues_of_uses before.inputs before.all before.past (streams_of (sources_of all))))
     × Used before after (streams_of (sources_of all))
 windows_end old now before after q all items i w le le' =
     let none = drop_all all i le in
     let none' = drop_all items i le' in
-    let l = left_is old now [] [] [] (window_decls q 1 (scope items)) _ [] (window_ops q 1 (sources_of all) (sources before.inputs before.all before.past (streams_of (sources_of all)))) _ [] w.left refl
-    (ap (λ xs. window_decls q (i + 1) (scope xs)) none') (ap (λ xs. window_ops q (i + 1) (sources_of xs) (sources before.inputs before.all after.past (streams_of (sources_of xs)))) none) in (
+    let l = left_is old now [] [] [] (window_decls q 1 (scope items)) _ [] (window_ops q 1 (sources_of all) (queues_of_uses before.inputs before.all before.past (streams_of (sources_of all)))) _ [] w.left refl
+    (ap (λ xs. window_decls q (i + 1) (scope xs)) none') (ap (λ xs. window_ops q (i + 1) (sources_of xs) (queues_of_uses before.inputs before.all after.past (streams_of (sources_of xs)))) none) in (
       left_end old now [] (window_decls q 1 (scope items)) _ l,
       record { past = sym (w.past ∙ ap (λ xs. after.past ++ streams_of (sources_of xs)) none ∙ append-nil after.past); inputs = w.inputs; all = w.uses },
     )
@@ -180,7 +182,7 @@ windows_end old now before after q all items i w le le' =
 
 -- the products from number i on are left
 pub record CrossesLeft (old now : RawPlan) (q : Name) (all : List Source) (items : List Item) (last : Name) (wide i : ℕ) : Type 0 where
-  pub left : Left old now [] [] (products q (scope items)) (cross_decls q wide (i + 1) (scope (drop i items)))
+  pub left : Left old now [] [] (product_decls q (scope items)) (cross_decls q wide (i + 1) (scope (drop i items)))
       (cross_ops q (w_name q 1) 2 (drop 1 (sources_of all))) (cross_ops q last (i + 1) (sources_of (drop i all)))
   pub last_is : cross_last q (w_name q 1) 2 (drop 1 (sources_of all)) ≡ cross_last q last (i + 1) (sources_of (drop i all))
   pub narrow : wide + widths_of (scope (drop i items)) ≤ 16
@@ -220,9 +222,9 @@ crosses_next old now next q all items last name right wide wider i y c lt lt' e'
     let d = ap (λ l. widths_of (scope l)) (drop_next items i y lt' e') in
     record {
       left =
-          left_next old now next [] [] [] (products q (scope items)) (decl name (relation wider) ∷ []) (cross_decls q wider (i + 1 + 1) (scope (drop (i + 1) items)))
+          left_next old now next [] [] [] (product_decls q (scope items)) (decl name (relation wider) ∷ []) (cross_decls q wider (i + 1 + 1) (scope (drop (i + 1) items)))
           (cross_ops q (w_name q 1) 2 (drop 1 (sources_of all))) (op name cross (last ∷ right ∷ []) (name ∷ []) (name ∷ []) ∷ []) (cross_ops q name (i + 1 + 1) (sources_of (drop (i + 1) all)))
-          (left_is old now [] [] [] (products q (scope items)) _ _ (cross_ops q (w_name q 1) 2 (drop 1 (sources_of all))) _ _ c.left refl ds os) g;
+          (left_is old now [] [] [] (product_decls q (scope items)) _ _ (cross_ops q (w_name q 1) 2 (drop 1 (sources_of all))) _ _ c.left refl ds os) g;
       last_is =
           c.last_is ∙ ap (λ l. cross_last q last (i + 1) (sources_of l)) some.1 ∙ ap (λ m. cross_last q m (i + 1 + 1) (sources_of (drop (i + 1) all))) (sym n);
       narrow = let k = c.narrow in omega (arith, k, d, w);
@@ -231,13 +233,13 @@ crosses_next old now next q all items last name right wide wider i y c lt lt' e'
 -- all products
 pub crosses_end : (old now : RawPlan) (q : Name) (all : List Source) (items : List Item) (last : Name) (wide i : ℕ)
     → CrossesLeft old now q all items last wide i → length all ≤ i → length items ≤ i
-    → Grew old now [] (products q (scope items)) (cross_ops q (w_name q 1) 2 (drop 1 (sources_of all)))
+    → Grew old now [] (product_decls q (scope items)) (cross_ops q (w_name q 1) 2 (drop 1 (sources_of all)))
     × (last ≡ cross_last q (w_name q 1) 2 (drop 1 (sources_of all)))
 crosses_end old now q all items last wide i c le le' =
     let none = drop_all all i le in
     let none' = drop_all items i le' in (
-      left_end old now [] (products q (scope items)) (cross_ops q (w_name q 1) 2 (drop 1 (sources_of all)))
-          (left_is old now [] [] [] (products q (scope items)) _ [] (cross_ops q (w_name q 1) 2 (drop 1 (sources_of all))) _ [] c.left refl
+      left_end old now [] (product_decls q (scope items)) (cross_ops q (w_name q 1) 2 (drop 1 (sources_of all)))
+          (left_is old now [] [] [] (product_decls q (scope items)) _ [] (cross_ops q (w_name q 1) 2 (drop 1 (sources_of all))) _ [] c.left refl
           (ap (λ l. cross_decls q wide (i + 1) (scope l)) none') (ap (λ l. cross_ops q last (i + 1) (sources_of l)) none)),
       sym (c.last_is ∙ ap (λ l. cross_last q last (i + 1) (sources_of l)) none),
     )
@@ -245,21 +247,22 @@ crosses_end old now q all items last wide i c le le' =
 -- COPIES
 
 -- one copy more
-pub copies_next : (b : Name) (k n : ℕ) → k < n → copies b k (n - k) ≡ copy_name b k ∷ copies b (k + 1) (n - (k + 1))
-copies_next b k n lt = ap (copies b k) (let e : n - k ≡ suc (n - (k + 1)) = omega (arith, lt) in e)
+pub copies_next : (b : Name) (k n : ℕ) → k < n → copy_names b k (n - k) ≡ copy_name b k ∷ copy_names b (k + 1) (n - (k + 1))
+copies_next b k n lt = ap (copy_names b k) (let e : n - k ≡ suc (n - (k + 1)) = omega (arith, lt) in e)
 
-pub copies_none : (b : Name) (k n : ℕ) → n ≤ k → copies b k (n - k) ≡ []
-copies_none b k n le = ap (copies b k) (let e : n - k ≡ 0 = omega (arith, le) in e)
+pub copies_none : (b : Name) (k n : ℕ) → n ≤ k → copy_names b k (n - k) ≡ []
+copies_none b k n le = ap (copy_names b k) (let e : n - k ≡ 0 = omega (arith, le) in e)
 
-pub length-copies : (b : Name) (k u : ℕ) → length (copies b k u) ≡ u
+pub length-copies : (b : Name) (k u : ℕ) → length (copy_names b k u) ≡ u
 length-copies b k zero = refl
 length-copies b k (suc u) = ap suc (length-copies b (k + 1) u)
 
 -- few copies
-pub copies_few : (b : Name) (u : ℕ) (names : List Name) → names ≡ copies b 0 u → u ≤ 256 → length names < 2 ^ 32
+pub copies_few : (b : Name) (u : ℕ) (names : List Name) → names ≡ copy_names b 0 u → u ≤ 256 → length names < 2 ^ 32
 copies_few b u names e le = let l = length-copies b 0 u in let n = ap (λ (ns : List Name). length ns) e in omega (arith, l, n, le)
 
-pub copies_few_more : (b q : Name) (u : ℕ) (own made names : List Name) → own ≡ q ∷ [] → made ≡ copies b 0 u → names ≡ own ++ made → u ≤ 256
+-- the copies and the query's own queue are few, too
+pub copies_few_more : (b q : Name) (u : ℕ) (own made names : List Name) → own ≡ q ∷ [] → made ≡ copy_names b 0 u → names ≡ own ++ made → u ≤ 256
     → length names < 2 ^ 32
 copies_few_more b q u own made names o m e le =
     let l = length-copies b 0 u in
@@ -267,6 +270,7 @@ copies_few_more b q u own made names o m e le =
     let c = ap (λ (ns : List Name). length ns) (e ∙ ap (λ ns. ns ++ made) o) in
     omega (arith, l, a, c, le)
 
+-- a name stands among few names a few times
 pub count_few : (n : Name) (ns : List Name) → length ns ≤ 256 → count n ns ≤ 256
 count_few n ns le = let c = count-length n ns in omega (arith, c, le)
 
@@ -277,8 +281,8 @@ on_ok_then (Err e) f p = tt
 
 -- a registered stream that is used more than once is copied
 pub copied_input : (raw new : RawPlan) (queues : List Decl) (name : Name) (wide n : ℕ) (kind : QueueType) (writes : List Name)
-    → queues ≡ raw.queues ++ decls writes kind → kind ≡ stream wide
-    → writes ≡ copies name 0 n → 2 ≤ n
+    → queues ≡ raw.queues ++ decls_of writes kind → kind ≡ stream wide
+    → writes ≡ copy_names name 0 n → 2 ≤ n
     → Grew (record raw { queues = queues }) new [] [] (op (at_word name (codes "d")) (duplicate (length writes)) (name ∷ []) writes [] ∷ [])
     → Grew raw new [] (copy_decls name wide n) (copy_ops name n)
 copied_input raw new queues name wide zero kind writes e k w two g = absurd (omega (arith, two))
@@ -287,7 +291,7 @@ copied_input raw new queues name wide (suc (suc u)) kind writes e k w two g =
     let n : length writes ≡ suc (suc u) = ap (λ (l : List Name). length l) w ∙ length-copies name 0 (suc (suc u)) in
     record {
       outputs = g.outputs;
-      queues = g.queues ∙ append-nil queues ∙ e ∙ ap (λ l. raw.queues ++ decls l kind) w ∙ ap (λ t. raw.queues ++ decls (copies name 0 (suc (suc u))) t) k;
+      queues = g.queues ∙ append-nil queues ∙ e ∙ ap (λ l. raw.queues ++ decls_of l kind) w ∙ ap (λ t. raw.queues ++ decls_of (copy_names name 0 (suc (suc u))) t) k;
       ops = g.ops ∙ ap (λ m. op_forms raw.ops ++ op (at_word name (codes "d")) (duplicate m) (name ∷ []) writes [] ∷ []) n
           ∙ ap (λ l. op_forms raw.ops ++ op (at_word name (codes "d")) (duplicate (suc (suc u))) (name ∷ []) l [] ∷ []) w;
       inputs = g.inputs;
@@ -298,16 +302,16 @@ copied_input raw new queues name wide (suc (suc u)) kind writes e k w two g =
 -- a query's stream is copied
 pub copied_output : (raw new : RawPlan) (first queues : List Decl) (q from : Name) (n : ℕ) (kind : QueueType) (own made writes : List Name)
     → first ≡ raw.queues ++ decl from kind ∷ []
-    → queues ≡ first ++ decls made kind → own ≡ q ∷ [] → writes ≡ own ++ made → made ≡ copies q 0 n
+    → queues ≡ first ++ decls_of made kind → own ≡ q ∷ [] → writes ≡ own ++ made → made ≡ copy_names q 0 n
     → Grew (record raw { queues = queues }) new [] [] (op (at_word q (codes "d")) (duplicate (length writes)) (from ∷ []) writes [] ∷ [])
-    → Grew raw new [] (decl from kind ∷ decls (copies q 0 n) kind) (op (at_word q (codes "d")) (duplicate (suc n)) (from ∷ []) (q ∷ copies q 0 n) [] ∷ [])
+    → Grew raw new [] (decl from kind ∷ decls_of (copy_names q 0 n) kind) (op (at_word q (codes "d")) (duplicate (suc n)) (from ∷ []) (q ∷ copy_names q 0 n) [] ∷ [])
 copied_output raw new first queues q from n kind own made writes e f o w m g =
-    let all : writes ≡ q ∷ copies q 0 n = w ∙ ap (λ l. l ++ made) o ∙ ap (λ l. q ∷ l) m in
+    let all : writes ≡ q ∷ copy_names q 0 n = w ∙ ap (λ l. l ++ made) o ∙ ap (λ l. q ∷ l) m in
     let many : length writes ≡ suc n = ap (λ (l : List Name). length l) all ∙ ap suc (length-copies q 0 n) in
     record {
       outputs = g.outputs;
-      queues = g.queues ∙ append-nil queues ∙ f ∙ ap (λ l. l ++ decls made kind) e ∙ append_assoc raw.queues (decl from kind ∷ []) (decls made kind)
-          ∙ ap (λ l. raw.queues ++ (decl from kind ∷ decls l kind)) m;
+      queues = g.queues ∙ append-nil queues ∙ f ∙ ap (λ l. l ++ decls_of made kind) e ∙ append_assoc raw.queues (decl from kind ∷ []) (decls_of made kind)
+          ∙ ap (λ l. raw.queues ++ (decl from kind ∷ decls_of l kind)) m;
       ops = g.ops ∙ ap (λ k. op_forms raw.ops ++ op (at_word q (codes "d")) (duplicate k) (from ∷ []) writes [] ∷ []) many
           ∙ ap (λ l. op_forms raw.ops ++ op (at_word q (codes "d")) (duplicate (suc n)) (from ∷ []) l [] ∷ []) all;
       inputs = g.inputs;
@@ -316,20 +320,20 @@ copied_output raw new first queues q from n kind own made writes e f o w m g =
     }
 
 -- the stream of a query that is used
-pub output_used : (raw mid new : RawPlan) (outs : List Decl) (q last to : Name) (kind : Streamer) (wide n : ℕ) (t : QueueType) → 0 < n → to ≡ out_name q n
+pub output_used : (raw mid new : RawPlan) (outs : List Decl) (q last to : Name) (kind : Kind) (wide n : ℕ) (t : QueueType) → 0 < n → to ≡ out_name q n
     → t ≡ stream wide
-    → Grew raw mid [] [] (op (at_word q (codes "i")) (streamer kind) (last ∷ []) (to ∷ []) (at_word q (codes "i") ∷ []) ∷ [])
+    → Grew raw mid [] [] (op (at_word q (codes "i")) (streamer (streamer_of kind)) (last ∷ []) (to ∷ []) (at_word q (codes "i") ∷ []) ∷ [])
     → outs ≡ mid.outputs ++ decl q t ∷ []
-    → Grew (record mid { outputs = outs }) new [] (decl to t ∷ decls (copies q 0 n) t) (op (at_word q (codes "d")) (duplicate (suc n)) (to ∷ []) (q ∷ copies q 0 n) [] ∷ [])
+    → Grew (record mid { outputs = outs }) new [] (decl to t ∷ decls_of (copy_names q 0 n) t) (op (at_word q (codes "d")) (duplicate (suc n)) (to ∷ []) (q ∷ copy_names q 0 n) [] ∷ [])
     → Grew raw new (decl q (stream wide) ∷ []) (out_decls q wide n) (stream_ops q kind last n)
 output_used raw mid new outs q last to kind wide zero t some e k g o h = absurd (omega (arith, some))
 output_used raw mid new outs q last to kind wide (suc u) t some e k g o h = record {
   outputs = h.outputs ∙ append-nil outs ∙ o ∙ ap (λ l. l ++ decl q t ∷ []) (g.outputs ∙ append-nil raw.outputs) ∙ ap (λ x. raw.outputs ++ decl q x ∷ []) k;
-  queues = h.queues ∙ ap (λ l. l ++ (decl to t ∷ decls (copies q 0 (suc u)) t)) (g.queues ∙ append-nil raw.queues)
-      ∙ ap (λ x. raw.queues ++ (decl x t ∷ decls (copies q 0 (suc u)) t)) e ∙ ap (λ x. raw.queues ++ (decl (at_word q (codes "o")) x ∷ decls (copies q 0 (suc u)) x)) k;
-  ops = h.ops ∙ ap (λ l. l ++ op (at_word q (codes "d")) (duplicate (suc (suc u))) (to ∷ []) (q ∷ copies q 0 (suc u)) [] ∷ []) g.ops
-      ∙ append_assoc (op_forms raw.ops) (op (at_word q (codes "i")) (streamer kind) (last ∷ []) (to ∷ []) (at_word q (codes "i") ∷ []) ∷ []) (op (at_word q (codes "d")) (duplicate (suc (suc u))) (to ∷ []) (q ∷ copies q 0 (suc u)) [] ∷ [])
-      ∙ ap (λ x. op_forms raw.ops ++ (op (at_word q (codes "i")) (streamer kind) (last ∷ []) (x ∷ []) (at_word q (codes "i") ∷ []) ∷ op (at_word q (codes "d")) (duplicate (suc (suc u))) (x ∷ []) (q ∷ copies q 0 (suc u)) [] ∷ [])) e;
+  queues = h.queues ∙ ap (λ l. l ++ (decl to t ∷ decls_of (copy_names q 0 (suc u)) t)) (g.queues ∙ append-nil raw.queues)
+      ∙ ap (λ x. raw.queues ++ (decl x t ∷ decls_of (copy_names q 0 (suc u)) t)) e ∙ ap (λ x. raw.queues ++ (decl (at_word q (codes "o")) x ∷ decls_of (copy_names q 0 (suc u)) x)) k;
+  ops = h.ops ∙ ap (λ l. l ++ op (at_word q (codes "d")) (duplicate (suc (suc u))) (to ∷ []) (q ∷ copy_names q 0 (suc u)) [] ∷ []) g.ops
+      ∙ append_assoc (op_forms raw.ops) (op (at_word q (codes "i")) (streamer (streamer_of kind)) (last ∷ []) (to ∷ []) (at_word q (codes "i") ∷ []) ∷ []) (op (at_word q (codes "d")) (duplicate (suc (suc u))) (to ∷ []) (q ∷ copy_names q 0 (suc u)) [] ∷ [])
+      ∙ ap (λ x. op_forms raw.ops ++ (op (at_word q (codes "i")) (streamer (streamer_of kind)) (last ∷ []) (x ∷ []) (at_word q (codes "i") ∷ []) ∷ op (at_word q (codes "d")) (duplicate (suc (suc u))) (x ∷ []) (q ∷ copy_names q 0 (suc u)) [] ∷ [])) e;
   inputs = h.inputs ∙ g.inputs;
   tables = h.tables ∙ g.tables;
   vars = h.vars ∙ g.vars;

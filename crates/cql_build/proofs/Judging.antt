@@ -11,14 +11,15 @@ use Rattle.river_plan.specs.Names.{one_if, count}
 use Rattle.river_plan.proofs.NameLemmas.{cases_bool}
 use Rattle.cql_model.specs.Faults.{then_fault, fault_if, is_rows_fault, item_fault, items_fault}
 use Rattle.cql_model.specs.Laws.{known_names}
-use Rattle.cql_model.specs.Program as program
+use Rattle.cql_text.specs.Tree as tree
 use Rattle.cql_model.specs.Scopes.{Named, alias_or, fields_of, item_named, scope_of}
 use Rattle.cql_model.specs.Translation.{widths_of}
 use Rattle.cql_model.specs.declared.fault.Fault.{Fault}
 use Rattle.cql_model.specs.declared.fault.Fault.TheVariants.{UnknownStream, NameTwice, Limit}
 use Rattle.cql_text.specs.declared.tree.Source.{Source}
 use Rattle.cql_build.specs.Knowing.{IsFound}
-use Rattle.cql_build.specs.Views.{source_of, sources_of, named}
+use Rattle.cql_text.specs.Tree.{source_of, sources_of}
+use Rattle.cql_build.specs.Views.{named_item}
 use Rattle.cql_build.specs.declared.item.Item.{Item}
 use Rattle.cql_build.proofs.Lists.{take_next, drop_next}
 
@@ -72,14 +73,15 @@ at_name ks n r = IsFound (option_copied r) ks n
 -- an item whose stream is known, or not
 pub item_found : (ks : List Named) (x : Source) (r : Option (Bor (List Name))) (fs : Bor (List Name)) (i : Item) → IsFound (option_copied r) ks x.stream
     → r ≡ Some fs
-    → i.fields ≡ fs → i.name ≡ alias_or x.alias x.stream → named i ≡ item_named ks (source_of x)
+    → i.fields ≡ fs → i.name ≡ alias_or x.alias x.stream → named_item i ≡ item_named ks (source_of x)
 item_found ks x r fs i f e g n =
     let h = subst (at_name ks x.stream) e f in
     let same : i.fields.now ≡ fields_of ks x.stream = ap (λ (b : Bor (List Name)). b.now) g ∙ h.1 in
     λ j. record { name = n j; fields = same j }
 
+-- the item of a stream that is not known has no fields
 pub item_lost : (ks : List Named) (x : Source) (r : Option (Bor (List Name))) (i : Item) → IsFound (option_copied r) ks x.stream → r ≡ None
-    → i.fields.now ≡ [] → i.name ≡ alias_or x.alias x.stream → named i ≡ item_named ks (source_of x)
+    → i.fields.now ≡ [] → i.name ≡ alias_or x.alias x.stream → named_item i ≡ item_named ks (source_of x)
 item_lost ks x r i f e g n =
     let h = subst (at_name ks x.stream) e f in
     let same : i.fields.now ≡ fields_of ks x.stream = g ∙ sym (none_found ks x.stream h) in
@@ -95,13 +97,13 @@ passes : (b : Bool) (f : Fault) (rest : Option Fault) → b ≡ false → then_f
 passes b f rest e = ap (λ c. then_fault (fault_if c f) rest) e
 
 -- an item of a known stream, which is not the fifth, of good rows and of a new name
-pub record IsGood (ks : List Named) (scope : List Named) (i : program.Source) : Type 0 where
+pub record IsGood (ks : List Named) (scope : List Named) (i : tree.Source) : Type 0 where
   pub known : 0 < count i.stream (known_names ks)
   pub few : length scope < 4
   pub rows : is_rows_fault i.window ≡ false
   pub new : nat_lt 0 (count (item_named ks i).name (known_names scope)) ≡ false
 
-product_left : (ks scope : List Named) (i : program.Source) → IsGood ks scope i
+product_left : (ks scope : List Named) (i : tree.Source) → IsGood ks scope i
     → item_fault ks scope i ≡ fault_if (nat_lt 16 (widths_of (scope ++ item_named ks i ∷ []))) Limit
 product_left ks scope i g =
     passes (nat_eq (count i.stream (known_names ks)) 0) UnknownStream _ (some (count i.stream (known_names ks)) g.known)
@@ -116,7 +118,7 @@ product_left ks scope i g =
     small n lt = grind (arith, lt)
 
 -- the product with it is not too wide
-pub item_good : (ks scope : List Named) (i : program.Source) (width : ℕ) (fields : List Name) → IsGood ks scope i → width ≡ widths_of scope → width ≤ 16
+pub item_good : (ks scope : List Named) (i : tree.Source) (width : ℕ) (fields : List Name) → IsGood ks scope i → width ≡ widths_of scope → width ≤ 16
     → fields ≡ fields_of ks i.stream
     → length fields ≤ 16 - width → (width + length fields ≡ widths_of (scope ++ item_named ks i ∷ [])) × (item_fault ks scope i ≡ None)
 item_good ks scope i width fields g w low f le =
@@ -129,7 +131,7 @@ item_good ks scope i width fields g w low f le =
     narrow n le = grind (arith, le)
 
 -- it is too wide
-pub item_wide : (ks scope : List Named) (i : program.Source) (width : ℕ) (fields : List Name) → IsGood ks scope i → width ≡ widths_of scope → width ≤ 16
+pub item_wide : (ks scope : List Named) (i : tree.Source) (width : ℕ) (fields : List Name) → IsGood ks scope i → width ≡ widths_of scope → width ≤ 16
     → fields ≡ fields_of ks i.stream
     → 16 - width < length fields → item_fault ks scope i ≡ Some Limit
 item_wide ks scope i width fields g w low f lt =

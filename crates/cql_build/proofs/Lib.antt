@@ -1,4 +1,4 @@
-pub mod Asking
+pub mod Querying
 pub mod Growing
 pub mod Judging
 pub mod Lists

@@ -7,17 +7,19 @@ use Rattle.river_base.specs.Name.{name_eq}
 use Rattle.river_plan.specs.Forms.{Name}
 use Rattle.river_plan.specs.Names.{one_if, count}
 use Rattle.river_plan.proofs.NameLemmas.{count-append, one_same}
-use Rattle.cql_model.specs.Faults.{places, item_places, then_fault, fault_if, scalar_fault, chosen_fault}
+use Rattle.cql_model.specs.Faults.{field_places, item_places, then_fault, fault_if, scalar_fault, chosen_fault}
 use Rattle.cql_model.specs.declared.fault.Fault.TheVariants.{Limit}
 use Rattle.cql_text.specs.declared.tree.Column.{Column}
 use Rattle.cql_model.specs.Scopes.{Named}
-use Rattle.cql_build.specs.Views.{named, scope, column_of, chosen_of}
+use Rattle.cql_text.specs.Tree.{column_of, chosen_of}
+use Rattle.cql_build.specs.Views.{named_item, scope}
 use Rattle.cql_build.specs.declared.item.Item.{Item}
 
 -- the first elements with one more, and the others without it
 pub take_next : {A : Type 0} (xs : List A) (i : ℕ) (x : A) → i < length xs → x ≡ get_or xs i x → take (i + 1) xs ≡ take i xs ++ x ∷ []
 take_next xs i x lt e = take_more xs i x lt ∙ ap (λ y. take i xs ++ y ∷ []) (sym e)
 
+-- what is left begins with the next element
 pub drop_next : {A : Type 0} (xs : List A) (i : ℕ) (x : A) → i < length xs → x ≡ get_or xs i x → drop i xs ≡ x ∷ drop (i + 1) xs
 drop_next xs i x lt e = drop-cons xs i x lt ∙ ap (λ y. y ∷ drop (suc i) xs) (sym e) ∙ ap (λ k. x ∷ drop k xs) (sym (add-one i))
 
@@ -31,14 +33,15 @@ pub once_more : (q : Name) (xs : List Name) → count q (xs ++ q ∷ []) ≡ cou
 once_more q xs = let a = count-append q xs (q ∷ []) in let o = one_same q in omega (arith, a, o)
 
 -- one item more
-places-append : (f : Name) (xs : List Named) (k : Named) → places f (xs ++ k ∷ []) ≡ places f xs + count f k.fields
+places-append : (f : Name) (xs : List Named) (k : Named) → field_places f (xs ++ k ∷ []) ≡ field_places f xs + count f k.fields
 places-append f [] k = omega arith
 places-append f (x ∷ xs) k = let m = places-append f xs k in omega (arith, m)
 
+-- one item more has its own places of a field
 pub places_next : (f : Name) (xs : List Item) (i : ℕ) (x : Item) → i < length xs → x ≡ get_or xs i x
-    → places f (scope (take (i + 1) xs)) ≡ places f (scope (take i xs)) + count f x.fields.now
+    → field_places f (scope (take (i + 1) xs)) ≡ field_places f (scope (take i xs)) + count f x.fields.now
 places_next f xs i x lt e =
-    ap (λ l. places f (scope l)) (take_next xs i x lt e) ∙ ap (places f) (map-append named (take i xs) (x ∷ [])) ∙ places-append f (scope (take i xs)) (named x)
+    ap (λ l. field_places f (scope l)) (take_next xs i x lt e) ∙ ap (field_places f) (map-append named_item (take i xs) (x ∷ [])) ∙ places-append f (scope (take i xs)) (named_item x)
 
 item_places-append : (a f : Name) (xs : List Named) (k : Named) (b : Bool) → name_eq k.name a ≡ b
     → item_places a f (xs ++ k ∷ []) ≡ item_places a f xs + (if b then count f k.fields else 0)
@@ -52,11 +55,12 @@ item_places-append a f (x ∷ xs) k b e =
     turn : (m n k : ℕ) → m + (n + k) ≡ (m + n) + k
     turn m n k = omega arith
 
+-- and only if it is called so, its places of a field of this item
 pub item_places_next : (a f : Name) (xs : List Item) (i : ℕ) (x : Item) (b : Bool) → i < length xs → x ≡ get_or xs i x → name_eq x.name a ≡ b
     → item_places a f (scope (take (i + 1) xs)) ≡ item_places a f (scope (take i xs)) + (if b then count f x.fields.now else 0)
 item_places_next a f xs i x b lt e t =
-    ap (λ l. item_places a f (scope l)) (take_next xs i x lt e) ∙ ap (item_places a f) (map-append named (take i xs) (x ∷ []))
-    ∙ item_places-append a f (scope (take i xs)) (named x) b t
+    ap (λ l. item_places a f (scope l)) (take_next xs i x lt e) ∙ ap (item_places a f) (map-append named_item (take i xs) (x ∷ []))
+    ∙ item_places-append a f (scope (take i xs)) (named_item x) b t
 
 -- the seventeenth column
 pub too_many : (is : List Named) (i : ℕ) (cs : List Column) → i < length cs → 16 ≤ i → chosen_fault is i (chosen_of (drop i cs)) ≡ Some Limit

@@ -13,7 +13,7 @@ use Rattle.river_plan.specs.Forms.{Name}
 use Rattle.cql_model.specs.Numeral.{numeral}
 use Rattle.cql_model.specs.Translation.{at_word}
 use Rattle.cql_model.proofs.Numerals.{numeral_decimal}
-use Rattle.cql_build.specs.Marks.{word, marked, IsLow}
+use Rattle.cql_build.specs.Marks.{word, marked, IsLowMark}
 use Rattle.cql_build.specs.declared.names.Mark.{Mark}
 use Rattle.cql_build.specs.declared.names.Mark.TheVariants.{Window, Cross, Copy, Select, Project, Stream, Output, Copies}
 
@@ -58,7 +58,7 @@ numeral_goes n lt = ap (list_all is_word) (numeral_decimal n lt) ∙ decimal_goe
 numeral_few : (k : ℕ) → k < 2 ^ 64 → length (numeral k) ≤ 20
 numeral_few k lt = subst (λ (ds : List ℕ). length ds ≤ 20) (sym (numeral_decimal k lt)) (digits_few k lt)
 
-pub word_goes : (m : Mark) → IsLow m → (list_all is_word (word m) ≡ true) × (length (word m) ≤ 23)
+pub word_goes : (m : Mark) → IsLowMark m → (list_all is_word (word m) ≡ true) × (length (word m) ≤ 23)
 unfolding is_word is_letter is_digit
 word_goes (Window k) lt = (numeral_goes k lt, (let l = numeral_few k lt in omega (arith, l)))
 word_goes (Cross k) lt = (numeral_goes k lt, (let l = numeral_few k lt in omega (arith, l)))
@@ -70,7 +70,7 @@ word_goes Output lt = (refl, omega arith)
 word_goes Copies lt = (refl, omega arith)
 
 -- a short name with a mark is a name
-pub marked_is_name : (name : Name) (m : Mark) → is_name name ≡ true → length name ≤ 40 → IsLow m → is_name (marked name m) ≡ true
+pub marked_is_name : (name : Name) (m : Mark) → is_name name ≡ true → length name ≤ 40 → IsLowMark m → is_name (marked name m) ≡ true
 marked_is_name name m h len low = let g = word_goes m low in word_behind name (word m) h len g.0 g.1
 
 -- and so is the place of a column

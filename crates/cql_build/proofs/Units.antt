@@ -1,8 +1,8 @@
 -- Units that are judged one after another.
 use Rattle.std.proofs.Common.{◌≡◌, ℕ, ◌+◌, ◌<◌, List, [], ◌∷◌, length, drop, get_or, Some, None, refl, sym, ap, ◌∙◌, arith}
 use Rattle.cql_model.specs.Faults.{in_unit, query_fault, first_fault}
-use Rattle.cql_model.specs.Program as program
-use Rattle.cql_model.specs.Program.{Register, Ask, Program}
+use Rattle.cql_text.specs.Tree as tree
+use Rattle.cql_text.specs.Tree.{Register, AQuery, Program}
 use Rattle.cql_model.specs.Scopes.{Named}
 use Rattle.cql_model.specs.Translation.{query_named}
 use Rattle.cql_model.specs.declared.fault.Fault.{Fault}
@@ -10,7 +10,7 @@ use Rattle.cql_text.specs.declared.tree.Part.{Part}
 use Rattle.cql_model.specs.Places.{declares}
 use Rattle.cql_build.specs.Judged.{unit_fault, registers}
 use Rattle.cql_build.specs.Knowing.{Knows}
-use Rattle.cql_build.specs.Views.{part_of, program_of}
+use Rattle.cql_text.specs.Tree.{part_of, parts_of}
 use Rattle.cql_build.specs.declared.known.Known.{Known}
 use Rattle.cql_build.proofs.Lists.{drop_next}
 
@@ -18,25 +18,25 @@ use Rattle.cql_build.proofs.Lists.{drop_next}
 pub record Judging (parts : List Part) (i many : ℕ) (k : Known) : Type 0 where
   pub ks : List Named
   pub knows : Knows k ks
-  pub whole : first_fault [] 0 1 (program_of parts) ≡ first_fault ks many (i + 1) (program_of (drop i parts))
+  pub whole : first_fault [] 0 1 (parts_of parts) ≡ first_fault ks many (i + 1) (parts_of (drop i parts))
 
 -- before the first unit
 pub judging_start : (parts : List Part) (k : Known) → Knows k [] → Judging parts 0 0 k
 judging_start parts k h = record { ks = []; knows = h; whole = refl }
 
-one_unit : (ks : List Named) (many unit : ℕ) (p : program.Part) (ps : Program)
+one_unit : (ks : List Named) (many unit : ℕ) (p : tree.Part) (ps : Program)
     → first_fault ks many unit (p ∷ ps) ≡ in_unit unit (unit_fault ks many p) (first_fault (declares ks p ∷ ks) (many + registers p) (unit + 1) ps)
 one_unit ks many unit (Register name fields) ps = refl
-one_unit ks many unit (Ask q) ps =
+one_unit ks many unit (AQuery q) ps =
     ap (λ n. in_unit unit (query_fault ks q) (first_fault (query_named ks q ∷ ks) n (unit + 1) ps)) (let e : many ≡ many + 0 = omega arith in e)
 
 at_unit : (parts : List Part) (i many : ℕ) (k : Known) (p : Part) (j : Judging parts i many k) → i < length parts → p ≡ get_or parts i p
-    → first_fault [] 0 1 (program_of parts)
-    ≡ in_unit (i + 1) (unit_fault j.ks many (part_of p)) (first_fault (declares j.ks (part_of p) ∷ j.ks) (many + registers (part_of p)) (i + 1 + 1) (program_of (drop (i + 1) parts)))
+    → first_fault [] 0 1 (parts_of parts)
+    ≡ in_unit (i + 1) (unit_fault j.ks many (part_of p)) (first_fault (declares j.ks (part_of p) ∷ j.ks) (many + registers (part_of p)) (i + 1 + 1) (parts_of (drop (i + 1) parts)))
 at_unit parts i many k p j lt e =
     j.whole
-    ∙ ap (λ l. first_fault j.ks many (i + 1) (program_of l)) (drop_next parts i p lt e)
-    ∙ one_unit j.ks many (i + 1) (part_of p) (program_of (drop (i + 1) parts))
+    ∙ ap (λ l. first_fault j.ks many (i + 1) (parts_of l)) (drop_next parts i p lt e)
+    ∙ one_unit j.ks many (i + 1) (part_of p) (parts_of (drop (i + 1) parts))
 
 -- one unit more, without a fault
 pub judging_next : (parts : List Part) (i many : ℕ) (k k' : Known) (p : Part) (j : Judging parts i many k) → i < length parts → p ≡ get_or parts i p
@@ -46,11 +46,11 @@ judging_next parts i many k k' p j lt e none knows = record {
   knows = knows;
   whole =
       at_unit parts i many k p j lt e
-      ∙ ap (λ o. in_unit (i + 1) o (first_fault (declares j.ks (part_of p) ∷ j.ks) (many + registers (part_of p)) (i + 1 + 1) (program_of (drop (i + 1) parts)))) (sym none);
+      ∙ ap (λ o. in_unit (i + 1) o (first_fault (declares j.ks (part_of p) ∷ j.ks) (many + registers (part_of p)) (i + 1 + 1) (parts_of (drop (i + 1) parts)))) (sym none);
 }
 
 -- a unit that has a fault
 pub judging_fault : (parts : List Part) (i many : ℕ) (k : Known) (p : Part) (f : Fault) (j : Judging parts i many k) → i < length parts → p ≡ get_or parts i p
-    → Some f ≡ unit_fault j.ks many (part_of p) → Some (record { unit = i + 1; fault = f }) ≡ first_fault [] 0 1 (program_of parts)
+    → Some f ≡ unit_fault j.ks many (part_of p) → Some (record { unit = i + 1; fault = f }) ≡ first_fault [] 0 1 (parts_of parts)
 judging_fault parts i many k p f j lt e some =
-    sym (at_unit parts i many k p j lt e ∙ ap (λ o. in_unit (i + 1) o (first_fault (declares j.ks (part_of p) ∷ j.ks) (many + registers (part_of p)) (i + 1 + 1) (program_of (drop (i + 1) parts)))) (sym some))
+    sym (at_unit parts i many k p j lt e ∙ ap (λ o. in_unit (i + 1) o (first_fault (declares j.ks (part_of p) ∷ j.ks) (many + registers (part_of p)) (i + 1 + 1) (parts_of (drop (i + 1) parts)))) (sym some))

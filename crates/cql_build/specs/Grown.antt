@@ -4,21 +4,23 @@ use Rattle.std.specs.List.{AllByRecursion}
 use Rattle.river_plan.specs.Forms.{OpForm, op_forms}
 use Rattle.river_plan.specs.declared.plan.Decl.{Decl}
 use Rattle.river_plan.specs.declared.plan.RawPlan.{RawPlan}
-use Rattle.kern_bags.specs.declared.kernel.Streamer.{Streamer}
 use Rattle.river_kernels.specs.Fits.{stream}
 use Rattle.river_kernels.specs.Kern.{streamer}
-use Rattle.cql_model.specs.Plannable.{IsQuery}
+use Rattle.cql_text.specs.declared.tree.Kind.{Kind}
+use Rattle.cql_model.specs.KernelWords.{streamer_of}
+use Rattle.cql_model.specs.Plannable.{IsPlannableQuery}
 use Rattle.cql_model.specs.Faults.{IsShortName}
 use Rattle.cql_model.specs.Scopes.{Named, scope_of}
 use Rattle.cql_model.specs.Translation.{op, at_word, cross_decls, out_name, out_ops, out_decls, decl, select_decls, project_decls, widths_of, columns_width}
 use Rattle.cql_model.specs.Translation.{query_decls, query_ops}
-use Rattle.cql_model.specs.Program.{Query, Part, Register, Ask, streams_of}
+use Rattle.cql_model.specs.Program.{streams_of}
+use Rattle.cql_text.specs.Tree.{Query, Part, Register, AQuery}
 use Rattle.cql_build.specs.declared.uses.Uses.{Uses}
 
 -- the streams of a unit, behind those that were there
 abbrev pub Notes : Uses → Uses → Part → Type 0
 Notes old new (Register name fields) = (new.inputs ≡ old.inputs ++ name ∷ []) × (new.all ≡ old.all) × (new.past ≡ old.past)
-Notes old new (Ask q) = (new.inputs ≡ old.inputs) × (new.all ≡ old.all ++ streams_of q.items) × (new.past ≡ old.past)
+Notes old new (AQuery q) = (new.inputs ≡ old.inputs) × (new.all ≡ old.all ++ streams_of q.items) × (new.past ≡ old.past)
 
 -- these outputs, other queues and operators, behind those that were there
 pub record Grew (old new : RawPlan) (outs qs : List Decl) (os : List OpForm) : Type 0 where
@@ -36,14 +38,14 @@ pub record Used (old new : Uses) (more : List (List ℕ)) : Type 0 where
   pub all : new.all ≡ old.all
 
 -- the queues of the products of a query's items, each as wide as the items up to it
-abbrev pub products : List ℕ → List Named → List Decl
-products q [] = []
-products q (i ∷ is) = cross_decls q (length i.fields) 2 is
+abbrev pub product_decls : List ℕ → List Named → List Decl
+product_decls q [] = []
+product_decls q (i ∷ is) = cross_decls q (length i.fields) 2 is
 
 -- the operator that makes a stream of a query's relation, and the one that copies it where it is used
-abbrev pub stream_ops : List ℕ → Streamer → List ℕ → ℕ → List OpForm
+abbrev pub stream_ops : List ℕ → Kind → List ℕ → ℕ → List OpForm
 stream_ops q kind last uses =
-    op (at_word q (codes "i")) (streamer kind) (last ∷ []) (out_name q uses ∷ []) (at_word q (codes "i") ∷ []) ∷ out_ops q uses
+    op (at_word q (codes "i")) (streamer (streamer_of kind)) (last ∷ []) (out_name q uses ∷ []) (at_word q (codes "i") ∷ []) ∷ out_ops q uses
 
 -- the queues behind the products: of the condition, the columns, the stream and its copies
 abbrev pub tail_decls : Query → List Named → ℕ → List Decl
@@ -52,26 +54,26 @@ tail_decls q is uses =
 
 -- A UNIT: what it needs, and what is made of it
 
-abbrev pub IsUnit : List Named → Part → Type 0
-IsUnit ks (Register name fields) = Unit {0}
-IsUnit ks (Ask q) = IsQuery ks q
+abbrev pub IsPlannableUnit : List Named → Part → Type 0
+IsPlannableUnit ks (Register name fields) = Unit {0}
+IsPlannableUnit ks (AQuery q) = IsPlannableQuery ks q
 
 abbrev pub IsShortUnit : Part → Type 0
 IsShortUnit (Register name fields) = Unit {0}
-IsShortUnit (Ask q) = IsShortName q.name × AllByRecursion IsShortName (streams_of q.items)
+IsShortUnit (AQuery q) = IsShortName q.name × AllByRecursion IsShortName (streams_of q.items)
 
 abbrev pub unit_uses : Part → List (List ℕ)
 unit_uses (Register name fields) = []
-unit_uses (Ask q) = streams_of q.items
+unit_uses (AQuery q) = streams_of q.items
 
 abbrev pub unit_outputs : List Named → Part → List Decl
 unit_outputs ks (Register name fields) = []
-unit_outputs ks (Ask q) = decl q.name (stream (columns_width (scope_of ks q.items) q.columns)) ∷ []
+unit_outputs ks (AQuery q) = decl q.name (stream (columns_width (scope_of ks q.items) q.columns)) ∷ []
 
 abbrev pub unit_decls : List (List ℕ) → List Named → Part → List Decl
 unit_decls all ks (Register name fields) = []
-unit_decls all ks (Ask q) = query_decls all ks q
+unit_decls all ks (AQuery q) = query_decls all ks q
 
 abbrev pub unit_ops : List (List ℕ) → List (List ℕ) → List Named → List (List ℕ) → Part → List OpForm
 unit_ops inputs all ks past (Register name fields) = []
-unit_ops inputs all ks past (Ask q) = query_ops inputs all ks past q
+unit_ops inputs all ks past (AQuery q) = query_ops inputs all ks past q

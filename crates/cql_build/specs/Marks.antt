@@ -22,12 +22,12 @@ abbrev pub marked : Name → Mark → Name
 marked base mark = at_word base (word mark)
 
 -- the numbers of a mark have a place in 64 bits
-abbrev pub IsLow : Mark → Type 0
-IsLow (Window k) = k < 2 ^ 64
-IsLow (Cross k) = k < 2 ^ 64
-IsLow (Copy k) = k < 2 ^ 64
-IsLow Select = Unit {0}
-IsLow Project = Unit {0}
-IsLow Stream = Unit {0}
-IsLow Output = Unit {0}
-IsLow Copies = Unit {0}
+abbrev pub IsLowMark : Mark → Type 0
+IsLowMark (Window k) = k < 2 ^ 64
+IsLowMark (Cross k) = k < 2 ^ 64
+IsLowMark (Copy k) = k < 2 ^ 64
+IsLowMark Select = Unit {0}
+IsLowMark Project = Unit {0}
+IsLowMark Stream = Unit {0}
+IsLowMark Output = Unit {0}
+IsLowMark Copies = Unit {0}

@@ -8,7 +8,7 @@ use Rattle.river_plan.specs.declared.fault.PlanFault.TheVariants.{P1, P2, P3, P4
 use Rattle.river_plan.specs.declared.plan.Decl.{Decl}
 use Rattle.cql_model.specs.Plannable.{exceeds}
 use Rattle.cql_model.specs.Faults.{IsShortName, refusal_of}
-use Rattle.cql_model.specs.Program.{Part, Register, Ask, Program}
+use Rattle.cql_text.specs.Tree.{Part, Register, AQuery, Program}
 use Rattle.cql_model.specs.Translation.{decl, copy_decls, copy_ops}
 use Rattle.cql_model.specs.declared.fault.Fault.TheVariants.{Limit}
 use Rattle.cql_model.specs.declared.fault.Refusal as model
@@ -16,9 +16,9 @@ use Rattle.cql_build.specs.declared.planning.Refused.{Refused}
 use Rattle.cql_build.specs.declared.planning.Refused.TheVariants as refused
 
 -- this is why a program is refused; want of memory says nothing
-abbrev pub IsRefused : Program → Refused → Type 0
-IsRefused p (refused.Program r) = refusal_of p ≡ Some r
-IsRefused p refused.NoMemory = Unit {0}
+abbrev pub IsTold : Program → Refused → Type 0
+IsTold p (refused.Program r) = refusal_of p ≡ Some r
+IsTold p refused.NoMemory = Unit {0}
 
 -- a limit of plans, told at this unit
 abbrev pub limit_of : ℕ → model.Refusal
@@ -48,21 +48,21 @@ IsLimited p unit refused.NoMemory = Unit {0}
 
 abbrev pub IsShortRegistered : Part → Type 0
 IsShortRegistered (Register name fields) = IsShortName name
-IsShortRegistered (Ask q) = Unit {0}
+IsShortRegistered (AQuery q) = Unit {0}
 
 -- it has at most 16 fields
 abbrev pub IsNarrow : Part → Type 0
 IsNarrow (Register name fields) = length fields ≤ 16
-IsNarrow (Ask q) = Unit {0}
+IsNarrow (AQuery q) = Unit {0}
 
 abbrev pub unit_inputs : Part → List Decl
 unit_inputs (Register name fields) = decl name (stream (length fields)) ∷ []
-unit_inputs (Ask q) = []
+unit_inputs (AQuery q) = []
 
 abbrev pub unit_copies : List (List ℕ) → Part → List Decl
 unit_copies all (Register name fields) = copy_decls name (length fields) (count name all)
-unit_copies all (Ask q) = []
+unit_copies all (AQuery q) = []
 
 abbrev pub unit_copying : List (List ℕ) → Part → List OpForm
 unit_copying all (Register name fields) = copy_ops name (count name all)
-unit_copying all (Ask q) = []
+unit_copying all (AQuery q) = []

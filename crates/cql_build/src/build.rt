@@ -5,10 +5,13 @@ ghost use Rattle.river_kernels.specs.Fits.{stream, relation};
 ghost use Rattle.river_kernels.specs.Kern.{window, cross};
 ghost use Rattle.river_plan.specs.Forms.{op_form};
 ghost use Rattle.cql_model.specs.Faults.{IsShortName};
-ghost use Rattle.cql_model.specs.Program.{Chosen, streams_of};
-ghost use Rattle.cql_model.specs.Translation.{op, decl, sources as queues_of, widths_of, columns_width, window_ops, window_decls, w_name, cross_ops, cross_last, select_ops, select_last, select_decls, project_ops, project_last, project_decls};
-ghost use Rattle.cql_build.specs.Grown.{Grew, Used, products};
-ghost use Rattle.cql_build.specs.Views.{window_of, sources_of, chosen_of, columns_of, condition_of, scope};
+ghost use Rattle.cql_model.specs.Program.{streams_of};
+ghost use Rattle.cql_text.specs.Tree.{Chosen};
+ghost use Rattle.cql_model.specs.Translation.{op, decl, queues_of_uses as queues_of, widths_of, columns_width, window_ops, window_decls, w_name, cross_ops, cross_last, select_ops, select_last, select_decls, project_ops, project_last, project_decls};
+ghost use Rattle.cql_model.specs.KernelWords.{kernel_window};
+ghost use Rattle.cql_build.specs.Grown.{Grew, Used, product_decls};
+ghost use Rattle.cql_text.specs.Tree.{window_of, sources_of, chosen_of, columns_of, condition_of};
+ghost use Rattle.cql_build.specs.Views.{scope};
 
 use crate::Item;
 use crate::names::{Mark, marked};
@@ -77,7 +80,7 @@ fn window(
     source: &Source,
     from: Name,
 ) -> Result<(), NoMemory>
-    ensures { OnOk result (Grew raw.old raw.new [] (decl name kind ∷ []) (op name (window (window_of source.now.window)) (from ∷ []) (name ∷ []) (name ∷ []) ∷ [])) }
+    ensures { OnOk result (Grew raw.old raw.new [] (decl name kind ∷ []) (op name (window (kernel_window (window_of source.now.window))) (from ∷ []) (name ∷ []) (name ∷ []) ∷ [])) }
 {
     let op = window_op(alloc, name, source.window, from)?;
     add(raw, op, name, kind)
@@ -95,7 +98,7 @@ pub(crate) fn crosses(
     requires each { length items.now ≡ length sources.now }
     requires short { length query ≤ 40 }
     requires narrow { widths_of (scope items.now) ≤ 16 }
-    ensures grew { OnOk result (Grew raw.old raw.new [] (products query (scope items.now)) (cross_ops query (w_name query 1) 2 (drop 1 (sources_of sources.now)))) }
+    ensures grew { OnOk result (Grew raw.old raw.new [] (product_decls query (scope items.now)) (cross_ops query (w_name query 1) 2 (drop 1 (sources_of sources.now)))) }
     ensures last { IfOk result (λ name. name ≡ cross_last query (w_name query 1) 2 (drop 1 (sources_of sources.now))) }
 {
     let mut last = marked(alloc, query, Mark::Window(1))?;

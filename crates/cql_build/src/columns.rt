@@ -3,11 +3,11 @@ ghost use Rattle.std.specs.Prelude.{◌≡◌, ◌++◌, codes, IfOk, OnOk};
 ghost use Rattle.std.specs.List.{flat_map};
 ghost use Rattle.std.specs.Fmt.{decimal};
 ghost use Rattle.cql_model.specs.Scopes.{column_name, column_names, names_from, plain_name};
-ghost use Rattle.cql_build.specs.Views.{value_of, column_of, chosen_of, columns_of, scope};
+ghost use Rattle.cql_text.specs.Tree.{scalar, column_of, chosen_of, columns_of};
+ghost use Rattle.cql_build.specs.Views.{scope};
 
 use crate::Item;
 use crate::names::{name_of, put_number};
-use crate::shape::Shape;
 use cql_text::{Column, Columns, Scalar};
 use river_base::{Bytes, Name, NoMemory};
 use river_plan::Names;
@@ -80,11 +80,11 @@ fn column_name(alloc: Global, place: usize, column: &Column) -> Result<Name, NoM
 
 // The name of a column without an alias: its field's where it is one, and otherwise that of its place.
 fn value_name(alloc: Global, place: usize, value: &Scalar) -> Result<Name, NoMemory>
-    ensures { IfOk result (λ name. name ≡ plain_name (value_of value.now) (codes "c" ++ decimal place)) }
+    ensures { IfOk result (λ name. name ≡ plain_name (scalar value.now) (codes "c" ++ decimal place)) }
 {
-    match Shape::of(value) {
-        Shape::Field(field) | Shape::ItemField(_, field) => Ok(field),
-        Shape::Number(_) | Shape::Neg(_) | Shape::Not(_) | Shape::Both(_, _, _) => {
+    match value {
+        Scalar::Field(field) | Scalar::ItemField(_, field) => Ok(*field),
+        Scalar::Number(_) | Scalar::Neg(_) | Scalar::Not(_) | Scalar::Bin { .. } => {
             place_name(alloc, place)
         }
     }

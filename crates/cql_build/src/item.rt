@@ -2,7 +2,8 @@
 ghost use Rattle.std.specs.Prelude.{◌≡◌, List, IfOk};
 ghost use Rattle.cql_model.specs.Scopes.{Named, alias_or, item_named, scope_of};
 ghost use Rattle.cql_build.specs.Knowing.{Knows};
-ghost use Rattle.cql_build.specs.Views.{source_of, sources_of, named, scope};
+ghost use Rattle.cql_text.specs.Tree.{source_of, sources_of};
+ghost use Rattle.cql_build.specs.Views.{named_item, scope};
 
 use crate::Known;
 use cql_text::Source;
@@ -46,7 +47,7 @@ impl Known {
 
     // An item; a stream that is not known has no fields.
     fn item<'a>(&'a self, source: &Source) -> Item<'a>
-        ensures { (ks : List Named) → Knows self.now ks → named result ≡ item_named ks (source_of source.now) }
+        ensures { (ks : List Named) → Knows self.now ks → named_item result ≡ item_named ks (source_of source.now) }
     {
         let fields = match self.fields(source.stream) {
             Some(fields) => fields,

@@ -6,7 +6,7 @@ ghost use Rattle.cql_model.specs.Faults.{is_rows_fault, item_fault, items_fault}
 ghost use Rattle.cql_model.specs.Scopes.{Named, item_named, scope_of};
 ghost use Rattle.cql_model.specs.Translation.{widths_of};
 ghost use Rattle.cql_build.specs.Knowing.{Knows};
-ghost use Rattle.cql_build.specs.Views.{window_of, source_of, sources_of};
+ghost use Rattle.cql_text.specs.Tree.{window_of, source_of, sources_of};
 
 use crate::Known;
 use crate::item::item_name;

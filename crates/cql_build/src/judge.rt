@@ -3,7 +3,7 @@ ghost use Rattle.std.specs.Prelude.{◌≡◌, ◌+◌, [], ◌∷◌, List, IfO
 ghost use Rattle.cql_model.specs.Faults.{fields_fault, stream_fault, query_fault, first_fault};
 ghost use Rattle.cql_model.specs.Scopes.{Named, scope_of, column_names};
 ghost use Rattle.cql_build.specs.Knowing.{Knows};
-ghost use Rattle.cql_build.specs.Views.{query_of, part_of, program_of};
+ghost use Rattle.cql_text.specs.Tree.{query_of, part_of, parts_of};
 ghost use Rattle.cql_model.specs.Places.{declares};
 ghost use Rattle.cql_build.specs.Judged.{unit_fault, registers};
 
@@ -18,7 +18,7 @@ use std::alloc::Global;
 
 /// The first fault of the units of a program, one after another, and its unit, from 1.
 pub(crate) fn first_fault(alloc: Global, parts: &[Part]) -> Result<Option<Refusal>, NoMemory>
-    ensures { IfOk result (λ refusal. refusal ≡ first_fault [] 0 1 (program_of parts.now)) }
+    ensures { IfOk result (λ refusal. refusal ≡ first_fault [] 0 1 (parts_of parts.now)) }
 {
     let mut known = Known::new(alloc);
     fault_among(alloc, parts, &mut known)
@@ -31,7 +31,7 @@ fn fault_among(
     known: &mut Known,
 ) -> Result<Option<Refusal>, NoMemory>
     requires { Knows known.old [] }
-    ensures { IfOk result (λ refusal. refusal ≡ first_fault [] 0 1 (program_of parts.now)) }
+    ensures { IfOk result (λ refusal. refusal ≡ first_fault [] 0 1 (parts_of parts.now)) }
 {
     let mut many = 0;
     for i in 0..parts.len() {
@@ -50,7 +50,7 @@ fn registers(part: &Part) -> usize
 {
     match part {
         Part::Register(_) => 1,
-        Part::Ask(_) => 0,
+        Part::Query(_) => 0,
     }
 }
 
@@ -79,7 +79,7 @@ impl Known {
                 let fields = copied(alloc, stream.fields.as_slice())?;
                 self.declare(stream.name, fields)
             }
-            Part::Ask(query) => {
+            Part::Query(query) => {
                 let fields = self.columns(alloc, query)?;
                 self.declare(query.name, fields)
             }
@@ -100,7 +100,7 @@ impl Known {
     {
         match part {
             Part::Register(stream) => Ok(self.stream_fault(many, stream)),
-            Part::Ask(query) => self.query_fault(alloc, query),
+            Part::Query(query) => self.query_fault(alloc, query),
         }
     }
 

@@ -13,7 +13,6 @@ mod output;
 mod places;
 mod planning;
 mod queries;
-mod shape;
 mod uses;
 mod values;
 

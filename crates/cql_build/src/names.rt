@@ -2,7 +2,7 @@
 ghost use Rattle.std.specs.Prelude.{◌≡◌, ◌≤◌, ◌<◌, ◌^◌, ◌++◌, codes, IsTrue, IfOk, OnOk, length};
 ghost use Rattle.std.specs.Fmt.{decimal};
 ghost use Rattle.river_base.specs.Name.{is_name};
-ghost use Rattle.cql_build.specs.Marks.{word, marked, IsLow};
+ghost use Rattle.cql_build.specs.Marks.{word, marked, IsLowMark};
 
 use river_base::{Bytes, Name, NoMemory};
 use std::alloc::Global;
@@ -41,7 +41,7 @@ pub(crate) fn marked(alloc: Global, base: Name, mark: Mark) -> Result<Name, NoMe
 fn text(alloc: Global, base: Name, mark: Mark) -> Result<Bytes, NoMemory>
     ensures is { IfOk result (λ text. text ≡ marked base mark) }
     ensures named { OnOk result (IsTrue (is_name base)) }
-    ensures low { OnOk result (IsLow mark) }
+    ensures low { OnOk result (IsLowMark mark) }
 {
     let mut bytes = Bytes::from_slice(alloc, base.as_slice())?;
     bytes.extend(b"@")?;
@@ -53,7 +53,7 @@ fn text(alloc: Global, base: Name, mark: Mark) -> Result<Bytes, NoMemory>
 #[tactic(auto, using(cql_model::proofs::Numerals::numeral_decimal))]
 fn put_mark(alloc: Global, mark: Mark, to: &mut Bytes) -> Result<(), NoMemory>
     ensures put { OnOk result (to.new ≡ to.old ++ word mark) }
-    ensures low { OnOk result (IsLow mark) }
+    ensures low { OnOk result (IsLowMark mark) }
 {
     match mark {
         Mark::Window(number) => put_number(alloc, b"w", number, to),

@@ -4,8 +4,9 @@ ghost use Rattle.work_code.specs.Term.{terms};
 ghost use Rattle.river_kernels.specs.Kern.{duplicate, window, select, project, cross, streamer};
 ghost use Rattle.river_plan.specs.Forms.{op_form};
 ghost use Rattle.cql_model.specs.Translation.{op, resolved, terms_of, widths_of};
-ghost use Rattle.cql_build.specs.Seen.{kind_of};
-ghost use Rattle.cql_build.specs.Views.{value_of, window_of, chosen_of, scope};
+ghost use Rattle.cql_model.specs.KernelWords.{kernel_window, streamer_of};
+ghost use Rattle.cql_text.specs.Tree.{scalar, window_of, chosen_of};
+ghost use Rattle.cql_build.specs.Views.{scope};
 
 use crate::Item;
 use crate::places::resolve;
@@ -28,7 +29,7 @@ pub(crate) fn one(alloc: Global, name: Name) -> Result<Names, NoMemory>
 
 /// The operator of a window.
 pub(crate) fn window_op(alloc: Global, name: Name, kept: Window, from: Name) -> Result<Op, NoMemory>
-    ensures { IfOk result (λ made. op_form made ≡ op name (window (window_of kept)) (from ∷ []) (name ∷ []) (name ∷ [])) }
+    ensures { IfOk result (λ made. op_form made ≡ op name (window (kernel_window (window_of kept))) (from ∷ []) (name ∷ []) (name ∷ [])) }
 {
     let reads = one(alloc, from)?;
     let writes = one(alloc, name)?;
@@ -44,7 +45,7 @@ pub(crate) fn window_op(alloc: Global, name: Name, kept: Window, from: Name) -> 
 
 // The window as a kernel.
 fn window_kernel(window: Window) -> Kept
-    ensures { result ≡ window_of window }
+    ensures { result ≡ kernel_window (window_of window) }
 {
     match window {
         Window::Now => Kept::Now,
@@ -80,7 +81,7 @@ pub(crate) fn select_op(
     from: Name,
 ) -> Result<Op, NoMemory>
     requires { widths_of (scope items.now) ≤ 16 }
-    ensures { IfOk result (λ made. op_form made ≡ op name (select (resolved (scope items.now) (value_of value.now))) (from ∷ []) (name ∷ []) []) }
+    ensures { IfOk result (λ made. op_form made ≡ op name (select (resolved (scope items.now) (scalar value.now))) (from ∷ []) (name ∷ []) []) }
 {
     let reads = one(alloc, from)?;
     let writes = one(alloc, name)?;
@@ -135,7 +136,7 @@ pub(crate) fn stream_op(
     from: Name,
     to: Name,
 ) -> Result<Op, NoMemory>
-    ensures { IfOk result (λ made. op_form made ≡ op name (streamer (kind_of kind)) (from ∷ []) (to ∷ []) (name ∷ [])) }
+    ensures { IfOk result (λ made. op_form made ≡ op name (streamer (streamer_of kind)) (from ∷ []) (to ∷ []) (name ∷ [])) }
 {
     let reads = one(alloc, from)?;
     let writes = one(alloc, to)?;
@@ -151,7 +152,7 @@ pub(crate) fn stream_op(
 
 // The streamer as a kernel.
 fn streamer_kernel(kind: Kind) -> Streamer
-    ensures { result ≡ kind_of kind }
+    ensures { result ≡ streamer_of kind }
 {
     match kind {
         Kind::Istream => Streamer::Istream,

@@ -3,9 +3,9 @@ ghost use Rattle.std.specs.Prelude.{◌≡◌, ◌≤◌, ◌<◌, ◌^◌, ◌+
 ghost use Rattle.river_kernels.specs.Fits.{stream};
 ghost use Rattle.river_kernels.specs.Kern.{duplicate, streamer};
 ghost use Rattle.river_plan.specs.Names.{count};
-ghost use Rattle.cql_model.specs.Translation.{op, decl, decls, copies, at_word, out_name, out_decls, copy_ops, copy_decls};
+ghost use Rattle.cql_model.specs.Translation.{op, decl, decls_of, copy_names, at_word, out_name, out_decls, copy_ops, copy_decls};
 ghost use Rattle.cql_build.specs.Grown.{Grew, stream_ops};
-ghost use Rattle.cql_build.specs.Seen.{kind_of};
+ghost use Rattle.cql_model.specs.KernelWords.{streamer_of};
 
 use crate::build::stream;
 use crate::columns::append;
@@ -30,7 +30,7 @@ pub(crate) fn output(
     requires short { length query ≤ 40 }
     requires few { uses ≤ 256 }
     requires narrow { width < 2 ^ 32 }
-    ensures { OnOk result (Grew raw.old raw.new (decl query (stream width) ∷ []) (out_decls query width uses) (stream_ops query (kind_of kind) last uses)) }
+    ensures { OnOk result (Grew raw.old raw.new (decl query (stream width) ∷ []) (out_decls query width uses) (stream_ops query kind last uses)) }
 {
     let carried = stream(width);
     let to = out_name(alloc, query, uses)?;
@@ -66,7 +66,7 @@ fn stream_to(
     to: Name,
 ) -> Result<(), NoMemory>
     requires { length query ≤ 40 }
-    ensures { OnOk result (Grew raw.old raw.new [] [] (op (at_word query (codes "i")) (streamer (kind_of kind)) (last ∷ []) (to ∷ []) (at_word query (codes "i") ∷ []) ∷ [])) }
+    ensures { OnOk result (Grew raw.old raw.new [] [] (op (at_word query (codes "i")) (streamer (streamer_of kind)) (last ∷ []) (to ∷ []) (at_word query (codes "i") ∷ []) ∷ [])) }
 {
     let name = marked(alloc, query, Mark::Stream)?;
     let op = stream_op(alloc, name, kind, last, to)?;
@@ -84,7 +84,7 @@ fn copy_output(
 ) -> Result<(), NoMemory>
     requires short { length query ≤ 40 }
     requires few { uses ≤ 256 }
-    ensures { OnOk result (Grew raw.old raw.new [] (decl from kind ∷ decls (copies query 0 uses) kind) (op (at_word query (codes "d")) (duplicate (suc uses)) (from ∷ []) (query ∷ copies query 0 uses) [] ∷ [])) }
+    ensures { OnOk result (Grew raw.old raw.new [] (decl from kind ∷ decls_of (copy_names query 0 uses) kind) (op (at_word query (codes "d")) (duplicate (suc uses)) (from ∷ []) (query ∷ copy_names query 0 uses) [] ∷ [])) }
 {
     raw.queues.push(Decl { name: from, kind })?;
     let mut writes = one(alloc, query)?;
@@ -146,7 +146,7 @@ fn copy(
 // The names of so many copies.
 fn copies(alloc: Global, base: Name, count: usize) -> Result<Names, NoMemory>
     requires { length base ≤ 40 }
-    ensures { IfOk result (λ names. names ≡ copies base 0 count) }
+    ensures { IfOk result (λ names. names ≡ copy_names base 0 count) }
 {
     let mut names = Names::new(alloc);
     for k in 0..count {
@@ -157,7 +157,7 @@ fn copies(alloc: Global, base: Name, count: usize) -> Result<Names, NoMemory>
 
 // Queues of one type, behind those that are declared.
 fn declare(to: &mut Decls, names: &[Name], kind: QueueType) -> Result<(), NoMemory>
-    ensures { OnOk result (to.new ≡ to.old ++ decls names.now kind) }
+    ensures { OnOk result (to.new ≡ to.old ++ decls_of names.now kind) }
 {
     for name in names {
         to.push(Decl { name: *name, kind })?;

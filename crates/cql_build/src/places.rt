@@ -1,19 +1,20 @@
 // Values by the places of their fields in the joined row of all items.
 ghost use Rattle.std.specs.Prelude.{◌≡◌, ◌≤◌, ◌<◌, IfOk, IfSome, length};
-ghost use Rattle.work_code.specs.Term.{Term, term, Bin};
-ghost use Rattle.cql_model.specs.Translation.{place_in, field_place, item_place, at_place, resolved, widths_of};
-ghost use Rattle.cql_build.specs.Views.{value_of, scope};
+ghost use Rattle.work_code.specs.Term.{term};
+ghost use Rattle.cql_model.specs.Translation.{place_among, field_place, item_place, at_place, resolved, widths_of};
+ghost use Rattle.cql_model.specs.KernelWords.{oper_of};
+ghost use Rattle.cql_text.specs.Tree.{scalar};
+ghost use Rattle.cql_build.specs.Views.{scope};
 
 use crate::Item;
-use crate::shape::Shape;
-use cql_text::Scalar;
+use cql_text::{Operator, Scalar};
 use river_base::{Name, NoMemory};
 use std::alloc::Global;
 use work_code::{BinOp, Expr};
 
 // The place of a field among the fields of one item, from 0.
 fn place_in(fields: &[Name], field: Name) -> Option<usize>
-    ensures is { result ≡ place_in field fields.now }
+    ensures is { result ≡ place_among field fields.now }
     ensures within { IfSome result (λ k. k < length fields.now) }
 {
     for i in 0..fields.len() {
@@ -73,46 +74,51 @@ fn at_place(place: Option<usize>) -> Expr
 /// A value over the joined row of these items.
 pub(crate) fn resolve(alloc: Global, items: &[Item<'_>], value: &Scalar) -> Result<Expr, NoMemory>
     requires { widths_of (scope items.now) ≤ 16 }
-    ensures { IfOk result (λ e. term e ≡ resolved (scope items.now) (value_of value.now)) }
+    ensures { IfOk result (λ e. term e ≡ resolved (scope items.now) (scalar value.now)) }
 {
-    match Shape::of(value) {
-        Shape::Number(number) => Ok(Expr::Const(number.value as i64)),
-        Shape::Field(field) => Ok(at_place(field_place(items, field))),
-        Shape::ItemField(item, field) => Ok(at_place(item_place(items, item, field))),
-        Shape::Neg(inner) => {
+    match value {
+        Scalar::Number(number) => Ok(Expr::Const(number.value as i64)),
+        Scalar::Field(field) => Ok(at_place(field_place(items, *field))),
+        Scalar::ItemField(item, field) => Ok(at_place(item_place(items, *item, *field))),
+        Scalar::Neg(inner) => {
             let inner = resolve(alloc, items, inner)?;
             Ok(Expr::Neg(Box::new(alloc, inner)?))
         }
-        Shape::Not(inner) => {
+        Scalar::Not(inner) => {
             let inner = resolve(alloc, items, inner)?;
             Ok(Expr::Not(Box::new(alloc, inner)?))
         }
-        Shape::Both(op, left, right) => binary(
-            alloc,
-            op,
-            resolve(alloc, items, left),
-            resolve(alloc, items, right),
-        ),
+        Scalar::Bin { op, left, right } => {
+            let left = resolve(alloc, items, left)?;
+            let left = Box::new(alloc, left)?;
+            let right = resolve(alloc, items, right)?;
+            let right = Box::new(alloc, right)?;
+            Ok(Expr::Bin {
+                op: oper_of(*op),
+                left,
+                right,
+            })
+        }
     }
 }
 
-// An operation on two values, where there was memory for both.
-fn binary(
-    alloc: Global,
-    op: BinOp,
-    left: Result<Expr, NoMemory>,
-    right: Result<Expr, NoMemory>,
-) -> Result<Expr, NoMemory>
-    ensures { (l r : Term) → IfOk left (λ e. term e ≡ l) → IfOk right (λ e. term e ≡ r) → IfOk result (λ e. term e ≡ Bin op l r) }
+// The operation of an operator.
+fn oper_of(op: Operator) -> BinOp
+    ensures { result ≡ oper_of op }
 {
-    let left = boxed(alloc, left)?;
-    let right = boxed(alloc, right)?;
-    Ok(Expr::Bin { op, left, right })
-}
-
-// A value in a box, where there was memory for it.
-fn boxed(alloc: Global, value: Result<Expr, NoMemory>) -> Result<Box<Expr>, NoMemory>
-    ensures { (t : Term) → IfOk value (λ e. term e ≡ t) → IfOk result (λ e. term e.value ≡ t) }
-{
-    Ok(Box::new(alloc, value?)?)
+    match op {
+        Operator::Mul => BinOp::Mul,
+        Operator::Quot => BinOp::Quot,
+        Operator::Rem => BinOp::Rem,
+        Operator::Add => BinOp::Add,
+        Operator::Sub => BinOp::Sub,
+        Operator::Equal => BinOp::Eq,
+        Operator::Different | Operator::NotEqual => BinOp::Ne,
+        Operator::Less => BinOp::Lt,
+        Operator::LessEqual => BinOp::Le,
+        Operator::Greater => BinOp::Gt,
+        Operator::GreaterEqual => BinOp::Ge,
+        Operator::And => BinOp::And,
+        Operator::Or => BinOp::Or,
+    }
 }

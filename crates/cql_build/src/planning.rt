@@ -7,12 +7,12 @@ ghost use Rattle.river_plan.specs.Uses.{all_vars};
 ghost use Rattle.river_plan.specs.Valid.{FirstFault};
 ghost use Rattle.river_plan.specs.declared.fault.PlanFault as plan_fault;
 ghost use Rattle.cql_model.specs.Plannable.{IsPlannable, exceeds};
-ghost use Rattle.cql_model.specs.Faults.{AreSpoken, AreShort, first_fault, refusal_of};
+ghost use Rattle.cql_model.specs.Faults.{AreSpoken, HaveShortNames, first_fault, refusal_of};
 ghost use Rattle.cql_model.specs.Program.{registered, all_uses};
 ghost use Rattle.cql_model.specs.Translation.{input_decls, input_copies, input_ops, plan_of};
 ghost use Rattle.cql_build.specs.Grown.{Grew};
-ghost use Rattle.cql_build.specs.Planned.{IsRefused, IsLimited, limit_at, refused_of, unit_inputs, unit_copies, unit_copying, IsShortRegistered, IsNarrow};
-ghost use Rattle.cql_build.specs.Views.{part_of, program_of};
+ghost use Rattle.cql_build.specs.Planned.{IsTold, IsLimited, limit_at, refused_of, unit_inputs, unit_copies, unit_copying, IsShortRegistered, IsNarrow};
+ghost use Rattle.cql_text.specs.Tree.{part_of, parts_of};
 
 use crate::columns::append;
 use crate::judge::first_fault;
@@ -48,10 +48,10 @@ impl From<NoMemory> for Refused {
 /// The plan of a program; or the first fault of its units, one after another; or, where they have none, `Limit` of the last
 /// unit where the plan exceeds a limit of plans.
 pub fn plan(alloc: Global, parts: &[Part]) -> Result<Plan, Refused>
-    requires spoken { AreSpoken (program_of parts.now) }
-    requires short { AreShort (program_of parts.now) }
-    ensures plan { IfOk result (λ plan. (refusal_of (program_of parts.now) ≡ None) × (plan ≡ plan_of (program_of parts.now))) }
-    ensures refused { IfErr result (IsRefused (program_of parts.now)) }
+    requires spoken { AreSpoken (parts_of parts.now) }
+    requires short { HaveShortNames (parts_of parts.now) }
+    ensures plan { IfOk result (λ plan. (refusal_of (parts_of parts.now) ≡ None) × (plan ≡ plan_of (parts_of parts.now))) }
+    ensures refused { IfErr result (IsTold (parts_of parts.now)) }
 {
     if let Some(refusal) = first_fault(alloc, parts)? {
         return Err(Refused::Program(refusal));
@@ -61,11 +61,11 @@ pub fn plan(alloc: Global, parts: &[Part]) -> Result<Plan, Refused>
 
 // The same, where no unit has a fault.
 fn faultless(alloc: Global, parts: &[Part]) -> Result<Plan, Refused>
-    requires accepted { IsPlannable (program_of parts.now) }
-    requires short { AreShort (program_of parts.now) }
-    requires none { first_fault [] 0 1 (program_of parts.now) ≡ None }
-    ensures plan { IfOk result (λ plan. (refusal_of (program_of parts.now) ≡ None) × (plan ≡ plan_of (program_of parts.now))) }
-    ensures refused { IfErr result (IsRefused (program_of parts.now)) }
+    requires accepted { IsPlannable (parts_of parts.now) }
+    requires short { HaveShortNames (parts_of parts.now) }
+    requires none { first_fault [] 0 1 (parts_of parts.now) ≡ None }
+    ensures plan { IfOk result (λ plan. (refusal_of (parts_of parts.now) ≡ None) × (plan ≡ plan_of (parts_of parts.now))) }
+    ensures refused { IfErr result (IsTold (parts_of parts.now)) }
 {
     let mut uses = Uses::of(alloc, parts)?;
     if uses.all.len() > 256 {
@@ -117,13 +117,13 @@ fn told(fault: PlanFault, unit: usize) -> Refused
 
 // The lists of the plan.
 fn lists(alloc: Global, uses: &mut Uses, parts: &[Part]) -> Result<RawPlan, NoMemory>
-    requires accepted { IsPlannable (program_of parts.now) }
-    requires short { AreShort (program_of parts.now) }
+    requires accepted { IsPlannable (parts_of parts.now) }
+    requires short { HaveShortNames (parts_of parts.now) }
     requires few { length uses.old.all ≤ 256 }
-    requires inputs { uses.old.inputs ≡ registered (program_of parts.now) }
-    requires all { uses.old.all ≡ all_uses (program_of parts.now) }
+    requires inputs { uses.old.inputs ≡ registered (parts_of parts.now) }
+    requires all { uses.old.all ≡ all_uses (parts_of parts.now) }
     requires past { uses.old.past ≡ [] }
-    ensures { IfOk result (λ raw. plan_form raw ≡ plan_of (program_of parts.now)) }
+    ensures { IfOk result (λ raw. plan_form raw ≡ plan_of (parts_of parts.now)) }
 {
     let mut raw = RawPlan::new(alloc);
     fill(alloc, &mut raw, uses, parts)?;
@@ -133,13 +133,13 @@ fn lists(alloc: Global, uses: &mut Uses, parts: &[Part]) -> Result<RawPlan, NoMe
 // Fills lists that are empty.
 fn fill(alloc: Global, raw: &mut RawPlan, uses: &mut Uses, parts: &[Part]) -> Result<(), NoMemory>
     requires empty { plan_form raw.old ≡ empty_form }
-    requires accepted { IsPlannable (program_of parts.now) }
-    requires short { AreShort (program_of parts.now) }
+    requires accepted { IsPlannable (parts_of parts.now) }
+    requires short { HaveShortNames (parts_of parts.now) }
     requires few { length uses.old.all ≤ 256 }
-    requires inputs { uses.old.inputs ≡ registered (program_of parts.now) }
-    requires all { uses.old.all ≡ all_uses (program_of parts.now) }
+    requires inputs { uses.old.inputs ≡ registered (parts_of parts.now) }
+    requires all { uses.old.all ≡ all_uses (parts_of parts.now) }
     requires past { uses.old.past ≡ [] }
-    ensures { OnOk result (plan_form raw.new ≡ plan_of (program_of parts.now)) }
+    ensures { OnOk result (plan_form raw.new ≡ plan_of (parts_of parts.now)) }
 {
     declare_inputs(&mut raw.inputs, parts)?;
     copy_inputs(alloc, raw, uses, parts)?;
@@ -149,8 +149,8 @@ fn fill(alloc: Global, raw: &mut RawPlan, uses: &mut Uses, parts: &[Part]) -> Re
 
 // The registered streams are inputs.
 fn declare_inputs(to: &mut Decls, parts: &[Part]) -> Result<(), NoMemory>
-    requires { AllByRecursion IsNarrow (program_of parts.now) }
-    ensures { OnOk result (to.new ≡ to.old ++ input_decls (program_of parts.now)) }
+    requires { AllByRecursion IsNarrow (parts_of parts.now) }
+    ensures { OnOk result (to.new ≡ to.old ++ input_decls (parts_of parts.now)) }
 {
     for part in parts {
         declare_input(to, part)?;
@@ -168,7 +168,7 @@ fn declare_input(to: &mut Decls, part: &Part) -> Result<(), NoMemory>
             name: registered.name,
             kind: carried(registered),
         }),
-        Part::Ask(_) => Ok(()),
+        Part::Query(_) => Ok(()),
     }
 }
 
@@ -179,10 +179,10 @@ fn copy_inputs(
     uses: &Uses,
     parts: &[Part],
 ) -> Result<(), NoMemory>
-    requires short { AreShort (program_of parts.now) }
+    requires short { HaveShortNames (parts_of parts.now) }
     requires few { length uses.now.all ≤ 256 }
-    requires narrow { AllByRecursion IsNarrow (program_of parts.now) }
-    ensures { OnOk result (Grew raw.old raw.new [] (input_copies uses.now.all (program_of parts.now)) (input_ops uses.now.all (program_of parts.now))) }
+    requires narrow { AllByRecursion IsNarrow (parts_of parts.now) }
+    ensures { OnOk result (Grew raw.old raw.new [] (input_copies uses.now.all (parts_of parts.now)) (input_ops uses.now.all (parts_of parts.now))) }
 {
     for part in parts {
         copy_unit(alloc, raw, uses, part)?;
@@ -199,7 +199,7 @@ fn copy_unit(alloc: Global, raw: &mut RawPlan, uses: &Uses, part: &Part) -> Resu
 {
     match part {
         Part::Register(registered) => copy_input(alloc, raw, uses, registered),
-        Part::Ask(_) => Ok(()),
+        Part::Query(_) => Ok(()),
     }
 }
 

@@ -3,14 +3,15 @@ ghost use Rattle.std.specs.Prelude.{◌≡◌, ◌≤◌, ◌<◌, ◌^◌, ◌+
 ghost use Rattle.std.specs.List.{AllByRecursion};
 ghost use Rattle.river_kernels.specs.Fits.{stream};
 ghost use Rattle.river_plan.specs.Names.{count};
-ghost use Rattle.cql_model.specs.Plannable.{IsQuery, AreQueries};
-ghost use Rattle.cql_model.specs.Faults.{IsShortName, AreShort};
+ghost use Rattle.cql_model.specs.Plannable.{IsPlannableQuery, AreQueries};
+ghost use Rattle.cql_model.specs.Faults.{IsShortName, HaveShortNames};
 ghost use Rattle.cql_model.specs.Program.{streams_of};
 ghost use Rattle.cql_model.specs.Scopes.{Named, scope_of};
-ghost use Rattle.cql_model.specs.Translation.{decl, columns_width, widths_of, query_ops, query_decls, tail_ops, output_decls, ask_decls, ask_ops};
-ghost use Rattle.cql_build.specs.Grown.{Grew, Used, IsUnit, IsShortUnit, unit_outputs, unit_decls, unit_ops, unit_uses, tail_decls};
+ghost use Rattle.cql_model.specs.Translation.{decl, columns_width, widths_of, query_ops, query_decls, tail_ops, output_decls, queries_decls, queries_ops};
+ghost use Rattle.cql_build.specs.Grown.{Grew, Used, IsPlannableUnit, IsShortUnit, unit_outputs, unit_decls, unit_ops, unit_uses, tail_decls};
 ghost use Rattle.cql_build.specs.Knowing.{Knows};
-ghost use Rattle.cql_build.specs.Views.{columns_of, query_of, part_of, program_of, scope};
+ghost use Rattle.cql_text.specs.Tree.{columns_of, query_of, part_of, parts_of};
+ghost use Rattle.cql_build.specs.Views.{scope};
 
 use crate::build::{crosses, project, select, width, windows};
 use crate::output::output;
@@ -28,10 +29,10 @@ pub(crate) fn queries(
     uses: &mut Uses,
     parts: &[Part],
 ) -> Result<(), NoMemory>
-    requires good { AreQueries [] (program_of parts.now) }
-    requires short { AreShort (program_of parts.now) }
+    requires good { AreQueries [] (parts_of parts.now) }
+    requires short { HaveShortNames (parts_of parts.now) }
     requires few { length uses.old.all ≤ 256 }
-    ensures { OnOk result (Grew raw.old raw.new (output_decls [] (program_of parts.now)) (ask_decls uses.old.all [] (program_of parts.now)) (ask_ops uses.old.inputs uses.old.all [] uses.old.past (program_of parts.now))) }
+    ensures { OnOk result (Grew raw.old raw.new (output_decls [] (parts_of parts.now)) (queries_decls uses.old.all [] (parts_of parts.now)) (queries_ops uses.old.inputs uses.old.all [] uses.old.past (parts_of parts.now))) }
 {
     let mut known = Known::new(alloc);
     queries_among(alloc, raw, uses, parts, &mut known)
@@ -46,10 +47,10 @@ fn queries_among(
     known: &mut Known,
 ) -> Result<(), NoMemory>
     requires nothing { Knows known.old [] }
-    requires good { AreQueries [] (program_of parts.now) }
-    requires short { AreShort (program_of parts.now) }
+    requires good { AreQueries [] (parts_of parts.now) }
+    requires short { HaveShortNames (parts_of parts.now) }
     requires few { length uses.old.all ≤ 256 }
-    ensures { OnOk result (Grew raw.old raw.new (output_decls [] (program_of parts.now)) (ask_decls uses.old.all [] (program_of parts.now)) (ask_ops uses.old.inputs uses.old.all [] uses.old.past (program_of parts.now))) }
+    ensures { OnOk result (Grew raw.old raw.new (output_decls [] (parts_of parts.now)) (queries_decls uses.old.all [] (parts_of parts.now)) (queries_ops uses.old.inputs uses.old.all [] uses.old.past (parts_of parts.now))) }
 {
     for part in parts {
         known.unit(alloc, raw, uses, part)?;
@@ -67,7 +68,7 @@ impl Known {
         uses: &mut Uses,
         part: &Part,
     ) -> Result<(), NoMemory>
-        requires good { (ks : List Named) × Knows self.now ks × IsUnit ks (part_of part.now) }
+        requires good { (ks : List Named) × Knows self.now ks × IsPlannableUnit ks (part_of part.now) }
         requires short { IsShortUnit (part_of part.now) }
         requires few { length uses.old.all ≤ 256 }
         ensures grew { (ks : List Named) → Knows self.now ks → OnOk result (Grew raw.old raw.new (unit_outputs ks (part_of part.now)) (unit_decls uses.old.all ks (part_of part.now)) (unit_ops uses.old.inputs uses.old.all ks uses.old.past (part_of part.now))) }
@@ -75,7 +76,7 @@ impl Known {
     {
         match part {
             Part::Register(_) => Ok(()),
-            Part::Ask(query) => self.query(alloc, raw, uses, query),
+            Part::Query(query) => self.query(alloc, raw, uses, query),
         }
     }
 
@@ -87,7 +88,7 @@ impl Known {
         uses: &mut Uses,
         query: &Query,
     ) -> Result<(), NoMemory>
-        requires good { (ks : List Named) × Knows self.now ks × IsQuery ks (query_of query.now) }
+        requires good { (ks : List Named) × Knows self.now ks × IsPlannableQuery ks (query_of query.now) }
         requires short { length query.now.name ≤ 40 }
         requires streams { AllByRecursion IsShortName (streams_of (query_of query.now).items) }
         requires few { length uses.old.all ≤ 256 }

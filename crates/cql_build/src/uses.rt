@@ -2,8 +2,8 @@
 ghost use Rattle.std.specs.Prelude.{◌≡◌, ◌≤◌, ◌+◌, ◌++◌, ◌∷◌, [], IfOk, OnOk, length};
 ghost use Rattle.river_plan.specs.Names.{count};
 ghost use Rattle.cql_model.specs.Program.{registered, streams_of, all_uses};
-ghost use Rattle.cql_model.specs.Translation.{source_at};
-ghost use Rattle.cql_build.specs.Views.{sources_of, part_of, program_of};
+ghost use Rattle.cql_model.specs.Translation.{queue_of_use};
+ghost use Rattle.cql_text.specs.Tree.{sources_of, part_of, parts_of};
 ghost use Rattle.cql_build.specs.Grown.{Notes};
 
 use crate::names::{Mark, marked};
@@ -24,8 +24,8 @@ pub(crate) struct Uses {
 impl Uses {
     /// Those of a program, none of which has its queue.
     pub(crate) fn of(alloc: Global, parts: &[Part]) -> Result<Uses, NoMemory>
-        ensures inputs { IfOk result (λ uses. uses.inputs ≡ registered (program_of parts.now)) }
-        ensures all { IfOk result (λ uses. uses.all ≡ all_uses (program_of parts.now)) }
+        ensures inputs { IfOk result (λ uses. uses.inputs ≡ registered (parts_of parts.now)) }
+        ensures all { IfOk result (λ uses. uses.all ≡ all_uses (parts_of parts.now)) }
         ensures past { IfOk result (λ uses. uses.past ≡ []) }
     {
         let mut uses = Uses {
@@ -45,7 +45,7 @@ impl Uses {
     {
         match part {
             Part::Register(stream) => self.inputs.push(stream.name),
-            Part::Ask(query) => note_sources(&mut self.all, query.items.as_slice()),
+            Part::Query(query) => note_sources(&mut self.all, query.items.as_slice()),
         }
     }
 
@@ -61,7 +61,7 @@ impl Uses {
     #[tactic(auto, using(crate::proofs::Lists::once_more))]
     pub(crate) fn source(&mut self, alloc: Global, stream: Name) -> Result<Name, NoMemory>
         requires { length stream ≤ 40 }
-        ensures name { IfOk result (λ source. source ≡ source_at self.old.inputs self.old.all stream (count stream self.old.past)) }
+        ensures name { IfOk result (λ source. source ≡ queue_of_use self.old.inputs self.old.all stream (count stream self.old.past)) }
         ensures past { OnOk result (self.new.past ≡ self.old.past ++ stream ∷ []) }
         ensures inputs { self.new.inputs ≡ self.old.inputs }
         ensures all { self.new.all ≡ self.old.all }

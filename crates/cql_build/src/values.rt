@@ -1,11 +1,11 @@
 // The fields that values name.
 ghost use Rattle.std.specs.Prelude.{◌≡◌, min, Some, None};
 ghost use Rattle.river_plan.specs.Names.{count};
-ghost use Rattle.cql_model.specs.Faults.{places, item_places, field_fault, scalar_fault, chosen_fault, columns_fault, condition_fault, then_fault};
-ghost use Rattle.cql_build.specs.Views.{value_of, chosen_of, columns_of, condition_of, scope};
+ghost use Rattle.cql_model.specs.Faults.{field_places, item_places, field_fault, scalar_fault, chosen_fault, columns_fault, condition_fault, then_fault};
+ghost use Rattle.cql_text.specs.Tree.{scalar, chosen_of, columns_of, condition_of};
+ghost use Rattle.cql_build.specs.Views.{scope};
 
 use crate::Item;
-use crate::shape::Shape;
 use cql_model::Fault;
 use cql_text::{Column, Columns, Scalar};
 use river_base::Name;
@@ -25,7 +25,7 @@ pub(crate) fn count(names: &[Name], name: Name) -> usize
 
 // In how many places of the items a field stands; 2 stands for more.
 fn places(items: &[Item<'_>], field: Name) -> usize
-    ensures { result ≡ min (places field (scope items.now)) 2 }
+    ensures { result ≡ min (field_places field (scope items.now)) 2 }
 {
     let mut n: usize = 0;
     for item in items {
@@ -60,15 +60,14 @@ fn field_fault(places: usize) -> Option<Fault>
 
 /// The first fault of a value among these items.
 pub(crate) fn value_fault(items: &[Item<'_>], value: &Scalar) -> Option<Fault>
-    ensures { result ≡ scalar_fault (scope items.now) (value_of value.now) }
+    ensures { result ≡ scalar_fault (scope items.now) (scalar value.now) }
 {
-    match Shape::of(value) {
-        Shape::Number(_) => None,
-        Shape::Field(field) => field_fault(places(items, field)),
-        Shape::ItemField(item, field) => field_fault(item_places(items, item, field)),
-        Shape::Neg(inner) => value_fault(items, inner),
-        Shape::Not(inner) => value_fault(items, inner),
-        Shape::Both(_, left, right) => match value_fault(items, left) {
+    match value {
+        Scalar::Number(_) => None,
+        Scalar::Field(field) => field_fault(places(items, *field)),
+        Scalar::ItemField(item, field) => field_fault(item_places(items, *item, *field)),
+        Scalar::Neg(inner) | Scalar::Not(inner) => value_fault(items, inner),
+        Scalar::Bin { left, right, .. } => match value_fault(items, left) {
             Some(fault) => Some(fault),
             None => value_fault(items, right),
         },

@@ -1,6 +1,5 @@
 -- What a text of CQL means is what it has in the grammar, and what the front answers.
 use Rattle.std.proofs.Common.{◌≡◌, ℕ, List, Option, Some, None, Result, Ok, Err, refl, sym, ap, ◌∙◌, subst, arith, [], ◌∷◌, length, ◌≤◌}
-use Rattle.std.proofs.lemmas.List.{length-map}
 use Rattle.work_code.specs.Cut.{units_of}
 use Rattle.work_code.specs.Lexis.{tokens_in}
 use Rattle.work_code.specs.Tok.{Tok, Mark, toks}
@@ -11,7 +10,7 @@ use Rattle.work_code.proofs.Slices.{no_want}
 use Rattle.text_forms.specs.Refusals.{of_lexer}
 use Rattle.text_forms.specs.declared.refusal.Refusal.TheVariants.{BadByte, BigNumber, Syntax}
 use Rattle.river_plan.specs.Forms.{PlanForm}
-use Rattle.cql_model.specs.Faults.{refusal_of, AreSpoken, AreShort}
+use Rattle.cql_model.specs.Faults.{refusal_of, AreSpoken, HaveShortNames}
 use Rattle.cql_model.specs.declared.fault.Fault as model
 use Rattle.cql_model.specs.declared.fault.Fault.TheVariants as model_fault
 use Rattle.cql_model.specs.declared.fault.Refusal.{Refusal}
@@ -20,7 +19,6 @@ use Rattle.cql_text.specs.Faults.{StandFor, Refuses}
 use Rattle.cql_text.specs.Grammar.{IsText, AreParts}
 use Rattle.cql_text.specs.Laws.{IsBadAt}
 use Rattle.cql_text.specs.Reading.{parts_in}
-use Rattle.cql_build.specs.Seen.{part_of, program_of}
 use Rattle.cql_text.specs.Tree.{Part}
 use Rattle.cql_text.specs.declared.fault.CqlTextFault.TheVariants.{Syntax as Syntax_at}
 use Rattle.cql_front.proofs.Spoken.{spoken, shortened}
@@ -29,7 +27,7 @@ use Rattle.cql_model.proofs.Accepted.{accepted_are_valid, accepted_mean}
 use Rattle.cql_model.proofs.Judged.{refusals_are, accepted_are, unit_low}
 use Rattle.cql_front.specs.declared.fault.CqlFault.{CqlFault}
 use Rattle.cql_front.specs.declared.fault.CqlFault.TheVariants.{Text, UnknownStream, UnknownField, AmbiguousField, NameTwice, Limit, NoMemory}
-use Rattle.cql_front.specs.Laws.{HasFault, Has, MeansWhatItHas, PlansMean}
+use Rattle.cql_front.specs.Laws.{HasRefusal, Has, MeansWhatItHas, PlansMean}
 use Rattle.cql_front.specs.Meaning.{fault_at, or_refused, accepted, then_judged, of_tokens, then_read, compiled, Plans, Refused}
 
 -- ---- FROM THE GRAMMAR
@@ -49,11 +47,11 @@ lexed-means : (text : List ℕ) (fault : LexFault) → tokens_in text ≡ Err fa
 unfolding compiled
 lexed-means text fault e = ap then_read e
 
-fault-means : (text : List ℕ) (fault : CqlFault) → HasFault text fault → compiled text ≡ Err fault
-fault-means text fault h = stands-means text h.program h.stands ∙ ap (or_refused h.program) ((refusals_are (program_of h.program) h.refusal).1 h.refused) ∙ ap Err (sym h.is)
+fault-means : (text : List ℕ) (fault : CqlFault) → HasRefusal text fault → compiled text ≡ Err fault
+fault-means text fault h = stands-means text h.program h.stands ∙ ap (or_refused h.program) ((refusals_are h.program h.refusal).1 h.refused) ∙ ap Err (sym h.is)
 
 has-means : (text : List ℕ) (meant : Result (List Part) CqlFault) → Has text meant → compiled text ≡ meant
-has-means text (Ok p) h = stands-means text p h.0 ∙ ap (or_refused p) ((accepted_are (program_of p)).1 h.1)
+has-means text (Ok p) h = stands-means text p h.0 ∙ ap (or_refused p) ((accepted_are p).1 h.1)
 has-means text (Err (Text (BadByte at))) h = lexed-means text (lex.BadByte at) h
 has-means text (Err (Text (BigNumber at))) h = lexed-means text (lex.BigNumber at) h
 has-means text (Err (Text (Syntax unit))) h = bad-means text unit h
@@ -66,10 +64,10 @@ has-means text (Err NoMemory) h = absurd h
 
 -- ---- TO THE GRAMMAR
 
-fault-has : (text : List ℕ) (p : List Part) (r : Refusal) → IsText text p → refusal_of (program_of p) ≡ Some r → Has text (Err (fault_at r.unit r.fault))
+fault-has : (text : List ℕ) (p : List Part) (r : Refusal) → IsText text p → refusal_of p ≡ Some r → Has text (Err (fault_at r.unit r.fault))
 fault-has text p r t j = by r.fault refl where
-  has : (f : model.Fault) → r.fault ≡ f → HasFault text (fault_at r.unit f)
-  has f is = record { program = p; refusal = r; stands = t; refused = (refusals_are (program_of p) r).0 j; is = ap (fault_at r.unit) (sym is) }
+  has : (f : model.Fault) → r.fault ≡ f → HasRefusal text (fault_at r.unit f)
+  has f is = record { program = p; refusal = r; stands = t; refused = (refusals_are p r).0 j; is = ap (fault_at r.unit) (sym is) }
 
   by : (f : model.Fault) → r.fault ≡ f → Has text (Err (fault_at r.unit f))
   by model_fault.UnknownStream is = has model_fault.UnknownStream is
@@ -79,9 +77,9 @@ fault-has text p r t j = by r.fault refl where
   by model_fault.Limit is = has model_fault.Limit is
 
 accepted-has : (text : List ℕ) (p : List Part) → IsText text p → Has text (accepted p)
-accepted-has text p t = by (refusal_of (program_of p)) refl where
-  by : (o : Option Refusal) → refusal_of (program_of p) ≡ o → Has text (or_refused p o)
-  by None j = (t, (accepted_are (program_of p)).0 j)
+accepted-has text p t = by (refusal_of p) refl where
+  by : (o : Option Refusal) → refusal_of p ≡ o → Has text (or_refused p o)
+  by None j = (t, (accepted_are p).0 j)
   by (Some r) j = fault-has text p r t j
 
 means-has : (text : List ℕ) → Has text (compiled text)
@@ -106,7 +104,7 @@ pub plans_mean : PlansMean
 plans_mean text p e =
     let h : Has text (Ok p) = subst (Has text) e (means-has text) in
     let s = spoken p (units_of (toks h.0.marks)) h.0.formed in
-    (accepted_are_valid (program_of p) s h.1, λ files are. accepted_mean (program_of p) files s h.1 are)
+    (accepted_are_valid p s h.1, λ files are. accepted_mean p files s h.1 are)
 
 -- ---- WHAT THE FRONT ANSWERS
 
@@ -118,13 +116,16 @@ tokens-mean marks p h = ap then_judged (units-reads (units_of (toks marks)) p h)
 pub read-planned : (marks : List Mark) (p : List Part) (plan : PlanForm) → StandFor marks p → Plans (accepted p) p plan → Plans (of_tokens marks) p plan
 read-planned marks p plan e h = record { accepted = tokens-mean marks p e ∙ h.accepted; planned = h.planned }
 
+-- a program that is refused is refused as its tokens are
 pub read-refused : (marks : List Mark) (p : List Part) (fault : CqlFault) → StandFor marks p → Refused (accepted p) fault → Refused (of_tokens marks) fault
 read-refused marks p fault e h = subst (λ (r : Result (List Part) CqlFault). Refused r fault) (sym (tokens-mean marks p e)) h
 
-pub read-spoken : (marks : List Mark) (p : List Part) → StandFor marks p → AreSpoken (program_of p)
+-- what was read has what the grammar gives
+pub read-spoken : (marks : List Mark) (p : List Part) → StandFor marks p → AreSpoken p
 read-spoken marks p e = spoken p (units_of (toks marks)) e
 
-pub read-short : (marks : List Mark) (p : List Part) → StandFor marks p → AreShort (program_of p)
+-- and its names are short
+pub read-short : (marks : List Mark) (p : List Part) → StandFor marks p → HaveShortNames p
 read-short marks p e = shortened p (units_of (toks marks)) e
 
 parts-many : (p : List Part) (units : List (List Tok)) → AreParts p units → length p ≡ length units
@@ -146,15 +147,15 @@ read-bad marks unit h = ap then_judged (units-told (units_of (toks marks)) unit 
 pub ruleset readings = (read-bad)
 
 -- a program that is not refused is the one that is meant, and this is its plan
-pub planned-plans : (p : List Part) (plan : PlanForm) → refusal_of (program_of p) ≡ None → plan ≡ plan_of (program_of p) → Plans (accepted p) p plan
+pub planned-plans : (p : List Part) (plan : PlanForm) → refusal_of p ≡ None → plan ≡ plan_of p → Plans (accepted p) p plan
 planned-plans p plan e is = record { accepted = ap (or_refused p) e; planned = is }
 
 -- the unit of a refusal is one of the program
-pub planned-low : (p : List Part) (r : Refusal) → refusal_of (program_of p) ≡ Some r → r.unit ≤ length p
-planned-low p r e = let u = unit_low (program_of p) r e in let l = length-map p part_of in omega (arith, u, l)
+pub planned-low : (p : List Part) (r : Refusal) → refusal_of p ≡ Some r → r.unit ≤ length p
+planned-low p r e = unit_low p r e
 
 -- a program that is refused means the fault
-pub planned-refused : (p : List Part) (r : Refusal) → refusal_of (program_of p) ≡ Some r → accepted p ≡ Err (fault_at r.unit r.fault)
+pub planned-refused : (p : List Part) (r : Refusal) → refusal_of p ≡ Some r → accepted p ≡ Err (fault_at r.unit r.fault)
 planned-refused p r e = ap (or_refused p) e
 
 pub ruleset plans = (planned-plans, planned-refused)

@@ -13,29 +13,28 @@ use Rattle.cql_model.specs.Translation.{plan_of}
 use Rattle.cql_model.specs.declared.fault.Refusal.{Refusal}
 use Rattle.cql_text.specs.Grammar.{IsText}
 use Rattle.cql_text.specs.Laws.{IsBadAt}
-use Rattle.cql_build.specs.Seen.{program_of}
 use Rattle.cql_text.specs.Tree.{Part}
 use Rattle.cql_front.specs.declared.fault.CqlFault.{CqlFault}
 use Rattle.cql_front.specs.declared.fault.CqlFault.TheVariants.{Text, NoMemory}
 use Rattle.cql_front.specs.Meaning.{fault_at, compiled}
 
 -- the grammar has the text for a program that is refused for this
-pub record HasFault (text : List ℕ) (fault : CqlFault) : Type 0 where
+pub record HasRefusal (text : List ℕ) (fault : CqlFault) : Type 0 where
   pub program : List Part
   pub refusal : Refusal
   pub stands : IsText text program
-  pub refused : IsRefused (program_of program) refusal
+  pub refused : IsRefused program refusal
   pub is : fault ≡ fault_at refusal.unit refusal.fault
 
 -- the grammar has the text for a program that is accepted; or for one that is refused; or it has a first unit that is not in the
 -- grammar, or a first fault of its bytes
 abbrev pub Has : List ℕ → Result (List Part) CqlFault → Type 0
-Has text (Ok p) = IsText text p × IsAccepted (program_of p)
+Has text (Ok p) = IsText text p × IsAccepted p
 Has text (Err (Text (BadByte at))) = tokens_in text ≡ Err (lex.BadByte at)
 Has text (Err (Text (BigNumber at))) = tokens_in text ≡ Err (lex.BigNumber at)
 Has text (Err (Text (Syntax unit))) = IsBadAt text unit
 Has text (Err NoMemory) = ⊥
-Has text (Err fault) = HasFault text fault
+Has text (Err fault) = HasRefusal text fault
 
 -- that is what a text means
 abbrev pub MeansWhatItHas : Type 0
@@ -45,10 +44,10 @@ MeansWhatItHas = (text : List ℕ) (meant : Result (List Part) CqlFault) → com
 abbrev pub PlansMean : Type 0
 PlansMean =
     (text : List ℕ) (p : List Part) → compiled text ≡ Ok p
-    → IsPlan (plan_of (program_of p))
-    × ((files : List (List (ℤ × List ℤ))) → AreFiles (program_of p) files
-    → meaning (plan_of (program_of p)) (inputs_for files) ≡ record { outs = program_means (program_of p) files; tables = [] })
+    → IsPlan (plan_of p)
+    × ((files : List (List (ℤ × List ℤ))) → AreFiles p files
+    → meaning (plan_of p) (inputs_for files) ≡ record { outs = program_means p files; tables = [] })
 
 -- the plan of a tree is within the bounds of River text
 abbrev pub PlansArePrintable : Type 0
-PlansArePrintable = (p : List Part) → IsPrintable (plan_of (program_of p))
+PlansArePrintable = (p : List Part) → IsPrintable (plan_of p)

@@ -13,7 +13,6 @@ use Rattle.cql_model.specs.declared.fault.Fault as model
 use Rattle.cql_model.specs.declared.fault.Fault.TheVariants as model_fault
 use Rattle.cql_model.specs.declared.fault.Refusal.{Refusal}
 use Rattle.cql_text.specs.Reading.{parts_in}
-use Rattle.cql_build.specs.Seen.{program_of}
 use Rattle.cql_text.specs.Tree.{Part}
 use Rattle.cql_front.specs.declared.fault.CqlFault.{CqlFault}
 use Rattle.cql_front.specs.declared.fault.CqlFault.TheVariants.{Text, UnknownStream, UnknownField, AmbiguousField, NameTwice, Limit, NoMemory}
@@ -33,7 +32,7 @@ or_refused p (Some r) = Err (fault_at r.unit r.fault)
 
 -- a program is judged
 abbrev pub accepted : List Part → Result (List Part) CqlFault
-accepted p = or_refused p (refusal_of (program_of p))
+accepted p = or_refused p (refusal_of p)
 
 -- what is read is judged
 abbrev pub then_judged : Result (List Part) ℕ → Result (List Part) CqlFault
@@ -56,7 +55,7 @@ compiled text = then_read (tokens_in text)
 -- the program is accepted, and this is its plan
 pub record Plans (meant : Result (List Part) CqlFault) (p : List Part) (plan : PlanForm) : Type 0 where
   pub accepted : meant ≡ Ok p
-  pub planned : plan ≡ plan_of (program_of p)
+  pub planned : plan ≡ plan_of p
 
 -- this is why there is no program; want of memory says nothing
 abbrev pub Refused : Result (List Part) CqlFault → CqlFault → Type 0

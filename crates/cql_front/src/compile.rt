@@ -1,10 +1,9 @@
 // From the text of a program to its tree and its plan.
 ghost use Rattle.std.specs.Prelude.{◌≡◌, ◌<◌, ◌^◌, length, map, List, Some, IfOk, IfErr};
-ghost use Rattle.cql_build.specs.Seen.{program_of};
 ghost use Rattle.cql_front.specs.Meaning.{accepted, of_tokens, compiled, Plans, Refused};
-ghost use Rattle.cql_model.specs.Faults.{AreSpoken, AreShort, refusal_of};
+ghost use Rattle.cql_model.specs.Faults.{AreSpoken, HaveShortNames, refusal_of};
 ghost use Rattle.cql_text.specs.Faults.{StandFor};
-ghost use Rattle.cql_text.specs.Tree.{part_of, parts_of};
+ghost use Rattle.cql_text.specs.Tree.{parts_of, program_of};
 ghost use Rattle.cql_text.specs.Tree as tree;
 
 use crate::CqlFault;
@@ -27,7 +26,7 @@ use work_code::{LexFault, Tokens, lex};
 #[tactic(auto, unfolding(crate::specs::Meaning::compiled), using(work_code::proofs::Counts::counts))]
 pub fn compile_cql(alloc: Global, text: &Bytes) -> Result<(CqlProgram, Plan), CqlFault>
     requires { length text.now < 2 ^ 32 }
-    ensures plan { IfOk result (λ made. Plans (compiled text.now) (parts_of made.0) made.1) }
+    ensures plan { IfOk result (λ made. Plans (compiled text.now) (program_of made.0) made.1) }
     ensures refused { IfErr result (Refused (compiled text.now)) }
 {
     match lex(alloc, text) {
@@ -42,7 +41,7 @@ pub fn compile_cql(alloc: Global, text: &Bytes) -> Result<(CqlProgram, Plan), Cq
 #[tactic(auto, using(crate::proofs::Fronts::fronts))]
 fn compile_tokens(alloc: Global, tokens: &Tokens<'_>) -> Result<(CqlProgram, Plan), CqlFault>
     requires { length tokens.now < 2 ^ 32 }
-    ensures plan { IfOk result (λ made. Plans (of_tokens tokens.now) (parts_of made.0) made.1) }
+    ensures plan { IfOk result (λ made. Plans (of_tokens tokens.now) (program_of made.0) made.1) }
     ensures refused { IfErr result (Refused (of_tokens tokens.now)) }
 {
     let program = read(alloc, tokens)?;
@@ -54,7 +53,7 @@ fn compile_tokens(alloc: Global, tokens: &Tokens<'_>) -> Result<(CqlProgram, Pla
 #[tactic(auto, using(crate::proofs::Fronts::readings, work_code::proofs::Counts::counts))]
 fn read(alloc: Global, tokens: &Tokens<'_>) -> Result<CqlProgram, CqlFault>
     requires { length tokens.now < 2 ^ 32 }
-    ensures read { IfOk result (λ program. StandFor tokens.now (parts_of program)) }
+    ensures read { IfOk result (λ program. StandFor tokens.now (program_of program)) }
     ensures refused { IfErr result (Refused (of_tokens tokens.now)) }
 {
     match read_cql(alloc, tokens) {
@@ -67,11 +66,11 @@ fn read(alloc: Global, tokens: &Tokens<'_>) -> Result<CqlProgram, CqlFault>
 // The plan of these parts.
 #[tactic(auto, using(crate::proofs::Fronts::plans))]
 fn planned(alloc: Global, parts: &[Part]) -> Result<Plan, CqlFault>
-    requires spoken { AreSpoken (program_of (map part_of parts.now)) }
-    requires short { AreShort (program_of (map part_of parts.now)) }
+    requires spoken { AreSpoken (parts_of parts.now) }
+    requires short { HaveShortNames (parts_of parts.now) }
     requires few { length parts.now < 2 ^ 32 }
-    ensures plan { IfOk result (Plans (accepted (map part_of parts.now)) (map part_of parts.now)) }
-    ensures refused { IfErr result (Refused (accepted (map part_of parts.now))) }
+    ensures plan { IfOk result (Plans (accepted (parts_of parts.now)) (parts_of parts.now)) }
+    ensures refused { IfErr result (Refused (accepted (parts_of parts.now))) }
 {
     match plan(alloc, parts) {
         Ok(plan) => Ok(plan),
@@ -83,7 +82,7 @@ fn planned(alloc: Global, parts: &[Part]) -> Result<Plan, CqlFault>
 // The fault of a unit.
 fn fault(refusal: Refusal) -> CqlFault
     requires { refusal.unit < 2 ^ 32 }
-    ensures { (p : List tree.Part) → refusal_of (program_of p) ≡ Some refusal → Refused (accepted p) result }
+    ensures { (p : List tree.Part) → refusal_of p ≡ Some refusal → Refused (accepted p) result }
 {
     let unit = refusal.unit as u32;
     match refusal.fault {

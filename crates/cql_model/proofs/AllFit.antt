@@ -16,10 +16,11 @@ use Rattle.river_plan.specs.Uses.{Each}
 use Rattle.river_plan.proofs.NameLemmas.{cases_name, one_same}
 use Rattle.cql_model.specs.Plannable.{AreQueries}
 use Rattle.cql_model.specs.Laws.{known_names, AreKnown}
-use Rattle.cql_model.specs.Program.{Source, Columns, Star, Chosen, Query, Register, Ask, Program, streams_of, all_uses}
+use Rattle.cql_model.specs.Program.{streams_of, all_uses}
+use Rattle.cql_text.specs.Tree.{Source, Columns, Star, Chosen, Query, Register, AQuery, Program}
 use Rattle.cql_model.specs.Scopes.{Named, scope_of, fields_of, column_names}
-use Rattle.cql_model.specs.Translation.{copies, copy_name, source_at, sources, query_named, ask_ops, copy_ops, input_ops, decls, widths_of, columns_width}
-use Rattle.cql_model.specs.Translation.{item_decls, select_decls, project_decls, out_decls, query_decls, ask_decls, copy_decls, input_copies, input_decls}
+use Rattle.cql_model.specs.Translation.{copy_names, copy_name, queue_of_use, queues_of_uses, query_named, queries_ops, copy_ops, input_ops, decls_of, widths_of, columns_width}
+use Rattle.cql_model.specs.Translation.{item_decls, select_decls, project_decls, out_decls, query_decls, queries_decls, copy_decls, input_copies, input_decls}
 use Rattle.cql_model.specs.Translation.{output_decls}
 use Rattle.cql_model.proofs.Counting.{block_ops}
 use Rattle.cql_model.proofs.Order.{Others, Fit, fit_next, query_source, InputsThere}
@@ -34,6 +35,7 @@ joined_fields : (scope : List Named) → length (flat_map (λ (i : Named). i.fie
 joined_fields [] = refl
 joined_fields (i ∷ is) = let m = joined_fields is in let a = length-append i.fields (flat_map (λ (j : Named). j.fields) is) in omega (arith, m, a)
 
+-- there are as many names of columns as columns
 pub columns_many : (scope : List Named) (cs : Columns) → length (column_names scope cs) ≡ columns_width scope cs
 columns_many scope Star = joined_fields scope
 columns_many scope (Chosen cs) = length-names 1 cs
@@ -47,7 +49,7 @@ module _ (kind : Name → QueueType) (var : Name → VarKind) (inputs all : List
 
   -- each use of these streams reads a queue of their rows
   abbrev pub ServesKind : Name → ℕ → Type 0
-  ServesKind n width = (j : ℕ) → j < count n all → kind (source_at inputs all n j) ≡ stream width
+  ServesKind n width = (j : ℕ) → j < count n all → kind (queue_of_use inputs all n j) ≡ stream width
 
   abbrev pub ServeKinds : List Named → Type 0
   ServeKinds [] = Unit {0}
@@ -56,7 +58,7 @@ module _ (kind : Name → QueueType) (var : Name → VarKind) (inputs all : List
   kind_one : (ks : List Named) (n : Name) → ServeKinds ks → 0 < count n (known_names ks) → ServesKind n (length (fields_of ks n))
   kind_one [] n s lt j lj = absurd (omega (arith, lt))
   kind_one (k ∷ ks) n s lt j lj = ⊎_elim
-      (λ c. ap (λ m. kind (source_at inputs all m j)) (sym c.0) ∙ s.0 j (subst (λ m. j < count m all) (sym c.0) lj) ∙ ap (λ b. stream (length (if b then k.fields else fields_of ks n))) (sym c.1))
+      (λ c. ap (λ m. kind (queue_of_use inputs all m j)) (sym c.0) ∙ s.0 j (subst (λ m. j < count m all) (sym c.0) lj) ∙ ap (λ b. stream (length (if b then k.fields else fields_of ks n))) (sym c.1))
       (λ c. kind_one ks n s.1 (let e = ap one_if c.1 in omega (arith, lt, e)) j lj ∙ ap (λ b. stream (length (if b then k.fields else fields_of ks n))) (sym c.1))
       (cases_name k.name n)
 
@@ -67,26 +69,27 @@ module _ (kind : Name → QueueType) (var : Name → VarKind) (inputs all : List
       (λ c. ap (λ b. is_width (length (if b then k.fields else fields_of ks n))) c.1 ∙ sized_one ks n z.1 (let e = ap one_if c.1 in omega (arith, lt, e)))
       (cases_name k.name n)
 
+  -- the items of a query are from 1 to 16 wide, where the known streams are
   pub sized_scope : (ks : List Named) (items : List Source) → Sized ks → AreKnown ks (streams_of items) → Sized (scope_of ks items)
   sized_scope ks [] z a = tt
   sized_scope ks (i ∷ is) z a = (sized_one ks i.stream z a.0, sized_scope ks is z a.1)
 
   source_kinds : (ks : List Named) (past : List Name) (items : List Source) (rest : List Name) → ServeKinds ks → AreKnown ks (streams_of items)
       → Fit inputs all past (streams_of items ++ rest)
-      → one.SourceKinds kind var (scope_of ks items) (sources inputs all past (streams_of items))
+      → one.SourceKinds kind var (scope_of ks items) (queues_of_uses inputs all past (streams_of items))
   source_kinds ks past [] rest s a r = tt
   source_kinds ks past (i ∷ is) rest s a r = (
     kind_one ks i.stream s a.0 (count i.stream past) (let c = r i.stream in let o = one_same i.stream in omega (arith, c, o)),
     source_kinds ks (past ++ i.stream ∷ []) is rest s a.1 (fit_next inputs all past (i.stream ∷ []) (streams_of is ++ rest) r),
   )
 
-  copies_kind : (b : Name) (k u : ℕ) (t : QueueType) → AreKinds (decls (copies b k u) t) → (j : ℕ) → j < u → kind (copy_name b (k + j)) ≡ t
+  copies_kind : (b : Name) (k u : ℕ) (t : QueueType) → AreKinds (decls_of (copy_names b k u) t) → (j : ℕ) → j < u → kind (copy_name b (k + j)) ≡ t
   copies_kind b k zero t a j lt = absurd (omega (arith, lt))
   copies_kind b k (suc u) t a zero lt = (let z : k + 0 ≡ k = omega arith in ap (λ m. kind (copy_name b m)) z) ∙ a.0
   copies_kind b k (suc u) t a (suc j) lt =
       (let z : k + suc j ≡ (k + 1) + j = omega arith in ap (λ m. kind (copy_name b m)) z) ∙ copies_kind b (k + 1) u t a.1 j (omega (arith, lt))
 
-  copy_kind : (b : Name) (u : ℕ) (t : QueueType) → AreKinds (decls (copies b 0 u) t) → (j : ℕ) → j < u → kind (copy_name b j) ≡ t
+  copy_kind : (b : Name) (u : ℕ) (t : QueueType) → AreKinds (decls_of (copy_names b 0 u) t) → (j : ℕ) → j < u → kind (copy_name b j) ≡ t
   copy_kind b u t a j lt = (let z : 0 + j ≡ j = omega arith in ap (λ m. kind (copy_name b m)) (sym z)) ∙ copies_kind b 0 u t a j lt
 
   out_kind : (b : Name) (width u : ℕ) → AreKinds (out_decls b width u) → (j : ℕ) → j < u → kind (copy_name b j) ≡ stream width
@@ -108,26 +111,27 @@ module _ (kind : Name → QueueType) (var : Name → VarKind) (inputs all : List
   abbrev pub InputKinds : Program → Type 0
   InputKinds [] = Unit {0}
   InputKinds (Register name fields ∷ ps) = ServesKind name (length fields) × InputKinds ps
-  InputKinds (Ask q ∷ ps) = InputKinds ps
+  InputKinds (AQuery q ∷ ps) = InputKinds ps
 
-  pub asks_fit : (ks : List Named) (past : List Name) (ps : Program) → ServeKinds ks → Sized ks → InputKinds ps → AreQueries ks ps → Others inputs all ps
+  -- the operators of all queries fit their queues and variables
+  pub queries_fit : (ks : List Named) (past : List Name) (ps : Program) → ServeKinds ks → Sized ks → InputKinds ps → AreQueries ks ps → Others inputs all ps
       → Fit inputs all past (all_uses ps)
-      → AreKinds (ask_decls all ks ps) → AreKinds (output_decls ks ps) → Each (one.Own kind var) (ask_ops inputs all ks past ps)
-      → Each (one.Fit kind var) (ask_ops inputs all ks past ps)
-  asks_fit ks past [] s z i a o r d t v = tt
-  asks_fit ks past (Register name fields ∷ ps) s z i a o r d t v =
-      asks_fit (record { name = name; fields = fields } ∷ ks) past ps (i.0, s) (a.0, z) i.1 a.1 o r d t v
-  asks_fit ks past (Ask q ∷ ps) s z i a o r d t v =
-      let srcs = sources inputs all past (streams_of q.items) in
+      → AreKinds (queries_decls all ks ps) → AreKinds (output_decls ks ps) → Each (one.Own kind var) (queries_ops inputs all ks past ps)
+      → Each (one.Fit kind var) (queries_ops inputs all ks past ps)
+  queries_fit ks past [] s z i a o r d t v = tt
+  queries_fit ks past (Register name fields ∷ ps) s z i a o r d t v =
+      queries_fit (record { name = name; fields = fields } ∷ ks) past ps (i.0, s) (a.0, z) i.1 a.1 o r d t v
+  queries_fit ks past (AQuery q ∷ ps) s z i a o r d t v =
+      let srcs = queues_of_uses inputs all past (streams_of q.items) in
       let scope = scope_of ks q.items in
       let block = block_ops q scope (count q.name all) srcs in
-      let rest = ask_ops inputs all (query_named ks q ∷ ks) (past ++ streams_of q.items) ps in
-      let ds = one.kinds-append kind var (query_decls all ks q) (ask_decls all (query_named ks q ∷ ks) ps) d in
+      let rest = queries_ops inputs all (query_named ks q ∷ ks) (past ++ streams_of q.items) ps in
+      let ds = one.kinds-append kind var (query_decls all ks q) (queries_decls all (query_named ks q ∷ ks) ps) d in
       let vs = each-append (one.Own kind var) block rest v in
       let many = columns_many scope q.columns in
       each_append (one.Fit kind var) block rest
       (one.block_fits kind var all ks q srcs a.0 (source_kinds ks past q.items (all_uses ps) s a.0.streams r) (sized_scope ks q.items z a.0.streams) ds.0 t.0 vs.0)
-      (asks_fit (query_named ks q ∷ ks) (past ++ streams_of q.items) ps
+      (queries_fit (query_named ks q ∷ ks) (past ++ streams_of q.items) ps
       ((λ j lt. ap kind (query_source inputs all q.name j o.0) ∙ out_kind q.name (columns_width scope q.columns) (count q.name all) (query_kind ks q ds.0) j lt ∙ ap stream (sym many)), s)
       (ap is_width many ∙ a.0.columns, z) i a.1 o.1 (fit_next inputs all past (streams_of q.items) (all_uses ps) r) ds.1 t.1 vs.1)
 
@@ -141,7 +145,7 @@ module _ (kind : Name → QueueType) (var : Name → VarKind) (inputs all : List
     (
       Stream width,
       ap (λ (x : QueueType). x ∷ []) k,
-      one.copies_kinds kind var (copies n 0 (suc (suc u))) (stream width) d ∙ ap (λ m. replicate m (stream width)) (one.length-copies kind var n 0 (suc (suc u))),
+      one.copies_kinds kind var (copy_names n 0 (suc (suc u))) (stream width) d ∙ ap (λ m. replicate m (stream width)) (one.length-copies kind var n 0 (suc (suc u))),
       refl,
       one.both (is_width width) (nat_le 1 (suc (suc u))) w (one.le_true 1 (suc (suc u)) (omega arith)),
     ),
@@ -158,10 +162,11 @@ module _ (kind : Name → QueueType) (var : Name → VarKind) (inputs all : List
       (λ o. ap kind o.is ∙ k)
       (λ c. ⊎_elim
       (λ more. ap kind c.is ∙ copied_kind n width (count n all) more d j lt)
-      (λ le. (let e : source_at inputs all n j ≡ n = grind (arith, i, le) in ap kind e) ∙ k)
+      (λ le. (let e : queue_of_use inputs all n j ≡ n = grind (arith, i, le) in ap kind e) ∙ k)
       (cases_lt 1 (count n all)))
       (which inputs all n j)
 
+  -- and so do those that copy the inputs
   pub inputs_fit : (ks : List Named) (ps : Program) → AreQueries ks ps → AreKinds (input_decls ps) → AreKinds (input_copies all ps)
       → Each (one.Fit kind var) (input_ops all ps)
   inputs_fit ks [] a d c = tt
@@ -169,11 +174,12 @@ module _ (kind : Name → QueueType) (var : Name → VarKind) (inputs all : List
       let cs = one.kinds-append kind var (copy_decls name (length fields) (count name all)) (input_copies all ps) c in
       each_append (one.Fit kind var) (copy_ops name (count name all)) (input_ops all ps) (copy_fits name (length fields) (count name all) a.0 d.0 cs.0)
       (inputs_fit (record { name = name; fields = fields } ∷ ks) ps a.1 d.1 cs.1)
-  inputs_fit ks (Ask q ∷ ps) a d c = inputs_fit (query_named ks q ∷ ks) ps a.1 d c
+  inputs_fit ks (AQuery q ∷ ps) a d c = inputs_fit (query_named ks q ∷ ks) ps a.1 d c
 
+  -- the queues that serve the inputs carry their streams
   pub input_kinds : (ps : Program) → InputsThere inputs all ps → AreKinds (input_decls ps) → AreKinds (input_copies all ps) → InputKinds ps
   input_kinds [] t d c = tt
   input_kinds (Register name fields ∷ ps) t d c =
       let cs = one.kinds-append kind var (copy_decls name (length fields) (count name all)) (input_copies all ps) c in
       (input_serves name (length fields) t.0 d.0 cs.0, input_kinds ps t.1 d.1 cs.1)
-  input_kinds (Ask q ∷ ps) t d c = input_kinds ps t d c
+  input_kinds (AQuery q ∷ ps) t d c = input_kinds ps t d c

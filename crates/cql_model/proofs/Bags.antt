@@ -13,10 +13,12 @@ use Rattle.river_base.proofs.Rows.{rows_ranked, in_order_bag, in_order_ascends, 
 use Rattle.kern_bags.specs.Contents.{difference, product, without}
 use Rattle.kern_bags.proofs.Copies.{sum-cong, copies-in_order, copies-without}
 
+-- the sum over what a function gives
 pub sum-map : {J K : Type 0} (f : K → ℕ) (g : J → K) (xs : List J) → sum_by f (map g xs) ≡ sum_by (λ x. f (g x)) xs
 sum-map f g [] = refl
 sum-map f g (x ∷ xs) = sum_by-cons f (g x) (map g xs) ∙ ap (λ n. f (g x) + n) (sum-map f g xs) ∙ sym (sum_by-cons (λ y. f (g y)) x xs)
 
+-- the sum over what passes a test
 pub sum-filter : {K : Type 0} (f : K → ℕ) (p : K → Bool) (xs : List K) → sum_by f (filter p xs) ≡ sum_by (λ x. cond (p x) (f x) 0) xs
 sum-filter f p [] = refl
 sum-filter f p (x ∷ xs) = step (p x) refl (sum-filter f p xs) ∙ sym (sum_by-cons (λ y. cond (p y) (f y) 0) x xs) where
@@ -28,6 +30,7 @@ sum-filter f p (x ∷ xs) = step (p x) refl (sum-filter f p xs) ∙ sym (sum_by-
   step true e h = sum_by-cons f x (filter p xs) ∙ ap (λ n. f x + n) h ∙ ap (λ b. cond b (f x) 0 + sum_by (λ y. cond (p y) (f y) 0) xs) (sym e)
   step false e h = h ∙ nothing (sum_by (λ y. cond (p y) (f y) 0) xs) ∙ ap (λ b. cond b (f x) 0 + sum_by (λ y. cond (p y) (f y) 0) xs) (sym e)
 
+-- the sum over lists that are joined
 pub sum-flat_map : {J K : Type 0} (f : K → ℕ) (g : J → List K) (xs : List J) → sum_by f (flat_map g xs) ≡ sum_by (λ x. sum_by f (g x)) xs
 sum-flat_map f g [] = refl
 sum-flat_map f g (x ∷ xs) =
@@ -50,22 +53,26 @@ sum-in_order f xs = sum_by-IsPermutation f xs (in_order xs) (in_order_bag xs)
 pub same_counts : (xs ys : List (List ℤ)) → ((row : List ℤ) → copies row xs ≡ copies row ys) → in_order xs ≡ in_order ys
 same_counts xs ys h = in_order-IsPermutation xs ys (permutation_from_copies xs ys h)
 
+-- bags over which all sums agree are the same in order
 pub same_bag : (xs ys : List (List ℤ)) → ((f : List ℤ → ℕ) → sum_by f xs ≡ sum_by f ys) → in_order xs ≡ in_order ys
 same_bag xs ys h = same_counts xs ys (λ row. h (λ y. cond (row_eq row y) 1 0))
 
 order_is : (xs ys : List (List ℤ)) → IsSorted row_cmp xs → ((f : List ℤ → ℕ) → sum_by f xs ≡ sum_by f ys) → xs ≡ in_order ys
 order_is xs ys a h = sym (in_order_sorted xs a) ∙ same_bag xs ys h
 
+-- a test before or behind the ordering
 pub filter-in_order : (p : List ℤ → Bool) (xs : List (List ℤ)) → filter p (in_order xs) ≡ in_order (filter p xs)
 filter-in_order p xs = order_is (filter p (in_order xs)) (filter p xs) (IsSortedBy-filter _ rows_ranked p (in_order xs) (in_order_ascends xs)) (λ f.
     sum-filter f p (in_order xs) ∙ sum-in_order (λ x. cond (p x) (f x) 0) xs ∙ sym (sum-filter f p xs))
 
+-- a function of rows before or behind the ordering
 pub in_order-map : (g : List ℤ → List ℤ) (xs : List (List ℤ)) → in_order (map g (in_order xs)) ≡ in_order (map g xs)
 in_order-map g xs = same_bag (map g (in_order xs)) (map g xs) (λ f. sum-map f g (in_order xs) ∙ sum-in_order (λ x. f (g x)) xs ∙ sym (sum-map f g xs))
 
 abbrev pub pairs : List (List ℤ) → List (List ℤ) → List (List ℤ)
 pairs xs ys = flat_map (λ x. map (λ y. x ++ y) ys) xs
 
+-- the sum over all pairs, one side after the other
 pub sum-pairs : (f : List ℤ → ℕ) (xs ys : List (List ℤ)) → sum_by f (pairs xs ys) ≡ sum_by (λ x. sum_by (λ y. f (x ++ y)) ys) xs
 sum-pairs f xs ys =
     sum-flat_map f (λ x. map (λ y. x ++ y) ys) xs

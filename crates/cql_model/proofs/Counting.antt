@@ -7,13 +7,14 @@ use Rattle.river_base.specs.declared.kind.QueueType.{QueueType}
 use Rattle.river_plan.specs.Forms.{Name, OpForm, decl_names}
 use Rattle.river_plan.specs.Names.{one_if, count}
 use Rattle.river_plan.specs.Uses.{total, writes_it, reads_it, vars_it, named_it}
+use Rattle.cql_model.specs.KernelWords.{streamer_of}
 use Rattle.cql_model.specs.Numeral.{numeral}
-use Rattle.cql_model.specs.Program.{Scalar, Source, Columns, Star, Chosen, Query}
+use Rattle.cql_text.specs.Tree.{Scalar, Source, Columns, Star, Chosen, Query}
 use Rattle.cql_model.specs.Scopes.{Named, scope_of, item_named}
 use Rattle.river_kernels.specs.Kern.{streamer}
 use Rattle.river_kernels.specs.Fits.{stream}
-use Rattle.cql_model.specs.Translation.{op, at_word, copies, window_ops, cross_ops, cross_last, select_ops, select_last, project_ops, project_last, out_ops}
-use Rattle.cql_model.specs.Translation.{out_name, tail_ops, item_ops, item_last, w_name, x_name, decls, widths_of, window_decls, cross_decls, item_decls}
+use Rattle.cql_model.specs.Translation.{op, at_word, copy_names, window_ops, cross_ops, cross_last, select_ops, select_last, project_ops, project_last, out_ops}
+use Rattle.cql_model.specs.Translation.{out_name, tail_ops, item_ops, item_last, w_name, x_name, decls_of, widths_of, window_decls, cross_decls, item_decls}
 use Rattle.cql_model.specs.Translation.{select_decls, project_decls, out_decls, query_decls, columns_width}
 use Rattle.river_plan.proofs.ValidLaw.{total-append}
 use Rattle.cql_model.proofs.Naming.{Tag, tagged, numbers, From, Of, from_nil, from_more, of_nil, of_one, of_numbers, of_letter}
@@ -22,6 +23,7 @@ use Rattle.cql_model.proofs.Naming.{Tag, tagged, numbers, From, Of, from_nil, fr
 abbrev pub among : Name → Name → List Tag → ℕ
 among z b ts = count z (map (tagged b) ts)
 
+-- a name counts among two lists of tags as often as in both
 pub among-append : (z b : Name) (xs ys : List Tag) → among z b (xs ++ ys) ≡ among z b xs + among z b ys
 among-append z b [] ys = omega arith
 among-append z b (x ∷ xs) ys = let e = among-append z b xs ys in omega (arith, e)
@@ -67,7 +69,8 @@ query_tags u q = (None ∷ []) ++ (numbers [] 1 u ++ inner_tags u q)
 
 -- WRITES
 
-pub copies_are : (b : Name) (k u : ℕ) → copies b k u ≡ map (tagged b) (numbers [] (k + 1) u)
+-- copies are numbered tags of their stream
+pub copies_are : (b : Name) (k u : ℕ) → copy_names b k u ≡ map (tagged b) (numbers [] (k + 1) u)
 copies_are b k zero = refl
 copies_are b k (suc u) = ap (λ l. at_word b (numeral (k + 1)) ∷ l) (copies_are b (k + 1) u)
 
@@ -103,7 +106,7 @@ out_writes z b (suc u) = let e = ap (count z) (copies_are b 0 (suc u)) in omega 
 
 -- the operators behind the items
 abbrev pub stream_op : Query → ℕ → Name → OpForm
-stream_op q u last = op (at_word q.name (codes "i")) (streamer q.kind) (last ∷ []) (out_name q.name u ∷ []) (at_word q.name (codes "i") ∷ [])
+stream_op q u last = op (at_word q.name (codes "i")) (streamer (streamer_of q.kind)) (last ∷ []) (out_name q.name u ∷ []) (at_word q.name (codes "i") ∷ [])
 
 abbrev pub project_from : Query → Name → Name
 project_from q last = select_last q.name last q.condition
@@ -127,6 +130,7 @@ inner_split z b u q =
 abbrev pub block_ops : Query → List Named → ℕ → List Name → List OpForm
 block_ops q scope u srcs = item_ops q.name q.items srcs ++ tail_ops q scope u (item_last q.name q.items)
 
+-- how often the operators of a query write a queue
 pub block_writes : (z : Name) (q : Query) (scope : List Named) (u : ℕ) (srcs : List Name) → length srcs ≡ length q.items
     → total (writes_it z) (block_ops q scope u srcs) ≡ among z q.name (query_tags u q)
 block_writes z q scope u srcs e =
@@ -178,6 +182,7 @@ out_reads : (z b : Name) (u : ℕ) → total (reads_it z) (out_ops b u) ≡ amon
 out_reads z b zero = refl
 out_reads z b (suc u) = omega arith
 
+-- how often they read one
 pub block_reads : (z : Name) (q : Query) (scope : List Named) (u : ℕ) (srcs : List Name) → 0 < length q.items → length srcs ≡ length q.items
     → total (reads_it z) (block_ops q scope u srcs) ≡ count z srcs + among z q.name (inner_tags u q)
 block_reads z q scope u srcs some e =
@@ -229,6 +234,7 @@ out_vars : (z b : Name) (u : ℕ) → total (vars_it z) (out_ops b u) ≡ 0
 out_vars z b zero = refl
 out_vars z b (suc u) = refl
 
+-- how often they use a variable
 pub block_vars : (z : Name) (q : Query) (scope : List Named) (u : ℕ) (srcs : List Name) → length srcs ≡ length q.items
     → total (vars_it z) (block_ops q scope u srcs) ≡ among z q.name (var_tags q)
 block_vars z q scope u srcs e =
@@ -273,6 +279,7 @@ out_label : (z b : Name) (u : ℕ) → total (named_it z) (out_ops b u) ≡ amon
 out_label z b zero = refl
 out_label z b (suc u) = refl
 
+-- how often they have a label
 pub block_labels : (z : Name) (q : Query) (scope : List Named) (u : ℕ) (srcs : List Name) → length srcs ≡ length q.items
     → total (named_it z) (block_ops q scope u srcs) ≡ among z q.name (label_tags u q)
 block_labels z q scope u srcs e =
@@ -294,11 +301,13 @@ block_labels z q scope u srcs e =
 
 -- DECLARATIONS
 
+-- a name is declared in two lists as often as in both
 pub names-append : (z : Name) (xs ys : List Decl) → count z (decl_names (xs ++ ys)) ≡ count z (decl_names xs) + count z (decl_names ys)
 names-append z [] ys = omega arith
 names-append z (x ∷ xs) ys = let e = names-append z xs ys in omega (arith, e)
 
-pub names_decls : (ns : List Name) (k : QueueType) → decl_names (decls ns k) ≡ ns
+-- the names of declarations of one type are the names they were made of
+pub names_decls : (ns : List Name) (k : QueueType) → decl_names (decls_of ns k) ≡ ns
 names_decls [] k = refl
 names_decls (n ∷ ns) k = ap (λ l. n ∷ l) (names_decls ns k)
 
@@ -330,7 +339,7 @@ project_decl z b (Chosen cs) = refl
 
 out_decl : (z b : Name) (width u : ℕ) → count z (decl_names (out_decls b width u)) ≡ among z b (numbers [] 1 u) + among z b (o_tags u)
 out_decl z b width zero = refl
-out_decl z b width (suc u) = let e = ap (count z) (names_decls (copies b 0 (suc u)) (stream width) ∙ copies_are b 0 (suc u)) in omega (arith, e)
+out_decl z b width (suc u) = let e = ap (count z) (names_decls (copy_names b 0 (suc u)) (stream width) ∙ copies_are b 0 (suc u)) in omega (arith, e)
 
 -- the query's output beside its other queues
 pub block_decls : (z : Name) (all : List Name) (known : List Named) (q : Query)
@@ -379,18 +388,22 @@ d_from : (u : ℕ) (ts : List Tag) → From 105 ts → From 100 (d_tags u ++ ts)
 d_from zero ts f = from_more 100 105 [] ts (omega arith) (of_nil 100) f
 d_from (suc u) ts f = from_more 100 105 (word (codes "d")) ts (omega arith) (of_one (Some (codes "d"))) f
 
+-- the tags of a query's inner queues are apart
 pub inner_from : (u : ℕ) (q : Query) → length q.items ≤ 4 → From 111 (inner_tags u q)
 inner_from u q h = o_from u _ (p_from q.columns _ (s_from q.condition _ (items_from q.items h)))
 
+-- the tags of all its queues are apart
 pub query_from : (u : ℕ) (q : Query) → length q.items ≤ 4 → From 0 (query_tags u q)
 query_from u q h =
     from_more 0 2 (None ∷ []) (numbers [] 1 u ++ inner_tags u q) (omega arith) (of_one None)
     (from_more 2 111 (numbers [] 1 u) (inner_tags u q) (omega arith) (of_numbers 1 u) (inner_from u q h))
 
+-- the tags of its variables are apart
 pub vars_from : (q : Query) → length q.items ≤ 4 → From 105 (var_tags q)
 vars_from q h =
     from_more 105 119 (word (codes "i")) (w_tags 1 q.items ++ x_tags 2 (rest_of q.items)) (omega arith) (of_one (Some (codes "i"))) (items_from q.items h)
 
+-- the tags of its labels are apart
 pub labels_from : (u : ℕ) (q : Query) → length q.items ≤ 4 → From 100 (label_tags u q)
 labels_from u q h =
     d_from u _ (from_more 105 112 (word (codes "i")) _ (omega arith) (of_one (Some (codes "i"))) (p_from q.columns _ (s_from q.condition _ (items_from q.items h))))

@@ -6,6 +6,7 @@ use Rattle.cql_model.specs.Places.{with_earlier}
 pub behind : {A : Type 0} → List A → List A → List (List A × A)
 behind past xs = map (λ e. (past ++ e.0, e.1)) (with_earlier xs)
 
+-- two functions, one behind the other
 pub map-both : {A B C : Type 0} (f : B → C) (g : A → B) (xs : List A) → map f (map g xs) ≡ map (λ x. f (g x)) xs
 map-both f g [] = refl
 map-both f g (x ∷ xs) = ap (λ l. f (g x) ∷ l) (map-both f g xs)
@@ -26,6 +27,7 @@ behind-none {A = A} xs = same (with_earlier xs) where
   same [] = refl
   same (e ∷ es) = ap (λ l. e ∷ l) (same es)
 
+-- nothing stands behind the last element
 pub behind-nil : {A : Type 0} (past : List A) → behind past [] ≡ []
 unfolding behind
 behind-nil past = refl

@@ -4,22 +4,23 @@ use Rattle.std.proofs.Common.{⊎_elim, append_assoc, append-nil, length-append}
 use Rattle.std.specs.Prelude.{nat_lt, nat_eq, IsTrue}
 use Rattle.std.specs.List.{AllByRecursion}
 use Rattle.std.proofs.lemmas.List.{length-map}
-use Rattle.kern_bags.specs.declared.kernel.Window.{Window}
-use Rattle.kern_bags.specs.declared.kernel.Window.TheVariants.{Now, Range, Unbounded, Latest}
+use Rattle.cql_text.specs.Tree.{Window, Now, Range, Unbounded, Latest}
 use Rattle.river_kernels.specs.Fits.{rows}
 use Rattle.river_kernels.specs.Formed.{is_width, is_window}
 use Rattle.river_kernels.specs.declared.types.VarKind.TheVariants.{Private}
 use Rattle.river_plan.specs.Forms.{Name}
 use Rattle.river_plan.specs.Names.{one_if, count}
 use Rattle.river_plan.proofs.NameLemmas.{cases_name}
-use Rattle.cql_model.specs.Plannable.{has_no_at, declared, IsQuery, AreQueries}
+use Rattle.cql_model.specs.KernelWords.{kernel_window}
+use Rattle.cql_model.specs.Plannable.{has_no_at, declared, IsPlannableQuery, AreQueries}
 use Rattle.cql_model.specs.declared.fault.Fault.{Fault}
 use Rattle.cql_model.specs.declared.fault.Fault.TheVariants.{UnknownStream, NameTwice, Limit}
 use Rattle.cql_model.specs.declared.fault.Refusal.{Refusal}
 use Rattle.cql_model.specs.Faults.{then_fault, fault_if, is_rows_fault, item_fault, items_fault, chosen_fault, columns_fault, condition_fault, query_fault}
-use Rattle.cql_model.specs.Faults.{fields_fault, stream_fault, in_unit, first_fault, IsSpoken, AreSpoken, FaultlessPlannable, has_columns, scalar_fault}
+use Rattle.cql_model.specs.Faults.{fields_fault, stream_fault, in_unit, first_fault, IsSpokenQuery, AreSpoken, FaultlessPlannable, has_columns, scalar_fault}
 use Rattle.cql_model.specs.Laws.{known_names, AreKnown}
-use Rattle.cql_model.specs.Program.{Source, Column, Columns, Star, Chosen, Query, Register, Ask, Program, streams_of}
+use Rattle.cql_model.specs.Program.{streams_of}
+use Rattle.cql_text.specs.Tree.{Source, Column, Columns, Star, Chosen, Query, Register, AQuery, Program}
 use Rattle.cql_model.specs.Scopes.{Named, item_named, scope_of}
 use Rattle.cql_model.specs.Translation.{widths_of, query_named, columns_width}
 use Rattle.cql_model.proofs.AllFit.{sized_scope, columns_many}
@@ -47,9 +48,9 @@ not_zero n h = grind (arith, h)
 not_above : (m n : ℕ) → nat_lt m n ≡ false → n ≤ m
 not_above m n h = grind (arith, h)
 
-window_good : (w : Window) → is_rows_fault w ≡ false → IsTrue (is_window w)
+window_good : (w : Window) → is_rows_fault w ≡ false → IsTrue (is_window (kernel_window w))
 window_good Now h = refl
-window_good (Range t) h = refl
+window_good (Range n unit) h = refl
 window_good Unbounded h = refl
 window_good (Latest n) h = grind (arith, h)
 
@@ -58,7 +59,7 @@ window_good (Latest n) h = grind (arith, h)
 pub record ItemsGood (known scope : List Named) (items : List Source) : Type 0 where
   pub few : length scope + length items ≤ 4
   pub streams : AreKnown known (streams_of items)
-  pub windows : AllByRecursion (λ (i : Source). IsTrue (is_window i.window)) items
+  pub windows : AllByRecursion (λ (i : Source). IsTrue (is_window (kernel_window i.window))) items
   pub product : widths_of (scope ++ scope_of known items) ≤ 16
 
 items_good : (known scope : List Named) (items : List Source) → length scope ≤ 4 → widths_of scope ≤ 16 → items_fault known scope items ≡ None
@@ -105,7 +106,7 @@ columns_good : (scope : List Named) (cs : Columns) → 1 ≤ widths_of scope →
 columns_good scope Star some few c h = wide (widths_of scope) some few
 columns_good scope (Chosen cs) some few c h = wide (length cs) (grind (arith, c)) (let m = chosen_few scope 0 cs (omega arith) h in omega (arith, m))
 
-query_good : (known : List Named) (q : Query) → Sized known → IsSpoken q → query_fault known q ≡ None → IsQuery known q
+query_good : (known : List Named) (q : Query) → Sized known → IsSpokenQuery q → query_fault known q ≡ None → IsPlannableQuery known q
 query_good known q z s h =
     let scope = scope_of known q.items in
     let a = fault_if (nat_lt 0 (count q.name (known_names known))) NameTwice in
@@ -146,7 +147,7 @@ fields_few past (f ∷ fs) le h =
 names_good : (ps : Program) → AreSpoken ps → AllByRecursion (λ n. IsTrue (has_no_at n)) (declared ps)
 names_good [] s = tt
 names_good (Register name fields ∷ ps) s = (s.0, names_good ps s.2)
-names_good (Ask q ∷ ps) s = (s.0, names_good ps s.2)
+names_good (AQuery q ∷ ps) s = (s.0, names_good ps s.2)
 
 new_name : (known : List Named) (n : Name) (rest : Option Fault) → then_fault (fault_if (nat_lt 0 (count n (known_names known))) NameTwice) rest ≡ None
     → count n (known_names known) ≤ 0
@@ -171,7 +172,7 @@ names_once ks many unit (Register name fields ∷ ps) d h n =
     let z = new_name ks name (then_fault (fault_if (nat_lt 7 many) Limit) (fields_fault [] fields)) u.0 in
     let m = names_once (k ∷ ks) (many + 1) (unit + 1) ps (more_distinct ks k d z) u.1 n in
     omega (arith, m)
-names_once ks many unit (Ask q ∷ ps) d h n =
+names_once ks many unit (AQuery q ∷ ps) d h n =
     let k = query_named ks q in
     let u = unit_none unit (query_fault ks q) (first_fault (k ∷ ks) many (unit + 1) ps) h in
     let scope = scope_of ks q.items in
@@ -189,12 +190,13 @@ queries_good ks many unit (Register name fields ∷ ps) z s h =
     let few = fields_few [] fields (omega arith) (then_none b (fields_fault [] fields) (then_none a (then_fault b (fields_fault [] fields)) u.0)) in
     let w = wide (length fields) s.1 (omega (arith, few)) in
     (w, queries_good (k ∷ ks) (many + 1) (unit + 1) ps (w, z) s.2 u.1)
-queries_good ks many unit (Ask q ∷ ps) z s h =
+queries_good ks many unit (AQuery q ∷ ps) z s h =
     let k = query_named ks q in
     let u = unit_none unit (query_fault ks q) (first_fault (k ∷ ks) many (unit + 1) ps) h in
     let g = query_good ks q z s.1 u.0 in
     (g, queries_good (k ∷ ks) many (unit + 1) ps (ap is_width (columns_many (scope_of ks q.items) q.columns) ∙ g.columns, z) s.2 u.1)
 
+-- the law: of a program without a fault a plan can be made
 pub faultless_plannable : FaultlessPlannable
 faultless_plannable p s h = record {
   names = names_good p s;

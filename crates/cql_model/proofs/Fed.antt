@@ -11,62 +11,67 @@ use Rattle.work_code.specs.Term.{Term}
 use Rattle.kern_bags.specs.Contents.{selected, projected, product}
 use Rattle.kern_bags.specs.Steps.{streamer_one, select_one, project_one, Pairing, front_of_pair, rest_of_pair, joined_batch, crosses}
 use Rattle.kern_bags.specs.Steps as steps
-use Rattle.kern_bags.specs.declared.kernel.Streamer.{Streamer}
-use Rattle.kern_bags.specs.declared.kernel.Streamer.TheVariants.{Istream, Dstream, Rstream}
+use Rattle.cql_text.specs.declared.tree.Kind.{Kind}
+use Rattle.cql_text.specs.declared.tree.Kind.TheVariants.{Istream, Dstream, Rstream}
 use Rattle.river_kernels.specs.Kern.{select, project, streamer, cross, duplicate}
 use Rattle.brooklet_model.specs.Firings.{Kept, Crossing, Fired, feed}
 use Rattle.brooklet_model.specs.Fire.{fire, first_kept, crossed_fired}
 use Rattle.brooklet_model.specs.Words.{Word, feed_all, run, word_of}
 use Rattle.brooklet_model.proofs.Lists.{if_lt}
 use Rattle.brooklet_model.proofs.Feeds.{feed_word}
-use Rattle.cql_model.specs.Streams.{last_of, at_last, before, changed}
+use Rattle.cql_model.specs.KernelWords.{streamer_of}
+use Rattle.cql_model.specs.Streams.{last_instant, at_last, content_before, changed}
 use Rattle.cql_model.proofs.Feeding.{received_fed, given_spread, mapped_fed}
 use Rattle.cql_model.proofs.Instants.{Ascends, below_front}
 use Rattle.cql_model.proofs.Bags.{difference_is}
 
+-- a selection, fed with a relation, gives the rows that pass at each instant
 pub select_fed : (e : Term) (ts : List ℤ) (s : Timed) (ss : List Kept) → (feed (fire (select e) 0) (spread ts s) ss).outs 0 ≡ spread ts (λ t. selected e (s t))
 select_fed e ts s ss = mapped_fed (selected e) (select_one e) (λ t rows. refl) ts s ss
 
+-- a projection gives the values of the columns
 pub project_fed : (es : List Term) (ts : List ℤ) (s : Timed) (ss : List Kept)
     → (feed (fire (project es) 0) (spread ts s) ss).outs 0 ≡ spread ts (λ t. projected es (s t))
 project_fed es ts s ss = mapped_fed (projected es) (project_one es) (λ t rows. refl) ts s ss
 
 -- COPIES
 
+-- a copy gives what it is fed with, at each of its ports
 pub copy_fed : (n q : ℕ) → q < n → (xs : List item.Item) (ss : List Kept) → (feed (fire (duplicate n) 0) xs ss).outs q ≡ xs
 copy_fed n q lt [] ss = refl
 copy_fed n q lt (x ∷ xs) ss = ap (λ l. l ++ (feed (fire (duplicate n) 0) xs ss).outs q) (if_lt q n (x ∷ []) [] lt) ∙ ap (λ l. x ∷ l) (copy_fed n q lt xs ss)
 
 -- STREAMERS
 
-rows_last : (r : Timed) (us : List ℤ) → steps.last_rows (batches (spread us r)) ≡ at_last r (last_of us)
+rows_last : (r : Timed) (us : List ℤ) → steps.last_rows (batches (spread us r)) ≡ at_last r (last_instant us)
 rows_last r [] = refl
 rows_last r (u ∷ []) = refl
 rows_last r (u ∷ v ∷ vs) = rows_last r (v ∷ vs)
 
 -- of contents in order, what came and went is in order
-streamed_is : (k : Streamer) (old new : List (List ℤ)) → steps.streamed k (in_order old) (in_order new) ≡ in_order (changed k old new)
+streamed_is : (k : Kind) (old new : List (List ℤ)) → steps.streamed (streamer_of k) (in_order old) (in_order new) ≡ in_order (changed k old new)
 streamed_is Istream old new = difference_is new old
 streamed_is Dstream old new = difference_is old new
 streamed_is Rstream old new = refl
 
-last_in_order : (r c : Timed) (us : List ℤ) → ((t : ℤ) → r t ≡ in_order (c t)) → at_last r (last_of us) ≡ in_order (at_last c (last_of us))
+last_in_order : (r c : Timed) (us : List ℤ) → ((t : ℤ) → r t ≡ in_order (c t)) → at_last r (last_instant us) ≡ in_order (at_last c (last_instant us))
 last_in_order r c [] h = refl
 last_in_order r c (u ∷ []) h = h u
 last_in_order r c (u ∷ v ∷ vs) h = last_in_order r c (v ∷ vs) h
 
-streamer_step : (k : Streamer) (ts : List ℤ) (r c : Timed) → Ascends ts → ((t : ℤ) → r t ≡ in_order (c t)) → (us vs : List ℤ) (t : ℤ) → ts ≡ us ++ (t ∷ vs)
-    → streamer_one k (spread us r) (item_at t (r t)) ≡ item_at t (in_order (changed k (before ts c t) (c t))) ∷ []
+streamer_step : (k : Kind) (ts : List ℤ) (r c : Timed) → Ascends ts → ((t : ℤ) → r t ≡ in_order (c t)) → (us vs : List ℤ) (t : ℤ) → ts ≡ us ++ (t ∷ vs)
+    → streamer_one (streamer_of k) (spread us r) (item_at t (r t)) ≡ item_at t (in_order (changed k (content_before ts c t) (c t))) ∷ []
 streamer_step k ts r c up h us vs t e =
     let front : filter (λ u. int_lt u t) ts ≡ us = ap (filter (λ u. int_lt u t)) e ∙ below_front us vs t (subst Ascends e up) in
-    let old : steps.last_rows (batches (spread us r)) ≡ in_order (before ts c t) = rows_last r us ∙ last_in_order r c us h ∙ ap (λ l. in_order (at_last c (last_of l))) (sym front) in
-    ap (λ l. item_at t l ∷ []) (ap (λ l. steps.streamed k l (r t)) old ∙ ap (steps.streamed k (in_order (before ts c t))) (h t) ∙ streamed_is k (before ts c t) (c t))
+    let old : steps.last_rows (batches (spread us r)) ≡ in_order (content_before ts c t) = rows_last r us ∙ last_in_order r c us h ∙ ap (λ l. in_order (at_last c (last_instant l))) (sym front) in
+    ap (λ l. item_at t l ∷ []) (ap (λ l. steps.streamed (streamer_of k) l (r t)) old ∙ ap (steps.streamed (streamer_of k) (in_order (content_before ts c t))) (h t) ∙ streamed_is k (content_before ts c t) (c t))
 
-pub streamer_fed : (k : Streamer) (ts : List ℤ) (r c : Timed) → Ascends ts → ((t : ℤ) → r t ≡ in_order (c t))
-    → (feed (fire (streamer k) 0) (spread ts r) (first_kept (streamer k))).outs 0 ≡ spread ts (λ t. in_order (changed k (before ts c t) (c t)))
+-- a streamer gives what came, what went, or all
+pub streamer_fed : (k : Kind) (ts : List ℤ) (r c : Timed) → Ascends ts → ((t : ℤ) → r t ≡ in_order (c t))
+    → (feed (fire (streamer (streamer_of k)) 0) (spread ts r) (first_kept (streamer (streamer_of k)))).outs 0 ≡ spread ts (λ t. in_order (changed k (content_before ts c t) (c t)))
 streamer_fed k ts r c up h =
-    received_fed (streamer_one k) [] (spread ts r)
-    ∙ given_spread ts r (λ t. in_order (changed k (before ts c t) (c t))) (streamer_one k) (streamer_step k ts r c up h) [] ts refl
+    received_fed (streamer_one (streamer_of k)) [] (spread ts r)
+    ∙ given_spread ts r (λ t. in_order (changed k (content_before ts c t) (c t))) (streamer_one (streamer_of k)) (streamer_step k ts r c up h) [] ts refl
 
 -- PRODUCTS: all of the first port, then all of the second
 
@@ -92,6 +97,7 @@ none_passes (suc n) xs = ap (pass_on rest_of_pair (pairing xs []) (drain front_o
 left_one : (x : item.Item) (xs : List item.Item) → crosses 0 x (pairing xs []) ≡ ([], pairing (xs ++ x ∷ []) [])
 left_one x xs = none_passes (length (xs ++ x ∷ []) + 0) (xs ++ x ∷ [])
 
+-- a product, fed at its left port alone, keeps what came and gives nothing
 pub left_fed : (xs ls : List item.Item)
     → ((feed (fire cross 0) xs (waiting ls)).outs 0 ≡ []) × ((feed (fire cross 0) xs (waiting ls)).states ≡ waiting (ls ++ xs))
 left_fed [] ls = (refl, ap waiting (sym (append-nil ls)))
@@ -107,6 +113,7 @@ pair_passes : (m n : ℕ) (x y : item.Item) (xs : List item.Item) → m ≡ suc 
 pair_passes m n x y xs e =
     ap (λ k. drained k (pairing (x ∷ xs) (y ∷ []))) e ∙ ap (λ (d : List item.Item × Pairing). (joined_batch x y ++ d.0, d.1)) (none_passes n xs)
 
+-- one item at its right port then meets the first that was kept
 pub right_one : (x y : item.Item) (xs : List item.Item) → crosses 1 y (pairing (x ∷ xs) []) ≡ (joined_batch x y ++ [], pairing xs [])
 right_one x y xs = pair_passes (length (x ∷ xs) + length (y ∷ [])) (length (x ∷ xs)) x y xs (omega arith)
 
@@ -117,6 +124,7 @@ right_fed (t ∷ ts) a b =
     ap (λ (r : Fired). r.outs 0 ++ (feed (fire cross 1) (spread ts b) r.states).outs 0) one
     ∙ ap (λ l. item_at t (product (a t) (b t)) ∷ l) (right_fed ts a b)
 
+-- a word of firings is run in two parts
 pub run-append : (f : ℕ → item.Item → List Kept → Fired) (u w : Word) (ss : List Kept)
     → (run f (u ++ w) ss).outs 0 ≡ (run f u ss).outs 0 ++ (run f w (run f u ss).states).outs 0
 run-append f [] w ss = refl

@@ -10,11 +10,13 @@ abbrev pub given_after : (List item.Item → item.Item → List item.Item) → L
 given_after one past [] = []
 given_after one past (x ∷ xs) = one past x ++ given_after one (past ++ x ∷ []) xs
 
+-- a kernel that answers each item by itself, fed with many
 pub received_fed : (one : List item.Item → item.Item → List item.Item) (past xs : List item.Item)
     → (feed (λ x ss. received_one one x ss) xs (Received past ∷ [])).outs 0 ≡ given_after one past xs
 received_fed one past [] = refl
 received_fed one past (x ∷ xs) = ap (λ l. one past x ++ l) (received_fed one (past ++ x ∷ []) xs)
 
+-- a stream over instants in two parts
 pub spread-append : (us vs : List ℤ) (s : Timed) → spread (us ++ vs) s ≡ spread us s ++ spread vs s
 spread-append [] vs s = refl
 spread-append (u ∷ us) vs s = ap (λ l. item_at u (s u) ∷ l) (spread-append us vs s)

@@ -17,6 +17,7 @@ module _ {X R : Type 0} (Silent : X → Type 0) (Says : X → R → Type 0) wher
   pub finds_silent : (x : X) → Silent x → Finds Silent Says (x ∷ []) None
   finds_silent x s = inr (s, refl)
 
+  -- a place that has a fault is found
   pub finds_one : (x : X) (r : R) → Says x r → Finds Silent Says (x ∷ []) (Some r)
   finds_one x r s = inl (r, refl, s)
 
@@ -31,6 +32,7 @@ module _ {X R : Type 0} (Silent : X → Type 0) (Says : X → R → Type 0) wher
   finds_none [] f = tt
   finds_none (x ∷ xs) f = ⊎_elim (λ s. absurd (cc (s.1))) (λ s. (s.0, finds_none xs s.1)) f
 
+  -- among places without a fault none is found
   pub none_finds : (xs : List X) → AllByRecursion Silent xs → Finds Silent Says xs None
   none_finds [] a = refl
   none_finds (x ∷ xs) a = inr (a.0, none_finds xs a.1)
@@ -47,6 +49,7 @@ module _ {X R : Type 0} (Silent : X → Type 0) (Says : X → R → Type 0) wher
   some_is : (r s : R) → Some r ≡ Some s → s ≡ r
   some_is r s e = cc
 
+  -- a fault that is found has its place, and no place before it has one
   pub finds_some : (xs : List X) (r : R) → Finds Silent Says xs (Some r) → Split xs r
   finds_some [] r f = absurd (cc f)
   finds_some (x ∷ xs) r f =
@@ -54,6 +57,7 @@ module _ {X R : Type 0} (Silent : X → Type 0) (Says : X → R → Type 0) wher
       (λ s. let m = finds_some xs r s.1 in
       record { before = x ∷ m.before; element = m.element; behind = m.behind; parts = ap (λ l. x ∷ l) m.parts; silent = (s.0, m.silent); says = m.says }) f
 
+  -- and where it is so, it is found
   pub some_finds : (before : List X) (x : X) (behind : List X) (r : R) → AllByRecursion Silent before → Says x r
       → Finds Silent Says (before ++ x ∷ behind) (Some r)
   some_finds [] x behind r a s = inl (r, refl, s)
@@ -72,6 +76,7 @@ abbrev pub named_as : {R S : Type 0} → (R → S) → Option R → Option S
 named_as h None = None
 named_as h (Some r) = Some (h r)
 
+-- the same over what a function gives for each place
 pub finds_map : {X Y R S : Type 0} (Silent : X → Type 0) (Says : X → R → Type 0) (Quiet : Y → Type 0) (Tells : Y → S → Type 0) (g : X → Y) (h : R → S)
     → ((x : X) → Silent x → Quiet (g x)) → ((x : X) (r : R) → Says x r → Tells (g x) (h r))
     → (xs : List X) (o : Option R) → Finds Silent Says xs o → Finds Quiet Tells (map g xs) (named_as h o)

@@ -9,7 +9,7 @@ use Rattle.brooklet_model.specs.Fit.{AreInstants}
 use Rattle.brooklet_model.specs.Typed.{AreInputs}
 use Rattle.cql_model.specs.Fit.{FilesFit}
 use Rattle.cql_model.specs.Laws.{AreFiles}
-use Rattle.cql_model.specs.Program.{Register, Ask, Program}
+use Rattle.cql_text.specs.Tree.{Register, AQuery, Program}
 use Rattle.cql_model.specs.Translation.{input_decls}
 use Rattle.cql_model.proofs.Stamps.{instants_are, spread_instants}
 use Rattle.cql_model.proofs.Widths.{file_wide}
@@ -25,14 +25,15 @@ inputs_typed ts [] (f ∷ fs) a = absurd a
 inputs_typed ts (Register name fields ∷ ps) [] a = absurd a
 inputs_typed ts (Register name fields ∷ ps) (f ∷ fs) a =
     (spread_typed (length fields) ts (at_instant f) (λ t. file_wide (length fields) f t a.0), inputs_typed ts ps fs a.1)
-inputs_typed ts (Ask q ∷ ps) files a = inputs_typed ts ps files a
+inputs_typed ts (AQuery q ∷ ps) files a = inputs_typed ts ps files a
 
 inputs_timed : (ts : List ℤ) (ps : Program) (files : List (List (ℤ × List ℤ))) → AreInstants (input_decls ps) ts (map (λ f. spread ts (at_instant f)) files)
 inputs_timed ts [] files = tt
 inputs_timed ts (Register name fields ∷ ps) [] = tt
 inputs_timed ts (Register name fields ∷ ps) (f ∷ fs) = (spread_instants ts (at_instant f), inputs_timed ts ps fs)
-inputs_timed ts (Ask q ∷ ps) files = inputs_timed ts ps files
+inputs_timed ts (AQuery q ∷ ps) files = inputs_timed ts ps files
 
+-- the law: files of the widths of a program's streams fit its plan
 pub files_fit : FilesFit
 files_fit p files a =
     let i = instants_are files in (

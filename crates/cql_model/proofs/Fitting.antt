@@ -19,17 +19,19 @@ use Rattle.river_plan.specs.Kinds.{FitsAt}
 use Rattle.river_plan.specs.Names.{count}
 use Rattle.river_plan.specs.Uses.{Each}
 use Rattle.river_plan.proofs.NameLemmas.{one_same}
-use Rattle.cql_model.specs.Plannable.{depth, AreShallow, IsShallow, IsQuery}
-use Rattle.cql_model.specs.Program.{Scalar, Number, Field, ItemField, Neg, Not, Bin, Source, Column, Columns, Star, Chosen, Query}
+use Rattle.cql_model.specs.KernelWords.{kernel_window}
+use Rattle.cql_model.specs.Plannable.{AreShallowColumns, IsShallowCondition, IsPlannableQuery}
+use Rattle.cql_text.specs.Tree.{Scalar, scalar_depth, Number, Field, ItemField, Neg, Not, Bin, Source, Column, Columns, Star, Chosen, Query}
 use Rattle.cql_model.specs.Scopes.{Named, scope_of, item_named, fields_of}
-use Rattle.cql_model.specs.Translation.{plus, or_place, place_in, field_place, item_place, at_place, resolved, at_word, copies, w_name, x_name, window_ops}
+use Rattle.cql_model.specs.Translation.{plus, or_place, place_among, field_place, item_place, at_place, resolved, at_word, copy_names, w_name, x_name, window_ops}
 use Rattle.cql_model.specs.Translation.{cross_ops, cross_last, select_ops, select_last, terms_of, project_ops, project_last, out_ops, out_name, tail_ops}
-use Rattle.cql_model.specs.Translation.{item_ops, item_last, decls, widths_of, window_decls, cross_decls, item_decls, select_decls, project_decls}
+use Rattle.cql_model.specs.Translation.{item_ops, item_last, decls_of, widths_of, window_decls, cross_decls, item_decls, select_decls, project_decls}
 use Rattle.cql_model.specs.Translation.{columns_width, out_decls, query_decls}
 use Rattle.cql_model.proofs.Counting.{stream_op, project_from, block_ops}
 use Rattle.river_plan.proofs.ShareLemmas.{each_append}
 use Rattle.cql_model.proofs.Walk.{each-append}
 
+-- two tests that hold
 pub both : (a b : Bool) → a ≡ true → b ≡ true → a && b ≡ true
 both true b h g = g
 both false b h g = h
@@ -52,27 +54,27 @@ or_below : (o p : Option ℕ) (n : ℕ) → Below o n → Below p n → Below (o
 or_below None p n h g = g
 or_below (Some k) p n h g = h
 
-in_below : (f : Name) (fields : List Name) → Below (place_in f fields) (length fields)
+in_below : (f : Name) (fields : List Name) → Below (place_among f fields) (length fields)
 in_below f [] = tt
-in_below f (g ∷ gs) = step (name_eq g f) (plus_below (place_in f gs) 1 (length gs) (in_below f gs)) where
-  step : (b : Bool) → Below (plus 1 (place_in f gs)) (1 + length gs) → Below (if b then Some 0 else plus 1 (place_in f gs)) (length (g ∷ gs))
+in_below f (g ∷ gs) = step (name_eq g f) (plus_below (place_among f gs) 1 (length gs) (in_below f gs)) where
+  step : (b : Bool) → Below (plus 1 (place_among f gs)) (1 + length gs) → Below (if b then Some 0 else plus 1 (place_among f gs)) (length (g ∷ gs))
   step true h = omega arith
-  step false h = widen (plus 1 (place_in f gs)) (1 + length gs) (length (g ∷ gs)) (omega arith) h
+  step false h = widen (plus 1 (place_among f gs)) (1 + length gs) (length (g ∷ gs)) (omega arith) h
 
 pub field_below : (f : Name) (scope : List Named) → Below (field_place f scope) (widths_of scope)
 field_below f [] = tt
 field_below f (i ∷ is) =
-    or_below (place_in f i.fields) (plus (length i.fields) (field_place f is)) (length i.fields + widths_of is)
-    (widen (place_in f i.fields) (length i.fields) (length i.fields + widths_of is) (omega arith) (in_below f i.fields))
+    or_below (place_among f i.fields) (plus (length i.fields) (field_place f is)) (length i.fields + widths_of is)
+    (widen (place_among f i.fields) (length i.fields) (length i.fields + widths_of is) (omega arith) (in_below f i.fields))
     (plus_below (field_place f is) (length i.fields) (widths_of is) (field_below f is))
 
 pub item_below : (a f : Name) (scope : List Named) → Below (item_place a f scope) (widths_of scope)
 item_below a f [] = tt
 item_below a f (i ∷ is) =
-    step (name_eq i.name a) (widen (place_in f i.fields) (length i.fields) (length i.fields + widths_of is) (omega arith) (in_below f i.fields)) (plus_below (item_place a f is) (length i.fields) (widths_of is) (item_below a f is)) where
-      step : (b : Bool) → Below (place_in f i.fields) (length i.fields + widths_of is)
+    step (name_eq i.name a) (widen (place_among f i.fields) (length i.fields) (length i.fields + widths_of is) (omega arith) (in_below f i.fields)) (plus_below (item_place a f is) (length i.fields) (widths_of is) (item_below a f is)) where
+      step : (b : Bool) → Below (place_among f i.fields) (length i.fields + widths_of is)
           → Below (plus (length i.fields) (item_place a f is)) (length i.fields + widths_of is)
-          → Below (if b then place_in f i.fields else plus (length i.fields) (item_place a f is)) (length i.fields + widths_of is)
+          → Below (if b then place_among f i.fields else plus (length i.fields) (item_place a f is)) (length i.fields + widths_of is)
       step true h g = h
       step false h g = g
 
@@ -93,22 +95,23 @@ place_depth : (o : Option ℕ) → depth_of (at_place o) ≡ 1
 place_depth None = refl
 place_depth (Some k) = refl
 
-same_depth : (scope : List Named) (e : Scalar) → depth_of (resolved scope e) ≡ depth e
+same_depth : (scope : List Named) (e : Scalar) → depth_of (resolved scope e) ≡ scalar_depth e
 same_depth scope (Number n) = refl
 same_depth scope (Field f) = place_depth (field_place f scope)
 same_depth scope (ItemField a f) = place_depth (item_place a f scope)
 same_depth scope (Neg e) = ap suc (same_depth scope e)
 same_depth scope (Not e) = ap suc (same_depth scope e)
-same_depth scope (Bin o l r) = ap (λ n. suc (max n (depth_of (resolved scope r)))) (same_depth scope l) ∙ ap (λ n. suc (max (depth l) n)) (same_depth scope r)
+same_depth scope (Bin o l r) = ap (λ n. suc (max n (depth_of (resolved scope r)))) (same_depth scope l) ∙ ap (λ n. suc (max (scalar_depth l) n)) (same_depth scope r)
 
+-- the test of a number that is not above another
 pub le_true : (a b : ℕ) → a ≤ b → nat_le a b ≡ true
 le_true a b h = grind (arith, h)
 
-pub is_value : (scope : List Named) (e : Scalar) → depth e ≤ 64 → is_term (widths_of scope) 0 (resolved scope e) ≡ true
+pub is_value : (scope : List Named) (e : Scalar) → scalar_depth e ≤ 64 → is_term (widths_of scope) 0 (resolved scope e) ≡ true
 is_value scope e h =
     both (is_sound (widths_of scope) 0 (resolved scope e)) (nat_le (depth_of (resolved scope e)) 64) (sound scope e) (le_true (depth_of (resolved scope e)) 64 (let d = same_depth scope e in omega (arith, d, h)))
 
-are_values : (scope : List Named) (cs : List Column) → AllByRecursion (λ (c : Column). depth c.value ≤ 64) cs
+are_values : (scope : List Named) (cs : List Column) → AllByRecursion (λ (c : Column). scalar_depth c.value ≤ 64) cs
     → list_all (is_term (widths_of scope) 0) (terms_of scope cs) ≡ true
 are_values scope [] h = refl
 are_values scope (c ∷ cs) h =
@@ -117,6 +120,7 @@ are_values scope (c ∷ cs) h =
 wide : (n : ℕ) → 1 ≤ n → n ≤ 16 → is_width n ≡ true
 wide n h g = grind (arith, h, g)
 
+-- a width is from 1 to 16
 pub narrow : (n : ℕ) → is_width n ≡ true → (1 ≤ n) × (n ≤ 16)
 narrow n h = let p = and_parts (nat_le 1 n) (nat_le n 16) h in (grind (arith, p.0), grind (arith, p.1))
 
@@ -136,6 +140,7 @@ module _ (kind : Name → QueueType) (var : Name → VarKind) where
   abbrev pub AreKinds : List Decl → Type 0
   AreKinds ds = AllByRecursion (λ (d : Decl). kind d.name ≡ d.kind) ds
 
+  -- what holds of the types of two lists of declarations
   pub kinds-append : (xs ys : List Decl) → AreKinds (xs ++ ys) → AreKinds xs × AreKinds ys
   kinds-append [] ys h = (tt, h)
   kinds-append (x ∷ xs) ys h = let m = kinds-append xs ys h.1 in ((h.0, m.0), m.1)
@@ -151,11 +156,11 @@ module _ (kind : Name → QueueType) (var : Name → VarKind) where
 
   windows_fit : (known : List Named) (b : Name) (k : ℕ) (items : List Source) (srcs : List Name) → SourceKinds (scope_of known items) srcs
       → AreKinds (window_decls b k (scope_of known items)) → Sized (scope_of known items)
-      → AllByRecursion (λ (i : Source). IsTrue (is_window i.window)) items → Each Own (window_ops b k items srcs) → Each Fit (window_ops b k items srcs)
+      → AllByRecursion (λ (i : Source). IsTrue (is_window (kernel_window i.window))) items → Each Own (window_ops b k items srcs) → Each Fit (window_ops b k items srcs)
   windows_fit known b k [] srcs s d z w o = tt
   windows_fit known b k (i ∷ is) [] s d z w o = tt
   windows_fit known b k (i ∷ is) (src ∷ srcs) s d z w o = (
-    (length (fields_of known i.stream), ap (λ (x : QueueType). x ∷ []) s.0, ap (λ (x : QueueType). x ∷ []) d.0, ap (λ (x : VarKind). x ∷ []) (o.0 (w_name b k) (count_first (w_name b k) [])), both (is_width (length (fields_of known i.stream))) (is_window i.window) z.0 w.0),
+    (length (fields_of known i.stream), ap (λ (x : QueueType). x ∷ []) s.0, ap (λ (x : QueueType). x ∷ []) d.0, ap (λ (x : VarKind). x ∷ []) (o.0 (w_name b k) (count_first (w_name b k) [])), both (is_width (length (fields_of known i.stream))) (is_window (kernel_window i.window)) z.0 w.0),
     windows_fit known b (k + 1) is srcs s.1 d.1 z.1 w.1 o.1,
   )
 
@@ -180,7 +185,7 @@ module _ (kind : Name → QueueType) (var : Name → VarKind) where
 
   items_fit : (known : List Named) (b : Name) (items : List Source) (srcs : List Name) → 0 < length items → SourceKinds (scope_of known items) srcs
       → AreKinds (item_decls b (scope_of known items)) → Sized (scope_of known items)
-      → AllByRecursion (λ (i : Source). IsTrue (is_window i.window)) items → widths_of (scope_of known items) ≤ 16 → Each Own (item_ops b items srcs)
+      → AllByRecursion (λ (i : Source). IsTrue (is_window (kernel_window i.window))) items → widths_of (scope_of known items) ≤ 16 → Each Own (item_ops b items srcs)
       → Each Fit (item_ops b items srcs) × (kind (item_last b items) ≡ relation (widths_of (scope_of known items)))
   items_fit known b [] srcs some s d z w few o = absurd (omega (arith, some))
   items_fit known b (i ∷ is) srcs some s d z w few o =
@@ -191,7 +196,7 @@ module _ (kind : Name → QueueType) (var : Name → VarKind) where
       (each_append Fit (window_ops b 1 (i ∷ is) srcs) (cross_ops b (w_name b 1) 2 is) (windows_fit known b 1 (i ∷ is) srcs s ds.0 z w os.0) c.0, c.1)
 
   select_fits : (b : Name) (scope : List Named) (last : Name) (o : Option Scalar) → kind last ≡ relation (widths_of scope) → is_width (widths_of scope) ≡ true
-      → IsShallow o → AreKinds (select_decls b (widths_of scope) o)
+      → IsShallowCondition o → AreKinds (select_decls b (widths_of scope) o)
       → Each Fit (select_ops b scope last o) × (kind (select_last b last o) ≡ relation (widths_of scope))
   select_fits b scope last None l n h d = (tt, l)
   select_fits b scope last (Some e) l n h d = (
@@ -200,7 +205,7 @@ module _ (kind : Name → QueueType) (var : Name → VarKind) where
   )
 
   project_fits : (b : Name) (scope : List Named) (last : Name) (cs : Columns) → kind last ≡ relation (widths_of scope) → is_width (widths_of scope) ≡ true
-      → is_width (columns_width scope cs) ≡ true → AreShallow cs → AreKinds (project_decls b cs)
+      → is_width (columns_width scope cs) ≡ true → AreShallowColumns cs → AreKinds (project_decls b cs)
       → Each Fit (project_ops b scope last cs) × (kind (project_last b last cs) ≡ relation (columns_width scope cs))
   project_fits b scope last Star l n c h d = (tt, l)
   project_fits b scope last (Chosen cs) l n c h d =
@@ -220,11 +225,12 @@ module _ (kind : Name → QueueType) (var : Name → VarKind) where
       )
 
   -- copies
-  pub copies_kinds : (ns : List Name) (t : QueueType) → AreKinds (decls ns t) → map kind ns ≡ replicate (length ns) t
+  pub copies_kinds : (ns : List Name) (t : QueueType) → AreKinds (decls_of ns t) → map kind ns ≡ replicate (length ns) t
   copies_kinds [] t h = refl
   copies_kinds (n ∷ ns) t h = ap (λ x. x ∷ map kind ns) h.0 ∙ ap (λ l. t ∷ l) (copies_kinds ns t h.1)
 
-  pub length-copies : (b : Name) (k u : ℕ) → length (copies b k u) ≡ u
+  -- there are so many copies
+  pub length-copies : (b : Name) (k u : ℕ) → length (copy_names b k u) ≡ u
   length-copies b k zero = refl
   length-copies b k (suc u) = let e = length-copies b (k + 1) u in omega (arith, e)
 
@@ -236,7 +242,7 @@ module _ (kind : Name → QueueType) (var : Name → VarKind) where
       (
         Stream width,
         ap (λ (x : QueueType). x ∷ []) d.0,
-        ap (λ x. x ∷ map kind (copies b 0 (suc u))) o ∙ ap (λ l. stream width ∷ l) (copies_kinds (copies b 0 (suc u)) (stream width) d.1 ∙ ap (λ m. replicate m (stream width)) (length-copies b 0 (suc u))),
+        ap (λ x. x ∷ map kind (copy_names b 0 (suc u))) o ∙ ap (λ l. stream width ∷ l) (copies_kinds (copy_names b 0 (suc u)) (stream width) d.1 ∙ ap (λ m. replicate m (stream width)) (length-copies b 0 (suc u))),
         refl,
         both (is_width width) (nat_le 1 (suc (suc u))) n (le_true 1 (suc (suc u)) (omega arith)),
       ),
@@ -250,7 +256,8 @@ module _ (kind : Name → QueueType) (var : Name → VarKind) where
   sized_some [] some z = absurd (omega (arith, some))
   sized_some (k ∷ ks) some z = let n = (narrow (length k.fields) z.0).0 in omega (arith, n)
 
-  pub block_fits : (all : List Name) (known : List Named) (q : Query) (srcs : List Name) → IsQuery known q → SourceKinds (scope_of known q.items) srcs
+  -- the operators of a query fit their queues and variables
+  pub block_fits : (all : List Name) (known : List Named) (q : Query) (srcs : List Name) → IsPlannableQuery known q → SourceKinds (scope_of known q.items) srcs
       → Sized (scope_of known q.items)
       → AreKinds (query_decls all known q) → kind q.name ≡ stream (columns_width (scope_of known q.items) q.columns)
       → Each Own (block_ops q (scope_of known q.items) (count q.name all) srcs)

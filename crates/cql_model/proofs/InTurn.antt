@@ -17,16 +17,18 @@ use Rattle.river_plan.specs.Names.{one_if, count, with_name}
 use Rattle.river_plan.specs.Uses.{total, writes_it, and_writes, ReadsBefore, all_writes, all_vars}
 use Rattle.river_plan.proofs.NameLemmas.{cases_name, count-append, one_same, more_or_zero}
 use Rattle.river_plan.proofs.ShareLemmas.{total-vars}
+use Rattle.cql_model.specs.KernelWords.{streamer_of}
 use Rattle.cql_model.specs.Plannable.{has_no_at, declared}
 use Rattle.cql_model.specs.InTurn.{PlansInTurn}
 use Rattle.river_plan.specs.InTurn.{mentioned}
 use Rattle.cql_model.specs.Numeral.{numeral}
-use Rattle.cql_model.specs.Program.{Scalar, Source, Columns, Star, Chosen, Query, Register, Ask, Program, registered, streams_of, all_uses}
+use Rattle.cql_model.specs.Program.{registered, streams_of, all_uses}
+use Rattle.cql_text.specs.Tree.{Scalar, Source, Columns, Star, Chosen, Query, Register, AQuery, Program}
 use Rattle.cql_model.specs.Scopes.{Named, scope_of, item_named}
-use Rattle.cql_model.specs.Translation.{op, at_word, copies, copy_name, sources, w_name, x_name, window_ops, cross_ops, select_ops, select_last, project_ops}
-use Rattle.cql_model.specs.Translation.{project_last, out_ops, out_name, item_ops, item_last, query_ops, query_named, ask_ops, copy_ops, input_ops, ops_of}
+use Rattle.cql_model.specs.Translation.{op, at_word, copy_names, copy_name, queues_of_uses, w_name, x_name, window_ops, cross_ops, select_ops, select_last, project_ops}
+use Rattle.cql_model.specs.Translation.{project_last, out_ops, out_name, item_ops, item_last, query_ops, query_named, queries_ops, copy_ops, input_ops, ops_of}
 use Rattle.cql_model.specs.Translation.{widths_of, window_decls, cross_decls, item_decls, select_decls, project_decls, out_decls, columns_width, query_decls}
-use Rattle.cql_model.specs.Translation.{ask_decls, copy_decls, input_copies, input_decls, output_decls}
+use Rattle.cql_model.specs.Translation.{queries_decls, copy_decls, input_copies, input_decls, output_decls}
 use Rattle.cql_model.proofs.Counting.{names_decls}
 use Rattle.cql_model.proofs.Naming.{split, split_tagged, Tag}
 use Rattle.cql_model.proofs.Sums.{as_many}
@@ -169,29 +171,29 @@ module _ (f : Name → Bool) where
   project_kept b scope last Star h = refl
   project_kept b scope last (Chosen cs) h = keep (at_word b (codes "p")) [] (h (codes "p"))
 
-  copies_kept : (b : Name) (k u : ℕ) → Keeps b → filter f (copies b k u) ≡ copies b k u
+  copies_kept : (b : Name) (k u : ℕ) → Keeps b → filter f (copy_names b k u) ≡ copy_names b k u
   copies_kept b k zero h = refl
-  copies_kept b k (suc u) h = keep (copy_name b k) (copies b (k + 1) u) (h (numeral (k + 1))) ∙ ap (λ l. copy_name b k ∷ l) (copies_kept b (k + 1) u h)
+  copies_kept b k (suc u) h = keep (copy_name b k) (copy_names b (k + 1) u) (h (numeral (k + 1))) ∙ ap (λ l. copy_name b k ∷ l) (copies_kept b (k + 1) u h)
 
   out_kept : (q : Query) (p : Name) (width u : ℕ) → Keeps q.name → f q.name ≡ false
-      → kept (op (at_word q.name (codes "i")) (streamer q.kind) (p ∷ []) (out_name q.name u ∷ []) (at_word q.name (codes "i") ∷ []) ∷ out_ops q.name u) ≡ decl_names (out_decls q.name width u)
+      → kept (op (at_word q.name (codes "i")) (streamer (streamer_of q.kind)) (p ∷ []) (out_name q.name u ∷ []) (at_word q.name (codes "i") ∷ []) ∷ out_ops q.name u) ≡ decl_names (out_decls q.name width u)
   out_kept q p width zero h n = leave q.name [] n
   out_kept q p width (suc u) h n =
       let b = q.name in
-      keep (at_word b (codes "o")) (b ∷ copies b 0 (suc u) ++ []) (h (codes "o"))
-      ∙ ap (λ l. at_word b (codes "o") ∷ l) (ap (λ l. filter f (b ∷ l)) (append-nil (copies b 0 (suc u))) ∙ leave b (copies b 0 (suc u)) n ∙ copies_kept b 0 (suc u) h ∙ sym (names_decls (copies b 0 (suc u)) (stream width)))
+      keep (at_word b (codes "o")) (b ∷ copy_names b 0 (suc u) ++ []) (h (codes "o"))
+      ∙ ap (λ l. at_word b (codes "o") ∷ l) (ap (λ l. filter f (b ∷ l)) (append-nil (copy_names b 0 (suc u))) ∙ leave b (copy_names b 0 (suc u)) n ∙ copies_kept b 0 (suc u) h ∙ sym (names_decls (copy_names b 0 (suc u)) (stream width)))
 
   query_kept : (inputs all past : List Name) (known : List Named) (q : Query) → Keeps q.name → f q.name ≡ false
       → kept (query_ops inputs all known past q) ≡ decl_names (query_decls all known q)
   query_kept inputs all past known q h n =
       let b = q.name in let u = count q.name all in let scope = scope_of known q.items in
-      let srcs = sources inputs all past (streams_of q.items) in
+      let srcs = queues_of_uses inputs all past (streams_of q.items) in
       let last = item_last b q.items in
       let s = select_last b last q.condition in
       let p = project_last b s q.columns in
       let so = select_ops b scope last q.condition in
       let po = project_ops b scope s q.columns in
-      let oo = op (at_word b (codes "i")) (streamer q.kind) (p ∷ []) (out_name b u ∷ []) (at_word b (codes "i") ∷ []) ∷ out_ops b u in
+      let oo = op (at_word b (codes "i")) (streamer (streamer_of q.kind)) (p ∷ []) (out_name b u ∷ []) (at_word b (codes "i") ∷ []) ∷ out_ops b u in
       let sd = select_decls b (widths_of scope) q.condition in
       let pd = project_decls b q.columns in
       let od = out_decls b (columns_width scope q.columns) u in
@@ -202,27 +204,27 @@ module _ (f : Name → Bool) where
   abbrev AreKept : Program → Type 0
   AreKept [] = Unit {0}
   AreKept (Register name fields ∷ ps) = Keeps name × AreKept ps
-  AreKept (Ask q ∷ ps) = Keeps q.name × (f q.name ≡ false) × AreKept ps
+  AreKept (AQuery q ∷ ps) = Keeps q.name × (f q.name ≡ false) × AreKept ps
 
-  asks_kept : (inputs all past : List Name) (known : List Named) (ps : Program) → AreKept ps
-      → kept (ask_ops inputs all known past ps) ≡ decl_names (ask_decls all known ps)
-  asks_kept inputs all past known [] h = refl
-  asks_kept inputs all past known (Register name fields ∷ ps) h = asks_kept inputs all past (record { name = name; fields = fields } ∷ known) ps h.1
-  asks_kept inputs all past known (Ask q ∷ ps) h =
-      join (query_ops inputs all known past q) (ask_ops inputs all (query_named known q ∷ known) (past ++ streams_of q.items) ps) (query_decls all known q) (ask_decls all (query_named known q ∷ known) ps)
-      (query_kept inputs all past known q h.0 h.1) (asks_kept inputs all (past ++ streams_of q.items) (query_named known q ∷ known) ps h.2)
+  queries_kept : (inputs all past : List Name) (known : List Named) (ps : Program) → AreKept ps
+      → kept (queries_ops inputs all known past ps) ≡ decl_names (queries_decls all known ps)
+  queries_kept inputs all past known [] h = refl
+  queries_kept inputs all past known (Register name fields ∷ ps) h = queries_kept inputs all past (record { name = name; fields = fields } ∷ known) ps h.1
+  queries_kept inputs all past known (AQuery q ∷ ps) h =
+      join (query_ops inputs all known past q) (queries_ops inputs all (query_named known q ∷ known) (past ++ streams_of q.items) ps) (query_decls all known q) (queries_decls all (query_named known q ∷ known) ps)
+      (query_kept inputs all past known q h.0 h.1) (queries_kept inputs all (past ++ streams_of q.items) (query_named known q ∷ known) ps h.2)
 
   copy_kept : (n : Name) (width u : ℕ) → Keeps n → kept (copy_ops n u) ≡ decl_names (copy_decls n width u)
   copy_kept n width zero h = refl
   copy_kept n width (suc zero) h = refl
   copy_kept n width (suc (suc u)) h =
-      ap (filter f) (append-nil (copies n 0 (suc (suc u)))) ∙ copies_kept n 0 (suc (suc u)) h ∙ sym (names_decls (copies n 0 (suc (suc u))) (stream width))
+      ap (filter f) (append-nil (copy_names n 0 (suc (suc u)))) ∙ copies_kept n 0 (suc (suc u)) h ∙ sym (names_decls (copy_names n 0 (suc (suc u))) (stream width))
 
   inputs_kept : (all : List Name) (ps : Program) → AreKept ps → kept (input_ops all ps) ≡ decl_names (input_copies all ps)
   inputs_kept all [] h = refl
   inputs_kept all (Register name fields ∷ ps) h =
       join (copy_ops name (count name all)) (input_ops all ps) (copy_decls name (length fields) (count name all)) (input_copies all ps) (copy_kept name (length fields) (count name all) h.0) (inputs_kept all ps h.1)
-  inputs_kept all (Ask q ∷ ps) h = inputs_kept all ps h.2
+  inputs_kept all (AQuery q ∷ ps) h = inputs_kept all ps h.2
 
 -- NAMES WITH A WORD ARE NO OUTPUTS
 
@@ -242,22 +244,23 @@ word_apart b w (n ∷ ns) h a = ⊎_elim
 outputs_are : (known : List Named) (ps : Program) → decl_names (output_decls known ps) ≡ asked ps
 outputs_are known [] = refl
 outputs_are known (Register name fields ∷ ps) = outputs_are (record { name = name; fields = fields } ∷ known) ps
-outputs_are known (Ask q ∷ ps) = ap (λ l. q.name ∷ l) (outputs_are (query_named known q ∷ known) ps)
+outputs_are known (AQuery q ∷ ps) = ap (λ l. q.name ∷ l) (outputs_are (query_named known q ∷ known) ps)
 
 plain_asked : (ps : Program) → Plain (declared ps) → Plain (asked ps)
 plain_asked [] a = tt
 plain_asked (Register name fields ∷ ps) a = plain_asked ps a.1
-plain_asked (Ask q ∷ ps) a = (a.0, plain_asked ps a.1)
+plain_asked (AQuery q ∷ ps) a = (a.0, plain_asked ps a.1)
 
 all_kept : (outs : List Name) (ps : Program) → Plain outs → Plain (declared ps) → There (asked ps) outs → AreKept (other outs) ps
 all_kept outs [] a b t = tt
 all_kept outs (Register name fields ∷ ps) a b t = ((λ w. is_other outs (at_word name w) (word_apart name w outs b.0 a)), all_kept outs ps a b.1 t)
-all_kept outs (Ask q ∷ ps) a b t = (
+all_kept outs (AQuery q ∷ ps) a b t = (
   (λ w. is_other outs (at_word q.name w) (word_apart q.name w outs b.0 a)),
   not_other outs q.name (t q.name (let o = one_same q.name in omega (arith, o))),
   all_kept outs ps a b.1 (λ z lt. t z (omega (arith, lt))),
 )
 
+-- the law: queues and variables stand in the order of the operators
 pub plans_in_turn : PlansInTurn
 plans_in_turn p a =
     let all = all_uses p in
@@ -267,11 +270,11 @@ plans_in_turn p a =
     let k = plans_keep p a in
     let are = outputs_are [] p in
     let good : AreKept (other outs) p = all_kept outs p (subst Plain (sym are) (plain_asked p a.names)) a.names (λ z lt. subst (λ l. 0 < count z l) (sym are) lt) in
-    let io = input_ops all p in let ao = ask_ops ins all [] [] p in (
+    let io = input_ops all p in let ao = queries_ops ins all [] [] p in (
       first_named outs (outs ++ inputs) (λ z. count z inputs) (ops_of p) k.in_order
           (λ z lt. let c = count-append z outs inputs in omega (arith, c, lt))
           (λ z lt. let c = count-append z outs inputs in omega (arith, c, lt))
           (λ z n. let c = count-append z outs inputs in let w = k.written_once z in omega (arith, c, n, w))
-          ∙ ap (λ l. (outs ++ inputs) ++ l) (join (other outs) io ao (input_copies all p) (ask_decls all [] p) (inputs_kept (other outs) all p good) (asks_kept (other outs) ins all [] [] p good)),
+          ∙ ap (λ l. (outs ++ inputs) ++ l) (join (other outs) io ao (input_copies all p) (queries_decls all [] p) (inputs_kept (other outs) all p good) (queries_kept (other outs) ins all [] [] p good)),
       all_new [] (all_vars (ops_of p)) (λ v. ⊎_elim (λ lt. let o = k.private_once v lt in let t = total-vars v (ops_of p) in omega (arith, o, t)) (λ z. omega (arith, z)) (more_or_zero (count v (all_vars (ops_of p))))),
     )

@@ -4,8 +4,7 @@ use Rattle.std.specs.Prelude.{int_lt, int_le, filter, ◌&&◌, pos, ◌-ℤ◌}
 use Rattle.std.specs.List.{AllByRecursion}
 use Rattle.std.specs.Ordering.{int_eq}
 use Rattle.std.proofs.lemmas.List.Elements.{filter-append}
-use Rattle.kern_bags.specs.declared.kernel.Window.{Window}
-use Rattle.kern_bags.specs.declared.kernel.Window.TheVariants.{Now, Range, Unbounded, Latest}
+use Rattle.cql_text.specs.Tree.{Window, Now, Range, Unbounded, Latest}
 use Rattle.brooklet_model.specs.Fit.{Rises}
 use Rattle.cql_model.specs.Streams.{in_reach}
 
@@ -61,7 +60,7 @@ lt_eq t u h = grind (arith, h)
 
 pub out_of_reach : (w : Window) (t u : ℤ) → int_lt t u ≡ true → in_reach w t u ≡ false
 out_of_reach Now t u h = lt_eq t u h
-out_of_reach (Range span) t u h = ap (λ b. b && (int_le (t -ℤ span) u && int_le (pos 0) u)) (lt_le t u h)
+out_of_reach (Range n unit) t u h = ap (λ b. b && (int_le (t -ℤ pos n) u && int_le (pos 0) u)) (lt_le t u h)
 out_of_reach Unbounded t u h = lt_le t u h
 out_of_reach (Latest n) t u h = lt_le t u h
 

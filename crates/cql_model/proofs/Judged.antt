@@ -9,10 +9,11 @@ use Rattle.river_plan.proofs.NameLemmas.{true_false}
 use Rattle.cql_model.specs.declared.fault.Fault.{Fault}
 use Rattle.cql_model.specs.declared.fault.Fault.TheVariants.{UnknownStream, UnknownField, AmbiguousField, NameTwice, Limit}
 use Rattle.cql_model.specs.declared.fault.Refusal.{Refusal}
-use Rattle.cql_model.specs.Faults.{query_fault, stream_fault, in_unit, first_fault, or_refused, refusal_of}
+use Rattle.cql_model.specs.Faults.{query_fault, stream_fault, in_unit, first_fault, then_refusal, refusal_of}
 use Rattle.cql_model.specs.Places.{known_by, Spot, spots, Place, unit_places, places}
 use Rattle.cql_model.specs.Plannable.{exceeds, KeepsLimits}
-use Rattle.cql_model.specs.Program.{Register, Ask, Part, Program, registered}
+use Rattle.cql_model.specs.Program.{registered}
+use Rattle.cql_text.specs.Tree.{Register, AQuery, Part, Program}
 use Rattle.cql_model.specs.Refused.{rank, IsFirstFault, IsFaultless, HasFirstFault, IsRefused, RefusalsAre, AcceptedAre, AcceptedPlannable}
 use Rattle.cql_model.specs.Scopes.{Named}
 use Rattle.cql_model.specs.Translation.{query_named, plan_of}
@@ -71,8 +72,8 @@ units before (Register name fields ∷ ps) =
     one_unit before u ps (stream_fault (known_by before) (length (registered before)) name fields) _ (stream before name fields)
     (subst (Judged (flat_map unit_places (behind more ps)))
     (same_state (known-more before u) (registered-more before name fields) (longer before u) ps) (units more ps))
-units before (Ask q ∷ ps) =
-    let u = Ask q in
+units before (AQuery q ∷ ps) =
+    let u = AQuery q in
     let more = before ++ u ∷ [] in
     one_unit before u ps (query_fault (known_by before) q) _ (query before q)
     (subst (Judged (flat_map unit_places (behind more ps)))
@@ -160,14 +161,14 @@ within p true e h = absurd (cc h)
 within p false e h = within_where (plan_of p) e
 
 told : (p : Program) (o : Option Refusal) (b : Bool) → first_fault [] 0 1 p ≡ o → exceeds (plan_of p) ≡ b → (r : Refusal)
-    → or_refused o (or_limit b p) ≡ Some r → IsRefused p r
+    → then_refusal o (or_limit b p) ≡ Some r → IsRefused p r
 unfolding last_limit
 told p None b e x r h =
     let t = over p b x r h in
     inr (record { faultless = none_faulty p e; exceeds = t.0; fault = ap (λ (q : Refusal). q.fault) t.1; unit = ap (λ (q : Refusal). q.unit) t.1 })
 told p (Some s) b e x r h = inl (first_is p r (e ∙ h))
 
-refusal-is : (p : Program) → refusal_of p ≡ or_refused (first_fault [] 0 1 p) (or_limit (exceeds (plan_of p)) p)
+refusal-is : (p : Program) → refusal_of p ≡ then_refusal (first_fault [] 0 1 p) (or_limit (exceeds (plan_of p)) p)
 unfolding or_limit last_limit
 refusal-is p = refl
 
@@ -177,15 +178,16 @@ unfolding or_limit last_limit
 limit_told p true e n r f u = λ i. Some (record { unit = sym u i; fault = sym f i })
 limit_told p false e n r f u = absurd (n (within_where (plan_of p) e))
 
+-- the law: a program is refused exactly for its first fault
 pub refusals_are : RefusalsAre
 refusals_are p r = (
   (λ h. told p (first_fault [] 0 1 p) (exceeds (plan_of p)) refl refl r (sym (refusal-is p) ∙ h)),
-  ⊎_elim (λ h. refusal-is p ∙ ap (λ o. or_refused o (or_limit (exceeds (plan_of p)) p)) (is_first p r h))
-      (λ h. refusal-is p ∙ ap (λ o. or_refused o (or_limit (exceeds (plan_of p)) p)) (faulty_none p h.faultless)
+  ⊎_elim (λ h. refusal-is p ∙ ap (λ o. then_refusal o (or_limit (exceeds (plan_of p)) p)) (is_first p r h))
+      (λ h. refusal-is p ∙ ap (λ o. then_refusal o (or_limit (exceeds (plan_of p)) p)) (faulty_none p h.faultless)
       ∙ limit_told p (exceeds (plan_of p)) refl h.exceeds r h.fault h.unit),
 )
 
-both_none : (a b : Option Refusal) → or_refused a b ≡ None → (a ≡ None) × (b ≡ None)
+both_none : (a b : Option Refusal) → then_refusal a b ≡ None → (a ≡ None) × (b ≡ None)
 both_none None b h = (refl, h)
 both_none (Some r) b h = absurd (cc h)
 
@@ -194,14 +196,16 @@ unfolding or_limit
 none_over p true e h = absurd (cc h)
 none_over p false e h = refl
 
+-- the law: and not refused exactly where it is accepted
 pub accepted_are : AcceptedAre
 accepted_are p = (
   (λ h. let b = both_none (first_fault [] 0 1 p) (or_limit (exceeds (plan_of p)) p) (sym (refusal-is p) ∙ h) in
       record { faultless = none_faulty p b.0; within = within p (exceeds (plan_of p)) refl b.1 }),
-  λ h. refusal-is p ∙ ap (λ o. or_refused o (or_limit (exceeds (plan_of p)) p)) (faulty_none p h.faultless)
+  λ h. refusal-is p ∙ ap (λ o. then_refusal o (or_limit (exceeds (plan_of p)) p)) (faulty_none p h.faultless)
       ∙ none_over p (exceeds (plan_of p)) refl (where_within (plan_of p) h.within),
 )
 
+-- the law: of an accepted program a plan can be made
 pub accepted_plannable : AcceptedPlannable
 accepted_plannable p s a = faultless_plannable p s (faulty_none p a.faultless)
 
@@ -221,7 +225,7 @@ first_low : (ks : List Named) (many unit : ℕ) (ps : Program) (r : Refusal) →
 first_low ks many unit [] r e = absurd (cc e)
 first_low ks many unit (Register name fields ∷ ps) r e =
     in_unit_low unit (length ps) (stream_fault ks many name fields) _ r e (first_low (record { name = name; fields = fields } ∷ ks) (many + 1) (unit + 1) ps r)
-first_low ks many unit (Ask q ∷ ps) r e = in_unit_low unit (length ps) (query_fault ks q) _ r e (first_low (query_named ks q ∷ ks) many (unit + 1) ps r)
+first_low ks many unit (AQuery q ∷ ps) r e = in_unit_low unit (length ps) (query_fault ks q) _ r e (first_low (query_named ks q ∷ ks) many (unit + 1) ps r)
 
 -- it is a unit of the program
 pub unit_low : (p : Program) (r : Refusal) → refusal_of p ≡ Some r → r.unit ≤ length p

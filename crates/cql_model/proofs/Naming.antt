@@ -25,6 +25,7 @@ abbrev pub tagged : Name → Tag → Name
 tagged b None = b
 tagged b (Some w) = at_word b w
 
+-- a name with a tag is split at its first `@`
 pub split_tagged : (b : Name) (t : Tag) → IsTrue (has_no_at b) → split (tagged b t) ≡ (b, t)
 unfolding split
 split_tagged [] None h = refl
@@ -71,6 +72,7 @@ own_count b q (t ∷ ts) h = ⊎_elim
     (λ c. let o = ap one_if c.1 in let m = own_count b q ts h in omega (arith, o, m))
     (cases_name (tagged b t) q)
 
+-- a tagged name has its base before the `@`
 pub own_base : (b q : Name) (ts : List Tag) → IsTrue (has_no_at b) → 0 < count q (map (tagged b) ts) → (split q).0 ≡ b
 own_base b q [] h lt = absurd (omega (arith, lt))
 own_base b q (t ∷ ts) h lt = ⊎_elim
@@ -102,9 +104,11 @@ pub record Of (n : ℕ) (ts : List Tag) : Type 0 where
   pub once : (t : Tag) → tags t ts ≤ 1
   pub only : (t : Tag) → 0 < tags t ts → class t ≡ n
 
+-- no tags are of no class
 pub from_nil : (low : ℕ) → From low []
 from_nil low = record { once = λ t. omega arith; above = λ t lt. absurd (omega (arith, lt)) }
 
+-- tags of one class before tags of higher ones
 pub from_more : (n low : ℕ) (xs ys : List Tag) → n < low → Of n xs → From low ys → From n (xs ++ ys)
 from_more n low xs ys lt a b = record {
   once = λ t. let s = tags-append t xs ys in let k = a.once t in let m = b.once t in ⊎_elim
@@ -123,9 +127,11 @@ tag_is None (Some w) e = absurd (cc e)
 tag_is (Some v) None e = absurd (cc e)
 tag_is (Some v) (Some w) e = ⊎_elim (λ c. ap Some c.0) (λ c. absurd (cc (sym e ∙ c.1))) (cases_name v w)
 
+-- no tags are of any class
 pub of_nil : (n : ℕ) → Of n []
 of_nil n = record { once = λ t. omega arith; only = λ t lt. absurd (omega (arith, lt)) }
 
+-- a tag is of its own class
 pub of_one : (t : Tag) → Of (class t) (t ∷ [])
 of_one t = record {
   once = λ s. let b = bit_small (tag_eq t s) in omega (arith, b);
@@ -145,6 +151,7 @@ abbrev StartsLow : List ℕ → Type 0
 StartsLow [] = ⊥
 StartsLow (c ∷ cs) = c < 58
 
+-- a number begins with a digit
 pub starts_low : (n : ℕ) → StartsLow (numeral n)
 starts_low n = by_steps (λ m ds. StartsLow ds) (λ m small. omega (arith, small)) (λ m ds big h. more m ds h) n where
   more : (m : ℕ) (ds : List ℕ) → StartsLow ds → StartsLow (ds ++ ((48 + m % 10) ∷ []))
@@ -184,10 +191,12 @@ numbers_only letter n c k (suc m) t lt = ⊎_elim
     (λ f. let o = ap one_if f in numbers_only letter n c (k + 1) m t (omega (arith, o, lt)))
     (cases_bool (tag_eq (Some (letter ++ numeral k)) t))
 
+-- so its tag is of the class of numbers
 pub low_class : (ds : List ℕ) → StartsLow ds → class (Some ds) ≡ 2
 low_class [] h = absurd h
 low_class (c ∷ cs) h = grind (arith, h)
 
+-- plain numbers are all of that class
 pub of_numbers : (k m : ℕ) → Of 2 (numbers [] k m)
 of_numbers k m = record {
   once = numbers_once [] k m;
@@ -197,6 +206,7 @@ of_numbers k m = record {
 letter_class : (c : ℕ) (ds : List ℕ) → 58 ≤ c → class (Some (c ∷ ds)) ≡ c
 letter_class c ds big = grind (arith, big)
 
+-- numbers behind a letter are of the letter's class
 pub of_letter : (c k m : ℕ) → 58 ≤ c → Of c (numbers (c ∷ []) k m)
 of_letter c k m big = record {
   once = numbers_once (c ∷ []) k m;

@@ -68,5 +68,6 @@ unfolding value
 valued n = by_steps (λ m ds. fold (λ v d. v * 10 + (d - 48)) 0 ds ≡ m) (λ m l. omega arith)
     (λ m ds l h. fold-append (λ (v d : ℕ). v * 10 + (d - 48)) 0 ds ((48 + m % 10) ∷ []) ∙ ap (λ v. v * 10 + (48 + m % 10 - 48)) h ∙ omega arith) n
 
+-- two numbers that are written alike are the same
 pub numeral_injective : (m n : ℕ) → numeral m ≡ numeral n → m ≡ n
 numeral_injective m n e = sym (valued m) ∙ ap value e ∙ valued n

@@ -173,6 +173,7 @@ within_where p h l =
     all_low (most_of l) (numbers l p)
     (any_none (nat_lt (most_of l)) (numbers l p) (at_limit (λ k. is_over p k ≡ false) (any_none (is_over p) limits h) l))
 
+-- a plan within the limits exceeds none
 pub where_within : (p : PlanForm) → Within p → exceeds p ≡ false
 where_within p h =
     none_any (is_over p) limits (each_limit (λ k. is_over p k ≡ false) (λ l. none_any (nat_lt (most_of l)) (numbers l p) (low_all (most_of l) (numbers l p) (h l))) limits)
@@ -208,8 +209,10 @@ told_where p (Some f) k h = step (exceeds p) refl where
   step true e = refl
   step false e = some_none f (fault-one p (Some f) None h (valid-no_fault p (valid_within p k (within_where p e))))
 
+-- the law: no fault but a limit is told of a plan
 pub only_limits : OnlyLimits
 only_limits p o a h = let k = plans_keep p a in (only_limit (plan_of p) k o h, told_where (plan_of p) o k h)
 
+-- the law: a plan within the limits is valid
 pub plans_are_valid : PlansAreValid
 plans_are_valid p a within = valid_within (plan_of p) (plans_keep p a) within

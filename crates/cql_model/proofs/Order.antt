@@ -7,12 +7,14 @@ use Rattle.river_plan.specs.Forms.{Name, OpForm}
 use Rattle.river_plan.specs.Names.{one_if, count}
 use Rattle.river_plan.specs.Uses.{total, writes_it, reads_it, Known, and_writes, ReadsBefore}
 use Rattle.river_plan.proofs.NameLemmas.{cases_name, count-append, one_same, more_or_zero}
+use Rattle.cql_model.specs.KernelWords.{kernel_window}
 use Rattle.cql_model.specs.Plannable.{AreQueries}
 use Rattle.cql_model.specs.Laws.{known_names, AreKnown}
-use Rattle.cql_model.specs.Program.{Scalar, Source, Columns, Star, Chosen, Query, Register, Ask, Program, streams_of, all_uses}
+use Rattle.cql_model.specs.Program.{streams_of, all_uses}
+use Rattle.cql_text.specs.Tree.{Scalar, Source, Columns, Star, Chosen, Query, Register, AQuery, Program}
 use Rattle.cql_model.specs.Scopes.{Named, scope_of}
-use Rattle.cql_model.specs.Translation.{op, at_word, copies, copy_name, source_at, sources, w_name, x_name, window_ops, cross_ops, cross_last, select_ops}
-use Rattle.cql_model.specs.Translation.{select_last, project_ops, project_last, out_ops, out_name, tail_ops, item_ops, item_last, query_named, ask_ops}
+use Rattle.cql_model.specs.Translation.{op, at_word, copy_names, copy_name, queue_of_use, queues_of_uses, w_name, x_name, window_ops, cross_ops, cross_last, select_ops}
+use Rattle.cql_model.specs.Translation.{select_last, project_ops, project_last, out_ops, out_name, tail_ops, item_ops, item_last, query_named, queries_ops}
 use Rattle.cql_model.specs.Translation.{copy_ops, input_ops}
 use Rattle.river_plan.proofs.ValidLaw.{total-append}
 use Rattle.cql_model.proofs.Counting.{stream_op, project_from, block_ops}
@@ -30,6 +32,7 @@ reads_more (op ∷ ops) known known' h r = (
 abbrev pub behind : (Name → ℕ) → List OpForm → Name → ℕ
 behind known ops z = known z + total (writes_it z) ops
 
+-- operators in order, and behind them others in order
 pub reads_append : (xs ys : List OpForm) (known : Name → ℕ) → ReadsBefore known xs → ReadsBefore (behind known xs) ys → ReadsBefore known (xs ++ ys)
 reads_append [] ys known a b = reads_more ys (behind known []) known (λ z lt. omega (arith, lt)) b
 reads_append (x ∷ xs) ys known a b = (
@@ -60,7 +63,7 @@ windows_read : (known : Name → ℕ) (b : Name) (k : ℕ) (items : List Source)
 windows_read known b k [] srcs a = tt
 windows_read known b k (i ∷ is) [] a = tt
 windows_read known b k (i ∷ is) (s ∷ srcs) a =
-    let o = op (w_name b k) (window i.window) (s ∷ []) (w_name b k ∷ []) (w_name b k ∷ []) in
+    let o = op (w_name b k) (window (kernel_window i.window)) (s ∷ []) (w_name b k ∷ []) (w_name b k ∷ []) in
     (one_known known s a.0, windows_read (and_writes known o) b (k + 1) is srcs (all_more known (and_writes known o) srcs (λ z lt. omega (arith, lt)) a.1))
 
 -- the windows are known
@@ -79,7 +82,7 @@ windows_known known b k [] srcs e = tt
 windows_known known b k (i ∷ is) [] e = absurd (omega (arith, e))
 windows_known known b k (i ∷ is) (s ∷ srcs) e =
     let rest = window_ops b (k + 1) is srcs in
-    let o = op (w_name b k) (window i.window) (s ∷ []) (w_name b k ∷ []) (w_name b k ∷ []) in (
+    let o = op (w_name b k) (window (kernel_window i.window)) (s ∷ []) (w_name b k ∷ []) (w_name b k ∷ []) in (
       (let f = one_same (w_name b k) in omega (arith, f)),
       windows_more (behind known rest) (behind known (o ∷ rest)) b (k + 1) is (λ z lt. omega (arith, lt)) (windows_known known b (k + 1) is srcs (omega (arith, e))),
     )
@@ -151,17 +154,17 @@ block_in_order known q scope u srcs some e a =
 
 -- COPIES
 
-copies_there : (b : Name) (k u j : ℕ) → j < u → 0 < count (copy_name b (k + j)) (copies b k u)
+copies_there : (b : Name) (k u j : ℕ) → j < u → 0 < count (copy_name b (k + j)) (copy_names b k u)
 copies_there b k zero j lt = absurd (omega (arith, lt))
 copies_there b k (suc u) zero lt =
     let z : k + 0 ≡ k = omega arith in
-    subst (λ m. 0 < count (copy_name b m) (copies b k (suc u))) (sym z) (let f = one_same (copy_name b k) in omega (arith, f))
+    subst (λ m. 0 < count (copy_name b m) (copy_names b k (suc u))) (sym z) (let f = one_same (copy_name b k) in omega (arith, f))
 copies_there b k (suc u) (suc j) lt =
     let z : k + suc j ≡ (k + 1) + j = omega arith in
-    subst (λ m. 0 < count (copy_name b m) (copies b k (suc u))) (sym z) (let m = copies_there b (k + 1) u j (omega (arith, lt)) in omega (arith, m))
+    subst (λ m. 0 < count (copy_name b m) (copy_names b k (suc u))) (sym z) (let m = copies_there b (k + 1) u j (omega (arith, lt)) in omega (arith, m))
 
-pub copy_there : (b : Name) (u j : ℕ) → j < u → 0 < count (copy_name b j) (copies b 0 u)
-copy_there b u j lt = let z : 0 + j ≡ j = omega arith in subst (λ m. 0 < count (copy_name b m) (copies b 0 u)) z (copies_there b 0 u j lt)
+pub copy_there : (b : Name) (u j : ℕ) → j < u → 0 < count (copy_name b j) (copy_names b 0 u)
+copy_there b u j lt = let z : 0 + j ≡ j = omega arith in subst (λ m. 0 < count (copy_name b m) (copy_names b 0 u)) z (copies_there b 0 u j lt)
 
 out_writes_copy : (b : Name) (u j : ℕ) → j < u → 0 < total (writes_it (copy_name b j)) (out_ops b u)
 out_writes_copy b zero j lt = absurd (omega (arith, lt))
@@ -197,7 +200,7 @@ input_writes_copy n (suc (suc u)) j h lt = let m = copy_there n (suc (suc u)) j 
 module _ (inputs all : List Name) where
   -- each use of these streams reads what is known
   abbrev pub Serves : (Name → ℕ) → Name → Type 0
-  Serves known n = (j : ℕ) → j < count n all → 0 < known (source_at inputs all n j)
+  Serves known n = (j : ℕ) → j < count n all → 0 < known (queue_of_use inputs all n j)
 
   abbrev pub ServesAll : (Name → ℕ) → List Named → Type 0
   ServesAll known [] = Unit {0}
@@ -205,7 +208,7 @@ module _ (inputs all : List Name) where
 
   serves_more : (known known' : Name → ℕ) (ks : List Named) → ((z : Name) → 0 < known z → 0 < known' z) → ServesAll known ks → ServesAll known' ks
   serves_more known known' [] h s = tt
-  serves_more known known' (k ∷ ks) h s = ((λ j lt. h (source_at inputs all k.name j) (s.0 j lt)), serves_more known known' ks h s.1)
+  serves_more known known' (k ∷ ks) h s = ((λ j lt. h (queue_of_use inputs all k.name j) (s.0 j lt)), serves_more known known' ks h s.1)
 
   serves_one : (known : Name → ℕ) (ks : List Named) (n : Name) → ServesAll known ks → 0 < count n (known_names ks) → Serves known n
   serves_one known [] n s lt = absurd (omega (arith, lt))
@@ -217,12 +220,13 @@ module _ (inputs all : List Name) where
   abbrev pub Fit : List Name → List Name → Type 0
   Fit past ns = (n : Name) → count n past + count n ns ≤ count n all
 
+  -- what fits behind a list fits behind its first part
   pub fit_next : (past ns ms : List Name) → Fit past (ns ++ ms) → Fit (past ++ ns) ms
   fit_next past ns ms r n = let a = count-append n past ns in let b = count-append n ns ms in let c = r n in omega (arith, a, b, c)
 
   sources_known : (known : Name → ℕ) (ks : List Named) (past : List Name) (items : List Source) (rest : List Name) → ServesAll known ks
       → AreKnown ks (streams_of items) → Fit past (streams_of items ++ rest)
-      → AllKnown known (sources inputs all past (streams_of items))
+      → AllKnown known (queues_of_uses inputs all past (streams_of items))
   sources_known known ks past [] rest s a r = tt
   sources_known known ks past (i ∷ is) rest s a r = (
     serves_one known ks i.stream s a.0 (count i.stream past) (let c = r i.stream in let o = one_same i.stream in omega (arith, c, o)),
@@ -233,37 +237,39 @@ module _ (inputs all : List Name) where
   abbrev pub InputsServe : (Name → ℕ) → Program → Type 0
   InputsServe known [] = Unit {0}
   InputsServe known (Register name fields ∷ ps) = Serves known name × InputsServe known ps
-  InputsServe known (Ask q ∷ ps) = InputsServe known ps
+  InputsServe known (AQuery q ∷ ps) = InputsServe known ps
 
   inputs_more : (known known' : Name → ℕ) (ps : Program) → ((z : Name) → 0 < known z → 0 < known' z) → InputsServe known ps → InputsServe known' ps
   inputs_more known known' [] h s = tt
-  inputs_more known known' (Register name fields ∷ ps) h s = ((λ j lt. h (source_at inputs all name j) (s.0 j lt)), inputs_more known known' ps h s.1)
-  inputs_more known known' (Ask q ∷ ps) h s = inputs_more known known' ps h s
+  inputs_more known known' (Register name fields ∷ ps) h s = ((λ j lt. h (queue_of_use inputs all name j) (s.0 j lt)), inputs_more known known' ps h s.1)
+  inputs_more known known' (AQuery q ∷ ps) h s = inputs_more known known' ps h s
 
   abbrev pub Others : Program → Type 0
   Others [] = Unit {0}
   Others (Register name fields ∷ ps) = Others ps
-  Others (Ask q ∷ ps) = (count q.name inputs ≡ 0) × Others ps
+  Others (AQuery q ∷ ps) = (count q.name inputs ≡ 0) × Others ps
 
-  pub query_source : (n : Name) (j : ℕ) → count n inputs ≡ 0 → source_at inputs all n j ≡ copy_name n j
+  -- a query's stream is read from its copies
+  pub query_source : (n : Name) (j : ℕ) → count n inputs ≡ 0 → queue_of_use inputs all n j ≡ copy_name n j
   query_source n j z = grind (arith, z)
 
-  pub asks_in_order : (known : Name → ℕ) (ks : List Named) (past : List Name) (ps : Program) → ServesAll known ks → InputsServe known ps → AreQueries ks ps
+  -- the operators of all queries read what was written before
+  pub queries_in_order : (known : Name → ℕ) (ks : List Named) (past : List Name) (ps : Program) → ServesAll known ks → InputsServe known ps → AreQueries ks ps
       → Others ps → Fit past (all_uses ps)
-      → ReadsBefore known (ask_ops inputs all ks past ps)
-  asks_in_order known ks past [] s i a o r = tt
-  asks_in_order known ks past (Register name fields ∷ ps) s i a o r =
-      asks_in_order known (record { name = name; fields = fields } ∷ ks) past ps (i.0, s) i.1 a.1 o r
-  asks_in_order known ks past (Ask q ∷ ps) s i a o r =
-      let srcs = sources inputs all past (streams_of q.items) in
+      → ReadsBefore known (queries_ops inputs all ks past ps)
+  queries_in_order known ks past [] s i a o r = tt
+  queries_in_order known ks past (Register name fields ∷ ps) s i a o r =
+      queries_in_order known (record { name = name; fields = fields } ∷ ks) past ps (i.0, s) i.1 a.1 o r
+  queries_in_order known ks past (AQuery q ∷ ps) s i a o r =
+      let srcs = queues_of_uses inputs all past (streams_of q.items) in
       let u = count q.name all in
       let scope = scope_of ks q.items in
       let block = block_ops q scope u srcs in
       let later = behind known block in
       let more : (z : Name) → 0 < known z → 0 < later z = λ z lt. omega (arith, lt) in
-      reads_append block (ask_ops inputs all (query_named ks q ∷ ks) (past ++ streams_of q.items) ps) known
+      reads_append block (queries_ops inputs all (query_named ks q ∷ ks) (past ++ streams_of q.items) ps) known
       (block_in_order known q scope u srcs a.0.some (as_many inputs all past q.items) (sources_known known ks past q.items (all_uses ps) s a.0.streams r))
-      (asks_in_order later (query_named ks q ∷ ks) (past ++ streams_of q.items) ps
+      (queries_in_order later (query_named ks q ∷ ks) (past ++ streams_of q.items) ps
       ((λ j lt. subst (λ x. 0 < later x) (sym (query_source q.name j o.0)) (let w = block_writes_copy q scope u srcs j lt in omega (arith, w))), serves_more known later ks more s)
       (inputs_more known later ps more i) a.1 o.1 (fit_next past (streams_of q.items) (all_uses ps) r))
 
@@ -276,43 +282,45 @@ module _ (inputs all : List Name) where
   abbrev pub InputsKnown : (Name → ℕ) → Program → Type 0
   InputsKnown known [] = Unit {0}
   InputsKnown known (Register name fields ∷ ps) = (0 < known name) × InputsKnown known ps
-  InputsKnown known (Ask q ∷ ps) = InputsKnown known ps
+  InputsKnown known (AQuery q ∷ ps) = InputsKnown known ps
 
   known_more : (known known' : Name → ℕ) (ps : Program) → ((z : Name) → 0 < known z → 0 < known' z) → InputsKnown known ps → InputsKnown known' ps
   known_more known known' [] h s = tt
   known_more known known' (Register name fields ∷ ps) h s = (h name s.0, known_more known known' ps h s.1)
-  known_more known known' (Ask q ∷ ps) h s = known_more known known' ps h s
+  known_more known known' (AQuery q ∷ ps) h s = known_more known known' ps h s
 
+  -- so do those that copy the inputs
   pub inputs_in_order : (known : Name → ℕ) (ps : Program) → InputsKnown known ps → ReadsBefore known (input_ops all ps)
   inputs_in_order known [] k = tt
   inputs_in_order known (Register name fields ∷ ps) k =
       let c = copy_ops name (count name all) in
       reads_append c (input_ops all ps) known (copy_in_order known name (count name all) k.0) (inputs_in_order (behind known c) ps (known_more known (behind known c) ps (λ z lt. omega (arith, lt)) k.1))
-  inputs_in_order known (Ask q ∷ ps) k = inputs_in_order known ps k
+  inputs_in_order known (AQuery q ∷ ps) k = inputs_in_order known ps k
 
   one_serves : (known : Name → ℕ) (n : Name) → 0 < count n inputs → 0 < known n → Serves (behind known (copy_ops n (count n all))) n
   one_serves known n i k j lt = ⊎_elim
       (λ o. subst (λ x. 0 < behind known (copy_ops n (count n all)) x) (sym o.is) (omega (arith, k)))
       (λ c. ⊎_elim
       (λ more. subst (λ x. 0 < behind known (copy_ops n (count n all)) x) (sym c.is) (let w = input_writes_copy n (count n all) j more lt in omega (arith, w)))
-      (λ le. let e : source_at inputs all n j ≡ n = grind (arith, i, le) in subst (λ x. 0 < behind known (copy_ops n (count n all)) x) (sym e) (omega (arith, k)))
+      (λ le. let e : queue_of_use inputs all n j ≡ n = grind (arith, i, le) in subst (λ x. 0 < behind known (copy_ops n (count n all)) x) (sym e) (omega (arith, k)))
       (cases_lt 1 (count n all)))
       (which inputs all n j)
 
   abbrev pub InputsThere : Program → Type 0
   InputsThere [] = Unit {0}
   InputsThere (Register name fields ∷ ps) = (0 < count name inputs) × InputsThere ps
-  InputsThere (Ask q ∷ ps) = InputsThere ps
+  InputsThere (AQuery q ∷ ps) = InputsThere ps
 
+  -- behind them the inputs can be read
   pub inputs_serve : (known : Name → ℕ) (ps : Program) → InputsThere ps → InputsKnown known ps → InputsServe (behind known (input_ops all ps)) ps
   inputs_serve known [] t k = tt
   inputs_serve known (Register name fields ∷ ps) t k =
       let c = copy_ops name (count name all) in
       let all_ops = behind known (c ++ input_ops all ps) in (
-        (λ j lt. let m = one_serves known name t.0 k.0 j lt in let a = total-append (writes_it (source_at inputs all name j)) c (input_ops all ps) in omega (arith, m, a)),
+        (λ j lt. let m = one_serves known name t.0 k.0 j lt in let a = total-append (writes_it (queue_of_use inputs all name j)) c (input_ops all ps) in omega (arith, m, a)),
         inputs_more (behind known (input_ops all ps)) all_ops ps (λ z lt. let a = total-append (writes_it z) c (input_ops all ps) in omega (arith, lt, a)) (inputs_serve known ps t.1 k.1),
       )
-  inputs_serve known (Ask q ∷ ps) t k = inputs_serve known ps t k
+  inputs_serve known (AQuery q ∷ ps) t k = inputs_serve known ps t k
 
 -- what is read is an input, or written
 pub reads_there : (ops : List OpForm) (known : Name → ℕ) → ReadsBefore known ops → (z : Name) → 0 < total (reads_it z) ops

@@ -2,8 +2,7 @@
 use Rattle.std.proofs.Common.{◌≡◌, ℕ, zero, suc, ◌+◌, ◌<◌, ◌≤◌, Bool, true, false, Option, List, [], ◌∷◌}
 use Rattle.std.proofs.Common.{refl, sym, arith, inl, inr, ⊎_elim}
 use Rattle.std.specs.Prelude.{◌⊎◌, nat_lt, nat_eq, ◌||◌}
-use Rattle.kern_bags.specs.declared.kernel.Window.{Window}
-use Rattle.kern_bags.specs.declared.kernel.Window.TheVariants.{Now, Range, Unbounded, Latest}
+use Rattle.cql_text.specs.Tree.{Window, Now, Range, Unbounded, Latest}
 use Rattle.river_plan.specs.Forms.{Name}
 use Rattle.river_plan.specs.Names.{count}
 use Rattle.cql_model.specs.declared.fault.Fault.{Fault}
@@ -11,7 +10,7 @@ use Rattle.cql_model.specs.declared.fault.Fault.TheVariants.{UnknownStream, Unkn
 use Rattle.cql_model.specs.Faults.{then_fault, fault_if, field_fault, is_rows_fault}
 use Rattle.cql_model.specs.Places.{known_by, Mention, Spot, QueryName, ItemStream}
 use Rattle.cql_model.specs.Places.{FieldUse}
-use Rattle.cql_model.specs.Program.{Source, Program}
+use Rattle.cql_text.specs.Tree.{Source, Program}
 use Rattle.cql_model.specs.Refused.{meant, field_of, HasBadRows, HasFault, rank}
 use Rattle.cql_model.specs.Scopes.{scope_of}
 use Rattle.cql_model.proofs.First.{Finds, finds_silent, finds_one}
@@ -35,9 +34,11 @@ eq_yes n h = grind (arith, h)
 eq_no : (n : ℕ) → nat_eq n 0 ≡ false → 0 < n
 eq_no n h = grind (arith, h)
 
+-- a name that stands among others is found there
 pub some_among : (n m : ℕ) → n ≡ m → Tests (nat_lt 0 n) (0 < m)
 some_among n m e = record { yes = λ h. let y = lt_yes 0 n h in omega (arith, y, e); no = λ h p. let y = lt_no 0 n h in omega (arith, y, e, p) }
 
+-- one that does not is not
 pub none_among : (n m : ℕ) → n ≡ m → Tests (nat_eq n 0) (0 < m → ⊥)
 none_among n m e = record {
   yes = λ h p. let y = eq_yes n h in omega (arith, y, e, p);
@@ -48,6 +49,7 @@ none_among n m e = record {
 pub one_more : (k n m : ℕ) → n ≡ m → Tests (nat_lt k n) (k + 1 < m + 1)
 one_more k n m e = record { yes = λ h. let y = lt_yes k n h in omega (arith, y, e); no = λ h p. let y = lt_no k n h in omega (arith, y, e, p) }
 
+-- a number above a bound is found to be so
 pub above : (k n m : ℕ) → n ≡ m → Tests (nat_lt k n) (k < m)
 above k n m e = record { yes = λ h. let y = lt_yes k n h in omega (arith, y, e); no = λ h p. let y = lt_no k n h in omega (arith, y, e, p) }
 
@@ -59,9 +61,10 @@ either_no : (a b : Bool) → a || b ≡ false → (a ≡ false) × (b ≡ false)
 either_no true b h = absurd (cc h)
 either_no false b h = (refl, h)
 
+-- a window of too few or too many rows is found to be one
 pub bad_rows : (w : Window) → Tests (is_rows_fault w) (HasBadRows w)
 bad_rows Now = record { yes = λ h. absurd (cc h); no = λ h p. p }
-bad_rows (Range t) = record { yes = λ h. absurd (cc h); no = λ h p. p }
+bad_rows (Range n unit) = record { yes = λ h. absurd (cc h); no = λ h p. p }
 bad_rows Unbounded = record { yes = λ h. absurd (cc h); no = λ h p. p }
 bad_rows (Latest n) = record {
   yes = λ h. ⊎_elim (λ e. inl (eq_yes n e)) (λ e. inr (lt_yes 1000000 n e)) (either_yes (nat_eq n 0) (nat_lt 1000000 n) h);

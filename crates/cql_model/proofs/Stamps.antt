@@ -66,6 +66,7 @@ stamps_of (f ∷ fs) t file row h r =
     first_or_more f fs file (λ s. Contains-append_left (times f) (stamps fs) t (at_row f t row (subst (λ (l : List Entry). Contains l (t, row)) (sym s) r)))
     (λ m. Contains-append_right (times f) (stamps fs) t (stamps_of fs t file row m r)) h
 
+-- the law: instants rise, and are the timestamps of the files
 pub instants_are : InstantsAre
 instants_are files = record {
   rise = rises_where (instants files) (once_rises (stamps files));
@@ -74,6 +75,7 @@ instants_are files = record {
 
 -- EACH STREAM HAS THEM
 
+-- a stream over instants has these instants
 pub spread_instants : (ts : List ℤ) (s : Timed) → fit.instants (spread ts s) ≡ ts
 spread_instants [] s = refl
 spread_instants (t ∷ ts) s = ap (λ l. t ∷ l) (spread_instants ts s)
@@ -83,5 +85,6 @@ all_spread : (files : List (List Entry)) (ts : List ℤ) (ss : List Timed) → A
 all_spread files ts [] h = tt
 all_spread files ts (s ∷ ss) h = (subst (AreInstantsOf files) (sym (spread_instants ts s)) h, all_spread files ts ss h)
 
+-- the law: what a program means has a batch at each instant
 pub means_at_instants : MeansAtInstants
 means_at_instants p files = all_spread files (instants files) (answers (instants files) [] p files) (instants_are files)

@@ -10,15 +10,16 @@ use Rattle.river_plan.specs.Names.{count}
 use Rattle.river_plan.proofs.NameLemmas.{count-append}
 use Rattle.cql_model.specs.declared.fault.Fault.{Fault}
 use Rattle.cql_model.specs.declared.fault.Fault.TheVariants.{UnknownStream, NameTwice, Limit}
-use Rattle.cql_model.specs.Faults.{then_fault, fault_if, places, item_places, scalar_fault, is_rows_fault, item_fault, items_fault, chosen_fault, columns_fault}
+use Rattle.cql_model.specs.Faults.{then_fault, fault_if, field_places, item_places, scalar_fault, is_rows_fault, item_fault, items_fault, chosen_fault, columns_fault}
 use Rattle.cql_model.specs.Faults.{condition_fault, query_fault, fields_fault, stream_fault}
 use Rattle.cql_model.specs.Laws.{known_names}
 use Rattle.cql_model.specs.Places.{with_earlier, declares, known_by, Alone, OfItem, mentions}
 use Rattle.cql_model.specs.Places.{Spot, StreamName, FieldName, QueryName, ItemStream, ItemWindow, ItemName}
 use Rattle.cql_model.specs.Places.{ColumnStart, FieldUse, item_spots, value_spots, column_spots, columns_spots, condition_spots, spots}
 use Rattle.cql_model.specs.Plannable.{declared}
-use Rattle.cql_model.specs.Program.{Scalar, Number, Field, ItemField, Neg, Not, Bin, Source, Column, Columns, Star, Chosen}
-use Rattle.cql_model.specs.Program.{Query, Register, Ask, Part, Program, registered}
+use Rattle.cql_text.specs.Tree.{Scalar, Number, Field, ItemField, Neg, Not, Bin, Source, Column, Columns, Star, Chosen}
+use Rattle.cql_model.specs.Program.{registered}
+use Rattle.cql_text.specs.Tree.{Query, Register, AQuery, Part, Program}
 use Rattle.cql_model.specs.Refused.{called, meant}
 use Rattle.cql_model.specs.Scopes.{Named, item_named, scope_of}
 use Rattle.cql_model.specs.Translation.{widths_of}
@@ -46,27 +47,30 @@ pub known-names : (n : Name) (ks : List Named) (ps : Program)
     → count n (known_names (fold (λ (known : List Named) (unit : Part). declares known unit ∷ known) ks ps)) ≡ count n (known_names ks) + count n (declared ps)
 known-names n ks [] = omega arith
 known-names n ks (Register name fields ∷ ps) = let m = known-names n (record { name = name; fields = fields } ∷ ks) ps in omega (arith, m)
-known-names n ks (Ask q ∷ ps) = let m = known-names n (declares ks (Ask q) ∷ ks) ps in omega (arith, m)
+known-names n ks (AQuery q ∷ ps) = let m = known-names n (declares ks (AQuery q) ∷ ks) ps in omega (arith, m)
 
 known_are : (n : Name) (before : Program) → count n (known_names (known_by before)) ≡ count n (declared before)
 known_are n before = let m = known-names n [] before in omega (arith, m)
 
+-- one unit more is known
 pub known-more : (before : Program) (u : Part) → known_by (before ++ u ∷ []) ≡ declares (known_by before) u ∷ known_by before
 known-more before u = fold-append (λ (known : List Named) (unit : Part). declares known unit ∷ known) [] before (u ∷ [])
 
+-- a registered stream more
 pub registered-more : (before : Program) (n : Name) (fs : List Name) → length (registered (before ++ Register n fs ∷ [])) ≡ length (registered before) + 1
 registered-more [] n fs = omega arith
 registered-more (Register m gs ∷ ps) n fs = let r = registered-more ps n fs in omega (arith, r)
-registered-more (Ask q ∷ ps) n fs = registered-more ps n fs
+registered-more (AQuery q ∷ ps) n fs = registered-more ps n fs
 
-pub registered-same : (before : Program) (q : Query) → length (registered (before ++ Ask q ∷ [])) ≡ length (registered before)
+-- a query registers none
+pub registered-same : (before : Program) (q : Query) → length (registered (before ++ AQuery q ∷ [])) ≡ length (registered before)
 registered-same [] q = refl
 registered-same (Register m gs ∷ ps) q = let r = registered-same ps q in omega (arith, r)
-registered-same (Ask o ∷ ps) q = registered-same ps q
+registered-same (AQuery o ∷ ps) q = registered-same ps q
 
 -- FIELDS IN VALUES
 
-places_are : (f : Name) (scope : List Named) → places f scope ≡ count f (meant scope (Alone f))
+places_are : (f : Name) (scope : List Named) → field_places f scope ≡ count f (meant scope (Alone f))
 places_are f [] = refl
 places_are f (i ∷ is) = let m = places_are f is in let c = count-append f i.fields (meant is (Alone f)) in omega (arith, m, c)
 
@@ -81,7 +85,7 @@ item_places_are a f (i ∷ is) = step (name_eq i.name a) (item_places_are a f is
 
 value : (before : Program) (items : List Source) (e : Scalar) → Found before (value_spots items e) (scalar_fault (scope_of (known_by before) items) e)
 value before items (Number n) = refl
-value before items (Field f) = field_use before items (Alone f) (places f (scope_of (known_by before) items)) (places_are f (scope_of (known_by before) items))
+value before items (Field f) = field_use before items (Alone f) (field_places f (scope_of (known_by before) items)) (places_are f (scope_of (known_by before) items))
 value before items (ItemField a f) =
     field_use before items (OfItem a f) (item_places a f (scope_of (known_by before) items)) (item_places_are a f (scope_of (known_by before) items))
 value before items (Neg e) = value before items e
@@ -178,7 +182,8 @@ condition before its (Some e) = value before its e
 
 -- UNITS
 
-pub query : (before : Program) (q : Query) → Found before (spots (Ask q)) (query_fault (known_by before) q)
+-- the places of a query have the fault that judging tells
+pub query : (before : Program) (q : Query) → Found before (spots (AQuery q)) (query_fault (known_by before) q)
 query before q =
     let ks = known_by before in
     let scope = scope_of ks q.items in
@@ -211,6 +216,7 @@ fields before past (f ∷ fs) =
     (some_among (count f past) (count f past) refl) (one_more 15 (length past) (length past) refl))
     (fields before (past ++ f ∷ []) fs))
 
+-- and so have those of a stream
 pub stream : (before : Program) (name : Name) (fs : List Name)
     → Found before (spots (Register name fs)) (stream_fault (known_by before) (length (registered before)) name fs)
 stream before name fs =

@@ -9,8 +9,8 @@ use Rattle.river_plan.specs.Names.{one_if, count}
 use Rattle.river_plan.proofs.NameLemmas.{cases_name, count-append, one_same, more_or_zero}
 use Rattle.cql_model.specs.Numeral.{numeral}
 use Rattle.cql_model.specs.Plannable.{has_no_at}
-use Rattle.cql_model.specs.Program.{Query, Register, Ask, Program}
-use Rattle.cql_model.specs.Translation.{source_at, sources}
+use Rattle.cql_text.specs.Tree.{Query, Register, AQuery, Program}
+use Rattle.cql_model.specs.Translation.{queue_of_use, queues_of_uses}
 use Rattle.cql_model.proofs.Naming.{split, Tag, tagged, tags, class, split_tagged, own_count, own_base, starts_low, low_class}
 use Rattle.cql_model.proofs.Counting.{among, among-append, inner_tags, inner_from}
 use Rattle.cql_model.proofs.Numerals.{numeral_injective}
@@ -20,11 +20,12 @@ use Rattle.cql_model.proofs.Sums.{taken_of, copy_read, sums, FewItems}
 pub record Own (inputs all : List Name) (n : Name) (k : ℕ) : Type 0 where
   pub input : 0 < count n inputs
   pub few : count n all ≤ 1
-  pub is : source_at inputs all n k ≡ tagged n None
+  pub is : queue_of_use inputs all n k ≡ tagged n None
 
 pub record Copied (inputs all : List Name) (n : Name) (k : ℕ) : Type 0 where
-  pub is : source_at inputs all n k ≡ tagged n (Some (numeral (k + 1)))
+  pub is : queue_of_use inputs all n k ≡ tagged n (Some (numeral (k + 1)))
 
+-- a use reads the stream itself or one of its copies
 pub which : (inputs all : List Name) (n : Name) (k : ℕ) → Own inputs all n k ⊎ Copied inputs all n k
 which inputs all n k = ⊎_elim
     (λ lt. ⊎_elim
@@ -43,7 +44,7 @@ module _ (inputs all : List Name) where
 
   -- two uses that read one queue are one, or the stream is used once
   pub one_use : (n m : Name) (k j : ℕ) → IsTrue (has_no_at n) → IsTrue (has_no_at m)
-      → source_at inputs all n k ≡ source_at inputs all m j
+      → queue_of_use inputs all n k ≡ queue_of_use inputs all m j
       → (n ≡ m) × ((k ≡ j) ⊎ (count n all ≤ 1))
   one_use n m k j hn hm e = ⊎_elim
       (λ a. ⊎_elim
@@ -71,7 +72,7 @@ module _ (inputs all : List Name) where
 
   -- what an earlier use reads is not read again
   pub not_again : (n : Name) (k : ℕ) (past ns : List Name) → IsTrue (has_no_at n) → Plain ns → Room past ns → k < count n past
-      → count (source_at inputs all n k) (sources inputs all past ns) ≡ 0
+      → count (queue_of_use inputs all n k) (queues_of_uses inputs all past ns) ≡ 0
   not_again n k past [] hn hs r lt = refl
   not_again n k past (m ∷ ms) hn hs r lt =
       let rn = r n in let rm = r m in
@@ -82,16 +83,17 @@ module _ (inputs all : List Name) where
       let lt' : k < count m past = subst (λ x. k < count x past) (sym u.0) lt in
       absurd (⊎_elim (λ e. omega (arith, e, lt')) (λ le. omega (arith, le, lt', rm, o)) u.1))
       (λ c. let z = ap one_if c.1 in omega (arith, z, rest))
-      (cases_name (source_at inputs all m (count m past)) (source_at inputs all n k))
+      (cases_name (queue_of_use inputs all m (count m past)) (queue_of_use inputs all n k))
 
-  pub read_once : (z : Name) (past ns : List Name) → Plain ns → Room past ns → count z (sources inputs all past ns) ≤ 1
+  -- no queue is read by two uses
+  pub read_once : (z : Name) (past ns : List Name) → Plain ns → Room past ns → count z (queues_of_uses inputs all past ns) ≤ 1
   read_once z past [] hs r = omega arith
   read_once z past (m ∷ ms) hs r = ⊎_elim
       (λ c. let rest = not_again m (count m past) (past ++ m ∷ []) ms hs.0 hs.1 (next_room past m ms r) (let a = count-append m past (m ∷ []) in let o = one_same m in omega (arith, a, o)) in
-      let rest2 : count z (sources inputs all (past ++ m ∷ []) ms) ≡ 0 = subst (λ x. count x (sources inputs all (past ++ m ∷ []) ms) ≡ 0) c.0 rest in
+      let rest2 : count z (queues_of_uses inputs all (past ++ m ∷ []) ms) ≡ 0 = subst (λ x. count x (queues_of_uses inputs all (past ++ m ∷ []) ms) ≡ 0) c.0 rest in
       let f = ap one_if c.1 in omega (arith, f, rest2))
       (λ c. let f = ap one_if c.1 in let m2 = read_once z (past ++ m ∷ []) ms hs.1 (next_room past m ms r) in omega (arith, f, m2))
-      (cases_name (source_at inputs all m (count m past)) z)
+      (cases_name (queue_of_use inputs all m (count m past)) z)
 
   -- a queue that a use reads
   pub record Hit (z : Name) : Type 0 where
@@ -99,20 +101,21 @@ module _ (inputs all : List Name) where
     pub number : ℕ
     pub plain : IsTrue (has_no_at stream)
     pub below : number < count stream all
-    pub is : source_at inputs all stream number ≡ z
+    pub is : queue_of_use inputs all stream number ≡ z
 
-  pub hit : (z : Name) (past ns : List Name) → Plain ns → Room past ns → 0 < count z (sources inputs all past ns) → Hit z
+  -- a queue that is read is of a stream that is used
+  pub hit : (z : Name) (past ns : List Name) → Plain ns → Room past ns → 0 < count z (queues_of_uses inputs all past ns) → Hit z
   hit z past [] hs r lt = absurd (omega (arith, lt))
   hit z past (m ∷ ms) hs r lt = ⊎_elim
       (λ c. record { stream = m; number = count m past; plain = hs.0; below = let a = r m in let o = one_same m in omega (arith, a, o); is = c.0 })
       (λ c. hit z (past ++ m ∷ []) ms hs.1 (next_room past m ms r) (let f = ap one_if c.1 in omega (arith, f, lt)))
-      (cases_name (source_at inputs all m (count m past)) z)
+      (cases_name (queue_of_use inputs all m (count m past)) z)
 
   -- such a queue is no output, and read by nothing else
   abbrev pub Apart : Program → Type 0
   Apart [] = Unit {0}
   Apart (Register name fields ∷ ps) = IsTrue (has_no_at name) × Apart ps
-  Apart (Ask q ∷ ps) = IsTrue (has_no_at q.name) × (count q.name inputs ≡ 0) × Apart ps
+  Apart (AQuery q ∷ ps) = IsTrue (has_no_at q.name) × (count q.name inputs ≡ 0) × Apart ps
 
   none_hit : (z b : Name) (ts : List Tag) → IsTrue (has_no_at b) → tags (split z).1 ts ≡ 0 → among z b ts ≡ 0
   none_hit z b ts h e = let o = own_count b z ts h in omega (arith, o, e)
@@ -139,7 +142,7 @@ module _ (inputs all : List Name) where
       (λ z. z)
       (more_or_zero (among n name (copy_read (count name all)))) in
       omega (arith, m, here)
-  own_apart n (Ask q ∷ ps) hn i f a h =
+  own_apart n (AQuery q ∷ ps) hn i f a h =
       let m = own_apart n ps hn i f a.2 h.2 in
       let u = count q.name all in
       let t : (split n).1 ≡ None = ap (λ (x : Name × Tag). x.1) (split_tagged n None hn) in
@@ -161,7 +164,7 @@ module _ (inputs all : List Name) where
       by zero = refl
       by (suc zero) = refl
       by (suc (suc u)) = refl
-  copy_apart z ds (Ask q ∷ ps) s c a h =
+  copy_apart z ds (AQuery q ∷ ps) s c a h =
       let m = copy_apart z ds ps s c a.2 h.2 in
       let u = count q.name all in
       let plain = none_hit z q.name (None ∷ []) a.0 (subst (λ x. tags x (None ∷ []) ≡ 0) (sym s) refl) in
@@ -169,6 +172,7 @@ module _ (inputs all : List Name) where
       let b = among-append z q.name (None ∷ []) (inner_tags u q) in
       omega (arith, m, inner, b, plain)
 
+  -- and is no inner queue of a query
   pub hit_apart : (z : Name) (ps : Program) → Hit z → Apart ps → FewItems ps → sums (taken_of all) z ps ≡ 0
   hit_apart z ps g a h = ⊎_elim
       (λ o. subst (λ x. sums (taken_of all) x ps ≡ 0) (sym o.is ∙ g.is) (own_apart g.stream ps g.plain o.input o.few a h))

@@ -19,21 +19,22 @@ use Rattle.river_plan.specs.Names.{one_if, count}
 use Rattle.river_plan.specs.Uses.{Each, total, writes_it, reads_it, vars_it, named_it, all_vars, ReadsBefore}
 use Rattle.river_plan.proofs.NameLemmas.{cases_name, name_same, count-append, one_same, more_or_zero}
 use Rattle.river_plan.proofs.ShareLemmas.{total-vars}
-use Rattle.cql_model.specs.Plannable.{has_no_at, declared, IsQuery, AreQueries, PlansKeep}
+use Rattle.cql_model.specs.Plannable.{has_no_at, declared, IsPlannableQuery, AreQueries, PlansKeep}
 use Rattle.cql_model.specs.Laws.{known_names, AreKnown}
-use Rattle.cql_model.specs.Program.{Scalar, Source, Columns, Star, Chosen, Query, Register, Ask, Program, registered, streams_of, all_uses}
+use Rattle.cql_model.specs.Program.{registered, streams_of, all_uses}
+use Rattle.cql_text.specs.Tree.{Scalar, Source, Columns, Star, Chosen, Query, Register, AQuery, Program}
 use Rattle.cql_model.specs.Scopes.{Named, scope_of, item_named}
-use Rattle.cql_model.specs.Translation.{at_word, copies, sources, window_ops, cross_ops, tail_ops, item_ops, item_last, query_ops, query_named, ask_ops}
-use Rattle.cql_model.specs.Translation.{input_ops, ops_of, w_name, decl, decls, widths_of, columns_width, window_decls, cross_decls, item_decls, select_decls}
-use Rattle.cql_model.specs.Translation.{project_decls, out_decls, query_decls, ask_decls, copy_decls, input_copies, input_decls, output_decls, plan_of}
+use Rattle.cql_model.specs.Translation.{at_word, copy_names, queues_of_uses, window_ops, cross_ops, tail_ops, item_ops, item_last, query_ops, query_named, queries_ops}
+use Rattle.cql_model.specs.Translation.{input_ops, ops_of, w_name, decl, decls_of, widths_of, columns_width, window_decls, cross_decls, item_decls, select_decls}
+use Rattle.cql_model.specs.Translation.{project_decls, out_decls, query_decls, queries_decls, copy_decls, input_copies, input_decls, output_decls, plan_of}
 use Rattle.river_plan.proofs.ValidLaw.{total-append}
 use Rattle.cql_model.proofs.Counting.{names-append}
 use Rattle.cql_model.proofs.Sums.{sums, sums_once, queues_of, vars_of, labels_of, taken_of, queues_once, vars_once, labels_once, taken_once, FewItems}
 use Rattle.cql_model.proofs.Sums.{all_writes, all_vars_sum, all_labels, all_decls_sum, all_reads, inputs_declared, as_many}
 use Rattle.cql_model.proofs.Uses.{Room, Apart, read_once, hit, hit_apart}
-use Rattle.cql_model.proofs.Order.{InputsKnown, InputsThere, Others, asks_in_order, inputs_in_order, inputs_serve, reads_append, behind, reads_there}
+use Rattle.cql_model.proofs.Order.{InputsKnown, InputsThere, Others, queries_in_order, inputs_in_order, inputs_serve, reads_append, behind, reads_there}
 use Rattle.cql_model.proofs.Fitting as one
-use Rattle.cql_model.proofs.AllFit.{asks_fit, inputs_fit, input_kinds, sized_scope, columns_many}
+use Rattle.cql_model.proofs.AllFit.{queries_fit, inputs_fit, input_kinds, sized_scope, columns_many}
 use Rattle.river_plan.proofs.ShareLemmas.{each_append}
 use Rattle.cql_model.proofs.Walk.{each-append}
 
@@ -42,43 +43,44 @@ use Rattle.cql_model.proofs.Walk.{each-append}
 few_items : (ks : List Named) (ps : Program) → AreQueries ks ps → FewItems ps
 few_items ks [] a = tt
 few_items ks (Register name fields ∷ ps) a = few_items (record { name = name; fields = fields } ∷ ks) ps a.1
-few_items ks (Ask q ∷ ps) a = (a.0.some, a.0.few, few_items (query_named ks q ∷ ks) ps a.1)
+few_items ks (AQuery q ∷ ps) a = (a.0.some, a.0.few, few_items (query_named ks q ∷ ks) ps a.1)
 
 abbrev pub asked : Program → List Name
 asked [] = []
 asked (Register name fields ∷ ps) = asked ps
-asked (Ask q ∷ ps) = q.name ∷ asked ps
+asked (AQuery q ∷ ps) = q.name ∷ asked ps
 
+-- a name is declared as a stream or as a query
 pub declared_split : (n : Name) (ps : Program) → count n (declared ps) ≡ count n (registered ps) + count n (asked ps)
 declared_split n [] = refl
 declared_split n (Register name fields ∷ ps) = let m = declared_split n ps in omega (arith, m)
-declared_split n (Ask q ∷ ps) = let m = declared_split n ps in omega (arith, m)
+declared_split n (AQuery q ∷ ps) = let m = declared_split n ps in omega (arith, m)
 
 -- queries have names of their own
 apart_in : (inputs all : List Name) (ps : Program) → AllByRecursion (λ n. IsTrue (has_no_at n)) (declared ps)
     → ((n : Name) → 0 < count n (asked ps) → count n inputs ≡ 0) → Apart inputs all ps
 apart_in inputs all [] h f = tt
 apart_in inputs all (Register name fields ∷ ps) h f = (h.0, apart_in inputs all ps h.1 f)
-apart_in inputs all (Ask q ∷ ps) h f =
+apart_in inputs all (AQuery q ∷ ps) h f =
     (h.0, f q.name (let o = one_same q.name in omega (arith, o)), apart_in inputs all ps h.1 (λ n lt. f n (omega (arith, lt))))
 
 others_in : (inputs all : List Name) (ps : Program) → ((n : Name) → 0 < count n (asked ps) → count n inputs ≡ 0) → Others inputs all ps
 others_in inputs all [] f = tt
 others_in inputs all (Register name fields ∷ ps) f = others_in inputs all ps f
-others_in inputs all (Ask q ∷ ps) f = (f q.name (let o = one_same q.name in omega (arith, o)), others_in inputs all ps (λ n lt. f n (omega (arith, lt))))
+others_in inputs all (AQuery q ∷ ps) f = (f q.name (let o = one_same q.name in omega (arith, o)), others_in inputs all ps (λ n lt. f n (omega (arith, lt))))
 
 inputs_there : (inputs all : List Name) (ps : Program) → ((n : Name) → 0 < count n (registered ps) → 0 < count n inputs) → InputsThere inputs all ps
 inputs_there inputs all [] f = tt
 inputs_there inputs all (Register name fields ∷ ps) f =
     (f name (let o = one_same name in omega (arith, o)), inputs_there inputs all ps (λ n lt. f n (omega (arith, lt))))
-inputs_there inputs all (Ask q ∷ ps) f = inputs_there inputs all ps f
+inputs_there inputs all (AQuery q ∷ ps) f = inputs_there inputs all ps f
 
 inputs_known : (inputs all : List Name) (known : Name → ℕ) (ps : Program) → ((n : Name) → 0 < count n (registered ps) → 0 < known n)
     → InputsKnown inputs all known ps
 inputs_known inputs all known [] f = tt
 inputs_known inputs all known (Register name fields ∷ ps) f =
     (f name (let o = one_same name in omega (arith, o)), inputs_known inputs all known ps (λ n lt. f n (omega (arith, lt))))
-inputs_known inputs all known (Ask q ∷ ps) f = inputs_known inputs all known ps f
+inputs_known inputs all known (AQuery q ∷ ps) f = inputs_known inputs all known ps f
 
 -- the streams that are used have plain names
 abbrev IsPlain : Name → Type 0
@@ -100,7 +102,7 @@ uses_plain : (ks : List Named) (ps : Program) → AllByRecursion IsPlain (known_
     → AllByRecursion IsPlain (all_uses ps)
 uses_plain ks [] h d a = tt
 uses_plain ks (Register name fields ∷ ps) h d a = uses_plain (record { name = name; fields = fields } ∷ ks) ps (d.0, h) d.1 a.1
-uses_plain ks (Ask q ∷ ps) h d a =
+uses_plain ks (AQuery q ∷ ps) h d a =
     both_lists (streams_of q.items) (all_uses ps) (plain_all ks (streams_of q.items) h a.0.streams) (uses_plain (query_named ks q ∷ ks) ps (d.0, h) d.1 a.1)
 
 -- each use is an operator, so they are few
@@ -121,17 +123,18 @@ length-items b [] srcs e = omega arith
 length-items b (i ∷ is) srcs e =
     let a = length-append (window_ops b 1 (i ∷ is) srcs) (cross_ops b (w_name b 1) 2 is) in let m = length-windows b 1 (i ∷ is) srcs e in omega (arith, a, m)
 
-pub length-uses : (inputs all past : List Name) (ks : List Named) (ps : Program) → length (all_uses ps) ≤ length (ask_ops inputs all ks past ps)
+-- there are no fewer operators than items
+pub length-uses : (inputs all past : List Name) (ks : List Named) (ps : Program) → length (all_uses ps) ≤ length (queries_ops inputs all ks past ps)
 length-uses inputs all past ks [] = omega arith
 length-uses inputs all past ks (Register name fields ∷ ps) = length-uses inputs all past (record { name = name; fields = fields } ∷ ks) ps
-length-uses inputs all past ks (Ask q ∷ ps) =
-    let srcs = sources inputs all past (streams_of q.items) in
+length-uses inputs all past ks (AQuery q ∷ ps) =
+    let srcs = queues_of_uses inputs all past (streams_of q.items) in
     let io = item_ops q.name q.items srcs in
     let to = tail_ops q (scope_of ks q.items) (count q.name all) (item_last q.name q.items) in
     let m = length-uses inputs all (past ++ streams_of q.items) (query_named ks q ∷ ks) ps in
     let a = length-append (streams_of q.items) (all_uses ps) in
     let e = length-map q.items (λ (i : Source). i.stream) in
-    let b = length-append (query_ops inputs all ks past q) (ask_ops inputs all (query_named ks q ∷ ks) (past ++ streams_of q.items) ps) in
+    let b = length-append (query_ops inputs all ks past q) (queries_ops inputs all (query_named ks q ∷ ks) (past ++ streams_of q.items) ps) in
     let c = length-append io to in
     let l = length-items q.name q.items srcs (as_many inputs all past q.items) in
     omega (arith, m, a, e, b, c, l)
@@ -169,14 +172,15 @@ own_from kind var [] h = tt
 own_from kind var (o ∷ os) h = ((λ v lt. h v (omega (arith, lt))), own_from kind var os (λ v lt. h v (omega (arith, lt))))
 
 -- widths of declarations
-all-decls : (P : Decl → Type 0) (ns : List Name) (k : QueueType) → ((n : Name) → P (decl n k)) → All P (decls ns k)
+all-decls : (P : Decl → Type 0) (ns : List Name) (k : QueueType) → ((n : Name) → P (decl n k)) → All P (decls_of ns k)
 all-decls P [] k h = All-nil P
-all-decls P (n ∷ ns) k h = All-cons P (decl n k) (decls ns k) (h n) (all-decls P ns k h)
+all-decls P (n ∷ ns) k h = All-cons P (decl n k) (decls_of ns k) (h n) (all-decls P ns k h)
 
 windows_wide : (b : Name) (k : ℕ) (ks : List Named) → AllByRecursion (λ (i : Named). is_width (length i.fields) ≡ true) ks → All HasWidth (window_decls b k ks)
 windows_wide b k [] z = All-nil HasWidth
 windows_wide b k (i ∷ is) z = All-cons HasWidth (decl (w_name b k) (relation (length i.fields))) (window_decls b (k + 1) is) z.0 (windows_wide b (k + 1) is z.1)
 
+-- a number from 1 to 16 is a width
 pub wide : (n : ℕ) → 1 ≤ n → n ≤ 16 → is_width n ≡ true
 wide n h g = grind (arith, h, g)
 
@@ -205,13 +209,14 @@ project_wide b scope (Chosen cs) w = All-cons HasWidth (decl (at_word b (codes "
 out_wide : (b : Name) (width u : ℕ) → is_width width ≡ true → All HasWidth (out_decls b width u)
 out_wide b width zero w = All-nil HasWidth
 out_wide b width (suc u) w =
-    All-cons HasWidth (decl (at_word b (codes "o")) (stream width)) (decls (copies b 0 (suc u)) (stream width)) w (all-decls HasWidth (copies b 0 (suc u)) (stream width) (λ n. w))
+    All-cons HasWidth (decl (at_word b (codes "o")) (stream width)) (decls_of (copy_names b 0 (suc u)) (stream width)) w (all-decls HasWidth (copy_names b 0 (suc u)) (stream width) (λ n. w))
 
+-- items are there, so their product has a value
 pub sized_some : (ks : List Named) → 0 < length ks → Sized ks → 1 ≤ widths_of ks
 sized_some [] some z = absurd (omega (arith, some))
 sized_some (k ∷ ks) some z = let n = (one.narrow (length k.fields) z.0).0 in omega (arith, n)
 
-query_wide : (all : List Name) (ks : List Named) (q : Query) → IsQuery ks q → Sized (scope_of ks q.items) → All HasWidth (query_decls all ks q)
+query_wide : (all : List Name) (ks : List Named) (q : Query) → IsPlannableQuery ks q → Sized (scope_of ks q.items) → All HasWidth (query_decls all ks q)
 query_wide all ks q a z =
     let b = q.name in let scope = scope_of ks q.items in
     let sd = select_decls b (widths_of scope) q.condition in
@@ -223,35 +228,35 @@ query_wide all ks q a z =
     (All-append HasWidth sd (pd ++ od) (select_wide b (widths_of scope) q.condition w)
     (All-append HasWidth pd od (project_wide b scope q.columns a.columns) (out_wide b (columns_width scope q.columns) (count q.name all) a.columns)))
 
-asks_wide : (inputs all : List Name) (ks : List Named) (ps : Program) → Sized ks → AreQueries ks ps → All HasWidth (ask_decls all ks ps)
-asks_wide inputs all ks [] z a = All-nil HasWidth
-asks_wide inputs all ks (Register name fields ∷ ps) z a = asks_wide inputs all (record { name = name; fields = fields } ∷ ks) ps (a.0, z) a.1
-asks_wide inputs all ks (Ask q ∷ ps) z a =
-    All-append HasWidth (query_decls all ks q) (ask_decls all (query_named ks q ∷ ks) ps)
+queries_wide : (inputs all : List Name) (ks : List Named) (ps : Program) → Sized ks → AreQueries ks ps → All HasWidth (queries_decls all ks ps)
+queries_wide inputs all ks [] z a = All-nil HasWidth
+queries_wide inputs all ks (Register name fields ∷ ps) z a = queries_wide inputs all (record { name = name; fields = fields } ∷ ks) ps (a.0, z) a.1
+queries_wide inputs all ks (AQuery q ∷ ps) z a =
+    All-append HasWidth (query_decls all ks q) (queries_decls all (query_named ks q ∷ ks) ps)
     (query_wide all ks q a.0 (sized_scope (λ n. rows 0) (λ v. Private) inputs all ks q.items z a.0.streams))
-    (asks_wide inputs all (query_named ks q ∷ ks) ps (ap is_width (columns_many (scope_of ks q.items) q.columns) ∙ a.0.columns, z) a.1)
+    (queries_wide inputs all (query_named ks q ∷ ks) ps (ap is_width (columns_many (scope_of ks q.items) q.columns) ∙ a.0.columns, z) a.1)
 
 copy_wide : (n : Name) (width u : ℕ) → is_width width ≡ true → All HasWidth (copy_decls n width u)
 copy_wide n width zero w = All-nil HasWidth
 copy_wide n width (suc zero) w = All-nil HasWidth
-copy_wide n width (suc (suc u)) w = all-decls HasWidth (copies n 0 (suc (suc u))) (stream width) (λ m. w)
+copy_wide n width (suc (suc u)) w = all-decls HasWidth (copy_names n 0 (suc (suc u))) (stream width) (λ m. w)
 
 copies_wide : (all : List Name) (ks : List Named) (ps : Program) → AreQueries ks ps → All HasWidth (input_copies all ps)
 copies_wide all ks [] a = All-nil HasWidth
 copies_wide all ks (Register name fields ∷ ps) a =
     All-append HasWidth (copy_decls name (length fields) (count name all)) (input_copies all ps) (copy_wide name (length fields) (count name all) a.0) (copies_wide all (record { name = name; fields = fields } ∷ ks) ps a.1)
-copies_wide all ks (Ask q ∷ ps) a = copies_wide all (query_named ks q ∷ ks) ps a.1
+copies_wide all ks (AQuery q ∷ ps) a = copies_wide all (query_named ks q ∷ ks) ps a.1
 
 outer_inputs : (ks : List Named) (ps : Program) → AreQueries ks ps → All IsOuter (input_decls ps)
 outer_inputs ks [] a = All-nil IsOuter
 outer_inputs ks (Register name fields ∷ ps) a =
     All-cons IsOuter (decl name (stream (length fields))) (input_decls ps) (a.0, tt) (outer_inputs (record { name = name; fields = fields } ∷ ks) ps a.1)
-outer_inputs ks (Ask q ∷ ps) a = outer_inputs (query_named ks q ∷ ks) ps a.1
+outer_inputs ks (AQuery q ∷ ps) a = outer_inputs (query_named ks q ∷ ks) ps a.1
 
 outer_outputs : (ks : List Named) (ps : Program) → AreQueries ks ps → All IsOuter (output_decls ks ps)
 outer_outputs ks [] a = All-nil IsOuter
 outer_outputs ks (Register name fields ∷ ps) a = outer_outputs (record { name = name; fields = fields } ∷ ks) ps a.1
-outer_outputs ks (Ask q ∷ ps) a =
+outer_outputs ks (AQuery q ∷ ps) a =
     All-cons IsOuter (decl q.name (stream (columns_width (scope_of ks q.items) q.columns))) (output_decls (query_named ks q ∷ ks) ps) (a.0.columns, tt) (outer_outputs (query_named ks q ∷ ks) ps a.1)
 
 -- VARIABLES: one at most in each operator
@@ -265,12 +270,13 @@ single_from (o ∷ os) h = ((λ v. let t = h v in omega (arith, t)), single_from
 
 -- THE PLAN
 
+-- the law: plans keep all rules but the limits
 pub plans_keep : PlansKeep
 plans_keep p a =
     let all = all_uses p in
     let ins = registered p in
     let io = input_ops all p in
-    let ao = ask_ops ins all [] [] p in
+    let ao = queries_ops ins all [] [] p in
     let items = few_items [] p a.queries in
     let plain = uses_plain [] p tt a.names a.queries in
     let room : Room ins all [] all = λ n. omega arith in
@@ -282,46 +288,46 @@ plans_keep p a =
     let queues : (z : Name) → sums (queues_of all) z p ≤ 1 = λ z. sums_once (queues_of all) z p a.names a.once (queues_once all p items) in
     let split_ops : (f : OpForm → ℕ) → total f (ops_of p) ≡ total f io + total f ao = λ f. total-append f io ao in
     let names_are : (z : Name) → count z (queue_names (plan_of p)) ≡ sums (queues_of all) z p = λ z.
-    (let a1 = count-append z (decl_names (output_decls [] p)) (decl_names (input_decls p) ++ decl_names (input_copies all p ++ ask_decls all [] p)) in
-    let a2 = count-append z (decl_names (input_decls p)) (decl_names (input_copies all p ++ ask_decls all [] p)) in
-    let a3 = names-append z (input_copies all p) (ask_decls all [] p) in
+    (let a1 = count-append z (decl_names (output_decls [] p)) (decl_names (input_decls p) ++ decl_names (input_copies all p ++ queries_decls all [] p)) in
+    let a2 = count-append z (decl_names (input_decls p)) (decl_names (input_copies all p ++ queries_decls all [] p)) in
+    let a3 = names-append z (input_copies all p) (queries_decls all [] p) in
     let d = all_decls_sum z all [] p in omega (arith, a1, a2, a3, d)) in
     let writes_are : (z : Name) → count z (decl_names (input_decls p)) + total (writes_it z) (ops_of p) ≡ sums (queues_of all) z p = λ z.
     (let s = split_ops (writes_it z) in let i = inputs_declared z p in let w = all_writes z ins all [] [] p in omega (arith, s, i, w)) in
-    let reads_are : (z : Name) → count z (decl_names (output_decls [] p)) + total (reads_it z) (ops_of p) ≡ sums (taken_of all) z p + count z (sources ins all [] all) = λ z.
+    let reads_are : (z : Name) → count z (decl_names (output_decls [] p)) + total (reads_it z) (ops_of p) ≡ sums (taken_of all) z p + count z (queues_of_uses ins all [] all) = λ z.
     (let s = split_ops (reads_it z) in let r = all_reads z ins all [] [] p items in omega (arith, s, r)) in
     let vars : (v : Name) → total (vars_it v) (ops_of p) ≤ 1 = λ v.
     (let s = split_ops (vars_it v) in let e = all_vars_sum v ins all [] [] p in let o = sums_once vars_of v p a.names a.once (vars_once p items) in omega (arith, s, e, o)) in
-    let read_by_one : (z : Name) → sums (taken_of all) z p + count z (sources ins all [] all) ≤ 1 = λ z.
+    let read_by_one : (z : Name) → sums (taken_of all) z p + count z (queues_of_uses ins all [] all) ≤ 1 = λ z.
     (let o = sums_once (taken_of all) z p a.names a.once (taken_once all p items) in let r = read_once ins all z [] all plain room in
     ⊎_elim
     (λ lt. let n = hit_apart ins all z p (hit ins all z [] all plain room lt) apart items in omega (arith, n, r))
     (λ none. omega (arith, none, o))
-    (more_or_zero (count z (sources ins all [] all)))) in
+    (more_or_zero (count z (queues_of_uses ins all [] all)))) in
     -- the order
     let known : Name → ℕ = λ z. count z (decl_names (input_decls p)) in
     let ins_known = inputs_known ins all known p (λ n lt. let i = inputs_declared n p in omega (arith, i, lt)) in
     let order : ReadsBefore known (ops_of p) =
     reads_append io ao known (inputs_in_order ins all known p ins_known)
-    (asks_in_order ins all (behind known io) [] [] p tt (inputs_serve ins all known p there ins_known) a.queries others room) in
+    (queries_in_order ins all (behind known io) [] [] p tt (inputs_serve ins all known p there ins_known) a.queries others room) in
     -- the types
     let kind : Name → QueueType = kind_of (all_decls (plan_of p)) in
     let var : Name → VarKind = var_kind [] (all_vars (ops_of p)) in
     let one_decl : (z : Name) → count z (decl_names (all_decls (plan_of p))) ≤ 1 = λ z.
     (let q = queues z in let d = all_decls_sum z all [] p in
-    let a1 = names-append z (output_decls [] p) (input_decls p ++ (input_copies all p ++ ask_decls all [] p)) in
-    let a2 = names-append z (input_decls p) (input_copies all p ++ ask_decls all [] p) in
-    let a3 = names-append z (input_copies all p) (ask_decls all [] p) in omega (arith, q, d, a1, a2, a3)) in
+    let a1 = names-append z (output_decls [] p) (input_decls p ++ (input_copies all p ++ queries_decls all [] p)) in
+    let a2 = names-append z (input_decls p) (input_copies all p ++ queries_decls all [] p) in
+    let a3 = names-append z (input_copies all p) (queries_decls all [] p) in omega (arith, q, d, a1, a2, a3)) in
     let kinds = kinds_are (all_decls (plan_of p)) one_decl in
-    let k1 = one.kinds-append kind var (output_decls [] p) (input_decls p ++ (input_copies all p ++ ask_decls all [] p)) kinds in
-    let k2 = one.kinds-append kind var (input_decls p) (input_copies all p ++ ask_decls all [] p) k1.1 in
-    let k3 = one.kinds-append kind var (input_copies all p) (ask_decls all [] p) k2.1 in
+    let k1 = one.kinds-append kind var (output_decls [] p) (input_decls p ++ (input_copies all p ++ queries_decls all [] p)) kinds in
+    let k2 = one.kinds-append kind var (input_decls p) (input_copies all p ++ queries_decls all [] p) k1.1 in
+    let k3 = one.kinds-append kind var (input_copies all p) (queries_decls all [] p) k2.1 in
     let found : (v : Name) → 0 < total (vars_it v) (ops_of p) → var v ≡ Private = λ v lt.
     ap (λ o. unwrap_or o (Table 0)) (private_found (all_vars (ops_of p)) v (let t = total-vars v (ops_of p) in omega (arith, t, lt))) in
     let own = own_from kind var (ops_of p) found in
     let owns = each-append (one.Own kind var) io ao own in
     let fit = each_append (one.Fit kind var) io ao (inputs_fit kind var ins all [] p a.queries k2.0 k3.0)
-    (asks_fit kind var ins all [] [] p tt tt (input_kinds kind var ins all p there k2.0 k3.0) a.queries others room k3.1 k1.0 owns.1) in
+    (queries_fit kind var ins all [] [] p tt tt (input_kinds kind var ins all p there k2.0 k3.0) a.queries others room k3.1 k1.0 owns.1) in
     record {
       queues_once = λ q. let e = names_are q in let o = queues q in omega (arith, e, o);
       variables_once = λ v. let t = total-vars v (ops_of p) in let o = vars v in omega (arith, t, o);
@@ -336,7 +342,7 @@ plans_keep p a =
       in_order = order;
       outputs_typed = outer_outputs [] p a.queries;
       inputs_typed = outer_inputs [] p a.queries;
-      queues_typed = All-append HasWidth (input_copies all p) (ask_decls all [] p) (copies_wide all [] p a.queries) (asks_wide ins all [] p tt a.queries);
+      queues_typed = All-append HasWidth (input_copies all p) (queries_decls all [] p) (copies_wide all [] p a.queries) (queries_wide ins all [] p tt a.queries);
       tables_typed = All-nil (λ t. IsTable t.kind);
       fits = fit;
       vars_apart = single_from (ops_of p) vars;

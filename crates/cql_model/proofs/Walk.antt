@@ -14,12 +14,13 @@ use Rattle.brooklet_model.specs.Histories.{History, lists_of, Lists, Solves}
 use Rattle.brooklet_model.specs.Words.{feed_all}
 use Rattle.brooklet_model.proofs.Feeds.{one_input}
 use Rattle.brooklet_model.proofs.Lists.{funext}
-use Rattle.cql_model.specs.Program.{Scalar, Source, Columns, Star, Chosen, Query}
+use Rattle.cql_text.specs.Tree.{Scalar, Source, Columns, Star, Chosen, Query}
+use Rattle.cql_model.specs.KernelWords.{streamer_of, kernel_window}
 use Rattle.cql_model.specs.Scopes.{Named, scope_of}
 use Rattle.cql_model.specs.Streams.{windowed}
 use Rattle.cql_model.proofs.Instants.{Ascends}
-use Rattle.cql_model.specs.Meaning.{Known, names_of, rows_of, Tuple, with_each, product_of, where_true, row_of, windows_at, content, answer}
-use Rattle.cql_model.specs.Translation.{copies, copy_name, op, w_name, x_name, window_ops, cross_ops, cross_last, select_ops, select_last, project_ops}
+use Rattle.cql_model.specs.Meaning.{KnownStream, named_of, rows_named, Tuple, with_each, product_of, where_true, selected_row, windows_at, content, answer}
+use Rattle.cql_model.specs.Translation.{copy_names, copy_name, op, w_name, x_name, window_ops, cross_ops, cross_last, select_ops, select_last, project_ops}
 use Rattle.cql_model.specs.Translation.{project_last, out_ops, out_name, tail_ops, item_ops, item_last, resolved, terms_of, at_word}
 use Rattle.cql_model.proofs.Contents.{rows, product_more, one_item, select_is, project_is, where_fits}
 use Rattle.cql_model.proofs.Fed.{select_fed, project_fed, copy_fed, streamer_fed, cross_fed}
@@ -27,6 +28,7 @@ use Rattle.cql_model.proofs.Values.{Fits}
 use Rattle.cql_model.proofs.Widths.{AllWide, tuples_fit}
 use Rattle.cql_model.proofs.Windows.{window_fed}
 
+-- what holds of all operators of two lists
 pub each-append : (P : OpForm → Type 0) (xs ys : List OpForm) → Each P (xs ++ ys) → Each P xs × Each P ys
 each-append P xs ys h = (each_front P xs ys h, each_back P xs ys h)
 
@@ -45,7 +47,8 @@ module _ (h : History) (ts : List ℤ) (up : Ascends ts) where
 
   -- COPIES
 
-  pub copies_have : (n : Name) (k u : ℕ) (f : ℕ → List item.Item) (r : Timed) → Lists (copies n k u) f h → ((j : ℕ) → j < u → f j ≡ spread ts r) → (j : ℕ)
+  -- the copies of a stream have its rows
+  pub copies_have : (n : Name) (k u : ℕ) (f : ℕ → List item.Item) (r : Timed) → Lists (copy_names n k u) f h → ((j : ℕ) → j < u → f j ≡ spread ts r) → (j : ℕ)
       → j < u → Has (copy_name n (k + j)) r
   copies_have n k zero f r l e j lt = absurd (omega (arith, lt))
   copies_have n k (suc u) f r l e zero lt = (let z : k + 0 ≡ k = omega arith in ap (λ m. h (copy_name n m)) z) ∙ l.0 ∙ e 0 (omega arith)
@@ -55,31 +58,31 @@ module _ (h : History) (ts : List ℤ) (up : Ascends ts) where
 
   -- WINDOWS
 
-  abbrev pub Reads : List Known → List Source → List Name → Type 0
+  abbrev pub Reads : List KnownStream → List Source → List Name → Type 0
   Reads ks [] srcs = Unit {0}
   Reads ks (i ∷ is) [] = ⊥
-  Reads ks (i ∷ is) (src ∷ srcs) = Has src (rows_of ks i.stream) × Reads ks is srcs
+  Reads ks (i ∷ is) (src ∷ srcs) = Has src (rows_named ks i.stream) × Reads ks is srcs
 
-  abbrev pub window_rows : List Known → Source → Timed
-  window_rows ks i t = windowed i.window ts (rows_of ks i.stream) t
+  abbrev pub window_rows : List KnownStream → Source → Timed
+  window_rows ks i t = windowed i.window ts (rows_named ks i.stream) t
 
-  abbrev pub WindowsHave : List Known → Name → ℕ → List Source → Type 0
+  abbrev pub WindowsHave : List KnownStream → Name → ℕ → List Source → Type 0
   WindowsHave ks q k [] = Unit {0}
   WindowsHave ks q k (i ∷ is) = Has (w_name q k) (λ t. in_order (window_rows ks i t)) × WindowsHave ks q (k + 1) is
 
-  pub windows_have : (ks : List Known) (q : Name) (k : ℕ) (items : List Source) (srcs : List Name) → Each (Solves h) (window_ops q k items srcs)
+  pub windows_have : (ks : List KnownStream) (q : Name) (k : ℕ) (items : List Source) (srcs : List Name) → Each (Solves h) (window_ops q k items srcs)
       → Reads ks items srcs → WindowsHave ks q k items
   windows_have ks q k [] srcs s r = tt
   windows_have ks q k (i ∷ is) [] s r = absurd r
   windows_have ks q k (i ∷ is) (src ∷ srcs) s r = (
-    s.0.0 ∙ one_solved (window i.window) h src 0 refl ∙ ap (λ l. (feed (fire (window i.window) 0) l (first_kept (window i.window))).outs 0) r.0
-        ∙ window_fed i.window ts (rows_of ks i.stream) up,
+    s.0.0 ∙ one_solved (window (kernel_window i.window)) h src 0 refl ∙ ap (λ l. (feed (fire (window (kernel_window i.window)) 0) l (first_kept (window (kernel_window i.window)))).outs 0) r.0
+        ∙ window_fed i.window ts (rows_named ks i.stream) up,
     windows_have ks q (k + 1) is srcs s.1 r.1,
   )
 
   -- PRODUCTS
 
-  pub crosses_have : (ks : List Known) (q last : Name) (k : ℕ) (items : List Source) (tuples : ℤ → List Tuple) → Each (Solves h) (cross_ops q last k items)
+  pub crosses_have : (ks : List KnownStream) (q last : Name) (k : ℕ) (items : List Source) (tuples : ℤ → List Tuple) → Each (Solves h) (cross_ops q last k items)
       → WindowsHave ks q k items
       → Has last (λ t. in_order (rows (tuples t)))
       → Has (cross_last q last k items) (λ t. in_order (rows (fold with_each (tuples t) (windows_at ts ks items t))))
@@ -89,7 +92,8 @@ module _ (h : History) (ts : List ℤ) (up : Ascends ts) where
       (s.0.0 ∙ cross_fed ts (λ t. in_order (rows (tuples t))) (λ t. in_order (window_rows ks i t)) (lists_of h (last ∷ w_name q k ∷ [])) l w.0
       ∙ same_spread ts _ _ (λ t. product_more (tuples t) (window_rows ks i t)))
 
-  pub items_have : (ks : List Known) (q : Name) (items : List Source) (srcs : List Name) → 0 < length items → Each (Solves h) (item_ops q items srcs)
+  -- the last queue of the items has their product
+  pub items_have : (ks : List KnownStream) (q : Name) (items : List Source) (srcs : List Name) → 0 < length items → Each (Solves h) (item_ops q items srcs)
       → Reads ks items srcs
       → Has (item_last q items) (λ t. in_order (rows (product_of (windows_at ts ks items t))))
   items_have ks q [] srcs some s r = absurd (omega (arith, some))
@@ -110,7 +114,7 @@ module _ (h : History) (ts : List ℤ) (up : Ascends ts) where
 
   pub project_has : (q : Name) (scope : List Named) (last : Name) (cols : Columns) (tuples : ℤ → List Tuple) → ((t : ℤ) → All (Fits scope) (tuples t))
       → Each (Solves h) (project_ops q scope last cols)
-      → Has last (λ t. in_order (rows (tuples t))) → Has (project_last q last cols) (λ t. in_order (map (row_of scope cols) (tuples t)))
+      → Has last (λ t. in_order (rows (tuples t))) → Has (project_last q last cols) (λ t. in_order (map (selected_row scope cols) (tuples t)))
   project_has q scope last Star tuples f s l = l
   project_has q scope last (Chosen cs) tuples f s l =
       s.0.0 ∙ one_solved (project (terms_of scope cs)) h last 0 refl ∙ ap (λ x. (feed (fire (project (terms_of scope cs)) 0) x []).outs 0) l
@@ -136,19 +140,20 @@ module _ (h : History) (ts : List ℤ) (up : Ascends ts) where
             ∙ copies_have q 0 (suc u) _ r s.0.1 (λ i li. all (suc i) (omega (arith, li))) j lt;
       }
 
-  pub tail_has : (ks : List Known) (q : Query) (uses : ℕ) (last : Name) → AllWide ks → Each (Solves h) (tail_ops q (scope_of (names_of ks) q.items) uses last)
+  -- the queues of a query's stream have its answer
+  pub tail_has : (ks : List KnownStream) (q : Query) (uses : ℕ) (last : Name) → AllWide ks → Each (Solves h) (tail_ops q (scope_of (named_of ks) q.items) uses last)
       → Has last (λ t. in_order (rows (product_of (windows_at ts ks q.items t)))) → Gives q.name uses (answer ts ks q)
   tail_has ks q uses last wide s l =
-      let scope = scope_of (names_of ks) q.items in
+      let scope = scope_of (named_of ks) q.items in
       let tuples : ℤ → List Tuple = λ t. product_of (windows_at ts ks q.items t) in
       let fit : (t : ℤ) → All (Fits scope) (tuples t) = λ t. tuples_fit ts ks q.items t wide in
       let sel = select_last q.name last q.condition in
       let pro = project_last q.name sel q.columns in
-      let stream_op = op (at_word q.name (codes "i")) (streamer q.kind) (pro ∷ []) (out_name q.name uses ∷ []) (at_word q.name (codes "i") ∷ []) in
+      let stream_op = op (at_word q.name (codes "i")) (streamer (streamer_of q.kind)) (pro ∷ []) (out_name q.name uses ∷ []) (at_word q.name (codes "i") ∷ []) in
       let a = each-append (Solves h) (select_ops q.name scope last q.condition) (project_ops q.name scope sel q.columns ++ (stream_op ∷ out_ops q.name uses)) s in
       let b = each-append (Solves h) (project_ops q.name scope sel q.columns) (stream_op ∷ out_ops q.name uses) a.1 in
       let chosen = select_has q.name scope last q.condition tuples fit a.0 l in
       let rows_are = project_has q.name scope sel q.columns (λ t. where_true scope q.condition (tuples t)) (λ t. where_fits scope q.condition (tuples t) (fit t)) b.0 chosen in
       out_has q.name uses (answer ts ks q) b.1.1
-      (b.1.0.0 ∙ one_solved (streamer q.kind) h pro 0 refl ∙ ap (λ x. (feed (fire (streamer q.kind) 0) x (first_kept (streamer q.kind))).outs 0) rows_are
+      (b.1.0.0 ∙ one_solved (streamer (streamer_of q.kind)) h pro 0 refl ∙ ap (λ x. (feed (fire (streamer (streamer_of q.kind)) 0) x (first_kept (streamer (streamer_of q.kind)))).outs 0) rows_are
       ∙ streamer_fed q.kind ts (λ t. in_order (content ts ks q t)) (content ts ks q) up (λ t. refl))

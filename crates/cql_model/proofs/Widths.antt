@@ -13,14 +13,13 @@ use Rattle.river_base.specs.Name.{name_eq}
 use Rattle.river_base.specs.Row.{in_order, row_lt, row_eq}
 use Rattle.river_plan.specs.Forms.{Name}
 use Rattle.kern_bags.specs.Contents.{take_out, without}
-use Rattle.kern_bags.specs.declared.kernel.Window.{Window}
-use Rattle.kern_bags.specs.declared.kernel.Window.TheVariants.{Now, Range, Unbounded, Latest}
-use Rattle.kern_bags.specs.declared.kernel.Streamer.{Streamer}
-use Rattle.kern_bags.specs.declared.kernel.Streamer.TheVariants.{Istream, Dstream, Rstream}
-use Rattle.cql_model.specs.Program.{Source, Column, Columns, Star, Chosen, Query}
+use Rattle.cql_text.specs.Tree.{Window, Now, Range, Unbounded, Latest}
+use Rattle.cql_text.specs.declared.tree.Kind.{Kind}
+use Rattle.cql_text.specs.declared.tree.Kind.TheVariants.{Istream, Dstream, Rstream}
+use Rattle.cql_text.specs.Tree.{Source, Column, Columns, Star, Chosen, Query}
 use Rattle.cql_model.specs.Scopes.{Named, fields_of, scope_of, names_from, column_names}
-use Rattle.cql_model.specs.Streams.{in_reach, kept, windowed, last_of, at_last, before, changed, streamed}
-use Rattle.cql_model.specs.Meaning.{Known, names_of, rows_of, Tuple, joined, row_of, where_true, product_of, windows_at, content, answer}
+use Rattle.cql_model.specs.Streams.{in_reach, kept_rows, windowed, last_instant, at_last, content_before, changed, as_stream}
+use Rattle.cql_model.specs.Meaning.{KnownStream, named_of, rows_named, Tuple, all_values, selected_row, where_true, product_of, windows_at, content, answer}
 use Rattle.cql_model.proofs.Contents.{AreWide, product_fits, where_fits}
 use Rattle.cql_model.proofs.Values.{Fits}
 
@@ -62,6 +61,7 @@ all-without P xs (y ∷ ys) h = all-without P (take_out y xs) ys (all-take_out P
 
 -- STREAMS
 
+-- the rows of a file have its width at each instant
 pub file_wide : (n : ℕ) (file : List (ℤ × List ℤ)) (t : ℤ) → All (λ (e : ℤ × List ℤ). length e.1 ≡ n) file → HaveWidth n (at_instant file t)
 file_wide n [] t h = All-nil (λ (row : List ℤ). length row ≡ n)
 file_wide n (e ∷ es) t h = step (int_eq e.0 t) (file_wide n es t (All-tail (λ (x : ℤ × List ℤ). length x.1 ≡ n) e es h)) where
@@ -70,9 +70,9 @@ file_wide n (e ∷ es) t h = step (int_eq e.0 t) (file_wide n es t (All-tail (λ
   step true more = All-cons (λ (row : List ℤ). length row ≡ n) e.1 (at_instant es t) (All-head (λ (x : ℤ × List ℤ). length x.1 ≡ n) e es h) more
   step false more = more
 
-kept_wide : (P : List ℤ → Type 0) (w : Window) (rows : List (List ℤ)) → All P rows → All P (kept w rows)
+kept_wide : (P : List ℤ → Type 0) (w : Window) (rows : List (List ℤ)) → All P rows → All P (kept_rows w rows)
 kept_wide P Now rows h = h
-kept_wide P (Range span) rows h = h
+kept_wide P (Range n unit) rows h = h
 kept_wide P Unbounded rows h = h
 kept_wide P (Latest n) rows h = all-drop P (length rows - n) rows h
 
@@ -83,58 +83,60 @@ last_wide : (P : List ℤ → Type 0) (r : Timed) (o : Option ℤ) → ((u : ℤ
 last_wide P r None h = All-nil P
 last_wide P r (Some u) h = h u
 
-changed_wide : (P : List ℤ → Type 0) (k : Streamer) (old new : List (List ℤ)) → All P old → All P new → All P (changed k old new)
+changed_wide : (P : List ℤ → Type 0) (k : Kind) (old new : List (List ℤ)) → All P old → All P new → All P (changed k old new)
 changed_wide P Istream old new a b = all-without P new old b
 changed_wide P Dstream old new a b = all-without P old new a
 changed_wide P Rstream old new a b = b
 
-streamed_wide : (P : List ℤ → Type 0) (k : Streamer) (ts : List ℤ) (r : Timed) (t : ℤ) → ((u : ℤ) → All P (r u)) → All P (streamed k ts r t)
+streamed_wide : (P : List ℤ → Type 0) (k : Kind) (ts : List ℤ) (r : Timed) (t : ℤ) → ((u : ℤ) → All P (r u)) → All P (as_stream k ts r t)
 streamed_wide P k ts r t h =
-    all-in_order P (changed k (before ts r t) (r t)) (changed_wide P k (before ts r t) (r t) (last_wide P r (last_of (filter (λ u. int_lt u t) ts)) h) (h t))
+    all-in_order P (changed k (content_before ts r t) (r t)) (changed_wide P k (content_before ts r t) (r t) (last_wide P r (last_instant (filter (λ u. int_lt u t) ts)) h) (h t))
 
 -- WHAT IS KNOWN
 
-abbrev pub AllWide : List Known → Type 0
+abbrev pub AllWide : List KnownStream → Type 0
 AllWide [] = Unit {0}
 AllWide (k ∷ ks) = ((t : ℤ) → HaveWidth (length k.named.fields) (k.rows t)) × AllWide ks
 
-rows_wide : (ks : List Known) (n : Name) (t : ℤ) → AllWide ks → HaveWidth (length (fields_of (names_of ks) n)) (rows_of ks n t)
+rows_wide : (ks : List KnownStream) (n : Name) (t : ℤ) → AllWide ks → HaveWidth (length (fields_of (named_of ks) n)) (rows_named ks n t)
 rows_wide [] n t h = All-nil (λ (row : List ℤ). length row ≡ 0)
 rows_wide (k ∷ ks) n t h = step (name_eq k.named.name n) (rows_wide ks n t h.1) where
-  step : (b : Bool) → HaveWidth (length (fields_of (names_of ks) n)) (rows_of ks n t)
-      → HaveWidth (length (if b then k.named.fields else fields_of (names_of ks) n)) (if b then k.rows t else rows_of ks n t)
+  step : (b : Bool) → HaveWidth (length (fields_of (named_of ks) n)) (rows_named ks n t)
+      → HaveWidth (length (if b then k.named.fields else fields_of (named_of ks) n)) (if b then k.rows t else rows_named ks n t)
   step true more = h.0 t
   step false more = more
 
-pub windows_wide : (ts : List ℤ) (ks : List Known) (items : List Source) (t : ℤ) → AllWide ks
-    → AreWide (scope_of (names_of ks) items) (windows_at ts ks items t)
+pub windows_wide : (ts : List ℤ) (ks : List KnownStream) (items : List Source) (t : ℤ) → AllWide ks
+    → AreWide (scope_of (named_of ks) items) (windows_at ts ks items t)
 windows_wide ts ks [] t h = tt
 windows_wide ts ks (i ∷ is) t h = (
-  window_wide (λ row. length row ≡ length (fields_of (names_of ks) i.stream)) i.window ts (rows_of ks i.stream) t (λ u. rows_wide ks i.stream u h),
+  window_wide (λ row. length row ≡ length (fields_of (named_of ks) i.stream)) i.window ts (rows_named ks i.stream) t (λ u. rows_wide ks i.stream u h),
   windows_wide ts ks is t h,
 )
 
-pub tuples_fit : (ts : List ℤ) (ks : List Known) (items : List Source) (t : ℤ) → AllWide ks
-    → All (Fits (scope_of (names_of ks) items)) (product_of (windows_at ts ks items t))
-tuples_fit ts ks items t h = product_fits (scope_of (names_of ks) items) (windows_at ts ks items t) (windows_wide ts ks items t h)
+-- the tuples of a query's items fit them
+pub tuples_fit : (ts : List ℤ) (ks : List KnownStream) (items : List Source) (t : ℤ) → AllWide ks
+    → All (Fits (scope_of (named_of ks) items)) (product_of (windows_at ts ks items t))
+tuples_fit ts ks items t h = product_fits (scope_of (named_of ks) items) (windows_at ts ks items t) (windows_wide ts ks items t h)
 
 -- ROWS OF COLUMNS
 
-joined_wide : (scope : List Named) (tuple : Tuple) → Fits scope tuple → length (joined tuple) ≡ length (flat_map (λ (i : Named). i.fields) scope)
+joined_wide : (scope : List Named) (tuple : Tuple) → Fits scope tuple → length (all_values tuple) ≡ length (flat_map (λ (i : Named). i.fields) scope)
 joined_wide [] [] h = refl
 joined_wide [] (r ∷ rs) h = absurd h
 joined_wide (i ∷ is) [] h = absurd h
 joined_wide (i ∷ is) (r ∷ rs) h =
     let m = joined_wide is rs h.1 in
-    let a = length-append r (joined rs) in
+    let a = length-append r (all_values rs) in
     let b = length-append i.fields (flat_map (λ (j : Named). j.fields) is) in
     omega (arith, m, a, b, h.0)
 
+-- there are as many names as columns
 pub length-names : (k : ℕ) (cs : List Column) → length (names_from k cs) ≡ length cs
 length-names k [] = refl
 length-names k (c ∷ cs) = let m = length-names (k + 1) cs in omega (arith, m)
 
-row_wide : (scope : List Named) (cols : Columns) (tuple : Tuple) → Fits scope tuple → length (row_of scope cols tuple) ≡ length (column_names scope cols)
+row_wide : (scope : List Named) (cols : Columns) (tuple : Tuple) → Fits scope tuple → length (selected_row scope cols tuple) ≡ length (column_names scope cols)
 row_wide scope Star tuple h = joined_wide scope tuple h
 row_wide scope (Chosen cs) tuple h = length-map cs _ ∙ sym (length-names 1 cs)
 
@@ -144,14 +146,15 @@ rows_of_all n g P [] h f = All-nil (λ (row : List ℤ). length row ≡ n)
 rows_of_all n g P (x ∷ xs) h f =
     All-cons (λ (row : List ℤ). length row ≡ n) (g x) (map g xs) (f x (All-head P x xs h)) (rows_of_all n g P xs (All-tail P x xs h) f)
 
-content_wide : (ts : List ℤ) (ks : List Known) (q : Query) (t : ℤ) → AllWide ks
-    → HaveWidth (length (column_names (scope_of (names_of ks) q.items) q.columns)) (content ts ks q t)
+content_wide : (ts : List ℤ) (ks : List KnownStream) (q : Query) (t : ℤ) → AllWide ks
+    → HaveWidth (length (column_names (scope_of (named_of ks) q.items) q.columns)) (content ts ks q t)
 content_wide ts ks q t h =
-    let scope = scope_of (names_of ks) q.items in
-    rows_of_all (length (column_names scope q.columns)) (row_of scope q.columns) (Fits scope) (where_true scope q.condition (product_of (windows_at ts ks q.items t)))
+    let scope = scope_of (named_of ks) q.items in
+    rows_of_all (length (column_names scope q.columns)) (selected_row scope q.columns) (Fits scope) (where_true scope q.condition (product_of (windows_at ts ks q.items t)))
     (where_fits scope q.condition (product_of (windows_at ts ks q.items t)) (tuples_fit ts ks q.items t h)) (λ x k. row_wide scope q.columns x k)
 
-pub answer_wide : (ts : List ℤ) (ks : List Known) (q : Query) (t : ℤ) → AllWide ks
-    → HaveWidth (length (column_names (scope_of (names_of ks) q.items) q.columns)) (answer ts ks q t)
+-- the rows of an answer have as many values as the query has columns
+pub answer_wide : (ts : List ℤ) (ks : List KnownStream) (q : Query) (t : ℤ) → AllWide ks
+    → HaveWidth (length (column_names (scope_of (named_of ks) q.items) q.columns)) (answer ts ks q t)
 answer_wide ts ks q t h =
-    streamed_wide (λ row. length row ≡ length (column_names (scope_of (names_of ks) q.items) q.columns)) q.kind ts (content ts ks q) t (λ u. content_wide ts ks q u h)
+    streamed_wide (λ row. length row ≡ length (column_names (scope_of (named_of ks) q.items) q.columns)) q.kind ts (content ts ks q) t (λ u. content_wide ts ks q u h)

@@ -10,12 +10,12 @@ use Rattle.river_base.specs.Row.{in_order}
 use Rattle.kern_bags.specs.Contents.{later, greatest, rows_where, put_batch, by_instant, in_window, content_of}
 use Rattle.kern_bags.specs.Contents as contents
 use Rattle.kern_bags.specs.Steps.{window_one}
-use Rattle.kern_bags.specs.declared.kernel.Window.{Window}
-use Rattle.kern_bags.specs.declared.kernel.Window.TheVariants.{Now, Range, Unbounded, Latest}
+use Rattle.cql_text.specs.Tree.{Window, Now, Range, Unbounded, Latest}
 use Rattle.river_kernels.specs.Kern.{window}
 use Rattle.brooklet_model.specs.Firings.{feed}
 use Rattle.brooklet_model.specs.Fire.{fire, first_kept}
-use Rattle.cql_model.specs.Streams.{in_reach, kept, windowed}
+use Rattle.cql_model.specs.KernelWords.{kernel_window}
+use Rattle.cql_model.specs.Streams.{in_reach, kept_rows, windowed}
 use Rattle.cql_model.proofs.Feeding.{received_fed, given_spread, spread-append}
 use Rattle.cql_model.proofs.Instants.{AllBelow, AllAbove, Ascends, ascends_below, reach_front}
 
@@ -77,7 +77,7 @@ by_instant_is : (us : List ℤ) (s : Timed) → Ascends us → by_instant (batch
 by_instant_is us s r = order_from [] us s r
 
 -- what the two definitions of a range say
-same_range : (span t u : ℤ) → (int_le u t && int_le (later (pos 0) (t -ℤ span)) u) ≡ in_reach (Range span) t u
+same_range : (span t u : ℤ) → (int_le u t && int_le (later (pos 0) (t -ℤ span)) u) ≡ (int_le u t && (int_le (t -ℤ span) u && int_le (pos 0) u))
 same_range span t u = go (int_lt (pos 0) (t -ℤ span)) refl where
   go : (b : Bool) → int_lt (pos 0) (t -ℤ span) ≡ b
       → (int_le u t && int_le (cond b (t -ℤ span) (pos 0)) u) ≡ (int_le u t && (int_le (t -ℤ span) u && int_le (pos 0) u))
@@ -89,11 +89,11 @@ filter-same p q [] h = refl
 filter-same p q (u ∷ us) h = ap (λ b. cond b (u ∷ filter p us) (filter p us)) (h u) ∙ ap (λ l. cond (q u) (u ∷ l) l) (filter-same p q us h)
 
 -- a window on batches has the rows of the instants in reach
-window_rows : (w : Window) (t : ℤ) (us : List ℤ) (s : Timed) → Ascends us → in_window w t (batched us s) ≡ kept w (flat_map s (filter (in_reach w t) us))
+window_rows : (w : Window) (t : ℤ) (us : List ℤ) (s : Timed) → Ascends us → in_window (kernel_window w) t (batched us s) ≡ kept_rows w (flat_map s (filter (in_reach w t) us))
 window_rows Now t us s r = rows_where_is (λ u. int_eq u t) us s
-window_rows (Range span) t us s r =
-    rows_where_is (λ u. int_le u t && int_le (later (pos 0) (t -ℤ span)) u) us s
-    ∙ ap (flat_map s) (filter-same _ (in_reach (Range span) t) us (same_range span t))
+window_rows (Range n unit) t us s r =
+    rows_where_is (λ u. int_le u t && int_le (later (pos 0) (t -ℤ pos n)) u) us s
+    ∙ ap (flat_map s) (filter-same _ (in_reach (Range n unit) t) us (same_range (pos n) t))
 window_rows Unbounded t us s r = rows_where_is (λ u. int_le u t) us s
 window_rows (Latest n) t us s r =
     ap (λ l. contents.last_of n (rows_where (λ u. int_le u t) l)) (by_instant_is us s r) ∙ ap (contents.last_of n) (rows_where_is (λ u. int_le u t) us s)
@@ -106,20 +106,21 @@ ascends_front (u ∷ us) vs r = (front us r.0, ascends_front us vs r.1) where
   front (x ∷ xs) h = (h.0, front xs h.1)
 
 window_step : (w : Window) (ts : List ℤ) (s : Timed) → Ascends ts → (us vs : List ℤ) (t : ℤ) → ts ≡ us ++ (t ∷ vs)
-    → window_one w (spread us s) (item_at t (s t)) ≡ item_at t (in_order (windowed w ts s t)) ∷ []
+    → window_one (kernel_window w) (spread us s) (item_at t (s t)) ≡ item_at t (in_order (windowed w ts s t)) ∷ []
 window_step w ts s r us vs t e =
     let all : Ascends (us ++ (t ∷ vs)) = subst Ascends e r in
     let here : Ascends (us ++ t ∷ []) = ascends_front (us ++ t ∷ []) vs (subst Ascends (sym (append_assoc us (t ∷ []) vs)) all) in
     let bs : batches (spread us s ++ item_at t (s t) ∷ []) ≡ batched (us ++ t ∷ []) s = ap batches (sym (spread-append us (t ∷ []) s)) ∙ batches_spread (us ++ t ∷ []) s in
-    let rows : content_of w (batches (spread us s ++ item_at t (s t) ∷ [])) ≡ in_order (windowed w ts s t) =
-    ap (content_of w) bs
-    ∙ ap (λ g. in_order (in_window w g (batched (us ++ t ∷ []) s))) (greatest_last s us t here)
+    let rows : content_of (kernel_window w) (batches (spread us s ++ item_at t (s t) ∷ [])) ≡ in_order (windowed w ts s t) =
+    ap (content_of (kernel_window w)) bs
+    ∙ ap (λ g. in_order (in_window (kernel_window w) g (batched (us ++ t ∷ []) s))) (greatest_last s us t here)
     ∙ ap in_order (window_rows w t (us ++ t ∷ []) s here)
-    ∙ ap (λ l. in_order (kept w (flat_map s l))) (sym (reach_front w us vs t all))
-    ∙ ap (λ l. in_order (kept w (flat_map s (filter (in_reach w t) l)))) (sym e) in
+    ∙ ap (λ l. in_order (kept_rows w (flat_map s l))) (sym (reach_front w us vs t all))
+    ∙ ap (λ l. in_order (kept_rows w (flat_map s (filter (in_reach w t) l)))) (sym e) in
     ap (λ l. item_at t l ∷ []) rows
 
+-- a window, fed with a stream, gives its content at each instant
 pub window_fed : (w : Window) (ts : List ℤ) (s : Timed) → Ascends ts
-    → (feed (fire (window w) 0) (spread ts s) (first_kept (window w))).outs 0 ≡ spread ts (λ t. in_order (windowed w ts s t))
+    → (feed (fire (window (kernel_window w)) 0) (spread ts s) (first_kept (window (kernel_window w)))).outs 0 ≡ spread ts (λ t. in_order (windowed w ts s t))
 window_fed w ts s r =
-    received_fed (window_one w) [] (spread ts s) ∙ given_spread ts s (λ t. in_order (windowed w ts s t)) (window_one w) (window_step w ts s r) [] ts refl
+    received_fed (window_one (kernel_window w)) [] (spread ts s) ∙ given_spread ts s (λ t. in_order (windowed w ts s t)) (window_one (kernel_window w)) (window_step w ts s r) [] ts refl

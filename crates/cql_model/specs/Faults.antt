@@ -4,16 +4,15 @@ use Rattle.std.specs.Prelude.{◌<◌, ◌≤◌, IsTrue, ◌≡◌, ℕ, zero, 
 use Rattle.std.specs.Prelude.{None, if◌then◌else◌}
 use Rattle.std.specs.List.{AllByRecursion}
 use Rattle.river_base.specs.Name.{name_eq}
-use Rattle.kern_bags.specs.declared.kernel.Window.{Window}
-use Rattle.kern_bags.specs.declared.kernel.Window.TheVariants.{Now, Range, Unbounded, Latest}
+use Rattle.cql_text.specs.Tree.{Window, Now, Range, Unbounded, Latest}
 use Rattle.river_plan.specs.Forms.{Name}
 use Rattle.river_plan.specs.Names.{count}
 use Rattle.cql_model.specs.declared.fault.Fault.{Fault}
 use Rattle.cql_model.specs.declared.fault.Fault.TheVariants.{UnknownStream, UnknownField, AmbiguousField, NameTwice, Limit}
 use Rattle.cql_model.specs.declared.fault.Refusal.{Refusal}
-use Rattle.cql_model.specs.Plannable.{has_no_at, declared, AreShallow, IsShallow, IsPlannable, exceeds}
+use Rattle.cql_model.specs.Plannable.{has_no_at, declared, AreShallowColumns, IsShallowCondition, IsPlannable, exceeds}
 use Rattle.cql_model.specs.Laws.{known_names}
-use Rattle.cql_model.specs.Program.{Scalar, Number, Field, ItemField, Neg, Not, Bin, Source, Column, Columns, Star, Chosen, Query, Register, Ask, Program}
+use Rattle.cql_text.specs.Tree.{Scalar, Number, Field, ItemField, Neg, Not, Bin, Source, Column, Columns, Star, Chosen, Query, Register, AQuery, Program}
 use Rattle.cql_model.specs.Program.{all_uses}
 use Rattle.cql_model.specs.Scopes.{Named, item_named, scope_of}
 use Rattle.cql_model.specs.Translation.{widths_of, query_named, plan_of}
@@ -29,9 +28,9 @@ fault_if b f = if b then Some f else None
 -- FIELDS
 
 -- in how many places of the scope a field may be
-abbrev pub places : Name → List Named → ℕ
-places f [] = 0
-places f (i ∷ is) = count f i.fields + places f is
+abbrev pub field_places : Name → List Named → ℕ
+field_places f [] = 0
+field_places f (i ∷ is) = count f i.fields + field_places f is
 
 abbrev pub item_places : Name → Name → List Named → ℕ
 item_places a f [] = 0
@@ -44,7 +43,7 @@ field_fault (suc (suc n)) = Some AmbiguousField
 
 abbrev pub scalar_fault : List Named → Scalar → Option Fault
 scalar_fault scope (Number n) = None
-scalar_fault scope (Field f) = field_fault (places f scope)
+scalar_fault scope (Field f) = field_fault (field_places f scope)
 scalar_fault scope (ItemField a f) = field_fault (item_places a f scope)
 scalar_fault scope (Neg e) = scalar_fault scope e
 scalar_fault scope (Not e) = scalar_fault scope e
@@ -54,7 +53,7 @@ scalar_fault scope (Bin o l r) = then_fault (scalar_fault scope l) (scalar_fault
 
 abbrev pub is_rows_fault : Window → Bool
 is_rows_fault Now = false
-is_rows_fault (Range t) = false
+is_rows_fault (Range n unit) = false
 is_rows_fault Unbounded = false
 is_rows_fault (Latest n) = nat_eq n 0 || nat_lt 1000000 n
 
@@ -111,15 +110,15 @@ abbrev pub first_fault : List Named → ℕ → ℕ → Program → Option Refus
 first_fault known many unit [] = None
 first_fault known many unit (Register name fields ∷ ps) =
     in_unit unit (stream_fault known many name fields) (first_fault (record { name = name; fields = fields } ∷ known) (many + 1) (unit + 1) ps)
-first_fault known many unit (Ask q ∷ ps) = in_unit unit (query_fault known q) (first_fault (query_named known q ∷ known) many (unit + 1) ps)
+first_fault known many unit (AQuery q ∷ ps) = in_unit unit (query_fault known q) (first_fault (query_named known q ∷ known) many (unit + 1) ps)
 
-abbrev pub or_refused : Option Refusal → Option Refusal → Option Refusal
-or_refused None o = o
-or_refused (Some r) o = Some r
+abbrev pub then_refusal : Option Refusal → Option Refusal → Option Refusal
+then_refusal None o = o
+then_refusal (Some r) o = Some r
 
 -- why a program is refused: the first fault of its units; where they have none, the limits of plans, which are told at the last unit
 abbrev pub refusal_of : Program → Option Refusal
-refusal_of p = or_refused (first_fault [] 0 1 p) (if exceeds (plan_of p) then Some (record { unit = length p; fault = Limit }) else None)
+refusal_of p = then_refusal (first_fault [] 0 1 p) (if exceeds (plan_of p) then Some (record { unit = length p; fault = Limit }) else None)
 
 -- WHAT THE GRAMMAR GIVES: names without `@`, lists that are not empty, values that are not too deep
 
@@ -127,22 +126,22 @@ abbrev pub has_columns : Columns → Bool
 has_columns Star = true
 has_columns (Chosen cs) = nat_lt 0 (length cs)
 
-pub record IsSpoken (q : Query) : Type 0 where
+pub record IsSpokenQuery (q : Query) : Type 0 where
   pub items : 0 < length q.items
   pub columns : has_columns q.columns ≡ true
-  pub values : AreShallow q.columns
-  pub condition : IsShallow q.condition
+  pub values : AreShallowColumns q.columns
+  pub condition : IsShallowCondition q.condition
 
 abbrev pub AreSpoken : Program → Type 0
 AreSpoken [] = Unit {0}
 AreSpoken (Register name fields ∷ ps) = IsTrue (has_no_at name) × (0 < length fields) × AreSpoken ps
-AreSpoken (Ask q ∷ ps) = IsTrue (has_no_at q.name) × IsSpoken q × AreSpoken ps
+AreSpoken (AQuery q ∷ ps) = IsTrue (has_no_at q.name) × IsSpokenQuery q × AreSpoken ps
 
 -- the names that are declared, and those that items name, have at most 40 bytes
 abbrev pub IsShortName : Name → Type 0
 IsShortName n = length n ≤ 40
 
-pub record AreShort (p : Program) : Type 0 where
+pub record HaveShortNames (p : Program) : Type 0 where
   pub names : AllByRecursion IsShortName (declared p)
   pub uses : AllByRecursion IsShortName (all_uses p)
 

@@ -1,7 +1,7 @@
 -- The order of declarations in the plans of programs.
 use Rattle.river_plan.specs.InTurn.{IsInTurn}
 use Rattle.cql_model.specs.Plannable.{IsPlannable}
-use Rattle.cql_model.specs.Program.{Program}
+use Rattle.cql_text.specs.Tree.{Program}
 use Rattle.cql_model.specs.Translation.{plan_of}
 
 abbrev pub PlansInTurn : Type 0

@@ -9,7 +9,7 @@ use Rattle.brooklet_model.specs.Meaning.{meaning}
 use Rattle.cql_model.specs.Plannable.{IsPlannable, KeepsLimits}
 use Rattle.cql_model.specs.Laws.{AreFiles}
 use Rattle.cql_model.specs.Meaning.{answers}
-use Rattle.cql_model.specs.Program.{Program}
+use Rattle.cql_text.specs.Tree.{Program}
 use Rattle.cql_model.specs.Streams.{Rises}
 use Rattle.cql_model.specs.Translation.{plan_of}
 

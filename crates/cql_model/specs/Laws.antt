@@ -5,7 +5,8 @@ use Rattle.river_plan.specs.Forms.{Name}
 use Rattle.river_plan.specs.Names.{count}
 use Rattle.river_plan.specs.Valid.{IsPlan}
 use Rattle.brooklet_model.specs.Meaning.{meaning}
-use Rattle.cql_model.specs.Program.{Query, Register, Ask, Program, registered, streams_of}
+use Rattle.cql_model.specs.Program.{registered, streams_of}
+use Rattle.cql_text.specs.Tree.{Query, Register, AQuery, Program}
 use Rattle.cql_model.specs.Scopes.{Named}
 use Rattle.cql_model.specs.Streams.{Rises}
 use Rattle.cql_model.specs.Meaning.{answers}
@@ -20,15 +21,15 @@ abbrev pub AreKnown : List Named → List Name → Type 0
 AreKnown known [] = Unit {0}
 AreKnown known (n ∷ ns) = (0 < count n (known_names known)) × AreKnown known ns
 
-pub record IsAsked (inputs : List Name) (known : List Named) (q : Query) : Type 0 where
+pub record IsSourced (inputs : List Name) (known : List Named) (q : Query) : Type 0 where
   pub some : 0 < length q.items
   pub streams : AreKnown known (streams_of q.items)
   pub apart : count q.name inputs ≡ 0
 
-abbrev pub AreAsked : List Name → List Named → Program → Type 0
-AreAsked inputs known [] = Unit {0}
-AreAsked inputs known (Register name fields ∷ ps) = AreAsked inputs (record { name = name; fields = fields } ∷ known) ps
-AreAsked inputs known (Ask q ∷ ps) = IsAsked inputs known q × AreAsked inputs (query_named known q ∷ known) ps
+abbrev pub AreSourced : List Name → List Named → Program → Type 0
+AreSourced inputs known [] = Unit {0}
+AreSourced inputs known (Register name fields ∷ ps) = AreSourced inputs (record { name = name; fields = fields } ∷ known) ps
+AreSourced inputs known (AQuery q ∷ ps) = IsSourced inputs known q × AreSourced inputs (query_named known q ∷ known) ps
 
 -- each registered stream has a file, whose rows have its width
 abbrev pub AreFiles : Program → List (List (ℤ × List ℤ)) → Type 0
@@ -36,10 +37,10 @@ AreFiles [] [] = Unit {0}
 AreFiles [] (f ∷ fs) = ⊥
 AreFiles (Register name fields ∷ ps) [] = ⊥
 AreFiles (Register name fields ∷ ps) (f ∷ fs) = All (λ e. length e.1 ≡ length fields) f × AreFiles ps fs
-AreFiles (Ask q ∷ ps) fs = AreFiles ps fs
+AreFiles (AQuery q ∷ ps) fs = AreFiles ps fs
 
 -- the plan of a program means what the program means: item k of each output is its answer at instant k
 abbrev pub TranslationMeans : Type 0
 TranslationMeans =
-    (p : Program) (ts : List ℤ) (files : List (List (ℤ × List ℤ))) → AreAsked (registered p) [] p → AreFiles p files → Rises ts → IsPlan (plan_of p)
+    (p : Program) (ts : List ℤ) (files : List (List (ℤ × List ℤ))) → AreSourced (registered p) [] p → AreFiles p files → Rises ts → IsPlan (plan_of p)
     → meaning (plan_of p) (map (λ f. spread ts (at_instant f)) files) ≡ record { outs = map (spread ts) (answers ts [] p files); tables = [] }

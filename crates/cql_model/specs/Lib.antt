@@ -2,6 +2,7 @@ pub mod Faults
 pub mod Fit
 pub mod InTurn
 pub mod Instants
+pub mod KernelWords
 pub mod Kernels
 pub mod Laws
 pub mod Meaning

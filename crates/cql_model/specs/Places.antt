@@ -1,8 +1,7 @@
 -- The places of a program at which faults are told, in the order of reading, each with the text before it.
 use Rattle.std.specs.Prelude.{List, [], ◌∷◌, ◌++◌, map, flat_map, fold, Option, Some, None}
-use Rattle.kern_bags.specs.declared.kernel.Window.{Window}
 use Rattle.river_plan.specs.Forms.{Name}
-use Rattle.cql_model.specs.Program.{Scalar, Number, Field, ItemField, Neg, Not, Bin, Source, Column, Columns, Star, Chosen, Register, Ask, Part, Program}
+use Rattle.cql_text.specs.Tree.{Scalar, Number, Field, ItemField, Neg, Not, Bin, Window, Source, Column, Columns, Star, Chosen, Register, AQuery, Part, Program}
 use Rattle.cql_model.specs.Scopes.{Named}
 use Rattle.cql_model.specs.Translation.{query_named}
 
@@ -14,7 +13,7 @@ with_earlier (x ∷ xs) = ([], x) ∷ map (λ e. (x ∷ e.0, e.1)) (with_earlier
 -- the stream or query that a unit declares, with its fields
 abbrev pub declares : List Named → Part → Named
 declares known (Register name fields) = record { name = name; fields = fields }
-declares known (Ask q) = query_named known q
+declares known (AQuery q) = query_named known q
 
 -- the streams and queries that these units declare, the latest first
 abbrev pub known_by : Program → List Named
@@ -71,7 +70,7 @@ condition_spots items (Some e) = value_spots items e
 -- of a query the items come first, although they are written behind the columns; then the columns, then the condition
 abbrev pub spots : Part → List Spot
 spots (Register name fields) = StreamName name ∷ map (λ e. FieldName e.0 e.1) (with_earlier fields)
-spots (Ask q) = QueryName q.name ∷ (flat_map item_spots (with_earlier q.items) ++ (columns_spots q.items q.columns ++ condition_spots q.items q.condition))
+spots (AQuery q) = QueryName q.name ∷ (flat_map item_spots (with_earlier q.items) ++ (columns_spots q.items q.columns ++ condition_spots q.items q.condition))
 
 -- a place: the units before its unit, the unit, and what of it is read there
 pub record Place : Type 0 where

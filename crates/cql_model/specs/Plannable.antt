@@ -6,7 +6,9 @@ use Rattle.river_kernels.specs.Formed.{is_width, is_window}
 use Rattle.river_plan.specs.Forms.{Name, PlanForm, decl_names, queue_names, variable_names}
 use Rattle.river_plan.specs.Names.{count}
 use Rattle.cql_model.specs.Laws.{AreKnown}
-use Rattle.cql_model.specs.Program.{Scalar, Number, Field, ItemField, Neg, Not, Bin, Columns, Star, Chosen, Query, Register, Ask, Program, streams_of}
+use Rattle.cql_model.specs.Program.{streams_of}
+use Rattle.cql_text.specs.Tree.{Scalar, scalar_depth, Columns, Star, Chosen, Query, Register, AQuery, Program}
+use Rattle.cql_model.specs.KernelWords.{kernel_window}
 use Rattle.cql_model.specs.Scopes.{Named, scope_of}
 use Rattle.river_kernels.specs.declared.limit.Limit.{Limit}
 use Rattle.river_plan.specs.Limits.{most_of, limits, numbers}
@@ -26,38 +28,30 @@ has_no_at n = list_all (λ b. not (nat_eq b 64)) n
 abbrev pub declared : Program → List Name
 declared [] = []
 declared (Register name fields ∷ ps) = name ∷ declared ps
-declared (Ask q ∷ ps) = q.name ∷ declared ps
+declared (AQuery q ∷ ps) = q.name ∷ declared ps
 
-abbrev pub depth : Scalar → ℕ
-depth (Number n) = 1
-depth (Field f) = 1
-depth (ItemField a f) = 1
-depth (Neg e) = suc (depth e)
-depth (Not e) = suc (depth e)
-depth (Bin o l r) = suc (max (depth l) (depth r))
+abbrev pub AreShallowColumns : Columns → Type 0
+AreShallowColumns Star = Unit {0}
+AreShallowColumns (Chosen cs) = AllByRecursion (λ c. scalar_depth c.value ≤ 64) cs
 
-abbrev pub AreShallow : Columns → Type 0
-AreShallow Star = Unit {0}
-AreShallow (Chosen cs) = AllByRecursion (λ c. depth c.value ≤ 64) cs
+abbrev pub IsShallowCondition : Option Scalar → Type 0
+IsShallowCondition None = Unit {0}
+IsShallowCondition (Some e) = scalar_depth e ≤ 64
 
-abbrev pub IsShallow : Option Scalar → Type 0
-IsShallow None = Unit {0}
-IsShallow (Some e) = depth e ≤ 64
-
-pub record IsQuery (known : List Named) (q : Query) : Type 0 where
+pub record IsPlannableQuery (known : List Named) (q : Query) : Type 0 where
   pub some : 0 < length q.items
   pub few : length q.items ≤ 4
   pub streams : AreKnown known (streams_of q.items)
-  pub windows : AllByRecursion (λ i. IsTrue (is_window i.window)) q.items
+  pub windows : AllByRecursion (λ i. IsTrue (is_window (kernel_window i.window))) q.items
   pub product : widths_of (scope_of known q.items) ≤ 16
   pub columns : IsTrue (is_width (columns_width (scope_of known q.items) q.columns))
-  pub values : AreShallow q.columns
-  pub condition : IsShallow q.condition
+  pub values : AreShallowColumns q.columns
+  pub condition : IsShallowCondition q.condition
 
 abbrev pub AreQueries : List Named → Program → Type 0
 AreQueries known [] = Unit {0}
 AreQueries known (Register name fields ∷ ps) = IsTrue (is_width (length fields)) × AreQueries (record { name = name; fields = fields } ∷ known) ps
-AreQueries known (Ask q ∷ ps) = IsQuery known q × AreQueries (query_named known q ∷ known) ps
+AreQueries known (AQuery q ∷ ps) = IsPlannableQuery known q × AreQueries (query_named known q ∷ known) ps
 
 pub record IsPlannable (p : Program) : Type 0 where
   pub names : AllByRecursion (λ n. IsTrue (has_no_at n)) (declared p)

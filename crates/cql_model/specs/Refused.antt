@@ -2,8 +2,7 @@
 use Rattle.std.specs.Prelude.{◌≡◌, ◌↔◌, ℕ, ℤ, ◌+◌, ◌<◌, List, [], ◌∷◌, ◌++◌, length, map, filter, flat_map, Some, None, ◌⊎◌}
 use Rattle.std.specs.List.{AllByRecursion}
 use Rattle.river_base.specs.Name.{name_eq}
-use Rattle.kern_bags.specs.declared.kernel.Window.{Window}
-use Rattle.kern_bags.specs.declared.kernel.Window.TheVariants.{Now, Range, Unbounded, Latest}
+use Rattle.cql_text.specs.Tree.{Window, Now, Range, Unbounded, Latest}
 use Rattle.river_plan.specs.Forms.{Name}
 use Rattle.river_plan.specs.Names.{count}
 use Rattle.river_plan.specs.Valid.{IsPlan}
@@ -17,7 +16,8 @@ use Rattle.cql_model.specs.Laws.{AreFiles}
 use Rattle.cql_model.specs.Places.{known_by, Mention, Alone, OfItem, Spot, StreamName, FieldName, QueryName, ItemStream, ItemWindow, ItemName, ColumnStart}
 use Rattle.cql_model.specs.Places.{FieldUse, Place, places}
 use Rattle.cql_model.specs.Plannable.{declared, KeepsLimits, IsPlannable}
-use Rattle.cql_model.specs.Program.{Source, Program, registered}
+use Rattle.cql_model.specs.Program.{registered}
+use Rattle.cql_text.specs.Tree.{Source, Program}
 use Rattle.cql_model.specs.Scopes.{Named, alias_or, scope_of}
 use Rattle.cql_model.specs.Translation.{widths_of, plan_of}
 
@@ -41,7 +41,7 @@ field_of (OfItem a f) = f
 -- a window of no rows, or of too many
 abbrev pub HasBadRows : Window → Type 0
 HasBadRows Now = ⊥
-HasBadRows (Range t) = ⊥
+HasBadRows (Range n unit) = ⊥
 HasBadRows Unbounded = ⊥
 HasBadRows (Latest n) = (n ≡ 0) ⊎ (1000000 < n)
 

@@ -3,7 +3,7 @@ use Rattle.std.specs.Prelude.{ℕ, ◌+◌, List, [], ◌∷◌, ◌++◌, map, 
 use Rattle.std.specs.Fmt.{decimal}
 use Rattle.river_base.specs.Name.{name_eq}
 use Rattle.river_plan.specs.Forms.{Name}
-use Rattle.cql_model.specs.Program.{Scalar, Field, ItemField, Number, Neg, Not, Bin, Source, Column, Columns, Star, Chosen}
+use Rattle.cql_text.specs.Tree.{Scalar, Field, ItemField, Number, Neg, Not, Bin, Source, Column, Columns, Star, Chosen}
 
 -- a name and its fields: a stream that is known, or an item of a query
 pub record Named : Type 0 where

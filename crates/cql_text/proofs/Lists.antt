@@ -27,10 +27,12 @@ shorter x ts us v e =
 pub taken-shorter : (x : Symbol) (ts : List Tok) → parse.begins_with x ts ≡ true → length (tail ts) < length ts
 taken-shorter x ts e = let size : length ts ≡ suc (length (tail ts)) = ap length (begins_with-is x ts e) in omega arith
 
+-- a name behind a comma is one name more
 pub names-next : (done : List Name) (ts us : List Tok) (v : Name) → parse.begins_with s.Comma ts ≡ true → plain_at (tail ts) ≡ Some (v, us)
     → repeated (parse.comma_turn plain_at) (done ++ v ∷ []) us ≡ repeated (parse.comma_turn plain_at) done ts
 names-next = comma-next exact-plain (λ rest. tt)
 
+-- a name that is read leaves no more tokens
 pub name-shorter : (ts us : List Tok) (v : Name) → plain_at ts ≡ Some (v, us) → length us ≤ length ts
 name-shorter = shorter exact-plain
 
@@ -40,6 +42,7 @@ pub sources-next : (done : List Source) (ts us : List Tok) (v : Source) → pars
     → repeated (parse.comma_turn source_at) (done ++ v ∷ []) us ≡ repeated (parse.comma_turn source_at) done ts
 sources-next = comma-next exact-source comma-source
 
+-- an item that is read leaves no more tokens
 pub source-shorter : (ts us : List Tok) (v : Source) → source_at ts ≡ Some (v, us) → length us ≤ length ts
 source-shorter = shorter exact-source
 
@@ -49,6 +52,7 @@ pub columns-next : (done : List Column) (ts us : List Tok) (v : Column) → pars
     → repeated (parse.comma_turn column_at) (done ++ v ∷ []) us ≡ repeated (parse.comma_turn column_at) done ts
 columns-next = comma-next exact-column comma-column
 
+-- a column that is read leaves no more tokens
 pub column-shorter : (ts us : List Tok) (v : Column) → column_at ts ≡ Some (v, us) → length us ≤ length ts
 column-shorter = shorter exact-column
 

@@ -19,6 +19,7 @@ use Rattle.cql_text.specs.declared.operator.Sign.TheVariants as mark
 
 -- FORMS
 
+-- all lines but the signs and the comparison are chains
 pub form-chain : (k : ℕ) → k ≢ 0 → k ≢ 3 → k ≢ 4 → k < 7 → form_of (line_of seven k) ≡ form.Chain
 form-chain zero a b c few = absurd (a refl)
 form-chain (suc zero) a b c few = refl
@@ -29,6 +30,7 @@ form-chain (suc (suc (suc (suc (suc zero))))) a b c few = refl
 form-chain (suc (suc (suc (suc (suc (suc zero)))))) a b c few = refl
 form-chain (suc (suc (suc (suc (suc (suc (suc k))))))) a b c few = absurd (omega (arith, few))
 
+-- behind the seventh line there is none, which counts as one without operators
 pub form-none : (k : ℕ) → 7 ≤ k → form_of (line_of seven k) ≡ form.Once
 form-none zero most = absurd (omega (arith, most))
 form-none (suc zero) most = absurd (omega (arith, most))
@@ -75,6 +77,7 @@ no-rank k (Some o) other = by (rank_of o == k) refl where
   by true is = absurd (other o (eqb-true (rank_of o) k is))
   by false is = refl
 
+-- the operators of a line are those of its rank
 pub operator-is : (k : ℕ) (x : Tok) → operator (line_of seven k) x ≡ ranked k x
 operator-is zero x = sym (no-rank 0 (op_at x) (λ o e. let some = (rank-some o).0 in omega (arith, some, e)))
 operator-is (suc zero) x = refl
@@ -86,6 +89,7 @@ operator-is (suc (suc (suc (suc (suc (suc zero)))))) x = refl
 operator-is (suc (suc (suc (suc (suc (suc (suc k))))))) x =
     sym (no-rank (suc (suc (suc (suc (suc (suc (suc k))))))) (op_at x) (λ o e. let few = (rank-some o).2 in omega (arith, few, e)))
 
+-- and so are those that come next
 pub operator_at-is : (k : ℕ) (ts : List Tok) → lines.operator_at syntax k ts ≡ values.operator_at k ts
 operator_at-is k [] = refl
 operator_at-is k (x ∷ ts) = operator-is k x
@@ -102,6 +106,7 @@ sign-other (suc (suc (suc (suc (suc zero))))) x a b = refl
 sign-other (suc (suc (suc (suc (suc (suc zero)))))) x a b = refl
 sign-other (suc (suc (suc (suc (suc (suc (suc k))))))) x a b = refl
 
+-- a token that is neither sign is no sign of any line
 pub sign-none : (k : ℕ) (x : Tok) → minus x ≡ None → negation x ≡ None → sign (line_of seven k) x ≡ None
 sign-none zero x m w = m
 sign-none (suc zero) x m w = refl
@@ -122,6 +127,7 @@ minus-word (symbol y) p e = refl
 none_some : {A : Type 0} {a : A} → ◌≡◌ {A = Option A} None (Some a) → ⊥
 none_some e = cc
 
+-- a sign of one line is no sign of a later one
 pub signs-apart : (j k : ℕ) (x : Tok) (p : Sign) → j < k → sign (line_of seven j) x ≡ Some p → sign (line_of seven k) x ≡ None
 signs-apart j zero x p less e = absurd (omega (arith, less))
 signs-apart j (suc zero) x p less e = refl
@@ -144,6 +150,7 @@ sign-no_star k (number v) p rest e = refl
 sign-no_star k (symbol s.Star) p rest e = absurd (none_some (sym (sign-none k (symbol s.Star) refl refl) ∙ e))
 sign-no_star k (symbol y) p rest e = refl
 
+-- the sign of the first line is a minus
 pub sign_at-minus : (ts : List Tok) → lines.sign_at syntax 0 ts ≡ cond (begins_with s.Minus ts) (Some mark.Minus) None
 sign_at-minus [] = refl
 sign_at-minus (name text ∷ ts) = refl
@@ -151,6 +158,7 @@ sign_at-minus (var text ∷ ts) = refl
 sign_at-minus (number v ∷ ts) = refl
 sign_at-minus (symbol y ∷ ts) = refl
 
+-- the sign of the fifth line is `Not`
 pub sign_at-not : (ts : List Tok) → lines.sign_at syntax 4 ts ≡ cond (is_keyword_at (codes "not") ts) (Some mark.Not) None
 sign_at-not [] = refl
 sign_at-not (name text ∷ ts) = refl
@@ -158,12 +166,14 @@ sign_at-not (var text ∷ ts) = refl
 sign_at-not (number v ∷ ts) = refl
 sign_at-not (symbol y ∷ ts) = refl
 
+-- no other line has a sign
 pub sign_at-other : (k : ℕ) (ts : List Tok) → k ≢ 0 → k ≢ 4 → lines.sign_at syntax k ts ≡ None
 sign_at-other k [] a b = refl
 sign_at-other k (x ∷ ts) a b = sign-other k x a b
 
 pub ruleset signs = (sign_at-minus, sign_at-not, sign_at-other)
 
+-- no word stands before a value in brackets
 pub call-none : (ts : List Tok) → lines.first syntax.call ts ≡ None
 call-none [] = refl
 call-none (x ∷ ts) = refl

@@ -64,6 +64,7 @@ reads_what_stands ts p = ((λ e. whole-sound tt exact-part ts p e), (λ h. whole
 pub program-read : (marks : List Mark) (p : List Part) → parts_in (units_of (toks marks)) ≡ Ok p → StandFor marks p
 program-read marks p e = units-read (units_of (toks marks)) p e
 
+-- tokens of which no program is read have this first unit that is not in the grammar, and stand for none
 pub program-refused : (marks : List Mark) (n : ℕ) → parts_in (units_of (toks marks)) ≡ Err n
     → IsBadUnit (units_of (toks marks)) n × ((p : List Part) → StandFor marks p → ⊥)
 program-refused marks n e = (units-bad (units_of (toks marks)) n e, λ p h. never p (sym e ∙ units-reads (units_of (toks marks)) p h)) where

@@ -11,13 +11,13 @@ use Rattle.text_forms.proofs.Exact.{exact-maybe, exact-seen, exact-merged}
 use Rattle.text_forms.proofs.Many.{exact-commas}
 use Rattle.cql_text.specs.Tree.{Name, Scalar, Window, Now, Unbounded, Latest, Column, Columns, Star, Chosen, Part}
 use Rattle.text_forms.specs.Lines as lines
-use Rattle.cql_text.specs.Grammar.{kind_of, IsKind, time_of, made_span, IsSpan, IsRange, IsRows, IsWindow, IsAlias, InBrackets, made_source, IsSource}
-use Rattle.cql_text.specs.Grammar.{made_column, IsColumn, IsColumns, InRound, IsWhere, IsBehind, IsSelected, made_query, IsQuery, Fields, made_stream, IsStream}
+use Rattle.cql_text.specs.Grammar.{kind_named, IsKind, time_named, made_span, IsSpan, IsRange, IsRows, IsWindow, IsAlias, InBrackets, made_source, IsSource}
+use Rattle.cql_text.specs.Grammar.{made_column, IsColumn, IsColumns, InRound, IsWhere, IsBehind, IsSelected, made_query, IsQueryUnit, Fields, made_stream, IsStreamUnit}
 use Rattle.cql_text.specs.Grammar.{IsPart, IsPartAt}
 use Rattle.cql_text.specs.Reading.{kind_at, is_time, is_time_at, time_at, span_at, range_at, rows_at, window_after, window_at, in_brackets_at, alias_at}
 use Rattle.cql_text.specs.Reading.{is_alias_at, called_at, source_at, sources_at, as_at, column_at, chosen_at, columns_at, in_round_at, where_at, behind_at}
 use Rattle.cql_text.specs.Reading.{selected_at, query_at, names_at, fields_at, stream_at, part_at, part_from}
-use Rattle.cql_text.specs.Values.{word_op, of_rank, IsLeaf, Spells, IsValue}
+use Rattle.cql_text.specs.Values.{word_op, of_rank, IsLeaf, Spells, IsScalar}
 use Rattle.cql_text.specs.Values as rule
 use Rattle.cql_text.specs.Words.{is_keyword, is_keyword_at, is_plain, Plain, Keyword}
 use Rattle.cql_text.specs.declared.tree.TimeUnit.{TimeUnit}
@@ -30,24 +30,24 @@ use Rattle.cql_text.proofs.Words.{exact-plain, exact-keyword, keyword-at, other_
 
 exact-kind : Exact IsKind kind_at Any
 unfolding kind_at
-exact-kind = exact-known kind_of exact-name
+exact-kind = exact-known kind_named exact-name
 
-time-word : (text : List ℕ) (u : TimeUnit) → time_of text ≡ Some u → is_time text ≡ true
+time-word : (text : List ℕ) (u : TimeUnit) → time_named text ≡ Some u → is_time text ≡ true
 time-word text u e = by (is_keyword (codes "second") text) (is_keyword (codes "seconds") text) e where
   by : (a b : Bool) → cond a (Some time.Second) (cond b (Some time.Seconds) None) ≡ Some u → (a || b) ≡ true
   by true b f = refl
   by false true f = refl
   by false false f = cc
 
-time-comes : (u : TimeUnit) (ts rest : List Tok) → form.Known time_of form.Name u ts → is_time_at (ts ++ rest) ≡ true
+time-comes : (u : TimeUnit) (ts rest : List Tok) → form.Known time_named form.Name u ts → is_time_at (ts ++ rest) ≡ true
 time-comes u ts rest h = rw h.formed (time-word h.value u h.is)
 
 abbrev pub NoTime : List Tok → Type 0
 NoTime rest = is_time_at rest ≡ false
 
-exact-time : Exact (form.Maybe (form.Known time_of form.Name)) time_at NoTime
+exact-time : Exact (form.Maybe (form.Known time_named form.Name)) time_at NoTime
 unfolding time_at
-exact-time = exact-less (exact-maybe is_time_at (exact-known time_of exact-name) time-comes) (λ rest d. (tt, d))
+exact-time = exact-less (exact-maybe is_time_at (exact-known time_named exact-name) time-comes) (λ rest d. (tt, d))
 
 exact-span : Exact IsSpan span_at NoTime
 unfolding span_at
@@ -106,10 +106,12 @@ exact-called : Exact (form.Maybe IsAlias) called_at NoAlias
 unfolding called_at
 exact-called = exact-less (exact-maybe is_alias_at exact-alias alias-begins) (λ rest d. (tt, d))
 
+-- items are read exactly, where no alias follows
 pub exact-source : Exact IsSource source_at NoAlias
 unfolding source_at
 exact-source = exact-seen made_source (exact-both exact-plain (exact-both exact-in_brackets exact-called (λ y ts rest h d. tt)) (λ y ts rest h d. tt))
 
+-- behind an item a comma is no alias
 pub comma-source : (rest : List Tok) → NoAlias (symbol s.Comma ∷ rest)
 comma-source rest = refl
 
@@ -143,10 +145,12 @@ column-follows : (y : Option Name) (ts rest : List Tok) → form.Maybe (Keyword 
 column-follows None ts rest h d = subst (λ (l : List Tok). Ends 6 (l ++ rest)) (sym h) d.0
 column-follows (Some v) ts rest h d = subst (λ (l : List Tok). Ends 6 (l ++ rest)) (sym h.is) (as-ends h.spelled (h.back ++ rest) h.same)
 
+-- columns are read exactly, where neither an operator nor `As` follows
 pub exact-column : Exact IsColumn column_at AfterColumn
 unfolding column_at
 exact-column = exact-seen made_column (exact-both (exact-scalar 127) (exact-less exact-as_name (λ rest (d : Ends 6 rest × NoAs rest). d.1)) column-follows)
 
+-- behind a column a comma is neither
 pub comma-column : (rest : List Tok) → AfterColumn (symbol s.Comma ∷ rest)
 comma-column rest = (((λ j le. refl), refl), refl)
 
@@ -205,7 +209,7 @@ AfterWhere rest = Ends 6 rest × (is_keyword_at (codes "where") rest ≡ false)
 exact-where : Exact IsWhere where_at AfterWhere
 unfolding where_at
 exact-where =
-    exact-maybe (is_keyword_at (codes "where")) (exact-keyword (codes "where") (exact-scalar 128)) (λ v ts rest h. keyword-at (IsValue 128) (codes "where") v ts rest h)
+    exact-maybe (is_keyword_at (codes "where")) (exact-keyword (codes "where") (exact-scalar 128)) (λ v ts rest h. keyword-at (IsScalar 128) (codes "where") v ts rest h)
 
 abbrev IsEnd : Option Scalar → List Tok → Type 0
 IsEnd = form.Before IsWhere (s.Semicolon ∷ [])
@@ -227,7 +231,7 @@ exact-selected : Exact IsSelected selected_at Any
 unfolding selected_at
 exact-selected = exact-both exact-kind (exact-both exact-in_round (exact-keyword (codes "from") exact-behind) (λ y ts rest h d. tt)) (λ y ts rest h d. tt)
 
-exact-query : Exact IsQuery query_at Any
+exact-query : Exact IsQueryUnit query_at Any
 unfolding query_at
 exact-query =
     exact-keyword (codes "query") (exact-seen made_query (exact-both exact-plain (exact-after (s.Colon ∷ []) (exact-keyword (codes "select") exact-selected)) (λ y ts rest h d. tt)))
@@ -242,12 +246,12 @@ exact-fields : Exact Fields fields_at Any
 unfolding fields_at
 exact-fields = exact-after (s.Open ∷ []) (exact-before (s.Close ∷ s.Semicolon ∷ []) exact-names (λ rest. (tt, refl)))
 
-exact-stream : Exact IsStream stream_at Any
+exact-stream : Exact IsStreamUnit stream_at Any
 unfolding stream_at
 exact-stream =
     exact-keyword (codes "register") (exact-keyword (codes "stream") (exact-seen made_stream (exact-both exact-plain exact-fields (λ y ts rest h d. tt))))
 
-query-begins : (v : Part) (ts rest : List Tok) → IsQuery v ts → is_keyword_at (codes "register") (ts ++ rest) ≡ false
+query-begins : (v : Part) (ts rest : List Tok) → IsQueryUnit v ts → is_keyword_at (codes "register") (ts ++ rest) ≡ false
 query-begins v ts rest h = rw h.is (other_word (codes "query") (codes "register") h.spelled h.same refl)
 
 -- a unit is read exactly
@@ -257,5 +261,6 @@ exact-part =
     exact-less (exact-merged (is_keyword_at (codes "register")) exact-stream exact-query
     (λ v ts rest h d. keyword-at _ (codes "register") v ts rest h) (λ v ts rest h d. query-begins v ts rest h)) (λ rest d. (tt, tt))
 
+-- units are read exactly, wherever they stand
 pub exact-part_from : (u : Unit {0}) → Exact (IsPartAt u) (part_from u) Any
 exact-part_from u = exact-part

@@ -13,9 +13,9 @@ use Rattle.text_forms.proofs.ExactLines.{IsClear, exact-whole}
 use Rattle.text_forms.proofs.Pairs.{pair_inj}
 use Rattle.text_forms.proofs.Symbols.{begins_with-is}
 use Rattle.cql_text.specs.Deepest.{deepest}
-use Rattle.cql_text.specs.Tree.{Scalar, Number, Field, ItemField, depth_of}
-use Rattle.cql_text.specs.ValueReading.{operator_at, named, numeral_at, leaf_at, leaf_in, value_at}
-use Rattle.cql_text.specs.Values.{op_of, op_at, rank_of, seven, syntax, IsLeaf, IsValue}
+use Rattle.cql_text.specs.Tree.{Scalar, Number, Field, ItemField, scalar_depth}
+use Rattle.cql_text.specs.ValueReading.{operator_at, field_after, numeral_at, leaf_at, leaf_in, scalar_at}
+use Rattle.cql_text.specs.Values.{op_of, op_at, rank_of, seven, syntax, IsLeaf, IsScalar}
 use Rattle.cql_text.specs.Values as rule
 use Rattle.cql_text.specs.Words.{is_plain, plain_at}
 use Rattle.cql_text.specs.declared.operator.Operator.{Operator}
@@ -34,6 +34,7 @@ choose : {X P : Type 0} (b : Bool) (x y : Option X) (v : X) → cond b x y ≡ S
 choose true x y v e f g = f refl e
 choose false x y v e f g = g refl e
 
+-- numbers of at most 63 bits are read exactly
 pub exact-numeral : Exact (form.Tested parse.is_value form.Number) numeral_at Any
 unfolding numeral_at
 exact-numeral = exact-tested parse.is_value exact-number
@@ -58,7 +59,7 @@ field-sound n text ts t rest plain dot e =
     }
 
 leaf-sound : (n : ℕ) (ts : List Tok) (t : Scalar) (rest : List Tok) → leaf_at ts ≡ Some (t, rest) → Front (IsLeaf n) t ts rest
-unfolding named
+unfolding field_after
 leaf-sound n [] t rest e = cc
 leaf-sound n (name text ∷ ts) t rest e =
     choose (is_plain text) _ None (t, rest) e
@@ -83,12 +84,12 @@ leaf-sound n (number v ∷ ts) t rest e =
     }
 leaf-sound n (symbol y ∷ ts) t rest e = cc
 
-named-field : (f : List ℕ) (rest : List Tok) → is_plain f ≡ true → parse.begins_with s.Dot rest ≡ false → named f rest ≡ Some (Field f, rest)
-unfolding named
+named-field : (f : List ℕ) (rest : List Tok) → is_plain f ≡ true → parse.begins_with s.Dot rest ≡ false → field_after f rest ≡ Some (Field f, rest)
+unfolding field_after
 named-field f rest plain dot = rw (plain, dot) refl
 
-named-item : (a f : List ℕ) (rest : List Tok) → is_plain a ≡ true → is_plain f ≡ true → named a (symbol s.Dot ∷ name f ∷ rest) ≡ Some (ItemField a f, rest)
-unfolding named
+named-item : (a f : List ℕ) (rest : List Tok) → is_plain a ≡ true → is_plain f ≡ true → field_after a (symbol s.Dot ∷ name f ∷ rest) ≡ Some (ItemField a f, rest)
+unfolding field_after
 named-item a f rest pa pf = rw (pa, exact-plain.complete f (name f ∷ []) rest (record { passes = pf; formed = refl }) tt) refl
 
 leaf-complete : (n : ℕ) (t : Scalar) (ts rest : List Tok) → IsLeaf n t ts → NoDot rest → leaf_in n (ts ++ rest) ≡ Some (t, rest)
@@ -99,7 +100,7 @@ leaf-complete n t ts rest (rule.of_item m a f g h) dot = named-item a f rest g h
 exact-leaf : (n : ℕ) → Exact (IsLeaf n) (leaf_in n) NoDot
 exact-leaf n = record { sound = λ ts v rest e. leaf-sound n ts v rest e; complete = λ v ts rest h e. leaf-complete n v ts rest h e }
 
-shallow : (n : ℕ) (t : Scalar) (ts : List Tok) → IsLeaf n t ts → depth_of t ≡ 1
+shallow : (n : ℕ) (t : Scalar) (ts : List Tok) → IsLeaf n t ts → scalar_depth t ≡ 1
 shallow n t ts (rule.number m v q) = refl
 shallow n t ts (rule.field m f h) = refl
 shallow n t ts (rule.of_item m a f g h) = refl
@@ -180,8 +181,8 @@ clear = record {
 }
 
 -- a value: no operator may follow, and no dot
-pub exact-scalar : (n : ℕ) → Exact (IsValue n) (value_at n) (Ends 6)
-unfolding value_at
+pub exact-scalar : (n : ℕ) → Exact (IsScalar n) (scalar_at n) (Ends 6)
+unfolding scalar_at
 exact-scalar n =
     exact-as (exact-less (exact-whole syntax IsLeaf leaf_in NoDot clear n) (λ rest (d : Ends 6 rest). ((λ j less. operator_at-is j rest ∙ d.0 j (omega (arith, less))), d.1)))
     (λ v s h. h) (λ v s h. h) (λ ts. refl)

@@ -12,9 +12,11 @@ use Rattle.cql_text.specs.Grammar.{next_part}
 use Rattle.cql_text.specs.Reading.{part_at, part_from}
 use Rattle.cql_text.specs.Tree.{Part}
 
+-- what is not read is no whole unit
 pub whole-none : (ts : List Tok) → part_at ts ≡ None → whole part_at ts ≡ None
 whole-none ts e = rw e refl
 
+-- a unit with nothing behind it is one
 pub whole-all : (ts : List Tok) (p : Part) → part_at ts ≡ Some (p, []) → whole part_at ts ≡ Some p
 whole-all ts p e = rw e refl
 

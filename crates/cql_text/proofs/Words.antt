@@ -13,6 +13,7 @@ use Rattle.text_forms.specs.Tail.{tail}
 use Rattle.text_forms.proofs.Exact.{Exact, Front, Any, exact-tested, exact-name}
 use Rattle.cql_text.specs.Words.{is_keyword, is_keyword_at, is_plain, keywords, Plain, plain_at, Keyword, keyword}
 
+-- names that users give are read exactly
 pub exact-plain : Exact Plain plain_at Any
 unfolding plain_at
 exact-plain = exact-tested is_plain exact-name
@@ -21,6 +22,7 @@ or_false : (a b : Bool) → (a || b) ≡ false → (a ≡ false) × (b ≡ false
 or_false true b e = cc
 or_false false b e = (refl, e)
 
+-- both sides of a conjunction that holds
 pub and_both : (a b : Bool) → (a && b) ≡ true → (a ≡ true) × (b ≡ true)
 and_both true true e = (refl, refl)
 and_both true false e = cc
@@ -52,15 +54,18 @@ plain-words text h =
     let a = and_both (is_name text) (is_free [] text && not (list_any (λ word. is_keyword word text) keywords)) h in
     among_none (λ word. is_keyword word text) keywords (not_true (list_any (λ word. is_keyword word text) keywords) (and_both (is_free [] text) (not (list_any (λ word. is_keyword word text) keywords)) a.1).1)
 
+-- the name of a user is not the word `Not`
 pub plain-not : (text : List ℕ) → is_plain text ≡ true → is_keyword (codes "not") text ≡ false
 plain-not text h = (plain-words text h).1.1.1.1.1.1.1.1.1.1.1.1.0
 
+-- nor the word `As`
 pub plain-as : (text : List ℕ) → is_plain text ≡ true → is_keyword (codes "as") text ≡ false
 plain-as text h = (plain-words text h).1.1.1.1.1.1.1.1.1.0
 
 pub plain-where : (text : List ℕ) → is_plain text ≡ true → is_keyword (codes "where") text ≡ false
 plain-where text h = (plain-words text h).1.1.1.1.1.1.1.1.0
 
+-- the word `Where` is no name of a user
 pub where-not_plain : (text : List ℕ) → is_keyword (codes "where") text ≡ true → is_plain text ≡ false
 where-not_plain text e = by (is_plain text) refl where
   by : (b : Bool) → is_plain text ≡ b → b ≡ false
@@ -97,6 +102,7 @@ exact-keyword {A} {F} {p} {E} word x = record { sound = sound; complete = comple
   complete : (v : A) (s rest : List Tok) → Keyword word F v s → E rest → keyword word p (s ++ rest) ≡ Some (v, rest)
   complete v s rest h d = rw (h.is, h.same) (x.complete v h.back rest h.formed d)
 
+-- what stands behind a word is at its beginning that word
 pub keyword-at : {A : Type 0} (F : A → List Tok → Type 0) (word : List ℕ) (v : A) (s rest : List Tok) → Keyword word F v s
     → is_keyword_at word (s ++ rest) ≡ true
 keyword-at F word v s rest h = rw h.is h.same

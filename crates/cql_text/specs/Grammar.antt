@@ -17,8 +17,8 @@ use Rattle.work_code.specs.declared.sign.Symbol.TheVariants as s
 use Rattle.text_forms.specs.Forms as form
 use Rattle.text_forms.specs.Parse.{is_value, is_count}
 use Rattle.text_forms.specs.Texts.{AllFormed}
-use Rattle.cql_text.specs.Tree.{Name, Scalar, Window, Now, Range, Unbounded, Latest, Source, Column, Columns, Star, Chosen, Part, Register, Ask}
-use Rattle.cql_text.specs.Values.{IsValue}
+use Rattle.cql_text.specs.Tree.{Name, Scalar, Window, Now, Range, Unbounded, Latest, Source, Column, Columns, Star, Chosen, Part, Register, AQuery}
+use Rattle.cql_text.specs.Values.{IsScalar}
 use Rattle.cql_text.specs.Words.{is_keyword, Keyword, Plain}
 use Rattle.cql_text.specs.declared.tree.Kind.{Kind}
 use Rattle.cql_text.specs.declared.tree.Kind.TheVariants as kind
@@ -27,18 +27,18 @@ use Rattle.cql_text.specs.declared.tree.TimeUnit.TheVariants as time
 
 -- KINDS AND WINDOWS
 
-abbrev pub kind_of : List ℕ → Option Kind
-kind_of text =
+abbrev pub kind_named : List ℕ → Option Kind
+kind_named text =
     if is_keyword (codes "istream") text then Some kind.Istream
     else (if is_keyword (codes "dstream") text then Some kind.Dstream
     else (if is_keyword (codes "rstream") text then Some kind.Rstream else None))
 
 abbrev pub IsKind : Kind → List Tok → Type 0
-IsKind = form.Known kind_of form.Name
+IsKind = form.Known kind_named form.Name
 
 -- a unit of time
-abbrev pub time_of : List ℕ → Option TimeUnit
-time_of text = if is_keyword (codes "second") text then Some time.Second else (if is_keyword (codes "seconds") text then Some time.Seconds else None)
+abbrev pub time_named : List ℕ → Option TimeUnit
+time_named text = if is_keyword (codes "second") text then Some time.Second else (if is_keyword (codes "seconds") text then Some time.Seconds else None)
 
 abbrev pub Numeral : ℕ → List Tok → Type 0
 Numeral = form.Tested is_value form.Number
@@ -47,7 +47,7 @@ abbrev pub made_span : ℕ × Option TimeUnit → Window
 made_span v = Range v.0 v.1
 
 abbrev pub IsSpan : Window → List Tok → Type 0
-IsSpan = form.Seen made_span (form.Both Numeral (form.Maybe (form.Known time_of form.Name)))
+IsSpan = form.Seen made_span (form.Both Numeral (form.Maybe (form.Known time_named form.Name)))
 
 -- what stands behind "Range"
 abbrev pub IsRange : Window → List Tok → Type 0
@@ -87,7 +87,7 @@ abbrev pub made_column : Scalar × Option Name → Column
 made_column v = record { value = v.0; alias = v.1 }
 
 abbrev pub IsColumn : Column → List Tok → Type 0
-IsColumn = form.Seen made_column (form.Both (IsValue 127) (form.Maybe (Keyword (codes "as") Plain)))
+IsColumn = form.Seen made_column (form.Both (IsScalar 127) (form.Maybe (Keyword (codes "as") Plain)))
 
 abbrev pub IsColumns : Columns → List Tok → Type 0
 IsColumns = form.Merged (form.After (s.Star ∷ []) (form.Nothing Star)) (form.Seen Chosen (form.Commas IsColumn))
@@ -98,7 +98,7 @@ InRound = form.After (s.Open ∷ []) (form.Before IsColumns (s.Close ∷ []))
 -- UNITS
 
 abbrev pub IsWhere : Option Scalar → List Tok → Type 0
-IsWhere = form.Maybe (Keyword (codes "where") (IsValue 128))
+IsWhere = form.Maybe (Keyword (codes "where") (IsScalar 128))
 
 -- what stands behind "From"
 abbrev pub Behind : Type 0
@@ -115,10 +115,10 @@ abbrev pub IsSelected : Selected → List Tok → Type 0
 IsSelected = form.Both IsKind (form.Both InRound (Keyword (codes "from") IsBehind))
 
 abbrev pub made_query : Name × Selected → Part
-made_query v = Ask (record { name = v.0; kind = v.1.0; columns = v.1.1.0; items = v.1.1.1.0; condition = v.1.1.1.1 })
+made_query v = AQuery (record { name = v.0; kind = v.1.0; columns = v.1.1.0; items = v.1.1.1.0; condition = v.1.1.1.1 })
 
-abbrev pub IsQuery : Part → List Tok → Type 0
-IsQuery = Keyword (codes "query") (form.Seen made_query (form.Both Plain (form.After (s.Colon ∷ []) (Keyword (codes "select") IsSelected))))
+abbrev pub IsQueryUnit : Part → List Tok → Type 0
+IsQueryUnit = Keyword (codes "query") (form.Seen made_query (form.Both Plain (form.After (s.Colon ∷ []) (Keyword (codes "select") IsSelected))))
 
 abbrev pub Fields : List Name → List Tok → Type 0
 Fields = form.After (s.Open ∷ []) (form.Before (form.Commas Plain) (s.Close ∷ s.Semicolon ∷ []))
@@ -126,11 +126,11 @@ Fields = form.After (s.Open ∷ []) (form.Before (form.Commas Plain) (s.Close �
 abbrev pub made_stream : Name × List Name → Part
 made_stream v = Register v.0 v.1
 
-abbrev pub IsStream : Part → List Tok → Type 0
-IsStream = Keyword (codes "register") (Keyword (codes "stream") (form.Seen made_stream (form.Both Plain Fields)))
+abbrev pub IsStreamUnit : Part → List Tok → Type 0
+IsStreamUnit = Keyword (codes "register") (Keyword (codes "stream") (form.Seen made_stream (form.Both Plain Fields)))
 
 abbrev pub IsPart : Part → List Tok → Type 0
-IsPart = form.Merged IsStream IsQuery
+IsPart = form.Merged IsStreamUnit IsQueryUnit
 
 -- no unit depends on those before it
 abbrev pub IsPartAt : Unit {0} → Part → List Tok → Type 0

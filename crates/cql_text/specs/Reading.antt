@@ -4,9 +4,9 @@ use Rattle.work_code.specs.Tok.{Tok, name, var, number, symbol}
 use Rattle.work_code.specs.declared.sign.Symbol.TheVariants as s
 use Rattle.text_forms.specs.Parse.{Parse, begins_with, both, after, before, seen, known, merged, maybe, headed, commas, nothing_at, name_at, count_at}
 use Rattle.text_forms.specs.Texts.{read_units}
-use Rattle.cql_text.specs.Grammar.{kind_of, time_of, made_span, made_source, made_column, Behind, Selected, made_query, made_stream, next_part}
+use Rattle.cql_text.specs.Grammar.{kind_named, time_named, made_span, made_source, made_column, Behind, Selected, made_query, made_stream, next_part}
 use Rattle.cql_text.specs.Tree.{Name, Scalar, Window, Now, Unbounded, Latest, Source, Column, Columns, Star, Chosen, Part}
-use Rattle.cql_text.specs.ValueReading.{numeral_at, value_at}
+use Rattle.cql_text.specs.ValueReading.{numeral_at, scalar_at}
 use Rattle.cql_text.specs.Words.{is_keyword, is_keyword_at, is_plain, keyword, plain_at}
 use Rattle.cql_text.specs.declared.tree.Kind.{Kind}
 use Rattle.cql_text.specs.declared.tree.TimeUnit.{TimeUnit}
@@ -14,7 +14,7 @@ use Rattle.cql_text.specs.declared.tree.TimeUnit.{TimeUnit}
 -- KINDS AND WINDOWS
 
 unfoldable pub kind_at : Parse Kind
-kind_at ts = known kind_of name_at ts
+kind_at ts = known kind_named name_at ts
 
 abbrev pub is_time : List ℕ → Bool
 is_time text = is_keyword (codes "second") text || is_keyword (codes "seconds") text
@@ -28,7 +28,7 @@ is_time_at (symbol x ∷ ts) = false
 
 -- a unit of time, or nothing
 unfoldable pub time_at : Parse (Option TimeUnit)
-time_at ts = maybe is_time_at (known time_of name_at) ts
+time_at ts = maybe is_time_at (known time_named name_at) ts
 
 unfoldable pub span_at : Parse Window
 span_at ts = seen made_span (both numeral_at time_at) ts
@@ -79,7 +79,7 @@ unfoldable pub as_at : Parse (Option Name)
 as_at ts = maybe (is_keyword_at (codes "as")) (keyword (codes "as") plain_at) ts
 
 unfoldable pub column_at : Parse Column
-column_at ts = seen made_column (both (value_at 127) as_at) ts
+column_at ts = seen made_column (both (scalar_at 127) as_at) ts
 
 unfoldable pub chosen_at : Parse (List Column)
 chosen_at ts = commas column_at ts
@@ -93,7 +93,7 @@ in_round_at ts = after (s.Open ∷ []) (before columns_at (s.Close ∷ [])) ts
 -- UNITS
 
 unfoldable pub where_at : Parse (Option Scalar)
-where_at ts = maybe (is_keyword_at (codes "where")) (keyword (codes "where") (value_at 128)) ts
+where_at ts = maybe (is_keyword_at (codes "where")) (keyword (codes "where") (scalar_at 128)) ts
 
 unfoldable pub behind_at : Parse Behind
 behind_at ts = both sources_at (before where_at (s.Semicolon ∷ [])) ts

@@ -1,7 +1,7 @@
--- Programs of CQL as plain trees, with all that is written but keywords and punctuation.
+-- Programs of CQL as plain trees, with all that is written but keywords and punctuation (Arasu, Babu, Widom, 2006). Meaning, plans
+-- and laws speak of these trees; below stands which of them the code's values are.
 use Rattle.std.specs.Prelude.{ℕ, suc, max, List, map, Option, Some, None}
 use Rattle.cql_text.specs.declared.operator.Operator.{Operator}
-use Rattle.cql_text.specs.declared.operator.Operator.TheVariants as op
 use Rattle.cql_text.specs.declared.tree.Kind.{Kind}
 use Rattle.cql_text.specs.declared.tree.TimeUnit.{TimeUnit}
 use Rattle.cql_text.specs.declared.tree.Window as code_window
@@ -22,6 +22,7 @@ use Rattle.cql_text.specs.declared.tree.CqlProgram as code
 abbrev pub Name : Type 0
 Name = List ℕ
 
+-- a value: a field by its name alone, or by its item's name and its own
 pub data Scalar : Type 0 where
   Number : ℕ → Scalar
   Field : Name → Scalar
@@ -31,13 +32,13 @@ pub data Scalar : Type 0 where
   Bin : Operator → Scalar → Scalar → Scalar
 
 -- how deep a value is; a leaf is 1 deep
-abbrev pub depth_of : Scalar → ℕ
-depth_of (Number n) = 1
-depth_of (Field f) = 1
-depth_of (ItemField a f) = 1
-depth_of (Neg e) = suc (depth_of e)
-depth_of (Not e) = suc (depth_of e)
-depth_of (Bin o l r) = suc (max (depth_of l) (depth_of r))
+abbrev pub scalar_depth : Scalar → ℕ
+scalar_depth (Number n) = 1
+scalar_depth (Field f) = 1
+scalar_depth (ItemField a f) = 1
+scalar_depth (Neg e) = suc (scalar_depth e)
+scalar_depth (Not e) = suc (scalar_depth e)
+scalar_depth (Bin o l r) = suc (max (scalar_depth l) (scalar_depth r))
 
 pub data Window : Type 0 where
   Now : Window
@@ -45,6 +46,7 @@ pub data Window : Type 0 where
   Unbounded : Window
   Latest : ℕ → Window
 
+-- a window on a stream, under a name of its own or the stream's
 pub record Source : Type 0 where
   pub stream : Name
   pub window : Window
@@ -67,34 +69,24 @@ pub record Query : Type 0 where
 
 pub data Part : Type 0 where
   Register : Name → List Name → Part
-  Ask : Query → Part
+  AQuery : Query → Part
+
+abbrev pub Program : Type 0
+Program = List Part
 
 -- WHAT THE CODE'S VALUES STAND FOR
 
 -- one layer of a value, whose parts are trees already
-abbrev pub scalar_at : Scalar-F Scalar → Scalar
-scalar_at (layer.Number n) = Number n.value
-scalar_at (layer.Field f) = Field f
-scalar_at (layer.ItemField a f) = ItemField a f
-scalar_at (layer.Neg x) = Neg x.value
-scalar_at (layer.Not x) = Not x.value
-scalar_at (layer.Mul l r) = Bin op.Mul l.value r.value
-scalar_at (layer.Quot l r) = Bin op.Quot l.value r.value
-scalar_at (layer.Rem l r) = Bin op.Rem l.value r.value
-scalar_at (layer.Add l r) = Bin op.Add l.value r.value
-scalar_at (layer.Sub l r) = Bin op.Sub l.value r.value
-scalar_at (layer.Equal l r) = Bin op.Equal l.value r.value
-scalar_at (layer.Different l r) = Bin op.Different l.value r.value
-scalar_at (layer.NotEqual l r) = Bin op.NotEqual l.value r.value
-scalar_at (layer.Less l r) = Bin op.Less l.value r.value
-scalar_at (layer.LessEqual l r) = Bin op.LessEqual l.value r.value
-scalar_at (layer.Greater l r) = Bin op.Greater l.value r.value
-scalar_at (layer.GreaterEqual l r) = Bin op.GreaterEqual l.value r.value
-scalar_at (layer.And l r) = Bin op.And l.value r.value
-scalar_at (layer.Or l r) = Bin op.Or l.value r.value
+abbrev pub scalar_layer : Scalar-F Scalar → Scalar
+scalar_layer (layer.Number n) = Number n.value
+scalar_layer (layer.Field f) = Field f
+scalar_layer (layer.ItemField a f) = ItemField a f
+scalar_layer (layer.Neg x) = Neg x.value
+scalar_layer (layer.Not x) = Not x.value
+scalar_layer (layer.Bin o l r) = Bin o l.value r.value
 
 abbrev pub scalar : code_scalar.Scalar → Scalar
-scalar e = fold-Scalar Scalar scalar_at e
+scalar e = fold-Scalar Scalar scalar_layer e
 
 abbrev pub window_of : code_window.Window → Window
 window_of window.Now = Now
@@ -105,23 +97,33 @@ window_of (window.Rows n) = Latest n
 abbrev pub source_of : code_source.Source → Source
 source_of i = record { stream = i.stream; window = window_of i.window; alias = i.alias }
 
+abbrev pub sources_of : List code_source.Source → List Source
+sources_of is = map source_of is
+
 abbrev pub column_of : code_column.Column → Column
 column_of c = record { value = scalar c.value; alias = c.alias }
 
+-- columns that are chosen
+abbrev pub chosen_of : List code_column.Column → List Column
+chosen_of cs = map column_of cs
+
 abbrev pub columns_of : code_columns.Columns → Columns
 columns_of columns.Star = Star
-columns_of (columns.Chosen cs) = Chosen (map column_of cs.items)
+columns_of (columns.Chosen cs) = Chosen (chosen_of cs.items)
 
 abbrev pub condition_of : Option code_scalar.Scalar → Option Scalar
 condition_of None = None
 condition_of (Some e) = Some (scalar e)
 
 abbrev pub query_of : code_query.Query → Query
-query_of q = record { name = q.name; kind = q.kind; columns = columns_of q.columns; items = map source_of q.items.items; condition = condition_of q.condition }
+query_of q = record { name = q.name; kind = q.kind; columns = columns_of q.columns; items = sources_of q.items.items; condition = condition_of q.condition }
 
 abbrev pub part_of : code_part.Part → Part
 part_of (part.Register s) = Register s.name s.fields.items
-part_of (part.Ask q) = Ask (query_of q)
+part_of (part.Query q) = AQuery (query_of q)
 
-abbrev pub parts_of : code.CqlProgram → List Part
-parts_of p = map part_of p.parts.items
+abbrev pub parts_of : List code_part.Part → Program
+parts_of ps = map part_of ps
+
+abbrev pub program_of : code.CqlProgram → Program
+program_of p = parts_of p.parts.items

@@ -15,8 +15,8 @@ abbrev pub operator_at : ℕ → List Tok → Option Operator
 operator_at rank ts = first (ranked rank) ts
 
 -- a name, and a field behind a dot
-unfoldable pub named : List ℕ → Parse Scalar
-named text ts =
+unfoldable pub field_after : List ℕ → Parse Scalar
+field_after text ts =
     if is_plain text then (if begins_with s.Dot ts then seen (ItemField text) plain_at (tail ts) else Some (Field text, ts)) else None
 
 -- a number of at most 63 bits
@@ -25,7 +25,7 @@ numeral_at ts = tested is_value number_at ts
 
 abbrev pub leaf_at : Parse Scalar
 leaf_at [] = None
-leaf_at (name text ∷ ts) = named text ts
+leaf_at (name text ∷ ts) = field_after text ts
 leaf_at (var text ∷ ts) = None
 leaf_at (number v ∷ ts) = seen Number numeral_at (number v ∷ ts)
 leaf_at (symbol x ∷ ts) = None
@@ -35,5 +35,5 @@ abbrev pub leaf_in : ℕ → Parse Scalar
 leaf_in n ts = leaf_at ts
 
 -- a value at most 64 deep, where so many more brackets may be open
-unfoldable pub value_at : ℕ → Parse Scalar
-value_at n ts = whole_at syntax leaf_in n ts
+unfoldable pub scalar_at : ℕ → Parse Scalar
+scalar_at n ts = whole_at syntax leaf_in n ts

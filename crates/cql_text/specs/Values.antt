@@ -17,7 +17,7 @@ use Rattle.work_code.specs.declared.sign.Symbol.TheVariants as s
 use Rattle.text_forms.specs.Lines.{Line, Chain, Once, Prefix, Syntax, IsWhole}
 use Rattle.text_forms.specs.Lines as lines
 use Rattle.text_forms.specs.Parse.{begins_with, is_value}
-use Rattle.cql_text.specs.Tree.{Scalar, Number, Field, ItemField, Neg, Not, Bin, depth_of}
+use Rattle.cql_text.specs.Tree.{Scalar, Number, Field, ItemField, Neg, Not, Bin, scalar_depth}
 use Rattle.cql_text.specs.Words.{is_keyword, is_keyword_at, is_plain}
 use Rattle.cql_text.specs.declared.operator.Operator.{Operator}
 use Rattle.cql_text.specs.declared.operator.Operator.TheVariants as op
@@ -85,16 +85,16 @@ negation x = if is_keyword_at (codes "not") (x ∷ []) then Some sign.Not else N
 abbrev pub no_call : Tok → Option Sign
 no_call x = None
 
-abbrev pub marked : Sign → Scalar → Scalar
-marked sign.Minus t = Neg t
-marked sign.Not t = Not t
+abbrev pub signed : Sign → Scalar → Scalar
+signed sign.Minus t = Neg t
+signed sign.Not t = Not t
 
 -- the lines, the tightest first
 abbrev pub seven : List (Line Operator Sign)
 seven = Prefix minus ∷ Chain (ranked 1) ∷ Chain (ranked 2) ∷ Once (ranked 3) ∷ Prefix negation ∷ Chain (ranked 5) ∷ Chain (ranked 6) ∷ []
 
 abbrev pub syntax : Syntax Scalar Operator Sign
-syntax = record { lines = seven; call = no_call; join = λ o a b. Bin o a b; mark = marked; depth = depth_of }
+syntax = record { lines = seven; call = no_call; join = λ o a b. Bin o a b; mark = signed; depth = scalar_depth }
 
 -- the tokens are this leaf, wherever it stands
 pub data IsLeaf : (n : ℕ) (t : Scalar) (ts : List Tok) → Type 0 where
@@ -107,5 +107,5 @@ abbrev pub Spells : (n rank : ℕ) → Scalar → List Tok → Type 0
 Spells n rank t ts = lines.Spells syntax IsLeaf n rank t ts
 
 -- a value, where `n` more brackets may be open: at most 64 deep
-abbrev pub IsValue : ℕ → Scalar → List Tok → Type 0
-IsValue n t ts = IsWhole syntax IsLeaf n t ts
+abbrev pub IsScalar : ℕ → Scalar → List Tok → Type 0
+IsScalar n t ts = IsWhole syntax IsLeaf n t ts

@@ -4,7 +4,7 @@ ghost use Rattle.work_code.specs.Cut.{unit_tokens, units_of};
 ghost use Rattle.work_code.specs.Tok.{toks};
 ghost use Rattle.cql_text.specs.Faults.{StandFor, Refuses, GivesParts};
 ghost use Rattle.cql_text.specs.Reading.{parts_in};
-ghost use Rattle.cql_text.specs.Tree.{parts_of};
+ghost use Rattle.cql_text.specs.Tree.{program_of};
 
 use crate::unit::whole_part;
 use crate::{CqlProgram, CqlTextFault, Part};
@@ -21,7 +21,7 @@ use work_code::{Lexeme, Tokens, units};
 #[tactic(auto, using(crate::proofs::Texts::programs))]
 pub fn read_cql(alloc: Global, tokens: &Tokens<'_>) -> Result<CqlProgram, CqlTextFault>
     requires { length (units_of (toks tokens.now)) < 2 ^ 32 }
-    ensures read { IfOk result (λ program. StandFor tokens.now (parts_of program)) }
+    ensures read { IfOk result (λ program. StandFor tokens.now (program_of program)) }
     ensures refused { IfErr result (Refuses tokens.now) }
 {
     let units = units(alloc, tokens)?;

@@ -1,6 +1,7 @@
 // Programs of CQL as they are written: a type for each line of the grammar.
 ghost use Rattle.std.specs.Prelude.{◌≤◌};
 
+use crate::Operator;
 use river_base::Name;
 
 /// A program: its units, in order.
@@ -15,7 +16,7 @@ pub enum Part {
     /// `Register Stream NAME (NAME, ..);`
     Register(Stream),
     /// `Query NAME : Select kind (cols) From item, .. [Where cor];`
-    Ask(Query),
+    Query(Query),
 }
 
 /// A registered stream and its fields, of which there is at least one.
@@ -99,7 +100,7 @@ pub struct Numeral {
     ghost fits: { value ≤ 9223372036854775807 },
 }
 
-/// A value: the lines `cor` to `cun` of the grammar, with a variant for each operator and each leaf.
+/// A value: the lines `cor` to `cun` of the grammar, with a variant for each leaf and one for all operators.
 #[derive(Drop)]
 pub enum Scalar {
     /// NUMBER
@@ -112,32 +113,10 @@ pub enum Scalar {
     Neg(Box<Scalar>),
     /// `Not`
     Not(Box<Scalar>),
-    /// `*`
-    Mul(Box<Scalar>, Box<Scalar>),
-    /// `/`
-    Quot(Box<Scalar>, Box<Scalar>),
-    /// `%`
-    Rem(Box<Scalar>, Box<Scalar>),
-    /// `+`
-    Add(Box<Scalar>, Box<Scalar>),
-    /// `-` between two values
-    Sub(Box<Scalar>, Box<Scalar>),
-    /// `=`
-    Equal(Box<Scalar>, Box<Scalar>),
-    /// `<>`
-    Different(Box<Scalar>, Box<Scalar>),
-    /// `!=`
-    NotEqual(Box<Scalar>, Box<Scalar>),
-    /// `<`
-    Less(Box<Scalar>, Box<Scalar>),
-    /// `<=`
-    LessEqual(Box<Scalar>, Box<Scalar>),
-    /// `>`
-    Greater(Box<Scalar>, Box<Scalar>),
-    /// `>=`
-    GreaterEqual(Box<Scalar>, Box<Scalar>),
-    /// `And`
-    And(Box<Scalar>, Box<Scalar>),
-    /// `Or`
-    Or(Box<Scalar>, Box<Scalar>),
+    /// Two values and the operator between them.
+    Bin {
+        op: Operator,
+        left: Box<Scalar>,
+        right: Box<Scalar>,
+    },
 }

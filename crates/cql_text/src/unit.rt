@@ -4,10 +4,10 @@ ghost use Rattle.work_code.specs.Tok.{tokens_of};
 ghost use Rattle.text_forms.specs.Gives.{Gives};
 ghost use Rattle.text_forms.specs.Texts.{whole};
 ghost use Rattle.cql_text.specs.Faults.{Makes};
-ghost use Rattle.cql_text.specs.Grammar.{kind_of};
+ghost use Rattle.cql_text.specs.Grammar.{kind_named};
 ghost use Rattle.cql_text.specs.Reading.{kind_at, where_at, behind_at, selected_at, query_at, names_at, fields_at, stream_at, part_at};
 ghost use Rattle.cql_text.specs.Tree.{condition_of, part_of};
-ghost use Rattle.cql_text.specs.View.{behind_of, selected_of, ask_of, register_of};
+ghost use Rattle.cql_text.specs.View.{behind_of, selected_of, query_unit, stream_unit};
 
 use crate::column::in_round;
 use crate::keywords::{is_at_keyword, is_keyword, keyword, plain_name, takes_keyword};
@@ -21,7 +21,7 @@ use work_code::{Lexeme, Symbol};
 
 // The kind of this word.
 fn kind_of(text: &[u8]) -> Option<Kind>
-    ensures { result ≡ kind_of text.now }
+    ensures { result ≡ kind_named text.now }
 {
     if is_keyword(text, b"istream") {
         Some(Kind::Istream)
@@ -100,7 +100,7 @@ fn after_select(reader: &mut Reader<'_>, alloc: Global) -> Result<Selected, Faul
 // A query.
 #[tactic(auto, unfolding(crate::specs::Reading::query_at))]
 fn query(reader: &mut Reader<'_>, alloc: Global) -> Result<Query, Fault>
-    ensures { Gives ask_of result reader.new (query_at reader.old) }
+    ensures { Gives query_unit result reader.new (query_at reader.old) }
 {
     keyword(reader, b"query")?;
     let name = plain_name(reader)?;
@@ -143,7 +143,7 @@ fn fields(reader: &mut Reader<'_>, alloc: Global) -> Result<Vec<Name>, Fault>
 // A stream that is registered.
 #[tactic(auto, unfolding(crate::specs::Reading::stream_at))]
 fn stream(reader: &mut Reader<'_>, alloc: Global) -> Result<Stream, Fault>
-    ensures { Gives register_of result reader.new (stream_at reader.old) }
+    ensures { Gives stream_unit result reader.new (stream_at reader.old) }
 {
     keyword(reader, b"register")?;
     keyword(reader, b"stream")?;
@@ -160,7 +160,7 @@ fn part(reader: &mut Reader<'_>, alloc: Global) -> Result<Part, Fault>
     if is_at_keyword(reader, b"register") {
         Ok(Part::Register(stream(reader, alloc)?))
     } else {
-        Ok(Part::Ask(query(reader, alloc)?))
+        Ok(Part::Query(query(reader, alloc)?))
     }
 }
 

@@ -1,13 +1,12 @@
 // Values read.
 ghost use Rattle.std.specs.Prelude.{◌≡◌, IfOk};
 ghost use Rattle.text_forms.specs.Gives.{Gives};
-ghost use Rattle.cql_text.specs.Tree.{scalar, depth_of};
-ghost use Rattle.cql_text.specs.Tree as tree;
-ghost use Rattle.cql_text.specs.ValueReading.{numeral_at, named, leaf_at, value_at};
+ghost use Rattle.cql_text.specs.Tree.{scalar, scalar_depth};
+ghost use Rattle.cql_text.specs.ValueReading.{numeral_at, field_after, leaf_at, scalar_at};
 
 use crate::keywords::{plain, plain_name, takes_keyword};
-use crate::operator::{Operator, Sign, take_operator};
-use crate::{Numeral, Scalar};
+use crate::operator::{Sign, take_operator};
+use crate::{Numeral, Operator, Scalar};
 use river_base::NoMemory;
 use std::alloc::Global;
 use text_forms::{Dialect, Fault, Form, Reader, TokenSource, read};
@@ -27,10 +26,10 @@ pub fn numeral(reader: &mut Reader<'_>) -> Result<Numeral, Fault>
 }
 
 // A field that begins with this name.
-#[tactic(auto, unfolding(crate::specs::ValueReading::named))]
+#[tactic(auto, unfolding(crate::specs::ValueReading::field_after))]
 fn named(reader: &mut Reader<'_>, text: &[u8]) -> Result<Scalar, Fault>
-    ensures reads { Gives scalar result reader.new (named text.now reader.old) }
-    ensures depth { IfOk result (λ value. depth_of (scalar value) ≡ 1) }
+    ensures reads { Gives scalar result reader.new (field_after text.now reader.old) }
+    ensures depth { IfOk result (λ value. scalar_depth (scalar value) ≡ 1) }
 {
     let Some(first) = plain(text) else {
         return Err(Fault::Syntax);
@@ -45,7 +44,7 @@ fn named(reader: &mut Reader<'_>, text: &[u8]) -> Result<Scalar, Fault>
 // A number or a field.
 fn leaf(reader: &mut Reader<'_>) -> Result<Scalar, Fault>
     ensures reads { Gives scalar result reader.new (leaf_at reader.old) }
-    ensures depth { IfOk result (λ value. depth_of (scalar value) ≡ 1) }
+    ensures depth { IfOk result (λ value. scalar_depth (scalar value) ≡ 1) }
 {
     match reader.peek() {
         Some(Token::Number(_)) => Ok(Scalar::Number(numeral(reader)?)),
@@ -54,28 +53,6 @@ fn leaf(reader: &mut Reader<'_>) -> Result<Scalar, Fault>
             named(reader, text)
         }
         _ => Err(Fault::Syntax),
-    }
-}
-
-// Two values with an operator between them.
-fn between(op: Operator, left: Box<Scalar>, right: Box<Scalar>) -> Scalar
-    ensures { scalar result ≡ tree.Bin op (scalar left.value) (scalar right.value) }
-{
-    match op {
-        Operator::Mul => Scalar::Mul(left, right),
-        Operator::Quot => Scalar::Quot(left, right),
-        Operator::Rem => Scalar::Rem(left, right),
-        Operator::Add => Scalar::Add(left, right),
-        Operator::Sub => Scalar::Sub(left, right),
-        Operator::Equal => Scalar::Equal(left, right),
-        Operator::Different => Scalar::Different(left, right),
-        Operator::NotEqual => Scalar::NotEqual(left, right),
-        Operator::Less => Scalar::Less(left, right),
-        Operator::LessEqual => Scalar::LessEqual(left, right),
-        Operator::Greater => Scalar::Greater(left, right),
-        Operator::GreaterEqual => Scalar::GreaterEqual(left, right),
-        Operator::And => Scalar::And(left, right),
-        Operator::Or => Scalar::Or(left, right),
     }
 }
 
@@ -170,14 +147,14 @@ impl<'a> Dialect<Reader<'a>> for Values {
     {
         let left = Box::new(alloc, left)?;
         let right = Box::new(alloc, right)?;
-        Ok(between(op, left, right))
+        Ok(Scalar::Bin { op, left, right })
     }
 }
 
 /// A value, at most 64 deep, where `brackets` more brackets may be open.
-#[tactic(auto, unfolding(crate::specs::ValueReading::value_at))]
+#[tactic(auto, unfolding(crate::specs::ValueReading::scalar_at))]
 pub fn value(reader: &mut Reader<'_>, alloc: Global, brackets: u32) -> Result<Scalar, Fault>
-    ensures { Gives scalar result reader.new (value_at brackets reader.old) }
+    ensures { Gives scalar result reader.new (scalar_at brackets reader.old) }
 {
     read(&Values, reader, alloc, brackets)
 }

@@ -1,7 +1,7 @@
 // Windows and From items read.
 ghost use Rattle.std.specs.Prelude.{◌≡◌, map};
 ghost use Rattle.text_forms.specs.Gives.{Gives};
-ghost use Rattle.cql_text.specs.Grammar.{time_of};
+ghost use Rattle.cql_text.specs.Grammar.{time_named};
 ghost use Rattle.cql_text.specs.Reading.{is_time_at, time_at, span_at, range_at, rows_at, window_after, window_at, in_brackets_at, alias_at, called_at, source_at, sources_at};
 ghost use Rattle.cql_text.specs.Tree.{window_of, source_of};
 
@@ -15,7 +15,7 @@ use work_code::{Symbol, Token};
 
 // The unit of time of this word.
 fn unit_of(text: &[u8]) -> Option<TimeUnit>
-    ensures { result ≡ time_of text.now }
+    ensures { result ≡ time_named text.now }
 {
     if is_keyword(text, b"second") {
         Some(TimeUnit::Second)

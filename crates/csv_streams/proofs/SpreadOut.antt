@@ -17,7 +17,7 @@ use Rattle.csv_streams.specs.Timed.{Entry}
 use Rattle.csv_streams.specs.TimedWritten.{WriteTimed}
 use Rattle.csv_streams.proofs.TimedWritten.{timed_are_written}
 
--- each instant has a batch
+-- the law: there is a batch at each instant
 pub each_has_a_batch : EachInstantHasABatch
 each_has_a_batch [] file = refl
 each_has_a_batch (t ∷ ts) file = ap (λ l. t ∷ l) (each_has_a_batch ts file)
@@ -129,7 +129,7 @@ none_lost w t (fields ∷ recs) (e ∷ es) ts all up has =
     first_in ts e es up (has e.0 (0, omega arith, refl)) (all_from w e.0 recs es all.1)
     ∙ ap (λ l. e ∷ l) (none_lost w e.0 recs es ts all.1 up (λ x h. let lt = h.1 in has x (suc h.0, omega (arith, lt), h.2)))
 
--- no row is lost
+-- the law: no row is lost, and none is added
 pub no_row_is_lost : NoRowIsLost
 no_row_is_lost bytes w skip file ts read up has =
     none_lost w (pos 0) (drop (headers skip) (csv_records bytes)) file ts ((timed_are_written bytes w skip file).0 read).written up has

@@ -12,10 +12,9 @@ use Rattle.std.proofs.lemmas.List.{get_or_read}
 use Rattle.std.proofs.lemmas.List.Elements.{filter_agree}
 use Rattle.std.proofs.lemmas.List.Sorted.{ranks_by, sorted_far}
 use Rattle.river_base.specs.Instants.{at_instant}
-use Rattle.csv_streams.specs.SpreadOut.{IsFirst, IsEnd}
+use Rattle.csv_streams.specs.SpreadOut.{IsFirstItem, IsEnd}
 use Rattle.csv_streams.specs.Timed.{Entry}
 
--- the timestamp of an entry
 abbrev pub stamp : Entry → ℤ
 stamp e = e.0
 
@@ -44,7 +43,7 @@ module _ {X : Type 0} (p : X → Bool) where
   none_passes [] is = refl
   none_passes (x ∷ xs) is = past x xs (first false x xs (length (x ∷ xs)) (omega arith) is) ∙ none_passes xs (from_nought false x xs (length xs) is)
 
-  -- what passes stands between two places
+  -- of a sorted list those between two places pass
   pub passes_between : (xs : List X) (n m : ℕ) → n ≤ m → m ≤ length xs → Is false xs 0 n → Is true xs n m → Is false xs m (length xs)
       → filter p xs ≡ take (m - n) (drop n xs)
   passes_between [] zero zero h g low mid high = refl
@@ -73,12 +72,12 @@ up_to t u v h g = grind (arith, h, g)
 ranked : IsStrictWeakOrder (λ (x y : Entry). is_lt (int_cmp (stamp x) (stamp y)))
 ranked = ranks_by int_cmp_total stamp
 
--- rows before an instant stand in front
+-- the rows below an instant stand in front
 pub below_in_front : (rows : List Entry) (t : ℤ) → IsSortedByKey stamp int_cmp rows → IsPartitionedBy (λ e. int_lt (stamp e) t) rows
 below_in_front rows t up i j d h g is =
     in_front t (get_or rows i d).0 (get_or rows j d).0 (sorted_far (λ x y. is_lt (int_cmp (stamp x) (stamp y))) ranked rows up i j d h g) is
 
--- rows up to an instant stand in front
+-- and so do those up to it
 pub up_to_in_front : (rows : List Entry) (t : ℤ) → IsSortedByKey stamp int_cmp rows → IsPartitionedBy (λ e. int_le (stamp e) t) rows
 up_to_in_front rows t up i j d h g is =
     up_to t (get_or rows i d).0 (get_or rows j d).0 (sorted_far (λ x y. is_lt (int_cmp (stamp x) (stamp y))) ranked rows up i j d h g) is
@@ -96,13 +95,13 @@ pub read_there : (p : Entry → Bool) (b : Bool) (rows : List Entry) (n : ℕ) (
     → p (get_or rows n d) ≡ b
 read_there p b rows n e d lt is h = subst (λ x. p x ≡ b) (get_or_read rows n e lt is d) h
 
--- what passes ends at this place
+-- the first place at which the test fails is behind all that pass it
 pub ends_there : (p : Entry → Bool) (rows : List Entry) (n : ℕ) → IsPartitionedBy p rows
     → ((k : ℕ) (d : Entry) → k < n → p (get_or rows k d) ≡ true) → ((d : Entry) → n < length rows → p (get_or rows n d) ≡ false)
     → IsPartitionPoint (λ e. p e ≡ true) (λ e. p e ≡ false) rows n
 ends_there p rows n parted front turns = (λ k d low high. front k d high, no_more p rows n parted turns)
 
--- what passes ends where it turns
+-- and where one is found, it is that place
 pub turns_there : (p : Entry → Bool) (rows : List Entry) (n : ℕ) → n ≤ length rows → IsPartitionedBy p rows
     → ((d : Entry) → 0 < n → p (get_or rows (n - 1) d) ≡ true) → ((d : Entry) → n < length rows → p (get_or rows n d) ≡ false)
     → IsPartitionPoint (λ e. p e ≡ true) (λ e. p e ≡ false) rows n
@@ -116,7 +115,7 @@ some_entry : (rows : List Entry) → 0 < length rows → Entry
 some_entry [] h = absurd (omega (arith, h))
 some_entry (e ∷ es) h = e
 
-pub first_to_end : (rows : List Entry) (t : ℤ) (n m : ℕ) → n ≤ length rows → IsFirst rows t n → IsEnd rows t m → n ≤ m
+pub first_to_end : (rows : List Entry) (t : ℤ) (n m : ℕ) → n ≤ length rows → IsFirstItem rows t n → IsEnd rows t m → n ≤ m
 first_to_end rows t n m h first end = step (nat_lt m n) refl where
   step : (b : Bool) → nat_lt m n ≡ b → n ≤ m
   step false e = grind (arith, nat_tests, e)
@@ -134,8 +133,8 @@ differs_above t u h = grind (arith, h)
 is_same : (t u : ℤ) → int_lt u t ≡ false → int_le u t ≡ true → int_eq u t ≡ true
 is_same t u h g = grind (arith, h, g)
 
--- the rows of an instant stand between two places
-pub rows_between : (rows : List Entry) (t : ℤ) (n m : ℕ) → n ≤ m → m ≤ length rows → IsFirst rows t n → IsEnd rows t m
+-- the rows of an instant stand between its first place and its end
+pub rows_between : (rows : List Entry) (t : ℤ) (n m : ℕ) → n ≤ m → m ≤ length rows → IsFirstItem rows t n → IsEnd rows t m
     → at_instant rows t ≡ map (λ e. e.1) (take (m - n) (drop n rows))
 rows_between rows t n m h g first end =
     ap (λ l. map (λ (e : Entry). e.1) l) (passes_between (λ e. int_eq (stamp e) t) rows n m h g
@@ -147,7 +146,7 @@ rows_between rows t n m h g first end =
 tied : (t u : ℤ) → int_eq u t ≡ (not (is_lt (int_cmp t u)) && not (is_lt (int_cmp u t)))
 tied t u = grind arith
 
--- sorting keeps the rows of an instant in their order
+-- sorting by instants leaves the rows of each instant as they stood
 pub same_at : (rows sorted : List Entry) → IsStableByKey stamp int_cmp rows sorted → (t : ℤ) → at_instant sorted t ≡ at_instant rows t
 same_at rows sorted stable t =
     let like : Entry = (t, []) in

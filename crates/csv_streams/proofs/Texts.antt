@@ -3,14 +3,14 @@ use Rattle.std.proofs.Common.{◌≡◌, ℤ, List, [], ◌∷◌, ◌++◌, ref
 use Rattle.std.proofs.lemmas.List.{append-nil}
 use Rattle.river_base.specs.declared.item.Item as item
 use Rattle.kern_rows.specs.Even.{row_items}
-use Rattle.csv_streams.specs.Outcome.{lines, item_text, row_line}
+use Rattle.csv_streams.specs.Outcome.{texts_of, item_text, row_line}
 
 pub ruleset joins = (append_assoc)
 
 -- rows as items, and further items
-pub lines-parts : (rows : List (List ℤ)) (is : List item.Item) → lines item_text (row_items rows ++ is) ≡ lines row_line rows ++ lines item_text is
+pub lines-parts : (rows : List (List ℤ)) (is : List item.Item) → texts_of item_text (row_items rows ++ is) ≡ texts_of row_line rows ++ texts_of item_text is
 lines-parts [] is = refl
 lines-parts (r ∷ rs) is =
-    ap (λ t. t ++ lines item_text (row_items rs ++ is)) (append-nil (row_line r))
+    ap (λ t. t ++ texts_of item_text (row_items rs ++ is)) (append-nil (row_line r))
     ∙ ap (λ t. row_line r ++ t) (lines-parts rs is)
-    ∙ sym (append_assoc (row_line r) (lines row_line rs) (lines item_text is))
+    ∙ sym (append_assoc (row_line r) (texts_of row_line rs) (texts_of item_text is))

@@ -3,15 +3,14 @@ use Rattle.std.proofs.Common.{◌≡◌, ℕ, zero, suc, ◌+◌, ◌≤◌, ℤ
 use Rattle.std.proofs.Common.{arith, length-append, int_lt}
 use Rattle.std.specs.Prelude.{Result, Ok, Err}
 use Rattle.std.proofs.lemmas.List.{drop-append-le, drop_all, length-drop}
-use Rattle.csv_streams.specs.Numbered.{before}
+use Rattle.csv_streams.specs.Numbered.{before_later}
 use Rattle.csv_streams.specs.Rows.{row_in, headers, most_rows}
-use Rattle.csv_streams.specs.Timed.{Entry, stamp_after, if_in_time, stamped, timed_in, and_later, timed_from, timed_rows_in}
+use Rattle.csv_streams.specs.Timed.{Entry, stamp_after, if_in_time, with_stamp, timed_in, and_later, timed_from, timed_rows_in}
 use Rattle.csv_streams.specs.declared.fault.InFault.{InFault}
 use Rattle.csv_streams.specs.declared.fault.InFault.TheVariants as fault
 use Rattle.csv_streams.proofs.Numbered.{first_and_later}
 use Rattle.csv_streams.proofs.RowsIn.{row_within}
 
--- the rows of a file with their timestamps
 abbrev pub all_told : List Entry → Result (List Entry) InFault
 all_told es = Ok es
 
@@ -46,7 +45,7 @@ from-push w last t n k (f ∷ recs) fields es e so_far at is =
     let (y, ys, first, later, parts) = first_then (timed_in w last t n f) (λ z. timed_from w last z.0 (n + 1) recs) es so_far in
     let next : timed_in w last (stamp_after y.0 ys) k fields ≡ Ok e = ap (λ (l : List Entry). timed_in w last (stamp_after t l) k fields) (sym parts) ∙ is in
     ap (λ (r : Result Entry InFault). and_later r (λ z. timed_from w last z.0 (n + 1) (recs ++ fields ∷ []))) first
-    ∙ ap (λ (r : Result (List Entry) InFault). before (Ok y) r) (from-push w last y.0 (n + 1) k recs fields ys e later (omega (arith, at)) next)
+    ∙ ap (λ (r : Result (List Entry) InFault). before_later (Ok y) r) (from-push w last y.0 (n + 1) k recs fields ys e later (omega (arith, at)) next)
     ∙ ap (λ (l : List Entry). all_told (l ++ e ∷ [])) (sym parts)
 
 -- the first fault, whatever follows
@@ -63,7 +62,7 @@ from-fault w last t n k (g ∷ recs) fields others es f so_far at is =
     let (y, ys, first, later, parts) = first_then (timed_in w last t n g) (λ z. timed_from w last z.0 (n + 1) recs) es so_far in
     let next : timed_in w last (stamp_after y.0 ys) k fields ≡ Err f = ap (λ (l : List Entry). timed_in w last (stamp_after t l) k fields) (sym parts) ∙ is in
     ap (λ (r : Result Entry InFault). and_later r (λ z. timed_from w last z.0 (n + 1) (recs ++ fields ∷ others))) first
-    ∙ ap (λ (r : Result (List Entry) InFault). before (Ok y) r) (from-fault w last y.0 (n + 1) k recs fields others ys f later (omega (arith, at)) next)
+    ∙ ap (λ (r : Result (List Entry) InFault). before_later (Ok y) r) (from-fault w last y.0 (n + 1) k recs fields others ys f later (omega (arith, at)) next)
 
 -- the timed rows of the records without the first h
 abbrev behind : ℕ → ℕ → List (List (List ℕ)) → Result (List Entry) InFault
@@ -118,8 +117,8 @@ in_time_ok rec t at true c e d p q h = cc
 in_time_ok rec t at false true e d p q h = cc
 in_time_ok rec t at false false e d p q h = let same : e ≡ d = cc in (same, p, q)
 
--- a record with its timestamp
-pub stamped_ok : (rec : ℕ) (t : ℤ) (r : Result (List ℤ) InFault) (e : Entry) → stamped rec t r ≡ Ok e
+-- a timed row has these values, and its time is right
+pub stamped_ok : (rec : ℕ) (t : ℤ) (r : Result (List ℤ) InFault) (e : Entry) → with_stamp rec t r ≡ Ok e
     → (r ≡ Ok (e.0 ∷ e.1)) × (int_lt e.0 (pos 0) ≡ false) × (int_lt e.0 t ≡ false)
 stamped_ok rec t (Err f) e h = cc
 stamped_ok rec t (Ok []) e h = cc

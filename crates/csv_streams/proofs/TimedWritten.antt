@@ -4,10 +4,10 @@ use Rattle.std.proofs.Common.{cond, refl, sym, ◌∙◌, ap, subst, arith}
 use Rattle.std.specs.Prelude.{None, Some, Result, Ok, Err}
 use Rattle.std.proofs.lemmas.List.Elements.{All-nil, All-cons}
 use Rattle.river_base.specs.Held.{HaveWidth}
-use Rattle.csv_streams.specs.Numbered.{before}
+use Rattle.csv_streams.specs.Numbered.{before_later}
 use Rattle.csv_streams.specs.Records.{csv_records}
 use Rattle.csv_streams.specs.Rows.{row_in, headers, most_rows}
-use Rattle.csv_streams.specs.Timed.{Entry, stamp_after, if_in_time, stamped, timed_in, and_later, timed_from, timed_of}
+use Rattle.csv_streams.specs.Timed.{Entry, stamp_after, if_in_time, with_stamp, timed_in, and_later, timed_from, timed_of}
 use Rattle.csv_streams.specs.TimedWritten.{WritesTimed, WriteTimed, FileWritesTimed, IsTimedFaultOf, ReadTimedAreWritten, TimedFaultsAre, ReadTimedHaveWidth}
 use Rattle.csv_streams.specs.Faults.{IsStampedBelow, HasFault, rank, IsFirstFault}
 use Rattle.csv_streams.specs.Written.{AllWrite}
@@ -44,7 +44,7 @@ timed_read w last t rec fields e h =
 timed_written : (w last : ℕ) (t : ℤ) (rec : ℕ) (fields : List (List ℕ)) (e : Entry) → rec ≤ last → WritesTimed w t fields e
     → timed_in w last t rec fields ≡ Ok e
 timed_written w last t rec fields e le writes =
-    ap (stamped rec t) (row_written (w + 1) false last rec fields (e.0 ∷ e.1) le writes.written)
+    ap (with_stamp rec t) (row_written (w + 1) false last rec fields (e.0 ∷ e.1) le writes.written)
     ∙ ap (λ (b : Bool). if_in_time e (cond b (Err (fault.NegativeTime rec)) (cond (int_lt e.0 t) (Err (fault.Backwards rec)) (Ok tt)))) (below_not (pos 0) e.0 writes.from_nought)
     ∙ ap (λ (b : Bool). if_in_time e (cond b (Err (fault.Backwards rec)) (Ok tt))) (below_not t e.0 writes.in_turn)
 
@@ -65,7 +65,7 @@ all_written w last t k [] (e ∷ es) all few = absurd all
 all_written w last t k (fields ∷ recs) [] all few = absurd all
 all_written w last t k (fields ∷ recs) (e ∷ es) all few =
     ap (λ (r : Result Entry InFault). and_later r (λ y. timed_from w last y.0 (k + 1) recs)) (timed_written w last t k fields e (omega (arith, few)) all.0)
-    ∙ ap (λ (r : Result (List Entry) InFault). before (Ok e) r) (all_written w last e.0 (k + 1) recs es all.1 (omega (arith, few)))
+    ∙ ap (λ (r : Result (List Entry) InFault). before_later (Ok e) r) (all_written w last e.0 (k + 1) recs es all.1 (omega (arith, few)))
 
 read-written : (bytes : List ℕ) (w : ℕ) (skip : Bool) (es : List Entry) → timed_of bytes w skip ≡ Ok es → FileWritesTimed bytes w skip es
 read-written bytes w skip es h =
@@ -78,7 +78,7 @@ written-read bytes w skip es writes =
     let few = writes.few in
     all_written w (headers skip + most_rows) (pos 0) (headers skip + 1) (drop (headers skip) (csv_records bytes)) es writes.written (omega (arith, few))
 
--- rows that are read are those that the file writes
+-- the law: timed rows that are read are written
 pub timed_are_written : ReadTimedAreWritten
 timed_are_written bytes w skip es = (read-written bytes w skip es, written-read bytes w skip es)
 
@@ -90,7 +90,7 @@ widths w t (fields ∷ recs) (e ∷ es) all =
     let long = row-width (w + 1) false fields (e.0 ∷ e.1) all.0.written in
     All-cons (λ r. length r ≡ w) e.1 (map (λ (d : Entry). d.1) es) (omega (arith, long)) (widths w e.0 recs es all.1)
 
--- and have the width
+-- the law: they have the width that was asked for
 pub timed_have_width : ReadTimedHaveWidth
 timed_have_width bytes w skip es h = widths w (pos 0) (drop (headers skip) (csv_records bytes)) es (read-written bytes w skip es h).written
 
@@ -227,9 +227,9 @@ module _ (w last : ℕ) (t : ℤ) (rec : ℕ) (fields : List (List ℕ)) where
   timed_told : (f : InFault) → timed_in w last t rec fields ≡ Err f → Told f
   timed_told f e = step (row_in (w + 1) false last rec fields) refl where
     step : (r : Result (List ℤ) InFault) → row_in (w + 1) false last rec fields ≡ r → Told f
-    step (Err g) is = subst Told (same_fault g f (sym (ap (stamped rec t) is) ∙ e)) (told_plain g (row_told (w + 1) false last rec fields g is))
+    step (Err g) is = subst Told (same_fault g f (sym (ap (with_stamp rec t) is) ∙ e)) (told_plain g (row_told (w + 1) false last rec fields g is))
     step (Ok []) is = absurd (some_value is)
-    step (Ok (at ∷ row)) is = in_time_told at row is (int_lt at (pos 0)) (int_lt at t) refl refl f (sym (ap (stamped rec t) is) ∙ e)
+    step (Ok (at ∷ row)) is = in_time_told at row is (int_lt at (pos 0)) (int_lt at t) refl refl f (sym (ap (with_stamp rec t) is) ∙ e)
 
   of_time : (f : InFault) → Told f → 2 < rank f → rank f < 5 → timed_in w last t rec fields ≡ Err f
   of_time f p l m = step (row_in (w + 1) false last rec fields) refl where
@@ -239,10 +239,10 @@ module _ (w last : ℕ) (t : ℤ) (rec : ℕ) (fields : List (List ℕ)) where
         let low = has.1 in
         absurd (p.first g (omega (arith, low, l)) has.0)
     step (Ok []) is = absurd (some_value is)
-    step (Ok (at ∷ row)) is = ap (stamped rec t) is ∙ fault_in_time at row is f p l m
+    step (Ok (at ∷ row)) is = ap (with_stamp rec t) is ∙ fault_in_time at row is f p l m
 
   of_fields : (f : InFault) → rank f < 3 → Told f → timed_in w last t rec fields ≡ Err f
-  of_fields f low p = ap (stamped rec t) (fault_row (w + 1) false last rec fields f (plain_told f low p))
+  of_fields f low p = ap (with_stamp rec t) (fault_row (w + 1) false last rec fields f (plain_told f low p))
 
   fault_timed : (f : InFault) → Told f → timed_in w last t rec fields ≡ Err f
   fault_timed fault.TooMany p = of_fields fault.TooMany (omega arith) p
@@ -267,7 +267,7 @@ record FirstTimed (w last : ℕ) (t : ℤ) (n : ℕ) (recs : List (List (List �
 first_timed : (w last : ℕ) (t : ℤ) (n : ℕ) (recs : List (List (List ℕ))) (f : InFault) → timed_from w last t n recs ≡ Err f → FirstTimed w last t n recs f
 first_timed w last t n [] f e = cc e
 first_timed w last t n (fields ∷ recs) f e = step (timed_in w last t n fields) refl (λ y. first_timed w last y.0 (n + 1) recs f) where
-  later_fault : (y : Entry) (r : Result (List Entry) InFault) → before (Ok y) r ≡ Err f → r ≡ Err f
+  later_fault : (y : Entry) (r : Result (List Entry) InFault) → before_later (Ok y) r ≡ Err f → r ≡ Err f
   later_fault y (Ok ys) h = cc h
   later_fault y (Err g) h = let same : g ≡ f = cc h in ap (λ k. Err k) same
 
@@ -290,7 +290,7 @@ first_timed w last t n (fields ∷ recs) f e = step (timed_in w last t n fields)
         given = y ∷ m.given;
         parts = ap (λ l. fields ∷ l) m.parts;
         good = ap (λ (r : Result Entry InFault). and_later r (λ z. timed_from w last z.0 (n + 1) m.front)) is
-            ∙ ap (λ (r : Result (List Entry) InFault). before (Ok y) r) m.good;
+            ∙ ap (λ (r : Result (List Entry) InFault). before_later (Ok y) r) m.good;
         bad = ap (λ k. timed_in w last (stamp_after y.0 m.given) k m.here) at ∙ m.bad;
       }
 
@@ -319,6 +319,6 @@ told_fault bytes w skip f h =
     (all_written w last (pos 0) (headers skip + 1) h.read h.rows h.written (omega (arith, few))) refl
     (fault_timed w last (stamp_after (pos 0) h.rows) (headers skip + 1 + length h.read) h.fields f h.faulty)
 
--- files of timed rows are refused for their first fault
+-- the law of the faults of timed files
 pub timed_faults_are : TimedFaultsAre
 timed_faults_are bytes w skip f = (fault_told bytes w skip f, told_fault bytes w skip f)

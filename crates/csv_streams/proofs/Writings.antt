@@ -5,7 +5,7 @@ use Rattle.std.specs.Prelude.{ℤ, pos, neg_ℤ, Option, None, Some, option_and_
 use Rattle.std.specs.List.{list_all}
 use Rattle.std.proofs.lemmas.Bool.Decides.{nat_tests}
 use Rattle.river_base.specs.Name.{is_digit}
-use Rattle.csv_streams.specs.Number.{is_space, after_spaces, digits_of, after_digits, is_nothing, value_after, whole, positive, negative, signed, number_of}
+use Rattle.csv_streams.specs.Number.{is_space, after_spaces, digits_of, after_digits, is_nothing, value_after, whole_number, positive, negative, signed, number_in}
 use Rattle.csv_streams.specs.Writing.{AllSpaces, AllDigits, IsSigned, Writes}
 
 -- tests of a byte
@@ -93,7 +93,7 @@ whole-by text n true is e =
     }
 whole-by text n false is e = cc
 
-whole-is : (text : List ℕ) (n : ℕ) → whole text ≡ Some n → IsWhole text n
+whole-is : (text : List ℕ) (n : ℕ) → whole_number text ≡ Some n → IsWhole text n
 whole-is text n e = whole-by text n (not (is_nothing (digits_of text)) && list_all is_space (after_digits text)) refl e
 
 -- a sign
@@ -118,31 +118,31 @@ record IsNumber (text : List ℕ) (z : ℤ) : Type 0 where
   number : IsWhole rest n
   value : IsSigned sign n z
 
-minus_is : (cs : List ℕ) (z : ℤ) → option_and_then negative (whole cs) ≡ Some z → IsNumber (45 ∷ cs) z
+minus_is : (cs : List ℕ) (z : ℤ) → option_and_then negative (whole_number cs) ≡ Some z → IsNumber (45 ∷ cs) z
 minus_is cs z e =
-    let (n, is, got) = then_is negative (whole cs) z e in
+    let (n, is, got) = then_is negative (whole_number cs) z e in
     record { sign = 45 ∷ []; rest = cs; n = n; parts = refl; number = whole-is cs n is; value = inl (let p = negative-by n z (nat_le n (2 ^ 63)) refl got in (refl, p.0, p.1)) }
 
-plus_is : (cs : List ℕ) (z : ℤ) → option_and_then positive (whole cs) ≡ Some z → IsNumber (43 ∷ cs) z
+plus_is : (cs : List ℕ) (z : ℤ) → option_and_then positive (whole_number cs) ≡ Some z → IsNumber (43 ∷ cs) z
 plus_is cs z e =
-    let (n, is, got) = then_is positive (whole cs) z e in
+    let (n, is, got) = then_is positive (whole_number cs) z e in
     record { sign = 43 ∷ []; rest = cs; n = n; parts = refl; number = whole-is cs n is; value = inr (let p = positive-by n z (nat_lt n (2 ^ 63)) refl got in (inr refl, p.0, p.1)) }
 
-bare_is : (text : List ℕ) (z : ℤ) → option_and_then positive (whole text) ≡ Some z → IsNumber text z
+bare_is : (text : List ℕ) (z : ℤ) → option_and_then positive (whole_number text) ≡ Some z → IsNumber text z
 bare_is text z e =
-    let (n, is, got) = then_is positive (whole text) z e in
+    let (n, is, got) = then_is positive (whole_number text) z e in
     record { sign = []; rest = text; n = n; parts = refl; number = whole-is text n is; value = inr (let p = positive-by n z (nat_lt n (2 ^ 63)) refl got in (inl refl, p.0, p.1)) }
 
 same-byte : (c d : ℕ) → (c == d) ≡ true → d ≡ c
 same-byte c d e = grind (arith, nat_tests)
 
 plus_by : (c : ℕ) (cs : List ℕ) (z : ℤ) (b : Bool) → (c == 43) ≡ b
-    → cond b (option_and_then positive (whole cs)) (option_and_then positive (whole (c ∷ cs))) ≡ Some z → IsNumber (c ∷ cs) z
+    → cond b (option_and_then positive (whole_number cs)) (option_and_then positive (whole_number (c ∷ cs))) ≡ Some z → IsNumber (c ∷ cs) z
 plus_by c cs z true is e = subst (λ (k : ℕ). IsNumber (k ∷ cs) z) (same-byte c 43 is) (plus_is cs z e)
 plus_by c cs z false is e = bare_is (c ∷ cs) z e
 
 minus_by : (c : ℕ) (cs : List ℕ) (z : ℤ) (b : Bool) → (c == 45) ≡ b
-    → cond b (option_and_then negative (whole cs)) (cond (c == 43) (option_and_then positive (whole cs)) (option_and_then positive (whole (c ∷ cs)))) ≡ Some z
+    → cond b (option_and_then negative (whole_number cs)) (cond (c == 43) (option_and_then positive (whole_number cs)) (option_and_then positive (whole_number (c ∷ cs)))) ≡ Some z
     → IsNumber (c ∷ cs) z
 minus_by c cs z true is e = subst (λ (k : ℕ). IsNumber (k ∷ cs) z) (same-byte c 45 is) (minus_is cs z e)
 minus_by c cs z false is e = plus_by c cs z (c == 43) refl e
@@ -151,8 +151,8 @@ signed-is : (text : List ℕ) (z : ℤ) → signed text ≡ Some z → IsNumber 
 signed-is [] z e = cc
 signed-is (c ∷ cs) z e = minus_by c cs z (c == 45) refl e
 
--- a number that is read is the one that the field writes
-pub read-is_written : (field : List ℕ) (z : ℤ) → number_of field ≡ Some z → Writes field z
+-- a field that is read as a value writes it
+pub read-is_written : (field : List ℕ) (z : ℤ) → number_in field ≡ Some z → Writes field z
 read-is_written field z e =
     let front = front-of field in
     let s = signed-is (after_spaces field) z e in
@@ -194,7 +194,7 @@ some-from : (xs : List ℕ) → 0 < length xs → not (is_nothing xs) ≡ true
 some-from [] lt = absurd (omega arith)
 some-from (x ∷ xs) lt = refl
 
-whole-from : (digits after : List ℕ) → 0 < length digits → AllDigits digits → AllSpaces after → whole (digits ++ after) ≡ Some (value_after 0 digits)
+whole-from : (digits after : List ℕ) → 0 < length digits → AllDigits digits → AllSpaces after → whole_number (digits ++ after) ≡ Some (value_after 0 digits)
 whole-from digits after some all blank =
     rw (digits-append digits after all blank, after-append digits after all blank, some-from digits some, blank-from after blank) refl
 
@@ -208,7 +208,7 @@ other-byte : (d k : ℕ) → k < d → (d == k) ≡ false
 other-byte d k lt = grind (arith, nat_tests)
 
 -- no sign: the first byte is a digit
-bare-from : (digits after : List ℕ) → 0 < length digits → AllDigits digits → signed (digits ++ after) ≡ option_and_then positive (whole (digits ++ after))
+bare-from : (digits after : List ℕ) → 0 < length digits → AllDigits digits → signed (digits ++ after) ≡ option_and_then positive (whole_number (digits ++ after))
 bare-from [] after some all = absurd (omega arith)
 bare-from (d ∷ ds) after some all =
     let minus : (d == 45) ≡ false = other-byte d 45 (omega (arith, all.0)) in
@@ -228,8 +228,8 @@ signed-from sign digits after z some all blank (inr (inl none, lt, is)) =
 signed-from sign digits after z some all blank (inr (inr plus, lt, is)) =
     rw (plus, is) (ap (option_and_then positive) (whole-from digits after some all blank) ∙ positive-from (value_after 0 digits) lt)
 
--- and back
-pub written-is_read : (field : List ℕ) (z : ℤ) → Writes field z → number_of field ≡ Some z
+-- a field that writes a value is read as it
+pub written-is_read : (field : List ℕ) (z : ℤ) → Writes field z → number_in field ≡ Some z
 written-is_read field z w =
-    ap number_of w.parts ∙ ap signed (skip-spaces w.before (w.sign ++ (w.digits ++ w.after)) w.blank)
+    ap number_in w.parts ∙ ap signed (skip-spaces w.before (w.sign ++ (w.digits ++ w.after)) w.blank)
     ∙ signed-from w.sign w.digits w.after z w.some w.decimal w.blank_after w.value

@@ -2,16 +2,16 @@
 -- the clause of its kind, and none of a kind that comes before it.
 use Rattle.std.specs.Prelude.{◌≡◌, ℕ, ℤ, pos, ◌+◌, ◌<◌, ◌≤◌, ◌<ℤ◌, Bool, true, false, List, [], ◌∷◌, ◌++◌, length, take, drop, Option, None, Some, Err, ◌↔◌}
 use Rattle.csv_streams.specs.Records.{csv_records}
-use Rattle.csv_streams.specs.Rows.{headers, most_rows, rows_of}
+use Rattle.csv_streams.specs.Rows.{headers, most_rows, rows_of_file}
 use Rattle.csv_streams.specs.Writing.{Writes}
 use Rattle.csv_streams.specs.Written.{AllWrite, WriteRows}
 use Rattle.csv_streams.specs.declared.fault.InFault.{InFault}
 use Rattle.csv_streams.specs.declared.fault.InFault.TheVariants as fault
 
 -- a record of so many fields has this width; with `more` it may have further fields
-abbrev pub HasWidth : ℕ → Bool → ℕ → Type 0
-HasWidth width true count = width ≤ count
-HasWidth width false count = count ≡ width
+abbrev pub HasFields : ℕ → Bool → ℕ → Type 0
+HasFields width true count = width ≤ count
+HasFields width false count = count ≡ width
 
 -- field number k, counted from 1, is the first that writes no value
 pub record IsFirstUnread (k : ℕ) (fields : List (List ℕ)) : Type 0 where
@@ -40,7 +40,7 @@ stamp_before (Some before) = before
 module _ (width : ℕ) (more : Bool) (stamps : Option ℤ) (last rec : ℕ) (fields : List (List ℕ)) where
   abbrev pub HasFault : InFault → Type 0
   HasFault fault.TooMany = last < rec
-  HasFault (fault.Width r) = (r ≡ rec) × (HasWidth width more (length fields) → ⊥)
+  HasFault (fault.Width r) = (r ≡ rec) × (HasFields width more (length fields) → ⊥)
   HasFault (fault.NotNumber r k) = (r ≡ rec) × IsFirstUnread k (take width fields)
   HasFault (fault.NegativeTime r) = (r ≡ rec) × IsStampedBelow stamps (pos 0) fields
   HasFault (fault.Backwards r) = (r ≡ rec) × IsStampedBelow stamps (stamp_before stamps) fields
@@ -75,4 +75,4 @@ pub record IsFaultOf (bytes : List ℕ) (width : ℕ) (skip_first more : Bool) (
 abbrev pub FaultsAre : Type 0
 FaultsAre =
     (bytes : List ℕ) (width : ℕ) (skip_first more : Bool) (f : InFault)
-    → (rows_of bytes width skip_first more ≡ Err f) ↔ IsFaultOf bytes width skip_first more f
+    → (rows_of_file bytes width skip_first more ≡ Err f) ↔ IsFaultOf bytes width skip_first more f

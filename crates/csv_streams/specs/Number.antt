@@ -34,8 +34,8 @@ is_nothing [] = true
 is_nothing (c ∷ cs) = false
 
 -- the number that one or more digits, and then spaces alone, write
-abbrev pub whole : List ℕ → Option ℕ
-whole text =
+abbrev pub whole_number : List ℕ → Option ℕ
+whole_number text =
     if not (is_nothing (digits_of text)) && list_all is_space (after_digits text)
     then Some (value_after 0 (digits_of text)) else None
 
@@ -51,13 +51,13 @@ negative n = if nat_le n (2 ^ 63) then Some (neg_ℤ (pos n)) else None
 abbrev pub signed : List ℕ → Option ℤ
 signed [] = None
 signed (c ∷ cs) =
-    if c == 45 then option_and_then negative (whole cs)
-    else if c == 43 then option_and_then positive (whole cs)
-    else option_and_then positive (whole (c ∷ cs))
+    if c == 45 then option_and_then negative (whole_number cs)
+    else if c == 43 then option_and_then positive (whole_number cs)
+    else option_and_then positive (whole_number (c ∷ cs))
 
 -- the value of a field
-abbrev pub number_of : List ℕ → Option ℤ
-number_of field = signed (after_spaces field)
+abbrev pub number_in : List ℕ → Option ℤ
+number_in field = signed (after_spaces field)
 
 -- a number of 64 bits that stands for it: itself, or the greatest, which is no value either
 abbrev pub capped : ℕ → ℕ

@@ -9,8 +9,8 @@ use Rattle.river_base.specs.Instants.{at_instant, spread}
 use Rattle.csv_streams.specs.Timed.{Entry, timed_of}
 
 -- before this place stand the timed rows below an instant, and from there on the others
-abbrev pub IsFirst : List Entry → ℤ → ℕ → Type 0
-IsFirst rows t n = IsPartitionPoint (λ (e : Entry). int_lt e.0 t ≡ true) (λ (e : Entry). int_lt e.0 t ≡ false) rows n
+abbrev pub IsFirstItem : List Entry → ℤ → ℕ → Type 0
+IsFirstItem rows t n = IsPartitionPoint (λ (e : Entry). int_lt e.0 t ≡ true) (λ (e : Entry). int_lt e.0 t ≡ false) rows n
 
 -- before this place stand the timed rows that are not above an instant, and from there on the others
 abbrev pub IsEnd : List Entry → ℤ → ℕ → Type 0

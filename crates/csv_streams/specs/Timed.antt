@@ -1,6 +1,6 @@
 -- The timed rows that the records of a file are: the first field is the timestamp, those behind it are the row.
 use Rattle.std.specs.Prelude.{ℕ, ℤ, pos, ◌+◌, Bool, false, int_lt, List, [], ◌∷◌, drop, Result, Ok, Err, if◌then◌else◌}
-use Rattle.csv_streams.specs.Numbered.{before}
+use Rattle.csv_streams.specs.Numbered.{before_later}
 use Rattle.csv_streams.specs.Records.{csv_records}
 use Rattle.csv_streams.specs.Rows.{row_in, headers, most_rows}
 use Rattle.csv_streams.specs.declared.fault.InFault.{InFault}
@@ -27,18 +27,18 @@ if_in_time e (Ok u) = Ok e
 if_in_time e (Err f) = Err f
 
 -- the values of record number `rec`, of which the first is the timestamp, behind a record with the timestamp t. No record has no value
-abbrev pub stamped : ℕ → ℤ → Result (List ℤ) InFault → Result Entry InFault
-stamped rec t (Err f) = Err f
-stamped rec t (Ok []) = Err (fault.Width rec)
-stamped rec t (Ok (at ∷ row)) = if_in_time (at, row) (in_time rec t at)
+abbrev pub with_stamp : ℕ → ℤ → Result (List ℤ) InFault → Result Entry InFault
+with_stamp rec t (Err f) = Err f
+with_stamp rec t (Ok []) = Err (fault.Width rec)
+with_stamp rec t (Ok (at ∷ row)) = if_in_time (at, row) (in_time rec t at)
 
 -- the timed row of record number `rec`: what is wrong with its fields comes first, then what is wrong with its time
 abbrev pub timed_in : ℕ → ℕ → ℤ → ℕ → List (List ℕ) → Result Entry InFault
-timed_in width last t rec fields = stamped rec t (row_in (width + 1) false last rec fields)
+timed_in width last t rec fields = with_stamp rec t (row_in (width + 1) false last rec fields)
 
 -- what comes after an element, given that element
 abbrev pub and_later : Result Entry InFault → (Entry → Result (List Entry) InFault) → Result (List Entry) InFault
-and_later (Ok e) later = before (Ok e) (later e)
+and_later (Ok e) later = before_later (Ok e) (later e)
 and_later (Err f) later = Err f
 
 -- the timed rows of records behind the timestamp t, which are numbered on from `rec`; the first faulty one decides

@@ -1,6 +1,6 @@
 -- Which fields write a value, as a form: spaces, an optional sign, one or more digits, and spaces.
 use Rattle.std.specs.Prelude.{◌≡◌, ◌⊎◌, ⊤, ℕ, ℤ, pos, neg_ℤ, ◌^◌, ◌<◌, ◌≤◌, List, [], ◌∷◌, ◌++◌, length, codes, Some}
-use Rattle.csv_streams.specs.Number.{value_after, number_of}
+use Rattle.csv_streams.specs.Number.{value_after, number_in}
 
 -- spaces alone
 abbrev pub AllSpaces : List ℕ → Type 0
@@ -33,7 +33,7 @@ pub record Writes (field : List ℕ) (z : ℤ) : Type 0 where
 
 -- what is read is written, and what is written is read
 abbrev pub ReadIsWritten : Type 0
-ReadIsWritten = (field : List ℕ) (z : ℤ) → number_of field ≡ Some z → Writes field z
+ReadIsWritten = (field : List ℕ) (z : ℤ) → number_in field ≡ Some z → Writes field z
 
 abbrev pub WrittenIsRead : Type 0
-WrittenIsRead = (field : List ℕ) (z : ℤ) → Writes field z → number_of field ≡ Some z
+WrittenIsRead = (field : List ℕ) (z : ℤ) → Writes field z → number_in field ≡ Some z

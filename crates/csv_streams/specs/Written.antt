@@ -2,7 +2,7 @@
 use Rattle.std.specs.Prelude.{◌≡◌, ⊤, ℕ, ℤ, ◌≤◌, Bool, IsTrue, List, [], ◌∷◌, length, take, drop, Ok}
 use Rattle.river_base.specs.Held.{HaveWidth}
 use Rattle.csv_streams.specs.Records.{csv_records}
-use Rattle.csv_streams.specs.Rows.{has_width, headers, most_rows, rows_of}
+use Rattle.csv_streams.specs.Rows.{has_width, headers, most_rows, rows_of_file}
 use Rattle.csv_streams.specs.Writing.{Writes}
 
 -- each field writes a value
@@ -31,15 +31,15 @@ pub record FileWrites (bytes : List ℕ) (width : ℕ) (skip_first more : Bool) 
 -- what is read is written, and what is written is read
 abbrev pub ReadRowsAreWritten : Type 0
 ReadRowsAreWritten =
-    (bytes : List ℕ) (width : ℕ) (skip_first more : Bool) (rows : List (List ℤ)) → rows_of bytes width skip_first more ≡ Ok rows
+    (bytes : List ℕ) (width : ℕ) (skip_first more : Bool) (rows : List (List ℤ)) → rows_of_file bytes width skip_first more ≡ Ok rows
     → FileWrites bytes width skip_first more rows
 
 abbrev pub WrittenRowsAreRead : Type 0
 WrittenRowsAreRead =
     (bytes : List ℕ) (width : ℕ) (skip_first more : Bool) (rows : List (List ℤ)) → FileWrites bytes width skip_first more rows
-    → rows_of bytes width skip_first more ≡ Ok rows
+    → rows_of_file bytes width skip_first more ≡ Ok rows
 
 -- rows that are read have the width that was asked
 abbrev pub ReadRowsHaveWidth : Type 0
 ReadRowsHaveWidth =
-    (bytes : List ℕ) (width : ℕ) (skip_first more : Bool) (rows : List (List ℤ)) → rows_of bytes width skip_first more ≡ Ok rows → HaveWidth width rows
+    (bytes : List ℕ) (width : ℕ) (skip_first more : Bool) (rows : List (List ℤ)) → rows_of_file bytes width skip_first more ≡ Ok rows → HaveWidth width rows

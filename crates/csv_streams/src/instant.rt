@@ -3,7 +3,7 @@ ghost use Rattle.std.specs.Prelude.{◌≡◌, ◌≤◌, ◌-◌, ◌∷◌, []
 ghost use Rattle.std.specs.List.Sorted.{IsSortedByKey};
 ghost use Rattle.std.specs.Ordering.{int_cmp};
 ghost use Rattle.river_base.specs.Instants as time;
-ghost use Rattle.csv_streams.specs.SpreadOut.{IsFirst, IsEnd};
+ghost use Rattle.csv_streams.specs.SpreadOut.{IsFirstItem, IsEnd};
 
 use river_base::{Batch, Flat, Item, Items, NoMemory, Numbers, Row, Rows, TimedFiles, TimedRows};
 use std::alloc::Global;
@@ -137,7 +137,7 @@ fn first_at(rows: &[(i64, Row)], guess: usize, at: i64) -> usize
     requires sorted { IsSortedByKey (λ (e : ℤ × List ℤ). e.0) int_cmp rows.now }
     requires guess { guess ≤ length rows.now }
     ensures within { result ≤ length rows.now }
-    ensures first { IsFirst rows.now at result }
+    ensures first { IsFirstItem rows.now at result }
 {
     if is_first(rows, guess, at) {
         return guess;
@@ -149,7 +149,7 @@ fn first_at(rows: &[(i64, Row)], guess: usize, at: i64) -> usize
 fn is_first(rows: &[(i64, Row)], place: usize, at: i64) -> bool
     requires sorted { IsSortedByKey (λ (e : ℤ × List ℤ). e.0) int_cmp rows.now }
     requires place { place ≤ length rows.now }
-    ensures { result ≡ true → IsFirst rows.now at place }
+    ensures { result ≡ true → IsFirstItem rows.now at place }
 {
     if place > 0 && rows[place - 1].0 >= at {
         return false;
@@ -161,7 +161,7 @@ fn is_first(rows: &[(i64, Row)], place: usize, at: i64) -> bool
 fn end_at(rows: &[(i64, Row)], first: usize, at: i64) -> usize
     requires sorted { IsSortedByKey (λ (e : ℤ × List ℤ). e.0) int_cmp rows.now }
     requires within { first ≤ length rows.now }
-    requires first { IsFirst rows.now at first }
+    requires first { IsFirstItem rows.now at first }
     ensures order { first ≤ result }
     ensures within { result ≤ length rows.now }
     ensures end { IsEnd rows.now at result }

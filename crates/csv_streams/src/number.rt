@@ -5,7 +5,7 @@ ghost use Rattle.csv_streams.specs.Number as number;
 
 /// The value of a field: spaces, an optional sign, one or more digits, and spaces, with a value of 64 bits.
 pub fn read_number(field: &[u8]) -> Option<i64>
-    ensures { result ≡ number.number_of field.now }
+    ensures { result ≡ number.number_in field.now }
 {
     let text = after_spaces(field);
     match text.split_first() {
@@ -27,7 +27,7 @@ fn after_spaces(text: &[u8]) -> &[u8]
 
 // The number of one or more digits and then spaces alone, at most the greatest u64.
 fn whole(text: &[u8]) -> Option<u64>
-    ensures { result ≡ option_map number.capped (number.whole text.now) }
+    ensures { result ≡ option_map number.capped (number.whole_number text.now) }
 {
     let count = digit_count(text);
     if count == 0 || !all_spaces(&text[count..]) {

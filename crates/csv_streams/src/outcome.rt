@@ -31,7 +31,7 @@ pub fn print_outcome(
     requires outs { length outcome.now.outs ≡ length plan.now.outputs }
     requires tables { length outcome.now.tables ≡ length plan.now.tables }
     requires counts { counts ≡ true → length outcome.now.counts ≡ length plan.now.ops }
-    ensures { IfOk result (λ all. all ≡ text.printed_outcome plan.now outcome.now.outs (map rows_of outcome.now.tables) (text.asked counts outcome.now.counts)) }
+    ensures { IfOk result (λ all. all ≡ text.printed_outcome plan.now outcome.now.outs (map rows_of outcome.now.tables) (text.asked_counts counts outcome.now.counts)) }
 {
     let raw = plan.raw();
     let mut all = Bytes::new(alloc);
@@ -80,7 +80,7 @@ fn print_output(alloc: Global, name: &Name, items: &Line, to: &mut Bytes) -> Res
 // The line with a name.
 #[tactic(auto, using(crate::proofs::Texts::joins))]
 fn print_head(name: &Name, to: &mut Bytes) -> Result<(), NoMemory>
-    ensures { OnOk result (to.new ≡ to.old ++ text.headed name.now []) }
+    ensures { OnOk result (to.new ≡ to.old ++ text.under_name name.now []) }
 {
     to.extend(b"# ")?;
     to.extend(name.as_slice())?;
@@ -106,7 +106,7 @@ fn print_tables(
 
 #[tactic(auto, using(crate::proofs::Texts::joins))]
 fn print_table(alloc: Global, name: &Name, table: &Table, to: &mut Bytes) -> Result<(), NoMemory>
-    ensures { OnOk result (to.new ≡ to.old ++ text.table_text name.now (rows_of table.now)) }
+    ensures { OnOk result (to.new ≡ to.old ++ text.table_rows_text name.now (rows_of table.now)) }
 {
     let rows = table.rows(alloc)?;
     print_head(name, to)?;
@@ -115,7 +115,7 @@ fn print_table(alloc: Global, name: &Name, table: &Table, to: &mut Bytes) -> Res
 
 #[tactic(auto, using(crate::proofs::Texts::joins))]
 fn print_rows(rows: &Rows, to: &mut Bytes) -> Result<(), NoMemory>
-    ensures { OnOk result (to.new ≡ to.old ++ text.lines text.row_line rows.now) }
+    ensures { OnOk result (to.new ≡ to.old ++ text.texts_of text.row_line rows.now) }
 {
     for row in rows.as_slice() {
         print_values(row.values(), to)?;
@@ -124,7 +124,7 @@ fn print_rows(rows: &Rows, to: &mut Bytes) -> Result<(), NoMemory>
 }
 
 fn print_items(alloc: Global, items: &Line, to: &mut Bytes) -> Result<(), NoMemory>
-    ensures { OnOk result (to.new ≡ to.old ++ text.lines text.item_text items.now) }
+    ensures { OnOk result (to.new ≡ to.old ++ text.texts_of text.item_text items.now) }
 {
     let (rows, others) = items.parts();
     print_even(rows, to)?;
@@ -134,7 +134,7 @@ fn print_items(alloc: Global, items: &Line, to: &mut Bytes) -> Result<(), NoMemo
 
 #[tactic(auto, using(crate::proofs::Texts::joins))]
 fn print_even(rows: &EvenRows, to: &mut Bytes) -> Result<(), NoMemory>
-    ensures { OnOk result (to.new ≡ to.old ++ text.lines text.row_line rows.now) }
+    ensures { OnOk result (to.new ≡ to.old ++ text.texts_of text.row_line rows.now) }
 {
     for place in 0..rows.len() {
         print_values(rows.at(place), to)?;
@@ -144,7 +144,7 @@ fn print_even(rows: &EvenRows, to: &mut Bytes) -> Result<(), NoMemory>
 
 #[tactic(auto, using(crate::proofs::Texts::joins))]
 fn print_others(alloc: Global, items: &VecDeque<Item>, to: &mut Bytes) -> Result<(), NoMemory>
-    ensures { OnOk result (to.new ≡ to.old ++ text.lines text.item_text items.now.items) }
+    ensures { OnOk result (to.new ≡ to.old ++ text.texts_of text.item_text items.now.items) }
 {
     for place in 0..items.len() {
         print_item(alloc, &items[place], to)?;
@@ -176,7 +176,7 @@ fn print_values(values: &[i64], to: &mut Bytes) -> Result<(), NoMemory>
 }
 
 fn print_batch(alloc: Global, batch: &Batch, to: &mut Bytes) -> Result<(), NoMemory>
-    ensures { OnOk result (to.new ≡ to.old ++ text.lines text.row_line (map (λ row. batch.now.at ∷ row) (in_order batch.now.rows))) }
+    ensures { OnOk result (to.new ≡ to.old ++ text.texts_of text.row_line (map (λ row. batch.now.at ∷ row) (in_order batch.now.rows))) }
 {
     if is_ascending(batch.rows.as_slice()) {
         return print_timed_rows(batch.at, batch.rows.as_slice(), to);
@@ -186,7 +186,7 @@ fn print_batch(alloc: Global, batch: &Batch, to: &mut Bytes) -> Result<(), NoMem
 
 // The same of rows in any order.
 fn print_sorted(alloc: Global, batch: &Batch, to: &mut Bytes) -> Result<(), NoMemory>
-    ensures { OnOk result (to.new ≡ to.old ++ text.lines text.row_line (map (λ row. batch.now.at ∷ row) (in_order batch.now.rows))) }
+    ensures { OnOk result (to.new ≡ to.old ++ text.texts_of text.row_line (map (λ row. batch.now.at ∷ row) (in_order batch.now.rows))) }
 {
     let mut rows = batch.rows.copy(alloc)?;
     rows.sort()?;
@@ -203,7 +203,7 @@ fn is_ascending(rows: &[Row]) -> bool
 // Each row behind this instant.
 #[tactic(auto, using(crate::proofs::Texts::joins))]
 fn print_timed_rows(at: i64, rows: &[Row], to: &mut Bytes) -> Result<(), NoMemory>
-    ensures { OnOk result (to.new ≡ to.old ++ text.lines text.row_line (map (λ row. at ∷ row) rows.now)) }
+    ensures { OnOk result (to.new ≡ to.old ++ text.texts_of text.row_line (map (λ row. at ∷ row) rows.now)) }
 {
     for row in rows {
         print_timed(at, row, to)?;

@@ -3,9 +3,9 @@ ghost use Rattle.std.specs.Prelude.{◌≡◌, ◌≤◌, ◌<◌, ◌+◌, true
 ghost use Rattle.csv.specs.Reading.{Ready, ReadRecord, reader_trim, took_first};
 ghost use Rattle.csv.specs.Records.{fields_of, field_at};
 ghost use Rattle.csv.specs.declared.reader.Trim.TheVariants as trim;
-ghost use Rattle.csv_streams.specs.Number.{number_of};
-ghost use Rattle.csv_streams.specs.Numbered.{numbered};
-ghost use Rattle.csv_streams.specs.Rows.{value_or, value_in, has_width, row_in, headers};
+ghost use Rattle.csv_streams.specs.Number.{number_in};
+ghost use Rattle.csv_streams.specs.Numbered.{numbered_results};
+ghost use Rattle.csv_streams.specs.Rows.{value_or, value_of_field, has_width, row_in, headers};
 ghost use Rattle.csv_streams.specs.declared.fault.InFault.TheVariants as fault;
 
 use crate::{InFault, read_number};
@@ -70,8 +70,8 @@ fn values_of(raw: &ByteRecord, rec: u32, width: usize) -> Result<[i64; 17], InFa
     requires at_most { width ≤ 17 }
     requires within { width ≤ length (fields_of raw.now) }
     ensures room { IfOk result (λ values. length values ≡ 17) }
-    ensures ok { IfOk result (λ values. numbered (value_in rec) 1 (take width (fields_of raw.now)) ≡ Ok (take width values)) }
-    ensures fault { IfErr result (λ f. numbered (value_in rec) 1 (take width (fields_of raw.now)) ≡ Err f) }
+    ensures ok { IfOk result (λ values. numbered_results (value_of_field rec) 1 (take width (fields_of raw.now)) ≡ Ok (take width values)) }
+    ensures fault { IfErr result (λ f. numbered_results (value_of_field rec) 1 (take width (fields_of raw.now)) ≡ Err f) }
 {
     let mut values = [0; MAX_FIELDS];
     for place in 0..width {
@@ -83,7 +83,7 @@ fn values_of(raw: &ByteRecord, rec: u32, width: usize) -> Result<[i64; 17], InFa
 // The value of the field at a place, from 0.
 fn value_at(raw: &ByteRecord, rec: u32, place: usize) -> Result<i64, InFault>
     requires { place < 17 }
-    ensures { result ≡ value_or rec (place + 1) (option_and_then number_of (field_at (fields_of raw.now) place)) }
+    ensures { result ≡ value_or rec (place + 1) (option_and_then number_in (field_at (fields_of raw.now) place)) }
 {
     match raw.get(place).and_then(read_number) {
         Some(x) => Ok(x),

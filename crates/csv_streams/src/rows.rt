@@ -2,7 +2,7 @@
 ghost use Rattle.std.specs.Prelude.{◌≡◌, ◌≤◌, [], Ok, IfOk, OnOk, IfErr};
 ghost use Rattle.river_base.specs.Held.{HaveWidth};
 ghost use Rattle.csv.specs.Records.{fields_of};
-ghost use Rattle.csv_streams.specs.Rows.{row_in, rows_of, Appends, IsFaultTold, IsAnswer};
+ghost use Rattle.csv_streams.specs.Rows.{row_in, rows_of_file, Appends, IsFaultTold, IsAnswer};
 
 use crate::InFault;
 use crate::record::{headers, read_record, values_in};
@@ -26,7 +26,7 @@ pub fn read_rows(
 ) -> Result<Rows, InFault>
     requires some { 1 ≤ width }
     requires at_most { width ≤ 16 }
-    ensures { IsAnswer (rows_of bytes.now width skip_first more) result }
+    ensures { IsAnswer (rows_of_file bytes.now width skip_first more) result }
 {
     let even = read_even(alloc, bytes, width, skip_first, more)?;
     Ok(rows_in(alloc, &even)?)
@@ -42,7 +42,7 @@ pub fn read_even(
 ) -> Result<EvenRows, InFault>
     requires some { 1 ≤ width }
     requires at_most { width ≤ 16 }
-    ensures { IsAnswer (rows_of bytes.now width skip_first more) result }
+    ensures { IsAnswer (rows_of_file bytes.now width skip_first more) result }
 {
     let mut rows = EvenRows::new(alloc);
     add_rows(alloc, bytes, width, skip_first, more, &mut rows)?;
@@ -72,8 +72,8 @@ fn add_rows(
     requires some { 1 ≤ width }
     requires at_most { width ≤ 16 }
     requires none { rows.old ≡ [] }
-    ensures ok { OnOk result (rows_of bytes.now width skip_first more ≡ Ok rows.new) }
-    ensures fault { IfErr result (IsFaultTold (rows_of bytes.now width skip_first more)) }
+    ensures ok { OnOk result (rows_of_file bytes.now width skip_first more ≡ Ok rows.new) }
+    ensures fault { IfErr result (IsFaultTold (rows_of_file bytes.now width skip_first more)) }
 {
     let mut rdr = ReaderBuilder::new()
         .has_headers(false)

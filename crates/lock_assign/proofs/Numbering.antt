@@ -72,6 +72,7 @@ pub record IsNumbered (users lists : List (List ℤ)) (classes : List ℤ) : Typ
   pub known : (n : ℕ) → n < length lists → (s : ℕ) × (s < length users) × (class_of classes s ≡ pos n)
   pub by_first : (t n m : ℕ) → t < length users → class_of classes t ≡ pos n → m < n → (s : ℕ) × (s < t) × (class_of classes s ≡ pos m)
 
+-- no table, no class
 pub none_numbered : IsNumbered [] [] []
 none_numbered = record {
   as_many = refl;

@@ -4,12 +4,12 @@ use Rattle.lock_assign.specs.Classes.{AreClasses}
 use Rattle.lock_assign.specs.Sets.{place_in, with_list}
 
 -- each list has the place at which an equal one stands among those that came first; `first` came before
-abbrev pub numbered : List (List ℤ) → List (List ℤ) → List ℤ
-numbered first [] = []
-numbered first (ops ∷ users) = pos (place_in first ops) ∷ numbered (with_list first ops) users
+abbrev pub numbered_classes : List (List ℤ) → List (List ℤ) → List ℤ
+numbered_classes first [] = []
+numbered_classes first (ops ∷ users) = pos (place_in first ops) ∷ numbered_classes (with_list first ops) users
 
 abbrev pub class_numbers : List (List ℤ) → List ℤ
-class_numbers users = numbered [] users
+class_numbers users = numbered_classes [] users
 
 -- how many classes there are: as many as different lists
 abbrev pub class_count : List (List ℤ) → ℕ

@@ -41,6 +41,7 @@ use Rattle.river_cli.specs.declared.content.Content.TheVariants.{Rows as Plain, 
 
 -- ---- A RIVER TEXT
 
+-- the plan that was read of a River text stands for what the text means
 pub river-compiled : (meant : Result PlanForm RiverFault) (p : PlanForm) → meant ≡ Ok p
     → StandsFor IsCompiled (told river_source river_words meant) (record { plan = p; program = program.River })
 river-compiled meant p is = rw is (record { plan = record { plan = refl; inputs = refl; outputs = refl; tables = refl; means = λ rows t. refl }; program = tt })
@@ -121,6 +122,7 @@ plan_means text a e (f ∷ g ∷ more) t = absurd t.1
 plan_means text a e (Timed es ∷ []) t = absurd t.0
 plan_means text a e (Plain r ∷ []) t = ap (λ l. meaning (saw.plan_in a) (l ∷ [])) (rows-are (width (saw.program_in a)) r t.0) ∙ (saw_plans_mean text a r e).1
 
+-- and so does what was compiled of a Sawzall text
 pub saw-compiled : (text : List ℕ) (t : SawProgram) (plan : PlanForm) → saw.Plans (saw.compiled text) (unit_forms t.units.items) plan
     → StandsFor IsCompiled (told saw_source saw_words (saw.compiled text)) (record { plan = plan; program = program.Sawzall t })
 saw-compiled text t plan (read, is, made) =

@@ -16,7 +16,7 @@ use Rattle.river_plan.specs.Kinds.{kind_in, kind_of}
 use Rattle.river_plan.specs.Names.{one_if, count}
 use Rattle.river_plan.specs.Valid.{IsPlan}
 use Rattle.river_plan.proofs.NameLemmas.{cases_name, count-append}
-use Rattle.csv_streams.specs.Rows.{rows_of}
+use Rattle.csv_streams.specs.Rows.{rows_of_file}
 use Rattle.csv_streams.specs.Timed.{timed_of}
 use Rattle.csv_streams.specs.declared.fault.InFault.{InFault}
 use Rattle.csv_streams.proofs.TimedWritten.{timed_have_width}
@@ -37,7 +37,7 @@ was_read content (Err f) x e = cc
 
 content_is : (t : QueueType) (layout : Layout) (bytes : List ℕ) (x : Content) → IsRowsOrStream t → content_of t layout bytes ≡ Ok x → IsContent t x
 content_is (FlatOf (Rows w)) layout bytes x o e =
-    let (rs, read, is) = was_read Plain (rows_of bytes w layout.header layout.more) x e in
+    let (rs, read, is) = was_read Plain (rows_of_file bytes w layout.header layout.more) x e in
     subst (IsContent (FlatOf (Rows w))) (sym is) (read_rows-width bytes w layout.header layout.more rs read)
 content_is (FlatOf (Stream w)) layout bytes x o e =
     let (es, read, is) = was_read Timed (timed_of bytes w layout.header) x e in
@@ -97,7 +97,7 @@ known_all (d ∷ ds) apart =
     let other : (q : Name) → 0 < count q (decl_names ds) → name_eq d.name q ≡ false = λ q lt. ⊎_elim (λ c. absurd (let t = ap one_if c.1 in omega (arith, t, lt, apart q))) (λ c. c.1) (cases_name d.name q) in
     (here, known_more d ds ds other (known_all ds (λ q. omega (arith, apart q))))
 
--- no two inputs of a valid plan have one name
+-- the inputs of a valid plan have names of their own
 pub inputs-apart : (p : PlanForm) → IsPlan p → (q : Name) → count q (decl_names p.inputs) ≤ 1
 inputs-apart p v q =
     let s = count-append q (decl_names p.outputs) (decl_names p.inputs ++ decl_names p.queues) in
@@ -117,7 +117,7 @@ module _ (decls : List Decl) (layout : Layout) (ins : List InWord) (files : List
         each_content ds k.1 (All-tail IsOuter d ds o) (All-tail (λ e. IsNamed ins e) d ds n),
       )
 
--- what is read of the files is what the inputs may have
+-- the files that were read have what the inputs ask
 pub read-contents : (decls : List Decl) (layout : Layout) (ins : List InWord) (files : List (List ℕ)) (result : Result (List Content) Stop) → All IsOuter decls
     → ((q : Name) → count q (decl_names decls) ≤ 1)
     → names_fit decls ins ≡ Ok tt → length files ≡ length ins

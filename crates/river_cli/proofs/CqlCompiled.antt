@@ -10,12 +10,11 @@ use Rattle.river_plan.specs.Forms.{PlanForm, decl_names}
 use Rattle.brooklet_model.specs.Meaning.{meaning}
 use Rattle.cql_model.specs.Instants.{inputs_for}
 use Rattle.cql_model.specs.Laws.{AreFiles}
-use Rattle.cql_model.specs.Program.{Register, Ask, Program}
+use Rattle.cql_text.specs.Tree.{Register, AQuery, Program}
 use Rattle.cql_model.specs.Scopes.{Named}
 use Rattle.cql_model.specs.Translation.{input_decls, output_decls, query_named, plan_of}
-use Rattle.cql_text.specs.Tree.{Part, parts_of}
+use Rattle.cql_text.specs.Tree.{Part, program_of}
 use Rattle.cql_text.specs.declared.tree.CqlProgram.{CqlProgram}
-use Rattle.cql_build.specs.Seen.{program_of}
 use Rattle.cql_front.specs.Meaning.{compiled, Plans, Refused}
 use Rattle.cql_front.specs.Words.{cql_words}
 use Rattle.cql_front.specs.declared.fault.CqlFault.{CqlFault}
@@ -34,7 +33,7 @@ use Rattle.river_cli.specs.declared.content.Content.TheVariants.{Rows as Plain, 
 outputs-are : (ks : List Named) (p : Program) → decl_names (output_decls ks p) ≡ asked_names p
 outputs-are ks [] = refl
 outputs-are ks (Register name fields ∷ ps) = outputs-are (record { name = name; fields = fields } ∷ ks) ps
-outputs-are ks (Ask q ∷ ps) = ap (λ l. q.name ∷ l) (outputs-are (query_named ks q ∷ ks) ps)
+outputs-are ks (AQuery q ∷ ps) = ap (λ l. q.name ∷ l) (outputs-are (query_named ks q ∷ ks) ps)
 
 -- each input has a file whose rows have its width
 widths-are : (w : ℕ) (rows : List Entry) → HaveWidth w (map (λ (e : Entry). e.1) rows) → All (λ (e : Entry). length e.1 ≡ w) rows
@@ -43,14 +42,14 @@ widths-are w (e ∷ rows) h =
     let all = map (λ (f : Entry). f.1) rows in
     All-cons (λ (f : Entry). length f.1 ≡ w) e rows (All-head (λ l. length l ≡ w) e.1 all h) (widths-are w rows (All-tail (λ l. length l ≡ w) e.1 all h))
 
--- the files fit the registered streams
+-- files that have what the inputs ask are files of the program
 pub files-are : (p : Program) (files : List Content) → AreContents (input_decls p) files → AreFiles p (timed_files files)
 files-are [] [] h = tt
 files-are [] (f ∷ files) h = absurd h
 files-are (Register name fields ∷ ps) [] h = absurd h
 files-are (Register name fields ∷ ps) (Plain rows ∷ files) h = absurd h.0
 files-are (Register name fields ∷ ps) (Timed rows ∷ files) h = (widths-are (length fields) rows h.0, files-are ps files h.1)
-files-are (Ask q ∷ ps) files h = files-are ps files h
+files-are (AQuery q ∷ ps) files h = files-are ps files h
 
 -- and its items are batches at the instants
 items-are : (ts : List ℤ) (p : Program) (files : List Content) → AreContents (input_decls p) files
@@ -60,27 +59,29 @@ items-are ts [] (f ∷ files) h = absurd h
 items-are ts (Register name fields ∷ ps) [] h = absurd h
 items-are ts (Register name fields ∷ ps) (Plain rows ∷ files) h = absurd h.0
 items-are ts (Register name fields ∷ ps) (Timed rows ∷ files) h = ap (λ l. base.spread ts (base.at_instant rows) ∷ l) (items-are ts ps files h.1)
-items-are ts (Ask q ∷ ps) files h = items-are ts ps files h
+items-are ts (AQuery q ∷ ps) files h = items-are ts ps files h
 
-program_means : (text : List ℕ) (p : List Part) → compiled text ≡ Ok p → (files : List Content) → AreContents (input_decls (program_of p)) files
-    → meaning (plan_of (program_of p)) (all_items files) ≡ (cql_source p).means files
+program_means : (text : List ℕ) (p : List Part) → compiled text ≡ Ok p → (files : List Content) → AreContents (input_decls p) files
+    → meaning (plan_of p) (all_items files) ≡ (cql_source p).means files
 program_means text p e files h =
     let timed = timed_files files in
-    let items : all_items files ≡ inputs_for timed = items-are (base.instants timed) (program_of p) files h in
-    ap (meaning (plan_of (program_of p))) items ∙ (plans_mean text p e).1 timed (files-are (program_of p) files h)
+    let items : all_items files ≡ inputs_for timed = items-are (base.instants timed) p files h in
+    ap (meaning (plan_of p)) items ∙ (plans_mean text p e).1 timed (files-are p files h)
 
-program_plan : (text : List ℕ) (p : List Part) → compiled text ≡ Ok p → IsPlanOf (cql_source p) (plan_of (program_of p))
-program_plan text p e = record { plan = refl; inputs = refl; outputs = outputs-are [] (program_of p); tables = refl; means = program_means text p e }
+program_plan : (text : List ℕ) (p : List Part) → compiled text ≡ Ok p → IsPlanOf (cql_source p) (plan_of p)
+program_plan text p e = record { plan = refl; inputs = refl; outputs = outputs-are [] p; tables = refl; means = program_means text p e }
 
-pub cql-compiled : (text : List ℕ) (t : CqlProgram) (plan : PlanForm) → Plans (compiled text) (parts_of t) plan
+-- the program and the plan that were compiled stand for what the text means
+pub cql-compiled : (text : List ℕ) (t : CqlProgram) (plan : PlanForm) → Plans (compiled text) (program_of t) plan
     → StandsFor IsCompiled (told cql_source cql_words (compiled text)) (record { plan = plan; program = program.Cql t })
 cql-compiled text t plan h =
     subst (λ (r : Result (List Part) CqlFault). StandsFor IsCompiled (told cql_source cql_words r) (record { plan = plan; program = program.Cql t })) (sym h.accepted)
     (record {
-      plan = subst (IsPlanOf (cql_source (parts_of t))) (sym h.planned) (program_plan text (parts_of t) h.accepted);
-      program = record { columns = accepted_columns text (parts_of t) h.accepted; inputs = refl; means = λ files. refl };
+      plan = subst (IsPlanOf (cql_source (program_of t))) (sym h.planned) (program_plan text (program_of t) h.accepted);
+      program = record { columns = accepted_columns text (program_of t) h.accepted; inputs = refl; means = λ files. refl };
     })
 
+-- a text that is refused is told its fault
 pub cql-refused : (meant : Result (List Part) CqlFault) (f : CqlFault) (text : List _) → (f ≡ cql_fault.NoMemory → ⊥) → Refused meant f
     → text ≡ program_refused (cql_words f) → told cql_source cql_words meant ≡ Err text
 cql-refused meant (cql_fault.Text refusal) text not is says = rw (is, says) refl

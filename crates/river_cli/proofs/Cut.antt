@@ -26,7 +26,7 @@ cut_both [] file c n f = absurd (omega (arith, n))
 cut_both (n ∷ ns) [] c m f = absurd (omega (arith, f))
 cut_both (n ∷ ns) (d ∷ ds) c m f = refl
 
--- a word with two parts
+-- a word that is cut at its first `=` is NAME=FILE
 pub cut-some : (word : List ℕ) (at : ℕ) → take at word ≡ name_part word → drop at word ≡ rest_part word → 0 < at → at + 1 < length word
     → Some (record { name = take at word; file = drop (at + 1) word }) ≡ in_word_of word
 cut-some word at name rest some more =

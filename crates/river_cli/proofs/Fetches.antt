@@ -21,7 +21,7 @@ after files next rest = next (files ++ rest)
 abbrev pub ComesTo : List InWord → Option Held → List (List ℕ) → List InWord → Type 0
 ComesTo ins held files left = (next : List (List ℕ) → Order) → Comes (fetches ins next) held (fetches left (after files next))
 
--- before the first file nothing was fetched
+-- before the first file all of them are to come
 pub comes-first : (ins : List InWord) (held : Option Held) → ComesTo ins held [] ins
 comes-first ins held next = Comes-same (fetches ins next) held
 

@@ -83,28 +83,28 @@ none_missing None None e = refl
 none_missing None (Some d) e = cc
 none_missing (Some w) m e = cc
 
--- each input has a word
+-- where the names fit, each input is named
 pub all-named : (decls : List Decl) (ins : List InWord) → names_fit decls ins ≡ Ok tt → All (λ d. IsNamed ins d) decls
 unfolding names_fit
 all-named decls ins told = named_all decls ins (none_missing (unknown decls ins) (missing decls ins) told)
 
--- a word that names no input is told
+-- a name that is no input is told
 pub unknown-told : (decls : List Decl) (ins : List InWord) (w : InWord) → unknown decls ins ≡ Some w → names_fit decls ins ≡ Err (unknown_input w.name)
 unfolding names_fit
 unknown-told decls ins w e = ap (λ (u : Option InWord). first_told u (missing decls ins)) e
 
--- an input without a word is told
+-- an input that no word names is told, where all names are inputs
 pub missing-told : (decls : List Decl) (ins : List InWord) (d : Decl) → unknown decls ins ≡ None → missing decls ins ≡ Some d
     → names_fit decls ins ≡ Err (missing_input d.name)
 unfolding names_fit
 missing-told decls ins d e f = ap (λ (u : Option InWord). first_told u (missing decls ins)) e ∙ ap (first_told None) f
 
--- the names are right
+-- otherwise the names fit
 pub nothing-told : (decls : List Decl) (ins : List InWord) → unknown decls ins ≡ None → missing decls ins ≡ None → names_fit decls ins ≡ Ok tt
 unfolding names_fit
 nothing-told decls ins e f = ap (λ (u : Option InWord). first_told u (missing decls ins)) e ∙ ap (first_told None) f
 
--- each word names an input that has a width
+-- an input that is named is of rows or of a stream
 pub known-widths : (decls : List Decl) (ins : List InWord) → All IsOuter decls → names_fit decls ins ≡ Ok tt
     → All (λ w. IsTrue (is_width (width_named decls w.name))) ins
 unfolding names_fit
@@ -221,7 +221,7 @@ module _ (decls : List Decl) (ins : List InWord) (layout : Layout) (held : Optio
       found (Err text) is told next = absurd told
   read_passes rose files (Err s) told = λ next. past-refused (all_read reader ins files) s held rose told (λ all. next (in_order decls ins all))
 
-  -- all files were fetched, and are read
+  -- what is read of the files passes on as the order of points says
   pub files-pass : (rose : Type 0) (files : List (List ℕ)) (result : Result (List Content) Stop) → names_fit decls ins ≡ Ok tt
       → ((next : List (List ℕ) → Order) → Comes (fetches ins next) held (next files))
       → AnswersAs (λ all rows. rows ≡ in_order decls ins all) (all_read reader ins files) result → Passes (of_inputs decls ins layout) held rose result

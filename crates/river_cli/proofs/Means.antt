@@ -4,7 +4,7 @@ use Rattle.std.proofs.lemmas.List.{length-map}
 use Rattle.kern_tables.specs.Tables.{tab}
 use Rattle.kern_tables.specs.Kept.{rows_of}
 use Rattle.river_base.specs.declared.item.Item as item
-use Rattle.csv_streams.specs.Outcome.{outputs_text, tables_text, firings_text, asked, printed_outcome}
+use Rattle.csv_streams.specs.Outcome.{outputs_text, tables_text, firings_text, asked_counts, printed_outcome}
 use Rattle.river_plan.specs.Forms.{PlanForm, decl_names, labels}
 use Rattle.brooklet_model.specs.Histories.{hist, all_adds}
 use Rattle.brooklet_model.specs.Meaning.{Results, meaning}
@@ -20,15 +20,14 @@ use Rattle.std.specs.Prelude.{Result, Ok, Err, IfOk}
 use Rattle.river_base.specs.declared.memory.NoMemory.{NoMemory}
 use Rattle.river_cli.proofs.CqlCompiled.{files-are}
 use Rattle.cql_model.specs.Laws.{AreFiles}
-use Rattle.cql_text.specs.Tree.{parts_of}
+use Rattle.cql_text.specs.Tree.{program_of}
 use Rattle.cql_text.specs.declared.tree.CqlProgram.{CqlProgram}
-use Rattle.cql_build.specs.Seen as cql
 
 -- the files of a CQL program fit its registered streams
 pub known-files : (t : CqlProgram) (p : PlanForm) (all : List Content) → IsKnown (program.Cql t) p → AreContents p.inputs all
-    → AreFiles (cql.program_of (parts_of t)) (timed_files all)
+    → AreFiles (program_of t) (timed_files all)
 known-files t p all (source, is) typed =
-    files-are (cql.program_of (parts_of t)) all (subst (λ ds. AreContents ds all) (is.plan.inputs ∙ is.program.inputs) typed)
+    files-are (program_of t) all (subst (λ ds. AreContents ds all) (is.plan.inputs ∙ is.program.inputs) typed)
 
 -- files with timestamps, one after another
 pub timed-more : (fs : List Content) (f : Content) → timed_files (fs ++ f ∷ []) ≡ timed_files fs ++ timed_files (f ∷ [])
@@ -40,13 +39,13 @@ timed-more (Timed rows ∷ fs) f = ap (λ l. rows ∷ l) (timed-more fs f)
 
 -- what the program means is what the plan's printed text asks for
 pub mean-printed : (source : Source) (p : PlanForm) (all : List Content) (o : Outcome) → IsPlanOf source p → Gives o (source.means all)
-    → printed_outcome p o.outs (map rows_of o.tables) (asked false o.counts) ≡ printed source false all
+    → printed_outcome p o.outs (map rows_of o.tables) (asked_counts false o.counts) ≡ printed source false all
 mean-printed source p all o is gives = λ i.
-    outputs_text (is.outputs i) (gives.outs i) ++ (tables_text (is.tables i) (gives.tables i) ++ firings_text (labels (is.plan i).ops) (asked false o.counts))
+    outputs_text (is.outputs i) (gives.outs i) ++ (tables_text (is.tables i) (gives.tables i) ++ firings_text (labels (is.plan i).ops) (asked_counts false o.counts))
 
--- what is printed of the slow meaning
+-- what is printed is what the program means
 pub mean-says : (it : Program) (p : PlanForm) (all : List Content) (o : Outcome) (result : Result (List ℕ) NoMemory)
-    → IfOk result (λ text. text ≡ printed_outcome p o.outs (map rows_of o.tables) (asked false o.counts))
+    → IfOk result (λ text. text ≡ printed_outcome p o.outs (map rows_of o.tables) (asked_counts false o.counts))
     → ((source : Source) → IsOf it source p → Gives o (source.means all))
     → IfOk result (λ text. (source : Source) → IsOf it source p → text ≡ printed source false all)
 mean-says it p all o (Ok text) says gives = λ source is. says ∙ mean-printed source p all o is.plan (gives source is)
@@ -63,7 +62,7 @@ module _ (it : Program) (p : PlanForm) (all : List Content) (o : Outcome) (typed
       ap length (gives known.0 known.1).outs ∙ ap (λ (r : Results). length r.outs) same
       ∙ length-map (decl_names p.outputs) (hist p (all_items all)) ∙ length-map p.outputs (λ d. d.name)
 
-  -- there are rows for each table
+  -- there are rows for each table of the plan
   pub given-tables : length o.tables ≡ length p.tables
   given-tables =
       sym (length-map o.tables rows_of) ∙ ap length (gives known.0 known.1).tables ∙ ap (λ (r : Results). length r.tables) same

@@ -1,7 +1,7 @@
 -- The points of a command, and the calls that do them.
 use Rattle.std.proofs.Common.{◌≡◌, ℕ, ℤ, List, ◌++◌, Bool, false, refl, sym, ap, ◌∙◌, subst}
 use Rattle.std.specs.Prelude.{Option, Some, None, Result, Ok, Err, IfOk, IsErrOf, pos, map}
-use Rattle.csv_streams.specs.Outcome.{outputs_text, tables_text, firings_text, asked, printed_outcome}
+use Rattle.csv_streams.specs.Outcome.{outputs_text, tables_text, firings_text, asked_counts, printed_outcome}
 use Rattle.river_base.specs.declared.item.Item as item
 use Rattle.river_base.specs.declared.memory.NoMemory.{NoMemory}
 use Rattle.river_outside.specs.Held.{Held}
@@ -66,13 +66,13 @@ module _ (lang : Lang) (file : List ℕ) (held : Option Held) where
     abbrev run_after : Source → (List ℕ → Order) → Order
     run_after source next = of_script script source (λ later. of_inputs_run ins (layout_of lang header) counts later next)
 
-    -- `run`: the program stops it
+    -- a run that stops before its program is there
     pub run-first : (rose : Type 0) (s : Stop) → ((next : Source → Order) → Stops (Some (of_program lang file next)) held rose s)
         → (next : List ℕ → Order) → Stops (Some (of_run lang file ins script header counts next)) held rose s
     unfolding of_run
     run-first rose s stops next = stops (λ source. run_after source next)
 
-    -- `run`: the script stops it
+    -- one that stops before its plan is rewritten
     pub run-script : (mid early late : Type 0) → (late → early) → (c : Compiled) (s : Stop) → PassesAs IsCompiled (of_program lang file) held mid (Ok c)
         → ((source : Source) → IsOf c.program source c.plan → (next : Source → Order) → Stops (Some (of_script script source next)) held late s)
         → (next : List ℕ → Order) → Stops (Some (of_run lang file ins script header counts next)) held early s
@@ -80,7 +80,7 @@ module _ (lang : Lang) (file : List ℕ) (held : Option Held) where
     run-script mid early late sooner c s here stops =
         as-then IsCompiled (of_program lang file) run_after held mid early late sooner c (Err s) here (λ source is next. stops source is (λ later. of_inputs_run ins (layout_of lang header) counts later next))
 
-    -- `run`: the inputs stop it, or it is run
+    -- one that comes to its files
     pub run-last : (mid half early late : Type 0) → (late → early) → (c : Compiled) (plan : PlanForm) (result : Result (List ℕ) Stop)
         → PassesAs IsCompiled (of_program lang file) held mid (Ok c)
         → ((source : Source) → IsOf c.program source c.plan → PassesAs (IsOf c.program) (of_script script source) held half (Ok plan))
@@ -95,13 +95,13 @@ module _ (lang : Lang) (file : List ℕ) (held : Option Held) where
     abbrev show_after : Source → (List ℕ → Order) → Order
     show_after source next = of_script script source (λ later. next (shown later.plan))
 
-    -- `plan`: the program stops it
+    -- `plan` that stops before its program is there
     pub show-first : (rose : Type 0) (s : Stop) → ((next : Source → Order) → Stops (Some (of_program lang file next)) held rose s)
         → (next : List ℕ → Order) → Stops (Some (of_show lang file script next)) held rose s
     unfolding of_show
     show-first rose s stops next = stops (λ source. show_after source next)
 
-    -- `plan`: the script stops it
+    -- one that stops before its plan is rewritten
     pub show-script : (mid early late : Type 0) → (late → early) → (c : Compiled) (s : Stop) → PassesAs IsCompiled (of_program lang file) held mid (Ok c)
         → ((source : Source) → IsOf c.program source c.plan → (next : Source → Order) → Stops (Some (of_script script source next)) held late s)
         → (next : List ℕ → Order) → Stops (Some (of_show lang file script next)) held early s
@@ -109,7 +109,7 @@ module _ (lang : Lang) (file : List ℕ) (held : Option Held) where
     show-script mid early late sooner c s here stops =
         as-then IsCompiled (of_program lang file) show_after held mid early late sooner c (Err s) here (λ source is next. stops source is (λ later. next (shown later.plan)))
 
-    -- `plan`: it is shown
+    -- one that comes to its plan
     pub show-last : (mid half rose : Type 0) (c : Compiled) (plan : PlanForm) (text : List ℕ)
         → PassesAs IsCompiled (of_program lang file) held mid (Ok c)
         → ((source : Source) → IsOf c.program source c.plan → PassesAs (IsOf c.program) (of_script script source) held half (Ok plan))
@@ -122,13 +122,13 @@ module _ (lang : Lang) (file : List ℕ) (held : Option Held) where
         subst (λ t. Comes (next (shown later.plan)) held (next t)) (sym same) (Comes-same (next (shown later.plan)) held)))
 
   module _ (ins : List InWord) (header : Bool) where
-    -- `mean`: the program stops it
+    -- `mean` that stops before its program is there
     pub mean-first : (rose : Type 0) (s : Stop) → ((next : Source → Order) → Stops (Some (of_program lang file next)) held rose s)
         → (next : List ℕ → Order) → Stops (Some (of_mean lang file ins header next)) held rose s
     unfolding of_mean
     mean-first rose s stops next = stops (λ source. of_inputs_run ins (layout_of lang header) false source next)
 
-    -- `mean`: the inputs stop it, or it is printed
+    -- one that comes to its files
     pub mean-last : (mid early late : Type 0) → (late → early) → (c : Compiled) (result : Result (List ℕ) Stop)
         → PassesAs IsCompiled (of_program lang file) held mid (Ok c)
         → ((source : Source) → IsOf c.program source c.plan → Passes (of_inputs_run ins (layout_of lang header) false source) held late result)
@@ -156,21 +156,21 @@ never-usage point held rose (Err s) passed is =
 
 -- each command does what it names
 module _ (held : Option Held) (rose : Type 0) where
-  -- what `run` passes the command passes
+  -- what `run` gives is what its command asks for
   pub run-answers : (lang : Lang) (file : List ℕ) (ins : List InWord) (script : Option (List ℕ)) (header counts : Bool) (result : Result (List ℕ) Stop)
       → Passes (of_run lang file ins script header counts) held rose result → Passes (of_command (Run lang file ins script header counts)) held rose result
   unfolding of_command
   run-answers lang file ins script header counts (Ok text) passed = passed
   run-answers lang file ins script header counts (Err s) passed = passed
 
-  -- what `plan` passes the command passes
+  -- what `plan` gives is what its command asks for
   pub show-answers : (lang : Lang) (file : List ℕ) (script : Option (List ℕ)) (result : Result (List ℕ) Stop)
       → Passes (of_show lang file script) held rose result → Passes (of_command (Plan lang file script)) held rose result
   unfolding of_command
   show-answers lang file script (Ok text) passed = passed
   show-answers lang file script (Err s) passed = passed
 
-  -- what `mean` passes the command passes
+  -- what `mean` gives is what its command asks for
   pub mean-answers : (lang : Lang) (file : List ℕ) (ins : List InWord) (header : Bool) (result : Result (List ℕ) Stop)
       → Passes (of_mean lang file ins header) held rose result → Passes (of_command (Mean lang file ins header)) held rose result
   unfolding of_command
@@ -207,7 +207,7 @@ module _ (ins : List InWord) (layout : Layout) (counted : Bool) (source : Source
 
 -- what the plan prints is what the program prints
 pub output-printed : (source : Source) (plan : PlanForm) (counted : Bool) (all : List Content) → IsPlanOf source plan → AreContents plan.inputs all
-    → printed_outcome plan (meaning plan (all_items all)).outs (meaning plan (all_items all)).tables (asked counted (map pos (firings plan (all_items all)))) ≡ printed source counted all
+    → printed_outcome plan (meaning plan (all_items all)).outs (meaning plan (all_items all)).tables (asked_counts counted (map pos (firings plan (all_items all)))) ≡ printed source counted all
 output-printed source plan counted all is typed =
     ap (λ n. outputs_text n (meaning plan (all_items all)).outs ++ (tables_text (table_names plan.tables) (meaning plan (all_items all)).tables ++ fired plan)) is.outputs
     ∙ ap (λ n. outputs_text source.outputs (meaning plan (all_items all)).outs ++ (tables_text n (meaning plan (all_items all)).tables ++ fired plan)) is.tables
@@ -215,14 +215,14 @@ output-printed source plan counted all is typed =
     ∙ ap (λ q. outputs_text source.outputs (source.means all).outs ++ (tables_text source.tables (source.means all).tables ++ fired q)) is.plan
   where
     fired : PlanForm → List ℕ
-    fired q = firings_text (labels q.ops) (asked counted (map pos (firings q (all_items all))))
+    fired q = firings_text (labels q.ops) (asked_counts counted (map pos (firings q (all_items all))))
 
--- what is printed of a run
+-- what is printed of a run is what the plan means
 pub output-says : (plan : PlanForm) (counted : Bool) (all : List Content) (outs : List (List item.Item)) (tables : List (List (List ℤ))) (counts : List ℤ) (result : Result (List ℕ) NoMemory)
-    → IfOk result (λ text. text ≡ printed_outcome plan outs tables (asked counted counts)) → outs ≡ (meaning plan (all_items all)).outs
+    → IfOk result (λ text. text ≡ printed_outcome plan outs tables (asked_counts counted counts)) → outs ≡ (meaning plan (all_items all)).outs
     → tables ≡ (meaning plan (all_items all)).tables
     → counts ≡ map pos (firings plan (all_items all)) → AreContents plan.inputs all
     → IfOk result (λ text. (source : Source) → IsPlanOf source plan → text ≡ printed source counted all)
 output-says plan counted all outs tables counts (Ok text) says outs_is tables_is counts_is typed = λ source is.
-    says ∙ (λ i. printed_outcome plan (outs_is i) (tables_is i) (asked counted (counts_is i))) ∙ output-printed source plan counted all is typed
+    says ∙ (λ i. printed_outcome plan (outs_is i) (tables_is i) (asked_counts counted (counts_is i))) ∙ output-printed source plan counted all is typed
 output-says plan counted all outs tables counts (Err e) says outs_is tables_is counts_is typed = tt

@@ -9,7 +9,7 @@ use Rattle.river_base.specs.Instants.{at_instant, instants, spread}
 use Rattle.river_base.specs.declared.kind.FlatType.TheVariants.{Rows, Stream, Relation}
 use Rattle.river_base.specs.declared.kind.QueueType.{QueueType}
 use Rattle.river_base.specs.declared.kind.QueueType.TheVariants.{Flat as FlatOf, Pack as PackOf}
-use Rattle.csv_streams.specs.Rows.{rows_of}
+use Rattle.csv_streams.specs.Rows.{rows_of_file}
 use Rattle.csv_streams.specs.Timed.{Entry, timed_of}
 use Rattle.csv_streams.specs.declared.fault.InFault.{InFault}
 use Rattle.river_order.specs.Order.{Order, Fetch}
@@ -19,7 +19,8 @@ use Rattle.river_plan.specs.Forms.{decl_names}
 use Rattle.river_plan.specs.Faults.{type_width}
 use Rattle.river_plan.specs.Kinds.{kind_of}
 use Rattle.river_plan.specs.Names.{count}
-use Rattle.river_cli.specs.Text.{unknown_input, missing_input, large_input, input_refused, in_words}
+use Rattle.csv_streams.specs.FaultWords.{in_words}
+use Rattle.river_cli.specs.Text.{unknown_input, missing_input, large_input, input_refused}
 use Rattle.river_cli.specs.declared.content.Content.{Content}
 use Rattle.river_cli.specs.declared.content.Content.TheVariants.{Rows as Plain, Timed}
 use Rattle.river_cli.specs.declared.command.InWord.{InWord}
@@ -95,9 +96,9 @@ read_as content (Err fault) = Err fault
 -- an input has rows of its width, and those of a stream have timestamps
 abbrev pub content_of : QueueType → Layout → List ℕ → Result Content InFault
 content_of (FlatOf (Stream w)) layout bytes = read_as Timed (timed_of bytes w layout.header)
-content_of (FlatOf (Rows w)) layout bytes = read_as Plain (rows_of bytes w layout.header layout.more)
-content_of (FlatOf (Relation w)) layout bytes = read_as Plain (rows_of bytes w layout.header layout.more)
-content_of (PackOf t) layout bytes = read_as Plain (rows_of bytes (type_width (PackOf t)) layout.header layout.more)
+content_of (FlatOf (Rows w)) layout bytes = read_as Plain (rows_of_file bytes w layout.header layout.more)
+content_of (FlatOf (Relation w)) layout bytes = read_as Plain (rows_of_file bytes w layout.header layout.more)
+content_of (PackOf t) layout bytes = read_as Plain (rows_of_file bytes (type_width (PackOf t)) layout.header layout.more)
 
 abbrev pub content_reader : List Decl → Layout → Reader Content
 content_reader decls layout name bytes = content_of (kind_of decls name) layout bytes

@@ -2,7 +2,7 @@
 use Rattle.std.specs.Prelude.{◌≡◌, ℕ, ℤ, pos, List, [], ◌∷◌, ◌++◌, map, Bool, Result, Ok, Err, slice_index_or, codes}
 use Rattle.kern_tables.specs.Kept.{rows_of as table_rows}
 use Rattle.brooklet_step.specs.declared.run.Outcome.{Outcome}
-use Rattle.csv_streams.specs.Outcome.{outputs_text, tables_text, firings_text, asked}
+use Rattle.csv_streams.specs.Outcome.{outputs_text, tables_text, firings_text, asked_counts}
 use Rattle.river_plan.specs.declared.plan.Decl.{Decl}
 use Rattle.river_plan.specs.Forms.{Name, PlanForm, decl_names, table_names, labels}
 use Rattle.river_text.specs.Meaning.{plan_in}
@@ -18,12 +18,11 @@ use Rattle.streamit_build.specs.Told.{AreReadable}
 use Rattle.streamit_front.specs.Meaning.{Accepted, compiled}
 use Rattle.streamit_front.specs.Words.{streamit_words}
 use Rattle.cql_model.specs.Instants.{program_means}
-use Rattle.cql_model.specs.Program.{Register, Ask}
-use Rattle.cql_model.specs.Program as cql_model
+use Rattle.cql_text.specs.Tree.{Register, AQuery}
+use Rattle.cql_text.specs.Tree as cql_text
 use Rattle.cql_model.specs.Translation.{input_decls}
 use Rattle.cql_model.specs.Translation as cql
-use Rattle.cql_text.specs.Tree.{Part, parts_of}
-use Rattle.cql_build.specs.Seen.{program_of}
+use Rattle.cql_text.specs.Tree.{Part, program_of}
 use Rattle.cql_front.specs.Meaning as cql_front
 use Rattle.cql_front.specs.Words.{cql_words}
 use Rattle.river_cli.specs.Contents.{AreContents}
@@ -107,22 +106,22 @@ saw_source a = record {
 }
 
 -- the queries of a program, by their names
-abbrev pub asked_names : cql_model.Program → List Name
+abbrev pub asked_names : cql_text.Program → List Name
 asked_names [] = []
 asked_names (Register name fields ∷ ps) = asked_names ps
-asked_names (Ask q ∷ ps) = q.name ∷ asked_names ps
+asked_names (AQuery q ∷ ps) = q.name ∷ asked_names ps
 
-abbrev pub cql_means : cql_model.Program → List Content → Results
+abbrev pub cql_means : cql_text.Program → List Content → Results
 cql_means p files = record { outs = program_means p (timed_files files); tables = [] }
 
 -- a CQL program, by its own definition: a registered stream is an input, and a query an output
 abbrev pub cql_source : List Part → Source
 cql_source p = record {
-  inputs = input_decls (program_of p);
-  outputs = asked_names (program_of p);
+  inputs = input_decls p;
+  outputs = asked_names p;
   tables = [];
-  means = cql_means (program_of p);
-  plan = cql.plan_of (program_of p);
+  means = cql_means p;
+  plan = cql.plan_of p;
 }
 
 -- the program of what was read, or the text that refuses it
@@ -158,7 +157,7 @@ pub record IsSawzall (s : Source) (p : saw_text.Program) : Type 0 where
   pub valued : AreValuedParts p
   pub means : (files : List Content) → s.means files ≡ saw_means p files
 
-pub record IsCql (s : Source) (p : cql_model.Program) : Type 0 where
+pub record IsCql (s : Source) (p : cql_text.Program) : Type 0 where
   pub columns : HaveColumns [] p
   pub inputs : s.inputs ≡ input_decls p
   pub means : (files : List Content) → s.means files ≡ cql_means p files
@@ -168,7 +167,7 @@ abbrev pub IsProgramOf : Source → Program → Type 0
 IsProgramOf s program.River = Unit {0}
 IsProgramOf s (program.Streamit p) = IsStreamit s (streamit_build.program_of p.units.items)
 IsProgramOf s (program.Sawzall p) = IsSawzall s (unit_forms p.units.items)
-IsProgramOf s (program.Cql p) = IsCql s (program_of (parts_of p))
+IsProgramOf s (program.Cql p) = IsCql s (program_of p)
 
 -- a plan that may be run in place of the program, and the program as it was read
 pub record IsOf (tree : Program) (s : Source) (p : PlanForm) : Type 0 where
@@ -192,4 +191,4 @@ pub record Gives (o : Outcome) (r : Results) : Type 0 where
 abbrev pub printed : Source → Bool → List Content → List ℕ
 printed s counted files =
     outputs_text s.outputs (s.means files).outs
-    ++ (tables_text s.tables (s.means files).tables ++ firings_text (labels s.plan.ops) (asked counted (map pos (firings s.plan (all_items files)))))
+    ++ (tables_text s.tables (s.means files).tables ++ firings_text (labels s.plan.ops) (asked_counts counted (map pos (firings s.plan (all_items files)))))

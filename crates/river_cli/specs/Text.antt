@@ -1,8 +1,5 @@
 -- The texts that are written besides the output of a program.
 use Rattle.std.specs.Prelude.{ℕ, List, ◌++◌, codes}
-use Rattle.std.specs.Fmt.{decimal}
-use Rattle.csv_streams.specs.declared.fault.InFault.{InFault}
-use Rattle.csv_streams.specs.declared.fault.InFault.TheVariants as fault
 
 abbrev pub usage_text : List ℕ
 usage_text = codes "usage: river run|plan|mean|load\n"
@@ -34,12 +31,3 @@ unknown_input name = input_refused name (codes "Unknown")
 
 abbrev pub missing_input : List ℕ → List ℕ
 missing_input name = input_refused name (codes "Missing")
-
--- what is told of the first record of a file that is none of its input, by its number; want of memory is never told
-abbrev pub in_words : InFault → List ℕ
-in_words (fault.Width rec) = codes "I1 " ++ decimal rec
-in_words (fault.NotNumber rec field) = codes "I2 " ++ (decimal rec ++ (codes " " ++ decimal field))
-in_words (fault.Backwards rec) = codes "I3 " ++ decimal rec
-in_words (fault.NegativeTime rec) = codes "I4 " ++ decimal rec
-in_words fault.TooMany = codes "I5"
-in_words fault.NoMemory = codes "NoMemory"

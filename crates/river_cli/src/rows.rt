@@ -1,6 +1,6 @@
 // What the files of a program's inputs have.
 ghost use Rattle.std.specs.Prelude.{◌≡◌, ◌≤◌, ℕ, List, false, length, All, IsTrue, IfOk, MatchOption};
-ghost use Rattle.csv_streams.specs.Rows.{rows_of, IsAnswer};
+ghost use Rattle.csv_streams.specs.Rows.{rows_of_file, IsAnswer};
 ghost use Rattle.csv_streams.specs.Timed.{timed_of};
 ghost use Rattle.river_base.specs.declared.kind.QueueType.TheVariants.{Pack as PackOf};
 ghost use Rattle.river_order.specs.Passes.{Answers, AnswersAs};
@@ -120,7 +120,7 @@ fn width_of(flat: FlatType) -> u32
 
 fn read_plain(alloc: Global, bytes: &Bytes, width: u32, layout: Layout) -> Result<Content, InFault>
     requires { IsTrue (is_width width) }
-    ensures { IsAnswer (read_as Plain (rows_of bytes.now width layout.header layout.more)) result }
+    ensures { IsAnswer (read_as Plain (rows_of_file bytes.now width layout.header layout.more)) result }
 {
     Ok(Content::Rows(read_even(alloc, bytes, width, layout.header, layout.more)?))
 }

@@ -1,7 +1,7 @@
 // The texts that are written besides the output of a program.
-ghost use Rattle.std.specs.Prelude.{◌≡◌, ◌++◌, codes, IfOk};
-ghost use Rattle.std.specs.Fmt.{decimal};
-ghost use Rattle.river_cli.specs.Text.{program_refused, script_refused, input_refused, in_words, large_input, unknown_input, missing_input};
+ghost use Rattle.std.specs.Prelude.{◌≡◌, IfOk};
+ghost use Rattle.csv_streams.specs.FaultWords.{in_words};
+ghost use Rattle.river_cli.specs.Text.{program_refused, script_refused, input_refused, large_input, unknown_input, missing_input};
 
 use csv_streams::InFault;
 use river_base::{Bytes, NoMemory};
@@ -73,30 +73,6 @@ pub fn missing(alloc: Global, name: &[u8]) -> Result<Bytes, NoMemory>
 pub fn in_fault(alloc: Global, name: &[u8], fault: InFault) -> Result<Bytes, NoMemory>
     ensures { IfOk result (λ text. text ≡ input_refused name.now (in_words fault)) }
 {
-    match fault {
-        InFault::Width { rec } => faulty_record(alloc, name, b"I1 ", rec),
-        InFault::NotNumber { rec, field } => not_number(alloc, name, rec, field),
-        InFault::Backwards { rec } => faulty_record(alloc, name, b"I3 ", rec),
-        InFault::NegativeTime { rec } => faulty_record(alloc, name, b"I4 ", rec),
-        InFault::TooMany => input(alloc, name, b"I5"),
-        InFault::NoMemory => input(alloc, name, b"NoMemory"),
-    }
-}
-
-// A record is at fault.
-fn faulty_record(alloc: Global, name: &[u8], fault: &[u8], rec: u32) -> Result<Bytes, NoMemory>
-    ensures { IfOk result (λ text. text ≡ input_refused name.now (fault.now ++ decimal rec)) }
-{
-    let mut words = Bytes::from_slice(alloc, fault)?;
-    let digits = format!(in alloc; "{rec}")?;
-    words.extend(digits.as_bytes())?;
+    let words = fault.words(alloc)?;
     input(alloc, name, words.as_slice())
-}
-
-// A field of a record is no number.
-fn not_number(alloc: Global, name: &[u8], rec: u32, field: u32) -> Result<Bytes, NoMemory>
-    ensures { IfOk result (λ text. text ≡ input_refused name.now (codes "I2 " ++ (decimal rec ++ (codes " " ++ decimal field)))) }
-{
-    let words = format!(in alloc; "I2 {rec} {field}")?;
-    input(alloc, name, words.as_bytes())
 }

@@ -3,11 +3,10 @@ use Rattle.std.proofs.Common.{Ok, List, [], ◌∷◌}
 use Rattle.work_code.specs.Cut.{units_of}
 use Rattle.work_code.specs.Tok.{toks}
 use Rattle.cql_model.specs.Plannable.{AreQueries}
-use Rattle.cql_model.specs.Program.{Register, Ask, Program}
+use Rattle.cql_text.specs.Tree.{Register, AQuery, Program}
 use Rattle.cql_model.specs.Scopes.{Named}
 use Rattle.cql_model.specs.Translation.{query_named}
 use Rattle.cql_model.proofs.Judged.{accepted_plannable}
-use Rattle.cql_build.specs.Seen.{program_of}
 use Rattle.slow_cql.specs.Contents.{HaveColumns}
 use Rattle.slow_cql.specs.Laws.{CompiledHaveColumns}
 use Rattle.cql_front.specs.Laws.{Has}
@@ -17,10 +16,11 @@ use Rattle.cql_front.proofs.Spoken.{spoken}
 have_columns : (known : List Named) (ps : Program) → AreQueries known ps → HaveColumns known ps
 have_columns known [] h = tt
 have_columns known (Register name fields ∷ ps) h = have_columns (record { name = name; fields = fields } ∷ known) ps h.1
-have_columns known (Ask q ∷ ps) h = (h.0.columns, have_columns (query_named known q ∷ known) ps h.1)
+have_columns known (AQuery q ∷ ps) h = (h.0.columns, have_columns (query_named known q ∷ known) ps h.1)
 
+-- the law: the program of a text has what its meaning asks for
 pub accepted_columns : CompiledHaveColumns
 accepted_columns text p e =
     let h : Has text (Ok p) = (means_what_it_has text (Ok p)).0 e in
     let s = spoken p (units_of (toks h.0.marks)) h.0.formed in
-    have_columns [] (program_of p) (accepted_plannable (program_of p) s h.1).queries
+    have_columns [] p (accepted_plannable p s h.1).queries

@@ -7,14 +7,16 @@ use Rattle.cql_model.specs.Meaning.{answers}
 use Rattle.cql_model.specs.Streams.{Rises}
 use Rattle.cql_model.proofs.Stamps.{instants_are}
 use Rattle.cql_text.specs.declared.tree.Part.{Part}
-use Rattle.cql_build.specs.Views.{program_of}
+use Rattle.cql_text.specs.Tree.{parts_of}
 use Rattle.slow_cql.specs.Kept.{Entry}
 
+-- sorted instants rise
 pub sorted_rise : (files : List (List Entry)) (ts : List ℤ) → ts ≡ instants files → Rises ts
 sorted_rise files ts e = subst Rises (sym e) (instants_are files).rise
 
+-- the answers at them are what the program means
 pub sorted_mean : (ps parts : List Part) (fs files : List (List Entry)) (ts : List ℤ) (outs : List (List item.Item)) → ts ≡ instants files → ps ≡ parts
     → fs ≡ files
-    → outs ≡ map (spread ts) (answers ts [] (program_of ps) fs) → outs ≡ program_means (program_of parts) files
+    → outs ≡ map (spread ts) (answers ts [] (parts_of ps) fs) → outs ≡ program_means (parts_of parts) files
 sorted_mean ps parts fs files ts outs e a b h =
-    h ∙ (λ j. map (spread (e j)) (answers (e j) [] (program_of (a j)) (b j)))
+    h ∙ (λ j. map (spread (e j)) (answers (e j) [] (parts_of (a j)) (b j)))

@@ -6,15 +6,17 @@ use Rattle.std.specs.Ordering.{int_cmp, is_lt}
 use native.Mathlib.Numerals.{unary_clauses}
 use Rattle.std.proofs.lemmas.List.{map-append}
 use Rattle.std.proofs.lemmas.List.Elements.{filter-append}
-use Rattle.kern_bags.specs.declared.kernel.Window.{Window}
-use Rattle.cql_model.specs.Streams.{Timed, Rises, in_reach, kept, windowed, spread}
+use Rattle.cql_text.specs.Tree.{Window}
+use Rattle.cql_model.specs.Streams.{Timed, Rises, in_reach, kept_rows, windowed, spread}
 use Rattle.cql_model.proofs.Instants.{Ascends, ascends}
 use Rattle.slow_cql.specs.Kept.{Entry, timed, is_in_order, entries_in, reached}
 
+-- the rows of a stream's batches, with their instants
 pub entries-spread : (ts : List ℤ) (s : Timed) → entries_in (spread ts s) ≡ timed ts s
 entries-spread [] s = refl
 entries-spread (t ∷ ts) s = ap (λ l. map (λ row. (t, row)) (s t) ++ l) (entries-spread ts s)
 
+-- an empty stream has none
 pub timed-none : (ts : List ℤ) → timed ts (λ t. []) ≡ []
 timed-none [] = refl
 timed-none (t ∷ ts) = timed-none ts
@@ -53,9 +55,10 @@ rows-timed (u ∷ us) s =
     ∙ ap (λ l. l ++ map (λ (e : Entry). e.1) (timed us s)) (rows-behind u (s u))
     ∙ ap (λ l. s u ++ l) (rows-timed us s)
 
+-- what a window reaches among them is its content
 pub reached-timed : (w : Window) (ts : List ℤ) (s : Timed) (t : ℤ) → reached w t (timed ts s) ≡ windowed w ts s t
-reached-timed w ts s t = ap (λ l. kept w (map (λ (e : Entry). e.1) l)) (filter-timed (in_reach w t) ts s)
-    ∙ ap (kept w) (rows-timed (filter (in_reach w t) ts) s)
+reached-timed w ts s t = ap (λ l. kept_rows w (map (λ (e : Entry). e.1) l)) (filter-timed (in_reach w t) ts s)
+    ∙ ap (kept_rows w) (rows-timed (filter (in_reach w t) ts) s)
 
 -- ---- THEIR ORDER
 
@@ -93,5 +96,6 @@ ascending : (ts : List ℤ) (s : Timed) → Ascends ts → is_in_order (timed ts
 ascending [] s h = λ k d low high. absurd (omega (arith, high))
 ascending (t ∷ ts) s h = behind_in_order t (s t) (timed ts s) (timed_not_below t ts s h.0) (ascending ts s h.1)
 
+-- they are in the order of their instants
 pub timed_in_order : (ts : List ℤ) (s : Timed) → Rises ts → is_in_order (timed ts s)
 timed_in_order ts s h = ascending ts s (ascends ts h)

@@ -7,7 +7,7 @@ use Rattle.std.specs.Ordering.{int_eq}
 use Rattle.std.proofs.lemmas.List.{take_all, length-map}
 use Rattle.std.proofs.lemmas.List.Elements.{filter_agree}
 use Rattle.csv_streams.proofs.Spreading.{passes_between}
-use Rattle.cql_model.specs.Streams.{last_rows}
+use Rattle.cql_model.specs.Streams.{latest_rows}
 use Rattle.slow_cql.specs.Kept.{Entry}
 
 -- the rows that pass in front
@@ -33,6 +33,7 @@ filter-filter p q (e ∷ es) = step (p e) (filter-filter p q es) where
   step true more = ap (λ l. cond (q e) (e ∷ l) l) more
   step false more = more
 
+-- the rows of this instant are those up to it and not below it
 pub now_is : (t u : ℤ) → (int_le u t && not (int_lt u t)) ≡ int_eq u t
 now_is t u = grind arith
 
@@ -46,6 +47,6 @@ pub between : (p q r : Entry → Bool) → ((e : Entry) → (p e && q e) ≡ r e
 between p q r is es ps qs a b = b ∙ ap (filter q) a ∙ filter-filter p q es ∙ filter_agree (λ e. p e && q e) r is es
 
 -- the last of them
-pub last_of : (n : ℕ) (es : List Entry) → map (λ (e : Entry). e.1) (drop (length es - n) es) ≡ last_rows n (map (λ (e : Entry). e.1) es)
+pub last_of : (n : ℕ) (es : List Entry) → map (λ (e : Entry). e.1) (drop (length es - n) es) ≡ latest_rows n (map (λ (e : Entry). e.1) es)
 last_of n es = drop-map (λ (e : Entry). e.1) (length es - n) es
     ∙ (let l = length-map es (λ (e : Entry). e.1) in ap (λ k. drop (k - n) (map (λ (e : Entry). e.1) es)) (sym l))

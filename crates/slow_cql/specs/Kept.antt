@@ -8,18 +8,13 @@ use Rattle.river_base.specs.declared.item.Item as item
 use Rattle.river_base.specs.declared.item.Flat.TheVariants.{One, Batch as Batched}
 use Rattle.river_base.specs.declared.item.Item.TheVariants.{Flat, Pack}
 use Rattle.river_plan.specs.Forms.{Name}
-use Rattle.kern_bags.specs.declared.kernel.Window.{Window}
-use Rattle.cql_model.specs.Program.{Source}
+pub use Rattle.csv_streams.specs.Timed.{Entry}
 use Rattle.cql_model.specs.Scopes.{Named, fields_of, item_named, scope_of}
-use Rattle.cql_model.specs.Streams.{Timed, in_reach, kept, windowed}
-use Rattle.cql_model.specs.Meaning.{Known, names_of, rows_of, windows_at}
-use Rattle.cql_build.specs.Views.{window_of}
+use Rattle.cql_model.specs.Streams.{Timed, in_reach, kept_rows, windowed}
+use Rattle.cql_model.specs.Meaning.{KnownStream, named_of, rows_named, windows_at}
+use Rattle.cql_text.specs.Tree.{Window, Source, window_of}
 use Rattle.slow_cql.specs.declared.kept.Kept.{Kept}
 use Rattle.slow_cql.specs.declared.kept.Input.{Input}
-
--- a row and its instant
-abbrev pub Entry : Type 0
-Entry = ℤ × List ℤ
 
 -- the rows of all instants, in their order
 abbrev pub timed : List ℤ → Timed → List Entry
@@ -50,32 +45,32 @@ abbrev pub entries_in : List item.Item → List Entry
 entries_in items = flat_map entries_at items
 
 -- what is kept stands for what is known: each name has its fields, and its rows at these instants
-pub record Stands (ts : List ℤ) (all : List Kept) (ks : List Known) : Type 0 where
-  pub fields : (n : Name) → fields_or (latest n all) ≡ fields_of (names_of ks) n
-  pub rows : (n : Name) → entries_or (latest n all) ≡ timed ts (rows_of ks n)
+pub record StandsKept (ts : List ℤ) (all : List Kept) (ks : List KnownStream) : Type 0 where
+  pub fields : (n : Name) → fields_or (latest n all) ≡ fields_of (named_of ks) n
+  pub rows : (n : Name) → entries_or (latest n all) ≡ timed ts (rows_named ks n)
 
 -- the rows in a window
 abbrev pub reached : Window → ℤ → List Entry → List (List ℤ)
-reached w t es = kept w (map (λ (e : Entry). e.1) (filter (λ (e : Entry). in_reach w t e.0) es))
+reached w t es = kept_rows w (map (λ (e : Entry). e.1) (filter (λ (e : Entry). in_reach w t e.0) es))
 
-abbrev pub named : Input → Named
-named i = record { name = i.name; fields = i.fields.now }
+abbrev pub named_input : Input → Named
+named_input i = record { name = i.name; fields = i.fields.now }
 
-abbrev pub scope : List Input → List Named
-scope is = map named is
+abbrev pub input_scope : List Input → List Named
+input_scope is = map named_input is
 
 -- the content of an input at an instant
 abbrev pub content_in : ℤ → Input → List (List ℤ)
 content_in t i = reached (window_of i.window) t i.entries.now
 
 -- the input is the window of this item
-pub record IsInput (ts : List ℤ) (ks : List Known) (item : Source) (i : Input) : Type 0 where
-  pub named : named i ≡ item_named (names_of ks) item
-  pub content : (t : ℤ) → content_in t i ≡ windowed item.window ts (rows_of ks item.stream) t
+pub record IsInput (ts : List ℤ) (ks : List KnownStream) (item : Source) (i : Input) : Type 0 where
+  pub named : named_input i ≡ item_named (named_of ks) item
+  pub content : (t : ℤ) → content_in t i ≡ windowed item.window ts (rows_named ks item.stream) t
   pub in_order : is_in_order i.entries.now
 
 -- the inputs are those of these items
-pub record AreInputs (ts : List ℤ) (ks : List Known) (items : List Source) (is : List Input) : Type 0 where
-  pub named : scope is ≡ scope_of (names_of ks) items
+pub record AreInputsOf (ts : List ℤ) (ks : List KnownStream) (items : List Source) (is : List Input) : Type 0 where
+  pub named : input_scope is ≡ scope_of (named_of ks) items
   pub contents : (t : ℤ) → map (content_in t) is ≡ windows_at ts ks items t
   pub in_order : AllByRecursion (λ i. is_in_order i.entries.now) is

@@ -2,13 +2,12 @@
 ghost use Rattle.std.specs.Prelude.{◌≡◌, ℤ, List, ◌∷◌, [], ◌++◌, All, IfOk, OnOk};
 ghost use Rattle.std.specs.List.{AllByRecursion};
 ghost use Rattle.river_base.specs.Row.{in_order};
-ghost use Rattle.cql_model.specs.Meaning.{Known, names_of, answer};
+ghost use Rattle.cql_model.specs.Meaning.{KnownStream, named_of, answer};
 ghost use Rattle.cql_model.specs.Scopes.{scope_of, column_names};
-ghost use Rattle.cql_model.specs.Streams.{Rises, changed, streamed, spread, item_at};
-ghost use Rattle.cql_build.specs.Seen.{kind_of};
-ghost use Rattle.cql_build.specs.Views.{columns_of, query_of};
-ghost use Rattle.slow_cql.specs.Kept.{is_in_order, scope, Stands};
-ghost use Rattle.slow_cql.specs.Contents.{product_at, content_of, IsNarrow, AreNarrow};
+ghost use Rattle.cql_model.specs.Streams.{Rises, changed, as_stream, spread, item_at};
+ghost use Rattle.cql_text.specs.Tree.{columns_of, query_of};
+ghost use Rattle.slow_cql.specs.Kept.{is_in_order, input_scope, StandsKept};
+ghost use Rattle.slow_cql.specs.Contents.{product_at, content_over, IsNarrowTuple, AreNarrow};
 
 use crate::bag::changed;
 use crate::content::content;
@@ -26,8 +25,8 @@ pub(crate) fn answer(
     instants: &[i64],
 ) -> Result<Items, NoMemory>
     requires rises { Rises instants.now }
-    requires good { (ks : List Known) × Stands instants.now known.now ks × AreNarrow instants.now ks (query_of query.now) }
-    ensures { (ks : List Known) → Stands instants.now known.now ks
+    requires good { (ks : List KnownStream) × StandsKept instants.now known.now ks × AreNarrow instants.now ks (query_of query.now) }
+    ensures { (ks : List KnownStream) → StandsKept instants.now known.now ks
         → IfOk result (λ items. items ≡ spread instants.now (answer instants.now ks (query_of query.now))) }
 {
     let inputs = inputs(alloc, known, query.items.as_slice())?;
@@ -42,8 +41,8 @@ pub(crate) fn names(
     instants: &[i64],
 ) -> Result<Listed<Name>, NoMemory>
     requires { Rises instants.now }
-    ensures { (ks : List Known) → Stands instants.now known.now ks
-        → IfOk result (λ names. names ≡ column_names (scope_of (names_of ks) (query_of query.now).items) (query_of query.now).columns) }
+    ensures { (ks : List KnownStream) → StandsKept instants.now known.now ks
+        → IfOk result (λ names. names ≡ column_names (scope_of (named_of ks) (query_of query.now).items) (query_of query.now).columns) }
 {
     let inputs = inputs(alloc, known, query.items.as_slice())?;
     column_names(alloc, inputs.as_slice(), &query.columns)
@@ -58,8 +57,8 @@ fn over_inputs(
 ) -> Result<Items, NoMemory>
     requires rises { Rises instants.now }
     requires in_order { AllByRecursion (λ i. is_in_order i.entries.now) inputs.now }
-    requires narrow { (t : ℤ) → All (IsNarrow (scope inputs.now) (columns_of query.now.columns)) (product_at t inputs.now) }
-    ensures { IfOk result (λ items. items ≡ spread instants.now (streamed (kind_of query.now.kind) instants.now (content_of inputs.now (query_of query.now)))) }
+    requires narrow { (t : ℤ) → All (IsNarrowTuple (input_scope inputs.now) (columns_of query.now.columns)) (product_at t inputs.now) }
+    ensures { IfOk result (λ items. items ≡ spread instants.now (as_stream query.now.kind instants.now (content_over inputs.now (query_of query.now)))) }
 {
     let mut items = Items::new(alloc);
     add_batches(alloc, inputs, query, instants, &mut items)?;
@@ -77,8 +76,8 @@ fn add_batches(
     requires none { items.old ≡ [] }
     requires rises { Rises instants.now }
     requires in_order { AllByRecursion (λ i. is_in_order i.entries.now) inputs.now }
-    requires narrow { (t : ℤ) → All (IsNarrow (scope inputs.now) (columns_of query.now.columns)) (product_at t inputs.now) }
-    ensures { OnOk result (items.new ≡ spread instants.now (streamed (kind_of query.now.kind) instants.now (content_of inputs.now (query_of query.now)))) }
+    requires narrow { (t : ℤ) → All (IsNarrowTuple (input_scope inputs.now) (columns_of query.now.columns)) (product_at t inputs.now) }
+    ensures { OnOk result (items.new ≡ spread instants.now (as_stream query.now.kind instants.now (content_over inputs.now (query_of query.now)))) }
 {
     let mut before = Rows::new(alloc);
     for at in instants {
@@ -97,9 +96,9 @@ fn add_batch(
     items: &mut Items,
 ) -> Result<(), NoMemory>
     requires in_order { AllByRecursion (λ i. is_in_order i.entries.now) inputs.now }
-    requires narrow { All (IsNarrow (scope inputs.now) (columns_of query.now.columns)) (product_at at inputs.now) }
-    ensures before { OnOk result (before.new ≡ content_of inputs.now (query_of query.now) at) }
-    ensures items { OnOk result (items.new ≡ items.old ++ item_at at (in_order (changed (kind_of query.now.kind) before.old (content_of inputs.now
+    requires narrow { All (IsNarrowTuple (input_scope inputs.now) (columns_of query.now.columns)) (product_at at inputs.now) }
+    ensures before { OnOk result (before.new ≡ content_over inputs.now (query_of query.now) at) }
+    ensures items { OnOk result (items.new ≡ items.old ++ item_at at (in_order (changed query.now.kind before.old (content_over inputs.now
         (query_of query.now) at))) ∷ []) }
 {
     let rows = content(alloc, inputs, query, at)?;

@@ -5,7 +5,6 @@ ghost use Rattle.river_base.specs.Row.{in_order};
 ghost use Rattle.kern_bags.specs.Contents.{without, difference};
 ghost use Rattle.kern_bags.specs.Needs.{rows_from};
 ghost use Rattle.cql_model.specs.Streams.{changed};
-ghost use Rattle.cql_build.specs.Seen.{kind_of};
 
 use cql_text::Kind;
 use river_base::{Duplicate, NoMemory, Row, Rows, compare};
@@ -18,7 +17,7 @@ pub(crate) fn changed(
     before: &Rows,
     rows: &Rows,
 ) -> Result<Rows, NoMemory>
-    ensures { IfOk result (λ stream. stream ≡ in_order (changed (kind_of kind) before.now rows.now)) }
+    ensures { IfOk result (λ stream. stream ≡ in_order (changed kind before.now rows.now)) }
 {
     match kind {
         Kind::Istream => without(alloc, rows, before),

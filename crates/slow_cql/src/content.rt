@@ -1,11 +1,11 @@
 // The relation of a query at an instant: the product of its inputs, the condition, the columns.
 ghost use Rattle.std.specs.Prelude.{◌≡◌, [], ◌∷◌, ◌++◌, map, All, IfOk, OnOk};
 ghost use Rattle.std.specs.List.{AllByRecursion};
-ghost use Rattle.cql_model.specs.Meaning.{with_each, where_true, value, joined, row_of};
-ghost use Rattle.cql_model.specs.Program as program;
-ghost use Rattle.cql_build.specs.Views.{columns_of, chosen_of, condition_of, query_of};
-ghost use Rattle.slow_cql.specs.Kept.{Entry, is_in_order, scope};
-ghost use Rattle.slow_cql.specs.Contents.{passes, product_at, content_of, IsNarrow};
+ghost use Rattle.cql_model.specs.Meaning.{with_each, where_true, eval, all_values, selected_row};
+ghost use Rattle.cql_text.specs.Tree as tree;
+ghost use Rattle.cql_text.specs.Tree.{columns_of, chosen_of, condition_of, query_of};
+ghost use Rattle.slow_cql.specs.Kept.{Entry, is_in_order, input_scope};
+ghost use Rattle.slow_cql.specs.Contents.{condition_holds, product_at, content_over, IsNarrowTuple};
 
 use crate::kept::Input;
 use crate::value::value;
@@ -22,8 +22,8 @@ pub(crate) fn content(
     at: i64,
 ) -> Result<Rows, NoMemory>
     requires in_order { AllByRecursion (λ i. is_in_order i.entries.now) inputs.now }
-    requires narrow { All (IsNarrow (scope inputs.now) (columns_of query.now.columns)) (product_at at inputs.now) }
-    ensures { IfOk result (λ rows. rows ≡ content_of inputs.now (query_of query.now) at) }
+    requires narrow { All (IsNarrowTuple (input_scope inputs.now) (columns_of query.now.columns)) (product_at at inputs.now) }
+    ensures { IfOk result (λ rows. rows ≡ content_over inputs.now (query_of query.now) at) }
 {
     let tuples = product(alloc, inputs, at)?;
     selected(alloc, inputs, query, tuples.as_slice())
@@ -117,8 +117,8 @@ fn selected(
     query: &Query,
     tuples: &[Rows],
 ) -> Result<Rows, NoMemory>
-    requires { All (IsNarrow (scope inputs.now) (columns_of query.now.columns)) tuples.now }
-    ensures { IfOk result (λ rows. rows ≡ map (row_of (scope inputs.now) (columns_of query.now.columns)) (where_true (scope inputs.now)
+    requires { All (IsNarrowTuple (input_scope inputs.now) (columns_of query.now.columns)) tuples.now }
+    ensures { IfOk result (λ rows. rows ≡ map (selected_row (input_scope inputs.now) (columns_of query.now.columns)) (where_true (input_scope inputs.now)
         (condition_of query.now.condition) tuples.now)) }
 {
     let mut rows = Rows::new(alloc);
@@ -132,7 +132,7 @@ fn selected(
 
 // Whether the condition holds for a tuple.
 fn passes(inputs: &[Input<'_>], condition: &Option<Scalar>, tuple: &[Row]) -> bool
-    ensures { result ≡ passes (scope inputs.now) (condition_of condition.now) tuple.now }
+    ensures { result ≡ condition_holds (input_scope inputs.now) (condition_of condition.now) tuple.now }
 {
     match condition {
         Some(scalar) => value(inputs, scalar, tuple) != 0,
@@ -147,8 +147,8 @@ fn row_of(
     columns: &Columns,
     tuple: &[Row],
 ) -> Result<Row, NoMemory>
-    requires { IsNarrow (scope inputs.now) (columns_of columns.now) tuple.now }
-    ensures { IfOk result (λ row. row ≡ row_of (scope inputs.now) (columns_of columns.now) tuple.now) }
+    requires { IsNarrowTuple (input_scope inputs.now) (columns_of columns.now) tuple.now }
+    ensures { IfOk result (λ row. row ≡ selected_row (input_scope inputs.now) (columns_of columns.now) tuple.now) }
 {
     let values = values_of(alloc, inputs, columns, tuple)?;
     Ok(Row::from_slice(values.as_slice()))
@@ -161,7 +161,7 @@ fn values_of(
     columns: &Columns,
     tuple: &[Row],
 ) -> Result<Numbers, NoMemory>
-    ensures { IfOk result (λ values. values ≡ row_of (scope inputs.now) (columns_of columns.now) tuple.now) }
+    ensures { IfOk result (λ values. values ≡ selected_row (input_scope inputs.now) (columns_of columns.now) tuple.now) }
 {
     match columns {
         Columns::Star => joined(alloc, tuple),
@@ -171,7 +171,7 @@ fn values_of(
 
 // All values of the rows.
 fn joined(alloc: Global, tuple: &[Row]) -> Result<Numbers, NoMemory>
-    ensures { IfOk result (λ values. values ≡ joined tuple.now) }
+    ensures { IfOk result (λ values. values ≡ all_values tuple.now) }
 {
     let mut values = Numbers::new(alloc);
     for row in tuple {
@@ -197,7 +197,7 @@ fn chosen(
     columns: &[Column],
     tuple: &[Row],
 ) -> Result<Numbers, NoMemory>
-    ensures { IfOk result (λ values. values ≡ map (λ (c : program.Column). value (scope inputs.now) c.value tuple.now) (chosen_of columns.now)) }
+    ensures { IfOk result (λ values. values ≡ map (λ (c : tree.Column). eval (input_scope inputs.now) c.value tuple.now) (chosen_of columns.now)) }
 {
     let mut values = Numbers::new(alloc);
     for column in columns {

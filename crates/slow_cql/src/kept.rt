@@ -1,11 +1,11 @@
 // The streams and queries that are known, and the inputs of a query.
 ghost use Rattle.std.specs.Prelude.{◌≡◌, ℤ, List, ◌∷◌, ◌++◌, map, OnOk, IfOk};
 ghost use Rattle.std.specs.Option.{option_copied};
-ghost use Rattle.cql_model.specs.Meaning.{Known};
+ghost use Rattle.cql_model.specs.Meaning.{KnownStream};
 ghost use Rattle.cql_model.specs.Scopes.{alias_or};
 ghost use Rattle.cql_model.specs.Streams.{Timed, Rises, spread};
-ghost use Rattle.cql_build.specs.Views.{source_of, sources_of};
-ghost use Rattle.slow_cql.specs.Kept.{entries_at, entries_in, latest, fields_or, entries_or, Stands, IsInput, AreInputs};
+ghost use Rattle.cql_text.specs.Tree.{source_of, sources_of};
+ghost use Rattle.slow_cql.specs.Kept.{entries_at, entries_in, latest, fields_or, entries_or, StandsKept, IsInput, AreInputsOf};
 
 use cql_text::{Source, Window};
 use river_base::{Flat, Item, Items, Listed, Name, NoMemory, Row, TimedRows};
@@ -36,8 +36,8 @@ pub(crate) fn declare(
     items: &Items,
     known: &mut Listed<Kept>,
 ) -> Result<(), NoMemory>
-    ensures { (ts : List ℤ) (ks : List Known) (s : Timed) → items.now ≡ spread ts s → Stands ts known.old ks
-        → OnOk result (Stands ts known.new (record { named = record { name = name; fields = fields }; rows = s } ∷ ks)) }
+    ensures { (ts : List ℤ) (ks : List KnownStream) (s : Timed) → items.now ≡ spread ts s → StandsKept ts known.old ks
+        → OnOk result (StandsKept ts known.new (record { named = record { name = name; fields = fields }; rows = s } ∷ ks)) }
 {
     let entries = entries(alloc, items.as_slice())?;
     known.push(Kept {
@@ -124,7 +124,7 @@ fn item_name(source: &Source) -> Name
 
 // The input of an item.
 fn input_of<'a>(known: &'a [Kept], source: &Source) -> Input<'a>
-    ensures { (ts : List ℤ) (ks : List Known) → Rises ts → Stands ts known.now ks → IsInput ts ks (source_of source.now) result }
+    ensures { (ts : List ℤ) (ks : List KnownStream) → Rises ts → StandsKept ts known.now ks → IsInput ts ks (source_of source.now) result }
 {
     Input {
         name: item_name(source),
@@ -140,8 +140,8 @@ pub(crate) fn inputs<'a>(
     known: &'a [Kept],
     sources: &[Source],
 ) -> Result<Vec<Input<'a>>, NoMemory>
-    ensures { (ts : List ℤ) (ks : List Known) → Rises ts → Stands ts known.now ks
-        → IfOk result (λ inputs. AreInputs ts ks (sources_of sources.now) inputs.items) }
+    ensures { (ts : List ℤ) (ks : List KnownStream) → Rises ts → StandsKept ts known.now ks
+        → IfOk result (λ inputs. AreInputsOf ts ks (sources_of sources.now) inputs.items) }
 {
     let mut inputs = Vec::new(alloc);
     for source in sources {

@@ -4,8 +4,8 @@ ghost use Rattle.std.specs.List.{flat_map};
 ghost use Rattle.std.specs.Fmt.{decimal};
 ghost use Rattle.river_base.specs.Name.{is_name};
 ghost use Rattle.cql_model.specs.Scopes.{column_name, column_names, names_from, plain_name};
-ghost use Rattle.cql_build.specs.Views.{value_of, column_of, chosen_of, columns_of};
-ghost use Rattle.slow_cql.specs.Kept.{scope};
+ghost use Rattle.cql_text.specs.Tree.{scalar, column_of, chosen_of, columns_of};
+ghost use Rattle.slow_cql.specs.Kept.{input_scope};
 
 use crate::kept::Input;
 use cql_text::{Column, Columns, Scalar};
@@ -18,7 +18,7 @@ pub(crate) fn column_names(
     inputs: &[Input<'_>],
     columns: &Columns,
 ) -> Result<Listed<Name>, NoMemory>
-    ensures { IfOk result (λ names. names ≡ column_names (scope inputs.now) (columns_of columns.now)) }
+    ensures { IfOk result (λ names. names ≡ column_names (input_scope inputs.now) (columns_of columns.now)) }
 {
     match columns {
         Columns::Star => all_fields(alloc, inputs),
@@ -28,7 +28,7 @@ pub(crate) fn column_names(
 
 // The fields of all inputs.
 fn all_fields(alloc: Global, inputs: &[Input<'_>]) -> Result<Listed<Name>, NoMemory>
-    ensures { IfOk result (λ names. names ≡ flat_map (λ i. i.fields) (scope inputs.now)) }
+    ensures { IfOk result (λ names. names ≡ flat_map (λ i. i.fields) (input_scope inputs.now)) }
 {
     let mut names = Listed::new(alloc);
     for input in inputs {
@@ -70,28 +70,14 @@ fn column_name(alloc: Global, place: usize, column: &Column) -> Result<Name, NoM
 
 // The name of a column without an alias: its field's where it is one, and otherwise that of its place.
 fn value_name(alloc: Global, place: usize, value: &Scalar) -> Result<Name, NoMemory>
-    ensures { IfOk result (λ name. name ≡ plain_name (value_of value.now) (codes "c" ++ decimal place)) }
+    ensures { IfOk result (λ name. name ≡ plain_name (scalar value.now) (codes "c" ++ decimal place)) }
 {
     match value {
         Scalar::Field(field) => Ok(*field),
         Scalar::ItemField(_, field) => Ok(*field),
-        Scalar::Number(_)
-        | Scalar::Neg(_)
-        | Scalar::Not(_)
-        | Scalar::Mul(_, _)
-        | Scalar::Quot(_, _)
-        | Scalar::Rem(_, _)
-        | Scalar::Add(_, _)
-        | Scalar::Sub(_, _)
-        | Scalar::Equal(_, _)
-        | Scalar::Different(_, _)
-        | Scalar::NotEqual(_, _)
-        | Scalar::Less(_, _)
-        | Scalar::LessEqual(_, _)
-        | Scalar::Greater(_, _)
-        | Scalar::GreaterEqual(_, _)
-        | Scalar::And(_, _)
-        | Scalar::Or(_, _) => place_name(alloc, place),
+        Scalar::Number(_) | Scalar::Neg(_) | Scalar::Not(_) | Scalar::Bin { .. } => place_name(
+            alloc, place,
+        ),
     }
 }
 

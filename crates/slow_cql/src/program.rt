@@ -2,10 +2,10 @@
 ghost use Rattle.std.specs.Prelude.{◌≡◌, ℤ, [], ◌∷◌, ◌++◌, map, List, IfOk, OnOk};
 ghost use Rattle.cql_model.specs.Instants.{program_means};
 ghost use Rattle.cql_model.specs.Laws.{AreFiles};
-ghost use Rattle.cql_model.specs.Meaning.{Known, given, first_file, other_files, answer, asked, answers};
+ghost use Rattle.cql_model.specs.Meaning.{KnownStream, stream_known, first_file, other_files, answer, query_known, answers};
 ghost use Rattle.cql_model.specs.Streams.{Timed, Rises, at_instant, spread};
-ghost use Rattle.cql_build.specs.Views.{query_of, program_of};
-ghost use Rattle.slow_cql.specs.Kept.{Stands};
+ghost use Rattle.cql_text.specs.Tree.{query_of, parts_of, program_of};
+ghost use Rattle.slow_cql.specs.Kept.{StandsKept};
 ghost use Rattle.slow_cql.specs.Contents.{AreNarrow, HaveColumns};
 
 use crate::answer::{answer, names};
@@ -25,9 +25,9 @@ pub fn mean_cql(
     program: &CqlProgram,
     files: &TimedFiles,
 ) -> Result<Outcome, NoMemory>
-    requires columns { HaveColumns [] (program_of program.now.parts.items) }
-    requires files { AreFiles (program_of program.now.parts.items) files.now }
-    ensures outs { IfOk result (λ outcome. outcome.outs ≡ program_means (program_of program.now.parts.items) files.now) }
+    requires columns { HaveColumns [] (program_of program.now) }
+    requires files { AreFiles (program_of program.now) files.now }
+    ensures outs { IfOk result (λ outcome. outcome.outs ≡ program_means (program_of program.now) files.now) }
     ensures tables { IfOk result (λ outcome. outcome.tables ≡ []) }
     ensures counts { IfOk result (λ outcome. outcome.counts ≡ []) }
 {
@@ -48,9 +48,9 @@ fn outputs(
     instants: &Numbers,
 ) -> Result<Lines, NoMemory>
     requires rises { Rises instants.now }
-    requires columns { HaveColumns [] (program_of parts.now) }
-    requires files { AreFiles (program_of parts.now) files.now }
-    ensures { IfOk result (λ outs. outs ≡ map (spread instants.now) (answers instants.now [] (program_of parts.now) files.now)) }
+    requires columns { HaveColumns [] (parts_of parts.now) }
+    requires files { AreFiles (parts_of parts.now) files.now }
+    ensures { IfOk result (λ outs. outs ≡ map (spread instants.now) (answers instants.now [] (parts_of parts.now) files.now)) }
 {
     let mut known = Listed::new(alloc);
     let mut outs = Lines::new(alloc);
@@ -70,9 +70,9 @@ fn answered(
     requires none { known.old ≡ [] }
     requires no_output { outs.old ≡ [] }
     requires rises { Rises instants.now }
-    requires columns { HaveColumns [] (program_of parts.now) }
-    requires files { AreFiles (program_of parts.now) files.now }
-    ensures { OnOk result (outs.new ≡ map (spread instants.now) (answers instants.now [] (program_of parts.now) files.now)) }
+    requires columns { HaveColumns [] (parts_of parts.now) }
+    requires files { AreFiles (parts_of parts.now) files.now }
+    ensures { OnOk result (outs.new ≡ map (spread instants.now) (answers instants.now [] (parts_of parts.now) files.now)) }
 {
     let mut rest = files;
     for part in parts {
@@ -81,7 +81,7 @@ fn answered(
                 register(alloc, stream, rest, instants, known)?;
                 rest = other_files(rest);
             }
-            Part::Ask(query) => ask(alloc, query, instants, known, outs)?,
+            Part::Query(query) => add_query(alloc, query, instants, known, outs)?,
         }
     }
     Ok(())
@@ -95,8 +95,8 @@ fn register(
     instants: &Numbers,
     known: &mut Listed<Kept>,
 ) -> Result<(), NoMemory>
-    ensures { (ks : List Known) → Stands instants.now known.old ks
-        → OnOk result (Stands instants.now known.new (given stream.now.name stream.now.fields.items files.now ∷ ks)) }
+    ensures { (ks : List KnownStream) → StandsKept instants.now known.old ks
+        → OnOk result (StandsKept instants.now known.new (stream_known stream.now.name stream.now.fields.items files.now ∷ ks)) }
 {
     let items = first_items(alloc, files, instants)?;
     declare_stream(alloc, stream, &items, known)
@@ -109,8 +109,8 @@ fn declare_stream(
     items: &Items,
     known: &mut Listed<Kept>,
 ) -> Result<(), NoMemory>
-    ensures { (ts : List ℤ) (ks : List Known) (s : Timed) → items.now ≡ spread ts s → Stands ts known.old ks
-        → OnOk result (Stands ts known.new (record { named = record { name = stream.now.name; fields = stream.now.fields.items }; rows = s } ∷ ks)) }
+    ensures { (ts : List ℤ) (ks : List KnownStream) (s : Timed) → items.now ≡ spread ts s → StandsKept ts known.old ks
+        → OnOk result (StandsKept ts known.new (record { named = record { name = stream.now.name; fields = stream.now.fields.items }; rows = s } ∷ ks)) }
 {
     let mut fields = Listed::new(alloc);
     add_names(stream.fields.as_slice(), &mut fields)?;
@@ -138,7 +138,7 @@ fn other_files(files: &[TimedRows]) -> &[TimedRows]
 }
 
 // A query is known besides, with its answer, which is an output.
-fn ask(
+fn add_query(
     alloc: Global,
     query: &Query,
     instants: &Numbers,
@@ -146,10 +146,10 @@ fn ask(
     outs: &mut Lines,
 ) -> Result<(), NoMemory>
     requires rises { Rises instants.now }
-    requires good { (ks : List Known) × Stands instants.now known.old ks × AreNarrow instants.now ks (query_of query.now) }
-    ensures known { (ks : List Known) → Stands instants.now known.old ks
-        → OnOk result (Stands instants.now known.new (asked instants.now ks (query_of query.now) ∷ ks)) }
-    ensures outs { (ks : List Known) → Stands instants.now known.old ks
+    requires good { (ks : List KnownStream) × StandsKept instants.now known.old ks × AreNarrow instants.now ks (query_of query.now) }
+    ensures known { (ks : List KnownStream) → StandsKept instants.now known.old ks
+        → OnOk result (StandsKept instants.now known.new (query_known instants.now ks (query_of query.now) ∷ ks)) }
+    ensures outs { (ks : List KnownStream) → StandsKept instants.now known.old ks
         → OnOk result (outs.new ≡ outs.old ++ spread instants.now (answer instants.now ks (query_of query.now)) ∷ []) }
 {
     let items = answer(alloc, known.as_slice(), query, instants.as_slice())?;
@@ -166,8 +166,8 @@ fn declare_answer(
     known: &mut Listed<Kept>,
 ) -> Result<(), NoMemory>
     requires { Rises instants.now }
-    ensures { (ks : List Known) → items.now ≡ spread instants.now (answer instants.now ks (query_of query.now)) → Stands instants.now known.old ks
-        → OnOk result (Stands instants.now known.new (asked instants.now ks (query_of query.now) ∷ ks)) }
+    ensures { (ks : List KnownStream) → items.now ≡ spread instants.now (answer instants.now ks (query_of query.now)) → StandsKept instants.now known.old ks
+        → OnOk result (StandsKept instants.now known.new (query_known instants.now ks (query_of query.now) ∷ ks)) }
 {
     let fields = names(alloc, known.as_slice(), query, instants.as_slice())?;
     declare(alloc, query.name, fields, items, known)

@@ -1,7 +1,7 @@
 // The windows on the rows of a stream.
 ghost use Rattle.std.specs.Prelude.{◌≡◌, ◌-◌, ◌&&◌, not, ℤ, List, length, map, filter, drop, int_le, int_lt, None};
 ghost use Rattle.cql_model.specs.Streams.{in_reach};
-ghost use Rattle.cql_build.specs.Views.{window_of};
+ghost use Rattle.cql_text.specs.Tree.{window_of};
 ghost use Rattle.cql_text.specs.declared.tree.Window.TheVariants.{Range};
 ghost use Rattle.slow_cql.specs.Kept.{Entry, is_in_order, reached};
 

@@ -4,7 +4,7 @@ use Rattle.river_base.specs.Name.{name_eq}
 use Rattle.river_plan.specs.Names.{count}
 use Rattle.cql_model.specs.Laws.{known_names}
 use Rattle.cql_model.specs.Scopes.{scope_of}
-use Rattle.cql_build.specs.Views.{sources_of}
+use Rattle.cql_text.specs.Tree.{sources_of}
 use Rattle.cql_build.proofs.Judging.{name_there, name_next}
 use Rattle.cql_build.proofs.items.is_named.Goals as goal
 

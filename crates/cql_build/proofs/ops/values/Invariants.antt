@@ -1,7 +1,8 @@
 use Rattle.std.proofs.Common.{◌≡◌, take, map}
 use Rattle.work_code.specs.Term.{terms}
 use Rattle.cql_model.specs.Translation.{terms_of}
-use Rattle.cql_build.specs.Views.{scope, chosen_of}
+use Rattle.cql_text.specs.Tree.{chosen_of}
+use Rattle.cql_build.specs.Views.{scope}
 use Rattle.cql_build.proofs.ops.values.Given as goal
 
 abbrev pub invariant-loop-column : goal.invariant-loop-column

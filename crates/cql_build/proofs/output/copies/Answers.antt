@@ -1,5 +1,5 @@
 use Rattle.std.proofs.Common.{◌≡◌, ◌+◌, ◌-◌, [], ◌∷◌, ◌++◌, sym, ap, ◌∙◌, append_assoc}
-use Rattle.cql_model.specs.Translation.{copies}
+use Rattle.cql_model.specs.Translation.{copy_names}
 use Rattle.cql_build.proofs.Growing.{copies_next}
 use Rattle.cql_build.proofs.output.copies.Goals as goal
 
@@ -9,7 +9,7 @@ loop-k-preserved c =
     let k = c.loop-k.k in
     let names = c.loop-k.names in
     let x = c.in_ok-marked.field-0 in
-    let rest = copies b (k + 1) (c.args.count - (k + 1)) in
+    let rest = copy_names b (k + 1) (c.args.count - (k + 1)) in
     c.loop-k.invariant
     ∙ ap (λ l. names ++ l) (copies_next b k c.args.count c.loop-k-test.true)
     ∙ ap (λ y. names ++ (y ∷ rest)) (sym c.in_ok-marked.ensures)

@@ -1,11 +1,12 @@
 use Rattle.std.proofs.Common.{◌<◌, List, [], length, ap, subst, ◌∙◌, arith, drop}
 use Rattle.cql_text.specs.declared.tree.Source.{Source}
-use Rattle.cql_model.specs.Translation.{sources, window_ops, window_decls, cross_ops, cross_last, w_name}
+use Rattle.cql_model.specs.Translation.{queues_of_uses, window_ops, window_decls, cross_ops, cross_last, w_name}
 use Rattle.cql_model.specs.Program.{streams_of}
-use Rattle.cql_build.specs.Grown.{Grew, products}
-use Rattle.cql_build.specs.Views.{query_of, sources_of, scope}
+use Rattle.cql_build.specs.Grown.{Grew, product_decls}
+use Rattle.cql_text.specs.Tree.{query_of, sources_of}
+use Rattle.cql_build.specs.Views.{scope}
 use Rattle.cql_build.proofs.Growing.{on_ok_then, count_few}
-use Rattle.cql_build.proofs.Asking.{query_made, sources_length}
+use Rattle.cql_build.proofs.Querying.{query_made, sources_length}
 use Rattle.cql_build.proofs.queries.query_on.Goals as goal
 
 pub tail-requires-clause-few : goal.tail-requires-clause-few
@@ -20,8 +21,8 @@ returns-clause-grew c = λ ks e.
     let v = c.as_slice-sources.ensures.value in
     let some : 0 < length q.items = let l = sources_length c.args.query.now.items.items in let s = c.requires.some in let a = c.requires.each in
     omega (arith, l, s, a) in
-    let g = subst (λ (l : List Source). Grew c.args.raw.now c.windows.new.raw [] (window_decls q.name 1 is) (window_ops q.name 1 (sources_of l) (sources u.inputs u.all u.past (streams_of (sources_of l))))) v c.in_ok-windows.ensures.grew in
-    let h = subst (λ (l : List Source). Grew c.windows.new.raw c.crosses.new.raw [] (products q.name is) (cross_ops q.name (w_name q.name 1) 2 (drop 1 (sources_of l)))) v c.in_ok-last.ensures.grew in
+    let g = subst (λ (l : List Source). Grew c.args.raw.now c.windows.new.raw [] (window_decls q.name 1 is) (window_ops q.name 1 (sources_of l) (queues_of_uses u.inputs u.all u.past (streams_of (sources_of l))))) v c.in_ok-windows.ensures.grew in
+    let h = subst (λ (l : List Source). Grew c.windows.new.raw c.crosses.new.raw [] (product_decls q.name is) (cross_ops q.name (w_name q.name 1) 2 (drop 1 (sources_of l)))) v c.in_ok-last.ensures.grew in
     let last = c.in_ok-last.ensures.last ∙ ap (λ (l : List Source). cross_last q.name (w_name q.name 1) 2 (drop 1 (sources_of l))) v in
     on_ok_then c.tail.result
     (query_made c.args.raw.now c.windows.new.raw c.crosses.new.raw c.tail.new.raw q.name q.kind q.columns q.items q.condition ks u.inputs u.all u.past is c.in_ok-last.last c.count-used.result

@@ -1,7 +1,8 @@
 use Rattle.std.proofs.Common.{◌≡◌}
-use Rattle.cql_build.specs.Views.{query_of, scope}
+use Rattle.cql_text.specs.Tree.{query_of}
+use Rattle.cql_build.specs.Views.{scope}
 use Rattle.cql_build.proofs.Growing.{on_ok_then}
-use Rattle.cql_build.proofs.Asking.{tail_made}
+use Rattle.cql_build.proofs.Querying.{tail_made}
 use Rattle.cql_build.proofs.queries.tail.Goals as goal
 
 pub returns : goal.returns

@@ -1,6 +1,6 @@
 use Rattle.std.proofs.Common.{◌≡◌, ◌++◌, take, drop}
 use Rattle.cql_model.specs.Program.{streams_of}
-use Rattle.cql_build.specs.Views.{sources_of}
+use Rattle.cql_text.specs.Tree.{sources_of}
 use Rattle.cql_build.proofs.uses.note_sources.Given as goal
 
 abbrev pub invariant-loop-source : goal.invariant-loop-source

@@ -1,6 +1,7 @@
 use Rattle.std.proofs.Common.{◌≡◌, ◌≤◌, drop, map, length}
 use Rattle.cql_model.specs.Faults.{chosen_fault}
-use Rattle.cql_build.specs.Views.{scope, chosen_of}
+use Rattle.cql_text.specs.Tree.{chosen_of}
+use Rattle.cql_build.specs.Views.{scope}
 use Rattle.cql_build.proofs.values.chosen_fault.Given as goal
 
 abbrev pub invariant-loop-i : goal.invariant-loop-i

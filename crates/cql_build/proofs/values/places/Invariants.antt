@@ -1,8 +1,8 @@
 use Rattle.std.proofs.Common.{◌≡◌, take}
 use Rattle.std.specs.Prelude.{min}
-use Rattle.cql_model.specs.Faults.{places}
+use Rattle.cql_model.specs.Faults.{field_places}
 use Rattle.cql_build.specs.Views.{scope}
 use Rattle.cql_build.proofs.values.places.Given as goal
 
 abbrev pub invariant-loop-item : goal.invariant-loop-item
-invariant-loop-item l = l.n ≡ min (places l.field (scope (take l.item-index l.items))) 2
+invariant-loop-item l = l.n ≡ min (field_places l.field (scope (take l.item-index l.items))) 2

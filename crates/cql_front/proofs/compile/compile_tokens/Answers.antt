@@ -1,7 +1,7 @@
 use Rattle.std.proofs.Common.{List, length, ap, subst, arith}
 use Rattle.std.specs.Prelude.{map}
 use Rattle.std.proofs.lemmas.List.{length-map}
-use Rattle.cql_text.specs.Tree.{part_of, parts_of}
+use Rattle.cql_text.specs.Tree.{part_of, parts_of, program_of}
 use Rattle.cql_text.specs.declared.tree.Part.{Part}
 use Rattle.cql_front.specs.Meaning.{accepted, Plans}
 use Rattle.cql_front.proofs.Fronts.{read-planned, read-few}
@@ -10,7 +10,7 @@ use Rattle.cql_front.proofs.compile.compile_tokens.Goals as goal
 -- a program has no more units than tokens
 pub planned-requires-clause-few : goal.planned-requires-clause-few
 planned-requires-clause-few c =
-    let r = read-few c.args.tokens.now (parts_of c.in_ok-program.program) c.in_ok-program.ensures.read in
+    let r = read-few c.args.tokens.now (program_of c.in_ok-program.program) c.in_ok-program.ensures.read in
     let n = length-map c.in_ok-program.program.parts.items part_of in
     let v = ap (λ (l : List Part). length l) c.as_slice.ensures.value in
     let f = c.requires in omega (arith, r, n, v, f)
@@ -18,5 +18,5 @@ planned-requires-clause-few c =
 -- the parts that were read are those that are planned
 pub returns-clause-plan : goal.returns-clause-plan
 returns-clause-plan c =
-    read-planned c.args.tokens.now (parts_of c.in_ok-program.program) c.in_ok-plan.plan c.in_ok-program.ensures.read
-    (subst (λ l. Plans (accepted (map part_of l)) (map part_of l) c.in_ok-plan.plan) c.as_slice.ensures.value c.in_ok-plan.ensures.plan)
+    read-planned c.args.tokens.now (program_of c.in_ok-program.program) c.in_ok-plan.plan c.in_ok-program.ensures.read
+    (subst (λ l. Plans (accepted (parts_of l)) (parts_of l) c.in_ok-plan.plan) c.as_slice.ensures.value c.in_ok-plan.ensures.plan)

@@ -2,7 +2,7 @@ use Rattle.std.proofs.Common.{rules, ◌≡◌, ◌∷◌, ◌++◌, ℤ, List, 
 use Rattle.river_base.specs.Held.{IsAscending}
 use Rattle.river_base.specs.Row.{in_order}
 use Rattle.river_base.proofs.Rows.{in_order_sorted}
-use Rattle.csv_streams.specs.Outcome.{lines, row_line}
+use Rattle.csv_streams.specs.Outcome.{texts_of, row_line}
 use Rattle.csv_streams.proofs.outcome.print_batch.Goals as goal
 
 pub returns-then-is_ascending : goal.returns-then-is_ascending
@@ -14,5 +14,5 @@ returns-then-is_ascending c =
     let at : to_z w64 (of_z w64 c.args.batch.now.at) ≡ c.args.batch.now.at = search rules in
     let up : IsAscending rows = subst IsAscending c.as_slice.ensures (c.is_ascending.ensures c.if-is_ascending.true) in
     let same : slice ≡ in_order rows = c.as_slice-then-is_ascending.ensures ∙ sym (in_order_sorted rows up) in
-    subst (λ (l : List (List ℤ)). OnOk c.print_timed_rows.result (printed ≡ to ++ lines row_line (map (λ row. c.args.batch.now.at ∷ row) l))) same
-    (subst (λ (t : ℤ). OnOk c.print_timed_rows.result (printed ≡ to ++ lines row_line (map (λ row. t ∷ row) slice))) at c.print_timed_rows.ensures)
+    subst (λ (l : List (List ℤ)). OnOk c.print_timed_rows.result (printed ≡ to ++ texts_of row_line (map (λ row. c.args.batch.now.at ∷ row) l))) same
+    (subst (λ (t : ℤ). OnOk c.print_timed_rows.result (printed ≡ to ++ texts_of row_line (map (λ row. t ∷ row) slice))) at c.print_timed_rows.ensures)

@@ -1,5 +1,5 @@
 use Rattle.std.proofs.Common.{◌++◌, sym, ap, ◌∙◌, append_assoc}
-use Rattle.csv_streams.specs.Outcome.{lines, item_text, row_line}
+use Rattle.csv_streams.specs.Outcome.{texts_of, item_text, row_line}
 use Rattle.csv_streams.proofs.Texts.{lines-parts}
 use Rattle.csv_streams.proofs.outcome.print_items.Goals as goal
 
@@ -9,7 +9,7 @@ returns c =
     let rows = c.parts.result.0.now in
     let others = c.parts.result.1.now.items in
     c.in_ok-print_others.ensures
-    ∙ ap (λ t. t ++ lines item_text others) c.in_ok-print_even.ensures
-    ∙ append_assoc to (lines row_line rows) (lines item_text others)
+    ∙ ap (λ t. t ++ texts_of item_text others) c.in_ok-print_even.ensures
+    ∙ append_assoc to (texts_of row_line rows) (texts_of item_text others)
     ∙ ap (λ t. to ++ t) (sym (lines-parts rows others))
-    ∙ ap (λ l. to ++ lines item_text l) (sym c.parts.ensures)
+    ∙ ap (λ l. to ++ texts_of item_text l) (sym c.parts.ensures)

@@ -9,7 +9,7 @@ use Rattle.csv.specs.Records.{fields_of}
 use Rattle.csv.specs.declared.parser.State.TheVariants as st
 use Rattle.csv.proofs.ReadFacts.{rows-end, rows-more}
 use Rattle.csv_streams.proofs.Records.{all-from_reached, all-records}
-use Rattle.csv_streams.specs.Rows.{row_in, rows_in, rows_of, headers, Appends, IsFaultTold}
+use Rattle.csv_streams.specs.Rows.{row_in, rows_of_records, rows_of_file, headers, Appends, IsFaultTold}
 use Rattle.csv_streams.proofs.RowsIn.{told, rows-none, rows-header, rows-push, rows-fault, row_within, fault_passes}
 use Rattle.csv_streams.proofs.rows.add_rows.Goals as goal
 
@@ -105,11 +105,11 @@ returns-in_err-add_row-clause-fault c =
     let past : c.headers-header.result < c.loop-record.rec + 1 = c.if-rec-header.true in
     let is_told : IsFaultTold one f = search rules in
     let le : headers c.args.skip_first ≤ length recs = omega (arith, past, count, inv.header) in
-    let faulty : one ≡ Err f → rows_of c.args.bytes.now c.args.width c.args.skip_first c.args.more ≡ Err f = λ is.
-    ap (rows_in c.args.width c.args.skip_first c.args.more) (all.1 ∙ append_assoc recs (fields ∷ []) all.0)
+    let faulty : one ≡ Err f → rows_of_file c.args.bytes.now c.args.width c.args.skip_first c.args.more ≡ Err f = λ is.
+    ap (rows_of_records c.args.width c.args.skip_first c.args.more) (all.1 ∙ append_assoc recs (fields ∷ []) all.0)
     ∙ rows-fault c.args.width c.args.skip_first c.args.more recs fields all.0 c.loop-record.rows f le so_far (rw (sym inv.last, count) is) in
     let p = err_from_is_err_and c.from_residual-in_err-add_row.result c.from_residual-in_err-add_row.ensures.1 in
-    rw (p.1, p.2) (fault_passes one (rows_of c.args.bytes.now c.args.width c.args.skip_first c.args.more) f is_told faulty)
+    rw (p.1, p.2) (fault_passes one (rows_of_file c.args.bytes.now c.args.width c.args.skip_first c.args.more) f is_told faulty)
 
 pub returns-clause-ok : goal.returns-clause-ok
 returns-clause-ok c =
@@ -117,4 +117,4 @@ returns-clause-ok c =
     let (y, recs, source, reached, so_far, count) = inv.read in
     let s = rw c.if-branch.false at c.in_ok-read_record.ensures.ok in
     let none = rows-end (λ (s : Bor (List ℕ)). Some s.now) c.loop-record.rdr c.read_record.new.rdr (fields_of c.read_record.new.raw) default_config y inv.config source s in
-    ap (rows_in c.args.width c.args.skip_first c.args.more) (all-records c.args.bytes.now recs c.loop-record.rdr.state y reached none) ∙ so_far
+    ap (rows_of_records c.args.width c.args.skip_first c.args.more) (all-records c.args.bytes.now recs c.loop-record.rdr.state y reached none) ∙ so_far

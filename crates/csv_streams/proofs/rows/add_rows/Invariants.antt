@@ -4,7 +4,7 @@ use Rattle.csv.specs.Reading.{Reached, Ready, default_config, source_of, strip_b
 use Rattle.csv.specs.declared.parser.State.TheVariants as st
 use Rattle.csv.specs.declared.reader.Trim.TheVariants as trim
 use Rattle.river_base.specs.Held.{HaveWidth}
-use Rattle.csv_streams.specs.Rows.{rows_in, headers, most_rows}
+use Rattle.csv_streams.specs.Rows.{rows_of_records, headers, most_rows}
 use Rattle.csv_streams.proofs.rows.add_rows.Given as goal
 
 abbrev pub invariant-loop-record : goal.invariant-loop-record
@@ -18,7 +18,7 @@ invariant-loop-record l = record {
   wide : HaveWidth l.width l.rows;
   read : (y : List ℕ) × (recs : List (List (List ℕ))) × (source_of (λ s. Some s.now) l.rdr ≡ Some y)
       × Reached default_config st.StartRecord (strip_bom l.bytes) recs l.rdr.state y
-      × (rows_in l.width l.skip_first l.more recs ≡ Ok l.rows) × (length recs ≡ l.rec);
+      × (rows_of_records l.width l.skip_first l.more recs ≡ Ok l.rows) × (length recs ≡ l.rec);
 }
 
 abbrev pub decreases-loop-record : goal.decreases-loop-record

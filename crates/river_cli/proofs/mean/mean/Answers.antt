@@ -2,9 +2,8 @@ use Rattle.std.proofs.Common.{List, sym, subst}
 use Rattle.river_base.specs.declared.item.Item as item
 use Rattle.brooklet_model.specs.Fit.{Fit}
 use Rattle.river_cli.proofs.Items.{contents-fit}
-use Rattle.cql_build.specs.Seen as cql
 use Rattle.cql_model.specs.Laws.{AreFiles}
-use Rattle.cql_text.specs.Tree.{parts_of}
+use Rattle.cql_text.specs.Tree.{program_of}
 use Rattle.river_cli.proofs.Means.{known-files}
 use Rattle.river_cli.proofs.mean.mean.Goals as goal
 
@@ -16,5 +15,5 @@ run_lines-requires c = record {
 
 pub mean_cql-requires-clause-files : goal.mean_cql-requires-clause-files
 mean_cql-requires-clause-files c =
-    subst (AreFiles (cql.program_of (parts_of c.in-Cql.program))) (sym c.in_ok-timed_files_of-in-Cql.ensures)
+    subst (AreFiles (program_of c.in-Cql.program)) (sym c.in_ok-timed_files_of-in-Cql.ensures)
     (known-files c.in-Cql.program c.args.plan.now c.args.files (rw c.in-Cql.is at c.requires.known) c.requires.contents)

@@ -2,9 +2,8 @@ use Rattle.std.proofs.Common.{◌≡◌, ◌<◌, ℤ, pos, [], ◌∷◌, ◌++
 use Rattle.std.proofs.lemmas.List.{get_or_default}
 use Rattle.river_base.specs.Row.{in_order}
 use Rattle.cql_model.specs.Streams.{changed, item_at}
-use Rattle.cql_build.specs.Seen.{kind_of}
-use Rattle.cql_build.specs.Views.{query_of}
-use Rattle.slow_cql.specs.Contents.{content_of}
+use Rattle.cql_text.specs.Tree.{query_of}
+use Rattle.slow_cql.specs.Contents.{content_over}
 use Rattle.slow_cql.proofs.Answers.{last_more, batch_more}
 use Rattle.slow_cql.proofs.answer.add_batches.Goals as goal
 
@@ -13,8 +12,8 @@ loop-at-preserved c =
     let ts = c.args.instants.now in
     let n = c.loop-at.at-index in
     let t = get_or ts n (pos 0) in
-    let k = kind_of c.args.query.now.kind in
-    let r = content_of c.args.inputs.now (query_of c.args.query.now) in
+    let k = c.args.query.now.kind in
+    let r = content_over c.args.inputs.now (query_of c.args.query.now) in
     let lt : n < length ts = omega arith in
     let is : t ≡ get_or ts n t = get_or_default ts n (pos 0) t lt in
     let e : to_z w64 (of_z w64 t) ≡ t = search rules in

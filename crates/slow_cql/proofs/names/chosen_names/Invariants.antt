@@ -1,6 +1,6 @@
 use Rattle.std.proofs.Common.{◌≡◌, ◌+◌, ◌++◌, drop}
 use Rattle.cql_model.specs.Scopes.{names_from}
-use Rattle.cql_build.specs.Views.{chosen_of}
+use Rattle.cql_text.specs.Tree.{chosen_of}
 use Rattle.slow_cql.proofs.names.chosen_names.Given as goal
 
 abbrev pub invariant-loop-i : goal.invariant-loop-i

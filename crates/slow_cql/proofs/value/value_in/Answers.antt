@@ -1,6 +1,6 @@
 use Rattle.std.proofs.Common.{◌<◌, ◌≤◌, pos, false, length, get_or, min, sym, ap, ◌∙◌, arith}
 use Rattle.std.proofs.lemmas.List.{get_or_default}
-use Rattle.cql_model.specs.Meaning.{value_in}
+use Rattle.cql_model.specs.Meaning.{field_in}
 use Rattle.slow_cql.proofs.Tuples.{value_in_at, value_in_end}
 use Rattle.slow_cql.proofs.value.value_in.Goals as goal
 
@@ -21,4 +21,4 @@ returns c =
     let fields = c.args.fields.now in
     let values = c.values-values.result.now in
     let le : min (length fields) (length values) ≤ c.loop-i.i = omega arith in
-    sym (ap (value_in c.args.field fields) (sym c.values-values.ensures.values) ∙ c.loop-i.invariant ∙ value_in_end c.args.field fields values c.loop-i.i le)
+    sym (ap (field_in c.args.field fields) (sym c.values-values.ensures.values) ∙ c.loop-i.invariant ∙ value_in_end c.args.field fields values c.loop-i.i le)

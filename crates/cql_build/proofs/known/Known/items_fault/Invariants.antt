@@ -3,7 +3,7 @@ use Rattle.cql_model.specs.Faults.{items_fault}
 use Rattle.cql_model.specs.Scopes.{Named, scope_of}
 use Rattle.cql_model.specs.Translation.{widths_of}
 use Rattle.cql_build.specs.Knowing.{Knows}
-use Rattle.cql_build.specs.Views.{sources_of}
+use Rattle.cql_text.specs.Tree.{sources_of}
 use Rattle.cql_build.proofs.Judging.{SoFar}
 use Rattle.cql_build.proofs.known.Known.items_fault.Given as goal
 

@@ -1,6 +1,7 @@
 use Rattle.std.proofs.Common.{◌≡◌, List, ap, ◌∙◌}
 use Rattle.cql_model.specs.Scopes.{scope_of}
-use Rattle.cql_build.specs.Views.{sources_of, scope}
+use Rattle.cql_text.specs.Tree.{sources_of}
+use Rattle.cql_build.specs.Views.{scope}
 use Rattle.cql_build.proofs.known.Known.query.Goals as goal
 
 pub returns-clause-grew : goal.returns-clause-grew

@@ -1,7 +1,8 @@
 use Rattle.std.proofs.Common.{◌≡◌, take, List}
 use Rattle.cql_model.specs.Scopes.{Named, scope_of}
 use Rattle.cql_build.specs.Knowing.{Knows}
-use Rattle.cql_build.specs.Views.{sources_of, scope}
+use Rattle.cql_text.specs.Tree.{sources_of}
+use Rattle.cql_build.specs.Views.{scope}
 use Rattle.cql_build.proofs.known.Known.scope.Given as goal
 
 abbrev pub invariant-loop-source : goal.invariant-loop-source

@@ -7,7 +7,7 @@ use Rattle.river_plan.specs.Names.{count}
 use Rattle.cql_model.specs.Laws.{known_names}
 use Rattle.cql_model.specs.Scopes.{scope_of}
 use Rattle.cql_build.specs.Knowing.{IsFound}
-use Rattle.cql_build.specs.Views.{source_of, sources_of}
+use Rattle.cql_text.specs.Tree.{source_of, sources_of}
 use Rattle.cql_build.proofs.Judging.{IsGood, item_good, item_wide, scope_length}
 use Rattle.cql_build.proofs.known.Known.width_with.Goals as goal
 

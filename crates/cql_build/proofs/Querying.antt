@@ -2,34 +2,37 @@
 use Rattle.std.proofs.Common.{◌≡◌, ℕ, ◌+◌, ◌<◌, ◌≤◌, List, [], ◌∷◌, ◌++◌, length, drop, get_or, Option, refl, sym, ap, ◌∙◌, subst, arith}
 use Rattle.std.specs.List.{AllByRecursion}
 use Rattle.std.proofs.lemmas.List.{length-map}
-use Rattle.kern_bags.specs.declared.kernel.Streamer.{Streamer}
+use Rattle.cql_text.specs.declared.tree.Kind.{Kind}
 use Rattle.river_kernels.specs.Fits.{stream}
 use Rattle.river_plan.specs.Forms.{Name}
 use Rattle.river_plan.specs.Names.{count}
 use Rattle.river_plan.specs.declared.plan.RawPlan.{RawPlan}
 use Rattle.cql_model.specs.Plannable.{AreQueries, declared}
-use Rattle.cql_model.specs.Faults.{IsShortName, AreShort}
-use Rattle.cql_model.specs.Program as program
-use Rattle.cql_model.specs.Program.{Scalar, Columns, Query, Register, Ask, Program, streams_of, all_uses}
+use Rattle.cql_model.specs.Faults.{IsShortName, HaveShortNames}
+use Rattle.cql_text.specs.Tree as tree
+use Rattle.cql_model.specs.Program.{streams_of, all_uses}
+use Rattle.cql_text.specs.Tree.{Scalar, Columns, Query, Register, AQuery, Program}
 use Rattle.cql_model.specs.Scopes.{Named, scope_of}
-use Rattle.cql_model.specs.Translation.{decl, sources, w_name, window_ops, window_decls, cross_ops, cross_last, widths_of, select_ops, select_last}
+use Rattle.cql_model.specs.Translation.{decl, queues_of_uses, w_name, window_ops, window_decls, cross_ops, cross_last, widths_of, select_ops, select_last}
 use Rattle.cql_model.specs.Translation.{select_decls, project_ops, project_last, project_decls, out_decls, tail_ops, columns_width, query_ops, query_decls}
-use Rattle.cql_model.specs.Translation.{query_named, output_decls, ask_decls, ask_ops}
+use Rattle.cql_model.specs.Translation.{query_named, output_decls, queries_decls, queries_ops}
 use Rattle.cql_text.specs.declared.tree.Part.{Part}
 use Rattle.cql_text.specs.declared.tree.Source.{Source}
 use Rattle.cql_build.specs.declared.item.Item.{Item}
 use Rattle.cql_build.specs.declared.known.Known.{Known}
 use Rattle.cql_build.specs.declared.uses.Uses.{Uses}
-use Rattle.cql_build.specs.Grown.{Grew, Used, products, stream_ops, tail_decls, IsUnit, IsShortUnit, unit_outputs, unit_decls, unit_ops, unit_uses}
+use Rattle.cql_build.specs.Grown.{Grew, Used, product_decls, stream_ops, tail_decls, IsPlannableUnit, IsShortUnit, unit_outputs, unit_decls, unit_ops, unit_uses}
 use Rattle.cql_model.specs.Places.{declares}
 use Rattle.cql_build.specs.Knowing.{Knows}
-use Rattle.cql_build.specs.Views.{part_of, program_of, sources_of, named, scope}
+use Rattle.cql_text.specs.Tree.{part_of, parts_of, sources_of}
+use Rattle.cql_build.specs.Views.{named_item, scope}
 use Rattle.cql_build.proofs.Growing.{Left, left_start, left_next, left_is, left_end, grew_then}
 use Rattle.cql_build.proofs.Judging.{scope_length}
 use Rattle.cql_build.proofs.Lists.{drop_next, drop_all}
 
 -- THE TAIL OF A QUERY
 
+-- condition, columns and stream, one behind the other
 pub tail_made : (a b c d : RawPlan) (q : Query) (is : List Named) (uses : ℕ) (last s p : Name) (w : ℕ) → s ≡ select_last q.name last q.condition
     → p ≡ project_last q.name s q.columns → w ≡ columns_width is q.columns
     → Grew a b [] (select_decls q.name (widths_of is) q.condition) (select_ops q.name is last q.condition)
@@ -45,10 +48,11 @@ tail_made a b c d q is uses last s p w es ep ew g h k =
 
 -- A QUERY
 
-pub query_made : (a b c d : RawPlan) (name : Name) (kind : Streamer) (columns : Columns) (items : List program.Source) (condition : Option Scalar) (ks : List Named) (inputs all past : List Name) (is : List Named) (last : Name) (used : ℕ)
+-- windows, products and the rest make the operators of a query
+pub query_made : (a b c d : RawPlan) (name : Name) (kind : Kind) (columns : Columns) (items : List tree.Source) (condition : Option Scalar) (ks : List Named) (inputs all past : List Name) (is : List Named) (last : Name) (used : ℕ)
     → is ≡ scope_of ks items → 0 < length items → used ≡ count name all → last ≡ cross_last name (w_name name 1) 2 (drop 1 items)
-    → Grew a b [] (window_decls name 1 is) (window_ops name 1 items (sources inputs all past (streams_of items)))
-    → Grew b c [] (products name is) (cross_ops name (w_name name 1) 2 (drop 1 items))
+    → Grew a b [] (window_decls name 1 is) (window_ops name 1 items (queues_of_uses inputs all past (streams_of items)))
+    → Grew b c [] (product_decls name is) (cross_ops name (w_name name 1) 2 (drop 1 items))
     → Grew c d (decl name (stream (columns_width is columns)) ∷ []) (tail_decls (record { name = name; kind = kind; columns = columns; items = items; condition = condition }) is used)
     (tail_ops (record { name = name; kind = kind; columns = columns; items = items; condition = condition }) is used last)
     → Grew a d (decl name (stream (columns_width (scope_of ks items) columns)) ∷ []) (query_decls all ks (record { name = name; kind = kind; columns = columns; items = items; condition = condition }))
@@ -57,8 +61,8 @@ query_made a b c d name kind columns [] condition ks inputs all past is last use
 query_made a b c d name kind columns (i ∷ items) condition ks inputs all past is last used e some u l g h t =
     let q : Query = record { name = name; kind = kind; columns = columns; items = i ∷ items; condition = condition } in
     let sc = scope_of ks (i ∷ items) in
-    let g1 = subst (λ (x : List Named). Grew a b [] (window_decls name 1 x) (window_ops name 1 (i ∷ items) (sources inputs all past (streams_of (i ∷ items))))) e g in
-    let h1 = subst (λ (x : List Named). Grew b c [] (products name x) (cross_ops name (w_name name 1) 2 items)) e h in
+    let g1 = subst (λ (x : List Named). Grew a b [] (window_decls name 1 x) (window_ops name 1 (i ∷ items) (queues_of_uses inputs all past (streams_of (i ∷ items))))) e g in
+    let h1 = subst (λ (x : List Named). Grew b c [] (product_decls name x) (cross_ops name (w_name name 1) 2 items)) e h in
     let t1 = subst (λ (x : List Named). Grew c d (decl name (stream (columns_width x columns)) ∷ []) (tail_decls q x used) (tail_ops q x used last)) e t in
     let t2 = subst (λ (x : ℕ). Grew c d (decl name (stream (columns_width sc columns)) ∷ []) (tail_decls q sc x) (tail_ops q sc x last)) u t1 in
     let t3 = subst (λ (x : Name). Grew c d (decl name (stream (columns_width sc columns)) ∷ []) (tail_decls q sc (count name all)) (tail_ops q sc (count name all) x)) l t2 in
@@ -66,24 +70,24 @@ query_made a b c d name kind columns (i ∷ items) condition ks inputs all past 
 
 -- the items of a query that is accepted
 pub items_are : (ks : List Named) (xs : List Source) (is : List Item) → scope is ≡ scope_of ks (sources_of xs) → length is ≡ length xs
-items_are ks xs is e = sym (length-map is named) ∙ ap (λ (l : List Named). length l) e ∙ scope_length ks xs
+items_are ks xs is e = sym (length-map is named_item) ∙ ap (λ (l : List Named). length l) e ∙ scope_length ks xs
 
 -- ALL UNITS
 
-pub record Asking (old now : RawPlan) (before after : Uses) (parts : List Part) (i : ℕ) (k : Known) : Type 0 where
+pub record Querying (old now : RawPlan) (before after : Uses) (parts : List Part) (i : ℕ) (k : Known) : Type 0 where
   pub ks : List Named
   pub knows : Knows k ks
-  pub good : AreQueries ks (program_of (drop i parts))
-  pub names : AllByRecursion IsShortName (declared (program_of (drop i parts)))
-  pub uses : AllByRecursion IsShortName (all_uses (program_of (drop i parts)))
+  pub good : AreQueries ks (parts_of (drop i parts))
+  pub names : AllByRecursion IsShortName (declared (parts_of (drop i parts)))
+  pub uses : AllByRecursion IsShortName (all_uses (parts_of (drop i parts)))
   pub inputs : after.inputs ≡ before.inputs
   pub all : after.all ≡ before.all
-  pub left : Left old now (output_decls [] (program_of parts)) (output_decls ks (program_of (drop i parts))) (ask_decls before.all [] (program_of parts)) (ask_decls before.all ks (program_of (drop i parts)))
-      (ask_ops before.inputs before.all [] before.past (program_of parts)) (ask_ops before.inputs before.all ks after.past (program_of (drop i parts)))
+  pub left : Left old now (output_decls [] (parts_of parts)) (output_decls ks (parts_of (drop i parts))) (queries_decls before.all [] (parts_of parts)) (queries_decls before.all ks (parts_of (drop i parts)))
+      (queries_ops before.inputs before.all [] before.past (parts_of parts)) (queries_ops before.inputs before.all ks after.past (parts_of (drop i parts)))
 
-pub asking_start : (raw : RawPlan) (uses : Uses) (parts : List Part) (k : Known) → Knows k [] → AreQueries [] (program_of parts) → AreShort (program_of parts)
-    → Asking raw raw uses uses parts 0 k
-asking_start raw uses parts k n g s =
+pub querying_start : (raw : RawPlan) (uses : Uses) (parts : List Part) (k : Known) → Knows k [] → AreQueries [] (parts_of parts) → HaveShortNames (parts_of parts)
+    → Querying raw raw uses uses parts 0 k
+querying_start raw uses parts k n g s =
     record { ks = []; knows = n; good = g; names = s.names; uses = s.uses; inputs = refl; all = refl; left = left_start raw _ _ _ }
 
 each_front : (P : Name → Type 0) (xs ys : List Name) → AllByRecursion P (xs ++ ys) → AllByRecursion P xs
@@ -95,17 +99,17 @@ each_back P [] ys h = h
 each_back P (x ∷ xs) ys h = each_back P xs ys h.1
 
 -- a unit, and those behind it
-record Apart (ks : List Named) (p : program.Part) (ps : Program) : Type 0 where
-  pub unit : IsUnit ks p
+record Apart (ks : List Named) (p : tree.Part) (ps : Program) : Type 0 where
+  pub unit : IsPlannableUnit ks p
   pub short : IsShortUnit p
   pub good : AreQueries (declares ks p ∷ ks) ps
   pub names : AllByRecursion IsShortName (declared ps)
   pub uses : AllByRecursion IsShortName (all_uses ps)
 
-apart : (ks : List Named) (p : program.Part) (ps : Program) → AreQueries ks (p ∷ ps) → AllByRecursion IsShortName (declared (p ∷ ps))
+apart : (ks : List Named) (p : tree.Part) (ps : Program) → AreQueries ks (p ∷ ps) → AllByRecursion IsShortName (declared (p ∷ ps))
     → AllByRecursion IsShortName (all_uses (p ∷ ps)) → Apart ks p ps
 apart ks (Register name fields) ps g n u = record { unit = tt; short = tt; good = g.1; names = n.1; uses = u }
-apart ks (Ask q) ps g n u = record {
+apart ks (AQuery q) ps g n u = record {
   unit = g.0;
   short = (n.0, each_front IsShortName (streams_of q.items) (all_uses ps) u);
   good = g.1;
@@ -113,46 +117,48 @@ apart ks (Ask q) ps g n u = record {
   uses = each_back IsShortName (streams_of q.items) (all_uses ps) u;
 }
 
-at : (old now : RawPlan) (before after : Uses) (parts : List Part) (i : ℕ) (k : Known) (p : Part) (a : Asking old now before after parts i k) → i < length parts
+at : (old now : RawPlan) (before after : Uses) (parts : List Part) (i : ℕ) (k : Known) (p : Part) (a : Querying old now before after parts i k) → i < length parts
     → p ≡ get_or parts i p
-    → Apart a.ks (part_of p) (program_of (drop (i + 1) parts))
+    → Apart a.ks (part_of p) (parts_of (drop (i + 1) parts))
 at old now before after parts i k p a lt e =
-    let d : program_of (drop i parts) ≡ part_of p ∷ program_of (drop (i + 1) parts) = ap program_of (drop_next parts i p lt e) in
-    apart a.ks (part_of p) (program_of (drop (i + 1) parts)) (subst (AreQueries a.ks) d a.good) (subst (λ (l : Program). AllByRecursion IsShortName (declared l)) d a.names)
+    let d : parts_of (drop i parts) ≡ part_of p ∷ parts_of (drop (i + 1) parts) = ap parts_of (drop_next parts i p lt e) in
+    apart a.ks (part_of p) (parts_of (drop (i + 1) parts)) (subst (AreQueries a.ks) d a.good) (subst (λ (l : Program). AllByRecursion IsShortName (declared l)) d a.names)
     (subst (λ (l : Program). AllByRecursion IsShortName (all_uses l)) d a.uses)
 
-pub asking_good : (old now : RawPlan) (before after : Uses) (parts : List Part) (i : ℕ) (k : Known) (p : Part) → Asking old now before after parts i k
+-- the next unit is as the whole program asks
+pub querying_good : (old now : RawPlan) (before after : Uses) (parts : List Part) (i : ℕ) (k : Known) (p : Part) → Querying old now before after parts i k
     → i < length parts → p ≡ get_or parts i p
-    → ((ks : List Named) × Knows k ks × IsUnit ks (part_of p)) × IsShortUnit (part_of p)
-asking_good old now before after parts i k p a lt e = let s = at old now before after parts i k p a lt e in ((a.ks, a.knows, s.unit), s.short)
+    → ((ks : List Named) × Knows k ks × IsPlannableUnit ks (part_of p)) × IsShortUnit (part_of p)
+querying_good old now before after parts i k p a lt e = let s = at old now before after parts i k p a lt e in ((a.ks, a.knows, s.unit), s.short)
 
-outputs_one : (ks : List Named) (p : program.Part) (ps : Program) → output_decls ks (p ∷ ps) ≡ unit_outputs ks p ++ output_decls (declares ks p ∷ ks) ps
+outputs_one : (ks : List Named) (p : tree.Part) (ps : Program) → output_decls ks (p ∷ ps) ≡ unit_outputs ks p ++ output_decls (declares ks p ∷ ks) ps
 outputs_one ks (Register name fields) ps = refl
-outputs_one ks (Ask q) ps = refl
+outputs_one ks (AQuery q) ps = refl
 
-decls_one : (all : List Name) (ks : List Named) (p : program.Part) (ps : Program)
-    → ask_decls all ks (p ∷ ps) ≡ unit_decls all ks p ++ ask_decls all (declares ks p ∷ ks) ps
+decls_one : (all : List Name) (ks : List Named) (p : tree.Part) (ps : Program)
+    → queries_decls all ks (p ∷ ps) ≡ unit_decls all ks p ++ queries_decls all (declares ks p ∷ ks) ps
 decls_one all ks (Register name fields) ps = refl
-decls_one all ks (Ask q) ps = refl
+decls_one all ks (AQuery q) ps = refl
 
-ops_one : (inputs all past later : List Name) (ks : List Named) (p : program.Part) (ps : Program) → later ≡ past ++ unit_uses p
-    → ask_ops inputs all ks past (p ∷ ps) ≡ unit_ops inputs all ks past p ++ ask_ops inputs all (declares ks p ∷ ks) later ps
+ops_one : (inputs all past later : List Name) (ks : List Named) (p : tree.Part) (ps : Program) → later ≡ past ++ unit_uses p
+    → queries_ops inputs all ks past (p ∷ ps) ≡ unit_ops inputs all ks past p ++ queries_ops inputs all (declares ks p ∷ ks) later ps
 ops_one inputs all past later ks (Register name fields) ps e =
-    ap (λ l. ask_ops inputs all (record { name = name; fields = fields } ∷ ks) l ps) (sym (e ∙ nil past)) where
+    ap (λ l. queries_ops inputs all (record { name = name; fields = fields } ∷ ks) l ps) (sym (e ∙ nil past)) where
       nil : (l : List Name) → l ++ [] ≡ l
       nil [] = refl
       nil (x ∷ xs) = ap (λ l. x ∷ l) (nil xs)
-ops_one inputs all past later ks (Ask q) ps e = ap (λ l. query_ops inputs all ks past q ++ ask_ops inputs all (query_named ks q ∷ ks) l ps) (sym e)
+ops_one inputs all past later ks (AQuery q) ps e = ap (λ l. query_ops inputs all ks past q ++ queries_ops inputs all (query_named ks q ∷ ks) l ps) (sym e)
 
-pub asking_next : (old now next : RawPlan) (before after later : Uses) (parts : List Part) (i : ℕ) (k k' : Known) (p : Part) (a : Asking old now before after parts i k)
+-- one unit more is made
+pub querying_next : (old now next : RawPlan) (before after later : Uses) (parts : List Part) (i : ℕ) (k k' : Known) (p : Part) (a : Querying old now before after parts i k)
     → i < length parts → p ≡ get_or parts i p
     → ((ks : List Named) → Knows k ks → Grew now next (unit_outputs ks (part_of p)) (unit_decls after.all ks (part_of p)) (unit_ops after.inputs after.all ks after.past (part_of p)))
     → Used after later (unit_uses (part_of p))
-    → ((ks : List Named) → Knows k ks → Knows k' (declares ks (part_of p) ∷ ks)) → Asking old next before later parts (i + 1) k'
-asking_next old now next before after later parts i k k' p a lt e g u n =
+    → ((ks : List Named) → Knows k ks → Knows k' (declares ks (part_of p) ∷ ks)) → Querying old next before later parts (i + 1) k'
+querying_next old now next before after later parts i k k' p a lt e g u n =
     let s = at old now before after parts i k p a lt e in
-    let d : program_of (drop i parts) ≡ part_of p ∷ program_of (drop (i + 1) parts) = ap program_of (drop_next parts i p lt e) in
-    let rest = program_of (drop (i + 1) parts) in
+    let d : parts_of (drop i parts) ≡ part_of p ∷ parts_of (drop (i + 1) parts) = ap parts_of (drop_next parts i p lt e) in
+    let rest = parts_of (drop (i + 1) parts) in
     let g1 = subst (λ (l : List Name). Grew now next (unit_outputs a.ks (part_of p)) (unit_decls l a.ks (part_of p)) (unit_ops after.inputs l a.ks after.past (part_of p))) a.all (g a.ks a.knows) in
     let g2 = subst (λ (l : List Name). Grew now next (unit_outputs a.ks (part_of p)) (unit_decls before.all a.ks (part_of p)) (unit_ops l before.all a.ks after.past (part_of p))) a.inputs g1 in
     record {
@@ -165,19 +171,19 @@ asking_next old now next before after later parts i k k' p a lt e g u n =
       all = u.all ∙ a.all;
       left =
           left_next old now next _ (unit_outputs a.ks (part_of p)) _ _ (unit_decls before.all a.ks (part_of p)) _ _ (unit_ops before.inputs before.all a.ks after.past (part_of p)) _
-          (left_is old now _ _ (unit_outputs a.ks (part_of p) ++ output_decls (declares a.ks (part_of p) ∷ a.ks) rest) _ _ (unit_decls before.all a.ks (part_of p) ++ ask_decls before.all (declares a.ks (part_of p) ∷ a.ks) rest) _ _
-          (unit_ops before.inputs before.all a.ks after.past (part_of p) ++ ask_ops before.inputs before.all (declares a.ks (part_of p) ∷ a.ks) later.past rest) a.left
+          (left_is old now _ _ (unit_outputs a.ks (part_of p) ++ output_decls (declares a.ks (part_of p) ∷ a.ks) rest) _ _ (unit_decls before.all a.ks (part_of p) ++ queries_decls before.all (declares a.ks (part_of p) ∷ a.ks) rest) _ _
+          (unit_ops before.inputs before.all a.ks after.past (part_of p) ++ queries_ops before.inputs before.all (declares a.ks (part_of p) ∷ a.ks) later.past rest) a.left
           (ap (output_decls a.ks) d ∙ outputs_one a.ks (part_of p) rest)
-          (ap (ask_decls before.all a.ks) d ∙ decls_one before.all a.ks (part_of p) rest)
-          (ap (ask_ops before.inputs before.all a.ks after.past) d ∙ ops_one before.inputs before.all after.past later.past a.ks (part_of p) rest u.past)) g2;
+          (ap (queries_decls before.all a.ks) d ∙ decls_one before.all a.ks (part_of p) rest)
+          (ap (queries_ops before.inputs before.all a.ks after.past) d ∙ ops_one before.inputs before.all after.past later.past a.ks (part_of p) rest u.past)) g2;
     }
 
-pub asking_end : (old now : RawPlan) (before after : Uses) (parts : List Part) (i : ℕ) (k : Known) → Asking old now before after parts i k → length parts ≤ i
-    → Grew old now (output_decls [] (program_of parts)) (ask_decls before.all [] (program_of parts)) (ask_ops before.inputs before.all [] before.past (program_of parts))
-asking_end old now before after parts i k a le =
-    let d : program_of (drop i parts) ≡ [] = ap program_of (drop_all parts i le) in
+pub querying_end : (old now : RawPlan) (before after : Uses) (parts : List Part) (i : ℕ) (k : Known) → Querying old now before after parts i k → length parts ≤ i
+    → Grew old now (output_decls [] (parts_of parts)) (queries_decls before.all [] (parts_of parts)) (queries_ops before.inputs before.all [] before.past (parts_of parts))
+querying_end old now before after parts i k a le =
+    let d : parts_of (drop i parts) ≡ [] = ap parts_of (drop_all parts i le) in
     left_end old now _ _ _
-    (left_is old now _ _ [] _ _ [] _ _ [] a.left (ap (output_decls a.ks) d) (ap (ask_decls before.all a.ks) d) (ap (ask_ops before.inputs before.all a.ks after.past) d))
+    (left_is old now _ _ [] _ _ [] _ _ [] a.left (ap (output_decls a.ks) d) (ap (queries_decls before.all a.ks) d) (ap (queries_ops before.inputs before.all a.ks after.past) d))
 
 -- as many sources as are written
 pub sources_length : (xs : List Source) → length (sources_of xs) ≡ length xs

@@ -1,11 +1,11 @@
 use Rattle.std.proofs.Common.{◌≡◌, [], ◌∷◌, ◌++◌, ap, ◌∙◌}
-use Rattle.cql_model.specs.Meaning.{answer, asked}
+use Rattle.cql_model.specs.Meaning.{answer, query_known}
 use Rattle.cql_model.specs.Streams.{spread}
-use Rattle.cql_build.specs.Views.{query_of}
-use Rattle.slow_cql.specs.Kept.{Stands}
+use Rattle.cql_text.specs.Tree.{query_of}
+use Rattle.slow_cql.specs.Kept.{StandsKept}
 use Rattle.slow_cql.proofs.Standing.{stands_same}
 use Rattle.slow_cql.proofs.Results.{on_ok, always_ok}
-use Rattle.slow_cql.proofs.program.ask.Goals as goal
+use Rattle.slow_cql.proofs.program.add_query.Goals as goal
 
 pub returns-clause-known : goal.returns-clause-known
 returns-clause-known c = λ ks st.
@@ -15,7 +15,7 @@ returns-clause-known c = λ ks st.
     let items : c.in_ok-items.items ≡ spread ts (answer ts ks q) =
     c.in_ok-items.ensures ks (stands_same ts c.as_slice-2.result.now all c.as_slice.result.now ks c.as_slice-2.ensures c.as_slice.ensures st)
     ∙ ap (λ l. spread l (answer l ks q)) c.as_slice-2.ensures in
-    always_ok c.push.result (Stands ts c.declare_answer.new.known (asked ts ks q ∷ ks)) (c.in_ok-declare_answer.ensures ks items st)
+    always_ok c.push.result (StandsKept ts c.declare_answer.new.known (query_known ts ks q ∷ ks)) (c.in_ok-declare_answer.ensures ks items st)
 
 pub returns-clause-outs : goal.returns-clause-outs
 returns-clause-outs c = λ ks st.
