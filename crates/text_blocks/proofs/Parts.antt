@@ -5,7 +5,7 @@ use Rattle.work_code.specs.declared.sign.Symbol.TheVariants as s
 use Rattle.text_forms.specs.Parse as parse
 use Rattle.text_forms.specs.Parse.{Parse}
 use Rattle.text_forms.specs.Forms as form
-use Rattle.text_forms.proofs.Exact.{Exact, Any, exact-less, exact-after, exact-before, exact-maybe}
+use Rattle.text_forms.proofs.Exact.{Exact, Any, exact-after, exact-before, exact-maybe, exact-tested, exact-number}
 use Rattle.text_forms.proofs.Choices.{exact-enclosed}
 use Rattle.text_blocks.specs.Parts.{Round, Square, Ended, FirstValue, round_at, square_at, ended_at, first_value_at}
 
@@ -29,3 +29,7 @@ module _ {A : Type 0} {F : ℕ → A → List Tok → Type 0} {p : ℕ → Parse
   pub exact-first : (n : ℕ) → Exact (FirstValue F n) (first_value_at p n) (λ rest. E rest × (parse.begins_with s.Assign rest ≡ false))
   unfolding first_value_at
   exact-first n = exact-maybe (parse.begins_with s.Assign) (exact-after (s.Assign ∷ []) (x n)) (λ v ts rest h. rw h.is refl)
+
+-- a number that counts something, in square brackets
+pub exact-place : (n : ℕ) → Exact (Square (λ m. form.Tested parse.is_count form.Number) n) (square_at (λ m. parse.count_at) n) Any
+exact-place n = exact-square (λ m. exact-tested parse.is_count exact-number) (λ rest. tt) n

@@ -1,5 +1,4 @@
 pub mod Exact
-pub mod Keeps
 pub mod Parts
 pub mod Reading
 pub mod Seven

@@ -8,10 +8,9 @@ ghost use Rattle.text_blocks.specs.Statements.{Style, Holes};
 ghost use Rattle.text_blocks.specs.Parts.{optional};
 
 use crate::Opening;
-use crate::end::closed;
 use river_base::NoMemory;
 use std::alloc::Global;
-use text_forms::{Fault, Reader};
+use text_forms::{Fault, Reader, closed};
 use work_code::Symbol;
 
 /// A language's statements and blocks: what it hands in for them to be read.
@@ -126,7 +125,12 @@ fn statement<L: Blocks>(
     rest(language, reader, alloc, nest, brackets, word)
 }
 
-/// What stands behind this word of a statement, in which branches and loops together may nest so deep.
+/// What stands behind this word of a statement, in which branches and loops together may nest so
+/// deep, and so many more brackets may be open.
+///
+/// # Errors
+///
+/// `Syntax` where it is not in the grammar, `NoMemory` where there is no memory.
 #[cycle(block)]
 #[tactic(auto, using(crate::proofs::Steps::rests))]
 pub fn rest<L: Blocks>(
@@ -207,7 +211,12 @@ fn otherwise<L: Blocks>(
     Ok(Some(block(language, reader, alloc, nest, brackets)?))
 }
 
-/// `{` statements `}`, in which branches and loops together may nest so deep.
+/// `{` statements `}`, in which branches and loops together may nest so deep, and so many more
+/// brackets may be open.
+///
+/// # Errors
+///
+/// `Syntax` where no block comes next, `NoMemory` where there is no memory.
 #[cycle(block)]
 #[tactic(auto, unfolding(crate::specs::Reading::block_at))]
 pub fn block<L: Blocks>(

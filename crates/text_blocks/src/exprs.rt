@@ -1,12 +1,11 @@
 // Expressions as statements have them.
 ghost use Rattle.std.specs.Prelude.{◌≡◌, ℕ, Option, None, Some};
 ghost use Rattle.text_forms.specs.Gives.{Gives};
-ghost use Rattle.text_forms.specs.Parse.{Parse};
+ghost use Rattle.text_forms.specs.Parse.{Parse, count_at};
 ghost use Rattle.text_blocks.specs.Parts.{ended_at, round_at, square_at, first_value_at, optional};
 
-use crate::end::closed;
 use std::alloc::Global;
-use text_forms::{Fault, Reader};
+use text_forms::{Fault, Reader, closed};
 use work_code::Symbol;
 
 /// A language's expressions, as its statements have them.
@@ -90,4 +89,14 @@ pub fn first_value<T: Exprs>(
     }
     reader.expect(&[Symbol::Assign])?;
     Ok(Some(exprs.expr(reader, alloc, brackets)?))
+}
+
+/// `[N]`, where N counts something: at most 2^32 - 1.
+#[tactic(auto, unfolding(crate::specs::Parts::square_at))]
+pub fn place(reader: &mut Reader<'_>, brackets: u32) -> Result<u32, Fault>
+    ensures { Gives (λ value. value) result reader.new (square_at (λ m. count_at) brackets reader.old) }
+{
+    reader.opens(Symbol::OpenBracket, brackets)?;
+    let value = reader.count()?;
+    closed(reader, value, Symbol::CloseBracket)
 }
