@@ -18,7 +18,7 @@ use Rattle.streamit_front.specs.Meaning.{Accepted, compiled, Plans, Refused}
 use Rattle.streamit_front.specs.Words.{streamit_words}
 use Rattle.streamit_front.specs.declared.fault.StreamitFault.{StreamitFault}
 use Rattle.streamit_front.specs.declared.fault.StreamitFault.TheVariants as streamit_fault
-use Rattle.streamit_build.specs.Program as streamit_build
+use Rattle.streamit_text.specs.Program as streamit_tree
 use Rattle.streamit_front.specs.declared.program.StreamitProgram.{StreamitProgram}
 use Rattle.streamit_front.proofs.Fronts.{compiled-readable, plans_mean}
 use Rattle.river_cli.specs.Contents.{AreContents}
@@ -79,10 +79,10 @@ program_plan : (text : List ℕ) (a : Accepted) → compiled text ≡ Ok a → I
 program_plan text a e = record { plan = refl; inputs = refl; outputs = refl; tables = refl; means = program_means text a e }
 
 -- the plan that was compiled is the program's, and so is the tree
-pub streamit-compiled : (text : List ℕ) (t : StreamitProgram) (plan : PlanForm) → Plans (compiled text) (streamit_build.program_of t.units.items) plan
+pub streamit-compiled : (text : List ℕ) (t : StreamitProgram) (plan : PlanForm) → Plans (compiled text) (streamit_tree.program_of t.units.items) plan
     → StandsFor IsCompiled (told streamit_source streamit_words (compiled text)) (record { plan = plan; program = program.Streamit t })
 streamit-compiled text t plan (s, is, made) =
-    let a : Accepted = record { program = streamit_build.program_of t.units.items; stream = s } in
+    let a : Accepted = record { program = streamit_tree.program_of t.units.items; stream = s } in
     subst (λ (r : Result Accepted StreamitFault). StandsFor IsCompiled (told streamit_source streamit_words r) (record { plan = plan; program = program.Streamit t })) (sym is)
     (record {
       plan = subst (IsPlanOf (streamit_source a)) (sym made) (program_plan text a is);

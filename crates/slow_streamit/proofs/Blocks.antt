@@ -7,11 +7,10 @@ use Rattle.std.proofs.lemmas.List.{get_or_past}
 use Rattle.river_base.specs.Name.{name_eq}
 use Rattle.river_plan.specs.Forms.{Name}
 use Rattle.brooklet_model.specs.Machine.{at_name}
-use Rattle.streamit_model.specs.Source as source
-use Rattle.streamit_model.specs.Source.{Values, Now, numbers, each_turn, does, do_all}
-use Rattle.streamit_model.specs.FilterSource.{nought}
-use Rattle.streamit_unroll.specs.Unrolled.{AreWritten}
-use Rattle.streamit_unroll.specs.View.{in_turn}
+use Rattle.streamit_text.specs.Tree as source
+use Rattle.streamit_model.specs.Meaning.{Values, State, numbers, each_turn, exec, exec_all, nought}
+use Rattle.streamit_unroll.specs.Unrolling.{AreWritten}
+use Rattle.streamit_text.specs.Tree.{in_turn}
 use Rattle.slow_streamit.specs.Firing.{or_nought}
 
 -- VALUES
@@ -31,18 +30,18 @@ known-more f g n z more = λ i q. (ap or_nought (more q) ∙ chosen (name_eq n q
 -- BLOCKS
 
 -- what is left to do gives what all does
-pub record BlockSoFar (xs : List ℤ) (all rest : List source.Statement) (first now : Now) : Type 0 where
-  pub same : do_all (in_turn rest) xs now ≡ do_all (in_turn all) xs first
+pub record BlockSoFar (xs : List ℤ) (all rest : List source.Statement) (first now : State) : Type 0 where
+  pub same : exec_all (in_turn rest) xs now ≡ exec_all (in_turn all) xs first
   pub written : AreWritten (in_turn rest)
 
-pub block_start : (xs : List ℤ) (all : List source.Statement) (first : Now) → AreWritten (in_turn all) → BlockSoFar xs all all first first
+pub block_start : (xs : List ℤ) (all : List source.Statement) (first : State) → AreWritten (in_turn all) → BlockSoFar xs all all first first
 block_start xs all first written = record { same = refl; written = written }
 
-pub block_next : (xs : List ℤ) (all rest : List source.Statement) (c : source.Statement) (first now next : Now) → BlockSoFar xs all (c ∷ rest) first now
-    → next ≡ does c xs now → BlockSoFar xs all rest first next
-block_next xs all rest c first now next f e = record { same = ap (do_all (in_turn rest) xs) e ∙ f.same; written = f.written.1 }
+pub block_next : (xs : List ℤ) (all rest : List source.Statement) (c : source.Statement) (first now next : State) → BlockSoFar xs all (c ∷ rest) first now
+    → next ≡ exec c xs now → BlockSoFar xs all rest first next
+block_next xs all rest c first now next f e = record { same = ap (exec_all (in_turn rest) xs) e ∙ f.same; written = f.written.1 }
 
-pub block_end : (xs : List ℤ) (all : List source.Statement) (first now : Now) → BlockSoFar xs all [] first now → now ≡ do_all (in_turn all) xs first
+pub block_end : (xs : List ℤ) (all : List source.Statement) (first now : State) → BlockSoFar xs all [] first now → now ≡ exec_all (in_turn all) xs first
 block_end xs all first now f = f.same
 
 -- TURNS
@@ -52,13 +51,14 @@ numbers_more v end lt = ap (numbers v) (let e : end - v ≡ suc (end - (v + 1)) 
     ∙ ap (λ k. v ∷ numbers k (end - (v + 1))) (let e : suc v ≡ v + 1 = omega arith in e)
 
 -- the turns that are left give what all give
-pub record TurnsSoFar (block : Now → Now) (n : Name) (low v end : ℕ) (first now : Now) : Type 0 where
+pub record TurnsSoFar (block : State → State) (n : Name) (low v end : ℕ) (first now : State) : Type 0 where
   pub same : each_turn block n (numbers v (end - v)) now ≡ each_turn block n (numbers low (end - low)) first
 
-pub turns_start : (block : Now → Now) (n : Name) (low end : ℕ) (first : Now) → TurnsSoFar block n low low end first first
+pub turns_start : (block : State → State) (n : Name) (low end : ℕ) (first : State) → TurnsSoFar block n low low end first first
 turns_start block n low end first = record { same = refl }
 
-pub turns_next : (block : Now → Now) (n : Name) (low v end : ℕ) (first now next : Now) → v < end → TurnsSoFar block n low v end first now
+-- one turn more
+pub turns_next : (block : State → State) (n : Name) (low v end : ℕ) (first now next : State) → v < end → TurnsSoFar block n low v end first now
     → next ≡ block (record now { values = at_name n (pos v) now.values }) → TurnsSoFar block n low (v + 1) end first next
 turns_next block n low v end first now next lt f e = record {
   same = ap (each_turn block n (numbers (v + 1) (end - (v + 1)))) e ∙ ap (λ vs. each_turn block n vs now) (sym (numbers_more v end lt)) ∙ f.same;
@@ -68,7 +68,7 @@ turns_next block n low v end first now next lt f e = record {
 pub turn_value : (v end : ℕ) → v < end → end ≤ 2 ^ 63 → to_z w64 v ≡ pos v
 turn_value v end lt le = to_z_pos w64 v (omega (arith, lt, le))
 
-pub turns_end : (block : Now → Now) (n : Name) (low v end : ℕ) (first now : Now) → end ≤ v → TurnsSoFar block n low v end first now
+pub turns_end : (block : State → State) (n : Name) (low v end : ℕ) (first now : State) → end ≤ v → TurnsSoFar block n low v end first now
     → now ≡ each_turn block n (numbers low (end - low)) first
 turns_end block n low v end first now le f = ap (λ k. each_turn block n (numbers v k) now) (let z : 0 ≡ end - v = omega (arith, le) in z) ∙ f.same
 

@@ -5,8 +5,8 @@ use Rattle.std.specs.Prelude.{nat_le}
 use Rattle.std.proofs.lemmas.List.{drop_all, length-map}
 use Rattle.river_plan.specs.Forms.{Name}
 use Rattle.brooklet_model.specs.Machine.{at_name}
-use Rattle.streamit_model.specs.Source.{Values}
-use Rattle.streamit_model.specs.FilterSource.{FilterTree, pop_of, peek_of, with_fields, fires, fires_from}
+use Rattle.streamit_model.specs.Meaning.{Values, pop_of, peek_of, with_fields, fires, fires_from}
+use Rattle.streamit_text.specs.Program.{FilterTree}
 use Rattle.slow_streamit.proofs.Rounds.{from_place}
 
 -- FIELDS
@@ -64,6 +64,7 @@ fired_start t xs before first e = record {
   same = ap (λ n. before ++ fires_from t n 0 first xs) (let z : length xs - 0 ≡ length xs = omega arith in z);
 }
 
+-- one firing more
 pub fired_next : (t : FilterTree) (xs before : List ℤ) (start j pop peek : ℕ) (first kept kept' out out' : List ℤ) → j < length xs → pop ≡ pop_of t
     → peek ≡ peek_of t → pop < 2 ^ 32 → start + peek ≤ length xs → FiredSoFar t xs before start j first kept out
     → kept' ≡ map (fires t j kept xs).values t.fields → out' ≡ out ++ (fires t j kept xs).pushed → FiredSoFar t xs before (start + pop) (j + 1) first kept' out'
@@ -87,6 +88,7 @@ fired_next t xs before start j pop peek first kept kept' out out' lt epop epeek 
   more : (j p : ℕ) → (j + 1) * p ≡ j * p + p
   more j p = grind arith
 
+-- no firing more
 pub fired_stop : (t : FilterTree) (xs before : List ℤ) (start j peek : ℕ) (first kept out : List ℤ) → j < length xs → peek ≡ peek_of t
     → length xs < start + peek → FiredSoFar t xs before start j first kept out → out ≡ before ++ fires_from t (length xs) 0 first xs
 fired_stop t xs before start j peek first kept out lt epeek high f =

@@ -127,6 +127,7 @@ CollectedSoFar ws ls size x out = out ++ front_of (item_at ws ls) (size - x) x �
 one_less : (size x : ℕ) → x < size → size - x ≡ suc (size - (x + 1))
 one_less size x lt = omega (arith, lt)
 
+-- one item more is there
 pub collected_more : (ws : List ℕ) (ls : List (List ℤ)) (size x : ℕ) (out : List ℤ) (y : ℤ) → x < size → item_at ws ls x ≡ Some y
     → CollectedSoFar ws ls size x out → CollectedSoFar ws ls size (x + 1) (out ++ y ∷ [])
 collected_more ws ls size x out y lt e f =
@@ -137,6 +138,7 @@ collected_more ws ls size x out y lt e f =
     ∙ ap (λ n. out ++ front_of at n x) (sym (one_less size x lt))
     ∙ f
 
+-- no item more is there
 pub collected_none : (ws : List ℕ) (ls : List (List ℤ)) (size x : ℕ) (out : List ℤ) → x < size → item_at ws ls x ≡ None → CollectedSoFar ws ls size x out
     → out ≡ front_of (item_at ws ls) size 0
 collected_none ws ls size x out lt e f =

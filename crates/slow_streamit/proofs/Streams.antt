@@ -5,10 +5,10 @@ use Rattle.std.specs.Prelude.{if◌then◌else◌}
 use Rattle.std.proofs.lemmas.List.{drop_all, take_all, take_more, map-append}
 use Rattle.river_base.specs.Name.{name_eq}
 use Rattle.river_plan.specs.Forms.{Name}
-use Rattle.streamit_model.specs.Program.{Works, Program, Declared, look, or_same, work_of, piped, branched, body_works, all_work, last_of, program_outputs}
-use Rattle.streamit_build.specs.declared.program.Declaration.{Declaration}
-use Rattle.streamit_build.specs.Program.{body_of, declared_of, program_of, IsReadableBody}
-use Rattle.streamit_build.specs.Told.{AreReadable}
+use Rattle.streamit_model.specs.Meaning.{Works, look, or_same, work_of, piped, branched, body_works, all_work, last_of, program_outputs}
+use Rattle.streamit_text.specs.Program.{Program, Declared, body_of, declared_of, program_of}
+use Rattle.streamit_text.specs.declared.program.Declaration.{Declaration}
+use Rattle.streamit_build.specs.Readable.{IsReadableBody, AreReadable}
 use Rattle.slow_streamit.specs.Works.{works_of}
 use Rattle.slow_streamit.proofs.Rounds.{from_place}
 
@@ -44,6 +44,7 @@ look-at us n i d b lt e t =
     ap (λ env. look env n) (works-last us i d lt e)
     ∙ ap (λ c. if c then Some (body_works (works_of (take i us)) (body_of d.body)) else look (works_of (take i us)) n) t
 
+-- the name is not at this place
 pub place_next : (us : List Declaration) (n : Name) (k i : ℕ) (d : Declaration) → k ≡ i + 1 → d ≡ get_or us i d → name_eq d.name n ≡ false
     → PlaceSoFar us n k → PlaceSoFar us n i
 place_next us n k i d ek e t f = record {
@@ -51,6 +52,7 @@ place_next us n k i d ek e t f = record {
   same = let w = f.within in sym (look-at us n i d false (omega (arith, w, ek)) e t) ∙ ap (λ j. look (works_of (take j us)) n) (sym ek) ∙ f.same;
 }
 
+-- it is at this place
 pub place_here : (us : List Declaration) (n : Name) (k i : ℕ) (d : Declaration) → k ≡ i + 1 → d ≡ get_or us i d → name_eq d.name n ≡ true
     → PlaceSoFar us n k → look (works_of us) n ≡ Some (body_works (works_of (take i us)) (body_of d.body))
 place_here us n k i d ek e t f = let w = f.within in sym f.same ∙ ap (λ j. look (works_of (take j us)) n) ek ∙ look-at us n i d true (omega (arith, w, ek)) e t
@@ -71,11 +73,13 @@ outputs-none (u ∷ us) xs e = absurd (omega (arith, e))
 
 -- WHAT THE GRAMMAR SEES TO
 
+-- what the grammar sees to, of the first units
 pub readable-front : (us : List Declaration) (i : ℕ) → AreReadable (program_of us) → AreReadable (program_of (take i us))
 readable-front us zero h = tt
 readable-front [] (suc i) h = tt
 readable-front (u ∷ us) (suc i) h = (h.0, readable-front us i h.1)
 
+-- and of one unit
 pub readable-at : (us : List Declaration) (i : ℕ) (d : Declaration) → i < length us → d ≡ get_or us i d → AreReadable (program_of us)
     → IsReadableBody (body_of d.body)
 readable-at [] i d lt e h = absurd (omega (arith, lt))
@@ -101,6 +105,7 @@ pub line_next : (env : Env) (ms : List Name) (i : ℕ) (m : Name) (first now nex
     → LineSoFar env ms i first now → LineSoFar env ms (i + 1) first next
 line_next env ms i m first now next lt e is f = ap (in_line env (drop (i + 1) ms)) is ∙ ap (λ l. in_line env l now) (sym (from_place ms i m lt e)) ∙ f
 
+-- behind the last stream of a line
 pub line_end : (env : Env) (n : Name) (ms : List Name) (i : ℕ) (xs first now : List ℤ) → length ms ≤ i → first ≡ work_of env n xs
     → LineSoFar env ms i first now → now ≡ piped env n ms xs
 line_end env n ms i xs first now le is f = ap (λ l. in_line env l now) (sym (drop_all i ms le)) ∙ f ∙ ap (in_line env ms) is ∙ sym (piped-line env n ms xs)
@@ -127,6 +132,7 @@ branched-all env f n ms = branched-from env f n ms 0 f (λ q. ap f (let z : q �
 abbrev pub BranchesSoFar : Env → (ℕ → List ℤ) → Name → List Name → ℕ → List (List ℤ) → List (List ℤ) → Type 0
 BranchesSoFar env f n ms i before lists = lists ++ from_branch env f (i + 1) (drop i ms) ≡ before ++ branched env n ms f
 
+-- the first branch
 pub branches_start : (env : Env) (f : ℕ → List ℤ) (n : Name) (ms : List Name) (before lists : List (List ℤ)) (share out : List ℤ) → share ≡ f 0
     → out ≡ work_of env n share → lists ≡ before ++ out ∷ [] → BranchesSoFar env f n ms 0 before lists
 branches_start env f n ms before lists share out es eo el =
@@ -156,6 +162,7 @@ branched-length : (env : Env) (n : Name) (ms : List Name) (f : ℕ → List ℤ)
 branched-length env n [] f = refl
 branched-length env n (m ∷ ms) f = ap suc (branched-length env m ms (λ p. f (suc p)))
 
+-- there are as many lists as branches
 pub lists-length : (env : Env) (n : Name) (ms : List Name) (f : ℕ → List ℤ) (none lists : List (List ℤ)) → none ≡ [] → lists ≡ none ++ branched env n ms f
     → (length lists ≡ suc (length ms)) × (lists ≡ branched env n ms f)
 lists-length env n ms f none lists z e =

@@ -2,7 +2,8 @@
 use Rattle.std.specs.Prelude.{ℤ, pos, Option, Some, None}
 use Rattle.indexmap.specs.IndexMap.{get}
 use Rattle.river_base.specs.Name.{name_eq}
-use Rattle.streamit_model.specs.Source as source
+use Rattle.streamit_model.specs.Meaning as meaning
+use Rattle.streamit_model.specs.Meaning.{State}
 use Rattle.slow_streamit.specs.declared.firing.Values.{Values}
 use Rattle.slow_streamit.specs.declared.firing.Firing.{Firing}
 
@@ -11,8 +12,9 @@ abbrev pub or_nought : Option ℤ → ℤ
 or_nought None = pos 0
 or_nought (Some z) = z
 
-abbrev pub values_of : Values → source.Values
+abbrev pub values_of : Values → meaning.Values
 values_of v n = or_nought (get name_eq v.known n)
 
-abbrev pub now_of : Firing → source.Now
-now_of f = record { values = values_of f.values; popped = f.popped; pushed = f.pushed }
+-- where the firing stands
+abbrev pub state_of : Firing → State
+state_of f = record { values = values_of f.values; popped = f.popped; pushed = f.pushed }

@@ -1,9 +1,9 @@
 -- The streams of a program that are declared before one.
 use Rattle.std.specs.Prelude.{◌≡◌, ◌<◌, ℕ, List, [], length, take, Option, Some, None, slice_get}
 use Rattle.river_plan.specs.Forms.{Name}
-use Rattle.streamit_model.specs.Program.{Works, look, all_work, body_works}
-use Rattle.streamit_build.specs.declared.program.Declaration.{Declaration}
-use Rattle.streamit_build.specs.Program.{body_of, program_of}
+use Rattle.streamit_model.specs.Meaning.{Works, look, all_work, body_works}
+use Rattle.streamit_text.specs.declared.program.Declaration.{Declaration}
+use Rattle.streamit_text.specs.Program.{body_of, program_of}
 
 -- what they do, by their names, the newest first
 abbrev pub works_of : List Declaration → List (Name × Works)

@@ -1,15 +1,15 @@
 // Filters: firing after firing.
 ghost use Rattle.std.specs.Prelude.{◌≡◌, ◌<◌, ◌^◌, ◌++◌, [], length, map, replicate, pos, IfOk, OnOk};
-ghost use Rattle.streamit_model.specs.Source.{do_all};
-ghost use Rattle.streamit_model.specs.FilterSource.{nought, at_start, initial, fires_from, rate_or, pushed_by};
-ghost use Rattle.streamit_unroll.specs.Filter.{filter_tree, IsReadable};
-ghost use Rattle.streamit_unroll.specs.Unrolled.{AreWritten};
+ghost use Rattle.streamit_model.specs.Meaning.{exec_all, nought, at_start, initial, fires_from, rate_or, pushed_by};
+ghost use Rattle.streamit_text.specs.Program.{filter_tree};
+ghost use Rattle.streamit_unroll.specs.Filter.{IsReadable};
+ghost use Rattle.streamit_unroll.specs.Unrolling.{AreWritten};
 ghost use Rattle.slow_streamit.specs.Firing.{values_of};
 
 use crate::firing::Firing;
 use river_base::{NoMemory, Numbers};
 use std::alloc::Global;
-use streamit_unroll::{FilterTree, Rates};
+use streamit_text::{FilterTree, Rates};
 
 /// What a filter pushes.
 pub fn pushed_by(alloc: Global, tree: &FilterTree, items: &[i64]) -> Result<Numbers, NoMemory>
@@ -112,8 +112,8 @@ fn fire(
 ) -> Result<(), NoMemory>
     requires work { AreWritten (filter_tree tree.now).work }
     requires kept { length kept.old ≡ length (filter_tree tree.now).fields }
-    ensures kept { OnOk result (let t = filter_tree tree.now in kept.new ≡ map (do_all t.work items.now (at_start t.fields kept.old)).values t.fields) }
-    ensures out { OnOk result (let t = filter_tree tree.now in out.new ≡ out.old ++ (do_all t.work items.now (at_start t.fields kept.old)).pushed) }
+    ensures kept { OnOk result (let t = filter_tree tree.now in kept.new ≡ map (exec_all t.work items.now (at_start t.fields kept.old)).values t.fields) }
+    ensures out { OnOk result (let t = filter_tree tree.now in out.new ≡ out.old ++ (exec_all t.work items.now (at_start t.fields kept.old)).pushed) }
 {
     let mut firing = Firing::new(alloc);
     fire_anew(alloc, tree, items, &mut firing, kept, out)
@@ -133,8 +133,8 @@ fn fire_anew(
     requires values { values_of firing.old.values ≡ nought }
     requires popped { firing.old.popped ≡ 0 }
     requires pushed { firing.old.pushed ≡ [] }
-    ensures kept { OnOk result (let t = filter_tree tree.now in kept.new ≡ map (do_all t.work items.now (at_start t.fields kept.old)).values t.fields) }
-    ensures out { OnOk result (let t = filter_tree tree.now in out.new ≡ out.old ++ (do_all t.work items.now (at_start t.fields kept.old)).pushed) }
+    ensures kept { OnOk result (let t = filter_tree tree.now in kept.new ≡ map (exec_all t.work items.now (at_start t.fields kept.old)).values t.fields) }
+    ensures out { OnOk result (let t = filter_tree tree.now in out.new ≡ out.old ++ (exec_all t.work items.now (at_start t.fields kept.old)).pushed) }
 {
     let fields = tree.fields.as_slice();
     firing.begin(fields, kept.as_slice())?;

@@ -1,19 +1,19 @@
 // One firing of a filter, statement by statement.
 ghost use Rattle.std.specs.Prelude.{◌≡◌, ◌≤◌, ◌+◌, ◌-◌, ◌^◌, pos, [], length, map, IfOk, OnOk, if◌then◌else◌, slice_index_or};
 ghost use Rattle.river_base.specs.Number.{count_of};
-ghost use Rattle.text_forms.specs.Tree.{Bin};
+ghost use Rattle.streamit_text.specs.Tree.{Bin, Declare, Assign, Push, Discard, If, For, expression, option_expression, is_turn, statement, block};
+ghost use Rattle.streamit_text.specs.Tree.{optional_block};
 ghost use Rattle.brooklet_model.specs.Machine.{at_name};
-ghost use Rattle.streamit_model.specs.Source.{Declare, Assign, Push, Pop, If, For, said, pops, numbers, first_value, first_pops, each_turn, does, do_all, do_optional};
-ghost use Rattle.streamit_model.specs.FilterSource.{nought, with_fields, at_start};
+ghost use Rattle.streamit_model.specs.Meaning.{eval, pops, numbers, first_value, first_pops, each_turn, exec, exec_all, exec_optional, nought, with_fields};
+ghost use Rattle.streamit_model.specs.Meaning.{at_start};
 ghost use Rattle.streamit_unroll.specs.Numbers.{AreValues};
-ghost use Rattle.streamit_unroll.specs.Unrolled.{AreOptional, AreWritten, AreWrittenOptional, IsWritten};
-ghost use Rattle.streamit_unroll.specs.View.{expression, option_expression, is_turn, statement, block, optional};
-ghost use Rattle.slow_streamit.specs.Firing.{values_of, now_of};
+ghost use Rattle.streamit_unroll.specs.Unrolling.{AreOptional, AreWritten, AreWrittenOptional, IsWritten};
+ghost use Rattle.slow_streamit.specs.Firing.{values_of, state_of};
 
 use indexmap::IndexMap;
 use river_base::{Name, NoMemory, Numbers};
 use std::alloc::Global;
-use streamit_unroll::{Block, Expression, Statement, Until};
+use streamit_text::{Block, Expr, Statement, Until};
 use work_code::{BinOp, apply, negate, truth_of};
 
 /// The values of names. A name that has none stands for 0.
@@ -60,54 +60,54 @@ pub struct Firing {
 }
 
 // The value of an expression, from left to right; its pops are counted.
-#[cycle(said)]
-fn said(e: &Expression, items: &[i64], values: &Values, popped: &mut usize) -> Result<i64, NoMemory>
+#[cycle(eval)]
+fn eval(e: &Expr, items: &[i64], values: &Values, popped: &mut usize) -> Result<i64, NoMemory>
     requires { AreValues (expression e.now) }
-    ensures value { IfOk result (λ value. value ≡ said (expression e.now) items.now (values_of values.now) popped.old) }
+    ensures value { IfOk result (λ value. value ≡ eval (expression e.now) items.now (values_of values.now) popped.old) }
     ensures popped { OnOk result (popped.new ≡ popped.old + pops (expression e.now)) }
 {
     match e {
-        Expression::Number(value) => Ok(*value as i64),
-        Expression::Name(name) => Ok(values.get(*name)),
-        Expression::Peek(index) => {
+        Expr::Number(value) => Ok(*value as i64),
+        Expr::Name(name) => Ok(values.get(*name)),
+        Expr::Peek(index) => {
             let first = *popped;
-            let index = said(index, items, values, popped)?;
+            let index = eval(index, items, values, popped)?;
             Ok(peeked(items, first, index))
         }
-        Expression::Pop => {
+        Expr::Pop => {
             let place = *popped;
             *popped = next(place)?;
             Ok(item_at(items, place))
         }
-        Expression::Neg(inner) => {
-            let inner = said(inner, items, values, popped)?;
+        Expr::Neg(inner) => {
+            let inner = eval(inner, items, values, popped)?;
             Ok(negate(inner))
         }
-        Expression::Not(inner) => {
-            let inner = said(inner, items, values, popped)?;
+        Expr::Not(inner) => {
+            let inner = eval(inner, items, values, popped)?;
             Ok(truth_of(inner == 0))
         }
-        Expression::Bin { op, left, right } => both(*op, left, right, items, values, popped),
+        Expr::Bin { op, left, right } => both(*op, left, right, items, values, popped),
     }
 }
 
 // The value of an operation; both sides have their values first, the left one before the right one.
-#[cycle(said)]
+#[cycle(eval)]
 fn both(
     op: BinOp,
-    left: &Expression,
-    right: &Expression,
+    left: &Expr,
+    right: &Expr,
     items: &[i64],
     values: &Values,
     popped: &mut usize,
 ) -> Result<i64, NoMemory>
     requires left { AreValues (expression left.now) }
     requires right { AreValues (expression right.now) }
-    ensures value { IfOk result (λ value. value ≡ said (Bin op (expression left.now) (expression right.now)) items.now (values_of values.now) popped.old) }
+    ensures value { IfOk result (λ value. value ≡ eval (Bin op (expression left.now) (expression right.now)) items.now (values_of values.now) popped.old) }
     ensures popped { OnOk result (popped.new ≡ popped.old + pops (Bin op (expression left.now) (expression right.now))) }
 {
-    let left = said(left, items, values, popped)?;
-    let right = said(right, items, values, popped)?;
+    let left = eval(left, items, values, popped)?;
+    let right = eval(right, items, values, popped)?;
     Ok(apply(op, left, right))
 }
 
@@ -179,14 +179,14 @@ impl Firing {
         requires popped { self.old.popped ≡ 0 }
         requires pushed { self.old.pushed ≡ [] }
         requires kept { length kept.now ≡ length fields.now }
-        ensures { OnOk result (now_of self.new ≡ at_start fields.now kept.now) }
+        ensures { OnOk result (state_of self.new ≡ at_start fields.now kept.now) }
     {
         set_all(&mut self.values, fields, kept)
     }
 
     /// The values of the fields.
     pub fn fields(&self, alloc: Global, fields: &[Name]) -> Result<Numbers, NoMemory>
-        ensures { IfOk result (λ kept. kept ≡ map (now_of self.now).values fields.now) }
+        ensures { IfOk result (λ kept. kept ≡ map (state_of self.now).values fields.now) }
     {
         let mut kept = Numbers::new(alloc);
         for name in fields {
@@ -196,10 +196,10 @@ impl Firing {
     }
 
     /// The statements of a block, one after another.
-    #[cycle(does)]
+    #[cycle(exec)]
     pub fn block(&mut self, b: &Block, items: &[i64]) -> Result<(), NoMemory>
         requires { AreWritten (block b.now) }
-        ensures { OnOk result (now_of self.new ≡ do_all (block b.now) items.now (now_of self.old)) }
+        ensures { OnOk result (state_of self.new ≡ exec_all (block b.now) items.now (state_of self.old)) }
     {
         for s in b.items.as_slice() {
             self.statement(s, items)?;
@@ -208,10 +208,10 @@ impl Firing {
     }
 
     /// A block that may be left out.
-    #[cycle(does)]
+    #[cycle(exec)]
     pub fn optional(&mut self, b: &Option<Block>, items: &[i64]) -> Result<(), NoMemory>
-        requires { AreWrittenOptional (optional b.now) }
-        ensures { OnOk result (now_of self.new ≡ do_optional (optional b.now) items.now (now_of self.old)) }
+        requires { AreWrittenOptional (optional_block b.now) }
+        ensures { OnOk result (state_of self.new ≡ exec_optional (optional_block b.now) items.now (state_of self.old)) }
     {
         match b {
             None => Ok(()),
@@ -220,10 +220,10 @@ impl Firing {
     }
 
     // A statement.
-    #[cycle(does)]
+    #[cycle(exec)]
     fn statement(&mut self, s: &Statement, items: &[i64]) -> Result<(), NoMemory>
         requires { IsWritten (statement s.now) }
-        ensures { OnOk result (now_of self.new ≡ does (statement s.now) items.now (now_of self.old)) }
+        ensures { OnOk result (state_of self.new ≡ exec (statement s.now) items.now (state_of self.old)) }
     {
         match s {
             Statement::Declare { name, value } => self.declare(*name, value, items),
@@ -242,18 +242,18 @@ impl Firing {
     }
 
     // An `if`: one of its arms.
-    #[cycle(does)]
+    #[cycle(exec)]
     fn branch(
         &mut self,
-        cond: &Expression,
+        cond: &Expr,
         yes: &Block,
         no: &Option<Block>,
         items: &[i64],
     ) -> Result<(), NoMemory>
         requires cond { AreValues (expression cond.now) }
         requires yes { AreWritten (block yes.now) }
-        requires no { AreWrittenOptional (optional no.now) }
-        ensures { OnOk result (now_of self.new ≡ does (If (expression cond.now) (block yes.now) (optional no.now)) items.now (now_of self.old)) }
+        requires no { AreWrittenOptional (optional_block no.now) }
+        ensures { OnOk result (state_of self.new ≡ exec (If (expression cond.now) (block yes.now) (optional_block no.now)) items.now (state_of self.old)) }
     {
         let cond = self.value(cond, items)?;
         if cond != 0 {
@@ -264,20 +264,20 @@ impl Firing {
     }
 
     // A loop; what its bounds pop is not counted.
-    #[cycle(does)]
+    #[cycle(exec)]
     fn repeat(
         &mut self,
         name: Name,
-        low: &Expression,
+        low: &Expr,
         until: Until,
-        high: &Expression,
+        high: &Expr,
         body: &Block,
         items: &[i64],
     ) -> Result<(), NoMemory>
         requires low { AreValues (expression low.now) }
         requires high { AreValues (expression high.now) }
         requires body { AreWritten (block body.now) }
-        ensures { OnOk result (now_of self.new ≡ does (For name (expression low.now) (is_turn until) (expression high.now) (block body.now)) items.now (now_of self.old)) }
+        ensures { OnOk result (state_of self.new ≡ exec (For name (expression low.now) (is_turn until) (expression high.now) (block body.now)) items.now (state_of self.old)) }
     {
         let low = self.bound(low, items)?;
         let high = self.bound(high, items)?;
@@ -285,7 +285,7 @@ impl Firing {
     }
 
     // A block for each value of a loop's variable.
-    #[cycle(does)]
+    #[cycle(exec)]
     fn turns(
         &mut self,
         name: Name,
@@ -296,7 +296,7 @@ impl Firing {
     ) -> Result<(), NoMemory>
         requires end { end ≤ 2 ^ 63 }
         requires body { AreWritten (block body.now) }
-        ensures { OnOk result (now_of self.new ≡ each_turn (do_all (block body.now) items.now) name (numbers low (end - low)) (now_of self.old)) }
+        ensures { OnOk result (state_of self.new ≡ each_turn (exec_all (block body.now) items.now) name (numbers low (end - low)) (state_of self.old)) }
     {
         for v in low..end {
             self.values.set(name, v as i64)?;
@@ -306,23 +306,18 @@ impl Firing {
     }
 
     // `int NAME = e;`
-    fn declare(
-        &mut self,
-        name: Name,
-        value: &Option<Expression>,
-        items: &[i64],
-    ) -> Result<(), NoMemory>
+    fn declare(&mut self, name: Name, value: &Option<Expr>, items: &[i64]) -> Result<(), NoMemory>
         requires { AreOptional (option_expression value.now) }
-        ensures { OnOk result (now_of self.new ≡ does (Declare name (option_expression value.now)) items.now (now_of self.old)) }
+        ensures { OnOk result (state_of self.new ≡ exec (Declare name (option_expression value.now)) items.now (state_of self.old)) }
     {
         let value = self.first_value(value, items)?;
         self.values.set(name, value)
     }
 
     // The first value of a local.
-    fn first_value(&mut self, value: &Option<Expression>, items: &[i64]) -> Result<i64, NoMemory>
+    fn first_value(&mut self, value: &Option<Expr>, items: &[i64]) -> Result<i64, NoMemory>
         requires { AreOptional (option_expression value.now) }
-        ensures value { IfOk result (λ z. z ≡ first_value (option_expression value.now) items.now (now_of self.old)) }
+        ensures value { IfOk result (λ z. z ≡ first_value (option_expression value.now) items.now (state_of self.old)) }
         ensures popped { OnOk result (self.new.popped ≡ self.old.popped + first_pops (option_expression value.now)) }
         ensures values { self.new.values ≡ self.old.values }
         ensures pushed { self.new.pushed ≡ self.old.pushed }
@@ -334,18 +329,18 @@ impl Firing {
     }
 
     // `NAME = e;`
-    fn assign(&mut self, name: Name, value: &Expression, items: &[i64]) -> Result<(), NoMemory>
+    fn assign(&mut self, name: Name, value: &Expr, items: &[i64]) -> Result<(), NoMemory>
         requires { AreValues (expression value.now) }
-        ensures { OnOk result (now_of self.new ≡ does (Assign name (expression value.now)) items.now (now_of self.old)) }
+        ensures { OnOk result (state_of self.new ≡ exec (Assign name (expression value.now)) items.now (state_of self.old)) }
     {
         let value = self.value(value, items)?;
         self.values.set(name, value)
     }
 
     // `push(e);`
-    fn push(&mut self, value: &Expression, items: &[i64]) -> Result<(), NoMemory>
+    fn push(&mut self, value: &Expr, items: &[i64]) -> Result<(), NoMemory>
         requires { AreValues (expression value.now) }
-        ensures { OnOk result (now_of self.new ≡ does (Push (expression value.now)) items.now (now_of self.old)) }
+        ensures { OnOk result (state_of self.new ≡ exec (Push (expression value.now)) items.now (state_of self.old)) }
     {
         let value = self.value(value, items)?;
         self.pushed.push(value)
@@ -353,30 +348,30 @@ impl Firing {
 
     // `pop();`
     fn pop(&mut self, items: &[i64]) -> Result<(), NoMemory>
-        ensures { OnOk result (now_of self.new ≡ does Pop items.now (now_of self.old)) }
+        ensures { OnOk result (state_of self.new ≡ exec Discard items.now (state_of self.old)) }
     {
         self.popped = next(self.popped)?;
         Ok(())
     }
 
     // The value of an expression; its pops are counted.
-    fn value(&mut self, e: &Expression, items: &[i64]) -> Result<i64, NoMemory>
+    fn value(&mut self, e: &Expr, items: &[i64]) -> Result<i64, NoMemory>
         requires { AreValues (expression e.now) }
-        ensures value { IfOk result (λ z. z ≡ said (expression e.now) items.now (values_of self.old.values) self.old.popped) }
+        ensures value { IfOk result (λ z. z ≡ eval (expression e.now) items.now (values_of self.old.values) self.old.popped) }
         ensures popped { OnOk result (self.new.popped ≡ self.old.popped + pops (expression e.now)) }
         ensures values { self.new.values ≡ self.old.values }
         ensures pushed { self.new.pushed ≡ self.old.pushed }
     {
-        said(e, items, &self.values, &mut self.popped)
+        eval(e, items, &self.values, &mut self.popped)
     }
 
     // The value of a bound; its pops are not counted.
-    fn bound(&self, e: &Expression, items: &[i64]) -> Result<i64, NoMemory>
+    fn bound(&self, e: &Expr, items: &[i64]) -> Result<i64, NoMemory>
         requires { AreValues (expression e.now) }
-        ensures { IfOk result (λ z. z ≡ said (expression e.now) items.now (values_of self.now.values) self.now.popped) }
+        ensures { IfOk result (λ z. z ≡ eval (expression e.now) items.now (values_of self.now.values) self.now.popped) }
     {
         let mut popped = self.popped;
-        said(e, items, &self.values, &mut popped)
+        eval(e, items, &self.values, &mut popped)
     }
 }
 

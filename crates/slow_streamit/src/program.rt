@@ -2,10 +2,10 @@
 ghost use Rattle.std.specs.Prelude.{◌≡◌, ◌≤◌, ◌+◌, suc, length, [], ◌∷◌, ◌++◌, IfOk, OnOk};
 ghost use Rattle.streamit_model.specs.Laws.{as_items};
 ghost use Rattle.brooklet_model.specs.ByIndex.{collected};
-ghost use Rattle.streamit_model.specs.Program.{all_work, work_of, body_works, piped, branched, share_of, weights_for, branch_count, program_outputs};
-ghost use Rattle.streamit_unroll.specs.Filter.{filter_tree, IsReadable};
-ghost use Rattle.streamit_build.specs.Program.{program_of, body_of, adds_of, dealing_of, weights_of, IsReadableBody};
-ghost use Rattle.streamit_build.specs.Told.{AreReadable};
+ghost use Rattle.streamit_model.specs.Meaning.{all_work, work_of, body_works, piped, branched, share_of, weights_for, branch_count, program_outputs};
+ghost use Rattle.streamit_text.specs.Program.{filter_tree, program_of, body_of, adds_of, dealing_of, weights_of};
+ghost use Rattle.streamit_unroll.specs.Filter.{IsReadable};
+ghost use Rattle.streamit_build.specs.Readable.{IsReadableBody, AreReadable};
 ghost use Rattle.slow_streamit.specs.Works.{works_of, IsPlace};
 
 use crate::filter::{add_values, pushed_by};
@@ -14,8 +14,8 @@ use brooklet_step::{Lines, Outcome, Tables};
 use kern_rows::Line;
 use river_base::{Flat, Item, Items, Listed, Name, NoMemory, Numbers, Row};
 use std::alloc::Global;
-use streamit_build::{Adds, Body, Declaration, RoundRobin, Split, SplitJoin};
 use streamit_front::StreamitProgram;
+use streamit_text::{Adds, Body, Declaration, RoundRobin, Split, SplitJoin};
 
 /// What a program means by the definition of StreamIt for these values of its input: the items of its output. There are no
 /// tables, and no firings are counted.

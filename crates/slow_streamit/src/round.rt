@@ -2,12 +2,12 @@
 ghost use Rattle.std.specs.Prelude.{◌≡◌, ◌+◌, ◌*◌, ◌/◌, ◌%◌, ◌∷◌, [], length, replicate, IfOk, nat_eq, slice_index_or};
 ghost use Rattle.river_base.specs.Places.{list_at};
 ghost use Rattle.brooklet_model.specs.ByIndex.{cycle, part, within, branch, dealt, number_at, item_at, size_of, collected};
-ghost use Rattle.streamit_model.specs.Program.{weights_for};
-ghost use Rattle.streamit_build.specs.Program.{weights_of};
+ghost use Rattle.streamit_model.specs.Meaning.{weights_for};
+ghost use Rattle.streamit_text.specs.Program.{weights_of};
 
 use river_base::{Listed, NoMemory, Numbers};
 use std::alloc::Global;
-use streamit_build::RoundRobin;
+use streamit_text::RoundRobin;
 
 /// The weights of so many branches, where these are written: none stands for 1 each, one for as many each.
 pub fn weights_for(

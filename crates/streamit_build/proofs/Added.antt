@@ -4,7 +4,7 @@ use Rattle.std.proofs.Common.{add-one, drop-cons}
 use Rattle.std.specs.Prelude.{min, max}
 use Rattle.std.specs.List.{AllByRecursion}
 use Rattle.river_plan.specs.Forms.{Name}
-use Rattle.streamit_model.specs.Stream.{Stream, Streams, Last, Then, nesting, deepest}
+use Rattle.streamit_model.specs.Unrolled.{Stream, Streams, Last, Then, nesting, deepest}
 use Rattle.streamit_model.specs.Build.{ops_in, ops_of}
 use Rattle.streamit_model.specs.Elaborate.{Fault, on_ok}
 use Rattle.streamit_model.specs.Judged.{Streamed, added, streams_of}

@@ -1,7 +1,7 @@
 -- Units that are judged one after another.
 use Rattle.std.proofs.Common.{◌≡◌, ℕ, suc, ◌+◌, [], ◌∷◌, Result, Ok, Err, refl, sym, ap, ◌∙◌, add-one}
 use Rattle.streamit_model.specs.Elaborate as spec
-use Rattle.streamit_model.specs.Program.{Declared, Program}
+use Rattle.streamit_text.specs.Program.{Declared, Program}
 use Rattle.streamit_model.specs.Judged.{Refusal, Streamed, in_unit, unit_of, all_streams}
 use Rattle.streamit_unroll.specs.declared.fault.Fault as fault
 use Rattle.streamit_unroll.specs.declared.fault.Fault.TheVariants as faults

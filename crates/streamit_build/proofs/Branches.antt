@@ -5,7 +5,7 @@ use Rattle.std.specs.Prelude.{slice_get, codes, OnOk}
 use Rattle.std.specs.List.{AllByRecursion}
 use Rattle.kern_rows.specs.Forms.{FilterForm}
 use Rattle.river_plan.specs.Forms.{Name, OpForm, op_forms}
-use Rattle.streamit_model.specs.Stream.{Splitter, Stream, Streams, Last, Then, Filter, Pipeline, SplitJoin, number_of}
+use Rattle.streamit_model.specs.Unrolled.{Splitter, Stream, Streams, Last, Then, Filter, Pipeline, SplitJoin, number_of}
 use Rattle.streamit_model.specs.Build.{numbered, queue, queues, splitter, joiner, build, build_branches, ops_in, ops_of, queues_in, queues_within}
 use Rattle.streamit_build.specs.declared.builder.Made.{Made}
 use Rattle.streamit_build.specs.Units.{UnitForm, AFilter, APipe, ASplit, IsTree, AreTrees, Built}

@@ -1,17 +1,17 @@
 -- Units that are judged.
-use Rattle.std.proofs.Common.{◌≡◌, ℕ, ◌+◌, ◌<◌, ◌≤◌, List, [], ◌∷◌, ◌++◌, length, Option, Some, Result, Ok, refl, sym, ap, ◌∙◌, subst, arith}
-use Rattle.std.proofs.Common.{Vec, Global}
+use Rattle.std.proofs.Common.{◌≡◌, ℕ, ◌+◌, ◌<◌, ◌≤◌, List, [], ◌∷◌, ◌++◌, length, Option, Some, Result, Ok, refl, sym, ap, ◌∙◌, subst, arith, Vec, Global}
 use Rattle.std.specs.Vec.{vec_len}
 use Rattle.std.specs.Prelude.{min}
 use Rattle.std.specs.List.{AllByRecursion}
 use Rattle.std.proofs.lemmas.List.{length-map}
 use Rattle.kern_rows.specs.Forms.{FilterForm}
 use Rattle.river_plan.specs.Forms.{Name}
-use Rattle.streamit_model.specs.Stream.{Splitter, Stream, Streams, Filter, Pipeline, SplitJoin, nesting}
+use Rattle.streamit_model.specs.Unrolled.{Splitter, Stream, Streams, Filter, Pipeline, SplitJoin, nesting}
 use Rattle.streamit_model.specs.Build.{ops_in}
 use Rattle.streamit_model.specs.Elaborate.{Fault, on_ok}
-use Rattle.streamit_model.specs.FilterSource.{FilterTree, elaborated}
-use Rattle.streamit_model.specs.Program.{Dealing, Adds, AFilter, APipeline, ASplitJoin, branch_count}
+use Rattle.streamit_text.specs.Program.{FilterTree, Dealing, Adds, AFilter, APipeline, ASplitJoin}
+use Rattle.streamit_model.specs.ElaborateFilter.{elaborated}
+use Rattle.streamit_model.specs.Meaning.{branch_count}
 use Rattle.streamit_model.specs.Judged.{Streamed, any, branches, round_of, splitter_of, streams_of, stream_of}
 use Rattle.streamit_unroll.specs.declared.fault.Fault as fault
 use Rattle.streamit_unroll.specs.View.{Tells}
@@ -19,7 +19,7 @@ use Rattle.streamit_unroll.proofs.SoFar.{tells_more}
 use Rattle.streamit_build.specs.declared.streams.Children.{Children}
 use Rattle.streamit_build.specs.declared.streams.Known.{Known}
 use Rattle.streamit_build.specs.declared.builder.Declared.{Declared}
-use Rattle.streamit_build.specs.Units.{UnitForm, AFilter as UFilter, APipe, ASplit, unit_of, units_of, IsLower, IsShort, IsTree}
+use Rattle.streamit_build.specs.Units.{UnitForm, AFilter as UFilter, APipe, ASplit, unit_form, unit_forms, IsLower, IsShort, IsTree}
 use Rattle.streamit_build.specs.Knowing.{Knows, AreChildren}
 use Rattle.streamit_build.proofs.Added.{fine}
 use Rattle.streamit_build.proofs.Knowing.{get_last, trees_kept}
@@ -31,43 +31,43 @@ tells_on f r k h = tells_more f r (on_ok r k) (λ g e. ap (λ x. on_ok x k) e) h
 -- what a call ensures of every stream: that it is known besides
 abbrev pub Made : Known → Known → Declared → Name → ℕ → ℕ → Type 0
 Made old new d name ops depth =
-    (known : Streamed) (s : Stream) → Knows old known → IsLower (length old.declared.items) (Some (unit_of d)) → IsShort (Some (unit_of d))
-    → IsTree (units_of old.declared.items ++ unit_of d ∷ []) (length old.declared.items) s → ops ≡ min (ops_in s) 257 → depth ≡ nesting s
+    (known : Streamed) (s : Stream) → Knows old known → IsLower (length old.declared.items) (Some (unit_form d)) → IsShort (Some (unit_form d))
+    → IsTree (unit_forms old.declared.items ++ unit_form d ∷ []) (length old.declared.items) s → ops ≡ min (ops_in s) 257 → depth ≡ nesting s
     → Knows new ((name, s) ∷ known)
 
-at_last : (old : Known) (u : UnitForm) (P : ℕ → Type 0) → P (length (units_of old.declared.items)) → P (length old.declared.items)
-at_last old u P h = subst P (length-map old.declared.items unit_of) h
+at_last : (old : Known) (u : UnitForm) (P : ℕ → Type 0) → P (length (unit_forms old.declared.items)) → P (length old.declared.items)
+at_last old u P h = subst P (length-map old.declared.items unit_form) h
 
 -- a filter is known
-pub filter_declared : (old new : Known) (d : Declared) (name : Name) (t : FilterTree) (f : FilterForm) (known : Streamed) → unit_of d ≡ UFilter name f
+pub filter_declared : (old new : Known) (d : Declared) (name : Name) (t : FilterTree) (f : FilterForm) (known : Streamed) → unit_form d ≡ UFilter name f
     → length name ≤ 40 → Made old new d name 1 1 → Knows old known → elaborated t ≡ Ok f
     → (s : Stream) × (stream_of known name (AFilter t) ≡ Ok s) × Knows new ((name, s) ∷ known)
 filter_declared old new d name t f known e short made k h =
-    let us = units_of old.declared.items in (
+    let us = unit_forms old.declared.items in (
       Filter name f,
       ap (λ r. on_ok r (λ g. fine (Filter name g))) h,
       made known (Filter name f) k
           (subst (λ u. IsLower (length old.declared.items) (Some u)) (sym e) tt)
           (subst (λ u. IsShort (Some u)) (sym e) short)
-          (at_last old (unit_of d) (λ i. IsTree (us ++ unit_of d ∷ []) i (Filter name f)) (get_last us (unit_of d) ∙ ap Some e))
+          (at_last old (unit_form d) (λ i. IsTree (us ++ unit_form d ∷ []) i (Filter name f)) (get_last us (unit_form d) ∙ ap Some e))
           refl refl,
     )
 
-lower_here : (old : Known) (js : List ℕ) → AllByRecursion (λ j. j < length (units_of old.declared.items)) js
+lower_here : (old : Known) (js : List ℕ) → AllByRecursion (λ j. j < length (unit_forms old.declared.items)) js
     → AllByRecursion (λ j. j < length old.declared.items) js
-lower_here old js h = subst (λ n. AllByRecursion (λ j. j < n) js) (length-map old.declared.items unit_of) h
+lower_here old js h = subst (λ n. AllByRecursion (λ j. j < n) js) (length-map old.declared.items unit_form) h
 
 -- a pipeline is known
 pub pipe_declared : (old new : Known) (d : Declared) (name : Name) (a : Adds) (c : Children) (depth : ℕ) (ss : Streams) (known : Streamed)
-    → unit_of d ≡ APipe c.front.items c.last → depth ≡ c.deepest + 1 → Made old new d name c.ops depth → Knows old known
-    → streams_of any known 0 a.first a.others ≡ Ok ss → AreChildren (units_of old.declared.items) c ss
+    → unit_form d ≡ APipe c.front.items c.last → depth ≡ c.deepest + 1 → Made old new d name c.ops depth → Knows old known
+    → streams_of any known 0 a.first a.others ≡ Ok ss → AreChildren (unit_forms old.declared.items) c ss
     → (s : Stream) × (stream_of known name (APipeline a) ≡ Ok s) × Knows new ((name, s) ∷ known)
 pipe_declared old new d name a c depth ss known e dp made k h are =
-    let us = units_of old.declared.items in
-    let v = unit_of d in
+    let us = unit_forms old.declared.items in
+    let v = unit_form d in
     let deep = are.deepest in
     let low = are.last in
-    let len = length-map old.declared.items unit_of in (
+    let len = length-map old.declared.items unit_form in (
       Pipeline ss,
       ap (λ r. on_ok r (λ x. fine (Pipeline x))) h,
       made known (Pipeline ss) k
@@ -80,18 +80,18 @@ pipe_declared old new d name a c depth ss known e dp made k h are =
 
 -- a split-join is known
 pub split_declared : (old new : Known) (d : Declared) (name : Name) (g : Dealing) (a : Adds) (ws : Option (List ℕ)) (vs : List ℕ) (sp : Splitter) (c : Children) (ops depth : ℕ) (ss : Streams) (known : Streamed)
-    → unit_of d ≡ ASplit sp c.front.items c.last vs → ops ≡ min (c.ops + 2) 257 → depth ≡ c.deepest + 1
+    → unit_form d ≡ ASplit sp c.front.items c.last vs → ops ≡ min (c.ops + 2) 257 → depth ≡ c.deepest + 1
     → Made old new d name ops depth → Knows old known → splitter_of g (branch_count a) ≡ Ok sp → streams_of branches known 0 a.first a.others ≡ Ok ss
-    → round_of ws (branch_count a) ≡ Ok vs → AreChildren (units_of old.declared.items) c ss
+    → round_of ws (branch_count a) ≡ Ok vs → AreChildren (unit_forms old.declared.items) c ss
     → (s : Stream) × (stream_of known name (ASplitJoin g a ws) ≡ Ok s) × Knows new ((name, s) ∷ known)
 split_declared old new d name g a ws vs sp c ops depth ss known e op dp made k hs h hr are =
-    let us = units_of old.declared.items in
-    let v = unit_of d in
+    let us = unit_forms old.declared.items in
+    let v = unit_form d in
     let deep = are.deepest in
     let low = are.last in
     let many = are.ops in
     let n = branch_count a in
-    let len = length-map old.declared.items unit_of in
+    let len = length-map old.declared.items unit_form in
     let f2 = λ (p : Splitter) (ss : Streams). on_ok (round_of ws n) (λ vs. fine (SplitJoin p ss vs)) in
     let f1 = λ (p : Splitter). on_ok (streams_of branches known 0 a.first a.others) (f2 p) in (
       SplitJoin sp ss vs,

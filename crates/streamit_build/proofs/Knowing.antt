@@ -4,9 +4,9 @@ use Rattle.std.proofs.Common.{refl, sym, ap, ◌∙◌, subst, arith, length-app
 use Rattle.std.specs.Prelude.{slice_get, min, OnOk, if◌then◌else◌}
 use Rattle.river_base.specs.Name.{name_eq}
 use Rattle.river_plan.specs.Forms.{Name}
-use Rattle.streamit_model.specs.Stream.{Stream, Filter, Pipeline, SplitJoin, Streams, Last, Then, nesting}
+use Rattle.streamit_model.specs.Unrolled.{Stream, Filter, Pipeline, SplitJoin, Streams, Last, Then, nesting}
 use Rattle.streamit_model.specs.Build.{ops_in}
-use Rattle.streamit_model.specs.Program.{look}
+use Rattle.streamit_model.specs.Meaning.{look}
 use Rattle.streamit_model.specs.Judged.{Streamed}
 use Rattle.streamit_build.specs.declared.streams.Entry.{Entry}
 use Rattle.streamit_build.specs.declared.streams.Known.{Known}
@@ -14,7 +14,7 @@ use Rattle.streamit_build.specs.declared.builder.Declared.{Declared}
 use Rattle.river_base.specs.declared.memory.NoMemory.{NoMemory}
 use Rattle.indexmap.specs.IndexMap.{get}
 use Rattle.std.proofs.lemmas.List.{map-append, length-map}
-use Rattle.streamit_build.specs.Units.{unit_of, units_of, UnitForm, AFilter, APipe, ASplit, IsLower, AreLower, IsShort, AreShort, IsTree, AreTrees}
+use Rattle.streamit_build.specs.Units.{unit_form, unit_forms, UnitForm, AFilter, APipe, ASplit, IsLower, AreLower, IsShort, AreShort, IsTree, AreTrees}
 use Rattle.streamit_build.specs.Knowing.{IsEntry, IsFound, Knows}
 
 -- what was there is there in a longer list
@@ -96,16 +96,16 @@ new_entry us u k s e t o n = record {
 -- one stream more is known
 pub declares : (r : Result (Unit {0}) NoMemory) (old new : Known) (d : Declared) (k : Entry) (name : Name) (s : Stream) (known : Streamed)
     → OnOk r ((q : Name) → get name_eq new.entries q ≡ (if name_eq name q then Some k else get name_eq old.entries q))
-    → new.declared.items ≡ old.declared.items ++ d ∷ [] → IsLower (length old.declared.items) (Some (unit_of d)) → IsShort (Some (unit_of d))
+    → new.declared.items ≡ old.declared.items ++ d ∷ [] → IsLower (length old.declared.items) (Some (unit_form d)) → IsShort (Some (unit_form d))
     → k.number ≡ length old.declared.items
-    → Knows old known → IsTree (units_of old.declared.items ++ unit_of d ∷ []) (length old.declared.items) s → k.ops ≡ min (ops_in s) 257
+    → Knows old known → IsTree (unit_forms old.declared.items ++ unit_form d ∷ []) (length old.declared.items) s → k.ops ≡ min (ops_in s) 257
     → k.nesting ≡ nesting s → OnOk r (Knows new ((name, s) ∷ known))
 declares (Err e) old new d k name s known g it lo sh nu kn t o n = tt
 declares (Ok u) old new d k name s known g it lo sh nu kn t o n =
-    let us = units_of old.declared.items in
-    let v = unit_of d in
-    let all : units_of new.declared.items ≡ us ++ v ∷ [] = ap units_of it ∙ map-append unit_of old.declared.items (d ∷ []) in
-    let len : length us ≡ length old.declared.items = length-map old.declared.items unit_of in
+    let us = unit_forms old.declared.items in
+    let v = unit_form d in
+    let all : unit_forms new.declared.items ≡ us ++ v ∷ [] = ap unit_forms it ∙ map-append unit_form old.declared.items (d ∷ []) in
+    let len : length us ≡ length old.declared.items = length-map old.declared.items unit_form in
     let e = new_entry us v k s (nu ∙ sym len) (subst (λ i. IsTree (us ++ v ∷ []) i s) (sym len) t) o n in
     record {
       entries = λ q. subst (λ ws. IsFound ws (get name_eq new.entries q) (look ((name, s) ∷ known) q)) (sym all)

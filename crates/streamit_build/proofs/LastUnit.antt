@@ -4,15 +4,14 @@ use Rattle.std.specs.Prelude.{slice_index_or}
 use Rattle.river_plan.specs.Forms.{Name}
 use Rattle.river_plan.specs.declared.plan.RawPlan.{RawPlan}
 use Rattle.streamit_model.specs.Elaborate as spec
-use Rattle.streamit_model.specs.Stream.{Stream}
+use Rattle.streamit_model.specs.Unrolled.{Stream}
 use Rattle.streamit_model.specs.Build.{ops_in}
-use Rattle.streamit_model.specs.Program.{Declared, Program}
+use Rattle.streamit_text.specs.Program.{Declared, Program, declared_of, program_of}
 use Rattle.streamit_model.specs.Judged.{Refusal, Streamed, on_fine, in_unit, unit_of, all_streams, few_operators, judged}
 use Rattle.streamit_unroll.specs.declared.fault.Fault as fault
 use Rattle.streamit_unroll.specs.declared.fault.Fault.TheVariants as faults
 use Rattle.streamit_build.specs.declared.judge.Refusal as code
-use Rattle.streamit_build.specs.declared.program.Declaration.{Declaration}
-use Rattle.streamit_build.specs.Program.{declared_of, program_of}
+use Rattle.streamit_text.specs.declared.program.Declaration.{Declaration}
 use Rattle.streamit_build.specs.Told.{refused, Told, few_in, PlansLast, PlansBy}
 
 abbrev pub took : {A : Type 0} → A → Result A Refusal

@@ -7,10 +7,11 @@ use Rattle.river_kernels.specs.Kern.{filter}
 use Rattle.streamit_build.specs.declared.builder.Declared.{Declared}
 use Rattle.std.specs.List.{AllByRecursion}
 use Rattle.river_plan.specs.Forms.{Name, OpForm, op_forms}
-use Rattle.streamit_model.specs.Stream.{Splitter, Stream, Streams, Last, Then, Filter, Pipeline, SplitJoin}
+use Rattle.streamit_model.specs.Unrolled.{Splitter, Stream, Streams, Last, Then, Filter, Pipeline, SplitJoin}
 use Rattle.streamit_model.specs.Build.{numbered, with_own, queue, build, build_line, ops_in, ops_of, queues_in, queues_between}
 use Rattle.streamit_build.specs.declared.builder.Made.{Made}
-use Rattle.streamit_build.specs.Units.{UnitForm, AFilter, APipe, ASplit, unit_of, units_of, AreBelow, AreLower, IsLower, AreShort, IsShort, IsTree, AreTrees}
+use Rattle.streamit_build.specs.Units.{UnitForm, AFilter, APipe, ASplit, unit_form, unit_forms, AreBelow, AreLower, IsLower, AreShort, IsShort, IsTree}
+use Rattle.streamit_build.specs.Units.{AreTrees}
 use Rattle.streamit_build.specs.Units.{Built}
 
 -- the streams that are still to be built
@@ -117,8 +118,8 @@ got f (y ∷ ys) zero x lt e = ap (λ z. Some (f z)) (sym e)
 got f (y ∷ ys) (suc i) x lt e = got f ys i x (omega (arith, lt)) e
 
 -- the unit at a place
-pub unit_at : (us : List Declared) (i : ℕ) (x y : Declared) → i < length us → x ≡ get_or us i x → x ≡ y → slice_get (units_of us) i ≡ Some (unit_of y)
-unit_at us i x y lt e f = got unit_of us i x lt e ∙ ap (λ z. Some (unit_of z)) f
+pub unit_at : (us : List Declared) (i : ℕ) (x y : Declared) → i < length us → x ≡ get_or us i x → x ≡ y → slice_get (unit_forms us) i ≡ Some (unit_form y)
+unit_at us i x y lt e f = got unit_form us i x lt e ∙ ap (λ z. Some (unit_form z)) f
 
 -- the children of a pipeline are lower
 pub lower_of : (us : List UnitForm) (i : ℕ) (front : List ℕ) (last : ℕ) → AreLower us → slice_get us i ≡ Some (APipe front last)

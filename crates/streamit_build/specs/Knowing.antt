@@ -4,17 +4,17 @@ use Rattle.std.specs.List.{AllByRecursion}
 use Rattle.indexmap.specs.IndexMap.{get}
 use Rattle.river_base.specs.Name.{name_eq}
 use Rattle.river_plan.specs.Forms.{Name}
-use Rattle.streamit_model.specs.Stream.{Stream, Streams, nesting, deepest}
+use Rattle.streamit_model.specs.Unrolled.{Stream, Streams, nesting, deepest}
 use Rattle.streamit_model.specs.Build.{ops_in, ops_of}
 use Rattle.streamit_model.specs.Elaborate as spec
-use Rattle.streamit_model.specs.Program.{look}
+use Rattle.streamit_model.specs.Meaning.{look}
 use Rattle.streamit_model.specs.Judged.{Streamed, any, branches}
 use Rattle.streamit_unroll.specs.declared.fault.Fault.{Fault}
 use Rattle.streamit_unroll.specs.View.{Tells}
 use Rattle.streamit_build.specs.declared.streams.Entry.{Entry}
 use Rattle.streamit_build.specs.declared.streams.Children.{Children}
 use Rattle.streamit_build.specs.declared.streams.Known as code
-use Rattle.streamit_build.specs.Units.{UnitForm, units_of, AreLower, AreShort, IsTree, AreTrees}
+use Rattle.streamit_build.specs.Units.{UnitForm, unit_forms, AreLower, AreShort, IsTree, AreTrees}
 
 -- an entry says where the stream stands, how many operators it has up to 257, and how deep it is nested
 pub record IsEntry (us : List UnitForm) (k : Entry) (s : Stream) : Type 0 where
@@ -31,9 +31,9 @@ IsFound us (Some k) None = ⊥
 IsFound us (Some k) (Some s) = IsEntry us k s
 
 pub record Knows (ss : code.Known) (known : Streamed) : Type 0 where
-  pub entries : (n : Name) → IsFound (units_of ss.declared.items) (get name_eq ss.entries n) (look known n)
-  pub lower : AreLower (units_of ss.declared.items)
-  pub short : AreShort (units_of ss.declared.items)
+  pub entries : (n : Name) → IsFound (unit_forms ss.declared.items) (get name_eq ss.entries n) (look known n)
+  pub lower : AreLower (unit_forms ss.declared.items)
+  pub short : AreShort (unit_forms ss.declared.items)
 
 -- how many streams may be added: 64 branches, and any number in a line
 abbrev pub may : Bool → ℕ → Bool

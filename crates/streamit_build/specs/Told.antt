@@ -1,19 +1,16 @@
 -- What judging all units answers.
 use Rattle.std.specs.Prelude.{◌≡◌, ◌≤◌, ℕ, ◌∷◌, nat_le, Result, Ok, Err}
-use Rattle.std.specs.List.{AllByRecursion}
 use Rattle.river_plan.specs.Forms.{Name, plan_form}
 use Rattle.river_plan.specs.declared.plan.RawPlan.{RawPlan}
-use Rattle.streamit_model.specs.Stream.{Stream}
+use Rattle.streamit_model.specs.Unrolled.{Stream}
 use Rattle.streamit_model.specs.Build.{ops_in, plan_of}
 use Rattle.streamit_model.specs.Elaborate as spec
-use Rattle.streamit_model.specs.Program.{Program}
 use Rattle.streamit_model.specs.Judged.{Streamed}
 use Rattle.streamit_model.specs.Judged as judged
 use Rattle.streamit_unroll.specs.declared.fault.Fault.{Fault}
 use Rattle.streamit_unroll.specs.declared.fault.Fault.TheVariants as fault
 use Rattle.streamit_build.specs.declared.judge.Refusal.{Refusal}
 use Rattle.streamit_build.specs.declared.streams.Known.{Known}
-use Rattle.streamit_build.specs.Program.{IsReadableBody}
 use Rattle.streamit_build.specs.Knowing.{Knows}
 
 abbrev pub refused : {A : Type 0} → ℕ → spec.Fault → Result A judged.Refusal
@@ -35,10 +32,6 @@ Told k fault.NoMemory r = Unit {0}
 abbrev pub JudgesAll : Result (Unit {0}) Refusal → Known → Result Streamed judged.Refusal → Type 0
 JudgesAll (Ok u) new r = (known : Streamed) × (r ≡ Ok known) × Knows new known
 JudgesAll (Err e) new r = Told e.unit e.fault r
-
--- what the grammar sees to in all units
-abbrev pub AreReadable : Program → Type 0
-AreReadable p = AllByRecursion (λ d. IsReadableBody d.body) p
 
 -- the limit of a plan's operators, told at unit k
 abbrev pub few_in : ℕ → Stream → Result (Unit {0}) judged.Refusal

@@ -4,7 +4,7 @@ use Rattle.std.specs.List.{AllByRecursion}
 use Rattle.std.proofs.Common.{Vec, Global}
 use Rattle.kern_rows.specs.Forms.{FilterForm, filter_form}
 use Rattle.river_plan.specs.Forms.{Name, OpForm, op_forms}
-use Rattle.streamit_model.specs.Stream.{Splitter, Duplicate, RoundRobin, Stream, Filter, Pipeline, SplitJoin, Streams, Last, Then}
+use Rattle.streamit_model.specs.Unrolled.{Splitter, Duplicate, RoundRobin, Stream, Filter, Pipeline, SplitJoin, Streams, Last, Then}
 use Rattle.streamit_build.specs.declared.builder.Declared.{Declared}
 use Rattle.streamit_build.specs.declared.builder.Declared.TheVariants as built
 use Rattle.streamit_build.specs.declared.builder.Made.{Made}
@@ -15,17 +15,17 @@ pub data UnitForm : Type 0 where
   APipe : List ℕ → ℕ → UnitForm
   ASplit : Splitter → List ℕ → ℕ → List ℕ → UnitForm
 
-abbrev pub splitter_of : Option (Vec ℕ Global) → Splitter
-splitter_of None = Duplicate
-splitter_of (Some ws) = RoundRobin ws.items
+abbrev pub splitter_form : Option (Vec ℕ Global) → Splitter
+splitter_form None = Duplicate
+splitter_form (Some ws) = RoundRobin ws.items
 
-abbrev pub unit_of : Declared → UnitForm
-unit_of (built.Filter name f) = AFilter name (filter_form f)
-unit_of (built.Pipeline front last) = APipe front.items last
-unit_of (built.SplitJoin split front last join) = ASplit (splitter_of split) front.items last join.items
+abbrev pub unit_form : Declared → UnitForm
+unit_form (built.Filter name f) = AFilter name (filter_form f)
+unit_form (built.Pipeline front last) = APipe front.items last
+unit_form (built.SplitJoin split front last join) = ASplit (splitter_form split) front.items last join.items
 
-abbrev pub units_of : List Declared → List UnitForm
-units_of us = map unit_of us
+abbrev pub unit_forms : List Declared → List UnitForm
+unit_forms us = map unit_form us
 
 -- the parts of a stream are below number i
 abbrev pub AreBelow : ℕ → List ℕ → ℕ → Type 0

@@ -3,9 +3,10 @@ ghost use Rattle.std.specs.Prelude.{suc, codes, ◌≡◌, ◌<◌, ◌≤◌, �
 ghost use Rattle.kern_rows.specs.Forms.{filter_form};
 ghost use Rattle.river_kernels.specs.Kern.{filter};
 ghost use Rattle.river_plan.specs.Forms.{op_form, op_forms};
-ghost use Rattle.streamit_model.specs.Stream.{Stream, Streams};
-ghost use Rattle.streamit_model.specs.Build.{numbered, queue, queues, with_own, splitter, joiner, build, build_line, build_branches, ops_in, ops_of, queues_in, queues_between, queues_within};
-ghost use Rattle.streamit_build.specs.Units.{splitter_of, units_of, AreBelow, AreLower, AreShort, IsTree, AreTrees, Built};
+ghost use Rattle.streamit_model.specs.Unrolled.{Stream, Streams};
+ghost use Rattle.streamit_model.specs.Build.{numbered, queue, queues, with_own, splitter, joiner, build, build_line, build_branches, ops_in, ops_of, queues_in};
+ghost use Rattle.streamit_model.specs.Build.{queues_between, queues_within};
+ghost use Rattle.streamit_build.specs.Units.{splitter_form, unit_forms, AreBelow, AreLower, AreShort, IsTree, AreTrees, Built};
 
 use crate::names::{queue, sum};
 use crate::operators::{filter_op, join_op, split_op};
@@ -141,7 +142,7 @@ impl Made {
         ensures count { IfOk result (λ lanes. lanes.count ≡ suc (length parts.entry.front.now)) }
         ensures first { IfOk result (λ lanes. lanes.first ≡ self.old.next_queue) }
         ensures second { IfOk result (λ lanes. lanes.second ≡ self.old.next_queue + suc (length parts.entry.front.now)) }
-        ensures ops { OnOk result (op_forms self.new.ops ≡ op_forms self.old.ops ++ splitter (splitter_of split.now) (suc (length parts.entry.front.now)) (numbered (codes "split") self.old.next_op) from (queues self.old.next_queue (suc (length parts.entry.front.now))) ∷ []) }
+        ensures ops { OnOk result (op_forms self.new.ops ≡ op_forms self.old.ops ++ splitter (splitter_form split.now) (suc (length parts.entry.front.now)) (numbered (codes "split") self.old.next_op) from (queues self.old.next_queue (suc (length parts.entry.front.now))) ∷ []) }
         ensures next { OnOk result (self.new.next_op ≡ self.old.next_op + 1) }
         ensures queue { OnOk result (self.new.next_queue ≡ (self.old.next_queue + suc (length parts.entry.front.now)) + suc (length parts.entry.front.now)) }
     {
@@ -180,9 +181,9 @@ pub fn build(
     made: &mut Made,
 ) -> Result<(), NoMemory>
     requires there { i < length units.now }
-    requires lower { AreLower (units_of units.now) }
-    requires named { AreShort (units_of units.now) }
-    ensures { (s : Stream) → IsTree (units_of units.now) i s → OnOk result (Built made.old made.new (build s made.old.next_op made.old.next_queue from to) (ops_in s) (queues_in s)) }
+    requires lower { AreLower (unit_forms units.now) }
+    requires named { AreShort (unit_forms units.now) }
+    ensures { (s : Stream) → IsTree (unit_forms units.now) i s → OnOk result (Built made.old made.new (build s made.old.next_op made.old.next_queue from to) (ops_in s) (queues_in s)) }
 {
     match &units[i] {
         Declared::Filter { name, filter } => made.filter(alloc, name, filter, from, to),
@@ -217,9 +218,9 @@ fn line(
 ) -> Result<(), NoMemory>
     requires there { i < length units.now }
     requires below { AreBelow i parts.front.now parts.last }
-    requires lower { AreLower (units_of units.now) }
-    requires named { AreShort (units_of units.now) }
-    ensures { (ss : Streams) → AreTrees (units_of units.now) parts.entry.front.now parts.entry.last ss → OnOk result (Built made.old made.new (build_line ss made.old.next_op made.old.next_queue from to) (ops_of ss) (queues_between ss)) }
+    requires lower { AreLower (unit_forms units.now) }
+    requires named { AreShort (unit_forms units.now) }
+    ensures { (ss : Streams) → AreTrees (unit_forms units.now) parts.entry.front.now parts.entry.last ss → OnOk result (Built made.old made.new (build_line ss made.old.next_op made.old.next_queue from to) (ops_of ss) (queues_between ss)) }
 {
     let mut start = from;
     for child in parts.front {
@@ -242,9 +243,9 @@ fn branches(
 ) -> Result<(), NoMemory>
     requires there { i < length units.now }
     requires below { AreBelow i parts.front.now parts.last }
-    requires lower { AreLower (units_of units.now) }
-    requires named { AreShort (units_of units.now) }
-    ensures { (ss : Streams) → AreTrees (units_of units.now) parts.entry.front.now parts.entry.last ss → OnOk result (Built made.old made.new (build_branches ss made.old.next_op made.old.next_queue lanes.first lanes.second) (ops_of ss) (queues_within ss)) }
+    requires lower { AreLower (unit_forms units.now) }
+    requires named { AreShort (unit_forms units.now) }
+    ensures { (ss : Streams) → AreTrees (unit_forms units.now) parts.entry.front.now parts.entry.last ss → OnOk result (Built made.old made.new (build_branches ss made.old.next_op made.old.next_queue lanes.first lanes.second) (ops_of ss) (queues_within ss)) }
 {
     let mut a = lanes.first;
     let mut b = lanes.second;
@@ -267,9 +268,9 @@ fn lane(
     made: &mut Made,
 ) -> Result<(), NoMemory>
     requires there { i < length units.now }
-    requires lower { AreLower (units_of units.now) }
-    requires named { AreShort (units_of units.now) }
-    ensures { (s : Stream) → IsTree (units_of units.now) i s → OnOk result (Built made.old made.new (build s made.old.next_op made.old.next_queue (queue a) (queue b)) (ops_in s) (queues_in s)) }
+    requires lower { AreLower (unit_forms units.now) }
+    requires named { AreShort (unit_forms units.now) }
+    ensures { (s : Stream) → IsTree (unit_forms units.now) i s → OnOk result (Built made.old made.new (build s made.old.next_op made.old.next_queue (queue a) (queue b)) (ops_in s) (queues_in s)) }
 {
     let start = queue(alloc, a)?;
     let end = queue(alloc, b)?;

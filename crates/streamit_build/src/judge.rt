@@ -1,21 +1,22 @@
 // Judges the units of a program, one after another.
 ghost use Rattle.std.specs.Prelude.{◌≡◌, ◌<◌, ◌≤◌, ◌^◌, length};
-ghost use Rattle.streamit_model.specs.Judged.{Streamed, splitter_of, stream_of, unit_of as stream_declared, all_streams};
-ghost use Rattle.streamit_model.specs.Program.{AFilter, APipeline, ASplitJoin};
-ghost use Rattle.streamit_unroll.specs.Filter.{filter_tree, IsReadable};
+ghost use Rattle.streamit_model.specs.Judged.{Streamed, splitter_of, stream_of, unit_of, all_streams};
+ghost use Rattle.streamit_text.specs.Program.{AFilter, APipeline, ASplitJoin, filter_tree, weights_of, dealing_of, adds_of, body_of, declared_of, program_of};
+ghost use Rattle.streamit_unroll.specs.Filter.{IsReadable};
 ghost use Rattle.streamit_unroll.specs.View.{Judges};
-ghost use Rattle.streamit_build.specs.Units.{splitter_of as splitter_by};
-ghost use Rattle.streamit_build.specs.Program.{weights_of, dealing_of, adds_of, body_of, declared_of, program_of, IsReadableBody};
+ghost use Rattle.streamit_build.specs.Units.{splitter_form};
+ghost use Rattle.streamit_build.specs.Readable.{IsReadableBody, AreReadable};
 ghost use Rattle.streamit_build.specs.Knowing.{Knows, Declares};
-ghost use Rattle.streamit_build.specs.Told.{AreReadable, JudgesAll};
+ghost use Rattle.streamit_build.specs.Told.{JudgesAll};
 
 use crate::names::sum;
 use crate::rounds::round;
 use crate::streams::few;
-use crate::{Adds, Body, Declaration, Declared, Known, Split, SplitJoin};
+use crate::{Declared, Known};
 use river_base::Name;
 use std::alloc::Global;
-use streamit_unroll::{Fault, FilterTree, filter};
+use streamit_text::{Adds, Body, Declaration, FilterTree, Split, SplitJoin};
+use streamit_unroll::{Fault, filter};
 
 /// The fault that comes first, and the number of its unit, from 1.
 #[derive(Clone, Copy)]
@@ -48,7 +49,7 @@ impl Known {
     // A unit of the program.
     fn unit(&mut self, alloc: Global, unit: &Declaration) -> Result<(), Fault>
         requires { IsReadableBody (body_of unit.now.body) }
-        ensures { (known : Streamed) → Knows self.old known → Declares result self.new known unit.now.name (stream_declared known (declared_of unit.now)) }
+        ensures { (known : Streamed) → Knows self.old known → Declares result self.new known unit.now.name (unit_of known (declared_of unit.now)) }
     {
         if self.find(unit.name).is_some() {
             return Err(Fault::NameTwice);
@@ -118,7 +119,7 @@ impl Known {
 // The weights of a splitter, or none where it copies.
 fn splitter(alloc: Global, split: &Split, branches: usize) -> Result<Option<Vec<u32>>, Fault>
     requires { 1 ≤ branches }
-    ensures { Judges splitter_by result (splitter_of (dealing_of split.now) branches) }
+    ensures { Judges splitter_form result (splitter_of (dealing_of split.now) branches) }
 {
     match split {
         Split::Duplicate => Ok(None),

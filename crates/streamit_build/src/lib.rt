@@ -6,12 +6,10 @@ mod judge;
 mod names;
 mod operators;
 mod planning;
-mod program;
 mod rounds;
 mod streams;
 
 use builder::{Declared, Made};
 pub use judge::Refusal;
 pub use planning::plan;
-pub use program::{Adds, Body, Declaration, RoundRobin, Split, SplitJoin};
 use streams::{Entry, Known};

@@ -4,7 +4,7 @@ ghost use Rattle.kern_rows.specs.Forms.{filter_form};
 ghost use Rattle.river_kernels.specs.Kern.{kern_of, filter, duplicate, deal};
 ghost use Rattle.river_plan.specs.Forms.{op_form};
 ghost use Rattle.streamit_model.specs.Build.{numbered, queues, with_own, weights, splitter, joiner};
-ghost use Rattle.streamit_build.specs.Units.{splitter_of};
+ghost use Rattle.streamit_build.specs.Units.{splitter_form};
 
 use crate::names::{numbered, one, queues};
 use kern_rows::Filter;
@@ -48,7 +48,7 @@ pub fn split_op(
     from: Name,
     k: u32,
 ) -> Result<Op, NoMemory>
-    ensures { IfOk result (λ op. op_form op ≡ splitter (splitter_of split.now) n (numbered (codes "split") number) from (queues k n)) }
+    ensures { IfOk result (λ op. op_form op ≡ splitter (splitter_form split.now) n (numbered (codes "split") number) from (queues k n)) }
 {
     let label = numbered(alloc, b"split", number)?;
     let reads = one(alloc, from)?;

@@ -2,21 +2,23 @@
 ghost use Rattle.std.specs.Prelude.{◌≡◌, ◌<◌, [], ◌∷◌, ◌++◌, ◌^◌, codes, filter, length, map, OnOk, IfOk};
 ghost use Rattle.river_plan.specs.Forms.{plan_form, op_forms, empty_form};
 ghost use Rattle.river_plan.specs.Uses.{all_vars};
-ghost use Rattle.streamit_model.specs.Stream.{Stream};
-ghost use Rattle.streamit_model.specs.Build.{values_in as queue_of, is_own, own_queues, ops_from, plan_of};
-ghost use Rattle.streamit_build.specs.Units.{units_of, AreLower, AreShort, IsTree};
+ghost use Rattle.streamit_model.specs.Unrolled.{Stream};
+ghost use Rattle.streamit_model.specs.Build.{values_in as queue_of, is_own_queue, own_queues, ops_from, plan_of};
+ghost use Rattle.streamit_build.specs.Units.{unit_forms, AreLower, AreShort, IsTree};
 ghost use Rattle.streamit_model.specs.Judged.{Streamed, judged};
 ghost use Rattle.streamit_build.specs.Knowing.{IsEntry, Knows};
 ghost use Rattle.streamit_build.specs.Plans.{lists_of};
-ghost use Rattle.streamit_build.specs.Program.{program_of};
-ghost use Rattle.streamit_build.specs.Told.{AreReadable, KnowsLast, PlansLast, PlansBy};
+ghost use Rattle.streamit_text.specs.Program.{program_of};
+ghost use Rattle.streamit_build.specs.Readable.{AreReadable};
+ghost use Rattle.streamit_build.specs.Told.{KnowsLast, PlansLast, PlansBy};
 
 use crate::builder::build;
 use crate::names::name_of;
-use crate::{Declaration, Entry, Known, Made, Refusal};
+use crate::{Entry, Known, Made, Refusal};
 use river_base::{FlatType, Name, NoMemory, QueueType};
 use river_plan::{Decl, Decls, Names, Ops, RawPlan};
 use std::alloc::Global;
+use streamit_text::Declaration;
 use streamit_unroll::Fault;
 
 /// The plan of a program, as lists: that of its last stream; or the fault that comes first, with its unit.
@@ -58,9 +60,9 @@ impl Known {
     // The plan of the stream with this entry, in this unit.
     fn plan_at(&self, alloc: Global, unit: u32, top: Entry) -> Result<RawPlan, Refusal>
         requires there { top.number < length self.now.declared.items }
-        requires lower { AreLower (units_of self.now.declared.items) }
-        requires short { AreShort (units_of self.now.declared.items) }
-        ensures { (s : Stream) → IsEntry (units_of self.now.declared.items) top s → PlansLast result unit s }
+        requires lower { AreLower (unit_forms self.now.declared.items) }
+        requires short { AreShort (unit_forms self.now.declared.items) }
+        ensures { (s : Stream) → IsEntry (unit_forms self.now.declared.items) top s → PlansLast result unit s }
     {
         if top.ops > 256 {
             return Err(Refusal {
@@ -80,9 +82,9 @@ impl Known {
     // The plan of the stream with this number, as lists.
     fn plan(&self, alloc: Global, top: usize) -> Result<RawPlan, NoMemory>
         requires there { top < length self.now.declared.items }
-        requires lower { AreLower (units_of self.now.declared.items) }
-        requires short { AreShort (units_of self.now.declared.items) }
-        ensures { (s : Stream) → IsTree (units_of self.now.declared.items) top s → IfOk result (λ raw. plan_form raw ≡ plan_of s) }
+        requires lower { AreLower (unit_forms self.now.declared.items) }
+        requires short { AreShort (unit_forms self.now.declared.items) }
+        ensures { (s : Stream) → IsTree (unit_forms self.now.declared.items) top s → IfOk result (λ raw. plan_form raw ≡ plan_of s) }
     {
         let ops = self.operators(alloc, top)?;
         lists(alloc, ops)
@@ -92,9 +94,9 @@ impl Known {
     #[tactic(auto, unfolding(river_base::specs::Name::is_word, river_base::specs::Name::is_letter, river_base::specs::Name::is_digit))]
     fn operators(&self, alloc: Global, top: usize) -> Result<Ops, NoMemory>
         requires there { top < length self.now.declared.items }
-        requires lower { AreLower (units_of self.now.declared.items) }
-        requires short { AreShort (units_of self.now.declared.items) }
-        ensures { (s : Stream) → IsTree (units_of self.now.declared.items) top s → IfOk result (λ ops. op_forms ops ≡ ops_from s) }
+        requires lower { AreLower (unit_forms self.now.declared.items) }
+        requires short { AreShort (unit_forms self.now.declared.items) }
+        ensures { (s : Stream) → IsTree (unit_forms self.now.declared.items) top s → IfOk result (λ ops. op_forms ops ≡ ops_from s) }
     {
         let mut made = Made {
             ops: Ops::new(alloc),
@@ -167,7 +169,7 @@ fn declare_queues(to: &mut Decls, ops: &Ops, out: Name) -> Result<(), NoMemory>
 // These queues, but for this one.
 fn declare_written(to: &mut Decls, names: &Names, out: Name) -> Result<(), NoMemory>
     requires { out ≡ codes "out" }
-    ensures { OnOk result (to.new ≡ to.old ++ map queue_of (filter is_own names.now)) }
+    ensures { OnOk result (to.new ≡ to.old ++ map queue_of (filter is_own_queue names.now)) }
 {
     for name in names.as_slice() {
         if *name != out {

@@ -4,11 +4,11 @@ ghost use Rattle.std.specs.List.{list_all};
 ghost use Rattle.brooklet_model.specs.ByIndex.{cycle};
 ghost use Rattle.streamit_model.specs.Judged.{round_of, fitting_round};
 ghost use Rattle.streamit_unroll.specs.View.{Judges};
-ghost use Rattle.streamit_build.specs.Program.{items_of, weights_of};
+ghost use Rattle.streamit_text.specs.Program.{items_of, weights_of};
 
-use crate::RoundRobin;
 use river_base::NoMemory;
 use std::alloc::Global;
+use streamit_text::RoundRobin;
 use streamit_unroll::Fault;
 
 /// The weights of so many branches, where these are written: none stands for 1 each, one for as many each.

@@ -3,16 +3,17 @@ ghost use Rattle.std.specs.Prelude.{◌≡◌, ◌+◌, [], ◌∷◌, ◌++◌,
 ghost use Rattle.indexmap.specs.IndexMap.{get};
 ghost use Rattle.river_base.specs.Name.{name_eq};
 ghost use Rattle.river_plan.specs.Forms.{Name};
-ghost use Rattle.streamit_model.specs.Stream.{Stream, nesting};
+ghost use Rattle.streamit_model.specs.Unrolled.{Stream, nesting};
 ghost use Rattle.streamit_model.specs.Build.{ops_in};
 ghost use Rattle.streamit_model.specs.Judged.{Streamed, added, streams_of};
-ghost use Rattle.streamit_build.specs.Units.{unit_of, units_of, IsTree, IsLower, IsShort};
+ghost use Rattle.streamit_build.specs.Units.{unit_form, unit_forms, IsTree, IsLower, IsShort};
 ghost use Rattle.streamit_build.specs.Knowing.{Knows, may, AddsOne, AddsAll};
 
-use crate::{Adds, Declared};
+use crate::Declared;
 use indexmap::IndexMap;
 use river_base::{Name, NoMemory};
 use std::alloc::Global;
+use streamit_text::Adds;
 use streamit_unroll::Fault;
 
 /// A stream that is known: its number, its operators (257 stands for more), and how deep it is nested.
@@ -59,7 +60,7 @@ impl Known {
 
     // The stream that is added as number `place`.
     fn added(&self, branch: bool, place: usize, name: Name) -> Result<Entry, Fault>
-        ensures { (known : Streamed) → Knows self.now known → AddsOne (units_of self.now.declared.items) result (added (may branch) known place name) }
+        ensures { (known : Streamed) → Knows self.now known → AddsOne (unit_forms self.now.declared.items) result (added (may branch) known place name) }
     {
         if branch && place >= 64 {
             return Err(Fault::Limit);
@@ -80,7 +81,7 @@ impl Known {
         branch: bool,
         adds: &Adds,
     ) -> Result<Children, Fault>
-        ensures { (known : Streamed) → Knows self.now known → AddsAll (units_of self.now.declared.items) result (streams_of (may branch) known 0 adds.now.first adds.now.others.items) }
+        ensures { (known : Streamed) → Knows self.now known → AddsAll (unit_forms self.now.declared.items) result (streams_of (may branch) known 0 adds.now.first adds.now.others.items) }
     {
         let first = self.added(branch, 0, adds.first)?;
         let mut children = Children::one(alloc, first);
@@ -99,7 +100,7 @@ impl Known {
         ops: u32,
         depth: u32,
     ) -> Result<(), NoMemory>
-        ensures { (known : Streamed) (s : Stream) → Knows self.old known → IsLower (length self.old.declared.items) (Some (unit_of stream)) → IsShort (Some (unit_of stream)) → IsTree (units_of self.old.declared.items ++ unit_of stream ∷ []) (length self.old.declared.items) s → ops ≡ min (ops_in s) 257 → depth ≡ nesting s → OnOk result (Knows self.new ((name, s) ∷ known)) }
+        ensures { (known : Streamed) (s : Stream) → Knows self.old known → IsLower (length self.old.declared.items) (Some (unit_form stream)) → IsShort (Some (unit_form stream)) → IsTree (unit_forms self.old.declared.items ++ unit_form stream ∷ []) (length self.old.declared.items) s → ops ≡ min (ops_in s) 257 → depth ≡ nesting s → OnOk result (Knows self.new ((name, s) ∷ known)) }
     {
         let Ok(number) = u32::try_from(self.declared.len()) else {
             return Err(NoMemory);

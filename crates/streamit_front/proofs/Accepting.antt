@@ -2,7 +2,7 @@
 use Rattle.std.proofs.Common.{◌≡◌, ℕ, List, [], ◌∷◌, Ok, ap, ◌∙◌, subst}
 use Rattle.work_code.specs.Cut.{units_of as cut_units}
 use Rattle.work_code.specs.Tok.{toks}
-use Rattle.streamit_model.specs.Program.{Program}
+use Rattle.streamit_text.specs.Program.{Program}
 use Rattle.streamit_model.specs.Judged.{Streamed, judged}
 use Rattle.streamit_model.proofs.InTurn as turn
 use Rattle.streamit_model.proofs.ProgramMet.{program_met}
@@ -19,6 +19,7 @@ compiled-as : (text : List ℕ) (p : Program) (known : Streamed) → IsText text
 compiled-as text p [] t j h = absurd (subst AllHave j h)
 compiled-as text p (newest ∷ others) t j h = (record { program = p; stream = newest.1 }, stands-means text p t ∙ ap (or_fault p) j)
 
+-- the law: which texts are accepted
 pub texts_are_accepted : TextsAreAccepted
 texts_are_accepted text = (
   (λ h.
@@ -28,6 +29,7 @@ texts_are_accepted text = (
   (λ h. let j = (accepted_are h.0).1 h.2 in compiled-as text h.0 j.0 h.1 j.1 (judged-have h.0 h.1.some)),
 )
 
+-- the law: plans declare in the order of first use
 pub plans_in_turn : PlansInTurn
 plans_in_turn text a e =
     let h = (means_what_it_has text (Ok a)).0 e in

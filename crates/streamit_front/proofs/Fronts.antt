@@ -21,20 +21,21 @@ use Rattle.river_plan.proofs.JudgeLemmas.{fault_of-is}
 use Rattle.river_plan.proofs.ValidLaw.{valid-no_fault}
 use Rattle.river_plan.specs.declared.plan.RawPlan.{RawPlan}
 use Rattle.streamit_model.specs.Elaborate as model
-use Rattle.streamit_model.specs.Stream.{Stream}
-use Rattle.streamit_model.specs.Program.{Program, AreShallowUnits}
+use Rattle.streamit_model.specs.Unrolled.{Stream}
+use Rattle.streamit_text.specs.Program.{Program, declared_of, program_of}
+use Rattle.streamit_model.specs.Shallow.{AreShallowUnits}
 use Rattle.streamit_model.specs.Judged.{Streamed, Refusal, on_fine, in_unit, unit_of, all_streams, few_operators, judged}
 use Rattle.streamit_model.specs.Faulty.{IsFaultOf}
 use Rattle.streamit_model.proofs.Programs.{programs_mean}
 use Rattle.streamit_model.proofs.Refused.{refusals_are}
-use Rattle.streamit_build.specs.declared.program.Declaration.{Declaration}
-use Rattle.streamit_build.specs.Program.{declared_of, program_of}
-use Rattle.streamit_build.specs.Told.{AreReadable, PlansBy}
+use Rattle.streamit_text.specs.declared.program.Declaration.{Declaration}
+use Rattle.streamit_build.specs.Readable.{AreReadable}
+use Rattle.streamit_build.specs.Told.{PlansBy}
 use Rattle.streamit_text.specs.Grammar.{AreUnits, IsText, IsSome, IsUnitAt, next_unit}
 use Rattle.streamit_text.specs.Laws.{IsBadAt, IsEmpty}
 use Rattle.streamit_text.specs.Reading.{some_units, unit_from}
 use Rattle.streamit_text.specs.Faults.{StandFor, Refuses}
-use Rattle.streamit_text.specs.declared.fault.StreamitTextFault.TheVariants.{Syntax as Syntax_at}
+use Rattle.text_forms.specs.declared.unit_fault.UnitFault.TheVariants.{Syntax as Syntax_at}
 use Rattle.work_code.proofs.Counts.{units-few}
 use Rattle.streamit_text.proofs.Texts.{text-read, text-reads, units-bad, units-reads}
 use Rattle.streamit_text.proofs.Units.{exact-unit_from}

@@ -1,7 +1,7 @@
 -- The grammar lets `if` and `for` nest at most 16 deep, and no `if` of a plan nests deeper than they do in its program.
-use Rattle.std.proofs.Common.{◌≡◌, ℕ, zero, suc, ◌≤◌, ◌+◌, ◌-◌, Bool, true, false, List, [], ◌∷◌, Option, Some, None, Ok, Err, sym, subst}
-use Rattle.std.proofs.Common.{arith}
+use Rattle.std.proofs.Common.{◌≡◌, ℕ, zero, suc, ◌≤◌, ◌+◌, ◌-◌, Bool, true, false, List, [], ◌∷◌, Option, Some, None, Ok, Err, sym, subst, arith}
 use Rattle.std.specs.Prelude.{max, codes, if◌then◌else◌, nat_eq, ◌&&◌}
+use Rattle.std.specs.List.{AllByRecursion}
 use Rattle.std.specs.Str.{bytes_eq}
 use Rattle.work_code.specs.Steps.{Step, Steps, Done}
 use Rattle.work_code.specs.Steps as steps
@@ -10,15 +10,22 @@ use Rattle.work_code.specs.Tok.{Tok}
 use Rattle.text_forms.specs.Forms as form
 use Rattle.kern_rows.specs.Forms.{FilterForm}
 use Rattle.river_plan.specs.Forms.{Name}
-use Rattle.streamit_model.specs.Source.{Statement, Declare, Assign, Push, Pop, If, For, Block, End, Then, pops, numbers, Optional, Unwritten, Written}
-use Rattle.streamit_model.specs.Elaborate.{At, Read, on_ok, joined, one_step, counted, is_new, has_slot, first_term, declared, slot_of, term_of}
-use Rattle.streamit_model.specs.Elaborate.{constant, bound_of, after_arms, unrolled, step_of, steps_of, find, BranchRates, Turn, optional_of}
-use Rattle.streamit_model.specs.FilterSource.{FilterTree, elaborated, read_fields, nothing_read, rates_of, kept_rates, form_of, push_of, pop_of, peek_of}
+use Rattle.streamit_text.specs.Tree.{Statement, Declare, Assign, Push, Discard, If, For, Block, End, Then, Optional, Unwritten, Written, in_turn, or_unwritten}
+use Rattle.streamit_text.specs.Tree.{Expression}
+use Rattle.streamit_model.specs.Meaning.{pops, numbers, push_of, pop_of, peek_of}
+use Rattle.streamit_model.specs.Elaborate.{At, Read, on_ok, joined, one_step, counted, is_new, has_slot, first_term, declared, slot_of, term_of, constant}
+use Rattle.streamit_model.specs.Elaborate.{bound_of, after_arms, unrolled, step_of, steps_of, find, BranchRates, Turn, optional_of}
+use Rattle.streamit_text.specs.Program.{FilterTree}
+use Rattle.streamit_model.specs.ElaborateFilter.{elaborated, read_fields, nothing_read, judged_rates, kept_rates, elaborated_form}
 use Rattle.streamit_model.proofs.Elaborated.{fine, ok_parts, ok_is}
-use Rattle.streamit_unroll.specs.View.{in_turn, or_unwritten}
-use Rattle.streamit_text.specs.Grammar.{IsAssign, IsIf, IsFor, IsBlockOf, StmtAfter, IsStmt, IsBlock, is_own}
+use Rattle.streamit_text.specs.Blocks.{IsPlain, Head, IsHead, looped, style, holes}
+use Rattle.streamit_text.specs.Expressions.{IsExpression, expr_at}
+use Rattle.streamit_text.specs.Grammar.{IsBlock}
+use Rattle.streamit_text.specs.Leaves.{IsLeaf, leaf_at}
+use Rattle.streamit_text.specs.Words.{is_own}
+use Rattle.text_blocks.specs.Parts.{Round}
 use Rattle.river_print.specs.Writable.{depths}
-use Rattle.streamit_front.proofs.Readable.{chosen, enclosed}
+use Rattle.text_blocks.proofs.Every.{chosen, IfThere, every-block}
 
 -- how deep `if` and `for` nest
 abbrev mutual
@@ -26,7 +33,7 @@ abbrev mutual
   nest (Declare n t) = 0
   nest (Assign n t) = 0
   nest (Push t) = 0
-  nest Pop = 0
+  nest Discard = 0
   nest (If t a b) = suc (max (nests a) (nests_optional b))
   nest (For n low upto high b) = suc (nests b)
 
@@ -46,64 +53,33 @@ IsNested k s = nest s ≤ k
 abbrev AreNested : ℕ → Block → Type 0
 AreNested k b = nests b ≤ k
 
--- a block, of whose statements this is known
-block-nests : (stmt : ℕ → Statement → List Tok → Type 0) (k : ℕ) → ((m : ℕ) (s : Statement) (ts : List Tok) → stmt m s ts → IsNested k s)
-    → (n : ℕ) (b : Block) (ts : List Tok) → IsBlockOf stmt n b ts → AreNested k b
-block-nests stmt k below n b ts h = enclosed (AreNested k) _ _ _ n b ts h (λ m us f. subst (AreNested k) (sym f.is) (each m f.value us f.formed))
-  where
-    each : (m : ℕ) (ss : List Statement) (us : List Tok) → form.Each (stmt m) ss us → AreNested k (in_turn ss)
-    each m [] us f = omega arith
-    each m (s ∷ ss) us f =
-        let a = below m s f.0 f.3 in
-        let b = each m ss f.1 f.4 in
-        omega (arith, a, b)
+-- the expressions of a program
+abbrev F : ℕ → Expression → List Tok → Type 0
+F = IsExpression IsLeaf
 
-optional-nests : (k : ℕ) (block : Block → List Tok → Type 0) → ((b : Block) (ts : List Tok) → block b ts → AreNested k b)
-    → (word : List ℕ) (o : Option Block) (ts : List Tok) → form.Maybe (form.AfterWord word block) o ts → nests_optional (or_unwritten o) ≤ k
-optional-nests k block below word None ts h = omega arith
-optional-nests k block below word (Some b) ts h = below b h.back h.formed
+plain-nests : (k n : ℕ) (w : List ℕ) (s : Statement) (ts : List Tok) → IsPlain F n w s ts → IsNested k s
+plain-nests k n w s ts h =
+    chosen (IsNested k s) _ _ (bytes_eq w (codes "int")) s ts h (λ e f. subst (IsNested k) (sym f.is) (omega arith)) (λ h.
+    chosen (IsNested k s) _ _ (bytes_eq w (codes "push")) s ts h (λ e f. subst (IsNested k) (sym f.is) (omega arith)) (λ h.
+    chosen (IsNested k s) _ _ (bytes_eq w (codes "pop")) s ts h (λ e f. subst (IsNested k) (sym f.is) (omega arith)) (λ h.
+    chosen (IsNested k s) _ _ (is_own w) s ts h (λ e f. subst (IsNested k) (sym f.is) (omega arith)) (λ h. absurd h))))
 
-if-nests : (k : ℕ) (block : ℕ → Block → List Tok → Type 0) → ((m : ℕ) (b : Block) (ts : List Tok) → block m b ts → AreNested k b)
-    → (n : ℕ) (s : Statement) (ts : List Tok) → IsIf block n s ts → IsNested (suc k) s
-if-nests k block below n s ts h =
-    let v = h.value in
-    let arms = h.formed.second in
-    let a = below n v.1.0 arms.front arms.first in
-    let no = arms.second in
-    let b : nests_optional v.1.1 ≤ k = subst (λ (o : Optional). nests_optional o ≤ k) (sym no.is) (optional-nests k (block n) (below n) (codes "else") no.value arms.back no.formed) in
-    subst (IsNested (suc k)) (sym h.is) (omega (arith, a, b))
+branch-nests : (k n : ℕ) (c : Expression) (ts : List Tok) (a : Block) (o : Option Block) → Round F n c ts → AreNested k a → IfThere (AreNested k) o
+    → IsNested (suc k) (If c a (or_unwritten o))
+branch-nests k n c ts a None h x y = omega (arith, x)
+branch-nests k n c ts a (Some b) h x y = omega (arith, x, y)
 
-for-nests : (k : ℕ) (block : ℕ → Block → List Tok → Type 0) → ((m : ℕ) (b : Block) (ts : List Tok) → block m b ts → AreNested k b)
-    → (n : ℕ) (s : Statement) (ts : List Tok) → IsFor block n s ts → IsNested (suc k) s
-for-nests k block below n s ts h =
-    let b = below n h.value.1 h.formed.back h.formed.second in
-    subst (IsNested (suc k)) (sym h.is) (omega (arith, b))
+loop-nests : (k n : ℕ) (w : List ℕ) (h : Head) (ts : List Tok) (b : Block) → Round (IsHead F) n h ts → AreNested k b → IsNested (suc k) (looped h b)
+loop-nests k n w h ts b f x = omega (arith, x)
 
--- the statements without a block
-leaf-nests : (k n : ℕ) (w : List ℕ) (s : Statement) (ts : List Tok) → form.Choose (is_own w) (IsAssign w n) form.Never s ts → IsNested k s
-leaf-nests k n w s ts h = chosen (IsNested k s) _ _ (is_own w) s ts h (λ f. subst (IsNested k) (sym f.is) (omega arith)) (λ f. absurd f)
-
-after-nests : (k : ℕ) (branch loop : Statement → List Tok → Type 0) → ((s : Statement) (ts : List Tok) → branch s ts → IsNested k s)
-    → ((s : Statement) (ts : List Tok) → loop s ts → IsNested k s) → (n : ℕ) (w : List ℕ) (s : Statement) (ts : List Tok)
-    → StmtAfter branch loop n w s ts → IsNested k s
-after-nests k branch loop b l n w s ts h =
-    chosen (IsNested k s) _ _ (bytes_eq w (codes "int")) s ts h (λ f. subst (IsNested k) (sym f.is) (omega arith)) (λ h.
-    chosen (IsNested k s) _ _ (bytes_eq w (codes "push")) s ts h (λ f. subst (IsNested k) (sym f.is) (omega arith)) (λ h.
-    chosen (IsNested k s) _ _ (bytes_eq w (codes "pop")) s ts h (λ f. subst (IsNested k) (sym f.is) (omega arith)) (λ h.
-    chosen (IsNested k s) _ _ (bytes_eq w (codes "if")) s ts h (b s ts) (λ h.
-    chosen (IsNested k s) _ _ (bytes_eq w (codes "for")) s ts h (l s ts) (λ h. leaf-nests k n w s ts h)))))
-
-stmt-nests : (k n : ℕ) (s : Statement) (ts : List Tok) → IsStmt k n s ts → IsNested k s
-unfolding IsStmt
-stmt-nests zero n s ts h = after-nests zero form.Never form.Never (λ s ts f. absurd f) (λ s ts f. absurd f) n h.word s h.back h.formed
-stmt-nests (suc k) n s ts h =
-    let below = block-nests (IsStmt k) k (λ m s ts f. stmt-nests k m s ts f) in
-    after-nests (suc k) (IsIf (IsBlockOf (IsStmt k)) n) (IsFor (IsBlockOf (IsStmt k)) n)
-    (if-nests k (IsBlockOf (IsStmt k)) below n) (for-nests k (IsBlockOf (IsStmt k)) below n) n h.word s h.back h.formed
+block-nests : (k : ℕ) (ss : List Statement) → AllByRecursion (IsNested k) ss → AreNested k (in_turn ss)
+block-nests k [] h = omega arith
+block-nests k (s ∷ ss) h = let a = h.0 in let b = block-nests k ss h.1 in omega (arith, a, b)
 
 -- a block that the grammar has nests at most 16 deep
-pub block-nested : (n : ℕ) (b : Block) (ts : List Tok) → IsBlock 16 n b ts → nests b ≤ 16
-block-nested n b ts h = block-nests (IsStmt 16) 16 (stmt-nests 16) n b ts h
+pub block-nested : (n : ℕ) (b : Block) (ts : List Tok) → IsBlock n b ts → nests b ≤ 16
+block-nested n b ts h =
+    every-block (style (expr_at leaf_at)) (holes F) IsNested AreNested branch-nests loop-nests plain-nests block-nests 16 n b ts h
 
 -- THE STATEMENTS OF A PLAN
 
@@ -163,7 +139,7 @@ mutual
       let p = ok_parts (counted s0) (λ s. on_ok (term_of e s.scope t s.popped) (f1 s)) y h in
       let v = ok_parts (term_of e p.0.scope t p.0.popped) (f1 p.0) y p.2 in
       by-steps 0 (one_step (steps.Push 0 (v.0 ∷ [])), record p.0 { popped = p.0.popped + pops t; pushed = p.0.pushed + 1 }) y v.2 (omega arith)
-  step-below e Pop s y h = by-steps 0 (Done, record s { popped = s.popped + 1 }) y h (omega arith)
+  step-below e Discard s y h = by-steps 0 (Done, record s { popped = s.popped + 1 }) y h (omega arith)
   step-below e (If t a b) s0 y h =
       let second = λ (s : At) (p : Steps × At). optional_of e b (record s { popped = s.popped + pops t; slots = p.1.slots; size = p.1.size }) in
       let f3 = λ (s : At) (c : Term) (p : Steps × At). on_ok (second s p) (after_arms s c p) in
@@ -205,12 +181,12 @@ mutual
 -- the filter of a filter as it is written nests no deeper than its `work`
 pub filter-below : (t : FilterTree) (f : FilterForm) → elaborated t ≡ Ok f → depths f.body.steps ≤ nests t.work
 filter-below t f h =
-    let end = λ (i w : Steps × At). on_ok (kept_rates (push_of t) (pop_of t) w.1) (λ v. fine (form_of t i w)) in
+    let end = λ (i w : Steps × At). on_ok (kept_rates (push_of t) (pop_of t) w.1) (λ v. fine (elaborated_form t i w)) in
     let f3 = λ (s : At) (i : Steps × At). on_ok (steps_of (peek_of t) t.work s) (end i) in
-    let f2 = λ (s : At) (i : Steps × At). on_ok (rates_of (push_of t) (pop_of t) (peek_of t)) (λ u. f3 s i) in
+    let f2 = λ (s : At) (i : Steps × At). on_ok (judged_rates (push_of t) (pop_of t) (peek_of t)) (λ u. f3 s i) in
     let a = ok_parts (read_fields t.fields nothing_read) (λ s. on_ok (optional_of 0 t.init s) (f2 s)) f h in
     let i = ok_parts (optional_of 0 t.init a.0) (f2 a.0) f a.2 in
-    let r = ok_parts (rates_of (push_of t) (pop_of t) (peek_of t)) (λ u. f3 a.0 i.0) f i.2 in
+    let r = ok_parts (judged_rates (push_of t) (pop_of t) (peek_of t)) (λ u. f3 a.0 i.0) f i.2 in
     let w = ok_parts (steps_of (peek_of t) t.work a.0) (end i.0) f r.2 in
-    let k = ok_parts (kept_rates (push_of t) (pop_of t) w.0.1) (λ v. fine (form_of t i.0 w.0)) f w.2 in
-    subst (λ (g : FilterForm). depths g.body.steps ≤ nests t.work) (ok_is (form_of t i.0 w.0) f k.2) (steps-below (peek_of t) t.work a.0 w.0 w.1)
+    let k = ok_parts (kept_rates (push_of t) (pop_of t) w.0.1) (λ v. fine (elaborated_form t i.0 w.0)) f w.2 in
+    subst (λ (g : FilterForm). depths g.body.steps ≤ nests t.work) (ok_is (elaborated_form t i.0 w.0) f k.2) (steps-below (peek_of t) t.work a.0 w.0 w.1)

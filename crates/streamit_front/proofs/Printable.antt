@@ -1,6 +1,6 @@
 -- The plan of a program that a text stands for can be written as River text: `if` nests at most 16 deep, and no window is there.
-use Rattle.std.proofs.Common.{◌≡◌, ℕ, suc, ◌≤◌, ◌+◌, Bool, true, false, List, [], ◌∷◌, length, Option, Some, None, Result, Ok, Err, refl, sym, subst, ap}
-use Rattle.std.proofs.Common.{◌∙◌, arith}
+use Rattle.std.proofs.Common.{◌≡◌, ℕ, suc, ◌≤◌, ◌+◌, Bool, true, false, List, [], ◌∷◌, length, Option, Some, None, Result, Ok, Err, refl, sym, subst, ap, ◌∙◌}
+use Rattle.std.proofs.Common.{arith}
 use Rattle.std.specs.Prelude.{codes, if◌then◌else◌, nat_lt}
 use Rattle.std.specs.Str.{bytes_eq}
 use Rattle.river_base.specs.Name.{name_eq}
@@ -13,17 +13,18 @@ use Rattle.river_print.specs.Writable.{Every, depths}
 use Rattle.river_print.proofs.Spoken.{IsSpoken, every-joined, spoken-printable}
 use Rattle.streamit_model.specs.Build.{numbered, queue, queues, ops_in, ops_of, queues_in, splitter, joiner, build, build_line, build_branches, plan_of}
 use Rattle.streamit_model.specs.Elaborate.{Fault, on_ok, demand, Limit}
-use Rattle.streamit_model.specs.FilterSource.{FilterTree, elaborated}
+use Rattle.streamit_text.specs.Program.{FilterTree, Body, AFilter, APipeline, ASplitJoin, Declared, Program}
+use Rattle.streamit_model.specs.ElaborateFilter.{elaborated}
 use Rattle.streamit_model.specs.Judged.{Refusal, Streamed, on_fine, in_unit, found, added, streams_of, any, branches, round_of, splitter_of, stream_of}
 use Rattle.streamit_model.specs.Judged.{not_there, unit_of, all_streams, few_operators, judged}
-use Rattle.streamit_model.specs.Program.{Body, AFilter, APipeline, ASplitJoin, Declared, Program, look, branch_count}
-use Rattle.streamit_model.specs.Stream.{Splitter, Duplicate, RoundRobin, Stream, Filter, Pipeline, SplitJoin, Streams, Last, Then, number_of, nesting}
+use Rattle.streamit_model.specs.Meaning.{look, branch_count}
+use Rattle.streamit_model.specs.Unrolled.{Splitter, Duplicate, RoundRobin, Stream, Filter, Pipeline, SplitJoin, Streams, Last, Then, number_of, nesting}
 use Rattle.streamit_model.proofs.Elaborated.{fine, ok_parts, ok_is}
 use Rattle.streamit_text.specs.Grammar.{InFilter, BodyAfter, IsUnit, AreUnits}
 use Rattle.streamit_front.specs.Laws.{Has, PlansArePrintable}
 use Rattle.streamit_front.proofs.Fronts.{means_what_it_has}
 use Rattle.streamit_front.proofs.Nested.{nests, block-nested, filter-below}
-use Rattle.streamit_front.proofs.Readable.{chosen, enclosed}
+use Rattle.text_blocks.proofs.Every.{chosen, enclosed}
 
 -- THE GRAMMAR
 
@@ -47,10 +48,10 @@ filter-nested n t ts h =
 body-nested : (n : ℕ) (w : List ℕ) (b : Body) (ts : List Tok) → BodyAfter n w b ts → IsNestedBody b
 body-nested n w b ts h =
     chosen (IsNestedBody b) _ _ (bytes_eq w (codes "filter")) b ts h
-    (λ f. subst IsNestedBody (sym f.is) (enclosed IsNestedFilter _ _ _ n f.value ts f.formed (λ m us g. filter-nested m f.value us g))) (λ h.
-    chosen (IsNestedBody b) _ _ (bytes_eq w (codes "pipeline")) b ts h (λ f. subst IsNestedBody (sym f.is) tt) (λ h.
+    (λ e f. subst IsNestedBody (sym f.is) (enclosed IsNestedFilter _ _ _ n f.value ts f.formed (λ m us g. filter-nested m f.value us g))) (λ h.
+    chosen (IsNestedBody b) _ _ (bytes_eq w (codes "pipeline")) b ts h (λ e f. subst IsNestedBody (sym f.is) tt) (λ h.
     chosen (IsNestedBody b) _ _ (bytes_eq w (codes "splitjoin")) b ts h
-    (λ f. enclosed IsNestedBody _ _ _ n b ts f (λ m us g. subst IsNestedBody (sym g.is) tt)) (λ h. absurd h)))
+    (λ e f. enclosed IsNestedBody _ _ _ n b ts f (λ m us g. subst IsNestedBody (sym g.is) tt)) (λ h. absurd h)))
 
 unit-nested : (d : Declared) (ts : List Tok) → IsUnit d ts → IsNestedBody d.body
 unit-nested d ts h =

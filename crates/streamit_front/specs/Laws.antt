@@ -13,7 +13,8 @@ use Rattle.streamit_model.specs.Build.{plan_of}
 use Rattle.streamit_model.specs.Elaborate as model
 use Rattle.streamit_model.specs.Faulty.{IsRight, IsFaultOf}
 use Rattle.streamit_model.specs.Places.{places_of}
-use Rattle.streamit_model.specs.Program.{Program, program_outputs}
+use Rattle.streamit_text.specs.Program.{Program}
+use Rattle.streamit_model.specs.Meaning.{program_outputs}
 use Rattle.streamit_model.specs.Judged.{Streamed, judged}
 use Rattle.streamit_model.specs.Laws.{as_items}
 use Rattle.streamit_text.specs.Grammar.{IsText}

@@ -2,11 +2,12 @@
 ghost use Rattle.std.specs.Prelude.{◌≡◌, ◌<◌, ◌^◌, length, IfOk, IfErr, Result, Ok};
 ghost use Rattle.river_plan.specs.Forms.{plan_form};
 ghost use Rattle.river_plan.specs.Valid.{IsPlan};
-ghost use Rattle.streamit_model.specs.Program.{Program, AreShallowUnits};
+ghost use Rattle.streamit_text.specs.Program.{Program, program_of};
+ghost use Rattle.streamit_model.specs.Shallow.{AreShallowUnits};
 ghost use Rattle.streamit_model.specs.Judged.{Streamed};
 ghost use Rattle.streamit_model.specs.Judged as model;
-ghost use Rattle.streamit_build.specs.Program.{program_of};
-ghost use Rattle.streamit_build.specs.Told.{AreReadable, Told};
+ghost use Rattle.streamit_build.specs.Readable.{AreReadable};
+ghost use Rattle.streamit_build.specs.Told.{Told};
 ghost use Rattle.streamit_text.specs.Faults.{StandFor};
 ghost use Rattle.streamit_front.specs.Meaning.{accepted, or_fault, of_tokens, compiled, Plans, Refused};
 
@@ -15,10 +16,10 @@ use crate::fault::StreamitFault;
 use river_base::{Bytes, NoMemory};
 use river_plan::{Plan, PlanFault, RawPlan, check};
 use std::alloc::Global;
-use streamit_build::{Declaration, Refusal, plan};
-use streamit_text::{StreamitTextFault, read_streamit};
+use streamit_build::{Refusal, plan};
+use streamit_text::{Declaration, read_streamit};
 use streamit_unroll::Fault;
-use text_forms::Refusal as TextRefusal;
+use text_forms::{Refusal as TextRefusal, UnitFault};
 use work_code::{LexFault, Tokens, lex};
 
 /// The program of a text, and the plan of the stream that it declares last.
@@ -69,10 +70,8 @@ fn read(alloc: Global, tokens: &Tokens<'_>) -> Result<Vec<Declaration>, Streamit
 {
     match read_streamit(alloc, tokens) {
         Ok(units) => Ok(units),
-        Err(StreamitTextFault::Syntax { unit }) => Err(StreamitFault::Text(TextRefusal::Syntax {
-            unit,
-        })),
-        Err(StreamitTextFault::NoMemory) => Err(StreamitFault::NoMemory),
+        Err(UnitFault::Syntax { unit }) => Err(StreamitFault::Text(TextRefusal::Syntax { unit })),
+        Err(UnitFault::NoMemory) => Err(StreamitFault::NoMemory),
     }
 }
 

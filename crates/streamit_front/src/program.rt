@@ -1,5 +1,5 @@
 // The tree of a program.
-use streamit_build::Declaration;
+use streamit_text::Declaration;
 
 /// A program as it is written: streams that are declared one after another, of which the last is run
 /// (the StreamIt language of Thies, Karczmarek and Amarasinghe).

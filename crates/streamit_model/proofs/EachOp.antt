@@ -8,8 +8,8 @@ use Rattle.river_plan.specs.Forms.{Name, OpForm}
 use Rattle.river_plan.specs.Uses.{Each}
 use Rattle.river_plan.proofs.ShareLemmas.{each_append}
 use Rattle.brooklet_model.specs.ByIndex.{cycle}
-use Rattle.streamit_model.specs.Stream.{Splitter, Stream, Filter, Pipeline, SplitJoin, Streams, Last, Then, number_of, IsStream, AreStreams, IsSplitter}
-use Rattle.streamit_model.specs.Stream.{IsRound, IsSmall, AreSmall, IsSmallFilter, IsSmallSplitter}
+use Rattle.streamit_model.specs.Unrolled.{Splitter, Stream, Filter, Pipeline, SplitJoin, Streams, Last, Then, number_of, IsStream, AreStreams, IsSplitter}
+use Rattle.streamit_model.specs.Unrolled.{IsRound, IsSmall, AreSmall, IsSmallFilter, IsSmallSplitter}
 use Rattle.streamit_model.specs.Build.{numbered, queue, queues, ops_in, ops_of, queues_in, with_own, splitter, joiner, build, build_line, build_branches}
 
 pub record OfEach (P : OpForm → Type 0) : Type 0 where
@@ -24,6 +24,7 @@ some_streams (Then s ss) = omega arith
 
 module _ (P : OpForm → Type 0) (h : OfEach P) where
   mutual
+    -- what holds of the operators of filters, splitters and joiners holds of all operators of a plan
     pub each_op : (s : Stream) (c k : ℕ) (from to : Name) → IsStream s → IsSmall s → Each P (build s c k from to)
     each_op (Filter name f) c k from to ok small = (h.filters (numbered name c) f from to ok small, tt)
     each_op (Pipeline ss) c k from to ok small = each_line ss c k from to ok small

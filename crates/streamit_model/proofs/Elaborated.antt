@@ -18,11 +18,11 @@ use Rattle.kern_rows.proofs.Lengths.{ran_length}
 use Rattle.river_plan.specs.Forms.{Name}
 use Rattle.river_plan.proofs.NameLemmas.{cases_name, name_same as name_self}
 use Rattle.brooklet_model.specs.Machine.{at_name}
-use Rattle.text_forms.specs.Tree.{Spoken}
-use Rattle.text_forms.specs.Tree as tree
-use Rattle.streamit_model.specs.Source.{Statement, Declare, Assign, Push, Pop, If, For, Block, End, Then, pops, Values, said, Now, numbers, turns_between}
-use Rattle.streamit_model.specs.Source.{each_turn, first_value, first_pops, does, do_all, do_optional, Optional, Unwritten, Written}
-use Rattle.streamit_model.specs.Elaborate.{Fault, Limit, BranchRates, PeekRange, on_ok, demand, Known, Var, Turn, Scope, find, constant_of, constant, named}
+use Rattle.streamit_text.specs.Tree.{Expression, Statement, Declare, Assign, Push, Discard, If, For, Block, End, Then, Optional, Unwritten, Written}
+use Rattle.streamit_text.specs.Tree as tree
+use Rattle.streamit_model.specs.Meaning.{pops, Values, eval, State, numbers, turns_between, each_turn, first_value, first_pops, exec, exec_all, exec_optional}
+use Rattle.streamit_model.specs.Elaborate.{Fault, Limit, BranchRates, PeekRange, on_ok, demand, Known, Var, Turn, Scope, find, constant_of, constant}
+use Rattle.streamit_model.specs.Elaborate.{named_term}
 use Rattle.streamit_model.specs.Elaborate.{peeked, term_of, At, counted, has_slot, is_new, slot_of, bound_of, first_term, first_popped, joined, one_step, Read}
 use Rattle.streamit_model.specs.Elaborate.{declared, after_arms, unrolled, step_of, steps_of, optional_of}
 
@@ -187,12 +187,10 @@ constant_found None z w mem h c = absurd (cc c)
 constant_found (Some (Var i)) z w mem h c = absurd (cc c)
 constant_found (Some (Turn v)) z w mem h c = sym (h (Turn v) refl) ∙ ok_is (pos v) z c
 
-constant_is : (sc : Scope) (t : Spoken) (xs : List ℤ) (env : Values) (mem : List ℤ) (k : ℕ) (z : ℤ) → Agrees sc env mem → constant sc t ≡ Ok z
-    → said t xs env k ≡ z
+constant_is : (sc : Scope) (t : Expression) (xs : List ℤ) (env : Values) (mem : List ℤ) (k : ℕ) (z : ℤ) → Agrees sc env mem → constant sc t ≡ Ok z
+    → eval t xs env k ≡ z
 constant_is sc (tree.Number v) xs env mem k z a c = ok_is (pos v) z c
 constant_is sc (tree.Name n) xs env mem k z a c = constant_found (find sc n) z (env n) mem (a.each n) c
-constant_is sc (tree.Input p) xs env mem k z a c = absurd (cc c)
-constant_is sc (tree.Slot p) xs env mem k z a c = absurd (cc c)
 constant_is sc (tree.Peek t) xs env mem k z a c = absurd (cc c)
 constant_is sc tree.Pop xs env mem k z a c = absurd (cc c)
 constant_is sc (tree.Neg t) xs env mem k z a c =
@@ -204,11 +202,11 @@ constant_is sc (tree.Not t) xs env mem k z a c =
 constant_is sc (tree.Bin o l r) xs env mem k z a c =
     let p = ok_parts (constant sc l) (λ a. on_ok (constant sc r) (λ b. Ok (applied o a b))) z c in
     let q = ok_parts (constant sc r) (λ b. Ok (applied o p.0 b)) z p.2 in
-    ap (λ b. applied o b (said r xs env (k + pops l))) (constant_is sc l xs env mem k p.0 a p.1)
+    ap (λ b. applied o b (eval r xs env (k + pops l))) (constant_is sc l xs env mem k p.0 a p.1)
     ∙ ap (applied o p.0) (constant_is sc r xs env mem (k + pops l) q.0 a q.1)
     ∙ ok_is (applied o p.0 q.0) z q.2
 
-named_is : (o : Option Known) (u : Term) (w : ℤ) (xs mem : List ℤ) → ((b : Known) → o ≡ Some b → Holds b w mem) → named o ≡ Ok u → w ≡ val u xs mem
+named_is : (o : Option Known) (u : Term) (w : ℤ) (xs mem : List ℤ) → ((b : Known) → o ≡ Some b → Holds b w mem) → named_term o ≡ Ok u → w ≡ val u xs mem
 named_is None u w xs mem h c = absurd (cc c)
 named_is (Some (Var i)) u w xs mem h c = sym (h (Var i) refl) ∙ ap (λ t. val t xs mem) (ok_is (term.Slot i) u c)
 named_is (Some (Turn v)) u w xs mem h c = sym (h (Turn v) refl) ∙ ap (λ t. val t xs mem) (ok_is (term.Const (pos v)) u c)
@@ -217,12 +215,10 @@ peeked_is : (e k : ℕ) (i : ℤ) (u : Term) (xs mem : List ℤ) → peeked e k 
 peeked_is e k (pos i) u xs mem h = ap (λ t. val t xs mem) (if_ok (nat_lt (k + i) e) (term.Input (k + i)) u (PeekRange (pos i) e) h).1
 peeked_is e k (negsuc i) u xs mem h = absurd (cc h)
 
-term_is : (e : ℕ) (sc : Scope) (t : Spoken) (xs : List ℤ) (env : Values) (mem : List ℤ) (k : ℕ) (u : Term) → Agrees sc env mem → term_of e sc t k ≡ Ok u
-    → said t xs env k ≡ val u xs mem
+term_is : (e : ℕ) (sc : Scope) (t : Expression) (xs : List ℤ) (env : Values) (mem : List ℤ) (k : ℕ) (u : Term) → Agrees sc env mem → term_of e sc t k ≡ Ok u
+    → eval t xs env k ≡ val u xs mem
 term_is e sc (tree.Number v) xs env mem k u a c = ap (λ t. val t xs mem) (ok_is (term.Const (pos v)) u c)
 term_is e sc (tree.Name n) xs env mem k u a c = named_is (find sc n) u (env n) xs mem (a.each n) c
-term_is e sc (tree.Input p) xs env mem k u a c = absurd (cc c)
-term_is e sc (tree.Slot p) xs env mem k u a c = absurd (cc c)
 term_is e sc (tree.Peek t) xs env mem k u a c =
     let p = ok_parts (constant sc t) (peeked e k) u c in
     ap (λ i. slice_index_or xs (k + count_of i) (pos 0)) (constant_is sc t xs env mem k p.0 a p.1) ∙ peeked_is e k p.0 u xs mem p.2
@@ -236,7 +232,7 @@ term_is e sc (tree.Not t) xs env mem k u a c =
 term_is e sc (tree.Bin o l r) xs env mem k u a c =
     let p = ok_parts (term_of e sc l k) (λ a. on_ok (term_of e sc r (k + pops l)) (λ b. Ok (term.Bin o a b))) u c in
     let q = ok_parts (term_of e sc r (k + pops l)) (λ b. Ok (term.Bin o p.0 b)) u p.2 in
-    ap (λ b. applied o b (said r xs env (k + pops l))) (term_is e sc l xs env mem k p.0 a p.1)
+    ap (λ b. applied o b (eval r xs env (k + pops l))) (term_is e sc l xs env mem k p.0 a p.1)
     ∙ ap (applied o (val p.0 xs mem)) (term_is e sc r xs env mem (k + pops l) q.0 a q.1)
     ∙ ap (λ t. val t xs mem) (ok_is (term.Bin o p.0 q.0) u q.2)
 
@@ -347,7 +343,7 @@ unrolled_grows block g n (v ∷ vs) s y new h =
 
 -- THE PARTS OF A STATEMENT THAT WAS READ
 
-pub record Declared (e : ℕ) (n : Name) (t : Option Spoken) (s : At) (y : Steps × At) : Type 0 where
+pub record Declared (e : ℕ) (n : Name) (t : Option Expression) (s : At) (y : Steps × At) : Type 0 where
   pub few : nat_lt s.slots 256 ≡ true
   pub room : s.size < 16384
   pub value : Term
@@ -355,13 +351,13 @@ pub record Declared (e : ℕ) (n : Name) (t : Option Spoken) (s : At) (y : Steps
   pub value_is : first_term e t s ≡ Ok value
   pub is : y ≡ (one_step (steps.Set s.slots value), record s { scope = (n, Var s.slots) ∷ s.scope; slots = s.slots + 1; popped = s.popped + first_popped t; size = s.size + 1 })
 
-first_more : (e : ℕ) (t : Option Spoken) (s : At) → first_term e t (one_more s) ≡ first_term e t s
+first_more : (e : ℕ) (t : Option Expression) (s : At) → first_term e t (one_more s) ≡ first_term e t s
 unfolding one_more
 first_more e None s = refl
 first_more e (Some t) s = refl
 
 -- of a declaration
-pub declared_parts : (e : ℕ) (n : Name) (t : Option Spoken) (s : At) (y : Steps × At) → step_of e (Declare n t) s ≡ Ok y → Declared e n t s y
+pub declared_parts : (e : ℕ) (n : Name) (t : Option Expression) (s : At) (y : Steps × At) → step_of e (Declare n t) s ≡ Ok y → Declared e n t s y
 unfolding one_more
 declared_parts e n t s y h =
     let last = λ (s : At) (v : Term). fine (declared n t s v) in
@@ -380,7 +376,7 @@ declared_parts e n t s y h =
       is = sym (ok_is (declared n t o r.0) y r.2);
     }
 
-pub record Assigned (e : ℕ) (n : Name) (t : Spoken) (s : At) (y : Steps × At) : Type 0 where
+pub record Assigned (e : ℕ) (n : Name) (t : Expression) (s : At) (y : Steps × At) : Type 0 where
   pub room : s.size < 16384
   pub slot : ℕ
   pub value : Term
@@ -389,7 +385,7 @@ pub record Assigned (e : ℕ) (n : Name) (t : Spoken) (s : At) (y : Steps × At)
   pub is : y ≡ (one_step (steps.Set slot value), record s { popped = s.popped + pops t; size = s.size + 1 })
 
 -- of an assignment
-pub assigned_parts : (e : ℕ) (n : Name) (t : Spoken) (s : At) (y : Steps × At) → step_of e (Assign n t) s ≡ Ok y → Assigned e n t s y
+pub assigned_parts : (e : ℕ) (n : Name) (t : Expression) (s : At) (y : Steps × At) → step_of e (Assign n t) s ≡ Ok y → Assigned e n t s y
 unfolding one_more
 assigned_parts e n t s y h =
     let c = counted_on s (λ s. on_ok (slot_of (find s.scope n)) (λ i. on_ok (term_of e s.scope t s.popped) (λ v. Ok (one_step (steps.Set i v), record s { popped = s.popped + pops t })))) y h in
@@ -397,14 +393,14 @@ assigned_parts e n t s y h =
     let q = ok_parts (term_of e s.scope t s.popped) (λ v. Ok (one_step (steps.Set p.0 v), record (one_more s) { popped = s.popped + pops t })) y p.2 in
     record { room = counted_room s (λ s. on_ok (slot_of (find s.scope n)) (λ i. on_ok (term_of e s.scope t s.popped) (λ v. Ok (one_step (steps.Set i v), record s { popped = s.popped + pops t })))) y h; slot = p.0; value = q.0; found = slot_found (find s.scope n) p.0 p.1; value_is = q.1; is = sym (ok_is (one_step (steps.Set p.0 q.0), record s { popped = s.popped + pops t; size = s.size + 1 }) y q.2) }
 
-pub record Pushed (e : ℕ) (t : Spoken) (s : At) (y : Steps × At) : Type 0 where
+pub record Pushed (e : ℕ) (t : Expression) (s : At) (y : Steps × At) : Type 0 where
   pub room : s.size < 16384
   pub value : Term
   pub value_is : term_of e s.scope t s.popped ≡ Ok value
   pub is : y ≡ (one_step (steps.Push 0 (value ∷ [])), record s { popped = s.popped + pops t; pushed = s.pushed + 1; size = s.size + 1 })
 
 -- of a push
-pub pushed_parts : (e : ℕ) (t : Spoken) (s : At) (y : Steps × At) → step_of e (Push t) s ≡ Ok y → Pushed e t s y
+pub pushed_parts : (e : ℕ) (t : Expression) (s : At) (y : Steps × At) → step_of e (Push t) s ≡ Ok y → Pushed e t s y
 unfolding one_more
 pushed_parts e t s y h =
     let c = counted_on s (λ s. on_ok (term_of e s.scope t s.popped) (λ v. Ok (one_step (steps.Push 0 (v ∷ [])), record s { popped = s.popped + pops t; pushed = s.pushed + 1 }))) y h in
@@ -412,14 +408,14 @@ pushed_parts e t s y h =
     record { room = counted_room s (λ s. on_ok (term_of e s.scope t s.popped) (λ v. Ok (one_step (steps.Push 0 (v ∷ [])), record s { popped = s.popped + pops t; pushed = s.pushed + 1 }))) y h; value = q.0; value_is = q.1; is = sym (ok_is (one_step (steps.Push 0 (q.0 ∷ [])), record s { popped = s.popped + pops t; pushed = s.pushed + 1; size = s.size + 1 }) y q.2) }
 
 -- before the arms
-unfoldable pub at_arm : Spoken → At → At
+unfoldable pub at_arm : Expression → At → At
 at_arm t s = record s { popped = s.popped + pops t; size = s.size + 1 }
 
 -- before the second arm
-unfoldable pub at_second : Spoken → At → At → At
+unfoldable pub at_second : Expression → At → At → At
 at_second t s p = record s { popped = s.popped + pops t; slots = p.slots; size = p.size }
 
-pub record Forked (e : ℕ) (t : Spoken) (a : Block) (b : Optional) (s : At) (y : Steps × At) : Type 0 where
+pub record Forked (e : ℕ) (t : Expression) (a : Block) (b : Optional) (s : At) (y : Steps × At) : Type 0 where
   pub room : s.size < 16384
   pub test : Term
   pub one : Steps × At
@@ -432,7 +428,7 @@ pub record Forked (e : ℕ) (t : Spoken) (a : Block) (b : Optional) (s : At) (y 
   pub is : y ≡ (one_step (steps.If test one.0 two.0), left s two.1)
 
 -- of an `if`
-pub forked_parts : (e : ℕ) (t : Spoken) (a : Block) (b : Optional) (s : At) (y : Steps × At) → step_of e (If t a b) s ≡ Ok y → Forked e t a b s y
+pub forked_parts : (e : ℕ) (t : Expression) (a : Block) (b : Optional) (s : At) (y : Steps × At) → step_of e (If t a b) s ≡ Ok y → Forked e t a b s y
 unfolding one_more left at_arm at_second
 forked_parts e t a b s y h =
     let after = λ (s : At) (c : Term). on_ok (steps_of e a (record s { popped = s.popped + pops t })) (λ p. on_ok (optional_of e b (record s { popped = s.popped + pops t; slots = p.1.slots; size = p.1.size })) (after_arms s c p)) in
@@ -447,7 +443,7 @@ forked_parts e t a b s y h =
     same_by : (m n : ℕ) → nat_eq m n ≡ true → m ≡ n
     same_by m n h = grind (arith, h)
 
-pub record Looped (e : ℕ) (n : Name) (low : Spoken) (upto : Bool) (high : Spoken) (b : Block) (s : At) (y : Steps × At) : Type 0 where
+pub record Looped (e : ℕ) (n : Name) (low : Expression) (upto : Bool) (high : Expression) (b : Block) (s : At) (y : Steps × At) : Type 0 where
   pub first : ℤ
   pub last : ℤ
   pub new : find s.scope n ≡ None
@@ -456,7 +452,7 @@ pub record Looped (e : ℕ) (n : Name) (low : Spoken) (upto : Bool) (high : Spok
   pub is : unrolled (steps_of e b) n (turns_between first upto last) s ≡ Ok y
 
 -- of a loop
-pub looped_parts : (e : ℕ) (n : Name) (low : Spoken) (upto : Bool) (high : Spoken) (b : Block) (s : At) (y : Steps × At)
+pub looped_parts : (e : ℕ) (n : Name) (low : Expression) (upto : Bool) (high : Expression) (b : Block) (s : At) (y : Steps × At)
     → step_of e (For n low upto high b) s ≡ Ok y → Looped e n low upto high b s y
 looped_parts e n low upto high b s y h =
     let f4 = λ (l m : ℕ). unrolled (steps_of e b) n (numbers l (m + (if upto then 1 else 0) - l)) s in
@@ -496,6 +492,7 @@ followed_parts e c b s y h =
 mutual
   unfolding left at_arm at_second
 
+  -- reading a statement leaves what was known
   pub step_grows : (e : ℕ) (c : Statement) → Grown (step_of e c)
   step_grows e (Declare n t) s y h =
       let p = declared_parts e n t s y h in
@@ -506,7 +503,7 @@ mutual
   step_grows e (Push t) s y h =
       let p = pushed_parts e t s y h in
       subst (λ r. Grows s r.1) (sym p.is) (grows_same s (record s { popped = s.popped + pops t; pushed = s.pushed + 1; size = s.size + 1 }) refl refl)
-  step_grows e Pop s y h =
+  step_grows e Discard s y h =
       subst (λ r. Grows s r.1) (ok_is (Done, record s { popped = s.popped + 1 }) y h) (grows_same s (record s { popped = s.popped + 1 }) refl refl)
   step_grows e (If t a b) s y h =
       let p = forked_parts e t a b s y h in
@@ -517,12 +514,14 @@ mutual
       let p = looped_parts e n low upto high b s y h in
       unrolled_grows (steps_of e b) (steps_grow e b) n (turns_between p.first upto p.last) s y p.new p.is
 
+  -- and so does reading a block
   pub steps_grow : (e : ℕ) (b : Block) → Grown (steps_of e b)
   steps_grow e End s y h = subst (λ r. Grows s r.1) (ok_is (Done, s) y h) (grows_same s s refl refl)
   steps_grow e (Then c b) s y h =
       let p = followed_parts e c b s y h in
       subst (λ r. Grows s r.1) (sym p.is) (grows_trans s p.first.1 p.others.1 (step_grows e c s p.first p.first_is) (steps_grow e b p.first.1 p.others p.others_is))
 
+  -- and one that may be left out
   pub optional_grows : (e : ℕ) (b : Optional) → Grown (optional_of e b)
   optional_grows e Unwritten s y h = subst (λ r. Grows s r.1) (ok_is (Done, s) y h) (grows_same s s refl refl)
   optional_grows e (Written b) s y h = steps_grow e b s y h
@@ -530,15 +529,15 @@ mutual
 -- WHAT IS DONE
 
 -- from n to n' the block does what the run does, and the reading ended at s'
-pub record DoesBy (r : Ran) (s' : At) (n n' : Now) : Type 0 where
+pub record DoesBy (r : Ran) (s' : At) (n n' : State) : Type 0 where
   pub pushed : n'.pushed ≡ n.pushed ++ first_values r.pushes
   pub popped : n'.popped ≡ s'.popped
   pub agrees : Agrees s'.scope n'.values r.slots
 
 -- what is done by code, wherever the reading began
-abbrev pub Met : List ℤ → (At → Read) → (Now → Now) → Type 0
+abbrev pub Met : List ℤ → (At → Read) → (State → State) → Type 0
 Met xs f g =
-    (s : At) (y : Steps × At) (mem : List ℤ) (n : Now) → f s ≡ Ok y → IsSound s.scope s.slots → Agrees s.scope n.values mem → n.popped ≡ s.popped
+    (s : At) (y : Steps × At) (mem : List ℤ) (n : State) → f s ≡ Ok y → IsSound s.scope s.slots → Agrees s.scope n.values mem → n.popped ≡ s.popped
     → y.1.slots ≤ length mem → DoesBy (ran y.0 xs mem) y.1 n (g n)
 
 values-append : (ps qs : List (ℕ × List ℤ)) → first_values (ps ++ qs) ≡ first_values ps ++ first_values qs
@@ -557,7 +556,7 @@ ran_joined (steps.Then c a) b xs mem =
     ap (λ r. after_both one r) (ran_joined a b xs one.slots)
     ∙ ap (λ l. record { pushes = l; slots = (ran b xs rest.slots).slots }) (sym (append_assoc one.pushes rest.pushes (ran b xs rest.slots).pushes))
 
-does_both : (a b : Steps) (xs mem : List ℤ) (s t : At) (n m o : Now) → DoesBy (ran a xs mem) s n m → DoesBy (ran b xs (ran a xs mem).slots) t m o
+does_both : (a b : Steps) (xs mem : List ℤ) (s t : At) (n m o : State) → DoesBy (ran a xs mem) s n m → DoesBy (ran b xs (ran a xs mem).slots) t m o
     → DoesBy (ran (joined a b) xs mem) t n o
 unfolding after_both
 does_both a b xs mem s t n m o f g =
@@ -571,24 +570,24 @@ does_both a b xs mem s t n m o f g =
       agrees = g.agrees;
     })
 
-does_one : (c : Step) (xs mem : List ℤ) (s : At) (n m : Now) → DoesBy (ran_once c xs mem) s n m → DoesBy (ran (one_step c) xs mem) s n m
+does_one : (c : Step) (xs mem : List ℤ) (s : At) (n m : State) → DoesBy (ran_once c xs mem) s n m → DoesBy (ran (one_step c) xs mem) s n m
 does_one c xs mem s n m d =
     record { pushed = d.pushed ∙ ap (λ l. n.pushed ++ first_values l) (sym (append-nil (ran_once c xs mem).pushes)); popped = d.popped; agrees = d.agrees }
 
-does_left : (r : Ran) (s t : At) (n m : Now) → Keeps s.scope t.scope → DoesBy r t n m → DoesBy r (left s t) n m
+does_left : (r : Ran) (s t : At) (n m : State) → Keeps s.scope t.scope → DoesBy r t n m → DoesBy r (left s t) n m
 unfolding left
 does_left r s t n m k d = record { pushed = d.pushed; popped = d.popped; agrees = agrees_within s.scope t.scope m.values r.slots k d.agrees }
 
 -- whichever arm is taken
-does_arm : (b : Bool) (r q : Ran) (s : At) (n m o : Now) → DoesBy r s n m → DoesBy q s n o → DoesBy (if b then r else q) s n (if b then m else o)
+does_arm : (b : Bool) (r q : Ran) (s : At) (n m o : State) → DoesBy r s n m → DoesBy q s n o → DoesBy (if b then r else q) s n (if b then m else o)
 does_arm true r q s n m o f g = f
 does_arm false r q s n m o f g = g
 
-turn_now : Name → ℕ → Now → Now
+turn_now : Name → ℕ → State → State
 turn_now n v t = record t { values = at_name n (pos v) t.values }
 
-unrolled_met : (xs : List ℤ) (block : At → Read) (src : Now → Now) → Grown block → Met xs block src
-    → (n : Name) (vs : List ℕ) (s : At) (y : Steps × At) (mem : List ℤ) (t : Now)
+unrolled_met : (xs : List ℤ) (block : At → Read) (src : State → State) → Grown block → Met xs block src
+    → (n : Name) (vs : List ℕ) (s : At) (y : Steps × At) (mem : List ℤ) (t : State)
     → find s.scope n ≡ None → unrolled block n vs s ≡ Ok y → IsSound s.scope s.slots → Agrees s.scope t.values mem → t.popped ≡ s.popped
     → y.1.slots ≤ length mem → DoesBy (ran y.0 xs mem) y.1 t (each_turn src n vs t)
 unfolding left turning turn_now
@@ -611,19 +610,19 @@ unrolled_met xs block src g d n (v ∷ vs) s y mem t new h ok a e le =
     let rest = unrolled_met xs block src g d n vs (left s first.1) p.others (ran first.0 xs mem).slots (src now) new p.others_is (more_slots s.scope s.slots first.1.slots (omega (arith, l0, l1)) ok) out.agrees out.popped (omega (arith, le', len)) in
     subst (λ (r : Steps × At). DoesBy (ran r.0 xs mem) r.1 t (each_turn src n (v ∷ vs) t)) (sym p.is) (does_both first.0 p.others.0 xs mem (left s first.1) p.others.1 t (src now) (each_turn src n (v ∷ vs) t) out rest)
 
-first_value_is : (e : ℕ) (t : Option Spoken) (s : At) (v : Term) (xs mem : List ℤ) (n : Now) → Agrees s.scope n.values mem → n.popped ≡ s.popped
+first_value_is : (e : ℕ) (t : Option Expression) (s : At) (v : Term) (xs mem : List ℤ) (n : State) → Agrees s.scope n.values mem → n.popped ≡ s.popped
     → first_term e t s ≡ Ok v → first_value t xs n ≡ val v xs mem
 first_value_is e None s v xs mem n a p h = ap (λ u. val u xs mem) (ok_is (term.Const (pos 0)) v h)
-first_value_is e (Some t) s v xs mem n a p h = ap (said t xs n.values) p ∙ term_is e s.scope t xs n.values mem s.popped v a h
+first_value_is e (Some t) s v xs mem n a p h = ap (eval t xs n.values) p ∙ term_is e s.scope t xs n.values mem s.popped v a h
 
-first_pops_is : (t : Option Spoken) → first_pops t ≡ first_popped t
+first_pops_is : (t : Option Expression) → first_pops t ≡ first_popped t
 first_pops_is None = refl
 first_pops_is (Some t) = refl
 
 mutual
   unfolding left at_arm at_second
 
-  pub step_met : (e : ℕ) (xs : List ℤ) (c : Statement) → Met xs (step_of e c) (does c xs)
+  pub step_met : (e : ℕ) (xs : List ℤ) (c : Statement) → Met xs (step_of e c) (exec c xs)
   step_met e xs (Declare n t) s y mem now h ok a q le =
       let p = declared_parts e n t s y h in
       let v = val p.value xs mem in
@@ -631,8 +630,8 @@ mutual
       let sc = (n, Var s.slots) ∷ s.scope in
       let le' : s.slots + 1 ≤ length mem = subst (λ (r : Steps × At). r.1.slots ≤ length mem) p.is le in
       let holds = agrees_set n s.slots v sc (s.slots + 1) now.values mem (sound_var n s.scope s.slots ok) le' (found_here n n (Var s.slots) s.scope (name_self n)) (λ m b ne f. a.each m b (sym (found_other n m (Var s.slots) s.scope ne) ∙ f)) in
-      subst (λ (r : Steps × At). DoesBy (ran r.0 xs mem) r.1 now (does (Declare n t) xs now)) (sym p.is)
-      (does_one (steps.Set s.slots p.value) xs mem _ now (does (Declare n t) xs now) (record {
+      subst (λ (r : Steps × At). DoesBy (ran r.0 xs mem) r.1 now (exec (Declare n t) xs now)) (sym p.is)
+      (does_one (steps.Set s.slots p.value) xs mem _ now (exec (Declare n t) xs now) (record {
         pushed = sym (append-nil now.pushed);
         popped = ap (λ k. k + first_pops t) q ∙ ap (λ k. s.popped + k) (first_pops_is t);
         agrees = subst (λ z. Agrees sc (at_name n z now.values) (slice_set mem s.slots v)) (sym same) holds;
@@ -640,26 +639,26 @@ mutual
   step_met e xs (Assign n t) s y mem now h ok a q le =
       let p = assigned_parts e n t s y h in
       let v = val p.value xs mem in
-      let same = ap (said t xs now.values) q ∙ term_is e s.scope t xs now.values mem s.popped p.value a p.value_is in
+      let same = ap (eval t xs now.values) q ∙ term_is e s.scope t xs now.values mem s.popped p.value a p.value_is in
       let le' : s.slots ≤ length mem = subst (λ (r : Steps × At). r.1.slots ≤ length mem) p.is le in
       let holds = agrees_set n p.slot v s.scope s.slots now.values mem ok le' p.found (λ m b ne f. a.each m b f) in
-      subst (λ (r : Steps × At). DoesBy (ran r.0 xs mem) r.1 now (does (Assign n t) xs now)) (sym p.is)
-      (does_one (steps.Set p.slot p.value) xs mem _ now (does (Assign n t) xs now) (record {
+      subst (λ (r : Steps × At). DoesBy (ran r.0 xs mem) r.1 now (exec (Assign n t) xs now)) (sym p.is)
+      (does_one (steps.Set p.slot p.value) xs mem _ now (exec (Assign n t) xs now) (record {
         pushed = sym (append-nil now.pushed);
         popped = ap (λ k. k + pops t) q;
         agrees = subst (λ z. Agrees s.scope (at_name n z now.values) (slice_set mem p.slot v)) (sym same) holds;
       }))
   step_met e xs (Push t) s y mem now h ok a q le =
       let p = pushed_parts e t s y h in
-      let same = ap (said t xs now.values) q ∙ term_is e s.scope t xs now.values mem s.popped p.value a p.value_is in
-      subst (λ (r : Steps × At). DoesBy (ran r.0 xs mem) r.1 now (does (Push t) xs now)) (sym p.is)
-      (does_one (steps.Push 0 (p.value ∷ [])) xs mem _ now (does (Push t) xs now) (record {
+      let same = ap (eval t xs now.values) q ∙ term_is e s.scope t xs now.values mem s.popped p.value a p.value_is in
+      subst (λ (r : Steps × At). DoesBy (ran r.0 xs mem) r.1 now (exec (Push t) xs now)) (sym p.is)
+      (does_one (steps.Push 0 (p.value ∷ [])) xs mem _ now (exec (Push t) xs now) (record {
         pushed = ap (λ z. now.pushed ++ z ∷ []) same;
         popped = ap (λ k. k + pops t) q;
         agrees = a;
       }))
-  step_met e xs Pop s y mem now h ok a q le =
-      subst (λ (r : Steps × At). DoesBy (ran r.0 xs mem) r.1 now (does Pop xs now)) (ok_is (Done, record s { popped = s.popped + 1 }) y h)
+  step_met e xs Discard s y mem now h ok a q le =
+      subst (λ (r : Steps × At). DoesBy (ran r.0 xs mem) r.1 now (exec Discard xs now)) (ok_is (Done, record s { popped = s.popped + 1 }) y h)
       (record { pushed = sym (append-nil now.pushed); popped = ap (λ k. k + 1) q; agrees = a })
   step_met e xs (If t a b) s y mem now h ok ag q le =
       let p = forked_parts e t a b s y h in
@@ -673,22 +672,23 @@ mutual
       let da = steps_met e xs a (at_arm t s) p.one mem on p.one_is ok ag q' (omega (arith, le', lb)) in
       let db = optional_met e xs b (at_second t s p.one.1) p.two mem on p.two_is (more_slots s.scope s.slots p.one.1.slots la ok) ag q' le' in
       let out = left s p.two.1 in
-      let one : DoesBy (ran p.one.0 xs mem) out now (do_all a xs on) = record { pushed = da.pushed; popped = da.popped ∙ p.popped; agrees = agrees_within s.scope p.one.1.scope (do_all a xs on).values (ran p.one.0 xs mem).slots ga.keeps da.agrees } in
-      let two : DoesBy (ran p.two.0 xs mem) out now (do_optional b xs on) = record { pushed = db.pushed; popped = db.popped; agrees = agrees_within s.scope p.two.1.scope (do_optional b xs on).values (ran p.two.0 xs mem).slots gb.keeps db.agrees } in
-      let same = ap (said t xs now.values) q ∙ term_is e s.scope t xs now.values mem s.popped p.test ag p.test_is in
-      subst (λ (r : Steps × At). DoesBy (ran r.0 xs mem) r.1 now (does (If t a b) xs now)) (sym p.is)
-      (does_one (steps.If p.test p.one.0 p.two.0) xs mem out now (does (If t a b) xs now)
-      (subst (λ z. DoesBy (ran_once (steps.If p.test p.one.0 p.two.0) xs mem) out now (if is_true z then do_all a xs on else do_optional b xs on)) (sym same)
-      (does_arm (is_true (val p.test xs mem)) (ran p.one.0 xs mem) (ran p.two.0 xs mem) out now (do_all a xs on) (do_optional b xs on) one two)))
+      let one : DoesBy (ran p.one.0 xs mem) out now (exec_all a xs on) = record { pushed = da.pushed; popped = da.popped ∙ p.popped; agrees = agrees_within s.scope p.one.1.scope (exec_all a xs on).values (ran p.one.0 xs mem).slots ga.keeps da.agrees } in
+      let two : DoesBy (ran p.two.0 xs mem) out now (exec_optional b xs on) = record { pushed = db.pushed; popped = db.popped; agrees = agrees_within s.scope p.two.1.scope (exec_optional b xs on).values (ran p.two.0 xs mem).slots gb.keeps db.agrees } in
+      let same = ap (eval t xs now.values) q ∙ term_is e s.scope t xs now.values mem s.popped p.test ag p.test_is in
+      subst (λ (r : Steps × At). DoesBy (ran r.0 xs mem) r.1 now (exec (If t a b) xs now)) (sym p.is)
+      (does_one (steps.If p.test p.one.0 p.two.0) xs mem out now (exec (If t a b) xs now)
+      (subst (λ z. DoesBy (ran_once (steps.If p.test p.one.0 p.two.0) xs mem) out now (if is_true z then exec_all a xs on else exec_optional b xs on)) (sym same)
+      (does_arm (is_true (val p.test xs mem)) (ran p.one.0 xs mem) (ran p.two.0 xs mem) out now (exec_all a xs on) (exec_optional b xs on) one two)))
   step_met e xs (For n low upto high b) s y mem now h ok a q le =
       let p = looped_parts e n low upto high b s y h in
       let l = constant_is s.scope low xs now.values mem now.popped p.first a p.first_is in
       let u = constant_is s.scope high xs now.values mem now.popped p.last a p.last_is in
-      subst (λ vs. DoesBy (ran y.0 xs mem) y.1 now (each_turn (do_all b xs) n vs now))
-      (ap (λ z. turns_between z upto p.last) (sym l) ∙ ap (turns_between (said low xs now.values now.popped) upto) (sym u))
-      (unrolled_met xs (steps_of e b) (do_all b xs) (steps_grow e b) (steps_met e xs b) n (turns_between p.first upto p.last) s y mem now p.new p.is ok a q le)
+      subst (λ vs. DoesBy (ran y.0 xs mem) y.1 now (each_turn (exec_all b xs) n vs now))
+      (ap (λ z. turns_between z upto p.last) (sym l) ∙ ap (turns_between (eval low xs now.values now.popped) upto) (sym u))
+      (unrolled_met xs (steps_of e b) (exec_all b xs) (steps_grow e b) (steps_met e xs b) n (turns_between p.first upto p.last) s y mem now p.new p.is ok a q le)
 
-  pub steps_met : (e : ℕ) (xs : List ℤ) (b : Block) → Met xs (steps_of e b) (do_all b xs)
+  -- the statements that a block becomes do what the block does
+  pub steps_met : (e : ℕ) (xs : List ℤ) (b : Block) → Met xs (steps_of e b) (exec_all b xs)
   steps_met e xs End s y mem now h ok a q le =
       subst (λ (r : Steps × At). DoesBy (ran r.0 xs mem) r.1 now now) (ok_is (Done, s) y h) (record { pushed = sym (append-nil now.pushed); popped = q; agrees = a })
   steps_met e xs (Then c b) s y mem now h ok a q le =
@@ -699,10 +699,10 @@ mutual
       let le' : p.others.1.slots ≤ length mem = subst (λ (r : Steps × At). r.1.slots ≤ length mem) p.is le in
       let one = step_met e xs c s p.first mem now p.first_is ok a q (omega (arith, le', lo)) in
       let len = ran_length p.first.0 xs mem in
-      let rest = steps_met e xs b p.first.1 p.others (ran p.first.0 xs mem).slots (does c xs now) p.others_is (gf.sound ok) one.agrees one.popped (omega (arith, le', len)) in
-      subst (λ (r : Steps × At). DoesBy (ran r.0 xs mem) r.1 now (do_all b xs (does c xs now))) (sym p.is) (does_both p.first.0 p.others.0 xs mem p.first.1 p.others.1 now (does c xs now) (do_all b xs (does c xs now)) one rest)
+      let rest = steps_met e xs b p.first.1 p.others (ran p.first.0 xs mem).slots (exec c xs now) p.others_is (gf.sound ok) one.agrees one.popped (omega (arith, le', len)) in
+      subst (λ (r : Steps × At). DoesBy (ran r.0 xs mem) r.1 now (exec_all b xs (exec c xs now))) (sym p.is) (does_both p.first.0 p.others.0 xs mem p.first.1 p.others.1 now (exec c xs now) (exec_all b xs (exec c xs now)) one rest)
 
-  pub optional_met : (e : ℕ) (xs : List ℤ) (b : Optional) → Met xs (optional_of e b) (do_optional b xs)
+  pub optional_met : (e : ℕ) (xs : List ℤ) (b : Optional) → Met xs (optional_of e b) (exec_optional b xs)
   optional_met e xs Unwritten s y mem now h ok a q le =
       subst (λ (r : Steps × At). DoesBy (ran r.0 xs mem) r.1 now now) (ok_is (Done, s) y h) (record { pushed = sym (append-nil now.pushed); popped = q; agrees = a })
   optional_met e xs (Written b) s y mem now h ok a q le = steps_met e xs b s y mem now h ok a q le

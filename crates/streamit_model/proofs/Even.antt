@@ -3,14 +3,14 @@ use Rattle.std.proofs.Common.{◌≡◌, ℕ, ◌+◌, List, [], ◌∷◌, ◌+
 use Rattle.river_base.specs.Name.{name_eq}
 use Rattle.river_plan.specs.Forms.{Name}
 use Rattle.river_plan.specs.Names.{one_if, count}
-use Rattle.text_forms.specs.Tree.{Spoken}
-use Rattle.text_forms.specs.Tree as tree
+use Rattle.streamit_text.specs.Tree.{Expression, Statement, Declare, Assign, Push, Discard, If, For, Block, End, Then, Optional, Unwritten, Written}
+use Rattle.streamit_text.specs.Tree as tree
 use Rattle.brooklet_model.specs.Machine.{at_name}
 use Rattle.std.specs.Prelude.{pos}
-use Rattle.streamit_model.specs.Source.{Statement, Declare, Assign, Push, Pop, If, For, Block, End, Then, Optional, Unwritten, Written, Values, turns_between}
-use Rattle.streamit_model.specs.Words.{Word, Knows, Leaves, Uses, Fixes, Varies, Foreign, Pops, Peeks, Bounds, Loops, Exits, Pushes}
-use Rattle.streamit_model.specs.Words.{Otherwise, Joins, over, knows, leaves, enters, exits, popped_in, pushed_in}
-use Rattle.streamit_model.specs.Text.{fixed, fixed_value, spelled, spelled_first, locals_of, enclosed, turning, arms, read_of, all_read, optional_read}
+use Rattle.streamit_model.specs.Meaning.{Values, turns_between}
+use Rattle.streamit_model.specs.Words.{Word, Knows, Leaves, Uses, Fixes, Varies, Pops, Peeks, Bounds, Loops, Exits, Pushes, Otherwise, Joins, over, knows}
+use Rattle.streamit_model.specs.Words.{leaves, enters, exits, popped_in, pushed_in}
+use Rattle.streamit_model.specs.Text.{fixed, fixed_value, spelled, spelled_first, locals_of, with_end, turning, arms, read_of, all_read, optional_read}
 use Rattle.streamit_model.proofs.Standing.{over-append, IsEven, even-append, leaves_nothing}
 
 pub even_nil : IsEven []
@@ -20,22 +20,18 @@ even_nil n = (refl, refl)
 pub even_cons : (w : Word) (ws : List Word) → ((n : Name) → (knows n w ≡ leaves n w) × (enters n w ≡ exits n w)) → IsEven ws → IsEven (w ∷ ws)
 even_cons w ws h even n = let a = (h n).0 in let b = (h n).1 in let p = (even n).0 in let q = (even n).1 in (omega (arith, a, p), omega (arith, b, q))
 
-pub even_fixed : (t : Spoken) → IsEven (fixed t)
+pub even_fixed : (t : Expression) → IsEven (fixed t)
 even_fixed (tree.Number v) = even_nil
 even_fixed (tree.Name m) = even_cons (Fixes m) [] (λ n. (refl, refl)) even_nil
-even_fixed (tree.Input p) = even_cons Varies [] (λ n. (refl, refl)) even_nil
-even_fixed (tree.Slot p) = even_cons Varies [] (λ n. (refl, refl)) even_nil
 even_fixed (tree.Peek t) = even_cons Varies [] (λ n. (refl, refl)) even_nil
 even_fixed tree.Pop = even_cons Varies [] (λ n. (refl, refl)) even_nil
 even_fixed (tree.Neg t) = even_fixed t
 even_fixed (tree.Not t) = even_fixed t
 even_fixed (tree.Bin o l r) = even-append (fixed l) (fixed r) (even_fixed l) (even_fixed r)
 
-pub even_spelled : (t : Spoken) (turns : Values) → IsEven (spelled t turns)
+pub even_spelled : (t : Expression) (turns : Values) → IsEven (spelled t turns)
 even_spelled (tree.Number v) turns = even_nil
 even_spelled (tree.Name m) turns = even_cons (Uses m) [] (λ n. (refl, refl)) even_nil
-even_spelled (tree.Input p) turns = even_cons Foreign [] (λ n. (refl, refl)) even_nil
-even_spelled (tree.Slot p) turns = even_cons Foreign [] (λ n. (refl, refl)) even_nil
 even_spelled (tree.Peek t) turns =
     even-append (fixed t) (Peeks (fixed_value t turns) ∷ []) (even_fixed t) (even_cons (Peeks (fixed_value t turns)) [] (λ n. (refl, refl)) even_nil)
 even_spelled tree.Pop turns = even_cons Pops [] (λ n. (refl, refl)) even_nil
@@ -43,7 +39,7 @@ even_spelled (tree.Neg t) turns = even_spelled t turns
 even_spelled (tree.Not t) turns = even_spelled t turns
 even_spelled (tree.Bin o l r) turns = even-append (spelled l turns) (spelled r turns) (even_spelled l turns) (even_spelled r turns)
 
-even_first : (t : Option Spoken) (turns : Values) → IsEven (spelled_first t turns)
+even_first : (t : Option Expression) (turns : Values) → IsEven (spelled_first t turns)
 even_first None turns = even_nil
 even_first (Some t) turns = even_spelled t turns
 
@@ -56,7 +52,7 @@ abbrev pub IsBlockEven : List Word → Block → Type 0
 IsBlockEven ws b = (n : Name) → (over (knows n) ws ≡ over (leaves n) ws + count n (locals_of b)) × (over (enters n) ws ≡ over (exits n) ws)
 
 -- with its end
-pub even_enclosed : (b : Block) (ws : List Word) → IsBlockEven ws b → IsEven (enclosed b ws)
+pub even_enclosed : (b : Block) (ws : List Word) → IsBlockEven ws b → IsEven (with_end b ws)
 even_enclosed b ws h n =
     let ns = locals_of b in
     let p = (h n).0 in let q = (h n).1 in
@@ -104,20 +100,20 @@ mutual
   even_statement (Push t) turns n b =
       let even = even-append (spelled t turns) (Pushes ∷ []) (even_spelled t turns) (even_cons Pushes [] (λ n. (refl, refl)) even_nil) in
       let p = (even n).0 in let q = (even n).1 in (omega (arith, p), omega (arith, q))
-  even_statement Pop turns n b = (omega arith, refl)
+  even_statement Discard turns n b = (omega arith, refl)
   even_statement (If t a o) turns n b =
-      let even = even-append (spelled t turns) (arms (enclosed a (all_read a turns)) (optional_read o turns)) (even_spelled t turns)
-      (even_arms (enclosed a (all_read a turns)) (optional_read o turns) (even_enclosed a (all_read a turns) (even_all a turns)) (even_optional o turns)) in
+      let even = even-append (spelled t turns) (arms (with_end a (all_read a turns)) (optional_read o turns)) (even_spelled t turns)
+      (even_arms (with_end a (all_read a turns)) (optional_read o turns) (even_enclosed a (all_read a turns) (even_all a turns)) (even_optional o turns)) in
       let p = (even n).0 in let q = (even n).1 in (omega (arith, p), omega (arith, q))
   even_statement (For m low upto high c) turns n b =
       let l = fixed_value low turns in let h = fixed_value high turns in
-      let inside = even_turns m (λ inner. enclosed c (all_read c inner)) (turns_between l upto h) turns
+      let inside = even_turns m (λ inner. with_end c (all_read c inner)) (turns_between l upto h) turns
       (λ inner. even_enclosed c (all_read c inner) (even_all c inner)) in
       let even = even_cons (Loops m) _ (λ n. (refl, refl))
-      (even-append (fixed low) (Bounds l ∷ (fixed high ++ Bounds h ∷ turning m (λ inner. enclosed c (all_read c inner)) (turns_between l upto h) turns))
+      (even-append (fixed low) (Bounds l ∷ (fixed high ++ Bounds h ∷ turning m (λ inner. with_end c (all_read c inner)) (turns_between l upto h) turns))
       (even_fixed low)
       (even_cons (Bounds l) _ (λ n. (refl, refl))
-      (even-append (fixed high) (Bounds h ∷ turning m (λ inner. enclosed c (all_read c inner)) (turns_between l upto h) turns) (even_fixed high)
+      (even-append (fixed high) (Bounds h ∷ turning m (λ inner. with_end c (all_read c inner)) (turns_between l upto h) turns) (even_fixed high)
       (even_cons (Bounds h) _ (λ n. (refl, refl)) inside)))) in
       let p = (even n).0 in let q = (even n).1 in (omega (arith, p), omega (arith, q))
 
@@ -134,5 +130,6 @@ mutual
   even_optional Unwritten turns = even_nil
   even_optional (Written b) turns = even_enclosed b (all_read b turns) (even_all b turns)
 
-pub even_block : (b : Block) (turns : Values) → IsEven (enclosed b (all_read b turns))
+-- behind a block as much is known as before it
+pub even_block : (b : Block) (turns : Values) → IsEven (with_end b (all_read b turns))
 even_block b turns = even_enclosed b (all_read b turns) (even_all b turns)

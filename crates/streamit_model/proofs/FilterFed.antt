@@ -15,7 +15,7 @@ use Rattle.kern_rows.proofs.Given.{given_items, ran_values}
 use Rattle.river_kernels.specs.Kern.{filter}
 use Rattle.brooklet_model.specs.Firings.{Buffered, Fired, feed}
 use Rattle.brooklet_model.specs.Fire.{fire, filter_fired}
-use Rattle.streamit_model.specs.Filters.{firing, firings_from, filtered}
+use Rattle.streamit_model.specs.UnrolledFilters.{firing, firings_from, filtered}
 use Rattle.streamit_model.specs.Laws.{as_items}
 
 if_le : {A : Type 0} (a b : ℕ) (x y : A) → a ≤ b → (if nat_le a b then x else y) ≡ x
@@ -104,6 +104,7 @@ module _ (f : FilterForm) (can : CanFilter f) where
       (λ m e. fed xs (ys ++ x ∷ []) m (suc k) r.slots few (omega (arith, l, fuel, e)) ∙ ap (λ l. as_items (firings_from f m (suc k) r.slots l)) (append_assoc ys (x ∷ []) xs)))
       (cases_lt (length ys + 1) (k * f.pop + f.peek))
 
+-- fed with the items of an input, the kernel of a filter gives what its firings on the list give
 pub filter_fed : (f : FilterForm) (xs : List ℤ) → CanFilter f
     → (feed (fire (filter f) 0) (as_items xs) (Buffered (state [] 0 f.starts) ∷ [])).outs 0 ≡ as_items (filtered f xs)
 filter_fed f xs can = let p = can.pops in let q = can.peeks in fed f can xs [] (length xs) 0 f.starts (omega (arith, p, q)) (omega arith)

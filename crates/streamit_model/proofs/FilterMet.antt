@@ -13,11 +13,13 @@ use Rattle.kern_rows.proofs.Lengths.{ran_length, run_kept_length}
 use Rattle.river_plan.specs.Forms.{Name}
 use Rattle.river_plan.proofs.NameLemmas.{cases_name, name_same}
 use Rattle.brooklet_model.specs.Machine.{at_name}
-use Rattle.streamit_model.specs.Source.{Block, Values, do_all, End, Now, do_optional, Optional, Unwritten, Written}
+use Rattle.streamit_text.specs.Tree.{Block, End, Optional, Unwritten, Written}
+use Rattle.streamit_model.specs.Meaning.{Values, exec_all, State, exec_optional, push_of, pop_of, peek_of, nought, with_fields, at_start, initial, fires}
+use Rattle.streamit_model.specs.Meaning.{fires_from, pushed_by}
 use Rattle.streamit_model.specs.Elaborate.{Rates, Limit, on_ok, demand, Var, Scope, find, is_new, has_slot, At, steps_of, optional_of}
-use Rattle.streamit_model.specs.FilterSource.{FilterTree, push_of, pop_of, peek_of, nought, with_fields, at_start, initial, fires, fires_from, pushed_by}
-use Rattle.streamit_model.specs.FilterSource.{read_field, read_fields, nothing_read, starts_of, form_of, rates_of, kept_rates, elaborated}
-use Rattle.streamit_model.specs.Filters.{firings_from, filtered}
+use Rattle.streamit_text.specs.Program.{FilterTree}
+use Rattle.streamit_model.specs.ElaborateFilter.{read_field, read_fields, nothing_read, starts_of, elaborated_form, judged_rates, kept_rates, elaborated}
+use Rattle.streamit_model.specs.UnrolledFilters.{firings_from, filtered}
 use Rattle.streamit_model.proofs.Elaborated.{fine, ok_parts, ok_is, demanded, new_is, some_is, found_here, found_other, at_here, at_other, Holds, Agrees}
 use Rattle.streamit_model.proofs.Elaborated.{IsSound, Keeps, keeps_new, sound_var, steps_grow, steps_met}
 
@@ -51,6 +53,7 @@ pub record Read (fs : List Name) (s s' : At) : Type 0 where
   pub pushed : s'.pushed ≡ s.pushed
   pub size : s'.size ≡ s.size
 
+-- what is known behind the fields
 pub fields_read : (fs : List Name) (s s' : At) → read_fields fs s ≡ Ok s' → Read fs s s'
 unfolding next
 fields_read [] s s' h =
@@ -67,6 +70,7 @@ fields_read (f ∷ fs) s s' h =
       size = r.size;
     }
 
+-- fields take no more slots than there are
 pub fields_few : (fs : List Name) (s s' : At) → read_fields fs s ≡ Ok s' → s.slots ≤ 256 → s'.slots ≤ 256
 unfolding next
 fields_few [] s s' h le = subst (λ t. t.slots ≤ 256) (ok_is s s' h) le
@@ -124,15 +128,16 @@ at_first (x ∷ xs) ys (suc i) lt = at_first xs ys i (omega (arith, lt))
 no_scope : (env : Values) (mem : List ℤ) → Agrees [] env mem
 no_scope env mem = record { each = λ n b f. absurd (cc f) }
 
+-- where nothing is known, all that is known has a slot
 pub sound_nothing : IsSound [] 0
 sound_nothing = record { below = λ n i f. absurd (cc f); apart = λ n m i f g. absurd (cc f) }
 
-pub record RunMet (fs : List Name) (run : List ℤ → Now → Now) (y : Steps × At) (kept xs : List ℤ) : Type 0 where
+pub record RunMet (fs : List Name) (run : List ℤ → State → State) (y : Steps × At) (kept xs : List ℤ) : Type 0 where
   pub pushed : (run xs (at_start fs kept)).pushed ≡ first_values (ran y.0 xs (slots_from y.1.slots kept)).pushes
   pub fields : map (run xs (at_start fs kept)).values fs ≡ take (length kept) (ran y.0 xs (slots_from y.1.slots kept)).slots
 
 run_met : (fs : List Name) (b : Block) (e : ℕ) (s : At) (y : Steps × At) (kept xs : List ℤ) → read_fields fs nothing_read ≡ Ok s → steps_of e b s ≡ Ok y
-    → length kept ≡ length fs → RunMet fs (do_all b) y kept xs
+    → length kept ≡ length fs → RunMet fs (exec_all b) y kept xs
 run_met fs b e s y kept xs hf hb len =
     let r = fields_read fs nothing_read s hf in
     let g = steps_grow e b s y hb in
@@ -148,12 +153,12 @@ run_met fs b e s y kept xs hf hb len =
     record {
       pushed = d.pushed;
       fields =
-          fields_kept fs nothing_read s y.1.scope (do_all b xs (at_start fs kept)).values (ran y.0 xs mem).slots hf g.keeps d.agrees (omega (arith, l, m, a2, a3))
+          fields_kept fs nothing_read s y.1.scope (exec_all b xs (at_start fs kept)).values (ran y.0 xs mem).slots hf g.keeps d.agrees (omega (arith, l, m, a2, a3))
           ∙ ap (λ k. take k (ran y.0 xs mem).slots) (sym len);
     }
 
 run_optional : (fs : List Name) (b : Optional) (e : ℕ) (s : At) (y : Steps × At) (kept xs : List ℤ) → read_fields fs nothing_read ≡ Ok s
-    → optional_of e b s ≡ Ok y → length kept ≡ length fs → RunMet fs (do_optional b) y kept xs
+    → optional_of e b s ≡ Ok y → length kept ≡ length fs → RunMet fs (exec_optional b) y kept xs
 run_optional fs Unwritten e s y kept xs hf hb len =
     let r = run_met fs End e s y kept xs hf hb len in
     record { pushed = r.pushed; fields = r.fields }
@@ -171,7 +176,7 @@ pub record AreRates (t : FilterTree) : Type 0 where
   pub pops : 1 ≤ (pop_of t)
   pub peeks : (pop_of t) ≤ (peek_of t)
 
-rates_are : (t : FilterTree) (u : Unit {0}) → rates_of (push_of t) (pop_of t) (peek_of t) ≡ Ok u → AreRates t
+rates_are : (t : FilterTree) (u : Unit {0}) → judged_rates (push_of t) (pop_of t) (peek_of t) ≡ Ok u → AreRates t
 rates_are t u h =
     let small = nat_le (push_of t) 65536 && (nat_le (pop_of t) 65536 && nat_le (peek_of t) 65536) in
     let f1 = λ (v : Unit {0}). demand (nat_le (pop_of t) (peek_of t)) (Rates (peek_of t) (pop_of t)) in
@@ -200,19 +205,20 @@ pub record Elaborated (t : FilterTree) (f : FilterForm) : Type 0 where
   pub rates : AreRates t
   pub popped : work.1.popped ≡ (pop_of t)
   pub pushed : work.1.pushed ≡ (push_of t)
-  pub is : form_of t init work ≡ f
+  pub is : elaborated_form t init work ≡ f
 
+-- the parts of a filter that is accepted
 pub elaborated_parts : (t : FilterTree) (f : FilterForm) → elaborated t ≡ Ok f → Elaborated t f
 elaborated_parts t f h =
-    let f4 = λ (i w : Steps × At). on_ok (kept_rates (push_of t) (pop_of t) w.1) (λ v. fine (form_of t i w)) in
+    let f4 = λ (i w : Steps × At). on_ok (kept_rates (push_of t) (pop_of t) w.1) (λ v. fine (elaborated_form t i w)) in
     let f3 = λ (s : At) (i : Steps × At) (u : Unit {0}). on_ok (steps_of (peek_of t) t.work s) (f4 i) in
-    let f2 = λ (s : At) (i : Steps × At). on_ok (rates_of (push_of t) (pop_of t) (peek_of t)) (f3 s i) in
+    let f2 = λ (s : At) (i : Steps × At). on_ok (judged_rates (push_of t) (pop_of t) (peek_of t)) (f3 s i) in
     let f1 = λ (s : At). on_ok (optional_of 0 t.init s) (f2 s) in
     let p = ok_parts (read_fields t.fields nothing_read) f1 f h in
     let q = ok_parts (optional_of 0 t.init p.0) (f2 p.0) f p.2 in
-    let r = ok_parts (rates_of (push_of t) (pop_of t) (peek_of t)) (f3 p.0 q.0) f q.2 in
+    let r = ok_parts (judged_rates (push_of t) (pop_of t) (peek_of t)) (f3 p.0 q.0) f q.2 in
     let w = ok_parts (steps_of (peek_of t) t.work p.0) (f4 q.0) f r.2 in
-    let k = ok_parts (kept_rates (push_of t) (pop_of t) w.0.1) (λ v. fine (form_of t q.0 w.0)) f w.2 in
+    let k = ok_parts (kept_rates (push_of t) (pop_of t) w.0.1) (λ v. fine (elaborated_form t q.0 w.0)) f w.2 in
     let m = ok_parts (demand (nat_eq w.0.1.popped (pop_of t)) (Rates (pop_of t) w.0.1.popped)) (λ u. demand (nat_eq w.0.1.pushed (push_of t)) (Rates (push_of t) w.0.1.pushed)) k.0 k.1 in
     record {
       fields = p.0;
@@ -224,17 +230,17 @@ elaborated_parts t f h =
       rates = rates_are t r.0 r.1;
       popped = same_by w.0.1.popped (pop_of t) (demanded (nat_eq w.0.1.popped (pop_of t)) (Rates (pop_of t) w.0.1.popped) m.0 m.1);
       pushed = same_by w.0.1.pushed (push_of t) (demanded (nat_eq w.0.1.pushed (push_of t)) (Rates (push_of t) w.0.1.pushed) k.0 m.2);
-      is = ok_is (form_of t q.0 w.0) f k.2;
+      is = ok_is (elaborated_form t q.0 w.0) f k.2;
     }
   where
     same_by : (m n : ℕ) → nat_eq m n ≡ true → m ≡ n
     same_by m n h = grind (arith, h)
 
 module _ (t : FilterTree) (s : At) (i w : Steps × At) (hf : read_fields t.fields nothing_read ≡ Ok s) (hw : steps_of (peek_of t) t.work s ≡ Ok w) where
-  firings_met : (n j : ℕ) (kept xs : List ℤ) → length kept ≡ length t.fields → fires_from t n j kept xs ≡ firings_from (form_of t i w) n j kept xs
+  firings_met : (n j : ℕ) (kept xs : List ℤ) → length kept ≡ length t.fields → fires_from t n j kept xs ≡ firings_from (elaborated_form t i w) n j kept xs
   firings_met zero j kept xs len = refl
   firings_met (suc n) j kept xs len =
-      let f = form_of t i w in
+      let f = elaborated_form t i w in
       let input = take (peek_of t) (drop (j * (pop_of t)) xs) in
       let r = run_kept f.body kept input in
       let m = run_met t.fields t.work (peek_of t) s w kept input hf hw len in
@@ -245,6 +251,7 @@ module _ (t : FilterTree) (s : At) (i w : Steps × At) (hf : read_fields t.field
       ∙ ap (λ l. first_values r.pushes ++ l) (firings_met n (suc j) r.slots xs (run_kept_length f.body kept input ∙ len)) in
       ap (λ l. if nat_le (j * (pop_of t) + (peek_of t)) (length xs) then l else []) both
 
+-- the filter of a plan gives what the filter gives as it is written
 pub filter_met : (t : FilterTree) (f : FilterForm) (xs : List ℤ) → elaborated t ≡ Ok f → pushed_by t xs ≡ filtered f xs
 filter_met t f xs h =
     let e = elaborated_parts t f h in

@@ -23,7 +23,7 @@ use Rattle.river_plan.specs.Kinds.{FitsAt}
 use Rattle.river_plan.specs.Limits.{most_of, port_numbers, kernel_numbers, nestings}
 use Rattle.river_plan.proofs.NameLemmas.{one_same, more_or_zero}
 use Rattle.brooklet_model.specs.ByIndex.{cycle}
-use Rattle.streamit_model.specs.Stream.{Splitter, Duplicate, RoundRobin, IsSplitter, IsRound, IsSmallFilter, IsSmallSplitter}
+use Rattle.streamit_model.specs.Unrolled.{Splitter, Duplicate, RoundRobin, IsSplitter, IsRound, IsSmallFilter, IsSmallSplitter}
 use Rattle.streamit_model.specs.Build.{queue, queues, weights, splitter}
 use Rattle.streamit_model.proofs.EachOp.{OfEach}
 
@@ -36,6 +36,7 @@ owns_split : (d : Splitter) (n k : ℕ) (label from : Name) → OwnsIt (splitter
 owns_split Duplicate n k label from v = omega arith
 owns_split (RoundRobin ws) n k label from v = omega arith
 
+-- no variable is named more often than the operator has its name
 pub own_each : OfEach OwnsIt
 own_each = record {
   filters = λ label f from to ok small v. omega arith;
@@ -85,6 +86,7 @@ fits_split Duplicate n k label from ok some kind var hq hv =
 fits_split (RoundRobin ws) n k label from ok some kind var hq hv =
     (Rows 1, one_kind kind (rows 1) from (λ q lt. hq q (omega (arith, lt))), kinds_of kind n k (λ q lt. hq q (omega (arith, lt))) ∙ many ws n ok, one_kind var Private label hv, weights_good ws n ok some)
 
+-- the queues and the variable of each operator fit its kernel
 pub fits_each : OfEach IsFitting
 fits_each = record {
   filters = λ label f from to ok small kind var hq hv.
@@ -178,6 +180,7 @@ within_split (RoundRobin ws) n k label from small few = let e = length-queues n 
   vars = omega arith;
 }
 
+-- the numbers of each operator are within the limits
 pub within_each : OfEach IsWithin
 within_each = record {
   filters = λ label f from to ok small. record {
@@ -197,15 +200,18 @@ within_each = record {
   };
 }
 
+-- no kernel has more than 64 ports
 pub ports_within : (ops : List OpForm) → Each IsWithin ops → All (λ n. n ≤ 64) (port_numbers ops)
 ports_within [] h = nothing 64
 ports_within (op ∷ ops) h =
     more 64 (length op.reads) (length op.writes ∷ port_numbers ops) h.0.reads (more 64 (length op.writes) (port_numbers ops) h.0.writes (ports_within ops h.1))
 
+-- no number of a kernel is above its limit
 pub kernels_within : (l : Limit) (ops : List OpForm) → Each IsWithin ops → All (λ n. n ≤ most_of l) (kernel_numbers l ops)
 kernels_within l [] h = All-nil (λ n. n ≤ most_of l)
 kernels_within l (op ∷ ops) h = All-append (λ n. n ≤ most_of l) (part_numbers l op.kernel) (kernel_numbers l ops) (h.0.numbers l) (kernels_within l ops h.1)
 
+-- no expression or statement nests too deep
 pub nested_within : (ops : List OpForm) → Each IsWithin ops → All (λ n. n ≤ 32) (nestings ops)
 nested_within [] h = nothing 32
 nested_within (op ∷ ops) h = more 32 (nesting op.kernel) (nestings ops) h.0.nested (nested_within ops h.1)

@@ -13,16 +13,17 @@ use Rattle.kern_rows.proofs.Lengths.{run_kept_length}
 use Rattle.river_kernels.specs.Formed.{is_sound, is_term, is_step, is_steps, is_filter, both, same, pushes_once, pushes, is_number}
 use Rattle.river_kernels.specs.Limits.{size, size_once}
 use Rattle.river_plan.specs.Forms.{Name}
-use Rattle.text_forms.specs.Tree.{Spoken}
-use Rattle.text_forms.specs.Tree as tree
-use Rattle.streamit_model.specs.Stream.{IsSmallFilter}
-use Rattle.streamit_model.specs.Source.{Statement, Declare, Assign, Push, Pop, If, For, Block, End, Then, pops, turns_between, Optional, Unwritten, Written}
+use Rattle.streamit_text.specs.Tree.{Expression, Statement, Declare, Assign, Push, Discard, If, For, Block, End, Then, Optional, Unwritten, Written}
+use Rattle.streamit_text.specs.Tree as tree
+use Rattle.streamit_model.specs.Unrolled.{IsSmallFilter}
+use Rattle.streamit_model.specs.Meaning.{pops, turns_between, push_of, pop_of, peek_of}
 use Rattle.streamit_model.specs.Shallow.{IsLowFirst, IsShallow, AreShallow, IsItemlessFirst, KeepsItems, KeepAll, AreShallowOptional, KeepAllOptional}
-use Rattle.streamit_model.specs.Elaborate.{Limit, PeekRange, on_ok, Known, Var, Turn, Scope, find, constant, named, peeked, term_of, At, first_term}
+use Rattle.streamit_model.specs.Elaborate.{Limit, PeekRange, on_ok, Known, Var, Turn, Scope, find, constant, named_term, peeked, term_of, At, first_term}
 use Rattle.streamit_model.specs.Elaborate.{first_popped, joined, one_step, Read, unrolled, step_of, steps_of, optional_of}
 use Rattle.std.proofs.lemmas.List.{length-replicate}
 use Rattle.std.proofs.Math.Nat.{le_refl}
-use Rattle.streamit_model.specs.FilterSource.{FilterTree, push_of, pop_of, peek_of, elaborated, read_fields, nothing_read, starts_of}
+use Rattle.streamit_text.specs.Program.{FilterTree}
+use Rattle.streamit_model.specs.ElaborateFilter.{elaborated, read_fields, nothing_read, starts_of}
 use Rattle.river_kernels.proofs.WellFormed.{steps_within}
 use Rattle.streamit_model.proofs.FilterMet.{fields_few, elaborated_parts, fields_read, sound_nothing}
 use Rattle.streamit_model.proofs.Elaborated.{ok_is, ok_parts, if_ok, IsSound, more_slots, Grown, left, at_arm, at_second, turning, grows_turn, unrolled_grows}
@@ -53,7 +54,7 @@ le_by a b h = grind (arith, h)
 abbrev Fits : ℕ → ℕ → ℕ → Term → Type 0
 Fits p m d u = (is_sound p m u ≡ true) × (term.depth_of u ≤ d)
 
-named_fits : (p m : ℕ) (o : Option Known) (u : Term) → ((i : ℕ) → o ≡ Some (Var i) → i < m) → named o ≡ Ok u → Fits p m 1 u
+named_fits : (p m : ℕ) (o : Option Known) (u : Term) → ((i : ℕ) → o ≡ Some (Var i) → i < m) → named_term o ≡ Ok u → Fits p m 1 u
 named_fits p m None u h c = absurd (cc c)
 named_fits p m (Some (Var i)) u h c = subst (Fits p m 1) (ok_is (term.Slot i) u c) (lt_true i m (h i refl), omega arith)
 named_fits p m (Some (Turn v)) u h c = subst (Fits p m 1) (ok_is (term.Const (pos v)) u c) (refl, omega arith)
@@ -65,12 +66,10 @@ peeked_fits p m e k d (pos i) u le h =
     subst (Fits p m (suc d)) q.1 (lt_true (k + i) p (omega (arith, lt, le)), omega arith)
 peeked_fits p m e k d (negsuc i) u le h = absurd (cc h)
 
-term_fits : (p m e : ℕ) (sc : Scope) (t : Spoken) (k : ℕ) (u : Term) → e ≤ p → k + pops t ≤ p → ((n : Name) (i : ℕ) → find sc n ≡ Some (Var i) → i < m)
+term_fits : (p m e : ℕ) (sc : Scope) (t : Expression) (k : ℕ) (u : Term) → e ≤ p → k + pops t ≤ p → ((n : Name) (i : ℕ) → find sc n ≡ Some (Var i) → i < m)
     → term_of e sc t k ≡ Ok u → Fits p m (tree.depth_of t) u
 term_fits p m e sc (tree.Number v) k u le pp b c = subst (Fits p m 1) (ok_is (term.Const (pos v)) u c) (refl, omega arith)
 term_fits p m e sc (tree.Name n) k u le pp b c = named_fits p m (find sc n) u (b n) c
-term_fits p m e sc (tree.Input q) k u le pp b c = absurd (cc c)
-term_fits p m e sc (tree.Slot q) k u le pp b c = absurd (cc c)
 term_fits p m e sc (tree.Peek t) k u le pp b c = let q = ok_parts (constant sc t) (peeked e k) u c in peeked_fits p m e k (tree.depth_of t) q.0 u le q.2
 term_fits p m e sc tree.Pop k u le pp b c =
     subst (Fits p m 1) (if_ok (nat_le k 65536) (term.Input k) u Limit c).1 (lt_true k p (omega (arith, pp)), omega arith)
@@ -177,7 +176,7 @@ mutual
   step_counts e (Push t) s y h =
       let p = pushed_parts e t s y h in let r = p.room in
       subst (Counts s) (sym p.is) (one_counts s _ (steps.Push 0 (p.value ∷ [])) 1 (omega arith) refl refl (omega arith) (λ h. omega (arith, r)) (λ h. h))
-  step_counts e Pop s y h =
+  step_counts e Discard s y h =
       subst (Counts s) (ok_is (Done, record s { popped = s.popped + 1 }) y h) (counts_done s (record s { popped = s.popped + 1 }) (omega arith) refl refl refl)
   step_counts e (If t a b) s y h =
       let p = forked_parts e t a b s y h in let r = p.room in
@@ -226,7 +225,7 @@ Formed p m f = (s : At) (y : Steps × At) → f s ≡ Ok y → IsSound s.scope s
 below_of : (s : At) (m : ℕ) → IsSound s.scope s.slots → s.slots ≤ m → (n : Name) (i : ℕ) → find s.scope n ≡ Some (Var i) → i < m
 below_of s m ok le n i f = let b = ok.below n i f in omega (arith, b, le)
 
-first_fits : (p m e : ℕ) (t : Option Spoken) (s : At) (u : Term) → IsLowFirst t → e ≤ p → s.popped + first_popped t ≤ p → IsSound s.scope s.slots → s.slots ≤ m
+first_fits : (p m e : ℕ) (t : Option Expression) (s : At) (u : Term) → IsLowFirst t → e ≤ p → s.popped + first_popped t ≤ p → IsSound s.scope s.slots → s.slots ≤ m
     → first_term e t s ≡ Ok u → is_term p m u ≡ true
 first_fits p m e None s u low le pp ok sl h = is_one p m 64 u (omega arith) (subst (Fits p m 64) (ok_is (term.Const (pos 0)) u h) (refl, omega arith))
 first_fits p m e (Some t) s u low le pp ok sl h = is_one p m (tree.depth_of t) u low (term_fits p m e s.scope t s.popped u le pp (below_of s m ok sl) h)
@@ -270,7 +269,7 @@ mutual
       let sl' : s.slots ≤ m = subst (λ (r : Steps × At). r.1.slots ≤ m) q.is sl in
       subst (λ (r : Steps × At). is_steps p m one_port r.0 ≡ true) (sym q.is)
       (one_formed p m (steps.Push 0 (q.value ∷ [])) (both_true (is_term p m q.value) true (is_one p m (tree.depth_of t) q.value low (term_fits p m e s.scope t s.popped q.value le pp' (below_of s m ok sl') q.value_is)) refl))
-  step_formed p m e Pop le low s y h ok pp sl =
+  step_formed p m e Discard le low s y h ok pp sl =
       subst (λ (r : Steps × At). is_steps p m one_port r.0 ≡ true) (ok_is (Done, record s { popped = s.popped + 1 }) y h) refl
   step_formed p m e (If t a b) le low s y h ok pp sl =
       let q = forked_parts e t a b s y h in
@@ -321,7 +320,7 @@ unrolled_same block f n (v ∷ vs) s y h =
     let b = unrolled_same block f n vs (left s p.first.1) p.others p.others_is in
     ap (λ r. r.1.popped) p.is ∙ b ∙ a
 
-first_same : (t : Option Spoken) → IsItemlessFirst t → first_popped t ≡ 0
+first_same : (t : Option Expression) → IsItemlessFirst t → first_popped t ≡ 0
 first_same None k = refl
 first_same (Some t) k = k
 
@@ -332,7 +331,7 @@ mutual
   step_same e (Declare n t) k s y h = let p = declared_parts e n t s y h in ap (λ r. r.1.popped) p.is ∙ (let z = first_same t k in omega (arith, z))
   step_same e (Assign n t) k s y h = let p = assigned_parts e n t s y h in ap (λ r. r.1.popped) p.is ∙ omega (arith, k)
   step_same e (Push t) k s y h = absurd k
-  step_same e Pop k s y h = absurd k
+  step_same e Discard k s y h = absurd k
   step_same e (If t a b) k s y h =
       let p = forked_parts e t a b s y h in
       let z = k.0 in
@@ -365,6 +364,7 @@ init_runs fs b s y hf low k h =
 
 -- THE FILTER
 
+-- the filter of an accepted one is well formed, and within the limits
 pub filter_formed : (t : FilterTree) (f : FilterForm) → AreShallow t.work → elaborated t ≡ Ok f → (is_filter f ≡ true) × IsSmallFilter f
 filter_formed t f low h =
     let e = elaborated_parts t f h in

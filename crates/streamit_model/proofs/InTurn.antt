@@ -12,7 +12,7 @@ use Rattle.river_plan.specs.Names.{one_if, count, with_name}
 use Rattle.river_plan.specs.Uses.{total, writes_it, and_writes, ReadsBefore, all_writes, all_vars}
 use Rattle.river_plan.proofs.NameLemmas.{cases_name, count-append, one_same, more_or_zero}
 use Rattle.river_plan.proofs.ShareLemmas.{total-vars}
-use Rattle.streamit_model.specs.Build.{is_own, own_queues, ops_from}
+use Rattle.streamit_model.specs.Build.{is_own_queue, own_queues, ops_from}
 use Rattle.streamit_model.specs.Laws.{PlansInTurn}
 use Rattle.streamit_model.proofs.OwnQueues.{kept, left, is-out, no-out, own_other}
 use Rattle.streamit_model.proofs.Valid.{valid, names_of}
@@ -26,7 +26,7 @@ there_stays seen (r ∷ rs) h =
 
 -- names of which only the output stands there already
 news : (seen ws : List Name) → 0 < count (codes "out") seen → ((z : Name) → name_eq (codes "out") z ≡ false → count z seen + count z ws ≤ 1)
-    → fold with_name seen ws ≡ seen ++ filter is_own ws
+    → fold with_name seen ws ≡ seen ++ filter is_own_queue ws
 news seen [] h once = sym (append-nil seen)
 news seen (w ∷ ws) h once = ⊎_elim
     (λ c. ap (λ s. fold with_name s ws) (if_lt 0 (count w seen) seen (seen ++ w ∷ []) (subst_count c.0))
@@ -36,7 +36,7 @@ news seen (w ∷ ws) h once = ⊎_elim
     ∙ news (seen ++ w ∷ []) ws
     (let e = count-append (codes "out") seen (w ∷ []) in omega (arith, e, h))
     (λ z n. let e = count-append z seen (w ∷ []) in let b = once z n in omega (arith, e, b))
-    ∙ append_assoc seen (w ∷ []) (filter is_own ws)
+    ∙ append_assoc seen (w ∷ []) (filter is_own_queue ws)
     ∙ sym (ap (λ l. seen ++ l) (kept w ws (no-out w c.1))))
     (cases_name (codes "out") w)
   where
@@ -50,7 +50,7 @@ first_named : (seen : List Name) (known : Name → ℕ) (ops : List OpForm) → 
     → fold with_name seen (mentioned ops) ≡ seen ++ own_queues ops
 first_named seen known [] r k h once = sym (append-nil seen)
 first_named seen known (o ∷ os) r k h once =
-    let new = filter is_own o.writes in
+    let new = filter is_own_queue o.writes in
     fold-append with_name seen (o.reads ++ o.writes) (mentioned os)
     ∙ ap (λ s. fold with_name s (mentioned os)) (fold-append with_name seen o.reads o.writes
     ∙ ap (λ s. fold with_name s o.writes) (there_stays seen o.reads (λ z lt. k z (r.0 z lt)))
@@ -66,7 +66,7 @@ first_named seen known (o ∷ os) r k h once =
     (let e = count-append (codes "out") seen new in omega (arith, e, h))
     (λ z n. let e = count-append z seen new in let m = own_other z o.writes n in let b = once z n in omega (arith, e, m, b))
     ∙ append_assoc seen new (own_queues os)
-    ∙ ap (λ l. seen ++ l) (sym (filter-append is_own o.writes (all_writes os)))
+    ∙ ap (λ l. seen ++ l) (sym (filter-append is_own_queue o.writes (all_writes os)))
 
 -- names that are used once
 all_new : (seen vs : List Name) → ((z : Name) → count z seen + count z vs ≤ 1) → fold with_name seen vs ≡ seen ++ vs

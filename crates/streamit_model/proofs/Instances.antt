@@ -4,24 +4,24 @@ use Rattle.std.specs.Prelude.{codes}
 use Rattle.std.specs.Int.{int_wrap}
 use Rattle.work_code.specs.declared.expr.BinOp.TheVariants as op
 use Rattle.river_plan.specs.Forms.{Name}
-use Rattle.text_forms.specs.Tree.{Spoken, Number, Name as Named, Peek, Pop, Neg, Bin}
-use Rattle.streamit_model.specs.Source.{Statement, Block, End, Unwritten, Written}
-use Rattle.streamit_model.specs.Source as source
+use Rattle.streamit_text.specs.Tree.{Expression, Number, Name as Named, Peek, Pop, Neg, Bin, Statement, Block, End, Unwritten, Written}
+use Rattle.streamit_text.specs.Tree as source
 use Rattle.streamit_model.specs.Elaborate.{UnknownName, Rates, PeekRange, NotConstant, BranchRates, Limit, Weights}
-use Rattle.streamit_model.specs.FilterSource.{FilterTree, pushed_by, elaborated}
-use Rattle.streamit_model.specs.Program.{Program, AFilter, ASplitJoin, Turns, program_outputs}
+use Rattle.streamit_text.specs.Program.{FilterTree, Program, AFilter, ASplitJoin, Turns}
+use Rattle.streamit_model.specs.Meaning.{pushed_by, program_outputs}
+use Rattle.streamit_model.specs.ElaborateFilter.{elaborated}
 use Rattle.streamit_model.specs.Judged.{judged}
 
 abbrev then_do : Statement → Block → Block
 then_do s b = source.Then s b
 
-abbrev n : ℕ → Spoken
+abbrev n : ℕ → Expression
 n k = Number k
 
 -- sums of three in a row
 sum_tree : FilterTree
 sum_tree =
-    record { fields = []; init = Unwritten; push = Some 1; pop = Some 1; peek = Some 3; work = then_do (source.Push (Bin op.Add (Bin op.Add (Peek (n 0)) (Peek (n 1))) (Peek (n 2)))) (then_do source.Pop End) }
+    record { fields = []; init = Unwritten; push = Some 1; pop = Some 1; peek = Some 3; work = then_do (source.Push (Bin op.Add (Bin op.Add (Peek (n 0)) (Peek (n 1))) (Peek (n 2)))) (then_do source.Discard End) }
 
 sums : pushed_by sum_tree (pos 1 ∷ pos 2 ∷ pos 3 ∷ pos 4 ∷ []) ≡ pos 6 ∷ pos 9 ∷ []
 unfolding sum_tree int_wrap
@@ -81,7 +81,7 @@ run_tree = record {
   peek = None;
   work = then_do (source.Declare x_name None)
       (then_do (source.For i_name (n 0) true (n 1) (then_do (source.Assign x_name (Bin op.Add (Named x_name) (Bin op.Mul (Peek (Named i_name)) (Bin op.Add (Named i_name) (n 1))))) End))
-      (then_do source.Pop (then_do source.Pop
+      (then_do source.Discard (then_do source.Discard
       (then_do (source.Assign total_name (Bin op.Add (Named total_name) (Named x_name))) (then_do (source.Push (Named total_name)) End)))));
 }
 
@@ -94,13 +94,13 @@ run_means = refl
 abbrev of_work : ℕ → ℕ → ℕ → Block → FilterTree
 of_work u o e b = record { fields = []; init = Unwritten; push = Some u; pop = Some o; peek = Some e; work = b }
 
-peek_range : elaborated (of_work 1 1 1 (then_do (source.Push (Peek (n 1))) (then_do source.Pop End))) ≡ Err (PeekRange (pos 1) 1)
+peek_range : elaborated (of_work 1 1 1 (then_do (source.Push (Peek (n 1))) (then_do source.Discard End))) ≡ Err (PeekRange (pos 1) 1)
 peek_range = refl
 
 not_constant : elaborated (of_work 1 1 1 (then_do (source.Push (Peek Pop)) End)) ≡ Err NotConstant
 not_constant = refl
 
-branch_rates : elaborated (of_work 1 1 1 (then_do (source.If (Peek (n 0)) (then_do (source.Push Pop) End) (Written (then_do source.Pop End))) End)) ≡ Err BranchRates
+branch_rates : elaborated (of_work 1 1 1 (then_do (source.If (Peek (n 0)) (then_do (source.Push Pop) End) (Written (then_do source.Discard End))) End)) ≡ Err BranchRates
 branch_rates = refl
 
 unknown : elaborated (of_work 1 1 1 (then_do (source.Push (Named (codes "y"))) End)) ≡ Err UnknownName

@@ -13,9 +13,9 @@ use Rattle.brooklet_model.specs.Words.{run, port_by_port, feed_all}
 use Rattle.kern_rows.specs.Turns.{turns_start, settled, itself}
 use Rattle.std.proofs.lemmas.List.{length-map}
 use Rattle.brooklet_model.proofs.Feeds.{one_input}
-use Rattle.streamit_model.specs.Stream.{IsRound}
+use Rattle.streamit_model.specs.Unrolled.{IsRound}
 use Rattle.brooklet_model.specs.ByIndex.{dealt, collected}
-use Rattle.streamit_model.specs.Filters.{filtered}
+use Rattle.streamit_model.specs.UnrolledFilters.{filtered}
 use Rattle.streamit_model.specs.Build.{weights}
 use Rattle.streamit_model.specs.Laws.{as_items}
 use Rattle.river_kernels.proofs.WellFormed.{can_filter}
@@ -25,6 +25,7 @@ use Rattle.brooklet_model.proofs.Cycles.{positive_cycle}
 use Rattle.brooklet_model.proofs.Collected.{fed_joins, settles}
 use Rattle.streamit_model.proofs.Rounds.{copied, shares_are, dealt_map, collected_map, blanks_mapped}
 
+-- a fed filter gives what the filter gives on the whole list
 pub filter_means : (f : FilterForm) (g : ℕ → List item.Item) (xs : List ℤ) → IsTrue (is_filter f) → g 0 ≡ as_items xs
     → (feed_all (filter f) g (first_kept (filter f))).outs 0 ≡ as_items (filtered f xs)
 filter_means f g xs ok e =
@@ -32,9 +33,11 @@ filter_means f g xs ok e =
     ∙ ap (λ l. (feed (fire (filter f) 0) l (first_kept (filter f))).outs 0) e
     ∙ filter_fed f xs (can_filter f ok)
 
+-- a fed splitter that copies gives each branch all items
 pub duplicate_means : (n p : ℕ) (g : ℕ → List item.Item) → p < n → (feed_all (duplicate n) g (first_kept (duplicate n))).outs p ≡ g 0
 duplicate_means n p g lt = ap (λ r. r.outs p) (one_input (duplicate n) g (first_kept (duplicate n)) refl) ∙ copied n p (g 0) lt
 
+-- a fed splitter that deals gives each branch its share
 pub deal_means : (ws : List ℕ) (n p : ℕ) (g : ℕ → List item.Item) (xs : List ℤ) → IsRound ws n → p < n → g 0 ≡ as_items xs
     → (feed_all (deal (weights ws)) g (first_kept (deal (weights ws)))).outs p ≡ as_items (dealt ws p xs)
 deal_means ws n p g xs r lt e =
@@ -44,6 +47,7 @@ deal_means ws n p g xs r lt e =
     ∙ deals ws p (as_items xs) r.each (positive_cycle ws n p r.each r.number lt)
     ∙ dealt_map (λ x. Flat (One (x ∷ []))) ws p 0 xs
 
+-- a fed joiner gives what is collected of its inputs
 pub collect_means : (ws : List ℕ) (g : ℕ → List item.Item) (ls : List (List ℤ)) → IsRound ws (length ls)
     → ((p : ℕ) → p < length ls → g p ≡ as_items (list_at ls p))
     → (feed_all (collect (weights ws)) g (first_kept (collect (weights ws)))).outs 0 ≡ as_items (collected ws ls)

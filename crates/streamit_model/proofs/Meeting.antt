@@ -1,15 +1,14 @@
 -- What judging says of the spots that it goes over: all are right, and the answer is there; or the fault is the first of them.
 use Rattle.std.proofs.Common.{◌≡◌, ℕ, ◌<◌, ◌⊎◌, inl, inr, Bool, true, false, List, [], ◌∷◌, ◌++◌, Result, Ok, Err, refl, sym, ap, ◌∙◌, subst, arith}
 use Rattle.std.proofs.Common.{append_assoc}
-use Rattle.std.specs.Prelude.{if◌then◌else◌}
+use Rattle.std.specs.Prelude.{if◌then◌else◌, ℤ}
 use Rattle.std.proofs.lemmas.List.{append-nil}
 use Rattle.streamit_model.specs.Elaborate.{Fault, UnknownName, NameTwice, Rates, PeekRange, NotConstant, BranchRates, Limit, Weights, on_ok}
-use Rattle.streamit_model.specs.Program.{Declared}
+use Rattle.streamit_text.specs.Program.{Declared}
 use Rattle.streamit_model.specs.Words.{Word}
 use Rattle.streamit_model.specs.Places.{Spot, Reads, each_word}
 use Rattle.streamit_model.specs.Faulty.{IsUnknown, IsTwice, AreRatesApart, IsOutside, IsVariable, AreArmsApart, IsOverLimit, AreWeightsWrong, HasFault, rank}
 use Rattle.streamit_model.specs.Faulty.{IsFirstFault}
-use Rattle.std.specs.Prelude.{ℤ}
 
 -- the spot has no fault
 abbrev pub IsFree : List Declared → Spot → Type 0
@@ -47,6 +46,7 @@ free above s u t r p v a l w Weights h = w h
 pub first_twice : (above : List Declared) (s : Spot) → IsTwice above s → IsFirstFault above s NameTwice
 first_twice above s h = record { has = h; first = λ g lt k. absurd (omega (arith, lt)) }
 
+-- an unknown name is told first, where no name is declared twice
 pub first_unknown : (above : List Declared) (s : Spot) → IsUnknown above s → (IsTwice above s → ⊥) → IsFirstFault above s UnknownName
 first_unknown above s h t = record { has = h; first = others }
   where
@@ -60,6 +60,7 @@ first_unknown above s h t = record { has = h; first = others }
     others (Rates d c) lt k = omega (arith, lt)
     others BranchRates lt k = omega (arith, lt)
 
+-- what is no constant is told first, where no fault of names is
 pub first_variable : (above : List Declared) (s : Spot) → IsVariable s → (IsTwice above s → ⊥) → (IsUnknown above s → ⊥) → IsFirstFault above s NotConstant
 first_variable above s h t u = record { has = h; first = others }
   where
@@ -73,6 +74,7 @@ first_variable above s h t u = record { has = h; first = others }
     others (Rates d c) lt k = omega (arith, lt)
     others BranchRates lt k = omega (arith, lt)
 
+-- wrong weights are told first, where no fault of names or constants is
 pub first_weights : (above : List Declared) (s : Spot) → AreWeightsWrong s → (IsTwice above s → ⊥) → (IsUnknown above s → ⊥) → (IsVariable s → ⊥)
     → IsFirstFault above s Weights
 first_weights above s h t u v = record { has = h; first = others }
@@ -87,6 +89,7 @@ first_weights above s h t u v = record { has = h; first = others }
     others (Rates d c) lt k = omega (arith, lt)
     others BranchRates lt k = omega (arith, lt)
 
+-- an item out of reach is told first, where none of these is
 pub first_peek : (above : List Declared) (s : Spot) (i : ℤ) (e : ℕ) → IsOutside i e s → (IsTwice above s → ⊥) → (IsUnknown above s → ⊥) → (IsVariable s → ⊥)
     → (AreWeightsWrong s → ⊥) → IsFirstFault above s (PeekRange i e)
 first_peek above s i e h t u v w = record { has = h; first = others }
@@ -101,6 +104,7 @@ first_peek above s i e h t u v w = record { has = h; first = others }
     others (Rates d c) lt k = omega (arith, lt)
     others BranchRates lt k = omega (arith, lt)
 
+-- a limit is told first, where none of these is
 pub first_limit : (above : List Declared) (s : Spot) → IsOverLimit above s → (IsTwice above s → ⊥) → (IsUnknown above s → ⊥) → (IsVariable s → ⊥)
     → (AreWeightsWrong s → ⊥) → ((i : ℤ) (e : ℕ) → IsOutside i e s → ⊥) → IsFirstFault above s Limit
 first_limit above s h t u v w p = record { has = h; first = others }
@@ -115,6 +119,7 @@ first_limit above s h t u v w p = record { has = h; first = others }
     others (Rates d c) lt k = omega (arith, lt)
     others BranchRates lt k = omega (arith, lt)
 
+-- rates apart are told first, where none of these is
 pub first_rates : (above : List Declared) (s : Spot) (d c : ℕ) → AreRatesApart d c s → (IsTwice above s → ⊥) → (IsUnknown above s → ⊥) → (IsVariable s → ⊥)
     → (AreWeightsWrong s → ⊥) → ((i : ℤ) (e : ℕ) → IsOutside i e s → ⊥) → (IsOverLimit above s → ⊥) → IsFirstFault above s (Rates d c)
 first_rates above s d c h t u v w p l = record { has = h; first = others }
@@ -129,6 +134,7 @@ first_rates above s d c h t u v w p l = record { has = h; first = others }
     others (Rates d c) lt k = omega (arith, lt)
     others BranchRates lt k = omega (arith, lt)
 
+-- arms apart are told first, where nothing else is
 pub first_arms : (above : List Declared) (s : Spot) → AreArmsApart s → (IsTwice above s → ⊥) → (IsUnknown above s → ⊥) → (IsVariable s → ⊥)
     → (AreWeightsWrong s → ⊥) → ((i : ℤ) (e : ℕ) → IsOutside i e s → ⊥) → (IsOverLimit above s → ⊥) → ((d c : ℕ) → AreRatesApart d c s → ⊥)
     → IsFirstFault above s BranchRates

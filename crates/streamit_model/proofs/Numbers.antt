@@ -64,6 +64,7 @@ abbrev pub sum_from : (ℕ → ℕ) → ℕ → ℕ → ℕ
 sum_from f k zero = 0
 sum_from f k (suc n) = f k + sum_from f (suc k) n
 
+-- a sum over numbers one behind the other, in two parts
 pub sum_split : (f : ℕ → ℕ) (m n k : ℕ) → sum_from f k (m + n) ≡ sum_from f k m + sum_from f (k + m) n
 sum_split f zero n k =
     ap (sum_from f k) (let e : 0 + n ≡ n = omega arith in e)
@@ -94,6 +95,7 @@ meets_never r (suc n) k lt =
     let e : nat_eq k r ≡ false = grind arith in
     let o = ap one_if e in omega (arith, i, o)
 
+-- of numbers one behind the other, one at most is this one
 pub meets_once : (r n k : ℕ) → sum_from (meets r) k n ≤ 1
 meets_once r zero k = omega arith
 meets_once r (suc n) k = ⊎_elim
@@ -111,10 +113,12 @@ named_le name x k lt = ⊎_elim
     (λ c. let o = ap one_if c.1 in omega (arith, o))
     (cases_name (numbered name k) x)
 
+-- how often a name stands among numbered queues
 pub queue_count : (x : Name) (n k : ℕ) → count x (queues k n) ≡ sum_from (λ j. one_if (name_eq (queue j) x)) k n
 queue_count x zero k = refl
 queue_count x (suc n) k = ap (λ s. one_if (name_eq (queue k) x) + s) (queue_count x n (suc k))
 
+-- numbered queues have names of their own
 pub queues_once : (x : Name) (n k : ℕ) → k + n ≤ 2 ^ 64 → count x (queues k n) ≤ 1
 queues_once x n k le =
     let a = queue_count x n k in

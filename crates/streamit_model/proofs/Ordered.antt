@@ -5,7 +5,7 @@ use Rattle.river_plan.specs.Forms.{Name, OpForm}
 use Rattle.river_plan.specs.Names.{one_if, count}
 use Rattle.river_plan.specs.Uses.{total, writes_it, Known, and_writes, ReadsBefore}
 use Rattle.river_plan.proofs.NameLemmas.{cases_name, one_same, more_or_zero}
-use Rattle.streamit_model.specs.Stream.{Splitter, Duplicate, RoundRobin, Stream, Filter, Pipeline, SplitJoin, Streams, Last, Then, number_of}
+use Rattle.streamit_model.specs.Unrolled.{Splitter, Duplicate, RoundRobin, Stream, Filter, Pipeline, SplitJoin, Streams, Last, Then, number_of}
 use Rattle.streamit_model.specs.Build.{numbered, queue, queues, ops_in, ops_of, queues_in, splitter, joiner, build, build_line, build_branches}
 use Rattle.streamit_model.proofs.Numbers.{queue_count}
 use Rattle.streamit_model.proofs.Counts.{writes, writes_branches, split_writes}
@@ -36,6 +36,7 @@ split_first Duplicate n k label from known h = known_one known from h
 split_first (RoundRobin ws) n k label from known h = known_one known from h
 
 mutual
+  -- each operator reads queues that are known: the input, or one that operators before it write
   pub ordered : (s : Stream) (c k : ℕ) (from to : Name) (known : Name → ℕ) → 0 < known from → ReadsBefore known (build s c k from to)
   ordered (Filter name f) c k from to known h = (known_one known from h, tt)
   ordered (Pipeline ss) c k from to known h = ordered_line ss c k from to known h

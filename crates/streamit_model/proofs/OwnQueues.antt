@@ -7,9 +7,9 @@ use Rattle.river_plan.specs.Forms.{Name, OpForm}
 use Rattle.river_plan.specs.Names.{one_if, count}
 use Rattle.river_plan.specs.Uses.{total, writes_it, all_writes}
 use Rattle.river_plan.proofs.NameLemmas.{cases_name, cases_bool, count-append, name_sym}
-use Rattle.streamit_model.specs.Stream.{Splitter, Duplicate, RoundRobin, Stream, Filter, Pipeline, SplitJoin, Streams, Last, Then, number_of}
+use Rattle.streamit_model.specs.Unrolled.{Splitter, Duplicate, RoundRobin, Stream, Filter, Pipeline, SplitJoin, Streams, Last, Then, number_of}
 use Rattle.streamit_model.specs.Build.{numbered, queue, queues, ops_in, ops_of, queues_in, queues_between, queues_within, splitter, joiner, build, build_line}
-use Rattle.streamit_model.specs.Build.{build_branches, is_own}
+use Rattle.streamit_model.specs.Build.{build_branches, is_own_queue}
 
 pub length-queues : (n k : ℕ) → length (queues k n) ≡ n
 length-queues zero k = refl
@@ -21,21 +21,23 @@ total-writes q [] = refl
 total-writes q (op ∷ ops) = let e = total-writes q ops in let f = count-append q op.writes (all_writes ops) in omega (arith, e, f)
 
 -- a queue of the plan's own stays, and the output does not
-pub kept : (w : Name) (ws : List Name) → is_own w ≡ true → filter is_own (w ∷ ws) ≡ w ∷ filter is_own ws
-kept w ws h = ap (λ b. cond b (w ∷ filter is_own ws) (filter is_own ws)) h
+pub kept : (w : Name) (ws : List Name) → is_own_queue w ≡ true → filter is_own_queue (w ∷ ws) ≡ w ∷ filter is_own_queue ws
+kept w ws h = ap (λ b. cond b (w ∷ filter is_own_queue ws) (filter is_own_queue ws)) h
 
-pub left : (w : Name) (ws : List Name) → is_own w ≡ false → filter is_own (w ∷ ws) ≡ filter is_own ws
-left w ws h = ap (λ b. cond b (w ∷ filter is_own ws) (filter is_own ws)) h
+-- the output is left out
+pub left : (w : Name) (ws : List Name) → is_own_queue w ≡ false → filter is_own_queue (w ∷ ws) ≡ filter is_own_queue ws
+left w ws h = ap (λ b. cond b (w ∷ filter is_own_queue ws) (filter is_own_queue ws)) h
 
 -- the output is no queue of the plan's own, and any other is
-pub is-out : (w : Name) → name_eq (codes "out") w ≡ true → is_own w ≡ false
+pub is-out : (w : Name) → name_eq (codes "out") w ≡ true → is_own_queue w ≡ false
 is-out w h = ap not (name_sym w (codes "out") ∙ h)
 
-pub no-out : (w : Name) → name_eq (codes "out") w ≡ false → is_own w ≡ true
+-- another name is a queue of the plan's own
+pub no-out : (w : Name) → name_eq (codes "out") w ≡ false → is_own_queue w ≡ true
 no-out w h = ap not (name_sym w (codes "out") ∙ h)
 
 -- the output is none of them
-pub own_never : (ws : List Name) → count (codes "out") (filter is_own ws) ≡ 0
+pub own_never : (ws : List Name) → count (codes "out") (filter is_own_queue ws) ≡ 0
 own_never [] = refl
 own_never (w ∷ ws) = let i = own_never ws in ⊎_elim
     (λ t. ap (count (codes "out")) (left w ws (is-out w t)) ∙ i)
@@ -43,7 +45,7 @@ own_never (w ∷ ws) = let i = own_never ws in ⊎_elim
     (cases_bool (name_eq (codes "out") w))
 
 -- any other queue stands as often as it is written
-pub own_other : (q : Name) (ws : List Name) → name_eq (codes "out") q ≡ false → count q (filter is_own ws) ≡ count q ws
+pub own_other : (q : Name) (ws : List Name) → name_eq (codes "out") q ≡ false → count q (filter is_own_queue ws) ≡ count q ws
 own_other q [] h = refl
 own_other q (w ∷ ws) h = let i = own_other q ws h in ⊎_elim
     (λ c.
@@ -53,7 +55,7 @@ own_other q (w ∷ ws) h = let i = own_other q ws h in ⊎_elim
     (cases_name (codes "out") w)
 
 -- so many are left as were not the output
-pub own_length : (ws : List Name) → length (filter is_own ws) + count (codes "out") ws ≡ length ws
+pub own_length : (ws : List Name) → length (filter is_own_queue ws) + count (codes "out") ws ≡ length ws
 own_length [] = refl
 own_length (w ∷ ws) = let i = own_length ws in ⊎_elim
     (λ t.
@@ -73,6 +75,7 @@ split-length (RoundRobin ws) n k label from = length-queues n k
 
 -- how many queues the operators of a stream write: its own, and the last
 mutual
+  -- the operators write one queue more than the stream has of its own
   pub written_length : (s : Stream) (c k : ℕ) (from to : Name) → length (all_writes (build s c k from to)) ≡ suc (queues_in s)
   written_length (Filter name f) c k from to = refl
   written_length (Pipeline ss) c k from to = line_length ss c k from to

@@ -6,16 +6,17 @@ use Rattle.std.specs.List.{list_all, AllByRecursion}
 use Rattle.std.proofs.lemmas.Bool.{and_parts}
 use Rattle.river_base.specs.Name.{name_eq}
 use Rattle.river_plan.specs.Forms.{Name}
-use Rattle.streamit_model.specs.Stream.{Splitter, Duplicate, RoundRobin, Stream, Filter, Pipeline, SplitJoin, Streams, Last, Then, number_of, nesting, IsStream}
-use Rattle.streamit_model.specs.Stream.{AreStreams, IsSmall, AreSmall, IsRound, IsSplitter, IsSmallSplitter}
+use Rattle.streamit_model.specs.Unrolled.{Splitter, Duplicate, RoundRobin, Stream, Filter, Pipeline, SplitJoin, Streams, Last, Then, number_of, nesting}
+use Rattle.streamit_model.specs.Unrolled.{IsStream, AreStreams, IsSmall, AreSmall, IsRound, IsSplitter, IsSmallSplitter}
 use Rattle.brooklet_model.specs.ByIndex.{cycle, dealt, collected}
-use Rattle.streamit_model.specs.Means.{split, outputs, in_line, side_by_side}
+use Rattle.streamit_model.specs.UnrolledMeans.{split, outputs, in_line, side_by_side}
 use Rattle.streamit_model.specs.Elaborate.{Fault, Limit, Weights, on_ok, demand}
-use Rattle.streamit_model.specs.FilterSource.{elaborated}
+use Rattle.streamit_model.specs.ElaborateFilter.{elaborated}
 use Rattle.streamit_model.specs.Build.{ops_in}
-use Rattle.streamit_model.specs.Program.{Dealing, Copies, Turns, Body, AFilter, APipeline, ASplitJoin, Program, weights_for, Works, look, or_same, work_of}
-use Rattle.streamit_model.specs.Program.{piped, branched, branch_count, share_of, body_works, all_work, last_of, program_outputs, IsShallowBody}
-use Rattle.streamit_model.specs.Program.{AreShallowUnits}
+use Rattle.streamit_text.specs.Program.{Dealing, Copies, Turns, Body, AFilter, APipeline, ASplitJoin, Program}
+use Rattle.streamit_model.specs.Meaning.{weights_for, Works, look, or_same, work_of, piped, branched, branch_count, share_of, body_works, all_work, last_of}
+use Rattle.streamit_model.specs.Meaning.{program_outputs}
+use Rattle.streamit_model.specs.Shallow.{IsShallowBody, AreShallowUnits}
 use Rattle.streamit_model.specs.Judged.{Refusal, on_fine, in_unit, Streamed, found, added, streams_of, any, branches, round_of, splitter_of, stream_of}
 use Rattle.streamit_model.specs.Judged.{not_there, unit_of, all_streams, few_operators, judged}
 use Rattle.streamit_model.proofs.Elaborated.{fine, ok_is, ok_parts, demanded}

@@ -8,6 +8,7 @@ use Rattle.streamit_model.proofs.ProgramMet.{program_met}
 use Rattle.streamit_model.proofs.Translated.{translation_means}
 use Rattle.streamit_model.proofs.Valid.{plans_are_valid}
 
+-- the law: the plan of a program that is accepted is valid, and means what the program means
 pub programs_mean : ProgramsMean
 programs_mean p name s others xs low h =
     let a = program_met p name s others low h in

@@ -2,11 +2,10 @@
 use Rattle.std.proofs.Common.{◌≡◌, pos, false, [], ◌∷◌, map, Some, None, refl}
 use Rattle.std.specs.Prelude.{codes}
 use Rattle.river_plan.specs.Forms.{Name}
-use Rattle.text_forms.specs.Tree.{Number, Name as Named, Peek, Pop}
-use Rattle.streamit_model.specs.Source.{Block, End, Then, Unwritten, Written}
-use Rattle.streamit_model.specs.Source as source
-use Rattle.streamit_model.specs.FilterSource.{FilterTree, nought}
-use Rattle.streamit_model.specs.Program.{Program, AFilter, ASplitJoin, Turns}
+use Rattle.streamit_text.specs.Tree.{Number, Name as Named, Peek, Pop, Block, End, Then, Unwritten, Written}
+use Rattle.streamit_text.specs.Tree as source
+use Rattle.streamit_text.specs.Program.{FilterTree, Program, AFilter, ASplitJoin, Turns}
+use Rattle.streamit_model.specs.Meaning.{nought}
 use Rattle.streamit_model.specs.Words.{Begins, Declares, Knows, Leaves, Uses, Fixes, Pops, Peeks, Bounds, Loops, Enters, Exits, Pushes, Otherwise, Joins}
 use Rattle.streamit_model.specs.Words.{popped_in, pushed_in}
 use Rattle.streamit_model.specs.Text.{all_read}

@@ -8,24 +8,21 @@ use Rattle.work_code.specs.Term.{Term}
 use Rattle.work_code.specs.Steps.{Step, Steps, Done}
 use Rattle.work_code.specs.Steps as steps
 use Rattle.river_plan.specs.Forms.{Name}
-use Rattle.text_forms.specs.Tree.{Spoken}
+use Rattle.streamit_text.specs.Tree.{Expression, Statement, Declare, Assign, Push, Discard, If, For, Block, End, Then, Optional, Unwritten, Written}
 use Rattle.brooklet_model.specs.Machine.{at_name}
-use Rattle.streamit_model.specs.Source.{Statement, Declare, Assign, Push, Pop, If, For, Block, End, Then, Optional, Unwritten, Written, Values, pops, numbers}
-use Rattle.streamit_model.specs.Source.{turns_between}
-use Rattle.streamit_model.specs.Elaborate.{Fault, BranchRates, Limit, on_ok, Known, Var, Turn, find, constant, term_of, At, counted, has_slot}
-use Rattle.streamit_model.specs.Elaborate.{is_new, slot_of, bound_of, first_term, first_popped, joined, one_step, Read, declared, after_arms, unrolled, step_of}
-use Rattle.streamit_model.specs.Elaborate.{steps_of, optional_of}
-use Rattle.streamit_model.specs.Program.{Declared}
+use Rattle.streamit_model.specs.Meaning.{Values, pops, numbers, turns_between}
+use Rattle.streamit_model.specs.Elaborate.{Fault, BranchRates, Limit, on_ok, Known, Var, Turn, find, constant, term_of, At, counted, has_slot, is_new, slot_of}
+use Rattle.streamit_model.specs.Elaborate.{bound_of, first_term, first_popped, joined, one_step, Read, declared, after_arms, unrolled, step_of, steps_of}
+use Rattle.streamit_model.specs.Elaborate.{optional_of}
+use Rattle.streamit_text.specs.Program.{Declared}
 use Rattle.streamit_model.specs.Words.{Word, Begins, Declares, Knows, Leaves, Sets, Drops, Bounds, Loops, Enters, Exits, Pushes, Otherwise, Joins, knows}
-use Rattle.streamit_model.specs.Words.{leaves, enters, exits}
-use Rattle.streamit_model.specs.Words.{takes, begins, pops_one, pushes_one, pops_beside, pushes_beside, popped_in, pushed_in}
-use Rattle.streamit_model.specs.Text.{fixed, fixed_value, spelled, spelled_first, locals_of, enclosed, turning, arms, read_of, all_read, optional_read}
+use Rattle.streamit_model.specs.Words.{leaves, enters, exits, takes, begins, pops_one, pushes_one, pops_beside, pushes_beside, popped_in, pushed_in}
+use Rattle.streamit_model.specs.Text.{fixed, fixed_value, spelled, spelled_first, locals_of, with_end, turning, arms, read_of, all_read, optional_read}
 use Rattle.streamit_model.specs.Places.{Reads, each_word}
 use Rattle.streamit_model.proofs.Meeting.{IsFree, AllFree, Meets, free, first_twice, first_unknown, first_variable, first_limit, first_arms, behind, finish}
-use Rattle.streamit_model.proofs.Meeting.{test, last_test}
-use Rattle.streamit_model.proofs.Meeting.{next, ended, beyond, weaken}
-use Rattle.streamit_model.proofs.Standing.{over-append, Counted, Stands, none_known, IsEven, names_on, counted_on, moved}
-use Rattle.streamit_model.proofs.Standing.{unmoved, regrouped, with_local, with_turn, leaves_nothing, left_behind}
+use Rattle.streamit_model.proofs.Meeting.{test, last_test, next, ended, beyond, weaken}
+use Rattle.streamit_model.proofs.Standing.{over-append, Counted, Stands, none_known, IsEven, names_on, counted_on, moved, unmoved, regrouped, with_local}
+use Rattle.streamit_model.proofs.Standing.{with_turn, leaves_nothing, left_behind}
 use Rattle.streamit_model.proofs.Even.{even_block}
 use Rattle.streamit_model.proofs.Spelled.{lt_holds, lt_fails, le_holds, le_fails, local_known, turn_known, some_known, Fixed, fixed_met, spelled_met, first_met}
 
@@ -42,6 +39,7 @@ regroup before w ws = append_assoc before (w ∷ []) ws
 module _ (above : List Declared) (e : ℕ) where
   -- WORDS THAT ARE ALWAYS RIGHT
 
+  -- where a name becomes known there is no fault
   pub knows_free : (before : List Word) (n : Name) → IsFree above (Reads e before (Knows n))
   knows_free before n = free above (Reads e before (Knows n)) (λ h. h) (λ h. h) (λ d c h. h) (λ i r h. h) (λ h. h) (λ h. h) (λ h. h) (λ h. h)
 
@@ -86,6 +84,7 @@ module _ (above : List Declared) (e : ℕ) where
       (omega arith))))
       (λ f. let le = lt_fails s.size 16384 f in inl (first_limit above spot (omega (arith, le, z)) (λ h. h) (λ h. h) (λ h. h) (λ h. h) (λ i r h. h)))
 
+  -- where a name is declared, reading tells what the table has
   pub declares_met : {B : Type 0} (before ws : List Word) (s : At) (turns : Values) (n : Name) (o : Option Known) (r : Result B Fault) (Q : B → Type 0)
       → find s.scope n ≡ o
       → Stands before s turns
@@ -179,7 +178,7 @@ module _ (above : List Declared) (e : ℕ) where
 
   -- DECLARATIONS, ASSIGNMENTS, PUSHES
 
-  declare_met : (n : Name) (t : Option Spoken) (before : List Word) (s : At) (turns : Values) → e ≤ 65536 → Stands before s turns
+  declare_met : (n : Name) (t : Option Expression) (before : List Word) (s : At) (turns : Values) → e ≤ 65536 → Stands before s turns
       → Meets above (each_word e before (read_of (Declare n t) turns)) (step_of e (Declare n t) s) (Went before (read_of (Declare n t) turns) s turns)
   declare_met n t before s turns small h =
       let sf = spelled_first t turns in
@@ -200,7 +199,7 @@ module _ (above : List Declared) (e : ℕ) where
             (omega arith) (omega arith),
       ))))
 
-  assign_met : (n : Name) (t : Spoken) (before : List Word) (s : At) (turns : Values) → e ≤ 65536 → Stands before s turns
+  assign_met : (n : Name) (t : Expression) (before : List Word) (s : At) (turns : Values) → e ≤ 65536 → Stands before s turns
       → Meets above (each_word e before (read_of (Assign n t) turns)) (step_of e (Assign n t) s) (Went before (read_of (Assign n t) turns) s turns)
   assign_met n t before s turns small h =
       let sp = spelled t turns in
@@ -218,7 +217,7 @@ module _ (above : List Declared) (e : ℕ) where
       (λ v f. went_by before (b2 ++ sp) (read_of (Assign n t) turns) s turns (one_step (steps.Set i v), record o { popped = o.popped + pops t })
       (regroup b1 (Sets n) sp ∙ regroup before Begins (Sets n ∷ sp)) f (omega arith) (omega arith))))
 
-  push_met : (t : Spoken) (before : List Word) (s : At) (turns : Values) → e ≤ 65536 → Stands before s turns
+  push_met : (t : Expression) (before : List Word) (s : At) (turns : Values) → e ≤ 65536 → Stands before s turns
       → Meets above (each_word e before (read_of (Push t) turns)) (step_of e (Push t) s) (Went before (read_of (Push t) turns) s turns)
   push_met t before s turns small h =
       let sp = spelled t turns in
@@ -242,7 +241,7 @@ module _ (above : List Declared) (e : ℕ) where
       )))
 
   drop_met : (before : List Word) (s : At) (turns : Values) → Stands before s turns
-      → Meets above (each_word e before (read_of Pop turns)) (step_of e Pop s) (Went before (read_of Pop turns) s turns)
+      → Meets above (each_word e before (read_of Discard turns)) (step_of e Discard s) (Went before (read_of Discard turns) s turns)
   drop_met before s turns h = (
     (drops_free before, tt),
     record {
@@ -372,14 +371,14 @@ module _ (above : List Declared) (e : ℕ) where
   -- a block that was read, with its end
   block_by : (b : Block) (before : List Word) (s : At) (turns : Values) → Stands before s turns
       → Meets above (each_word e before (all_read b turns)) (steps_of e b s) (Went before (all_read b turns) s turns)
-      → Meets above (each_word e before (enclosed b (all_read b turns))) (steps_of e b s) (Within before (enclosed b (all_read b turns)) s turns)
+      → Meets above (each_word e before (with_end b (all_read b turns))) (steps_of e b s) (Within before (with_end b (all_read b turns)) s turns)
   block_by b before s turns h m =
       let ws = all_read b turns in
       let ns = locals_of b in
-      ended above e before ws (map Leaves ns) (steps_of e b s) (Went before ws s turns) (Within before (enclosed b ws) s turns) m (all_leave (before ++ ws) ns)
+      ended above e before ws (map Leaves ns) (steps_of e b s) (Went before ws s turns) (Within before (with_end b ws) s turns) m (all_leave (before ++ ws) ns)
       (λ y w.
       let t = y.1 in
-      let g : (before ++ ws) ++ map Leaves ns ≡ before ++ enclosed b ws = append_assoc before ws (map Leaves ns) in
+      let g : (before ++ ws) ++ map Leaves ns ≡ before ++ with_end b ws = append_assoc before ws (map Leaves ns) in
       let z0 = leaves_nothing takes ns (λ n. refl) in let z1 = leaves_nothing begins ns (λ n. refl) in
       let z2 = leaves_nothing pops_one ns (λ n. refl) in let z3 = leaves_nothing pops_beside ns (λ n. refl) in
       let z4 = leaves_nothing pushes_one ns (λ n. refl) in let z5 = leaves_nothing pushes_beside ns (λ n. refl) in
@@ -387,7 +386,7 @@ module _ (above : List Declared) (e : ℕ) where
       counted_on (before ++ ws) (map Leaves ns) t.slots t.size t.popped t.pushed t.slots t.size t.popped t.pushed w.stands.counts
       (omega (arith, z0)) (omega (arith, z1)) (omega (arith, z2, z3)) (omega (arith, z4, z5)) in
       record {
-        stands = left_behind before (enclosed b ws) s turns t.slots t.size t.popped t.pushed h (even_block b turns)
+        stands = left_behind before (with_end b ws) s turns t.slots t.size t.popped t.pushed h (even_block b turns)
             (subst (λ x. Counted x t.slots t.size t.popped t.pushed) g c);
         popped = w.popped;
         pushed = w.pushed;
@@ -407,14 +406,14 @@ module _ (above : List Declared) (e : ℕ) where
       went_by before ((before ++ xs) ++ ys) (xs ++ ys) s turns (joined p.0 q.0, q.1) (append_assoc before xs ys) z.stands (omega (arith, wp, zp))
       (omega (arith, wq, zq))))
 
-  if_met : (t : Spoken) (a : Block) (b : Optional) (before : List Word) (s : At) (turns : Values) → e ≤ 65536 → Stands before s turns
+  if_met : (t : Expression) (a : Block) (b : Optional) (before : List Word) (s : At) (turns : Values) → e ≤ 65536 → Stands before s turns
       → ((x : List Word) (u : At) → Stands x u turns → Meets above (each_word e x (all_read a turns)) (steps_of e a u) (Went x (all_read a turns) u turns))
       → ((x : List Word) (u : At) → Stands x u turns → Meets above (each_word e x (optional_read b turns)) (optional_of e b u)
       (Within x (optional_read b turns) u turns))
       → Meets above (each_word e before (read_of (If t a b) turns)) (step_of e (If t a b) s) (Went before (read_of (If t a b) turns) s turns)
   if_met t a b before s turns small h ra rb =
       let sp = spelled t turns in
-      let A = enclosed a (all_read a turns) in
+      let A = with_end a (all_read a turns) in
       let B = optional_read b turns in
       let O = Otherwise (popped_in A) (pushed_in A) in
       let J = Joins (popped_in A) (pushed_in A) (popped_in B) (pushed_in B) in
@@ -456,7 +455,7 @@ module _ (above : List Declared) (e : ℕ) where
       (unmoved b5 J (record q.1 { scope = s.scope }) turns z.stands (λ n. (refl, refl)) refl refl refl refl refl refl)
       (omega (arith, zp)) (omega (arith, zq))))))))
 
-  for_met : (n : Name) (low : Spoken) (upto : Bool) (high : Spoken) (b : Block) (before : List Word) (s : At) (turns : Values) → Stands before s turns
+  for_met : (n : Name) (low : Expression) (upto : Bool) (high : Expression) (b : Block) (before : List Word) (s : At) (turns : Values) → Stands before s turns
       → ((x : List Word) (u : At) (inner : Values) → Stands x u inner → Meets above (each_word e x (all_read b inner)) (steps_of e b u)
       (Went x (all_read b inner) u inner))
       → Meets above (each_word e before (read_of (For n low upto high b) turns)) (step_of e (For n low upto high b) s)
@@ -466,7 +465,7 @@ module _ (above : List Declared) (e : ℕ) where
       let fh = fixed high in
       let lv = fixed_value low turns in
       let hv = fixed_value high turns in
-      let block = λ (inner : Values). enclosed b (all_read b inner) in
+      let block = λ (inner : Values). with_end b (all_read b inner) in
       let T = turning n block (turns_between lv upto hv) turns in
       let b1 = before ++ Loops n ∷ [] in
       let b2 = b1 ++ fl in
@@ -505,12 +504,13 @@ module _ (above : List Declared) (e : ℕ) where
     statement_met (Declare n t) before s turns small h = declare_met n t before s turns small h
     statement_met (Assign n t) before s turns small h = assign_met n t before s turns small h
     statement_met (Push t) before s turns small h = push_met t before s turns small h
-    statement_met Pop before s turns small h = drop_met before s turns h
+    statement_met Discard before s turns small h = drop_met before s turns h
     statement_met (If t a b) before s turns small h =
         if_met t a b before s turns small h (λ x u st. all_met a x u turns small st) (λ x u st. optional_met b x u turns small st)
     statement_met (For n low upto high b) before s turns small h =
         for_met n low upto high b before s turns h (λ x u inner st. all_met b x u inner small st)
 
+    -- reading a block tells the first fault of its words, or goes on behind them
     pub all_met : (b : Block) (before : List Word) (s : At) (turns : Values) → e ≤ 65536 → Stands before s turns
         → Meets above (each_word e before (all_read b turns)) (steps_of e b s) (Went before (all_read b turns) s turns)
     all_met End before s turns small h =
@@ -519,6 +519,7 @@ module _ (above : List Declared) (e : ℕ) where
         then_met (read_of c turns) (all_read b turns) (step_of e c s) (λ t. steps_of e b t) before s turns (statement_met c before s turns small h)
         (λ x u st. all_met b x u turns small st)
 
+    -- and so does reading one that may be left out
     pub optional_met : (o : Optional) (before : List Word) (s : At) (turns : Values) → e ≤ 65536 → Stands before s turns
         → Meets above (each_word e before (optional_read o turns)) (optional_of e o s) (Within before (optional_read o turns) s turns)
     optional_met Unwritten before s turns small h =

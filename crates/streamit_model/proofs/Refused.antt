@@ -3,14 +3,13 @@ use Rattle.std.proofs.Common.{◌≡◌, ℕ, suc, ℤ, ◌+◌, ◌⊎◌, inl,
 use Rattle.std.proofs.Common.{nat_le, Bool, true, false}
 use Rattle.std.specs.List.{AllByRecursion}
 use Rattle.std.proofs.lemmas.Bool.{cases_lt}
-use Rattle.streamit_model.specs.Stream.{Stream}
+use Rattle.streamit_model.specs.Unrolled.{Stream}
 use Rattle.streamit_model.specs.Build.{ops_in}
 use Rattle.streamit_model.specs.Elaborate.{Fault, UnknownName, NameTwice, Rates, PeekRange, NotConstant, BranchRates, Limit, Weights, demand}
-use Rattle.streamit_model.specs.Program.{Declared, Program}
+use Rattle.streamit_text.specs.Program.{Declared, Program}
 use Rattle.streamit_model.specs.Judged.{Streamed, Refusal, on_fine, in_unit, unit_of, all_streams, few_operators, judged}
 use Rattle.streamit_model.specs.Words.{Peeks}
-use Rattle.streamit_model.specs.Places.{Spot, Reads, Rated, Counts, Finishes, Place, place, places_behind, places_of, unit_spots}
-use Rattle.streamit_model.specs.Places.{last_operators}
+use Rattle.streamit_model.specs.Places.{Spot, Reads, Rated, Counts, Finishes, Place, place, places_behind, places_of, unit_spots, last_operators}
 use Rattle.streamit_model.specs.Faulty.{AreRatesApart, IsOutside, HasFault, rank, IsFirstFault, IsRight, RefusalsAre, AcceptedAre}
 use Rattle.streamit_model.proofs.Meeting.{AllFree, FirstIn, Meets, free, first_limit}
 use Rattle.streamit_model.proofs.Spelled.{le_holds, le_fails}
@@ -228,6 +227,7 @@ accepted_as : (ps : List Place) (x : Result Streamed Refusal) → Told ps x → 
 accepted_as ps (Ok known) h a = (known, refl)
 accepted_as ps (Err q) h a = absurd (first_right ps q h a)
 
+-- the law: a program is refused exactly with its first fault
 pub refusals_are : RefusalsAre
 refusals_are p unit f =
     let r : Refusal = record { unit = unit; fault = f } in (
@@ -238,6 +238,7 @@ refusals_are p unit f =
           (first_back h.before (h.place ∷ h.behind) r h.right (inl (h.faulty, h.there))))),
     )
 
+-- the law: it is accepted exactly where no place has one
 pub accepted_are : AcceptedAre
 accepted_are p = (
   (λ h. subst (Told (places_of p)) h.1 (judged_told p)),

@@ -7,9 +7,9 @@ use Rattle.river_plan.specs.Forms.{Name}
 use Rattle.river_plan.specs.Uses.{Each}
 use Rattle.brooklet_model.specs.Histories.{History, Lists, Solves, lists_of}
 use Rattle.river_plan.proofs.ShareLemmas.{each_front, each_back}
-use Rattle.streamit_model.specs.Stream.{Splitter, Duplicate, RoundRobin, Stream, Filter, Pipeline, SplitJoin, Streams, Last, Then, number_of, IsStream}
-use Rattle.streamit_model.specs.Stream.{AreStreams, IsSplitter, IsRound}
-use Rattle.streamit_model.specs.Means.{split, outputs, in_line, side_by_side}
+use Rattle.streamit_model.specs.Unrolled.{Splitter, Duplicate, RoundRobin, Stream, Filter, Pipeline, SplitJoin, Streams, Last, Then, number_of, IsStream}
+use Rattle.streamit_model.specs.Unrolled.{AreStreams, IsSplitter, IsRound}
+use Rattle.streamit_model.specs.UnrolledMeans.{split, outputs, in_line, side_by_side}
 use Rattle.streamit_model.specs.Build.{numbered, queue, queues, ops_in, queues_in, splitter, build, build_line, build_branches}
 use Rattle.streamit_model.specs.Laws.{as_items, SolutionsMean}
 use Rattle.streamit_model.proofs.Kernels.{filter_means, duplicate_means, deal_means, collect_means}
@@ -43,6 +43,7 @@ pub joins : (ws : List ℕ) (n k : ℕ) (h : History) (ls : List (List ℤ)) →
 joins ws n k h ls r len e i lt = let l : i < n = omega (arith, lt, len) in read_at n k i h l ∙ e i l
 
 mutual
+  -- whatever solves the equations of a stream's operators has the stream's output
   pub solved : (s : Stream) (c k : ℕ) (from to : Name) (h : History) (xs : List ℤ) → IsStream s → Each (Solves h) (build s c k from to) → h from ≡ as_items xs
       → h to ≡ as_items (outputs s xs)
   solved (Filter name f) c k from to h xs ok s e = s.0.0 ∙ filter_means f (lists_of h (from ∷ [])) xs ok e

@@ -1,6 +1,6 @@
 -- Expressions are read word by word: the first word that has a fault is told.
-use Rattle.std.proofs.Common.{◌≡◌, ℕ, ℤ, pos, negsuc, ◌+◌, ◌<◌, ◌≤◌, inl, inr, true, false, List, [], ◌∷◌, ◌++◌, Option, Some, None, Ok, refl, sym}
-use Rattle.std.proofs.Common.{ap, ◌∙◌, subst, arith, append_assoc, nat_lt, nat_le}
+use Rattle.std.proofs.Common.{◌≡◌, ℕ, ℤ, pos, negsuc, ◌+◌, ◌<◌, ◌≤◌, inl, inr, true, false, List, [], ◌∷◌, ◌++◌, Option, Some, None, Ok, refl, sym, ap, ◌∙◌}
+use Rattle.std.proofs.Common.{subst, arith, append_assoc, nat_lt, nat_le}
 use Rattle.std.proofs.lemmas.List.{append-nil}
 use Rattle.std.specs.Ordering.{int_eq}
 use Rattle.river_base.specs.Number.{negate}
@@ -8,14 +8,14 @@ use Rattle.work_code.specs.Term.{Term}
 use Rattle.work_code.specs.Term as term
 use Rattle.work_code.specs.Value.{applied, truth}
 use Rattle.river_plan.specs.Forms.{Name}
-use Rattle.text_forms.specs.Tree.{Spoken}
-use Rattle.text_forms.specs.Tree as tree
-use Rattle.streamit_model.specs.Source.{Values, said, pops}
-use Rattle.streamit_model.specs.Elaborate.{UnknownName, NotConstant, PeekRange, Limit, on_ok, Known, Var, Turn, find, constant_of, constant, named, peeked}
-use Rattle.streamit_model.specs.Elaborate.{term_of, At}
-use Rattle.streamit_model.specs.Elaborate.{first_term, first_popped}
-use Rattle.streamit_model.specs.Program.{Declared}
-use Rattle.streamit_model.specs.Words.{Word, Uses, Fixes, Varies, Foreign, Pops, Peeks, over, knows, leaves, enters, exits, IsLocal, IsTurn, IsKnown, popped_in}
+use Rattle.streamit_text.specs.Tree.{Expression}
+use Rattle.streamit_text.specs.Tree as tree
+use Rattle.streamit_model.specs.Meaning.{Values, eval, pops}
+use Rattle.streamit_model.specs.Elaborate.{UnknownName, NotConstant, PeekRange, Limit, on_ok, Known, Var, Turn, find, constant_of, constant, named_term}
+use Rattle.streamit_model.specs.Elaborate.{peeked}
+use Rattle.streamit_model.specs.Elaborate.{term_of, At, first_term, first_popped}
+use Rattle.streamit_text.specs.Program.{Declared}
+use Rattle.streamit_model.specs.Words.{Word, Uses, Fixes, Varies, Pops, Peeks, over, knows, leaves, enters, exits, IsLocal, IsTurn, IsKnown, popped_in}
 use Rattle.streamit_model.specs.Text.{fixed, fixed_value, spelled, spelled_first}
 use Rattle.streamit_model.specs.Places.{Reads, each_word}
 use Rattle.streamit_model.proofs.Meeting.{FirstIn, Meets, free, first_unknown, first_variable, first_peek, first_limit, finish, last_test, next, weaken}
@@ -23,15 +23,19 @@ use Rattle.streamit_model.proofs.Standing.{NameIs, Stands, stands_popped, none_k
 
 -- TESTS
 
+-- a test that holds
 pub lt_holds : (a b : ℕ) → nat_lt a b ≡ true → a < b
 lt_holds a b e = grind (arith, e)
 
+-- a test that fails
 pub lt_fails : (a b : ℕ) → nat_lt a b ≡ false → b ≤ a
 lt_fails a b e = grind (arith, e)
 
+-- a test that holds
 pub le_holds : (a b : ℕ) → nat_le a b ≡ true → a ≤ b
 le_holds a b e = grind (arith, e)
 
+-- a test that fails
 pub le_fails : (a b : ℕ) → nat_le a b ≡ false → b < a
 le_fails a b e = grind (arith, e)
 
@@ -43,12 +47,14 @@ natural i n h = cc
 
 -- WHAT A NAME IS
 
+-- what stands for a slot is the name of a local
 pub local_known : (before : List Word) (n : Name) (o : Option Known) (i : ℕ) (z : ℤ) → o ≡ Some (Var i)
     → NameIs o (over (knows n) before) (over (leaves n) before) (over (enters n) before) (over (exits n) before) z → IsLocal before n × (IsTurn before n → ⊥)
 local_known before n o i z f h =
     let d = subst (λ o. NameIs o (over (knows n) before) (over (leaves n) before) (over (enters n) before) (over (exits n) before) z) f h in
     let a = d.0 in let b = d.1 in (omega (arith, a), λ lt. omega (arith, b, lt))
 
+-- what stands for a turn is the variable of a loop
 pub turn_known : (before : List Word) (n : Name) (o : Option Known) (v : ℕ) (z : ℤ) → o ≡ Some (Turn v)
     → NameIs o (over (knows n) before) (over (leaves n) before) (over (enters n) before) (over (exits n) before) z
     → IsTurn before n × (IsLocal before n → ⊥) × (z ≡ pos v)
@@ -81,12 +87,9 @@ module _ (above : List Declared) (e : ℕ) where
   varies : (before : List Word) → FirstIn above (Reads e before Varies ∷ []) NotConstant
   varies before = inl (first_variable above (Reads e before Varies) tt (λ k. k) (λ k. k))
 
-  foreign : (before : List Word) → FirstIn above (Reads e before Foreign ∷ []) UnknownName
-  foreign before = inl (first_unknown above (Reads e before Foreign) tt (λ k. k))
-
   uses : (before : List Word) (n : Name) (o : Option Known) (z : ℤ) (Q : Term → Type 0) → ((o ≡ None) → IsKnown before n → ⊥)
       → NameIs o (over (knows n) before) (over (leaves n) before) (over (enters n) before) (over (exits n) before) z → ((u : Term) → Q u)
-      → Meets above (Reads e before (Uses n) ∷ []) (named o) Q
+      → Meets above (Reads e before (Uses n) ∷ []) (named_term o) Q
   uses before n None z Q new h q = inl (first_unknown above (Reads e before (Uses n)) (new refl) (λ k. k))
   uses before n (Some (Var i)) z Q new h q =
       let l = some_known before n (Some (Var i)) (Var i) z refl h in
@@ -97,12 +100,13 @@ module _ (above : List Declared) (e : ℕ) where
 
   -- BOUNDS AND INDEXES
 
-  pub record Fixed (before : List Word) (t : Spoken) (s : At) (turns : Values) (z : ℤ) : Type 0 where
+  pub record Fixed (before : List Word) (t : Expression) (s : At) (turns : Values) (z : ℤ) : Type 0 where
     pub stands : Stands (before ++ fixed t) s turns
-    pub value : (xs : List ℤ) (k : ℕ) → said t xs turns k ≡ z
+    pub value : (xs : List ℤ) (k : ℕ) → eval t xs turns k ≡ z
     pub none : pops t ≡ 0
 
-  pub fixed_met : (t : Spoken) (before : List Word) (s : At) (turns : Values) → Stands before s turns
+  -- judging a bound or an index tells the first fault of its words, or its value
+  pub fixed_met : (t : Expression) (before : List Word) (s : At) (turns : Values) → Stands before s turns
       → Meets above (each_word e before (fixed t)) (constant s.scope t) (Fixed before t s turns)
   fixed_met (tree.Number v) before s turns h =
       (tt, record { stands = regrouped before (before ++ []) s turns (sym (append-nil before)) h; value = λ xs k. refl; none = refl })
@@ -110,8 +114,6 @@ module _ (above : List Declared) (e : ℕ) where
       weaken above (Reads e before (Fixes n) ∷ []) (constant_of (find s.scope n)) (λ w. turns n ≡ w) (Fixed before (tree.Name n) s turns)
       (fixes before n (find s.scope n) (turns n) (λ f. none_known before s.scope turns n f (h.names n)) (h.names n))
       (λ w is. record { stands = unmoved before (Fixes n) s turns h (λ m. (refl, refl)) refl refl refl refl refl refl; value = λ xs k. is; none = refl })
-  fixed_met (tree.Input p) before s turns h = varies before
-  fixed_met (tree.Slot p) before s turns h = varies before
   fixed_met (tree.Peek t) before s turns h = varies before
   fixed_met tree.Pop before s turns h = varies before
   fixed_met (tree.Neg t) before s turns h =
@@ -130,7 +132,7 @@ module _ (above : List Declared) (e : ℕ) where
       (Fixed before (tree.Bin o l r) s turns) (fixed_met r (before ++ fixed l) s turns f.stands)
       (λ b g. record {
         stands = regrouped ((before ++ fixed l) ++ fixed r) (before ++ (fixed l ++ fixed r)) s turns (append_assoc before (fixed l) (fixed r)) g.stands;
-        value = λ xs k. ap (λ x. applied o x (said r xs turns (k + pops l))) (f.value xs k) ∙ ap (applied o a) (g.value xs (k + pops l));
+        value = λ xs k. ap (λ x. applied o x (eval r xs turns (k + pops l))) (f.value xs k) ∙ ap (applied o a) (g.value xs (k + pops l));
         none = let p = f.none in let q = g.none in omega (arith, p, q);
       }))
 
@@ -181,7 +183,8 @@ module _ (above : List Declared) (e : ℕ) where
 
   -- EXPRESSIONS
 
-  pub spelled_met : (t : Spoken) (before : List Word) (s : At) (turns : Values) → e ≤ 65536 → Stands before s turns
+  -- judging an expression tells the first fault of its words, or its term
+  pub spelled_met : (t : Expression) (before : List Word) (s : At) (turns : Values) → e ≤ 65536 → Stands before s turns
       → Meets above (each_word e before (spelled t turns)) (term_of e s.scope t s.popped) (λ u. After before (spelled t turns) s turns (pops t))
   spelled_met (tree.Number v) before s turns small h = (
     tt,
@@ -192,8 +195,6 @@ module _ (above : List Declared) (e : ℕ) where
       uses before n (find s.scope n) (turns n) (λ u. After before (Uses n ∷ []) s turns 0) (λ f. none_known before s.scope turns n f (h.names n)) (h.names n)
       (λ u. repopped (before ++ Uses n ∷ []) s turns s.popped (s.popped + 0) (omega arith)
       (unmoved before (Uses n) s turns h (λ m. (refl, refl)) refl refl refl refl refl refl))
-  spelled_met (tree.Input p) before s turns small h = foreign before
-  spelled_met (tree.Slot p) before s turns small h = foreign before
   spelled_met (tree.Peek t) before s turns small h =
       next above e before (fixed t) (Peeks (fixed_value t turns) ∷ []) (constant s.scope t) (peeked e s.popped) (Fixed before t s turns)
       (λ u. After before (fixed t ++ Peeks (fixed_value t turns) ∷ []) s turns (pops t)) (fixed_met t before s turns h)
@@ -230,7 +231,7 @@ module _ (above : List Declared) (e : ℕ) where
       (repopped ((before ++ ls) ++ rs) s turns (k + pops r) (s.popped + (pops l + pops r)) (omega arith) g)))
 
   -- the first value of a local
-  pub first_met : (t : Option Spoken) (before : List Word) (s : At) (turns : Values) → e ≤ 65536 → Stands before s turns
+  pub first_met : (t : Option Expression) (before : List Word) (s : At) (turns : Values) → e ≤ 65536 → Stands before s turns
       → Meets above (each_word e before (spelled_first t turns)) (first_term e t s) (λ u. After before (spelled_first t turns) s turns (first_popped t))
   first_met None before s turns small h = (
     tt,

@@ -1,16 +1,16 @@
 -- Where the reading of a filter stands, against the words before: names, slots, pops, pushes and statements.
-use Rattle.std.proofs.Common.{◌≡◌, ℕ, suc, ℤ, pos, ◌+◌, List, [], ◌∷◌, ◌++◌, Option, Some, None, refl, sym, ap, ◌∙◌, subst}
-use Rattle.std.proofs.Common.{arith, ⊎_elim, map}
+use Rattle.std.proofs.Common.{◌≡◌, ℕ, suc, ℤ, pos, ◌+◌, List, [], ◌∷◌, ◌++◌, Option, Some, None, refl, sym, ap, ◌∙◌, subst, arith, ⊎_elim, map}
 use Rattle.river_plan.specs.Forms.{Name}
 use Rattle.river_plan.specs.Names.{one_if}
 use Rattle.river_plan.proofs.NameLemmas.{cases_name}
 use Rattle.brooklet_model.specs.Machine.{at_name}
-use Rattle.streamit_model.specs.Source.{Values}
+use Rattle.streamit_model.specs.Meaning.{Values}
 use Rattle.streamit_model.specs.Elaborate.{Known, Var, Turn, Scope, find, At}
 use Rattle.streamit_model.specs.Words.{Word, Knows, Leaves, Enters, over, knows, leaves, enters, exits, takes, begins, pops_one, pushes_one, pops_beside}
 use Rattle.streamit_model.specs.Words.{pushes_beside, IsKnown, popped_in, pushed_in}
 use Rattle.streamit_model.proofs.Elaborated.{at_here, at_other, found_here, found_other}
 
+-- a sum over words one behind the other
 pub over-append : (f : Word → ℕ) (xs ys : List Word) → over f (xs ++ ys) ≡ over f xs + over f ys
 over-append f [] ys = omega arith
 over-append f (x ∷ xs) ys = let e = over-append f xs ys in omega (arith, e)
@@ -35,6 +35,7 @@ pub record Stands (before : List Word) (s : At) (turns : Values) : Type 0 where
   pub counts : Counted before s.slots s.size s.popped s.pushed
   pub names : (n : Name) → NameStands before s.scope turns n
 
+-- the pops of the words are those that were counted
 pub stands_popped : (before : List Word) (s : At) (turns : Values) → Stands before s turns → popped_in before ≡ s.popped
 stands_popped before s turns h = let e = h.counts.pops_are in omega (arith, e)
 
@@ -52,6 +53,7 @@ name_moves (Some (Turn v)) k l e x k' l' e' x' z p q h = let a = h.0 in let b = 
 abbrev pub IsEven : List Word → Type 0
 IsEven ws = (n : Name) → (over (knows n) ws ≡ over (leaves n) ws) × (over (enters n) ws ≡ over (exits n) ws)
 
+-- words behind which as much is known as before, one behind the other
 pub even-append : (xs ys : List Word) → IsEven xs → IsEven ys → IsEven (xs ++ ys)
 even-append xs ys a b n =
     let p = (a n).0 in let q = (b n).0 in let r = (a n).1 in let s = (b n).1 in
@@ -59,6 +61,7 @@ even-append xs ys a b n =
     let e = over-append (enters n) xs ys in let x = over-append (exits n) xs ys in
     (omega (arith, p, q, k, l), omega (arith, r, s, e, x))
 
+-- names stand as they did behind such words
 pub names_on : (before ws : List Word) (sc : Scope) (turns : Values) → IsEven ws → ((n : Name) → NameStands before sc turns n)
     → (n : Name) → NameStands (before ++ ws) sc turns n
 names_on before ws sc turns even h n =
@@ -183,6 +186,7 @@ with_turn before s turns n v new h =
 
 -- THE END OF A BLOCK
 
+-- the ends of blocks count for nothing
 pub leaves_nothing : (f : Word → ℕ) (ns : List Name) → ((n : Name) → f (Leaves n) ≡ 0) → over f (map Leaves ns) ≡ 0
 leaves_nothing f [] h = refl
 leaves_nothing f (n ∷ ns) h = let a = h n in let b = leaves_nothing f ns h in omega (arith, a, b)

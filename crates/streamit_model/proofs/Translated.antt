@@ -3,8 +3,8 @@ use Rattle.std.proofs.Common.{◌≡◌, ℤ, ◌≤◌, List, [], ◌∷◌, ap
 use Rattle.std.specs.Prelude.{codes}
 use Rattle.brooklet_model.specs.Histories.{hist}
 use Rattle.brooklet_model.proofs.Solutions.{solve_law}
-use Rattle.streamit_model.specs.Stream.{Stream, IsStream, IsSmall}
-use Rattle.streamit_model.specs.Means.{outputs}
+use Rattle.streamit_model.specs.Unrolled.{Stream, IsStream, IsSmall}
+use Rattle.streamit_model.specs.UnrolledMeans.{outputs}
 use Rattle.streamit_model.specs.Build.{ops_in, plan_of}
 use Rattle.streamit_model.specs.Laws.{as_items, TranslationMeans}
 use Rattle.streamit_model.proofs.Solved.{solved}
@@ -17,5 +17,6 @@ out_is s xs ok small few =
     let once = v.written_once (codes "in") in
     solved s 1 1 (codes "in") (codes "out") (hist (plan_of s) (as_items xs ∷ [])) xs ok law.0 (law.1 (codes "in") (omega (arith, once)))
 
+-- the law: the plan of a stream means what the stream means
 pub translation_means : TranslationMeans
 translation_means s xs ok small few = ap (λ l. record { outs = l ∷ []; tables = [] }) (out_is s xs ok small few)

@@ -1,7 +1,6 @@
 -- Units are read spot by spot: the first spot that has a fault is told.
 use Rattle.std.proofs.Common.{◌≡◌, ℕ, suc, ◌+◌, ◌<◌, ◌≤◌, ◌⊎◌, inl, inr, Bool, true, false, List, [], ◌∷◌, ◌++◌, length, map, max, Option, Some, None, Result}
-use Rattle.std.proofs.Common.{Ok, refl, sym}
-use Rattle.std.proofs.Common.{ap, ◌∙◌, subst, arith, ⊎_elim, nat_lt, nat_le, nat_eq}
+use Rattle.std.proofs.Common.{Ok, refl, sym, ap, ◌∙◌, subst, arith, ⊎_elim, nat_lt, nat_le, nat_eq}
 use Rattle.std.specs.Prelude.{◌&&◌, if◌then◌else◌}
 use Rattle.std.specs.List.{list_all, AllByRecursion}
 use Rattle.std.proofs.lemmas.Bool.{and_parts}
@@ -11,21 +10,19 @@ use Rattle.river_plan.specs.Forms.{Name}
 use Rattle.river_plan.specs.Names.{one_if, count}
 use Rattle.river_plan.proofs.NameLemmas.{cases_name}
 use Rattle.brooklet_model.specs.ByIndex.{cycle}
-use Rattle.streamit_model.specs.Stream.{RoundRobin, Stream, Filter, Pipeline, SplitJoin, Streams, Last, Then, nesting, deepest, IsRound}
+use Rattle.streamit_model.specs.Unrolled.{RoundRobin, Stream, Filter, Pipeline, SplitJoin, Streams, Last, Then, nesting, deepest, IsRound}
 use Rattle.streamit_model.specs.Build.{ops_in, ops_of}
 use Rattle.streamit_model.specs.Elaborate.{Fault, Rates, Limit, Weights, on_ok, demand, Var, find, At, steps_of, optional_of}
-use Rattle.streamit_model.specs.FilterSource.{FilterTree, push_of, pop_of, peek_of, nought, read_field, read_fields, nothing_read, form_of, rates_of}
-use Rattle.streamit_model.specs.FilterSource.{kept_rates, elaborated}
-use Rattle.streamit_model.specs.Program.{Dealing, Copies, Turns, Body, AFilter, APipeline, ASplitJoin, Declared, weights_for, look, branch_count}
+use Rattle.streamit_text.specs.Program.{FilterTree, Dealing, Copies, Turns, Body, AFilter, APipeline, ASplitJoin, Declared}
+use Rattle.streamit_model.specs.Meaning.{push_of, pop_of, peek_of, nought, weights_for, look, branch_count}
+use Rattle.streamit_model.specs.ElaborateFilter.{read_field, read_fields, nothing_read, elaborated_form, judged_rates, kept_rates, elaborated}
 use Rattle.streamit_model.specs.Judged.{Streamed, found, added, streams_of, any, branches, round_of, splitter_of, stream_of, not_there, unit_of}
 use Rattle.streamit_model.specs.Words.{Word, Declares, Knows, pops_one, pushes_one, pops_beside, pushes_beside, popped_in, pushed_in}
 use Rattle.streamit_model.specs.Text.{all_read, optional_read}
 use Rattle.streamit_model.specs.Places.{Names, Rated, Counts, Branch, Added, Weighs, each_word, fields_read, filter_spots, branch_spots, split_spots}
-use Rattle.streamit_model.specs.Places.{body_spots}
-use Rattle.streamit_model.specs.Places.{unit_spots, most, in_all, body_depth, depth_above, body_operators, operators_above, last_operators}
+use Rattle.streamit_model.specs.Places.{body_spots, unit_spots, most, in_all, body_depth, depth_above, body_operators, operators_above, last_operators}
 use Rattle.streamit_model.proofs.Meeting.{Meets, free, first_twice, first_unknown, first_limit, first_weights, first_rates, behind, chain, finish, test}
-use Rattle.streamit_model.proofs.Meeting.{last_test, weaken}
-use Rattle.streamit_model.proofs.Meeting.{next}
+use Rattle.streamit_model.proofs.Meeting.{last_test, weaken, next}
 use Rattle.streamit_model.proofs.Standing.{over-append, Stands, with_local, regrouped}
 use Rattle.streamit_model.proofs.Spelled.{lt_holds, lt_fails, le_holds, le_fails}
 use Rattle.streamit_model.proofs.ReadMet.{Went, Within, knows_free, declares_met, all_met, optional_met, regroup}
@@ -75,7 +72,7 @@ module _ (above : List Declared) where
       (λ t. Stands (before ++ fields_read (n ∷ ns)) t nought × (t.popped ≡ s.popped) × (t.pushed ≡ s.pushed)) (fields_met ns b t f.0)
       (λ u g. (regrouped (b ++ fields_read ns) (before ++ fields_read (n ∷ ns)) u nought eq g.0, g.1 ∙ f.1, g.2 ∙ f.2))))
 
-  rates_met : (push pop peek : ℕ) → Meets above (Rated push pop peek ∷ []) (rates_of push pop peek) (λ u. peek ≤ 65536)
+  rates_met : (push pop peek : ℕ) → Meets above (Rated push pop peek ∷ []) (judged_rates push pop peek) (λ u. peek ≤ 65536)
   rates_met push pop peek =
       let spot = Rated push pop peek in
       test above (spot ∷ []) (nat_le push 65536 && (nat_le pop 65536 && nat_le peek 65536)) tt Limit
@@ -149,18 +146,18 @@ module _ (above : List Declared) where
       let ends = Counts pop (popped_in work) ∷ Counts push (pushed_in work) ∷ [] in
       chain above (each_word 0 [] fields) (each_word 0 fields init ++ Rated push pop peek ∷ (each_word peek fields work ++ ends))
       (read_fields t.fields nothing_read)
-      (λ s. on_ok (optional_of 0 t.init s) (λ i. on_ok (rates_of push pop peek)
-      (λ u. on_ok (steps_of peek t.work s) (λ w. on_ok (kept_rates push pop w.1) (λ v. Ok (form_of t i w))))))
+      (λ s. on_ok (optional_of 0 t.init s) (λ i. on_ok (judged_rates push pop peek)
+      (λ u. on_ok (steps_of peek t.work s) (λ w. on_ok (kept_rates push pop w.1) (λ v. Ok (elaborated_form t i w))))))
       (λ s. Stands fields s nought × (s.popped ≡ 0) × (s.pushed ≡ 0)) (λ f. Unit {0}) (fields_met t.fields [] nothing_read nothing_stands)
       (λ s h. chain above (each_word 0 fields init) (Rated push pop peek ∷ (each_word peek fields work ++ ends)) (optional_of 0 t.init s)
-      (λ i. on_ok (rates_of push pop peek) (λ u. on_ok (steps_of peek t.work s) (λ w. on_ok (kept_rates push pop w.1) (λ v. Ok (form_of t i w)))))
+      (λ i. on_ok (judged_rates push pop peek) (λ u. on_ok (steps_of peek t.work s) (λ w. on_ok (kept_rates push pop w.1) (λ v. Ok (elaborated_form t i w)))))
       (Within above 0 fields init s nought) (λ f. Unit {0}) (optional_met above 0 t.init fields s nought (omega arith) h.0)
-      (λ i z. chain above (Rated push pop peek ∷ []) (each_word peek fields work ++ ends) (rates_of push pop peek)
-      (λ u. on_ok (steps_of peek t.work s) (λ w. on_ok (kept_rates push pop w.1) (λ v. Ok (form_of t i w))))
+      (λ i z. chain above (Rated push pop peek ∷ []) (each_word peek fields work ++ ends) (judged_rates push pop peek)
+      (λ u. on_ok (steps_of peek t.work s) (λ w. on_ok (kept_rates push pop w.1) (λ v. Ok (elaborated_form t i w))))
       (λ u. peek ≤ 65536) (λ f. Unit {0}) (rates_met push pop peek)
-      (λ u small. chain above (each_word peek fields work) ends (steps_of peek t.work s) (λ w. on_ok (kept_rates push pop w.1) (λ v. Ok (form_of t i w)))
+      (λ u small. chain above (each_word peek fields work) ends (steps_of peek t.work s) (λ w. on_ok (kept_rates push pop w.1) (λ v. Ok (elaborated_form t i w)))
       (Went above peek fields work s nought) (λ f. Unit {0}) (all_met above peek t.work fields s nought small h.0)
-      (λ w g. finish above ends (kept_rates push pop w.1) (λ v. form_of t i w) (λ u. Unit {0}) (λ f. Unit {0})
+      (λ w g. finish above ends (kept_rates push pop w.1) (λ v. elaborated_form t i w) (λ u. Unit {0}) (λ f. Unit {0})
       (counts_met push pop work w.1 (work_pops fields work s w.1 h.0 h.1 g.stands) (work_pushes fields work s w.1 h.0 h.2 g.stands)) (λ v x. tt)))))
 
 -- WHAT IS KNOWN OF THE STREAMS ABOVE
@@ -349,5 +346,6 @@ module _ (above : List Declared) (known : Streamed) (k : KnowsAbove above known)
       (free above (Names u.name) (λ h. h) (λ a. omega (arith, a, h)) (λ d c h. h) (λ i r h. h) (λ h. h) (λ h. h) (λ h. h) (λ h. h), tt) m
   name_met u (Some s) h r Q m = inl (first_twice above (Names u.name) h.0)
 
+  -- judging a unit tells the first fault of its places, or its stream
   pub unit_met : (u : Declared) → Meets above (unit_spots u) (unit_of known u) (IsBodyAs above u.body)
   unit_met u = name_met u (look known u.name) (k.each u.name) (stream_of known u.name u.body) (IsBodyAs above u.body) (body_met u.name u.body)

@@ -17,7 +17,7 @@ use Rattle.river_plan.specs.Limits.{most_of, numbers}
 use Rattle.river_plan.specs.Valid.{IsPlan}
 use Rattle.river_plan.proofs.NameLemmas.{cases_name, one_same}
 use Rattle.river_plan.proofs.ShareLemmas.{total-vars}
-use Rattle.streamit_model.specs.Stream.{Stream, IsStream, IsSmall}
+use Rattle.streamit_model.specs.Unrolled.{Stream, IsStream, IsSmall}
 use Rattle.streamit_model.specs.Build.{queues, ops_in, queues_in, values_in, ops_from, own_queues, plan_of}
 use Rattle.streamit_model.specs.Laws.{PlansAreValid}
 use Rattle.streamit_model.proofs.Numbers.{number_in, meets_once, queue_count, queues_once}
@@ -181,6 +181,7 @@ module _ (s : Stream) (ok : IsStream s) (small : IsSmall s) (few : ops_in s ≤ 
   limited limit.Latest = kernels_within limit.Latest ops within
   limited limit.Best = All-nil (λ (m : ℕ). m ≤ 1000000)
 
+  -- the plan of a stream is valid
   pub valid : IsPlan (plan_of s)
   valid = record {
     queues_once = λ q. subst (λ l. count q l ≤ 1) (sym queue_names_are) (all_once q);
@@ -205,5 +206,6 @@ module _ (s : Stream) (ok : IsStream s) (small : IsSmall s) (few : ops_in s ≤ 
     private_once = λ v lt. vars_le v;
   }
 
+-- the law: so are all plans of streams
 pub plans_are_valid : PlansAreValid
 plans_are_valid s ok small few = valid s ok small few

@@ -8,7 +8,7 @@ use Rattle.river_kernels.specs.Kern as kern
 use Rattle.river_plan.specs.declared.plan.Decl.{Decl}
 use Rattle.river_plan.specs.Forms.{Name, OpForm, PlanForm}
 use Rattle.river_plan.specs.Uses.{all_writes, all_vars}
-use Rattle.streamit_model.specs.Stream.{Splitter, Duplicate, RoundRobin, Stream, Filter, Pipeline, SplitJoin, Streams, Last, Then, number_of}
+use Rattle.streamit_model.specs.Unrolled.{Splitter, Duplicate, RoundRobin, Stream, Filter, Pipeline, SplitJoin, Streams, Last, Then, number_of}
 
 -- a name with a number behind it
 abbrev pub numbered : Name → ℕ → Name
@@ -91,12 +91,12 @@ abbrev pub ops_from : Stream → List OpForm
 ops_from s = build s 1 1 (codes "in") (codes "out")
 
 -- a queue of the plan's own: not its output
-abbrev pub is_own : Name → Bool
-is_own q = not (name_eq q (codes "out"))
+abbrev pub is_own_queue : Name → Bool
+is_own_queue q = not (name_eq q (codes "out"))
 
 -- the queues of its own, in the order in which the operators write them
 abbrev pub own_queues : List OpForm → List Name
-own_queues ops = filter is_own (all_writes ops)
+own_queues ops = filter is_own_queue (all_writes ops)
 
 abbrev pub plan_of : Stream → PlanForm
 plan_of s =

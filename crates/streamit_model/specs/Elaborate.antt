@@ -10,9 +10,9 @@ use Rattle.work_code.specs.Steps.{Step, Steps, Done}
 use Rattle.work_code.specs.Steps as steps
 use Rattle.work_code.specs.Value.{applied, truth}
 use Rattle.river_plan.specs.Forms.{Name}
-use Rattle.text_forms.specs.Tree.{Spoken}
-use Rattle.text_forms.specs.Tree as tree
-use Rattle.streamit_model.specs.Source.{Statement, Declare, Assign, Push, Pop, If, For, Block, End, Then, pops, numbers, Optional, Unwritten, Written}
+use Rattle.streamit_text.specs.Tree.{Expression, Statement, Declare, Assign, Push, Discard, If, For, Block, End, Then, Optional, Unwritten, Written}
+use Rattle.streamit_text.specs.Tree as tree
+use Rattle.streamit_model.specs.Meaning.{pops, numbers}
 
 -- why a program is refused
 pub data Fault : Type 0 where
@@ -55,11 +55,9 @@ constant_of None = Err UnknownName
 constant_of (Some (Var i)) = Err NotConstant
 constant_of (Some (Turn v)) = Ok (pos v)
 
-abbrev pub constant : Scope → Spoken → Result ℤ Fault
+abbrev pub constant : Scope → Expression → Result ℤ Fault
 constant sc (tree.Number v) = Ok (pos v)
 constant sc (tree.Name n) = constant_of (find sc n)
-constant sc (tree.Input p) = Err NotConstant
-constant sc (tree.Slot p) = Err NotConstant
 constant sc (tree.Peek t) = Err NotConstant
 constant sc tree.Pop = Err NotConstant
 constant sc (tree.Neg t) = on_ok (constant sc t) (λ a. Ok (negate a))
@@ -68,20 +66,18 @@ constant sc (tree.Bin o l r) = on_ok (constant sc l) (λ a. on_ok (constant sc r
 
 -- EXPRESSIONS: `e` is the peek rate, and k pops come before
 
-abbrev pub named : Option Known → Result Term Fault
-named None = Err UnknownName
-named (Some (Var i)) = Ok (term.Slot i)
-named (Some (Turn v)) = Ok (term.Const (pos v))
+abbrev pub named_term : Option Known → Result Term Fault
+named_term None = Err UnknownName
+named_term (Some (Var i)) = Ok (term.Slot i)
+named_term (Some (Turn v)) = Ok (term.Const (pos v))
 
 abbrev pub peeked : ℕ → ℕ → ℤ → Result Term Fault
 peeked e k (pos i) = if nat_lt (k + i) e then Ok (term.Input (k + i)) else Err (PeekRange (pos i) e)
 peeked e k (negsuc i) = Err (PeekRange (negsuc i) e)
 
-abbrev pub term_of : ℕ → Scope → Spoken → ℕ → Result Term Fault
+abbrev pub term_of : ℕ → Scope → Expression → ℕ → Result Term Fault
 term_of e sc (tree.Number v) k = Ok (term.Const (pos v))
-term_of e sc (tree.Name n) k = named (find sc n)
-term_of e sc (tree.Input p) k = Err UnknownName
-term_of e sc (tree.Slot p) k = Err UnknownName
+term_of e sc (tree.Name n) k = named_term (find sc n)
 term_of e sc (tree.Peek t) k = on_ok (constant sc t) (peeked e k)
 term_of e sc tree.Pop k = if nat_le k 65536 then Ok (term.Input k) else Err Limit
 term_of e sc (tree.Neg t) k = on_ok (term_of e sc t k) (λ a. Ok (term.Neg a))
@@ -120,11 +116,11 @@ abbrev pub bound_of : ℤ → Result ℕ Fault
 bound_of (pos n) = if nat_le n 65536 then Ok n else Err Limit
 bound_of (negsuc n) = Err Limit
 
-abbrev pub first_term : ℕ → Option Spoken → At → Result Term Fault
+abbrev pub first_term : ℕ → Option Expression → At → Result Term Fault
 first_term e None s = Ok (term.Const (pos 0))
 first_term e (Some t) s = term_of e s.scope t s.popped
 
-abbrev pub first_popped : Option Spoken → ℕ
+abbrev pub first_popped : Option Expression → ℕ
 first_popped None = 0
 first_popped (Some t) = pops t
 
@@ -140,7 +136,7 @@ abbrev pub Read : Type 0
 Read = Result (Steps × At) Fault
 
 -- a new local, in the next slot
-abbrev pub declared : Name → Option Spoken → At → Term → Steps × At
+abbrev pub declared : Name → Option Expression → At → Term → Steps × At
 declared n t s v = (one_step (steps.Set s.slots v), record s { scope = (n, Var s.slots) ∷ s.scope; slots = s.slots + 1; popped = s.popped + first_popped t })
 
 -- after both arms, which pop and push as many
@@ -164,7 +160,7 @@ abbrev mutual
       on_ok (counted s0) (λ s. on_ok (slot_of (find s.scope n)) (λ i. on_ok (term_of e s.scope t s.popped) (λ v. Ok (one_step (steps.Set i v), record s { popped = s.popped + pops t }))))
   step_of e (Push t) s0 =
       on_ok (counted s0) (λ s. on_ok (term_of e s.scope t s.popped) (λ v. Ok (one_step (steps.Push 0 (v ∷ [])), record s { popped = s.popped + pops t; pushed = s.pushed + 1 })))
-  step_of e Pop s = Ok (Done, record s { popped = s.popped + 1 })
+  step_of e Discard s = Ok (Done, record s { popped = s.popped + 1 })
   step_of e (If t a b) s0 =
       on_ok (counted s0) (λ s. on_ok (term_of e s.scope t s.popped) (λ c.
       on_ok (steps_of e a (record s { popped = s.popped + pops t })) (λ p.

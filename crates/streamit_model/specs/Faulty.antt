@@ -5,12 +5,13 @@ use Rattle.std.specs.List.{AllByRecursion}
 use Rattle.river_plan.specs.Forms.{Name}
 use Rattle.river_plan.specs.Names.{count}
 use Rattle.brooklet_model.specs.ByIndex.{cycle}
-use Rattle.streamit_model.specs.Stream.{IsRound}
+use Rattle.streamit_model.specs.Unrolled.{IsRound}
 use Rattle.streamit_model.specs.Elaborate.{Fault, UnknownName, NameTwice, Rates, PeekRange, NotConstant, BranchRates, Limit, Weights}
-use Rattle.streamit_model.specs.Program.{Declared, Program, weights_for}
+use Rattle.streamit_text.specs.Program.{Declared, Program}
+use Rattle.streamit_model.specs.Meaning.{weights_for}
 use Rattle.streamit_model.specs.Judged.{Streamed, judged}
-use Rattle.streamit_model.specs.Words.{Begins, Declares, Sets, Uses, Fixes, Varies, Foreign, Pops, Peeks, Bounds, Loops, Joins, IsLocal, IsTurn, IsKnown}
-use Rattle.streamit_model.specs.Words.{slots_in, statements_in, popped_in}
+use Rattle.streamit_model.specs.Words.{Begins, Declares, Sets, Uses, Fixes, Varies, Pops, Peeks, Bounds, Loops, Joins, IsLocal, IsTurn, IsKnown, slots_in}
+use Rattle.streamit_model.specs.Words.{statements_in, popped_in}
 use Rattle.streamit_model.specs.Places.{Spot, Names, Reads, Rated, Counts, Branch, Added, Weighs, Finishes, Place, places_of, depth_above, last_operators}
 
 -- THE TABLE: what stands above, what stands there
@@ -25,7 +26,6 @@ IsUnknown above (Added n) = IsAbove above n → ⊥
 IsUnknown above (Reads peek before (Sets n)) = IsKnown before n → ⊥
 IsUnknown above (Reads peek before (Uses n)) = IsKnown before n → ⊥
 IsUnknown above (Reads peek before (Fixes n)) = IsKnown before n → ⊥
-IsUnknown above (Reads peek before Foreign) = Unit {0}
 IsUnknown above s = ⊥
 
 -- a stream, or a name that is known there, is declared again

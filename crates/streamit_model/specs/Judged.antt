@@ -2,12 +2,13 @@
 use Rattle.std.specs.Prelude.{ℕ, suc, Bool, true, ◌&&◌, List, [], ◌∷◌, length, nat_lt, nat_le, nat_eq, Option, Some, None, Result, Ok, Err}
 use Rattle.std.specs.List.{list_all}
 use Rattle.river_plan.specs.Forms.{Name}
-use Rattle.streamit_model.specs.Stream.{Splitter, Duplicate, RoundRobin, Stream, Filter, Pipeline, SplitJoin, Streams, Last, Then, nesting}
+use Rattle.streamit_model.specs.Unrolled.{Splitter, Duplicate, RoundRobin, Stream, Filter, Pipeline, SplitJoin, Streams, Last, Then, nesting}
 use Rattle.brooklet_model.specs.ByIndex.{cycle}
 use Rattle.streamit_model.specs.Build.{ops_in}
 use Rattle.streamit_model.specs.Elaborate.{Fault, UnknownName, NameTwice, Limit, Weights, on_ok, demand}
-use Rattle.streamit_model.specs.FilterSource.{elaborated}
-use Rattle.streamit_model.specs.Program.{Dealing, Copies, Turns, Body, AFilter, APipeline, ASplitJoin, Declared, Program, weights_for, look, branch_count}
+use Rattle.streamit_model.specs.ElaborateFilter.{elaborated}
+use Rattle.streamit_text.specs.Program.{Dealing, Copies, Turns, Body, AFilter, APipeline, ASplitJoin, Declared, Program}
+use Rattle.streamit_model.specs.Meaning.{weights_for, look, branch_count}
 
 -- the first fault, and the number of its unit
 pub record Refusal : Type 0 where

@@ -15,13 +15,14 @@ use Rattle.brooklet_model.specs.Words.{feed_all}
 use Rattle.brooklet_model.specs.Histories.{History, Solves}
 use Rattle.brooklet_model.specs.Meaning.{meaning}
 use Rattle.brooklet_model.specs.ByIndex.{item_at, dealt, collected}
-use Rattle.streamit_model.specs.Stream.{Stream, IsRound, IsStream, IsSmall}
-use Rattle.streamit_model.specs.Filters.{filtered}
-use Rattle.streamit_model.specs.Means.{outputs}
+use Rattle.streamit_model.specs.Unrolled.{Stream, IsRound, IsStream, IsSmall}
+use Rattle.streamit_model.specs.UnrolledFilters.{filtered}
+use Rattle.streamit_model.specs.UnrolledMeans.{outputs}
 use Rattle.streamit_model.specs.Build.{weights, build, ops_in, plan_of}
-use Rattle.streamit_model.specs.Shallow.{AreShallow}
-use Rattle.streamit_model.specs.FilterSource.{FilterTree, pushed_by, elaborated}
-use Rattle.streamit_model.specs.Program.{Program, AreShallowUnits, program_outputs}
+use Rattle.streamit_model.specs.Shallow.{AreShallow, AreShallowUnits}
+use Rattle.streamit_text.specs.Program.{FilterTree, Program}
+use Rattle.streamit_model.specs.Meaning.{pushed_by, program_outputs}
+use Rattle.streamit_model.specs.ElaborateFilter.{elaborated}
 use Rattle.streamit_model.specs.Judged.{Streamed, judged}
 
 -- values as the items of a queue that carries single values

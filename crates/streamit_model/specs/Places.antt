@@ -2,8 +2,8 @@
 use Rattle.std.specs.Prelude.{ℕ, suc, ◌+◌, max, List, [], ◌∷◌, ◌++◌, map, Option, if◌then◌else◌}
 use Rattle.river_base.specs.Name.{name_eq}
 use Rattle.river_plan.specs.Forms.{Name}
-use Rattle.streamit_model.specs.FilterSource.{FilterTree, push_of, pop_of, peek_of, nought}
-use Rattle.streamit_model.specs.Program.{Dealing, Copies, Turns, Body, AFilter, APipeline, ASplitJoin, Declared, Program, branch_count}
+use Rattle.streamit_text.specs.Program.{FilterTree, Dealing, Copies, Turns, Body, AFilter, APipeline, ASplitJoin, Declared, Program}
+use Rattle.streamit_model.specs.Meaning.{push_of, pop_of, peek_of, nought, branch_count}
 use Rattle.streamit_model.specs.Words.{Word, Declares, Knows, popped_in, pushed_in}
 use Rattle.streamit_model.specs.Text.{all_read, optional_read}
 

@@ -1,12 +1,13 @@
--- What reading a block sees to: no expression is deeper than 64, and `init` pops nothing.
-use Rattle.std.specs.Prelude.{◌≡◌, ◌≤◌, Option, Some, None}
-use Rattle.text_forms.specs.Tree.{Spoken, depth_of}
-use Rattle.streamit_model.specs.Source.{Statement, Declare, Assign, Push, Pop, If, For, Block, End, Then, pops, Optional, Unwritten, Written}
+-- What reading sees to: no expression is deeper than 64, and `init` pops nothing.
+use Rattle.std.specs.Prelude.{◌≡◌, ◌≤◌, Option, Some, None, [], ◌∷◌}
+use Rattle.streamit_text.specs.Tree.{Expression, depth_of, Statement, Declare, Assign, Push, Discard, If, For, Block, End, Then, Optional, Unwritten, Written}
+use Rattle.streamit_model.specs.Meaning.{pops}
+use Rattle.streamit_text.specs.Program.{Body, AFilter, APipeline, ASplitJoin, Program}
 
-abbrev pub IsLow : Spoken → Type 0
+abbrev pub IsLow : Expression → Type 0
 IsLow t = depth_of t ≤ 64
 
-abbrev pub IsLowFirst : Option Spoken → Type 0
+abbrev pub IsLowFirst : Option Expression → Type 0
 IsLowFirst None = Unit {0}
 IsLowFirst (Some t) = IsLow t
 
@@ -15,7 +16,7 @@ abbrev mutual
   IsShallow (Declare n t) = IsLowFirst t
   IsShallow (Assign n t) = IsLow t
   IsShallow (Push t) = IsLow t
-  IsShallow Pop = Unit {0}
+  IsShallow Discard = Unit {0}
   IsShallow (If t a b) = IsLow t × AreShallow a × AreShallowOptional b
   IsShallow (For n low upto high b) = AreShallow b
 
@@ -28,10 +29,10 @@ abbrev mutual
   AreShallowOptional (Written b) = AreShallow b
 
 -- no item is popped in an expression
-abbrev pub IsItemless : Spoken → Type 0
+abbrev pub IsItemless : Expression → Type 0
 IsItemless t = pops t ≡ 0
 
-abbrev pub IsItemlessFirst : Option Spoken → Type 0
+abbrev pub IsItemlessFirst : Option Expression → Type 0
 IsItemlessFirst None = Unit {0}
 IsItemlessFirst (Some t) = IsItemless t
 
@@ -41,7 +42,7 @@ abbrev mutual
   KeepsItems (Declare n t) = IsItemlessFirst t
   KeepsItems (Assign n t) = IsItemless t
   KeepsItems (Push t) = ⊥
-  KeepsItems Pop = ⊥
+  KeepsItems Discard = ⊥
   KeepsItems (If t a b) = IsItemless t × KeepAll a × KeepAllOptional b
   KeepsItems (For n low upto high b) = KeepAll b
 
@@ -52,3 +53,13 @@ abbrev mutual
   pub KeepAllOptional : Optional → Type 0
   KeepAllOptional Unwritten = Unit {0}
   KeepAllOptional (Written b) = KeepAll b
+
+-- no expression of the program is deeper than 64
+abbrev pub IsShallowBody : Body → Type 0
+IsShallowBody (AFilter t) = AreShallow t.work
+IsShallowBody (APipeline a) = Unit {0}
+IsShallowBody (ASplitJoin d a ws) = Unit {0}
+
+abbrev pub AreShallowUnits : Program → Type 0
+AreShallowUnits [] = Unit {0}
+AreShallowUnits (u ∷ us) = IsShallowBody u.body × AreShallowUnits us

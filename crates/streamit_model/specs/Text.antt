@@ -1,21 +1,17 @@
 -- The words of blocks in reading order: loops are unrolled, so that a loop's block is read once for each turn.
 use Rattle.std.specs.Prelude.{ℕ, ℤ, pos, List, [], ◌∷◌, ◌++◌, map, Option, Some, None}
-use Rattle.text_forms.specs.Tree.{Spoken}
-use Rattle.text_forms.specs.Tree as tree
+use Rattle.streamit_text.specs.Tree.{Expression, Statement, Declare, Assign, Push, Discard, If, For, Block, End, Then, Optional, Unwritten, Written}
+use Rattle.streamit_text.specs.Tree as tree
 use Rattle.river_plan.specs.Forms.{Name}
 use Rattle.brooklet_model.specs.Machine.{at_name}
-use Rattle.streamit_model.specs.Source.{Statement, Declare, Assign, Push, Pop, If, For, Block, End, Then, Optional, Unwritten, Written, Values, said}
-use Rattle.streamit_model.specs.Source.{turns_between}
-use Rattle.streamit_model.specs.Words.{Word, Begins, Declares, Knows, Leaves, Sets, Uses, Fixes, Varies, Foreign, Pops, Drops, Peeks, Bounds, Loops, Enters}
-use Rattle.streamit_model.specs.Words.{Exits, Pushes}
-use Rattle.streamit_model.specs.Words.{Otherwise, Joins, popped_in, pushed_in}
+use Rattle.streamit_model.specs.Meaning.{Values, eval, turns_between}
+use Rattle.streamit_model.specs.Words.{Word, Begins, Declares, Knows, Leaves, Sets, Uses, Fixes, Varies, Pops, Drops, Peeks, Bounds, Loops, Enters, Exits}
+use Rattle.streamit_model.specs.Words.{Pushes, Otherwise, Joins, popped_in, pushed_in}
 
 -- the words of a bound or an index
-abbrev pub fixed : Spoken → List Word
+abbrev pub fixed : Expression → List Word
 fixed (tree.Number v) = []
 fixed (tree.Name n) = Fixes n ∷ []
-fixed (tree.Input p) = Varies ∷ []
-fixed (tree.Slot p) = Varies ∷ []
 fixed (tree.Peek t) = Varies ∷ []
 fixed tree.Pop = Varies ∷ []
 fixed (tree.Neg t) = fixed t
@@ -23,15 +19,13 @@ fixed (tree.Not t) = fixed t
 fixed (tree.Bin o l r) = fixed l ++ fixed r
 
 -- the value of a bound or an index, where the variables of loops have these values
-abbrev pub fixed_value : Spoken → Values → ℤ
-fixed_value t turns = said t [] turns 0
+abbrev pub fixed_value : Expression → Values → ℤ
+fixed_value t turns = eval t [] turns 0
 
 -- the words of an expression
-abbrev pub spelled : Spoken → Values → List Word
+abbrev pub spelled : Expression → Values → List Word
 spelled (tree.Number v) turns = []
 spelled (tree.Name n) turns = Uses n ∷ []
-spelled (tree.Input p) turns = Foreign ∷ []
-spelled (tree.Slot p) turns = Foreign ∷ []
 spelled (tree.Peek t) turns = fixed t ++ Peeks (fixed_value t turns) ∷ []
 spelled tree.Pop turns = Pops ∷ []
 spelled (tree.Neg t) turns = spelled t turns
@@ -39,7 +33,7 @@ spelled (tree.Not t) turns = spelled t turns
 spelled (tree.Bin o l r) turns = spelled l turns ++ spelled r turns
 
 -- those of a local's first value, where it has one
-abbrev pub spelled_first : Option Spoken → Values → List Word
+abbrev pub spelled_first : Option Expression → Values → List Word
 spelled_first None turns = []
 spelled_first (Some t) turns = spelled t turns
 
@@ -50,8 +44,8 @@ locals_of (Then (Declare n t) b) = n ∷ locals_of b
 locals_of (Then c b) = locals_of b
 
 -- a block with its end
-abbrev pub enclosed : Block → List Word → List Word
-enclosed b ws = ws ++ map Leaves (locals_of b)
+abbrev pub with_end : Block → List Word → List Word
+with_end b ws = ws ++ map Leaves (locals_of b)
 
 -- the turns of a loop, of which each is its block with another value of the variable
 abbrev pub turning : Name → (Values → List Word) → List ℕ → Values → List Word
@@ -69,12 +63,12 @@ abbrev mutual
   read_of (Declare n t) turns = Begins ∷ Declares n ∷ (spelled_first t turns ++ Knows n ∷ [])
   read_of (Assign n t) turns = Begins ∷ Sets n ∷ spelled t turns
   read_of (Push t) turns = Begins ∷ (spelled t turns ++ Pushes ∷ [])
-  read_of Pop turns = Drops ∷ []
-  read_of (If t a b) turns = Begins ∷ (spelled t turns ++ arms (enclosed a (all_read a turns)) (optional_read b turns))
+  read_of Discard turns = Drops ∷ []
+  read_of (If t a b) turns = Begins ∷ (spelled t turns ++ arms (with_end a (all_read a turns)) (optional_read b turns))
   read_of (For n low upto high b) turns =
       let l = fixed_value low turns in
       let h = fixed_value high turns in
-      Loops n ∷ (fixed low ++ Bounds l ∷ (fixed high ++ Bounds h ∷ turning n (λ inner. enclosed b (all_read b inner)) (turns_between l upto h) turns))
+      Loops n ∷ (fixed low ++ Bounds l ∷ (fixed high ++ Bounds h ∷ turning n (λ inner. with_end b (all_read b inner)) (turns_between l upto h) turns))
 
   -- those of a block, without its end
   pub all_read : Block → Values → List Word
@@ -84,4 +78,4 @@ abbrev mutual
   -- a block that is not written has no words
   pub optional_read : Optional → Values → List Word
   optional_read Unwritten turns = []
-  optional_read (Written b) turns = enclosed b (all_read b turns)
+  optional_read (Written b) turns = with_end b (all_read b turns)

@@ -21,8 +21,6 @@ pub data Word : Type 0 where
   Fixes : Name → Word
   -- `pop` or `peek` in a bound or an index
   Varies : Word
-  -- what stands in expressions of River text alone
-  Foreign : Word
   -- `pop()` in an expression
   Pops : Word
   -- `pop();` as a statement

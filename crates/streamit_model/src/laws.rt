@@ -1,6 +1,6 @@
 //! Laws over the definitions alone.
-ghost use Rattle.streamit_model.specs.Laws.{FedFilters, FedSplitters, FedJoiners, CollectsLongest, FiltersMean, SolutionsMean};
-ghost use Rattle.streamit_model.specs.Laws.{PlansAreValid, PlansInTurn, TranslationMeans, ProgramsMean};
+ghost use Rattle.streamit_model.specs.Laws.{FedFilters, FedSplitters, FedJoiners, CollectsLongest, FiltersMean, SolutionsMean, PlansAreValid, PlansInTurn};
+ghost use Rattle.streamit_model.specs.Laws.{TranslationMeans, ProgramsMean};
 ghost use Rattle.streamit_model.specs.Faulty.{RefusalsAre, AcceptedAre};
 
 /// Fed with the items of an input, the kernels of a program give what the program's filters, splitters and joiners give.

@@ -1,21 +1,18 @@
 -- The steps by which code reads names of streams.
 use Rattle.std.proofs.Common.{◌≡◌, ℕ, ◌<◌, ◌≤◌, ◌+◌, List, [], ◌∷◌, ◌++◌, length, Bool, true, false, Some, None, refl, sym, ap, ◌∙◌, arith, length-append}
-use Rattle.std.specs.Prelude.{nat_le}
-use Rattle.std.specs.Prelude.{◌&&◌}
+use Rattle.std.specs.Prelude.{nat_le, ◌&&◌}
 use Rattle.work_code.specs.Tok.{Tok}
-use Rattle.text_forms.specs.declared.language.Language.TheVariants.{StreamIt}
-use Rattle.text_forms.specs.Language.{is_plain}
 use Rattle.text_forms.specs.Parse as parse
 use Rattle.text_forms.specs.Repeat.{repeated}
 use Rattle.text_forms.proofs.Many.{many-shortens}
 use Rattle.text_forms.proofs.Repeat.{repeated-next, repeated-stop, repeated-fail}
 use Rattle.river_base.specs.Name.{is_name}
-use Rattle.streamit_text.specs.Grammar.{is_own}
+use Rattle.streamit_text.specs.Words.{is_plain, is_own}
 use Rattle.streamit_text.specs.Reading.{no_add, add_at}
 use Rattle.streamit_text.proofs.Units.{exact-add, listed-adds}
 
 -- a name that users may give is short
-pub plain-short : (text : List ℕ) → is_plain StreamIt text ≡ true → length text ≤ 40
+pub plain-short : (text : List ℕ) → is_plain text ≡ true → length text ≤ 40
 unfolding is_plain
 plain-short text h = by (nat_le (length text) 40) _ refl h where
   by : (b c : Bool) → nat_le (length text) 40 ≡ b → (b && c) ≡ true → length text ≤ 40
@@ -24,8 +21,8 @@ plain-short text h = by (nat_le (length text) 40) _ refl h where
 
 -- and so is one that they may call something
 pub own-short : (text : List ℕ) → is_own text ≡ true → length text ≤ 40
-own-short text h = by (is_plain StreamIt text) refl h where
-  by : (b : Bool) → is_plain StreamIt text ≡ b → b && is_name text ≡ true → length text ≤ 40
+own-short text h = by (is_plain text) refl h where
+  by : (b : Bool) → is_plain text ≡ b → b && is_name text ≡ true → length text ≤ 40
   by true e g = plain-short text e
   by false e g = absurd (cc g)
 

@@ -1,11 +1,11 @@
 pub mod Adding
-pub mod Blocks
 pub mod Fields
+pub mod Lines
 pub mod Named
+pub mod Places
 pub mod Programs
-pub mod Rates
-pub mod Statements
+pub mod RateSteps
 pub mod Texts
+pub mod Trees
 pub mod Units
 pub mod Weighing
-pub mod Wholes

@@ -9,9 +9,7 @@ use Rattle.work_code.specs.Laws.{IsWord, IsWrittenAs, AllSpans}
 use Rattle.work_code.specs.Lexis.{first_is}
 use Rattle.work_code.specs.Tok.{Tok, name, var, number, symbol, Mark}
 use Rattle.work_code.proofs.Slices.{tokens_are_slices}
-use Rattle.text_forms.specs.declared.language.Language.TheVariants.{StreamIt}
-use Rattle.text_forms.specs.Language.{is_plain}
-use Rattle.streamit_text.specs.Grammar.{is_own}
+use Rattle.streamit_text.specs.Words.{is_plain, is_own}
 use Rattle.streamit_text.specs.Laws.{IsOwn, AreOwn, NamesAreNames}
 use Rattle.streamit_text.proofs.Adding.{plain-short}
 
@@ -27,7 +25,7 @@ word-named (c ∷ cs) h le =
       low : (n : ℕ) → n ≤ 63 → nat_le n 63 ≡ true
       low n le = grind (arith, nat_tests)
 
-word-own : (w : List ℕ) → IsWord w → is_plain StreamIt w ≡ true → is_own w ≡ true
+word-own : (w : List ℕ) → IsWord w → is_plain w ≡ true → is_own w ≡ true
 word-own w h plain = ap (λ (b : Bool). b && is_name w) plain ∙ word-named w h (plain-short w plain)
 
 token-own : (t : Tok) (bytes : List ℕ) → IsWrittenAs t bytes → IsOwn t

@@ -1,10 +1,14 @@
 -- What is read of tokens is what they stand for.
-use Rattle.std.proofs.Common.{◌≡◌, ℕ, List, Result, Ok, Err, sym, ◌∙◌}
-use Rattle.work_code.specs.Cut.{units_of}
+use Rattle.std.proofs.Common.{◌≡◌, ℕ, List, [], ◌∷◌, length, Result, Ok, Err, refl, sym, ◌∙◌}
+use Rattle.std.specs.Borrow.{Bor}
+use Rattle.std.specs.Prelude.{map}
+use Rattle.work_code.specs.Cut.{unit_tokens, units_of}
 use Rattle.work_code.specs.Tok.{Mark, toks}
-use Rattle.streamit_model.specs.Program.{Program}
+use Rattle.work_code.specs.declared.token.Lexeme.{Lexeme}
+use Rattle.text_forms.specs.AllUnits.{all_units}
+use Rattle.streamit_text.specs.Program.{Program}
 use Rattle.streamit_text.specs.Faults.{StandFor, IsBadUnit}
-use Rattle.streamit_text.specs.Reading.{some_units}
+use Rattle.streamit_text.specs.Reading.{unit_at, some_units}
 use Rattle.streamit_text.proofs.Texts.{units-read, units-reads, units-bad}
 
 pub program-read : (marks : List Mark) (p : Program) → some_units (units_of (toks marks)) ≡ Ok p → StandFor marks p
@@ -17,3 +21,10 @@ program-refused marks n e = (units-bad (units_of (toks marks)) n e, λ p h. neve
   never p f = cc
 
 pub ruleset programs = (program-read, program-refused)
+
+-- where there is a unit, all units are read
+pub units-some : (parts : List (Bor (List Lexeme))) → (length parts ≡ 0 → ⊥) → some_units (map unit_tokens parts) ≡ all_units unit_at (map unit_tokens parts)
+units-some [] h = absurd (h refl)
+units-some (u ∷ us) h = refl
+
+pub ruleset some = (units-some)

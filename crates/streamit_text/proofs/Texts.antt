@@ -6,7 +6,7 @@ use Rattle.work_code.specs.Tok.{Tok, Mark, toks}
 use Rattle.work_code.specs.declared.fault.LexFault.{LexFault}
 use Rattle.text_forms.specs.Texts.{IsFirstBad}
 use Rattle.text_forms.proofs.Texts.{all-formed, formed-read, first-bad}
-use Rattle.streamit_model.specs.Program.{Program}
+use Rattle.streamit_text.specs.Program.{Program}
 use Rattle.streamit_text.specs.Grammar.{AreUnits, IsSome, IsText, IsUnitAt, next_unit}
 use Rattle.streamit_text.specs.Laws.{OneProgram, IsEmpty}
 use Rattle.streamit_text.specs.Reading.{some_units}

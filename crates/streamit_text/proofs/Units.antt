@@ -11,20 +11,28 @@ use Rattle.text_forms.proofs.Exact.{Exact, Any, exact-less, exact-both, exact-af
 use Rattle.text_forms.proofs.Exact.{exact-number}
 use Rattle.text_forms.proofs.Many.{Listed, exact-many}
 use Rattle.text_forms.proofs.Choices.{exact-never, exact-choose, exact-headed, exact-known, exact-enclosed, exact-listing}
-use Rattle.streamit_model.specs.Source.{Block, Optional}
-use Rattle.streamit_unroll.specs.View.{or_unwritten}
-use Rattle.streamit_model.specs.Program.{Turns, Body, AFilter, APipeline}
-use Rattle.streamit_text.specs.Grammar.{Count, Weight, Round, stay, IsBlock, IsInit, IsField, push, pop, peek, IsRate, Rates, rates_in, unwritten, AreRates}
+use Rattle.text_blocks.specs.Parts.{Round}
+use Rattle.text_blocks.proofs.Parts.{exact-round}
+use Rattle.text_blocks.proofs.Statements as blocks
+use Rattle.streamit_text.specs.ExactLeaves.{apart}
+use Rattle.streamit_text.specs.ExactStatements.{exact-own, exact-empty, exact-streamit}
+use Rattle.streamit_text.specs.Program.{Turns, Body, AFilter, APipeline}
+use Rattle.streamit_text.specs.Tree.{Block, Optional, or_unwritten}
+use Rattle.streamit_text.specs.Grammar.{Count, Weight, stay, IsBlock, IsInit, IsField, push, pop, peek, IsRate, Rates, rates_in, unwritten, AreRates}
 use Rattle.streamit_text.specs.Grammar.{made_filter, InFilter, Braces, none_there, Parens, the_name, Called, IsAdd, made_adds, AreAdds, Weights, copying}
 use Rattle.streamit_text.specs.Grammar.{IsSplit, IsJoin, made_both, InBoth, BodyAfter, made_unit, KindAfter, IsUnit, IsUnitAt}
-use Rattle.streamit_text.specs.Reading.{still_at, init_at, no_field, field_at, fields_at, rate_after, rate_at, at_block, rate_list_at, rates_at, in_filter_at}
-use Rattle.streamit_text.specs.Reading.{filter_at, parens_at, called_at, add_at, no_add, more_adds_at, adds_at, weight_at, listed_at, weights_at, split_after}
-use Rattle.streamit_text.specs.Reading.{split_at, join_at, in_both_at, pipe_at, both_at, body_after, kind_after, unit_at, unit_from}
-use Rattle.streamit_text.proofs.Statements.{exact-plain, exact-round, exact-empty, exact-block}
+use Rattle.streamit_text.specs.Reading.{block_at, still_at, init_at, no_field, field_at, fields_at, rate_after, rate_at, at_block, rate_list_at, rates_at}
+use Rattle.streamit_text.specs.Reading.{in_filter_at, filter_at, parens_at, called_at, add_at, no_add, more_adds_at, adds_at, weight_at, listed_at, weights_at}
+use Rattle.streamit_text.specs.Reading.{split_after, split_at, join_at, in_both_at, pipe_at, both_at, body_after, kind_after, unit_at, unit_from}
 
-exact-still : (n : ℕ) → Exact (form.Tested stay (IsBlock 16 n)) (still_at n) Any
+-- a block
+exact-block : (n : ℕ) → Exact (IsBlock n) (block_at n) Any
+unfolding block_at
+exact-block n = blocks.exact-block (exact-streamit apart) 16 n
+
+exact-still : (n : ℕ) → Exact (form.Tested stay (IsBlock n)) (still_at n) Any
 unfolding still_at
-exact-still n = exact-tested stay (exact-block 16 n)
+exact-still n = exact-tested stay (exact-block n)
 
 -- no such word comes
 abbrev pub No : List ℕ → List Tok → Type 0
@@ -34,14 +42,16 @@ exact-init : (n : ℕ) → Exact (IsInit n) (init_at n) (No (codes "init"))
 unfolding init_at
 exact-init n =
     exact-less (exact-seen or_unwritten (exact-maybe (parse.is_word_at (codes "init")) (exact-after_word (codes "init") (exact-still n)) comes)) (λ rest d. (tt, d)) where
-      comes : (v : Block) (ts rest : List Tok) → form.AfterWord (codes "init") (form.Tested stay (IsBlock 16 n)) v ts
+      comes : (v : Block) (ts rest : List Tok) → form.AfterWord (codes "init") (form.Tested stay (IsBlock n)) v ts
           → parse.is_word_at (codes "init") (ts ++ rest) ≡ true
       comes v ts rest h = rw h.is refl
 
+-- a field
 pub exact-field : Exact IsField field_at Any
 unfolding field_at
-exact-field = exact-after_word (codes "int") (exact-before (s.Semicolon ∷ []) exact-plain (λ rest. tt))
+exact-field = exact-after_word (codes "int") (exact-before (s.Semicolon ∷ []) exact-own (λ rest. tt))
 
+-- fields have a token each, and each begins with its word
 pub listed-fields : Listed no_field IsField Any
 listed-fields = record {
   some = λ v ts h. rw h.is (omega arith);
@@ -56,6 +66,7 @@ exact-fields = exact-less (exact-many no_field exact-field listed-fields) (λ re
 exact-count : Exact Count parse.count_at Any
 exact-count = exact-tested parse.is_count exact-number
 
+-- a rate
 pub exact-rate : Exact IsRate rate_at Any
 unfolding rate_at rate_after
 exact-rate =
@@ -63,6 +74,7 @@ exact-rate =
     (exact-choose (bytes_eq w (codes "pop")) (exact-seen pop exact-count)
     (exact-choose (bytes_eq w (codes "peek")) (exact-seen peek exact-count) exact-never)))
 
+-- rates have a token each, and none begins with a brace
 pub listed-rates : Listed at_block IsRate Any
 listed-rates = record {
   some = λ v ts h. rw h.is (omega arith);
@@ -75,15 +87,15 @@ unfolding rates_at rate_list_at
 exact-rates = exact-known (rates_in unwritten) (exact-less (exact-many at_block exact-rate listed-rates) (λ rest d. (tt, d)))
 
 -- a block begins with a brace
-block-begins : (n : ℕ) (v : Block) (ts rest : List Tok) → IsBlock 16 n v ts → at_block (ts ++ rest) ≡ true
+block-begins : (n : ℕ) (v : Block) (ts rest : List Tok) → IsBlock n v ts → at_block (ts ++ rest) ≡ true
 block-begins zero v ts rest h = absurd h
 block-begins (suc n) v ts rest h = rw h.is refl
 
 -- behind the fields comes no field
 init-follows : (n : ℕ) (v : Optional × (Rates × Block)) (ts rest : List Tok)
-    → form.Both (IsInit n) (form.AfterWord (codes "work") (form.Both AreRates (IsBlock 16 n))) v ts → no_field (ts ++ rest) ≡ true
+    → form.Both (IsInit n) (form.AfterWord (codes "work") (form.Both AreRates (IsBlock n))) v ts → no_field (ts ++ rest) ≡ true
 init-follows n v ts rest h = by h.first.value h.first.formed where
-  by : (o : Option Block) → form.Maybe (form.AfterWord (codes "init") (form.Tested stay (IsBlock 16 n))) o h.front → no_field (ts ++ rest) ≡ true
+  by : (o : Option Block) → form.Maybe (form.AfterWord (codes "init") (form.Tested stay (IsBlock n))) o h.front → no_field (ts ++ rest) ≡ true
   by None g = rw (h.is, g, h.second.is) refl
   by (Some b) g = rw (h.is, append_assoc h.front h.back rest, g.is) refl
 
@@ -91,7 +103,7 @@ exact-in_filter : (n : ℕ) → Exact (InFilter n) (in_filter_at n) Any
 unfolding in_filter_at
 exact-in_filter n =
     exact-seen made_filter (exact-both exact-fields (exact-both (exact-init n) (exact-after_word (codes "work")
-    (exact-both exact-rates (exact-block 16 n) (λ y ts rest g d. block-begins n y ts rest g))) (λ y ts rest g d. rw g.is refl))
+    (exact-both exact-rates (exact-block n) (λ y ts rest g d. block-begins n y ts rest g))) (λ y ts rest g d. rw g.is refl))
     (λ y ts rest g d. init-follows n y ts rest g))
 
 exact-filter : (n : ℕ) → Exact (Braces InFilter n) (filter_at n) Any
@@ -113,12 +125,14 @@ exact-parens n =
 
 exact-called : (n : ℕ) → Exact (Called n) (called_at n) NoOpen
 unfolding called_at
-exact-called n = exact-seen the_name (exact-both exact-plain (exact-parens n) (λ y ts rest g d. tt))
+exact-called n = exact-seen the_name (exact-both exact-own (exact-parens n) (λ y ts rest g d. tt))
 
+-- the name of a stream that is added
 pub exact-add : (n : ℕ) → Exact (IsAdd n) (add_at n) Any
 unfolding add_at
 exact-add n = exact-after_word (codes "add") (exact-before (s.Semicolon ∷ []) (exact-called n) (λ rest. refl))
 
+-- what is added has a token, and begins with its word
 pub listed-adds : (n : ℕ) → Listed no_add (IsAdd n) Any
 listed-adds n = record {
   some = λ v ts h. rw h.is (omega arith);
@@ -131,6 +145,7 @@ unfolding adds_at more_adds_at
 exact-adds n =
     exact-seen made_adds (exact-both (exact-add n) (exact-less (exact-many no_add (exact-add n) (listed-adds n)) (λ rest d. (tt, d))) (λ y ts rest g d. tt))
 
+-- a weight
 pub exact-weight : Exact Weight weight_at Any
 unfolding weight_at
 exact-weight = exact-tested parse.is_value exact-number
@@ -209,5 +224,6 @@ pub exact-unit : Exact IsUnit unit_at Any
 unfolding unit_at
 exact-unit = exact-after_word (codes "int") (exact-after (s.Arrow ∷ []) (exact-after_word (codes "int") (exact-headed (exact-kind 128))))
 
+-- a unit, whatever comes before it
 pub exact-unit_from : (u : Unit {0}) → Exact (IsUnitAt u) (unit_from u) Any
 exact-unit_from u = exact-unit

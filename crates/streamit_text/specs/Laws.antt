@@ -3,11 +3,10 @@ use Rattle.std.specs.Prelude.{◌≡◌, ◌⊎◌, ℕ, true, List, [], ◌∷�
 use Rattle.work_code.specs.Cut.{units_of}
 use Rattle.work_code.specs.Lexis.{tokens_in}
 use Rattle.work_code.specs.Tok.{Tok, name, var, number, symbol, Mark, toks}
-use Rattle.text_forms.specs.declared.language.Language.TheVariants.{StreamIt}
-use Rattle.text_forms.specs.Language.{is_plain}
 use Rattle.text_forms.specs.Texts.{IsFirstBad}
-use Rattle.streamit_model.specs.Program.{Program}
-use Rattle.streamit_text.specs.Grammar.{IsText, IsUnitAt, is_own, next_unit}
+use Rattle.streamit_text.specs.Program.{Program}
+use Rattle.streamit_text.specs.Grammar.{IsText, IsUnitAt, next_unit}
+use Rattle.streamit_text.specs.Words.{is_plain, is_own}
 
 -- a text stands for one program at most
 abbrev pub OneProgram : Type 0
@@ -25,7 +24,7 @@ pub record IsBadAt (text : List ℕ) (n : ℕ) : Type 0 where
 
 -- a name that users may give begins with a letter or _
 abbrev pub IsOwn : Tok → Type 0
-IsOwn (name text) = is_plain StreamIt text ≡ true → is_own text ≡ true
+IsOwn (name text) = is_plain text ≡ true → is_own text ≡ true
 IsOwn (var text) = Unit {0}
 IsOwn (number value) = Unit {0}
 IsOwn (symbol sign) = Unit {0}

@@ -1,5 +1,13 @@
+pub mod Blocks
+pub mod ExactLeaves
+pub mod ExactStatements
+pub mod Expressions
 pub mod Faults
 pub mod Grammar
 pub mod Laws
+pub mod Leaves
+pub mod Program
 pub mod Reading
+pub mod Tree
 pub mod View
+pub mod Words

@@ -1,18 +1,18 @@
 // Filters read.
 ghost use Rattle.std.specs.Prelude.{◌≡◌};
 ghost use Rattle.text_forms.specs.Gives.{Gives};
-ghost use Rattle.streamit_unroll.specs.Filter.{filter_tree};
-ghost use Rattle.streamit_unroll.specs.View.{block, optional};
 ghost use Rattle.streamit_text.specs.Grammar.{with_rate};
+ghost use Rattle.streamit_text.specs.Program.{filter_tree};
+ghost use Rattle.streamit_text.specs.Tree.{block, optional_block};
 ghost use Rattle.streamit_text.specs.View.{rate_of, rates_of, option_rates};
 ghost use Rattle.streamit_text.specs.Reading.{field_at, fields_at, rate_after, rate_at, rates_at, still_at, init_at, in_filter_at, filter_at};
 
-use crate::block::block;
 use crate::names::name;
+use crate::statement::block;
 use crate::still::stay;
+use crate::{Block, FilterTree, Rates};
 use river_base::Name;
 use std::alloc::Global;
-use streamit_unroll::{Block, FilterTree, Rates};
 use text_forms::{Fault, Reader};
 use work_code::Symbol;
 
@@ -95,7 +95,7 @@ fn with_rate(rates: Rates, rate: Rate) -> Option<Rates>
 }
 
 // The rates, each of them once at most.
-#[tactic(auto, using(crate::proofs::Rates::rates))]
+#[tactic(auto, using(crate::proofs::RateSteps::rates))]
 fn rates(reader: &mut Reader<'_>) -> Result<Rates, Fault>
     ensures { Gives rates_of result reader.new (rates_at reader.old) }
 {
@@ -119,7 +119,7 @@ fn rates(reader: &mut Reader<'_>) -> Result<Rates, Fault>
 fn still(reader: &mut Reader<'_>, alloc: Global, brackets: u32) -> Result<Block, Fault>
     ensures { Gives block result reader.new (still_at brackets reader.old) }
 {
-    let all = block(reader, alloc, 16, brackets)?;
+    let all = block(reader, alloc, brackets)?;
     if stay(&all) {
         Ok(all)
     } else {
@@ -130,7 +130,7 @@ fn still(reader: &mut Reader<'_>, alloc: Global, brackets: u32) -> Result<Block,
 // `init` and its block, or nothing.
 #[tactic(auto, unfolding(crate::specs::Reading::init_at))]
 fn init(reader: &mut Reader<'_>, alloc: Global, brackets: u32) -> Result<Option<Block>, Fault>
-    ensures { Gives optional result reader.new (init_at brackets reader.old) }
+    ensures { Gives optional_block result reader.new (init_at brackets reader.old) }
 {
     if !reader.is_at_word(b"init") {
         return Ok(None);
@@ -140,7 +140,7 @@ fn init(reader: &mut Reader<'_>, alloc: Global, brackets: u32) -> Result<Option<
 }
 
 // What stands between the braces of a filter.
-#[tactic(auto, unfolding(crate::specs::Reading::in_filter_at), using(crate::proofs::Rates::filters))]
+#[tactic(auto, unfolding(crate::specs::Reading::in_filter_at), using(crate::proofs::RateSteps::filters))]
 fn in_filter(reader: &mut Reader<'_>, alloc: Global, brackets: u32) -> Result<FilterTree, Fault>
     ensures { Gives filter_tree result reader.new (in_filter_at brackets reader.old) }
 {
@@ -148,7 +148,7 @@ fn in_filter(reader: &mut Reader<'_>, alloc: Global, brackets: u32) -> Result<Fi
     let init = init(reader, alloc, brackets)?;
     reader.word(b"work")?;
     let rates = rates(reader)?;
-    let work = block(reader, alloc, 16, brackets)?;
+    let work = block(reader, alloc, brackets)?;
     Ok(FilterTree {
         fields,
         init,

@@ -2,32 +2,63 @@
 ghost use Rattle.std.specs.Prelude.{◌≡◌, ◌≤◌, length, map, IfOk, IsTrue};
 ghost use Rattle.std.specs.Option.{SomeIff};
 ghost use Rattle.text_forms.specs.Gives.{Gives};
-ghost use Rattle.streamit_build.specs.Program.{adds_of};
-ghost use Rattle.streamit_text.specs.Grammar.{is_own};
-ghost use Rattle.streamit_text.specs.Reading.{plain_at, parens_at, called_at, add_at, more_adds_at, adds_at, pipe_at};
+ghost use Rattle.streamit_text.specs.Program.{adds_of};
+ghost use Rattle.streamit_text.specs.Blocks.{own_at};
+ghost use Rattle.streamit_text.specs.Reading.{parens_at, called_at, add_at, more_adds_at, adds_at, pipe_at};
+ghost use Rattle.streamit_text.specs.Words.{is_plain, is_own};
 
-use crate::block::empty;
+use crate::Adds;
+use crate::statement::empty;
 use river_base::Name;
 use std::alloc::Global;
-use streamit_build::Adds;
-use text_forms::{Fault, Language, Reader};
+use text_blocks::is_free;
+use text_forms::{Fault, Reader};
 use work_code::Symbol;
 
-/// The name that these bytes are, if users may give it.
-pub fn own(text: &[u8]) -> Option<Name>
-    ensures { SomeIff result (IsTrue (is_own text.now)) text.now }
+const KEYWORDS: &[&[u8]] = &[
+    b"int",
+    b"filter",
+    b"pipeline",
+    b"splitjoin",
+    b"init",
+    b"work",
+    b"prework",
+    b"push",
+    b"pop",
+    b"peek",
+    b"add",
+    b"split",
+    b"join",
+    b"duplicate",
+    b"roundrobin",
+    b"if",
+    b"else",
+    b"for",
+];
+
+// Whether a word has at most 40 bytes, no `@`, and is no keyword.
+#[tactic(auto, unfolding(crate::specs::Words::is_plain))]
+fn is_plain(word: &[u8]) -> bool
+    ensures { result ≡ is_plain word.now }
 {
-    if Language::StreamIt.is_plain(text) {
-        Name::from_slice(text)
+    is_free(word, KEYWORDS)
+}
+
+/// The name that a word is, where users may give it.
+pub fn own(word: &[u8]) -> Option<Name>
+    ensures { SomeIff result (IsTrue (is_own word.now)) word.now }
+{
+    if is_plain(word) {
+        Name::from_slice(word)
     } else {
         None
     }
 }
 
 /// A name that users may give.
-#[tactic(auto, unfolding(crate::specs::Reading::plain_at), using(crate::proofs::Adding::names))]
+#[tactic(auto, unfolding(crate::specs::Blocks::own_at), using(crate::proofs::Adding::names))]
 pub fn name(reader: &mut Reader<'_>) -> Result<Name, Fault>
-    ensures reads { Gives (λ name. name) result reader.new (plain_at reader.old) }
+    ensures reads { Gives (λ name. name) result reader.new (own_at reader.old) }
     ensures short { IfOk result (λ name. length name ≤ 40) }
 {
     let text = reader.name()?;

@@ -1,13 +1,13 @@
 // Splitters and joiners read.
 ghost use Rattle.std.specs.Prelude.{◌≡◌, map};
 ghost use Rattle.text_forms.specs.Gives.{Gives};
-ghost use Rattle.streamit_build.specs.Program.{weights_of, dealing_of, body_of};
+ghost use Rattle.streamit_text.specs.Program.{weights_of, dealing_of};
 ghost use Rattle.streamit_text.specs.Reading.{weight_at, some_weights_at, listed_at, weights_at, split_after, split_at, join_at, in_both_at, both_at};
 ghost use Rattle.streamit_text.specs.View.{split_join_of};
 
 use crate::names::{adds, parens};
+use crate::{RoundRobin, Split, SplitJoin};
 use std::alloc::Global;
-use streamit_build::{RoundRobin, Split, SplitJoin};
 use text_forms::{Fault, Reader};
 use work_code::Symbol;
 
@@ -38,7 +38,7 @@ fn some_weights(reader: &mut Reader<'_>, alloc: Global) -> Result<Vec<u64>, Faul
 }
 
 // Weights in brackets, or none in them.
-#[tactic(auto, unfolding(crate::specs::Reading::listed_at, crate::specs::Reading::some_weights_at))]
+#[tactic(auto, unfolding(crate::specs::Reading::listed_at, crate::specs::Reading::some_weights_at, text_blocks::specs::Parts::round_at))]
 fn listed(reader: &mut Reader<'_>, alloc: Global, brackets: u32) -> Result<Vec<u64>, Fault>
     ensures { Gives (λ ws. ws.items) result reader.new (listed_at brackets reader.old) }
 {

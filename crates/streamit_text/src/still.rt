@@ -1,24 +1,24 @@
 // Whether `push`, `pop` or `peek` stands somewhere.
 ghost use Rattle.std.specs.Prelude.{◌≡◌};
-ghost use Rattle.streamit_unroll.specs.View.{expression, option_expression, statement, block, optional};
 ghost use Rattle.streamit_text.specs.Grammar.{is_still, is_still_first, stays, stay, stay_optional};
+ghost use Rattle.streamit_text.specs.Tree.{expression, option_expression, statement, block, optional_block};
 
-use streamit_unroll::{Block, Expression, Statement};
+use crate::{Block, Expr, Statement};
 
 // Whether none stands in the expression.
-fn is_still(e: &Expression) -> bool
+fn is_still(e: &Expr) -> bool
     ensures { result ≡ is_still (expression e.now) }
 {
     match e {
-        Expression::Peek(_) | Expression::Pop => false,
-        Expression::Neg(inner) | Expression::Not(inner) => is_still(inner),
-        Expression::Bin { left, right, .. } => is_still(left) && is_still(right),
-        Expression::Number(_) | Expression::Name(_) => true,
+        Expr::Peek(_) | Expr::Pop => false,
+        Expr::Neg(inner) | Expr::Not(inner) => is_still(inner),
+        Expr::Bin { left, right, .. } => is_still(left) && is_still(right),
+        Expr::Number(_) | Expr::Name(_) => true,
     }
 }
 
 // Whether none stands in the first value, if there is one.
-fn is_still_first(value: &Option<Expression>) -> bool
+fn is_still_first(value: &Option<Expr>) -> bool
     ensures { result ≡ is_still_first (option_expression value.now) }
 {
     match value {
@@ -30,7 +30,7 @@ fn is_still_first(value: &Option<Expression>) -> bool
 // Whether none stands in the second arm, if there is one.
 #[cycle(still)]
 fn stays_optional(no: &Option<Block>) -> bool
-    ensures { result ≡ stay_optional (optional no.now) }
+    ensures { result ≡ stay_optional (optional_block no.now) }
 {
     match no {
         Some(block) => stay(block),
@@ -40,7 +40,7 @@ fn stays_optional(no: &Option<Block>) -> bool
 
 // Whether none stands in the statement.
 #[cycle(still)]
-#[tactic(auto, using(streamit_unroll::proofs::Trees::trees))]
+#[tactic(auto, using(crate::proofs::Trees::trees))]
 fn stays(one: &Statement) -> bool
     ensures { result ≡ stays (statement one.now) }
 {
@@ -60,7 +60,7 @@ fn stays(one: &Statement) -> bool
 
 /// Whether none stands in the block.
 #[cycle(still)]
-#[tactic(auto, using(streamit_unroll::proofs::Trees::trees))]
+#[tactic(auto, using(crate::proofs::Trees::trees))]
 pub fn stay(all: &Block) -> bool
     ensures { result ≡ stay (block all.now) }
 {

@@ -1,95 +1,158 @@
 // Expressions read.
-ghost use Rattle.std.specs.Prelude.{◌≡◌};
+ghost use Rattle.std.specs.Prelude.{◌≡◌, IfOk, is_some, if◌then◌else◌};
 ghost use Rattle.text_forms.specs.Gives.{Gives};
-ghost use Rattle.text_forms.specs.Tree.{Number, spoken};
-ghost use Rattle.streamit_unroll.specs.View.{expression};
-ghost use Rattle.streamit_text.specs.View.{Owns, OwnsBox};
-ghost use Rattle.streamit_text.specs.Reading.{term_at, ended_at, round_term_at};
+ghost use Rattle.text_forms.specs.ReadLines.{first};
+ghost use Rattle.text_forms.specs.Tail.{tail};
+ghost use Rattle.streamit_text.specs.Expressions.{sign_at, call_at};
+ghost use Rattle.streamit_text.specs.Tree.{expression};
 
-use river_base::Name;
+use crate::{Expr, Leaves};
+use river_base::NoMemory;
 use std::alloc::Global;
-use streamit_unroll::Expression;
-use text_forms::{Fault, Language, Reader, Tree};
-use work_code::Symbol;
+use text_blocks::{Exprs, take_operator, take_sign};
+use text_forms::{Dialect, Fault, Form, Reader, read};
+use work_code::{BinOp, Token};
 
-// The expression of a program that this is, if it fits.
-#[cycle(owned)]
-fn owned(alloc: Global, tree: &Tree<'_>) -> Result<Expression, Fault>
-    ensures { Owns result (spoken tree.now) }
+/// What stands before an expression.
+#[derive(Clone, Copy, Debug, PartialEq, Eq)]
+pub enum Sign {
+    /// `-`
+    Neg,
+    /// `!`
+    Not,
+    /// `peek`, before brackets.
+    Peek,
+}
+
+// Passes over the sign that comes next, if one does.
+#[tactic(auto, using(crate::proofs::Lines::shared))]
+fn own_sign(reader: &mut Reader<'_>) -> Option<Sign>
+    ensures found { result ≡ first sign_at reader.old }
+    ensures rest { reader.new ≡ (if is_some result then tail reader.old else reader.old) }
 {
-    match tree {
-        Tree::Number(value) => number(*value),
-        Tree::Name(text) => match Name::from_slice(text) {
-            Some(name) => Ok(Expression::Name(name)),
-            None => Err(Fault::Syntax),
-        },
-        Tree::Peek(inner) => Ok(Expression::Peek(boxed(alloc, inner)?)),
-        Tree::Pop => Ok(Expression::Pop),
-        Tree::Neg(inner) => Ok(Expression::Neg(boxed(alloc, inner)?)),
-        Tree::Not(inner) => Ok(Expression::Not(boxed(alloc, inner)?)),
-        Tree::Bin { op, left, right } => {
-            let left = boxed(alloc, left)?;
-            let right = boxed(alloc, right)?;
-            Ok(Expression::Bin {
-                op: *op,
-                left,
-                right,
-            })
-        }
-        Tree::Input(_) | Tree::Slot(_) => Err(Fault::Syntax),
+    match take_sign(reader)? {
+        text_blocks::Sign::Neg => Some(Sign::Neg),
+        text_blocks::Sign::Not => Some(Sign::Not),
     }
 }
 
-// The same, in a box.
-#[cycle(owned)]
-fn boxed(alloc: Global, tree: &Tree<'_>) -> Result<Box<Expression>, Fault>
-    ensures { OwnsBox result (spoken tree.now) }
+// Passes over `peek`, where it comes next.
+fn own_call(reader: &mut Reader<'_>) -> Option<Sign>
+    ensures found { result ≡ first call_at reader.old }
+    ensures rest { reader.new ≡ (if is_some result then tail reader.old else reader.old) }
 {
-    let e = owned(alloc, tree)?;
-    Ok(Box::new(alloc, e)?)
-}
-
-// A number, which is at most 2^63 - 1.
-fn number(value: u64) -> Result<Expression, Fault>
-    ensures { Owns result (Number value) }
-{
-    if value <= 9_223_372_036_854_775_807 {
-        Ok(Expression::Number(value))
+    let Some(Token::Name(text)) = reader.peek() else {
+        return None;
+    };
+    if text == b"peek".as_slice() {
+        reader.skip();
+        Some(Sign::Peek)
     } else {
-        Err(Fault::Syntax)
+        None
     }
 }
 
-/// An expression.
-#[tactic(auto, unfolding(crate::specs::Reading::term_at))]
-pub fn term(reader: &mut Reader<'_>, alloc: Global, brackets: u32) -> Result<Expression, Fault>
-    ensures { Gives expression result reader.new (term_at brackets reader.old) }
-{
-    let tree = reader.expression(alloc, Language::StreamIt, brackets)?;
-    owned(alloc, &tree)
+/// The language with these leaves, for the readers of expressions and of statements of any language.
+pub struct Streamit<L> {
+    pub leaves: L,
 }
 
-/// `e;`
-#[tactic(auto, unfolding(crate::specs::Reading::ended_at))]
-pub fn ended(reader: &mut Reader<'_>, alloc: Global, brackets: u32) -> Result<Expression, Fault>
-    ensures { Gives expression result reader.new (ended_at brackets reader.old) }
-{
-    let tree = term(reader, alloc, brackets)?;
-    reader.expect(&[Symbol::Semicolon])?;
-    Ok(tree)
+impl<'a, L: Leaves> Dialect<Reader<'a>> for Streamit<L> {
+    ghost use Rattle.std.specs.Prelude.{length, ◌≤◌};
+    ghost use Rattle.text_forms.specs.Lines.{line_of, form_of};
+    ghost use Rattle.streamit_text.specs.Expressions.{syntax, is_deeper};
+    ghost use Rattle.streamit_text.specs.Tree.{Expression, expression};
+
+    type Tree = Expr;
+
+    type Operator = BinOp;
+
+    type Sign = Sign;
+
+    ghost Plain = { Expression };
+
+    ghost view = { expression };
+
+    ghost syntax = { λ _. syntax };
+
+    ghost leaf = { λ d. L.leaf d.leaves };
+
+    ghost deeper = { λ _. is_deeper };
+
+    fn height(&self) -> u32
+        ensures all { result ≡ length syntax.lines }
+        ensures few { result ≤ 16 }
+    {
+        7
+    }
+
+    #[tactic(auto, using(crate::proofs::Lines::forms))]
+    fn form(&self, line: u32) -> Form
+        ensures { result ≡ form_of (line_of syntax.lines line) }
+    {
+        if line == 0 {
+            Form::Prefix
+        } else if line < 7 {
+            Form::Chain
+        } else {
+            Form::Once
+        }
+    }
+
+    #[tactic(auto, using(crate::proofs::Lines::operators))]
+    fn operator(&self, reader: &mut Reader<'a>, line: u32) -> Option<BinOp> {
+        take_operator(reader, line)
+    }
+
+    #[tactic(auto, using(crate::proofs::Lines::signs))]
+    fn sign(&self, reader: &mut Reader<'a>, line: u32) -> Option<Sign> {
+        if line == 0 { own_sign(reader) } else { None }
+    }
+
+    fn call(&self, reader: &mut Reader<'a>) -> Option<Sign> {
+        own_call(reader)
+    }
+
+    fn leaf(&self, reader: &mut Reader<'a>, brackets: u32) -> Result<Expr, Fault> {
+        self.leaves.leaf(reader, brackets)
+    }
+
+    fn mark(&self, alloc: Global, sign: Sign, tree: Expr) -> Result<Expr, NoMemory>
+        ensures { IfOk result (λ t. expression t ≡ syntax.mark sign (expression tree)) }
+    {
+        let inner = Box::new(alloc, tree)?;
+        Ok(match sign {
+            Sign::Neg => Expr::Neg(inner),
+            Sign::Not => Expr::Not(inner),
+            Sign::Peek => Expr::Peek(inner),
+        })
+    }
+
+    fn join(&self, alloc: Global, op: BinOp, left: Expr, right: Expr) -> Result<Expr, NoMemory>
+        ensures { IfOk result (λ t. expression t ≡ syntax.join op (expression left) (expression right)) }
+    {
+        let left = Box::new(alloc, left)?;
+        let right = Box::new(alloc, right)?;
+        Ok(Expr::Bin { op, left, right })
+    }
 }
 
-/// `(e)`
-#[tactic(auto, unfolding(crate::specs::Reading::round_term_at))]
-pub fn round_term(
-    reader: &mut Reader<'_>,
-    alloc: Global,
-    brackets: u32,
-) -> Result<Expression, Fault>
-    ensures { Gives expression result reader.new (round_term_at brackets reader.old) }
-{
-    let inner = reader.opens(Symbol::Open, brackets)?;
-    let tree = term(reader, alloc, inner)?;
-    reader.expect(&[Symbol::Close])?;
-    Ok(tree)
+impl<L: Leaves> Exprs for Streamit<L> {
+    ghost use Rattle.streamit_text.specs.Expressions.{expr_at};
+    ghost use Rattle.streamit_text.specs.Tree.{Expression, expression};
+
+    type Expr = Expr;
+
+    ghost ExprTree = { Expression };
+
+    ghost expr_tree = { expression };
+
+    ghost expr = { λ d. expr_at (L.leaf d.leaves) };
+
+    #[tactic(auto, unfolding(crate::specs::Expressions::expr_at))]
+    fn expr(&self, reader: &mut Reader<'_>, alloc: Global, brackets: u32) -> Result<Expr, Fault>
+        ensures { Gives expression result reader.new (expr_at (L.leaf self.now.leaves) brackets reader.old) }
+    {
+        read(self, reader, alloc, brackets)
+    }
 }

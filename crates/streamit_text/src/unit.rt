@@ -1,19 +1,16 @@
 // Units read.
 ghost use Rattle.std.specs.Prelude.{◌≡◌};
-ghost use Rattle.work_code.specs.Tok.{tokens_of};
 ghost use Rattle.text_forms.specs.Gives.{Gives};
-ghost use Rattle.text_forms.specs.Texts.{whole};
-ghost use Rattle.streamit_build.specs.Program.{body_of, declared_of};
+ghost use Rattle.streamit_text.specs.Program.{body_of, declared_of};
 ghost use Rattle.streamit_text.specs.Reading.{body_after, kind_after, unit_at};
-ghost use Rattle.streamit_text.specs.View.{Makes};
 
 use crate::filter::filter;
 use crate::names::{called, pipe};
 use crate::rounds::both;
+use crate::{Body, Declaration, Plain, Streamit};
 use std::alloc::Global;
-use streamit_build::{Body, Declaration};
-use text_forms::{Fault, Reader};
-use work_code::{Lexeme, Symbol};
+use text_forms::{Fault, Reader, Units};
+use work_code::Symbol;
 
 // What stands behind the name of a stream of this kind.
 #[tactic(auto, unfolding(crate::specs::Reading::body_after))]
@@ -64,15 +61,19 @@ fn unit(reader: &mut Reader<'_>, alloc: Global) -> Result<Declaration, Fault>
     kind_after(reader, alloc, 128, word)
 }
 
-/// The declaration that a whole unit stands for.
-#[tactic(auto, using(crate::proofs::Wholes::wholes))]
-pub fn whole_unit(alloc: Global, tokens: &[Lexeme<'_>]) -> Result<Declaration, Fault>
-    ensures { Makes declared_of result (whole unit_at (tokens_of tokens.now)) }
-{
-    let mut reader = Reader::new(tokens);
-    let unit = unit(&mut reader, alloc)?;
-    if !reader.is_at_end() {
-        return Err(Fault::Syntax);
+impl Units for Streamit<Plain> {
+    ghost use Rattle.streamit_text.specs.Program.{Declared, declared_of};
+    ghost use Rattle.streamit_text.specs.Reading.{unit_at};
+
+    type Unit = Declaration;
+
+    ghost UnitTree = { Declared };
+
+    ghost unit_tree = { declared_of };
+
+    ghost unit = { λ _. unit_at };
+
+    fn unit(&self, reader: &mut Reader<'_>, alloc: Global) -> Result<Declaration, Fault> {
+        unit(reader, alloc)
     }
-    Ok(unit)
 }

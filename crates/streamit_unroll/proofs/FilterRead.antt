@@ -7,8 +7,9 @@ use Rattle.work_code.specs.Ran.{ran}
 use Rattle.kern_rows.specs.Forms.{FilterForm}
 use Rattle.kern_rows.specs.Runs.{slots_from, run_kept}
 use Rattle.streamit_model.specs.Elaborate.{Fault, At, on_ok, steps_of, optional_of}
-use Rattle.streamit_model.specs.FilterSource.{FilterTree, push_of, pop_of, peek_of, read_fields, nothing_read, starts_of, form_of, rates_of, kept_rates}
-use Rattle.streamit_model.specs.FilterSource.{elaborated}
+use Rattle.streamit_text.specs.Program.{FilterTree}
+use Rattle.streamit_model.specs.Meaning.{push_of, pop_of, peek_of}
+use Rattle.streamit_model.specs.ElaborateFilter.{read_fields, nothing_read, starts_of, elaborated_form, judged_rates, kept_rates, elaborated}
 use Rattle.streamit_model.proofs.Elaborated.{ok_is, ok_parts}
 use Rattle.streamit_unroll.specs.declared.fault.Fault as fault
 use Rattle.streamit_unroll.specs.View.{Tells, Judges}
@@ -42,13 +43,13 @@ module _ (t : FilterTree) where
   work_read s = on_ok (steps_of (peek_of t) t.work s) (λ w. on_ok (kept_rates (push_of t) (pop_of t) w.1) (λ v. good (body_by (peek_of t) w)))
 
   abbrev after_work : Steps × At → Steps × At → Result FilterForm Fault
-  after_work i w = on_ok (kept_rates (push_of t) (pop_of t) w.1) (λ v. good (form_of t i w))
+  after_work i w = on_ok (kept_rates (push_of t) (pop_of t) w.1) (λ v. good (elaborated_form t i w))
 
   abbrev after_rates : At → Steps × At → Unit {0} → Result FilterForm Fault
   after_rates s i u = on_ok (steps_of (peek_of t) t.work s) (after_work i)
 
   abbrev after_init : At → Steps × At → Result FilterForm Fault
-  after_init s i = on_ok (rates_of (push_of t) (pop_of t) (peek_of t)) (after_rates s i)
+  after_init s i = on_ok (judged_rates (push_of t) (pop_of t) (peek_of t)) (after_rates s i)
 
   abbrev after_fields : At → Result FilterForm Fault
   after_fields s = on_ok (optional_of 0 t.init s) (after_init s)
@@ -63,12 +64,12 @@ module _ (t : FilterTree) where
       (p.0, fields_on s hf ∙ ap (λ r. on_ok r (after_init s)) p.1, ok_is (starts_of (length t.fields) p.0) zs p.2)
 
   rates_on : (s : At) (zs : List ℤ) (u : Unit {0}) → read_fields t.fields nothing_read ≡ Ok s → starts_read s ≡ Ok zs
-      → rates_of (push_of t) (pop_of t) (peek_of t) ≡ Ok u → (i : Steps × At) × (elaborated t ≡ after_rates s i u) × (starts_of (length t.fields) i ≡ zs)
+      → judged_rates (push_of t) (pop_of t) (peek_of t) ≡ Ok u → (i : Steps × At) × (elaborated t ≡ after_rates s i u) × (starts_of (length t.fields) i ≡ zs)
   rates_on s zs u hf hz hr = let p = init_on s zs hf hz in (p.0, p.1 ∙ ap (λ r. on_ok r (after_rates s p.0)) hr, p.2)
 
   -- what is read of a filter whose parts were read
   pub elaborated_is : (s : At) (zs : List ℤ) (u : Unit {0}) (b : Body) → read_fields t.fields nothing_read ≡ Ok s → starts_read s ≡ Ok zs
-      → rates_of (push_of t) (pop_of t) (peek_of t) ≡ Ok u → work_read s ≡ Ok b
+      → judged_rates (push_of t) (pop_of t) (peek_of t) ≡ Ok u → work_read s ≡ Ok b
       → elaborated t ≡ Ok (record { peek = (peek_of t); pop = (pop_of t); push = (push_of t); body = b; starts = zs })
   elaborated_is s zs u b hf hz hr hw =
       let p = rates_on s zs u hf hz hr in
@@ -76,7 +77,7 @@ module _ (t : FilterTree) where
       let r = ok_parts (kept_rates (push_of t) (pop_of t) q.0.1) (λ v. good (body_by (peek_of t) q.0)) b q.2 in
       p.1
       ∙ ap (λ x. on_ok x (after_work p.0)) q.1
-      ∙ ap (λ x. on_ok x (λ v. good (form_of t p.0 q.0))) r.1
+      ∙ ap (λ x. on_ok x (λ v. good (elaborated_form t p.0 q.0))) r.1
       ∙ ap (λ x. good (record { peek = (peek_of t); pop = (pop_of t); push = (push_of t); body = x; starts = starts_of (length t.fields) p.0 })) (ok_is (body_by (peek_of t) q.0) b r.2)
       ∙ ap (λ x. good (record { peek = (peek_of t); pop = (pop_of t); push = (push_of t); body = b; starts = x })) p.2
 
@@ -90,16 +91,16 @@ module _ (t : FilterTree) where
       (λ g e. fields_on s hf ∙ ap (λ r. on_ok r (after_init s)) (err_mapped (optional_of 0 t.init s) (starts_of (length t.fields)) g e)) h
 
   pub rates_fault : (f : fault.Fault) (s : At) (zs : List ℤ) → read_fields t.fields nothing_read ≡ Ok s → starts_read s ≡ Ok zs
-      → Tells f (rates_of (push_of t) (pop_of t) (peek_of t)) → Tells f (elaborated t)
+      → Tells f (judged_rates (push_of t) (pop_of t) (peek_of t)) → Tells f (elaborated t)
   rates_fault f s zs hf hz h =
       let p = init_on s zs hf hz in
-      tells_more f (rates_of (push_of t) (pop_of t) (peek_of t)) (elaborated t) (λ g e. p.1 ∙ ap (λ r. on_ok r (after_rates s p.0)) e) h
+      tells_more f (judged_rates (push_of t) (pop_of t) (peek_of t)) (elaborated t) (λ g e. p.1 ∙ ap (λ r. on_ok r (after_rates s p.0)) e) h
 
   pub work_fault : (f : fault.Fault) (s : At) (zs : List ℤ) (u : Unit {0}) → read_fields t.fields nothing_read ≡ Ok s → starts_read s ≡ Ok zs
-      → rates_of (push_of t) (pop_of t) (peek_of t) ≡ Ok u → Tells f (work_read s) → Tells f (elaborated t)
+      → judged_rates (push_of t) (pop_of t) (peek_of t) ≡ Ok u → Tells f (work_read s) → Tells f (elaborated t)
   work_fault f s zs u hf hz hr h =
       let p = rates_on s zs u hf hz hr in
-      tells_more f (work_read s) (elaborated t) (λ g e. p.1 ∙ err_tested (steps_of (peek_of t) t.work s) (λ w. kept_rates (push_of t) (pop_of t) w.1) (body_by (peek_of t)) (form_of t p.0) g e) h
+      tells_more f (work_read s) (elaborated t) (λ g e. p.1 ∙ err_tested (steps_of (peek_of t) t.work s) (λ w. kept_rates (push_of t) (pop_of t) w.1) (body_by (peek_of t)) (elaborated_form t p.0) g e) h
 
 -- ONE RUN ON NO ITEMS
 
@@ -114,6 +115,7 @@ zeros-slots slots fields le =
     ∙ replicate-append fields (slots - fields) (pos 0)
     ∙ ap (λ k. replicate k (pos 0)) (let e : fields + (slots - fields) ≡ slots = omega (arith, le) in e)
 
+-- a body runs on fields that are 0 as on slots that all are
 pub kept_zeros : (slots fields : ℕ) (b : Steps) → fields ≤ slots
     → take fields (ran b [] (replicate slots (pos 0))).slots ≡ (run_kept (record { inputs = 0; slots = slots; steps = b }) (replicate fields (pos 0)) []).slots
 kept_zeros slots fields b le =

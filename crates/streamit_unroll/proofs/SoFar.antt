@@ -5,13 +5,12 @@ use Rattle.work_code.specs.declared.code.Stmt.{Stmt}
 use Rattle.work_code.specs.declared.code.Stmts.{Stmts}
 use Rattle.work_code.specs.Steps.{Step, Steps, Done, step, statements, in_turn}
 use Rattle.work_code.specs.Steps as steps
-use Rattle.streamit_model.specs.Source as source
+use Rattle.streamit_text.specs.Tree as source
 use Rattle.river_plan.specs.Forms.{Name}
-use Rattle.streamit_model.specs.Source.{numbers}
+use Rattle.streamit_model.specs.Meaning.{numbers, pops}
 use Rattle.streamit_model.specs.Elaborate.{Fault, At, Read, on_ok, joined, step_of, steps_of, unrolled, counted, is_new, find, constant, bound_of, term_of}
 use Rattle.streamit_model.specs.Elaborate.{one_step, after_arms, optional_of}
-use Rattle.streamit_model.specs.Source.{pops}
-use Rattle.text_forms.specs.Tree.{Spoken}
+use Rattle.streamit_text.specs.Tree.{Expression}
 use Rattle.work_code.specs.Term.{Term}
 use Rattle.std.specs.Prelude.{if◌then◌else◌, nat_eq, ◌&&◌}
 use Rattle.streamit_unroll.specs.declared.unroll.Unroller.{Unroller}
@@ -19,8 +18,7 @@ use Rattle.streamit_unroll.specs.declared.names.Known.{Known}
 use Rattle.streamit_unroll.specs.declared.names.Known.TheVariants as known
 use Rattle.streamit_unroll.specs.View.{scope_of, Tells}
 use Rattle.streamit_unroll.proofs.Scopes.{scope-push}
-use Rattle.streamit_unroll.specs.View as view
-use Rattle.streamit_unroll.specs.Unrolled.{at_of, KeepsNames, AreWritten, Reads, turn_of, turns_of, ReadsTurn}
+use Rattle.streamit_unroll.specs.Unrolling.{at_of, KeepsNames, AreWritten, Reads, turn_of, turns_of, ReadsTurn}
 use Rattle.streamit_unroll.specs.declared.fault.Fault as fault
 use Rattle.streamit_unroll.specs.declared.fault.Fault.TheVariants as faults
 use Rattle.streamit_model.specs.Elaborate as spec
@@ -66,9 +64,9 @@ behind_done a s = ap (λ t. Ok (t, s)) (joined-done a)
 pub record BlockSoFar (e : ℕ) (all rest : List source.Statement) (first now : Unroller) (out out' : Stmts) : Type 0 where
   pub added : List Stmt
   pub grew : statements out' ≡ statements out ++ added
-  pub all_is : steps_of e (view.in_turn all) (at_of first) ≡ behind (in_turn (map step added)) (steps_of e (view.in_turn rest) (at_of now))
+  pub all_is : steps_of e (source.in_turn all) (at_of first) ≡ behind (in_turn (map step added)) (steps_of e (source.in_turn rest) (at_of now))
   pub keeps : KeepsNames first now
-  pub written : AreWritten (view.in_turn rest)
+  pub written : AreWritten (source.in_turn rest)
 
 -- TURNS
 
@@ -87,15 +85,6 @@ prefix_trans (x ∷ xs) (y ∷ ys) (z ∷ zs) p q =
     let p0 : y ≡ x = cc in let p1 : take (length xs) ys ≡ xs = cc in
     let q0 : z ≡ y = cc in let q1 : take (length ys) zs ≡ ys = cc in
     ap (λ w. w ∷ take (length xs) zs) (q0 ∙ p0) ∙ ap (λ l. x ∷ l) (prefix_trans xs ys zs p1 q1)
-
--- the elements from a place on
-pub at_place : {X Y : Type 0} (f : X → Y) (items : List X) (i : ℕ) (s : X) → i < length items → s ≡ get_or items i s
-    → map f (drop i items) ≡ f s ∷ map f (drop (i + 1) items)
-at_place f items i s lt e = ap (map f) (drop-cons items i s lt ∙ ap (λ x. x ∷ drop (suc i) items) (sym e) ∙ ap (λ k. s ∷ drop k items) (sym (add-one i)))
-
--- behind the last place there is none
-pub none_left : {X Y : Type 0} (f : X → Y) (items : List X) (i : ℕ) → length items ≤ i → map f (drop i items) ≡ []
-none_left f items i h = ap (map f) (drop_all i items h)
 
 -- a fault of one reading is one of another
 pub tells_more : {A B : Type 0} (f : fault.Fault) (r : Result A Fault) (r' : Result B Fault) → ((g : Fault) → r ≡ Err g → r' ≡ Err g) → Tells f r → Tells f r'
@@ -124,9 +113,9 @@ block_next e all c rest first now next out out' out'' f r = record {
   grew = r.1 ∙ ap (λ l. l ++ r.0) f.grew ∙ append_assoc (statements out) f.added r.0;
   all_is =
       f.all_is
-      ∙ ap (behind (in_turn (map step f.added))) (steps_ok e c (view.in_turn rest) (at_of now) (in_turn (map step r.0)) (at_of next) r.2)
-      ∙ behind_both (in_turn (map step f.added)) (in_turn (map step r.0)) (steps_of e (view.in_turn rest) (at_of next))
-      ∙ ap (λ a. behind a (steps_of e (view.in_turn rest) (at_of next))) (joined-in_turn (map step f.added) (map step r.0) ∙ ap in_turn (sym (map-append step f.added r.0)));
+      ∙ ap (behind (in_turn (map step f.added))) (steps_ok e c (source.in_turn rest) (at_of now) (in_turn (map step r.0)) (at_of next) r.2)
+      ∙ behind_both (in_turn (map step f.added)) (in_turn (map step r.0)) (steps_of e (source.in_turn rest) (at_of next))
+      ∙ ap (λ a. behind a (steps_of e (source.in_turn rest) (at_of next))) (joined-in_turn (map step f.added) (map step r.0) ∙ ap in_turn (sym (map-append step f.added r.0)));
   keeps = prefix_trans first.names.items.items now.names.items.items next.names.items.items f.keeps r.3;
   written = f.written.1;
 }
@@ -134,14 +123,14 @@ block_next e all c rest first now next out out' out'' f r = record {
 -- a statement that is refused
 pub block_err : (e : ℕ) (all : List source.Statement) (c : source.Statement) (rest : List source.Statement) (first now next x y : Unroller) (out out' out'' o n : Stmts) (result : Result (Unit {0}) fault.Fault) (f : fault.Fault)
     → result ≡ Err f → BlockSoFar e all (c ∷ rest) first now out out' → Reads (Err f) out' out'' now next (step_of e c (at_of now))
-    → Reads result o n x y (steps_of e (view.in_turn all) (at_of first))
+    → Reads result o n x y (steps_of e (source.in_turn all) (at_of first))
 block_err e all c rest first now next x y out out' out'' o n result f is s r =
-    subst (λ t. Reads t o n x y (steps_of e (view.in_turn all) (at_of first))) (sym is)
-    (tells_more f (step_of e c (at_of now)) (steps_of e (view.in_turn all) (at_of first)) (λ g h. s.all_is ∙ ap (behind (in_turn (map step s.added))) (steps_err e c (view.in_turn rest) (at_of now) g h)) r)
+    subst (λ t. Reads t o n x y (steps_of e (source.in_turn all) (at_of first))) (sym is)
+    (tells_more f (step_of e c (at_of now)) (steps_of e (source.in_turn all) (at_of first)) (λ g h. s.all_is ∙ ap (behind (in_turn (map step s.added))) (steps_err e c (source.in_turn rest) (at_of now) g h)) r)
 
 -- all statements
 pub block_end : (e : ℕ) (all : List source.Statement) (first now : Unroller) (out out' : Stmts) → BlockSoFar e all [] first now out out'
-    → Reads (Ok tt) out out' first now (steps_of e (view.in_turn all) (at_of first))
+    → Reads (Ok tt) out out' first now (steps_of e (source.in_turn all) (at_of first))
 block_end e all first now out out' f = (f.added, f.grew, f.all_is ∙ behind_done (in_turn (map step f.added)) (at_of now), f.keeps)
 
 -- TURNS
@@ -215,7 +204,7 @@ turns_end e b n low v end first now out out' whole le w f = (
 )
 
 -- a loop goes through its turns
-for_is : (e : ℕ) (n : Name) (lo hi : Spoken) (upto : Bool) (b : source.Block) (s : At)
+for_is : (e : ℕ) (n : Name) (lo hi : Expression) (upto : Bool) (b : source.Block) (s : At)
     → step_of e (source.For n lo upto hi b) s ≡ on_ok (turns_of s.scope n lo upto hi) (λ p. unrolled (steps_of e b) n (numbers p.0 (p.1 - p.0)) s)
 for_is e n lo hi upto b s =
     let k = if upto then 1 else 0 in
@@ -228,19 +217,19 @@ for_is e n lo hi upto b s =
     ap (on_ok (is_new (find s.scope n))) (λ i u. low i) ∙ sym (on_ok-assoc (is_new (find s.scope n)) (λ u. on_ok (on_ok (constant s.scope lo) bound_of) g3) turns)
 
 -- a loop whose turns are these
-pub for_turns : (e : ℕ) (n : Name) (lo hi : Spoken) (upto : Bool) (b : source.Block) (s : At) (l end : ℕ)
+pub for_turns : (e : ℕ) (n : Name) (lo hi : Expression) (upto : Bool) (b : source.Block) (s : At) (l end : ℕ)
     → turns_of s.scope n lo upto hi ≡ Ok (l, end) → step_of e (source.For n lo upto hi b) s ≡ unrolled (steps_of e b) n (numbers l (end - l)) s
 for_turns e n lo hi upto b s l end h = for_is e n lo hi upto b s ∙ ap (λ r. on_ok r (λ p. unrolled (steps_of e b) n (numbers p.0 (p.1 - p.0)) s)) h
 
 -- a loop whose turns are refused
-pub for_fault : (e : ℕ) (n : Name) (lo hi : Spoken) (upto : Bool) (b : source.Block) (s : At) (f : fault.Fault)
+pub for_fault : (e : ℕ) (n : Name) (lo hi : Expression) (upto : Bool) (b : source.Block) (s : At) (f : fault.Fault)
     → Tells f (turns_of s.scope n lo upto hi) → Tells f (step_of e (source.For n lo upto hi b) s)
 for_fault e n lo hi upto b s f h =
     tells_more f (turns_of s.scope n lo upto hi) (step_of e (source.For n lo upto hi b) s)
     (λ g r. for_is e n lo hi upto b s ∙ ap (λ q. on_ok q (λ p. unrolled (steps_of e b) n (numbers p.0 (p.1 - p.0)) s)) r) h
 
 -- an `if` whose parts are there
-pub if_is : (e : ℕ) (t : Spoken) (a : source.Block) (b : source.Optional) (s s1 : At) (cond : Term) (f g : Steps) (la lb : At) → counted s ≡ Ok s1
+pub if_is : (e : ℕ) (t : Expression) (a : source.Block) (b : source.Optional) (s s1 : At) (cond : Term) (f g : Steps) (la lb : At) → counted s ≡ Ok s1
     → term_of e s1.scope t s1.popped ≡ Ok cond → steps_of e a (record s1 { popped = s1.popped + pops t }) ≡ Ok (f, la)
     → optional_of e b (record s1 { popped = s1.popped + pops t; slots = la.slots; size = la.size }) ≡ Ok (g, lb) → la.popped ≡ lb.popped → la.pushed ≡ lb.pushed
     → step_of e (source.If t a b) s ≡ Ok (one_step (steps.If cond f g), record lb { scope = s1.scope })
@@ -283,7 +272,7 @@ turn_is e b name v s0 s1 s3 i0 i1 i2 i3 i4 a sc hc e1 e2 hb kept e4 =
     )
 
 -- an `if` whose arms were read one after the other
-pub if_read : (e : ℕ) (t : Spoken) (a : source.Block) (b : source.Optional) (s s1 m1 m2 la lb : At) (cond : Term) (k : ℕ) (f g : Steps) → counted s ≡ Ok s1
+pub if_read : (e : ℕ) (t : Expression) (a : source.Block) (b : source.Optional) (s s1 m1 m2 la lb : At) (cond : Term) (k : ℕ) (f g : Steps) → counted s ≡ Ok s1
     → term_of e s1.scope t s1.popped ≡ Ok cond → k ≡ s1.popped + pops t → steps_of e a (record s1 { popped = k }) ≡ Ok (f, la)
     → m1 ≡ record la { scope = s1.scope } → optional_of e b (record m1 { popped = k; pushed = s1.pushed }) ≡ Ok (g, lb) → m2 ≡ record lb { scope = m1.scope }
     → m1.popped ≡ m2.popped → m1.pushed ≡ m2.pushed → step_of e (source.If t a b) s ≡ Ok (one_step (steps.If cond f g), m2)

@@ -1,4 +1,4 @@
 pub mod Filter
 pub mod Numbers
-pub mod Unrolled
+pub mod Unrolling
 pub mod View

@@ -1,15 +1,17 @@
 // Blocks.
 ghost use Rattle.std.specs.Prelude.{◌≡◌, ◌≤◌, ◌+◌, ◌-◌, if◌then◌else◌};
 ghost use Rattle.streamit_model.specs.Elaborate.{step_of, steps_of, optional_of, unrolled};
-ghost use Rattle.streamit_model.specs.Source.{If, numbers};
+ghost use Rattle.streamit_text.specs.Tree.{If, expression, is_turn, statement, block, optional_block};
+ghost use Rattle.streamit_model.specs.Meaning.{numbers};
 ghost use Rattle.streamit_unroll.specs.Numbers.{AreValues};
-ghost use Rattle.streamit_unroll.specs.View.{Judges, expression, is_turn, statement, block, optional};
-ghost use Rattle.streamit_unroll.specs.Unrolled.{at_of, Reads, ReadsArm, ReadsTurn, turn_of, turns_of, span, AreWritten, AreWrittenOptional, IsWritten};
+ghost use Rattle.streamit_unroll.specs.View.{Judges};
+ghost use Rattle.streamit_unroll.specs.Unrolling.{at_of, Reads, ReadsArm, ReadsTurn, turn_of, turns_of, span, AreWritten, AreWrittenOptional, IsWritten};
 
 use crate::term::term;
-use crate::{Block, Expression, Fault, Known, Statement, Unroller, Until};
+use crate::{Fault, Known, Unroller};
 use river_base::Name;
 use std::alloc::Global;
+use streamit_text::{Block, Expr, Statement, Until};
 use work_code::{Stmt, Stmts};
 
 impl Unroller {
@@ -68,15 +70,15 @@ impl Unroller {
         &mut self,
         alloc: Global,
         peek: u32,
-        cond: &Expression,
+        cond: &Expr,
         yes: &Block,
         no: &Option<Block>,
         out: &mut Stmts,
     ) -> Result<(), Fault>
         requires cond { AreValues (expression cond.now) }
         requires yes { AreWritten (block yes.now) }
-        requires no { AreWrittenOptional (optional no.now) }
-        ensures { Reads result out.old out.new self.old self.new (step_of peek (If (expression cond.now) (block yes.now) (optional no.now)) (at_of self.old)) }
+        requires no { AreWrittenOptional (optional_block no.now) }
+        ensures { Reads result out.old out.new self.old self.new (step_of peek (If (expression cond.now) (block yes.now) (optional_block no.now)) (at_of self.old)) }
     {
         self.counted()?;
         let cond = term(alloc, &self.names, peek, cond, &mut self.popped)?;
@@ -103,8 +105,8 @@ impl Unroller {
     // The statements of the second arm, none where it is not written.
     #[cycle(unroll)]
     fn otherwise(&mut self, alloc: Global, peek: u32, no: &Option<Block>) -> Result<Stmts, Fault>
-        requires { AreWrittenOptional (optional no.now) }
-        ensures { ReadsArm result self.old self.new (optional_of peek (optional no.now) (at_of self.old)) }
+        requires { AreWrittenOptional (optional_block no.now) }
+        ensures { ReadsArm result self.old self.new (optional_of peek (optional_block no.now) (at_of self.old)) }
     {
         match no {
             Some(block) => self.arm(alloc, peek, block),
@@ -126,13 +128,7 @@ impl Unroller {
     }
 
     // The turns of a loop, whose variable has a new name.
-    fn span(
-        &self,
-        name: Name,
-        low: &Expression,
-        until: Until,
-        high: &Expression,
-    ) -> Result<Span, Fault>
+    fn span(&self, name: Name, low: &Expr, until: Until, high: &Expr) -> Result<Span, Fault>
         requires low { AreValues (expression low.now) }
         requires high { AreValues (expression high.now) }
         ensures { Judges span result (turns_of (at_of self.now).scope name (expression low.now) (is_turn until) (expression high.now)) }

@@ -6,15 +6,19 @@ ghost use Rattle.kern_rows.specs.Forms.{filter_form};
 ghost use Rattle.kern_rows.specs.Needs.{CanRun};
 ghost use Rattle.kern_rows.specs.Runs.{run_kept};
 ghost use Rattle.streamit_model.specs.Elaborate.{on_ok, steps_of, optional_of};
-ghost use Rattle.streamit_model.specs.FilterSource.{rate_or, read_field, read_fields, nothing_read, starts_of, rates_of, kept_rates, elaborated};
-ghost use Rattle.streamit_unroll.specs.Filter.{filter_tree, IsReadable};
-ghost use Rattle.streamit_unroll.specs.Unrolled.{at_of, Reads, AreWritten, AreWrittenOptional};
-ghost use Rattle.streamit_unroll.specs.View.{block, optional, Judges};
+ghost use Rattle.streamit_model.specs.Meaning.{rate_or};
+ghost use Rattle.streamit_model.specs.ElaborateFilter.{read_field, read_fields, nothing_read, starts_of, judged_rates, kept_rates, elaborated};
+ghost use Rattle.streamit_text.specs.Program.{filter_tree};
+ghost use Rattle.streamit_unroll.specs.Filter.{IsReadable};
+ghost use Rattle.streamit_unroll.specs.Unrolling.{at_of, Reads, AreWritten, AreWrittenOptional};
+ghost use Rattle.streamit_text.specs.Tree.{block, optional_block};
+ghost use Rattle.streamit_unroll.specs.View.{Judges};
 
-use crate::{Block, Fault, FilterTree, Known, Names, Rates, Unroller};
+use crate::{Fault, Known, Names, Unroller};
 use kern_rows::Filter;
 use river_base::{Name, NoMemory, Numbers};
 use std::alloc::Global;
+use streamit_text::{Block, FilterTree, Rates};
 use work_code::{Code, Emitted, Stmts, run_code};
 
 /// The filter of a plan for a filter as it is written, or the first fault in reading order.
@@ -51,7 +55,7 @@ impl Counts {
 
     // Whether they may stand there.
     fn judged(self) -> Result<(), Fault>
-        ensures { Judges (λ u. u) result (rates_of self.push self.pop self.peek) }
+        ensures { Judges (λ u. u) result (judged_rates self.push self.pop self.peek) }
     {
         if self.push > 65536 || self.pop > 65536 || self.peek > 65536 || self.pop == 0 {
             return Err(Fault::Limit);
@@ -153,8 +157,8 @@ impl Unroller {
         init: &Option<Block>,
         out: &mut Stmts,
     ) -> Result<(), Fault>
-        requires { AreWrittenOptional (optional init.now) }
-        ensures { Reads result out.old out.new self.old self.new (optional_of 0 (optional init.now) (at_of self.old)) }
+        requires { AreWrittenOptional (optional_block init.now) }
+        ensures { Reads result out.old out.new self.old self.new (optional_of 0 (optional_block init.now) (at_of self.old)) }
     {
         match init {
             None => Ok(()),

@@ -1,4 +1,4 @@
-//! From the trees of StreamIt programs to their plans: unrolls filters, tells the first fault, builds.
+//! From the trees of StreamIt filters to the filters of plans: unrolls loops, and tells the first fault.
 #![tactic(auto)]
 
 mod blocks;
@@ -7,11 +7,9 @@ mod filters;
 mod names;
 mod simple;
 mod term;
-mod tree;
 mod unroll;
 
 pub use fault::Fault;
 pub use filters::filter;
 use names::{Known, Names};
-pub use tree::{Block, Expression, FilterTree, Rates, Statement, Until};
 use unroll::Unroller;

@@ -2,15 +2,16 @@
 ghost use Rattle.std.specs.Prelude.{◌≡◌, ◌<◌, ◌≤◌, ◌+◌, ◌^◌, OnOk, IfOk, length, take};
 ghost use Rattle.work_code.specs.Term.{term};
 ghost use Rattle.streamit_model.specs.Elaborate.{At, find, is_new, slot_of, step_of, constant, bound_of, on_ok, first_term, first_popped};
-ghost use Rattle.streamit_model.specs.Source.{Declare, Assign, Push, Pop};
-ghost use Rattle.streamit_unroll.specs.View.{scope_of, Judges, expression, option_expression};
-ghost use Rattle.streamit_unroll.specs.Unrolled.{at_of, Reads, AreOptional};
+ghost use Rattle.streamit_text.specs.Tree.{Declare, Assign, Push, Discard, expression, option_expression};
+ghost use Rattle.streamit_unroll.specs.View.{scope_of, Judges};
+ghost use Rattle.streamit_unroll.specs.Unrolling.{at_of, Reads, AreOptional};
 ghost use Rattle.streamit_unroll.specs.Numbers.{AreValues};
 
 use crate::term::{constant, term};
-use crate::{Expression, Fault, Known, Unroller};
+use crate::{Fault, Known, Unroller};
 use river_base::{Name, NoMemory};
 use std::alloc::Global;
+use streamit_text::Expr as Written;
 use work_code::{Expr, Exprs, Stmt, Stmts};
 
 impl Unroller {
@@ -25,7 +26,7 @@ impl Unroller {
     }
 
     // A bound of a loop.
-    pub fn bound(&self, tree: &Expression) -> Result<u32, Fault>
+    pub fn bound(&self, tree: &Written) -> Result<u32, Fault>
         requires { AreValues (expression tree.now) }
         ensures judged { Judges (λ n. n) result (on_ok (constant (at_of self.now).scope (expression tree.now)) bound_of) }
         ensures small { IfOk result (λ n. n ≤ 65536) }
@@ -43,7 +44,7 @@ impl Unroller {
         &mut self,
         alloc: Global,
         peek: u32,
-        value: &Expression,
+        value: &Written,
         out: &mut Stmts,
     ) -> Result<(), Fault>
         requires { AreValues (expression value.now) }
@@ -60,7 +61,7 @@ impl Unroller {
 
     // `pop();`
     pub fn pop(&mut self, peek: u32, out: &mut Stmts) -> Result<(), Fault>
-        ensures { Reads result out.old out.new self.old self.new (step_of peek Pop (at_of self.old)) }
+        ensures { Reads result out.old out.new self.old self.new (step_of peek Discard (at_of self.old)) }
     {
         self.popped = next(self.popped)?;
         Ok(())
@@ -72,7 +73,7 @@ impl Unroller {
         alloc: Global,
         peek: u32,
         name: Name,
-        value: &Expression,
+        value: &Written,
         out: &mut Stmts,
     ) -> Result<(), Fault>
         requires { AreValues (expression value.now) }
@@ -102,7 +103,7 @@ impl Unroller {
         alloc: Global,
         peek: u32,
         name: Name,
-        value: &Option<Expression>,
+        value: &Option<Written>,
         out: &mut Stmts,
     ) -> Result<(), Fault>
         requires { AreOptional (option_expression value.now) }
@@ -126,7 +127,7 @@ impl Unroller {
         &mut self,
         alloc: Global,
         peek: u32,
-        value: &Option<Expression>,
+        value: &Option<Written>,
     ) -> Result<Expr, Fault>
         requires { AreOptional (option_expression value.now) }
         ensures judged { Judges term result (first_term peek (option_expression value.now) (at_of self.old)) }

@@ -1,42 +1,43 @@
 // Expressions of a filter, where names are known.
 ghost use Rattle.std.specs.Prelude.{◌≡◌, ◌<◌, ◌≤◌, ◌+◌, ◌^◌, OnOk};
-ghost use Rattle.text_forms.specs.Tree.{Bin};
+ghost use Rattle.streamit_text.specs.Tree.{Bin, expression};
 ghost use Rattle.work_code.specs.Term.{term};
-ghost use Rattle.streamit_model.specs.Source.{pops};
-ghost use Rattle.streamit_model.specs.Elaborate.{find, constant, constant_of, named, term_of, peeked};
-ghost use Rattle.streamit_unroll.specs.View.{scope_of, expression, Judges};
-ghost use Rattle.streamit_unroll.specs.Numbers.{AreValues, same};
+ghost use Rattle.streamit_model.specs.Meaning.{pops};
+ghost use Rattle.streamit_model.specs.Elaborate.{find, constant, constant_of, named_term, term_of, peeked};
+ghost use Rattle.streamit_unroll.specs.View.{scope_of, Judges};
+ghost use Rattle.streamit_unroll.specs.Numbers.{AreValues, itself};
 
-use crate::{Expression, Fault, Known, Names};
+use crate::{Fault, Known, Names};
 use river_base::Name;
 use std::alloc::Global;
+use streamit_text::Expr as Written;
 use work_code::{BinOp, Expr, apply, negate, truth_of};
 
 // The value of a constant expression.
 #[cycle(constant)]
-pub fn constant(names: &Names, e: &Expression) -> Result<i64, Fault>
+pub fn constant(names: &Names, e: &Written) -> Result<i64, Fault>
     requires { AreValues (expression e.now) }
-    ensures { Judges same result (constant (scope_of names.now.items.items) (expression e.now)) }
+    ensures { Judges itself result (constant (scope_of names.now.items.items) (expression e.now)) }
 {
     match e {
-        Expression::Number(value) => Ok(*value as i64),
-        Expression::Name(name) => known_constant(names, *name),
-        Expression::Peek(_) | Expression::Pop => Err(Fault::NotConstant),
-        Expression::Neg(inner) => {
+        Written::Number(value) => Ok(*value as i64),
+        Written::Name(name) => known_constant(names, *name),
+        Written::Peek(_) | Written::Pop => Err(Fault::NotConstant),
+        Written::Neg(inner) => {
             let inner = constant(names, inner)?;
             Ok(negate(inner))
         }
-        Expression::Not(inner) => {
+        Written::Not(inner) => {
             let inner = constant(names, inner)?;
             Ok(truth_of(inner == 0))
         }
-        Expression::Bin { op, left, right } => constants(names, *op, left, right),
+        Written::Bin { op, left, right } => constants(names, *op, left, right),
     }
 }
 
 // The value of a name, which is the variable of a loop.
 fn known_constant(names: &Names, name: Name) -> Result<i64, Fault>
-    ensures { Judges same result (constant_of (find (scope_of names.now.items.items) name)) }
+    ensures { Judges itself result (constant_of (find (scope_of names.now.items.items) name)) }
 {
     match names.find(name) {
         None => Err(Fault::UnknownName),
@@ -47,10 +48,10 @@ fn known_constant(names: &Names, name: Name) -> Result<i64, Fault>
 
 // The value of an operation on two constant expressions.
 #[cycle(constant)]
-fn constants(names: &Names, op: BinOp, left: &Expression, right: &Expression) -> Result<i64, Fault>
+fn constants(names: &Names, op: BinOp, left: &Written, right: &Written) -> Result<i64, Fault>
     requires left { AreValues (expression left.now) }
     requires right { AreValues (expression right.now) }
-    ensures { Judges same result (constant (scope_of names.now.items.items) (Bin op (expression left.now) (expression right.now))) }
+    ensures { Judges itself result (constant (scope_of names.now.items.items) (Bin op (expression left.now) (expression right.now))) }
 {
     let left = constant(names, left)?;
     let right = constant(names, right)?;
@@ -63,7 +64,7 @@ pub fn term(
     alloc: Global,
     names: &Names,
     peek: u32,
-    e: &Expression,
+    e: &Written,
     popped: &mut u32,
 ) -> Result<Expr, Fault>
     requires { AreValues (expression e.now) }
@@ -71,13 +72,13 @@ pub fn term(
     ensures popped { OnOk result (popped.new ≡ popped.old + pops (expression e.now)) }
 {
     match e {
-        Expression::Number(value) => Ok(Expr::Const(*value as i64)),
-        Expression::Name(name) => known_term(names, *name),
-        Expression::Peek(inner) => {
+        Written::Number(value) => Ok(Expr::Const(*value as i64)),
+        Written::Name(name) => known_term(names, *name),
+        Written::Peek(inner) => {
             let index = constant(names, inner)?;
             peeked(peek, *popped, index)
         }
-        Expression::Pop => {
+        Written::Pop => {
             let place = *popped;
             if place > 65536 {
                 return Err(Fault::Limit);
@@ -85,23 +86,21 @@ pub fn term(
             *popped = place + 1;
             Ok(Expr::Input(place))
         }
-        Expression::Neg(inner) => {
+        Written::Neg(inner) => {
             let inner = term(alloc, names, peek, inner, popped)?;
             Ok(Expr::Neg(Box::new(alloc, inner)?))
         }
-        Expression::Not(inner) => {
+        Written::Not(inner) => {
             let inner = term(alloc, names, peek, inner, popped)?;
             Ok(Expr::Not(Box::new(alloc, inner)?))
         }
-        Expression::Bin { op, left, right } => {
-            terms(alloc, names, peek, *op, left, right, popped)
-        },
+        Written::Bin { op, left, right } => { terms(alloc, names, peek, *op, left, right, popped) },
     }
 }
 
 // What a name stands for: its slot, or the value of the variable of a loop.
 fn known_term(names: &Names, name: Name) -> Result<Expr, Fault>
-    ensures { Judges term result (named (find (scope_of names.now.items.items) name)) }
+    ensures { Judges term result (named_term (find (scope_of names.now.items.items) name)) }
 {
     match names.find(name) {
         None => Err(Fault::UnknownName),
@@ -117,8 +116,8 @@ fn terms(
     names: &Names,
     peek: u32,
     op: BinOp,
-    left: &Expression,
-    right: &Expression,
+    left: &Written,
+    right: &Written,
     popped: &mut u32,
 ) -> Result<Expr, Fault>
     requires left { AreValues (expression left.now) }

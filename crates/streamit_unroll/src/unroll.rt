@@ -2,7 +2,7 @@
 ghost use Rattle.std.specs.Prelude.{◌≡◌};
 ghost use Rattle.streamit_model.specs.Elaborate.{counted};
 ghost use Rattle.streamit_unroll.specs.View.{Judges};
-ghost use Rattle.streamit_unroll.specs.Unrolled.{at_of};
+ghost use Rattle.streamit_unroll.specs.Unrolling.{at_of};
 
 use crate::{Fault, Names};
 

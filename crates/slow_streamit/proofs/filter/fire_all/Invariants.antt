@@ -1,4 +1,4 @@
-use Rattle.streamit_unroll.specs.Filter.{filter_tree}
+use Rattle.streamit_text.specs.Program.{filter_tree}
 use Rattle.slow_streamit.proofs.Filters.{FiredSoFar}
 use Rattle.slow_streamit.proofs.filter.fire_all.Given as goal
 

@@ -3,8 +3,8 @@ use Rattle.std.proofs.lemmas.List.{length-take-le}
 use Rattle.std.proofs.lemmas.Option.{slice_get-get_or}
 use Rattle.river_plan.specs.Forms.{Name}
 use Rattle.brooklet_model.specs.ByIndex.{collected}
-use Rattle.streamit_model.specs.Program.{piped, or_same, branch_count, share_of, weights_for}
-use Rattle.streamit_build.specs.Program.{adds_of, dealing_of, weights_of}
+use Rattle.streamit_model.specs.Meaning.{piped, or_same, branch_count, share_of, weights_for}
+use Rattle.streamit_text.specs.Program.{adds_of, dealing_of, weights_of}
 use Rattle.slow_streamit.specs.Works.{works_of}
 use Rattle.slow_streamit.proofs.Streams.{readable-front, readable-at, line_end, branches_start, lists-length}
 use Rattle.slow_streamit.proofs.program.+works.Goals as goal

@@ -1,6 +1,6 @@
 use Rattle.std.proofs.Common.{◌+◌, ◌*◌, length}
-use Rattle.streamit_model.specs.Program.{branch_count, share_of}
-use Rattle.streamit_build.specs.Program.{adds_of, dealing_of}
+use Rattle.streamit_model.specs.Meaning.{branch_count, share_of}
+use Rattle.streamit_text.specs.Program.{adds_of, dealing_of}
 use Rattle.slow_streamit.specs.Works.{works_of}
 use Rattle.slow_streamit.proofs.Streams.{LineSoFar, BranchesSoFar}
 use Rattle.slow_streamit.proofs.program.+works.Given as goal

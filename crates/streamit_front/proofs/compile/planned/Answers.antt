@@ -1,5 +1,5 @@
 use Rattle.streamit_model.specs.Judged.{judged}
-use Rattle.streamit_build.specs.Program.{program_of}
+use Rattle.streamit_text.specs.Program.{program_of}
 use Rattle.streamit_front.proofs.Fronts.{planned-valid}
 use Rattle.streamit_front.proofs.compile.planned.Goals as goal
 

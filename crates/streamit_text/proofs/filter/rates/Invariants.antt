@@ -1,7 +1,7 @@
 use Rattle.std.proofs.Common.{◌≡◌, length}
 use Rattle.streamit_text.specs.Reading.{rates_at}
 use Rattle.streamit_text.specs.View.{rates_of}
-use Rattle.streamit_text.proofs.Rates.{rates_from}
+use Rattle.streamit_text.proofs.RateSteps.{rates_from}
 use Rattle.streamit_text.proofs.filter.rates.Given as goal
 
 abbrev pub invariant-items : goal.invariant-items

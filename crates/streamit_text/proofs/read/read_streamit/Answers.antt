@@ -6,7 +6,7 @@ use Rattle.work_code.proofs.Counts.{units-few}
 use Rattle.streamit_text.proofs.read.read_streamit.Goals as goal
 
 -- a text has no more units than tokens
-pub read_units-requires : goal.read_units-requires
-read_units-requires c =
+pub some_units-requires : goal.some_units-requires
+some_units-requires c =
     let same : length c.as_slice.result.now ≡ length (units_of (toks c.args.tokens.now)) = sym (length-map c.as_slice.result.now unit_tokens) ∙ ap length (c.as_slice.ensures ∙ c.in_ok-units.ensures) in
     omega (arith, units-few c.args.tokens.now, c.requires)

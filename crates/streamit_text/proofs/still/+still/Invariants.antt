@@ -1,5 +1,5 @@
 use Rattle.std.proofs.Common.{◌≡◌, drop, map}
-use Rattle.streamit_unroll.specs.View.{statement, in_turn}
+use Rattle.streamit_text.specs.Tree.{statement, in_turn}
 use Rattle.streamit_text.specs.Grammar.{stay}
 use Rattle.streamit_text.proofs.still.+still.Given as goal
 

@@ -1,8 +1,9 @@
 use Rattle.std.proofs.Common.{ap, sym, ◌∙◌}
-use Rattle.text_forms.specs.Tree as tree
-use Rattle.streamit_unroll.specs.View.{scope_of, expression}
+use Rattle.streamit_text.specs.Tree as tree
+use Rattle.streamit_unroll.specs.View.{scope_of}
+use Rattle.streamit_text.specs.Tree.{expression}
 use Rattle.streamit_unroll.proofs.Constants.{peek_pops}
-use Rattle.streamit_unroll.proofs.Trees.{expression-peek}
+use Rattle.streamit_text.proofs.Trees.{expression-peek}
 use Rattle.streamit_unroll.proofs.term.+term.Goals as goal
 
 pub term-returns-in_ok-index-in-Peek-clause-popped : goal.term-returns-in_ok-index-in-Peek-clause-popped

@@ -1,6 +1,6 @@
 use Rattle.std.proofs.Common.{refl}
 use Rattle.kern_rows.specs.Forms.{filter_form}
-use Rattle.streamit_unroll.specs.Filter.{filter_tree}
+use Rattle.streamit_text.specs.Program.{filter_tree}
 use Rattle.streamit_build.specs.declared.builder.Declared.TheVariants as made
 use Rattle.streamit_build.proofs.Judging.{Made, filter_declared}
 use Rattle.streamit_build.proofs.streams.Known.filter.Goals as goal

@@ -1,5 +1,5 @@
 use Rattle.std.proofs.Common.{refl}
-use Rattle.streamit_build.specs.Program.{adds_of}
+use Rattle.streamit_text.specs.Program.{adds_of}
 use Rattle.streamit_build.specs.declared.builder.Declared.TheVariants as made
 use Rattle.streamit_build.proofs.Judging.{Made, pipe_declared}
 use Rattle.streamit_build.proofs.streams.Known.pipeline.Goals as goal

@@ -1,6 +1,6 @@
 use Rattle.std.proofs.Common.{[], length, sym, ap, ◌∙◌, subst}
 use Rattle.std.proofs.lemmas.List.{length-map}
-use Rattle.streamit_build.specs.Program.{declared_of, program_of}
+use Rattle.streamit_text.specs.Program.{declared_of, program_of}
 use Rattle.streamit_build.specs.Knowing.{Knows}
 use Rattle.streamit_build.proofs.LastUnit.{last_known, planned, took}
 use Rattle.streamit_build.proofs.streams.Known.program.Goals as goal

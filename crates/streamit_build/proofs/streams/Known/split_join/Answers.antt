@@ -1,9 +1,9 @@
 use Rattle.std.proofs.Common.{◌≡◌, ◌+◌, Ok, Err, refl, sym, subst, rules}
-use Rattle.streamit_model.specs.Program.{ASplitJoin, branch_count}
+use Rattle.streamit_text.specs.Program.{ASplitJoin, weights_of, dealing_of, adds_of}
+use Rattle.streamit_model.specs.Meaning.{branch_count}
 use Rattle.streamit_model.specs.Judged.{splitter_of, round_of, stream_of}
 use Rattle.streamit_unroll.specs.View.{Tells}
-use Rattle.streamit_build.specs.Units.{splitter_of as splitter_by}
-use Rattle.streamit_build.specs.Program.{weights_of, dealing_of, adds_of}
+use Rattle.streamit_build.specs.Units.{splitter_form}
 use Rattle.streamit_build.specs.Knowing.{Declares}
 use Rattle.streamit_build.specs.declared.builder.Declared.TheVariants as made
 use Rattle.streamit_build.proofs.Judging.{Made, branch_count_is, branch_fault, join_fault, split_declared}
@@ -15,7 +15,7 @@ returns-in_err-children c = λ known k.
     let a = adds_of all.adds in
     let g = dealing_of all.split in
     let n : c.len-count.result + 1 ≡ branch_count a = branch_count_is c.len-count.result all.adds.others all.adds.first c.len-count.ensures in
-    let sp = splitter_by c.in_ok-split.split in
+    let sp = splitter_form c.in_ok-split.split in
     let hs = subst (λ m. splitter_of g m ≡ Ok sp) n c.in_ok-split.ensures in
     let is : c.from_residual-in_err-children.result ≡ Err c.in_err-children.field-0.0 = search rules in
     subst (λ x. Declares x c.args.self.now known c.args.name (stream_of known c.args.name (ASplitJoin g a (weights_of all.join)))) (sym is)
@@ -27,7 +27,7 @@ returns-in_err-join c = λ known k.
     let a = adds_of all.adds in
     let g = dealing_of all.split in
     let n : c.len-count.result + 1 ≡ branch_count a = branch_count_is c.len-count.result all.adds.others all.adds.first c.len-count.ensures in
-    let sp = splitter_by c.in_ok-split.split in
+    let sp = splitter_form c.in_ok-split.split in
     let hs = subst (λ m. splitter_of g m ≡ Ok sp) n c.in_ok-split.ensures in
     let ch = c.in_ok-children.ensures known k in
     let f = c.in_err-join.field-0.0 in
@@ -42,7 +42,7 @@ returns c = λ known k.
     let a = adds_of all.adds in
     let g = dealing_of all.split in
     let n : c.len-count.result + 1 ≡ branch_count a = branch_count_is c.len-count.result all.adds.others all.adds.first c.len-count.ensures in
-    let sp = splitter_by c.in_ok-split.split in
+    let sp = splitter_form c.in_ok-split.split in
     let hs = subst (λ m. splitter_of g m ≡ Ok sp) n c.in_ok-split.ensures in
     let ch = c.in_ok-children.ensures known k in
     let cs = c.in_ok-children.children in

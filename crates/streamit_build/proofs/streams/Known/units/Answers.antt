@@ -1,8 +1,8 @@
 use Rattle.std.proofs.Common.{◌≡◌, ◌+◌, ◌≤◌, ◌∷◌, length, drop, rules, subst}
 use Rattle.streamit_model.specs.Judged.{all_streams}
-use Rattle.streamit_unroll.proofs.SoFar.{at_place, none_left}
-use Rattle.streamit_build.specs.Program.{declared_of, program_of}
-use Rattle.streamit_build.specs.Told.{AreReadable}
+use Rattle.streamit_text.proofs.Places.{at_place, none_left}
+use Rattle.streamit_text.specs.Program.{declared_of, program_of}
+use Rattle.streamit_build.specs.Readable.{AreReadable}
 use Rattle.streamit_build.proofs.AllUnits.{Judging, judging_start, judging_next, judging_fault, judging_end}
 use Rattle.streamit_build.proofs.streams.Known.units.Goals as goal
 

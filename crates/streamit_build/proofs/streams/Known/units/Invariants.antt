@@ -1,8 +1,8 @@
 use Rattle.std.proofs.Common.{◌+◌, drop}
 use Rattle.streamit_model.specs.Judged.{Streamed, all_streams}
-use Rattle.streamit_build.specs.Program.{program_of}
+use Rattle.streamit_text.specs.Program.{program_of}
 use Rattle.streamit_build.specs.Knowing.{Knows}
-use Rattle.streamit_build.specs.Told.{AreReadable}
+use Rattle.streamit_build.specs.Readable.{AreReadable}
 use Rattle.streamit_build.proofs.AllUnits.{Judging}
 use Rattle.streamit_build.proofs.streams.Known.units.Given as goal
 

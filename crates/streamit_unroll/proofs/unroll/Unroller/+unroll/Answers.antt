@@ -1,16 +1,18 @@
-use Rattle.streamit_unroll.specs.View.{expression, is_turn, statement, block, optional, Tells}
-use Rattle.streamit_model.specs.Source.{numbers}
+use Rattle.streamit_text.specs.Tree.{expression, is_turn, statement, block, optional_block}
+use Rattle.streamit_unroll.specs.View.{Tells}
+use Rattle.streamit_model.specs.Meaning.{numbers}
 use Rattle.streamit_model.specs.Elaborate.{step_of, steps_of, unrolled}
-use Rattle.streamit_unroll.specs.Unrolled.{at_of, Reads}
+use Rattle.streamit_unroll.specs.Unrolling.{at_of, Reads}
 use Rattle.work_code.specs.Steps.{step, steps, statements, in_turn}
 use Rattle.work_code.specs.Term.{term}
 use Rattle.work_code.specs.Steps as tree
 use Rattle.work_code.proofs.Running.{step-if}
 use Rattle.work_code.proofs.Texts.{steps-is}
 use Rattle.work_code.specs.declared.code.Stmt as built
-use Rattle.streamit_unroll.proofs.Trees.{block-is, statement-for}
+use Rattle.streamit_text.proofs.Trees.{block-is, statement-for}
 use Rattle.streamit_unroll.proofs.SoFar.{BlockSoFar, block_next, block_err, block_end, turns_start, turns_next, turns_fault, turns_end, for_turns, for_fault}
-use Rattle.streamit_unroll.proofs.SoFar.{good as answered, if_read, turn_is, kept_by, at_place, none_left}
+use Rattle.streamit_unroll.proofs.SoFar.{good as answered, if_read, turn_is, kept_by}
+use Rattle.streamit_text.proofs.Places.{at_place, none_left}
 use Rattle.std.proofs.Common.{subst, sym, ap, ◌∙◌, arith, refl, rules, ◌≡◌, ◌+◌, ◌-◌, Err, [], ◌∷◌, drop, map}
 use Rattle.streamit_unroll.proofs.unroll.Unroller.+unroll.Goals as goal
 
@@ -40,7 +42,7 @@ branch-returns-in_ok-push t c =
     let first = c.in_ok-first.first in
     let second = c.in_ok-second.second in
     let cond = c.in_ok-cond.cond in
-    let r = if_read c.args.peek (expression c.args.cond.now) (block c.args.yes.now) (optional c.args.no.now) (at_of c.args.self.now) (at_of c.counted.new.self) (at_of c.arm.new.self) (at_of c.otherwise.new.self) one.0 two.0 (term cond) c.term.new.popped
+    let r = if_read c.args.peek (expression c.args.cond.now) (block c.args.yes.now) (optional_block c.args.no.now) (at_of c.args.self.now) (at_of c.counted.new.self) (at_of c.arm.new.self) (at_of c.otherwise.new.self) one.0 two.0 (term cond) c.term.new.popped
     (in_turn (map step (statements first))) (in_turn (map step (statements second)))
     c.in_ok-counted.ensures.judged c.in_ok-cond.ensures.judged c.in_ok-cond.ensures.popped one.1 one.2 two.1 two.2 c.if-popped_first-self.true c.if-pushed_first-self.true in
     let made = step-if cond first second ∙ ap (λ a. tree.If (term cond) a (steps second)) (steps-is first) ∙ ap (λ b. tree.If (term cond) (in_turn (map step (statements first))) b) (steps-is second) in (

@@ -1,8 +1,8 @@
 use Rattle.std.proofs.Common.{◌+◌, ◌*◌, drop, map}
 use Rattle.std.specs.Prelude.{max}
-use Rattle.streamit_unroll.specs.declared.tree.Block.{size-Block}
-use Rattle.streamit_unroll.proofs.Trees.{optional_size}
-use Rattle.streamit_unroll.specs.View.{statement, block}
+use Rattle.streamit_text.specs.declared.tree.Block.{size-Block}
+use Rattle.streamit_text.proofs.Trees.{optional_size}
+use Rattle.streamit_text.specs.Tree.{statement, block}
 use Rattle.streamit_unroll.proofs.SoFar.{BlockSoFar, TurnsSoFar}
 use Rattle.streamit_unroll.proofs.unroll.Unroller.+unroll.Given as goal
 

@@ -1,6 +1,6 @@
 use Rattle.std.proofs.Common.{◌≡◌, drop}
-use Rattle.streamit_model.specs.FilterSource.{read_fields}
-use Rattle.streamit_unroll.specs.Unrolled.{at_of}
+use Rattle.streamit_model.specs.ElaborateFilter.{read_fields}
+use Rattle.streamit_unroll.specs.Unrolling.{at_of}
 use Rattle.streamit_unroll.proofs.unroll.Unroller.fields.Given as goal
 
 abbrev pub invariant-loop-name : goal.invariant-loop-name

@@ -4,10 +4,10 @@ use Rattle.work_code.proofs.Texts.{steps-is}
 use Rattle.kern_rows.specs.Needs.{CanRun}
 use Rattle.kern_rows.specs.Runs.{run_kept}
 use Rattle.streamit_model.specs.Elaborate.{on_ok}
-use Rattle.streamit_model.specs.FilterSource.{starts_of}
+use Rattle.streamit_model.specs.ElaborateFilter.{starts_of}
 use Rattle.streamit_model.proofs.FormedMet.{init_runs}
-use Rattle.streamit_unroll.specs.View.{optional}
-use Rattle.streamit_unroll.specs.Unrolled.{at_of}
+use Rattle.streamit_text.specs.Tree.{optional_block}
+use Rattle.streamit_unroll.specs.Unrolling.{at_of}
 use Rattle.streamit_unroll.proofs.SoFar.{good}
 use Rattle.streamit_unroll.proofs.unroll.Unroller.starts.Goals as goal
 
@@ -22,7 +22,7 @@ after_one_run-requires c =
     let len : c.len.result ≡ length fs = c.len.ensures ∙ c.args.tree.now.fields.ok.0 in
     subst (λ n. CanRun 0 (record { inputs = 0; slots = slots; steps = steps out }) n) (sym len)
     (subst (λ b. CanRun 0 (record { inputs = 0; slots = slots; steps = b }) (length fs)) (sym is)
-    (init_runs fs (optional c.args.tree.now.init) (at_of c.args.self.now) (in_turn (map step r.0), at_of c.optional.new.self) c.requires.fields c.requires.readable.low c.requires.readable.kept r.2))
+    (init_runs fs (optional_block c.args.tree.now.init) (at_of c.args.self.now) (in_turn (map step r.0), at_of c.optional.new.self) c.requires.fields c.requires.readable.low c.requires.readable.kept r.2))
 
 pub returns-clause-starts : goal.returns-clause-starts
 returns-clause-starts c =

@@ -27,29 +27,29 @@ pub enum Statement {
     /// `int NAME = e;`
     Declare {
         name: Name,
-        value: Option<Expression>,
+        value: Option<Expr>,
     },
     /// `NAME = e;`
     Assign {
         name: Name,
-        value: Expression,
+        value: Expr,
     },
     /// `push(e);`
-    Push(Expression),
+    Push(Expr),
     /// `pop();`
     Pop,
     /// `if (e) { .. } else { .. }`
     If {
-        cond: Expression,
+        cond: Expr,
         yes: Block,
         no: Option<Block>,
     },
     /// `for (int NAME = e; NAME < e; NAME++) { .. }`, or with `<=`.
     For {
         name: Name,
-        low: Expression,
+        low: Expr,
         until: Until,
-        high: Expression,
+        high: Expr,
         body: Block,
     },
 }
@@ -72,23 +72,23 @@ pub struct Block {
 
 /// An expression as it is written.
 #[derive(Drop)]
-pub enum Expression {
+pub enum Expr {
     /// `e || e`, or with another operator.
     Bin {
         op: BinOp,
-        left: Box<Expression>,
-        right: Box<Expression>,
+        left: Box<Expr>,
+        right: Box<Expr>,
     },
     /// `-e`
-    Neg(Box<Expression>),
+    Neg(Box<Expr>),
     /// `!e`
-    Not(Box<Expression>),
+    Not(Box<Expr>),
     /// A number.
     Number(u64),
     /// A field, a local or the variable of a loop.
     Name(Name),
     /// `peek(e)`
-    Peek(Box<Expression>),
+    Peek(Box<Expr>),
     /// `pop()`
     Pop,
 }

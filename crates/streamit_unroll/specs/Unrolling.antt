@@ -3,11 +3,11 @@ use Rattle.std.specs.Prelude.{◌≡◌, ℕ, ◌+◌, Bool, List, ◌∷◌, �
 use Rattle.work_code.specs.declared.code.Stmt.{Stmt}
 use Rattle.work_code.specs.declared.code.Stmts.{Stmts}
 use Rattle.work_code.specs.Steps.{step, statements, in_turn}
-use Rattle.text_forms.specs.Tree.{Spoken}
+use Rattle.streamit_text.specs.Tree.{Expression}
 use Rattle.river_plan.specs.Forms.{Name}
 use Rattle.streamit_model.specs.Elaborate.{At, Read, on_ok, counted, find, is_new, constant, bound_of}
 use Rattle.streamit_model.specs.Elaborate as spec
-use Rattle.streamit_model.specs.Source as source
+use Rattle.streamit_text.specs.Tree as source
 use Rattle.streamit_unroll.specs.declared.blocks.Span.{Span}
 use Rattle.streamit_unroll.specs.declared.fault.Fault.{Fault}
 use Rattle.streamit_unroll.specs.declared.unroll.Unroller.{Unroller}
@@ -35,7 +35,7 @@ ReadsArm (Ok body) at at' r =
 ReadsArm (Err f) at at' r = Tells f r
 
 -- the turns of a loop: the first value of its variable, and the one behind the last
-abbrev pub turns_of : spec.Scope → Name → Spoken → Bool → Spoken → Result (ℕ × ℕ) spec.Fault
+abbrev pub turns_of : spec.Scope → Name → Expression → Bool → Expression → Result (ℕ × ℕ) spec.Fault
 turns_of sc n low upto high =
     on_ok (is_new (find sc n)) (λ u.
     on_ok (on_ok (constant sc low) bound_of) (λ l.
@@ -55,7 +55,7 @@ ReadsTurn (Ok u) old new at at' r =
 ReadsTurn (Err f) old new at at' r = Tells f r
 
 -- the numbers of a block are values
-abbrev pub AreOptional : Option Spoken → Type 0
+abbrev pub AreOptional : Option Expression → Type 0
 AreOptional None = Unit {0}
 AreOptional (Some t) = AreValues t
 
@@ -64,7 +64,7 @@ abbrev mutual
   IsWritten (source.Declare n t) = AreOptional t
   IsWritten (source.Assign n t) = AreValues t
   IsWritten (source.Push t) = AreValues t
-  IsWritten source.Pop = Unit {0}
+  IsWritten source.Discard = Unit {0}
   IsWritten (source.If t a b) = AreValues t × AreWritten a × AreWrittenOptional b
   IsWritten (source.For n low upto high b) = AreValues low × AreValues high × AreWritten b
 

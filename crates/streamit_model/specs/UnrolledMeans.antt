@@ -1,8 +1,8 @@
 -- What a stream means: the items of its output, for all the items of its input.
 use Rattle.std.specs.Prelude.{ℕ, suc, ℤ, List, [], ◌∷◌}
-use Rattle.streamit_model.specs.Stream.{Splitter, Duplicate, RoundRobin, Stream, Filter, Pipeline, SplitJoin, Streams, Last, Then}
+use Rattle.streamit_model.specs.Unrolled.{Splitter, Duplicate, RoundRobin, Stream, Filter, Pipeline, SplitJoin, Streams, Last, Then}
 use Rattle.brooklet_model.specs.ByIndex.{dealt, collected}
-use Rattle.streamit_model.specs.Filters.{filtered}
+use Rattle.streamit_model.specs.UnrolledFilters.{filtered}
 
 -- what branch p takes
 abbrev pub split : Splitter → ℕ → List ℤ → List ℤ

@@ -1,8 +1,8 @@
 // Programs as they are written.
 ghost use Rattle.std.specs.Prelude.{◌≤◌, length};
 
+use crate::FilterTree;
 use river_base::Name;
-use streamit_unroll::FilterTree;
 
 /// A unit of a program: a stream that is declared. Its name has at most 40 bytes.
 #[derive(Drop)]

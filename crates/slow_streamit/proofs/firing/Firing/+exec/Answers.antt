@@ -1,18 +1,18 @@
 use Rattle.std.proofs.Common.{◌<◌, ap, ◌∙◌, rules}
 use Rattle.brooklet_model.specs.Machine.{at_name}
-use Rattle.streamit_model.specs.Source.{Values, do_all}
-use Rattle.streamit_unroll.specs.View.{block}
-use Rattle.slow_streamit.specs.Firing.{values_of, now_of}
+use Rattle.streamit_model.specs.Meaning.{Values, exec_all}
+use Rattle.streamit_text.specs.Tree.{block}
+use Rattle.slow_streamit.specs.Firing.{values_of, state_of}
 use Rattle.slow_streamit.proofs.Blocks.{turn_value, turns_next}
-use Rattle.slow_streamit.proofs.firing.Firing.+does.Goals as goal
+use Rattle.slow_streamit.proofs.firing.Firing.+exec.Goals as goal
 
 pub turns-loop-v-preserved : goal.turns-loop-v-preserved
 turns-loop-v-preserved t c =
-    let body = do_all (block c.args.body.now) c.args.items.now in
+    let body = exec_all (block c.args.body.now) c.args.items.now in
     let v = c.loop-v.v in
     let now = c.loop-v.self in
     let lt : v < c.args.end = search rules in
-    turns_next body c.args.name c.args.low v c.args.end (now_of c.args.self.now) (now_of now) (now_of c.block.new.self) lt c.loop-v.invariant
+    turns_next body c.args.name c.args.low v c.args.end (state_of c.args.self.now) (state_of now) (state_of c.block.new.self) lt c.loop-v.invariant
     (c.in_ok-block.ensures {u = tt}
     ∙ ap (λ (f : Values). body (record { values = f; popped = now.popped; pushed = now.pushed })) (c.in_ok-set.ensures {u = tt})
     ∙ ap (λ z. body (record { values = at_name c.args.name z (values_of now.values); popped = now.popped; pushed = now.pushed }))

@@ -1,0 +1,78 @@
+-- StreamIt's programs as trees, without their places in memory.
+use Rattle.std.specs.Prelude.{ℕ, List, map, Option}
+use Rattle.std.proofs.Common.{Vec, Global}
+use Rattle.text_blocks.specs.Parts.{optional}
+use Rattle.streamit_text.specs.Tree.{Block, Optional, block, optional_block}
+use Rattle.streamit_text.specs.declared.tree.FilterTree as code
+use Rattle.streamit_text.specs.declared.program.RoundRobin.{RoundRobin}
+use Rattle.streamit_text.specs.declared.program.Split.{Split}
+use Rattle.streamit_text.specs.declared.program.Split.TheVariants as split
+use Rattle.streamit_text.specs.declared.program.Adds as written
+use Rattle.streamit_text.specs.declared.program.Body as tree
+use Rattle.streamit_text.specs.declared.program.Body.TheVariants as body
+use Rattle.streamit_text.specs.declared.program.Declaration.{Declaration}
+
+-- a filter: its fields, `init`, its rates and `work`; `init` and the rates may be left out
+pub record FilterTree : Type 0 where
+  pub fields : List (List ℕ)
+  pub init : Optional
+  pub push : Option ℕ
+  pub pop : Option ℕ
+  pub peek : Option ℕ
+  pub work : Block
+
+-- how a splitter is written: weights as they stand in its brackets, where there are brackets
+pub data Dealing : Type 0 where
+  Copies : Dealing
+  Turns : Option (List ℕ) → Dealing
+
+-- the names that are added: one or more
+pub record Adds : Type 0 where
+  pub first : List ℕ
+  pub others : List (List ℕ)
+
+-- what is declared
+pub data Body : Type 0 where
+  AFilter : FilterTree → Body
+  APipeline : Adds → Body
+  ASplitJoin : Dealing → Adds → Option (List ℕ) → Body
+
+-- a stream that is declared: one unit of the text
+pub record Declared : Type 0 where
+  pub name : List ℕ
+  pub body : Body
+
+-- the last is the stream that is run
+abbrev pub Program : Type 0
+Program = List Declared
+
+-- WHAT THE CODE'S TREES STAND FOR
+
+abbrev pub filter_tree : code.FilterTree → FilterTree
+filter_tree t =
+    record { fields = t.fields.items; init = optional_block t.init; push = t.rates.push; pop = t.rates.pop; peek = t.rates.peek; work = block t.work }
+
+abbrev pub items_of : Vec ℕ Global → List ℕ
+items_of v = v.items
+
+-- the weights in the brackets, where there are brackets
+abbrev pub weights_of : RoundRobin → Option (List ℕ)
+weights_of r = optional items_of r.weights
+
+abbrev pub dealing_of : Split → Dealing
+dealing_of split.Duplicate = Copies
+dealing_of (split.RoundRobin r) = Turns (weights_of r)
+
+abbrev pub adds_of : written.Adds → Adds
+adds_of a = record { first = a.first; others = a.others.items }
+
+abbrev pub body_of : tree.Body → Body
+body_of (body.Filter t) = AFilter (filter_tree t)
+body_of (body.Pipeline a) = APipeline (adds_of a)
+body_of (body.SplitJoin b) = ASplitJoin (dealing_of b.split) (adds_of b.adds) (weights_of b.join)
+
+abbrev pub declared_of : Declaration → Declared
+declared_of d = record { name = d.name; body = body_of d.body }
+
+abbrev pub program_of : List Declaration → Program
+program_of ds = map declared_of ds
