@@ -156,6 +156,13 @@ impl<T: Drop> Listed<T> {
     {
         self.items
     }
+
+    /// The list of a vector's elements; takes no memory.
+    pub fn from_vec(items: Vec<T>) -> Self
+        ensures { result ≡ items.items }
+    {
+        Listed { items }
+    }
 }
 
 impl<T: Drop> Listed<Listed<T>> {

@@ -1,0 +1,167 @@
+-- A MOVE THAT CAN BE MADE
+
+ports_few : (ops : List OpForm) (o : ℕ) (op : OpForm) → All (λ n. n ≤ 64) (port_numbers ops) → slice_get ops o ≡ Some op → length op.reads ≤ 64
+ports_few [] o op a g = absurd (cc g)
+ports_few (d ∷ ops) zero op a g =
+    subst (λ (x : OpForm). length x.reads ≤ 64) (some_is d op g) (All-head (λ n. n ≤ 64) (length d.reads) (length d.writes ∷ port_numbers ops) a)
+ports_few (d ∷ ops) (suc o) op a g =
+    ports_few ops o op (All-tail (λ n. n ≤ 64) (length d.writes) (port_numbers ops) (All-tail (λ n. n ≤ 64) (length d.reads) (length d.writes ∷ port_numbers ops) a)) g
+
+pub few_ports : (p : PlanForm) (t : Task) → IsPlan p → IsTask p t → length t.ins < 2 ^ 32
+few_ports p t v k = let f = ports_few p.ops t.op k.op (v.within Ports) k.op_is in let i = k.ins in omega (arith, f, i)
+
+-- a ring whose reader received all has room
+ring_free : (caps : Capacities) (f : outlet.Outlet) (i : inlet.Inlet) → 0 < cap → IsLink cap f i → IsSettled f i → known_of i ≡ [] → IsFull f → ⊥
+ring_free cap (SendsTo f) (TakesFrom t) lt l s z full =
+    let e : length t.received ≡ length f.sent = ap length (sym (append-nil t.received) ∙ ap (λ k. t.received ++ k) (sym z) ∙ s.0) in
+    let r = s.2 in
+    let c = l.2 in
+    omega (arith, e, r, c, lt, full)
+ring_free cap (SendsTo f) (Given k) lt l s z full = absurd l
+ring_free cap (Stored xs) i lt l s z full = absurd l
+
+stored_free : (f : outlet.Outlet) → IsStored f → IsFull f → ⊥
+stored_free (SendsTo f) s full = absurd s
+stored_free (Stored xs) s full = absurd full
+
+pub more_or_none : (n : ℕ) → (0 < n) ⊎ (n ≡ 0)
+more_or_none zero = inr refl
+more_or_none (suc n) = inl (omega arith)
+
+beyond : (ls : List (List item.Item)) (j : ℕ) → length ls ≤ j → list_at ls j ≡ []
+beyond [] j le = refl
+beyond (l ∷ ls) zero le = absurd (omega (arith, le))
+beyond (l ∷ ls) (suc j) le = beyond ls j (omega (arith, le))
+
+module _ (p : PlanForm) (inputs : List (List item.Item)) (caps : Capacities) (net : Net) (v : IsPlan p) (n : IsNetOf p inputs cap net) where
+  abbrev ts : List Task
+  ts = net.tasks
+
+  is_task : (o : ℕ) (d : Task) → o < length net.tasks → IsTask p (get_or net.tasks o d)
+  is_task o d lt = n.tasks.each o d lt
+
+  -- the operator of a task
+  op_at : (o : ℕ) (d : Task) (lt : o < length net.tasks) → slice_get p.ops o ≡ Some (is_task o d lt).op
+  unfolding is_task
+  op_at o d lt =
+      let k = n.tasks.each o d lt in
+      sym (ap (slice_get p.ops) (n.laid.numbers o (get_or net.tasks o d) (slice_get-get_or net.tasks o d lt))) ∙ k.op_is
+
+  pub none_bad : (o : ℕ) (d : Task) → o < length net.tasks → (get_or net.tasks o d).bad ≡ None
+  none_bad o d lt =
+      let m = make_net p inputs cap net.tasks v n.laid n.tasks n.settled n.typed in
+      ap (λ (s : Seen). s.bad) (sym (seen_here net.tasks o (get_or net.tasks o d) (slice_get-get_or net.tasks o d lt))) ∙ m.joins.none_bad o (is_task o d lt).op (op_at o d lt)
+
+  room_at : (o : ℕ) (d : Task) → o < length net.tasks → ((m : ℕ) (e : Task) → o < m → m < length net.tasks → IsDone (get_or net.tasks m e)) → (j : ℕ) (x : outlet.Outlet) → (list_at (get_or net.tasks o d).pending j ≡ [] → ⊥)
+      → IsFull (get_or (get_or net.tasks o d).outs j x) → ⊥
+  unfolding is_task
+  room_at o d lt behind j x some full =
+      let t = get_or net.tasks o d in
+      let k = is_task o d lt in
+      let there : j < length k.op.writes = ⊎_elim (λ l. l) (λ ge. absurd (some (beyond t.pending j (let e = k.pending in omega (arith, e, ge))))) (cases_lt j (length k.op.writes)) in
+      let q = there_is k.op.writes j there in
+      let f = there_is t.outs j (let e = k.outs in omega (arith, e, there)) in
+      let full1 : IsFull f.0 = subst IsFull (get_or_from_slice_get t.outs j f.0 x f.1) full in
+      let gt = slice_get-get_or net.tasks o d lt in
+      ⊎_elim
+      (λ read.
+      let r = reader_of p.ops q.0 read in
+      let port = place_of r.1.reads q.0 r.3 in
+      let a = task_at p inputs cap net.tasks n.laid n.tasks r.0 r.1 r.2 in
+      let i = there_is a.t.ins port.0 (let e = a.ins in let b = got_below r.1.reads port.0 q.0 port.1 in omega (arith, e, b)) in
+      let ends : Ends p net.tasks r.0 o port.0 j q.0 f.0 i.0 = record { op = r.1; op' = k.op; op_is = r.2; reads = port.1; op_is' = op_at o d lt; writes = q.1; t = a.t; t' = t; t_is = a.t_is; t_is' = gt; in_is = i.1; out_is = f.1 } in
+      let after = reader_behind p v o r.0 k.op r.1 q.0 (op_at o d lt) (got_count k.op.writes j q.0 q.1) r.2 r.3 in
+      let done = behind r.0 a.t after (slice_get_within net.tasks r.0 a.t a.t_is) in
+      let done1 : IsDone a.t = subst IsDone (get_or_from_slice_get net.tasks r.0 a.t a.t a.t_is) done in
+      let z : known_of i.0 ≡ [] = ap known_of (sym (get_or_from_slice_get a.t.ins port.0 i.0 i.0 i.1)) ∙ done1.received port.0 i.0 (slice_get_within a.t.ins port.0 i.0 i.1) in
+      ring_free cap f.0 i.0 n.room (n.laid.rings r.0 o port.0 j q.0 f.0 i.0 ends) (n.settled.each r.0 o port.0 j q.0 f.0 i.0 ends) z full1)
+      (λ none. stored_free f.0 (n.laid.outputs_are o j k.op q.0 t f.0 (op_at o d lt) q.1 none gt f.1) full1)
+      (more_or_none (total (reads_it q.0) p.ops))
+
+  pub can_send : CanSendFrom net.tasks
+  can_send = record {
+    fine = none_bad;
+    few = λ o d lt. few_ports p (get_or net.tasks o d) v (n.tasks.each o d lt);
+    room = λ o d lt behind. record { each = room_at o d lt behind };
+  }
+
+-- a net whose tasks moved, and whose ends looked since
+pub net_again : (p : PlanForm) (inputs : List (List item.Item)) (caps : Capacities) (net : Net) (ts ts' : List Task) → IsPlan p → IsNetOf p inputs cap net → AreTasks p ts → all_ends ts ≡ all_ends net.tasks
+    → map still ts' ≡ map still ts → AreMet ts' net.links (length net.links) → IsNetOf p inputs cap (record { tasks = ts'; links = net.links })
+net_again p inputs cap net ts ts' v n k e s m = record {
+  typed = n.typed;
+  room = n.room;
+  laid = laid_same p inputs cap net.tasks ts' (still_ends ts ts' s ∙ e) n.laid;
+  tasks = still_tasks p ts ts' s k;
+  settled = settled_by p ts' net.links n.links m;
+  links = n.links;
+}
+
+-- NOTHING LEFT
+
+nil_of : (xs : List item.Item) → length xs ≡ 0 → xs ≡ []
+nil_of [] e = refl
+nil_of (x ∷ xs) e = absurd (omega (arith, e))
+
+none_more : (xs xs' ys ys' : List item.Item) → xs ++ ys ≡ xs' ++ ys' → xs ≡ xs' → ys ≡ [] → ys' ≡ []
+none_more xs xs' ys ys' e x y =
+    let a = ap length e in
+    let b = length-append xs ys in
+    let c = length-append xs' ys' in
+    let d = ap length x in
+    let f = ap length y in
+    nil_of ys' (omega (arith, a, b, c, d, f))
+
+ring_left : (f f' : outlet.Outlet) (i i' : inlet.Inlet) → IsSettled f i → IsSettled f' i' → sent_of f' ≡ sent_of f → received_of i' ≡ received_of i → known_of i ≡ [] → known_of i' ≡ []
+ring_left f f' i i' s s' es er z = none_more (received_of i) (received_of i') (known_of i) (known_of i') (settled_ring f i s ∙ sym es ∙ sym (settled_ring f' i' s')) (sym er) z
+
+input_left : (xs : List item.Item) (i i' : inlet.Inlet) → IsInput xs i → IsInput xs i' → received_of i' ≡ received_of i → known_of i ≡ [] → known_of i' ≡ []
+input_left xs i i' h h' er z = none_more (received_of i) (received_of i') (known_of i) (known_of i') (kept_input xs i h ∙ sym (kept_input xs i' h')) (sym er) z
+
+module _ (p : PlanForm) (inputs : List (List item.Item)) (caps : Capacities) (net net' : Net) (v : IsPlan p) (n : IsNetOf p inputs cap net) (n' : IsNetOf p inputs cap net') (same : map still net'.tasks ≡ map still net.tasks) where
+  done_again : (o : ℕ) (t t' : Task) → slice_get net.tasks o ≡ Some t → slice_get net'.tasks o ≡ Some t' → still t' ≡ still t → IsDone t → IsDone t'
+  done_again o t t' g g' s d = record {
+    idle = λ j. ap (λ (x : Still). list_at x.pending j) s ∙ d.idle j;
+    received = λ port x lt.
+        let i' = there_is t'.ins port lt in
+        let lt0 : port < length t.ins = (let e = map_long in_end t'.ins t.ins (ap (λ (x : Still). x.ends.ins) s) in omega (arith, lt, e)) in
+        let i = there_is t.ins port lt0 in
+        let er : received_of i'.0 ≡ received_of i.0 = sym (received_here t'.ins port i'.0 i'.1) ∙ ap (λ (x : Still). list_at x.seen.received port) s ∙ received_here t.ins port i.0 i.1 in
+        let z : known_of i.0 ≡ [] = ap known_of (sym (get_or_from_slice_get t.ins port i.0 x i.1)) ∙ d.received port x lt0 in
+        let k = n.tasks.each o t (slice_get_within net.tasks o t g) in
+        let k1 : IsTask p t = subst (IsTask p) (get_or_from_slice_get net.tasks o t t g) k in
+        let op_is : slice_get p.ops o ≡ Some k1.op = ap (slice_get p.ops) (sym (n.laid.numbers o t g)) ∙ k1.op_is in
+        let q = there_is k1.op.reads port (let e = k1.ins in omega (arith, e, lt0)) in
+        ap known_of (get_or_from_slice_get t'.ins port i'.0 x i'.1)
+        ∙ ⊎_elim
+        (λ w. by_ring o port k1.op q.0 t t' i.0 i'.0 op_is q.1 g g' i.1 i'.1 w er z)
+        (λ none. input_left (given_to p inputs q.0) i.0 i'.0 (n.laid.inputs_are o port k1.op q.0 t i.0 op_is q.1 none g i.1) (n'.laid.inputs_are o port k1.op q.0 t' i'.0 op_is q.1 none g' i'.1) er z)
+        (more_or_none (total (writes_it q.0) p.ops));
+  }
+    where
+      by_ring : (o port : ℕ) (op : OpForm) (q : Name) (t t' : Task) (i i' : inlet.Inlet) → slice_get p.ops o ≡ Some op → slice_get op.reads port ≡ Some q → slice_get net.tasks o ≡ Some t → slice_get net'.tasks o ≡ Some t' → slice_get t.ins port ≡ Some i → slice_get t'.ins port ≡ Some i'
+          → 0 < total (writes_it q) p.ops → received_of i' ≡ received_of i → known_of i ≡ [] → known_of i' ≡ []
+      by_ring o port op q t t' i i' op_is r g g' gi gi' w er z =
+          let wr = writer_of p.ops q w in
+          let j = place_of wr.1.writes q wr.3 in
+          let a = task_at p inputs cap net.tasks n.laid n.tasks wr.0 wr.1 wr.2 in
+          let b = task_at p inputs cap net'.tasks n'.laid n'.tasks wr.0 wr.1 wr.2 in
+          let f = there_is a.t.outs j.0 (let e = a.outs in let c = got_below wr.1.writes j.0 q j.1 in omega (arith, e, c)) in
+          let f' = there_is b.t.outs j.0 (let e = b.outs in let c = got_below wr.1.writes j.0 q j.1 in omega (arith, e, c)) in
+          let x = same_got still net'.tasks net.tasks same wr.0 b.t b.t_is in
+          let u : x.0 ≡ a.t = some_is x.0 a.t (sym x.1 ∙ a.t_is) in
+          let st : still b.t ≡ still a.t = x.2 ∙ ap still u in
+          let es : sent_of f'.0 ≡ sent_of f.0 = sym (sent_here b.t.outs j.0 f'.0 f'.1) ∙ ap (λ (y : Still). list_at y.seen.sent j.0) st ∙ sent_here a.t.outs j.0 f.0 f.1 in
+          ring_left f.0 f'.0 i i'
+          (n.settled.each o wr.0 port j.0 q f.0 i (record { op = op; op' = wr.1; op_is = op_is; reads = r; op_is' = wr.2; writes = j.1; t = t; t' = a.t; t_is = g; t_is' = a.t_is; in_is = gi; out_is = f.1 }))
+          (n'.settled.each o wr.0 port j.0 q f'.0 i' (record { op = op; op' = wr.1; op_is = op_is; reads = r; op_is' = wr.2; writes = j.1; t = t'; t' = b.t; t_is = g'; t_is' = b.t_is; in_is = gi'; out_is = f'.1 }))
+          es er z
+
+  pub idle_again : AreIdle net.tasks → AreIdle net'.tasks
+  idle_again h = record {
+    each = λ o d lt.
+        let g' = slice_get-get_or net'.tasks o d lt in
+        let x = same_got still net'.tasks net.tasks same o (get_or net'.tasks o d) g' in
+        let l = slice_get_within net.tasks o x.0 x.1 in
+        done_again o x.0 (get_or net'.tasks o d) x.1 g' x.2 (subst IsDone (get_or_from_slice_get net.tasks o x.0 d x.1) (h.each o d l));
+  }
