@@ -7,10 +7,15 @@ use Rattle.river_plan.specs.Forms.{PlanForm}
 use Rattle.class_locks.specs.Logs.{Holding}
 use Rattle.fire_tasks.specs.Adds.{table_class}
 
+-- classes are numbered by their first table: whatever is below a table's class is the class of a table before it
+abbrev pub AreByFirst : List ℕ → Type 0
+AreByFirst classes = (i c d : ℕ) → slice_get classes i ≡ Some c → d < c → (k : ℕ) × (k < i) × (slice_get classes k ≡ Some d)
+
 -- these are the classes of the plan's tables, table by table
 pub record AreTableClasses (p : PlanForm) (classes : List ℕ) : Type 0 where
   pub many : length classes ≡ length p.tables
   pub each : (n : ℕ) → n < length p.tables → slice_get classes n ≡ Some (table_class p n)
+  pub by_first : AreByFirst classes
 
 -- one of these tables is of class c
 abbrev pub HasClass : List ℕ → List ℕ → ℕ → Type 0
@@ -37,3 +42,8 @@ pub record AreClassCells (p : PlanForm) (cells : List Holding) : Type 0 where
   pub kinds : (c : ℕ) (x : Holding) → slice_get cells c ≡ Some x → x.kinds ≡ class_kinds p c
   pub all : (n : ℕ) → n < length p.tables → table_class p n < length cells
   pub used : (c : ℕ) → c < length cells → (n : ℕ) × (n < length p.tables) × (table_class p n ≡ c)
+
+-- there are so many classes
+pub record IsClassCount (classes : List ℕ) (n : ℕ) : Type 0 where
+  pub used : (c : ℕ) → c < n → (i : ℕ) × (slice_get classes i ≡ Some c)
+  pub all : (i c : ℕ) → slice_get classes i ≡ Some c → c < n

@@ -1,5 +1,6 @@
 pub mod First
 pub mod Fresh
+pub mod Homes
 pub mod Links
 pub mod Rings
 pub mod Settling

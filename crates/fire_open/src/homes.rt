@@ -1,7 +1,7 @@
 // Where an operator's rows go: its tables by number, and their lock classes.
-ghost use Rattle.std.specs.Prelude.{◌≡◌, ◌<◌, ◌≤◌, ◌×◌, ℕ, All, IfOk, OnOk, IsTrue, IsFalse, Some, length, slice_get};
+ghost use Rattle.std.specs.Prelude.{◌≡◌, ◌<◌, ◌^◌, ℕ, pos, All, IfOk, OnOk, IsTrue, IsFalse, Some, length, map, slice_get, slice_index_or};
 ghost use Rattle.river_plan.specs.Valid.{IsPlan};
-ghost use Rattle.fire_tasks.specs.Adds.{AreHomes, table_numbers};
+ghost use Rattle.fire_tasks.specs.Adds.{AreHomes, number_of, table_numbers};
 ghost use Rattle.fire_open.specs.Homes.{AreTableClasses, AreClassesOf, HasClass};
 
 use fire_tasks::TablePort;
@@ -23,16 +23,14 @@ pub fn table_classes(alloc: Global, plan: &Plan) -> Result<Places, NoMemory>
     as_places(alloc, &numbers)
 }
 
-// These numbers, of which none is negative. No memory holds 2^32 tables.
+// These numbers, which are small and not negative.
 fn as_places(alloc: Global, numbers: &Numbers) -> Result<Places, NoMemory>
-    ensures many { IfOk result (λ places. length places ≡ length numbers.now) }
+    requires { All (λ z. (n : ℕ) × (z ≡ pos n) × (n < 2 ^ 32)) numbers.now }
+    ensures { IfOk result (λ places. places ≡ map number_of numbers.now) }
 {
     let mut places = Places::new(alloc);
     for number in numbers.as_slice() {
-        match u32::try_from(*number) {
-            Ok(place) => places.push(place)?,
-            Err(_) => return Err(NoMemory),
-        }
+        places.push(*number as u32)?;
     }
     Ok(places)
 }
@@ -91,4 +89,32 @@ fn place_of(own: &Places, class: u32) -> usize
         }
     }
     unreachable!()
+}
+
+// Where an operator's rows go: the place of each table's class among its classes.
+fn ports_of(alloc: Global, classes: &Places, tables: &Places, own: &Places) -> Result<Listed<TablePort>, NoMemory>
+    requires there { All (λ m. m < length classes.now) tables.now }
+    requires own { All (λ m. (i : ℕ) × (slice_get own.now i ≡ Some (slice_index_or classes.now m 0))) tables.now }
+    ensures tables { IfOk result (λ ports. map (λ h. h.table) ports ≡ tables.now) }
+    ensures places { IfOk result (λ ports. (j : ℕ) (h : _) → slice_get ports j ≡ Some h → slice_get own.now h.place ≡ Some (slice_index_or classes.now h.table 0)) }
+{
+    let mut ports = Listed::new(alloc);
+    for table in tables.as_slice() {
+        let place = place_of(own, *classes.at(*table as usize));
+        ports.push(TablePort { table: *table, place })?;
+    }
+    Ok(ports)
+}
+
+/// Where an operator's rows go, and the classes of its tables.
+pub fn homes_of(alloc: Global, plan: &Plan, op: usize, classes: &Places) -> Result<(Listed<TablePort>, Places), NoMemory>
+    requires there { op < length plan.now.ops }
+    requires classes { AreTableClasses plan.now classes.now }
+    ensures { IfOk result (λ homes. AreHomes plan.now op homes.0 homes.1) }
+{
+    let tables = numbers_of(alloc, plan, op)?;
+    let count = classes.len() as u32;
+    let own = classes_below(alloc, classes, &tables, count)?;
+    let ports = ports_of(alloc, classes, &tables, &own)?;
+    Ok((ports, own))
 }

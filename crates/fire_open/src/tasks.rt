@@ -1,82 +1,47 @@
 // The tasks of a net, before anything moves.
-ghost use Rattle.std.specs.Prelude.{◌≡◌, ◌++◌, ◌<◌, ℕ, [], length, map, replicate, All, IfOk, OnOk};
-ghost use Rattle.river_plan.specs.Forms.{plan_form, queue_names};
+ghost use Rattle.std.specs.Prelude.{◌≡◌, ◌<◌, ℕ, [], Some, length, map, replicate, All, AllPairs, IfOk, OnOk, slice_get, slice_set};
+ghost use Rattle.river_plan.specs.ByPlace.{kind_at};
+ghost use Rattle.river_plan.specs.Forms.{queue_names};
+ghost use Rattle.river_plan.specs.Places.{read_places};
 ghost use Rattle.river_plan.specs.Valid.{IsPlan};
-ghost use Rattle.river_plan.specs.ByPlace.{decl_kinds, queue_kinds, kind_at};
-ghost use Rattle.brooklet_step.specs.Fit.{Fit};
+ghost use Rattle.river_base.specs.Places.{list_at};
+ghost use Rattle.brooklet_model.specs.Fit.{Fit};
 ghost use Rattle.fire_tasks.specs.declared.ports.Outlet.TheVariants.{Kept as Stored};
-ghost use Rattle.fire_open.specs.First.{first_queues, whole_list, IsFirstTask, AreFirstTasks};
+ghost use Rattle.fire_open.specs.First.{whole_list, IsFirstTask, AreFirstTasks, HasLeft, AreUnread};
 ghost use Rattle.fire_open.specs.Fresh.{AreFresh};
+ghost use Rattle.fire_open.specs.Homes.{AreTableClasses};
 
-use brooklet_step::{Inputs, ItemLists, first_states};
+use crate::homes::{Places, homes_of, table_classes};
+use brooklet_step::{Lines, Spare, first_queues, first_states};
+use fire_tasks::{Inlet, Kept, Outlet, Task};
 use kern_rows::Line;
-use net_run::{Inlet, Kept, Outlet, Task};
-use river_base::{Duplicate, Items, Listed, NoMemory, QueueType};
-use river_plan::{Decls, Plan, RawPlan};
+use river_base::{Listed, NoMemory, QueueType};
+use river_plan::{Plan, queue_kinds};
 use std::alloc::Global;
+use std::mem::replace;
 
-// The items of each queue before anything moves: those of the inputs move there, and the others are empty.
-fn first_queues(alloc: Global, raw: &RawPlan, inputs: Inputs) -> Result<ItemLists, NoMemory>
-    ensures { IfOk result (λ queues. queues ≡ first_queues (plan_form raw.now) inputs) }
+// The line at a place, as a kept list; nothing is left there.
+fn whole_list(alloc: Global, queues: &mut Lines, place: usize) -> Inlet
+    requires { place < length queues.old }
+    ensures inlet { result ≡ whole_list queues.old place }
+    ensures left { queues.new ≡ slice_set queues.old place [] }
 {
-    let mut queues = ItemLists::new(alloc);
-    add_empty(alloc, &mut queues, raw.outputs.len())?;
-    queues.append(inputs)?;
-    add_empty(alloc, &mut queues, raw.queues.len())?;
-    Ok(queues)
+    let line = replace(queues.at_mut(place), Line::new(alloc));
+    Inlet::Kept(Kept { line, taken: 0 })
 }
 
-// So many empty queues more.
-fn add_empty(alloc: Global, queues: &mut ItemLists, count: usize) -> Result<(), NoMemory>
-    ensures { OnOk result (queues.new ≡ queues.old ++ replicate count []) }
-{
-    for _i in 0..count {
-        queues.push(Items::new(alloc))?;
-    }
-    Ok(())
-}
-
-// The types of the queues: the outputs, the inputs, the others.
-fn all_kinds(alloc: Global, raw: &RawPlan) -> Result<Listed<QueueType>, NoMemory>
-    ensures { IfOk result (λ kinds. kinds ≡ queue_kinds (plan_form raw.now)) }
-{
-    let mut kinds = Listed::new(alloc);
-    add_decls(&mut kinds, &raw.outputs)?;
-    add_decls(&mut kinds, &raw.inputs)?;
-    add_decls(&mut kinds, &raw.queues)?;
-    Ok(kinds)
-}
-
-// Appends the types of these queues.
-fn add_decls(kinds: &mut Listed<QueueType>, decls: &Decls) -> Result<(), NoMemory>
-    ensures { OnOk result (kinds.new ≡ kinds.old ++ decl_kinds decls.now) }
-{
-    for decl in decls.as_slice() {
-        kinds.push(decl.kind)?;
-    }
-    Ok(())
-}
-
-// A kept list of the items at each of these places.
-#[tactic(auto, using(work_code::proofs::Lists::copies))]
-fn ins_of(alloc: Global, places: &[usize], queues: &ItemLists) -> Result<Listed<Inlet>, NoMemory>
-    requires { All (λ n. n < length queues.now) places.now }
-    ensures { IfOk result (λ ins. ins ≡ map (whole_list queues.now) places.now) }
+// Kept lists of the lines at these places.
+fn ins_of(alloc: Global, places: &[usize], queues: &mut Lines) -> Result<Listed<Inlet>, NoMemory>
+    requires there { All (λ n. n < length queues.old) places.now }
+    requires apart { AllPairs (λ m n. m ≡ n → ⊥) places.now }
+    ensures ins { IfOk result (λ ins. ins ≡ map (whole_list queues.old) places.now) }
+    ensures left { OnOk result (HasLeft places.now queues.old queues.new) }
 {
     let mut ins = Listed::new(alloc);
     for place in places {
-        ins.push(whole_list(alloc, queues, *place)?)?;
+        ins.push(whole_list(alloc, queues, *place))?;
     }
     Ok(ins)
-}
-
-// A kept list of the items at a place.
-fn whole_list(alloc: Global, queues: &ItemLists, place: usize) -> Result<Inlet, NoMemory>
-    requires { place < length queues.now }
-    ensures { IfOk result (λ inlet. inlet ≡ whole_list queues.now place) }
-{
-    let items = queues.at(place).copy(alloc)?;
-    Ok(Inlet::Kept(Kept { items, taken: 0 }))
 }
 
 // The types at these places.
@@ -103,20 +68,23 @@ fn outs_of(alloc: Global, count: usize) -> Result<Listed<Outlet>, NoMemory>
     Ok(outs)
 }
 
-#[tactic(auto, using(crate::proofs::FirstLemmas::places_there))]
 // The task of an operator.
+#[tactic(auto, using(crate::proofs::FirstLemmas::places_there))]
 fn task_of(
     alloc: Global,
     plan: &Plan,
     op: u32,
-    queues: &ItemLists,
+    queues: &mut Lines,
     kinds: &Listed<QueueType>,
+    classes: &Places,
 ) -> Result<Task, NoMemory>
     requires there { op < length plan.now.ops }
     requires valid { IsPlan plan.now }
-    requires queues { length queues.now ≡ length (queue_names plan.now) }
+    requires queues { length queues.old ≡ length (queue_names plan.now) }
     requires kinds { length kinds.now ≡ length (queue_names plan.now) }
-    ensures { IfOk result (IsFirstTask plan.now queues.now kinds.now op) }
+    requires classes { AreTableClasses plan.now classes.now }
+    ensures task { IfOk result (IsFirstTask plan.now queues.old kinds.now op) }
+    ensures left { OnOk result (HasLeft (list_at (read_places plan.now) op) queues.old queues.new) }
 {
     let reads = plan.reads_of(op as usize);
     let ins = ins_of(alloc, reads, queues)?;
@@ -125,7 +93,7 @@ fn task_of(
     let outs = outs_of(alloc, count)?;
     let pending = Listed::blanks(alloc, count)?;
     let (states, out) = first_states(alloc, &plan.raw().ops.at(op as usize).kernel)?;
-    let adds = Listed::blanks(alloc, out.adds.len())?;
+    let (tables, own) = homes_of(alloc, plan, op as usize, classes)?;
     Ok(Task {
         op,
         ins,
@@ -134,44 +102,48 @@ fn task_of(
         outs,
         pending,
         out,
-        adds,
+        spare: Spare::new(alloc),
+        tables,
+        classes: own,
         count: 0,
         bad: None,
     })
 }
 
-// A task for each operator, of which the queues are looked up by their places.
+// A task for each operator.
 #[tactic(auto, using(crate::proofs::FirstLemmas::first_none, crate::proofs::FirstLemmas::first_more))]
 fn tasks_by(
     alloc: Global,
     plan: &Plan,
     count: u32,
-    queues: &ItemLists,
+    queues: &mut Lines,
     kinds: &Listed<QueueType>,
+    classes: &Places,
 ) -> Result<Listed<Task>, NoMemory>
     requires valid { IsPlan plan.now }
     requires count { count ≡ length plan.now.ops }
-    requires queues { length queues.now ≡ length (queue_names plan.now) }
+    requires queues { length queues.old ≡ length (queue_names plan.now) }
     requires kinds { length kinds.now ≡ length (queue_names plan.now) }
-    ensures { IfOk result (AreFirstTasks plan.now queues.now kinds.now count) }
+    requires classes { AreTableClasses plan.now classes.now }
+    ensures { IfOk result (AreFirstTasks plan.now queues.old kinds.now count) }
 {
     let mut tasks = Listed::new(alloc);
     for op in 0..count {
-        let task = task_of(alloc, plan, op, queues, kinds)?;
+        let task = task_of(alloc, plan, op, queues, kinds, classes)?;
         tasks.push(task)?;
     }
     Ok(tasks)
 }
 
-/// A task for each operator, with the whole lists of the inputs.
-pub fn tasks_of(alloc: Global, plan: &Plan, inputs: Inputs) -> Result<Listed<Task>, NoMemory>
+/// A task for each operator. The items of the inputs move to the tasks that read them.
+pub fn tasks_of(alloc: Global, plan: &Plan, inputs: Lines) -> Result<Listed<Task>, NoMemory>
     requires { Fit plan.now inputs }
     ensures { IfOk result (AreFresh plan.now inputs) }
 {
     let raw = plan.raw();
-    let queues = first_queues(alloc, raw, inputs)?;
-    let kinds = all_kinds(alloc, raw)?;
     let count = raw.ops.len() as u32;
-    let tasks = tasks_by(alloc, plan, count, &queues, &kinds)?;
-    Ok(tasks)
+    let mut queues = first_queues(alloc, raw, inputs)?;
+    let kinds = queue_kinds(alloc, raw)?;
+    let classes = table_classes(alloc, plan)?;
+    tasks_by(alloc, plan, count, &mut queues, &kinds, &classes)
 }

@@ -1,0 +1,9 @@
+pub mod FirstLemmas
+pub mod Laid
+pub mod Lists
+pub mod OpenLemmas
+pub mod RingLemmas
+pub mod Seams
+pub mod SettleLemmas
+pub mod SourceLemmas
+pub mod StillLemmas
