@@ -156,13 +156,6 @@ impl<T: Drop> Listed<T> {
     {
         self.items
     }
-
-    /// The list of a vector's elements; takes no memory.
-    pub fn from_vec(items: Vec<T>) -> Self
-        ensures { result ≡ items.items }
-    {
-        Listed { items }
-    }
 }
 
 impl<T: Drop> Listed<Listed<T>> {
