@@ -4,19 +4,16 @@ ghost use Rattle.fire_laws.specs.Facts.{SettledIsNet, NumbersAreFew};
 
 /// From what each task keeps of itself, and what the rings tell, there is a word for each operator that its items stand for; no
 /// item failed its test; and the tasks are a bounded state of the plan, with the numbers that they have.
-#[tactic(auto, using(crate::proofs::Joining::join_law))]
 pub fn tasks_join()
     ensures { TasksJoin }
 {}
 
 /// Tasks that keep their facts, one for each operator, with settled rings between them, are a net.
-#[tactic(auto, using(crate::proofs::NetLemmas::settled_law))]
 pub fn settled_is_net()
     ensures { SettledIsNet }
 {}
 
 /// The items that they took and sent are at most twice the items of the defined histories.
-#[tactic(auto, using(crate::proofs::Numbers::numbers_law))]
 pub fn numbers_are_few()
     ensures { NumbersAreFew }
 {}
