@@ -29,7 +29,7 @@ use Rattle.brooklet_model.specs.Words.{Word}
 use Rattle.brooklet_model.proofs.Ports.{got_below}
 use Rattle.brooklet_model.proofs.Traces.{some_is, got_count, at_most}
 use Rattle.brooklet_model.proofs.TypedPlan.{op_fits}
-use Rattle.brooklet_step.specs.Fit.{Fit}
+use Rattle.brooklet_model.specs.Fit.{Fit}
 use Rattle.brooklet_step.specs.Given.{held_at, held_by, IsHeldOf, StandsAfter}
 use Rattle.brooklet_step.proofs.ReadLemmas.{got_map, op_at, places_at}
 use Rattle.brooklet_step.proofs.StartLemmas.{first_hist, queues_many}
@@ -42,10 +42,10 @@ use Rattle.fire_laws.specs.Layout.{IsInput, IsStored}
 use Rattle.fire_tasks.specs.Ports.{received_of, received_in, sent_of, sent_in, pending_in}
 use Rattle.fire_tasks.specs.Adds.{AreHomes}
 use Rattle.fire_tasks.specs.Tasks.{IsTask}
-use Rattle.fire_open.specs.First.{first_queues, whole_list, IsFirstTask, AreFirstTasks}
+use Rattle.fire_open.specs.First.{first_lines, whole_list, IsFirstTask, AreFirstTasks}
 use Rattle.fire_open.specs.Fresh.{IsFresh, AreFresh}
 
-map_got : {A B : Type 0} (f : A → B) (xs : List A) (n : ℕ) (y : B) → slice_get (map f xs) n ≡ Some y → (x : A) × (slice_get xs n ≡ Some x) × (f x ≡ y)
+pub map_got : {A B : Type 0} (f : A → B) (xs : List A) (n : ℕ) (y : B) → slice_get (map f xs) n ≡ Some y → (x : A) × (slice_get xs n ≡ Some x) × (f x ≡ y)
 map_got f [] n y g = absurd (cc g)
 map_got f (x ∷ xs) zero y g = (x, refl, some_is (f x) y g)
 map_got f (x ∷ xs) (suc n) y g = map_got f xs n y g
@@ -77,7 +77,7 @@ kinds_many p =
 
 -- PLACES THAT ARE THERE
 
-reads_there : (p : PlanForm) → IsPlan p → (o : ℕ) (op : OpForm) → slice_get p.ops o ≡ Some op → (q : Name) → 0 < count q op.reads → 0 < count q (queue_names p)
+pub reads_there : (p : PlanForm) → IsPlan p → (o : ℕ) (op : OpForm) → slice_get p.ops o ≡ Some op → (q : Name) → 0 < count q op.reads → 0 < count q (queue_names p)
 reads_there p v o op g q lt = v.reads_declared q (let a = at_most (reads_it q) p.ops o op g in omega (arith, a, lt))
 
 all_below : (names qs : List Name) (n : ℕ) → ((j : ℕ) (q : Name) → slice_get qs j ≡ Some q → place names q < n) → All (λ k. k < n) (places names qs)
@@ -119,7 +119,7 @@ no_word [] e = refl
 no_word (x ∷ w) e = absurd (cc e)
 
 module _ (p : PlanForm) (v : IsPlan p) (inputs : List (List item.Item)) (fit : Fit p inputs) where
-  first_fresh : (o : ℕ) (t : Task) → IsFirstTask p (first_queues p inputs) (queue_kinds p) o t → IsFresh p inputs o t
+  first_fresh : (o : ℕ) (t : Task) → IsFirstTask p (first_lines p inputs) (queue_kinds p) o t → IsFresh p inputs o t
   first_fresh o t f =
       let x = op_at p.ops o f.there in
       let op = x.0 in
@@ -128,7 +128,7 @@ module _ (p : PlanForm) (v : IsPlan p) (inputs : List (List item.Item)) (fit : F
       let wp = places_at (λ d. d.writes) (queue_names p) p.ops o op g in
       let nr : length (list_at (read_places p) o) ≡ length op.reads = ap length rp ∙ length-map op.reads (place (queue_names p)) in
       let nw : length (list_at (write_places p) o) ≡ length op.writes = ap length wp ∙ length-map op.writes (place (queue_names p)) in
-      let ins_are : (port : ℕ) → list_at (received_in t.ins) port ≡ [] = (λ port. ap (λ is. list_at (received_in is) port) f.ins ∙ none_in (first_queues p inputs) (list_at (read_places p) o) port) in
+      let ins_are : (port : ℕ) → list_at (received_in t.ins) port ≡ [] = (λ port. ap (λ is. list_at (received_in is) port) f.ins ∙ none_in (first_lines p inputs) (list_at (read_places p) o) port) in
       let sent_are : (j : ℕ) → list_at (sent_in t.outs) j ≡ [] = (λ j. ap (λ os. list_at (sent_in os) j) f.outs ∙ none_out (length (list_at (write_places p) o)) j) in
       let pend_are : (j : ℕ) → list_at (pending_in t.pending) j ≡ [] = (λ j. ap (λ ls. list_at (pending_in ls) j) f.pending ∙ none_pending (length (list_at (write_places p) o)) j) in
       let both : (j : ℕ) → list_at (sent_in t.outs) j ++ list_at (pending_in t.pending) j ≡ [] = (λ j. ap (λ l. l ++ list_at (pending_in t.pending) j) (sent_are j) ∙ pend_are j) in
@@ -136,7 +136,7 @@ module _ (p : PlanForm) (v : IsPlan p) (inputs : List (List item.Item)) (fit : F
         task = record {
           op = op;
           op_is = ap (slice_get p.ops) f.number ∙ g;
-          ins = ap length f.ins ∙ length-map (list_at (read_places p) o) (whole_list (first_queues p inputs)) ∙ nr;
+          ins = ap length f.ins ∙ length-map (list_at (read_places p) o) (whole_list (first_lines p inputs)) ∙ nr;
           kinds = f.kinds_are ∙ ap (map (kind_at (queue_kinds p))) rp ∙ kinds_placed p op.reads;
           outs = ap length f.outs ∙ length-replicate (length (list_at (write_places p) o)) (Stored []) ∙ nw;
           pending = ap length f.pending ∙ length-replicate {A = List item.Item} (length (list_at (write_places p) o)) [] ∙ nw;
@@ -163,27 +163,27 @@ module _ (p : PlanForm) (v : IsPlan p) (inputs : List (List item.Item)) (fit : F
         };
         number = f.number;
         ins = λ port i gi.
-            let y = map_got (whole_list (first_queues p inputs)) (list_at (read_places p) o) port i (ap (λ is. slice_get is port) (sym f.ins) ∙ gi) in
+            let y = map_got (whole_list (first_lines p inputs)) (list_at (read_places p) o) port i (ap (λ is. slice_get is port) (sym f.ins) ∙ gi) in
             subst (λ z. received_of z ≡ []) y.2 refl;
         inputs_are = λ port op' q i g' r gi.
             let e : op ≡ op' = some_is op op' (sym g ∙ g') in
             let there = slice_get_within op'.reads port q r in
             let here : slice_get (list_at (read_places p) o) port ≡ Some (place (queue_names p) q) = ap (λ l. slice_get l port) (rp ∙ ap (λ (d : OpForm). places (queue_names p) d.reads) e) ∙ got_map (place (queue_names p)) op'.reads port q r in
-            let y = map_got (whole_list (first_queues p inputs)) (list_at (read_places p) o) port i (ap (λ is. slice_get is port) (sym f.ins) ∙ gi) in
+            let y = map_got (whole_list (first_lines p inputs)) (list_at (read_places p) o) port i (ap (λ is. slice_get is port) (sym f.ins) ∙ gi) in
             let n : y.0 ≡ place (queue_names p) q = some_is y.0 (place (queue_names p) q) (sym y.1 ∙ here) in
-            subst (IsInput (given_to p inputs q)) y.2 (ap (list_at (first_queues p inputs)) n ∙ sym (first_hist p v inputs fit q (reads_there p v o op' g' q (got_count op'.reads port q r))));
+            subst (IsInput (given_to p inputs q)) y.2 (ap (list_at (first_lines p inputs)) n ∙ sym (first_hist p v inputs fit q (reads_there p v o op' g' q (got_count op'.reads port q r))));
         outs = λ j x' gf.
             let e : Stored [] ≡ x' = same_got_in (length (list_at (write_places p) o)) (Stored []) x' j (ap (λ os. slice_get os j) (sym f.outs) ∙ gf) in
             subst (λ z. IsStored z × (sent_of z ≡ [])) e (tt, refl);
       }
 
-  pub all_fresh : (ts : List Task) (n : ℕ) (qs : List (List item.Item)) (kinds : List QueueType) → AreFirstTasks p qs kinds n ts → n ≡ length p.ops → qs ≡ first_queues p inputs → kinds ≡ queue_kinds p → AreFresh p inputs ts
+  pub all_fresh : (ts : List Task) (n : ℕ) (qs : List (List item.Item)) (kinds : List QueueType) → AreFirstTasks p qs kinds n ts → n ≡ length p.ops → qs ≡ first_lines p inputs → kinds ≡ queue_kinds p → AreFresh p inputs ts
   all_fresh ts n qs kinds h en eq ek = record {
     many = h.many ∙ en;
-    each = λ o t g. first_fresh o t (subst (λ ks. IsFirstTask p (first_queues p inputs) ks o t) ek (subst (λ ls. IsFirstTask p ls kinds o t) eq (h.each o t g)));
+    each = λ o t g. first_fresh o t (subst (λ ks. IsFirstTask p (first_lines p inputs) ks o t) ek (subst (λ ls. IsFirstTask p ls kinds o t) eq (h.each o t g)));
   }
 
-  pub queues_long : (qs : List (List item.Item)) → qs ≡ first_queues p inputs → length qs ≡ length (queue_names p)
+  pub queues_long : (qs : List (List item.Item)) → qs ≡ first_lines p inputs → length qs ≡ length (queue_names p)
   queues_long qs e = ap length e ∙ queues_many p v inputs fit
 
 pub first_none : (p : PlanForm) (qs : List (List item.Item)) (kinds : List QueueType) (ts : List Task) → ts ≡ [] → AreFirstTasks p qs kinds 0 ts

@@ -1,4 +1,6 @@
+pub mod ClassLemmas
 pub mod FirstLemmas
+pub mod HomeLemmas
 pub mod Laid
 pub mod Lists
 pub mod OpenLemmas
@@ -7,3 +9,4 @@ pub mod Seams
 pub mod SettleLemmas
 pub mod SourceLemmas
 pub mod StillLemmas
+pub mod TakenLemmas

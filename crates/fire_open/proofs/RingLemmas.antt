@@ -151,7 +151,7 @@ same_default (x ∷ xs) zero c d lt = refl
 same_default (x ∷ xs) (suc i) c d lt = same_default xs i c d (omega (arith, lt))
 
 pub put_is : (cap : ℕ) (ts : List Task) (l : Link) (feed : Sending) (take : Taking) (w r : Task) → w ≡ get_or ts l.writer w → r ≡ get_or (set ts l.writer (with_out w l.out (SendsTo feed))) l.reader r → l.writer < l.reader → l.reader < length ts → take.id ≡ feed.id
-    → (feed.sent ≡ []) × (feed.cap ≡ cap) × (feed.waiting ≡ 0) → (take.received ≡ []) × (take.known ≡ []) × (take.cap ≡ cap)
+    → (feed.cap ≡ cap) × (feed.sent ≡ []) × (feed.waiting ≡ 0) → (take.cap ≡ cap) × (take.received ≡ []) × (take.known ≡ [])
     → Put cap ts (set (set ts l.writer (with_out w l.out (SendsTo feed))) l.reader (with_in r l.port (TakesFrom take))) l
 put_is cap ts l feed take w r wi ri lt lr id f t = record {
   out = SendsTo feed;
@@ -163,12 +163,12 @@ put_is cap ts l feed take w r wi ri lt lr id f t = record {
     reader_is = λ d. sym (ri ∙ get_or-set_other ts l.writer l.reader (with_out w l.out (SendsTo feed)) r (λ e. omega (arith, e, lt)) ∙ same_default ts l.reader r d lr);
     after = refl;
   };
-  link = (id, t.2, f.2);
+  link = (id, t.0, f.0);
   settled = (
-    (λ j. t.0 j ++ t.1 j) ∙ sym f.0,
-    (let k = ap length t.1 in omega (arith, k)),
-    (let a = ap length t.0 in let b = f.1 in let c = f.2 in omega (arith, a, b, c)),
+    (λ j. t.1 j ++ t.2 j) ∙ sym f.1,
+    (let k = ap length t.2 in omega (arith, k)),
+    (let w = f.2 in omega (arith, w)),
   );
-  sent = f.0;
-  received = t.0;
+  sent = f.1;
+  received = t.1;
 }

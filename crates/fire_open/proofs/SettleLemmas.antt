@@ -140,7 +140,7 @@ met_still ts ts' l h m =
     let ar = received_same m.reader.ins l.port m.in_ er in
     view_stays ts ts' l m.out m.in_ (there_of ts l h) (swapped_of ts ts' l m) still
     (still_by (with_out m.writer l.out m.out) m.writer refl refl ao refl az refl refl refl refl refl refl refl refl refl)
-    (still_by (with_in m.reader l.port m.in_) m.reader refl ai refl ar refl refl refl refl refl refl refl refl refl)
+    (still_by (with_in m.reader l.port m.in_) m.reader refl ai refl ar refl refl refl refl refl refl refl refl refl refl)
 
 pub same_or : (a b c d : ℕ) → ((a ≡ b) × (c ≡ d)) ⊎ ((a ≡ b) × (c ≡ d) → ⊥)
 same_or a b c d = ⊎_elim

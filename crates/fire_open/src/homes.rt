@@ -1,7 +1,7 @@
 // Where an operator's rows go: its tables by number, and their lock classes.
-ghost use Rattle.std.specs.Prelude.{◌≡◌, ◌<◌, ◌^◌, ℕ, pos, All, IfOk, OnOk, IsTrue, IsFalse, Some, length, map, slice_get, slice_index_or};
+ghost use Rattle.std.specs.Prelude.{◌≡◌, ◌<◌, ◌++◌, ◌∷◌, [], if◌then◌else◌, ℕ, pos, All, IfOk, OnOk, IsTrue, IsFalse, Some, length, map, slice_get, slice_index_or};
 ghost use Rattle.river_plan.specs.Valid.{IsPlan};
-ghost use Rattle.fire_tasks.specs.Adds.{AreHomes, number_of, table_numbers};
+ghost use Rattle.fire_tasks.specs.Adds.{AreHomes, table_numbers};
 ghost use Rattle.fire_open.specs.Homes.{AreTableClasses, AreClassesOf, HasClass};
 
 use fire_tasks::TablePort;
@@ -23,14 +23,24 @@ pub fn table_classes(alloc: Global, plan: &Plan) -> Result<Places, NoMemory>
     as_places(alloc, &numbers)
 }
 
-// These numbers, which are small and not negative.
+// A number of a class. No memory holds so many tables that it needs more bits.
+fn as_place(number: i64) -> Result<u32, NoMemory>
+    ensures { IfOk result (λ place. number ≡ pos place) }
+{
+    match u32::try_from(number) {
+        Ok(place) => Ok(place),
+        Err(_) => Err(NoMemory),
+    }
+}
+
+// These numbers of classes.
+#[tactic(auto, using(work_code::proofs::Lists::copies))]
 fn as_places(alloc: Global, numbers: &Numbers) -> Result<Places, NoMemory>
-    requires { All (λ z. (n : ℕ) × (z ≡ pos n) × (n < 2 ^ 32)) numbers.now }
-    ensures { IfOk result (λ places. places ≡ map number_of numbers.now) }
+    ensures { IfOk result (λ places. map pos places ≡ numbers.now) }
 {
     let mut places = Places::new(alloc);
     for number in numbers.as_slice() {
-        places.push(*number as u32)?;
+        places.push(as_place(*number)?)?;
     }
     Ok(places)
 }
@@ -71,11 +81,20 @@ fn classes_below(alloc: Global, classes: &Places, tables: &Places, count: u32) -
 {
     let mut own = Places::new(alloc);
     for class in 0..count {
-        if has_class(classes, tables, class) {
-            own.push(class)?;
-        }
+        let found = has_class(classes, tables, class);
+        add_if(found, class, &mut own)?;
     }
     Ok(own)
+}
+
+// The number comes to the others, if it was found.
+fn add_if(found: bool, class: u32, own: &mut Places) -> Result<(), NoMemory>
+    ensures { OnOk result (own.new ≡ (if found then own.old ++ class ∷ [] else own.old)) }
+{
+    if found {
+        own.push(class)?;
+    }
+    Ok(())
 }
 
 // The place of a class, which is there.
@@ -108,6 +127,7 @@ fn ports_of(alloc: Global, classes: &Places, tables: &Places, own: &Places) -> R
 
 /// Where an operator's rows go, and the classes of its tables.
 pub fn homes_of(alloc: Global, plan: &Plan, op: usize, classes: &Places) -> Result<(Listed<TablePort>, Places), NoMemory>
+    requires valid { IsPlan plan.now }
     requires there { op < length plan.now.ops }
     requires classes { AreTableClasses plan.now classes.now }
     ensures { IfOk result (λ homes. AreHomes plan.now op homes.0 homes.1) }

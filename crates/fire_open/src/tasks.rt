@@ -111,7 +111,6 @@ fn task_of(
 }
 
 // A task for each operator.
-#[tactic(auto, using(crate::proofs::FirstLemmas::first_none, crate::proofs::FirstLemmas::first_more))]
 fn tasks_by(
     alloc: Global,
     plan: &Plan,

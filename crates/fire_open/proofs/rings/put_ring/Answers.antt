@@ -17,4 +17,4 @@ at_mut-requires-4 c =
 pub returns : goal.returns
 returns c =
     put_is c.args.cap c.args.tasks.now c.args.link c.in_ok-feed.feed c.in_ok-feed.take c.at_mut.result.now c.at_mut-3.result.now (c.at_mut.ensures.value c.at_mut.result.now) (c.at_mut-3.ensures.value c.at_mut-3.result.now)
-    c.requires.order c.requires.reader c.in_ok-feed.ensures.id c.in_ok-feed.ensures.feed c.in_ok-feed.ensures.take
+    c.requires.order c.requires.reader c.in_ok-feed.ensures.ends c.in_ok-feed.ensures.feed c.in_ok-feed.ensures.take
