@@ -1,28 +1,64 @@
+-- What a net keeps while its tasks move and its rings look.
+use Rattle.std.proofs.Common.{◌≡◌, ℕ, ℤ, zero, suc, ◌+◌, ◌<◌, ◌≤◌, ◌⊎◌, inl, inr, ⊎_elim, Some, None, List, [], ◌∷◌, ◌++◌, length, map, take, drop, refl, sym, ap, ◌∙◌, arith, subst, get_or, ◌^◌, length-append}
+use Rattle.std.specs.Prelude.{slice_get, All}
+use Rattle.std.proofs.lemmas.Bool.{cases_lt}
+use Rattle.std.proofs.lemmas.List.{take-append-drop, append-nil, length-map}
+use Rattle.std.proofs.lemmas.List.Elements.{All-head, All-tail}
+use Rattle.std.proofs.lemmas.Option.{get_or_from_slice_get, slice_get-get_or, slice_get_within}
+use Rattle.river_base.specs.declared.item.Item as item
+use Rattle.river_base.specs.Places.{list_at}
+use Rattle.river_plan.specs.Forms.{Name, OpForm, PlanForm, decl_names}
+use Rattle.river_plan.specs.Names.{count}
+use Rattle.river_plan.specs.Uses.{total, reads_it, writes_it}
+use Rattle.river_plan.specs.Valid.{IsPlan}
+use Rattle.brooklet_model.proofs.Ports.{got_below}
+use Rattle.brooklet_model.proofs.Traces.{some_is, one_place, place_once, got_count, at_most}
+use Rattle.brooklet_model.specs.Bounded.{Capacities}
+use Rattle.brooklet_model.specs.Laws.{given_to}
+use Rattle.brooklet_model.specs.Typed.{AreInputs}
+use Rattle.brooklet_model.proofs.BoundedMoves.{reader_behind, reader_of}
+use Rattle.brooklet_model.proofs.Received.{writer_of}
+use Rattle.fire_laws.proofs.Joining.{place_of}
+use Rattle.fire_tasks.specs.Fired.{Seen}
+use Rattle.fire_tasks.specs.declared.ports.Inlet as inlet
+use Rattle.fire_tasks.specs.declared.ports.Inlet.TheVariants.{Ring as TakesFrom, Kept as Given}
+use Rattle.fire_tasks.specs.declared.ports.Outlet as outlet
+use Rattle.fire_tasks.specs.declared.ports.Outlet.TheVariants.{Ring as SendsTo, Kept as Stored}
+use Rattle.fire_open.specs.declared.settling.Link.{Link}
+use Rattle.fire_tasks.specs.declared.task.Task.{Task}
+use Rattle.fire_laws.specs.Layout.{IsLink, IsPair, IsSettled, IsInput, IsStored, AreLaid, AreTasks, AreSettled, Ends}
+use Rattle.fire_tasks.specs.Ports.{in_end, out_end, received_of, known_of, sent_of, received_in, sent_in, HasRoom, AllReceived}
+use Rattle.fire_tasks.specs.Tasks.{TaskEnds, IsTask, IsDone, ends_of, all_ends}
+use Rattle.fire_tasks.specs.Adds.{added, logs_of}
+use Rattle.fire_laws.proofs.NetLemmas.{there_is, make_net, seen_here, settled_ring, kept_input, received_here, sent_here}
+use Rattle.fire_open.specs.Links.{IsLinkOf, AreLinks, LinkEnds, IsPaired, ArePaired, ShareAnEnd, AreApart, AreMet}
+use Rattle.fire_open.specs.Still.{Still, still}
+use Rattle.fire_open.proofs.Lists.{same_got, map_long}
+use Rattle.fire_open.proofs.StillLemmas.{link_same, input_same, pair_of, still_tasks, still_ends}
+use Rattle.river_kernels.specs.declared.limit.Limit.TheVariants.{Ports}
+use Rattle.brooklet_step.proofs.RunLemmas.{ports_few}
+use Rattle.fire_open.specs.Homes.{AreClassCells}
+use Rattle.fire_open.proofs.Laid.{TaskAt, task_at, laid_same, settled_by}
+use Rattle.fire_run.specs.declared.net.Net.{Net}
+use Rattle.fire_run.specs.Cells.{AreSingle, HaveMoved}
+use Rattle.fire_run.specs.Moves.{CanSend, CanSendFrom}
+use Rattle.fire_run.specs.NetOf.{IsNetOf, HasNet, AreIdle}
+use Rattle.fire_run.proofs.CellLemmas.{cells_again}
+
 -- A MOVE THAT CAN BE MADE
 
-ports_few : (ops : List OpForm) (o : ℕ) (op : OpForm) → All (λ n. n ≤ 64) (port_numbers ops) → slice_get ops o ≡ Some op → length op.reads ≤ 64
-ports_few [] o op a g = absurd (cc g)
-ports_few (d ∷ ops) zero op a g =
-    subst (λ (x : OpForm). length x.reads ≤ 64) (some_is d op g) (All-head (λ n. n ≤ 64) (length d.reads) (length d.writes ∷ port_numbers ops) a)
-ports_few (d ∷ ops) (suc o) op a g =
-    ports_few ops o op (All-tail (λ n. n ≤ 64) (length d.writes) (port_numbers ops) (All-tail (λ n. n ≤ 64) (length d.reads) (length d.writes ∷ port_numbers ops) a)) g
-
-pub few_ports : (p : PlanForm) (t : Task) → IsPlan p → IsTask p t → length t.ins < 2 ^ 32
-few_ports p t v k = let f = ports_few p.ops t.op k.op (v.within Ports) k.op_is in let i = k.ins in omega (arith, f, i)
+pub few_ports : (p : PlanForm) (adds : ℕ → List (List ℤ)) (t : Task) → IsPlan p → IsTask p adds t → length t.ins < 2 ^ 32
+few_ports p adds t v k = let f = ports_few p.ops t.op k.op (v.within Ports) k.op_is in let i = k.ins in omega (arith, f, i)
 
 -- a ring whose reader received all has room
-ring_free : (caps : Capacities) (f : outlet.Outlet) (i : inlet.Inlet) → 0 < cap → IsLink cap f i → IsSettled f i → known_of i ≡ [] → IsFull f → ⊥
-ring_free cap (SendsTo f) (TakesFrom t) lt l s z full =
-    let e : length t.received ≡ length f.sent = ap length (sym (append-nil t.received) ∙ ap (λ k. t.received ++ k) (sym z) ∙ s.0) in
-    let r = s.2 in
-    let c = l.2 in
-    omega (arith, e, r, c, lt, full)
-ring_free cap (SendsTo f) (Given k) lt l s z full = absurd l
-ring_free cap (Stored xs) i lt l s z full = absurd l
+ring_free : (cap : ℕ) (f : outlet.Outlet) (i : inlet.Inlet) → 0 < cap → IsLink cap f i → IsSettled f i → known_of i ≡ [] → HasRoom f
+ring_free cap (SendsTo f) (TakesFrom t) lt l s z = let a = ap length z in let w = s.2 in let c = l.2 in omega (arith, a, w, c, lt)
+ring_free cap (SendsTo f) (Given k) lt l s z = absurd l
+ring_free cap (Stored xs) i lt l s z = absurd l
 
-stored_free : (f : outlet.Outlet) → IsStored f → IsFull f → ⊥
-stored_free (SendsTo f) s full = absurd s
-stored_free (Stored xs) s full = absurd full
+stored_free : (f : outlet.Outlet) → IsStored f → HasRoom f
+stored_free (SendsTo f) s = absurd s
+stored_free (Stored xs) s = tt
 
 pub more_or_none : (n : ℕ) → (0 < n) ⊎ (n ≡ 0)
 more_or_none zero = inr refl
@@ -33,11 +69,11 @@ beyond [] j le = refl
 beyond (l ∷ ls) zero le = absurd (omega (arith, le))
 beyond (l ∷ ls) (suc j) le = beyond ls j (omega (arith, le))
 
-module _ (p : PlanForm) (inputs : List (List item.Item)) (caps : Capacities) (net : Net) (v : IsPlan p) (n : IsNetOf p inputs cap net) where
-  abbrev ts : List Task
-  ts = net.tasks
+module _ (p : PlanForm) (inputs : List (List item.Item)) (caps : Capacities) (net : Net) (v : IsPlan p) (n : IsNetOf p inputs caps net) where
+  abbrev adds : ℕ → ℕ → List (List ℤ)
+  adds = added p (logs_of net.cells)
 
-  is_task : (o : ℕ) (d : Task) → o < length net.tasks → IsTask p (get_or net.tasks o d)
+  is_task : (o : ℕ) (d : Task) → o < length net.tasks → IsTask p (adds (get_or net.tasks o d).op) (get_or net.tasks o d)
   is_task o d lt = n.tasks.each o d lt
 
   -- the operator of a task
@@ -49,52 +85,59 @@ module _ (p : PlanForm) (inputs : List (List item.Item)) (caps : Capacities) (ne
 
   pub none_bad : (o : ℕ) (d : Task) → o < length net.tasks → (get_or net.tasks o d).bad ≡ None
   none_bad o d lt =
-      let m = make_net p inputs cap net.tasks v n.laid n.tasks n.settled n.typed in
+      let m = make_net p inputs caps adds net.tasks v n.laid n.tasks n.settled n.typed in
       ap (λ (s : Seen). s.bad) (sym (seen_here net.tasks o (get_or net.tasks o d) (slice_get-get_or net.tasks o d lt))) ∙ m.joins.none_bad o (is_task o d lt).op (op_at o d lt)
 
   room_at : (o : ℕ) (d : Task) → o < length net.tasks → ((m : ℕ) (e : Task) → o < m → m < length net.tasks → IsDone (get_or net.tasks m e)) → (j : ℕ) (x : outlet.Outlet) → (list_at (get_or net.tasks o d).pending j ≡ [] → ⊥)
-      → IsFull (get_or (get_or net.tasks o d).outs j x) → ⊥
+      → HasRoom (get_or (get_or net.tasks o d).outs j x)
   unfolding is_task
-  room_at o d lt behind j x some full =
+  room_at o d lt behind j x some =
       let t = get_or net.tasks o d in
       let k = is_task o d lt in
       let there : j < length k.op.writes = ⊎_elim (λ l. l) (λ ge. absurd (some (beyond t.pending j (let e = k.pending in omega (arith, e, ge))))) (cases_lt j (length k.op.writes)) in
       let q = there_is k.op.writes j there in
       let f = there_is t.outs j (let e = k.outs in omega (arith, e, there)) in
-      let full1 : IsFull f.0 = subst IsFull (get_or_from_slice_get t.outs j f.0 x f.1) full in
       let gt = slice_get-get_or net.tasks o d lt in
-      ⊎_elim
+      subst HasRoom (sym (get_or_from_slice_get t.outs j f.0 x f.1)) (⊎_elim
       (λ read.
       let r = reader_of p.ops q.0 read in
       let port = place_of r.1.reads q.0 r.3 in
-      let a = task_at p inputs cap net.tasks n.laid n.tasks r.0 r.1 r.2 in
+      let a = task_at p inputs caps adds net.tasks n.laid n.tasks r.0 r.1 r.2 in
       let i = there_is a.t.ins port.0 (let e = a.ins in let b = got_below r.1.reads port.0 q.0 port.1 in omega (arith, e, b)) in
       let ends : Ends p net.tasks r.0 o port.0 j q.0 f.0 i.0 = record { op = r.1; op' = k.op; op_is = r.2; reads = port.1; op_is' = op_at o d lt; writes = q.1; t = a.t; t' = t; t_is = a.t_is; t_is' = gt; in_is = i.1; out_is = f.1 } in
       let after = reader_behind p v o r.0 k.op r.1 q.0 (op_at o d lt) (got_count k.op.writes j q.0 q.1) r.2 r.3 in
       let done = behind r.0 a.t after (slice_get_within net.tasks r.0 a.t a.t_is) in
       let done1 : IsDone a.t = subst IsDone (get_or_from_slice_get net.tasks r.0 a.t a.t a.t_is) done in
       let z : known_of i.0 ≡ [] = ap known_of (sym (get_or_from_slice_get a.t.ins port.0 i.0 i.0 i.1)) ∙ done1.received port.0 i.0 (slice_get_within a.t.ins port.0 i.0 i.1) in
-      ring_free cap f.0 i.0 n.room (n.laid.rings r.0 o port.0 j q.0 f.0 i.0 ends) (n.settled.each r.0 o port.0 j q.0 f.0 i.0 ends) z full1)
-      (λ none. stored_free f.0 (n.laid.outputs_are o j k.op q.0 t f.0 (op_at o d lt) q.1 none gt f.1) full1)
-      (more_or_none (total (reads_it q.0) p.ops))
+      ring_free (caps q.0) f.0 i.0 (n.room q.0) (n.laid.rings r.0 o port.0 j q.0 f.0 i.0 ends) (n.settled.each r.0 o port.0 j q.0 f.0 i.0 ends) z)
+      (λ none. stored_free f.0 (n.laid.outputs_are o j k.op q.0 t f.0 (op_at o d lt) q.1 none gt f.1))
+      (more_or_none (total (reads_it q.0) p.ops)))
 
   pub can_send : CanSendFrom net.tasks
   can_send = record {
     fine = none_bad;
-    few = λ o d lt. few_ports p (get_or net.tasks o d) v (n.tasks.each o d lt);
+    few = λ o d lt. few_ports p (adds (get_or net.tasks o d).op) (get_or net.tasks o d) v (n.tasks.each o d lt);
     room = λ o d lt behind. record { each = room_at o d lt behind };
   }
 
+-- the operators of two tasks of a net are two
+pub single_tasks : (p : PlanForm) (inputs : List (List item.Item)) (caps : Capacities) (ts : List Task) → AreLaid p inputs caps ts → AreSingle ts
+single_tasks p inputs caps ts laid i k d li lk e =
+    sym (laid.numbers i (get_or ts i d) (slice_get-get_or ts i d li)) ∙ e ∙ laid.numbers k (get_or ts k d) (slice_get-get_or ts k d lk)
+
 -- a net whose tasks moved, and whose ends looked since
-pub net_again : (p : PlanForm) (inputs : List (List item.Item)) (caps : Capacities) (net : Net) (ts ts' : List Task) → IsPlan p → IsNetOf p inputs cap net → AreTasks p ts → all_ends ts ≡ all_ends net.tasks
-    → map still ts' ≡ map still ts → AreMet ts' net.links (length net.links) → IsNetOf p inputs cap (record { tasks = ts'; links = net.links })
-net_again p inputs cap net ts ts' v n k e s m = record {
+pub net_again : (p : PlanForm) (inputs : List (List item.Item)) (caps : Capacities) (net net' : Net) (ts : List Task) → IsPlan p → IsNetOf p inputs caps net
+    → AreTasks p (added p (logs_of net'.cells)) ts → all_ends ts ≡ all_ends net.tasks → map still net'.tasks ≡ map still ts → net'.links ≡ net.links
+    → AreMet net'.tasks net.links (length net.links) → HaveMoved p net.cells net'.cells → IsNetOf p inputs caps net'
+net_again p inputs caps net net' ts v n k e s l m h = record {
   typed = n.typed;
   room = n.room;
-  laid = laid_same p inputs cap net.tasks ts' (still_ends ts ts' s ∙ e) n.laid;
-  tasks = still_tasks p ts ts' s k;
-  settled = settled_by p ts' net.links n.links m;
-  links = n.links;
+  laid = laid_same p inputs caps net.tasks net'.tasks (still_ends ts net'.tasks s ∙ e) n.laid;
+  tasks = still_tasks p (added p (logs_of net'.cells)) ts net'.tasks s k;
+  settled = settled_by p net'.tasks net.links n.links m;
+  links = subst (AreLinks p) (sym l) n.links;
+  cells = subst (AreClassCells p) (sym h.is) (cells_again p h.more net.cells n.cells);
+  entries = h.entries n.entries;
 }
 
 -- NOTHING LEFT
@@ -118,7 +161,7 @@ ring_left f f' i i' s s' es er z = none_more (received_of i) (received_of i') (k
 input_left : (xs : List item.Item) (i i' : inlet.Inlet) → IsInput xs i → IsInput xs i' → received_of i' ≡ received_of i → known_of i ≡ [] → known_of i' ≡ []
 input_left xs i i' h h' er z = none_more (received_of i) (received_of i') (known_of i) (known_of i') (kept_input xs i h ∙ sym (kept_input xs i' h')) (sym er) z
 
-module _ (p : PlanForm) (inputs : List (List item.Item)) (caps : Capacities) (net net' : Net) (v : IsPlan p) (n : IsNetOf p inputs cap net) (n' : IsNetOf p inputs cap net') (same : map still net'.tasks ≡ map still net.tasks) where
+module _ (p : PlanForm) (inputs : List (List item.Item)) (caps : Capacities) (net net' : Net) (v : IsPlan p) (n : IsNetOf p inputs caps net) (n' : IsNetOf p inputs caps net') (same : map still net'.tasks ≡ map still net.tasks) where
   done_again : (o : ℕ) (t t' : Task) → slice_get net.tasks o ≡ Some t → slice_get net'.tasks o ≡ Some t' → still t' ≡ still t → IsDone t → IsDone t'
   done_again o t t' g g' s d = record {
     idle = λ j. ap (λ (x : Still). list_at x.pending j) s ∙ d.idle j;
@@ -129,7 +172,7 @@ module _ (p : PlanForm) (inputs : List (List item.Item)) (caps : Capacities) (ne
         let er : received_of i'.0 ≡ received_of i.0 = sym (received_here t'.ins port i'.0 i'.1) ∙ ap (λ (x : Still). list_at x.seen.received port) s ∙ received_here t.ins port i.0 i.1 in
         let z : known_of i.0 ≡ [] = ap known_of (sym (get_or_from_slice_get t.ins port i.0 x i.1)) ∙ d.received port x lt0 in
         let k = n.tasks.each o t (slice_get_within net.tasks o t g) in
-        let k1 : IsTask p t = subst (IsTask p) (get_or_from_slice_get net.tasks o t t g) k in
+        let k1 : IsTask p (added p (logs_of net.cells) t.op) t = subst (λ (y : Task). IsTask p (added p (logs_of net.cells) y.op) y) (get_or_from_slice_get net.tasks o t t g) k in
         let op_is : slice_get p.ops o ≡ Some k1.op = ap (slice_get p.ops) (sym (n.laid.numbers o t g)) ∙ k1.op_is in
         let q = there_is k1.op.reads port (let e = k1.ins in omega (arith, e, lt0)) in
         ap known_of (get_or_from_slice_get t'.ins port i'.0 x i'.1)
@@ -144,8 +187,8 @@ module _ (p : PlanForm) (inputs : List (List item.Item)) (caps : Capacities) (ne
       by_ring o port op q t t' i i' op_is r g g' gi gi' w er z =
           let wr = writer_of p.ops q w in
           let j = place_of wr.1.writes q wr.3 in
-          let a = task_at p inputs cap net.tasks n.laid n.tasks wr.0 wr.1 wr.2 in
-          let b = task_at p inputs cap net'.tasks n'.laid n'.tasks wr.0 wr.1 wr.2 in
+          let a = task_at p inputs caps (added p (logs_of net.cells)) net.tasks n.laid n.tasks wr.0 wr.1 wr.2 in
+          let b = task_at p inputs caps (added p (logs_of net'.cells)) net'.tasks n'.laid n'.tasks wr.0 wr.1 wr.2 in
           let f = there_is a.t.outs j.0 (let e = a.outs in let c = got_below wr.1.writes j.0 q j.1 in omega (arith, e, c)) in
           let f' = there_is b.t.outs j.0 (let e = b.outs in let c = got_below wr.1.writes j.0 q j.1 in omega (arith, e, c)) in
           let x = same_got still net'.tasks net.tasks same wr.0 b.t b.t_is in

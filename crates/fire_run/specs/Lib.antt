@@ -1,0 +1,4 @@
+pub mod Cells
+pub mod Moves
+pub mod NetOf
+pub mod Rows
