@@ -1,0 +1,9 @@
+pub mod AddLemmas
+pub mod Looking
+pub mod PassLemmas
+pub mod PortLemmas
+pub mod SeatLemmas
+pub mod TaskLemmas
+pub mod TurnLemmas
+pub mod Turned
+pub mod WordLemmas
