@@ -1,6 +1,6 @@
 -- The rows of a firing as entries of the logs, and what they add.
 use Rattle.std.proofs.Common.{◌≡◌, ◌≢◌, ℕ, ℤ, zero, suc, ◌+◌, ◌<◌, ◌≤◌, ◌==◌, Bool, true, false, Some, None, List, [], ◌∷◌, ◌++◌, length, map, take, refl, sym, ap, ◌∙◌, subst, arith, ⊎_elim, append_assoc, get_or, set, eq-eqb, ne_eqb}
-use Rattle.std.specs.Prelude.{All, AllPairs, filter, flat_map, nat_eq, slice_get, slice_index_or, if◌then◌else◌}
+use Rattle.std.specs.Prelude.{All, AllPairs, filter, flat_map, nat_eq, nat_lt, slice_get, slice_index_or, if◌then◌else◌}
 use Rattle.std.specs.List.Sorted.{IsStrictlyIncreasing}
 use Rattle.std.proofs.lemmas.Bool.{cases_eq, cases_lt}
 use Rattle.std.proofs.lemmas.Grind.{flat_map-append}
@@ -20,7 +20,7 @@ use Rattle.brooklet_model.specs.Histories.{tables_of}
 use Rattle.brooklet_model.proofs.Lists.{if_eq, if_ne, if_lt, if_ge}
 use Rattle.brooklet_model.proofs.Traces.{some_is, got_count, place_once, each_at}
 use Rattle.brooklet_step.proofs.NextLemmas.{got_place}
-use Rattle.brooklet_step.proofs.OpTables.{among, among_known}
+use Rattle.brooklet_step.proofs.OpTables.{among_known}
 use Rattle.brooklet_step.proofs.ReadLemmas.{got_map}
 use Rattle.class_locks.specs.declared.log.LogEntry.{LogEntry}
 use Rattle.class_locks.specs.Logs.{Holding, HasKind, TakesRows, rows_in, rows_to, part_of_op}
@@ -124,6 +124,10 @@ rows_present o classes (k ∷ hs) rows c (suc j) h once g e =
     (λ q. ap (rows_to h.table) (if_ne (slice_index_or classes k.place 0) c (entry_of o k.table (rows 0)) [] q))
     (cases_eq (slice_index_or classes k.place 0) c))
     ∙ rows_present o classes hs (λ i. rows (suc i)) c j h (λ i m a b ga gb s. let q = once (suc i) (suc m) a b ga gb s in omega (arith, q)) g e
+
+-- those of some names that are among others
+abbrev among : List Name → List Name → List Name
+among ns vs = filter (λ v. nat_lt 0 (count v ns)) vs
 
 -- THE ENTRIES OF ONE OPERATOR
 
@@ -306,6 +310,16 @@ set_grown (y ∷ ys) (suc i) x e g up =
     ∙ ap (λ (l : List LogEntry). (y.0, record y.1 { log = l }) ∷ grown (only_at x.0 e) ys) (sym (append-nil y.1.log))
     ∙ ap (λ (l : List LogEntry). (y.0, record y.1 { log = y.1.log ++ l }) ∷ grown (only_at x.0 e) ys) (sym (if_ne x.0 y.0 e [] (λ q. omega (arith, q, lt))))
 
+-- where there are no rows nothing changes
+pub set_none : (o table : ℕ) (rows : List (List ℤ)) (pile : List Piled) (i : ℕ) (x : Piled) → slice_get pile i ≡ Some x → rows ≡ [] → pile ≡ set pile i (with_entry o table rows x)
+set_none o table rows pile i x g e =
+    sym (at pile i g) ∙ ap (set pile i) (ap (λ (l : List LogEntry). (x.0, record x.1 { log = l })) (sym (append-nil x.1.log)) ∙ ap (λ (r : List (List ℤ)). with_entry o table r x) (sym e))
+  where
+    at : (ps : List Piled) (n : ℕ) → slice_get ps n ≡ Some x → set ps n x ≡ ps
+    at [] n h = refl
+    at (y ∷ ys) zero h = ap (λ z. z ∷ ys) (sym (piled_is y x h))
+    at (y ∷ ys) (suc n) h = ap (λ l. y ∷ l) (at ys n h)
+
 -- PORT BY PORT
 
 -- the pile after the entries of the first ports
@@ -321,7 +335,7 @@ take_length (x ∷ xs) zero lt = refl
 take_length (x ∷ xs) (suc j) lt = ap suc (take_length xs j (omega (arith, lt)))
 
 take_next : {A : Type 0} (xs : List A) (j : ℕ) (x : A) → slice_get xs j ≡ Some x → take (j + 1) xs ≡ take j xs ++ x ∷ []
-take_next xs j x g = ap (λ n. take n xs) (omega arith) ∙ by xs j x g
+take_next xs j x g = let e : j + 1 ≡ suc j = omega arith in ap (λ n. take n xs) e ∙ by xs j x g
   where
     some_eq : {A : Type 0} (a b : A) → Some a ≡ Some b → a ≡ b
     some_eq a b s = cc s

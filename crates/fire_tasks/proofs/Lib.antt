@@ -1,4 +1,5 @@
 pub mod AddLemmas
+pub mod BundleLemmas
 pub mod Looking
 pub mod PassLemmas
 pub mod PortLemmas

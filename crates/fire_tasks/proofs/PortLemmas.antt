@@ -2,7 +2,7 @@
 use Rattle.std.proofs.Common.{◌≡◌, ℕ, zero, suc, ◌<◌, List, [], ◌∷◌, ◌++◌, length, refl, sym, ap, ◌∙◌, subst, arith, get_or, set, append_assoc, length-append, ◌+◌, Option, Some, None}
 use Rattle.std.specs.Prelude.{MatchOption, All, IsNone}
 use Rattle.std.proofs.lemmas.List.Elements.{All-head, All-tail}
-use mathlib.Core.List.{reverse}
+use mathlib.Core.List.{reverse, IsPrefix}
 use Rattle.std.proofs.lemmas.List.{reverse-append, length-map}
 use Rattle.river_base.specs.declared.item.Item as item
 use Rattle.river_base.specs.Places.{list_at, append_at}
@@ -133,3 +133,8 @@ sent_none (o ∷ os) (suc i) x e = let h = sent_none os i x e in omega (arith, h
 pub none_some : {A : Type 0} (r : Option A) (a : A) → IsNone r → r ≡ Some a → ⊥
 none_some None a n e = absurd (cc e)
 none_some (Some x) a n e = absurd (cc n)
+
+-- a front of nothing is nothing
+pub prefix_none : {A : Type 0} (xs ys : List A) → IsPrefix xs ys → ys ≡ [] → xs ≡ []
+prefix_none [] ys h e = refl
+prefix_none (x ∷ xs) ys h e = let l = ap length (h.1 ∙ e) in absurd (omega (arith, l))

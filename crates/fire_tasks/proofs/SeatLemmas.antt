@@ -188,12 +188,8 @@ module _ (v u w : View) (classes : List ℕ) (pile pile' : List Piled) (more : �
 pub part_own : (n o : ℕ) (es : List LogEntry) → All (λ e. e.op ≡ o) es → part n (o % n) es ≡ es
 part_own n o [] h = refl
 part_own n o (e ∷ es) h =
-    ap (λ (b : Bool). filter_one b) (eq-eqb (e.op % n) (o % n) (ap (λ (k : ℕ). k % n) (All-head (λ (x : LogEntry). x.op ≡ o) e es h)))
+    ap (λ (b : Bool). cond b (e ∷ part n (o % n) es) (part n (o % n) es)) (eq-eqb (e.op % n) (o % n) (ap (λ (k : ℕ). k % n) (All-head (λ (x : LogEntry). x.op ≡ o) e es h)))
     ∙ ap (λ (l : List LogEntry). e ∷ l) (part_own n o es (All-tail (λ (x : LogEntry). x.op ≡ o) e es h))
-  where
-    filter_one : Bool → List LogEntry
-    filter_one true = e ∷ part n (o % n) es
-    filter_one false = part n (o % n) es
 
 -- the part of some entries has only what they have
 pub part_within : (P : LogEntry → Type 0) (n k : ℕ) (es : List LogEntry) → All P es → All P (part n k es)

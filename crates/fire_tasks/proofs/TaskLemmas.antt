@@ -29,6 +29,7 @@ use Rattle.brooklet_model.proofs.Swaps.{at_port_here, at_port_past}
 use Rattle.brooklet_model.proofs.Traces.{some_is, got_count}
 use Rattle.brooklet_model.proofs.TypedPlan.{op_fits}
 use Rattle.brooklet_step.specs.declared.emit.Emit.{Emit}
+use Rattle.brooklet_step.specs.declared.emit.Spare.{Spare}
 use Rattle.brooklet_step.specs.declared.state.State.{State}
 use Rattle.brooklet_step.specs.Given.{held_at, IsHeldOf, FitState, StandsAfter}
 use Rattle.brooklet_step.specs.Reading.{CanFire, IsBlankOf, FiredOp}
@@ -37,14 +38,16 @@ use Rattle.brooklet_step.proofs.GivenLemmas.{at-append, ran_more, at_next, first
 use Rattle.brooklet_step.proofs.NextLemmas.{got_place}
 use Rattle.brooklet_step.proofs.OpTables.{width_at, width_there, widths_of, mine_many, among_known}
 use Rattle.brooklet_step.proofs.ReadLemmas.{got_map}
+use Rattle.class_locks.specs.Piles.{Piled}
 use Rattle.fire_tasks.specs.declared.ports.Inlet as inlet
 use Rattle.fire_tasks.specs.declared.task.TablePort.{TablePort}
 use Rattle.fire_tasks.specs.declared.task.Task.{Task}
 use Rattle.fire_tasks.specs.Adds.{table_numbers}
 use Rattle.fire_tasks.specs.Fired.{bad_at, IsHeldAs, Gave, kinds_in, kinds_out}
-use Rattle.fire_tasks.specs.Ports.{received_of, received_in, sent_in, pending_in, HasMoved, IsIdle}
+use Rattle.fire_tasks.specs.Ports.{received_of, received_in, sent_in, pending_in, HasMoved, InEnd, IsIdle, in_ends, out_ends}
 use Rattle.fire_tasks.specs.Tasks.{IsTask, seen}
-use Rattle.fire_tasks.specs.Turns.{AreRowsFor, Owes, without_rows}
+use Rattle.fire_tasks.specs.Turns.{AreRowsFor, HasFiredAt, HasTakenAt, Owes, classes_of, grown, logged, without_rows}
+use Rattle.fire_tasks.proofs.PortLemmas.{count_more, ins_many}
 use Rattle.fire_tasks.proofs.Turned.{turn_twice}
 use Rattle.fire_tasks.proofs.WordLemmas.{longer_word}
 
@@ -335,3 +338,64 @@ module _ (p : PlanForm) (v : IsPlan p) (t : Task) (adds : ℕ → List (List ℤ
 
 pub one_more : (a b s : ℕ) → b ≡ a + 1 → HasMoved (a + s) (b + s) true
 one_more a b s e = record { never_falls = omega (arith, e); grew = λ t. omega (arith, e); stayed = λ f. absurd (cc f) }
+
+-- A TAKE
+
+-- the item failed its test
+pub bad_fired : (p : PlanForm) → IsPlan p → (t : Task) → t.bad ≡ None → (ins : List inlet.Inlet) (port : ℕ) (x : item.Item) → in_ends ins ≡ in_ends t.ins
+    → received_in ins ≡ append_at (received_in t.ins) port (x ∷ []) → port < length t.ins → (IsHeldOf t.kinds port x → ⊥)
+    → HasFiredAt p t (record t { ins = ins; bad = Some (port, x) })
+bad_fired p v t fine ins port x e r lt misfit = record {
+  owes = λ adds k. owes_none p v (record t { ins = ins; bad = Some (port, x) }) adds (bad_came p v t adds k fine ins port x r (ins_many t.ins ins e) lt misfit);
+  ends = ap (λ (i : List InEnd). record { op = t.op; ins = i; outs = out_ends t.outs }) e;
+  one = let m = count_more t.ins ins port x lt r in omega (arith, m);
+  homes = (refl, refl);
+}
+
+-- a firing, whose outputs are pending and whose rows are owed
+pub took_fired : (p : PlanForm) → IsPlan p → (t : Task) → t.bad ≡ None → (ins : List inlet.Inlet) (port : ℕ) (x : item.Item) (st : List State) (out : Emit)
+    (pending blanks : List (List item.Item)) (spare : Spare) (n : ℕ) → in_ends ins ≡ in_ends t.ins
+    → received_in ins ≡ append_at (received_in t.ins) port (x ∷ []) → port < length t.ins → IsHeldOf t.kinds port x → IsIdle t.pending → FiredOp p t.op port x t.states st out
+    → pending ≡ map reverse out.outs → blanks ≡ t.pending → n ≡ min most_firings (t.count + 1)
+    → HasFiredAt p t (record t { ins = ins; states = st; pending = pending; out = record { outs = blanks; adds = out.adds }; spare = spare; count = n })
+took_fired p v t fine ins port x st out pending blanks spare n e r lt i idle f ep eb en = record {
+  owes = λ adds k. record {
+    task = spared p (λ j. adds j ++ list_at out.adds j) (record t { ins = ins; states = st; pending = pending; out = record { outs = blanks; adds = replicate (length out.adds) [] }; count = n }) spare
+        (took_task p v t adds k fine ins port x st out (record { outs = blanks; adds = replicate (length out.adds) [] }) pending n r (ins_many t.ins ins e) lt i idle f ep eb refl en);
+    many = came_many p v t adds k port x st out i f;
+    rows = came_wide p v t adds k port x st out i f;
+  };
+  ends = ap (λ (y : List InEnd). record { op = t.op; ins = y; outs = out_ends t.outs }) e;
+  one = let m = count_more t.ins ins port x lt r in omega (arith, m);
+  homes = (refl, refl);
+}
+  where
+    -- nothing is said of the spare lists
+    spared : (q : PlanForm) (adds : ℕ → List (List ℤ)) (u : Task) (s : Spare) → IsTask q adds u → IsTask q adds (record u { spare = s })
+    spared q adds u s k = record {
+      op = k.op;
+      op_is = k.op_is;
+      ins = k.ins;
+      kinds = k.kinds;
+      outs = k.outs;
+      pending = k.pending;
+      blank = k.blank;
+      homes = k.homes;
+      word = k.word;
+      count = k.count;
+      fired = k.fired;
+      stands = record { fit = k.stands.fit; after = k.stands.after };
+    }
+
+-- the rows that a task owed were added
+pub taken_at : (p : PlanForm) (t t1 : Task) (pile pile' : List Piled) (adds' : List (List (List ℤ))) → HasFiredAt p t t1
+    → pile' ≡ grown (logged t.op (classes_of pile) t1.tables (list_at t1.out.adds)) pile → classes_of pile ≡ t.classes → adds' ≡ replicate (length t1.out.adds) []
+    → HasTakenAt p t (record t1 { out = record { outs = t1.out.outs; adds = adds' } }) pile pile'
+taken_at p t t1 pile pile' adds' f e cs b = record {
+  rows = list_at t1.out.adds;
+  logs = e ∙ ap (λ c. grown (logged t.op c t1.tables (list_at t1.out.adds)) pile) cs ∙ ap (λ hs. grown (logged t.op t.classes hs (list_at t1.out.adds)) pile) f.homes.0;
+  task = λ adds k. subst (λ (a : List (List (List ℤ))). IsTask p (λ j. adds j ++ list_at t1.out.adds j) (record t1 { out = record { outs = t1.out.outs; adds = a } })) (sym b) (f.owes adds k).task;
+  ends = f.ends;
+  one = f.one;
+  homes = f.homes;
+}

@@ -17,14 +17,18 @@ use Rattle.class_locks.specs.Rule.{IsLogged}
 use Rattle.class_locks.specs.Piles.{Piled, HasLooked, HasTaken, HasPut, HasMoreTries, FoundTaken}
 use Rattle.class_locks.specs.Views.{Has, own}
 use Rattle.class_locks.proofs.Lists.{at_within}
+use Rattle.river_base.specs.declared.item.Item as item
+use Rattle.fire_tasks.specs.declared.ports.Inlet as inlet
+use Rattle.fire_tasks.specs.declared.ports.Outlet as outlet
 use Rattle.fire_tasks.specs.declared.task.TablePort.{TablePort}
 use Rattle.fire_tasks.specs.declared.task.Task.{Task}
 use Rattle.fire_tasks.specs.Adds.{AreCells, AreClaims, IsEntryOf, added, logs_at, logs_of, table_class}
-use Rattle.fire_tasks.specs.Ports.{HasMoved}
-use Rattle.fire_tasks.specs.Tasks.{IsTask, IsTaskAt, Waits, ends_of, moves}
+use Rattle.fire_tasks.specs.Ports.{HasMoved, InEnd, OutEnd, AllReceived, IsIdle, RefusedAll, Sent, in_ends, out_ends, received_count, received_in, sent_count}
+use Rattle.fire_tasks.specs.Tasks.{IsTask, IsTaskAt, TaskEnds, Waits, ends_of, moves}
 use Rattle.fire_tasks.specs.Turns.{AreCellsOf, HasSat, HasTakenAt, HasTried, HasTurned, IsSeatOf, IsStuck, SameRound, StillSits, classes_of, grown, logged}
 use Rattle.fire_tasks.proofs.AddLemmas.{added_else, added_more, class_is, entries_logged, logged_none, logged_own}
-use Rattle.fire_tasks.proofs.PassLemmas.{moved_true, moved_false, moved_first, moved_second}
+use Rattle.fire_tasks.proofs.PassLemmas.{moved_true, moved_false, moved_first, moved_second, sent_task, looked_task, turn_sent, with_sent}
+use Rattle.fire_tasks.proofs.PortLemmas.{ins_many}
 use Rattle.fire_tasks.proofs.SeatLemmas.{same_round, own_grew, claims_grew, part_own, part_within}
 use Rattle.fire_tasks.proofs.TaskLemmas.{got_at, table_there, tables_many, with_adds}
 
@@ -58,8 +62,8 @@ found_since cs v u w a f = record {
 }
   where
     past : (xs ys : List Tried) (i : ℕ) → slice_get (xs ++ ys) (length xs + i) ≡ slice_get ys i
-    past [] ys i = ap (slice_get ys) (omega arith)
-    past (x ∷ xs) ys i = ap (slice_get (x ∷ (xs ++ ys))) (omega arith) ∙ past xs ys i
+    past [] ys i = let e : 0 + i ≡ i = omega arith in ap (slice_get ys) e
+    past (x ∷ xs) ys i = let e : suc (length xs) + i ≡ suc (length xs + i) = omega arith in ap (slice_get (x ∷ (xs ++ ys))) e ∙ past xs ys i
 
 pub found_still : (cs : List ℕ) (v u w : View) → FoundTaken cs v u → HasMoreTries u w → FoundTaken cs v w
 found_still cs v u w f b = record {
@@ -257,3 +261,124 @@ tried_took p valid v u w t t' pile pile' k ht at put m q =
 
     own_logs : (c : ℕ) → logs_at w t.op c ≡ logs_at v t.op c ++ more c
     own_logs c = logs_grew t.op c ∙ ap (λ (l : List LogEntry). logs_at v t.op c ++ l) (part_own v.seats t.op (more c) (logged_own t.op t.classes t.tables at.rows c))
+
+-- ONE TURN
+
+-- something is pending still
+pub turned_sent : (p : PlanForm) (v : View) (t : Task) (os : List outlet.Outlet) (ls : List (List item.Item)) (m : Bool) → IsTaskAt p v t → v.held ≡ []
+    → Sent t.outs t.pending os ls m → (IsFalse m → RefusedAll os ls) → (IsIdle ls → ⊥) → HasTurned p v v t (with_sent t os ls) m
+turned_sent p v t os ls m k h s r busy = record {
+  task = sent_task p (added p (logs_at v t.op) t.op) t os ls m k s;
+  ends = ap (λ (o : List OutEnd). record { op = t.op; ins = in_ends t.ins; outs = o }) s.ends;
+  sat = sat_none p t.op v h;
+  number = turn_sent t os ls m t.ins s refl;
+  stuck = λ f. inr (inl (record { refused = r f; received = λ idle. absurd (busy idle) }));
+}
+
+-- the task after it sent and looked
+abbrev pub looked : Task → List outlet.Outlet → List (List item.Item) → List inlet.Inlet → Task
+looked t os ls ins = record t { ins = ins; outs = os; pending = ls }
+
+pub looked_at : (p : PlanForm) (v : View) (t : Task) (os : List outlet.Outlet) (ls : List (List item.Item)) (m : Bool) (ins : List inlet.Inlet) → IsTaskAt p v t
+    → Sent t.outs t.pending os ls m → in_ends ins ≡ in_ends t.ins → received_in ins ≡ received_in t.ins → IsTaskAt p v (looked t os ls ins)
+looked_at p v t os ls m ins k s e r =
+    looked_task p (added p (logs_at v t.op) t.op) (with_sent t os ls) ins (sent_task p (added p (logs_at v t.op) t.op) t os ls m k s) e r
+
+looked_ends : (t : Task) (os : List outlet.Outlet) (ls : List (List item.Item)) (m : Bool) (ins : List inlet.Inlet) → Sent t.outs t.pending os ls m
+    → in_ends ins ≡ in_ends t.ins → ends_of (looked t os ls ins) ≡ ends_of t
+looked_ends t os ls m ins s e =
+    ap (λ (o : List OutEnd). record { op = t.op; ins = in_ends ins; outs = o }) s.ends
+    ∙ ap (λ (i : List InEnd). record { op = t.op; ins = i; outs = out_ends t.outs }) e
+
+-- no item is there
+pub turned_none : (p : PlanForm) (v : View) (t : Task) (os : List outlet.Outlet) (ls : List (List item.Item)) (m : Bool) (ins : List inlet.Inlet) → IsTaskAt p v t → v.held ≡ []
+    → Sent t.outs t.pending os ls m → (IsFalse m → RefusedAll os ls) → in_ends ins ≡ in_ends t.ins → received_in ins ≡ received_in t.ins → AllReceived ins
+    → HasTurned p v v t (looked t os ls ins) m
+turned_none p v t os ls m ins k h s r e c a = record {
+  task = looked_at p v t os ls m ins k s e c;
+  ends = looked_ends t os ls m ins s e;
+  sat = sat_none p t.op v h;
+  number = turn_sent t os ls m ins s c;
+  stuck = λ f. inr (inl (record { refused = r f; received = λ idle. a }));
+}
+
+-- an item was taken
+pub turned_took : (p : PlanForm) (v w : View) (t t' : Task) (os : List outlet.Outlet) (ls : List (List item.Item)) (m n : Bool) (ins : List inlet.Inlet)
+    → Sent t.outs t.pending os ls m → in_ends ins ≡ in_ends t.ins → received_in ins ≡ received_in t.ins → HasTried p v w (looked t os ls ins) t' n → n ≡ true
+    → HasTurned p v w t t' true
+turned_took p v w t t' os ls m n ins s e c h y = record {
+  task = h.task;
+  ends = h.ends ∙ looked_ends t os ls m ins s e;
+  sat = h.sat;
+  number = moved_second (moves t) (received_count ins + sent_count os) (moves t') m (turn_sent t os ls m ins s c)
+      (subst (HasMoved (received_count ins + sent_count os) (moves t')) y h.number);
+  stuck = λ f. absurd (cc f);
+}
+
+-- a class was found taken
+pub turned_busy : (p : PlanForm) (v w : View) (t t' : Task) (os : List outlet.Outlet) (ls : List (List item.Item)) (m n : Bool) (ins : List inlet.Inlet)
+    → Sent t.outs t.pending os ls m → in_ends ins ≡ in_ends t.ins → received_in ins ≡ received_in t.ins → HasTried p v w (looked t os ls ins) t' n → n ≡ false
+    → HasTurned p v w t t' m
+turned_busy p v w t t' os ls m n ins s e c h y = record {
+  task = h.task;
+  ends = h.ends ∙ looked_ends t os ls m ins s e;
+  sat = h.sat;
+  number = moved_first (moves t) (received_count ins + sent_count os) (moves t') m (turn_sent t os ls m ins s c)
+      (subst (HasMoved (received_count ins + sent_count os) (moves t')) y h.number);
+  stuck = λ f. inr (inr (subst (λ (x : Task). FoundTaken x.classes v w) (sym (h.stays y)) (h.found y)));
+}
+
+-- TURNS OF ONE TASK
+
+-- the task after some turns
+pub record Passed (p : PlanForm) (v w : View) (t t' : Task) : Type 0 where
+  pub task : IsTaskAt p w t'
+  pub ends : ends_of t' ≡ ends_of t
+  pub sat : HasSat p t.op v w
+  pub grows : moves t ≤ moves t'
+
+pub passed_none : (p : PlanForm) (v : View) (t : Task) → IsTaskAt p v t → v.held ≡ [] → Passed p v v t t
+passed_none p v t k h = record { task = k; ends = refl; sat = sat_none p t.op v h; grows = omega arith }
+
+same_op : (t t' : Task) → ends_of t' ≡ ends_of t → t'.op ≡ t.op
+same_op t t' e = ap (λ (x : TaskEnds). x.op) e
+
+-- one more
+pub passed_on : (p : PlanForm) (v u w : View) (t t1 t2 : Task) (m : Bool) → Passed p v u t t1 → HasTurned p u w t1 t2 m → Passed p v w t t2
+passed_on p v u w t t1 t2 m a b = record {
+  task = b.task;
+  ends = b.ends ∙ a.ends;
+  sat = sat_then p t.op v u w a.sat (subst (λ o. HasSat p o u w) (same_op t t1 a.ends) b.sat);
+  grows = let g = a.grows in let n = b.number.never_falls in omega (arith, g, n);
+}
+
+-- after one that moved
+pub passed_after : (p : PlanForm) (v u w : View) (t t1 t2 : Task) (m : Bool) → HasTurned p v u t t1 m → m ≡ true → Passed p u w t1 t2 → HasTurned p v w t t2 true
+passed_after p v u w t t1 t2 m a e b = record {
+  task = b.task;
+  ends = b.ends ∙ a.ends;
+  sat = sat_then p t.op v u w a.sat (subst (λ o. HasSat p o u w) (same_op t t1 a.ends) b.sat);
+  number = let g = b.grows in let n = a.number.grew e in moved_true (moves t) (moves t2) (omega (arith, g, n));
+  stuck = λ f. absurd (cc f);
+}
+
+-- the first did not move
+pub passed_still : (p : PlanForm) (v w : View) (t t' : Task) (m : Bool) → HasTurned p v w t t' m → m ≡ false → HasTurned p v w t t' false
+passed_still p v w t t' m a e = subst (HasTurned p v w t t') e a
+
+-- a task with an item that failed its test
+pub passed_bad : (p : PlanForm) (v : View) (t : Task) → IsTaskAt p v t → v.held ≡ [] → (t.bad ≡ None → ⊥) → HasTurned p v v t t false
+passed_bad p v t k h bad = record {
+  task = k;
+  ends = refl;
+  sat = sat_none p t.op v h;
+  number = moved_false (moves t) (moves t) refl;
+  stuck = λ f. inl bad;
+}
+
+-- the seat is still that of the task
+pub seat_after : (p : PlanForm) (v w : View) (t t' : Task) → Passed p v w t t' → IsSeatOf p t.op v → IsSeatOf p t'.op w
+seat_after p v w t t' a s = subst (λ o. IsSeatOf p o w) (sym (same_op t t' a.ends)) (seat_again p t.op v w s a.sat.round a.sat.rests)
+
+pub few_ins : (t t' : Task) (n : ℕ) → ends_of t' ≡ ends_of t → length t.ins < n → length t'.ins < n
+few_ins t t' n e lt = let m = ins_many t.ins t'.ins (ap (λ (x : TaskEnds). x.ins) e) in omega (arith, m, lt)

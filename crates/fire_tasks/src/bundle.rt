@@ -2,7 +2,7 @@
 ghost use Rattle.std.specs.Prelude.{◌≡◌, ◌<◌, ◌↔◌, ℕ, [], length, IfOk, OnOk, OnErr, IsTrue, IsFalse, true, false};
 ghost use Rattle.river_plan.specs.Forms.{PlanForm, plan_form};
 ghost use Rattle.river_plan.specs.Valid.{IsPlan};
-ghost use Rattle.fire_tasks.specs.Bundles.{IsBundle, AreTasks, AreStuck, AreIdle, SameSeat, HasGone, HasSwept, HaveLooked};
+ghost use Rattle.fire_tasks.specs.Bundles.{IsBundle, AreTasks, AreStuck, AreIdle, AllLooked, SameSeat, HasGone, HasSwept, HaveLooked};
 ghost use Rattle.fire_tasks.specs.Tasks.{IsDone, AreNarrow, all_ends};
 ghost use Rattle.fire_tasks.specs.Turns.{StillSits, LooksSame};
 
@@ -30,6 +30,7 @@ pub struct Bundle {
     pub refused: bool,
 }
 
+#[tactic(auto, using(crate::proofs::BundleLemmas::passed_first, crate::proofs::BundleLemmas::passed_all, crate::proofs::TurnLemmas::sits_then))]
 // A look at these tasks, one after another: each moves what it can.
 fn sweep<G: Gate>(
     alloc: Global,
@@ -57,6 +58,7 @@ fn sweep<G: Gate>(
     Ok(moved)
 }
 
+#[tactic(auto, using(crate::proofs::BundleLemmas::swept_none, crate::proofs::BundleLemmas::swept_more, crate::proofs::BundleLemmas::swept_then, crate::proofs::TurnLemmas::sits_then))]
 // A pass over these tasks. Where nothing moves it looks again, at most so often, since other workers send and take meanwhile.
 fn pass_all<G: Gate>(
     alloc: Global,
@@ -89,7 +91,24 @@ fn is_done(task: &mut Task) -> bool
     ensures same { LooksSame task.old task.new }
     ensures done { IsTrue result ↔ IsDone task.new }
 {
-    first_ready(&mut task.ins).is_none() && is_idle(&task.pending)
+    match first_ready(&mut task.ins) {
+        Some(_) => false,
+        None => is_idle(&task.pending),
+    }
+}
+
+// Whether all tasks are done. It looks at their rings.
+#[tactic(auto, using(crate::proofs::BundleLemmas::looked_none))]
+fn all_done(tasks: &mut Listed<Task>) -> bool
+    ensures same { AllLooked tasks.old tasks.new }
+    ensures idle { IsTrue result ↔ AreIdle tasks.new }
+{
+    for place in 0..tasks.len() {
+        if !is_done(tasks.at_mut(place)) {
+            return false;
+        }
+    }
+    true
 }
 
 impl Bundle {
@@ -127,11 +146,6 @@ impl Bundle {
         ensures same { HaveLooked self.old self.new }
         ensures idle { IsTrue result ↔ AreIdle self.new.tasks }
     {
-        for place in 0..self.tasks.len() {
-            if !is_done(self.tasks.at_mut(place)) {
-                return false;
-            }
-        }
-        true
+        all_done(&mut self.tasks)
     }
 }

@@ -123,8 +123,10 @@ fn take_turn<G: Gate>(
     }
     match first_ready(&mut task.ins) {
         Some(port) => {
-            let taken = take_locked(alloc, plan, task, port as u32, seat, pile, gate)?;
-            Ok(taken || sent)
+            if take_locked(alloc, plan, task, port as u32, seat, pile, gate)? {
+                return Ok(true);
+            }
+            Ok(sent)
         }
         None => Ok(sent),
     }

@@ -1,5 +1,5 @@
 use Rattle.std.proofs.Common.{◌++◌, [], ◌∷◌, ap, sym, ◌∙◌, set, get_or-set_same, subst}
-use Rattle.fire_tasks.specs.Ports.{sent_of, out_end, IsFull}
+use Rattle.fire_tasks.specs.Ports.{sent_of, out_end, HasRoom}
 use Rattle.fire_tasks.proofs.PortLemmas.{none_some, sent_more, outs_set, none_case, some_case}
 use Rattle.fire_tasks.proofs.PassLemmas.{none_sent, one_sent, refused_sent}
 use Rattle.fire_tasks.proofs.ports.send_at.Goals as goal
@@ -39,4 +39,4 @@ pub returns-in_ok-push-in-Some-2-clause-goes : goal.returns-in_ok-push-in-Some-2
 returns-in_ok-push-in-Some-2-clause-goes c =
     let x = c.at_mut-2.result.now in
     λ some free.
-    absurd (none_some c.in_ok-push.field-0 c.in-Some-2.back (c.in_ok-push.ensures.room (λ full. free x (subst IsFull (c.at_mut-2.ensures.value x) full))) c.in-Some-2.is)
+    absurd (none_some c.in_ok-push.field-0 c.in-Some-2.back (c.in_ok-push.ensures.room (subst HasRoom (sym (c.at_mut-2.ensures.value x)) (free x))) c.in-Some-2.is)
