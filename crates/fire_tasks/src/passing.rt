@@ -88,9 +88,9 @@ fn take_locked<G: Gate>(
     ensures tried { IfOk result (HasTried (plan_form plan.now) seat.old.view seat.new.view task.old task.new) }
 {
     pile.reserve(task.classes.len())?;
-    if take_all(seat, task.classes.as_slice(), pile).is_err() {
+    let Ok(()) = take_all(seat, task.classes.as_slice(), pile) else {
         return Ok(false);
-    }
+    };
     let taken = take_at(alloc, plan, task, port, pile, gate);
     put_all(seat, pile);
     taken?;
