@@ -10,7 +10,8 @@ use Rattle.class_locks.specs.Views.{Has}
 use Rattle.fire_tasks.specs.declared.task.Task.{Task}
 use Rattle.fire_tasks.specs.Adds.{AreCells, added, logs_at}
 use Rattle.fire_tasks.specs.declared.ports.Inlet as inlet
-use Rattle.fire_tasks.specs.Bundles.{AreTasks, AreStuck, AreIdle, AllLooked, HasSwept}
+use Rattle.fire_tasks.specs.Bundles.{AreTasks, AreStuck, AreIdle, AllLooked, HasGone, HasSwept, SameSeat}
+use Rattle.fire_tasks.specs.declared.bundle.Bundle.{Bundle}
 use Rattle.fire_tasks.specs.Ports.{AllReceived, HasMoved, known_of}
 use Rattle.fire_tasks.specs.Tasks.{TaskEnds, IsTaskAt, IsDone, AreNarrow, ends_of, all_ends, moves, all_moves}
 use Rattle.fire_tasks.specs.Turns.{HasSat, HasTurned, IsSeatOf, IsStuck, LooksSame, StillSits}
@@ -269,3 +270,12 @@ not_done ins port h a =
     let lt = h.1 x.0 in
     let z = ap length (a port x.0 h.0) in
     omega (arith, lt, z)
+
+-- PASSES
+
+pub seat_then : (b u w : Bundle) → SameSeat b u → SameSeat u w → SameSeat b w
+seat_then b u w x y = record { lot = y.lot ∙ x.lot; round = round_then b.seat.view u.seat.view w.seat.view x.round y.round; looks = y.looks ∙ x.looks }
+
+-- a pass that moved nothing, behind others
+pub gone_still : (b u w : Bundle) (m : Bool) → HasGone b u m → HasGone u w false → HasGone b w m
+gone_still b u w m x y = record { ends = y.ends ∙ x.ends; number = moved_first (all_moves b.tasks) (all_moves u.tasks) (all_moves w.tasks) m x.number y.number }

@@ -33,6 +33,7 @@ pub record IsBundle (p : PlanForm) (b : Bundle) : Type 0 where
 pub record SameSeat (b b' : Bundle) : Type 0 where
   pub lot : b'.seat.lot ≡ b.seat.lot
   pub round : SameRound b.seat.view b'.seat.view
+  pub looks : b'.looks ≡ b.looks
 
 -- none of them can move, for what was seen since v
 pub record AreStuck (v w : View) (ts : List Task) : Type 0 where

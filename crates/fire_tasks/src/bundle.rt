@@ -83,7 +83,8 @@ fn pass_all<G: Gate>(
             return Ok(true);
         }
     }
-    sweep(alloc, plan, tasks, seat, pile, gate)
+    let moved = sweep(alloc, plan, tasks, seat, pile, gate)?;
+    Ok(moved)
 }
 
 // Whether a task has nothing pending and received every item known to be there. It looks at its rings.
@@ -121,6 +122,7 @@ impl Bundle {
         requires calm { self.old.refused ≡ false }
         ensures bundle { IsBundle (plan_form plan.now) self.new }
         ensures seat { SameSeat self.old self.new }
+        ensures told { self.new.moved ≡ self.old.moved }
         ensures gone { IfOk result (HasGone self.old self.new) }
         ensures stuck { IfOk result (λ moved. IsFalse moved → AreStuck self.old.seat.view self.new.seat.view self.new.tasks) }
         ensures calm { OnOk result (self.new.refused ≡ false) }
