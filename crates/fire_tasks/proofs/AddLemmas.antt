@@ -1,6 +1,6 @@
 -- The rows of a firing as entries of the logs, and what they add.
-use Rattle.std.proofs.Common.{◌≡◌, ◌≢◌, ℕ, ℤ, zero, suc, ◌+◌, ◌<◌, ◌≤◌, ◌==◌, Bool, true, false, Some, None, List, [], ◌∷◌, ◌++◌, length, map, take, refl, sym, ap, ◌∙◌, subst, arith, ⊎_elim, append_assoc, get_or, set, eq-eqb, ne_eqb}
-use Rattle.std.specs.Prelude.{All, AllPairs, filter, flat_map, nat_eq, nat_lt, slice_get, slice_index_or, if◌then◌else◌}
+use Rattle.std.proofs.Common.{◌≡◌, ◌≢◌, ℕ, ℤ, zero, suc, ◌+◌, ◌<◌, ◌≤◌, ◌==◌, Bool, Some, List, [], ◌∷◌, ◌++◌, length, map, take, refl, sym, ap, ◌∙◌, subst, arith, ⊎_elim, append_assoc, get_or, set, eq-eqb, ne_eqb}
+use Rattle.std.specs.Prelude.{All, AllPairs, filter, nat_eq, nat_lt, slice_get, slice_index_or, if◌then◌else◌}
 use Rattle.std.specs.List.Sorted.{IsStrictlyIncreasing}
 use Rattle.std.proofs.lemmas.Bool.{cases_eq, cases_lt}
 use Rattle.std.proofs.lemmas.Grind.{flat_map-append}
@@ -8,8 +8,6 @@ use Rattle.std.proofs.lemmas.List.{append-nil, length-map}
 use Rattle.std.proofs.lemmas.List.Elements.{All-nil, All-cons, All-append, All-head, All-tail, filter-append}
 use Rattle.std.proofs.lemmas.List.Kept.{AllPairs-from_increasing}
 use Rattle.std.proofs.lemmas.Option.{slice_get_within}
-use Rattle.kern_tables.specs.Tables.{table_width}
-use Rattle.river_plan.specs.declared.plan.TableDecl.{TableDecl}
 use Rattle.river_plan.specs.Forms.{Name, OpForm, PlanForm, table_names}
 use Rattle.river_plan.specs.Names.{count}
 use Rattle.river_plan.specs.Places.{place, places}
@@ -18,12 +16,12 @@ use Rattle.river_plan.specs.Valid.{IsPlan}
 use Rattle.river_plan.proofs.PlaceLemmas.{place_apart}
 use Rattle.brooklet_model.specs.Histories.{tables_of}
 use Rattle.brooklet_model.proofs.Lists.{if_eq, if_ne, if_lt, if_ge}
-use Rattle.brooklet_model.proofs.Traces.{some_is, got_count, place_once, each_at}
+use Rattle.brooklet_model.proofs.Traces.{got_count, place_once, each_at}
 use Rattle.brooklet_step.proofs.NextLemmas.{got_place}
 use Rattle.brooklet_step.proofs.OpTables.{among_known}
 use Rattle.brooklet_step.proofs.ReadLemmas.{got_map}
 use Rattle.class_locks.specs.declared.log.LogEntry.{LogEntry}
-use Rattle.class_locks.specs.Logs.{Holding, HasKind, TakesRows, rows_in, rows_to, part_of_op}
+use Rattle.class_locks.specs.Logs.{TakesRows, rows_in, rows_to, part_of_op}
 use Rattle.class_locks.specs.Piles.{Piled}
 use Rattle.fire_tasks.specs.declared.task.TablePort.{TablePort}
 use Rattle.fire_tasks.specs.Adds.{AreHomes, IsEntryOf, added, rows_by, table_at, table_class, table_numbers}

@@ -10,11 +10,11 @@ use Rattle.class_locks.specs.Views.{Has}
 use Rattle.fire_tasks.specs.declared.task.Task.{Task}
 use Rattle.fire_tasks.specs.Adds.{AreCells, added, logs_at}
 use Rattle.fire_tasks.specs.declared.ports.Inlet as inlet
-use Rattle.fire_tasks.specs.Bundles.{AreTasks, AreStuck, AreIdle, AllLooked, HasGone, HasSwept, SameSeat}
+use Rattle.fire_tasks.specs.Bundles.{AreTasks, AreIdle, AllLooked, HasGone, HasSwept, SameSeat}
 use Rattle.fire_tasks.specs.declared.bundle.Bundle.{Bundle}
 use Rattle.fire_tasks.specs.Ports.{AllReceived, HasMoved, known_of}
-use Rattle.fire_tasks.specs.Tasks.{TaskEnds, IsTaskAt, IsDone, AreNarrow, ends_of, all_ends, moves, all_moves}
-use Rattle.fire_tasks.specs.Turns.{HasSat, HasTurned, IsSeatOf, IsStuck, LooksSame, StillSits}
+use Rattle.fire_tasks.specs.Tasks.{TaskEnds, IsTaskAt, IsDone, ends_of, all_ends, moves, all_moves}
+use Rattle.fire_tasks.specs.Turns.{HasTurned, IsSeatOf, IsStuck, LooksSame, StillSits}
 use Rattle.fire_tasks.proofs.PassLemmas.{moved_second, moved_first, moved_false}
 use Rattle.fire_tasks.proofs.PortLemmas.{ins_many}
 use Rattle.fire_tasks.proofs.TaskLemmas.{got_at, with_adds}

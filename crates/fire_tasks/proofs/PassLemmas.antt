@@ -1,9 +1,8 @@
 -- What a task keeps while it sends, and through a pass.
-use Rattle.std.proofs.Common.{◌≡◌, ℕ, ℤ, zero, suc, ◌+◌, ◌<◌, ◌≤◌, List, [], ◌∷◌, ◌++◌, length, refl, sym, ap, ◌∙◌, arith, subst, ◌⊎◌, inl, inr, ⊎_elim, get_or, set, get_or-set_other, get_or-set_same}
-use Rattle.std.specs.Prelude.{Bool, true, false, slice_get, None, Option, IsFalse, All}
-use Rattle.std.proofs.lemmas.Bool.{cases_eq, cases_lt}
-use Rattle.std.proofs.lemmas.List.{length-set, length-map}
-use mathlib.Core.List.{reverse}
+use Rattle.std.proofs.Common.{◌≡◌, ℕ, ℤ, zero, suc, ◌+◌, ◌<◌, ◌≤◌, List, [], ◌∷◌, ◌++◌, length, refl, sym, ap, ◌∙◌, arith, subst, inl, inr, ⊎_elim, get_or, set, get_or-set_other, get_or-set_same}
+use Rattle.std.specs.Prelude.{Bool, true, false, IsFalse, All}
+use Rattle.std.proofs.lemmas.Bool.{cases_lt}
+use Rattle.std.proofs.lemmas.List.{length-set}
 use Rattle.river_base.specs.declared.item.Item as item
 use Rattle.river_base.specs.Places.{list_at}
 use Rattle.river_plan.specs.Forms.{PlanForm}
@@ -14,7 +13,7 @@ use Rattle.fire_tasks.specs.declared.ports.Inlet as inlet
 use Rattle.fire_tasks.specs.declared.ports.Outlet as outlet
 use Rattle.fire_tasks.specs.Ports.{HasMoved, in_ends, out_ends, given_at, sent_of, sent_count, received_count, received_in, IsFull, IsRefused, RefusedAll, Sent, SentAt}
 use Rattle.fire_tasks.specs.Tasks.{IsTask, moves}
-use Rattle.fire_tasks.proofs.PortLemmas.{outs_set, outs_many, ins_many, count_same, given_moved, given_only, sent_more, sent_none, set_same, set_back}
+use Rattle.fire_tasks.proofs.PortLemmas.{outs_many, ins_many, count_same, given_moved, given_only, sent_more, sent_none, set_same, set_back}
 
 -- NUMBERS
 

@@ -1,25 +1,20 @@
 -- What takes and puts of classes make of what a seat knows of its operators.
-use Rattle.std.proofs.Common.{◌≡◌, ◌≢◌, ℕ, ℤ, zero, suc, ◌+◌, ◌<◌, ◌≤◌, ◌==◌, ◌%◌, Bool, cond, true, false, Some, None, List, [], ◌∷◌, ◌++◌, length, map, drop, reverse, refl, sym, ap, ◌∙◌, subst, arith, ◌⊎◌, inl, inr, ⊎_elim, append_assoc, get_or, eq-eqb, ne_eqb}
-use Rattle.std.specs.Prelude.{All, filter, slice_get, slice_index_or, IsFalse}
+use Rattle.std.proofs.Common.{◌≡◌, ◌≢◌, ℕ, zero, suc, ◌≤◌, ◌==◌, ◌%◌, Bool, cond, true, false, Some, List, [], ◌∷◌, ◌++◌, length, drop, reverse, refl, sym, ap, ◌∙◌, subst, arith, ◌⊎◌, inl, inr, ⊎_elim, append_assoc, eq-eqb}
+use Rattle.std.specs.Prelude.{All, slice_get}
 use Rattle.std.proofs.lemmas.Bool.{cases_eq}
 use Rattle.std.proofs.lemmas.List.{append-nil, reverse-append, reverse-reverse}
 use Rattle.std.proofs.lemmas.List.Elements.{All-nil, All-cons, All-append, All-head, All-tail}
-use mathlib.Core.Option.{some}
-use lib.ListN.{get_elem?}
-use Rattle.river_plan.specs.Forms.{OpForm, PlanForm}
-use Rattle.river_plan.specs.Valid.{IsPlan}
+use Rattle.river_plan.specs.Forms.{PlanForm}
 use Rattle.class_locks.specs.declared.log.LogEntry.{LogEntry}
 use Rattle.class_locks.specs.declared.view.View.{View}
 use Rattle.class_locks.specs.declared.view.Held.{Held}
 use Rattle.class_locks.specs.declared.view.Claim.{Claim}
-use Rattle.class_locks.specs.declared.view.Tried.{Tried}
-use Rattle.class_locks.specs.Logs.{Holding, part}
-use Rattle.class_locks.specs.Piles.{Piled, AllBelow, Matches, IsPile, HasGained, HasLooked, HasTaken, HasPut, HasMoreTries, gained}
-use Rattle.class_locks.specs.Views.{Has, Belong, own, claims_of, entries_of}
+use Rattle.class_locks.specs.Logs.{part}
+use Rattle.class_locks.specs.Piles.{Piled, AllBelow, Matches, IsPile, HasGained, HasTaken, HasPut, gained}
+use Rattle.class_locks.specs.Views.{Has, Belong, own, claims_of}
 use Rattle.class_locks.proofs.Owns.{own-append, own_same, own_other}
-use Rattle.fire_tasks.specs.declared.task.TablePort.{TablePort}
-use Rattle.fire_tasks.specs.Adds.{AreClaims, IsEntryOf, logs_at, logs_of}
-use Rattle.fire_tasks.specs.Turns.{SameRound, StillSits, grown, HaveGained}
+use Rattle.fire_tasks.specs.Adds.{AreClaims, IsEntryOf}
+use Rattle.fire_tasks.specs.Turns.{SameRound, grown, HaveGained}
 
 -- GROWN PILES
 

@@ -11,9 +11,8 @@ use Rattle.river_base.specs.Places.{list_at, append_at, each_grew}
 use Rattle.river_base.proofs.PlaceLemmas.{each_grew-blanks, length-each_grew}
 use Rattle.kern_tables.specs.Tables.{table_width}
 use Rattle.river_plan.specs.declared.plan.TableDecl.{TableDecl}
-use Rattle.river_plan.specs.Forms.{Name, PlanForm, OpForm, all_decls, table_names}
+use Rattle.river_plan.specs.Forms.{PlanForm, OpForm, all_decls, table_names}
 use Rattle.river_plan.specs.Kinds.{kind_of, var_kind}
-use Rattle.river_plan.specs.Names.{count}
 use Rattle.river_plan.specs.Places.{place, places}
 use Rattle.river_plan.specs.Valid.{IsPlan}
 use Rattle.river_plan.proofs.PlaceLemmas.{place_below}
@@ -21,7 +20,7 @@ use Rattle.brooklet_model.specs.Fire.{fire, outs, tabs, first_kept}
 use Rattle.brooklet_model.specs.Histories.{most_firings, tables_of}
 use Rattle.brooklet_model.specs.Traced.{ran}
 use Rattle.brooklet_model.specs.Typed.{IsStart, widths_in, IsWide}
-use Rattle.brooklet_model.specs.Words.{Word, at_port}
+use Rattle.brooklet_model.specs.Words.{at_port}
 use Rattle.brooklet_model.proofs.Free.{at_port-append, below-append}
 use Rattle.brooklet_model.proofs.Lists.{if_eq, if_ne}
 use Rattle.brooklet_model.proofs.Ports.{counts, shaped}
@@ -31,7 +30,7 @@ use Rattle.brooklet_model.proofs.TypedPlan.{op_fits}
 use Rattle.brooklet_step.specs.declared.emit.Emit.{Emit}
 use Rattle.brooklet_step.specs.declared.emit.Spare.{Spare}
 use Rattle.brooklet_step.specs.declared.state.State.{State}
-use Rattle.brooklet_step.specs.Given.{held_at, IsHeldOf, FitState, StandsAfter}
+use Rattle.brooklet_step.specs.Given.{held_at, IsHeldOf, StandsAfter}
 use Rattle.brooklet_step.specs.Reading.{CanFire, IsBlankOf, FiredOp}
 use Rattle.brooklet_step.specs.Took.{IsBlank}
 use Rattle.brooklet_step.proofs.GivenLemmas.{at-append, ran_more, at_next, first_is_start}
@@ -43,10 +42,10 @@ use Rattle.fire_tasks.specs.declared.ports.Inlet as inlet
 use Rattle.fire_tasks.specs.declared.task.TablePort.{TablePort}
 use Rattle.fire_tasks.specs.declared.task.Task.{Task}
 use Rattle.fire_tasks.specs.Adds.{table_numbers}
-use Rattle.fire_tasks.specs.Fired.{bad_at, IsHeldAs, Gave, kinds_in, kinds_out}
+use Rattle.fire_tasks.specs.Fired.{bad_at, kinds_in, kinds_out}
 use Rattle.fire_tasks.specs.Ports.{received_of, received_in, sent_in, pending_in, HasMoved, InEnd, IsIdle, in_ends, out_ends}
-use Rattle.fire_tasks.specs.Tasks.{IsTask, seen}
-use Rattle.fire_tasks.specs.Turns.{AreRowsFor, HasFiredAt, HasTakenAt, Owes, classes_of, grown, logged, without_rows}
+use Rattle.fire_tasks.specs.Tasks.{IsTask}
+use Rattle.fire_tasks.specs.Turns.{AreRowsFor, HasFiredAt, HasTakenAt, Owes, classes_of, grown, logged}
 use Rattle.fire_tasks.proofs.PortLemmas.{count_more, ins_many}
 use Rattle.fire_tasks.proofs.Turned.{turn_twice}
 use Rattle.fire_tasks.proofs.WordLemmas.{longer_word}

@@ -1,10 +1,9 @@
-use Rattle.std.proofs.Common.{◌≡◌, ◌<◌, Some, length, sym, ap, ◌∙◌, subst, arith}
+use Rattle.std.proofs.Common.{◌≡◌, Some, sym, ap, ◌∙◌, subst, arith}
 use Rattle.std.specs.Prelude.{slice_get, slice_set}
 use Rattle.std.proofs.lemmas.Option.{slice_get-get_or}
 use Rattle.river_base.specs.Places.{list_at}
 use Rattle.brooklet_step.proofs.Moving.{emptied, emptied_next, emptied_all}
 use Rattle.class_locks.specs.Logs.{TakesRows}
-use Rattle.class_locks.specs.Piles.{Piled}
 use Rattle.fire_tasks.specs.Turns.{HaveGained, with_entry}
 use Rattle.fire_tasks.proofs.AddLemmas.{added_none, added_next, added_gained, added_whole, cell_now}
 use Rattle.fire_tasks.proofs.adding.add_rows.Goals as goal

@@ -1,4 +1,3 @@
-use Rattle.std.proofs.Common.{arith}
 use Rattle.fire_tasks.proofs.BundleLemmas.{not_done}
 use Rattle.fire_tasks.proofs.bundle.is_done.Goals as goal
 

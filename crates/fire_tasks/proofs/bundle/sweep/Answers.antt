@@ -1,7 +1,6 @@
-use Rattle.std.proofs.Common.{◌≡◌, ◌+◌, ◌<◌, ◌^◌, length, subst, sym, ◌∙◌, set, arith}
+use Rattle.std.proofs.Common.{◌+◌, ◌<◌, ◌^◌, length, subst, sym, ◌∙◌, set, arith}
 use Rattle.river_plan.specs.Forms.{plan_form}
 use Rattle.fire_tasks.specs.Tasks.{IsTaskAt}
-use Rattle.fire_tasks.specs.Turns.{IsSeatOf}
 use Rattle.fire_tasks.proofs.BundleLemmas.{HavePassed, passed_moved, passed_still, passed_all, ends_many, seat_for}
 use Rattle.fire_tasks.proofs.bundle.sweep.Goals as goal
 use Rattle.fire_tasks.proofs.bundle.sweep.Goals.{then-branch, else-branch}

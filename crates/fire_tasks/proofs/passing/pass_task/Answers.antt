@@ -1,6 +1,6 @@
-use Rattle.std.proofs.Common.{◌≡◌, true, false, sym, ◌∙◌}
+use Rattle.std.proofs.Common.{◌∙◌}
 use Rattle.river_plan.specs.Forms.{plan_form}
-use Rattle.fire_tasks.proofs.TurnLemmas.{passed_none, passed_on, passed_after, passed_still, seat_after, few_ins}
+use Rattle.fire_tasks.proofs.TurnLemmas.{passed_on, passed_after}
 use Rattle.fire_tasks.proofs.passing.pass_task.Goals as goal
 
 pub returns-then-is_some-2-clause-turned : goal.returns-then-is_some-2-clause-turned

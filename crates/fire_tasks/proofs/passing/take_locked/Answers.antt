@@ -1,4 +1,4 @@
-use Rattle.std.proofs.Common.{◌≡◌, ◌<◌, ◌%◌, ℕ, List, length, sym, ap, ◌∙◌, subst}
+use Rattle.std.proofs.Common.{◌<◌, ◌%◌, ℕ, List, length, sym, subst}
 use Rattle.std.specs.Prelude.{All}
 use Rattle.river_plan.specs.Forms.{plan_form}
 use Rattle.class_locks.specs.Piles.{HasTaken, FoundTaken}

@@ -1,5 +1,4 @@
-use Rattle.std.proofs.Common.{◌≡◌, true, false}
-use Rattle.std.specs.Prelude.{IsTrue}
+use Rattle.std.proofs.Common.{◌≡◌, true}
 use Rattle.river_plan.specs.Forms.{plan_form}
 use Rattle.fire_tasks.proofs.TurnLemmas.{turned_sent, turned_none, turned_took, turned_busy, looked_at}
 use Rattle.fire_tasks.proofs.passing.take_turn.Goals as goal

@@ -1,4 +1,4 @@
-use Rattle.std.proofs.Common.{◌++◌, [], ◌∷◌, ap, sym, ◌∙◌, set, get_or-set_same, subst}
+use Rattle.std.proofs.Common.{◌++◌, [], ◌∷◌, ap, sym, ◌∙◌, get_or-set_same, subst}
 use Rattle.fire_tasks.specs.Ports.{sent_of, out_end, HasRoom}
 use Rattle.fire_tasks.proofs.PortLemmas.{none_some, sent_more, outs_set, none_case, some_case}
 use Rattle.fire_tasks.proofs.PassLemmas.{none_sent, one_sent, refused_sent}

@@ -1,10 +1,8 @@
-use Rattle.std.proofs.Common.{◌≡◌, ℕ, ℤ, List, subst, refl, sym, ◌∙◌, ap, arith}
+use Rattle.std.proofs.Common.{subst, ◌∙◌}
 use Rattle.river_plan.specs.Forms.{plan_form}
 use Rattle.fire_tasks.specs.Pops.{IsPop}
-use Rattle.fire_tasks.specs.Ports.{received_in, InEnd, out_ends}
-use Rattle.fire_tasks.specs.Tasks.{TaskEnds}
+use Rattle.fire_tasks.specs.Ports.{received_in}
 use Rattle.fire_tasks.proofs.TaskLemmas.{can_take, blank_op, bad_fired, took_fired}
-use Rattle.fire_tasks.proofs.PortLemmas.{ins_many}
 use Rattle.fire_tasks.proofs.taking.fire_at.Goals as goal
 
 pub fire_op-requires-clause-can : goal.fire_op-requires-clause-can

@@ -1,4 +1,3 @@
-use Rattle.std.proofs.Common.{◌≡◌}
 use Rattle.fire_tasks.proofs.Looking.{LookedTo}
 use Rattle.fire_tasks.proofs.taking.first_ready.Given as goal
 

@@ -1,4 +1,4 @@
-use Rattle.std.proofs.Common.{ap, ◌∙◌, subst, sym}
+use Rattle.std.proofs.Common.{ap, ◌∙◌}
 use Rattle.fire_tasks.specs.Ports.{known_of}
 use Rattle.fire_tasks.proofs.PortLemmas.{prefix_none}
 use Rattle.fire_tasks.proofs.ports.Inlet.ready.Goals as goal
