@@ -112,7 +112,39 @@ fn all_done(tasks: &mut Listed<Task>) -> bool
     true
 }
 
+// The most classes that one of these tasks has.
+fn most_classes(tasks: &Listed<Task>) -> usize {
+    let mut most = 0;
+    for task in tasks.as_slice() {
+        most = most.max(task.classes.len());
+    }
+    most
+}
+
 impl Bundle {
+    /// The bundle of these tasks at this seat, with room for the cells of each task's classes. A pass of it looks at its tasks at most
+    /// so often.
+    pub fn new(
+        alloc: Global,
+        tasks: Listed<Task>,
+        seat: Seat,
+        looks: u32,
+    ) -> Result<Bundle, NoMemory>
+        ensures parts { IfOk result (λ b. (b.tasks ≡ tasks) × (b.seat ≡ seat) × (b.looks ≡ looks)) }
+        ensures fresh { IfOk result (λ b. (b.pile.items ≡ []) × (b.moved ≡ false) × (b.refused ≡ false)) }
+    {
+        let pile = Pile::with_capacity(alloc, most_classes(&tasks))?;
+        Ok(Bundle {
+            alloc,
+            tasks,
+            seat,
+            pile,
+            looks,
+            moved: false,
+            refused: false,
+        })
+    }
+
     /// A pass over the tasks: each sends what its rings take, then takes items under the locks of its classes and fires on them. It
     /// says whether anything moved; where nothing did, each task tells why. `plan` is the plan of the bundle's frame, by its lists. It
     /// does not wait. Where memory is wanting, every class that was held is put back, and the bundle counts as refused.
