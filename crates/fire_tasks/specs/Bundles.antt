@@ -1,6 +1,7 @@
 -- What the tasks of one worker keep at their seat.
 use Rattle.std.specs.Prelude.{◌≡◌, ℕ, ◌%◌, ◌<◌, Bool, false, IsFalse, List, [], length, slice_index_or}
 use Rattle.class_locks.specs.declared.view.View.{View}
+use Rattle.class_locks.specs.Piles.{HasMoreTries}
 use Rattle.class_locks.specs.Views.{Has}
 use Rattle.river_plan.specs.Forms.{PlanForm, plan_form}
 use Rattle.river_plan.specs.declared.plan.RawPlan.{RawPlan}
@@ -32,6 +33,7 @@ pub record IsBundle (p : PlanForm) (b : Bundle) : Type 0 where
 pub record SameSeat (b b' : Bundle) : Type 0 where
   pub lot : b'.seat.lot ≡ b.seat.lot
   pub round : SameRound b.seat.view b'.seat.view
+  pub looks : b'.looks ≡ b.looks
 
 -- none of them can move, for what was seen since v
 pub record AreStuck (v w : View) (ts : List Task) : Type 0 where
@@ -46,12 +48,16 @@ pub record HasGone (b b' : Bundle) (moved : Bool) : Type 0 where
   pub ends : all_ends b'.tasks ≡ all_ends b.tasks
   pub number : HasMoved (all_moves b.tasks) (all_moves b'.tasks) moved
 
+-- the same tasks, which looked at their rings
+pub record AllLooked (ts ts' : List Task) : Type 0 where
+  pub many : length ts' ≡ length ts
+  pub each : (i : ℕ) (d : Task) → i < length ts' → LooksSame (slice_index_or ts i d) (slice_index_or ts' i d)
+
 -- the same bundle, whose tasks looked at their rings
 pub record HaveLooked (b b' : Bundle) : Type 0 where
   pub tasks : List Task
   pub is : b' ≡ record b { tasks = tasks }
-  pub many : length tasks ≡ length b.tasks
-  pub each : (i : ℕ) (d : Task) → i < length tasks → LooksSame (slice_index_or b.tasks i d) (slice_index_or tasks i d)
+  pub looked : AllLooked b.tasks tasks
 
 -- looks at the tasks of a seat, or several, since the view v: they are the same with the same ends, and `moved` says whether a number grew
 pub record HasSwept (p : PlanForm) (v w : View) (ts ts' : List Task) (moved : Bool) : Type 0 where
@@ -59,6 +65,7 @@ pub record HasSwept (p : PlanForm) (v w : View) (ts ts' : List Task) (moved : Bo
   pub ends : all_ends ts' ≡ all_ends ts
   pub number : HasMoved (all_moves ts) (all_moves ts') moved
   pub stuck : IsFalse moved → AreStuck v w ts'
+  pub tries : HasMoreTries v w
 
 -- A ROUND
 

@@ -1,6 +1,5 @@
 -- What a task keeps of itself.
-use Rattle.std.specs.Prelude.{◌≡◌, ℕ, ℤ, min, ◌+◌, ◌^◌, ◌<◌, slice_index_or, ◌∷◌, ◌⊎◌, Some, None, List, [], length, map, slice_get}
-use Rattle.river_base.specs.declared.item.Item as item
+use Rattle.std.specs.Prelude.{◌≡◌, ℕ, ℤ, min, ◌+◌, ◌^◌, ◌<◌, slice_index_or, ◌∷◌, Some, List, [], length, map, slice_get}
 use Rattle.river_plan.specs.Forms.{OpForm, PlanForm}
 use Rattle.brooklet_model.specs.Fire.{first_kept}
 use Rattle.brooklet_model.specs.Histories.{most_firings}

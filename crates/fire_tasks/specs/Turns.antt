@@ -7,7 +7,7 @@ use Rattle.class_locks.specs.declared.log.LogEntry.{LogEntry}
 use Rattle.class_locks.specs.declared.view.View.{View}
 use Rattle.class_locks.specs.declared.view.Tried.{Tried}
 use Rattle.class_locks.specs.Logs.{HasKind, TakesRows}
-use Rattle.class_locks.specs.Piles.{Piled}
+use Rattle.class_locks.specs.Piles.{Piled, FoundTaken}
 use Rattle.class_locks.specs.Views.{Has}
 use Rattle.kern_tables.specs.Tables.{table_width}
 use Rattle.fire_tasks.specs.declared.task.Task.{Task}
@@ -116,16 +116,6 @@ pub record HasSat (p : PlanForm) (o : ℕ) (v w : View) : Type 0 where
   pub claims : AreClaims p v.claims → AreClaims p w.claims
   pub more : List Tried
   pub takes : w.takes ≡ v.takes ++ more
-
--- since the view v a try found one of these classes taken
-pub record FoundTaken (classes : List ℕ) (v w : View) : Type 0 where
-  pub more : List Tried
-  pub takes : w.takes ≡ v.takes ++ more
-  pub class : ℕ
-  pub place : ℕ
-  pub wanted : slice_get classes place ≡ Some class
-  pub at : ℕ
-  pub found : slice_get more at ≡ Some (record { class = class; found = 1 })
 
 -- why nothing moved: an item failed its test; or the task waits; or a try since v found one of its classes taken
 abbrev pub IsStuck : View → View → Task → Type 0

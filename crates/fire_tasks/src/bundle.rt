@@ -2,7 +2,7 @@
 ghost use Rattle.std.specs.Prelude.{◌≡◌, ◌<◌, ◌↔◌, ℕ, [], length, IfOk, OnOk, OnErr, IsTrue, IsFalse, true, false};
 ghost use Rattle.river_plan.specs.Forms.{PlanForm, plan_form};
 ghost use Rattle.river_plan.specs.Valid.{IsPlan};
-ghost use Rattle.fire_tasks.specs.Bundles.{IsBundle, AreTasks, AreStuck, AreIdle, SameSeat, HasGone, HasSwept, HaveLooked};
+ghost use Rattle.fire_tasks.specs.Bundles.{IsBundle, AreTasks, AreStuck, AreIdle, AllLooked, SameSeat, HasGone, HasSwept, HaveLooked};
 ghost use Rattle.fire_tasks.specs.Tasks.{IsDone, AreNarrow, all_ends};
 ghost use Rattle.fire_tasks.specs.Turns.{StillSits, LooksSame};
 
@@ -30,6 +30,7 @@ pub struct Bundle {
     pub refused: bool,
 }
 
+#[tactic(auto, using(crate::proofs::BundleLemmas::passed_first, crate::proofs::BundleLemmas::passed_all, crate::proofs::TurnLemmas::sits_then))]
 // A look at these tasks, one after another: each moves what it can.
 fn sweep<G: Gate>(
     alloc: Global,
@@ -57,6 +58,7 @@ fn sweep<G: Gate>(
     Ok(moved)
 }
 
+#[tactic(auto, using(crate::proofs::BundleLemmas::swept_none, crate::proofs::BundleLemmas::swept_more, crate::proofs::BundleLemmas::swept_then, crate::proofs::TurnLemmas::sits_then))]
 // A pass over these tasks. Where nothing moves it looks again, at most so often, since other workers send and take meanwhile.
 fn pass_all<G: Gate>(
     alloc: Global,
@@ -81,7 +83,8 @@ fn pass_all<G: Gate>(
             return Ok(true);
         }
     }
-    sweep(alloc, plan, tasks, seat, pile, gate)
+    let moved = sweep(alloc, plan, tasks, seat, pile, gate)?;
+    Ok(moved)
 }
 
 // Whether a task has nothing pending and received every item known to be there. It looks at its rings.
@@ -89,10 +92,59 @@ fn is_done(task: &mut Task) -> bool
     ensures same { LooksSame task.old task.new }
     ensures done { IsTrue result ↔ IsDone task.new }
 {
-    first_ready(&mut task.ins).is_none() && is_idle(&task.pending)
+    match first_ready(&mut task.ins) {
+        Some(_) => false,
+        None => is_idle(&task.pending),
+    }
+}
+
+// Whether all tasks are done. It looks at their rings.
+#[tactic(auto, using(crate::proofs::BundleLemmas::looked_none))]
+fn all_done(tasks: &mut Listed<Task>) -> bool
+    ensures same { AllLooked tasks.old tasks.new }
+    ensures idle { IsTrue result ↔ AreIdle tasks.new }
+{
+    for place in 0..tasks.len() {
+        if !is_done(tasks.at_mut(place)) {
+            return false;
+        }
+    }
+    true
+}
+
+// The most classes that one of these tasks has.
+fn most_classes(tasks: &Listed<Task>) -> usize {
+    let mut most = 0;
+    for task in tasks.as_slice() {
+        most = most.max(task.classes.len());
+    }
+    most
 }
 
 impl Bundle {
+    /// The bundle of these tasks at this seat, with room for the cells of each task's classes. A pass of it looks at its tasks at most
+    /// so often.
+    pub fn new(
+        alloc: Global,
+        tasks: Listed<Task>,
+        seat: Seat,
+        looks: u32,
+    ) -> Result<Bundle, NoMemory>
+        ensures parts { IfOk result (λ b. (b.tasks ≡ tasks) × (b.seat ≡ seat) × (b.looks ≡ looks)) }
+        ensures fresh { IfOk result (λ b. (b.pile.items ≡ []) × (b.moved ≡ false) × (b.refused ≡ false)) }
+    {
+        let pile = Pile::with_capacity(alloc, most_classes(&tasks))?;
+        Ok(Bundle {
+            alloc,
+            tasks,
+            seat,
+            pile,
+            looks,
+            moved: false,
+            refused: false,
+        })
+    }
+
     /// A pass over the tasks: each sends what its rings take, then takes items under the locks of its classes and fires on them. It
     /// says whether anything moved; where nothing did, each task tells why. `plan` is the plan of the bundle's frame, by its lists. It
     /// does not wait. Where memory is wanting, every class that was held is put back, and the bundle counts as refused.
@@ -102,6 +154,7 @@ impl Bundle {
         requires calm { self.old.refused ≡ false }
         ensures bundle { IsBundle (plan_form plan.now) self.new }
         ensures seat { SameSeat self.old self.new }
+        ensures told { self.new.moved ≡ self.old.moved }
         ensures gone { IfOk result (HasGone self.old self.new) }
         ensures stuck { IfOk result (λ moved. IsFalse moved → AreStuck self.old.seat.view self.new.seat.view self.new.tasks) }
         ensures calm { OnOk result (self.new.refused ≡ false) }
@@ -127,11 +180,6 @@ impl Bundle {
         ensures same { HaveLooked self.old self.new }
         ensures idle { IsTrue result ↔ AreIdle self.new.tasks }
     {
-        for place in 0..self.tasks.len() {
-            if !is_done(self.tasks.at_mut(place)) {
-                return false;
-            }
-        }
-        true
+        all_done(&mut self.tasks)
     }
 }

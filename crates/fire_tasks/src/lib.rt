@@ -5,7 +5,7 @@ mod adding;
 mod bundle;
 mod passing;
 mod ports;
-mod round;
+mod rounds;
 mod taking;
 mod task;
 
@@ -13,6 +13,6 @@ pub use adding::add_rows;
 pub use bundle::Bundle;
 pub use passing::{pass_task, send_all};
 pub use ports::{Inlet, Kept, Outlet, send_at};
-pub use round::{Works, round, round_of, work};
+pub use rounds::{Works, round, round_of, work};
 pub use taking::{Pop, fire_at, first_ready, take_at};
 pub use task::{TablePort, Task};

@@ -88,9 +88,9 @@ fn take_locked<G: Gate>(
     ensures tried { IfOk result (HasTried (plan_form plan.now) seat.old.view seat.new.view task.old task.new) }
 {
     pile.reserve(task.classes.len())?;
-    if take_all(seat, task.classes.as_slice(), pile).is_err() {
+    let Ok(()) = take_all(seat, task.classes.as_slice(), pile) else {
         return Ok(false);
-    }
+    };
     let taken = take_at(alloc, plan, task, port, pile, gate);
     put_all(seat, pile);
     taken?;
@@ -123,8 +123,10 @@ fn take_turn<G: Gate>(
     }
     match first_ready(&mut task.ins) {
         Some(port) => {
-            let taken = take_locked(alloc, plan, task, port as u32, seat, pile, gate)?;
-            Ok(taken || sent)
+            if take_locked(alloc, plan, task, port as u32, seat, pile, gate)? {
+                return Ok(true);
+            }
+            Ok(sent)
         }
         None => Ok(sent),
     }

@@ -152,5 +152,6 @@ pub fn take_at<G: Gate>(
 {
     let op = task.op;
     fire_at(alloc, plan, task, port, gate)?;
-    add_rows(alloc, op, &task.tables, &mut task.out.adds, pile)
+    add_rows(alloc, op, &task.tables, &mut task.out.adds, pile)?;
+    Ok(())
 }

@@ -21,10 +21,13 @@ pub fn work<G: Gate>(plan: &RawPlan, bundle: &mut Bundle, gate: &G)
         return;
     }
     for _pass in 0..MOST_PASSES {
-        match bundle.pass(plan, gate) {
-            Ok(true) => bundle.moved = true,
-            Ok(false) | Err(_) => return,
+        let Ok(moved) = bundle.pass(plan, gate) else {
+            return;
+        };
+        if !moved {
+            return;
         }
+        bundle.moved = true;
     }
 }
 
