@@ -4,3 +4,4 @@ pub mod OpenNet
 pub mod RowLemmas
 pub mod RunLemmas
 pub mod Standing
+pub mod WholeLemmas

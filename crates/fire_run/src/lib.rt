@@ -2,6 +2,7 @@
 #![tactic(auto)]
 
 mod adding;
+pub mod laws;
 pub mod net;
 mod one;
 mod opening;
