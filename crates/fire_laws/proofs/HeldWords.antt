@@ -1,8 +1,8 @@
 -- Words of items that queues held, and the words that they stand for.
-use Rattle.std.proofs.Common.{◌≡◌, ◌≢◌, ℕ, zero, suc, ◌+◌, ◌<◌, ◌≤◌, Option, Some, None, List, [], ◌∷◌, ◌++◌, length, take, drop, refl, sym, ap, ◌∙◌, subst, arith, ⊎_elim, ◌⊎◌, inl, inr, length-append}
+use Rattle.std.proofs.Common.{◌≡◌, ◌≢◌, ℕ, zero, suc, ◌<◌, ◌≤◌, Some, None, List, [], ◌∷◌, ◌++◌, length, take, drop, refl, sym, ap, ◌∙◌, subst, arith, ⊎_elim, ◌⊎◌, inl, inr, length-append}
 use Rattle.std.specs.Prelude.{All, slice_get}
-use Rattle.std.proofs.lemmas.Bool.{cases_eq, cases_lt}
-use Rattle.std.proofs.lemmas.List.{append-nil, take-append-drop, length-take}
+use Rattle.std.proofs.lemmas.Bool.{cases_eq}
+use Rattle.std.proofs.lemmas.List.{take-append-drop, length-take}
 use Rattle.std.proofs.lemmas.List.Elements.{All-head, All-tail, All-cons, All-nil}
 use Rattle.river_base.specs.declared.item.Item as item
 use Rattle.river_base.specs.declared.kind.QueueType.{QueueType}
@@ -104,9 +104,9 @@ typed_ports types [] h = tt
 typed_ports types (e ∷ es) h = (
   All-head (IsOf types e.0) e.1 (at_port e.0 es) (subst (All (IsOf types e.0)) (at_port_here e.0 e es refl) (h e.0)),
   typed_ports types es (λ i. ⊎_elim
-  (λ q. subst (λ j. All (IsOf types j) (at_port j es)) q (All-tail (IsOf types e.0) e.1 (at_port e.0 es) (subst (All (IsOf types e.0)) (at_port_here e.0 e es refl) (h e.0))))
-  (λ n. subst (All (IsOf types i)) (at_port_past i e es n) (h i))
-  (cases_eq e.0 i)),
+      (λ q. subst (λ j. All (IsOf types j) (at_port j es)) q (All-tail (IsOf types e.0) e.1 (at_port e.0 es) (subst (All (IsOf types e.0)) (at_port_here e.0 e es refl) (h e.0))))
+      (λ n. subst (All (IsOf types i)) (at_port_past i e es n) (h i))
+      (cases_eq e.0 i)),
 )
 
 pub ports_typed : (types : List QueueType) (w : Word) → IsWordOf types w → (port : ℕ) → All (IsOf types port) (at_port port w)

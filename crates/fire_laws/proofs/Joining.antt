@@ -1,7 +1,7 @@
 -- Tasks that are put together are a net.
 use Rattle.std.proofs.Common.{ℤ, ◌≡◌, ◌≢◌, ℕ, zero, suc, ◌+◌, ◌<◌, ◌≤◌, Option, Some, None, List, [], ◌∷◌, ◌++◌, length, map, take, drop, refl, sym, ap, ◌∙◌, subst, arith, ⊎_elim, append_assoc, length-append}
 use Rattle.std.specs.Prelude.{All, slice_get}
-use Rattle.std.proofs.lemmas.Bool.{cases_eq, cases_lt}
+use Rattle.std.proofs.lemmas.Bool.{cases_lt}
 use Rattle.std.proofs.lemmas.List.{append-nil, length-map, take-append-drop, length-take}
 use Rattle.std.proofs.Math.Seq.{take-nil}
 use Rattle.std.proofs.lemmas.List.Elements.{All-head, All-tail, All-cons, All-nil}
@@ -23,8 +23,8 @@ use Rattle.brooklet_model.specs.Laws.{given_to}
 use Rattle.brooklet_model.specs.Machine.{at_key}
 use Rattle.brooklet_model.specs.Traced.{ran}
 use Rattle.brooklet_model.specs.Received.{hist_by, AreWords, IsFront}
-use Rattle.brooklet_model.specs.Typed.{IsOf, AreOf, IsTyped, AreInputs, IsWordOf}
-use Rattle.brooklet_model.specs.Words.{Word, at_port, PortsBelow}
+use Rattle.brooklet_model.specs.Typed.{IsOf, IsTyped, AreInputs, IsWordOf}
+use Rattle.brooklet_model.specs.Words.{Word, at_port}
 use Rattle.brooklet_model.proofs.Lists.{if_eq, take_front}
 use Rattle.brooklet_model.proofs.BoundedMoves.{reader_of}
 use Rattle.brooklet_model.proofs.Ports.{got_below, shaped}
@@ -36,7 +36,7 @@ use Rattle.brooklet_step.specs.Given.{held_at, held_by, IsHeldBy, IsHeldOf}
 use Rattle.brooklet_step.proofs.GivenLemmas.{at-nil, at-length, ran_typed, first_is_start}
 use Rattle.fire_tasks.specs.Fired.{Seen, bad_at, IsBad, IsHeldAs, kinds_in, kinds_out, HasFired}
 use Rattle.fire_laws.specs.Joins.{TasksJoin, Joins, AreBeside, spread, kept_by, taken_by, bounded}
-use Rattle.fire_laws.proofs.HeldWords.{held_front, held_fewer, all_left, all_mid, relabel, relabel_ports, relabel_at, typed_ports, ports_typed, below_same, nothing_beyond, no_list, not_got, found}
+use Rattle.fire_laws.proofs.HeldWords.{held_front, held_fewer, all_left, all_mid, relabel, relabel_ports, relabel_at, typed_ports, below_same, nothing_beyond, no_list, found}
 
 -- what these operators have at a queue of theirs
 pub spread_out : (names : OpForm → List Name) (f : ℕ → ℕ → List item.Item) (ops : List OpForm) (o : ℕ) (h : History) (q : Name) → total (λ op. count q (names op)) ops ≡ 0 → spread names f o ops h q ≡ h q
@@ -97,7 +97,7 @@ all_held t [] h = All-nil (IsHeld t)
 all_held t (x ∷ xs) h = All-cons (IsHeld t) x xs (held-typed t x (All-head (HasType t) x xs h)) (all_held t xs (All-tail (HasType t) x xs h))
 
 module _ (p : PlanForm) (inputs : List (List item.Item)) (caps : Capacities) (adds : ℕ → ℕ → List (List ℤ)) (ts : ℕ → Seen) (left : History) (is : ℕ → Word) (v : IsPlan p) (typed : AreInputs p.inputs inputs)
-  (fired : (o : ℕ) (op : OpForm) → slice_get p.ops o ≡ Some op → HasFired p op (adds o) (ts o) (is o)) (beside : AreBeside p inputs caps ts left) where
+    (fired : (o : ℕ) (op : OpForm) → slice_get p.ops o ≡ Some op → HasFired p op (adds o) (ts o) (is o)) (beside : AreBeside p inputs caps ts left) where
   abbrev kind : Name → QueueType
   kind = kind_of (all_decls p)
 
@@ -183,11 +183,13 @@ module _ (p : PlanForm) (inputs : List (List item.Item)) (caps : Capacities) (ad
       let t = ran_typed w.1.kernel (kinds_in p w.1) (kinds_out p w.1) (map (var_kind p.tables p.vars) w.1.vars) (first_kept w.1.kernel) (ws w.0) (op_fits p v w.0 w.1 w.3)
       (first_is_start w.1.kernel (kinds_in p w.1) (shaped w.1.kernel (kinds_in p w.1) (kinds_out p w.1) (map (var_kind p.tables p.vars) w.1.vars) (op_fits p v w.0 w.1 w.3))) good.types j.0 in
       record {
-        front = (left q ++ pend,
-            sym (append_assoc (at_port port (is n)) (left q) pend)
-            ∙ ap (λ x. (x ++ left q) ++ pend) (sym (received_is n op g port))
-            ∙ ap (λ x. x ++ pend) (beside.inner n w.0 op w.1 port j.0 q g at w.3 j.1)
-            ∙ gave_is ws w.0 w.1 w.3 good j.0 q j.1);
+        front = (
+          left q ++ pend,
+          sym (append_assoc (at_port port (is n)) (left q) pend)
+              ∙ ap (λ x. (x ++ left q) ++ pend) (sym (received_is n op g port))
+              ∙ ap (λ x. x ++ pend) (beside.inner n w.0 op w.1 port j.0 q g at w.3 j.1)
+              ∙ gave_is ws w.0 w.1 w.3 good j.0 q j.1,
+        );
         kinds = subst (All (HasType (kind q))) (sym (lists_at w.1.writes (ran w.1 (ws w.0)).outs (hist_by p inputs ws) (by_words p inputs ws v w.0 w.1 w.3) j.0 q j.1))
             (subst (λ (k : Option QueueType). All (IsTyped k) ((ran w.1 (ws w.0)).outs j.0)) (got_map kind w.1.writes j.0 q j.1) t);
       })
@@ -252,10 +254,11 @@ module _ (p : PlanForm) (inputs : List (List item.Item)) (caps : Capacities) (ad
       });
       fronts = λ port q at.
           let k = length (at_port port (is n)) in
-          let h = hist_by p inputs ws q in
-          (drop k h,
-          ap (λ w. at_port port w ++ drop k h) (at_key_same n word ws) ∙ ap (λ l. l ++ drop k h) (word_at port ∙ chosen_is port q at) ∙ take-append-drop k h
-          ∙ hist_before ws with_it n op g (λ i lt. let ne : n ≢ i = omega (arith, lt) in sym (at_key_other n word ws i ne)) q (got_count op.reads port q at));
+          let h = hist_by p inputs ws q in (
+            drop k h,
+            ap (λ w. at_port port w ++ drop k h) (at_key_same n word ws) ∙ ap (λ l. l ++ drop k h) (word_at port ∙ chosen_is port q at) ∙ take-append-drop k h
+                ∙ hist_before ws with_it n op g (λ i lt. let ne : n ≢ i = omega (arith, lt) in sym (at_key_other n word ws i ne)) q (got_count op.reads port q at),
+          );
     }
 
     good_still : (o : ℕ) (a : OpForm) → o < n → slice_get p.ops o ≡ Some a → Good with_it o a
@@ -267,9 +270,11 @@ module _ (p : PlanForm) (inputs : List (List item.Item)) (caps : Capacities) (ad
           types = subst (IsWordOf (kinds_in p a)) e old.types;
           stands = subst (λ w. IsHeldAs (kinds_in p a) w (is o)) e old.stands;
           fronts = λ port q at.
-              let f = old.fronts port q at in
-              (f.0, ap (λ w. at_port port w ++ f.0) (sym e) ∙ f.1
-              ∙ hist_before ws with_it o a h (λ i li. let no : n ≢ i = omega (arith, li, lt) in sym (at_key_other n word ws i no)) q (got_count a.reads port q at));
+              let f = old.fronts port q at in (
+                f.0,
+                ap (λ w. at_port port w ++ f.0) (sym e) ∙ f.1
+                    ∙ hist_before ws with_it o a h (λ i li. let no : n ≢ i = omega (arith, li, lt) in sym (at_key_other n word ws i no)) q (got_count a.reads port q at),
+              );
         }
 
   record Words (n : ℕ) : Type 0 where

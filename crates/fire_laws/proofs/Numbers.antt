@@ -1,12 +1,11 @@
 -- The numbers of tasks that are a net are bounded.
-use Rattle.std.proofs.Common.{ℤ, ◌≡◌, ℕ, zero, suc, ◌+◌, ◌<◌, ◌≤◌, Some, List, [], ◌∷◌, ◌++◌, length, refl, sym, ap, ◌∙◌, arith, subst, length-append}
+use Rattle.std.proofs.Common.{◌≡◌, ℕ, zero, suc, ◌+◌, ◌<◌, ◌≤◌, Some, List, [], ◌∷◌, length, refl, sym, ap, ◌∙◌, arith, subst, length-append}
 use Rattle.std.specs.Prelude.{slice_get}
 use Rattle.river_base.specs.declared.item.Item as item
 use Rattle.river_base.specs.Places.{list_at}
 use Rattle.river_plan.specs.Forms.{Name, OpForm}
 use Rattle.river_plan.specs.Names.{count}
 use Rattle.river_plan.specs.Uses.{reads_it}
-use Rattle.brooklet_model.specs.Bounded.{Capacities}
 use Rattle.brooklet_model.specs.Histories.{History, written, Lists}
 use Rattle.brooklet_model.specs.Words.{Word, at_port, PortsBelow}
 use Rattle.brooklet_model.proofs.Ports.{got_below}
@@ -22,7 +21,7 @@ use Rattle.fire_tasks.specs.declared.ports.Inlet as inlet
 use Rattle.fire_tasks.specs.declared.ports.Outlet as outlet
 use Rattle.fire_tasks.specs.declared.task.Task.{Task}
 use Rattle.fire_laws.specs.Facts.{NumbersAreFew}
-use Rattle.fire_tasks.specs.Ports.{received_in, received_count, sent_of, sent_in, sent_count}
+use Rattle.fire_tasks.specs.Ports.{received_in, received_count, sent_in, sent_count}
 use Rattle.fire_tasks.specs.Tasks.{all_moves, seen}
 use Rattle.fire_laws.proofs.NetLemmas.{joins_by, word_at, at_op, received_by, there_is}
 
@@ -103,8 +102,9 @@ numbers_law p inputs caps adds ts v laid tasks settled typed =
     subst (λ k. (received_count t.ins ≡ length (words k)) × (sent_by ts k ≡ sent_count t.outs)) z
     (let m = laid.many in
     let op = there_is p.ops i (let l = got_below ts i t g in omega (arith, l, m)) in
-    let a = at_op p inputs caps adds ts v laid tasks settled i op.0 t op.1 g in
-    (received_counts t.ins op.0.reads (λ port. at_port port (items i)) a.ins (λ port. received_by p inputs caps adds ts v laid tasks settled typed i op.0 t op.1 g port)
-    ∙ sym (ports_length op.0 (items i) (λ q. let x = at_most (reads_it q) p.ops i op.0 op.1 in let y = v.read_once q in omega (arith, x, y)) a.fired.below) ∙ sym (same_length (words i) (items i) (n.held i op.0 op.1).ports),
-    sent_by_is ts i t g))) in
+    let a = at_op p inputs caps adds ts v laid tasks settled i op.0 t op.1 g in (
+      received_counts t.ins op.0.reads (λ port. at_port port (items i)) a.ins (λ port. received_by p inputs caps adds ts v laid tasks settled typed i op.0 t op.1 g port)
+          ∙ sym (ports_length op.0 (items i) (λ q. let x = at_most (reads_it q) p.ops i op.0 op.1 in let y = v.read_once q in omega (arith, x, y)) a.fired.below) ∙ sym (same_length (words i) (items i) (n.held i op.0 op.1).ports),
+      sent_by_is ts i t g,
+    ))) in
     omega (arith, few, e)

@@ -1,5 +1,5 @@
 -- Tasks by the numbers of their operators, and rings between them.
-use Rattle.std.specs.Prelude.{◌≡◌, ℕ, ℤ, zero, suc, ◌+◌, ◌≤◌, ◌<◌, min, slice_index_or, List, [], ◌∷◌, ◌++◌, Some, None, length, slice_get}
+use Rattle.std.specs.Prelude.{◌≡◌, ℕ, ℤ, zero, suc, ◌≤◌, ◌<◌, min, slice_index_or, List, [], ◌∷◌, ◌++◌, Some, None, length, slice_get}
 use Rattle.river_base.specs.declared.item.Item as item
 use Rattle.river_base.specs.Places.{list_at}
 use Rattle.river_plan.specs.Forms.{Name, OpForm, PlanForm}

@@ -1,12 +1,11 @@
 -- The cells of the lock classes.
-use Rattle.std.proofs.Common.{◌≡◌, ◌≢◌, Bool, true, false, ℕ, zero, suc, ◌+◌, ◌<◌, ◌≤◌, ◌==◌, Some, List, [], ◌∷◌, ◌++◌, length, take, take-suc, map, refl, sym, ap, ◌∙◌, subst, arith, ⊎_elim, length-append, get_or, eq-eqb, ne_eqb}
-use Rattle.std.specs.Prelude.{All, AllPairs, slice_get, slice_index_or, if◌then◌else◌}
+use Rattle.std.proofs.Common.{◌≡◌, Bool, true, false, ℕ, zero, suc, ◌+◌, ◌<◌, ◌≤◌, ◌==◌, Some, List, [], ◌∷◌, ◌++◌, length, take, take-suc, refl, sym, ap, ◌∙◌, subst, arith, ⊎_elim, length-append, get_or, eq-eqb, ne_eqb}
+use Rattle.std.specs.Prelude.{All, slice_get, slice_index_or, if◌then◌else◌}
 use Rattle.std.proofs.lemmas.Bool.{cases_eq, cases_lt}
 use Rattle.std.proofs.lemmas.Option.{slice_get_within, slice_get-get_or, get_or_from_slice_get}
 use Rattle.kern_tables.specs.declared.kind.TableKind.{TableKind}
 use Rattle.river_plan.specs.declared.plan.TableDecl.{TableDecl}
 use Rattle.river_plan.specs.Forms.{PlanForm}
-use Rattle.brooklet_model.proofs.Lists.{if_eq, if_ne}
 use Rattle.brooklet_model.proofs.Traces.{some_is}
 use Rattle.class_locks.specs.Logs.{Holding, AreDistinct}
 use Rattle.fire_tasks.specs.Adds.{table_class}
@@ -62,12 +61,12 @@ counted_next classes i n m b lt h e =
     (λ ne.
     let em : m ≡ n = e ∙ ap (λ t. if t then n + 1 else n) (ne_eqb x n ne) in
     let below : x < n = ⊎_elim
-        (λ l. l)
-        (λ ge.
-        let k = b i x n (slice_get-get_or classes i 0 lt) (omega (arith, ge, ne)) in
-        let a = h.all k.0 n (taken_got classes i k.0 n k.1 k.2) in
-        absurd (omega (arith, a)))
-        (cases_lt x n) in
+    (λ l. l)
+    (λ ge.
+    let k = b i x n (slice_get-get_or classes i 0 lt) (omega (arith, ge, ne)) in
+    let a = h.all k.0 n (taken_got classes i k.0 n k.1 k.2) in
+    absurd (omega (arith, a)))
+    (cases_lt x n) in
     subst (Counted (take i classes ++ x ∷ [])) (sym em) (counted_old (take i classes) n x h below))
     (cases_eq x n))
 

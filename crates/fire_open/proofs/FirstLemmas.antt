@@ -1,47 +1,39 @@
 -- The first tasks are fresh.
-use Rattle.std.proofs.Common.{◌≡◌, ℕ, ℤ, zero, suc, ◌+◌, ◌<◌, ◌≤◌, Option, Some, None, List, [], ◌∷◌, ◌++◌, length, map, refl, sym, ap, ◌∙◌, arith, subst, get_or, length-append}
-use Rattle.std.specs.Prelude.{slice_get, slice_index_or, unwrap_or, replicate, min, All, Bool, true, false, if◌then◌else◌}
-use mathlib.Core.List.{reverse}
+use Rattle.std.proofs.Common.{◌≡◌, ℕ, zero, suc, ◌+◌, ◌<◌, Option, Some, None, List, [], ◌∷◌, ◌++◌, length, map, refl, sym, ap, ◌∙◌, arith, subst, length-append}
+use Rattle.std.specs.Prelude.{slice_get, replicate, All}
 use Rattle.std.proofs.lemmas.List.{length-map, length-replicate, map-append}
 use Rattle.std.proofs.lemmas.List.Elements.{All-nil, All-cons}
-use Rattle.std.proofs.lemmas.Option.{get_or_from_slice_get, slice_get-get_or, slice_get_within}
+use Rattle.std.proofs.lemmas.Option.{slice_get_within}
 use Rattle.river_base.specs.declared.item.Item as item
 use Rattle.river_base.specs.declared.kind.QueueType.{QueueType}
-use Rattle.river_base.specs.Name.{name_eq}
 use Rattle.river_base.specs.Places.{list_at}
 use Rattle.river_base.proofs.HeldLemmas.{held-same}
-use Rattle.river_kernels.specs.Fits.{rows}
 use Rattle.river_plan.specs.declared.plan.Decl.{Decl}
 use Rattle.river_plan.specs.ByPlace.{decl_kinds, queue_kinds, kind_at}
 use Rattle.river_plan.specs.Forms.{Name, OpForm, PlanForm, all_decls, queue_names, decl_names}
-use Rattle.river_plan.specs.Kinds.{kind_in, kind_of, var_kind}
+use Rattle.river_plan.specs.Kinds.{kind_of, var_kind}
 use Rattle.river_plan.specs.Names.{count}
 use Rattle.river_plan.specs.Places.{place, places, read_places, write_places}
-use Rattle.river_plan.specs.Uses.{total, reads_it}
+use Rattle.river_plan.specs.Uses.{reads_it}
 use Rattle.river_plan.specs.Valid.{IsPlan}
 use Rattle.river_plan.proofs.PlaceLemmas.{place_below}
 use Rattle.river_plan.proofs.WiredLemmas.{kind_place}
-use Rattle.brooklet_model.specs.Fire.{first_kept, tabs}
-use Rattle.brooklet_model.specs.Histories.{most_firings}
+use Rattle.brooklet_model.specs.Fire.{first_kept}
 use Rattle.brooklet_model.specs.Laws.{given_to}
 use Rattle.brooklet_model.specs.Traced.{ran}
 use Rattle.brooklet_model.specs.Words.{Word}
-use Rattle.brooklet_model.proofs.Ports.{got_below}
 use Rattle.brooklet_model.proofs.Traces.{some_is, got_count, at_most}
 use Rattle.brooklet_model.proofs.TypedPlan.{op_fits}
 use Rattle.brooklet_model.specs.Fit.{Fit}
 use Rattle.brooklet_step.specs.Given.{held_at, held_by, IsHeldOf, StandsAfter}
 use Rattle.brooklet_step.proofs.ReadLemmas.{got_map, op_at, places_at}
 use Rattle.brooklet_step.proofs.StartLemmas.{first_hist, queues_many}
-use Rattle.fire_tasks.specs.Fired.{IsHeldAs, ports_of, kinds_in, kinds_out, bad_at, IsBad}
-use Rattle.fire_tasks.specs.declared.ports.Inlet as inlet
-use Rattle.fire_tasks.specs.declared.ports.Outlet as outlet
+use Rattle.fire_tasks.specs.Fired.{ports_of, kinds_in, kinds_out, bad_at, IsBad}
 use Rattle.fire_tasks.specs.declared.ports.Outlet.TheVariants.{Kept as Stored}
 use Rattle.fire_tasks.specs.declared.task.Task.{Task}
 use Rattle.fire_laws.specs.Layout.{IsInput, IsStored}
 use Rattle.fire_tasks.specs.Ports.{received_of, received_in, sent_of, sent_in, pending_in}
 use Rattle.fire_tasks.specs.Adds.{AreHomes}
-use Rattle.fire_tasks.specs.Tasks.{IsTask}
 use Rattle.fire_open.specs.First.{first_lines, whole_list, IsFirstTask, AreFirstTasks}
 use Rattle.fire_open.specs.Fresh.{IsFresh, AreFresh}
 

@@ -1,39 +1,27 @@
 -- What the layout of a net gives, and what keeps it.
-use Rattle.std.proofs.Common.{◌≡◌, ℕ, ℤ, zero, suc, ◌+◌, ◌<◌, ◌≤◌, ◌⊎◌, inl, inr, ⊎_elim, Some, None, List, [], ◌∷◌, ◌++◌, length, map, take, drop, refl, sym, ap, ◌∙◌, arith, subst, get_or, ◌^◌, length-append}
-use Rattle.std.specs.Prelude.{slice_get, All}
-use Rattle.std.proofs.lemmas.Bool.{cases_lt}
-use Rattle.std.proofs.lemmas.List.{take-append-drop, append-nil, length-map}
-use Rattle.std.proofs.lemmas.List.Elements.{All-head, All-tail}
-use Rattle.std.proofs.lemmas.Option.{get_or_from_slice_get, slice_get-get_or, slice_get_within}
+use Rattle.std.proofs.Common.{◌≡◌, ℕ, ℤ, ◌<◌, ⊎_elim, Some, List, length, sym, ap, ◌∙◌, arith, subst}
+use Rattle.std.specs.Prelude.{slice_get}
+use Rattle.std.proofs.lemmas.Option.{get_or_from_slice_get, slice_get_within}
 use Rattle.river_base.specs.declared.item.Item as item
-use Rattle.river_base.specs.Places.{list_at}
-use Rattle.river_plan.specs.Forms.{Name, OpForm, PlanForm, decl_names}
-use Rattle.river_plan.specs.Names.{count}
-use Rattle.river_plan.specs.Uses.{total, reads_it, writes_it}
+use Rattle.river_plan.specs.Forms.{OpForm, PlanForm}
+use Rattle.river_plan.specs.Uses.{reads_it, writes_it}
 use Rattle.river_plan.specs.Valid.{IsPlan}
 use Rattle.brooklet_model.proofs.Ports.{got_below}
 use Rattle.brooklet_model.proofs.Traces.{some_is, one_place, place_once, got_count, at_most}
 use Rattle.brooklet_model.specs.Bounded.{Capacities}
-use Rattle.brooklet_model.specs.Laws.{given_to}
-use Rattle.brooklet_model.specs.Typed.{AreInputs}
-use Rattle.brooklet_model.proofs.BoundedMoves.{reader_behind, reader_of}
-use Rattle.brooklet_model.proofs.Received.{writer_of}
-use Rattle.fire_laws.proofs.Joining.{place_of}
-use Rattle.fire_tasks.specs.Fired.{Seen}
+use Rattle.brooklet_model.proofs.BoundedMoves.{reader_behind}
 use Rattle.fire_tasks.specs.declared.ports.Inlet as inlet
-use Rattle.fire_tasks.specs.declared.ports.Inlet.TheVariants.{Ring as TakesFrom, Kept as Given}
 use Rattle.fire_tasks.specs.declared.ports.Outlet as outlet
 use Rattle.fire_tasks.specs.declared.ports.Outlet.TheVariants.{Ring as SendsTo, Kept as Stored}
 use Rattle.fire_open.specs.declared.settling.Link.{Link}
 use Rattle.fire_tasks.specs.declared.task.Task.{Task}
-use Rattle.fire_laws.specs.Layout.{IsLink, IsPair, IsSettled, IsInput, IsStored, AreLaid, AreTasks, AreSettled, Ends}
-use Rattle.fire_tasks.specs.Ports.{in_end, out_end, received_of, known_of, sent_of, received_in, sent_in, IsFull, AllReceived}
+use Rattle.fire_laws.specs.Layout.{IsStored, AreLaid, AreTasks, AreSettled, Ends}
+use Rattle.fire_tasks.specs.Ports.{in_end, out_end}
 use Rattle.fire_tasks.specs.Tasks.{TaskEnds, IsTask, ends_of, all_ends}
-use Rattle.fire_laws.proofs.NetLemmas.{there_is, make_net, seen_here, settled_ring, kept_input, received_here, sent_here}
+use Rattle.fire_laws.proofs.NetLemmas.{there_is}
 use Rattle.fire_open.specs.Links.{IsLinkOf, AreLinks, LinkEnds, IsPaired, ArePaired, ShareAnEnd, AreApart, AreMet}
-use Rattle.fire_open.specs.Still.{Still, still}
 use Rattle.fire_open.proofs.Lists.{same_got, map_long}
-use Rattle.fire_open.proofs.StillLemmas.{link_same, input_same, pair_of, still_tasks, still_ends}
+use Rattle.fire_open.proofs.StillLemmas.{link_same, input_same, pair_of}
 
 -- THE SAME ENDS
 

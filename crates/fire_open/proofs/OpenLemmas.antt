@@ -1,16 +1,11 @@
 -- Fresh tasks with rings between them are a net.
-use Rattle.std.proofs.Common.{◌≡◌, ℕ, ℤ, zero, suc, ◌+◌, ◌<◌, ◌≤◌, Some, List, [], ◌∷◌, length, map, refl, sym, ap, ◌∙◌, arith, subst, get_or}
+use Rattle.std.proofs.Common.{◌≡◌, ℕ, ℤ, suc, Some, List, [], ◌∷◌, length, refl, sym, ap, ◌∙◌, arith, subst}
 use Rattle.std.specs.Prelude.{slice_get}
-use Rattle.std.proofs.lemmas.List.{length-map}
-use Rattle.std.proofs.lemmas.Option.{get_or_from_slice_get, slice_get-get_or, slice_get_within}
 use Rattle.river_base.specs.declared.item.Item as item
-use Rattle.river_base.specs.Places.{list_at}
-use Rattle.river_plan.specs.Forms.{Name, OpForm, PlanForm}
-use Rattle.river_plan.specs.Uses.{total, reads_it, writes_it}
+use Rattle.river_plan.specs.Forms.{OpForm, PlanForm}
 use Rattle.river_plan.specs.Valid.{IsPlan}
-use Rattle.brooklet_model.specs.Typed.{AreInputs}
 use Rattle.brooklet_model.proofs.Ports.{got_below}
-use Rattle.brooklet_model.proofs.Traces.{some_is, got_count, at_most}
+use Rattle.brooklet_model.proofs.Traces.{some_is, got_count}
 use Rattle.brooklet_model.specs.Fire.{first_kept}
 use Rattle.brooklet_step.specs.Given.{FitState, StandsAfter}
 use Rattle.brooklet_step.specs.Took.{IsBlank}
@@ -20,16 +15,15 @@ use Rattle.fire_tasks.specs.declared.ports.Inlet as inlet
 use Rattle.fire_tasks.specs.declared.ports.Outlet as outlet
 use Rattle.fire_open.specs.declared.settling.Link.{Link}
 use Rattle.fire_tasks.specs.declared.task.Task.{Task}
-use Rattle.fire_laws.specs.Layout.{IsLink, IsSettled, IsInput, IsStored}
-use Rattle.fire_tasks.specs.Ports.{received_of, received_in, received_count, sent_of, sent_in, sent_count}
-use Rattle.fire_tasks.specs.Tasks.{IsTask, all_moves, moves, seen}
+use Rattle.fire_tasks.specs.Ports.{received_of, received_count, sent_of, sent_count}
+use Rattle.fire_tasks.specs.Tasks.{IsTask, all_moves, seen}
 use Rattle.fire_tasks.specs.Adds.{AreHomes}
 use Rattle.fire_laws.proofs.NetLemmas.{there_is}
-use Rattle.fire_open.specs.Fresh.{IsFresh, AreFresh}
-use Rattle.fire_open.specs.Links.{IsLinkOf, AreLinks, LinkEnds, IsThere, AreApart}
-use Rattle.fire_open.specs.Rings.{AreUnmoved, AreThere, Body, body, NoReader, NoWriter, AreRung}
+use Rattle.fire_open.specs.Fresh.{AreFresh}
+use Rattle.fire_open.specs.Links.{IsLinkOf, AreLinks, IsThere}
+use Rattle.fire_open.specs.Rings.{AreUnmoved, AreThere, Body, body, AreRung}
 use Rattle.fire_open.proofs.Laid.{apart_net}
-use Rattle.fire_open.proofs.Lists.{same_got, map_long}
+use Rattle.fire_open.proofs.Lists.{map_long}
 use Rattle.fire_open.proofs.RingLemmas.{bodies_unmoved}
 
 -- a task is known by its body

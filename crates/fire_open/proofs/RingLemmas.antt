@@ -1,28 +1,24 @@
 -- Rings are put between tasks, one after another.
-use Rattle.std.proofs.Common.{◌≡◌, ℕ, zero, suc, ◌+◌, ◌<◌, ◌≤◌, ◌⊎◌, inl, inr, ⊎_elim, Some, List, [], ◌∷◌, length, map, refl, sym, ap, ◌∙◌, arith, subst, get_or, set, ◌++◌, get_or-set_other}
+use Rattle.std.proofs.Common.{◌≡◌, ℕ, zero, suc, ◌+◌, ◌<◌, inl, inr, ⊎_elim, Some, List, [], ◌∷◌, length, map, refl, sym, ap, ◌∙◌, arith, subst, get_or, set, ◌++◌, get_or-set_other}
 use Rattle.std.specs.Prelude.{slice_get}
-use Rattle.std.proofs.lemmas.Bool.{cases_eq, cases_lt}
-use Rattle.std.proofs.lemmas.List.{length-map}
+use Rattle.std.proofs.lemmas.Bool.{cases_lt}
 use Rattle.std.proofs.lemmas.Option.{get_or_from_slice_get, slice_get_within}
-use Rattle.river_base.specs.declared.item.Item as item
 use Rattle.river_base.specs.Places.{list_at}
 use Rattle.brooklet_model.proofs.Traces.{some_is}
-use Rattle.fire_tasks.specs.Fired.{Seen}
 use Rattle.fire_tasks.specs.declared.ports.Inlet as inlet
-use Rattle.fire_tasks.specs.declared.ports.Inlet.TheVariants.{Ring as TakesFrom, Kept as Given}
+use Rattle.fire_tasks.specs.declared.ports.Inlet.TheVariants.{Ring as TakesFrom}
 use Rattle.fire_tasks.specs.declared.ports.Outlet as outlet
-use Rattle.fire_tasks.specs.declared.ports.Outlet.TheVariants.{Ring as SendsTo, Kept as Stored}
+use Rattle.fire_tasks.specs.declared.ports.Outlet.TheVariants.{Ring as SendsTo}
 use Rattle.river_rings.specs.Ends.{Sending, Taking}
 use Rattle.fire_open.specs.declared.settling.Link.{Link}
 use Rattle.fire_tasks.specs.declared.task.Task.{Task}
 use Rattle.fire_laws.specs.Layout.{IsLink, IsSettled}
 use Rattle.fire_tasks.specs.Ports.{sent_of, sent_in, received_of, received_in, pending_in}
 use Rattle.fire_open.specs.Settling.{with_out, with_in}
-use Rattle.fire_tasks.specs.Tasks.{seen}
 use Rattle.fire_laws.proofs.NetLemmas.{there_is, received_here, sent_here}
 use Rattle.fire_tasks.proofs.PortLemmas.{received_same}
-use Rattle.fire_open.specs.Links.{LinkEnds, IsThere, Swapped, Put, ShareAnEnd, AreApart}
-use Rattle.fire_open.specs.Rings.{AreUnmoved, AreThere, Body, body, NoReader, NoWriter, AreRung}
+use Rattle.fire_open.specs.Links.{LinkEnds, IsThere, Put, ShareAnEnd}
+use Rattle.fire_open.specs.Rings.{AreUnmoved, AreThere, Body, body, AreRung}
 use Rattle.fire_open.proofs.Lists.{same_got, map_long}
 use Rattle.fire_open.proofs.SettleLemmas.{after_task, view_stays, same_or, sent_stays, reader_is, writer_is}
 

@@ -1,10 +1,8 @@
 -- The ends of all links look, one link after another.
-use Rattle.std.proofs.Common.{◌≡◌, ℕ, zero, suc, ◌+◌, ◌<◌, ◌≤◌, ◌⊎◌, inl, inr, ⊎_elim, Some, List, [], ◌∷◌, length, map, refl, sym, ap, ◌∙◌, arith, subst, get_or, set, get_or-set_other, get_or-set_same}
+use Rattle.std.proofs.Common.{◌≡◌, ℕ, zero, suc, ◌+◌, ◌<◌, ◌≤◌, ◌⊎◌, inl, inr, ⊎_elim, Some, List, [], ◌∷◌, length, map, refl, sym, ap, ◌∙◌, arith, subst, get_or, set, get_or-set_other}
 use Rattle.std.specs.Prelude.{slice_get}
 use Rattle.std.proofs.lemmas.Bool.{cases_eq, cases_lt}
-use Rattle.std.proofs.lemmas.List.{length-set}
 use Rattle.std.proofs.lemmas.Option.{get_or_from_slice_get, slice_get_within}
-use Rattle.river_base.specs.declared.item.Item as item
 use Rattle.brooklet_model.proofs.Traces.{some_is}
 use Rattle.fire_tasks.specs.declared.ports.Inlet as inlet
 use Rattle.fire_tasks.specs.declared.ports.Outlet as outlet
@@ -13,12 +11,11 @@ use Rattle.fire_tasks.specs.declared.task.Task.{Task}
 use Rattle.fire_laws.specs.Layout.{IsPair, IsSettled}
 use Rattle.fire_tasks.specs.Ports.{in_end, out_end, in_ends, out_ends, sent_of, sent_in, received_in, pending_in}
 use Rattle.fire_open.specs.Settling.{Met, with_out, with_in}
-use Rattle.fire_tasks.specs.Tasks.{TaskEnds, ends_of, all_ends}
 use Rattle.fire_tasks.proofs.PortLemmas.{ins_set, outs_set, received_same}
 use Rattle.fire_open.specs.Links.{LinkEnds, IsThere, Swapped, IsPaired, ArePaired, ShareAnEnd, AreApart, AreMet}
 use Rattle.fire_open.specs.Still.{Still, still}
-use Rattle.fire_open.proofs.Lists.{set_got_same, set_got_is, set_got_other, same_got, map_set}
-use Rattle.fire_open.proofs.StillLemmas.{pair_same, still_ends}
+use Rattle.fire_open.proofs.Lists.{set_got_is, set_got_other, same_got, map_set}
+use Rattle.fire_open.proofs.StillLemmas.{pair_same}
 
 pub sent_stays : (xs : List outlet.Outlet) (i : ℕ) (x : outlet.Outlet) → sent_of x ≡ sent_of (get_or xs i x) → sent_in (set xs i x) ≡ sent_in xs
 sent_stays [] i x e = refl

@@ -1,7 +1,6 @@
 -- A task of which everything stayed but what its ends know.
-use Rattle.std.proofs.Common.{◌≡◌, ℕ, ℤ, zero, suc, ◌+◌, ◌<◌, Some, List, [], ◌∷◌, length, map, refl, sym, ap, ◌∙◌, arith, subst, get_or, set}
+use Rattle.std.proofs.Common.{◌≡◌, ℕ, ℤ, List, [], ◌∷◌, length, map, refl, sym, ap, ◌∙◌, arith, subst, get_or}
 use Rattle.std.specs.Prelude.{slice_get}
-use Rattle.std.proofs.lemmas.List.{length-map}
 use Rattle.std.proofs.lemmas.Option.{get_or_from_slice_get, slice_get-get_or}
 use Rattle.river_base.specs.declared.item.Item as item
 use Rattle.river_plan.specs.Forms.{PlanForm}
@@ -14,11 +13,11 @@ use Rattle.fire_tasks.specs.declared.ports.Inlet as inlet
 use Rattle.fire_tasks.specs.declared.ports.Inlet.TheVariants.{Ring as TakesFrom, Kept as Given}
 use Rattle.fire_tasks.specs.declared.ports.Outlet as outlet
 use Rattle.fire_tasks.specs.declared.ports.Outlet.TheVariants.{Ring as SendsTo, Kept as Stored}
-use Rattle.fire_tasks.specs.Ports.{InEnd, OutEnd, in_end, out_end, in_ends, out_ends, received_in, sent_in, sent_of, sent_count, received_count, RingIn, ListIn, RingOut, ListOut}
+use Rattle.fire_tasks.specs.Ports.{in_end, out_end, in_ends, out_ends, sent_in, sent_of, sent_count, RingIn, RingOut}
 use Rattle.river_rings.specs.Ends.{RingId}
 use Rattle.fire_laws.specs.Layout.{IsLink, IsPair, IsInput, AreTasks}
 use Rattle.fire_tasks.specs.Adds.{AreHomes}
-use Rattle.fire_tasks.specs.Tasks.{TaskEnds, IsTask, Stands, ends_of, all_ends, moves, all_moves, seen}
+use Rattle.fire_tasks.specs.Tasks.{TaskEnds, IsTask, ends_of, all_ends, moves, all_moves, seen}
 use Rattle.fire_tasks.proofs.PortLemmas.{count_same}
 use Rattle.fire_open.specs.Still.{Still, still}
 use Rattle.fire_open.proofs.Lists.{same_got, map_through, map_long}

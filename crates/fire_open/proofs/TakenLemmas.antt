@@ -1,13 +1,12 @@
 -- Lines that are taken out at places: each place is read at one port.
-use Rattle.std.proofs.Common.{◌≡◌, ℕ, zero, suc, ◌+◌, ◌<◌, ◌≤◌, Some, List, [], ◌∷◌, ◌++◌, length, map, refl, sym, ap, ◌∙◌, arith, subst, ⊎_elim, get_or, take, take-suc, length-append}
-use Rattle.std.specs.Prelude.{slice_get, slice_set, All, AllPairs}
-use Rattle.std.proofs.lemmas.Bool.{cases_eq, cases_lt}
+use Rattle.std.proofs.Common.{◌≡◌, ℕ, zero, suc, ◌+◌, ◌<◌, Some, List, [], ◌∷◌, ◌++◌, length, map, refl, sym, ap, ◌∙◌, arith, subst, get_or, take, take-suc}
+use Rattle.std.specs.Prelude.{slice_get, slice_set, AllPairs}
 use Rattle.std.proofs.lemmas.Option.{slice_get-get_or, slice_get_within, get_or_from_slice_get}
 use Rattle.river_base.specs.declared.item.Item as item
 use Rattle.river_base.specs.declared.kind.QueueType.{QueueType}
 use Rattle.river_base.specs.Places.{list_at}
-use Rattle.river_plan.specs.Forms.{Name, OpForm, PlanForm, queue_names}
-use Rattle.river_plan.specs.Places.{place, places, read_places}
+use Rattle.river_plan.specs.Forms.{OpForm, PlanForm, queue_names}
+use Rattle.river_plan.specs.Places.{place, read_places}
 use Rattle.river_plan.specs.Uses.{reads_it}
 use Rattle.river_plan.specs.Valid.{IsPlan}
 use Rattle.river_plan.proofs.PlaceLemmas.{place_apart}
@@ -17,7 +16,6 @@ use Rattle.fire_tasks.specs.declared.ports.Inlet as inlet
 use Rattle.fire_tasks.specs.declared.task.Task.{Task}
 use Rattle.fire_open.specs.First.{whole_list, IsApart, HasLeft, AreUnread, IsFirstTask, AreFirstTasks}
 use Rattle.fire_open.proofs.FirstLemmas.{map_got, reads_there, first_none, first_more}
-use Rattle.fire_open.proofs.HomeLemmas.{got_snoc}
 
 -- ONE PORT FOR EACH PLACE
 

@@ -32,7 +32,12 @@ fn counted(count: u32, class: u32) -> u32
 }
 
 // The tables of a class, each with its number and its kind.
-fn kinds_of(alloc: Global, tables: &TableDecls, classes: &Places, class: u32) -> Result<TableKinds, NoMemory>
+fn kinds_of(
+    alloc: Global,
+    tables: &TableDecls,
+    classes: &Places,
+    class: u32,
+) -> Result<TableKinds, NoMemory>
     requires many { length classes.now ≡ length tables.now }
     requires few { length tables.now ≤ 256 }
     ensures { IfOk result (λ kinds. kinds ≡ kinds_from (λ n. slice_index_or classes.now n 0) class 0 tables.now) }
@@ -47,7 +52,12 @@ fn kinds_of(alloc: Global, tables: &TableDecls, classes: &Places, class: u32) ->
 }
 
 // The table comes to the others, if it is of the class.
-fn add_kind(is_here: bool, table: u32, kind: TableKind, kinds: &mut TableKinds) -> Result<(), NoMemory>
+fn add_kind(
+    is_here: bool,
+    table: u32,
+    kind: TableKind,
+    kinds: &mut TableKinds,
+) -> Result<(), NoMemory>
     ensures { OnOk result (kinds.new ≡ kinds.old ++ (if is_here then (table, kind) ∷ [] else [])) }
 {
     if is_here {

@@ -75,7 +75,12 @@ fn has_class(classes: &Places, tables: &Places, class: u32) -> bool
 }
 
 // The classes below `count` that one of these tables has.
-fn classes_below(alloc: Global, classes: &Places, tables: &Places, count: u32) -> Result<Places, NoMemory>
+fn classes_below(
+    alloc: Global,
+    classes: &Places,
+    tables: &Places,
+    count: u32,
+) -> Result<Places, NoMemory>
     requires { All (λ m. m < length classes.now) tables.now }
     ensures { IfOk result (AreClassesOf classes.now tables.now count) }
 {
@@ -111,7 +116,12 @@ fn place_of(own: &Places, class: u32) -> usize
 }
 
 // Where an operator's rows go: the place of each table's class among its classes.
-fn ports_of(alloc: Global, classes: &Places, tables: &Places, own: &Places) -> Result<Listed<TablePort>, NoMemory>
+fn ports_of(
+    alloc: Global,
+    classes: &Places,
+    tables: &Places,
+    own: &Places,
+) -> Result<Listed<TablePort>, NoMemory>
     requires there { All (λ m. m < length classes.now) tables.now }
     requires own { All (λ m. (i : ℕ) × (slice_get own.now i ≡ Some (slice_index_or classes.now m 0))) tables.now }
     ensures tables { IfOk result (λ ports. map (λ h. h.table) ports ≡ tables.now) }
@@ -120,13 +130,21 @@ fn ports_of(alloc: Global, classes: &Places, tables: &Places, own: &Places) -> R
     let mut ports = Listed::new(alloc);
     for table in tables.as_slice() {
         let place = place_of(own, *classes.at(*table as usize));
-        ports.push(TablePort { table: *table, place })?;
+        ports.push(TablePort {
+            table: *table,
+            place,
+        })?;
     }
     Ok(ports)
 }
 
 /// Where an operator's rows go, and the classes of its tables.
-pub fn homes_of(alloc: Global, plan: &Plan, op: usize, classes: &Places) -> Result<(Listed<TablePort>, Places), NoMemory>
+pub fn homes_of(
+    alloc: Global,
+    plan: &Plan,
+    op: usize,
+    classes: &Places,
+) -> Result<(Listed<TablePort>, Places), NoMemory>
     requires valid { IsPlan plan.now }
     requires there { op < length plan.now.ops }
     requires classes { AreTableClasses plan.now classes.now }

@@ -62,7 +62,12 @@ fn sources_of(alloc: Global, plan: &Plan) -> Result<Sources, NoMemory>
 }
 
 // Links for the queues that an operator reads, where another writes them.
-fn add_links(plan: &Plan, sources: &Sources, links: &mut Listed<Link>, reader: usize) -> Result<(), NoMemory>
+fn add_links(
+    plan: &Plan,
+    sources: &Sources,
+    links: &mut Listed<Link>,
+    reader: usize,
+) -> Result<(), NoMemory>
     requires valid { IsPlan plan.now }
     requires there { reader < length plan.now.ops }
     requires sources { KnowWriters plan.now (length plan.now.ops) 0 sources.now }

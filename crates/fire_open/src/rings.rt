@@ -25,7 +25,12 @@ fn put_ring(alloc: Global, tasks: &mut Listed<Task>, link: Link, cap: u32) -> Re
 }
 
 /// An empty ring for each link.
-pub fn put_rings(alloc: Global, tasks: &mut Listed<Task>, links: &Listed<Link>, cap: u32) -> Result<(), NoMemory>
+pub fn put_rings(
+    alloc: Global,
+    tasks: &mut Listed<Task>,
+    links: &Listed<Link>,
+    cap: u32,
+) -> Result<(), NoMemory>
     requires cap { (1 ≤ cap) × (cap ≤ 65536) }
     requires there { AreThere tasks.old links.now }
     ensures { OnOk result (AreRung cap tasks.old tasks.new links.now (length links.now)) }

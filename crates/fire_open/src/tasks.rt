@@ -46,7 +46,11 @@ fn ins_of(alloc: Global, places: &[usize], queues: &mut Lines) -> Result<Listed<
 
 // The types at these places.
 #[tactic(auto, using(work_code::proofs::Lists::copies))]
-fn kinds_of(alloc: Global, places: &[usize], kinds: &Listed<QueueType>) -> Result<Listed<QueueType>, NoMemory>
+fn kinds_of(
+    alloc: Global,
+    places: &[usize],
+    kinds: &Listed<QueueType>,
+) -> Result<Listed<QueueType>, NoMemory>
     requires { All (λ n. n < length kinds.now) places.now }
     ensures { IfOk result (λ list. list ≡ map (kind_at kinds.now) places.now) }
 {

@@ -1,6 +1,6 @@
 -- One move of one task.
-use Rattle.std.proofs.Common.{◌≡◌, ℕ, ℤ, ◌++◌, Some, zero, suc, ◌+◌, ◌<◌, ◌≤◌, ⊎_elim, List, [], ◌∷◌, length, map, refl, sym, ap, ◌∙◌, arith, subst, get_or, set, get_or-set_other, get_or-set_same, ◌^◌, inl, inr, ◌⊎◌}
-use Rattle.std.specs.Prelude.{Bool, true, false, IsTrue, IsFalse, None, slice_get}
+use Rattle.std.proofs.Common.{◌≡◌, ℕ, ℤ, zero, suc, ◌+◌, ◌<◌, ◌≤◌, ⊎_elim, List, [], ◌∷◌, length, map, refl, sym, ap, ◌∙◌, arith, subst, get_or, set, get_or-set_other, ◌^◌}
+use Rattle.std.specs.Prelude.{Bool, true, false, None}
 use Rattle.std.proofs.lemmas.Bool.{cases_eq, cases_lt}
 use Rattle.std.proofs.lemmas.List.{append-nil, length-set}
 use Rattle.std.proofs.lemmas.Option.{get_or_from_slice_get, slice_get-get_or}

@@ -1,44 +1,24 @@
 -- Fresh tasks with rings between them, and empty cells, are a net.
-use Rattle.std.proofs.Common.{◌≡◌, ℕ, ℤ, zero, suc, ◌+◌, ◌<◌, ◌≤◌, Some, List, [], ◌∷◌, length, map, refl, sym, ap, ◌∙◌, arith, subst, get_or}
+use Rattle.std.proofs.Common.{◌≡◌, ℕ, zero, suc, ◌<◌, Some, List, [], ◌∷◌, length, refl, sym, ap, ◌∙◌, arith, subst, get_or}
 use Rattle.std.specs.Prelude.{slice_get, false, All}
-use Rattle.std.proofs.lemmas.List.{length-map}
-use Rattle.std.proofs.lemmas.Option.{get_or_from_slice_get, slice_get-get_or, slice_get_within}
+use Rattle.std.proofs.lemmas.Option.{slice_get-get_or, slice_get_within}
 use Rattle.river_base.specs.declared.item.Item as item
-use Rattle.river_base.specs.Places.{list_at}
 use Rattle.river_plan.specs.Forms.{Name, OpForm, PlanForm}
 use Rattle.river_plan.specs.Uses.{total, reads_it, writes_it}
 use Rattle.river_plan.specs.Valid.{IsPlan}
 use Rattle.brooklet_model.specs.Typed.{AreInputs}
-use Rattle.brooklet_model.proofs.Ports.{got_below}
 use Rattle.brooklet_model.proofs.Traces.{some_is, got_count, at_most}
-use Rattle.brooklet_model.specs.Fire.{first_kept}
-use Rattle.brooklet_step.specs.Given.{FitState, StandsAfter}
-use Rattle.brooklet_step.specs.Took.{IsBlank}
-use Rattle.brooklet_model.proofs.BoundedMoves.{reader_behind}
-use Rattle.fire_tasks.specs.Fired.{Seen, HasFired, kinds_in}
-use Rattle.fire_tasks.specs.declared.ports.Inlet as inlet
-use Rattle.fire_tasks.specs.declared.ports.Outlet as outlet
 use Rattle.fire_open.specs.declared.settling.Link.{Link}
 use Rattle.fire_tasks.specs.declared.task.Task.{Task}
-use Rattle.fire_laws.specs.Layout.{IsLink, IsSettled, IsInput, IsStored}
-use Rattle.fire_tasks.specs.Ports.{received_of, received_in, received_count, sent_of, sent_in, sent_count}
-use Rattle.fire_tasks.specs.Tasks.{IsTask, all_moves, moves, seen}
-use Rattle.fire_tasks.specs.Adds.{AreHomes}
-use Rattle.fire_laws.proofs.NetLemmas.{there_is}
-use Rattle.fire_open.specs.Fresh.{IsFresh, AreFresh}
-use Rattle.fire_open.specs.Links.{IsLinkOf, AreLinks, LinkEnds, IsThere, AreApart}
-use Rattle.fire_open.specs.Rings.{AreUnmoved, AreThere, Body, body, NoReader, NoWriter, AreRung}
-use Rattle.fire_open.proofs.Laid.{apart_net}
+use Rattle.fire_open.specs.Fresh.{AreFresh}
+use Rattle.fire_open.specs.Links.{AreLinks}
+use Rattle.fire_open.specs.Rings.{Body, body, NoReader, NoWriter, AreRung}
 use Rattle.fire_open.proofs.Lists.{same_got, map_long}
-use Rattle.fire_open.proofs.RingLemmas.{bodies_unmoved}
 use Rattle.std.proofs.lemmas.List.Elements.{All-nil, All-head, All-tail}
-use Rattle.class_locks.specs.declared.log.LogEntry.{LogEntry}
-use Rattle.class_locks.specs.Logs.{Holding, rows_to, part_of_op}
+use Rattle.class_locks.specs.Logs.{Holding}
 use Rattle.fire_tasks.specs.Adds.{IsEntryOf, added, logs_of, rows_by, table_at, table_class}
-use Rattle.fire_laws.specs.Layout.{AreLaid, AreTasks, AreSettled}
 use Rattle.fire_open.specs.Homes.{AreClassCells}
 use Rattle.fire_open.proofs.OpenLemmas.{body_task}
-use Rattle.fire_run.specs.declared.net.Net.{Net}
 use Rattle.fire_run.specs.NetOf.{IsNetOf}
 use Rattle.fire_run.proofs.MoveLemmas.{with_adds}
 
@@ -106,4 +86,3 @@ opened p inputs cap ts0 ts ls cells v typed room h k r cs blank = record {
         let c = got_count x.read.reads l.port q (x.reads ∙ ap Some eq) in
         let a = at_most (reads_it q) p.ops l.reader x.read x.read_is in
         omega (arith, c, a, z)
-

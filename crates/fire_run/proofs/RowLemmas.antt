@@ -1,11 +1,10 @@
 -- The rows of a firing come to the logs of the cells.
 use Rattle.std.proofs.Common.{◌≡◌, ◌≢◌, ℕ, ℤ, zero, suc, ◌+◌, ◌<◌, ◌≤◌, ◌==◌, Bool, true, false, Some, List, [], ◌∷◌, ◌++◌, length, take, take-suc, refl, sym, ap, ◌∙◌, subst, arith, ⊎_elim, append_assoc, eq-eqb}
-use Rattle.std.specs.Prelude.{All, nat_eq, slice_get, slice_set, slice_index_or, replicate, if◌then◌else◌}
+use Rattle.std.specs.Prelude.{All, nat_eq, slice_get, slice_index_or, replicate, if◌then◌else◌}
 use Rattle.std.proofs.lemmas.Bool.{cases_lt}
 use Rattle.std.proofs.lemmas.List.{append-nil}
 use Rattle.std.proofs.lemmas.List.Elements.{All-append}
 use Rattle.std.proofs.lemmas.Option.{slice_get_within, slice_get-get_or, get_or_from_slice_get}
-use Rattle.kern_tables.specs.declared.kind.TableKind.{TableKind}
 use Rattle.river_base.specs.Places.{list_at}
 use Rattle.river_plan.specs.declared.plan.TableDecl.{TableDecl}
 use Rattle.river_plan.specs.Forms.{PlanForm}
@@ -17,13 +16,13 @@ use Rattle.class_locks.specs.Logs.{Holding, HasKind, TakesRows}
 use Rattle.fire_tasks.specs.declared.task.Task.{Task}
 use Rattle.fire_tasks.specs.declared.task.TablePort.{TablePort}
 use Rattle.fire_tasks.specs.Adds.{AreHomes, IsEntryOf, added, logs_of, table_class}
-use Rattle.fire_tasks.specs.Tasks.{IsTask, ends_of, moves}
+use Rattle.fire_tasks.specs.Tasks.{IsTask}
 use Rattle.fire_tasks.specs.Turns.{AreRowsFor, HasFiredAt, Owes, entry_of, logged, without_rows}
 use Rattle.fire_tasks.proofs.AddLemmas.{added_else, added_more, entries_logged, logged_more, logged_none, logged_own}
 use Rattle.fire_tasks.proofs.TaskLemmas.{with_adds, tables_many, got_at}
-use Rattle.fire_open.specs.Homes.{AreClassCells, class_kinds, kinds_from}
+use Rattle.fire_open.specs.Homes.{AreClassCells, kinds_from}
 use Rattle.fire_run.specs.Cells.{HaveAdded, cells_grown}
-use Rattle.fire_run.specs.Rows.{CanAddTo, no_cell, with_rows}
+use Rattle.fire_run.specs.Rows.{CanAddTo, with_rows}
 use Rattle.fire_run.proofs.CellLemmas.{grown_long, grown_got, grown_log}
 
 -- CELLS THAT GROW AT ONE CLASS
@@ -85,9 +84,9 @@ added_step o classes tables rows j cells0 cells cells' h gh lc a e =
     let taken : take (j + 1) tables ≡ take j tables ++ h ∷ [] = ap (λ k. take k tables) (sym next) ∙ take-suc tables j h lt ∙ ap (λ x. take j tables ++ x ∷ []) (get_or_from_slice_get tables j h h gh) in
     let long : length (take j tables) ≡ j = taken_long tables j lt in
     let more : (c : ℕ) → logged o classes (take (j + 1) tables) rows c
-        ≡ logged o classes (take j tables) rows c ++ (if nat_eq (slice_index_or classes h.place 0) c then entry_of o h.table (rows j) else [])
-        = (λ c. ap (λ l. logged o classes l rows c) taken ∙ logged_more o classes (take j tables) h rows c
-        ∙ ap (λ n. logged o classes (take j tables) rows c ++ (if nat_eq (slice_index_or classes h.place 0) c then entry_of o h.table (rows n) else [])) long) in
+    ≡ logged o classes (take j tables) rows c ++ (if nat_eq (slice_index_or classes h.place 0) c then entry_of o h.table (rows j) else [])
+    = (λ c. ap (λ l. logged o classes l rows c) taken ∙ logged_more o classes (take j tables) h rows c
+    ∙ ap (λ n. logged o classes (take j tables) rows c ++ (if nat_eq (slice_index_or classes h.place 0) c then entry_of o h.table (rows n) else [])) long) in
     e ∙ ap (with_rows o h.table (slice_index_or classes h.place 0) (rows j)) a
     ∙ grown_put (logged o classes (take j tables) rows) (logged o classes (take (j + 1) tables) rows) o h.table 0 (slice_index_or classes h.place 0) (rows j) cells0 lc
     (let z : 0 + slice_index_or classes h.place 0 ≡ slice_index_or classes h.place 0 = omega arith in
@@ -136,9 +135,11 @@ kinds_has f c n m [] t g e = absurd (cc g)
 kinds_has f c n zero (u ∷ ts) t g e =
     let z : n + 0 ≡ n = omega arith in
     let same : u ≡ t = some_is u t g in
-    let hit : (f n == c) ≡ true = eq-eqb (f n) c (ap f (sym z) ∙ e) in
-    (0, ap (λ b. slice_get (if b then (n, u.kind) ∷ kinds_from f c (suc n) ts else kinds_from f c (suc n) ts) 0) hit
-    ∙ ap (λ (x : TableDecl). Some (n, x.kind)) same ∙ ap (λ k. Some (k, t.kind)) (sym z))
+    let hit : (f n == c) ≡ true = eq-eqb (f n) c (ap f (sym z) ∙ e) in (
+      0,
+      ap (λ b. slice_get (if b then (n, u.kind) ∷ kinds_from f c (suc n) ts else kinds_from f c (suc n) ts) 0) hit
+          ∙ ap (λ (x : TableDecl). Some (n, x.kind)) same ∙ ap (λ k. Some (k, t.kind)) (sym z),
+    )
 kinds_has f c n (suc m) (u ∷ ts) t g e =
     let z : suc n + m ≡ n + suc m = omega arith in
     let r = kinds_has f c (suc n) m ts t g (ap f z ∙ e) in
@@ -201,7 +202,7 @@ logs_now p o tables classes rows cells0 cells can e c = ap (λ l. logs_of l c) e
     beyond (x ∷ xs) (suc i) le = beyond xs i (omega (arith, le))
 
 module _ (p : PlanForm) (v : IsPlan p) (t t1 : Task) (cells0 cells : List Holding) (k : IsTask p (added p (logs_of cells0) t.op) t) (f : HasFiredAt p t t1)
-  (can : CanAddTo t1.tables t1.classes (list_at t1.out.adds) cells0) (e : cells ≡ cells_grown (logged t.op t1.classes t1.tables (list_at t1.out.adds)) 0 cells0) where
+    (can : CanAddTo t1.tables t1.classes (list_at t1.out.adds) cells0) (e : cells ≡ cells_grown (logged t.op t1.classes t1.tables (list_at t1.out.adds)) 0 cells0) where
   owes : Owes p (added p (logs_of cells0) t.op) t1
   owes = f.owes (added p (logs_of cells0) t.op) k
 

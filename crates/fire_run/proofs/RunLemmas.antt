@@ -1,15 +1,14 @@
 -- A net that runs on.
-use Rattle.std.proofs.Common.{◌≡◌, ℕ, ◌+◌, ◌*◌, ◌-◌, ◌<◌, ◌≤◌, List, refl, sym, ap, ◌∙◌, arith}
-use Rattle.std.specs.Prelude.{Bool, true, false}
+use Rattle.std.proofs.Common.{◌≡◌, ℕ, ◌+◌, ◌*◌, ◌-◌, ◌<◌, ◌≤◌, List, arith}
+use Rattle.std.specs.Prelude.{Bool, true}
 use Rattle.river_base.specs.declared.item.Item as item
 use Rattle.river_plan.specs.Forms.{PlanForm, queue_names}
-use Rattle.river_plan.specs.Valid.{IsPlan}
 use Rattle.brooklet_model.specs.Histories.{hist, lengths}
 use Rattle.fire_tasks.specs.Adds.{added, logs_of}
 use Rattle.fire_tasks.specs.Tasks.{all_moves}
 use Rattle.fire_laws.proofs.Numbers.{numbers_law}
 use Rattle.fire_run.specs.declared.net.Net.{Net}
-use Rattle.fire_run.specs.NetOf.{IsNetOf, HasNet, HasNetOf, Stays, OneMore}
+use Rattle.fire_run.specs.NetOf.{HasNet, HasNetOf, Stays, OneMore}
 
 -- the net stayed one, and made so many moves
 pub record RanOn (p : PlanForm) (inputs : List (List item.Item)) (n : ℕ) (net0 net : Net) : Type 0 where

@@ -1,42 +1,38 @@
 -- A net in which no operator has a pending or an untaken item gave all that is defined.
-use Rattle.std.proofs.Common.{◌≡◌, ℕ, ℤ, zero, suc, ◌+◌, ◌<◌, ◌≤◌, ⊎_elim, Some, List, [], ◌∷◌, ◌++◌, length, map, refl, sym, ap, ◌∙◌, arith, subst, get_or, length-append}
+use Rattle.std.proofs.Common.{◌≡◌, ℕ, ℤ, zero, suc, ◌<◌, ⊎_elim, Some, List, [], ◌∷◌, ◌++◌, length, refl, sym, ap, ◌∙◌, arith, subst, length-append}
 use Rattle.std.specs.Prelude.{slice_get, min}
 use mathlib.Core.List.{reverse}
 use Rattle.std.proofs.lemmas.List.{append-nil}
-use Rattle.std.proofs.lemmas.Option.{get_or_from_slice_get, slice_get-get_or, slice_get_within}
+use Rattle.std.proofs.lemmas.Option.{get_or_from_slice_get, slice_get_within}
 use Rattle.river_base.specs.declared.item.Item as item
 use Rattle.river_base.specs.Bags.{SameBag}
 use Rattle.river_base.specs.Places.{list_at}
-use Rattle.river_base.specs.Held.{held}
 use Rattle.river_base.proofs.HeldLemmas.{held-same}
 use Rattle.river_plan.specs.Forms.{Name, OpForm, PlanForm, all_decls}
 use Rattle.river_plan.specs.Kinds.{kind_of}
-use Rattle.river_plan.specs.Uses.{total, reads_it, writes_it}
+use Rattle.river_plan.specs.Uses.{total, writes_it}
 use Rattle.river_plan.specs.Valid.{IsPlan}
-use Rattle.brooklet_model.specs.Bounded.{Capacities, history}
+use Rattle.brooklet_model.specs.Bounded.{Capacities}
 use Rattle.brooklet_model.specs.NetLaws.{IsWhole}
 use Rattle.brooklet_model.specs.Received.{AreDone, hist_by, IsFront}
 use Rattle.brooklet_model.specs.Histories.{hist, given, most_firings}
-use Rattle.brooklet_model.specs.Laws.{given_to}
 use Rattle.brooklet_model.specs.Traced.{ran}
 use Rattle.brooklet_model.specs.Words.{Word, at_port}
 use Rattle.brooklet_model.proofs.Ports.{got_below}
-use Rattle.brooklet_model.proofs.Traces.{some_is}
 use Rattle.brooklet_model.proofs.TypedPlan.{kind_got}
-use Rattle.brooklet_step.specs.Given.{held_at, held_by}
-use Rattle.fire_tasks.specs.Fired.{Seen, kinds_out}
-use Rattle.fire_laws.specs.Joins.{Joins, bounded}
+use Rattle.brooklet_step.specs.Given.{held_by}
+use Rattle.fire_tasks.specs.Fired.{Seen}
+use Rattle.fire_laws.specs.Joins.{bounded}
 use Rattle.brooklet_model.proofs.Received.{writer_of, by_words, unwritten_by}
 use Rattle.brooklet_model.proofs.RunsEnd.{done_law}
 use Rattle.fire_laws.proofs.Joining.{lists_at, place_of}
-use Rattle.fire_tasks.specs.declared.ports.Inlet as inlet
 use Rattle.fire_tasks.specs.declared.task.Task.{Task}
 use Rattle.fire_laws.specs.Layout.{MakeNet, seen_at, left_in}
 use Rattle.fire_laws.proofs.Numbers.{numbers_law}
-use Rattle.fire_tasks.specs.Ports.{IsIdle, known_of, received_of, received_in, sent_in, pending_in}
-use Rattle.fire_tasks.specs.Tasks.{IsDone, seen}
+use Rattle.fire_tasks.specs.Ports.{IsIdle, known_of, sent_in, pending_in}
+use Rattle.fire_tasks.specs.Tasks.{IsDone}
 use Rattle.fire_tasks.specs.Adds.{added, logs_of}
-use Rattle.fire_laws.proofs.NetLemmas.{there_is, make_net, seen_here, left_read, inlet_of, task_of, beside, received_here}
+use Rattle.fire_laws.proofs.NetLemmas.{make_net, seen_here, left_read, inlet_of, task_of, beside}
 use Rattle.fire_run.specs.declared.net.Net.{Net}
 use Rattle.fire_run.specs.NetOf.{IsNetOf, AreIdle}
 use Rattle.fire_run.specs.Whole.{IsWholeNet, IdleNetIsWhole, NetsMoveFew}

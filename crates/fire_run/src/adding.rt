@@ -31,7 +31,14 @@ pub(crate) fn add_to_cells(
     for port in 0..tables.len() {
         let to = *tables.at(port);
         let class = *classes.at(to.place);
-        add_at(alloc, op, to.table, class as usize, adds.at_mut(port), cells)?;
+        add_at(
+            alloc,
+            op,
+            to.table,
+            class as usize,
+            adds.at_mut(port),
+            cells,
+        )?;
     }
     Ok(())
 }
@@ -59,7 +66,13 @@ fn add_at(
 }
 
 // Adds rows to a table of a class.
-fn put_entry(op: u32, table: u32, class: usize, rows: Rows, cells: &mut Cells) -> Result<(), NoMemory>
+fn put_entry(
+    op: u32,
+    table: u32,
+    class: usize,
+    rows: Rows,
+    cells: &mut Cells,
+) -> Result<(), NoMemory>
     requires some { rows ≡ [] → ⊥ }
     requires there { class < length cells.old }
     requires takes { (d : Holding) → TakesRows (slice_index_or cells.old class d).kinds table rows }

@@ -45,7 +45,14 @@ fn take_for<G: Gate>(
 {
     let op = task.op;
     fire_at(alloc, plan, task, port, gate)?;
-    add_to_cells(alloc, op, &task.tables, &task.classes, &mut task.out.adds, cells)?;
+    add_to_cells(
+        alloc,
+        op,
+        &task.tables,
+        &task.classes,
+        &mut task.out.adds,
+        cells,
+    )?;
     Ok(())
 }
 

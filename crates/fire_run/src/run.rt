@@ -11,7 +11,13 @@ use std::alloc::Global;
 
 /// One move after another, until none is left; says how many there were, and one more, 2^64 - 1 standing for all that are greater.
 #[tactic(auto, using(crate::proofs::RunLemmas::ran_first, crate::proofs::RunLemmas::ran_has, crate::proofs::RunLemmas::ran_next, crate::proofs::RunLemmas::ran_end))]
-pub(crate) fn run_alone<G: Gate>(alloc: Global, plan: &Plan, inputs: &Lines, net: &mut Net, gate: &G) -> Result<u64, NoMemory>
+pub(crate) fn run_alone<G: Gate>(
+    alloc: Global,
+    plan: &Plan,
+    inputs: &Lines,
+    net: &mut Net,
+    gate: &G,
+) -> Result<u64, NoMemory>
     requires { HasNetOf plan.now inputs.now net.old }
     ensures stays { OnOk result (Stays plan.now net.old net.new) }
     ensures idle { OnOk result (AreIdle net.new.tasks) }
@@ -28,7 +34,13 @@ pub(crate) fn run_alone<G: Gate>(alloc: Global, plan: &Plan, inputs: &Lines, net
 
 // One move after another, until none is left.
 #[tactic(auto, using(crate::proofs::RunLemmas::ran_first, crate::proofs::RunLemmas::ran_has, crate::proofs::RunLemmas::ran_next, crate::proofs::RunLemmas::ran_end, crate::proofs::RunLemmas::one_less))]
-fn drain<G: Gate>(alloc: Global, plan: &Plan, inputs: &Lines, net: &mut Net, gate: &G) -> Result<(), NoMemory>
+fn drain<G: Gate>(
+    alloc: Global,
+    plan: &Plan,
+    inputs: &Lines,
+    net: &mut Net,
+    gate: &G,
+) -> Result<(), NoMemory>
     requires { HasNetOf plan.now inputs.now net.old }
     ensures stays { OnOk result (Stays plan.now net.old net.new) }
     ensures idle { OnOk result (AreIdle net.new.tasks) }

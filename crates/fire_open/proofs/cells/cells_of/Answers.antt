@@ -1,11 +1,10 @@
 use Rattle.std.proofs.Common.{◌≡◌, [], length, ap, sym, ◌∙◌, subst, arith}
 use Rattle.std.specs.Prelude.{slice_index_or}
-use Rattle.river_plan.specs.declared.plan.TableDecl.{TableDecl}
 use Rattle.river_plan.specs.Forms.{PlanForm}
-use Rattle.class_locks.specs.Logs.{Holding, AreDistinct}
+use Rattle.class_locks.specs.Logs.{AreDistinct}
 use Rattle.plan_classes.proofs.Named.{few_tables}
 use Rattle.fire_open.specs.Homes.{IsClassCount, class_kinds, kinds_from}
-use Rattle.fire_open.proofs.ClassLemmas.{CellsSoFar, cells_none, cells_more, cells_are, cells_blank, class_kinds_are, kinds_distinct}
+use Rattle.fire_open.proofs.ClassLemmas.{cells_none, cells_more, cells_are, cells_blank, class_kinds_are, kinds_distinct}
 use Rattle.fire_open.proofs.cells.cells_of.Goals as goal
 
 pub class_count-class-end-requires-clause-first : goal.class_count-class-end-requires-clause-first

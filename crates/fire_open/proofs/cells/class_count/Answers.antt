@@ -1,8 +1,7 @@
-use Rattle.std.proofs.Common.{◌≡◌, ◌<◌, ◌≤◌, ◌+◌, length, take, ap, sym, ◌∙◌, subst, arith}
-use Rattle.std.specs.Prelude.{slice_index_or}
+use Rattle.std.proofs.Common.{◌≡◌, length, take, ap, sym, ◌∙◌, subst, arith}
 use Rattle.std.proofs.lemmas.List.{take_all, length-take-le}
 use Rattle.fire_open.proofs.ClassLemmas.{Counted, counted_none, counted_next, counted_all}
-use Rattle.fire_open.specs.Homes.{AreByFirst, IsClassCount}
+use Rattle.fire_open.specs.Homes.{AreByFirst}
 use Rattle.fire_open.proofs.cells.class_count.Goals as goal
 
 pub loop-class-init : goal.loop-class-init

@@ -1,4 +1,3 @@
-use Rattle.std.proofs.Common.{refl}
 use Rattle.fire_open.proofs.HomeLemmas.{own_next}
 use Rattle.fire_open.proofs.homes.classes_below.Goals as goal
 

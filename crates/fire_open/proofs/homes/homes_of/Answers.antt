@@ -1,5 +1,4 @@
-use Rattle.std.proofs.Common.{◌≡◌, ◌<◌, Some, length, ap, sym, ◌∙◌, arith}
-use Rattle.std.specs.Prelude.{slice_get, slice_index_or}
+use Rattle.std.proofs.Common.{arith}
 use Rattle.plan_classes.proofs.Named.{few_tables}
 use Rattle.fire_open.proofs.HomeLemmas.{numbers_below, own_there, homes_are}
 use Rattle.fire_open.proofs.homes.homes_of.Goals as goal

@@ -1,6 +1,6 @@
-use Rattle.std.proofs.Common.{◌<◌, ◌≡◌, ◌∷◌, [], ◌++◌, Some, length, take, take-suc, ap, sym, ◌∙◌, subst, arith, ◌+◌, suc, get_or}
-use Rattle.std.specs.Prelude.{slice_get, slice_index_or}
-use Rattle.fire_open.proofs.HomeLemmas.{ArePortsOf, ports_first, ports_next}
+use Rattle.std.proofs.Common.{◌<◌, Some, length, ap, sym, ◌∙◌, arith}
+use Rattle.std.specs.Prelude.{slice_index_or}
+use Rattle.fire_open.proofs.HomeLemmas.{ports_first, ports_next}
 use Rattle.fire_open.proofs.homes.ports_of.Goals as goal
 
 pub loop-table-init : goal.loop-table-init

@@ -1,4 +1,4 @@
-use Rattle.std.proofs.Common.{◌≡◌, ◌+◌, ◌∙◌, length, get_or, refl, sym, subst, arith, ap, Some}
+use Rattle.std.proofs.Common.{◌+◌, ◌∙◌, length, get_or, refl, sym, subst, arith, ap, Some}
 use Rattle.std.proofs.lemmas.Option.{slice_get_read}
 use Rattle.river_plan.specs.Forms.{OpForm}
 use Rattle.fire_open.specs.Sources.{LinkReaders}
@@ -21,9 +21,9 @@ loop-port-preserved c =
     let o = c.at.result.now in
     let g = slice_get_read c.args.sources.now (length c.args.sources.now) n o refl lt (c.at.ensures o) in
     elim c.match-at.branch [
-      in-Some+in_ok-push-in-Some w ↦ subst (LinkReaders c.args.plan.now c.args.reader (c.loop-port.port + 1)) (sym w.links-is)
+      | in-Some+in_ok-push-in-Some w ↦ subst (LinkReaders c.args.plan.now c.args.reader (c.loop-port.port + 1)) (sym w.links-is)
           (link_more c.args.plan.now c.requires.valid c.args.sources.now c.requires.sources c.args.reader c.loop-port.port n a c.loop-port.links c.loop-port.invariant w.in-Some.source w.push.new.self (g ∙ ap Some w.in-Some.is) w.in_ok-push-in-Some.ensures.ok)
-    | in-None w ↦ subst (LinkReaders c.args.plan.now c.args.reader (c.loop-port.port + 1)) (sym w.links-is)
+      | in-None w ↦ subst (LinkReaders c.args.plan.now c.args.reader (c.loop-port.port + 1)) (sym w.links-is)
           (link_none c.args.plan.now c.requires.valid c.args.sources.now c.requires.sources c.args.reader c.loop-port.port n a c.loop-port.links c.loop-port.invariant (g ∙ ap Some w.in-None.is))
     ]
 

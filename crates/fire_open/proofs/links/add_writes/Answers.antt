@@ -1,4 +1,4 @@
-use Rattle.std.proofs.Common.{◌≡◌, length, get_or, refl, arith}
+use Rattle.std.proofs.Common.{length, get_or, refl, arith}
 use Rattle.river_plan.specs.Forms.{OpForm}
 use Rattle.fire_open.proofs.SourceLemmas.{port_at, write_below, know_next, know_op}
 use Rattle.fire_open.proofs.links.add_writes.Goals as goal

@@ -1,4 +1,4 @@
-use Rattle.std.proofs.Common.{◌<◌, ◌∙◌, length, subst, sym, ap, arith, get_or-set_other}
+use Rattle.std.proofs.Common.{◌<◌, ◌∙◌, length, subst, sym, arith, get_or-set_other}
 use Rattle.fire_tasks.specs.declared.task.Task.{Task}
 use Rattle.fire_open.proofs.RingLemmas.{put_is}
 use Rattle.fire_open.proofs.rings.put_ring.Goals as goal

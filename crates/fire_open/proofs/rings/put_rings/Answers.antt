@@ -1,5 +1,4 @@
-use Rattle.std.proofs.Common.{◌≡◌, Some, length, arith, refl}
-use Rattle.std.specs.Prelude.{slice_get}
+use Rattle.std.proofs.Common.{length, arith, refl}
 use Rattle.std.proofs.lemmas.Option.{slice_get_read}
 use Rattle.fire_open.proofs.RingLemmas.{rung_first, rung_next, asks_there}
 use Rattle.fire_open.proofs.rings.put_rings.Goals as goal

@@ -1,5 +1,4 @@
-use Rattle.std.proofs.Common.{◌≡◌, Some, length, arith, refl}
-use Rattle.std.specs.Prelude.{slice_get}
+use Rattle.std.proofs.Common.{length, arith, refl}
 use Rattle.std.proofs.lemmas.Option.{slice_get_read}
 use Rattle.fire_open.proofs.SettleLemmas.{settling_first, settling_next, asks_at, met_all}
 use Rattle.fire_open.proofs.settling.settle_all.Goals as goal

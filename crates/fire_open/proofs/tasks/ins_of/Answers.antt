@@ -1,4 +1,4 @@
-use Rattle.std.proofs.Common.{◌≡◌, ◌<◌, length, take, ap, sym, ◌∙◌, subst, arith, map, get_or}
+use Rattle.std.proofs.Common.{ap, ◌∙◌, subst, arith, map}
 use Rattle.std.proofs.lemmas.List.{take_all}
 use Rattle.fire_open.specs.First.{HasLeft, whole_list}
 use Rattle.fire_open.proofs.TakenLemmas.{ins_begin, ins_next}

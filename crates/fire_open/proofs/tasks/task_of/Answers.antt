@@ -1,4 +1,4 @@
-use Rattle.std.proofs.Common.{◌≡◌, ◌<◌, ◌∙◌, [], length, map, subst, ap, arith, refl}
+use Rattle.std.proofs.Common.{◌∙◌, [], length, map, subst, ap, arith, refl}
 use Rattle.std.specs.Prelude.{replicate}
 use Rattle.river_plan.specs.ByPlace.{kind_at}
 use Rattle.brooklet_step.specs.Initial.{IsFirst}

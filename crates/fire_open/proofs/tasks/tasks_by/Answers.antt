@@ -1,4 +1,4 @@
-use Rattle.std.proofs.Common.{◌≡◌, refl, arith, ◌∙◌, subst}
+use Rattle.std.proofs.Common.{◌≡◌, arith, ◌∙◌, subst}
 use Rattle.fire_open.specs.First.{AreFirstTasks}
 use Rattle.fire_open.proofs.TakenLemmas.{so_far_first, so_far_more}
 use Rattle.fire_open.proofs.tasks.tasks_by.Goals as goal

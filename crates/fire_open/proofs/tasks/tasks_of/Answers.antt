@@ -1,6 +1,5 @@
 use Rattle.brooklet_step.proofs.Starts.{if_ok}
-use Rattle.std.proofs.Common.{◌≡◌, ◌∙◌, ◌++◌, [], length, ap, sym, subst, arith}
-use Rattle.std.specs.Prelude.{replicate}
+use Rattle.std.proofs.Common.{◌∙◌, length, ap, arith}
 use Rattle.river_plan.specs.ByPlace.{queue_kinds}
 use Rattle.river_plan.specs.Forms.{PlanForm}
 use Rattle.brooklet_step.proofs.ReadLemmas.{ops_many}

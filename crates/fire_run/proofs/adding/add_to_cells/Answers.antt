@@ -1,14 +1,14 @@
-use Rattle.std.proofs.Common.{◌≡◌, ◌<◌, Some, length, take, sym, ap, ◌∙◌, subst, arith}
+use Rattle.std.proofs.Common.{◌≡◌, ◌<◌, Some, length, sym, ap, ◌∙◌, subst, arith}
 use Rattle.std.specs.Prelude.{slice_get, slice_set, slice_index_or}
 use Rattle.std.proofs.lemmas.List.{take_all}
 use Rattle.std.proofs.lemmas.Option.{slice_get-get_or}
 use Rattle.river_base.specs.Places.{list_at}
 use Rattle.brooklet_step.proofs.Moving.{emptied, emptied_next, emptied_all}
-use Rattle.class_locks.specs.Logs.{Holding, TakesRows}
+use Rattle.class_locks.specs.Logs.{TakesRows}
 use Rattle.fire_tasks.specs.Turns.{logged}
 use Rattle.fire_run.specs.Cells.{cells_grown}
 use Rattle.fire_run.specs.Rows.{with_rows}
-use Rattle.fire_run.proofs.RowLemmas.{CellNow, class_below, added_first, added_step, cell_now}
+use Rattle.fire_run.proofs.RowLemmas.{class_below, added_first, added_step, cell_now}
 use Rattle.fire_run.proofs.adding.add_to_cells.Goals as goal
 
 pub loop-port-init : goal.loop-port-init

@@ -1,6 +1,5 @@
-use Rattle.std.proofs.Common.{arith, ◌-◌, ◌≡◌, length, ◌+◌, refl, subst, sym, ◌∙◌}
+use Rattle.std.proofs.Common.{arith, ◌-◌, refl, subst, sym, ◌∙◌}
 use Rattle.river_plan.specs.Forms.{plan_form}
-use Rattle.class_locks.specs.Logs.{Holding}
 use Rattle.fire_tasks.specs.Adds.{added, logs_of}
 use Rattle.fire_tasks.specs.Tasks.{IsTask, all_moves}
 use Rattle.fire_laws.specs.Layout.{AreTasks}

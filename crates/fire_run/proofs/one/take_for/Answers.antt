@@ -1,9 +1,5 @@
-use Rattle.std.proofs.Common.{◌≡◌, sym, ap, ◌∙◌, subst}
-use Rattle.river_base.specs.Places.{list_at}
 use Rattle.river_plan.specs.Forms.{plan_form}
-use Rattle.fire_tasks.specs.Adds.{AreHomes, added, logs_of}
-use Rattle.fire_tasks.specs.Turns.{AreRowsFor, Owes}
-use Rattle.fire_run.specs.Rows.{CanAddTo}
+use Rattle.fire_tasks.specs.Adds.{added, logs_of}
 use Rattle.fire_run.proofs.RowLemmas.{owed, task_after, added_after}
 use Rattle.fire_run.proofs.one.take_for.Goals as goal
 

@@ -1,6 +1,4 @@
-use Rattle.std.proofs.Common.{false, subst, sym, refl, ◌≡◌, map, ◌∙◌}
-use Rattle.river_plan.specs.Forms.{plan_form}
-use Rattle.river_plan.specs.Valid.{IsPlan}
+use Rattle.std.proofs.Common.{false, subst, sym, refl, ◌∙◌}
 use Rattle.fire_tasks.specs.Adds.{added, logs_of}
 use Rattle.fire_tasks.specs.Tasks.{all_moves}
 use Rattle.fire_laws.specs.Layout.{AreTasks}
