@@ -93,7 +93,7 @@ last_busy b (a ∷ ops) = ⊎_elim
     each q n (suc i) op g = q i op g
 
 -- a queue that is read is read by an operator
-reader_of : (ops : List OpForm) (q : Name) → 0 < total (reads_it q) ops → (o : ℕ) × (op : OpForm) × (slice_get ops o ≡ Some op) × (0 < count q op.reads)
+pub reader_of : (ops : List OpForm) (q : Name) → 0 < total (reads_it q) ops → (o : ℕ) × (op : OpForm) × (slice_get ops o ≡ Some op) × (0 < count q op.reads)
 reader_of [] q lt = absurd (omega (arith, lt))
 reader_of (a ∷ ops) q lt = ⊎_elim
     (λ k. (0, a, refl, k))
@@ -101,7 +101,7 @@ reader_of (a ∷ ops) q lt = ⊎_elim
     (more_or_zero (count q a.reads))
 
 -- the reader of a queue stands behind its writer
-reader_behind : (p : PlanForm) (v : IsPlan p) (o o' : ℕ) (op op' : OpForm) (q : Name) → slice_get p.ops o ≡ Some op → 0 < count q op.writes
+pub reader_behind : (p : PlanForm) (v : IsPlan p) (o o' : ℕ) (op op' : OpForm) (q : Name) → slice_get p.ops o ≡ Some op → 0 < count q op.writes
     → slice_get p.ops o' ≡ Some op' → 0 < count q op'.reads → o < o'
 reader_behind p v o o' op op' q g lt g' lt' =
     let w = v.written_once q in

@@ -144,7 +144,7 @@ num_is : (a b : ℕ) → Some a ≡ Some b → a ≡ b
 num_is a b h = cc
 
 -- the name whose place this is
-got_place : (names qs : List Name) (j p : ℕ) → slice_get (places names qs) j ≡ Some p → (q : Name) × (slice_get qs j ≡ Some q) × (place names q ≡ p)
+pub got_place : (names qs : List Name) (j p : ℕ) → slice_get (places names qs) j ≡ Some p → (q : Name) × (slice_get qs j ≡ Some q) × (place names q ≡ p)
 got_place names [] j p g = absurd (cc g)
 got_place names (q ∷ qs) zero p g = (q, refl, num_is (place names q) p g)
 got_place names (q ∷ qs) (suc j) p g = got_place names qs j p g

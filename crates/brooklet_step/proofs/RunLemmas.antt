@@ -256,7 +256,8 @@ ops_few raw p e v = (
   All-head (λ n. n ≤ 256) (length p.ops) [] (v.within Operators),
 )
 
-ports_few : (ops : List OpForm) (o : ℕ) (op : OpForm) → All (λ n. n ≤ 64) (port_numbers ops) → slice_get ops o ≡ Some op → length op.reads ≤ 64
+-- an operator reads at most 64 queues, where the numbers of all ports are so small
+pub ports_few : (ops : List OpForm) (o : ℕ) (op : OpForm) → All (λ n. n ≤ 64) (port_numbers ops) → slice_get ops o ≡ Some op → length op.reads ≤ 64
 ports_few [] o op a g = absurd (cc g)
 ports_few (d ∷ ops) zero op a g =
     subst (λ (x : OpForm). length x.reads ≤ 64) (some_is d op g) (All-head (λ n. n ≤ 64) (length d.reads) (length d.writes ∷ port_numbers ops) a)

@@ -221,7 +221,7 @@ fn take_list<T: Drop>(alloc: Global, lists: &mut Listed<Listed<T>>, place: usize
 }
 
 /// No element is left in any of the lists, which keep their memory.
-pub(crate) fn clear_all<T: Drop>(lists: &mut Listed<Listed<T>>)
+pub fn clear_all<T: Drop>(lists: &mut Listed<Listed<T>>)
     ensures { lists.new ≡ replicate (length lists.old) [] }
 {
     for place in 0..lists.len() {

@@ -58,8 +58,8 @@ fn states_and_counts(alloc: Global, ops: &Ops) -> Result<(Listed<States>, Sizes)
     Ok((states, counts))
 }
 
-// The first queues of a plan: the inputs' items move there, and the others are empty.
-fn first_queues(alloc: Global, raw: &RawPlan, inputs: Lines) -> Result<Lines, NoMemory>
+/// The first queues of a plan: the inputs' items move there, and the others are empty.
+pub fn first_queues(alloc: Global, raw: &RawPlan, inputs: Lines) -> Result<Lines, NoMemory>
     ensures { IfOk result (λ queues. queues ≡ replicate (length raw.now.outputs) [] ++ (inputs ++ replicate (length raw.now.queues) [])) }
 {
     let mut queues = Lines::new(alloc);
@@ -79,9 +79,9 @@ fn add_empty(alloc: Global, queues: &mut Lines, count: usize) -> Result<(), NoMe
     Ok(())
 }
 
-// The tables, to which nothing was added.
+/// The tables, to which nothing was added.
 #[tactic(auto, using(work_code::proofs::Lists::copies))]
-fn first_tables(alloc: Global, decls: &TableDecls) -> Result<Tables, NoMemory>
+pub fn first_tables(alloc: Global, decls: &TableDecls) -> Result<Tables, NoMemory>
     ensures { IfOk result (λ tables. tables ≡ kept_tables decls.now (λ name. [])) }
 {
     let mut tables = Tables::new(alloc);

@@ -5,6 +5,7 @@ ghost use Rattle.brooklet_model.specs.Histories.{most_firings};
 ghost use Rattle.brooklet_step.specs.ByPlace.{joined_at};
 ghost use Rattle.brooklet_step.specs.Works.{GoesOn, IsEnabled, Steps};
 ghost use Rattle.brooklet_step.specs.Drained.{RunsOn};
+ghost use Rattle.river_plan.specs.Forms.{plan_form};
 ghost use Rattle.brooklet_step.specs.Reading.{IsPlaceRead, IsFront, CanFire, IsBlankOf, FiredOp};
 
 use crate::add::add_all;
@@ -14,7 +15,7 @@ use crate::machine::{Lines, Parts, Sizes};
 use crate::{Emit, ItemLists, States};
 use kern_rows::Line;
 use river_base::{Item, Items, NoMemory};
-use river_plan::Plan;
+use river_plan::{Plan, RawPlan};
 use std::alloc::Global;
 
 /// The most firings that are counted: 2^63 - 1.
@@ -178,7 +179,7 @@ fn fire_with(
     parts.stopped = true;
     let queue = parts.plan.reads_of(op as usize)[port as usize];
     let item = front(&mut parts.queues, queue);
-    fire_op(
+    fire_of(
         alloc,
         &parts.plan,
         op,
@@ -216,8 +217,8 @@ fn front(queues: &mut Lines, queue: usize) -> Item
     }
 }
 
-// What an operator gives for an item at one of its ports.
-fn fire_op(
+// What an operator of a plan gives for an item at one of its ports.
+fn fire_of(
     alloc: Global,
     plan: &Plan,
     op: u32,
@@ -231,7 +232,26 @@ fn fire_op(
     requires blank { IsBlankOf plan.now op out.old }
     ensures { OnOk result (FiredOp plan.now op port item states.old states.new out.new) }
 {
-    let kernel = &plan.raw().ops.at(op as usize).kernel;
+    fire_op(alloc, plan.raw(), op, port, item, states, out, spare)
+}
+
+/// What an operator gives for an item at one of its ports, of a plan that is given by its lists. Lists that earlier firings used are
+/// used again. Where there is no memory, nothing is said of the states and the lists.
+pub fn fire_op(
+    alloc: Global,
+    raw: &RawPlan,
+    op: u32,
+    port: u32,
+    item: Item,
+    states: &mut States,
+    out: &mut Emit,
+    spare: &mut Spare,
+) -> Result<(), NoMemory>
+    requires can { CanFire (plan_form raw.now) op port item states.old }
+    requires blank { IsBlankOf (plan_form raw.now) op out.old }
+    ensures { OnOk result (FiredOp (plan_form raw.now) op port item states.old states.new out.new) }
+{
+    let kernel = &raw.ops.at(op as usize).kernel;
     fire_again(alloc, kernel, port, item, states, out, spare)
 }
 

@@ -1,5 +1,6 @@
 -- Several classes that a seat holds: what a put and a take make of them.
 use Rattle.std.proofs.Common.{◌≡◌, ℕ, ◌<◌, ◌≤◌, Bool, cond, not, Some, List, [], ◌∷◌, ◌++◌, length, drop, reverse, sym, refl, ap, ◌∙◌, subst, append_assoc, eq-eqb, ne_eqb, inl, inr, arith}
+use Rattle.std.specs.Prelude.{slice_get}
 use Rattle.std.proofs.lemmas.List.{reverse-append, append-nil, map-append, drop_all}
 use Rattle.std.proofs.lemmas.List.Elements.{All-nil, All-cons, All-append}
 use lib.ListN.{get_elem?}
@@ -7,12 +8,13 @@ use Rattle.class_locks.specs.declared.log.LogEntry.{LogEntry}
 use Rattle.class_locks.specs.declared.view.View.{View}
 use Rattle.class_locks.specs.declared.view.Held.{Held}
 use Rattle.class_locks.specs.declared.view.Claim.{Claim}
+use Rattle.class_locks.specs.declared.view.Tried.{Tried}
 use Rattle.class_locks.specs.Logs.{Holding}
 use Rattle.class_locks.specs.Logs.{part}
 use Rattle.class_locks.specs.Rule.{IsLogged}
 use Rattle.class_locks.specs.Views.{Has, own, Took, find_held, without, claims_of, log_length, with_class, tried, after_put}
 use Rattle.class_locks.specs.Seats.{MayPut, IsAbove}
-use Rattle.class_locks.specs.Piles.{Piled, AllBelow, Matches, IsPile, gained, HasLooked, HasTaken, HasPut}
+use Rattle.class_locks.specs.Piles.{Piled, AllBelow, Matches, IsPile, gained, HasLooked, HasTaken, HasPut, HasMoreTries, FoundTaken}
 use Rattle.class_locks.proofs.Lists.{at_one}
 
 -- CLASSES THAT DESCEND
@@ -145,3 +147,43 @@ module _ (v w : View) (done : List ℕ) (items : List Piled) (t : HasTaken done 
     parts = p.parts ∙ (ap (λ (y : View). y.parts) e ∙ t.looked.parts);
     claims = p.claims ∙ (ap (λ (y : View). y.claims ++ gained (reverse items) y.held) e ∙ (ap (λ (l : List Claim). w.claims ++ l) t.as_taken ∙ (append-nil w.claims ∙ t.looked.claims)));
   }
+
+-- TRIES
+
+-- no try came
+pub none_tried : (v : View) → HasMoreTries v v
+none_tried v = record { more = []; takes = sym (append-nil v.takes) }
+
+-- one try more
+one_tried : (v u w : View) (t : Tried) → (m : HasMoreTries v u) → w.takes ≡ u.takes ++ t ∷ [] → w.takes ≡ v.takes ++ (m.more ++ t ∷ [])
+one_tried v u w t m e = e ∙ (ap (λ (l : List Tried). l ++ t ∷ []) m.takes ∙ append_assoc v.takes m.more (t ∷ []))
+
+-- a try that found its class free
+pub took_tried : (v u w : View) (c : ℕ) (x : Holding) → HasMoreTries v u → w ≡ with_class c x u → HasMoreTries v w
+took_tried v u w c x m e =
+    let t : Tried = record { class = c; found = 0 } in
+    record { more = m.more ++ t ∷ []; takes = one_tried v u w t m (ap (λ (y : View). y.takes) e) }
+
+-- a try that found its class taken, and puts after it
+busy_takes : (v u w z : View) (c : ℕ) → (m : HasMoreTries v u) → w ≡ tried c 1 u → z.takes ≡ w.takes → z.takes ≡ v.takes ++ (m.more ++ record { class = c; found = 1 } ∷ [])
+busy_takes v u w z c m e p = p ∙ one_tried v u w (record { class = c; found = 1 }) m (ap (λ (y : View). y.takes) e)
+
+pub busy_tried : (v u w z : View) (c : ℕ) → HasMoreTries v u → w ≡ tried c 1 u → z.takes ≡ w.takes → HasMoreTries v z
+busy_tried v u w z c m e p = record { more = m.more ++ record { class = c; found = 1 } ∷ []; takes = busy_takes v u w z c m e p }
+
+last_tried : (ts : List Tried) (t : Tried) → slice_get (ts ++ t ∷ []) (length ts) ≡ Some t
+last_tried [] t = refl
+last_tried (s ∷ ts) t = last_tried ts t
+
+-- tells that it was taken
+pub busy_found : (classes : List ℕ) (i : ℕ) (v u w z : View) (c : ℕ) → slice_get classes i ≡ Some c → HasMoreTries v u → w ≡ tried c 1 u → z.takes ≡ w.takes
+    → FoundTaken classes v z
+busy_found classes i v u w z c g m e p = record {
+  more = m.more ++ record { class = c; found = 1 } ∷ [];
+  takes = busy_takes v u w z c m e p;
+  class = c;
+  place = i;
+  wanted = g;
+  at = length m.more;
+  found = last_tried m.more (record { class = c; found = 1 });
+}

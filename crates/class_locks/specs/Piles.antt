@@ -1,9 +1,10 @@
 -- Several classes that a seat holds at once, with their cells.
-use Rattle.std.specs.Prelude.{◌≡◌, ℕ, ◌<◌, All, List, [], ◌∷◌, ◌++◌, length, map, drop, reverse}
+use Rattle.std.specs.Prelude.{◌≡◌, ℕ, ◌<◌, All, Some, List, [], ◌∷◌, ◌++◌, length, map, drop, reverse, slice_get}
 use Rattle.class_locks.specs.declared.log.LogEntry.{LogEntry}
 use Rattle.class_locks.specs.declared.view.View.{View}
 use Rattle.class_locks.specs.declared.view.Held.{Held}
 use Rattle.class_locks.specs.declared.view.Claim.{Claim}
+use Rattle.class_locks.specs.declared.view.Tried.{Tried}
 use Rattle.class_locks.specs.Logs.{Holding}
 use Rattle.class_locks.specs.Views.{Belong, claims_of}
 use Rattle.class_locks.specs.Rule.{IsLogged}
@@ -64,3 +65,18 @@ pub record HasPut (v w : View) (items : List Piled) : Type 0 where
   pub parts : w.parts ≡ v.parts
   pub rests : w.held ≡ []
   pub claims : w.claims ≡ v.claims ++ gained (reverse items) v.held
+
+-- the list of takes has more tries
+pub record HasMoreTries (v w : View) : Type 0 where
+  pub more : List Tried
+  pub takes : w.takes ≡ v.takes ++ more
+
+-- since the view v a try found one of these classes taken
+pub record FoundTaken (classes : List ℕ) (v w : View) : Type 0 where
+  pub more : List Tried
+  pub takes : w.takes ≡ v.takes ++ more
+  pub class : ℕ
+  pub place : ℕ
+  pub wanted : slice_get classes place ≡ Some class
+  pub at : ℕ
+  pub found : slice_get more at ≡ Some (record { class = class; found = 1 })

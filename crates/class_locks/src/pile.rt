@@ -1,7 +1,7 @@
 // Several classes at once: all of them, or none.
 ghost use Rattle.std.specs.Prelude.{◌≡◌, ◌≤◌, ◌<◌, [], All, length, OnOk, OnErr, vec_capacity};
 ghost use Rattle.std.specs.List.Sorted.{IsStrictlyIncreasing};
-ghost use Rattle.class_locks.specs.Piles.{IsPile, HasLooked, HasTaken, HasPut};
+ghost use Rattle.class_locks.specs.Piles.{IsPile, HasLooked, HasTaken, HasPut, HasMoreTries, FoundTaken};
 
 use crate::Cell;
 use crate::seat::{Busy, Seat};
@@ -20,6 +20,8 @@ pub fn take_all(seat: &mut Seat, classes: &[u32], pile: &mut Pile) -> Result<(),
     ensures lot { seat.new.lot ≡ seat.old.lot }
     ensures ok { OnOk result (HasTaken classes.now seat.old.view seat.new.view pile.new.items) }
     ensures busy { OnErr result (HasLooked seat.old.view seat.new.view × (seat.new.view.held ≡ []) × (pile.new.items ≡ [])) }
+    ensures tries { HasMoreTries seat.old.view seat.new.view }
+    ensures found { OnErr result (FoundTaken classes.now seat.old.view seat.new.view) }
 {
     for class in classes {
         match seat.try_take(*class) {
@@ -39,6 +41,7 @@ pub fn put_all(seat: &mut Seat, pile: &mut Pile)
     ensures lot { seat.new.lot ≡ seat.old.lot }
     ensures put { HasPut seat.old.view seat.new.view pile.old.items }
     ensures blank { pile.new.items ≡ [] }
+    ensures takes { seat.new.view.takes ≡ seat.old.view.takes }
 {
     while let Some((class, cell)) = pile.pop() {
         seat.put(class, cell);

@@ -1,11 +1,11 @@
 // Items in a line.
-ghost use Rattle.std.specs.Prelude.{◌≡◌, ◌↔◌, [], ◌∷◌, ◌++◌, length, IsTrue, OnOk, MatchOption};
+ghost use Rattle.std.specs.Prelude.{◌≡◌, ◌↔◌, ◌<◌, [], ◌∷◌, ◌++◌, length, slice_index_or, IsTrue, IfOk, OnOk, MatchOption};
 ghost use Rattle.river_base.specs.declared.item.Flat.TheVariants.{One};
 ghost use Rattle.river_base.specs.declared.item.Item.TheVariants.{Flat as FlatItem};
 ghost use Rattle.kern_rows.specs.Even.{row_items};
 
 use crate::even::EvenRows;
-use river_base::{Flat, Item, Items, NoMemory, Row};
+use river_base::{Duplicate, Flat, Item, Items, NoMemory, Row};
 use std::alloc::Global;
 use std::collections::VecDeque;
 use std::marker::Model;
@@ -69,6 +69,27 @@ impl Line {
         ensures { IsTrue result ↔ (length self.now ≡ 0) }
     {
         self.rows.len() == 0 && self.others.is_empty()
+    }
+
+    /// Whether there is an item at a place, from 0.
+    pub fn has(&self, place: usize) -> bool
+        ensures { IsTrue result ↔ (place < length self.now) }
+    {
+        let rows = self.rows.len();
+        place < rows || place - rows < self.others.len()
+    }
+
+    /// A copy of the item at a place, from 0.
+    pub fn copy_at(&self, alloc: Global, place: usize) -> Result<Item, NoMemory>
+        requires { place < length self.now }
+        ensures { IfOk result (λ item. (d : Item) → item ≡ slice_index_or self.now place d) }
+    {
+        let rows = self.rows.len();
+        if place < rows {
+            let row = Row::from_slice(self.rows.at(place));
+            return Ok(Item::Flat(Flat::One(row)));
+        }
+        self.others[place - rows].copy(alloc)
     }
 
     /// The rows in front, and the items behind them.

@@ -32,7 +32,7 @@ kinds_in [] q = refl
 kinds_in (d ∷ ds) q = found (name_eq d.name q) (rows 0) d.kind (decl_kinds ds) (place (decl_names ds) q) (kind_in ds q) (kinds_in ds q)
 
 -- the type at the place of a name is the type of its queue
-kind_place : (p : PlanForm) (q : Name) → kind_at (queue_kinds p) (place (queue_names p) q) ≡ kind_of (all_decls p) q
+pub kind_place : (p : PlanForm) (q : Name) → kind_at (queue_kinds p) (place (queue_names p) q) ≡ kind_of (all_decls p) q
 kind_place p q =
     ap (λ ks. slice_index_or ks (place (queue_names p) q) (rows 0)) (sym kinds) ∙ ap (λ ws. slice_index_or (decl_kinds (all_decls p)) (place ws q) (rows 0)) (sym names) ∙ kinds_in (all_decls p) q
   where

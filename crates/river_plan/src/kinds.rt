@@ -11,7 +11,7 @@ use river_kernels::VarKind;
 use std::alloc::Global;
 
 /// The types of the queues: the outputs, the inputs, the others.
-pub(crate) fn queue_kinds(alloc: Global, raw: &RawPlan) -> Result<Listed<QueueType>, NoMemory>
+pub fn queue_kinds(alloc: Global, raw: &RawPlan) -> Result<Listed<QueueType>, NoMemory>
     ensures { IfOk result (λ kinds. kinds ≡ queue_kinds (plan_form raw.now)) }
 {
     let mut kinds = Listed::new(alloc);

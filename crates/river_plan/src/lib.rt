@@ -21,6 +21,7 @@ mod wiring;
 
 pub use fault::{Named, PlanFault};
 pub use judge::check;
+pub use kinds::queue_kinds;
 pub use op::{Names, Op, Ops};
 pub use plan::{Decl, Decls, RawPlan, TableDecl, TableDecls};
 pub use river_base::{FlatType, QueueType};

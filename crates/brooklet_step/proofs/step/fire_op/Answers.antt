@@ -1,18 +1,25 @@
+use Rattle.std.proofs.Common.{refl}
 use Rattle.std.proofs.lemmas.Result.{on_ok_weaker}
 use Rattle.river_kernels.specs.Kern.{kern_of}
-use Rattle.brooklet_step.proofs.NextLemmas.{kernel_at, fire_applies, fired_op}
+use Rattle.river_plan.specs.Forms.{plan_form}
+use Rattle.brooklet_step.proofs.NextLemmas.{kernel_at, op_there, fire_applies, fired_op}
 use Rattle.brooklet_step.proofs.step.fire_op.Goals as goal
+
+pub at-requires : goal.at-requires
+at-requires c = op_there c.args.raw.now (plan_form c.args.raw.now) c.args.op c.requires.can.op refl c.requires.can.op_is
 
 pub fire_again-requires : goal.fire_again-requires
 fire_again-requires c =
     let can = c.requires.can in
-    let k = kernel_at c.raw.result.now c.args.plan.now c.args.op c.at.result.now can.op c.raw.ensures.raw can.op_is (c.at.ensures c.at.result.now) in
-    fire_applies c.args.plan.now c.args.op c.args.port c.args.item c.args.states.now c.args.out.now (kern_of c.at.result.now.kernel) can k (c.requires.blank.blank can.op can.op_is)
+    let p = plan_form c.args.raw.now in
+    let k = kernel_at c.args.raw.now p c.args.op c.at.result.now can.op refl can.op_is (c.at.ensures c.at.result.now) in
+    fire_applies p c.args.op c.args.port c.args.item c.args.states.now c.args.out.now (kern_of c.at.result.now.kernel) can k (c.requires.blank.blank can.op can.op_is)
 
 pub returns : goal.returns
 returns c =
     let can = c.requires.can in
-    let k = kernel_at c.raw.result.now c.args.plan.now c.args.op c.at.result.now can.op c.raw.ensures.raw can.op_is (c.at.ensures c.at.result.now) in
+    let p = plan_form c.args.raw.now in
+    let k = kernel_at c.args.raw.now p c.args.op c.at.result.now can.op refl can.op_is (c.at.ensures c.at.result.now) in
     on_ok_weaker c.fire_again.result
-    (λ h. fired_op c.args.plan.now c.args.op c.args.port c.args.item c.args.states.now c.fire_again.new.states c.args.out.now c.fire_again.new.out (kern_of c.at.result.now.kernel) can k (c.requires.blank.blank can.op can.op_is) h)
+    (λ h. fired_op p c.args.op c.args.port c.args.item c.args.states.now c.fire_again.new.states c.args.out.now c.fire_again.new.out (kern_of c.at.result.now.kernel) can k (c.requires.blank.blank can.op can.op_is) h)
     c.fire_again.ensures

@@ -19,6 +19,7 @@ loop-class-preserved c =
       lot = c.put.ensures.lot ∙ inv.lot;
       seats = ap (λ (v : View). v.seats) put ∙ inv.seats;
       starts = ap (λ (v : View). v.starts) put ∙ inv.starts;
+      takes = ap (λ (v : View). v.takes) put ∙ inv.takes;
       parts = ap (λ (v : View). v.parts) put ∙ inv.parts;
       pile = subst (λ (v : View). IsPile v c.pop.new.self.items) (sym put) done.pile;
       claims =

@@ -7,6 +7,7 @@ invariant-loop-class l = record {
   lot : l.seat.lot ≡ l.initial.seat.lot;
   seats : l.seat.view.seats ≡ l.initial.seat.view.seats;
   starts : l.seat.view.starts ≡ l.initial.seat.view.starts;
+  takes : l.seat.view.takes ≡ l.initial.seat.view.takes;
   parts : l.seat.view.parts ≡ l.initial.seat.view.parts;
   pile : IsPile l.seat.view l.pile.items;
   claims : l.seat.view.claims ++ gained (reverse l.pile.items) l.seat.view.held ≡ l.initial.seat.view.claims ++ gained (reverse l.initial.pile.items) l.initial.seat.view.held;

@@ -1,10 +1,11 @@
 use Rattle.std.proofs.Common.{rules, ◌≡◌, ◌<◌, ◌+◌, suc, ℕ, List, [], ◌∷◌, ◌++◌, length, take, take-suc, get_or, refl, sym, ap, ◌∙◌, subst, arith}
 use Rattle.std.specs.Prelude.{slice_index}
 use Rattle.std.proofs.lemmas.List.{take_all, length-append}
+use Rattle.std.proofs.lemmas.Option.{slice_get-get_or}
 use Rattle.class_locks.specs.declared.view.View.{View}
 use Rattle.class_locks.specs.declared.view.Held.{Held}
 use Rattle.class_locks.specs.Piles.{Piled, AllBelow, HasTaken}
-use Rattle.class_locks.proofs.Piles.{above_pile, none_taken, taken_more, tried_pile, put_back}
+use Rattle.class_locks.proofs.Piles.{above_pile, none_taken, taken_more, tried_pile, put_back, none_tried, took_tried, busy_tried, busy_found}
 use Rattle.class_locks.proofs.pile.take_all.Goals as goal
 
 pub loop-class-init : goal.loop-class-init
@@ -13,6 +14,7 @@ loop-class-init c =
     record {
       lot = refl;
       taken = subst (λ (ps : List Piled). HasTaken [] seat seat ps) (sym c.requires.blank) (none_taken seat c.requires.rests);
+      tries = none_tried seat;
       below = λ lt. subst (λ (hs : List Held). AllBelow (slice_index c.args.classes.now 0) hs) (sym c.requires.rests) tt;
       count = ap length c.requires.blank;
       room = c.requires.room;
@@ -60,6 +62,7 @@ loop-class-preserved c =
     record {
       lot = c.try_take.ensures.lot ∙ inv.lot;
       taken = subst (λ (done : List ℕ). HasTaken done c.args.seat.now.view c.try_take.new.self.view c.push_reserved.new.self.items) (sym more) taken;
+      tries = took_tried c.args.seat.now.view c.loop-class.seat.view c.try_take.new.self.view x c.in-Ok.cell inv.tries c.in-Ok.ensures.ok.0;
       below = λ lt'. subst (λ (hs : List Held). AllBelow (slice_index xs (i + 1)) hs) (sym held) (c.requires.ascend i lt', below);
       count = omega (arith, n, m, count);
       room = search rules;
@@ -68,3 +71,15 @@ loop-class-preserved c =
 pub returns-clause-ok : goal.returns-clause-ok
 returns-clause-ok c =
     subst (λ (done : List ℕ). HasTaken done c.args.seat.now.view c.loop-class.seat.view c.loop-class.pile.items) (take_all c.loop-class.class-index c.args.classes.now c.loop-class-test.false) c.loop-class.invariant.taken
+
+pub returns-in-Err-clause-tries : goal.returns-in-Err-clause-tries
+returns-in-Err-clause-tries c =
+    let x = get_or c.args.classes.now c.loop-class.class-index 0 in
+    busy_tried c.args.seat.now.view c.loop-class.seat.view c.try_take.new.self.view c.put_all.new.seat.view x c.loop-class.invariant.tries c.in-Err.ensures.busy.0 c.put_all.ensures.takes
+
+pub returns-in-Err-clause-found : goal.returns-in-Err-clause-found
+returns-in-Err-clause-found c =
+    let i = c.loop-class.class-index in
+    let xs = c.args.classes.now in
+    busy_found xs i c.args.seat.now.view c.loop-class.seat.view c.try_take.new.self.view c.put_all.new.seat.view (get_or xs i 0)
+    (slice_get-get_or xs i 0 c.loop-class-test.true) c.loop-class.invariant.tries c.in-Err.ensures.busy.0 c.put_all.ensures.takes

@@ -1,0 +1,10 @@
+pub mod AddLemmas
+pub mod BundleLemmas
+pub mod Looking
+pub mod PassLemmas
+pub mod PortLemmas
+pub mod SeatLemmas
+pub mod TaskLemmas
+pub mod TurnLemmas
+pub mod Turned
+pub mod WordLemmas

@@ -1,0 +1,7 @@
+pub mod Adds
+pub mod Bundles
+pub mod Fired
+pub mod Pops
+pub mod Ports
+pub mod Tasks
+pub mod Turns

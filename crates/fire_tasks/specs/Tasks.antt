@@ -1,0 +1,79 @@
+-- What a task keeps of itself.
+use Rattle.std.specs.Prelude.{◌≡◌, ℕ, ℤ, min, ◌+◌, ◌^◌, ◌<◌, slice_index_or, ◌∷◌, Some, List, [], length, map, slice_get}
+use Rattle.river_plan.specs.Forms.{OpForm, PlanForm}
+use Rattle.brooklet_model.specs.Fire.{first_kept}
+use Rattle.brooklet_model.specs.Histories.{most_firings}
+use Rattle.brooklet_model.specs.Typed.{IsWordOf}
+use Rattle.brooklet_model.specs.Words.{Word}
+use Rattle.brooklet_step.specs.Given.{FitState, StandsAfter}
+use Rattle.brooklet_step.specs.Took.{IsBlank}
+use Rattle.class_locks.specs.declared.view.View.{View}
+use Rattle.fire_tasks.specs.declared.task.Task.{Task}
+use Rattle.fire_tasks.specs.Adds.{AreHomes, added, logs_at}
+use Rattle.fire_tasks.specs.Fired.{Seen, HasFired, IsHeldAs, kinds_in}
+use Rattle.fire_tasks.specs.Ports.{received_in, sent_in, pending_in, InEnd, OutEnd, in_ends, out_ends, received_count, sent_count, IsIdle, RefusedAll, AllReceived}
+
+-- what the laws see of a task
+abbrev pub seen : Task → Seen
+seen t = record { received = received_in t.ins; sent = sent_in t.outs; pending = pending_in t.pending; bad = t.bad }
+
+-- what the states of the task stand for, and that they fit: it can fire on any item of its ports' types
+pub record Stands (p : PlanForm) (op : OpForm) (t : Task) (is : Word) : Type 0 where
+  pub fit : FitState op.kernel (kinds_in p op) t.states
+  pub after : (w : Word) → IsWordOf (kinds_in p op) w → IsHeldAs (kinds_in p op) w is
+      → StandsAfter op.kernel (kinds_in p op) (first_kept op.kernel) t.states w
+
+-- the task of an operator of a plan, which added these rows, table by table: it fired on some items, and its states stand for those
+-- after them
+pub record IsTask (p : PlanForm) (adds : ℕ → List (List ℤ)) (t : Task) : Type 0 where
+  pub op : OpForm
+  pub op_is : slice_get p.ops t.op ≡ Some op
+  pub ins : length t.ins ≡ length op.reads
+  pub kinds : t.kinds ≡ kinds_in p op
+  pub outs : length t.outs ≡ length op.writes
+  pub pending : length t.pending ≡ length op.writes
+  pub blank : IsBlank op.kernel t.out
+  pub homes : AreHomes p t.op t.tables t.classes
+  pub word : Word
+  pub count : t.count ≡ min most_firings (length word)
+  pub fired : HasFired p op adds (seen t) word
+  pub stands : Stands p op t word
+
+-- what it added is told by the logs as a seat knows them
+abbrev pub IsTaskAt : PlanForm → View → Task → Type 0
+IsTaskAt p v t = IsTask p (added p (logs_at v t.op) t.op) t
+
+-- nothing is pending but what rings refused; and where nothing is pending, every item known to be there was received
+pub record Waits (t : Task) : Type 0 where
+  pub refused : RefusedAll t.outs t.pending
+  pub received : IsIdle t.pending → AllReceived t.ins
+
+-- nothing is pending, and every item known to be there was received
+pub record IsDone (t : Task) : Type 0 where
+  pub idle : IsIdle t.pending
+  pub received : AllReceived t.ins
+
+-- which operator it is, and which ends it has
+pub record TaskEnds : Type 0 where
+  pub op : ℕ
+  pub ins : List InEnd
+  pub outs : List OutEnd
+
+abbrev pub ends_of : Task → TaskEnds
+ends_of t = record { op = t.op; ins = in_ends t.ins; outs = out_ends t.outs }
+
+abbrev pub all_ends : List Task → List TaskEnds
+all_ends ts = map ends_of ts
+
+-- how many items the task took and sent
+abbrev pub moves : Task → ℕ
+moves t = received_count t.ins + sent_count t.outs
+
+-- and all tasks together
+abbrev pub all_moves : List Task → ℕ
+all_moves [] = 0
+all_moves (t ∷ ts) = moves t + all_moves ts
+
+-- each task has fewer than 2^32 ports
+pub record AreNarrow (ts : List Task) : Type 0 where
+  pub each : (i : ℕ) (d : Task) → i < length ts → length (slice_index_or ts i d).ins < 2 ^ 32

@@ -1,0 +1,67 @@
+// The rows of a firing go to the cells of their tables.
+ghost use Rattle.std.specs.Prelude.{◌≡◌, ◌<◌, ◌++◌, [], length, map, replicate, Some, OnOk, OnErr, slice_get, slice_set};
+ghost use Rattle.std.specs.List.Sorted.{IsStrictlyIncreasing};
+ghost use Rattle.river_base.specs.Places.{list_at};
+ghost use Rattle.class_locks.specs.Logs.{TakesRows};
+ghost use Rattle.class_locks.specs.Piles.{Piled};
+ghost use Rattle.fire_tasks.specs.Turns.{CanAdd, HaveGained, classes_of, grown, logged, with_entry};
+
+use crate::TablePort;
+use brooklet_step::RowLists;
+use class_locks::Pile;
+use river_base::{Listed, NoMemory, Rows};
+use std::alloc::Global;
+use std::mem::replace;
+
+/// Adds the rows of a firing of an operator to the cells of its tables: an entry for each table with rows. The lists of rows are empty
+/// afterwards; where there is no memory some may be added.
+pub fn add_rows(
+    alloc: Global,
+    op: u32,
+    tables: &Listed<TablePort>,
+    adds: &mut RowLists,
+    pile: &mut Pile,
+) -> Result<(), NoMemory>
+    requires ascend { IsStrictlyIncreasing (classes_of pile.old.items) }
+    requires many { length adds.old ≡ length tables.now }
+    requires can { CanAdd tables.now (list_at adds.old) pile.old.items }
+    ensures gained { HaveGained op pile.old.items pile.new.items }
+    ensures logged { OnOk result (pile.new.items ≡ grown (logged op (classes_of pile.old.items) tables.now (list_at adds.old)) pile.old.items) }
+    ensures blank { OnOk result (adds.new ≡ replicate (length adds.old) []) }
+{
+    for port in 0..tables.len() {
+        add_at(alloc, op, *tables.at(port), adds.at_mut(port), pile)?;
+    }
+    Ok(())
+}
+
+// Adds rows to a table, where there are any; none is left in the list.
+fn add_at(
+    alloc: Global,
+    op: u32,
+    to: TablePort,
+    rows: &mut Rows,
+    pile: &mut Pile,
+) -> Result<(), NoMemory>
+    requires { (x : Piled) × (slice_get pile.old.items to.place ≡ Some x) × TakesRows x.1.kinds to.table rows.old }
+    ensures ok { (x : Piled) → slice_get pile.old.items to.place ≡ Some x → OnOk result (pile.new.items ≡ slice_set pile.old.items to.place (with_entry op to.table rows.old x)) }
+    ensures blank { OnOk result (rows.new ≡ []) }
+    ensures err { OnErr result (pile.new.items ≡ pile.old.items) }
+{
+    if rows.is_empty() {
+        return Ok(());
+    }
+    let moved = replace(rows, Rows::new(alloc));
+    put_entry(op, to, moved, pile)
+}
+
+// Adds rows to a table.
+fn put_entry(op: u32, to: TablePort, rows: Rows, pile: &mut Pile) -> Result<(), NoMemory>
+    requires some { rows ≡ [] → ⊥ }
+    requires takes { (x : Piled) × (slice_get pile.old.items to.place ≡ Some x) × TakesRows x.1.kinds to.table rows }
+    ensures ok { (x : Piled) → slice_get pile.old.items to.place ≡ Some x → OnOk result (pile.new.items ≡ slice_set pile.old.items to.place (with_entry op to.table rows x)) }
+    ensures err { OnErr result (pile.new.items ≡ pile.old.items) }
+{
+    let at = &mut pile[to.place];
+    at.1.add(op, to.table, rows)
+}

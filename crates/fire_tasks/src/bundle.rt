@@ -1,0 +1,185 @@
+// The tasks of one worker, at their seat.
+ghost use Rattle.std.specs.Prelude.{◌≡◌, ◌<◌, ◌↔◌, ℕ, [], length, IfOk, OnOk, OnErr, IsTrue, IsFalse, true, false};
+ghost use Rattle.river_plan.specs.Forms.{PlanForm, plan_form};
+ghost use Rattle.river_plan.specs.Valid.{IsPlan};
+ghost use Rattle.fire_tasks.specs.Bundles.{IsBundle, AreTasks, AreStuck, AreIdle, AllLooked, SameSeat, HasGone, HasSwept, HaveLooked};
+ghost use Rattle.fire_tasks.specs.Tasks.{IsDone, AreNarrow, all_ends};
+ghost use Rattle.fire_tasks.specs.Turns.{StillSits, LooksSame};
+
+use crate::Task;
+use crate::passing::{is_idle, pass_task};
+use crate::taking::first_ready;
+use class_locks::{Pile, Seat};
+use river_base::{Gate, Listed, NoMemory};
+use river_plan::RawPlan;
+use std::alloc::Global;
+
+/// The tasks of one worker, with the worker's seat at the locks. It is seen without its plan, so that it is fit for threads.
+#[derive(Drop)]
+pub struct Bundle {
+    pub alloc: Global,
+    pub tasks: Listed<Task>,
+    pub seat: Seat,
+    /// Room for the cells of a task's classes. Between two takes there is none in it.
+    pub pile: Pile,
+    /// How often a pass looks at its tasks, at most, for something that moves.
+    pub looks: u32,
+    /// Whether a pass of the last round moved something.
+    pub moved: bool,
+    /// Whether a pass was refused.
+    pub refused: bool,
+}
+
+#[tactic(auto, using(crate::proofs::BundleLemmas::passed_first, crate::proofs::BundleLemmas::passed_all, crate::proofs::TurnLemmas::sits_then))]
+// A look at these tasks, one after another: each moves what it can.
+fn sweep<G: Gate>(
+    alloc: Global,
+    plan: &RawPlan,
+    tasks: &mut Listed<Task>,
+    seat: &mut Seat,
+    pile: &mut Pile,
+    gate: &G,
+) -> Result<bool, NoMemory>
+    requires valid { IsPlan (plan_form plan.now) }
+    requires tasks { AreTasks (plan_form plan.now) seat.old.view tasks.old }
+    requires rests { seat.old.view.held ≡ [] }
+    requires blank { pile.old.items ≡ [] }
+    ensures lot { seat.new.lot ≡ seat.old.lot }
+    ensures sits { StillSits seat.old.view seat.new.view }
+    ensures blank { pile.new.items ≡ [] }
+    ensures swept { IfOk result (HasSwept (plan_form plan.now) seat.old.view seat.new.view tasks.old tasks.new) }
+{
+    let mut moved = false;
+    for place in 0..tasks.len() {
+        if pass_task(alloc, plan, tasks.at_mut(place), seat, pile, gate)? {
+            moved = true;
+        }
+    }
+    Ok(moved)
+}
+
+#[tactic(auto, using(crate::proofs::BundleLemmas::swept_none, crate::proofs::BundleLemmas::swept_more, crate::proofs::BundleLemmas::swept_then, crate::proofs::TurnLemmas::sits_then))]
+// A pass over these tasks. Where nothing moves it looks again, at most so often, since other workers send and take meanwhile.
+fn pass_all<G: Gate>(
+    alloc: Global,
+    plan: &RawPlan,
+    tasks: &mut Listed<Task>,
+    looks: u32,
+    seat: &mut Seat,
+    pile: &mut Pile,
+    gate: &G,
+) -> Result<bool, NoMemory>
+    requires valid { IsPlan (plan_form plan.now) }
+    requires tasks { AreTasks (plan_form plan.now) seat.old.view tasks.old }
+    requires rests { seat.old.view.held ≡ [] }
+    requires blank { pile.old.items ≡ [] }
+    ensures lot { seat.new.lot ≡ seat.old.lot }
+    ensures sits { StillSits seat.old.view seat.new.view }
+    ensures blank { pile.new.items ≡ [] }
+    ensures swept { IfOk result (HasSwept (plan_form plan.now) seat.old.view seat.new.view tasks.old tasks.new) }
+{
+    for _look in 1..looks {
+        if sweep(alloc, plan, tasks, seat, pile, gate)? {
+            return Ok(true);
+        }
+    }
+    let moved = sweep(alloc, plan, tasks, seat, pile, gate)?;
+    Ok(moved)
+}
+
+// Whether a task has nothing pending and received every item known to be there. It looks at its rings.
+fn is_done(task: &mut Task) -> bool
+    ensures same { LooksSame task.old task.new }
+    ensures done { IsTrue result ↔ IsDone task.new }
+{
+    match first_ready(&mut task.ins) {
+        Some(_) => false,
+        None => is_idle(&task.pending),
+    }
+}
+
+// Whether all tasks are done. It looks at their rings.
+#[tactic(auto, using(crate::proofs::BundleLemmas::looked_none))]
+fn all_done(tasks: &mut Listed<Task>) -> bool
+    ensures same { AllLooked tasks.old tasks.new }
+    ensures idle { IsTrue result ↔ AreIdle tasks.new }
+{
+    for place in 0..tasks.len() {
+        if !is_done(tasks.at_mut(place)) {
+            return false;
+        }
+    }
+    true
+}
+
+// The most classes that one of these tasks has.
+fn most_classes(tasks: &Listed<Task>) -> usize {
+    let mut most = 0;
+    for task in tasks.as_slice() {
+        most = most.max(task.classes.len());
+    }
+    most
+}
+
+impl Bundle {
+    /// The bundle of these tasks at this seat, with room for the cells of each task's classes. A pass of it looks at its tasks at most
+    /// so often.
+    pub fn new(
+        alloc: Global,
+        tasks: Listed<Task>,
+        seat: Seat,
+        looks: u32,
+    ) -> Result<Bundle, NoMemory>
+        ensures parts { IfOk result (λ b. (b.tasks ≡ tasks) × (b.seat ≡ seat) × (b.looks ≡ looks)) }
+        ensures fresh { IfOk result (λ b. (b.pile.items ≡ []) × (b.moved ≡ false) × (b.refused ≡ false)) }
+    {
+        let pile = Pile::with_capacity(alloc, most_classes(&tasks))?;
+        Ok(Bundle {
+            alloc,
+            tasks,
+            seat,
+            pile,
+            looks,
+            moved: false,
+            refused: false,
+        })
+    }
+
+    /// A pass over the tasks: each sends what its rings take, then takes items under the locks of its classes and fires on them. It
+    /// says whether anything moved; where nothing did, each task tells why. `plan` is the plan of the bundle's frame, by its lists. It
+    /// does not wait. Where memory is wanting, every class that was held is put back, and the bundle counts as refused.
+    pub fn pass<G: Gate>(&mut self, plan: &RawPlan, gate: &G) -> Result<bool, NoMemory>
+        requires valid { IsPlan (plan_form plan.now) }
+        requires bundle { IsBundle (plan_form plan.now) self.old }
+        requires calm { self.old.refused ≡ false }
+        ensures bundle { IsBundle (plan_form plan.now) self.new }
+        ensures seat { SameSeat self.old self.new }
+        ensures told { self.new.moved ≡ self.old.moved }
+        ensures gone { IfOk result (HasGone self.old self.new) }
+        ensures stuck { IfOk result (λ moved. IsFalse moved → AreStuck self.old.seat.view self.new.seat.view self.new.tasks) }
+        ensures calm { OnOk result (self.new.refused ≡ false) }
+        ensures refused { OnErr result (self.new.refused ≡ true) }
+    {
+        self.refused = true;
+        let moved = pass_all(
+            self.alloc,
+            plan,
+            &mut self.tasks,
+            self.looks,
+            &mut self.seat,
+            &mut self.pile,
+            gate,
+        )?;
+        self.refused = false;
+        Ok(moved)
+    }
+
+    /// Whether no task has a pending item and each received every item known to be sent to it. It looks at the rings and moves nothing;
+    /// it takes no memory.
+    pub fn idle(&mut self) -> bool
+        ensures same { HaveLooked self.old self.new }
+        ensures idle { IsTrue result ↔ AreIdle self.new.tasks }
+    {
+        all_done(&mut self.tasks)
+    }
+}

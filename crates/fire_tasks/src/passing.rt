@@ -1,0 +1,170 @@
+// Turns of a task.
+ghost use Rattle.std.specs.Prelude.{◌≡◌, ◌<◌, ◌^◌, None, [], length, slice_index_or, IsTrue, IsFalse, ◌↔◌, IfOk};
+ghost use Rattle.river_plan.specs.Forms.{plan_form};
+ghost use Rattle.river_plan.specs.Valid.{IsPlan};
+ghost use Rattle.fire_tasks.specs.Ports.{IsIdle, RefusedAll, Sent, SentAt, AllReceived, known_of};
+ghost use Rattle.fire_tasks.specs.Tasks.{IsTaskAt};
+ghost use Rattle.fire_tasks.specs.Turns.{IsSeatOf, HasTurned, HasTried, StillSits};
+
+use crate::ports::send_at;
+use crate::taking::{first_ready, take_at};
+use crate::{Outlet, Task};
+use brooklet_step::ItemLists;
+use class_locks::{Pile, Seat, put_all, take_all};
+use river_base::{Gate, Listed, NoMemory};
+use river_plan::RawPlan;
+use std::alloc::Global;
+
+/// How many items a task takes, at most, before the next one has its turn.
+const TURN: u32 = 64;
+
+/// Sends what is pending at each port, as far as there is room; says whether an item was sent.
+#[tactic(auto, using(crate::proofs::PassLemmas::to_first, crate::proofs::PassLemmas::to_all))]
+pub fn send_all(outs: &mut Listed<Outlet>, pending: &mut ItemLists) -> Result<bool, NoMemory>
+    requires { length pending.old ≡ length outs.old }
+    ensures sent { IfOk result (Sent outs.old pending.old outs.new pending.new) }
+    ensures stuck { IfOk result (λ moved. IsFalse moved → RefusedAll outs.new pending.new) }
+{
+    let mut moved = false;
+    for port in 0..pending.len() {
+        if send_port(outs, pending, port)? {
+            moved = true;
+        }
+    }
+    Ok(moved)
+}
+
+// Sends what is pending at a port, as far as there is room.
+#[tactic(auto, using(crate::proofs::PassLemmas::goes_first, crate::proofs::PassLemmas::goes_next, crate::proofs::PassLemmas::goes_after))]
+fn send_port(
+    outs: &mut Listed<Outlet>,
+    pending: &mut ItemLists,
+    port: usize,
+) -> Result<bool, NoMemory>
+    requires outs { port < length outs.old }
+    requires pending { port < length pending.old }
+    ensures { IfOk result (SentAt port outs.old pending.old outs.new pending.new) }
+{
+    if !send_at(outs, pending, port)? {
+        return Ok(false);
+    }
+    for _more in 0..pending.at(port).len() {
+        if !send_at(outs, pending, port)? {
+            return Ok(true);
+        }
+    }
+    Ok(true)
+}
+
+/// Whether nothing is pending.
+#[tactic(auto, using(crate::proofs::PortLemmas::idle_all))]
+pub fn is_idle(pending: &ItemLists) -> bool
+    ensures { IsTrue result ↔ IsIdle pending.now }
+{
+    pending.as_slice().iter().all(|items| items.is_empty())
+}
+
+// Takes the item at a port under the locks of the task's classes, all of them or none. It says whether they were there.
+fn take_locked<G: Gate>(
+    alloc: Global,
+    plan: &RawPlan,
+    task: &mut Task,
+    port: u32,
+    seat: &mut Seat,
+    pile: &mut Pile,
+    gate: &G,
+) -> Result<bool, NoMemory>
+    requires valid { IsPlan (plan_form plan.now) }
+    requires task { IsTaskAt (plan_form plan.now) seat.old.view task.old }
+    requires seat { IsSeatOf (plan_form plan.now) task.old.op seat.old.view }
+    requires blank { pile.old.items ≡ [] }
+    requires idle { IsIdle task.old.pending }
+    requires fine { task.old.bad ≡ None }
+    requires port { port < length task.old.ins }
+    requires known { (d : _) → 0 < length (known_of (slice_index_or task.old.ins port d)) }
+    ensures lot { seat.new.lot ≡ seat.old.lot }
+    ensures sits { StillSits seat.old.view seat.new.view }
+    ensures blank { pile.new.items ≡ [] }
+    ensures tried { IfOk result (HasTried (plan_form plan.now) seat.old.view seat.new.view task.old task.new) }
+{
+    pile.reserve(task.classes.len())?;
+    let Ok(()) = take_all(seat, task.classes.as_slice(), pile) else {
+        return Ok(false);
+    };
+    let taken = take_at(alloc, plan, task, port, pile, gate);
+    put_all(seat, pile);
+    taken?;
+    Ok(true)
+}
+
+// Sends what is pending; where nothing is left takes an item. Says whether anything moved.
+fn take_turn<G: Gate>(
+    alloc: Global,
+    plan: &RawPlan,
+    task: &mut Task,
+    seat: &mut Seat,
+    pile: &mut Pile,
+    gate: &G,
+) -> Result<bool, NoMemory>
+    requires valid { IsPlan (plan_form plan.now) }
+    requires task { IsTaskAt (plan_form plan.now) seat.old.view task.old }
+    requires seat { IsSeatOf (plan_form plan.now) task.old.op seat.old.view }
+    requires blank { pile.old.items ≡ [] }
+    requires fine { task.old.bad ≡ None }
+    requires few { length task.old.ins < 2 ^ 32 }
+    ensures lot { seat.new.lot ≡ seat.old.lot }
+    ensures sits { StillSits seat.old.view seat.new.view }
+    ensures blank { pile.new.items ≡ [] }
+    ensures turned { IfOk result (HasTurned (plan_form plan.now) seat.old.view seat.new.view task.old task.new) }
+{
+    let sent = send_all(&mut task.outs, &mut task.pending)?;
+    if !is_idle(&task.pending) {
+        return Ok(sent);
+    }
+    match first_ready(&mut task.ins) {
+        Some(port) => {
+            if take_locked(alloc, plan, task, port as u32, seat, pile, gate)? {
+                return Ok(true);
+            }
+            Ok(sent)
+        }
+        None => Ok(sent),
+    }
+}
+
+/// A pass over a task: it sends, and takes items, each where all before it is sent and its classes are free; says whether anything
+/// moved.
+pub fn pass_task<G: Gate>(
+    alloc: Global,
+    plan: &RawPlan,
+    task: &mut Task,
+    seat: &mut Seat,
+    pile: &mut Pile,
+    gate: &G,
+) -> Result<bool, NoMemory>
+    requires valid { IsPlan (plan_form plan.now) }
+    requires task { IsTaskAt (plan_form plan.now) seat.old.view task.old }
+    requires seat { IsSeatOf (plan_form plan.now) task.old.op seat.old.view }
+    requires blank { pile.old.items ≡ [] }
+    requires few { length task.old.ins < 2 ^ 32 }
+    ensures lot { seat.new.lot ≡ seat.old.lot }
+    ensures sits { StillSits seat.old.view seat.new.view }
+    ensures blank { pile.new.items ≡ [] }
+    ensures turned { IfOk result (HasTurned (plan_form plan.now) seat.old.view seat.new.view task.old task.new) }
+{
+    if task.bad.is_some() {
+        return Ok(false);
+    }
+    if !take_turn(alloc, plan, task, seat, pile, gate)? {
+        return Ok(false);
+    }
+    for _turn in 1..TURN {
+        if task.bad.is_some() {
+            return Ok(true);
+        }
+        if !take_turn(alloc, plan, task, seat, pile, gate)? {
+            return Ok(true);
+        }
+    }
+    Ok(true)
+}

@@ -1,0 +1,114 @@
+// What a worker does in a round, and rounds of several workers.
+ghost use Rattle.std.specs.Prelude.{◌≡◌, ◌<◌, ℕ, length, slice_index_or, All};
+ghost use Rattle.fire_tasks.specs.Bundles.{IsReady, HasWorked};
+
+use crate::Bundle;
+use river_base::Gate;
+use river_plan::RawPlan;
+use std::thread;
+use std::thread::Threads;
+
+/// The most passes of a bundle in a round.
+const MOST_PASSES: u32 = 1024;
+
+/// A round of a bundle: passes, until one moves nothing.
+pub fn work<G: Gate>(plan: &RawPlan, bundle: &mut Bundle, gate: &G)
+    requires { IsReady plan.now bundle.old }
+    ensures { HasWorked plan.now bundle.old bundle.new }
+{
+    bundle.moved = false;
+    if bundle.refused {
+        return;
+    }
+    for _pass in 0..MOST_PASSES {
+        let Ok(moved) = bundle.pass(plan, gate) else {
+            return;
+        };
+        if !moved {
+            return;
+        }
+        bundle.moved = true;
+    }
+}
+
+/// What can work by a plan, or by what else it is told. A round is generic in both, so that neither the type of a plan nor that of
+/// bundles is there where it is shown that the workers' call may be shared, nor are both where one of them is shown to be fit for
+/// threads.
+pub trait Works<P> {
+    ghost ready: { P → Self → Type 0 };
+
+    ghost worked: { P → Self → Self → Type 0 };
+
+    /// Works until nothing moves.
+    fn work<G: Gate>(&mut self, plan: &P, gate: &G)
+        requires { Self.ready plan.now self.old }
+        ensures { Self.worked plan.now self.old self.new };
+}
+
+impl Works<RawPlan> for Bundle {
+    ghost use Rattle.fire_tasks.specs.Bundles.{IsReady, HasWorked};
+
+    ghost ready = { IsReady };
+
+    ghost worked = { HasWorked };
+
+    fn work<G: Gate>(&mut self, plan: &RawPlan, gate: &G) {
+        work(plan, self, gate)
+    }
+}
+
+/// Each works, so many of them at a time. Where the number is 1 no thread is started.
+pub fn round<R: Threads + Sync, P: Sync, C: Works<P> + Send, G: Gate + Sync>(
+    rt: &R,
+    plan: &P,
+    bundles: &mut [C],
+    workers: usize,
+    gate: &G,
+)
+    requires workers { 0 < workers }
+    requires bundles { All (C.ready plan.now) bundles.old }
+    ensures many { length bundles.new ≡ length bundles.old }
+    ensures each { (i : ℕ) (d : _) → i < length bundles.old → C.worked plan.now (slice_index_or bundles.old i d) (slice_index_or bundles.new i d) }
+{
+    thread::for_each_mut(
+        rt,
+        bundles,
+        workers,
+        &|_, c: &mut C|
+            requires { C.ready plan.now c.now }
+            ensures { C.worked plan.entry.now c.entry.now c.exit.now }
+        { c.work(plan, gate) },
+    );
+}
+
+/// Each works by the lists of a plan: here it is shown that these may be shared.
+pub fn round_by<R: Threads + Sync, C: Works<RawPlan> + Send, G: Gate + Sync>(
+    rt: &R,
+    plan: &RawPlan,
+    bundles: &mut [C],
+    workers: usize,
+    gate: &G,
+)
+    requires workers { 0 < workers }
+    requires bundles { All (C.ready plan.now) bundles.old }
+    ensures many { length bundles.new ≡ length bundles.old }
+    ensures each { (i : ℕ) (d : _) → i < length bundles.old → C.worked plan.now (slice_index_or bundles.old i d) (slice_index_or bundles.new i d) }
+{
+    round(rt, plan, bundles, workers, gate);
+}
+
+/// Each bundle works by the lists of its plan: here it is shown that bundles may be sent to other threads.
+pub fn round_of<R: Threads + Sync, G: Gate + Sync>(
+    rt: &R,
+    plan: &RawPlan,
+    bundles: &mut [Bundle],
+    workers: usize,
+    gate: &G,
+)
+    requires workers { 0 < workers }
+    requires bundles { All (IsReady plan.now) bundles.old }
+    ensures many { length bundles.new ≡ length bundles.old }
+    ensures each { (i : ℕ) (d : _) → i < length bundles.old → HasWorked plan.now (slice_index_or bundles.old i d) (slice_index_or bundles.new i d) }
+{
+    round_by(rt, plan, bundles, workers, gate);
+}

@@ -1,0 +1,157 @@
+// Taking an item, and firing on it.
+ghost use Rattle.std.specs.Prelude.{◌≡◌, ◌+◌, ◌<◌, min, ℕ, ℤ, List, [], ◌++◌, length, map, IfOk, OnOk, IfSome, IfNone, slice_index_or, None};
+ghost use mathlib.Core.List.{reverse};
+ghost use Rattle.brooklet_model.specs.Histories.{most_firings};
+ghost use Rattle.river_plan.specs.Forms.{plan_form};
+ghost use Rattle.river_plan.specs.Valid.{IsPlan};
+ghost use Rattle.fire_tasks.specs.Ports.{IsIdle, known_of, in_ends, received_in, AllReceived};
+ghost use Rattle.fire_tasks.specs.Tasks.{IsTask};
+ghost use Rattle.fire_tasks.specs.Pops.{IsPop};
+ghost use Rattle.fire_tasks.specs.Turns.{HasFiredAt, HasTakenAt, HaveGained, AreCellsOf};
+
+use crate::adding::add_rows;
+use crate::ports::{pop_at, ready_at};
+use crate::{Inlet, Task};
+use brooklet_step::{ItemLists, fire_op, item_fits};
+use class_locks::Pile;
+use river_base::{Gate, Item, Items, Listed, NoMemory, QueueType};
+use river_plan::RawPlan;
+use std::alloc::Global;
+use std::mem::swap;
+
+/// The greatest count of firings.
+const MOST: usize = 0x7fff_ffff_ffff_ffff;
+
+/// An item that was taken.
+#[derive(Drop)]
+pub enum Pop {
+    /// Its port's queue may not hold it.
+    Bad(Item),
+    Good(Item),
+}
+
+/// The first port at which an item is there.
+pub fn first_ready(ins: &mut Listed<Inlet>) -> Option<usize>
+    ensures same { in_ends ins.new ≡ in_ends ins.old }
+    ensures received { received_in ins.new ≡ received_in ins.old }
+    ensures some { IfSome result (λ port. (port < length ins.new) × ((d : _) → 0 < length (known_of (slice_index_or ins.new port d)))) }
+    ensures none { IfNone result (AllReceived ins.new) }
+    ensures none_before { IfNone result (AllReceived ins.old) }
+{
+    for port in 0..ins.len() {
+        if ready_at(ins, port) {
+            return Some(port);
+        }
+    }
+    None
+}
+
+/// Takes the item at a port, and tests it.
+pub fn take_item(
+    alloc: Global,
+    ins: &mut Listed<Inlet>,
+    kinds: &Listed<QueueType>,
+    port: usize,
+) -> Result<Pop, NoMemory>
+    requires ins { port < length ins.old }
+    requires kinds { port < length kinds.now }
+    requires known { (d : _) → 0 < length (known_of (slice_index_or ins.old port d)) }
+    ensures same { in_ends ins.new ≡ in_ends ins.old }
+    ensures pop { IfOk result (IsPop kinds.now port (received_in ins.old) (received_in ins.new)) }
+{
+    let item = pop_at(alloc, ins, port)?;
+    if !item_fits(kinds.at(port), &item) {
+        return Ok(Pop::Bad(item));
+    }
+    Ok(Pop::Good(item))
+}
+
+// The items of a list, the first last.
+fn turn(items: &mut Items)
+    ensures { items.new ≡ reverse items.old }
+{
+    items.as_mut_slice().reverse();
+}
+
+/// The items of each list, the first last.
+pub fn turn_all(lists: &mut ItemLists)
+    ensures { lists.new ≡ map reverse lists.old }
+{
+    for place in 0..lists.len() {
+        turn(lists.at_mut(place));
+    }
+}
+
+// The next count: the greatest stays.
+fn next_count(count: usize) -> usize
+    ensures { result ≡ min most_firings (count + 1) }
+{
+    if count < MOST { count + 1 } else { MOST }
+}
+
+/// Takes the item at a port, and fires on it where its port's queue may hold it. The rows of the firing are left in the task's lists.
+pub fn fire_at<G: Gate>(
+    alloc: Global,
+    plan: &RawPlan,
+    task: &mut Task,
+    port: u32,
+    gate: &G,
+) -> Result<(), NoMemory>
+    requires valid { IsPlan (plan_form plan.now) }
+    requires task { (adds : ℕ → List (List ℤ)) × IsTask (plan_form plan.now) adds task.old }
+    requires idle { IsIdle task.old.pending }
+    requires fine { task.old.bad ≡ None }
+    requires port { port < length task.old.ins }
+    requires known { (d : _) → 0 < length (known_of (slice_index_or task.old.ins port d)) }
+    ensures { OnOk result (HasFiredAt (plan_form plan.now) task.old task.new) }
+{
+    match take_item(alloc, &mut task.ins, &task.kinds, port as usize)? {
+        Pop::Bad(item) => {
+            task.bad = Some((port, item));
+            Ok(())
+        }
+        Pop::Good(item) => {
+            gate.enter(task.op);
+            fire_op(
+                alloc,
+                plan,
+                task.op,
+                port,
+                item,
+                &mut task.states,
+                &mut task.out,
+                &mut task.spare,
+            )?;
+            turn_all(&mut task.out.outs);
+            swap(&mut task.pending, &mut task.out.outs);
+            task.count = next_count(task.count);
+            Ok(())
+        }
+    }
+}
+
+/// Takes the item at a port, fires on it, and adds the rows of the firing to the cells of the task's classes. Where there is no memory
+/// the cells have no entries but the operator's.
+pub fn take_at<G: Gate>(
+    alloc: Global,
+    plan: &RawPlan,
+    task: &mut Task,
+    port: u32,
+    pile: &mut Pile,
+    gate: &G,
+) -> Result<(), NoMemory>
+    requires valid { IsPlan (plan_form plan.now) }
+    requires task { (adds : ℕ → List (List ℤ)) × IsTask (plan_form plan.now) adds task.old }
+    requires idle { IsIdle task.old.pending }
+    requires fine { task.old.bad ≡ None }
+    requires port { port < length task.old.ins }
+    requires known { (d : _) → 0 < length (known_of (slice_index_or task.old.ins port d)) }
+    requires pile { AreCellsOf (plan_form plan.now) task.old.classes pile.old.items }
+    ensures gained { HaveGained task.old.op pile.old.items pile.new.items }
+    ensures taken { OnOk result (HasTakenAt (plan_form plan.now) task.old task.new pile.old.items pile.new.items) }
+{
+    let op = task.op;
+    fire_at(alloc, plan, task, port, gate)?;
+    add_rows(alloc, op, &task.tables, &mut task.out.adds, pile)?;
+    Ok(())
+}
