@@ -69,6 +69,7 @@ filter-in_order p xs = order_is (filter p (in_order xs)) (filter p xs) (IsSorted
 pub in_order-map : (g : List ℤ → List ℤ) (xs : List (List ℤ)) → in_order (map g (in_order xs)) ≡ in_order (map g xs)
 in_order-map g xs = same_bag (map g (in_order xs)) (map g xs) (λ f. sum-map f g (in_order xs) ∙ sum-in_order (λ x. f (g x)) xs ∙ sym (sum-map f g xs))
 
+-- all pairs of two lists of rows, joined
 abbrev pub pairs : List (List ℤ) → List (List ℤ) → List (List ℤ)
 pairs xs ys = flat_map (λ x. map (λ y. x ++ y) ys) xs
 

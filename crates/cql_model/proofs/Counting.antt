@@ -30,6 +30,7 @@ among-append z b (x ∷ xs) ys = let e = among-append z b xs ys in omega (arith,
 
 -- TAGS OF THE PARTS OF A QUERY
 
+-- the name that is made of a word alone
 abbrev pub word : List ℕ → List Tag
 word w = Some w ∷ []
 
@@ -108,6 +109,7 @@ out_writes z b (suc u) = let e = ap (count z) (copies_are b 0 (suc u)) in omega 
 abbrev pub stream_op : Query → ℕ → Name → OpForm
 stream_op q u last = op (at_word q.name (codes "i")) (streamer (streamer_of q.kind)) (last ∷ []) (out_name q.name u ∷ []) (at_word q.name (codes "i") ∷ [])
 
+-- the queue that a projection reads
 abbrev pub project_from : Query → Name → Name
 project_from q last = select_last q.name last q.condition
 
@@ -127,6 +129,7 @@ inner_split z b u q =
     among-append z b (o_tags u) (p ++ (s ++ (w ++ x)))
     ∙ ap (λ n. among z b (o_tags u) + n) (among-append z b p (s ++ (w ++ x)) ∙ ap (λ n. among z b p + n) (among-append z b s (w ++ x) ∙ ap (λ n. among z b s + n) (among-append z b w x)))
 
+-- the operators of a query
 abbrev pub block_ops : Query → List Named → ℕ → List Name → List OpForm
 block_ops q scope u srcs = item_ops q.name q.items srcs ++ tail_ops q scope u (item_last q.name q.items)
 
@@ -199,9 +202,11 @@ block_reads z q scope u srcs some e =
 
 -- VARIABLES AND LABELS
 
+-- the variables of a query
 abbrev pub var_tags : Query → List Tag
 var_tags q = word (codes "i") ++ (w_tags 1 q.items ++ x_tags 2 (rest_of q.items))
 
+-- the labels of a query
 abbrev pub label_tags : ℕ → Query → List Tag
 label_tags u q = d_tags u ++ (word (codes "i") ++ (p_tags q.columns ++ (s_tags q.condition ++ (w_tags 1 q.items ++ x_tags 2 (rest_of q.items)))))
 

@@ -75,12 +75,15 @@ streamer_fed k ts r c up h =
 
 -- PRODUCTS: all of the first port, then all of the second
 
+-- a product that keeps these batches
 abbrev pub pairing : List item.Item → List item.Item → Pairing
 pairing xs ys = record { left = xs; right = ys }
 
+-- batches of the first side that wait
 abbrev pub waiting : List item.Item → List Kept
 waiting xs = Crossing (pairing xs []) ∷ []
 
+-- what passes of a product
 abbrev pub drained : ℕ → Pairing → List item.Item × Pairing
 drained n s = drain front_of_pair rest_of_pair n s
 

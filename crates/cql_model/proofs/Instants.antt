@@ -8,9 +8,11 @@ use Rattle.cql_text.specs.Tree.{Window, Now, Range, Unbounded, Latest}
 use Rattle.brooklet_model.specs.Fit.{Rises}
 use Rattle.cql_model.specs.Streams.{in_reach}
 
+-- all instants are above this one
 abbrev pub AllAbove : ℤ → List ℤ → Type 0
 AllAbove t us = AllByRecursion (λ u. int_lt t u ≡ true) us
 
+-- all instants are below this one
 abbrev pub AllBelow : ℤ → List ℤ → Type 0
 AllBelow t us = AllByRecursion (λ u. int_lt u t ≡ true) us
 

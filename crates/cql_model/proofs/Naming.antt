@@ -21,6 +21,7 @@ split (c ∷ cs) = if nat_eq c 64 then ([], Some cs) else (c ∷ (split cs).0, (
 abbrev pub Tag : Type 0
 Tag = Option (List ℕ)
 
+-- a name that is made of a name and a tag
 abbrev pub tagged : Name → Tag → Name
 tagged b None = b
 tagged b (Some w) = at_word b w
@@ -46,6 +47,7 @@ tag_eq None (Some w) = false
 tag_eq (Some v) None = false
 tag_eq (Some v) (Some w) = name_eq v w
 
+-- how often a tag stands in a list
 abbrev pub tags : Tag → List Tag → ℕ
 tags t [] = 0
 tags t (s ∷ ss) = one_if (tag_eq s t) + tags t ss
@@ -90,6 +92,7 @@ own_once b q ts h once = ⊎_elim
 
 -- CLASSES OF TAGS: by the first letter of the word
 
+-- the class of a tag, by its first letter
 abbrev pub class : Tag → ℕ
 class None = 0
 class (Some []) = 1
@@ -143,6 +146,7 @@ of_one t = record {
 
 -- NUMBERS: k, k + 1, .. with a letter before them, or none
 
+-- numbered tags
 abbrev pub numbers : List ℕ → ℕ → ℕ → List Tag
 numbers letter k zero = []
 numbers letter k (suc n) = Some (letter ++ numeral k) ∷ numbers letter (k + 1) n

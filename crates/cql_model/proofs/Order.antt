@@ -217,6 +217,7 @@ module _ (inputs all : List Name) where
       (λ c. serves_one known ks n s.1 (let o = ap one_if c.1 in omega (arith, o, lt)))
       (cases_name k.name n)
 
+  -- the uses of streams go on from those before
   abbrev pub Fit : List Name → List Name → Type 0
   Fit past ns = (n : Name) → count n past + count n ns ≤ count n all
 
@@ -244,6 +245,7 @@ module _ (inputs all : List Name) where
   inputs_more known known' (Register name fields ∷ ps) h s = ((λ j lt. h (queue_of_use inputs all name j) (s.0 j lt)), inputs_more known known' ps h s.1)
   inputs_more known known' (AQuery q ∷ ps) h s = inputs_more known known' ps h s
 
+  -- what a query is called is no registered stream
   abbrev pub Others : Program → Type 0
   Others [] = Unit {0}
   Others (Register name fields ∷ ps) = Others ps
@@ -279,6 +281,7 @@ module _ (inputs all : List Name) where
   copy_in_order known n (suc zero) h = tt
   copy_in_order known n (suc (suc u)) h = (one_known known n h, tt)
 
+  -- registered streams are inputs
   abbrev pub InputsKnown : (Name → ℕ) → Program → Type 0
   InputsKnown known [] = Unit {0}
   InputsKnown known (Register name fields ∷ ps) = (0 < known name) × InputsKnown known ps
@@ -306,6 +309,7 @@ module _ (inputs all : List Name) where
       (cases_lt 1 (count n all)))
       (which inputs all n j)
 
+  -- registered streams are among the names
   abbrev pub InputsThere : Program → Type 0
   InputsThere [] = Unit {0}
   InputsThere (Register name fields ∷ ps) = (0 < count name inputs) × InputsThere ps

@@ -81,12 +81,15 @@ by_fault P a b c d e AmbiguousField = c
 by_fault P a b c d e NameTwice = d
 by_fault P a b c d e Limit = e
 
+-- a place without a fault
 abbrev pub Silent : Program → Spot → Type 0
 Silent before s = (f : Fault) → HasFault before s f → ⊥
 
+-- a place with its first fault
 abbrev pub Says : Program → Spot → Fault → Type 0
 Says before s f = HasFault before s f × ((g : Fault) → rank g < rank f → HasFault before s g → ⊥)
 
+-- the first fault of places
 abbrev pub Found : Program → List Spot → Option Fault → Type 0
 Found before = Finds (Silent before) (Says before)
 

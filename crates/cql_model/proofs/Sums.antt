@@ -34,19 +34,23 @@ copy_label zero = []
 copy_label (suc zero) = []
 copy_label (suc (suc u)) = word (codes "d")
 
+-- the copy that is read
 abbrev pub copy_read : ℕ → List Tag
 copy_read zero = []
 copy_read (suc zero) = []
 copy_read (suc (suc u)) = None ∷ []
 
+-- the queues that a unit declares or writes
 abbrev pub queues_of : List Name → Part → List Tag
 queues_of all (Register name fields) = (None ∷ []) ++ copy_tags (count name all)
 queues_of all (AQuery q) = query_tags (count q.name all) q
 
+-- the variables of a unit
 abbrev pub vars_of : Part → List Tag
 vars_of (Register name fields) = []
 vars_of (AQuery q) = var_tags q
 
+-- the labels of a unit
 abbrev pub labels_of : List Name → Part → List Tag
 labels_of all (Register name fields) = copy_label (count name all)
 labels_of all (AQuery q) = label_tags (count q.name all) q
@@ -56,6 +60,7 @@ abbrev pub taken_of : List Name → Part → List Tag
 taken_of all (Register name fields) = copy_read (count name all)
 taken_of all (AQuery q) = (None ∷ []) ++ inner_tags (count q.name all) q
 
+-- how often units make a name
 abbrev pub sums : (Part → List Tag) → Name → Program → ℕ
 sums f z [] = 0
 sums f z (p ∷ ps) = among z (part_name p) (f p) + sums f z ps

@@ -64,6 +64,7 @@ module _ (inputs all : List Name) where
   abbrev pub Plain : List Name → Type 0
   Plain ns = AllByRecursion (λ n. IsTrue (has_no_at n)) ns
 
+  -- there are copies for the uses so far
   abbrev pub Room : List Name → List Name → Type 0
   Room past ns = (n : Name) → count n past + count n ns ≤ count n all
 

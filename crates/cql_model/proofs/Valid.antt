@@ -45,6 +45,7 @@ few_items ks [] a = tt
 few_items ks (Register name fields ∷ ps) a = few_items (record { name = name; fields = fields } ∷ ks) ps a.1
 few_items ks (AQuery q ∷ ps) a = (a.0.some, a.0.few, few_items (query_named ks q ∷ ks) ps a.1)
 
+-- the names of queries
 abbrev pub asked : Program → List Name
 asked [] = []
 asked (Register name fields ∷ ps) = asked ps
@@ -190,6 +191,7 @@ crosses_wide b width k (i ∷ is) some few =
     All-cons HasWidth _ (cross_decls b (width + length i.fields) (k + 1) is) (wide (width + length i.fields) (omega (arith, some)) (omega (arith, few)))
     (crosses_wide b (width + length i.fields) (k + 1) is (omega (arith, some)) (omega (arith, few)))
 
+-- all that is known has a width of 1 to 16
 abbrev pub Sized : List Named → Type 0
 Sized ks = AllByRecursion (λ (i : Named). is_width (length i.fields) ≡ true) ks
 

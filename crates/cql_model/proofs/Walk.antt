@@ -58,6 +58,7 @@ module _ (h : History) (ts : List ℤ) (up : Ascends ts) where
 
   -- WINDOWS
 
+  -- a query's items read these queues
   abbrev pub Reads : List KnownStream → List Source → List Name → Type 0
   Reads ks [] srcs = Unit {0}
   Reads ks (i ∷ is) [] = ⊥

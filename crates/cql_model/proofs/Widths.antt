@@ -94,6 +94,7 @@ streamed_wide P k ts r t h =
 
 -- WHAT IS KNOWN
 
+-- all that is known has rows of its width
 abbrev pub AllWide : List KnownStream → Type 0
 AllWide [] = Unit {0}
 AllWide (k ∷ ks) = ((t : ℤ) → HaveWidth (length k.named.fields) (k.rows t)) × AllWide ks

@@ -26,28 +26,35 @@ use Rattle.saw_model.specs.Elaborate.{weight_of, joined, one_step}
 
 -- ANSWERS
 
+-- a result without a fault
 abbrev pub fine : {A : Type 0} → A → Result A Fault
 fine x = Ok x
 
+-- equal results have equal values
 pub ok_is : {A : Type 0} (x y : A) → fine x ≡ fine y → x ≡ y
 ok_is x y h = cc
 
+-- where one and then another is right, each is
 pub ok_parts : {A B : Type 0} (r : Result A Fault) (f : A → Result B Fault) (y : B) → on_ok r f ≡ fine y → (x : A) × (r ≡ Ok x) × (f x ≡ Ok y)
 ok_parts (Ok x) f y h = (x, refl, h)
 ok_parts (Err e) f y h = absurd (cc h)
 
+-- a demand that was met
 pub if_ok : {A : Type 0} (b : Bool) (r : Result A Fault) (y : A) (e : Fault) → (if b then r else Err e) ≡ fine y → r ≡ fine y
 if_ok true r y e h = h
 if_ok false r y e h = absurd (cc h)
 
+-- a demand that was met, and its condition
 pub if_both : {A : Type 0} (b : Bool) (r : Result A Fault) (y : A) (e : Fault) → (if b then r else Err e) ≡ fine y → (b ≡ true) × (r ≡ fine y)
 if_both true r y e h = (refl, h)
 if_both false r y e h = absurd (cc h)
 
+-- what was demanded holds
 pub demanded : (b : Bool) (e : Fault) (u : Unit {0}) → demand b e ≡ fine u → b ≡ true
 demanded true e u h = refl
 demanded false e u h = absurd (cc h)
 
+-- what stands in equal options is equal
 pub some_is : {A : Type 0} (x y : A) → Some x ≡ Some y → x ≡ y
 some_is x y h = cc
 
@@ -57,9 +64,11 @@ at_here n m z env e = ap (λ b. if b then z else env m) e
 at_other : (n m : Name) (z : ℤ) (env : Values) → name_eq n m ≡ false → at_name n z env m ≡ env m
 at_other n m z env e = ap (λ b. if b then z else env m) e
 
+-- a name is found where it stands first
 pub found_here : (n m : Name) (b : Known) (sc : Scope) → name_eq n m ≡ true → find ((n, b) ∷ sc) m ≡ Some b
 found_here n m b sc e = ap (λ t. if t then Some b else find sc m) e
 
+-- or behind another
 pub found_other : (n m : Name) (b : Known) (sc : Scope) → name_eq n m ≡ false → find ((n, b) ∷ sc) m ≡ find sc m
 found_other n m b sc e = ap (λ t. if t then Some b else find sc m) e
 
@@ -81,15 +90,19 @@ pub record IsSound (sc : Scope) (slots : ℕ) : Type 0 where
 pub record ArePorts (ts : List TableDecl) (sc : Scope) : Type 0 where
   pub port : (n : Name) (p : ℕ) (k : TableKind) → find sc n ≡ Some (Port p k) → slice_get ts p ≡ Some (record { name = n; kind = k })
 
+-- all that was known is known
 abbrev pub Keeps : Scope → Scope → Type 0
 Keeps sc sc' = (n : Name) (b : Known) → find sc n ≡ Some b → find sc' n ≡ Some b
 
+-- values that agree with more names agree with fewer
 pub agrees_within : (sc sc' : Scope) (env : Values) (mem : List ℤ) → Keeps sc sc' → Agrees sc' env mem → Agrees sc env mem
 agrees_within sc sc' env mem k a = record { each = λ n i f. a.each n i (k n (Var i) f) }
 
+-- names stay sound with more slots
 pub more_slots : (sc : Scope) (m n : ℕ) → m ≤ n → IsSound sc m → IsSound sc n
 more_slots sc m n le s = record { below = λ x i f. let b = s.below x i f in omega (arith, b, le); apart = s.apart }
 
+-- a new name keeps what was known
 pub keeps_new : (n : Name) (b : Known) (sc : Scope) → find sc n ≡ None → Keeps sc ((n, b) ∷ sc)
 keeps_new n b sc new m c f = ⊎_elim
     (λ e. absurd (none_some (find sc m) c (subst (λ x. find sc x ≡ None) e.0 new) f))
@@ -108,6 +121,7 @@ port_var i p k h = cc h
 port_is : (p q : ℕ) (k l : TableKind) → Some (Port p k) ≡ Some (Port q l) → (p ≡ q) × (k ≡ l)
 port_is p q k l h = (cc, cc)
 
+-- a new local has a slot of its own
 pub sound_var : (n : Name) (sc : Scope) (slots : ℕ) → IsSound sc slots → IsSound ((n, Var slots) ∷ sc) (slots + 1)
 sound_var n sc slots s = record {
   below = λ m i f. ⊎_elim
@@ -132,6 +146,7 @@ sound_var n sc slots s = record {
       (cases_name n m);
 }
 
+-- a new local is no table
 pub ports_var : (ts : List TableDecl) (n : Name) (i : ℕ) (sc : Scope) → ArePorts ts sc → ArePorts ts ((n, Var i) ∷ sc)
 ports_var ts n i sc a = record {
   port = λ m p k f. ⊎_elim
@@ -140,6 +155,7 @@ ports_var ts n i sc a = record {
       (cases_name n m);
 }
 
+-- a new table has no slot
 pub sound_port : (n : Name) (p : ℕ) (k : TableKind) (sc : Scope) (slots : ℕ) → IsSound sc slots → IsSound ((n, Port p k) ∷ sc) slots
 sound_port n p k sc slots s = record {
   below = λ m i f. ⊎_elim
@@ -188,6 +204,7 @@ module _ (w : ℕ) (r : List ℤ) where
   abbrev pub fields : List ℤ
   fields = take w r
 
+  -- a term has the value of its expression
   pub term_is : (sc : Scope) (t : Expression) (env : Values) (mem : List ℤ) (u : Term) → reach t ≤ w → Agrees sc env mem → term_of sc t ≡ Ok u
       → eval t r env ≡ val u fields mem
   term_is sc (tree.Number v) env mem u h a c = ap (λ t. val t fields mem) (ok_is (term.Const (pos v)) u c)
@@ -207,14 +224,17 @@ module _ (w : ℕ) (r : List ℤ) where
       ∙ ap (applied o (val p.0 fields mem)) (term_is sc t env mem q.0 (omega (arith, h)) a q.1)
       ∙ ap (λ t. val t fields mem) (ok_is (term.Bin o p.0 q.0) u q.2)
 
+  -- the values of terms
   abbrev pub vals : List Term → List ℤ → List ℤ
   vals us mem = map (λ t. val t fields mem) us
 
+  -- the first value of a local
   pub first_is : (t : Option Expression) (sc : Scope) (env : Values) (mem : List ℤ) (u : Term) → reach_all (listed t) ≤ w → Agrees sc env mem
       → first_term t sc ≡ Ok u → eval_or (pos 0) t r env ≡ val u fields mem
   first_is None sc env mem u h a c = ap (λ t. val t fields mem) (ok_is (term.Const (pos 0)) u c)
   first_is (Some t) sc env mem u h a c = term_is sc t env mem u (omega (arith, h)) a c
 
+  -- the values of indexes
   pub indexes_are : (sc : Scope) (n : ℕ) (ts : List Expression) (env : Values) (mem : List ℤ) (us : List Term) → reach_all ts ≤ w → Agrees sc env mem
       → indexes_of sc n ts ≡ Ok us → eval_all ts r env ≡ vals us mem
   indexes_are sc n [] env mem us h a c = ap (λ l. vals l mem) (ok_is [] us c)
@@ -226,6 +246,7 @@ module _ (w : ℕ) (r : List ℤ) where
       let more = indexes_are sc (n + 1) ts env mem q.0 (omega (arith, h)) a q.1 in
       (λ i. one i ∷ more i) ∙ ap (λ l. vals l mem) (ok_is (p.0 ∷ q.0) us q.2)
 
+  -- the value of a weight
   pub weight_is : (k : TableKind) (t : Option Expression) (sc : Scope) (env : Values) (mem : List ℤ) (us : List Term) → reach_all (listed t) ≤ w → Agrees sc env mem
       → weight_of k t sc ≡ Ok us → eval_all (listed t) r env ≡ vals us mem
   weight_is (Sum keys) None sc env mem us h a c = ap (λ l. vals l mem) (ok_is [] us c)
@@ -242,6 +263,7 @@ module _ (w : ℕ) (r : List ℤ) where
   eval_all-append [] ys env = refl
   eval_all-append (x ∷ xs) ys env = ap (λ l. eval x r env ∷ l) (eval_all-append xs ys env)
 
+  -- the fields that two lists of expressions read
   pub reach-append : (xs ys : List Expression) → reach_all (xs ++ ys) ≤ w → (reach_all xs ≤ w) × (reach_all ys ≤ w)
   reach-append [] ys h = (omega arith, h)
   reach-append (x ∷ xs) ys h = let m = reach-append xs ys (omega (arith, h)) in (omega (arith, h, m.0), m.1)
@@ -256,6 +278,7 @@ pub record Grows (s s' : At) : Type 0 where
   pub ports : (ts : List TableDecl) → ArePorts ts s.scope → ArePorts ts s'.scope
   pub tables : s'.tables ≡ s.tables
 
+-- what stays has grown
 pub grows_same : (s s' : At) → s.scope ≡ s'.scope → s.slots ≡ s'.slots → s'.tables ≡ s.tables → Grows s s'
 grows_same s s' e f m = record {
   tables = m;
@@ -265,6 +288,7 @@ grows_same s s' e f m = record {
   ports = λ ts h. subst (ArePorts ts) e h;
 }
 
+-- what grew and grew again has grown
 pub grows_trans : (s t u : At) → Grows s t → Grows t u → Grows s u
 grows_trans s t u g h = record {
   tables = h.tables ∙ g.tables;
@@ -274,18 +298,22 @@ grows_trans s t u g h = record {
   ports = λ ts z. h.ports ts (g.ports ts z);
 }
 
+-- what was known before a block is known behind it
 pub grows_back : (s t : At) → s.slots ≤ t.slots → t.tables ≡ s.tables → Grows s (record t { scope = s.scope })
 grows_back s t le m = record { tables = m; slots = le; keeps = λ n b f. f; sound = λ h. more_slots s.scope s.slots t.slots le h; ports = λ ts h. h }
 
+-- one statement more
 abbrev pub one_more : At → At
 one_more s = record s { size = s.size + 1 }
 
+-- a statement was counted
 pub counted_on : {A : Type 0} (s : At) (f : At → Result A Fault) (y : A) → on_ok (counted s) f ≡ fine y → f (one_more s) ≡ Ok y
 counted_on s f y h =
     let p = ok_parts (counted s) f y h in
     let q = ok_is (one_more s) p.0 (if_ok (nat_lt s.size 16384) (Ok (one_more s)) p.0 Limit p.1) in
     ap f q ∙ p.2
 
+-- there was room for it
 pub room_for : {A : Type 0} (s : At) (f : At → Result A Fault) (y : A) → on_ok (counted s) f ≡ fine y → nat_lt s.size 16384 ≡ true
 room_for s f y h = let p = ok_parts (counted s) f y h in (if_both (nat_lt s.size 16384) (Ok (one_more s)) p.0 Limit p.1).0
 
@@ -326,6 +354,7 @@ module _ (w : ℕ) (r : List ℤ) (ts : List TableDecl) where
       → Met ts now now' sc (record { pushes = []; slots = mem })
   none_met now now' sc mem e a = record { agrees = a; new = []; emitted_are = e ∙ sym (append-nil now.emitted); matches = tt }
 
+  -- two lists of statements, one after the other
   pub met_more : (now mid now' : State) (sc sc' : Scope) (a b : Steps) (mem : List ℤ) → Met ts now mid sc (ran a (take w r) mem)
       → Met ts mid now' sc' (ran b (take w r) (ran a (take w r) mem).slots) → Met ts now now' sc' (ran (joined a b) (take w r) mem)
   met_more now mid now' sc sc' a b mem m n = subst (Met ts now now' sc') (sym (ran_joined a b (take w r) mem)) (record {
@@ -335,5 +364,6 @@ module _ (w : ℕ) (r : List ℤ) (ts : List TableDecl) where
     matches = matches-append ts m.new n.new (ran a (take w r) mem).pushes (ran b (take w r) (ran a (take w r) mem).slots).pushes m.matches n.matches;
   })
 
+-- one step is a list of one
 pub one_ran : (st : Step) (xs mem : List ℤ) → ran_once st xs mem ≡ ran (one_step st) xs mem
 one_ran st xs mem = λ i. record { pushes = sym (append-nil (ran_once st xs mem).pushes) i; slots = (ran_once st xs mem).slots }

@@ -30,12 +30,14 @@ use Rattle.saw_model.proofs.Parts.{parts_read, tabled_parts, split_parts, parts_
 
 -- EXPRESSIONS
 
+-- two tests that hold
 pub both_true : (a b : Bool) → a ≡ true → b ≡ true → a && b ≡ true
 both_true a b h k = rw h k
 
 lt_true : (a b : ℕ) → a < b → nat_lt a b ≡ true
 lt_true a b h = grind arith
 
+-- the test for at most, where it is so
 pub le_true : (a b : ℕ) → a ≤ b → nat_le a b ≡ true
 le_true a b h = grind arith
 
@@ -45,6 +47,7 @@ eq_true a b h = grind (arith, h)
 lt_by : (a b : ℕ) → nat_lt a b ≡ true → a < b
 lt_by a b h = grind (arith, h)
 
+-- what the test for at most tells
 pub le_by : (a b : ℕ) → nat_le a b ≡ true → a ≤ b
 le_by a b h = grind (arith, h)
 
@@ -120,6 +123,7 @@ mutual
   optional_reach Unwritten s y h = omega arith
   optional_reach (Written b) s y h = steps_reach b s y h
 
+-- an accepted program reads at most 16 fields
 pub parts_reach : (p : Program) (s : At) (y : Steps × At) → parts_read p s ≡ fine y → reach_parts p ≤ 16
 parts_reach [] s y h = omega arith
 parts_reach (TableUnit tb ∷ ps) s y h = let d = split_parts (TableUnit tb) ps s y h in parts_reach ps d.first.1 d.others d.others_is
@@ -177,6 +181,7 @@ part_counts : (c : UnitForm) (s : At) (y : Steps × At) → part_of c s ≡ fine
 part_counts (TableUnit tb) s y h = let d = tabled_parts tb.name (table_kind tb) s y h in subst (Counts s) d.is (record { size = omega arith; small = λ h. h; few = λ h. h })
 part_counts (StatementUnit c) s y h = step_counts c s y h
 
+-- and has at most 16,384 statements
 pub parts_count : (p : Program) (s : At) (y : Steps × At) → parts_read p s ≡ fine y → Counts s y
 parts_count [] s y h = subst (Counts s) (ok_is (Done, s) y h) (record { size = omega arith; small = λ h. h; few = λ h. h })
 parts_count (c ∷ ps) s y h =
@@ -371,6 +376,7 @@ module _ (w m : ℕ) (ts : List TableDecl) where
     optional_formed Unwritten s y low le h ok ports sl = subst Formed (ok_is (Done, s) y h) refl
     optional_formed (Written b) s y low le h ok ports sl = steps_formed b s y low le h ok ports sl
 
+  -- its body is right in itself
   pub parts_formed : (p : Program) (s : At) (y : Steps × At) (done : List TableDecl) → AreShallowParts p → reach_parts p ≤ w → parts_read p s ≡ fine y
       → IsSound s.scope s.slots → ArePorts ts s.scope → y.1.slots ≤ m
       → ts ≡ done ++ tables_in p → s.tables ≡ length done → Formed y

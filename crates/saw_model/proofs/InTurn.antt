@@ -73,5 +73,6 @@ module _ (p : Program) (read : Steps × At) (h : parts_read p nothing_read ≡ f
       ∙ all_new [] (table_names ts) (λ z. let a = once z in omega (arith, a))
       ∙ sym (append-nil (table_names ts))
 
+-- queues and variables are declared in the order of the operators
 pub plans_in_turn : PlansInTurn
 plans_in_turn p read h = let k = reads_parts 1 p nothing_read read h in (queues p read k, vars p read k)

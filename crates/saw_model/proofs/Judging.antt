@@ -322,6 +322,7 @@ module _ (s : At) where
 
 -- STATEMENTS
 
+-- what stands behind the last mark
 abbrev pub AtEnd : List Mark → Steps × At → Type 0
 AtEnd x r = IsAt x r.1
 
@@ -484,6 +485,7 @@ no_best (Maximum best keys) f = ⊎_elim
     (λ e. inr (leb-false best 1000000 e))
     (and_cases (nat_le 1 best) (nat_le best 1000000) f)
 
+-- a unit is read mark by mark
 pub part_read : (c : UnitForm) (b : List Mark) (s : At) → IsAt b s → Verdict AtEnd b (part_marks c) (part_of c s)
 part_read (StatementUnit c) b s a = statement_read c b s a
 part_read (TableUnit tb) b s a =

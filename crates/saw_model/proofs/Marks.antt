@@ -13,6 +13,7 @@ use Rattle.saw_model.specs.Places.{stays, Known, is_statement, is_local, is_tabl
 
 -- HOW MANY
 
+-- how many marks of two lists pass a test
 pub many_append : (t : Mark → Bool) (xs ys : List Mark) → how_many t (xs ++ ys) ≡ how_many t xs + how_many t ys
 many_append t [] ys = omega arith
 many_append t (x ∷ xs) ys = let e = many_append t xs ys in omega (arith, e)
@@ -34,6 +35,7 @@ stays_before (x ∷ xs) ys h k = past_same (turn x) k (λ j. stays j (xs ++ ys))
 abbrev pub IsSteady : List Mark → Type 0
 IsSteady xs = (k : ℕ) (ys : List Mark) → stays k (xs ++ ys) ≡ stays k ys
 
+-- steady marks keep what is open
 pub steady_stays : (xs : List Mark) → IsSteady xs → (k : ℕ) → stays k xs ≡ true
 steady_stays xs h k = ap (stays k) (sym (append-nil xs)) ∙ h k []
 
@@ -50,6 +52,7 @@ known_parts (x ∷ xs) ys n w h d = ⊎_elim
     (λ e. ⊎_elim (λ a. inl (inr a)) (λ a. inr a) (known_parts xs ys n w h e))
     d
 
+-- what is known by the first marks is known by both
 pub known_first : (xs ys : List Mark) (n : Name) (w : What) → ((k : ℕ) → stays k ys ≡ true) → Known xs n w → Known (xs ++ ys) n w
 known_first [] ys n w h d = absurd d
 known_first (x ∷ xs) ys n w h d = ⊎_elim
@@ -57,6 +60,7 @@ known_first (x ∷ xs) ys n w h d = ⊎_elim
     (λ e. inr (known_first xs ys n w h e))
     d
 
+-- and by the second
 pub known_second : (xs ys : List Mark) (n : Name) (w : What) → Known ys n w → Known (xs ++ ys) n w
 known_second [] ys n w d = d
 known_second (x ∷ xs) ys n w d = inr (known_second xs ys n w d)
@@ -79,6 +83,7 @@ IsShut xs = (ys : List Mark) (n : Name) (w : What) → stays 0 ys ≡ false → 
 pub quiet_both : (xs ys : List Mark) → IsQuiet xs → IsQuiet ys → IsQuiet (xs ++ ys)
 quiet_both xs ys a b zs n w d = b zs n w (a (ys ++ zs) n w (subst (λ ms. Known ms n w) (append_assoc xs ys zs) d))
 
+-- quiet marks make nothing known
 pub quiet_alone : (xs : List Mark) → IsQuiet xs → (n : Name) (w : What) → Known xs n w → ⊥
 quiet_alone xs h n w d = h [] n w (subst (λ ms. Known ms n w) (sym (append-nil xs)) d)
 
@@ -92,6 +97,7 @@ pub record IsPlain (ms : List Mark) : Type 0 where
   pub locals : how_many is_local ms ≡ 0
   pub tables : how_many is_table ms ≡ 0
 
+-- no mark is plain
 pub plain_none : IsPlain []
 plain_none = record { steady = λ k ys. refl; quiet = λ ys n w d. d; statements = refl; locals = refl; tables = refl }
 
@@ -121,33 +127,43 @@ plain_next m ms a p = record {
   tables = let x = ap one_if a.table in let y = p.tables in omega (arith, x, y);
 }
 
+-- naming goes along
 pub along_names : (n : Name) → IsAlong (Names n)
 along_names n = record { turn = refl; gives = refl; statement = refl; local = refl; table = refl }
 
+-- reading a field goes along
 pub along_reads : (n : ℕ) → IsAlong (Reads n)
 along_reads n = record { turn = refl; gives = refl; statement = refl; local = refl; table = refl }
 
+-- declaring goes along
 pub along_declares : (n : Name) → IsAlong (Declares n)
 along_declares n = record { turn = refl; gives = refl; statement = refl; local = refl; table = refl }
 
+-- setting goes along
 pub along_sets : (n : Name) → IsAlong (Sets n)
 along_sets n = record { turn = refl; gives = refl; statement = refl; local = refl; table = refl }
 
+-- emitting goes along
 pub along_emits : (n : Name) → IsAlong (Emits n)
 along_emits n = record { turn = refl; gives = refl; statement = refl; local = refl; table = refl }
 
+-- an index goes along
 pub along_index : (n : ℕ) → IsAlong (Index n)
 along_index n = record { turn = refl; gives = refl; statement = refl; local = refl; table = refl }
 
+-- a number of indexes goes along
 pub along_indexed : (n : Name) (i : ℕ) → IsAlong (Indexed n i)
 along_indexed n i = record { turn = refl; gives = refl; statement = refl; local = refl; table = refl }
 
+-- a weight goes along
 pub along_weighted : (n : Name) → IsAlong (Weighted n)
 along_weighted n = record { turn = refl; gives = refl; statement = refl; local = refl; table = refl }
 
+-- no weight goes along
 pub along_unweighted : (n : Name) → IsAlong (Unweighted n)
 along_unweighted n = record { turn = refl; gives = refl; statement = refl; local = refl; table = refl }
 
+-- one such mark is plain
 pub plain_one : (m : Mark) → IsAlong m → IsPlain (m ∷ [])
 plain_one m a = plain_next m [] a plain_none
 
@@ -244,6 +260,7 @@ mutual
       (body_both (term_marks t) first (plain_body (term_marks t) (term_plain t))
       (block_whole (block_marks a) second (block_body a) (block_whole (optional_marks b) [] (optional_body b) (plain_body [] plain_none))))
 
+  -- the marks of a block close what they open
   pub block_body : (b : Block) → IsBody (block_marks b)
   block_body End = plain_body [] plain_none
   block_body (Then c b) = body_both (statement_marks c) (block_marks b) (statement_body c) (block_body b)

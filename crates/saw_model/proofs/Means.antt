@@ -83,6 +83,7 @@ map_places : {A B : Type 0} (f g : A → B) (xs : List A) → ((i : ℕ) (x : A)
 map_places f g [] e = refl
 map_places f g (x ∷ xs) e = let a = e 0 x refl in let b = map_places f g xs (λ i y h. e (suc i) y h) in λ i. a i ∷ b i
 
+-- a program's plan means what the program means
 pub translation_means : TranslationMeans
 translation_means p read records h =
     let g = reads_parts 1 p nothing_read read h in

@@ -25,6 +25,7 @@ abbrev pub parts_read : Program → At → Read
 parts_read [] s = Ok (Done, s)
 parts_read (c ∷ ps) s = on_ok (part_of c s) (λ p. on_ok (parts_read ps p.1) (λ q. Ok (joined p.0 q.0, q.1)))
 
+-- units are read one after another
 pub reads_parts : (k : ℕ) (p : Program) (s : At) (y : Steps × At) → all_parts k p s ≡ Ok y → parts_read p s ≡ Ok y
 reads_parts k [] s y h = cc h
 reads_parts k (c ∷ ps) s y h = first (λ p q e. reads_parts (suc k) ps p.1 q e) (part_of c s) h where
@@ -53,6 +54,7 @@ lt_from a b h = grind arith
 le_from : (a b : ℕ) → nat_le a b ≡ true → a ≤ b
 le_from a b h = grind arith
 
+-- the parts of a table's unit
 pub tabled_parts : (n : Name) (k : TableKind) (s : At) (y : Steps × At) → table_of n k s ≡ fine y → Tabled n k s y
 tabled_parts n k s y h =
     let r3 : Unit {0} → Read = λ x. Ok (tabled n k s) in
@@ -77,6 +79,7 @@ pub record Split (c : UnitForm) (ps : Program) (s : At) (y : Steps × At) : Type
   pub others_is : parts_read ps first.1 ≡ Ok others
   pub is : (joined first.0 others.0, others.1) ≡ y
 
+-- the first unit and the others
 pub split_parts : (c : UnitForm) (ps : Program) (s : At) (y : Steps × At) → parts_read (c ∷ ps) s ≡ fine y → Split c ps s y
 split_parts c ps s y h =
     let p = ok_parts (part_of c s) (λ p. on_ok (parts_read ps p.1) (λ q. Ok (joined p.0 q.0, q.1))) y h in
@@ -88,6 +91,7 @@ pub part_slots : (c : UnitForm) (s : At) (y : Steps × At) → part_of c s ≡ f
 part_slots (TableUnit tb) s y h = let d = tabled_parts tb.name (table_kind tb) s y h in subst (λ (q : Steps × At). s.slots ≤ q.1.slots) d.is (omega arith)
 part_slots (StatementUnit c) s y h = (grows c s y h).slots
 
+-- slots only grow
 pub parts_slots : (p : Program) (s : At) (y : Steps × At) → parts_read p s ≡ fine y → s.slots ≤ y.1.slots
 parts_slots [] s y h = subst (λ (q : Steps × At). s.slots ≤ q.1.slots) (ok_is (Done, s) y h) (omega arith)
 parts_slots (c ∷ ps) s y h =
@@ -155,6 +159,7 @@ tables_few (StatementUnit c ∷ ps) s y h le =
 
 -- THE RUN
 
+-- the table that comes next
 pub got_here : (done rest : List TableDecl) (t : TableDecl) → slice_get (done ++ t ∷ rest) (length done) ≡ Some t
 got_here [] rest t = refl
 got_here (d ∷ ds) rest t = got_here ds rest t
@@ -162,6 +167,7 @@ got_here (d ∷ ds) rest t = got_here ds rest t
 port_one : (p q : ℕ) (k l : TableKind) → Some (Port p k) ≡ Some (Port q l) → (p ≡ q) × (k ≡ l)
 port_one p q k l h = (cc, cc)
 
+-- one table more
 pub ports_new : (ts : List TableDecl) (n : Name) (p : ℕ) (k : TableKind) (sc : Scope) → slice_get ts p ≡ Some (record { name = n; kind = k }) → ArePorts ts sc
     → ArePorts ts ((n, Port p k) ∷ sc)
 ports_new ts n p k sc g a = record {

@@ -27,6 +27,7 @@ use Rattle.saw_model.proofs.Elaborated.{met_more, one_ran}
 
 -- THE PARTS OF WHAT IS READ
 
+-- a name that is new is not known
 pub new_is : (o : Option Known) (u : Unit {0}) → is_new o ≡ Ok u → o ≡ None
 new_is None u h = refl
 new_is (Some b) u h = absurd (cc h)
@@ -49,6 +50,7 @@ pub record Declared (n : Name) (t : Option Expression) (s0 : At) (y : Steps × A
   pub value_is : first_term t s0.scope ≡ Ok value
   pub is : (one_step (steps.Set s0.slots value), record (one_more s0) { scope = (n, Var s0.slots) ∷ s0.scope; slots = s0.slots + 1 }) ≡ y
 
+-- the parts of a declaration
 pub declared_parts : (n : Name) (t : Option Expression) (s0 : At) (y : Steps × At) → step_of (Declare n t) s0 ≡ fine y → Declared n t s0 y
 declared_parts n t s0 y h =
     let f3 : At → Term → Read = λ s v. Ok (declared n s v) in
@@ -75,6 +77,7 @@ pub record Assigned (n : Name) (t : Expression) (s0 : At) (y : Steps × At) : Ty
   pub value_is : term_of s0.scope t ≡ Ok value
   pub is : (one_step (steps.Set slot value), one_more s0) ≡ y
 
+-- the parts of an assignment
 pub assigned_parts : (n : Name) (t : Expression) (s0 : At) (y : Steps × At) → step_of (Assign n t) s0 ≡ fine y → Assigned n t s0 y
 assigned_parts n t s0 y h =
     let f1 : At → Read = λ s. on_ok (slot_of (find s.scope n)) (λ i. on_ok (term_of s.scope t) (λ v. Ok (one_step (steps.Set i v), s))) in
@@ -96,6 +99,7 @@ pub record Sent (t : Name) (is : List Expression) (v : Expression) (w : Option E
   pub weights_is : weight_of port.1 w s0.scope ≡ Ok weights
   pub made : (one_step (steps.Push port.0 (indexes ++ value ∷ weights)), one_more s0) ≡ y
 
+-- the parts of an emit
 pub sent_parts : (t : Name) (is : List Expression) (v : Expression) (w : Option Expression) (s0 : At) (y : Steps × At) → step_of (Emit t is v w) s0 ≡ fine y
     → Sent t is v w s0 y
 sent_parts t is v w s0 y h =
@@ -133,6 +137,7 @@ pub record Forked (t : Expression) (a : Block) (b : Optional) (s0 : At) (y : Ste
   pub second_is : steps_optional b (record (one_more s0) { slots = first.1.slots; size = first.1.size }) ≡ Ok second
   pub is : (one_step (steps.If cond first.0 second.0), record second.1 { scope = s0.scope }) ≡ y
 
+-- the parts of an `if`
 pub forked_parts : (t : Expression) (a : Block) (b : Optional) (s0 : At) (y : Steps × At) → step_of (If t a b) s0 ≡ fine y → Forked t a b s0 y
 forked_parts t a b s0 y h =
     let f3 : At → Term → Steps × At → Steps × At → Read = λ s c p q. Ok (one_step (steps.If c p.0 q.0), record q.1 { scope = s.scope }) in
@@ -152,6 +157,7 @@ pub record Followed (c : Statement) (b : Block) (s : At) (y : Steps × At) : Typ
   pub others_is : steps_of b first.1 ≡ Ok others
   pub is : (joined first.0 others.0, others.1) ≡ y
 
+-- a statement and those behind it
 pub followed_parts : (c : Statement) (b : Block) (s : At) (y : Steps × At) → steps_of (Then c b) s ≡ fine y → Followed c b s y
 followed_parts c b s y h =
     let p = ok_parts (step_of c s) (λ p. on_ok (steps_of b p.1) (λ q. Ok (joined p.0 q.0, q.1))) y h in
@@ -160,6 +166,7 @@ followed_parts c b s y h =
 
 -- READING GOES ON
 
+-- where the second arm begins
 abbrev pub second_at : At → Steps × At → At
 second_at s p = record (one_more s) { slots = p.1.slots; size = p.1.size }
 
@@ -173,6 +180,7 @@ grows_new n s new = record {
 }
 
 mutual
+  -- a statement only adds to what is known
   pub grows : (c : Statement) (s : At) (y : Steps × At) → step_of c s ≡ fine y → Grows s y.1
   grows (Declare n t) s y h = let d = declared_parts n t s y h in subst (λ (q : Steps × At). Grows s q.1) d.is (grows_new n s d.new)
   grows (Assign n t) s y h = let d = assigned_parts n t s y h in subst (λ (q : Steps × At). Grows s q.1) d.is (grows_same s (one_more s) refl refl refl)
@@ -183,6 +191,7 @@ mutual
       let k = grows_optional b (second_at s d.first) d.second d.second_is in
       subst (λ (q : Steps × At). Grows s q.1) d.is (grows_back s d.second.1 (let m = g.slots in let n = k.slots in omega (arith, m, n)) k.tables)
 
+  -- so does a block
   pub grows_all : (b : Block) (s : At) (y : Steps × At) → steps_of b s ≡ fine y → Grows s y.1
   grows_all End s y h = subst (λ (q : Steps × At). Grows s q.1) (ok_is (Done, s) y h) (grows_same s s refl refl refl)
   grows_all (Then c b) s y h =
@@ -202,9 +211,11 @@ module _ (w : ℕ) (r : List ℤ) (ts : List TableDecl) where
     pub ports : ArePorts ts s.scope
     pub agrees : Agrees s.scope now.values mem
 
+  -- the steps do what the statements do
   abbrev pub MetBy : At → State → State → Steps × At → List ℤ → Type 0
   MetBy s now now' y mem = Met ts now now' y.1.scope (ran y.0 (take w r) mem)
 
+  -- what is ready before a statement is ready behind it
   pub ready_after : (s : At) (now now' : State) (y : Steps × At) (mem : List ℤ) → Ready s now mem → Grows s y.1 → MetBy s now now' y mem
       → Ready y.1 now' (ran y.0 (take w r) mem).slots
   ready_after s now now' y mem k g m = record { sound = g.sound k.sound; ports = g.ports ts k.ports; agrees = m.agrees }
@@ -265,6 +276,7 @@ module _ (w : ℕ) (r : List ℤ) (ts : List TableDecl) where
       record { agrees = agrees_within sc sc' now'.values run.slots k m.agrees; new = m.new; emitted_are = m.emitted_are; matches = m.matches }
 
   mutual
+    -- the steps of a statement do what it does
     pub met : (c : Statement) (s : At) (y : Steps × At) (now : State) (mem : List ℤ) → step_of c s ≡ fine y → reach_statement c ≤ w → Ready s now mem
         → y.1.slots ≤ length mem → MetBy s now (exec c r now) y mem
     met (Declare n t) s y now mem h b k len = declare_met n t s y now mem (declared_parts n t s y h) b k len

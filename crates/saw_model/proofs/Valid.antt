@@ -350,5 +350,6 @@ module _ (p : Program) (read : Steps × At) (low : AreShallowParts p) (h : parts
       bit : (n v : Name) → one_if (name_eq n v) + 0 ≤ 1
       bit n v = ⊎_elim (λ c. let e = ap one_if c.1 in omega (arith, e)) (λ c. let e = ap one_if c.1 in omega (arith, e)) (cases_name n v)
 
+-- the plan of an accepted program is valid
 pub plans_are_valid : PlansAreValid
 plans_are_valid p read low h = valid p read low (reads_parts 1 p nothing_read read h)

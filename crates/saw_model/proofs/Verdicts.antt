@@ -7,18 +7,22 @@ use Rattle.saw_model.specs.Places.{Mark}
 
 -- ONE PLACE
 
+-- a mark without a fault
 abbrev pub IsFine : List Mark → Mark → Type 0
 IsFine b m = (f : Fault) → HasFault b m f → ⊥
 
+-- a mark that has none of the faults
 pub fine_by : (b : List Mark) (m : Mark) → (IsUnknown b m → ⊥) → (IsTwice b m → ⊥) → (IsMisshapen b m → ⊥) → (IsTooMuch b m → ⊥) → IsFine b m
 fine_by b m p q r s UnknownName h = p h
 fine_by b m p q r s NameTwice h = q h
 fine_by b m p q r s Shape h = r h
 fine_by b m p q r s Limit h = s h
 
+-- an unknown name is told first
 pub first_unknown : (b : List Mark) (m : Mark) → IsUnknown b m → IsFirstFault b m UnknownName
 first_unknown b m h = record { has = h; first = λ g lt. absurd (omega (arith, lt)) }
 
+-- then a name that stands twice
 pub first_twice : (b : List Mark) (m : Mark) → (IsUnknown b m → ⊥) → IsTwice b m → IsFirstFault b m NameTwice
 first_twice b m p h = record { has = h; first = first }
   where
@@ -28,6 +32,7 @@ first_twice b m p h = record { has = h; first = first }
     first Shape lt d = omega (arith, lt)
     first Limit lt d = omega (arith, lt)
 
+-- then a wrong shape
 pub first_shape : (b : List Mark) (m : Mark) → (IsUnknown b m → ⊥) → (IsTwice b m → ⊥) → IsMisshapen b m → IsFirstFault b m Shape
 first_shape b m p q h = record { has = h; first = first }
   where
@@ -37,6 +42,7 @@ first_shape b m p q h = record { has = h; first = first }
     first Shape lt d = omega (arith, lt)
     first Limit lt d = omega (arith, lt)
 
+-- then a limit
 pub first_limit : (b : List Mark) (m : Mark) → (IsUnknown b m → ⊥) → (IsTwice b m → ⊥) → (IsMisshapen b m → ⊥) → IsTooMuch b m → IsFirstFault b m Limit
 first_limit b m p q r h = record { has = h; first = first }
   where
@@ -75,6 +81,7 @@ one_first b m f g x y = ⊎_elim
 
 -- ALL PLACES OF A TEXT, BEHIND ANOTHER
 
+-- marks without a fault
 abbrev pub AreFine : List Mark → List Mark → Type 0
 AreFine b [] = Unit {0}
 AreFine b (m ∷ ms) = IsFine b m × AreFine (b ++ m ∷ []) ms
@@ -84,6 +91,7 @@ abbrev pub HasFirst : List Mark → List Mark → Fault → Type 0
 HasFirst b [] f = ⊥
 HasFirst b (m ∷ ms) f = IsFirstFault b m f ⊎ (IsFine b m × HasFirst (b ++ m ∷ []) ms f)
 
+-- two lists of such marks
 pub fine_both : (b ms ns : List Mark) → AreFine b ms → AreFine (b ++ ms) ns → AreFine b (ms ++ ns)
 fine_both b [] ns a c = subst (λ x. AreFine x ns) (append-nil b) c
 fine_both b (m ∷ ms) ns a c = (a.0, fine_both (b ++ m ∷ []) ms ns a.1 (subst (λ x. AreFine x ns) (sym (append_assoc b (m ∷ []) ms)) c))
@@ -96,10 +104,12 @@ pub first_behind : (b ms ns : List Mark) (f : Fault) → AreFine b ms → HasFir
 first_behind b [] ns f a h = subst (λ x. HasFirst x ns f) (append-nil b) h
 first_behind b (m ∷ ms) ns f a h = inr (a.0, first_behind (b ++ m ∷ []) ms ns f a.1 (subst (λ x. HasFirst x ns f) (sym (append_assoc b (m ∷ []) ms)) h))
 
+-- marks without a fault have no first one
 pub not_both : (b ms : List Mark) (f : Fault) → AreFine b ms → HasFirst b ms f → ⊥
 not_both b [] f a h = h
 not_both b (m ∷ ms) f a h = ⊎_elim (λ x. a.0 f x.has) (λ x. not_both (b ++ m ∷ []) ms f a.1 x.1) h
 
+-- there is one first fault
 pub one_fault : (b ms : List Mark) (f g : Fault) → HasFirst b ms f → HasFirst b ms g → f ≡ g
 one_fault b [] f g x y = absurd x
 one_fault b (m ∷ ms) f g x y = ⊎_elim
@@ -116,6 +126,7 @@ pub record Stands (b ms : List Mark) (f : Fault) : Type 0 where
   pub fine : AreFine b read
   pub fault : IsFirstFault (b ++ read) here f
 
+-- the first fault stands at a place
 pub first_stands : (b ms : List Mark) (f : Fault) → HasFirst b ms f → Stands b ms f
 first_stands b [] f h = absurd h
 first_stands b (m ∷ ms) f h = ⊎_elim
@@ -132,6 +143,7 @@ first_stands b (m ∷ ms) f h = ⊎_elim
     })
     h
 
+-- and what stands so is the first
 pub stands_first : (b read : List Mark) (here : Mark) (left : List Mark) (f : Fault) → AreFine b read → IsFirstFault (b ++ read) here f
     → HasFirst b (read ++ here ∷ left) f
 stands_first b [] here left f a h = inl (subst (λ y. IsFirstFault y here f) (append-nil b) h)
@@ -159,9 +171,11 @@ all_fine b (m ∷ ms) h = (
   all_fine (b ++ m ∷ []) ms (λ before x after e. subst (λ z. IsFine z x) (sym (append_assoc b (m ∷ []) before)) (h (m ∷ before) x after (ap (λ l. m ∷ l) e))),
 )
 
+-- without a first fault no place has one
 pub faultless_is : (ms : List Mark) → AreFine [] ms → IsFaultless ms
 faultless_is ms a = fine_all [] ms a
 
+-- and back
 pub is_faultless : (ms : List Mark) → IsFaultless ms → AreFine [] ms
 is_faultless ms h = all_fine [] ms h
 

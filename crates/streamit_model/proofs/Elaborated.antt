@@ -28,6 +28,7 @@ use Rattle.streamit_model.specs.Elaborate.{declared, after_arms, unrolled, step_
 
 -- ANSWERS
 
+-- a result without a fault
 abbrev pub fine : {A : Type 0} → A → Result A Fault
 fine x = Ok x
 
@@ -299,6 +300,7 @@ bound_is : (z : ℤ) (n : ℕ) → bound_of z ≡ Ok n → count_of z ≡ n
 bound_is (pos m) n h = (if_ok (nat_le m 65536) m n Limit h).1
 bound_is (negsuc m) n h = absurd (cc h)
 
+-- reading only adds to what is known
 abbrev pub Grown : (At → Read) → Type 0
 Grown f = (s : At) (y : Steps × At) → f s ≡ Ok y → Grows s y.1
 

@@ -29,6 +29,7 @@ use Rattle.streamit_model.proofs.EachOp.{OfEach}
 
 -- THE VARIABLE
 
+-- an operator owns its variable
 abbrev pub OwnsIt : OpForm → Type 0
 OwnsIt op = (v : Name) → vars_it v op ≤ named_it v op
 
@@ -46,6 +47,7 @@ own_each = record {
 
 -- THE TYPES
 
+-- an operator's kernel fits its queues
 abbrev pub IsFitting : OpForm → Type 0
 IsFitting op =
     (kind : Name → QueueType) (var : Name → VarKind) → ((q : Name) → 0 < reads_it q op + writes_it q op → kind q ≡ rows 1)

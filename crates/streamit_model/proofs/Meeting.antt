@@ -14,6 +14,7 @@ use Rattle.streamit_model.specs.Faulty.{IsFirstFault}
 abbrev pub IsFree : List Declared → Spot → Type 0
 IsFree above s = (f : Fault) → HasFault above s f → ⊥
 
+-- places without a fault
 abbrev pub AllFree : List Declared → List Spot → Type 0
 AllFree above [] = Unit {0}
 AllFree above (s ∷ ss) = IsFree above s × AllFree above ss
@@ -23,6 +24,7 @@ abbrev pub FirstIn : List Declared → List Spot → Fault → Type 0
 FirstIn above [] f = ⊥
 FirstIn above (s ∷ ss) f = IsFirstFault above s f ⊎ (IsFree above s × FirstIn above ss f)
 
+-- what is read has no fault, or its first one
 abbrev pub Meets : {A : Type 0} → List Declared → List Spot → Result A Fault → (A → Type 0) → Type 0
 Meets above ss (Ok x) P = AllFree above ss × P x
 Meets above ss (Err f) P = FirstIn above ss f

@@ -17,6 +17,7 @@ abbrev said : ℕ → List ℕ → ℕ
 said n [] = n
 said n (c ∷ cs) = if nat_eq c 64 then said 0 cs else said (n * 10 + (c - 48)) cs
 
+-- the number behind the last `@` of a name
 abbrev pub number_in : List ℕ → ℕ
 number_in text = said 0 text
 
@@ -60,6 +61,7 @@ number_is name k lt = said_at 0 name (decimal k) ∙ said_decimal k lt
 
 -- SUMS OVER NUMBERS
 
+-- a sum over numbers
 abbrev pub sum_from : (ℕ → ℕ) → ℕ → ℕ → ℕ
 sum_from f k zero = 0
 sum_from f k (suc n) = f k + sum_from f (suc k) n
