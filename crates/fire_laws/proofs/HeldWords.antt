@@ -39,13 +39,16 @@ held_front t xs hs f =
     omega (arith, a, b, c, d, e)) in
     same_front xs (held t [] (take n hs)) f.0 (held t (take n hs) (drop n hs)) (f.1 ∙ parts) (sym long)
 
+-- a front of what a queue holds is not longer than what it holds it for
 pub held_fewer : (t : QueueType) (xs hs : List item.Item) → IsFront xs (held t [] hs) → length xs ≤ length hs
 held_fewer t xs hs f = let a = ap length f.1 in let b = length-append xs f.0 in let c = length-held t [] hs in omega (arith, a, b, c)
 
+-- what holds of all elements holds of those in front
 pub all_left : {A : Type 0} (P : A → Type 0) (xs ys : List A) → All P (xs ++ ys) → All P xs
 all_left P [] ys h = All-nil P
 all_left P (x ∷ xs) ys h = All-cons P x xs (All-head P x (xs ++ ys) h) (all_left P xs ys (All-tail P x (xs ++ ys) h))
 
+-- and of one in the middle
 pub all_mid : {A : Type 0} (P : A → Type 0) (xs ys : List A) (x : A) → All P (xs ++ x ∷ ys) → P x
 all_mid P [] ys x h = All-head P x ys h
 all_mid P (y ∷ xs) ys x h = all_mid P xs ys x (All-tail P y (xs ++ x ∷ ys) h)
@@ -61,6 +64,7 @@ pub relabel : Word → (ℕ → List item.Item) → Word
 relabel [] l = []
 relabel (e ∷ es) l = (e.0, first_or e.1 (l e.0)) ∷ relabel es (at_key e.0 (drop 1 (l e.0)) l)
 
+-- it has the same ports
 pub relabel_ports : (w : Word) (l : ℕ → List item.Item) → ports_of (relabel w l) ≡ ports_of w
 unfolding relabel
 relabel_ports [] l = refl
@@ -79,7 +83,9 @@ length_rest : (xs : List item.Item) (n : ℕ) → length xs ≡ suc n → length
 length_rest [] n e = absurd (omega (arith, e))
 length_rest (x ∷ xs) n e = omega (arith, e)
 
-pub relabel_at : (w : Word) (l : ℕ → List item.Item) → ((port : ℕ) → length (l port) ≡ length (at_port port w)) → (port : ℕ) → at_port port (relabel w l) ≡ l port
+-- the word with these items has them at its ports
+pub relabel_at : (w : Word) (l : ℕ → List item.Item) → ((port : ℕ) → length (l port) ≡ length (at_port port w)) → (port : ℕ)
+    → at_port port (relabel w l) ≡ l port
 unfolding relabel
 relabel_at [] l h port = sym (nothing_left (l port) (h port))
 relabel_at (e ∷ es) l h port =
@@ -99,6 +105,7 @@ relabel_at (e ∷ es) l h port =
 
 -- WORDS BY THEIR PORTS
 
+-- a word is typed where its ports are
 pub typed_ports : (types : List QueueType) (w : Word) → ((port : ℕ) → All (IsOf types port) (at_port port w)) → IsWordOf types w
 typed_ports types [] h = tt
 typed_ports types (e ∷ es) h = (
@@ -122,6 +129,7 @@ first_of_two a b us bs e = cc
 rest_of_two : (a b : ℕ) (us bs : List ℕ) → a ∷ us ≡ b ∷ bs → us ≡ bs
 rest_of_two a b us bs e = cc
 
+-- words with the same ports have ports below the same number
 pub below_same : (n : ℕ) (w is : Word) → ports_of w ≡ ports_of is → PortsBelow n is → PortsBelow n w
 below_same n [] is e b = tt
 below_same n (x ∷ w) [] e b = absurd (cc e)
@@ -130,12 +138,14 @@ below_same n (x ∷ w) (i ∷ is) e b = (
   below_same n w is (rest_of_two x.0 i.0 (ports_of w) (ports_of is) e) b.1,
 )
 
+-- beyond the ports nothing came
 pub nothing_beyond : (n : ℕ) (w : Word) (port : ℕ) → PortsBelow n w → n ≤ port → at_port port w ≡ []
 nothing_beyond n [] port b le = refl
 nothing_beyond n (e ∷ es) port b le =
     let ne : e.0 ≢ port = (let lt = b.0 in omega (arith, lt, le)) in
     at_port_past port e es ne ∙ nothing_beyond n es port b.1 le
 
+-- beyond the names there is no list
 pub no_list : (h : History) (rs : List Name) (port : ℕ) → length rs ≤ port → lists_of h rs port ≡ []
 no_list h [] port le = refl
 no_list h (r ∷ rs) zero le = absurd (omega (arith, le))
@@ -146,6 +156,7 @@ not_got [] n le = refl
 not_got (x ∷ xs) zero le = absurd (omega (arith, le))
 not_got (x ∷ xs) (suc n) le = not_got xs n (omega (arith, le))
 
+-- there is an element at a place, or the place is behind the list
 pub found : {A : Type 0} (xs : List A) (n : ℕ) → ((x : A) × (slice_get xs n ≡ Some x)) ⊎ (length xs ≤ n)
 found [] n = inr (omega arith)
 found (x ∷ xs) zero = inl (x, refl)

@@ -39,11 +39,14 @@ use Rattle.fire_laws.specs.Joins.{TasksJoin, Joins, AreBeside, spread, kept_by, 
 use Rattle.fire_laws.proofs.HeldWords.{held_front, held_fewer, all_left, all_mid, relabel, relabel_ports, relabel_at, typed_ports, below_same, nothing_beyond, no_list, found}
 
 -- what these operators have at a queue of theirs
-pub spread_out : (names : OpForm → List Name) (f : ℕ → ℕ → List item.Item) (ops : List OpForm) (o : ℕ) (h : History) (q : Name) → total (λ op. count q (names op)) ops ≡ 0 → spread names f o ops h q ≡ h q
+pub spread_out : (names : OpForm → List Name) (f : ℕ → ℕ → List item.Item) (ops : List OpForm) (o : ℕ) (h : History) (q : Name)
+    → total (λ op. count q (names op)) ops ≡ 0 → spread names f o ops h q ≡ h q
 spread_out names f [] o h q z = refl
 spread_out names f (op ∷ ops) o h q z = spread_out names f ops (suc o) (written (names op) (f o) h) q (omega (arith, z)) ∙ written_out (names op) (f o) h q (omega (arith, z))
 
-pub spread_lists : (names : OpForm → List Name) (f : ℕ → ℕ → List item.Item) (ops : List OpForm) (o : ℕ) (h : History) → ((q : Name) → total (λ op. count q (names op)) ops ≤ 1) → (i : ℕ) (op : OpForm) → slice_get ops i ≡ Some op
+-- each operator's lists are found under the names of its queues
+pub spread_lists : (names : OpForm → List Name) (f : ℕ → ℕ → List item.Item) (ops : List OpForm) (o : ℕ) (h : History)
+    → ((q : Name) → total (λ op. count q (names op)) ops ≤ 1) → (i : ℕ) (op : OpForm) → slice_get ops i ≡ Some op
     → Lists (names op) (f (o + i)) (spread names f o ops h)
 spread_lists names f [] o h once i op g = absurd (cc g)
 spread_lists names f (a ∷ ops) o h once zero op g =
@@ -64,6 +67,7 @@ lists_at [] f h l j q g = absurd (cc g)
 lists_at (w ∷ ws) f h l zero q g = subst (λ n. h n ≡ f 0) (some_is w q g) l.0
 lists_at (w ∷ ws) f h l (suc j) q g = lists_at ws (λ i. f (suc i)) h l.1 j q g
 
+-- a name that stands in a list has a place there
 pub place_of : (ws : List Name) (q : Name) → 0 < count q ws → (j : ℕ) × (slice_get ws j ≡ Some q)
 place_of [] q lt = absurd (omega (arith, lt))
 place_of (w ∷ ws) q lt = ⊎_elim
@@ -76,7 +80,8 @@ got_map f [] n x h = absurd (cc h)
 got_map f (y ∷ ys) zero x h = let e : y ≡ x = cc h in ap (λ z. Some (f z)) e
 got_map f (y ∷ ys) (suc n) x h = got_map f ys n x h
 
-none_or : (b : Option (ℕ × item.Item)) (is : List QueueType) → IsBad is b → ((e : ℕ × item.Item) → b ≡ Some e → e.0 < length is → (IsHeldOf is e.0 e.1 → ⊥) → ⊥) → b ≡ None
+none_or : (b : Option (ℕ × item.Item)) (is : List QueueType) → IsBad is b
+    → ((e : ℕ × item.Item) → b ≡ Some e → e.0 < length is → (IsHeldOf is e.0 e.1 → ⊥) → ⊥) → b ≡ None
 none_or None is h k = refl
 none_or (Some e) is h k = absurd (k e refl h.0 h.1)
 
@@ -104,14 +109,16 @@ module _ (p : PlanForm) (inputs : List (List item.Item)) (caps : Capacities) (ad
   -- NO ITEM FAILED ITS TEST
 
   -- all that was sent may be held by its queue, whatever the others did
-  sent_held : (o : ℕ) (op : OpForm) → slice_get p.ops o ≡ Some op → (j : ℕ) (q : Name) → slice_get op.writes j ≡ Some q → All (IsHeld (kind q)) (list_at (ts o).sent j)
+  sent_held : (o : ℕ) (op : OpForm) → slice_get p.ops o ≡ Some op → (j : ℕ) (q : Name) → slice_get op.writes j ≡ Some q
+      → All (IsHeld (kind q)) (list_at (ts o).sent j)
   sent_held o op g j q at =
       let t = (fired o op g).held j in
       all_left (IsHeld (kind q)) (list_at (ts o).sent j) (list_at (ts o).pending j)
       (subst (λ (k : Option QueueType). All (IsHeldBy k) (list_at (ts o).sent j ++ list_at (ts o).pending j)) (got_map kind op.writes j q at) t)
 
   -- so may all that lies where an operator reads
-  source_held : (o : ℕ) (op : OpForm) → slice_get p.ops o ≡ Some op → (port : ℕ) (q : Name) → slice_get op.reads port ≡ Some q → All (IsHeld (kind q)) (list_at (ts o).received port ++ left q)
+  source_held : (o : ℕ) (op : OpForm) → slice_get p.ops o ≡ Some op → (port : ℕ) (q : Name) → slice_get op.reads port ≡ Some q
+      → All (IsHeld (kind q)) (list_at (ts o).received port ++ left q)
   source_held o op g port q at = ⊎_elim
       (λ lt.
       let w = writer_of p.ops q lt in
@@ -318,7 +325,8 @@ module _ (p : PlanForm) (inputs : List (List item.Item)) (caps : Capacities) (ad
   abbrev state : Bounded
   state = bounded p inputs left ws
 
-  taken_is : (o : ℕ) (op : OpForm) → slice_get p.ops o ≡ Some op → (port : ℕ) (q : Name) → slice_get op.reads port ≡ Some q → state.taken q ≡ at_port port (ws o)
+  taken_is : (o : ℕ) (op : OpForm) → slice_get p.ops o ≡ Some op → (port : ℕ) (q : Name) → slice_get op.reads port ≡ Some q
+      → state.taken q ≡ at_port port (ws o)
   taken_is o op g port q at =
       let z : 0 + o ≡ o = omega arith in
       lists_at op.reads (λ i. at_port i (ws o)) (taken_by p ws)
@@ -329,7 +337,8 @@ module _ (p : PlanForm) (inputs : List (List item.Item)) (caps : Capacities) (ad
   unread q z = spread_out (λ a. a.reads) (λ i port. at_port port (ws i)) p.ops 0 (λ n. []) q z
 
   -- as many items were taken as were received
-  took_many : (o : ℕ) (op : OpForm) → slice_get p.ops o ≡ Some op → (port : ℕ) (q : Name) → slice_get op.reads port ≡ Some q → length (list_at (ts o).received port) ≡ length (state.taken q)
+  took_many : (o : ℕ) (op : OpForm) → slice_get p.ops o ≡ Some op → (port : ℕ) (q : Name) → slice_get op.reads port ≡ Some q
+      → length (list_at (ts o).received port) ≡ length (state.taken q)
   took_many o op g port q at =
       let a = ap length (received_is o op g port ∙ (good_at o op g).stands.items port) in
       let b = at-length (kinds_in p op) port [] (at_port port (ws o)) in
@@ -337,7 +346,8 @@ module _ (p : PlanForm) (inputs : List (List item.Item)) (caps : Capacities) (ad
       omega (arith, a, b, c)
 
   -- how many were sent to a queue
-  sent_many : (o : ℕ) (op : OpForm) → slice_get p.ops o ≡ Some op → (j : ℕ) (q : Name) → slice_get op.writes j ≡ Some q → length (state.taken q) + length (left q) ≡ length (list_at (ts o).sent j)
+  sent_many : (o : ℕ) (op : OpForm) → slice_get p.ops o ≡ Some op → (j : ℕ) (q : Name) → slice_get op.writes j ≡ Some q
+      → length (state.taken q) + length (left q) ≡ length (list_at (ts o).sent j)
   sent_many o op g j q at = ⊎_elim
       (λ lt.
       let r = reader_of p.ops q lt in
@@ -421,7 +431,8 @@ module _ (p : PlanForm) (inputs : List (List item.Item)) (caps : Capacities) (ad
   unwritten : (q : Name) → total (writes_it q) p.ops ≡ 0 → state.pending q ≡ []
   unwritten q z = none_behind (length (taken_by p ws q) + length (left q)) (hist_by p inputs ws q) (let a = given_many q z in omega (arith, a))
 
-  pends : (o : ℕ) (op : OpForm) → slice_get p.ops o ≡ Some op → (j : ℕ) (q : Name) → slice_get op.writes j ≡ Some q → length (list_at (ts o).pending j) ≡ length (state.pending q)
+  pends : (o : ℕ) (op : OpForm) → slice_get p.ops o ≡ Some op → (j : ℕ) (q : Name) → slice_get op.writes j ≡ Some q
+      → length (list_at (ts o).pending j) ≡ length (state.pending q)
   pends o op g j q at =
       let a = ap length (histories q) in
       let b = length-append (sent state q) (state.pending q) in
@@ -452,5 +463,6 @@ module _ (p : PlanForm) (inputs : List (List item.Item)) (caps : Capacities) (ad
     lies = lies;
   }
 
+-- tasks join: the law
 pub join_law : TasksJoin
 join_law p inputs caps adds ts left is v typed fired beside = joined_net p inputs caps adds ts left is v typed fired beside

@@ -35,11 +35,13 @@ there_is [] i lt = absurd (omega (arith, lt))
 there_is (x ∷ xs) zero lt = (x, refl)
 there_is (x ∷ xs) (suc i) lt = there_is xs i (omega (arith, lt))
 
+-- what was received at a port
 pub received_here : (ins : List inlet.Inlet) (port : ℕ) (i : inlet.Inlet) → slice_get ins port ≡ Some i → list_at (received_in ins) port ≡ received_of i
 received_here [] port i g = absurd (cc g)
 received_here (x ∷ ins) zero i g = let e : x ≡ i = cc g in ap received_of e
 received_here (x ∷ ins) (suc port) i g = received_here ins port i g
 
+-- what was sent at a port
 pub sent_here : (outs : List outlet.Outlet) (j : ℕ) (f : outlet.Outlet) → slice_get outs j ≡ Some f → list_at (sent_in outs) j ≡ sent_of f
 sent_here [] j f g = absurd (cc g)
 sent_here (x ∷ outs) zero f g = let e : x ≡ f = cc g in ap sent_of e
@@ -50,6 +52,7 @@ known_here [] port i g = absurd (cc g)
 known_here (x ∷ ins) zero i g = let e : x ≡ i = cc g in ap known_of e
 known_here (x ∷ ins) (suc port) i g = known_here ins port i g
 
+-- what is seen of the task of an operator
 pub seen_here : (ts : List Task) (o : ℕ) (t : Task) → slice_get ts o ≡ Some t → seen_at ts o ≡ seen t
 seen_here [] o t g = absurd (cc g)
 seen_here (x ∷ ts) zero t g = let e : x ≡ t = cc g in ap seen e
@@ -66,7 +69,8 @@ sent_there (x ∷ ts) zero j t g = let e : x ≡ t = cc g in ap (λ (y : Task). 
 sent_there (x ∷ ts) (suc o) j t g = sent_there ts o j t g
 
 -- the words of the tasks
-pub word_at : (p : PlanForm) (adds : ℕ → ℕ → List (List ℤ)) (ts : List Task) → ((i : ℕ) (d : Task) → i < length ts → IsTask p (adds (get_or ts i d).op) (get_or ts i d)) → ℕ → Word
+pub word_at : (p : PlanForm) (adds : ℕ → ℕ → List (List ℤ)) (ts : List Task)
+    → ((i : ℕ) (d : Task) → i < length ts → IsTask p (adds (get_or ts i d).op) (get_or ts i d)) → ℕ → Word
 word_at p adds [] h i = []
 word_at p adds (t ∷ ts) h zero = (h 0 t (omega arith)).word
 word_at p adds (t ∷ ts) h (suc i) = word_at p adds ts (λ n d lt. h (suc n) d (omega (arith, lt))) i
@@ -80,7 +84,8 @@ record Works (p : PlanForm) (adds : ℕ → ℕ → List (List ℤ)) (t : Task) 
   stands : Stands p op t w
   count : t.count ≡ min most_firings (length w)
 
-works_at : (p : PlanForm) (adds : ℕ → ℕ → List (List ℤ)) (ts : List Task) (h : (i : ℕ) (d : Task) → i < length ts → IsTask p (adds (get_or ts i d).op) (get_or ts i d)) (o : ℕ) (t : Task)
+works_at : (p : PlanForm) (adds : ℕ → ℕ → List (List ℤ)) (ts : List Task)
+    (h : (i : ℕ) (d : Task) → i < length ts → IsTask p (adds (get_or ts i d).op) (get_or ts i d)) (o : ℕ) (t : Task)
     → slice_get ts o ≡ Some t → Works p adds t (word_at p adds ts h o)
 unfolding word_at
 works_at p adds [] h o t g = absurd (cc g)
@@ -90,6 +95,7 @@ works_at p adds (x ∷ ts) h zero t g =
     subst (λ y. Works p adds y k.word) e (record { op = k.op; op_is = k.op_is; ins = k.ins; outs = k.outs; fired = k.fired; stands = k.stands; count = k.count })
 works_at p adds (x ∷ ts) h (suc o) t g = works_at p adds ts (λ n d lt. h (suc n) d (omega (arith, lt))) o t g
 
+-- of a settled ring, what was received, then what is known, is what was sent
 pub settled_ring : (f : outlet.Outlet) (i : inlet.Inlet) → IsSettled f i → received_of i ++ known_of i ≡ sent_of f
 settled_ring (SendsTo f) (TakesFrom t) s = s.0
 settled_ring (SendsTo f) (Given k) s = absurd s
@@ -100,6 +106,7 @@ ring_bound cap (SendsTo f) (TakesFrom t) l s = let a = l.1 in let b = s.1 in ome
 ring_bound cap (SendsTo f) (Given k) l s = absurd s
 ring_bound cap (Stored xs) i l s = absurd s
 
+-- what was received of an input, and what is left of it, is the input
 pub kept_input : (xs : List item.Item) (i : inlet.Inlet) → IsInput xs i → received_of i ++ known_of i ≡ xs
 kept_input xs (TakesFrom t) h = absurd h
 kept_input xs (Given k) h = take-append-drop k.taken k.line ∙ h
@@ -130,6 +137,7 @@ module _ (p : PlanForm) (inputs : List (List item.Item)) (caps : Capacities) (ad
     pub stands : Stands p op t (word_at p adds ts tasks.each o)
     pub count : t.count ≡ min most_firings (length (word_at p adds ts tasks.each o))
 
+  -- the facts of the task of an operator
   pub at_op : (o : ℕ) (op : OpForm) (t : Task) → slice_get p.ops o ≡ Some op → slice_get ts o ≡ Some t → At o op t
   at_op o op t g gt =
       let w = works_at p adds ts tasks.each o t gt in
@@ -142,14 +150,18 @@ module _ (p : PlanForm) (inputs : List (List item.Item)) (caps : Capacities) (ad
       let t = task_of o op g in
       subst (λ s. HasFired p op (adds o) s (words o)) (sym (seen_here ts o t.0 t.1)) (at_op o op t.0 g t.1).fired
 
-  pub inlet_of : (o port : ℕ) (op : OpForm) (q : Name) (t : Task) → slice_get p.ops o ≡ Some op → slice_get op.reads port ≡ Some q → slice_get ts o ≡ Some t → (i : inlet.Inlet) × (slice_get t.ins port ≡ Some i)
+  -- the end at a port that is read
+  pub inlet_of : (o port : ℕ) (op : OpForm) (q : Name) (t : Task) → slice_get p.ops o ≡ Some op → slice_get op.reads port ≡ Some q
+      → slice_get ts o ≡ Some t → (i : inlet.Inlet) × (slice_get t.ins port ≡ Some i)
   inlet_of o port op q t g r gt = there_is t.ins port (let a = (at_op o op t g gt).ins in let b = got_below op.reads port q r in omega (arith, a, b))
 
-  pub outlet_of : (o j : ℕ) (op : OpForm) (q : Name) (t : Task) → slice_get p.ops o ≡ Some op → slice_get op.writes j ≡ Some q → slice_get ts o ≡ Some t → (f : outlet.Outlet) × (slice_get t.outs j ≡ Some f)
+  pub outlet_of : (o j : ℕ) (op : OpForm) (q : Name) (t : Task) → slice_get p.ops o ≡ Some op → slice_get op.writes j ≡ Some q
+      → slice_get ts o ≡ Some t → (f : outlet.Outlet) × (slice_get t.outs j ≡ Some f)
   outlet_of o j op q t g r gt = there_is t.outs j (let a = (at_op o op t g gt).outs in let b = got_below op.writes j q r in omega (arith, a, b))
 
   -- what lies at a reader
-  pub left_read : (o port : ℕ) (op : OpForm) (q : Name) (t : Task) (i : inlet.Inlet) → slice_get p.ops o ≡ Some op → slice_get op.reads port ≡ Some q → slice_get ts o ≡ Some t → slice_get t.ins port ≡ Some i → left q ≡ known_of i
+  pub left_read : (o port : ℕ) (op : OpForm) (q : Name) (t : Task) (i : inlet.Inlet) → slice_get p.ops o ≡ Some op → slice_get op.reads port ≡ Some q
+      → slice_get ts o ≡ Some t → slice_get t.ins port ≡ Some i → left q ≡ known_of i
   left_read o port op q t i g r gt gi =
       let z : 0 + o ≡ o = omega arith in
       let base = spread (λ a. a.writes) (sent_at ts) 0 p.ops (given_to p inputs) in
@@ -161,10 +173,12 @@ module _ (p : PlanForm) (inputs : List (List item.Item)) (caps : Capacities) (ad
   left_unread : (q : Name) → total (reads_it q) p.ops ≡ 0 → left q ≡ spread (λ a. a.writes) (sent_at ts) 0 p.ops (given_to p inputs) q
   left_unread q z = spread_out (λ a. a.reads) (known_in ts) p.ops 0 (spread (λ a. a.writes) (sent_at ts) 0 p.ops (given_to p inputs)) q z
 
-  pub ends : (o o' port j : ℕ) (op op' : OpForm) (q : Name) (t t' : Task) (f : outlet.Outlet) (i : inlet.Inlet) → slice_get p.ops o ≡ Some op → slice_get op.reads port ≡ Some q → slice_get p.ops o' ≡ Some op' → slice_get op'.writes j ≡ Some q
+  pub ends : (o o' port j : ℕ) (op op' : OpForm) (q : Name) (t t' : Task) (f : outlet.Outlet) (i : inlet.Inlet) → slice_get p.ops o ≡ Some op
+      → slice_get op.reads port ≡ Some q → slice_get p.ops o' ≡ Some op' → slice_get op'.writes j ≡ Some q
       → slice_get ts o ≡ Some t → slice_get ts o' ≡ Some t' → slice_get t.ins port ≡ Some i → slice_get t'.outs j ≡ Some f → Ends p ts o o' port j q f i
   ends o o' port j op op' q t t' f i g r g' r' gt gt' gi gf = record { op = op; op' = op'; op_is = g; reads = r; op_is' = g'; writes = r'; t = t; t' = t'; t_is = gt; t_is' = gt'; in_is = gi; out_is = gf }
 
+  -- what the rings tell of these tasks
   pub beside : AreBeside p inputs caps (seen_at ts) left
   beside = record {
     inner = λ o o' op op' port j q g r g' r'.
@@ -208,9 +222,11 @@ module _ (p : PlanForm) (inputs : List (List item.Item)) (caps : Capacities) (ad
         omega (arith, b, k);
   }
 
+  -- the tasks join
   pub joins_by : AreInputs p.inputs inputs → Joins p inputs caps (seen_at ts) left words
   joins_by typed = join_law p inputs caps adds (seen_at ts) left words v typed fired beside
 
+  -- the tasks are a net
   pub make_net : AreInputs p.inputs inputs → MakeNet p inputs caps adds ts
   make_net typed =
       let n = joins_by typed in
@@ -223,12 +239,14 @@ module _ (p : PlanForm) (inputs : List (List item.Item)) (caps : Capacities) (ad
       }
 
   -- what a task received is what it fired on
-  pub received_by : AreInputs p.inputs inputs → (o : ℕ) (op : OpForm) (t : Task) → slice_get p.ops o ≡ Some op → slice_get ts o ≡ Some t → (port : ℕ) → list_at (received_in t.ins) port ≡ at_port port (words o)
+  pub received_by : AreInputs p.inputs inputs → (o : ℕ) (op : OpForm) (t : Task) → slice_get p.ops o ≡ Some op → slice_get ts o ≡ Some t → (port : ℕ)
+      → list_at (received_in t.ins) port ≡ at_port port (words o)
   received_by typed o op t g gt port =
       let a = at_op o op t g gt in
       let none_bad = (joins_by typed).none_bad o op g in
       let fine : t.bad ≡ None = ap (λ (s : Seen). s.bad) (sym (seen_here ts o t gt)) ∙ none_bad in
       a.fired.received port ∙ ap (λ x. at_port port (words o) ++ bad_at port x) fine ∙ append-nil (at_port port (words o))
 
+-- settled tasks are a net: the law
 pub settled_law : SettledIsNet
 settled_law p inputs caps adds ts v laid tasks settled typed = make_net p inputs caps adds ts v laid tasks settled typed

@@ -26,19 +26,22 @@ use Rattle.fire_tasks.specs.Tasks.{all_moves, seen}
 use Rattle.fire_laws.proofs.NetLemmas.{joins_by, word_at, at_op, received_by, there_is}
 
 -- as long as all that came at its ports together
-ports_length : (op : OpForm) (w : Word) → ((q : Name) → count q op.reads ≤ 1) → PortsBelow (length op.reads) w → length w ≡ lengths_at op.reads (λ port. at_port port w)
+ports_length : (op : OpForm) (w : Word) → ((q : Name) → count q op.reads ≤ 1) → PortsBelow (length op.reads) w
+    → length w ≡ lengths_at op.reads (λ port. at_port port w)
 ports_length op w once b =
     let h : History = written op.reads (λ port. at_port port w) (λ q. []) in
     let l : Lists op.reads (λ port. at_port port w) h = lists_written op.reads (λ port. at_port port w) (λ q. []) h once (λ q lt. refl) in
     word_lengths op.reads h w b (λ port q g. sym (lists_at op.reads (λ i. at_port i w) h l port q g)) ∙ sym (lists_lengths op.reads (λ port. at_port port w) h l)
 
-received_counts : (ins : List inlet.Inlet) (rs : List Name) (f : ℕ → List item.Item) → length ins ≡ length rs → ((port : ℕ) → list_at (received_in ins) port ≡ f port) → received_count ins ≡ lengths_at rs f
+received_counts : (ins : List inlet.Inlet) (rs : List Name) (f : ℕ → List item.Item) → length ins ≡ length rs
+    → ((port : ℕ) → list_at (received_in ins) port ≡ f port) → received_count ins ≡ lengths_at rs f
 received_counts [] [] f e h = refl
 received_counts [] (r ∷ rs) f e h = absurd (omega (arith, e))
 received_counts (i ∷ ins) [] f e h = absurd (omega (arith, e))
 received_counts (i ∷ ins) (r ∷ rs) f e h = let a = ap length (h 0) in let b = received_counts ins rs (λ port. f (suc port)) (omega (arith, e)) (λ port. h (suc port)) in omega (arith, a, b)
 
-sent_counts : (outs : List outlet.Outlet) (ws : List Name) (f : ℕ → List item.Item) (pending : ℕ → List item.Item) → length outs ≡ length ws → ((j : ℕ) → j < length ws → length (list_at (sent_in outs) j) + length (pending j) ≡ length (f j)) → sent_count outs ≤ lengths_at ws f
+sent_counts : (outs : List outlet.Outlet) (ws : List Name) (f : ℕ → List item.Item) (pending : ℕ → List item.Item) → length outs ≡ length ws
+    → ((j : ℕ) → j < length ws → length (list_at (sent_in outs) j) + length (pending j) ≡ length (f j)) → sent_count outs ≤ lengths_at ws f
 sent_counts [] [] f pending e h = omega arith
 sent_counts [] (r ∷ rs) f pending e h = absurd (omega (arith, e))
 sent_counts (i ∷ outs) [] f pending e h = absurd (omega (arith, e))
@@ -60,7 +63,8 @@ sent_by_is (x ∷ ts) zero t g = let e : x ≡ t = cc g in ap (λ (y : Task). se
 sent_by_is (x ∷ ts) (suc o) t g = sent_by_is ts o t g
 
 -- the numbers of the tasks are those of the words
-moves_are : (ts all : List Task) (ops : List OpForm) (o : ℕ) (ws : ℕ → Word) → length ts ≡ length ops → ((i : ℕ) (t : Task) → slice_get ts i ≡ Some t → (received_count t.ins ≡ length (ws (o + i))) × (sent_by all (o + i) ≡ sent_count t.outs))
+moves_are : (ts all : List Task) (ops : List OpForm) (o : ℕ) (ws : ℕ → Word) → length ts ≡ length ops
+    → ((i : ℕ) (t : Task) → slice_get ts i ≡ Some t → (received_count t.ins ≡ length (ws (o + i))) × (sent_by all (o + i) ≡ sent_count t.outs))
     → all_moves ts ≡ moves_from o ops ws (sent_by all)
 moves_are [] all [] o ws e h = refl
 moves_are [] all (op ∷ ops) o ws e h = absurd (omega (arith, e))
@@ -80,6 +84,7 @@ length-ports (e ∷ w) = ap suc (length-ports w)
 same_length : (u w : Word) → ports_of u ≡ ports_of w → length u ≡ length w
 same_length u w e = sym (length-ports u) ∙ ap length e ∙ length-ports w
 
+-- the numbers are few: the law
 pub numbers_law : NumbersAreFew
 numbers_law p inputs caps adds ts v laid tasks settled typed =
     let n = joins_by p inputs caps adds ts v laid tasks settled typed in

@@ -13,11 +13,13 @@ use Rattle.fire_laws.specs.Layout.{AreLaid, AreTasks, AreSettled, MakeNet}
 -- Tasks that keep their facts, laid out by the plan, with settled rings, are a net.
 abbrev pub SettledIsNet : Type 0
 SettledIsNet =
-    (p : PlanForm) (inputs : List (List item.Item)) (caps : Capacities) (adds : ℕ → ℕ → List (List ℤ)) (ts : List Task) → IsPlan p → AreLaid p inputs caps ts → AreTasks p adds ts → AreSettled p ts
+    (p : PlanForm) (inputs : List (List item.Item)) (caps : Capacities) (adds : ℕ → ℕ → List (List ℤ)) (ts : List Task) → IsPlan p
+    → AreLaid p inputs caps ts → AreTasks p adds ts → AreSettled p ts
     → AreInputs p.inputs inputs → MakeNet p inputs caps adds ts
 
 -- The numbers of tasks that are a net are at most twice the items of the defined histories.
 abbrev pub NumbersAreFew : Type 0
 NumbersAreFew =
-    (p : PlanForm) (inputs : List (List item.Item)) (caps : Capacities) (adds : ℕ → ℕ → List (List ℤ)) (ts : List Task) → IsPlan p → AreLaid p inputs caps ts → AreTasks p adds ts → AreSettled p ts
+    (p : PlanForm) (inputs : List (List item.Item)) (caps : Capacities) (adds : ℕ → ℕ → List (List ℤ)) (ts : List Task) → IsPlan p
+    → AreLaid p inputs caps ts → AreTasks p adds ts → AreSettled p ts
     → AreInputs p.inputs inputs → all_moves ts ≤ 2 * lengths (hist p inputs) (queue_names p)

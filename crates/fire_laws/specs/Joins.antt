@@ -19,13 +19,15 @@ use Rattle.fire_tasks.specs.Fired.{Seen, kinds_in, IsHeldAs, HasFired}
 -- what the rings tell, and the kept lists: `left` is what lies in each queue
 pub record AreBeside (p : PlanForm) (inputs : List (List item.Item)) (caps : Capacities) (ts : ℕ → Seen) (left : History) : Type 0 where
   -- a queue with a writer and a reader: received, then what is left, is sent
-  pub inner : (o o' : ℕ) (op op' : OpForm) (port j : ℕ) (q : Name) → slice_get p.ops o ≡ Some op → slice_get op.reads port ≡ Some q → slice_get p.ops o' ≡ Some op' → slice_get op'.writes j ≡ Some q
+  pub inner : (o o' : ℕ) (op op' : OpForm) (port j : ℕ) (q : Name) → slice_get p.ops o ≡ Some op → slice_get op.reads port ≡ Some q
+      → slice_get p.ops o' ≡ Some op' → slice_get op'.writes j ≡ Some q
       → list_at (ts o).received port ++ left q ≡ list_at (ts o').sent j
   -- an input that is read
   pub input : (o : ℕ) (op : OpForm) (port : ℕ) (q : Name) → slice_get p.ops o ≡ Some op → slice_get op.reads port ≡ Some q → total (writes_it q) p.ops ≡ 0
       → list_at (ts o).received port ++ left q ≡ given_to p inputs q
   -- an output, or another queue that nobody reads
-  pub output : (o' : ℕ) (op' : OpForm) (j : ℕ) (q : Name) → slice_get p.ops o' ≡ Some op' → slice_get op'.writes j ≡ Some q → total (reads_it q) p.ops ≡ 0 → left q ≡ list_at (ts o').sent j
+  pub output : (o' : ℕ) (op' : OpForm) (j : ℕ) (q : Name) → slice_get p.ops o' ≡ Some op' → slice_get op'.writes j ≡ Some q
+      → total (reads_it q) p.ops ≡ 0 → left q ≡ list_at (ts o').sent j
   -- an input that nobody reads
   pub unused : (q : Name) → total (reads_it q) p.ops ≡ 0 → total (writes_it q) p.ops ≡ 0 → left q ≡ given_to p inputs q
   pub within : (q : Name) → 0 < total (writes_it q) p.ops → 0 < total (reads_it q) p.ops → length (left q) ≤ caps q

@@ -63,9 +63,11 @@ pub record AreLaid (p : PlanForm) (inputs : List (List item.Item)) (caps : Capac
   pub many : length ts ≡ length p.ops
   pub numbers : (o : ℕ) (t : Task) → slice_get ts o ≡ Some t → t.op ≡ o
   pub rings : (o o' port j : ℕ) (q : Name) (f : outlet.Outlet) (i : inlet.Inlet) → Ends p ts o o' port j q f i → IsLink (caps q) f i
-  pub inputs_are : (o port : ℕ) (op : OpForm) (q : Name) (t : Task) (i : inlet.Inlet) → slice_get p.ops o ≡ Some op → slice_get op.reads port ≡ Some q → total (writes_it q) p.ops ≡ 0
+  pub inputs_are : (o port : ℕ) (op : OpForm) (q : Name) (t : Task) (i : inlet.Inlet) → slice_get p.ops o ≡ Some op → slice_get op.reads port ≡ Some q
+      → total (writes_it q) p.ops ≡ 0
       → slice_get ts o ≡ Some t → slice_get t.ins port ≡ Some i → IsInput (given_to p inputs q) i
-  pub outputs_are : (o' j : ℕ) (op' : OpForm) (q : Name) (t' : Task) (f : outlet.Outlet) → slice_get p.ops o' ≡ Some op' → slice_get op'.writes j ≡ Some q → total (reads_it q) p.ops ≡ 0
+  pub outputs_are : (o' j : ℕ) (op' : OpForm) (q : Name) (t' : Task) (f : outlet.Outlet) → slice_get p.ops o' ≡ Some op'
+      → slice_get op'.writes j ≡ Some q → total (reads_it q) p.ops ≡ 0
       → slice_get ts o' ≡ Some t' → slice_get t'.outs j ≡ Some f → IsStored f
 
 -- each task keeps the facts of itself, where this is what the operators added, each at its tables
@@ -108,7 +110,8 @@ pub record MakeNet (p : PlanForm) (inputs : List (List item.Item)) (caps : Capac
   pub items : ℕ → Word
   pub joins : Joins p inputs caps (seen_at ts) (left_in p inputs ts) items
   pub gave : (o : ℕ) (op : OpForm) (t : Task) → slice_get p.ops o ≡ Some op → slice_get ts o ≡ Some t → Gave p op (adds o) (seen t) (joins.words o)
-  pub stands : (o : ℕ) (op : OpForm) (t : Task) → slice_get p.ops o ≡ Some op → slice_get ts o ≡ Some t → StandsAfter op.kernel (kinds_in p op) (first_kept op.kernel) t.states (joins.words o)
+  pub stands : (o : ℕ) (op : OpForm) (t : Task) → slice_get p.ops o ≡ Some op → slice_get ts o ≡ Some t
+      → StandsAfter op.kernel (kinds_in p op) (first_kept op.kernel) t.states (joins.words o)
   pub counts : (o : ℕ) (op : OpForm) (t : Task) → slice_get p.ops o ≡ Some op → slice_get ts o ≡ Some t → t.count ≡ min most_firings (length (joins.words o))
 
 -- the two ends of one ring

@@ -20,6 +20,7 @@ pub record Counted (classes : List ℕ) (n : ℕ) : Type 0 where
   pub all : (i c : ℕ) → slice_get classes i ≡ Some c → c < n
   pub few : n ≤ length classes
 
+-- before the first table there is none
 pub counted_none : Counted [] 0
 counted_none = record { used = λ c lt. absurd (omega (arith, lt)); all = λ i c g. absurd (cc g); few = omega arith }
 
@@ -70,6 +71,7 @@ counted_next classes i n m b lt h e =
     subst (Counted (take i classes ++ x ∷ [])) (sym em) (counted_old (take i classes) n x h below))
     (cases_eq x n))
 
+-- so many classes there are, once all tables were seen
 pub counted_all : (classes : List ℕ) (n : ℕ) → Counted classes n → IsClassCount classes n
 counted_all classes n h = record { used = h.used; all = h.all }
 
@@ -97,7 +99,9 @@ kinds_append f c n (u ∷ ts) t =
     by true rest = ap (λ l. (n, u.kind) ∷ l) rest
     by false rest = rest
 
-pub kinds_next : (f : ℕ → ℕ) (c i x : ℕ) (b : Bool) (ts : List TableDecl) (t : TableDecl) (kinds kinds' : List (ℕ × TableKind)) → i < length ts → x ≡ f i → t ≡ get_or ts i t
+-- one table more, where it is of the class
+pub kinds_next : (f : ℕ → ℕ) (c i x : ℕ) (b : Bool) (ts : List TableDecl) (t : TableDecl) (kinds kinds' : List (ℕ × TableKind)) → i < length ts
+    → x ≡ f i → t ≡ get_or ts i t
     → b ≡ (x == c) → kinds ≡ kinds_from f c 0 (take i ts) → kinds' ≡ kinds ++ (if b then (i, t.kind) ∷ [] else []) → kinds' ≡ kinds_from f c 0 (take (i + 1) ts)
 kinds_next f c i x b ts t kinds kinds' lt ex et eb h e =
     let next : suc i ≡ i + 1 = omega arith in
@@ -120,7 +124,9 @@ kinds_same f g c n (t ∷ ts) h =
     ap (λ b. if b == c then (n, t.kind) ∷ kinds_from f c (suc n) ts else kinds_from f c (suc n) ts) (h n (omega arith) (omega arith))
     ∙ ap (λ l. if g n == c then (n, t.kind) ∷ l else l) (kinds_same f g c (suc n) ts (λ m le lt. h m (omega (arith, le)) (omega (arith, lt))))
 
-pub class_kinds_are : (p : PlanForm) (classes : List ℕ) (c : ℕ) → AreTableClasses p classes → kinds_from (λ n. slice_index_or classes n 0) c 0 p.tables ≡ class_kinds p c
+-- the tables of a class are told by the list of all classes
+pub class_kinds_are : (p : PlanForm) (classes : List ℕ) (c : ℕ) → AreTableClasses p classes
+    → kinds_from (λ n. slice_index_or classes n 0) c 0 p.tables ≡ class_kinds p c
 class_kinds_are p classes c h =
     kinds_same (λ n. slice_index_or classes n 0) (table_class p) c 0 p.tables (λ m le lt. get_or_from_slice_get classes m (table_class p m) 0 (h.each m (omega (arith, lt))))
 
@@ -135,6 +141,7 @@ all_behind f c n k (t ∷ ts) lt i x g = by (f k == c) (λ j e. all_behind f c n
     by true rest (suc j) e = rest j e
     by false rest j e = rest j e
 
+-- no table of a class stands twice
 pub kinds_distinct : (f : ℕ → ℕ) (c n : ℕ) (ts : List TableDecl) → AreDistinct (kinds_from f c n ts)
 kinds_distinct f c n [] = λ i j d li lj. absurd (omega (arith, lj))
 kinds_distinct f c n (t ∷ ts) = by (f n == c) (kinds_distinct f c (suc n) ts)
@@ -155,9 +162,11 @@ pub record CellsSoFar (p : PlanForm) (n : ℕ) (cells : List Holding) : Type 0 w
   pub kinds : (c : ℕ) (x : Holding) → slice_get cells c ≡ Some x → x.kinds ≡ class_kinds p c
   pub blank : (c : ℕ) (x : Holding) → slice_get cells c ≡ Some x → x.log ≡ []
 
+-- before the first class there is none
 pub cells_none : (p : PlanForm) (cells : List Holding) → cells ≡ [] → CellsSoFar p 0 cells
 cells_none p cells e = subst (CellsSoFar p 0) (sym e) (record { many = refl; kinds = λ c x g. absurd (cc g); blank = λ c x g. absurd (cc g) })
 
+-- one cell more
 pub cells_more : (p : PlanForm) (n : ℕ) (cells cells' : List Holding) (x : Holding) → CellsSoFar p n cells → x ≡ record { kinds = class_kinds p n; log = [] } → cells' ≡ cells ++ x ∷ []
     → CellsSoFar p (n + 1) cells'
 cells_more p n cells cells' x h ex e = subst (CellsSoFar p (n + 1)) (sym e) (record {
@@ -166,7 +175,9 @@ cells_more p n cells cells' x h ex e = subst (CellsSoFar p (n + 1)) (sym e) (rec
   blank = λ c y g. got_snoc cells x y c (λ i z. z.log ≡ []) g h.blank (ap (λ (z : Holding). z.log) ex);
 })
 
-pub cells_are : (p : PlanForm) (classes : List ℕ) (n : ℕ) (cells : List Holding) → AreTableClasses p classes → IsClassCount classes n → CellsSoFar p n cells → AreClassCells p cells
+-- cells of all classes, one after another, are the cells of the plan's classes
+pub cells_are : (p : PlanForm) (classes : List ℕ) (n : ℕ) (cells : List Holding) → AreTableClasses p classes → IsClassCount classes n
+    → CellsSoFar p n cells → AreClassCells p cells
 cells_are p classes n cells h k s = record {
   kinds = s.kinds;
   all = λ m lt. let a = k.all m (table_class p m) (h.each m lt) in let l = s.many in omega (arith, a, l);
@@ -179,5 +190,6 @@ cells_are p classes n cells h k s = record {
       (u.0, lu, some_is (table_class p u.0) c (sym (h.each u.0 lu) ∙ u.1));
 }
 
+-- nothing was added to them
 pub cells_blank : (p : PlanForm) (n : ℕ) (cells : List Holding) → CellsSoFar p n cells → All (λ (x : Holding). x.log ≡ []) cells
 cells_blank p n cells s k d lt = s.blank k (get_or cells k d) (slice_get-get_or cells k d lt)

@@ -37,6 +37,7 @@ use Rattle.fire_tasks.specs.Adds.{AreHomes}
 use Rattle.fire_open.specs.First.{first_lines, whole_list, IsFirstTask, AreFirstTasks}
 use Rattle.fire_open.specs.Fresh.{IsFresh, AreFresh}
 
+-- an element of a mapped list comes from one of the list
 pub map_got : {A B : Type 0} (f : A → B) (xs : List A) (n : ℕ) (y : B) → slice_get (map f xs) n ≡ Some y → (x : A) × (slice_get xs n ≡ Some x) × (f x ≡ y)
 map_got f [] n y g = absurd (cc g)
 map_got f (x ∷ xs) zero y g = (x, refl, some_is (f x) y g)
@@ -63,20 +64,25 @@ kinds_placed : (p : PlanForm) (qs : List Name) → map (kind_at (queue_kinds p))
 kinds_placed p [] = refl
 kinds_placed p (q ∷ qs) = λ i. kind_place p q i ∷ kinds_placed p qs i
 
+-- there is a type for each queue
 pub kinds_many : (p : PlanForm) → length (queue_kinds p) ≡ length (queue_names p)
 kinds_many p =
     ap length (sym (all_kinds p)) ∙ length-map (all_decls p) (λ (d : Decl). d.kind) ∙ sym (length-map (all_decls p) (λ (d : Decl). d.name)) ∙ ap length (all_names p)
 
 -- PLACES THAT ARE THERE
 
-pub reads_there : (p : PlanForm) → IsPlan p → (o : ℕ) (op : OpForm) → slice_get p.ops o ≡ Some op → (q : Name) → 0 < count q op.reads → 0 < count q (queue_names p)
+-- what an operator reads is a queue of the plan
+pub reads_there : (p : PlanForm) → IsPlan p → (o : ℕ) (op : OpForm) → slice_get p.ops o ≡ Some op → (q : Name) → 0 < count q op.reads
+    → 0 < count q (queue_names p)
 reads_there p v o op g q lt = v.reads_declared q (let a = at_most (reads_it q) p.ops o op g in omega (arith, a, lt))
 
 all_below : (names qs : List Name) (n : ℕ) → ((j : ℕ) (q : Name) → slice_get qs j ≡ Some q → place names q < n) → All (λ k. k < n) (places names qs)
 all_below names [] n h = All-nil (λ k. k < n)
 all_below names (q ∷ qs) n h = All-cons (λ k. k < n) (place names q) (places names qs) (h 0 q refl) (all_below names qs n (λ j r g. h (suc j) r g))
 
-pub places_there : (p : PlanForm) (o n : ℕ) (ps : List ℕ) → IsPlan p → o < length p.ops → ps ≡ list_at (read_places p) o → n ≡ length (queue_names p) → All (λ k. k < n) ps
+-- an operator reads at places that are there
+pub places_there : (p : PlanForm) (o n : ℕ) (ps : List ℕ) → IsPlan p → o < length p.ops → ps ≡ list_at (read_places p) o → n ≡ length (queue_names p)
+    → All (λ k. k < n) ps
 places_there p o n ps v lt e en =
     let op = op_at p.ops o lt in
     subst (All (λ k. k < n)) (sym (e ∙ places_at (λ d. d.reads) (queue_names p) p.ops o op.0 op.1))
@@ -169,25 +175,32 @@ module _ (p : PlanForm) (v : IsPlan p) (inputs : List (List item.Item)) (fit : F
             subst (λ z. IsStored z × (sent_of z ≡ [])) e (tt, refl);
       }
 
-  pub all_fresh : (ts : List Task) (n : ℕ) (qs : List (List item.Item)) (kinds : List QueueType) → AreFirstTasks p qs kinds n ts → n ≡ length p.ops → qs ≡ first_lines p inputs → kinds ≡ queue_kinds p → AreFresh p inputs ts
+  -- first tasks with the lines of the inputs are fresh
+  pub all_fresh : (ts : List Task) (n : ℕ) (qs : List (List item.Item)) (kinds : List QueueType) → AreFirstTasks p qs kinds n ts → n ≡ length p.ops
+      → qs ≡ first_lines p inputs → kinds ≡ queue_kinds p → AreFresh p inputs ts
   all_fresh ts n qs kinds h en eq ek = record {
     many = h.many ∙ en;
     each = λ o t g. first_fresh o t (subst (λ ks. IsFirstTask p (first_lines p inputs) ks o t) ek (subst (λ ls. IsFirstTask p ls kinds o t) eq (h.each o t g)));
   }
 
+  -- there is a line for each queue
   pub queues_long : (qs : List (List item.Item)) → qs ≡ first_lines p inputs → length qs ≡ length (queue_names p)
   queues_long qs e = ap length e ∙ queues_many p v inputs fit
 
+-- before the first operator there is none
 pub first_none : (p : PlanForm) (qs : List (List item.Item)) (kinds : List QueueType) (ts : List Task) → ts ≡ [] → AreFirstTasks p qs kinds 0 ts
 first_none p qs kinds ts e = record { many = ap length e; each = λ o t g. absurd (let h = ap (λ l. slice_get l o) (sym e) ∙ g in cc h) }
 
-got_snoc : (ts : List Task) (x t : Task) (o : ℕ) → slice_get (ts ++ x ∷ []) o ≡ Some t → (P : ℕ → Task → Type 0) → ((i : ℕ) (u : Task) → slice_get ts i ≡ Some u → P i u) → P (length ts) x → P o t
+got_snoc : (ts : List Task) (x t : Task) (o : ℕ) → slice_get (ts ++ x ∷ []) o ≡ Some t → (P : ℕ → Task → Type 0)
+    → ((i : ℕ) (u : Task) → slice_get ts i ≡ Some u → P i u) → P (length ts) x → P o t
 got_snoc [] x t zero g P h k = subst (P 0) (some_is x t g) k
 got_snoc [] x t (suc o) g P h k = absurd (cc g)
 got_snoc (y ∷ ts) x t zero g P h k = h 0 t g
 got_snoc (y ∷ ts) x t (suc o) g P h k = got_snoc ts x t o g (λ i u. P (suc i) u) (λ i u e. h (suc i) u e) k
 
-pub first_more : (p : PlanForm) (qs : List (List item.Item)) (kinds : List QueueType) (n : ℕ) (ts ts' : List Task) (t : Task) → AreFirstTasks p qs kinds n ts → IsFirstTask p qs kinds n t → ts' ≡ ts ++ t ∷ [] → AreFirstTasks p qs kinds (n + 1) ts'
+-- one first task more
+pub first_more : (p : PlanForm) (qs : List (List item.Item)) (kinds : List QueueType) (n : ℕ) (ts ts' : List Task) (t : Task)
+    → AreFirstTasks p qs kinds n ts → IsFirstTask p qs kinds n t → ts' ≡ ts ++ t ∷ [] → AreFirstTasks p qs kinds (n + 1) ts'
 first_more p qs kinds n ts ts' t h f e = subst (AreFirstTasks p qs kinds (n + 1)) (sym e) (record {
   many = (let l = length-append ts (t ∷ []) in let m = h.many in omega (arith, l, m));
   each = λ o u g. got_snoc ts t u o g (λ i x. IsFirstTask p qs kinds i x) h.each (subst (λ i. IsFirstTask p qs kinds i t) (sym h.many) f);

@@ -37,6 +37,7 @@ pub got_last : {A : Type 0} (xs : List A) (x : A) → slice_get (xs ++ x ∷ [])
 got_last [] x = refl
 got_last (a ∷ xs) x = got_last xs x
 
+-- an element of a list is one of the list with one more
 pub got_front : {A : Type 0} (xs : List A) (x y : A) (i : ℕ) → slice_get xs i ≡ Some y → slice_get (xs ++ x ∷ []) i ≡ Some y
 got_front [] x y i g = absurd (cc g)
 got_front (a ∷ xs) x y zero g = g
@@ -47,6 +48,7 @@ pub record ArePortsOf (classes own tables : List ℕ) (ports : List TablePort) :
   pub tables_are : map (λ (h : TablePort). h.table) ports ≡ tables
   pub places_are : (j : ℕ) (h : TablePort) → slice_get ports j ≡ Some h → slice_get own h.place ≡ Some (slice_index_or classes h.table 0)
 
+-- before the first table there is no port
 pub ports_first : (classes own : List ℕ) (ports : List TablePort) → ports ≡ [] → ArePortsOf classes own [] ports
 ports_first classes own ports e = subst (ArePortsOf classes own []) (sym e) (record { tables_are = refl; places_are = λ j h g. absurd (cc g) })
 
@@ -57,7 +59,9 @@ ports_more classes own tables ports h a e = record {
   places_are = λ j x g. got_snoc ports h x j (λ i z. slice_get own z.place ≡ Some (slice_index_or classes z.table 0)) g a.places_are e;
 }
 
-pub ports_next : (classes own items : List ℕ) (i : ℕ) (ports ports' : List TablePort) (place class : ℕ) → ArePortsOf classes own (take i items) ports → i < length items
+-- one table more has its port
+pub ports_next : (classes own items : List ℕ) (i : ℕ) (ports ports' : List TablePort) (place class : ℕ) → ArePortsOf classes own (take i items) ports
+    → i < length items
     → ports' ≡ ports ++ record { table = slice_index_or items i 0; place = place } ∷ [] → slice_get own place ≡ Some class
     → class ≡ slice_index_or classes (slice_index_or items i 0) 0 → ArePortsOf classes own (take (i + 1) items) ports'
 ports_next classes own items i ports ports' place class h lt e g c =
@@ -130,6 +134,7 @@ own_stays classes tables n own h k = record {
       (cases_lt c n);
 }
 
+-- one class more was asked for
 pub own_next : (classes tables : List ℕ) (n : ℕ) (own own' : List ℕ) (b : Bool) → AreClassesOf classes tables n own → (b ≡ true → HasClass classes tables n)
     → (b ≡ false → HasClass classes tables n → ⊥) → own' ≡ (if b then own ++ n ∷ [] else own) → AreClassesOf classes tables (n + 1) own'
 own_next classes tables n own own' true h y f e = subst (AreClassesOf classes tables (n + 1)) (sym e) (own_more classes tables n own h (y refl))
@@ -153,7 +158,9 @@ index_got xs i x g = some_is (slice_index_or xs i 0) x (sym (got_index xs i (sli
 pos_is : (a b : ℕ) → pos a ≡ pos b → a ≡ b
 pos_is a b e = cc
 
-pub table_classes_are : (p : PlanForm) (users : List (List ℤ)) (numbers : List ℤ) (places : List ℕ) → users ≡ table_users p → AreClasses users numbers → map pos places ≡ numbers
+-- the classes that are given out are those of the plan's tables
+pub table_classes_are : (p : PlanForm) (users : List (List ℤ)) (numbers : List ℤ) (places : List ℕ) → users ≡ table_users p → AreClasses users numbers
+    → map pos places ≡ numbers
     → AreTableClasses p places
 table_classes_are p users numbers places eu h en =
     let long : length users ≡ length p.tables = ap length eu ∙ length-map p.tables (λ (t : TableDecl). having t.name 0 p.ops) in
@@ -174,7 +181,9 @@ table_classes_are p users numbers places eu h en =
 
 -- THE TABLES OF AN OPERATOR
 
-pub numbers_are : (p : PlanForm) (o n : ℕ) (vs tables : List ℕ) → o < length p.ops → n ≡ length p.tables → vs ≡ list_at (var_places p) o → tables ≡ table_places n vs
+-- the tables among an operator's variables are its tables by number
+pub numbers_are : (p : PlanForm) (o n : ℕ) (vs tables : List ℕ) → o < length p.ops → n ≡ length p.tables → vs ≡ list_at (var_places p) o
+    → tables ≡ table_places n vs
     → tables ≡ table_numbers p (slice_get p.ops o)
 numbers_are p o n vs tables lt en ev et =
     let x = op_at p.ops o lt in
@@ -223,6 +232,7 @@ own_there p o classes tables n own lt h e en a k d lk =
     let few = classes_few classes h.by_first m (slice_index_or classes m 0) g in
     a.all (slice_index_or classes m 0) (omega (arith, few, en)) (k, m, slice_get-get_or tables k d lk, refl)
 
+-- these are the homes of an operator's rows
 pub homes_are : (p : PlanForm) (o : ℕ) (classes tables own : List ℕ) (n : ℕ) (ports : List TablePort) → o < length p.ops → AreTableClasses p classes
     → tables ≡ table_numbers p (slice_get p.ops o) → AreClassesOf classes tables n own → map (λ (h : TablePort). h.table) ports ≡ tables
     → ((j : ℕ) (h : TablePort) → slice_get ports j ≡ Some h → slice_get own h.place ≡ Some (slice_index_or classes h.table 0)) → AreHomes p o ports own

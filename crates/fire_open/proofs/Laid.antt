@@ -31,7 +31,8 @@ stored_same (Stored xs) (SendsTo f) e h = absurd (cc e)
 stored_same (Stored xs) (Stored ys) e h = tt
 
 -- the layout is known by the ends alone
-pub laid_same : (p : PlanForm) (inputs : List (List item.Item)) (caps : Capacities) (ts ts' : List Task) → all_ends ts' ≡ all_ends ts → AreLaid p inputs caps ts → AreLaid p inputs caps ts'
+pub laid_same : (p : PlanForm) (inputs : List (List item.Item)) (caps : Capacities) (ts ts' : List Task) → all_ends ts' ≡ all_ends ts
+    → AreLaid p inputs caps ts → AreLaid p inputs caps ts'
 laid_same p inputs caps ts ts' e h = record {
   many = map_long ends_of ts' ts e ∙ h.many;
   numbers = λ o t g. let s = same_got ends_of ts' ts e o t g in ap (λ (x : TaskEnds). x.op) s.2 ∙ h.numbers o s.0 s.1;
@@ -86,18 +87,22 @@ apart_links p v l l' a b s = ⊎_elim
         let ej : l.out ≡ l'.out = place_once a.write.writes l.out l'.out a.queue (omega (arith, wo, mw)) a.writes (ap (λ (x : OpForm). slice_get x.writes l'.out) ow ∙ w') in
         λ i. record { writer = ew i; out = ej i; reader = er i; port = ep i }
 
+-- no two links of a plan share an end
 pub apart_net : (p : PlanForm) (ls : List Link) → IsPlan p → AreLinks p ls → AreApart ls
 apart_net p ls v k = record { each = λ m n l l' g g' s. apart_links p v l l' (k.right m l g) (k.right n l' g') s }
 
 -- THE TASKS OF A NET
 
+-- the task of an operator, with an end for each of its ports
 pub record TaskAt (p : PlanForm) (ts : List Task) (o : ℕ) (op : OpForm) : Type 0 where
   pub t : Task
   pub t_is : slice_get ts o ≡ Some t
   pub ins : length t.ins ≡ length op.reads
   pub outs : length t.outs ≡ length op.writes
 
-pub task_at : (p : PlanForm) (inputs : List (List item.Item)) (caps : Capacities) (adds : ℕ → ℕ → List (List ℤ)) (ts : List Task) → AreLaid p inputs caps ts → AreTasks p adds ts → (o : ℕ) (op : OpForm) → slice_get p.ops o ≡ Some op → TaskAt p ts o op
+-- each operator has its task
+pub task_at : (p : PlanForm) (inputs : List (List item.Item)) (caps : Capacities) (adds : ℕ → ℕ → List (List ℤ)) (ts : List Task)
+    → AreLaid p inputs caps ts → AreTasks p adds ts → (o : ℕ) (op : OpForm) → slice_get p.ops o ≡ Some op → TaskAt p ts o op
 task_at p inputs caps adds ts laid tasks o op g =
     let lt : o < length ts = (let b = got_below p.ops o op g in let m = laid.many in omega (arith, b, m)) in
     let x = there_is ts o lt in
@@ -106,10 +111,12 @@ task_at p inputs caps adds ts laid tasks o op g =
     let e : k.op ≡ op = some_is k.op op (sym k.op_is ∙ ap (slice_get p.ops) n ∙ g) in
     record { t = x.0; t_is = x.1; ins = k.ins ∙ ap (λ (y : OpForm). length y.reads) e; outs = k.outs ∙ ap (λ (y : OpForm). length y.writes) e }
 
-pub ends_of_link : (p : PlanForm) (inputs : List (List item.Item)) (caps : Capacities) (adds : ℕ → ℕ → List (List ℤ)) (ts : List Task) (l : Link) (k : IsLinkOf p l) (f : outlet.Outlet) (i : inlet.Inlet) → LinkEnds ts l f i → Ends p ts l.reader l.writer l.port l.out k.queue f i
+pub ends_of_link : (p : PlanForm) (inputs : List (List item.Item)) (caps : Capacities) (adds : ℕ → ℕ → List (List ℤ)) (ts : List Task) (l : Link)
+    (k : IsLinkOf p l) (f : outlet.Outlet) (i : inlet.Inlet) → LinkEnds ts l f i → Ends p ts l.reader l.writer l.port l.out k.queue f i
 ends_of_link p inputs caps adds ts l k f i x = record { op = k.read; op' = k.write; op_is = k.read_is; reads = k.reads; op_is' = k.write_is; writes = k.writes; t = x.t; t' = x.t'; t_is = x.t_is; t_is' = x.t_is'; in_is = x.in_is; out_is = x.out_is }
 
-pub paired_link : (p : PlanForm) (inputs : List (List item.Item)) (caps : Capacities) (adds : ℕ → ℕ → List (List ℤ)) (ts : List Task) → IsPlan p → AreLaid p inputs caps ts → AreTasks p adds ts → (l : Link) → IsLinkOf p l → IsPaired ts l
+pub paired_link : (p : PlanForm) (inputs : List (List item.Item)) (caps : Capacities) (adds : ℕ → ℕ → List (List ℤ)) (ts : List Task) → IsPlan p
+    → AreLaid p inputs caps ts → AreTasks p adds ts → (l : Link) → IsLinkOf p l → IsPaired ts l
 paired_link p inputs caps adds ts v laid tasks l k =
     let r = task_at p inputs caps adds ts laid tasks l.reader k.read k.read_is in
     let w = task_at p inputs caps adds ts laid tasks l.writer k.write k.write_is in
@@ -124,9 +131,12 @@ paired_link p inputs caps adds ts v laid tasks l k =
       pair = pair_of (caps k.queue) f.0 i.0 (laid.rings l.reader l.writer l.port l.out k.queue f.0 i.0 (ends_of_link p inputs caps adds ts l k f.0 i.0 ends));
     }
 
-pub paired_net : (p : PlanForm) (inputs : List (List item.Item)) (caps : Capacities) (adds : ℕ → ℕ → List (List ℤ)) (ts : List Task) (ls : List Link) → IsPlan p → AreLaid p inputs caps ts → AreTasks p adds ts → AreLinks p ls → ArePaired ts ls
+-- the two ends of each link are those of one ring
+pub paired_net : (p : PlanForm) (inputs : List (List item.Item)) (caps : Capacities) (adds : ℕ → ℕ → List (List ℤ)) (ts : List Task) (ls : List Link)
+    → IsPlan p → AreLaid p inputs caps ts → AreTasks p adds ts → AreLinks p ls → ArePaired ts ls
 paired_net p inputs caps adds ts ls v laid tasks k = record { each = λ n l g. paired_link p inputs caps adds ts v laid tasks l (k.right n l g) }
 
+-- once all links have looked, all rings are settled
 pub settled_by : (p : PlanForm) (ts : List Task) (ls : List Link) → AreLinks p ls → AreMet ts ls (length ls) → AreSettled p ts
 settled_by p ts ls k m = record {
   each = λ o o' port j q f i x.

@@ -53,14 +53,17 @@ body_task p adds t t' e k =
       stands = record { fit = subst (FitState k.op.kernel (kinds_in p k.op)) (sym st) k.stands.fit; after = λ w a h. subst (λ x. StandsAfter k.op.kernel (kinds_in p k.op) (first_kept k.op.kernel) x w) (sym st) (k.stands.after w a h) };
     }
 
-pub fresh_there : (p : PlanForm) (inputs : List (List item.Item)) (ts : List Task) (ls : List Link) → IsPlan p → AreFresh p inputs ts → AreLinks p ls → AreThere ts ls
+-- fresh tasks have the ends of all links, and nothing moved
+pub fresh_there : (p : PlanForm) (inputs : List (List item.Item)) (ts : List Task) (ls : List Link) → IsPlan p → AreFresh p inputs ts → AreLinks p ls
+    → AreThere ts ls
 fresh_there p inputs ts ls v h k = record {
   each = λ n l g. there l (k.right n l g);
   apart = apart_net p ls v k;
   unmoved = record { ins = λ o port t i g gi. (h.each o t g).ins port i gi; outs = λ o j t f g gf. ((h.each o t g).outs j f gf).1 };
 }
   where
-    task_here : (o : ℕ) (op : OpForm) → slice_get p.ops o ≡ Some op → (t : Task) × (slice_get ts o ≡ Some t) × (length t.ins ≡ length op.reads) × (length t.outs ≡ length op.writes)
+    task_here : (o : ℕ) (op : OpForm) → slice_get p.ops o ≡ Some op
+        → (t : Task) × (slice_get ts o ≡ Some t) × (length t.ins ≡ length op.reads) × (length t.outs ≡ length op.writes)
     task_here o op g =
         let x = there_is ts o (let b = got_below p.ops o op g in let m = h.many in omega (arith, b, m)) in
         let f = h.each o x.0 x.1 in
@@ -96,5 +99,6 @@ no_moves (t ∷ ts) u =
     let c = no_moves ts (record { ins = λ o n x i g gi. u.ins (suc o) n x i g gi; outs = λ o n x f g gf. u.outs (suc o) n x f g gf }) in
     omega (arith, a, b, c)
 
+-- rings that are put between tasks move nothing
 pub none_moved : (cap : ℕ) (ts0 ts : List Task) (ls : List Link) (n : ℕ) → AreThere ts0 ls → AreRung cap ts0 ts ls n → all_moves ts ≡ 0
 none_moved cap ts0 ts ls n h r = no_moves ts (bodies_unmoved ts0 ts r.bodies h.unmoved)

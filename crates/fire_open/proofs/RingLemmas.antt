@@ -22,6 +22,7 @@ use Rattle.fire_open.specs.Rings.{AreUnmoved, AreThere, Body, body, AreRung}
 use Rattle.fire_open.proofs.Lists.{same_got, map_long}
 use Rattle.fire_open.proofs.SettleLemmas.{after_task, view_stays, same_or, sent_stays, reader_is, writer_is}
 
+-- before the first link no ring was put
 pub rung_first : (cap : ℕ) (ts : List Task) (ls : List Link) → AreRung cap ts ts ls 0
 rung_first cap ts ls = record {
   bodies = refl;
@@ -36,6 +37,7 @@ ins_long t t0 e = map_long received_of t.ins t0.ins (ap (λ (b : Body). b.seen.r
 outs_long : (t t0 : Task) → body t ≡ body t0 → length t.outs ≡ length t0.outs
 outs_long t t0 e = map_long sent_of t.outs t0.outs (ap (λ (b : Body). b.seen.sent) e)
 
+-- tasks with the same bodies moved nothing either
 pub bodies_unmoved : (ts0 ts : List Task) → map body ts ≡ map body ts0 → AreUnmoved ts0 → AreUnmoved ts
 bodies_unmoved ts0 ts e u = record {
   ins = λ o port t i g gi.
@@ -63,7 +65,9 @@ pub record AsksThere (ts : List Task) (l : Link) : Type 0 where
   pub out : (d : Task) → l.out < length (get_or ts l.writer d).outs
   pub port : (d : Task) → l.port < length (get_or ts l.reader d).ins
 
-pub asks_there : (cap : ℕ) (ts0 ts : List Task) (ls : List Link) (n : ℕ) (l : Link) → AreThere ts0 ls → AreRung cap ts0 ts ls n → slice_get ls n ≡ Some l → AsksThere ts l
+-- what is asked where the next ring is put
+pub asks_there : (cap : ℕ) (ts0 ts : List Task) (ls : List Link) (n : ℕ) (l : Link) → AreThere ts0 ls → AreRung cap ts0 ts ls n
+    → slice_get ls n ≡ Some l → AsksThere ts l
 asks_there cap ts0 ts ls n l th h g =
     let p = rung_there ts0 ts l h.bodies (th.each n l g) in
     let x = p.ends in
@@ -74,7 +78,9 @@ asks_there cap ts0 ts ls n l th h g =
       port = λ d. subst (λ (y : Task). l.port < length y.ins) (sym (get_or_from_slice_get ts l.reader x.t d x.t_is)) (slice_get_within x.t.ins l.port p.in_ x.in_is);
     }
 
-pub rung_next : (cap : ℕ) (ts0 ts ts' : List Task) (ls : List Link) (n : ℕ) (l : Link) → AreThere ts0 ls → slice_get ls n ≡ Some l → AreRung cap ts0 ts ls n → Put cap ts ts' l → AreRung cap ts0 ts' ls (n + 1)
+-- one link more has its ring
+pub rung_next : (cap : ℕ) (ts0 ts ts' : List Task) (ls : List Link) (n : ℕ) (l : Link) → AreThere ts0 ls → slice_get ls n ≡ Some l
+    → AreRung cap ts0 ts ls n → Put cap ts ts' l → AreRung cap ts0 ts' ls (n + 1)
 rung_next cap ts0 ts ts' ls n l th g h put = record {
   bodies = bodies_stay ∙ h.bodies;
   rung = λ k l2 f i lt g2 x. each k l2 f i lt g2 x;
@@ -116,12 +122,14 @@ rung_next cap ts0 ts ts' ls n l th g h put = record {
         let aw = after_task ts ts' l put.out put.in_ there put.swapped l.writer x.t' x.t_is' in
         subst (λ z. IsLink cap z i × IsSettled z i) (sym (aw.new_out refl f x.out_is)) (subst (λ z. IsLink cap put.out z × IsSettled put.out z) (sym (ar.new_in refl i x.in_is)) (put.link, put.settled))
 
-    same_one : (k : ℕ) (l2 : Link) (f : outlet.Outlet) (i : inlet.Inlet) → slice_get ls k ≡ Some l2 → LinkEnds ts' l2 f i → ShareAnEnd l l2 → IsLink cap f i × IsSettled f i
+    same_one : (k : ℕ) (l2 : Link) (f : outlet.Outlet) (i : inlet.Inlet) → slice_get ls k ≡ Some l2 → LinkEnds ts' l2 f i → ShareAnEnd l l2
+        → IsLink cap f i × IsSettled f i
     same_one k l2 f i g2 x s =
         let e : l ≡ l2 = th.apart.each n k l l2 g g2 s in
         itself f i (subst (λ y. LinkEnds ts' y f i) (sym e) x)
 
-    each : (k : ℕ) (l2 : Link) (f : outlet.Outlet) (i : inlet.Inlet) → k < n + 1 → slice_get ls k ≡ Some l2 → LinkEnds ts' l2 f i → IsLink cap f i × IsSettled f i
+    each : (k : ℕ) (l2 : Link) (f : outlet.Outlet) (i : inlet.Inlet) → k < n + 1 → slice_get ls k ≡ Some l2 → LinkEnds ts' l2 f i
+        → IsLink cap f i × IsSettled f i
     each k l2 f i lt g2 x = ⊎_elim
         (λ e. same_one k l2 f i g2 x (inl e))
         (λ nr. ⊎_elim
@@ -146,7 +154,9 @@ same_default [] i c d lt = absurd (omega (arith, lt))
 same_default (x ∷ xs) zero c d lt = refl
 same_default (x ∷ xs) (suc i) c d lt = same_default xs i c d (omega (arith, lt))
 
-pub put_is : (cap : ℕ) (ts : List Task) (l : Link) (feed : Sending) (take : Taking) (w r : Task) → w ≡ get_or ts l.writer w → r ≡ get_or (set ts l.writer (with_out w l.out (SendsTo feed))) l.reader r → l.writer < l.reader → l.reader < length ts → take.id ≡ feed.id
+-- an empty ring was put there
+pub put_is : (cap : ℕ) (ts : List Task) (l : Link) (feed : Sending) (take : Taking) (w r : Task) → w ≡ get_or ts l.writer w
+    → r ≡ get_or (set ts l.writer (with_out w l.out (SendsTo feed))) l.reader r → l.writer < l.reader → l.reader < length ts → take.id ≡ feed.id
     → (feed.cap ≡ cap) × (feed.sent ≡ []) × (feed.waiting ≡ 0) → (take.cap ≡ cap) × (take.received ≡ []) × (take.known ≡ [])
     → Put cap ts (set (set ts l.writer (with_out w l.out (SendsTo feed))) l.reader (with_in r l.port (TakesFrom take))) l
 put_is cap ts l feed take w r wi ri lt lr id f t = record {

@@ -17,6 +17,7 @@ use Rattle.fire_open.specs.Still.{Still, still}
 use Rattle.fire_open.proofs.Lists.{set_got_is, set_got_other, same_got, map_set}
 use Rattle.fire_open.proofs.StillLemmas.{pair_same}
 
+-- an end that sent as much takes the place of another
 pub sent_stays : (xs : List outlet.Outlet) (i : ℕ) (x : outlet.Outlet) → sent_of x ≡ sent_of (get_or xs i x) → sent_in (set xs i x) ≡ sent_in xs
 sent_stays [] i x e = refl
 sent_stays (y ∷ ys) zero x e = ap (λ l. l ∷ sent_in ys) e
@@ -40,7 +41,10 @@ still_paired ts ts' l e h =
       pair = pair_same h.out f.0 h.in_ i.0 (sym f.2) (sym i.2) h.pair;
     }
 
-pub still_by : (t u : Task) → t.op ≡ u.op → in_ends t.ins ≡ in_ends u.ins → out_ends t.outs ≡ out_ends u.outs → received_in t.ins ≡ received_in u.ins → sent_in t.outs ≡ sent_in u.outs → pending_in t.pending ≡ pending_in u.pending → t.bad ≡ u.bad → t.kinds ≡ u.kinds → t.states ≡ u.states → t.pending ≡ u.pending → t.out ≡ u.out → t.tables ≡ u.tables → t.classes ≡ u.classes → t.count ≡ u.count → still t ≡ still u
+-- a task of which all but the knowledge of its ends is the same
+pub still_by : (t u : Task) → t.op ≡ u.op → in_ends t.ins ≡ in_ends u.ins → out_ends t.outs ≡ out_ends u.outs → received_in t.ins ≡ received_in u.ins
+    → sent_in t.outs ≡ sent_in u.outs → pending_in t.pending ≡ pending_in u.pending → t.bad ≡ u.bad → t.kinds ≡ u.kinds → t.states ≡ u.states
+    → t.pending ≡ u.pending → t.out ≡ u.out → t.tables ≡ u.tables → t.classes ≡ u.classes → t.count ≡ u.count → still t ≡ still u
 still_by t u o i os r s p b k st pe ou ta cl c =
     λ j. record { ends = record { op = o j; ins = i j; outs = os j }; seen = record { received = r j; sent = s j; pending = p j; bad = b j }; kinds = k j; states = st j; pending = pe j; out = ou j; tables = ta j; classes = cl j; count = c j }
 
@@ -54,9 +58,11 @@ pub record After (ts : List Task) (l : Link) (out : outlet.Outlet) (in_ : inlet.
   pub new_out : l.writer ≡ k → (f : outlet.Outlet) → slice_get t'.outs l.out ≡ Some f → f ≡ out
 
 module _ (ts ts' : List Task) (l : Link) (out : outlet.Outlet) (in_ : inlet.Inlet) (there : IsThere ts l) (m : Swapped ts ts' l out in_) where
+  -- the reader is the task that has this end
   pub reader_is : m.reader ≡ there.ends.t
   reader_is = sym (m.reader_is there.ends.t) ∙ get_or_from_slice_get ts l.reader there.ends.t there.ends.t there.ends.t_is
 
+  -- the writer is the task that has this end
   pub writer_is : m.writer ≡ there.ends.t'
   writer_is = sym (m.writer_is there.ends.t') ∙ get_or_from_slice_get ts l.writer there.ends.t' there.ends.t' there.ends.t_is'
 
@@ -93,6 +99,7 @@ module _ (ts ts' : List Task) (l : Link) (out : outlet.Outlet) (in_ : inlet.Inle
         new_out = λ q f gf. set_got_is m.writer.outs l.out f out gf;
       })
 
+  -- what a task is after the two ends of a link were put there
   pub after_task : (k : ℕ) (t' : Task) → slice_get ts' k ≡ Some t' → After ts l out in_ k t'
   after_task k t' g =
       let g1 : slice_get (set (set ts l.writer new_writer) l.reader new_reader) k ≡ Some t' = ap (λ x. slice_get x k) (sym m.after) ∙ g in
@@ -139,6 +146,7 @@ met_still ts ts' l h m =
     (still_by (with_out m.writer l.out m.out) m.writer refl refl ao refl az refl refl refl refl refl refl refl refl refl)
     (still_by (with_in m.reader l.port m.in_) m.reader refl ai refl ar refl refl refl refl refl refl refl refl refl refl)
 
+-- two pairs of numbers are the same or not
 pub same_or : (a b c d : ℕ) → ((a ≡ b) × (c ≡ d)) ⊎ ((a ≡ b) × (c ≡ d) → ⊥)
 same_or a b c d = ⊎_elim
     (λ e. ⊎_elim (λ f. inl (e, f)) (λ n. inr (λ h. n h.1)) (cases_eq c d))
@@ -150,10 +158,13 @@ pub record Settling (ts0 : List Task) (ls : List Link) (n : ℕ) (ts : List Task
   pub same : map still ts ≡ map still ts0
   pub met : AreMet ts ls n
 
+-- before the first look nothing changed
 pub settling_first : (ts : List Task) (ls : List Link) → Settling ts ls 0 ts
 settling_first ts ls = record { same = refl; met = record { each = λ m l f i lt. absurd (omega (arith, lt)) } }
 
-pub settling_next : (ts0 : List Task) (ls : List Link) (n : ℕ) (ts ts' : List Task) (l : Link) → ArePaired ts0 ls → AreApart ls → slice_get ls n ≡ Some l → Settling ts0 ls n ts → Met ts ts' l → Settling ts0 ls (n + 1) ts'
+-- one link more has looked
+pub settling_next : (ts0 : List Task) (ls : List Link) (n : ℕ) (ts ts' : List Task) (l : Link) → ArePaired ts0 ls → AreApart ls
+    → slice_get ls n ≡ Some l → Settling ts0 ls n ts → Met ts ts' l → Settling ts0 ls (n + 1) ts'
 settling_next ts0 ls n ts ts' l paired apart g h m =
     let pl = still_paired ts0 ts l h.same (paired.each n l g) in
     record {
@@ -168,7 +179,8 @@ settling_next ts0 ls n ts ts' l paired apart g h m =
         let aw = after_task ts ts' l m.out m.in_ (there_of ts l pl) (swapped_of ts ts' l m) l.writer x.t' x.t_is' in
         subst (λ z. IsSettled z i) (sym (aw.new_out refl f x.out_is)) (subst (IsSettled m.out) (sym (ar.new_in refl i x.in_is)) m.settled)
 
-    each : (pl : IsPaired ts l) (k : ℕ) (l2 : Link) (f : outlet.Outlet) (i : inlet.Inlet) → k < n + 1 → slice_get ls k ≡ Some l2 → LinkEnds ts' l2 f i → IsSettled f i
+    each : (pl : IsPaired ts l) (k : ℕ) (l2 : Link) (f : outlet.Outlet) (i : inlet.Inlet) → k < n + 1 → slice_get ls k ≡ Some l2 → LinkEnds ts' l2 f i
+        → IsSettled f i
     each pl k l2 f i lt g2 x = ⊎_elim
         (λ e. same_one pl k l2 f i g2 x (inl e))
         (λ nr. ⊎_elim
@@ -188,7 +200,8 @@ settling_next ts0 ls n ts ts' l paired apart g h m =
         (same_or l.writer l2.writer l.out l2.out))
         (same_or l.reader l2.reader l.port l2.port)
       where
-        same_one : (pl : IsPaired ts l) (k : ℕ) (l2 : Link) (f : outlet.Outlet) (i : inlet.Inlet) → slice_get ls k ≡ Some l2 → LinkEnds ts' l2 f i → ShareAnEnd l l2 → IsSettled f i
+        same_one : (pl : IsPaired ts l) (k : ℕ) (l2 : Link) (f : outlet.Outlet) (i : inlet.Inlet) → slice_get ls k ≡ Some l2 → LinkEnds ts' l2 f i
+            → ShareAnEnd l l2 → IsSettled f i
         same_one pl k l2 f i g2 x s =
             let e : l ≡ l2 = apart.each n k l l2 g g2 s in
             itself pl f i (subst (λ y. LinkEnds ts' y f i) (sym e) x)
@@ -199,7 +212,8 @@ pub record Asks (ts : List Task) (l : Link) : Type 0 where
   pub reader : l.reader < length ts
   pub out : (d : Task) → l.out < length (get_or ts l.writer d).outs
   pub port : (d : Task) → l.port < length (get_or ts l.reader d).ins
-  pub pair : (t t' : Task) (f : outlet.Outlet) (i : inlet.Inlet) → IsPair (get_or (get_or ts l.writer t).outs l.out f) (get_or (get_or ts l.reader t').ins l.port i)
+  pub pair : (t t' : Task) (f : outlet.Outlet) (i : inlet.Inlet)
+      → IsPair (get_or (get_or ts l.writer t).outs l.out f) (get_or (get_or ts l.reader t').ins l.port i)
 
 asks : (ts : List Task) (l : Link) → IsPaired ts l → Asks ts l
 asks ts l p =
@@ -218,8 +232,10 @@ asks ts l p =
           (subst (IsPair p.out) (sym (get_or_from_slice_get x.t.ins l.port p.in_ i x.in_is)) p.pair)));
     }
 
+-- what is asked where the next link looks
 pub asks_at : (ts0 ts : List Task) (ls : List Link) (n : ℕ) (l : Link) → ArePaired ts0 ls → Settling ts0 ls n ts → slice_get ls n ≡ Some l → Asks ts l
 asks_at ts0 ts ls n l p s g = asks ts l (still_paired ts0 ts l s.same (p.each n l g))
 
+-- all links have looked
 pub met_all : (ts0 ts : List Task) (ls : List Link) (n : ℕ) → Settling ts0 ls n ts → length ls ≤ n → AreMet ts ls (length ls)
 met_all ts0 ts ls n s le = record { each = λ m l f i lt g x. s.met.each m l f i (omega (arith, lt, le)) g x }

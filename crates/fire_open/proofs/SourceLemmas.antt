@@ -32,7 +32,9 @@ pub record PortAt (p : PlanForm) (qs : OpForm → List Name) (o j n : ℕ) : Typ
   pub queue_is : slice_get (qs op) j ≡ Some queue
   pub place_is : n ≡ place (queue_names p) queue
 
-pub port_at : (p : PlanForm) (qs : OpForm → List Name) (o j n d : ℕ) (ps : List ℕ) → o < length p.ops → ps ≡ list_at (map (λ op. places (queue_names p) (qs op)) p.ops) o → j < length ps → n ≡ get_or ps j d → PortAt p qs o j n
+-- the port of an operator at which a place is read or written
+pub port_at : (p : PlanForm) (qs : OpForm → List Name) (o j n d : ℕ) (ps : List ℕ) → o < length p.ops
+    → ps ≡ list_at (map (λ op. places (queue_names p) (qs op)) p.ops) o → j < length ps → n ≡ get_or ps j d → PortAt p qs o j n
 port_at p qs o j n d ps lt e lj en =
     let x = op_at p.ops o lt in
     let ep = e ∙ places_at qs (queue_names p) p.ops o x.0 x.1 in
@@ -46,15 +48,19 @@ port_at p qs o j n d ps lt e lj en =
       place_is = en ∙ ap (λ (l : List ℕ). get_or l j d) ep ∙ get_or_from_slice_get (places (queue_names p) (qs x.0)) j (place (queue_names p) q.0) d (got_map (place (queue_names p)) (qs x.0) j q.0 q.1);
     }
 
-write_declared : (p : PlanForm) → IsPlan p → (o j : ℕ) (op : OpForm) (q : Name) → slice_get p.ops o ≡ Some op → slice_get op.writes j ≡ Some q → 0 < count q (queue_names p)
+write_declared : (p : PlanForm) → IsPlan p → (o j : ℕ) (op : OpForm) (q : Name) → slice_get p.ops o ≡ Some op → slice_get op.writes j ≡ Some q
+    → 0 < count q (queue_names p)
 write_declared p v o j op q g w = v.writes_declared q (let a = at_most (writes_it q) p.ops o op g in let c = got_count op.writes j q w in omega (arith, a, c))
 
-read_declared : (p : PlanForm) → IsPlan p → (o j : ℕ) (op : OpForm) (q : Name) → slice_get p.ops o ≡ Some op → slice_get op.reads j ≡ Some q → 0 < count q (queue_names p)
+read_declared : (p : PlanForm) → IsPlan p → (o j : ℕ) (op : OpForm) (q : Name) → slice_get p.ops o ≡ Some op → slice_get op.reads j ≡ Some q
+    → 0 < count q (queue_names p)
 read_declared p v o j op q g w = v.reads_declared q (let a = at_most (reads_it q) p.ops o op g in let c = got_count op.reads j q w in omega (arith, a, c))
 
+-- a place that is written is one of a queue
 pub write_below : (p : PlanForm) (o j n m : ℕ) → IsPlan p → PortAt p (λ op. op.writes) o j n → m ≡ length (queue_names p) → n < m
 write_below p o j n m v a e = let b = place_below (queue_names p) a.queue (write_declared p v o j a.op a.queue a.op_is a.queue_is) in let q = a.place_is in omega (arith, b, q, e)
 
+-- a place that is read is one of a queue
 pub read_below : (p : PlanForm) (o j n m : ℕ) → IsPlan p → PortAt p (λ op. op.reads) o j n → m ≡ length (queue_names p) → n < m
 read_below p o j n m v a e = let b = place_below (queue_names p) a.queue (read_declared p v o j a.op a.queue a.op_is a.queue_is) in let q = a.place_is in omega (arith, b, q, e)
 
@@ -65,12 +71,15 @@ none_there zero i s g = cc g
 none_there (suc n) zero s g = let e : None ≡ Some s = some_is None (Some s) g in cc e
 none_there (suc n) (suc i) s g = none_there n i s g
 
-none_in_both : (xs ys : List (Option Source)) → ((i : ℕ) (s : Source) → slice_get xs i ≡ Some (Some s) → ⊥) → ((i : ℕ) (s : Source) → slice_get ys i ≡ Some (Some s) → ⊥) → (i : ℕ) (s : Source) → slice_get (xs ++ ys) i ≡ Some (Some s) → ⊥
+none_in_both : (xs ys : List (Option Source)) → ((i : ℕ) (s : Source) → slice_get xs i ≡ Some (Some s) → ⊥)
+    → ((i : ℕ) (s : Source) → slice_get ys i ≡ Some (Some s) → ⊥) → (i : ℕ) (s : Source) → slice_get (xs ++ ys) i ≡ Some (Some s) → ⊥
 none_in_both [] ys h k i s g = k i s g
 none_in_both (x ∷ xs) ys h k zero s g = h 0 s g
 none_in_both (x ∷ xs) ys h k (suc i) s g = none_in_both xs ys (λ n t e. h (suc n) t e) k i s g
 
-pub know_first : (p : PlanForm) (a b c : ℕ) (s0 s1 s2 s3 : List (Option Source)) → s0 ≡ [] → s1 ≡ s0 ++ replicate a None → s2 ≡ s1 ++ replicate b None → s3 ≡ s2 ++ replicate c None → a ≡ length p.outputs → b ≡ length p.inputs → c ≡ length p.queues → KnowWriters p 0 0 s3
+-- before the first operator no writer is known
+pub know_first : (p : PlanForm) (a b c : ℕ) (s0 s1 s2 s3 : List (Option Source)) → s0 ≡ [] → s1 ≡ s0 ++ replicate a None → s2 ≡ s1 ++ replicate b None
+    → s3 ≡ s2 ++ replicate c None → a ≡ length p.outputs → b ≡ length p.inputs → c ≡ length p.queues → KnowWriters p 0 0 s3
 know_first p a b c s0 s1 s2 s3 e0 e1 e2 e3 ea eb ec =
     let n1 = λ (i : ℕ) (s : Source) (g : slice_get s1 i ≡ Some (Some s)). none_in_both s0 (replicate a None) (λ n t h. let z : slice_get [] n ≡ Some (Some t) = ap (λ l. slice_get l n) (sym e0) ∙ h in cc z) (λ n t h. none_there a n t h) i s (ap (λ l. slice_get l i) (sym e1) ∙ g) in
     let n2 = λ (i : ℕ) (s : Source) (g : slice_get s2 i ≡ Some (Some s)). none_in_both s1 (replicate b None) n1 (λ n t h. none_there b n t h) i s (ap (λ l. slice_get l i) (sym e2) ∙ g) in
@@ -100,6 +109,7 @@ before_next o j o' j' b = ⊎_elim
     (λ e. ⊎_elim (λ l. inl (inr (e.0, l))) (λ ge. inr (sym e.0, (let l = e.1 in omega (arith, l, ge)))) (cases_lt j' j))
     b
 
+-- one port more is known to write its queue
 pub know_next : (p : PlanForm) (o j n : ℕ) (ss : List (Option Source)) → PortAt p (λ op. op.writes) o j n → n < length ss → KnowWriters p o j ss → KnowWriters p o (j + 1) (set ss n (Some (record { writer = o; out = j })))
 know_next p o j n ss a lt k =
     let new : Source = record { writer = o; out = j } in
@@ -124,7 +134,8 @@ know_next p o j n ss a lt k =
     }
 
 -- all ports of an operator
-pub know_op : (p : PlanForm) (o n : ℕ) (ss : List (Option Source)) (ps : List ℕ) → o < length p.ops → ps ≡ list_at (write_places p) o → length ps ≤ n → KnowWriters p o n ss → KnowWriters p (o + 1) 0 ss
+pub know_op : (p : PlanForm) (o n : ℕ) (ss : List (Option Source)) (ps : List ℕ) → o < length p.ops → ps ≡ list_at (write_places p) o → length ps ≤ n
+    → KnowWriters p o n ss → KnowWriters p (o + 1) 0 ss
 know_op p o n ss ps lt e le k =
     let x = op_at p.ops o lt in
     let long : length ps ≡ length x.0.writes = ap length (e ∙ places_at (λ d. d.writes) (queue_names p) p.ops o x.0 x.1) ∙ length-map x.0.writes (place (queue_names p)) in
@@ -147,6 +158,7 @@ know_op p o n ss ps lt e le k =
 
 -- LINKS
 
+-- before the first operator there is no link
 pub links_first : (p : PlanForm) (ls : List Link) → ls ≡ [] → LinkReaders p 0 0 ls
 links_first p ls e = record {
   right = λ n l g. absurd (let z : slice_get [] n ≡ Some l = ap (λ y. slice_get y n) (sym e) ∙ g in cc z);
@@ -162,7 +174,8 @@ got_last : {A : Type 0} (xs : List A) (x : A) → slice_get (xs ++ x ∷ []) (le
 got_last [] x = refl
 got_last (y ∷ xs) x = got_last xs x
 
-each_snoc : (P : Link → Type 0) (xs : List Link) (x : Link) → ((n : ℕ) (l : Link) → slice_get xs n ≡ Some l → P l) → P x → (n : ℕ) (l : Link) → slice_get (xs ++ x ∷ []) n ≡ Some l → P l
+each_snoc : (P : Link → Type 0) (xs : List Link) (x : Link) → ((n : ℕ) (l : Link) → slice_get xs n ≡ Some l → P l) → P x → (n : ℕ) (l : Link)
+    → slice_get (xs ++ x ∷ []) n ≡ Some l → P l
 each_snoc P [] x h k zero l g = subst P (some_is x l g) k
 each_snoc P [] x h k (suc n) l g = absurd (cc g)
 each_snoc P (y ∷ xs) x h k zero l g = h 0 l g
@@ -184,6 +197,7 @@ module _ (p : PlanForm) (v : IsPlan p) (ss : List (Option Source)) (k : KnowWrit
       let s = k.all l.writer l.out x.write x.queue (inl (slice_get_within p.ops l.writer x.write x.write_is)) x.write_is x.writes in
       (s.0, ap (slice_get ss) (a.place_is ∙ ap (place (queue_names p)) eq) ∙ s.1)
 
+  -- one link more
   pub link_more : (s : Source) (ls' : List Link) → slice_get ss n ≡ Some (Some s) → ls' ≡ ls ++ (record { writer = s.writer; out = s.out; reader = o; port = port }) ∷ [] → LinkReaders p o (port + 1) ls'
   link_more s ls' g e =
       let l0 : Link = record { writer = s.writer; out = s.out; reader = o; port = port } in
@@ -197,6 +211,7 @@ module _ (p : PlanForm) (v : IsPlan p) (ss : List (Option Source)) (k : KnowWrit
             (before_next o port l.reader l.port b);
       })
 
+  -- a port whose queue nobody writes has no link
   pub link_none : slice_get ss n ≡ Some None → LinkReaders p o (port + 1) ls
   link_none g = record {
     right = h.right;
@@ -209,7 +224,9 @@ module _ (p : PlanForm) (v : IsPlan p) (ss : List (Option Source)) (k : KnowWrit
         (before_next o port l.reader l.port b);
   }
 
-pub links_op : (p : PlanForm) (o n : ℕ) (ls : List Link) (ps : List ℕ) → o < length p.ops → ps ≡ list_at (read_places p) o → length ps ≤ n → LinkReaders p o n ls → LinkReaders p (o + 1) 0 ls
+-- the links of one operator more
+pub links_op : (p : PlanForm) (o n : ℕ) (ls : List Link) (ps : List ℕ) → o < length p.ops → ps ≡ list_at (read_places p) o → length ps ≤ n
+    → LinkReaders p o n ls → LinkReaders p (o + 1) 0 ls
 links_op p o n ls ps lt e le k =
     let y = op_at p.ops o lt in
     let long : length ps ≡ length y.0.reads = ap length (e ∙ places_at (λ d. d.reads) (queue_names p) p.ops o y.0 y.1) ∙ length-map y.0.reads (place (queue_names p)) in
@@ -229,6 +246,7 @@ links_op p o n ls ps lt e le k =
           b);
     }
 
+-- the links of all operators are those of the plan
 pub links_all : (p : PlanForm) (n : ℕ) (ls : List Link) → n ≡ length p.ops → LinkReaders p n 0 ls → AreLinks p ls
 links_all p n ls e k = record {
   right = k.right;

@@ -51,6 +51,7 @@ still_task p adds t t' e k =
       stands = record { fit = subst (FitState k.op.kernel (kinds_in p k.op)) (sym st) k.stands.fit; after = λ w a h. subst (λ x. StandsAfter k.op.kernel (kinds_in p k.op) (first_kept k.op.kernel) x w) (sym st) (k.stands.after w a h) };
     }
 
+-- and keep their facts
 pub still_tasks : (p : PlanForm) (adds : ℕ → ℕ → List (List ℤ)) (ts ts' : List Task) → map still ts' ≡ map still ts → AreTasks p adds ts → AreTasks p adds ts'
 still_tasks p adds ts ts' e k = record {
   each = λ i d lt.
@@ -61,6 +62,7 @@ still_tasks p adds ts ts' e k = record {
       (still_task p (adds g.0.op) g.0 (get_or ts' i d) g.2 (subst (λ (x : Task). IsTask p (adds x.op) x) (get_or_from_slice_get ts i g.0 d g.1) (k.each i d (omega (arith, lt, l)))));
 }
 
+-- and the same ends
 pub still_ends : (ts ts' : List Task) → map still ts' ≡ map still ts → all_ends ts' ≡ all_ends ts
 still_ends ts ts' e = map_through still (λ (s : Still). s.ends) ts' ts e
 
@@ -82,6 +84,7 @@ still_moves t t' e =
     let b = sent_same t'.outs t.outs (ap (λ (x : Seen). x.sent) s) in
     omega (arith, a, b)
 
+-- tasks that are still have the same number of moves
 pub still_all_moves : (ts ts' : List Task) → map still ts' ≡ map still ts → all_moves ts' ≡ all_moves ts
 still_all_moves [] [] e = refl
 still_all_moves [] (y ∷ ys) e = absurd (cc e)
@@ -101,6 +104,7 @@ ring_in a b c d e = (cc e, cc e)
 ring_out : (a b : RingId) (c d : ℕ) → RingOut a c ≡ RingOut b d → (a ≡ b) × (c ≡ d)
 ring_out a b c d e = (cc e, cc e)
 
+-- a pair is known by the ends alone
 pub pair_same : (f f' : outlet.Outlet) (i i' : inlet.Inlet) → out_end f' ≡ out_end f → in_end i' ≡ in_end i → IsPair f i → IsPair f' i'
 pair_same (SendsTo f) (SendsTo g) (TakesFrom t) (TakesFrom u) ef ei h = (ring_in u.id t.id u.cap t.cap ei).0 ∙ h ∙ sym (ring_out g.id f.id g.cap f.cap ef).0
 pair_same (SendsTo f) (SendsTo g) (TakesFrom t) (Given u) ef ei h = absurd (cc ei)
@@ -108,6 +112,7 @@ pair_same (SendsTo f) (Stored xs) (TakesFrom t) i' ef ei h = absurd (cc ef)
 pair_same (SendsTo f) f' (Given k) i' ef ei h = absurd h
 pair_same (Stored xs) f' i i' ef ei h = absurd h
 
+-- the two ends of a ring are known by the ends alone
 pub link_same : (cap : ℕ) (f f' : outlet.Outlet) (i i' : inlet.Inlet) → out_end f' ≡ out_end f → in_end i' ≡ in_end i → IsLink cap f i → IsLink cap f' i'
 link_same cap (SendsTo f) (SendsTo g) (TakesFrom t) (TakesFrom u) ef ei h =
     let a = ring_in u.id t.id u.cap t.cap ei in
@@ -118,11 +123,13 @@ link_same cap (SendsTo f) (Stored xs) (TakesFrom t) i' ef ei h = absurd (cc ef)
 link_same cap (SendsTo f) f' (Given k) i' ef ei h = absurd h
 link_same cap (Stored xs) f' i i' ef ei h = absurd h
 
+-- a kept list of an input is known by its end
 pub input_same : (xs : List item.Item) (i i' : inlet.Inlet) → in_end i' ≡ in_end i → IsInput xs i → IsInput xs i'
 input_same xs (Given k) (Given k') e h = let x : k'.line ≡ k.line = cc e in x ∙ h
 input_same xs (Given k) (TakesFrom t) e h = absurd (cc e)
 input_same xs (TakesFrom t) i' e h = absurd h
 
+-- two ends of a ring of some capacity are a pair
 pub pair_of : (cap : ℕ) (f : outlet.Outlet) (i : inlet.Inlet) → IsLink cap f i → IsPair f i
 pair_of cap (SendsTo f) (TakesFrom t) h = h.0
 pair_of cap (SendsTo f) (Given k) h = absurd h

@@ -88,7 +88,8 @@ snoc_last : {A : Type 0} (xs : List A) (x : A) → slice_get (xs ++ x ∷ []) (l
 snoc_last [] x = refl
 snoc_last (a ∷ xs) x = snoc_last xs x
 
-pub ins_more : (qs0 : List (List item.Item)) (ps : List ℕ) (n : ℕ) (ins ins' : List inlet.Inlet) (qs qs' : List (List item.Item)) (i : inlet.Inlet) → InsOf qs0 ps ins qs → IsApart ps n
+pub ins_more : (qs0 : List (List item.Item)) (ps : List ℕ) (n : ℕ) (ins ins' : List inlet.Inlet) (qs qs' : List (List item.Item)) (i : inlet.Inlet)
+    → InsOf qs0 ps ins qs → IsApart ps n
     → i ≡ whole_list qs n → qs' ≡ slice_set qs n [] → ins' ≡ ins ++ i ∷ [] → InsOf qs0 (ps ++ n ∷ []) ins' qs'
 ins_more qs0 ps n ins ins' qs qs' i h a ei eq en = record {
   ins_are = en ∙ ap (λ l. l ++ i ∷ []) h.ins_are
@@ -126,10 +127,13 @@ apart_behind ps i d a lt port g =
     taken_within (y ∷ xs) (suc k) zero x g = omega arith
     taken_within (y ∷ xs) (suc k) (suc n) x g = let r = taken_within xs k n x g in omega (arith, r)
 
+-- before the first port nothing was taken out
 pub ins_begin : (qs : List (List item.Item)) (ins : List inlet.Inlet) → ins ≡ [] → InsOf qs [] ins qs
 ins_begin qs ins e = subst (λ is. InsOf qs [] is qs) (sym e) (ins_first qs)
 
-pub ins_next : (qs0 : List (List item.Item)) (ps : List ℕ) (i : ℕ) (ins ins' : List inlet.Inlet) (qs qs' : List (List item.Item)) (x : inlet.Inlet) → AllPairs (λ m n. m ≡ n → ⊥) ps
+-- the line of one port more was taken out
+pub ins_next : (qs0 : List (List item.Item)) (ps : List ℕ) (i : ℕ) (ins ins' : List inlet.Inlet) (qs qs' : List (List item.Item)) (x : inlet.Inlet)
+    → AllPairs (λ m n. m ≡ n → ⊥) ps
     → InsOf qs0 (take i ps) ins qs → i < length ps → x ≡ whole_list qs (get_or ps i 0) → qs' ≡ slice_set qs (get_or ps i 0) [] → ins' ≡ ins ++ x ∷ []
     → InsOf qs0 (take (i + 1) ps) ins' qs'
 ins_next qs0 ps i ins ins' qs qs' x a h lt ex eq en =
@@ -142,7 +146,8 @@ ins_next qs0 ps i ins ins' qs qs' x a h lt ex eq en =
 pub unread_first : (p : PlanForm) (qs : List (List item.Item)) → AreUnread p qs 0 qs
 unread_first p qs = record { many = refl; each = λ n h. refl }
 
-pub unread_more : (p : PlanForm) (qs0 qs qs' : List (List item.Item)) (o : ℕ) → AreUnread p qs0 o qs → HasLeft (list_at (read_places p) o) qs qs' → AreUnread p qs0 (o + 1) qs'
+pub unread_more : (p : PlanForm) (qs0 qs qs' : List (List item.Item)) (o : ℕ) → AreUnread p qs0 o qs → HasLeft (list_at (read_places p) o) qs qs'
+    → AreUnread p qs0 (o + 1) qs'
 unread_more p qs0 qs qs' o h l = record {
   many = l.many ∙ h.many;
   each = λ n a. l.others n (a o (omega arith)) ∙ h.each n (λ m lt. a m (omega (arith, lt)));
@@ -163,11 +168,15 @@ pub record TasksSoFar (p : PlanForm) (qs0 : List (List item.Item)) (kinds : List
   pub tasks : AreFirstTasks p qs0 kinds n ts
   pub left : AreUnread p qs0 n qs
 
+-- before the first operator there is no task
 pub so_far_first : (p : PlanForm) (qs : List (List item.Item)) (kinds : List QueueType) (ts : List Task) → ts ≡ [] → TasksSoFar p qs kinds 0 ts qs
 so_far_first p qs kinds ts e = record { tasks = first_none p qs kinds ts e; left = unread_first p qs }
 
-pub so_far_more : (p : PlanForm) (qs0 : List (List item.Item)) (kinds : List QueueType) (n : ℕ) (ts ts' : List Task) (qs qs' : List (List item.Item)) (t : Task) → IsPlan p
-    → TasksSoFar p qs0 kinds n ts qs → IsFirstTask p qs kinds n t → HasLeft (list_at (read_places p) n) qs qs' → ts' ≡ ts ++ t ∷ [] → TasksSoFar p qs0 kinds (n + 1) ts' qs'
+-- one task more, with the lines that it reads
+pub so_far_more : (p : PlanForm) (qs0 : List (List item.Item)) (kinds : List QueueType) (n : ℕ) (ts ts' : List Task) (qs qs' : List (List item.Item))
+    (t : Task) → IsPlan p
+    → TasksSoFar p qs0 kinds n ts qs → IsFirstTask p qs kinds n t → HasLeft (list_at (read_places p) n) qs qs' → ts' ≡ ts ++ t ∷ []
+    → TasksSoFar p qs0 kinds (n + 1) ts' qs'
 so_far_more p qs0 kinds n ts ts' qs qs' t v h f l e = record {
   tasks = first_more p qs0 kinds n ts ts' t h.tasks (record {
     there = f.there;

@@ -15,7 +15,8 @@ pub record IsFresh (p : PlanForm) (inputs : List (List item.Item)) (o : ℕ) (t 
   pub task : IsTask p (λ j. []) t
   pub number : t.op ≡ o
   pub ins : (port : ℕ) (i : inlet.Inlet) → slice_get t.ins port ≡ Some i → received_of i ≡ []
-  pub inputs_are : (port : ℕ) (op : OpForm) (q : Name) (i : inlet.Inlet) → slice_get p.ops o ≡ Some op → slice_get op.reads port ≡ Some q → slice_get t.ins port ≡ Some i → IsInput (given_to p inputs q) i
+  pub inputs_are : (port : ℕ) (op : OpForm) (q : Name) (i : inlet.Inlet) → slice_get p.ops o ≡ Some op → slice_get op.reads port ≡ Some q
+      → slice_get t.ins port ≡ Some i → IsInput (given_to p inputs q) i
   pub outs : (j : ℕ) (f : outlet.Outlet) → slice_get t.outs j ≡ Some f → IsStored f × (sent_of f ≡ [])
 
 pub record AreFresh (p : PlanForm) (inputs : List (List item.Item)) (ts : List Task) : Type 0 where

@@ -24,6 +24,8 @@ pub record Met (ts ts' : List Task) (l : Link) : Type 0 where
   pub reader_is : (d : Task) → slice_index_or ts l.reader d ≡ reader
   pub settled : IsSettled out in_
   -- they are the same ends, and the same was sent and received
-  pub same_out : (d : outlet.Outlet) → (out_end out ≡ out_end (slice_index_or writer.outs l.out d)) × (sent_of out ≡ sent_of (slice_index_or writer.outs l.out d))
-  pub same_in : (d : inlet.Inlet) → (in_end in_ ≡ in_end (slice_index_or reader.ins l.port d)) × (received_of in_ ≡ received_of (slice_index_or reader.ins l.port d))
+  pub same_out : (d : outlet.Outlet)
+      → (out_end out ≡ out_end (slice_index_or writer.outs l.out d)) × (sent_of out ≡ sent_of (slice_index_or writer.outs l.out d))
+  pub same_in : (d : inlet.Inlet)
+      → (in_end in_ ≡ in_end (slice_index_or reader.ins l.port d)) × (received_of in_ ≡ received_of (slice_index_or reader.ins l.port d))
   pub after : ts' ≡ slice_set (slice_set ts l.writer (with_out writer l.out out)) l.reader (with_in reader l.port in_)

@@ -22,7 +22,8 @@ pub record WritesAt (p : PlanForm) (n : ℕ) (s : Source) : Type 0 where
 pub record KnowWriters (p : PlanForm) (o j : ℕ) (sources : List (Option Source)) : Type 0 where
   pub many : length sources ≡ length (queue_names p)
   pub right : (n : ℕ) (s : Source) → slice_get sources n ≡ Some (Some s) → WritesAt p n s
-  pub all : (o' j' : ℕ) (op : OpForm) (q : Name) → ComesBefore o j o' j' → slice_get p.ops o' ≡ Some op → slice_get op.writes j' ≡ Some q → (s : Source) × (slice_get sources (place (queue_names p) q) ≡ Some (Some s))
+  pub all : (o' j' : ℕ) (op : OpForm) (q : Name) → ComesBefore o j o' j' → slice_get p.ops o' ≡ Some op → slice_get op.writes j' ≡ Some q
+      → (s : Source) × (slice_get sources (place (queue_names p) q) ≡ Some (Some s))
 
 -- the links are those of the ports before this one
 pub record LinkReaders (p : PlanForm) (o port : ℕ) (ls : List Link) : Type 0 where

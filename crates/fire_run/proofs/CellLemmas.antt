@@ -21,7 +21,8 @@ grown_got more c (x ∷ xs) zero y g = let e : record x { log = x.log ++ more c 
 grown_got more c (x ∷ xs) (suc i) y g = grown_got more (suc c) xs i y g
 
 -- and its log is what it was, with the entries of its class
-pub grown_log : (more : ℕ → List LogEntry) (c : ℕ) (xs : List Holding) (i : ℕ) → i < length xs → logs_of (cells_grown more c xs) i ≡ logs_of xs i ++ more (c + i)
+pub grown_log : (more : ℕ → List LogEntry) (c : ℕ) (xs : List Holding) (i : ℕ) → i < length xs
+    → logs_of (cells_grown more c xs) i ≡ logs_of xs i ++ more (c + i)
 grown_log more c [] i lt = absurd (omega (arith, lt))
 grown_log more c (x ∷ xs) zero lt = let z : c ≡ c + 0 = omega arith in ap (λ n. x.log ++ more n) z
 grown_log more c (x ∷ xs) (suc i) lt = let z : suc c + i ≡ c + suc i = omega arith in grown_log more (suc c) xs i (omega (arith, lt)) ∙ ap (λ n. logs_of xs i ++ more n) z

@@ -28,9 +28,11 @@ pub record SoFar (t0 : Task) (port : ℕ) (t : Task) : Type 0 where
   pub same : t ≡ t0
   pub empty : (j : ℕ) → j < port → list_at t0.pending j ≡ []
 
+-- before the first port nothing was seen
 pub so_first : (t : Task) → SoFar t 0 t
 so_first t = record { same = refl; empty = λ j lt. absurd (omega (arith, lt)) }
 
+-- one port more has nothing pending
 pub so_next : (t0 t : Task) (port : ℕ) → SoFar t0 port t → list_at t.pending port ≡ [] → SoFar t0 (port + 1) t
 so_next t0 t port h z = record {
   same = h.same;
@@ -45,9 +47,11 @@ beyond [] j le = refl
 beyond (l ∷ ls) zero le = absurd (omega (arith, le))
 beyond (l ∷ ls) (suc j) le = beyond ls j (omega (arith, le))
 
+-- once all ports were seen, nothing is pending
 pub so_idle : (t0 t : Task) (port : ℕ) → SoFar t0 port t → length t0.pending ≤ port → IsIdle t0.pending
 so_idle t0 t port h le j = ⊎_elim (λ l. h.empty j (omega (arith, l, le))) (λ ge. beyond t0.pending j ge) (cases_lt j (length t0.pending))
 
+-- there are as many ports as before
 pub so_long : (t0 t : Task) (port : ℕ) → SoFar t0 port t → length t.pending ≡ length t0.pending
 so_long t0 t port h = ap (λ (x : Task). length x.pending) h.same
 
@@ -55,9 +59,11 @@ so_long t0 t port h = ap (λ (x : Task). length x.pending) h.same
 pub still_ins : (t : Task) (ins : List inlet.Inlet) → in_ends ins ≡ in_ends t.ins → received_in ins ≡ received_in t.ins → still (with_ins t ins) ≡ still t
 still_ins t ins e r = still_by (with_ins t ins) t refl e refl r refl refl refl refl refl refl refl refl refl refl
 
+-- a number grew by 1
 pub one_true : (a b : ℕ) → b ≡ a + 1 → OneMore a b true
 one_true a b e = record { one = λ t. e; none = λ f. absurd (cc f) }
 
+-- no number grew
 pub one_false : (a b : ℕ) → b ≡ a → OneMore a b false
 one_false a b e = record { one = λ t. absurd (cc t); none = λ f. e }
 
@@ -69,6 +75,7 @@ pub record Walked (ts0 : List Task) (back : ℕ) (ts : List Task) : Type 0 where
   pub rest : (i : ℕ) (d : Task) → i + back < length ts0 → get_or ts i d ≡ get_or ts0 i d
   pub done : (i : ℕ) (d : Task) → i < length ts0 → length ts0 ≤ i + back → IsDone (get_or ts0 i d)
 
+-- before the first task none was asked
 pub walked_first : (ts : List Task) → Walked ts 0 ts
 walked_first ts = record { same = refl; rest = λ i d lt. refl; done = λ i d lt le. absurd (omega (arith, lt, le)) }
 
@@ -87,7 +94,9 @@ pub record Turn (p : PlanForm) (adds : ℕ → ℕ → List (List ℤ)) (t : Tas
   pub few : length t.ins < 2 ^ 32
   pub room : CanSend t
 
-pub turn_of : (p : PlanForm) (adds : ℕ → ℕ → List (List ℤ)) (ts0 ts : List Task) (back o : ℕ) (t : Task) → AreTasks p adds ts0 → CanSendFrom ts0 → Walked ts0 back ts
+-- what is known of the task whose turn it is
+pub turn_of : (p : PlanForm) (adds : ℕ → ℕ → List (List ℤ)) (ts0 ts : List Task) (back o : ℕ) (t : Task) → AreTasks p adds ts0 → CanSendFrom ts0
+    → Walked ts0 back ts
     → o + back + 1 ≡ length ts0 → t ≡ get_or ts o t → Turn p adds t
 turn_of p adds ts0 ts back o t k s h e is =
     let lt : o < length ts0 = omega (arith, e) in
@@ -99,7 +108,9 @@ turn_of p adds ts0 ts back o t k s h e is =
       room = s.room o t lt (λ n d lo ln. h.done n d ln (omega (arith, e, lo)));
     })
 
-pub walked_next : (ts0 ts : List Task) (back o : ℕ) (old new : Task) → Walked ts0 back ts → o + back + 1 ≡ length ts0 → old ≡ get_or ts o old → still new ≡ still old → IsDone old → Walked ts0 (back + 1) (set ts o new)
+-- one task more has nothing to do
+pub walked_next : (ts0 ts : List Task) (back o : ℕ) (old new : Task) → Walked ts0 back ts → o + back + 1 ≡ length ts0 → old ≡ get_or ts o old
+    → still new ≡ still old → IsDone old → Walked ts0 (back + 1) (set ts o new)
 walked_next ts0 ts back o old new h e is s d =
     let l = walked_long ts0 ts back h in
     let lt : o < length ts = omega (arith, e, l) in
@@ -113,6 +124,7 @@ walked_next ts0 ts back o old new h e is s d =
           (cases_lt (i + back) (length ts0));
     }
 
+-- once all tasks were asked, none has anything to do
 pub walked_all : (ts0 ts : List Task) (back : ℕ) → Walked ts0 back ts → length ts0 ≤ back → AreIdle ts0
 walked_all ts0 ts back h le = record { each = λ o d lt. h.done o d lt (omega (arith, le)) }
 
@@ -143,7 +155,9 @@ still_op ts0 ts i d e lt =
     let x = same_got still ts ts0 e i (get_or ts i d) (slice_get-get_or ts i d lt) in
     ap (λ (s : Still). s.ends.op) x.2 ∙ ap (λ (t : Task). t.op) (sym (get_or_from_slice_get ts0 i x.0 d x.1))
 
-pub moved_one : (p : PlanForm) (cells0 cells : List Holding) (ts0 ts : List Task) (back o : ℕ) (old new : Task) (m : Bool) → AreTasks p (added p (logs_of cells0)) ts0 → AreSingle ts0
+-- the tasks and the cells after one task moved
+pub moved_one : (p : PlanForm) (cells0 cells : List Holding) (ts0 ts : List Task) (back o : ℕ) (old new : Task) (m : Bool)
+    → AreTasks p (added p (logs_of cells0)) ts0 → AreSingle ts0
     → Walked ts0 back ts → o + back + 1 ≡ length ts0 → old ≡ get_or ts o old → IsTask p (added p (logs_of cells) old.op) new → ends_of new ≡ ends_of old
     → HaveAdded p old.op cells0 cells → OneMore (moves old) (moves new) m → m ≡ true → Moved p ts0 (set ts o new) cells0 cells
 moved_one p cells0 cells ts0 ts back o old new m k ap0 h e is t s a n mt =
@@ -183,14 +197,17 @@ no_more : (c : ℕ) (cells : List Holding) → cells_grown (λ n. []) c cells �
 no_more c [] = refl
 no_more c (x ∷ xs) = ap (λ l. record x { log = l } ∷ cells_grown (λ n. []) (suc c) xs) (append-nil x.log) ∙ ap (λ ys. x ∷ ys) (no_more (suc c) xs)
 
+-- an operator that did not fire added nothing
 pub none_added : (p : PlanForm) (o : ℕ) (cells : List Holding) → HaveAdded p o cells cells
 none_added p o cells = record { more = λ c. []; is = sym (no_more 0 cells); others = λ n ne j. refl; entries = λ e. e }
 
+-- the same cells
 pub none_moved : (p : PlanForm) (cells : List Holding) → HaveMoved p cells cells
 none_moved p cells = record { more = λ c. []; is = sym (no_more 0 cells); entries = λ e. e }
 
 -- ONE AFTER ANOTHER, FROM THE LAST BACK
 
+-- the last tasks have nothing to do, and the cells are as they were
 pub record Walking (ts0 : List Task) (cells0 : List Holding) (back : ℕ) (ts : List Task) (cells : List Holding) : Type 0 where
   pub walked : Walked ts0 back ts
   pub stay : cells ≡ cells0

@@ -31,7 +31,9 @@ blank_log (x ∷ xs) h (suc c) = blank_log xs (All-tail (λ (y : Holding). y.log
 none_added_yet : (p : PlanForm) (cells : List Holding) → All (λ (x : Holding). x.log ≡ []) cells → (o j : ℕ) → added p (logs_of cells) o j ≡ []
 none_added_yet p cells h o j = ap (rows_by o (table_at p o j)) (blank_log cells h (table_class p (table_at p o j)))
 
-pub opened : (p : PlanForm) (inputs : List (List item.Item)) (cap : ℕ) (ts0 ts : List Task) (ls : List Link) (cells : List Holding) → IsPlan p → AreInputs p.inputs inputs → 0 < cap
+-- fresh tasks with rings and empty cells are a net
+pub opened : (p : PlanForm) (inputs : List (List item.Item)) (cap : ℕ) (ts0 ts : List Task) (ls : List Link) (cells : List Holding) → IsPlan p
+    → AreInputs p.inputs inputs → 0 < cap
     → AreFresh p inputs ts0 → AreLinks p ls → AreRung cap ts0 ts ls (length ls) → AreClassCells p cells → All (λ (x : Holding). x.log ≡ []) cells
     → IsNetOf p inputs (λ q. cap) (record { tasks = ts; links = ls; cells = cells; refused = false })
 opened p inputs cap ts0 ts ls cells v typed room h k r cs blank = record {
@@ -69,7 +71,8 @@ opened p inputs cap ts0 ts ls cells v typed room h k r cs blank = record {
   entries = λ c. subst (All (IsEntryOf p c)) (sym (blank_log cells blank c)) (All-nil (IsEntryOf p c));
 }
   where
-    no_reader : (o port : ℕ) (op : OpForm) (q : Name) → slice_get p.ops o ≡ Some op → slice_get op.reads port ≡ Some q → total (writes_it q) p.ops ≡ 0 → NoReader ls (length ls) o port
+    no_reader : (o port : ℕ) (op : OpForm) (q : Name) → slice_get p.ops o ≡ Some op → slice_get op.reads port ≡ Some q → total (writes_it q) p.ops ≡ 0
+        → NoReader ls (length ls) o port
     no_reader o port op q g w z m l lt gl e =
         let x = k.right m l gl in
         let eo : x.read ≡ op = some_is x.read op (sym x.read_is ∙ ap (slice_get p.ops) e.0 ∙ g) in
@@ -78,7 +81,8 @@ opened p inputs cap ts0 ts ls cells v typed room h k r cs blank = record {
         let a = at_most (writes_it q) p.ops l.writer x.write x.write_is in
         omega (arith, c, a, z)
 
-    no_writer : (o j : ℕ) (op : OpForm) (q : Name) → slice_get p.ops o ≡ Some op → slice_get op.writes j ≡ Some q → total (reads_it q) p.ops ≡ 0 → NoWriter ls (length ls) o j
+    no_writer : (o j : ℕ) (op : OpForm) (q : Name) → slice_get p.ops o ≡ Some op → slice_get op.writes j ≡ Some q → total (reads_it q) p.ops ≡ 0
+        → NoWriter ls (length ls) o j
     no_writer o j op q g w z m l lt gl e =
         let x = k.right m l gl in
         let eo : x.write ≡ op = some_is x.write op (sym x.write_is ∙ ap (slice_get p.ops) e.0 ∙ g) in

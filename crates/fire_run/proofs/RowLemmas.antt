@@ -33,7 +33,8 @@ grown_same f g c (x ∷ xs) h =
     ap (λ l. record x { log = x.log ++ l } ∷ cells_grown f (suc c) xs) (h c (omega arith))
     ∙ ap (λ ys. record x { log = x.log ++ g c } ∷ ys) (grown_same f g (suc c) xs (λ n le. h n (omega (arith, le))))
 
-grown_put : (f g : ℕ → List LogEntry) (o table c k : ℕ) (rows : List (List ℤ)) (xs : List Holding) → k < length xs → g (c + k) ≡ f (c + k) ++ entry_of o table rows
+grown_put : (f g : ℕ → List LogEntry) (o table c k : ℕ) (rows : List (List ℤ)) (xs : List Holding) → k < length xs
+    → g (c + k) ≡ f (c + k) ++ entry_of o table rows
     → ((n : ℕ) → n ≢ c + k → g n ≡ f n) → with_rows o table k rows (cells_grown f c xs) ≡ cells_grown g c xs
 grown_put f g o table c k rows [] lt here other = absurd (omega (arith, lt))
 grown_put f g o table c zero rows (x ∷ xs) lt here other =
@@ -71,12 +72,17 @@ none_more : (c : ℕ) (cells : List Holding) → cells_grown (λ n. []) c cells 
 none_more c [] = refl
 none_more c (x ∷ xs) = ap (λ l. record x { log = l } ∷ cells_grown (λ n. []) (suc c) xs) (append-nil x.log) ∙ ap (λ ys. x ∷ ys) (none_more (suc c) xs)
 
-pub added_first : (o : ℕ) (classes : List ℕ) (tables : List TablePort) (rows : ℕ → List (List ℤ)) (cells : List Holding) → AddedTo o classes tables rows 0 cells cells
+-- before the first port nothing was added
+pub added_first : (o : ℕ) (classes : List ℕ) (tables : List TablePort) (rows : ℕ → List (List ℤ)) (cells : List Holding)
+    → AddedTo o classes tables rows 0 cells cells
 added_first o classes [] rows cells = sym (none_more 0 cells)
 added_first o classes (h ∷ hs) rows cells = sym (none_more 0 cells)
 
-pub added_step : (o : ℕ) (classes : List ℕ) (tables : List TablePort) (rows : ℕ → List (List ℤ)) (j : ℕ) (cells0 cells cells' : List Holding) (h : TablePort) → slice_get tables j ≡ Some h
-    → slice_index_or classes h.place 0 < length cells0 → AddedTo o classes tables rows j cells0 cells → cells' ≡ with_rows o h.table (slice_index_or classes h.place 0) (rows j) cells
+-- the rows of one port more were added
+pub added_step : (o : ℕ) (classes : List ℕ) (tables : List TablePort) (rows : ℕ → List (List ℤ)) (j : ℕ) (cells0 cells cells' : List Holding)
+    (h : TablePort) → slice_get tables j ≡ Some h
+    → slice_index_or classes h.place 0 < length cells0 → AddedTo o classes tables rows j cells0 cells
+    → cells' ≡ with_rows o h.table (slice_index_or classes h.place 0) (rows j) cells
     → AddedTo o classes tables rows (j + 1) cells0 cells'
 added_step o classes tables rows j cells0 cells cells' h gh lc a e =
     let lt = slice_get_within tables j h gh in
@@ -107,7 +113,9 @@ pub record CellNow (o table class : ℕ) (rows : List (List ℤ)) (cells : List 
   pub there : class < length cells
   pub takes : (d : Holding) → TakesRows (slice_index_or cells class d).kinds table rows
 
-pub cell_now : (o : ℕ) (classes : List ℕ) (tables : List TablePort) (rows : ℕ → List (List ℤ)) (j : ℕ) (cells0 cells : List Holding) (h : TablePort) → CanAddTo tables classes rows cells0
+-- the cell of a port is there, and takes its rows
+pub cell_now : (o : ℕ) (classes : List ℕ) (tables : List TablePort) (rows : ℕ → List (List ℤ)) (j : ℕ) (cells0 cells : List Holding) (h : TablePort)
+    → CanAddTo tables classes rows cells0
     → slice_get tables j ≡ Some h → AddedTo o classes tables rows j cells0 cells → CellNow o h.table (slice_index_or classes h.place 0) (rows j) cells
 cell_now o classes tables rows j cells0 cells h can gh a =
     let c = slice_index_or classes h.place 0 in
@@ -123,7 +131,9 @@ cell_now o classes tables rows j cells0 cells h can gh a =
           subst (λ ks. TakesRows ks h.table (rows j)) (sym (y.2 ∙ ap (λ (z : Holding). z.kinds) same)) x.2;
     }
 
-pub class_below : (classes : List ℕ) (tables : List TablePort) (rows : ℕ → List (List ℤ)) (cells : List Holding) (j : ℕ) (h : TablePort) → CanAddTo tables classes rows cells
+-- the class of a port is one of the cells'
+pub class_below : (classes : List ℕ) (tables : List TablePort) (rows : ℕ → List (List ℤ)) (cells : List Holding) (j : ℕ) (h : TablePort)
+    → CanAddTo tables classes rows cells
     → slice_get tables j ≡ Some h → slice_index_or classes h.place 0 < length cells
 class_below classes tables rows cells j h can g = let x = can.each j h g in slice_get_within cells (slice_index_or classes h.place 0) x.0 x.1
 
@@ -164,7 +174,8 @@ class_has p cells n t h g =
     let k = kinds_has (table_class p) (table_class p n) 0 n p.tables t g (ap (table_class p) z) in
     (x.0, x.1, record { place = k.0; there = ap (λ ks. slice_get ks k.0) (h.kinds (table_class p n) x.0 x.1) ∙ k.1 ∙ ap (λ m. Some (m, t.kind)) z })
 
-pub can_add_to : (p : PlanForm) (o : ℕ) (tables : List TablePort) (classes : List ℕ) (rows : ℕ → List (List ℤ)) (cells : List Holding) → AreHomes p o tables classes
+pub can_add_to : (p : PlanForm) (o : ℕ) (tables : List TablePort) (classes : List ℕ) (rows : ℕ → List (List ℤ)) (cells : List Holding)
+    → AreHomes p o tables classes
     → AreRowsFor p tables rows → AreClassCells p cells → CanAddTo tables classes rows cells
 can_add_to p o tables classes rows cells homes wide h = record {
   there = λ j x g. slice_get_within classes x.place (table_class p x.table) (homes.places_are j x g);
@@ -186,7 +197,8 @@ owed p t t1 cells k f h =
 -- THE TASK AFTERWARDS
 
 -- what came to the logs
-logs_now : (p : PlanForm) (o : ℕ) (tables : List TablePort) (classes : List ℕ) (rows : ℕ → List (List ℤ)) (cells0 cells : List Holding) → CanAddTo tables classes rows cells0
+logs_now : (p : PlanForm) (o : ℕ) (tables : List TablePort) (classes : List ℕ) (rows : ℕ → List (List ℤ)) (cells0 cells : List Holding)
+    → CanAddTo tables classes rows cells0
     → cells ≡ cells_grown (logged o classes tables rows) 0 cells0 → (c : ℕ) → logs_of cells c ≡ logs_of cells0 c ++ logged o classes tables rows c
 logs_now p o tables classes rows cells0 cells can e c = ap (λ l. logs_of l c) e ∙ ⊎_elim
     (λ lt. let z : 0 + c ≡ c = omega arith in grown_log (logged o classes tables rows) 0 cells0 c lt ∙ ap (λ n. logs_of cells0 c ++ logged o classes tables rows n) z)
@@ -212,6 +224,7 @@ module _ (p : PlanForm) (v : IsPlan p) (t t1 : Task) (cells0 cells : List Holdin
   logs : (c : ℕ) → logs_of cells c ≡ logs_of cells0 c ++ logged t.op t1.classes t1.tables (list_at t1.out.adds) c
   logs = logs_now p t.op t1.tables t1.classes (list_at t1.out.adds) cells0 cells can e
 
+  -- the task keeps its facts, with the rows of this firing
   pub task_after : (adds : List (List (List ℤ))) → adds ≡ replicate (length t1.out.adds) []
       → IsTask p (added p (logs_of cells) t.op) (record t1 { out = record { outs = t1.out.outs; adds = adds } })
   unfolding owes homes logs
@@ -222,6 +235,7 @@ module _ (p : PlanForm) (v : IsPlan p) (t t1 : Task) (cells0 cells : List Holdin
       let h = got_at t1.tables j (omega (arith, m, lt)) in
       added_more p v t.op k.op k.op_is t1.tables t1.classes homes (logs_of cells0) (logs_of cells) (list_at t1.out.adds) logs j h.0 h.1))
 
+  -- what came to the cells is the operator's
   pub added_after : HaveAdded p t.op cells0 cells
   unfolding owes homes logs
   added_after = record {

@@ -16,12 +16,15 @@ pub record RanOn (p : PlanForm) (inputs : List (List item.Item)) (n : ℕ) (net0
   pub stays : Stays p net0 net
   pub grows : all_moves net0.tasks + n ≤ all_moves net.tasks
 
+-- before the first move
 pub ran_first : (p : PlanForm) (inputs : List (List item.Item)) (net : Net) → HasNetOf p inputs net → RanOn p inputs 0 net net
 ran_first p inputs net h = record { has = h; stays = record { fine = h.fine; is = λ i c n. n }; grows = omega arith }
 
+-- it is a net
 pub ran_has : (p : PlanForm) (inputs : List (List item.Item)) (n : ℕ) (net0 net : Net) → RanOn p inputs n net0 net → HasNet p net
 ran_has p inputs n net0 net r = record { fine = r.has.fine; inputs = inputs; caps = r.has.caps; is = r.has.is }
 
+-- one move more
 pub ran_next : (p : PlanForm) (inputs : List (List item.Item)) (n m : ℕ) (net0 net net' : Net) (b : Bool) → RanOn p inputs n net0 net → Stays p net net'
     → OneMore (all_moves net.tasks) (all_moves net'.tasks) b → b ≡ true → m ≤ n + 1 → RanOn p inputs m net0 net'
 ran_next p inputs n m net0 net net' b r s o e le = record {
@@ -38,6 +41,7 @@ ran_end p inputs n net0 net net' r s = record { fine = s.fine; is = λ i c k. s.
 abbrev pub moves_left : PlanForm → List (List item.Item) → Net → ℕ
 moves_left p inputs net = 2 * lengths (hist p inputs) (queue_names p) - all_moves net.tasks
 
+-- after a move there are fewer to come
 pub one_less : (p : PlanForm) (inputs : List (List item.Item)) (n : ℕ) (net0 net net' : Net) (b : Bool) → RanOn p inputs n net0 net → Stays p net net'
     → OneMore (all_moves net.tasks) (all_moves net'.tasks) b → b ≡ true → moves_left p inputs net' < moves_left p inputs net
 one_less p inputs n net0 net net' b r s o e =

@@ -55,6 +55,7 @@ stored_free : (f : outlet.Outlet) → IsStored f → HasRoom f
 stored_free (SendsTo f) s = absurd s
 stored_free (Stored xs) s = tt
 
+-- a number is above 0, or it is 0
 pub more_or_none : (n : ℕ) → (0 < n) ⊎ (n ≡ 0)
 more_or_none zero = inr refl
 more_or_none (suc n) = inl (omega arith)
@@ -83,7 +84,8 @@ module _ (p : PlanForm) (inputs : List (List item.Item)) (caps : Capacities) (ne
       let m = make_net p inputs caps adds net.tasks v n.laid n.tasks n.settled n.typed in
       ap (λ (s : Seen). s.bad) (sym (seen_here net.tasks o (get_or net.tasks o d) (slice_get-get_or net.tasks o d lt))) ∙ m.joins.none_bad o (is_task o d lt).op (op_at o d lt)
 
-  room_at : (o : ℕ) (d : Task) → o < length net.tasks → ((m : ℕ) (e : Task) → o < m → m < length net.tasks → IsDone (get_or net.tasks m e)) → (j : ℕ) (x : outlet.Outlet) → (list_at (get_or net.tasks o d).pending j ≡ [] → ⊥)
+  room_at : (o : ℕ) (d : Task) → o < length net.tasks → ((m : ℕ) (e : Task) → o < m → m < length net.tasks → IsDone (get_or net.tasks m e))
+      → (j : ℕ) (x : outlet.Outlet) → (list_at (get_or net.tasks o d).pending j ≡ [] → ⊥)
       → HasRoom (get_or (get_or net.tasks o d).outs j x)
   unfolding is_task
   room_at o d lt behind j x some =
@@ -108,6 +110,7 @@ module _ (p : PlanForm) (inputs : List (List item.Item)) (caps : Capacities) (ne
       (λ none. stored_free f.0 (n.laid.outputs_are o j k.op q.0 t f.0 (op_at o d lt) q.1 none gt f.1))
       (more_or_none (total (reads_it q.0) p.ops)))
 
+  -- in a net no item failed its test, and where all behind a task have nothing to do its rings have room
   pub can_send : CanSendFrom net.tasks
   can_send = record {
     fine = none_bad;
@@ -150,7 +153,8 @@ none_more xs xs' ys ys' e x y =
     let f = ap length y in
     nil_of ys' (omega (arith, a, b, c, d, f))
 
-ring_left : (f f' : outlet.Outlet) (i i' : inlet.Inlet) → IsSettled f i → IsSettled f' i' → sent_of f' ≡ sent_of f → received_of i' ≡ received_of i → known_of i ≡ [] → known_of i' ≡ []
+ring_left : (f f' : outlet.Outlet) (i i' : inlet.Inlet) → IsSettled f i → IsSettled f' i' → sent_of f' ≡ sent_of f → received_of i' ≡ received_of i
+    → known_of i ≡ [] → known_of i' ≡ []
 ring_left f f' i i' s s' es er z = none_more (received_of i) (received_of i') (known_of i) (known_of i') (settled_ring f i s ∙ sym es ∙ sym (settled_ring f' i' s')) (sym er) z
 
 input_left : (xs : List item.Item) (i i' : inlet.Inlet) → IsInput xs i → IsInput xs i' → received_of i' ≡ received_of i → known_of i ≡ [] → known_of i' ≡ []
@@ -177,7 +181,9 @@ module _ (p : PlanForm) (inputs : List (List item.Item)) (caps : Capacities) (ne
         (more_or_none (total (writes_it q.0) p.ops));
   }
     where
-      by_ring : (o port : ℕ) (op : OpForm) (q : Name) (t t' : Task) (i i' : inlet.Inlet) → slice_get p.ops o ≡ Some op → slice_get op.reads port ≡ Some q → slice_get net.tasks o ≡ Some t → slice_get net'.tasks o ≡ Some t' → slice_get t.ins port ≡ Some i → slice_get t'.ins port ≡ Some i'
+      by_ring : (o port : ℕ) (op : OpForm) (q : Name) (t t' : Task) (i i' : inlet.Inlet) → slice_get p.ops o ≡ Some op
+          → slice_get op.reads port ≡ Some q → slice_get net.tasks o ≡ Some t → slice_get net'.tasks o ≡ Some t' → slice_get t.ins port ≡ Some i
+          → slice_get t'.ins port ≡ Some i'
           → 0 < total (writes_it q) p.ops → received_of i' ≡ received_of i → known_of i ≡ [] → known_of i' ≡ []
       by_ring o port op q t t' i i' op_is r g g' gi gi' w er z =
           let wr = writer_of p.ops q w in
@@ -195,6 +201,7 @@ module _ (p : PlanForm) (inputs : List (List item.Item)) (caps : Capacities) (ne
           (n'.settled.each o wr.0 port j.0 q f'.0 i' (record { op = op; op' = wr.1; op_is = op_is; reads = r; op_is' = wr.2; writes = j.1; t = t'; t' = b.t; t_is = g'; t_is' = b.t_is; in_is = gi'; out_is = f'.1 }))
           es er z
 
+  -- a net that looked at its rings is still idle
   pub idle_again : AreIdle net.tasks → AreIdle net'.tasks
   idle_again h = record {
     each = λ o d lt.

@@ -85,7 +85,8 @@ module _ (p : PlanForm) (inputs : List (List item.Item)) (caps : Capacities) (ne
       let t = task_here o op g in
       ap (λ (s : Seen). list_at s.pending j) (seen_here net.tasks o t.0 t.1) ∙ turned_idle t.0.pending (done_at o t.0 t.1).idle j
 
-  received_all : (o port : ℕ) (op : OpForm) (q : Name) → slice_get p.ops o ≡ Some op → slice_get op.reads port ≡ Some q → length (at_port port (ws o)) ≡ length (hist_by p inputs ws q)
+  received_all : (o port : ℕ) (op : OpForm) (q : Name) → slice_get p.ops o ≡ Some op → slice_get op.reads port ≡ Some q
+      → length (at_port port (ws o)) ≡ length (hist_by p inputs ws q)
   unfolding ws make
   received_all o port op q g r =
       let j = make.joins in
@@ -140,8 +141,10 @@ module _ (p : PlanForm) (inputs : List (List item.Item)) (caps : Capacities) (ne
     entries = n.entries;
   }
 
+-- an idle net is whole: the law
 pub whole_law : IdleNetIsWhole
 whole_law p inputs caps net v n idle = whole_net p inputs caps net v n idle
 
+-- nets move few items: the law
 pub few_law : NetsMoveFew
 few_law p inputs caps net v n = numbers_law p inputs caps (added p (logs_of net.cells)) net.tasks v n.laid n.tasks n.settled n.typed

@@ -21,7 +21,8 @@ use Rattle.fire_run.specs.NetOf.{IsNetOf, AreIdle}
 pub record IsWholeNet (p : PlanForm) (inputs : List (List item.Item)) (cells : List Holding) (ts : List Task) : Type 0 where
   pub sent : (o j : ℕ) (op : OpForm) (q : Name) (t : Task) → slice_get p.ops o ≡ Some op → slice_get op.writes j ≡ Some q → slice_get ts o ≡ Some t
       → list_at (sent_in t.outs) j ≡ hist p inputs q
-  pub bags : (o k : ℕ) (op : OpForm) → slice_get p.ops o ≡ Some op → k < tabs op.kernel → SameBag (added p (logs_of cells) o k) ((given op (hist p inputs)).adds k)
+  pub bags : (o k : ℕ) (op : OpForm) → slice_get p.ops o ≡ Some op → k < tabs op.kernel
+      → SameBag (added p (logs_of cells) o k) ((given op (hist p inputs)).adds k)
   pub rows : (o k : ℕ) (op : OpForm) → slice_get p.ops o ≡ Some op → k < tabs op.kernel → length op.reads ≡ 1
       → added p (logs_of cells) o k ≡ (given op (hist p inputs)).adds k
   pub counts : (o : ℕ) (op : OpForm) (t : Task) → slice_get p.ops o ≡ Some op → slice_get ts o ≡ Some t → t.count ≡ firings_of (hist p inputs) op

@@ -9,3 +9,4 @@ mod opening;
 mod run;
 
 pub use net::Net;
+pub use run::run_alone;

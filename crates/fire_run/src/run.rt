@@ -11,7 +11,7 @@ use std::alloc::Global;
 
 /// One move after another, until none is left; says how many there were, and one more, 2^64 - 1 standing for all that are greater.
 #[tactic(auto, using(crate::proofs::RunLemmas::ran_first, crate::proofs::RunLemmas::ran_has, crate::proofs::RunLemmas::ran_next, crate::proofs::RunLemmas::ran_end))]
-pub(crate) fn run_alone<G: Gate>(
+pub fn run_alone<G: Gate>(
     alloc: Global,
     plan: &Plan,
     inputs: &Lines,
