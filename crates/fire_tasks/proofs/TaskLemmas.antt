@@ -52,6 +52,7 @@ use Rattle.fire_tasks.proofs.WordLemmas.{longer_word}
 
 -- LISTS AT PLACES
 
+-- the element at a place
 pub got_at : {A : Type 0} (xs : List A) (i : ℕ) → i < length xs → (x : A) × (slice_get xs i ≡ Some x)
 got_at [] i lt = absurd (omega (arith, lt))
 got_at (x ∷ xs) zero lt = (x, refl)
@@ -334,9 +335,6 @@ module _ (p : PlanForm) (v : IsPlan p) (t : Task) (adds : ℕ → List (List ℤ
     where
       wide_rows : (o : Option ℕ) (n : ℕ) (rows : List (List ℤ)) → o ≡ Some n → All (IsWide o) rows → All (λ row. length row ≡ n) rows
       wide_rows o n rows e a = subst (λ w. All (IsWide w) rows) e a
-
-pub one_more : (a b s : ℕ) → b ≡ a + 1 → HasMoved (a + s) (b + s) true
-one_more a b s e = record { never_falls = omega (arith, e); grew = λ t. omega (arith, e); stayed = λ f. absurd (cc f) }
 
 -- A TAKE
 
