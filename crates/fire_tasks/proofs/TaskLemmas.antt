@@ -1,6 +1,6 @@
 -- What a task keeps through a take.
 use Rattle.std.proofs.Common.{◌≡◌, ◌≢◌, ℕ, ℤ, zero, suc, ◌+◌, ◌<◌, Some, None, List, [], ◌∷◌, ◌++◌, length, map, refl, sym, ap, ◌∙◌, subst, arith, ⊎_elim, length-append}
-use Rattle.std.specs.Prelude.{Option, All, replicate, true, min, slice_get}
+use Rattle.std.specs.Prelude.{Option, All, replicate, min, slice_get}
 use mathlib.Core.List.{reverse}
 use Rattle.std.proofs.lemmas.Bool.{cases_eq, cases_lt}
 use Rattle.std.proofs.lemmas.List.{append-nil, length-map, length-replicate}
@@ -43,7 +43,7 @@ use Rattle.fire_tasks.specs.declared.task.TablePort.{TablePort}
 use Rattle.fire_tasks.specs.declared.task.Task.{Task}
 use Rattle.fire_tasks.specs.Adds.{table_numbers}
 use Rattle.fire_tasks.specs.Fired.{bad_at, kinds_in, kinds_out}
-use Rattle.fire_tasks.specs.Ports.{received_of, received_in, sent_in, pending_in, HasMoved, InEnd, IsIdle, in_ends, out_ends}
+use Rattle.fire_tasks.specs.Ports.{received_of, received_in, sent_in, pending_in, InEnd, IsIdle, in_ends, out_ends}
 use Rattle.fire_tasks.specs.Tasks.{IsTask}
 use Rattle.fire_tasks.specs.Turns.{AreRowsFor, HasFiredAt, HasTakenAt, Owes, classes_of, grown, logged}
 use Rattle.fire_tasks.proofs.PortLemmas.{count_more, ins_many}
