@@ -241,9 +241,6 @@ module _ (p : PlanForm) (v : IsPlan p) (o : ℕ) (op : OpForm) (g : slice_get p.
 
 -- CELLS OF A PILE
 
-grow : (ℕ → List LogEntry) → Piled → Piled
-grow more x = (x.0, record x.1 { log = x.1.log ++ more x.0 })
-
 -- nothing came
 pub grown_none : (pile : List Piled) → grown (λ c. []) pile ≡ pile
 grown_none [] = refl
@@ -262,6 +259,7 @@ grown_twice f g (x ∷ xs) =
     ap (λ (l : List LogEntry). (x.0, record x.1 { log = l }) ∷ grown g (grown f xs)) (append_assoc x.1.log (f x.0) (g x.0))
     ∙ ap (λ (l : List Piled). (x.0, record x.1 { log = x.1.log ++ (f x.0 ++ g x.0) }) ∷ l) (grown_twice f g xs)
 
+-- the classes of the cells stay
 pub classes_grown : (f : ℕ → List LogEntry) (pile : List Piled) → classes_of (grown f pile) ≡ classes_of pile
 classes_grown f [] = refl
 classes_grown f (x ∷ xs) = ap (λ (l : List ℕ). x.0 ∷ l) (classes_grown f xs)
@@ -324,6 +322,7 @@ set_none o table rows pile i x g e =
 abbrev pub AddedTo : ℕ → List TablePort → (ℕ → List (List ℤ)) → ℕ → List Piled → List Piled → Type 0
 AddedTo o tables rows j pile now = now ≡ grown (logged o (classes_of pile) (take j tables) rows) pile
 
+-- before the first port
 pub added_none : (o : ℕ) (tables : List TablePort) (rows : ℕ → List (List ℤ)) (pile : List Piled) → AddedTo o tables rows 0 pile pile
 added_none o tables rows pile = sym (grown_none pile)
 
@@ -351,6 +350,7 @@ cell_now o tables rows j pile now h e can g =
     let more = logged o (classes_of pile) (take j tables) rows in
     ((x.0.0, record x.0.1 { log = x.0.1.log ++ more x.0.0 }), ap (λ l. slice_get l h.place) e ∙ grown_at more pile h.place x.0 x.1, x.2)
 
+-- one port more
 pub added_next : (o : ℕ) (tables : List TablePort) (rows : ℕ → List (List ℤ)) (j : ℕ) (pile now new : List Piled) (h : TablePort) (x : Piled) → IsStrictlyIncreasing (classes_of pile)
     → AddedTo o tables rows j pile now → slice_get tables j ≡ Some h → slice_get now h.place ≡ Some x → new ≡ set now h.place (with_entry o h.table (rows j) x)
     → AddedTo o tables rows (j + 1) pile new
@@ -368,6 +368,7 @@ added_next o tables rows j pile now new h x up e g gx n =
     ∙ sym (logged_more o cs (take j tables) h rows c)
     ∙ ap (λ l. logged o cs l rows c) (sym (take_next tables j h g)))
 
+-- behind the last port
 pub added_whole : (o : ℕ) (tables : List TablePort) (rows : ℕ → List (List ℤ)) (j : ℕ) (pile now : List Piled) → AddedTo o tables rows j pile now → length tables ≤ j
     → now ≡ grown (logged o (classes_of pile) tables rows) pile
 added_whole o tables rows j pile now e le = e ∙ ap (λ l. grown (logged o (classes_of pile) l rows) pile) (whole tables j le)
@@ -378,6 +379,7 @@ added_whole o tables rows j pile now e le = e ∙ ap (λ l. grown (logged o (cla
     whole (x ∷ xs) zero l = absurd (omega (arith, l))
     whole (x ∷ xs) (suc n) l = ap (λ ys. x ∷ ys) (whole xs n (omega (arith, l)))
 
+-- what came is of this operator
 pub added_gained : (o : ℕ) (tables : List TablePort) (rows : ℕ → List (List ℤ)) (j : ℕ) (pile now : List Piled) → AddedTo o tables rows j pile now → HaveGained o pile now
 added_gained o tables rows j pile now e = record {
   more = logged o (classes_of pile) (take j tables) rows;

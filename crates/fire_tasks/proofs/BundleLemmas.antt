@@ -40,6 +40,7 @@ set_ends [] i t e = refl
 set_ends (y ∷ ts) zero t e = ap (λ n. n ∷ all_ends ts) e
 set_ends (y ∷ ts) (suc i) t e = ap (λ ns. ends_of y ∷ ns) (set_ends ts i t e)
 
+-- tasks with the same ends are as many
 pub ends_many : (ts ts' : List Task) → all_ends ts' ≡ all_ends ts → length ts' ≡ length ts
 ends_many ts ts' e = sym (length-map ts' ends_of) ∙ ap length e ∙ length-map ts ends_of
 
@@ -69,6 +70,7 @@ pub record HavePassed (p : PlanForm) (v w : View) (place : ℕ) (ts ts' : List T
 no_tries : (v : View) → HasMoreTries v v
 no_tries v = record { more = []; takes = sym (append-nil v.takes) }
 
+-- before the first task
 pub passed_first : (p : PlanForm) (v : View) (ts : List Task) → AreTasks p v ts → v.held ≡ [] → HavePassed p v v 0 ts ts false
 passed_first p v ts k h = record {
   tasks = k;
@@ -154,6 +156,7 @@ passed_turn p v0 v w ts now i old new m n k h lt e t c f =
           (cases_lt j i);
     }
 
+-- one that moved
 pub passed_moved : (p : PlanForm) (v0 v w : View) (ts now : List Task) (i : ℕ) (old new : Task) (m n : Bool) → HavePassed p v0 v i ts now m → i < length now
     → old ≡ get_or now i old → HasTurned p v w old new n → n ≡ true → HavePassed p v0 w (i + 1) ts (set now i new) true
 passed_moved p v0 v w ts now i old new m n h lt e t is =
@@ -161,6 +164,7 @@ passed_moved p v0 v w ts now i old new m n h lt e t is =
     passed_turn p v0 v w ts now i old new m n true h lt e t
     (moved_second (all_moves ts) (all_moves now) (all_moves (set now i new)) m h.number (one_is now i old new true lt e mv)) (λ f. absurd (cc f))
 
+-- one that did not
 pub passed_still : (p : PlanForm) (v0 v w : View) (ts now : List Task) (i : ℕ) (old new : Task) (m n : Bool) → HavePassed p v0 v i ts now m → i < length now
     → old ≡ get_or now i old → HasTurned p v w old new n → n ≡ false → HavePassed p v0 w (i + 1) ts (set now i new) m
 passed_still p v0 v w ts now i old new m n h lt e t is =
@@ -180,6 +184,7 @@ passed_all p v w place ts ts' moved h le = record {
 
 -- LOOKS AT WHICH NOTHING MOVED
 
+-- nothing moved in the looks so far
 pub record Swept (p : PlanForm) (v w : View) (ts ts' : List Task) : Type 0 where
   pub tasks : AreTasks p w ts'
   pub sits : StillSits v w
@@ -187,6 +192,7 @@ pub record Swept (p : PlanForm) (v w : View) (ts ts' : List Task) : Type 0 where
   pub same : all_ends ts' ≡ all_ends ts
   pub number : all_moves ts' ≡ all_moves ts
 
+-- before the first look
 pub swept_none : (p : PlanForm) (v : View) (ts : List Task) → AreTasks p v ts → v.held ≡ [] → Swept p v v ts ts
 swept_none p v ts k h = record { tasks = k; sits = sits_none v h; tries = no_tries v; same = refl; number = refl }
 
@@ -222,6 +228,7 @@ pub record LookedTo (place : ℕ) (ts ts' : List Task) : Type 0 where
   pub rest : (i : ℕ) (d : Task) → place ≤ i → i < length ts' → get_or ts' i d ≡ get_or ts i d
   pub done : (i : ℕ) (d : Task) → i < place → i < length ts' → IsDone (get_or ts' i d)
 
+-- before the first task
 pub looked_none : (ts : List Task) → LookedTo 0 ts ts
 looked_none ts = record {
   looked = record { many = refl; each = λ i d lt. looks_none (get_or ts i d) };
@@ -260,6 +267,7 @@ module _ (place : ℕ) (ts now : List Task) (old new : Task) (h : LookedTo place
   pub looked_busy : (IsDone new → ⊥) → AreIdle (set now place new) → ⊥
   looked_busy busy idle = busy (subst IsDone (get_or-set_same now place new new lt) (idle.each place new (let m = many_now in omega (arith, lt, m))))
 
+-- behind the last one
 pub looked_all : (place : ℕ) (ts ts' : List Task) → LookedTo place ts ts' → length ts ≤ place → AreIdle ts'
 looked_all place ts ts' h le = record { each = λ i d lt. h.done i d (let n = h.looked.many in omega (arith, lt, le, n)) lt }
 
@@ -273,6 +281,7 @@ not_done ins port h a =
 
 -- PASSES
 
+-- one pass after another
 pub seat_then : (b u w : Bundle) → SameSeat b u → SameSeat u w → SameSeat b w
 seat_then b u w x y = record { lot = y.lot ∙ x.lot; round = round_then b.seat.view u.seat.view w.seat.view x.round y.round; looks = y.looks ∙ x.looks }
 

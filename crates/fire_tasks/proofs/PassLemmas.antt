@@ -17,9 +17,11 @@ use Rattle.fire_tasks.proofs.PortLemmas.{outs_many, ins_many, count_same, given_
 
 -- NUMBERS
 
+-- a number that grew
 pub moved_true : (a b : ℕ) → a < b → HasMoved a b true
 moved_true a b lt = record { never_falls = omega (arith, lt); grew = λ t. lt; stayed = λ f. absurd (cc f) }
 
+-- a number that stayed
 pub moved_false : (a b : ℕ) → b ≡ a → HasMoved a b false
 moved_false a b e = record { never_falls = omega (arith, e); grew = λ t. absurd (cc t); stayed = λ f. e }
 
@@ -33,6 +35,7 @@ moved_first a b c m x y =
     let s = y.stayed refl in
     record { never_falls = (let n = x.never_falls in omega (arith, n, s)); grew = λ t. (let n = x.grew t in omega (arith, n, s)); stayed = λ u. (let n = x.stayed u in omega (arith, n, s)) }
 
+-- once it grew, whatever follows
 pub moved_more : (a b c : ℕ) → HasMoved a b true → (m : Bool) → HasMoved b c m → HasMoved a c true
 moved_more a b c x m y = let h = x.grew refl in let k = y.never_falls in moved_true a c (omega (arith, h, k))
 
@@ -84,6 +87,7 @@ refused_sent os ls port x l back lo e b s full =
       stuck = λ f. inr (λ d. subst IsFull (sym (get_or-set_same os port x d lo)) full);
     }
 
+-- before the first port
 pub sent_first : (os : List outlet.Outlet) (ls : List (List item.Item)) → Sent os ls os ls false
 sent_first os ls = record { ends = refl; many = refl; given = λ j. refl; number = moved_false (sent_count os) (sent_count os) refl }
 
@@ -91,16 +95,7 @@ sent_then : (os : List outlet.Outlet) (ls : List (List item.Item)) (os1 : List o
     → Sent os ls os1 ls1 m → Sent os1 ls1 os2 ls2 n → HasMoved (sent_count os) (sent_count os2) k → Sent os ls os2 ls2 k
 sent_then os ls os1 ls1 os2 ls2 m n k a b h = record { ends = b.ends ∙ a.ends; many = b.many ∙ a.many; given = λ j. b.given j ∙ a.given j; number = h }
 
--- once one went, any more
-pub at_more : (port : ℕ) (os : List outlet.Outlet) (ls : List (List item.Item)) (os1 : List outlet.Outlet) (ls1 : List (List item.Item)) (os2 : List outlet.Outlet) (ls2 : List (List item.Item)) (n : Bool)
-    → SentAt port os ls os1 ls1 true → SentAt port os1 ls1 os2 ls2 n → SentAt port os ls os2 ls2 true
-at_more port os ls os1 ls1 os2 ls2 n a b = record {
-  sent = sent_then os ls os1 ls1 os2 ls2 true n true a.sent b.sent (moved_more (sent_count os) (sent_count os1) (sent_count os2) a.sent.number n b.sent.number);
-  lists = λ j ne. b.lists j ne ∙ a.lists j ne;
-  others = λ j d ne. b.others j d ne ∙ a.others j d ne;
-  stuck = λ f. absurd (cc f);
-}
-
+-- the answer by its value
 pub at_is : (port : ℕ) (os : List outlet.Outlet) (ls : List (List item.Item)) (os1 : List outlet.Outlet) (ls1 : List (List item.Item)) (n : Bool) → SentAt port os ls os1 ls1 n → n ≡ true → SentAt port os ls os1 ls1 true
 at_is port os ls os1 ls1 n a e = subst (λ k. SentAt port os ls os1 ls1 k) e a
 
@@ -113,9 +108,11 @@ pub record Goes (port : ℕ) (os : List outlet.Outlet) (ls : List (List item.Ite
   pub lists : (j : ℕ) → (port ≡ j → ⊥) → list_at ls' j ≡ list_at ls j
   pub others : (j : ℕ) (d : outlet.Outlet) → (port ≡ j → ⊥) → get_or os' j d ≡ get_or os j d
 
+-- before the first item
 pub goes_first : (port : ℕ) (os : List outlet.Outlet) (ls : List (List item.Item)) → Goes port os ls os ls
 goes_first port os ls = record { ends = refl; many = refl; given = λ j. refl; grows = omega arith; lists = λ j ne. refl; others = λ j d ne. refl }
 
+-- one item more, or none
 pub goes_next : (port : ℕ) (os : List outlet.Outlet) (ls : List (List item.Item)) (os1 : List outlet.Outlet) (ls1 : List (List item.Item)) (os2 : List outlet.Outlet) (ls2 : List (List item.Item)) (n : Bool)
     → Goes port os ls os1 ls1 → SentAt port os1 ls1 os2 ls2 n → Goes port os ls os2 ls2
 goes_next port os ls os1 ls1 os2 ls2 n a b = record {
@@ -127,6 +124,7 @@ goes_next port os ls os1 ls1 os2 ls2 n a b = record {
   others = λ j d ne. b.others j d ne ∙ a.others j d ne;
 }
 
+-- behind the first item
 pub goes_after : (port : ℕ) (os : List outlet.Outlet) (ls : List (List item.Item)) (os1 : List outlet.Outlet) (ls1 : List (List item.Item)) (os2 : List outlet.Outlet) (ls2 : List (List item.Item)) (n : Bool)
     → SentAt port os ls os1 ls1 n → n ≡ true → Goes port os1 ls1 os2 ls2 → SentAt port os ls os2 ls2 true
 goes_after port os ls os1 ls1 os2 ls2 n a e b =
@@ -143,9 +141,11 @@ pub record SentTo (port : ℕ) (os : List outlet.Outlet) (ls : List (List item.I
   pub sent : Sent os ls os' ls' moved
   pub stuck : IsFalse moved → (j : ℕ) → j < port → IsRefused j os' ls'
 
+-- before the first port
 pub to_first : (os : List outlet.Outlet) (ls : List (List item.Item)) → SentTo 0 os ls os ls false
 to_first os ls = record { sent = sent_first os ls; stuck = λ f j lt. absurd (omega (arith, lt)) }
 
+-- a port that sent
 pub to_moved : (port : ℕ) (os : List outlet.Outlet) (ls : List (List item.Item)) (os1 : List outlet.Outlet) (ls1 : List (List item.Item)) (os2 : List outlet.Outlet) (ls2 : List (List item.Item)) (m n : Bool)
     → SentTo port os ls os1 ls1 m → SentAt port os1 ls1 os2 ls2 n → n ≡ true → SentTo (port + 1) os ls os2 ls2 true
 to_moved port os ls os1 ls1 os2 ls2 m n a b e = record {
@@ -153,6 +153,7 @@ to_moved port os ls os1 ls1 os2 ls2 m n a b e = record {
   stuck = λ f. absurd (cc f);
 }
 
+-- a port that did not
 pub to_still : (port : ℕ) (os : List outlet.Outlet) (ls : List (List item.Item)) (os1 : List outlet.Outlet) (ls1 : List (List item.Item)) (os2 : List outlet.Outlet) (ls2 : List (List item.Item)) (m n : Bool)
     → SentTo port os ls os1 ls1 m → SentAt port os1 ls1 os2 ls2 n → n ≡ false → SentTo (port + 1) os ls os2 ls2 m
 to_still port os ls os1 ls1 os2 ls2 m n a b e = record {
@@ -187,6 +188,7 @@ to_all port os ls os' ls' moved a le f j = ⊎_elim
 abbrev pub with_sent : Task → List outlet.Outlet → List (List item.Item) → Task
 with_sent t os ls = record t { outs = os; pending = ls }
 
+-- what a task keeps stays when it sends
 pub sent_task : (p : PlanForm) (adds : ℕ → List (List ℤ)) (t : Task) (os : List outlet.Outlet) (ls : List (List item.Item)) (m : Bool) → IsTask p adds t
     → Sent t.outs t.pending os ls m → IsTask p adds (with_sent t os ls)
 sent_task p adds t os ls m k h = record {
@@ -214,6 +216,7 @@ sent_task p adds t os ls m k h = record {
 abbrev pub with_ins : Task → List inlet.Inlet → Task
 with_ins t ins = record t { ins = ins }
 
+-- and when it looks
 pub looked_task : (p : PlanForm) (adds : ℕ → List (List ℤ)) (t : Task) (ins : List inlet.Inlet) → IsTask p adds t → in_ends ins ≡ in_ends t.ins
     → received_in ins ≡ received_in t.ins → IsTask p adds (with_ins t ins)
 looked_task p adds t ins k e r = record {

@@ -10,11 +10,13 @@ use Rattle.fire_tasks.specs.declared.ports.Inlet as inlet
 use Rattle.fire_tasks.specs.declared.ports.Outlet as outlet
 use Rattle.fire_tasks.specs.Ports.{sent_count, received_count, received_of, in_end, in_ends, sent_of, out_end, out_ends, received_in, pending_in, given_at}
 
+-- another state of the same end: all ends are the same
 pub ins_set : (xs : List inlet.Inlet) (i : ℕ) (x : inlet.Inlet) → in_end x ≡ in_end (get_or xs i x) → in_ends (set xs i x) ≡ in_ends xs
 ins_set [] i x e = refl
 ins_set (y ∷ ys) zero x e = ap (λ n. n ∷ in_ends ys) e
 ins_set (y ∷ ys) (suc i) x e = ap (λ ns. in_end y ∷ ns) (ins_set ys i x e)
 
+-- so at the ports that it sends to
 pub outs_set : (xs : List outlet.Outlet) (i : ℕ) (x : outlet.Outlet) → out_end x ≡ out_end (get_or xs i x) → out_ends (set xs i x) ≡ out_ends xs
 outs_set [] i x e = refl
 outs_set (y ∷ ys) zero x e = ap (λ n. n ∷ out_ends ys) e
@@ -24,14 +26,17 @@ outs_set (y ∷ ys) (suc i) x e = ap (λ ns. out_end y ∷ ns) (outs_set ys i x 
 pub ins_many : (xs ys : List inlet.Inlet) → in_ends ys ≡ in_ends xs → length ys ≡ length xs
 ins_many xs ys e = sym (length-map ys in_end) ∙ ap length e ∙ length-map xs in_end
 
+-- as many ports to send to
 pub outs_many : (xs ys : List outlet.Outlet) → out_ends ys ≡ out_ends xs → length ys ≡ length xs
 outs_many xs ys e = sym (length-map ys out_end) ∙ ap length e ∙ length-map xs out_end
 
+-- an end that received nothing
 pub received_same : (xs : List inlet.Inlet) (i : ℕ) (x : inlet.Inlet) → received_of x ≡ received_of (get_or xs i x) → received_in (set xs i x) ≡ received_in xs
 received_same [] i x e = refl
 received_same (y ∷ ys) zero x e = ap (λ l. l ∷ received_in ys) e
 received_same (y ∷ ys) (suc i) x e = ap (λ l. received_of y ∷ l) (received_same ys i x e)
 
+-- an end that received more
 pub received_more : (xs : List inlet.Inlet) (i : ℕ) (x : inlet.Inlet) (more : List item.Item) → i < length xs → received_of x ≡ received_of (get_or xs i x) ++ more → received_in (set xs i x) ≡ append_at (received_in xs) i more
 received_more [] i x more lt e = refl
 received_more (y ∷ ys) zero x more lt e = ap (λ l. l ∷ received_in ys) e
@@ -63,16 +68,19 @@ given_stays (o ∷ os) (m ∷ ls) zero x l lt lt' e s (suc j) = refl
 given_stays (o ∷ os) (m ∷ ls) (suc i) x l lt lt' e s zero = refl
 given_stays (o ∷ os) (m ∷ ls) (suc i) x l lt lt' e s (suc j) = given_stays os ls i x l (omega (arith, lt)) (omega (arith, lt')) e s j
 
+-- an element that stays
 pub set_same : {A : Type 0} (ls : List A) (i : ℕ) (l : A) → l ≡ get_or ls i l → set ls i l ≡ ls
 set_same [] i l e = refl
 set_same (m ∷ ls) zero l e = ap (λ t. t ∷ ls) e
 set_same (m ∷ ls) (suc i) l e = ap (λ t. m ∷ t) (set_same ls i l e)
 
+-- an element that comes back
 pub set_back : {A : Type 0} (ls : List A) (i : ℕ) (l m : A) → m ≡ get_or ls i m → set (set ls i l) i m ≡ ls
 set_back [] i l m e = refl
 set_back (x ∷ ls) zero l m e = ap (λ t. t ∷ ls) e
 set_back (x ∷ ls) (suc i) l m e = ap (λ t. x ∷ t) (set_back ls i l m e)
 
+-- an end that sent nothing
 pub given_only : (xs : List outlet.Outlet) (ls : List (List item.Item)) (i : ℕ) (x : outlet.Outlet) → sent_of x ≡ sent_of (get_or xs i x)
     → (j : ℕ) → given_at (set xs i x) ls j ≡ given_at xs ls j
 given_only [] ls i x s j = refl
@@ -84,13 +92,16 @@ given_only (o ∷ os) (m ∷ ls) (suc i) x s zero = refl
 given_only (o ∷ os) [] (suc i) x s (suc j) = given_only os [] i x s j
 given_only (o ∷ os) (m ∷ ls) (suc i) x s (suc j) = given_only os ls i x s j
 
+-- the case of an answer that is None
 pub none_case : {A : Type 0} (r : Option A) (P : Type 0) (Q : A → Type 0) → r ≡ None → MatchOption r P Q → P
 none_case None P Q e m = m
 none_case (Some a) P Q e m = absurd (cc e)
 
+-- the case of one that is Some
 pub some_case : {A : Type 0} (r : Option A) (P : Type 0) (Q : A → Type 0) (a : A) → r ≡ Some a → MatchOption r P Q → Q a
 some_case r P Q a e m = subst (λ o. MatchOption o P Q) e m
 
+-- as many were received
 pub count_same : (xs ys : List inlet.Inlet) → received_in xs ≡ received_in ys → received_count xs ≡ received_count ys
 count_same [] [] e = refl
 count_same [] (y ∷ ys) e = absurd (cc e)
@@ -102,6 +113,7 @@ count_same (x ∷ xs) (y ∷ ys) e =
     let i = count_same xs ys t in
     omega (arith, a, i)
 
+-- one more was received
 pub count_more : (xs ys : List inlet.Inlet) (port : ℕ) (x : item.Item) → port < length xs → received_in ys ≡ append_at (received_in xs) port (x ∷ []) → received_count ys ≡ received_count xs + 1
 count_more [] ys port x lt e = absurd (omega (arith, lt))
 count_more (a ∷ xs) [] zero x lt e = absurd (cc e)
@@ -120,16 +132,19 @@ count_more (a ∷ xs) (y ∷ ys) (suc port) x lt e =
     let i = count_more xs ys port x (omega (arith, lt)) t in
     omega (arith, l, i)
 
+-- lists of which each has nothing
 pub idle_all : (ls : List (List item.Item)) → All (λ l. l ≡ []) ls → (j : ℕ) → list_at ls j ≡ []
 idle_all [] h j = refl
 idle_all (l ∷ ls) h zero = All-head (λ m. m ≡ []) l ls h
 idle_all (l ∷ ls) h (suc j) = idle_all ls (All-tail (λ m. m ≡ []) l ls h) j
 
+-- as many were sent
 pub sent_none : (xs : List outlet.Outlet) (i : ℕ) (x : outlet.Outlet) → sent_of x ≡ sent_of (get_or xs i x) → sent_count (set xs i x) ≡ sent_count xs
 sent_none [] i x e = refl
 sent_none (o ∷ os) zero x e = let a = ap length e in omega (arith, a)
 sent_none (o ∷ os) (suc i) x e = let h = sent_none os i x e in omega (arith, h)
 
+-- no answer is None and Some
 pub none_some : {A : Type 0} (r : Option A) (a : A) → IsNone r → r ≡ Some a → ⊥
 none_some None a n e = absurd (cc e)
 none_some (Some x) a n e = absurd (cc n)

@@ -57,6 +57,7 @@ grown_matches n parts more (p ∷ ps) (h ∷ hs) b m = (
   grown_matches n parts more ps hs b m.2,
 )
 
+-- a pile whose cells gained entries of an operator of the seat may be put
 pub grown_pile : (v : View) (o : ℕ) (pile pile' : List Piled) → Has (o % v.seats) v.parts → IsPile v pile → HaveGained o pile pile' → IsPile v pile'
 grown_pile v o pile pile' h k g = record {
   matches = subst (λ (l : List Piled). Matches v.seats v.parts l v.held) (sym (ap reverse g.is ∙ turned g.more pile))

@@ -1,6 +1,6 @@
 -- What a task keeps through a take.
 use Rattle.std.proofs.Common.{◌≡◌, ◌≢◌, ℕ, ℤ, zero, suc, ◌+◌, ◌<◌, Some, None, List, [], ◌∷◌, ◌++◌, length, map, refl, sym, ap, ◌∙◌, subst, arith, ⊎_elim, length-append}
-use Rattle.std.specs.Prelude.{Option, All, replicate, true, min, slice_get}
+use Rattle.std.specs.Prelude.{Option, All, replicate, min, slice_get}
 use mathlib.Core.List.{reverse}
 use Rattle.std.proofs.lemmas.Bool.{cases_eq, cases_lt}
 use Rattle.std.proofs.lemmas.List.{append-nil, length-map, length-replicate}
@@ -43,7 +43,7 @@ use Rattle.fire_tasks.specs.declared.task.TablePort.{TablePort}
 use Rattle.fire_tasks.specs.declared.task.Task.{Task}
 use Rattle.fire_tasks.specs.Adds.{table_numbers}
 use Rattle.fire_tasks.specs.Fired.{bad_at, kinds_in, kinds_out}
-use Rattle.fire_tasks.specs.Ports.{received_of, received_in, sent_in, pending_in, HasMoved, InEnd, IsIdle, in_ends, out_ends}
+use Rattle.fire_tasks.specs.Ports.{received_of, received_in, sent_in, pending_in, InEnd, IsIdle, in_ends, out_ends}
 use Rattle.fire_tasks.specs.Tasks.{IsTask}
 use Rattle.fire_tasks.specs.Turns.{AreRowsFor, HasFiredAt, HasTakenAt, Owes, classes_of, grown, logged}
 use Rattle.fire_tasks.proofs.PortLemmas.{count_more, ins_many}
@@ -52,6 +52,7 @@ use Rattle.fire_tasks.proofs.WordLemmas.{longer_word}
 
 -- LISTS AT PLACES
 
+-- the element at a place
 pub got_at : {A : Type 0} (xs : List A) (i : ℕ) → i < length xs → (x : A) × (slice_get xs i ≡ Some x)
 got_at [] i lt = absurd (omega (arith, lt))
 got_at (x ∷ xs) zero lt = (x, refl)
@@ -334,9 +335,6 @@ module _ (p : PlanForm) (v : IsPlan p) (t : Task) (adds : ℕ → List (List ℤ
     where
       wide_rows : (o : Option ℕ) (n : ℕ) (rows : List (List ℤ)) → o ≡ Some n → All (IsWide o) rows → All (λ row. length row ≡ n) rows
       wide_rows o n rows e a = subst (λ w. All (IsWide w) rows) e a
-
-pub one_more : (a b s : ℕ) → b ≡ a + 1 → HasMoved (a + s) (b + s) true
-one_more a b s e = record { never_falls = omega (arith, e); grew = λ t. omega (arith, e); stayed = λ f. absurd (cc f) }
 
 -- A TAKE
 
