@@ -26,7 +26,7 @@ use Rattle.river_cli.specs.Inputs.{row_items, all_items}
 use Rattle.river_cli.specs.Source.{river_source, streamit_source, saw_source, values, told, IsPlanOf, IsCompiled}
 use Rattle.std.proofs.lemmas.List.{take_all}
 use Rattle.saw_model.specs.Plan.{as_items as saw_items}
-use Rattle.saw_model.specs.Source.{width}
+use Rattle.saw_model.specs.Meaning.{width}
 use Rattle.saw_front.specs.Meaning as saw
 use Rattle.saw_front.specs.Words.{saw_words}
 use Rattle.saw_front.specs.declared.fault.SawFault.{SawFault}

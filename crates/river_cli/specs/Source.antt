@@ -28,11 +28,10 @@ use Rattle.cql_front.specs.Words.{cql_words}
 use Rattle.river_cli.specs.Contents.{AreContents}
 use Rattle.river_cli.specs.Inputs.{timed_files, all_items}
 use Rattle.river_kernels.specs.Fits.{rows}
-use Rattle.saw_model.specs.Source.{tables_in, width, program_tables}
-use Rattle.saw_model.specs.Source as saw_model
+use Rattle.saw_model.specs.Meaning.{tables_in, width, program_tables}
 use Rattle.saw_text.specs.Tree as saw_text
 use Rattle.saw_text.specs.Tree.{unit_forms}
-use Rattle.saw_front.specs.Valued.{AreValuedParts}
+use Rattle.saw_build.specs.Valued.{AreValuedParts}
 use Rattle.slow_cql.specs.Contents.{HaveColumns}
 use Rattle.slow_sawzall.specs.Sawzall.{IsAccepted}
 use Rattle.saw_front.specs.Meaning as saw
@@ -93,7 +92,7 @@ records [] = []
 records (Plain rows ∷ others) = rows
 records (Timed rows ∷ others) = []
 
-abbrev pub saw_means : saw_model.Program → List Content → Results
+abbrev pub saw_means : saw_text.Program → List Content → Results
 saw_means p files = record { outs = []; tables = program_tables p (records files) }
 
 -- a Sawzall program, by its own definition
@@ -153,7 +152,7 @@ pub record IsStreamit (s : Source) (p : streamit.Program) : Type 0 where
   pub readable : AreReadable p
   pub means : (files : List Content) → s.means files ≡ streamit_means p files
 
-pub record IsSawzall (s : Source) (p : saw_model.Program) : Type 0 where
+pub record IsSawzall (s : Source) (p : saw_text.Program) : Type 0 where
   pub accepted : IsAccepted p
   pub valued : AreValuedParts p
   pub means : (files : List Content) → s.means files ≡ saw_means p files
@@ -167,7 +166,7 @@ pub record IsCql (s : Source) (p : cql_text.Program) : Type 0 where
 abbrev pub IsProgramOf : Source → Program → Type 0
 IsProgramOf s program.River = Unit {0}
 IsProgramOf s (program.Streamit p) = IsStreamit s (streamit_build.program_of p.units.items)
-IsProgramOf s (program.Sawzall p) = IsSawzall s (saw_text.program_of (unit_forms p.units.items))
+IsProgramOf s (program.Sawzall p) = IsSawzall s (unit_forms p.units.items)
 IsProgramOf s (program.Cql p) = IsCql s (program_of p)
 
 -- a plan that may be run in place of the program, and the program as it was read

@@ -36,7 +36,7 @@ pub bad-makes : (p : PlanForm) (text : List ℕ) (unit : ℕ) → IsBadAt text u
 unfolding rewritten
 bad-makes p text unit b =
     let units = units_of (toks b.marks) in
-    let read : read_steps 1 [] units ≡ Err unit = units-read units ∙ bad-read go_on exact-in tt units unit b.first in
+    let read : read_steps 1 [] units ≡ Err unit = units-read units ∙ bad-read tt go_on exact-in tt units unit b.first in
     ap (then_read p) b.lexed ∙ ap (then_applied p) read
 
 -- nor does one with a fault of its bytes

@@ -96,16 +96,16 @@ script-few ss units e = let k = steps-many 1 [] ss units e in omega (arith, k)
 pub script-read : (text : List ℕ) (marks : List Mark) (ss : List StepForm) → tokens_in text ≡ Ok marks → read_steps 1 [] (units_of (toks marks)) ≡ Ok ss
     → IsScript text ss
 script-read text marks ss lexed read =
-    record { marks = marks; lexed = lexed; formed = all-formed go_on exact-in tt 1 (units_of (toks marks)) ss (sym (units-read (units_of (toks marks))) ∙ read) }
+    record { marks = marks; lexed = lexed; formed = all-formed tt go_on exact-in tt 1 (units_of (toks marks)) ss (sym (units-read (units_of (toks marks))) ∙ read) }
 
 -- the unit that is told is the first that is no step
 pub script-bad : (text : List ℕ) (marks : List Mark) (m : ℕ) → tokens_in text ≡ Ok marks → read_steps 1 [] (units_of (toks marks)) ≡ Err m → IsBadAt text m
 script-bad text marks m lexed read =
-    record { marks = marks; lexed = lexed; first = first-bad go_on exact-in tt (units_of (toks marks)) m (sym (units-read (units_of (toks marks))) ∙ read) }
+    record { marks = marks; lexed = lexed; first = first-bad tt go_on exact-in tt (units_of (toks marks)) m (sym (units-read (units_of (toks marks))) ∙ read) }
 
 -- what a text stands for is read
 pub script-reads : (text : List ℕ) (ss : List StepForm) (t : IsScript text ss) → read_steps 1 [] (units_of (toks t.marks)) ≡ Ok ss
-script-reads text ss t = units-read (units_of (toks t.marks)) ∙ formed-read go_on exact-in tt 1 (units_of (toks t.marks)) ss t.formed
+script-reads text ss t = units-read (units_of (toks t.marks)) ∙ formed-read tt go_on exact-in tt 1 (units_of (toks t.marks)) ss t.formed
 
 same_marks : (text : List ℕ) (ms ns : List Mark) → tokens_in text ≡ Ok ms → tokens_in text ≡ Ok ns → ms ≡ ns
 same_marks text ms ns e f = same (sym e ∙ f) where

@@ -43,7 +43,7 @@ pub bad-means : (text : List ℕ) (unit : ℕ) → IsBadAt text unit → plan_in
 unfolding plan_in
 bad-means text unit b =
     let units = units_of (toks b.marks) in
-    let read : lists b.marks ≡ Err unit = plan-read 0 1 empty_form units ∙ ap (added empty_form) (bad-read next_stage exact-unit_from 0 units unit b.first) in
+    let read : lists b.marks ≡ Err unit = plan-read 0 1 empty_form units ∙ ap (added empty_form) (bad-read tt next_stage exact-unit_from 0 units unit b.first) in
     ap then_read b.lexed ∙ ap then_checked read
 
 -- one with a fault of its bytes means this fault

@@ -51,7 +51,7 @@ pub text-read : (text : List ℕ) (marks : List Mark) (q : PlanForm) → tokens_
     → IsText text q
 text-read text marks q lexed read =
     let (es, is_es, is_q) = added-ok empty_form (read_units unit_from next_stage 0 1 (units_of (toks marks))) q (sym (plan-read 0 1 empty_form (units_of (toks marks))) ∙ read) in
-    record { marks = marks; lexed = lexed; entries = es; formed = all-formed next_stage exact-unit_from 0 1 (units_of (toks marks)) es is_es; is = is_q }
+    record { marks = marks; lexed = lexed; entries = es; formed = all-formed tt next_stage exact-unit_from 0 1 (units_of (toks marks)) es is_es; is = is_q }
 
 -- the unit that is told is the first that is not in the grammar
 pub text-bad : (text : List ℕ) (marks : List Mark) (m : ℕ) → tokens_in text ≡ Ok marks → read_plan 0 1 empty_form (units_of (toks marks)) ≡ Err m
@@ -61,13 +61,13 @@ text-bad text marks m lexed read =
       marks = marks;
       lexed = lexed;
       first =
-          first-bad next_stage exact-unit_from 0 (units_of (toks marks)) m (added-err empty_form (read_units unit_from next_stage 0 1 (units_of (toks marks))) m (sym (plan-read 0 1 empty_form (units_of (toks marks))) ∙ read));
+          first-bad tt next_stage exact-unit_from 0 (units_of (toks marks)) m (added-err empty_form (read_units unit_from next_stage 0 1 (units_of (toks marks))) m (sym (plan-read 0 1 empty_form (units_of (toks marks))) ∙ read));
     }
 
 -- what a text stands for is read
 pub text-reads : (text : List ℕ) (q : PlanForm) (t : IsText text q) → read_plan 0 1 empty_form (units_of (toks t.marks)) ≡ Ok q
 text-reads text q t =
-    plan-read 0 1 empty_form (units_of (toks t.marks)) ∙ ap (added empty_form) (formed-read next_stage exact-unit_from 0 1 (units_of (toks t.marks)) t.entries t.formed) ∙ ap (λ (p : PlanForm). Ok p) (sym t.is)
+    plan-read 0 1 empty_form (units_of (toks t.marks)) ∙ ap (added empty_form) (formed-read tt next_stage exact-unit_from 0 1 (units_of (toks t.marks)) t.entries t.formed) ∙ ap (λ (p : PlanForm). Ok p) (sym t.is)
 
 pub same_marks : (text : List ℕ) (ms ns : List Mark) → tokens_in text ≡ Ok ms → tokens_in text ≡ Ok ns → ms ≡ ns
 same_marks text ms ns e f = same (sym e ∙ f) where

@@ -29,15 +29,16 @@ use Rattle.saw_text.specs.Faults.{StandFor, Refuses}
 use Rattle.saw_text.specs.Grammar.{IsText}
 use Rattle.saw_text.specs.Laws.{IsBadAt}
 use Rattle.saw_text.specs.Reading.{all_units}
-use Rattle.saw_text.specs.Tree.{UnitForm, unit_forms, program_of}
-use Rattle.saw_text.specs.declared.fault.SawTextFault.TheVariants.{Syntax as Syntax_at}
+use Rattle.saw_text.specs.Tree.{UnitForm, unit_forms}
+use Rattle.text_forms.specs.declared.unit_fault.UnitFault.TheVariants.{Syntax as Syntax_at}
 use Rattle.saw_text.specs.declared.tree.Unit as tree
 use Rattle.saw_text.proofs.Texts.{text-read, text-reads, units-first, units-told, units-reads}
 use Rattle.saw_front.specs.declared.fault.SawFault.{SawFault}
 use Rattle.saw_front.specs.declared.fault.SawFault.TheVariants.{Text, UnknownName, NameTwice, Shape, Limit, NoMemory}
 use Rattle.saw_front.specs.Laws.{HasFault, Has, MeansWhatItHas, PlansMean}
-use Rattle.saw_front.specs.Meaning.{Accepted, program_in, fault_at, or_fault, accepted, then_judged, of_tokens, then_read, compiled, Plans, PlansBy, Refused}
-use Rattle.saw_front.specs.Valued.{AreValuedParts}
+use Rattle.saw_front.specs.Meaning.{Accepted, program_in, fault_at, or_fault, accepted, then_judged, of_tokens, then_read, compiled, Plans, Refused}
+use Rattle.saw_build.specs.Building.{PlansBy}
+use Rattle.saw_build.specs.Valued.{AreValuedParts}
 use Rattle.saw_front.proofs.Readable.{units-fine}
 
 abbrev read_of : List Mark → Result (List UnitForm) ℕ
@@ -61,7 +62,7 @@ unfolding compiled
 lexed-means text fault e = ap then_read e
 
 fault-means : (text : List ℕ) (fault : SawFault) → HasFault text fault → compiled text ≡ Err fault
-fault-means text fault (us, e, t, j, is) = stands-means text us t ∙ ap (or_fault us) ((refused_at_first (program_of us) e).1 j) ∙ ap Err (sym is)
+fault-means text fault (us, e, t, j, is) = stands-means text us t ∙ ap (or_fault us) ((refused_at_first us e).1 j) ∙ ap Err (sym is)
 
 has-means : (text : List ℕ) (meant : Result Accepted SawFault) → Has text meant → compiled text ≡ meant
 has-means text (Ok a) (t, j) = stands-means text a.units t ∙ ap (or_fault a.units) j
@@ -76,10 +77,10 @@ has-means text (Err NoMemory) h = absurd h
 
 -- ---- TO THE GRAMMAR
 
-fault-has : (text : List ℕ) (us : List UnitForm) (e : Refusal) → IsText text us → judged (program_of us) ≡ Err e → Has text (Err (fault_at e.unit e.fault))
+fault-has : (text : List ℕ) (us : List UnitForm) (e : Refusal) → IsText text us → judged us ≡ Err e → Has text (Err (fault_at e.unit e.fault))
 fault-has text us e t j = by e.fault refl where
-  first : IsFaultAt (program_of us) e.unit e.fault
-  first = (refused_at_first (program_of us) e).0 j
+  first : IsFaultAt us e.unit e.fault
+  first = (refused_at_first us e).0 j
 
   by : (f : model.Fault) → e.fault ≡ f → Has text (Err (fault_at e.unit f))
   by model.UnknownName is = (us, e, t, first, ap (fault_at e.unit) (sym is))
@@ -88,8 +89,8 @@ fault-has text us e t j = by e.fault refl where
   by model.Limit is = (us, e, t, first, ap (fault_at e.unit) (sym is))
 
 accepted-has : (text : List ℕ) (us : List UnitForm) → IsText text us → Has text (accepted us)
-accepted-has text us t = by (judged (program_of us)) refl where
-  by : (r : Result (Steps × At) Refusal) → judged (program_of us) ≡ r → Has text (or_fault us r)
+accepted-has text us t = by (judged us) refl where
+  by : (r : Result (Steps × At) Refusal) → judged us ≡ r → Has text (or_fault us r)
   by (Ok read) j = (t, j)
   by (Err e) j = fault-has text us e t j
 
@@ -123,6 +124,7 @@ compiled-valued text a e =
     let h : Has text (Ok a) = subst (Has text) e (means-has text) in
     (units-fine a.units (cut_units (toks h.0.marks)) h.0.formed).0
 
+-- and the judge reads it as its meaning says
 pub compiled-judged : (text : List ℕ) (a : Accepted) → compiled text ≡ Ok a → judged (program_in a) ≡ Ok a.read
 compiled-judged text a e =
     let h : Has text (Ok a) = subst (Has text) e (means-has text) in
@@ -143,10 +145,10 @@ pub read-refused : (marks : List Mark) (us : List tree.Unit) (fault : SawFault) 
     → Refused (of_tokens marks) fault
 read-refused marks us fault e h = subst (λ (r : Result Accepted SawFault). Refused r fault) (sym (tokens-mean marks (unit_forms us) e)) h
 
-pub read-valued : (marks : List Mark) (us : List tree.Unit) → StandFor marks (unit_forms us) → AreValuedParts (program_of (unit_forms us))
+pub read-valued : (marks : List Mark) (us : List tree.Unit) → StandFor marks (unit_forms us) → AreValuedParts (unit_forms us)
 read-valued marks us e = (units-fine (unit_forms us) (cut_units (toks marks)) e).0
 
-pub read-shallow : (marks : List Mark) (us : List tree.Unit) → StandFor marks (unit_forms us) → AreShallowParts (program_of (unit_forms us))
+pub read-shallow : (marks : List Mark) (us : List tree.Unit) → StandFor marks (unit_forms us) → AreShallowParts (unit_forms us)
 read-shallow marks us e = (units-fine (unit_forms us) (cut_units (toks marks)) e).1
 
 -- tokens with a unit that is not in the grammar mean the first of them
@@ -158,11 +160,11 @@ pub ruleset readings = (read-bad)
 pub ruleset fronts = (read-planned, read-refused, read-valued, read-shallow)
 
 -- the plan that was made of judged units is valid, and is the program's
-pub planned-valid : (us : List UnitForm) (raw : RawPlan) → AreShallowParts (program_of us) → PlansBy (Ok raw) (program_of us) (judged (program_of us))
+pub planned-valid : (us : List UnitForm) (raw : RawPlan) → AreShallowParts us → PlansBy (Ok raw) us (judged us)
     → IsPlan (plan_form raw)
-planned-valid us raw low h = subst IsPlan (sym h.2) (plans_are_valid (program_of us) h.0 low h.1)
+planned-valid us raw low h = subst IsPlan (sym h.2) (plans_are_valid us h.0 low h.1)
 
-pub planned-plans : (us : List UnitForm) (raw : RawPlan) (plan : PlanForm) → PlansBy (Ok raw) (program_of us) (judged (program_of us)) → plan ≡ plan_form raw
+pub planned-plans : (us : List UnitForm) (raw : RawPlan) (plan : PlanForm) → PlansBy (Ok raw) us (judged us) → plan ≡ plan_form raw
     → Plans (accepted us) us plan
 planned-plans us raw plan h is = (h.0, ap (or_fault us) h.1, is ∙ h.2)
 

@@ -2,6 +2,7 @@
 -- the plan nests deeper than it does in the program, and no window is there.
 use Rattle.std.proofs.Common.{◌≡◌, ℕ, zero, suc, ◌≤◌, List, [], ◌∷◌, ◌++◌, Option, Some, None, Result, Ok, Err, inl, inr, refl, sym, subst, arith}
 use Rattle.std.specs.Prelude.{max, codes, map, nat_eq, nat_lt, nat_le, length}
+use Rattle.std.specs.List.{AllByRecursion}
 use Rattle.std.specs.Str.{bytes_eq}
 use Rattle.work_code.specs.Cut.{units_of as cut_units}
 use Rattle.work_code.specs.Steps.{Step, Steps, Done}
@@ -9,26 +10,32 @@ use Rattle.work_code.specs.Steps as steps
 use Rattle.work_code.specs.Term.{Term}
 use Rattle.work_code.specs.Tok.{Tok, toks}
 use Rattle.text_forms.specs.Forms as form
-use Rattle.text_forms.specs.Tree.{Spoken}
+use Rattle.saw_text.specs.Tree.{Expression}
 use Rattle.kern_tables.specs.declared.kind.TableKind.{TableKind}
 use Rattle.river_plan.specs.declared.plan.TableDecl.{TableDecl}
 use Rattle.river_plan.specs.Forms.{Name}
 use Rattle.river_print.specs.Printable.{IsPrintable}
 use Rattle.river_print.specs.Writable.{Every, depths}
 use Rattle.river_print.proofs.Spoken.{IsSpoken, spoken-printable}
-use Rattle.saw_model.specs.Source.{Statement, Declare, Assign, Emit, If, Block, End, Then, Part, Table, Does, Program, tables_in}
+use Rattle.saw_text.specs.Tree.{Statement, Declare, Assign, Emit, If, Block, End, Then, Optional, Unwritten, Written, UnitForm, TableUnit, StatementUnit, Program}
+use Rattle.saw_model.specs.Meaning.{tables_in, table_kind, table_decl}
 use Rattle.saw_model.specs.Elaborate.{Fault, Limit, Shape, At, on_ok, demand, joined, one_step, counted, is_new, has_slot, first_term, declared, slot_of}
-use Rattle.saw_model.specs.Elaborate.{port_of, indexes_of, term_of, weight_of, keys_in, emitted, is_best, tabled, table_of, find, step_of, steps_of}
+use Rattle.saw_model.specs.Elaborate.{port_of, indexes_of, term_of, weight_of, keys_in, emitted, is_best, tabled, table_of, find, step_of, steps_of, steps_optional}
 use Rattle.saw_model.specs.Elaborate.{part_of as read_part, nothing_read}
 use Rattle.saw_model.specs.Judged.{Refusal, on_fine, in_unit, all_parts}
 use Rattle.saw_model.specs.Plan.{tally_op, plan_of}
 use Rattle.saw_model.proofs.Elaborated.{fine, ok_parts, ok_is}
-use Rattle.saw_text.specs.Tree.{in_turn, or_end, UnitForm, part_of, program_of}
-use Rattle.saw_text.specs.Grammar.{is_user, IsIf, IsBlockOf, NamedAfter, StmtAfter, IsStmt, IsBlock, TypedAfter, UnitNamed, IsUnit, AreUnits}
+use Rattle.saw_text.specs.Tree.{in_turn, or_unwritten, UnitForm}
+use Rattle.text_blocks.specs.Statements.{IsRest}
+use Rattle.text_blocks.specs.Parts.{Round}
+use Rattle.text_blocks.proofs.Every.{chosen, IfThere, every-rest}
+use Rattle.saw_text.specs.Blocks.{NamedAfter, IsPlain, style, holes}
+use Rattle.saw_text.specs.Expressions.{IsExpression}
+use Rattle.saw_text.specs.Words.{is_user}
+use Rattle.saw_text.specs.Grammar.{TypedAfter, UnitNamed, IsUnit, AreUnits}
 use Rattle.saw_front.specs.Laws.{Has, PlansArePrintable}
 use Rattle.saw_front.specs.Meaning.{program_in}
 use Rattle.saw_front.proofs.Fronts.{means_what_it_has}
-use Rattle.saw_front.proofs.Readable.{chosen, enclosed}
 
 -- how deep `if` nests
 abbrev mutual
@@ -36,11 +43,15 @@ abbrev mutual
   nest (Declare n t) = 0
   nest (Assign n t) = 0
   nest (Emit t is v w) = 0
-  nest (If t a b) = suc (max (nests a) (nests b))
+  nest (If t a b) = suc (max (nests a) (nests_optional b))
 
   nests : Block → ℕ
   nests End = 0
   nests (Then c b) = max (nest c) (nests b)
+
+  nests_optional : Optional → ℕ
+  nests_optional Unwritten = 0
+  nests_optional (Written b) = nests b
 
 -- THE GRAMMAR
 
@@ -50,79 +61,56 @@ IsNested k s = nest s ≤ k
 abbrev AreNested : ℕ → Block → Type 0
 AreNested k b = nests b ≤ k
 
-block-nests : (stmt : ℕ → Statement → List Tok → Type 0) (k : ℕ) → ((m : ℕ) (s : Statement) (ts : List Tok) → stmt m s ts → IsNested k s)
-    → (n : ℕ) (b : Block) (ts : List Tok) → IsBlockOf stmt n b ts → AreNested k b
-block-nests stmt k below n b ts h = enclosed (AreNested k) _ _ _ n b ts h (λ m us f. subst (AreNested k) (sym f.is) (each m f.value us f.formed))
-  where
-    each : (m : ℕ) (ss : List Statement) (us : List Tok) → form.Each (stmt m) ss us → AreNested k (in_turn ss)
-    each m [] us f = omega arith
-    each m (s ∷ ss) us f =
-        let a = below m s f.0 f.3 in
-        let b = each m ss f.1 f.4 in
-        omega (arith, a, b)
-
-or-end-nests : (k : ℕ) (block : Block → List Tok → Type 0) → ((b : Block) (ts : List Tok) → block b ts → AreNested k b)
-    → (word : List ℕ) (o : Option Block) (ts : List Tok) → form.Maybe (form.AfterWord word block) o ts → AreNested k (or_end o)
-or-end-nests k block below word None ts h = omega arith
-or-end-nests k block below word (Some b) ts h = below b h.back h.formed
-
-if-nests : (k : ℕ) (block : ℕ → Block → List Tok → Type 0) → ((m : ℕ) (b : Block) (ts : List Tok) → block m b ts → AreNested k b)
-    → (n : ℕ) (s : Statement) (ts : List Tok) → IsIf block n s ts → IsNested (suc k) s
-if-nests k block below n s ts h =
-    let v = h.value in
-    let arms = h.formed.second in
-    let a = below n v.1.0 arms.front arms.first in
-    let b = or-end-nests k (block n) (below n) (codes "else") v.1.1 arms.back arms.second in
-    subst (IsNested (suc k)) (sym h.is) (omega (arith, a, b))
-
 named-nests : (k : ℕ) (w : List ℕ) (n : ℕ) (s : Statement) (ts : List Tok) → NamedAfter w n s ts → IsNested k s
 named-nests k w n s ts (inl f) = subst (IsNested k) (sym f.formed.formed.is) (omega arith)
 named-nests k w n s ts (inr f) = subst (IsNested k) (sym f.is) (omega arith)
 
-after-nests : (k : ℕ) (branch : Statement → List Tok → Type 0) → ((s : Statement) (ts : List Tok) → branch s ts → IsNested k s)
-    → (n : ℕ) (w : List ℕ) (s : Statement) (ts : List Tok) → StmtAfter branch n w s ts → IsNested k s
-after-nests k branch b n w s ts h =
+plain-nests : (k n : ℕ) (w : List ℕ) (s : Statement) (ts : List Tok) → IsPlain n w s ts → IsNested k s
+plain-nests k n w s ts h =
     chosen (IsNested k s) _ _ (bytes_eq w (codes "emit")) s ts h (λ e f. subst (IsNested k) (sym f.is) (omega arith)) (λ h.
-    chosen (IsNested k s) _ _ (bytes_eq w (codes "if")) s ts h (λ e f. b s ts f) (λ h.
-    chosen (IsNested k s) _ _ (is_user w) s ts h (λ e f. named-nests k w n s ts f) (λ h. absurd h)))
+    chosen (IsNested k s) _ _ (is_user w) s ts h (λ e f. named-nests k w n s ts f) (λ h. absurd h))
 
-stmt-nests : (k n : ℕ) (s : Statement) (ts : List Tok) → IsStmt k n s ts → IsNested k s
-unfolding IsStmt
-stmt-nests zero n s ts h = after-nests zero form.Never (λ s ts f. absurd f) n h.word s h.back h.formed
-stmt-nests (suc k) n s ts h =
-    let below = block-nests (IsStmt k) k (λ m s ts f. stmt-nests k m s ts f) in
-    after-nests (suc k) (IsIf (IsBlockOf (IsStmt k)) n) (if-nests k (IsBlockOf (IsStmt k)) below n) n h.word s h.back h.formed
+branch-nests : (k n : ℕ) (c : Expression) (ts : List Tok) (a : Block) (o : Option Block) → Round IsExpression n c ts → AreNested k a
+    → IfThere (AreNested k) o
+    → IsNested (suc k) (If c a (or_unwritten o))
+branch-nests k n c ts a None h x y = omega (arith, x)
+branch-nests k n c ts a (Some b) h x y = omega (arith, x, y)
+
+block-nests : (k : ℕ) (ss : List Statement) → AllByRecursion (IsNested k) ss → AreNested k (in_turn ss)
+block-nests k [] h = omega arith
+block-nests k (s ∷ ss) h = let a = h.0 in let b = block-nests k ss h.1 in omega (arith, a, b)
+
+rest-nests : (k n : ℕ) (w : List ℕ) (s : Statement) (ts : List Tok) → IsRest style holes k n w s ts → IsNested k s
+rest-nests = every-rest style holes IsNested AreNested branch-nests (λ k n w h ts b f q. absurd h) plain-nests block-nests
 
 -- a unit's statement nests at most 16 deep
-abbrev IsNestedPart : Part → Type 0
-IsNestedPart (Table n k) = Unit {0}
-IsNestedPart (Does c) = nest c ≤ 16
+abbrev IsNestedPart : UnitForm → Type 0
+IsNestedPart (TableUnit tb) = Unit {0}
+IsNestedPart (StatementUnit c) = nest c ≤ 16
 
 abbrev AreNestedParts : Program → Type 0
 AreNestedParts [] = Unit {0}
 AreNestedParts (c ∷ ps) = IsNestedPart c × AreNestedParts ps
 
-typed-nests : (name : List ℕ) (n : ℕ) (w : List ℕ) (u : UnitForm) (ts : List Tok) → TypedAfter name n w u ts → IsNestedPart (part_of u)
+typed-nests : (name : List ℕ) (n : ℕ) (w : List ℕ) (u : UnitForm) (ts : List Tok) → TypedAfter name n w u ts → IsNestedPart u
 typed-nests name n w u ts h =
-    chosen (IsNestedPart (part_of u)) _ _ (bytes_eq w (codes "table")) u ts h
-    (λ e f. subst (λ (x : UnitForm). IsNestedPart (part_of x)) (sym f.is) tt) (λ h.
-    chosen (IsNestedPart (part_of u)) _ _ (bytes_eq w (codes "int")) u ts h
-    (λ e f. subst (λ (x : UnitForm). IsNestedPart (part_of x)) (sym f.is) (subst (IsNested 16) (sym f.formed.is) (omega arith))) (λ h. absurd h))
+    chosen (IsNestedPart u) _ _ (bytes_eq w (codes "table")) u ts h
+    (λ e f. subst (λ (x : UnitForm). IsNestedPart x) (sym f.is) tt) (λ h.
+    chosen (IsNestedPart u) _ _ (bytes_eq w (codes "int")) u ts h
+    (λ e f. subst (λ (x : UnitForm). IsNestedPart x) (sym f.is) (subst (IsNested 16) (sym f.formed.is) (omega arith))) (λ h. absurd h))
 
-unit_named-nests : (w : List ℕ) (n : ℕ) (u : UnitForm) (ts : List Tok) → UnitNamed w n u ts → IsNestedPart (part_of u)
+unit_named-nests : (w : List ℕ) (n : ℕ) (u : UnitForm) (ts : List Tok) → UnitNamed w n u ts → IsNestedPart u
 unit_named-nests w n u ts (inl f) = typed-nests w n f.formed.word u f.formed.back f.formed.formed
-unit_named-nests w n u ts (inr f) = subst (λ (x : UnitForm). IsNestedPart (part_of x)) (sym f.is) (subst (IsNested 16) (sym f.formed.is) (omega arith))
+unit_named-nests w n u ts (inr f) = subst (λ (x : UnitForm). IsNestedPart x) (sym f.is) (subst (IsNested 16) (sym f.formed.is) (omega arith))
 
-unit-nests : (u : UnitForm) (ts : List Tok) → IsUnit u ts → IsNestedPart (part_of u)
+unit-nests : (u : UnitForm) (ts : List Tok) → IsUnit u ts → IsNestedPart u
 unit-nests u ts h =
-    chosen (IsNestedPart (part_of u)) _ _ (is_user h.word) u h.back h.formed
+    chosen (IsNestedPart u) _ _ (is_user h.word) u h.back h.formed
     (λ e f. unit_named-nests h.word 128 u h.back f)
     (λ f.
-    let below = block-nests (IsStmt 15) 15 (stmt-nests 15) in
-    subst (λ (x : UnitForm). IsNestedPart (part_of x)) (sym f.is)
-    (after-nests 16 (IsIf (IsBlock 15) 128) (if-nests 15 (IsBlock 15) below 128) 128 h.word f.value h.back f.formed))
+    subst IsNestedPart (sym f.is) (rest-nests 16 128 h.word f.value h.back f.formed))
 
-units-nest : (us : List UnitForm) (units : List (List Tok)) → AreUnits us units → AreNestedParts (program_of us)
+units-nest : (us : List UnitForm) (units : List (List Tok)) → AreUnits us units → AreNestedParts us
 units-nest [] units h = tt
 units-nest (u ∷ us) [] h = absurd h
 units-nest (u ∷ us) (t ∷ ts) h = (unit-nests u t h.0, units-nest us ts h.1)
@@ -139,7 +127,7 @@ joined-below k a b h g = let e = joined-depths a b in omega (arith, e)
 by-steps : (k : ℕ) (x y : Steps × At) → fine x ≡ fine y → depths x.0 ≤ k → depths y.0 ≤ k
 by-steps k x y h le = subst (λ (r : Steps × At). depths r.0 ≤ k) (ok_is x y h) le
 
-emit-below : (s : At) (t : ℕ × TableKind) (n : ℕ) (us : List Term) (v : Spoken) (w : Option Spoken) (y : Steps × At) → emitted s t n us v w ≡ fine y
+emit-below : (s : At) (t : ℕ × TableKind) (n : ℕ) (us : List Term) (v : Expression) (w : Option Expression) (y : Steps × At) → emitted s t n us v w ≡ fine y
     → depths y.0 ≤ 0
 emit-below s t n us v w y h =
     let end = λ (u : Term) (ws : List Term). fine (one_step (steps.Push t.0 (us ++ u ∷ ws)), s) in
@@ -174,15 +162,15 @@ mutual
       emit-below a.0 b.0 (length is) c.0 v w y c.2
   step-below (If t a b) s0 y h =
       let end = λ (s : At) (c : Term) (p q : Steps × At). fine (one_step (steps.If c p.0 q.0), record q.1 { scope = s.scope }) in
-      let f3 = λ (s : At) (c : Term) (p : Steps × At). on_ok (steps_of b (record s { slots = p.1.slots; size = p.1.size })) (end s c p) in
+      let f3 = λ (s : At) (c : Term) (p : Steps × At). on_ok (steps_optional b (record s { slots = p.1.slots; size = p.1.size })) (end s c p) in
       let f2 = λ (s : At) (c : Term). on_ok (steps_of a s) (f3 s c) in
       let w = ok_parts (counted s0) (λ s. on_ok (term_of s.scope t) (f2 s)) y h in
       let c = ok_parts (term_of w.0.scope t) (f2 w.0) y w.2 in
       let p = ok_parts (steps_of a w.0) (f3 w.0 c.0) y c.2 in
-      let q = ok_parts (steps_of b (record w.0 { slots = p.0.1.slots; size = p.0.1.size })) (end w.0 c.0 p.0) y p.2 in
+      let q = ok_parts (steps_optional b (record w.0 { slots = p.0.1.slots; size = p.0.1.size })) (end w.0 c.0 p.0) y p.2 in
       let i = steps-below a w.0 p.0 p.1 in
-      let j = steps-below b (record w.0 { slots = p.0.1.slots; size = p.0.1.size }) q.0 q.1 in
-      by-steps (suc (max (nests a) (nests b))) (one_step (steps.If c.0 p.0.0 q.0.0), record q.0.1 { scope = w.0.scope }) y q.2 (omega (arith, i, j))
+      let j = optional-below b (record w.0 { slots = p.0.1.slots; size = p.0.1.size }) q.0 q.1 in
+      by-steps (suc (max (nests a) (nests_optional b))) (one_step (steps.If c.0 p.0.0 q.0.0), record q.0.1 { scope = w.0.scope }) y q.2 (omega (arith, i, j))
 
   steps-below : (b : Block) (s : At) (y : Steps × At) → steps_of b s ≡ fine y → depths y.0 ≤ nests b
   steps-below End s y h = by-steps 0 (Done, s) y h (omega arith)
@@ -193,6 +181,10 @@ mutual
       let j = steps-below b p.0.1 q.0 q.1 in
       by-steps (max (nest c) (nests b)) (joined p.0.0 q.0.0, q.0.1) y q.2
       (joined-below (max (nest c) (nests b)) p.0.0 q.0.0 (omega (arith, i)) (omega (arith, j)))
+
+  optional-below : (o : Optional) (s : At) (y : Steps × At) → steps_optional o s ≡ fine y → depths y.0 ≤ nests_optional o
+  optional-below Unwritten s y h = by-steps 0 (Done, s) y h (omega arith)
+  optional-below (Written b) s y h = steps-below b s y h
 
 table-below : (n : Name) (k : TableKind) (s : At) (y : Steps × At) → table_of n k s ≡ fine y → depths y.0 ≤ 0
 table-below n k s y h =
@@ -205,9 +197,9 @@ table-below n k s y h =
     let d = ok_parts (demand (nat_le (keys_in k) 8) Limit) (λ x. fine (tabled n k s)) y c.2 in
     by-steps 0 (tabled n k s) y d.2 (omega arith)
 
-part-below : (c : Part) (s : At) (y : Steps × At) → IsNestedPart c → read_part c s ≡ fine y → depths y.0 ≤ 16
-part-below (Table n k) s y low h = let e = table-below n k s y h in omega (arith, e)
-part-below (Does c) s y low h = let e = step-below c s y h in omega (arith, e, low)
+part-below : (c : UnitForm) (s : At) (y : Steps × At) → IsNestedPart c → read_part c s ≡ fine y → depths y.0 ≤ 16
+part-below (TableUnit tb) s y low h = let e = table-below tb.name (table_kind tb) s y h in omega (arith, e)
+part-below (StatementUnit c) s y low h = let e = step-below c s y h in omega (arith, e, low)
 
 abbrev took : {A : Type 0} → A → Result A Refusal
 took x = Ok x

@@ -9,17 +9,17 @@ use Rattle.brooklet_model.specs.Meaning.{meaning}
 use Rattle.saw_model.specs.Faults.{IsFaultAt}
 use Rattle.saw_model.specs.Judged.{Refusal, judged}
 use Rattle.saw_model.specs.Plan.{as_items}
-use Rattle.saw_model.specs.Source.{width, program_tables}
+use Rattle.saw_model.specs.Meaning.{width, program_tables}
 use Rattle.saw_text.specs.Grammar.{IsText}
 use Rattle.saw_text.specs.Laws.{IsBadAt}
-use Rattle.saw_text.specs.Tree.{UnitForm, program_of}
+use Rattle.saw_text.specs.Tree.{UnitForm}
 use Rattle.saw_front.specs.declared.fault.SawFault.{SawFault}
 use Rattle.saw_front.specs.declared.fault.SawFault.TheVariants.{Text, NoMemory}
 use Rattle.saw_front.specs.Meaning.{Accepted, program_in, plan_in, fault_at, compiled}
 
 -- the grammar has the text for units, and the first of their places that has a fault has this one, in this unit
 abbrev pub HasFault : List ℕ → SawFault → Type 0
-HasFault text fault = (us : List UnitForm) × (e : Refusal) × IsText text us × IsFaultAt (program_of us) e.unit e.fault × (fault ≡ fault_at e.unit e.fault)
+HasFault text fault = (us : List UnitForm) × (e : Refusal) × IsText text us × IsFaultAt us e.unit e.fault × (fault ≡ fault_at e.unit e.fault)
 
 -- the grammar has the text for units that are accepted, or that have a fault; or it has a first unit that is not in the grammar, or a
 -- first fault of its bytes

@@ -5,24 +5,21 @@ ghost use Rattle.river_plan.specs.Forms.{plan_form};
 ghost use Rattle.river_plan.specs.Valid.{IsPlan};
 ghost use Rattle.saw_model.specs.Elaborate.{At};
 ghost use Rattle.saw_model.specs.Judged as model;
-ghost use Rattle.saw_model.specs.Judged.{judged};
 ghost use Rattle.saw_model.specs.Shallow.{AreShallowParts};
 ghost use Rattle.saw_text.specs.Faults.{StandFor};
-ghost use Rattle.saw_text.specs.Tree.{UnitForm, unit_forms, program_of};
-ghost use Rattle.saw_front.specs.Judging.{Told};
-ghost use Rattle.saw_front.specs.Meaning.{accepted, or_fault, of_tokens, compiled, Plans, PlansBy, Refused};
-ghost use Rattle.saw_front.specs.Valued.{AreValuedParts};
+ghost use Rattle.saw_text.specs.Tree.{UnitForm, unit_forms};
+ghost use Rattle.saw_build.specs.Judging.{Told};
+ghost use Rattle.saw_front.specs.Meaning.{accepted, or_fault, of_tokens, compiled, Plans, Refused};
+ghost use Rattle.saw_build.specs.Valued.{AreValuedParts};
 
-use crate::fault::Fault;
-use crate::judge::{Judge, Refusal};
-use crate::plan::lists;
 use crate::{SawFault, SawProgram};
 use river_base::{Bytes, NoMemory};
 use river_plan::{Plan, PlanFault, RawPlan, check};
-use saw_text::{SawTextFault, Unit, read_sawzall};
+use saw_build::{Fault, Refusal, raw_plan};
+use saw_text::{Unit, read_sawzall};
 use std::alloc::Global;
-use text_forms::Refusal as TextRefusal;
-use work_code::{LexFault, Stmts, Tokens, lex};
+use text_forms::{Refusal as TextRefusal, UnitFault};
+use work_code::{LexFault, Tokens, lex};
 
 /// The program of a text, and its plan.
 ///
@@ -66,42 +63,25 @@ fn read(alloc: Global, tokens: &Tokens<'_>) -> Result<Vec<Unit>, SawFault>
 {
     match read_sawzall(alloc, tokens) {
         Ok(units) => Ok(units),
-        Err(SawTextFault::Syntax { unit }) => Err(SawFault::Text(TextRefusal::Syntax { unit })),
-        Err(SawTextFault::NoMemory) => Err(SawFault::NoMemory),
+        Err(UnitFault::Syntax { unit }) => Err(SawFault::Text(TextRefusal::Syntax { unit })),
+        Err(UnitFault::NoMemory) => Err(SawFault::NoMemory),
     }
 }
 
 // The plan of these units.
 #[tactic(auto, using(crate::proofs::Fronts::plans))]
 fn planned(alloc: Global, units: &[Unit]) -> Result<Plan, SawFault>
-    requires valued { AreValuedParts (program_of (unit_forms units.now)) }
-    requires shallow { AreShallowParts (program_of (unit_forms units.now)) }
+    requires valued { AreValuedParts (unit_forms units.now) }
+    requires shallow { AreShallowParts (unit_forms units.now) }
     ensures plan { IfOk result (Plans (accepted (unit_forms units.now)) (unit_forms units.now)) }
     ensures refused { IfErr result (Refused (accepted (unit_forms units.now))) }
 {
-    match raw(alloc, units) {
+    match raw_plan(alloc, units) {
         Ok(raw) => {
             let plan = valid(alloc, raw)?;
             Ok(plan)
         }
         Err(refusal) => Err(refused(refusal)),
-    }
-}
-
-// The lists of the plan of these units; or the fault that comes first, with its unit.
-fn raw(alloc: Global, units: &[Unit]) -> Result<RawPlan, Refusal>
-    requires { AreValuedParts (program_of (unit_forms units.now)) }
-    ensures { PlansBy result (program_of (unit_forms units.now)) (judged (program_of (unit_forms units.now))) }
-{
-    let mut judge = Judge::new(alloc);
-    let mut body = Stmts::new(alloc);
-    judge.parts(alloc, units, &mut body)?;
-    match lists(alloc, units, body, judge.slots) {
-        Ok(raw) => Ok(raw),
-        Err(NoMemory) => Err(Refusal {
-            unit: 0,
-            fault: Fault::NoMemory,
-        }),
     }
 }
 

@@ -4,7 +4,7 @@ ghost use Rattle.std.specs.Fmt.{decimal};
 ghost use Rattle.saw_front.specs.Words.{saw_words};
 
 use river_base::{Bytes, NoMemory};
-use std::alloc::{AllocError, AllocFailed, Global};
+use std::alloc::Global;
 use text_forms::Refusal;
 
 /// Why a text is no program. The unit, from 1, is the one in whose reading the fault comes.
@@ -77,52 +77,4 @@ fn at_unit(alloc: Global, word: &[u8], number: u32, to: &mut Bytes) -> Result<()
     to.extend(word)?;
     let digits = number.to_string(alloc)?;
     to.extend(digits.as_bytes())
-}
-
-/// Why a unit is refused.
-#[derive(Clone, Copy)]
-pub(crate) enum Fault {
-    /// A name that is no local, or none of a table, that is known where it stands.
-    UnknownName,
-    /// A name that is known is declared again.
-    NameTwice,
-    /// An emit that is not as its table is.
-    Shape,
-    /// A number above its limit.
-    Limit,
-    /// There was no memory.
-    NoMemory,
-}
-
-impl From<NoMemory> for Fault {
-    ghost use Rattle.std.specs.Prelude.{◌≡◌};
-    ghost use Rattle.saw_front.specs.declared.fault.Fault.TheVariants as fault;
-
-    ghost from_gives = { λ _ f. f ≡ fault.NoMemory };
-
-    fn from(_: NoMemory) -> Self {
-        Fault::NoMemory
-    }
-}
-
-impl From<AllocError> for Fault {
-    ghost use Rattle.std.specs.Prelude.{◌≡◌};
-    ghost use Rattle.saw_front.specs.declared.fault.Fault.TheVariants as fault;
-
-    ghost from_gives = { λ _ f. f ≡ fault.NoMemory };
-
-    fn from(_: AllocError) -> Self {
-        Fault::NoMemory
-    }
-}
-
-impl<T: Drop> From<AllocFailed<T>> for Fault {
-    ghost use Rattle.std.specs.Prelude.{◌≡◌};
-    ghost use Rattle.saw_front.specs.declared.fault.Fault.TheVariants as fault;
-
-    ghost from_gives = { λ _ f. f ≡ fault.NoMemory };
-
-    fn from(_: AllocFailed<T>) -> Self {
-        Fault::NoMemory
-    }
 }

@@ -18,9 +18,9 @@ use Rattle.river_plan.specs.Forms.{Name}
 use Rattle.river_plan.specs.declared.plan.TableDecl.{TableDecl}
 use Rattle.river_plan.proofs.NameLemmas.{cases_name}
 use Rattle.brooklet_model.specs.Machine.{at_name}
-use Rattle.text_forms.specs.Tree.{Spoken}
-use Rattle.text_forms.specs.Tree as tree
-use Rattle.saw_model.specs.Source.{Values, said, Emitted, Now, said_or, said_all, listed, reach, reach_all}
+use Rattle.saw_text.specs.Tree.{Expression}
+use Rattle.saw_text.specs.Tree as tree
+use Rattle.saw_model.specs.Meaning.{Values, eval, Emitted, State, eval_or, eval_all, listed, reach, reach_all}
 use Rattle.saw_model.specs.Elaborate.{Fault, Limit, on_ok, demand, Known, Var, Port, Scope, find, named, term_of, At, counted, first_term, indexes_of}
 use Rattle.saw_model.specs.Elaborate.{weight_of, joined, one_step}
 
@@ -188,15 +188,12 @@ module _ (w : ℕ) (r : List ℤ) where
   abbrev pub fields : List ℤ
   fields = take w r
 
-  pub term_is : (sc : Scope) (t : Spoken) (env : Values) (mem : List ℤ) (u : Term) → reach t ≤ w → Agrees sc env mem → term_of sc t ≡ Ok u
-      → said t r env ≡ val u fields mem
+  pub term_is : (sc : Scope) (t : Expression) (env : Values) (mem : List ℤ) (u : Term) → reach t ≤ w → Agrees sc env mem → term_of sc t ≡ Ok u
+      → eval t r env ≡ val u fields mem
   term_is sc (tree.Number v) env mem u h a c = ap (λ t. val t fields mem) (ok_is (term.Const (pos v)) u c)
   term_is sc (tree.Name n) env mem u h a c = named_is (find sc n) u (env n) fields mem (a.each n) c
   term_is sc (tree.Input p) env mem u h a c =
       take_index w p r h ∙ ap (λ t. val t fields mem) (ok_is (term.Input p) u (if_ok (nat_le p 15) (Ok (term.Input p)) u Limit c))
-  term_is sc (tree.Slot p) env mem u h a c = absurd (cc c)
-  term_is sc (tree.Peek t) env mem u h a c = absurd (cc c)
-  term_is sc tree.Pop env mem u h a c = absurd (cc c)
   term_is sc (tree.Neg t) env mem u h a c =
       let p = ok_parts (term_of sc t) (λ a. Ok (term.Neg a)) u c in
       ap negate (term_is sc t env mem p.0 h a p.1) ∙ ap (λ t. val t fields mem) (ok_is (term.Neg p.0) u p.2)
@@ -206,20 +203,20 @@ module _ (w : ℕ) (r : List ℤ) where
   term_is sc (tree.Bin o l t) env mem u h a c =
       let p = ok_parts (term_of sc l) (λ a. on_ok (term_of sc t) (λ b. Ok (term.Bin o a b))) u c in
       let q = ok_parts (term_of sc t) (λ b. Ok (term.Bin o p.0 b)) u p.2 in
-      ap (λ b. applied o b (said t r env)) (term_is sc l env mem p.0 (omega (arith, h)) a p.1)
+      ap (λ b. applied o b (eval t r env)) (term_is sc l env mem p.0 (omega (arith, h)) a p.1)
       ∙ ap (applied o (val p.0 fields mem)) (term_is sc t env mem q.0 (omega (arith, h)) a q.1)
       ∙ ap (λ t. val t fields mem) (ok_is (term.Bin o p.0 q.0) u q.2)
 
   abbrev pub vals : List Term → List ℤ → List ℤ
   vals us mem = map (λ t. val t fields mem) us
 
-  pub first_is : (t : Option Spoken) (sc : Scope) (env : Values) (mem : List ℤ) (u : Term) → reach_all (listed t) ≤ w → Agrees sc env mem
-      → first_term t sc ≡ Ok u → said_or (pos 0) t r env ≡ val u fields mem
+  pub first_is : (t : Option Expression) (sc : Scope) (env : Values) (mem : List ℤ) (u : Term) → reach_all (listed t) ≤ w → Agrees sc env mem
+      → first_term t sc ≡ Ok u → eval_or (pos 0) t r env ≡ val u fields mem
   first_is None sc env mem u h a c = ap (λ t. val t fields mem) (ok_is (term.Const (pos 0)) u c)
   first_is (Some t) sc env mem u h a c = term_is sc t env mem u (omega (arith, h)) a c
 
-  pub indexes_are : (sc : Scope) (n : ℕ) (ts : List Spoken) (env : Values) (mem : List ℤ) (us : List Term) → reach_all ts ≤ w → Agrees sc env mem
-      → indexes_of sc n ts ≡ Ok us → said_all ts r env ≡ vals us mem
+  pub indexes_are : (sc : Scope) (n : ℕ) (ts : List Expression) (env : Values) (mem : List ℤ) (us : List Term) → reach_all ts ≤ w → Agrees sc env mem
+      → indexes_of sc n ts ≡ Ok us → eval_all ts r env ≡ vals us mem
   indexes_are sc n [] env mem us h a c = ap (λ l. vals l mem) (ok_is [] us c)
   indexes_are sc n (t ∷ ts) env mem us h a c =
       let c2 = if_ok (nat_lt n 8) (on_ok (term_of sc t) (λ u. on_ok (indexes_of sc (n + 1) ts) (λ us. Ok (u ∷ us)))) us Limit c in
@@ -229,8 +226,8 @@ module _ (w : ℕ) (r : List ℤ) where
       let more = indexes_are sc (n + 1) ts env mem q.0 (omega (arith, h)) a q.1 in
       (λ i. one i ∷ more i) ∙ ap (λ l. vals l mem) (ok_is (p.0 ∷ q.0) us q.2)
 
-  pub weight_is : (k : TableKind) (t : Option Spoken) (sc : Scope) (env : Values) (mem : List ℤ) (us : List Term) → reach_all (listed t) ≤ w → Agrees sc env mem
-      → weight_of k t sc ≡ Ok us → said_all (listed t) r env ≡ vals us mem
+  pub weight_is : (k : TableKind) (t : Option Expression) (sc : Scope) (env : Values) (mem : List ℤ) (us : List Term) → reach_all (listed t) ≤ w → Agrees sc env mem
+      → weight_of k t sc ≡ Ok us → eval_all (listed t) r env ≡ vals us mem
   weight_is (Sum keys) None sc env mem us h a c = ap (λ l. vals l mem) (ok_is [] us c)
   weight_is (Sum keys) (Some t) sc env mem us h a c = absurd (cc c)
   weight_is (Collection keys) None sc env mem us h a c = ap (λ l. vals l mem) (ok_is [] us c)
@@ -241,11 +238,11 @@ module _ (w : ℕ) (r : List ℤ) where
       let one = term_is sc t env mem p.0 (omega (arith, h)) a p.1 in
       (λ i. one i ∷ []) ∙ ap (λ l. vals l mem) (ok_is (p.0 ∷ []) us p.2)
 
-  pub said_all-append : (xs ys : List Spoken) (env : Values) → said_all (xs ++ ys) r env ≡ said_all xs r env ++ said_all ys r env
-  said_all-append [] ys env = refl
-  said_all-append (x ∷ xs) ys env = ap (λ l. said x r env ∷ l) (said_all-append xs ys env)
+  pub eval_all-append : (xs ys : List Expression) (env : Values) → eval_all (xs ++ ys) r env ≡ eval_all xs r env ++ eval_all ys r env
+  eval_all-append [] ys env = refl
+  eval_all-append (x ∷ xs) ys env = ap (λ l. eval x r env ∷ l) (eval_all-append xs ys env)
 
-  pub reach-append : (xs ys : List Spoken) → reach_all (xs ++ ys) ≤ w → (reach_all xs ≤ w) × (reach_all ys ≤ w)
+  pub reach-append : (xs ys : List Expression) → reach_all (xs ++ ys) ≤ w → (reach_all xs ≤ w) × (reach_all ys ≤ w)
   reach-append [] ys h = (omega arith, h)
   reach-append (x ∷ xs) ys h = let m = reach-append xs ys (omega (arith, h)) in (omega (arith, h, m.0), m.1)
 
@@ -309,7 +306,7 @@ matches-append ts (e ∷ es) fs [] qs m n = absurd m
 matches-append ts (e ∷ es) fs (p ∷ ps) qs m n = (m.0, m.1, m.2, matches-append ts es fs ps qs m.3 n)
 
 -- what a run of steps does, from what is known before to what is known after
-pub record Met (ts : List TableDecl) (now now' : Now) (sc' : Scope) (run : Ran) : Type 0 where
+pub record Met (ts : List TableDecl) (now now' : State) (sc' : Scope) (run : Ran) : Type 0 where
   pub agrees : Agrees sc' now'.values run.slots
   pub new : List Emitted
   pub emitted_are : now'.emitted ≡ now.emitted ++ new
@@ -325,11 +322,11 @@ ran_joined (steps.Then s ss) b xs mem =
 
 module _ (w : ℕ) (r : List ℤ) (ts : List TableDecl) where
   -- steps that push nothing and leave the slots
-  pub none_met : (now now' : Now) (sc : Scope) (mem : List ℤ) → now'.emitted ≡ now.emitted → Agrees sc now'.values mem
+  pub none_met : (now now' : State) (sc : Scope) (mem : List ℤ) → now'.emitted ≡ now.emitted → Agrees sc now'.values mem
       → Met ts now now' sc (record { pushes = []; slots = mem })
   none_met now now' sc mem e a = record { agrees = a; new = []; emitted_are = e ∙ sym (append-nil now.emitted); matches = tt }
 
-  pub met_more : (now mid now' : Now) (sc sc' : Scope) (a b : Steps) (mem : List ℤ) → Met ts now mid sc (ran a (take w r) mem)
+  pub met_more : (now mid now' : State) (sc sc' : Scope) (a b : Steps) (mem : List ℤ) → Met ts now mid sc (ran a (take w r) mem)
       → Met ts mid now' sc' (ran b (take w r) (ran a (take w r) mem).slots) → Met ts now now' sc' (ran (joined a b) (take w r) mem)
   met_more now mid now' sc sc' a b mem m n = subst (Met ts now now' sc') (sym (ran_joined a b (take w r) mem)) (record {
     agrees = n.agrees;

@@ -1,20 +1,32 @@
 -- Programs whose tables compute to what they should.
-use Rattle.std.proofs.Common.{◌≡◌, pos, negsuc, [], ◌∷◌, Some, None, refl}
+use Rattle.std.proofs.Common.{◌≡◌, ℕ, pos, negsuc, List, [], ◌∷◌, Option, Some, None, refl}
 use Rattle.std.specs.Prelude.{codes}
 use Rattle.std.specs.Int.{int_wrap}
-use Rattle.kern_tables.specs.declared.kind.TableKind.TheVariants.{Sum, Maximum}
-use Rattle.text_forms.specs.Tree as tree
-use Rattle.saw_model.specs.Source.{Program, Table, Does, Emit, program_tables, width}
+use Rattle.saw_text.specs.declared.tree.Kind.{Kind}
+use Rattle.saw_text.specs.declared.tree.Kind.TheVariants.{Sum, Maximum}
+use Rattle.saw_text.specs.declared.tree.Field.{Field}
+use Rattle.saw_text.specs.Tree as tree
+use Rattle.saw_text.specs.Tree.{Program, TableForm, TableUnit, StatementUnit, Emit}
+use Rattle.saw_model.specs.Meaning.{program_tables, width}
+
+abbrev int_field : Field
+int_field = record { name = None }
+
+abbrev named : List ℕ → Field
+named n = record { name = Some n }
+
+abbrev table : List ℕ → Kind → List Field → Field → Option Field → TableForm
+table n k is v w = record { name = n; kind = k; indexes = is; value = v; weight = w }
 
 -- count: table sum of int; total: table sum[k: int] of v: int; emit count <- 1; emit total[input[0]] <- input[1];
 abbrev tallies : Program
 tallies =
-    Table (codes "count") (Sum 0) ∷ Table (codes "total") (Sum 1)
-    ∷ Does (Emit (codes "count") [] (tree.Number 1) None) ∷ Does (Emit (codes "total") (tree.Input 0 ∷ []) (tree.Input 1) None) ∷ []
+    TableUnit (table (codes "count") Sum [] int_field None) ∷ TableUnit (table (codes "total") Sum (named (codes "k") ∷ []) (named (codes "v")) None)
+    ∷ StatementUnit (Emit (codes "count") [] (tree.Number 1) None) ∷ StatementUnit (Emit (codes "total") (tree.Input 0 ∷ []) (tree.Input 1) None) ∷ []
 
 -- big: table maximum(2) of v: int weight w: int; emit big <- input[0] weight input[1];
 abbrev greatest : Program
-greatest = Table (codes "big") (Maximum 2 0) ∷ Does (Emit (codes "big") [] (tree.Input 0) (Some (tree.Input 1))) ∷ []
+greatest = TableUnit (table (codes "big") (Maximum 2) [] (named (codes "v")) (Some (named (codes "w")))) ∷ StatementUnit (Emit (codes "big") [] (tree.Input 0) (Some (tree.Input 1))) ∷ []
 
 three : program_tables tallies ((pos 1 ∷ pos 5 ∷ []) ∷ (pos 2 ∷ pos 7 ∷ []) ∷ (pos 1 ∷ negsuc 4 ∷ []) ∷ []) ≡ ((pos 3 ∷ []) ∷ []) ∷ ((pos 1 ∷ pos 0 ∷ []) ∷ (pos 2 ∷ pos 7 ∷ []) ∷ []) ∷ []
 unfolding int_wrap

@@ -16,15 +16,16 @@ use Rattle.river_kernels.specs.Formed.{is_sound, is_term, is_step, is_steps, cou
 use Rattle.river_kernels.specs.Limits.{size}
 use Rattle.river_plan.specs.Forms.{Name}
 use Rattle.river_plan.specs.declared.plan.TableDecl.{TableDecl}
-use Rattle.text_forms.specs.Tree.{Spoken}
-use Rattle.text_forms.specs.Tree as tree
-use Rattle.saw_model.specs.Source.{Statement, Declare, Assign, Emit, If, Block, End, Then, Part, Table, Does, Program, tables_in, listed, parts_of, reach}
-use Rattle.saw_model.specs.Source.{reach_all, reach_once, reach_block, reach_parts}
-use Rattle.saw_model.specs.Shallow.{IsLow, AreLow, IsShallow, AreShallow, AreShallowParts}
+use Rattle.saw_text.specs.Tree.{Expression}
+use Rattle.saw_text.specs.Tree as tree
+use Rattle.saw_text.specs.Tree.{Statement, Declare, Assign, Emit, If, Block, End, Then, Optional, Unwritten, Written, UnitForm, TableUnit, StatementUnit, Program}
+use Rattle.saw_model.specs.Meaning.{tables_in, listed, parts_of, reach, table_kind, table_decl}
+use Rattle.saw_model.specs.Meaning.{reach_all, reach_statement, reach_block, reach_optional, reach_parts}
+use Rattle.saw_model.specs.Shallow.{IsLow, AreLow, IsShallow, AreShallow, AreShallowOptional, AreShallowParts}
 use Rattle.saw_model.specs.Elaborate.{Limit, on_ok, Known, Var, Port, Scope, find, named, term_of, At, first_term, indexes_of, keys_in, weight_of, joined}
-use Rattle.saw_model.specs.Elaborate.{one_step, step_of, steps_of, part_of}
+use Rattle.saw_model.specs.Elaborate.{one_step, step_of, steps_of, steps_optional, part_of}
 use Rattle.saw_model.proofs.Elaborated.{fine, ok_is, ok_parts, if_ok, if_both, IsSound, ArePorts, more_slots, sound_port, one_more}
-use Rattle.saw_model.proofs.Statements.{second_at, declared_parts, assigned_parts, sent_parts, forked_parts, followed_parts, grows, grows_all}
+use Rattle.saw_model.proofs.Statements.{second_at, declared_parts, assigned_parts, sent_parts, forked_parts, followed_parts, grows, grows_all, grows_optional}
 use Rattle.saw_model.proofs.Parts.{parts_read, tabled_parts, split_parts, parts_slots, got_here, ports_new}
 
 -- EXPRESSIONS
@@ -51,13 +52,10 @@ eq_by : (a b : ℕ) → nat_eq a b ≡ true → a ≡ b
 eq_by a b h = grind (arith, h)
 
 -- an expression that is read reads at most 16 fields
-term_reach : (sc : Scope) (t : Spoken) (u : Term) → term_of sc t ≡ Ok u → reach t ≤ 16
+term_reach : (sc : Scope) (t : Expression) (u : Term) → term_of sc t ≡ Ok u → reach t ≤ 16
 term_reach sc (tree.Number v) u h = omega arith
 term_reach sc (tree.Name n) u h = omega arith
 term_reach sc (tree.Input p) u h = let e = le_by p 15 (if_both (nat_le p 15) (Ok (term.Input p)) u Limit h).0 in omega (arith, e)
-term_reach sc (tree.Slot p) u h = omega arith
-term_reach sc (tree.Peek t) u h = omega arith
-term_reach sc tree.Pop u h = omega arith
 term_reach sc (tree.Neg t) u h = let p = ok_parts (term_of sc t) (λ a. Ok (term.Neg a)) u h in term_reach sc t p.0 p.1
 term_reach sc (tree.Not t) u h = let p = ok_parts (term_of sc t) (λ a. Ok (term.Not a)) u h in term_reach sc t p.0 p.1
 term_reach sc (tree.Bin o l r) u h =
@@ -67,11 +65,11 @@ term_reach sc (tree.Bin o l r) u h =
     let b = term_reach sc r q.0 q.1 in
     omega (arith, a, b)
 
-first_reach : (t : Option Spoken) (sc : Scope) (u : Term) → first_term t sc ≡ Ok u → reach_all (listed t) ≤ 16
+first_reach : (t : Option Expression) (sc : Scope) (u : Term) → first_term t sc ≡ Ok u → reach_all (listed t) ≤ 16
 first_reach None sc u h = omega arith
 first_reach (Some t) sc u h = let a = term_reach sc t u h in omega (arith, a)
 
-indexes_reach : (sc : Scope) (n : ℕ) (ts : List Spoken) (us : List Term) → indexes_of sc n ts ≡ Ok us → reach_all ts ≤ 16
+indexes_reach : (sc : Scope) (n : ℕ) (ts : List Expression) (us : List Term) → indexes_of sc n ts ≡ Ok us → reach_all ts ≤ 16
 indexes_reach sc n [] us h = omega arith
 indexes_reach sc n (t ∷ ts) us h =
     let c = if_ok (nat_lt n 8) (on_ok (term_of sc t) (λ u. on_ok (indexes_of sc (n + 1) ts) (λ us. Ok (u ∷ us)))) us Limit h in
@@ -81,7 +79,7 @@ indexes_reach sc n (t ∷ ts) us h =
     let b = indexes_reach sc (n + 1) ts q.0 q.1 in
     omega (arith, a, b)
 
-weight_reach : (k : TableKind) (t : Option Spoken) (sc : Scope) (us : List Term) → weight_of k t sc ≡ Ok us → reach_all (listed t) ≤ 16
+weight_reach : (k : TableKind) (t : Option Expression) (sc : Scope) (us : List Term) → weight_of k t sc ≡ Ok us → reach_all (listed t) ≤ 16
 weight_reach (Sum keys) None sc us h = omega arith
 weight_reach (Sum keys) (Some t) sc us h = absurd (cc h)
 weight_reach (Collection keys) None sc us h = omega arith
@@ -90,12 +88,12 @@ weight_reach (Maximum best keys) None sc us h = omega arith
 weight_reach (Maximum best keys) (Some t) sc us h =
     let p = ok_parts (term_of sc t) (λ u. Ok (u ∷ [])) us h in let a = term_reach sc t p.0 p.1 in omega (arith, a)
 
-all_reach : (xs ys : List Spoken) → reach_all xs ≤ 16 → reach_all ys ≤ 16 → reach_all (xs ++ ys) ≤ 16
+all_reach : (xs ys : List Expression) → reach_all xs ≤ 16 → reach_all ys ≤ 16 → reach_all (xs ++ ys) ≤ 16
 all_reach [] ys h k = k
 all_reach (x ∷ xs) ys h k = let a = all_reach xs ys (omega (arith, h)) k in omega (arith, a, h)
 
 mutual
-  step_reach : (c : Statement) (s : At) (y : Steps × At) → step_of c s ≡ fine y → reach_once c ≤ 16
+  step_reach : (c : Statement) (s : At) (y : Steps × At) → step_of c s ≡ fine y → reach_statement c ≤ 16
   step_reach (Declare n t) s y h = let d = declared_parts n t s y h in first_reach t s.scope d.value d.value_is
   step_reach (Assign n t) s y h = let d = assigned_parts n t s y h in term_reach s.scope t d.value d.value_is
   step_reach (Emit t is v w) s y h =
@@ -107,7 +105,7 @@ mutual
       let d = forked_parts t a b s y h in
       let x = term_reach s.scope t d.cond d.cond_is in
       let f = steps_reach a (one_more s) d.first d.first_is in
-      let g = steps_reach b (second_at s d.first) d.second d.second_is in
+      let g = optional_reach b (second_at s d.first) d.second d.second_is in
       omega (arith, x, f, g)
 
   steps_reach : (b : Block) (s : At) (y : Steps × At) → steps_of b s ≡ fine y → reach_block b ≤ 16
@@ -118,11 +116,15 @@ mutual
       let g = steps_reach b d.first.1 d.others d.others_is in
       omega (arith, f, g)
 
+  optional_reach : (o : Optional) (s : At) (y : Steps × At) → steps_optional o s ≡ fine y → reach_optional o ≤ 16
+  optional_reach Unwritten s y h = omega arith
+  optional_reach (Written b) s y h = steps_reach b s y h
+
 pub parts_reach : (p : Program) (s : At) (y : Steps × At) → parts_read p s ≡ fine y → reach_parts p ≤ 16
 parts_reach [] s y h = omega arith
-parts_reach (Table n k ∷ ps) s y h = let d = split_parts (Table n k) ps s y h in parts_reach ps d.first.1 d.others d.others_is
-parts_reach (Does c ∷ ps) s y h =
-    let d = split_parts (Does c) ps s y h in
+parts_reach (TableUnit tb ∷ ps) s y h = let d = split_parts (TableUnit tb) ps s y h in parts_reach ps d.first.1 d.others d.others_is
+parts_reach (StatementUnit c ∷ ps) s y h =
+    let d = split_parts (StatementUnit c) ps s y h in
     let f = step_reach c s d.first d.first_is in
     let g = parts_reach ps d.first.1 d.others d.others_is in
     omega (arith, f, g)
@@ -157,7 +159,7 @@ mutual
   step_counts (If t a b) s y h =
       let d = forked_parts t a b s y h in let r = lt_by s.size 16384 d.room in
       let f = steps_count a (one_more s) d.first d.first_is in
-      let g = steps_count b (second_at s d.first) d.second d.second_is in
+      let g = optional_counts b (second_at s d.first) d.second d.second_is in
       let x = f.size in let z = g.size in
       subst (Counts s) d.is (record { size = omega (arith, x, z); small = λ h. g.small (f.small (omega (arith, r))); few = λ h. g.few (f.few h) })
 
@@ -167,9 +169,13 @@ mutual
       let d = followed_parts c b s y h in
       subst (Counts s) d.is (counts_both s d.first d.others (step_counts c s d.first d.first_is) (steps_count b d.first.1 d.others d.others_is))
 
-part_counts : (c : Part) (s : At) (y : Steps × At) → part_of c s ≡ fine y → Counts s y
-part_counts (Table n k) s y h = let d = tabled_parts n k s y h in subst (Counts s) d.is (record { size = omega arith; small = λ h. h; few = λ h. h })
-part_counts (Does c) s y h = step_counts c s y h
+  optional_counts : (o : Optional) (s : At) (y : Steps × At) → steps_optional o s ≡ fine y → Counts s y
+  optional_counts Unwritten s y h = subst (Counts s) (ok_is (Done, s) y h) (record { size = omega arith; small = λ h. h; few = λ h. h })
+  optional_counts (Written b) s y h = steps_count b s y h
+
+part_counts : (c : UnitForm) (s : At) (y : Steps × At) → part_of c s ≡ fine y → Counts s y
+part_counts (TableUnit tb) s y h = let d = tabled_parts tb.name (table_kind tb) s y h in subst (Counts s) d.is (record { size = omega arith; small = λ h. h; few = λ h. h })
+part_counts (StatementUnit c) s y h = step_counts c s y h
 
 pub parts_count : (p : Program) (s : At) (y : Steps × At) → parts_read p s ≡ fine y → Counts s y
 parts_count [] s y h = subst (Counts s) (ok_is (Done, s) y h) (record { size = omega arith; small = λ h. h; few = λ h. h })
@@ -191,7 +197,7 @@ width_got (u ∷ us) zero t h = ap (λ (x : TableDecl). Some (pos (table_width x
     same u t h = cc
 width_got (u ∷ us) (suc p) t h = width_got us p t h
 
-indexes_many : (sc : Scope) (n : ℕ) (ts : List Spoken) (us : List Term) → indexes_of sc n ts ≡ Ok us → length us ≡ length ts
+indexes_many : (sc : Scope) (n : ℕ) (ts : List Expression) (us : List Term) → indexes_of sc n ts ≡ Ok us → length us ≡ length ts
 indexes_many sc n [] us h = ap length (sym (ok_is [] us h))
 indexes_many sc n (t ∷ ts) us h =
     let c = if_ok (nat_lt n 8) (on_ok (term_of sc t) (λ u. on_ok (indexes_of sc (n + 1) ts) (λ us. Ok (u ∷ us)))) us Limit h in
@@ -200,7 +206,7 @@ indexes_many sc n (t ∷ ts) us h =
     ap length (sym (ok_is (p.0 ∷ q.0) us q.2)) ∙ ap suc (indexes_many sc (n + 1) ts q.0 q.1)
 
 -- keys, a value and a weight, if there is one, are as many as the table is wide
-weight_many : (k : TableKind) (t : Option Spoken) (sc : Scope) (us : List Term) → weight_of k t sc ≡ Ok us → keys_in k + suc (length us) ≡ table_width k
+weight_many : (k : TableKind) (t : Option Expression) (sc : Scope) (us : List Term) → weight_of k t sc ≡ Ok us → keys_in k + suc (length us) ≡ table_width k
 weight_many (Sum keys) None sc us h = let e = ap length (ok_is [] us h) in omega (arith, e)
 weight_many (Sum keys) (Some t) sc us h = absurd (cc h)
 weight_many (Collection keys) None sc us h = let e = ap length (ok_is [] us h) in omega (arith, e)
@@ -223,14 +229,11 @@ module _ (w m : ℕ) (ts : List TableDecl) where
   named_fits (Some (Var i)) u h c = subst (Fits 1) (ok_is (term.Slot i) u c) (lt_true i m (h i refl), omega arith)
   named_fits (Some (Port p k)) u h c = absurd (cc c)
 
-  term_fits : (sc : Scope) (t : Spoken) (u : Term) → reach t ≤ w → AreBelow sc → term_of sc t ≡ Ok u → Fits (tree.depth_of t) u
+  term_fits : (sc : Scope) (t : Expression) (u : Term) → reach t ≤ w → AreBelow sc → term_of sc t ≡ Ok u → Fits (tree.depth_of t) u
   term_fits sc (tree.Number v) u le b c = subst (Fits 1) (ok_is (term.Const (pos v)) u c) (refl, omega arith)
   term_fits sc (tree.Name n) u le b c = named_fits (find sc n) u (b n) c
   term_fits sc (tree.Input p) u le b c =
       subst (Fits 1) (ok_is (term.Input p) u (if_ok (nat_le p 15) (Ok (term.Input p)) u Limit c)) (lt_true p w (omega (arith, le)), omega arith)
-  term_fits sc (tree.Slot p) u le b c = absurd (cc c)
-  term_fits sc (tree.Peek t) u le b c = absurd (cc c)
-  term_fits sc tree.Pop u le b c = absurd (cc c)
   term_fits sc (tree.Neg t) u le b c =
       let q = ok_parts (term_of sc t) (λ a. Ok (term.Neg a)) u c in
       let i = term_fits sc t q.0 le b q.1 in
@@ -253,15 +256,15 @@ module _ (w m : ℕ) (ts : List TableDecl) where
   is_one : (d : ℕ) (u : Term) → d ≤ 64 → Fits d u → is_term w m u ≡ true
   is_one d u low f = let e = f.1 in both_true (is_sound w m u) (nat_le (term.depth_of u) 64) f.0 (le_true (term.depth_of u) 64 (omega (arith, e, low)))
 
-  one_fits : (sc : Scope) (t : Spoken) (u : Term) → IsLow t → reach t ≤ w → AreBelow sc → term_of sc t ≡ Ok u → is_term w m u ≡ true
+  one_fits : (sc : Scope) (t : Expression) (u : Term) → IsLow t → reach t ≤ w → AreBelow sc → term_of sc t ≡ Ok u → is_term w m u ≡ true
   one_fits sc t u low le b h = is_one (tree.depth_of t) u low (term_fits sc t u le b h)
 
-  first_fits : (sc : Scope) (t : Option Spoken) (u : Term) → AreLow (listed t) → reach_all (listed t) ≤ w → AreBelow sc → first_term t sc ≡ Ok u
+  first_fits : (sc : Scope) (t : Option Expression) (u : Term) → AreLow (listed t) → reach_all (listed t) ≤ w → AreBelow sc → first_term t sc ≡ Ok u
       → is_term w m u ≡ true
   first_fits sc None u low le b h = is_one 1 u (omega arith) (subst (Fits 1) (ok_is (term.Const (pos 0)) u h) (refl, omega arith))
   first_fits sc (Some t) u low le b h = one_fits sc t u low.0 (omega (arith, le)) b h
 
-  indexes_fit : (sc : Scope) (n : ℕ) (is : List Spoken) (us : List Term) → AreLow is → reach_all is ≤ w → AreBelow sc → indexes_of sc n is ≡ Ok us
+  indexes_fit : (sc : Scope) (n : ℕ) (is : List Expression) (us : List Term) → AreLow is → reach_all is ≤ w → AreBelow sc → indexes_of sc n is ≡ Ok us
       → list_all (is_term w m) us ≡ true
   indexes_fit sc n [] us low le b h = ap (list_all (is_term w m)) (sym (ok_is [] us h))
   indexes_fit sc n (t ∷ is) us low le b h =
@@ -271,7 +274,7 @@ module _ (w m : ℕ) (ts : List TableDecl) where
       ap (list_all (is_term w m)) (sym (ok_is (p.0 ∷ q.0) us q.2))
       ∙ both_true (is_term w m p.0) (list_all (is_term w m) q.0) (one_fits sc t p.0 low.0 (omega (arith, le)) b p.1) (indexes_fit sc (n + 1) is q.0 low.1 (omega (arith, le)) b q.1)
 
-  weight_fits : (k : TableKind) (t : Option Spoken) (sc : Scope) (us : List Term) → AreLow (listed t) → reach_all (listed t) ≤ w → AreBelow sc
+  weight_fits : (k : TableKind) (t : Option Expression) (sc : Scope) (us : List Term) → AreLow (listed t) → reach_all (listed t) ≤ w → AreBelow sc
       → weight_of k t sc ≡ Ok us → list_all (is_term w m) us ≡ true
   weight_fits (Sum keys) None sc us low le b h = ap (list_all (is_term w m)) (sym (ok_is [] us h))
   weight_fits (Sum keys) (Some t) sc us low le b h = absurd (cc h)
@@ -303,13 +306,13 @@ module _ (w m : ℕ) (ts : List TableDecl) where
   set_formed : (i : ℕ) (u : Term) → i < m → is_term w m u ≡ true → is_steps w m outs (one_step (steps.Set i u)) ≡ true
   set_formed i u lt h = one_formed (steps.Set i u) (both_true (nat_lt i m) (is_term w m u) (lt_true i m lt) h)
 
-  reach_parts_of : (is : List Spoken) (v : Spoken) (t : Option Spoken) → reach_all (parts_of is v t) ≤ w
+  reach_parts_of : (is : List Expression) (v : Expression) (t : Option Expression) → reach_all (parts_of is v t) ≤ w
       → (reach_all is ≤ w) × (reach v ≤ w) × (reach_all (listed t) ≤ w)
   reach_parts_of [] v t h = (omega arith, omega (arith, h), omega (arith, h))
   reach_parts_of (i ∷ is) v t h = let r = reach_parts_of is v t (omega (arith, h)) in let a = r.0 in (omega (arith, h, a), r.1, r.2)
 
   mutual
-    step_formed : (c : Statement) (s : At) (y : Steps × At) → IsShallow c → reach_once c ≤ w → step_of c s ≡ fine y → IsSound s.scope s.slots
+    step_formed : (c : Statement) (s : At) (y : Steps × At) → IsShallow c → reach_statement c ≤ w → step_of c s ≡ fine y → IsSound s.scope s.slots
         → ArePorts ts s.scope → y.1.slots ≤ m → Formed y
     step_formed (Declare n t) s y low le h ok ports sl =
         let d = declared_parts n t s y h in
@@ -340,13 +343,13 @@ module _ (w m : ℕ) (ts : List TableDecl) where
     step_formed (If t a b) s y low le h ok ports sl =
         let d = forked_parts t a b s y h in
         let g = grows_all a (one_more s) d.first d.first_is in
-        let e = grows_all b (second_at s d.first) d.second d.second_is in
+        let e = grows_optional b (second_at s d.first) d.second d.second_is in
         let last : d.second.1.slots ≤ m = subst (λ (q : Steps × At). q.1.slots ≤ m) (sym d.is) sl in
         let l1 : d.first.1.slots ≤ m = (let x = e.slots in omega (arith, x, last)) in
         let gs = g.slots in
         let cond = one_fits s.scope t d.cond low.0 (omega (arith, le)) (below_of s ok (omega (arith, gs, l1))) d.cond_is in
         let x = steps_formed a (one_more s) d.first low.1 (omega (arith, le)) d.first_is ok ports l1 in
-        let z = steps_formed b (second_at s d.first) d.second low.2 (omega (arith, le)) d.second_is (more_slots s.scope s.slots d.first.1.slots gs ok) ports last in
+        let z = optional_formed b (second_at s d.first) d.second low.2 (omega (arith, le)) d.second_is (more_slots s.scope s.slots d.first.1.slots gs ok) ports last in
         subst Formed d.is (one_formed (steps.If d.cond d.first.0 d.second.0)
         (both_true (is_term w m d.cond) (is_steps w m outs d.first.0 && is_steps w m outs d.second.0) cond (both_true (is_steps w m outs d.first.0) (is_steps w m outs d.second.0) x z)))
 
@@ -363,25 +366,30 @@ module _ (w m : ℕ) (ts : List TableDecl) where
         let z = steps_formed b d.first.1 d.others low.1 (omega (arith, le)) d.others_is (g.sound ok) (g.ports ts ports) last in
         subst Formed d.is (steps_joined d.first.0 d.others.0 x z)
 
+    optional_formed : (o : Optional) (s : At) (y : Steps × At) → AreShallowOptional o → reach_optional o ≤ w → steps_optional o s ≡ fine y
+        → IsSound s.scope s.slots → ArePorts ts s.scope → y.1.slots ≤ m → Formed y
+    optional_formed Unwritten s y low le h ok ports sl = subst Formed (ok_is (Done, s) y h) refl
+    optional_formed (Written b) s y low le h ok ports sl = steps_formed b s y low le h ok ports sl
+
   pub parts_formed : (p : Program) (s : At) (y : Steps × At) (done : List TableDecl) → AreShallowParts p → reach_parts p ≤ w → parts_read p s ≡ fine y
       → IsSound s.scope s.slots → ArePorts ts s.scope → y.1.slots ≤ m
       → ts ≡ done ++ tables_in p → s.tables ≡ length done → Formed y
   parts_formed [] s y done low le h ok ports sl t e = subst Formed (ok_is (Done, s) y h) refl
-  parts_formed (Table n k ∷ ps) s y done low le h ok ports sl t e =
-      let d = split_parts (Table n k) ps s y h in
-      let here = tabled_parts n k s d.first d.first_is in
-      let decl : TableDecl = record { name = n; kind = k } in
+  parts_formed (TableUnit tb ∷ ps) s y done low le h ok ports sl t e =
+      let d = split_parts (TableUnit tb) ps s y h in
+      let here = tabled_parts tb.name (table_kind tb) s d.first d.first_is in
+      let decl : TableDecl = table_decl tb in
       let got : slice_get ts s.tables ≡ Some decl = ap (slice_get ts) e ∙ ap (λ l. slice_get l (length done)) t ∙ got_here done (tables_in ps) decl in
-      let ok2 : IsSound d.first.1.scope d.first.1.slots = subst (λ (q : Steps × At). IsSound q.1.scope q.1.slots) here.is (sound_port n s.tables k s.scope s.slots ok) in
-      let ports2 : ArePorts ts d.first.1.scope = subst (λ (q : Steps × At). ArePorts ts q.1.scope) here.is (ports_new ts n s.tables k s.scope got ports) in
+      let ok2 : IsSound d.first.1.scope d.first.1.slots = subst (λ (q : Steps × At). IsSound q.1.scope q.1.slots) here.is (sound_port tb.name s.tables (table_kind tb) s.scope s.slots ok) in
+      let ports2 : ArePorts ts d.first.1.scope = subst (λ (q : Steps × At). ArePorts ts q.1.scope) here.is (ports_new ts tb.name s.tables (table_kind tb) s.scope got ports) in
       let e2 : d.first.1.tables ≡ length (done ++ decl ∷ []) = ap (λ (q : Steps × At). q.1.tables) (sym here.is) ∙ (let l = length-append done (decl ∷ []) in omega (arith, l, e)) in
       let t2 : ts ≡ (done ++ decl ∷ []) ++ tables_in ps = t ∙ sym (append_assoc done (decl ∷ []) (tables_in ps)) in
       let last : d.others.1.slots ≤ m = subst (λ (q : Steps × At). q.1.slots ≤ m) (sym d.is) sl in
       let x : Formed d.first = subst Formed here.is refl in
       let z = parts_formed ps d.first.1 d.others (done ++ decl ∷ []) low.1 le d.others_is ok2 ports2 last t2 e2 in
       subst Formed d.is (steps_joined d.first.0 d.others.0 x z)
-  parts_formed (Does c ∷ ps) s y done low le h ok ports sl t e =
-      let d = split_parts (Does c) ps s y h in
+  parts_formed (StatementUnit c ∷ ps) s y done low le h ok ports sl t e =
+      let d = split_parts (StatementUnit c) ps s y h in
       let g = grows c s d.first d.first_is in
       let more = parts_slots ps d.first.1 d.others d.others_is in
       let last : d.others.1.slots ≤ m = subst (λ (q : Steps × At). q.1.slots ≤ m) (sym d.is) sl in

@@ -13,7 +13,8 @@ use Rattle.brooklet_model.proofs.Lists.{if_lt, if_ge}
 use Rattle.saw_model.specs.Elaborate.{At, nothing_read}
 use Rattle.saw_model.specs.InTurn.{PlansInTurn}
 use Rattle.saw_model.specs.Plan.{queue_name, queues_of, queue_decls, tally_op}
-use Rattle.saw_model.specs.Source.{Program, tables_in}
+use Rattle.saw_text.specs.Tree.{Program}
+use Rattle.saw_model.specs.Meaning.{tables_in}
 use Rattle.saw_model.proofs.Elaborated.{fine}
 use Rattle.saw_model.proofs.Parts.{parts_read, reads_parts, tables_once}
 use Rattle.saw_model.proofs.Suffixed.{AreOnce}

@@ -13,25 +13,26 @@ use Rattle.work_code.specs.Steps as steps
 use Rattle.work_code.specs.Term.{Term}
 use Rattle.work_code.specs.Term as term
 use Rattle.brooklet_model.proofs.Lists.{if_true, if_false}
-use Rattle.text_forms.specs.Tree.{Spoken}
-use Rattle.text_forms.specs.Tree as tree
-use Rattle.saw_model.specs.Source.{Statement, Declare, Assign, Emit, If, Block, End, Then, Part, Table, Does}
+use Rattle.saw_text.specs.Tree.{Expression}
+use Rattle.saw_text.specs.Tree as tree
+use Rattle.saw_text.specs.Tree.{Statement, Declare, Assign, Emit, If, Block, End, Then, Optional, Unwritten, Written, UnitForm, TableUnit, StatementUnit}
+use Rattle.saw_model.specs.Meaning.{table_kind}
 use Rattle.saw_model.specs.Elaborate.{Fault, UnknownName, NameTwice, Shape, Limit, on_ok, Known as Entry, Var, Port, Scope, find, named, term_of, At}
 use Rattle.saw_model.specs.Elaborate.{counted, has_slot, is_new}
 use Rattle.saw_model.specs.Elaborate.{slot_of, port_of, first_term, indexes_of, keys_in, weight_of, joined, one_step, declared, emitted, step_of}
-use Rattle.saw_model.specs.Elaborate.{steps_of, is_best, tabled}
+use Rattle.saw_model.specs.Elaborate.{steps_of, steps_optional, is_best, tabled}
 use Rattle.saw_model.specs.Elaborate.{part_of}
 use Rattle.saw_model.specs.Faults.{IsTwice, IsMaximum, IsNoBest}
-use Rattle.saw_model.specs.Places.{Mark, Begins, Enters, Leaves, Names, Reads, Foreign, Declares, Local, Sets, Emits, Index, Indexed, Weighted}
+use Rattle.saw_model.specs.Places.{Mark, Begins, Enters, Leaves, Names, Reads, Declares, Local, Sets, Emits, Index, Indexed, Weighted}
 use Rattle.saw_model.specs.Places.{Unweighted, Tables}
-use Rattle.saw_model.specs.Places.{term_marks, value_marks, index_marks, weight_marks, statement_marks, block_marks, part_marks, What, ALocal, ATable}
+use Rattle.saw_model.specs.Places.{term_marks, value_marks, index_marks, weight_marks, statement_marks, block_marks, optional_marks, part_marks, What, ALocal, ATable}
 use Rattle.saw_model.specs.Places.{gives, stays, Known}
 use Rattle.saw_model.specs.Places.{is_statement, is_local, is_table, how_many}
 use Rattle.saw_model.proofs.Marks.{many_append, steady_stays, known_parts, known_first, known_second, known_behind, quiet_alone, IsPlain, IsAlong}
 use Rattle.saw_model.proofs.Marks.{plain_one, along_names}
 use Rattle.saw_model.proofs.Marks.{along_reads, along_declares, along_sets, along_emits, along_index, along_indexed, along_weighted, along_unweighted}
 use Rattle.saw_model.proofs.Marks.{IsBody, plain_none}
-use Rattle.saw_model.proofs.Marks.{plain_body, block_whole, block_body}
+use Rattle.saw_model.proofs.Marks.{plain_body, block_whole, block_body, optional_body}
 use Rattle.saw_model.proofs.Verdicts.{IsFine, fine_by, first_unknown, first_twice, first_shape, first_limit, HasFirst, Verdict, then_read, then_is}
 use Rattle.saw_model.proofs.Verdicts.{next, by_test}
 
@@ -251,7 +252,7 @@ module _ (s : At) where
   )
   name_read b n a (Some (Port p k)) e = inl (first_unknown b (Names n) (λ d. not_local b n p k s a e d))
 
-  term_read : (b : List Mark) (t : Spoken) → IsAt b s → Verdict (λ x u. IsAt x s) b (term_marks t) (term_of s.scope t)
+  term_read : (b : List Mark) (t : Expression) → IsAt b s → Verdict (λ x u. IsAt x s) b (term_marks t) (term_of s.scope t)
   term_read b (tree.Number v) a = (tt, none_at b s a)
   term_read b (tree.Name n) a = name_read b n a (find s.scope n) refl
   term_read b (tree.Input p) a = by_test (λ x u. IsAt x s) b (Reads p ∷ []) (nat_le p 15) (Ok (term.Input p)) (Err Limit)
@@ -260,9 +261,6 @@ module _ (s : At) where
         along_at b (Reads p) s (along_reads p) a,
       ))
       (λ f. inl (first_limit b (Reads p) (λ h. h) (λ h. h) (λ h. h) (leb-false p 15 f)))
-  term_read b (tree.Slot p) a = inl (first_unknown b Foreign tt)
-  term_read b (tree.Peek t) a = inl (first_unknown b Foreign tt)
-  term_read b tree.Pop a = inl (first_unknown b Foreign tt)
   term_read b (tree.Neg t) a =
       then_is (λ x u. IsAt x s) (λ x u. IsAt x s) b (term_marks t) (term_of s.scope t) term.Neg (term_read b t a) (λ u q. q)
   term_read b (tree.Not t) a =
@@ -274,11 +272,11 @@ module _ (s : At) where
       (λ y q. then_is (λ x u. IsAt x s) (λ x u. IsAt x s) (b ++ term_marks l) (term_marks r) (term_of s.scope r) (term.Bin o y)
       (term_read (b ++ term_marks l) r q) (λ u k. k))
 
-  value_read : (b : List Mark) (t : Option Spoken) → IsAt b s → Verdict (λ x u. IsAt x s) b (value_marks t) (first_term t s.scope)
+  value_read : (b : List Mark) (t : Option Expression) → IsAt b s → Verdict (λ x u. IsAt x s) b (value_marks t) (first_term t s.scope)
   value_read b None a = (tt, none_at b s a)
   value_read b (Some t) a = term_read b t a
 
-  indexes_read : (b : List Mark) (n : ℕ) (ts : List Spoken) → IsAt b s → Verdict (λ x u. IsAt x s) b (index_marks n ts) (indexes_of s.scope n ts)
+  indexes_read : (b : List Mark) (n : ℕ) (ts : List Expression) → IsAt b s → Verdict (λ x u. IsAt x s) b (index_marks n ts) (indexes_of s.scope n ts)
   indexes_read b n [] a = (tt, none_at b s a)
   indexes_read b n (t ∷ ts) a =
       let rest = term_marks t ++ index_marks (n + 1) ts in
@@ -295,7 +293,7 @@ module _ (s : At) where
       (λ f. inl (first_limit b (Index (n + 1)) (λ h. h) (λ h. h) (λ h. h) (let ge = ltb-false n 8 f in omega (arith, ge))))
 
   -- a weight that is there
-  weighed : (b : List Mark) (n : Name) (t : Spoken) → IsAt b s → IsFine b (Weighted n)
+  weighed : (b : List Mark) (n : Name) (t : Expression) → IsAt b s → IsFine b (Weighted n)
       → Verdict (λ x u. IsAt x s) b (Weighted n ∷ term_marks t) (on_ok (term_of s.scope t) (λ u. Ok (u ∷ [])))
   weighed b n t a f =
       next (λ x u. IsAt x s) b (Weighted n) (term_marks t) (on_ok (term_of s.scope t) (λ u. Ok (u ∷ []))) f
@@ -306,7 +304,7 @@ module _ (s : At) where
   unweighed : (b : List Mark) (n : Name) → IsAt b s → IsFine b (Unweighted n) → Verdict {A = List Term} (λ x u. IsAt x s) b (Unweighted n ∷ []) (Ok [])
   unweighed b n a f = ((f, tt), along_at b (Unweighted n) s (along_unweighted n) a)
 
-  weight_read : (b : List Mark) (n : Name) (p : ℕ) (k : TableKind) (w : Option Spoken) → IsAt b s → find s.scope n ≡ Some (Port p k)
+  weight_read : (b : List Mark) (n : Name) (p : ℕ) (k : TableKind) (w : Option Expression) → IsAt b s → find s.scope n ≡ Some (Port p k)
       → Verdict (λ x u. IsAt x s) b (weight_marks n w) (weight_of k w s.scope)
   weight_read b n p (Maximum best keys) None a e =
       inl (first_shape b (Unweighted n) (λ h. h) (λ h. h) (Maximum best keys, a.scope.found n (Port p (Maximum best keys)) e, tt))
@@ -337,7 +335,7 @@ begins b ms s g a more = on_test AtEnd b (Begins ∷ ms) (nat_lt s.size 16384) (
     (more (begun_at b s a)))
     (λ f. inl (first_limit b Begins (λ h. h) (λ h. h) (λ h. h) (let ge = ltb-false s.size 16384 f in let e = a.size in omega (arith, ge, e))))
 
-declare_read : (n : Name) (t : Option Spoken) (b : List Mark) (s : At) → IsAt b s → Verdict AtEnd b (statement_marks (Declare n t)) (step_of (Declare n t) s)
+declare_read : (n : Name) (t : Option Expression) (b : List Mark) (s : At) → IsAt b s → Verdict AtEnd b (statement_marks (Declare n t)) (step_of (Declare n t) s)
 declare_read n t b s0 a0 =
     let ms = value_marks t ++ Local n ∷ [] in
     let s = record s0 { size = s0.size + 1 } in
@@ -361,7 +359,7 @@ declare_read n t b s0 a0 =
     (let ge = ltb-false s.slots 256 f in let e = a.slots in omega (arith, ge, e)))))
     (λ e i. inl (first_twice b1 (Declares n) (λ h. h) (what_of e, a.scope.found n e i))))
 
-assign_read : (n : Name) (t : Spoken) (b : List Mark) (s : At) → IsAt b s → Verdict AtEnd b (statement_marks (Assign n t)) (step_of (Assign n t) s)
+assign_read : (n : Name) (t : Expression) (b : List Mark) (s : At) → IsAt b s → Verdict AtEnd b (statement_marks (Assign n t)) (step_of (Assign n t) s)
 assign_read n t b s0 a0 =
     let s = record s0 { size = s0.size + 1 } in
     let b1 = b ++ Begins ∷ [] in
@@ -376,7 +374,7 @@ assign_read n t b s0 a0 =
     (λ p k e. inl (first_unknown b1 (Sets n) (λ d. not_local b1 n p k s a e d))))
 
 -- the values of an emit
-emitted_read : (n : Name) (p : ℕ) (k : TableKind) (i : ℕ) (us : List Term) (v : Spoken) (w : Option Spoken) (b : List Mark) (s : At) → IsAt b s
+emitted_read : (n : Name) (p : ℕ) (k : TableKind) (i : ℕ) (us : List Term) (v : Expression) (w : Option Expression) (b : List Mark) (s : At) → IsAt b s
     → find s.scope n ≡ Some (Port p k)
     → Verdict AtEnd b (Indexed n i ∷ (term_marks v ++ weight_marks n w)) (emitted s (p, k) i us v w)
 emitted_read n p k i us v w b s a e =
@@ -393,7 +391,7 @@ emitted_read n p k i us v w b s a e =
     (weight_read s (b1 ++ term_marks v) n p k w q e) (λ ws z. z))))
     (λ f. inl (first_shape b (Indexed n i) (λ h. h) (λ h. h) (k, a.scope.found n (Port p k) e, eqb-false i (keys_in k) f)))
 
-emit_read : (n : Name) (is : List Spoken) (v : Spoken) (w : Option Spoken) (b : List Mark) (s : At) → IsAt b s
+emit_read : (n : Name) (is : List Expression) (v : Expression) (w : Option Expression) (b : List Mark) (s : At) → IsAt b s
     → Verdict AtEnd b (statement_marks (Emit n is v w)) (step_of (Emit n is v w) s)
 emit_read n is v w b s0 a0 =
     let s = record s0 { size = s0.size + 1 } in
@@ -426,14 +424,14 @@ mutual
       let b3 = b2 ++ Enters ∷ [] in
       let b4 = (b3 ++ block_marks x) ++ Leaves ∷ [] in
       let b5 = b4 ++ Enters ∷ [] in
-      let second = Enters ∷ (block_marks y ++ Leaves ∷ []) in
+      let second = Enters ∷ (optional_marks y ++ Leaves ∷ []) in
       let first = Enters ∷ (block_marks x ++ Leaves ∷ second) in
       let done : Term → Steps × At → Steps × At → Steps × At = λ c p q. (one_step (steps.If c p.0 q.0), record q.1 { scope = s.scope }) in
-      let two : Term → Steps × At → Result (Steps × At) Fault = λ c p. on_ok (steps_of y (record s { slots = p.1.slots; size = p.1.size }))
+      let two : Term → Steps × At → Result (Steps × At) Fault = λ c p. on_ok (steps_optional y (record s { slots = p.1.slots; size = p.1.size }))
       (λ q. Ok (done c p q)) in
       let one : Term → Result (Steps × At) Fault = λ c. on_ok (steps_of x s) (λ p. two c p) in
       begins b (term_marks t ++ first) s0
-      (λ s. on_ok (term_of s.scope t) (λ c. on_ok (steps_of x s) (λ p. on_ok (steps_of y (record s { slots = p.1.slots; size = p.1.size }))
+      (λ s. on_ok (term_of s.scope t) (λ c. on_ok (steps_of x s) (λ p. on_ok (steps_optional y (record s { slots = p.1.slots; size = p.1.size }))
       (λ q. Ok (one_step (steps.If c p.0 q.0), record q.1 { scope = s.scope })))))
       a0
       (λ a. then_read (λ z u. IsAt z s) AtEnd b1 (term_marks t) first (term_of s.scope t) one (term_read s b1 t a)
@@ -448,11 +446,11 @@ mutual
       let t1 = i.tables in
       let j : IsAt b4 s1 = left_at b2 (block_marks x) s p.1 s1 (block_body x) h.scope i refl refl refl (omega (arith, none, m1, m2, t0, t1)) in
       next AtEnd (b3 ++ block_marks x) Leaves second (two c p) (quiet_fine (b3 ++ block_marks x)).1
-      (next AtEnd b4 Enters (block_marks y ++ Leaves ∷ []) (two c p) (quiet_fine b4).0
-      (then_read AtEnd AtEnd b5 (block_marks y) (Leaves ∷ []) (steps_of y s1) (λ q. Ok (done c p q)) (block_read y b5 s1 (entered_at b4 s1 j))
+      (next AtEnd b4 Enters (optional_marks y ++ Leaves ∷ []) (two c p) (quiet_fine b4).0
+      (then_read AtEnd AtEnd b5 (optional_marks y) (Leaves ∷ []) (steps_optional y s1) (λ q. Ok (done c p q)) (optional_read y b5 s1 (entered_at b4 s1 j))
       (λ q k. (
-        ((quiet_fine (b5 ++ block_marks y)).1, tt),
-        left_at b4 (block_marks y) s1 q.1 (record q.1 { scope = s.scope }) (block_body y) j.scope k refl refl refl refl,
+        ((quiet_fine (b5 ++ optional_marks y)).1, tt),
+        left_at b4 (optional_marks y) s1 q.1 (record q.1 { scope = s.scope }) (optional_body y) j.scope k refl refl refl refl,
       ))))))))
 
   pub block_read : (c : Block) (b : List Mark) (s : At) → IsAt b s → Verdict AtEnd b (block_marks c) (steps_of c s)
@@ -462,6 +460,10 @@ mutual
       (statement_read c b s a)
       (λ p h. then_is AtEnd AtEnd (b ++ statement_marks c) (block_marks d) (steps_of d p.1) (λ q. (joined p.0 q.0, q.1))
       (block_read d (b ++ statement_marks c) p.1 h) (λ q k. k))
+
+  optional_read : (o : Optional) (b : List Mark) (s : At) → IsAt b s → Verdict AtEnd b (optional_marks o) (steps_optional o s)
+  optional_read Unwritten b s a = (tt, none_at b s a)
+  optional_read (Written c) b s a = block_read c b s a
 
 -- UNITS
 
@@ -482,9 +484,11 @@ no_best (Maximum best keys) f = ⊎_elim
     (λ e. inr (leb-false best 1000000 e))
     (and_cases (nat_le 1 best) (nat_le best 1000000) f)
 
-pub part_read : (c : Part) (b : List Mark) (s : At) → IsAt b s → Verdict AtEnd b (part_marks c) (part_of c s)
-part_read (Does c) b s a = statement_read c b s a
-part_read (Table n k) b s a =
+pub part_read : (c : UnitForm) (b : List Mark) (s : At) → IsAt b s → Verdict AtEnd b (part_marks c) (part_of c s)
+part_read (StatementUnit c) b s a = statement_read c b s a
+part_read (TableUnit tb) b s a =
+    let n = tb.name in
+    let k = table_kind tb in
     let m = Tables n k in
     let keys : Unit {0} → Result (Steps × At) Fault = λ x. Ok (tabled n k s) in
     on_new AtEnd b (m ∷ []) (find s.scope n)

@@ -3,11 +3,11 @@ use Rattle.std.proofs.Common.{◌≡◌, ℕ, zero, suc, ◌+◌, ◌⊎◌, inl
 use Rattle.std.proofs.Common.{subst, arith, ⊎_elim, append_assoc, append-nil}
 use Rattle.river_plan.specs.Forms.{Name}
 use Rattle.river_plan.specs.Names.{one_if}
-use Rattle.text_forms.specs.Tree.{Spoken}
-use Rattle.text_forms.specs.Tree as tree
-use Rattle.saw_model.specs.Source.{Statement, Declare, Assign, Emit, If, Block, End, Then}
-use Rattle.saw_model.specs.Places.{Mark, Begins, Enters, Leaves, Names, Reads, Foreign, Declares, Local, Sets, Emits, Index, Indexed, Weighted, Unweighted}
-use Rattle.saw_model.specs.Places.{term_marks, value_marks, index_marks, weight_marks, statement_marks, block_marks, What, gives, Turn, In, Out}
+use Rattle.saw_text.specs.Tree.{Expression}
+use Rattle.saw_text.specs.Tree as tree
+use Rattle.saw_text.specs.Tree.{Statement, Declare, Assign, Emit, If, Block, End, Then, Optional, Unwritten, Written}
+use Rattle.saw_model.specs.Places.{Mark, Begins, Enters, Leaves, Names, Reads, Declares, Local, Sets, Emits, Index, Indexed, Weighted, Unweighted}
+use Rattle.saw_model.specs.Places.{term_marks, value_marks, index_marks, weight_marks, statement_marks, block_marks, optional_marks, What, gives, Turn, In, Out}
 use Rattle.saw_model.specs.Places.{Along, turn, past}
 use Rattle.saw_model.specs.Places.{stays, Known, is_statement, is_local, is_table, how_many}
 
@@ -127,9 +127,6 @@ along_names n = record { turn = refl; gives = refl; statement = refl; local = re
 pub along_reads : (n : ℕ) → IsAlong (Reads n)
 along_reads n = record { turn = refl; gives = refl; statement = refl; local = refl; table = refl }
 
-pub along_foreign : IsAlong Foreign
-along_foreign = record { turn = refl; gives = refl; statement = refl; local = refl; table = refl }
-
 pub along_declares : (n : Name) → IsAlong (Declares n)
 along_declares n = record { turn = refl; gives = refl; statement = refl; local = refl; table = refl }
 
@@ -154,28 +151,25 @@ along_unweighted n = record { turn = refl; gives = refl; statement = refl; local
 pub plain_one : (m : Mark) → IsAlong m → IsPlain (m ∷ [])
 plain_one m a = plain_next m [] a plain_none
 
-pub term_plain : (t : Spoken) → IsPlain (term_marks t)
+pub term_plain : (t : Expression) → IsPlain (term_marks t)
 term_plain (tree.Number v) = plain_none
 term_plain (tree.Name n) = plain_one (Names n) (along_names n)
 term_plain (tree.Input p) = plain_one (Reads p) (along_reads p)
-term_plain (tree.Slot p) = plain_one Foreign along_foreign
-term_plain (tree.Peek t) = plain_one Foreign along_foreign
-term_plain tree.Pop = plain_one Foreign along_foreign
 term_plain (tree.Neg t) = term_plain t
 term_plain (tree.Not t) = term_plain t
 term_plain (tree.Bin o l r) = plain_both (term_marks l) (term_marks r) (term_plain l) (term_plain r)
 
-pub value_plain : (t : Option Spoken) → IsPlain (value_marks t)
+pub value_plain : (t : Option Expression) → IsPlain (value_marks t)
 value_plain None = plain_none
 value_plain (Some t) = term_plain t
 
-pub index_plain : (n : ℕ) (ts : List Spoken) → IsPlain (index_marks n ts)
+pub index_plain : (n : ℕ) (ts : List Expression) → IsPlain (index_marks n ts)
 index_plain n [] = plain_none
 index_plain n (t ∷ ts) =
     plain_next (Index (n + 1)) (term_marks t ++ index_marks (n + 1) ts) (along_index (n + 1))
     (plain_both (term_marks t) (index_marks (n + 1) ts) (term_plain t) (index_plain (n + 1) ts))
 
-pub weight_plain : (n : Name) (t : Option Spoken) → IsPlain (weight_marks n t)
+pub weight_plain : (n : Name) (t : Option Expression) → IsPlain (weight_marks n t)
 weight_plain n None = plain_one (Unweighted n) (along_unweighted n)
 weight_plain n (Some t) = plain_next (Weighted n) (term_marks t) (along_weighted n) (term_plain t)
 
@@ -244,12 +238,16 @@ mutual
       (plain_body (Emits n ∷ all)
       (plain_next (Emits n) all (along_emits n) (plain_both (index_marks 0 is) (Indexed n (length is) ∷ last) (index_plain 0 is) more)))
   statement_body (If t a b) =
-      let second = Enters ∷ (block_marks b ++ Leaves ∷ []) in
+      let second = Enters ∷ (optional_marks b ++ Leaves ∷ []) in
       let first = Enters ∷ (block_marks a ++ Leaves ∷ second) in
       begun (term_marks t ++ first)
       (body_both (term_marks t) first (plain_body (term_marks t) (term_plain t))
-      (block_whole (block_marks a) second (block_body a) (block_whole (block_marks b) [] (block_body b) (plain_body [] plain_none))))
+      (block_whole (block_marks a) second (block_body a) (block_whole (optional_marks b) [] (optional_body b) (plain_body [] plain_none))))
 
   pub block_body : (b : Block) → IsBody (block_marks b)
   block_body End = plain_body [] plain_none
   block_body (Then c b) = body_both (statement_marks c) (block_marks b) (statement_body c) (block_body b)
+
+  pub optional_body : (o : Optional) → IsBody (optional_marks o)
+  optional_body Unwritten = plain_body [] plain_none
+  optional_body (Written b) = block_body b

@@ -16,7 +16,8 @@ use Rattle.brooklet_model.specs.Fire.{fire}
 use Rattle.brooklet_model.specs.Histories.{History, lists_of, given, written, inputs_of, hist, all_adds}
 use Rattle.brooklet_model.proofs.Feeds.{one_input}
 use Rattle.kern_tables.specs.Tables.{tab}
-use Rattle.saw_model.specs.Source.{Program, tables_in, width, emits, rows_for, Emitted}
+use Rattle.saw_text.specs.Tree.{Program}
+use Rattle.saw_model.specs.Meaning.{tables_in, width, emits, rows_for, Emitted}
 use Rattle.saw_model.specs.Elaborate.{At, nothing_read}
 use Rattle.saw_model.specs.Plan.{queue_name, queues_of, map_op, body_form, plan_of, as_items}
 use Rattle.saw_model.specs.Laws.{TranslationMeans}

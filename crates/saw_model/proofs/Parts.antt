@@ -11,7 +11,8 @@ use Rattle.river_plan.specs.Forms.{Name, table_names}
 use Rattle.river_plan.specs.Names.{count, one_if}
 use Rattle.river_plan.specs.declared.plan.TableDecl.{TableDecl}
 use Rattle.river_plan.proofs.NameLemmas.{name_same, cases_name}
-use Rattle.saw_model.specs.Source.{Part, Table, Does, Program, tables_in, Now, does, do_parts, fresh, emits, reach_once, reach_parts}
+use Rattle.saw_text.specs.Tree.{UnitForm, TableUnit, StatementUnit, Program}
+use Rattle.saw_model.specs.Meaning.{tables_in, State, exec, exec_units, fresh, emits, reach_statement, reach_parts, table_kind, table_decl}
 use Rattle.saw_model.specs.Elaborate.{Limit, on_ok, demand, Known, Var, Port, Scope, find, At, is_new, keys_in, joined, Read, is_best, tabled, table_of}
 use Rattle.saw_model.specs.Elaborate.{part_of, nothing_read}
 use Rattle.saw_model.specs.Judged.{Refusal, on_fine, in_unit, all_parts}
@@ -69,23 +70,23 @@ tabled_parts n k s y h =
       is = ok_is (tabled n k s) y d.2;
     }
 
-pub record Split (c : Part) (ps : Program) (s : At) (y : Steps × At) : Type 0 where
+pub record Split (c : UnitForm) (ps : Program) (s : At) (y : Steps × At) : Type 0 where
   pub first : Steps × At
   pub first_is : part_of c s ≡ Ok first
   pub others : Steps × At
   pub others_is : parts_read ps first.1 ≡ Ok others
   pub is : (joined first.0 others.0, others.1) ≡ y
 
-pub split_parts : (c : Part) (ps : Program) (s : At) (y : Steps × At) → parts_read (c ∷ ps) s ≡ fine y → Split c ps s y
+pub split_parts : (c : UnitForm) (ps : Program) (s : At) (y : Steps × At) → parts_read (c ∷ ps) s ≡ fine y → Split c ps s y
 split_parts c ps s y h =
     let p = ok_parts (part_of c s) (λ p. on_ok (parts_read ps p.1) (λ q. Ok (joined p.0 q.0, q.1))) y h in
     let q = ok_parts (parts_read ps p.0.1) (λ q. Ok (joined p.0.0 q.0, q.1)) y p.2 in
     record { first = p.0; first_is = p.1; others = q.0; others_is = q.1; is = ok_is _ y q.2 }
 
 -- slots are never given back
-pub part_slots : (c : Part) (s : At) (y : Steps × At) → part_of c s ≡ fine y → s.slots ≤ y.1.slots
-part_slots (Table n k) s y h = let d = tabled_parts n k s y h in subst (λ (q : Steps × At). s.slots ≤ q.1.slots) d.is (omega arith)
-part_slots (Does c) s y h = (grows c s y h).slots
+pub part_slots : (c : UnitForm) (s : At) (y : Steps × At) → part_of c s ≡ fine y → s.slots ≤ y.1.slots
+part_slots (TableUnit tb) s y h = let d = tabled_parts tb.name (table_kind tb) s y h in subst (λ (q : Steps × At). s.slots ≤ q.1.slots) d.is (omega arith)
+part_slots (StatementUnit c) s y h = (grows c s y h).slots
 
 pub parts_slots : (p : Program) (s : At) (y : Steps × At) → parts_read p s ≡ fine y → s.slots ≤ y.1.slots
 parts_slots [] s y h = subst (λ (q : Steps × At). s.slots ≤ q.1.slots) (ok_is (Done, s) y h) (omega arith)
@@ -96,58 +97,58 @@ parts_slots (c ∷ ps) s y h =
     subst (λ (q : Steps × At). s.slots ≤ q.1.slots) d.is (omega (arith, a, b))
 
 -- what is known stays known
-part_keeps : (c : Part) (s : At) (y : Steps × At) → part_of c s ≡ fine y → Keeps s.scope y.1.scope
-part_keeps (Table n k) s y h =
-    let d = tabled_parts n k s y h in subst (λ (q : Steps × At). Keeps s.scope q.1.scope) d.is (keeps_new n (Port s.tables k) s.scope d.new)
-part_keeps (Does c) s y h = (grows c s y h).keeps
+part_keeps : (c : UnitForm) (s : At) (y : Steps × At) → part_of c s ≡ fine y → Keeps s.scope y.1.scope
+part_keeps (TableUnit tb) s y h =
+    let d = tabled_parts tb.name (table_kind tb) s y h in subst (λ (q : Steps × At). Keeps s.scope q.1.scope) d.is (keeps_new tb.name (Port s.tables (table_kind tb)) s.scope d.new)
+part_keeps (StatementUnit c) s y h = (grows c s y h).keeps
 
 -- no table has a known name
 pub not_known : (p : Program) (s : At) (y : Steps × At) (n : Name) (b : Known) → parts_read p s ≡ fine y → find s.scope n ≡ Some b
     → count n (table_names (tables_in p)) ≡ 0
 not_known [] s y n b h f = refl
-not_known (Table m k ∷ ps) s y n b h f =
-    let d = split_parts (Table m k) ps s y h in
-    let t = tabled_parts m k s d.first d.first_is in
-    let more = not_known ps d.first.1 d.others n b d.others_is (part_keeps (Table m k) s d.first d.first_is n b f) in
+not_known (TableUnit tb ∷ ps) s y n b h f =
+    let d = split_parts (TableUnit tb) ps s y h in
+    let t = tabled_parts tb.name (table_kind tb) s d.first d.first_is in
+    let more = not_known ps d.first.1 d.others n b d.others_is (part_keeps (TableUnit tb) s d.first d.first_is n b f) in
     ⊎_elim
     (λ c. absurd (clash (find s.scope n) b (subst (λ x. find s.scope x ≡ None) c.0 t.new) f))
     (λ c. let e = ap one_if c.1 in omega (arith, e, more))
-    (cases_name m n)
+    (cases_name tb.name n)
   where
     clash : (o : Option Known) (b : Known) → o ≡ None → o ≡ Some b → ⊥
     clash o b h g = cc (sym h ∙ g)
-not_known (Does c ∷ ps) s y n b h f =
-    let d = split_parts (Does c) ps s y h in
-    not_known ps d.first.1 d.others n b d.others_is (part_keeps (Does c) s d.first d.first_is n b f)
+not_known (StatementUnit c ∷ ps) s y n b h f =
+    let d = split_parts (StatementUnit c) ps s y h in
+    not_known ps d.first.1 d.others n b d.others_is (part_keeps (StatementUnit c) s d.first d.first_is n b f)
 
 -- each table has a name of its own
 pub tables_once : (p : Program) (s : At) (y : Steps × At) → parts_read p s ≡ fine y → (n : Name) → count n (table_names (tables_in p)) ≤ 1
 tables_once [] s y h n = omega arith
-tables_once (Table m k ∷ ps) s y h n =
-    let d = split_parts (Table m k) ps s y h in
-    let t = tabled_parts m k s d.first d.first_is in
+tables_once (TableUnit tb ∷ ps) s y h n =
+    let d = split_parts (TableUnit tb) ps s y h in
+    let t = tabled_parts tb.name (table_kind tb) s d.first d.first_is in
     let more = tables_once ps d.first.1 d.others d.others_is n in
-    let there : find d.first.1.scope m ≡ Some (Port s.tables k) = subst (λ (q : Steps × At). find q.1.scope m ≡ Some (Port s.tables k)) t.is (found_here m m (Port s.tables k) s.scope (name_same m)) in
+    let there : find d.first.1.scope tb.name ≡ Some (Port s.tables (table_kind tb)) = subst (λ (q : Steps × At). find q.1.scope tb.name ≡ Some (Port s.tables (table_kind tb))) t.is (found_here tb.name tb.name (Port s.tables (table_kind tb)) s.scope (name_same tb.name)) in
     ⊎_elim
     (λ c.
-    let z : count n (table_names (tables_in ps)) ≡ 0 = subst (λ x. count x (table_names (tables_in ps)) ≡ 0) c.0 (not_known ps d.first.1 d.others m (Port s.tables k) d.others_is there) in
+    let z : count n (table_names (tables_in ps)) ≡ 0 = subst (λ x. count x (table_names (tables_in ps)) ≡ 0) c.0 (not_known ps d.first.1 d.others tb.name (Port s.tables (table_kind tb)) d.others_is there) in
     let e = ap one_if c.1 in omega (arith, z, e))
     (λ c. let e = ap one_if c.1 in omega (arith, e, more))
-    (cases_name m n)
-tables_once (Does c ∷ ps) s y h n = let d = split_parts (Does c) ps s y h in tables_once ps d.first.1 d.others d.others_is n
+    (cases_name tb.name n)
+tables_once (StatementUnit c ∷ ps) s y h n = let d = split_parts (StatementUnit c) ps s y h in tables_once ps d.first.1 d.others d.others_is n
 
 -- at most 64 tables
 pub tables_few : (p : Program) (s : At) (y : Steps × At) → parts_read p s ≡ fine y → s.tables ≤ 64 → s.tables + length (tables_in p) ≤ 64
 tables_few [] s y h le = omega (arith, le)
-tables_few (Table m k ∷ ps) s y h le =
-    let d = split_parts (Table m k) ps s y h in
-    let t = tabled_parts m k s d.first d.first_is in
+tables_few (TableUnit tb ∷ ps) s y h le =
+    let d = split_parts (TableUnit tb) ps s y h in
+    let t = tabled_parts tb.name (table_kind tb) s d.first d.first_is in
     let e : d.first.1.tables ≡ s.tables + 1 = ap (λ (q : Steps × At). q.1.tables) (sym t.is) in
     let lt = t.few in
     let more = tables_few ps d.first.1 d.others d.others_is (omega (arith, e, lt)) in
     omega (arith, e, more)
-tables_few (Does c ∷ ps) s y h le =
-    let d = split_parts (Does c) ps s y h in
+tables_few (StatementUnit c ∷ ps) s y h le =
+    let d = split_parts (StatementUnit c) ps s y h in
     let e = (grows c s d.first d.first_is).tables in
     let more = tables_few ps d.first.1 d.others d.others_is (omega (arith, e, le)) in
     omega (arith, e, more)
@@ -184,20 +185,20 @@ module _ (w : ℕ) (r : List ℤ) (ts : List TableDecl) where
       no_var : {i : ℕ} → Some (Port p k) ≡ Some (Var i) → ⊥
       no_var h = cc h
 
-  pub parts_met : (p : Program) (s : At) (y : Steps × At) (now : Now) (mem : List ℤ) (done : List TableDecl) → parts_read p s ≡ fine y → reach_parts p ≤ w
+  pub parts_met : (p : Program) (s : At) (y : Steps × At) (now : State) (mem : List ℤ) (done : List TableDecl) → parts_read p s ≡ fine y → reach_parts p ≤ w
       → Ready w r ts s now mem → y.1.slots ≤ length mem
-      → ts ≡ done ++ tables_in p → s.tables ≡ length done → MetBy w r ts s now (do_parts p r now) y mem
+      → ts ≡ done ++ tables_in p → s.tables ≡ length done → MetBy w r ts s now (exec_units p r now) y mem
   parts_met [] s y now mem done h b k len t e =
       subst (λ (q : Steps × At). MetBy w r ts s now now q mem) (ok_is (Done, s) y h) (none_met w r ts now now s.scope mem refl k.agrees)
-  parts_met (Table n kind ∷ ps) s y now mem done h b k len t e =
-      let d = split_parts (Table n kind) ps s y h in
-      let here = tabled_parts n kind s d.first d.first_is in
-      let decl : TableDecl = record { name = n; kind = kind } in
-      let sc : Scope = (n, Port s.tables kind) ∷ s.scope in
+  parts_met (TableUnit tb ∷ ps) s y now mem done h b k len t e =
+      let d = split_parts (TableUnit tb) ps s y h in
+      let here = tabled_parts tb.name (table_kind tb) s d.first d.first_is in
+      let decl : TableDecl = table_decl tb in
+      let sc : Scope = (tb.name, Port s.tables (table_kind tb)) ∷ s.scope in
       let got : slice_get ts s.tables ≡ Some decl = ap (slice_get ts) e ∙ ap (λ l. slice_get l (length done)) t ∙ got_here done (tables_in ps) decl in
-      let m : MetBy w r ts s now now d.first mem = subst (λ (q : Steps × At). MetBy w r ts s now now q mem) here.is (none_met w r ts now now sc mem refl (agrees_port n s.tables kind s.scope now.values mem k.agrees)) in
+      let m : MetBy w r ts s now now d.first mem = subst (λ (q : Steps × At). MetBy w r ts s now now q mem) here.is (none_met w r ts now now sc mem refl (agrees_port tb.name s.tables (table_kind tb) s.scope now.values mem k.agrees)) in
       let made : At = record s { scope = sc; tables = s.tables + 1 } in
-      let k1 : Ready w r ts made now mem = record { sound = sound_port n s.tables kind s.scope s.slots k.sound; ports = ports_new ts n s.tables kind s.scope got k.ports; agrees = agrees_port n s.tables kind s.scope now.values mem k.agrees } in
+      let k1 : Ready w r ts made now mem = record { sound = sound_port tb.name s.tables (table_kind tb) s.scope s.slots k.sound; ports = ports_new ts tb.name s.tables (table_kind tb) s.scope got k.ports; agrees = agrees_port tb.name s.tables (table_kind tb) s.scope now.values mem k.agrees } in
       let k2 : Ready w r ts d.first.1 now mem = subst (λ (q : Steps × At). Ready w r ts q.1 now mem) here.is k1 in
       let e2 : d.first.1.tables ≡ length (done ++ decl ∷ []) = ap (λ (q : Steps × At). q.1.tables) (sym here.is) ∙ (let l = length-append done (decl ∷ []) in omega (arith, l, e)) in
       let t2 : ts ≡ (done ++ decl ∷ []) ++ tables_in ps = t ∙ sym (append_assoc done (decl ∷ []) (tables_in ps)) in
@@ -205,21 +206,21 @@ module _ (w : ℕ) (r : List ℤ) (ts : List TableDecl) where
       let mem' = (ran d.first.0 (take w r) mem).slots in
       let nothing : mem' ≡ mem = ap (λ (q : Steps × At). (ran q.0 (take w r) mem).slots) (sym here.is) in
       let n' = parts_met ps d.first.1 d.others now mem (done ++ decl ∷ []) d.others_is b k2 last t2 e2 in
-      subst (λ (q : Steps × At). MetBy w r ts s now (do_parts ps r now) q mem) d.is
-      (met_more w r ts now now (do_parts ps r now) d.first.1.scope d.others.1.scope d.first.0 d.others.0 mem m (subst (λ l. MetBy w r ts d.first.1 now (do_parts ps r now) d.others l) (sym nothing) n'))
-  parts_met (Does c ∷ ps) s y now mem done h b k len t e =
-      let d = split_parts (Does c) ps s y h in
+      subst (λ (q : Steps × At). MetBy w r ts s now (exec_units ps r now) q mem) d.is
+      (met_more w r ts now now (exec_units ps r now) d.first.1.scope d.others.1.scope d.first.0 d.others.0 mem m (subst (λ l. MetBy w r ts d.first.1 now (exec_units ps r now) d.others l) (sym nothing) n'))
+  parts_met (StatementUnit c ∷ ps) s y now mem done h b k len t e =
+      let d = split_parts (StatementUnit c) ps s y h in
       let g = grows c s d.first d.first_is in
       let more = parts_slots ps d.first.1 d.others d.others_is in
       let last : d.others.1.slots ≤ length mem = subst (λ (q : Steps × At). q.1.slots ≤ length mem) (sym d.is) len in
-      let b1 : reach_once c ≤ w = omega (arith, b) in
+      let b1 : reach_statement c ≤ w = omega (arith, b) in
       let b2 : reach_parts ps ≤ w = omega (arith, b) in
       let m = met w r ts c s d.first now mem d.first_is b1 k (omega (arith, more, last)) in
       let mem' = (ran d.first.0 (take w r) mem).slots in
       let size : length mem' ≡ length mem = ran_length d.first.0 (take w r) mem in
-      let n = parts_met ps d.first.1 d.others (does c r now) mem' done d.others_is b2 (ready_after w r ts s now (does c r now) d.first mem k g m) (omega (arith, last, size)) t (g.tables ∙ e) in
-      subst (λ (q : Steps × At). MetBy w r ts s now (do_parts (Does c ∷ ps) r now) q mem) d.is
-      (met_more w r ts now (does c r now) (do_parts ps r (does c r now)) d.first.1.scope d.others.1.scope d.first.0 d.others.0 mem m n)
+      let n = parts_met ps d.first.1 d.others (exec c r now) mem' done d.others_is b2 (ready_after w r ts s now (exec c r now) d.first mem k g m) (omega (arith, last, size)) t (g.tables ∙ e) in
+      subst (λ (q : Steps × At). MetBy w r ts s now (exec_units (StatementUnit c ∷ ps) r now) q mem) d.is
+      (met_more w r ts now (exec c r now) (exec_units ps r (exec c r now)) d.first.1.scope d.others.1.scope d.first.0 d.others.0 mem m n)
 
 -- one record: what the body pushes is what the program emits
 pub record_met : (p : Program) (y : Steps × At) (w : ℕ) (r : List ℤ) → parts_read p nothing_read ≡ fine y → reach_parts p ≤ w

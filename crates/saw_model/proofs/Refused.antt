@@ -2,7 +2,7 @@
 use Rattle.std.proofs.Common.{◌≡◌, ℕ, suc, ◌+◌, ◌⊎◌, inl, inr, List, [], ◌∷◌, ◌++◌, length, refl, sym, ap, ◌∙◌, subst, arith, ⊎_elim, append_assoc}
 use Rattle.std.specs.Prelude.{Result, Ok, Err}
 use Rattle.work_code.specs.Steps.{Steps}
-use Rattle.saw_model.specs.Source.{Part, Program}
+use Rattle.saw_text.specs.Tree.{UnitForm, Program}
 use Rattle.saw_model.specs.Elaborate.{Fault, joined, At, part_of, nothing_read}
 use Rattle.saw_model.specs.Judged.{Refusal, on_fine, in_unit, all_parts, judged}
 use Rattle.saw_model.specs.Faults.{IsFirstFault, IsFaultless, IsFaultAt, RefusedAtFirst, AcceptedFaultless}
@@ -20,13 +20,13 @@ abbrev Answers : List Mark → ℕ → Program → Result (Steps × At) Refusal 
 Answers b k ps (Ok read) = AreFine b (program_marks ps)
 Answers b k ps (Err r) = FirstIn b k ps r
 
-later : (b : List Mark) (k : ℕ) (c : Part) (ps : Program) (p : Steps × At) → AreFine b (part_marks c) → (r : Result (Steps × At) Refusal)
+later : (b : List Mark) (k : ℕ) (c : UnitForm) (ps : Program) (p : Steps × At) → AreFine b (part_marks c) → (r : Result (Steps × At) Refusal)
     → Answers (b ++ part_marks c) (suc k) ps r
     → Answers b k (c ∷ ps) (on_fine r (λ q. Ok (joined p.0 q.0, q.1)))
 later b k c ps p f (Ok q) a = fine_both b (part_marks c) (program_marks ps) f a
 later b k c ps p f (Err e) a = inr (f, a)
 
-unit_read : (b : List Mark) (k : ℕ) (c : Part) (ps : Program) (r : Result (Steps × At) Fault) → Verdict AtEnd b (part_marks c) r
+unit_read : (b : List Mark) (k : ℕ) (c : UnitForm) (ps : Program) (r : Result (Steps × At) Fault) → Verdict AtEnd b (part_marks c) r
     → ((s : At) → IsAt (b ++ part_marks c) s → Answers (b ++ part_marks c) (suc k) ps (all_parts (suc k) ps s))
     → Answers b k (c ∷ ps) (in_unit k r (λ p. on_fine (all_parts (suc k) ps p.1) (λ q. Ok (joined p.0 q.0, q.1))))
 unit_read b k c ps (Ok p) v more = later b k c ps p v.0 (all_parts (suc k) ps p.1) (more p.1 v.1)
@@ -43,7 +43,7 @@ program_read p = units_read [] 1 p nothing_read nothing_at
 
 record Told (b : List Mark) (k : ℕ) (ps : Program) (r : Refusal) : Type 0 where
   units : Program
-  unit : Part
+  unit : UnitForm
   others : Program
   parts : ps ≡ units ++ unit ∷ others
   counted : r.unit ≡ length units + k
@@ -104,7 +104,7 @@ fine_parts b [] ns a = (tt, subst (λ x. AreFine x ns) (sym (nil b)) a)
 fine_parts b (m ∷ ms) ns a =
     let r = fine_parts (b ++ m ∷ []) ms ns a.1 in ((a.0, r.0), subst (λ x. AreFine x ns) (append_assoc b (m ∷ []) ms) r.1)
 
-is_told : (b : List Mark) (k : ℕ) (units : Program) (unit : Part) (others : Program) (read : List Mark) (here : Mark) (left : List Mark) (r : Refusal)
+is_told : (b : List Mark) (k : ℕ) (units : Program) (unit : UnitForm) (others : Program) (read : List Mark) (here : Mark) (left : List Mark) (r : Refusal)
     → r.unit ≡ length units + k
     → part_marks unit ≡ read ++ here ∷ left
     → AreFine b (program_marks units ++ read)

@@ -14,14 +14,15 @@ use Rattle.river_plan.specs.Forms.{Name}
 use Rattle.river_plan.specs.declared.plan.TableDecl.{TableDecl}
 use Rattle.river_plan.proofs.NameLemmas.{name_same}
 use Rattle.brooklet_model.specs.Machine.{at_name}
-use Rattle.text_forms.specs.Tree.{Spoken}
-use Rattle.saw_model.specs.Source.{Statement, Declare, Assign, Emit, If, Block, End, Then, said, Now, said_or, said_all, listed, parts_of, does, do_all, reach}
-use Rattle.saw_model.specs.Source.{reach_all, reach_once, reach_block}
+use Rattle.saw_text.specs.Tree.{Expression}
+use Rattle.saw_text.specs.Tree.{Statement, Declare, Assign, Emit, If, Block, End, Then, Optional, Unwritten, Written}
+use Rattle.saw_model.specs.Meaning.{eval, State, eval_or, eval_all, listed, parts_of, exec, exec_block, exec_optional, reach}
+use Rattle.saw_model.specs.Meaning.{reach_all, reach_statement, reach_block, reach_optional}
 use Rattle.saw_model.specs.Elaborate.{Shape, Limit, on_ok, demand, has_slot, Known, Var, Port, Scope, find, term_of, At, is_new, slot_of, port_of, first_term}
-use Rattle.saw_model.specs.Elaborate.{indexes_of, keys_in, weight_of, joined, one_step, Read, declared, emitted, step_of, steps_of}
+use Rattle.saw_model.specs.Elaborate.{indexes_of, keys_in, weight_of, joined, one_step, Read, declared, emitted, step_of, steps_of, steps_optional}
 use Rattle.saw_model.proofs.Elaborated.{fine, ok_is, ok_parts, demanded, room_for, found_here, found_other, Agrees, IsSound, ArePorts, Keeps, agrees_within}
 use Rattle.saw_model.proofs.Elaborated.{more_slots, keeps_new, sound_var, ports_var, agrees_set, term_is, vals, first_is, indexes_are, weight_is}
-use Rattle.saw_model.proofs.Elaborated.{said_all-append, reach-append, Grows, grows_same, grows_trans, grows_back, one_more, counted_on, Met, none_met}
+use Rattle.saw_model.proofs.Elaborated.{eval_all-append, reach-append, Grows, grows_same, grows_trans, grows_back, one_more, counted_on, Met, none_met}
 use Rattle.saw_model.proofs.Elaborated.{met_more, one_ran}
 
 -- THE PARTS OF WHAT IS READ
@@ -40,7 +41,7 @@ port_is_at None t h = absurd (cc h)
 port_is_at (Some (Var j)) t h = absurd (cc h)
 port_is_at (Some (Port p k)) t h = let e = ok_is (p, k) t h in λ i. Some (Port (e i).0 (e i).1)
 
-pub record Declared (n : Name) (t : Option Spoken) (s0 : At) (y : Steps × At) : Type 0 where
+pub record Declared (n : Name) (t : Option Expression) (s0 : At) (y : Steps × At) : Type 0 where
   pub room : nat_lt s0.size 16384 ≡ true
   pub new : find s0.scope n ≡ None
   pub few : nat_lt s0.slots 256 ≡ true
@@ -48,7 +49,7 @@ pub record Declared (n : Name) (t : Option Spoken) (s0 : At) (y : Steps × At) :
   pub value_is : first_term t s0.scope ≡ Ok value
   pub is : (one_step (steps.Set s0.slots value), record (one_more s0) { scope = (n, Var s0.slots) ∷ s0.scope; slots = s0.slots + 1 }) ≡ y
 
-pub declared_parts : (n : Name) (t : Option Spoken) (s0 : At) (y : Steps × At) → step_of (Declare n t) s0 ≡ fine y → Declared n t s0 y
+pub declared_parts : (n : Name) (t : Option Expression) (s0 : At) (y : Steps × At) → step_of (Declare n t) s0 ≡ fine y → Declared n t s0 y
 declared_parts n t s0 y h =
     let f3 : At → Term → Read = λ s v. Ok (declared n s v) in
     let f2 : At → Unit {0} → Read = λ s w. on_ok (first_term t s.scope) (f3 s) in
@@ -66,7 +67,7 @@ declared_parts n t s0 y h =
       is = ok_is _ y b.2;
     }
 
-pub record Assigned (n : Name) (t : Spoken) (s0 : At) (y : Steps × At) : Type 0 where
+pub record Assigned (n : Name) (t : Expression) (s0 : At) (y : Steps × At) : Type 0 where
   pub room : nat_lt s0.size 16384 ≡ true
   pub slot : ℕ
   pub slot_there : find s0.scope n ≡ Some (Var slot)
@@ -74,7 +75,7 @@ pub record Assigned (n : Name) (t : Spoken) (s0 : At) (y : Steps × At) : Type 0
   pub value_is : term_of s0.scope t ≡ Ok value
   pub is : (one_step (steps.Set slot value), one_more s0) ≡ y
 
-pub assigned_parts : (n : Name) (t : Spoken) (s0 : At) (y : Steps × At) → step_of (Assign n t) s0 ≡ fine y → Assigned n t s0 y
+pub assigned_parts : (n : Name) (t : Expression) (s0 : At) (y : Steps × At) → step_of (Assign n t) s0 ≡ fine y → Assigned n t s0 y
 assigned_parts n t s0 y h =
     let f1 : At → Read = λ s. on_ok (slot_of (find s.scope n)) (λ i. on_ok (term_of s.scope t) (λ v. Ok (one_step (steps.Set i v), s))) in
     let c = counted_on s0 f1 y h in
@@ -82,7 +83,7 @@ assigned_parts n t s0 y h =
     let b = ok_parts (term_of s0.scope t) (λ v. Ok (one_step (steps.Set a.0 v), one_more s0)) y a.2 in
     record { room = room_for s0 f1 y h; slot = a.0; slot_there = slot_is (find s0.scope n) a.0 a.1; value = b.0; value_is = b.1; is = ok_is _ y b.2 }
 
-pub record Sent (t : Name) (is : List Spoken) (v : Spoken) (w : Option Spoken) (s0 : At) (y : Steps × At) : Type 0 where
+pub record Sent (t : Name) (is : List Expression) (v : Expression) (w : Option Expression) (s0 : At) (y : Steps × At) : Type 0 where
   pub room : nat_lt s0.size 16384 ≡ true
   pub port : ℕ × TableKind
   pub port_there : find s0.scope t ≡ Some (Port port.0 port.1)
@@ -95,7 +96,7 @@ pub record Sent (t : Name) (is : List Spoken) (v : Spoken) (w : Option Spoken) (
   pub weights_is : weight_of port.1 w s0.scope ≡ Ok weights
   pub made : (one_step (steps.Push port.0 (indexes ++ value ∷ weights)), one_more s0) ≡ y
 
-pub sent_parts : (t : Name) (is : List Spoken) (v : Spoken) (w : Option Spoken) (s0 : At) (y : Steps × At) → step_of (Emit t is v w) s0 ≡ fine y
+pub sent_parts : (t : Name) (is : List Expression) (v : Expression) (w : Option Expression) (s0 : At) (y : Steps × At) → step_of (Emit t is v w) s0 ≡ fine y
     → Sent t is v w s0 y
 sent_parts t is v w s0 y h =
     let f1 : At → Read = λ s. on_ok (port_of (find s.scope t)) (λ p. on_ok (indexes_of s.scope 0 is) (λ us. emitted s p (length is) us v w)) in
@@ -122,26 +123,26 @@ sent_parts t is v w s0 y h =
       made = ok_is _ y f.2;
     }
 
-pub record Forked (t : Spoken) (a b : Block) (s0 : At) (y : Steps × At) : Type 0 where
+pub record Forked (t : Expression) (a : Block) (b : Optional) (s0 : At) (y : Steps × At) : Type 0 where
   pub room : nat_lt s0.size 16384 ≡ true
   pub cond : Term
   pub cond_is : term_of s0.scope t ≡ Ok cond
   pub first : Steps × At
   pub first_is : steps_of a (one_more s0) ≡ Ok first
   pub second : Steps × At
-  pub second_is : steps_of b (record (one_more s0) { slots = first.1.slots; size = first.1.size }) ≡ Ok second
+  pub second_is : steps_optional b (record (one_more s0) { slots = first.1.slots; size = first.1.size }) ≡ Ok second
   pub is : (one_step (steps.If cond first.0 second.0), record second.1 { scope = s0.scope }) ≡ y
 
-pub forked_parts : (t : Spoken) (a b : Block) (s0 : At) (y : Steps × At) → step_of (If t a b) s0 ≡ fine y → Forked t a b s0 y
+pub forked_parts : (t : Expression) (a : Block) (b : Optional) (s0 : At) (y : Steps × At) → step_of (If t a b) s0 ≡ fine y → Forked t a b s0 y
 forked_parts t a b s0 y h =
     let f3 : At → Term → Steps × At → Steps × At → Read = λ s c p q. Ok (one_step (steps.If c p.0 q.0), record q.1 { scope = s.scope }) in
-    let f2 : At → Term → Steps × At → Read = λ s c p. on_ok (steps_of b (record s { slots = p.1.slots; size = p.1.size })) (f3 s c p) in
+    let f2 : At → Term → Steps × At → Read = λ s c p. on_ok (steps_optional b (record s { slots = p.1.slots; size = p.1.size })) (f3 s c p) in
     let f1 : At → Read = λ s. on_ok (term_of s.scope t) (λ c. on_ok (steps_of a s) (f2 s c)) in
     let c = counted_on s0 f1 y h in
     let s = one_more s0 in
     let d = ok_parts (term_of s0.scope t) (λ c. on_ok (steps_of a s) (f2 s c)) y c in
     let e = ok_parts (steps_of a s) (f2 s d.0) y d.2 in
-    let f = ok_parts (steps_of b (record s { slots = e.0.1.slots; size = e.0.1.size })) (f3 s d.0 e.0) y e.2 in
+    let f = ok_parts (steps_optional b (record s { slots = e.0.1.slots; size = e.0.1.size })) (f3 s d.0 e.0) y e.2 in
     record { room = room_for s0 f1 y h; cond = d.0; cond_is = d.1; first = e.0; first_is = e.1; second = f.0; second_is = f.1; is = ok_is _ y f.2 }
 
 pub record Followed (c : Statement) (b : Block) (s : At) (y : Steps × At) : Type 0 where
@@ -179,7 +180,7 @@ mutual
   grows (If t a b) s y h =
       let d = forked_parts t a b s y h in
       let g = grows_all a (one_more s) d.first d.first_is in
-      let k = grows_all b (second_at s d.first) d.second d.second_is in
+      let k = grows_optional b (second_at s d.first) d.second d.second_is in
       subst (λ (q : Steps × At). Grows s q.1) d.is (grows_back s d.second.1 (let m = g.slots in let n = k.slots in omega (arith, m, n)) k.tables)
 
   pub grows_all : (b : Block) (s : At) (y : Steps × At) → steps_of b s ≡ fine y → Grows s y.1
@@ -188,26 +189,30 @@ mutual
       let d = followed_parts c b s y h in
       subst (λ (q : Steps × At). Grows s q.1) d.is (grows_trans s d.first.1 d.others.1 (grows c s d.first d.first_is) (grows_all b d.first.1 d.others d.others_is))
 
+  pub grows_optional : (o : Optional) (s : At) (y : Steps × At) → steps_optional o s ≡ fine y → Grows s y.1
+  grows_optional Unwritten s y h = subst (λ (q : Steps × At). Grows s q.1) (ok_is (Done, s) y h) (grows_same s s refl refl refl)
+  grows_optional (Written b) s y h = grows_all b s y h
+
 -- THE RUN
 
 module _ (w : ℕ) (r : List ℤ) (ts : List TableDecl) where
   -- what is known of the memory before steps
-  pub record Ready (s : At) (now : Now) (mem : List ℤ) : Type 0 where
+  pub record Ready (s : At) (now : State) (mem : List ℤ) : Type 0 where
     pub sound : IsSound s.scope s.slots
     pub ports : ArePorts ts s.scope
     pub agrees : Agrees s.scope now.values mem
 
-  abbrev pub MetBy : At → Now → Now → Steps × At → List ℤ → Type 0
+  abbrev pub MetBy : At → State → State → Steps × At → List ℤ → Type 0
   MetBy s now now' y mem = Met ts now now' y.1.scope (ran y.0 (take w r) mem)
 
-  pub ready_after : (s : At) (now now' : Now) (y : Steps × At) (mem : List ℤ) → Ready s now mem → Grows s y.1 → MetBy s now now' y mem
+  pub ready_after : (s : At) (now now' : State) (y : Steps × At) (mem : List ℤ) → Ready s now mem → Grows s y.1 → MetBy s now now' y mem
       → Ready y.1 now' (ran y.0 (take w r) mem).slots
   ready_after s now now' y mem k g m = record { sound = g.sound k.sound; ports = g.ports ts k.ports; agrees = m.agrees }
 
-  declare_met : (n : Name) (t : Option Spoken) (s : At) (y : Steps × At) (now : Now) (mem : List ℤ) → Declared n t s y → reach_all (listed t) ≤ w
-      → Ready s now mem → y.1.slots ≤ length mem → MetBy s now (does (Declare n t) r now) y mem
+  declare_met : (n : Name) (t : Option Expression) (s : At) (y : Steps × At) (now : State) (mem : List ℤ) → Declared n t s y → reach_all (listed t) ≤ w
+      → Ready s now mem → y.1.slots ≤ length mem → MetBy s now (exec (Declare n t) r now) y mem
   declare_met n t s y now mem d h k len =
-      let z = said_or (pos 0) t r now.values in
+      let z = eval_or (pos 0) t r now.values in
       let value : z ≡ val d.value (take w r) mem = first_is w r t s.scope now.values mem d.value h k.agrees d.value_is in
       let room : s.slots + 1 ≤ length mem = subst (λ (q : Steps × At). q.1.slots ≤ length mem) (sym d.is) len in
       let sc : Scope = (n, Var s.slots) ∷ s.scope in
@@ -215,23 +220,23 @@ module _ (w : ℕ) (r : List ℤ) (ts : List TableDecl) where
       agrees_set n s.slots z sc (s.slots + 1) now.values mem (sound_var n s.scope s.slots k.sound) room (found_here n n (Var s.slots) s.scope (name_same n))
       (λ m j ne f. k.agrees.each m j (sym (found_other n m (Var s.slots) s.scope ne) ∙ f))
       in
-      subst (λ (q : Steps × At). MetBy s now (does (Declare n t) r now) q mem) d.is
-      (none_met w r ts now (does (Declare n t) r now) sc (slice_set mem s.slots (val d.value (take w r) mem)) refl
+      subst (λ (q : Steps × At). MetBy s now (exec (Declare n t) r now) q mem) d.is
+      (none_met w r ts now (exec (Declare n t) r now) sc (slice_set mem s.slots (val d.value (take w r) mem)) refl
       (subst (λ v. Agrees sc (at_name n z now.values) (slice_set mem s.slots v)) value set))
 
-  assign_met : (n : Name) (t : Spoken) (s : At) (y : Steps × At) (now : Now) (mem : List ℤ) → Assigned n t s y → reach t ≤ w → Ready s now mem
-      → s.slots ≤ length mem → MetBy s now (does (Assign n t) r now) y mem
+  assign_met : (n : Name) (t : Expression) (s : At) (y : Steps × At) (now : State) (mem : List ℤ) → Assigned n t s y → reach t ≤ w → Ready s now mem
+      → s.slots ≤ length mem → MetBy s now (exec (Assign n t) r now) y mem
   assign_met n t s y now mem d h k len =
-      let z = said t r now.values in
+      let z = eval t r now.values in
       let value : z ≡ val d.value (take w r) mem = term_is w r s.scope t now.values mem d.value h k.agrees d.value_is in
       let set : Agrees s.scope (at_name n z now.values) (slice_set mem d.slot z) =
       agrees_set n d.slot z s.scope s.slots now.values mem k.sound len d.slot_there (λ m j ne f. k.agrees.each m j f) in
-      subst (λ (q : Steps × At). MetBy s now (does (Assign n t) r now) q mem) d.is
-      (none_met w r ts now (does (Assign n t) r now) s.scope (slice_set mem d.slot (val d.value (take w r) mem)) refl
+      subst (λ (q : Steps × At). MetBy s now (exec (Assign n t) r now) q mem) d.is
+      (none_met w r ts now (exec (Assign n t) r now) s.scope (slice_set mem d.slot (val d.value (take w r) mem)) refl
       (subst (λ v. Agrees s.scope (at_name n z now.values) (slice_set mem d.slot v)) value set))
 
-  emit_met : (t : Name) (is : List Spoken) (v : Spoken) (wt : Option Spoken) (s : At) (y : Steps × At) (now : Now) (mem : List ℤ) → Sent t is v wt s y
-      → reach_all (parts_of is v wt) ≤ w → Ready s now mem → MetBy s now (does (Emit t is v wt) r now) y mem
+  emit_met : (t : Name) (is : List Expression) (v : Expression) (wt : Option Expression) (s : At) (y : Steps × At) (now : State) (mem : List ℤ) → Sent t is v wt s y
+      → reach_all (parts_of is v wt) ≤ w → Ready s now mem → MetBy s now (exec (Emit t is v wt) r now) y mem
   emit_met t is v wt s y now mem d h k =
       let env = now.values in
       let room = reach-append w r is (v ∷ listed wt) h in
@@ -240,11 +245,11 @@ module _ (w : ℕ) (r : List ℤ) (ts : List TableDecl) where
       let us = indexes_are w r s.scope 0 is env mem d.indexes room.0 k.agrees d.indexes_is in
       let u = term_is w r s.scope v env mem d.value b1 k.agrees d.value_is in
       let ws = weight_is w r d.port.1 wt s.scope env mem d.weights b2 k.agrees d.weights_is in
-      let row : said_all (parts_of is v wt) r env ≡ vals w r (d.indexes ++ d.value ∷ d.weights) mem =
-      said_all-append w r is (v ∷ listed wt) env ∙ (λ i. us i ++ (u i ∷ ws i)) ∙ sym (map-append (λ x. val x (take w r) mem) d.indexes (d.value ∷ d.weights)) in
-      subst (λ (q : Steps × At). MetBy s now (does (Emit t is v wt) r now) q mem) d.made (record {
+      let row : eval_all (parts_of is v wt) r env ≡ vals w r (d.indexes ++ d.value ∷ d.weights) mem =
+      eval_all-append w r is (v ∷ listed wt) env ∙ (λ i. us i ++ (u i ∷ ws i)) ∙ sym (map-append (λ x. val x (take w r) mem) d.indexes (d.value ∷ d.weights)) in
+      subst (λ (q : Steps × At). MetBy s now (exec (Emit t is v wt) r now) q mem) d.made (record {
         agrees = k.agrees;
-        new = (t, said_all (parts_of is v wt) r env) ∷ [];
+        new = (t, eval_all (parts_of is v wt) r env) ∷ [];
         emitted_are = refl;
         matches = (d.port.1, k.ports.port t d.port.0 d.port.1 d.port_there, row, tt);
       })
@@ -255,13 +260,13 @@ module _ (w : ℕ) (r : List ℤ) (ts : List TableDecl) where
     step true = m
     step false = n
 
-  within : (now now' : Now) (sc sc' : Scope) (run : Ran) → Keeps sc sc' → Met ts now now' sc' run → Met ts now now' sc run
+  within : (now now' : State) (sc sc' : Scope) (run : Ran) → Keeps sc sc' → Met ts now now' sc' run → Met ts now now' sc run
   within now now' sc sc' run k m =
       record { agrees = agrees_within sc sc' now'.values run.slots k m.agrees; new = m.new; emitted_are = m.emitted_are; matches = m.matches }
 
   mutual
-    pub met : (c : Statement) (s : At) (y : Steps × At) (now : Now) (mem : List ℤ) → step_of c s ≡ fine y → reach_once c ≤ w → Ready s now mem
-        → y.1.slots ≤ length mem → MetBy s now (does c r now) y mem
+    pub met : (c : Statement) (s : At) (y : Steps × At) (now : State) (mem : List ℤ) → step_of c s ≡ fine y → reach_statement c ≤ w → Ready s now mem
+        → y.1.slots ≤ length mem → MetBy s now (exec c r now) y mem
     met (Declare n t) s y now mem h b k len = declare_met n t s y now mem (declared_parts n t s y h) b k len
     met (Assign n t) s y now mem h b k len =
         assign_met n t s y now mem (assigned_parts n t s y h) b k (let g = (grows (Assign n t) s y h).slots in omega (arith, g, len))
@@ -269,25 +274,25 @@ module _ (w : ℕ) (r : List ℤ) (ts : List TableDecl) where
     met (If t a o) s y now mem h b k len =
         let d = forked_parts t a o s y h in
         let g = grows_all a (one_more s) d.first d.first_is in
-        let e = grows_all o (second_at s d.first) d.second d.second_is in
+        let e = grows_optional o (second_at s d.first) d.second d.second_is in
         let last : d.second.1.slots ≤ length mem = subst (λ (q : Steps × At). q.1.slots ≤ length mem) (sym d.is) len in
         let l1 : d.first.1.slots ≤ length mem = (let x = e.slots in omega (arith, x, last)) in
         let b1 : reach t ≤ w = omega (arith, b) in
         let b2 : reach_block a ≤ w = omega (arith, b) in
-        let b3 : reach_block o ≤ w = omega (arith, b) in
+        let b3 : reach_optional o ≤ w = omega (arith, b) in
         let cond = term_is w r s.scope t now.values mem d.cond b1 k.agrees d.cond_is in
         let k1 : Ready (one_more s) now mem = record { sound = k.sound; ports = k.ports; agrees = k.agrees } in
         let k2 : Ready (second_at s d.first) now mem = record { sound = more_slots s.scope s.slots d.first.1.slots g.slots k.sound; ports = k.ports; agrees = k.agrees } in
-        let m1 = within now (do_all a r now) s.scope d.first.1.scope (ran d.first.0 (take w r) mem) g.keeps (met_all a (one_more s) d.first now mem d.first_is b2 k1 l1) in
-        let m2 = within now (do_all o r now) s.scope d.second.1.scope (ran d.second.0 (take w r) mem) e.keeps (met_all o (second_at s d.first) d.second now mem d.second_is b3 k2 last) in
-        let both : Met ts now (does (If t a o) r now) s.scope (ran_once (steps.If d.cond d.first.0 d.second.0) (take w r) mem) =
-        if_met (λ n q. Met ts now n s.scope q) (is_true (said t r now.values)) (is_true (val d.cond (take w r) mem)) (do_all a r now) (do_all o r now) (ran d.first.0 (take w r) mem) (ran d.second.0 (take w r) mem) (ap is_true cond) m1 m2
+        let m1 = within now (exec_block a r now) s.scope d.first.1.scope (ran d.first.0 (take w r) mem) g.keeps (met_all a (one_more s) d.first now mem d.first_is b2 k1 l1) in
+        let m2 = within now (exec_optional o r now) s.scope d.second.1.scope (ran d.second.0 (take w r) mem) e.keeps (met_optional o (second_at s d.first) d.second now mem d.second_is b3 k2 last) in
+        let both : Met ts now (exec (If t a o) r now) s.scope (ran_once (steps.If d.cond d.first.0 d.second.0) (take w r) mem) =
+        if_met (λ n q. Met ts now n s.scope q) (is_true (eval t r now.values)) (is_true (val d.cond (take w r) mem)) (exec_block a r now) (exec_optional o r now) (ran d.first.0 (take w r) mem) (ran d.second.0 (take w r) mem) (ap is_true cond) m1 m2
         in
-        subst (λ (q : Steps × At). MetBy s now (does (If t a o) r now) q mem) d.is
-        (subst (Met ts now (does (If t a o) r now) s.scope) (one_ran (steps.If d.cond d.first.0 d.second.0) (take w r) mem) both)
+        subst (λ (q : Steps × At). MetBy s now (exec (If t a o) r now) q mem) d.is
+        (subst (Met ts now (exec (If t a o) r now) s.scope) (one_ran (steps.If d.cond d.first.0 d.second.0) (take w r) mem) both)
 
-    pub met_all : (b : Block) (s : At) (y : Steps × At) (now : Now) (mem : List ℤ) → steps_of b s ≡ fine y → reach_block b ≤ w → Ready s now mem
-        → y.1.slots ≤ length mem → MetBy s now (do_all b r now) y mem
+    pub met_all : (b : Block) (s : At) (y : Steps × At) (now : State) (mem : List ℤ) → steps_of b s ≡ fine y → reach_block b ≤ w → Ready s now mem
+        → y.1.slots ≤ length mem → MetBy s now (exec_block b r now) y mem
     met_all End s y now mem h b k len =
         subst (λ (q : Steps × At). MetBy s now now q mem) (ok_is (Done, s) y h) (none_met w r ts now now s.scope mem refl k.agrees)
     met_all (Then c o) s y now mem h b k len =
@@ -296,11 +301,17 @@ module _ (w : ℕ) (r : List ℤ) (ts : List TableDecl) where
         let e = grows_all o d.first.1 d.others d.others_is in
         let last : d.others.1.slots ≤ length mem = subst (λ (q : Steps × At). q.1.slots ≤ length mem) (sym d.is) len in
         let l1 : d.first.1.slots ≤ length mem = (let x = e.slots in omega (arith, x, last)) in
-        let b1 : reach_once c ≤ w = omega (arith, b) in
+        let b1 : reach_statement c ≤ w = omega (arith, b) in
         let b2 : reach_block o ≤ w = omega (arith, b) in
         let m = met c s d.first now mem d.first_is b1 k l1 in
         let mem' = (ran d.first.0 (take w r) mem).slots in
         let size : length mem' ≡ length mem = ran_length d.first.0 (take w r) mem in
-        let n = met_all o d.first.1 d.others (does c r now) mem' d.others_is b2 (ready_after s now (does c r now) d.first mem k g m) (omega (arith, last, size)) in
-        subst (λ (q : Steps × At). MetBy s now (do_all (Then c o) r now) q mem) d.is
-        (met_more w r ts now (does c r now) (do_all o r (does c r now)) d.first.1.scope d.others.1.scope d.first.0 d.others.0 mem m n)
+        let n = met_all o d.first.1 d.others (exec c r now) mem' d.others_is b2 (ready_after s now (exec c r now) d.first mem k g m) (omega (arith, last, size)) in
+        subst (λ (q : Steps × At). MetBy s now (exec_block (Then c o) r now) q mem) d.is
+        (met_more w r ts now (exec c r now) (exec_block o r (exec c r now)) d.first.1.scope d.others.1.scope d.first.0 d.others.0 mem m n)
+
+    pub met_optional : (o : Optional) (s : At) (y : Steps × At) (now : State) (mem : List ℤ) → steps_optional o s ≡ fine y → reach_optional o ≤ w → Ready s now mem
+        → y.1.slots ≤ length mem → MetBy s now (exec_optional o r now) y mem
+    met_optional Unwritten s y now mem h b k len =
+        subst (λ (q : Steps × At). MetBy s now now q mem) (ok_is (Done, s) y h) (none_met w r ts now now s.scope mem refl k.agrees)
+    met_optional (Written o) s y now mem h b k len = met_all o s y now mem h b k len

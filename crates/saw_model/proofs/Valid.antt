@@ -28,8 +28,11 @@ use Rattle.river_plan.specs.Kinds.{kind_in, kind_of, table_in, var_kind, FitsAt}
 use Rattle.river_plan.specs.Limits.{most_of, numbers, port_numbers, kernel_numbers, nestings, best_rows}
 use Rattle.river_plan.specs.Valid.{IsPlan}
 use Rattle.river_plan.proofs.NameLemmas.{cases_name, name_same}
-use Rattle.saw_model.specs.Source.{Program, tables_in, width, reach_parts}
-use Rattle.saw_model.specs.Source as source
+use Rattle.saw_text.specs.Tree.{TableUnit, StatementUnit}
+use Rattle.saw_model.specs.Meaning.{table_kind}
+use Rattle.saw_text.specs.Tree.{Program}
+use Rattle.saw_model.specs.Meaning.{tables_in, width, reach_parts}
+use Rattle.saw_model.specs.Meaning as source
 use Rattle.saw_model.specs.Elaborate.{At, Known, Var, Port, find, keys_in, is_best, nothing_read}
 use Rattle.saw_model.specs.Plan.{queue_name, queues_of, queue_decls, tally_op, map_op, plan_of}
 use Rattle.saw_model.specs.Shallow.{AreShallowParts}
@@ -148,11 +151,11 @@ good_kind (Maximum best keys) b h =
 
 goods : (p : Program) (s : At) (y : Steps × At) → parts_read p s ≡ fine y → AreGood (tables_in p)
 goods [] s y h = tt
-goods (source.Table n k ∷ ps) s y h =
-    let d = split_parts (source.Table n k) ps s y h in
-    let t = tabled_parts n k s d.first d.first_is in
-    (good_kind k t.best t.keys, goods ps d.first.1 d.others d.others_is)
-goods (source.Does c ∷ ps) s y h = let d = split_parts (source.Does c) ps s y h in goods ps d.first.1 d.others d.others_is
+goods (TableUnit tb ∷ ps) s y h =
+    let d = split_parts (TableUnit tb) ps s y h in
+    let t = tabled_parts tb.name (table_kind tb) s d.first d.first_is in
+    (good_kind (table_kind tb) t.best t.keys, goods ps d.first.1 d.others d.others_is)
+goods (StatementUnit c ∷ ps) s y h = let d = split_parts (StatementUnit c) ps s y h in goods ps d.first.1 d.others d.others_is
 
 good_there : (ts : List TableDecl) (i : ℕ) (t : TableDecl) → AreGood ts → slice_get ts i ≡ Some t → IsGood t.kind
 good_there [] i t h g = absurd (cc g)

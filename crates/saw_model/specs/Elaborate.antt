@@ -9,9 +9,10 @@ use Rattle.work_code.specs.Steps as steps
 use Rattle.kern_tables.specs.declared.kind.TableKind.{TableKind}
 use Rattle.kern_tables.specs.declared.kind.TableKind.TheVariants.{Sum, Collection, Maximum}
 use Rattle.river_plan.specs.Forms.{Name}
-use Rattle.text_forms.specs.Tree.{Spoken}
-use Rattle.text_forms.specs.Tree as tree
-use Rattle.saw_model.specs.Source.{Statement, Declare, Assign, Emit, If, Block, End, Then, Part, Table, Does}
+use Rattle.saw_text.specs.Tree.{Expression}
+use Rattle.saw_text.specs.Tree as tree
+use Rattle.saw_text.specs.Tree.{Statement, Declare, Assign, Emit, If, Block, End, Then, Optional, Unwritten, Written, UnitForm, TableUnit, StatementUnit}
+use Rattle.saw_model.specs.Meaning.{table_kind, table_decl}
 
 -- why a program is refused
 pub data Fault : Type 0 where
@@ -46,13 +47,10 @@ named None = Err UnknownName
 named (Some (Var i)) = Ok (term.Slot i)
 named (Some (Port p k)) = Err UnknownName
 
-abbrev pub term_of : Scope → Spoken → Result Term Fault
+abbrev pub term_of : Scope → Expression → Result Term Fault
 term_of sc (tree.Number v) = Ok (term.Const (pos v))
 term_of sc (tree.Name n) = named (find sc n)
 term_of sc (tree.Input p) = if nat_le p 15 then Ok (term.Input p) else Err Limit
-term_of sc (tree.Slot p) = Err UnknownName
-term_of sc (tree.Peek t) = Err UnknownName
-term_of sc tree.Pop = Err UnknownName
 term_of sc (tree.Neg t) = on_ok (term_of sc t) (λ a. Ok (term.Neg a))
 term_of sc (tree.Not t) = on_ok (term_of sc t) (λ a. Ok (term.Not a))
 term_of sc (tree.Bin o l r) = on_ok (term_of sc l) (λ a. on_ok (term_of sc r) (λ b. Ok (term.Bin o a b)))
@@ -86,12 +84,12 @@ port_of None = Err UnknownName
 port_of (Some (Var i)) = Err UnknownName
 port_of (Some (Port p k)) = Ok (p, k)
 
-abbrev pub first_term : Option Spoken → Scope → Result Term Fault
+abbrev pub first_term : Option Expression → Scope → Result Term Fault
 first_term None sc = Ok (term.Const (pos 0))
 first_term (Some t) sc = term_of sc t
 
 -- index expressions, the first of which is number n
-abbrev pub indexes_of : Scope → ℕ → List Spoken → Result (List Term) Fault
+abbrev pub indexes_of : Scope → ℕ → List Expression → Result (List Term) Fault
 indexes_of sc n [] = Ok []
 indexes_of sc n (t ∷ ts) = if nat_lt n 8 then on_ok (term_of sc t) (λ u. on_ok (indexes_of sc (n + 1) ts) (λ us. Ok (u ∷ us))) else Err Limit
 
@@ -101,7 +99,7 @@ keys_in (Collection keys) = keys
 keys_in (Maximum best keys) = keys
 
 -- a maximum has a weight, and no other table has one
-abbrev pub weight_of : TableKind → Option Spoken → Scope → Result (List Term) Fault
+abbrev pub weight_of : TableKind → Option Expression → Scope → Result (List Term) Fault
 weight_of (Maximum best keys) None sc = Err Shape
 weight_of (Maximum best keys) (Some t) sc = on_ok (term_of sc t) (λ u. Ok (u ∷ []))
 weight_of (Sum keys) None sc = Ok []
@@ -124,7 +122,7 @@ abbrev pub declared : Name → At → Term → Steps × At
 declared n s v = (one_step (steps.Set s.slots v), record s { scope = (n, Var s.slots) ∷ s.scope; slots = s.slots + 1 })
 
 -- the push of an emit of n indexes: whether the table has so many keys, then the value, then the weight
-abbrev pub emitted : At → ℕ × TableKind → ℕ → List Term → Spoken → Option Spoken → Read
+abbrev pub emitted : At → ℕ × TableKind → ℕ → List Term → Expression → Option Expression → Read
 emitted s t n us v w =
     on_ok (demand (nat_eq n (keys_in t.1)) Shape) (λ x.
     on_ok (term_of s.scope v) (λ u.
@@ -141,11 +139,15 @@ abbrev mutual
   step_of (If t a b) s0 =
       on_ok (counted s0) (λ s. on_ok (term_of s.scope t) (λ c.
       on_ok (steps_of a s) (λ p.
-      on_ok (steps_of b (record s { slots = p.1.slots; size = p.1.size })) (λ q. Ok (one_step (steps.If c p.0 q.0), record q.1 { scope = s.scope })))))
+      on_ok (steps_optional b (record s { slots = p.1.slots; size = p.1.size })) (λ q. Ok (one_step (steps.If c p.0 q.0), record q.1 { scope = s.scope })))))
 
   pub steps_of : Block → At → Read
   steps_of End s = Ok (Done, s)
   steps_of (Then c b) s = on_ok (step_of c s) (λ p. on_ok (steps_of b p.1) (λ q. Ok (joined p.0 q.0, q.1)))
+
+  pub steps_optional : Optional → At → Read
+  steps_optional Unwritten s = Ok (Done, s)
+  steps_optional (Written b) s = steps_of b s
 
 -- a maximum keeps 1 to 1,000,000 rows for each key
 abbrev pub is_best : TableKind → Bool
@@ -164,9 +166,9 @@ table_of n k s =
     on_ok (demand (is_best k) Limit) (λ w.
     on_ok (demand (nat_le (keys_in k) 8) Limit) (λ x. Ok (tabled n k s)))))
 
-abbrev pub part_of : Part → At → Read
-part_of (Table n k) s = table_of n k s
-part_of (Does c) s = step_of c s
+abbrev pub part_of : UnitForm → At → Read
+part_of (TableUnit tb) s = table_of tb.name (table_kind tb) s
+part_of (StatementUnit c) s = step_of c s
 
 -- before all units
 abbrev pub nothing_read : At

@@ -5,17 +5,16 @@ use Rattle.kern_tables.specs.declared.kind.TableKind.{TableKind}
 use Rattle.kern_tables.specs.declared.kind.TableKind.TheVariants.{Sum, Collection, Maximum}
 use Rattle.saw_model.specs.Elaborate.{Fault, UnknownName, NameTwice, Shape, Limit, At, keys_in}
 use Rattle.saw_model.specs.Judged.{Refusal, judged}
-use Rattle.saw_model.specs.Places.{Mark, Begins, Names, Reads, Foreign, Declares, Sets, Emits, Index, Indexed, Weighted, Unweighted, Tables, What}
+use Rattle.saw_model.specs.Places.{Mark, Begins, Names, Reads, Declares, Sets, Emits, Index, Indexed, Weighted, Unweighted, Tables, What}
 use Rattle.saw_model.specs.Places.{ALocal, ATable}
 use Rattle.saw_model.specs.Places.{Known, is_statement, is_local, is_table, how_many, part_marks, program_marks}
-use Rattle.saw_model.specs.Source.{Part, Program}
+use Rattle.saw_text.specs.Tree.{UnitForm, Program}
 
 -- a value's name or a name that is set is no known local, or the name behind emit is no table that is declared above
 abbrev pub IsUnknown : List Mark → Mark → Type 0
 IsUnknown before (Names n) = Known before n ALocal → ⊥
 IsUnknown before (Sets n) = Known before n ALocal → ⊥
 IsUnknown before (Emits n) = (k : TableKind) → Known before n (ATable k) → ⊥
-IsUnknown before Foreign = Unit {0}
 IsUnknown before m = ⊥
 
 -- a name that is known there is declared again
@@ -77,7 +76,7 @@ IsFaultless text = (before : List Mark) (m : Mark) (after : List Mark) → text 
 -- the first place of the program that has a fault stands in this unit, counted from 1, and this is its first fault
 pub record IsFaultAt (p : Program) (number : ℕ) (f : Fault) : Type 0 where
   pub units : Program
-  pub unit : Part
+  pub unit : UnitForm
   pub others : Program
   pub parts : p ≡ units ++ unit ∷ others
   pub counted : number ≡ length units + 1

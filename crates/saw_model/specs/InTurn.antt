@@ -5,7 +5,7 @@ use Rattle.river_plan.specs.InTurn.{IsInTurn}
 use Rattle.saw_model.specs.Elaborate.{At}
 use Rattle.saw_model.specs.Judged.{judged}
 use Rattle.saw_model.specs.Plan.{plan_of}
-use Rattle.saw_model.specs.Source.{Program}
+use Rattle.saw_text.specs.Tree.{Program}
 
 -- the plan of a program that is accepted has this order
 abbrev pub PlansInTurn : Type 0

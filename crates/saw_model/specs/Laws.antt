@@ -3,7 +3,8 @@ use Rattle.std.specs.Prelude.{◌≡◌, ℤ, List, [], ◌∷◌, map, take, Ok
 use Rattle.work_code.specs.Steps.{Steps}
 use Rattle.river_plan.specs.Valid.{IsPlan}
 use Rattle.brooklet_model.specs.Meaning.{meaning}
-use Rattle.saw_model.specs.Source.{Program, width, program_tables}
+use Rattle.saw_text.specs.Tree.{Program}
+use Rattle.saw_model.specs.Meaning.{width, program_tables}
 use Rattle.saw_model.specs.Elaborate.{At}
 use Rattle.saw_model.specs.Judged.{judged}
 use Rattle.saw_model.specs.Plan.{plan_of, as_items}

@@ -3,9 +3,10 @@ use Rattle.std.specs.Prelude.{◌≡◌, ◌⊎◌, ℕ, zero, suc, ◌+◌, Boo
 use Rattle.kern_tables.specs.declared.kind.TableKind.{TableKind}
 use Rattle.river_plan.specs.Forms.{Name}
 use Rattle.river_plan.specs.Names.{one_if}
-use Rattle.text_forms.specs.Tree.{Spoken}
-use Rattle.text_forms.specs.Tree as tree
-use Rattle.saw_model.specs.Source.{Statement, Declare, Assign, Emit, If, Block, End, Then, Part, Table, Does, Program}
+use Rattle.saw_text.specs.Tree.{Expression}
+use Rattle.saw_text.specs.Tree as tree
+use Rattle.saw_text.specs.Tree.{Statement, Declare, Assign, Emit, If, Block, End, Then, Optional, Unwritten, Written, UnitForm, TableUnit, StatementUnit, Program}
+use Rattle.saw_model.specs.Meaning.{table_kind}
 
 -- WHAT IS READ
 
@@ -14,10 +15,9 @@ pub data Mark : Type 0 where
   Begins : Mark
   Enters : Mark
   Leaves : Mark
-  -- in an expression a name, input[N], or a leaf that no text of Sawzall has
+  -- in an expression a name, and input[N]
   Names : Name → Mark
   Reads : ℕ → Mark
-  Foreign : Mark
   -- the name of a local that is declared; behind its first value the local is there
   Declares : Name → Mark
   Local : Name → Mark
@@ -33,28 +33,25 @@ pub data Mark : Type 0 where
   -- a table
   Tables : Name → TableKind → Mark
 
-abbrev pub term_marks : Spoken → List Mark
+abbrev pub term_marks : Expression → List Mark
 term_marks (tree.Number v) = []
 term_marks (tree.Name n) = Names n ∷ []
 term_marks (tree.Input p) = Reads p ∷ []
-term_marks (tree.Slot p) = Foreign ∷ []
-term_marks (tree.Peek t) = Foreign ∷ []
-term_marks tree.Pop = Foreign ∷ []
 term_marks (tree.Neg t) = term_marks t
 term_marks (tree.Not t) = term_marks t
 term_marks (tree.Bin o l r) = term_marks l ++ term_marks r
 
 -- the first value of a local
-abbrev pub value_marks : Option Spoken → List Mark
+abbrev pub value_marks : Option Expression → List Mark
 value_marks None = []
 value_marks (Some t) = term_marks t
 
 -- the indexes of an emit, behind n others
-abbrev pub index_marks : ℕ → List Spoken → List Mark
+abbrev pub index_marks : ℕ → List Expression → List Mark
 index_marks n [] = []
 index_marks n (t ∷ ts) = Index (n + 1) ∷ (term_marks t ++ index_marks (n + 1) ts)
 
-abbrev pub weight_marks : Name → Option Spoken → List Mark
+abbrev pub weight_marks : Name → Option Expression → List Mark
 weight_marks n None = Unweighted n ∷ []
 weight_marks n (Some t) = Weighted n ∷ term_marks t
 
@@ -63,15 +60,20 @@ abbrev mutual
   statement_marks (Declare n t) = Begins ∷ Declares n ∷ (value_marks t ++ Local n ∷ [])
   statement_marks (Assign n t) = Begins ∷ Sets n ∷ term_marks t
   statement_marks (Emit n is v w) = Begins ∷ Emits n ∷ (index_marks 0 is ++ Indexed n (length is) ∷ (term_marks v ++ weight_marks n w))
-  statement_marks (If t a b) = Begins ∷ (term_marks t ++ Enters ∷ (block_marks a ++ Leaves ∷ Enters ∷ (block_marks b ++ Leaves ∷ [])))
+  statement_marks (If t a b) = Begins ∷ (term_marks t ++ Enters ∷ (block_marks a ++ Leaves ∷ Enters ∷ (optional_marks b ++ Leaves ∷ [])))
 
   pub block_marks : Block → List Mark
   block_marks End = []
   block_marks (Then c b) = statement_marks c ++ block_marks b
 
-abbrev pub part_marks : Part → List Mark
-part_marks (Table n k) = Tables n k ∷ []
-part_marks (Does c) = statement_marks c
+  -- a missing `else` is an empty block
+  pub optional_marks : Optional → List Mark
+  optional_marks Unwritten = []
+  optional_marks (Written b) = block_marks b
+
+abbrev pub part_marks : UnitForm → List Mark
+part_marks (TableUnit tb) = Tables tb.name (table_kind tb) ∷ []
+part_marks (StatementUnit c) = statement_marks c
 
 -- the places of a program, in reading order
 abbrev pub program_marks : Program → List Mark

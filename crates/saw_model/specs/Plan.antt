@@ -11,7 +11,8 @@ use Rattle.river_plan.specs.declared.plan.Decl.{Decl}
 use Rattle.river_plan.specs.declared.plan.TableDecl.{TableDecl}
 use Rattle.river_plan.specs.Forms.{Name, OpForm, PlanForm}
 use Rattle.river_plan.specs.Kinds.{table_width}
-use Rattle.saw_model.specs.Source.{Program, tables_in, width}
+use Rattle.saw_text.specs.Tree.{Program}
+use Rattle.saw_model.specs.Meaning.{tables_in, width}
 use Rattle.saw_model.specs.Elaborate.{At}
 
 abbrev pub queue_name : Name → Name

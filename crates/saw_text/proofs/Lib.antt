@@ -1,9 +1,5 @@
-pub mod Blocks
-pub mod Ended
+pub mod Lines
 pub mod Lists
-pub mod Owned
-pub mod Statements
 pub mod Texts
 pub mod Trees
 pub mod Units
-pub mod Wholes

@@ -10,12 +10,18 @@ use Rattle.text_forms.proofs.Exact.{exact-maybe, exact-number, exact-nothing}
 use Rattle.text_forms.proofs.Many.{exact-many}
 use Rattle.text_forms.proofs.Choices.{exact-never, exact-choose, exact-headed}
 use Rattle.saw_text.specs.declared.tree.Kind.TheVariants.{Sum, Collection, Maximum}
-use Rattle.saw_text.specs.Tree.{ATable, AStatement}
-use Rattle.saw_text.specs.Grammar.{is_user, Count, Round, Square, nameless, with_name, IsField, IsKind, is_fitting, made_table, IsTable, TypedAfter, UnitNamed}
+use Rattle.saw_text.specs.Tree.{TableUnit, StatementUnit}
+use Rattle.saw_text.specs.Grammar.{Count, nameless, with_name, IsField, IsKind, is_fitting, made_table, IsTable, TypedAfter, UnitNamed}
 use Rattle.saw_text.specs.Grammar.{IsUnit, IsUnitAt}
-use Rattle.saw_text.specs.Reading.{branch_at, no_bracket, named_field_at, field_after, field_at, column_at, columns_at, best_at, kind_after, kind_at}
+use Rattle.saw_text.specs.Reading.{named_field_at, field_after, field_at, column_at, columns_at, best_at, kind_after, kind_at}
 use Rattle.saw_text.specs.Reading.{weight_field_at, in_table_at, table_at, typed_after, typed_at, unit_named, unit_after, unit_at, unit_from}
-use Rattle.saw_text.proofs.Statements.{exact-round, exact-square, exact-declare, exact-assign, listed-squares, NoElse, exact-if, exact-stmt_after, exact-block}
+use Rattle.text_blocks.specs.Exact.{NoElse}
+use Rattle.text_blocks.specs.Parts.{Round, Square, round_at, square_at}
+use Rattle.text_blocks.proofs.Parts.{exact-round, exact-square}
+use Rattle.text_blocks.proofs.Statements.{exact-rest}
+use Rattle.saw_text.specs.Blocks.{no_bracket}
+use Rattle.saw_text.specs.Words.{is_user}
+use Rattle.saw_text.specs.ExactStatements.{exact-declare, exact-assign, listed-squares, exact-sawzall}
 
 exact-named_field : (w : List ℕ)
     → Exact (form.Seen (with_name w) (form.After (s.Colon ∷ []) (form.AfterWord (codes "int") (form.Nothing tt)))) (named_field_at w) Any
@@ -59,21 +65,21 @@ exact-table w n =
 exact-typed : (w : List ℕ) (n : ℕ) → Exact (form.Headed (TypedAfter w n)) (typed_at w n) Any
 unfolding typed_at typed_after
 exact-typed w n =
-    exact-headed (λ v. exact-choose (bytes_eq v (codes "table")) (exact-seen ATable (exact-table w n))
-    (exact-choose (bytes_eq v (codes "int")) (exact-seen AStatement (exact-declare w n)) exact-never))
+    exact-headed (λ v. exact-choose (bytes_eq v (codes "table")) (exact-seen TableUnit (exact-table w n))
+    (exact-choose (bytes_eq v (codes "int")) (exact-seen StatementUnit (exact-declare w n)) exact-never))
 
 exact-unit_named : (w : List ℕ) (n : ℕ) → Exact (UnitNamed w n) (unit_named w n) Any
 unfolding unit_named
 exact-unit_named w n =
-    exact-less (exact-merged (parse.begins_with s.Colon) (exact-after (s.Colon ∷ []) (exact-typed w n)) (exact-seen AStatement (exact-assign w n))
+    exact-less (exact-merged (parse.begins_with s.Colon) (exact-after (s.Colon ∷ []) (exact-typed w n)) (exact-seen StatementUnit (exact-assign w n))
     (λ v ts rest h d. rw h.is refl) (λ v ts rest h d. rw h.formed.formed.is refl)) (λ rest d. (tt, tt))
 
 -- a unit
 pub exact-unit : Exact IsUnit unit_at NoElse
-unfolding unit_at unit_after branch_at
+unfolding unit_at unit_after
 exact-unit =
     exact-headed (λ w. exact-choose (is_user w) (exact-less (exact-unit_named w 128) (λ rest d. tt))
-    (exact-seen AStatement (exact-stmt_after (exact-if (exact-block 15) 128) 128 w)))
+    (exact-seen StatementUnit (exact-rest exact-sawzall 16 128 w)))
 
 pub exact-unit_from : (u : Unit {0}) → Exact (IsUnitAt u) (unit_from u) NoElse
 exact-unit_from u = exact-unit

@@ -1,98 +1,119 @@
--- What the tree of a program stands for.
-use Rattle.std.specs.Prelude.{ℕ, List, [], ◌∷◌, map, length, Option, Some, None}
-use Rattle.kern_tables.specs.declared.kind.TableKind.{TableKind}
-use Rattle.kern_tables.specs.declared.kind.TableKind.TheVariants as kind
-use Rattle.river_plan.specs.Forms.{Name}
-use Rattle.text_forms.specs.Tree.{Spoken}
-use Rattle.text_forms.specs.Tree as spoken
-use Rattle.saw_model.specs.Source as source
+-- Sawzall programs as trees, without their places in memory.
+use Rattle.std.specs.Prelude.{ℕ, suc, max, List, [], ◌∷◌, map, Option, Some, None}
+use Rattle.work_code.specs.declared.expr.BinOp.{BinOp}
+use Rattle.text_blocks.specs.Parts.{optional}
 use Rattle.saw_text.specs.declared.tree.Expr.{Expr, fold-Expr}
 use Rattle.saw_text.specs.declared.tree.Expr.TheOpen.{Expr-F}
 use Rattle.saw_text.specs.declared.tree.Expr.TheOpen as part
-use Rattle.saw_text.specs.declared.tree.Statement.{Statement, fold-Statement}
+use Rattle.saw_text.specs.declared.tree.Statement as made
 use Rattle.saw_text.specs.declared.tree.Statement.TheOpen.{Statement-F, Block-F}
 use Rattle.saw_text.specs.declared.tree.Statement.TheOpen as layer
-use Rattle.saw_text.specs.declared.tree.Block.{Block, fold-Block}
+use Rattle.saw_text.specs.declared.tree.Statement.{fold-Statement}
+use Rattle.saw_text.specs.declared.tree.Block as made_block
+use Rattle.saw_text.specs.declared.tree.Block.{fold-Block}
 use Rattle.saw_text.specs.declared.tree.Kind.{Kind}
-use Rattle.saw_text.specs.declared.tree.Kind.TheVariants as code
 use Rattle.saw_text.specs.declared.tree.Field.{Field}
-use Rattle.saw_text.specs.declared.tree.Table.{Table}
+use Rattle.saw_text.specs.declared.tree.Table as made_table
 use Rattle.saw_text.specs.declared.tree.Unit as unit
 use Rattle.saw_text.specs.declared.tree.Unit.TheVariants as unit_of
 
--- one layer of an expression, whose parts are trees already
-abbrev pub said_at : Expr-F Spoken → Spoken
-said_at (part.Number value) = spoken.Number value
-said_at (part.Name text) = spoken.Name text
-said_at (part.Input place) = spoken.Input place
-said_at (part.Neg x) = spoken.Neg x.value
-said_at (part.Not x) = spoken.Not x.value
-said_at (part.Bin op l r) = spoken.Bin op l.value r.value
+pub data Expression : Type 0 where
+  Number : ℕ → Expression
+  Name : List ℕ → Expression
+  Input : ℕ → Expression
+  Neg : Expression → Expression
+  Not : Expression → Expression
+  Bin : BinOp → Expression → Expression → Expression
 
-abbrev pub said : Expr → Spoken
-said e = fold-Expr Spoken said_at e
+-- a leaf is 1 deep
+abbrev pub depth_of : Expression → ℕ
+depth_of (Number value) = 1
+depth_of (Name text) = 1
+depth_of (Input place) = 1
+depth_of (Neg t) = suc (depth_of t)
+depth_of (Not t) = suc (depth_of t)
+depth_of (Bin o a b) = suc (max (depth_of a) (depth_of b))
 
-abbrev pub option_said : Option Expr → Option Spoken
-option_said None = None
-option_said (Some e) = Some (said e)
+mutual
+  pub data Statement : Type 0 where
+    Declare : List ℕ → Option Expression → Statement
+    Assign : List ℕ → Expression → Statement
+    -- the table, the indexes, the value, the weight
+    Emit : List ℕ → List Expression → Expression → Option Expression → Statement
+    If : Expression → Block → Optional → Statement
 
--- the statements, one after another
-abbrev pub in_turn : List source.Statement → source.Block
-in_turn [] = source.End
-in_turn (s ∷ ss) = source.Then s (in_turn ss)
+  pub data Block : Type 0 where
+    End : Block
+    Then : Statement → Block → Block
 
--- a block that is not written is an empty one
-abbrev pub or_end : Option source.Block → source.Block
-or_end None = source.End
-or_end (Some b) = b
+  -- what may be written behind `else`
+  pub data Optional : Type 0 where
+    Unwritten : Optional
+    Written : Block → Optional
 
-abbrev pub statement_at : Statement-F source.Statement source.Block → source.Statement
-statement_at (layer.Declare name value) = source.Declare name (option_said value)
-statement_at (layer.Assign name value) = source.Assign name (said value)
-statement_at (layer.Emit table indexes value weight) = source.Emit table (map said indexes.items) (said value) (option_said weight)
-statement_at (layer.If cond one two) = source.If (said cond) one (or_end two)
-
-abbrev pub block_at : Block-F source.Statement source.Block → source.Block
-block_at all = in_turn all.statements.items
-
-abbrev pub statement : Statement → source.Statement
-statement s = fold-Statement source.Statement source.Block statement_at block_at s
-
-abbrev pub block : Block → source.Block
-block b = fold-Block source.Statement source.Block statement_at block_at b
-
--- a table as it is written
+-- a table
 pub record TableForm : Type 0 where
-  pub name : Name
+  pub name : List ℕ
   pub kind : Kind
   pub indexes : List Field
   pub value : Field
   pub weight : Option Field
 
-abbrev pub table_form : Table → TableForm
+-- a unit: a table, or a statement
+pub data UnitForm : Type 0 where
+  TableUnit : TableForm → UnitForm
+  StatementUnit : Statement → UnitForm
+
+abbrev pub Program : Type 0
+Program = List UnitForm
+
+-- WHAT THE CODE'S TREES STAND FOR
+
+-- one layer of an expression, whose parts are trees already
+abbrev pub expression_at : Expr-F Expression → Expression
+expression_at (part.Number value) = Number value
+expression_at (part.Name text) = Name text
+expression_at (part.Input place) = Input place
+expression_at (part.Neg x) = Neg x.value
+expression_at (part.Not x) = Not x.value
+expression_at (part.Bin op l r) = Bin op l.value r.value
+
+abbrev pub expression : Expr → Expression
+expression e = fold-Expr Expression expression_at e
+
+abbrev pub option_expression : Option Expr → Option Expression
+option_expression e = optional expression e
+
+-- the statements, one after another
+abbrev pub in_turn : List Statement → Block
+in_turn [] = End
+in_turn (s ∷ ss) = Then s (in_turn ss)
+
+abbrev pub or_unwritten : Option Block → Optional
+or_unwritten None = Unwritten
+or_unwritten (Some b) = Written b
+
+abbrev pub statement_at : Statement-F Statement Block → Statement
+statement_at (layer.Declare name value) = Declare name (option_expression value)
+statement_at (layer.Assign name value) = Assign name (expression value)
+statement_at (layer.Emit table indexes value weight) = Emit table (map expression indexes.items) (expression value) (option_expression weight)
+statement_at (layer.If cond one two) = If (expression cond) one (or_unwritten two)
+
+abbrev pub block_at : Block-F Statement Block → Block
+block_at all = in_turn all.statements.items
+
+abbrev pub statement : made.Statement → Statement
+statement s = fold-Statement Statement Block statement_at block_at s
+
+abbrev pub block : made_block.Block → Block
+block b = fold-Block Statement Block statement_at block_at b
+
+abbrev pub table_form : made_table.Table → TableForm
 table_form t = record { name = t.name; kind = t.kind; indexes = t.indexes.items; value = t.value; weight = t.weight }
 
--- a unit as it is written
-pub data UnitForm : Type 0 where
-  ATable : TableForm → UnitForm
-  AStatement : source.Statement → UnitForm
-
 abbrev pub unit_form : unit.Unit → UnitForm
-unit_form (unit_of.Table t) = ATable (table_form t)
-unit_form (unit_of.Statement s) = AStatement (statement s)
+unit_form (unit_of.Table t) = TableUnit (table_form t)
+unit_form (unit_of.Statement s) = StatementUnit (statement s)
 
-abbrev pub unit_forms : List unit.Unit → List UnitForm
+abbrev pub unit_forms : List unit.Unit → Program
 unit_forms us = map unit_form us
-
--- the names of fields mean nothing: a table has as many keys as it has indexes
-abbrev pub kind_of : Kind → ℕ → TableKind
-kind_of code.Sum keys = kind.Sum keys
-kind_of code.Collection keys = kind.Collection keys
-kind_of (code.Maximum best) keys = kind.Maximum best keys
-
-abbrev pub part_of : UnitForm → source.Part
-part_of (ATable t) = source.Table t.name (kind_of t.kind (length t.indexes))
-part_of (AStatement s) = source.Does s
-
-abbrev pub program_of : List UnitForm → source.Program
-program_of us = map part_of us

@@ -5,12 +5,11 @@ ghost use Rattle.saw_text.specs.Grammar.{is_maximum};
 ghost use Rattle.saw_text.specs.Reading.{named_field_at, field_at, column_at, columns_at, best_at, kind_at, weight_field_at, in_table_at, table_at};
 ghost use Rattle.saw_text.specs.Tree.{table_form};
 
-use crate::end::{closed, is};
-use crate::term::user;
+use crate::names::user;
 use crate::{Field, Kind, Table};
 use river_base::Name;
 use std::alloc::Global;
-use text_forms::{Fault, Reader};
+use text_forms::{Fault, Reader, closed, is};
 use work_code::Symbol;
 
 // What stands behind the name of a field.
@@ -39,7 +38,7 @@ fn field(reader: &mut Reader<'_>) -> Result<Field, Fault>
 }
 
 // A field in square brackets.
-#[tactic(auto, unfolding(crate::specs::Reading::column_at))]
+#[tactic(auto, unfolding(crate::specs::Reading::column_at, text_blocks::specs::Parts::square_at))]
 fn column(reader: &mut Reader<'_>, brackets: u32) -> Result<Field, Fault>
     ensures { Gives (λ f. f) result reader.new (column_at brackets reader.old) }
 {
@@ -63,7 +62,7 @@ fn columns(reader: &mut Reader<'_>, alloc: Global, brackets: u32) -> Result<Vec<
 }
 
 // How many rows a maximum keeps, in brackets.
-#[tactic(auto, unfolding(crate::specs::Reading::best_at))]
+#[tactic(auto, unfolding(crate::specs::Reading::best_at, text_blocks::specs::Parts::round_at))]
 fn best(reader: &mut Reader<'_>, brackets: u32) -> Result<u32, Fault>
     ensures { Gives (λ n. n) result reader.new (best_at brackets reader.old) }
 {

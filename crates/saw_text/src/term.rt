@@ -1,130 +1,161 @@
-// Names and expressions read.
-ghost use Rattle.std.specs.Prelude.{◌≡◌, SomeIff, IsTrue, IfOk};
+// Expressions read.
+ghost use Rattle.std.specs.Prelude.{◌≡◌, IfOk};
 ghost use Rattle.text_forms.specs.Gives.{Gives};
-ghost use Rattle.text_forms.specs.Tree.{spoken};
-ghost use Rattle.saw_text.specs.Grammar.{is_user, is_written};
-ghost use Rattle.saw_text.specs.Reading.{user_name_at, term_at, ended_at, round_term_at, index_at};
-ghost use Rattle.saw_text.specs.Tree.{said};
-ghost use Rattle.saw_text.specs.View.{IsOwn};
+ghost use Rattle.saw_text.specs.Expressions.{place_at, named, leaf_at, term_at};
+ghost use Rattle.saw_text.specs.Tree.{expression, depth_of};
 
 use crate::Expr;
-use crate::end::closed;
-use river_base::{Name, NoMemory};
+use crate::names::user;
+use river_base::NoMemory;
 use std::alloc::Global;
-use text_forms::{Fault, Language, Reader, Tree};
-use work_code::Symbol;
+use text_blocks::{Exprs, Sign, take_operator, take_sign};
+use text_forms::{Dialect, Fault, Form, Reader, is, read};
+use work_code::{BinOp, Symbol, Token};
 
-/// The name that a word is, where users may give it.
-pub fn user(word: &[u8]) -> Option<Name>
-    ensures { SomeIff result (IsTrue (is_user word.now)) word.now }
+// A number in square brackets.
+#[tactic(auto, unfolding(crate::specs::Expressions::place_at))]
+fn place(reader: &mut Reader<'_>, brackets: u32) -> Result<u32, Fault>
+    ensures { Gives (λ value. value) result reader.new (place_at brackets reader.old) }
 {
-    if Language::Sawzall.is_plain(word) {
-        Name::from_slice(word)
-    } else {
-        None
-    }
+    reader.opens(Symbol::OpenBracket, brackets)?;
+    let value = reader.count()?;
+    reader.expect(&[Symbol::CloseBracket])?;
+    Ok(value)
 }
 
-/// A name that users may give.
-#[tactic(auto, unfolding(crate::specs::Reading::user_name_at))]
-pub fn user_name(reader: &mut Reader<'_>) -> Result<Name, Fault>
-    ensures { Gives (λ name. name) result reader.new (user_name_at reader.old) }
+// A leaf that begins with this name.
+#[tactic(auto, unfolding(crate::specs::Expressions::named))]
+fn named(reader: &mut Reader<'_>, brackets: u32, text: &[u8]) -> Result<Expr, Fault>
+    ensures reads { Gives expression result reader.new (named brackets text.now reader.old) }
+    ensures depth { IfOk result (λ e. depth_of (expression e) ≡ 1) }
 {
-    let word = reader.name()?;
-    match user(word) {
-        Some(name) => Ok(name),
+    if is(text, b"input") {
+        return Ok(Expr::Input(place(reader, brackets)?));
+    }
+    match user(text) {
+        Some(name) => Ok(Expr::Name(name)),
         None => Err(Fault::Syntax),
     }
 }
 
-// Whether the numbers and the names of the expression are such.
-fn is_written(tree: &Tree<'_>) -> bool
-    ensures { result ≡ is_written (spoken tree.now) }
+// A number, a name, or a field of the record.
+fn leaf(reader: &mut Reader<'_>, brackets: u32) -> Result<Expr, Fault>
+    ensures reads { Gives expression result reader.new (leaf_at brackets reader.old) }
+    ensures depth { IfOk result (λ e. depth_of (expression e) ≡ 1) }
 {
-    match tree {
-        Tree::Number(value) => *value <= 9_223_372_036_854_775_807,
-        Tree::Name(text) => Name::from_slice(text).is_some(),
-        Tree::Input(_) => true,
-        Tree::Slot(_) | Tree::Peek(_) | Tree::Pop => false,
-        Tree::Neg(inner) | Tree::Not(inner) => is_written(inner),
-        Tree::Bin { left, right, .. } => is_written(left) && is_written(right),
+    match reader.peek() {
+        Some(Token::Number(value)) => {
+            if value > 9_223_372_036_854_775_807 {
+                return Err(Fault::Syntax);
+            }
+            reader.skip();
+            Ok(Expr::Number(value))
+        }
+        Some(Token::Name(text)) => {
+            reader.skip();
+            named(reader, brackets, text)
+        }
+        _ => Err(Fault::Syntax),
     }
 }
 
-// The expression with names of its own, in a box.
-#[cycle(owned)]
-fn boxed(alloc: Global, tree: &Tree<'_>) -> Result<Box<Expr>, NoMemory>
-    requires { IsOwn (spoken tree.now) }
-    ensures { IfOk result (λ boxed. said boxed.value ≡ spoken tree.now) }
-{
-    Ok(Box::new(alloc, owned(alloc, tree)?)?)
-}
+/// The language, for the readers of expressions and of statements of any language.
+pub struct Sawzall;
 
-// The expression with names of its own.
-#[cycle(owned)]
-fn owned(alloc: Global, tree: &Tree<'_>) -> Result<Expr, NoMemory>
-    requires { IsOwn (spoken tree.now) }
-    ensures { IfOk result (λ e. said e ≡ spoken tree.now) }
-{
-    match tree {
-        Tree::Number(value) => Ok(Expr::Number(*value)),
-        Tree::Name(text) => match Name::from_slice(text) {
-            Some(name) => Ok(Expr::Name(name)),
-            None => unreachable!(),
-        },
-        Tree::Input(place) => Ok(Expr::Input(*place)),
-        Tree::Slot(_) | Tree::Peek(_) | Tree::Pop => unreachable!(),
-        Tree::Neg(inner) => Ok(Expr::Neg(boxed(alloc, inner)?)),
-        Tree::Not(inner) => Ok(Expr::Not(boxed(alloc, inner)?)),
-        Tree::Bin { op, left, right } => {
-            let left = boxed(alloc, left)?;
-            let right = boxed(alloc, right)?;
-            Ok(Expr::Bin {
-                op: *op,
-                left,
-                right,
-            })
+impl<'a> Dialect<Reader<'a>> for Sawzall {
+    ghost use Rattle.std.specs.Prelude.{length, ◌≤◌};
+    ghost use Rattle.text_forms.specs.Lines.{line_of, form_of};
+    ghost use Rattle.saw_text.specs.Expressions.{syntax, deepest, leaf_at};
+    ghost use Rattle.saw_text.specs.Tree.{Expression, expression};
+
+    type Tree = Expr;
+
+    type Operator = BinOp;
+
+    type Sign = Sign;
+
+    ghost Plain = { Expression };
+
+    ghost view = { expression };
+
+    ghost syntax = { λ _. syntax };
+
+    ghost leaf = { λ _. leaf_at };
+
+    ghost deeper = { λ _. deepest };
+
+    fn height(&self) -> u32
+        ensures all { result ≡ length syntax.lines }
+        ensures few { result ≤ 16 }
+    {
+        7
+    }
+
+    #[tactic(auto, using(crate::proofs::Lines::forms))]
+    fn form(&self, line: u32) -> Form
+        ensures { result ≡ form_of (line_of syntax.lines line) }
+    {
+        if line == 0 {
+            Form::Prefix
+        } else if line < 7 {
+            Form::Chain
+        } else {
+            Form::Once
         }
     }
-}
 
-/// An expression.
-#[tactic(auto, using(crate::proofs::Owned::terms))]
-pub fn term(reader: &mut Reader<'_>, alloc: Global, brackets: u32) -> Result<Expr, Fault>
-    ensures { Gives said result reader.new (term_at brackets reader.old) }
-{
-    let tree = reader.expression(alloc, Language::Sawzall, brackets)?;
-    if !is_written(&tree) {
-        return Err(Fault::Syntax);
+    #[tactic(auto, using(crate::proofs::Lines::operators))]
+    fn operator(&self, reader: &mut Reader<'a>, line: u32) -> Option<BinOp> {
+        take_operator(reader, line)
     }
-    Ok(owned(alloc, &tree)?)
+
+    #[tactic(auto, using(crate::proofs::Lines::signs))]
+    fn sign(&self, reader: &mut Reader<'a>, line: u32) -> Option<Sign> {
+        if line == 0 { take_sign(reader) } else { None }
+    }
+
+    #[tactic(auto, using(crate::proofs::Lines::calls))]
+    fn call(&self, _reader: &mut Reader<'a>) -> Option<Sign> {
+        None
+    }
+
+    fn leaf(&self, reader: &mut Reader<'a>, brackets: u32) -> Result<Expr, Fault> {
+        leaf(reader, brackets)
+    }
+
+    fn mark(&self, alloc: Global, sign: Sign, tree: Expr) -> Result<Expr, NoMemory>
+        ensures { IfOk result (λ t. expression t ≡ syntax.mark sign (expression tree)) }
+    {
+        let inner = Box::new(alloc, tree)?;
+        Ok(match sign {
+            Sign::Neg => Expr::Neg(inner),
+            Sign::Not => Expr::Not(inner),
+        })
+    }
+
+    fn join(&self, alloc: Global, op: BinOp, left: Expr, right: Expr) -> Result<Expr, NoMemory>
+        ensures { IfOk result (λ t. expression t ≡ syntax.join op (expression left) (expression right)) }
+    {
+        let left = Box::new(alloc, left)?;
+        let right = Box::new(alloc, right)?;
+        Ok(Expr::Bin { op, left, right })
+    }
 }
 
-/// `e;`
-#[tactic(auto, unfolding(crate::specs::Reading::ended_at))]
-pub fn ended(reader: &mut Reader<'_>, alloc: Global, brackets: u32) -> Result<Expr, Fault>
-    ensures { Gives said result reader.new (ended_at brackets reader.old) }
-{
-    let term = term(reader, alloc, brackets)?;
-    closed(reader, term, Symbol::Semicolon)
-}
+impl Exprs for Sawzall {
+    ghost use Rattle.saw_text.specs.Expressions.{term_at};
+    ghost use Rattle.saw_text.specs.Tree.{Expression, expression};
 
-/// `(e)`
-#[tactic(auto, unfolding(crate::specs::Reading::round_term_at))]
-pub fn round_term(reader: &mut Reader<'_>, alloc: Global, brackets: u32) -> Result<Expr, Fault>
-    ensures { Gives said result reader.new (round_term_at brackets reader.old) }
-{
-    let inner = reader.opens(Symbol::Open, brackets)?;
-    let term = term(reader, alloc, inner)?;
-    closed(reader, term, Symbol::Close)
-}
+    type Expr = Expr;
 
-/// `[e]`
-#[tactic(auto, unfolding(crate::specs::Reading::index_at))]
-pub fn index(reader: &mut Reader<'_>, alloc: Global, brackets: u32) -> Result<Expr, Fault>
-    ensures { Gives said result reader.new (index_at brackets reader.old) }
-{
-    let inner = reader.opens(Symbol::OpenBracket, brackets)?;
-    let term = term(reader, alloc, inner)?;
-    closed(reader, term, Symbol::CloseBracket)
+    ghost ExprTree = { Expression };
+
+    ghost expr_tree = { expression };
+
+    ghost expr = { λ _. term_at };
+
+    #[tactic(auto, unfolding(crate::specs::Expressions::term_at))]
+    fn expr(&self, reader: &mut Reader<'_>, alloc: Global, brackets: u32) -> Result<Expr, Fault> {
+        read(self, reader, alloc, brackets)
+    }
 }

@@ -1,21 +1,19 @@
 // Units read.
 ghost use Rattle.std.specs.Prelude.{◌≡◌};
-ghost use Rattle.work_code.specs.Tok.{tokens_of};
 ghost use Rattle.text_forms.specs.Gives.{Gives};
-ghost use Rattle.text_forms.specs.Texts.{whole};
 ghost use Rattle.saw_text.specs.Reading.{typed_at, unit_named, unit_at};
 ghost use Rattle.saw_text.specs.Tree.{unit_form};
-ghost use Rattle.saw_text.specs.View.{Makes};
 
 use crate::Unit;
-use crate::end::{is, kept};
-use crate::statement::{assign, declare, stmt_after};
+use crate::names::user;
+use crate::statement::{assign, declare};
 use crate::table::table;
-use crate::term::user;
+use crate::term::Sawzall;
 use river_base::Name;
 use std::alloc::Global;
-use text_forms::{Fault, Reader};
-use work_code::{Lexeme, Symbol};
+use text_blocks::rest;
+use text_forms::{Fault, Reader, Units, is};
+use work_code::Symbol;
 
 // What stands behind `NAME:`.
 #[tactic(auto, unfolding(crate::specs::Reading::typed_at, crate::specs::Reading::typed_after))]
@@ -52,17 +50,23 @@ fn unit(reader: &mut Reader<'_>, alloc: Global) -> Result<Unit, Fault>
     let word = reader.name()?;
     match user(word) {
         Some(name) => named(reader, alloc, 128, name),
-        None => Ok(Unit::Statement(stmt_after(reader, alloc, 16, 128, word)?)),
+        None => Ok(Unit::Statement(rest(&Sawzall, reader, alloc, 16, 128, word)?)),
     }
 }
 
-/// The unit that whole tokens stand for.
-#[tactic(auto, using(crate::proofs::Wholes::whole_none))]
-pub fn whole_unit(alloc: Global, tokens: &[Lexeme<'_>]) -> Result<Unit, Fault>
-    ensures { Makes unit_form result (whole unit_at (tokens_of tokens.now)) }
-{
-    let mut reader = Reader::new(tokens);
-    let unit = unit(&mut reader, alloc)?;
-    let whole = reader.is_at_end();
-    kept(unit, whole)
+impl Units for Sawzall {
+    ghost use Rattle.saw_text.specs.Reading.{unit_at};
+    ghost use Rattle.saw_text.specs.Tree.{UnitForm, unit_form};
+
+    type Unit = Unit;
+
+    ghost UnitTree = { UnitForm };
+
+    ghost unit_tree = { unit_form };
+
+    ghost unit = { λ _. unit_at };
+
+    fn unit(&self, reader: &mut Reader<'_>, alloc: Global) -> Result<Unit, Fault> {
+        unit(reader, alloc)
+    }
 }

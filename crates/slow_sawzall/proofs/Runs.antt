@@ -4,79 +4,84 @@ use Rattle.std.proofs.Common.{ap, ◌∙◌, subst, arith, append_assoc, append-
 use Rattle.std.proofs.lemmas.Int.{to_z-of_z}
 use Rattle.std.specs.Prelude.{if◌then◌else◌}
 use Rattle.work_code.specs.Value.{is_true}
-use Rattle.text_forms.specs.Tree.{Spoken}
-use Rattle.saw_model.specs.Source.{Statement, Declare, Assign, Emit, If, Block, End, Then, Part, Table, Does, Program, Values, said, said_all, Emitted, Now}
-use Rattle.saw_model.specs.Source.{parts_of, listed, does, do_all, do_parts, fresh, emits}
-use Rattle.saw_model.proofs.Elaborated.{said_all-append}
+use Rattle.saw_text.specs.Tree.{Expression}
+use Rattle.saw_text.specs.Tree.{Statement, Declare, Assign, Emit, If, Block, End, Then, Optional, Unwritten, Written, UnitForm, TableUnit, StatementUnit, Program}
+use Rattle.saw_model.specs.Meaning.{Values, eval, eval_all, Emitted, State, table_kind, table_decl}
+use Rattle.saw_model.specs.Meaning.{parts_of, listed, exec, exec_block, exec_optional, exec_units, fresh, emits}
+use Rattle.saw_model.proofs.Elaborated.{eval_all-append}
 use Rattle.saw_text.specs.declared.tree.Expr.{Expr}
 use Rattle.saw_text.specs.declared.tree.Statement as tree
 use Rattle.saw_text.specs.declared.tree.Unit as unit
-use Rattle.saw_text.specs.Tree.{said as spoken, statement, in_turn, unit_form, unit_forms, part_of, program_of}
-use Rattle.saw_text.specs.View.{all_said}
-use Rattle.saw_front.specs.Valued.{AreValues, AllValues}
-use Rattle.saw_front.proofs.Planned.{map_more}
-use Rattle.saw_front.proofs.SoFar.{at_place, none_left}
-use Rattle.saw_front.proofs.Units.{parts_at, parts_none}
+use Rattle.saw_text.specs.Tree.{expression as spoken, statement, in_turn, unit_form, unit_forms}
+use Rattle.saw_text.specs.View.{expressions}
+use Rattle.saw_build.specs.Valued.{AreValues, AllValues}
+use Rattle.saw_build.proofs.Planned.{map_more}
+use Rattle.saw_build.proofs.SoFar.{at_place, none_left}
+use Rattle.saw_build.proofs.Units.{parts_at, parts_none}
 use Rattle.slow_sawzall.specs.declared.run.Run.{Run}
 use Rattle.slow_sawzall.specs.Sawzall.{values_of, now_of, do_part, AreRunnable, IsRunnable, IsRunnablePart, AreRunnableParts}
 
 -- A RECORD AFTER OTHERS
 
 -- with these rows before what was emitted
-abbrev behind : List Emitted → Now → Now
+abbrev behind : List Emitted → State → State
 behind es s = record { values = s.values; emitted = es ++ s.emitted }
 
-if_behind : (b : Bool) (es : List Emitted) (x y x' y' : Now) → x ≡ behind es x' → y ≡ behind es y' → (if b then x else y) ≡ behind es (if b then x' else y')
+if_behind : (b : Bool) (es : List Emitted) (x y x' y' : State) → x ≡ behind es x' → y ≡ behind es y' → (if b then x else y) ≡ behind es (if b then x' else y')
 if_behind true es x y x' y' h k = h
 if_behind false es x y x' y' h k = k
 
 mutual
-  does-behind : (c : Statement) (r : List ℤ) (es : List Emitted) (s : Now) → does c r (behind es s) ≡ behind es (does c r s)
-  does-behind (Declare n t) r es s = refl
-  does-behind (Assign n t) r es s = refl
-  does-behind (Emit t is v w) r es s =
-      let e = append_assoc es s.emitted ((t, said_all (parts_of is v w) r s.values) ∷ []) in
+  exec-behind : (c : Statement) (r : List ℤ) (es : List Emitted) (s : State) → exec c r (behind es s) ≡ behind es (exec c r s)
+  exec-behind (Declare n t) r es s = refl
+  exec-behind (Assign n t) r es s = refl
+  exec-behind (Emit t is v w) r es s =
+      let e = append_assoc es s.emitted ((t, eval_all (parts_of is v w) r s.values) ∷ []) in
       λ i. record { values = s.values; emitted = e i }
-  does-behind (If t a b) r es s =
-      if_behind (is_true (said t r s.values)) es (do_all a r (behind es s)) (do_all b r (behind es s)) (do_all a r s) (do_all b r s)
-      (do_all-behind a r es s) (do_all-behind b r es s)
+  exec-behind (If t a b) r es s =
+      if_behind (is_true (eval t r s.values)) es (exec_block a r (behind es s)) (exec_optional b r (behind es s)) (exec_block a r s) (exec_optional b r s)
+      (exec_block-behind a r es s) (exec_optional-behind b r es s)
 
-  do_all-behind : (b : Block) (r : List ℤ) (es : List Emitted) (s : Now) → do_all b r (behind es s) ≡ behind es (do_all b r s)
-  do_all-behind End r es s = refl
-  do_all-behind (Then c b) r es s = ap (do_all b r) (does-behind c r es s) ∙ do_all-behind b r es (does c r s)
+  exec_block-behind : (b : Block) (r : List ℤ) (es : List Emitted) (s : State) → exec_block b r (behind es s) ≡ behind es (exec_block b r s)
+  exec_block-behind End r es s = refl
+  exec_block-behind (Then c b) r es s = ap (exec_block b r) (exec-behind c r es s) ∙ exec_block-behind b r es (exec c r s)
 
-do_parts-behind : (p : Program) (r : List ℤ) (es : List Emitted) (s : Now) → do_parts p r (behind es s) ≡ behind es (do_parts p r s)
-do_parts-behind [] r es s = refl
-do_parts-behind (Table n k ∷ ps) r es s = do_parts-behind ps r es s
-do_parts-behind (Does c ∷ ps) r es s = ap (do_parts ps r) (does-behind c r es s) ∙ do_parts-behind ps r es (does c r s)
+  exec_optional-behind : (o : Optional) (r : List ℤ) (es : List Emitted) (s : State) → exec_optional o r (behind es s) ≡ behind es (exec_optional o r s)
+  exec_optional-behind Unwritten r es s = refl
+  exec_optional-behind (Written b) r es s = exec_block-behind b r es s
+
+exec_units-behind : (p : Program) (r : List ℤ) (es : List Emitted) (s : State) → exec_units p r (behind es s) ≡ behind es (exec_units p r s)
+exec_units-behind [] r es s = refl
+exec_units-behind (TableUnit tb ∷ ps) r es s = exec_units-behind ps r es s
+exec_units-behind (StatementUnit c ∷ ps) r es s = ap (exec_units ps r) (exec-behind c r es s) ∙ exec_units-behind ps r es (exec c r s)
 
 -- a record whose locals are fresh adds what it emits
 pub record_adds : (p : Program) (r : List ℤ) (old start now : Run) → start.locals.items ≡ [] → start.emitted.items ≡ old.emitted.items
-    → now_of now ≡ do_parts p r (now_of start) → now.emitted.items ≡ old.emitted.items ++ emits p r
+    → now_of now ≡ exec_units p r (now_of start) → now.emitted.items ≡ old.emitted.items ++ emits p r
 record_adds p r old start now none same is =
     let es = old.emitted.items in
     let a = ap values_of none in let b = same ∙ sym (append-nil es) in
     let first : now_of start ≡ behind es fresh = (λ i. record { values = a i; emitted = b i }) in
-    ap (λ (s : Now). s.emitted) (is ∙ ap (do_parts p r) first ∙ do_parts-behind p r es fresh)
+    ap (λ (s : State). s.emitted) (is ∙ ap (exec_units p r) first ∙ exec_units-behind p r es fresh)
 
 -- UNITS
 
-do_parts-cons : (c : Part) (ps : Program) (r : List ℤ) (s : Now) → do_parts (c ∷ ps) r s ≡ do_parts ps r (do_part c r s)
-do_parts-cons (Table n k) ps r s = refl
-do_parts-cons (Does c) ps r s = refl
+exec_units-cons : (c : UnitForm) (ps : Program) (r : List ℤ) (s : State) → exec_units (c ∷ ps) r s ≡ exec_units ps r (do_part c r s)
+exec_units-cons (TableUnit tb) ps r s = refl
+exec_units-cons (StatementUnit c) ps r s = refl
 
 -- what is left of a program does from here on what all of it does from the first
-pub record PartsLeft (all rest : Program) (r : List ℤ) (first now : Now) : Type 0 where
-  pub done : do_parts rest r now ≡ do_parts all r first
+pub record PartsLeft (all rest : Program) (r : List ℤ) (first now : State) : Type 0 where
+  pub done : exec_units rest r now ≡ exec_units all r first
   pub runnable : AreRunnableParts rest
 
-module _ (all : Program) (us : List unit.Unit) (i : ℕ) (u : unit.Unit) (r : List ℤ) (first now : Now) (lt : i < length us) (e : u ≡ get_or us i u)
-    (f : PartsLeft all (program_of (unit_forms (drop i us))) r first now) where
-  abbrev here : Part
-  here = part_of (unit_form u)
+module _ (all : Program) (us : List unit.Unit) (i : ℕ) (u : unit.Unit) (r : List ℤ) (first now : State) (lt : i < length us) (e : u ≡ get_or us i u)
+    (f : PartsLeft all (unit_forms (drop i us)) r first now) where
+  abbrev here : UnitForm
+  here = unit_form u
 
   abbrev rest : Program
-  rest = program_of (unit_forms (drop (i + 1) us))
+  rest = unit_forms (drop (i + 1) us)
 
   split : PartsLeft all (here ∷ rest) r first now
   split = subst (λ (p : Program). PartsLeft all p r first now) (parts_at us i u lt e) f
@@ -84,21 +89,23 @@ module _ (all : Program) (us : List unit.Unit) (i : ℕ) (u : unit.Unit) (r : Li
   pub part_runnable : IsRunnablePart here
   part_runnable = split.runnable.0
 
-  pub parts_next : (next : Now) → next ≡ do_part here r now → PartsLeft all rest r first next
-  parts_next next is = record { done = ap (do_parts rest r) is ∙ sym (do_parts-cons here rest r now) ∙ split.done; runnable = split.runnable.1 }
+  -- one unit more
+  pub parts_next : (next : State) → next ≡ do_part here r now → PartsLeft all rest r first next
+  parts_next next is = record { done = ap (exec_units rest r) is ∙ sym (exec_units-cons here rest r now) ∙ split.done; runnable = split.runnable.1 }
 
-pub parts_end : (all : Program) (us : List unit.Unit) (i : ℕ) (r : List ℤ) (first now : Now) → length us ≤ i
-    → PartsLeft all (program_of (unit_forms (drop i us))) r first now → now ≡ do_parts all r first
-parts_end all us i r first now le f = ap (λ p. do_parts p r now) (sym (parts_none us i le)) ∙ f.done
+-- behind the last unit the record was run
+pub parts_end : (all : Program) (us : List unit.Unit) (i : ℕ) (r : List ℤ) (first now : State) → length us ≤ i
+    → PartsLeft all (unit_forms (drop i us)) r first now → now ≡ exec_units all r first
+parts_end all us i r first now le f = ap (λ p. exec_units p r now) (sym (parts_none us i le)) ∙ f.done
 
 -- STATEMENTS
 
 -- what is left of a block does from here on what all of it does from the first
-pub record BlockLeft (all rest : List Statement) (r : List ℤ) (first now : Now) : Type 0 where
-  pub done : do_all (in_turn rest) r now ≡ do_all (in_turn all) r first
+pub record BlockLeft (all rest : List Statement) (r : List ℤ) (first now : State) : Type 0 where
+  pub done : exec_block (in_turn rest) r now ≡ exec_block (in_turn all) r first
   pub runnable : AreRunnable (in_turn rest)
 
-module _ (all : List Statement) (ss : List tree.Statement) (i : ℕ) (s : tree.Statement) (r : List ℤ) (first now : Now) (lt : i < length ss)
+module _ (all : List Statement) (ss : List tree.Statement) (i : ℕ) (s : tree.Statement) (r : List ℤ) (first now : State) (lt : i < length ss)
     (e : s ≡ get_or ss i s) (f : BlockLeft all (map statement (drop i ss)) r first now) where
   abbrev others : List Statement
   others = map statement (drop (i + 1) ss)
@@ -109,17 +116,19 @@ module _ (all : List Statement) (ss : List tree.Statement) (i : ℕ) (s : tree.S
   pub statement_runnable : IsRunnable (statement s)
   statement_runnable = cut.runnable.0
 
-  pub block_next : (next : Now) → next ≡ does (statement s) r now → BlockLeft all others r first next
-  block_next next is = record { done = ap (do_all (in_turn others) r) is ∙ cut.done; runnable = cut.runnable.1 }
+  -- one statement more
+  pub block_next : (next : State) → next ≡ exec (statement s) r now → BlockLeft all others r first next
+  block_next next is = record { done = ap (exec_block (in_turn others) r) is ∙ cut.done; runnable = cut.runnable.1 }
 
-pub block_end : (all : List Statement) (ss : List tree.Statement) (i : ℕ) (r : List ℤ) (first now : Now) → length ss ≤ i
-    → BlockLeft all (map statement (drop i ss)) r first now → now ≡ do_all (in_turn all) r first
-block_end all ss i r first now le f = ap (λ l. do_all (in_turn l) r now) (sym (none_left statement ss i le)) ∙ f.done
+-- behind the last statement the block was run
+pub block_end : (all : List Statement) (ss : List tree.Statement) (i : ℕ) (r : List ℤ) (first now : State) → length ss ≤ i
+    → BlockLeft all (map statement (drop i ss)) r first now → now ≡ exec_block (in_turn all) r first
+block_end all ss i r first now le f = ap (λ l. exec_block (in_turn l) r now) (sym (none_left statement ss i le)) ∙ f.done
 
 -- VALUES OF EXPRESSIONS
 
 -- where all are values, each is
-pub values_at : (es : List Expr) (i : ℕ) (e : Expr) → i < length es → e ≡ get_or es i e → AllValues (all_said es) → AreValues (spoken e)
+pub values_at : (es : List Expr) (i : ℕ) (e : Expr) → i < length es → e ≡ get_or es i e → AllValues (expressions es) → AreValues (spoken e)
 values_at [] i e lt is h = absurd (omega (arith, lt))
 values_at (x ∷ xs) zero e lt is h = subst (λ (y : Expr). AreValues (spoken y)) (sym is) h.0
 values_at (x ∷ xs) (suc i) e lt is h = values_at xs i e (omega (arith, lt)) is h.1
@@ -130,25 +139,26 @@ pushed_value a b z y f h e = h ∙ ap (λ x. a ++ x ∷ []) (to_z-of_z w64 z f �
 
 -- one value more
 pub values_next : (es : List Expr) (i : ℕ) (e : Expr) (r : List ℤ) (env : Values) (old now next : List ℤ) → i < length es → e ≡ get_or es i e
-    → next ≡ now ++ said (spoken e) r env ∷ [] → now ≡ old ++ said_all (all_said (take i es)) r env → next ≡ old ++ said_all (all_said (take (i + 1) es)) r env
+    → next ≡ now ++ eval (spoken e) r env ∷ [] → now ≡ old ++ eval_all (expressions (take i es)) r env → next ≡ old ++ eval_all (expressions (take (i + 1) es)) r env
 values_next es i e r env old now next lt is n h =
-    n ∙ ap (λ l. l ++ said (spoken e) r env ∷ []) h
-    ∙ append_assoc old (said_all (all_said (take i es)) r env) (said (spoken e) r env ∷ [])
-    ∙ ap (λ l. old ++ l) (sym (ap (λ l. said_all l r env) (map_more spoken es i e lt is) ∙ said_all-append 0 r (all_said (take i es)) (spoken e ∷ []) env))
+    n ∙ ap (λ l. l ++ eval (spoken e) r env ∷ []) h
+    ∙ append_assoc old (eval_all (expressions (take i es)) r env) (eval (spoken e) r env ∷ [])
+    ∙ ap (λ l. old ++ l) (sym (ap (λ l. eval_all l r env) (map_more spoken es i e lt is) ∙ eval_all-append 0 r (expressions (take i es)) (spoken e ∷ []) env))
 
 -- the values of an emit, part by part
-pub emit_values : (is : List Spoken) (v : Spoken) (w : Option Spoken) (r : List ℤ) (env : Values) (a b c : List ℤ) → a ≡ said_all is r env
-    → b ≡ a ++ said v r env ∷ [] → c ≡ b ++ said_all (listed w) r env → c ≡ said_all (parts_of is v w) r env
+pub emit_values : (is : List Expression) (v : Expression) (w : Option Expression) (r : List ℤ) (env : Values) (a b c : List ℤ) → a ≡ eval_all is r env
+    → b ≡ a ++ eval v r env ∷ [] → c ≡ b ++ eval_all (listed w) r env → c ≡ eval_all (parts_of is v w) r env
 emit_values is v w r env a b c ea eb ec =
-    ec ∙ ap (λ l. l ++ said_all (listed w) r env) (eb ∙ ap (λ l. l ++ said v r env ∷ []) ea)
-    ∙ append_assoc (said_all is r env) (said v r env ∷ []) (said_all (listed w) r env)
-    ∙ sym (said_all-append 0 r is (v ∷ listed w) env)
+    ec ∙ ap (λ l. l ++ eval_all (listed w) r env) (eb ∙ ap (λ l. l ++ eval v r env ∷ []) ea)
+    ∙ append_assoc (eval_all is r env) (eval v r env ∷ []) (eval_all (listed w) r env)
+    ∙ sym (eval_all-append 0 r is (v ∷ listed w) env)
 
-pub said_many : (ts : List Spoken) (r : List ℤ) (env : Values) → length (said_all ts r env) ≡ length ts
-said_many [] r env = refl
-said_many (t ∷ ts) r env = let e = said_many ts r env in omega (arith, e)
+-- a list of expressions has as many values
+pub evals_many : (ts : List Expression) (r : List ℤ) (env : Values) → length (eval_all ts r env) ≡ length ts
+evals_many [] r env = refl
+evals_many (t ∷ ts) r env = let e = evals_many ts r env in omega (arith, e)
 
 -- the row of an emit is as long as it has parts
-pub row_few : (is : List Spoken) (v : Spoken) (w : Option Spoken) (r : List ℤ) (env : Values) (xs : List ℤ) → xs ≡ said_all (parts_of is v w) r env
+pub row_few : (is : List Expression) (v : Expression) (w : Option Expression) (r : List ℤ) (env : Values) (xs : List ℤ) → xs ≡ eval_all (parts_of is v w) r env
     → length (parts_of is v w) ≤ 16 → length xs ≤ 16
-row_few is v w r env xs e le = let m = said_many (parts_of is v w) r env in let l = ap length e in omega (arith, m, l, le)
+row_few is v w r env xs e le = let m = evals_many (parts_of is v w) r env in let l = ap length e in omega (arith, m, l, le)

@@ -10,10 +10,11 @@ use Rattle.kern_tables.specs.Tables.{tab, table_width}
 use Rattle.kern_tables.proofs.Tabs.{tables_keep_adds}
 use Rattle.river_base.specs.Name.{name_eq}
 use Rattle.river_plan.specs.Forms.{Name}
-use Rattle.saw_model.specs.Source.{Part, Table, Does, Program, Emitted, rows_for}
+use Rattle.saw_text.specs.Tree.{UnitForm, TableUnit, StatementUnit, Program}
+use Rattle.saw_model.specs.Meaning.{Emitted, rows_for, table_kind, table_decl}
 use Rattle.saw_text.specs.declared.tree.Unit as unit
-use Rattle.saw_text.specs.Tree.{unit_form, unit_forms, part_of, program_of}
-use Rattle.saw_front.proofs.Units.{parts_at, parts_none}
+use Rattle.saw_text.specs.Tree.{unit_form, unit_forms}
+use Rattle.saw_build.proofs.Units.{parts_at, parts_none}
 use Rattle.slow_sawzall.specs.Sawzall.{tables_for, AreWide, IsWideFor, AreWideFor}
 use Rattle.slow_sawzall.proofs.Values.{from_place}
 
@@ -37,6 +38,7 @@ row_other n e es h = ap (λ b. if b then e.1 ∷ rows_for n es else rows_for n e
 pub new_kind : (kind : TableKind) (table : Kept) → table ≡ kept_of kind [] → kind_of table ≡ kind
 new_kind kind table e = ap kind_of e ∙ (tables_keep_adds kind).kind_is []
 
+-- a table to which nothing was emitted
 pub new_none : (kind : TableKind) (table : Kept) → table ≡ kept_of kind [] → table ≡ kept_of (kind_of table) []
 new_none kind table e = e ∙ ap (λ k. kept_of k []) (sym (new_kind kind table e))
 
@@ -84,6 +86,7 @@ module _ (kind : TableKind) (n : Name) (es : List Emitted) (i : ℕ) (e : Emitte
     wide = subst (AreWide (table_width kind)) (row_other n e (drop (i + 1) es) h) left;
   }
 
+-- behind the last row all were added
 pub added_end : (kind : TableKind) (n : Name) (es : List Emitted) (i : ℕ) (table : Kept) → length es ≤ i → AddedSoFar kind n es i table
     → rows_of table ≡ tab kind (rows_for n es)
 added_end kind n es i table le f = ap rows_of f.kept ∙ (tables_keep_adds kind).rows (rows_for n (take i es))
@@ -91,9 +94,9 @@ added_end kind n es i table le f = ap rows_of f.kept ∙ (tables_keep_adds kind)
 
 -- ALL TABLES
 
-tables-cons : (c : Part) (ps : Program) (es : List Emitted) → tables_for (c ∷ []) es ++ tables_for ps es ≡ tables_for (c ∷ ps) es
-tables-cons (Table n k) ps es = refl
-tables-cons (Does c) ps es = refl
+tables-cons : (c : UnitForm) (ps : Program) (es : List Emitted) → tables_for (c ∷ []) es ++ tables_for ps es ≡ tables_for (c ∷ ps) es
+tables-cons (TableUnit tb) ps es = refl
+tables-cons (StatementUnit c) ps es = refl
 
 -- the tables so far and those that are left are all, and what is emitted to those that are left is as wide as they are
 pub record TablesLeft (all rest : Program) (es : List Emitted) (made : List Kept) : Type 0 where
@@ -101,12 +104,12 @@ pub record TablesLeft (all rest : Program) (es : List Emitted) (made : List Kept
   pub wide : AreWideFor rest es
 
 module _ (all : Program) (us : List unit.Unit) (i : ℕ) (u : unit.Unit) (es : List Emitted) (made : List Kept) (lt : i < length us)
-    (e : u ≡ get_or us i u) (f : TablesLeft all (program_of (unit_forms (drop i us))) es made) where
-  abbrev here : Part
-  here = part_of (unit_form u)
+    (e : u ≡ get_or us i u) (f : TablesLeft all (unit_forms (drop i us)) es made) where
+  abbrev here : UnitForm
+  here = unit_form u
 
   abbrev rest : Program
-  rest = program_of (unit_forms (drop (i + 1) us))
+  rest = unit_forms (drop (i + 1) us)
 
   split : TablesLeft all (here ∷ rest) es made
   split = subst (λ (p : Program). TablesLeft all p es made) (parts_at us i u lt e) f
@@ -114,6 +117,7 @@ module _ (all : Program) (us : List unit.Unit) (i : ℕ) (u : unit.Unit) (es : L
   pub table_wide : IsWideFor here es
   table_wide = split.wide.0
 
+  -- one table more
   pub tables_next : (next : List Kept) → map rows_of next ≡ map rows_of made ++ tables_for (here ∷ []) es → TablesLeft all rest es next
   tables_next next is = record {
     done = ap (λ l. l ++ tables_for rest es) is ∙ append_assoc (map rows_of made) (tables_for (here ∷ []) es) (tables_for rest es)
@@ -121,6 +125,7 @@ module _ (all : Program) (us : List unit.Unit) (i : ℕ) (u : unit.Unit) (es : L
     wide = split.wide.1;
   }
 
+-- behind the last unit all tables are made
 pub tables_end : (all : Program) (us : List unit.Unit) (i : ℕ) (es : List Emitted) (made : List Kept) → length us ≤ i
-    → TablesLeft all (program_of (unit_forms (drop i us))) es made → map rows_of made ≡ tables_for all es
+    → TablesLeft all (unit_forms (drop i us)) es made → map rows_of made ≡ tables_for all es
 tables_end all us i es made le f = sym (append-nil (map rows_of made)) ∙ ap (λ p. map rows_of made ++ tables_for p es) (sym (parts_none us i le)) ∙ f.done

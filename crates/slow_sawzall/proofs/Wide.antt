@@ -13,17 +13,18 @@ use Rattle.river_base.specs.Name.{name_eq}
 use Rattle.river_plan.specs.Forms.{Name, table_names}
 use Rattle.river_plan.specs.declared.plan.TableDecl.{TableDecl}
 use Rattle.river_plan.proofs.NameLemmas.{cases_bool, name_is}
-use Rattle.text_forms.specs.Tree.{Spoken}
-use Rattle.saw_model.specs.Source.{Statement, Declare, Assign, Emit, If, Block, End, Then, Table, Does, Program, tables_in, said, said_all, Emitted, Now}
-use Rattle.saw_model.specs.Source.{parts_of, listed, does, do_all, do_parts, fresh, emits, rows_for}
-use Rattle.saw_model.specs.Elaborate.{Limit, on_ok, Scope, term_of, At, indexes_of, keys_in, weight_of, step_of, steps_of, nothing_read}
+use Rattle.saw_text.specs.Tree.{Expression}
+use Rattle.saw_text.specs.Tree.{Statement, Declare, Assign, Emit, If, Block, End, Then, Optional, Unwritten, Written, TableUnit, StatementUnit, Program}
+use Rattle.saw_model.specs.Meaning.{tables_in, eval, eval_all, Emitted, State, table_kind, table_decl}
+use Rattle.saw_model.specs.Meaning.{parts_of, listed, exec, exec_block, exec_optional, exec_units, fresh, emits, rows_for}
+use Rattle.saw_model.specs.Elaborate.{Limit, on_ok, Scope, term_of, At, indexes_of, keys_in, weight_of, step_of, steps_of, steps_optional, nothing_read}
 use Rattle.saw_model.proofs.Elaborated.{fine, ok_parts, if_both, some_is, ArePorts, one_more}
 use Rattle.saw_model.proofs.Fed.{AreOnce, one_place}
 use Rattle.saw_model.proofs.Parts.{parts_read, reads_parts, tabled_parts, split_parts, tables_once, got_here, ports_new}
 use Rattle.saw_model.proofs.Statements.{second_at, Sent, sent_parts, forked_parts, followed_parts, grows}
-use Rattle.saw_front.specs.Valued.{IsValued, AreValued, AreValuedParts}
-use Rattle.slow_sawzall.specs.Sawzall.{IsAccepted, IsRunnable, AreRunnable, AreRunnableParts, AreWide, AreWideFor}
-use Rattle.slow_sawzall.proofs.Runs.{said_many}
+use Rattle.saw_build.specs.Valued.{IsValued, AreValued, AreValuedOptional, AreValuedParts}
+use Rattle.slow_sawzall.specs.Sawzall.{IsAccepted, IsRunnable, AreRunnable, AreRunnableOptional, AreRunnableParts, AreWide, AreWideFor}
+use Rattle.slow_sawzall.proofs.Runs.{evals_many}
 
 -- THE PARTS OF AN EMIT
 
@@ -34,7 +35,7 @@ eq_by : (a b : ℕ) → nat_eq a b ≡ true → a ≡ b
 eq_by a b h = grind (arith, h)
 
 -- at most 8 indexes are read
-indexes_few : (sc : Scope) (n : ℕ) (ts : List Spoken) (us : List Term) → n ≤ 8 → indexes_of sc n ts ≡ Ok us → n + length ts ≤ 8
+indexes_few : (sc : Scope) (n : ℕ) (ts : List Expression) (us : List Term) → n ≤ 8 → indexes_of sc n ts ≡ Ok us → n + length ts ≤ 8
 indexes_few sc n [] us le h = omega (arith, le)
 indexes_few sc n (t ∷ ts) us le h =
     let c = if_both (nat_lt n 8) (on_ok (term_of sc t) (λ u. on_ok (indexes_of sc (n + 1) ts) (λ us. Ok (u ∷ us)))) us Limit h in
@@ -44,12 +45,12 @@ indexes_few sc n (t ∷ ts) us le h =
     let e = indexes_few sc (n + 1) ts q.0 (omega (arith, lt)) q.1 in
     omega (arith, e)
 
-listed_few : (w : Option Spoken) → length (listed w) ≤ 1
+listed_few : (w : Option Expression) → length (listed w) ≤ 1
 listed_few None = omega arith
 listed_few (Some t) = omega arith
 
 -- keys, a value and a weight, if there is one, are as many as the table is wide
-weight_wide : (k : TableKind) (w : Option Spoken) (sc : Scope) (us : List Term) → weight_of k w sc ≡ fine us
+weight_wide : (k : TableKind) (w : Option Expression) (sc : Scope) (us : List Term) → weight_of k w sc ≡ fine us
     → keys_in k + suc (length (listed w)) ≡ table_width k
 weight_wide (Sum keys) None sc us h = omega arith
 weight_wide (Sum keys) (Some t) sc us h = absurd (cc h)
@@ -58,12 +59,12 @@ weight_wide (Collection keys) (Some t) sc us h = absurd (cc h)
 weight_wide (Maximum best keys) None sc us h = absurd (cc h)
 weight_wide (Maximum best keys) (Some t) sc us h = omega arith
 
-parts_many : (is : List Spoken) (v : Spoken) (w : Option Spoken) → length (parts_of is v w) ≡ length is + suc (length (listed w))
+parts_many : (is : List Expression) (v : Expression) (w : Option Expression) → length (parts_of is v w) ≡ length is + suc (length (listed w))
 parts_many is v w = length-append is (v ∷ listed w)
 
 -- WHAT CAN BE RUN
 
-sent_few : (t : Name) (is : List Spoken) (v : Spoken) (w : Option Spoken) (s : At) (y : Steps × At) → Sent t is v w s y → length (parts_of is v w) ≤ 16
+sent_few : (t : Name) (is : List Expression) (v : Expression) (w : Option Expression) (s : At) (y : Steps × At) → Sent t is v w s y → length (parts_of is v w) ≤ 16
 sent_few t is v w s y d =
     let a = indexes_few s.scope 0 is d.indexes (omega arith) d.indexes_is in
     let b = listed_few w in let c = parts_many is v w in
@@ -76,7 +77,7 @@ mutual
   step_runs (Emit t is x w) s y h v = (v.0, v.1, v.2, sent_few t is x w s y (sent_parts t is x w s y h))
   step_runs (If t a b) s y h v =
       let d = forked_parts t a b s y h in
-      (v.0, steps_run a (one_more s) d.first d.first_is v.1, steps_run b (second_at s d.first) d.second d.second_is v.2)
+      (v.0, steps_run a (one_more s) d.first d.first_is v.1, optional_runs b (second_at s d.first) d.second d.second_is v.2)
 
   steps_run : (b : Block) (s : At) (y : Steps × At) → steps_of b s ≡ fine y → AreValued b → AreRunnable b
   steps_run End s y h v = tt
@@ -84,11 +85,15 @@ mutual
       let d = followed_parts c b s y h in
       (step_runs c s d.first d.first_is v.0, steps_run b d.first.1 d.others d.others_is v.1)
 
+  optional_runs : (o : Optional) (s : At) (y : Steps × At) → steps_optional o s ≡ fine y → AreValuedOptional o → AreRunnableOptional o
+  optional_runs Unwritten s y h v = tt
+  optional_runs (Written b) s y h v = steps_run b s y h v
+
 parts_run : (p : Program) (s : At) (y : Steps × At) → parts_read p s ≡ fine y → AreValuedParts p → AreRunnableParts p
 parts_run [] s y h v = tt
-parts_run (Table n k ∷ ps) s y h v = let d = split_parts (Table n k) ps s y h in (tt, parts_run ps d.first.1 d.others d.others_is v.1)
-parts_run (Does c ∷ ps) s y h v =
-    let d = split_parts (Does c) ps s y h in
+parts_run (TableUnit tb ∷ ps) s y h v = let d = split_parts (TableUnit tb) ps s y h in (tt, parts_run ps d.first.1 d.others d.others_is v.1)
+parts_run (StatementUnit c ∷ ps) s y h v =
+    let d = split_parts (StatementUnit c) ps s y h in
     (step_runs c s d.first d.first_is v.0, parts_run ps d.first.1 d.others d.others_is v.1)
 
 -- an accepted program can be run
@@ -107,16 +112,20 @@ module _ (ts : List TableDecl) where
     IsStepWide (Declare n t) = Unit {0}
     IsStepWide (Assign n t) = Unit {0}
     IsStepWide (Emit t is v w) = IsTableWide ts t (length (parts_of is v w))
-    IsStepWide (If t a b) = AreStepsWide a × AreStepsWide b
+    IsStepWide (If t a b) = AreStepsWide a × IsOptionalWide b
 
     AreStepsWide : Block → Type 0
     AreStepsWide End = Unit {0}
     AreStepsWide (Then c b) = IsStepWide c × AreStepsWide b
 
+    IsOptionalWide : Optional → Type 0
+    IsOptionalWide Unwritten = Unit {0}
+    IsOptionalWide (Written b) = AreStepsWide b
+
   abbrev ArePartsWide : Program → Type 0
   ArePartsWide [] = Unit {0}
-  ArePartsWide (Table n k ∷ ps) = ArePartsWide ps
-  ArePartsWide (Does c ∷ ps) = IsStepWide c × ArePartsWide ps
+  ArePartsWide (TableUnit tb ∷ ps) = ArePartsWide ps
+  ArePartsWide (StatementUnit c ∷ ps) = IsStepWide c × ArePartsWide ps
 
   -- AS IT IS READ
 
@@ -125,7 +134,7 @@ module _ (ts : List TableDecl) where
   got_name (u ∷ us) zero t g = ap (λ (x : TableDecl). Some x.name) (some_is u t g)
   got_name (u ∷ us) (suc i) t g = got_name us i t g
 
-  sent_wide : AreOnce (table_names ts) → (t : Name) (is : List Spoken) (v : Spoken) (w : Option Spoken) (s : At) (y : Steps × At) → Sent t is v w s y
+  sent_wide : AreOnce (table_names ts) → (t : Name) (is : List Expression) (v : Expression) (w : Option Expression) (s : At) (y : Steps × At) → Sent t is v w s y
       → ArePorts ts s.scope → IsTableWide ts t (length (parts_of is v w))
   sent_wide once t is v w s y d a =
       let p = d.port.0 in let k = d.port.1 in
@@ -149,7 +158,7 @@ module _ (ts : List TableDecl) where
     step_wide once (Emit t is v w) s y h a = sent_wide once t is v w s y (sent_parts t is v w s y h) a
     step_wide once (If t x z) s y h a =
         let d = forked_parts t x z s y h in
-        (steps_wide once x (one_more s) d.first d.first_is a, steps_wide once z (second_at s d.first) d.second d.second_is a)
+        (steps_wide once x (one_more s) d.first d.first_is a, optional_wide once z (second_at s d.first) d.second d.second_is a)
 
     steps_wide : AreOnce (table_names ts) → (b : Block) (s : At) (y : Steps × At) → steps_of b s ≡ fine y → ArePorts ts s.scope → AreStepsWide b
     steps_wide once End s y h a = tt
@@ -157,20 +166,24 @@ module _ (ts : List TableDecl) where
         let d = followed_parts c b s y h in
         (step_wide once c s d.first d.first_is a, steps_wide once b d.first.1 d.others d.others_is ((grows c s d.first d.first_is).ports ts a))
 
+    optional_wide : AreOnce (table_names ts) → (o : Optional) (s : At) (y : Steps × At) → steps_optional o s ≡ fine y → ArePorts ts s.scope → IsOptionalWide o
+    optional_wide once Unwritten s y h a = tt
+    optional_wide once (Written b) s y h a = steps_wide once b s y h a
+
   parts_wide : AreOnce (table_names ts) → (p : Program) (s : At) (y : Steps × At) (done : List TableDecl) → parts_read p s ≡ fine y
       → ArePorts ts s.scope → ts ≡ done ++ tables_in p → s.tables ≡ length done → ArePartsWide p
   parts_wide once [] s y done h a t e = tt
-  parts_wide once (Table n k ∷ ps) s y done h a t e =
-      let d = split_parts (Table n k) ps s y h in
-      let here = tabled_parts n k s d.first d.first_is in
-      let decl : TableDecl = record { name = n; kind = k } in
+  parts_wide once (TableUnit tb ∷ ps) s y done h a t e =
+      let d = split_parts (TableUnit tb) ps s y h in
+      let here = tabled_parts tb.name (table_kind tb) s d.first d.first_is in
+      let decl : TableDecl = table_decl tb in
       let got : slice_get ts s.tables ≡ Some decl = ap (slice_get ts) e ∙ ap (λ l. slice_get l (length done)) t ∙ got_here done (tables_in ps) decl in
-      let more : ArePorts ts d.first.1.scope = subst (λ (q : Steps × At). ArePorts ts q.1.scope) here.is (ports_new ts n s.tables k s.scope got a) in
+      let more : ArePorts ts d.first.1.scope = subst (λ (q : Steps × At). ArePorts ts q.1.scope) here.is (ports_new ts tb.name s.tables (table_kind tb) s.scope got a) in
       let e2 : d.first.1.tables ≡ length (done ++ decl ∷ []) = ap (λ (q : Steps × At). q.1.tables) (sym here.is)
       ∙ (let l = length-append done (decl ∷ []) in omega (arith, l, e)) in
       parts_wide once ps d.first.1 d.others (done ++ decl ∷ []) d.others_is more (t ∙ sym (append_assoc done (decl ∷ []) (tables_in ps))) e2
-  parts_wide once (Does c ∷ ps) s y done h a t e =
-      let d = split_parts (Does c) ps s y h in
+  parts_wide once (StatementUnit c ∷ ps) s y done h a t e =
+      let d = split_parts (StatementUnit c) ps s y h in
       let g = grows c s d.first d.first_is in
       (step_wide once c s d.first d.first_is a, parts_wide once ps d.first.1 d.others done d.others_is (g.ports ts a) t (g.tables ∙ e))
 
@@ -183,32 +196,36 @@ module _ (ts : List TableDecl) where
   wide-append [] ys h k = k
   wide-append (x ∷ xs) ys h k = (h.0, wide-append xs ys h.1 k)
 
-  if_wide : (b : Bool) (x y : Now) → AreRowsWide x.emitted → AreRowsWide y.emitted → AreRowsWide (if b then x else y).emitted
+  if_wide : (b : Bool) (x y : State) → AreRowsWide x.emitted → AreRowsWide y.emitted → AreRowsWide (if b then x else y).emitted
   if_wide true x y h k = h
   if_wide false x y h k = k
 
   mutual
-    does_wide : (c : Statement) (r : List ℤ) (s : Now) → IsStepWide c → AreRowsWide s.emitted → AreRowsWide (does c r s).emitted
-    does_wide (Declare n t) r s h k = k
-    does_wide (Assign n t) r s h k = k
-    does_wide (Emit t is v w) r s h k =
+    exec_wide : (c : Statement) (r : List ℤ) (s : State) → IsStepWide c → AreRowsWide s.emitted → AreRowsWide (exec c r s).emitted
+    exec_wide (Declare n t) r s h k = k
+    exec_wide (Assign n t) r s h k = k
+    exec_wide (Emit t is v w) r s h k =
         let parts = parts_of is v w in
-        let one : IsTableWide ts t (length (said_all parts r s.values)) = subst (IsTableWide ts t) (sym (said_many parts r s.values)) h in
-        wide-append s.emitted ((t, said_all parts r s.values) ∷ []) k (one, tt)
-    does_wide (If t a b) r s h k = if_wide (is_true (said t r s.values)) (do_all a r s) (do_all b r s) (do_all_wide a r s h.0 k) (do_all_wide b r s h.1 k)
+        let one : IsTableWide ts t (length (eval_all parts r s.values)) = subst (IsTableWide ts t) (sym (evals_many parts r s.values)) h in
+        wide-append s.emitted ((t, eval_all parts r s.values) ∷ []) k (one, tt)
+    exec_wide (If t a b) r s h k = if_wide (is_true (eval t r s.values)) (exec_block a r s) (exec_optional b r s) (exec_block_wide a r s h.0 k) (exec_optional_wide b r s h.1 k)
 
-    do_all_wide : (b : Block) (r : List ℤ) (s : Now) → AreStepsWide b → AreRowsWide s.emitted → AreRowsWide (do_all b r s).emitted
-    do_all_wide End r s h k = k
-    do_all_wide (Then c b) r s h k = do_all_wide b r (does c r s) h.1 (does_wide c r s h.0 k)
+    exec_block_wide : (b : Block) (r : List ℤ) (s : State) → AreStepsWide b → AreRowsWide s.emitted → AreRowsWide (exec_block b r s).emitted
+    exec_block_wide End r s h k = k
+    exec_block_wide (Then c b) r s h k = exec_block_wide b r (exec c r s) h.1 (exec_wide c r s h.0 k)
 
-  do_parts_wide : (p : Program) (r : List ℤ) (s : Now) → ArePartsWide p → AreRowsWide s.emitted → AreRowsWide (do_parts p r s).emitted
-  do_parts_wide [] r s h k = k
-  do_parts_wide (Table n t ∷ ps) r s h k = do_parts_wide ps r s h k
-  do_parts_wide (Does c ∷ ps) r s h k = do_parts_wide ps r (does c r s) h.1 (does_wide c r s h.0 k)
+    exec_optional_wide : (o : Optional) (r : List ℤ) (s : State) → IsOptionalWide o → AreRowsWide s.emitted → AreRowsWide (exec_optional o r s).emitted
+    exec_optional_wide Unwritten r s h k = k
+    exec_optional_wide (Written b) r s h k = exec_block_wide b r s h k
+
+  exec_units_wide : (p : Program) (r : List ℤ) (s : State) → ArePartsWide p → AreRowsWide s.emitted → AreRowsWide (exec_units p r s).emitted
+  exec_units_wide [] r s h k = k
+  exec_units_wide (TableUnit tb ∷ ps) r s h k = exec_units_wide ps r s h k
+  exec_units_wide (StatementUnit c ∷ ps) r s h k = exec_units_wide ps r (exec c r s) h.1 (exec_wide c r s h.0 k)
 
   all_wide : (p : Program) (rows : List (List ℤ)) → ArePartsWide p → AreRowsWide (flat_map (emits p) rows)
   all_wide p [] h = tt
-  all_wide p (r ∷ rs) h = wide-append (emits p r) (flat_map (emits p) rs) (do_parts_wide p r fresh h tt) (all_wide p rs h)
+  all_wide p (r ∷ rs) h = wide-append (emits p r) (flat_map (emits p) rs) (exec_units_wide p r fresh h tt) (all_wide p rs h)
 
   -- TABLE BY TABLE
 
@@ -222,11 +239,11 @@ module _ (ts : List TableDecl) where
 
   tables_wide : (p : Program) (done : List TableDecl) (es : List Emitted) → ts ≡ done ++ tables_in p → AreRowsWide es → AreWideFor p es
   tables_wide [] done es e h = tt
-  tables_wide (Table n k ∷ ps) done es e h =
-      let decl : TableDecl = record { name = n; kind = k } in
+  tables_wide (TableUnit tb ∷ ps) done es e h =
+      let decl : TableDecl = table_decl tb in
       let got : slice_get ts (length done) ≡ Some decl = ap (λ l. slice_get l (length done)) e ∙ got_here done (tables_in ps) decl in
       (rows_wide es (length done) decl got h, tables_wide ps (done ++ decl ∷ []) es (e ∙ sym (append_assoc done (decl ∷ []) (tables_in ps))) h)
-  tables_wide (Does c ∷ ps) done es e h = (tt, tables_wide ps done es e h)
+  tables_wide (StatementUnit c ∷ ps) done es e h = (tt, tables_wide ps done es e h)
 
 -- what all records emit is as wide as the tables are
 pub accepted_wide : (p : Program) (rows : List (List ℤ)) → IsAccepted p → AreWideFor p (flat_map (emits p) rows)

@@ -5,12 +5,13 @@ use Rattle.work_code.specs.Steps.{Steps}
 use Rattle.kern_tables.specs.Tables.{tab, table_width}
 use Rattle.river_plan.specs.Forms.{Name}
 use Rattle.brooklet_model.specs.Machine.{at_name}
-use Rattle.text_forms.specs.Tree.{Spoken}
-use Rattle.saw_model.specs.Source.{Statement, Declare, Assign, Emit, If, Block, End, Then, Part, Table, Does, Program, tables_in, Values, Emitted, Now, listed}
-use Rattle.saw_model.specs.Source.{parts_of, does, rows_for}
+use Rattle.saw_text.specs.Tree.{Expression}
+use Rattle.saw_text.specs.Tree.{Statement, Declare, Assign, Emit, If, Block, End, Then, Optional, Unwritten, Written, UnitForm, TableUnit, StatementUnit, Program}
+use Rattle.saw_model.specs.Meaning.{tables_in, Values, Emitted, State, listed, table_kind, table_decl}
+use Rattle.saw_model.specs.Meaning.{parts_of, exec, rows_for}
 use Rattle.saw_model.specs.Elaborate.{At}
 use Rattle.saw_model.specs.Judged.{judged}
-use Rattle.saw_front.specs.Valued.{AreValues, AllValues}
+use Rattle.saw_build.specs.Valued.{AreValues, AllValues}
 use Rattle.slow_sawzall.specs.declared.run.Run.{Run}
 
 -- the program has no fault
@@ -25,13 +26,13 @@ values_of [] = λ n. pos 0
 values_of (e ∷ es) = at_name e.0 e.1 (values_of es)
 
 -- where the run stands
-abbrev pub now_of : Run → Now
+abbrev pub now_of : Run → State
 now_of run = record { values = values_of run.locals.items; emitted = run.emitted.items }
 
 -- what a unit does
-abbrev pub do_part : Part → List ℤ → Now → Now
-do_part (Table n k) r s = s
-do_part (Does c) r s = does c r s
+abbrev pub do_part : UnitForm → List ℤ → State → State
+do_part (TableUnit tb) r s = s
+do_part (StatementUnit c) r s = exec c r s
 
 -- the tables of a program, of these rows
 abbrev pub tables_for : Program → List Emitted → List (List (List ℤ))
@@ -40,7 +41,7 @@ tables_for p es = map (λ t. tab t.kind (rows_for t.name es)) (tables_in p)
 -- WHAT IS NEEDED
 
 -- the numbers of an emit are values, and it has at most 16 parts
-abbrev pub AreEmitted : List Spoken → Spoken → Option Spoken → Type 0
+abbrev pub AreEmitted : List Expression → Expression → Option Expression → Type 0
 AreEmitted is v w = AllValues is × AreValues v × AllValues (listed w) × (length (parts_of is v w) ≤ 16)
 
 abbrev mutual
@@ -48,15 +49,19 @@ abbrev mutual
   IsRunnable (Declare n t) = AllValues (listed t)
   IsRunnable (Assign n t) = AreValues t
   IsRunnable (Emit t is v w) = AreEmitted is v w
-  IsRunnable (If t a b) = AreValues t × AreRunnable a × AreRunnable b
+  IsRunnable (If t a b) = AreValues t × AreRunnable a × AreRunnableOptional b
 
   pub AreRunnable : Block → Type 0
   AreRunnable End = Unit {0}
   AreRunnable (Then c b) = IsRunnable c × AreRunnable b
 
-abbrev pub IsRunnablePart : Part → Type 0
-IsRunnablePart (Table n k) = Unit {0}
-IsRunnablePart (Does c) = IsRunnable c
+  pub AreRunnableOptional : Optional → Type 0
+  AreRunnableOptional Unwritten = Unit {0}
+  AreRunnableOptional (Written b) = AreRunnable b
+
+abbrev pub IsRunnablePart : UnitForm → Type 0
+IsRunnablePart (TableUnit tb) = Unit {0}
+IsRunnablePart (StatementUnit c) = IsRunnable c
 
 abbrev pub AreRunnableParts : Program → Type 0
 AreRunnableParts [] = Unit {0}
@@ -67,9 +72,9 @@ abbrev pub AreWide : ℕ → List (List ℤ) → Type 0
 AreWide width rows = AllByRecursion (λ row. length row ≡ width) rows
 
 -- what was emitted to a table is as wide as its rows are
-abbrev pub IsWideFor : Part → List Emitted → Type 0
-IsWideFor (Table n k) es = AreWide (table_width k) (rows_for n es)
-IsWideFor (Does c) es = Unit {0}
+abbrev pub IsWideFor : UnitForm → List Emitted → Type 0
+IsWideFor (TableUnit tb) es = AreWide (table_width (table_kind tb)) (rows_for tb.name es)
+IsWideFor (StatementUnit c) es = Unit {0}
 
 abbrev pub AreWideFor : Program → List Emitted → Type 0
 AreWideFor [] es = Unit {0}

@@ -3,9 +3,9 @@ ghost use Rattle.std.specs.Prelude.{◌≡◌, [], ◌∷◌, ◌++◌, map, IfO
 ghost use Rattle.std.specs.List.{AllByRecursion};
 ghost use Rattle.kern_tables.specs.Tables.{tab, table_width};
 ghost use Rattle.kern_tables.specs.Kept.{kept_of, rows_of, width_of, kind_of as kind_kept};
-ghost use Rattle.saw_model.specs.Source.{rows_for, program_tables};
-ghost use Rattle.saw_text.specs.Tree.{unit_form, unit_forms, kind_of, part_of, program_of};
-ghost use Rattle.saw_front.specs.Valued.{AreValuedParts};
+ghost use Rattle.saw_model.specs.Meaning.{kind_of, rows_for, program_tables};
+ghost use Rattle.saw_text.specs.Tree.{unit_form, unit_forms};
+ghost use Rattle.saw_build.specs.Valued.{AreValuedParts};
 ghost use Rattle.slow_sawzall.specs.Sawzall.{IsAccepted, tables_for, AreWide, IsWideFor, AreWideFor};
 
 use crate::run::Run;
@@ -22,10 +22,10 @@ use std::alloc::Global;
 ///
 /// `NoMemory` where there is no memory.
 pub fn mean_sawzall(alloc: Global, program: &SawProgram, rows: &Rows) -> Result<Outcome, NoMemory>
-    requires accepted { IsAccepted (program_of (unit_forms program.now.units.items)) }
-    requires valued { AreValuedParts (program_of (unit_forms program.now.units.items)) }
+    requires accepted { IsAccepted (unit_forms program.now.units.items) }
+    requires valued { AreValuedParts (unit_forms program.now.units.items) }
     ensures outs { IfOk result (λ outcome. outcome.outs ≡ []) }
-    ensures tables { IfOk result (λ outcome. map rows_of outcome.tables ≡ program_tables (program_of (unit_forms program.now.units.items)) rows.now) }
+    ensures tables { IfOk result (λ outcome. map rows_of outcome.tables ≡ program_tables (unit_forms program.now.units.items) rows.now) }
     ensures counts { IfOk result (λ outcome. outcome.counts ≡ []) }
 {
     let tables = meant_tables(alloc, program.units.as_slice(), rows)?;
@@ -38,9 +38,9 @@ pub fn mean_sawzall(alloc: Global, program: &SawProgram, rows: &Rows) -> Result<
 
 // The tables, each of what all records emit to it.
 fn meant_tables(alloc: Global, units: &[Unit], rows: &Rows) -> Result<Tables, NoMemory>
-    requires accepted { IsAccepted (program_of (unit_forms units.now)) }
-    requires valued { AreValuedParts (program_of (unit_forms units.now)) }
-    ensures { IfOk result (λ tables. map rows_of tables ≡ program_tables (program_of (unit_forms units.now)) rows.now) }
+    requires accepted { IsAccepted (unit_forms units.now) }
+    requires valued { AreValuedParts (unit_forms units.now) }
+    ensures { IfOk result (λ tables. map rows_of tables ≡ program_tables (unit_forms units.now) rows.now) }
 {
     let mut run = Run::new(alloc);
     run.records(alloc, units, rows.as_slice())?;
@@ -49,8 +49,8 @@ fn meant_tables(alloc: Global, units: &[Unit], rows: &Rows) -> Result<Tables, No
 
 // The tables of a program, each of what was emitted to it.
 fn tables(alloc: Global, units: &[Unit], emitted: &[(Name, Row)]) -> Result<Tables, NoMemory>
-    requires { AreWideFor (program_of (unit_forms units.now)) emitted.now }
-    ensures { IfOk result (λ tables. map rows_of tables ≡ tables_for (program_of (unit_forms units.now)) emitted.now) }
+    requires { AreWideFor (unit_forms units.now) emitted.now }
+    ensures { IfOk result (λ tables. map rows_of tables ≡ tables_for (unit_forms units.now) emitted.now) }
 {
     let mut all = Tables::new(alloc);
     add_tables(alloc, units, emitted, &mut all)?;
@@ -65,8 +65,8 @@ fn add_tables(
     all: &mut Tables,
 ) -> Result<(), NoMemory>
     requires none { all.old ≡ [] }
-    requires wide { AreWideFor (program_of (unit_forms units.now)) emitted.now }
-    ensures { OnOk result (map rows_of all.new ≡ tables_for (program_of (unit_forms units.now)) emitted.now) }
+    requires wide { AreWideFor (unit_forms units.now) emitted.now }
+    ensures { OnOk result (map rows_of all.new ≡ tables_for (unit_forms units.now) emitted.now) }
 {
     for unit in units {
         add_table(alloc, unit, emitted, all)?;
@@ -81,8 +81,8 @@ fn add_table(
     emitted: &[(Name, Row)],
     all: &mut Tables,
 ) -> Result<(), NoMemory>
-    requires { IsWideFor (part_of (unit_form unit.now)) emitted.now }
-    ensures { OnOk result (map rows_of all.new ≡ map rows_of all.old ++ tables_for (part_of (unit_form unit.now) ∷ []) emitted.now) }
+    requires { IsWideFor (unit_form unit.now) emitted.now }
+    ensures { OnOk result (map rows_of all.new ≡ map rows_of all.old ++ tables_for (unit_form unit.now ∷ []) emitted.now) }
 {
     match unit {
         Unit::Statement(_) => Ok(()),

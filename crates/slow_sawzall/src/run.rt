@@ -1,10 +1,11 @@
 // What a Sawzall program does for a record, statement by statement.
 ghost use Rattle.std.specs.Prelude.{◌≡◌, [], ◌++◌, flat_map, length, IfOk, OnOk};
-ghost use Rattle.saw_model.specs.Source.{Declare, Assign, Emit, said_all, parts_of, listed, does, do_all, do_parts, emits};
-ghost use Rattle.saw_text.specs.Tree.{said, option_said, statement, block, or_end, unit_form, unit_forms, part_of, program_of};
-ghost use Rattle.saw_text.specs.View.{all_said, option_block};
-ghost use Rattle.saw_front.specs.Valued.{AreValues, AllValues};
-ghost use Rattle.slow_sawzall.specs.Sawzall.{values_of, now_of, do_part, AreEmitted, IsRunnable, AreRunnable, IsRunnablePart, AreRunnableParts};
+ghost use Rattle.saw_text.specs.Tree.{Declare, Assign, Emit};
+ghost use Rattle.saw_model.specs.Meaning.{eval_all, parts_of, listed, exec, exec_block, exec_optional, exec_units, emits};
+ghost use Rattle.saw_text.specs.Tree.{expression, option_expression, statement, block, or_unwritten, unit_form, unit_forms};
+ghost use Rattle.saw_text.specs.View.{expressions, option_block};
+ghost use Rattle.saw_build.specs.Valued.{AreValues, AllValues};
+ghost use Rattle.slow_sawzall.specs.Sawzall.{values_of, now_of, do_part, AreEmitted, IsRunnable, AreRunnable, AreRunnableOptional, IsRunnablePart, AreRunnableParts};
 
 use crate::value::{first_value, set, value};
 use river_base::{Name, NoMemory, Row};
@@ -32,8 +33,8 @@ impl Run {
 
     /// What a program does for all records, one after another.
     pub fn records(&mut self, alloc: Global, units: &[Unit], rows: &[Row]) -> Result<(), NoMemory>
-        requires { AreRunnableParts (program_of (unit_forms units.now)) }
-        ensures { OnOk result (self.new.emitted.items ≡ self.old.emitted.items ++ flat_map (emits (program_of (unit_forms units.now))) rows.now) }
+        requires { AreRunnableParts (unit_forms units.now) }
+        ensures { OnOk result (self.new.emitted.items ≡ self.old.emitted.items ++ flat_map (emits (unit_forms units.now)) rows.now) }
     {
         for row in rows {
             self.record(alloc, units, row)?;
@@ -43,8 +44,8 @@ impl Run {
 
     // What it does for a record, with fresh locals.
     fn record(&mut self, alloc: Global, units: &[Unit], row: &Row) -> Result<(), NoMemory>
-        requires { AreRunnableParts (program_of (unit_forms units.now)) }
-        ensures { OnOk result (self.new.emitted.items ≡ self.old.emitted.items ++ emits (program_of (unit_forms units.now)) row.now) }
+        requires { AreRunnableParts (unit_forms units.now) }
+        ensures { OnOk result (self.new.emitted.items ≡ self.old.emitted.items ++ emits (unit_forms units.now) row.now) }
     {
         self.locals.clear();
         self.units(alloc, units, row)
@@ -52,8 +53,8 @@ impl Run {
 
     // All units, one after another.
     fn units(&mut self, alloc: Global, units: &[Unit], row: &Row) -> Result<(), NoMemory>
-        requires { AreRunnableParts (program_of (unit_forms units.now)) }
-        ensures { OnOk result (now_of self.new ≡ do_parts (program_of (unit_forms units.now)) row.now (now_of self.old)) }
+        requires { AreRunnableParts (unit_forms units.now) }
+        ensures { OnOk result (now_of self.new ≡ exec_units (unit_forms units.now) row.now (now_of self.old)) }
     {
         for unit in units {
             self.unit(alloc, unit, row)?;
@@ -63,8 +64,8 @@ impl Run {
 
     // A unit; a table does nothing.
     fn unit(&mut self, alloc: Global, unit: &Unit, row: &Row) -> Result<(), NoMemory>
-        requires { IsRunnablePart (part_of (unit_form unit.now)) }
-        ensures { OnOk result (now_of self.new ≡ do_part (part_of (unit_form unit.now)) row.now (now_of self.old)) }
+        requires { IsRunnablePart (unit_form unit.now) }
+        ensures { OnOk result (now_of self.new ≡ do_part (unit_form unit.now) row.now (now_of self.old)) }
     {
         match unit {
             Unit::Table(_) => Ok(()),
@@ -76,7 +77,7 @@ impl Run {
     #[cycle(statements)]
     fn block(&mut self, alloc: Global, b: &Block, row: &Row) -> Result<(), NoMemory>
         requires { AreRunnable (block b.now) }
-        ensures { OnOk result (now_of self.new ≡ do_all (block b.now) row.now (now_of self.old)) }
+        ensures { OnOk result (now_of self.new ≡ exec_block (block b.now) row.now (now_of self.old)) }
     {
         for s in b.statements.as_slice() {
             self.statement(alloc, s, row)?;
@@ -88,7 +89,7 @@ impl Run {
     #[cycle(statements)]
     fn statement(&mut self, alloc: Global, s: &Statement, row: &Row) -> Result<(), NoMemory>
         requires { IsRunnable (statement s.now) }
-        ensures { OnOk result (now_of self.new ≡ does (statement s.now) row.now (now_of self.old)) }
+        ensures { OnOk result (now_of self.new ≡ exec (statement s.now) row.now (now_of self.old)) }
     {
         match s {
             Statement::Declare { name, value } => self.declare(*name, value, row),
@@ -112,8 +113,8 @@ impl Run {
     // The statements behind `else`, where it is written.
     #[cycle(statements)]
     fn otherwise(&mut self, alloc: Global, no: &Option<Block>, row: &Row) -> Result<(), NoMemory>
-        requires { AreRunnable (or_end (option_block no.now)) }
-        ensures { OnOk result (now_of self.new ≡ do_all (or_end (option_block no.now)) row.now (now_of self.old)) }
+        requires { AreRunnableOptional (or_unwritten (option_block no.now)) }
+        ensures { OnOk result (now_of self.new ≡ exec_optional (or_unwritten (option_block no.now)) row.now (now_of self.old)) }
     {
         match no {
             None => Ok(()),
@@ -123,8 +124,8 @@ impl Run {
 
     // A local is declared; without a value it is 0.
     fn declare(&mut self, name: Name, first: &Option<Expr>, row: &Row) -> Result<(), NoMemory>
-        requires { AllValues (listed (option_said first.now)) }
-        ensures { OnOk result (now_of self.new ≡ does (Declare name (option_said first.now)) row.now (now_of self.old)) }
+        requires { AllValues (listed (option_expression first.now)) }
+        ensures { OnOk result (now_of self.new ≡ exec (Declare name (option_expression first.now)) row.now (now_of self.old)) }
     {
         let start = first_value(first, row, self.locals.as_slice());
         set(&mut self.locals, name, start)
@@ -132,8 +133,8 @@ impl Run {
 
     // A local is set.
     fn assign(&mut self, name: Name, e: &Expr, row: &Row) -> Result<(), NoMemory>
-        requires { AreValues (said e.now) }
-        ensures { OnOk result (now_of self.new ≡ does (Assign name (said e.now)) row.now (now_of self.old)) }
+        requires { AreValues (expression e.now) }
+        ensures { OnOk result (now_of self.new ≡ exec (Assign name (expression e.now)) row.now (now_of self.old)) }
     {
         let next = value(e, row, self.locals.as_slice());
         set(&mut self.locals, name, next)
@@ -149,8 +150,8 @@ impl Run {
         weight: &Option<Expr>,
         row: &Row,
     ) -> Result<(), NoMemory>
-        requires { AreEmitted (all_said indexes.now) (said value.now) (option_said weight.now) }
-        ensures { OnOk result (now_of self.new ≡ does (Emit table (all_said indexes.now) (said value.now) (option_said weight.now)) row.now (now_of self.old)) }
+        requires { AreEmitted (expressions indexes.now) (expression value.now) (option_expression weight.now) }
+        ensures { OnOk result (now_of self.new ≡ exec (Emit table (expressions indexes.now) (expression value.now) (option_expression weight.now)) row.now (now_of self.old)) }
     {
         let made = emitted_row(alloc, indexes, value, weight, row, self.locals.as_slice())?;
         self.emitted.push((table, made))?;
@@ -167,8 +168,8 @@ fn emitted_row(
     row: &Row,
     locals: &[(Name, i64)],
 ) -> Result<Row, NoMemory>
-    requires { AreEmitted (all_said indexes.now) (said first.now) (option_said weight.now) }
-    ensures { IfOk result (λ made. made ≡ said_all (parts_of (all_said indexes.now) (said first.now) (option_said weight.now)) row.now (values_of locals.now)) }
+    requires { AreEmitted (expressions indexes.now) (expression first.now) (option_expression weight.now) }
+    ensures { IfOk result (λ made. made ≡ eval_all (parts_of (expressions indexes.now) (expression first.now) (option_expression weight.now)) row.now (values_of locals.now)) }
 {
     let mut values = Vec::new(alloc);
     add_values(&mut values, indexes, row, locals)?;
@@ -184,8 +185,8 @@ fn add_weight(
     row: &Row,
     locals: &[(Name, i64)],
 ) -> Result<(), NoMemory>
-    requires { AllValues (listed (option_said weight.now)) }
-    ensures { OnOk result (values.new.items ≡ values.old.items ++ said_all (listed (option_said weight.now)) row.now (values_of locals.now)) }
+    requires { AllValues (listed (option_expression weight.now)) }
+    ensures { OnOk result (values.new.items ≡ values.old.items ++ eval_all (listed (option_expression weight.now)) row.now (values_of locals.now)) }
 {
     if let Some(weight) = weight {
         values.push(value(weight, row, locals))?;
@@ -200,8 +201,8 @@ fn add_values(
     row: &Row,
     locals: &[(Name, i64)],
 ) -> Result<(), NoMemory>
-    requires { AllValues (all_said es.now) }
-    ensures { OnOk result (values.new.items ≡ values.old.items ++ said_all (all_said es.now) row.now (values_of locals.now)) }
+    requires { AllValues (expressions es.now) }
+    ensures { OnOk result (values.new.items ≡ values.old.items ++ eval_all (expressions es.now) row.now (values_of locals.now)) }
 {
     for e in es {
         values.push(value(e, row, locals))?;

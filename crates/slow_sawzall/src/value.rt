@@ -1,9 +1,9 @@
 // The values of Sawzall's expressions, for the fields of a record and the values of its locals.
 ghost use Rattle.std.specs.Prelude.{◌≡◌, pos, List, OnOk, slice_index_or};
 ghost use Rattle.brooklet_model.specs.Machine.{at_name};
-ghost use Rattle.saw_model.specs.Source.{said as value_said, said_or, listed};
-ghost use Rattle.saw_text.specs.Tree.{said, option_said};
-ghost use Rattle.saw_front.specs.Valued.{AreValues, AllValues};
+ghost use Rattle.saw_model.specs.Meaning.{eval as value_said, eval_or, listed};
+ghost use Rattle.saw_text.specs.Tree.{expression, option_expression};
+ghost use Rattle.saw_build.specs.Valued.{AreValues, AllValues};
 ghost use Rattle.slow_sawzall.specs.Sawzall.{values_of};
 
 use river_base::{Name, NoMemory, Row};
@@ -48,8 +48,8 @@ pub fn set(locals: &mut Vec<(Name, i64)>, name: Name, value: i64) -> Result<(), 
 
 /// The value of an expression.
 pub fn value(e: &Expr, row: &Row, locals: &[(Name, i64)]) -> i64
-    requires { AreValues (said e.now) }
-    ensures { result ≡ value_said (said e.now) row.now (values_of locals.now) }
+    requires { AreValues (expression e.now) }
+    ensures { result ≡ value_said (expression e.now) row.now (values_of locals.now) }
 {
     match e {
         Expr::Number(number) => *number as i64,
@@ -67,8 +67,8 @@ pub fn value(e: &Expr, row: &Row, locals: &[(Name, i64)]) -> i64
 
 /// The value of an expression, where there is one; otherwise 0.
 pub fn first_value(e: &Option<Expr>, row: &Row, locals: &[(Name, i64)]) -> i64
-    requires { AllValues (listed (option_said e.now)) }
-    ensures { result ≡ said_or (pos 0) (option_said e.now) row.now (values_of locals.now) }
+    requires { AllValues (listed (option_expression e.now)) }
+    ensures { result ≡ eval_or (pos 0) (option_expression e.now) row.now (values_of locals.now) }
 {
     match e {
         None => 0,

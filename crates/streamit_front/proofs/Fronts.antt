@@ -56,7 +56,7 @@ unfolding compiled
 stands-means text p t = ap then_read t.lexed ∙ ap then_judged (text-reads text p t)
 
 bad-units : (units : List (List Tok)) (n : ℕ) → IsFirstBad IsUnitAt next_unit tt units n ⊎ IsEmpty units n → some_units units ≡ Err n
-bad-units units n (inl b) = by units (bad-read next_unit exact-unit_from tt units n b) where
+bad-units units n (inl b) = by units (bad-read tt next_unit exact-unit_from tt units n b) where
   by : (us : List (List Tok)) → read_units unit_from next_unit tt 1 us ≡ Err n → some_units us ≡ Err n
   by [] e = absurd (cc e)
   by (u ∷ us) e = e

@@ -15,21 +15,21 @@ use Rattle.streamit_text.proofs.Units.{exact-unit_from}
 -- units that were read stand for the program
 pub units-read : (units : List (List Tok)) (p : Program) → some_units units ≡ Ok p → AreUnits p units × IsSome p
 units-read [] p e = cc
-units-read (u ∷ us) [] e = absurd (all-formed next_unit exact-unit_from tt 1 (u ∷ us) [] e)
-units-read (u ∷ us) (d ∷ ds) e = (all-formed next_unit exact-unit_from tt 1 (u ∷ us) (d ∷ ds) e, tt)
+units-read (u ∷ us) [] e = absurd (all-formed tt next_unit exact-unit_from tt 1 (u ∷ us) [] e)
+units-read (u ∷ us) (d ∷ ds) e = (all-formed tt next_unit exact-unit_from tt 1 (u ∷ us) (d ∷ ds) e, tt)
 
 -- units that stand for the program are read
 pub units-reads : (units : List (List Tok)) (p : Program) → AreUnits p units → IsSome p → some_units units ≡ Ok p
 units-reads [] [] h k = absurd k
 units-reads [] (d ∷ ds) h k = absurd h
-units-reads (u ∷ us) p h k = formed-read next_unit exact-unit_from tt 1 (u ∷ us) p h
+units-reads (u ∷ us) p h k = formed-read tt next_unit exact-unit_from tt 1 (u ∷ us) p h
 
 -- the unit that is told is the first
 pub units-bad : (units : List (List Tok)) (m : ℕ) → some_units units ≡ Err m → IsFirstBad IsUnitAt next_unit tt units m ⊎ IsEmpty units m
 units-bad [] m e = inr (refl, same e) where
   same : ◌≡◌ {A = Result Program ℕ} (Err 1) (Err m) → m ≡ 1
   same f = cc
-units-bad (u ∷ us) m e = inl (first-bad next_unit exact-unit_from tt (u ∷ us) m e)
+units-bad (u ∷ us) m e = inl (first-bad tt next_unit exact-unit_from tt (u ∷ us) m e)
 
 -- the text stands for what is read of it
 pub text-read : (text : List ℕ) (marks : List Mark) (p : Program) → tokens_in text ≡ Ok marks → some_units (units_of (toks marks)) ≡ Ok p → IsText text p

@@ -1,3 +1,4 @@
+pub mod AllUnits
 pub mod Choices
 pub mod Climbs
 pub mod Exact

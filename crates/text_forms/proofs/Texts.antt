@@ -1,13 +1,13 @@
--- The units of a text, read one after another.
+-- The units of a text, read one after another, where each unit's reading is exact up to its end.
 use Rattle.std.proofs.Common.{◌≡◌, ℕ, ◌+◌, List, [], ◌∷◌, ◌++◌, length, Option, Some, None, Result, Ok, Err, refl, sym, ap, ◌∙◌, subst, arith, append-nil}
 use Rattle.work_code.specs.Tok.{Tok}
 use Rattle.text_forms.specs.Parse.{Parse, nothing_at}
 use Rattle.text_forms.specs.Texts.{at_end, ended, whole, put_first, after_unit, read_units, AllFormed, IsFirstBad, state_after}
 use Rattle.text_forms.proofs.Pairs.{some_inj}
-use Rattle.text_forms.proofs.Exact.{Exact, Any}
+use Rattle.text_forms.proofs.Exact.{Exact}
 
--- a whole unit
-module _ {A : Type 0} {F : A → List Tok → Type 0} {p : Parse A} (x : Exact F p Any) where
+-- a whole unit; `E` says what may follow a unit, and the end may
+module _ {A : Type 0} {F : A → List Tok → Type 0} {p : Parse A} {E : List Tok → Type 0} (end : E []) (x : Exact F p E) where
   ended-some : (r : Option (A × List Tok)) (v : A) → ended r ≡ Some v → r ≡ Some (v, [])
   ended-some None v e = cc
   ended-some (Some q) v e = last q.0 q.1 e where
@@ -22,14 +22,15 @@ module _ {A : Type 0} {F : A → List Tok → Type 0} {p : Parse A} (x : Exact F
 
   pub whole-complete : (u : List Tok) (v : A) → F v u → whole p u ≡ Some v
   whole-complete u v h =
-      let all : p u ≡ Some (v, []) = subst (λ (l : List Tok). p l ≡ Some (v, [])) (append-nil u) (x.complete v u [] h tt) in
+      let all : p u ≡ Some (v, []) = subst (λ (l : List Tok). p l ≡ Some (v, [])) (append-nil u) (x.complete v u [] h end) in
       ap ended all
 
   -- what stands for one value stands for no other
   pub one-value : (u : List Tok) (v w : A) → F v u → F w u → v ≡ w
   one-value u v w f g = some_inj (sym (whole-complete u v f) ∙ whole-complete u w g)
 
-module _ {S A : Type 0} {F : S → A → List Tok → Type 0} {p : S → Parse A} (next : S → A → S) (x : (s : S) → Exact (F s) (p s) Any) where
+module _ {S A : Type 0} {F : S → A → List Tok → Type 0} {p : S → Parse A} {E : List Tok → Type 0} (end : E []) (next : S → A → S)
+    (x : (s : S) → Exact (F s) (p s) E) where
   -- how a reading of units goes on
   first_ok : (v : A) (r : Result (List A) ℕ) (vs : List A) → put_first v r ≡ Ok vs → (ws : List A) × (r ≡ Ok ws) × (vs ≡ v ∷ ws)
   first_ok v (Ok ws) vs e = (ws, refl, same e) where
@@ -48,7 +49,7 @@ module _ {S A : Type 0} {F : S → A → List Tok → Type 0} {p : S → Parse A
   all-formed s n [] (v ∷ vs) e = cc
   all-formed s n (u ∷ us) vs e =
       let f = unit_ok n (λ v. read_units p next (next s v) (n + 1) us) (whole (p s) u) vs e in
-      subst (λ (ws : List A). AllFormed F next s ws (u ∷ us)) (sym f.4) (whole-sound (x s) u f.0 f.1, all-formed (next s f.0) (n + 1) us f.2 f.3)
+      subst (λ (ws : List A). AllFormed F next s ws (u ∷ us)) (sym f.4) (whole-sound end (x s) u f.0 f.1, all-formed (next s f.0) (n + 1) us f.2 f.3)
 
   -- what is in the grammar is read
   pub formed-read : (s : S) (n : ℕ) (us : List (List Tok)) (vs : List A) → AllFormed F next s vs us → read_units p next s n us ≡ Ok vs
@@ -56,7 +57,7 @@ module _ {S A : Type 0} {F : S → A → List Tok → Type 0} {p : S → Parse A
   formed-read s n [] (v ∷ vs) h = absurd h
   formed-read s n (u ∷ us) [] h = absurd h
   formed-read s n (u ∷ us) (v ∷ vs) h =
-      rw (whole-complete (x s) u v h.0, formed-read (next s v) (n + 1) us vs h.1) refl
+      rw (whole-complete end (x s) u v h.0, formed-read (next s v) (n + 1) us vs h.1) refl
 
   -- units in the grammar stand for one list of values
   pub one-text : (s : S) (us : List (List Tok)) (vs ws : List A) → AllFormed F next s vs us → AllFormed F next s ws us → vs ≡ ws
@@ -87,7 +88,7 @@ module _ {S A : Type 0} {F : S → A → List Tok → Type 0} {p : S → Parse A
         values = [];
         is = refl;
         formed = tt;
-        not_formed = λ v h. nothing (sym none ∙ whole-complete (x s) u v h);
+        not_formed = λ v h. nothing (sym none ∙ whole-complete end (x s) u v h);
         number = refl;
       },
       ap (λ (k : ℕ). k + 1) (sym (same f)),
@@ -104,7 +105,7 @@ module _ {S A : Type 0} {F : S → A → List Tok → Type 0} {p : S → Parse A
             behind = bad.behind;
             values = v ∷ bad.values;
             is = ap (λ (l : List (List Tok)). u ∷ l) bad.is;
-            formed = (whole-sound (x s) u v some, bad.formed);
+            formed = (whole-sound end (x s) u v some, bad.formed);
             not_formed = bad.not_formed;
             number = omega (arith, bad.number);
           },
@@ -119,7 +120,7 @@ module _ {S A : Type 0} {F : S → A → List Tok → Type 0} {p : S → Parse A
   -- a unit that stands for nothing is not read
   nothing-read : (s : S) (u : List Tok) → ((v : A) → F s v u → ⊥) → (o : Option A) → whole (p s) u ≡ o → o ≡ None
   nothing-read s u not None e = refl
-  nothing-read s u not (Some v) e = absurd (not v (whole-sound (x s) u v e))
+  nothing-read s u not (Some v) e = absurd (not v (whole-sound end (x s) u v e))
 
   bad-from : (s : S) (n : ℕ) (before : List (List Tok)) (bad : List Tok) (behind : List (List Tok)) (vs : List A)
       → AllFormed F next s vs before → ((v : A) → F (state_after next s vs) v bad → ⊥)
@@ -131,7 +132,7 @@ module _ {S A : Type 0} {F : S → A → List Tok → Type 0} {p : S → Parse A
   bad-from s n [] bad behind (v ∷ vs) h not = absurd h
   bad-from s n (b ∷ bs) bad behind [] h not = absurd h
   bad-from s n (b ∷ bs) bad behind (v ∷ vs) h not =
-      let e = whole-complete (x s) b v h.0 in
+      let e = whole-complete end (x s) b v h.0 in
       let i = bad-from (next s v) (n + 1) bs bad behind vs h.1 not in
       let z : n + 1 + length bs ≡ n + length (b ∷ bs) = omega arith in
       rw (e, i, z) refl

@@ -1,4 +1,4 @@
--- How a method of a reader stands to a reading function.
+-- How code that reads stands to a reading function.
 use Rattle.std.specs.Prelude.{◌≡◌, List, Option, None, Some, Result, Ok, Err}
 use Rattle.work_code.specs.Tok.{Tok}
 use Rattle.text_forms.specs.declared.fault.Fault.{Fault}
@@ -15,3 +15,15 @@ abbrev pub Passes : {X : Type 0} → Result X Fault → List Tok → Option (Lis
 Passes (Ok x) rest read = read ≡ Some rest
 Passes (Err Syntax) rest read = read ≡ None
 Passes (Err NoMemory) rest read = Unit {0}
+
+-- the function gives a value, of which this is the view, exactly where there is one
+abbrev pub Makes : {X A : Type 0} → (X → A) → Result X Fault → Option A → Type 0
+Makes view (Ok x) made = made ≡ Some (view x)
+Makes view (Err Syntax) made = made ≡ None
+Makes view (Err NoMemory) made = Unit {0}
+
+-- the value is given back where the symbol comes, and the reader passes over it
+abbrev pub Keeps : {X : Type 0} → X → Result X Fault → List Tok → Option (List Tok) → Type 0
+Keeps x (Ok y) rest read = (y ≡ x) × (read ≡ Some rest)
+Keeps x (Err Syntax) rest read = read ≡ None
+Keeps x (Err NoMemory) rest read = Unit {0}

@@ -1,3 +1,4 @@
+pub mod AllUnits
 pub mod Deep
 pub mod Deepest
 pub mod Exact

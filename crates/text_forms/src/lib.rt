@@ -3,6 +3,7 @@
 
 mod climb;
 mod dialect;
+mod end;
 mod expression;
 mod fault;
 mod form;
@@ -13,9 +14,12 @@ mod operator;
 mod reader;
 mod refusal;
 mod tree;
+mod unit_fault;
+mod units;
 
 pub use climb::read;
 pub use dialect::{Dialect, TokenSource};
+pub use end::{closed, is, kept};
 pub use fault::Fault;
 pub use form::Form;
 pub use language::Language;
@@ -23,3 +27,5 @@ pub use operator::Unary;
 pub use reader::Reader;
 pub use refusal::Refusal;
 pub use tree::Tree;
+pub use unit_fault::UnitFault;
+pub use units::{Units, read_text, read_units};

@@ -1,8 +1,0 @@
-use Rattle.std.proofs.Common.{◌≡◌, drop}
-use Rattle.std.specs.Prelude.{max}
-use Rattle.saw_model.specs.Source.{reach_parts}
-use Rattle.saw_text.specs.Tree.{unit_forms, program_of}
-use Rattle.saw_front.proofs.reach.reach_units.Given as goal
-
-abbrev pub invariant-loop-unit : goal.invariant-loop-unit
-invariant-loop-unit l = max l.most (reach_parts (program_of (unit_forms (drop l.unit-index l.units)))) ≡ reach_parts (program_of (unit_forms l.units))

@@ -1,0 +1,138 @@
+-- The seven lines of the expressions that the languages share, but for CQL.
+use Rattle.std.proofs.Common.{◌≡◌, ◌≢◌, ℕ, zero, suc, ◌<◌, ◌≤◌, List, [], ◌∷◌, Bool, true, false, cond, Option, Some, None, refl, sym, ap, ◌∙◌, arith}
+use Rattle.std.specs.Prelude.{◌==◌}
+use Rattle.std.proofs.lemmas.Bool.{eqb-true}
+use Rattle.work_code.specs.Tok.{Tok}
+use Rattle.work_code.specs.declared.expr.BinOp.{BinOp}
+use Rattle.work_code.specs.declared.expr.BinOp.TheVariants as op
+use Rattle.text_forms.specs.Expressions.{rank_of, of_rank, op_at, ranked}
+use Rattle.text_blocks.specs.Seven.{seven}
+use Rattle.text_forms.specs.Ladder as expressions
+use Rattle.text_forms.specs.Lines.{Syntax, line_of, form_of, operator, sign}
+use Rattle.text_forms.specs.ReadLines as lines
+use Rattle.text_forms.specs.ReadLines.{first}
+use Rattle.text_forms.specs.declared.form.Form.TheVariants as form
+use Rattle.text_forms.proofs.Pairs.{some_inj}
+
+rank-some : (o : BinOp) → (0 < rank_of o) × (rank_of o < 7)
+rank-some op.Add = (omega arith, omega arith)
+rank-some op.Sub = (omega arith, omega arith)
+rank-some op.Mul = (omega arith, omega arith)
+rank-some op.Quot = (omega arith, omega arith)
+rank-some op.Rem = (omega arith, omega arith)
+rank-some op.Eq = (omega arith, omega arith)
+rank-some op.Ne = (omega arith, omega arith)
+rank-some op.Lt = (omega arith, omega arith)
+rank-some op.Le = (omega arith, omega arith)
+rank-some op.Gt = (omega arith, omega arith)
+rank-some op.Ge = (omega arith, omega arith)
+rank-some op.And = (omega arith, omega arith)
+rank-some op.Or = (omega arith, omega arith)
+
+-- an operator is of its line
+pub of_rank-is : (k : ℕ) (r : Option BinOp) (o : BinOp) → of_rank k r ≡ Some o → (r ≡ Some o) × (rank_of o ≡ k)
+of_rank-is k None o e = cc
+of_rank-is k (Some p) o e = by (rank_of p == k) refl e where
+  by : (b : Bool) → (rank_of p == k) ≡ b → cond b (Some p) None ≡ Some o → ◌≡◌ {A = Option BinOp} (Some p) (Some o) × (rank_of o ≡ k)
+  by true is f = (f, ap rank_of (sym (some_inj f)) ∙ eqb-true (rank_of p) k is)
+  by false is f = cc
+
+-- none is of a line that is none of the six
+pub no-rank : (k : ℕ) (r : Option BinOp) → ((o : BinOp) → rank_of o ≢ k) → of_rank k r ≡ None
+no-rank k None other = refl
+no-rank k (Some o) other = by (rank_of o == k) refl where
+  by : (b : Bool) → (rank_of o == k) ≡ b → cond b (Some o) None ≡ None
+  by true is = absurd (other o (eqb-true (rank_of o) k is))
+  by false is = refl
+
+-- what the signs are, a language says
+module _ {P : Type 0} (signs : Tok → Option P) where
+  -- the tightest line has the signs
+  pub form-prefix : (k : ℕ) → k ≡ 0 → form_of (line_of (seven signs) k) ≡ form.Prefix
+  form-prefix k e = rw e refl
+
+  -- the six above it have operators, as many as come
+  pub form-chain : (k : ℕ) → k ≢ 0 → k < 7 → form_of (line_of (seven signs) k) ≡ form.Chain
+  form-chain zero some few = absurd (some refl)
+  form-chain (suc zero) some few = refl
+  form-chain (suc (suc zero)) some few = refl
+  form-chain (suc (suc (suc zero))) some few = refl
+  form-chain (suc (suc (suc (suc zero)))) some few = refl
+  form-chain (suc (suc (suc (suc (suc zero))))) some few = refl
+  form-chain (suc (suc (suc (suc (suc (suc zero)))))) some few = refl
+  form-chain (suc (suc (suc (suc (suc (suc (suc k))))))) some few = absurd (omega (arith, few))
+
+  -- above them is none
+  pub form-none : (k : ℕ) → 7 ≤ k → form_of (line_of (seven signs) k) ≡ form.Once
+  form-none zero most = absurd (omega (arith, most))
+  form-none (suc zero) most = absurd (omega (arith, most))
+  form-none (suc (suc zero)) most = absurd (omega (arith, most))
+  form-none (suc (suc (suc zero))) most = absurd (omega (arith, most))
+  form-none (suc (suc (suc (suc zero)))) most = absurd (omega (arith, most))
+  form-none (suc (suc (suc (suc (suc zero))))) most = absurd (omega (arith, most))
+  form-none (suc (suc (suc (suc (suc (suc zero)))))) most = absurd (omega (arith, most))
+  form-none (suc (suc (suc (suc (suc (suc (suc k))))))) most = refl
+
+  -- the operators of a line are those of its rank
+  pub operator-is : (k : ℕ) (x : Tok) → operator (line_of (seven signs) k) x ≡ ranked k x
+  operator-is zero x = sym (no-rank 0 (op_at x) (λ o e. let few = (rank-some o).0 in omega (arith, few, e)))
+  operator-is (suc zero) x = refl
+  operator-is (suc (suc zero)) x = refl
+  operator-is (suc (suc (suc zero))) x = refl
+  operator-is (suc (suc (suc (suc zero)))) x = refl
+  operator-is (suc (suc (suc (suc (suc zero))))) x = refl
+  operator-is (suc (suc (suc (suc (suc (suc zero)))))) x = refl
+  operator-is (suc (suc (suc (suc (suc (suc (suc k))))))) x =
+      sym (no-rank (suc (suc (suc (suc (suc (suc (suc k))))))) (op_at x) (λ o e. let few = (rank-some o).1 in omega (arith, few, e)))
+
+  -- of a language with these lines
+  pub operator_at-is : {T : Type 0} (S : Syntax T BinOp P) (k : ℕ) (ts : List Tok) → S.lines ≡ seven signs → lines.operator_at S k ts ≡ expressions.operator_at k ts
+  operator_at-is S k [] e = refl
+  operator_at-is S k (x ∷ ts) e = rw e (operator-is k x)
+
+  -- SIGNS
+
+  -- no line but the tightest has signs
+  pub sign-other : (k : ℕ) (x : Tok) → k ≢ 0 → sign (line_of (seven signs) k) x ≡ None
+  sign-other zero x some = absurd (some refl)
+  sign-other (suc zero) x some = refl
+  sign-other (suc (suc zero)) x some = refl
+  sign-other (suc (suc (suc zero))) x some = refl
+  sign-other (suc (suc (suc (suc zero)))) x some = refl
+  sign-other (suc (suc (suc (suc (suc zero))))) x some = refl
+  sign-other (suc (suc (suc (suc (suc (suc zero)))))) x some = refl
+  sign-other (suc (suc (suc (suc (suc (suc (suc k))))))) x some = refl
+
+  -- what is no sign is none on any line
+  pub sign-none : (k : ℕ) (x : Tok) → signs x ≡ None → sign (line_of (seven signs) k) x ≡ None
+  sign-none zero x e = e
+  sign-none (suc k) x e = sign-other (suc k) x (λ f. omega (arith, f))
+
+  -- the sign that comes next, on the tightest line
+  pub sign_at-first : {T : Type 0} (S : Syntax T BinOp P) (k : ℕ) (ts : List Tok) → S.lines ≡ seven signs → k ≡ 0 → lines.sign_at S k ts ≡ first signs ts
+  sign_at-first S k ts is e = rw (is, e) refl
+
+  -- on any other line none comes
+  pub sign_at-other : {T : Type 0} (S : Syntax T BinOp P) (k : ℕ) (ts : List Tok) → S.lines ≡ seven signs → k ≢ 0 → lines.sign_at S k ts ≡ None
+  sign_at-other S k [] is some = refl
+  sign_at-other S k (x ∷ ts) is some = rw is (sign-other k x some)
+
+  -- one operator is of one line
+  pub operators-apart : (j k : ℕ) (x : Tok) (o : BinOp) → j < k → operator (line_of (seven signs) k) x ≡ Some o → operator (line_of (seven signs) j) x ≡ None
+  operators-apart j k x o less is = by (operator (line_of (seven signs) j) x) refl where
+    here : (op_at x ≡ Some o) × (rank_of o ≡ k)
+    here = of_rank-is k (op_at x) o (sym (operator-is k x) ∙ is)
+
+    same_op : (p : BinOp) → op_at x ≡ Some p → p ≡ o
+    same_op p e = let f = here.0 in cc (e, f)
+
+    by : (r : Option BinOp) → operator (line_of (seven signs) j) x ≡ r → r ≡ None
+    by None e = refl
+    by (Some p) e =
+        let there = of_rank-is j (op_at x) p (sym (operator-is j x) ∙ e) in
+        let one : rank_of p ≡ rank_of o = ap rank_of (same_op p there.0) in
+        let low = there.1 in
+        let high = here.1 in
+        absurd (omega (arith, one, low, high, less))
+
+pub ruleset forms = (form-prefix, form-chain, form-none)

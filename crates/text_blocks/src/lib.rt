@@ -1,0 +1,15 @@
+//! Statements, blocks and expressions of any language: their grammar with holes, one reader, and
+//! one proof that it is exact.
+#![tactic(auto)]
+
+mod blocks;
+mod exprs;
+mod opening;
+mod sign;
+mod words;
+
+pub use blocks::{Blocks, block, rest};
+pub use exprs::{Exprs, ended, first_value, place, round, square};
+pub use opening::{NoLoop, Opening};
+pub use sign::{Sign, take_operator, take_sign};
+pub use words::is_free;
