@@ -20,7 +20,7 @@ use Rattle.cql_text.specs.Grammar.{IsText, AreParts}
 use Rattle.cql_text.specs.Laws.{IsBadAt}
 use Rattle.cql_text.specs.Reading.{parts_in}
 use Rattle.cql_text.specs.Tree.{Part}
-use Rattle.cql_text.specs.declared.fault.CqlTextFault.TheVariants.{Syntax as Syntax_at}
+use Rattle.text_forms.specs.declared.unit_fault.UnitFault.TheVariants.{Syntax as Syntax_at}
 use Rattle.cql_front.proofs.Spoken.{spoken, shortened}
 use Rattle.cql_text.proofs.Texts.{text-read, text-reads, units-bad, units-reads, units-told}
 use Rattle.cql_model.proofs.Accepted.{accepted_are_valid, accepted_mean}

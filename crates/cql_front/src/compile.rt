@@ -9,11 +9,11 @@ ghost use Rattle.cql_text.specs.Tree as tree;
 use crate::CqlFault;
 use cql_build::plan;
 use cql_model::{Fault, Refusal};
-use cql_text::{CqlProgram, CqlTextFault, Part, read_cql};
+use cql_text::{CqlProgram, Part, read_cql};
 use river_base::Bytes;
 use river_plan::Plan;
 use std::alloc::Global;
-use text_forms::Refusal as TextRefusal;
+use text_forms::{Refusal as TextRefusal, UnitFault};
 use work_code::{LexFault, Tokens, lex};
 
 /// The program of a text, and its plan.
@@ -58,8 +58,8 @@ fn read(alloc: Global, tokens: &Tokens<'_>) -> Result<CqlProgram, CqlFault>
 {
     match read_cql(alloc, tokens) {
         Ok(program) => Ok(program),
-        Err(CqlTextFault::Syntax { unit }) => Err(CqlFault::Text(TextRefusal::Syntax { unit })),
-        Err(CqlTextFault::NoMemory) => Err(CqlFault::NoMemory),
+        Err(UnitFault::Syntax { unit }) => Err(CqlFault::Text(TextRefusal::Syntax { unit })),
+        Err(UnitFault::NoMemory) => Err(CqlFault::NoMemory),
     }
 }
 

@@ -3,5 +3,4 @@ pub mod Seven
 pub mod Texts
 pub mod Units
 pub mod Values
-pub mod Wholes
 pub mod Words

@@ -15,22 +15,18 @@ use Rattle.cql_text.proofs.Units.{exact-part, exact-part_from}
 
 -- units that were read stand for the program
 pub units-read : (units : List (List Tok)) (p : List Part) → parts_in units ≡ Ok p → AreParts p units
-unfolding parts_in
 units-read units p e = all-formed tt next_part exact-part_from tt 1 units p e
 
 -- units that stand for the program are read
 pub units-reads : (units : List (List Tok)) (p : List Part) → AreParts p units → parts_in units ≡ Ok p
-unfolding parts_in
 units-reads units p h = formed-read tt next_part exact-part_from tt 1 units p h
 
 -- the unit that is told is the first
 pub units-bad : (units : List (List Tok)) (m : ℕ) → parts_in units ≡ Err m → IsFirstBad IsPartAt next_part tt units m
-unfolding parts_in
 units-bad units m e = first-bad tt next_part exact-part_from tt units m e
 
 -- the first unit that is not in the grammar is told
 pub units-told : (units : List (List Tok)) (m : ℕ) → IsFirstBad IsPartAt next_part tt units m → parts_in units ≡ Err m
-unfolding parts_in
 units-told units m h = bad-read tt next_part exact-part_from tt units m h
 
 -- the text stands for what is read of it

@@ -16,7 +16,7 @@ use Rattle.cql_text.specs.Grammar.{made_column, IsColumn, IsColumns, InRound, Is
 use Rattle.cql_text.specs.Grammar.{IsPart, IsPartAt}
 use Rattle.cql_text.specs.Reading.{kind_at, is_time, is_time_at, time_at, span_at, range_at, rows_at, window_after, window_at, in_brackets_at, alias_at}
 use Rattle.cql_text.specs.Reading.{is_alias_at, called_at, source_at, sources_at, as_at, column_at, chosen_at, columns_at, in_round_at, where_at, behind_at}
-use Rattle.cql_text.specs.Reading.{selected_at, query_at, names_at, fields_at, stream_at, part_at, part_from}
+use Rattle.cql_text.specs.Reading.{selected_at, query_at, names_at, fields_at, stream_at, part_at}
 use Rattle.cql_text.specs.Values.{word_op, of_rank, IsLeaf, Spells, IsScalar}
 use Rattle.cql_text.specs.Values as rule
 use Rattle.cql_text.specs.Words.{is_keyword, is_keyword_at, is_plain, Plain, Keyword}
@@ -262,5 +262,5 @@ exact-part =
     (λ v ts rest h d. keyword-at _ (codes "register") v ts rest h) (λ v ts rest h d. query-begins v ts rest h)) (λ rest d. (tt, tt))
 
 -- units are read exactly, wherever they stand
-pub exact-part_from : (u : Unit {0}) → Exact (IsPartAt u) (part_from u) Any
+pub exact-part_from : (u : Unit {0}) → Exact (IsPartAt u) part_at Any
 exact-part_from u = exact-part

@@ -3,8 +3,8 @@ use Rattle.std.specs.Prelude.{ℕ, Bool, false, ◌||◌, List, [], ◌∷◌, c
 use Rattle.work_code.specs.Tok.{Tok, name, var, number, symbol}
 use Rattle.work_code.specs.declared.sign.Symbol.TheVariants as s
 use Rattle.text_forms.specs.Parse.{Parse, begins_with, both, after, before, seen, known, merged, maybe, headed, commas, nothing_at, name_at, count_at}
-use Rattle.text_forms.specs.Texts.{read_units}
-use Rattle.cql_text.specs.Grammar.{kind_named, time_named, made_span, made_source, made_column, Behind, Selected, made_query, made_stream, next_part}
+use Rattle.text_forms.specs.AllUnits.{all_units}
+use Rattle.cql_text.specs.Grammar.{kind_named, time_named, made_span, made_source, made_column, Behind, Selected, made_query, made_stream}
 use Rattle.cql_text.specs.Tree.{Name, Scalar, Window, Now, Unbounded, Latest, Source, Column, Columns, Star, Chosen, Part}
 use Rattle.cql_text.specs.ValueReading.{numeral_at, scalar_at}
 use Rattle.cql_text.specs.Words.{is_keyword, is_keyword_at, is_plain, keyword, plain_at}
@@ -116,9 +116,6 @@ stream_at ts = keyword (codes "register") (keyword (codes "stream") (seen made_s
 unfoldable pub part_at : Parse Part
 part_at ts = merged (is_keyword_at (codes "register")) stream_at query_at ts
 
-abbrev pub part_from : Unit {0} → Parse Part
-part_from u = part_at
-
 -- the units of a text
-unfoldable pub parts_in : List (List Tok) → Result (List Part) ℕ
-parts_in units = read_units part_from next_part tt 1 units
+abbrev pub parts_in : List (List Tok) → Result (List Part) ℕ
+parts_in units = all_units part_at units

@@ -2,7 +2,6 @@
 #![tactic(auto)]
 
 mod column;
-mod fault;
 mod keywords;
 pub mod laws;
 mod operator;
@@ -12,7 +11,6 @@ mod unit;
 mod value;
 mod window;
 
-pub use fault::CqlTextFault;
 pub use operator::Operator;
 pub use read::read_cql;
 pub use tree::{

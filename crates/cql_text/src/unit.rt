@@ -1,9 +1,6 @@
 // Units read.
 ghost use Rattle.std.specs.Prelude.{◌≡◌};
-ghost use Rattle.work_code.specs.Tok.{tokens_of};
 ghost use Rattle.text_forms.specs.Gives.{Gives};
-ghost use Rattle.text_forms.specs.Texts.{whole};
-ghost use Rattle.cql_text.specs.Faults.{Makes};
 ghost use Rattle.cql_text.specs.Grammar.{kind_named};
 ghost use Rattle.cql_text.specs.Reading.{kind_at, where_at, behind_at, selected_at, query_at, names_at, fields_at, stream_at, part_at};
 ghost use Rattle.cql_text.specs.Tree.{condition_of, part_of};
@@ -16,8 +13,8 @@ use crate::window::sources;
 use crate::{Columns, Kind, Part, Query, Scalar, Source, Stream};
 use river_base::Name;
 use std::alloc::Global;
-use text_forms::{Fault, Reader};
-use work_code::{Lexeme, Symbol};
+use text_forms::{Fault, Reader, Units};
+use work_code::Symbol;
 
 // The kind of this word.
 fn kind_of(text: &[u8]) -> Option<Kind>
@@ -164,15 +161,22 @@ fn part(reader: &mut Reader<'_>, alloc: Global) -> Result<Part, Fault>
     }
 }
 
-/// The part of a program that a whole unit stands for.
-#[tactic(auto, using(crate::proofs::Wholes::wholes))]
-pub fn whole_part(alloc: Global, tokens: &[Lexeme<'_>]) -> Result<Part, Fault>
-    ensures { Makes part_of result (whole part_at (tokens_of tokens.now)) }
-{
-    let mut reader = Reader::new(tokens);
-    let part = part(&mut reader, alloc)?;
-    if !reader.is_at_end() {
-        return Err(Fault::Syntax);
+/// CQL, for the reader that reads the units of any language.
+pub struct Cql;
+
+impl Units for Cql {
+    ghost use Rattle.cql_text.specs.Reading.{part_at};
+    ghost use Rattle.cql_text.specs.Tree.{Part, part_of};
+
+    type Unit = Part;
+
+    ghost UnitTree = { Part };
+
+    ghost unit_tree = { part_of };
+
+    ghost unit = { λ _. part_at };
+
+    fn unit(&self, reader: &mut Reader<'_>, alloc: Global) -> Result<Part, Fault> {
+        part(reader, alloc)
     }
-    Ok(part)
 }
