@@ -81,7 +81,7 @@ block-nests k [] h = omega arith
 block-nests k (s ∷ ss) h = let a = h.0 in let b = block-nests k ss h.1 in omega (arith, a, b)
 
 rest-nests : (k n : ℕ) (w : List ℕ) (s : Statement) (ts : List Tok) → IsRest style holes k n w s ts → IsNested k s
-rest-nests = every-rest style holes IsNested AreNested branch-nests (λ k n w h ts b f q. absurd h) plain-nests block-nests
+rest-nests = every-rest style holes IsNested AreNested branch-nests (λ k n w h ts b f q. absurd f) plain-nests block-nests
 
 -- a unit's statement nests at most 16 deep
 abbrev IsNestedPart : UnitForm → Type 0

@@ -125,7 +125,7 @@ block-fine k [] h = (tt, tt)
 block-fine k (s ∷ ss) h = let a = h.0 in let b = block-fine k ss h.1 in ((a.0, b.0), (a.1, b.1))
 
 rest-fine : (k n : ℕ) (w : List ℕ) (s : Statement) (ts : List Tok) → IsRest style holes k n w s ts → IsFineStep s
-rest-fine = every-rest style holes (λ k. IsFineStep) (λ k. AreFine) branch-fine (λ k n w h ts b f q. absurd h) plain-fine block-fine
+rest-fine = every-rest style holes (λ k. IsFineStep) (λ k. AreFine) branch-fine (λ k n w h ts b f q. absurd f) plain-fine block-fine
 
 -- ---- UNITS
 

@@ -90,16 +90,17 @@ opening w = if bytes_eq w (codes "if") then Branch else Plain
 abbrev pub condition_at : ℕ → Parse Expression
 condition_at n = round_at term_at n
 
-abbrev pub style : Style Expression ⊥ Statement Block
+-- No word opens a loop, and no text is the head of one; what would be made of one is its head.
+abbrev pub style : Style Expression Statement Statement Block
 style = record {
   opening = opening;
   branch = λ c a b. If c a (or_unwritten b);
-  loop = λ h b. absurd h;
+  loop = λ head body. head;
   block = in_turn;
   condition = condition_at;
   head = λ n w ts. nowhere ts;
   plain = plain_at;
 }
 
-abbrev pub holes : Holes Expression ⊥ Statement
+abbrev pub holes : Holes Expression Statement Statement
 holes = record { Condition = Round IsExpression; Head = λ n w. Never; Plain = IsPlain }

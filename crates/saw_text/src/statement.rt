@@ -12,7 +12,7 @@ use crate::term::Sawzall;
 use crate::{Block, Expr, Statement};
 use river_base::{Name, NoMemory};
 use std::alloc::Global;
-use text_blocks::{Blocks, Exprs, NoLoop, Opening, ended, first_value, round, square};
+use text_blocks::{Blocks, Exprs, Opening, ended, first_value, round, square};
 use text_forms::{Fault, Reader, closed, is};
 use work_code::Symbol;
 
@@ -130,14 +130,14 @@ fn plain(
 }
 
 impl Blocks for Sawzall {
-    ghost use Rattle.text_blocks.specs.Statements.{no_loop};
     ghost use Rattle.saw_text.specs.Blocks.{style, holes, opening, condition_at};
     ghost use Rattle.saw_text.specs.Tree.{Expression, Statement, Block, expression, statement, block};
     ghost use Rattle.saw_text.specs.ExactStatements.{exact-sawzall};
 
     type Condition = Expr;
 
-    type Head = NoLoop;
+    // There are no loops: no word opens one, and no text is the head of one.
+    type Head = Statement;
 
     type Statement = Statement;
 
@@ -145,7 +145,7 @@ impl Blocks for Sawzall {
 
     ghost ConditionTree = { Expression };
 
-    ghost HeadTree = { ⊥ };
+    ghost HeadTree = { Statement };
 
     ghost StatementTree = { Statement };
 
@@ -153,7 +153,7 @@ impl Blocks for Sawzall {
 
     ghost condition_tree = { expression };
 
-    ghost head_tree = { no_loop };
+    ghost head_tree = { statement };
 
     ghost statement = { statement };
 
@@ -192,7 +192,7 @@ impl Blocks for Sawzall {
         _alloc: Global,
         _brackets: u32,
         _word: &[u8],
-    ) -> Result<NoLoop, Fault> {
+    ) -> Result<Statement, Fault> {
         Err(Fault::Syntax)
     }
 
@@ -219,8 +219,15 @@ impl Blocks for Sawzall {
         Ok(Statement::If { cond, yes, no })
     }
 
-    fn repeat(&self, _alloc: Global, head: NoLoop, _body: Block) -> Result<Statement, NoMemory> {
-        match head {}
+    fn repeat(
+        &self,
+        _alloc: Global,
+        head: Statement,
+        _body: Block,
+    ) -> Result<Statement, NoMemory>
+        ensures { IfOk result (λ made. statement made ≡ statement head) }
+    {
+        Ok(head)
     }
 
     #[tactic(auto, using(crate::proofs::Trees::trees))]
