@@ -1,0 +1,4 @@
+pub mod HeldWords
+pub mod Joining
+pub mod NetLemmas
+pub mod Numbers

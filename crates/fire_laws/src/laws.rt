@@ -1,0 +1,19 @@
+//! Laws of tasks, each the contract of a function that does nothing.
+ghost use Rattle.fire_laws.specs.Joins.{TasksJoin};
+ghost use Rattle.fire_laws.specs.Facts.{SettledIsNet, NumbersAreFew};
+
+/// From what each task keeps of itself, and what the rings tell, there is a word for each operator that its items stand for; no
+/// item failed its test; and the tasks are a bounded state of the plan, with the numbers that they have.
+pub fn tasks_join()
+    ensures { TasksJoin }
+{}
+
+/// Tasks that keep their facts, one for each operator, with settled rings between them, are a net.
+pub fn settled_is_net()
+    ensures { SettledIsNet }
+{}
+
+/// The items that they took and sent are at most twice the items of the defined histories.
+pub fn numbers_are_few()
+    ensures { NumbersAreFew }
+{}

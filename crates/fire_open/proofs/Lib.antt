@@ -1,0 +1,12 @@
+pub mod ClassLemmas
+pub mod FirstLemmas
+pub mod HomeLemmas
+pub mod Laid
+pub mod Lists
+pub mod OpenLemmas
+pub mod RingLemmas
+pub mod Seams
+pub mod SettleLemmas
+pub mod SourceLemmas
+pub mod StillLemmas
+pub mod TakenLemmas

@@ -1,0 +1,16 @@
+//! Nets before anything moves: a task for each operator, the links between their ports, the rings of the links, and the cells.
+#![tactic(auto)]
+
+mod cells;
+mod homes;
+mod links;
+mod rings;
+mod settling;
+mod tasks;
+
+pub use cells::cells_of;
+pub use homes::{Places, homes_of, table_classes};
+pub use links::links_of;
+pub use rings::put_rings;
+pub use settling::{Link, meet, settle_all, settle_one};
+pub use tasks::tasks_of;

@@ -1,0 +1,64 @@
+// Both ends of each ring look.
+ghost use Rattle.std.specs.Prelude.{◌≡◌, ◌<◌, length, map, slice_index_or};
+ghost use Rattle.fire_tasks.specs.Ports.{received_of, sent_of, in_end, out_end};
+ghost use Rattle.fire_laws.specs.Layout.{IsPair, IsSettled};
+ghost use Rattle.fire_open.specs.Links.{ArePaired, AreApart, AreMet};
+ghost use Rattle.fire_open.specs.Settling.{Met};
+ghost use Rattle.fire_open.specs.Still.{still};
+
+use fire_tasks::{Inlet, Outlet, Task};
+use river_base::Listed;
+use river_rings::beside;
+
+/// A queue between two operators: the port that writes it, and the port that reads it.
+#[derive(Clone, Copy)]
+pub struct Link {
+    pub writer: usize,
+    pub out: usize,
+    pub reader: usize,
+    pub port: usize,
+}
+
+/// The two ends of a ring look.
+pub fn meet(outlet: &mut Outlet, inlet: &mut Inlet)
+    requires { IsPair outlet.old inlet.old }
+    ensures settled { IsSettled outlet.new inlet.new }
+    ensures outlet { (out_end outlet.new ≡ out_end outlet.old) × (sent_of outlet.new ≡ sent_of outlet.old) }
+    ensures inlet { (in_end inlet.new ≡ in_end inlet.old) × (received_of inlet.new ≡ received_of inlet.old) }
+{
+    match outlet {
+        Outlet::Ring(feed) => match inlet {
+            Inlet::Ring(take) => beside(feed, take),
+            Inlet::Kept(_) => unreachable!(),
+        },
+        Outlet::Kept(_) => unreachable!(),
+    }
+}
+
+/// The two ends of the ring of a link look.
+pub fn settle_one(tasks: &mut Listed<Task>, link: Link)
+    requires order { link.writer < link.reader }
+    requires reader { link.reader < length tasks.old }
+    requires out { (d : _) → link.out < length (slice_index_or tasks.old link.writer d).outs }
+    requires port { (d : _) → link.port < length (slice_index_or tasks.old link.reader d).ins }
+    requires pair { (t t' : _) (f : _) (i : _) → IsPair (slice_index_or (slice_index_or tasks.old link.writer t).outs link.out f) (slice_index_or (slice_index_or tasks.old link.reader t').ins link.port i) }
+    ensures { Met tasks.old tasks.new link }
+{
+    let (before, after) = tasks.as_mut_slice().split_at_mut(link.reader);
+    let writer = &mut before[link.writer];
+    let reader = &mut after[0];
+    meet(writer.outs.at_mut(link.out), reader.ins.at_mut(link.port));
+}
+
+/// Both ends of each ring look; afterwards they know of each other.
+pub fn settle_all(tasks: &mut Listed<Task>, links: &Listed<Link>)
+    requires paired { ArePaired tasks.old links.now }
+    requires apart { AreApart links.now }
+    ensures still { map still tasks.new ≡ map still tasks.old }
+    ensures met { AreMet tasks.new links.now (length links.now) }
+{
+    for place in 0..links.len() {
+        let link = *links.at(place);
+        settle_one(tasks, link);
+    }
+}

@@ -1,0 +1,12 @@
+//! Nets of workers: the tasks of a plan with the rings between them, opened, moved and finished.
+#![tactic(auto)]
+
+mod adding;
+pub mod laws;
+pub mod net;
+mod one;
+mod opening;
+mod run;
+
+pub use net::Net;
+pub use run::run_alone;

@@ -1,0 +1,163 @@
+// One move.
+ghost use Rattle.std.specs.Prelude.{◌≡◌, ◌+◌, ◌<◌, ◌^◌, ℕ, ℤ, None, List, [], length, map, false, true, IfOk, OnOk, OnErr, IsFalse, slice_index_or};
+ghost use Rattle.river_base.specs.Places.{list_at};
+ghost use Rattle.river_plan.specs.Forms.{plan_form};
+ghost use Rattle.river_plan.specs.Valid.{IsPlan};
+ghost use Rattle.fire_tasks.specs.Adds.{added, logs_of};
+ghost use Rattle.fire_tasks.specs.Ports.{IsIdle, known_of};
+ghost use Rattle.fire_tasks.specs.Tasks.{IsTask, IsDone, ends_of, all_ends, moves, all_moves};
+ghost use Rattle.fire_laws.specs.Layout.{AreTasks};
+ghost use Rattle.fire_open.specs.Homes.{AreClassCells};
+ghost use Rattle.fire_open.specs.Still.{still};
+ghost use Rattle.fire_run.specs.Cells.{AreSingle, HaveAdded, HaveMoved};
+ghost use Rattle.fire_run.specs.Moves.{CanSend, CanSendFrom};
+ghost use Rattle.fire_run.specs.NetOf.{HasNet, Stays, AreIdle, OneMore};
+
+use crate::adding::add_to_cells;
+use crate::net::Net;
+use class_locks::Cells;
+use fire_open::settle_all;
+use fire_tasks::{Task, fire_at, first_ready, send_at};
+use river_base::{Gate, Listed, NoMemory};
+use river_plan::{Plan, RawPlan};
+use std::alloc::Global;
+
+// Takes the item at a port and fires on it; the rows of the firing go to the cells.
+fn take_for<G: Gate>(
+    alloc: Global,
+    plan: &RawPlan,
+    task: &mut Task,
+    port: u32,
+    cells: &mut Cells,
+    gate: &G,
+) -> Result<(), NoMemory>
+    requires valid { IsPlan (plan_form plan.now) }
+    requires task { IsTask (plan_form plan.now) (added (plan_form plan.now) (logs_of cells.old) task.old.op) task.old }
+    requires cells { AreClassCells (plan_form plan.now) cells.old }
+    requires idle { IsIdle task.old.pending }
+    requires fine { task.old.bad ≡ None }
+    requires port { port < length task.old.ins }
+    requires known { (d : _) → 0 < length (known_of (slice_index_or task.old.ins port d)) }
+    ensures task { OnOk result (IsTask (plan_form plan.now) (added (plan_form plan.now) (logs_of cells.new) task.old.op) task.new) }
+    ensures same { OnOk result (ends_of task.new ≡ ends_of task.old) }
+    ensures one { OnOk result (moves task.new ≡ moves task.old + 1) }
+    ensures cells { OnOk result (HaveAdded (plan_form plan.now) task.old.op cells.old cells.new) }
+{
+    let op = task.op;
+    fire_at(alloc, plan, task, port, gate)?;
+    add_to_cells(
+        alloc,
+        op,
+        &task.tables,
+        &task.classes,
+        &mut task.out.adds,
+        cells,
+    )?;
+    Ok(())
+}
+
+// A move of this task, if it has a pending or an untaken item: where an item is pending the first such goes, and otherwise the next is
+// taken.
+#[tactic(auto, using(fire_tasks::proofs::PassLemmas::looked_task, crate::proofs::MoveLemmas::none_added, crate::proofs::MoveLemmas::so_next, crate::proofs::MoveLemmas::so_idle, crate::proofs::MoveLemmas::so_long, crate::proofs::MoveLemmas::still_ins))]
+fn move_one<G: Gate>(
+    alloc: Global,
+    plan: &RawPlan,
+    task: &mut Task,
+    cells: &mut Cells,
+    gate: &G,
+) -> Result<bool, NoMemory>
+    requires valid { IsPlan (plan_form plan.now) }
+    requires task { IsTask (plan_form plan.now) (added (plan_form plan.now) (logs_of cells.old) task.old.op) task.old }
+    requires cells { AreClassCells (plan_form plan.now) cells.old }
+    requires fine { task.old.bad ≡ None }
+    requires few { length task.old.ins < 2 ^ 32 }
+    requires room { CanSend task.old }
+    ensures task { OnOk result (IsTask (plan_form plan.now) (added (plan_form plan.now) (logs_of cells.new) task.old.op) task.new) }
+    ensures same { OnOk result (ends_of task.new ≡ ends_of task.old) }
+    ensures moved { IfOk result (OneMore (moves task.old) (moves task.new)) }
+    ensures cells { OnOk result (HaveAdded (plan_form plan.now) task.old.op cells.old cells.new) }
+    ensures still { IfOk result (λ moved. IsFalse moved → still task.new ≡ still task.old) }
+    ensures stay { IfOk result (λ moved. IsFalse moved → cells.new ≡ cells.old) }
+    ensures done { IfOk result (λ moved. IsFalse moved → IsDone task.old) }
+{
+    for port in 0..task.pending.len() {
+        if !task.pending.at(port).is_empty() {
+            send_first(task, port)?;
+            return Ok(true);
+        }
+    }
+    match first_ready(&mut task.ins) {
+        Some(port) => {
+            take_for(alloc, plan, task, port as u32, cells, gate)?;
+            Ok(true)
+        }
+        None => Ok(false),
+    }
+}
+
+// Sends the front of what is pending at a port, which has room for it.
+#[tactic(auto, using(fire_tasks::proofs::PassLemmas::sent_task))]
+fn send_first(task: &mut Task, port: usize) -> Result<(), NoMemory>
+    requires there { port < length task.old.pending }
+    requires as_many { length task.old.pending ≡ length task.old.outs }
+    requires some { list_at task.old.pending port ≡ [] → ⊥ }
+    requires room { CanSend task.old }
+    ensures task { (p : _) (adds : ℕ → List (List ℤ)) → IsTask p adds task.old → OnOk result (IsTask p adds task.new) }
+    ensures same { OnOk result (ends_of task.new ≡ ends_of task.old) }
+    ensures one { OnOk result (moves task.new ≡ moves task.old + 1) }
+{
+    send_at(&mut task.outs, &mut task.pending, port)?;
+    Ok(())
+}
+
+// A move of the last task that has one.
+fn move_last<G: Gate>(
+    alloc: Global,
+    plan: &RawPlan,
+    tasks: &mut Listed<Task>,
+    cells: &mut Cells,
+    gate: &G,
+) -> Result<bool, NoMemory>
+    requires valid { IsPlan (plan_form plan.now) }
+    requires tasks { AreTasks (plan_form plan.now) (added (plan_form plan.now) (logs_of cells.old)) tasks.old }
+    requires single { AreSingle tasks.old }
+    requires cells { AreClassCells (plan_form plan.now) cells.old }
+    requires room { CanSendFrom tasks.old }
+    ensures tasks { OnOk result (AreTasks (plan_form plan.now) (added (plan_form plan.now) (logs_of cells.new)) tasks.new) }
+    ensures same { OnOk result (all_ends tasks.new ≡ all_ends tasks.old) }
+    ensures moved { IfOk result (OneMore (all_moves tasks.old) (all_moves tasks.new)) }
+    ensures cells { OnOk result (HaveMoved (plan_form plan.now) cells.old cells.new) }
+    ensures still { IfOk result (λ moved. IsFalse moved → map still tasks.new ≡ map still tasks.old) }
+    ensures stay { IfOk result (λ moved. IsFalse moved → cells.new ≡ cells.old) }
+    ensures idle { IfOk result (λ moved. IsFalse moved → AreIdle tasks.old) }
+{
+    let count = tasks.len();
+    for back in 0..count {
+        if move_one(alloc, plan, tasks.at_mut(count - 1 - back), cells, gate)? {
+            return Ok(true);
+        }
+    }
+    Ok(false)
+}
+
+impl Net {
+    /// One move: of the last operator that has a pending or an untaken item. False where none has; then nothing moved. Where there is no
+    /// memory the net is refused: it may only be dropped.
+    pub fn one<G: Gate>(&mut self, alloc: Global, plan: &Plan, gate: &G) -> Result<bool, NoMemory>
+        requires { HasNet plan.now self.old }
+        ensures stays { OnOk result (Stays plan.now self.old self.new) }
+        ensures moved { IfOk result (OneMore (all_moves self.old.tasks) (all_moves self.new.tasks)) }
+        ensures same { OnOk result (all_ends self.new.tasks ≡ all_ends self.old.tasks) }
+        ensures logs { OnOk result (HaveMoved plan.now self.old.cells self.new.cells) }
+        ensures still { IfOk result (λ moved. IsFalse moved → map still self.new.tasks ≡ map still self.old.tasks) }
+        ensures stay { IfOk result (λ moved. IsFalse moved → self.new.cells ≡ self.old.cells) }
+        ensures idle { IfOk result (λ moved. IsFalse moved → AreIdle self.new.tasks) }
+        ensures refused { OnErr result (self.new.refused ≡ true) }
+    {
+        self.refused = true;
+        let moved = move_last(alloc, plan.raw(), &mut self.tasks, &mut self.cells, gate)?;
+        settle_all(&mut self.tasks, &self.links);
+        self.refused = false;
+        Ok(moved)
+    }
+}
