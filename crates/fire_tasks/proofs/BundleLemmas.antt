@@ -113,6 +113,7 @@ after_turn p v w now i old new n k lt e h = record {
   };
   cells = subst (AreCells p) (sym h.sat.round.starts) k.cells;
   claims = h.sat.claims k.claims;
+  own = h.sat.own k.own;
 }
   where
     long : (j : ℕ) → j < length (set now i new) → j < length now

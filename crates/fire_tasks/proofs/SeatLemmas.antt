@@ -174,11 +174,16 @@ module _ (v u w : View) (classes : List ℕ) (pile pile' : List Piled) (more : �
       at_all P (y ∷ ys) zero x g a = subst P (piled_is y x g) (All-head P y ys a)
       at_all P (y ∷ ys) (suc i) x g a = at_all P ys i x g (All-tail P y ys a)
 
+  -- what holds of the entries, and of the claims before, holds of all claims
+  pub claims_all : (P : ℕ → LogEntry → Type 0) → ((c : ℕ) → All (P c) (more c)) → All (λ (q : Claim). P q.class q.entry) v.claims
+      → All (λ (q : Claim). P q.class q.entry) w.claims
+  claims_all P a h = subst (All (λ (q : Claim). P q.class q.entry)) (sym came)
+      (All-append (λ (q : Claim). P q.class q.entry) v.claims (gained (grown more (reverse pile)) u.held) h
+      (claims_right P more u.seats u.parts (reverse pile) u.held t.pile.matches t.as_taken a))
+
   -- the claims are right where the entries are
   pub claims_grew : (p : PlanForm) → ((c : ℕ) → All (IsEntryOf p c) (more c)) → AreClaims p v.claims → AreClaims p w.claims
-  claims_grew p a h = subst (AreClaims p) (sym came)
-      (All-append (λ (q : Claim). IsEntryOf p q.class q.entry) v.claims (gained (grown more (reverse pile)) u.held) h
-      (claims_right (IsEntryOf p) more u.seats u.parts (reverse pile) u.held t.pile.matches t.as_taken a))
+  claims_grew p a h = claims_all (IsEntryOf p) a h
 
 -- the part of an operator's entries that is its own
 pub part_own : (n o : ℕ) (es : List LogEntry) → All (λ e. e.op ≡ o) es → part n (o % n) es ≡ es

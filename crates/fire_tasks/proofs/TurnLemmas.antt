@@ -20,14 +20,14 @@ use Rattle.river_base.specs.declared.item.Item as item
 use Rattle.fire_tasks.specs.declared.ports.Inlet as inlet
 use Rattle.fire_tasks.specs.declared.ports.Outlet as outlet
 use Rattle.fire_tasks.specs.declared.task.Task.{Task}
-use Rattle.fire_tasks.specs.Adds.{AreCells, AreClaims, added, logs_at, logs_of, table_class}
+use Rattle.fire_tasks.specs.Adds.{AreCells, AreClaims, AreOwn, added, logs_at, logs_of, table_class}
 use Rattle.fire_tasks.specs.Ports.{HasMoved, InEnd, OutEnd, AllReceived, IsIdle, RefusedAll, Sent, in_ends, out_ends, received_count, received_in, sent_count}
 use Rattle.fire_tasks.specs.Tasks.{IsTask, IsTaskAt, TaskEnds, ends_of, moves}
 use Rattle.fire_tasks.specs.Turns.{AreCellsOf, HasSat, HasTakenAt, HasTried, HasTurned, IsSeatOf, IsStuck, SameRound, StillSits, classes_of, logged}
 use Rattle.fire_tasks.proofs.AddLemmas.{added_else, added_more, class_is, entries_logged, logged_none, logged_own}
 use Rattle.fire_tasks.proofs.PassLemmas.{moved_true, moved_false, moved_first, moved_second, sent_task, looked_task, turn_sent, with_sent}
 use Rattle.fire_tasks.proofs.PortLemmas.{ins_many}
-use Rattle.fire_tasks.proofs.SeatLemmas.{same_round, own_grew, claims_grew, part_own, part_within}
+use Rattle.fire_tasks.proofs.SeatLemmas.{same_round, own_grew, claims_all, claims_grew, part_own, part_within}
 use Rattle.fire_tasks.proofs.TaskLemmas.{got_at, table_there, tables_many, with_adds}
 
 -- THE SEAT
@@ -96,7 +96,7 @@ pub tries_of : (p : PlanForm) (o : ℕ) (v w : View) → HasSat p o v w → HasM
 tries_of p o v w h = record { more = h.more; takes = h.takes }
 
 pub sat_none : (p : PlanForm) (o : ℕ) (v : View) → v.held ≡ [] → HasSat p o v v
-sat_none p o v h = record { round = same_here v; rests = h; others = λ n ne j. refl; claims = λ c. c; more = []; takes = sym (append-nil v.takes) }
+sat_none p o v h = record { round = same_here v; rests = h; others = λ n ne j. refl; claims = λ c. c; own = λ c. c; more = []; takes = sym (append-nil v.takes) }
 
 pub sat_then : (p : PlanForm) (o : ℕ) (v u w : View) → HasSat p o v u → HasSat p o u w → HasSat p o v w
 sat_then p o v u w a b =
@@ -106,6 +106,7 @@ sat_then p o v u w a b =
       rests = b.rests;
       others = λ n ne j. b.others n ne j ∙ a.others n ne j;
       claims = λ c. b.claims (a.claims c);
+      own = λ c. b.own (a.own c);
       more = t.more;
       takes = t.takes;
     }
@@ -116,6 +117,12 @@ seat_again p o v w s r h = record {
   part = subst (λ (ps : List ℕ). Has (o % w.seats) ps) (sym r.parts) (subst (λ (n : ℕ). Has (o % n) v.parts) (sym r.seats) s.part);
   cells = subst (AreCells p) (sym r.starts) s.cells;
 }
+
+-- what is known of claims by a seat's parts, as the seat of the same round knows it
+own_same_round : (v w : View) → SameRound v w → (qs : List Claim) → All (λ (q : Claim). Has (q.entry.op % v.seats) v.parts) qs
+    → All (λ (q : Claim). Has (q.entry.op % w.seats) w.parts) qs
+own_same_round v w r qs c = subst (λ (ps : List ℕ). All (λ (q : Claim). Has (q.entry.op % w.seats) ps) qs) (sym r.parts)
+    (subst (λ (n : ℕ). All (λ (q : Claim). Has (q.entry.op % n) v.parts) qs) (sym r.seats) c)
 
 -- BUSY
 
@@ -137,6 +144,7 @@ tried_busy p v w t k l h m f =
         rests = h;
         others = λ n ne j. same n j;
         claims = λ c. subst (AreClaims p) (sym l.claims) c;
+        own = λ c. own_same_round v w (record { seats = l.seats; starts = l.starts; parts = l.parts }) w.claims (subst (λ (qs : List Claim). All (λ (q : Claim). Has (q.entry.op % v.seats) v.parts) qs) (sym l.claims) c);
         more = m.more;
         takes = m.takes;
       };
@@ -193,9 +201,9 @@ classes_there p valid v t k a i d lt =
     is_at (y ∷ ys) (suc i) x d g = is_at ys i x d g
 
 -- the task took an item, and its rows were put
-pub tried_took : (p : PlanForm) → IsPlan p → (v u w : View) (t t' : Task) (pile pile' : List Piled) → IsTaskAt p v t → HasTaken t.classes v u pile
+pub tried_took : (p : PlanForm) → IsPlan p → (v u w : View) (t t' : Task) (pile pile' : List Piled) → IsTaskAt p v t → Has (t.op % v.seats) v.parts → HasTaken t.classes v u pile
     → HasTakenAt p t t' pile pile' → HasPut u w pile' → HasMoreTries v u → w.takes ≡ u.takes → HasTried p v w t t' true
-tried_took p valid v u w t t' pile pile' k ht at put m q =
+tried_took p valid v u w t t' pile pile' k mine ht at put m q =
     let ends = at.ends in
     let one = at.one in
     record {
@@ -210,6 +218,7 @@ tried_took p valid v u w t t' pile pile' k ht at put m q =
         others = λ n ne j. added_else p (logs_at v n) (logs_at w n) (λ c. part v.seats (n % v.seats) (more c)) o n (λ c. logs_grew n c)
             (λ c. part_within (λ (e : LogEntry). e.op ≡ o) v.seats (n % v.seats) (more c) (logged_own o t.classes t.tables at.rows c)) ne j;
         claims = claims_grew v u w t.classes pile pile' more ht at.logs put p (λ c. entries_logged p valid o k.op k.op_is t.tables t.classes k.homes at.rows c);
+        own = own_right;
         more = m.more;
         takes = q ∙ m.takes;
       };
@@ -235,6 +244,11 @@ tried_took p valid v u w t t' pile pile' k ht at put m q =
       where
         op_is : (a b : OpForm) → Some a ≡ Some b → a ≡ b
         op_is a b s = cc s
+
+    own_right : AreOwn v → AreOwn w
+    own_right c = own_same_round v w (same_round v u w t.classes pile pile' more ht at.logs put) w.claims
+        (claims_all v u w t.classes pile pile' more ht at.logs put (λ (c : ℕ) (e : LogEntry). Has (e.op % v.seats) v.parts)
+        (λ c i d lt. subst (λ (n : ℕ). Has (n % v.seats) v.parts) (sym (logged_own t.op t.classes t.tables at.rows c i d lt)) mine) c)
 
     absent : (c : ℕ) → ((i : ℕ) (x : Piled) → slice_get pile i ≡ Some x → x.0 ≢ c) → more c ≡ []
     absent c none = logged_none t.op t.classes t.tables at.rows c (λ j h g e.

@@ -8,7 +8,7 @@ use Rattle.river_plan.specs.declared.plan.RawPlan.{RawPlan}
 use Rattle.river_plan.specs.Valid.{IsPlan}
 use Rattle.fire_tasks.specs.declared.bundle.Bundle.{Bundle}
 use Rattle.fire_tasks.specs.declared.task.Task.{Task}
-use Rattle.fire_tasks.specs.Adds.{AreCells, AreClaims}
+use Rattle.fire_tasks.specs.Adds.{AreCells, AreClaims, AreOwn}
 use Rattle.fire_tasks.specs.Ports.{HasMoved}
 use Rattle.fire_tasks.specs.Tasks.{IsTaskAt, IsDone, AreNarrow, all_ends, all_moves}
 use Rattle.fire_tasks.specs.Turns.{SameRound, IsStuck, LooksSame}
@@ -22,6 +22,7 @@ pub record AreTasks (p : PlanForm) (v : View) (ts : List Task) : Type 0 where
   pub narrow : AreNarrow ts
   pub cells : AreCells p v.starts
   pub claims : AreClaims p v.claims
+  pub own : AreOwn v
 
 -- a bundle of a plan: between passes its seat holds no class; and where no pass was refused its tasks keep what tasks keep
 pub record IsBundle (p : PlanForm) (b : Bundle) : Type 0 where

@@ -12,7 +12,7 @@ use Rattle.class_locks.specs.Views.{Has}
 use Rattle.kern_tables.specs.Tables.{table_width}
 use Rattle.fire_tasks.specs.declared.task.Task.{Task}
 use Rattle.fire_tasks.specs.declared.task.TablePort.{TablePort}
-use Rattle.fire_tasks.specs.Adds.{AreCells, AreClaims, added, logs_at, table_class}
+use Rattle.fire_tasks.specs.Adds.{AreCells, AreClaims, AreOwn, added, logs_at, table_class}
 use Rattle.fire_tasks.specs.declared.ports.Inlet as inlet
 use Rattle.fire_tasks.specs.Ports.{HasMoved, in_ends, received_in}
 use Rattle.fire_tasks.specs.Tasks.{IsTask, IsTaskAt, Waits, ends_of, moves}
@@ -108,12 +108,14 @@ pub record IsSeatOf (p : PlanForm) (o : ℕ) (v : View) : Type 0 where
   pub part : Has (o % v.seats) v.parts
   pub cells : AreCells p v.starts
 
--- what a turn of operator o makes of its seat: the other operators added nothing, each new claim is a right one, and tries may have come
+-- what a turn of operator o makes of its seat: the other operators added nothing, each new claim is a right one that belongs to the seat's
+-- parts, and tries may have come
 pub record HasSat (p : PlanForm) (o : ℕ) (v w : View) : Type 0 where
   pub round : SameRound v w
   pub rests : w.held ≡ []
   pub others : (n : ℕ) → n ≢ o → (j : ℕ) → added p (logs_at w n) n j ≡ added p (logs_at v n) n j
   pub claims : AreClaims p v.claims → AreClaims p w.claims
+  pub own : AreOwn v → AreOwn w
   pub more : List Tried
   pub takes : w.takes ≡ v.takes ++ more
 

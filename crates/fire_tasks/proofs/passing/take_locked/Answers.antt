@@ -42,4 +42,4 @@ returns-clause-tried g c =
     let u = c.take_all.new.seat.view in
     let h = subst (λ (cs : List ℕ). HasTaken cs v u c.take_all.new.pile.items) c.as_slice.ensures c.in-Ok.ensures.ok in
     tried_took (plan_form c.args.plan.now) c.requires.valid v u c.put_all.new.seat.view c.args.task.now c.take_at-taken.new.task c.take_all.new.pile.items c.take_at-taken.new.pile.items
-    c.requires.task h c.in_ok-taken.ensures.taken c.put_all.ensures.put c.take_all.ensures.tries c.put_all.ensures.takes
+    c.requires.task c.requires.seat.part h c.in_ok-taken.ensures.taken c.put_all.ensures.put c.take_all.ensures.tries c.put_all.ensures.takes
