@@ -1,7 +1,11 @@
 pub mod CellLemmas
+pub mod CloseLemmas
 pub mod MoveLemmas
 pub mod OpenNet
+pub mod OutLemmas
 pub mod RowLemmas
+pub mod RowSums
 pub mod RunLemmas
+pub mod SortLemmas
 pub mod Standing
 pub mod WholeLemmas

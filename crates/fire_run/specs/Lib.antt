@@ -1,4 +1,5 @@
 pub mod Cells
+pub mod Closed
 pub mod Moves
 pub mod NetOf
 pub mod Rows

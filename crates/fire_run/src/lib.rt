@@ -2,11 +2,14 @@
 #![tactic(auto)]
 
 mod adding;
+mod closing;
 pub mod laws;
 pub mod net;
 mod one;
 mod opening;
 mod run;
+mod sorting;
 
+pub use closing::{Logs, Ran};
 pub use net::Net;
 pub use run::run_alone;
