@@ -7,7 +7,7 @@ ghost use Rattle.brooklet_step.specs.Works.{IsEnabled, Starts, Steps, AreCounts,
 
 use crate::ending::outcome_of;
 use crate::initial::{first_parts, lines_of};
-use crate::step::{fire_next, is_enabled, fire_turn};
+use crate::step::{fire_next, fire_turn, is_enabled};
 use crate::{Inputs, Outcome, States};
 use kern_rows::Line;
 use kern_tables::Table;

@@ -219,12 +219,7 @@ impl Blocks for Sawzall {
         Ok(Statement::If { cond, yes, no })
     }
 
-    fn repeat(
-        &self,
-        _alloc: Global,
-        head: Statement,
-        _body: Block,
-    ) -> Result<Statement, NoMemory>
+    fn repeat(&self, _alloc: Global, head: Statement, _body: Block) -> Result<Statement, NoMemory>
         ensures { IfOk result (λ made. statement made ≡ statement head) }
     {
         Ok(head)
