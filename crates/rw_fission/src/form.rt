@@ -69,7 +69,19 @@ fn blocks(kernel: &Kernel) -> Option<Form>
 {
     match kernel {
         Kernel::Filter(filter) => whole_blocks(filter),
-        _ => None,
+        Kernel::Code(_) => None,
+        Kernel::Duplicate(_) => None,
+        Kernel::Deal(_) => None,
+        Kernel::Collect(_) => None,
+        Kernel::Packed(_) => None,
+        Kernel::Unpack(_) => None,
+        Kernel::Window(_) => None,
+        Kernel::Select(_) => None,
+        Kernel::Project(_) => None,
+        Kernel::Cross => None,
+        Kernel::Streamer(_) => None,
+        Kernel::Tally => None,
+        Kernel::Fused { .. } => None,
     }
 }
 
