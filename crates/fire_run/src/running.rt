@@ -9,9 +9,12 @@ use river_base::{Gate, NoMemory};
 use river_plan::Plan;
 use std::alloc::Global;
 
-/// Runs a plan on these inputs to the end in a net, of which one thread makes one move after another; a queue between two operators
-/// holds at most `cap` items. There is no answer but what the plan means, or that there is no memory.
-#[tactic(auto, using(crate::proofs::RunLemmas::for_first, crate::proofs::RunLemmas::for_has, crate::proofs::RunLemmas::for_next, crate::proofs::RunLemmas::for_end, crate::proofs::RunLemmas::for_less))]
+/// Runs a plan on these inputs to the end in a net, in which one thread makes one move after
+/// another; a queue between two operators holds at most `cap` items, 1 to 65,536. The answer is what
+/// the plan means, with the logs of the lock classes and the number of rounds: one for each move and
+/// one more, 2^64 - 1 standing for all that are greater. There is no error but that there is no
+/// memory.
+#[tactic(auto, using(crate::proofs::RunLemmas::for_first, crate::proofs::RunLemmas::for_has))]
 pub fn run_on_one_thread<G: Gate>(
     alloc: Global,
     plan: &Plan,
