@@ -22,7 +22,8 @@ use std::mem::replace;
 /// A log for each lock class, in the order of the classes: what was added to its tables, in order.
 pub type Logs = Listed<Vec<LogEntry>>;
 
-/// What a run of a plan gave: its outcome, the logs of the lock classes, and in how many rounds it came to its end.
+/// What a run of a plan gave: its outcome, the logs of the lock classes, and in how many rounds it
+/// came to its end.
 #[derive(Drop)]
 pub struct Ran {
     outcome: Outcome,
@@ -134,8 +135,9 @@ fn given_by(
 }
 
 impl Net {
-    /// What the net gave, once no operator has a pending or an untaken item: the outcome is what the plan means, and the logs tell where
-    /// the rows of its tables come from. `rounds` is at most 1 more than the moves that were made.
+    /// What the net gave, once no operator has a pending or an untaken item: the outcome is what
+    /// the plan means, and the logs tell where the rows of its tables come from. `rounds` is at most
+    /// 1 more than the moves that were made.
     pub fn close(self, alloc: Global, plan: &Plan, rounds: u64) -> Result<Ran, NoMemory>
         requires net { HasNet plan.now self }
         requires idle { AreIdle self.tasks }

@@ -7,9 +7,9 @@ pub mod laws;
 pub mod net;
 mod one;
 mod opening;
-mod run;
+mod running;
 mod sorting;
 
 pub use closing::{Logs, Ran};
 pub use net::Net;
-pub use run::run_alone;
+pub use running::run_on_one_thread;

@@ -1,5 +1,6 @@
 // The net of a plan.
 ghost use Rattle.std.specs.Prelude.{◌≡◌, ◌≤◌, [], All, IfOk};
+ghost use Rattle.river_plan.specs.Valid.{IsPlan};
 ghost use Rattle.brooklet_model.specs.Fit.{Fit};
 ghost use Rattle.fire_tasks.specs.Tasks.{all_moves};
 ghost use Rattle.fire_run.specs.NetOf.{HasNetAt};
@@ -17,6 +18,7 @@ impl Net {
     pub fn open(alloc: Global, plan: &Plan, inputs: Lines, cap: u32) -> Result<Net, NoMemory>
         requires fits { Fit plan.now inputs }
         requires cap { (1 ≤ cap) × (cap ≤ 65536) }
+        ensures valid { IsPlan plan.now }
         ensures net { IfOk result (HasNetAt plan.now inputs cap) }
         ensures none { IfOk result (λ net. all_moves net.tasks ≡ 0) }
         ensures empty { IfOk result (λ net. All (λ x. x.log ≡ []) net.cells) }
