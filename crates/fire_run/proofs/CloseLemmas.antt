@@ -31,12 +31,14 @@ use Rattle.fire_run.proofs.OutLemmas.{counts_end, outs_end, same_lists}
 use Rattle.fire_run.proofs.RowSums.{table_rows}
 use Rattle.fire_run.proofs.WholeLemmas.{whole_net, few_law}
 
-got_kept : (ts : List TableDecl) (rows : _) (i : ℕ) (t : TableDecl) → slice_get ts i ≡ Some t → slice_get (kept_tables ts rows) i ≡ Some (kept_of t.kind (rows t.name))
+got_kept : (ts : List TableDecl) (rows : _) (i : ℕ) (t : TableDecl) → slice_get ts i ≡ Some t
+    → slice_get (kept_tables ts rows) i ≡ Some (kept_of t.kind (rows t.name))
 got_kept [] rows i t g = absurd (cc g)
 got_kept (u ∷ us) rows zero t g = ap (λ (x : TableDecl). Some (kept_of x.kind (rows x.name))) (some_is u t g)
 got_kept (u ∷ us) rows (suc i) t g = got_kept us rows i t g
 
-module _ (p : PlanForm) (inputs : List (List item.Item)) (caps : Capacities) (net : Net) (v : IsPlan p) (n : IsNetOf p inputs caps net) (idle : AreIdle net.tasks) where
+module _ (p : PlanForm) (inputs : List (List item.Item)) (caps : Capacities) (net : Net) (v : IsPlan p)
+    (n : IsNetOf p inputs caps net) (idle : AreIdle net.tasks) where
   whole : IsWholeNet p inputs net.cells net.tasks
   whole = whole_net p inputs caps net v n idle
 

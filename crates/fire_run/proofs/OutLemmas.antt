@@ -64,10 +64,12 @@ before_next o j o' j' b = ⊎_elim
 before_more : (o j o' j' : ℕ) → ComesBefore o j o' j' → ComesBefore o (j + 1) o' j'
 before_more o j o' j' b = ⊎_elim (λ l. inl l) (λ e. inr (e.0, (let l = e.1 in omega (arith, l)))) b
 
-declared : (p : PlanForm) → IsPlan p → (o j : ℕ) (op : OpForm) (q : Name) → slice_get p.ops o ≡ Some op → slice_get op.writes j ≡ Some q → 0 < count q (queue_names p)
+declared : (p : PlanForm) → IsPlan p → (o j : ℕ) (op : OpForm) (q : Name) → slice_get p.ops o ≡ Some op → slice_get op.writes j ≡ Some q
+    → 0 < count q (queue_names p)
 declared p v o j op q g w = v.writes_declared q (let a = at_most (writes_it q) p.ops o op g in let c = got_count op.writes j q w in omega (arith, a, c))
 
-module _ (p : PlanForm) (v : IsPlan p) (h : History) (o j n : ℕ) (a : PortAt p (λ op. op.writes) o j n) (lines : List (List item.Item)) (k : AreOuts p h o j lines) where
+module _ (p : PlanForm) (v : IsPlan p) (h : History) (o j n : ℕ) (a : PortAt p (λ op. op.writes) o j n)
+    (lines : List (List item.Item)) (k : AreOuts p h o j lines) where
   here_is : (o' j' : ℕ) (op : OpForm) (q : Name) → slice_get p.ops o' ≡ Some op → slice_get op.writes j' ≡ Some q → (o ≡ o') × (j ≡ j') → a.queue ≡ q
   here_is o' j' op q g w e =
       let eo : a.op ≡ op = some_is a.op op (sym a.op_is ∙ ap (slice_get p.ops) e.0 ∙ g) in
@@ -104,8 +106,8 @@ module _ (p : PlanForm) (v : IsPlan p) (h : History) (o j n : ℕ) (a : PortAt p
   }
 
 -- all ports of an operator
-pub outs_op : (p : PlanForm) (h : History) (o n : ℕ) (lines : List (List item.Item)) (ps : List ℕ) → o < length p.ops → ps ≡ list_at (write_places p) o → length ps ≤ n
-    → AreOuts p h o n lines → AreOuts p h (o + 1) 0 lines
+pub outs_op : (p : PlanForm) (h : History) (o n : ℕ) (lines : List (List item.Item)) (ps : List ℕ) → o < length p.ops
+    → ps ≡ list_at (write_places p) o → length ps ≤ n → AreOuts p h o n lines → AreOuts p h (o + 1) 0 lines
 outs_op p h o n lines ps lt e le k =
     let x = op_at p.ops o lt in
     let long : length ps ≡ length x.0.writes = ap length (e ∙ places_at (λ d. d.writes) (queue_names p) p.ops o x.0 x.1) ∙ length-map x.0.writes (place (queue_names p)) in
@@ -185,15 +187,15 @@ outs_end p inputs lines v k =
 -- ENDS OF A TASK
 
 -- there is an end for each place that the operator writes
-pub ends_there : (p : PlanForm) (h : History) (o j : ℕ) (ps : List ℕ) (outs : List outlet.Outlet) → o < length p.ops → ps ≡ list_at (write_places p) o → HasOuts p h o j outs
-    → length outs ≡ length ps
+pub ends_there : (p : PlanForm) (h : History) (o j : ℕ) (ps : List ℕ) (outs : List outlet.Outlet) → o < length p.ops
+    → ps ≡ list_at (write_places p) o → HasOuts p h o j outs → length outs ≡ length ps
 ends_there p h o j ps outs lt e k =
     let x = op_at p.ops o lt in
     k.many x.0 x.1 ∙ sym (ap length (e ∙ places_at (λ d. d.writes) (queue_names p) p.ops o x.0 x.1) ∙ length-map x.0.writes (place (queue_names p)))
 
 -- the end at a port sent the history of the queue there, and kept it if it is an output
-pub end_here : (p : PlanForm) (h : History) (o j n : ℕ) (a : PortAt p (λ op. op.writes) o j n) (outs : List outlet.Outlet) (f : outlet.Outlet) → HasOuts p h o j outs → j < length outs
-    → f ≡ get_or outs j f → (sent_of f ≡ h a.queue) × (n < length p.outputs → IsStored f)
+pub end_here : (p : PlanForm) (h : History) (o j n : ℕ) (a : PortAt p (λ op. op.writes) o j n) (outs : List outlet.Outlet) (f : outlet.Outlet)
+    → HasOuts p h o j outs → j < length outs → f ≡ get_or outs j f → (sent_of f ≡ h a.queue) × (n < length p.outputs → IsStored f)
 end_here p h o j n a outs f k lt e =
     let x = k.each j a.op a.queue f (omega arith) a.op_is a.queue_is (slice_get-get_or outs j f lt ∙ ap Some (sym e)) in
     (x.0, λ below. x.1 (let q = a.place_is in omega (arith, q, below)))
@@ -202,7 +204,8 @@ end_here p h o j n a outs f k lt e =
 pub ends_next : (p : PlanForm) (h : History) (o j : ℕ) (outs : List outlet.Outlet) → HasOuts p h o j outs → HasOuts p h o (j + 1) outs
 ends_next p h o j outs k = record { many = k.many; each = λ i op q f le g w gf. k.each i op q f (omega (arith, le)) g w gf }
 
-pub ends_set : (p : PlanForm) (h : History) (o j : ℕ) (outs : List outlet.Outlet) (f : outlet.Outlet) → HasOuts p h o j outs → HasOuts p h o (j + 1) (set outs j f)
+pub ends_set : (p : PlanForm) (h : History) (o j : ℕ) (outs : List outlet.Outlet) (f : outlet.Outlet) → HasOuts p h o j outs
+    → HasOuts p h o (j + 1) (set outs j f)
 ends_set p h o j outs f k = record {
   many = λ op g. length-set outs j f ∙ k.many op g;
   each = λ i op q x le g w gx. k.each i op q x (omega (arith, le)) g w (sym (set_got_other outs j i f (λ e. omega (arith, e, le))) ∙ gx);

@@ -86,7 +86,8 @@ log_rows table (e ∷ log) m h test =
     omega (arith, r, a, b)
 
 by_ops : (table : ℕ) (log : List LogEntry) (f : OpForm → List (List ℤ)) (ops : List OpForm) (o : ℕ)
-    → ((k : ℕ) (op : OpForm) → slice_get ops k ≡ Some op → SameBag (rows_by (o + k) table log) (f op)) → SameBag (rows_of_all table log o (length ops)) (flat_map f ops)
+    → ((k : ℕ) (op : OpForm) → slice_get ops k ≡ Some op → SameBag (rows_by (o + k) table log) (f op))
+    → SameBag (rows_of_all table log o (length ops)) (flat_map f ops)
 by_ops table log f [] o h = λ test. refl
 by_ops table log f (op ∷ ops) o h =
     let z : o + 0 ≡ o = omega arith in

@@ -32,6 +32,7 @@ for_has p inputs n net r = record { fine = r.has.fine; inputs = inputs; caps = r
 pub for_stays : (p : PlanForm) (inputs : List (List item.Item)) (n : ℕ) (net net' : Net) → RanFor p inputs n net → Stays p net net' → HasNetOf p inputs net'
 for_stays p inputs n net net' r s = record { valid = r.has.valid; fine = s.fine; caps = r.has.caps; is = s.is inputs r.has.caps r.has.is }
 
+-- so it is for any inputs
 pub for_left : (p : PlanForm) (inputs : List (List item.Item)) (n : ℕ) (net net' : Net) → RanFor p inputs n net → Stays p net net' → HasNet p net'
 for_left p inputs n net net' r s = let h = for_stays p inputs n net net' r s in record { fine = h.fine; inputs = inputs; caps = h.caps; is = h.is }
 

@@ -34,6 +34,7 @@ at_same [] c v lt = absurd (omega (arith, lt))
 at_same (l ∷ ls) zero v lt = refl
 at_same (l ∷ ls) (suc c) v lt = at_same ls c v (omega (arith, lt))
 
+-- the other lists stay
 pub at_other : (ls : List (Vec Kept Global)) (c e : ℕ) (v : Vec Kept Global) → e ≢ c → tables_at (set ls c v) e ≡ tables_at ls e
 at_other [] c e v ne = refl
 at_other (l ∷ ls) zero zero v ne = absurd (ne refl)
@@ -59,7 +60,8 @@ snoc_parts (z ∷ xs) (w ∷ ys) x y e =
 -- FROM THE LAST TABLE TO THE FIRST
 
 -- the first n tables stand in the lists of their classes, and the others at their places
-pub record Going (class : ℕ → ℕ) (logs : ℕ → List LogEntry) (n : ℕ) (decls : List TableDecl) (lists : List (Vec Kept Global)) (tables : List Kept) : Type 0 where
+pub record Going (class : ℕ → ℕ) (logs : ℕ → List LogEntry) (n : ℕ) (decls : List TableDecl) (lists : List (Vec Kept Global))
+    (tables : List Kept) : Type 0 where
   pub sorted : AreSorted class logs (take n decls) lists
   pub placed : ArePlaced class logs n decls tables
 
@@ -81,8 +83,8 @@ take_long xs zero le = refl
 take_long [] (suc k) le = absurd (omega (arith, le))
 take_long (x ∷ xs) (suc k) le = ap suc (take_long xs k (omega (arith, le)))
 
-module _ (class : ℕ → ℕ) (logs : ℕ → List LogEntry) (k : ℕ) (decls : List TableDecl) (lists : List (Vec Kept Global)) (tables : List Kept) (lt : k < length decls)
-    (g : Going class logs (k + 1) decls lists tables) where
+module _ (class : ℕ → ℕ) (logs : ℕ → List LogEntry) (k : ℕ) (decls : List TableDecl) (lists : List (Vec Kept Global))
+    (tables : List Kept) (lt : k < length decls) (g : Going class logs (k + 1) decls lists tables) where
   decl : (t : TableDecl) × (slice_get decls k ≡ Some t)
   decl = there_is decls k lt
 
@@ -112,8 +114,8 @@ module _ (class : ℕ → ℕ) (logs : ℕ → List LogEntry) (k : ℕ) (decls :
   some_there e = snoc_some _ _ (sym (last_is decl.0 decl.1) ∙ e)
 
   -- one table more comes to its place
-  pub going_next : (lists' : List (Vec Kept Global)) (x : Kept) → length lists' ≡ length lists → tables_at lists (class k) ≡ tables_at lists' (class k) ++ x ∷ []
-      → ((c : ℕ) → c ≢ class k → tables_at lists' c ≡ tables_at lists c) → Going class logs k decls lists' (set tables k x)
+  pub going_next : (lists' : List (Vec Kept Global)) (x : Kept) → length lists' ≡ length lists
+      → tables_at lists (class k) ≡ tables_at lists' (class k) ++ x ∷ [] → ((c : ℕ) → c ≢ class k → tables_at lists' c ≡ tables_at lists c) → Going class logs k decls lists' (set tables k x)
   going_next lists' x long last others =
       let parts = snoc_parts (tables_at lists' (class k)) (map (replay (logs (class k))) (kinds_from class (class k) 0 (take k decls))) x (replay (logs (class k)) (k, decl.0.kind)) (sym last ∙ last_is decl.0 decl.1) in
       let l0 = take_long decls k (omega (arith, lt)) in
@@ -161,6 +163,7 @@ sorted_by p classes logs lists h s = record {
   each = λ c lc. s.each c lc ∙ ap (map (replay (logs c))) (sym (class_kinds_are p classes c h));
 }
 
+-- and the tables at their places
 pub placed_by : (p : PlanForm) (classes : List ℕ) (logs : ℕ → List LogEntry) (tables : List Kept) → AreTableClasses p classes
     → ArePlaced (λ n. slice_index_or classes n 0) logs 0 p.tables tables → ArePlaced (table_class p) logs 0 p.tables tables
 placed_by p classes logs tables h s = record {
@@ -171,7 +174,8 @@ placed_by p classes logs tables h s = record {
 
 -- the tables of cells stand in the lists of their classes
 pub cells_sorted : (p : PlanForm) (cells : List Holding) (lists : List (Vec Kept Global)) → AreClassCells p cells
-    → map (λ (l : Vec Kept Global). l.items) lists ≡ map (λ (x : Holding). map (replay x.log) x.kinds) cells → AreSorted (table_class p) (logs_of cells) p.tables lists
+    → map (λ (l : Vec Kept Global). l.items) lists ≡ map (λ (x : Holding). map (replay x.log) x.kinds) cells
+    → AreSorted (table_class p) (logs_of cells) p.tables lists
 cells_sorted p cells lists h e =
     let long : length lists ≡ length cells = sym (length-map lists (λ (l : Vec Kept Global). l.items)) ∙ ap length e ∙ length-map cells (λ (x : Holding). map (replay x.log) x.kinds) in
     record {

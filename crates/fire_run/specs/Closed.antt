@@ -43,7 +43,8 @@ pub record AreLogsOf (p : PlanForm) (inputs : List (List item.Item)) (logs : Lis
 
 -- each table keeps what its class's log makes of it
 abbrev pub AreReplayed : PlanForm → (ℕ → List LogEntry) → List Kept → Type 0
-AreReplayed p logs tables = (n : ℕ) (t : TableDecl) → slice_get p.tables n ≡ Some t → slice_get tables n ≡ Some (kept_of t.kind (rows_to n (logs (table_class p n))))
+AreReplayed p logs tables = (n : ℕ) (t : TableDecl) → slice_get p.tables n ≡ Some t
+    → slice_get tables n ≡ Some (kept_of t.kind (rows_to n (logs (table_class p n))))
 
 -- the outputs, the tables and the counts are what the plan means on these inputs; the logs tell where the rows come from; and the rounds are
 -- at most 1 more than twice the items of the histories

@@ -8,7 +8,7 @@ close-requires-clause-net g c =
 
 pub close-requires-clause-rounds : goal.close-requires-clause-rounds
 close-requires-clause-rounds g c =
-    for_end c.args.plan.now c.args.inputs c.loop-round.round (c.loop-round.round + 1) c.loop-round.net c.one.new.self c.in_ok-one.field-0 c.loop-round.invariant
+    for_end c.args.plan.now c.args.inputs c.loop-round.round _ c.loop-round.net c.one.new.self c.in_ok-one.field-0 c.loop-round.invariant
     c.in_ok-one.ensures.moved c.if-not-branch.true (omega arith)
 
 pub returns-then-not-branch : goal.returns-then-not-branch
