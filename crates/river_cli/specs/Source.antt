@@ -11,10 +11,9 @@ use Rattle.brooklet_model.specs.Histories.{firings}
 use Rattle.brooklet_model.specs.Meaning.{Results, meaning}
 use Rattle.streamit_model.specs.Build.{plan_of, values_in}
 use Rattle.streamit_model.specs.Laws.{as_items}
-use Rattle.streamit_model.specs.Program.{program_outputs}
-use Rattle.streamit_model.specs.Program as streamit
-use Rattle.streamit_build.specs.Program as streamit_build
-use Rattle.streamit_build.specs.Told.{AreReadable}
+use Rattle.streamit_model.specs.Meaning.{program_outputs}
+use Rattle.streamit_text.specs.Program as streamit
+use Rattle.streamit_build.specs.Readable.{AreReadable}
 use Rattle.streamit_front.specs.Meaning.{Accepted, compiled}
 use Rattle.streamit_front.specs.Words.{streamit_words}
 use Rattle.cql_model.specs.Instants.{program_means}
@@ -165,7 +164,7 @@ pub record IsCql (s : Source) (p : cql_text.Program) : Type 0 where
 -- a River text is its plan
 abbrev pub IsProgramOf : Source → Program → Type 0
 IsProgramOf s program.River = Unit {0}
-IsProgramOf s (program.Streamit p) = IsStreamit s (streamit_build.program_of p.units.items)
+IsProgramOf s (program.Streamit p) = IsStreamit s (streamit.program_of p.units.items)
 IsProgramOf s (program.Sawzall p) = IsSawzall s (unit_forms p.units.items)
 IsProgramOf s (program.Cql p) = IsCql s (program_of p)
 
