@@ -9,13 +9,13 @@ use Rattle.class_locks.specs.declared.view.Claim.{Claim}
 use Rattle.class_locks.specs.declared.view.View.{View}
 use Rattle.class_locks.specs.Logs.{Holding}
 use Rattle.class_locks.specs.Seats.{Chair, HasAll}
-use Rattle.class_locks.specs.Views.{Belong, Has, entries_of, own}
+use Rattle.class_locks.specs.Views.{Belong, Has, both, entries_of, own}
 use Rattle.class_locks.proofs.Owns.{own-append, own_none}
 use Rattle.fire_tasks.specs.Adds.{AreOwn}
 use Rattle.fire_tasks.specs.declared.bundle.Bundle.{Bundle}
 use Rattle.fire_tasks.specs.declared.task.Task.{Task}
 use Rattle.fire_run.specs.Cells.{AreSingle}
-use Rattle.fire_run.specs.Shares.{AreWithin, merged, put_all, put_each, seats_of}
+use Rattle.fire_run.specs.Shares.{AreAtRest, AreWithin, merged, put_all, put_each, seats_of}
 
 -- TASKS AT THEIR PLACES
 
@@ -29,7 +29,7 @@ pub each_other : (own ts : List Task) (o : ℕ) (d : Task) → ((i : ℕ) (e : T
     → get_or (put_each own ts) o d ≡ get_or ts o d
 each_other [] ts o d ne = refl
 each_other (t ∷ own) ts o d ne =
-    get_or-set_other (put_each own ts) t.op o t d (ne 0 t (omega arith)) ∙ each_other own ts o d (λ i e lt. ne (suc i) e (omega (arith, lt)))
+    get_or-set_other (put_each own ts) t.op o t d (λ q. ne 0 t (omega arith) (sym q)) ∙ each_other own ts o d (λ i e lt. ne (suc i) e (omega (arith, lt)))
 
 -- each of them is at its place
 pub each_here : (own ts : List Task) (i : ℕ) (c d : Task) → AreSingle own → AreWithin (length ts) own → i < length own
@@ -38,7 +38,7 @@ each_here [] ts i c d s w lt = absurd (omega (arith, lt))
 each_here (t ∷ own) ts zero c d s w lt =
     get_or-set_same (put_each own ts) t.op t d (let a = w 0 t (omega arith) in let m = each_many own ts in omega (arith, a, m))
 each_here (t ∷ own) ts (suc i) c d s w lt =
-    get_or-set_other (put_each own ts) t.op (get_or own i c).op t d (λ q. let z = s 0 (suc i) c (omega arith) lt q in omega (arith, z))
+    get_or-set_other (put_each own ts) t.op (get_or own i c).op t d (λ q. let z = s 0 (suc i) c (omega arith) lt (sym q) in omega (arith, z))
     ∙ each_here own ts i c d (λ a b e la lb q. let z = s (suc a) (suc b) e (omega (arith, la)) (omega (arith, lb)) q in omega (arith, z))
     (λ k e l. w (suc k) e (omega (arith, l))) (omega (arith, lt))
 
@@ -109,26 +109,26 @@ pub gathering_many : (bs0 bs : List Bundle) (ts0 ts : List Task) (i : ℕ) → G
 gathering_many bs0 bs ts0 ts i h = sym (length-map bs (λ (b : Bundle). b.seat)) ∙ ap length h.seats ∙ length-map bs0 (λ (b : Bundle). b.seat)
 
 -- the tasks of the next have their places
-pub gathering_within : (bs0 bs : List Bundle) (ts0 ts : List Task) (i : ℕ) (b : Bundle) → Gathering bs0 ts0 i bs ts → i < length bs → b ≡ get_or bs i b
+pub gathering_within : (bs0 bs : List Bundle) (ts0 ts : List Task) (i : ℕ) (b : Bundle) → Gathering bs0 ts0 i bs ts → i < length bs0 → b ≡ get_or bs i b
     → All (λ c. AreWithin (length ts0) c.tasks) bs0 → AreWithin (length ts) b.tasks
 gathering_within bs0 bs ts0 ts i b h lt e w =
-    let m = gathering_many bs0 bs ts0 ts i h in
-    let a = w i b (omega (arith, lt, m)) in
+    let a = w i b lt in
     let z : length ts ≡ length ts0 = ap length h.put ∙ all_many (take i bs0) ts0 in
     subst (λ k. AreWithin k b.tasks) (sym z) (subst (λ (c : Bundle). AreWithin (length ts0) c.tasks) (sym (e ∙ h.rest i b (omega arith))) a)
 
 -- one bundle more
-pub gathering_next : (bs0 bs : List Bundle) (ts0 ts ts' : List Task) (i : ℕ) (b b' : Bundle) → Gathering bs0 ts0 i bs ts → i < length bs → b ≡ get_or bs i b
+pub gathering_next : (bs0 bs : List Bundle) (ts0 ts ts' : List Task) (i : ℕ) (b b' : Bundle) → Gathering bs0 ts0 i bs ts → i < length bs0 → b ≡ get_or bs i b
     → b'.seat ≡ b.seat → ts' ≡ put_each b.tasks ts → Gathering bs0 ts0 (i + 1) (set bs i b') ts'
 gathering_next bs0 bs ts0 ts ts' i b b' h lt e s p =
     let m = gathering_many bs0 bs ts0 ts i h in
+    let there_now : i < length bs = omega (arith, lt, m) in
     let there : b ≡ get_or bs0 i b = e ∙ h.rest i b (omega arith) in
     let next : suc i ≡ i + 1 = omega arith in
-    let taken : take (i + 1) bs0 ≡ take i bs0 ++ b ∷ [] = ap (λ k. take k bs0) (sym next) ∙ take-suc bs0 i b (omega (arith, lt, m)) ∙ ap (λ x. take i bs0 ++ x ∷ []) (sym there) in
+    let taken : take (i + 1) bs0 ≡ take i bs0 ++ b ∷ [] = ap (λ k. take k bs0) (sym next) ∙ take-suc bs0 i b lt ∙ ap (λ x. take i bs0 ++ x ∷ []) (sym there) in
     record {
       put = p ∙ ap (put_each b.tasks) h.put ∙ sym (put_all-last (take i bs0) b ts0) ∙ ap (λ l. put_all l ts0) (sym taken);
       rest = λ j d le. get_or-set_other bs i j b' d (λ z. omega (arith, z, le)) ∙ h.rest j d (omega (arith, le));
-      seats = set_seat bs i lt (s ∙ ap (λ (x : Bundle). x.seat) (e ∙ default_same bs i b b' lt)) ∙ h.seats;
+      seats = set_seat bs i there_now (s ∙ ap (λ (x : Bundle). x.seat) (e ∙ default_same bs i b b' there_now)) ∙ h.seats;
     }
   where
     default_same : (xs : List Bundle) (j : ℕ) (c d : Bundle) → j < length xs → get_or xs j c ≡ get_or xs j d
@@ -194,6 +194,40 @@ pub record Merging (seats0 seats : List Chair) (v : View) : Type 0 where
   pub later : List Chair
   pub all : seats0 ≡ seats ++ (first ∷ later)
   pub view : v ≡ merged (first ∷ later)
+
+seats-last : (bs : List Bundle) (b : Bundle) → seats_of (bs ++ b ∷ []) ≡ seats_of bs ++ b.seat ∷ []
+seats-last [] b = refl
+seats-last (c ∷ bs) b = ap (λ l. c.seat ∷ l) (seats-last bs b)
+
+-- before the others there is the last
+pub merging_first : (bs0 bs : List Bundle) (b : Bundle) → bs0 ≡ bs ++ b ∷ [] → Merging (seats_of bs0) (seats_of bs) b.seat.view
+merging_first bs0 bs b e = record { first = b.seat; later = []; all = ap seats_of e ∙ seats-last bs b; view = refl }
+
+-- one seat more
+pub merging_next : (bs0 bs bs' : List Bundle) (b : Bundle) (v w : View) → Merging (seats_of bs0) (seats_of bs) v → bs ≡ bs' ++ b ∷ []
+    → w ≡ both v b.seat.view → Merging (seats_of bs0) (seats_of bs') w
+merging_next bs0 bs bs' b v w h e q = record {
+  first = b.seat;
+  later = h.first ∷ h.later;
+  all = h.all ∙ ap (λ l. l ++ (h.first ∷ h.later)) (ap seats_of e ∙ seats-last bs' b) ∙ append_assoc (seats_of bs') (b.seat ∷ []) (h.first ∷ h.later);
+  view = q ∙ ap (λ x. both x b.seat.view) h.view;
+}
+
+-- a seat that is taken over is of the round, and holds no class
+pub popped_rest : (bs0 bs bs' : List Bundle) (b : Bundle) (tail : List Chair) (h : AreAtRest (seats_of bs0)) → seats_of bs0 ≡ seats_of bs ++ tail → bs ≡ bs' ++ b ∷ []
+    → (b.seat.lot ≡ h.lot) × (b.seat.view.held ≡ [])
+popped_rest bs0 bs bs' b tail h e p =
+    let all : seats_of bs0 ≡ seats_of bs' ++ (b.seat ∷ tail) =
+    e ∙ ap (λ l. l ++ tail) (ap seats_of p ∙ seats-last bs' b) ∙ append_assoc (seats_of bs') (b.seat ∷ []) tail in
+    let here : get_or (seats_of bs0) (length (seats_of bs')) b.seat ≡ b.seat = ap (λ l. get_or l (length (seats_of bs')) b.seat) all ∙ there (seats_of bs') in
+    let l0 = ap length all in
+    let l1 = length-append (seats_of bs') (b.seat ∷ tail) in
+    let lt : length (seats_of bs') < length (seats_of bs0) = omega (arith, l0, l1) in
+    (ap (λ (s : Chair). s.lot) (sym here) ∙ h.lots (length (seats_of bs')) b.seat lt, ap (λ (s : Chair). s.view.held) (sym here) ∙ h.rests (length (seats_of bs')) b.seat lt)
+  where
+    there : (ss : List Chair) → get_or (ss ++ (b.seat ∷ tail)) (length ss) b.seat ≡ b.seat
+    there [] = refl
+    there (s ∷ ss) = there ss
 
 -- what a seat of these knows of the round
 pub record IsRound (n : ℕ) (starts : List Holding) (v : View) : Type 0 where

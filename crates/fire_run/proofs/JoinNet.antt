@@ -1,5 +1,5 @@
 -- The net that the bundles of a frame are, once they are joined.
-use Rattle.std.proofs.Common.{◌≡◌, ℕ, zero, suc, ◌+◌, ◌%◌, ◌==◌, ◌<◌, ◌≤◌, Bool, cond, true, false, Some, List, [], ◌∷◌, ◌++◌, length, map, refl, sym, ap, ◌∙◌, subst, arith, get_or, eq-eqb}
+use Rattle.std.proofs.Common.{◌≡◌, ℕ, zero, suc, ◌+◌, ◌%◌, ◌==◌, ◌<◌, ◌≤◌, Bool, cond, true, false, Some, List, [], ◌∷◌, ◌++◌, length, map, refl, sym, ap, ◌∙◌, subst, arith, ⊎_elim, get_or, eq-eqb}
 use Rattle.std.specs.Prelude.{All, slice_get}
 use Rattle.std.proofs.lemmas.List.{length-map}
 use Rattle.std.proofs.lemmas.Nat.{mod_below}
@@ -27,16 +27,16 @@ use Rattle.fire_tasks.proofs.JoinLemmas.{joined_adds, joined_entries}
 use Rattle.fire_tasks.proofs.TaskLemmas.{got_at, table_there, tables_many, with_adds}
 use Rattle.fire_laws.specs.Layout as layout
 use Rattle.fire_open.specs.Homes.{AreClassCells}
-use Rattle.fire_open.specs.Links.{AreLinks, AreMet}
+use Rattle.fire_open.specs.Links.{AreApart, AreLinks, AreMet, ArePaired}
 use Rattle.fire_open.specs.Still.{Still, still}
-use Rattle.fire_open.proofs.Laid.{laid_same, settled_by}
+use Rattle.fire_open.proofs.Laid.{apart_net, laid_same, paired_net, settled_by}
 use Rattle.fire_open.proofs.StillLemmas.{still_all_moves, still_ends, still_tasks}
 use Rattle.fire_run.specs.Cells.{AreSingle}
 use Rattle.fire_run.specs.declared.net.Net.{Net}
 use Rattle.fire_run.specs.Frames.{AreBundlesOf, AreSeated, AreTasksOf, Framed, HasGrownBy, HaveGrownBy, bundle_moves, ends_of_part, tasks_of_part}
 use Rattle.fire_run.specs.NetOf.{IsNetOf, Stays}
 use Rattle.fire_run.specs.Shares.{AreAtRest, AreWithin, merged, put_all, seats_of}
-use Rattle.fire_run.proofs.GatherLemmas.{AreApart, IsRound, OwnAlone, all_here, all_many, belongs, merged_all, merged_own, merged_parts, merged_round}
+use Rattle.fire_run.proofs.GatherLemmas.{AreApart as AreSharesApart, IsRound, OwnAlone, all_here, all_many, belongs, merged_all, merged_own, merged_parts, merged_round}
 use Rattle.fire_run.proofs.PartLemmas.{eq_told, filter_finds, filter_stood, list_at_all, map_at, moves_of_parts, part_ends}
 use Rattle.fire_run.proofs.RowLemmas.{class_has}
 use Rattle.fire_run.proofs.SplitNet.{elem_of}
@@ -159,7 +159,7 @@ module _ (p : PlanForm) (f : Framed) (bs : List Bundle) (h : AreBundlesOf p f bs
     abbrev ts : List Task
     ts = put_all bs ts0
 
-    apart : AreApart f.workers 0 (length ts0) bs
+    apart : AreSharesApart f.workers 0 (length ts0) bs
     unfolding keep known all_within
     apart = record {
       single = λ k b lk. (keep k b lk).apart;
@@ -263,17 +263,17 @@ all_views bs = merged (seats_of bs)
 module _ (p : PlanForm) (f : Framed) (bs : List Bundle) (h : AreBundlesOf p f bs) where
   alone : OwnAlone f.workers 0 (seats_of bs)
   alone i d j c lt ne = seat_by (λ k s. ((j ≡ 0 + k) → ⊥) → own f.workers j c s.view.claims ≡ []) bs
-      (λ k b lk apart.
+      (λ k b lk ne0.
       let v = (get_or bs k b).seat.view in
       let s = h.seated.each k b lk in
       let mine : AreOwn v = (keep p f bs h k b lk).own in
       own_none f.workers j c v.parts v.claims
       (belongs f.workers v.parts v.claims (subst (λ n. All (λ (q : Claim). Has (q.entry.op % n) v.parts) v.claims) s.seats mine))
-      (λ has. none j k (subst (Has j) s.parts has) apart))
+      (λ has. none j k (subst (Has j) s.parts has) ne0))
       i d lt ne
     where
       none : (j k : ℕ) → Has j (k ∷ []) → ((j ≡ 0 + k) → ⊥) → ⊥
-      none j k has apart = let z : k ≡ 0 + k = omega arith in ⊎_elim (λ e. apart (e ∙ z)) (λ n. n) has
+      none j k has ne0 = let z : k ≡ 0 + k = omega arith in ⊎_elim (λ e. ne0 (e ∙ z)) (λ n. n) has
 
   -- of each part it has the own list of the part's bundle
   pub own_is : (k : ℕ) (b : Bundle) (c : ℕ) → k < length bs → own f.workers k c (all_views bs).claims ≡ own f.workers k c (get_or bs k b).seat.view.claims
@@ -415,6 +415,18 @@ module _ (p : PlanForm) (f : Framed) (bs : List Bundle) (h : AreBundlesOf p f bs
         ap (λ (n : ℕ). map still (tasks_of_part n k ts)) m ∙ part_still f.workers k (put_all bs ts0) ts same
         ∙ ap (map still) (joined_parts p f bs h ts0 as_long k b lk);
   }
+
+  -- the ends of its rings are pairs
+  pub net_paired : HasGrown (all_views bs) cells → ArePaired (put_all bs ts0) f.net.links
+  net_paired grown =
+      let n = h.net.is in
+      paired_net p h.net.inputs h.net.caps (added p (logs_of cells)) (put_all bs ts0) f.net.links h.valid
+      (laid_same p h.net.inputs h.net.caps f.net.tasks (put_all bs ts0) (joined_ends p f bs h ts0 as_long) n.laid)
+      (joined_tasks p f bs h cells grown ts0 as_long) n.links
+
+  -- and no two rings share one
+  pub net_apart : AreApart f.net.links
+  net_apart = apart_net p f.net.links h.valid h.net.is.links
 
   -- whatever inputs and capacities the net that was split had, this one has
   pub net_stays : (net : Net) → net ≡ record { tasks = ts; links = f.net.links; cells = cells; refused = false } → HasGrown (all_views bs) cells

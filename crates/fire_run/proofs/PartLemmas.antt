@@ -27,12 +27,13 @@ later_stood f y xs x s = record { place = suc s.place; below = (let l = s.below 
 -- each element of a filtered list stood in the list, and passed
 pub filter_stood : {A : Type 0} (f : A → Bool) (xs : List A) (i : ℕ) (d : A) → i < length (filter f xs) → StoodAt f xs (get_or (filter f xs) i d)
 filter_stood f [] i d lt = absurd (omega (arith, lt))
-filter_stood f (x ∷ xs) i d lt = by (f x) refl i lt
+filter_stood f (x ∷ xs) i d lt = by (f x) refl (λ j l. filter_stood f xs j d l) i lt
   where
-    by : (b : Bool) → f x ≡ b → (j : ℕ) → j < length (cond b (x ∷ filter f xs) (filter f xs)) → StoodAt f (x ∷ xs) (get_or (cond b (x ∷ filter f xs) (filter f xs)) j d)
-    by true e zero l = record { place = 0; below = omega arith; same = λ c. refl; passed = e }
-    by true e (suc j) l = later_stood f x xs (get_or (filter f xs) j d) (filter_stood f xs j d (omega (arith, l)))
-    by false e j l = later_stood f x xs (get_or (filter f xs) j d) (filter_stood f xs j d l)
+    by : (b : Bool) → f x ≡ b → ((j : ℕ) → j < length (filter f xs) → StoodAt f xs (get_or (filter f xs) j d)) → (j : ℕ)
+        → j < length (cond b (x ∷ filter f xs) (filter f xs)) → StoodAt f (x ∷ xs) (get_or (cond b (x ∷ filter f xs) (filter f xs)) j d)
+    by true e rest zero l = record { place = 0; below = omega arith; same = λ c. refl; passed = e }
+    by true e rest (suc j) l = later_stood f x xs (get_or (filter f xs) j d) (rest j (omega (arith, l)))
+    by false e rest j l = later_stood f x xs (get_or (filter f xs) j d) (rest j l)
 
 -- an element that passes stands in the filtered list
 pub filter_finds : {A : Type 0} (f : A → Bool) (xs : List A) (o : ℕ) (d : A) → o < length xs → f (get_or xs o d) ≡ true

@@ -1,5 +1,5 @@
 -- The bundles of a net that was split.
-use Rattle.std.proofs.Common.{◌≡◌, ℕ, zero, suc, ◌+◌, ◌%◌, ◌<◌, ◌≤◌, ◌^◌, Some, inl, List, [], ◌∷◌, length, refl, sym, ap, ◌∙◌, subst, arith, get_or}
+use Rattle.std.proofs.Common.{◌≡◌, ℕ, zero, suc, ◌+◌, ◌%◌, ◌==◌, ◌<◌, ◌≤◌, ◌^◌, Some, inl, List, [], ◌∷◌, length, refl, sym, ap, ◌∙◌, subst, arith, get_or}
 use Rattle.std.specs.Prelude.{All, slice_get}
 use Rattle.std.proofs.lemmas.List.{append-nil}
 use Rattle.std.proofs.lemmas.List.Elements.{All-nil}
@@ -132,6 +132,11 @@ share_tasks p inputs caps net w k v n = record {
         subst (λ (x : Task). IsTask p (added p (logs_of net.cells) x.op) x) (s.same d) (n.tasks.each s.place d s.below)
 
 -- THE BUNDLES
+
+-- there are so many seats
+pub seats_long : (z : TableId) (n : ℕ) (starts : List Holding) (m c : ℕ) → length (seats_from z n starts m c) ≡ c
+seats_long z n starts m zero = refl
+seats_long z n starts m (suc c) = ap suc (seats_long z n starts (suc m) c)
 
 seat_at : (z : TableId) (n : ℕ) (starts : List Holding) (m c k : ℕ) (e : Chair) → k < c
     → get_or (seats_from z n starts m c) k e ≡ record { lot = z; view = with_parts n starts ((m + k) ∷ []) [] }

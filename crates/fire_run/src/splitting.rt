@@ -32,6 +32,10 @@ pub enum SplitFault {
 }
 
 impl From<NoMemory> for SplitFault {
+    ghost use Rattle.fire_run.specs.declared.splitting.SplitFault.TheVariants as fault;
+
+    ghost from_gives = { λ _ f. f ≡ fault.NoMemory };
+
     fn from(_: NoMemory) -> Self {
         SplitFault::NoMemory
     }
@@ -161,10 +165,16 @@ impl Net {
             Err(BeginFault::NoMemory) => return Err(SplitFault::NoMemory),
         };
         let bundles = bundles_of(alloc, &mut net.tasks, seats, workers)?;
+        let Net {
+            tasks,
+            links,
+            cells,
+            refused: _,
+        } = net;
         let frame = Frame {
-            tasks: net.tasks,
-            links: net.links,
-            cells: net.cells,
+            tasks,
+            links,
+            cells,
             workers,
             net: whole,
         };
