@@ -61,7 +61,8 @@ putting_next own0 ts0 own ts own' t h e = record {
 }
 
 -- the place of the next is there
-pub putting_within : (own0 ts0 own ts own' : List Task) (t : Task) → Putting own0 ts0 own ts → own ≡ own' ++ t ∷ [] → AreWithin (length ts0) own0 → t.op < length ts
+pub putting_within : (own0 ts0 own ts own' : List Task) (t : Task) → Putting own0 ts0 own ts → own ≡ own' ++ t ∷ [] → AreWithin (length ts0) own0
+    → t.op < length ts
 putting_within own0 ts0 own ts own' t h e w =
     let all : own0 ≡ own' ++ (t ∷ h.done) = h.all ∙ ap (λ l. l ++ h.done) e ∙ append_assoc own' (t ∷ []) h.done in
     let within : AreWithin (length ts0) (own' ++ (t ∷ h.done)) = subst (AreWithin (length ts0)) all w in
@@ -214,7 +215,8 @@ merging_next bs0 bs bs' b v w h e q = record {
 }
 
 -- a seat that is taken over is of the round, and holds no class
-pub popped_rest : (bs0 bs bs' : List Bundle) (b : Bundle) (tail : List Chair) (h : AreAtRest (seats_of bs0)) → seats_of bs0 ≡ seats_of bs ++ tail → bs ≡ bs' ++ b ∷ []
+pub popped_rest : (bs0 bs bs' : List Bundle) (b : Bundle) (tail : List Chair) (h : AreAtRest (seats_of bs0)) → seats_of bs0 ≡ seats_of bs ++ tail
+    → bs ≡ bs' ++ b ∷ []
     → (b.seat.lot ≡ h.lot) × (b.seat.view.held ≡ [])
 popped_rest bs0 bs bs' b tail h e p =
     let all : seats_of bs0 ≡ seats_of bs' ++ (b.seat ∷ tail) =
@@ -222,8 +224,11 @@ popped_rest bs0 bs bs' b tail h e p =
     let here : get_or (seats_of bs0) (length (seats_of bs')) b.seat ≡ b.seat = ap (λ l. get_or l (length (seats_of bs')) b.seat) all ∙ there (seats_of bs') in
     let l0 = ap length all in
     let l1 = length-append (seats_of bs') (b.seat ∷ tail) in
-    let lt : length (seats_of bs') < length (seats_of bs0) = omega (arith, l0, l1) in
-    (ap (λ (s : Chair). s.lot) (sym here) ∙ h.lots (length (seats_of bs')) b.seat lt, ap (λ (s : Chair). s.view.held) (sym here) ∙ h.rests (length (seats_of bs')) b.seat lt)
+    let lt : length (seats_of bs') < length (seats_of bs0) = omega (arith, l0, l1) in (
+      ap (λ (s : Chair). s.lot) (sym here) ∙ h.lots (length (seats_of bs')) b.seat lt,
+      ap (λ (s : Chair). s.view.held) (sym here)
+          ∙ h.rests (length (seats_of bs')) b.seat lt,
+    )
   where
     there : (ss : List Chair) → get_or (ss ++ (b.seat ∷ tail)) (length ss) b.seat ≡ b.seat
     there [] = refl
@@ -236,7 +241,8 @@ pub record IsRound (n : ℕ) (starts : List Holding) (v : View) : Type 0 where
   pub rests : v.held ≡ []
 
 -- what all know of the round the one knows
-pub merged_round : (n : ℕ) (starts : List Holding) (ss : List Chair) → 0 < length ss → ((i : ℕ) (d : Chair) → i < length ss → IsRound n starts (get_or ss i d).view)
+pub merged_round : (n : ℕ) (starts : List Holding) (ss : List Chair) → 0 < length ss
+    → ((i : ℕ) (d : Chair) → i < length ss → IsRound n starts (get_or ss i d).view)
     → IsRound n starts (merged ss)
 merged_round n starts [] lt h = absurd (omega (arith, lt))
 merged_round n starts (s ∷ []) lt h = h 0 s (omega arith)
@@ -263,14 +269,17 @@ merged_parts m (s ∷ (r ∷ rest)) h (suc i) lt =
     let z : suc m + i ≡ m + suc i = omega arith in
     has_front (m + suc i) (merged (r ∷ rest)).parts s.view.parts
     (subst (λ k. Has k (merged (r ∷ rest)).parts) z
-    (merged_parts (suc m) (r ∷ rest) (λ j d l. let y : m + suc j ≡ suc m + j = omega arith in h (suc j) d (omega (arith, l)) ∙ ap (λ x. x ∷ []) y) i (omega (arith, lt))))
+    (merged_parts (suc m) (r ∷ rest) (λ j d l. let y : m + suc j ≡ suc m + j = omega arith in h (suc j) d (omega (arith, l))
+    ∙ ap (λ x. x ∷ []) y) i (omega (arith, lt))))
 
 -- what holds of the claims of each holds of its claims
-pub merged_all : (P : Claim → Type 0) (ss : List Chair) → 0 < length ss → ((i : ℕ) (d : Chair) → i < length ss → All P (get_or ss i d).view.claims) → All P (merged ss).claims
+pub merged_all : (P : Claim → Type 0) (ss : List Chair) → 0 < length ss → ((i : ℕ) (d : Chair) → i < length ss → All P (get_or ss i d).view.claims)
+    → All P (merged ss).claims
 merged_all P [] lt h = absurd (omega (arith, lt))
 merged_all P (s ∷ []) lt h = h 0 s (omega arith)
 merged_all P (s ∷ (r ∷ rest)) lt h =
-    All-append P (merged (r ∷ rest)).claims s.view.claims (merged_all P (r ∷ rest) (omega arith) (λ i d l. h (suc i) d (omega (arith, l)))) (h 0 s (omega arith))
+    All-append P (merged (r ∷ rest)).claims s.view.claims (merged_all P (r ∷ rest) (omega arith) (λ i d l. h (suc i) d (omega (arith, l))))
+    (h 0 s (omega arith))
 
 -- claims that belong to some parts belong to them as entries
 pub belongs : (n : ℕ) (parts : List ℕ) (qs : List Claim) → All (λ (q : Claim). Has (q.entry.op % n) parts) qs → Belong n parts (entries_of qs)
@@ -290,7 +299,8 @@ merged_none n m j c [] lt h ne = absurd (omega (arith, lt))
 merged_none n m j c (s ∷ []) lt h ne = h 0 s j c (omega arith) (ne 0 (omega arith))
 merged_none n m j c (s ∷ (r ∷ rest)) lt h ne =
     own-append n j c (merged (r ∷ rest)).claims s.view.claims
-    ∙ ap (λ l. l ++ own n j c s.view.claims) (merged_none n (suc m) j c (r ∷ rest) (omega arith) (alone_rest n m s (r ∷ rest) h) (λ i l z. ne (suc i) (omega (arith, l)) (omega (arith, z))))
+    ∙ ap (λ l. l ++ own n j c s.view.claims)
+    (merged_none n (suc m) j c (r ∷ rest) (omega arith) (alone_rest n m s (r ∷ rest) h) (λ i l z. ne (suc i) (omega (arith, l)) (omega (arith, z))))
     ∙ h 0 s j c (omega arith) (ne 0 (omega arith))
 
 -- the own list of each part is that of its seat
@@ -301,10 +311,12 @@ merged_own n m c (s ∷ []) h zero d lt = refl
 merged_own n m c (s ∷ []) h (suc i) d lt = absurd (omega (arith, lt))
 merged_own n m c (s ∷ (r ∷ rest)) h zero d lt =
     own-append n (m + 0) c (merged (r ∷ rest)).claims s.view.claims
-    ∙ ap (λ l. l ++ own n (m + 0) c s.view.claims) (merged_none n (suc m) (m + 0) c (r ∷ rest) (omega arith) (alone_rest n m s (r ∷ rest) h) (λ i l z. omega (arith, z)))
+    ∙ ap (λ l. l ++ own n (m + 0) c s.view.claims)
+    (merged_none n (suc m) (m + 0) c (r ∷ rest) (omega arith) (alone_rest n m s (r ∷ rest) h) (λ i l z. omega (arith, z)))
 merged_own n m c (s ∷ (r ∷ rest)) h (suc i) d lt =
     let z : suc m + i ≡ m + suc i = omega arith in
     own-append n (m + suc i) c (merged (r ∷ rest)).claims s.view.claims
     ∙ ap (λ l. own n (m + suc i) c (merged (r ∷ rest)).claims ++ l) (h 0 s (m + suc i) c (omega arith) (λ q. omega (arith, q)))
     ∙ append-nil (own n (m + suc i) c (merged (r ∷ rest)).claims)
-    ∙ subst (λ k. own n k c (merged (r ∷ rest)).claims ≡ own n k c (get_or (r ∷ rest) i d).view.claims) z (merged_own n (suc m) c (r ∷ rest) (alone_rest n m s (r ∷ rest) h) i d (omega (arith, lt)))
+    ∙ subst (λ k. own n k c (merged (r ∷ rest)).claims ≡ own n k c (get_or (r ∷ rest) i d).view.claims) z
+    (merged_own n (suc m) c (r ∷ rest) (alone_rest n m s (r ∷ rest) h) i d (omega (arith, lt)))

@@ -60,7 +60,8 @@ seat_is bs k d b lt =
     got_else (seats_of bs) k d b.seat (omega (arith, lt, long)) ∙ got_map (λ (x : Bundle). x.seat) bs k b
 
 -- what holds of each bundle's seat holds of each of the seats
-seat_by : (P : ℕ → Chair → Type 0) (bs : List Bundle) → ((k : ℕ) (b : Bundle) → k < length bs → P k (get_or bs k b).seat) → (k : ℕ) (d : Chair) → k < length (seats_of bs)
+seat_by : (P : ℕ → Chair → Type 0) (bs : List Bundle) → ((k : ℕ) (b : Bundle) → k < length bs → P k (get_or bs k b).seat) → (k : ℕ) (d : Chair)
+    → k < length (seats_of bs)
     → P k (get_or (seats_of bs) k d)
 seat_by P bs h k d lt =
     let long = length-map bs (λ (x : Bundle). x.seat) in
@@ -137,8 +138,10 @@ module _ (p : PlanForm) (f : Framed) (bs : List Bundle) (h : AreBundlesOf p f bs
       let l2 = length-map f.net.tasks ends_of in
       let b2 = s.below in
       let there : s.place < length f.net.tasks = omega (arith, b2, l2) in
-      let same : get_or (ends_of_part f.workers k es) i (ends_of c) ≡ ends_of t = ap (λ (l : List TaskEnds). get_or l i (ends_of c)) (sym e) ∙ got_map ends_of (get_or bs k b).tasks i c in
-      let at : (d : Task) → ends_of t ≡ ends_of (get_or f.net.tasks s.place d) = λ d. sym same ∙ sym (s.same (ends_of d)) ∙ got_map ends_of f.net.tasks s.place d in
+      let same : get_or (ends_of_part f.workers k es) i (ends_of c) ≡ ends_of t = ap (λ (l : List TaskEnds). get_or l i (ends_of c)) (sym e)
+      ∙ got_map ends_of (get_or bs k b).tasks i c in
+      let at : (d : Task) → ends_of t ≡ ends_of (get_or f.net.tasks s.place d) = λ d. sym same ∙ sym (s.same (ends_of d))
+      ∙ got_map ends_of f.net.tasks s.place d in
       let op : t.op ≡ s.place = ap (λ (x : TaskEnds). x.op) (at t) ∙ numbers s.place t there in
       record {
         within = omega (arith, op, there);
@@ -353,7 +356,8 @@ module _ (p : PlanForm) (f : Framed) (bs : List Bundle) (h : AreBundlesOf p f bs
         let at : (t.op % v.seats) ≡ k = ap (λ (n : ℕ). t.op % n) s.seats ∙ part_is in
         let has : Has (t.op % v.seats) w.parts = subst (λ j. Has j w.parts) (sym at) (has_every f bs h.seated k (omega (arith, lk, m))) in
         let claims : (c : ℕ) → own v.seats (t.op % v.seats) c w.claims ≡ own v.seats (t.op % v.seats) c v.claims =
-        (λ c. subst (λ j. own v.seats j c w.claims ≡ own v.seats j c v.claims) (sym at) (subst (λ n. own n k c w.claims ≡ own n k c v.claims) (sym s.seats) (own_is k b c lk))) in
+        (λ c. subst (λ j. own v.seats j c w.claims ≡ own v.seats j c v.claims) (sym at)
+        (subst (λ n. own n k c w.claims ≡ own n k c v.claims) (sym s.seats) (own_is k b c lk))) in
         with_adds p (added p (logs_at v t.op) t.op) (added p (logs_of cells) t.op) t keeps (λ j lj.
         let many = tables_many p h.valid t (added p (logs_at v t.op) t.op) keeps in
         let port = got_at t.tables j (omega (arith, lj, many)) in
@@ -397,7 +401,8 @@ part_still n k (x ∷ xs) (y ∷ ys) e =
     by true a r = ap (λ s. s ∷ map still (tasks_of_part n k ys)) a ∙ ap (λ ss. still x ∷ ss) r
     by false a r = r
 
-module _ (p : PlanForm) (f : Framed) (bs : List Bundle) (h : AreBundlesOf p f bs) (ts0 ts : List Task) (cells : List Holding) (as_long : length ts0 ≡ length f.net.tasks)
+module _ (p : PlanForm) (f : Framed) (bs : List Bundle) (h : AreBundlesOf p f bs) (ts0 ts : List Task) (cells : List Holding)
+    (as_long : length ts0 ≡ length f.net.tasks)
     (same : map still ts ≡ map still (put_all bs ts0)) where
   -- the net has the ends of the net that was split
   pub net_ends : all_ends ts ≡ all_ends f.net.tasks
@@ -435,13 +440,13 @@ module _ (p : PlanForm) (f : Framed) (bs : List Bundle) (h : AreBundlesOf p f bs
   net_stays net e grown met = subst (Stays p f.net) (sym e) (record {
     fine = refl;
     is = λ inputs caps n. record {
-        typed = n.typed;
-        room = n.room;
-        laid = laid_same p inputs caps f.net.tasks ts net_ends n.laid;
-        tasks = still_tasks p (added p (logs_of cells)) (put_all bs ts0) ts same (joined_tasks p f bs h cells grown ts0 as_long);
-        settled = settled_by p ts f.net.links n.links met;
-        links = n.links;
-        cells = joined_cells p f bs h cells grown;
-        entries = joined_right p f bs h cells grown;
+      typed = n.typed;
+      room = n.room;
+      laid = laid_same p inputs caps f.net.tasks ts net_ends n.laid;
+      tasks = still_tasks p (added p (logs_of cells)) (put_all bs ts0) ts same (joined_tasks p f bs h cells grown ts0 as_long);
+      settled = settled_by p ts f.net.links n.links met;
+      links = n.links;
+      cells = joined_cells p f bs h cells grown;
+      entries = joined_right p f bs h cells grown;
     };
   })

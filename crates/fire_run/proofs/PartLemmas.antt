@@ -57,14 +57,16 @@ pub map_at : {A B : Type 0} (g : A → B) (xs ys : List A) → length xs ≡ len
 map_at g [] [] l e = refl
 map_at g [] (y ∷ ys) l e = absurd (omega (arith, l))
 map_at g (x ∷ xs) [] l e = absurd (omega (arith, l))
-map_at g (x ∷ xs) (y ∷ ys) l e = ap (λ b. b ∷ map g xs) (e 0 x (omega arith)) ∙ ap (λ bs. g y ∷ bs) (map_at g xs ys (omega (arith, l)) (λ i d lt. e (suc i) d (omega (arith, lt))))
+map_at g (x ∷ xs) (y ∷ ys) l e = ap (λ b. b ∷ map g xs) (e 0 x (omega arith))
+    ∙ ap (λ bs. g y ∷ bs) (map_at g xs ys (omega (arith, l)) (λ i d lt. e (suc i) d (omega (arith, lt))))
 
 -- and the same
 pub list_at_all : {A : Type 0} (xs ys : List A) → length xs ≡ length ys → ((i : ℕ) (d : A) → i < length xs → get_or xs i d ≡ get_or ys i d) → xs ≡ ys
 list_at_all [] [] l e = refl
 list_at_all [] (y ∷ ys) l e = absurd (omega (arith, l))
 list_at_all (x ∷ xs) [] l e = absurd (omega (arith, l))
-list_at_all (x ∷ xs) (y ∷ ys) l e = ap (λ b. b ∷ xs) (e 0 x (omega arith)) ∙ ap (λ bs. y ∷ bs) (list_at_all xs ys (omega (arith, l)) (λ i d lt. e (suc i) d (omega (arith, lt))))
+list_at_all (x ∷ xs) (y ∷ ys) l e = ap (λ b. b ∷ xs) (e 0 x (omega arith))
+    ∙ ap (λ bs. y ∷ bs) (list_at_all xs ys (omega (arith, l)) (λ i d lt. e (suc i) d (omega (arith, lt))))
 
 -- THE TASKS OF A PART
 
@@ -74,7 +76,8 @@ part_ends n k [] = refl
 part_ends n k (t ∷ ts) = by ((t.op % n) == k) (part_ends n k ts)
   where
     by : (b : Bool) → all_ends (tasks_of_part n k ts) ≡ ends_of_part n k (all_ends ts)
-        → all_ends (cond b (t ∷ tasks_of_part n k ts) (tasks_of_part n k ts)) ≡ cond b (ends_of t ∷ ends_of_part n k (all_ends ts)) (ends_of_part n k (all_ends ts))
+        → all_ends (cond b (t ∷ tasks_of_part n k ts) (tasks_of_part n k ts)) ≡ cond b (ends_of t ∷ ends_of_part n k (all_ends ts))
+        (ends_of_part n k (all_ends ts))
     by true e = ap (λ es. ends_of t ∷ es) e
     by false e = e
 
@@ -87,7 +90,8 @@ single_cons t xs a s (suc i) (suc k) d li lk e = ap suc (s i k d (omega (arith, 
 -- no two of them are of one operator
 pub part_single : (f : Task → Bool) (ts : List Task) → AreSingle ts → AreSingle (filter f ts)
 part_single f [] s = s
-part_single f (t ∷ ts) s = by (f t) (part_single f ts (λ i k d li lk e. let q = s (suc i) (suc k) d (omega (arith, li)) (omega (arith, lk)) e in omega (arith, q)))
+part_single f (t ∷ ts) s = by (f t)
+    (part_single f ts (λ i k d li lk e. let q = s (suc i) (suc k) d (omega (arith, li)) (omega (arith, lk)) e in omega (arith, q)))
   where
     apart : (j : ℕ) (d : Task) → j < length (filter f ts) → t.op ≡ (get_or (filter f ts) j d).op → ⊥
     apart j d lt e =

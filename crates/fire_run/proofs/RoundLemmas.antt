@@ -6,7 +6,7 @@ use Rattle.river_plan.specs.declared.plan.RawPlan.{RawPlan}
 use Rattle.class_locks.specs.Seats.{TableId}
 use Rattle.fire_tasks.specs.Bundles.{HasWorked, IsReady}
 use Rattle.fire_tasks.specs.declared.bundle.Bundle.{Bundle}
-use Rattle.fire_run.specs.Frames.{AreBundlesOf, AreCalm, AreSeated, Framed, HaveWorked, SitsAt, bundle_moves}
+use Rattle.fire_run.specs.Frames.{AreBundlesOf, AreCalm, AreSeated, Framed, HasToldMoves, HaveWorked, SitsAt, bundle_moves}
 
 -- the bundles of a frame can work by the lists of its plan
 pub are_ready : (raw : RawPlan) (f : Framed) (bs : List Bundle) → AreBundlesOf (plan_form raw) f bs → All (IsReady raw) bs
@@ -87,3 +87,7 @@ round_stayed raw (b ∷ bs) (b' ∷ bs') w c s =
     let n = ((w.each 0 b (omega arith)).went (c 0 b (omega arith))).number.stayed (s 0 b (omega arith)) in
     let r = round_stayed raw bs bs' (rest_worked raw b b' bs bs' w) (rest_calm b' bs' c) (λ k d lt. s (suc k) d (omega (arith, lt))) in
     omega (arith, n, r)
+
+-- so they tell whether anything moved
+pub round_told : (raw : RawPlan) (bs bs' : List Bundle) → HaveWorked raw bs bs' → AreCalm bs' → HasToldMoves bs bs'
+round_told raw bs bs' w c = record { never_fall = round_falls raw bs bs' w c; grew = round_grew raw bs bs' w c; stayed = round_stayed raw bs bs' w c }

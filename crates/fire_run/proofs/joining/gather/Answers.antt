@@ -5,7 +5,8 @@ use Rattle.fire_run.proofs.joining.gather.Goals as goal
 pub put_back-requires : goal.put_back-requires
 put_back-requires c =
     let b = c.index_mut.result.now in
-    gathering_within c.args.bundles.now.items c.loop-place.bundles.items c.args.tasks.now c.loop-place.tasks c.loop-place.place b c.loop-place.invariant (omega arith)
+    gathering_within c.args.bundles.now.items c.loop-place.bundles.items c.args.tasks.now c.loop-place.tasks c.loop-place.place b c.loop-place.invariant
+    (omega arith)
     c.index_mut.ensures.value c.requires
 
 pub loop-place-preserved : goal.loop-place-preserved

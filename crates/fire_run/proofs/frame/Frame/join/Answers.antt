@@ -11,7 +11,8 @@ use Rattle.fire_run.proofs.frame.Frame.join.Goals as goal
 
 pub gather-requires : goal.gather-requires
 gather-requires c =
-    all_within c.requires.0 c.args.self c.args.bundles.items c.requires.1 (length c.self.inside.tasks) (c.self.invariant.0 ∙ ap (λ (f : Framed). length f.net.tasks) c.self.view_is)
+    all_within c.requires.0 c.args.self c.args.bundles.items c.requires.1 (length c.self.inside.tasks)
+    (c.self.invariant.0 ∙ ap (λ (f : Framed). length f.net.tasks) c.self.view_is)
 
 pub one_seat-seat-requires : goal.one_seat-seat-requires
 one_seat-seat-requires c = subst AreAtRest (sym c.gather.ensures.seats) (at_rest c.args.self c.args.bundles.items c.requires.1.seated)
@@ -22,11 +23,13 @@ close-requires-clause-all c =
 
 pub close-requires-clause-rests : goal.close-requires-clause-rests
 close-requires-clause-rests c =
-    ap (λ (v : View). v.held) (c.one_seat-seat.ensures ∙ ap merged c.gather.ensures.seats) ∙ (one_round c.args.self c.args.bundles.items c.requires.1.seated).rests
+    ap (λ (v : View). v.held) (c.one_seat-seat.ensures ∙ ap merged c.gather.ensures.seats)
+    ∙ (one_round c.args.self c.args.bundles.items c.requires.1.seated).rests
 
 pub close-requires-clause-as_many : goal.close-requires-clause-as_many
 close-requires-clause-as_many c =
-    as_many c.args.self c.args.bundles.items c.requires.1.seated (length c.self.inside.cells) (c.self.invariant.2 ∙ ap (λ (f : Framed). length f.net.cells) c.self.view_is)
+    as_many c.args.self c.args.bundles.items c.requires.1.seated (length c.self.inside.cells)
+    (c.self.invariant.2 ∙ ap (λ (f : Framed). length f.net.cells) c.self.view_is)
     ∙ sym (ap (λ (v : View). length v.starts) (c.one_seat-seat.ensures ∙ ap merged c.gather.ensures.seats))
 
 pub settle_all-requires-clause-paired : goal.settle_all-requires-clause-paired
@@ -38,7 +41,8 @@ settle_all-requires-clause-paired c =
     let links : c.self.inside.links ≡ f.net.links = c.self.invariant.1 ∙ ap (λ (g : Framed). g.net.links) c.self.view_is in
     let grown = subst (λ v. HasGrown v c.close.new.cells) (c.one_seat-seat.ensures ∙ ap merged c.gather.ensures.seats) c.close.ensures in
     subst (λ ts. ArePaired ts c.self.inside.links) (sym c.gather.ensures.tasks)
-    (subst (ArePaired (put_all bs ts0)) (sym links) (net_paired c.requires.0 f bs c.requires.1 ts0 c.gather.new.tasks c.close.new.cells long (ap (map still) c.gather.ensures.tasks) grown))
+    (subst (ArePaired (put_all bs ts0)) (sym links)
+    (net_paired c.requires.0 f bs c.requires.1 ts0 c.gather.new.tasks c.close.new.cells long (ap (map still) c.gather.ensures.tasks) grown))
 
 pub settle_all-requires-clause-apart : goal.settle_all-requires-clause-apart
 settle_all-requires-clause-apart c =

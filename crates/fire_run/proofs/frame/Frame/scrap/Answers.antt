@@ -16,5 +16,6 @@ close-requires-clause-rests c = ap (λ (v : View). v.held) c.one_seat-seat.ensur
 
 pub close-requires-clause-as_many : goal.close-requires-clause-as_many
 close-requires-clause-as_many c =
-    as_many c.args.self c.args.bundles.items c.requires (length c.self.inside.cells) (c.self.invariant.2 ∙ ap (λ (f : Framed). length f.net.cells) c.self.view_is)
+    as_many c.args.self c.args.bundles.items c.requires (length c.self.inside.cells)
+    (c.self.invariant.2 ∙ ap (λ (f : Framed). length f.net.cells) c.self.view_is)
     ∙ sym (ap (λ (v : View). length v.starts) c.one_seat-seat.ensures)

@@ -13,17 +13,20 @@ pub returns-clause-bundles : goal.returns-clause-bundles
 returns-clause-bundles c = λ p v h.
     let w = c.requires.workers.0 in
     subst (λ n. AreBundlesOf p (record { net = n; workers = c.args.workers }) c.in_ok-bundles.bundles.items) (sym c.of-whole.ensures)
-    (split_bundles c.in-Ok.ensures.seats.0 c.args.self c.args.workers c.in-Ok.seats.items c.in_ok-bundles.bundles.items (omega (arith, w)) c.in_ok-bundles.ensures.many
+    (split_bundles c.in-Ok.ensures.seats.0 c.args.self c.args.workers c.in-Ok.seats.items c.in_ok-bundles.bundles.items
+    (omega (arith, w)) c.in_ok-bundles.ensures.many
     c.in-Ok.ensures.seats.1 c.in_ok-bundles.ensures.shares p v h)
 
 pub returns-clause-dealt : goal.returns-clause-dealt
 returns-clause-dealt c =
     let w = c.requires.workers.0 in
-    dealt_all c.in-Ok.ensures.seats.0 c.args.self c.args.workers c.in-Ok.seats.items c.in_ok-bundles.bundles.items (omega (arith, w)) c.in_ok-bundles.ensures.many
+    dealt_all c.in-Ok.ensures.seats.0 c.args.self c.args.workers c.in-Ok.seats.items c.in_ok-bundles.bundles.items
+    (omega (arith, w)) c.in_ok-bundles.ensures.many
     c.in-Ok.ensures.seats.1 c.in_ok-bundles.ensures.shares
 
 pub returns-clause-moves : goal.returns-clause-moves
 returns-clause-moves c =
     let w = c.requires.workers.0 in
-    dealt_moves c.in-Ok.ensures.seats.0 c.args.self c.args.workers c.in-Ok.seats.items c.in_ok-bundles.bundles.items (omega (arith, w)) c.in_ok-bundles.ensures.many
+    dealt_moves c.in-Ok.ensures.seats.0 c.args.self c.args.workers c.in-Ok.seats.items c.in_ok-bundles.bundles.items
+    (omega (arith, w)) c.in_ok-bundles.ensures.many
     c.in-Ok.ensures.seats.1 c.in_ok-bundles.ensures.shares
