@@ -46,7 +46,8 @@ fn take_line<R: Print, T: Runner>(
     line: &str,
 ) -> Result<(), Fault> {
     if reader.take(line)? {
-        tally.count(tries(rt, alloc, runner, reader.case())?);
+        let is_right = tries(rt, alloc, runner, reader.case(), reader.besides())?;
+        tally.count(is_right);
     }
     Ok(())
 }

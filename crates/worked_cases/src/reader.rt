@@ -2,7 +2,7 @@
 use crate::case::{Case, Device, Words, find, put};
 use crate::content::{append, append_line};
 use crate::fault::Fault;
-use river_base::Bytes;
+use river_base::{Bytes, Listed};
 use river_outside::Files;
 use std::alloc::Global;
 use std::mem;
@@ -23,6 +23,8 @@ pub struct Reader {
     alloc: Global,
     wanted: u32,
     texts: Files,
+    // Words with which each case that runs a program is tried besides.
+    besides: Listed<Words>,
     case: Case,
     // Whether the case has begun, and not ended.
     within: bool,
@@ -38,6 +40,7 @@ impl Reader {
             alloc,
             wanted: 0,
             texts: Files::new(alloc),
+            besides: Listed::new(alloc),
             case: Case::new(alloc),
             within: false,
             place: Place::Nothing,
@@ -58,6 +61,11 @@ impl Reader {
     /// The case that was read last.
     pub fn case(&self) -> &Case {
         &self.case
+    }
+
+    /// The words with which a run is tried besides.
+    pub fn besides(&self) -> &[Words] {
+        self.besides.as_slice()
     }
 
     /// Takes a line, and says whether a case ended there.
@@ -88,6 +96,7 @@ impl Reader {
     fn take_outer(&mut self, first: &str, rest: &str) -> Result<bool, Fault> {
         match first {
             "cases" => self.count(rest),
+            "workers" => self.add_workers(rest),
             "text" => self.open_text(rest),
             "case" => self.begin_anew(rest),
             "also" => self.begin_also(rest),
@@ -163,6 +172,14 @@ impl Reader {
 
     fn count(&mut self, number: &str) -> Result<bool, Fault> {
         self.wanted = read_number(number)?;
+        Ok(false)
+    }
+
+    // Each case from here on that runs a program is tried with these words besides.
+    fn add_workers(&mut self, text: &str) -> Result<bool, Fault> {
+        let mut words = Words::new(self.alloc);
+        read_words(self.alloc, text, &mut words)?;
+        self.besides.push(words)?;
         Ok(false)
     }
 

@@ -1,5 +1,6 @@
 // What is printed of the cases.
 use crate::fault::Fault;
+use river_base::Text;
 use std::alloc::Global;
 use std::io;
 use std::io::Write;
@@ -59,6 +60,18 @@ fn show<R: Print>(rt: &R, parts: &[&[u8]]) -> Result<(), Fault> {
     let mut to = io::writer(rt);
     for part in parts {
         to.write_all(part)?;
+    }
+    to.write_all(b"\n")?;
+    Ok(())
+}
+
+/// Prints which words stood behind those of a case.
+pub fn show_more<R: Print>(rt: &R, more: &[Text]) -> Result<(), Fault> {
+    let mut to = io::writer(rt);
+    to.write_all(b"behind its words")?;
+    for word in more {
+        to.write_all(b" ")?;
+        to.write_all(word.as_slice())?;
     }
     to.write_all(b"\n")?;
     Ok(())

@@ -1,9 +1,9 @@
 // Runs a case over memory.
-use crate::case::Case;
+use crate::case::{Case, Words};
 use crate::fault::Fault;
 use crate::layout::{shelf_of, sink_of};
-use crate::report::{Ran, show_wrong};
-use river_base::Text;
+use crate::report::{Ran, show_more, show_wrong};
+use river_base::{NoMemory, Text};
 use river_outside::{MemShelf, MemSink};
 use std::alloc::Global;
 
@@ -13,15 +13,85 @@ pub trait Runner {
     fn run(&self, words: &[Text], shelf: &mut MemShelf, out: &mut MemSink, err: &mut MemSink) -> u8;
 }
 
-/// Whether a case gives what it says. What it gave is printed where it does not.
+/// Whether a case gives what it says; where it runs a program, also with each of these lists of words behind its own. What it
+/// gave is printed where it does not.
 pub fn tries<R: Print, T: Runner>(
     rt: &R,
     alloc: Global,
     runner: &T,
     case: &Case,
+    besides: &[Words],
+) -> Result<bool, Fault> {
+    let is_right = tries_by(rt, alloc, runner, case, case.words.as_slice())?;
+    if !is_right || !is_run(case) {
+        return Ok(is_right);
+    }
+    for more in besides {
+        if !tries_with(rt, alloc, runner, case, more.as_slice())? {
+            return Ok(false);
+        }
+    }
+    Ok(true)
+}
+
+// The same with more words behind those of the case.
+fn tries_with<R: Print, T: Runner>(
+    rt: &R,
+    alloc: Global,
+    runner: &T,
+    case: &Case,
+    more: &[Text],
+) -> Result<bool, Fault> {
+    let words = joined(alloc, case.words.as_slice(), more)?;
+    let is_right = tries_by(rt, alloc, runner, case, words.as_slice())?;
+    if !is_right {
+        show_more(rt, more)?;
+    }
+    Ok(is_right)
+}
+
+// The words of one list, and then those of another.
+fn joined(alloc: Global, words: &[Text], more: &[Text]) -> Result<Words, NoMemory> {
+    let mut all = Words::new(alloc);
+    add_words(alloc, words, &mut all)?;
+    add_words(alloc, more, &mut all)?;
+    Ok(all)
+}
+
+fn add_words(alloc: Global, words: &[Text], to: &mut Words) -> Result<(), NoMemory> {
+    for word in words {
+        to.push(Text::from_slice(alloc, word.as_slice())?)?;
+    }
+    Ok(())
+}
+
+// Whether the words are a sentence that runs a program, and say nothing of workers and queues themselves.
+fn is_run(case: &Case) -> bool {
+    let words = case.words.as_slice();
+    let runs = words
+        .first()
+        .is_some_and(|word| word.as_slice() == b"run".as_slice());
+    runs && case.status != Some(2) && !is_among(words, b"-w") && !is_among(words, b"-q")
+}
+
+fn is_among(words: &[Text], wanted: &[u8]) -> bool {
+    for word in words {
+        if word.as_slice() == wanted {
+            return true;
+        }
+    }
+    false
+}
+
+fn tries_by<R: Print, T: Runner>(
+    rt: &R,
+    alloc: Global,
+    runner: &T,
+    case: &Case,
+    words: &[Text],
 ) -> Result<bool, Fault> {
     let mut shelf = shelf_of(alloc, case)?;
-    tries_over(rt, alloc, runner, case, &mut shelf)
+    tries_over(rt, alloc, runner, case, words, &mut shelf)
 }
 
 fn tries_over<R: Print, T: Runner>(
@@ -29,10 +99,11 @@ fn tries_over<R: Print, T: Runner>(
     alloc: Global,
     runner: &T,
     case: &Case,
+    words: &[Text],
     shelf: &mut MemShelf,
 ) -> Result<bool, Fault> {
     let mut out = sink_of(alloc, &case.writes)?;
-    tries_writing(rt, alloc, runner, case, shelf, &mut out)
+    tries_writing(rt, alloc, runner, case, words, shelf, &mut out)
 }
 
 fn tries_writing<R: Print, T: Runner>(
@@ -40,11 +111,12 @@ fn tries_writing<R: Print, T: Runner>(
     alloc: Global,
     runner: &T,
     case: &Case,
+    words: &[Text],
     shelf: &mut MemShelf,
     out: &mut MemSink,
 ) -> Result<bool, Fault> {
     let mut err = sink_of(alloc, &case.tells)?;
-    let status = runner.run(case.words.as_slice(), shelf, out, &mut err);
+    let status = runner.run(words, shelf, out, &mut err);
     let ran = Ran {
         status,
         out: out.taken(),
