@@ -6,6 +6,7 @@ pub mod Cut
 pub mod Fetches
 pub mod Inputs
 pub mod Items
+pub mod Loaded
 pub mod Means
 pub mod Points
 pub mod ReadOn

@@ -1,9 +1,8 @@
 -- What is printed of the slow meaning of a program.
-use Rattle.std.proofs.Common.{◌≡◌, ℕ, ℤ, List, [], ◌∷◌, ◌++◌, map, length, false, refl, sym, ap, ◌∙◌, subst}
+use Rattle.std.proofs.Common.{◌≡◌, ℕ, List, [], ◌∷◌, ◌++◌, map, length, false, refl, sym, ap, ◌∙◌, subst}
 use Rattle.std.proofs.lemmas.List.{length-map}
 use Rattle.kern_tables.specs.Tables.{tab}
 use Rattle.kern_tables.specs.Kept.{rows_of}
-use Rattle.river_base.specs.declared.item.Item as item
 use Rattle.csv_streams.specs.Outcome.{outputs_text, tables_text, firings_text, asked_counts, printed_outcome}
 use Rattle.river_plan.specs.Forms.{PlanForm, decl_names, labels}
 use Rattle.brooklet_model.specs.Histories.{hist, all_adds}

@@ -7,12 +7,12 @@ use Rattle.river_base.specs.declared.memory.NoMemory.{NoMemory}
 use Rattle.river_outside.specs.Held.{Held}
 use Rattle.river_order.specs.Order.{Order, Ends, Done, Fetch, Comes}
 use Rattle.river_order.specs.Decides.{Decides, Stops}
-use Rattle.river_order.specs.Passes.{past, Refuses, StandsFor, AnswersAs, Passes, PassesAs}
+use Rattle.river_order.specs.Passes.{past, AnswersAs, Passes, PassesAs}
 use Rattle.river_order.specs.declared.stop.Stop.{Stop}
 use Rattle.river_order.specs.declared.stop.Stop.TheVariants as stop
 use Rattle.river_order.proofs.Comes.{Comes-same, Comes-on}
 use Rattle.river_order.proofs.Turns.{Stops-later}
-use Rattle.river_order.proofs.Passes.{past-refused, past-as, then-passes, passed-decides}
+use Rattle.river_order.proofs.Passes.{past-refused, then-passes, passed-decides}
 use Rattle.river_plan.specs.Forms.{PlanForm, table_names, labels}
 use Rattle.river_print.specs.Printed.{plan_text}
 use Rattle.brooklet_model.specs.Histories.{firings}
@@ -22,7 +22,7 @@ use Rattle.river_cli.specs.Layouts.{layout_of}
 use Rattle.river_cli.specs.Inputs.{of_inputs, all_items}
 use Rattle.plan_classes.specs.Lines.{classes_text}
 use Rattle.river_cli.specs.Points.{of_program, of_script, of_inputs_run, of_run, of_show, of_mean, of_command, ended, shown}
-use Rattle.river_cli.specs.Source.{Source, source_of, IsPlanOf, IsOf, IsKnown, IsCompiled, Gives, printed}
+use Rattle.river_cli.specs.Source.{Source, source_of, IsPlanOf, IsOf, IsCompiled, printed}
 use Rattle.river_cli.specs.Text.{large_program}
 use Rattle.river_cli.specs.declared.compile.Compiled.{Compiled}
 use Rattle.river_cli.specs.declared.content.Content.{Content}
@@ -157,11 +157,12 @@ never-usage point held rose (Err s) passed is =
 -- each command does what it names
 module _ (held : Option Held) (rose : Type 0) where
   -- what `run` gives is what its command asks for
-  pub run-answers : (lang : Lang) (file : List ℕ) (ins : List InWord) (script : Option (List ℕ)) (header counts : Bool) (result : Result (List ℕ) Stop)
-      → Passes (of_run lang file ins script header counts) held rose result → Passes (of_command (Run lang file ins script header counts)) held rose result
+  pub run-answers : (lang : Lang) (file : List ℕ) (ins : List InWord) (script : Option (List ℕ)) (workers cap : ℕ) (header counts : Bool)
+      → (result : Result (List ℕ) Stop) → Passes (of_run lang file ins script header counts) held rose result
+      → Passes (of_command (Run lang file ins script workers cap header counts)) held rose result
   unfolding of_command
-  run-answers lang file ins script header counts (Ok text) passed = passed
-  run-answers lang file ins script header counts (Err s) passed = passed
+  run-answers lang file ins script workers cap header counts (Ok text) passed = passed
+  run-answers lang file ins script workers cap header counts (Err s) passed = passed
 
   -- what `plan` gives is what its command asks for
   pub show-answers : (lang : Lang) (file : List ℕ) (script : Option (List ℕ)) (result : Result (List ℕ) Stop)

@@ -1,6 +1,6 @@
 -- Phrases that are read from left to right.
 use Rattle.std.proofs.Common.{◌≡◌, ℕ, zero, suc, ◌+◌, ◌<◌, Bool, true, false, List, [], ◌∷◌, ◌++◌, length, drop, refl, sym, ap, ◌∙◌, arith}
-use Rattle.std.specs.Prelude.{Option, Some, None, Err, IsErrOf, ◌==◌, ◌&&◌, if◌then◌else◌, map}
+use Rattle.std.specs.Prelude.{Option, Some, None, Err, IsErrOf, ◌==◌, if◌then◌else◌, map}
 use Rattle.std.proofs.lemmas.List.{append_assoc, append-nil}
 use Rattle.std.proofs.lemmas.Bool.Decides.{nat_tests}
 use Rattle.river_base.specs.Name.{name_eq}

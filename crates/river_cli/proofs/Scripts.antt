@@ -17,7 +17,7 @@ use Rattle.river_script.proofs.Steps.{script_means}
 use Rattle.river_cli.specs.Contents.{AreContents}
 use Rattle.river_cli.specs.Inputs.{all_items}
 use Rattle.river_cli.specs.Points.{of_script, with_plan}
-use Rattle.river_cli.specs.Source.{Source, IsPlanOf, IsProgramOf, IsOf}
+use Rattle.river_cli.specs.Source.{Source, IsProgramOf, IsOf}
 use Rattle.river_cli.specs.declared.compile.Program.{Program}
 use Rattle.river_cli.specs.declared.compile.Program.TheVariants as variant
 use Rattle.river_cli.specs.Text.{large_script}

@@ -2,8 +2,8 @@
 use Rattle.std.specs.Prelude.{ℕ, zero, suc, List, [], ◌∷◌, map, Bool, true, ◌&&◌, ◌==◌, Option, None, Some, codes, if◌then◌else◌}
 use Rattle.std.specs.Str.{bytes_eq}
 use Rattle.river_plan.specs.Names.{count}
-use Rattle.river_cli.specs.Commands.{with_header, with_counts, with_script, with_input}
-use Rattle.river_cli.specs.Words.{is_file, in_word_of}
+use Rattle.river_cli.specs.Commands.{with_header, with_counts, with_script, with_workers, with_cap, with_input}
+use Rattle.river_cli.specs.Words.{is_file, number_to, in_word_of}
 use Rattle.river_cli.specs.declared.command.Command.{Command}
 use Rattle.river_cli.specs.declared.command.InWord.{InWord}
 
@@ -24,6 +24,16 @@ script [] = None
 script ([] ∷ words) = None
 script ((c ∷ cs) ∷ words) = Some (record { takes = 1; once = codes "-r"; makes = with_script (c ∷ cs) })
 
+-- the number that the next word writes, from 1 to the greatest that may stand there
+abbrev pub number_ahead : ℕ → List (List ℕ) → Option ℕ
+number_ahead most [] = None
+number_ahead most (word ∷ words) = number_to most word
+
+-- an option with the number behind it
+abbrev pub numbered : List ℕ → (ℕ → Command → Option Command) → Option ℕ → Option Phrase
+numbered word makes None = None
+numbered word makes (Some n) = Some (record { takes = 1; once = word; makes = makes n })
+
 -- the file of an input
 abbrev pub input : Option InWord → Option Phrase
 input None = None
@@ -36,6 +46,8 @@ phrase_of (word ∷ behind) =
     if bytes_eq word (codes "-H") then option word with_header
     else if bytes_eq word (codes "-c") then option word with_counts
     else if bytes_eq word (codes "-r") then script behind
+    else if bytes_eq word (codes "-w") then numbered word with_workers (number_ahead 64 behind)
+    else if bytes_eq word (codes "-q") then numbered word with_cap (number_ahead 65536 behind)
     else if is_file word then input (in_word_of word)
     else None
 

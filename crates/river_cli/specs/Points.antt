@@ -7,6 +7,7 @@ use Rattle.river_plan.specs.Forms.{PlanForm}
 use Rattle.river_print.specs.Printed.{plan_text}
 use Rattle.river_cli.specs.Inputs.{of_inputs}
 use Rattle.river_cli.specs.Layouts.{layout_of}
+use Rattle.river_cli.specs.Load.{load_program, load_script, load_files}
 use Rattle.river_cli.specs.Sentences.{command_of}
 use Rattle.river_cli.specs.Source.{Source, source_of, printed}
 use Rattle.river_cli.specs.Text.{large_program, large_script, script_refused}
@@ -14,9 +15,10 @@ use Rattle.river_script.specs.Meaning.{rewritten}
 use Rattle.river_script.specs.Words.{script_words}
 use Rattle.river_script.specs.declared.fault.ScriptFault.{ScriptFault}
 use Rattle.river_cli.specs.declared.command.Command.{Command}
-use Rattle.river_cli.specs.declared.command.Command.TheVariants.{Run, Plan, Mean}
+use Rattle.river_cli.specs.declared.command.Command.TheVariants.{Run, Plan, Mean, Load}
 use Rattle.river_cli.specs.declared.command.InWord.{InWord}
 use Rattle.river_cli.specs.declared.command.Lang.{Lang}
+use Rattle.river_cli.specs.declared.command.Lang.TheVariants.{Sawzall}
 use Rattle.river_cli.specs.declared.command.Layout.{Layout}
 
 -- the program is fetched and compiled
@@ -54,11 +56,25 @@ of_show lang file script next = of_program lang file (λ source. of_script scrip
 unfoldable pub of_mean : Lang → List ℕ → List InWord → Bool → (List ℕ → Order) → Order
 of_mean lang file ins header next = of_program lang file (λ source. of_inputs_run ins (layout_of lang header) false source next)
 
--- the points of a command
+-- what is made of what was found; the first refusal stands
+abbrev pub then_made : {A B : Type 0} → Result A (List ℕ) → (A → Result B (List ℕ)) → Result B (List ℕ)
+then_made (Ok x) make = make x
+then_made (Err text) make = Err text
+
+-- the program of `load`, with the plan that its script makes
+unfoldable pub load_source : Result Source (List ℕ)
+load_source = then_made (source_of Sawzall load_program) (λ source. with_plan source (rewritten source.plan load_script))
+
+-- what this program means over the first n records
+unfoldable pub loaded : ℕ → Result (List ℕ) (List ℕ)
+loaded n = then_made load_source (λ source. then_made (load_files n source.inputs) (λ files. Ok (printed source false files)))
+
+-- the points of a command. How many workers run a plan, and how much its queues hold, is no part of what is printed
 unfoldable pub of_command : Command → (List ℕ → Order) → Order
-of_command (Run lang file ins script header counts) next = of_run lang file ins script header counts next
+of_command (Run lang file ins script workers cap header counts) next = of_run lang file ins script header counts next
 of_command (Plan lang file script) next = of_show lang file script next
 of_command (Mean lang file ins header) next = of_mean lang file ins header next
+of_command (Load number) next = past (loaded number) next
 
 -- at last the text is the output
 unfoldable pub ended : Command → Order

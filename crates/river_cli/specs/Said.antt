@@ -1,5 +1,5 @@
 -- One phrase more of the words behind a program's file.
-use Rattle.std.specs.Prelude.{ℕ, List, [], ◌∷◌, ◌++◌, ◌==◌, ◌&&◌, Bool, Option, None, Some, if◌then◌else◌}
+use Rattle.std.specs.Prelude.{ℕ, List, [], ◌∷◌, ◌++◌, ◌==◌, Bool, Option, None, Some, if◌then◌else◌}
 use Rattle.river_plan.specs.Names.{count}
 use Rattle.river_cli.specs.Phrases.{Phrase}
 use Rattle.river_cli.specs.declared.command.Command.{Command}

@@ -1,6 +1,9 @@
 -- What a word of the command line may be.
-use Rattle.std.specs.Prelude.{ℕ, List, [], ◌∷◌, ◌==◌, not, Bool, false, Option, None, Some, codes, if◌then◌else◌}
+use Rattle.std.specs.Prelude.{ℕ, List, [], ◌∷◌, length, ◌==◌, nat_lt, nat_le, ◌&&◌, not, Bool, false, Option, None, Some, codes, if◌then◌else◌}
+use Rattle.std.specs.List.{list_all}
 use Rattle.std.specs.Str.{bytes_eq}
+use Rattle.river_base.specs.Name.{is_digit}
+use Rattle.csv_streams.specs.Number.{value_after}
 use Rattle.river_cli.specs.declared.command.InWord.{InWord}
 use Rattle.river_cli.specs.declared.command.Lang.{Lang}
 use Rattle.river_cli.specs.declared.command.Lang.TheVariants.{River, Streamit, Sawzall, Cql}
@@ -18,6 +21,18 @@ lang_named word =
 abbrev pub is_file : List ℕ → Bool
 is_file [] = false
 is_file (c ∷ cs) = not (c == 45)
+
+-- a word that is a number: 1 to 9 decimal digits
+abbrev pub is_number : List ℕ → Bool
+is_number word = nat_lt 0 (length word) && (nat_le (length word) 9 && list_all is_digit word)
+
+-- a number from 1 to the greatest that may stand there
+abbrev pub within : ℕ → ℕ → Option ℕ
+within most n = if nat_lt 0 n && nat_le n most then Some n else None
+
+-- the number that a word writes, if it is one from 1 to the greatest that may stand there
+abbrev pub number_to : ℕ → List ℕ → Option ℕ
+number_to most word = if is_number word then within most (value_after 0 word) else None
 
 -- the part of a word before its first `=`
 abbrev pub name_part : List ℕ → List ℕ

@@ -1,7 +1,7 @@
 // What the words of the command line ask for.
 ghost use Rattle.std.specs.Prelude.{◌≡◌, IfOk};
 ghost use Rattle.river_cli.specs.Layouts.{takes_more};
-ghost use Rattle.river_cli.specs.Commands.{MayMake, with_header, with_counts, with_script, with_input};
+ghost use Rattle.river_cli.specs.Commands.{MayMake, with_header, with_counts, with_script, with_workers, with_cap, with_input};
 
 use river_base::{Listed, NoMemory, Text};
 
@@ -64,6 +64,10 @@ pub enum Command {
         ins: InWords,
         /// `-r SCRIPT`: the plan is rewritten by the script of this file.
         script: Option<Text>,
+        /// `-w N`: how many workers run the plan.
+        workers: u32,
+        /// `-q N`: how many items a queue between two operators holds at most.
+        cap: u32,
         /// `-H`: each input begins with a header.
         header: bool,
         /// `-c`: the firings of each operator are printed too.
@@ -89,6 +93,11 @@ pub enum Command {
         /// `-H`: each input begins with a header.
         header: bool,
     },
+    /// `load`: a program of its own is run over so many records that are made, and its tables are printed.
+    Load {
+        /// How many records.
+        number: u32,
+    },
 }
 
 impl Command {
@@ -105,7 +114,7 @@ impl Command {
                 *header = true;
                 true
             }
-            Command::Plan { .. } => false,
+            Command::Plan { .. } | Command::Load { .. } => false,
         }
     }
 
@@ -118,7 +127,7 @@ impl Command {
                 *counts = true;
                 true
             }
-            Command::Mean { .. } | Command::Plan { .. } => false,
+            Command::Mean { .. } | Command::Plan { .. } | Command::Load { .. } => false,
         }
     }
 
@@ -135,7 +144,33 @@ impl Command {
                 *script = Some(name);
                 true
             }
-            Command::Mean { .. } => false,
+            Command::Mean { .. } | Command::Load { .. } => false,
+        }
+    }
+
+    /// Notes how many workers run the plan, if the command is a run.
+    pub(crate) fn set_workers(&mut self, number: u32) -> bool
+        ensures { MayMake result (with_workers number self.old) self.new }
+    {
+        match self {
+            Command::Run { workers, .. } => {
+                *workers = number;
+                true
+            }
+            Command::Mean { .. } | Command::Plan { .. } | Command::Load { .. } => false,
+        }
+    }
+
+    /// Notes how many items a queue between two operators holds at most, if the command is a run.
+    pub(crate) fn set_cap(&mut self, number: u32) -> bool
+        ensures { MayMake result (with_cap number self.old) self.new }
+    {
+        match self {
+            Command::Run { cap, .. } => {
+                *cap = number;
+                true
+            }
+            Command::Mean { .. } | Command::Plan { .. } | Command::Load { .. } => false,
         }
     }
 
@@ -152,7 +187,7 @@ impl Command {
                 ins.push(input)?;
                 Ok(true)
             }
-            Command::Plan { .. } => Ok(false),
+            Command::Plan { .. } | Command::Load { .. } => Ok(false),
         }
     }
 }

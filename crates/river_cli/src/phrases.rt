@@ -1,11 +1,12 @@
 // What stands behind a program's file: options and words NAME=FILE, in any order.
-ghost use Rattle.std.specs.Prelude.{◌≡◌, ◌≤◌, ◌+◌, [], ◌∷◌, length, take, drop, Bool, Some, None, IfOk, OnOk, IsErrOf};
+ghost use Rattle.std.specs.Prelude.{◌≡◌, ◌≤◌, ◌<◌, ◌+◌, ◌-◌, ◌^◌, [], ◌∷◌, length, take, drop, Bool, Some, None, IfOk, OnOk, IsErrOf, IsSome};
 ghost use Rattle.river_cli.specs.Words.{name_part, rest_part, in_word_of};
-ghost use Rattle.river_cli.specs.Commands.{with_header, with_counts};
-ghost use Rattle.river_cli.specs.Phrases.{phrase_of, phrases, with_phrases, option, input as input_phrase, script as script_phrase};
+ghost use Rattle.river_cli.specs.Commands.{with_header, with_counts, with_workers, with_cap};
+ghost use Rattle.river_cli.specs.Phrases.{phrase_of, phrases, with_phrases, option, number_ahead, numbered, input as input_phrase, script as script_phrase};
 ghost use Rattle.river_cli.specs.Said.{said_fitting, with_phrase};
 
 use crate::command::{Command, InWord, WordFault};
+use crate::number::read_number;
 use crate::word_set::WordSet;
 use crate::words::is_file;
 use river_base::{NoMemory, Text};
@@ -53,6 +54,14 @@ const COUNTS: &[u8] = b"-c";
 
 const SCRIPT: &[u8] = b"-r";
 
+const WORKERS: &[u8] = b"-w";
+
+const CAP: &[u8] = b"-q";
+
+const MOST_WORKERS: u32 = 64;
+
+const MOST_CAP: u32 = 65_536;
+
 // The phrase that the words begin with; answers how many words it takes behind its first.
 fn read_phrase(
     alloc: Global,
@@ -60,6 +69,7 @@ fn read_phrase(
     command: &mut Command,
     said: &mut WordSet,
 ) -> Result<usize, WordFault>
+    ensures few { IfOk result (λ takes. takes ≤ 1) }
     ensures within { IfOk result (λ takes. takes + 1 ≤ length words.now) }
     ensures ok { IfOk result (λ takes. with_phrase (phrase_of words.now) said.old command.old ≡ Some (record { takes = takes; said = said.new; command = command.new })) }
     ensures usage { IsErrOf result WordFault.Usage → with_phrase (phrase_of words.now) said.old command.old ≡ None }
@@ -76,6 +86,12 @@ fn read_phrase(
         Ok(0)
     } else if word == SCRIPT {
         add_script(alloc, behind, command, said)?;
+        Ok(1)
+    } else if word == WORKERS {
+        add_workers(alloc, word, behind, command, said)?;
+        Ok(1)
+    } else if word == CAP {
+        add_cap(alloc, word, behind, command, said)?;
         Ok(1)
     } else if is_file(word) {
         add_input(alloc, word, command, said)?;
@@ -135,6 +151,58 @@ fn add_script(
     }
     let fits = command.set_script(Text::from_slice(alloc, file.as_slice())?);
     once(alloc, SCRIPT, fits, said)
+}
+
+// How many workers run the plan, which the next word says.
+#[tactic(auto, using(crate::proofs::ReadOn::noted, crate::proofs::ReadOn::not_noted))]
+fn add_workers(
+    alloc: Global,
+    word: &[u8],
+    behind: &[Text],
+    command: &mut Command,
+    said: &mut WordSet,
+) -> Result<(), WordFault>
+    ensures within { OnOk result (1 ≤ length behind.now) }
+    ensures ok { OnOk result (with_phrase (numbered word.now with_workers (number_ahead 64 behind.now)) said.old command.old ≡ Some (record { takes = 1; said = said.new; command = command.new })) }
+    ensures usage { IsErrOf result WordFault.Usage → with_phrase (numbered word.now with_workers (number_ahead 64 behind.now)) said.old command.old ≡ None }
+{
+    let Some(number) = number_ahead(behind, MOST_WORKERS) else {
+        return Err(WordFault::Usage);
+    };
+    let fits = command.set_workers(number);
+    once(alloc, word, fits, said)
+}
+
+// How many items a queue between two operators holds at most, which the next word says.
+#[tactic(auto, using(crate::proofs::ReadOn::noted, crate::proofs::ReadOn::not_noted))]
+fn add_cap(
+    alloc: Global,
+    word: &[u8],
+    behind: &[Text],
+    command: &mut Command,
+    said: &mut WordSet,
+) -> Result<(), WordFault>
+    ensures within { OnOk result (1 ≤ length behind.now) }
+    ensures ok { OnOk result (with_phrase (numbered word.now with_cap (number_ahead 65536 behind.now)) said.old command.old ≡ Some (record { takes = 1; said = said.new; command = command.new })) }
+    ensures usage { IsErrOf result WordFault.Usage → with_phrase (numbered word.now with_cap (number_ahead 65536 behind.now)) said.old command.old ≡ None }
+{
+    let Some(number) = number_ahead(behind, MOST_CAP) else {
+        return Err(WordFault::Usage);
+    };
+    let fits = command.set_cap(number);
+    once(alloc, word, fits, said)
+}
+
+// The number that the next word writes, if it is from 1 to `most`.
+fn number_ahead(words: &[Text], most: u32) -> Option<u32>
+    requires { most < 2 ^ 32 - 1 }
+    ensures within { IsSome result → 1 ≤ length words.now }
+    ensures number { result ≡ number_ahead most words.now }
+{
+    match words {
+        [word, ..] => read_number(word.as_slice(), most),
+        [] => None,
+    }
 }
 
 // The file of an input.

@@ -1,22 +1,21 @@
 // The road from the words to the text that is written: each function is a point, or hands on to those of the next.
-ghost use Rattle.std.specs.Prelude.{◌≡◌, ◌≤◌, false, length, Some, IfOk, IsErrOf};
+ghost use Rattle.std.specs.Prelude.{◌≡◌, ◌≤◌, false, Some, IfOk, IsErrOf};
 ghost use Rattle.river_outside.specs.Causes.{Rose};
 ghost use Rattle.river_order.specs.Decides.{Decides};
-ghost use Rattle.river_order.specs.Passes.{Passes, PassesAs, AnswersAs};
+ghost use Rattle.river_order.specs.Passes.{Passes, PassesAs};
 ghost use Rattle.river_plan.specs.Valid.{IsPlan};
-ghost use Rattle.river_cli.specs.Points.{points_of, of_command, of_run, of_show, of_mean, of_program, of_script, with_plan, of_inputs_run, shown as shown_text};
-ghost use Rattle.river_script.specs.Meaning.{rewritten as rewritten_plan};
-ghost use Rattle.river_script.specs.Words.{script_words};
+ghost use Rattle.river_cli.specs.Points.{points_of, of_command, of_run, of_show, of_mean, of_program, of_script, of_inputs_run, shown as shown_text};
 ghost use Rattle.river_cli.specs.Layouts.{layout_of};
-ghost use Rattle.river_cli.specs.Text.{script_refused as script_text};
 ghost use Rattle.river_cli.specs.Source.{Source, IsPlanOf, IsOf, IsKnown, IsCompiled, printed};
 ghost use Rattle.river_cli.specs.declared.compile.Program.{Program};
 
 use crate::command::{Command, InWords, Lang, Layout, WordFault};
 use crate::compile::{Compiled, Program, compile};
 use crate::gather::gather;
+use crate::load::load;
 use crate::mean::mean_text;
 use crate::output::output;
+use crate::script::applied;
 use crate::text;
 use crate::words::read_words;
 use plan_classes::print_classes;
@@ -25,7 +24,6 @@ use river_order::{Stop, fetch_turn};
 use river_outside::Shelf;
 use river_plan::Plan;
 use river_print::print_river;
-use river_script::{ScriptFault, apply_script};
 use std::alloc::Global;
 
 const MOST_PROGRAM: u64 = 1_048_576;
@@ -58,6 +56,7 @@ fn answered<S: Shelf>(alloc: Global, command: &Command, shelf: &mut S) -> Result
             script,
             header,
             counts,
+            ..
         } => run(alloc, *lang, file, ins, script, *header, *counts, shelf),
         Command::Plan { lang, file, script } => show(alloc, *lang, file, script, shelf),
         Command::Mean {
@@ -66,6 +65,7 @@ fn answered<S: Shelf>(alloc: Global, command: &Command, shelf: &mut S) -> Result
             ins,
             header,
         } => mean(alloc, *lang, file, ins, *header, shelf),
+        Command::Load { number } => load(alloc, *number),
     }
 }
 
@@ -180,29 +180,6 @@ fn rewritten<S: Shelf>(alloc: Global, file: &[u8], plan: &Plan, shelf: &mut S) -
 {
     let text = fetch_turn(alloc, shelf, file, MOST_SCRIPT, text::LARGE_SCRIPT)?;
     applied(alloc, plan, &text)
-}
-
-// The script is applied.
-fn applied(alloc: Global, plan: &Plan, text: &Bytes) -> Result<Plan, Stop>
-    requires { length text.now ≤ 65536 }
-    ensures { (program : Program) (source : Source) → IsOf program source plan.now
-        → AnswersAs (IsOf program) (with_plan source (rewritten_plan source.plan text.now)) result }
-{
-    // The lists of a plan are valid, which the law of scripts asks for.
-    let _lists = plan.raw();
-    match apply_script(alloc, plan, text) {
-        Ok(made) => Ok(made),
-        Err(ScriptFault::NoMemory) => Err(Stop::NoMemory),
-        Err(fault) => Err(Stop::Refused(script_refused(alloc, fault)?)),
-    }
-}
-
-fn script_refused(alloc: Global, fault: ScriptFault) -> Result<Bytes, NoMemory>
-    ensures { IfOk result (λ text. text ≡ script_text (script_words fault)) }
-{
-    let mut words = Bytes::new(alloc);
-    fault.put(alloc, &mut words)?;
-    text::script(alloc, words.as_slice())
 }
 
 // The text of a plan, and its lock classes.

@@ -1,20 +1,25 @@
 // The words of the command line.
 ghost use Rattle.std.specs.Prelude.{◌≡◌, Some, None, IfOk, IsErrOf};
 ghost use Rattle.river_cli.specs.Words.{lang_named, is_file};
-ghost use Rattle.river_cli.specs.Sentences.{plain, with_words, asked, command_of};
+ghost use Rattle.river_cli.specs.Sentences.{plain, with_words, asked, asked_load, command_of};
 
 use crate::command::{Command, InWords, Lang, WordFault};
+use crate::number::read_number;
 use crate::phrases::read_phrases;
 use river_base::{NoMemory, Text};
 use std::alloc::Global;
 
-/// The command that the words ask for. A sentence is `run LANG FILE`, `mean LANG FILE` or `plan LANG FILE`, and behind it, in
-/// any order, what the command takes: `run` and `mean` take words NAME=FILE and `-H`, `run` also `-c`, and `run` and `plan` take
-/// `-r SCRIPT`. FILE behind the language is not empty and does not begin with `-`; no option and no NAME stands twice.
+/// The command that the words ask for. A sentence is `load N`, with N from 1 to 100,000; or `run LANG FILE`, `mean LANG FILE` or
+/// `plan LANG FILE`, and behind it, in any order, what the command takes: `run` and `mean` take words NAME=FILE and `-H`, `run`
+/// also `-c`, `-w N` with N from 1 to 64 and `-q N` with N from 1 to 65,536, and `run` and `plan` take `-r SCRIPT`. FILE behind the
+/// language is not empty and does not begin with `-`; no option and no NAME stands twice. A number has 1 to 9 decimal digits.
 pub fn read_words(alloc: Global, words: &[Text]) -> Result<Command, WordFault>
     ensures ok { IfOk result (λ command. command_of words.now ≡ Some command) }
     ensures usage { IsErrOf result WordFault.Usage → command_of words.now ≡ None }
 {
+    if let [word, number] = words {
+        return read_load(word.as_slice(), number.as_slice());
+    }
     let [word, lang, file, behind @ ..] = words else {
         return Err(WordFault::Usage);
     };
@@ -25,6 +30,20 @@ pub fn read_words(alloc: Global, words: &[Text]) -> Result<Command, WordFault>
         return Err(WordFault::Usage);
     }
     read_command(alloc, word.as_slice(), lang, file.as_slice(), behind)
+}
+
+// `load N`.
+fn read_load(word: &[u8], number: &[u8]) -> Result<Command, WordFault>
+    ensures ok { IfOk result (λ command. asked_load word.now number.now ≡ Some command) }
+    ensures usage { IsErrOf result WordFault.Usage → asked_load word.now number.now ≡ None }
+{
+    if word != LOAD {
+        return Err(WordFault::Usage);
+    }
+    match read_number(number, MOST_RECORDS) {
+        Some(number) => Ok(Command::Load { number }),
+        None => Err(WordFault::Usage),
+    }
 }
 
 // The command that a word names, with this program and what the words behind it say.
@@ -51,6 +70,10 @@ const MEAN: &[u8] = b"mean";
 
 const PLAN: &[u8] = b"plan";
 
+const LOAD: &[u8] = b"load";
+
+const MOST_RECORDS: u32 = 100_000;
+
 const RIVER: &[u8] = b"river";
 
 const STREAMIT: &[u8] = b"streamit";
@@ -70,6 +93,8 @@ fn plain(alloc: Global, word: &[u8], lang: Lang, file: &[u8]) -> Result<Option<C
             file,
             ins: InWords::new(alloc),
             script: None,
+            workers: 1,
+            cap: 64,
             header: false,
             counts: false,
         }))

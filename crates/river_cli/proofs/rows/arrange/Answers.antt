@@ -1,4 +1,4 @@
-use Rattle.std.proofs.Common.{◌≡◌, ◌++◌, [], List, sym, ap, ◌∙◌, arith}
+use Rattle.std.proofs.Common.{◌≡◌, ◌++◌, List, sym, ap, ◌∙◌, arith}
 use Rattle.river_plan.specs.declared.plan.Decl.{Decl}
 use Rattle.river_cli.specs.Inputs.{in_order}
 use Rattle.river_cli.specs.declared.content.Content.{Content}

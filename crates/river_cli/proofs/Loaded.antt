@@ -1,0 +1,131 @@
+-- The records of `load`, and what its program prints for them.
+use Rattle.std.proofs.Common.{◌≡◌, ℕ, zero, suc, ◌+◌, ◌/◌, ◌%◌, ℤ, List, [], ◌∷◌, ◌++◌, true, false, length, refl, sym, ap, ◌∙◌, subst, arith, add-one}
+use Rattle.std.specs.Prelude.{Option, Result, Ok, Err, pos}
+use Rattle.std.proofs.lemmas.Bool.Decides.{nat_tests}
+use Rattle.std.proofs.lemmas.List.Elements.{All-nil, All-push}
+use Rattle.river_base.specs.Held.{HaveWidth}
+use Rattle.river_base.specs.declared.kind.FlatType.TheVariants.{Rows, Stream, Relation}
+use Rattle.river_base.specs.declared.kind.QueueType.{QueueType}
+use Rattle.river_base.specs.declared.kind.QueueType.TheVariants.{Flat as FlatOf, Pack as PackOf}
+use Rattle.river_outside.specs.Held.{Held}
+use Rattle.river_order.specs.Passes.{Refuses, Answers, StandsFor, AnswersAs, Passes}
+use Rattle.river_order.specs.declared.stop.Stop.{Stop}
+use Rattle.river_order.specs.declared.stop.Stop.TheVariants as stop
+use Rattle.river_order.proofs.Passes.{past-passes}
+use Rattle.river_plan.specs.declared.plan.Decl.{Decl}
+use Rattle.river_plan.specs.Forms.{PlanForm}
+use Rattle.river_script.specs.Meaning.{rewritten}
+use Rattle.river_cli.specs.Contents.{IsContent, AreContents}
+use Rattle.river_cli.specs.Load.{load_program, load_script, load_record, load_records, load_files, is_of_pairs, takes_pairs}
+use Rattle.river_cli.specs.Points.{with_plan, then_made, load_source, loaded, of_command}
+use Rattle.river_cli.specs.Source.{Source, source_of, IsPlanOf, IsOf, IsCompiled, printed}
+use Rattle.river_cli.specs.declared.compile.Compiled.{Compiled}
+use Rattle.river_cli.specs.declared.command.Command.TheVariants.{Load}
+use Rattle.river_cli.specs.declared.command.Lang.TheVariants.{Sawzall}
+use Rattle.river_cli.specs.declared.content.Content.{Content}
+use Rattle.river_cli.specs.declared.content.Content.TheVariants.{Rows as Plain}
+
+-- ---- THE RECORDS
+
+-- no record
+pub load_records-none : load_records 0 ≡ []
+unfolding load_records
+load_records-none = refl
+
+-- one record more
+pub load_records-more : (k : ℕ) → load_records (k + 1) ≡ load_records k ++ (pos ((k + 1) % 10) ∷ pos ((k + 1) / 10) ∷ []) ∷ []
+unfolding load_records
+load_records-more k = rw (add-one k) refl
+
+-- each has two values
+pub load_records-wide : (n : ℕ) → HaveWidth 2 (load_records n)
+unfolding load_records
+load_records-wide zero = All-nil (λ row. length row ≡ 2)
+load_records-wide (suc n) = All-push (λ row. length row ≡ 2) (load_records n) (load_record (suc n)) (load_records-wide n) refl
+
+-- so they are what an input of rows of two values has
+pub pairs-fit : (decls : List Decl) (rows : List (List ℤ)) → takes_pairs decls ≡ true → HaveWidth 2 rows → AreContents decls (Plain rows ∷ [])
+pairs-fit [] rows is wide = cc is
+pairs-fit (d ∷ e ∷ more) rows is wide = cc is
+pairs-fit (d ∷ []) rows is wide = (fits d.kind is, tt)
+  where
+    fits : (kind : QueueType) → is_of_pairs kind ≡ true → IsContent kind (Plain rows)
+    fits (FlatOf (Rows w)) two = let same : w ≡ 2 = grind (arith, nat_tests, two) in subst (λ n. HaveWidth n rows) (sym same) wide
+    fits (FlatOf (Stream w)) two = cc two
+    fits (FlatOf (Relation w)) two = cc two
+    fits (PackOf t) two = cc two
+
+-- ---- THE PROGRAM
+
+-- what refuses the first refuses the whole
+refused_first : {A B : Type 0} (found : Result A (List ℕ)) (make : A → Result B (List ℕ)) (s : Stop) → Refuses found s → Refuses (then_made found make) s
+refused_first found make stop.Usage told = absurd told
+refused_first found make (stop.Refused text) told = rw told refl
+refused_first found make (stop.Failed text) told = absurd told
+refused_first found make (stop.Absent text) told = absurd told
+refused_first found make stop.NoMemory told = tt
+
+-- the program is refused
+pub program-refused : (s : Stop) → Refuses (source_of Sawzall load_program) s → Refuses load_source s
+unfolding load_source
+program-refused s told = refused_first (source_of Sawzall load_program) (λ source. with_plan source (rewritten source.plan load_script)) s told
+
+-- its script was applied, or refused
+pub script-answers : (c : Compiled) (result : Result PlanForm Stop) → StandsFor IsCompiled (source_of Sawzall load_program) c
+    → ((source : Source) → IsOf c.program source c.plan → AnswersAs (IsOf c.program) (with_plan source (rewritten source.plan load_script)) result)
+    → AnswersAs IsPlanOf load_source result
+unfolding load_source
+script-answers c result told later = by (source_of Sawzall load_program) result told later
+  where
+    plan_of : (found : Result Source (List ℕ)) (plan : PlanForm) → StandsFor (IsOf c.program) found plan → StandsFor IsPlanOf found plan
+    plan_of (Ok later) plan is = is.plan
+    plan_of (Err text) plan is = is
+
+    by : (found : Result Source (List ℕ)) (result : Result PlanForm Stop) → StandsFor IsCompiled found c
+        → ((source : Source) → IsOf c.program source c.plan → AnswersAs (IsOf c.program) (with_plan source (rewritten source.plan load_script)) result)
+        → AnswersAs IsPlanOf (then_made found (λ source. with_plan source (rewritten source.plan load_script))) result
+    by (Ok source) (Ok plan) told later = plan_of (with_plan source (rewritten source.plan load_script)) plan (later source told)
+    by (Ok source) (Err s) told later = later source told
+    by (Err text) result told later = absurd told
+
+-- ---- WHAT IS PRINTED
+
+abbrev printed_of : ℕ → Source → Result (List ℕ) (List ℕ)
+printed_of n source = then_made (load_files n source.inputs) (λ files. Ok (printed source false files))
+
+-- there is no plan
+pub load-refused : (n : ℕ) (s : Stop) → Refuses load_source s → Refuses (loaded n) s
+unfolding loaded
+load-refused n s told = refused_first load_source (printed_of n) s told
+
+module _ (n : ℕ) (plan : PlanForm) (is : StandsFor IsPlanOf load_source plan) where
+  -- the records are not those of its inputs
+  pub files-refused : (s : Stop) → Refuses (load_files n plan.inputs) s → Refuses (loaded n) s
+  unfolding loaded
+  files-refused s told = by load_source is
+    where
+      by : (found : Result Source (List ℕ)) → StandsFor IsPlanOf found plan → Refuses (then_made found (printed_of n)) s
+      by (Ok source) of =
+          refused_first (load_files n source.inputs) (λ files. Ok (printed source false files)) s
+          (subst (λ (ds : List Decl). Refuses (load_files n ds) s) of.inputs told)
+      by (Err text) of = absurd of
+
+  -- they are, and the program's meaning is printed
+  pub files-printed : (files : List Content) (text : List ℕ) → load_files n plan.inputs ≡ Ok files
+      → ((source : Source) → IsPlanOf source plan → text ≡ printed source false files) → loaded n ≡ Ok text
+  unfolding loaded
+  files-printed files text told says = by load_source is
+    where
+      by : (found : Result Source (List ℕ)) → StandsFor IsPlanOf found plan → then_made found (printed_of n) ≡ Ok text
+      by (Ok source) of =
+          let same : load_files n source.inputs ≡ Ok files = subst (λ (ds : List Decl). load_files n ds ≡ Ok files) of.inputs told in
+          ap (λ (r : Result (List Content) (List ℕ)). then_made r (λ files. Ok (printed source false files))) same
+          ∙ ap (λ (t : List ℕ). Ok t) (sym (says source of))
+      by (Err text) of = absurd of
+
+-- what is loaded is what the command asks for
+pub load-answers : (held : Option Held) (rose : Type 0) (n : ℕ) (result : Result (List ℕ) Stop) → Answers (loaded n) result
+    → Passes (of_command (Load n)) held rose result
+unfolding of_command
+load-answers held rose n (Ok text) told = past-passes (loaded n) (Ok text) held rose told
+load-answers held rose n (Err s) told = past-passes (loaded n) (Err s) held rose told
