@@ -10,7 +10,7 @@ use Rattle.text_forms.proofs.Exact.{Exact, Any, exact-less, exact-name, exact-nu
 use Rattle.text_forms.proofs.Exact.{exact-maybe, exact-seen, exact-merged}
 use Rattle.text_forms.proofs.Many.{exact-commas}
 use Rattle.cql_text.specs.Tree.{Name, Scalar, Window, Now, Unbounded, Latest, Column, Columns, Star, Chosen, Part}
-use Rattle.text_forms.specs.Lines as lines
+use Rattle.text_forms.specs.Levels as levels
 use Rattle.cql_text.specs.Grammar.{kind_named, IsKind, time_named, made_span, IsSpan, IsRange, IsRows, IsWindow, IsAlias, InBrackets, made_source, IsSource}
 use Rattle.cql_text.specs.Grammar.{made_column, IsColumn, IsColumns, InRound, IsWhere, IsBehind, IsSelected, made_query, IsQueryUnit, Fields, made_stream, IsStreamUnit}
 use Rattle.cql_text.specs.Grammar.{IsPart, IsPartAt}
@@ -168,15 +168,15 @@ leaf-no_star n t ts (rule.field p f h) rest = refl
 leaf-no_star n t ts (rule.of_item p a f g h) rest = refl
 
 no_star : (n k : ℕ) (t : Scalar) (ts : List Tok) → Spells n k t ts → (rest : List Tok) → parse.begins_with s.Star (ts ++ rest) ≡ false
-no_star n k t ts (lines.leaf p u us h) rest = leaf-no_star p u us h rest
-no_star n k t ts (lines.bracket p u us g) rest = refl
-no_star n k t ts (lines.call p y q u us c g) rest = absurd (cc c)
-no_star n k t ts (lines.tighter p j u us g) rest = no_star p j u us g rest
-no_star n k t ts (lines.chain p j y o a b us vs f c g h) rest =
+no_star n k t ts (levels.leaf p u us h) rest = leaf-no_star p u us h rest
+no_star n k t ts (levels.bracket p u us g) rest = refl
+no_star n k t ts (levels.call p y q u us c g) rest = absurd (cc c)
+no_star n k t ts (levels.tighter p j u us g) rest = no_star p j u us g rest
+no_star n k t ts (levels.chain p j y o a b us vs f c g h) rest =
     ap (parse.begins_with s.Star) (append_assoc us (y ∷ vs) rest) ∙ no_star p (suc j) a us g (y ∷ (vs ++ rest))
-no_star n k t ts (lines.once p j y o a b us vs f c g h) rest =
+no_star n k t ts (levels.once p j y o a b us vs f c g h) rest =
     ap (parse.begins_with s.Star) (append_assoc us (y ∷ vs) rest) ∙ no_star p j a us g (y ∷ (vs ++ rest))
-no_star n k t ts (lines.prefix p j y q u us c h) rest = sign-no_star j y q (us ++ rest) c
+no_star n k t ts (levels.prefix p j y q u us c h) rest = sign-no_star j y q (us ++ rest) c
 
 column-star : (v : Column) (us rest : List Tok) → IsColumn v us → parse.begins_with s.Star (us ++ rest) ≡ false
 column-star v us rest h =

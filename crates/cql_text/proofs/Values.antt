@@ -1,16 +1,16 @@
 -- The reading of values is exact.
-use Rattle.std.proofs.Common.{◌≡◌, ℕ, ◌<◌, ◌≤◌, List, [], ◌∷◌, ◌++◌, Bool, true, false, cond, Option, Some, None, refl, sym, ap, ◌∙◌, subst, arith}
+use Rattle.std.proofs.Common.{◌≡◌, ℕ, ◌<◌, ◌≤◌, List, [], ◌∷◌, ◌++◌, true, false, Option, Some, None, refl, sym, ap, ◌∙◌, subst, arith}
 use Rattle.work_code.specs.Tok.{Tok, name, var, number, symbol}
 use Rattle.work_code.specs.declared.sign.Symbol.{Symbol}
 use Rattle.work_code.specs.declared.sign.Symbol.TheVariants as s
 use Rattle.text_forms.specs.Forms as form
-use Rattle.text_forms.specs.Lines.{line_of, operator}
+use Rattle.text_forms.specs.Levels.{level_of, operator}
 use Rattle.text_forms.specs.Parse as parse
-use Rattle.text_forms.specs.ReadLines as lines
+use Rattle.text_forms.specs.ReadLevels as levels
 use Rattle.text_forms.specs.Tail.{tail}
 use Rattle.text_forms.proofs.Exact.{Exact, Front, Any, exact-as, exact-less, exact-tested, exact-seen, exact-number}
-use Rattle.text_forms.proofs.ExactLines.{IsClear, exact-whole}
-use Rattle.text_forms.proofs.Pairs.{pair_inj}
+use Rattle.text_forms.proofs.ExactLevels.{IsClear, exact-whole}
+use Rattle.text_forms.proofs.Pairs.{pair_inj, choose}
 use Rattle.text_forms.proofs.Symbols.{begins_with-is}
 use Rattle.cql_text.specs.Deepest.{deepest}
 use Rattle.cql_text.specs.Tree.{Scalar, Number, Field, ItemField, scalar_depth}
@@ -26,13 +26,9 @@ use Rattle.cql_text.proofs.Words.{exact-plain, plain-not}
 abbrev pub NoDot : List Tok → Type 0
 NoDot rest = parse.begins_with s.Dot rest ≡ false
 
--- no operator of the lines up to k comes, and no dot
+-- no operator of the levels up to k comes, and no dot
 abbrev pub Ends : ℕ → List Tok → Type 0
 Ends k rest = ((j : ℕ) → j ≤ k → operator_at j rest ≡ None) × NoDot rest
-
-choose : {X P : Type 0} (b : Bool) (x y : Option X) (v : X) → cond b x y ≡ Some v → (b ≡ true → x ≡ Some v → P) → (b ≡ false → y ≡ Some v → P) → P
-choose true x y v e f g = f refl e
-choose false x y v e f g = g refl e
 
 -- numbers of at most 63 bits are read exactly
 pub exact-numeral : Exact (form.Tested parse.is_value form.Number) numeral_at Any
@@ -112,12 +108,12 @@ no_open n t ts rest (rule.number m v q) = refl
 no_open n t ts rest (rule.field m f h) = refl
 no_open n t ts rest (rule.of_item m a f g h) = refl
 
-no_word : (n : ℕ) (t : Scalar) (ts rest : List Tok) → IsLeaf n t ts → lines.first syntax.call (ts ++ rest) ≡ None
+no_word : (n : ℕ) (t : Scalar) (ts rest : List Tok) → IsLeaf n t ts → levels.first syntax.call (ts ++ rest) ≡ None
 no_word n t ts rest (rule.number m v q) = refl
 no_word n t ts rest (rule.field m f h) = refl
 no_word n t ts rest (rule.of_item m a f g h) = refl
 
-no_sign : (n k : ℕ) (t : Scalar) (ts rest : List Tok) → IsLeaf n t ts → lines.sign_at syntax k (ts ++ rest) ≡ None
+no_sign : (n k : ℕ) (t : Scalar) (ts rest : List Tok) → IsLeaf n t ts → levels.sign_at syntax k (ts ++ rest) ≡ None
 no_sign n k t ts rest (rule.number m v q) = sign-none k (number v) refl refl
 no_sign n k t ts rest (rule.field m f h) = sign-none k (name f) refl (rw (plain-not f h) refl)
 no_sign n k t ts rest (rule.of_item m a f g h) = sign-none k (name a) refl (rw (plain-not a g) refl)
@@ -143,16 +139,16 @@ no_dot o (symbol z) ts e = other z e where
   other s.GreaterEqual f = refl
   other z f = absurd (cc f)
 
--- one operator is of one line
-operators_apart : (j k : ℕ) (x : Tok) (o : Operator) → j < k → operator (line_of seven k) x ≡ Some o → operator (line_of seven j) x ≡ None
-operators_apart j k x o less is = by (operator (line_of seven j) x) refl where
+-- one operator is of one level
+operators_apart : (j k : ℕ) (x : Tok) (o : Operator) → j < k → operator (level_of seven k) x ≡ Some o → operator (level_of seven j) x ≡ None
+operators_apart j k x o less is = by (operator (level_of seven j) x) refl where
   here : (op_at x ≡ Some o) × (rank_of o ≡ k)
   here = of_rank-is k (op_at x) o (sym (operator-is k x) ∙ is)
 
   same_op : (p : Operator) → op_at x ≡ Some p → p ≡ o
   same_op p e = let f = here.0 in cc (e, f)
 
-  by : (r : Option Operator) → operator (line_of seven j) x ≡ r → r ≡ None
+  by : (r : Option Operator) → operator (level_of seven j) x ≡ r → r ≡ None
   by None e = refl
   by (Some p) e =
       let there = of_rank-is j (op_at x) p (sym (operator-is j x) ∙ e) in

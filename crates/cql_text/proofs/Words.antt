@@ -7,7 +7,7 @@ use Rattle.std.specs.Str.{str_to_ascii_lowercase as lower}
 use Rattle.std.proofs.lemmas.Slice.Eq.{bytes_eq-Decides}
 use Rattle.river_base.specs.Name.{is_name}
 use Rattle.work_code.specs.Tok.{Tok, name, var, number, symbol}
-use Rattle.text_forms.specs.Language.{is_free}
+use Rattle.text_forms.specs.Names.{is_free}
 use Rattle.text_forms.specs.Parse as parse
 use Rattle.text_forms.specs.Tail.{tail}
 use Rattle.text_forms.proofs.Exact.{Exact, Front, Any, exact-tested, exact-name}

@@ -3,14 +3,14 @@ use Rattle.std.specs.Prelude.{ℕ, if◌then◌else◌, List, [], ◌∷◌, Opt
 use Rattle.work_code.specs.Tok.{Tok, name, var, number, symbol}
 use Rattle.work_code.specs.declared.sign.Symbol.TheVariants as s
 use Rattle.text_forms.specs.Parse.{Parse, seen, tested, begins_with, is_value, number_at}
-use Rattle.text_forms.specs.ReadLines.{first, whole_at}
+use Rattle.text_forms.specs.ReadLevels.{first, whole_at}
 use Rattle.text_forms.specs.Tail.{tail}
 use Rattle.cql_text.specs.Tree.{Scalar, Number, Field, ItemField}
 use Rattle.cql_text.specs.Values.{ranked, syntax}
 use Rattle.cql_text.specs.Words.{is_plain, plain_at}
 use Rattle.cql_text.specs.declared.operator.Operator.{Operator}
 
--- the operator of this line that comes next
+-- the operator of this level that comes next
 abbrev pub operator_at : ℕ → List Tok → Option Operator
 operator_at rank ts = first (ranked rank) ts
 

@@ -1,4 +1,4 @@
--- The grammar of values, a ladder of seven lines:
+-- The grammar of values, a ladder of seven levels:
 --
 --     or   = and { "Or" and }
 --     and  = not { "And" not }
@@ -14,8 +14,8 @@ use Rattle.work_code.specs.Tok.{Tok}
 use Rattle.work_code.specs.Tok as tok
 use Rattle.work_code.specs.declared.sign.Symbol.{Symbol}
 use Rattle.work_code.specs.declared.sign.Symbol.TheVariants as s
-use Rattle.text_forms.specs.Lines.{Line, Chain, Once, Prefix, Syntax, IsWhole}
-use Rattle.text_forms.specs.Lines as lines
+use Rattle.text_forms.specs.Levels.{Level, Chain, Once, Prefix, Syntax, IsWhole}
+use Rattle.text_forms.specs.Levels as levels
 use Rattle.text_forms.specs.Parse.{begins_with, is_value}
 use Rattle.cql_text.specs.Tree.{Scalar, Number, Field, ItemField, Neg, Not, Bin, scalar_depth}
 use Rattle.cql_text.specs.Words.{is_keyword, is_keyword_at, is_plain}
@@ -49,7 +49,7 @@ op_at (tok.var text) = None
 op_at (tok.number n) = None
 op_at (tok.symbol x) = op_of x
 
--- the line of an operator: 1 for prod, 2 for sum, 3 for cmp, 5 for and, 6 for or
+-- the level of an operator: 1 for prod, 2 for sum, 3 for cmp, 5 for and, 6 for or
 abbrev pub rank_of : Operator → ℕ
 rank_of op.Mul = 1
 rank_of op.Quot = 1
@@ -66,7 +66,7 @@ rank_of op.GreaterEqual = 3
 rank_of op.And = 5
 rank_of op.Or = 6
 
--- the operators of a line
+-- the operators of a level
 abbrev pub of_rank : ℕ → Option Operator → Option Operator
 of_rank rank None = None
 of_rank rank (Some o) = if rank_of o == rank then Some o else None
@@ -89,12 +89,12 @@ abbrev pub signed : Sign → Scalar → Scalar
 signed sign.Minus t = Neg t
 signed sign.Not t = Not t
 
--- the lines, the tightest first
-abbrev pub seven : List (Line Operator Sign)
+-- the levels, the tightest first
+abbrev pub seven : List (Level Operator Sign)
 seven = Prefix minus ∷ Chain (ranked 1) ∷ Chain (ranked 2) ∷ Once (ranked 3) ∷ Prefix negation ∷ Chain (ranked 5) ∷ Chain (ranked 6) ∷ []
 
 abbrev pub syntax : Syntax Scalar Operator Sign
-syntax = record { lines = seven; call = no_call; join = λ o a b. Bin o a b; mark = signed; depth = scalar_depth }
+syntax = record { levels = seven; call = no_call; join = λ o a b. Bin o a b; mark = signed; depth = scalar_depth }
 
 -- the tokens are this leaf, wherever it stands
 pub data IsLeaf : (n : ℕ) (t : Scalar) (ts : List Tok) → Type 0 where
@@ -102,9 +102,9 @@ pub data IsLeaf : (n : ℕ) (t : Scalar) (ts : List Tok) → Type 0 where
   field : (n : ℕ) (f : List ℕ) → is_plain f ≡ true → IsLeaf n (Field f) (tok.name f ∷ [])
   of_item : (n : ℕ) (a f : List ℕ) → is_plain a ≡ true → is_plain f ≡ true → IsLeaf n (ItemField a f) (tok.name a ∷ tok.symbol s.Dot ∷ tok.name f ∷ [])
 
--- the tokens stand for the value, on the line above `rank` others, where `n` more brackets may be open
+-- the tokens stand for the value, on the level above `rank` others, where `n` more brackets may be open
 abbrev pub Spells : (n rank : ℕ) → Scalar → List Tok → Type 0
-Spells n rank t ts = lines.Spells syntax IsLeaf n rank t ts
+Spells n rank t ts = levels.Spells syntax IsLeaf n rank t ts
 
 -- a value, where `n` more brackets may be open: at most 64 deep
 abbrev pub IsScalar : ℕ → Scalar → List Tok → Type 0

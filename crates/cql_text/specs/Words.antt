@@ -5,7 +5,7 @@ use Rattle.std.specs.Str.{str_eq_ignore_ascii_case}
 use Rattle.river_base.specs.Name.{is_name}
 use Rattle.work_code.specs.Tok.{Tok, name, var, number, symbol}
 use Rattle.text_forms.specs.Forms as form
-use Rattle.text_forms.specs.Language.{is_free}
+use Rattle.text_forms.specs.Names.{is_free}
 use Rattle.text_forms.specs.Parse.{Parse, tested, name_at}
 use Rattle.text_forms.specs.Tail.{tail}
 

@@ -1,6 +1,6 @@
 // Keywords in any letter case, and names that users give.
-ghost use Rattle.std.specs.Prelude.{◌≡◌, ◌==◌, ◌||◌, if◌then◌else◌, IsTrue, not, map};
-ghost use Rattle.std.specs.List.{list_all, list_any};
+ghost use Rattle.std.specs.Prelude.{◌≡◌, ◌||◌, if◌then◌else◌, IsTrue, map};
+ghost use Rattle.std.specs.List.{list_any};
 ghost use Rattle.std.specs.Option.{SomeIff};
 ghost use Rattle.text_forms.specs.Gives.{Gives, Passes};
 ghost use Rattle.text_forms.specs.Tail.{tail};
@@ -8,11 +8,8 @@ ghost use Rattle.cql_text.specs.Reading.{is_alias_at};
 ghost use Rattle.cql_text.specs.Words.{is_keyword, is_keyword_at, keyword_at, keywords, is_plain, plain_at};
 
 use river_base::Name;
-use text_forms::{Fault, Reader};
+use text_forms::{Fault, Reader, is_free};
 use work_code::Token;
-
-// How many bytes a name has at most.
-const MOST: usize = 40;
 
 const WORDS: &[&[u8]] = &[
     b"register",
@@ -88,18 +85,12 @@ fn is_among(text: &[u8], words: &[&[u8]]) -> bool
     false
 }
 
-fn has_no_at(text: &[u8]) -> bool
-    ensures { result ≡ list_all (λ c. not (c == 64)) text.now }
-{
-    text.iter().all(|&c| c != b'@')
-}
-
 /// The name of this text, where users may give it: at most 40 bytes, no `@`, and no keyword.
 #[tactic(auto, unfolding(crate::specs::Words::is_plain))]
 pub fn plain(text: &[u8]) -> Option<Name>
     ensures { SomeIff result (IsTrue (is_plain text.now)) text.now }
 {
-    if text.len() <= MOST && has_no_at(text) && !is_among(text, WORDS) {
+    if is_free(text, &[]) && !is_among(text, WORDS) {
         Name::from_slice(text)
     } else {
         None

@@ -85,7 +85,7 @@ impl Operator {
         }
     }
 
-    // The line of the grammar: 1 binds tightest, 6 least; 3 compares.
+    // The level of the grammar: 1 binds tightest, 6 least; 3 compares.
     fn rank(self) -> u32
         ensures { result ≡ rank_of self }
     {
@@ -99,7 +99,7 @@ impl Operator {
     }
 }
 
-// The operator of this line that comes next.
+// The operator of this level that comes next.
 fn operator_at(reader: &Reader<'_>, rank: u32) -> Option<Operator>
     ensures { result ≡ operator_at rank reader.now }
 {
@@ -111,7 +111,7 @@ fn operator_at(reader: &Reader<'_>, rank: u32) -> Option<Operator>
     if op.rank() == rank { Some(op) } else { None }
 }
 
-/// Passes over the operator of this line, where one comes next.
+/// Passes over the operator of this level, where one comes next.
 pub fn take_operator(reader: &mut Reader<'_>, rank: u32) -> Option<Operator>
     ensures found { result ≡ operator_at rank reader.old }
     ensures rest { reader.new ≡ (if is_some result then tail reader.old else reader.old) }

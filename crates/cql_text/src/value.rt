@@ -61,7 +61,7 @@ struct Values;
 
 impl<'a> Dialect<Reader<'a>> for Values {
     ghost use Rattle.std.specs.Prelude.{length, ◌≤◌};
-    ghost use Rattle.text_forms.specs.Lines.{line_of, form_of};
+    ghost use Rattle.text_forms.specs.Levels.{level_of, form_of};
     ghost use Rattle.cql_text.specs.Deepest.{deepest};
     ghost use Rattle.cql_text.specs.Tree.{Scalar, scalar};
     ghost use Rattle.cql_text.specs.ValueReading.{leaf_in};
@@ -84,34 +84,34 @@ impl<'a> Dialect<Reader<'a>> for Values {
     ghost deeper = { λ _. deepest };
 
     fn height(&self) -> u32
-        ensures all { result ≡ length syntax.lines }
+        ensures all { result ≡ length syntax.levels }
         ensures few { result ≤ 16 }
     {
         7
     }
 
     #[tactic(auto, using(crate::proofs::Seven::forms))]
-    fn form(&self, line: u32) -> Form
-        ensures { result ≡ form_of (line_of syntax.lines line) }
+    fn form(&self, level: u32) -> Form
+        ensures { result ≡ form_of (level_of syntax.levels level) }
     {
-        match line {
+        match level {
             0 | 4 => Form::Prefix,
             3 => Form::Once,
-            _ if line < 7 => Form::Chain,
+            _ if level < 7 => Form::Chain,
             _ => Form::Once,
         }
     }
 
-    fn operator(&self, reader: &mut Reader<'a>, line: u32) -> Option<Operator> {
-        take_operator(reader, line)
+    fn operator(&self, reader: &mut Reader<'a>, level: u32) -> Option<Operator> {
+        take_operator(reader, level)
     }
 
     #[tactic(auto, using(crate::proofs::Seven::signs))]
-    fn sign(&self, reader: &mut Reader<'a>, line: u32) -> Option<Sign> {
-        if line == 0 && reader.takes(Symbol::Minus) {
+    fn sign(&self, reader: &mut Reader<'a>, level: u32) -> Option<Sign> {
+        if level == 0 && reader.takes(Symbol::Minus) {
             return Some(Sign::Minus);
         }
-        if line == 4 && takes_keyword(reader, b"not") {
+        if level == 4 && takes_keyword(reader, b"not") {
             return Some(Sign::Not);
         }
         None

@@ -17,8 +17,10 @@ use Rattle.river_kernels.specs.Kern.{Kern}
 use Rattle.river_kernels.specs.Kern as kern
 use Rattle.river_kernels.specs.Limits.{nesting}
 use Rattle.text_forms.specs.Forms as form
-use Rattle.text_forms.proofs.PrintedExpr.{printed}
+use Rattle.text_blocks.specs.Parts.{Round}
 use Rattle.river_print.specs.Printed.{list_text, values_text, starts_text, start_text, run_text, window_text, streamer_text, kernel_text}
+use Rattle.river_text.specs.Bodies as bodies
+use Rattle.river_text.specs.Expressions as exprs
 use Rattle.river_text.specs.Kernels as g
 use Rattle.river_text.specs.Kernels.{IsBraced}
 use Rattle.river_print.specs.Writable as w
@@ -26,6 +28,7 @@ use Rattle.river_print.proofs.Listings.{pieces, items-commas, items-listing, cou
 use Rattle.river_print.proofs.Listings.{start-item}
 use Rattle.river_print.proofs.Pieces.{Piece, AllPieces, EndsWord, piece-nothing, ends-nothing, piece-then, word-first, blank-first, braced, ends-blank}
 use Rattle.river_print.proofs.Pieces.{ends-open, items_toks, list-first}
+use Rattle.river_print.proofs.PrintedExpr.{printed}
 use Rattle.river_print.proofs.Terms.{term-item, body_toks, body-piece, body-formed, round-formed, behind_round}
 
 -- items in round brackets at the end
@@ -41,7 +44,7 @@ abbrev counts : List ℕ → List (List Tok)
 counts ns = map count_tok ns
 
 counts-pieces : (ns : List ℕ) → w.Every w.IsCount ns → AllPieces (map decimal ns) (map count_tok ns)
-counts-pieces ns h = pieces g.Count decimal count_tok w.IsCount count-item ns h
+counts-pieces ns h = pieces form.Count decimal count_tok w.IsCount count-item ns h
 
 abbrev run_toks : List ℤ → Steps → List Tok
 run_toks starts steps = listed (map start_tok starts) (body_toks steps)
@@ -252,7 +255,7 @@ kernel-piece (kern.unpack n) h = worded (codes "unpack") (decimal n ∷ []) (cou
 kernel-piece (kern.window x) h = window-piece x h
 kernel-piece (kern.select e) h = worded (codes "select") (text_of e ∷ []) (printed e ∷ []) is_select ((term-item 64 (omega arith) e h).piece, tt)
 kernel-piece (kern.project es) h =
-    worded (codes "project") (map text_of es) (map printed es) is_project (pieces (g.IsTerm 64) text_of printed w.IsTerm (term-item 64 (omega arith)) es h.1)
+    worded (codes "project") (map text_of es) (map printed es) is_project (pieces (exprs.IsTerm 64) text_of printed w.IsTerm (term-item 64 (omega arith)) es h.1)
 kernel-piece kern.cross h = lone (codes "cross") is_cross
 kernel-piece (kern.streamer x) h = streamer-piece x
 kernel-piece kern.tally h = lone (codes "tally") is_tally
@@ -260,12 +263,12 @@ kernel-piece (kern.fused a b at) h = fused-piece a b at h.0 (kernel-piece a h.1)
 
 -- ---- these tokens stand for the kernel
 
-pair-formed : (a b : ℕ) → w.IsCount a → w.IsCount b → form.Both g.Count (form.After (s.Comma ∷ []) g.Count) (a, b) (number a ∷ symbol s.Comma ∷ number b ∷ [])
+pair-formed : (a b : ℕ) → w.IsCount a → w.IsCount b → form.Both form.Count (form.After (s.Comma ∷ []) form.Count) (a, b) (number a ∷ symbol s.Comma ∷ number b ∷ [])
 pair-formed a b x y =
     record { front = number a ∷ []; back = symbol s.Comma ∷ number b ∷ []; is = refl; first = count-formed a x; second = record { back = number b ∷ []; is = refl; formed = count-formed b y } }
 
 four-formed : (a b c d : ℕ) → w.IsCount a → w.IsCount b → w.IsCount c → w.IsCount d
-    → form.Both g.Count (form.After (s.Comma ∷ []) (form.Both g.Count (form.After (s.Comma ∷ []) (form.Both g.Count (form.After (s.Comma ∷ []) g.Count))))) (a, (b, (c, d))) (number a ∷ symbol s.Comma ∷ number b ∷ symbol s.Comma ∷ number c ∷ symbol s.Comma ∷ number d ∷ [])
+    → form.Both form.Count (form.After (s.Comma ∷ []) (form.Both form.Count (form.After (s.Comma ∷ []) (form.Both form.Count (form.After (s.Comma ∷ []) form.Count))))) (a, (b, (c, d))) (number a ∷ symbol s.Comma ∷ number b ∷ symbol s.Comma ∷ number c ∷ symbol s.Comma ∷ number d ∷ [])
 four-formed a b c d x y z u = record {
   front = number a ∷ [];
   back = symbol s.Comma ∷ number b ∷ symbol s.Comma ∷ number c ∷ symbol s.Comma ∷ number d ∷ [];
@@ -286,17 +289,17 @@ four-formed a b c d x y z u = record {
 
 -- a list and what comes behind
 list-then : {A B : Type 0} (F : ℕ → A → List Tok → Type 0) (G : B → List Tok → Type 0) (m : ℕ) (v : A) (x : B) (ts us : List Tok) → F m v ts → G x us
-    → form.Both (g.Round F (suc m)) G (v, x) (symbol s.Open ∷ (ts ++ symbol s.Close ∷ us))
+    → form.Both (Round F (suc m)) G (v, x) (symbol s.Open ∷ (ts ++ symbol s.Close ∷ us))
 list-then F G m v x ts us f y =
     record { front = symbol s.Open ∷ (ts ++ symbol s.Close ∷ []); back = us; is = behind_round ts us; first = round-formed F m v ts f; second = y }
 
 abbrev runs : ℕ → List ℤ × Steps → List Tok → Type 0
-runs n = form.Both (g.IsStarts n) (g.IsBody 16 n)
+runs n = form.Both (g.IsStarts n) (bodies.IsBody 16 n)
 
 run-formed : (m : ℕ) (starts : List ℤ) (steps : Steps) → w.Every w.IsStart starts → w.IsBody steps → 81 ≤ m
     → runs (suc m) (starts, steps) (run_toks starts steps)
 run-formed m starts steps h b room =
-    list-then (λ k. form.Listing g.Signed) (g.IsBody 16 (suc m)) m starts steps (items_toks (map start_tok starts)) (body_toks steps) (items-listing g.Signed start_text start_tok w.IsStart start-item starts h) (body-formed 16 (suc m) steps b.0 b.1 (omega arith))
+    list-then (λ k. form.Listing g.Signed) (bodies.IsBody 16 (suc m)) m starts steps (items_toks (map start_tok starts)) (body_toks steps) (items-listing g.Signed start_text start_tok w.IsStart start-item starts h) (body-formed 16 (suc m) steps b.0 b.1 (omega arith))
 
 code-formed : (m : ℕ) (c : CodeForm) → w.IsCode c → 81 ≤ m
     → g.IsCode (suc m) (kern.code c) (listed (counts (c.body.inputs ∷ c.body.slots ∷ [])) (listed (map value_tok c.outs) (run_toks c.starts c.body.steps)))
@@ -304,7 +307,7 @@ code-formed m c h room = record {
   value = ((c.body.inputs, c.body.slots), (c.outs, (c.starts, c.body.steps)));
   is = refl;
   formed =
-      list-then (λ k. form.Both g.Count (form.After (s.Comma ∷ []) g.Count)) (form.Both (g.Round (λ k. form.Listing g.Width) (suc m)) (runs (suc m))) m (c.body.inputs, c.body.slots) (c.outs, (c.starts, c.body.steps))
+      list-then (λ k. form.Both form.Count (form.After (s.Comma ∷ []) form.Count)) (form.Both (Round (λ k. form.Listing g.Width) (suc m)) (runs (suc m))) m (c.body.inputs, c.body.slots) (c.outs, (c.starts, c.body.steps))
       (number c.body.inputs ∷ symbol s.Comma ∷ number c.body.slots ∷ []) (listed (map value_tok c.outs) (run_toks c.starts c.body.steps)) (pair-formed c.body.inputs c.body.slots h.0 h.1)
       (list-then (λ k. form.Listing g.Width) (runs (suc m)) m c.outs (c.starts, c.body.steps) (items_toks (map value_tok c.outs)) (run_toks c.starts c.body.steps)
       (items-listing g.Width signed_decimal value_tok w.IsWidth width-item c.outs h.2) (run-formed m c.starts c.body.steps h.3 h.4 room));
@@ -317,7 +320,7 @@ filter-formed m f h room = record {
   is =
       ap (λ (k : ℕ). kern.filter (record { peek = f.peek; pop = f.pop; push = f.push; body = record { inputs = k; slots = f.body.slots; steps = f.body.steps }; starts = f.starts })) h.6;
   formed =
-      list-then (λ k. form.Both g.Count (form.After (s.Comma ∷ []) (form.Both g.Count (form.After (s.Comma ∷ []) (form.Both g.Count (form.After (s.Comma ∷ []) g.Count)))))) (runs (suc m)) m (f.peek, (f.pop, (f.push, f.body.slots))) (f.starts, f.body.steps)
+      list-then (λ k. form.Both form.Count (form.After (s.Comma ∷ []) (form.Both form.Count (form.After (s.Comma ∷ []) (form.Both form.Count (form.After (s.Comma ∷ []) form.Count)))))) (runs (suc m)) m (f.peek, (f.pop, (f.push, f.body.slots))) (f.starts, f.body.steps)
       (number f.peek ∷ symbol s.Comma ∷ number f.pop ∷ symbol s.Comma ∷ number f.push ∷ symbol s.Comma ∷ number f.body.slots ∷ []) (run_toks f.starts f.body.steps) (four-formed f.peek f.pop f.push f.body.slots h.0 h.1 h.2 h.3)
       (run-formed m f.starts f.body.steps h.4 h.5 room);
 }
@@ -329,7 +332,7 @@ window-formed m (Range t) h =
     record { word = codes "range"; back = listed (value_tok t ∷ []) []; is = refl; formed = record { value = t; is = refl; formed = round-formed (λ k. form.Value) m t (value_tok t) ((value-item t h).formed) } }
 window-formed m Unbounded h = record { word = codes "unbounded"; back = []; is = refl; formed = (refl, refl) }
 window-formed m (Latest n) h =
-    record { word = codes "latest"; back = listed (count_tok n ∷ []) []; is = refl; formed = record { value = n; is = refl; formed = round-formed (λ k. g.Count) m n (count_tok n) (count-formed n h) } }
+    record { word = codes "latest"; back = listed (count_tok n ∷ []) []; is = refl; formed = record { value = n; is = refl; formed = round-formed (λ k. form.Count) m n (count_tok n) (count-formed n h) } }
 
 streamer-formed : (m : ℕ) (x : Streamer) → g.IsKernel (suc m) (kern.streamer x) (streamer_toks x)
 unfolding streamer_toks
@@ -350,7 +353,7 @@ kernel-formed (suc m) (kern.code c) h room =
 kernel-formed (suc m) (kern.filter f) h room =
     record { word = codes "filter"; back = listed (counts (f.peek ∷ f.pop ∷ f.push ∷ f.body.slots ∷ [])) (run_toks f.starts f.body.steps); is = refl; formed = filter-formed m f h (omega arith) }
 kernel-formed (suc m) (kern.duplicate n) h room =
-    record { word = codes "duplicate"; back = listed (count_tok n ∷ []) []; is = refl; formed = record { value = n; is = refl; formed = round-formed (λ k. g.Count) m n (count_tok n) (count-formed n h) } }
+    record { word = codes "duplicate"; back = listed (count_tok n ∷ []) []; is = refl; formed = record { value = n; is = refl; formed = round-formed (λ k. form.Count) m n (count_tok n) (count-formed n h) } }
 kernel-formed (suc m) (kern.deal ws) h room =
     record { word = codes "deal"; back = listed (map value_tok ws) []; is = refl; formed = record { value = ws; is = refl; formed = round-formed (λ k. form.Commas form.Value) m ws (items_toks (map value_tok ws)) (items-commas form.Value signed_decimal value_tok w.IsNatural value-item ws h.0 h.1) } }
 kernel-formed (suc m) (kern.collect ws) h room =
@@ -358,12 +361,12 @@ kernel-formed (suc m) (kern.collect ws) h room =
 kernel-formed (suc m) (kern.packed k) h room =
     record { word = codes "packed"; back = symbol s.OpenBrace ∷ (kernel_toks k ++ symbol s.CloseBrace ∷ []); is = refl; formed = record { value = k; is = refl; formed = in_braces m k (kernel-formed m k h (omega arith)) } }
 kernel-formed (suc m) (kern.unpack n) h room =
-    record { word = codes "unpack"; back = listed (count_tok n ∷ []) []; is = refl; formed = record { value = n; is = refl; formed = round-formed (λ k. g.Count) m n (count_tok n) (count-formed n h) } }
+    record { word = codes "unpack"; back = listed (count_tok n ∷ []) []; is = refl; formed = record { value = n; is = refl; formed = round-formed (λ k. form.Count) m n (count_tok n) (count-formed n h) } }
 kernel-formed (suc m) (kern.window x) h room = window-formed m x h
 kernel-formed (suc m) (kern.select e) h room =
-    record { word = codes "select"; back = listed (printed e ∷ []) []; is = refl; formed = record { value = e; is = refl; formed = subst (λ (l : List Tok). g.Round g.IsTerm (suc m) e (symbol s.Open ∷ (l ++ symbol s.Close ∷ []))) (sym (append-nil (printed e))) (round-formed g.IsTerm m e (printed e) ((term-item m (omega arith) e h).formed)) } }
+    record { word = codes "select"; back = listed (printed e ∷ []) []; is = refl; formed = record { value = e; is = refl; formed = subst (λ (l : List Tok). Round exprs.IsTerm (suc m) e (symbol s.Open ∷ (l ++ symbol s.Close ∷ []))) (sym (append-nil (printed e))) (round-formed exprs.IsTerm m e (printed e) ((term-item m (omega arith) e h).formed)) } }
 kernel-formed (suc m) (kern.project es) h room =
-    record { word = codes "project"; back = listed (map printed es) []; is = refl; formed = record { value = es; is = refl; formed = round-formed (λ k. form.Commas (g.IsTerm k)) m es (items_toks (map printed es)) (items-commas (g.IsTerm m) text_of printed w.IsTerm (term-item m (omega arith)) es h.0 h.1) } }
+    record { word = codes "project"; back = listed (map printed es) []; is = refl; formed = record { value = es; is = refl; formed = round-formed (λ k. form.Commas (exprs.IsTerm k)) m es (items_toks (map printed es)) (items-commas (exprs.IsTerm m) text_of printed w.IsTerm (term-item m (omega arith)) es h.0 h.1) } }
 kernel-formed (suc m) kern.cross h room = record { word = codes "cross"; back = []; is = refl; formed = (refl, refl) }
 kernel-formed (suc m) (kern.streamer x) h room = streamer-formed m x
 kernel-formed (suc m) kern.tally h room = record { word = codes "tally"; back = []; is = refl; formed = (refl, refl) }
@@ -376,7 +379,7 @@ kernel-formed (suc m) (kern.fused a b at) h room = record {
     value = (at, (a, b));
     is = refl;
     formed =
-        list-then (λ k. g.Count) (form.Both (IsBraced (suc m)) (IsBraced (suc m))) m at (a, b) (number at ∷ []) ((symbol s.OpenBrace ∷ (kernel_toks a ++ symbol s.CloseBrace ∷ [])) ++ symbol s.OpenBrace ∷ (kernel_toks b ++ symbol s.CloseBrace ∷ [])) (count-formed at h.0)
+        list-then (λ k. form.Count) (form.Both (IsBraced (suc m)) (IsBraced (suc m))) m at (a, b) (number at ∷ []) ((symbol s.OpenBrace ∷ (kernel_toks a ++ symbol s.CloseBrace ∷ [])) ++ symbol s.OpenBrace ∷ (kernel_toks b ++ symbol s.CloseBrace ∷ [])) (count-formed at h.0)
         (record { front = symbol s.OpenBrace ∷ (kernel_toks a ++ symbol s.CloseBrace ∷ []); back = symbol s.OpenBrace ∷ (kernel_toks b ++ symbol s.CloseBrace ∷ []); is = refl; first = in_braces m a (kernel-formed m a h.1 (omega arith)); second = in_braces m b (kernel-formed m b h.2 (omega arith)) });
   };
 }

@@ -3,17 +3,16 @@ use Rattle.std.proofs.Common.{◌≡◌, ℕ, suc, ◌<◌, ◌≤◌, Bool, tru
 use Rattle.std.specs.Prelude.{codes, map, ℤ, pos, negsuc}
 use Rattle.std.specs.Ordering.{int_eq}
 use Rattle.std.specs.Fmt.{decimal, signed_decimal}
-use Rattle.std.proofs.lemmas.Bool.Decides.{nat_tests, Decides-int_eq}
+use Rattle.std.proofs.lemmas.Bool.Decides.{Decides-int_eq}
 use Rattle.work_code.specs.Lexis.{most, is_letter, is_word, is_digit}
 use Rattle.work_code.specs.Tok.{Tok, name, number, symbol}
 use Rattle.work_code.specs.declared.sign.Symbol.TheVariants as s
 use Rattle.work_code.proofs.Spelled.{is_name_text, spells-name, spells-number, minus_follows, decimal-first}
 use Rattle.text_forms.specs.Forms as form
-use Rattle.text_forms.specs.Parse.{is_value}
-use Rattle.text_forms.proofs.PrintedExpr.{is_count-below}
 use Rattle.river_print.specs.Printed.{start_text}
 use Rattle.river_text.specs.Kernels as g
 use Rattle.river_print.specs.Writable as w
+use Rattle.river_print.proofs.PrintedExpr.{natural, is_count-below, is_value-below}
 use Rattle.river_print.proofs.Pieces.{Piece, AllPieces, more_toks, items_toks, symbol-first, inside-name, inside-number, plain-Minus}
 
 -- a value whose printed text has tokens that stand for it
@@ -54,23 +53,15 @@ abbrev pub count_tok : ℕ → List Tok
 count_tok n = number n ∷ []
 
 -- a count is in the grammar
-pub count-formed : (n : ℕ) → w.IsCount n → g.Count n (count_tok n)
+pub count-formed : (n : ℕ) → w.IsCount n → form.Count n (count_tok n)
 count-formed n h = record { passes = is_count-below n h; formed = refl }
 
 -- a count
-pub count-item : (n : ℕ) → w.IsCount n → Item g.Count decimal count_tok n
+pub count-item : (n : ℕ) → w.IsCount n → Item form.Count decimal count_tok n
 count-item n h = record { piece = number-piece n (omega arith); formed = count-formed n h }
-
-abbrev pub natural : ℤ → ℕ
-natural (pos n) = n
-natural (negsuc n) = 0
 
 abbrev pub value_tok : ℤ → List Tok
 value_tok z = number (natural z) ∷ []
-
--- a number that is a value
-pub is_value-below : (n : ℕ) → n ≤ 9223372036854775807 → is_value n ≡ true
-is_value-below n h = grind (arith, nat_tests)
 
 pub value-formed : (n : ℕ) → n ≤ 9223372036854775807 → form.Value (pos n) (number n ∷ [])
 value-formed n h = record { number = n; fits = is_value-below n h; is = refl; formed = refl }

@@ -13,8 +13,8 @@ use Rattle.work_code.specs.declared.sign.Symbol.{Symbol}
 use Rattle.work_code.specs.declared.sign.Symbol.TheVariants as s
 use Rattle.work_code.proofs.Spelled.{Spells, NoWord, MayFollow, is_name_text, spells-nothing, spells-then, spells-less, spells-blank, spells-symbol}
 use Rattle.work_code.proofs.Spelled.{spells-name, spells-var, spells-number}
-use Rattle.text_forms.proofs.PrintedExpr.{blank-then}
 use Rattle.river_print.specs.Printed.{list_text}
+use Rattle.river_print.proofs.PrintedExpr.{blank-then}
 
 -- ---- units do not end within braces
 

@@ -1,11 +1,11 @@
 -- What a text stands for has the ranges of numbers, and keeps the bounds of the grammar.
 use Rattle.std.proofs.Common.{◌≡◌, ℕ, zero, suc, ◌≤◌, ℤ, pos, Bool, true, false, Option, Some, None, List, [], ◌∷◌, ◌++◌, map, refl, sym, subst, arith, ⊎_elim}
-use Rattle.std.specs.Prelude.{if◌then◌else◌, neg_ℤ, codes}
+use Rattle.std.specs.Prelude.{neg_ℤ, codes}
+use Rattle.std.specs.List.{AllByRecursion}
 use Rattle.std.specs.Str.{bytes_eq}
 use Rattle.work_code.specs.Tok.{Tok}
 use Rattle.work_code.specs.Term.{Term}
-use Rattle.work_code.specs.Term as term
-use Rattle.work_code.specs.Steps.{Step, Steps, in_turn}
+use Rattle.work_code.specs.Steps.{Step, Steps, If, in_turn}
 use Rattle.work_code.specs.declared.sign.Symbol.{Symbol}
 use Rattle.work_code.specs.declared.sign.Symbol.TheVariants as s
 use Rattle.river_base.specs.Name.{is_name}
@@ -13,19 +13,20 @@ use Rattle.river_base.specs.declared.kind.FlatType.TheVariants.{Rows, Stream, Re
 use Rattle.river_base.specs.declared.kind.QueueType.TheVariants.{Flat, Pack}
 use Rattle.kern_tables.specs.declared.kind.TableKind.TheVariants.{Sum, Collection}
 use Rattle.kern_bags.specs.declared.kernel.Window.TheVariants.{Range}
-use Rattle.text_forms.specs.declared.language.Language.TheVariants.{River}
-use Rattle.text_forms.specs.Expressions as rule
-use Rattle.text_forms.specs.Lines as lines
-use Rattle.text_forms.specs.declared.operator.Unary.{Unary}
-use Rattle.text_forms.specs.declared.operator.Unary.TheVariants as unary
+use Rattle.text_forms.specs.Levels as levels
 use Rattle.text_forms.specs.Forms as form
-use Rattle.text_forms.specs.Parse.{is_count, is_value}
+use Rattle.text_forms.specs.Parse.{is_count}
 use Rattle.text_forms.specs.Texts.{AllFormed}
-use Rattle.text_forms.specs.Tree.{Spoken}
+use Rattle.text_blocks.specs.Parts.{Round}
+use Rattle.text_blocks.specs.declared.sign.Sign.{Sign}
+use Rattle.text_blocks.specs.declared.sign.Sign.TheVariants as sign
+use Rattle.text_blocks.proofs.Every.{IfThere, every-block}
+use Rattle.river_kernels.specs.Fits.{width_of}
 use Rattle.river_kernels.specs.Kern.{Kern}
 use Rattle.river_kernels.specs.Kern as kern
-use Rattle.river_kernels.proofs.TypeLemmas.{not_some, some_same}
 use Rattle.river_plan.specs.Forms.{OpForm, PlanForm, empty_form}
+use Rattle.river_text.specs.Bodies as bodies
+use Rattle.river_text.specs.Expressions as rule
 use Rattle.river_text.specs.Kernels as g
 use Rattle.river_text.specs.Plans as t
 use Rattle.river_print.specs.Writable as w
@@ -84,13 +85,6 @@ gives-choose false f g = g
 gives-headed : {A : Type 0} {F : List ℕ → A → List Tok → Type 0} {P : A → Type 0} → ((word : List ℕ) → Gives (F word) P) → Gives (form.Headed F) P
 gives-headed f = record { give = λ v ts h. let g = f h.word in g.give v h.back h.formed }
 
-gives-maybe : {A : Type 0} {F : A → List Tok → Type 0} {P : A → Type 0} → Gives F P → Gives (form.Maybe F) (λ o. (v : A) → o ≡ Some v → P v)
-gives-maybe {A = A} {F = F} {P = P} f = record { give = given }
-  where
-    given : (o : Option A) (ts : List Tok) → form.Maybe F o ts → (v : A) → o ≡ Some v → P v
-    given None ts h v e = absurd (cc e)
-    given (Some x) ts h v e = let s : x ≡ v = cc in subst P s (f.give x ts h)
-
 gives-each : {A : Type 0} {F : A → List Tok → Type 0} {P : A → Type 0} → Gives F P → Gives (form.Each F) (w.Every P)
 gives-each {A = A} {F = F} {P = P} f = record { give = given }
   where
@@ -111,7 +105,7 @@ gives-enclosed left right f (suc n) = record { give = λ v ts h. let g = gives-a
 
 -- NUMBERS
 
-count : Gives g.Count w.IsCount
+count : Gives form.Count w.IsCount
 count = gives-tested is_count form.Number w.IsCount (λ n h. let a = at_most n 4294967295 h in omega (arith, a))
 
 value : Gives form.Value w.IsNatural
@@ -142,49 +136,26 @@ starts n = gives-enclosed _ _ (λ m. gives-listing signed) n
 
 -- EXPRESSIONS
 
--- a number of a text is a value of 64 bits
-pub number-ranged : (v : ℕ) (b : Bool) → is_value v ≡ b → (e : Term) → (if b then Some (term.Const (pos v)) else None) ≡ Some e → ranges.IsRangedTerm e
-number-ranged v true t e h = subst ranges.IsRangedTerm (some_same h) (at_most v 9223372036854775807 t)
-number-ranged v false t e h = absurd (not_some h)
+leaf-ranged : (n : ℕ) (t : Term) (ts : List Tok) → rule.IsLeaf n t ts → ranges.IsRangedTerm t
+leaf-ranged n t ts (rule.number m v fits) = at_most v 9223372036854775807 fits
+leaf-ranged n t ts (rule.input m i fits) = let a = at_most i 4294967295 fits in omega (arith, a)
+leaf-ranged n t ts (rule.slot m i fits) = let a = at_most i 4294967295 fits in omega (arith, a)
 
-one-ranged : (f : Term → Term) → ((x : Term) → ranges.IsRangedTerm x → ranges.IsRangedTerm (f x)) → (o : Option Term)
-    → ((x : Term) → o ≡ Some x → ranges.IsRangedTerm x) → (e : Term) → g.one_term f o ≡ Some e → ranges.IsRangedTerm e
-one-ranged f k None x e h = absurd (not_some h)
-one-ranged f k (Some y) x e h = subst ranges.IsRangedTerm (some_same h) (k y (x y refl))
+marked-ranged : (p : Sign) (t : Term) → ranges.IsRangedTerm t → ranges.IsRangedTerm (rule.marked p t)
+marked-ranged sign.Neg t h = h
+marked-ranged sign.Not t h = h
 
-two-ranged : (f : Term → Term → Term) → ((x y : Term) → ranges.IsRangedTerm x → ranges.IsRangedTerm y → ranges.IsRangedTerm (f x y)) → (o p : Option Term)
-    → ((x : Term) → o ≡ Some x → ranges.IsRangedTerm x) → ((x : Term) → p ≡ Some x → ranges.IsRangedTerm x) → (e : Term) → g.both_terms f o p ≡ Some e
-    → ranges.IsRangedTerm e
-two-ranged f k None p x y e h = absurd (not_some h)
-two-ranged f k (Some a) None x y e h = absurd (not_some h)
-two-ranged f k (Some a) (Some b) x y e h = subst ranges.IsRangedTerm (some_same h) (k a b (x a refl) (y b refl))
+ranged : (n k : ℕ) (t : Term) (ts : List Tok) → levels.Spells rule.syntax rule.IsLeaf n k t ts → ranges.IsRangedTerm t
+ranged n k t ts (levels.leaf m u us x) = leaf-ranged m u us x
+ranged n k t ts (levels.bracket m u us x) = ranged m 7 u us x
+ranged n k t ts (levels.call m y p u us c x) = marked-ranged p u (ranged m 7 u us x)
+ranged n k t ts (levels.tighter m j u us x) = ranged m j u us x
+ranged n k t ts (levels.chain m j y o a b us vs f c x z) = (ranged m (suc j) a us x, ranged m j b vs z)
+ranged n k t ts (levels.once m j y o a b us vs f c x z) = (ranged m j a us x, ranged m j b vs z)
+ranged n k t ts (levels.prefix m j y p u us c x) = marked-ranged p u (ranged m (suc j) u us x)
 
-leaf-spelled : (n : ℕ) (t : Spoken) (ts : List Tok) → rule.IsLeaf River n t ts → (e : Term) → g.term_of t ≡ Some e → ranges.IsRangedTerm e
-leaf-spelled n t ts (rule.number m v) e h = number-ranged v (is_value v) refl e h
-leaf-spelled n t ts (rule.name m text has) e h = absurd (not_some h)
-leaf-spelled n t ts (rule.input m i has fits) e h = let a = at_most i 4294967295 fits in subst ranges.IsRangedTerm (some_same h) (omega (arith, a))
-leaf-spelled n t ts (rule.slot m i has fits) e h = let a = at_most i 4294967295 fits in subst ranges.IsRangedTerm (some_same h) (omega (arith, a))
-leaf-spelled n t ts (rule.pop m has) e h = absurd (not_some h)
-
-marked-spelled : (p : Unary) (t : Spoken) → ((e : Term) → g.term_of t ≡ Some e → ranges.IsRangedTerm e) → (e : Term) → g.term_of (rule.marked p t) ≡ Some e
-    → ranges.IsRangedTerm e
-marked-spelled unary.Neg t x e h = one-ranged term.Neg (λ y z. z) (g.term_of t) x e h
-marked-spelled unary.Not t x e h = one-ranged term.Not (λ y z. z) (g.term_of t) x e h
-marked-spelled unary.Peek t x e h = absurd (not_some h)
-
-spelled : (n k : ℕ) (t : Spoken) (ts : List Tok) → rule.Spells River n k t ts → (e : Term) → g.term_of t ≡ Some e → ranges.IsRangedTerm e
-spelled n k t ts (lines.leaf m u us x) e h = leaf-spelled m u us x e h
-spelled n k t ts (lines.bracket m u us x) e h = spelled m 7 u us x e h
-spelled n k t ts (lines.call m y p u us c x) e h = marked-spelled p u (spelled m 7 u us x) e h
-spelled n k t ts (lines.tighter m j u us x) e h = spelled m j u us x e h
-spelled n k t ts (lines.chain m j y o a b us vs f c x z) e h =
-    two-ranged (term.Bin o) (λ u v c d. (c, d)) (g.term_of a) (g.term_of b) (spelled m (suc j) a us x) (spelled m j b vs z) e h
-spelled n k t ts (lines.once m j y o a b us vs f c x z) e h =
-    two-ranged (term.Bin o) (λ u v c d. (c, d)) (g.term_of a) (g.term_of b) (spelled m j a us x) (spelled m j b vs z) e h
-spelled n k t ts (lines.prefix m j y p u us c x) e h = marked-spelled p u (spelled m (suc j) u us x) e h
-
-term_ranged : (n : ℕ) → Gives (g.IsTerm n) ranges.IsRangedTerm
-term_ranged n = record { give = λ v ts h. spelled n 7 h.value ts h.formed.0 v h.is }
+term_ranged : (n : ℕ) → Gives (rule.IsTerm n) ranges.IsRangedTerm
+term_ranged n = record { give = λ v ts h. ranged n 7 v ts h.0 }
 
 -- STATEMENTS
 
@@ -195,43 +166,36 @@ IsStep nest x = ranges.IsRangedStep x × (w.depth_once x ≤ nest)
 abbrev IsSteps : ℕ → Steps → Type 0
 IsSteps nest xs = ranges.IsRangedSteps xs × (w.depths xs ≤ nest)
 
-turned : (nest : ℕ) (xs : List Step) → w.Every (IsStep nest) xs → IsSteps nest (in_turn xs)
+turned : (nest : ℕ) (xs : List Step) → AllByRecursion (IsStep nest) xs → IsSteps nest (in_turn xs)
 turned nest [] h = (tt, omega arith)
 turned nest (x ∷ xs) h = let t = turned nest xs h.1 in let a = h.0.1 in let b = t.1 in ((h.0.0, t.0), omega (arith, a, b))
 
-set-step : (nest n : ℕ) → Gives (g.IsSet n) (IsStep nest)
-set-step nest n = gives-seen g.made_set (IsStep nest)
+set-step : (nest n : ℕ) → Gives (bodies.IsSet n) (IsStep nest)
+set-step nest n = gives-seen bodies.made_set (IsStep nest)
     (gives-both (gives-enclosed _ _ (λ m. count) n) (gives-after _ (gives-before _ (term_ranged n))))
     (λ v h. (h, omega arith))
 
-push-step : (nest n : ℕ) → Gives (g.IsPush n) (IsStep nest)
-push-step nest n = gives-seen g.made_push (IsStep nest)
+push-step : (nest n : ℕ) → Gives (bodies.IsPush n) (IsStep nest)
+push-step nest n = gives-seen bodies.made_push (IsStep nest)
     (gives-both count (gives-before _ (gives-enclosed _ _ (λ m. gives-commas (term_ranged m)) n)))
     (λ v h. (h, omega arith))
 
-else-steps : (nest : ℕ) (o : Option Steps) → ((v : Steps) → o ≡ Some v → IsSteps nest v) → IsSteps nest (g.or_done o)
-else-steps nest None h = (tt, omega arith)
-else-steps nest (Some v) h = h v refl
+plain-step : (nest n : ℕ) (word : List ℕ) → Gives (bodies.IsPlain n word) (IsStep nest)
+plain-step nest n word =
+    gives-choose (bytes_eq word (codes "slot")) (set-step nest n) (gives-choose (bytes_eq word (codes "push")) (push-step nest n) (gives-never (IsStep nest)))
 
-if-step : (nest : ℕ) (body : ℕ → Steps → List Tok → Type 0) → ((m : ℕ) → Gives (body m) (IsSteps nest)) → (n : ℕ) → Gives (g.IsIf body n) (IsStep (suc nest))
-if-step nest body f n = gives-seen g.made_if (IsStep (suc nest))
-    (gives-both (gives-enclosed _ _ term_ranged n) (gives-both (f n) (gives-seen g.or_done (IsSteps nest) (gives-maybe (gives-after_word (codes "else") (f n))) (else-steps nest))))
-    (λ v h. let a = h.1.0.1 in let b = h.1.1.1 in ((h.0, h.1.0.0, h.1.1.0), omega (arith, a, b)))
+branch-step : (nest n : ℕ) (c : Term) (ts : List Tok) (a : Steps) (o : Option Steps) → Round rule.IsTerm n c ts → IsSteps nest a → IfThere (IsSteps nest) o
+    → IsStep (suc nest) (If c a (bodies.or_done o))
+branch-step nest n c ts a None h x y =
+    let f = gives-enclosed s.Open s.Close term_ranged n in let b = x.1 in ((f.give c ts h, x.0, tt), omega (arith, b))
+branch-step nest n c ts a (Some d) h x y =
+    let f = gives-enclosed s.Open s.Close term_ranged n in let b = x.1 in let e = y.1 in ((f.give c ts h, x.0, y.0), omega (arith, b, e))
 
-body-of : (nest : ℕ) (stmt : ℕ → Step → List Tok → Type 0) → ((m : ℕ) → Gives (stmt m) (IsStep nest)) → (n : ℕ) → Gives (g.IsBodyOf stmt n) (IsSteps nest)
-body-of nest stmt f n = gives-enclosed _ _ (λ m. gives-seen in_turn (IsSteps nest) (gives-each (f m)) (turned nest)) n
-
-statement : (nest n : ℕ) → Gives (g.IsStmt nest n) (IsStep nest)
-unfolding g.IsStmt
-statement zero n =
-    gives-headed (λ word. gives-choose (bytes_eq word (codes "slot")) (set-step zero n) (gives-choose (bytes_eq word (codes "push")) (push-step zero n)
-    (gives-choose (bytes_eq word (codes "if")) (gives-never (IsStep zero)) (gives-never (IsStep zero)))))
-statement (suc nest) n =
-    gives-headed (λ word. gives-choose (bytes_eq word (codes "slot")) (set-step (suc nest) n) (gives-choose (bytes_eq word (codes "push")) (push-step (suc nest) n)
-    (gives-choose (bytes_eq word (codes "if")) (if-step nest (g.IsBodyOf (g.IsStmt nest)) (body-of nest (g.IsStmt nest) (statement nest)) n) (gives-never (IsStep (suc nest))))))
-
-body : (n : ℕ) → Gives (g.IsBody 16 n) (IsSteps 16)
-body n = body-of 16 (g.IsStmt 16) (statement 16) n
+body : (n : ℕ) → Gives (bodies.IsBody 16 n) (IsSteps 16)
+body n = record {
+  give = every-block bodies.style bodies.holes IsStep IsSteps branch-step (λ k m word x ts b f q. absurd f)
+      (λ k m word v ts h. let f = plain-step k m word in f.give v ts h) turned 16 n;
+}
 
 -- KERNELS
 
@@ -251,11 +215,11 @@ filter n = gives-seen g.made_filter IsKernel
     (λ v h. ((h.0.0, h.0.1.0, h.0.1.1.0, (h.0.0, h.0.1.1.1, h.1.1.0), h.1.0), h.1.1.1, tt))
 
 -- a kernel that is one number in brackets, or some weights
-counted : (f : ℕ → Kern) → ((n : ℕ) → w.IsCount n → IsKernel (f n)) → (n : ℕ) → Gives (form.Seen f (g.Round (λ m. g.Count) n)) IsKernel
+counted : (f : ℕ → Kern) → ((n : ℕ) → w.IsCount n → IsKernel (f n)) → (n : ℕ) → Gives (form.Seen f (Round (λ m. form.Count) n)) IsKernel
 counted f k n = gives-seen f IsKernel (gives-enclosed _ _ (λ m. count) n) k
 
 weighed : (f : List ℤ → Kern) → ((ws : List ℤ) → w.Every w.IsStart ws → IsKernel (f ws)) → (n : ℕ)
-    → Gives (form.Seen f (g.Round (λ m. form.Commas form.Value) n)) IsKernel
+    → Gives (form.Seen f (Round (λ m. form.Commas form.Value) n)) IsKernel
 weighed f k n = gives-seen f IsKernel (gives-enclosed _ _ (λ m. gives-commas value-start) n) k
 
 fused : (braced : Kern → List Tok → Type 0) → Gives braced IsKernel → (n : ℕ) → Gives (g.IsFused braced n) IsKernel
@@ -305,7 +269,7 @@ named = gives-tested is_name form.Name w.IsNamed (λ v h. h)
 named-var : Gives t.IsVar w.IsNamed
 named-var = gives-tested is_name form.Var w.IsNamed (λ v h. h)
 
-flat-after : (n : ℕ) (word : List ℕ) → Gives (t.FlatAfter n word) (λ x. w.IsCount (w.flat_width x))
+flat-after : (n : ℕ) (word : List ℕ) → Gives (t.FlatAfter n word) (λ x. w.IsCount (width_of x))
 flat-after n word =
     gives-choose (bytes_eq word (codes "rows")) (gives-seen Rows _ (gives-enclosed _ _ (λ m. count) n) (λ k h. h))
     (gives-choose (bytes_eq word (codes "stream")) (gives-seen Stream _ (gives-enclosed _ _ (λ m. count) n) (λ k h. h))

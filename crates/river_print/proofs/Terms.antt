@@ -1,6 +1,6 @@
 -- Expressions and bodies, printed and read.
 use Rattle.std.proofs.Common.{◌≡◌, ℕ, zero, suc, ◌+◌, ◌<◌, ◌≤◌, true, List, [], ◌∷◌, ◌++◌, length, refl, sym, ap, subst, arith, append_assoc}
-use Rattle.std.specs.Prelude.{codes, map, Some, None}
+use Rattle.std.specs.Prelude.{codes, map, Option, Some, None}
 use Rattle.std.specs.Fmt.{decimal}
 use Rattle.work_code.specs.Lexis.{is_letter, is_word, is_digit}
 use Rattle.work_code.specs.Printed.{text_of, items_text, step_text, body_text, more_text, else_text}
@@ -11,25 +11,20 @@ use Rattle.work_code.specs.declared.expr.BinOp.{BinOp}
 use Rattle.work_code.specs.declared.expr.BinOp.TheVariants as op
 use Rattle.work_code.specs.declared.sign.Symbol.TheVariants as s
 use Rattle.work_code.proofs.Spelled.{is_name_text, blank_follows}
-use Rattle.text_forms.specs.Expressions.{sign_of}
 use Rattle.text_forms.specs.Forms as form
-use Rattle.text_forms.proofs.PrintedExpr.{IsWritten, printed, spoken_of, printed-is, spells-term}
-use Rattle.river_text.specs.Kernels as g
-use Rattle.river_text.specs.Kernels.{IsStmt, term_of}
+use Rattle.text_blocks.specs.Parts.{Round}
+use Rattle.text_blocks.specs.Seven.{sign_of}
+use Rattle.text_blocks.specs.Statements.{IsBranch, IsRest}
+use Rattle.river_text.specs.Bodies as bodies
+use Rattle.river_text.specs.Bodies.{IsStmt}
+use Rattle.river_text.specs.Expressions as exprs
 use Rattle.river_print.specs.Writable as w
-use Rattle.river_print.proofs.Listings.{Item, is_value-below, pieces, items-commas, count-formed}
+use Rattle.river_print.proofs.Listings.{Item, pieces, items-commas, count-formed}
+use Rattle.river_print.proofs.PrintedExpr.{printed, printed-is, spells-term}
 use Rattle.river_print.proofs.Pieces.{Inside, inside-then, inside-name, inside-number, inside-symbol, IsPlain, plain-Open, plain-Close, plain-OpenBracket}
 use Rattle.river_print.proofs.Pieces.{plain-CloseBracket, plain-Minus, plain-Assign, Piece, EndsWord, piece-nothing, ends-nothing, piece-then, symbol-first}
 use Rattle.river_print.proofs.Pieces.{word-first, number-first, blank-first, open-first, close-first, semicolon-first, square-first, square_close-first, braced}
 use Rattle.river_print.proofs.Pieces.{braced-nothing, ends-blank, ends-close, ends-square, ends-square_close, ends-semicolon, items_toks, pieces-items}
-
-written : (t : Term) → w.IsSpoken t → IsWritten t
-written (Const z) h = h
-written (Input place) h = h
-written (Slot slot) h = h
-written (Neg t) h = written t h
-written (Not t) h = written t h
-written (Bin o a b) h = (written a h.0, written b h.1)
 
 plain-sign : (o : BinOp) → IsPlain (sign_of o)
 plain-sign op.Add = record { no_open = refl; no_close = refl }
@@ -71,21 +66,13 @@ inside-printed (Bin o a b) =
     (inside-then (symbol (sign_of o) ∷ []) (printed b) (inside-symbol (sign_of o) (plain-sign o)) (inside-printed b)))
 
 pub term-piece : (t : Term) → w.IsTerm t → Piece (text_of t) (printed t)
-term-piece t h = record { spells = spells-term t (written t h.0); inside = inside-printed t }
+term-piece t h = record { spells = spells-term t h.0; inside = inside-printed t }
 
-term_of-spoken : (t : Term) → w.IsSpoken t → term_of (spoken_of t) ≡ Some t
-term_of-spoken (Const z) h = rw (h.1, is_value-below h.0 h.2) refl
-term_of-spoken (Input place) h = refl
-term_of-spoken (Slot slot) h = refl
-term_of-spoken (Neg t) h = rw (term_of-spoken t h) refl
-term_of-spoken (Not t) h = rw (term_of-spoken t h) refl
-term_of-spoken (Bin o a b) h = rw (term_of-spoken a h.0, term_of-spoken b h.1) refl
-
-pub term-formed : (n : ℕ) (t : Term) → 64 ≤ n → w.IsTerm t → g.IsTerm n t (printed t)
-term-formed n t room h = record { value = spoken_of t; is = term_of-spoken t h.0; formed = printed-is t n (written t h.0) h.1 (omega (arith, h.1)) }
+pub term-formed : (n : ℕ) (t : Term) → 64 ≤ n → w.IsTerm t → exprs.IsTerm n t (printed t)
+term-formed n t room h = printed-is t n h.0 h.1 (omega (arith, h.1))
 
 -- an expression
-pub term-item : (n : ℕ) → 64 ≤ n → (t : Term) → w.IsTerm t → Item (g.IsTerm n) text_of printed t
+pub term-item : (n : ℕ) → 64 ≤ n → (t : Term) → w.IsTerm t → Item (exprs.IsTerm n) text_of printed t
 term-item n room t h = record { piece = term-piece t h; formed = term-formed n t room h }
 
 -- ---- bodies
@@ -150,7 +137,7 @@ push-piece p ts count terms =
     let text = items_text (map text_of ts) in
     let last : Piece (codes ");") (symbol s.Close ∷ symbol s.Semicolon ∷ []) = close-first (codes ";") (symbol s.Semicolon ∷ []) (semicolon-first [] [] piece-nothing) in
     let values : Piece (text ++ codes ");") (items ++ symbol s.Close ∷ symbol s.Semicolon ∷ []) =
-    piece-then text items (codes ");") (symbol s.Close ∷ symbol s.Semicolon ∷ []) (pieces-items (map text_of ts) (map printed ts) (pieces (g.IsTerm 64) text_of printed w.IsTerm (term-item 64 (omega arith)) ts terms)) last (ends-close (codes ";")) in
+    piece-then text items (codes ");") (symbol s.Close ∷ symbol s.Semicolon ∷ []) (pieces-items (map text_of ts) (map printed ts) (pieces (exprs.IsTerm 64) text_of printed w.IsTerm (term-item 64 (omega arith)) ts terms)) last (ends-close (codes ";")) in
     let opened : Piece (codes " (" ++ (text ++ codes ");")) (symbol s.Open ∷ (items ++ symbol s.Close ∷ symbol s.Semicolon ∷ [])) =
     blank-first (codes "(" ++ (text ++ codes ");")) (symbol s.Open ∷ (items ++ symbol s.Close ∷ symbol s.Semicolon ∷ [])) (open-first (text ++ codes ");") (items ++ symbol s.Close ∷ symbol s.Semicolon ∷ []) values) in
     let counted : Piece (decimal p ++ (codes " (" ++ (text ++ codes ");"))) (number p ∷ symbol s.Open ∷ (items ++ symbol s.Close ∷ symbol s.Semicolon ∷ [])) =
@@ -209,7 +196,7 @@ in_turn-list (Then x xs) = ap (Then x) (in_turn-list xs)
 
 -- what is in round brackets, and what comes behind
 pub round-formed : {A : Type 0} (F : ℕ → A → List Tok → Type 0) (m : ℕ) (v : A) (ts : List Tok) → F m v ts
-    → g.Round F (suc m) v (symbol s.Open ∷ (ts ++ symbol s.Close ∷ []))
+    → Round F (suc m) v (symbol s.Open ∷ (ts ++ symbol s.Close ∷ []))
 round-formed F m v ts f = record { back = ts ++ symbol s.Close ∷ []; is = refl; formed = record { front = ts; is = refl; formed = f } }
 
 -- tokens behind a bracketed part
@@ -217,7 +204,7 @@ pub behind_round : (ts us : List Tok) → symbol s.Open ∷ (ts ++ symbol s.Clos
 behind_round ts us = ap (λ (l : List Tok). symbol s.Open ∷ l) (sym (append_assoc ts (symbol s.Close ∷ []) us))
 
 set-formed : (m k : ℕ) (t : Term) → w.IsCount k → w.IsTerm t → 64 ≤ m
-    → g.IsSet (suc m) (Set k t) (symbol s.OpenBracket ∷ number k ∷ symbol s.CloseBracket ∷ symbol s.Assign ∷ (printed t ++ symbol s.Semicolon ∷ []))
+    → bodies.IsSet (suc m) (Set k t) (symbol s.OpenBracket ∷ number k ∷ symbol s.CloseBracket ∷ symbol s.Assign ∷ (printed t ++ symbol s.Semicolon ∷ []))
 set-formed m k t count term room = record {
   value = (k, t);
   is = refl;
@@ -233,7 +220,7 @@ set-formed m k t count term room = record {
 }
 
 push-formed : (m p : ℕ) (ts : List Term) → w.IsCount p → 0 < length ts → w.Every w.IsTerm ts → 64 ≤ m
-    → g.IsPush (suc m) (Push p ts) (number p ∷ symbol s.Open ∷ (items_toks (map printed ts) ++ symbol s.Close ∷ symbol s.Semicolon ∷ []))
+    → bodies.IsPush (suc m) (Push p ts) (number p ∷ symbol s.Open ∷ (items_toks (map printed ts) ++ symbol s.Close ∷ symbol s.Semicolon ∷ []))
 push-formed m p ts count some terms room =
     let items = items_toks (map printed ts) in
     record {
@@ -248,29 +235,38 @@ push-formed m p ts count some terms room =
           front = symbol s.Open ∷ (items ++ symbol s.Close ∷ []);
           is = behind_round items (symbol s.Semicolon ∷ []);
           formed =
-              round-formed (λ k. form.Commas (g.IsTerm k)) m ts items (items-commas (g.IsTerm m) text_of printed w.IsTerm (term-item m room) ts some terms);
+              round-formed (λ k. form.Commas (exprs.IsTerm k)) m ts items (items-commas (exprs.IsTerm m) text_of printed w.IsTerm (term-item m room) ts some terms);
         };
       };
     }
 
+-- the statements behind `else`, if there are some
+abbrev arm_of : Steps → Option Steps
+arm_of Done = None
+arm_of (Then x xs) = Some (Then x xs)
+
+arm-done : (xs : Steps) → bodies.or_done (arm_of xs) ≡ xs
+arm-done Done = refl
+arm-done (Then x xs) = refl
+
 if-formed : (body : ℕ → Steps → List Tok → Type 0) (m : ℕ) (c : Term) (a b : Steps) → w.IsTerm c → 64 ≤ m → body (suc m) a (body_toks a)
-    → form.Seen g.or_done (form.Maybe (form.AfterWord (codes "else") (body (suc m)))) b (else_toks b)
-    → g.IsIf body (suc m) (If c a b) (symbol s.Open ∷ (printed c ++ symbol s.Close ∷ (body_toks a ++ else_toks b)))
+    → form.Maybe (form.AfterWord (codes "else") (body (suc m))) (arm_of b) (else_toks b)
+    → IsBranch bodies.style bodies.holes body (suc m) (If c a b) (symbol s.Open ∷ (printed c ++ symbol s.Close ∷ (body_toks a ++ else_toks b)))
 if-formed body m c a b term room when otherwise = record {
-  value = (c, (a, b));
-  is = refl;
+  value = (c, (a, arm_of b));
+  is = ap (If c a) (sym (arm-done b));
   formed = record {
     front = symbol s.Open ∷ (printed c ++ symbol s.Close ∷ []);
     back = body_toks a ++ else_toks b;
     is = behind_round (printed c) (body_toks a ++ else_toks b);
-    first = round-formed g.IsTerm m c (printed c) (term-formed m c room term);
+    first = round-formed exprs.IsTerm m c (printed c) (term-formed m c room term);
     second = record { front = body_toks a; back = else_toks b; is = refl; first = when; second = otherwise };
   };
 }
 
 -- statements in braces, put together
 then-formed : (nest m : ℕ) (x : Step) (xs : Steps) → IsStmt nest m x (step_toks x) → form.Each (IsStmt nest m) (list_of xs) (rest_toks xs)
-    → g.IsBody nest (suc m) (Then x xs) (body_toks (Then x xs))
+    → bodies.IsBody nest (suc m) (Then x xs) (body_toks (Then x xs))
 then-formed nest m x xs first rest = record {
   back = (step_toks x ++ rest_toks xs) ++ symbol s.CloseBrace ∷ [];
   is = refl;
@@ -282,7 +278,7 @@ then-formed nest m x xs first rest = record {
 }
 
 mutual
-  unfolding IsStmt
+  unfolding IsRest
 
   stmt-formed : (nest m : ℕ) (x : Step) → w.IsStep x → w.depth_once x ≤ nest → nest + 65 ≤ m → IsStmt nest m x (step_toks x)
   stmt-formed zero zero x h d room = absurd (omega arith)
@@ -301,10 +297,10 @@ mutual
     back = symbol s.Open ∷ (printed c ++ symbol s.Close ∷ (body_toks a ++ else_toks b));
     is = refl;
     formed =
-        if-formed (g.IsBodyOf (IsStmt nest)) m c a b h.0 (omega arith) (body-formed nest (suc m) a h.1 (omega arith) (omega arith)) (else-formed nest (suc m) b h.2 (omega arith) (omega arith));
+        if-formed (bodies.IsBody nest) m c a b h.0 (omega arith) (body-formed nest (suc m) a h.1 (omega arith) (omega arith)) (else-formed nest (suc m) b h.2 (omega arith) (omega arith));
   }
 
-  pub body-formed : (nest n : ℕ) (xs : Steps) → w.IsSteps xs → w.depths xs ≤ nest → nest + 66 ≤ n → g.IsBody nest n xs (body_toks xs)
+  pub body-formed : (nest n : ℕ) (xs : Steps) → w.IsSteps xs → w.depths xs ≤ nest → nest + 66 ≤ n → bodies.IsBody nest n xs (body_toks xs)
   body-formed nest zero xs h d room = absurd (omega arith)
   body-formed nest (suc m) Done h d room =
       record { back = symbol s.CloseBrace ∷ []; is = refl; formed = record { front = []; is = refl; formed = record { value = []; is = refl; formed = refl } } }
@@ -317,12 +313,12 @@ mutual
       (step_toks x, rest_toks xs, refl, stmt-formed nest m x h.0 (omega arith) (omega arith), rest-formed nest m xs h.1 (omega arith) (omega arith))
 
   else-formed : (nest n : ℕ) (xs : Steps) → w.IsSteps xs → w.depths xs ≤ nest → nest + 66 ≤ n
-      → form.Seen g.or_done (form.Maybe (form.AfterWord (codes "else") (g.IsBody nest n))) xs (else_toks xs)
+      → form.Maybe (form.AfterWord (codes "else") (bodies.IsBody nest n)) (arm_of xs) (else_toks xs)
   else-formed nest zero xs h d room = absurd (omega arith)
-  else-formed nest (suc m) Done h d room = record { value = None; is = refl; formed = refl }
+  else-formed nest (suc m) Done h d room = refl
   else-formed nest (suc m) (Then x xs) h d room = record {
-    value = Some (Then x xs);
+    back = body_toks (Then x xs);
     is = refl;
     formed =
-        record { back = body_toks (Then x xs); is = refl; formed = then-formed nest m x xs (stmt-formed nest m x h.0 (omega arith) (omega arith)) (rest-formed nest m xs h.1 (omega arith) (omega arith)) };
+        then-formed nest m x xs (stmt-formed nest m x h.0 (omega arith) (omega arith)) (rest-formed nest m xs h.1 (omega arith) (omega arith));
   }

@@ -13,7 +13,6 @@ use Rattle.work_code.specs.declared.sign.Symbol.TheVariants as s
 use Rattle.work_code.proofs.Spelled.{Spells, Anything, NoWord, MayFollow, is_name_text, spells-then, spells-blank, spells-symbol, spells-name, spells-var}
 use Rattle.work_code.proofs.Spelled.{blank_follows}
 use Rattle.work_code.specs.Symbols.{symbol_bytes, long_symbol}
-use Rattle.text_forms.proofs.PrintedExpr.{blank-then}
 use Rattle.std.specs.Str.{bytes_eq}
 use Rattle.river_base.specs.Name.{is_name, name_eq}
 use Rattle.river_base.specs.declared.kind.FlatType.{FlatType}
@@ -25,15 +24,17 @@ use Rattle.kern_tables.specs.declared.kind.TableKind.TheVariants.{Sum, Collectio
 use Rattle.river_plan.specs.Forms.{Name, OpForm}
 use Rattle.river_plan.specs.declared.plan.Decl.{Decl}
 use Rattle.river_plan.specs.declared.plan.TableDecl.{TableDecl}
+use Rattle.river_kernels.specs.Fits.{width_of}
 use Rattle.text_forms.specs.Forms as form
+use Rattle.text_blocks.specs.Parts.{Round}
 use Rattle.river_print.specs.Printed.{list_text, flat_text, type_text, table_text, var_text, decl_line, table_line, var_line, ports_text, op_line, kernel_text}
-use Rattle.river_text.specs.Kernels as g
 use Rattle.river_text.specs.Plans as p
 use Rattle.river_print.specs.Writable as w
 use Rattle.river_print.proofs.Listings.{Item, pieces, items-listing, count_tok, count-formed, count-item}
 use Rattle.river_print.proofs.Pieces.{line_is, all_first, all_first-append, Inside, inside-name, inside-var, Piece, AllPieces, braced, more_toks, items_toks}
 use Rattle.river_print.proofs.Kernels.{listed, list-last, worded, kernel_toks, kernel-piece, braced-formed}
 use Rattle.river_print.proofs.Terms.{round-formed, behind_round}
+use Rattle.river_print.proofs.PrintedExpr.{blank-then}
 
 -- ---- names
 
@@ -109,7 +110,7 @@ colon-line u us y = line-symbol s.Colon (codes " " ++ u) us (line-blank u us y) 
 -- ---- types
 
 one_count : (n : ℕ) → w.IsCount n → AllPieces (decimal n ∷ []) (count_tok n ∷ [])
-one_count n h = pieces g.Count decimal count_tok w.IsCount count-item (n ∷ []) (h, tt)
+one_count n h = pieces form.Count decimal count_tok w.IsCount count-item (n ∷ []) (h, tt)
 
 unfoldable pub flat_toks : FlatType → List Tok
 flat_toks (Rows n) = name (codes "rows") ∷ listed (count_tok n ∷ []) []
@@ -136,7 +137,7 @@ is_pack : is_name_text (codes "pack") ≡ true
 unfolding is_letter is_word is_digit
 is_pack = refl
 
-flat-piece : (t : FlatType) → w.IsCount (w.flat_width t) → Piece (flat_text t) (flat_toks t)
+flat-piece : (t : FlatType) → w.IsCount (width_of t) → Piece (flat_text t) (flat_toks t)
 unfolding flat_toks
 flat-piece (Rows n) h = worded (codes "rows") (decimal n ∷ []) (count_tok n ∷ []) is_rows (one_count n h)
 flat-piece (Stream n) h = worded (codes "stream") (decimal n ∷ []) (count_tok n ∷ []) is_stream (one_count n h)
@@ -147,13 +148,13 @@ unfolding type_toks
 type-piece (Flat t) h = flat-piece t h
 type-piece (Pack t) h = worded (codes "pack") (flat_text t ∷ []) (flat_toks t ∷ []) is_pack (flat-piece t h, tt)
 
-count-round : (n : ℕ) → w.IsCount n → g.Round (λ m. g.Count) 128 n (listed (count_tok n ∷ []) [])
-count-round n h = round-formed (λ k. g.Count) 127 n (count_tok n) (count-formed n h)
+count-round : (n : ℕ) → w.IsCount n → Round (λ m. form.Count) 128 n (listed (count_tok n ∷ []) [])
+count-round n h = round-formed (λ k. form.Count) 127 n (count_tok n) (count-formed n h)
 
-inner_count : (n : ℕ) → w.IsCount n → g.Round (λ m. g.Count) 127 n (listed (count_tok n ∷ []) [])
-inner_count n h = round-formed (λ k. g.Count) 126 n (count_tok n) (count-formed n h)
+inner_count : (n : ℕ) → w.IsCount n → Round (λ m. form.Count) 127 n (listed (count_tok n ∷ []) [])
+inner_count n h = round-formed (λ k. form.Count) 126 n (count_tok n) (count-formed n h)
 
-flat-formed : (t : FlatType) → w.IsCount (w.flat_width t) → p.IsFlat 127 t (flat_toks t)
+flat-formed : (t : FlatType) → w.IsCount (width_of t) → p.IsFlat 127 t (flat_toks t)
 unfolding flat_toks
 flat-formed (Rows n) h =
     record { word = codes "rows"; back = listed (count_tok n ∷ []) []; is = refl; formed = record { value = n; is = refl; formed = inner_count n h } }
@@ -175,7 +176,7 @@ type-formed (Pack t) h = record {
   back = listed (flat_toks t ∷ []) [];
   is = refl;
   formed =
-      record { value = t; is = refl; formed = subst (λ (l : List Tok). g.Round p.IsFlat 128 t (symbol s.Open ∷ (l ++ symbol s.Close ∷ []))) (sym (append-nil (flat_toks t))) (round-formed p.IsFlat 127 t (flat_toks t) (flat-formed t h)) };
+      record { value = t; is = refl; formed = subst (λ (l : List Tok). Round p.IsFlat 128 t (symbol s.Open ∷ (l ++ symbol s.Close ∷ []))) (sym (append-nil (flat_toks t))) (round-formed p.IsFlat 127 t (flat_toks t) (flat-formed t h)) };
 }
 
 -- ---- declarations
@@ -268,7 +269,7 @@ unfolding kind_toks
 kind-piece (Sum k) h = worded (codes "sum") (decimal k ∷ []) (count_tok k ∷ []) is_sum (one_count k h)
 kind-piece (Collection k) h = worded (codes "collection") (decimal k ∷ []) (count_tok k ∷ []) is_collection (one_count k h)
 kind-piece (Maximum best k) h =
-    worded (codes "maximum") (decimal best ∷ decimal k ∷ []) (count_tok best ∷ count_tok k ∷ []) is_maximum (pieces g.Count decimal count_tok w.IsCount count-item (best ∷ k ∷ []) (h.0, (h.1, tt)))
+    worded (codes "maximum") (decimal best ∷ decimal k ∷ []) (count_tok best ∷ count_tok k ∷ []) is_maximum (pieces form.Count decimal count_tok w.IsCount count-item (best ∷ k ∷ []) (h.0, (h.1, tt)))
 
 kind-formed : (t : TableKind) → w.IsKind t → form.Headed p.KindAfter t (kind_toks t)
 unfolding kind_toks
@@ -283,7 +284,7 @@ kind-formed (Maximum best k) h = record {
   formed = record {
     value = (best, k);
     is = refl;
-    formed = round-formed (λ k. form.Both g.Count (form.After (s.Comma ∷ []) g.Count)) 127 (best, k) (number best ∷ symbol s.Comma ∷ number k ∷ [])
+    formed = round-formed (λ k. form.Both form.Count (form.After (s.Comma ∷ []) form.Count)) 127 (best, k) (number best ∷ symbol s.Comma ∷ number k ∷ [])
         (record { front = number best ∷ []; back = symbol s.Comma ∷ number k ∷ []; is = refl; first = count-formed best h.0; second = record { back = number k ∷ []; is = refl; formed = count-formed k h.1 } });
   };
 }
@@ -562,7 +563,7 @@ abbrev op_back : OpForm → List Tok
 op_back op =
     name op.label ∷ symbol s.Colon ∷ listed (port_toks op.writes op.vars) (symbol s.Less ∷ symbol s.Minus ∷ listed (port_toks op.reads op.vars) (kernel_braced op))
 
-ports-formed : (qs vs : List Name) → w.Every w.IsNamed qs → w.Every w.IsNamed vs → g.Round (λ m. p.IsPorts) 128 (qs, vs) (listed (port_toks qs vs) [])
+ports-formed : (qs vs : List Name) → w.Every w.IsNamed qs → w.Every w.IsNamed vs → Round (λ m. p.IsPorts) 128 (qs, vs) (listed (port_toks qs vs) [])
 ports-formed qs vs h k =
     round-formed (λ k. p.IsPorts) 127 (qs, vs) (items_toks (port_toks qs vs)) (items-listing p.IsPort port_text port_tok IsPortNamed port-item (ports qs vs) (ports-named qs vs h k))
 

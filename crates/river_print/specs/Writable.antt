@@ -3,8 +3,6 @@ use Rattle.std.specs.Prelude.{◌≡◌, ℕ, suc, ◌<◌, ◌≤◌, ℤ, pos,
 use Rattle.work_code.specs.Term.{Term, Const, Input, Slot, Neg, Not, Bin, depth_of}
 use Rattle.work_code.specs.Steps.{Step, Steps, Set, Push, If, Done, Then}
 use Rattle.river_base.specs.Name.{is_name}
-use Rattle.river_base.specs.declared.kind.FlatType.{FlatType}
-use Rattle.river_base.specs.declared.kind.FlatType.TheVariants.{Rows, Stream, Relation}
 use Rattle.river_base.specs.declared.kind.QueueType.{QueueType}
 use Rattle.river_base.specs.declared.kind.QueueType.TheVariants.{Flat, Pack}
 use Rattle.kern_tables.specs.declared.kind.TableKind.{TableKind}
@@ -12,6 +10,7 @@ use Rattle.kern_tables.specs.declared.kind.TableKind.TheVariants.{Sum, Collectio
 use Rattle.kern_rows.specs.Forms.{CodeForm, FilterForm}
 use Rattle.kern_bags.specs.declared.kernel.Window.{Window}
 use Rattle.kern_bags.specs.declared.kernel.Window.TheVariants.{Now, Range, Unbounded, Latest}
+use Rattle.river_kernels.specs.Fits.{width_of}
 use Rattle.river_kernels.specs.Kern.{Kern}
 use Rattle.river_kernels.specs.Kern as kern
 use Rattle.river_kernels.specs.Limits.{nesting}
@@ -110,14 +109,9 @@ IsKernel (kern.fused a b at) = IsCount at × IsKernel a × IsKernel b
 abbrev pub IsNamed : Name → Type 0
 IsNamed w = is_name w ≡ true
 
-abbrev pub flat_width : FlatType → ℕ
-flat_width (Rows w) = w
-flat_width (Stream w) = w
-flat_width (Relation w) = w
-
 abbrev pub IsType : QueueType → Type 0
-IsType (Flat t) = IsCount (flat_width t)
-IsType (Pack t) = IsCount (flat_width t)
+IsType (Flat t) = IsCount (width_of t)
+IsType (Pack t) = IsCount (width_of t)
 
 abbrev pub IsDecl : Decl → Type 0
 IsDecl d = IsNamed d.name × IsType d.kind

@@ -7,7 +7,8 @@ ghost use Rattle.kern_rows.specs.Forms.{code_form, filter_form};
 ghost use Rattle.river_kernels.specs.Kern.{kern_of};
 ghost use Rattle.river_plan.specs.Forms.{plan_form, op_form};
 ghost use Rattle.river_print.specs.Ranged.{IsRanged, IsRangedTerm, IsRangedStep, IsRangedSteps, IsRangedBody, IsRangedCode, IsRangedFilter, IsRangedWindow, IsRangedKernel, IsRangedOp};
-ghost use Rattle.river_print.specs.Writable.{Every, IsCount, IsStart, IsNamed, IsDecl, IsType, IsTable, IsKind, flat_width};
+ghost use Rattle.river_print.specs.Writable.{Every, IsCount, IsStart, IsNamed, IsDecl, IsType, IsTable, IsKind};
+ghost use Rattle.river_kernels.specs.Fits.{width_of};
 
 use kern_bags::Window;
 use kern_rows::{CodeKernel, Filter};
@@ -67,7 +68,7 @@ fn read_type(kind: QueueType)
 }
 
 fn read_flat(flat: FlatType)
-    ensures { IsCount (flat_width flat) }
+    ensures { IsCount (width_of flat) }
 {
     match flat {
         FlatType::Rows(_width) | FlatType::Stream(_width) | FlatType::Relation(_width) => {}

@@ -1,4 +1,3 @@
-pub mod Bodies
 pub mod Braces
 pub mod Fronts
 pub mod Kernels

@@ -11,8 +11,10 @@ use Rattle.text_forms.proofs.Many.{comma-next, comma-stop, comma-bad}
 use Rattle.text_forms.proofs.Symbols.{begins_with-is}
 use Rattle.river_text.specs.declared.number.Kind.{Kind}
 use Rattle.river_text.specs.declared.number.Kind.TheVariants as kind
-use Rattle.river_text.specs.ReadKernels.{kind_at, term_at}
-use Rattle.river_text.proofs.Kernels.{exact-width, exact-signed, exact-term}
+use Rattle.river_text.specs.ExactExpressions.{exact-term}
+use Rattle.river_text.specs.Expressions.{term_at}
+use Rattle.river_text.specs.ReadKernels.{kind_at}
+use Rattle.river_text.proofs.Kernels.{exact-width, exact-signed}
 use Rattle.work_code.specs.Term.{Term}
 use Rattle.text_forms.proofs.Exact.{exact-value}
 

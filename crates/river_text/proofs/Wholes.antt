@@ -2,12 +2,12 @@
 use Rattle.std.proofs.Common.{◌≡◌, ℕ, ◌<◌, ◌≤◌, List, [], ◌∷◌, Bool, true, false, cond, Some, None, Result, Ok, Err, refl, sym, ap, ◌∙◌, subst, arith}
 use Rattle.std.specs.Prelude.{nat_le, ◌↔◌}
 use Rattle.work_code.specs.Tok.{Tok}
+use Rattle.text_forms.specs.Gives.{Makes}
 use Rattle.text_forms.specs.Texts.{whole, ended}
 use Rattle.text_forms.specs.declared.fault.Fault.{Fault}
 use Rattle.text_forms.specs.declared.fault.Fault.TheVariants.{Syntax}
 use Rattle.river_text.specs.declared.entry.Entry as read
 use Rattle.river_text.specs.Entries.{entry_of}
-use Rattle.river_text.specs.Made.{Makes}
 use Rattle.river_text.specs.Plans.{Entry, stage_of, is_late}
 use Rattle.river_text.specs.ReadPlans.{unit_at, unit_from}
 

@@ -1,51 +1,17 @@
 -- The grammar of kernels in River text. `n` is how many more brackets may be open.
-use Rattle.std.specs.Prelude.{ℕ, zero, suc, ℤ, pos, negsuc, neg_ℤ, List, [], ◌∷◌, Option, None, Some, codes, if◌then◌else◌}
+use Rattle.std.specs.Prelude.{ℕ, zero, suc, ℤ, pos, negsuc, neg_ℤ, List, [], ◌∷◌, codes}
 use Rattle.std.specs.Str.{bytes_eq}
 use Rattle.work_code.specs.Tok.{Tok}
-use Rattle.work_code.specs.Term.{Term}
-use Rattle.work_code.specs.Term as term
-use Rattle.work_code.specs.Steps.{Step, Steps, Set, Push, If, Done, in_turn}
+use Rattle.work_code.specs.Steps.{Steps}
 use Rattle.work_code.specs.declared.sign.Symbol.TheVariants as s
 use Rattle.kern_bags.specs.declared.kernel.Window.TheVariants.{Now, Range, Unbounded, Latest}
 use Rattle.kern_bags.specs.declared.kernel.Streamer.TheVariants.{Istream, Dstream, Rstream}
 use Rattle.river_kernels.specs.Kern.{Kern}
 use Rattle.river_kernels.specs.Kern as kern
-use Rattle.text_forms.specs.declared.language.Language.TheVariants.{River}
-use Rattle.text_forms.specs.Expressions.{IsExpr}
-use Rattle.text_forms.specs.Parse.{is_count, is_value}
-use Rattle.text_forms.specs.Tree.{Spoken}
-use Rattle.text_forms.specs.Tree as tree
-use Rattle.text_forms.specs.Forms.{Number, Value, Nothing, Never, Both, After, Before, AfterWord, Tested, Seen, Known, Merged, Maybe, Each, Commas, Listing}
-use Rattle.text_forms.specs.Forms.{Choose, Headed, Enclosed}
-
--- an expression of work code, if it has no other leaves than these
-abbrev pub both_terms : (Term → Term → Term) → Option Term → Option Term → Option Term
-both_terms f (Some a) (Some b) = Some (f a b)
-both_terms f (Some a) None = None
-both_terms f None b = None
-
-abbrev pub one_term : (Term → Term) → Option Term → Option Term
-one_term f (Some a) = Some (f a)
-one_term f None = None
-
-abbrev pub term_of : Spoken → Option Term
-term_of (tree.Number v) = if is_value v then Some (term.Const (pos v)) else None
-term_of (tree.Name text) = None
-term_of (tree.Input k) = Some (term.Input k)
-term_of (tree.Slot k) = Some (term.Slot k)
-term_of (tree.Peek t) = None
-term_of tree.Pop = None
-term_of (tree.Neg t) = one_term term.Neg (term_of t)
-term_of (tree.Not t) = one_term term.Not (term_of t)
-term_of (tree.Bin o a b) = both_terms (term.Bin o) (term_of a) (term_of b)
-
--- e
-abbrev pub IsTerm : ℕ → Term → List Tok → Type 0
-IsTerm n = Known term_of (IsExpr River n)
-
--- N that counts something
-abbrev pub Count : ℕ → List Tok → Type 0
-Count = Tested is_count Number
+use Rattle.text_forms.specs.Forms.{Count, Value, Nothing, Never, Both, After, Before, AfterWord, Seen, Merged, Commas, Listing, Choose, Headed}
+use Rattle.text_blocks.specs.Parts.{Round}
+use Rattle.river_text.specs.Bodies.{IsBody}
+use Rattle.river_text.specs.Expressions.{IsTerm}
 
 -- N that is a width
 abbrev pub Width : ℤ → List Tok → Type 0
@@ -59,54 +25,9 @@ least = negsuc 9223372036854775807
 abbrev pub Signed : ℤ → List Tok → Type 0
 Signed = Merged (After (s.Minus ∷ []) (Seen neg_ℤ Value)) (Merged (AfterWord (codes "min") (Nothing least)) Value)
 
--- "(" .. ")"
-abbrev pub Round : {A : Type 0} → (ℕ → A → List Tok → Type 0) → ℕ → A → List Tok → Type 0
-Round F = Enclosed s.Open s.Close F
-
 -- starts = "(" [signed {"," signed}] ")"
 abbrev pub IsStarts : ℕ → List ℤ → List Tok → Type 0
 IsStarts = Round (λ m. Listing Signed)
-
--- "slot" "[" N "]" "=" e ";"
-abbrev pub made_set : ℕ × Term → Step
-made_set v = Set v.0 v.1
-
-abbrev pub IsSet : ℕ → Step → List Tok → Type 0
-IsSet n = Seen made_set (Both (Enclosed s.OpenBracket s.CloseBracket (λ m. Count) n) (After (s.Assign ∷ []) (Before (IsTerm n) (s.Semicolon ∷ []))))
-
--- "push" N "(" e {"," e} ")" ";"
-abbrev pub made_push : ℕ × List Term → Step
-made_push v = Push v.0 v.1
-
-abbrev pub IsPush : ℕ → Step → List Tok → Type 0
-IsPush n = Seen made_push (Both Count (Before (Round (λ m. Commas (IsTerm m)) n) (s.Semicolon ∷ [])))
-
--- "if" "(" e ")" body [ "else" body ]
-abbrev pub or_done : Option Steps → Steps
-or_done None = Done
-or_done (Some steps) = steps
-
-abbrev pub made_if : Term × (Steps × Steps) → Step
-made_if v = If v.0 v.1.0 v.1.1
-
-abbrev pub IsIf : (ℕ → Steps → List Tok → Type 0) → ℕ → Step → List Tok → Type 0
-IsIf body n = Seen made_if (Both (Round IsTerm n) (Both (body n) (Seen or_done (Maybe (AfterWord (codes "else") (body n))))))
-
--- body = "{" { stmt } "}"
-abbrev pub IsBodyOf : (ℕ → Step → List Tok → Type 0) → ℕ → Steps → List Tok → Type 0
-IsBodyOf stmt n = Enclosed s.OpenBrace s.CloseBrace (λ m. Seen in_turn (Each (stmt m))) n
-
--- stmt, where `if` may nest so deep
-unfoldable pub IsStmt : (nest n : ℕ) → Step → List Tok → Type 0
-IsStmt zero n =
-    Headed (λ w. Choose (bytes_eq w (codes "slot")) (IsSet n) (Choose (bytes_eq w (codes "push")) (IsPush n)
-    (Choose (bytes_eq w (codes "if")) Never Never)))
-IsStmt (suc nest) n =
-    Headed (λ w. Choose (bytes_eq w (codes "slot")) (IsSet n) (Choose (bytes_eq w (codes "push")) (IsPush n)
-    (Choose (bytes_eq w (codes "if")) (IsIf (IsBodyOf (IsStmt nest)) n) Never)))
-
-abbrev pub IsBody : (nest n : ℕ) → Steps → List Tok → Type 0
-IsBody nest n = IsBodyOf (IsStmt nest) n
 
 -- "(" N "," N ")" "(" [N {"," N}] ")" starts body
 abbrev pub made_code : (ℕ × ℕ) × (List ℤ × (List ℤ × Steps)) → Kern

@@ -12,6 +12,9 @@ use Rattle.river_text.specs.Meaning.{plan_in}
 use Rattle.river_text.specs.Plans.{IsText, IsUnitAt, next_stage}
 use Rattle.river_text.specs.declared.river_fault.RiverFault.{RiverFault}
 use Rattle.river_text.specs.declared.river_fault.RiverFault.TheVariants.{Text, Plan, NoMemory}
+use Rattle.text_forms.specs.Exact.{Exact}
+use Rattle.text_blocks.specs.Seven.{Ends}
+use Rattle.river_text.specs.Expressions.{IsTerm, term_at}
 
 -- a text stands for one plan at most
 abbrev pub OnePlan : Type 0
@@ -37,3 +40,8 @@ Has text (Err NoMemory) = ⊥
 -- what is read is the grammar: the meaning of a text is what the text has, and nothing else
 abbrev pub MeansWhatItHas : Type 0
 MeansWhatItHas = (text : List ℕ) (meant : Result PlanForm RiverFault) → (plan_in text ≡ meant) ↔ Has text meant
+
+-- What is read as an expression is one by the grammar; and an expression is read, with the tree that the grammar says,
+-- wherever no operator follows.
+abbrev pub ExpressionsAreExact : Type 0
+ExpressionsAreExact = (n : ℕ) → Exact (IsTerm n) (term_at n) (Ends 6)

@@ -1,9 +1,12 @@
+pub mod Bodies
 pub mod Entries
+pub mod ExactBodies
+pub mod ExactExpressions
+pub mod Expressions
 pub mod Faults
 pub mod Kernels
 pub mod Laws
 pub mod Listed
-pub mod Made
 pub mod Meaning
 pub mod Plans
 pub mod ReadKernels

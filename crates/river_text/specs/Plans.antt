@@ -28,9 +28,10 @@ use Rattle.river_kernels.specs.Kern.{Kern}
 use Rattle.river_plan.specs.Forms.{OpForm, PlanForm, empty_form}
 use Rattle.river_plan.specs.declared.plan.Decl.{Decl}
 use Rattle.river_plan.specs.declared.plan.TableDecl.{TableDecl}
-use Rattle.text_forms.specs.Forms.{Name, Var, Never, Both, After, Before, Tested, Seen, Merged, Listing, Choose, Headed}
+use Rattle.text_forms.specs.Forms.{Count, Name, Var, Never, Both, After, Before, Tested, Seen, Merged, Listing, Choose, Headed}
 use Rattle.text_forms.specs.Texts.{AllFormed}
-use Rattle.river_text.specs.Kernels.{Count, Round, IsBraced}
+use Rattle.text_blocks.specs.Parts.{Round}
+use Rattle.river_text.specs.Kernels.{IsBraced}
 
 -- NAME and VAR, of at most 64 bytes
 abbrev pub IsName : List ℕ → List Tok → Type 0

@@ -1,24 +1,19 @@
 -- How kernels are read: the grammar in the words of reading functions.
-use Rattle.std.specs.Prelude.{ℕ, zero, suc, ℤ, pos, neg_ℤ, Bool, List, [], ◌∷◌, None, Some, codes, if◌then◌else◌}
+use Rattle.std.specs.Prelude.{ℕ, zero, suc, ℤ, pos, neg_ℤ, List, [], ◌∷◌, None, Some, codes, if◌then◌else◌}
 use Rattle.std.specs.Str.{bytes_eq}
-use Rattle.work_code.specs.Tok.{Tok}
-use Rattle.work_code.specs.Term.{Term}
-use Rattle.work_code.specs.Steps.{Step, Steps, in_turn}
 use Rattle.work_code.specs.declared.sign.Symbol.TheVariants as s
 use Rattle.kern_bags.specs.declared.kernel.Window.TheVariants.{Now, Range, Unbounded, Latest}
 use Rattle.kern_bags.specs.declared.kernel.Streamer.TheVariants.{Istream, Dstream, Rstream}
 use Rattle.river_kernels.specs.Kern.{Kern}
 use Rattle.river_kernels.specs.Kern as kern
-use Rattle.text_forms.specs.declared.language.Language.TheVariants.{River}
-use Rattle.text_forms.specs.Ladder.{expr_at}
-use Rattle.text_forms.specs.Parse.{Parse, begins_with, is_word_at, count_at, value_at, nothing_at, both, after, before, after_word, seen, known, merged, maybe}
-use Rattle.text_forms.specs.Parse.{many, commas, listing, headed, enclosed}
+use Rattle.text_forms.specs.Parse.{Parse, begins_with, is_word_at, count_at, value_at, nothing_at, both, after, before, after_word, seen, merged}
+use Rattle.text_forms.specs.Parse.{commas, listing, headed, enclosed}
+use Rattle.text_blocks.specs.Parts.{round_at}
+use Rattle.river_text.specs.Bodies.{terms_at, body_at}
+use Rattle.river_text.specs.Expressions.{term_at}
 use Rattle.river_text.specs.declared.number.Kind.{Kind}
 use Rattle.river_text.specs.declared.number.Kind.TheVariants.{Width as OfWidth, Signed as OfSigned, Value as OfValue}
-use Rattle.river_text.specs.Kernels.{term_of, least, made_set, made_push, made_if, or_done, made_code, made_filter, made_fused}
-
-abbrev pub term_at : ℕ → Parse Term
-term_at n = known term_of (expr_at River n)
+use Rattle.river_text.specs.Kernels.{least, made_code, made_filter, made_fused}
 
 abbrev pub width_at : Parse ℤ
 width_at = seen (λ n. pos n) count_at
@@ -45,62 +40,8 @@ widths_at n ts = round (λ m. listing s.Close width_at) n ts
 unfoldable pub weights_at : ℕ → Parse (List ℤ)
 weights_at n ts = round (λ m. commas value_at) n ts
 
-unfoldable pub some_terms_at : ℕ → Parse (List Term)
-some_terms_at n ts = commas (term_at n) ts
-
-unfoldable pub terms_at : ℕ → Parse (List Term)
-terms_at n ts = round some_terms_at n ts
-
 unfoldable pub number_at : ℕ → Parse ℕ
 number_at n ts = round (λ m. count_at) n ts
-
-unfoldable pub round_term_at : ℕ → Parse Term
-round_term_at n ts = round term_at n ts
-
-unfoldable pub set_at : ℕ → Parse Step
-set_at n ts = seen made_set (both (enclosed s.OpenBracket s.CloseBracket (λ m. count_at) n) (after (s.Assign ∷ []) (before (term_at n) (s.Semicolon ∷ [])))) ts
-
-unfoldable pub push_at : ℕ → Parse Step
-push_at n ts = seen made_push (both count_at (before (terms_at n) (s.Semicolon ∷ []))) ts
-
-abbrev pub at_close : List Tok → Bool
-at_close ts = begins_with s.CloseBrace ts
-
--- statements up to a closing brace
-abbrev pub body_of_at : (ℕ → Parse Steps) → ℕ → Parse Steps
-body_of_at stmts n = enclosed s.OpenBrace s.CloseBrace stmts n
-
-unfoldable pub else_at : (ℕ → Parse Steps) → ℕ → Parse Steps
-else_at body n ts = seen or_done (maybe (is_word_at (codes "else")) (after_word (codes "else") (body n))) ts
-
-unfoldable pub if_at : (ℕ → Parse Steps) → ℕ → Parse Step
-if_at body n ts = seen made_if (both (round_term_at n) (both (body n) (else_at body n))) ts
-
--- what stands behind the word of a statement; `branch` reads the rest of an `if`
-unfoldable pub stmt_after : Parse Step → ℕ → List ℕ → Parse Step
-stmt_after branch n w ts =
-    if bytes_eq w (codes "slot") then set_at n ts
-    else if bytes_eq w (codes "push") then push_at n ts
-    else if bytes_eq w (codes "if") then branch ts
-    else None
-
-abbrev pub steps_of : (ℕ → Parse Step) → ℕ → Parse Steps
-steps_of stmt n = seen in_turn (many at_close (stmt n))
-
-unfoldable pub stmt_at : (nest n : ℕ) → Parse Step
-stmt_at zero n = headed (stmt_after (λ ts. None) n)
-stmt_at (suc nest) n = headed (stmt_after (if_at (body_of_at (steps_of (stmt_at nest))) n) n)
-
-unfoldable pub stmts_at : (nest n : ℕ) → Parse Steps
-stmts_at nest n ts = steps_of (stmt_at nest) n ts
-
-unfoldable pub body_at : (nest n : ℕ) → Parse Steps
-body_at nest n ts = body_of_at (stmts_at nest) n ts
-
--- the rest of an `if`, where so many more may nest
-unfoldable pub branch_at : (nest n : ℕ) → Parse Step
-branch_at zero n ts = None
-branch_at (suc nest) n ts = if_at (body_at nest) n ts
 
 -- two numbers with a comma between them
 unfoldable pub two_at : Parse (ℕ × ℕ)
@@ -117,10 +58,10 @@ unfoldable pub rates_at : ℕ → Parse (ℕ × (ℕ × (ℕ × ℕ)))
 rates_at n ts = round (λ m. seen four (both two_at (after (s.Comma ∷ []) two_at))) n ts
 
 unfoldable pub code_at : ℕ → Parse Kern
-code_at n ts = seen made_code (both (pair_at n) (both (widths_at n) (both (starts_at n) (body_at 16 n)))) ts
+code_at n ts = seen made_code (both (pair_at n) (both (widths_at n) (both (starts_at n) (body_at n)))) ts
 
 unfoldable pub filter_at : ℕ → Parse Kern
-filter_at n ts = seen made_filter (both (rates_at n) (both (starts_at n) (body_at 16 n))) ts
+filter_at n ts = seen made_filter (both (rates_at n) (both (starts_at n) (body_at n))) ts
 
 unfoldable pub fused_at : Parse Kern → ℕ → Parse Kern
 fused_at braced n ts = seen made_fused (both (number_at n) (both braced braced)) ts
@@ -140,7 +81,7 @@ stream_after w ts =
 -- that, or behind the word of a kernel on relations
 unfoldable pub relation_after : ℕ → List ℕ → Parse Kern
 relation_after n w ts =
-    if bytes_eq w (codes "select") then seen kern.select (round_term_at n) ts
+    if bytes_eq w (codes "select") then seen kern.select (round_at term_at n) ts
     else if bytes_eq w (codes "project") then seen kern.project (terms_at n) ts
     else if bytes_eq w (codes "cross") then Some (kern.cross, ts)
     else stream_after w ts

@@ -1,59 +1,43 @@
 // Bodies of work code read.
-ghost use Rattle.std.specs.Prelude.{◌≡◌, ◌<◌, ◌≤◌, codes};
+ghost use Rattle.std.specs.Prelude.{◌≡◌, IfOk, map};
 ghost use Rattle.text_forms.specs.Gives.{Gives};
-ghost use Rattle.work_code.specs.Steps.{step, steps};
-ghost use Rattle.river_text.specs.ReadKernels.{set_at, push_at, stmt_at, stmts_at, stmt_after, branch_at, if_at, else_at, body_at};
+ghost use Rattle.text_blocks.specs.Parts.{optional};
+ghost use Rattle.work_code.specs.Steps.{step, steps, in_turn};
+ghost use Rattle.work_code.specs.Term.{term};
+ghost use Rattle.river_text.specs.Bodies.{set_at, push_at, plain_at, condition_at, opening, style, or_done, body_at};
 
-use crate::end::{ended, is};
-use crate::term::{expr, exprs, round_expr};
+use crate::term::{River, exprs};
+use river_base::NoMemory;
 use std::alloc::Global;
-use text_forms::{Fault, Reader};
-use work_code::{Stmt, Stmts, Symbol};
+use text_blocks::{Blocks, Opening, ended, place, round};
+use text_forms::{Fault, Reader, closed, is};
+use work_code::{Expr, Stmt, Stmts, Symbol};
 
 // What stands behind `slot`.
-#[tactic(auto, unfolding(crate::specs::ReadKernels::set_at))]
+#[tactic(auto, unfolding(crate::specs::Bodies::set_at))]
 fn set(reader: &mut Reader<'_>, alloc: Global, brackets: u32) -> Result<Stmt, Fault>
     ensures { Gives step result reader.new (set_at brackets reader.old) }
 {
-    reader.opens(Symbol::OpenBracket, brackets)?;
-    let slot = reader.count()?;
-    reader.expect(&[Symbol::CloseBracket])?;
+    let slot = place(reader, brackets)?;
     reader.expect(&[Symbol::Assign])?;
-    let value = expr(reader, alloc, brackets)?;
-    ended(reader, Stmt::Set { slot, value }, Symbol::Semicolon)
+    let value = ended(&River, reader, alloc, brackets)?;
+    Ok(Stmt::Set { slot, value })
 }
 
 // What stands behind `push`.
-#[tactic(auto, unfolding(crate::specs::ReadKernels::push_at))]
+#[tactic(auto, unfolding(crate::specs::Bodies::push_at))]
 fn push(reader: &mut Reader<'_>, alloc: Global, brackets: u32) -> Result<Stmt, Fault>
     ensures { Gives step result reader.new (push_at brackets reader.old) }
 {
     let port = reader.count()?;
     let values = exprs(reader, alloc, brackets)?;
-    ended(reader, Stmt::Push { port, values }, Symbol::Semicolon)
+    closed(reader, Stmt::Push { port, values }, Symbol::Semicolon)
 }
 
-// A statement, in which `if` may nest so deep.
-#[cycle(body)]
-#[tactic(auto, using(crate::proofs::Bodies::bodies))]
-fn stmt(reader: &mut Reader<'_>, alloc: Global, nest: u32, brackets: u32) -> Result<Stmt, Fault>
-    ensures { Gives step result reader.new (stmt_at nest brackets reader.old) }
-{
-    let word = reader.name()?;
-    stmt_after(reader, alloc, nest, brackets, word)
-}
-
-// What stands behind this word of a statement.
-#[cycle(body)]
-#[tactic(auto, unfolding(crate::specs::ReadKernels::stmt_after))]
-fn stmt_after(
-    reader: &mut Reader<'_>,
-    alloc: Global,
-    nest: u32,
-    brackets: u32,
-    word: &[u8],
-) -> Result<Stmt, Fault>
-    ensures { Gives step result reader.new (stmt_after (branch_at nest brackets) brackets word.now reader.old) }
+// What stands behind the first word of a statement that is no `if`.
+#[tactic(auto, unfolding(crate::specs::Bodies::plain_at))]
+fn plain(reader: &mut Reader<'_>, alloc: Global, brackets: u32, word: &[u8]) -> Result<Stmt, Fault>
+    ensures { Gives step result reader.new (plain_at brackets word.now reader.old) }
 {
     if is(word, b"slot") {
         return set(reader, alloc, brackets);
@@ -61,70 +45,140 @@ fn stmt_after(
     if is(word, b"push") {
         return push(reader, alloc, brackets);
     }
-    if is(word, b"if") {
-        return branch(reader, alloc, nest, brackets);
-    }
     Err(Fault::Syntax)
 }
 
-// What stands behind `if`.
-#[cycle(body)]
-#[tactic(auto, unfolding(crate::specs::ReadKernels::if_at), using(crate::proofs::Bodies::bodies))]
-fn branch(reader: &mut Reader<'_>, alloc: Global, nest: u32, brackets: u32) -> Result<Stmt, Fault>
-    ensures { Gives step result reader.new (branch_at nest brackets reader.old) }
+// The statements behind `else`, or none.
+#[tactic(auto, using(crate::proofs::Trees::trees))]
+fn or_none(alloc: Global, no: Option<Stmts>) -> Stmts
+    ensures { steps result ≡ or_done (optional steps no) }
 {
-    if nest == 0 {
-        return Err(Fault::Syntax);
+    match no {
+        Some(no) => no,
+        None => Stmts::new(alloc),
     }
-    let cond = round_expr(reader, alloc, brackets)?;
-    let yes = body(reader, alloc, nest - 1, brackets)?;
-    let no = otherwise(reader, alloc, nest - 1, brackets)?;
-    Ok(Stmt::If { cond, yes, no })
 }
 
-// `else` and a body, or nothing.
-#[cycle(body)]
-#[tactic(auto, unfolding(crate::specs::ReadKernels::else_at))]
-fn otherwise(
-    reader: &mut Reader<'_>,
-    alloc: Global,
-    nest: u32,
-    brackets: u32,
-) -> Result<Stmts, Fault>
-    ensures { Gives steps result reader.new (else_at (body_at nest) brackets reader.old) }
+// These statements, one after another.
+#[tactic(auto, using(crate::proofs::Trees::trees))]
+fn gathered(alloc: Global, list: Vec<Stmt>) -> Result<Stmts, NoMemory>
+    ensures { IfOk result (λ all. steps all ≡ in_turn (map step list.items)) }
 {
-    if !reader.is_at_word(b"else") {
-        return Ok(Stmts::new(alloc));
+    let mut all = Stmts::new(alloc);
+    for one in list {
+        all.push(one)?;
     }
-    reader.skip();
-    body(reader, alloc, nest, brackets)
+    Ok(all)
 }
 
-/// `{` statements `}`, in which `if` may nest so deep.
-#[cycle(body)]
-#[tactic(auto, unfolding(crate::specs::ReadKernels::body_at))]
-pub fn body(
-    reader: &mut Reader<'_>,
-    alloc: Global,
-    nest: u32,
-    brackets: u32,
-) -> Result<Stmts, Fault>
-    ensures { Gives steps result reader.new (body_at nest brackets reader.old) }
-{
-    let inner = reader.opens(Symbol::OpenBrace, brackets)?;
-    let stmts = stmts(reader, alloc, nest, inner)?;
-    ended(reader, stmts, Symbol::CloseBrace)
+impl Blocks for River {
+    ghost use Rattle.work_code.specs.Steps.{Step, Steps};
+    ghost use Rattle.work_code.specs.Term.{Term};
+    ghost use Rattle.river_text.specs.Bodies.{holes};
+    ghost use Rattle.river_text.specs.ExactBodies.{exact-river};
+
+    type Condition = Expr;
+
+    type Head = Stmt;
+
+    type Statement = Stmt;
+
+    type Block = Stmts;
+
+    ghost ConditionTree = { Term };
+
+    ghost HeadTree = { Step };
+
+    ghost StatementTree = { Step };
+
+    ghost BlockTree = { Steps };
+
+    ghost condition_tree = { term };
+
+    ghost head_tree = { step };
+
+    ghost statement = { step };
+
+    ghost block = { steps };
+
+    ghost style = { λ _. style };
+
+    ghost holes = { λ _. holes };
+
+    ghost exact = { λ _. exact-river };
+
+    fn opening(&self, word: &[u8]) -> Opening
+        ensures { result ≡ opening word.now }
+    {
+        if is(word, b"if") {
+            Opening::Branch
+        } else {
+            Opening::Plain
+        }
+    }
+
+    fn condition(
+        &self,
+        reader: &mut Reader<'_>,
+        alloc: Global,
+        brackets: u32,
+    ) -> Result<Expr, Fault>
+        ensures { Gives term result reader.new (condition_at brackets reader.old) }
+    {
+        round(self, reader, alloc, brackets)
+    }
+
+    fn head(
+        &self,
+        _reader: &mut Reader<'_>,
+        _alloc: Global,
+        _brackets: u32,
+        _word: &[u8],
+    ) -> Result<Stmt, Fault> {
+        Err(Fault::Syntax)
+    }
+
+    fn plain(
+        &self,
+        reader: &mut Reader<'_>,
+        alloc: Global,
+        brackets: u32,
+        word: &[u8],
+    ) -> Result<Stmt, Fault> {
+        plain(reader, alloc, brackets, word)
+    }
+
+    #[tactic(auto, using(crate::proofs::Trees::trees))]
+    fn branch(
+        &self,
+        alloc: Global,
+        cond: Expr,
+        yes: Stmts,
+        no: Option<Stmts>,
+    ) -> Result<Stmt, NoMemory>
+        ensures { IfOk result (λ made. step made ≡ style.branch (term cond) (steps yes) (optional steps no)) }
+    {
+        let no = or_none(alloc, no);
+        Ok(Stmt::If { cond, yes, no })
+    }
+
+    fn repeat(&self, _alloc: Global, head: Stmt, _body: Stmts) -> Result<Stmt, NoMemory>
+        ensures { IfOk result (λ made. step made ≡ step head) }
+    {
+        Ok(head)
+    }
+
+    fn block(&self, alloc: Global, statements: Vec<Stmt>) -> Result<Stmts, NoMemory>
+        ensures { IfOk result (λ made. steps made ≡ in_turn (map step statements.items)) }
+    {
+        gathered(alloc, statements)
+    }
 }
 
-// Statements up to a closing brace.
-#[cycle(body)]
-#[tactic(auto, unfolding(crate::specs::ReadKernels::stmts_at), using(crate::proofs::Bodies::loops))]
-fn stmts(reader: &mut Reader<'_>, alloc: Global, nest: u32, brackets: u32) -> Result<Stmts, Fault>
-    ensures { Gives steps result reader.new (stmts_at nest brackets reader.old) }
+/// `{` statements `}`, in which `if` nests at most 16 deep.
+#[tactic(auto, unfolding(crate::specs::Bodies::body_at))]
+pub fn body(reader: &mut Reader<'_>, alloc: Global, brackets: u32) -> Result<Stmts, Fault>
+    ensures { Gives steps result reader.new (body_at brackets reader.old) }
 {
-    let mut list = Stmts::new(alloc);
-    'items: while !reader.is_at(Symbol::CloseBrace) {
-        list.push(stmt(reader, alloc, nest, brackets)?)?;
-    }
-    Ok(list)
+    text_blocks::block(&River, reader, alloc, 16, brackets)
 }

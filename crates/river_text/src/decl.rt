@@ -3,12 +3,11 @@ ghost use Rattle.std.specs.Prelude.{◌≡◌};
 ghost use Rattle.text_forms.specs.Gives.{Gives};
 ghost use Rattle.river_text.specs.ReadPlans.{river_name_at, river_var_at, flat_after, flat_at, packed_at, type_at, decl_at, kind_at, table_at, private_at};
 
-use crate::end::{ended, is};
 use crate::number::{number, pair};
 use kern_tables::TableKind;
 use river_base::{FlatType, Name, QueueType};
 use river_plan::{Decl, TableDecl};
-use text_forms::{Fault, Reader};
+use text_forms::{Fault, Reader, closed, is};
 use work_code::Symbol;
 
 /// How many brackets may be open in a unit.
@@ -71,7 +70,7 @@ fn packed(reader: &mut Reader<'_>) -> Result<FlatType, Fault>
 {
     let inner = reader.opens(Symbol::Open, BRACKETS)?;
     let kind = flat(reader, inner)?;
-    ended(reader, kind, Symbol::Close)
+    closed(reader, kind, Symbol::Close)
 }
 
 // A type.
@@ -94,7 +93,7 @@ pub fn decl(reader: &mut Reader<'_>) -> Result<Decl, Fault>
     let name = river_name(reader)?;
     reader.expect(&[Symbol::Colon])?;
     let kind = queue_type(reader)?;
-    ended(reader, Decl { name, kind }, Symbol::Semicolon)
+    closed(reader, Decl { name, kind }, Symbol::Semicolon)
 }
 
 // The kind of a table.
@@ -126,7 +125,7 @@ pub fn table(reader: &mut Reader<'_>) -> Result<TableDecl, Fault>
     let name = river_var(reader)?;
     reader.expect(&[Symbol::Colon])?;
     let kind = table_kind(reader)?;
-    ended(reader, TableDecl { name, kind }, Symbol::Semicolon)
+    closed(reader, TableDecl { name, kind }, Symbol::Semicolon)
 }
 
 /// The declaration of a private variable, behind its first word.
@@ -135,5 +134,5 @@ pub fn private(reader: &mut Reader<'_>) -> Result<Name, Fault>
     ensures { Gives (λ name. name) result reader.new (private_at reader.old) }
 {
     let name = river_var(reader)?;
-    ended(reader, name, Symbol::Semicolon)
+    closed(reader, name, Symbol::Semicolon)
 }

@@ -7,15 +7,14 @@ ghost use Rattle.river_plan.specs.Forms.{plan_form};
 ghost use Rattle.river_text.specs.Plans.{add, stage_of};
 ghost use Rattle.river_text.specs.ReadPlans.{unit_at, unit_from};
 ghost use Rattle.river_text.specs.Entries.{entry_of};
-ghost use Rattle.river_text.specs.Made.{Makes};
+ghost use Rattle.text_forms.specs.Gives.{Makes};
 
 use crate::decl::{decl, private, table};
-use crate::end::{is, kept};
 use crate::op::operator;
 use river_base::{Name, NoMemory};
 use river_plan::{Decl, Op, RawPlan, TableDecl};
 use std::alloc::Global;
-use text_forms::{Fault, Reader};
+use text_forms::{Fault, Reader, is, kept};
 use work_code::Lexeme;
 
 /// What a unit adds to a plan.

@@ -5,18 +5,15 @@ ghost use Rattle.river_kernels.specs.Kern.{kern_of};
 ghost use Rattle.river_text.specs.ReadKernels.{code_at, filter_at, fused_at, stream_after, relation_after, bag_after, range_at, braced_at, kernel_at};
 
 use crate::body::body;
-use crate::end::{ended, is};
 use crate::number::{number, pair, rates, starts, weights, widths};
-use crate::term::{exprs, round_expr};
+use crate::term::{River, exprs};
 use kern_bags::{Streamer, Window};
 use kern_rows::{CodeKernel, Filter};
 use river_kernels::Kernel;
 use std::alloc::Global;
-use text_forms::{Fault, Reader};
+use text_blocks::round;
+use text_forms::{Fault, Reader, closed, is};
 use work_code::{Code, Symbol};
-
-// How deep `if` may nest.
-const NEST: u32 = 16;
 
 // What stands behind `code`.
 #[tactic(auto, unfolding(crate::specs::ReadKernels::code_at))]
@@ -26,7 +23,7 @@ fn code(reader: &mut Reader<'_>, alloc: Global, brackets: u32) -> Result<Kernel,
     let (inputs, slots) = pair(reader, brackets)?;
     let outs = widths(reader, alloc, brackets)?;
     let starts = starts(reader, alloc, brackets)?;
-    let body = body(reader, alloc, NEST, brackets)?;
+    let body = body(reader, alloc, brackets)?;
     let code = Code {
         inputs,
         slots,
@@ -42,7 +39,7 @@ fn filter(reader: &mut Reader<'_>, alloc: Global, brackets: u32) -> Result<Kerne
 {
     let (peek, pop, push, slots) = rates(reader, brackets)?;
     let starts = starts(reader, alloc, brackets)?;
-    let body = body(reader, alloc, NEST, brackets)?;
+    let body = body(reader, alloc, brackets)?;
     let code = Code {
         inputs: peek,
         slots,
@@ -64,7 +61,7 @@ fn range(reader: &mut Reader<'_>, brackets: u32) -> Result<i64, Fault>
 {
     reader.opens(Symbol::Open, brackets)?;
     let value = reader.value()?;
-    ended(reader, value, Symbol::Close)
+    closed(reader, value, Symbol::Close)
 }
 
 // What stands behind the word of a streamer or of a tally.
@@ -98,7 +95,7 @@ fn relation_after(
     ensures { Gives kern_of result reader.new (relation_after brackets word.now reader.old) }
 {
     if is(word, b"select") {
-        return Ok(Kernel::Select(round_expr(reader, alloc, brackets)?));
+        return Ok(Kernel::Select(round(&River, reader, alloc, brackets)?));
     }
     if is(word, b"project") {
         return Ok(Kernel::Project(exprs(reader, alloc, brackets)?));
@@ -162,7 +159,7 @@ pub fn braced(reader: &mut Reader<'_>, alloc: Global, brackets: u32) -> Result<K
 {
     let inner = reader.opens(Symbol::OpenBrace, brackets)?;
     let kernel = kernel(reader, alloc, inner)?;
-    ended(reader, kernel, Symbol::CloseBrace)
+    closed(reader, kernel, Symbol::CloseBrace)
 }
 
 // A kernel, where `brackets` more brackets may be open.

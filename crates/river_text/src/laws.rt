@@ -1,5 +1,5 @@
 //! Laws over the definitions alone.
-ghost use Rattle.river_text.specs.Laws.{OnePlan, MeansWhatItHas};
+ghost use Rattle.river_text.specs.Laws.{OnePlan, MeansWhatItHas, ExpressionsAreExact};
 
 /// A text stands for one plan at most.
 #[tactic(auto, using(crate::proofs::Texts::one_plan))]
@@ -12,4 +12,11 @@ pub fn one_plan()
 /// grammar, and a fault of a plan exactly where the text stands for lists of which it is the first.
 pub fn means_what_it_has()
     ensures { MeansWhatItHas }
+{}
+
+/// The reader of expressions is exact, for each number of brackets that may be open: what it reads is
+/// an expression by the grammar with this tree, and an expression is read with its tree wherever no
+/// operator follows.
+pub fn expressions_are_exact()
+    ensures { ExpressionsAreExact }
 {}

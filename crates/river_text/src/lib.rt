@@ -3,7 +3,6 @@
 
 mod body;
 mod decl;
-mod end;
 mod entry;
 mod fault;
 mod front;

@@ -5,10 +5,9 @@ ghost use Rattle.text_forms.specs.Parse.{commas, count_at, listing};
 ghost use Rattle.work_code.specs.declared.sign.Symbol.TheVariants as s;
 ghost use Rattle.river_text.specs.ReadKernels.{kind_at, signed_at, width_at, round, starts_at, widths_at, weights_at, number_at, two_at, pair_at, rates_at};
 
-use crate::end::ended;
 use river_base::Numbers;
 use std::alloc::Global;
-use text_forms::{Fault, Reader};
+use text_forms::{Fault, Reader, closed};
 use work_code::Symbol;
 
 /// What a number in a list is.
@@ -89,7 +88,7 @@ fn round_numbers(
 {
     reader.opens(Symbol::Open, brackets)?;
     let list = numbers(reader, alloc, kind)?;
-    ended(reader, list, Symbol::Close)
+    closed(reader, list, Symbol::Close)
 }
 
 /// `(` the kept values at the start `)`
@@ -115,7 +114,7 @@ pub fn weights(reader: &mut Reader<'_>, alloc: Global, brackets: u32) -> Result<
 {
     reader.opens(Symbol::Open, brackets)?;
     let list = some_numbers(reader, alloc, Kind::Value)?;
-    ended(reader, list, Symbol::Close)
+    closed(reader, list, Symbol::Close)
 }
 
 /// `(N)`
@@ -125,7 +124,7 @@ pub fn number(reader: &mut Reader<'_>, brackets: u32) -> Result<u32, Fault>
 {
     reader.opens(Symbol::Open, brackets)?;
     let value = reader.count()?;
-    ended(reader, value, Symbol::Close)
+    closed(reader, value, Symbol::Close)
 }
 
 // `N, N`
@@ -146,7 +145,7 @@ pub fn pair(reader: &mut Reader<'_>, brackets: u32) -> Result<(u32, u32), Fault>
 {
     reader.opens(Symbol::Open, brackets)?;
     let pair = two(reader)?;
-    ended(reader, pair, Symbol::Close)
+    closed(reader, pair, Symbol::Close)
 }
 
 /// `(N, N, N, N)`
@@ -158,5 +157,5 @@ pub fn rates(reader: &mut Reader<'_>, brackets: u32) -> Result<(u32, u32, u32, u
     let (peek, pop) = two(reader)?;
     reader.expect(&[Symbol::Comma])?;
     let (push, slots) = two(reader)?;
-    ended(reader, (peek, pop, push, slots), Symbol::Close)
+    closed(reader, (peek, pop, push, slots), Symbol::Close)
 }

@@ -6,13 +6,12 @@ ghost use Rattle.river_text.specs.Listed.{pair_of};
 ghost use Rattle.river_text.specs.ReadPlans.{op_from_at, op_at};
 
 use crate::decl::{BRACKETS, river_name};
-use crate::end::kept;
 use crate::kernel::braced;
 use crate::port::{Ports, both_lists};
 use river_base::Name;
 use river_plan::Op;
 use std::alloc::Global;
-use text_forms::{Fault, Reader};
+use text_forms::{Fault, Reader, kept};
 use work_code::Symbol;
 
 /// An operator, behind its first word.

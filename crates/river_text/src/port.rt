@@ -2,16 +2,15 @@
 ghost use Rattle.std.specs.Prelude.{◌≡◌, map, []};
 ghost use Rattle.text_forms.specs.Gives.{Gives};
 ghost use Rattle.text_forms.specs.Parse.{commas};
-ghost use Rattle.river_text.specs.Made.{Makes};
+ghost use Rattle.text_forms.specs.Gives.{Makes};
 ghost use Rattle.river_text.specs.ReadPlans.{port_at, split_from, port_list_at, ports_at};
 ghost use Rattle.river_text.specs.Listed.{port_of, pair_of};
 
 use crate::decl::{BRACKETS, river_name, river_var};
-use crate::end::ended;
 use river_base::{Listed, Name};
 use river_plan::Names;
 use std::alloc::Global;
-use text_forms::{Fault, Reader};
+use text_forms::{Fault, Reader, closed};
 use work_code::{Symbol, Token};
 
 /// A queue or a variable.
@@ -92,5 +91,5 @@ pub fn both_lists(reader: &mut Reader<'_>, alloc: Global) -> Result<Ports, Fault
     reader.opens(Symbol::Open, BRACKETS)?;
     let list = port_list(reader, alloc)?;
     let ports = split(alloc, list.as_slice())?;
-    ended(reader, ports, Symbol::Close)
+    closed(reader, ports, Symbol::Close)
 }

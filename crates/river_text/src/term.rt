@@ -1,89 +1,127 @@
 // Expressions read.
-ghost use Rattle.std.specs.Prelude.{◌≡◌};
+ghost use Rattle.std.specs.Prelude.{◌≡◌, IfOk};
 ghost use Rattle.text_forms.specs.Gives.{Gives};
-ghost use Rattle.text_forms.specs.Tree.{spoken};
-ghost use Rattle.work_code.specs.Term.{term, terms};
-ghost use Rattle.river_text.specs.Kernels.{term_of};
-ghost use Rattle.river_text.specs.Made.{Makes};
-ghost use Rattle.river_text.specs.ReadKernels.{term_at, some_terms_at, terms_at, round_term_at};
+ghost use Rattle.work_code.specs.Term.{term, terms, depth_of};
+ghost use Rattle.river_text.specs.Bodies.{some_terms_at, terms_at};
+ghost use Rattle.river_text.specs.Expressions.{constant_at, named, leaf_at};
 
-use crate::end::ended;
+use river_base::NoMemory;
 use std::alloc::Global;
-use text_forms::{Fault, Language, Reader, Tree};
-use work_code::{Expr, Exprs, Symbol};
+use text_blocks::{Sign, Terms, place, take_sign, term};
+use text_forms::{Fault, Reader, closed, is};
+use work_code::{BinOp, Expr, Exprs, Symbol, Token};
 
-// The expression of work code in a box, if there is one.
-#[cycle(expr_of)]
-fn boxed(alloc: Global, tree: &Tree<'_>) -> Result<Box<Expr>, Fault>
-    ensures { Makes (λ boxed. term boxed.value) result (term_of (spoken tree.now)) }
+// A number as it is written.
+#[tactic(auto, unfolding(crate::specs::Expressions::constant_at))]
+fn constant(reader: &mut Reader<'_>) -> Result<Expr, Fault>
+    ensures reads { Gives term result reader.new (constant_at reader.old) }
+    ensures depth { IfOk result (λ e. depth_of (term e) ≡ 1) }
 {
-    Ok(Box::new(alloc, expr_of(alloc, tree)?)?)
+    Ok(Expr::Const(reader.value()?))
 }
 
-// The expression of work code, if there is one.
-#[cycle(expr_of)]
-fn expr_of(alloc: Global, tree: &Tree<'_>) -> Result<Expr, Fault>
-    ensures { Makes term result (term_of (spoken tree.now)) }
+// A leaf that begins with this name.
+#[tactic(auto, unfolding(crate::specs::Expressions::named))]
+fn named(reader: &mut Reader<'_>, brackets: u32, text: &[u8]) -> Result<Expr, Fault>
+    ensures reads { Gives term result reader.new (named brackets text.now reader.old) }
+    ensures depth { IfOk result (λ e. depth_of (term e) ≡ 1) }
 {
-    match tree {
-        Tree::Number(value) => match i64::try_from(*value) {
-            Ok(value) => Ok(Expr::Const(value)),
-            Err(_) => Err(Fault::Syntax),
-        },
-        Tree::Input(place) => Ok(Expr::Input(*place)),
-        Tree::Slot(slot) => Ok(Expr::Slot(*slot)),
-        Tree::Neg(inner) => Ok(Expr::Neg(boxed(alloc, inner)?)),
-        Tree::Not(inner) => Ok(Expr::Not(boxed(alloc, inner)?)),
-        Tree::Bin { op, left, right } => {
-            let left = boxed(alloc, left)?;
-            let right = boxed(alloc, right)?;
-            Ok(Expr::Bin {
-                op: *op,
-                left,
-                right,
-            })
+    if is(text, b"input") {
+        return Ok(Expr::Input(place(reader, brackets)?));
+    }
+    if is(text, b"slot") {
+        return Ok(Expr::Slot(place(reader, brackets)?));
+    }
+    Err(Fault::Syntax)
+}
+
+// A number, a place of the input or a slot.
+fn leaf(reader: &mut Reader<'_>, brackets: u32) -> Result<Expr, Fault>
+    ensures reads { Gives term result reader.new (leaf_at brackets reader.old) }
+    ensures depth { IfOk result (λ e. depth_of (term e) ≡ 1) }
+{
+    match reader.peek() {
+        Some(Token::Number(_)) => constant(reader),
+        Some(Token::Name(text)) => {
+            reader.skip();
+            named(reader, brackets, text)
         }
-        Tree::Name(_) | Tree::Peek(_) | Tree::Pop => Err(Fault::Syntax),
+        _ => Err(Fault::Syntax),
     }
 }
 
-/// An expression.
-pub fn expr(reader: &mut Reader<'_>, alloc: Global, brackets: u32) -> Result<Expr, Fault>
-    ensures { Gives term result reader.new (term_at brackets reader.old) }
-{
-    let tree = reader.expression(alloc, Language::River, brackets)?;
-    expr_of(alloc, &tree)
+/// River text, for the readers of expressions and of statements of any language.
+pub struct River;
+
+impl Terms for River {
+    ghost use Rattle.work_code.specs.Term.{Term, term};
+    ghost use Rattle.river_text.specs.Expressions.{marks, deepest, leaf_at};
+
+    type Tree = Expr;
+
+    type Mark = Sign;
+
+    ghost Plain = { Term };
+
+    ghost view = { term };
+
+    ghost marks = { λ _. marks };
+
+    ghost leaf = { λ _. leaf_at };
+
+    ghost deeper = { λ _. deepest };
+
+    fn sign(&self, reader: &mut Reader<'_>) -> Option<Sign> {
+        take_sign(reader)
+    }
+
+    #[tactic(auto, using(text_blocks::proofs::Seven::calls))]
+    fn call(&self, _reader: &mut Reader<'_>) -> Option<Sign> {
+        None
+    }
+
+    fn leaf(&self, reader: &mut Reader<'_>, brackets: u32) -> Result<Expr, Fault> {
+        leaf(reader, brackets)
+    }
+
+    fn mark(&self, alloc: Global, sign: Sign, tree: Expr) -> Result<Expr, NoMemory>
+        ensures { IfOk result (λ t. term t ≡ marks.mark sign (term tree)) }
+    {
+        let inner = Box::new(alloc, tree)?;
+        Ok(match sign {
+            Sign::Neg => Expr::Neg(inner),
+            Sign::Not => Expr::Not(inner),
+        })
+    }
+
+    fn join(&self, alloc: Global, op: BinOp, left: Expr, right: Expr) -> Result<Expr, NoMemory>
+        ensures { IfOk result (λ t. term t ≡ marks.join op (term left) (term right)) }
+    {
+        let left = Box::new(alloc, left)?;
+        let right = Box::new(alloc, right)?;
+        Ok(Expr::Bin { op, left, right })
+    }
 }
 
 // Expressions with commas between them, at least one.
-#[tactic(auto, unfolding(crate::specs::ReadKernels::some_terms_at), using(crate::proofs::Steps::term_steps))]
+#[tactic(auto, unfolding(crate::specs::Bodies::some_terms_at), using(crate::proofs::Steps::term_steps))]
 fn some_exprs(reader: &mut Reader<'_>, alloc: Global, brackets: u32) -> Result<Exprs, Fault>
     ensures { Gives terms result reader.new (some_terms_at brackets reader.old) }
 {
     let mut list = Exprs::new(alloc);
-    list.push(expr(reader, alloc, brackets)?)?;
+    list.push(term(&River, reader, alloc, brackets)?)?;
     'items: while reader.takes(Symbol::Comma) {
-        list.push(expr(reader, alloc, brackets)?)?;
+        list.push(term(&River, reader, alloc, brackets)?)?;
     }
     Ok(list)
 }
 
 /// `(e, ..)`
-#[tactic(auto, unfolding(crate::specs::ReadKernels::terms_at))]
+#[tactic(auto, unfolding(crate::specs::Bodies::terms_at, text_blocks::specs::Parts::round_at))]
 pub fn exprs(reader: &mut Reader<'_>, alloc: Global, brackets: u32) -> Result<Exprs, Fault>
     ensures { Gives terms result reader.new (terms_at brackets reader.old) }
 {
     let inner = reader.opens(Symbol::Open, brackets)?;
     let list = some_exprs(reader, alloc, inner)?;
-    ended(reader, list, Symbol::Close)
-}
-
-/// `(e)`
-#[tactic(auto, unfolding(crate::specs::ReadKernels::round_term_at))]
-pub fn round_expr(reader: &mut Reader<'_>, alloc: Global, brackets: u32) -> Result<Expr, Fault>
-    ensures { Gives term result reader.new (round_term_at brackets reader.old) }
-{
-    let inner = reader.opens(Symbol::Open, brackets)?;
-    let expr = expr(reader, alloc, inner)?;
-    ended(reader, expr, Symbol::Close)
+    closed(reader, list, Symbol::Close)
 }

@@ -23,8 +23,8 @@ use Rattle.text_blocks.specs.Parts.{Round, Square}
 use Rattle.text_blocks.specs.declared.sign.Sign.{Sign}
 use Rattle.text_blocks.specs.declared.sign.Sign.TheVariants as sign
 use Rattle.text_blocks.proofs.Every.{chosen, enclosed, IfThere, every-rest}
-use Rattle.text_forms.specs.Lines.{Spells}
-use Rattle.text_forms.specs.Lines as spelled
+use Rattle.text_forms.specs.Levels.{Spells}
+use Rattle.text_forms.specs.Levels as spelled
 use Rattle.saw_text.specs.Blocks.{IsDeclare, IsAssign, IsEmit, NamedAfter, IsPlain, style, holes}
 use Rattle.saw_text.specs.Expressions.{syntax, marked, IsLeaf, IsExpression}
 use Rattle.saw_text.specs.Expressions as rule

@@ -1,4 +1,3 @@
-pub mod Lines
 pub mod Lists
 pub mod Texts
 pub mod Trees

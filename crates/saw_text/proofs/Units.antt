@@ -16,7 +16,7 @@ use Rattle.saw_text.specs.Grammar.{IsUnit, IsUnitAt}
 use Rattle.saw_text.specs.Reading.{named_field_at, field_after, field_at, column_at, columns_at, best_at, kind_after, kind_at}
 use Rattle.saw_text.specs.Reading.{weight_field_at, in_table_at, table_at, typed_after, typed_at, unit_named, unit_after, unit_at, unit_from}
 use Rattle.text_blocks.specs.Exact.{NoElse}
-use Rattle.text_blocks.specs.Parts.{Round, Square, round_at, square_at}
+use Rattle.text_blocks.specs.Parts.{Round, Square}
 use Rattle.text_blocks.proofs.Parts.{exact-round, exact-square}
 use Rattle.text_blocks.proofs.Statements.{exact-rest}
 use Rattle.saw_text.specs.Blocks.{no_bracket}

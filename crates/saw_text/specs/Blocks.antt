@@ -5,8 +5,7 @@ use Rattle.std.specs.Str.{bytes_eq}
 use Rattle.work_code.specs.Tok.{Tok}
 use Rattle.work_code.specs.declared.sign.Symbol.TheVariants as s
 use Rattle.text_forms.specs.Forms.{Name, Never, Both, After, Before, AfterWord, Tested, Seen, Merged, Maybe, Each, Choose}
-use Rattle.text_forms.specs.Parse.{Parse, begins_with, is_word_at, name_at, both, after, before, after_word, tested, seen, merged, maybe, many}
-use Rattle.text_blocks.specs.Reading.{nowhere}
+use Rattle.text_forms.specs.Parse.{Parse, begins_with, is_word_at, name_at, both, after, before, after_word, tested, seen, merged, maybe, many, nowhere}
 use Rattle.text_blocks.specs.Statements.{Style, Holes}
 use Rattle.text_blocks.specs.Parts.{Round, Square, Ended, FirstValue, round_at, square_at, ended_at, first_value_at}
 use Rattle.text_blocks.specs.declared.opening.Opening.{Opening}

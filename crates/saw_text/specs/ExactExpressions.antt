@@ -1,47 +1,32 @@
 -- The reading of expressions is exact.
-use Rattle.std.proofs.Common.{◌≡◌, ◌≢◌, ℕ, zero, suc, ◌<◌, ◌≤◌, List, [], ◌∷◌, ◌++◌, Bool, true, false, cond, Option, Some, None, refl, sym, ap, ◌∙◌, subst}
+use Rattle.std.proofs.Common.{◌≡◌, ℕ, zero, suc, List, [], ◌∷◌, ◌++◌, Bool, true, false, Some, None, refl, sym, ap, ◌∙◌, subst}
 use Rattle.std.specs.Prelude.{codes}
 use Rattle.std.specs.Str.{bytes_eq}
 use Rattle.std.proofs.lemmas.Slice.Eq.{bytes_eq-Decides}
 use Rattle.work_code.specs.Tok.{Tok, name, var, number, symbol}
 use Rattle.work_code.specs.declared.sign.Symbol.TheVariants as s
-use Rattle.text_forms.specs.Exact.{Ends}
-use Rattle.text_forms.specs.Lines.{line_of, form_of}
 use Rattle.text_forms.specs.Parse as parse
 use Rattle.text_forms.specs.Forms as form
-use Rattle.text_forms.specs.ReadLines as lines
-use Rattle.text_forms.specs.ReadLines.{first}
-use Rattle.text_forms.specs.Ladder as shared
-use Rattle.text_forms.specs.declared.form.Form.TheVariants as shape
-use Rattle.text_forms.proofs.Exact.{Exact, Front, Any, exact-tested, exact-seen, exact-number}
-use Rattle.text_forms.proofs.Choices.{exact-enclosed}
-use Rattle.text_forms.proofs.Pairs.{pair_inj}
-use Rattle.text_blocks.specs.Seven.{sign_at}
-use Rattle.text_blocks.proofs.Seven as seven
-use Rattle.text_blocks.proofs.Clear.{AreApart, exact-seven}
-use Rattle.saw_text.specs.Expressions.{syntax, marked, no_call, deepest, IsLeaf, IsExpression, place_at, named, leaf_at, term_at}
+use Rattle.text_forms.proofs.Exact.{Exact, Front, Any, exact-seen}
+use Rattle.text_forms.proofs.Pairs.{pair_inj, choose}
+use Rattle.text_blocks.specs.Parts.{Square, square_at}
+use Rattle.text_blocks.specs.Seven.{sign_at, Ends}
+use Rattle.text_blocks.proofs.Clear.{AreApart}
+use Rattle.text_blocks.proofs.Clear as seven
+use Rattle.text_blocks.proofs.Parts.{exact-place, place-tokens}
+use Rattle.saw_text.specs.Expressions.{marks, deepest, IsLeaf, IsExpression, named, leaf_at, term_at}
 use Rattle.saw_text.specs.Expressions as rule
-use Rattle.saw_text.specs.Tree.{Expression, Number, Name, Input, Bin, depth_of}
+use Rattle.saw_text.specs.Tree.{Expression, Number, Name, Input, depth_of}
 use Rattle.saw_text.specs.Words.{is_plain, is_user}
 
-choose : {X P : Type 0} (b : Bool) (x y : Option X) (v : X) → cond b x y ≡ Some v → (b ≡ true → x ≡ Some v → P) → (b ≡ false → y ≡ Some v → P) → P
-choose true x y v e f g = f refl e
-choose false x y v e f g = g refl e
-
--- a number in square brackets
-abbrev IsPlace : ℕ → ℕ → List Tok → Type 0
-IsPlace n = form.Enclosed s.OpenBracket s.CloseBracket (λ m. form.Tested parse.is_count form.Number) n
-
-exact-place : (n : ℕ) → Exact (IsPlace n) (place_at n) Any
-unfolding place_at
-exact-place n = exact-enclosed s.OpenBracket s.CloseBracket (λ m. exact-tested parse.is_count exact-number) (λ rest. tt) n
-
-input-leaf : (n k : ℕ) (text : List ℕ) (ts : List Tok) → text ≡ codes "input" → IsPlace n k ts → IsLeaf n (Input k) (name text ∷ ts)
+input-leaf : (n k : ℕ) (text : List ℕ) (ts : List Tok) → text ≡ codes "input" → Square (λ m. form.Tested parse.is_count form.Number) n k ts
+    → IsLeaf n (Input k) (name text ∷ ts)
 input-leaf zero k text ts is h = absurd h
 input-leaf (suc n) k text ts is h =
-    let tokens : ts ≡ symbol s.OpenBracket ∷ number k ∷ symbol s.CloseBracket ∷ [] =
-    h.is ∙ ap (λ (l : List Tok). symbol s.OpenBracket ∷ l) (h.formed.is ∙ ap (λ (l : List Tok). l ++ symbol s.CloseBracket ∷ []) h.formed.formed.formed) in
-    subst (λ (us : List Tok). IsLeaf (suc n) (Input k) us) (ap (λ (w : List ℕ). name w ∷ symbol s.OpenBracket ∷ number k ∷ symbol s.CloseBracket ∷ []) (sym is) ∙ ap (λ (us : List Tok). name text ∷ us) (sym tokens)) (rule.input n k h.formed.formed.passes)
+    let p = place-tokens n k ts h in
+    let tokens : name (codes "input") ∷ symbol s.OpenBracket ∷ number k ∷ symbol s.CloseBracket ∷ [] ≡ name text ∷ ts =
+    ap (λ (w : List ℕ). name w ∷ symbol s.OpenBracket ∷ number k ∷ symbol s.CloseBracket ∷ []) (sym is) ∙ ap (λ (us : List Tok). name text ∷ us) (sym p.0) in
+    subst (λ (us : List Tok). IsLeaf (suc n) (Input k) us) tokens (rule.input n k p.1)
 
 leaf-sound : (n : ℕ) (ts : List Tok) (t : Expression) (rest : List Tok) → leaf_at n ts ≡ Some (t, rest) → Front (IsLeaf n) t ts rest
 unfolding named
@@ -94,7 +79,7 @@ named-name n text rest h = rw (not-input text h, h) refl
 
 named-input : (n k : ℕ) (rest : List Tok) → parse.is_count k ≡ true
     → named (suc n) (codes "input") (symbol s.OpenBracket ∷ number k ∷ symbol s.CloseBracket ∷ rest) ≡ Some (Input k, rest)
-unfolding named place_at parse.open_at
+unfolding named square_at parse.open_at
 named-input n k rest h = rw h refl
 
 leaf-complete : (n : ℕ) (t : Expression) (ts rest : List Tok) → IsLeaf n t ts → leaf_at n (ts ++ rest) ≡ Some (t, rest)
@@ -111,13 +96,13 @@ shallow n t ts (rule.name m text h) = refl
 shallow n t ts (rule.input m v h) = refl
 
 begins : (n : ℕ) (t : Expression) (ts : List Tok) → IsLeaf n t ts
-    → (x : Tok) × (us : List Tok) × (ts ≡ x ∷ us) × ((vs : List Tok) → parse.begins_with s.Open (x ∷ vs) ≡ false) × (sign_at x ≡ None) × (no_call x ≡ None)
+    → (x : Tok) × (us : List Tok) × (ts ≡ x ∷ us) × ((vs : List Tok) → parse.begins_with s.Open (x ∷ vs) ≡ false) × (sign_at x ≡ None) × (marks.call x ≡ None)
 begins n t ts (rule.number m v h) = (number v, [], refl, (λ vs. refl), refl, refl)
 begins n t ts (rule.name m text h) = (name text, [], refl, (λ vs. refl), refl, refl)
 begins n t ts (rule.input m v h) =
     (name (codes "input"), symbol s.OpenBracket ∷ number v ∷ symbol s.CloseBracket ∷ [], refl, (λ vs. refl), refl, refl)
 
-apart : AreApart sign_at no_call depth_of IsLeaf leaf_at
+apart : AreApart marks IsLeaf leaf_at
 apart = record {
   exact = exact-leaf;
   shallow = shallow;
@@ -129,7 +114,4 @@ apart = record {
 
 -- an expression: no operator may follow
 pub exact-term : (n : ℕ) → Exact (IsExpression n) (term_at n) (Ends 6)
-unfolding term_at
-exact-term n =
-    let x = exact-seven sign_at no_call (λ o a b. Bin o a b) marked depth_of deepest apart n in
-    record { sound = λ ts v rest e. x.sound ts v rest e; complete = λ v s rest h d. x.complete v s rest h d }
+exact-term = seven.exact-term marks deepest apart

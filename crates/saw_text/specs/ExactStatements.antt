@@ -1,10 +1,9 @@
 -- The reading of statements is exact.
-use Rattle.std.proofs.Common.{◌≡◌, ℕ, zero, suc, List, [], ◌∷◌, ◌++◌, Bool, true, false, Option, Some, None, refl, sym, ap, ◌∙◌, arith}
+use Rattle.std.proofs.Common.{◌≡◌, ℕ, zero, suc, List, [], ◌∷◌, ◌++◌, true, false, Option, Some, None, refl, arith}
 use Rattle.std.specs.Prelude.{codes}
 use Rattle.std.specs.Str.{bytes_eq}
 use Rattle.work_code.specs.Tok.{Tok, symbol}
 use Rattle.work_code.specs.declared.sign.Symbol.TheVariants as s
-use Rattle.text_forms.specs.Exact.{Ends}
 use Rattle.text_forms.specs.Parse as parse
 use Rattle.text_forms.specs.Forms as form
 use Rattle.text_forms.proofs.Exact.{Exact, Any, exact-less, exact-both, exact-after, exact-before, exact-after_word, exact-tested, exact-seen, exact-merged}
@@ -12,7 +11,8 @@ use Rattle.text_forms.proofs.Exact.{exact-maybe, exact-name}
 use Rattle.text_forms.proofs.Many.{Listed, exact-many}
 use Rattle.text_forms.proofs.Choices.{exact-never, exact-choose}
 use Rattle.text_blocks.specs.Exact.{AreExact}
-use Rattle.text_blocks.specs.Parts.{Square, Ended, FirstValue, square_at, ended_at, first_value_at}
+use Rattle.text_blocks.specs.Parts.{Square, square_at}
+use Rattle.text_blocks.specs.Seven.{Ends}
 use Rattle.text_blocks.proofs.Parts.{exact-round, exact-square, exact-ended, exact-first}
 use Rattle.saw_text.specs.Blocks.{UserName, IsDeclare, IsAssign, made_emit, Weighted, IsEmit, NamedAfter, IsPlain, style, holes}
 use Rattle.saw_text.specs.Blocks.{user_name_at, declare_at, assign_at, no_bracket, indexes_at, weight_at, emit_at, named_after, plain_at}

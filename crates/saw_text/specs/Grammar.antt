@@ -1,6 +1,6 @@
 -- The grammar of Sawzall, line by line (Sawzall of Pike, Dorward, Griesemer and Quinlan, cut to whole numbers and the tables `sum`,
 -- `collection` and `maximum`). `n` is how many more brackets may be open.
-use Rattle.std.specs.Prelude.{◌≡◌, ℕ, zero, suc, ◌&&◌, Bool, true, false, not, List, [], ◌∷◌, Option, Some, None, Ok, codes, is_some, if◌then◌else◌}
+use Rattle.std.specs.Prelude.{◌≡◌, ℕ, Bool, true, false, not, List, [], ◌∷◌, Option, Some, None, Ok, codes, is_some, if◌then◌else◌}
 use Rattle.std.specs.Str.{bytes_eq}
 use Rattle.work_code.specs.Cut.{units_of}
 use Rattle.work_code.specs.Lexis.{tokens_in}
@@ -8,7 +8,7 @@ use Rattle.work_code.specs.Tok.{Tok, Mark, toks}
 use Rattle.work_code.specs.declared.sign.Symbol.TheVariants as s
 use Rattle.text_forms.specs.Parse.{is_count}
 use Rattle.text_forms.specs.Texts.{AllFormed}
-use Rattle.text_forms.specs.Forms.{Name, Number, Nothing, Never, Both, After, Before, AfterWord, Tested, Seen, Merged, Maybe, Each, Choose, Headed, Enclosed}
+use Rattle.text_forms.specs.Forms.{Number, Nothing, Never, Both, After, Before, AfterWord, Tested, Seen, Merged, Maybe, Each, Choose, Headed}
 use Rattle.saw_text.specs.declared.tree.Kind.{Kind}
 use Rattle.saw_text.specs.declared.tree.Kind.TheVariants.{Sum, Collection, Maximum}
 use Rattle.saw_text.specs.declared.tree.Field.{Field}

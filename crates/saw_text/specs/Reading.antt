@@ -1,11 +1,11 @@
 -- How programs are read: the grammar in the words of reading functions.
-use Rattle.std.specs.Prelude.{ℕ, zero, suc, Bool, not, List, [], ◌∷◌, Option, None, Result, codes, if◌then◌else◌}
+use Rattle.std.specs.Prelude.{ℕ, List, [], ◌∷◌, Option, None, Result, codes, if◌then◌else◌}
 use Rattle.std.specs.Str.{bytes_eq}
 use Rattle.work_code.specs.Tok.{Tok}
 use Rattle.work_code.specs.declared.sign.Symbol.TheVariants as s
 use Rattle.text_forms.specs.Texts.{read_units}
-use Rattle.text_forms.specs.Parse.{Parse, begins_with, is_word_at, name_at, count_at, nothing_at, both, after, before, after_word, tested, seen, merged, maybe}
-use Rattle.text_forms.specs.Parse.{many, headed, enclosed}
+use Rattle.text_forms.specs.Parse.{Parse, begins_with, is_word_at, count_at, nothing_at, both, after, before, after_word, tested, seen, merged, maybe}
+use Rattle.text_forms.specs.Parse.{many, headed}
 use Rattle.saw_text.specs.declared.tree.Kind.{Kind}
 use Rattle.saw_text.specs.declared.tree.Kind.TheVariants.{Sum, Collection, Maximum}
 use Rattle.saw_text.specs.declared.tree.Field.{Field}

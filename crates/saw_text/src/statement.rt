@@ -12,7 +12,7 @@ use crate::term::Sawzall;
 use crate::{Block, Expr, Statement};
 use river_base::{Name, NoMemory};
 use std::alloc::Global;
-use text_blocks::{Blocks, Exprs, Opening, ended, first_value, round, square};
+use text_blocks::{Blocks, Opening, ended, first_value, round, square, term};
 use text_forms::{Fault, Reader, closed, is};
 use work_code::Symbol;
 
@@ -70,7 +70,7 @@ fn weight(reader: &mut Reader<'_>, alloc: Global, brackets: u32) -> Result<Optio
         return Ok(None);
     }
     reader.skip();
-    Ok(Some(Sawzall.expr(reader, alloc, brackets)?))
+    Ok(Some(term(&Sawzall, reader, alloc, brackets)?))
 }
 
 // What stands behind `emit`.
@@ -81,7 +81,7 @@ fn emit(reader: &mut Reader<'_>, alloc: Global, brackets: u32) -> Result<Stateme
     let table = user_name(reader)?;
     let indexes = indexes(reader, alloc, brackets)?;
     reader.expect(&[Symbol::Less, Symbol::Minus])?;
-    let value = Sawzall.expr(reader, alloc, brackets)?;
+    let value = term(&Sawzall, reader, alloc, brackets)?;
     let weight = weight(reader, alloc, brackets)?;
     let emit = Statement::Emit {
         table,

@@ -8,8 +8,8 @@ use Rattle.std.specs.Str.{bytes_eq}
 use Rattle.work_code.specs.Tok.{Tok}
 use Rattle.work_code.specs.declared.sign.Symbol.TheVariants as s
 use Rattle.text_forms.specs.Forms as form
-use Rattle.text_forms.specs.Lines.{Spells}
-use Rattle.text_forms.specs.Lines as spelled
+use Rattle.text_forms.specs.Levels.{Spells}
+use Rattle.text_forms.specs.Levels as spelled
 use Rattle.text_forms.specs.Parse.{is_value}
 use Rattle.text_blocks.specs.Parts.{Round}
 use Rattle.text_blocks.proofs.Every.{chosen, enclosed, IfThere, every-block}

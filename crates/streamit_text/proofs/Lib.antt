@@ -1,10 +1,10 @@
 pub mod Adding
 pub mod Fields
-pub mod Lines
 pub mod Named
 pub mod Places
 pub mod Programs
 pub mod RateSteps
+pub mod Signs
 pub mod Texts
 pub mod Trees
 pub mod Units

@@ -1,6 +1,6 @@
 -- StreamIt's statements: the grammar of those without blocks and of the heads of loops, and how they are read.
 -- `n` is how many more brackets may be open; `F` says which tokens are an expression, and `e` reads one.
-use Rattle.std.specs.Prelude.{◌≡◌, ℕ, Bool, true, false, List, [], ◌∷◌, Option, None, codes, if◌then◌else◌}
+use Rattle.std.specs.Prelude.{ℕ, Bool, true, false, List, [], ◌∷◌, Option, None, codes, if◌then◌else◌}
 use Rattle.std.specs.Str.{bytes_eq}
 use Rattle.work_code.specs.Tok.{Tok}
 use Rattle.work_code.specs.declared.sign.Symbol.TheVariants as s

@@ -1,5 +1,5 @@
 -- StreamIt's own leaves are read exactly, and begin apart from signs, calls and brackets.
-use Rattle.std.proofs.Common.{◌≡◌, ℕ, zero, suc, List, [], ◌∷◌, ◌++◌, Bool, true, false, cond, Option, Some, None, refl, sym, ap, ◌∙◌, subst}
+use Rattle.std.proofs.Common.{◌≡◌, ℕ, zero, suc, List, [], ◌∷◌, ◌++◌, Bool, true, false, Some, None, refl, sym, ap, ◌∙◌, subst}
 use Rattle.std.specs.Prelude.{codes}
 use Rattle.std.specs.Str.{bytes_eq}
 use Rattle.std.proofs.lemmas.Slice.Eq.{bytes_eq-Decides}
@@ -9,17 +9,13 @@ use Rattle.text_forms.specs.Parse as parse
 use Rattle.text_forms.specs.Forms as form
 use Rattle.text_forms.proofs.Exact.{Exact, Front, Any, exact-nothing}
 use Rattle.text_forms.proofs.Choices.{exact-enclosed}
-use Rattle.text_forms.proofs.Pairs.{pair_inj}
+use Rattle.text_forms.proofs.Pairs.{pair_inj, choose}
 use Rattle.streamit_text.specs.Expressions.{sign_at, call_at, AreLeaves}
 use Rattle.streamit_text.specs.Leaves.{IsLeaf, pop_at, named_leaf, leaf_at}
 use Rattle.streamit_text.specs.Leaves as rule
 use Rattle.streamit_text.specs.Tree.{Expression, Number, Name, Pop, depth_of}
 use Rattle.streamit_text.specs.declared.term.Sign.{Sign}
 use Rattle.streamit_text.specs.Words.{is_plain, is_own}
-
-pub choose : {X P : Type 0} (b : Bool) (x y : Option X) (v : X) → cond b x y ≡ Some v → (b ≡ true → x ≡ Some v → P) → (b ≡ false → y ≡ Some v → P) → P
-choose true x y v e f g = f refl e
-choose false x y v e f g = g refl e
 
 abbrev pub IsPop : ℕ → Expression → List Tok → Type 0
 IsPop n = form.Enclosed s.Open s.Close (λ m. form.Nothing Pop) n

@@ -1,10 +1,9 @@
 -- The reading of statements is exact, whatever the leaves of expressions are.
-use Rattle.std.proofs.Common.{◌≡◌, ℕ, List, [], ◌∷◌, ◌++◌, Bool, true, false, refl, sym, ap, ◌∙◌}
+use Rattle.std.proofs.Common.{ℕ, List, [], ◌∷◌, true, false, refl}
 use Rattle.std.specs.Prelude.{codes}
 use Rattle.std.specs.Str.{bytes_eq}
-use Rattle.work_code.specs.Tok.{Tok, symbol}
+use Rattle.work_code.specs.Tok.{Tok}
 use Rattle.work_code.specs.declared.sign.Symbol.TheVariants as s
-use Rattle.text_forms.specs.Exact.{Ends}
 use Rattle.text_forms.specs.Parse as parse
 use Rattle.text_forms.specs.Parse.{Parse}
 use Rattle.text_forms.proofs.Exact.{Exact, Any, exact-less, exact-both, exact-after, exact-before, exact-after_word, exact-tested, exact-seen, exact-merged}
@@ -12,13 +11,14 @@ use Rattle.text_forms.proofs.Exact.{exact-name, exact-nothing}
 use Rattle.text_forms.proofs.Choices.{exact-never, exact-choose, exact-headed}
 use Rattle.text_blocks.specs.Exact.{AreExact}
 use Rattle.text_blocks.specs.Parts.{Round}
+use Rattle.text_blocks.specs.Seven.{Ends}
 use Rattle.text_blocks.proofs.Parts.{exact-round, exact-ended, exact-first}
-use Rattle.text_blocks.proofs.Clear.{exact-seven}
+use Rattle.text_blocks.proofs.Clear as seven
 use Rattle.streamit_text.specs.Blocks.{Own, own_at, Empty, empty_at, made_declare, discarding, made_head, Upto, upto_at, step_at, IsDeclare, IsAssign, IsPush}
 use Rattle.streamit_text.specs.Blocks.{IsDiscard, IsPlain, HeadAfter, IsHead, holes, declare_at, assign_at, push_at, discard_at, plain_at, upper_at, head_after}
 use Rattle.streamit_text.specs.Blocks.{named_head_at, head_at, round_head_at, style}
-use Rattle.streamit_text.specs.Expressions.{sign_at, call_at, marked, is_deeper, AreLeaves, IsExpression, expr_at}
-use Rattle.streamit_text.specs.Tree.{Expression, Bin, Statement, Assign, Push, depth_of}
+use Rattle.streamit_text.specs.Expressions.{marks, is_deeper, AreLeaves, IsExpression, expr_at}
+use Rattle.streamit_text.specs.Tree.{Expression, Statement, Assign, Push}
 use Rattle.streamit_text.specs.Words.{is_plain, is_own}
 
 -- a name that users may give
@@ -95,10 +95,7 @@ module _ {F : ℕ → Expression → List Tok → Type 0} {e : ℕ → Parse Exp
 -- an expression, whatever its leaves are
 pub exact-term : {Leaf : ℕ → Expression → List Tok → Type 0} {leaf : ℕ → Parse Expression} → AreLeaves Leaf leaf
     → (n : ℕ) → Exact (IsExpression Leaf n) (expr_at leaf n) (Ends 6)
-unfolding expr_at
-exact-term apart n =
-    let x = exact-seven sign_at call_at (λ o a b. Bin o a b) marked depth_of is_deeper apart n in
-    record { sound = λ ts v rest e. x.sound ts v rest e; complete = λ v s rest h d. x.complete v s rest h d }
+exact-term apart = seven.exact-term marks is_deeper apart
 
 -- statements and blocks, whatever the leaves of their expressions are
 pub exact-streamit : {Leaf : ℕ → Expression → List Tok → Type 0} {leaf : ℕ → Parse Expression} → AreLeaves Leaf leaf

@@ -1,4 +1,4 @@
--- The expressions of StreamIt, or of a language that has other leaves: a ladder of seven lines above the leaves, with `peek`.
+-- The expressions of StreamIt, or of a language that has other leaves: the seven levels above the leaves, with `peek`.
 use Rattle.std.specs.Prelude.{◌≡◌, ℕ, suc, List, Option, None, Some, codes, if◌then◌else◌, refl}
 use Rattle.std.specs.Str.{bytes_eq}
 use Rattle.work_code.specs.Tok.{Tok, name, var, number, symbol}
@@ -6,10 +6,10 @@ use Rattle.work_code.specs.declared.expr.BinOp.{BinOp}
 use Rattle.work_code.specs.declared.sign.Symbol.{Symbol}
 use Rattle.work_code.specs.declared.sign.Symbol.TheVariants as s
 use Rattle.text_forms.specs.Deep.{IsDeeper}
-use Rattle.text_forms.specs.Lines.{Syntax, IsWhole}
+use Rattle.text_forms.specs.Levels.{Syntax}
 use Rattle.text_forms.specs.Parse.{Parse}
-use Rattle.text_forms.specs.ReadLines.{whole_at}
-use Rattle.text_blocks.specs.Seven.{seven}
+use Rattle.text_blocks.specs.Seven.{Marks, with_seven, IsTerm}
+use Rattle.text_blocks.specs.Seven as seven
 use Rattle.text_blocks.proofs.Clear.{AreApart}
 use Rattle.streamit_text.specs.Tree.{Expression, Peek, Neg, Not, Bin, depth_of}
 use Rattle.streamit_text.specs.declared.term.Sign.{Sign}
@@ -38,8 +38,11 @@ marked sign.Neg t = Neg t
 marked sign.Not t = Not t
 marked sign.Peek t = Peek t
 
+abbrev pub marks : Marks Expression Sign
+marks = record { sign = sign_at; call = call_at; join = λ o a b. Bin o a b; mark = marked; depth = depth_of }
+
 abbrev pub syntax : Syntax Expression BinOp Sign
-syntax = record { lines = seven sign_at; call = call_at; join = λ o a b. Bin o a b; mark = marked; depth = depth_of }
+syntax = with_seven marks
 
 marked-deeper : (p : Sign) (t : Expression) → depth_of (marked p t) ≡ suc (depth_of t)
 marked-deeper sign.Neg t = refl
@@ -51,11 +54,11 @@ is_deeper = record { join = λ o a b. refl; mark = marked-deeper }
 
 -- what a language shows of its leaves
 abbrev pub AreLeaves : (ℕ → Expression → List Tok → Type 0) → (ℕ → Parse Expression) → Type 0
-AreLeaves Leaf leaf = AreApart sign_at call_at depth_of Leaf leaf
+AreLeaves Leaf leaf = AreApart marks Leaf leaf
 
 -- e, at most 64 deep
 abbrev pub IsExpression : (ℕ → Expression → List Tok → Type 0) → ℕ → Expression → List Tok → Type 0
-IsExpression Leaf n = IsWhole syntax Leaf n
+IsExpression Leaf n = IsTerm marks Leaf n
 
-unfoldable pub expr_at : (ℕ → Parse Expression) → ℕ → Parse Expression
-expr_at leaf n ts = whole_at syntax leaf n ts
+abbrev pub expr_at : (ℕ → Parse Expression) → ℕ → Parse Expression
+expr_at leaf = seven.term_at marks leaf

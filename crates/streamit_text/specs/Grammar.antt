@@ -7,9 +7,9 @@ use Rattle.work_code.specs.Cut.{units_of}
 use Rattle.work_code.specs.Lexis.{tokens_in}
 use Rattle.work_code.specs.Tok.{Tok, Mark, toks}
 use Rattle.work_code.specs.declared.sign.Symbol.TheVariants as s
-use Rattle.text_forms.specs.Parse.{is_count, is_value}
+use Rattle.text_forms.specs.Parse.{is_value}
 use Rattle.text_forms.specs.Texts.{AllFormed}
-use Rattle.text_forms.specs.Forms.{Number, Never, Both, After, Before, AfterWord, Tested, Seen, Known, Maybe, Each, Listing, Choose, Headed, Enclosed}
+use Rattle.text_forms.specs.Forms.{Count, Number, Never, Both, After, Before, AfterWord, Tested, Seen, Known, Maybe, Each, Listing, Choose, Headed, Enclosed}
 use Rattle.text_blocks.specs.Parts.{Round}
 use Rattle.text_blocks.specs.Statements as statements
 use Rattle.streamit_text.specs.Blocks.{Own, Empty, style, holes}
@@ -19,10 +19,6 @@ use Rattle.streamit_text.specs.Program.{FilterTree, Dealing, Copies, Turns, Adds
 use Rattle.streamit_text.specs.Tree.{Expression, Statement, Declare, Assign, Push, Discard, If, For, Block, End, Then, Optional, Unwritten, Written}
 use Rattle.streamit_text.specs.Tree.{or_unwritten}
 use Rattle.streamit_text.specs.Tree as tree
-
--- N that counts something: at most 4294967295
-abbrev pub Count : ℕ → List Tok → Type 0
-Count = Tested is_count Number
 
 -- N that is a weight: at most 9223372036854775807
 abbrev pub Weight : ℕ → List Tok → Type 0

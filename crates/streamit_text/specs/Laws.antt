@@ -7,6 +7,10 @@ use Rattle.text_forms.specs.Texts.{IsFirstBad}
 use Rattle.streamit_text.specs.Program.{Program}
 use Rattle.streamit_text.specs.Grammar.{IsText, IsUnitAt, next_unit}
 use Rattle.streamit_text.specs.Words.{is_plain, is_own}
+use Rattle.text_forms.specs.Exact.{Exact}
+use Rattle.text_blocks.specs.Seven.{Ends}
+use Rattle.streamit_text.specs.Expressions.{IsExpression, expr_at}
+use Rattle.streamit_text.specs.Leaves.{IsLeaf, leaf_at}
 
 -- a text stands for one program at most
 abbrev pub OneProgram : Type 0
@@ -36,3 +40,8 @@ AreOwn (m ∷ ms) = IsOwn m.tok × AreOwn ms
 -- so no text is refused for a name that is none of plans
 abbrev pub NamesAreNames : Type 0
 NamesAreNames = (text : List ℕ) (ms : List Mark) → tokens_in text ≡ Ok ms → AreOwn ms
+
+-- What is read as an expression is one by the grammar; and an expression is read, with the tree that the grammar says,
+-- wherever no operator follows.
+abbrev pub ExpressionsAreExact : Type 0
+ExpressionsAreExact = (n : ℕ) → Exact (IsExpression IsLeaf n) (expr_at leaf_at n) (Ends 6)

@@ -1,5 +1,5 @@
 -- StreamIt's statements and expressions as trees, without their places in memory.
-use Rattle.std.specs.Prelude.{ℕ, suc, max, Bool, true, false, List, [], ◌∷◌, map, Option, Some, None}
+use Rattle.std.specs.Prelude.{ℕ, suc, max, Bool, true, false, List, [], ◌∷◌, Option, Some, None}
 use Rattle.work_code.specs.declared.expr.BinOp.{BinOp}
 use Rattle.text_blocks.specs.Parts.{optional}
 use Rattle.streamit_text.specs.declared.tree.Expr.{Expr, fold-Expr}

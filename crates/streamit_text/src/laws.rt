@@ -1,5 +1,5 @@
 //! Laws over the definitions alone.
-ghost use Rattle.streamit_text.specs.Laws.{OneProgram, NamesAreNames};
+ghost use Rattle.streamit_text.specs.Laws.{OneProgram, NamesAreNames, ExpressionsAreExact};
 
 /// A text stands for one program at most.
 #[tactic(auto, using(crate::proofs::Texts::one_program))]
@@ -11,4 +11,11 @@ pub fn one_program()
 #[tactic(auto, using(crate::proofs::Named::names_are_names))]
 pub fn names_are_names()
     ensures { NamesAreNames }
+{}
+
+/// The reader of expressions is exact, for each number of brackets that may be open: what it reads is
+/// an expression by the grammar with this tree, and an expression is read with its tree wherever no
+/// operator follows.
+pub fn expressions_are_exact()
+    ensures { ExpressionsAreExact }
 {}

@@ -11,8 +11,7 @@ use crate::Adds;
 use crate::statement::empty;
 use river_base::Name;
 use std::alloc::Global;
-use text_blocks::is_free;
-use text_forms::{Fault, Reader};
+use text_forms::{Fault, Reader, is_free};
 use work_code::Symbol;
 
 const KEYWORDS: &[&[u8]] = &[

@@ -1,6 +1,6 @@
 -- The reading of expressions in brackets, before a semicolon and behind `=` is exact.
-use Rattle.std.proofs.Common.{◌≡◌, ℕ, List, [], ◌∷◌, ◌++◌, true, false, refl}
-use Rattle.work_code.specs.Tok.{Tok, symbol}
+use Rattle.std.proofs.Common.{◌≡◌, ℕ, suc, List, [], ◌∷◌, ◌++◌, true, false, refl, ap, ◌∙◌}
+use Rattle.work_code.specs.Tok.{Tok, number, symbol}
 use Rattle.work_code.specs.declared.sign.Symbol.TheVariants as s
 use Rattle.text_forms.specs.Parse as parse
 use Rattle.text_forms.specs.Parse.{Parse}
@@ -33,3 +33,11 @@ module _ {A : Type 0} {F : ℕ → A → List Tok → Type 0} {p : ℕ → Parse
 -- a number that counts something, in square brackets
 pub exact-place : (n : ℕ) → Exact (Square (λ m. form.Tested parse.is_count form.Number) n) (square_at (λ m. parse.count_at) n) Any
 exact-place n = exact-square (λ m. exact-tested parse.is_count exact-number) (λ rest. tt) n
+
+-- the tokens of such a number
+pub place-tokens : (n k : ℕ) (ts : List Tok) → Square (λ m. form.Tested parse.is_count form.Number) (suc n) k ts
+    → (ts ≡ symbol s.OpenBracket ∷ number k ∷ symbol s.CloseBracket ∷ []) × (parse.is_count k ≡ true)
+place-tokens n k ts h = (
+  h.is ∙ ap (λ (l : List Tok). symbol s.OpenBracket ∷ l) (h.formed.is ∙ ap (λ (l : List Tok). l ++ symbol s.CloseBracket ∷ []) h.formed.formed.formed),
+  h.formed.formed.passes,
+)

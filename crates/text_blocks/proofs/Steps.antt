@@ -1,5 +1,5 @@
 -- The steps by which code reads statements and blocks.
-use Rattle.std.proofs.Common.{◌≡◌, ℕ, zero, suc, ◌<◌, ◌+◌, ◌-◌, List, [], ◌∷◌, ◌++◌, length, true, false, Option, Some, None, refl, sym, ap, ◌∙◌, arith}
+use Rattle.std.proofs.Common.{◌≡◌, ℕ, zero, suc, ◌<◌, ◌+◌, ◌-◌, List, [], ◌∷◌, ◌++◌, length, true, false, Some, None, refl, sym, ap, ◌∙◌, arith}
 use Rattle.std.proofs.Common.{length-append}
 use Rattle.work_code.specs.Tok.{Tok}
 use Rattle.text_forms.specs.Parse as parse
@@ -8,7 +8,7 @@ use Rattle.text_forms.specs.Repeat.{repeated}
 use Rattle.text_forms.proofs.Many.{many-shortens}
 use Rattle.text_forms.proofs.Repeat.{repeated-next, repeated-stop, repeated-fail}
 use Rattle.text_blocks.specs.Exact.{AreExact}
-use Rattle.text_blocks.specs.Reading.{by_opening, at_close, stmts_of, block_of, branch_of, loop_of, rest_at, stmt_at, stmts_at, block_at, branch_at, loop_at}
+use Rattle.text_blocks.specs.Reading.{at_close, branch_of, loop_of, rest_at, stmt_at, stmts_at, block_at, branch_at, loop_at}
 use Rattle.text_blocks.specs.Statements.{Style, Holes}
 use Rattle.text_blocks.specs.declared.opening.Opening.TheVariants.{Branch, Loop, Plain}
 use Rattle.text_blocks.proofs.Statements.{exact-stmt, listed-stmts}

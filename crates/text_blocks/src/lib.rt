@@ -6,10 +6,10 @@ mod blocks;
 mod exprs;
 mod opening;
 mod sign;
-mod words;
+mod terms;
 
 pub use blocks::{Blocks, block, rest};
-pub use exprs::{Exprs, ended, first_value, place, round, square};
-pub use opening::{NoLoop, Opening};
+pub use exprs::{ended, first_value, place, round, square};
+pub use opening::Opening;
 pub use sign::{Sign, take_operator, take_sign};
-pub use words::is_free;
+pub use terms::{Terms, term};

@@ -9,12 +9,8 @@ use Rattle.text_forms.proofs.Exact.{Exact, Front, Any, exact-as, exact-less, exa
 use Rattle.text_forms.proofs.Many.{exact-commas}
 use Rattle.text_forms.proofs.Pairs.{pair_inj}
 
--- nothing is read where nothing stands for a value
-abbrev pub nowhere : {A : Type 0} → parse.Parse A
-nowhere ts = None
-
 -- nothing is read, as nothing is in the grammar
-pub exact-never : {A : Type 0} {E : List Tok → Type 0} → Exact (form.Never {A = A}) nowhere E
+pub exact-never : {A : Type 0} {E : List Tok → Type 0} → Exact (form.Never {A = A}) parse.nowhere E
 exact-never = record { sound = λ ts v rest e. cc; complete = λ v s rest h d. absurd h }
 
 -- one or the other, by a test

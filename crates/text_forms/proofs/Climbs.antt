@@ -5,10 +5,10 @@ use Rattle.work_code.specs.Tok.{Tok}
 use Rattle.work_code.specs.declared.sign.Symbol.TheVariants as s
 use Rattle.text_forms.proofs.Pairs.{pair_inj}
 use Rattle.text_forms.specs.Deep.{IsDeeper}
-use Rattle.text_forms.specs.Lines.{Line, Chain, Once, Prefix, Syntax, line_of, form_of}
+use Rattle.text_forms.specs.Levels.{Level, Chain, Once, Prefix, Syntax, level_of, form_of}
 use Rattle.text_forms.specs.Parse as parse
-use Rattle.text_forms.specs.ReadLines.{first, operator_at, sign_at, joined, grown, turn_of, chain_on, chain_turn, chained, chain_line, once_on, once_line}
-use Rattle.text_forms.specs.ReadLines.{prefix_on, prefix_line, closed, base_on, base, on_line, ladder, within}
+use Rattle.text_forms.specs.ReadLevels.{first, operator_at, sign_at, joined, grown, turn_of, chain_on, chain_turn, chained, chain_level, once_on, once_level}
+use Rattle.text_forms.specs.ReadLevels.{prefix_on, prefix_level, closed, base_on, base, on_level, ladder, within}
 use Rattle.text_forms.specs.Repeat.{Turn, Stop, Fail, Next, after_turn, turns}
 use Rattle.text_forms.specs.Tail.{tail}
 use Rattle.text_forms.specs.declared.form.Form.TheVariants as form
@@ -17,55 +17,55 @@ less-one : (n : ℕ) → suc n - 1 ≡ n
 less-one n = omega arith
 
 module _ {T O P : Type 0} (S : Syntax T O P) where
-  -- LINES
+  -- LEVELS
 
   pub ladder-base : (leaf : parse.Parse T) (i : ℕ → parse.Parse T) (room : ℕ) (ts : List Tok) → ladder S leaf i 0 room ts ≡ base S leaf i room ts
   unfolding ladder
   ladder-base leaf i room ts = refl
 
-  by-form : (l : Line O P) (k : ℕ) (b : ℕ → parse.Parse T) (room : ℕ) (ts : List Tok)
-      → (form_of l ≡ form.Chain → on_line S l k b room ts ≡ chain_line S k b room ts)
-      × ((form_of l ≡ form.Once → on_line S l k b room ts ≡ once_line S k b room ts) × (form_of l ≡ form.Prefix → on_line S l k b room ts ≡ prefix_line S k b room ts))
+  by-form : (l : Level O P) (k : ℕ) (b : ℕ → parse.Parse T) (room : ℕ) (ts : List Tok)
+      → (form_of l ≡ form.Chain → on_level S l k b room ts ≡ chain_level S k b room ts)
+      × ((form_of l ≡ form.Once → on_level S l k b room ts ≡ once_level S k b room ts) × (form_of l ≡ form.Prefix → on_level S l k b room ts ≡ prefix_level S k b room ts))
   by-form (Chain op) k b room ts = ((λ e. refl), ((λ e. cc), (λ e. cc)))
   by-form (Once op) k b room ts = ((λ e. cc), ((λ e. refl), (λ e. cc)))
   by-form (Prefix p) k b room ts = ((λ e. cc), ((λ e. cc), (λ e. refl)))
 
-  pub ladder-chain : (leaf : parse.Parse T) (i : ℕ → parse.Parse T) (rank k room : ℕ) (ts : List Tok) → rank ≡ suc k → form_of (line_of S.lines k) ≡ form.Chain
-      → ladder S leaf i rank room ts ≡ chain_line S k (ladder S leaf i k) room ts
+  pub ladder-chain : (leaf : parse.Parse T) (i : ℕ → parse.Parse T) (rank k room : ℕ) (ts : List Tok) → rank ≡ suc k → form_of (level_of S.levels k) ≡ form.Chain
+      → ladder S leaf i rank room ts ≡ chain_level S k (ladder S leaf i k) room ts
   unfolding ladder
-  ladder-chain leaf i rank k room ts is e = rw is ((by-form (line_of S.lines k) k (ladder S leaf i k) room ts).0 e)
+  ladder-chain leaf i rank k room ts is e = rw is ((by-form (level_of S.levels k) k (ladder S leaf i k) room ts).0 e)
 
-  pub ladder-once : (leaf : parse.Parse T) (i : ℕ → parse.Parse T) (rank k room : ℕ) (ts : List Tok) → rank ≡ suc k → form_of (line_of S.lines k) ≡ form.Once
-      → ladder S leaf i rank room ts ≡ once_line S k (ladder S leaf i k) room ts
+  pub ladder-once : (leaf : parse.Parse T) (i : ℕ → parse.Parse T) (rank k room : ℕ) (ts : List Tok) → rank ≡ suc k → form_of (level_of S.levels k) ≡ form.Once
+      → ladder S leaf i rank room ts ≡ once_level S k (ladder S leaf i k) room ts
   unfolding ladder
-  ladder-once leaf i rank k room ts is e = rw is ((by-form (line_of S.lines k) k (ladder S leaf i k) room ts).1.0 e)
+  ladder-once leaf i rank k room ts is e = rw is ((by-form (level_of S.levels k) k (ladder S leaf i k) room ts).1.0 e)
 
   pub ladder-prefix : (leaf : parse.Parse T) (i : ℕ → parse.Parse T) (rank k room : ℕ) (ts : List Tok) → rank ≡ suc k
-      → form_of (line_of S.lines k) ≡ form.Prefix → ladder S leaf i rank room ts ≡ prefix_line S k (ladder S leaf i k) room ts
+      → form_of (level_of S.levels k) ≡ form.Prefix → ladder S leaf i rank room ts ≡ prefix_level S k (ladder S leaf i k) room ts
   unfolding ladder
-  ladder-prefix leaf i rank k room ts is e = rw is ((by-form (line_of S.lines k) k (ladder S leaf i k) room ts).1.1 e)
+  ladder-prefix leaf i rank k room ts is e = rw is ((by-form (level_of S.levels k) k (ladder S leaf i k) room ts).1.1 e)
 
   -- STEPS
 
   pub chain-at : (k : ℕ) (b : ℕ → parse.Parse T) (room : ℕ) (ts : List Tok)
-      → chain_line S k b room ts ≡ parse.then_read (b room ts) (λ t us. chained S k (b (room - 1)) room t us)
-  unfolding chain_line
+      → chain_level S k b room ts ≡ parse.then_read (b room ts) (λ t us. chained S k (b (room - 1)) room t us)
+  unfolding chain_level
   chain-at k b room ts = refl
 
   pub once-at : (k : ℕ) (b : ℕ → parse.Parse T) (room : ℕ) (ts : List Tok)
-      → once_line S k b room ts ≡ parse.then_read (b room ts) (λ t us. once_on S (b (room - 1)) room t us (operator_at S k us))
-  unfolding once_line
+      → once_level S k b room ts ≡ parse.then_read (b room ts) (λ t us. once_on S (b (room - 1)) room t us (operator_at S k us))
+  unfolding once_level
   once-at k b room ts = refl
 
-  pub prefix-none : (k : ℕ) (b : ℕ → parse.Parse T) (ts : List Tok) → prefix_line S k b 0 ts ≡ None
-  unfolding prefix_line
+  pub prefix-none : (k : ℕ) (b : ℕ → parse.Parse T) (ts : List Tok) → prefix_level S k b 0 ts ≡ None
+  unfolding prefix_level
   prefix-none k b ts = refl
 
   pub prefix-at : (k : ℕ) (b : ℕ → parse.Parse T) (room : ℕ) (ts : List Tok) → 0 < room
-      → prefix_line S k b room ts ≡ prefix_on S (prefix_line S k b (room - 1)) (b room) ts (sign_at S k ts)
-  unfolding prefix_line
+      → prefix_level S k b room ts ≡ prefix_on S (prefix_level S k b (room - 1)) (b room) ts (sign_at S k ts)
+  unfolding prefix_level
   prefix-at k b zero ts h = absurd (omega arith)
-  prefix-at k b (suc room) ts h = ap (λ (r : ℕ). prefix_on S (prefix_line S k b r) (b (suc room)) ts (sign_at S k ts)) (sym (less-one room))
+  prefix-at k b (suc room) ts h = ap (λ (r : ℕ). prefix_on S (prefix_level S k b r) (b (suc room)) ts (sign_at S k ts)) (sym (less-one room))
 
   pub base-none : (leaf : parse.Parse T) (i : ℕ → parse.Parse T) (ts : List Tok) → base S leaf i 0 ts ≡ None
   unfolding base
@@ -83,10 +83,10 @@ module _ {T O P : Type 0} (S : Syntax T O P) where
   within-none leaf room ts = refl
 
   pub within-at : (leaf : ℕ → parse.Parse T) (n room : ℕ) (ts : List Tok) → 0 < n
-      → within S leaf n room ts ≡ ladder S (leaf (n - 1)) (within S leaf (n - 1)) (length S.lines) room ts
+      → within S leaf n room ts ≡ ladder S (leaf (n - 1)) (within S leaf (n - 1)) (length S.levels) room ts
   unfolding within
   within-at leaf zero room ts h = absurd (omega arith)
-  within-at leaf (suc n) room ts h = ap (λ (r : ℕ). ladder S (leaf r) (within S leaf r) (length S.lines) room ts) (sym (less-one n))
+  within-at leaf (suc n) room ts h = ap (λ (r : ℕ). ladder S (leaf r) (within S leaf r) (length S.levels) room ts) (sym (less-one n))
 
   -- GROWTHS
 
@@ -186,7 +186,7 @@ module _ {T O P : Type 0} (S : Syntax T O P) (deep : IsDeeper S) where
       ∙ ap (λ r. after_turn (turns step room) left ts (turn_of r)) more
       ∙ enough step (λ x. room - S.depth x) (λ x vs y ws f. turn-deeper right room k x vs y ws f) room (suc room) t us (omega (arith, size, small)) (omega (arith, size, small)))
 
-pub ruleset lines = (ladder-base, ladder-chain, ladder-once, ladder-prefix)
+pub ruleset levels = (ladder-base, ladder-chain, ladder-once, ladder-prefix)
 
 pub ruleset steps = (chain-at, once-at, prefix-none, prefix-at, base-none, base-at, within-none, within-at)
 

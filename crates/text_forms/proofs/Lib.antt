@@ -2,15 +2,11 @@ pub mod AllUnits
 pub mod Choices
 pub mod Climbs
 pub mod Exact
-pub mod ExactLines
-pub mod Ladder
+pub mod ExactLevels
 pub mod Many
 pub mod Pairs
-pub mod PrintedExpr
 pub mod Repeat
 pub mod Runs
-pub mod Seven
-pub mod Steps
 pub mod Symbols
 pub mod Texts
 pub mod Tokens

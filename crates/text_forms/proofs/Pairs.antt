@@ -1,5 +1,5 @@
 -- Equations of options and pairs, taken apart.
-use Rattle.std.proofs.Common.{◌≡◌, Some, ap}
+use Rattle.std.proofs.Common.{◌≡◌, Bool, true, false, cond, Option, Some, refl, ap}
 
 -- what is there is one value
 pub some_inj : {A : Type 0} {x y : A} → Some x ≡ Some y → x ≡ y
@@ -8,3 +8,8 @@ some_inj {A} {x} {y} e = cc
 -- and of a pair each part
 pub pair_inj : {A B : Type 0} {p q : A × B} → Some p ≡ Some q → (p.0 ≡ q.0) × (p.1 ≡ q.1)
 pair_inj {A} {B} {p} {q} e = let same : p ≡ q = some_inj e in (ap (λ (r : A × B). r.0) same, ap (λ (r : A × B). r.1) same)
+
+-- what one of two answers is, by which of them is taken
+pub choose : {X P : Type 0} (b : Bool) (x y : Option X) (v : X) → cond b x y ≡ Some v → (b ≡ true → x ≡ Some v → P) → (b ≡ false → y ≡ Some v → P) → P
+choose true x y v e f g = f refl e
+choose false x y v e f g = g refl e

@@ -1,6 +1,6 @@
 -- How deep the trees of a language are.
 use Rattle.std.specs.Prelude.{◌≡◌, suc, max}
-use Rattle.text_forms.specs.Lines.{Syntax}
+use Rattle.text_forms.specs.Levels.{Syntax}
 
 -- a tree is one deeper than the deepest tree in it
 pub record IsDeeper {T O P : Type 0} (S : Syntax T O P) : Type 0 where

@@ -1,10 +1,7 @@
 -- When a reading function is exact for a form: it gives what the tokens stand for, and reads all that stands for something.
-use Rattle.std.specs.Prelude.{◌≡◌, ℕ, ◌≤◌, List, ◌++◌, Some, None}
+use Rattle.std.specs.Prelude.{◌≡◌, List, ◌++◌, Some}
 use Rattle.work_code.specs.Tok.{Tok}
-use Rattle.text_forms.specs.Expressions.{IsExpr}
-use Rattle.text_forms.specs.Ladder.{operator_at, expr_at}
 use Rattle.text_forms.specs.Parse.{Parse}
-use Rattle.text_forms.specs.declared.language.Language.{Language}
 
 -- the front of these tokens, up to `rest`, stands for v
 pub record Front {A : Type 0} (F : A → List Tok → Type 0) (v : A) (ts rest : List Tok) : Type 0 where
@@ -20,12 +17,3 @@ pub record Exact {A : Type 0} (F : A → List Tok → Type 0) (p : Parse A) (E :
 -- anything may follow
 abbrev pub Any : List Tok → Type 0
 Any rest = Unit {0}
-
--- no operator of the lines up to k comes
-abbrev pub Ends : ℕ → List Tok → Type 0
-Ends k rest = (j : ℕ) → j ≤ k → operator_at j rest ≡ None
-
--- What is read as an expression is one by the grammar; and an expression is read, with the tree that the grammar says,
--- wherever no operator follows.
-abbrev pub ExpressionsAreExact : Type 0
-ExpressionsAreExact = (l : Language) (n : ℕ) → Exact (IsExpr l n) (expr_at l n) (Ends 6)

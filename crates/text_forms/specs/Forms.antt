@@ -1,7 +1,7 @@
 -- Grammars: a form says which tokens stand for a value.
 use Rattle.std.specs.Prelude.{◌≡◌, ◌⊎◌, ℕ, List, [], ◌∷◌, ◌++◌, map, Option, None, Some, Bool, true, false, zero, suc}
 use Rattle.std.specs.Prelude.{ℤ, pos}
-use Rattle.text_forms.specs.Parse.{is_value}
+use Rattle.text_forms.specs.Parse.{is_count, is_value}
 use Rattle.work_code.specs.Tok.{Tok, name, var, number, symbol}
 use Rattle.work_code.specs.declared.sign.Symbol.{Symbol}
 use Rattle.work_code.specs.declared.sign.Symbol.TheVariants.{Comma}
@@ -64,6 +64,10 @@ pub record AfterWord {A : Type 0} (word : List ℕ) (F : A → List Tok → Type
 pub record Tested {A : Type 0} (test : A → Bool) (F : A → List Tok → Type 0) (v : A) (ts : List Tok) : Type 0 where
   pub passes : test v ≡ true
   pub formed : F v ts
+
+-- a number that counts something: at most 4294967295
+abbrev pub Count : ℕ → List Tok → Type 0
+Count = Tested is_count Number
 
 -- seen as another value
 pub record Seen {A B : Type 0} (f : A → B) (F : A → List Tok → Type 0) (w : B) (ts : List Tok) : Type 0 where

@@ -87,6 +87,10 @@ value_at ts = then_read (tested is_value number_at ts) (λ n us. Some (pos n, us
 abbrev pub is_short : ℕ → List ℕ → Bool
 is_short most text = nat_le (length text) most
 
+-- no value is there
+abbrev pub nowhere : {A : Type 0} → Parse A
+nowhere ts = None
+
 -- nothing, which always is there
 abbrev pub nothing_at : {A : Type 0} → A → Parse A
 nothing_at v ts = Some (v, ts)

@@ -1,9 +1,8 @@
-// The expressions of any language read, line by line.
+// The expressions of any language read, level by level.
 ghost use Rattle.std.specs.Prelude.{◌≡◌, ◌<◌, ◌≤◌, ◌+◌, IfOk, length, ◌-◌, List, [], ◌∷◌};
 ghost use Rattle.text_forms.specs.Gives.{Gives, Passes};
-ghost use Rattle.text_forms.specs.ReadLines.{chain_line, grown, once_line, prefix_line, closed, base, ladder, within, whole_at};
-ghost use Rattle.text_forms.specs.Parse.{after, run_at, seen};
-ghost use Rattle.work_code.specs.declared.sign.Symbol.TheVariants as s;
+ghost use Rattle.text_forms.specs.ReadLevels.{level_at, chain_at, once_at, prefix_at, base_at, grown_at, called_at, closed_at, whole_at};
+ghost use Rattle.text_forms.specs.Parse.{run_at};
 
 use crate::{Dialect, Fault, Form, TokenSource};
 use std::alloc::Global;
@@ -27,9 +26,9 @@ fn expect<R: TokenSource>(reader: &mut R, symbol: Symbol) -> Result<(), Fault>
     }
 }
 
-// An expression on the line above `rank` others; `brackets` more may be open, and it may be `room` deep.
+// An expression on the level above `rank` others; `brackets` more may be open, and it may be `room` deep.
 #[cycle(expression)]
-#[tactic(auto, using(crate::proofs::Climbs::lines))]
+#[tactic(auto, using(crate::proofs::Climbs::levels))]
 fn ladder<R: TokenSource, D: Dialect<R>>(
     dialect: &D,
     reader: &mut R,
@@ -40,22 +39,22 @@ fn ladder<R: TokenSource, D: Dialect<R>>(
 ) -> Result<Measured<D::Tree>, Fault>
     requires room { room ≤ 64 }
     requires rank { rank ≤ 16 }
-    ensures reads { Gives (λ m. D.view m.tree) result (R.rest reader.new) (ladder (D.syntax dialect.now) (D.leaf dialect.now brackets) (within (D.syntax dialect.now) (D.leaf dialect.now) brackets) rank room (R.rest reader.old)) }
+    ensures reads { Gives (λ m. D.view m.tree) result (R.rest reader.new) (level_at (D.syntax dialect.now) (D.leaf dialect.now) brackets rank room (R.rest reader.old)) }
     ensures small { IfOk result (λ m. m.depth ≤ room) }
     ensures depth { IfOk result (λ m. m.depth ≡ (D.syntax dialect.now).depth (D.view m.tree)) }
 {
     if rank == 0 {
         return base(dialect, reader, alloc, brackets, room);
     }
-    let line = rank - 1;
-    match dialect.form(line) {
-        Form::Chain => chain(dialect, reader, alloc, brackets, line, room),
-        Form::Once => once(dialect, reader, alloc, brackets, line, room),
-        Form::Prefix => prefix(dialect, reader, alloc, brackets, line, room),
+    let level = rank - 1;
+    match dialect.form(level) {
+        Form::Chain => chain(dialect, reader, alloc, brackets, level, room),
+        Form::Once => once(dialect, reader, alloc, brackets, level, room),
+        Form::Prefix => prefix(dialect, reader, alloc, brackets, level, room),
     }
 }
 
-// Expressions of the line below, with operators of this line between them.
+// Expressions of the level below, with operators of this level between them.
 #[cycle(expression)]
 #[tactic(auto, using(crate::proofs::Climbs::steps, crate::proofs::Climbs::chains))]
 fn chain<R: TokenSource, D: Dialect<R>>(
@@ -63,23 +62,23 @@ fn chain<R: TokenSource, D: Dialect<R>>(
     reader: &mut R,
     alloc: Global,
     brackets: u32,
-    line: u32,
+    level: u32,
     room: u32,
 ) -> Result<Measured<D::Tree>, Fault>
     requires room { room ≤ 64 }
-    requires line { line < 16 }
-    ensures reads { Gives (λ m. D.view m.tree) result (R.rest reader.new) (chain_line (D.syntax dialect.now) line (ladder (D.syntax dialect.now) (D.leaf dialect.now brackets) (within (D.syntax dialect.now) (D.leaf dialect.now) brackets) line) room (R.rest reader.old)) }
+    requires level { level < 16 }
+    ensures reads { Gives (λ m. D.view m.tree) result (R.rest reader.new) (chain_at (D.syntax dialect.now) (D.leaf dialect.now) brackets level room (R.rest reader.old)) }
     ensures small { IfOk result (λ m. m.depth ≤ room) }
     ensures depth { IfOk result (λ m. m.depth ≡ (D.syntax dialect.now).depth (D.view m.tree)) }
 {
-    let mut left = ladder(dialect, reader, alloc, brackets, line, room)?;
-    'items: while let Some(op) = dialect.operator(reader, line) {
-        left = grown(dialect, reader, alloc, brackets, line, room, left, op)?;
+    let mut left = ladder(dialect, reader, alloc, brackets, level, room)?;
+    'items: while let Some(op) = dialect.operator(reader, level) {
+        left = grown(dialect, reader, alloc, brackets, level, room, left, op)?;
     }
     Ok(left)
 }
 
-// An expression with this operator behind it, and the one of the line below that follows.
+// An expression with this operator behind it, and the one of the level below that follows.
 #[cycle(expression)]
 #[tactic(auto, using(crate::proofs::Climbs::growths))]
 fn grown<R: TokenSource, D: Dialect<R>>(
@@ -87,15 +86,15 @@ fn grown<R: TokenSource, D: Dialect<R>>(
     reader: &mut R,
     alloc: Global,
     brackets: u32,
-    line: u32,
+    level: u32,
     room: u32,
     left: Measured<D::Tree>,
     op: D::Operator,
 ) -> Result<Measured<D::Tree>, Fault>
     requires room { room ≤ 64 }
-    requires line { line < 16 }
+    requires level { level < 16 }
     requires exact { left.depth ≡ (D.syntax dialect.now).depth (D.view left.tree) }
-    ensures reads { Gives (λ m. D.view m.tree) result (R.rest reader.new) (grown (D.syntax dialect.now) (ladder (D.syntax dialect.now) (D.leaf dialect.now brackets) (within (D.syntax dialect.now) (D.leaf dialect.now) brackets) line (room - 1)) room op (D.view left.tree) (R.rest reader.old)) }
+    ensures reads { Gives (λ m. D.view m.tree) result (R.rest reader.new) (grown_at (D.syntax dialect.now) (D.leaf dialect.now) brackets level room op (D.view left.tree) (R.rest reader.old)) }
     ensures small { IfOk result (λ m. m.depth ≤ room) }
     ensures depth { IfOk result (λ m. m.depth ≡ (D.syntax dialect.now).depth (D.view m.tree)) }
     ensures more { IfOk result (λ m. left.depth < m.depth) }
@@ -103,13 +102,13 @@ fn grown<R: TokenSource, D: Dialect<R>>(
     if left.depth >= room {
         return Err(Fault::Syntax);
     }
-    let right = ladder(dialect, reader, alloc, brackets, line, room - 1)?;
+    let right = ladder(dialect, reader, alloc, brackets, level, room - 1)?;
     let depth = left.depth.max(right.depth) + 1;
     let tree = dialect.join(alloc, op, left.tree, right.tree)?;
     Ok(Measured { tree, depth })
 }
 
-// An expression of the line below, and one operator of this line at most.
+// An expression of the level below, and one operator of this level at most.
 #[cycle(expression)]
 #[tactic(auto, using(crate::proofs::Climbs::steps))]
 fn once<R: TokenSource, D: Dialect<R>>(
@@ -117,23 +116,23 @@ fn once<R: TokenSource, D: Dialect<R>>(
     reader: &mut R,
     alloc: Global,
     brackets: u32,
-    line: u32,
+    level: u32,
     room: u32,
 ) -> Result<Measured<D::Tree>, Fault>
     requires room { room ≤ 64 }
-    requires line { line < 16 }
-    ensures reads { Gives (λ m. D.view m.tree) result (R.rest reader.new) (once_line (D.syntax dialect.now) line (ladder (D.syntax dialect.now) (D.leaf dialect.now brackets) (within (D.syntax dialect.now) (D.leaf dialect.now) brackets) line) room (R.rest reader.old)) }
+    requires level { level < 16 }
+    ensures reads { Gives (λ m. D.view m.tree) result (R.rest reader.new) (once_at (D.syntax dialect.now) (D.leaf dialect.now) brackets level room (R.rest reader.old)) }
     ensures small { IfOk result (λ m. m.depth ≤ room) }
     ensures depth { IfOk result (λ m. m.depth ≡ (D.syntax dialect.now).depth (D.view m.tree)) }
 {
-    let left = ladder(dialect, reader, alloc, brackets, line, room)?;
-    match dialect.operator(reader, line) {
-        Some(op) => grown(dialect, reader, alloc, brackets, line, room, left, op),
+    let left = ladder(dialect, reader, alloc, brackets, level, room)?;
+    match dialect.operator(reader, level) {
+        Some(op) => grown(dialect, reader, alloc, brackets, level, room, left, op),
         None => Ok(left),
     }
 }
 
-// An expression of the line below behind signs of this line, as many as come.
+// An expression of the level below behind signs of this level, as many as come.
 #[cycle(expression)]
 #[tactic(auto, using(crate::proofs::Climbs::steps))]
 fn prefix<R: TokenSource, D: Dialect<R>>(
@@ -141,22 +140,22 @@ fn prefix<R: TokenSource, D: Dialect<R>>(
     reader: &mut R,
     alloc: Global,
     brackets: u32,
-    line: u32,
+    level: u32,
     room: u32,
 ) -> Result<Measured<D::Tree>, Fault>
     requires room { room ≤ 64 }
-    requires line { line < 16 }
-    ensures reads { Gives (λ m. D.view m.tree) result (R.rest reader.new) (prefix_line (D.syntax dialect.now) line (ladder (D.syntax dialect.now) (D.leaf dialect.now brackets) (within (D.syntax dialect.now) (D.leaf dialect.now) brackets) line) room (R.rest reader.old)) }
+    requires level { level < 16 }
+    ensures reads { Gives (λ m. D.view m.tree) result (R.rest reader.new) (prefix_at (D.syntax dialect.now) (D.leaf dialect.now) brackets level room (R.rest reader.old)) }
     ensures small { IfOk result (λ m. m.depth ≤ room) }
     ensures depth { IfOk result (λ m. m.depth ≡ (D.syntax dialect.now).depth (D.view m.tree)) }
 {
     if room == 0 {
         return Err(Fault::Syntax);
     }
-    let Some(sign) = dialect.sign(reader, line) else {
-        return ladder(dialect, reader, alloc, brackets, line, room);
+    let Some(sign) = dialect.sign(reader, level) else {
+        return ladder(dialect, reader, alloc, brackets, level, room);
     };
-    let inner = prefix(dialect, reader, alloc, brackets, line, room - 1)?;
+    let inner = prefix(dialect, reader, alloc, brackets, level, room - 1)?;
     let tree = dialect.mark(alloc, sign, inner.tree)?;
     Ok(Measured {
         tree,
@@ -175,7 +174,7 @@ fn base<R: TokenSource, D: Dialect<R>>(
     room: u32,
 ) -> Result<Measured<D::Tree>, Fault>
     requires room { room ≤ 64 }
-    ensures reads { Gives (λ m. D.view m.tree) result (R.rest reader.new) (base (D.syntax dialect.now) (D.leaf dialect.now brackets) (within (D.syntax dialect.now) (D.leaf dialect.now) brackets) room (R.rest reader.old)) }
+    ensures reads { Gives (λ m. D.view m.tree) result (R.rest reader.new) (base_at (D.syntax dialect.now) (D.leaf dialect.now) brackets room (R.rest reader.old)) }
     ensures small { IfOk result (λ m. m.depth ≤ room) }
     ensures depth { IfOk result (λ m. m.depth ≡ (D.syntax dialect.now).depth (D.view m.tree)) }
 {
@@ -216,7 +215,7 @@ fn called<R: TokenSource, D: Dialect<R>>(
     sign: D::Sign,
 ) -> Result<Measured<D::Tree>, Fault>
     requires room { room < 64 }
-    ensures reads { Gives (λ m. D.view m.tree) result (R.rest reader.new) (seen ((D.syntax dialect.now).mark sign) (after (s.Open ∷ []) (closed (within (D.syntax dialect.now) (D.leaf dialect.now) brackets) room)) (R.rest reader.old)) }
+    ensures reads { Gives (λ m. D.view m.tree) result (R.rest reader.new) (called_at (D.syntax dialect.now) (D.leaf dialect.now) brackets room sign (R.rest reader.old)) }
     ensures small { IfOk result (λ m. m.depth ≤ room + 1) }
     ensures depth { IfOk result (λ m. m.depth ≡ (D.syntax dialect.now).depth (D.view m.tree)) }
 {
@@ -240,7 +239,7 @@ fn enclosed<R: TokenSource, D: Dialect<R>>(
     room: u32,
 ) -> Result<Measured<D::Tree>, Fault>
     requires room { room ≤ 64 }
-    ensures reads { Gives (λ m. D.view m.tree) result (R.rest reader.new) (closed (within (D.syntax dialect.now) (D.leaf dialect.now) brackets) room (R.rest reader.old)) }
+    ensures reads { Gives (λ m. D.view m.tree) result (R.rest reader.new) (closed_at (D.syntax dialect.now) (D.leaf dialect.now) brackets room (R.rest reader.old)) }
     ensures small { IfOk result (λ m. m.depth ≤ room) }
     ensures depth { IfOk result (λ m. m.depth ≡ (D.syntax dialect.now).depth (D.view m.tree)) }
 {

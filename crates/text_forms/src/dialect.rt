@@ -3,9 +3,9 @@ ghost use Rattle.std.specs.Prelude.{◌≡◌, ◌≤◌, IfOk, ℕ, List, lengt
 ghost use Rattle.work_code.specs.Tok.{Tok};
 ghost use Rattle.text_forms.specs.Deep.{IsDeeper};
 ghost use Rattle.text_forms.specs.Gives.{Gives};
-ghost use Rattle.text_forms.specs.Lines.{Syntax, line_of, form_of};
+ghost use Rattle.text_forms.specs.Levels.{Syntax, level_of, form_of};
 ghost use Rattle.text_forms.specs.Parse.{Parse, begins_with};
-ghost use Rattle.text_forms.specs.ReadLines.{first, operator_at, sign_at};
+ghost use Rattle.text_forms.specs.ReadLevels.{first, operator_at, sign_at};
 ghost use Rattle.text_forms.specs.Tail.{tail};
 
 use crate::{Fault, Form};
@@ -24,7 +24,7 @@ pub trait TokenSource {
         ensures rest { rest self.new ≡ (if result then tail (rest self.old) else rest self.old) };
 }
 
-/// A language of expressions: its lines, from the tightest, its leaves, and how its trees are made.
+/// A language of expressions: its levels, from the tightest, its leaves, and how its trees are made.
 pub trait Dialect<R: TokenSource> {
     type Tree: Drop;
 
@@ -42,23 +42,23 @@ pub trait Dialect<R: TokenSource> {
     /// How a leaf is read, where so many more brackets may be open.
     ghost leaf: { Self → ℕ → Parse Plain };
 
-    /// How many lines there are.
+    /// How many levels there are.
     fn height(&self) -> u32
-        ensures all { result ≡ length (syntax self.now).lines }
+        ensures all { result ≡ length (syntax self.now).levels }
         ensures few { result ≤ 16 };
 
-    /// The form of the line above so many others.
-    fn form(&self, line: u32) -> Form
-        ensures { result ≡ form_of (line_of (syntax self.now).lines line) };
+    /// The form of the level above so many others.
+    fn form(&self, level: u32) -> Form
+        ensures { result ≡ form_of (level_of (syntax self.now).levels level) };
 
-    /// Passes over the operator of the line that comes next, if one does.
-    fn operator(&self, reader: &mut R, line: u32) -> Option<Self::Operator>
-        ensures found { result ≡ operator_at (syntax self.now) line (R.rest reader.old) }
+    /// Passes over the operator of the level that comes next, if one does.
+    fn operator(&self, reader: &mut R, level: u32) -> Option<Self::Operator>
+        ensures found { result ≡ operator_at (syntax self.now) level (R.rest reader.old) }
         ensures rest { R.rest reader.new ≡ (if is_some result then tail (R.rest reader.old) else R.rest reader.old) };
 
-    /// Passes over the sign of the line that comes next, if one does.
-    fn sign(&self, reader: &mut R, line: u32) -> Option<Self::Sign>
-        ensures found { result ≡ sign_at (syntax self.now) line (R.rest reader.old) }
+    /// Passes over the sign of the level that comes next, if one does.
+    fn sign(&self, reader: &mut R, level: u32) -> Option<Self::Sign>
+        ensures found { result ≡ sign_at (syntax self.now) level (R.rest reader.old) }
         ensures rest { R.rest reader.new ≡ (if is_some result then tail (R.rest reader.old) else R.rest reader.old) };
 
     /// Passes over what comes next before an expression in brackets, if something does.

@@ -1,6 +1,6 @@
-// Forms of lines.
+// Forms of levels.
 
-/// How the expressions of a line are made of those of the line below, which binds tighter.
+/// How the expressions of a level are made of those of the level below, which binds tighter.
 #[derive(Clone, Copy, Debug, PartialEq, Eq)]
 pub enum Form {
     /// With operators between them, as many as come; the tree groups to the left.

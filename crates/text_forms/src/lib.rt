@@ -4,16 +4,11 @@
 mod climb;
 mod dialect;
 mod end;
-mod expression;
 mod fault;
 mod form;
-mod language;
-pub mod laws;
 mod names;
-mod operator;
 mod reader;
 mod refusal;
-mod tree;
 mod unit_fault;
 mod units;
 
@@ -22,10 +17,8 @@ pub use dialect::{Dialect, TokenSource};
 pub use end::{closed, is, kept};
 pub use fault::Fault;
 pub use form::Form;
-pub use language::Language;
-pub use operator::Unary;
+pub use names::is_free;
 pub use reader::Reader;
 pub use refusal::Refusal;
-pub use tree::Tree;
 pub use unit_fault::UnitFault;
 pub use units::{Units, read_text, read_units};

@@ -3,10 +3,9 @@ ghost use Rattle.std.specs.Prelude.{◌≡◌, ◌-◌, ◌<◌, IfOk, OnOk, Mat
 ghost use Rattle.std.specs.Int.{IsNonNegative};
 ghost use Rattle.text_forms.specs.Tail.{tail};
 ghost use Rattle.text_forms.specs.Parse.{begins_with, is_word_at, word_at, run_at, name_at, var_at, number_at, count_at, open_at, value_at};
-ghost use Rattle.text_forms.specs.Language.{plain_name_at};
 ghost use Rattle.text_forms.specs.Gives.{Gives, Passes};
 
-use crate::{Fault, Language};
+use crate::{Fault, TokenSource};
 use std::marker::Model;
 use work_code::{Lexeme, Symbol, Token};
 
@@ -173,18 +172,6 @@ impl<'a> Reader<'a> {
         }
     }
 
-    /// The name that has to come next, which is one that users may give in this language.
-    pub fn plain_name(&mut self, language: Language) -> Result<&'a [u8], Fault>
-        ensures { Gives (λ text. text.now) result self.new (plain_name_at language self.old) }
-    {
-        let text = self.name()?;
-        if language.is_plain(text) {
-            Ok(text)
-        } else {
-            Err(Fault::Syntax)
-        }
-    }
-
     /// The number that has to come next, as a value.
     pub fn value(&mut self) -> Result<i64, Fault>
         ensures reads { Gives (λ value. value) result self.new (value_at self.old) }
@@ -195,5 +182,13 @@ impl<'a> Reader<'a> {
             Ok(value) => Ok(value),
             Err(_) => Err(Fault::Syntax),
         }
+    }
+}
+
+impl<'a> TokenSource for Reader<'a> {
+    ghost rest = { λ r. r };
+
+    fn takes(&mut self, symbol: Symbol) -> bool {
+        self.takes(symbol)
     }
 }

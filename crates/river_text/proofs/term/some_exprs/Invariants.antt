@@ -2,7 +2,8 @@ use Rattle.std.proofs.Common.{◌≡◌, length}
 use Rattle.text_forms.specs.Parse.{comma_turn}
 use Rattle.text_forms.specs.Repeat.{repeated}
 use Rattle.work_code.specs.Term.{terms}
-use Rattle.river_text.specs.ReadKernels.{term_at, some_terms_at}
+use Rattle.river_text.specs.Bodies.{some_terms_at}
+use Rattle.river_text.specs.Expressions.{term_at}
 use Rattle.river_text.proofs.term.some_exprs.Given as goal
 
 abbrev pub invariant-items : goal.invariant-items

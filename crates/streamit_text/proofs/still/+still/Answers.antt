@@ -1,6 +1,6 @@
-use Rattle.std.proofs.Common.{◌≡◌, ◌+◌, ◌≤◌, ◌<◌, length, map, drop, sym, ap, ◌∙◌, arith, rules, true, false}
+use Rattle.std.proofs.Common.{◌≡◌, ◌+◌, map, drop, sym, ap, ◌∙◌, arith, rules, true, false}
 use Rattle.std.specs.Prelude.{◌&&◌}
-use Rattle.streamit_text.specs.Tree.{statement, block, in_turn}
+use Rattle.streamit_text.specs.Tree.{statement, in_turn}
 use Rattle.streamit_text.proofs.Trees.{block-is}
 use Rattle.streamit_text.proofs.Places.{at_place, none_left}
 use Rattle.streamit_text.specs.Grammar.{stays, stay}

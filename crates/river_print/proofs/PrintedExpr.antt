@@ -7,65 +7,39 @@ use Rattle.work_code.specs.declared.expr.BinOp.{BinOp}
 use Rattle.work_code.specs.declared.expr.BinOp.TheVariants as op
 use Rattle.work_code.specs.declared.sign.Symbol.{Symbol}
 use Rattle.work_code.specs.declared.sign.Symbol.TheVariants as s
-use Rattle.work_code.specs.Term.{Term, Const, Input, Slot, Neg, Not, Bin}
-use Rattle.work_code.specs.Term as term
+use Rattle.work_code.specs.Term.{Term, Const, Input, Slot, Neg, Not, Bin, depth_of}
 use Rattle.work_code.specs.Printed.{text_of, sign_text}
-use Rattle.work_code.specs.Lexis.{most, is_blank, first_is, is_word, is_letter, is_digit}
+use Rattle.work_code.specs.Lexis.{is_blank, first_is, is_word, is_letter, is_digit}
 use Rattle.work_code.specs.Symbols.{symbol_bytes}
 use Rattle.work_code.specs.Tok.{Tok, name, number, symbol}
 use Rattle.work_code.proofs.Spelled.{Spells, Anything, NoWord, NoSign, MayFollow, is_name_text, spells-then, spells-less, spells-blank, spells-symbol}
 use Rattle.work_code.proofs.Spelled.{spells-name, spells-number, blank_follows, minus_follows, not_follows, decimal-first}
-use Rattle.text_forms.specs.Parse.{is_count}
-use Rattle.text_forms.specs.Tree.{Spoken}
-use Rattle.text_forms.specs.Tree as tree
-use Rattle.text_forms.specs.declared.language.Language.TheVariants.{River}
-use Rattle.text_forms.specs.Expressions as grammar
-use Rattle.text_forms.specs.Lines.{line_of, form_of, operator}
-use Rattle.text_forms.specs.Lines as lines
+use Rattle.text_forms.specs.Levels.{level_of, form_of, operator}
+use Rattle.text_forms.specs.Levels as levels
+use Rattle.text_forms.specs.Parse.{is_count, is_value}
 use Rattle.text_forms.specs.declared.form.Form.TheVariants as form
-use Rattle.text_forms.specs.declared.operator.Unary.{Unary}
-use Rattle.text_forms.specs.declared.operator.Unary.TheVariants as unary
+use Rattle.text_blocks.specs.Seven as grammar
+use Rattle.text_blocks.specs.declared.sign.Sign.{Sign}
+use Rattle.text_blocks.specs.declared.sign.Sign.TheVariants as sign
+use Rattle.river_text.specs.Expressions.{marked, syntax, IsLeaf, IsTerm}
+use Rattle.river_text.specs.Expressions as rule
+use Rattle.river_print.specs.Writable.{IsSpoken}
 
--- an expression that a text can stand for: no constant below 0, and numbers that are counts
-abbrev pub IsWritten : Term → Type 0
-IsWritten (Const z) = (n : ℕ) × (z ≡ pos n) × (n ≤ most)
-IsWritten (Input place) = place < 4294967296
-IsWritten (Slot slot) = slot < 4294967296
-IsWritten (Neg t) = IsWritten t
-IsWritten (Not t) = IsWritten t
-IsWritten (Bin o l r) = IsWritten l × IsWritten r
+-- a value from 0 on as a number
+abbrev pub natural : ℤ → ℕ
+natural (pos n) = n
+natural (negsuc n) = 0
 
-abbrev of_value : ℤ → ℕ
-of_value (pos n) = n
-of_value (negsuc n) = 0
-
--- the expression as a tree of a text
-abbrev pub spoken_of : Term → Spoken
-spoken_of (Const z) = tree.Number (of_value z)
-spoken_of (Input place) = tree.Input place
-spoken_of (Slot slot) = tree.Slot slot
-spoken_of (Neg t) = tree.Neg (spoken_of t)
-spoken_of (Not t) = tree.Not (spoken_of t)
-spoken_of (Bin o l r) = tree.Bin o (spoken_of l) (spoken_of r)
-
--- the tokens of its printed text
+-- the tokens of the printed text of an expression
 abbrev pub printed : Term → List Tok
-printed (Const z) = number (of_value z) ∷ []
+printed (Const z) = number (natural z) ∷ []
 printed (Input place) = name (codes "input") ∷ symbol s.OpenBracket ∷ number place ∷ symbol s.CloseBracket ∷ []
 printed (Slot slot) = name (codes "slot") ∷ symbol s.OpenBracket ∷ number slot ∷ symbol s.CloseBracket ∷ []
 printed (Neg t) = symbol s.Open ∷ ((symbol s.Minus ∷ printed t) ++ symbol s.Close ∷ [])
 printed (Not t) = symbol s.Open ∷ ((symbol s.Not ∷ printed t) ++ symbol s.Close ∷ [])
 printed (Bin o l r) = symbol s.Open ∷ ((printed l ++ symbol (grammar.sign_of o) ∷ printed r) ++ symbol s.Close ∷ [])
 
-pub depth_of-spoken : (t : Term) → tree.depth_of (spoken_of t) ≡ term.depth_of t
-depth_of-spoken (Const z) = refl
-depth_of-spoken (Input place) = refl
-depth_of-spoken (Slot slot) = refl
-depth_of-spoken (Neg t) = ap (λ (n : ℕ). suc n) (depth_of-spoken t)
-depth_of-spoken (Not t) = ap (λ (n : ℕ). suc n) (depth_of-spoken t)
-depth_of-spoken (Bin o l r) = rw (depth_of-spoken l, depth_of-spoken r) refl
-
-some_depth : (t : Term) → 0 < term.depth_of t
+some_depth : (t : Term) → 0 < depth_of t
 some_depth (Const z) = omega arith
 some_depth (Input place) = omega arith
 some_depth (Slot slot) = omega arith
@@ -77,62 +51,70 @@ some_depth (Bin o l r) = omega arith
 pub is_count-below : (n : ℕ) → n < 4294967296 → is_count n ≡ true
 is_count-below n lt = grind (arith, nat_tests)
 
--- what is on a line of the grammar is on each looser line
-looser : (n : ℕ) (t : Spoken) (ts : List Tok) → grammar.Spells River n 0 t ts → (k : ℕ) → grammar.Spells River n k t ts
+-- a number below 2^63 is a value
+pub is_value-below : (n : ℕ) → n ≤ 9223372036854775807 → is_value n ≡ true
+is_value-below n h = grind (arith, nat_tests)
+
+-- the tokens stand for the expression, on the level above `rank` others
+abbrev Stands : (n rank : ℕ) → Term → List Tok → Type 0
+Stands n rank t ts = levels.Spells syntax IsLeaf n rank t ts
+
+-- what is on a level of the grammar is on each looser level
+looser : (n : ℕ) (t : Term) (ts : List Tok) → Stands n 0 t ts → (k : ℕ) → Stands n k t ts
 looser n t ts h zero = h
-looser n t ts h (suc k) = lines.tighter n k t ts (looser n t ts h k)
+looser n t ts h (suc k) = levels.tighter n k t ts (looser n t ts h k)
 
 abbrev higher : ℕ → ℕ → ℕ
 higher zero k = k
 higher (suc j) k = suc (higher j k)
 
-up : (n j k : ℕ) (t : Spoken) (ts : List Tok) → grammar.Spells River n k t ts → grammar.Spells River n (higher j k) t ts
+up : (n j k : ℕ) (t : Term) (ts : List Tok) → Stands n k t ts → Stands n (higher j k) t ts
 up n zero k t ts h = h
-up n (suc j) k t ts h = lines.tighter n (higher j k) t ts (up n j k t ts h)
+up n (suc j) k t ts h = levels.tighter n (higher j k) t ts (up n j k t ts h)
 
-chained : (n k : ℕ) (o : BinOp) (a b : Spoken) (ts us : List Tok) → form_of (line_of grammar.seven k) ≡ form.Chain
-    → operator (line_of grammar.seven k) (symbol (grammar.sign_of o)) ≡ Some o → grammar.Spells River n 0 a ts → grammar.Spells River n 0 b us
-    → grammar.Spells River n (suc k) (tree.Bin o a b) (ts ++ symbol (grammar.sign_of o) ∷ us)
-chained n k o a b ts us many is x y = lines.chain n k (symbol (grammar.sign_of o)) o a b ts us many is (looser n a ts x (suc k)) (looser n b us y k)
+chained : (n k : ℕ) (o : BinOp) (a b : Term) (ts us : List Tok) → form_of (level_of syntax.levels k) ≡ form.Chain
+    → operator (level_of syntax.levels k) (symbol (grammar.sign_of o)) ≡ Some o → Stands n 0 a ts → Stands n 0 b us
+    → Stands n (suc k) (Bin o a b) (ts ++ symbol (grammar.sign_of o) ∷ us)
+chained n k o a b ts us many is x y = levels.chain n k (symbol (grammar.sign_of o)) o a b ts us many is (looser n a ts x (suc k)) (looser n b us y k)
 
-operation : (n : ℕ) (o : BinOp) (a b : Spoken) (ts us : List Tok) → grammar.Spells River n 0 a ts → grammar.Spells River n 0 b us
-    → grammar.Spells River n 7 (tree.Bin o a b) (ts ++ symbol (grammar.sign_of o) ∷ us)
-operation n op.Add a b ts us x y = up n 4 3 (tree.Bin op.Add a b) (ts ++ symbol (grammar.sign_of op.Add) ∷ us) (chained n 2 op.Add a b ts us refl refl x y)
-operation n op.Sub a b ts us x y = up n 4 3 (tree.Bin op.Sub a b) (ts ++ symbol (grammar.sign_of op.Sub) ∷ us) (chained n 2 op.Sub a b ts us refl refl x y)
-operation n op.Mul a b ts us x y = up n 5 2 (tree.Bin op.Mul a b) (ts ++ symbol (grammar.sign_of op.Mul) ∷ us) (chained n 1 op.Mul a b ts us refl refl x y)
-operation n op.Quot a b ts us x y = up n 5 2 (tree.Bin op.Quot a b) (ts ++ symbol (grammar.sign_of op.Quot) ∷ us) (chained n 1 op.Quot a b ts us refl refl x y)
-operation n op.Rem a b ts us x y = up n 5 2 (tree.Bin op.Rem a b) (ts ++ symbol (grammar.sign_of op.Rem) ∷ us) (chained n 1 op.Rem a b ts us refl refl x y)
-operation n op.Eq a b ts us x y = up n 2 5 (tree.Bin op.Eq a b) (ts ++ symbol (grammar.sign_of op.Eq) ∷ us) (chained n 4 op.Eq a b ts us refl refl x y)
-operation n op.Ne a b ts us x y = up n 2 5 (tree.Bin op.Ne a b) (ts ++ symbol (grammar.sign_of op.Ne) ∷ us) (chained n 4 op.Ne a b ts us refl refl x y)
-operation n op.Lt a b ts us x y = up n 3 4 (tree.Bin op.Lt a b) (ts ++ symbol (grammar.sign_of op.Lt) ∷ us) (chained n 3 op.Lt a b ts us refl refl x y)
-operation n op.Le a b ts us x y = up n 3 4 (tree.Bin op.Le a b) (ts ++ symbol (grammar.sign_of op.Le) ∷ us) (chained n 3 op.Le a b ts us refl refl x y)
-operation n op.Gt a b ts us x y = up n 3 4 (tree.Bin op.Gt a b) (ts ++ symbol (grammar.sign_of op.Gt) ∷ us) (chained n 3 op.Gt a b ts us refl refl x y)
-operation n op.Ge a b ts us x y = up n 3 4 (tree.Bin op.Ge a b) (ts ++ symbol (grammar.sign_of op.Ge) ∷ us) (chained n 3 op.Ge a b ts us refl refl x y)
-operation n op.And a b ts us x y = up n 1 6 (tree.Bin op.And a b) (ts ++ symbol (grammar.sign_of op.And) ∷ us) (chained n 5 op.And a b ts us refl refl x y)
-operation n op.Or a b ts us x y = up n 0 7 (tree.Bin op.Or a b) (ts ++ symbol (grammar.sign_of op.Or) ∷ us) (chained n 6 op.Or a b ts us refl refl x y)
+operation : (n : ℕ) (o : BinOp) (a b : Term) (ts us : List Tok) → Stands n 0 a ts → Stands n 0 b us
+    → Stands n 7 (Bin o a b) (ts ++ symbol (grammar.sign_of o) ∷ us)
+operation n op.Add a b ts us x y = up n 4 3 (Bin op.Add a b) (ts ++ symbol (grammar.sign_of op.Add) ∷ us) (chained n 2 op.Add a b ts us refl refl x y)
+operation n op.Sub a b ts us x y = up n 4 3 (Bin op.Sub a b) (ts ++ symbol (grammar.sign_of op.Sub) ∷ us) (chained n 2 op.Sub a b ts us refl refl x y)
+operation n op.Mul a b ts us x y = up n 5 2 (Bin op.Mul a b) (ts ++ symbol (grammar.sign_of op.Mul) ∷ us) (chained n 1 op.Mul a b ts us refl refl x y)
+operation n op.Quot a b ts us x y = up n 5 2 (Bin op.Quot a b) (ts ++ symbol (grammar.sign_of op.Quot) ∷ us) (chained n 1 op.Quot a b ts us refl refl x y)
+operation n op.Rem a b ts us x y = up n 5 2 (Bin op.Rem a b) (ts ++ symbol (grammar.sign_of op.Rem) ∷ us) (chained n 1 op.Rem a b ts us refl refl x y)
+operation n op.Eq a b ts us x y = up n 2 5 (Bin op.Eq a b) (ts ++ symbol (grammar.sign_of op.Eq) ∷ us) (chained n 4 op.Eq a b ts us refl refl x y)
+operation n op.Ne a b ts us x y = up n 2 5 (Bin op.Ne a b) (ts ++ symbol (grammar.sign_of op.Ne) ∷ us) (chained n 4 op.Ne a b ts us refl refl x y)
+operation n op.Lt a b ts us x y = up n 3 4 (Bin op.Lt a b) (ts ++ symbol (grammar.sign_of op.Lt) ∷ us) (chained n 3 op.Lt a b ts us refl refl x y)
+operation n op.Le a b ts us x y = up n 3 4 (Bin op.Le a b) (ts ++ symbol (grammar.sign_of op.Le) ∷ us) (chained n 3 op.Le a b ts us refl refl x y)
+operation n op.Gt a b ts us x y = up n 3 4 (Bin op.Gt a b) (ts ++ symbol (grammar.sign_of op.Gt) ∷ us) (chained n 3 op.Gt a b ts us refl refl x y)
+operation n op.Ge a b ts us x y = up n 3 4 (Bin op.Ge a b) (ts ++ symbol (grammar.sign_of op.Ge) ∷ us) (chained n 3 op.Ge a b ts us refl refl x y)
+operation n op.And a b ts us x y = up n 1 6 (Bin op.And a b) (ts ++ symbol (grammar.sign_of op.And) ∷ us) (chained n 5 op.And a b ts us refl refl x y)
+operation n op.Or a b ts us x y = up n 0 7 (Bin op.Or a b) (ts ++ symbol (grammar.sign_of op.Or) ∷ us) (chained n 6 op.Or a b ts us refl refl x y)
 
 -- a sign before an expression
-signed : (n : ℕ) (x : Symbol) (p : Unary) (t : Spoken) (ts : List Tok) → grammar.sign_before x ≡ Some p → grammar.Spells River n 0 t ts
-    → grammar.Spells River n 7 (grammar.marked p t) (symbol x ∷ ts)
-signed n x p t ts is h = up n 6 1 (grammar.marked p t) (symbol x ∷ ts) (lines.prefix n 0 (symbol x) p t ts is (looser n t ts h 1))
+signed : (n : ℕ) (x : Symbol) (p : Sign) (t : Term) (ts : List Tok) → grammar.sign_before x ≡ Some p → Stands n 0 t ts
+    → Stands n 7 (marked p t) (symbol x ∷ ts)
+signed n x p t ts is h = up n 6 1 (marked p t) (symbol x ∷ ts) (levels.prefix n 0 (symbol x) p t ts is (looser n t ts h 1))
 
 -- the tokens of the printed text stand for the expression
-pub printed-spells : (t : Term) (n : ℕ) → IsWritten t → term.depth_of t ≤ n → grammar.Spells River n 0 (spoken_of t) (printed t)
-printed-spells t zero w d = absurd (let e = some_depth t in omega arith)
-printed-spells (Const z) (suc n) w d = lines.leaf (suc n) (tree.Number (of_value z)) (printed (Const z)) (grammar.number (suc n) (of_value z))
-printed-spells (Input place) (suc n) w d = lines.leaf (suc n) (tree.Input place) (printed (Input place)) (grammar.input n place refl (is_count-below place w))
-printed-spells (Slot slot) (suc n) w d = lines.leaf (suc n) (tree.Slot slot) (printed (Slot slot)) (grammar.slot n slot refl (is_count-below slot w))
-printed-spells (Neg t) (suc n) w d =
-    lines.bracket n (tree.Neg (spoken_of t)) (symbol s.Minus ∷ printed t) (signed n s.Minus unary.Neg (spoken_of t) (printed t) refl (printed-spells t n w (omega arith)))
-printed-spells (Not t) (suc n) w d =
-    lines.bracket n (tree.Not (spoken_of t)) (symbol s.Not ∷ printed t) (signed n s.Not unary.Not (spoken_of t) (printed t) refl (printed-spells t n w (omega arith)))
-printed-spells (Bin o l r) (suc n) w d =
-    lines.bracket n (tree.Bin o (spoken_of l) (spoken_of r)) (printed l ++ symbol (grammar.sign_of o) ∷ printed r)
-    (operation n o (spoken_of l) (spoken_of r) (printed l) (printed r) (printed-spells l n w.0 (omega arith)) (printed-spells r n w.1 (omega arith)))
+printed-stands : (t : Term) (n : ℕ) → IsSpoken t → depth_of t ≤ n → Stands n 0 t (printed t)
+printed-stands t zero w d = absurd (let e = some_depth t in omega arith)
+printed-stands (Const z) (suc n) w d = rw w.1 (levels.leaf (suc n) (Const (pos w.0)) (number w.0 ∷ []) (rule.number (suc n) w.0 (is_value-below w.0 w.2)))
+printed-stands (Input place) (suc n) w d = levels.leaf (suc n) (Input place) (printed (Input place)) (rule.input n place (is_count-below place w))
+printed-stands (Slot slot) (suc n) w d = levels.leaf (suc n) (Slot slot) (printed (Slot slot)) (rule.slot n slot (is_count-below slot w))
+printed-stands (Neg t) (suc n) w d =
+    levels.bracket n (Neg t) (symbol s.Minus ∷ printed t) (signed n s.Minus sign.Neg t (printed t) refl (printed-stands t n w (omega arith)))
+printed-stands (Not t) (suc n) w d =
+    levels.bracket n (Not t) (symbol s.Not ∷ printed t) (signed n s.Not sign.Not t (printed t) refl (printed-stands t n w (omega arith)))
+printed-stands (Bin o l r) (suc n) w d =
+    levels.bracket n (Bin o l r) (printed l ++ symbol (grammar.sign_of o) ∷ printed r)
+    (operation n o l r (printed l) (printed r) (printed-stands l n w.0 (omega arith)) (printed-stands r n w.1 (omega arith)))
 
 -- so they are an expression, where so many more brackets may be open as the expression is deep
-pub printed-is : (t : Term) (n : ℕ) → IsWritten t → term.depth_of t ≤ 64 → term.depth_of t ≤ n → grammar.IsExpr River n (spoken_of t) (printed t)
-printed-is t n w d m = (looser n (spoken_of t) (printed t) (printed-spells t n w m) 7, omega (arith, depth_of-spoken t))
+pub printed-is : (t : Term) (n : ℕ) → IsSpoken t → depth_of t ≤ 64 → depth_of t ≤ n → IsTerm n t (printed t)
+printed-is t n w d m = (looser n t (printed t) (printed-stands t n w m) 7, d)
 
 -- ---- the bytes of the text have these tokens
 
@@ -211,7 +193,7 @@ operator-then o u us h =
     (symbol-then (grammar.sign_of o) (codes " " ++ u) us (blank-then u us h) (λ rest no. blank_follows (grammar.sign_of o) (u ++ rest))))
 
 -- an expression begins with no sign
-pub begins : (t : Term) (rest : List ℕ) → IsWritten t → NoSign (text_of t ++ rest)
+pub begins : (t : Term) (rest : List ℕ) → IsSpoken t → NoSign (text_of t ++ rest)
 begins (Const z) rest w = rw w.1 (decimal-first w.0 rest w.2)
 begins (Input place) rest w = (refl, refl)
 begins (Slot slot) rest w = (refl, refl)
@@ -223,7 +205,7 @@ pub bracketed : {ok : List ℕ → Type 0} (u v : List ℕ) (us : List Tok) → 
 bracketed {ok} u v us same h = subst (λ (l : List ℕ). Spells l us ok) same h
 
 -- the printed text of an expression has its tokens
-pub spells-term : (t : Term) → IsWritten t → Spells (text_of t) (printed t) NoWord
+pub spells-term : (t : Term) → IsSpoken t → Spells (text_of t) (printed t) NoWord
 spells-term (Const z) w = rw w.1 (spells-number w.0 w.2)
 spells-term (Input place) w = spells-less (text_of (Input place)) (printed (Input place)) (indexed (codes "input") place input_is w) (λ rest no. tt)
 spells-term (Slot slot) w = spells-less (text_of (Slot slot)) (printed (Slot slot)) (indexed (codes "slot") slot slot_is w) (λ rest no. tt)

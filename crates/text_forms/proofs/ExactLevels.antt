@@ -1,22 +1,22 @@
--- The reading of the expressions of a ladder is exact, whatever its lines and its leaves are.
-use Rattle.std.proofs.Common.{◌≡◌, ℕ, zero, suc, ◌<◌, ◌≤◌, ◌-◌, List, [], ◌∷◌, ◌++◌, length, Bool, true, false, cond, Option, Some, None, refl, sym, ap, ◌∙◌}
+-- The reading of the expressions of a ladder is exact, whatever its levels and its leaves are.
+use Rattle.std.proofs.Common.{◌≡◌, ℕ, zero, suc, ◌<◌, ◌≤◌, ◌-◌, List, [], ◌∷◌, ◌++◌, length, Bool, true, false, Option, Some, None, refl, sym, ap, ◌∙◌}
 use Rattle.std.proofs.Common.{subst, arith, append_assoc}
 use Rattle.work_code.specs.Tok.{Tok, symbol}
 use Rattle.work_code.specs.declared.sign.Symbol.TheVariants as s
 use Rattle.text_forms.specs.Deep.{IsDeeper}
 use Rattle.text_forms.specs.Forms as form
-use Rattle.text_forms.specs.Lines.{Line, Chain, Once, Prefix, Syntax, line_of, form_of, operator, sign, Spells, IsTerm, IsWhole}
-use Rattle.text_forms.specs.Lines as rule
+use Rattle.text_forms.specs.Levels.{Level, Chain, Once, Prefix, Syntax, level_of, form_of, operator, sign, Spells, IsTerm, IsWhole}
+use Rattle.text_forms.specs.Levels as rule
 use Rattle.text_forms.specs.Parse as parse
-use Rattle.text_forms.specs.ReadLines.{first, operator_at, sign_at, joined, grown, chain_turn, chained, chain_line, once_on, once_line, prefix_on, prefix_line}
-use Rattle.text_forms.specs.ReadLines.{closed, base_on, base, on_line, ladder, within, whole_at}
+use Rattle.text_forms.specs.ReadLevels.{first, operator_at, sign_at, joined, grown, chain_turn, chained, chain_level, once_on, once_level, prefix_on, prefix_level}
+use Rattle.text_forms.specs.ReadLevels.{closed, base_on, base, on_level, ladder, within, whole_at}
 use Rattle.text_forms.specs.Repeat.{Next}
 use Rattle.text_forms.specs.Tail.{tail}
 use Rattle.text_forms.specs.declared.form.Form.{Form}
 use Rattle.text_forms.specs.declared.form.Form.TheVariants as shape
 use Rattle.text_forms.proofs.Climbs.{grown-taken, grown-is, turn-is, chained-stop, chained-grown}
 use Rattle.text_forms.proofs.Exact.{Exact, Front, Any, exact-as, exact-less, exact-after, exact-before, exact-seen, then_read-some}
-use Rattle.text_forms.proofs.Pairs.{pair_inj}
+use Rattle.text_forms.proofs.Pairs.{pair_inj, choose}
 use Rattle.text_forms.proofs.Repeat.{turns-keep}
 use Rattle.text_forms.proofs.Symbols.{begins_with-is}
 
@@ -30,17 +30,13 @@ pub record IsClear {T O P : Type 0} (S : Syntax T O P) (Leaf : ℕ → T → Lis
   pub no_call : (n : ℕ) (t : T) (ts rest : List Tok) → Leaf n t ts → first S.call (ts ++ rest) ≡ None
   pub no_sign : (n k : ℕ) (t : T) (ts rest : List Tok) → Leaf n t ts → sign_at S k (ts ++ rest) ≡ None
   pub open_call : S.call (symbol s.Open) ≡ None
-  pub open_sign : (k : ℕ) → sign (line_of S.lines k) (symbol s.Open) ≡ None
-  pub call_sign : (k : ℕ) (x : Tok) (p : P) → S.call x ≡ Some p → sign (line_of S.lines k) x ≡ None
-  pub signs_apart : (j k : ℕ) (x : Tok) (p : P) → j < k → sign (line_of S.lines j) x ≡ Some p → sign (line_of S.lines k) x ≡ None
-  pub operators_apart : (j k : ℕ) (x : Tok) (o : O) → j < k → operator (line_of S.lines k) x ≡ Some o → operator (line_of S.lines j) x ≡ None
-  pub operator_follows : (k : ℕ) (x : Tok) (o : O) (rest : List Tok) → operator (line_of S.lines k) x ≡ Some o → E (x ∷ rest)
-  pub close_operator : (k : ℕ) → operator (line_of S.lines k) (symbol s.Close) ≡ None
+  pub open_sign : (k : ℕ) → sign (level_of S.levels k) (symbol s.Open) ≡ None
+  pub call_sign : (k : ℕ) (x : Tok) (p : P) → S.call x ≡ Some p → sign (level_of S.levels k) x ≡ None
+  pub signs_apart : (j k : ℕ) (x : Tok) (p : P) → j < k → sign (level_of S.levels j) x ≡ Some p → sign (level_of S.levels k) x ≡ None
+  pub operators_apart : (j k : ℕ) (x : Tok) (o : O) → j < k → operator (level_of S.levels k) x ≡ Some o → operator (level_of S.levels j) x ≡ None
+  pub operator_follows : (k : ℕ) (x : Tok) (o : O) (rest : List Tok) → operator (level_of S.levels k) x ≡ Some o → E (x ∷ rest)
+  pub close_operator : (k : ℕ) → operator (level_of S.levels k) (symbol s.Close) ≡ None
   pub close_follows : (rest : List Tok) → E (symbol s.Close ∷ rest)
-
-choose : {X Q : Type 0} (b : Bool) (x y : Option X) (v : X) → cond b x y ≡ Some v → (b ≡ true → x ≡ Some v → Q) → (b ≡ false → y ≡ Some v → Q) → Q
-choose true x y v e f g = f refl e
-choose false x y v e f g = g refl e
 
 -- the first token, by what it is
 pub record Comes {A : Type 0} (f : Tok → Option A) (ts : List Tok) (a : A) : Type 0 where
@@ -68,12 +64,12 @@ no_some e f = cc
 suc-same : (j k : ℕ) → suc j ≡ suc k → j ≡ k
 suc-same j k e = omega (arith, e)
 
-chain_no_sign : {O P : Type 0} (l : Line O P) (x : Tok) → form_of l ≡ shape.Chain → sign l x ≡ None
+chain_no_sign : {O P : Type 0} (l : Level O P) (x : Tok) → form_of l ≡ shape.Chain → sign l x ≡ None
 chain_no_sign (Chain op) x e = refl
 chain_no_sign (Once op) x e = refl
 chain_no_sign (Prefix p) x e = cc
 
-once_no_sign : {O P : Type 0} (l : Line O P) (x : Tok) → form_of l ≡ shape.Once → sign l x ≡ None
+once_no_sign : {O P : Type 0} (l : Level O P) (x : Tok) → form_of l ≡ shape.Once → sign l x ≡ None
 once_no_sign (Chain op) x e = refl
 once_no_sign (Once op) x e = refl
 once_no_sign (Prefix p) x e = cc
@@ -88,7 +84,7 @@ not_single : (f : Form) → f ≡ shape.Prefix → f ≡ shape.Once → ⊥
 not_single f a b = cc
 
 module _ {T O P : Type 0} (S : Syntax T O P) (Leaf : ℕ → T → List Tok → Type 0) (leaf : ℕ → parse.Parse T) (E : List Tok → Type 0) (clear : IsClear S Leaf leaf E) where
-  -- no operator of the first k lines comes, and nothing that may not follow a leaf
+  -- no operator of the first k levels comes, and nothing that may not follow a leaf
   abbrev pub Ends : ℕ → List Tok → Type 0
   Ends k rest = ((j : ℕ) → j < k → operator_at S j rest ≡ None) × E rest
 
@@ -101,15 +97,15 @@ module _ {T O P : Type 0} (S : Syntax T O P) (Leaf : ℕ → T → List Tok → 
   -- the tokens of an expression behind one bracket more
   abbrev pub IsWithin : (n room : ℕ) → T → List Tok → Type 0
   IsWithin zero room t ts = ⊥
-  IsWithin (suc n) room t ts = IsTerm S Leaf n (length S.lines) room t ts
+  IsWithin (suc n) room t ts = IsTerm S Leaf n (length S.levels) room t ts
 
   ends_less : (j k : ℕ) (rest : List Tok) → j ≤ k → Ends k rest → Ends j rest
   ends_less j k rest le e = ((λ i li. e.0 i (omega (arith, le, li))), e.1)
 
-  operator-ends : (k : ℕ) (x : Tok) (o : O) (rest : List Tok) → operator (line_of S.lines k) x ≡ Some o → Ends k (x ∷ rest)
+  operator-ends : (k : ℕ) (x : Tok) (o : O) (rest : List Tok) → operator (level_of S.levels k) x ≡ Some o → Ends k (x ∷ rest)
   operator-ends k x o rest is = ((λ j lt. clear.operators_apart j k x o lt is), clear.operator_follows k x o rest is)
 
-  close-ends : (rest : List Tok) → Ends (length S.lines) (symbol s.Close ∷ rest)
+  close-ends : (rest : List Tok) → Ends (length S.levels) (symbol s.Close ∷ rest)
   close-ends rest = ((λ j lt. clear.close_operator j), clear.close_follows rest)
 
   -- DEPTHS
@@ -131,7 +127,7 @@ module _ {T O P : Type 0} (S : Syntax T O P) (Leaf : ℕ → T → List Tok → 
 
   some-depth : (n k : ℕ) (t : T) (ts : List Tok) → Spelled n k t ts → 0 < S.depth t
   some-depth n k t ts (rule.leaf m u us h) = let size = clear.shallow m u us h in omega (arith, size)
-  some-depth n k t ts (rule.bracket m u us h) = some-depth m (length S.lines) u us h
+  some-depth n k t ts (rule.bracket m u us h) = some-depth m (length S.levels) u us h
   some-depth n k t ts (rule.call m x p u us c h) = let size = clear.deep.mark p u in omega (arith, size)
   some-depth n k t ts (rule.tighter m j u us h) = some-depth m j u us h
   some-depth n k t ts (rule.chain m j x o a b us vs f c g h) = let size = clear.deep.join o a b in omega (arith, size)
@@ -155,7 +151,7 @@ module _ {T O P : Type 0} (S : Syntax T O P) (Leaf : ℕ → T → List Tok → 
       let tokens : ts ≡ symbol s.Open ∷ (h.formed.front ++ symbol s.Close ∷ []) = h.is ∙ ap (λ (us : List Tok). symbol s.Open ∷ us) h.formed.is in
       (subst (λ (us : List Tok). Spelled (suc n) 0 (S.mark p t) (x ∷ us)) (sym tokens) (rule.call n x p t h.formed.front c h.formed.formed.0), mark-fits p t room h.formed.formed.1)
 
-  module _ (n : ℕ) (i : ℕ → parse.Parse T) (inner : (room : ℕ) → Exact (IsWithin n room) (i room) (Ends (length S.lines))) where
+  module _ (n : ℕ) (i : ℕ → parse.Parse T) (inner : (room : ℕ) → Exact (IsWithin n room) (i room) (Ends (length S.levels))) where
     exact-closed : (room : ℕ) → Exact (form.Before (IsWithin n room) (s.Close ∷ [])) (closed i room) Any
     exact-closed room = exact-before (s.Close ∷ []) (inner room) close-ends
 
@@ -193,12 +189,12 @@ module _ {T O P : Type 0} (S : Syntax T O P) (Leaf : ℕ → T → List Tok → 
         })
         (λ _ r. leaf-or-call room ts t rest (first S.call ts) refl r)
 
-  closed-complete : (n room : ℕ) (i : ℕ → parse.Parse T) → ((room : ℕ) → Exact (IsWithin n room) (i room) (Ends (length S.lines))) → (t : T) (ts : List Tok)
+  closed-complete : (n room : ℕ) (i : ℕ → parse.Parse T) → ((room : ℕ) → Exact (IsWithin n room) (i room) (Ends (length S.levels))) → (t : T) (ts : List Tok)
       → IsWithin n room t ts → (rest : List Tok) → closed i room ((ts ++ symbol s.Close ∷ []) ++ rest) ≡ Some (t, rest)
   closed-complete n room i inner t ts h rest =
       (exact-closed n i inner room).complete t (ts ++ symbol s.Close ∷ []) rest (record { front = ts; is = refl; formed = h }) tt
 
-  base-complete : (n k room : ℕ) (t : T) (ts : List Tok) (i : ℕ → parse.Parse T) → ((room : ℕ) → Exact (IsWithin n room) (i room) (Ends (length S.lines)))
+  base-complete : (n k room : ℕ) (t : T) (ts : List Tok) (i : ℕ → parse.Parse T) → ((room : ℕ) → Exact (IsWithin n room) (i room) (Ends (length S.levels)))
       → Spelled n k t ts → k ≡ 0 → S.depth t ≤ room → (rest : List Tok) → E rest → base S (leaf n) i room (ts ++ rest) ≡ Some (t, rest)
   unfolding base
   base-complete n k zero t ts i inner h at d rest e = absurd (no-room n k t ts h d)
@@ -215,24 +211,24 @@ module _ {T O P : Type 0} (S : Syntax T O P) (Leaf : ℕ → T → List Tok → 
   base-complete n k (suc room) t ts i inner (rule.once m j x o a b us vs f c g h) at d rest e = absurd (omega (arith, at))
   base-complete n k (suc room) t ts i inner (rule.prefix m j x p u us c h) at d rest e = absurd (omega (arith, at))
 
-  exact-base : (n room : ℕ) (i : ℕ → parse.Parse T) → ((room : ℕ) → Exact (IsWithin n room) (i room) (Ends (length S.lines)))
+  exact-base : (n room : ℕ) (i : ℕ → parse.Parse T) → ((room : ℕ) → Exact (IsWithin n room) (i room) (Ends (length S.levels)))
       → Exact (Term n 0 room) (base S (leaf n) i room) E
   exact-base n room i inner = record {
     sound = λ ts v rest e. base-sound n i inner room ts v rest e;
     complete = λ v ts rest h e. base-complete n 0 room v ts i inner h.0 refl h.1 rest e;
   }
 
-  -- what is read with an operator on a line above, for what the tokens so far stand for
+  -- what is read with an operator on a level above, for what the tokens so far stand for
   grows : (n k : ℕ) (below : ℕ → parse.Parse T) → ((room : ℕ) → Exact (Term n k room) (below room) (Ends k))
       → (room : ℕ) (ts : List Tok) (o : O) (left : T) (t : T) (us rest : List Tok) → operator_at S k us ≡ Some o
       → grown S (below (room - 1)) room o left (tail us) ≡ Some (t, rest)
       → (front : List Tok) → ts ≡ front ++ us
-      → ((x : Tok) (r : T) (more : List Tok) → operator (line_of S.lines k) x ≡ Some o → Spelled n k r more → Spelled n (suc k) (S.join o left r) (front ++ x ∷ more))
+      → ((x : Tok) (r : T) (more : List Tok) → operator (level_of S.levels k) x ≡ Some o → Spelled n k r more → Spelled n (suc k) (S.join o left r) (front ++ x ∷ more))
       → Front (Term n (suc k) room) t ts rest
   grows n k below x room ts o left t us rest op more front is make =
       let g = grown-is S clear.deep (below (room - 1)) room o left (tail us) t rest more in
       let f = (x (room - 1)).sound (tail us) g.0 rest g.2 in
-      let c = comes (operator (line_of S.lines k)) us o op in
+      let c = comes (operator (level_of S.levels k)) us o op in
       let tokens : us ≡ (c.token ∷ f.front) ++ rest = c.is ∙ ap (λ (ws : List Tok). c.token ∷ ws) f.is in
       record {
         front = front ++ c.token ∷ f.front;
@@ -248,17 +244,17 @@ module _ {T O P : Type 0} (S : Syntax T O P) (Leaf : ℕ → T → List Tok → 
 
   -- CHAINS
 
-  keeps : (n k : ℕ) (many : form_of (line_of S.lines k) ≡ shape.Chain) (below : ℕ → parse.Parse T) → ((room : ℕ) → Exact (Term n k room) (below room) (Ends k))
+  keeps : (n k : ℕ) (many : form_of (level_of S.levels k) ≡ shape.Chain) (below : ℕ → parse.Parse T) → ((room : ℕ) → Exact (Term n k room) (below room) (Ends k))
       → (room : ℕ) (ts : List Tok) (left : T) (us : List Tok) (y : T) (vs : List Tok)
       → Front (Term n (suc k) room) left ts us → chain_turn S k (below (room - 1)) room left us ≡ Next y vs → Front (Term n (suc k) room) y ts vs
   keeps n k many below x room ts left us y vs so e =
       let t = turn-is S clear.deep (below (room - 1)) room k left us y vs e in
       grows n k below x room ts t.0 left y us vs t.1 t.2 so.front so.is (λ z r more good g. rule.chain n k z t.0 left r so.front more many good so.formed.0 g)
 
-  chain-complete : (k n m room : ℕ) (t : T) (ts : List Tok) (below : ℕ → parse.Parse T) (many : form_of (line_of S.lines k) ≡ shape.Chain)
+  chain-complete : (k n m room : ℕ) (t : T) (ts : List Tok) (below : ℕ → parse.Parse T) (many : form_of (level_of S.levels k) ≡ shape.Chain)
       → ((room : ℕ) → Exact (Term n k room) (below room) (Ends k)) → Spelled n m t ts → m ≡ suc k → S.depth t ≤ room → (rest : List Tok) → Ends k rest
-      → chain_line S k below room (ts ++ rest) ≡ chained S k (below (room - 1)) room t rest
-  unfolding chain_line
+      → chain_level S k below room (ts ++ rest) ≡ chained S k (below (room - 1)) room t rest
+  unfolding chain_level
   chain-complete k n m room t ts below many x (rule.leaf p u us h) at d rest e = absurd (omega (arith, at))
   chain-complete k n m room t ts below many x (rule.bracket p u us h) at d rest e = absurd (omega (arith, at))
   chain-complete k n m room t ts below many x (rule.call p y q u us c h) at d rest e = absurd (omega (arith, at))
@@ -268,36 +264,36 @@ module _ {T O P : Type 0} (S : Syntax T O P) (Leaf : ℕ → T → List Tok → 
   chain-complete k n m room t ts below many x (rule.chain p j y o a b us vs f c g h) at d rest e =
       let same = suc-same j k at in
       let right : Spelled p k b vs = subst (λ (q : ℕ). Spelled p q b vs) same h in
-      let good : operator (line_of S.lines k) y ≡ Some o = subst (λ (q : ℕ). operator (line_of S.lines q) y ≡ Some o) same c in
+      let good : operator (level_of S.levels k) y ≡ Some o = subst (λ (q : ℕ). operator (level_of S.levels q) y ≡ Some o) same c in
       let read : below (room - 1) (vs ++ rest) ≡ Some (b, rest) = (x (room - 1)).complete b vs rest (right, join-right o a b room d) e in
       let small = join-left o a b room d in
-      ap (λ (ws : List Tok). chain_line S k below room ws) (append_assoc us (y ∷ vs) rest)
+      ap (λ (ws : List Tok). chain_level S k below room ws) (append_assoc us (y ∷ vs) rest)
       ∙ chain-complete k p (suc j) room a us below many x g at (omega (arith, small)) (y ∷ (vs ++ rest)) (operator-ends k y o (vs ++ rest) good)
       ∙ sym (chained-grown S clear.deep k (below (room - 1)) room a (S.join o a b) (y ∷ (vs ++ rest)) rest o good (grown-there k (below (room - 1)) room o a b vs rest small read))
   chain-complete k n m room t ts below many x (rule.once p j y o a b us vs f c g h) at d rest e =
-      absurd (not_once (form_of (line_of S.lines k)) many (subst (λ (q : ℕ). form_of (line_of S.lines q) ≡ shape.Once) (suc-same j k at) f))
+      absurd (not_once (form_of (level_of S.levels k)) many (subst (λ (q : ℕ). form_of (level_of S.levels q) ≡ shape.Once) (suc-same j k at) f))
   chain-complete k n m room t ts below many x (rule.prefix p j y q u us c h) at d rest e =
-      absurd (no_some (chain_no_sign (line_of S.lines k) y many) (subst (λ (r : ℕ). sign (line_of S.lines r) y ≡ Some q) (suc-same j k at) c))
+      absurd (no_some (chain_no_sign (level_of S.levels k) y many) (subst (λ (r : ℕ). sign (level_of S.levels r) y ≡ Some q) (suc-same j k at) c))
 
-  exact-chain : (n k : ℕ) (below : ℕ → parse.Parse T) → form_of (line_of S.lines k) ≡ shape.Chain → ((room : ℕ) → Exact (Term n k room) (below room) (Ends k))
-      → (room : ℕ) → Exact (Term n (suc k) room) (chain_line S k below room) (Ends (suc k))
-  unfolding chain_line chained
+  exact-chain : (n k : ℕ) (below : ℕ → parse.Parse T) → form_of (level_of S.levels k) ≡ shape.Chain → ((room : ℕ) → Exact (Term n k room) (below room) (Ends k))
+      → (room : ℕ) → Exact (Term n (suc k) room) (chain_level S k below room) (Ends (suc k))
+  unfolding chain_level chained
   exact-chain n k below many x room = record { sound = sound; complete = complete } where
-    sound : (ts : List Tok) (v : T) (rest : List Tok) → chain_line S k below room ts ≡ Some (v, rest) → Front (Term n (suc k) room) v ts rest
+    sound : (ts : List Tok) (v : T) (rest : List Tok) → chain_level S k below room ts ≡ Some (v, rest) → Front (Term n (suc k) room) v ts rest
     sound ts v rest e =
         let (q, is_q, loop) = then_read-some (below room ts) _ (v, rest) e in
         let f = (x room).sound ts q.0 q.1 is_q in
         let begun : Front (Term n (suc k) room) q.0 ts q.1 = record { front = f.front; is = f.is; formed = (rule.tighter n k q.0 f.front f.formed.0, f.formed.1) } in
         (turns-keep (chain_turn S k (below (room - 1)) room) (λ u us. Front (Term n (suc k) room) u ts us) (keeps n k many below x room ts) (suc room) q.0 q.1 v rest begun loop).0
 
-    complete : (v : T) (ts rest : List Tok) → Term n (suc k) room v ts → Ends (suc k) rest → chain_line S k below room (ts ++ rest) ≡ Some (v, rest)
+    complete : (v : T) (ts rest : List Tok) → Term n (suc k) room v ts → Ends (suc k) rest → chain_level S k below room (ts ++ rest) ≡ Some (v, rest)
     complete v ts rest h e =
         chain-complete k n (suc k) room v ts below many x h.0 refl h.1 rest (ends_less k (suc k) rest (omega arith) e)
         ∙ chained-stop S k (below (room - 1)) room v rest (e.0 k (omega arith))
 
   -- ONE OPERATOR AT MOST
 
-  once-sound : (n k : ℕ) (below : ℕ → parse.Parse T) (single : form_of (line_of S.lines k) ≡ shape.Once)
+  once-sound : (n k : ℕ) (below : ℕ → parse.Parse T) (single : form_of (level_of S.levels k) ≡ shape.Once)
       → ((room : ℕ) → Exact (Term n k room) (below room) (Ends k)) → (room : ℕ) (ts : List Tok) (left : T) (us : List Tok) (v : T) (rest : List Tok)
       → Front (Term n k room) left ts us → (r : Option O) → operator_at S k us ≡ r
       → once_on S (below (room - 1)) room left us r ≡ Some (v, rest) → Front (Term n (suc k) room) v ts rest
@@ -307,10 +303,10 @@ module _ {T O P : Type 0} (S : Syntax T O P) (Leaf : ℕ → T → List Tok → 
   once-sound n k below single x room ts left us v rest f (Some o) is e =
       grows n k below x room ts o left v us rest is e f.front f.is (λ z r more good g. rule.once n k z o left r f.front more single good f.formed.0 g)
 
-  once-complete : (k n m room : ℕ) (t : T) (ts : List Tok) (below : ℕ → parse.Parse T) (single : form_of (line_of S.lines k) ≡ shape.Once)
+  once-complete : (k n m room : ℕ) (t : T) (ts : List Tok) (below : ℕ → parse.Parse T) (single : form_of (level_of S.levels k) ≡ shape.Once)
       → ((room : ℕ) → Exact (Term n k room) (below room) (Ends k)) → Spelled n m t ts → m ≡ suc k → S.depth t ≤ room → (rest : List Tok) → Ends (suc k) rest
-      → once_line S k below room (ts ++ rest) ≡ Some (t, rest)
-  unfolding once_line
+      → once_level S k below room (ts ++ rest) ≡ Some (t, rest)
+  unfolding once_level
   once-complete k n m room t ts below single x (rule.leaf p u us h) at d rest e = absurd (omega (arith, at))
   once-complete k n m room t ts below single x (rule.bracket p u us h) at d rest e = absurd (omega (arith, at))
   once-complete k n m room t ts below single x (rule.call p y q u us c h) at d rest e = absurd (omega (arith, at))
@@ -318,23 +314,23 @@ module _ {T O P : Type 0} (S : Syntax T O P) (Leaf : ℕ → T → List Tok → 
       let here : Spelled p k u us = subst (λ (r : ℕ). Spelled p r u us) (suc-same j k at) g in
       rw ((x room).complete u us rest (here, d) (ends_less k (suc k) rest (omega arith) e), e.0 k (omega arith)) refl
   once-complete k n m room t ts below single x (rule.chain p j y o a b us vs f c g h) at d rest e =
-      absurd (not_once (form_of (line_of S.lines k)) (subst (λ (q : ℕ). form_of (line_of S.lines q) ≡ shape.Chain) (suc-same j k at) f) single)
+      absurd (not_once (form_of (level_of S.levels k)) (subst (λ (q : ℕ). form_of (level_of S.levels q) ≡ shape.Chain) (suc-same j k at) f) single)
   once-complete k n m room t ts below single x (rule.once p j y o a b us vs f c g h) at d rest e =
       let same = suc-same j k at in
       let here : Spelled p k a us = subst (λ (q : ℕ). Spelled p q a us) same g in
       let right : Spelled p k b vs = subst (λ (q : ℕ). Spelled p q b vs) same h in
-      let good : operator (line_of S.lines k) y ≡ Some o = subst (λ (q : ℕ). operator (line_of S.lines q) y ≡ Some o) same c in
+      let good : operator (level_of S.levels k) y ≡ Some o = subst (λ (q : ℕ). operator (level_of S.levels q) y ≡ Some o) same c in
       let small = join-left o a b room d in
       let left : below room (us ++ (y ∷ (vs ++ rest))) ≡ Some (a, y ∷ (vs ++ rest)) = (x room).complete a us (y ∷ (vs ++ rest)) (here, omega (arith, small)) (operator-ends k y o (vs ++ rest) good) in
       let read : below (room - 1) (vs ++ rest) ≡ Some (b, rest) = (x (room - 1)).complete b vs rest (right, join-right o a b room d) (ends_less k (suc k) rest (omega arith) e) in
-      ap (λ (ws : List Tok). once_line S k below room ws) (append_assoc us (y ∷ vs) rest)
+      ap (λ (ws : List Tok). once_level S k below room ws) (append_assoc us (y ∷ vs) rest)
       ∙ rw (left, good) (grown-there k (below (room - 1)) room o a b vs rest small read)
   once-complete k n m room t ts below single x (rule.prefix p j y q u us c h) at d rest e =
-      absurd (no_some (once_no_sign (line_of S.lines k) y single) (subst (λ (r : ℕ). sign (line_of S.lines r) y ≡ Some q) (suc-same j k at) c))
+      absurd (no_some (once_no_sign (level_of S.levels k) y single) (subst (λ (r : ℕ). sign (level_of S.levels r) y ≡ Some q) (suc-same j k at) c))
 
-  exact-once : (n k : ℕ) (below : ℕ → parse.Parse T) → form_of (line_of S.lines k) ≡ shape.Once → ((room : ℕ) → Exact (Term n k room) (below room) (Ends k))
-      → (room : ℕ) → Exact (Term n (suc k) room) (once_line S k below room) (Ends (suc k))
-  unfolding once_line
+  exact-once : (n k : ℕ) (below : ℕ → parse.Parse T) → form_of (level_of S.levels k) ≡ shape.Once → ((room : ℕ) → Exact (Term n k room) (below room) (Ends k))
+      → (room : ℕ) → Exact (Term n (suc k) room) (once_level S k below room) (Ends (suc k))
+  unfolding once_level
   exact-once n k below single x room = record {
     sound = λ ts v rest e.
         let r = then_read-some (below room ts) _ (v, rest) e in
@@ -344,7 +340,7 @@ module _ {T O P : Type 0} (S : Syntax T O P) (Leaf : ℕ → T → List Tok → 
 
   -- SIGNS
 
-  -- what is on a line below begins with no sign of this line
+  -- what is on a level below begins with no sign of this level
   begins_other : (k n m : ℕ) (t : T) (ts : List Tok) → Spelled n m t ts → m ≤ k → (rest : List Tok) → sign_at S k (ts ++ rest) ≡ None
   begins_other k n m t ts (rule.leaf p u us h) le rest = clear.no_sign p k u us rest h
   begins_other k n m t ts (rule.bracket p u us h) le rest = clear.open_sign k
@@ -357,21 +353,21 @@ module _ {T O P : Type 0} (S : Syntax T O P) (Leaf : ℕ → T → List Tok → 
   begins_other k n m t ts (rule.prefix p j y q u us c h) le rest = clear.signs_apart j k y q (omega (arith, le)) c
 
   prefix-sound : (n k : ℕ) (below : ℕ → parse.Parse T) → ((room : ℕ) → Exact (Term n k room) (below room) (Ends k))
-      → (room : ℕ) (ts : List Tok) (v : T) (rest : List Tok) → prefix_line S k below room ts ≡ Some (v, rest) → Front (Term n (suc k) room) v ts rest
-  unfolding prefix_line
+      → (room : ℕ) (ts : List Tok) (v : T) (rest : List Tok) → prefix_level S k below room ts ≡ Some (v, rest) → Front (Term n (suc k) room) v ts rest
+  unfolding prefix_level
   prefix-sound n k below x zero ts v rest e = cc
   prefix-sound n k below x (suc room) ts v rest e = by (sign_at S k ts) refl (λ us u vs g. prefix-sound n k below x room us u vs g) e where
     by : (r : Option P) → sign_at S k ts ≡ r
-        → ((us : List Tok) (u : T) (vs : List Tok) → prefix_line S k below room us ≡ Some (u, vs) → Front (Term n (suc k) room) u us vs)
-        → prefix_on S (prefix_line S k below room) (below (suc room)) ts r ≡ Some (v, rest) → Front (Term n (suc k) (suc room)) v ts rest
+        → ((us : List Tok) (u : T) (vs : List Tok) → prefix_level S k below room us ≡ Some (u, vs) → Front (Term n (suc k) room) u us vs)
+        → prefix_on S (prefix_level S k below room) (below (suc room)) ts r ≡ Some (v, rest) → Front (Term n (suc k) (suc room)) v ts rest
     by None is more f =
         let y = (x (suc room)).sound ts v rest f in
         record { front = y.front; is = y.is; formed = (rule.tighter n k v y.front y.formed.0, y.formed.1) }
     by (Some p) is more f =
-        let (q, is_q, end) = then_read-some (prefix_line S k below room (tail ts)) _ (v, rest) f in
+        let (q, is_q, end) = then_read-some (prefix_level S k below room (tail ts)) _ (v, rest) f in
         let same = pair_inj end in
         let y = more (tail ts) q.0 q.1 is_q in
-        let c = comes (sign (line_of S.lines k)) ts p is in
+        let c = comes (sign (level_of S.levels k)) ts p is in
         record {
           front = c.token ∷ y.front;
           is = c.is ∙ ap (λ (us : List Tok). c.token ∷ us) (y.is ∙ ap (λ (us : List Tok). y.front ++ us) same.1);
@@ -379,10 +375,10 @@ module _ {T O P : Type 0} (S : Syntax T O P) (Leaf : ℕ → T → List Tok → 
               subst (λ (u : T). Term n (suc k) (suc room) u (c.token ∷ y.front)) same.0 (rule.prefix n k c.token p q.0 y.front c.good y.formed.0, mark-fits p q.0 room y.formed.1);
         }
 
-  prefix-complete : (k n m room : ℕ) (t : T) (ts : List Tok) (below : ℕ → parse.Parse T) (signs : form_of (line_of S.lines k) ≡ shape.Prefix)
+  prefix-complete : (k n m room : ℕ) (t : T) (ts : List Tok) (below : ℕ → parse.Parse T) (signs : form_of (level_of S.levels k) ≡ shape.Prefix)
       → ((room : ℕ) → Exact (Term n k room) (below room) (Ends k)) → Spelled n m t ts → m ≡ suc k → S.depth t ≤ room → (rest : List Tok) → Ends (suc k) rest
-      → prefix_line S k below room (ts ++ rest) ≡ Some (t, rest)
-  unfolding prefix_line
+      → prefix_level S k below room (ts ++ rest) ≡ Some (t, rest)
+  unfolding prefix_level
   prefix-complete k n m zero t ts below signs x h at d rest e = absurd (no-room n m t ts h d)
   prefix-complete k n m (suc room) t ts below signs x (rule.leaf p u us h) at d rest e = absurd (omega (arith, at))
   prefix-complete k n m (suc room) t ts below signs x (rule.bracket p u us h) at d rest e = absurd (omega (arith, at))
@@ -391,43 +387,43 @@ module _ {T O P : Type 0} (S : Syntax T O P) (Leaf : ℕ → T → List Tok → 
       let here : Spelled p k u us = subst (λ (r : ℕ). Spelled p r u us) (suc-same j k at) g in
       rw (begins_other k p k u us here (omega arith) rest) ((x (suc room)).complete u us rest (here, d) (ends_less k (suc k) rest (omega arith) e))
   prefix-complete k n m (suc room) t ts below signs x (rule.chain p j y o a b us vs f c g h) at d rest e =
-      absurd (not_chain (form_of (line_of S.lines k)) signs (subst (λ (q : ℕ). form_of (line_of S.lines q) ≡ shape.Chain) (suc-same j k at) f))
+      absurd (not_chain (form_of (level_of S.levels k)) signs (subst (λ (q : ℕ). form_of (level_of S.levels q) ≡ shape.Chain) (suc-same j k at) f))
   prefix-complete k n m (suc room) t ts below signs x (rule.once p j y o a b us vs f c g h) at d rest e =
-      absurd (not_single (form_of (line_of S.lines k)) signs (subst (λ (q : ℕ). form_of (line_of S.lines q) ≡ shape.Once) (suc-same j k at) f))
+      absurd (not_single (form_of (level_of S.levels k)) signs (subst (λ (q : ℕ). form_of (level_of S.levels q) ≡ shape.Once) (suc-same j k at) f))
   prefix-complete k n m (suc room) t ts below signs x (rule.prefix p j y q u us c h) at d rest e =
-      let good : sign (line_of S.lines k) y ≡ Some q = subst (λ (r : ℕ). sign (line_of S.lines r) y ≡ Some q) (suc-same j k at) c in
-      let read : prefix_line S k below room (us ++ rest) ≡ Some (u, rest) = prefix-complete k p (suc j) room u us below signs x h at (mark-inner q u room d) rest e in
+      let good : sign (level_of S.levels k) y ≡ Some q = subst (λ (r : ℕ). sign (level_of S.levels r) y ≡ Some q) (suc-same j k at) c in
+      let read : prefix_level S k below room (us ++ rest) ≡ Some (u, rest) = prefix-complete k p (suc j) room u us below signs x h at (mark-inner q u room d) rest e in
       rw (good, read) refl
 
-  exact-prefix : (n k : ℕ) (below : ℕ → parse.Parse T) → form_of (line_of S.lines k) ≡ shape.Prefix → ((room : ℕ) → Exact (Term n k room) (below room) (Ends k))
-      → (room : ℕ) → Exact (Term n (suc k) room) (prefix_line S k below room) (Ends (suc k))
+  exact-prefix : (n k : ℕ) (below : ℕ → parse.Parse T) → form_of (level_of S.levels k) ≡ shape.Prefix → ((room : ℕ) → Exact (Term n k room) (below room) (Ends k))
+      → (room : ℕ) → Exact (Term n (suc k) room) (prefix_level S k below room) (Ends (suc k))
   exact-prefix n k below signs x room = record {
     sound = λ ts v rest e. prefix-sound n k below x room ts v rest e;
     complete = λ v ts rest h e. prefix-complete k n (suc k) room v ts below signs x h.0 refl h.1 rest e;
   }
 
-  -- ALL LINES
+  -- ALL LEVELS
 
-  exact-line : (n k : ℕ) (below : ℕ → parse.Parse T) → ((room : ℕ) → Exact (Term n k room) (below room) (Ends k)) → (room : ℕ) (l : Line O P)
-      → line_of S.lines k ≡ l → Exact (Term n (suc k) room) (on_line S l k below room) (Ends (suc k))
-  exact-line n k below x room (Chain op) is = exact-chain n k below (ap form_of is) x room
-  exact-line n k below x room (Once op) is = exact-once n k below (ap form_of is) x room
-  exact-line n k below x room (Prefix p) is = exact-prefix n k below (ap form_of is) x room
+  exact-level : (n k : ℕ) (below : ℕ → parse.Parse T) → ((room : ℕ) → Exact (Term n k room) (below room) (Ends k)) → (room : ℕ) (l : Level O P)
+      → level_of S.levels k ≡ l → Exact (Term n (suc k) room) (on_level S l k below room) (Ends (suc k))
+  exact-level n k below x room (Chain op) is = exact-chain n k below (ap form_of is) x room
+  exact-level n k below x room (Once op) is = exact-once n k below (ap form_of is) x room
+  exact-level n k below x room (Prefix p) is = exact-prefix n k below (ap form_of is) x room
 
-  -- an expression on a line, where what stands in brackets is read exactly
-  pub exact-ladder : (n : ℕ) (i : ℕ → parse.Parse T) → ((room : ℕ) → Exact (IsWithin n room) (i room) (Ends (length S.lines))) → (rank room : ℕ)
+  -- an expression on a level, where what stands in brackets is read exactly
+  pub exact-ladder : (n : ℕ) (i : ℕ → parse.Parse T) → ((room : ℕ) → Exact (IsWithin n room) (i room) (Ends (length S.levels))) → (rank room : ℕ)
       → Exact (IsTerm S Leaf n rank room) (ladder S (leaf n) i rank room) (Ends rank)
   unfolding ladder
   exact-ladder n i inner zero room = exact-as (exact-less (exact-base n room i inner) (λ rest (d : Ends 0 rest). d.1)) (λ v ts h. h) (λ v ts h. h) (λ ts. refl)
   exact-ladder n i inner (suc k) room =
-      exact-as (exact-line n k (ladder S (leaf n) i k) (λ r. exact-ladder n i inner k r) room (line_of S.lines k) refl) (λ v ts h. h) (λ v ts h. h) (λ ts. refl)
+      exact-as (exact-level n k (ladder S (leaf n) i k) (λ r. exact-ladder n i inner k r) room (level_of S.levels k) refl) (λ v ts h. h) (λ v ts h. h) (λ ts. refl)
 
   -- an expression behind one bracket more
-  pub exact-within : (n room : ℕ) → Exact (IsWithin n room) (within S leaf n room) (Ends (length S.lines))
+  pub exact-within : (n room : ℕ) → Exact (IsWithin n room) (within S leaf n room) (Ends (length S.levels))
   unfolding within
   exact-within zero room = record { sound = λ ts v rest e. cc; complete = λ v ts rest h e. absurd h }
-  exact-within (suc n) room = exact-as (exact-ladder n (within S leaf n) (exact-within n) (length S.lines) room) (λ v ts h. h) (λ v ts h. h) (λ ts. refl)
+  exact-within (suc n) room = exact-as (exact-ladder n (within S leaf n) (exact-within n) (length S.levels) room) (λ v ts h. h) (λ v ts h. h) (λ ts. refl)
 
   -- an expression of the language
-  pub exact-whole : (n : ℕ) → Exact (IsWhole S Leaf n) (whole_at S leaf n) (Ends (length S.lines))
-  exact-whole n = exact-ladder n (within S leaf n) (exact-within n) (length S.lines) 64
+  pub exact-whole : (n : ℕ) → Exact (IsWhole S Leaf n) (whole_at S leaf n) (Ends (length S.levels))
+  exact-whole n = exact-ladder n (within S leaf n) (exact-within n) (length S.levels) 64

@@ -1,0 +1,5 @@
+use Rattle.saw_text.specs.ExactExpressions.{exact-term}
+use Rattle.saw_text.proofs.laws.expressions_are_exact.Goals as goal
+
+pub returns : goal.returns
+returns c = exact-term
