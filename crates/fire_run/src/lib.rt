@@ -3,13 +3,18 @@
 
 mod adding;
 mod closing;
+mod frame;
+mod joining;
 pub mod laws;
 pub mod net;
 mod one;
 mod opening;
 mod running;
 mod sorting;
+mod splitting;
 
 pub use closing::{Logs, Ran};
+pub use frame::{Bundles, Frame};
 pub use net::Net;
 pub use running::run_on_one_thread;
+pub use splitting::SplitFault;
