@@ -3,6 +3,7 @@ pub mod CloseLemmas
 pub mod MoveLemmas
 pub mod OpenNet
 pub mod OutLemmas
+pub mod RoundLemmas
 pub mod RowLemmas
 pub mod RowSums
 pub mod RunLemmas

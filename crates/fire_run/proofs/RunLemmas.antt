@@ -1,5 +1,5 @@
--- A run of one net, move by move.
-use Rattle.std.proofs.Common.{◌≡◌, ℕ, ◌+◌, ◌*◌, ◌-◌, ◌<◌, ◌≤◌, List, arith}
+-- A run of one net, round by round, and then move by move.
+use Rattle.std.proofs.Common.{◌≡◌, ℕ, ◌+◌, ◌*◌, ◌-◌, ◌<◌, ◌≤◌, List, arith, refl}
 use Rattle.std.specs.Prelude.{Bool, true, false}
 use Rattle.river_base.specs.declared.item.Item as item
 use Rattle.river_plan.specs.Forms.{PlanForm, queue_names}
@@ -9,49 +9,91 @@ use Rattle.fire_tasks.specs.Adds.{added, logs_of}
 use Rattle.fire_tasks.specs.Tasks.{all_moves}
 use Rattle.fire_laws.proofs.Numbers.{numbers_law}
 use Rattle.fire_run.specs.declared.net.Net.{Net}
+use Rattle.fire_run.specs.declared.running.Round.{Round}
+use Rattle.fire_run.specs.declared.running.Round.TheVariants.{Moved}
 use Rattle.fire_run.specs.NetOf.{HasNet, HasNetAt, HasNetOf, Stays, OneMore}
+use Rattle.fire_run.specs.Rounds.{GoesOn}
+
+-- STAYING A NET
+
+-- a net is one of the same plan, inputs and capacities as it is
+pub stays_same : (p : PlanForm) (net : Net) → HasNet p net → Stays p net net
+stays_same p net h = record { fine = h.fine; is = λ inputs caps k. k }
+
+-- what stays, and then stays again, stays
+pub stays_then : (p : PlanForm) (a b c : Net) → Stays p a b → Stays p b c → Stays p a c
+stays_then p a b c s t = record { fine = t.fine; is = λ inputs caps k. t.is inputs caps (s.is inputs caps k) }
+
+-- so it is a net
+pub stays_has : (p : PlanForm) (a b : Net) → HasNet p a → Stays p a b → HasNet p b
+stays_has p a b h s = record { fine = s.fine; inputs = h.inputs; caps = h.caps; is = s.is h.inputs h.caps h.is }
+
+-- a net that was just opened is one
+pub opened_has : (p : PlanForm) (inputs : List (List item.Item)) (cap : ℕ) (net : Net) → HasNetAt p inputs cap net → HasNet p net
+opened_has p inputs cap net h = record { fine = h.fine; inputs = inputs; caps = λ q. cap; is = h.is }
+
+-- ROUNDS
+
+-- a net after so many rounds: in each something moved
+pub record WentOn (p : PlanForm) (first : Net) (n : ℕ) (net : Net) : Type 0 where
+  pub stays : Stays p first net
+  pub many : n ≤ all_moves net.tasks
+
+-- before the first round
+pub went_first : (p : PlanForm) (net : Net) → HasNet p net → WentOn p net 0 net
+went_first p net h = record { stays = stays_same p net h; many = omega arith }
+
+-- one round more
+pub went_next : (p : PlanForm) (first : Net) (n : ℕ) (net net' : Net) (round : Round) → WentOn p first n net → GoesOn p net net' round → round ≡ Moved
+    → WentOn p first (n + 1) net'
+went_next p first n net net' round w g e =
+    record { stays = stays_then p first net net' w.stays g.stays; many = let a = w.many in let b = g.grew e in omega (arith, a, b) }
+
+-- a last round, or none
+pub went_end : (p : PlanForm) (first : Net) (n : ℕ) (net net' : Net) (round : Round) → WentOn p first n net → GoesOn p net net' round
+    → Stays p first net' × (n + 1 ≤ 1 + all_moves net'.tasks)
+went_end p first n net net' round w g =
+    (stays_then p first net net' w.stays g.stays, let a = w.many in let b = g.never_falls in omega (arith, a, b))
+
+-- MOVES
 
 -- how many moves are left at most
 abbrev pub moves_left : PlanForm → List (List item.Item) → Net → ℕ
 moves_left p inputs net = 2 * lengths (hist p inputs) (queue_names p) - all_moves net.tasks
 
--- the net is one of these inputs, and made so many moves at least
-pub record RanFor (p : PlanForm) (inputs : List (List item.Item)) (n : ℕ) (net : Net) : Type 0 where
+-- the net is one of these inputs, and made so many rounds, at most 1 more than its moves
+pub record RanFor (p : PlanForm) (inputs : List (List item.Item)) (rounds : ℕ) (net : Net) : Type 0 where
   pub has : HasNetOf p inputs net
-  pub many : n ≤ all_moves net.tasks
+  pub few : rounds ≤ 1 + all_moves net.tasks
 
--- a new net made none
-pub for_first : (p : PlanForm) (inputs : List (List item.Item)) (cap : ℕ) (net : Net) → IsPlan p → HasNetAt p inputs cap net → RanFor p inputs 0 net
-for_first p inputs cap net v h = record { has = record { valid = v; fine = h.fine; caps = λ q. cap; is = h.is }; many = omega arith }
+-- after the rounds
+pub ran_first : (p : PlanForm) (inputs : List (List item.Item)) (cap rounds : ℕ) (net net' : Net) → IsPlan p → HasNetAt p inputs cap net → Stays p net net'
+    → rounds ≤ 1 + all_moves net'.tasks → RanFor p inputs rounds net'
+ran_first p inputs cap rounds net net' v h s few =
+    record { has = record { valid = v; fine = s.fine; caps = λ q. cap; is = s.is inputs (λ q. cap) h.is }; few = few }
 
 -- it is a net
-pub for_has : (p : PlanForm) (inputs : List (List item.Item)) (n : ℕ) (net : Net) → RanFor p inputs n net → HasNet p net
-for_has p inputs n net r = record { fine = r.has.fine; inputs = inputs; caps = r.has.caps; is = r.has.is }
+pub ran_has : (p : PlanForm) (inputs : List (List item.Item)) (rounds : ℕ) (net : Net) → RanFor p inputs rounds net → HasNet p net
+ran_has p inputs rounds net r = record { fine = r.has.fine; inputs = inputs; caps = r.has.caps; is = r.has.is }
 
--- and stays one
-pub for_stays : (p : PlanForm) (inputs : List (List item.Item)) (n : ℕ) (net net' : Net) → RanFor p inputs n net → Stays p net net' → HasNetOf p inputs net'
-for_stays p inputs n net net' r s = record { valid = r.has.valid; fine = s.fine; caps = r.has.caps; is = s.is inputs r.has.caps r.has.is }
-
--- so it is for any inputs
-pub for_left : (p : PlanForm) (inputs : List (List item.Item)) (n : ℕ) (net net' : Net) → RanFor p inputs n net → Stays p net net' → HasNet p net'
-for_left p inputs n net net' r s = let h = for_stays p inputs n net net' r s in record { fine = h.fine; inputs = inputs; caps = h.caps; is = h.is }
-
--- one move more
-pub for_next : (p : PlanForm) (inputs : List (List item.Item)) (n m : ℕ) (net net' : Net) (b : Bool) → RanFor p inputs n net → Stays p net net'
-    → OneMore (all_moves net.tasks) (all_moves net'.tasks) b → b ≡ true → m ≤ n + 1 → RanFor p inputs m net'
-for_next p inputs n m net net' b r s o e le = record { has = for_stays p inputs n net net' r s; many = let a = o.one e in let k = r.many in omega (arith, a, k, le) }
-
--- the rounds of a run that ended are at most 1 more than its moves
-pub for_end : (p : PlanForm) (inputs : List (List item.Item)) (n m : ℕ) (net net' : Net) (b : Bool) → RanFor p inputs n net
-    → OneMore (all_moves net.tasks) (all_moves net'.tasks) b → b ≡ false → m ≤ n + 1 → m ≤ 1 + all_moves net'.tasks
-for_end p inputs n m net net' b r o e le = let a = o.none e in let k = r.many in omega (arith, a, k, le)
+-- and stays one, whether a move was made or not
+pub ran_next : (p : PlanForm) (inputs : List (List item.Item)) (rounds : ℕ) (net net' : Net) (b : Bool) → RanFor p inputs rounds net → Stays p net net'
+    → OneMore (all_moves net.tasks) (all_moves net'.tasks) b → RanFor p inputs rounds net'
+ran_next p inputs rounds net net' b r s o = record {
+  has = record { valid = r.has.valid; fine = s.fine; caps = r.has.caps; is = s.is inputs r.has.caps r.has.is };
+  few = let k = r.few in grown b o k;
+}
+  where
+    grown : (b : Bool) → OneMore (all_moves net.tasks) (all_moves net'.tasks) b → rounds ≤ 1 + all_moves net.tasks → rounds ≤ 1 + all_moves net'.tasks
+    grown true o k = let a = o.one refl in omega (arith, a, k)
+    grown false o k = let a = o.none refl in omega (arith, a, k)
 
 -- after a move there are fewer to come
-pub for_less : (p : PlanForm) (inputs : List (List item.Item)) (n : ℕ) (net net' : Net) (b : Bool) → RanFor p inputs n net → Stays p net net'
+pub ran_less : (p : PlanForm) (inputs : List (List item.Item)) (rounds : ℕ) (net net' : Net) (b : Bool) → RanFor p inputs rounds net → Stays p net net'
     → OneMore (all_moves net.tasks) (all_moves net'.tasks) b → b ≡ true → moves_left p inputs net' < moves_left p inputs net
-for_less p inputs n net net' b r s o e =
-    let h = for_stays p inputs n net net' r s in
-    let k = h.is in
-    let f = numbers_law p inputs h.caps (added p (logs_of net'.cells)) net'.tasks h.valid k.laid k.tasks k.settled k.typed in
+ran_less p inputs rounds net net' b r s o e =
+    let h = ran_next p inputs rounds net net' b r s o in
+    let k = h.has.is in
+    let f = numbers_law p inputs h.has.caps (added p (logs_of net'.cells)) net'.tasks h.has.valid k.laid k.tasks k.settled k.typed in
     let a = o.one e in
     omega (arith, f, a)
