@@ -1,12 +1,17 @@
 pub mod CellLemmas
 pub mod CloseLemmas
+pub mod GatherLemmas
+pub mod JoinNet
 pub mod MoveLemmas
 pub mod OpenNet
 pub mod OutLemmas
+pub mod PartLemmas
 pub mod RoundLemmas
 pub mod RowLemmas
 pub mod RowSums
 pub mod RunLemmas
+pub mod ShareLemmas
 pub mod SortLemmas
+pub mod SplitNet
 pub mod Standing
 pub mod WholeLemmas
