@@ -24,8 +24,8 @@ pub stay_none : (n k : ℕ) (ts : List Task) → OthersStay n k ts ts
 stay_none n k ts = record { many = refl; others = λ j ne. refl }
 
 -- the tasks of part k among the first i are taken out
-pub record Taking (n k : ℕ) (ts0 : List Task) (i : ℕ) (ts own : List Task) : Type 0 where
-  pub own : own ≡ tasks_of_part n k (take i ts0)
+pub record Taking (n k : ℕ) (ts0 : List Task) (i : ℕ) (ts mine : List Task) : Type 0 where
+  pub own : mine ≡ tasks_of_part n k (take i ts0)
   pub rest : (j : ℕ) (d : Task) → i ≤ j → get_or ts j d ≡ get_or ts0 j d
   pub stay : OthersStay n k ts0 ts
 
@@ -93,12 +93,12 @@ taking_all n k i ts0 ts own h le = h.own ∙ ap (tasks_of_part n k) (whole ts0 i
 -- A BUNDLE FOR EACH SEAT
 
 -- the last seats have their bundles, the last first
-pub record Dealing (n : ℕ) (ts0 ts : List Task) (seats0 seats : List Chair) (bs : List Bundle) : Type 0 where
+pub record Dealing (n : ℕ) (ts0 ts : List Task) (all now : List Chair) (bs : List Bundle) : Type 0 where
   pub done : List Chair
-  pub seats : seats0 ≡ seats ++ done
-  pub count : length seats + length bs ≡ n
-  pub shares : AreShares n ts0 seats0 (length seats) (reverse bs)
-  pub left : (j : ℕ) → j < length seats → tasks_of_part n j ts ≡ tasks_of_part n j ts0
+  pub seats : all ≡ now ++ done
+  pub count : length now + length bs ≡ n
+  pub shares : AreShares n ts0 all (length now) (reverse bs)
+  pub left : (j : ℕ) → j < length now → tasks_of_part n j ts ≡ tasks_of_part n j ts0
   pub many : length ts ≡ length ts0
 
 -- before the last none has

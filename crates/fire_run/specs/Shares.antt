@@ -15,9 +15,9 @@ pub record OthersStay (n k : ℕ) (ts ts' : List Task) : Type 0 where
   pub others : (j : ℕ) → (j ≡ k → ⊥) → tasks_of_part n j ts' ≡ tasks_of_part n j ts
 
 -- a new bundle of the tasks of part k of n
-pub record IsShare (n : ℕ) (ts : List Task) (k : ℕ) (seat : Chair) (b : Bundle) : Type 0 where
+pub record IsShare (n : ℕ) (ts : List Task) (k : ℕ) (chair : Chair) (b : Bundle) : Type 0 where
   pub tasks : b.tasks ≡ tasks_of_part n k ts
-  pub seat : b.seat ≡ seat
+  pub seat : b.seat ≡ chair
   pub blank : b.pile.items ≡ []
   pub unmoved : b.moved ≡ false
   pub calm : b.refused ≡ false

@@ -95,7 +95,7 @@ fn make_round<R: Threads + Sync, G: Gate + Sync>(
     requires workers { (1 ≤ workers) × (workers ≤ 64) }
     ensures { IfOk result (λ both. GoesOn plan.now net both.0 both.1) }
 {
-    match net.split(alloc, plan, workers) {
+    match net.split(alloc, workers) {
         Ok((frame, bundles)) => {
             let (mut net, moved) = work_all(rt, plan, frame, bundles, workers, gate)?;
             if moved || net.one(alloc, plan, gate)? {

@@ -161,10 +161,16 @@ impl Net {
             Err(BeginFault::NoMemory) => return Err(SplitFault::NoMemory),
         };
         let bundles = bundles_of(alloc, &mut net.tasks, seats, workers)?;
+        let Net {
+            tasks,
+            links,
+            cells,
+            refused: _,
+        } = net;
         let frame = Frame {
-            tasks: net.tasks,
-            links: net.links,
-            cells: net.cells,
+            tasks,
+            links,
+            cells,
             workers,
             net: whole,
         };
