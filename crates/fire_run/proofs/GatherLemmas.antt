@@ -9,13 +9,13 @@ use Rattle.class_locks.specs.declared.view.Claim.{Claim}
 use Rattle.class_locks.specs.declared.view.View.{View}
 use Rattle.class_locks.specs.Logs.{Holding}
 use Rattle.class_locks.specs.Seats.{Chair, HasAll}
-use Rattle.class_locks.specs.Views.{Belong, Has, entries_of, own}
+use Rattle.class_locks.specs.Views.{Belong, Has, both, entries_of, own}
 use Rattle.class_locks.proofs.Owns.{own-append, own_none}
 use Rattle.fire_tasks.specs.Adds.{AreOwn}
 use Rattle.fire_tasks.specs.declared.bundle.Bundle.{Bundle}
 use Rattle.fire_tasks.specs.declared.task.Task.{Task}
 use Rattle.fire_run.specs.Cells.{AreSingle}
-use Rattle.fire_run.specs.Shares.{AreWithin, merged, put_all, put_each, seats_of}
+use Rattle.fire_run.specs.Shares.{AreAtRest, AreWithin, merged, put_all, put_each, seats_of}
 
 -- TASKS AT THEIR PLACES
 
@@ -29,7 +29,7 @@ pub each_other : (own ts : List Task) (o : ℕ) (d : Task) → ((i : ℕ) (e : T
     → get_or (put_each own ts) o d ≡ get_or ts o d
 each_other [] ts o d ne = refl
 each_other (t ∷ own) ts o d ne =
-    get_or-set_other (put_each own ts) t.op o t d (ne 0 t (omega arith)) ∙ each_other own ts o d (λ i e lt. ne (suc i) e (omega (arith, lt)))
+    get_or-set_other (put_each own ts) t.op o t d (λ q. ne 0 t (omega arith) (sym q)) ∙ each_other own ts o d (λ i e lt. ne (suc i) e (omega (arith, lt)))
 
 -- each of them is at its place
 pub each_here : (own ts : List Task) (i : ℕ) (c d : Task) → AreSingle own → AreWithin (length ts) own → i < length own
@@ -38,7 +38,7 @@ each_here [] ts i c d s w lt = absurd (omega (arith, lt))
 each_here (t ∷ own) ts zero c d s w lt =
     get_or-set_same (put_each own ts) t.op t d (let a = w 0 t (omega arith) in let m = each_many own ts in omega (arith, a, m))
 each_here (t ∷ own) ts (suc i) c d s w lt =
-    get_or-set_other (put_each own ts) t.op (get_or own i c).op t d (λ q. let z = s 0 (suc i) c (omega arith) lt q in omega (arith, z))
+    get_or-set_other (put_each own ts) t.op (get_or own i c).op t d (λ q. let z = s 0 (suc i) c (omega arith) lt (sym q) in omega (arith, z))
     ∙ each_here own ts i c d (λ a b e la lb q. let z = s (suc a) (suc b) e (omega (arith, la)) (omega (arith, lb)) q in omega (arith, z))
     (λ k e l. w (suc k) e (omega (arith, l))) (omega (arith, lt))
 
@@ -61,7 +61,8 @@ putting_next own0 ts0 own ts own' t h e = record {
 }
 
 -- the place of the next is there
-pub putting_within : (own0 ts0 own ts own' : List Task) (t : Task) → Putting own0 ts0 own ts → own ≡ own' ++ t ∷ [] → AreWithin (length ts0) own0 → t.op < length ts
+pub putting_within : (own0 ts0 own ts own' : List Task) (t : Task) → Putting own0 ts0 own ts → own ≡ own' ++ t ∷ [] → AreWithin (length ts0) own0
+    → t.op < length ts
 putting_within own0 ts0 own ts own' t h e w =
     let all : own0 ≡ own' ++ (t ∷ h.done) = h.all ∙ ap (λ l. l ++ h.done) e ∙ append_assoc own' (t ∷ []) h.done in
     let within : AreWithin (length ts0) (own' ++ (t ∷ h.done)) = subst (AreWithin (length ts0)) all w in
@@ -109,26 +110,26 @@ pub gathering_many : (bs0 bs : List Bundle) (ts0 ts : List Task) (i : ℕ) → G
 gathering_many bs0 bs ts0 ts i h = sym (length-map bs (λ (b : Bundle). b.seat)) ∙ ap length h.seats ∙ length-map bs0 (λ (b : Bundle). b.seat)
 
 -- the tasks of the next have their places
-pub gathering_within : (bs0 bs : List Bundle) (ts0 ts : List Task) (i : ℕ) (b : Bundle) → Gathering bs0 ts0 i bs ts → i < length bs → b ≡ get_or bs i b
+pub gathering_within : (bs0 bs : List Bundle) (ts0 ts : List Task) (i : ℕ) (b : Bundle) → Gathering bs0 ts0 i bs ts → i < length bs0 → b ≡ get_or bs i b
     → All (λ c. AreWithin (length ts0) c.tasks) bs0 → AreWithin (length ts) b.tasks
 gathering_within bs0 bs ts0 ts i b h lt e w =
-    let m = gathering_many bs0 bs ts0 ts i h in
-    let a = w i b (omega (arith, lt, m)) in
+    let a = w i b lt in
     let z : length ts ≡ length ts0 = ap length h.put ∙ all_many (take i bs0) ts0 in
     subst (λ k. AreWithin k b.tasks) (sym z) (subst (λ (c : Bundle). AreWithin (length ts0) c.tasks) (sym (e ∙ h.rest i b (omega arith))) a)
 
 -- one bundle more
-pub gathering_next : (bs0 bs : List Bundle) (ts0 ts ts' : List Task) (i : ℕ) (b b' : Bundle) → Gathering bs0 ts0 i bs ts → i < length bs → b ≡ get_or bs i b
+pub gathering_next : (bs0 bs : List Bundle) (ts0 ts ts' : List Task) (i : ℕ) (b b' : Bundle) → Gathering bs0 ts0 i bs ts → i < length bs0 → b ≡ get_or bs i b
     → b'.seat ≡ b.seat → ts' ≡ put_each b.tasks ts → Gathering bs0 ts0 (i + 1) (set bs i b') ts'
 gathering_next bs0 bs ts0 ts ts' i b b' h lt e s p =
     let m = gathering_many bs0 bs ts0 ts i h in
+    let there_now : i < length bs = omega (arith, lt, m) in
     let there : b ≡ get_or bs0 i b = e ∙ h.rest i b (omega arith) in
     let next : suc i ≡ i + 1 = omega arith in
-    let taken : take (i + 1) bs0 ≡ take i bs0 ++ b ∷ [] = ap (λ k. take k bs0) (sym next) ∙ take-suc bs0 i b (omega (arith, lt, m)) ∙ ap (λ x. take i bs0 ++ x ∷ []) (sym there) in
+    let taken : take (i + 1) bs0 ≡ take i bs0 ++ b ∷ [] = ap (λ k. take k bs0) (sym next) ∙ take-suc bs0 i b lt ∙ ap (λ x. take i bs0 ++ x ∷ []) (sym there) in
     record {
       put = p ∙ ap (put_each b.tasks) h.put ∙ sym (put_all-last (take i bs0) b ts0) ∙ ap (λ l. put_all l ts0) (sym taken);
       rest = λ j d le. get_or-set_other bs i j b' d (λ z. omega (arith, z, le)) ∙ h.rest j d (omega (arith, le));
-      seats = set_seat bs i lt (s ∙ ap (λ (x : Bundle). x.seat) (e ∙ default_same bs i b b' lt)) ∙ h.seats;
+      seats = set_seat bs i there_now (s ∙ ap (λ (x : Bundle). x.seat) (e ∙ default_same bs i b b' there_now)) ∙ h.seats;
     }
   where
     default_same : (xs : List Bundle) (j : ℕ) (c d : Bundle) → j < length xs → get_or xs j c ≡ get_or xs j d
@@ -195,6 +196,44 @@ pub record Merging (seats0 seats : List Chair) (v : View) : Type 0 where
   pub all : seats0 ≡ seats ++ (first ∷ later)
   pub view : v ≡ merged (first ∷ later)
 
+seats-last : (bs : List Bundle) (b : Bundle) → seats_of (bs ++ b ∷ []) ≡ seats_of bs ++ b.seat ∷ []
+seats-last [] b = refl
+seats-last (c ∷ bs) b = ap (λ l. c.seat ∷ l) (seats-last bs b)
+
+-- before the others there is the last
+pub merging_first : (bs0 bs : List Bundle) (b : Bundle) → bs0 ≡ bs ++ b ∷ [] → Merging (seats_of bs0) (seats_of bs) b.seat.view
+merging_first bs0 bs b e = record { first = b.seat; later = []; all = ap seats_of e ∙ seats-last bs b; view = refl }
+
+-- one seat more
+pub merging_next : (bs0 bs bs' : List Bundle) (b : Bundle) (v w : View) → Merging (seats_of bs0) (seats_of bs) v → bs ≡ bs' ++ b ∷ []
+    → w ≡ both v b.seat.view → Merging (seats_of bs0) (seats_of bs') w
+merging_next bs0 bs bs' b v w h e q = record {
+  first = b.seat;
+  later = h.first ∷ h.later;
+  all = h.all ∙ ap (λ l. l ++ (h.first ∷ h.later)) (ap seats_of e ∙ seats-last bs' b) ∙ append_assoc (seats_of bs') (b.seat ∷ []) (h.first ∷ h.later);
+  view = q ∙ ap (λ x. both x b.seat.view) h.view;
+}
+
+-- a seat that is taken over is of the round, and holds no class
+pub popped_rest : (bs0 bs bs' : List Bundle) (b : Bundle) (tail : List Chair) (h : AreAtRest (seats_of bs0)) → seats_of bs0 ≡ seats_of bs ++ tail
+    → bs ≡ bs' ++ b ∷ []
+    → (b.seat.lot ≡ h.lot) × (b.seat.view.held ≡ [])
+popped_rest bs0 bs bs' b tail h e p =
+    let all : seats_of bs0 ≡ seats_of bs' ++ (b.seat ∷ tail) =
+    e ∙ ap (λ l. l ++ tail) (ap seats_of p ∙ seats-last bs' b) ∙ append_assoc (seats_of bs') (b.seat ∷ []) tail in
+    let here : get_or (seats_of bs0) (length (seats_of bs')) b.seat ≡ b.seat = ap (λ l. get_or l (length (seats_of bs')) b.seat) all ∙ there (seats_of bs') in
+    let l0 = ap length all in
+    let l1 = length-append (seats_of bs') (b.seat ∷ tail) in
+    let lt : length (seats_of bs') < length (seats_of bs0) = omega (arith, l0, l1) in (
+      ap (λ (s : Chair). s.lot) (sym here) ∙ h.lots (length (seats_of bs')) b.seat lt,
+      ap (λ (s : Chair). s.view.held) (sym here)
+          ∙ h.rests (length (seats_of bs')) b.seat lt,
+    )
+  where
+    there : (ss : List Chair) → get_or (ss ++ (b.seat ∷ tail)) (length ss) b.seat ≡ b.seat
+    there [] = refl
+    there (s ∷ ss) = there ss
+
 -- what a seat of these knows of the round
 pub record IsRound (n : ℕ) (starts : List Holding) (v : View) : Type 0 where
   pub seats : v.seats ≡ n
@@ -202,7 +241,8 @@ pub record IsRound (n : ℕ) (starts : List Holding) (v : View) : Type 0 where
   pub rests : v.held ≡ []
 
 -- what all know of the round the one knows
-pub merged_round : (n : ℕ) (starts : List Holding) (ss : List Chair) → 0 < length ss → ((i : ℕ) (d : Chair) → i < length ss → IsRound n starts (get_or ss i d).view)
+pub merged_round : (n : ℕ) (starts : List Holding) (ss : List Chair) → 0 < length ss
+    → ((i : ℕ) (d : Chair) → i < length ss → IsRound n starts (get_or ss i d).view)
     → IsRound n starts (merged ss)
 merged_round n starts [] lt h = absurd (omega (arith, lt))
 merged_round n starts (s ∷ []) lt h = h 0 s (omega arith)
@@ -229,14 +269,17 @@ merged_parts m (s ∷ (r ∷ rest)) h (suc i) lt =
     let z : suc m + i ≡ m + suc i = omega arith in
     has_front (m + suc i) (merged (r ∷ rest)).parts s.view.parts
     (subst (λ k. Has k (merged (r ∷ rest)).parts) z
-    (merged_parts (suc m) (r ∷ rest) (λ j d l. let y : m + suc j ≡ suc m + j = omega arith in h (suc j) d (omega (arith, l)) ∙ ap (λ x. x ∷ []) y) i (omega (arith, lt))))
+    (merged_parts (suc m) (r ∷ rest) (λ j d l. let y : m + suc j ≡ suc m + j = omega arith in h (suc j) d (omega (arith, l))
+    ∙ ap (λ x. x ∷ []) y) i (omega (arith, lt))))
 
 -- what holds of the claims of each holds of its claims
-pub merged_all : (P : Claim → Type 0) (ss : List Chair) → 0 < length ss → ((i : ℕ) (d : Chair) → i < length ss → All P (get_or ss i d).view.claims) → All P (merged ss).claims
+pub merged_all : (P : Claim → Type 0) (ss : List Chair) → 0 < length ss → ((i : ℕ) (d : Chair) → i < length ss → All P (get_or ss i d).view.claims)
+    → All P (merged ss).claims
 merged_all P [] lt h = absurd (omega (arith, lt))
 merged_all P (s ∷ []) lt h = h 0 s (omega arith)
 merged_all P (s ∷ (r ∷ rest)) lt h =
-    All-append P (merged (r ∷ rest)).claims s.view.claims (merged_all P (r ∷ rest) (omega arith) (λ i d l. h (suc i) d (omega (arith, l)))) (h 0 s (omega arith))
+    All-append P (merged (r ∷ rest)).claims s.view.claims (merged_all P (r ∷ rest) (omega arith) (λ i d l. h (suc i) d (omega (arith, l))))
+    (h 0 s (omega arith))
 
 -- claims that belong to some parts belong to them as entries
 pub belongs : (n : ℕ) (parts : List ℕ) (qs : List Claim) → All (λ (q : Claim). Has (q.entry.op % n) parts) qs → Belong n parts (entries_of qs)
@@ -256,7 +299,8 @@ merged_none n m j c [] lt h ne = absurd (omega (arith, lt))
 merged_none n m j c (s ∷ []) lt h ne = h 0 s j c (omega arith) (ne 0 (omega arith))
 merged_none n m j c (s ∷ (r ∷ rest)) lt h ne =
     own-append n j c (merged (r ∷ rest)).claims s.view.claims
-    ∙ ap (λ l. l ++ own n j c s.view.claims) (merged_none n (suc m) j c (r ∷ rest) (omega arith) (alone_rest n m s (r ∷ rest) h) (λ i l z. ne (suc i) (omega (arith, l)) (omega (arith, z))))
+    ∙ ap (λ l. l ++ own n j c s.view.claims)
+    (merged_none n (suc m) j c (r ∷ rest) (omega arith) (alone_rest n m s (r ∷ rest) h) (λ i l z. ne (suc i) (omega (arith, l)) (omega (arith, z))))
     ∙ h 0 s j c (omega arith) (ne 0 (omega arith))
 
 -- the own list of each part is that of its seat
@@ -267,10 +311,12 @@ merged_own n m c (s ∷ []) h zero d lt = refl
 merged_own n m c (s ∷ []) h (suc i) d lt = absurd (omega (arith, lt))
 merged_own n m c (s ∷ (r ∷ rest)) h zero d lt =
     own-append n (m + 0) c (merged (r ∷ rest)).claims s.view.claims
-    ∙ ap (λ l. l ++ own n (m + 0) c s.view.claims) (merged_none n (suc m) (m + 0) c (r ∷ rest) (omega arith) (alone_rest n m s (r ∷ rest) h) (λ i l z. omega (arith, z)))
+    ∙ ap (λ l. l ++ own n (m + 0) c s.view.claims)
+    (merged_none n (suc m) (m + 0) c (r ∷ rest) (omega arith) (alone_rest n m s (r ∷ rest) h) (λ i l z. omega (arith, z)))
 merged_own n m c (s ∷ (r ∷ rest)) h (suc i) d lt =
     let z : suc m + i ≡ m + suc i = omega arith in
     own-append n (m + suc i) c (merged (r ∷ rest)).claims s.view.claims
     ∙ ap (λ l. own n (m + suc i) c (merged (r ∷ rest)).claims ++ l) (h 0 s (m + suc i) c (omega arith) (λ q. omega (arith, q)))
     ∙ append-nil (own n (m + suc i) c (merged (r ∷ rest)).claims)
-    ∙ subst (λ k. own n k c (merged (r ∷ rest)).claims ≡ own n k c (get_or (r ∷ rest) i d).view.claims) z (merged_own n (suc m) c (r ∷ rest) (alone_rest n m s (r ∷ rest) h) i d (omega (arith, lt)))
+    ∙ subst (λ k. own n k c (merged (r ∷ rest)).claims ≡ own n k c (get_or (r ∷ rest) i d).view.claims) z
+    (merged_own n (suc m) c (r ∷ rest) (alone_rest n m s (r ∷ rest) h) i d (omega (arith, lt)))

@@ -1,5 +1,5 @@
 -- The net that the bundles of a frame are, once they are joined.
-use Rattle.std.proofs.Common.{◌≡◌, ℕ, zero, suc, ◌+◌, ◌%◌, ◌==◌, ◌<◌, ◌≤◌, Bool, cond, true, false, Some, List, [], ◌∷◌, ◌++◌, length, map, refl, sym, ap, ◌∙◌, subst, arith, get_or, eq-eqb}
+use Rattle.std.proofs.Common.{◌≡◌, ℕ, zero, suc, ◌+◌, ◌%◌, ◌==◌, ◌<◌, ◌≤◌, Bool, cond, true, false, Some, List, [], ◌∷◌, ◌++◌, length, map, refl, sym, ap, ◌∙◌, subst, arith, ⊎_elim, get_or, eq-eqb}
 use Rattle.std.specs.Prelude.{All, slice_get}
 use Rattle.std.proofs.lemmas.List.{length-map}
 use Rattle.std.proofs.lemmas.Nat.{mod_below}
@@ -27,16 +27,16 @@ use Rattle.fire_tasks.proofs.JoinLemmas.{joined_adds, joined_entries}
 use Rattle.fire_tasks.proofs.TaskLemmas.{got_at, table_there, tables_many, with_adds}
 use Rattle.fire_laws.specs.Layout as layout
 use Rattle.fire_open.specs.Homes.{AreClassCells}
-use Rattle.fire_open.specs.Links.{AreLinks, AreMet}
+use Rattle.fire_open.specs.Links.{AreApart, AreLinks, AreMet, ArePaired}
 use Rattle.fire_open.specs.Still.{Still, still}
-use Rattle.fire_open.proofs.Laid.{laid_same, settled_by}
+use Rattle.fire_open.proofs.Laid.{apart_net, laid_same, paired_net, settled_by}
 use Rattle.fire_open.proofs.StillLemmas.{still_all_moves, still_ends, still_tasks}
 use Rattle.fire_run.specs.Cells.{AreSingle}
 use Rattle.fire_run.specs.declared.net.Net.{Net}
 use Rattle.fire_run.specs.Frames.{AreBundlesOf, AreSeated, AreTasksOf, Framed, HasGrownBy, HaveGrownBy, bundle_moves, ends_of_part, tasks_of_part}
 use Rattle.fire_run.specs.NetOf.{IsNetOf, Stays}
 use Rattle.fire_run.specs.Shares.{AreAtRest, AreWithin, merged, put_all, seats_of}
-use Rattle.fire_run.proofs.GatherLemmas.{AreApart, IsRound, OwnAlone, all_here, all_many, belongs, merged_all, merged_own, merged_parts, merged_round}
+use Rattle.fire_run.proofs.GatherLemmas.{AreApart as AreSharesApart, IsRound, OwnAlone, all_here, all_many, belongs, merged_all, merged_own, merged_parts, merged_round}
 use Rattle.fire_run.proofs.PartLemmas.{eq_told, filter_finds, filter_stood, list_at_all, map_at, moves_of_parts, part_ends}
 use Rattle.fire_run.proofs.RowLemmas.{class_has}
 use Rattle.fire_run.proofs.SplitNet.{elem_of}
@@ -60,7 +60,8 @@ seat_is bs k d b lt =
     got_else (seats_of bs) k d b.seat (omega (arith, lt, long)) ∙ got_map (λ (x : Bundle). x.seat) bs k b
 
 -- what holds of each bundle's seat holds of each of the seats
-seat_by : (P : ℕ → Chair → Type 0) (bs : List Bundle) → ((k : ℕ) (b : Bundle) → k < length bs → P k (get_or bs k b).seat) → (k : ℕ) (d : Chair) → k < length (seats_of bs)
+seat_by : (P : ℕ → Chair → Type 0) (bs : List Bundle) → ((k : ℕ) (b : Bundle) → k < length bs → P k (get_or bs k b).seat) → (k : ℕ) (d : Chair)
+    → k < length (seats_of bs)
     → P k (get_or (seats_of bs) k d)
 seat_by P bs h k d lt =
     let long = length-map bs (λ (x : Bundle). x.seat) in
@@ -137,8 +138,10 @@ module _ (p : PlanForm) (f : Framed) (bs : List Bundle) (h : AreBundlesOf p f bs
       let l2 = length-map f.net.tasks ends_of in
       let b2 = s.below in
       let there : s.place < length f.net.tasks = omega (arith, b2, l2) in
-      let same : get_or (ends_of_part f.workers k es) i (ends_of c) ≡ ends_of t = ap (λ (l : List TaskEnds). get_or l i (ends_of c)) (sym e) ∙ got_map ends_of (get_or bs k b).tasks i c in
-      let at : (d : Task) → ends_of t ≡ ends_of (get_or f.net.tasks s.place d) = λ d. sym same ∙ sym (s.same (ends_of d)) ∙ got_map ends_of f.net.tasks s.place d in
+      let same : get_or (ends_of_part f.workers k es) i (ends_of c) ≡ ends_of t = ap (λ (l : List TaskEnds). get_or l i (ends_of c)) (sym e)
+      ∙ got_map ends_of (get_or bs k b).tasks i c in
+      let at : (d : Task) → ends_of t ≡ ends_of (get_or f.net.tasks s.place d) = λ d. sym same ∙ sym (s.same (ends_of d))
+      ∙ got_map ends_of f.net.tasks s.place d in
       let op : t.op ≡ s.place = ap (λ (x : TaskEnds). x.op) (at t) ∙ numbers s.place t there in
       record {
         within = omega (arith, op, there);
@@ -159,7 +162,7 @@ module _ (p : PlanForm) (f : Framed) (bs : List Bundle) (h : AreBundlesOf p f bs
     abbrev ts : List Task
     ts = put_all bs ts0
 
-    apart : AreApart f.workers 0 (length ts0) bs
+    apart : AreSharesApart f.workers 0 (length ts0) bs
     unfolding keep known all_within
     apart = record {
       single = λ k b lk. (keep k b lk).apart;
@@ -263,17 +266,17 @@ all_views bs = merged (seats_of bs)
 module _ (p : PlanForm) (f : Framed) (bs : List Bundle) (h : AreBundlesOf p f bs) where
   alone : OwnAlone f.workers 0 (seats_of bs)
   alone i d j c lt ne = seat_by (λ k s. ((j ≡ 0 + k) → ⊥) → own f.workers j c s.view.claims ≡ []) bs
-      (λ k b lk apart.
+      (λ k b lk ne0.
       let v = (get_or bs k b).seat.view in
       let s = h.seated.each k b lk in
       let mine : AreOwn v = (keep p f bs h k b lk).own in
       own_none f.workers j c v.parts v.claims
       (belongs f.workers v.parts v.claims (subst (λ n. All (λ (q : Claim). Has (q.entry.op % n) v.parts) v.claims) s.seats mine))
-      (λ has. none j k (subst (Has j) s.parts has) apart))
+      (λ has. none j k (subst (Has j) s.parts has) ne0))
       i d lt ne
     where
       none : (j k : ℕ) → Has j (k ∷ []) → ((j ≡ 0 + k) → ⊥) → ⊥
-      none j k has apart = let z : k ≡ 0 + k = omega arith in ⊎_elim (λ e. apart (e ∙ z)) (λ n. n) has
+      none j k has ne0 = let z : k ≡ 0 + k = omega arith in ⊎_elim (λ e. ne0 (e ∙ z)) (λ n. n) has
 
   -- of each part it has the own list of the part's bundle
   pub own_is : (k : ℕ) (b : Bundle) (c : ℕ) → k < length bs → own f.workers k c (all_views bs).claims ≡ own f.workers k c (get_or bs k b).seat.view.claims
@@ -353,7 +356,8 @@ module _ (p : PlanForm) (f : Framed) (bs : List Bundle) (h : AreBundlesOf p f bs
         let at : (t.op % v.seats) ≡ k = ap (λ (n : ℕ). t.op % n) s.seats ∙ part_is in
         let has : Has (t.op % v.seats) w.parts = subst (λ j. Has j w.parts) (sym at) (has_every f bs h.seated k (omega (arith, lk, m))) in
         let claims : (c : ℕ) → own v.seats (t.op % v.seats) c w.claims ≡ own v.seats (t.op % v.seats) c v.claims =
-        (λ c. subst (λ j. own v.seats j c w.claims ≡ own v.seats j c v.claims) (sym at) (subst (λ n. own n k c w.claims ≡ own n k c v.claims) (sym s.seats) (own_is k b c lk))) in
+        (λ c. subst (λ j. own v.seats j c w.claims ≡ own v.seats j c v.claims) (sym at)
+        (subst (λ n. own n k c w.claims ≡ own n k c v.claims) (sym s.seats) (own_is k b c lk))) in
         with_adds p (added p (logs_at v t.op) t.op) (added p (logs_of cells) t.op) t keeps (λ j lj.
         let many = tables_many p h.valid t (added p (logs_at v t.op) t.op) keeps in
         let port = got_at t.tables j (omega (arith, lj, many)) in
@@ -397,7 +401,8 @@ part_still n k (x ∷ xs) (y ∷ ys) e =
     by true a r = ap (λ s. s ∷ map still (tasks_of_part n k ys)) a ∙ ap (λ ss. still x ∷ ss) r
     by false a r = r
 
-module _ (p : PlanForm) (f : Framed) (bs : List Bundle) (h : AreBundlesOf p f bs) (ts0 ts : List Task) (cells : List Holding) (as_long : length ts0 ≡ length f.net.tasks)
+module _ (p : PlanForm) (f : Framed) (bs : List Bundle) (h : AreBundlesOf p f bs) (ts0 ts : List Task) (cells : List Holding)
+    (as_long : length ts0 ≡ length f.net.tasks)
     (same : map still ts ≡ map still (put_all bs ts0)) where
   -- the net has the ends of the net that was split
   pub net_ends : all_ends ts ≡ all_ends f.net.tasks
@@ -416,6 +421,18 @@ module _ (p : PlanForm) (f : Framed) (bs : List Bundle) (h : AreBundlesOf p f bs
         ∙ ap (map still) (joined_parts p f bs h ts0 as_long k b lk);
   }
 
+  -- the ends of its rings are pairs
+  pub net_paired : HasGrown (all_views bs) cells → ArePaired (put_all bs ts0) f.net.links
+  net_paired grown =
+      let n = h.net.is in
+      paired_net p h.net.inputs h.net.caps (added p (logs_of cells)) (put_all bs ts0) f.net.links h.valid
+      (laid_same p h.net.inputs h.net.caps f.net.tasks (put_all bs ts0) (joined_ends p f bs h ts0 as_long) n.laid)
+      (joined_tasks p f bs h cells grown ts0 as_long) n.links
+
+  -- and no two rings share one
+  pub net_apart : AreApart f.net.links
+  net_apart = apart_net p f.net.links h.valid h.net.is.links
+
   -- whatever inputs and capacities the net that was split had, this one has
   pub net_stays : (net : Net) → net ≡ record { tasks = ts; links = f.net.links; cells = cells; refused = false } → HasGrown (all_views bs) cells
       → AreMet ts f.net.links (length f.net.links) → Stays p f.net net
@@ -423,13 +440,13 @@ module _ (p : PlanForm) (f : Framed) (bs : List Bundle) (h : AreBundlesOf p f bs
   net_stays net e grown met = subst (Stays p f.net) (sym e) (record {
     fine = refl;
     is = λ inputs caps n. record {
-        typed = n.typed;
-        room = n.room;
-        laid = laid_same p inputs caps f.net.tasks ts net_ends n.laid;
-        tasks = still_tasks p (added p (logs_of cells)) (put_all bs ts0) ts same (joined_tasks p f bs h cells grown ts0 as_long);
-        settled = settled_by p ts f.net.links n.links met;
-        links = n.links;
-        cells = joined_cells p f bs h cells grown;
-        entries = joined_right p f bs h cells grown;
+      typed = n.typed;
+      room = n.room;
+      laid = laid_same p inputs caps f.net.tasks ts net_ends n.laid;
+      tasks = still_tasks p (added p (logs_of cells)) (put_all bs ts0) ts same (joined_tasks p f bs h cells grown ts0 as_long);
+      settled = settled_by p ts f.net.links n.links met;
+      links = n.links;
+      cells = joined_cells p f bs h cells grown;
+      entries = joined_right p f bs h cells grown;
     };
   })

@@ -27,12 +27,13 @@ later_stood f y xs x s = record { place = suc s.place; below = (let l = s.below 
 -- each element of a filtered list stood in the list, and passed
 pub filter_stood : {A : Type 0} (f : A → Bool) (xs : List A) (i : ℕ) (d : A) → i < length (filter f xs) → StoodAt f xs (get_or (filter f xs) i d)
 filter_stood f [] i d lt = absurd (omega (arith, lt))
-filter_stood f (x ∷ xs) i d lt = by (f x) refl i lt
+filter_stood f (x ∷ xs) i d lt = by (f x) refl (λ j l. filter_stood f xs j d l) i lt
   where
-    by : (b : Bool) → f x ≡ b → (j : ℕ) → j < length (cond b (x ∷ filter f xs) (filter f xs)) → StoodAt f (x ∷ xs) (get_or (cond b (x ∷ filter f xs) (filter f xs)) j d)
-    by true e zero l = record { place = 0; below = omega arith; same = λ c. refl; passed = e }
-    by true e (suc j) l = later_stood f x xs (get_or (filter f xs) j d) (filter_stood f xs j d (omega (arith, l)))
-    by false e j l = later_stood f x xs (get_or (filter f xs) j d) (filter_stood f xs j d l)
+    by : (b : Bool) → f x ≡ b → ((j : ℕ) → j < length (filter f xs) → StoodAt f xs (get_or (filter f xs) j d)) → (j : ℕ)
+        → j < length (cond b (x ∷ filter f xs) (filter f xs)) → StoodAt f (x ∷ xs) (get_or (cond b (x ∷ filter f xs) (filter f xs)) j d)
+    by true e rest zero l = record { place = 0; below = omega arith; same = λ c. refl; passed = e }
+    by true e rest (suc j) l = later_stood f x xs (get_or (filter f xs) j d) (rest j (omega (arith, l)))
+    by false e rest j l = later_stood f x xs (get_or (filter f xs) j d) (rest j l)
 
 -- an element that passes stands in the filtered list
 pub filter_finds : {A : Type 0} (f : A → Bool) (xs : List A) (o : ℕ) (d : A) → o < length xs → f (get_or xs o d) ≡ true
@@ -56,14 +57,16 @@ pub map_at : {A B : Type 0} (g : A → B) (xs ys : List A) → length xs ≡ len
 map_at g [] [] l e = refl
 map_at g [] (y ∷ ys) l e = absurd (omega (arith, l))
 map_at g (x ∷ xs) [] l e = absurd (omega (arith, l))
-map_at g (x ∷ xs) (y ∷ ys) l e = ap (λ b. b ∷ map g xs) (e 0 x (omega arith)) ∙ ap (λ bs. g y ∷ bs) (map_at g xs ys (omega (arith, l)) (λ i d lt. e (suc i) d (omega (arith, lt))))
+map_at g (x ∷ xs) (y ∷ ys) l e = ap (λ b. b ∷ map g xs) (e 0 x (omega arith))
+    ∙ ap (λ bs. g y ∷ bs) (map_at g xs ys (omega (arith, l)) (λ i d lt. e (suc i) d (omega (arith, lt))))
 
 -- and the same
 pub list_at_all : {A : Type 0} (xs ys : List A) → length xs ≡ length ys → ((i : ℕ) (d : A) → i < length xs → get_or xs i d ≡ get_or ys i d) → xs ≡ ys
 list_at_all [] [] l e = refl
 list_at_all [] (y ∷ ys) l e = absurd (omega (arith, l))
 list_at_all (x ∷ xs) [] l e = absurd (omega (arith, l))
-list_at_all (x ∷ xs) (y ∷ ys) l e = ap (λ b. b ∷ xs) (e 0 x (omega arith)) ∙ ap (λ bs. y ∷ bs) (list_at_all xs ys (omega (arith, l)) (λ i d lt. e (suc i) d (omega (arith, lt))))
+list_at_all (x ∷ xs) (y ∷ ys) l e = ap (λ b. b ∷ xs) (e 0 x (omega arith))
+    ∙ ap (λ bs. y ∷ bs) (list_at_all xs ys (omega (arith, l)) (λ i d lt. e (suc i) d (omega (arith, lt))))
 
 -- THE TASKS OF A PART
 
@@ -73,7 +76,8 @@ part_ends n k [] = refl
 part_ends n k (t ∷ ts) = by ((t.op % n) == k) (part_ends n k ts)
   where
     by : (b : Bool) → all_ends (tasks_of_part n k ts) ≡ ends_of_part n k (all_ends ts)
-        → all_ends (cond b (t ∷ tasks_of_part n k ts) (tasks_of_part n k ts)) ≡ cond b (ends_of t ∷ ends_of_part n k (all_ends ts)) (ends_of_part n k (all_ends ts))
+        → all_ends (cond b (t ∷ tasks_of_part n k ts) (tasks_of_part n k ts)) ≡ cond b (ends_of t ∷ ends_of_part n k (all_ends ts))
+        (ends_of_part n k (all_ends ts))
     by true e = ap (λ es. ends_of t ∷ es) e
     by false e = e
 
@@ -86,7 +90,8 @@ single_cons t xs a s (suc i) (suc k) d li lk e = ap suc (s i k d (omega (arith, 
 -- no two of them are of one operator
 pub part_single : (f : Task → Bool) (ts : List Task) → AreSingle ts → AreSingle (filter f ts)
 part_single f [] s = s
-part_single f (t ∷ ts) s = by (f t) (part_single f ts (λ i k d li lk e. let q = s (suc i) (suc k) d (omega (arith, li)) (omega (arith, lk)) e in omega (arith, q)))
+part_single f (t ∷ ts) s = by (f t)
+    (part_single f ts (λ i k d li lk e. let q = s (suc i) (suc k) d (omega (arith, li)) (omega (arith, lk)) e in omega (arith, q)))
   where
     apart : (j : ℕ) (d : Task) → j < length (filter f ts) → t.op ≡ (get_or (filter f ts) j d).op → ⊥
     apart j d lt e =

@@ -1,18 +1,25 @@
 -- A run of one net, round by round, and then move by move.
-use Rattle.std.proofs.Common.{◌≡◌, ℕ, ◌+◌, ◌*◌, ◌-◌, ◌<◌, ◌≤◌, List, arith, refl}
-use Rattle.std.specs.Prelude.{Bool, true, false}
+use Rattle.std.proofs.Common.{◌≡◌, ℕ, ◌+◌, ◌*◌, ◌-◌, ◌<◌, ◌≤◌, List, arith, refl, sym, subst, ap, ◌∙◌, ◌++◌, length, take, drop}
+use Rattle.std.specs.Prelude.{All, Bool, true, false, IsTrue, IsFalse}
+use Rattle.std.proofs.lemmas.List.{append-nil, drop_all, take_all}
 use Rattle.river_base.specs.declared.item.Item as item
-use Rattle.river_plan.specs.Forms.{PlanForm, queue_names}
+use Rattle.river_plan.specs.Forms.{PlanForm, plan_form, queue_names}
+use Rattle.river_plan.specs.declared.plan.RawPlan.{RawPlan}
 use Rattle.river_plan.specs.Valid.{IsPlan}
 use Rattle.brooklet_model.specs.Histories.{hist, lengths}
+use Rattle.fire_tasks.specs.declared.bundle.Bundle.{Bundle}
 use Rattle.fire_tasks.specs.Adds.{added, logs_of}
+use Rattle.fire_tasks.specs.Bundles.{IsReady}
+use Rattle.fire_tasks.specs.Ports.{HasMoved}
 use Rattle.fire_tasks.specs.Tasks.{all_moves}
 use Rattle.fire_laws.proofs.Numbers.{numbers_law}
 use Rattle.fire_run.specs.declared.net.Net.{Net}
 use Rattle.fire_run.specs.declared.running.Round.{Round}
-use Rattle.fire_run.specs.declared.running.Round.TheVariants.{Moved}
+use Rattle.fire_run.specs.declared.running.Round.TheVariants.{Moved, Still}
 use Rattle.fire_run.specs.NetOf.{HasNet, HasNetAt, HasNetOf, Stays, OneMore}
-use Rattle.fire_run.specs.Rounds.{GoesOn}
+use Rattle.fire_run.specs.Frames.{Framed, AreBundlesOf, AreCalm, HaveWorked, bundle_moves}
+use Rattle.fire_run.specs.Rounds.{GoesOn, HasJoined, SomeMoved}
+use Rattle.fire_run.proofs.RoundLemmas.{are_ready, round_bundles, round_falls, round_grew, round_stayed}
 
 -- STAYING A NET
 
@@ -31,6 +38,65 @@ stays_has p a b h s = record { fine = s.fine; inputs = h.inputs; caps = h.caps; 
 -- a net that was just opened is one
 pub opened_has : (p : PlanForm) (inputs : List (List item.Item)) (cap : ℕ) (net : Net) → HasNetAt p inputs cap net → HasNet p net
 opened_has p inputs cap net h = record { fine = h.fine; inputs = inputs; caps = λ q. cap; is = h.is }
+
+-- A ROUND
+
+-- what is written back of a slice of as many elements is the slice
+pub written_back : (new old : List Bundle) (n : ℕ) → length new ≡ length old → n ≡ length old → take n (new ++ drop (length new) old) ≡ new
+written_back new old n e m =
+    ap (λ (l : List Bundle). take n (new ++ l)) (drop_all (length new) old (omega (arith, e)))
+    ∙ (ap (take n) (append-nil new) ∙ take_all n new (omega (arith, e, m)))
+
+-- bundles of a frame are ready for a round
+pub ready_by : (raw : RawPlan) (p : PlanForm) (f : Framed) (bs : List Bundle) → plan_form raw ≡ p → AreBundlesOf p f bs → All (IsReady raw) bs
+ready_by raw p f bs e h = are_ready raw f bs (subst (λ (q : PlanForm). AreBundlesOf q f bs) (sym e) h)
+
+-- after it they are bundles of the frame still
+pub worked : (raw : RawPlan) (p : PlanForm) (f : Framed) (bs bs' : List Bundle) → plan_form raw ≡ p → AreBundlesOf p f bs → HaveWorked raw bs bs' → AreCalm bs'
+    → AreBundlesOf p f bs'
+worked raw p f bs bs' e h w calm =
+    subst (λ (q : PlanForm). AreBundlesOf q f bs') e (round_bundles raw f bs bs' (subst (λ (q : PlanForm). AreBundlesOf q f bs) (sym e) h) w calm)
+
+-- bundles of a frame worked, and were joined
+pub joined : (raw : RawPlan) (p : PlanForm) (f : Framed) (bs bs' : List Bundle) (net : Net) (moved : Bool) → plan_form raw ≡ p → AreBundlesOf p f bs
+    → HaveWorked raw bs bs' → AreCalm bs' → ((q : PlanForm) → AreBundlesOf q f bs' → Stays q f.net net) → all_moves net.tasks ≡ bundle_moves bs'
+    → (IsTrue moved → SomeMoved bs') → (IsFalse moved → All (λ b. b.moved ≡ false) bs') → HasJoined p f bs net moved
+joined raw p f bs bs' net moved e h w calm stays moves some none = record {
+  stays = stays p (worked raw p f bs bs' e h w calm);
+  number = subst (λ (n : ℕ). HasMoved (bundle_moves bs) n moved) (sym moves) (record {
+    never_falls = round_falls raw bs bs' w calm;
+    grew = λ t. let m = some t in round_grew raw bs bs' w calm m.which m.bundle m.there m.moved;
+    stayed = λ t. round_stayed raw bs bs' w calm (none t);
+  });
+}
+
+-- a net that was split, and whose bundles worked, goes on
+pub goes_round : (p : PlanForm) (net net' : Net) (f : Framed) (bs : List Bundle) (moved : Bool) (round : Round) (n : ℕ) → f ≡ record { net = net; workers = n }
+    → bundle_moves bs ≡ all_moves net.tasks → HasJoined p f bs net' moved → (round ≡ Moved → IsTrue moved) → GoesOn p net net' round
+goes_round p net net' f bs moved round n e m j g = record {
+  stays = subst (λ (x : Framed). Stays p x.net net') e j.stays;
+  never_falls = let a = j.number.never_falls in omega (arith, a, m);
+  grew = λ t. let a = j.number.grew (g t) in omega (arith, a, m);
+}
+
+-- so it does whatever moved
+pub goes_still : (p : PlanForm) (net net' : Net) (f : Framed) (bs : List Bundle) (moved : Bool) (n : ℕ) → f ≡ record { net = net; workers = n }
+    → bundle_moves bs ≡ all_moves net.tasks → HasJoined p f bs net' moved → GoesOn p net net' Still
+goes_still p net net' f bs moved n e m j = goes_round p net net' f bs moved Still n e m j (λ t. absurd (cc))
+
+-- then a move of it
+pub goes_then : (p : PlanForm) (a b c : Net) (first second : Round) → GoesOn p a b first → GoesOn p b c second → GoesOn p a c second
+goes_then p a b c first second g h = record {
+  stays = stays_then p a b c g.stays h.stays;
+  never_falls = let x = g.never_falls in let y = h.never_falls in omega (arith, x, y);
+  grew = λ t. let x = g.never_falls in let y = h.grew t in omega (arith, x, y);
+}
+
+-- a move, or none
+pub goes_move : (p : PlanForm) (net net' : Net) (moved : Bool) (round : Round) → Stays p net net' → OneMore (all_moves net.tasks) (all_moves net'.tasks) moved
+    → (round ≡ Moved → IsTrue moved) → GoesOn p net net' round
+goes_move p net net' true round s o g = record { stays = s; never_falls = let a = o.one refl in omega (arith, a); grew = λ t. let a = o.one refl in omega (arith, a) }
+goes_move p net net' false round s o g = record { stays = s; never_falls = let a = o.none refl in omega (arith, a); grew = λ t. absurd (let x = g t in cc) }
 
 -- ROUNDS
 

@@ -12,7 +12,8 @@ use Rattle.fire_run.specs.Shares.{AreShares, IsShare, OthersStay}
 -- TAKING A PART OUT
 
 -- a task of a part that is exchanged for another of this part changes no other part
-part_set : (n j : ℕ) (ts : List Task) (i : ℕ) (t : Task) → t.op ≡ (get_or ts i t).op → ((t.op % n) ≡ j → ⊥) → tasks_of_part n j (set ts i t) ≡ tasks_of_part n j ts
+part_set : (n j : ℕ) (ts : List Task) (i : ℕ) (t : Task) → t.op ≡ (get_or ts i t).op → ((t.op % n) ≡ j → ⊥)
+    → tasks_of_part n j (set ts i t) ≡ tasks_of_part n j ts
 part_set n j [] i t e ne = refl
 part_set n j (u ∷ ts) zero t e ne =
     ap (λ b. cond b (t ∷ tasks_of_part n j ts) (tasks_of_part n j ts)) (ne_eqb (t.op % n) j ne)
@@ -51,7 +52,8 @@ taking_in n k i ts0 ts own t new h lt e o q =
     let one : tasks_of_part n k (t ∷ []) ≡ t ∷ [] = ap (λ b. cond b (t ∷ []) []) (eq-eqb (t.op % n) k q) in
     record {
       own = ap (λ l. l ++ t ∷ []) h.own ∙ ap (λ l. tasks_of_part n k (take i ts0) ++ l) (sym one)
-          ∙ sym (filter-append (λ (x : Task). (x.op % n) == k) (take i ts0) (t ∷ [])) ∙ ap (tasks_of_part n k) (sym (one_more ts0 i t (omega (arith, lt, m)) there));
+          ∙ sym (filter-append (λ (x : Task). (x.op % n) == k) (take i ts0) (t ∷ []))
+          ∙ ap (tasks_of_part n k) (sym (one_more ts0 i t (omega (arith, lt, m)) there));
       rest = λ j d le. get_or-set_other ts i j new d (λ z. omega (arith, z, le)) ∙ h.rest j d (omega (arith, le));
       stay = record {
         many = length-set ts i new ∙ m;
@@ -75,7 +77,8 @@ taking_past n k i ts0 ts own t h lt e ne =
     let none : tasks_of_part n k (t ∷ []) ≡ [] = ap (λ b. cond b (t ∷ []) []) (ne_eqb (t.op % n) k ne) in
     record {
       own = h.own ∙ sym (append-nil (tasks_of_part n k (take i ts0))) ∙ ap (λ l. tasks_of_part n k (take i ts0) ++ l) (sym none)
-          ∙ sym (filter-append (λ (x : Task). (x.op % n) == k) (take i ts0) (t ∷ [])) ∙ ap (tasks_of_part n k) (sym (one_more ts0 i t (omega (arith, lt, m)) there));
+          ∙ sym (filter-append (λ (x : Task). (x.op % n) == k) (take i ts0) (t ∷ []))
+          ∙ ap (tasks_of_part n k) (sym (one_more ts0 i t (omega (arith, lt, m)) there));
       rest = λ j d le. h.rest j d (omega (arith, le));
       stay = h.stay;
     }
@@ -127,11 +130,11 @@ dealing_next n ts0 ts ts' seats0 seats seats' bs seat b h e s o =
       count = (let l = length-append bs (b ∷ []) in omega (arith, long, c, l));
       shares = subst (AreShares n ts0 seats0 (length seats')) (sym turned) (
         λ d. record {
-            tasks = s.tasks ∙ h.left (length seats') (omega (arith, long));
-            seat = s.seat ∙ sym (ap (λ l. get_or l (length seats') d) all ∙ here seats' d);
-            blank = s.blank;
-            unmoved = s.unmoved;
-            calm = s.calm;
+          tasks = s.tasks ∙ h.left (length seats') (omega (arith, long));
+          seat = s.seat ∙ sym (ap (λ l. get_or l (length seats') d) all ∙ here seats' d);
+          blank = s.blank;
+          unmoved = s.unmoved;
+          calm = s.calm;
         },
         (let z : length seats ≡ suc (length seats') = omega (arith, long) in subst (λ k. AreShares n ts0 seats0 k (reverse bs)) z h.shares),
       );

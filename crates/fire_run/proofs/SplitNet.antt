@@ -1,5 +1,5 @@
 -- The bundles of a net that was split.
-use Rattle.std.proofs.Common.{◌≡◌, ℕ, zero, suc, ◌+◌, ◌%◌, ◌<◌, ◌≤◌, ◌^◌, Some, inl, List, [], ◌∷◌, length, refl, sym, ap, ◌∙◌, subst, arith, get_or}
+use Rattle.std.proofs.Common.{◌≡◌, ℕ, zero, suc, ◌+◌, ◌%◌, ◌==◌, ◌<◌, ◌≤◌, ◌^◌, Some, inl, List, [], ◌∷◌, length, refl, sym, ap, ◌∙◌, subst, arith, get_or}
 use Rattle.std.specs.Prelude.{All, slice_get}
 use Rattle.std.proofs.lemmas.List.{append-nil}
 use Rattle.std.proofs.lemmas.List.Elements.{All-nil}
@@ -59,7 +59,8 @@ pigeons : (xs : List ℕ) (m : ℕ) → ((c : ℕ) → c < m → (i : ℕ) × (s
 pigeons xs zero h = omega arith
 pigeons xs (suc m) h =
     let last = h m (omega arith) in
-    let rest = pigeons (without_at last.0 xs) m (λ c lt. let r = h c (omega (arith, lt)) in without_got last.0 r.0 m c xs last.1 r.1 (λ q. omega (arith, q, lt))) in
+    let rest = pigeons (without_at last.0 xs) m
+    (λ c lt. let r = h c (omega (arith, lt)) in without_got last.0 r.0 m c xs last.1 r.1 (λ q. omega (arith, q, lt))) in
     let long = without_long last.0 m xs last.1 in
     omega (arith, rest, long)
 
@@ -122,7 +123,8 @@ share_tasks p inputs caps net w k v n = record {
     view : View
     view = with_parts w net.cells (k ∷ []) []
 
-    stood : (i : ℕ) (d : Task) → i < length (tasks_of_part w k net.tasks) → StoodAt (λ (t : Task). (t.op % w) == k) net.tasks (get_or (tasks_of_part w k net.tasks) i d)
+    stood : (i : ℕ) (d : Task) → i < length (tasks_of_part w k net.tasks)
+        → StoodAt (λ (t : Task). (t.op % w) == k) net.tasks (get_or (tasks_of_part w k net.tasks) i d)
     stood i d lt = filter_stood (λ (t : Task). (t.op % w) == k) net.tasks i d lt
 
     task_at : (i : ℕ) (d : Task) → i < length (tasks_of_part w k net.tasks)
@@ -133,6 +135,11 @@ share_tasks p inputs caps net w k v n = record {
 
 -- THE BUNDLES
 
+-- there are so many seats
+pub seats_long : (z : TableId) (n : ℕ) (starts : List Holding) (m c : ℕ) → length (seats_from z n starts m c) ≡ c
+seats_long z n starts m zero = refl
+seats_long z n starts m (suc c) = ap suc (seats_long z n starts (suc m) c)
+
 seat_at : (z : TableId) (n : ℕ) (starts : List Holding) (m c k : ℕ) (e : Chair) → k < c
     → get_or (seats_from z n starts m c) k e ≡ record { lot = z; view = with_parts n starts ((m + k) ∷ []) [] }
 seat_at z n starts m zero k e lt = absurd (omega (arith, lt))
@@ -141,7 +148,8 @@ seat_at z n starts m (suc c) (suc k) e lt =
     let y : suc m + k ≡ m + suc k = omega arith in
     seat_at z n starts (suc m) c k e (omega (arith, lt)) ∙ ap (λ j. record { lot = z; view = with_parts n starts (j ∷ []) [] }) y
 
-module _ (z : TableId) (net : Net) (w : ℕ) (seats : List Chair) (bs : List Bundle) (some_w : 0 < w) (many : length bs ≡ w) (from : seats ≡ seats_from z w net.cells 0 w)
+module _ (z : TableId) (net : Net) (w : ℕ) (seats : List Chair) (bs : List Bundle) (some_w : 0 < w) (many : length bs ≡ w)
+    (from : seats ≡ seats_from z w net.cells 0 w)
     (shares : AreShares w net.tasks seats 0 bs) where
   share : (k : ℕ) (d : Bundle) → k < length bs → IsShare w net.tasks k (record { lot = z; view = with_parts w net.cells (k ∷ []) [] }) (get_or bs k d)
   share k d lt =

@@ -1,6 +1,6 @@
 -- What is left of a net that is split, its bundles, and what joining them again gives.
-use Rattle.std.specs.Prelude.{◌≡◌, ℕ, ◌+◌, ◌%◌, ◌==◌, ◌<◌, false, All, Some, List, [], ◌∷◌, ◌++◌, filter, length, map, slice_get, slice_index_or}
-use Rattle.river_plan.specs.Forms.{PlanForm}
+use Rattle.std.specs.Prelude.{◌≡◌, ℕ, ◌+◌, ◌%◌, ◌==◌, ◌<◌, ◌≤◌, true, false, All, Some, List, [], ◌∷◌, ◌++◌, filter, length, map, slice_get, slice_index_or}
+use Rattle.river_plan.specs.Forms.{PlanForm, plan_form}
 use Rattle.river_plan.specs.declared.plan.RawPlan.{RawPlan}
 use Rattle.river_plan.specs.Valid.{IsPlan}
 use Rattle.class_locks.specs.declared.log.LogEntry.{LogEntry}
@@ -96,6 +96,26 @@ pub record HaveWorked (raw : RawPlan) (bundles bundles' : List Bundle) : Type 0 
 -- none was refused
 abbrev pub AreCalm : List Bundle → Type 0
 AreCalm bundles = All (λ b. b.refused ≡ false) bundles
+
+-- the items that the tasks of bundles took and sent do not become fewer; they become more where one says that it moved, and stay where none does
+pub record HasToldMoves (bundles bundles' : List Bundle) : Type 0 where
+  pub never_fall : bundle_moves bundles ≤ bundle_moves bundles'
+  pub grew : (i : ℕ) (d : Bundle) → i < length bundles' → (slice_index_or bundles' i d).moved ≡ true → bundle_moves bundles < bundle_moves bundles'
+  pub stayed : All (λ b. b.moved ≡ false) bundles' → bundle_moves bundles' ≡ bundle_moves bundles
+
+-- After a round the bundles of a frame are bundles of it, and their seats are as they were.
+abbrev pub RoundsKeepSeats : Type 0
+RoundsKeepSeats = (raw : RawPlan) (f : Framed) (bs bs' : List Bundle) → AreSeated f bs → HaveWorked raw bs bs' → AreSeated f bs'
+
+-- Where none was refused they are tasks of the frame's plan as before.
+abbrev pub RoundsKeepBundles : Type 0
+RoundsKeepBundles =
+    (raw : RawPlan) (f : Framed) (bs bs' : List Bundle) → AreBundlesOf (plan_form raw) f bs → HaveWorked raw bs bs' → AreCalm bs'
+    → AreBundlesOf (plan_form raw) f bs'
+
+-- And they tell whether anything moved.
+abbrev pub RoundsTellMoves : Type 0
+RoundsTellMoves = (raw : RawPlan) (bs bs' : List Bundle) → HaveWorked raw bs bs' → AreCalm bs' → HasToldMoves bs bs'
 
 -- WHAT JOINING GIVES
 

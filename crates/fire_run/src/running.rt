@@ -2,17 +2,18 @@
 ghost use Rattle.std.specs.Prelude.{◌≡◌, ◌+◌, ◌<◌, ◌≤◌, ◌↔◌, All, false, IfOk, IsTrue, IsFalse};
 ghost use Rattle.river_plan.specs.Valid.{IsPlan};
 ghost use Rattle.brooklet_model.specs.Fit.{Fit};
+ghost use Rattle.fire_tasks.specs.Bundles.{IsReady};
 ghost use Rattle.fire_tasks.specs.Tasks.{all_moves};
 ghost use Rattle.fire_run.specs.Closed.{IsRanOf};
-ghost use Rattle.fire_run.specs.Frames.{AreBundlesOf, AreCalm};
+ghost use Rattle.fire_run.specs.Frames.{AreBundlesOf, AreCalm, HaveWorked};
 ghost use Rattle.fire_run.specs.NetOf.{HasNet, Stays};
 ghost use Rattle.fire_run.specs.Rounds.{GoesOn, HasJoined, SomeMoved};
 
 use crate::{Bundles, Frame, Net, Ran, SplitFault};
 use brooklet_step::Lines;
-use fire_tasks::{Bundle, round_of};
+use fire_tasks::round_of;
 use river_base::{Gate, NoMemory};
-use river_plan::Plan;
+use river_plan::{Plan, RawPlan};
 use std::alloc::Global;
 use std::thread::Threads;
 
@@ -81,7 +82,7 @@ fn make_rounds<R: Threads + Sync, G: Gate + Sync>(
     Ok((net, u64::MAX))
 }
 
-// A round of the workers. Where nothing moves in it, one move is made here, if there is one.
+// A round of the workers, and a move where nothing moved in it.
 fn make_round<R: Threads + Sync, G: Gate + Sync>(
     rt: &R,
     alloc: Global,
@@ -97,15 +98,32 @@ fn make_round<R: Threads + Sync, G: Gate + Sync>(
 {
     match net.split(alloc, workers) {
         Ok((frame, bundles)) => {
-            let (mut net, moved) = work_all(rt, plan, frame, bundles, workers, gate)?;
-            if moved || net.one(alloc, plan, gate)? {
-                Ok((net, Round::Moved))
-            } else {
-                Ok((net, Round::Still))
+            let (net, moved) = work_all(rt, plan, frame, bundles, workers, gate)?;
+            if moved {
+                return Ok((net, Round::Moved));
             }
+            move_once(alloc, plan, net, gate)
         }
         Err(SplitFault::Begun(net, _)) => Ok((net, Round::Late)),
         Err(SplitFault::NoMemory) => Err(NoMemory),
+    }
+}
+
+// One move, if there is one.
+fn move_once<G: Gate>(
+    alloc: Global,
+    plan: &Plan,
+    net: Net,
+    gate: &G,
+) -> Result<(Net, Round), NoMemory>
+    requires { HasNet plan.now net }
+    ensures { IfOk result (λ both. GoesOn plan.now net both.0 both.1) }
+{
+    let mut net = net;
+    if net.one(alloc, plan, gate)? {
+        Ok((net, Round::Moved))
+    } else {
+        Ok((net, Round::Still))
     }
 }
 
@@ -114,7 +132,7 @@ fn work_all<R: Threads + Sync, G: Gate + Sync>(
     rt: &R,
     plan: &Plan,
     frame: Frame,
-    mut bundles: Bundles,
+    bundles: Bundles,
     workers: u32,
     gate: &G,
 ) -> Result<(Net, bool), NoMemory>
@@ -122,32 +140,42 @@ fn work_all<R: Threads + Sync, G: Gate + Sync>(
     requires workers { 0 < workers }
     ensures { IfOk result (λ both. HasJoined plan.now frame bundles.items both.0 both.1) }
 {
-    round_of(
-        rt,
-        plan.raw(),
-        bundles.as_mut_slice(),
-        workers as usize,
-        gate,
-    );
-    if is_refused(bundles.as_slice()) {
+    let mut bundles = bundles;
+    work_each(rt, plan.raw(), &mut bundles, workers, gate);
+    if is_refused(&bundles) {
         frame.scrap(bundles);
         return Err(NoMemory);
     }
-    let moved = has_moved(bundles.as_slice());
+    let moved = has_moved(&bundles);
     Ok((frame.join(bundles), moved))
 }
 
+// Each of the bundles works, so many of them at a time.
+fn work_each<R: Threads + Sync, G: Gate + Sync>(
+    rt: &R,
+    raw: &RawPlan,
+    bundles: &mut Bundles,
+    workers: u32,
+    gate: &G,
+)
+    requires ready { All (IsReady raw.now) bundles.old.items }
+    requires workers { 0 < workers }
+    ensures { HaveWorked raw.now bundles.old.items bundles.new.items }
+{
+    round_of(rt, raw, bundles.as_mut_slice(), workers as usize, gate);
+}
+
 // Whether one of the bundles was refused.
-fn is_refused(bundles: &[Bundle]) -> bool
-    ensures { IsFalse result ↔ AreCalm bundles.now }
+fn is_refused(bundles: &Bundles) -> bool
+    ensures { IsFalse result ↔ AreCalm bundles.now.items }
 {
     bundles.iter().any(|bundle| bundle.refused)
 }
 
 // Whether anything moved in one of the bundles.
-fn has_moved(bundles: &[Bundle]) -> bool
-    ensures some { IsTrue result → SomeMoved bundles.now }
-    ensures none { IsFalse result → All (λ b. b.moved ≡ false) bundles.now }
+fn has_moved(bundles: &Bundles) -> bool
+    ensures some { IsTrue result → SomeMoved bundles.now.items }
+    ensures none { IsFalse result → All (λ b. b.moved ≡ false) bundles.now.items }
 {
     bundles.iter().any(|bundle| bundle.moved)
 }

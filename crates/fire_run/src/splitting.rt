@@ -32,6 +32,10 @@ pub enum SplitFault {
 }
 
 impl From<NoMemory> for SplitFault {
+    ghost use Rattle.fire_run.specs.declared.splitting.SplitFault.TheVariants as fault;
+
+    ghost from_gives = { λ _ f. f ≡ fault.NoMemory };
+
     fn from(_: NoMemory) -> Self {
         SplitFault::NoMemory
     }
