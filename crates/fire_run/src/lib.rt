@@ -16,5 +16,5 @@ mod splitting;
 pub use closing::{Logs, Ran};
 pub use frame::{Bundles, Frame};
 pub use net::Net;
-pub use running::run_on_one_thread;
+pub use running::run_plan;
 pub use splitting::SplitFault;

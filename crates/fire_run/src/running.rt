@@ -1,40 +1,181 @@
-// Runs of a plan in a net.
-ghost use Rattle.std.specs.Prelude.{◌≤◌, IfOk};
+// Runs of a plan by workers.
+ghost use Rattle.std.specs.Prelude.{◌≡◌, ◌+◌, ◌<◌, ◌≤◌, ◌↔◌, All, false, IfOk, IsTrue, IsFalse};
+ghost use Rattle.river_plan.specs.Valid.{IsPlan};
 ghost use Rattle.brooklet_model.specs.Fit.{Fit};
+ghost use Rattle.fire_tasks.specs.Bundles.{IsReady};
+ghost use Rattle.fire_tasks.specs.Tasks.{all_moves};
 ghost use Rattle.fire_run.specs.Closed.{IsRanOf};
+ghost use Rattle.fire_run.specs.Frames.{AreBundlesOf, AreCalm, HaveWorked};
+ghost use Rattle.fire_run.specs.NetOf.{HasNet, Stays};
+ghost use Rattle.fire_run.specs.Rounds.{GoesOn, HasJoined, SomeMoved};
 
-use crate::{Net, Ran};
+use crate::{Bundles, Frame, Net, Ran, SplitFault};
 use brooklet_step::Lines;
+use fire_tasks::round_of;
 use river_base::{Gate, NoMemory};
-use river_plan::Plan;
+use river_plan::{Plan, RawPlan};
 use std::alloc::Global;
+use std::thread::Threads;
 
-/// Runs a plan on these inputs to the end in a net, in which one thread makes one move after
-/// another; a queue between two operators holds at most `cap` items, 1 to 65,536. The answer is what
-/// the plan means, with the logs of the lock classes and the number of rounds: one for each move and
-/// one more, 2^64 - 1 standing for all that are greater. There is no error but that there is no
-/// memory.
-#[tactic(auto, using(crate::proofs::RunLemmas::for_first, crate::proofs::RunLemmas::for_has))]
-pub fn run_on_one_thread<G: Gate>(
+/// How a round came out.
+#[derive(Clone, Copy)]
+pub enum Round {
+    /// Something moved.
+    Moved,
+    /// Nothing moved, and nothing is left to move.
+    Still,
+    /// There was none, since the locks could not be opened.
+    Late,
+}
+
+/// Runs a plan on these inputs to the end in a net, by so many workers, 1 to 64; a queue between two operators holds at most `cap`
+/// items, 1 to 65,536. The answer is what the plan means, with the logs of the lock classes and the number of rounds, 2^64 - 1
+/// standing for all that are greater. There is no error but that there is no memory. With one worker no thread is started.
+pub fn run_plan<R: Threads + Sync, G: Gate + Sync>(
+    rt: &R,
     alloc: Global,
     plan: &Plan,
     inputs: Lines,
+    workers: u32,
     cap: u32,
     gate: &G,
 ) -> Result<Ran, NoMemory>
     requires fits { Fit plan.now inputs }
+    requires workers { (1 ≤ workers) × (workers ≤ 64) }
     requires cap { (1 ≤ cap) × (cap ≤ 65536) }
     ensures { IfOk result (IsRanOf plan.now inputs) }
 {
-    let mut net = Net::open(alloc, plan, inputs, cap)?;
-    for round in 0..u64::MAX {
-        if !net.one(alloc, plan, gate)? {
-            return net.close(alloc, plan, round + 1);
-        }
-    }
+    let net = Net::open(alloc, plan, inputs, cap)?;
+    let (mut net, rounds) = make_rounds(rt, alloc, plan, net, workers, gate)?;
     loop {
         if !net.one(alloc, plan, gate)? {
-            return net.close(alloc, plan, u64::MAX);
+            return net.close(alloc, plan, rounds);
         }
     }
+}
+
+// Rounds, to the first in which nothing is left to move or which there is not; and how many there were.
+fn make_rounds<R: Threads + Sync, G: Gate + Sync>(
+    rt: &R,
+    alloc: Global,
+    plan: &Plan,
+    net: Net,
+    workers: u32,
+    gate: &G,
+) -> Result<(Net, u64), NoMemory>
+    requires valid { IsPlan plan.now }
+    requires net { HasNet plan.now net }
+    requires workers { (1 ≤ workers) × (workers ≤ 64) }
+    ensures stays { IfOk result (λ both. Stays plan.now net both.0) }
+    ensures rounds { IfOk result (λ both. both.1 ≤ 1 + all_moves both.0.tasks) }
+{
+    let mut net = net;
+    for round in 0..u64::MAX {
+        let (next, went) = make_round(rt, alloc, plan, net, workers, gate)?;
+        net = next;
+        match went {
+            Round::Moved => {}
+            Round::Still => return Ok((net, round + 1)),
+            Round::Late => return Ok((net, round)),
+        }
+    }
+    Ok((net, u64::MAX))
+}
+
+// A round of the workers, and a move where nothing moved in it.
+fn make_round<R: Threads + Sync, G: Gate + Sync>(
+    rt: &R,
+    alloc: Global,
+    plan: &Plan,
+    net: Net,
+    workers: u32,
+    gate: &G,
+) -> Result<(Net, Round), NoMemory>
+    requires valid { IsPlan plan.now }
+    requires net { HasNet plan.now net }
+    requires workers { (1 ≤ workers) × (workers ≤ 64) }
+    ensures { IfOk result (λ both. GoesOn plan.now net both.0 both.1) }
+{
+    match net.split(alloc, workers) {
+        Ok((frame, bundles)) => {
+            let (net, moved) = work_all(rt, plan, frame, bundles, workers, gate)?;
+            if moved {
+                return Ok((net, Round::Moved));
+            }
+            move_once(alloc, plan, net, gate)
+        }
+        Err(SplitFault::Begun(net, _)) => Ok((net, Round::Late)),
+        Err(SplitFault::NoMemory) => Err(NoMemory),
+    }
+}
+
+// One move, if there is one.
+fn move_once<G: Gate>(
+    alloc: Global,
+    plan: &Plan,
+    net: Net,
+    gate: &G,
+) -> Result<(Net, Round), NoMemory>
+    requires { HasNet plan.now net }
+    ensures { IfOk result (λ both. GoesOn plan.now net both.0 both.1) }
+{
+    let mut net = net;
+    if net.one(alloc, plan, gate)? {
+        Ok((net, Round::Moved))
+    } else {
+        Ok((net, Round::Still))
+    }
+}
+
+// The bundles of a net work, and become a net again; says whether anything moved.
+fn work_all<R: Threads + Sync, G: Gate + Sync>(
+    rt: &R,
+    plan: &Plan,
+    frame: Frame,
+    bundles: Bundles,
+    workers: u32,
+    gate: &G,
+) -> Result<(Net, bool), NoMemory>
+    requires bundles { AreBundlesOf plan.now frame bundles.items }
+    requires workers { 0 < workers }
+    ensures { IfOk result (λ both. HasJoined plan.now frame bundles.items both.0 both.1) }
+{
+    let mut bundles = bundles;
+    work_each(rt, plan.raw(), &mut bundles, workers, gate);
+    if is_refused(&bundles) {
+        frame.scrap(bundles);
+        return Err(NoMemory);
+    }
+    let moved = has_moved(&bundles);
+    Ok((frame.join(bundles), moved))
+}
+
+// Each of the bundles works, so many of them at a time.
+fn work_each<R: Threads + Sync, G: Gate + Sync>(
+    rt: &R,
+    raw: &RawPlan,
+    bundles: &mut Bundles,
+    workers: u32,
+    gate: &G,
+)
+    requires ready { All (IsReady raw.now) bundles.old.items }
+    requires workers { 0 < workers }
+    ensures { HaveWorked raw.now bundles.old.items bundles.new.items }
+{
+    round_of(rt, raw, bundles.as_mut_slice(), workers as usize, gate);
+}
+
+// Whether one of the bundles was refused.
+fn is_refused(bundles: &Bundles) -> bool
+    ensures { IsFalse result ↔ AreCalm bundles.now.items }
+{
+    bundles.iter().any(|bundle| bundle.refused)
+}
+
+// Whether anything moved in one of the bundles.
+fn has_moved(bundles: &Bundles) -> bool
+    ensures some { IsTrue result → SomeMoved bundles.now.items }
+    ensures none { IsFalse result → All (λ b. b.moved ≡ false) bundles.now.items }
+{
+    bundles.iter().any(|bundle| bundle.moved)
 }

@@ -1,0 +1,29 @@
+use Rattle.fire_run.proofs.RunLemmas.{ran_first, ran_has, ran_less, ran_next}
+use Rattle.fire_run.proofs.running.run_plan.Goals as goal
+
+pub loop-net-init : goal.loop-net-init
+loop-net-init g c =
+    ran_first c.args.plan.now c.args.inputs c.args.cap c.in_ok-net-2.rounds c.in_ok-net.net c.in_ok-net-2.net c.in_ok-net.ensures.valid c.in_ok-net.ensures.net
+    c.in_ok-net-2.ensures.stays c.in_ok-net-2.ensures.rounds
+
+pub close-requires-clause-net : goal.close-requires-clause-net
+close-requires-clause-net g c =
+    ran_has c.args.plan.now c.args.inputs c.in_ok-net-2.rounds c.one.new.self
+    (ran_next c.args.plan.now c.args.inputs c.in_ok-net-2.rounds c.loop-net.net c.one.new.self c.in_ok-one.field-0 c.loop-net.invariant
+    c.in_ok-one.ensures.stays c.in_ok-one.ensures.moved)
+
+pub returns-then-not-branch : goal.returns-then-not-branch
+returns-then-not-branch g c =
+    let r = ran_next c.args.plan.now c.args.inputs c.in_ok-net-2.rounds c.loop-net.net c.one.new.self c.in_ok-one.field-0 c.loop-net.invariant
+        c.in_ok-one.ensures.stays c.in_ok-one.ensures.moved in
+    c.close.ensures.ran c.args.inputs r.has.caps r.has.is
+
+pub loop-net-smaller : goal.loop-net-smaller
+loop-net-smaller g c =
+    ran_less c.args.plan.now c.args.inputs c.in_ok-net-2.rounds c.loop-net.net c.one.new.self c.in_ok-one.field-0 c.loop-net.invariant
+    c.in_ok-one.ensures.stays c.in_ok-one.ensures.moved c.if-not-branch.false
+
+pub loop-net-preserved : goal.loop-net-preserved
+loop-net-preserved g c =
+    ran_next c.args.plan.now c.args.inputs c.in_ok-net-2.rounds c.loop-net.net c.one.new.self c.in_ok-one.field-0 c.loop-net.invariant
+    c.in_ok-one.ensures.stays c.in_ok-one.ensures.moved
