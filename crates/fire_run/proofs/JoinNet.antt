@@ -92,6 +92,7 @@ module _ (f : Framed) (bs : List Bundle) (h : AreSeated f bs) where
       (λ j b lj. let y : j ≡ 0 + j = omega arith in (h.each j b lj).parts ∙ ap (λ x. x ∷ []) y) i d l)
       k (omega (arith, lt, long, m)))
 
+  -- so it can close the round
   pub has_all : HasAll (merged (seats_of bs))
   unfolding one_round
   has_all k lt = has_every k (let e = one_round.seats in omega (arith, lt, e))
@@ -122,7 +123,8 @@ module _ (p : PlanForm) (f : Framed) (bs : List Bundle) (h : AreBundlesOf p f bs
   abbrev numbers : (o : ℕ) (d : Task) → o < length f.net.tasks → (get_or f.net.tasks o d).op ≡ o
   numbers o d lt = h.net.is.laid.numbers o (get_or f.net.tasks o d) (slice_get-get_or f.net.tasks o d lt)
 
-  pub known : (k : ℕ) (b : Bundle) (i : ℕ) (c : Task) → k < length bs → i < length (get_or bs k b).tasks → IsKnown f k (get_or (get_or bs k b).tasks i c)
+  -- each task of a bundle is the net's task of its operator, by its ends
+  known : (k : ℕ) (b : Bundle) (i : ℕ) (c : Task) → k < length bs → i < length (get_or bs k b).tasks → IsKnown f k (get_or (get_or bs k b).tasks i c)
   known k b i c lk li =
       let t = get_or (get_or bs k b).tasks i c in
       let es = all_ends f.net.tasks in
@@ -170,6 +172,7 @@ module _ (p : PlanForm) (f : Framed) (bs : List Bundle) (h : AreBundlesOf p f bs
     unfolding apart
     here k b i c d lk li = all_here f.workers 0 bs ts0 k i b c d apart lk li
 
+    -- each operator of the net has its task in the bundle of its part
     pub found : (o : ℕ) (d : Task) → o < length f.net.tasks → IsFound bs f.workers o (get_or (put_all bs ts0) o d)
     unfolding here known
     found o d lt =

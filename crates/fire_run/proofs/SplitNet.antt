@@ -90,6 +90,7 @@ few_cells p cells v h =
 
 -- THE TASKS OF A BUNDLE
 
+-- what is found at a place of cells, in the words of the locks
 pub elem_of : (xs : List Holding) (c : ℕ) (x : Holding) → slice_get xs c ≡ Some x → get_elem? xs c ≡ some x
 elem_of [] c x g = absurd (cc g)
 elem_of (y ∷ ys) zero x g = ap some (some_is y x g)
