@@ -1,6 +1,7 @@
 -- What the grammar gives of programs: names without `@` and of at most 40 bytes, lists that are not empty, values that are not
 -- too deep.
 use Rattle.std.proofs.Common.{◌≡◌, ℕ, suc, ◌<◌, ◌≤◌, true, Option, Some, None, List, [], ◌∷◌, ◌++◌, length, refl, sym, ap, ◌∙◌, subst, arith, inl, inr}
+use Rattle.std.proofs.lemmas.Bool.{and_parts}
 use Rattle.std.proofs.Common.{append-nil}
 use Rattle.std.specs.Prelude.{IsTrue, map}
 use Rattle.std.specs.List.{AllByRecursion}
@@ -14,17 +15,17 @@ use Rattle.cql_model.specs.Program.{streams_of, all_uses}
 use Rattle.cql_text.specs.Grammar.{IsColumn, IsColumns, IsSource, IsStreamUnit, IsQueryUnit, IsPart, IsWhere, AreParts}
 use Rattle.cql_text.specs.Tree.{Name, Scalar, scalar_depth, Source, Column, Columns, Chosen, Register, AQuery, Part, Program}
 use Rattle.cql_text.specs.Words.{is_plain}
-use Rattle.cql_text.proofs.Words.{and_both, plain-parts}
+use Rattle.cql_text.proofs.Words.{plain-parts}
 
 -- NAMES
 
 no_at : (text : Name) → is_plain text ≡ true → IsTrue (has_no_at text)
 no_at text h =
-    let a = and_both (is_short 40 text) _ (plain-parts text h).1 in
-    (and_both (has_no_at text) _ a.1).0
+    let a = and_parts (is_short 40 text) _ (plain-parts text h).1 in
+    (and_parts (has_no_at text) _ a.1).0
 
 short : (text : Name) → is_plain text ≡ true → length text ≤ 40
-short text h = let a = (and_both (is_short 40 text) _ (plain-parts text h).1).0 in grind (arith, a)
+short text h = let a = (and_parts (is_short 40 text) _ (plain-parts text h).1).0 in grind (arith, a)
 
 -- COLUMNS AND CONDITIONS
 

@@ -4,6 +4,7 @@ use Rattle.std.specs.Prelude.{codes, ◌&&◌, ◌||◌, not}
 use Rattle.std.specs.List.{list_any}
 use Rattle.std.specs.Str.{bytes_eq}
 use Rattle.std.specs.Str.{str_to_ascii_lowercase as lower}
+use Rattle.std.proofs.lemmas.Bool.{and_parts, or_parts, not-true}
 use Rattle.std.proofs.lemmas.Slice.Eq.{bytes_eq-Decides}
 use Rattle.river_base.specs.Name.{is_name}
 use Rattle.work_code.specs.Tok.{Tok, name, var, number, symbol}
@@ -18,41 +19,27 @@ pub exact-plain : Exact Plain plain_at Any
 unfolding plain_at
 exact-plain = exact-tested is_plain exact-name
 
-or_false : (a b : Bool) → (a || b) ≡ false → (a ≡ false) × (b ≡ false)
-or_false true b e = cc
-or_false false b e = (refl, e)
-
--- both sides of a conjunction that holds
-pub and_both : (a b : Bool) → (a && b) ≡ true → (a ≡ true) × (b ≡ true)
-and_both true true e = (refl, refl)
-and_both true false e = cc
-and_both false b e = cc
-
-not_true : (b : Bool) → not b ≡ true → b ≡ false
-not_true true e = cc
-not_true false e = refl
-
 abbrev pub AllFalse : (List ℕ → Bool) → List (List ℕ) → Type 0
 AllFalse P [] = Unit {0}
 AllFalse P (w ∷ ws) = (P w ≡ false) × AllFalse P ws
 
 among_none : (P : List ℕ → Bool) (words : List (List ℕ)) → list_any P words ≡ false → AllFalse P words
 among_none P [] e = tt
-among_none P (w ∷ ws) e = let p = or_false (P w) (list_any P ws) e in (p.0, among_none P ws p.1)
+among_none P (w ∷ ws) e = let p = or_parts (P w) (list_any P ws) e in (p.0, among_none P ws p.1)
 
 -- a name that users may give is a name, at most 40 bytes and without `@`
 pub plain-parts : (text : List ℕ) → is_plain text ≡ true → (is_name text ≡ true) × (is_free [] text ≡ true)
 unfolding is_plain
 plain-parts text h =
-    let a = and_both (is_name text) (is_free [] text && not (list_any (λ word. is_keyword word text) keywords)) h in
-    (a.0, (and_both (is_free [] text) (not (list_any (λ word. is_keyword word text) keywords)) a.1).0)
+    let a = and_parts (is_name text) (is_free [] text && not (list_any (λ word. is_keyword word text) keywords)) h in
+    (a.0, (and_parts (is_free [] text) (not (list_any (λ word. is_keyword word text) keywords)) a.1).0)
 
 -- a name that users may give is no keyword
 pub plain-words : (text : List ℕ) → is_plain text ≡ true → AllFalse (λ word. is_keyword word text) keywords
 unfolding is_plain
 plain-words text h =
-    let a = and_both (is_name text) (is_free [] text && not (list_any (λ word. is_keyword word text) keywords)) h in
-    among_none (λ word. is_keyword word text) keywords (not_true (list_any (λ word. is_keyword word text) keywords) (and_both (is_free [] text) (not (list_any (λ word. is_keyword word text) keywords)) a.1).1)
+    let a = and_parts (is_name text) (is_free [] text && not (list_any (λ word. is_keyword word text) keywords)) h in
+    among_none (λ word. is_keyword word text) keywords (not-true (list_any (λ word. is_keyword word text) keywords) (and_parts (is_free [] text) (not (list_any (λ word. is_keyword word text) keywords)) a.1).1)
 
 -- the name of a user is not the word `Not`
 pub plain-not : (text : List ℕ) → is_plain text ≡ true → is_keyword (codes "not") text ≡ false

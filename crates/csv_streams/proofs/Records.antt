@@ -1,13 +1,16 @@
 -- The records of a text, read one after another.
-use Rattle.std.proofs.Common.{◌≡◌, ℕ, zero, suc, ◌+◌, ◌-◌, ◌≤◌, List, [], ◌∷◌, ◌++◌, length, Bool, true, false, cond, refl, sym, ◌∙◌, ap, arith}
+use Rattle.std.proofs.Common.{◌≡◌, ℕ, zero, suc, ◌+◌, ◌-◌, ◌≤◌, List, [], ◌∷◌, ◌++◌, length, Bool, true, false, cond, inl, refl, sym, ◌∙◌, ap, arith}
 use Rattle.std.specs.Prelude.{Option, None, Some}
+use Rattle.std.specs.Borrow.{Bor}
 use Rattle.std.proofs.lemmas.List.{append-nil}
 use Rattle.csv.specs.Machine.{Read, next_record, step, is_end, fields_after, field_after, ends_at_end}
-use Rattle.csv.specs.Reading.{Reached, records_from, records_next, strip_bom, default_config, is_bom}
+use Rattle.csv.specs.Reading.{Reached, ReadRecord, records_from, records_next, strip_bom, default_config, is_bom}
 use Rattle.csv.specs.declared.parser.Config.{Config}
 use Rattle.csv.specs.declared.parser.State.{State}
 use Rattle.csv.specs.declared.parser.State.TheVariants as st
-use Rattle.csv_streams.specs.Records.{csv_records}
+use Rattle.csv.specs.declared.reader.Reader.{Reader}
+use Rattle.csv.proofs.ReadFacts.{rows-end, rows-more}
+use Rattle.csv_streams.specs.Records.{csv_records, IsBehind, Reads}
 
 -- how many bytes a read leaves, and in which state
 abbrev bytes_after : Option Read → ℕ
@@ -122,3 +125,18 @@ all-records text rows s2 ys r none =
     ∙ reached-records default_config st.StartRecord xs rows s2 ys (length xs + 1 - length rows) r
     ∙ ap (λ (l : List (List (List ℕ))). rows ++ l) (none_from default_config (length xs + 1 - length rows) s2 ys none)
     ∙ append-nil rows
+
+-- a reader behind some records reads the next, or there is none
+pub reads-next : (bytes : List ℕ) (recs : List (List (List ℕ))) (a b : Reader (Bor (List ℕ))) (fields : List (List ℕ)) (found : Bool) → IsBehind bytes recs a
+    → ReadRecord (λ s. Some s.now) a b found fields → b.first ≡ true → Reads bytes recs fields b found
+reads-next bytes recs a b fields true h s first =
+    let (z, at_z, more) = rows-more (λ (s : Bor (List ℕ)). Some s.now) a b fields default_config st.StartRecord (strip_bom bytes) h.left recs h.config h.source h.reached s in
+    record { trims = s.3 ∙ h.trims; ready = inl first; config = s.2 ∙ h.config; left = z; source = at_z; reached = more }
+reads-next bytes recs a b fields false h s first =
+    let none = rows-end (λ (s : Bor (List ℕ)). Some s.now) a b fields default_config h.left h.config h.source s in
+    all-records bytes recs a.state h.left h.reached none
+
+-- the records that a reader is behind are the first of all
+pub behind-first : (bytes : List ℕ) (recs : List (List (List ℕ))) (a : Reader (Bor (List ℕ))) → IsBehind bytes recs a
+    → (more : List (List (List ℕ))) × (csv_records bytes ≡ recs ++ more)
+behind-first bytes recs a h = let all = all-from_reached bytes recs a.state h.left h.reached in (all.0, all.1)

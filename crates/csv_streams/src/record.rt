@@ -1,26 +1,34 @@
 // The records of a file, and the values in their fields.
-ghost use Rattle.std.specs.Prelude.{◌≡◌, ◌≤◌, ◌<◌, ◌+◌, true, length, take, option_and_then, Some, Ok, Err, IfOk, OnOk, IfErr};
-ghost use Rattle.csv.specs.Reading.{Ready, ReadRecord, reader_trim, took_first};
+ghost use Rattle.std.specs.Prelude.{◌≡◌, ◌≤◌, ◌<◌, ◌+◌, ℕ, List, [], length, take, option_and_then, Ok, Err, IfOk, IfErr};
 ghost use Rattle.csv.specs.Records.{fields_of, field_at};
-ghost use Rattle.csv.specs.declared.reader.Trim.TheVariants as trim;
 ghost use Rattle.csv_streams.specs.Number.{number_in};
 ghost use Rattle.csv_streams.specs.Numbered.{numbered_results};
+ghost use Rattle.csv_streams.specs.Records.{IsBehind, Reads};
 ghost use Rattle.csv_streams.specs.Rows.{value_or, value_of_field, has_width, row_in, headers};
 ghost use Rattle.csv_streams.specs.declared.fault.InFault.TheVariants as fault;
 
 use crate::{InFault, read_number};
-use csv::{ByteRecord, Reader};
-use river_base::MAX_ROW;
+use csv::{ByteRecord, Reader, ReaderBuilder};
+use river_base::{Bytes, MAX_ROW};
+use std::alloc::Global;
 
 // How many fields of a record are read at most: a timestamp, and a row.
 const MAX_FIELDS: usize = MAX_ROW + 1;
 
+/// A reader of the records of these bytes, with commas and double quotes, none of which is a header.
+pub fn reader_of(alloc: Global, bytes: &Bytes) -> Reader<&[u8]>
+    ensures { IsBehind bytes.now [] result }
+{
+    ReaderBuilder::new()
+        .has_headers(false)
+        .flexible(true)
+        .from_reader(alloc, bytes.as_slice())
+}
+
 /// Reads the next record, if there is one; a reader of bytes fails for want of memory alone.
 pub fn read_record(rdr: &mut Reader<&[u8]>, raw: &mut ByteRecord) -> Result<bool, InFault>
-    requires trim { reader_trim rdr.old ≡ trim.None }
-    requires ready { Ready rdr.old }
-    ensures ok { IfOk result (λ found. ReadRecord (λ s. Some s.now) rdr.old rdr.new found (fields_of raw.new)) }
-    ensures first { OnOk result (took_first rdr.new ≡ true) }
+    requires { (bytes : List ℕ) × (recs : List (List (List ℕ))) × IsBehind bytes recs rdr.old }
+    ensures ok { IfOk result (λ found. (bytes : List ℕ) (recs : _) → IsBehind bytes recs rdr.old → Reads bytes recs (fields_of raw.new) rdr.new found) }
     ensures fault { IfErr result (λ f. f ≡ fault.NoMemory) }
 {
     match rdr.read_byte_record(raw) {

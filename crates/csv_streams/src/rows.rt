@@ -5,8 +5,8 @@ ghost use Rattle.csv.specs.Records.{fields_of};
 ghost use Rattle.csv_streams.specs.Rows.{row_in, rows_of_file, Appends, IsFaultTold, IsAnswer};
 
 use crate::InFault;
-use crate::record::{headers, read_record, values_in};
-use csv::{ByteRecord, ReaderBuilder};
+use crate::record::{headers, read_record, reader_of, values_in};
+use csv::ByteRecord;
 use kern_rows::EvenRows;
 use river_base::{Bytes, NoMemory, Row, Rows};
 use std::alloc::Global;
@@ -75,10 +75,7 @@ fn add_rows(
     ensures ok { OnOk result (rows_of_file bytes.now width skip_first more ≡ Ok rows.new) }
     ensures fault { IfErr result (IsFaultTold (rows_of_file bytes.now width skip_first more)) }
 {
-    let mut rdr = ReaderBuilder::new()
-        .has_headers(false)
-        .flexible(true)
-        .from_reader(alloc, bytes.as_slice());
+    let mut rdr = reader_of(alloc, bytes);
     let mut record = ByteRecord::new(alloc);
     let header = headers(skip_first);
     let last = header + MAX_ROWS;

@@ -4,9 +4,9 @@ ghost use Rattle.csv.specs.Records.{fields_of};
 ghost use Rattle.csv_streams.specs.Rows.{Appends, IsFaultTold, IsAnswer};
 ghost use Rattle.csv_streams.specs.Timed.{timed_in, timed_of, stamp_after, in_time};
 
-use crate::record::{headers, read_record, values_in};
+use crate::record::{headers, read_record, reader_of, values_in};
 use crate::{InFault, MAX_ROWS};
-use csv::{ByteRecord, ReaderBuilder};
+use csv::ByteRecord;
 use river_base::{Bytes, Row, TimedRows};
 use std::alloc::Global;
 
@@ -42,10 +42,7 @@ fn add_timed_rows(
     ensures ok { OnOk result (timed_of bytes.now width skip_first ≡ Ok rows.new) }
     ensures fault { IfErr result (IsFaultTold (timed_of bytes.now width skip_first)) }
 {
-    let mut rdr = ReaderBuilder::new()
-        .has_headers(false)
-        .flexible(true)
-        .from_reader(alloc, bytes.as_slice());
+    let mut rdr = reader_of(alloc, bytes);
     let mut record = ByteRecord::new(alloc);
     let header = headers(skip_first);
     let last = header + MAX_ROWS;

@@ -1,5 +1,6 @@
 -- Units, printed and read.
 use Rattle.std.proofs.Common.{◌≡◌, ℕ, Bool, true, false, List, [], ◌∷◌, ◌++◌, length, refl, sym, ap, ◌∙◌, subst, inl, inr, append_assoc, append-nil}
+use Rattle.std.proofs.lemmas.Bool.{and_parts}
 use Rattle.std.specs.Prelude.{codes, map, ◌&&◌, nat_le}
 use Rattle.std.specs.List.{list_all}
 use Rattle.std.specs.Fmt.{decimal}
@@ -38,15 +39,11 @@ use Rattle.river_print.proofs.PrintedExpr.{blank-then}
 
 -- ---- names
 
-both : (a b : Bool) → (a && b) ≡ true → (a ≡ true) × (b ≡ true)
-both true b h = (refl, h)
-both false b h = cc
-
 pub name-text : (v : List ℕ) → is_name v ≡ true → is_name_text v ≡ true
 name-text [] h = cc
 name-text (b ∷ bs) h =
-    let x = both (is_letter b) (list_all is_word bs && nat_le (length bs) 63) h in
-    let y = both (list_all is_word bs) (nat_le (length bs) 63) x.1 in
+    let x = and_parts (is_letter b) (list_all is_word bs && nat_le (length bs) 63) h in
+    let y = and_parts (list_all is_word bs) (nat_le (length bs) 63) x.1 in
     rw (x.0, y.0) refl
 
 -- ---- a unit of a text

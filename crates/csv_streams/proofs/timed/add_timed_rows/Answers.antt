@@ -1,63 +1,44 @@
-use Rattle.std.proofs.Common.{Bor, List, ℕ, ◌≡◌, ◌+◌, ◌<◌, ◌≤◌, ◌∙◌, sym, refl, rules, arith, ap, inl, inr, Some, ◌∷◌, [], ◌++◌, length, length-append}
-use Rattle.std.proofs.Common.{append_assoc}
+use Rattle.std.proofs.Common.{List, ℕ, ◌≡◌, ◌+◌, ◌<◌, ◌≤◌, ◌∙◌, sym, refl, rules, arith, ap, ◌∷◌, [], ◌++◌, length, length-append, append_assoc}
 use Rattle.std.specs.Prelude.{pos, Err}
 use Rattle.std.proofs.lemmas.Result.{err_from_is_err_and}
-use Rattle.csv.specs.Reading.{Reached, default_config, strip_bom}
 use Rattle.csv.specs.Records.{fields_of}
-use Rattle.csv.specs.declared.parser.State.TheVariants as st
-use Rattle.csv.proofs.ReadFacts.{rows-end, rows-more}
-use Rattle.csv_streams.proofs.Records.{all-from_reached, all-records}
 use Rattle.csv_streams.specs.Rows.{headers, Appends, IsFaultTold}
 use Rattle.csv_streams.specs.Timed.{Entry, timed_in, timed_rows_in, timed_of, stamp_after}
+use Rattle.csv_streams.proofs.Records.{behind-first}
 use Rattle.csv_streams.proofs.RowsIn.{fault_passes}
 use Rattle.csv_streams.proofs.TimedIn.{all_told, timed-none, timed-header, timed-push, timed-fault, timed_within}
 use Rattle.csv_streams.proofs.timed.add_timed_rows.Goals as goal
 
+pub read_record-requires : goal.read_record-requires
+read_record-requires c = let read = c.loop-record.invariant.read in (c.args.bytes.now, read.0, read.1)
+
 pub loop-record-init : goal.loop-record-init
-unfolding Reached
-loop-record-init c =
-    let fr = rw c.as_slice.ensures at c.from_reader-rdr.ensures in
-    let e = c.has_headers.ensures in
-    let f = c.flexible.ensures in
-    record {
-      trims = rw (f, e) at fr.trim ∙ c.new.ensures.trim;
-      ready = inr (inr (rw (f, e) at fr.has_headers, fr.headers));
-      config = rw (f, e) at fr.config ∙ c.new.ensures.config;
-      header = c.headers-header.ensures;
-      last = ap (λ (n : ℕ). n + 100000) c.headers-header.ensures;
-      few = omega arith;
-      read =
-          (strip_bom c.args.bytes.now, [], fr.source, (sym fr.state, refl), timed-none c.args.width c.args.skip_first ∙ ap (λ (l : List Entry). all_told l) (sym c.requires.none), refl);
-    }
+loop-record-init c = record {
+  header = c.headers-header.ensures;
+  last = ap (λ (n : ℕ). n + 100000) c.headers-header.ensures;
+  few = omega arith;
+  read = ([], c.reader_of-rdr.ensures, timed-none c.args.width c.args.skip_first ∙ ap (λ (l : List Entry). all_told l) (sym c.requires.none), refl);
+}
 
 -- a row
 pub loop-record-preserved-in-Continue-branch-2 : goal.loop-record-preserved-in-Continue-branch-2
 loop-record-preserved-in-Continue-branch-2 c =
     let inv = c.loop-record.invariant in
-    let (y, recs, source, reached, so_far, count) = inv.read in
+    let (recs, behind, so_far, count) = inv.read in
     let fields = fields_of c.read_record.new.raw in
-    let s = rw c.if-branch.true at c.in_ok-read_record.ensures.ok in
-    let (z, at_z, more) = rows-more (λ (s : Bor (List ℕ)). Some s.now) c.loop-record.rdr c.read_record.new.rdr fields default_config st.StartRecord (strip_bom c.args.bytes.now) y recs inv.config source reached s in
+    let next = (rw c.if-branch.true at c.in_ok-read_record.ensures.ok) c.args.bytes.now recs behind in
     let one : Appends (timed_in c.args.width (c.headers-header.result + 100000) (stamp_after (pos 0) c.loop-record.rows) (c.loop-record.rec + 1) fields) c.loop-record.rows c.add_timed_row.new.rows = search rules in
-    let row = one.row in
-    let grown = one.grown in
-    let is = one.is in
     let past : c.headers-header.result < c.loop-record.rec + 1 = c.if-rec-header.true in
     let le : headers c.args.skip_first ≤ length recs = omega (arith, past, count, inv.header) in
     record {
-      trims = s.3 ∙ inv.trims;
-      ready = inl c.in_ok-read_record.ensures.first;
-      config = s.2 ∙ inv.config;
       header = inv.header;
       last = inv.last;
-      few = timed_within c.args.width (c.headers-header.result + 100000) (stamp_after (pos 0) c.loop-record.rows) (c.loop-record.rec + 1) fields row is;
+      few = timed_within c.args.width (c.headers-header.result + 100000) (stamp_after (pos 0) c.loop-record.rows) (c.loop-record.rec + 1) fields one.row one.is;
       read = (
-        z,
         recs ++ fields ∷ [],
-        at_z,
-        more,
-        timed-push c.args.width c.args.skip_first recs fields c.loop-record.rows row le so_far (rw (sym inv.last, count) is)
-            ∙ ap (λ (l : List Entry). all_told l) (sym grown),
+        next,
+        timed-push c.args.width c.args.skip_first recs fields c.loop-record.rows one.row le so_far (rw (sym inv.last, count) one.is)
+            ∙ ap (λ (l : List Entry). all_told l) (sym one.grown),
         omega (arith, length-append recs (fields ∷ []), count),
       );
     }
@@ -66,37 +47,25 @@ loop-record-preserved-in-Continue-branch-2 c =
 pub loop-record-preserved : goal.loop-record-preserved
 loop-record-preserved c =
     let inv = c.loop-record.invariant in
-    let (y, recs, source, reached, so_far, count) = inv.read in
+    let (recs, behind, so_far, count) = inv.read in
     let fields = fields_of c.read_record.new.raw in
-    let s = rw c.if-branch.true at c.in_ok-read_record.ensures.ok in
-    let (z, at_z, more) = rows-more (λ (s : Bor (List ℕ)). Some s.now) c.loop-record.rdr c.read_record.new.rdr fields default_config st.StartRecord (strip_bom c.args.bytes.now) y recs inv.config source reached s in
+    let next = (rw c.if-branch.true at c.in_ok-read_record.ensures.ok) c.args.bytes.now recs behind in
     let header : c.loop-record.rec + 1 ≤ c.headers-header.result = c.if-rec-header.false in
     let le : length recs + 1 ≤ headers c.args.skip_first = omega (arith, header, count, inv.header) in
     record {
-      trims = s.3 ∙ inv.trims;
-      ready = inl c.in_ok-read_record.ensures.first;
-      config = s.2 ∙ inv.config;
       header = inv.header;
       last = inv.last;
       few = omega (arith, header);
-      read = (
-        z,
-        recs ++ fields ∷ [],
-        at_z,
-        more,
-        timed-header c.args.width c.args.skip_first recs fields le ∙ so_far,
-        omega (arith, length-append recs (fields ∷ []), count),
-      );
+      read = (recs ++ fields ∷ [], next, timed-header c.args.width c.args.skip_first recs fields le ∙ so_far, omega (arith, length-append recs (fields ∷ []), count));
     }
 
 pub returns-in_err-add_timed_row-clause-fault : goal.returns-in_err-add_timed_row-clause-fault
 returns-in_err-add_timed_row-clause-fault c =
     let inv = c.loop-record.invariant in
-    let (y, recs, source, reached, so_far, count) = inv.read in
+    let (recs, behind, so_far, count) = inv.read in
     let fields = fields_of c.read_record.new.raw in
-    let s = rw c.if-branch.true at c.in_ok-read_record.ensures.ok in
-    let (z, at_z, more) = rows-more (λ (s : Bor (List ℕ)). Some s.now) c.loop-record.rdr c.read_record.new.rdr fields default_config st.StartRecord (strip_bom c.args.bytes.now) y recs inv.config source reached s in
-    let all = all-from_reached c.args.bytes.now (recs ++ fields ∷ []) c.read_record.new.rdr.state z more in
+    let next = (rw c.if-branch.true at c.in_ok-read_record.ensures.ok) c.args.bytes.now recs behind in
+    let all = behind-first c.args.bytes.now (recs ++ fields ∷ []) c.read_record.new.rdr next in
     let f = c.in_err-add_timed_row.field-0.0 in
     let one = timed_in c.args.width (c.headers-header.result + 100000) (stamp_after (pos 0) c.loop-record.rows) (c.loop-record.rec + 1) fields in
     let past : c.headers-header.result < c.loop-record.rec + 1 = c.if-rec-header.true in
@@ -110,8 +79,6 @@ returns-in_err-add_timed_row-clause-fault c =
 
 pub returns-clause-ok : goal.returns-clause-ok
 returns-clause-ok c =
-    let inv = c.loop-record.invariant in
-    let (y, recs, source, reached, so_far, count) = inv.read in
-    let s = rw c.if-branch.false at c.in_ok-read_record.ensures.ok in
-    let none = rows-end (λ (s : Bor (List ℕ)). Some s.now) c.loop-record.rdr c.read_record.new.rdr (fields_of c.read_record.new.raw) default_config y inv.config source s in
-    ap (timed_rows_in c.args.width c.args.skip_first) (all-records c.args.bytes.now recs c.loop-record.rdr.state y reached none) ∙ so_far
+    let (recs, behind, so_far, count) = c.loop-record.invariant.read in
+    let all = (rw c.if-branch.false at c.in_ok-read_record.ensures.ok) c.args.bytes.now recs behind in
+    ap (timed_rows_in c.args.width c.args.skip_first) all ∙ so_far
