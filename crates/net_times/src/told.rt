@@ -18,7 +18,11 @@ pub struct Told {
 
 impl Display for Told {
     fn fmt<W: Write>(&self, f: &mut Formatter<W>) -> fmt::Result {
-        write!(f, "{} items, {} rows, sum {}", self.items, self.rows, self.sum)
+        write!(
+            f,
+            "{} items, {} rows, sum {}",
+            self.items, self.rows, self.sum
+        )
     }
 }
 
