@@ -1,17 +1,14 @@
 -- Tasks that are put at the places of their operators, and seats that become one.
-use Rattle.std.proofs.Common.{◌≡◌, ℕ, zero, suc, ◌+◌, ◌%◌, ◌<◌, ◌≤◌, ◌⊎◌, inl, inr, ⊎_elim, List, [], ◌∷◌, ◌++◌, length, map, take, take-suc, refl, sym, ap, ◌∙◌, subst, arith, get_or, set, get_or-set_other, get_or-set_same, append_assoc, length-append}
+use Rattle.std.proofs.Common.{◌≡◌, ℕ, zero, suc, ◌+◌, ◌%◌, ◌<◌, ◌≤◌, inl, inr, ⊎_elim, List, [], ◌∷◌, ◌++◌, length, take, take-suc, refl, sym, ap, ◌∙◌, subst, arith, get_or, set, get_or-set_other, get_or-set_same, append_assoc, length-append}
 use Rattle.std.specs.Prelude.{All}
-use Rattle.std.proofs.lemmas.Bool.{cases_eq}
 use Rattle.std.proofs.lemmas.List.{append-nil, length-set, length-map}
 use Rattle.std.proofs.lemmas.List.Elements.{All-append, All-head, All-tail}
-use Rattle.class_locks.specs.declared.log.LogEntry.{LogEntry}
 use Rattle.class_locks.specs.declared.view.Claim.{Claim}
 use Rattle.class_locks.specs.declared.view.View.{View}
 use Rattle.class_locks.specs.Logs.{Holding}
-use Rattle.class_locks.specs.Seats.{Chair, HasAll}
+use Rattle.class_locks.specs.Seats.{Chair}
 use Rattle.class_locks.specs.Views.{Belong, Has, both, entries_of, own}
-use Rattle.class_locks.proofs.Owns.{own-append, own_none}
-use Rattle.fire_tasks.specs.Adds.{AreOwn}
+use Rattle.class_locks.proofs.Owns.{own-append}
 use Rattle.fire_tasks.specs.declared.bundle.Bundle.{Bundle}
 use Rattle.fire_tasks.specs.declared.task.Task.{Task}
 use Rattle.fire_run.specs.Cells.{AreSingle}

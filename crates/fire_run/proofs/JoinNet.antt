@@ -1,23 +1,19 @@
 -- The net that the bundles of a frame are, once they are joined.
-use Rattle.std.proofs.Common.{◌≡◌, ℕ, zero, suc, ◌+◌, ◌%◌, ◌==◌, ◌<◌, ◌≤◌, Bool, cond, true, false, Some, List, [], ◌∷◌, ◌++◌, length, map, refl, sym, ap, ◌∙◌, subst, arith, ⊎_elim, get_or, eq-eqb}
-use Rattle.std.specs.Prelude.{All, slice_get}
+use Rattle.std.proofs.Common.{◌≡◌, ℕ, zero, suc, ◌+◌, ◌%◌, ◌==◌, ◌<◌, Bool, cond, true, false, List, [], ◌∷◌, ◌++◌, length, map, refl, sym, ap, ◌∙◌, subst, arith, ⊎_elim, get_or, eq-eqb}
+use Rattle.std.specs.Prelude.{All}
 use Rattle.std.proofs.lemmas.List.{length-map}
 use Rattle.std.proofs.lemmas.Nat.{mod_below}
 use Rattle.std.proofs.lemmas.Option.{get_or_from_slice_get, slice_get-get_or, slice_get_within}
-use mathlib.Core.Option.{some, some-injective}
+use mathlib.Core.Option.{some-injective}
 use lib.ListN.{get_elem?}
-use Rattle.river_base.specs.declared.item.Item as item
 use Rattle.river_plan.specs.Forms.{PlanForm}
-use Rattle.river_plan.specs.Valid.{IsPlan}
-use Rattle.brooklet_model.specs.Bounded.{Capacities}
-use Rattle.class_locks.specs.declared.log.LogEntry.{LogEntry}
 use Rattle.class_locks.specs.declared.view.Claim.{Claim}
 use Rattle.class_locks.specs.declared.view.View.{View}
 use Rattle.class_locks.specs.Logs.{Holding, part}
 use Rattle.class_locks.specs.Seats.{Chair, HasAll, HasGrown}
 use Rattle.class_locks.specs.Views.{Has, own}
 use Rattle.class_locks.proofs.Owns.{own_none}
-use Rattle.fire_tasks.specs.Adds.{AreClaims, AreEntries, AreOwn, IsEntryOf, added, logs_at, logs_of, table_at, table_class}
+use Rattle.fire_tasks.specs.Adds.{AreClaims, AreEntries, AreOwn, IsEntryOf, added, logs_at, logs_of, table_class}
 use Rattle.fire_tasks.specs.Bundles.{AreTasks}
 use Rattle.fire_tasks.specs.declared.bundle.Bundle.{Bundle}
 use Rattle.fire_tasks.specs.declared.task.Task.{Task}
@@ -27,14 +23,13 @@ use Rattle.fire_tasks.proofs.JoinLemmas.{joined_adds, joined_entries}
 use Rattle.fire_tasks.proofs.TaskLemmas.{got_at, table_there, tables_many, with_adds}
 use Rattle.fire_laws.specs.Layout as layout
 use Rattle.fire_open.specs.Homes.{AreClassCells}
-use Rattle.fire_open.specs.Links.{AreApart, AreLinks, AreMet, ArePaired}
+use Rattle.fire_open.specs.Links.{AreApart, AreMet, ArePaired}
 use Rattle.fire_open.specs.Still.{Still, still}
 use Rattle.fire_open.proofs.Laid.{apart_net, laid_same, paired_net, settled_by}
 use Rattle.fire_open.proofs.StillLemmas.{still_all_moves, still_ends, still_tasks}
-use Rattle.fire_run.specs.Cells.{AreSingle}
 use Rattle.fire_run.specs.declared.net.Net.{Net}
-use Rattle.fire_run.specs.Frames.{AreBundlesOf, AreSeated, AreTasksOf, Framed, HasGrownBy, HaveGrownBy, bundle_moves, ends_of_part, tasks_of_part}
-use Rattle.fire_run.specs.NetOf.{IsNetOf, Stays}
+use Rattle.fire_run.specs.Frames.{AreBundlesOf, AreSeated, AreTasksOf, Framed, HaveGrownBy, bundle_moves, ends_of_part, tasks_of_part}
+use Rattle.fire_run.specs.NetOf.{Stays}
 use Rattle.fire_run.specs.Shares.{AreAtRest, AreWithin, merged, put_all, seats_of}
 use Rattle.fire_run.proofs.GatherLemmas.{AreApart as AreSharesApart, IsRound, OwnAlone, all_here, all_many, belongs, merged_all, merged_own, merged_parts, merged_round}
 use Rattle.fire_run.proofs.PartLemmas.{eq_told, filter_finds, filter_stood, list_at_all, map_at, moves_of_parts, part_ends}
@@ -97,6 +92,7 @@ module _ (f : Framed) (bs : List Bundle) (h : AreSeated f bs) where
       (λ j b lj. let y : j ≡ 0 + j = omega arith in (h.each j b lj).parts ∙ ap (λ x. x ∷ []) y) i d l)
       k (omega (arith, lt, long, m)))
 
+  -- so it can close the round
   pub has_all : HasAll (merged (seats_of bs))
   unfolding one_round
   has_all k lt = has_every k (let e = one_round.seats in omega (arith, lt, e))
@@ -127,7 +123,8 @@ module _ (p : PlanForm) (f : Framed) (bs : List Bundle) (h : AreBundlesOf p f bs
   abbrev numbers : (o : ℕ) (d : Task) → o < length f.net.tasks → (get_or f.net.tasks o d).op ≡ o
   numbers o d lt = h.net.is.laid.numbers o (get_or f.net.tasks o d) (slice_get-get_or f.net.tasks o d lt)
 
-  pub known : (k : ℕ) (b : Bundle) (i : ℕ) (c : Task) → k < length bs → i < length (get_or bs k b).tasks → IsKnown f k (get_or (get_or bs k b).tasks i c)
+  -- each task of a bundle is the net's task of its operator, by its ends
+  known : (k : ℕ) (b : Bundle) (i : ℕ) (c : Task) → k < length bs → i < length (get_or bs k b).tasks → IsKnown f k (get_or (get_or bs k b).tasks i c)
   known k b i c lk li =
       let t = get_or (get_or bs k b).tasks i c in
       let es = all_ends f.net.tasks in
@@ -175,6 +172,7 @@ module _ (p : PlanForm) (f : Framed) (bs : List Bundle) (h : AreBundlesOf p f bs
     unfolding apart
     here k b i c d lk li = all_here f.workers 0 bs ts0 k i b c d apart lk li
 
+    -- each operator of the net has its task in the bundle of its part
     pub found : (o : ℕ) (d : Task) → o < length f.net.tasks → IsFound bs f.workers o (get_or (put_all bs ts0) o d)
     unfolding here known
     found o d lt =

@@ -4,7 +4,7 @@ use Rattle.std.proofs.lemmas.Bool.{cases_eq}
 use Rattle.std.proofs.lemmas.Nat.{mod_below}
 use Rattle.fire_tasks.specs.declared.bundle.Bundle.{Bundle}
 use Rattle.fire_tasks.specs.declared.task.Task.{Task}
-use Rattle.fire_tasks.specs.Tasks.{TaskEnds, ends_of, all_ends, moves, all_moves}
+use Rattle.fire_tasks.specs.Tasks.{ends_of, all_ends, moves, all_moves}
 use Rattle.fire_run.specs.Cells.{AreSingle}
 use Rattle.fire_run.specs.Frames.{bundle_moves, ends_of_part, tasks_of_part}
 

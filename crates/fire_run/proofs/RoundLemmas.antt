@@ -1,5 +1,5 @@
 -- What a round keeps of the bundles of a frame.
-use Rattle.std.proofs.Common.{◌≡◌, ℕ, zero, suc, ◌+◌, ◌<◌, ◌≤◌, List, [], ◌∷◌, length, ◌∙◌, arith, get_or}
+use Rattle.std.proofs.Common.{◌≡◌, ℕ, zero, suc, ◌<◌, ◌≤◌, List, [], ◌∷◌, length, ◌∙◌, arith, get_or}
 use Rattle.std.specs.Prelude.{All, true, false}
 use Rattle.river_plan.specs.Forms.{plan_form}
 use Rattle.river_plan.specs.declared.plan.RawPlan.{RawPlan}

@@ -1,20 +1,19 @@
 -- The bundles of a net that was split.
 use Rattle.std.proofs.Common.{◌≡◌, ℕ, zero, suc, ◌+◌, ◌%◌, ◌==◌, ◌<◌, ◌≤◌, ◌^◌, Some, inl, List, [], ◌∷◌, length, refl, sym, ap, ◌∙◌, subst, arith, get_or}
-use Rattle.std.specs.Prelude.{All, slice_get}
+use Rattle.std.specs.Prelude.{slice_get}
 use Rattle.std.proofs.lemmas.List.{append-nil}
 use Rattle.std.proofs.lemmas.List.Elements.{All-nil}
 use mathlib.Core.Option.{some}
 use lib.ListN.{get_elem?}
 use Rattle.river_base.specs.declared.item.Item as item
 use Rattle.river_kernels.specs.declared.limit.Limit.TheVariants.{Variables}
-use Rattle.river_plan.specs.declared.plan.TableDecl.{TableDecl}
 use Rattle.river_plan.specs.Forms.{PlanForm}
 use Rattle.river_plan.specs.Valid.{IsPlan}
 use Rattle.brooklet_model.specs.Bounded.{Capacities}
 use Rattle.brooklet_model.proofs.Traces.{some_is}
 use Rattle.class_locks.specs.declared.view.Claim.{Claim}
 use Rattle.class_locks.specs.declared.view.View.{View}
-use Rattle.class_locks.specs.Logs.{Holding, HasKind}
+use Rattle.class_locks.specs.Logs.{Holding}
 use Rattle.class_locks.specs.Seats.{Chair, TableId, seats_from, with_parts}
 use Rattle.class_locks.specs.Views.{Has}
 use Rattle.fire_tasks.specs.Adds.{AreCells, added, logs_at, logs_of, rows_by, table_at, table_class, IsEntryOf}
@@ -24,7 +23,7 @@ use Rattle.fire_tasks.specs.declared.task.Task.{Task}
 use Rattle.fire_tasks.specs.Tasks.{IsTask, all_ends, all_moves}
 use Rattle.fire_open.specs.Homes.{AreClassCells}
 use Rattle.fire_run.specs.declared.net.Net.{Net}
-use Rattle.fire_run.specs.Frames.{AreBundlesOf, AreDealt, AreSeated, Framed, IsBundleAt, IsDealt, SitsAt, bundle_moves, tasks_of_part}
+use Rattle.fire_run.specs.Frames.{AreBundlesOf, AreDealt, bundle_moves, tasks_of_part}
 use Rattle.fire_run.specs.NetOf.{HasNet, IsNetOf}
 use Rattle.fire_run.specs.Shares.{AreShares, IsShare}
 use Rattle.fire_run.proofs.MoveLemmas.{with_adds}
@@ -91,6 +90,7 @@ few_cells p cells v h =
 
 -- THE TASKS OF A BUNDLE
 
+-- what is found at a place of cells, in the words of the locks
 pub elem_of : (xs : List Holding) (c : ℕ) (x : Holding) → slice_get xs c ≡ Some x → get_elem? xs c ≡ some x
 elem_of [] c x g = absurd (cc g)
 elem_of (y ∷ ys) zero x g = ap some (some_is y x g)

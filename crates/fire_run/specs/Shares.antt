@@ -43,6 +43,7 @@ put_all (b ∷ bs) ts = put_all bs (put_each b.tasks ts)
 abbrev pub AreWithin : ℕ → List Task → Type 0
 AreWithin n own = All (λ t. t.op < n) own
 
+-- the seats of bundles, in order
 abbrev pub seats_of : List Bundle → List Chair
 seats_of bundles = map (λ (b : Bundle). b.seat) bundles
 

@@ -1,4 +1,4 @@
-//! Nets of workers: the tasks of a plan with the rings between them, opened, moved and finished.
+//! Nets of workers: the tasks of a plan with the rings between them, opened, moved, split, joined and finished.
 #![tactic(auto)]
 
 mod adding;

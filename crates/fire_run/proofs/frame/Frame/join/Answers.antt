@@ -6,7 +6,7 @@ use Rattle.fire_open.specs.Still.{still}
 use Rattle.fire_run.specs.declared.net.Net.{Net}
 use Rattle.fire_run.specs.Frames.{Framed}
 use Rattle.fire_run.specs.Shares.{AreAtRest, merged, put_all}
-use Rattle.fire_run.proofs.JoinNet.{all_views, all_within, as_many, at_rest, has_all, joined_logs, net_apart, net_ends, net_moves, net_paired, net_stays, net_tasks, one_round}
+use Rattle.fire_run.proofs.JoinNet.{all_within, as_many, at_rest, has_all, joined_logs, net_apart, net_ends, net_moves, net_paired, net_stays, net_tasks, one_round}
 use Rattle.fire_run.proofs.frame.Frame.join.Goals as goal
 
 pub gather-requires : goal.gather-requires
