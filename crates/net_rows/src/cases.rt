@@ -5,7 +5,7 @@ use std::test::Fail;
 
 #[test]
 fn twelve_operators(rt: HostRuntime) -> Result<(), Fail> {
-    for rows in [0, 1, 100] {
+    for rows in [0, 1, 60] {
         gives_alike(&rt, rt.alloc(), TWELVE, rows)?;
     }
     Ok(())
@@ -13,7 +13,7 @@ fn twelve_operators(rt: HostRuntime) -> Result<(), Fail> {
 
 #[test]
 fn two_operators(rt: HostRuntime) -> Result<(), Fail> {
-    for rows in [0, 3, 200] {
+    for rows in [0, 3, 100] {
         gives_alike(&rt, rt.alloc(), TWO, rows)?;
     }
     Ok(())

@@ -56,8 +56,8 @@ fn next(seed: u64) -> u64 {
         .wrapping_add(1442695040888963407)
 }
 
-fn one(values: &[i64]) -> Item {
-    Item::Flat(Flat::One(Row::from_slice(values)))
+fn item_of(row: Row) -> Item {
+    Item::Flat(Flat::One(row))
 }
 
 // So many made rows of two values.
@@ -68,7 +68,7 @@ fn pairs(alloc: Global, count: u32) -> Result<Items, NoMemory> {
         seed = next(seed);
         let key = (seed >> 33) % 11;
         let value = (seed >> 40) % 100;
-        items.push(one(&[key as i64 - 5, value as i64]))?;
+        items.push(item_of(Row::from_slice(&[key as i64 - 5, value as i64])))?;
     }
     Ok(items)
 }
@@ -77,12 +77,12 @@ fn pairs(alloc: Global, count: u32) -> Result<Items, NoMemory> {
 fn singles(alloc: Global, count: u32) -> Result<Items, NoMemory> {
     let mut items = Items::new(alloc);
     for number in 0..count {
-        items.push(one(&[number as i64]))?;
+        items.push(item_of(Row::one(number as i64)))?;
     }
     Ok(items)
 }
 
-// Made rows for two inputs: twice as many pairs as single values.
+// Made rows for two inputs: so many pairs, and half as many single values.
 fn made_inputs(alloc: Global, count: u32) -> Result<Inputs, NoMemory> {
     let mut inputs = Inputs::new(alloc);
     inputs.push(pairs(alloc, count)?)?;

@@ -70,7 +70,8 @@ op last: (pairs, $all, $count) <- (d3, $all, $count) {
 }
 ";
 
-/// Two operators, one behind the other: with two workers their queue is a ring between two threads.
+/// Two operators, one behind the other, and one whose items nobody reads: with two workers the queue of the two is a ring between two
+/// threads.
 pub const TWO: &[u8] = b"output out: rows(1);
 input in: rows(2);
 input more: rows(1);

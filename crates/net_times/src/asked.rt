@@ -1,5 +1,4 @@
 // What is asked for.
-ghost use Rattle.std.specs.Prelude.{◌≤◌, IfSome};
 
 /// A run that is asked for.
 #[derive(Clone, Copy)]
@@ -15,18 +14,12 @@ pub struct Asked<'a> {
 }
 
 /// The run that a word names, if it names one.
-pub fn asked_by(word: &str) -> Option<Asked<'_>>
-    ensures { IfSome result (λ asked. (asked.workers ≤ 64) × (1 ≤ asked.cap) × (asked.cap ≤ 65536)) }
-{
+pub fn asked_by(word: &str) -> Option<Asked<'_>> {
     let mut parts = word.split(',');
-    let asked = Asked {
+    Some(Asked {
         file: parts.next()?,
         rows: parts.next()?.parse::<u32>().ok()?,
         workers: parts.next()?.parse::<u32>().ok()?,
         cap: parts.next()?.parse::<u32>().ok()?,
-    };
-    if asked.workers > 64 || asked.cap == 0 || asked.cap > 65_536 {
-        return None;
-    }
-    Some(asked)
+    })
 }

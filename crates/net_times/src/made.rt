@@ -1,71 +1,87 @@
 // Made rows, as the items of an input.
-ghost use Rattle.std.specs.Prelude.{◌≡◌, All, length, IfOk, MatchOption, IfSome};
-ghost use Rattle.river_plan.specs.Forms.{PlanForm};
+ghost use Rattle.std.specs.Prelude.{◌≡◌, IfOk};
 ghost use Rattle.brooklet_model.specs.Fit.{Fit};
-ghost use Rattle.net_times.specs.Made.{HasOneInput};
 
-use brooklet_step::Lines;
-use kern_rows::{EvenRows, Line};
-use river_base::{FlatType, NoMemory, QueueType};
+use crate::fault::Fault;
+use brooklet_step::{Inputs, Lines, fits};
+use kern_rows::Line;
+use river_base::{Flat, FlatType, Item, Items, NoMemory, QueueType, Row};
 use river_plan::Plan;
 use std::alloc::Global;
 
-/// So many rows for the one input of a plan, if it has one, of rows of one or two values.
-pub fn made_lines(alloc: Global, plan: &Plan, count: u32) -> Result<Option<Lines>, NoMemory>
-    ensures { IfOk result (λ all. IfSome all (Fit plan.now)) }
+/// So many made rows for the one input of a plan, which they fit.
+pub fn made_lines(alloc: Global, plan: &Plan, count: u32) -> Result<Lines, Fault>
+    ensures { IfOk result (Fit plan.now) }
 {
-    let Some(width) = input_width(plan) else {
-        return Ok(None);
-    };
-    match width {
-        1 => Ok(Some(one_line(alloc, made_numbers(alloc, count)?)?)),
-        2 => Ok(Some(one_line(alloc, made_pairs(alloc, count)?)?)),
-        _ => Ok(None),
+    let inputs = made_inputs(alloc, takes_pairs(plan), count)?;
+    if !fits(plan, &inputs) {
+        return Err(Fault::Inputs);
     }
+    Ok(lines_of(alloc, inputs)?)
 }
 
-// The width of the rows of the one input of a plan, if it has one of rows.
-fn input_width(plan: &Plan) -> Option<u32>
-    ensures { IfSome result (HasOneInput plan.now) }
-{
-    let inputs = &plan.raw().inputs;
-    if inputs.len() != 1 {
-        return None;
+// Whether an input of a plan has rows of two values.
+fn takes_pairs(plan: &Plan) -> bool {
+    for decl in plan.raw().inputs.as_slice() {
+        if decl.kind == QueueType::Flat(FlatType::Rows(2)) {
+            return true;
+        }
     }
-    match inputs.at(0).kind {
-        QueueType::Flat(FlatType::Rows(width)) => Some(width),
-        _ => None,
-    }
+    false
 }
 
-// These rows as the items of one input.
-fn one_line(alloc: Global, rows: EvenRows) -> Result<Lines, NoMemory>
-    ensures { (p : PlanForm) (width : _) → HasOneInput p width → All (λ row. length row ≡ width) rows → IfOk result (Fit p) }
-{
-    let mut lines = Lines::new(alloc);
-    lines.push(Line::from_rows(alloc, rows))?;
-    Ok(lines)
+// Made rows for one input.
+fn made_inputs(alloc: Global, in_pairs: bool, count: u32) -> Result<Inputs, NoMemory> {
+    let mut inputs = Inputs::new(alloc);
+    if in_pairs {
+        inputs.push(pairs(alloc, count)?)?;
+    } else {
+        inputs.push(numbers(alloc, count)?)?;
+    }
+    Ok(inputs)
+}
+
+fn item_of(row: Row) -> Item {
+    Item::Flat(Flat::One(row))
 }
 
 // The numbers from 0 on, each in a row.
-fn made_numbers(alloc: Global, count: u32) -> Result<EvenRows, NoMemory>
-    ensures { IfOk result (All (λ row. length row ≡ 1)) }
-{
-    let mut rows = EvenRows::new(alloc);
+fn numbers(alloc: Global, count: u32) -> Result<Items, NoMemory> {
+    let mut items = Items::new(alloc);
     for number in 0..count {
-        rows.push(&[number as i64])?;
+        items.push(item_of(Row::one(number as i64)))?;
     }
-    Ok(rows)
+    Ok(items)
 }
 
 // Pairs of one of 1,000 keys and a value.
-fn made_pairs(alloc: Global, count: u32) -> Result<EvenRows, NoMemory>
-    ensures { IfOk result (All (λ row. length row ≡ 2)) }
-{
-    let mut rows = EvenRows::new(alloc);
+fn pairs(alloc: Global, count: u32) -> Result<Items, NoMemory> {
+    let mut items = Items::new(alloc);
     for number in 0..count {
-        let number = number as i64;
-        rows.push(&[number * 7919 % 1000, number % 1009])?;
+        let number = number as u64;
+        let key = number * 7919 % 1000;
+        let value = number % 1009;
+        items.push(item_of(Row::from_slice(&[key as i64, value as i64])))?;
     }
-    Ok(rows)
+    Ok(items)
+}
+
+// Items in a line, where rows take little memory.
+fn line_of(alloc: Global, items: Items) -> Result<Line, NoMemory>
+    ensures { IfOk result (λ line. line ≡ items) }
+{
+    let mut line = Line::new(alloc);
+    line.append(items)?;
+    Ok(line)
+}
+
+// The items of each input, in lines.
+fn lines_of(alloc: Global, inputs: Inputs) -> Result<Lines, NoMemory>
+    ensures { IfOk result (λ lines. lines ≡ inputs) }
+{
+    let mut lines = Lines::new(alloc);
+    for items in inputs.into_vec() {
+        lines.push(line_of(alloc, items)?)?;
+    }
+    Ok(lines)
 }

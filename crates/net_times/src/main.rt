@@ -6,14 +6,16 @@
 ghost use Rattle.brooklet_model.specs.Fit.{Fit};
 
 mod asked;
+mod fault;
 mod made;
 mod told;
 
 use asked::{Asked, asked_by};
 use brooklet_step::{Lines, run_lines};
+use fault::Fault;
 use fire_run::run_plan;
 use made::made_lines;
-use river_base::{Bytes, NoGate, NoMemory};
+use river_base::{Bytes, NoGate};
 use river_plan::Plan;
 use river_text::compile_river;
 use std::alloc::Global;
@@ -21,23 +23,6 @@ use std::process::ExitCode;
 use std::thread::Threads;
 use std::{env, fs, io};
 use told::{Told, told_of};
-
-/// Why a run that is asked for gives nothing.
-#[derive(Clone, Copy, Debug)]
-enum Fault {
-    /// There is no memory.
-    NoMemory,
-    /// The text is no plan.
-    Text,
-    /// The plan has another number of inputs than one, or its input other items.
-    Inputs,
-}
-
-impl From<NoMemory> for Fault {
-    fn from(_: NoMemory) -> Self {
-        Fault::NoMemory
-    }
-}
 
 fn main(rt: HostRuntime) -> io::Result<ExitCode> {
     for word in env::args(&rt)?.skip(1) {
@@ -74,7 +59,10 @@ fn plan_of(alloc: Global, text: &str) -> Result<Plan, Fault> {
     if text.len() > 1_000_000 {
         return Err(Fault::Text);
     }
-    compile_river(alloc, &text).map_err(|_| Fault::Text)
+    match compile_river(alloc, &text) {
+        Ok(plan) => Ok(plan),
+        Err(_) => Err(Fault::Text),
+    }
 }
 
 // Runs a plan on made rows.
@@ -84,9 +72,10 @@ fn run<R: Threads + Sync>(
     plan: &Plan,
     asked: Asked<'_>,
 ) -> Result<Told, Fault> {
-    let Some(inputs) = made_lines(alloc, plan, asked.rows)? else {
-        return Err(Fault::Inputs);
-    };
+    if asked.workers > 64 || asked.cap == 0 || asked.cap > 65_536 {
+        return Err(Fault::Bounds);
+    }
+    let inputs = made_lines(alloc, plan, asked.rows)?;
     if asked.workers == 0 {
         return told_without_net(alloc, plan, inputs);
     }

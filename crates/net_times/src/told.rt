@@ -6,7 +6,7 @@ use kern_tables::Table;
 use river_base::{Flat, Item, NoMemory};
 use std::alloc::Global;
 use std::fmt;
-use std::fmt::{Display, Formatter};
+use std::fmt::{Display, Formatter, Write};
 
 /// How many items there are in the outputs and how many rows in the tables, and the sum of all their values.
 #[derive(Clone, Copy)]
@@ -17,8 +17,12 @@ pub struct Told {
 }
 
 impl Display for Told {
-    fn fmt(&self, f: &mut Formatter<'_>) -> fmt::Result {
-        write!(f, "{} items, {} rows, sum {}", self.items, self.rows, self.sum)
+    fn fmt<W: Write>(&self, f: &mut Formatter<W>) -> fmt::Result {
+        write!(
+            f,
+            "{} items, {} rows, sum {}",
+            self.items, self.rows, self.sum
+        )
     }
 }
 
