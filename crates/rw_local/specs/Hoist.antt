@@ -115,11 +115,15 @@ raised u t src mid = record u { kernel = select t; reads = src ∷ []; writes = 
 abbrev pub lowered : OpForm → ℕ → Name → Name → OpForm
 lowered b side mid out = record b { reads = spliced side b.reads (mid ∷ []); writes = out ∷ [] }
 
+-- the selection, which now feeds the operator below it
+abbrev pub hoisted_ops : OpForm → OpForm → ℕ → Term → Name → Name → Name → List OpForm
+hoisted_ops u b side t src mid out = raised u t src mid ∷ lowered b side mid out ∷ []
+
 -- the queue between the two takes the type of the queue that the selection reads now
 abbrev pub hoisted_plan : PlanForm → OpForm → OpForm → ℕ → Term → Name → Name → Name → PlanForm
 hoisted_plan p u b side t src mid out = record p {
   queues = retyped mid (kind_of (all_decls p) src) p.queues;
-  ops = replaced mid (raised u t src mid ∷ lowered b side mid out ∷ []) p.ops;
+  ops = replaced mid (hoisted_ops u b side t src mid out) p.ops;
 }
 
 abbrev pub hoist_at : PlanForm → OpForm → OpForm → Name → Name → ℕ × Term → Option Name → Result PlanForm Unfit
