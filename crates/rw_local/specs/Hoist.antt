@@ -1,14 +1,13 @@
 -- A selection changes places with the operator that feeds it.
 use Rattle.std.specs.Prelude.{◌≡◌, ℕ, ◌-◌, nat_lt, nat_eq, if◌then◌else◌, Option, Some, None, Result, Ok, Err, List, [], ◌∷◌, length, map, slice_get}
 use Rattle.river_base.specs.declared.item.Item as item
-use Rattle.river_base.specs.declared.kind.FlatType.TheVariants.{Rows, Stream, Relation}
 use Rattle.river_base.specs.declared.kind.QueueType.{QueueType}
 use Rattle.river_base.specs.declared.kind.QueueType.TheVariants.{Flat, Pack}
 use Rattle.work_code.specs.Term.{Term, Const, Input, Slot, Neg, Not, Bin}
 use Rattle.kern_bags.specs.declared.kernel.Window.{Window}
 use Rattle.kern_bags.specs.declared.kernel.Window.TheVariants.{Now, Range, Unbounded, Latest}
 use Rattle.river_kernels.specs.Kern.{Kern, window, select, project, cross, streamer}
-use Rattle.river_kernels.specs.Fits.{spliced}
+use Rattle.river_kernels.specs.Fits.{width_of, spliced}
 use Rattle.river_plan.specs.Forms.{Name, OpForm, PlanForm, all_decls}
 use Rattle.river_plan.specs.Kinds.{kind_of}
 use Rattle.river_plan.specs.Uses.{writes_it, named_it}
@@ -87,9 +86,7 @@ or_h4 (Some x) = Ok x
 
 -- the width of the rows of the first side
 abbrev pub width_at : QueueType → ℕ
-width_at (Flat (Rows w)) = w
-width_at (Flat (Stream w)) = w
-width_at (Flat (Relation w)) = w
+width_at (Flat t) = width_of t
 width_at (Pack t) = 0
 
 abbrev pub first_width : List QueueType → ℕ
