@@ -7,9 +7,10 @@ ghost use Rattle.river_plan.specs.Forms.{op_form};
 ghost use Rattle.cql_model.specs.Faults.{IsShortName};
 ghost use Rattle.cql_model.specs.Program.{streams_of};
 ghost use Rattle.cql_text.specs.Tree.{Chosen};
-ghost use Rattle.cql_model.specs.Translation.{op, decl, queues_of_uses as queues_of, widths_of, columns_width, window_ops, window_decls, w_name, cross_ops, cross_last, select_ops, select_last, select_decls, project_ops, project_last, project_decls};
+ghost use Rattle.cql_model.specs.Translation.{op, decl, widths_of, columns_width, w_name, cross_ops, cross_last};
+ghost use Rattle.cql_model.specs.Translation.{select_last, project_ops, project_last, project_decls};
 ghost use Rattle.cql_model.specs.KernelWords.{kernel_window};
-ghost use Rattle.cql_build.specs.Grown.{Grew, Used, product_decls};
+ghost use Rattle.cql_build.specs.Grown.{Grew, Used, AddsWindows, AddsSelect, product_decls};
 ghost use Rattle.cql_text.specs.Tree.{window_of, sources_of, chosen_of, columns_of, condition_of};
 ghost use Rattle.cql_build.specs.Views.{scope};
 
@@ -59,7 +60,7 @@ pub(crate) fn windows(
     requires narrow { widths_of (scope items.now) ≤ 16 }
     requires short { length query ≤ 40 }
     requires streams { AllByRecursion IsShortName (streams_of (sources_of sources.now)) }
-    ensures grew { OnOk result (Grew raw.old raw.new [] (window_decls query 1 (scope items.now)) (window_ops query 1 (sources_of sources.now) (queues_of uses.old.inputs uses.old.all uses.old.past (streams_of (sources_of sources.now))))) }
+    ensures grew { OnOk result (AddsWindows uses.old query (sources_of sources.now) (scope items.now) raw.old raw.new) }
     ensures used { OnOk result (Used uses.old uses.new (streams_of (sources_of sources.now))) }
 {
     for i in 0..sources.len() {
@@ -141,7 +142,7 @@ pub(crate) fn select(
 ) -> Result<Name, NoMemory>
     requires short { length query ≤ 40 }
     requires narrow { widths_of (scope items.now) ≤ 16 }
-    ensures grew { OnOk result (Grew raw.old raw.new [] (select_decls query (widths_of (scope items.now)) (condition_of condition.now)) (select_ops query (scope items.now) last (condition_of condition.now))) }
+    ensures grew { OnOk result (AddsSelect query (scope items.now) last (condition_of condition.now) raw.old raw.new) }
     ensures last { IfOk result (λ name. name ≡ select_last query last (condition_of condition.now)) }
 {
     let Some(value) = condition else {

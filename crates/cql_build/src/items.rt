@@ -1,10 +1,11 @@
 // The faults of a query's items, in the order in which they are read.
-ghost use Rattle.std.specs.Prelude.{◌≡◌, ◌≤◌, nat_lt, [], ◌∷◌, ◌++◌, List, Some, None, IfOk, IfErr};
+ghost use Rattle.std.specs.Prelude.{◌≡◌, ◌≤◌, nat_lt, [], List, Some, None, IfOk, IfErr};
 ghost use Rattle.river_plan.specs.Names.{count};
 ghost use Rattle.cql_model.specs.Laws.{known_names};
-ghost use Rattle.cql_model.specs.Faults.{is_rows_fault, item_fault, items_fault};
-ghost use Rattle.cql_model.specs.Scopes.{Named, item_named, scope_of};
+ghost use Rattle.cql_model.specs.Faults.{is_rows_fault, items_fault};
+ghost use Rattle.cql_model.specs.Scopes.{Named, scope_of};
 ghost use Rattle.cql_model.specs.Translation.{widths_of};
+ghost use Rattle.cql_build.specs.Judged.{IsWidthWith, IsFaultBehind};
 ghost use Rattle.cql_build.specs.Knowing.{Knows};
 ghost use Rattle.cql_text.specs.Tree.{window_of, source_of, sources_of};
 
@@ -36,9 +37,9 @@ impl Known {
     // The width of a product with one item more; or the fault of this item.
     fn width_with(&self, before: &[Source], width: usize, source: &Source) -> Result<usize, Fault>
         requires { width ≤ 16 }
-        ensures good { (ks : List Named) → Knows self.now ks → width ≡ widths_of (scope_of ks (sources_of before.now)) → IfOk result (λ wider. (wider ≡ widths_of (scope_of ks (sources_of before.now) ++ item_named ks (source_of source.now) ∷ [])) × (item_fault ks (scope_of ks (sources_of before.now)) (source_of source.now) ≡ None)) }
+        ensures good { (ks : List Named) → Knows self.now ks → width ≡ widths_of (scope_of ks (sources_of before.now)) → IfOk result (IsWidthWith ks (sources_of before.now) (source_of source.now)) }
         ensures within { IfOk result (λ wider. wider ≤ 16) }
-        ensures bad { (ks : List Named) → Knows self.now ks → width ≡ widths_of (scope_of ks (sources_of before.now)) → IfErr result (λ fault. item_fault ks (scope_of ks (sources_of before.now)) (source_of source.now) ≡ Some fault) }
+        ensures bad { (ks : List Named) → Knows self.now ks → width ≡ widths_of (scope_of ks (sources_of before.now)) → IfErr result (IsFaultBehind ks (sources_of before.now) (source_of source.now)) }
     {
         let Some(fields) = self.fields(source.stream) else {
             return Err(Fault::UnknownStream);

@@ -1,10 +1,10 @@
 // The streams of queries, and copies of streams.
-ghost use Rattle.std.specs.Prelude.{◌≡◌, ◌≤◌, ◌<◌, ◌^◌, ◌++◌, ◌∷◌, [], codes, IfOk, OnOk, length, suc};
+ghost use Rattle.std.specs.Prelude.{◌≡◌, ◌≤◌, ◌<◌, ◌^◌, ◌++◌, ◌∷◌, [], codes, IfOk, OnOk, length};
 ghost use Rattle.river_kernels.specs.Fits.{stream};
 ghost use Rattle.river_kernels.specs.Kern.{duplicate, streamer};
 ghost use Rattle.river_plan.specs.Names.{count};
-ghost use Rattle.cql_model.specs.Translation.{op, decl, decls_of, copy_names, at_word, out_name, out_decls, copy_ops, copy_decls};
-ghost use Rattle.cql_build.specs.Grown.{Grew, stream_ops};
+ghost use Rattle.cql_model.specs.Translation.{op, decl, decls_of, copy_names, at_word, out_name, out_decls};
+ghost use Rattle.cql_build.specs.Grown.{Grew, AddsOwnCopies, AddsCopies, stream_ops};
 ghost use Rattle.cql_model.specs.KernelWords.{streamer_of};
 
 use crate::build::stream;
@@ -84,7 +84,7 @@ fn copy_output(
 ) -> Result<(), NoMemory>
     requires short { length query ≤ 40 }
     requires few { uses ≤ 256 }
-    ensures { OnOk result (Grew raw.old raw.new [] (decl from kind ∷ decls_of (copy_names query 0 uses) kind) (op (at_word query (codes "d")) (duplicate (suc uses)) (from ∷ []) (query ∷ copy_names query 0 uses) [] ∷ [])) }
+    ensures { OnOk result (AddsOwnCopies query from uses kind raw.old raw.new) }
 {
     raw.queues.push(Decl { name: from, kind })?;
     let mut writes = one(alloc, query)?;
@@ -104,7 +104,7 @@ pub(crate) fn copy_input(
     requires short { length registered.now.name ≤ 40 }
     requires few { length uses.now.all ≤ 256 }
     requires narrow { length registered.now.fields.items ≤ 16 }
-    ensures { OnOk result (Grew raw.old raw.new [] (copy_decls registered.now.name (length registered.now.fields.items) (count registered.now.name uses.now.all)) (copy_ops registered.now.name (count registered.now.name uses.now.all))) }
+    ensures { let name = registered.now.name in OnOk result (AddsCopies name (length registered.now.fields.items) (count name uses.now.all) raw.old raw.new) }
 {
     let count = uses.count(registered.name);
     if count < 2 {

@@ -1,14 +1,12 @@
 // The queries of a program, one after another.
-ghost use Rattle.std.specs.Prelude.{◌≡◌, ◌≤◌, ◌<◌, ◌^◌, ◌++◌, ◌∷◌, [], List, IfOk, OnOk, length};
+ghost use Rattle.std.specs.Prelude.{◌≡◌, ◌≤◌, ◌<◌, ◌^◌, [], List, OnOk, length};
 ghost use Rattle.std.specs.List.{AllByRecursion};
-ghost use Rattle.river_kernels.specs.Fits.{stream};
-ghost use Rattle.river_plan.specs.Names.{count};
 ghost use Rattle.cql_model.specs.Plannable.{IsPlannableQuery, AreQueries};
 ghost use Rattle.cql_model.specs.Faults.{IsShortName, HaveShortNames};
 ghost use Rattle.cql_model.specs.Program.{streams_of};
 ghost use Rattle.cql_model.specs.Scopes.{Named, scope_of};
-ghost use Rattle.cql_model.specs.Translation.{decl, columns_width, widths_of, query_ops, query_decls, tail_ops, output_decls, queries_decls, queries_ops};
-ghost use Rattle.cql_build.specs.Grown.{Grew, Used, IsPlannableUnit, IsShortUnit, unit_outputs, unit_decls, unit_ops, unit_uses, tail_decls};
+ghost use Rattle.cql_model.specs.Translation.{columns_width, widths_of};
+ghost use Rattle.cql_build.specs.Grown.{AddsQueries, AddsUnit, AddsQuery, AddsTail, Used, IsPlannableUnit, IsShortUnit, unit_uses};
 ghost use Rattle.cql_build.specs.Knowing.{Knows};
 ghost use Rattle.cql_text.specs.Tree.{columns_of, query_of, part_of, parts_of};
 ghost use Rattle.cql_build.specs.Views.{scope};
@@ -32,7 +30,7 @@ pub(crate) fn queries(
     requires good { AreQueries [] (parts_of parts.now) }
     requires short { HaveShortNames (parts_of parts.now) }
     requires few { length uses.old.all ≤ 256 }
-    ensures { OnOk result (Grew raw.old raw.new (output_decls [] (parts_of parts.now)) (queries_decls uses.old.all [] (parts_of parts.now)) (queries_ops uses.old.inputs uses.old.all [] uses.old.past (parts_of parts.now))) }
+    ensures { OnOk result (AddsQueries uses.old (parts_of parts.now) raw.old raw.new) }
 {
     let mut known = Known::new(alloc);
     queries_among(alloc, raw, uses, parts, &mut known)
@@ -50,7 +48,7 @@ fn queries_among(
     requires good { AreQueries [] (parts_of parts.now) }
     requires short { HaveShortNames (parts_of parts.now) }
     requires few { length uses.old.all ≤ 256 }
-    ensures { OnOk result (Grew raw.old raw.new (output_decls [] (parts_of parts.now)) (queries_decls uses.old.all [] (parts_of parts.now)) (queries_ops uses.old.inputs uses.old.all [] uses.old.past (parts_of parts.now))) }
+    ensures { OnOk result (AddsQueries uses.old (parts_of parts.now) raw.old raw.new) }
 {
     for part in parts {
         known.unit(alloc, raw, uses, part)?;
@@ -71,7 +69,7 @@ impl Known {
         requires good { (ks : List Named) × Knows self.now ks × IsPlannableUnit ks (part_of part.now) }
         requires short { IsShortUnit (part_of part.now) }
         requires few { length uses.old.all ≤ 256 }
-        ensures grew { (ks : List Named) → Knows self.now ks → OnOk result (Grew raw.old raw.new (unit_outputs ks (part_of part.now)) (unit_decls uses.old.all ks (part_of part.now)) (unit_ops uses.old.inputs uses.old.all ks uses.old.past (part_of part.now))) }
+        ensures grew { (ks : List Named) → Knows self.now ks → OnOk result (AddsUnit uses.old ks (part_of part.now) raw.old raw.new) }
         ensures used { OnOk result (Used uses.old uses.new (unit_uses (part_of part.now))) }
     {
         match part {
@@ -92,7 +90,7 @@ impl Known {
         requires short { length query.now.name ≤ 40 }
         requires streams { AllByRecursion IsShortName (streams_of (query_of query.now).items) }
         requires few { length uses.old.all ≤ 256 }
-        ensures grew { (ks : List Named) → Knows self.now ks → OnOk result (Grew raw.old raw.new (decl query.now.name (stream (columns_width (scope_of ks (query_of query.now).items) (query_of query.now).columns)) ∷ []) (query_decls uses.old.all ks (query_of query.now)) (query_ops uses.old.inputs uses.old.all ks uses.old.past (query_of query.now))) }
+        ensures grew { (ks : List Named) → Knows self.now ks → OnOk result (AddsQuery uses.old ks (query_of query.now) raw.old raw.new) }
         ensures used { OnOk result (Used uses.old uses.new (streams_of (query_of query.now).items)) }
     {
         let items = self.scope(alloc, query.items.as_slice())?;
@@ -115,7 +113,7 @@ fn query_on(
     requires short { length query.now.name ≤ 40 }
     requires streams { AllByRecursion IsShortName (streams_of (query_of query.now).items) }
     requires few { length uses.old.all ≤ 256 }
-    ensures grew { (ks : List Named) → scope items.now ≡ scope_of ks (query_of query.now).items → OnOk result (Grew raw.old raw.new (decl query.now.name (stream (columns_width (scope_of ks (query_of query.now).items) (query_of query.now).columns)) ∷ []) (query_decls uses.old.all ks (query_of query.now)) (query_ops uses.old.inputs uses.old.all ks uses.old.past (query_of query.now))) }
+    ensures grew { (ks : List Named) → scope items.now ≡ scope_of ks (query_of query.now).items → OnOk result (AddsQuery uses.old ks (query_of query.now) raw.old raw.new) }
     ensures used { OnOk result (Used uses.old uses.new (streams_of (query_of query.now).items)) }
 {
     let used = uses.count(query.name);
@@ -138,7 +136,7 @@ fn tail(
     requires columns { columns_width (scope items.now) (columns_of query.now.columns) < 2 ^ 32 }
     requires short { length query.now.name ≤ 40 }
     requires few { used ≤ 256 }
-    ensures { OnOk result (Grew raw.old raw.new (decl query.now.name (stream (columns_width (scope items.now) (columns_of query.now.columns))) ∷ []) (tail_decls (query_of query.now) (scope items.now) used) (tail_ops (query_of query.now) (scope items.now) used last)) }
+    ensures { OnOk result (AddsTail (query_of query.now) (scope items.now) used last raw.old raw.new) }
 {
     let last = select(alloc, raw, query.name, items, last, &query.condition)?;
     let last = project(alloc, raw, query.name, items, last, &query.columns)?;

@@ -61,10 +61,13 @@ all_made m n = m.splitter ∷ m.joiner ∷ (each_name m.replica n ++ (each_name 
 abbrev pub are_short : List Name → Bool
 are_short ws = list_all (λ w. nat_le (length w) 64) ws
 
+-- the plan, if what is made fits
+abbrev pub fitting : Made → ℕ → PlanForm → Result PlanForm Unfit
+fitting m n q = if are_short (all_made m n) && is_apart q then Ok q else Err N5
+
 abbrev pub by_way : PlanForm → Name → OpForm → ℕ → QueueType → Option Way → Result PlanForm Unfit
 by_way p l op n t None = Err N4
-by_way p l op n t (Some w) =
-    if are_short (all_made (made_of l) n) && is_apart (split_by p l op (made_of l) n t w) then Ok (split_by p l op (made_of l) n t w) else Err N5
+by_way p l op n t (Some w) = fitting (made_of l) n (split_by p l op (made_of l) n t w)
 
 abbrev pub by_reads : PlanForm → Name → OpForm → ℕ → List Name → Result PlanForm Unfit
 by_reads p l op n [] = Err N3

@@ -3,6 +3,7 @@ use Rattle.std.specs.Prelude.{◌≡◌, ℕ, ◌+◌, ◌<◌, nat_lt, if◌the
 use Rattle.river_base.specs.declared.kind.QueueType.{QueueType}
 use Rattle.river_kernels.specs.Kern.{Kern}
 use Rattle.river_plan.specs.declared.op.Op.{Op}
+use Rattle.river_plan.specs.declared.plan.Decl.{Decl}
 use Rattle.river_plan.specs.Forms.{Name, OpForm, PlanForm, op_forms}
 use Rattle.river_plan.specs.Uses.{named_it}
 use Rattle.rw_fission.specs.Fission.{Way, split_ops, decls, given_decls, by_packs, by_blocks, by_adds}
@@ -77,6 +78,16 @@ split_plan p i op m n t w = record p {
   vars = w.stay ++ w.new;
   ops = split_at p.ops i op m n w;
 }
+
+-- the plan, its operators and its queues, where the one at a place is split by a form
+abbrev pub formed_plan : PlanForm → ℕ → OpForm → Made → ℕ → QueueType → Form → PlanForm
+formed_plan p i op m n t f = split_plan p i op m n t (way_by p op m n f)
+
+abbrev pub formed_ops : PlanForm → List OpForm → ℕ → OpForm → Made → ℕ → Form → List OpForm
+formed_ops p ops i op m n f = split_at ops i op m n (way_by p op m n f)
+
+abbrev pub formed_queues : PlanForm → OpForm → Made → ℕ → QueueType → Form → List Decl
+formed_queues p op m n t f = p.queues ++ (decls t (each_name m.dealt n) ++ given_decls m n (way_by p op m n f).join)
 
 -- the plan of the lists, where they are valid
 abbrev pub IsJudgedAs : PlanForm → Result PlanForm Unfit → Type 0

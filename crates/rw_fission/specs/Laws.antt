@@ -1,5 +1,5 @@
 -- The laws of fission: statements over the definitions alone.
-use Rattle.std.specs.Prelude.{◌≡◌, ℕ, ◌<◌, Some, Ok, true, List, [], ◌∷◌}
+use Rattle.std.specs.Prelude.{◌≡◌, ℕ, ◌<◌, Some, Ok, List, [], ◌∷◌}
 use Rattle.river_base.specs.declared.item.Item as item
 use Rattle.river_plan.specs.Forms.{Name, OpForm, PlanForm, all_decls}
 use Rattle.river_plan.specs.Kinds.{kind_of}
@@ -11,7 +11,7 @@ use Rattle.rw_fission.specs.Asked.{fission_of, way_of}
 use Rattle.rw_fission.specs.Fission.{Way, split_by}
 use Rattle.plan_edits.specs.Lists.{first_with}
 use Rattle.rw_fission.specs.Made.{made_of}
-use Rattle.rw_fission.specs.May.{is_apart}
+use Rattle.rw_fission.specs.May.{IsPlanIfApart}
 use Rattle.plan_edits.specs.Meaning.{SameOuter}
 
 -- What is split is a valid plan with the same inputs, outputs and tables, and means the same on all inputs that fit.
@@ -26,4 +26,4 @@ FissionApart =
     (p : PlanForm) (l : Name) (n : ℕ) (op : OpForm) (source : Name) (w : Way) → IsPlan p → first_with (named_it l) p.ops ≡ Some op → op.reads ≡ source ∷ []
     → 0 < n
     → way_of p op (made_of l) n (kind_of (all_decls p) source) ≡ Some w
-    → let p' = split_by p l op (made_of l) n (kind_of (all_decls p) source) w in (is_apart p' ≡ true → IsPlan p') × (IsPlan p' → is_apart p' ≡ true)
+    → IsPlanIfApart (split_by p l op (made_of l) n (kind_of (all_decls p) source) w)

@@ -1,13 +1,12 @@
 // Fission.
 ghost use Rattle.plan_edits.specs.Answered.{IsAnswered};
-ghost use Rattle.std.specs.Prelude.{◌≡◌, ◌≤◌, ◌&&◌, true, Some, Ok, Err, if◌then◌else◌};
+ghost use Rattle.std.specs.Prelude.{◌≡◌, ◌≤◌, Some};
 ghost use Rattle.river_plan.specs.Forms.{OpForm, op_forms, plan_form};
 ghost use Rattle.river_plan.specs.Valid.{IsPlan};
-ghost use Rattle.rw_fission.specs.Asked.{fission_of, IsStep, by_op, all_made, are_short as are_short_names};
-ghost use Rattle.rw_fission.specs.Code.{Placed, IsPlace, IsJudgedAs, IsPlaceOf, split_plan, way_by};
+ghost use Rattle.rw_fission.specs.Asked.{fission_of, IsStep, by_op, fitting};
+ghost use Rattle.rw_fission.specs.Code.{Placed, IsPlace, IsJudgedAs, IsPlaceOf, formed_plan};
+ghost use Rattle.rw_fission.specs.May.{IsPlanIfApart};
 ghost use Rattle.rw_fission.specs.Made.{made_of};
-ghost use Rattle.rw_fission.specs.May.{is_apart};
-ghost use Rattle.plan_edits.specs.declared.unfit.Unfit.TheVariants.{N5 as Refused};
 ghost use Rattle.plan_edits.specs.declared.unfit.Unfit.TheVariants as unfit_kinds;
 ghost use Rattle.river_plan.specs.declared.fault.PlanFault.TheVariants as fault_kinds;
 
@@ -70,8 +69,8 @@ fn split_form(
     requires some { 1 ≤ n }
     requires few { n ≤ 16 }
     requires place { IsPlace label.now (op_forms raw.now.ops) place }
-    requires valid { (op : OpForm) → IsPlaceOf op raw.now.ops place → let q = split_plan (plan_form raw.now) place op (made_of label.now) n kind (way_by (plan_form raw.now) op (made_of label.now) n form) in (is_apart q ≡ true → IsPlan q) × (IsPlan q → is_apart q ≡ true) }
-    ensures { (op : OpForm) → IsPlaceOf op raw.now.ops place → let q = split_plan (plan_form raw.now) place op (made_of label.now) n kind (way_by (plan_form raw.now) op (made_of label.now) n form) in IsStep (λ u. u ≡ (if are_short_names (all_made (made_of label.now) n) && is_apart q then Ok q else Err Refused)) result }
+    requires valid { (op : OpForm) → IsPlaceOf op raw.now.ops place → IsPlanIfApart (formed_plan (plan_form raw.now) place op (made_of label.now) n kind form) }
+    ensures { (op : OpForm) → IsPlaceOf op raw.now.ops place → let m = made_of label.now in IsStep (λ u. u ≡ fitting m n (formed_plan (plan_form raw.now) place op m n kind form)) result }
 {
     if !are_short(label, n) {
         return Err(Unfit::N5);

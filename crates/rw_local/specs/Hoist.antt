@@ -1,14 +1,13 @@
 -- A selection changes places with the operator that feeds it.
 use Rattle.std.specs.Prelude.{◌≡◌, ℕ, ◌-◌, nat_lt, nat_eq, if◌then◌else◌, Option, Some, None, Result, Ok, Err, List, [], ◌∷◌, length, map, slice_get}
 use Rattle.river_base.specs.declared.item.Item as item
-use Rattle.river_base.specs.declared.kind.FlatType.TheVariants.{Rows, Stream, Relation}
 use Rattle.river_base.specs.declared.kind.QueueType.{QueueType}
 use Rattle.river_base.specs.declared.kind.QueueType.TheVariants.{Flat, Pack}
 use Rattle.work_code.specs.Term.{Term, Const, Input, Slot, Neg, Not, Bin}
 use Rattle.kern_bags.specs.declared.kernel.Window.{Window}
 use Rattle.kern_bags.specs.declared.kernel.Window.TheVariants.{Now, Range, Unbounded, Latest}
 use Rattle.river_kernels.specs.Kern.{Kern, window, select, project, cross, streamer}
-use Rattle.river_kernels.specs.Fits.{spliced}
+use Rattle.river_kernels.specs.Fits.{width_of, spliced}
 use Rattle.river_plan.specs.Forms.{Name, OpForm, PlanForm, all_decls}
 use Rattle.river_plan.specs.Kinds.{kind_of}
 use Rattle.river_plan.specs.Uses.{writes_it, named_it}
@@ -87,9 +86,7 @@ or_h4 (Some x) = Ok x
 
 -- the width of the rows of the first side
 abbrev pub width_at : QueueType → ℕ
-width_at (Flat (Rows w)) = w
-width_at (Flat (Stream w)) = w
-width_at (Flat (Relation w)) = w
+width_at (Flat t) = width_of t
 width_at (Pack t) = 0
 
 abbrev pub first_width : List QueueType → ℕ
@@ -115,11 +112,15 @@ raised u t src mid = record u { kernel = select t; reads = src ∷ []; writes = 
 abbrev pub lowered : OpForm → ℕ → Name → Name → OpForm
 lowered b side mid out = record b { reads = spliced side b.reads (mid ∷ []); writes = out ∷ [] }
 
+-- the selection, which now feeds the operator below it
+abbrev pub hoisted_ops : OpForm → OpForm → ℕ → Term → Name → Name → Name → List OpForm
+hoisted_ops u b side t src mid out = raised u t src mid ∷ lowered b side mid out ∷ []
+
 -- the queue between the two takes the type of the queue that the selection reads now
 abbrev pub hoisted_plan : PlanForm → OpForm → OpForm → ℕ → Term → Name → Name → Name → PlanForm
 hoisted_plan p u b side t src mid out = record p {
   queues = retyped mid (kind_of (all_decls p) src) p.queues;
-  ops = replaced mid (raised u t src mid ∷ lowered b side mid out ∷ []) p.ops;
+  ops = replaced mid (hoisted_ops u b side t src mid out) p.ops;
 }
 
 abbrev pub hoist_at : PlanForm → OpForm → OpForm → Name → Name → ℕ × Term → Option Name → Result PlanForm Unfit

@@ -8,7 +8,7 @@ ghost use Rattle.river_plan.specs.Names.{count};
 ghost use Rattle.river_plan.specs.Kinds.{kind_of};
 ghost use Rattle.river_plan.specs.Uses.{named_it};
 ghost use Rattle.plan_edits.specs.Lists.{first_with, replaced, retyped};
-ghost use Rattle.rw_local.specs.Hoist.{hoist_kernel, raised, lowered, hoisted_plan, hoist_of};
+ghost use Rattle.rw_local.specs.Hoist.{hoist_kernel, raised, lowered, hoisted_ops, hoisted_plan, hoist_of};
 ghost use Rattle.plan_edits.specs.Answered.{IsAnswered};
 
 use crate::fusing::{add_decls, decl_place};
@@ -131,7 +131,7 @@ fn add(
     out: Name,
 ) -> Result<(), NoMemory>
     requires { side < length below.now.reads }
-    ensures { OnOk result (op_forms all.new ≡ op_forms all.old ++ replaced mid (raised (op_form above.now) (term cond.now) src mid ∷ lowered (op_form below.now) side mid out ∷ []) (op_form op.now ∷ [])) }
+    ensures { OnOk result (op_forms all.new ≡ op_forms all.old ++ replaced mid (hoisted_ops (op_form above.now) (op_form below.now) side (term cond.now) src mid out) (op_form op.now ∷ [])) }
 {
     if contains(&op.writes, mid) {
         all.push(raised(alloc, above, cond, src, mid)?)?;

@@ -22,9 +22,9 @@ fn width(kind: QueueType) -> u32
     ensures { result ≡ width_at kind }
 {
     match kind {
-        QueueType::Flat(FlatType::Rows(width)) => width,
-        QueueType::Flat(FlatType::Stream(width)) => width,
-        QueueType::Flat(FlatType::Relation(width)) => width,
+        QueueType::Flat(
+            FlatType::Rows(width) | FlatType::Stream(width) | FlatType::Relation(width),
+        ) => width,
         QueueType::Pack(_) => 0,
     }
 }

@@ -11,7 +11,7 @@ ghost use Rattle.saw_model.specs.Elaborate.{At, keys_in};
 ghost use Rattle.saw_model.specs.Meaning.{tables_in, width};
 ghost use Rattle.saw_model.specs.Plan.{queue_name, tally_name, queues_of, queue_decls, tally_op, plan_of};
 ghost use Rattle.saw_text.specs.Tree.{unit_form, unit_forms};
-ghost use Rattle.saw_build.specs.Plans.{IsListed, AreListed, widths, tally_ops, map_form};
+ghost use Rattle.saw_build.specs.Plans.{IsListed, AreListed, widths, tally_ops, map_form, lists_of};
 
 use crate::parts::kind_of;
 use crate::reach::reach_units;
@@ -262,7 +262,7 @@ pub fn lists(alloc: Global, units: &[Unit], body: Stmts, slots: u32) -> Result<R
 // The lists with these tables and operators.
 fn declared(alloc: Global, width: u32, tables: TableDecls, ops: Ops) -> Result<RawPlan, NoMemory>
     requires { AreListed tables }
-    ensures { IfOk result (λ raw. plan_form raw ≡ record { outputs = []; inputs = record { name = codes "in"; kind = rows width } ∷ []; queues = queue_decls tables; tables = tables; vars = []; ops = op_forms ops }) }
+    ensures { IfOk result (λ raw. plan_form raw ≡ lists_of width tables (op_forms ops)) }
 {
     let inputs = inputs(alloc, width)?;
     let queues = queues(alloc, &tables)?;

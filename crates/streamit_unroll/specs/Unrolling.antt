@@ -2,11 +2,12 @@
 use Rattle.std.specs.Prelude.{◌≡◌, ℕ, ◌+◌, Bool, List, ◌∷◌, ◌++◌, length, map, take, Option, Some, None, Result, Ok, Err, if◌then◌else◌}
 use Rattle.work_code.specs.declared.code.Stmt.{Stmt}
 use Rattle.work_code.specs.declared.code.Stmts.{Stmts}
-use Rattle.work_code.specs.Steps.{step, statements, in_turn}
+use Rattle.work_code.specs.Steps.{Body, step, statements, in_turn}
 use Rattle.streamit_text.specs.Tree.{Expression}
 use Rattle.river_plan.specs.Forms.{Name}
-use Rattle.streamit_model.specs.Elaborate.{At, Read, on_ok, counted, find, is_new, constant, bound_of}
+use Rattle.streamit_model.specs.Elaborate.{At, Read, on_ok, counted, find, is_new, constant, bound_of, steps_of}
 use Rattle.streamit_model.specs.Elaborate as spec
+use Rattle.streamit_model.specs.ElaborateFilter.{kept_rates}
 use Rattle.streamit_text.specs.Tree as source
 use Rattle.streamit_unroll.specs.declared.blocks.Span.{Span}
 use Rattle.streamit_unroll.specs.declared.fault.Fault.{Fault}
@@ -26,6 +27,11 @@ abbrev pub Reads : Result (Unit {0}) Fault → Stmts → Stmts → Unroller → 
 Reads (Ok u) old new at at' r =
     (added : List Stmt) × (statements new ≡ statements old ++ added) × (r ≡ Ok (in_turn (map step added), at_of at')) × KeepsNames at at'
 Reads (Err f) old new at at' r = Tells f r
+
+-- the body of `work`, where it keeps the rates
+abbrev pub worked : (peek push pop : ℕ) → source.Block → At → Result Body spec.Fault
+worked peek push pop b s =
+    on_ok (steps_of peek b s) (λ w. on_ok (kept_rates push pop w.1) (λ v. Ok (record { inputs = peek; slots = w.1.slots; steps = w.0 })))
 
 -- an arm was read, and the names are those from before
 abbrev pub ReadsArm : Result Stmts Fault → Unroller → Unroller → Read → Type 0

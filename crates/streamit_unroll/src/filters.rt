@@ -5,12 +5,12 @@ ghost use Rattle.work_code.specs.Ran.{IsBodyWithin, ran};
 ghost use Rattle.kern_rows.specs.Forms.{filter_form};
 ghost use Rattle.kern_rows.specs.Needs.{CanRun};
 ghost use Rattle.kern_rows.specs.Runs.{run_kept};
-ghost use Rattle.streamit_model.specs.Elaborate.{on_ok, steps_of, optional_of};
+ghost use Rattle.streamit_model.specs.Elaborate.{on_ok, optional_of};
 ghost use Rattle.streamit_model.specs.Meaning.{rate_or};
 ghost use Rattle.streamit_model.specs.ElaborateFilter.{read_field, read_fields, nothing_read, starts_of, judged_rates, kept_rates, elaborated};
 ghost use Rattle.streamit_text.specs.Program.{filter_tree};
 ghost use Rattle.streamit_unroll.specs.Filter.{IsReadable};
-ghost use Rattle.streamit_unroll.specs.Unrolling.{at_of, Reads, AreWritten, AreWrittenOptional};
+ghost use Rattle.streamit_unroll.specs.Unrolling.{at_of, worked, Reads, AreWritten, AreWrittenOptional};
 ghost use Rattle.streamit_text.specs.Tree.{block, optional_block};
 ghost use Rattle.streamit_unroll.specs.View.{Judges};
 
@@ -169,7 +169,7 @@ impl Unroller {
     // The body of `work`, and whether it keeps the rates.
     fn work(&mut self, alloc: Global, rates: Counts, work: &Block) -> Result<Code, Fault>
         requires { AreWritten (block work.now) }
-        ensures { Judges body_of result (on_ok (steps_of rates.peek (block work.now) (at_of self.old)) (λ w. on_ok (kept_rates rates.push rates.pop w.1) (λ v. Ok (record { inputs = rates.peek; slots = w.1.slots; steps = w.0 })))) }
+        ensures { Judges body_of result (worked rates.peek rates.push rates.pop (block work.now) (at_of self.old)) }
     {
         let mut body = Stmts::new(alloc);
         self.block(alloc, rates.peek, work, &mut body)?;
