@@ -15,12 +15,12 @@ use worked_cases::{Runner, go_through};
 
 // The top call.
 #[derive(Drop)]
-struct River<'a, R: Threads> {
+struct River<'a, R: Threads + Sync> {
     rt: &'a R,
     alloc: Global,
 }
 
-impl<R: Threads> Runner for River<'_, R> {
+impl<R: Threads + Sync> Runner for River<'_, R> {
     fn run(
         &self,
         words: &[Text],
