@@ -69,11 +69,13 @@ number_within most word n e = by (is_number word) refl e
   where
     value : ℕ
     value = value_after 0 word
+
     fits : (b : Bool) → (nat_lt 0 value && nat_le value most) ≡ b → (if b then Some value else None) ≡ Some n → (1 ≤ n) × (n ≤ most)
     fits true t e =
         let same : value ≡ n = cc e in
         (grind (arith, nat_tests, t, same), grind (arith, nat_tests, t, same))
     fits false t e = cc e
+
     by : (b : Bool) → is_number word ≡ b → (if b then within most value else None) ≡ Some n → (1 ≤ n) × (n ≤ most)
     by true t e = fits (nat_lt 0 value && nat_le value most) refl e
     by false t e = cc e
@@ -90,6 +92,7 @@ workers_keep key words = by (number_ahead 64 words) refl
     some n w (Plan lang file script) h = tt
     some n w (Mean lang file ins header) h = tt
     some n w (Load number) h = tt
+
     by : (o : Option ℕ) → number_ahead 64 words ≡ o → MayKeep (numbered key with_workers o)
     by None e = tt
     by (Some n) e = some n (ahead_within 64 words n e)
@@ -102,6 +105,7 @@ cap_keeps key words = by (number_ahead 65536 words) refl
     some n w (Plan lang file script) h = tt
     some n w (Mean lang file ins header) h = tt
     some n w (Load number) h = tt
+
     by : (o : Option ℕ) → number_ahead 65536 words ≡ o → MayKeep (numbered key with_cap o)
     by None e = tt
     by (Some n) e = some n (ahead_within 65536 words n e)
@@ -123,7 +127,7 @@ KeepAll ps = (command : Command) → IsManned command → MayBeManned (made ps c
 keep_more : (p : Phrase) (ps : List Phrase) → Keeps p → KeepAll ps → KeepAll (p ∷ ps)
 keep_more p ps keeps all command h = by (p.makes command) (keeps command h)
   where
-    by : (o : Option Command) → MayBeManned o → MayBeManned (elim o [ | None ↦ None | Some next ↦ made ps next ])
+    by : (o : Option Command) → MayBeManned o → MayBeManned (elim o [ None ↦ None | Some next ↦ made ps next ])
     by None k = tt
     by (Some next) k = all next k
 
@@ -142,7 +146,7 @@ phrases_keep (suc skip) (word ∷ words) = phrases_keep skip words
 phrases_keep zero (word ∷ words) = by (phrase_of (word ∷ words)) (phrase_keeps (word ∷ words)) (λ takes. phrases_keep takes words)
   where
     by : (o : Option Phrase) → MayKeep o → ((takes : ℕ) → MayKeepAll (phrases takes words))
-        → MayKeepAll (elim o [ | None ↦ None | Some p ↦ one_more p (phrases p.takes words) ])
+        → MayKeepAll (elim o [ None ↦ None | Some p ↦ one_more p (phrases p.takes words) ])
     by None k later = tt
     by (Some p) k later = keep_one p (phrases p.takes words) k (later p.takes)
 
@@ -178,7 +182,7 @@ asked_is word (Some lang) file words = by (is_file file)
 load_is : (word number : List ℕ) → MayBeManned (asked_load word number)
 load_is word number = by (bytes_eq word (codes "load")) (number_to 100000 number)
   where
-    by : (b : Bool) (o : Option ℕ) → MayBeManned (if b then (elim o [ | None ↦ None | Some n ↦ Some (Load n) ]) else None)
+    by : (b : Bool) (o : Option ℕ) → MayBeManned (if b then (elim o [ None ↦ None | Some n ↦ Some (Load n) ]) else None)
     by true None = tt
     by true (Some n) = tt
     by false o = tt

@@ -30,7 +30,15 @@ pub fn output<R: Threads + Sync, G: Gate + Sync>(
     ensures { IfOk result (λ text. (source : Source) → IsPlanOf source plan.now → text ≡ printed source counted files) }
 {
     let inputs = inputs_of(alloc, files)?;
-    let ran = run_plan(crew.rt, alloc, plan, inputs, crew.workers, crew.cap, crew.gate)?;
+    let ran = run_plan(
+        crew.rt,
+        alloc,
+        plan,
+        inputs,
+        crew.workers,
+        crew.cap,
+        crew.gate,
+    )?;
     print_outcome(alloc, plan, ran.outcome(), counted)
 }
 

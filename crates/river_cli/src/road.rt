@@ -64,7 +64,7 @@ fn answered<R: Threads + Sync, S: Shelf, G: Gate + Sync>(
     shelf: &mut S,
     gate: &G,
 ) -> Result<Bytes, Stop>
-    requires { IsManned command.now }
+    requires manned { IsManned command.now }
     ensures later { S.faults shelf.old ≤ S.faults shelf.new }
     ensures passes { Passes (of_command command.now) (S.held shelf.old) (Rose S.stays_at_last (S.faults shelf.old) (S.faults shelf.new)) result }
 {
@@ -80,7 +80,9 @@ fn answered<R: Threads + Sync, S: Shelf, G: Gate + Sync>(
             counts,
         } => {
             let crew = Crew::new(rt, gate, *workers, *cap);
-            run(alloc, &crew, *lang, file, ins, script, *header, *counts, shelf)
+            run(
+                alloc, &crew, *lang, file, ins, script, *header, *counts, shelf,
+            )
         }
         Command::Plan { lang, file, script } => show(alloc, *lang, file, script, shelf),
         Command::Mean {
@@ -89,7 +91,11 @@ fn answered<R: Threads + Sync, S: Shelf, G: Gate + Sync>(
             ins,
             header,
         } => mean(alloc, *lang, file, ins, *header, shelf),
-        Command::Load { number } => load(alloc, &Crew::new(rt, gate, LOAD_WORKERS, LOAD_CAP), *number),
+        Command::Load { number } => load(
+            alloc,
+            &Crew::new(rt, gate, LOAD_WORKERS, LOAD_CAP),
+            *number,
+        ),
     }
 }
 

@@ -5,8 +5,8 @@ use Rattle.river_cli.proofs.Manned.{manned}
 use Rattle.river_cli.proofs.Points.{command-decides, never-usage}
 use Rattle.river_cli.proofs.road.decide.Goals as goal
 
-pub answered-requires : goal.answered-requires
-answered-requires g c = manned c.args.words.now c.in-Ok.command c.in-Ok.ensures.ok
+pub answered-requires-clause-manned : goal.answered-requires-clause-manned
+answered-requires-clause-manned g c = manned c.args.words.now c.in-Ok.command c.in-Ok.ensures.ok
 
 pub returns-in-Ok-clause-decided : goal.returns-in-Ok-clause-decided
 unfolding points_of
