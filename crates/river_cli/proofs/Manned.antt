@@ -1,5 +1,5 @@
 -- The words give a run as many workers and as much room in its queues as there may be.
-use Rattle.std.proofs.Common.{◌≡◌, ℕ, zero, suc, ◌≤◌, List, [], ◌∷◌, Bool, true, false, refl, ap, arith}
+use Rattle.std.proofs.Common.{◌≡◌, ℕ, zero, suc, ◌≤◌, List, [], ◌∷◌, Bool, true, false, refl, arith}
 use Rattle.std.specs.Prelude.{Option, Some, None, map, codes, nat_lt, nat_le, ◌&&◌, if◌then◌else◌}
 use Rattle.std.specs.Str.{bytes_eq}
 use Rattle.std.proofs.lemmas.Bool.Decides.{nat_tests}
@@ -161,7 +161,9 @@ with_keeps command (Some ps) h k = by (are_apart (map (λ p. p.once) ps))
 plain_is : (word : List ℕ) (lang : Lang) (file : List ℕ) → MayBeManned (plain word lang file)
 plain_is word lang file = by (bytes_eq word (codes "run")) (bytes_eq word (codes "mean")) (bytes_eq word (codes "plan"))
   where
-    by : (a b c : Bool) → MayBeManned (if a then Some (Run lang file [] None 1 64 false false) else if b then Some (Mean lang file [] false) else if c then Some (Plan lang file None) else None)
+    by : (a b c : Bool)
+        → MayBeManned (if a then Some (Run lang file [] None 1 64 false false)
+        else if b then Some (Mean lang file [] false) else if c then Some (Plan lang file None) else None)
     by true b c = (omega arith, omega arith, omega arith, omega arith)
     by false true c = tt
     by false false true = tt

@@ -12,7 +12,7 @@ use Rattle.river_cli.proofs.Points.{output-says}
 use Rattle.river_cli.proofs.output.output.Goals as goal
 
 pub run_plan-requires-clause-fits : goal.run_plan-requires-clause-fits
-run_plan-requires-clause-fits g c = λ _.
+run_plan-requires-clause-fits g c = λ _ _.
     subst (λ (l : List (List item.Item)). Fit c.args.plan.now l) (sym c.in_ok-inputs.ensures) (contents-fit c.args.plan.now c.args.files c.requires.contents)
 
 pub print_outcome-requires-clause-outs : goal.print_outcome-requires-clause-outs

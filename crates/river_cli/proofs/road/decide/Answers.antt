@@ -6,7 +6,7 @@ use Rattle.river_cli.proofs.Points.{command-decides, never-usage}
 use Rattle.river_cli.proofs.road.decide.Goals as goal
 
 pub answered-requires-clause-manned : goal.answered-requires-clause-manned
-answered-requires-clause-manned g c = manned c.args.words.now c.in-Ok.command c.in-Ok.ensures.ok
+answered-requires-clause-manned g c = λ _ _. manned c.args.words.now c.in-Ok.command c.in-Ok.ensures.ok
 
 pub returns-in-Ok-clause-decided : goal.returns-in-Ok-clause-decided
 unfolding points_of
