@@ -19,9 +19,8 @@ use std::alloc::Global;
 use std::mem::replace;
 use std::snapshot::Snapshot;
 
-/// How many looks at a task a pass of a bundle may take in all where nothing moves and there are other workers: it is shared out
-/// among the tasks.
-const LOOKS: u32 = 65_536;
+/// How often a pass of a bundle looks at its tasks, at most, where there are other workers.
+const LOOKS: u32 = 2048;
 
 /// Why a net was not split.
 #[derive(Drop)]
@@ -86,17 +85,6 @@ fn take_part(
     Ok(own)
 }
 
-// How often a pass over so many tasks looks at them, at most.
-fn looks_for(tasks: usize, workers: u32) -> u32 {
-    if workers == 1 || tasks == 0 {
-        1
-    } else if tasks < 1024 {
-        LOOKS / tasks as u32
-    } else {
-        64
-    }
-}
-
 // The bundle of a part, at its seat.
 fn share_of(
     alloc: Global,
@@ -110,7 +98,7 @@ fn share_of(
     ensures left { OnOk result (OthersStay workers part tasks.old tasks.new) }
 {
     let own = take_part(alloc, tasks, part, workers)?;
-    let looks = looks_for(own.len(), workers);
+    let looks = if workers == 1 { 1 } else { LOOKS };
     Bundle::new(alloc, own, seat, looks)
 }
 
