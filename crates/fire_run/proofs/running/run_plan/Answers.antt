@@ -15,7 +15,7 @@ close-requires-clause-net g c =
 pub returns-then-not-branch : goal.returns-then-not-branch
 returns-then-not-branch g c =
     let r = ran_next c.args.plan.now c.args.inputs c.in_ok-net-2.rounds c.loop-net.net c.one.new.self c.in_ok-one.field-0 c.loop-net.invariant
-        c.in_ok-one.ensures.stays c.in_ok-one.ensures.moved in
+    c.in_ok-one.ensures.stays c.in_ok-one.ensures.moved in
     c.close.ensures.ran c.args.inputs r.has.caps r.has.is
 
 pub loop-net-smaller : goal.loop-net-smaller

@@ -9,10 +9,11 @@ pub scrap-requires : goal.scrap-requires
 scrap-requires g c = round_seated c.raw.result.now c.args.frame c.args.bundles.items c.work_each.new.bundles.items c.requires.bundles.seated c.work_each.ensures
 
 pub join-requires : goal.join-requires
-join-requires g c =
-    (c.args.plan.now,
-    worked c.raw.result.now c.args.plan.now c.args.frame c.args.bundles.items c.work_each.new.bundles.items c.raw.ensures.raw c.requires.bundles
-    c.work_each.ensures (c.is_refused.ensures.0 c.if-is_refused.false))
+join-requires g c = (
+  c.args.plan.now,
+  worked c.raw.result.now c.args.plan.now c.args.frame c.args.bundles.items c.work_each.new.bundles.items c.raw.ensures.raw c.requires.bundles
+      c.work_each.ensures (c.is_refused.ensures.0 c.if-is_refused.false),
+)
 
 pub returns : goal.returns
 returns g c =
