@@ -2,7 +2,7 @@
 use Rattle.std.proofs.Common.{ℕ, zero, suc, ◌+◌, List, [], ◌∷◌, ◌++◌, Option, Some, None}
 use Rattle.river_plan.specs.Forms.{Name}
 use Rattle.river_plan.specs.Names.{count}
-use Rattle.river_print.specs.Printable.{IsForward, IsPrintable}
+use Rattle.river_print.specs.Printable.{IsForward}
 use Rattle.river_print.specs.Writable.{Every}
 use Rattle.river_print.proofs.Spoken.{IsSpoken, every-joined, spoken-printable}
 use Rattle.cql_model.specs.Program.{registered, streams_of, all_uses}

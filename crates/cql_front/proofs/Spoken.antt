@@ -1,9 +1,9 @@
 -- What the grammar gives of programs: names without `@` and of at most 40 bytes, lists that are not empty, values that are not
 -- too deep.
-use Rattle.std.proofs.Common.{◌≡◌, ℕ, suc, ◌<◌, ◌≤◌, true, Option, Some, None, List, [], ◌∷◌, ◌++◌, length, refl, sym, ap, ◌∙◌, subst, arith, inl, inr}
+use Rattle.std.proofs.Common.{◌≡◌, ◌<◌, ◌≤◌, true, Option, Some, None, List, [], ◌∷◌, ◌++◌, length, refl, sym, ap, ◌∙◌, subst, arith, inl, inr}
 use Rattle.std.proofs.lemmas.Bool.{and_parts}
 use Rattle.std.proofs.Common.{append-nil}
-use Rattle.std.specs.Prelude.{IsTrue, map}
+use Rattle.std.specs.Prelude.{IsTrue}
 use Rattle.std.specs.List.{AllByRecursion}
 use Rattle.work_code.specs.Tok.{Tok}
 use Rattle.work_code.specs.declared.sign.Symbol.TheVariants as sign

@@ -1,6 +1,6 @@
 -- Words in any letter case, and that no name is a keyword.
 use Rattle.std.proofs.Common.{◌≡◌, ℕ, List, [], ◌∷◌, ◌++◌, Bool, true, false, cond, Option, Some, None, refl, sym, ap, ◌∙◌}
-use Rattle.std.specs.Prelude.{codes, ◌&&◌, ◌||◌, not}
+use Rattle.std.specs.Prelude.{codes, ◌&&◌, not}
 use Rattle.std.specs.List.{list_any}
 use Rattle.std.specs.Str.{bytes_eq}
 use Rattle.std.specs.Str.{str_to_ascii_lowercase as lower}

@@ -1,13 +1,17 @@
 -- The streams of a program that are declared before one.
-use Rattle.std.specs.Prelude.{◌≡◌, ◌<◌, ℕ, List, [], length, take, Option, Some, None, slice_get}
+use Rattle.std.specs.Prelude.{◌≡◌, ◌<◌, ℕ, ℤ, List, [], length, take, Option, Some, None, slice_get}
 use Rattle.river_plan.specs.Forms.{Name}
-use Rattle.streamit_model.specs.Meaning.{Works, look, all_work, body_works}
+use Rattle.streamit_model.specs.Meaning.{Works, look, all_work, body_works, branched, share_of, branch_count}
 use Rattle.streamit_text.specs.declared.program.Declaration.{Declaration}
-use Rattle.streamit_text.specs.Program.{body_of, program_of}
+use Rattle.streamit_text.specs.Program.{Adds, Dealing, body_of, program_of}
 
 -- what they do, by their names, the newest first
 abbrev pub works_of : List Declaration → List (Name × Works)
 works_of us = all_work [] (program_of us)
+
+-- what the branches between a splitter and a joiner give
+abbrev pub branch_works : List Declaration → Dealing → Adds → List ℤ → List (List ℤ)
+branch_works us d a xs = branched (works_of us) a.first a.others (λ p. share_of d (branch_count a) p xs)
 
 -- where the newest stream of a name stands, and what it does; or there is none
 abbrev pub IsPlace : List Declaration → Name → Option ℕ → Type 0

@@ -2,11 +2,11 @@
 ghost use Rattle.std.specs.Prelude.{◌≡◌, ◌≤◌, ◌+◌, suc, length, [], ◌∷◌, ◌++◌, IfOk, OnOk};
 ghost use Rattle.streamit_model.specs.Laws.{as_items};
 ghost use Rattle.brooklet_model.specs.ByIndex.{collected};
-ghost use Rattle.streamit_model.specs.Meaning.{all_work, work_of, body_works, piped, branched, share_of, weights_for, branch_count, program_outputs};
+ghost use Rattle.streamit_model.specs.Meaning.{all_work, work_of, body_works, piped, share_of, weights_for, program_outputs};
 ghost use Rattle.streamit_text.specs.Program.{filter_tree, program_of, body_of, adds_of, dealing_of, weights_of};
 ghost use Rattle.streamit_unroll.specs.Filter.{IsReadable};
 ghost use Rattle.streamit_build.specs.Readable.{IsReadableBody, AreReadable};
-ghost use Rattle.slow_streamit.specs.Works.{works_of, IsPlace};
+ghost use Rattle.slow_streamit.specs.Works.{works_of, branch_works, IsPlace};
 
 use crate::filter::{add_values, pushed_by};
 use crate::round::{collected, dealt, weights_for};
@@ -192,7 +192,7 @@ fn branches(
     lists: &mut Listed<Numbers>,
 ) -> Result<(), NoMemory>
     requires { AreReadable (program_of above.now) }
-    ensures { OnOk result (let a = adds_of parts.now.adds in lists.new ≡ lists.old ++ branched (works_of above.now) a.first a.others (λ p. share_of (dealing_of parts.now.split) (branch_count a) p items.now)) }
+    ensures { OnOk result (lists.new ≡ lists.old ++ branch_works above.now (dealing_of parts.now.split) (adds_of parts.now.adds) items.now) }
 {
     let others = parts.adds.others.as_slice();
     let count = ports(others.len())?;

@@ -1,5 +1,5 @@
 -- The streams that are known, by their names.
-use Rattle.std.specs.Prelude.{◌≡◌, ◌<◌, ℕ, ◌∷◌, Bool, min, List, length, Option, Some, None, Result, Ok, Err, if◌then◌else◌}
+use Rattle.std.specs.Prelude.{◌≡◌, ◌<◌, ℕ, [], ◌∷◌, ◌++◌, Bool, min, List, length, Option, Some, None, Result, Ok, Err, if◌then◌else◌}
 use Rattle.std.specs.List.{AllByRecursion}
 use Rattle.indexmap.specs.IndexMap.{get}
 use Rattle.river_base.specs.Name.{name_eq}
@@ -11,10 +11,11 @@ use Rattle.streamit_model.specs.Meaning.{look}
 use Rattle.streamit_model.specs.Judged.{Streamed, any, branches}
 use Rattle.streamit_unroll.specs.declared.fault.Fault.{Fault}
 use Rattle.streamit_unroll.specs.View.{Tells}
+use Rattle.streamit_build.specs.declared.builder.Declared.{Declared}
 use Rattle.streamit_build.specs.declared.streams.Entry.{Entry}
 use Rattle.streamit_build.specs.declared.streams.Children.{Children}
 use Rattle.streamit_build.specs.declared.streams.Known as code
-use Rattle.streamit_build.specs.Units.{UnitForm, unit_forms, AreLower, AreShort, IsTree, AreTrees}
+use Rattle.streamit_build.specs.Units.{UnitForm, unit_form, unit_forms, IsLower, AreLower, IsShort, AreShort, IsTree, AreTrees}
 
 -- an entry says where the stream stands, how many operators it has up to 257, and how deep it is nested
 pub record IsEntry (us : List UnitForm) (k : Entry) (s : Stream) : Type 0 where
@@ -34,6 +35,14 @@ pub record Knows (ss : code.Known) (known : Streamed) : Type 0 where
   pub entries : (n : Name) → IsFound (unit_forms ss.declared.items) (get name_eq ss.entries n) (look known n)
   pub lower : AreLower (unit_forms ss.declared.items)
   pub short : AreShort (unit_forms ss.declared.items)
+
+-- this holds where the next stream is lower, with short names, and stands for the tree, with so many operators, so deep
+abbrev pub IfNext : List Declared → Declared → Stream → (ops depth : ℕ) → Type 0 → Type 0
+IfNext us u s ops depth P =
+    IsLower (length us) (Some (unit_form u)) → IsShort (Some (unit_form u)) → IsTree (unit_forms us ++ unit_form u ∷ []) (length us) s
+    → ops ≡ min (ops_in s) 257
+    → depth ≡ nesting s
+    → P
 
 -- how many streams may be added: 64 branches, and any number in a line
 abbrev pub may : Bool → ℕ → Bool

@@ -1,9 +1,10 @@
 -- Streams that are declared, by number, and what is built of them.
-use Rattle.std.specs.Prelude.{◌≡◌, ◌≤◌, ℕ, ◌+◌, ◌<◌, List, [], ◌∷◌, ◌++◌, map, Option, Some, None, slice_get, length}
+use Rattle.std.specs.Prelude.{◌≡◌, ◌≤◌, ℕ, ◌+◌, ◌<◌, List, [], ◌∷◌, ◌++◌, map, Option, Some, None, slice_get, length, codes}
 use Rattle.std.specs.List.{AllByRecursion}
 use Rattle.std.proofs.Common.{Vec, Global}
 use Rattle.kern_rows.specs.Forms.{FilterForm, filter_form}
 use Rattle.river_plan.specs.Forms.{Name, OpForm, op_forms}
+use Rattle.streamit_model.specs.Build.{numbered, queues, splitter, build_line, build_branches, ops_of, queues_between, queues_within}
 use Rattle.streamit_model.specs.Unrolled.{Splitter, Duplicate, RoundRobin, Stream, Filter, Pipeline, SplitJoin, Streams, Last, Then}
 use Rattle.streamit_build.specs.declared.builder.Declared.{Declared}
 use Rattle.streamit_build.specs.declared.builder.Declared.TheVariants as built
@@ -64,7 +65,19 @@ abbrev mutual
   AreTrees us [] last (Then s ss) = ⊥
   AreTrees us (j ∷ js) last (Then s ss) = IsTree us j s × AreTrees us js last ss
 
+-- one operator behind: a splitter into n branches
+abbrev pub AddsSplitter : Splitter → ℕ → Name → Made → Made → Type 0
+AddsSplitter d n from old new =
+    op_forms new.ops ≡ op_forms old.ops ++ splitter d n (numbered (codes "split") old.next_op) from (queues old.next_queue n) ∷ []
+
 pub record Built (old new : Made) (added : List OpForm) (n q : ℕ) : Type 0 where
   pub ops : op_forms new.ops ≡ op_forms old.ops ++ added
   pub next_op : new.next_op ≡ old.next_op + n
   pub next_queue : new.next_queue ≡ old.next_queue + q
+
+-- by streams in a line, and by branches between these queues
+abbrev pub BuiltLine : Streams → Name → Name → Made → Made → Type 0
+BuiltLine ss from to old new = Built old new (build_line ss old.next_op old.next_queue from to) (ops_of ss) (queues_between ss)
+
+abbrev pub BuiltBranches : Streams → ℕ → ℕ → Made → Made → Type 0
+BuiltBranches ss first second old new = Built old new (build_branches ss old.next_op old.next_queue first second) (ops_of ss) (queues_within ss)

@@ -4,9 +4,8 @@ ghost use Rattle.kern_rows.specs.Forms.{filter_form};
 ghost use Rattle.river_kernels.specs.Kern.{filter};
 ghost use Rattle.river_plan.specs.Forms.{op_form, op_forms};
 ghost use Rattle.streamit_model.specs.Unrolled.{Stream, Streams};
-ghost use Rattle.streamit_model.specs.Build.{numbered, queue, queues, with_own, splitter, joiner, build, build_line, build_branches, ops_in, ops_of, queues_in};
-ghost use Rattle.streamit_model.specs.Build.{queues_between, queues_within};
-ghost use Rattle.streamit_build.specs.Units.{splitter_form, unit_forms, AreBelow, AreLower, AreShort, IsTree, AreTrees, Built};
+ghost use Rattle.streamit_model.specs.Build.{numbered, queue, queues, with_own, splitter, joiner, build, ops_in, queues_in};
+ghost use Rattle.streamit_build.specs.Units.{splitter_form, unit_forms, AreBelow, AreLower, AreShort, IsTree, AreTrees, AddsSplitter, Built, BuiltLine, BuiltBranches};
 
 use crate::names::{queue, sum};
 use crate::operators::{filter_op, join_op, split_op};
@@ -142,7 +141,7 @@ impl Made {
         ensures count { IfOk result (λ lanes. lanes.count ≡ suc (length parts.entry.front.now)) }
         ensures first { IfOk result (λ lanes. lanes.first ≡ self.old.next_queue) }
         ensures second { IfOk result (λ lanes. lanes.second ≡ self.old.next_queue + suc (length parts.entry.front.now)) }
-        ensures ops { OnOk result (op_forms self.new.ops ≡ op_forms self.old.ops ++ splitter (splitter_form split.now) (suc (length parts.entry.front.now)) (numbered (codes "split") self.old.next_op) from (queues self.old.next_queue (suc (length parts.entry.front.now))) ∷ []) }
+        ensures ops { OnOk result (AddsSplitter (splitter_form split.now) (suc (length parts.entry.front.now)) from self.old self.new) }
         ensures next { OnOk result (self.new.next_op ≡ self.old.next_op + 1) }
         ensures queue { OnOk result (self.new.next_queue ≡ (self.old.next_queue + suc (length parts.entry.front.now)) + suc (length parts.entry.front.now)) }
     {
@@ -220,7 +219,7 @@ fn line(
     requires below { AreBelow i parts.front.now parts.last }
     requires lower { AreLower (unit_forms units.now) }
     requires named { AreShort (unit_forms units.now) }
-    ensures { (ss : Streams) → AreTrees (unit_forms units.now) parts.entry.front.now parts.entry.last ss → OnOk result (Built made.old made.new (build_line ss made.old.next_op made.old.next_queue from to) (ops_of ss) (queues_between ss)) }
+    ensures { (ss : Streams) → AreTrees (unit_forms units.now) parts.entry.front.now parts.entry.last ss → OnOk result (BuiltLine ss from to made.old made.new) }
 {
     let mut start = from;
     for child in parts.front {
@@ -245,7 +244,7 @@ fn branches(
     requires below { AreBelow i parts.front.now parts.last }
     requires lower { AreLower (unit_forms units.now) }
     requires named { AreShort (unit_forms units.now) }
-    ensures { (ss : Streams) → AreTrees (unit_forms units.now) parts.entry.front.now parts.entry.last ss → OnOk result (Built made.old made.new (build_branches ss made.old.next_op made.old.next_queue lanes.first lanes.second) (ops_of ss) (queues_within ss)) }
+    ensures { (ss : Streams) → AreTrees (unit_forms units.now) parts.entry.front.now parts.entry.last ss → OnOk result (BuiltBranches ss lanes.first lanes.second made.old made.new) }
 {
     let mut a = lanes.first;
     let mut b = lanes.second;

@@ -1,7 +1,8 @@
 // Judges the units of a program, one after another.
 ghost use Rattle.std.specs.Prelude.{◌≡◌, ◌<◌, ◌≤◌, ◌^◌, length};
 ghost use Rattle.streamit_model.specs.Judged.{Streamed, splitter_of, stream_of, unit_of, all_streams};
-ghost use Rattle.streamit_text.specs.Program.{AFilter, APipeline, ASplitJoin, filter_tree, weights_of, dealing_of, adds_of, body_of, declared_of, program_of};
+ghost use Rattle.streamit_text.specs.Program.{AFilter, APipeline, filter_tree, dealing_of, adds_of, body_of, declared_of, program_of};
+ghost use Rattle.streamit_text.specs.declared.program.Body.TheVariants as tree;
 ghost use Rattle.streamit_unroll.specs.Filter.{IsReadable};
 ghost use Rattle.streamit_unroll.specs.View.{Judges};
 ghost use Rattle.streamit_build.specs.Units.{splitter_form};
@@ -97,7 +98,7 @@ impl Known {
 
     // A splitter, branches and a joiner.
     fn split_join(&mut self, alloc: Global, name: Name, all: &SplitJoin) -> Result<(), Fault>
-        ensures { (known : Streamed) → Knows self.old known → Declares result self.new known name (stream_of known name (ASplitJoin (dealing_of all.now.split) (adds_of all.now.adds) (weights_of all.now.join))) }
+        ensures { (known : Streamed) → Knows self.old known → Declares result self.new known name (stream_of known name (body_of (tree.SplitJoin all.now))) }
     {
         let count = all.adds.others.len() + 1;
         let split = splitter(alloc, &all.split, count)?;

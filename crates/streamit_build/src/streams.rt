@@ -1,13 +1,12 @@
 // The streams that are declared so far, by their names.
-ghost use Rattle.std.specs.Prelude.{◌≡◌, ◌+◌, [], ◌∷◌, ◌++◌, Some, min, max, length, OnOk, if◌then◌else◌};
+ghost use Rattle.std.specs.Prelude.{◌≡◌, ◌+◌, [], ◌∷◌, ◌++◌, Some, min, max, OnOk, if◌then◌else◌};
 ghost use Rattle.indexmap.specs.IndexMap.{get};
 ghost use Rattle.river_base.specs.Name.{name_eq};
 ghost use Rattle.river_plan.specs.Forms.{Name};
-ghost use Rattle.streamit_model.specs.Unrolled.{Stream, nesting};
-ghost use Rattle.streamit_model.specs.Build.{ops_in};
+ghost use Rattle.streamit_model.specs.Unrolled.{Stream};
 ghost use Rattle.streamit_model.specs.Judged.{Streamed, added, streams_of};
-ghost use Rattle.streamit_build.specs.Units.{unit_form, unit_forms, IsTree, IsLower, IsShort};
-ghost use Rattle.streamit_build.specs.Knowing.{Knows, may, AddsOne, AddsAll};
+ghost use Rattle.streamit_build.specs.Units.{unit_forms};
+ghost use Rattle.streamit_build.specs.Knowing.{Knows, IfNext, may, AddsOne, AddsAll};
 
 use crate::Declared;
 use indexmap::IndexMap;
@@ -100,7 +99,7 @@ impl Known {
         ops: u32,
         depth: u32,
     ) -> Result<(), NoMemory>
-        ensures { (known : Streamed) (s : Stream) → Knows self.old known → IsLower (length self.old.declared.items) (Some (unit_form stream)) → IsShort (Some (unit_form stream)) → IsTree (unit_forms self.old.declared.items ++ unit_form stream ∷ []) (length self.old.declared.items) s → ops ≡ min (ops_in s) 257 → depth ≡ nesting s → OnOk result (Knows self.new ((name, s) ∷ known)) }
+        ensures { (known : Streamed) (s : Stream) → Knows self.old known → IfNext self.old.declared.items stream s ops depth (OnOk result (Knows self.new ((name, s) ∷ known))) }
     {
         let Ok(number) = u32::try_from(self.declared.len()) else {
             return Err(NoMemory);

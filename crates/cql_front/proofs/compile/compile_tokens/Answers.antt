@@ -1,5 +1,4 @@
 use Rattle.std.proofs.Common.{List, length, ap, subst, arith}
-use Rattle.std.specs.Prelude.{map}
 use Rattle.std.proofs.lemmas.List.{length-map}
 use Rattle.cql_text.specs.Tree.{part_of, parts_of, program_of}
 use Rattle.cql_text.specs.declared.tree.Part.{Part}

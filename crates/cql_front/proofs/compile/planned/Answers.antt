@@ -1,4 +1,4 @@
-use Rattle.std.proofs.Common.{map, arith}
+use Rattle.std.proofs.Common.{arith}
 use Rattle.std.proofs.lemmas.List.{length-map}
 use Rattle.cql_text.specs.Tree.{part_of, parts_of}
 use Rattle.cql_front.proofs.Fronts.{planned-low}
