@@ -151,21 +151,21 @@ impl Gate for Counts {
 
 // The top call with such a gate for each run.
 #[derive(Drop)]
-struct Counted<'a, R: Threads + Sync> {
-    rt: &'a R,
+struct Counted {
     alloc: Global,
 }
 
-impl<R: Threads + Sync> Runner for Counted<'_, R> {
-    fn run(
+impl Runner for Counted {
+    fn run<R: Threads + Sync>(
         &self,
+        rt: &R,
         words: &[Text],
         shelf: &mut MemShelf,
         out: &mut MemSink,
         err: &mut MemSink,
     ) -> u8 {
         let gate = Counts::new();
-        let status = river(self.rt, self.alloc, words, shelf, out, err, &gate);
+        let status = river(rt, self.alloc, words, shelf, out, err, &gate);
         match str::from_utf8(out.taken()) {
             Ok(printed) if gate.agree_with(printed) => status,
             _ => MISCOUNTED,
@@ -175,10 +175,7 @@ impl<R: Threads + Sync> Runner for Counted<'_, R> {
 
 #[test]
 fn what_is_printed_was_fired(rt: HostRuntime) -> Result<(), Fail> {
-    let top = Counted {
-        rt: &rt,
-        alloc: rt.alloc(),
-    };
+    let top = Counted { alloc: rt.alloc() };
     assert!(rt; go_through(&rt, rt.alloc(), &top, CASES)?);
     Ok(())
 }

@@ -91,28 +91,27 @@ impl Gate for Meeting {
 
 // The top call with this gate.
 #[derive(Drop)]
-struct Meets<'a, R: Threads + Sync> {
-    rt: &'a R,
+struct Meets {
     alloc: Global,
     gate: Meeting,
 }
 
-impl<R: Threads + Sync> Runner for Meets<'_, R> {
-    fn run(
+impl Runner for Meets {
+    fn run<R: Threads + Sync>(
         &self,
+        rt: &R,
         words: &[Text],
         shelf: &mut MemShelf,
         out: &mut MemSink,
         err: &mut MemSink,
     ) -> u8 {
-        river(self.rt, self.alloc, words, shelf, out, err, &self.gate)
+        river(rt, self.alloc, words, shelf, out, err, &self.gate)
     }
 }
 
 #[test]
 fn two_must_meet(rt: HostRuntime) -> Result<(), Fail> {
     let top = Meets {
-        rt: &rt,
         alloc: rt.alloc(),
         gate: Meeting::new(),
     };
