@@ -4,7 +4,6 @@
 mod command;
 mod compile;
 mod content;
-mod crew;
 mod fetched;
 mod gather;
 mod load;
