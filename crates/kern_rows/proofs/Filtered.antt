@@ -1,15 +1,14 @@
 -- A value comes to a filter, and runs follow.
-use Rattle.std.proofs.Common.{◌≡◌, ℕ, zero, suc, ℤ, Bool, true, false, Option, Some, None, ◌+◌, ◌-◌, ◌*◌, ◌<◌, ◌≤◌, List, [], ◌∷◌, ◌++◌, length, take, drop, refl, sym, ap, ◌∙◌}
+use Rattle.std.proofs.Common.{◌≡◌, ℕ, zero, suc, ℤ, Bool, true, false, Option, Some, None, ◌+◌, ◌-◌, ◌<◌, ◌≤◌, List, [], ◌∷◌, ◌++◌, length, take, drop, refl, sym, ap, ◌∙◌}
 use Rattle.std.proofs.Common.{subst, arith, length-append, length-drop, append_assoc}
 use Rattle.std.specs.Prelude.{if◌then◌else◌, nat_le, max}
 use Rattle.std.proofs.Math.Nat.{le-mul_of_pos_right}
-use Rattle.std.proofs.lemmas.List.{append-nil, drop-drop, drop-append-le, map-append, take-append-le, take_all, length-take-le}
-use Rattle.work_code.specs.Ran.{Ran}
+use Rattle.std.proofs.lemmas.List.{append-nil, drop-drop, drop-append-le, map-append}
 use Rattle.river_base.specs.Grew.{GrewByPrefix}
 use Rattle.kern_rows.specs.Forms.{FilterForm, RunForm}
 use Rattle.kern_rows.specs.Needs.{CanFilter, CanRunOnce, CanRunFirst}
-use Rattle.kern_rows.specs.Runs.{Filtering, Filtered, buffer_of, filter_one, filter_turns, next_run, after_run, with_pushes, received, run_at, run_or, first_run, usual_run, begins, needs, run_kept}
-use Rattle.kern_rows.specs.Stands.{Waiting, KeepsFor, StandsForFiltering, Filters, GaveUp, first_values, is_fresh, run_now, needs_now, ran_now, IsReached, IsBetween, RunsOnce, Between, left_of}
+use Rattle.kern_rows.specs.Runs.{Filtering, buffer_of, filter_one, filter_turns, next_run, after_run, with_pushes, received, run_at, run_or, first_run, usual_run, begins, needs, run_kept}
+use Rattle.kern_rows.specs.Stands.{Waiting, KeepsFor, StandsForFiltering, Filters, GaveUp, first_values, is_fresh, run_now, needs_now, ran_now, IsBetween, RunsOnce, Between, runs_left}
 
 if_le : {A : Type 0} (a b : ℕ) (x y : A) → a ≤ b → (if nat_le a b then x else y) ≡ x
 if_le a b x y h = grind arith
@@ -126,18 +125,18 @@ module _ (f : FilterForm) (can : CanFilter f) where
   needed now s h = ap (needs_now f) h.fresh ∙ needs_is s.fired
 
   -- a run leaves less to do
-  pub run_less : (now new : Waiting) (out out' : List ℤ) → needs_now f now.fresh ≤ length now.buffer → RunsOnce f now new out out' → left_of new < left_of now
+  pub run_less : (now new : Waiting) (out out' : List ℤ) → needs_now f now.fresh ≤ length now.buffer → RunsOnce f now new out out' → runs_left new < runs_left now
   run_less now new out out' enough r = go now.fresh refl
     where
-      new_is : left_of new ≡ (length now.buffer - (run_now f now.fresh).pop) + 0
+      new_is : runs_left new ≡ (length now.buffer - (run_now f now.fresh).pop) + 0
       new_is = ap (λ b. length new.buffer + (if b then 1 else 0)) r.fresh ∙ ap (λ l. length l + 0) r.buffer ∙ ap (λ k. k + 0) (length-drop (run_now f now.fresh).pop now.buffer)
 
-      go : (b : Bool) → now.fresh ≡ b → left_of new < left_of now
+      go : (b : Bool) → now.fresh ≡ b → runs_left new < runs_left now
       go true e =
-          let o : left_of now ≡ length now.buffer + 1 = ap (λ b. length now.buffer + (if b then 1 else 0)) e in
+          let o : runs_left now ≡ length now.buffer + 1 = ap (λ b. length now.buffer + (if b then 1 else 0)) e in
           omega (arith, o, new_is)
       go false e =
-          let o : left_of now ≡ length now.buffer + 0 = ap (λ b. length now.buffer + (if b then 1 else 0)) e in
+          let o : runs_left now ≡ length now.buffer + 0 = ap (λ b. length now.buffer + (if b then 1 else 0)) e in
           let p : (run_now f now.fresh).pop ≡ f.pop = ap (λ b. (run_now f b).pop) e in
           let q : needs_now f now.fresh ≡ f.peek = ap (needs_now f) e in
           let a = can.pops in let b = can.peeks in
@@ -207,8 +206,8 @@ module _ (f : FilterForm) (can : CanFilter f) where
             all =
                 b.reached.all ∙ ap (λ m. with_pushes b.given (filter_turns f m b.s)) e ∙ ap (with_pushes b.given) (turns_run n b.s le)
                 ∙ ap (λ l. record { pushes = l; after = (filter_turns f n (after_run b.s (next_run f b.s))).after }) (
-                  sym (append_assoc b.given (next_run f b.s).pushes (filter_turns f n (after_run b.s (next_run f b.s))).pushes)
-                  ∙ ap (λ l. (b.given ++ l) ++ (filter_turns f n (after_run b.s (next_run f b.s))).pushes) (sym (ap (λ r. r.pushes) (next_is now b.s b.keeps))));
+                sym (append_assoc b.given (next_run f b.s).pushes (filter_turns f n (after_run b.s (next_run f b.s))).pushes)
+                ∙ ap (λ l. (b.given ++ l) ++ (filter_turns f n (after_run b.s (next_run f b.s))).pushes) (sym (ap (λ r. r.pushes) (next_is now b.s b.keeps))));
             enough = let q = b.reached.enough in omega (arith, q, e);
           };
           keeps = ran_at now new out' out'' b.s r b.keeps enough;
@@ -266,18 +265,6 @@ module _ (f : FilterForm) (can : CanFilter f) where
                   ∙ ap (λ t. out ++ t) (sym (prefix_of (first_values b.given) (first_values one ++ first_values rest) (length (take g.n (first_values one))) ∙ ap (λ t. first_values b.given ++ t) (prefix_is (first_values one) (first_values rest) g.n)))
                   ∙ ap (λ t. out ++ take (length (first_values b.given) + length (take g.n (first_values one))) t) (sym firsts);
             }
-
-    -- nothing came of it
-    pub between_nothing : (now : Waiting) (s : Filtering) (out out' : List ℤ) → IsBetween f v now s out out' → GrewByPrefix out (first_values (filter_one f v s).pushes) out'
-    between_nothing now start out out' b =
-        let rest = (filter_turns f b.n b.s).pushes in
-        let firsts : first_values (filter_one f v start).pushes ≡ first_values b.given ++ first_values rest = ap (λ r. first_values r.pushes) b.reached.all ∙ map-append _ b.given rest in
-        record {
-          n = length (first_values b.given) + 0;
-          is =
-              b.grew ∙ ap (λ t. out ++ t) (sym (prefix_of (first_values b.given) (first_values rest) 0 ∙ append-nil (first_values b.given)))
-              ∙ ap (λ t. out ++ take (length (first_values b.given) + 0) t) (sym firsts);
-        }
 
     pub between_next : (put now new : Waiting) (out out' out'' : List ℤ) → Between f v put now out out' → needs_now f now.fresh ≤ length now.buffer
         → RunsOnce f now new out' out'' → Between f v put new out out''

@@ -11,7 +11,7 @@ use Rattle.work_code.specs.Steps.{Step, Steps, Set, Push, If, Done, Then}
 use Rattle.work_code.specs.Ran.{Ran, ran, ran_once}
 use Rattle.kern_rows.specs.Forms.{FilterForm}
 use Rattle.kern_rows.specs.Needs.{GivesOnce, GivesValues, CanFilter}
-use Rattle.kern_rows.specs.Runs.{pushed_to, Filtering, Filtered, buffer_of, filter_one, filter_turns, next_run, after_run, with_pushes, received, run_at, needs}
+use Rattle.kern_rows.specs.Runs.{pushed_to, Filtering, Filtered, buffer_of, filter_one, filter_turns, next_run, after_run, received, run_at, needs}
 use Rattle.kern_rows.proofs.Filtered.{run_can}
 use Rattle.kern_rows.specs.Stands.{first_values}
 

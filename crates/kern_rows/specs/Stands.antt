@@ -2,7 +2,7 @@
 use Rattle.std.specs.Prelude.{◌≡◌, ℕ, zero, suc, ℤ, pos, Bool, true, false, ◌+◌, ◌<◌, ◌≤◌, List, ◌++◌, length, map, take, drop, max, slice_index_or, if◌then◌else◌, Option, Some, None}
 use Rattle.river_base.specs.Grew.{GrewByPrefix}
 use Rattle.kern_rows.specs.Forms.{FilterForm, RunForm}
-use Rattle.kern_rows.specs.Runs.{Filtering, Filtered, buffer_of, begins, needs, usual_run, first_run, received, filter_turns, filter_one, with_pushes, run_kept}
+use Rattle.kern_rows.specs.Runs.{Filtering, buffer_of, begins, usual_run, first_run, received, filter_turns, filter_one, with_pushes, run_kept}
 use Rattle.work_code.specs.Ran.{Ran}
 use Rattle.work_code.specs.Steps.{Body}
 
@@ -75,9 +75,9 @@ pub record Between (f : FilterForm) (v : ℤ) (put now : Waiting) (out out' : Li
 abbrev pub ran_now : FilterForm → Waiting → Ran
 ran_now f w = run_kept (run_now f w.fresh).body w.kept (take (run_now f w.fresh).peek w.buffer)
 
--- what a run makes less
-abbrev pub left_of : Waiting → ℕ
-left_of w = length w.buffer + (if w.fresh then 1 else 0)
+-- at most so many runs are left before another value comes: each but a first one of its own takes a value
+abbrev pub runs_left : Waiting → ℕ
+runs_left w = length w.buffer + (if w.fresh then 1 else 0)
 
 -- one run of a body, which looks at `peek` values and takes `pop` of them
 pub record RunIs (peek pop : ℕ) (b : Body) (old new : Waiting) (out out' : List ℤ) : Type 0 where

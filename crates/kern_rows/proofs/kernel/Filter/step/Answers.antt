@@ -1,4 +1,4 @@
-use Rattle.std.proofs.Common.{w64, ◌≡◌, ◌∷◌, [], ◌++◌, length, refl, ap, ◌∙◌, subst, arith, to_z, of_z, ℤ}
+use Rattle.std.proofs.Common.{w64, ◌∷◌, [], ◌++◌, length, refl, ap, ◌∙◌, subst, arith, to_z, of_z, ℤ}
 use Rattle.std.proofs.lemmas.Int.{to_z-of_z}
 use Rattle.work_code.proofs.Running.{on_err}
 use Rattle.kern_rows.specs.Forms.{filter_form}
@@ -11,11 +11,10 @@ runs-init c = (between_start (filter_form c.args.self.now) c.requires.formed (to
 
 pub runs-preserved : goal.runs-preserved
 runs-preserved c =
-    let f = filter_form c.args.self.now in
-    (
+    let f = filter_form c.args.self.now in (
       between_next f c.requires.formed (to_z w64 (of_z w64 c.args.value)) _ c.runs.state c.run.new.state c.args.out.now c.runs.out c.run.new.out c.runs.invariant.0
-      (omega (arith, c.needs.ensures, c.len.ensures, c.runs-test.true, ap (λ w. length w.buffer) c.state-in-runs.view_is, ap (λ w. needs_now f w.fresh) c.state-in-runs.view_is))
-      c.in_ok-run.ensures.ran,
+          (omega (arith, c.needs.ensures, c.len.ensures, c.runs-test.true, ap (λ w. length w.buffer) c.state-in-runs.view_is, ap (λ w. needs_now f w.fresh) c.state-in-runs.view_is))
+          c.in_ok-run.ensures.ran,
       c.in_ok-run.ensures.shape ∙ c.runs.invariant.1,
     )
 
