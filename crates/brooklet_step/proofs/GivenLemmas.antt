@@ -152,6 +152,7 @@ runs_by true = 0
 runs_by false = 1
 
 fresh_by : (o : Option RunForm) (b : Bool) → MayBeFresh o b → b ≡ is_fresh o (runs_by b)
+unfolding runs_by
 fresh_by None b h = h
 fresh_by (Some r) true h = refl
 fresh_by (Some r) false h = refl
