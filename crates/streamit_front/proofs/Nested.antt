@@ -178,15 +178,27 @@ mutual
   optional-below e Unwritten s y h = by-steps 0 (Done, s) y h (omega arith)
   optional-below e (Written b) s y h = steps-below e b s y h
 
--- the filter of a filter as it is written nests no deeper than its `work`
-pub filter-below : (t : FilterTree) (f : FilterForm) → elaborated t ≡ Ok f → depths f.body.steps ≤ nests t.work
+-- how deep a first run nests, and `prework`
+abbrev pub depths-first : Option RunForm → ℕ
+depths-first None = 0
+depths-first (Some r) = depths r.body.steps
+
+abbrev pub nests-first : Option WorkTree → ℕ
+nests-first None = 0
+nests-first (Some w) = nests w.block
+
+-- the runs of a filter nest no deeper than its `prework` and its `work`
+work-below : (least : ℕ) (w : WorkTree) (s : At) (r : RunForm) → WorkRead least w s r → depths r.body.steps ≤ nests w.block
+work-below least w s r e = subst (λ (r : RunForm). depths r.body.steps ≤ nests w.block) e.is (steps-below (peek_of w) w.block s e.read e.steps_are)
+
+first-below : (o : Option WorkTree) (s : At) (p : Option RunForm) (n : ℕ) → PreworkRead o s p → depths-first (first_with n p) ≤ nests-first o
+first-below None s None n h = omega arith
+first-below None s (Some r) n h = absurd h
+first-below (Some w) s None n h = absurd h
+first-below (Some w) s (Some r) n h = work-below 0 w s r h
+
+pub filter-below : (t : FilterTree) (f : FilterForm) → elaborated t ≡ Ok f → (depths-first f.first ≤ nests-first t.prework) × (depths f.body.steps ≤ nests t.work.block)
 filter-below t f h =
-    let end = λ (i w : Steps × At). on_ok (kept_rates (push_of t) (pop_of t) w.1) (λ v. fine (elaborated_form t i w)) in
-    let f3 = λ (s : At) (i : Steps × At). on_ok (steps_of (peek_of t) t.work s) (end i) in
-    let f2 = λ (s : At) (i : Steps × At). on_ok (judged_rates (push_of t) (pop_of t) (peek_of t)) (λ u. f3 s i) in
-    let a = ok_parts (read_fields t.fields nothing_read) (λ s. on_ok (optional_of 0 t.init s) (f2 s)) f h in
-    let i = ok_parts (optional_of 0 t.init a.0) (f2 a.0) f a.2 in
-    let r = ok_parts (judged_rates (push_of t) (pop_of t) (peek_of t)) (λ u. f3 a.0 i.0) f i.2 in
-    let w = ok_parts (steps_of (peek_of t) t.work a.0) (end i.0) f r.2 in
-    let k = ok_parts (kept_rates (push_of t) (pop_of t) w.0.1) (λ v. fine (elaborated_form t i.0 w.0)) f w.2 in
-    subst (λ (g : FilterForm). depths g.body.steps ≤ nests t.work) (ok_is (elaborated_form t i.0 w.0) f k.2) (steps-below (peek_of t) t.work a.0 w.0 w.1)
+    let e = elaborated_parts t f h in
+    subst (λ (g : FilterForm). (depths-first g.first ≤ nests-first t.prework) × (depths g.body.steps ≤ nests t.work.block)) e.is
+    (first-below t.prework e.fields e.prework (slots_for e.prework e.work.body.slots) e.prework_is, work-below 1 t.work e.fields e.work e.work_is)

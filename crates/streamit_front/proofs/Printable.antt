@@ -28,8 +28,11 @@ use Rattle.text_blocks.proofs.Every.{chosen, enclosed}
 
 -- THE GRAMMAR
 
+abbrev IsNestedWork : WorkTree → Type 0
+IsNestedWork w = nests w.block ≤ 16
+
 abbrev IsNestedFilter : FilterTree → Type 0
-IsNestedFilter t = nests t.work ≤ 16
+IsNestedFilter t = (nests-first t.prework ≤ 16) × IsNestedWork t.work
 
 abbrev IsNestedBody : Body → Type 0
 IsNestedBody (AFilter t) = IsNestedFilter t
@@ -40,10 +43,18 @@ abbrev AreNestedUnits : Program → Type 0
 AreNestedUnits [] = Unit {0}
 AreNestedUnits (u ∷ us) = IsNestedBody u.body × AreNestedUnits us
 
+work-nested : (n : ℕ) (w : WorkTree) (ts : List Tok) → IsWork n w ts → IsNestedWork w
+work-nested n w ts h = subst IsNestedWork (sym h.is) (block-nested n h.value.1 h.formed.back h.formed.second)
+
+first-nested : (n : ℕ) (o : Option WorkTree) (ts : List Tok) → IsPrework n o ts → nests-first o ≤ 16
+first-nested n None ts h = omega arith
+first-nested n (Some w) ts h = work-nested n w h.back h.formed
+
 filter-nested : (n : ℕ) (t : FilterTree) (ts : List Tok) → InFilter n t ts → IsNestedFilter t
 filter-nested n t ts h =
+    let v = h.value in
     let rest = h.formed.second.second in
-    subst IsNestedFilter (sym h.is) (block-nested n h.value.1.1.1 rest.formed.back rest.formed.second)
+    subst IsNestedFilter (sym h.is) (first-nested n v.1.1.0 rest.front rest.first, work-nested n v.1.1.1 rest.second.back rest.second.formed)
 
 body-nested : (n : ℕ) (w : List ℕ) (b : Body) (ts : List Tok) → BodyAfter n w b ts → IsNestedBody b
 body-nested n w b ts h =
