@@ -8,15 +8,16 @@ use Rattle.work_code.specs.Steps as steps
 use Rattle.work_code.specs.Term.{Term}
 use Rattle.work_code.specs.Tok.{Tok}
 use Rattle.text_forms.specs.Forms as form
-use Rattle.kern_rows.specs.Forms.{FilterForm}
+use Rattle.kern_rows.specs.Forms.{FilterForm, RunForm}
 use Rattle.river_plan.specs.Forms.{Name}
 use Rattle.streamit_text.specs.Tree.{Statement, Declare, Assign, Push, Discard, If, For, Block, End, Then, Optional, Unwritten, Written, in_turn, or_unwritten}
 use Rattle.streamit_text.specs.Tree.{Expression}
-use Rattle.streamit_model.specs.Meaning.{pops, numbers, push_of, pop_of, peek_of}
+use Rattle.streamit_model.specs.Meaning.{pops, numbers, peek_of}
 use Rattle.streamit_model.specs.Elaborate.{At, Read, on_ok, joined, one_step, counted, is_new, has_slot, first_term, declared, slot_of, term_of, constant}
 use Rattle.streamit_model.specs.Elaborate.{bound_of, after_arms, unrolled, step_of, steps_of, find, BranchRates, Turn, optional_of}
-use Rattle.streamit_text.specs.Program.{FilterTree}
-use Rattle.streamit_model.specs.ElaborateFilter.{elaborated, read_fields, nothing_read, judged_rates, kept_rates, elaborated_form}
+use Rattle.streamit_text.specs.Program.{WorkTree, FilterTree}
+use Rattle.streamit_model.specs.ElaborateFilter.{elaborated, slots_for, first_with}
+use Rattle.streamit_model.proofs.FilterMet.{WorkRead, PreworkRead, elaborated_parts}
 use Rattle.streamit_model.proofs.Elaborated.{fine, ok_parts, ok_is}
 use Rattle.streamit_text.specs.Blocks.{IsPlain, Head, IsHead, looped, style, holes}
 use Rattle.streamit_text.specs.Expressions.{IsExpression, expr_at}

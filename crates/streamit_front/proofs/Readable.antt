@@ -17,18 +17,18 @@ use Rattle.streamit_text.specs.Blocks.{IsDeclare, IsAssign, IsPush, IsDiscard, I
 use Rattle.streamit_text.specs.Expressions.{syntax, marked, IsExpression, expr_at}
 use Rattle.streamit_text.specs.Leaves.{IsLeaf, leaf_at}
 use Rattle.streamit_text.specs.Leaves as rule
-use Rattle.streamit_text.specs.Program.{FilterTree, Body, Declared, Program}
+use Rattle.streamit_text.specs.Program.{WorkTree, FilterTree, Body, Declared, Program}
 use Rattle.streamit_text.specs.Tree.{Expression, Statement, Declare, Assign, Push, Discard, If, For, Block, End, Then, Optional, Unwritten, Written, in_turn}
 use Rattle.streamit_text.specs.Tree.{or_unwritten}
 use Rattle.streamit_text.specs.Tree as tree
 use Rattle.streamit_text.specs.Words.{is_own}
 use Rattle.streamit_text.specs.declared.term.Sign.{Sign}
 use Rattle.streamit_text.specs.declared.term.Sign.TheVariants as sign
-use Rattle.streamit_text.specs.Grammar.{IsBlock, is_still, is_still_first, stays, stay, stay_optional, IsInit, InFilter, BodyAfter, IsUnit, AreUnits}
+use Rattle.streamit_text.specs.Grammar.{IsBlock, is_still, is_still_first, stays, stay, stay_optional, IsInit, IsWork, IsPrework, InFilter, BodyAfter, IsUnit, AreUnits}
 use Rattle.streamit_model.specs.Shallow.{IsLow, IsLowFirst, IsShallow, AreShallow, AreShallowOptional, IsItemless, IsItemlessFirst, KeepsItems, KeepAll}
-use Rattle.streamit_model.specs.Shallow.{KeepAllOptional, IsShallowBody, AreShallowUnits}
+use Rattle.streamit_model.specs.Shallow.{KeepAllOptional, IsShallowPrework, IsShallowFilter, IsShallowBody, AreShallowUnits}
 use Rattle.streamit_unroll.specs.Numbers.{AreValues}
-use Rattle.streamit_unroll.specs.Filter.{IsReadable}
+use Rattle.streamit_unroll.specs.Filter.{IsWrittenPrework, IsReadable}
 use Rattle.streamit_unroll.specs.Unrolling.{AreOptional, IsWritten, AreWritten, AreWrittenOptional}
 use Rattle.streamit_build.specs.Readable.{IsReadableBody, AreReadable}
 

@@ -8,7 +8,7 @@ ghost use Rattle.kern_rows.specs.Runs.{run_kept};
 ghost use Rattle.streamit_model.specs.Elaborate.{on_ok, optional_of};
 ghost use Rattle.streamit_model.specs.Meaning.{rate_or};
 ghost use Rattle.streamit_model.specs.ElaborateFilter.{read_field, read_fields, nothing_read, starts_of, judged_rates, kept_rates, elaborated};
-ghost use Rattle.streamit_model.specs.ElaborateFilter.{read_work, read_prework, slots_for, form_of_runs};
+ghost use Rattle.streamit_model.specs.ElaborateFilter.{read_work, read_prework, slots_for, widened, first_with, form_of_runs};
 ghost use Rattle.text_blocks.specs.Parts.{optional};
 ghost use Rattle.streamit_text.specs.Program.{work_tree, filter_tree};
 ghost use Rattle.streamit_unroll.specs.Filter.{IsReadable, IsWrittenPrework};
@@ -266,22 +266,37 @@ impl Unroller {
 }
 
 // The filter of what was read, with the slots of that block which has more.
-fn put_together(starts: Numbers, mut first: Option<First>, mut work: First) -> Filter
+fn put_together(starts: Numbers, first: Option<First>, mut work: First) -> Filter
     ensures { filter_form result ≡ form_of_runs starts (optional_run first) (run_form work) }
 {
     let slots = slots_for(&first, work.code.slots);
     work.code.slots = slots;
-    if let Some(first) = &mut first {
-        first.code.slots = slots;
-    }
     Filter {
         peek: work.peek,
         pop: work.pop,
         push: work.push,
         code: work.code,
         starts,
-        first,
+        first: first_with(first, slots),
     }
+}
+
+// The first run, where there is one, with so many slots.
+fn first_with(first: Option<First>, slots: u32) -> Option<First>
+    ensures { optional_run result ≡ first_with slots (optional_run first) }
+{
+    match first {
+        None => None,
+        Some(run) => Some(widened(run, slots)),
+    }
+}
+
+// A run with so many slots.
+fn widened(mut run: First, slots: u32) -> First
+    ensures { run_form result ≡ widened slots (run_form run) }
+{
+    run.code.slots = slots;
+    run
 }
 
 // The greater number of slots.
