@@ -15,7 +15,7 @@ use std::alloc::Global;
 use std::marker::Model;
 use work_code::{Code, Emitted};
 
-/// What a filter keeps between values: those that wait, which are fewer than a run needs, and its kept slots.
+/// What a filter keeps between values: those that wait, which are fewer than the next run needs, and its kept slots.
 #[derive(Drop)]
 pub struct FilterState {
     // whether a first run of its own is to come

@@ -29,7 +29,7 @@ pub enum Limit {
     Statements,
     /// The slots of one body: 256.
     Slots,
-    /// Each rate of a filter: 65,536.
+    /// Each rate of a filter, and of its first run: 65,536.
     Rates,
     /// The sum of the weights of one splitter or joiner: 65,536.
     Weights,
@@ -143,12 +143,7 @@ fn run_rate_above(run: &First, limit: Limit, most: u64) -> Option<u128>
     ensures { result ≡ first_above most (run_numbers limit (run_form run.now)) }
 {
     match limit {
-        Limit::Rates => first_of_three(
-            run.peek as u128,
-            run.pop as u128,
-            run.push as u128,
-            most,
-        ),
+        Limit::Rates => first_of_three(run.peek as u128, run.pop as u128, run.push as u128, most),
         _ => None,
     }
 }
