@@ -366,13 +366,13 @@ init_runs fs b s y hf low k h =
 -- THE FILTER
 
 -- what is read of `prework` or `work` is well formed with so many slots, and within the limits
-record RunFormed (fields n least : ℕ) (r : RunForm) : Type 0 where
+record RunFormed (names n least : ℕ) (r : RunForm) : Type 0 where
   inputs : r.body.inputs ≡ r.peek
-  least : least ≤ r.pop
+  pops : least ≤ r.pop
   peeks : r.pop ≤ r.peek
-  steps : is_steps r.peek n one_port r.body.steps ≡ true
-  pushes : is_number (pushes r.body.steps) r.push ≡ true
-  fields : fields ≤ r.body.slots
+  formed : is_steps r.peek n one_port r.body.steps ≡ true
+  given : is_number (pushes r.body.steps) r.push ≡ true
+  fields : names ≤ r.body.slots
   small : IsSmallRun r
 
 run_formed : (fs : List Name) (s : At) (least n : ℕ) (w : WorkTree) (r : RunForm) → read_fields fs nothing_read ≡ Ok s → AreShallow w.block
@@ -395,10 +395,10 @@ run_formed fs s least n w r hf low e le =
     let ks = k.slots in
     subst (λ (r : RunForm). r.body.slots ≤ n → RunFormed (length fs) n least r) e.is (λ le. record {
       inputs = refl;
-      least = e.rates.pops;
+      pops = e.rates.pops;
       peeks = peek;
-      steps = steps_formed (peek_of w) n (peek_of w) w.block (le_refl (peek_of w)) low s y e.steps_are ok (omega (arith, pp, peek)) le;
-      pushes = ap (λ o. is_number o (push_of w)) c.pushes ∙ eq_true c.more (push_of w) more;
+      formed = steps_formed (peek_of w) n (peek_of w) w.block (le_refl (peek_of w)) low s y e.steps_are ok (omega (arith, pp, peek)) le;
+      given = ap (λ o. is_number o (push_of w)) c.pushes ∙ eq_true c.more (push_of w) more;
       fields = omega (arith, g, ks);
       small = record {
         statements = omega (arith, cs, small);
@@ -422,7 +422,7 @@ first_formed fs s (Some w) (Some r) m hf low h le =
     let most : n ≤ 256 = omega (arith, few, le) in
     (
       both_true _ _ (eq_true r.body.inputs r.peek k.inputs) (both_true _ _ (eq_true n n refl)
-          (both_true _ _ (le_true r.pop r.peek k.peeks) (both_true _ _ k.steps k.pushes))),
+          (both_true _ _ (le_true r.pop r.peek k.peeks) (both_true _ _ k.formed k.given))),
       record { statements = k.small.statements; slots = most; peek = k.small.peek; pop = k.small.pop; push = k.small.push },
       most,
     )
@@ -439,8 +439,8 @@ filter_formed t f low h =
     let kept : length (starts_of (length t.fields) e.init) ≡ length t.fields = run_kept_length (record { inputs = 0; slots = e.init.1.slots; steps = e.init.0 }) (replicate (length t.fields) (pos 0)) [] ∙ length-replicate (length t.fields) (pos 0) in
     let few = k.fields in
     subst (λ (g : FilterForm). (is_filter g ≡ true) × IsSmallFilter g) e.is (
-      both_true _ _ (both_true _ _ (both_true _ _ (eq_true w.body.inputs w.peek k.inputs) (both_true _ _ (le_true 1 w.pop k.least) (le_true w.pop w.peek k.peeks)))
-          (both_true _ _ k.steps (both_true _ _ (le_true (length (starts_of (length t.fields) e.init)) n (omega (arith, kept, few, le))) k.pushes))) p.0,
+      both_true _ _ (both_true _ _ (both_true _ _ (eq_true w.body.inputs w.peek k.inputs) (both_true _ _ (le_true 1 w.pop k.pops) (le_true w.pop w.peek k.peeks)))
+          (both_true _ _ k.formed (both_true _ _ (le_true (length (starts_of (length t.fields) e.init)) n (omega (arith, kept, few, le))) k.given))) p.0,
       record {
         statements = k.small.statements;
         slots = p.2;
