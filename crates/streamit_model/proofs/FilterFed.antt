@@ -1,5 +1,5 @@
 -- A filter that is fed with a whole list gives what its firings on that list give.
-use Rattle.std.proofs.Common.{◌≡◌, ℕ, zero, suc, ℤ, ◌+◌, ◌-◌, ◌<◌, ◌≤◌, List, [], ◌∷◌, ◌++◌, length, take, drop, refl, sym, ap, ◌∙◌, subst, arith, append_assoc}
+use Rattle.std.proofs.Common.{◌≡◌, ℕ, zero, suc, ℤ, ◌+◌, ◌<◌, ◌≤◌, List, [], ◌∷◌, ◌++◌, length, take, drop, refl, sym, ap, ◌∙◌, subst, arith, append_assoc}
 use Rattle.std.proofs.Common.{length-append, length-drop, ⊎_elim}
 use Rattle.std.specs.Prelude.{if◌then◌else◌, nat_le}
 use Rattle.std.proofs.lemmas.List.{append-nil, drop-append-le, take-append-le, map-append}
@@ -8,13 +8,13 @@ use Rattle.river_base.specs.declared.item.Item.TheVariants.{Flat}
 use Rattle.river_base.specs.declared.item.Flat.TheVariants.{One}
 use Rattle.kern_rows.specs.Forms.{FilterForm}
 use Rattle.kern_rows.specs.Needs.{CanFilter}
-use Rattle.kern_rows.specs.Runs.{Filtering, Filtered, pushed_to, filter_one, filter_turns, next_run, after_run, with_pushes, buffer_of, run_at, begins, needs, run_kept}
+use Rattle.kern_rows.specs.Runs.{Filtering, Filtered, pushed_to, filter_one, filter_turns, next_run, after_run, with_pushes, run_at, begins, needs, run_kept}
 use Rattle.kern_rows.specs.Stands.{first_values}
 use Rattle.kern_rows.proofs.Given.{given_items, filter_values}
 use Rattle.kern_rows.proofs.Filtered.{begins_next, needs_some, peek_within, pop_within, number_within, turns_stop, turns_run}
 use Rattle.river_kernels.specs.Kern.{filter}
 use Rattle.brooklet_model.specs.Firings.{Buffered, Fired, feed}
-use Rattle.brooklet_model.specs.Fire.{fire, filter_fired}
+use Rattle.brooklet_model.specs.Fire.{fire}
 use Rattle.streamit_model.specs.UnrolledFilters.{firing, firings_from, filtered}
 use Rattle.streamit_model.specs.Laws.{as_items}
 
@@ -43,8 +43,8 @@ module _ (f : FilterForm) (can : CanFilter f) where
       let d = length-drop (begins f k) ys in
       let p = peek_within f can k in
       ap (run_kept (run_at f k).body kept) (
-        sym (take-append-le (run_at f k).peek (drop (begins f k) ys) xs (omega (arith, d, p, le)))
-        ∙ ap (take (run_at f k).peek) (sym (drop-append-le (begins f k) ys xs (omega (arith, le)))))
+      sym (take-append-le (run_at f k).peek (drop (begins f k) ys) xs (omega (arith, d, p, le)))
+      ∙ ap (take (run_at f k).peek) (sym (drop-append-le (begins f k) ys xs (omega (arith, le)))))
 
   -- the turns for the values that are there give the firings that they suffice for
   record Turned (ys xs : List ℤ) (n k : ℕ) (kept : List ℤ) (r : Filtered) : Type 0 where

@@ -1,14 +1,12 @@
 -- Which firings of a filter there are, and which items they look at.
-use Rattle.std.proofs.Common.{◌≡◌, ℕ, zero, suc, ℤ, ◌+◌, ◌*◌, ◌<◌, ◌≤◌, List, [], ◌∷◌, ◌++◌, length, map, take, drop, max, Option, Some, None, Ok, refl, sym, ap, ◌∙◌, subst, arith}
+use Rattle.std.proofs.Common.{◌≡◌, ℕ, zero, suc, ℤ, ◌+◌, ◌<◌, ◌≤◌, List, [], ◌∷◌, ◌++◌, length, take, drop, refl, sym, ap, ◌∙◌, subst, arith}
 use Rattle.std.proofs.Common.{append_assoc, ⊎_elim}
 use Rattle.std.specs.Prelude.{if◌then◌else◌, nat_le, slice_get}
 use Rattle.std.proofs.lemmas.List.{append-nil}
 use Rattle.std.proofs.lemmas.Bool.{cases_lt}
 use Rattle.std.proofs.Math.Nat.{mul-le-mul_right, le-mul_of_pos_right}
-use Rattle.kern_rows.specs.Forms.{FilterForm}
 use Rattle.streamit_text.specs.Program.{FilterTree}
-use Rattle.streamit_model.specs.Meaning.{pop_of, peek_of, runs_in, start_at, waits_for, looked_at, fires, fires_from, pushed_by}
-use Rattle.streamit_model.specs.ElaborateFilter.{elaborated}
+use Rattle.streamit_model.specs.Meaning.{pop_of, peek_of, runs_in, start_at, waits_for, looked_at, fires, fires_from}
 use Rattle.streamit_model.specs.Firings.{TakesPlace, place_in, fields_before, first_pushes, IsFired}
 use Rattle.streamit_model.specs.Laws.{FiringsAre}
 use Rattle.streamit_model.proofs.FilterMet.{elaborated_parts}
@@ -39,7 +37,7 @@ module _ (t : FilterTree) (xs : List ℤ) where
       get_taken (peek_of t.work) i (drop (start_at t (suc j)) xs) lt
       ∙ get_dropped (start_at t (suc j)) i xs
 
--- WHICH FIRINGS THERE ARE
+  -- WHICH FIRINGS THERE ARE
 
   abbrev Fits : ℕ → Type 0
   Fits j = start_at t j + waits_for t j ≤ length xs
@@ -113,8 +111,7 @@ module _ (t : FilterTree) (xs : List ℤ) where
 
     fired : (m : ℕ) × IsFired t xs m
     fired =
-        let r = ranged (suc (length xs)) 0 (omega arith) in
-        (
+        let r = ranged (suc (length xs)) 0 (omega arith) in (
           r.last,
           record {
             which = λ j. (

@@ -419,8 +419,7 @@ first_formed fs s (Some w) (Some r) m hf low h le =
     let n = max r.body.slots m in
     let k = run_formed fs s 0 n w r hf low h (omega arith) in
     let few = k.small.slots in
-    let most : n ≤ 256 = omega (arith, few, le) in
-    (
+    let most : n ≤ 256 = omega (arith, few, le) in (
       both_true _ _ (eq_true r.body.inputs r.peek k.inputs) (both_true _ _ (eq_true n n refl)
           (both_true _ _ (le_true r.pop r.peek k.peeks) (both_true _ _ k.formed k.given))),
       record { statements = k.small.statements; slots = most; peek = k.small.peek; pop = k.small.pop; push = k.small.push },

@@ -9,9 +9,8 @@ ghost use Rattle.streamit_model.specs.Elaborate.{on_ok, optional_of};
 ghost use Rattle.streamit_model.specs.Meaning.{rate_or};
 ghost use Rattle.streamit_model.specs.ElaborateFilter.{read_field, read_fields, nothing_read, starts_of, judged_rates, kept_rates, elaborated};
 ghost use Rattle.streamit_model.specs.ElaborateFilter.{read_work, read_prework, slots_for, widened, first_with, form_of_runs};
-ghost use Rattle.text_blocks.specs.Parts.{optional};
 ghost use Rattle.streamit_text.specs.Program.{work_tree, filter_tree};
-ghost use Rattle.streamit_unroll.specs.Filter.{IsReadable, IsWrittenPrework};
+ghost use Rattle.streamit_unroll.specs.Filter.{IsReadable};
 ghost use Rattle.streamit_unroll.specs.Unrolling.{at_of, worked, Reads, KeepsNames, AreWritten, AreWrittenOptional};
 ghost use Rattle.streamit_text.specs.Tree.{block, optional_block};
 ghost use Rattle.streamit_unroll.specs.View.{Judges};
@@ -106,7 +105,7 @@ impl Unroller {
     {
         self.fields(tree.fields.as_slice())?;
         let starts = self.starts(alloc, tree)?;
-        let first = self.prework(alloc, &tree.prework)?;
+        let first = self.prework(alloc, tree)?;
         let work = self.run(alloc, 1, &tree.work)?;
         Ok(put_together(starts, first, work))
     }
@@ -199,14 +198,14 @@ impl Unroller {
     }
 
     // The first run, where there is a `prework`; all that is known is as it was before.
-    fn prework(&mut self, alloc: Global, tree: &Option<WorkTree>) -> Result<Option<First>, Fault>
-        requires { IsWrittenPrework (optional work_tree tree.now) }
-        ensures read { Judges optional_run result (read_prework (optional work_tree tree.now) (at_of self.old)) }
+    fn prework(&mut self, alloc: Global, tree: &FilterTree) -> Result<Option<First>, Fault>
+        requires { IsReadable (filter_tree tree.now) }
+        ensures read { Judges optional_run result (read_prework (filter_tree tree.now).prework (at_of self.old)) }
         ensures back { OnOk result (at_of self.new ≡ at_of self.old) }
     {
-        match tree {
+        match &tree.prework {
             None => Ok(None),
-            Some(tree) => Ok(Some(self.run(alloc, 0, tree)?)),
+            Some(work) => Ok(Some(self.run(alloc, 0, work)?)),
         }
     }
 
