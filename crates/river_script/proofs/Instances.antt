@@ -143,7 +143,7 @@ summed = record {
   tables = [];
   vars = codes "Sum@1" ∷ [];
   ops =
-      made (codes "Sum@1") (filter (record { peek = 3; pop = 1; push = 1; body = record { inputs = 3; slots = 0; steps = Then (Push 0 (Bin op.Add (Bin op.Add (Input 0) (Input 1)) (Input 2) ∷ [])) Done }; starts = [] }))
+      made (codes "Sum@1") (filter (record { peek = 3; pop = 1; push = 1; body = record { inputs = 3; slots = 0; steps = Then (Push 0 (Bin op.Add (Bin op.Add (Input 0) (Input 1)) (Input 2) ∷ [])) Done }; starts = []; first = None }))
       (codes "in" ∷ []) (codes "out" ∷ []) (codes "Sum@1" ∷ []) ∷ [];
 }
 

@@ -32,7 +32,7 @@ filters peek pop = record {
   ops = record {
     label = F;
     kernel =
-        filter (record { peek = peek; pop = pop; push = 1; body = record { inputs = peek; slots = 0; steps = Then (Push 0 (Input 0 ∷ [])) Done }; starts = [] });
+        filter (record { peek = peek; pop = pop; push = 1; body = record { inputs = peek; slots = 0; steps = Then (Push 0 (Input 0 ∷ [])) Done }; starts = []; first = None });
     reads = in_name ∷ [];
     writes = out_name ∷ [];
     vars = F ∷ [];
