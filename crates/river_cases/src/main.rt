@@ -15,26 +15,26 @@ use worked_cases::{Runner, go_through};
 
 // The top call.
 #[derive(Drop)]
-struct River<'a, R: Threads> {
-    rt: &'a R,
+struct River {
     alloc: Global,
 }
 
-impl<R: Threads> Runner for River<'_, R> {
-    fn run(
+impl Runner for River {
+    fn run<R: Threads + Sync>(
         &self,
+        rt: &R,
         words: &[Text],
         shelf: &mut MemShelf,
         out: &mut MemSink,
         err: &mut MemSink,
     ) -> u8 {
-        river(self.rt, self.alloc, words, shelf, out, err, &NoGate)
+        river(rt, self.alloc, words, shelf, out, err, &NoGate)
     }
 }
 
 fn main(rt: HostRuntime) -> io::Result<ExitCode> {
     let alloc = rt.alloc();
-    let top = River { rt: &rt, alloc };
+    let top = River { alloc };
     let mut files = 0u32;
     let mut right = 0u32;
     for name in env::args(&rt)?.skip(1) {
