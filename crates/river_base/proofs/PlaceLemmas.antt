@@ -1,7 +1,7 @@
 -- Lists by place that grow, each by what a function gives for its place.
 use Rattle.std.proofs.Common.{◌≡◌, ◌≢◌, ℕ, zero, suc, ◌+◌, ◌<◌, ◌≤◌, List, [], ◌∷◌, ◌++◌, length, refl, sym, ap, ◌∙◌, arith, get_or, append_assoc, nat_lt}
 use Rattle.std.proofs.Common.{⊎_elim, replicate}
-use Rattle.std.specs.Prelude.{if◌then◌else◌}
+use Rattle.std.specs.Prelude.{if◌then◌else◌, Result, Ok, Err, OnErr}
 use Rattle.std.proofs.Math.ListN.{set}
 use Rattle.std.proofs.lemmas.List.{append-nil}
 use Rattle.std.proofs.lemmas.Bool.{cases_lt}
@@ -18,6 +18,22 @@ pub append_at_by : {A : Type 0} (ls now : List (List A)) (n : ℕ) (old xs new :
 append_at_by ls now n old xs new v h o e =
     let h' : n < length ls = rw v h in
     ap (λ t. set ls n t) (e ∙ ap (λ t. t ++ xs) o) ∙ append_at_set ls n old xs h' ∙ ap (λ t. append_at t n xs) v
+
+-- what holds anyhow holds where there is an error
+pub on_err : {T E P : Type 0} (r : Result T E) → P → OnErr r P
+on_err (Ok x) h = tt
+on_err (Err e) h = h
+
+set_same : {A : Type 0} (ls : List (List A)) (n : ℕ) (d : List A) → n < length ls → set ls n (get_or ls n d) ≡ ls
+set_same [] n d h = refl
+set_same (l ∷ ls) zero d h = refl
+set_same (l ∷ ls) (suc n) d h = ap (λ t. l ∷ t) (set_same ls n d (omega arith))
+
+-- a list at one place stayed
+pub same_at_by : {A : Type 0} (ls now : List (List A)) (n : ℕ) (old new : List A) → ls ≡ now → n < length now → old ≡ get_or ls n old → new ≡ old
+    → set ls n new ≡ now
+same_at_by ls now n old new v h o e =
+    let h' : n < length ls = rw v h in ap (set ls n) (e ∙ o) ∙ set_same ls n old h' ∙ v
 
 -- the number of lists stays
 pub length-append_at : {A : Type 0} (ls : List (List A)) (p : ℕ) (xs : List A) → length (append_at ls p xs) ≡ length ls

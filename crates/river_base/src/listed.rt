@@ -133,9 +133,10 @@ impl<T: Drop> Listed<T> {
         self.items.iter()
     }
 
-    /// Moves the elements of another list behind these.
+    /// Moves the elements of another list behind these; changes nothing where there is no memory.
     pub fn append(&mut self, more: Listed<T>) -> Result<(), NoMemory>
-        ensures { OnOk result (self.new ≡ self.old ++ more) }
+        ensures ok { OnOk result (self.new ≡ self.old ++ more) }
+        ensures err { OnErr result (self.new ≡ self.old) }
     {
         let mut more = more.items;
         self.items.append(&mut more)?;
@@ -172,20 +173,22 @@ impl<T: Drop> Listed<Listed<T>> {
         Ok(all)
     }
 
-    /// Appends an element to the list at a place, from 0. Where there is no memory, nothing is said of the lists.
+    /// Appends an element to the list at a place, from 0; changes nothing where there is no memory.
     pub fn push_at(&mut self, place: usize, x: T) -> Result<(), NoMemory>
         requires { place < length self.old }
         ensures ok { OnOk result (self.new ≡ append_at self.old place (x ∷ [])) }
+        ensures err { OnErr result (self.new ≡ self.old) }
     {
         let inner = &mut self.items[place];
         inner.push(x)?;
         Ok(())
     }
 
-    /// Moves the elements of a list behind those of the list at a place, from 0. Where there is no memory, nothing is said of them.
+    /// Moves the elements of a list behind those of the list at a place, from 0; changes nothing where there is no memory.
     pub fn extend_at(&mut self, place: usize, more: Listed<T>) -> Result<(), NoMemory>
         requires { place < length self.old }
         ensures ok { OnOk result (self.new ≡ append_at self.old place more) }
+        ensures err { OnErr result (self.new ≡ self.old) }
     {
         let inner = &mut self.items[place];
         inner.append(more)?;

@@ -5,6 +5,7 @@ use Rattle.std.specs.List.{AllByRecursion}
 use Rattle.std.proofs.lemmas.List.{append-nil, drop_all}
 use Rattle.std.specs.Result.{OnErr}
 use Rattle.river_base.specs.Grew.{GrewByPrefix}
+pub use Rattle.river_base.proofs.PlaceLemmas.{on_err}
 use Rattle.work_code.specs.declared.code.Stmt.{Stmt, fold-roll-Stmt}
 use Rattle.work_code.specs.declared.code.Stmt as built
 use Rattle.work_code.specs.declared.code.Stmt.TheVariants.{rolls-Push, rolls-If, rolls-Set}
@@ -106,8 +107,3 @@ pub step-set : (slot : ℕ) (value : Expr) → step (built.Set slot value) ≡ S
 step-set slot value = ap step (sym (rolls-Set slot value)) ∙ fold-roll-Stmt Step Steps step_at steps_at (layer.Set slot value)
 
 pub ruleset step_trees = (step-push, step-if, step-set, steps-is)
-
--- what holds anyhow holds where there is an error
-pub on_err : {T E P : Type 0} (r : Result T E) → P → OnErr r P
-on_err (Ok x) h = tt
-on_err (Err e) h = h
