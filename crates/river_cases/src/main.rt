@@ -4,6 +4,8 @@
 //! not as many as its first line says, and where no file is named.
 #![tactic(auto)]
 
+ghost use Rattle.std.specs.Thread.{IsSync};
+
 use river_base::{NoGate, Text};
 use river_cli::river;
 use river_outside::{MemShelf, MemSink};
@@ -27,7 +29,9 @@ impl Runner for River {
         shelf: &mut MemShelf,
         out: &mut MemSink,
         err: &mut MemSink,
-    ) -> u8 {
+    ) -> u8
+        requires { IsSync R.row }
+    {
         river(rt, self.alloc, words, shelf, out, err, &NoGate)
     }
 }

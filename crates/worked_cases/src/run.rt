@@ -1,4 +1,6 @@
 // Runs a case over memory.
+ghost use Rattle.std.specs.Thread.{IsSync};
+
 use crate::case::{Case, Words};
 use crate::fault::Fault;
 use crate::layout::{shelf_of, sink_of};
@@ -18,7 +20,8 @@ pub trait Runner {
         shelf: &mut MemShelf,
         out: &mut MemSink,
         err: &mut MemSink,
-    ) -> u8;
+    ) -> u8
+        requires { IsSync R.row };
 }
 
 /// Whether a case gives what it says; where it runs a program, also with each of these lists of words behind its own. What it

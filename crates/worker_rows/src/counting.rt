@@ -1,4 +1,6 @@
 // A gate that counts what enters: as often as the firings that are printed.
+ghost use Rattle.std.specs.Thread.{IsSync};
+
 use river_base::{Gate, Text};
 use river_cli::river;
 use river_outside::{MemShelf, MemSink};
@@ -163,7 +165,9 @@ impl Runner for Counted {
         shelf: &mut MemShelf,
         out: &mut MemSink,
         err: &mut MemSink,
-    ) -> u8 {
+    ) -> u8
+        requires { IsSync R.row }
+    {
         let gate = Counts::new();
         let status = river(rt, self.alloc, words, shelf, out, err, &gate);
         match str::from_utf8(out.taken()) {

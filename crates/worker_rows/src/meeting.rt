@@ -1,4 +1,6 @@
 // Two operators on two workers: each is to begin its first firing while the other's is held.
+ghost use Rattle.std.specs.Thread.{IsSync};
+
 use river_base::{Gate, Text};
 use river_cli::river;
 use river_outside::{MemShelf, MemSink};
@@ -104,7 +106,9 @@ impl Runner for Meets {
         shelf: &mut MemShelf,
         out: &mut MemSink,
         err: &mut MemSink,
-    ) -> u8 {
+    ) -> u8
+        requires { IsSync R.row }
+    {
         river(rt, self.alloc, words, shelf, out, err, &self.gate)
     }
 }
