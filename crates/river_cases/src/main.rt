@@ -4,6 +4,8 @@
 //! not as many as its first line says, and where no file is named.
 #![tactic(auto)]
 
+ghost use Rattle.std.specs.Thread.{IsSync};
+
 use river_base::{NoGate, Text};
 use river_cli::river;
 use river_outside::{MemShelf, MemSink};
@@ -15,26 +17,28 @@ use worked_cases::{Runner, go_through};
 
 // The top call.
 #[derive(Drop)]
-struct River<'a, R: Threads> {
-    rt: &'a R,
+struct River {
     alloc: Global,
 }
 
-impl<R: Threads> Runner for River<'_, R> {
-    fn run(
+impl Runner for River {
+    fn run<R: Threads + Sync>(
         &self,
+        rt: &R,
         words: &[Text],
         shelf: &mut MemShelf,
         out: &mut MemSink,
         err: &mut MemSink,
-    ) -> u8 {
-        river(self.rt, self.alloc, words, shelf, out, err, &NoGate)
+    ) -> u8
+        requires { IsSync R.row }
+    {
+        river(rt, self.alloc, words, shelf, out, err, &NoGate)
     }
 }
 
 fn main(rt: HostRuntime) -> io::Result<ExitCode> {
     let alloc = rt.alloc();
-    let top = River { rt: &rt, alloc };
+    let top = River { alloc };
     let mut files = 0u32;
     let mut right = 0u32;
     for name in env::args(&rt)?.skip(1) {

@@ -7,6 +7,7 @@ pub mod Fetches
 pub mod Inputs
 pub mod Items
 pub mod Loaded
+pub mod Manned
 pub mod Means
 pub mod Points
 pub mod ReadOn

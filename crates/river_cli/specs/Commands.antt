@@ -1,5 +1,5 @@
 -- What options and inputs make of a command; None where the command takes no such thing.
-use Rattle.std.specs.Prelude.{◌≡◌, List, ℕ, [], ◌∷◌, ◌++◌, Bool, true, false, Option, None, Some}
+use Rattle.std.specs.Prelude.{◌≡◌, ◌≤◌, List, ℕ, [], ◌∷◌, ◌++◌, Bool, true, false, Option, None, Some}
 use Rattle.river_cli.specs.declared.command.Command.{Command}
 use Rattle.river_cli.specs.declared.command.Command.TheVariants.{Run, Plan, Mean, Load}
 use Rattle.river_cli.specs.declared.command.InWord.{InWord}
@@ -50,3 +50,10 @@ with_input input (Load number) = None
 abbrev pub MayMake : Bool → Option Command → Command → Type 0
 MayMake true made command = made ≡ Some command
 MayMake false made command = made ≡ None
+
+-- a run has 1 to 64 workers, and queues that hold 1 to 65,536 items
+abbrev pub IsManned : Command → Type 0
+IsManned (Run lang file ins script workers cap header counts) = (1 ≤ workers) × (workers ≤ 64) × (1 ≤ cap) × (cap ≤ 65536)
+IsManned (Plan lang file script) = Unit {0}
+IsManned (Mean lang file ins header) = Unit {0}
+IsManned (Load number) = Unit {0}

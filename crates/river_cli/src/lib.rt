@@ -4,6 +4,7 @@
 mod command;
 mod compile;
 mod content;
+mod crew;
 mod fetched;
 mod gather;
 mod load;

@@ -10,14 +10,16 @@ ghost use Rattle.river_cli.specs.declared.content.Content.TheVariants.{Rows as P
 use crate::command::Lang;
 use crate::compile::compile;
 use crate::content::Content;
+use crate::crew::Crew;
 use crate::output::output;
 use crate::script::applied;
 use crate::text;
 use kern_rows::EvenRows;
-use river_base::{Bytes, FlatType, Listed, NoMemory, QueueType};
+use river_base::{Bytes, FlatType, Gate, Listed, NoMemory, QueueType};
 use river_order::Stop;
 use river_plan::{Decl, Plan};
 use std::alloc::Global;
+use std::thread::Threads;
 
 const PROGRAM: &[u8] =
     b"count: table sum of int;\ntotal: table sum[k: int] of v: int;\ntop: table maximum(2) of v: int weight w: int;\nemit count <- 1;\nemit total[input[0]] <- input[1];\nemit top <- input[0] weight input[1];\n";
@@ -25,13 +27,17 @@ const PROGRAM: &[u8] =
 const SCRIPT: &[u8] = b"fuse count@q;\nfuse total@q;\nfuse top@q;\nfission map 4;\n";
 
 /// What the load program prints for the first `number` records.
-pub fn load(alloc: Global, number: u32) -> Result<Bytes, Stop>
+pub fn load<R: Threads + Sync, G: Gate + Sync>(
+    alloc: Global,
+    crew: &Crew<'_, R, G>,
+    number: u32,
+) -> Result<Bytes, Stop>
     ensures { Answers (loaded number) result }
 {
     let plan = load_plan(alloc)?;
     let decls = plan.raw().inputs.as_slice();
     let files = files_for(alloc, decls, number)?;
-    Ok(output(alloc, &plan, files, false)?)
+    Ok(output(alloc, crew, &plan, files, false)?)
 }
 
 // The plan that the script makes of the program.

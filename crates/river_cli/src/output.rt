@@ -7,16 +7,20 @@ ghost use Rattle.river_cli.specs.Inputs as inputs;
 ghost use Rattle.river_cli.specs.Source.{Source, IsPlanOf, printed};
 
 use crate::content::Content;
-use brooklet_step::{Lines, run_lines};
+use crate::crew::Crew;
+use brooklet_step::Lines;
 use csv_streams::{add_stamps, print_outcome, spread};
+use fire_run::run_plan;
 use kern_rows::Line;
-use river_base::{Bytes, Listed, NoMemory, Numbers};
+use river_base::{Bytes, Gate, Listed, NoMemory, Numbers};
 use river_plan::Plan;
 use std::alloc::Global;
+use std::thread::Threads;
 
 /// What a program prints for what the files of its inputs have, by a run of its plan.
-pub fn output(
+pub fn output<R: Threads + Sync, G: Gate + Sync>(
     alloc: Global,
+    crew: &Crew<'_, R, G>,
     plan: &Plan,
     files: Listed<Content>,
     counted: bool,
@@ -26,8 +30,16 @@ pub fn output(
     ensures { IfOk result (λ text. (source : Source) → IsPlanOf source plan.now → text ≡ printed source counted files) }
 {
     let inputs = inputs_of(alloc, files)?;
-    let outcome = run_lines(alloc, plan, inputs)?;
-    print_outcome(alloc, plan, &outcome, counted)
+    let ran = run_plan(
+        crew.rt,
+        alloc,
+        plan,
+        inputs,
+        crew.workers,
+        crew.cap,
+        crew.gate,
+    )?;
+    print_outcome(alloc, plan, ran.outcome(), counted)
 }
 
 /// The items of each input.

@@ -5,12 +5,14 @@ ghost use Rattle.river_order.specs.Decides.{Decides};
 ghost use Rattle.river_order.specs.Passes.{Passes, PassesAs};
 ghost use Rattle.river_plan.specs.Valid.{IsPlan};
 ghost use Rattle.river_cli.specs.Points.{points_of, of_command, of_run, of_show, of_mean, of_program, of_script, of_inputs_run, shown as shown_text};
+ghost use Rattle.river_cli.specs.Commands.{IsManned};
 ghost use Rattle.river_cli.specs.Layouts.{layout_of};
 ghost use Rattle.river_cli.specs.Source.{Source, IsPlanOf, IsOf, IsKnown, IsCompiled, printed};
 ghost use Rattle.river_cli.specs.declared.compile.Program.{Program};
 
 use crate::command::{Command, InWords, Lang, Layout, WordFault};
 use crate::compile::{Compiled, Program, compile};
+use crate::crew::Crew;
 use crate::gather::gather;
 use crate::load::load;
 use crate::mean::mean_text;
@@ -19,32 +21,50 @@ use crate::script::applied;
 use crate::text;
 use crate::words::read_words;
 use plan_classes::print_classes;
-use river_base::{Bytes, NoMemory, Text};
+use river_base::{Bytes, Gate, NoMemory, Text};
 use river_order::{Stop, fetch_turn};
 use river_outside::Shelf;
 use river_plan::Plan;
 use river_print::print_river;
 use std::alloc::Global;
+use std::thread::Threads;
 
 const MOST_PROGRAM: u64 = 1_048_576;
 
 const MOST_SCRIPT: u64 = 65_536;
 
+const LOAD_WORKERS: u32 = 4;
+
+const LOAD_CAP: u32 = 64;
+
 /// The text that is the output of the words, or why there is none.
-pub fn decide<S: Shelf>(alloc: Global, words: &[Text], shelf: &mut S) -> Result<Bytes, Stop>
+pub fn decide<R: Threads + Sync, S: Shelf, G: Gate + Sync>(
+    rt: &R,
+    alloc: Global,
+    words: &[Text],
+    shelf: &mut S,
+    gate: &G,
+) -> Result<Bytes, Stop>
     ensures later { S.faults shelf.old ≤ S.faults shelf.new }
     ensures unread { IsErrOf result Stop.Usage → shelf.new ≡ shelf.old }
     ensures decided { Decides (points_of words.now) (S.held shelf.old) (Rose S.stays_at_last (S.faults shelf.old) (S.faults shelf.new)) result }
 {
     match read_words(alloc, words) {
-        Ok(command) => answered(alloc, &command, shelf),
+        Ok(command) => answered(rt, alloc, &command, shelf, gate),
         Err(WordFault::Usage) => Err(Stop::Usage),
         Err(WordFault::NoMemory) => Err(Stop::NoMemory),
     }
 }
 
 // What a command prints.
-fn answered<S: Shelf>(alloc: Global, command: &Command, shelf: &mut S) -> Result<Bytes, Stop>
+fn answered<R: Threads + Sync, S: Shelf, G: Gate + Sync>(
+    rt: &R,
+    alloc: Global,
+    command: &Command,
+    shelf: &mut S,
+    gate: &G,
+) -> Result<Bytes, Stop>
+    requires manned { IsManned command.now }
     ensures later { S.faults shelf.old ≤ S.faults shelf.new }
     ensures passes { Passes (of_command command.now) (S.held shelf.old) (Rose S.stays_at_last (S.faults shelf.old) (S.faults shelf.new)) result }
 {
@@ -54,10 +74,16 @@ fn answered<S: Shelf>(alloc: Global, command: &Command, shelf: &mut S) -> Result
             file,
             ins,
             script,
+            workers,
+            cap,
             header,
             counts,
-            ..
-        } => run(alloc, *lang, file, ins, script, *header, *counts, shelf),
+        } => {
+            let crew = Crew::new(rt, gate, *workers, *cap);
+            run(
+                alloc, &crew, *lang, file, ins, script, *header, *counts, shelf,
+            )
+        }
         Command::Plan { lang, file, script } => show(alloc, *lang, file, script, shelf),
         Command::Mean {
             lang,
@@ -65,13 +91,18 @@ fn answered<S: Shelf>(alloc: Global, command: &Command, shelf: &mut S) -> Result
             ins,
             header,
         } => mean(alloc, *lang, file, ins, *header, shelf),
-        Command::Load { number } => load(alloc, *number),
+        Command::Load { number } => load(
+            alloc,
+            &Crew::new(rt, gate, LOAD_WORKERS, LOAD_CAP),
+            *number,
+        ),
     }
 }
 
 // A program is compiled, its plan is rewritten, and it is run over its inputs.
-fn run<S: Shelf>(
+fn run<R: Threads + Sync, S: Shelf, G: Gate + Sync>(
     alloc: Global,
+    crew: &Crew<'_, R, G>,
     lang: Lang,
     file: &Text,
     ins: &InWords,
@@ -85,7 +116,7 @@ fn run<S: Shelf>(
 {
     let compiled = compiled(alloc, lang, file, shelf)?;
     let plan = script(alloc, name, compiled.plan, shelf)?;
-    run_over(alloc, ins, layout(lang, header), counts, &plan, shelf)
+    run_over(alloc, crew, ins, layout(lang, header), counts, &plan, shelf)
 }
 
 // It is compiled, and its plan is rewritten and shown.
@@ -193,8 +224,9 @@ fn shown(alloc: Global, plan: &Plan) -> Result<Bytes, NoMemory>
 }
 
 // A plan is run over its inputs, and what this gives is printed.
-fn run_over<S: Shelf>(
+fn run_over<R: Threads + Sync, S: Shelf, G: Gate + Sync>(
     alloc: Global,
+    crew: &Crew<'_, R, G>,
     ins: &InWords,
     layout: Layout,
     counts: bool,
@@ -207,7 +239,7 @@ fn run_over<S: Shelf>(
 {
     let decls = plan.raw().inputs.as_slice();
     let files = gather(alloc, decls, ins.as_slice(), layout, shelf)?;
-    Ok(output(alloc, plan, files, counts)?)
+    Ok(output(alloc, crew, plan, files, counts)?)
 }
 
 // What a program means over its inputs is printed, without a run of its plan.

@@ -14,14 +14,14 @@ use std::alloc::Global;
 use std::thread::Threads;
 
 /// Does what the words say, and answers the status to end with.
-pub fn river<R: Threads, S: Shelf, O: Sink, E: Sink, G: Gate + Sync>(
-    _rt: &R,
+pub fn river<R: Threads + Sync, S: Shelf, O: Sink, E: Sink, G: Gate + Sync>(
+    rt: &R,
     alloc: Global,
     words: &[Text],
     shelf: &mut S,
     out: &mut O,
     err: &mut E,
-    _gate: &G,
+    gate: &G,
 ) -> u8
     // 0: the run is done, and the output took exactly its text.
     ensures done { result ≡ 0
@@ -72,7 +72,7 @@ pub fn river<R: Threads, S: Shelf, O: Sink, E: Sink, G: Gate + Sync>(
         → (Rose E.stays_at_last (E.faults err.old) (E.faults err.new) → ⊥)
         → IfSome (S.held shelf.old) (λ held. HasStatus (verdict (points_of words.now) held) result) }
 {
-    match decide(alloc, words, shelf) {
+    match decide(rt, alloc, words, shelf, gate) {
         Ok(text) => status(put_all(out, text.as_slice()), 0),
         Err(Stop::Refused(text)) => status(put_all(err, text.as_slice()), 1),
         Err(Stop::Usage) => status(put_all(err, USAGE), 2),

@@ -1,4 +1,6 @@
 // Runs a case over memory.
+ghost use Rattle.std.specs.Thread.{IsSync};
+
 use crate::case::{Case, Words};
 use crate::fault::Fault;
 use crate::layout::{shelf_of, sink_of};
@@ -6,16 +8,25 @@ use crate::report::{Ran, show_more, show_wrong};
 use river_base::{NoMemory, Text};
 use river_outside::{MemShelf, MemSink};
 use std::alloc::Global;
+use std::thread::Threads;
 
 /// What is run.
 pub trait Runner {
     /// Does what the words say, and answers the status to end with.
-    fn run(&self, words: &[Text], shelf: &mut MemShelf, out: &mut MemSink, err: &mut MemSink) -> u8;
+    fn run<R: Threads + Sync>(
+        &self,
+        rt: &R,
+        words: &[Text],
+        shelf: &mut MemShelf,
+        out: &mut MemSink,
+        err: &mut MemSink,
+    ) -> u8
+        requires { IsSync R.row };
 }
 
 /// Whether a case gives what it says; where it runs a program, also with each of these lists of words behind its own. What it
 /// gave is printed where it does not.
-pub fn tries<R: Print, T: Runner>(
+pub fn tries<R: Print + Threads + Sync, T: Runner>(
     rt: &R,
     alloc: Global,
     runner: &T,
@@ -35,7 +46,7 @@ pub fn tries<R: Print, T: Runner>(
 }
 
 // The same with more words behind those of the case.
-fn tries_with<R: Print, T: Runner>(
+fn tries_with<R: Print + Threads + Sync, T: Runner>(
     rt: &R,
     alloc: Global,
     runner: &T,
@@ -83,7 +94,7 @@ fn is_among(words: &[Text], wanted: &[u8]) -> bool {
     false
 }
 
-fn tries_by<R: Print, T: Runner>(
+fn tries_by<R: Print + Threads + Sync, T: Runner>(
     rt: &R,
     alloc: Global,
     runner: &T,
@@ -94,7 +105,7 @@ fn tries_by<R: Print, T: Runner>(
     tries_over(rt, alloc, runner, case, words, &mut shelf)
 }
 
-fn tries_over<R: Print, T: Runner>(
+fn tries_over<R: Print + Threads + Sync, T: Runner>(
     rt: &R,
     alloc: Global,
     runner: &T,
@@ -106,7 +117,7 @@ fn tries_over<R: Print, T: Runner>(
     tries_writing(rt, alloc, runner, case, words, shelf, &mut out)
 }
 
-fn tries_writing<R: Print, T: Runner>(
+fn tries_writing<R: Print + Threads + Sync, T: Runner>(
     rt: &R,
     alloc: Global,
     runner: &T,
@@ -116,7 +127,7 @@ fn tries_writing<R: Print, T: Runner>(
     out: &mut MemSink,
 ) -> Result<bool, Fault> {
     let mut err = sink_of(alloc, &case.tells)?;
-    let status = runner.run(words, shelf, out, &mut err);
+    let status = runner.run(rt, words, shelf, out, &mut err);
     let ran = Ran {
         status,
         out: out.taken(),

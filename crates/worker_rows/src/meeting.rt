@@ -1,0 +1,125 @@
+// Two operators on two workers: each is to begin its first firing while the other's is held.
+ghost use Rattle.std.specs.Thread.{IsSync};
+
+use river_base::{Gate, Text};
+use river_cli::river;
+use river_outside::{MemShelf, MemSink};
+use std::alloc::Global;
+use std::sync::atomic::{AtomicU64, Ordering};
+use std::test::Fail;
+use std::thread::Threads;
+use worked_cases::{Runner, go_through};
+
+// For so many turns the first firing of an operator is held, at most.
+const TURNS: u32 = 500_000_000;
+
+// Two operators with an input each, and no queue between them.
+const TWO: &str = "\
+cases 1
+case two operators meet
+words run river two.river a=a.csv b=b.csv -w 2
+file two.river
+| output c: rows(1);
+| output d: rows(1);
+| input a: rows(1);
+| input b: rows(1);
+| op f: (c) <- (a) { code(1, 0) (1) () { push 0 ((input[0] + 1)); } }
+| op g: (d) <- (b) { code(1, 0) (1) () { push 0 ((input[0] * 2)); } }
+file a.csv
+| 1
+| 2
+file b.csv
+| 5
+| 6
+status 0
+out
+| # c
+| 2
+| 3
+| # d
+| 10
+| 12
+end
+";
+
+/// Holds the first firing of each of two operators until the other was entered.
+#[derive(Drop)]
+struct Meeting {
+    first: AtomicU64,
+    second: AtomicU64,
+    // How many gave up.
+    missed: AtomicU64,
+}
+
+impl Meeting {
+    fn new() -> Self {
+        Meeting {
+            first: AtomicU64::new(0),
+            second: AtomicU64::new(0),
+            missed: AtomicU64::new(0),
+        }
+    }
+
+    // Holds the first firing of one until the other was entered, or all turns are over.
+    fn hold(&self, own: &AtomicU64, other: &AtomicU64) {
+        if own.swap(1, Ordering::SeqCst) == 1 {
+            return;
+        }
+        for _turn in 0..TURNS {
+            if other.load(Ordering::SeqCst) == 1 {
+                return;
+            }
+        }
+        self.missed.fetch_add(1, Ordering::SeqCst);
+    }
+
+    // Whether both were entered, and none gave up.
+    fn has_met(&self) -> bool {
+        self.first.load(Ordering::SeqCst) == 1
+            && self.second.load(Ordering::SeqCst) == 1
+            && self.missed.load(Ordering::SeqCst) == 0
+    }
+}
+
+impl Gate for Meeting {
+    fn enter(&self, op: u32) {
+        if op == 0 {
+            self.hold(&self.first, &self.second)
+        } else {
+            self.hold(&self.second, &self.first)
+        }
+    }
+}
+
+// The top call with this gate.
+#[derive(Drop)]
+struct Meets {
+    alloc: Global,
+    gate: Meeting,
+}
+
+impl Runner for Meets {
+    fn run<R: Threads + Sync>(
+        &self,
+        rt: &R,
+        words: &[Text],
+        shelf: &mut MemShelf,
+        out: &mut MemSink,
+        err: &mut MemSink,
+    ) -> u8
+        requires { IsSync R.row }
+    {
+        river(rt, self.alloc, words, shelf, out, err, &self.gate)
+    }
+}
+
+#[test]
+fn two_must_meet(rt: HostRuntime) -> Result<(), Fail> {
+    let top = Meets {
+        alloc: rt.alloc(),
+        gate: Meeting::new(),
+    };
+    assert!(rt; go_through(&rt, rt.alloc(), &top, TWO)?);
+    assert!(rt; top.gate.has_met());
+    Ok(())
+}
