@@ -1,7 +1,6 @@
 -- The lists of a plan may be shared among threads.
 use denote.Param.Send.{IsSync, sendable}
 use Rattle.std.proofs.Crossing.{crosses}
-use Rattle.river_base.proofs.kind.QueueType.TheSendSync as queue
 use Rattle.river_base.proofs.listed.Listed.TheSendSync as listed
 use Rattle.river_base.proofs.name.Name.TheSendSync as name
 use Rattle.river_kernels.specs.contracts.kernel.Kernel as Kernel
