@@ -4,5 +4,6 @@ pub mod FitsLaw
 pub mod FoundLemmas
 pub mod KernLemmas
 pub mod LimitLemmas
+pub mod Shared
 pub mod TypeLemmas
 pub mod WellFormed

@@ -7,6 +7,7 @@ pub mod PlacedFaults
 pub mod Remains
 pub mod Searches
 pub mod ShareLemmas
+pub mod Shared
 pub mod UserCounts
 pub mod UserLemmas
 pub mod ValidLaw
