@@ -1,5 +1,5 @@
 // The lines of lock classes.
-ghost use Rattle.std.specs.Prelude.{◌≡◌, ◌≤◌, ◌<◌, ◌^◌, ◌++◌, ◌∷◌, [], ℕ, pos, length, map, codes, OnOk, if◌then◌else◌};
+ghost use Rattle.std.specs.Prelude.{◌≡◌, ◌≤◌, ◌<◌, ◌^◌, ◌++◌, ◌∷◌, [], ℕ, pos, length, map, codes, OnOk, OnErr, if◌then◌else◌};
 ghost use Rattle.std.specs.Ordering.{int_eq};
 ghost use Rattle.river_plan.specs.Forms.{table_names};
 ghost use Rattle.plan_classes.specs.Lines.{class_tables, class_line, class_lines, classes_text};
@@ -10,8 +10,18 @@ use river_base::{Bytes, NoMemory};
 use river_plan::{Plan, TableDecl};
 use std::alloc::Global;
 
-/// Appends a line for each lock class of the plan's tables.
+/// Appends a line for each lock class of the plan's tables; changes nothing where there is no memory.
 pub fn print_classes(alloc: Global, plan: &Plan, to: &mut Bytes) -> Result<(), NoMemory>
+    ensures ok { OnOk result (to.new ≡ to.old ++ classes_text plan.now) }
+    ensures err { OnErr result (to.new ≡ to.old) }
+{
+    let mut text = Bytes::new(alloc);
+    write_classes(alloc, plan, &mut text)?;
+    to.extend(text.as_slice())
+}
+
+// Appends these lines; where there is no memory, maybe a part of them.
+fn write_classes(alloc: Global, plan: &Plan, to: &mut Bytes) -> Result<(), NoMemory>
     ensures { OnOk result (to.new ≡ to.old ++ classes_text plan.now) }
 {
     let users = table_users(alloc, plan)?;

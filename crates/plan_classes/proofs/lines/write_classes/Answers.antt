@@ -6,7 +6,7 @@ use Rattle.lock_assign.specs.Numbered.{class_numbers}
 use Rattle.plan_classes.specs.Users.{table_users, having}
 use Rattle.plan_classes.specs.Lines.{class_lines}
 use Rattle.plan_classes.proofs.Named.{few_tables, map-length}
-use Rattle.plan_classes.proofs.lines.print_classes.Goals as goal
+use Rattle.plan_classes.proofs.lines.write_classes.Goals as goal
 
 pub print_lines-requires-clause-few : goal.print_lines-requires-clause-few
 print_lines-requires-clause-few c =
