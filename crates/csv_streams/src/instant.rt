@@ -1,5 +1,5 @@
 // Instants, and rows spread over them.
-ghost use Rattle.std.specs.Prelude.{◌≡◌, ◌≤◌, ◌-◌, ◌∷◌, [], ◌++◌, ℤ, List, true, length, take, drop, map, IfOk, OnOk};
+ghost use Rattle.std.specs.Prelude.{◌≡◌, ◌≤◌, ◌-◌, ◌∷◌, [], ◌++◌, ℤ, List, true, length, take, drop, map, IfOk, OnOk, OnErr};
 ghost use Rattle.std.specs.List.Sorted.{IsSortedByKey};
 ghost use Rattle.std.specs.Ordering.{int_cmp};
 ghost use Rattle.river_base.specs.Instants as time;
@@ -20,12 +20,17 @@ pub fn instants(alloc: Global, files: &TimedFiles) -> Result<Numbers, NoMemory>
     Ok(stamps)
 }
 
-/// Appends the timestamps of a file.
+/// Appends the timestamps of a file; changes nothing where there is no memory.
 pub fn add_stamps(file: &TimedRows, stamps: &mut Numbers) -> Result<(), NoMemory>
-    ensures { OnOk result (stamps.new ≡ stamps.old ++ map (λ (e : ℤ × List ℤ). e.0) file.now) }
+    ensures ok { OnOk result (stamps.new ≡ stamps.old ++ map (λ (e : ℤ × List ℤ). e.0) file.now) }
+    ensures err { OnErr result (stamps.new ≡ stamps.old) }
 {
+    let had = stamps.len();
     for entry in file.as_slice() {
-        stamps.push(entry.0)?;
+        if let Err(wanting) = stamps.push(entry.0) {
+            stamps.truncate(had);
+            return Err(wanting);
+        }
     }
     Ok(())
 }

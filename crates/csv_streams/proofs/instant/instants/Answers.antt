@@ -11,7 +11,7 @@ loop-place-preserved c =
     let later = drop (n + 1) files in
     let lt : n < length files = omega (arith, c.loop-place-test.true, c.len-place-end.ensures) in
     let left : drop n files ≡ file ∷ later = drop_more files n file lt ∙ ap (λ y. y ∷ later) (sym (c.at.ensures file)) in
-    ap (λ l. l ++ stamps later) c.in_ok-add_stamps.ensures
+    ap (λ l. l ++ stamps later) c.in_ok-add_stamps.ensures.ok
     ∙ append_assoc c.loop-place.stamps (map (λ (e : ℤ × List ℤ). e.0) file) (stamps later)
     ∙ ap (λ l. c.loop-place.stamps ++ stamps l) (sym left)
     ∙ c.loop-place.invariant
