@@ -1,5 +1,5 @@
 -- States keep their kernel's shape.
-use Rattle.std.proofs.Common.{◌≡◌, ℕ, zero, suc, ℤ, ◌+◌, ◌<◌, Bool, true, false, Some, None, List, [], ◌∷◌, ◌++◌, length, take, drop, refl, sym, ap, ◌∙◌, subst}
+use Rattle.std.proofs.Common.{◌≡◌, ℕ, zero, suc, ℤ, ◌+◌, ◌<◌, Bool, true, false, Some, None, List, [], ◌∷◌, length, take, drop, refl, sym, ap, ◌∙◌, subst}
 use Rattle.std.proofs.Common.{arith, length-drop, nat_lt, ⊎_elim}
 use Rattle.std.specs.Prelude.{if◌then◌else◌, nat_le, slice_index_or}
 use Rattle.std.specs.List.{AllByRecursion}
@@ -11,7 +11,7 @@ use Rattle.river_base.specs.Number.{count_of}
 use Rattle.river_base.specs.Places.{append_at}
 use Rattle.river_base.specs.Drain.{drain, pass_on}
 use Rattle.kern_rows.specs.Forms.{CodeForm, FilterForm}
-use Rattle.kern_rows.specs.Runs.{run_kept, Filtering, Filtered, filter_turns, next_run, after_run, received, run_at, needs, buffer_of}
+use Rattle.kern_rows.specs.Runs.{Filtering, Filtered, filter_turns, next_run, after_run, received, run_at, needs, buffer_of}
 use Rattle.kern_rows.specs.Needs.{HaveShares, IsJoiner}
 use Rattle.kern_rows.specs.Turns.{Turns, IsTurn, shares, ones, next_port, next_had, front_of, passed, rest_at, waiting, put, itself}
 use Rattle.kern_bags.specs.Steps.{window_one, streamer_one}

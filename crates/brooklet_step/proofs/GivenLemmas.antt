@@ -1,5 +1,5 @@
 -- Words, what queues at ports hold, and what states are.
-use Rattle.std.proofs.Common.{◌≡◌, ℕ, ℤ, pos, Bool, true, false, ◌*◌, replicate, Option, Some, None, List, [], ◌∷◌, ◌++◌, length, take, drop, refl, sym, ap, ◌∙◌, subst, arith, length-drop, length-append}
+use Rattle.std.proofs.Common.{◌≡◌, ℕ, ℤ, pos, Bool, true, false, replicate, Option, Some, None, List, [], ◌∷◌, ◌++◌, length, take, drop, refl, sym, ap, ◌∙◌, subst, arith, length-drop, length-append}
 use Rattle.std.specs.Prelude.{All, slice_get}
 use Rattle.std.proofs.lemmas.List.{length-take, length-replicate}
 use Rattle.std.proofs.Math.Seq.{drop-append_seam}
@@ -152,6 +152,7 @@ runs_by true = 0
 runs_by false = 1
 
 fresh_by : (o : Option RunForm) (b : Bool) → MayBeFresh o b → b ≡ is_fresh o (runs_by b)
+unfolding runs_by
 fresh_by None b h = h
 fresh_by (Some r) true h = refl
 fresh_by (Some r) false h = refl

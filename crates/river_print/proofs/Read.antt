@@ -237,7 +237,7 @@ filter n = gives-seen g.made_filter IsKernel
     (gives-both (gives-enclosed _ _ (λ m. gives-both count (gives-after _ (gives-both count (gives-after _ (gives-both count (gives-after _ count)))))) n)
     (gives-both (starts n) (gives-both (body n) (firsts n))))
     (λ v h. let f = ranged-first v.0.1.1.1 v.1.1.1 h.0.1.1.1 h.1.1.1 in
-      ((h.0.0, h.0.1.0, h.0.1.1.0, (h.0.0, h.0.1.1.1, h.1.1.0.0), h.1.0, f.0), (h.1.1.0.1, f.1), tt))
+    ((h.0.0, h.0.1.0, h.0.1.1.0, (h.0.0, h.0.1.1.1, h.1.1.0.0), h.1.0, f.0), (h.1.1.0.1, f.1), tt))
 
 -- a kernel that is one number in brackets, or some weights
 counted : (f : ℕ → Kern) → ((n : ℕ) → w.IsCount n → IsKernel (f n)) → (n : ℕ) → Gives (form.Seen f (Round (λ m. form.Count) n)) IsKernel

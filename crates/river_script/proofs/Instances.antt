@@ -1,5 +1,5 @@
 -- Scripts on small plans, computed: what they make, and which step is refused by which condition.
-use Rattle.std.proofs.Common.{◌≡◌, pos, List, [], ◌∷◌, refl}
+use Rattle.std.proofs.Common.{◌≡◌, pos, None, List, [], ◌∷◌, refl}
 use Rattle.std.specs.Prelude.{Ok, Err, codes}
 use Rattle.river_base.specs.declared.kind.QueueType.{QueueType}
 use Rattle.work_code.specs.declared.expr.BinOp.TheVariants as op

@@ -1,5 +1,5 @@
 -- Steps that are accepted, one of each form, and steps that are refused.
-use Rattle.std.proofs.Common.{◌≡◌, ℕ, pos, List, [], ◌∷◌, ◌++◌, refl}
+use Rattle.std.proofs.Common.{◌≡◌, ℕ, pos, None, List, [], ◌∷◌, ◌++◌, refl}
 use Rattle.std.specs.Prelude.{map, Ok, Err, Result}
 use Rattle.kern_tables.specs.declared.kind.TableKind.TheVariants.{Sum}
 use Rattle.river_kernels.specs.Fits.{rows, relation, stream}
