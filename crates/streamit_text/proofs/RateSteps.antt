@@ -6,10 +6,12 @@ use Rattle.text_forms.specs.Parse as parse
 use Rattle.text_forms.specs.Repeat.{Stop, after_turn, turns, repeated}
 use Rattle.text_forms.proofs.Many.{many-shortens}
 use Rattle.text_forms.proofs.Repeat.{repeated-next, repeated-stop, repeated-fail}
-use Rattle.streamit_text.specs.Program.{filter_tree}
+use Rattle.text_blocks.specs.Parts.{optional}
+use Rattle.streamit_text.specs.Program.{filter_tree, work_tree}
 use Rattle.streamit_text.specs.Tree.{block, optional_block}
 use Rattle.streamit_text.specs.declared.tree.FilterTree.{FilterTree}
-use Rattle.streamit_text.specs.Grammar.{Rate, Rates, unwritten, on_some, with_rate, rates_in, made_filter}
+use Rattle.streamit_text.specs.declared.tree.WorkTree.{WorkTree}
+use Rattle.streamit_text.specs.Grammar.{Rate, Rates, unwritten, on_some, with_rate, rates_in, made_work, made_filter}
 use Rattle.streamit_text.specs.Reading.{at_block, rate_at, rate_list_at, rates_at}
 use Rattle.streamit_text.specs.View.{rates_of}
 use Rattle.streamit_text.proofs.Units.{exact-rate, listed-rates}
@@ -90,7 +92,11 @@ rate-shortens ts us v e =
 pub ruleset rates = (rates-start, rates-stop, rates-bad, rates-next, rates-twice, rate-shortens)
 
 -- the filter that the grammar makes
-pub filter-made : (t : FilterTree) → made_filter (t.fields.items, (optional_block t.init, (rates_of t.rates, block t.work))) ≡ filter_tree t
+pub filter-made : (t : FilterTree) → made_filter (t.fields.items, (optional_block t.init, (optional work_tree t.prework, work_tree t.work))) ≡ filter_tree t
 filter-made t = refl
 
-pub ruleset filters = (filter-made)
+-- and the `work` of one
+pub work-made : (w : WorkTree) → made_work (rates_of w.rates, block w.block) ≡ work_tree w
+work-made w = refl
+
+pub ruleset filters = (filter-made, work-made)

@@ -16,13 +16,13 @@ use Rattle.text_blocks.proofs.Parts.{exact-round}
 use Rattle.text_blocks.proofs.Statements as blocks
 use Rattle.streamit_text.specs.ExactLeaves.{apart}
 use Rattle.streamit_text.specs.ExactStatements.{exact-own, exact-empty, exact-streamit}
-use Rattle.streamit_text.specs.Program.{Turns, Body, AFilter, APipeline}
+use Rattle.streamit_text.specs.Program.{WorkTree, Turns, Body, AFilter, APipeline}
 use Rattle.streamit_text.specs.Tree.{Block, Optional, or_unwritten}
 use Rattle.streamit_text.specs.Grammar.{Weight, stay, IsBlock, IsInit, IsField, push, pop, peek, IsRate, Rates, rates_in, unwritten, AreRates}
-use Rattle.streamit_text.specs.Grammar.{made_filter, InFilter, Braces, none_there, Parens, the_name, Called, IsAdd, made_adds, AreAdds, Weights, copying}
+use Rattle.streamit_text.specs.Grammar.{made_work, IsWork, IsPrework, AreWorks, made_filter, InFilter, Braces, none_there, Parens, the_name, Called, IsAdd, made_adds, AreAdds, Weights, copying}
 use Rattle.streamit_text.specs.Grammar.{IsSplit, IsJoin, made_both, InBoth, BodyAfter, made_unit, KindAfter, IsUnit, IsUnitAt}
 use Rattle.streamit_text.specs.Reading.{block_at, still_at, init_at, no_field, field_at, fields_at, rate_after, rate_at, at_block, rate_list_at, rates_at}
-use Rattle.streamit_text.specs.Reading.{in_filter_at, filter_at, parens_at, called_at, add_at, no_add, more_adds_at, adds_at, weight_at, listed_at, weights_at}
+use Rattle.streamit_text.specs.Reading.{work_at, prework_at, works_at, in_filter_at, filter_at, parens_at, called_at, add_at, no_add, more_adds_at, adds_at, weight_at, listed_at, weights_at}
 use Rattle.streamit_text.specs.Reading.{split_after, split_at, join_at, in_both_at, pipe_at, both_at, body_after, kind_after, unit_at, unit_from}
 
 -- a block
@@ -91,19 +91,39 @@ block-begins : (n : ℕ) (v : Block) (ts rest : List Tok) → IsBlock n v ts →
 block-begins zero v ts rest h = absurd h
 block-begins (suc n) v ts rest h = rw h.is refl
 
+-- rates and a block
+exact-work : (n : ℕ) → Exact (IsWork n) (work_at n) Any
+unfolding work_at
+exact-work n = exact-seen made_work (exact-both exact-rates (exact-block n) (λ y ts rest g d. block-begins n y ts rest g))
+
+exact-prework : (n : ℕ) → Exact (IsPrework n) (prework_at n) (No (codes "prework"))
+unfolding prework_at
+exact-prework n = exact-less (exact-maybe (parse.is_word_at (codes "prework")) (exact-after_word (codes "prework") (exact-work n)) comes) (λ rest d. (tt, d)) where
+  comes : (v : WorkTree) (ts rest : List Tok) → form.AfterWord (codes "prework") (IsWork n) v ts → parse.is_word_at (codes "prework") (ts ++ rest) ≡ true
+  comes v ts rest h = rw h.is refl
+
+exact-works : (n : ℕ) → Exact (AreWorks n) (works_at n) Any
+unfolding works_at
+exact-works n = exact-both (exact-prework n) (exact-after_word (codes "work") (exact-work n)) (λ y ts rest g d. rw g.is refl)
+
+-- what stands behind `init` begins with `prework` or `work`
+works-follow : (n : ℕ) (v : Option WorkTree × WorkTree) (ts rest : List Tok) → AreWorks n v ts → (no_field (ts ++ rest) ≡ true) × No (codes "init") (ts ++ rest)
+works-follow n v ts rest h = by v.0 h.first where
+  by : (o : Option WorkTree) → IsPrework n o h.front → (no_field (ts ++ rest) ≡ true) × No (codes "init") (ts ++ rest)
+  by None g = (rw (h.is, g, h.second.is) refl, rw (h.is, g, h.second.is) refl)
+  by (Some w) g = (rw (h.is, append_assoc h.front h.back rest, g.is) refl, rw (h.is, append_assoc h.front h.back rest, g.is) refl)
+
 -- behind the fields comes no field
-init-follows : (n : ℕ) (v : Optional × (Rates × Block)) (ts rest : List Tok)
-    → form.Both (IsInit n) (form.AfterWord (codes "work") (form.Both AreRates (IsBlock n))) v ts → no_field (ts ++ rest) ≡ true
+init-follows : (n : ℕ) (v : Optional × (Option WorkTree × WorkTree)) (ts rest : List Tok) → form.Both (IsInit n) (AreWorks n) v ts → no_field (ts ++ rest) ≡ true
 init-follows n v ts rest h = by h.first.value h.first.formed where
   by : (o : Option Block) → form.Maybe (form.AfterWord (codes "init") (form.Tested stay (IsBlock n))) o h.front → no_field (ts ++ rest) ≡ true
-  by None g = rw (h.is, g, h.second.is) refl
+  by None g = rw (h.is, g) (works-follow n v.1 h.back rest h.second).0
   by (Some b) g = rw (h.is, append_assoc h.front h.back rest, g.is) refl
 
 exact-in_filter : (n : ℕ) → Exact (InFilter n) (in_filter_at n) Any
 unfolding in_filter_at
 exact-in_filter n =
-    exact-seen made_filter (exact-both exact-fields (exact-both (exact-init n) (exact-after_word (codes "work")
-    (exact-both exact-rates (exact-block n) (λ y ts rest g d. block-begins n y ts rest g))) (λ y ts rest g d. rw g.is refl))
+    exact-seen made_filter (exact-both exact-fields (exact-both (exact-init n) (exact-works n) (λ y ts rest g d. (works-follow n y ts rest g).1))
     (λ y ts rest g d. init-follows n y ts rest g))
 
 exact-filter : (n : ℕ) → Exact (Braces InFilter n) (filter_at n) Any

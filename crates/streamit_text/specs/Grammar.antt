@@ -15,7 +15,7 @@ use Rattle.text_blocks.specs.Statements as statements
 use Rattle.streamit_text.specs.Blocks.{Own, Empty, style, holes}
 use Rattle.streamit_text.specs.Expressions.{IsExpression, expr_at}
 use Rattle.streamit_text.specs.Leaves.{IsLeaf, leaf_at}
-use Rattle.streamit_text.specs.Program.{FilterTree, Dealing, Copies, Turns, Adds, Body, AFilter, APipeline, ASplitJoin, Declared, Program}
+use Rattle.streamit_text.specs.Program.{WorkTree, FilterTree, Dealing, Copies, Turns, Adds, Body, AFilter, APipeline, ASplitJoin, Declared, Program}
 use Rattle.streamit_text.specs.Tree.{Expression, Statement, Declare, Assign, Push, Discard, If, For, Block, End, Then, Optional, Unwritten, Written}
 use Rattle.streamit_text.specs.Tree.{or_unwritten}
 use Rattle.streamit_text.specs.Tree as tree
@@ -111,14 +111,26 @@ rates_in r (x ∷ xs) = on_some (with_rate r x) (λ q. rates_in q xs)
 abbrev pub AreRates : Rates → List Tok → Type 0
 AreRates = Known (rates_in unwritten) (Each IsRate)
 
--- filter = "{" { "int" NAME ";" } ["init" block] "work" rates block "}"
-abbrev pub made_filter : List (List ℕ) × (Optional × (Rates × Block)) → FilterTree
-made_filter v =
-    let r = v.1.1.0 in
-    record { fields = v.0; init = v.1.0; push = r.push; pop = r.pop; peek = r.peek; work = v.1.1.1 }
+-- rates block
+abbrev pub made_work : Rates × Block → WorkTree
+made_work v = record { push = v.0.push; pop = v.0.pop; peek = v.0.peek; block = v.1 }
+
+abbrev pub IsWork : ℕ → WorkTree → List Tok → Type 0
+IsWork n = Seen made_work (Both AreRates (IsBlock n))
+
+-- ["prework" rates block] "work" rates block
+abbrev pub IsPrework : ℕ → Option WorkTree → List Tok → Type 0
+IsPrework n = Maybe (AfterWord (codes "prework") (IsWork n))
+
+abbrev pub AreWorks : ℕ → Option WorkTree × WorkTree → List Tok → Type 0
+AreWorks n = Both (IsPrework n) (AfterWord (codes "work") (IsWork n))
+
+-- filter = "{" { "int" NAME ";" } ["init" block] ["prework" rates block] "work" rates block "}"
+abbrev pub made_filter : List (List ℕ) × (Optional × (Option WorkTree × WorkTree)) → FilterTree
+made_filter v = record { fields = v.0; init = v.1.0; prework = v.1.1.0; work = v.1.1.1 }
 
 abbrev pub InFilter : ℕ → FilterTree → List Tok → Type 0
-InFilter n = Seen made_filter (Both (Each IsField) (Both (IsInit n) (AfterWord (codes "work") (Both AreRates (IsBlock n)))))
+InFilter n = Seen made_filter (Both (Each IsField) (Both (IsInit n) (AreWorks n)))
 
 abbrev pub Braces : {A : Type 0} → (ℕ → A → List Tok → Type 0) → ℕ → A → List Tok → Type 0
 Braces F = Enclosed s.OpenBrace s.CloseBrace F

@@ -4,6 +4,7 @@ use Rattle.std.proofs.Common.{Vec, Global}
 use Rattle.text_blocks.specs.Parts.{optional}
 use Rattle.streamit_text.specs.Tree.{Block, Optional, block, optional_block}
 use Rattle.streamit_text.specs.declared.tree.FilterTree as code
+use Rattle.streamit_text.specs.declared.tree.WorkTree as written_work
 use Rattle.streamit_text.specs.declared.program.RoundRobin.{RoundRobin}
 use Rattle.streamit_text.specs.declared.program.Split.{Split}
 use Rattle.streamit_text.specs.declared.program.Split.TheVariants as split
@@ -12,14 +13,19 @@ use Rattle.streamit_text.specs.declared.program.Body as tree
 use Rattle.streamit_text.specs.declared.program.Body.TheVariants as body
 use Rattle.streamit_text.specs.declared.program.Declaration.{Declaration}
 
--- a filter: its fields, `init`, its rates and `work`; `init` and the rates may be left out
-pub record FilterTree : Type 0 where
-  pub fields : List (List ℕ)
-  pub init : Optional
+-- `work` or `prework`: its rates, which may be left out, and its block
+pub record WorkTree : Type 0 where
   pub push : Option ℕ
   pub pop : Option ℕ
   pub peek : Option ℕ
-  pub work : Block
+  pub block : Block
+
+-- a filter: its fields, `init`, `prework` and `work`; `init` and `prework` may be left out
+pub record FilterTree : Type 0 where
+  pub fields : List (List ℕ)
+  pub init : Optional
+  pub prework : Option WorkTree
+  pub work : WorkTree
 
 -- how a splitter is written: weights as they stand in its brackets, where there are brackets
 pub data Dealing : Type 0 where
@@ -48,9 +54,11 @@ Program = List Declared
 
 -- WHAT THE CODE'S TREES STAND FOR
 
+abbrev pub work_tree : written_work.WorkTree → WorkTree
+work_tree w = record { push = w.rates.push; pop = w.rates.pop; peek = w.rates.peek; block = block w.block }
+
 abbrev pub filter_tree : code.FilterTree → FilterTree
-filter_tree t =
-    record { fields = t.fields.items; init = optional_block t.init; push = t.rates.push; pop = t.rates.pop; peek = t.rates.peek; work = block t.work }
+filter_tree t = record { fields = t.fields.items; init = optional_block t.init; prework = optional work_tree t.prework; work = work_tree t.work }
 
 abbrev pub items_of : Vec ℕ Global → List ℕ
 items_of v = v.items

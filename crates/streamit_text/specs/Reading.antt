@@ -11,9 +11,9 @@ use Rattle.text_blocks.specs.Reading as blocks
 use Rattle.streamit_text.specs.Blocks.{own_at, empty_at, style}
 use Rattle.streamit_text.specs.Expressions.{expr_at}
 use Rattle.streamit_text.specs.Leaves.{leaf_at}
-use Rattle.streamit_text.specs.Program.{FilterTree, Dealing, Turns, Adds, Body, AFilter, APipeline, Declared}
+use Rattle.streamit_text.specs.Program.{WorkTree, FilterTree, Dealing, Turns, Adds, Body, AFilter, APipeline, Declared}
 use Rattle.streamit_text.specs.Tree.{Block, Optional, or_unwritten}
-use Rattle.streamit_text.specs.Grammar.{stay, Rate, push, pop, peek, Rates, unwritten, rates_in, made_filter, none_there, the_name, made_adds, copying}
+use Rattle.streamit_text.specs.Grammar.{stay, Rate, push, pop, peek, Rates, unwritten, rates_in, made_work, made_filter, none_there, the_name, made_adds, copying}
 use Rattle.streamit_text.specs.Grammar.{made_both, made_unit, next_unit}
 
 -- a block of a filter
@@ -54,8 +54,17 @@ rate_list_at ts = many at_block rate_at ts
 unfoldable pub rates_at : Parse Rates
 rates_at ts = known (rates_in unwritten) rate_list_at ts
 
+unfoldable pub work_at : ℕ → Parse WorkTree
+work_at n ts = seen made_work (both rates_at (block_at n)) ts
+
+unfoldable pub prework_at : ℕ → Parse (Option WorkTree)
+prework_at n ts = maybe (is_word_at (codes "prework")) (after_word (codes "prework") (work_at n)) ts
+
+unfoldable pub works_at : ℕ → Parse (Option WorkTree × WorkTree)
+works_at n ts = both (prework_at n) (after_word (codes "work") (work_at n)) ts
+
 unfoldable pub in_filter_at : ℕ → Parse FilterTree
-in_filter_at n ts = seen made_filter (both fields_at (both (init_at n) (after_word (codes "work") (both rates_at (block_at n))))) ts
+in_filter_at n ts = seen made_filter (both fields_at (both (init_at n) (works_at n))) ts
 
 abbrev pub braces : {A : Type 0} → (ℕ → Parse A) → ℕ → Parse A
 braces p = enclosed s.OpenBrace s.CloseBrace p

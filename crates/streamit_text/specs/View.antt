@@ -2,7 +2,8 @@
 use Rattle.std.specs.Prelude.{Bool, Option, None, Some}
 use Rattle.streamit_text.specs.Blocks.{Head}
 use Rattle.streamit_text.specs.Grammar as grammar
-use Rattle.streamit_text.specs.Program.{Body, ASplitJoin, weights_of, dealing_of, adds_of}
+use Rattle.text_blocks.specs.Parts.{optional}
+use Rattle.streamit_text.specs.Program.{WorkTree, work_tree, Body, ASplitJoin, weights_of, dealing_of, adds_of}
 use Rattle.streamit_text.specs.Tree.{Expression, expression, is_turn}
 use Rattle.streamit_text.specs.declared.filter.Rate.{Rate}
 use Rattle.streamit_text.specs.declared.filter.Rate.TheVariants as code_rate
@@ -10,6 +11,7 @@ use Rattle.streamit_text.specs.declared.program.SplitJoin.{SplitJoin}
 use Rattle.streamit_text.specs.declared.statement.ForHead as code
 use Rattle.streamit_text.specs.declared.statement.Upper.{Upper}
 use Rattle.streamit_text.specs.declared.tree.Rates.{Rates}
+use Rattle.streamit_text.specs.declared.tree.WorkTree as code_work
 
 abbrev pub head_of : code.ForHead → Head
 head_of h = record { name = h.name; low = expression h.low; upto = is_turn h.upper.until; high = expression h.upper.high }
@@ -27,6 +29,9 @@ rate_of (code_rate.Peek n) = grammar.peek n
 
 abbrev pub rates_of : Rates → grammar.Rates
 rates_of r = record { push = r.push; pop = r.pop; peek = r.peek }
+
+abbrev pub works_tree : Option code_work.WorkTree × code_work.WorkTree → Option WorkTree × WorkTree
+works_tree w = (optional work_tree w.0, work_tree w.1)
 
 abbrev pub option_rates : Option Rates → Option grammar.Rates
 option_rates None = None

@@ -2,15 +2,16 @@
 ghost use Rattle.std.specs.Prelude.{◌≡◌};
 ghost use Rattle.text_forms.specs.Gives.{Gives};
 ghost use Rattle.streamit_text.specs.Grammar.{with_rate};
-ghost use Rattle.streamit_text.specs.Program.{filter_tree};
+ghost use Rattle.text_blocks.specs.Parts.{optional};
+ghost use Rattle.streamit_text.specs.Program.{work_tree, filter_tree};
 ghost use Rattle.streamit_text.specs.Tree.{block, optional_block};
-ghost use Rattle.streamit_text.specs.View.{rate_of, rates_of, option_rates};
-ghost use Rattle.streamit_text.specs.Reading.{field_at, fields_at, rate_after, rate_at, rates_at, still_at, init_at, in_filter_at, filter_at};
+ghost use Rattle.streamit_text.specs.View.{rate_of, rates_of, option_rates, works_tree};
+ghost use Rattle.streamit_text.specs.Reading.{field_at, fields_at, rate_after, rate_at, rates_at, still_at, init_at, work_at, prework_at, works_at, in_filter_at, filter_at};
 
 use crate::names::name;
 use crate::statement::block;
 use crate::still::stay;
-use crate::{Block, FilterTree, Rates};
+use crate::{Block, FilterTree, Rates, WorkTree};
 use river_base::Name;
 use std::alloc::Global;
 use text_forms::{Fault, Reader};
@@ -139,6 +140,43 @@ fn init(reader: &mut Reader<'_>, alloc: Global, brackets: u32) -> Result<Option<
     Ok(Some(still(reader, alloc, brackets)?))
 }
 
+// Rates and a block.
+#[tactic(auto, unfolding(crate::specs::Reading::work_at), using(crate::proofs::RateSteps::filters))]
+fn work(reader: &mut Reader<'_>, alloc: Global, brackets: u32) -> Result<WorkTree, Fault>
+    ensures { Gives work_tree result reader.new (work_at brackets reader.old) }
+{
+    let rates = rates(reader)?;
+    let block = block(reader, alloc, brackets)?;
+    Ok(WorkTree { rates, block })
+}
+
+// `prework`, its rates and its block, or nothing.
+#[tactic(auto, unfolding(crate::specs::Reading::prework_at))]
+fn prework(reader: &mut Reader<'_>, alloc: Global, brackets: u32) -> Result<Option<WorkTree>, Fault>
+    ensures { Gives (optional work_tree) result reader.new (prework_at brackets reader.old) }
+{
+    if !reader.is_at_word(b"prework") {
+        return Ok(None);
+    }
+    reader.skip();
+    Ok(Some(work(reader, alloc, brackets)?))
+}
+
+// `prework`, which may be left out, and `work`.
+#[tactic(auto, unfolding(crate::specs::Reading::works_at))]
+fn works(
+    reader: &mut Reader<'_>,
+    alloc: Global,
+    brackets: u32,
+) -> Result<(Option<WorkTree>, WorkTree), Fault>
+    ensures { Gives works_tree result reader.new (works_at brackets reader.old) }
+{
+    let prework = prework(reader, alloc, brackets)?;
+    reader.word(b"work")?;
+    let work = work(reader, alloc, brackets)?;
+    Ok((prework, work))
+}
+
 // What stands between the braces of a filter.
 #[tactic(auto, unfolding(crate::specs::Reading::in_filter_at), using(crate::proofs::RateSteps::filters))]
 fn in_filter(reader: &mut Reader<'_>, alloc: Global, brackets: u32) -> Result<FilterTree, Fault>
@@ -146,13 +184,11 @@ fn in_filter(reader: &mut Reader<'_>, alloc: Global, brackets: u32) -> Result<Fi
 {
     let fields = fields(reader, alloc)?;
     let init = init(reader, alloc, brackets)?;
-    reader.word(b"work")?;
-    let rates = rates(reader)?;
-    let work = block(reader, alloc, brackets)?;
+    let (prework, work) = works(reader, alloc, brackets)?;
     Ok(FilterTree {
         fields,
         init,
-        rates,
+        prework,
         work,
     })
 }

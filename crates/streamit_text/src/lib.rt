@@ -19,4 +19,4 @@ pub use program::{Adds, Body, Declaration, RoundRobin, Split, SplitJoin};
 pub use read::read_streamit;
 pub use statement::{ForHead, Upper};
 pub use term::{Sign, Streamit};
-pub use tree::{Block, Expr, FilterTree, Rates, Statement, Until};
+pub use tree::{Block, Expr, FilterTree, Rates, Statement, Until, WorkTree};

@@ -3,13 +3,20 @@
 use river_base::Name;
 use work_code::BinOp;
 
-/// A filter as it is written: its fields, `init`, its rates and `work`.
+/// A filter as it is written: its fields, `init`, `prework` for its first firing, and `work`.
 #[derive(Drop)]
 pub struct FilterTree {
     pub fields: Vec<Name>,
     pub init: Option<Block>,
+    pub prework: Option<WorkTree>,
+    pub work: WorkTree,
+}
+
+/// `work` or `prework` as it is written: its rates and its block.
+#[derive(Drop)]
+pub struct WorkTree {
     pub rates: Rates,
-    pub work: Block,
+    pub block: Block,
 }
 
 /// The rates that are written, each of them once at most.
