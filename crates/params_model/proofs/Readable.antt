@@ -163,7 +163,7 @@ module _ (ps : List (List ℕ)) where
   push-told : (k n : ℕ) (v : Statement) (ts : List Tok) → IsPush F n v ts → Once k v
   push-told k n v ts h = subst (Once k) (sym h.is) (round-told n h.value h.formed.front h.formed.formed)
 
-  discard-told : (k n : ℕ) (v : Statement) (ts : List Tok) → IsDiscard n v ts → Once k v
+  discard-told : (k n : ℕ) (v : Statement) (ts : List Tok) → IsDiscard F n v ts → Once k v
   discard-told k n v ts h = subst (Once k) (sym h.is) tt
 
   plain-told : (k n : ℕ) (w : List ℕ) (v : Statement) (ts : List Tok) → IsPlain F n w v ts → Once k v

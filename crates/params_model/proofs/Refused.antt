@@ -1,5 +1,5 @@
 -- A program is refused for its text exactly where its first faulty place says.
-use Rattle.std.proofs.Common.{◌≡◌, ◌⊎◌, ℕ, suc, Bool, true, false, not, ◌||◌, ◌&&◌, Option, Some, None, Ok, Err, inl, inr, List, [], ◌∷◌, ◌++◌, length, refl, sym, ap, ◌∙◌, subst, ⊎_elim}
+use Rattle.std.proofs.Common.{◌≡◌, ◌⊎◌, ℕ, suc, Bool, true, false, not, ◌||◌, ◌&&◌, Option, Some, None, Ok, Err, inl, inr, List, [], ◌∷◌, ◌++◌, length, refl, sym, ap, ◌∙◌, subst, ⊎_elim, arith}
 use Rattle.std.specs.Prelude.{if◌then◌else◌, nat_eq}
 use Rattle.std.specs.List.{AllByRecursion}
 use Rattle.std.proofs.lemmas.Bool.Decides.{nat_tests}
@@ -57,10 +57,10 @@ true_false : true ≡ false → ⊥
 true_false h = cc h
 
 same_number : (m n : ℕ) → nat_eq m n ≡ true → m ≡ n
-same_number m n h = grind (nat_tests, h)
+same_number m n h = grind (arith, nat_tests, h)
 
 number_self : (n : ℕ) → nat_eq n n ≡ true
-number_self n = grind nat_tests
+number_self n = grind (arith, nat_tests)
 
 arity : (o : Option ℕ) (n : ℕ) → has_arity o n ≡ true → o ≡ Some n
 arity None n h = absurd (cc h)
@@ -273,13 +273,13 @@ refused-same unit f r e = (cc e, cc e)
 
 parted : (ps : List Place) (r : Refusal) → all_tested ps ≡ Err r → Parted ps r
 parted [] r h = absurd (cc h)
-parted (p ∷ ps) r h = by (test p.spot) refl where
+parted (p ∷ ps) r h = by (parted ps r) (test p.spot) refl where
   here : Bool → Judgement
   here b = and_then (demand b p.unit (fault_of p.spot)) (all_tested ps)
 
-  by : (b : Bool) → test p.spot ≡ b → Parted (p ∷ ps) r
-  by true e =
-      let q = parted ps r (sym (ap here e) ∙ h) in
+  by : (all_tested ps ≡ Err r → Parted ps r) → (b : Bool) → test p.spot ≡ b → Parted (p ∷ ps) r
+  by more true e =
+      let q = more (sym (ap here e) ∙ h) in
       record {
         before = p ∷ q.before;
         place = q.place;
@@ -290,7 +290,7 @@ parted (p ∷ ps) r h = by (test p.spot) refl where
         fault = q.fault;
         there = q.there;
       }
-  by false e =
+  by more false e =
       let s = refused-same p.unit (fault_of p.spot) r (sym (ap here e) ∙ h) in
       record { before = []; place = p; behind = ps; is = refl; all = tt; bad = wrong p.spot e; fault = s.0; there = s.1 }
 
@@ -315,13 +315,13 @@ refuses (q ∷ qs) p behind a w =
 
 all-right : (ps : List Place) → all_tested ps ≡ Ok tt → AllByRecursion IsRight ps
 all-right [] h = tt
-all-right (p ∷ ps) h = by (test p.spot) refl where
+all-right (p ∷ ps) h = by (all-right ps) (test p.spot) refl where
   here : Bool → Judgement
   here b = and_then (demand b p.unit (fault_of p.spot)) (all_tested ps)
 
-  by : (b : Bool) → test p.spot ≡ b → AllByRecursion IsRight (p ∷ ps)
-  by true e = (right p.spot e, all-right ps (sym (ap here e) ∙ h))
-  by false e = absurd (no (sym (ap here e) ∙ h)) where
+  by : (all_tested ps ≡ Ok tt → AllByRecursion IsRight ps) → (b : Bool) → test p.spot ≡ b → AllByRecursion IsRight (p ∷ ps)
+  by more true e = (right p.spot e, more (sym (ap here e) ∙ h))
+  by more false e = absurd (no (sym (ap here e) ∙ h)) where
     no : ◌≡◌ {A = Judgement} (Err (record { unit = p.unit; fault = fault_of p.spot })) (Ok tt) → ⊥
     no g = cc g
 

@@ -4,7 +4,6 @@ use Rattle.streamit_text.specs.Tree.{Expression}
 use Rattle.streamit_text.specs.Tree as tree
 use Rattle.river_plan.specs.Forms.{Name}
 use Rattle.streamit_text.specs.Tree.{Statement, Declare, Assign, Push, Discard, If, For, Block, Optional, Unwritten, Written}
-use Rattle.streamit_text.specs.Tree as block
 use Rattle.streamit_model.specs.Meaning.{look}
 use Rattle.params_text.specs.Params.{is_one_of}
 use Rattle.params_text.specs.Program.{ParamWork, ParamFilter, Step, Add, Loop, Steps, End, Then, Dealing, Copies, Turns, Body, AFilter, APipeline, ASplitJoin, Declared, ParamProgram}
@@ -62,8 +61,8 @@ abbrev mutual
   statement_judged unit ps (For n low upto high b) = and_then (demand (not (is_one_of ps n)) unit NameTwice) (block_judged unit ps b)
 
   pub block_judged : ℕ → List Name → Block → Judgement
-  block_judged unit ps block.End = no_fault
-  block_judged unit ps (block.Then c b) = and_then (statement_judged unit ps c) (block_judged unit ps b)
+  block_judged unit ps tree.End = no_fault
+  block_judged unit ps (tree.Then c b) = and_then (statement_judged unit ps c) (block_judged unit ps b)
 
   pub optional_judged : ℕ → List Name → Optional → Judgement
   optional_judged unit ps Unwritten = no_fault

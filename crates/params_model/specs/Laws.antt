@@ -5,7 +5,6 @@ use Rattle.streamit_text.specs.Tree.{Expression}
 use Rattle.streamit_text.specs.Tree as tree
 use Rattle.river_plan.specs.Forms.{Name}
 use Rattle.streamit_text.specs.Tree.{Statement, Declare, Assign, Push, Discard, If, For, Block, Optional, Unwritten, Written}
-use Rattle.streamit_text.specs.Tree as block
 use Rattle.streamit_model.specs.Meaning.{program_outputs}
 use Rattle.params_text.specs.Program.{Step, Add, Loop, Steps, End, Then, ParamWork, ParamFilter, Body, AFilter, APipeline, ASplitJoin, Declared, ParamProgram}
 use Rattle.params_model.specs.Meaning.{last_works, params_outputs}
@@ -37,8 +36,8 @@ abbrev mutual
   SparesOnce ps (For n low upto high b) = Differs ps n × SparesAll ps b
 
   pub SparesAll : List Name → Block → Type 0
-  SparesAll ps block.End = Unit {0}
-  SparesAll ps (block.Then c b) = SparesOnce ps c × SparesAll ps b
+  SparesAll ps tree.End = Unit {0}
+  SparesAll ps (tree.Then c b) = SparesOnce ps c × SparesAll ps b
 
   pub SparesOptional : List Name → Optional → Type 0
   SparesOptional ps Unwritten = Unit {0}

@@ -22,10 +22,10 @@ use Rattle.params_text.specs.Steps.{constant_at, param_at, is_brief}
 use Rattle.params_text.proofs.UnitReads.{exact-step, listed-steps}
 
 -- a name that is brief
-brief-is : (n : ℕ) → n ≤ 32 → nat_le n 32 ≡ true
+pub brief-is : (n : ℕ) → n ≤ 32 → nat_le n 32 ≡ true
 brief-is n h = grind (arith, nat_tests, h)
 
-brief-no : (n : ℕ) → 32 < n → nat_le n 32 ≡ false
+pub brief-no : (n : ℕ) → 32 < n → nat_le n 32 ≡ false
 brief-no n h = grind (arith, nat_tests, h)
 
 pub ruleset briefs = (brief-is, brief-no)
@@ -39,7 +39,7 @@ shorter x ts us v e =
     omega arith
 
 -- a symbol that is taken
-taken-shorter : (x : Symbol) (ts : List Tok) → parse.begins_with x ts ≡ true → length (tail ts) < length ts
+pub taken-shorter : (x : Symbol) (ts : List Tok) → parse.begins_with x ts ≡ true → length (tail ts) < length ts
 taken-shorter x ts e = let size : length ts ≡ suc (length (tail ts)) = ap length (begins_with-is x ts e) in omega arith
 
 -- PARAMETERS

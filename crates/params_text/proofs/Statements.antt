@@ -217,7 +217,7 @@ empty-formed : (n : ℕ) → 1 ≤ n → Empty n tt (symbol s.Open ∷ symbol s.
 empty-formed zero room = absurd (omega (arith, room))
 empty-formed (suc n) room = record { back = symbol s.Close ∷ []; is = refl; formed = record { front = []; is = refl; formed = (refl, refl) } }
 
-pop-formed : (n : ℕ) → 1 ≤ n → IsDiscard n Discard (symbol s.Open ∷ symbol s.Close ∷ symbol s.Semicolon ∷ [])
+pop-formed : (n : ℕ) → 1 ≤ n → IsDiscard Expr n Discard (symbol s.Open ∷ symbol s.Close ∷ symbol s.Semicolon ∷ [])
 pop-formed n room = record { value = tt; is = refl; formed = record { front = symbol s.Open ∷ symbol s.Close ∷ []; is = refl; formed = empty-formed n room } }
 
 upto-formed : (b : Bool) → Upto b (symbol (below b) ∷ [])
@@ -311,13 +311,13 @@ simple zero n w c back e h = record { word = w; back = back; is = refl; formed =
 simple (suc nest) n w c back e h = record { word = w; back = back; is = refl; formed = by_plain (opening w) _ _ _ c back e h }
 
 own-opens : (w : List ℕ) → IsNoWord w → opening w ≡ opens.Plain
-own-opens w no = let a = no.no_if in let b = no.no_for in rw (a, b) refl
+own-opens w other = let a = other.no_if in let b = other.no_for in rw (a, b) refl
 
 assign-plain : (n : ℕ) (w : List ℕ) (t : Expression) → 64 ≤ n → IsOwnName w → IsToldExpr t
     → IsPlain Expr n w (Assign w t) (symbol s.Assign ∷ (expr_toks t ++ symbol s.Semicolon ∷ []))
 assign-plain n w t room h k =
-    let no = own_no_word w h in
-    choose_false _ _ _ (Assign w t) _ no.no_int (choose_false _ _ _ (Assign w t) _ no.no_push (choose_false _ _ _ (Assign w t) _ no.no_pop
+    let other = own_no_word w h in
+    choose_false _ _ _ (Assign w t) _ other.no_int (choose_false _ _ _ (Assign w t) _ other.no_push (choose_false _ _ _ (Assign w t) _ other.no_pop
     (choose_true (is_own w) (IsAssign Expr w n) Never (Assign w t) _ h (assign-formed n w t room k))))
 
 block-of : (nest n : ℕ) (b : Block) → nest + 66 ≤ n → ((m : ℕ) → nest + 65 ≤ m → Each (IsStatement nest m) (list_of b) (statements_toks b))

@@ -4,7 +4,7 @@ ghost use Rattle.text_blocks.specs.Parts.{optional};
 ghost use Rattle.text_forms.specs.Gives.{Gives};
 ghost use Rattle.streamit_text.specs.Tree.{expression};
 ghost use Rattle.streamit_text.specs.View.{head_of};
-ghost use Rattle.params_text.specs.Program.{step_of, steps_of, in_order};
+ghost use Rattle.params_text.specs.Program.{expressions, step_of, steps_of, in_order};
 ghost use Rattle.params_text.specs.Steps.{made_add, add_at, step_head_at, step_after, opening, looped, style};
 ghost use Rattle.params_text.specs.Reading.{step_at, pipe_at, steps_at};
 
@@ -111,9 +111,7 @@ impl Blocks for StepWords {
         _reader: &mut Reader<'_>,
         _alloc: Global,
         _brackets: u32,
-    ) -> Result<Step, Fault>
-        ensures { Gives step_of result reader.new (style.condition brackets reader.old) }
-    {
+    ) -> Result<Step, Fault> {
         Err(Fault::Syntax)
     }
 
