@@ -10,7 +10,7 @@ use crate::step::steps;
 use crate::{ParamSplit, ParamSplitJoin, Rounds, Steps};
 use std::alloc::Global;
 use streamit_text::parens;
-use text_forms::{Fault, Reader};
+use text_forms::{Fault, Reader, closed};
 use work_code::Symbol;
 
 // What stands behind `split`.
@@ -80,6 +80,5 @@ pub fn both(reader: &mut Reader<'_>, alloc: Global, brackets: u32) -> Result<Par
 {
     let inner = reader.opens(Symbol::OpenBrace, brackets)?;
     let all = in_both(reader, alloc, inner)?;
-    reader.expect(&[Symbol::CloseBrace])?;
-    Ok(all)
+    closed(reader, all, Symbol::CloseBrace)
 }

@@ -1,9 +1,9 @@
 // Filters read.
-ghost use Rattle.std.specs.Prelude.{◌≡◌};
+ghost use Rattle.std.specs.Prelude.{◌≡◌, Some};
 ghost use Rattle.text_blocks.specs.Parts.{optional};
 ghost use Rattle.text_forms.specs.Gives.{Gives};
-ghost use Rattle.streamit_text.specs.Tree.{block, optional_block};
-ghost use Rattle.params_text.specs.Grammar.{with_rate};
+ghost use Rattle.streamit_text.specs.Tree.{expression, option_expression, block, optional_block};
+ghost use Rattle.params_text.specs.Grammar.{fresh, with_rate};
 ghost use Rattle.params_text.specs.Program.{work_of, filter_of};
 ghost use Rattle.params_text.specs.Reading.{rate_after, rate_at, rates_at, statements_at, block_at, still_at, init_at, work_at, prework_at, works_at};
 ghost use Rattle.params_text.specs.Reading.{in_filter_at, filter_at};
@@ -16,7 +16,7 @@ use crate::{ParamFilter, ParamRates, ParamWork};
 use river_base::Name;
 use std::alloc::Global;
 use streamit_text::{Block, Expr, Streamit, fields, stay};
-use text_forms::{Fault, Reader};
+use text_forms::{Fault, Reader, closed};
 use work_code::Symbol;
 
 // A rate that is written.
@@ -58,24 +58,34 @@ fn one_rate(reader: &mut Reader<'_>, alloc: Global, brackets: u32) -> Result<Rat
     rate_after(reader, alloc, brackets, word)
 }
 
+// A rate that is not written yet, as it is written now.
+fn fresh(old: Option<Expr>, new: Expr) -> Option<Option<Expr>>
+    ensures { optional option_expression result ≡ fresh (option_expression old) (Some (expression new)) }
+{
+    match old {
+        None => Some(Some(new)),
+        Some(_) => None,
+    }
+}
+
 // The rates with one more, which may not be among them yet.
 fn with_rate(rates: ParamRates, rate: Rate) -> Option<ParamRates>
     ensures { option_rates result ≡ with_rate (rates_of rates) (rate_of rate) }
 {
+    let ParamRates { push, pop, peek } = rates;
     match rate {
-        Rate::Push(c) if rates.push.is_none() => Some(ParamRates {
-            push: Some(c),
-            ..rates
-        }),
-        Rate::Pop(c) if rates.pop.is_none() => Some(ParamRates {
-            pop: Some(c),
-            ..rates
-        }),
-        Rate::Peek(c) if rates.peek.is_none() => Some(ParamRates {
-            peek: Some(c),
-            ..rates
-        }),
-        _ => None,
+        Rate::Push(c) => {
+            let push = fresh(push, c)?;
+            Some(ParamRates { push, pop, peek })
+        }
+        Rate::Pop(c) => {
+            let pop = fresh(pop, c)?;
+            Some(ParamRates { push, pop, peek })
+        }
+        Rate::Peek(c) => {
+            let peek = fresh(peek, c)?;
+            Some(ParamRates { push, pop, peek })
+        }
     }
 }
 
@@ -251,6 +261,5 @@ pub fn filter(
 {
     let inner = reader.opens(Symbol::OpenBrace, brackets)?;
     let filter = in_filter(reader, alloc, params, inner)?;
-    reader.expect(&[Symbol::CloseBrace])?;
-    Ok(filter)
+    closed(reader, filter, Symbol::CloseBrace)
 }

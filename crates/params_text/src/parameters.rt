@@ -1,6 +1,7 @@
 // The leaves of expressions in the blocks of a filter, some of whose names are parameters.
-ghost use Rattle.std.specs.Prelude.{◌≡◌, IfOk, map};
+ghost use Rattle.std.specs.Prelude.{◌≡◌, List, IfOk};
 ghost use Rattle.text_forms.specs.Gives.{Gives};
+ghost use Rattle.work_code.specs.Tok.{Tok};
 ghost use Rattle.streamit_text.specs.Tree.{expression, depth_of};
 ghost use Rattle.params_text.specs.Parameters.{place_at, named_with, leaf_with, IsLeafWith};
 ghost use Rattle.params_text.specs.Params.{is_one_of};
@@ -28,14 +29,27 @@ pub fn is_one_of(names: &[Name], name: &Name) -> bool
     false
 }
 
+// A name, where no more brackets may be open.
+#[tactic(auto, using(crate::proofs::Places::places))]
+fn last_place(names: &[Name], name: Name) -> Result<Expr, Fault>
+    ensures reads { (ts : List Tok) → Gives expression result ts (place_at names.now 0 name ts) }
+    ensures depth { IfOk result (λ e. depth_of (expression e) ≡ 1) }
+{
+    if is_one_of(names, &name) {
+        Err(Fault::Syntax)
+    } else {
+        Ok(Expr::Name(name))
+    }
+}
+
 // A name, where so many more brackets may be open.
 #[tactic(auto, using(crate::proofs::Places::places))]
 fn place(reader: &mut Reader<'_>, names: &[Name], brackets: u32, name: Name) -> Result<Expr, Fault>
     ensures reads { Gives expression result reader.new (place_at names.now brackets name reader.old) }
     ensures depth { IfOk result (λ e. depth_of (expression e) ≡ 1) }
 {
-    if is_one_of(names, &name) && brackets == 0 {
-        return Err(Fault::Syntax);
+    if brackets == 0 {
+        return last_place(names, name);
     }
     Ok(Expr::Name(name))
 }
