@@ -162,7 +162,7 @@ option-all-are k ks (Some cs) = all-are k ks cs
 
 takes-are : (k : ℕ) (ks ns : List Name) → tested k (takes ks ns) ≡ new_names k ks ns
 takes-are k ks [] = refl
-takes-are k ks (n ∷ ns) = first-of k (Takes n ks) (takes (n ∷ ks) ns) _ (takes-are k (n ∷ ks) ns)
+takes-are k ks (n ∷ ns) = first-of k (Takes n ks) (takes (ks ++ n ∷ []) ns) _ (takes-are k (ks ++ n ∷ []) ns)
 
 declares-are : (k : ℕ) (ps ns : List Name) → tested k (declares ps ns) ≡ other_names k ps ns
 declares-are k ps [] = refl
@@ -213,10 +213,10 @@ mutual
       first-of k (Adds n above) (all_uses ks cs ++ Gives n (length cs) above ∷ []) _
       (parts k (all_uses ks cs) (Gives n (length cs) above ∷ []) _ _ (all-are k ks cs) (one-of k (Gives n (length cs) above)))
   step-is k above ks (Loop n low upto high ss) =
-      first-of k (Loops n ks) ((uses ks low ++ uses ks high) ++ steps_spots above (n ∷ ks) ss) _
-      (parts k (uses ks low ++ uses ks high) (steps_spots above (n ∷ ks) ss) _ _
+      first-of k (Loops n ks) ((uses ks low ++ uses ks high) ++ steps_spots above (ks ++ n ∷ []) ss) _
+      (parts k (uses ks low ++ uses ks high) (steps_spots above (ks ++ n ∷ []) ss) _ _
       (parts k (uses ks low) (uses ks high) _ _ (uses-are k ks low) (uses-are k ks high) ∙ demand-both (are_known ks low) (are_known ks high) k UnknownName)
-      (steps-are k above (n ∷ ks) ss))
+      (steps-are k above (ks ++ n ∷ []) ss))
 
   steps-are : (k : ℕ) (above : Above) (ks : List Name) (ss : Steps) → tested k (steps_spots above ks ss) ≡ steps_judged k above ks ss
   steps-are k above ks End = refl

@@ -1,5 +1,5 @@
 -- Whether a program with parameters is accepted, and what is made of it; or its first fault.
-use Rattle.std.specs.Prelude.{ℕ, suc, Bool, true, false, not, ◌&&◌, List, [], ◌∷◌, length, reverse, nat_eq, Option, Some, None, Result, Ok}
+use Rattle.std.specs.Prelude.{ℕ, suc, Bool, true, false, not, ◌&&◌, List, [], ◌∷◌, ◌++◌, length, reverse, nat_eq, Option, Some, None, Result, Ok}
 use Rattle.streamit_text.specs.Tree.{Expression}
 use Rattle.streamit_text.specs.Tree as tree
 use Rattle.river_plan.specs.Forms.{Name}
@@ -45,7 +45,7 @@ all_known_option ks (Some cs) = all_known ks cs
 
 abbrev pub new_names : ℕ → List Name → List Name → Judgement
 new_names unit ks [] = no_fault
-new_names unit ks (n ∷ ns) = and_then (demand (not (is_one_of ks n)) unit NameTwice) (new_names unit (n ∷ ks) ns)
+new_names unit ks (n ∷ ns) = and_then (demand (not (is_one_of ks n)) unit NameTwice) (new_names unit (ks ++ n ∷ []) ns)
 
 abbrev pub other_names : ℕ → List Name → List Name → Judgement
 other_names unit ps [] = no_fault
@@ -82,7 +82,7 @@ prework_judged unit ps (Some w) = work_judged unit ps w
 abbrev pub filter_judged : ℕ → List Name → ParamFilter → Judgement
 filter_judged unit ps t = and_then (other_names unit ps t.fields) (and_then (optional_judged unit ps t.init) (and_then (prework_judged unit ps t.prework) (work_judged unit ps t.work)))
 
--- STEPS: the streams above have these names and so many parameters, the newest first
+-- STEPS: names that are known stand in order, the newest last; the streams above have these names and so many parameters, the newest first
 
 abbrev pub Above : Type 0
 Above = List (Name × ℕ)
@@ -102,7 +102,7 @@ abbrev mutual
       (and_then (demand (all_known ks cs) unit UnknownName) (demand (has_arity (look above n) (length cs)) unit Arity))
   step_judged unit above ks (Loop n low upto high ss) =
       and_then (demand (not (is_one_of ks n)) unit NameTwice)
-      (and_then (demand (are_known ks low && are_known ks high) unit UnknownName) (steps_judged unit above (n ∷ ks) ss))
+      (and_then (demand (are_known ks low && are_known ks high) unit UnknownName) (steps_judged unit above (ks ++ n ∷ []) ss))
 
   pub steps_judged : ℕ → Above → List Name → Steps → Judgement
   steps_judged unit above ks End = no_fault

@@ -94,7 +94,7 @@ filter_spots ps t = declares ps t.fields ++ (optional_spots ps t.init ++ (prewor
 abbrev mutual
   pub step_spots : Above → List Name → Step → List Spot
   step_spots above ks (Add n cs) = Adds n above ∷ (all_uses ks cs ++ Gives n (length cs) above ∷ [])
-  step_spots above ks (Loop n low upto high ss) = Loops n ks ∷ ((uses ks low ++ uses ks high) ++ steps_spots above (n ∷ ks) ss)
+  step_spots above ks (Loop n low upto high ss) = Loops n ks ∷ ((uses ks low ++ uses ks high) ++ steps_spots above (ks ++ n ∷ []) ss)
 
   pub steps_spots : Above → List Name → Steps → List Spot
   steps_spots above ks End = []
@@ -114,7 +114,7 @@ body_spots above ps (ASplitJoin d ss ws) = dealing_spots ps d ++ (steps_spots ab
 -- the parameters, behind these
 abbrev pub takes : List Name → List Name → List Spot
 takes ks [] = []
-takes ks (n ∷ ns) = Takes n ks ∷ takes (n ∷ ks) ns
+takes ks (n ∷ ns) = Takes n ks ∷ takes (ks ++ n ∷ []) ns
 
 abbrev pub unit_spots : Above → Declared → List Spot
 unit_spots above u = Names u.name above ∷ (takes [] u.params ++ body_spots above u.params u.body)
