@@ -1,6 +1,6 @@
 -- What the grammar has can be written out: numbers are values, names are names, expressions are low, and `if` and `for` nest at most
 -- 16 deep.
-use Rattle.std.proofs.Common.{◌≡◌, ◌⊎◌, ℕ, zero, suc, ◌≤◌, Bool, true, false, List, [], ◌∷◌, ◌++◌, length, Option, Some, None, refl, sym, subst, arith, ⊎_elim, nat_le}
+use Rattle.std.proofs.Common.{◌≡◌, ℕ, zero, suc, ◌≤◌, true, List, [], ◌∷◌, length, Option, Some, None, refl, sym, subst, arith, ⊎_elim, nat_le}
 use Rattle.std.proofs.lemmas.Bool.{and_parts}
 use Rattle.std.proofs.lemmas.Bool.Decides.{nat_tests}
 use Rattle.std.specs.Prelude.{◌&&◌, codes}
@@ -25,12 +25,11 @@ use Rattle.streamit_text.specs.Words.{is_own}
 use Rattle.streamit_text.specs.declared.term.Sign.{Sign}
 use Rattle.streamit_text.specs.declared.term.Sign.TheVariants as sign
 use Rattle.streamit_text.specs.Tree as tree
-use Rattle.params_text.specs.Grammar.{IsBlock, IsInit, IsWork, IsPrework, InFilter, IsStep, IsPipe, InBoth, BodyAfter, IsUnit, IsText, AreUnits}
+use Rattle.params_text.specs.Grammar.{IsBlock, IsInit, IsWork, IsPrework, InFilter, IsStep, IsPipe, InBoth, BodyAfter, IsUnit, AreUnits}
 use Rattle.params_text.specs.Parameters.{IsLeafWith, leaf_with}
 use Rattle.params_text.specs.Parameters as rule
 use Rattle.params_text.specs.Params.{low, lows, low_optional, is_low, is_low_first, param_depth}
-use Rattle.params_text.specs.Program.{ParamWork, ParamFilter, Step, Add, Loop, Steps, in_order, Body, AFilter, APipeline, ASplitJoin, Declared, ParamProgram}
-use Rattle.params_text.specs.Program as source
+use Rattle.params_text.specs.Program.{ParamWork, ParamFilter, Step, Steps, in_order, Body, Declared, ParamProgram}
 use Rattle.params_text.specs.Steps.{Constant, StreamName, or_none, Constants, IsAdd, StepHead, StepAfter, style, holes}
 use Rattle.params_text.specs.Steps as step
 use Rattle.params_text.specs.Told.{IsOwnName, AreOwnNames, IsTold, FirstBy, OnceBy, AllBy, OptionalBy}

@@ -1,9 +1,8 @@
 -- A program is refused for its text exactly where its first faulty place says.
-use Rattle.std.proofs.Common.{◌≡◌, ◌⊎◌, ℕ, suc, Bool, true, false, not, ◌||◌, ◌&&◌, Option, Some, None, Ok, Err, inl, inr, List, [], ◌∷◌, ◌++◌, length, refl, sym, ap, ◌∙◌, subst, ⊎_elim, arith}
+use Rattle.std.proofs.Common.{◌≡◌, ◌⊎◌, ℕ, suc, Bool, true, false, not, ◌||◌, ◌&&◌, Option, Some, None, Ok, Err, inl, inr, List, [], ◌∷◌, ◌++◌, length, refl, sym, ap, ◌∙◌, ⊎_elim, arith}
 use Rattle.std.specs.Prelude.{if◌then◌else◌, nat_eq}
 use Rattle.std.specs.List.{AllByRecursion}
 use Rattle.std.proofs.lemmas.Bool.Decides.{nat_tests}
-use Rattle.river_base.specs.Name.{name_eq}
 use Rattle.river_plan.specs.Forms.{Name}
 use Rattle.river_plan.proofs.NameLemmas.{cases_name}
 use Rattle.streamit_model.specs.Meaning.{look}
@@ -11,11 +10,11 @@ use Rattle.streamit_text.specs.Tree.{Expression, Statement, Declare, Assign, Pus
 use Rattle.streamit_text.specs.Tree as tree
 use Rattle.params_text.specs.Params.{is_one_of}
 use Rattle.params_text.specs.Program.{ParamWork, ParamFilter, Step, Add, Loop, Steps, End, Then, Dealing, Copies, Turns, Body, AFilter, APipeline, ASplitJoin, Declared, ParamProgram}
-use Rattle.params_model.specs.Faulty.{IsAmong, IsAbove, IsWrong, fault_of, IsRight, IsFaultOf, RefusalsAre, AcceptedAre}
+use Rattle.params_model.specs.Faulty.{IsAmong, IsAbove, IsWrong, fault_of, IsRight, RefusalsAre, AcceptedAre}
 use Rattle.params_model.specs.Judged.{Judgement, and_then, no_fault, are_known, all_known, known_option, all_known_option, new_names, other_names, statement_judged}
 use Rattle.params_model.specs.Judged.{block_judged, optional_judged, rates_judged, work_judged, prework_judged, filter_judged, Above, has_arity, is_there}
 use Rattle.params_model.specs.Judged.{step_judged, steps_judged, dealing_judged, body_judged, unit_judged, units_judged}
-use Rattle.params_model.specs.Making.{Fault, UnknownName, NameTwice, Arity, NotConstant, Refusal, demand}
+use Rattle.params_model.specs.Making.{Fault, UnknownName, Refusal, demand}
 use Rattle.params_model.specs.Places.{Spot, Names, Takes, Declares, Sets, Uses, Loops, Adds, Gives, Place, uses, all_uses, option_uses, option_all_uses, declares}
 use Rattle.params_model.specs.Places.{statement_spots, block_spots, optional_spots, rate_spots, work_spots, prework_spots, filter_spots, step_spots, steps_spots}
 use Rattle.params_model.specs.Places.{dealing_spots, body_spots, takes, unit_spots, in_unit, places_from, places_of}

@@ -1,5 +1,5 @@
 -- What a program with parameters means on the items of its input.
-use Rattle.std.specs.Prelude.{ℕ, zero, suc, ℤ, pos, ◌+◌, ◌*◌, List, [], ◌∷◌, ◌++◌, length, map, take, drop, replicate, reverse, nat_le, if◌then◌else◌}
+use Rattle.std.specs.Prelude.{ℕ, zero, suc, ℤ, pos, ◌+◌, List, [], ◌∷◌, ◌++◌, length, map, replicate, reverse, nat_le, if◌then◌else◌}
 use Rattle.river_base.specs.Name.{name_eq}
 use Rattle.river_plan.specs.Forms.{Name}
 use Rattle.brooklet_model.specs.ByIndex.{collected}

@@ -18,7 +18,7 @@ use Rattle.params_text.specs.declared.program.Step as made
 use Rattle.params_text.specs.ExactSteps.{exact-constant, exact-param}
 use Rattle.params_text.specs.Program.{Step, step_of}
 use Rattle.params_text.specs.Reading.{at_join, step_at}
-use Rattle.params_text.specs.Steps.{constant_at, param_at, is_brief}
+use Rattle.params_text.specs.Steps.{constant_at, param_at}
 use Rattle.params_text.proofs.UnitReads.{exact-step, listed-steps}
 
 -- a name that is brief

@@ -8,10 +8,9 @@ use Rattle.work_code.specs.declared.sign.Symbol.TheVariants as s
 use Rattle.work_code.specs.Tok.{Tok, name, symbol}
 use Rattle.work_code.specs.Lexis as lexis
 use Rattle.work_code.proofs.Spelled.{is_name_text}
-
 use Rattle.text_forms.specs.Parse.{is_short}
-use Rattle.text_forms.specs.Forms.{After, Before, AfterWord, Seen, Maybe, Each, Choose, Never}
-use Rattle.text_blocks.specs.Parts.{Round, FirstValue, Ended}
+use Rattle.text_forms.specs.Forms.{After, Before, AfterWord, Maybe, Each, Choose, Never}
+use Rattle.text_blocks.specs.Parts.{Round}
 use Rattle.text_blocks.specs.Statements.{ByOpening, IsRest}
 use Rattle.text_blocks.specs.Statements as statements
 use Rattle.text_blocks.specs.declared.opening.Opening.{Opening}

@@ -1,6 +1,5 @@
 -- The trees of steps, layer by layer.
-use Rattle.std.proofs.Common.{◌≡◌, ℕ, List, [], map, Option, Some, None, refl, sym, ap, ◌∙◌, Vec, Global}
-use Rattle.text_blocks.specs.Parts.{optional}
+use Rattle.std.proofs.Common.{◌≡◌, ℕ, List, map, sym, ap, ◌∙◌, Vec, Global}
 use Rattle.streamit_text.specs.Tree.{expression, is_turn}
 use Rattle.streamit_text.specs.declared.tree.Expr.{Expr}
 use Rattle.streamit_text.specs.declared.tree.Until.{Until}

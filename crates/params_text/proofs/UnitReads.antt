@@ -1,5 +1,5 @@
 -- The reading of units is exact.
-use Rattle.std.proofs.Common.{◌≡◌, ℕ, zero, suc, List, [], ◌∷◌, ◌++◌, Bool, true, false, Option, Some, None, refl, sym, ap, subst, arith, append_assoc}
+use Rattle.std.proofs.Common.{◌≡◌, ℕ, zero, suc, List, [], ◌∷◌, ◌++◌, Bool, true, false, Option, Some, None, refl, sym, subst, arith, append_assoc}
 use Rattle.std.specs.Prelude.{codes}
 use Rattle.std.specs.Str.{bytes_eq}
 use Rattle.std.proofs.lemmas.Slice.Eq.{bytes_eq-Decides}
@@ -13,7 +13,6 @@ use Rattle.text_forms.proofs.Exact.{is_word_at-is}
 use Rattle.text_forms.proofs.Many.{Listed, exact-many}
 use Rattle.text_forms.proofs.Choices.{exact-never, exact-choose, exact-headed, exact-known, exact-enclosed}
 use Rattle.text_blocks.specs.Exact.{NoElse}
-use Rattle.text_blocks.specs.Parts.{Round}
 use Rattle.text_blocks.specs.Seven.{Ends}
 use Rattle.text_blocks.specs.Statements.{IsRest}
 use Rattle.text_blocks.specs.Statements as statements
@@ -29,13 +28,13 @@ use Rattle.params_text.specs.ExactSteps.{NoOpen, round-begins, exact-constant, e
 use Rattle.params_text.specs.ExactParameters.{apart-with}
 use Rattle.params_text.specs.Parameters.{IsLeafWith, leaf_with}
 use Rattle.params_text.specs.Params.{low}
-use Rattle.params_text.specs.Steps.{Params, style, holes, stream_name_at}
+use Rattle.params_text.specs.Steps.{Params, style, holes}
 use Rattle.params_text.specs.Grammar.{IsStep, IsPipe, push, pop, peek, IsRate, unwritten, rates_in, AreRates, IsBlock, IsInit, made_work, IsWork, IsPrework, AreWorks, made_filter, InFilter}
 use Rattle.params_text.specs.Grammar.{copying, IsSplit, IsJoin, made_both, InBoth, BodyAfter, made_unit, KindAfter, IsUnit, IsUnitAt}
 use Rattle.params_text.specs.Chained.{Chained}
 use Rattle.params_text.specs.Reading.{step_at, pipe_at, rate_after, rate_at, rate_list_at, rates_at, statements_at, block_at, still_at, init_at, work_at, prework_at, works_at}
 use Rattle.params_text.specs.Reading.{in_filter_at, filter_at, split_after, split_at, join_at, at_join, steps_at, in_both_at, both_at, body_after, with_params_at, kind_after, unit_at, unit_from}
-use Rattle.params_text.specs.Program.{ParamWork, Step, Dealing, Turns, Body, AFilter, APipeline}
+use Rattle.params_text.specs.Program.{ParamWork, Step, Turns, Body, AFilter, APipeline}
 use Rattle.params_text.proofs.Chains.{exact-chained}
 
 -- STEPS

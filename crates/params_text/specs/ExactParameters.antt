@@ -1,12 +1,12 @@
 -- The leaves with parameters are read exactly, and begin apart from signs, calls and brackets.
-use Rattle.std.proofs.Common.{◌≡◌, ℕ, zero, suc, List, [], ◌∷◌, ◌++◌, Bool, true, false, cond, Option, Some, None, refl, sym, ap, ◌∙◌, subst, arith}
+use Rattle.std.proofs.Common.{◌≡◌, ℕ, zero, suc, List, [], ◌∷◌, ◌++◌, Bool, true, false, Option, Some, None, refl, sym, ap, ◌∙◌, subst}
 use Rattle.std.specs.Prelude.{codes}
 use Rattle.std.specs.Str.{bytes_eq}
 use Rattle.std.proofs.lemmas.Slice.Eq.{bytes_eq-Decides}
 use Rattle.work_code.specs.Tok.{Tok, name, var, number, symbol}
 use Rattle.work_code.specs.declared.sign.Symbol.TheVariants as s
 use Rattle.text_forms.specs.Parse as parse
-use Rattle.text_forms.proofs.Exact.{Exact, Front, Any}
+use Rattle.text_forms.proofs.Exact.{Front}
 use Rattle.text_forms.proofs.Pairs.{pair_inj, choose}
 use Rattle.streamit_text.specs.ExactLeaves.{IsPop, exact-pop, not-pop, not-peek, call-sign}
 use Rattle.streamit_text.specs.Expressions.{sign_at, call_at, AreLeaves}
@@ -22,7 +22,7 @@ module _ (ps : List (List ℕ)) where
   pop-leaf zero t text ts is h = absurd h
   pop-leaf (suc n) t text ts is h =
       let tokens : ts ≡ symbol s.Open ∷ symbol s.Close ∷ [] =
-          h.is ∙ ap (λ (l : List Tok). symbol s.Open ∷ l) (h.formed.is ∙ ap (λ (l : List Tok). l ++ symbol s.Close ∷ []) h.formed.formed.1) in
+      h.is ∙ ap (λ (l : List Tok). symbol s.Open ∷ l) (h.formed.is ∙ ap (λ (l : List Tok). l ++ symbol s.Close ∷ []) h.formed.formed.1) in
       subst (λ (u : Expression). IsLeafWith ps (suc n) u (name text ∷ ts)) (sym h.formed.formed.0)
       (subst (λ (us : List Tok). IsLeafWith ps (suc n) Pop us) (ap (λ (w : List ℕ). name w ∷ symbol s.Open ∷ symbol s.Close ∷ []) (sym is) ∙ ap (λ (us : List Tok). name text ∷ us) (sym tokens)) (rule.pop n))
 

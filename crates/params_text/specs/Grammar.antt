@@ -23,7 +23,7 @@ use Rattle.text_forms.specs.Forms.{Never, Both, After, Before, AfterWord, Tested
 use Rattle.text_blocks.specs.Statements as statements
 use Rattle.streamit_text.specs.Blocks as streamit
 use Rattle.streamit_text.specs.Expressions.{IsExpression, expr_at}
-use Rattle.streamit_text.specs.Grammar.{stay, IsField, on_some, none_there, Parens, Braces}
+use Rattle.streamit_text.specs.Grammar.{stay, IsField, on_some, Parens, Braces}
 use Rattle.streamit_text.specs.Tree.{Expression, Block, Optional, or_unwritten}
 use Rattle.params_text.specs.Chained.{Chained}
 use Rattle.params_text.specs.Parameters.{IsLeafWith, leaf_with}

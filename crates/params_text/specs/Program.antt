@@ -5,7 +5,6 @@ use Rattle.text_blocks.specs.Parts.{optional}
 use Rattle.streamit_text.specs.Tree.{Expression, expression, is_turn, Block, Optional, block, optional_block}
 use Rattle.streamit_text.specs.declared.tree.Expr.{Expr}
 use Rattle.params_text.specs.declared.program.ParamWork as written_work
-use Rattle.params_text.specs.declared.program.ParamRates.{ParamRates}
 use Rattle.params_text.specs.declared.program.ParamFilter as written_filter
 use Rattle.params_text.specs.declared.program.Step as written_step
 use Rattle.params_text.specs.declared.program.Step.{fold-Step}

@@ -1,9 +1,9 @@
 -- What the code's values stand for.
-use Rattle.std.specs.Prelude.{List, map, Option, None, Some}
+use Rattle.std.specs.Prelude.{Option, None, Some}
 use Rattle.text_blocks.specs.Parts.{optional}
-use Rattle.streamit_text.specs.Tree.{Expression, expression}
+use Rattle.streamit_text.specs.Tree.{expression}
 use Rattle.params_text.specs.Grammar as grammar
-use Rattle.params_text.specs.Program.{ParamWork, work_of, Dealing, Steps, Body, ASplitJoin, dealing_of, steps_of, rounds_of}
+use Rattle.params_text.specs.Program.{ParamWork, work_of, Body, ASplitJoin, dealing_of, steps_of, rounds_of}
 use Rattle.params_text.specs.declared.filter.Rate.{Rate}
 use Rattle.params_text.specs.declared.filter.Rate.TheVariants as code_rate
 use Rattle.params_text.specs.declared.program.ParamRates.{ParamRates}

@@ -92,11 +92,7 @@ pub fn params(reader: &mut Reader<'_>, alloc: Global, brackets: u32) -> Result<V
 
 // Constants with commas between them, at least one.
 #[tactic(auto, unfolding(crate::specs::Steps::some_constants_at), using(crate::proofs::Lists::constants))]
-fn some_constants(
-    reader: &mut Reader<'_>,
-    alloc: Global,
-    brackets: u32,
-) -> Result<Vec<Expr>, Fault>
+fn some_constants(reader: &mut Reader<'_>, alloc: Global, brackets: u32) -> Result<Vec<Expr>, Fault>
     ensures { Gives expressions result reader.new (some_constants_at brackets reader.old) }
 {
     let mut list = Vec::new(alloc);

@@ -14,6 +14,9 @@ mod step;
 mod unit;
 
 pub use parameters::{WithParameters, is_one_of};
-pub use program::{ParamBody, ParamFilter, ParamRates, ParamSplit, ParamSplitJoin, ParamUnit, ParamWork, Rounds, Step, Steps};
+pub use program::{
+    ParamBody, ParamFilter, ParamRates, ParamSplit, ParamSplitJoin, ParamUnit, ParamWork, Rounds,
+    Step, Steps,
+};
 pub use read::read_params;
 pub use step::StepWords;
