@@ -1,5 +1,5 @@
 -- States keep their kernel's shape.
-use Rattle.std.proofs.Common.{◌≡◌, ℕ, zero, suc, ℤ, ◌+◌, ◌<◌, Bool, true, false, Some, None, List, [], ◌∷◌, ◌++◌, length, take, drop, refl, sym, ap, ◌∙◌, subst}
+use Rattle.std.proofs.Common.{◌≡◌, ℕ, zero, suc, ℤ, ◌+◌, ◌<◌, Bool, true, false, Some, None, List, [], ◌∷◌, length, take, drop, refl, sym, ap, ◌∙◌, subst}
 use Rattle.std.proofs.Common.{arith, length-drop, nat_lt, ⊎_elim}
 use Rattle.std.specs.Prelude.{if◌then◌else◌, nat_le, slice_index_or}
 use Rattle.std.specs.List.{AllByRecursion}
@@ -11,7 +11,7 @@ use Rattle.river_base.specs.Number.{count_of}
 use Rattle.river_base.specs.Places.{append_at}
 use Rattle.river_base.specs.Drain.{drain, pass_on}
 use Rattle.kern_rows.specs.Forms.{CodeForm, FilterForm}
-use Rattle.kern_rows.specs.Runs.{run_kept, Filtering, filter_turn, filter_ran, buffer_of}
+use Rattle.kern_rows.specs.Runs.{Filtering, Filtered, filter_turns, next_run, after_run, received, run_at, needs, buffer_of}
 use Rattle.kern_rows.specs.Needs.{HaveShares, IsJoiner}
 use Rattle.kern_rows.specs.Turns.{Turns, IsTurn, shares, ones, next_port, next_had, front_of, passed, rest_at, waiting, put, itself}
 use Rattle.kern_bags.specs.Steps.{window_one, streamer_one}
@@ -119,18 +119,21 @@ code_shape k x (z ∷ zs) (Received xs ∷ []) h = absurd h
 code_shape k x (z ∷ zs) (Crossing s ∷ []) h = absurd h
 code_shape k x (z ∷ zs) (s ∷ t ∷ ts) h = absurd h
 
-turn_length : (f : FilterForm) (s : Filtering) → length (filter_turn f s).after.kept ≡ length s.kept
-turn_length f s = arms (nat_le f.peek (length (buffer_of f s)))
-  where
-    arms : (b : Bool)
-        → length (if b then filter_ran s (run_kept f.body s.kept (take f.peek (buffer_of f s))) else record { pushes = []; after = s }).after.kept ≡ length s.kept
-    arms true = run_kept_length f.body s.kept (take f.peek (buffer_of f s))
-    arms false = refl
+either_kept : (b : Bool) (x y : Filtered) (n : ℕ) → length x.after.kept ≡ n → length y.after.kept ≡ n → length (if b then x else y).after.kept ≡ n
+either_kept true x y n h g = h
+either_kept false x y n h g = g
+
+turns_length : (f : FilterForm) (n : ℕ) (s : Filtering) → length (filter_turns f n s).after.kept ≡ length s.kept
+turns_length f zero s = refl
+turns_length f (suc n) s =
+    either_kept (nat_le (needs f s.fired) (length (buffer_of f s))) _ _ (length s.kept)
+    (turns_length f n (after_run s (next_run f s)) ∙ run_kept_length (run_at f s.fired).body s.kept (take (run_at f s.fired).peek (buffer_of f s)))
+    refl
 
 filter_shape : (f : FilterForm) (n : ℕ) (x : item.Item) (ss : List Kept) → IsOne (IsFiltering n) ss → IsOne (IsFiltering n) (filter_firing f x ss).states
 filter_shape f n x [] h = absurd h
 filter_shape f n x (Slots zs ∷ []) h = absurd h
-filter_shape f n x (Buffered s ∷ []) h = turn_length f (record { seen = s.seen ++ value_of x ∷ []; fired = s.fired; kept = s.kept }) ∙ h
+filter_shape f n x (Buffered s ∷ []) h = turns_length f (suc (length (received (value_of x) s).seen)) (received (value_of x) s) ∙ h
 filter_shape f n x (Turn p q ∷ []) h = absurd h
 filter_shape f n x (Joining s ∷ []) h = absurd h
 filter_shape f n x (Received xs ∷ []) h = absurd h

@@ -1,6 +1,6 @@
 -- Every kernel that fits types gives items of them.
 use Rattle.std.proofs.Common.{◌≡◌, ℕ, zero, suc, ℤ, pos, ◌+◌, ◌<◌, Bool, true, false, ◌&&◌, Option, Some, None, List, [], ◌∷◌, ◌++◌, length, map, take, drop}
-use Rattle.std.proofs.Common.{refl, sym, ap, ◌∙◌, subst, arith, ⊎_elim, nat_lt, replicate}
+use Rattle.std.proofs.Common.{refl, sym, ap, ◌∙◌, subst, arith, ⊎_elim, nat_lt, nat_eq, replicate}
 use Rattle.std.specs.Prelude.{if◌then◌else◌, nat_le, All, slice_get}
 use Rattle.std.specs.List.{list_all}
 use Rattle.std.proofs.lemmas.Bool.{cases_lt, cases_eq, and_parts, true≢false}
@@ -19,11 +19,11 @@ use Rattle.river_base.specs.Places.{only, none, list_at, append_at}
 use Rattle.work_code.specs.Steps.{Step, Steps, Set, Push, If, Done, Then, Body}
 use Rattle.work_code.specs.Ran.{Ran, ran, ran_once}
 use Rattle.work_code.specs.Value.{val, is_true}
-use Rattle.kern_rows.specs.Forms.{CodeForm, FilterForm}
-use Rattle.kern_rows.specs.Runs.{slots_from, run_kept, pushed_to, Filtering, filter_turn, filter_ran, buffer_of}
+use Rattle.kern_rows.specs.Forms.{CodeForm, FilterForm, RunForm}
+use Rattle.kern_rows.specs.Runs.{slots_from, run_kept, pushed_to, Filtering, Filtered, filter_one, filter_turns, next_run, after_run, received, run_at, run_or, usual_run, needs, buffer_of}
 use Rattle.kern_rows.specs.Turns.{Turns, shares, ones, front_in, rest_in, front_at, rest_at, front_of, passed, put, waiting, itself}
 use Rattle.river_kernels.specs.declared.types.VarKind.{VarKind}
-use Rattle.river_kernels.specs.Formed.{is_width, is_term, is_step, is_steps, has_port, is_code, has_rates, is_number, pushes}
+use Rattle.river_kernels.specs.Formed.{is_width, is_term, is_step, is_steps, has_port, is_code, has_rates, is_filter, is_usual, is_first, is_number, pushes}
 use Rattle.river_kernels.specs.Fits.{Fits, rows, stream, relation, is_sized, is_bag, width_of, ports, are_widths, spliced}
 use Rattle.river_kernels.specs.Types.{types_of}
 use Rattle.river_kernels.specs.Kern.{Kern, code, filter, duplicate, deal, collect, packed, unpack, window, select, project, cross, streamer, tally, fused}
@@ -148,20 +148,60 @@ code_of k x (Crossing s ∷ ss) f h = only_of (IsOf (ports k.outs)) 0 [] (All-ni
 nothing_of : (types : List QueueType) → AreOf types (only 0 [])
 nothing_of types = only_of (IsOf types) 0 [] (All-nil (IsOf types 0))
 
-turn_of : (f : FilterForm) (s : Filtering) → is_steps f.peek f.body.slots (pos 1 ∷ []) f.body.steps ≡ true
-    → AreOf (rows 1 ∷ []) (λ q. pushed_to q (filter_turn f s).pushes)
-turn_of f s h = arms (nat_le f.peek (length (buffer_of f s)))
-  where
-    arms : (b : Bool)
-        → AreOf (rows 1 ∷ []) (λ q. pushed_to q (if b then filter_ran s (run_kept f.body s.kept (take f.peek (buffer_of f s))) else record { pushes = []; after = s }).pushes)
-    arms true = kept_of f.body f.peek (pos 1 ∷ []) s.kept (take f.peek (buffer_of f s)) h
-    arms false = none_of (rows 1 ∷ [])
+-- each run of a well-formed filter is well formed
+abbrev RunsWell : FilterForm → Type 0
+RunsWell f = (k : ℕ) → is_steps (run_at f k).peek (run_at f k).body.slots (pos 1 ∷ []) (run_at f k).body.steps ≡ true
 
-filter_of : (f : FilterForm) (x : item.Item) (ss : List Kept) → is_steps f.peek f.body.slots (pos 1 ∷ []) f.body.steps ≡ true
+first_well : (f : FilterForm) (o : Option RunForm) → is_steps f.peek f.body.slots (pos 1 ∷ []) f.body.steps ≡ true → is_first f.body.slots o ≡ true
+    → is_steps (run_or (usual_run f) o).peek (run_or (usual_run f) o).body.slots (pos 1 ∷ []) (run_or (usual_run f) o).body.steps ≡ true
+first_well f None h g = h
+first_well f (Some r) h g =
+    let steps = is_steps r.peek f.body.slots (pos 1 ∷ []) r.body.steps in
+    let a = and_parts (nat_eq r.body.inputs r.peek) (nat_eq r.body.slots f.body.slots && (nat_le r.pop r.peek && (steps && is_number (pushes r.body.steps) r.push))) g in
+    let b = and_parts (nat_eq r.body.slots f.body.slots) (nat_le r.pop r.peek && (steps && is_number (pushes r.body.steps) r.push)) a.1 in
+    let c = and_parts (nat_le r.pop r.peek) (steps && is_number (pushes r.body.steps) r.push) b.1 in
+    let d = and_parts steps (is_number (pushes r.body.steps) r.push) c.1 in
+    subst (λ k. is_steps r.peek k (pos 1 ∷ []) r.body.steps ≡ true) (sym (same_slots r.body.slots f.body.slots b.0)) d.0
+  where
+    same_slots : (m n : ℕ) → nat_eq m n ≡ true → m ≡ n
+    same_slots m n h = grind (arith, h)
+
+runs_well : (f : FilterForm) → is_filter f ≡ true → RunsWell f
+runs_well f h k = go k
+  where
+    usual : is_steps f.peek f.body.slots (pos 1 ∷ []) f.body.steps ≡ true
+    usual =
+        let a = and_parts (is_usual f) (is_first f.body.slots f.first) h in
+        let c = and_parts (has_rates f) (is_steps f.peek f.body.slots (pos 1 ∷ []) f.body.steps && (nat_le (length f.starts) f.body.slots && is_number (pushes f.body.steps) f.push)) a.0 in
+        (and_parts (is_steps f.peek f.body.slots (pos 1 ∷ []) f.body.steps) (nat_le (length f.starts) f.body.slots && is_number (pushes f.body.steps) f.push) c.1).0
+
+    go : (k : ℕ) → is_steps (run_at f k).peek (run_at f k).body.slots (pos 1 ∷ []) (run_at f k).body.steps ≡ true
+    go zero = first_well f f.first usual (and_parts (is_usual f) (is_first f.body.slots f.first) h).1
+    go (suc k) = usual
+
+either_pushed : (b : Bool) (x y : Filtered) → All (IsPushed (pos 1 ∷ [])) x.pushes → All (IsPushed (pos 1 ∷ [])) y.pushes
+    → All (IsPushed (pos 1 ∷ [])) (if b then x else y).pushes
+either_pushed true x y h g = h
+either_pushed false x y h g = g
+
+turns_well : (f : FilterForm) → RunsWell f → (n : ℕ) (s : Filtering) → All (IsPushed (pos 1 ∷ [])) (filter_turns f n s).pushes
+turns_well f well zero s = All-nil (IsPushed (pos 1 ∷ []))
+turns_well f well (suc n) s =
+    let r = run_at f s.fired in
+    either_pushed (nat_le (needs f s.fired) (length (buffer_of f s))) _ _
+    (All-append (IsPushed (pos 1 ∷ [])) (next_run f s).pushes (filter_turns f n (after_run s (next_run f s))).pushes
+    (ran_well r.peek r.body.slots (pos 1 ∷ []) r.body.steps (take r.peek (buffer_of f s)) (slots_from r.body.slots s.kept) (well s.fired))
+    (turns_well f well n (after_run s (next_run f s))))
+    (All-nil (IsPushed (pos 1 ∷ [])))
+
+turn_of : (f : FilterForm) (v : ℤ) (s : Filtering) → RunsWell f → AreOf (rows 1 ∷ []) (λ q. pushed_to q (filter_one f v s).pushes)
+turn_of f v s well = pushes_of (pos 1 ∷ []) (filter_one f v s).pushes (turns_well f well (suc (length (received v s).seen)) (received v s))
+
+filter_of : (f : FilterForm) (x : item.Item) (ss : List Kept) → RunsWell f
     → AreOf (rows 1 ∷ []) (filter_firing f x ss).outs
 filter_of f x [] h = nothing_of (rows 1 ∷ [])
 filter_of f x (Slots zs ∷ ss) h = nothing_of (rows 1 ∷ [])
-filter_of f x (Buffered s ∷ ss) h = turn_of f (record { seen = s.seen ++ value_of x ∷ []; fired = s.fired; kept = s.kept }) h
+filter_of f x (Buffered s ∷ ss) h = turn_of f (value_of x) s h
 filter_of f x (Turn p q ∷ ss) h = nothing_of (rows 1 ∷ [])
 filter_of f x (Joining s ∷ ss) h = nothing_of (rows 1 ∷ [])
 filter_of f x (Received xs ∷ ss) h = nothing_of (rows 1 ∷ [])
@@ -316,9 +356,7 @@ fire_typed (code k) is os vs p x ss f h t i =
     let e = and_parts (is_steps k.body.inputs k.body.slots k.outs k.body.steps) (nat_le (length k.starts) k.body.slots) d.1 in
     (subst (λ (l : List QueueType). AreOf l (code_one k x ss).outs) (sym f.1) (code_of k x ss e.0 h), tt)
 fire_typed (filter g) is os vs p x ss f h t i =
-    let c = and_parts (has_rates g) (is_steps g.peek g.body.slots (pos 1 ∷ []) g.body.steps && (nat_le (length g.starts) g.body.slots && is_number (pushes g.body.steps) g.push)) f.3 in
-    let d = and_parts (is_steps g.peek g.body.slots (pos 1 ∷ []) g.body.steps) (nat_le (length g.starts) g.body.slots && is_number (pushes g.body.steps) g.push) c.1 in
-    (subst (λ (l : List QueueType). AreOf l (filter_firing g x ss).outs) (sym f.1) (filter_of g x ss d.0), tt)
+    (subst (λ (l : List QueueType). AreOf l (filter_firing g x ss).outs) (sym f.1) (filter_of g x ss (runs_well g f.3)), tt)
 fire_typed (duplicate n) is os vs p x ss f h t i = (
   (λ q. subst (λ (l : List QueueType). All (IsOf l q) (if nat_lt q n then x ∷ [] else [])) (sym f.2)
       (copies_of (IsOf (replicate n (FlatOf f.0)) q) x q n (λ lt. to_many n (FlatOf f.0) q x lt (of_one (FlatOf f.0) is p x f.1 i)))),

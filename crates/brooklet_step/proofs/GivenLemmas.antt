@@ -1,13 +1,17 @@
 -- Words, what queues at ports hold, and what states are.
-use Rattle.std.proofs.Common.{◌≡◌, ℕ, ℤ, ◌*◌, Option, Some, None, List, [], ◌∷◌, ◌++◌, length, take, drop, refl, sym, ap, ◌∙◌, subst, arith, length-drop}
+use Rattle.std.proofs.Common.{◌≡◌, ℕ, ℤ, pos, Bool, true, false, replicate, Option, Some, None, List, [], ◌∷◌, ◌++◌, length, take, drop, refl, sym, ap, ◌∙◌, subst, arith, length-drop, length-append}
 use Rattle.std.specs.Prelude.{All, slice_get}
-use Rattle.std.proofs.lemmas.List.{length-take}
+use Rattle.std.proofs.lemmas.List.{length-take, length-replicate}
+use Rattle.std.proofs.Math.Seq.{drop-append_seam}
 use Rattle.std.proofs.lemmas.List.Elements.{All-head, All-tail, All-cons, All-nil}
 use Rattle.river_base.specs.declared.item.Item as item
 use Rattle.river_base.specs.declared.kind.QueueType.{QueueType}
 use Rattle.river_base.specs.Places.{list_at}
 use Rattle.river_base.proofs.HeldLemmas.{held-nil, held-append, length-held, held-same, held-typed, typed-held}
 use Rattle.kern_rows.specs.Turns.{Turns}
+use Rattle.kern_rows.specs.Forms.{FilterForm, RunForm}
+use Rattle.kern_rows.specs.Runs.{Filtering, begins}
+use Rattle.kern_rows.specs.Stands.{Waiting, KeepsFor, is_fresh}
 use Rattle.river_kernels.specs.declared.types.VarKind.{VarKind}
 use Rattle.river_kernels.specs.Fits.{Fits}
 use Rattle.river_kernels.specs.Types.{types_of}
@@ -26,7 +30,7 @@ use Rattle.brooklet_model.proofs.Typing.{first_holds}
 use Rattle.brooklet_model.proofs.TypedPlan.{at_append, run_typed}
 use Rattle.brooklet_step.specs.declared.state.State.{State}
 use Rattle.brooklet_step.specs.Stands.{StandsFor, StandsForSlots}
-use Rattle.brooklet_step.specs.Given.{held_by, held_at, IsHeldBy, IsHeldOf, AreHeldOf, FitSlots, FitState, IsLeaf, ran, StandsAfter}
+use Rattle.brooklet_step.specs.Given.{held_by, held_at, IsHeldBy, IsHeldOf, AreHeldOf, FitSlots, FitState, IsLeaf, ran, StandsAfter, MayBeFresh}
 
 -- QUEUES AT PORTS
 
@@ -137,10 +141,44 @@ fit_slots (z ∷ zs) st ks h = record { slots = h.slots; code = h.code; count = 
 fit_joined : (is : List QueueType) (s : Turns) (ks : List Kept) → ks ≡ Joining s ∷ [] → AreWaiting is ks → AreHeldOf is (list_at s.lists)
 fit_joined is s ks e h = let w : AreWaiting is (Joining s ∷ []) = subst (AreWaiting is) e h in λ p. all_held is p (list_at s.lists p) (w p)
 
+-- where a first run of its own is to come after some runs, there is one
+may_be_fresh : (o : Option RunForm) (b : Bool) (k : ℕ) → b ≡ is_fresh o k → MayBeFresh o b
+may_be_fresh None b k h = h
+may_be_fresh (Some r) b k h = tt
+
+-- a number of runs after which a first run of its own is to come, or not
+runs_by : Bool → ℕ
+runs_by true = 0
+runs_by false = 1
+
+fresh_by : (o : Option RunForm) (b : Bool) → MayBeFresh o b → b ≡ is_fresh o (runs_by b)
+unfolding runs_by
+fresh_by None b h = h
+fresh_by (Some r) true h = refl
+fresh_by (Some r) false h = refl
+
+-- what a filter that keeps this may have seen: zeros, and the values that wait
+past_of : (f : FilterForm) → Waiting → Filtering
+past_of f w = record { seen = replicate (begins f (runs_by w.fresh)) (pos 0) ++ w.buffer; fired = runs_by w.fresh; kept = w.kept }
+
+past_keeps : (f : FilterForm) (w : Waiting) → MayBeFresh f.first w.fresh → KeepsFor f w (past_of f w)
+unfolding past_of
+past_keeps f w h =
+    let k = begins f (runs_by w.fresh) in
+    let zeros : List ℤ = replicate k (pos 0) in
+    let l = length-replicate k (pos 0) in
+    record {
+      fresh = fresh_by f.first w.fresh h;
+      buffer = sym (ap (λ n. drop n (zeros ++ w.buffer)) (sym l) ∙ drop-append_seam zeros w.buffer);
+      kept = refl;
+      taken = omega (arith, l, length-append zeros w.buffer);
+    }
+
 -- states that stand for some fit
 pub fit_of : (k : Kern) (is : List QueueType) (st : List State) (ks : List Kept) → StandsFor k st ks → Holds k is ks → FitState k is st
 fit_of (code k) is st ks h t = fit_slots k.starts st ks h
-fit_of (filter f) is st ks h t = record { now = h.now; code = h.code; count = h.count; few = h.stands.few }
+fit_of (filter f) is st ks h t =
+    record { now = h.now; code = h.code; count = h.count; few = h.stands.few; fresh = may_be_fresh f.first h.now.fresh h.seen.fired h.stands.keeps.fresh }
 fit_of (duplicate n) is st ks h t = h.code
 fit_of (deal ws) is st ks h t = record { now = h.now; code = h.code; turn = h.turn }
 fit_of (collect ws) is st ks h t = record { now = h.now; code = h.code; joined = h.joined; items = fit_joined is h.now ks h.defined t }
@@ -167,19 +205,18 @@ kept_slots (z ∷ zs) st h = (Slots h.slots ∷ [], record { slots = h.slots; co
 -- and states that fit stand for some, where no kernel is inside
 pub leaf_kept : (k : Kern) (is : List QueueType) (st : List State) → IsLeaf k → FitState k is st → (ks : List Kept) × StandsFor k st ks × Holds k is ks
 leaf_kept (code k) is st l h = let s = kept_slots k.starts st h in (s.0, s.1, tt)
-leaf_kept (filter f) is st l h =
-    let z : 0 * f.pop ≡ 0 = omega arith in (
-      Buffered (record { seen = h.now.buffer; fired = 0; kept = h.now.kept }) ∷ [],
-      record {
-        now = h.now;
-        seen = record { seen = h.now.buffer; fired = 0; kept = h.now.kept };
-        code = h.code;
-        defined = refl;
-        stands = record { buffer = ap (λ n. drop n h.now.buffer) (sym z); kept = refl; taken = omega (arith, z); few = h.few };
-        count = h.count;
-      },
-      tt,
-    )
+leaf_kept (filter f) is st l h = (
+  Buffered (past_of f h.now) ∷ [],
+  record {
+    now = h.now;
+    seen = past_of f h.now;
+    code = h.code;
+    defined = refl;
+    stands = record { keeps = past_keeps f h.now h.fresh; few = h.few };
+    count = h.count;
+  },
+  tt,
+)
 leaf_kept (duplicate n) is st l h = ([], record { code = h; defined = refl }, tt)
 leaf_kept (deal ws) is st l h = (Turn h.now.port h.now.had ∷ [], record { now = h.now; code = h.code; defined = refl; turn = h.turn }, tt)
 leaf_kept (collect ws) is st l h =

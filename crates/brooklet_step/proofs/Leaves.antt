@@ -230,7 +230,7 @@ filter_fires f x s s' old new v values items out out' can room e e' ev ran len e
       let one = ran.each h.seen stands in
       let F = filter_one f (value_of x) h.seen in
       let is : filter_one f v h.seen ≡ F = ap (λ (z : ℤ). filter_one f z h.seen) ev in
-      let given : items ≡ pushed_to 0 F.pushes = ei ∙ ap (map (λ z. Flat (One (z ∷ [])))) (one.0 ∙ ap (λ g. first_values g.pushes) is) ∙ sym (given_items F.pushes (filter_values f (value_of x) h.seen can.gives)) in
+      let given : items ≡ pushed_to 0 F.pushes = ei ∙ ap (map (λ z. Flat (One (z ∷ [])))) (one.0 ∙ ap (λ g. first_values g.pushes) is) ∙ sym (given_items F.pushes (filter_values f (value_of x) h.seen can)) in
       let after : StandsForFilter f (s' ∷ []) (Buffered F.after ∷ []) = record {
         now = new;
         seen = F.after;

@@ -14,7 +14,7 @@ slots_shape (z ∷ zs) st ks h = subst (IsOne (AreKept (length (z ∷ zs)))) (sy
 -- what states stand for has the kernel's shape
 pub stands_shape : (k : Kern) (st : List State) (ks : List Kept) → StandsFor k st ks → HasShape k ks
 stands_shape (code k) st ks h = slots_shape k.starts st ks h
-stands_shape (filter f) st ks h = subst (IsOne (IsFiltering (length f.starts))) (sym h.defined) (ap length (sym h.stands.kept) ∙ h.count)
+stands_shape (filter f) st ks h = subst (IsOne (IsFiltering (length f.starts))) (sym h.defined) (ap length (sym h.stands.keeps.kept) ∙ h.count)
 stands_shape (duplicate n) st ks h = subst IsNone (sym h.defined) tt
 stands_shape (deal ws) st ks h = subst (IsOne (IsDealing (shares ws))) (sym h.defined) h.turn
 stands_shape (collect ws) st ks h = subst (IsOne (IsJoining (shares ws))) (sym h.defined) h.joined

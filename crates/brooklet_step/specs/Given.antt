@@ -1,12 +1,12 @@
 -- Firings from any states of the definition and after any word: what a firing gives where what was received and given before it is known.
-use Rattle.std.specs.Prelude.{◌≡◌, ℕ, ℤ, ◌+◌, ◌<◌, Option, Some, None, List, [], ◌∷◌, ◌++◌, All, length, take, drop, slice_get}
+use Rattle.std.specs.Prelude.{◌≡◌, ℕ, ℤ, ◌+◌, ◌<◌, Bool, false, Option, Some, None, List, [], ◌∷◌, ◌++◌, All, length, take, drop, slice_get}
 use Rattle.river_base.specs.declared.item.Item as item
 use Rattle.river_base.specs.declared.kind.QueueType.{QueueType}
 use Rattle.river_base.specs.Held.{held, IsHeld, IsAscending}
 use Rattle.river_base.specs.Places.{each_grew, list_at}
-use Rattle.kern_rows.specs.Forms.{FilterForm}
+use Rattle.kern_rows.specs.Forms.{FilterForm, RunForm}
 use Rattle.kern_rows.specs.Needs.{IsJoiner}
-use Rattle.kern_rows.specs.Stands.{Waiting, Dealing}
+use Rattle.kern_rows.specs.Stands.{Waiting, Dealing, needs_now}
 use Rattle.kern_rows.specs.Turns.{Turns, IsTurn, shares, ones}
 use Rattle.kern_bags.specs.Kept.{WindowKept, StandsForWindow, StandsForStreamer}
 use Rattle.kern_bags.specs.Steps.{Pairing}
@@ -59,11 +59,17 @@ abbrev pub FitSlots : List ℤ → List State → Type 0
 FitSlots [] st = st ≡ []
 FitSlots (z ∷ zs) st = FitsSlots (length (z ∷ zs)) st
 
+-- a first run of its own is to come only where there is one
+abbrev pub MayBeFresh : Option RunForm → Bool → Type 0
+MayBeFresh None fresh = fresh ≡ false
+MayBeFresh (Some r) fresh = Unit {0}
+
 pub record FitFilter (f : FilterForm) (st : List State) : Type 0 where
   pub now : Waiting
   pub code : st ≡ state.Filter now ∷ []
   pub count : length now.kept ≡ length f.starts
-  pub few : length now.buffer < f.peek
+  pub few : length now.buffer < needs_now f now.fresh
+  pub fresh : MayBeFresh f.first now.fresh
 
 pub record FitTurn (ws : List ℕ) (st : List State) : Type 0 where
   pub now : Dealing

@@ -10,8 +10,9 @@ use Rattle.work_code.specs.Value.{val, is_true}
 use Rattle.work_code.specs.Steps.{Step, Steps, Set, Push, If, Done, Then}
 use Rattle.work_code.specs.Ran.{Ran, ran, ran_once}
 use Rattle.kern_rows.specs.Forms.{FilterForm}
-use Rattle.kern_rows.specs.Needs.{GivesOnce, GivesValues}
-use Rattle.kern_rows.specs.Runs.{pushed_to, Filtering, buffer_of, filter_one, filter_ran, run_kept}
+use Rattle.kern_rows.specs.Needs.{GivesOnce, GivesValues, CanFilter}
+use Rattle.kern_rows.specs.Runs.{pushed_to, Filtering, Filtered, buffer_of, filter_one, filter_turns, next_run, after_run, received, run_at, needs}
+use Rattle.kern_rows.proofs.Filtered.{run_can}
 use Rattle.kern_rows.specs.Stands.{first_values}
 
 -- rows of one value for port 0
@@ -40,15 +41,20 @@ mutual
       both (ran_once s input slots).pushes (ran ss input (ran_once s input slots).slots).pushes (once_values s input slots h.0) (ran_values ss input (ran_once s input slots).slots h.1)
 
 -- a filter pushes such rows
-pub filter_values : (f : FilterForm) (v : ℤ) (s : Filtering) → GivesValues f.body.steps → AreValues (filter_one f v s).pushes
-filter_values f v s h = arms (nat_le f.peek (length (buffer_of f t)))
-  where
-    t : Filtering
-    t = record { seen = s.seen ++ v ∷ []; fired = s.fired; kept = s.kept }
+either_turn : (b : Bool) (x y : Filtered) → AreValues x.pushes → AreValues y.pushes → AreValues (if b then x else y).pushes
+either_turn true x y h g = h
+either_turn false x y h g = g
 
-    arms : (b : Bool) → AreValues (if b then filter_ran t (run_kept f.body s.kept (take f.peek (buffer_of f t))) else record { pushes = []; after = t }).pushes
-    arms true = ran_values f.body.steps (take f.peek (buffer_of f t)) _ h
-    arms false = tt
+pub turn_values : (f : FilterForm) → CanFilter f → (n : ℕ) (s : Filtering) → AreValues (filter_turns f n s).pushes
+turn_values f can zero s = tt
+turn_values f can (suc n) s =
+    either_turn (nat_le (needs f s.fired) (length (buffer_of f s))) _ (record { pushes = []; after = s })
+    (both (next_run f s).pushes (filter_turns f n (after_run s (next_run f s))).pushes
+    (ran_values (run_at f s.fired).body.steps (take (run_at f s.fired).peek (buffer_of f s)) _ (run_can f can s.fired).gives)
+    (turn_values f can n (after_run s (next_run f s)))) tt
+
+pub filter_values : (f : FilterForm) (v : ℤ) (s : Filtering) → CanFilter f → AreValues (filter_one f v s).pushes
+filter_values f v s can = turn_values f can (suc (length (received v s).seen)) (received v s)
 
 alone : (row : List ℤ) → length row ≡ 1 → row ≡ slice_index_or row 0 (pos 0) ∷ []
 alone [] h = absurd (omega (arith, h))

@@ -1,9 +1,9 @@
 -- What runs of the kernels on rows need: what well-formed kernels have.
-use Rattle.std.specs.Prelude.{◌≡◌, ℕ, ◌<◌, ◌≤◌, List, length}
+use Rattle.std.specs.Prelude.{◌≡◌, ℕ, ◌<◌, ◌≤◌, List, length, Option, Some, None}
 use Rattle.std.specs.List.{AllByRecursion}
 use Rattle.work_code.specs.Steps.{Step, Steps, Body, Set, Push, If, Done, Then}
 use Rattle.work_code.specs.Ran.{IsBodyWithin}
-use Rattle.kern_rows.specs.Forms.{CodeForm, FilterForm}
+use Rattle.kern_rows.specs.Forms.{CodeForm, FilterForm, RunForm}
 use Rattle.kern_rows.specs.Turns.{Turns, IsTurn}
 
 -- the body runs on so many inputs, with so many kept slots among its slots
@@ -25,11 +25,22 @@ abbrev mutual
   GivesValues Done = Unit {0}
   GivesValues (Then s ss) = GivesOnce s × GivesValues ss
 
+-- one run, with so many kept slots
+pub record CanRunOnce (kept : ℕ) (r : RunForm) : Type 0 where
+  pub runs : CanRun r.peek r.body kept
+  pub gives : GivesValues r.body.steps
+  pub peeks : r.pop ≤ r.peek
+
+abbrev pub CanRunFirst : ℕ → Option RunForm → Type 0
+CanRunFirst kept None = Unit {0}
+CanRunFirst kept (Some r) = CanRunOnce kept r
+
 pub record CanFilter (f : FilterForm) : Type 0 where
   pub runs : CanRun f.peek f.body (length f.starts)
   pub gives : GivesValues f.body.steps
   pub pops : 1 ≤ f.pop
   pub peeks : f.pop ≤ f.peek
+  pub first : CanRunFirst (length f.starts) f.first
 
 -- there are shares, and each is at least 1
 abbrev pub HaveShares : List ℕ → Type 0

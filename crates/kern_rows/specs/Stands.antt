@@ -1,20 +1,43 @@
 -- What kept states stand for, and what steps do to each state that they stand for.
-use Rattle.std.specs.Prelude.{◌≡◌, ℕ, ℤ, pos, ◌*◌, ◌<◌, ◌≤◌, List, ◌++◌, length, map, slice_index_or}
+use Rattle.std.specs.Prelude.{◌≡◌, ℕ, zero, suc, ℤ, pos, Bool, true, false, ◌+◌, ◌<◌, ◌≤◌, List, ◌++◌, length, map, take, drop, max, slice_index_or, if◌then◌else◌, Option, Some, None}
 use Rattle.river_base.specs.Grew.{GrewByPrefix}
-use Rattle.kern_rows.specs.Forms.{FilterForm}
-use Rattle.kern_rows.specs.Runs.{Filtering, buffer_of, filter_one}
+use Rattle.kern_rows.specs.Forms.{FilterForm, RunForm}
+use Rattle.kern_rows.specs.Runs.{Filtering, buffer_of, begins, usual_run, first_run, received, filter_turns, filter_one, with_pushes, run_kept}
+use Rattle.work_code.specs.Ran.{Ran}
+use Rattle.work_code.specs.Steps.{Body}
 
--- what a filter keeps: the values that wait, and the slots
+-- what a filter keeps: whether a first run of its own is to come, the values that wait, and the slots
 pub record Waiting : Type 0 where
+  pub fresh : Bool
   pub buffer : List ℤ
   pub kept : List ℤ
 
--- the values that no run has taken wait, and they are fewer than a run needs
-pub record StandsForFiltering (f : FilterForm) (now : Waiting) (s : Filtering) : Type 0 where
+-- a first run of its own is to come
+abbrev pub is_fresh : Option RunForm → ℕ → Bool
+is_fresh None j = false
+is_fresh (Some r) zero = true
+is_fresh (Some r) (suc j) = false
+
+-- the next run, and how many values it needs
+abbrev pub run_now : FilterForm → Bool → RunForm
+run_now f true = first_run f
+run_now f false = usual_run f
+
+abbrev pub needs_now : FilterForm → Bool → ℕ
+needs_now f true = max (first_run f).peek 1
+needs_now f false = f.peek
+
+-- the values that no run has taken wait
+pub record KeepsFor (f : FilterForm) (now : Waiting) (s : Filtering) : Type 0 where
+  pub fresh : now.fresh ≡ is_fresh f.first s.fired
   pub buffer : now.buffer ≡ buffer_of f s
   pub kept : now.kept ≡ s.kept
-  pub taken : s.fired * f.pop ≤ length s.seen
-  pub few : length now.buffer < f.peek
+  pub taken : begins f s.fired ≤ length s.seen
+
+-- and they are fewer than a run needs
+pub record StandsForFiltering (f : FilterForm) (now : Waiting) (s : Filtering) : Type 0 where
+  pub keeps : KeepsFor f now s
+  pub few : length now.buffer < needs_now f now.fresh
 
 -- the first value of each row that is pushed
 abbrev pub first_values : List (ℕ × List ℤ) → List ℤ
@@ -28,6 +51,44 @@ pub record Filters (f : FilterForm) (v : ℤ) (old new : Waiting) (out out' : Li
 -- a value came, and there was no memory: the output grew by a part
 pub record GaveUp (f : FilterForm) (v : ℤ) (old : Waiting) (out out' : List ℤ) : Type 0 where
   pub each : (s : Filtering) → StandsForFiltering f old s → GrewByPrefix out (first_values (filter_one f v s).pushes) out'
+
+-- s came after some of the runs, which gave this, and n runs at most are left
+pub record IsReached (f : FilterForm) (v : ℤ) (start s : Filtering) (n : ℕ) (given : List (ℕ × List ℤ)) : Type 0 where
+  pub seen : s.seen ≡ (received v start).seen
+  pub all : filter_one f v start ≡ with_pushes given (filter_turns f n s)
+  pub enough : length s.seen < n + s.fired
+
+-- a value came, and some of its runs were
+pub record IsBetween (f : FilterForm) (v : ℤ) (now : Waiting) (start : Filtering) (out out' : List ℤ) : Type 0 where
+  pub s : Filtering
+  pub n : ℕ
+  pub given : List (ℕ × List ℤ)
+  pub reached : IsReached f v start s n given
+  pub keeps : KeepsFor f now s
+  pub grew : out' ≡ out ++ first_values given
+
+-- the same from any state that the value was put to
+pub record Between (f : FilterForm) (v : ℤ) (put now : Waiting) (out out' : List ℤ) : Type 0 where
+  pub each : (s : Filtering) → KeepsFor f put (received v s) → IsBetween f v now s out out'
+
+-- what the next run does
+abbrev pub ran_now : FilterForm → Waiting → Ran
+ran_now f w = run_kept (run_now f w.fresh).body w.kept (take (run_now f w.fresh).peek w.buffer)
+
+-- at most so many runs are left before another value comes: each but a first one of its own takes a value
+abbrev pub runs_left : Waiting → ℕ
+runs_left w = length w.buffer + (if w.fresh then 1 else 0)
+
+-- one run of a body, which looks at `peek` values and takes `pop` of them
+pub record RunIs (peek pop : ℕ) (b : Body) (old new : Waiting) (out out' : List ℤ) : Type 0 where
+  pub grew : out' ≡ out ++ first_values (run_kept b old.kept (take peek old.buffer)).pushes
+  pub fresh : new.fresh ≡ false
+  pub buffer : new.buffer ≡ drop pop old.buffer
+  pub kept : new.kept ≡ (run_kept b old.kept (take peek old.buffer)).slots
+
+-- the next run
+abbrev pub RunsOnce : FilterForm → Waiting → Waiting → List ℤ → List ℤ → Type 0
+RunsOnce f old new out out' = let r = run_now f old.fresh in RunIs r.peek r.pop r.body old new out out'
 
 -- what a splitter keeps: the port in turn, and how many items it had
 pub record Dealing : Type 0 where

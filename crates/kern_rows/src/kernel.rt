@@ -1,6 +1,6 @@
 // The kernels on rows, as data.
 ghost use Rattle.std.specs.Prelude.{◌≡◌, IfOk};
-ghost use Rattle.kern_rows.specs.Forms.{code_form, filter_form};
+ghost use Rattle.kern_rows.specs.Forms.{code_form, filter_form, run_form, optional_run};
 
 use river_base::{Duplicate, NoMemory, Numbers};
 use std::alloc::Global;
@@ -30,6 +30,44 @@ impl CodeKernel {
     }
 }
 
+/// A run that replaces the usual run in the first firing of a filter, as `prework` of the StreamIt language. It waits for
+/// the greater of its peek rate and 1 values.
+#[derive(Drop)]
+pub struct First {
+    /// How many values the run looks at.
+    pub peek: u32,
+    /// How many values leave the buffer at the run, at most `peek`.
+    pub pop: u32,
+    /// How many values the run gives.
+    pub push: u32,
+    /// The body, whose inputs are the first `peek` values of the buffer.
+    pub code: Code,
+}
+
+impl First {
+    /// A run of the same meaning.
+    pub fn copy(&self, alloc: Global) -> Result<First, NoMemory>
+        ensures { IfOk result (λ copy. run_form copy ≡ run_form self.now) }
+    {
+        Ok(First {
+            peek: self.peek,
+            pop: self.pop,
+            push: self.push,
+            code: self.code.copy(alloc)?,
+        })
+    }
+}
+
+// A first run of the same meaning, where there is one.
+fn copy_first(alloc: Global, first: &Option<First>) -> Result<Option<First>, NoMemory>
+    ensures { IfOk result (λ copy. optional_run copy ≡ optional_run first.now) }
+{
+    match first {
+        None => Ok(None),
+        Some(run) => Ok(Some(run.copy(alloc)?)),
+    }
+}
+
 /// A body that is run on a sliding buffer of single values, as a filter of the StreamIt language.
 #[derive(Drop)]
 pub struct Filter {
@@ -43,6 +81,9 @@ pub struct Filter {
     pub code: Code,
     /// The values that the first slots have at the start, and that are kept from run to run.
     pub starts: Numbers,
+    /// What replaces the usual run in the first firing, where it is not like the others; it waits for the greater of its
+    /// peek rate and 1 values.
+    pub first: Option<First>,
 }
 
 impl Filter {
@@ -56,6 +97,7 @@ impl Filter {
             push: self.push,
             code: self.code.copy(alloc)?,
             starts: self.starts.copy(alloc)?,
+            first: copy_first(alloc, &self.first)?,
         })
     }
 }

@@ -5,7 +5,7 @@ use Rattle.std.specs.List.{list_all}
 use Rattle.river_base.specs.Number.{count_of}
 use Rattle.work_code.specs.Term.{Term, Const, Input, Slot, Neg, Not, Bin, depth_of}
 use Rattle.work_code.specs.Steps.{Step, Steps, Set, Push, If, Done, Then}
-use Rattle.kern_rows.specs.Forms.{CodeForm, FilterForm}
+use Rattle.kern_rows.specs.Forms.{CodeForm, FilterForm, RunForm}
 use Rattle.kern_bags.specs.declared.kernel.Window.{Window}
 use Rattle.kern_bags.specs.declared.kernel.Window.TheVariants.{Now, Range, Unbounded, Latest}
 
@@ -88,9 +88,23 @@ abbrev pub has_rates : FilterForm → Bool
 has_rates f = nat_eq f.body.inputs f.peek && (nat_le 1 f.pop && nat_le f.pop f.peek)
 
 -- the body of a `filter` is well formed, the kept slots are among its slots, and each run pushes so many rows of one value to port 0
-abbrev pub is_filter : FilterForm → Bool
-is_filter f =
+abbrev pub is_usual : FilterForm → Bool
+is_usual f =
     has_rates f && (is_steps f.peek f.body.slots (pos 1 ∷ []) f.body.steps && (nat_le (length f.starts) f.body.slots && is_number (pushes f.body.steps) f.push))
+
+-- a first run has as many slots as the others; its inputs are the first values of the buffer, of which no more than these leave it; it
+-- pushes so many rows of one value to port 0
+abbrev pub is_run : ℕ → RunForm → Bool
+is_run slots r =
+    nat_eq r.body.inputs r.peek && (nat_eq r.body.slots slots && (nat_le r.pop r.peek
+    && (is_steps r.peek slots (pos 1 ∷ []) r.body.steps && is_number (pushes r.body.steps) r.push)))
+
+abbrev pub is_first : ℕ → Option RunForm → Bool
+is_first slots None = true
+is_first slots (Some r) = is_run slots r
+
+abbrev pub is_filter : FilterForm → Bool
+is_filter f = is_usual f && is_first f.body.slots f.first
 
 -- there are weights, and each is at least 1
 abbrev pub are_weights : List ℤ → Bool

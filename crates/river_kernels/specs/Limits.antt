@@ -1,7 +1,7 @@
 -- The numbers in a kernel that are limited, in the order of its parts.
 use Rattle.std.specs.Prelude.{ℕ, ◌+◌, ◌-◌, ◌^◌, ℤ, List, [], ◌∷◌, ◌++◌, Option, Some, None, min, max, nat_lt, if◌then◌else◌}
 use Rattle.work_code.specs.Steps.{Step, Steps, Set, Push, If, Done, Then, Body}
-use Rattle.kern_rows.specs.Forms.{FilterForm}
+use Rattle.kern_rows.specs.Forms.{FilterForm, RunForm}
 use Rattle.kern_bags.specs.declared.kernel.Window.{Window}
 use Rattle.kern_bags.specs.declared.kernel.Window.TheVariants.{Now, Range, Unbounded, Latest as LatestRows}
 use Rattle.river_kernels.specs.declared.limit.Limit.{Limit}
@@ -76,6 +76,29 @@ rate_numbers Nesting f = []
 rate_numbers Latest f = []
 rate_numbers Best f = []
 
+-- the rates of a first run
+abbrev pub run_numbers : Limit → RunForm → List ℕ
+run_numbers Inputs r = []
+run_numbers Operators r = []
+run_numbers Queues r = []
+run_numbers Variables r = []
+run_numbers Ports r = []
+run_numbers Statements r = []
+run_numbers Slots r = []
+run_numbers Rates r = r.peek ∷ r.pop ∷ r.push ∷ []
+run_numbers Weights r = []
+run_numbers Nesting r = []
+run_numbers Latest r = []
+run_numbers Best r = []
+
+abbrev pub first_numbers : Limit → Option RunForm → List ℕ
+first_numbers limit None = []
+first_numbers limit (Some r) = body_numbers limit r.body ++ run_numbers limit r
+
+-- the first run is read before the others
+abbrev pub filter_numbers : Limit → FilterForm → List ℕ
+filter_numbers limit f = first_numbers limit f.first ++ (body_numbers limit f.body ++ rate_numbers limit f)
+
 -- the sum of the weights of one splitter or joiner
 abbrev pub weight_numbers : Limit → List ℤ → List ℕ
 weight_numbers Inputs ws = []
@@ -115,7 +138,7 @@ window_numbers Best w = []
 -- the numbers of the parts that hold no kernel, first those of the first part
 abbrev pub part_numbers : Limit → Kern → List ℕ
 part_numbers limit (code k) = body_numbers limit k.body
-part_numbers limit (filter f) = body_numbers limit f.body ++ rate_numbers limit f
+part_numbers limit (filter f) = filter_numbers limit f
 part_numbers limit (deal ws) = weight_numbers limit ws
 part_numbers limit (collect ws) = weight_numbers limit ws
 part_numbers limit (packed k) = part_numbers limit k

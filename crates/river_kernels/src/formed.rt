@@ -3,13 +3,13 @@ ghost use Rattle.std.specs.Prelude.{◌≡◌, ◌&&◌, nat_le, nat_eq};
 ghost use Rattle.std.specs.List.{list_all};
 ghost use Rattle.work_code.specs.Term.{term, terms, depth_of};
 ghost use Rattle.work_code.specs.Steps.{step, steps};
-ghost use Rattle.kern_rows.specs.Forms.{code_form, filter_form};
+ghost use Rattle.kern_rows.specs.Forms.{code_form, filter_form, run_form, optional_run};
 ghost use Rattle.river_base.specs.Number.{count_of};
-ghost use Rattle.river_kernels.specs.Formed.{left_of, has_rates, is_sound, is_term, has_port, is_step, is_steps, is_width, is_code, is_filter, are_weights, is_window, pushes, pushes_once};
+ghost use Rattle.river_kernels.specs.Formed.{left_of, has_rates, is_sound, is_term, has_port, is_step, is_steps, is_width, is_code, is_filter, is_usual, is_run, is_first, are_weights, is_window, pushes, pushes_once};
 ghost use Rattle.river_kernels.specs.Fits.{are_widths};
 
 use kern_bags::Window;
-use kern_rows::{CodeKernel, Filter};
+use kern_rows::{CodeKernel, Filter, First};
 use work_code::{Expr, Exprs, Stmt, Stmts};
 
 /// How deep an expression may be.
@@ -185,9 +185,36 @@ pub(crate) fn is_formed_code(k: &CodeKernel) -> bool
         && k.starts.len() <= k.code.slots as usize
 }
 
-// Whether the rates and the body are well formed, and each run pushes as many values as the filter says.
+// Whether the filter is well formed, and its first run where it has one of its own.
 pub(crate) fn is_formed_filter(f: &Filter) -> bool
     ensures { result ≡ is_filter (filter_form f.now) }
+{
+    is_formed_usual(f) && is_formed_first(&f.first, f.code.slots)
+}
+
+fn is_formed_first(first: &Option<First>, slots: u32) -> bool
+    ensures { result ≡ is_first slots (optional_run first.now) }
+{
+    match first {
+        None => true,
+        Some(run) => is_formed_run(run, slots),
+    }
+}
+
+// Whether the rates and the body of a first run are well formed, and it pushes as many values as it says.
+fn is_formed_run(run: &First, slots: u32) -> bool
+    ensures { result ≡ is_run slots (run_form run.now) }
+{
+    run.code.inputs == run.peek
+        && run.code.slots == slots
+        && run.pop <= run.peek
+        && are_formed_stmts(&run.code.body, run.peek, slots, &[1])
+        && left_after(&run.code.body, run.push) == Some(0)
+}
+
+// Whether the rates and the body are well formed, and each run pushes as many values as the filter says.
+fn is_formed_usual(f: &Filter) -> bool
+    ensures { result ≡ is_usual (filter_form f.now) }
 {
     has_formed_rates(f)
         && are_formed_stmts(&f.code.body, f.peek, f.code.slots, &[1])

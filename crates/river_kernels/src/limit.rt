@@ -1,14 +1,14 @@
 // What is limited in kernels and plans.
-ghost use Rattle.std.specs.Prelude.{◌≡◌, [], ◌∷◌};
+ghost use Rattle.std.specs.Prelude.{◌≡◌, [], ◌∷◌, ◌++◌};
 ghost use Rattle.work_code.specs.Steps.{step, steps, statements, body_of};
-ghost use Rattle.kern_rows.specs.Forms.{filter_form};
+ghost use Rattle.kern_rows.specs.Forms.{filter_form, run_form, optional_run};
 ghost use Rattle.river_base.specs.Number.{count_of};
 ghost use Rattle.river_kernels.specs.Kern.{kern_of};
-ghost use Rattle.river_kernels.specs.Limits.{told, either, first_above, size_once, size, weight_sum, nesting, body_numbers, rate_numbers, weight_numbers, window_numbers, part_numbers};
+ghost use Rattle.river_kernels.specs.Limits.{told, either, first_above, size_once, size, weight_sum, nesting, body_numbers, rate_numbers, run_numbers, first_numbers, filter_numbers, weight_numbers, window_numbers, part_numbers};
 
 use crate::Kernel;
 use kern_bags::Window;
-use kern_rows::Filter;
+use kern_rows::{Filter, First};
 use river_base::Numbers;
 use work_code::{Code, Stmt, Stmts};
 
@@ -29,7 +29,7 @@ pub enum Limit {
     Statements,
     /// The slots of one body: 256.
     Slots,
-    /// Each rate of a filter: 65,536.
+    /// Each rate of a filter, and of its first run: 65,536.
     Rates,
     /// The sum of the weights of one splitter or joiner: 65,536.
     Weights,
@@ -49,10 +49,7 @@ pub fn first_above(kernel: &Kernel, limit: Limit, most: u64) -> Option<u128>
 {
     match kernel {
         Kernel::Code(code) => body_above(&code.code, limit, most),
-        Kernel::Filter(filter) => {
-            let number = body_above(&filter.code, limit, most);
-            either(number, rate_above(filter, limit, most))
-        }
+        Kernel::Filter(filter) => filter_above(filter, limit, most),
         Kernel::Deal(weights) => weights_above(weights, limit, most),
         Kernel::Collect(weights) => weights_above(weights, limit, most),
         Kernel::Packed(inner) => first_above(inner, limit, most),
@@ -108,6 +105,45 @@ fn body_above(code: &Code, limit: Limit, most: u64) -> Option<u128>
     match limit {
         Limit::Statements => above(size(&code.body), most),
         Limit::Slots => above(code.slots as u128, most),
+        _ => None,
+    }
+}
+
+// The first number of a filter that is above the most: first those of its first run, where it has one of its own.
+#[tactic(auto, using(crate::proofs::LimitLemmas::joins))]
+fn filter_above(filter: &Filter, limit: Limit, most: u64) -> Option<u128>
+    ensures { result ≡ first_above most (filter_numbers limit (filter_form filter.now)) }
+{
+    let number = first_run_above(&filter.first, limit, most);
+    either(number, usual_above(filter, limit, most))
+}
+
+#[tactic(auto, using(crate::proofs::LimitLemmas::joins))]
+fn usual_above(filter: &Filter, limit: Limit, most: u64) -> Option<u128>
+    ensures { result ≡ first_above most (body_numbers limit (body_of filter.now.code) ++ rate_numbers limit (filter_form filter.now)) }
+{
+    let number = body_above(&filter.code, limit, most);
+    either(number, rate_above(filter, limit, most))
+}
+
+#[tactic(auto, using(crate::proofs::LimitLemmas::joins))]
+fn first_run_above(first: &Option<First>, limit: Limit, most: u64) -> Option<u128>
+    ensures { result ≡ first_above most (first_numbers limit (optional_run first.now)) }
+{
+    match first {
+        None => None,
+        Some(run) => {
+            let number = body_above(&run.code, limit, most);
+            either(number, run_rate_above(run, limit, most))
+        }
+    }
+}
+
+fn run_rate_above(run: &First, limit: Limit, most: u64) -> Option<u128>
+    ensures { result ≡ first_above most (run_numbers limit (run_form run.now)) }
+{
+    match limit {
+        Limit::Rates => first_of_three(run.peek as u128, run.pop as u128, run.push as u128, most),
         _ => None,
     }
 }

@@ -6,7 +6,7 @@ use Rattle.std.proofs.lemmas.Bool.Decides.{nat_tests}
 use Rattle.river_outside.specs.Held.{Held}
 use Rattle.river_outside.specs.Fetched.{FetchesAll, IsLarger}
 use Rattle.river_order.specs.Text.{failed_text, absent_text}
-use Rattle.river_order.specs.Order.{Order, Fetch, Refused, Unread, Done, EndsIn, Comes}
+use Rattle.river_order.specs.Order.{Order, Fetch, Refused, Unread, EndsIn, Comes}
 use Rattle.river_order.specs.Decides.{Stops}
 use Rattle.river_order.specs.Passes.{Passes}
 use Rattle.river_order.specs.declared.stop.Stop.{Stop}

@@ -2,7 +2,7 @@
 use Rattle.std.specs.Prelude.{◌≡◌, ⊤, ℕ, List, Option, None, MatchOption, Result, Ok, Err}
 use Rattle.river_outside.specs.Held.{Held}
 use Rattle.river_order.specs.Text.{failed_text, absent_text}
-use Rattle.river_order.specs.Order.{Order, Ends, IsVerdict, IsTurn, Refused, Unread, Done}
+use Rattle.river_order.specs.Order.{Order, IsVerdict, IsTurn, Refused, Unread, Done}
 use Rattle.river_order.specs.declared.stop.Stop.{Stop}
 use Rattle.river_order.specs.declared.stop.Stop.TheVariants as stop
 

@@ -1,6 +1,6 @@
 -- Kernels, printed and read.
-use Rattle.std.proofs.Common.{◌≡◌, ℕ, zero, suc, ◌+◌, ◌≤◌, true, List, [], ◌∷◌, ◌++◌, refl, sym, ap, subst, arith, append_assoc, append-nil}
-use Rattle.std.specs.Prelude.{codes, map, ℤ}
+use Rattle.std.proofs.Common.{◌≡◌, ℕ, zero, suc, ◌+◌, ◌≤◌, true, List, [], ◌∷◌, ◌++◌, refl, sym, ap, ◌∙◌, subst, arith, append_assoc, append-nil}
+use Rattle.std.specs.Prelude.{codes, map, ℤ, Option, None, Some}
 use Rattle.std.specs.Fmt.{decimal, signed_decimal}
 use Rattle.work_code.specs.Lexis.{is_letter, is_word, is_digit}
 use Rattle.work_code.specs.Printed.{text_of, body_text}
@@ -8,7 +8,7 @@ use Rattle.work_code.specs.Steps.{Steps}
 use Rattle.work_code.specs.Tok.{Tok, name, number, symbol}
 use Rattle.work_code.specs.declared.sign.Symbol.TheVariants as s
 use Rattle.work_code.proofs.Spelled.{is_name_text}
-use Rattle.kern_rows.specs.Forms.{CodeForm, FilterForm}
+use Rattle.kern_rows.specs.Forms.{CodeForm, FilterForm, RunForm}
 use Rattle.kern_bags.specs.declared.kernel.Window.{Window}
 use Rattle.kern_bags.specs.declared.kernel.Window.TheVariants.{Now, Range, Unbounded, Latest}
 use Rattle.kern_bags.specs.declared.kernel.Streamer.{Streamer}
@@ -17,8 +17,8 @@ use Rattle.river_kernels.specs.Kern.{Kern}
 use Rattle.river_kernels.specs.Kern as kern
 use Rattle.river_kernels.specs.Limits.{nesting}
 use Rattle.text_forms.specs.Forms as form
-use Rattle.text_blocks.specs.Parts.{Round}
-use Rattle.river_print.specs.Printed.{list_text, values_text, starts_text, start_text, run_text, window_text, streamer_text, kernel_text}
+use Rattle.text_blocks.specs.Parts.{Round, optional}
+use Rattle.river_print.specs.Printed.{list_text, values_text, starts_text, start_text, run_text, first_text, firsts_text, window_text, streamer_text, kernel_text}
 use Rattle.river_text.specs.Bodies as bodies
 use Rattle.river_text.specs.Expressions as exprs
 use Rattle.river_text.specs.Kernels as g
@@ -55,6 +55,18 @@ run-piece starts steps h b =
     (list-first (map start_text starts) (map start_tok starts) (codes " " ++ body_text steps) (body_toks steps) (pieces g.Signed start_text start_tok w.IsStart start-item starts h)
     (blank-first (body_text steps) (body_toks steps) (body-piece steps b)))
 
+-- a first run of its own, or none
+abbrev first_toks : RunForm → List Tok
+first_toks r = name (codes "first") ∷ listed (counts (r.peek ∷ r.pop ∷ r.push ∷ [])) (body_toks r.body.steps)
+
+abbrev firsts_toks : Option RunForm → List Tok
+firsts_toks None = []
+firsts_toks (Some r) = first_toks r
+
+-- what stands behind the word `filter`
+abbrev filter_toks : FilterForm → List Tok
+filter_toks f = listed (counts (f.peek ∷ f.pop ∷ f.push ∷ f.body.slots ∷ [])) (run_toks f.starts f.body.steps ++ firsts_toks f.first)
+
 window_toks : Window → List Tok
 window_toks Now = name (codes "now") ∷ []
 window_toks (Range t) = name (codes "range") ∷ listed (value_tok t ∷ []) []
@@ -70,7 +82,7 @@ streamer_toks Rstream = name (codes "rstream") ∷ []
 pub kernel_toks : Kern → List Tok
 kernel_toks (kern.code c) =
     name (codes "code") ∷ listed (counts (c.body.inputs ∷ c.body.slots ∷ [])) (listed (map value_tok c.outs) (run_toks c.starts c.body.steps))
-kernel_toks (kern.filter f) = name (codes "filter") ∷ listed (counts (f.peek ∷ f.pop ∷ f.push ∷ f.body.slots ∷ [])) (run_toks f.starts f.body.steps)
+kernel_toks (kern.filter f) = name (codes "filter") ∷ filter_toks f
 kernel_toks (kern.duplicate n) = name (codes "duplicate") ∷ listed (count_tok n ∷ []) []
 kernel_toks (kern.deal ws) = name (codes "deal") ∷ listed (map value_tok ws) []
 kernel_toks (kern.collect ws) = name (codes "collect") ∷ listed (map value_tok ws) []
@@ -107,6 +119,10 @@ module _ where
   is_filter : is_name_text (codes "filter") ≡ true
   unfolding is_letter is_word is_digit
   is_filter = refl
+
+  is_first : is_name_text (codes "first") ≡ true
+  unfolding is_letter is_word is_digit
+  is_first = refl
 
   is_duplicate : is_name_text (codes "duplicate") ≡ true
   unfolding is_letter is_word is_digit
@@ -205,14 +221,35 @@ code-piece c h =
     word-first (codes "code") (list_text (decimal c.body.inputs ∷ decimal c.body.slots ∷ []) ++ (codes " " ++ (values_text c.outs ++ run_text c.starts c.body.steps))) (listed (counts (c.body.inputs ∷ c.body.slots ∷ [])) (listed outs (run_toks c.starts c.body.steps))) is_code sizes
     (ends-open _)
 
+first-piece : (slots : ℕ) (r : RunForm) → w.IsRun slots r → Piece (first_text r) (first_toks r)
+first-piece slots r h =
+    let ns : List ℕ = r.peek ∷ r.pop ∷ r.push ∷ [] in
+    let rates : Piece (list_text (map decimal ns) ++ (codes " " ++ body_text r.body.steps)) (listed (counts ns) (body_toks r.body.steps)) =
+    list-first (map decimal ns) (counts ns) (codes " " ++ body_text r.body.steps) (body_toks r.body.steps) (counts-pieces ns (h.0, (h.1, (h.2, tt))))
+    (blank-first (body_text r.body.steps) (body_toks r.body.steps) (body-piece r.body.steps h.3.0)) in
+    blank-first (codes "first" ++ (list_text (map decimal ns) ++ (codes " " ++ body_text r.body.steps))) (first_toks r)
+    (word-first (codes "first") (list_text (map decimal ns) ++ (codes " " ++ body_text r.body.steps)) (listed (counts ns) (body_toks r.body.steps)) is_first rates
+    (ends-open _))
+
+firsts-piece : (slots : ℕ) (o : Option RunForm) → w.IsFirst slots o → Piece (firsts_text o) (firsts_toks o)
+firsts-piece slots None h = piece-nothing
+firsts-piece slots (Some r) h = first-piece slots r h
+
+firsts-ends : (o : Option RunForm) → EndsWord (firsts_text o)
+firsts-ends None = ends-nothing
+firsts-ends (Some r) = ends-blank _
+
 filter-piece : (f : FilterForm) → w.IsFilter f → Piece (kernel_text (kern.filter f)) (kernel_toks (kern.filter f))
 unfolding kernel_toks
 filter-piece f h =
-    let run : Piece (run_text f.starts f.body.steps) (run_toks f.starts f.body.steps) = run-piece f.starts f.body.steps h.4 h.5.0 in
     let ns : List ℕ = f.peek ∷ f.pop ∷ f.push ∷ f.body.slots ∷ [] in
-    word-first (codes "filter") (list_text (decimal f.peek ∷ decimal f.pop ∷ decimal f.push ∷ decimal f.body.slots ∷ []) ++ run_text f.starts f.body.steps) (listed (counts (f.peek ∷ f.pop ∷ f.push ∷ f.body.slots ∷ [])) (run_toks f.starts f.body.steps)) is_filter
-    (list-first (decimal f.peek ∷ decimal f.pop ∷ decimal f.push ∷ decimal f.body.slots ∷ []) (counts (f.peek ∷ f.pop ∷ f.push ∷ f.body.slots ∷ [])) (run_text f.starts f.body.steps) (run_toks f.starts f.body.steps)
-    (counts-pieces (f.peek ∷ f.pop ∷ f.push ∷ f.body.slots ∷ []) (h.0, (h.1, (h.2, (h.3, tt))))) run)
+    let text : List ℕ = run_text f.starts f.body.steps ++ firsts_text f.first in
+    let toks : List Tok = run_toks f.starts f.body.steps ++ firsts_toks f.first in
+    let runs : Piece text toks =
+    piece-then (run_text f.starts f.body.steps) (run_toks f.starts f.body.steps) (firsts_text f.first) (firsts_toks f.first) (run-piece f.starts f.body.steps h.4 h.5.0)
+    (firsts-piece f.body.slots f.first h.7) (firsts-ends f.first) in
+    word-first (codes "filter") (list_text (map decimal ns) ++ text) (listed (counts ns) toks) is_filter
+    (list-first (map decimal ns) (counts ns) text toks (counts-pieces ns (h.0, (h.1, (h.2, (h.3, tt))))) runs)
     (ends-open _)
 
 packed-piece : (k : Kern) → Piece (kernel_text k) (kernel_toks k) → Piece (kernel_text (kern.packed k)) (kernel_toks (kern.packed k))
@@ -313,16 +350,77 @@ code-formed m c h room = record {
       (items-listing g.Width signed_decimal value_tok w.IsWidth width-item c.outs h.2) (run-formed m c.starts c.body.steps h.3 h.4 room));
 }
 
-filter-formed : (m : ℕ) (f : FilterForm) → w.IsFilter f → 81 ≤ m
-    → g.IsFilter (suc m) (kern.filter f) (listed (counts (f.peek ∷ f.pop ∷ f.push ∷ f.body.slots ∷ [])) (run_toks f.starts f.body.steps))
-filter-formed m f h room = record {
-  value = ((f.peek, (f.pop, (f.push, f.body.slots))), (f.starts, f.body.steps));
-  is =
-      ap (λ (k : ℕ). kern.filter (record { peek = f.peek; pop = f.pop; push = f.push; body = record { inputs = k; slots = f.body.slots; steps = f.body.steps }; starts = f.starts })) h.6;
+three-formed : (a b c : ℕ) → w.IsCount a → w.IsCount b → w.IsCount c
+    → form.Both form.Count (form.After (s.Comma ∷ []) (form.Both form.Count (form.After (s.Comma ∷ []) form.Count))) (a, (b, c)) (number a ∷ symbol s.Comma ∷ number b ∷ symbol s.Comma ∷ number c ∷ [])
+three-formed a b c x y z = record {
+  front = number a ∷ [];
+  back = symbol s.Comma ∷ number b ∷ symbol s.Comma ∷ number c ∷ [];
+  is = refl;
+  first = count-formed a x;
+  second = record { back = number b ∷ symbol s.Comma ∷ number c ∷ []; is = refl; formed = pair-formed b c y z };
+}
+
+-- the parts of a first run
+abbrev parts_of : RunForm → g.FirstParts
+parts_of r = ((r.peek, (r.pop, r.push)), r.body.steps)
+
+first-formed : (m slots : ℕ) (r : RunForm) → w.IsRun slots r → 81 ≤ m → form.AfterWord (codes "first") (g.IsFirst (suc m)) (parts_of r) (first_toks r)
+first-formed m slots r h room = record {
+  back = listed (counts (r.peek ∷ r.pop ∷ r.push ∷ [])) (body_toks r.body.steps);
+  is = refl;
   formed =
-      list-then (λ k. form.Both form.Count (form.After (s.Comma ∷ []) (form.Both form.Count (form.After (s.Comma ∷ []) (form.Both form.Count (form.After (s.Comma ∷ []) form.Count)))))) (runs (suc m)) m (f.peek, (f.pop, (f.push, f.body.slots))) (f.starts, f.body.steps)
-      (number f.peek ∷ symbol s.Comma ∷ number f.pop ∷ symbol s.Comma ∷ number f.push ∷ symbol s.Comma ∷ number f.body.slots ∷ []) (run_toks f.starts f.body.steps) (four-formed f.peek f.pop f.push f.body.slots h.0 h.1 h.2 h.3)
-      (run-formed m f.starts f.body.steps h.4 h.5 room);
+      list-then (λ k. form.Both form.Count (form.After (s.Comma ∷ []) (form.Both form.Count (form.After (s.Comma ∷ []) form.Count)))) (bodies.IsBody 16 (suc m)) m (r.peek, (r.pop, r.push)) r.body.steps
+      (number r.peek ∷ symbol s.Comma ∷ number r.pop ∷ symbol s.Comma ∷ number r.push ∷ []) (body_toks r.body.steps) (three-formed r.peek r.pop r.push h.0 h.1 h.2)
+      (body-formed 16 (suc m) r.body.steps h.3.0 h.3.1 (omega arith));
+}
+
+firsts-formed : (m slots : ℕ) (o : Option RunForm) → w.IsFirst slots o → 81 ≤ m
+    → form.Maybe (form.AfterWord (codes "first") (g.IsFirst (suc m))) (optional parts_of o) (firsts_toks o)
+firsts-formed m slots None h room = refl
+firsts-formed m slots (Some r) h room = first-formed m slots r h room
+
+-- a run and its parts are one
+run-is : (slots : ℕ) (r : RunForm) → w.IsRun slots r → r ≡ g.made_first slots (parts_of r)
+run-is slots r h =
+    ap (λ (k : ℕ). record { peek = r.peek; pop = r.pop; push = r.push; body = record { inputs = k; slots = r.body.slots; steps = r.body.steps } }) h.4
+    ∙ ap (λ (k : ℕ). record { peek = r.peek; pop = r.pop; push = r.push; body = record { inputs = r.peek; slots = k; steps = r.body.steps } }) h.5
+
+runs-are : (slots : ℕ) (o : Option RunForm) → w.IsFirst slots o → o ≡ optional (g.made_first slots) (optional parts_of o)
+runs-are slots None h = refl
+runs-are slots (Some r) h = ap (λ (x : RunForm). Some x) (run-is slots r h)
+
+-- starts, a body, and what stands behind it
+abbrev filter_runs : ℕ → List ℤ × (Steps × Option g.FirstParts) → List Tok → Type 0
+filter_runs n = form.Both (g.IsStarts n) (form.Both (bodies.IsBody 16 n) (form.Maybe (form.AfterWord (codes "first") (g.IsFirst n))))
+
+runs-formed : (m slots : ℕ) (starts : List ℤ) (steps : Steps) (o : Option RunForm) → w.Every w.IsStart starts → w.IsBody steps → w.IsFirst slots o → 81 ≤ m
+    → filter_runs (suc m) (starts, (steps, optional parts_of o)) (run_toks starts steps ++ firsts_toks o)
+runs-formed m slots starts steps o h b f room =
+    let ts = symbol s.Open ∷ (items_toks (map start_tok starts) ++ symbol s.Close ∷ []) in
+    record {
+      front = ts;
+      back = body_toks steps ++ firsts_toks o;
+      is = ap (λ (l : List Tok). l ++ firsts_toks o) (behind_round (items_toks (map start_tok starts)) (body_toks steps)) ∙ append_assoc ts (body_toks steps) (firsts_toks o);
+      first = round-formed (λ k. form.Listing g.Signed) m starts (items_toks (map start_tok starts)) (items-listing g.Signed start_text start_tok w.IsStart start-item starts h);
+      second = record {
+        front = body_toks steps;
+        back = firsts_toks o;
+        is = refl;
+        first = body-formed 16 (suc m) steps b.0 b.1 (omega arith);
+        second = firsts-formed m slots o f room;
+      };
+    }
+
+filter-formed : (m : ℕ) (f : FilterForm) → w.IsFilter f → 81 ≤ m → g.IsFilter (suc m) (kern.filter f) (filter_toks f)
+filter-formed m f h room = record {
+  value = ((f.peek, (f.pop, (f.push, f.body.slots))), (f.starts, (f.body.steps, optional parts_of f.first)));
+  is =
+      ap (λ (k : ℕ). kern.filter (record { peek = f.peek; pop = f.pop; push = f.push; body = record { inputs = k; slots = f.body.slots; steps = f.body.steps }; starts = f.starts; first = f.first })) h.6
+      ∙ ap (λ (o : Option RunForm). kern.filter (record { peek = f.peek; pop = f.pop; push = f.push; body = record { inputs = f.peek; slots = f.body.slots; steps = f.body.steps }; starts = f.starts; first = o })) (runs-are f.body.slots f.first h.7);
+  formed =
+      list-then (λ k. form.Both form.Count (form.After (s.Comma ∷ []) (form.Both form.Count (form.After (s.Comma ∷ []) (form.Both form.Count (form.After (s.Comma ∷ []) form.Count)))))) (filter_runs (suc m)) m (f.peek, (f.pop, (f.push, f.body.slots))) (f.starts, (f.body.steps, optional parts_of f.first))
+      (number f.peek ∷ symbol s.Comma ∷ number f.pop ∷ symbol s.Comma ∷ number f.push ∷ symbol s.Comma ∷ number f.body.slots ∷ []) (run_toks f.starts f.body.steps ++ firsts_toks f.first) (four-formed f.peek f.pop f.push f.body.slots h.0 h.1 h.2 h.3)
+      (runs-formed m f.body.slots f.starts f.body.steps f.first h.4 h.5 h.7 room);
 }
 
 window-formed : (m : ℕ) (x : Window) → w.IsWindow x → g.IsKernel (suc m) (kern.window x) (window_toks x)
@@ -351,7 +449,7 @@ kernel-formed zero k h room = absurd (omega arith)
 kernel-formed (suc m) (kern.code c) h room =
     record { word = codes "code"; back = listed (counts (c.body.inputs ∷ c.body.slots ∷ [])) (listed (map value_tok c.outs) (run_toks c.starts c.body.steps)); is = refl; formed = code-formed m c h (omega arith) }
 kernel-formed (suc m) (kern.filter f) h room =
-    record { word = codes "filter"; back = listed (counts (f.peek ∷ f.pop ∷ f.push ∷ f.body.slots ∷ [])) (run_toks f.starts f.body.steps); is = refl; formed = filter-formed m f h (omega arith) }
+    record { word = codes "filter"; back = filter_toks f; is = refl; formed = filter-formed m f h (omega arith) }
 kernel-formed (suc m) (kern.duplicate n) h room =
     record { word = codes "duplicate"; back = listed (count_tok n ∷ []) []; is = refl; formed = record { value = n; is = refl; formed = round-formed (λ k. form.Count) m n (count_tok n) (count-formed n h) } }
 kernel-formed (suc m) (kern.deal ws) h room =

@@ -17,7 +17,7 @@ use Rattle.text_forms.specs.Levels as levels
 use Rattle.text_forms.specs.Forms as form
 use Rattle.text_forms.specs.Parse.{is_count}
 use Rattle.text_forms.specs.Texts.{AllFormed}
-use Rattle.text_blocks.specs.Parts.{Round}
+use Rattle.text_blocks.specs.Parts.{Round, optional}
 use Rattle.text_blocks.specs.declared.sign.Sign.{Sign}
 use Rattle.text_blocks.specs.declared.sign.Sign.TheVariants as sign
 use Rattle.text_blocks.proofs.Every.{IfThere, every-block}
@@ -208,11 +208,36 @@ code n = gives-seen g.made_code IsKernel
     (gives-both (gives-enclosed _ _ (λ m. gives-listing width) n) (gives-both (starts n) (body n))))
     (λ v h. (((h.0.0, h.0.1, h.1.1.1.0), h.1.0, h.1.1.0), h.1.1.1.1, tt))
 
+-- the parts of a first run, and of one that may be there
+abbrev AreFirst : g.FirstParts → Type 0
+AreFirst v = (w.IsCount v.0.0 × (w.IsCount v.0.1.0 × w.IsCount v.0.1.1)) × IsSteps 16 v.1
+
+abbrev AreFirsts : Option g.FirstParts → Type 0
+AreFirsts None = Unit {0}
+AreFirsts (Some v) = AreFirst v
+
+first : (n : ℕ) → Gives (form.AfterWord (codes "first") (g.IsFirst n)) AreFirst
+first n = gives-after_word (codes "first")
+    (gives-both (gives-enclosed _ _ (λ m. gives-both count (gives-after _ (gives-both count (gives-after _ count)))) n) (body n))
+
+firsts : (n : ℕ) → Gives (form.Maybe (form.AfterWord (codes "first") (g.IsFirst n))) AreFirsts
+firsts n = record { give = give }
+  where
+    give : (v : Option g.FirstParts) (ts : List Tok) → form.Maybe (form.AfterWord (codes "first") (g.IsFirst n)) v ts → AreFirsts v
+    give None ts h = tt
+    give (Some v) ts h = let f = first n in f.give v ts h
+
+ranged-first : (slots : ℕ) (o : Option g.FirstParts) → w.IsCount slots → AreFirsts o
+    → ranges.IsRangedFirst (optional (g.made_first slots) o) × r.IsShallowFirst (optional (g.made_first slots) o)
+ranged-first slots None count h = (tt, tt)
+ranged-first slots (Some v) count h = ((h.0.0, h.0.1.0, h.0.1.1, (h.0.0, count, h.1.0)), h.1.1)
+
 filter : (n : ℕ) → Gives (g.IsFilter n) IsKernel
 filter n = gives-seen g.made_filter IsKernel
     (gives-both (gives-enclosed _ _ (λ m. gives-both count (gives-after _ (gives-both count (gives-after _ (gives-both count (gives-after _ count)))))) n)
-    (gives-both (starts n) (body n)))
-    (λ v h. ((h.0.0, h.0.1.0, h.0.1.1.0, (h.0.0, h.0.1.1.1, h.1.1.0), h.1.0), h.1.1.1, tt))
+    (gives-both (starts n) (gives-both (body n) (firsts n))))
+    (λ v h. let f = ranged-first v.0.1.1.1 v.1.1.1 h.0.1.1.1 h.1.1.1 in
+    ((h.0.0, h.0.1.0, h.0.1.1.0, (h.0.0, h.0.1.1.1, h.1.1.0.0), h.1.0, f.0), (h.1.1.0.1, f.1), tt))
 
 -- a kernel that is one number in brackets, or some weights
 counted : (f : ℕ → Kern) → ((n : ℕ) → w.IsCount n → IsKernel (f n)) → (n : ℕ) → Gives (form.Seen f (Round (λ m. form.Count) n)) IsKernel

@@ -7,14 +7,14 @@ use Rattle.std.proofs.lemmas.Bool.Decides.{nat_tests}
 use Rattle.std.proofs.lemmas.List.Elements.{All-head, All-tail}
 use Rattle.work_code.specs.Term.{Term, Const, Input, Slot, Neg, Not, Bin, depth_of}
 use Rattle.work_code.specs.Steps.{Step, Steps, Set, Push, If, Done, Then}
-use Rattle.kern_rows.specs.Forms.{CodeForm, FilterForm}
+use Rattle.kern_rows.specs.Forms.{CodeForm, FilterForm, RunForm}
 use Rattle.kern_bags.specs.declared.kernel.Window.{Window}
 use Rattle.kern_bags.specs.declared.kernel.Window.TheVariants.{Now, Range, Unbounded, Latest}
 use Rattle.river_base.specs.Number.{count_of}
 use Rattle.river_base.specs.declared.kind.QueueType.{QueueType}
 use Rattle.river_base.specs.declared.kind.QueueType.TheVariants.{Flat}
 use Rattle.river_kernels.specs.declared.types.VarKind.{VarKind}
-use Rattle.river_kernels.specs.Formed.{is_width, is_sound, is_term, counts, has_port, is_step, is_steps, is_code, is_filter, has_rates, is_number, are_weights}
+use Rattle.river_kernels.specs.Formed.{is_width, is_sound, is_term, counts, has_port, is_step, is_steps, is_code, is_filter, is_usual, is_run, is_first, has_rates, is_number, are_weights}
 use Rattle.river_kernels.specs.Formed.{pushes}
 use Rattle.river_kernels.specs.Fits.{Fits, is_sized, is_bag, are_widths, width_of}
 use Rattle.river_kernels.specs.Kern.{Kern}
@@ -130,12 +130,27 @@ code c wide h k s =
     let a = and_parts (is_steps c.body.inputs c.body.slots c.outs c.body.steps) (nat_le (length c.starts) c.body.slots) h in
     (k.0.0, k.0.1, widths c.outs wide, k.2, (steps c.body.inputs c.body.slots c.outs c.body.steps wide a.0 k.0.2, s))
 
-filter : (f : FilterForm) → is_filter f ≡ true → ranges.IsRangedFilter f → depths f.body.steps ≤ 16 → w.IsFilter f
-filter f h k s =
+run : (slots : ℕ) (x : RunForm) → is_run slots x ≡ true → ranges.IsRangedRun x → depths x.body.steps ≤ 16 → w.IsRun slots x
+run slots x h k d =
+    let body = is_steps x.peek slots (pos 1 ∷ []) x.body.steps in
+    let a = and_parts (nat_eq x.body.inputs x.peek) (nat_eq x.body.slots slots && (nat_le x.pop x.peek && (body && is_number (pushes x.body.steps) x.push))) h in
+    let b = and_parts (nat_eq x.body.slots slots) (nat_le x.pop x.peek && (body && is_number (pushes x.body.steps) x.push)) a.1 in
+    let c = and_parts (nat_le x.pop x.peek) (body && is_number (pushes x.body.steps) x.push) b.1 in
+    let e = and_parts body (is_number (pushes x.body.steps) x.push) c.1 in
+    (k.0, k.1, k.2, (steps x.peek slots (pos 1 ∷ []) x.body.steps refl e.0 k.3.2, d), same_eq x.body.inputs x.peek a.0, same_eq x.body.slots slots b.0)
+
+first : (slots : ℕ) (o : Option RunForm) → is_first slots o ≡ true → ranges.IsRangedFirst o → r.IsShallowFirst o → w.IsFirst slots o
+first slots None h k d = tt
+first slots (Some x) h k d = run slots x h k d
+
+filter : (f : FilterForm) → is_filter f ≡ true → ranges.IsRangedFilter f → r.IsShallow (kern.filter f) → w.IsFilter f
+filter f h0 k s =
+    let z = and_parts (is_usual f) (is_first f.body.slots f.first) h0 in
+    let h = z.0 in
     let a = and_parts (has_rates f) (is_steps f.peek f.body.slots (pos 1 ∷ []) f.body.steps && (nat_le (length f.starts) f.body.slots && is_number (pushes f.body.steps) f.push)) h in
     let b = and_parts (is_steps f.peek f.body.slots (pos 1 ∷ []) f.body.steps) (nat_le (length f.starts) f.body.slots && is_number (pushes f.body.steps) f.push) a.1 in
     let c = and_parts (nat_eq f.body.inputs f.peek) (nat_le 1 f.pop && nat_le f.pop f.peek) a.0 in
-    (k.0, k.1, k.2, k.3.1, k.4, (steps f.peek f.body.slots (pos 1 ∷ []) f.body.steps refl b.0 k.3.2, s), same_eq f.body.inputs f.peek c.0)
+    (k.0, k.1, k.2, k.3.1, k.4, (steps f.peek f.body.slots (pos 1 ∷ []) f.body.steps refl b.0 k.3.2, s.0), same_eq f.body.inputs f.peek c.0, first f.body.slots f.first z.1 k.5 s.1)
 
 kernel : (k : Kern) (is os : List QueueType) (vs : List VarKind) → Fits k is os vs → ranges.IsRangedKernel k → r.IsShallow k → r.HasForward k → w.IsKernel k
 kernel (kern.code c) is os vs f k s d =

@@ -1,10 +1,10 @@
 -- The printed text of a plan: one unit a line.
-use Rattle.std.specs.Prelude.{ℕ, ℤ, negsuc, List, [], ◌∷◌, ◌++◌, map, codes, if◌then◌else◌}
+use Rattle.std.specs.Prelude.{ℕ, ℤ, negsuc, List, [], ◌∷◌, ◌++◌, Option, None, Some, map, codes, if◌then◌else◌}
 use Rattle.std.specs.Ordering.{int_eq}
 use Rattle.std.specs.Fmt.{decimal, signed_decimal}
 use Rattle.work_code.specs.Printed.{text_of, body_text, items_text}
 use Rattle.work_code.specs.Steps.{Steps}
-use Rattle.kern_rows.specs.Forms.{CodeForm, FilterForm}
+use Rattle.kern_rows.specs.Forms.{CodeForm, FilterForm, RunForm}
 use Rattle.kern_bags.specs.declared.kernel.Window.{Window}
 use Rattle.kern_bags.specs.declared.kernel.Window.TheVariants.{Now, Range, Unbounded, Latest}
 use Rattle.kern_bags.specs.declared.kernel.Streamer.{Streamer}
@@ -46,9 +46,17 @@ code_text c =
 abbrev pub rates_text : FilterForm → List ℕ
 rates_text f = list_text (decimal f.peek ∷ decimal f.pop ∷ decimal f.push ∷ decimal f.body.slots ∷ [])
 
+-- a first run of its own: its rates and its body
+abbrev pub first_text : RunForm → List ℕ
+first_text r = codes " first" ++ (list_text (decimal r.peek ∷ decimal r.pop ∷ decimal r.push ∷ []) ++ (codes " " ++ body_text r.body.steps))
+
+-- that run, or nothing where the first run is as the others
+abbrev pub firsts_text : Option RunForm → List ℕ
+firsts_text None = []
+firsts_text (Some r) = first_text r
+
 abbrev pub filter_text : FilterForm → List ℕ
-filter_text f =
-    codes "filter" ++ (rates_text f ++ run_text f.starts f.body.steps)
+filter_text f = codes "filter" ++ (rates_text f ++ (run_text f.starts f.body.steps ++ firsts_text f.first))
 
 abbrev pub window_text : Window → List ℕ
 window_text Now = codes "now"

@@ -1,7 +1,8 @@
 -- What the types of a plan's numbers and names say of them: each plan that is kept in memory has these ranges.
+use Rattle.std.specs.Prelude.{Option, None, Some}
 use Rattle.work_code.specs.Term.{Term, Const, Input, Slot, Neg, Not, Bin}
 use Rattle.work_code.specs.Steps.{Step, Steps, Set, Push, If, Done, Then, Body}
-use Rattle.kern_rows.specs.Forms.{CodeForm, FilterForm}
+use Rattle.kern_rows.specs.Forms.{CodeForm, FilterForm, RunForm}
 use Rattle.kern_bags.specs.declared.kernel.Window.{Window}
 use Rattle.kern_bags.specs.declared.kernel.Window.TheVariants.{Now, Range, Unbounded, Latest}
 use Rattle.river_kernels.specs.Kern.{Kern}
@@ -34,8 +35,15 @@ IsRangedBody b = IsCount b.inputs × IsCount b.slots × IsRangedSteps b.steps
 abbrev pub IsRangedCode : CodeForm → Type 0
 IsRangedCode c = IsRangedBody c.body × Every IsStart c.outs × Every IsStart c.starts
 
+abbrev pub IsRangedRun : RunForm → Type 0
+IsRangedRun r = IsCount r.peek × IsCount r.pop × IsCount r.push × IsRangedBody r.body
+
+abbrev pub IsRangedFirst : Option RunForm → Type 0
+IsRangedFirst None = Unit {0}
+IsRangedFirst (Some r) = IsRangedRun r
+
 abbrev pub IsRangedFilter : FilterForm → Type 0
-IsRangedFilter f = IsCount f.peek × IsCount f.pop × IsCount f.push × IsRangedBody f.body × Every IsStart f.starts
+IsRangedFilter f = IsCount f.peek × IsCount f.pop × IsCount f.push × IsRangedBody f.body × Every IsStart f.starts × IsRangedFirst f.first
 
 abbrev pub IsRangedWindow : Window → Type 0
 IsRangedWindow Now = Unit {0}

@@ -1,5 +1,5 @@
 -- The plans that River text can stand for.
-use Rattle.std.specs.Prelude.{◌≡◌, ℕ, suc, ◌<◌, ◌≤◌, ℤ, pos, negsuc, true, List, [], ◌∷◌, length, max}
+use Rattle.std.specs.Prelude.{◌≡◌, ℕ, suc, ◌<◌, ◌≤◌, ℤ, pos, negsuc, true, List, [], ◌∷◌, Option, None, Some, length, max}
 use Rattle.work_code.specs.Term.{Term, Const, Input, Slot, Neg, Not, Bin, depth_of}
 use Rattle.work_code.specs.Steps.{Step, Steps, Set, Push, If, Done, Then}
 use Rattle.river_base.specs.Name.{is_name}
@@ -7,7 +7,7 @@ use Rattle.river_base.specs.declared.kind.QueueType.{QueueType}
 use Rattle.river_base.specs.declared.kind.QueueType.TheVariants.{Flat, Pack}
 use Rattle.kern_tables.specs.declared.kind.TableKind.{TableKind}
 use Rattle.kern_tables.specs.declared.kind.TableKind.TheVariants.{Sum, Collection, Maximum}
-use Rattle.kern_rows.specs.Forms.{CodeForm, FilterForm}
+use Rattle.kern_rows.specs.Forms.{CodeForm, FilterForm, RunForm}
 use Rattle.kern_bags.specs.declared.kernel.Window.{Window}
 use Rattle.kern_bags.specs.declared.kernel.Window.TheVariants.{Now, Range, Unbounded, Latest}
 use Rattle.river_kernels.specs.Fits.{width_of}
@@ -81,8 +81,18 @@ IsBody steps = IsSteps steps × (depths steps ≤ 16)
 abbrev pub IsCode : CodeForm → Type 0
 IsCode c = IsCount c.body.inputs × IsCount c.body.slots × Every IsWidth c.outs × Every IsStart c.starts × IsBody c.body.steps
 
+-- a first run of a filter with so many slots
+abbrev pub IsRun : ℕ → RunForm → Type 0
+IsRun slots r = IsCount r.peek × IsCount r.pop × IsCount r.push × IsBody r.body.steps × (r.body.inputs ≡ r.peek) × (r.body.slots ≡ slots)
+
+abbrev pub IsFirst : ℕ → Option RunForm → Type 0
+IsFirst slots None = Unit {0}
+IsFirst slots (Some r) = IsRun slots r
+
 abbrev pub IsFilter : FilterForm → Type 0
-IsFilter f = IsCount f.peek × IsCount f.pop × IsCount f.push × IsCount f.body.slots × Every IsStart f.starts × IsBody f.body.steps × (f.body.inputs ≡ f.peek)
+IsFilter f =
+    IsCount f.peek × IsCount f.pop × IsCount f.push × IsCount f.body.slots × Every IsStart f.starts × IsBody f.body.steps × (f.body.inputs ≡ f.peek)
+    × IsFirst f.body.slots f.first
 
 abbrev pub IsWindow : Window → Type 0
 IsWindow Now = Unit {0}

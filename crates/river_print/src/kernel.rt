@@ -2,17 +2,17 @@
 ghost use Rattle.std.specs.Prelude.{◌≡◌, ◌++◌, [], ◌∷◌, codes, OnOk, OnErr};
 ghost use Rattle.std.specs.Fmt.{decimal};
 ghost use Rattle.work_code.specs.Term.{term, terms};
-ghost use Rattle.kern_rows.specs.Forms.{code_form, filter_form};
+ghost use Rattle.kern_rows.specs.Forms.{code_form, filter_form, optional_run, run_form};
 ghost use Rattle.work_code.specs.Steps.{steps};
 ghost use Rattle.kern_bags.specs.declared.kernel.Window.TheVariants as window_kind;
 ghost use Rattle.river_kernels.specs.Kern.{kern_of, select, project};
-ghost use Rattle.river_print.specs.Printed.{kernel_text, list_text, values_text, code_text, filter_text, rates_text, run_text, window_text, streamer_text};
+ghost use Rattle.river_print.specs.Printed.{kernel_text, list_text, values_text, code_text, filter_text, first_text, firsts_text, rates_text, run_text, window_text, streamer_text};
 
 use crate::items::{
     Style, counted, exprs, in_brackets, next_number, number, numbers, two_in_brackets, value,
 };
 use kern_bags::{Streamer, Window};
-use kern_rows::{CodeKernel, Filter};
+use kern_rows::{CodeKernel, Filter, First};
 use river_base::{Bytes, NoMemory};
 use river_kernels::Kernel;
 use std::alloc::Global;
@@ -109,7 +109,41 @@ fn print_filter(alloc: Global, filter: &Filter, to: &mut Bytes) -> Result<(), No
 {
     to.extend(b"filter")?;
     print_rates(alloc, filter, to)?;
-    print_run(alloc, filter.starts.as_slice(), &filter.code, to)
+    print_run(alloc, filter.starts.as_slice(), &filter.code, to)?;
+    print_firsts(alloc, &filter.first, to)
+}
+
+// The first run where it is another than the others.
+fn print_firsts(alloc: Global, first: &Option<First>, to: &mut Bytes) -> Result<(), NoMemory>
+    ensures { OnOk result (to.new ≡ to.old ++ firsts_text (optional_run first.now)) }
+{
+    match first {
+        Some(run) => print_first(alloc, run, to),
+        None => Ok(()),
+    }
+}
+
+// A space, the word `first`, the rates in brackets and the body.
+#[tactic(auto, using(crate::proofs::Joined::joins))]
+fn print_first(alloc: Global, run: &First, to: &mut Bytes) -> Result<(), NoMemory>
+    ensures { OnOk result (to.new ≡ to.old ++ first_text (run_form run.now)) }
+{
+    to.extend(b" first")?;
+    print_first_rates(alloc, run, to)?;
+    to.extend(b" ")?;
+    print_code(alloc, &run.code, to)
+}
+
+// The rates of a first run, in brackets.
+#[tactic(auto, using(crate::proofs::Joined::joins))]
+fn print_first_rates(alloc: Global, run: &First, to: &mut Bytes) -> Result<(), NoMemory>
+    ensures { OnOk result (to.new ≡ to.old ++ list_text (decimal run.now.peek ∷ decimal run.now.pop ∷ decimal run.now.push ∷ [])) }
+{
+    to.extend(b"(")?;
+    number(alloc, run.peek, to)?;
+    next_number(alloc, run.pop, to)?;
+    next_number(alloc, run.push, to)?;
+    to.extend(b")")
 }
 
 // The starts and the body, each behind a space.

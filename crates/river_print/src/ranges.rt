@@ -3,15 +3,15 @@
 ghost use Rattle.std.specs.Prelude.{map};
 ghost use Rattle.work_code.specs.Term.{term, terms};
 ghost use Rattle.work_code.specs.Steps.{step, steps, body_of};
-ghost use Rattle.kern_rows.specs.Forms.{code_form, filter_form};
+ghost use Rattle.kern_rows.specs.Forms.{code_form, filter_form, optional_run, run_form};
 ghost use Rattle.river_kernels.specs.Kern.{kern_of};
 ghost use Rattle.river_plan.specs.Forms.{plan_form, op_form};
-ghost use Rattle.river_print.specs.Ranged.{IsRanged, IsRangedTerm, IsRangedStep, IsRangedSteps, IsRangedBody, IsRangedCode, IsRangedFilter, IsRangedWindow, IsRangedKernel, IsRangedOp};
+ghost use Rattle.river_print.specs.Ranged.{IsRanged, IsRangedTerm, IsRangedStep, IsRangedSteps, IsRangedBody, IsRangedCode, IsRangedRun, IsRangedFirst, IsRangedFilter, IsRangedWindow, IsRangedKernel, IsRangedOp};
 ghost use Rattle.river_print.specs.Writable.{Every, IsCount, IsStart, IsNamed, IsDecl, IsType, IsTable, IsKind};
 ghost use Rattle.river_kernels.specs.Fits.{width_of};
 
 use kern_bags::Window;
-use kern_rows::{CodeKernel, Filter};
+use kern_rows::{CodeKernel, Filter, First};
 use kern_tables::TableKind;
 use river_base::{FlatType, Name, QueueType};
 use river_kernels::Kernel;
@@ -157,6 +157,25 @@ fn read_filter(filter: &Filter)
     read_count(filter.push);
     read_code(&filter.code);
     read_values(filter.starts.as_slice());
+    read_first(&filter.first);
+}
+
+fn read_first(first: &Option<First>)
+    ensures { IsRangedFirst (optional_run first.now) }
+{
+    match first {
+        Some(run) => read_run(run),
+        None => {}
+    }
+}
+
+fn read_run(run: &First)
+    ensures { IsRangedRun (run_form run.now) }
+{
+    read_count(run.peek);
+    read_count(run.pop);
+    read_count(run.push);
+    read_code(&run.code);
 }
 
 fn read_window(window: Window)

@@ -1,5 +1,5 @@
 -- Scripts on small plans, computed: what they make, and which step is refused by which condition.
-use Rattle.std.proofs.Common.{◌≡◌, pos, List, [], ◌∷◌, refl}
+use Rattle.std.proofs.Common.{◌≡◌, pos, None, List, [], ◌∷◌, refl}
 use Rattle.std.specs.Prelude.{Ok, Err, codes}
 use Rattle.river_base.specs.declared.kind.QueueType.{QueueType}
 use Rattle.work_code.specs.declared.expr.BinOp.TheVariants as op
@@ -143,7 +143,7 @@ summed = record {
   tables = [];
   vars = codes "Sum@1" ∷ [];
   ops =
-      made (codes "Sum@1") (filter (record { peek = 3; pop = 1; push = 1; body = record { inputs = 3; slots = 0; steps = Then (Push 0 (Bin op.Add (Bin op.Add (Input 0) (Input 1)) (Input 2) ∷ [])) Done }; starts = [] }))
+      made (codes "Sum@1") (filter (record { peek = 3; pop = 1; push = 1; body = record { inputs = 3; slots = 0; steps = Then (Push 0 (Bin op.Add (Bin op.Add (Input 0) (Input 1)) (Input 2) ∷ [])) Done }; starts = []; first = None }))
       (codes "in" ∷ []) (codes "out" ∷ []) (codes "Sum@1" ∷ []) ∷ [];
 }
 

@@ -11,7 +11,7 @@ use Rattle.river_kernels.specs.Kern as kern
 use Rattle.text_forms.specs.Parse as parse
 use Rattle.text_forms.specs.Parse.{Parse}
 use Rattle.text_forms.specs.Forms as form
-use Rattle.text_forms.proofs.Exact.{Exact, Any, exact-less, exact-as, exact-both, exact-after, exact-before, exact-after_word, exact-tested, exact-seen}
+use Rattle.text_forms.proofs.Exact.{Exact, Any, exact-less, exact-as, exact-both, exact-after, exact-before, exact-after_word, exact-tested, exact-seen, exact-maybe}
 use Rattle.text_forms.proofs.Exact.{exact-merged, exact-number, exact-value, exact-nothing}
 use Rattle.text_forms.proofs.Many.{exact-commas}
 use Rattle.text_forms.proofs.Choices.{exact-never, exact-choose, exact-headed, exact-enclosed, exact-listing}
@@ -23,9 +23,9 @@ use Rattle.river_text.specs.ExactBodies.{exact-terms, exact-river}
 use Rattle.river_text.specs.ExactExpressions.{exact-term}
 use Rattle.river_text.specs.Expressions.{IsTerm, term_at}
 use Rattle.river_text.specs.Kernels.{least, made_code, made_filter, made_fused, Width, Signed, IsStarts, IsCode, IsFilter, IsFused, BagAfter, KernelAfter, IsBraced}
-use Rattle.river_text.specs.Kernels.{IsKernel}
+use Rattle.river_text.specs.Kernels.{FirstParts, IsFirst, IsKernel}
 use Rattle.river_text.specs.ReadKernels.{width_at, signed_at, round, starts_at, widths_at, weights_at, number_at, two_at, pair_at, rates_at, code_at, filter_at}
-use Rattle.river_text.specs.ReadKernels.{fused_at, range_at, stream_after, relation_after, bag_after, kernel_after, braced_at, kernel_at}
+use Rattle.river_text.specs.ReadKernels.{three_at, triple_at, first_at, fused_at, range_at, stream_after, relation_after, bag_after, kernel_after, braced_at, kernel_at}
 use Rattle.river_text.proofs.Regroup.{rates-same}
 
 exact-count : Exact form.Count parse.count_at Any
@@ -108,9 +108,35 @@ exact-code n =
     exact-seen made_code (exact-both (exact-pair n) (exact-both (exact-widths n) (exact-both (exact-starts n) (exact-body n)
     (λ y ts rest g d. tt)) (λ y ts rest g d. tt)) (λ y ts rest g d. tt))
 
-exact-filter : (n : ℕ) → Exact (IsFilter n) (filter_at n) Any
+exact-triple : (n : ℕ)
+    → Exact (Round (λ m. form.Both form.Count (form.After (s.Comma ∷ []) (form.Both form.Count (form.After (s.Comma ∷ []) form.Count)))) n) (triple_at n) Any
+unfolding triple_at three_at two_at
+exact-triple n =
+    exact-round (λ m. exact-both exact-count (exact-after (s.Comma ∷ []) (exact-both exact-count (exact-after (s.Comma ∷ []) exact-count)
+    (λ y ts rest g d. tt))) (λ y ts rest g d. tt)) (λ rest. tt) n
+
+-- a first run does not come next
+abbrev NoFirst : List Tok → Type 0
+NoFirst rest = parse.is_word_at (codes "first") rest ≡ false
+
+exact-first : (n : ℕ) → Exact (form.Maybe (form.AfterWord (codes "first") (IsFirst n))) (first_at n) NoFirst
+unfolding first_at
+exact-first n =
+    exact-less (exact-maybe (parse.is_word_at (codes "first")) (exact-after_word (codes "first") (exact-both (exact-triple n) (exact-body n) (λ y ts rest g d. tt))) comes)
+    (λ rest d. (tt, d))
+  where
+    comes : (v : FirstParts) (ts rest : List Tok) → form.AfterWord (codes "first") (IsFirst n) v ts → parse.is_word_at (codes "first") (ts ++ rest) ≡ true
+    comes v ts rest h = rw h.is refl
+
+exact-filter : (n : ℕ) → Exact (IsFilter n) (filter_at n) NoFirst
 unfolding filter_at
-exact-filter n = exact-seen made_filter (exact-both (exact-rates n) (exact-both (exact-starts n) (exact-body n) (λ y ts rest g d. tt)) (λ y ts rest g d. tt))
+exact-filter n =
+    exact-seen made_filter (exact-both (exact-rates n) (exact-both (exact-starts n) (exact-both (exact-body n) (exact-first n) (λ y ts rest g d. tt))
+    (λ y ts rest g d. tt)) (λ y ts rest g d. tt))
+
+-- what may stand before anything may stand before what is no first run
+any : {A : Type 0} {F : A → List Tok → Type 0} {p : Parse A} → Exact F p Any → Exact F p NoFirst
+any x = exact-less x (λ rest d. tt)
 
 exact-fused : {braced : Kern → List Tok → Type 0} {p : Parse Kern} → Exact braced p Any → (n : ℕ) → Exact (IsFused braced n) (fused_at p n) Any
 unfolding fused_at
@@ -133,25 +159,25 @@ exact-bag n w =
     exact-never))))))))))
 
 exact-after_kernel : {braced : Kern → List Tok → Type 0} {p : Parse Kern} → Exact braced p Any → (n : ℕ) (w : List ℕ)
-    → Exact (KernelAfter braced n w) (kernel_after p n w) Any
+    → Exact (KernelAfter braced n w) (kernel_after p n w) NoFirst
 unfolding kernel_after
 exact-after_kernel x n w =
-    exact-choose (bytes_eq w (codes "code")) (exact-code n)
+    exact-choose (bytes_eq w (codes "code")) (any (exact-code n))
     (exact-choose (bytes_eq w (codes "filter")) (exact-filter n)
-    (exact-choose (bytes_eq w (codes "duplicate")) (exact-seen kern.duplicate (exact-counted n))
+    (any (exact-choose (bytes_eq w (codes "duplicate")) (exact-seen kern.duplicate (exact-counted n))
     (exact-choose (bytes_eq w (codes "deal")) (exact-seen kern.deal (exact-weights n))
     (exact-choose (bytes_eq w (codes "collect")) (exact-seen kern.collect (exact-weights n))
     (exact-choose (bytes_eq w (codes "packed")) (exact-seen kern.packed x)
     (exact-choose (bytes_eq w (codes "unpack")) (exact-seen kern.unpack (exact-counted n))
     (exact-choose (bytes_eq w (codes "fused")) (exact-fused x n)
-    (exact-bag n w))))))))
+    (exact-bag n w)))))))))
 
 -- a kernel in braces
 pub exact-braced : (n : ℕ) → Exact (IsBraced n) (braced_at n) Any
 unfolding IsBraced braced_at
 exact-braced zero = exact-never
-exact-braced (suc n) = exact-after (s.OpenBrace ∷ []) (exact-before (s.CloseBrace ∷ []) (exact-headed (exact-after_kernel (exact-braced n) n)) (λ rest. tt))
+exact-braced (suc n) = exact-after (s.OpenBrace ∷ []) (exact-before (s.CloseBrace ∷ []) (exact-headed (exact-after_kernel (exact-braced n) n)) (λ rest. refl))
 
-pub exact-kernel : (n : ℕ) → Exact (IsKernel n) (kernel_at n) Any
+pub exact-kernel : (n : ℕ) → Exact (IsKernel n) (kernel_at n) NoFirst
 unfolding kernel_at
 exact-kernel n = exact-headed (exact-after_kernel (exact-braced n) n)

@@ -1,15 +1,16 @@
 -- The grammar of kernels in River text. `n` is how many more brackets may be open.
-use Rattle.std.specs.Prelude.{ℕ, zero, suc, ℤ, pos, negsuc, neg_ℤ, List, [], ◌∷◌, codes}
+use Rattle.std.specs.Prelude.{ℕ, zero, suc, ℤ, pos, negsuc, neg_ℤ, List, [], ◌∷◌, Option, codes}
 use Rattle.std.specs.Str.{bytes_eq}
 use Rattle.work_code.specs.Tok.{Tok}
 use Rattle.work_code.specs.Steps.{Steps}
 use Rattle.work_code.specs.declared.sign.Symbol.TheVariants as s
 use Rattle.kern_bags.specs.declared.kernel.Window.TheVariants.{Now, Range, Unbounded, Latest}
 use Rattle.kern_bags.specs.declared.kernel.Streamer.TheVariants.{Istream, Dstream, Rstream}
+use Rattle.kern_rows.specs.Forms.{RunForm}
 use Rattle.river_kernels.specs.Kern.{Kern}
 use Rattle.river_kernels.specs.Kern as kern
-use Rattle.text_forms.specs.Forms.{Count, Value, Nothing, Never, Both, After, Before, AfterWord, Seen, Merged, Commas, Listing, Choose, Headed}
-use Rattle.text_blocks.specs.Parts.{Round}
+use Rattle.text_forms.specs.Forms.{Count, Value, Nothing, Never, Both, After, Before, AfterWord, Seen, Merged, Maybe, Commas, Listing, Choose, Headed}
+use Rattle.text_blocks.specs.Parts.{Round, optional}
 use Rattle.river_text.specs.Bodies.{IsBody}
 use Rattle.river_text.specs.Expressions.{IsTerm}
 
@@ -38,15 +39,33 @@ IsCode n =
     Seen made_code (Both (Round (λ m. Both Count (After (s.Comma ∷ []) Count)) n)
     (Both (Round (λ m. Listing Width) n) (Both (IsStarts n) (IsBody 16 n))))
 
--- "(" N "," N "," N "," N ")" starts body
-abbrev pub made_filter : (ℕ × (ℕ × (ℕ × ℕ))) × (List ℤ × Steps) → Kern
+-- "(" N "," N "," N ")" body: the rates of a first run of its own, and its body
+abbrev pub FirstParts : Type 0
+FirstParts = (ℕ × (ℕ × ℕ)) × Steps
+
+abbrev pub IsFirst : ℕ → FirstParts → List Tok → Type 0
+IsFirst n = Both (Round (λ m. Both Count (After (s.Comma ∷ []) (Both Count (After (s.Comma ∷ []) Count)))) n) (IsBody 16 n)
+
+-- that run of a filter with so many slots
+abbrev pub made_first : ℕ → FirstParts → RunForm
+made_first slots v = record { peek = v.0.0; pop = v.0.1.0; push = v.0.1.1; body = record { inputs = v.0.0; slots = slots; steps = v.1 } }
+
+-- "(" N "," N "," N "," N ")" starts body ["first" "(" N "," N "," N ")" body]
+abbrev pub made_filter : (ℕ × (ℕ × (ℕ × ℕ))) × (List ℤ × (Steps × Option FirstParts)) → Kern
 made_filter v =
-    kern.filter (record { peek = v.0.0; pop = v.0.1.0; push = v.0.1.1.0; body = record { inputs = v.0.0; slots = v.0.1.1.1; steps = v.1.1 }; starts = v.1.0 })
+    kern.filter (record {
+      peek = v.0.0;
+      pop = v.0.1.0;
+      push = v.0.1.1.0;
+      body = record { inputs = v.0.0; slots = v.0.1.1.1; steps = v.1.1.0 };
+      starts = v.1.0;
+      first = optional (made_first v.0.1.1.1) v.1.1.1;
+    })
 
 abbrev pub IsFilter : ℕ → Kern → List Tok → Type 0
 IsFilter n =
     Seen made_filter (Both (Round (λ m. Both Count (After (s.Comma ∷ []) (Both Count (After (s.Comma ∷ []) (Both Count (After (s.Comma ∷ []) Count)))))) n)
-    (Both (IsStarts n) (IsBody 16 n)))
+    (Both (IsStarts n) (Both (IsBody 16 n) (Maybe (AfterWord (codes "first") (IsFirst n))))))
 
 -- "(" N ")" "{" kernel "}" "{" kernel "}"
 abbrev pub made_fused : ℕ × (Kern × Kern) → Kern

@@ -1,5 +1,5 @@
 -- How kernels are read: the grammar in the words of reading functions.
-use Rattle.std.specs.Prelude.{ℕ, zero, suc, ℤ, pos, neg_ℤ, List, [], ◌∷◌, None, Some, codes, if◌then◌else◌}
+use Rattle.std.specs.Prelude.{ℕ, zero, suc, ℤ, pos, neg_ℤ, List, [], ◌∷◌, Option, None, Some, codes, if◌then◌else◌}
 use Rattle.std.specs.Str.{bytes_eq}
 use Rattle.work_code.specs.declared.sign.Symbol.TheVariants as s
 use Rattle.kern_bags.specs.declared.kernel.Window.TheVariants.{Now, Range, Unbounded, Latest}
@@ -7,13 +7,13 @@ use Rattle.kern_bags.specs.declared.kernel.Streamer.TheVariants.{Istream, Dstrea
 use Rattle.river_kernels.specs.Kern.{Kern}
 use Rattle.river_kernels.specs.Kern as kern
 use Rattle.text_forms.specs.Parse.{Parse, begins_with, is_word_at, count_at, value_at, nothing_at, both, after, before, after_word, seen, merged}
-use Rattle.text_forms.specs.Parse.{commas, listing, headed, enclosed}
+use Rattle.text_forms.specs.Parse.{commas, listing, headed, enclosed, maybe}
 use Rattle.text_blocks.specs.Parts.{round_at}
 use Rattle.river_text.specs.Bodies.{terms_at, body_at}
 use Rattle.river_text.specs.Expressions.{term_at}
 use Rattle.river_text.specs.declared.number.Kind.{Kind}
 use Rattle.river_text.specs.declared.number.Kind.TheVariants.{Width as OfWidth, Signed as OfSigned, Value as OfValue}
-use Rattle.river_text.specs.Kernels.{least, made_code, made_filter, made_fused}
+use Rattle.river_text.specs.Kernels.{FirstParts, least, made_code, made_filter, made_fused}
 
 abbrev pub width_at : Parse ℤ
 width_at = seen (λ n. pos n) count_at
@@ -60,8 +60,19 @@ rates_at n ts = round (λ m. seen four (both two_at (after (s.Comma ∷ []) two_
 unfoldable pub code_at : ℕ → Parse Kern
 code_at n ts = seen made_code (both (pair_at n) (both (widths_at n) (both (starts_at n) (body_at n)))) ts
 
+-- three numbers with commas between them
+unfoldable pub three_at : Parse (ℕ × (ℕ × ℕ))
+three_at ts = both count_at (after (s.Comma ∷ []) two_at) ts
+
+unfoldable pub triple_at : ℕ → Parse (ℕ × (ℕ × ℕ))
+triple_at n ts = round (λ m. three_at) n ts
+
+-- `first`, its rates and its body, or nothing
+unfoldable pub first_at : ℕ → Parse (Option FirstParts)
+first_at n ts = maybe (is_word_at (codes "first")) (after_word (codes "first") (both (triple_at n) (body_at n))) ts
+
 unfoldable pub filter_at : ℕ → Parse Kern
-filter_at n ts = seen made_filter (both (rates_at n) (both (starts_at n) (body_at n))) ts
+filter_at n ts = seen made_filter (both (rates_at n) (both (starts_at n) (both (body_at n) (first_at n)))) ts
 
 unfoldable pub fused_at : Parse Kern → ℕ → Parse Kern
 fused_at braced n ts = seen made_fused (both (number_at n) (both braced braced)) ts

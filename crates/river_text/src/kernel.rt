@@ -1,19 +1,23 @@
 // Kernels read.
 ghost use Rattle.std.specs.Prelude.{◌≡◌};
 ghost use Rattle.text_forms.specs.Gives.{Gives};
+ghost use Rattle.kern_rows.specs.Forms.{optional_run};
 ghost use Rattle.river_kernels.specs.Kern.{kern_of};
-ghost use Rattle.river_text.specs.ReadKernels.{code_at, filter_at, fused_at, stream_after, relation_after, bag_after, range_at, braced_at, kernel_at};
+ghost use Rattle.text_blocks.specs.Parts.{optional};
+ghost use Rattle.work_code.specs.Steps.{steps};
+ghost use Rattle.river_text.specs.Kernels.{made_first};
+ghost use Rattle.river_text.specs.ReadKernels.{code_at, first_at, filter_at, fused_at, stream_after, relation_after, bag_after, range_at, braced_at, kernel_at};
 
 use crate::body::body;
-use crate::number::{number, pair, rates, starts, weights, widths};
+use crate::number::{number, pair, rates, starts, triple, weights, widths};
 use crate::term::{River, exprs};
 use kern_bags::{Streamer, Window};
-use kern_rows::{CodeKernel, Filter};
+use kern_rows::{CodeKernel, Filter, First};
 use river_kernels::Kernel;
 use std::alloc::Global;
 use text_blocks::round;
 use text_forms::{Fault, Reader, closed, is};
-use work_code::{Code, Symbol};
+use work_code::{Code, Stmts, Symbol};
 
 // What stands behind `code`.
 #[tactic(auto, unfolding(crate::specs::ReadKernels::code_at))]
@@ -32,6 +36,41 @@ fn code(reader: &mut Reader<'_>, alloc: Global, brackets: u32) -> Result<Kernel,
     Ok(Kernel::Code(CodeKernel { code, outs, starts }))
 }
 
+// `first`, the rates of the first run and its body, or nothing.
+#[tactic(auto, unfolding(crate::specs::ReadKernels::first_at))]
+fn first(
+    reader: &mut Reader<'_>,
+    alloc: Global,
+    brackets: u32,
+) -> Result<Option<((u32, u32, u32), Stmts)>, Fault>
+    ensures { Gives (optional (λ run. ((run.0.0, (run.0.1, run.0.2)), steps run.1))) result reader.new (first_at brackets reader.old) }
+{
+    if !reader.is_at_word(b"first") {
+        return Ok(None);
+    }
+    reader.skip();
+    let rates = triple(reader, brackets)?;
+    Ok(Some((rates, body(reader, alloc, brackets)?)))
+}
+
+// The first run of a filter with so many slots, of its rates and its body.
+fn first_run(run: Option<((u32, u32, u32), Stmts)>, slots: u32) -> Option<First>
+    ensures { optional_run result ≡ optional (made_first slots) (optional (λ run. ((run.0.0, (run.0.1, run.0.2)), steps run.1)) run) }
+{
+    let ((peek, pop, push), body) = run?;
+    let code = Code {
+        inputs: peek,
+        slots,
+        body,
+    };
+    Some(First {
+        peek,
+        pop,
+        push,
+        code,
+    })
+}
+
 // What stands behind `filter`.
 #[tactic(auto, unfolding(crate::specs::ReadKernels::filter_at))]
 fn filter(reader: &mut Reader<'_>, alloc: Global, brackets: u32) -> Result<Kernel, Fault>
@@ -40,6 +79,7 @@ fn filter(reader: &mut Reader<'_>, alloc: Global, brackets: u32) -> Result<Kerne
     let (peek, pop, push, slots) = rates(reader, brackets)?;
     let starts = starts(reader, alloc, brackets)?;
     let body = body(reader, alloc, brackets)?;
+    let first = first_run(first(reader, alloc, brackets)?, slots);
     let code = Code {
         inputs: peek,
         slots,
@@ -51,6 +91,7 @@ fn filter(reader: &mut Reader<'_>, alloc: Global, brackets: u32) -> Result<Kerne
         push,
         code,
         starts,
+        first,
     }))
 }
 

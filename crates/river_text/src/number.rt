@@ -3,7 +3,7 @@ ghost use Rattle.std.specs.Prelude.{◌≡◌};
 ghost use Rattle.text_forms.specs.Gives.{Gives};
 ghost use Rattle.text_forms.specs.Parse.{commas, count_at, listing};
 ghost use Rattle.work_code.specs.declared.sign.Symbol.TheVariants as s;
-ghost use Rattle.river_text.specs.ReadKernels.{kind_at, signed_at, width_at, round, starts_at, widths_at, weights_at, number_at, two_at, pair_at, rates_at};
+ghost use Rattle.river_text.specs.ReadKernels.{kind_at, signed_at, width_at, round, starts_at, widths_at, weights_at, number_at, two_at, pair_at, three_at, triple_at, rates_at};
 
 use river_base::Numbers;
 use std::alloc::Global;
@@ -146,6 +146,27 @@ pub fn pair(reader: &mut Reader<'_>, brackets: u32) -> Result<(u32, u32), Fault>
     reader.opens(Symbol::Open, brackets)?;
     let pair = two(reader)?;
     closed(reader, pair, Symbol::Close)
+}
+
+// `N, N, N`
+#[tactic(auto, unfolding(crate::specs::ReadKernels::three_at))]
+fn three(reader: &mut Reader<'_>) -> Result<(u32, u32, u32), Fault>
+    ensures { Gives (λ value. (value.0, (value.1, value.2))) result reader.new (three_at reader.old) }
+{
+    let first = reader.count()?;
+    reader.expect(&[Symbol::Comma])?;
+    let (second, third) = two(reader)?;
+    Ok((first, second, third))
+}
+
+/// `(N, N, N)`
+#[tactic(auto, unfolding(crate::specs::ReadKernels::triple_at))]
+pub fn triple(reader: &mut Reader<'_>, brackets: u32) -> Result<(u32, u32, u32), Fault>
+    ensures { Gives (λ value. (value.0, (value.1, value.2))) result reader.new (triple_at brackets reader.old) }
+{
+    reader.opens(Symbol::Open, brackets)?;
+    let triple = three(reader)?;
+    closed(reader, triple, Symbol::Close)
 }
 
 /// `(N, N, N, N)`

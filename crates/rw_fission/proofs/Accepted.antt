@@ -1,6 +1,6 @@
 -- What an accepted step found.
 use Rattle.std.proofs.Common.{◌≡◌, ℕ, ◌<◌, ◌≤◌, ◌⊎◌, inl, inr, true, ◌&&◌, Option, Some, None, List, [], ◌∷◌, refl, sym, ap, ◌∙◌, subst, arith, ⊎_elim}
-use Rattle.std.specs.Prelude.{if◌then◌else◌, nat_le, nat_lt, nat_eq, Result, Ok, Err}
+use Rattle.std.specs.Prelude.{if◌then◌else◌, nat_le, nat_lt, nat_eq, is_none, Result, Ok, Err}
 use Rattle.std.specs.List.{list_all}
 use Rattle.std.proofs.lemmas.Bool.{and_parts}
 use Rattle.river_base.specs.declared.kind.FlatType.{FlatType}
@@ -138,6 +138,10 @@ packs_is p op m n source t w (out ∷ []) [] r ki ew ev h = packs_to_is p op m n
 packs_is p op m n source t w (out ∷ []) (v ∷ vs) r ki ew ev h = absurd (no_some w h)
 packs_is p op m n source t w (out ∷ q ∷ qs) vs r ki ew ev h = absurd (no_some w h)
 
+none_is : {A : Type 0} (o : Option A) → is_none o ≡ true → o ≡ None
+none_is None h = refl
+none_is (Some x) h = absurd (cc h)
+
 nil_is : {A : Type 0} (xs : List A) → is_nil xs ≡ true → xs ≡ []
 nil_is [] h = refl
 nil_is (x ∷ xs) h = absurd (cc h)
@@ -147,15 +151,16 @@ pub blocks_is : (p : PlanForm) (op : OpForm) (m : Made) (n : ℕ) (source : Name
     → blocks_way p op m n k ≡ Some w → IsBlocks p op m n source w
 blocks_is p op m n source w (filter f) r e h = ⊎_elim
     (λ t.
-    let a = and_parts (nat_eq f.peek f.pop) (is_nil f.starts && nat_le 1 f.push) t in
-    let b = and_parts (is_nil f.starts) (nat_le 1 f.push) a.1 in
+    let a = and_parts (nat_eq f.peek f.pop) (is_nil f.starts && (is_none f.first && nat_le 1 f.push)) t in
+    let b = and_parts (is_nil f.starts) (is_none f.first && nat_le 1 f.push) a.1 in
+    let c = and_parts (is_none f.first) (nat_le 1 f.push) b.1 in
     record {
       form = f;
-      may = record { reads = r; kernel = e; whole = grind (arith, a.0); starts = nil_is f.starts b.0; gives = grind (arith, b.1) };
+      may = record { reads = r; kernel = e; whole = grind (arith, a.0); starts = nil_is f.starts b.0; usual = none_is f.first c.0; gives = grind (arith, c.1) };
       is = sym (some_is _ _ (sym (ap (λ c. if c then Some (by_blocks p op m n f.pop f.push) else None) t) ∙ h));
     })
     (λ g. absurd (no_some w (sym (ap (λ c. if c then Some (by_blocks p op m n f.pop f.push) else None) g) ∙ h)))
-    (cases_bool (nat_eq f.peek f.pop && (is_nil f.starts && nat_le 1 f.push)))
+    (cases_bool (nat_eq f.peek f.pop && (is_nil f.starts && (is_none f.first && nat_le 1 f.push))))
 blocks_is p op m n source w kernel r e h = absurd (no_some w h)
 
 each_table : (tables vs : List Name) → list_all (λ x. nat_lt 0 (count x tables)) vs ≡ true → (x : Name) → 0 < count x vs → 0 < count x tables

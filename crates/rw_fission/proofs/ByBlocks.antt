@@ -5,7 +5,7 @@ use Rattle.std.proofs.lemmas.Bool.{and_parts}
 use Rattle.river_base.specs.declared.kind.FlatType.TheVariants.{Rows}
 use Rattle.kern_rows.specs.Forms.{FilterForm}
 use Rattle.river_kernels.specs.Fits.{Fits, rows}
-use Rattle.river_kernels.specs.Formed.{has_rates, is_steps, is_number, pushes}
+use Rattle.river_kernels.specs.Formed.{has_rates, is_steps, is_number, is_usual, is_first, pushes}
 use Rattle.river_kernels.specs.Kern.{Kern, filter, collect}
 use Rattle.river_kernels.specs.declared.types.VarKind.TheVariants.{Private}
 use Rattle.river_plan.specs.Forms.{Name, OpForm, PlanForm, all_decls, table_names}
@@ -57,13 +57,14 @@ module _ (p : PlanForm) (l : Name) (op : OpForm) (m : Made) (n : ℕ) (source : 
 
   rates : (1 ≤ f.pop) × (f.pop ≤ f.peek)
   rates =
-      let a = and_parts (has_rates f) (is_steps f.peek f.body.slots (pos 1 ∷ []) f.body.steps && (nat_le (length f.starts) f.body.slots && is_number (pushes f.body.steps) f.push)) fit.3 in
+      let z = and_parts (is_usual f) (is_first f.body.slots f.first) fit.3 in
+      let a = and_parts (has_rates f) (is_steps f.peek f.body.slots (pos 1 ∷ []) f.body.steps && (nat_le (length f.starts) f.body.slots && is_number (pushes f.body.steps) f.push)) z.0 in
       let b = and_parts (nat_eq f.body.inputs f.peek) (nat_le 1 f.pop && nat_le f.pop f.peek) a.0 in
       let c = and_parts (nat_le 1 f.pop) (nat_le f.pop f.peek) b.1 in
       (grind (arith, c.0), grind (arith, c.1))
 
   takes : TakesBlocks f
-  takes = record { fits = fit.3; whole = y.whole; takes = rates.0; gives = y.gives; none = y.starts }
+  takes = record { fits = fit.3; whole = y.whole; takes = rates.0; gives = y.gives; none = y.starts; usual = y.usual }
 
   joins_blocks : Joins (λ x. Unit {0}) op n w w.join
   joins_blocks xs h good e = by_kernel op.kernel y.kernel e

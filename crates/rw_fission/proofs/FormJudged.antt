@@ -1,6 +1,6 @@
 -- Which form an operator takes: the first that it has.
 use Rattle.std.proofs.Common.{◌≡◌, ℕ, ◌<◌, inl, inr, Bool, true, ◌&&◌, Option, Some, None, List, [], ◌∷◌, length, refl, sym, ap, ◌∙◌, subst, arith, ⊎_elim}
-use Rattle.std.specs.Prelude.{nat_le, nat_lt, nat_eq}
+use Rattle.std.specs.Prelude.{nat_le, nat_lt, nat_eq, is_none}
 use Rattle.std.specs.List.{list_all}
 use Rattle.std.proofs.lemmas.Bool.{and_from, lt-ltb, le-leb, eq-eqb}
 use Rattle.river_base.specs.declared.kind.FlatType.{FlatType}
@@ -51,9 +51,10 @@ module _ (p : PlanForm) (op : OpForm) (m : Made) (n : ℕ) (source : Name) where
   blocks_some : (f : FilterForm) → MayBlock p op source f → blocks_way p op m n op.kernel ≡ Some (by_blocks p op m n f.pop f.push)
   blocks_some f k =
       ap (blocks_way p op m n) k.kernel
-      ∙ if_true (nat_eq f.peek f.pop && (is_nil f.starts && nat_le 1 f.push)) (Some (by_blocks p op m n f.pop f.push)) None
-      (and_from (nat_eq f.peek f.pop) (is_nil f.starts && nat_le 1 f.push) (eq-eqb f.peek f.pop k.whole)
-      (and_from (is_nil f.starts) (nat_le 1 f.push) (ap is_nil k.starts) (le-leb 1 f.push k.gives)))
+      ∙ if_true (nat_eq f.peek f.pop && (is_nil f.starts && (is_none f.first && nat_le 1 f.push))) (Some (by_blocks p op m n f.pop f.push)) None
+      (and_from (nat_eq f.peek f.pop) (is_nil f.starts && (is_none f.first && nat_le 1 f.push)) (eq-eqb f.peek f.pop k.whole)
+      (and_from (is_nil f.starts) (is_none f.first && nat_le 1 f.push) (ap is_nil k.starts)
+      (and_from (is_none f.first) (nat_le 1 f.push) (ap is_none k.usual) (le-leb 1 f.push k.gives))))
 
   adds_listed : (t : FlatType) (vs : List Name) → MayAdd p op source t → op.vars ≡ vs → 0 < length vs → adds_way p op m [] vs ≡ Some (by_adds p op m)
   adds_listed t [] k e lt = absurd (omega (arith, lt))

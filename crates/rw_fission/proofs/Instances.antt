@@ -1,5 +1,5 @@
 -- Steps that are accepted, one of each form, and steps that are refused.
-use Rattle.std.proofs.Common.{◌≡◌, ℕ, pos, List, [], ◌∷◌, ◌++◌, refl}
+use Rattle.std.proofs.Common.{◌≡◌, ℕ, pos, None, List, [], ◌∷◌, ◌++◌, refl}
 use Rattle.std.specs.Prelude.{map, Ok, Err, Result}
 use Rattle.kern_tables.specs.declared.kind.TableKind.TheVariants.{Sum}
 use Rattle.river_kernels.specs.Fits.{rows, relation, stream}
@@ -32,7 +32,7 @@ filters peek pop = record {
   ops = record {
     label = F;
     kernel =
-        filter (record { peek = peek; pop = pop; push = 1; body = record { inputs = peek; slots = 0; steps = Then (Push 0 (Input 0 ∷ [])) Done }; starts = [] });
+        filter (record { peek = peek; pop = pop; push = 1; body = record { inputs = peek; slots = 0; steps = Then (Push 0 (Input 0 ∷ [])) Done }; starts = []; first = None });
     reads = in_name ∷ [];
     writes = out_name ∷ [];
     vars = F ∷ [];

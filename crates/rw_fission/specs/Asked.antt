@@ -1,5 +1,5 @@
 -- What a step of fission answers: the new plan, or the first condition that fails.
-use Rattle.std.specs.Prelude.{ℕ, Bool, true, false, ◌&&◌, nat_lt, nat_le, nat_eq, if◌then◌else◌, Option, Some, None, Result, Ok, Err, List, [], ◌∷◌, ◌++◌}
+use Rattle.std.specs.Prelude.{ℕ, Bool, true, false, ◌&&◌, nat_lt, nat_le, nat_eq, if◌then◌else◌, Option, Some, None, is_none, Result, Ok, Err, List, [], ◌∷◌, ◌++◌}
 use Rattle.std.specs.Prelude.{length}
 use Rattle.std.specs.List.{list_all}
 use Rattle.river_base.specs.declared.kind.QueueType.{QueueType}
@@ -34,9 +34,10 @@ abbrev pub is_nil : {A : Type 0} → List A → Bool
 is_nil [] = true
 is_nil (x ∷ xs) = false
 
--- a filter that takes all that it looks at, keeps no slot and pushes something
+-- a filter that takes all that it looks at, keeps no slot, pushes something, and whose first run is as the others
 abbrev pub blocks_way : PlanForm → OpForm → Made → ℕ → Kern → Option Way
-blocks_way p op m n (filter f) = if nat_eq f.peek f.pop && (is_nil f.starts && nat_le 1 f.push) then Some (by_blocks p op m n f.pop f.push) else None
+blocks_way p op m n (filter f) =
+    if nat_eq f.peek f.pop && (is_nil f.starts && (is_none f.first && nat_le 1 f.push)) then Some (by_blocks p op m n f.pop f.push) else None
 blocks_way p op m n kernel = None
 
 -- no output, at least one variable, all of them tables

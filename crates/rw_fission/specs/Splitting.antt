@@ -30,7 +30,7 @@ pub record IsLabelled (p : PlanForm) (l : Name) (op : OpForm) : Type 0 where
 abbrev pub CanPack : PlanForm → OpForm → Name → Type 0
 CanPack p op source = (out : Name) × (t : FlatType) × (u : FlatType) × MayPack p op source out t u
 
--- a filter that takes all that it looks at, keeps no slot and pushes something
+-- a filter that takes all that it looks at, keeps no slot, pushes something, and whose first run is as the others
 abbrev pub CanBlock : PlanForm → OpForm → Name → Type 0
 CanBlock p op source = (f : FilterForm) × MayBlock p op source f
 

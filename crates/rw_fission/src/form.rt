@@ -63,7 +63,8 @@ fn packs(raw: &RawPlan, op: &Op) -> Option<Form>
     }
 }
 
-// Whether it is a filter that takes all that it looks at, keeps no slot and pushes something.
+// Whether it is a filter that takes all that it looks at, keeps no slot, pushes something, and
+// whose first run is as the others.
 fn blocks(kernel: &Kernel) -> Option<Form>
     ensures { (p : PlanForm) (op : OpForm) → FormIs p op (λ m n. blocks_way p op m n (kern_of kernel.now)) result }
 {
@@ -88,7 +89,9 @@ fn blocks(kernel: &Kernel) -> Option<Form>
 fn whole_blocks(filter: &Filter) -> Option<Form>
     ensures { (p : PlanForm) (op : OpForm) → FormIs p op (λ m n. blocks_way p op m n (filter_kern (filter_form filter.now))) result }
 {
-    if filter.peek == filter.pop && (filter.starts.is_empty() && 1 <= filter.push) {
+    if filter.peek == filter.pop
+        && (filter.starts.is_empty() && (filter.first.is_none() && 1 <= filter.push))
+    {
         Some(Form::Blocks {
             pop: filter.pop,
             push: filter.push,

@@ -1,15 +1,16 @@
 // Filters: firing after firing.
-ghost use Rattle.std.specs.Prelude.{◌≡◌, ◌<◌, ◌^◌, ◌++◌, [], length, map, replicate, pos, IfOk, OnOk};
-ghost use Rattle.streamit_model.specs.Meaning.{exec_all, nought, at_start, initial, fires_from, rate_or, pushed_by};
-ghost use Rattle.streamit_text.specs.Program.{filter_tree};
+ghost use Rattle.std.specs.Prelude.{◌≡◌, ◌<◌, ◌^◌, ◌++◌, suc, [], length, map, replicate, pos, IfOk, OnOk};
+ghost use Rattle.streamit_model.specs.Meaning.{exec_all, nought, at_start, initial, pop_of, runs_in, fires_from, rate_or, pushed_by};
+ghost use Rattle.streamit_text.specs.Program.{work_tree, filter_tree};
+ghost use Rattle.streamit_text.specs.Tree.{block};
 ghost use Rattle.streamit_unroll.specs.Filter.{IsReadable};
 ghost use Rattle.streamit_unroll.specs.Unrolling.{AreWritten};
 ghost use Rattle.slow_streamit.specs.Firing.{values_of};
 
 use crate::firing::Firing;
-use river_base::{NoMemory, Numbers};
+use river_base::{Name, NoMemory, Numbers};
 use std::alloc::Global;
-use streamit_text::{FilterTree, Rates};
+use streamit_text::{Block, FilterTree, Rates, WorkTree};
 
 /// What a filter pushes.
 pub fn pushed_by(alloc: Global, tree: &FilterTree, items: &[i64]) -> Result<Numbers, NoMemory>
@@ -57,7 +58,8 @@ fn zeros(alloc: Global, count: usize) -> Result<Numbers, NoMemory>
     Ok(all)
 }
 
-// All firings: each takes place where the items that it looks at are there, and the fields pass from one to the next.
+// All firings, where the first takes place: where the items that it looks at are there, and one at least. The fields pass from one
+// to the next.
 fn fire_all(
     alloc: Global,
     tree: &FilterTree,
@@ -65,19 +67,55 @@ fn fire_all(
     kept: &mut Numbers,
     out: &mut Numbers,
 ) -> Result<(), NoMemory>
-    requires work { AreWritten (filter_tree tree.now).work }
+    requires readable { IsReadable (filter_tree tree.now) }
     requires kept { length kept.old ≡ length (filter_tree tree.now).fields }
-    ensures { OnOk result (out.new ≡ out.old ++ fires_from (filter_tree tree.now) (length items.now) 0 kept.old items.now) }
+    ensures { OnOk result (out.new ≡ out.old ++ fires_from (filter_tree tree.now) (suc (length items.now)) 0 kept.old items.now) }
 {
-    let pop = pop_of(tree.rates);
-    let peek = peek_of(tree.rates);
-    let mut start = 0;
+    let first = first_of(tree);
+    let peek = peek_of(first.rates);
+    if items.len() < peek.max(1) {
+        return Ok(());
+    }
+    fire(alloc, tree.fields.as_slice(), &first.block, &items[..peek], kept, out)?;
+    fire_others(alloc, tree, pop_of(first.rates), items, kept, out)
+}
+
+// What the first firing runs.
+fn first_of(tree: &FilterTree) -> &WorkTree
+    requires { IsReadable (filter_tree tree.now) }
+    ensures is { work_tree result.now ≡ runs_in (filter_tree tree.now) 0 }
+    ensures written { AreWritten (work_tree result.now).block }
+{
+    match &tree.prework {
+        Some(prework) => prework,
+        None => &tree.work,
+    }
+}
+
+// All firings but the first, of which the next starts there: each takes place where the items that it looks at are there.
+fn fire_others(
+    alloc: Global,
+    tree: &FilterTree,
+    first: usize,
+    items: &[i64],
+    kept: &mut Numbers,
+    out: &mut Numbers,
+) -> Result<(), NoMemory>
+    requires work { AreWritten (filter_tree tree.now).work.block }
+    requires first { first ≡ pop_of (runs_in (filter_tree tree.now) 0) }
+    requires small { first < 2 ^ 32 }
+    requires kept { length kept.old ≡ length (filter_tree tree.now).fields }
+    ensures { OnOk result (out.new ≡ out.old ++ fires_from (filter_tree tree.now) (length items.now) 1 kept.old items.now) }
+{
+    let pop = pop_of(tree.work.rates);
+    let peek = peek_of(tree.work.rates);
+    let mut start = first;
     for j in 0..items.len() {
         let end = start + peek;
         if end > items.len() {
             return Ok(());
         }
-        fire(alloc, tree, &items[start..end], kept, out)?;
+        fire(alloc, tree.fields.as_slice(), &tree.work.block, &items[start..end], kept, out)?;
         start += pop;
     }
     Ok(())
@@ -102,43 +140,44 @@ fn peek_of(rates: Rates) -> usize
     }
 }
 
-// One firing on the items that it looks at.
+// One firing of a block on the items that it looks at.
 fn fire(
     alloc: Global,
-    tree: &FilterTree,
+    fields: &[Name],
+    body: &Block,
     items: &[i64],
     kept: &mut Numbers,
     out: &mut Numbers,
 ) -> Result<(), NoMemory>
-    requires work { AreWritten (filter_tree tree.now).work }
-    requires kept { length kept.old ≡ length (filter_tree tree.now).fields }
-    ensures kept { OnOk result (let t = filter_tree tree.now in kept.new ≡ map (exec_all t.work items.now (at_start t.fields kept.old)).values t.fields) }
-    ensures out { OnOk result (let t = filter_tree tree.now in out.new ≡ out.old ++ (exec_all t.work items.now (at_start t.fields kept.old)).pushed) }
+    requires written { AreWritten (block body.now) }
+    requires kept { length kept.old ≡ length fields.now }
+    ensures kept { OnOk result (kept.new ≡ map (exec_all (block body.now) items.now (at_start fields.now kept.old)).values fields.now) }
+    ensures out { OnOk result (out.new ≡ out.old ++ (exec_all (block body.now) items.now (at_start fields.now kept.old)).pushed) }
 {
     let mut firing = Firing::new(alloc);
-    fire_anew(alloc, tree, items, &mut firing, kept, out)
+    fire_anew(alloc, fields, body, items, &mut firing, kept, out)
 }
 
 // The same, where nothing has a value yet.
 fn fire_anew(
     alloc: Global,
-    tree: &FilterTree,
+    fields: &[Name],
+    body: &Block,
     items: &[i64],
     firing: &mut Firing,
     kept: &mut Numbers,
     out: &mut Numbers,
 ) -> Result<(), NoMemory>
-    requires work { AreWritten (filter_tree tree.now).work }
-    requires kept { length kept.old ≡ length (filter_tree tree.now).fields }
+    requires written { AreWritten (block body.now) }
+    requires kept { length kept.old ≡ length fields.now }
     requires values { values_of firing.old.values ≡ nought }
     requires popped { firing.old.popped ≡ 0 }
     requires pushed { firing.old.pushed ≡ [] }
-    ensures kept { OnOk result (let t = filter_tree tree.now in kept.new ≡ map (exec_all t.work items.now (at_start t.fields kept.old)).values t.fields) }
-    ensures out { OnOk result (let t = filter_tree tree.now in out.new ≡ out.old ++ (exec_all t.work items.now (at_start t.fields kept.old)).pushed) }
+    ensures kept { OnOk result (kept.new ≡ map (exec_all (block body.now) items.now (at_start fields.now kept.old)).values fields.now) }
+    ensures out { OnOk result (out.new ≡ out.old ++ (exec_all (block body.now) items.now (at_start fields.now kept.old)).pushed) }
 {
-    let fields = tree.fields.as_slice();
     firing.begin(fields, kept.as_slice())?;
-    firing.block(&tree.work, items)?;
+    firing.block(body, items)?;
     *kept = firing.fields(alloc, fields)?;
     add_values(firing.pushed.as_slice(), out)
 }

@@ -8,15 +8,16 @@ use Rattle.work_code.specs.Steps as steps
 use Rattle.work_code.specs.Term.{Term}
 use Rattle.work_code.specs.Tok.{Tok}
 use Rattle.text_forms.specs.Forms as form
-use Rattle.kern_rows.specs.Forms.{FilterForm}
+use Rattle.kern_rows.specs.Forms.{FilterForm, RunForm}
 use Rattle.river_plan.specs.Forms.{Name}
 use Rattle.streamit_text.specs.Tree.{Statement, Declare, Assign, Push, Discard, If, For, Block, End, Then, Optional, Unwritten, Written, in_turn, or_unwritten}
 use Rattle.streamit_text.specs.Tree.{Expression}
-use Rattle.streamit_model.specs.Meaning.{pops, numbers, push_of, pop_of, peek_of}
+use Rattle.streamit_model.specs.Meaning.{pops, numbers, peek_of}
 use Rattle.streamit_model.specs.Elaborate.{At, Read, on_ok, joined, one_step, counted, is_new, has_slot, first_term, declared, slot_of, term_of, constant}
 use Rattle.streamit_model.specs.Elaborate.{bound_of, after_arms, unrolled, step_of, steps_of, find, BranchRates, Turn, optional_of}
-use Rattle.streamit_text.specs.Program.{FilterTree}
-use Rattle.streamit_model.specs.ElaborateFilter.{elaborated, read_fields, nothing_read, judged_rates, kept_rates, elaborated_form}
+use Rattle.streamit_text.specs.Program.{WorkTree, FilterTree}
+use Rattle.streamit_model.specs.ElaborateFilter.{elaborated, slots_for, first_with}
+use Rattle.streamit_model.proofs.FilterMet.{WorkRead, PreworkRead, elaborated_parts}
 use Rattle.streamit_model.proofs.Elaborated.{fine, ok_parts, ok_is}
 use Rattle.streamit_text.specs.Blocks.{IsPlain, Head, IsHead, looped, style, holes}
 use Rattle.streamit_text.specs.Expressions.{IsExpression, expr_at}
@@ -178,15 +179,27 @@ mutual
   optional-below e Unwritten s y h = by-steps 0 (Done, s) y h (omega arith)
   optional-below e (Written b) s y h = steps-below e b s y h
 
--- the filter of a filter as it is written nests no deeper than its `work`
-pub filter-below : (t : FilterTree) (f : FilterForm) → elaborated t ≡ Ok f → depths f.body.steps ≤ nests t.work
+-- how deep a first run nests, and `prework`
+abbrev pub depths-first : Option RunForm → ℕ
+depths-first None = 0
+depths-first (Some r) = depths r.body.steps
+
+abbrev pub nests-first : Option WorkTree → ℕ
+nests-first None = 0
+nests-first (Some w) = nests w.block
+
+-- the runs of a filter nest no deeper than its `prework` and its `work`
+work-below : (least : ℕ) (w : WorkTree) (s : At) (r : RunForm) → WorkRead least w s r → depths r.body.steps ≤ nests w.block
+work-below least w s r e = subst (λ (r : RunForm). depths r.body.steps ≤ nests w.block) e.is (steps-below (peek_of w) w.block s e.read e.steps_are)
+
+first-below : (o : Option WorkTree) (s : At) (p : Option RunForm) (n : ℕ) → PreworkRead o s p → depths-first (first_with n p) ≤ nests-first o
+first-below None s None n h = omega arith
+first-below None s (Some r) n h = absurd h
+first-below (Some w) s None n h = absurd h
+first-below (Some w) s (Some r) n h = work-below 0 w s r h
+
+pub filter-below : (t : FilterTree) (f : FilterForm) → elaborated t ≡ Ok f → (depths-first f.first ≤ nests-first t.prework) × (depths f.body.steps ≤ nests t.work.block)
 filter-below t f h =
-    let end = λ (i w : Steps × At). on_ok (kept_rates (push_of t) (pop_of t) w.1) (λ v. fine (elaborated_form t i w)) in
-    let f3 = λ (s : At) (i : Steps × At). on_ok (steps_of (peek_of t) t.work s) (end i) in
-    let f2 = λ (s : At) (i : Steps × At). on_ok (judged_rates (push_of t) (pop_of t) (peek_of t)) (λ u. f3 s i) in
-    let a = ok_parts (read_fields t.fields nothing_read) (λ s. on_ok (optional_of 0 t.init s) (f2 s)) f h in
-    let i = ok_parts (optional_of 0 t.init a.0) (f2 a.0) f a.2 in
-    let r = ok_parts (judged_rates (push_of t) (pop_of t) (peek_of t)) (λ u. f3 a.0 i.0) f i.2 in
-    let w = ok_parts (steps_of (peek_of t) t.work a.0) (end i.0) f r.2 in
-    let k = ok_parts (kept_rates (push_of t) (pop_of t) w.0.1) (λ v. fine (elaborated_form t i.0 w.0)) f w.2 in
-    subst (λ (g : FilterForm). depths g.body.steps ≤ nests t.work) (ok_is (elaborated_form t i.0 w.0) f k.2) (steps-below (peek_of t) t.work a.0 w.0 w.1)
+    let e = elaborated_parts t f h in
+    subst (λ (g : FilterForm). (depths-first g.first ≤ nests-first t.prework) × (depths g.body.steps ≤ nests t.work.block)) e.is
+    (first-below t.prework e.fields e.prework (slots_for e.prework e.work.body.slots) e.prework_is, work-below 1 t.work e.fields e.work e.work_is)

@@ -6,30 +6,33 @@ use Rattle.std.specs.Str.{bytes_eq}
 use Rattle.river_base.specs.Name.{name_eq}
 use Rattle.work_code.specs.Cut.{units_of as cut_units}
 use Rattle.work_code.specs.Tok.{Tok, toks}
-use Rattle.kern_rows.specs.Forms.{FilterForm}
+use Rattle.kern_rows.specs.Forms.{FilterForm, RunForm}
 use Rattle.river_plan.specs.Forms.{Name}
-use Rattle.river_print.specs.Printable.{IsPrintable}
+use Rattle.river_print.specs.Printable.{IsShallowFirst, IsPrintable}
 use Rattle.river_print.specs.Writable.{Every, depths}
 use Rattle.river_print.proofs.Spoken.{IsSpoken, every-joined, spoken-printable}
 use Rattle.streamit_model.specs.Build.{numbered, queue, queues, ops_in, ops_of, queues_in, splitter, joiner, build, build_line, build_branches, plan_of}
 use Rattle.streamit_model.specs.Elaborate.{Fault, on_ok, demand, Limit}
-use Rattle.streamit_text.specs.Program.{FilterTree, Body, AFilter, APipeline, ASplitJoin, Declared, Program}
+use Rattle.streamit_text.specs.Program.{WorkTree, FilterTree, Body, AFilter, APipeline, ASplitJoin, Declared, Program}
 use Rattle.streamit_model.specs.ElaborateFilter.{elaborated}
 use Rattle.streamit_model.specs.Judged.{Refusal, Streamed, on_fine, in_unit, found, added, streams_of, any, branches, round_of, splitter_of, stream_of}
 use Rattle.streamit_model.specs.Judged.{not_there, unit_of, all_streams, few_operators, judged}
 use Rattle.streamit_model.specs.Meaning.{look, branch_count}
 use Rattle.streamit_model.specs.Unrolled.{Splitter, Duplicate, RoundRobin, Stream, Filter, Pipeline, SplitJoin, Streams, Last, Then, number_of, nesting}
 use Rattle.streamit_model.proofs.Elaborated.{fine, ok_parts, ok_is}
-use Rattle.streamit_text.specs.Grammar.{InFilter, BodyAfter, IsUnit, AreUnits}
+use Rattle.streamit_text.specs.Grammar.{IsWork, IsPrework, InFilter, BodyAfter, IsUnit, AreUnits}
 use Rattle.streamit_front.specs.Laws.{Has, PlansArePrintable}
 use Rattle.streamit_front.proofs.Fronts.{means_what_it_has}
-use Rattle.streamit_front.proofs.Nested.{nests, block-nested, filter-below}
+use Rattle.streamit_front.proofs.Nested.{nests, depths-first, nests-first, block-nested, filter-below}
 use Rattle.text_blocks.proofs.Every.{chosen, enclosed}
 
 -- THE GRAMMAR
 
+abbrev IsNestedWork : WorkTree → Type 0
+IsNestedWork w = nests w.block ≤ 16
+
 abbrev IsNestedFilter : FilterTree → Type 0
-IsNestedFilter t = nests t.work ≤ 16
+IsNestedFilter t = (nests-first t.prework ≤ 16) × IsNestedWork t.work
 
 abbrev IsNestedBody : Body → Type 0
 IsNestedBody (AFilter t) = IsNestedFilter t
@@ -40,10 +43,18 @@ abbrev AreNestedUnits : Program → Type 0
 AreNestedUnits [] = Unit {0}
 AreNestedUnits (u ∷ us) = IsNestedBody u.body × AreNestedUnits us
 
+work-nested : (n : ℕ) (w : WorkTree) (ts : List Tok) → IsWork n w ts → IsNestedWork w
+work-nested n w ts h = subst IsNestedWork (sym h.is) (block-nested n h.value.1 h.formed.back h.formed.second)
+
+first-nested : (n : ℕ) (o : Option WorkTree) (ts : List Tok) → IsPrework n o ts → nests-first o ≤ 16
+first-nested n None ts h = omega arith
+first-nested n (Some w) ts h = work-nested n w h.back h.formed
+
 filter-nested : (n : ℕ) (t : FilterTree) (ts : List Tok) → InFilter n t ts → IsNestedFilter t
 filter-nested n t ts h =
+    let v = h.value in
     let rest = h.formed.second.second in
-    subst IsNestedFilter (sym h.is) (block-nested n h.value.1.1.1 rest.formed.back rest.formed.second)
+    subst IsNestedFilter (sym h.is) (first-nested n v.1.1.0 rest.front rest.first, work-nested n v.1.1.1 rest.second.back rest.second.formed)
 
 body-nested : (n : ℕ) (w : List ℕ) (b : Body) (ts : List Tok) → BodyAfter n w b ts → IsNestedBody b
 body-nested n w b ts h =
@@ -67,7 +78,11 @@ units-nested (d ∷ ds) (u ∷ us) h = (unit-nested d u h.0, units-nested ds us 
 -- THE STREAMS
 
 abbrev IsLow : FilterForm → Type 0
-IsLow f = depths f.body.steps ≤ 16
+IsLow f = (depths f.body.steps ≤ 16) × IsShallowFirst f.first
+
+shallow-first : (o : Option RunForm) → depths-first o ≤ 16 → IsShallowFirst o
+shallow-first None h = tt
+shallow-first (Some r) h = h
 
 -- of each filter of a stream this holds
 abbrev mutual
@@ -118,7 +133,11 @@ stream-low : (known : Streamed) (name : Name) (b : Body) (s : Stream) → AllLow
 stream-low known name (AFilter t) s a low h =
     let p = ok_parts (elaborated t) (λ f. fine (Filter name f)) s h in
     let le = filter-below t p.0 p.1 in
-    subst IsLowStream (ok_is (Filter name p.0) s p.2) (omega (arith, le, low))
+    let first = le.0 in
+    let body = le.1 in
+    let low-first = low.0 in
+    let low-body = low.1 in
+    subst IsLowStream (ok_is (Filter name p.0) s p.2) (omega (arith, body, low-body), shallow-first p.0.first (omega (arith, first, low-first)))
 stream-low known name (APipeline l) s a low h =
     let p = ok_parts (streams_of any known 0 l.first l.others) (λ ss. fine (Pipeline ss)) s h in
     subst IsLowStream (ok_is (Pipeline p.0) s p.2) (streams-low any known 0 l.first l.others p.0 a p.1)

@@ -17,18 +17,18 @@ use Rattle.streamit_text.specs.Blocks.{IsDeclare, IsAssign, IsPush, IsDiscard, I
 use Rattle.streamit_text.specs.Expressions.{syntax, marked, IsExpression, expr_at}
 use Rattle.streamit_text.specs.Leaves.{IsLeaf, leaf_at}
 use Rattle.streamit_text.specs.Leaves as rule
-use Rattle.streamit_text.specs.Program.{FilterTree, Body, Declared, Program}
+use Rattle.streamit_text.specs.Program.{WorkTree, FilterTree, Body, Declared, Program}
 use Rattle.streamit_text.specs.Tree.{Expression, Statement, Declare, Assign, Push, Discard, If, For, Block, End, Then, Optional, Unwritten, Written, in_turn}
 use Rattle.streamit_text.specs.Tree.{or_unwritten}
 use Rattle.streamit_text.specs.Tree as tree
 use Rattle.streamit_text.specs.Words.{is_own}
 use Rattle.streamit_text.specs.declared.term.Sign.{Sign}
 use Rattle.streamit_text.specs.declared.term.Sign.TheVariants as sign
-use Rattle.streamit_text.specs.Grammar.{IsBlock, is_still, is_still_first, stays, stay, stay_optional, IsInit, InFilter, BodyAfter, IsUnit, AreUnits}
+use Rattle.streamit_text.specs.Grammar.{IsBlock, is_still, is_still_first, stays, stay, stay_optional, IsInit, IsWork, IsPrework, InFilter, BodyAfter, IsUnit, AreUnits}
 use Rattle.streamit_model.specs.Shallow.{IsLow, IsLowFirst, IsShallow, AreShallow, AreShallowOptional, IsItemless, IsItemlessFirst, KeepsItems, KeepAll}
-use Rattle.streamit_model.specs.Shallow.{KeepAllOptional, IsShallowBody, AreShallowUnits}
+use Rattle.streamit_model.specs.Shallow.{KeepAllOptional, IsShallowPrework, IsShallowFilter, IsShallowBody, AreShallowUnits}
 use Rattle.streamit_unroll.specs.Numbers.{AreValues}
-use Rattle.streamit_unroll.specs.Filter.{IsReadable}
+use Rattle.streamit_unroll.specs.Filter.{IsWrittenPrework, IsReadable}
 use Rattle.streamit_unroll.specs.Unrolling.{AreOptional, IsWritten, AreWritten, AreWrittenOptional}
 use Rattle.streamit_build.specs.Readable.{IsReadableBody, AreReadable}
 
@@ -181,16 +181,30 @@ init-fine n b ts h = subst IsInitial (sym h.is) (by h.value ts h.formed) where
 
 -- ---- UNITS
 
+abbrev IsFinePrework : Option WorkTree → Type 0
+IsFinePrework o = IsWrittenPrework o × IsShallowPrework o
+
 abbrev IsFineFilter : FilterTree → Type 0
-IsFineFilter t = IsReadable t × AreShallow t.work
+IsFineFilter t = IsReadable t × IsShallowFilter t
+
+abbrev IsFineWork : WorkTree → Type 0
+IsFineWork w = AreWritten w.block × AreShallow w.block
+
+work-fine : (n : ℕ) (w : WorkTree) (ts : List Tok) → IsWork n w ts → IsFineWork w
+work-fine n w ts h = subst IsFineWork (sym h.is) (whole-fine n h.value.1 h.formed.back h.formed.second)
+
+prework-fine : (n : ℕ) (o : Option WorkTree) (ts : List Tok) → IsPrework n o ts → IsFinePrework o
+prework-fine n None ts h = (tt, tt)
+prework-fine n (Some w) ts h = work-fine n w h.back h.formed
 
 filter-fine : (n : ℕ) (t : FilterTree) (ts : List Tok) → InFilter n t ts → IsFineFilter t
 filter-fine n t ts h =
     let v = h.value in
     let rest = h.formed.second in
     let i = init-fine n v.1.0 rest.front rest.first in
-    let w = whole-fine n v.1.1.1 rest.second.formed.back rest.second.formed.second in
-    subst IsFineFilter (sym h.is) (record { init = i.0.0; work = w.0; low = i.0.1; kept = i.1 }, w.1)
+    let p = prework-fine n v.1.1.0 rest.second.front rest.second.first in
+    let w = work-fine n v.1.1.1 rest.second.second.back rest.second.second.formed in
+    subst IsFineFilter (sym h.is) (record { init = i.0.0; prework = p.0; work = w.0; low = i.0.1; kept = i.1 }, (p.1, w.1))
 
 abbrev IsFineBody : Body → Type 0
 IsFineBody b = IsReadableBody b × IsShallowBody b

@@ -1,13 +1,14 @@
 -- A filter of a plan gives what the filter as it is written gives.
-use Rattle.std.proofs.Common.{◌≡◌, ℕ, zero, suc, ℤ, pos, ◌+◌, ◌-◌, ◌*◌, ◌<◌, ◌≤◌, true, List, [], ◌∷◌, ◌++◌, length, map, take, drop, replicate, None, Ok, refl}
+use Rattle.std.proofs.Common.{◌≡◌, ℕ, zero, suc, ℤ, pos, ◌+◌, ◌-◌, ◌*◌, ◌<◌, ◌≤◌, true, List, [], ◌∷◌, ◌++◌, length, map, take, drop, replicate, max, Option, Some, None, Ok, refl}
 use Rattle.std.proofs.Common.{sym, ap, ◌∙◌, subst, arith, nat_le, nat_eq, ⊎_elim, length-append}
 use Rattle.std.specs.Prelude.{if◌then◌else◌, ◌&&◌, slice_index_or, nat_lt}
 use Rattle.std.proofs.lemmas.Bool.{and_parts}
 use Rattle.std.proofs.lemmas.List.{length-replicate}
+use Rattle.std.proofs.Math.Nat.{le_refl}
 use Rattle.work_code.specs.Steps.{Steps}
 use Rattle.work_code.specs.Ran.{ran}
-use Rattle.kern_rows.specs.Forms.{FilterForm}
-use Rattle.kern_rows.specs.Runs.{run_kept, slots_from}
+use Rattle.kern_rows.specs.Forms.{FilterForm, RunForm}
+use Rattle.kern_rows.specs.Runs.{run_kept, slots_from, run_or, run_at, begins, needs}
 use Rattle.kern_rows.specs.Stands.{first_values}
 use Rattle.kern_rows.proofs.Lengths.{ran_length, run_kept_length}
 use Rattle.river_plan.specs.Forms.{Name}
@@ -15,11 +16,12 @@ use Rattle.river_plan.proofs.NameLemmas.{cases_name, name_same}
 use Rattle.brooklet_model.specs.Machine.{at_name}
 use Rattle.streamit_text.specs.Tree.{Block, End, Optional, Unwritten, Written}
 use Rattle.streamit_model.specs.Meaning.{Values, exec_all, State, exec_optional, push_of, pop_of, peek_of, nought, with_fields, at_start, initial, fires}
-use Rattle.streamit_model.specs.Meaning.{fires_from, pushed_by}
+use Rattle.streamit_model.specs.Meaning.{or_work, runs_in, start_at, waits_for, looked_at, fires_from, pushed_by}
 use Rattle.streamit_model.specs.Elaborate.{Rates, Limit, on_ok, demand, Var, Scope, find, is_new, has_slot, At, steps_of, optional_of}
-use Rattle.streamit_text.specs.Program.{FilterTree}
+use Rattle.streamit_text.specs.Program.{WorkTree, FilterTree}
 use Rattle.streamit_model.specs.ElaborateFilter.{read_field, read_fields, nothing_read, starts_of, elaborated_form, judged_rates, kept_rates, elaborated}
-use Rattle.streamit_model.specs.UnrolledFilters.{firings_from, filtered}
+use Rattle.streamit_model.specs.ElaborateFilter.{run_of, read_work, read_prework, slots_for, widened, first_with}
+use Rattle.streamit_model.specs.UnrolledFilters.{firing, firings_from, filtered}
 use Rattle.streamit_model.proofs.Elaborated.{fine, ok_parts, ok_is, demanded, new_is, some_is, found_here, found_other, at_here, at_other, Holds, Agrees}
 use Rattle.streamit_model.proofs.Elaborated.{IsSound, Keeps, keeps_new, sound_var, steps_grow, steps_met}
 
@@ -132,124 +134,212 @@ no_scope env mem = record { each = λ n b f. absurd (cc f) }
 pub sound_nothing : IsSound [] 0
 sound_nothing = record { below = λ n i f. absurd (cc f); apart = λ n m i f g. absurd (cc f) }
 
-pub record RunMet (fs : List Name) (run : List ℤ → State → State) (y : Steps × At) (kept xs : List ℤ) : Type 0 where
-  pub pushed : (run xs (at_start fs kept)).pushed ≡ first_values (ran y.0 xs (slots_from y.1.slots kept)).pushes
-  pub fields : map (run xs (at_start fs kept)).values fs ≡ take (length kept) (ran y.0 xs (slots_from y.1.slots kept)).slots
+-- a run of a block does what is read of it does, with so many slots
+pub record RunMet (fs : List Name) (run : List ℤ → State → State) (steps : Steps) (m : ℕ) (kept xs : List ℤ) : Type 0 where
+  pub pushed : (run xs (at_start fs kept)).pushed ≡ first_values (ran steps xs (slots_from m kept)).pushes
+  pub fields : map (run xs (at_start fs kept)).values fs ≡ take (length kept) (ran steps xs (slots_from m kept)).slots
 
-run_met : (fs : List Name) (b : Block) (e : ℕ) (s : At) (y : Steps × At) (kept xs : List ℤ) → read_fields fs nothing_read ≡ Ok s → steps_of e b s ≡ Ok y
-    → length kept ≡ length fs → RunMet fs (exec_all b) y kept xs
-run_met fs b e s y kept xs hf hb len =
+run_met : (fs : List Name) (b : Block) (e m : ℕ) (s : At) (y : Steps × At) (kept xs : List ℤ) → read_fields fs nothing_read ≡ Ok s → steps_of e b s ≡ Ok y
+    → y.1.slots ≤ m → length kept ≡ length fs → RunMet fs (exec_all b) y.0 m kept xs
+run_met fs b e m s y kept xs hf hb le len =
     let r = fields_read fs nothing_read s hf in
     let g = steps_grow e b s y hb in
-    let mem = slots_from y.1.slots kept in
-    let a0 = length-append kept (replicate (y.1.slots - length kept) (pos 0)) in
-    let a1 = length-replicate (y.1.slots - length kept) (pos 0) in
+    let mem = slots_from m kept in
+    let a0 = length-append kept (replicate (m - length kept) (pos 0)) in
+    let a1 = length-replicate (m - length kept) (pos 0) in
     let a2 = r.slots in
     let a3 = g.slots in
-    let m : length mem ≡ y.1.slots = omega (arith, a0, a1, a2, a3, len) in
-    let agree = fields_agree fs kept nothing_read s nought mem hf len (λ i lt. ap (λ k. slice_index_or mem k (pos 0)) (let z : 0 + i ≡ i = omega arith in z) ∙ at_first kept (replicate (y.1.slots - length kept) (pos 0)) i (omega (arith, len, lt))) (no_scope nought mem) in
-    let d = steps_met e xs b s y mem (at_start fs kept) hb (r.sound sound_nothing) agree (sym r.popped) (omega (arith, m)) in
+    let n : length mem ≡ m = omega (arith, a0, a1, a2, a3, len, le) in
+    let agree = fields_agree fs kept nothing_read s nought mem hf len (λ i lt. ap (λ k. slice_index_or mem k (pos 0)) (let z : 0 + i ≡ i = omega arith in z) ∙ at_first kept (replicate (m - length kept) (pos 0)) i (omega (arith, len, lt))) (no_scope nought mem) in
+    let d = steps_met e xs b s y mem (at_start fs kept) hb (r.sound sound_nothing) agree (sym r.popped) (omega (arith, n, le)) in
     let l = ran_length y.0 xs mem in
     record {
       pushed = d.pushed;
       fields =
-          fields_kept fs nothing_read s y.1.scope (exec_all b xs (at_start fs kept)).values (ran y.0 xs mem).slots hf g.keeps d.agrees (omega (arith, l, m, a2, a3))
+          fields_kept fs nothing_read s y.1.scope (exec_all b xs (at_start fs kept)).values (ran y.0 xs mem).slots hf g.keeps d.agrees (omega (arith, l, n, le, a2, a3))
           ∙ ap (λ k. take k (ran y.0 xs mem).slots) (sym len);
     }
 
 run_optional : (fs : List Name) (b : Optional) (e : ℕ) (s : At) (y : Steps × At) (kept xs : List ℤ) → read_fields fs nothing_read ≡ Ok s
-    → optional_of e b s ≡ Ok y → length kept ≡ length fs → RunMet fs (exec_optional b) y kept xs
+    → optional_of e b s ≡ Ok y → length kept ≡ length fs → RunMet fs (exec_optional b) y.0 y.1.slots kept xs
 run_optional fs Unwritten e s y kept xs hf hb len =
-    let r = run_met fs End e s y kept xs hf hb len in
+    let r = run_met fs End e y.1.slots s y kept xs hf hb (le_refl y.1.slots) len in
     record { pushed = r.pushed; fields = r.fields }
 run_optional fs (Written b) e s y kept xs hf hb len =
-    let r = run_met fs b e s y kept xs hf hb len in
+    let r = run_met fs b e y.1.slots s y kept xs hf hb (le_refl y.1.slots) len in
     record { pushed = r.pushed; fields = r.fields }
 
--- ALL FIRINGS
+-- WHAT IS ACCEPTED
 
 -- the rates that are accepted
-pub record AreRates (t : FilterTree) : Type 0 where
-  pub push : (push_of t) ≤ 65536
-  pub pop : (pop_of t) ≤ 65536
-  pub peek : (peek_of t) ≤ 65536
-  pub pops : 1 ≤ (pop_of t)
-  pub peeks : (pop_of t) ≤ (peek_of t)
+pub record AreRates (least : ℕ) (w : WorkTree) : Type 0 where
+  pub push : push_of w ≤ 65536
+  pub pop : pop_of w ≤ 65536
+  pub peek : peek_of w ≤ 65536
+  pub pops : least ≤ pop_of w
+  pub peeks : pop_of w ≤ peek_of w
 
-rates_are : (t : FilterTree) (u : Unit {0}) → judged_rates (push_of t) (pop_of t) (peek_of t) ≡ Ok u → AreRates t
-rates_are t u h =
-    let small = nat_le (push_of t) 65536 && (nat_le (pop_of t) 65536 && nat_le (peek_of t) 65536) in
-    let f1 = λ (v : Unit {0}). demand (nat_le (pop_of t) (peek_of t)) (Rates (peek_of t) (pop_of t)) in
-    let p = ok_parts (demand small Limit) (λ u. on_ok (demand (nat_le 1 (pop_of t)) Limit) f1) u h in
-    let q = ok_parts (demand (nat_le 1 (pop_of t)) Limit) f1 u p.2 in
-    let a = and_parts (nat_le (push_of t) 65536) (nat_le (pop_of t) 65536 && nat_le (peek_of t) 65536) (demanded small Limit p.0 p.1) in
-    let b = and_parts (nat_le (pop_of t) 65536) (nat_le (peek_of t) 65536) a.1 in
+rates_are : (least : ℕ) (w : WorkTree) (u : Unit {0}) → judged_rates least (push_of w) (pop_of w) (peek_of w) ≡ Ok u → AreRates least w
+rates_are least w u h =
+    let small = nat_le (push_of w) 65536 && (nat_le (pop_of w) 65536 && nat_le (peek_of w) 65536) in
+    let f1 = λ (v : Unit {0}). demand (nat_le (pop_of w) (peek_of w)) (Rates (peek_of w) (pop_of w)) in
+    let p = ok_parts (demand small Limit) (λ u. on_ok (demand (nat_le least (pop_of w)) Limit) f1) u h in
+    let q = ok_parts (demand (nat_le least (pop_of w)) Limit) f1 u p.2 in
+    let a = and_parts (nat_le (push_of w) 65536) (nat_le (pop_of w) 65536 && nat_le (peek_of w) 65536) (demanded small Limit p.0 p.1) in
+    let b = and_parts (nat_le (pop_of w) 65536) (nat_le (peek_of w) 65536) a.1 in
     record {
-      push = le_by (push_of t) 65536 a.0;
-      pop = le_by (pop_of t) 65536 b.0;
-      peek = le_by (peek_of t) 65536 b.1;
-      pops = le_by 1 (pop_of t) (demanded (nat_le 1 (pop_of t)) Limit q.0 q.1);
-      peeks = le_by (pop_of t) (peek_of t) (demanded (nat_le (pop_of t) (peek_of t)) (Rates (peek_of t) (pop_of t)) u q.2);
+      push = le_by (push_of w) 65536 a.0;
+      pop = le_by (pop_of w) 65536 b.0;
+      peek = le_by (peek_of w) 65536 b.1;
+      pops = le_by least (pop_of w) (demanded (nat_le least (pop_of w)) Limit q.0 q.1);
+      peeks = le_by (pop_of w) (peek_of w) (demanded (nat_le (pop_of w) (peek_of w)) (Rates (peek_of w) (pop_of w)) u q.2);
     }
   where
     le_by : (m n : ℕ) → nat_le m n ≡ true → m ≤ n
     le_by m n h = grind (arith, h)
 
+-- what is read of `prework` or `work` behind the fields
+pub record WorkRead (least : ℕ) (w : WorkTree) (s : At) (r : RunForm) : Type 0 where
+  pub read : Steps × At
+  pub steps_are : steps_of (peek_of w) w.block s ≡ Ok read
+  pub rates : AreRates least w
+  pub popped : read.1.popped ≡ pop_of w
+  pub pushed : read.1.pushed ≡ push_of w
+  pub is : run_of w read ≡ r
+
+abbrev pub PreworkRead : Option WorkTree → At → Option RunForm → Type 0
+PreworkRead None s None = Unit {0}
+PreworkRead None s (Some r) = ⊥
+PreworkRead (Some w) s None = ⊥
+PreworkRead (Some w) s (Some r) = WorkRead 0 w s r
+
 pub record Elaborated (t : FilterTree) (f : FilterForm) : Type 0 where
   pub fields : At
   pub init : Steps × At
-  pub work : Steps × At
+  pub prework : Option RunForm
+  pub work : RunForm
   pub fields_are : read_fields t.fields nothing_read ≡ Ok fields
   pub init_is : optional_of 0 t.init fields ≡ Ok init
-  pub work_is : steps_of (peek_of t) t.work fields ≡ Ok work
-  pub rates : AreRates t
-  pub popped : work.1.popped ≡ (pop_of t)
-  pub pushed : work.1.pushed ≡ (push_of t)
-  pub is : elaborated_form t init work ≡ f
+  pub prework_is : PreworkRead t.prework fields prework
+  pub work_is : WorkRead 1 t.work fields work
+  pub is : elaborated_form t init prework work ≡ f
 
--- the parts of a filter that is accepted
-pub elaborated_parts : (t : FilterTree) (f : FilterForm) → elaborated t ≡ Ok f → Elaborated t f
-elaborated_parts t f h =
-    let f4 = λ (i w : Steps × At). on_ok (kept_rates (push_of t) (pop_of t) w.1) (λ v. fine (elaborated_form t i w)) in
-    let f3 = λ (s : At) (i : Steps × At) (u : Unit {0}). on_ok (steps_of (peek_of t) t.work s) (f4 i) in
-    let f2 = λ (s : At) (i : Steps × At). on_ok (judged_rates (push_of t) (pop_of t) (peek_of t)) (f3 s i) in
-    let f1 = λ (s : At). on_ok (optional_of 0 t.init s) (f2 s) in
-    let p = ok_parts (read_fields t.fields nothing_read) f1 f h in
-    let q = ok_parts (optional_of 0 t.init p.0) (f2 p.0) f p.2 in
-    let r = ok_parts (judged_rates (push_of t) (pop_of t) (peek_of t)) (f3 p.0 q.0) f q.2 in
-    let w = ok_parts (steps_of (peek_of t) t.work p.0) (f4 q.0) f r.2 in
-    let k = ok_parts (kept_rates (push_of t) (pop_of t) w.0.1) (λ v. fine (elaborated_form t q.0 w.0)) f w.2 in
-    let m = ok_parts (demand (nat_eq w.0.1.popped (pop_of t)) (Rates (pop_of t) w.0.1.popped)) (λ u. demand (nat_eq w.0.1.pushed (push_of t)) (Rates (push_of t) w.0.1.pushed)) k.0 k.1 in
+work_parts : (least : ℕ) (w : WorkTree) (s : At) (r : RunForm) → read_work least w s ≡ Ok r → WorkRead least w s r
+work_parts least w s r h =
+    let f2 = λ (y : Steps × At). on_ok (kept_rates (push_of w) (pop_of w) y.1) (λ v. fine (run_of w y)) in
+    let f1 = λ (u : Unit {0}). on_ok (steps_of (peek_of w) w.block s) f2 in
+    let p = ok_parts (judged_rates least (push_of w) (pop_of w) (peek_of w)) f1 r h in
+    let q = ok_parts (steps_of (peek_of w) w.block s) f2 r p.2 in
+    let k = ok_parts (kept_rates (push_of w) (pop_of w) q.0.1) (λ v. fine (run_of w q.0)) r q.2 in
+    let m = ok_parts (demand (nat_eq q.0.1.popped (pop_of w)) (Rates (pop_of w) q.0.1.popped)) (λ u. demand (nat_eq q.0.1.pushed (push_of w)) (Rates (push_of w) q.0.1.pushed)) k.0 k.1 in
     record {
-      fields = p.0;
-      init = q.0;
-      work = w.0;
-      fields_are = p.1;
-      init_is = q.1;
-      work_is = w.1;
-      rates = rates_are t r.0 r.1;
-      popped = same_by w.0.1.popped (pop_of t) (demanded (nat_eq w.0.1.popped (pop_of t)) (Rates (pop_of t) w.0.1.popped) m.0 m.1);
-      pushed = same_by w.0.1.pushed (push_of t) (demanded (nat_eq w.0.1.pushed (push_of t)) (Rates (push_of t) w.0.1.pushed) k.0 m.2);
-      is = ok_is (elaborated_form t q.0 w.0) f k.2;
+      read = q.0;
+      steps_are = q.1;
+      rates = rates_are least w p.0 p.1;
+      popped = same_by q.0.1.popped (pop_of w) (demanded (nat_eq q.0.1.popped (pop_of w)) (Rates (pop_of w) q.0.1.popped) m.0 m.1);
+      pushed = same_by q.0.1.pushed (push_of w) (demanded (nat_eq q.0.1.pushed (push_of w)) (Rates (push_of w) q.0.1.pushed) k.0 m.2);
+      is = ok_is (run_of w q.0) r k.2;
     }
   where
     same_by : (m n : ℕ) → nat_eq m n ≡ true → m ≡ n
     same_by m n h = grind (arith, h)
 
-module _ (t : FilterTree) (s : At) (i w : Steps × At) (hf : read_fields t.fields nothing_read ≡ Ok s) (hw : steps_of (peek_of t) t.work s ≡ Ok w) where
-  firings_met : (n j : ℕ) (kept xs : List ℤ) → length kept ≡ length t.fields → fires_from t n j kept xs ≡ firings_from (elaborated_form t i w) n j kept xs
+prework_parts : (o : Option WorkTree) (s : At) (p : Option RunForm) → read_prework o s ≡ Ok p → PreworkRead o s p
+prework_parts None s p h = subst (λ q. PreworkRead None s q) (ok_is None p h) tt
+prework_parts (Some w) s p h =
+    let q = ok_parts (read_work 0 w s) (λ r. fine (Some r)) p h in
+    subst (λ q. PreworkRead (Some w) s q) (ok_is (Some q.0) p q.2) (work_parts 0 w s q.0 q.1)
+
+-- the parts of a filter that is accepted
+pub elaborated_parts : (t : FilterTree) (f : FilterForm) → elaborated t ≡ Ok f → Elaborated t f
+elaborated_parts t f h =
+    let f3 = λ (s : At) (i : Steps × At) (p : Option RunForm). on_ok (read_work 1 t.work s) (λ w. fine (elaborated_form t i p w)) in
+    let f2 = λ (s : At) (i : Steps × At). on_ok (read_prework t.prework s) (f3 s i) in
+    let f1 = λ (s : At). on_ok (optional_of 0 t.init s) (f2 s) in
+    let p = ok_parts (read_fields t.fields nothing_read) f1 f h in
+    let q = ok_parts (optional_of 0 t.init p.0) (f2 p.0) f p.2 in
+    let r = ok_parts (read_prework t.prework p.0) (f3 p.0 q.0) f q.2 in
+    let w = ok_parts (read_work 1 t.work p.0) (λ w. fine (elaborated_form t q.0 r.0 w)) f r.2 in
+    record {
+      fields = p.0;
+      init = q.0;
+      prework = r.0;
+      work = w.0;
+      fields_are = p.1;
+      init_is = q.1;
+      prework_is = prework_parts t.prework p.0 r.0 r.1;
+      work_is = work_parts 1 t.work p.0 w.0 w.1;
+      is = ok_is (elaborated_form t q.0 r.0 w.0) f w.2;
+    }
+
+-- no firing of an accepted filter pops more than it looks at
+pub first_peeks : (o : Option WorkTree) (w : WorkTree) (s : At) (p : Option RunForm) (r : RunForm) → PreworkRead o s p → WorkRead 1 w s r
+    → pop_of (or_work o w) ≤ peek_of (or_work o w)
+first_peeks None w s p r a b = b.rates.peeks
+first_peeks (Some v) w s None r a b = absurd a
+first_peeks (Some v) w s (Some q) r a b = a.rates.peeks
+
+-- ALL FIRINGS
+
+-- what a firing runs does what it does as it is written
+record RunsAs (fs : List Name) (w : WorkTree) (r : RunForm) : Type 0 where
+  peek : r.peek ≡ peek_of w
+  pop : r.pop ≡ pop_of w
+  met : (kept xs : List ℤ) → length kept ≡ length fs → RunMet fs (exec_all w.block) r.body.steps r.body.slots kept xs
+
+work_as : (fs : List Name) (least n : ℕ) (w : WorkTree) (s : At) (r : RunForm) → read_fields fs nothing_read ≡ Ok s → WorkRead least w s r → r.body.slots ≤ n
+    → RunsAs fs w (widened n r)
+work_as fs least n w s r hf k le =
+    subst (λ (g : RunForm). g.body.slots ≤ n → RunsAs fs w (widened n g)) k.is
+    (λ le. record { peek = refl; pop = refl; met = λ kept xs len. run_met fs w.block (peek_of w) n s k.read kept xs hf k.steps_are le len }) le
+
+first_as : (fs : List Name) (o : Option WorkTree) (w : WorkTree) (s : At) (p : Option RunForm) (r : RunForm) → read_fields fs nothing_read ≡ Ok s
+    → PreworkRead o s p → WorkRead 1 w s r
+    → RunsAs fs (or_work o w) (run_or (widened (slots_for p r.body.slots) r) (first_with (slots_for p r.body.slots) p))
+first_as fs None w s None r hf a b = work_as fs 1 r.body.slots w s r hf b (le_refl r.body.slots)
+first_as fs None w s (Some q) r hf a b = absurd a
+first_as fs (Some v) w s None r hf a b = absurd a
+first_as fs (Some v) w s (Some q) r hf a b = work_as fs 0 (max q.body.slots r.body.slots) v s q hf a (omega arith)
+
+pub slots_within : (p : Option RunForm) (n : ℕ) → n ≤ slots_for p n
+slots_within None n = le_refl n
+slots_within (Some q) n = omega arith
+
+module _ (t : FilterTree) (s : At) (i : Steps × At) (p : Option RunForm) (w : RunForm) (hf : read_fields t.fields nothing_read ≡ Ok s)
+    (hp : PreworkRead t.prework s p) (hw : WorkRead 1 t.work s w) where
+  runs_as : (j : ℕ) → RunsAs t.fields (runs_in t j) (run_at (elaborated_form t i p w) j)
+  runs_as zero = first_as t.fields t.prework t.work s p w hf hp hw
+  runs_as (suc j) = work_as t.fields 1 (slots_for p w.body.slots) t.work s w hf hw (slots_within p w.body.slots)
+
+  begins_as : (j : ℕ) → begins (elaborated_form t i p w) j ≡ start_at t j
+  begins_as zero = refl
+  begins_as (suc j) =
+      let f = elaborated_form t i p w in
+      ap (λ k. k + j * f.pop) (runs_as 0).pop ∙ ap (λ k. pop_of (runs_in t 0) + j * k) (runs_as (suc j)).pop
+
+  needs_as : (j : ℕ) → needs (elaborated_form t i p w) j ≡ waits_for t j
+  needs_as zero = ap (λ k. max k 1) (runs_as 0).peek
+  needs_as (suc j) = (runs_as (suc j)).peek
+
+  firings_met : (n j : ℕ) (kept xs : List ℤ) → length kept ≡ length t.fields → fires_from t n j kept xs ≡ firings_from (elaborated_form t i p w) n j kept xs
   firings_met zero j kept xs len = refl
   firings_met (suc n) j kept xs len =
-      let f = elaborated_form t i w in
-      let input = take (peek_of t) (drop (j * (pop_of t)) xs) in
-      let r = run_kept f.body kept input in
-      let m = run_met t.fields t.work (peek_of t) s w kept input hf hw len in
+      let f = elaborated_form t i p w in
+      let q = runs_as j in
+      let b = (run_at f j).body in
+      let input = looked_at t j xs in
+      let r = run_kept b kept input in
+      let m = q.met kept input len in
       let after : map (fires t j kept xs).values t.fields ≡ r.slots = m.fields in
       let both : (fires t j kept xs).pushed ++ fires_from t n (suc j) (map (fires t j kept xs).values t.fields) xs ≡ first_values r.pushes ++ firings_from f n (suc j) r.slots xs =
       ap (λ l. l ++ fires_from t n (suc j) (map (fires t j kept xs).values t.fields) xs) m.pushed
       ∙ ap (λ k. first_values r.pushes ++ fires_from t n (suc j) k xs) after
-      ∙ ap (λ l. first_values r.pushes ++ l) (firings_met n (suc j) r.slots xs (run_kept_length f.body kept input ∙ len)) in
-      ap (λ l. if nat_le (j * (pop_of t) + (peek_of t)) (length xs) then l else []) both
+      ∙ ap (λ l. first_values r.pushes ++ l) (firings_met n (suc j) r.slots xs (run_kept_length b kept input ∙ len)) in
+      let same : r ≡ firing f j kept xs =
+      ap (λ k. run_kept b kept (take k (drop (start_at t j) xs))) (sym q.peek) ∙ ap (λ k. run_kept b kept (take (run_at f j).peek (drop k xs))) (sym (begins_as j)) in
+      ap (λ l. if nat_le (start_at t j + waits_for t j) (length xs) then l else []) (both ∙ ap (λ r. first_values r.pushes ++ firings_from f n (suc j) r.slots xs) same)
+      ∙ ap (λ k. if nat_le k (length xs) then first_values (firing f j kept xs).pushes ++ firings_from f n (suc j) (firing f j kept xs).slots xs else [])
+      (ap (λ k. k + waits_for t j) (sym (begins_as j)) ∙ ap (λ k. begins f j + k) (sym (needs_as j)))
 
 -- the filter of a plan gives what the filter gives as it is written
 pub filter_met : (t : FilterTree) (f : FilterForm) (xs : List ℤ) → elaborated t ≡ Ok f → pushed_by t xs ≡ filtered f xs
@@ -260,4 +350,5 @@ filter_met t f xs h =
     let start : initial t ≡ starts_of (length t.fields) e.init = (run_optional t.fields t.init 0 e.fields e.init zeros [] e.fields_are e.init_is len).fields in
     let kept = run_kept_length (record { inputs = 0; slots = e.init.1.slots; steps = e.init.0 }) zeros [] in
     subst (λ g. pushed_by t xs ≡ filtered g xs) e.is
-    (ap (λ k. fires_from t (length xs) 0 k xs) start ∙ firings_met t e.fields e.init e.work e.fields_are e.work_is (length xs) 0 (starts_of (length t.fields) e.init) xs (kept ∙ len))
+    (ap (λ k. fires_from t (suc (length xs)) 0 k xs) start
+    ∙ firings_met t e.fields e.init e.prework e.work e.fields_are e.prework_is e.work_is (suc (length xs)) 0 (starts_of (length t.fields) e.init) xs (kept ∙ len))

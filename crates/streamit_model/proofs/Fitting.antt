@@ -1,5 +1,5 @@
 -- Each operator of a stream's plan fits its queues and its variable, names its variable as itself, and is within its limits.
-use Rattle.std.proofs.Common.{◌≡◌, ℕ, zero, suc, pos, ◌+◌, ◌<◌, ◌≤◌, Bool, true, List, [], ◌∷◌, length, map, refl, sym, ap, ◌∙◌, arith, ⊎_elim}
+use Rattle.std.proofs.Common.{◌≡◌, ℕ, zero, suc, pos, ◌+◌, ◌<◌, ◌≤◌, Bool, true, Option, Some, None, List, [], ◌∷◌, ◌++◌, length, map, refl, sym, ap, ◌∙◌, arith, ⊎_elim}
 use Rattle.std.specs.Prelude.{All, nat_le, ◌&&◌, replicate}
 use Rattle.std.specs.List.{AllByRecursion, list_all}
 use Rattle.std.proofs.lemmas.List.{length-map}
@@ -7,11 +7,11 @@ use Rattle.std.proofs.lemmas.List.Elements.{All-nil, All-cons, All-append}
 use Rattle.river_base.specs.Number.{count_of}
 use Rattle.river_base.specs.declared.kind.FlatType.TheVariants.{Rows}
 use Rattle.river_base.specs.declared.kind.QueueType.{QueueType}
-use Rattle.kern_rows.specs.Forms.{FilterForm}
+use Rattle.kern_rows.specs.Forms.{FilterForm, RunForm}
 use Rattle.river_kernels.specs.Fits.{rows}
 use Rattle.river_kernels.specs.Formed.{are_weights}
 use Rattle.river_kernels.specs.Kern.{filter}
-use Rattle.river_kernels.specs.Limits.{part_numbers, weight_numbers, nesting, weight_sum, size}
+use Rattle.river_kernels.specs.Limits.{body_numbers, rate_numbers, run_numbers, first_numbers, part_numbers, weight_numbers, nesting, weight_sum, size}
 use Rattle.river_kernels.specs.declared.limit.Limit.{Limit}
 use Rattle.river_kernels.specs.declared.limit.Limit.TheVariants as limit
 use Rattle.river_kernels.specs.declared.types.VarKind.{VarKind}
@@ -23,7 +23,7 @@ use Rattle.river_plan.specs.Kinds.{FitsAt}
 use Rattle.river_plan.specs.Limits.{most_of, port_numbers, kernel_numbers, nestings}
 use Rattle.river_plan.proofs.NameLemmas.{one_same, more_or_zero}
 use Rattle.brooklet_model.specs.ByIndex.{cycle}
-use Rattle.streamit_model.specs.Unrolled.{Splitter, Duplicate, RoundRobin, IsSplitter, IsRound, IsSmallFilter, IsSmallSplitter}
+use Rattle.streamit_model.specs.Unrolled.{Splitter, Duplicate, RoundRobin, IsSplitter, IsRound, IsSmallFilter, IsSmallRun, IsSmallFirst, IsSmallSplitter}
 use Rattle.streamit_model.specs.Build.{queue, queues, weights, splitter}
 use Rattle.streamit_model.proofs.EachOp.{OfEach}
 
@@ -131,19 +131,41 @@ more most n ns h all = All-cons (λ (m : ℕ). m ≤ most) n ns h all
 nothing : (most : ℕ) → All (λ (m : ℕ). m ≤ most) []
 nothing most = All-nil (λ (m : ℕ). m ≤ most)
 
+usual_within : (f : FilterForm) (l : Limit) → IsSmallFilter f → All (λ n. n ≤ most_of l) (body_numbers l f.body ++ rate_numbers l f)
+usual_within f limit.Inputs h = nothing 8
+usual_within f limit.Operators h = nothing 256
+usual_within f limit.Queues h = nothing 512
+usual_within f limit.Variables h = nothing 256
+usual_within f limit.Ports h = nothing 64
+usual_within f limit.Statements h = one 16384 (size f.body.steps) h.statements
+usual_within f limit.Slots h = one 256 f.body.slots h.slots
+usual_within f limit.Rates h = more 65536 f.peek (f.pop ∷ f.push ∷ []) h.peek (more 65536 f.pop (f.push ∷ []) h.pop (one 65536 f.push h.push))
+usual_within f limit.Weights h = nothing 65536
+usual_within f limit.Nesting h = nothing 32
+usual_within f limit.Latest h = nothing 1000000
+usual_within f limit.Best h = nothing 1000000
+
+run_within : (f : RunForm) (l : Limit) → IsSmallRun f → All (λ n. n ≤ most_of l) (body_numbers l f.body ++ run_numbers l f)
+run_within f limit.Inputs h = nothing 8
+run_within f limit.Operators h = nothing 256
+run_within f limit.Queues h = nothing 512
+run_within f limit.Variables h = nothing 256
+run_within f limit.Ports h = nothing 64
+run_within f limit.Statements h = one 16384 (size f.body.steps) h.statements
+run_within f limit.Slots h = one 256 f.body.slots h.slots
+run_within f limit.Rates h = more 65536 f.peek (f.pop ∷ f.push ∷ []) h.peek (more 65536 f.pop (f.push ∷ []) h.pop (one 65536 f.push h.push))
+run_within f limit.Weights h = nothing 65536
+run_within f limit.Nesting h = nothing 32
+run_within f limit.Latest h = nothing 1000000
+run_within f limit.Best h = nothing 1000000
+
+first_within : (o : Option RunForm) (l : Limit) → IsSmallFirst o → All (λ n. n ≤ most_of l) (first_numbers l o)
+first_within None l h = All-nil (λ n. n ≤ most_of l)
+first_within (Some r) l h = run_within r l h
+
 filter_within : (f : FilterForm) (l : Limit) → IsSmallFilter f → All (λ n. n ≤ most_of l) (part_numbers l (filter f))
-filter_within f limit.Inputs h = nothing 8
-filter_within f limit.Operators h = nothing 256
-filter_within f limit.Queues h = nothing 512
-filter_within f limit.Variables h = nothing 256
-filter_within f limit.Ports h = nothing 64
-filter_within f limit.Statements h = one 16384 (size f.body.steps) h.statements
-filter_within f limit.Slots h = one 256 f.body.slots h.slots
-filter_within f limit.Rates h = more 65536 f.peek (f.pop ∷ f.push ∷ []) h.peek (more 65536 f.pop (f.push ∷ []) h.pop (one 65536 f.push h.push))
-filter_within f limit.Weights h = nothing 65536
-filter_within f limit.Nesting h = nothing 32
-filter_within f limit.Latest h = nothing 1000000
-filter_within f limit.Best h = nothing 1000000
+filter_within f l h =
+    All-append (λ n. n ≤ most_of l) (first_numbers l f.first) (body_numbers l f.body ++ rate_numbers l f) (first_within f.first l h.first) (usual_within f l h)
 
 none_within : (l : Limit) → All (λ n. n ≤ most_of l) []
 none_within l = All-nil (λ n. n ≤ most_of l)

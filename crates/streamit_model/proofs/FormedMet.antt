@@ -7,25 +7,26 @@ use Rattle.work_code.specs.Term.{Term}
 use Rattle.work_code.specs.Term as term
 use Rattle.work_code.specs.Steps.{Step, Steps, Done}
 use Rattle.work_code.specs.Steps as steps
-use Rattle.kern_rows.specs.Forms.{FilterForm}
+use Rattle.kern_rows.specs.Forms.{FilterForm, RunForm}
 use Rattle.kern_rows.specs.Needs.{CanRun}
 use Rattle.kern_rows.proofs.Lengths.{run_kept_length}
-use Rattle.river_kernels.specs.Formed.{is_sound, is_term, is_step, is_steps, is_filter, both, same, pushes_once, pushes, is_number}
+use Rattle.river_kernels.specs.Formed.{is_sound, is_term, is_step, is_steps, is_first, is_filter, both, same, pushes_once, pushes, is_number}
 use Rattle.river_kernels.specs.Limits.{size, size_once}
 use Rattle.river_plan.specs.Forms.{Name}
 use Rattle.streamit_text.specs.Tree.{Expression, Statement, Declare, Assign, Push, Discard, If, For, Block, End, Then, Optional, Unwritten, Written}
 use Rattle.streamit_text.specs.Tree as tree
-use Rattle.streamit_model.specs.Unrolled.{IsSmallFilter}
-use Rattle.streamit_model.specs.Meaning.{pops, turns_between, push_of, pop_of, peek_of}
+use Rattle.streamit_model.specs.Unrolled.{IsSmallRun, IsSmallFirst, IsSmallFilter}
+use Rattle.streamit_model.specs.Meaning.{pops, turns_between, push_of, peek_of}
 use Rattle.streamit_model.specs.Shallow.{IsLowFirst, IsShallow, AreShallow, IsItemlessFirst, KeepsItems, KeepAll, AreShallowOptional, KeepAllOptional}
+use Rattle.streamit_model.specs.Shallow.{IsShallowPrework, IsShallowFilter}
 use Rattle.streamit_model.specs.Elaborate.{Limit, PeekRange, on_ok, Known, Var, Turn, Scope, find, constant, named_term, peeked, term_of, At, first_term}
 use Rattle.streamit_model.specs.Elaborate.{first_popped, joined, one_step, Read, unrolled, step_of, steps_of, optional_of}
 use Rattle.std.proofs.lemmas.List.{length-replicate}
 use Rattle.std.proofs.Math.Nat.{le_refl}
-use Rattle.streamit_text.specs.Program.{FilterTree}
-use Rattle.streamit_model.specs.ElaborateFilter.{elaborated, read_fields, nothing_read, starts_of}
+use Rattle.streamit_text.specs.Program.{WorkTree, FilterTree}
+use Rattle.streamit_model.specs.ElaborateFilter.{elaborated, read_fields, nothing_read, starts_of, slots_for, first_with}
 use Rattle.river_kernels.proofs.WellFormed.{steps_within}
-use Rattle.streamit_model.proofs.FilterMet.{fields_few, elaborated_parts, fields_read, sound_nothing}
+use Rattle.streamit_model.proofs.FilterMet.{fields_few, elaborated_parts, fields_read, sound_nothing, WorkRead, PreworkRead, slots_within}
 use Rattle.streamit_model.proofs.Elaborated.{ok_is, ok_parts, if_ok, IsSound, more_slots, Grown, left, at_arm, at_second, turning, grows_turn, unrolled_grows}
 use Rattle.streamit_model.proofs.Elaborated.{step_grows, steps_grow, optional_grows, turned, declared_parts, assigned_parts, pushed_parts, forked_parts}
 use Rattle.streamit_model.proofs.Elaborated.{looped_parts, followed_parts}
@@ -364,35 +365,87 @@ init_runs fs b s y hf low k h =
 
 -- THE FILTER
 
--- the filter of an accepted one is well formed, and within the limits
-pub filter_formed : (t : FilterTree) (f : FilterForm) → AreShallow t.work → elaborated t ≡ Ok f → (is_filter f ≡ true) × IsSmallFilter f
-filter_formed t f low h =
-    let e = elaborated_parts t f h in
-    let r = fields_read t.fields nothing_read e.fields e.fields_are in
-    let ok = r.sound sound_nothing in
-    let w = e.work in
+-- what is read of `prework` or `work` is well formed with so many slots, and within the limits
+record RunFormed (names n least : ℕ) (r : RunForm) : Type 0 where
+  inputs : r.body.inputs ≡ r.peek
+  pops : least ≤ r.pop
+  peeks : r.pop ≤ r.peek
+  formed : is_steps r.peek n one_port r.body.steps ≡ true
+  given : is_number (pushes r.body.steps) r.push ≡ true
+  fields : names ≤ r.body.slots
+  small : IsSmallRun r
+
+run_formed : (fs : List Name) (s : At) (least n : ℕ) (w : WorkTree) (r : RunForm) → read_fields fs nothing_read ≡ Ok s → AreShallow w.block
+    → WorkRead least w s r → r.body.slots ≤ n → RunFormed (length fs) n least r
+run_formed fs s least n w r hf low e le =
+    let k = fields_read fs nothing_read s hf in
+    let y = e.read in
+    let ok = k.sound sound_nothing in
     let pp = e.popped in
     let peek = e.rates.peeks in
-    let formed = steps_formed (peek_of t) w.1.slots (peek_of t) t.work (le_refl (peek_of t)) low e.fields w e.work_is ok (omega (arith, pp, peek)) (le_refl w.1.slots) in
-    let k = steps_count (peek_of t) t.work e.fields w e.work_is in
-    let zero = r.pushed in
-    let size0 = r.size in
-    let kp = k.pushed in
-    let ks = k.size in
-    let small = k.small (omega (arith, size0)) in
-    let epush = e.pushed in
-    let more : k.more ≡ (push_of t) = omega (arith, kp, epush, zero) in
-    let g = (steps_grow (peek_of t) t.work e.fields w e.work_is).slots in
-    let rs = r.slots in
-    let kept : length (starts_of (length t.fields) e.init) ≡ length t.fields = run_kept_length (record { inputs = 0; slots = e.init.1.slots; steps = e.init.0 }) (replicate (length t.fields) (pos 0)) [] ∙ length-replicate (length t.fields) (pos 0) in
-    subst (λ (g : FilterForm). (is_filter g ≡ true) × IsSmallFilter g) e.is (
-      both_true _ _ (both_true _ _ (eq_true (peek_of t) (peek_of t) refl) (both_true _ _ (le_true 1 (pop_of t) e.rates.pops) (le_true (pop_of t) (peek_of t) peek)))
-          (both_true _ _ formed (both_true _ _ (le_true (length (starts_of (length t.fields) e.init)) w.1.slots (omega (arith, kept, g, rs))) (ap (λ o. is_number o (push_of t)) k.pushes ∙ eq_true k.more (push_of t) more))),
-      record {
-        statements = omega (arith, ks, small);
-        slots = k.few (fields_few t.fields nothing_read e.fields e.fields_are (omega arith));
+    let c = steps_count (peek_of w) w.block s y e.steps_are in
+    let zero = k.pushed in
+    let size0 = k.size in
+    let cp = c.pushed in
+    let cs = c.size in
+    let small = c.small (omega (arith, size0)) in
+    let ep = e.pushed in
+    let more : c.more ≡ push_of w = omega (arith, cp, ep, zero) in
+    let g = (steps_grow (peek_of w) w.block s y e.steps_are).slots in
+    let ks = k.slots in
+    subst (λ (r : RunForm). r.body.slots ≤ n → RunFormed (length fs) n least r) e.is (λ le. record {
+      inputs = refl;
+      pops = e.rates.pops;
+      peeks = peek;
+      formed = steps_formed (peek_of w) n (peek_of w) w.block (le_refl (peek_of w)) low s y e.steps_are ok (omega (arith, pp, peek)) le;
+      given = ap (λ o. is_number o (push_of w)) c.pushes ∙ eq_true c.more (push_of w) more;
+      fields = omega (arith, g, ks);
+      small = record {
+        statements = omega (arith, cs, small);
+        slots = c.few (fields_few fs nothing_read s hf (omega arith));
         peek = e.rates.peek;
         pop = e.rates.pop;
         push = e.rates.push;
+      };
+    }) le
+
+-- where `prework` is read, it is a first run
+first_formed : (fs : List Name) (s : At) (o : Option WorkTree) (p : Option RunForm) (m : ℕ) → read_fields fs nothing_read ≡ Ok s → IsShallowPrework o → PreworkRead o s p
+    → m ≤ 256 → (is_first (slots_for p m) (first_with (slots_for p m) p) ≡ true) × IsSmallFirst (first_with (slots_for p m) p) × (slots_for p m ≤ 256)
+first_formed fs s None None m hf low h le = (refl, tt, le)
+first_formed fs s None (Some r) m hf low h le = absurd h
+first_formed fs s (Some w) None m hf low h le = absurd h
+first_formed fs s (Some w) (Some r) m hf low h le =
+    let n = max r.body.slots m in
+    let k = run_formed fs s 0 n w r hf low h (omega arith) in
+    let few = k.small.slots in
+    let most : n ≤ 256 = omega (arith, few, le) in (
+      both_true _ _ (eq_true r.body.inputs r.peek k.inputs) (both_true _ _ (eq_true n n refl)
+          (both_true _ _ (le_true r.pop r.peek k.peeks) (both_true _ _ k.formed k.given))),
+      record { statements = k.small.statements; slots = most; peek = k.small.peek; pop = k.small.pop; push = k.small.push },
+      most,
+    )
+
+-- the filter of an accepted one is well formed, and within the limits
+pub filter_formed : (t : FilterTree) (f : FilterForm) → IsShallowFilter t → elaborated t ≡ Ok f → (is_filter f ≡ true) × IsSmallFilter f
+filter_formed t f low h =
+    let e = elaborated_parts t f h in
+    let w = e.work in
+    let n = slots_for e.prework w.body.slots in
+    let le = slots_within e.prework w.body.slots in
+    let k = run_formed t.fields e.fields 1 n t.work w e.fields_are low.1 e.work_is le in
+    let p = first_formed t.fields e.fields t.prework e.prework w.body.slots e.fields_are low.0 e.prework_is k.small.slots in
+    let kept : length (starts_of (length t.fields) e.init) ≡ length t.fields = run_kept_length (record { inputs = 0; slots = e.init.1.slots; steps = e.init.0 }) (replicate (length t.fields) (pos 0)) [] ∙ length-replicate (length t.fields) (pos 0) in
+    let few = k.fields in
+    subst (λ (g : FilterForm). (is_filter g ≡ true) × IsSmallFilter g) e.is (
+      both_true _ _ (both_true _ _ (both_true _ _ (eq_true w.body.inputs w.peek k.inputs) (both_true _ _ (le_true 1 w.pop k.pops) (le_true w.pop w.peek k.peeks)))
+          (both_true _ _ k.formed (both_true _ _ (le_true (length (starts_of (length t.fields) e.init)) n (omega (arith, kept, few, le))) k.given))) p.0,
+      record {
+        statements = k.small.statements;
+        slots = p.2;
+        peek = k.small.peek;
+        pop = k.small.pop;
+        push = k.small.push;
+        first = p.1;
       },
     )

@@ -21,7 +21,7 @@ n k = Number k
 -- sums of three in a row
 sum_tree : FilterTree
 sum_tree =
-    record { fields = []; init = Unwritten; push = Some 1; pop = Some 1; peek = Some 3; work = then_do (source.Push (Bin op.Add (Bin op.Add (Peek (n 0)) (Peek (n 1))) (Peek (n 2)))) (then_do source.Discard End) }
+    record { fields = []; init = Unwritten; prework = None; work = record { push = Some 1; pop = Some 1; peek = Some 3; block = then_do (source.Push (Bin op.Add (Bin op.Add (Peek (n 0)) (Peek (n 1))) (Peek (n 2)))) (then_do source.Discard End) } }
 
 sums : pushed_by sum_tree (pos 1 ∷ pos 2 ∷ pos 3 ∷ pos 4 ∷ []) ≡ pos 6 ∷ pos 9 ∷ []
 unfolding sum_tree int_wrap
@@ -33,7 +33,7 @@ sums_short = refl
 
 -- a split-join of two filters
 id_tree : FilterTree
-id_tree = record { fields = []; init = Unwritten; push = Some 1; pop = Some 1; peek = Some 1; work = then_do (source.Push Pop) End }
+id_tree = record { fields = []; init = Unwritten; prework = None; work = record { push = Some 1; pop = Some 1; peek = Some 1; block = then_do (source.Push Pop) End } }
 
 both : Program
 both =
@@ -48,12 +48,15 @@ ends_tree : FilterTree
 ends_tree = record {
   fields = [];
   init = Unwritten;
-  push = Some 3;
-  pop = Some 1;
-  peek = Some 1;
-  work = then_do (source.Push (Bin op.Mul (n 2) (n 9223372036854775807)))
-      (then_do (source.Push (Bin op.Quot (n 7) (n 0)))
-      (then_do (source.Push (Bin op.Quot (Bin op.Sub (Neg (n 9223372036854775807)) (n 1)) (Neg Pop))) End));
+  prework = None;
+  work = record {
+    push = Some 3;
+    pop = Some 1;
+    peek = Some 1;
+    block = then_do (source.Push (Bin op.Mul (n 2) (n 9223372036854775807)))
+        (then_do (source.Push (Bin op.Quot (n 7) (n 0)))
+        (then_do (source.Push (Bin op.Quot (Bin op.Sub (Neg (n 9223372036854775807)) (n 1)) (Neg Pop))) End));
+  };
 }
 
 ends_means : pushed_by ends_tree (pos 1 ∷ []) ≡ negsuc 1 ∷ pos 0 ∷ negsuc 9223372036854775807 ∷ []
@@ -76,23 +79,62 @@ run_tree : FilterTree
 run_tree = record {
   fields = total_name ∷ [];
   init = Written (then_do (source.For i_name (n 0) false (n 4) (then_do (source.Assign total_name (Bin op.Add (Named total_name) (n 25))) End)) End);
-  push = Some 1;
-  pop = Some 2;
-  peek = None;
-  work = then_do (source.Declare x_name None)
-      (then_do (source.For i_name (n 0) true (n 1) (then_do (source.Assign x_name (Bin op.Add (Named x_name) (Bin op.Mul (Peek (Named i_name)) (Bin op.Add (Named i_name) (n 1))))) End))
-      (then_do source.Discard (then_do source.Discard
-      (then_do (source.Assign total_name (Bin op.Add (Named total_name) (Named x_name))) (then_do (source.Push (Named total_name)) End)))));
+  prework = None;
+  work = record {
+    push = Some 1;
+    pop = Some 2;
+    peek = None;
+    block = then_do (source.Declare x_name None)
+        (then_do (source.For i_name (n 0) true (n 1) (then_do (source.Assign x_name (Bin op.Add (Named x_name) (Bin op.Mul (Peek (Named i_name)) (Bin op.Add (Named i_name) (n 1))))) End))
+        (then_do source.Discard (then_do source.Discard
+        (then_do (source.Assign total_name (Bin op.Add (Named total_name) (Named x_name))) (then_do (source.Push (Named total_name)) End)))));
+  };
 }
 
 run_means : pushed_by run_tree (pos 1 ∷ pos 2 ∷ pos 3 ∷ pos 4 ∷ pos 5 ∷ []) ≡ pos 105 ∷ pos 116 ∷ []
 unfolding run_tree total_name x_name i_name int_wrap
 run_means = refl
 
+-- A FIRST FIRING
+
+-- int->int filter Delay { prework push 1 { push(0); } work push 1 pop 1 { push(pop()); } }
+delay_tree : FilterTree
+delay_tree = record {
+  fields = [];
+  init = Unwritten;
+  prework = Some (record { push = Some 1; pop = None; peek = None; block = then_do (source.Push (n 0)) End });
+  work = record { push = Some 1; pop = Some 1; peek = None; block = then_do (source.Push Pop) End };
+}
+
+delays : pushed_by delay_tree (pos 5 ∷ pos 6 ∷ []) ≡ pos 0 ∷ pos 5 ∷ pos 6 ∷ []
+unfolding delay_tree
+delays = refl
+
+delays_nothing : pushed_by delay_tree [] ≡ []
+unfolding delay_tree
+delays_nothing = refl
+
+-- int->int filter Skip { prework pop 3 { pop(); pop(); pop(); } work push 1 pop 1 peek 2 { push(peek(1)); pop(); } }
+skip_tree : FilterTree
+skip_tree = record {
+  fields = [];
+  init = Unwritten;
+  prework = Some (record { push = None; pop = Some 3; peek = None; block = then_do source.Discard (then_do source.Discard (then_do source.Discard End)) });
+  work = record { push = Some 1; pop = Some 1; peek = Some 2; block = then_do (source.Push (Peek (n 1))) (then_do source.Discard End) };
+}
+
+skips : pushed_by skip_tree (pos 1 ∷ pos 2 ∷ pos 4 ∷ pos 8 ∷ pos 16 ∷ []) ≡ pos 16 ∷ []
+unfolding skip_tree
+skips = refl
+
+skips_all : pushed_by skip_tree (pos 1 ∷ pos 2 ∷ []) ≡ []
+unfolding skip_tree
+skips_all = refl
+
 -- REFUSALS
 
 abbrev of_work : ℕ → ℕ → ℕ → Block → FilterTree
-of_work u o e b = record { fields = []; init = Unwritten; push = Some u; pop = Some o; peek = Some e; work = b }
+of_work u o e b = record { fields = []; init = Unwritten; prework = None; work = record { push = Some u; pop = Some o; peek = Some e; block = b } }
 
 peek_range : elaborated (of_work 1 1 1 (then_do (source.Push (Peek (n 1))) (then_do source.Discard End))) ≡ Err (PeekRange (pos 1) 1)
 peek_range = refl

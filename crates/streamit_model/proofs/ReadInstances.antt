@@ -54,7 +54,7 @@ behind_pushes = refl
 
 -- three weights for two branches
 id_tree : FilterTree
-id_tree = record { fields = []; init = Unwritten; push = Some 1; pop = Some 1; peek = None; work = Then (source.Push Pop) End }
+id_tree = record { fields = []; init = Unwritten; prework = None; work = record { push = Some 1; pop = Some 1; peek = None; block = Then (source.Push Pop) End } }
 
 both : Program
 both =
@@ -67,7 +67,7 @@ unfolding both id_tree
 both_units = refl
 
 both_spots : map (λ p. p.spot) (places_of both)
-    ≡ Names (codes "Id") ∷ Rated 1 1 1 ∷ Reads 1 [] Begins ∷ Reads 1 (Begins ∷ []) Pops ∷ Reads 1 (Begins ∷ Pops ∷ []) Pushes ∷ Counts 1 1 ∷ Counts 1 1
+    ≡ Names (codes "Id") ∷ Rated 1 1 1 1 ∷ Reads 1 [] Begins ∷ Reads 1 (Begins ∷ []) Pops ∷ Reads 1 (Begins ∷ Pops ∷ []) Pushes ∷ Counts 1 1 ∷ Counts 1 1
     ∷ Names (codes "Both") ∷ Weighs (Some (1 ∷ 2 ∷ 3 ∷ [])) 2 ∷ Branch 0 ∷ Added (codes "Id") ∷ Branch 1 ∷ Added (codes "Id") ∷ Weighs None 2 ∷ Finishes ∷ []
 unfolding both id_tree
 both_spots = refl

@@ -16,7 +16,7 @@ use Rattle.streamit_model.specs.Elaborate.{bound_of, first_term, first_popped, j
 use Rattle.streamit_model.specs.Elaborate.{optional_of}
 use Rattle.streamit_text.specs.Program.{Declared}
 use Rattle.streamit_model.specs.Words.{Word, Begins, Declares, Knows, Leaves, Sets, Drops, Bounds, Loops, Enters, Exits, Pushes, Otherwise, Joins, knows}
-use Rattle.streamit_model.specs.Words.{leaves, enters, exits, takes, begins, pops_one, pushes_one, pops_beside, pushes_beside, popped_in, pushed_in}
+use Rattle.streamit_model.specs.Words.{leaves, enters, exits, takes, begins_one, pops_one, pushes_one, pops_beside, pushes_beside, popped_in, pushed_in}
 use Rattle.streamit_model.specs.Text.{fixed, fixed_value, spelled, spelled_first, locals_of, with_end, turning, arms, read_of, all_read, optional_read}
 use Rattle.streamit_model.specs.Places.{Reads, each_word}
 use Rattle.streamit_model.proofs.Meeting.{IsFree, AllFree, Meets, free, first_twice, first_unknown, first_variable, first_limit, first_arms, behind, finish}
@@ -263,7 +263,7 @@ module _ (above : List Declared) (e : ℕ) where
       let o = Otherwise (popped_in ws) (pushed_in ws) in
       let c0 = g.counts.slots_are in let c1 = g.counts.size_is in let c2 = g.counts.pops_are in let c3 = g.counts.pushes_are in
       let d2 = h.counts.pops_are in let d3 = h.counts.pushes_are in
-      let t0 = over-append takes (before ++ ws) (o ∷ []) in let t1 = over-append begins (before ++ ws) (o ∷ []) in
+      let t0 = over-append takes (before ++ ws) (o ∷ []) in let t1 = over-append begins_one (before ++ ws) (o ∷ []) in
       let t2 = over-append pops_one (before ++ ws) (o ∷ []) in let t3 = over-append pops_beside (before ++ ws) (o ∷ []) in
       let t4 = over-append pushes_one (before ++ ws) (o ∷ []) in let t5 = over-append pushes_beside (before ++ ws) (o ∷ []) in
       let u2 = over-append pops_one before ws in let u3 = over-append pops_beside before ws in
@@ -379,7 +379,7 @@ module _ (above : List Declared) (e : ℕ) where
       (λ y w.
       let t = y.1 in
       let g : (before ++ ws) ++ map Leaves ns ≡ before ++ with_end b ws = append_assoc before ws (map Leaves ns) in
-      let z0 = leaves_nothing takes ns (λ n. refl) in let z1 = leaves_nothing begins ns (λ n. refl) in
+      let z0 = leaves_nothing takes ns (λ n. refl) in let z1 = leaves_nothing begins_one ns (λ n. refl) in
       let z2 = leaves_nothing pops_one ns (λ n. refl) in let z3 = leaves_nothing pops_beside ns (λ n. refl) in
       let z4 = leaves_nothing pushes_one ns (λ n. refl) in let z5 = leaves_nothing pushes_beside ns (λ n. refl) in
       let c : Counted ((before ++ ws) ++ map Leaves ns) t.slots t.size t.popped t.pushed =

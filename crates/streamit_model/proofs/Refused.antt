@@ -18,7 +18,7 @@ use Rattle.streamit_model.proofs.UnitMet.{LastIs, KnowsAbove, one_more, IsBodyAs
 -- ONE FAULT IS THE FIRST
 
 same_rates : (d c d' c' : ℕ) (s : Spot) → AreRatesApart d c s → AreRatesApart d' c' s → Rates d c ≡ Rates d' c'
-same_rates d c d' c' (Rated push pop peek) h g = ap (λ x. Rates x c) (h.1 ∙ sym g.1) ∙ ap (Rates d') (h.2 ∙ sym g.2)
+same_rates d c d' c' (Rated least push pop peek) h g = ap (λ x. Rates x c) (h.1 ∙ sym g.1) ∙ ap (Rates d') (h.2 ∙ sym g.2)
 same_rates d c d' c' (Counts x y) h g = ap (λ x. Rates x c) (h.1 ∙ sym g.1) ∙ ap (Rates d') (h.2 ∙ sym g.2)
 same_rates d c d' c' s h g = absurd h
 

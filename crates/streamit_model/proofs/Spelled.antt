@@ -11,7 +11,7 @@ use Rattle.river_plan.specs.Forms.{Name}
 use Rattle.streamit_text.specs.Tree.{Expression}
 use Rattle.streamit_text.specs.Tree as tree
 use Rattle.streamit_model.specs.Meaning.{Values, eval, pops}
-use Rattle.streamit_model.specs.Elaborate.{UnknownName, NotConstant, PeekRange, Limit, on_ok, Known, Var, Turn, find, constant_of, constant, named_term}
+use Rattle.streamit_model.specs.Elaborate.{NotConstant, PeekRange, Limit, on_ok, Known, Var, Turn, find, constant_of, constant, named_term}
 use Rattle.streamit_model.specs.Elaborate.{peeked}
 use Rattle.streamit_model.specs.Elaborate.{term_of, At, first_term, first_popped}
 use Rattle.streamit_text.specs.Program.{Declared}

@@ -6,7 +6,7 @@ use Rattle.river_plan.proofs.NameLemmas.{cases_name}
 use Rattle.brooklet_model.specs.Machine.{at_name}
 use Rattle.streamit_model.specs.Meaning.{Values}
 use Rattle.streamit_model.specs.Elaborate.{Known, Var, Turn, Scope, find, At}
-use Rattle.streamit_model.specs.Words.{Word, Knows, Leaves, Enters, over, knows, leaves, enters, exits, takes, begins, pops_one, pushes_one, pops_beside}
+use Rattle.streamit_model.specs.Words.{Word, Knows, Leaves, Enters, over, knows, leaves, enters, exits, takes, begins_one, pops_one, pushes_one, pops_beside}
 use Rattle.streamit_model.specs.Words.{pushes_beside, IsKnown, popped_in, pushed_in}
 use Rattle.streamit_model.proofs.Elaborated.{at_here, at_other, found_here, found_other}
 
@@ -27,7 +27,7 @@ NameStands before sc turns n = NameIs (find sc n) (over (knows n) before) (over 
 -- the words before take so many slots, have so many statements and turns, and so many pops and pushes run before
 pub record Counted (before : List Word) (slots size popped pushed : ℕ) : Type 0 where
   pub slots_are : over takes before ≡ slots
-  pub size_is : over begins before ≡ size
+  pub size_is : over begins_one before ≡ size
   pub pops_are : popped + over pops_beside before ≡ over pops_one before
   pub pushes_are : pushed + over pushes_beside before ≡ over pushes_one before
 
@@ -80,11 +80,11 @@ none_known before sc turns n f h k =
 
 -- so many more are counted
 pub counted_on : (before ws : List Word) (slots size popped pushed slots' size' popped' pushed' : ℕ) → Counted before slots size popped pushed
-    → slots + over takes ws ≡ slots' → size + over begins ws ≡ size' → popped' + over pops_beside ws ≡ popped + over pops_one ws
+    → slots + over takes ws ≡ slots' → size + over begins_one ws ≡ size' → popped' + over pops_beside ws ≡ popped + over pops_one ws
     → pushed' + over pushes_beside ws ≡ pushed + over pushes_one ws → Counted (before ++ ws) slots' size' popped' pushed'
 counted_on before ws slots size popped pushed slots' size' popped' pushed' h a b c d =
     let s0 = h.slots_are in let s1 = h.size_is in let s2 = h.pops_are in let s3 = h.pushes_are in
-    let t0 = over-append takes before ws in let t1 = over-append begins before ws in
+    let t0 = over-append takes before ws in let t1 = over-append begins_one before ws in
     let t2 = over-append pops_one before ws in let t3 = over-append pops_beside before ws in
     let t4 = over-append pushes_one before ws in let t5 = over-append pushes_beside before ws in
     record {
@@ -96,7 +96,7 @@ counted_on before ws slots size popped pushed slots' size' popped' pushed' h a b
 
 -- the reading goes on by these words, of which none changes what is known
 pub moved : (before ws : List Word) (s : At) (turns : Values) (slots popped pushed size : ℕ) → Stands before s turns → IsEven ws
-    → s.slots + over takes ws ≡ slots → s.size + over begins ws ≡ size → popped + over pops_beside ws ≡ s.popped + over pops_one ws
+    → s.slots + over takes ws ≡ slots → s.size + over begins_one ws ≡ size → popped + over pops_beside ws ≡ s.popped + over pops_one ws
     → pushed + over pushes_beside ws ≡ s.pushed + over pushes_one ws
     → Stands (before ++ ws) (record s { slots = slots; popped = popped; pushed = pushed; size = size }) turns
 moved before ws s turns slots popped pushed size h even a b c d = record {
@@ -110,7 +110,7 @@ even_one w h n = let a = (h n).0 in let b = (h n).1 in (omega (arith, a), omega 
 -- a word that counts for nothing
 pub unmoved : (before : List Word) (w : Word) (s : At) (turns : Values) → Stands before s turns
     → ((n : Name) → (knows n w ≡ leaves n w) × (enters n w ≡ exits n w))
-    → takes w ≡ 0 → begins w ≡ 0 → pops_one w ≡ 0 → pops_beside w ≡ 0 → pushes_one w ≡ 0 → pushes_beside w ≡ 0 → Stands (before ++ w ∷ []) s turns
+    → takes w ≡ 0 → begins_one w ≡ 0 → pops_one w ≡ 0 → pops_beside w ≡ 0 → pushes_one w ≡ 0 → pushes_beside w ≡ 0 → Stands (before ++ w ∷ []) s turns
 unmoved before w s turns h even a b c d e f =
     moved before (w ∷ []) s turns s.slots s.popped s.pushed s.size h (even_one w even) (omega (arith, a)) (omega (arith, b)) (omega (arith, c, d))
     (omega (arith, e, f))

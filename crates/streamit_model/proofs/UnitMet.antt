@@ -13,13 +13,14 @@ use Rattle.brooklet_model.specs.ByIndex.{cycle}
 use Rattle.streamit_model.specs.Unrolled.{RoundRobin, Stream, Filter, Pipeline, SplitJoin, Streams, Last, Then, nesting, deepest, IsRound}
 use Rattle.streamit_model.specs.Build.{ops_in, ops_of}
 use Rattle.streamit_model.specs.Elaborate.{Fault, Rates, Limit, Weights, on_ok, demand, Var, find, At, steps_of, optional_of}
-use Rattle.streamit_text.specs.Program.{FilterTree, Dealing, Copies, Turns, Body, AFilter, APipeline, ASplitJoin, Declared}
+use Rattle.streamit_text.specs.Program.{WorkTree, FilterTree, Dealing, Copies, Turns, Body, AFilter, APipeline, ASplitJoin, Declared}
 use Rattle.streamit_model.specs.Meaning.{push_of, pop_of, peek_of, nought, weights_for, look, branch_count}
 use Rattle.streamit_model.specs.ElaborateFilter.{read_field, read_fields, nothing_read, elaborated_form, judged_rates, kept_rates, elaborated}
+use Rattle.streamit_model.specs.ElaborateFilter.{run_of, read_work, read_prework}
 use Rattle.streamit_model.specs.Judged.{Streamed, found, added, streams_of, any, branches, round_of, splitter_of, stream_of, not_there, unit_of}
 use Rattle.streamit_model.specs.Words.{Word, Declares, Knows, pops_one, pushes_one, pops_beside, pushes_beside, popped_in, pushed_in}
 use Rattle.streamit_model.specs.Text.{all_read, optional_read}
-use Rattle.streamit_model.specs.Places.{Names, Rated, Counts, Branch, Added, Weighs, each_word, fields_read, filter_spots, branch_spots, split_spots}
+use Rattle.streamit_model.specs.Places.{Names, Rated, Counts, Branch, Added, Weighs, each_word, fields_read, work_spots, prework_spots, filter_spots, branch_spots, split_spots}
 use Rattle.streamit_model.specs.Places.{body_spots, unit_spots, most, in_all, body_depth, depth_above, body_operators, operators_above, last_operators}
 use Rattle.streamit_model.proofs.Meeting.{Meets, free, first_twice, first_unknown, first_limit, first_weights, first_rates, behind, chain, finish, test}
 use Rattle.streamit_model.proofs.Meeting.{last_test, weaken, next}
@@ -72,18 +73,18 @@ module _ (above : List Declared) where
       (λ t. Stands (before ++ fields_read (n ∷ ns)) t nought × (t.popped ≡ s.popped) × (t.pushed ≡ s.pushed)) (fields_met ns b t f.0)
       (λ u g. (regrouped (b ++ fields_read ns) (before ++ fields_read (n ∷ ns)) u nought eq g.0, g.1 ∙ f.1, g.2 ∙ f.2))))
 
-  rates_met : (push pop peek : ℕ) → Meets above (Rated push pop peek ∷ []) (judged_rates push pop peek) (λ u. peek ≤ 65536)
-  rates_met push pop peek =
-      let spot = Rated push pop peek in
+  rates_met : (least push pop peek : ℕ) → Meets above (Rated least push pop peek ∷ []) (judged_rates least push pop peek) (λ u. peek ≤ 65536)
+  rates_met least push pop peek =
+      let spot = Rated least push pop peek in
       test above (spot ∷ []) (nat_le push 65536 && (nat_le pop 65536 && nat_le peek 65536)) tt Limit
-      (λ u. on_ok (demand (nat_le 1 pop) Limit) (λ v. demand (nat_le pop peek) (Rates peek pop))) (λ u. peek ≤ 65536)
+      (λ u. on_ok (demand (nat_le least pop) Limit) (λ v. demand (nat_le pop peek) (Rates peek pop))) (λ u. peek ≤ 65536)
       (λ t.
       let all = three_true (nat_le push 65536) (nat_le pop 65536) (nat_le peek 65536) t in
       let a = le_holds push 65536 all.0 in let b = le_holds pop 65536 all.1 in let c = le_holds peek 65536 all.2 in
-      test above (spot ∷ []) (nat_le 1 pop) tt Limit (λ v. demand (nat_le pop peek) (Rates peek pop)) (λ u. peek ≤ 65536)
+      test above (spot ∷ []) (nat_le least pop) tt Limit (λ v. demand (nat_le pop peek) (Rates peek pop)) (λ u. peek ≤ 65536)
       (λ t2.
-      let some = le_holds 1 pop t2 in
-      let low : (65536 < push) ⊎ (65536 < pop) ⊎ (65536 < peek) ⊎ (pop ≡ 0)
+      let some = le_holds least pop t2 in
+      let low : (65536 < push) ⊎ (65536 < pop) ⊎ (65536 < peek) ⊎ (pop < least)
       → ⊥ = (λ h. ⊎_elim (λ x. omega (arith, a, x)) (λ h2. ⊎_elim (λ x. omega (arith, b, x))
       (λ h3. ⊎_elim (λ x. omega (arith, c, x)) (λ x. omega (arith, some, x)) h3) h2) h) in
       last_test above (spot ∷ []) (nat_le pop peek) tt (Rates peek pop) (λ u. peek ≤ 65536)
@@ -93,7 +94,7 @@ module _ (above : List Declared) where
         c,
       ))
       (λ f. inl (first_rates above spot peek pop (le_fails pop peek f, refl, refl) (λ h. h) (λ h. h) (λ h. h) (λ h. h) (λ i r h. h) low)))
-      (λ f. let n = le_fails 1 pop f in inl (first_limit above spot (inr (inr (inr (omega (arith, n))))) (λ h. h) (λ h. h) (λ h. h) (λ h. h) (λ i r h. h))))
+      (λ f. inl (first_limit above spot (inr (inr (inr (le_fails least pop f)))) (λ h. h) (λ h. h) (λ h. h) (λ h. h) (λ i r h. h))))
       (λ f. inl (first_limit above spot
       (⊎_elim (λ x. inl (le_fails push 65536 x)) (λ y. ⊎_elim (λ x. inr (inl (le_fails pop 65536 x))) (λ x. inr (inr (inl (le_fails peek 65536 x)))) y)
       (one_false (nat_le push 65536) (nat_le pop 65536) (nat_le peek 65536) f))
@@ -118,7 +119,7 @@ module _ (above : List Declared) where
       (λ u. demand (nat_eq s.pushed push) (Rates push s.pushed)) (λ u. Unit {0}) (λ u. Unit {0}) (count_met pop (popped_in work) s.popped a)
       (λ u t. count_met push (pushed_in work) s.pushed b)
 
-  -- what `work` pops, behind fields that pop nothing
+  -- what a block pops, behind fields that pop nothing
   work_pops : (fields work : List Word) (s w : At) → Stands fields s nought → s.popped ≡ 0 → Stands (fields ++ work) w nought → popped_in work ≡ w.popped
   work_pops fields work s w h z g =
       let a = h.counts.pops_are in let b = g.counts.pops_are in
@@ -137,28 +138,46 @@ module _ (above : List Declared) where
     names = λ n. (refl, refl);
   }
 
+  -- what is known behind the fields, at which nothing is popped or pushed
+  abbrev BehindFields : List Word → At → Type 0
+  BehindFields fields s = Stands fields s nought × (s.popped ≡ 0) × (s.pushed ≡ 0)
+
+  -- `prework` or `work`
+  work_met : (least : ℕ) (fields : List Word) (w : WorkTree) (s : At) → BehindFields fields s
+      → Meets above (work_spots least fields w) (read_work least w s) (λ r. Unit {0})
+  work_met least fields w s h =
+      let push = push_of w in let pop = pop_of w in let peek = peek_of w in
+      let block = all_read w.block nought in
+      let ends = Counts pop (popped_in block) ∷ Counts push (pushed_in block) ∷ [] in
+      chain above (Rated least push pop peek ∷ []) (each_word peek fields block ++ ends) (judged_rates least push pop peek)
+      (λ u. on_ok (steps_of peek w.block s) (λ r. on_ok (kept_rates push pop r.1) (λ v. Ok (run_of w r))))
+      (λ u. peek ≤ 65536) (λ r. Unit {0}) (rates_met least push pop peek)
+      (λ u small. chain above (each_word peek fields block) ends (steps_of peek w.block s) (λ r. on_ok (kept_rates push pop r.1) (λ v. Ok (run_of w r)))
+      (Went above peek fields block s nought) (λ r. Unit {0}) (all_met above peek w.block fields s nought small h.0)
+      (λ r g. finish above ends (kept_rates push pop r.1) (λ v. run_of w r) (λ u. Unit {0}) (λ r. Unit {0})
+      (counts_met push pop block r.1 (work_pops fields block s r.1 h.0 h.1 g.stands) (work_pushes fields block s r.1 h.0 h.2 g.stands)) (λ v x. tt)))
+
+  prework_met : (fields : List Word) (o : Option WorkTree) (s : At) → BehindFields fields s
+      → Meets above (prework_spots fields o) (read_prework o s) (λ p. Unit {0})
+  prework_met fields None s h = (tt, tt)
+  prework_met fields (Some w) s h =
+      finish above (work_spots 0 fields w) (read_work 0 w s) Some (λ r. Unit {0}) (λ p. Unit {0}) (work_met 0 fields w s h) (λ r x. tt)
+
   pub filter_met : (t : FilterTree) → Meets above (filter_spots t) (elaborated t) (λ f. Unit {0})
   filter_met t =
       let fields = fields_read t.fields in
       let init = optional_read t.init nought in
-      let work = all_read t.work nought in
-      let push = push_of t in let pop = pop_of t in let peek = peek_of t in
-      let ends = Counts pop (popped_in work) ∷ Counts push (pushed_in work) ∷ [] in
-      chain above (each_word 0 [] fields) (each_word 0 fields init ++ Rated push pop peek ∷ (each_word peek fields work ++ ends))
-      (read_fields t.fields nothing_read)
-      (λ s. on_ok (optional_of 0 t.init s) (λ i. on_ok (judged_rates push pop peek)
-      (λ u. on_ok (steps_of peek t.work s) (λ w. on_ok (kept_rates push pop w.1) (λ v. Ok (elaborated_form t i w))))))
-      (λ s. Stands fields s nought × (s.popped ≡ 0) × (s.pushed ≡ 0)) (λ f. Unit {0}) (fields_met t.fields [] nothing_read nothing_stands)
-      (λ s h. chain above (each_word 0 fields init) (Rated push pop peek ∷ (each_word peek fields work ++ ends)) (optional_of 0 t.init s)
-      (λ i. on_ok (judged_rates push pop peek) (λ u. on_ok (steps_of peek t.work s) (λ w. on_ok (kept_rates push pop w.1) (λ v. Ok (elaborated_form t i w)))))
+      let first = prework_spots fields t.prework in
+      let last = work_spots 1 fields t.work in
+      chain above (each_word 0 [] fields) (each_word 0 fields init ++ (first ++ last)) (read_fields t.fields nothing_read)
+      (λ s. on_ok (optional_of 0 t.init s) (λ i. on_ok (read_prework t.prework s) (λ p. on_ok (read_work 1 t.work s) (λ w. Ok (elaborated_form t i p w)))))
+      (BehindFields fields) (λ f. Unit {0}) (fields_met t.fields [] nothing_read nothing_stands)
+      (λ s h. chain above (each_word 0 fields init) (first ++ last) (optional_of 0 t.init s)
+      (λ i. on_ok (read_prework t.prework s) (λ p. on_ok (read_work 1 t.work s) (λ w. Ok (elaborated_form t i p w))))
       (Within above 0 fields init s nought) (λ f. Unit {0}) (optional_met above 0 t.init fields s nought (omega arith) h.0)
-      (λ i z. chain above (Rated push pop peek ∷ []) (each_word peek fields work ++ ends) (judged_rates push pop peek)
-      (λ u. on_ok (steps_of peek t.work s) (λ w. on_ok (kept_rates push pop w.1) (λ v. Ok (elaborated_form t i w))))
-      (λ u. peek ≤ 65536) (λ f. Unit {0}) (rates_met push pop peek)
-      (λ u small. chain above (each_word peek fields work) ends (steps_of peek t.work s) (λ w. on_ok (kept_rates push pop w.1) (λ v. Ok (elaborated_form t i w)))
-      (Went above peek fields work s nought) (λ f. Unit {0}) (all_met above peek t.work fields s nought small h.0)
-      (λ w g. finish above ends (kept_rates push pop w.1) (λ v. elaborated_form t i w) (λ u. Unit {0}) (λ f. Unit {0})
-      (counts_met push pop work w.1 (work_pops fields work s w.1 h.0 h.1 g.stands) (work_pushes fields work s w.1 h.0 h.2 g.stands)) (λ v x. tt)))))
+      (λ i z. chain above first last (read_prework t.prework s) (λ p. on_ok (read_work 1 t.work s) (λ w. Ok (elaborated_form t i p w)))
+      (λ p. Unit {0}) (λ f. Unit {0}) (prework_met fields t.prework s h)
+      (λ p y. finish above last (read_work 1 t.work s) (elaborated_form t i p) (λ r. Unit {0}) (λ f. Unit {0}) (work_met 1 fields t.work s h) (λ r x. tt))))
 
 -- WHAT IS KNOWN OF THE STREAMS ABOVE
 

@@ -35,9 +35,9 @@ IsTwice above (Reads peek before (Declares n)) = IsKnown before n
 IsTwice above (Reads peek before (Loops n)) = IsKnown before n
 IsTwice above s = ⊥
 
--- the rate of `peek` is below that of `pop`, or at the end of `work` another number is counted than is declared
+-- the rate of `peek` is below that of `pop`, or at the end of `prework` or `work` another number is counted than is declared
 abbrev pub AreRatesApart : ℕ → ℕ → Spot → Type 0
-AreRatesApart declared counted (Rated push pop peek) = (peek < pop) × (declared ≡ peek) × (counted ≡ pop)
+AreRatesApart declared counted (Rated least push pop peek) = (peek < pop) × (declared ≡ peek) × (counted ≡ pop)
 AreRatesApart declared counted (Counts d c) = (d ≡ c → ⊥) × (declared ≡ d) × (counted ≡ c)
 AreRatesApart declared counted s = ⊥
 
@@ -65,10 +65,10 @@ AreArmsApart s = ⊥
 abbrev pub IsBound : ℤ → Type 0
 IsBound z = (n : ℕ) × (z ≡ pos n) × (n ≤ 65536)
 
--- a rate above 65,536; no pop; more than 16,384 statements; more than 256 slots; an index above 65,536; a bound not 0 to 65,536; more
+-- a rate above 65,536; no pop in `work`; more than 16,384 statements; more than 256 slots; an index above 65,536; a bound not 0 to 65,536; more
 -- than 64 branches; streams nested above 64 deep; weights that sum above 65,536; a plan of more than 256 operators
 abbrev pub IsOverLimit : List Declared → Spot → Type 0
-IsOverLimit above (Rated push pop peek) = (65536 < push) ⊎ (65536 < pop) ⊎ (65536 < peek) ⊎ (pop ≡ 0)
+IsOverLimit above (Rated least push pop peek) = (65536 < push) ⊎ (65536 < pop) ⊎ (65536 < peek) ⊎ (pop < least)
 IsOverLimit above (Reads peek before Begins) = 16384 < statements_in before + 1
 IsOverLimit above (Reads peek before (Declares n)) = 256 < slots_in before + 1
 IsOverLimit above (Reads peek before Pops) = 65536 < popped_in before

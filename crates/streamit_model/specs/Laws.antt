@@ -19,20 +19,25 @@ use Rattle.streamit_model.specs.Unrolled.{Stream, IsRound, IsStream, IsSmall}
 use Rattle.streamit_model.specs.UnrolledFilters.{filtered}
 use Rattle.streamit_model.specs.UnrolledMeans.{outputs}
 use Rattle.streamit_model.specs.Build.{weights, build, ops_in, plan_of}
-use Rattle.streamit_model.specs.Shallow.{AreShallow, AreShallowUnits}
+use Rattle.streamit_model.specs.Shallow.{IsShallowFilter, AreShallowUnits}
 use Rattle.streamit_text.specs.Program.{FilterTree, Program}
 use Rattle.streamit_model.specs.Meaning.{pushed_by, program_outputs}
 use Rattle.streamit_model.specs.ElaborateFilter.{elaborated}
+use Rattle.streamit_model.specs.Firings.{IsFired}
 use Rattle.streamit_model.specs.Judged.{Streamed, judged}
 
 -- values as the items of a queue that carries single values
 abbrev pub as_items : List ℤ → List item.Item
 as_items xs = map (λ x. Flat (One (x ∷ []))) xs
 
+-- of a filter that is accepted those firings take place, and no others, whose items are there
+abbrev pub FiringsAre : Type 0
+FiringsAre = (t : FilterTree) (f : FilterForm) (xs : List ℤ) → elaborated t ≡ Ok f → (m : ℕ) × IsFired t xs m
+
 -- fed with the items of an input, the kernel that is read of a filter gives what the filter gives as it is written
 abbrev pub FedFilters : Type 0
 FedFilters =
-    (t : FilterTree) (f : FilterForm) (g : ℕ → List item.Item) (xs : List ℤ) → AreShallow t.work → elaborated t ≡ Ok f → g 0 ≡ as_items xs
+    (t : FilterTree) (f : FilterForm) (g : ℕ → List item.Item) (xs : List ℤ) → IsShallowFilter t → elaborated t ≡ Ok f → g 0 ≡ as_items xs
     → (feed_all (filter f) g (first_kept (filter f))).outs 0 ≡ as_items (pushed_by t xs)
 
 -- fed splitters deal, or copy, to each branch what is its share

@@ -2,6 +2,7 @@ pub mod Build
 pub mod Elaborate
 pub mod ElaborateFilter
 pub mod Faulty
+pub mod Firings
 pub mod Judged
 pub mod Laws
 pub mod Meaning

@@ -1,10 +1,10 @@
 -- What a StreamIt program means: what it gives for the items of its input. Read `program_outputs` first, at the end; it rests on
 -- `all_work`, what each declared stream does with a whole list, and so on `body_works`: a filter is `pushed_by`, a pipeline `piped`,
 -- a split-join `collected` from branches that are `dealt` their shares (brooklet_model, ByIndex). A filter fires in turn,
--- `fires_from`, and a firing runs its block, `exec_all`, from a state in which the fields have values. Statements are `exec`, and
--- expressions `eval`, as they are written: loops are not unrolled, and nothing here is judged (Judged) or built (Build). The trees
--- are those of streamit_text, Tree and Program.
-use Rattle.std.specs.Prelude.{ℕ, zero, suc, ℤ, pos, ◌+◌, ◌-◌, ◌*◌, Bool, List, [], ◌∷◌, ◌++◌, length, map, take, drop, replicate, Option, Some, None}
+-- `fires_from`: the first firing runs `prework`, where there is one, and each other `work`. A firing runs its block, `exec_all`, from
+-- a state in which the fields have values. Statements are `exec`, and expressions `eval`, as they are written: loops are not
+-- unrolled, and nothing here is judged (Judged) or built (Build). The trees are those of streamit_text, Tree and Program.
+use Rattle.std.specs.Prelude.{ℕ, zero, suc, ℤ, pos, ◌+◌, ◌-◌, ◌*◌, Bool, List, [], ◌∷◌, ◌++◌, length, map, take, drop, replicate, max, Option, Some, None}
 use Rattle.std.specs.Prelude.{if◌then◌else◌, nat_le, slice_index_or}
 use Rattle.std.specs.Ordering.{int_eq}
 use Rattle.river_base.specs.Name.{name_eq}
@@ -13,7 +13,7 @@ use Rattle.work_code.specs.Value.{applied, truth, is_true}
 use Rattle.river_plan.specs.Forms.{Name}
 use Rattle.brooklet_model.specs.ByIndex.{dealt, collected}
 use Rattle.brooklet_model.specs.Machine.{at_name}
-use Rattle.streamit_text.specs.Program.{FilterTree, Dealing, Copies, Turns, Adds, Body, AFilter, APipeline, ASplitJoin, Program}
+use Rattle.streamit_text.specs.Program.{WorkTree, FilterTree, Dealing, Copies, Turns, Adds, Body, AFilter, APipeline, ASplitJoin, Program}
 use Rattle.streamit_text.specs.Tree.{Expression, Statement, Declare, Assign, Push, Discard, If, For, Block, End, Then, Optional, Unwritten, Written}
 use Rattle.streamit_text.specs.Tree as tree
 
@@ -100,14 +100,33 @@ rate_or None n = n
 rate_or (Some r) n = r
 
 -- without `push` or `pop` the rate is 0; without `peek` it is the rate of `pop`
-abbrev pub push_of : FilterTree → ℕ
-push_of t = rate_or t.push 0
+abbrev pub push_of : WorkTree → ℕ
+push_of w = rate_or w.push 0
 
-abbrev pub pop_of : FilterTree → ℕ
-pop_of t = rate_or t.pop 0
+abbrev pub pop_of : WorkTree → ℕ
+pop_of w = rate_or w.pop 0
 
-abbrev pub peek_of : FilterTree → ℕ
-peek_of t = rate_or t.peek (pop_of t)
+abbrev pub peek_of : WorkTree → ℕ
+peek_of w = rate_or w.peek (pop_of w)
+
+-- what firing j runs: the first one `prework`, where there is one, and all others `work`
+abbrev pub or_work : Option WorkTree → WorkTree → WorkTree
+or_work None w = w
+or_work (Some p) w = p
+
+abbrev pub runs_in : FilterTree → ℕ → WorkTree
+runs_in t zero = or_work t.prework t.work
+runs_in t (suc j) = t.work
+
+-- the items of firing j start behind those that the firings before it pop
+abbrev pub start_at : FilterTree → ℕ → ℕ
+start_at t zero = 0
+start_at t (suc j) = pop_of (runs_in t 0) + j * pop_of t.work
+
+-- how many items have to be there from its start on; the first firing waits for one at least
+abbrev pub waits_for : FilterTree → ℕ → ℕ
+waits_for t zero = max (peek_of (runs_in t 0)) 1
+waits_for t (suc j) = peek_of t.work
 
 -- nothing has a value yet
 abbrev pub nought : Values
@@ -127,20 +146,25 @@ at_start fields kept = record { values = with_fields fields kept nought; popped 
 abbrev pub initial : FilterTree → List ℤ
 initial t = map (exec_optional t.init [] (at_start t.fields (replicate (length t.fields) (pos 0)))).values t.fields
 
--- firing j: the block runs on the items from j * pop on
+-- the items that firing j looks at
+abbrev pub looked_at : FilterTree → ℕ → List ℤ → List ℤ
+looked_at t j xs = take (peek_of (runs_in t j)) (drop (start_at t j) xs)
+
+-- firing j: its block runs on the items that it looks at
 abbrev pub fires : FilterTree → ℕ → List ℤ → List ℤ → State
-fires t j kept xs = exec_all t.work (take (peek_of t) (drop (j * pop_of t) xs)) (at_start t.fields kept)
+fires t j kept xs = exec_all (runs_in t j).block (looked_at t j xs) (at_start t.fields kept)
 
 -- firing j and those after it, n at most; the fields pass from one to the next
 abbrev pub fires_from : FilterTree → ℕ → ℕ → List ℤ → List ℤ → List ℤ
 fires_from t zero j kept xs = []
 fires_from t (suc n) j kept xs =
-    if nat_le (j * pop_of t + peek_of t) (length xs)
+    if nat_le (start_at t j + waits_for t j) (length xs)
     then (let s = fires t j kept xs in s.pushed ++ fires_from t n (suc j) (map s.values t.fields) xs)
     else []
 
+-- all firings: each but the first pops an item, so there are no more than one and the items. Which there are is said by Firings
 abbrev pub pushed_by : FilterTree → List ℤ → List ℤ
-pushed_by t xs = fires_from t (length xs) 0 (initial t) xs
+pushed_by t xs = fires_from t (suc (length xs)) 0 (initial t) xs
 
 -- A PROGRAM
 

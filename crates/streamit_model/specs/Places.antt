@@ -1,8 +1,8 @@
 -- The places of a program in reading order, each with its unit, the streams that are declared above it, and what stands before it.
-use Rattle.std.specs.Prelude.{ℕ, suc, ◌+◌, max, List, [], ◌∷◌, ◌++◌, map, Option, if◌then◌else◌}
+use Rattle.std.specs.Prelude.{ℕ, suc, ◌+◌, max, List, [], ◌∷◌, ◌++◌, map, Option, Some, None, if◌then◌else◌}
 use Rattle.river_base.specs.Name.{name_eq}
 use Rattle.river_plan.specs.Forms.{Name}
-use Rattle.streamit_text.specs.Program.{FilterTree, Dealing, Copies, Turns, Body, AFilter, APipeline, ASplitJoin, Declared, Program}
+use Rattle.streamit_text.specs.Program.{WorkTree, FilterTree, Dealing, Copies, Turns, Body, AFilter, APipeline, ASplitJoin, Declared, Program}
 use Rattle.streamit_model.specs.Meaning.{push_of, pop_of, peek_of, nought, branch_count}
 use Rattle.streamit_model.specs.Words.{Word, Declares, Knows, popped_in, pushed_in}
 use Rattle.streamit_model.specs.Text.{all_read, optional_read}
@@ -13,9 +13,9 @@ pub data Spot : Type 0 where
   Names : Name → Spot
   -- a word of a filter where this is the rate of `peek`, and the words before it
   Reads : ℕ → List Word → Word → Spot
-  -- the rates of pushes, pops and looks
-  Rated : ℕ → ℕ → ℕ → Spot
-  -- the end of `work`: a rate as it is declared, and as it is counted
+  -- the least number of pops, and the rates of pushes, pops and looks
+  Rated : ℕ → ℕ → ℕ → ℕ → Spot
+  -- the end of `prework` or `work`: a rate as it is declared, and as it is counted
   Counts : ℕ → ℕ → Spot
   -- a branch of a split-join, by its number from 0
   Branch : ℕ → Spot
@@ -46,16 +46,23 @@ each_word peek before (w ∷ ws) = Reads peek before w ∷ each_word peek (befor
 
 -- UNITS
 
--- a filter in the order in which it is written; the locals of `init`, and those of `work`, come behind the fields
+-- `prework` or `work`, which pops so many items at least: its rates, its block, whose locals come behind the fields, and its end
+abbrev pub work_spots : ℕ → List Word → WorkTree → List Spot
+work_spots least fields w =
+    let block = all_read w.block nought in
+    Rated least (push_of w) (pop_of w) (peek_of w)
+    ∷ (each_word (peek_of w) fields block ++ Counts (pop_of w) (popped_in block) ∷ Counts (push_of w) (pushed_in block) ∷ [])
+
+-- `prework` may pop nothing
+abbrev pub prework_spots : List Word → Option WorkTree → List Spot
+prework_spots fields None = []
+prework_spots fields (Some w) = work_spots 0 fields w
+
+-- a filter in the order in which it is written; the locals of `init`, of `prework` and of `work` come behind the fields
 abbrev pub filter_spots : FilterTree → List Spot
 filter_spots t =
     let fields = fields_read t.fields in
-    let work = all_read t.work nought in
-    each_word 0 [] fields
-    ++ (each_word 0 fields (optional_read t.init nought)
-    ++ Rated (push_of t) (pop_of t) (peek_of t)
-    ∷ (each_word (peek_of t) fields work
-    ++ Counts (pop_of t) (popped_in work) ∷ Counts (push_of t) (pushed_in work) ∷ []))
+    each_word 0 [] fields ++ (each_word 0 fields (optional_read t.init nought) ++ (prework_spots fields t.prework ++ work_spots 1 fields t.work))
 
 -- the branches of a split-join from number i on
 abbrev pub branch_spots : ℕ → List Name → List Spot

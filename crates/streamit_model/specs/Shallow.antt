@@ -2,7 +2,7 @@
 use Rattle.std.specs.Prelude.{◌≡◌, ◌≤◌, Option, Some, None, [], ◌∷◌}
 use Rattle.streamit_text.specs.Tree.{Expression, depth_of, Statement, Declare, Assign, Push, Discard, If, For, Block, End, Then, Optional, Unwritten, Written}
 use Rattle.streamit_model.specs.Meaning.{pops}
-use Rattle.streamit_text.specs.Program.{Body, AFilter, APipeline, ASplitJoin, Program}
+use Rattle.streamit_text.specs.Program.{WorkTree, FilterTree, Body, AFilter, APipeline, ASplitJoin, Program}
 
 abbrev pub IsLow : Expression → Type 0
 IsLow t = depth_of t ≤ 64
@@ -54,9 +54,17 @@ abbrev mutual
   KeepAllOptional Unwritten = Unit {0}
   KeepAllOptional (Written b) = KeepAll b
 
+abbrev pub IsShallowPrework : Option WorkTree → Type 0
+IsShallowPrework None = Unit {0}
+IsShallowPrework (Some w) = AreShallow w.block
+
+-- the expressions of `prework` and of `work`
+abbrev pub IsShallowFilter : FilterTree → Type 0
+IsShallowFilter t = IsShallowPrework t.prework × AreShallow t.work.block
+
 -- no expression of the program is deeper than 64
 abbrev pub IsShallowBody : Body → Type 0
-IsShallowBody (AFilter t) = AreShallow t.work
+IsShallowBody (AFilter t) = IsShallowFilter t
 IsShallowBody (APipeline a) = Unit {0}
 IsShallowBody (ASplitJoin d a ws) = Unit {0}
 

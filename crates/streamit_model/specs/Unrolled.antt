@@ -1,7 +1,7 @@
 -- The tree of streams of a program whose loops are unrolled and whose names are found.
-use Rattle.std.specs.Prelude.{◌≡◌, ◌<◌, ◌≤◌, ℕ, suc, max, List, length, IsTrue}
+use Rattle.std.specs.Prelude.{◌≡◌, ◌<◌, ◌≤◌, ℕ, suc, max, List, length, IsTrue, Option, Some, None}
 use Rattle.std.specs.List.{AllByRecursion}
-use Rattle.kern_rows.specs.Forms.{FilterForm}
+use Rattle.kern_rows.specs.Forms.{FilterForm, RunForm}
 use Rattle.river_kernels.specs.Formed.{is_filter}
 use Rattle.river_kernels.specs.Limits.{size}
 use Rattle.brooklet_model.specs.ByIndex.{cycle}
@@ -61,12 +61,24 @@ abbrev mutual
   AreStreams (Then s ss) = IsStream s × AreStreams ss
 
 -- no number in a filter, a splitter or a joiner is above its limit
+pub record IsSmallRun (r : RunForm) : Type 0 where
+  pub statements : size r.body.steps ≤ 16384
+  pub slots : r.body.slots ≤ 256
+  pub peek : r.peek ≤ 65536
+  pub pop : r.pop ≤ 65536
+  pub push : r.push ≤ 65536
+
+abbrev pub IsSmallFirst : Option RunForm → Type 0
+IsSmallFirst None = Unit {0}
+IsSmallFirst (Some r) = IsSmallRun r
+
 pub record IsSmallFilter (f : FilterForm) : Type 0 where
   pub statements : size f.body.steps ≤ 16384
   pub slots : f.body.slots ≤ 256
   pub peek : f.peek ≤ 65536
   pub pop : f.pop ≤ 65536
   pub push : f.push ≤ 65536
+  pub first : IsSmallFirst f.first
 
 abbrev pub IsSmallSplitter : Splitter → Type 0
 IsSmallSplitter Duplicate = Unit {0}

@@ -70,9 +70,9 @@ abbrev pub takes : Word → ℕ
 takes (Knows n) = 1
 takes w = 0
 
-abbrev pub begins : Word → ℕ
-begins Begins = 1
-begins w = 0
+abbrev pub begins_one : Word → ℕ
+begins_one Begins = 1
+begins_one w = 0
 
 abbrev pub pops_one : Word → ℕ
 pops_one Pops = 1
@@ -111,7 +111,7 @@ slots_in before = over takes before
 
 -- statements and turns
 abbrev pub statements_in : List Word → ℕ
-statements_in before = over begins before
+statements_in before = over begins_one before
 
 -- the pops that run before
 abbrev pub popped_in : List Word → ℕ

@@ -28,7 +28,7 @@ Reads (Ok u) old new at at' r =
     (added : List Stmt) × (statements new ≡ statements old ++ added) × (r ≡ Ok (in_turn (map step added), at_of at')) × KeepsNames at at'
 Reads (Err f) old new at at' r = Tells f r
 
--- the body of `work`, where it keeps the rates
+-- the body of `prework` or `work`, where it keeps the rates
 abbrev pub worked : (peek push pop : ℕ) → source.Block → At → Result Body spec.Fault
 worked peek push pop b s =
     on_ok (steps_of peek b s) (λ w. on_ok (kept_rates push pop w.1) (λ v. Ok (record { inputs = peek; slots = w.1.slots; steps = w.0 })))

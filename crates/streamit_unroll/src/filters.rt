@@ -1,24 +1,25 @@
-// Filters: their fields, `init`, rates and `work`.
-ghost use Rattle.std.specs.Prelude.{◌≡◌, ◌≤◌, replicate, pos, length, [], Ok, IfOk, OnOk};
+// Filters: their fields, `init`, `prework` and `work`.
+ghost use Rattle.std.specs.Prelude.{◌≡◌, ◌≤◌, replicate, take, pos, length, [], Ok, IfOk, OnOk};
 ghost use Rattle.work_code.specs.Steps.{steps, body_of};
 ghost use Rattle.work_code.specs.Ran.{IsBodyWithin, ran};
-ghost use Rattle.kern_rows.specs.Forms.{filter_form};
+ghost use Rattle.kern_rows.specs.Forms.{run_form, optional_run, filter_form};
 ghost use Rattle.kern_rows.specs.Needs.{CanRun};
 ghost use Rattle.kern_rows.specs.Runs.{run_kept};
 ghost use Rattle.streamit_model.specs.Elaborate.{on_ok, optional_of};
 ghost use Rattle.streamit_model.specs.Meaning.{rate_or};
 ghost use Rattle.streamit_model.specs.ElaborateFilter.{read_field, read_fields, nothing_read, starts_of, judged_rates, kept_rates, elaborated};
-ghost use Rattle.streamit_text.specs.Program.{filter_tree};
+ghost use Rattle.streamit_model.specs.ElaborateFilter.{read_work, read_prework, slots_for, widened, first_with, form_of_runs};
+ghost use Rattle.streamit_text.specs.Program.{work_tree, filter_tree};
 ghost use Rattle.streamit_unroll.specs.Filter.{IsReadable};
-ghost use Rattle.streamit_unroll.specs.Unrolling.{at_of, worked, Reads, AreWritten, AreWrittenOptional};
+ghost use Rattle.streamit_unroll.specs.Unrolling.{at_of, worked, Reads, KeepsNames, AreWritten, AreWrittenOptional};
 ghost use Rattle.streamit_text.specs.Tree.{block, optional_block};
 ghost use Rattle.streamit_unroll.specs.View.{Judges};
 
 use crate::{Fault, Known, Names, Unroller};
-use kern_rows::Filter;
+use kern_rows::{Filter, First};
 use river_base::{Name, NoMemory, Numbers};
 use std::alloc::Global;
-use streamit_text::{Block, FilterTree, Rates};
+use streamit_text::{Block, FilterTree, Rates, WorkTree};
 use work_code::{Code, Emitted, Stmts, run_code};
 
 /// The filter of a plan for a filter as it is written, or the first fault in reading order.
@@ -53,11 +54,11 @@ impl Counts {
         }
     }
 
-    // Whether they may stand there.
-    fn judged(self) -> Result<(), Fault>
-        ensures { Judges (λ u. u) result (judged_rates self.push self.pop self.peek) }
+    // Whether they may stand there, where a firing pops so many items at least.
+    fn judged(self, least: u32) -> Result<(), Fault>
+        ensures { Judges (λ u. u) result (judged_rates least self.push self.pop self.peek) }
     {
-        if self.push > 65536 || self.pop > 65536 || self.peek > 65536 || self.pop == 0 {
+        if self.push > 65536 || self.pop > 65536 || self.peek > 65536 || self.pop < least {
             return Err(Fault::Limit);
         }
         if self.peek < self.pop {
@@ -68,6 +69,16 @@ impl Counts {
         }
         Ok(())
     }
+}
+
+// Where the reading of a filter stands: the number of names, and what was counted.
+#[derive(Clone, Copy)]
+struct Place {
+    known: usize,
+    slots: u32,
+    popped: u32,
+    pushed: u32,
+    size: u32,
 }
 
 impl Unroller {
@@ -94,16 +105,9 @@ impl Unroller {
     {
         self.fields(tree.fields.as_slice())?;
         let starts = self.starts(alloc, tree)?;
-        let rates = Counts::of(tree.rates);
-        rates.judged()?;
-        let code = self.work(alloc, rates, &tree.work)?;
-        Ok(Filter {
-            peek: rates.peek,
-            pop: rates.pop,
-            push: rates.push,
-            code,
-            starts,
-        })
+        let first = self.prework(alloc, tree)?;
+        let work = self.run(alloc, 1, &tree.work)?;
+        Ok(put_together(starts, first, work))
     }
 
     // The fields, one after another.
@@ -137,17 +141,44 @@ impl Unroller {
         ensures starts { Judges (λ zs. zs) result (on_ok (optional_of 0 (filter_tree tree.now).init (at_of self.old)) (λ i. Ok (starts_of (length (filter_tree tree.now).fields) i))) }
         ensures back { OnOk result (at_of self.new ≡ at_of self.old) }
     {
-        let (slots, popped, pushed, size) = (self.slots, self.popped, self.pushed, self.size);
-        let known = self.names.items.len();
+        let before = self.place();
         let mut body = Stmts::new(alloc);
         self.optional(alloc, &tree.init, &mut body)?;
         let starts = after_one_run(alloc, tree.fields.len(), self.slots, body)?;
-        self.names.items.truncate(known);
-        self.slots = slots;
-        self.popped = popped;
-        self.pushed = pushed;
-        self.size = size;
+        self.back(before);
         Ok(starts)
+    }
+
+    // Where the reading stands.
+    fn place(&self) -> Place
+        ensures known { result.known ≡ length self.now.names.items.items }
+        ensures slots { result.slots ≡ self.now.slots }
+        ensures popped { result.popped ≡ self.now.popped }
+        ensures pushed { result.pushed ≡ self.now.pushed }
+        ensures size { result.size ≡ self.now.size }
+    {
+        Place {
+            known: self.names.items.len(),
+            slots: self.slots,
+            popped: self.popped,
+            pushed: self.pushed,
+            size: self.size,
+        }
+    }
+
+    // The reading stands where it stood before a block.
+    fn back(&mut self, place: Place)
+        ensures names { self.new.names.items.items ≡ take place.known self.old.names.items.items }
+        ensures slots { self.new.slots ≡ place.slots }
+        ensures popped { self.new.popped ≡ place.popped }
+        ensures pushed { self.new.pushed ≡ place.pushed }
+        ensures size { self.new.size ≡ place.size }
+    {
+        self.names.items.truncate(place.known);
+        self.slots = place.slots;
+        self.popped = place.popped;
+        self.pushed = place.pushed;
+        self.size = place.size;
     }
 
     // The block of `init`, where there is one.
@@ -166,10 +197,42 @@ impl Unroller {
         }
     }
 
-    // The body of `work`, and whether it keeps the rates.
+    // The first run, where there is a `prework`; all that is known is as it was before.
+    fn prework(&mut self, alloc: Global, tree: &FilterTree) -> Result<Option<First>, Fault>
+        requires { IsReadable (filter_tree tree.now) }
+        ensures read { Judges optional_run result (read_prework (filter_tree tree.now).prework (at_of self.old)) }
+        ensures back { OnOk result (at_of self.new ≡ at_of self.old) }
+    {
+        match &tree.prework {
+            None => Ok(None),
+            Some(work) => Ok(Some(self.run(alloc, 0, work)?)),
+        }
+    }
+
+    // The run of `prework` or `work`, which pops so many items at least; all that is known is as it was before.
+    fn run(&mut self, alloc: Global, least: u32, tree: &WorkTree) -> Result<First, Fault>
+        requires { AreWritten (work_tree tree.now).block }
+        ensures read { Judges run_form result (read_work least (work_tree tree.now) (at_of self.old)) }
+        ensures back { OnOk result (at_of self.new ≡ at_of self.old) }
+    {
+        let rates = Counts::of(tree.rates);
+        rates.judged(least)?;
+        let before = self.place();
+        let code = self.work(alloc, rates, &tree.block)?;
+        self.back(before);
+        Ok(First {
+            peek: rates.peek,
+            pop: rates.pop,
+            push: rates.push,
+            code,
+        })
+    }
+
+    // The body of a block, and whether it keeps the rates.
     fn work(&mut self, alloc: Global, rates: Counts, work: &Block) -> Result<Code, Fault>
         requires { AreWritten (block work.now) }
-        ensures { Judges body_of result (worked rates.peek rates.push rates.pop (block work.now) (at_of self.old)) }
+        ensures read { Judges body_of result (worked rates.peek rates.push rates.pop (block work.now) (at_of self.old)) }
+        ensures names { OnOk result (KeepsNames self.old self.new) }
     {
         let mut body = Stmts::new(alloc);
         self.block(alloc, rates.peek, work, &mut body)?;
@@ -198,6 +261,50 @@ impl Unroller {
             });
         }
         Ok(())
+    }
+}
+
+// The filter of what was read, with the slots of that block which has more.
+fn put_together(starts: Numbers, first: Option<First>, mut work: First) -> Filter
+    ensures { filter_form result ≡ form_of_runs starts (optional_run first) (run_form work) }
+{
+    let slots = slots_for(&first, work.code.slots);
+    work.code.slots = slots;
+    Filter {
+        peek: work.peek,
+        pop: work.pop,
+        push: work.push,
+        code: work.code,
+        starts,
+        first: first_with(first, slots),
+    }
+}
+
+// The first run, where there is one, with so many slots.
+fn first_with(first: Option<First>, slots: u32) -> Option<First>
+    ensures { optional_run result ≡ first_with slots (optional_run first) }
+{
+    match first {
+        None => None,
+        Some(run) => Some(widened(run, slots)),
+    }
+}
+
+// A run with so many slots.
+fn widened(mut run: First, slots: u32) -> First
+    ensures { run_form result ≡ widened slots (run_form run) }
+{
+    run.code.slots = slots;
+    run
+}
+
+// The greater number of slots.
+fn slots_for(first: &Option<First>, slots: u32) -> u32
+    ensures { result ≡ slots_for (optional_run first.now) slots }
+{
+    match first {
+        None => slots,
+        Some(first) => first.code.slots.max(slots),
     }
 }
 

@@ -1,14 +1,12 @@
 -- What lies between tokens is what the lexer passes over.
-use Rattle.std.proofs.Common.{◌≡◌, ℕ, zero, suc, ◌+◌, ◌-◌, ◌<◌, ◌≤◌, List, [], ◌∷◌, ◌++◌, length, take, drop, refl, sym, ap, ◌∙◌, subst, arith, append_assoc}
-use Rattle.std.specs.Prelude.{Result, Ok, Err}
+use Rattle.std.proofs.Common.{◌≡◌, ℕ, zero, suc, ◌+◌, ◌-◌, ◌≤◌, List, [], ◌∷◌, ◌++◌, length, take, drop, refl, sym, ap, ◌∙◌, subst, arith, append_assoc}
+use Rattle.std.specs.Prelude.{Ok}
 use Rattle.std.specs.List.{concat}
-use Rattle.std.proofs.lemmas.List.{drop_all, drop-drop, length-drop, take-append-drop}
-use Rattle.work_code.specs.declared.fault.LexFault.{LexFault}
-use Rattle.work_code.specs.declared.fault.LexFault.TheVariants.{BadByte, BigNumber}
-use Rattle.work_code.specs.Lexis.{Piece, blank, token, bad, big, marks, with_mark, piece_at}
+use Rattle.std.proofs.lemmas.List.{drop-drop, length-drop, take-append-drop}
+use Rattle.work_code.specs.Lexis.{Piece, blank, token, bad, big, marks, piece_at}
 use Rattle.work_code.specs.Pieces.{FitsIn}
-use Rattle.work_code.specs.Tok.{Tok, Mark}
-use Rattle.work_code.specs.Laws.{IsPassedOver, IsBlank, AreBlanks, AreApart, TokensAreApart}
+use Rattle.work_code.specs.Tok.{Mark}
+use Rattle.work_code.specs.Laws.{IsPassedOver, IsBlank, AreApart, TokensAreApart}
 use Rattle.work_code.proofs.Gaps.{Passed, piece-passed}
 use Rattle.work_code.proofs.Rooms.{piece_fits}
 use Rattle.work_code.proofs.Slices.{with-ok, after_piece, next_drop, room_left}

@@ -1,7 +1,7 @@
 -- What the cut into units keeps.
-use Rattle.std.proofs.Common.{◌≡◌, ℕ, zero, suc, ◌+◌, ◌-◌, ◌<◌, ◌≤◌, Bool, true, false, List, [], ◌∷◌, ◌++◌, length, drop, get_or, take, refl, sym, ap, ◌∙◌}
-use Rattle.std.proofs.Common.{arith, append_assoc, append-nil, length-drop}
-use Rattle.std.specs.Prelude.{if◌then◌else◌, map, slice_index_or}
+use Rattle.std.proofs.Common.{◌≡◌, ℕ, suc, ◌+◌, ◌-◌, ◌<◌, ◌≤◌, Bool, true, false, List, [], ◌∷◌, ◌++◌, length, drop, get_or, take, refl, sym, ap, ◌∙◌}
+use Rattle.std.proofs.Common.{arith, append_assoc, length-drop}
+use Rattle.std.specs.Prelude.{if◌then◌else◌, map}
 use Rattle.std.proofs.lemmas.List.{drop_more, drop_all, drop-drop, length-map, drop-map, take-map}
 use Rattle.work_code.specs.declared.sign.Symbol.TheVariants.{OpenBrace, CloseBrace}
 use Rattle.work_code.specs.declared.token.Lexeme.{Lexeme}

@@ -1,7 +1,7 @@
 -- The units of tokens joined are the tokens, and each but the last ends at its only end.
-use Rattle.std.proofs.Common.{◌≡◌, ℕ, suc, ◌+◌, ◌<◌, Bool, true, false, List, [], ◌∷◌, ◌++◌, length, refl, sym, ap, ◌∙◌, subst, arith}
+use Rattle.std.proofs.Common.{◌≡◌, ℕ, ◌<◌, Bool, true, false, List, [], ◌∷◌, ◌++◌, length, refl, ap, ◌∙◌, subst, arith}
 use Rattle.std.specs.Prelude.{if◌then◌else◌}
-use Rattle.work_code.specs.Cut.{cut, units_of, ends_unit, braces_after, to_first}
+use Rattle.work_code.specs.Cut.{cut, ends_unit, braces_after, to_first}
 use Rattle.work_code.specs.Tok.{Tok}
 use Rattle.work_code.specs.Laws.{open_behind, joined, IsUnit, AreUnits, UnitsAreCut}
 

@@ -1,14 +1,14 @@
 -- What the lexer passes over is separators and comments.
-use Rattle.std.proofs.Common.{◌≡◌, inl, inr, ℕ, zero, suc, ◌+◌, ◌-◌, ◌<◌, ◌≤◌, Bool, true, false, cond, List, [], ◌∷◌, ◌++◌, length, take, drop, refl, sym, ap}
-use Rattle.std.proofs.Common.{◌∙◌, subst, arith, length-append}
+use Rattle.std.proofs.Common.{◌≡◌, inl, inr, ℕ, suc, ◌+◌, Bool, true, false, cond, List, [], ◌∷◌, ◌++◌, length, take, drop, refl, sym, ap}
+use Rattle.std.proofs.Common.{◌∙◌, arith}
 use Rattle.std.specs.Prelude.{Option, Some, None, ◌==◌, ◌&&◌, ◌||◌, if◌then◌else◌, nat_lt}
 use Rattle.std.specs.List.{prefix_len, list_all}
 use Rattle.std.proofs.lemmas.Bool.{eqb-true}
 use Rattle.std.proofs.Math.Seq.{take-append-add}
 use Rattle.work_code.specs.Symbols.{short_symbol, long_symbol}
 use Rattle.work_code.specs.declared.sign.Symbol.{Symbol}
-use Rattle.work_code.specs.Lexis.{Piece, blank, token, bad, big, piece_at, first_is, begins_with, is_blank, is_letter, is_digit, is_word, is_in_line, block_end}
-use Rattle.work_code.specs.Lexis.{block_piece, name_piece, var_piece, number_piece, decimal_from, most, symbol_piece, short_piece, long_piece}
+use Rattle.work_code.specs.Lexis.{Piece, blank, token, bad, big, piece_at, first_is, begins_with, is_blank, is_letter, is_digit, is_in_line, block_end}
+use Rattle.work_code.specs.Lexis.{block_piece, var_piece, number_piece, most, symbol_piece, short_piece, long_piece}
 use Rattle.work_code.specs.Laws.{IsPassedOver}
 
 -- the blank of a piece is a separator or a comment

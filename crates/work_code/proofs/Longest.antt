@@ -1,18 +1,16 @@
 -- Each token is the longest that can stand at its place, and no comment begins there.
-use Rattle.std.proofs.Common.{◌≡◌, ℕ, zero, suc, ◌+◌, ◌-◌, ◌<◌, ◌≤◌, Bool, true, false, List, [], ◌∷◌, ◌++◌, length, take, drop, refl, sym, ap, ◌∙◌, subst}
-use Rattle.std.proofs.Common.{arith, length-append}
+use Rattle.std.proofs.Common.{◌≡◌, ℕ, suc, ◌+◌, ◌<◌, ◌≤◌, Bool, true, false, List, [], ◌∷◌, ◌++◌, length, take, drop, refl, sym, ap, ◌∙◌, subst}
+use Rattle.std.proofs.Common.{arith}
 use Rattle.std.specs.Prelude.{Option, Some, None, ◌==◌, ◌&&◌, ◌||◌, if◌then◌else◌, nat_lt}
 use Rattle.std.specs.List.{prefix_len, list_all}
 use Rattle.std.proofs.lemmas.Bool.Decides.{nat_tests}
 use Rattle.work_code.specs.declared.sign.Symbol.{Symbol}
 use Rattle.work_code.specs.declared.sign.Symbol.TheVariants as sign
 use Rattle.work_code.specs.Symbols.{long_symbol, symbol_bytes}
-use Rattle.work_code.specs.Lexis.{Piece, blank, token, bad, big, piece_at, first_is, begins_with, is_blank, is_letter, is_digit, is_word, is_in_line, block_end}
-use Rattle.work_code.specs.Lexis.{block_piece, name_piece, var_piece, number_piece, decimal_from, most, symbol_piece}
-use Rattle.work_code.specs.Pieces.{FitsIn}
+use Rattle.work_code.specs.Lexis.{Piece, blank, token, big, piece_at, first_is, begins_with, is_blank, is_letter, is_digit, is_word, is_in_line, block_end}
+use Rattle.work_code.specs.Lexis.{block_piece, name_piece, var_piece, number_piece, decimal_from, most}
 use Rattle.work_code.specs.Tok.{Tok, name, var, number, symbol}
 use Rattle.work_code.specs.Laws.{IsWord, IsWrittenAs, begins_comment}
-use Rattle.work_code.proofs.Rooms.{piece_fits}
 use Rattle.work_code.proofs.Spelled.{IsSign, letter_high, high_no_blank, is_no, low_no_letter, long_piece_at, sign_33, sign_38, sign_43, sign_45, sign_60}
 use Rattle.work_code.proofs.Spelled.{sign_61, sign_62, sign_124}
 

@@ -1,14 +1,12 @@
 -- What the lexer keeps as it goes from piece to piece.
-use Rattle.std.proofs.Common.{◌≡◌, ℕ, zero, suc, ◌+◌, ◌-◌, ◌*◌, ◌<◌, ◌≤◌, Bool, true, false, List, [], ◌∷◌, ◌++◌, length, drop, take, get_or, refl, sym, ap}
+use Rattle.std.proofs.Common.{◌≡◌, ℕ, zero, suc, ◌+◌, ◌-◌, ◌<◌, ◌≤◌, List, [], ◌∷◌, ◌++◌, length, drop, refl, sym, ap}
 use Rattle.std.proofs.Common.{◌∙◌, arith, append_assoc, append-nil, length-drop}
-use Rattle.std.specs.Prelude.{Option, Some, None, Result, Ok, Err, map, if◌then◌else◌, ◌==◌, ◌&&◌}
-use Rattle.std.proofs.lemmas.List.{drop_more, drop_all, drop-drop}
-use Rattle.std.proofs.lemmas.List.Sums.{prefix_len-le-length}
-use Rattle.std.specs.List.{prefix_len}
-use Rattle.work_code.specs.Lexis.{Piece, blank, token, bad, big, marks, with_mark, piece_at}
-use Rattle.work_code.specs.Tok.{Tok, Mark, name, var, number, symbol}
+use Rattle.std.specs.Prelude.{Result, Ok, Err}
+use Rattle.std.proofs.lemmas.List.{drop_all, drop-drop}
+use Rattle.work_code.specs.Lexis.{blank, token, bad, big, marks, with_mark, piece_at}
+use Rattle.work_code.specs.Tok.{Tok, Mark}
 use Rattle.work_code.specs.declared.fault.LexFault.{LexFault}
-use Rattle.work_code.specs.declared.fault.LexFault.TheVariants.{BadByte, BigNumber, NoMemory}
+use Rattle.work_code.specs.declared.fault.LexFault.TheVariants.{BadByte, BigNumber}
 
 -- these tokens and then those
 abbrev pub after_marks : List Mark → Result (List Mark) LexFault → Result (List Mark) LexFault

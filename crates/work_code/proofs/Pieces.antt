@@ -1,8 +1,8 @@
 -- What the loops of the lexer keep.
-use Rattle.std.proofs.Common.{◌≡◌, ℕ, ◌+◌, ◌-◌, ◌*◌, ◌<◌, ◌≤◌, Bool, true, false, List, [], ◌∷◌, length, drop, get_or, Option, Some, None, refl, sym, ap, ◌∙◌}
+use Rattle.std.proofs.Common.{◌≡◌, ℕ, ◌+◌, ◌-◌, ◌*◌, ◌<◌, ◌≤◌, true, false, List, [], ◌∷◌, length, drop, get_or, Some, None, refl, sym, ap, ◌∙◌}
 use Rattle.std.proofs.Common.{arith}
 use Rattle.std.proofs.lemmas.List.{drop_more, drop_all, drop-drop}
-use Rattle.work_code.specs.Lexis.{Piece, token, big, begins_with, block_end, decimal_from, most, number_piece, Limited}
+use Rattle.work_code.specs.Lexis.{token, big, begins_with, block_end, decimal_from, most, number_piece}
 use Rattle.work_code.specs.Tok.{number}
 use Rattle.std.proofs.lemmas.List.Sums.{prefix_len-le-length}
 

@@ -1,13 +1,13 @@
 -- A piece has a byte and is no longer than the text.
-use Rattle.std.proofs.Common.{◌≡◌, ℕ, zero, suc, ◌+◌, ◌-◌, ◌<◌, ◌≤◌, Bool, true, false, List, [], ◌∷◌, length, drop, take, refl, sym, ap, ◌∙◌, subst, arith}
+use Rattle.std.proofs.Common.{◌≡◌, ℕ, ◌+◌, ◌<◌, ◌≤◌, Bool, true, false, List, [], ◌∷◌, length, drop, refl, sym, subst, arith}
 use Rattle.std.proofs.Common.{length-drop}
-use Rattle.std.specs.Prelude.{Option, Some, None, if◌then◌else◌, nat_lt, ◌==◌, ◌&&◌, ◌||◌}
+use Rattle.std.specs.Prelude.{Option, Some, None, if◌then◌else◌, nat_lt, ◌==◌, ◌&&◌}
 use Rattle.std.proofs.lemmas.List.Sums.{prefix_len-le-length}
 use Rattle.std.specs.List.{prefix_len}
 use Rattle.work_code.specs.declared.sign.Symbol.{Symbol}
 use Rattle.work_code.specs.Symbols.{short_symbol, long_symbol}
-use Rattle.work_code.specs.Lexis.{Piece, blank, token, bad, big, piece_at, first_is, begins_with, block_end, block_piece, is_blank, is_letter, is_digit}
-use Rattle.work_code.specs.Lexis.{is_word, is_in_line, name_piece, var_piece, number_piece, symbol_piece, short_piece, long_piece, decimal_from, most}
+use Rattle.work_code.specs.Lexis.{Piece, token, big, piece_at, first_is, begins_with, block_end, block_piece, is_blank, is_letter, is_digit}
+use Rattle.work_code.specs.Lexis.{is_word, is_in_line, var_piece, number_piece, symbol_piece, short_piece, long_piece, most}
 use Rattle.work_code.specs.Tok.{number}
 use Rattle.work_code.specs.Pieces.{FitsIn}
 

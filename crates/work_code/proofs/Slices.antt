@@ -1,22 +1,20 @@
 -- The tokens of a text are slices of it.
 use Rattle.std.proofs.Common.{◌≡◌, ℕ, zero, suc, ◌+◌, ◌-◌, ◌<◌, ◌≤◌, Bool, true, false, List, [], ◌∷◌, length, take, drop, refl, sym, ap, ◌∙◌, subst, arith}
-use Rattle.std.proofs.Common.{cond}
 use Rattle.std.proofs.lemmas.List.{length-drop}
 use Rattle.std.specs.Prelude.{Option, Some, None, Result, Ok, Err, ◌==◌, ◌&&◌, if◌then◌else◌, nat_lt}
 use Rattle.std.specs.List.{prefix_len, list_all}
 use Rattle.std.proofs.lemmas.Bool.{eqb-true}
-use Rattle.std.proofs.lemmas.List.{drop_more}
 use Rattle.work_code.specs.declared.sign.Symbol.{Symbol}
 use Rattle.work_code.specs.declared.sign.Symbol.TheVariants as sign
 use Rattle.work_code.specs.declared.fault.LexFault.{LexFault}
 use Rattle.work_code.specs.declared.fault.LexFault.TheVariants.{BadByte, BigNumber, NoMemory}
 use Rattle.work_code.specs.Symbols.{short_symbol, long_symbol, symbol_bytes}
 use Rattle.work_code.specs.Lexis.{Piece, blank, token, bad, big, marks, with_mark, piece_at, first_is, begins_with, is_blank, is_letter, is_digit, is_word}
-use Rattle.work_code.specs.Lexis.{is_in_line, block_end, block_piece, name_piece, var_piece, number_piece, symbol_piece, short_piece, long_piece, decimal_from}
+use Rattle.work_code.specs.Lexis.{block_end, block_piece, var_piece, number_piece, symbol_piece, short_piece, long_piece, decimal_from}
 use Rattle.work_code.specs.Lexis.{most, tokens_in}
 use Rattle.work_code.specs.Pieces.{FitsIn}
-use Rattle.work_code.specs.Tok.{Tok, Mark, name, var, number, symbol}
-use Rattle.work_code.specs.Laws.{IsWord, IsWrittenAs, IsSmall, begins_comment, IsSpan, Ascend, AllSpans, TokensAreSlices, FaultsAreThere}
+use Rattle.work_code.specs.Tok.{Tok, Mark, number}
+use Rattle.work_code.specs.Laws.{IsWord, IsWrittenAs, IsSmall, begins_comment, Ascend, AllSpans, TokensAreSlices, FaultsAreThere}
 use Rattle.work_code.proofs.Gaps.{front-all}
 use Rattle.work_code.proofs.Longest.{longest-piece, no-comment}
 use Rattle.work_code.proofs.Rooms.{piece_fits, letter_word, digits_has}

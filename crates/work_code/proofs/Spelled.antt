@@ -1,17 +1,17 @@
 -- Texts that are spelled token by token: what the lexer makes of them.
-use Rattle.std.proofs.Common.{◌≡◌, ◌⊎◌, inl, inr, ⊎_elim, ℕ, zero, suc, ◌+◌, ◌-◌, ◌*◌, ◌<◌, ◌≤◌, ◌^◌, Bool, true, false, cond, List, [], ◌∷◌, ◌++◌, length}
-use Rattle.std.proofs.Common.{drop, take, refl, sym, ap, ◌∙◌, arith, append_assoc, append-nil, length-append, eqb}
-use Rattle.std.specs.Prelude.{Option, Some, None, Result, Ok, Err, map, ◌==◌, ◌&&◌, ◌||◌, if◌then◌else◌, nat_lt, nat_le}
+use Rattle.std.proofs.Common.{◌≡◌, ℕ, ◌+◌, ◌-◌, ◌*◌, ◌<◌, ◌≤◌, Bool, true, false, List, [], ◌∷◌, ◌++◌, length}
+use Rattle.std.proofs.Common.{drop, take, refl, sym, ap, ◌∙◌, arith, append_assoc, append-nil, length-append}
+use Rattle.std.specs.Prelude.{Option, Some, None, Result, Ok, Err, ◌==◌, ◌&&◌, ◌||◌, nat_lt}
 use Rattle.std.specs.List.{prefix_len, list_all}
 use Rattle.std.specs.Fmt.{decimal}
 use Rattle.std.specs.Str.Parse.{AllDigits, digits_value_after}
 use Rattle.std.specs.Char.{digit_value}
 use Rattle.std.proofs.lemmas.Fmt.{decimal_is_IsNumeral}
-use Rattle.std.proofs.lemmas.Bool.{eqb-true, ne_eqb}
+use Rattle.std.proofs.lemmas.Bool.{ne_eqb}
 use Rattle.std.proofs.lemmas.Bool.Decides.{nat_tests}
 use Rattle.std.proofs.Math.Seq.{drop-append_seam, take-append_seam}
-use Rattle.work_code.specs.Lexis.{Piece, blank, token, bad, big, marks, with_mark, piece_at, is_blank, is_in_line, is_letter, is_digit, is_word, first_is}
-use Rattle.work_code.specs.Lexis.{begins_with, name_piece, var_piece, number_piece, decimal_from, most, block_piece, symbol_piece, short_piece, long_piece}
+use Rattle.work_code.specs.Lexis.{blank, token, marks, with_mark, piece_at, is_blank, is_letter, is_digit, is_word, first_is}
+use Rattle.work_code.specs.Lexis.{begins_with, var_piece, number_piece, decimal_from, most, symbol_piece}
 use Rattle.work_code.specs.Symbols.{short_symbol, long_symbol, symbol_bytes}
 use Rattle.work_code.specs.Tok.{Tok, Mark, toks, name, var, number, symbol}
 use Rattle.work_code.specs.declared.sign.Symbol.{Symbol}

@@ -1,5 +1,5 @@
 -- The printed text of statements.
-use Rattle.std.proofs.Common.{◌≡◌, List, [], ◌∷◌, ◌++◌, refl, sym, ap, ◌∙◌, append_assoc}
+use Rattle.std.proofs.Common.{◌≡◌, List, [], ◌∷◌, ◌++◌, refl, ap, ◌∙◌, append_assoc}
 use Rattle.std.specs.Prelude.{ℕ, codes}
 use Rattle.std.proofs.Common.{map}
 use Rattle.work_code.specs.Steps.{Step, Steps, Done, Then, in_turn, step, steps, statements, step_at, steps_at}

@@ -1,7 +1,6 @@
 -- What is true of the tokens of all texts.
-use Rattle.std.specs.Prelude.{◌≡◌, ◌⊎◌, ℕ, ◌-◌, ◌<◌, ◌≤◌, Bool, true, false, ◌&&◌, ◌||◌, List, [], ◌∷◌, ◌++◌, take, drop, length, Result, Ok, Err}
+use Rattle.std.specs.Prelude.{◌≡◌, ◌⊎◌, ℕ, ◌-◌, ◌<◌, ◌≤◌, Bool, true, false, ◌&&◌, ◌||◌, List, [], ◌∷◌, ◌++◌, take, drop, length, Ok, Err}
 use Rattle.std.specs.List.{list_all, concat}
-use Rattle.work_code.specs.declared.fault.LexFault.{LexFault}
 use Rattle.work_code.specs.declared.fault.LexFault.TheVariants.{BadByte, BigNumber}
 use Rattle.work_code.specs.Tok.{Tok, name, var, number, symbol, Mark}
 use Rattle.work_code.specs.Symbols.{symbol_bytes}

@@ -1,7 +1,6 @@
 -- What a body does with a row of inputs.
 use Rattle.std.specs.Prelude.{◌<◌, ◌≤◌, ℕ, ℤ, List, [], ◌∷◌, ◌++◌, length, map, if◌then◌else◌, slice_set}
 use Rattle.std.specs.List.{AllByRecursion}
-use Rattle.work_code.specs.Term.{Term}
 use Rattle.work_code.specs.Steps.{Step, Steps, Set, Push, If, Done, Then}
 use Rattle.work_code.specs.Value.{val, is_true, IsWithin}
 

@@ -1,5 +1,5 @@
 -- The symbols of a program's text.
-use Rattle.std.specs.Prelude.{ℕ, List, [], ◌∷◌, Bool, Option, Some, None, ◌==◌, ◌&&◌, if◌then◌else◌}
+use Rattle.std.specs.Prelude.{ℕ, List, [], ◌∷◌, Option, Some, None, ◌==◌, ◌&&◌, if◌then◌else◌}
 use Rattle.work_code.specs.declared.sign.Symbol.{Symbol}
 use Rattle.work_code.specs.declared.sign.Symbol.TheVariants.{Plus, Minus, Star, Slash, Percent, Open, Close, OpenBracket, CloseBracket, OpenBrace, CloseBrace}
 use Rattle.work_code.specs.declared.sign.Symbol.TheVariants.{Comma, Semicolon, Colon, Dot, Assign, Equal, NotEqual, Different, Less, LessEqual, Greater}

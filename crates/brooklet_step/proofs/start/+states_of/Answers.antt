@@ -26,4 +26,4 @@ returns-in_ok-append-in-Fused t c =
     let st = c.in_ok-states-in-Fused.states in
     let more = c.in_ok-states_of-in-Fused.field-0 in
     subst (λ i. IsFirst i c.append.new.self) (sym ek)
-    (subst (IsFirst (fused a b at)) (sym c.in_ok-append-in-Fused.ensures) (fused_first a b at st more (subst IsFormed ek c.requires) c.in_ok-states-in-Fused.ensures c.in_ok-states_of-in-Fused.ensures))
+    (subst (IsFirst (fused a b at)) (sym c.in_ok-append-in-Fused.ensures.ok) (fused_first a b at st more (subst IsFormed ek c.requires) c.in_ok-states-in-Fused.ensures c.in_ok-states_of-in-Fused.ensures))

@@ -1,7 +1,7 @@
 use Rattle.std.proofs.Common.{ap, ◌∙◌, [], take}
 use Rattle.work_code.specs.Steps.{steps}
 use Rattle.work_code.specs.Ran.{ran}
-use Rattle.streamit_unroll.proofs.FilterRead.{kept_zeros}
+use Rattle.streamit_unroll.proofs.RunOnNothing.{kept_zeros}
 use Rattle.streamit_unroll.proofs.filters.after_one_run.Goals as goal
 
 pub returns : goal.returns

@@ -1,7 +1,7 @@
-use Rattle.std.proofs.Common.{◌≡◌, ◌+◌, ◌<◌, ◌≤◌, length, drop, is_ok, sym, ap, ◌∙◌, subst, arith, length-drop, []}
+use Rattle.std.proofs.Common.{◌≡◌, ◌+◌, ◌≤◌, length, drop, is_ok, sym, ap, ◌∙◌, arith, length-drop}
 use Rattle.std.proofs.ResultArms.{chosen}
 use Rattle.std.proofs.lemmas.List.{map-append}
-use Rattle.std.specs.Prelude.{map, ◌∷◌, ◌++◌}
+use Rattle.std.specs.Prelude.{map}
 use Rattle.work_code.specs.Lexis.{piece_at, token, marks}
 use Rattle.work_code.specs.Tok.{token_of, mark_of}
 use Rattle.work_code.proofs.Marks.{after_marks, marks-token}

@@ -1,8 +1,8 @@
-use Rattle.std.proofs.Common.{◌≡◌, List, ap, map, sym, []}
+use Rattle.std.proofs.Common.{sym}
 use Rattle.std.proofs.lemmas.Bool.{true≢false}
 use Rattle.std.proofs.lemmas.Result.{on_ok_weaker}
 use Rattle.std.specs.Prelude.{codes}
-use Rattle.work_code.specs.Steps.{Step, step, steps, statements}
+use Rattle.work_code.specs.Steps.{steps}
 use Rattle.work_code.specs.Printed.{more_text, body_text, else_text}
 use Rattle.work_code.proofs.Texts.{two, three, body_text-is, else_of}
 use Rattle.work_code.proofs.printing.+write_step.Goals as goal

@@ -1,5 +1,5 @@
-use Rattle.std.proofs.Common.{◌≡◌, ◌+◌, ◌<◌, ◌≤◌, drop, sym, ap, ◌∙◌, arith}
-use Rattle.work_code.specs.Tok.{tokens_of, token_of}
+use Rattle.std.proofs.Common.{◌+◌, drop, sym, ap, ◌∙◌, arith}
+use Rattle.work_code.specs.Tok.{tokens_of}
 use Rattle.work_code.specs.Cut.{unit_len}
 use Rattle.work_code.proofs.Cuts.{length-next, length-last, braces-few}
 use Rattle.work_code.proofs.unit.unit_len.Goals as goal

@@ -1,5 +1,5 @@
-use Rattle.std.proofs.Common.{◌≡◌, ◌+◌, ◌<◌, ◌≤◌, ◌++◌, length, drop, take, sym, ap, ◌∙◌, arith, append-nil}
-use Rattle.work_code.specs.Cut.{units_of, unit_len}
+use Rattle.std.proofs.Common.{◌+◌, ◌++◌, drop, sym, ap, ◌∙◌, arith, append-nil}
+use Rattle.work_code.specs.Cut.{units_of}
 use Rattle.work_code.specs.Tok.{tokens_of, toks}
 use Rattle.work_code.proofs.Cuts.{cut-end, toks-marks, units-next}
 use Rattle.work_code.proofs.unit.units.Goals as goal

@@ -1,5 +1,4 @@
 use Rattle.std.proofs.Common.{◌≡◌, ◌-◌, ◌≤◌, ◌++◌, drop, length}
-use Rattle.std.specs.Prelude.{map}
 use Rattle.work_code.specs.Cut.{units_of}
 use Rattle.work_code.specs.Tok.{tokens_of}
 use Rattle.work_code.proofs.unit.units.Given as goal

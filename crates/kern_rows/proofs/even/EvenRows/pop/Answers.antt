@@ -1,4 +1,4 @@
-use Rattle.std.proofs.Common.{◌≡◌, ◌-◌, ◌∷◌, drop, ap, sym, ◌∙◌, subst}
+use Rattle.std.proofs.Common.{◌-◌, ◌∷◌, drop, ap, sym, ◌∙◌, subst}
 use Rattle.kern_rows.specs.Even.{cut, AreEven}
 use Rattle.kern_rows.proofs.Cuts.{pop-is, even-rest}
 use Rattle.kern_rows.proofs.even.EvenRows.pop.Goals as goal

@@ -1,4 +1,3 @@
-use Rattle.std.proofs.Common.{arith}
 use Rattle.kern_rows.proofs.Cuts.{push-is, even-more}
 use Rattle.kern_rows.proofs.even.EvenRows.push.Goals as goal
 

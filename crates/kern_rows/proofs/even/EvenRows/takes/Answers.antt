@@ -1,5 +1,4 @@
 use Rattle.std.proofs.Common.{◌≡◌, length, arith}
-use Rattle.std.specs.Prelude.{IsTrue, nat_eq}
 use Rattle.std.proofs.lemmas.Bool.Decides.{nat_tests}
 use Rattle.kern_rows.proofs.Cuts.{wide-is}
 use Rattle.kern_rows.proofs.even.EvenRows.takes.Goals as goal
