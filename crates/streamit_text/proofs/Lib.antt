@@ -1,5 +1,5 @@
 pub mod Adding
-pub mod Fields
+pub mod FieldSteps
 pub mod Named
 pub mod Places
 pub mod Programs

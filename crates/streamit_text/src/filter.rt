@@ -28,9 +28,9 @@ fn field(reader: &mut Reader<'_>) -> Result<Name, Fault>
     Ok(name)
 }
 
-// The fields of a filter.
-#[tactic(auto, unfolding(crate::specs::Reading::fields_at), using(crate::proofs::Fields::fields))]
-fn fields(reader: &mut Reader<'_>, alloc: Global) -> Result<Vec<Name>, Fault>
+/// The fields of a filter: `int NAME;` as often as it comes.
+#[tactic(auto, unfolding(crate::specs::Reading::fields_at), using(crate::proofs::FieldSteps::fields))]
+pub fn fields(reader: &mut Reader<'_>, alloc: Global) -> Result<Vec<Name>, Fault>
     ensures { Gives (λ names. names.items) result reader.new (fields_at reader.old) }
 {
     let mut names = Vec::new(alloc);

@@ -31,9 +31,9 @@ pub trait Leaves {
 /// StreamIt's own leaves: NUMBER, NAME and `pop()`.
 pub struct Plain;
 
-// What stands behind `pop`.
+/// What stands behind the word `pop`: `()`.
 #[tactic(auto, unfolding(crate::specs::Leaves::pop_at))]
-pub(crate) fn pop(reader: &mut Reader<'_>, brackets: u32) -> Result<Expr, Fault>
+pub fn pop(reader: &mut Reader<'_>, brackets: u32) -> Result<Expr, Fault>
     ensures reads { Gives expression result reader.new (pop_at brackets reader.old) }
     ensures depth { IfOk result (λ e. depth_of (expression e) ≡ 1) }
 {

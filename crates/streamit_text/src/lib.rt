@@ -14,9 +14,12 @@ mod term;
 mod tree;
 mod unit;
 
-pub use leaves::{Leaves, Plain};
+pub use filter::fields;
+pub use leaves::{Leaves, Plain, pop};
+pub use names::{name, own, parens};
 pub use program::{Adds, Body, Declaration, RoundRobin, Split, SplitJoin};
 pub use read::read_streamit;
-pub use statement::{ForHead, Upper};
+pub use statement::{ForHead, Upper, round_head};
+pub use still::{is_still, stay};
 pub use term::{Sign, Streamit};
 pub use tree::{Block, Expr, FilterTree, Rates, Statement, Until, WorkTree};

@@ -203,9 +203,9 @@ fn inner_head<L: Leaves>(
     }
 }
 
-// The head of a `for` in its brackets.
+/// The head of a `for` in its brackets.
 #[tactic(auto, unfolding(crate::specs::Blocks::round_head_at, text_blocks::specs::Parts::round_at))]
-fn round_head<L: Leaves>(
+pub fn round_head<L: Leaves>(
     language: &Streamit<L>,
     reader: &mut Reader<'_>,
     alloc: Global,

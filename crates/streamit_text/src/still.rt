@@ -5,8 +5,8 @@ ghost use Rattle.streamit_text.specs.Tree.{expression, option_expression, statem
 
 use crate::{Block, Expr, Statement};
 
-// Whether none stands in the expression.
-fn is_still(e: &Expr) -> bool
+/// Whether no `push`, `pop` and `peek` stands in the expression.
+pub fn is_still(e: &Expr) -> bool
     ensures { result ≡ is_still (expression e.now) }
 {
     match e {
@@ -58,7 +58,7 @@ fn stays(one: &Statement) -> bool
     }
 }
 
-/// Whether none stands in the block.
+/// Whether no `push`, `pop` and `peek` stands in the block.
 #[cycle(still)]
 #[tactic(auto, using(crate::proofs::Trees::trees))]
 pub fn stay(all: &Block) -> bool

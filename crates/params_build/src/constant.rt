@@ -1,0 +1,55 @@
+// Constants judged: whether their names are known.
+ghost use Rattle.std.specs.Prelude.{◌≡◌};
+ghost use Rattle.text_blocks.specs.Parts.{optional};
+ghost use Rattle.streamit_text.specs.Tree.{expression, option_expression};
+ghost use Rattle.params_text.specs.Program.{expressions, rounds_of};
+ghost use Rattle.params_model.specs.Judged.{are_known, all_known, known_option, all_known_option};
+
+use params_text::{Rounds, is_one_of};
+use river_base::Name;
+use streamit_text::Expr;
+
+/// Whether each name of the constant is one of these.
+#[tactic(auto, using(crate::proofs::Trees::names))]
+pub fn are_known(names: &[Name], c: &Expr) -> bool
+    ensures { result ≡ are_known names.now (expression c.now) }
+{
+    match c {
+        Expr::Number(_) | Expr::Pop => true,
+        Expr::Name(name) => is_one_of(names, name),
+        Expr::Peek(inner) | Expr::Neg(inner) | Expr::Not(inner) => are_known(names, inner),
+        Expr::Bin { left, right, .. } => are_known(names, left) && are_known(names, right),
+    }
+}
+
+/// Whether each name of the constants is.
+pub fn all_known(names: &[Name], cs: &Vec<Expr>) -> bool
+    ensures { result ≡ all_known names.now (expressions cs.now) }
+{
+    'items: for each in cs.as_slice() {
+        if !are_known(names, each) {
+            return false;
+        }
+    }
+    true
+}
+
+/// Whether each name of a rate is, where it is written.
+pub fn known_option(names: &[Name], c: &Option<Expr>) -> bool
+    ensures { result ≡ known_option names.now (optional expression c.now) }
+{
+    match c {
+        Some(c) => are_known(names, c),
+        None => true,
+    }
+}
+
+/// Whether each name of the weights is, where there are brackets.
+pub fn all_known_option(names: &[Name], rounds: &Rounds) -> bool
+    ensures { result ≡ all_known_option names.now (rounds_of rounds.now) }
+{
+    match &rounds.weights {
+        Some(cs) => all_known(names, cs),
+        None => true,
+    }
+}

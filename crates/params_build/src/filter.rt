@@ -1,0 +1,145 @@
+// Filters judged: no field, local or variable of a loop has a parameter's name, and no parameter is
+// assigned.
+ghost use Rattle.std.specs.Prelude.{◌≡◌, ℕ, not, ◌&&◌};
+ghost use Rattle.text_blocks.specs.Parts.{optional};
+ghost use Rattle.streamit_text.specs.Tree.{expression, statement, block, optional_block};
+ghost use Rattle.params_text.specs.Program.{work_of, filter_of};
+ghost use Rattle.params_model.specs.Judged.{and_then, known_option, other_names, statement_judged, block_judged, optional_judged, rates_judged, work_judged, prework_judged};
+ghost use Rattle.params_model.specs.Judged.{filter_judged};
+ghost use Rattle.params_text.specs.Params.{is_one_of};
+ghost use Rattle.params_model.specs.Making.{NameTwice, demand};
+ghost use Rattle.params_build.specs.Told.{Judges};
+
+use crate::Fault;
+use crate::constant::known_option;
+use params_text::{ParamFilter, ParamRates, ParamWork, is_one_of};
+use river_base::Name;
+use streamit_text::{Block, Statement};
+
+// The fields.
+fn other_names(params: &[Name], names: &[Name]) -> Result<(), Fault>
+    ensures { (k : ℕ) → Judges k result (other_names k params.now names.now) }
+{
+    'names: for each in names {
+        if is_one_of(params, each) {
+            return Err(Fault::NameTwice);
+        }
+    }
+    Ok(())
+}
+
+// A name that is declared.
+fn declared(params: &[Name], name: &Name) -> Result<(), Fault>
+    ensures { (k : ℕ) → Judges k result (demand (not (is_one_of params.now name.now)) k NameTwice) }
+{
+    if is_one_of(params, name) {
+        Err(Fault::NameTwice)
+    } else {
+        Ok(())
+    }
+}
+
+// A statement.
+#[cycle(judged)]
+#[tactic(auto, using(streamit_text::proofs::Trees::trees))]
+fn statement(params: &[Name], one: &Statement) -> Result<(), Fault>
+    ensures { (k : ℕ) → Judges k result (statement_judged k params.now (statement one.now)) }
+{
+    match one {
+        Statement::Declare { name, .. } => declared(params, name),
+        Statement::Assign { name, .. } => {
+            if is_one_of(params, name) {
+                Err(Fault::NotConstant)
+            } else {
+                Ok(())
+            }
+        }
+        Statement::Push(_) | Statement::Pop => Ok(()),
+        Statement::If { yes, no, .. } => {
+            block(params, yes)?;
+            optional_block(params, no)
+        }
+        Statement::For { name, body, .. } => {
+            declared(params, name)?;
+            block(params, body)
+        }
+    }
+}
+
+// A block.
+#[cycle(judged)]
+fn block(params: &[Name], all: &Block) -> Result<(), Fault>
+    ensures { (k : ℕ) → Judges k result (block_judged k params.now (block all.now)) }
+{
+    'items: for each in all.items.as_slice() {
+        match statement(params, each) {
+            Ok(()) => {}
+            Err(fault) => return Err(fault),
+        }
+    }
+    Ok(())
+}
+
+// A block that may be left out.
+#[cycle(judged)]
+fn optional_block(params: &[Name], all: &Option<Block>) -> Result<(), Fault>
+    ensures { (k : ℕ) → Judges k result (optional_judged k params.now (optional_block all.now)) }
+{
+    match all {
+        Some(all) => block(params, all),
+        None => Ok(()),
+    }
+}
+
+// The rates.
+fn rates(params: &[Name], rates: &ParamRates) -> bool
+    ensures { result ≡ (known_option params.now (optional expression rates.now.push) && (known_option params.now (optional expression rates.now.pop) && known_option params.now (optional expression rates.now.peek))) }
+{
+    known_option(params, &rates.push)
+        && known_option(params, &rates.pop)
+        && known_option(params, &rates.peek)
+}
+
+// `work` or `prework`.
+fn work(params: &[Name], work: &ParamWork) -> Result<(), Fault>
+    ensures { (k : ℕ) → Judges k result (work_judged k params.now (work_of work.now)) }
+{
+    if !rates(params, &work.rates) {
+        return Err(Fault::UnknownName);
+    }
+    block(params, &work.block)
+}
+
+// `prework`, which may be left out.
+fn prework(params: &[Name], prework: &Option<ParamWork>) -> Result<(), Fault>
+    ensures { (k : ℕ) → Judges k result (prework_judged k params.now (optional work_of prework.now)) }
+{
+    match prework {
+        Some(one) => work(params, one),
+        None => Ok(()),
+    }
+}
+
+// `prework`, which may be left out, and `work`.
+fn works(params: &[Name], tree: &ParamFilter) -> Result<(), Fault>
+    ensures { (k : ℕ) → Judges k result (and_then (prework_judged k params.now (optional work_of tree.now.prework)) (work_judged k params.now (work_of tree.now.work))) }
+{
+    prework(params, &tree.prework)?;
+    work(params, &tree.work)
+}
+
+// What stands behind the fields.
+fn blocks(params: &[Name], tree: &ParamFilter) -> Result<(), Fault>
+    ensures { (k : ℕ) → Judges k result (and_then (optional_judged k params.now (optional_block tree.now.init)) (and_then (prework_judged k params.now (optional work_of tree.now.prework)) (work_judged k params.now (work_of tree.now.work)))) }
+{
+    optional_block(params, &tree.init)?;
+    works(params, tree)
+}
+
+/// A filter with these parameters.
+pub fn filter(params: &[Name], tree: &ParamFilter) -> Result<(), Fault>
+    ensures { (k : ℕ) → Judges k result (filter_judged k params.now (filter_of tree.now)) }
+{
+    other_names(params, tree.fields.as_slice())?;
+    blocks(params, tree)
+}

@@ -1,0 +1,10 @@
+pub mod Accepted
+pub mod InstanceNames
+pub mod Instances
+pub mod MadeStands
+pub mod Names
+pub mod Put
+pub mod Puts
+pub mod Readable
+pub mod Refused
+pub mod Values

@@ -1,0 +1,9 @@
+pub mod Environment
+pub mod Faulty
+pub mod Judged
+pub mod Laws
+pub mod Making
+pub mod Meaning
+pub mod Places
+pub mod Plain
+pub mod Written

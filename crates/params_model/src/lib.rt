@@ -1,0 +1,4 @@
+//! What programs with parameters mean, the plain programs that are written out for them, and what follows from that.
+#![tactic(auto)]
+
+pub mod laws;

@@ -1,0 +1,15 @@
+pub mod Begins
+pub mod Chained
+pub mod ExactParameters
+pub mod ExactSteps
+pub mod Faults
+pub mod Grammar
+pub mod Laws
+pub mod Parameters
+pub mod Params
+pub mod Program
+pub mod Reading
+pub mod Steps
+pub mod Told
+pub mod Toks
+pub mod View

@@ -1,0 +1,22 @@
+//! StreamIt programs with parameters as they are written: their tree, their grammar, and the code that reads them from tokens; and
+//! the text of a plain program.
+#![tactic(auto)]
+
+mod both;
+mod constant;
+mod filter;
+pub mod laws;
+mod low;
+mod parameters;
+mod program;
+mod read;
+mod step;
+mod unit;
+
+pub use parameters::{WithParameters, is_one_of};
+pub use program::{
+    ParamBody, ParamFilter, ParamRates, ParamSplit, ParamSplitJoin, ParamUnit, ParamWork, Rounds,
+    Step, Steps,
+};
+pub use read::read_params;
+pub use step::StepWords;

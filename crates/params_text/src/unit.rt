@@ -1,0 +1,86 @@
+// Units read.
+ghost use Rattle.std.specs.Prelude.{◌≡◌};
+ghost use Rattle.text_forms.specs.Gives.{Gives};
+ghost use Rattle.params_text.specs.Program.{body_of, declared_of};
+ghost use Rattle.params_text.specs.Reading.{body_after, kind_after, unit_at};
+
+use crate::both::both;
+use crate::constant::{params, stream_name};
+use crate::filter::filter;
+use crate::step::pipe;
+use crate::{ParamBody, ParamUnit};
+use river_base::Name;
+use std::alloc::Global;
+use text_forms::{Fault, Reader, Units};
+use work_code::Symbol;
+
+// What stands behind the name and the parameters of a stream of this kind.
+#[tactic(auto, unfolding(crate::specs::Reading::body_after))]
+fn body_after(
+    reader: &mut Reader<'_>,
+    alloc: Global,
+    brackets: u32,
+    word: &[u8],
+    params: &[Name],
+) -> Result<ParamBody, Fault>
+    ensures { Gives body_of result reader.new (body_after brackets word.now params.now reader.old) }
+{
+    if word == b"filter".as_slice() {
+        return Ok(ParamBody::Filter(filter(reader, alloc, params, brackets)?));
+    }
+    if word == b"pipeline".as_slice() {
+        return Ok(ParamBody::Pipeline(pipe(reader, alloc, brackets)?));
+    }
+    if word == b"splitjoin".as_slice() {
+        return Ok(ParamBody::SplitJoin(both(reader, alloc, brackets)?));
+    }
+    Err(Fault::Syntax)
+}
+
+// What stands behind the kind of a stream.
+#[tactic(auto, unfolding(crate::specs::Reading::kind_after, crate::specs::Reading::with_params_at))]
+fn kind_after(
+    reader: &mut Reader<'_>,
+    alloc: Global,
+    brackets: u32,
+    word: &[u8],
+) -> Result<ParamUnit, Fault>
+    ensures { Gives declared_of result reader.new (kind_after brackets word.now reader.old) }
+{
+    let name = stream_name(reader)?;
+    let params = params(reader, alloc, brackets)?;
+    let body = body_after(reader, alloc, brackets, word, params.as_slice())?;
+    Ok(ParamUnit { name, params, body })
+}
+
+// A unit.
+#[tactic(auto, unfolding(crate::specs::Reading::unit_at))]
+fn unit(reader: &mut Reader<'_>, alloc: Global) -> Result<ParamUnit, Fault>
+    ensures { Gives declared_of result reader.new (unit_at reader.old) }
+{
+    reader.word(b"int")?;
+    reader.expect(&[Symbol::Arrow])?;
+    reader.word(b"int")?;
+    let word = reader.name()?;
+    kind_after(reader, alloc, 128, word)
+}
+
+/// The units of a program with parameters.
+pub struct ParamUnits;
+
+impl Units for ParamUnits {
+    ghost use Rattle.params_text.specs.Program.{Declared, declared_of};
+    ghost use Rattle.params_text.specs.Reading.{unit_at};
+
+    type Unit = ParamUnit;
+
+    ghost UnitTree = { Declared };
+
+    ghost unit_tree = { declared_of };
+
+    ghost unit = { λ _. unit_at };
+
+    fn unit(&self, reader: &mut Reader<'_>, alloc: Global) -> Result<ParamUnit, Fault> {
+        unit(reader, alloc)
+    }
+}
