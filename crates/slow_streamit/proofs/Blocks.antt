@@ -8,7 +8,7 @@ use Rattle.river_base.specs.Name.{name_eq}
 use Rattle.river_plan.specs.Forms.{Name}
 use Rattle.brooklet_model.specs.Machine.{at_name}
 use Rattle.streamit_text.specs.Tree as source
-use Rattle.streamit_model.specs.Meaning.{Values, State, numbers, each_turn, exec, exec_all, nought}
+use Rattle.streamit_model.specs.Meaning.{State, numbers, each_turn, exec, exec_all, nought}
 use Rattle.streamit_unroll.specs.Unrolling.{AreWritten}
 use Rattle.streamit_text.specs.Tree.{in_turn}
 use Rattle.slow_streamit.specs.Firing.{or_nought}

@@ -76,7 +76,14 @@ fn fire_all(
     if items.len() < peek.max(1) {
         return Ok(());
     }
-    fire(alloc, tree.fields.as_slice(), &first.block, &items[..peek], kept, out)?;
+    fire(
+        alloc,
+        tree.fields.as_slice(),
+        &first.block,
+        &items[..peek],
+        kept,
+        out,
+    )?;
     fire_others(alloc, tree, pop_of(first.rates), items, kept, out)
 }
 
@@ -115,7 +122,14 @@ fn fire_others(
         if end > items.len() {
             return Ok(());
         }
-        fire(alloc, tree.fields.as_slice(), &tree.work.block, &items[start..end], kept, out)?;
+        fire(
+            alloc,
+            tree.fields.as_slice(),
+            &tree.work.block,
+            &items[start..end],
+            kept,
+            out,
+        )?;
         start += pop;
     }
     Ok(())

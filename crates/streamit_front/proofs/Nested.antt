@@ -1,5 +1,5 @@
 -- The grammar lets `if` and `for` nest at most 16 deep, and no `if` of a plan nests deeper than they do in its program.
-use Rattle.std.proofs.Common.{◌≡◌, ℕ, zero, suc, ◌≤◌, ◌+◌, ◌-◌, Bool, true, false, List, [], ◌∷◌, Option, Some, None, Ok, Err, sym, subst, arith}
+use Rattle.std.proofs.Common.{◌≡◌, ℕ, suc, ◌≤◌, ◌+◌, ◌-◌, Bool, true, false, List, [], ◌∷◌, Option, Some, None, Ok, Err, sym, subst, arith}
 use Rattle.std.specs.Prelude.{max, codes, if◌then◌else◌, nat_eq, ◌&&◌}
 use Rattle.std.specs.List.{AllByRecursion}
 use Rattle.std.specs.Str.{bytes_eq}
@@ -7,7 +7,6 @@ use Rattle.work_code.specs.Steps.{Step, Steps, Done}
 use Rattle.work_code.specs.Steps as steps
 use Rattle.work_code.specs.Term.{Term}
 use Rattle.work_code.specs.Tok.{Tok}
-use Rattle.text_forms.specs.Forms as form
 use Rattle.kern_rows.specs.Forms.{FilterForm, RunForm}
 use Rattle.river_plan.specs.Forms.{Name}
 use Rattle.streamit_text.specs.Tree.{Statement, Declare, Assign, Push, Discard, If, For, Block, End, Then, Optional, Unwritten, Written, in_turn, or_unwritten}

@@ -18,7 +18,7 @@ use Rattle.streamit_text.specs.ExactLeaves.{apart}
 use Rattle.streamit_text.specs.ExactStatements.{exact-own, exact-empty, exact-streamit}
 use Rattle.streamit_text.specs.Program.{WorkTree, Turns, Body, AFilter, APipeline}
 use Rattle.streamit_text.specs.Tree.{Block, Optional, or_unwritten}
-use Rattle.streamit_text.specs.Grammar.{Weight, stay, IsBlock, IsInit, IsField, push, pop, peek, IsRate, Rates, rates_in, unwritten, AreRates}
+use Rattle.streamit_text.specs.Grammar.{Weight, stay, IsBlock, IsInit, IsField, push, pop, peek, IsRate, rates_in, unwritten, AreRates}
 use Rattle.streamit_text.specs.Grammar.{made_work, IsWork, IsPrework, AreWorks, made_filter, InFilter, Braces, none_there, Parens, the_name, Called, IsAdd, made_adds, AreAdds, Weights, copying}
 use Rattle.streamit_text.specs.Grammar.{IsSplit, IsJoin, made_both, InBoth, BodyAfter, made_unit, KindAfter, IsUnit, IsUnitAt}
 use Rattle.streamit_text.specs.Reading.{block_at, still_at, init_at, no_field, field_at, fields_at, rate_after, rate_at, at_block, rate_list_at, rates_at}

@@ -1,6 +1,6 @@
 -- Statements that were read so far, and those that are read after them.
-use Rattle.std.proofs.Common.{◌≡◌, ℕ, suc, ◌+◌, ◌-◌, ◌<◌, ◌≤◌, List, [], ◌∷◌, ◌++◌, length, take, drop, map, get_or, Bool, true, Result, Ok, Err, refl, sym, ap}
-use Rattle.std.proofs.Common.{◌∙◌, subst, arith, append_assoc, append-nil, drop-cons, add-one}
+use Rattle.std.proofs.Common.{◌≡◌, ℕ, suc, ◌+◌, ◌-◌, ◌<◌, ◌≤◌, List, [], ◌∷◌, ◌++◌, length, take, map, Bool, true, Result, Ok, Err, refl, sym, ap}
+use Rattle.std.proofs.Common.{◌∙◌, subst, arith, append_assoc, append-nil}
 use Rattle.work_code.specs.declared.code.Stmt.{Stmt}
 use Rattle.work_code.specs.declared.code.Stmts.{Stmts}
 use Rattle.work_code.specs.Steps.{Step, Steps, Done, step, statements, in_turn}
@@ -22,7 +22,7 @@ use Rattle.streamit_unroll.specs.Unrolling.{at_of, KeepsNames, AreWritten, Reads
 use Rattle.streamit_unroll.specs.declared.fault.Fault as fault
 use Rattle.streamit_unroll.specs.declared.fault.Fault.TheVariants as faults
 use Rattle.streamit_model.specs.Elaborate as spec
-use Rattle.std.proofs.lemmas.List.{map-append, drop_all, take_all}
+use Rattle.std.proofs.lemmas.List.{map-append, take_all}
 
 abbrev pub good : {A : Type 0} → A → Result A Fault
 good x = Ok x
