@@ -1,3 +1,4 @@
+pub mod CapLemmas
 pub mod JudgeLemmas
 pub mod NameLemmas
 pub mod OneFirst

@@ -1,5 +1,6 @@
 pub mod ByPlace
 pub mod ByUsers
+pub mod Caps
 pub mod Decided
 pub mod Faults
 pub mod First

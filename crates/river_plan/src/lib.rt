@@ -1,6 +1,7 @@
 //! Plans: queues, variables and operators, and the check of a plan.
 #![tactic(auto)]
 
+mod caps;
 mod declared;
 mod fault;
 mod judge;
@@ -19,6 +20,7 @@ mod types;
 mod valid;
 mod wiring;
 
+pub use caps::{Cap, Caps, CapsByName};
 pub use fault::{Named, PlanFault};
 pub use judge::check;
 pub use kinds::queue_kinds;
