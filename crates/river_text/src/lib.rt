@@ -16,6 +16,7 @@ mod river_fault;
 mod term;
 
 pub use fault::TextFault;
-pub use front::compile_river;
+pub use entry::RiverText;
+pub use front::{RiverPlan, compile_river};
 pub use read::read_river;
 pub use river_fault::RiverFault;
