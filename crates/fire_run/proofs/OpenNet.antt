@@ -1,7 +1,7 @@
 -- Fresh tasks with rings between them, and empty cells, are a net.
 use Rattle.std.proofs.Common.{◌≡◌, ℕ, zero, suc, ◌<◌, Some, List, [], ◌∷◌, length, refl, sym, ap, ◌∙◌, arith, subst, get_or}
 use Rattle.std.specs.Prelude.{slice_get, false, All}
-use Rattle.std.proofs.lemmas.Option.{get_or_from_slice_get, slice_get-get_or, slice_get_within}
+use Rattle.std.proofs.lemmas.Option.{slice_get-get_or, slice_get_within}
 use Rattle.river_base.specs.declared.item.Item as item
 use Rattle.river_plan.specs.Caps.{IsCap, AreCaps, capacity, first_cap}
 use Rattle.river_plan.specs.Forms.{Name, OpForm, PlanForm}
@@ -15,13 +15,14 @@ use Rattle.brooklet_model.proofs.Traces.{some_is, got_count, at_most}
 use Rattle.fire_open.specs.declared.settling.Link.{Link}
 use Rattle.fire_tasks.specs.declared.task.Task.{Task}
 use Rattle.fire_open.specs.Fresh.{AreFresh}
-use Rattle.fire_open.specs.Links.{AreLinks, queue_of, room_of, writes_in}
+use Rattle.fire_open.specs.Links.{AreLinks, room_of}
 use Rattle.fire_open.specs.Rings.{Body, body, NoReader, NoWriter, AreRung}
 use Rattle.fire_open.proofs.Lists.{same_got, map_long}
 use Rattle.std.proofs.lemmas.List.Elements.{All-nil, All-head, All-tail}
 use Rattle.class_locks.specs.Logs.{Holding}
 use Rattle.fire_tasks.specs.Adds.{IsEntryOf, added, logs_of, rows_by, table_at, table_class}
 use Rattle.fire_open.specs.Homes.{AreClassCells}
+use Rattle.fire_open.proofs.RoomLemmas.{queue_here}
 use Rattle.fire_open.proofs.OpenLemmas.{body_task}
 use Rattle.fire_run.specs.NetOf.{IsNetOf}
 use Rattle.fire_run.proofs.MoveLemmas.{with_adds}
@@ -34,10 +35,6 @@ blank_log (x ∷ xs) h (suc c) = blank_log xs (All-tail (λ (y : Holding). y.log
 
 none_added_yet : (p : PlanForm) (cells : List Holding) → All (λ (x : Holding). x.log ≡ []) cells → (o j : ℕ) → added p (logs_of cells) o j ≡ []
 none_added_yet p cells h o j = ap (rows_by o (table_at p o j)) (blank_log cells h (table_class p (table_at p o j)))
-
--- a link has the queue that its writer writes
-queue_here : (p : PlanForm) (l : Link) (op : OpForm) (q : Name) → slice_get p.ops l.writer ≡ Some op → slice_get op.writes l.out ≡ Some q → queue_of p l ≡ q
-queue_here p l op q g w = ap (λ o. get_or (writes_in o) l.out []) g ∙ get_or_from_slice_get op.writes l.out q [] w
 
 -- fresh tasks with rings and empty cells are a net
 pub opened : (p : PlanForm) (inputs : List (List item.Item)) (cap : ℕ) (caps : List Cap) (ts0 ts : List Task) (ls : List Link) (cells : List Holding) → IsPlan p
