@@ -48,7 +48,11 @@ fn first_place(tokens: &Tokens<'_>) -> Place
     ensures { result ≡ first_place tokens.now }
 {
     Place {
-        stage: if is_second_short(tokens.as_slice()) { 0 } else { 1 },
+        stage: if is_second_short(tokens.as_slice()) {
+            0
+        } else {
+            1
+        },
         headed: false,
     }
 }
