@@ -56,7 +56,7 @@ fn plan_of(alloc: Global, text: &[u8]) -> Result<Plan, Broken> {
         return Err(Broken::Text);
     }
     match compile_river(alloc, &text) {
-        Ok(plan) => Ok(plan),
+        Ok(read) => Ok(read.plan),
         Err(_) => Err(Broken::Text),
     }
 }

@@ -5,6 +5,7 @@ pub mod Laid
 pub mod Lists
 pub mod OpenLemmas
 pub mod RingLemmas
+pub mod RoomLemmas
 pub mod Seams
 pub mod SettleLemmas
 pub mod SourceLemmas

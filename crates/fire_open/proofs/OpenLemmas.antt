@@ -100,5 +100,5 @@ no_moves (t ∷ ts) u =
     omega (arith, a, b, c)
 
 -- rings that are put between tasks move nothing
-pub none_moved : (cap : ℕ) (ts0 ts : List Task) (ls : List Link) (n : ℕ) → AreThere ts0 ls → AreRung cap ts0 ts ls n → all_moves ts ≡ 0
-none_moved cap ts0 ts ls n h r = no_moves ts (bodies_unmoved ts0 ts r.bodies h.unmoved)
+pub none_moved : (room : Link → ℕ) (ts0 ts : List Task) (ls : List Link) (n : ℕ) → AreThere ts0 ls → AreRung room ts0 ts ls n → all_moves ts ≡ 0
+none_moved room ts0 ts ls n h r = no_moves ts (bodies_unmoved ts0 ts r.bodies h.unmoved)

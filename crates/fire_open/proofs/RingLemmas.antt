@@ -23,8 +23,8 @@ use Rattle.fire_open.proofs.Lists.{same_got, map_long}
 use Rattle.fire_open.proofs.SettleLemmas.{after_task, view_stays, same_or, sent_stays, reader_is, writer_is}
 
 -- before the first link no ring was put
-pub rung_first : (cap : ℕ) (ts : List Task) (ls : List Link) → AreRung cap ts ts ls 0
-rung_first cap ts ls = record {
+pub rung_first : (room : Link → ℕ) (ts : List Task) (ls : List Link) → AreRung room ts ts ls 0
+rung_first room ts ls = record {
   bodies = refl;
   rung = λ m l f i lt. absurd (omega (arith, lt));
   ins = λ o port t t0 g g0 no. let e : t ≡ t0 = some_is t t0 (sym g ∙ g0) in ap (λ (x : Task). slice_get x.ins port) e;
@@ -66,9 +66,9 @@ pub record AsksThere (ts : List Task) (l : Link) : Type 0 where
   pub port : (d : Task) → l.port < length (get_or ts l.reader d).ins
 
 -- what is asked where the next ring is put
-pub asks_there : (cap : ℕ) (ts0 ts : List Task) (ls : List Link) (n : ℕ) (l : Link) → AreThere ts0 ls → AreRung cap ts0 ts ls n
+pub asks_there : (room : Link → ℕ) (ts0 ts : List Task) (ls : List Link) (n : ℕ) (l : Link) → AreThere ts0 ls → AreRung room ts0 ts ls n
     → slice_get ls n ≡ Some l → AsksThere ts l
-asks_there cap ts0 ts ls n l th h g =
+asks_there room ts0 ts ls n l th h g =
     let p = rung_there ts0 ts l h.bodies (th.each n l g) in
     let x = p.ends in
     record {
@@ -79,9 +79,9 @@ asks_there cap ts0 ts ls n l th h g =
     }
 
 -- one link more has its ring
-pub rung_next : (cap : ℕ) (ts0 ts ts' : List Task) (ls : List Link) (n : ℕ) (l : Link) → AreThere ts0 ls → slice_get ls n ≡ Some l
-    → AreRung cap ts0 ts ls n → Put cap ts ts' l → AreRung cap ts0 ts' ls (n + 1)
-rung_next cap ts0 ts ts' ls n l th g h put = record {
+pub rung_next : (room : Link → ℕ) (ts0 ts ts' : List Task) (ls : List Link) (n : ℕ) (l : Link) → AreThere ts0 ls → slice_get ls n ≡ Some l
+    → AreRung room ts0 ts ls n → Put (room l) ts ts' l → AreRung room ts0 ts' ls (n + 1)
+rung_next room ts0 ts ts' ls n l th g h put = record {
   bodies = bodies_stay ∙ h.bodies;
   rung = λ k l2 f i lt g2 x. each k l2 f i lt g2 x;
   ins = λ o port t' t0 gt g0 no.
@@ -116,20 +116,20 @@ rung_next cap ts0 ts ts' ls n l th g h put = record {
         (λ j. record { op = w.op; seen = record { received = received_in w.ins; sent = es j; pending = pending_in w.pending; bad = w.bad }; kinds = w.kinds; states = w.states; pending = w.pending; out = w.out; tables = w.tables; classes = w.classes; count = w.count })
         (λ j. record { op = r.op; seen = record { received = er j; sent = sent_in r.outs; pending = pending_in r.pending; bad = r.bad }; kinds = r.kinds; states = r.states; pending = r.pending; out = r.out; tables = r.tables; classes = r.classes; count = r.count })
 
-    itself : (f : outlet.Outlet) (i : inlet.Inlet) → LinkEnds ts' l f i → IsLink cap f i × IsSettled f i
+    itself : (f : outlet.Outlet) (i : inlet.Inlet) → LinkEnds ts' l f i → IsLink (room l) f i × IsSettled f i
     itself f i x =
         let ar = after_task ts ts' l put.out put.in_ there put.swapped l.reader x.t x.t_is in
         let aw = after_task ts ts' l put.out put.in_ there put.swapped l.writer x.t' x.t_is' in
-        subst (λ z. IsLink cap z i × IsSettled z i) (sym (aw.new_out refl f x.out_is)) (subst (λ z. IsLink cap put.out z × IsSettled put.out z) (sym (ar.new_in refl i x.in_is)) (put.link, put.settled))
+        subst (λ z. IsLink (room l) z i × IsSettled z i) (sym (aw.new_out refl f x.out_is)) (subst (λ z. IsLink (room l) put.out z × IsSettled put.out z) (sym (ar.new_in refl i x.in_is)) (put.link, put.settled))
 
     same_one : (k : ℕ) (l2 : Link) (f : outlet.Outlet) (i : inlet.Inlet) → slice_get ls k ≡ Some l2 → LinkEnds ts' l2 f i → ShareAnEnd l l2
-        → IsLink cap f i × IsSettled f i
+        → IsLink (room l2) f i × IsSettled f i
     same_one k l2 f i g2 x s =
         let e : l ≡ l2 = th.apart.each n k l l2 g g2 s in
-        itself f i (subst (λ y. LinkEnds ts' y f i) (sym e) x)
+        subst (λ y. IsLink (room y) f i × IsSettled f i) e (itself f i (subst (λ y. LinkEnds ts' y f i) (sym e) x))
 
     each : (k : ℕ) (l2 : Link) (f : outlet.Outlet) (i : inlet.Inlet) → k < n + 1 → slice_get ls k ≡ Some l2 → LinkEnds ts' l2 f i
-        → IsLink cap f i × IsSettled f i
+        → IsLink (room l2) f i × IsSettled f i
     each k l2 f i lt g2 x = ⊎_elim
         (λ e. same_one k l2 f i g2 x (inl e))
         (λ nr. ⊎_elim

@@ -1,5 +1,6 @@
 -- The queues between two operators, as links between their ports.
-use Rattle.std.specs.Prelude.{◌≡◌, ℕ, ◌<◌, ◌⊎◌, List, [], Some, slice_get, slice_set, slice_index_or}
+use Rattle.std.specs.Prelude.{◌≡◌, ℕ, ◌<◌, ◌⊎◌, List, [], Option, None, Some, slice_get, slice_set, slice_index_or}
+use Rattle.river_plan.specs.Caps.{OwnCaps, capacity}
 use Rattle.river_plan.specs.Forms.{Name, OpForm, PlanForm}
 use Rattle.fire_tasks.specs.declared.ports.Inlet as inlet
 use Rattle.fire_tasks.specs.declared.ports.Outlet as outlet
@@ -18,6 +19,18 @@ pub record IsLinkOf (p : PlanForm) (l : Link) : Type 0 where
   pub reads : slice_get read.reads l.port ≡ Some queue
   pub write_is : slice_get p.ops l.writer ≡ Some write
   pub writes : slice_get write.writes l.out ≡ Some queue
+
+-- the queue that the writer of a link writes there
+abbrev pub writes_in : Option OpForm → List Name
+writes_in None = []
+writes_in (Some op) = op.writes
+
+abbrev pub queue_of : PlanForm → Link → Name
+queue_of p l = slice_index_or (writes_in (slice_get p.ops l.writer)) l.out []
+
+-- how many items it holds at most
+abbrev pub room_of : PlanForm → ℕ → OwnCaps → Link → ℕ
+room_of p cap own l = capacity cap own (queue_of p l)
 
 -- there is a link for each queue between two operators, and no other
 pub record AreLinks (p : PlanForm) (ls : List Link) : Type 0 where

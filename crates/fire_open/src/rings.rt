@@ -1,11 +1,14 @@
 // The rings of a net.
 ghost use Rattle.std.specs.Prelude.{◌≡◌, ◌<◌, ◌≤◌, length, OnOk, slice_index_or};
-ghost use Rattle.fire_open.specs.Links.{Put};
+ghost use Rattle.river_plan.specs.Caps.{IsCap, AreCaps, IsOwnCap, first_cap, own_of};
+ghost use Rattle.river_plan.specs.Forms.{Name};
+ghost use Rattle.fire_open.specs.Links.{AreLinks, IsLinkOf, Put, room_of};
 ghost use Rattle.fire_open.specs.Rings.{AreThere, AreRung};
 
 use crate::Link;
 use fire_tasks::{Inlet, Outlet, Task};
 use river_base::{Listed, NoMemory};
+use river_plan::{Caps, CapsByName, Plan};
 use river_rings::ring;
 use std::alloc::Global;
 
@@ -24,20 +27,57 @@ fn put_ring(alloc: Global, tasks: &mut Listed<Task>, link: Link, cap: u32) -> Re
     Ok(())
 }
 
-/// An empty ring for each link.
+/// An empty ring for each link, which holds as many items as its queue has room for: `cap`, where
+/// these capacities have none for it.
 pub fn put_rings(
     alloc: Global,
+    plan: &Plan,
     tasks: &mut Listed<Task>,
     links: &Listed<Link>,
     cap: u32,
+    caps: &Caps,
 ) -> Result<(), NoMemory>
-    requires cap { (1 ≤ cap) × (cap ≤ 65536) }
+    requires cap { IsCap cap }
+    requires caps { AreCaps caps.now }
+    requires links { AreLinks plan.now links.now }
     requires there { AreThere tasks.old links.now }
-    ensures { OnOk result (AreRung cap tasks.old tasks.new links.now (length links.now)) }
+    ensures { OnOk result (AreRung (room_of plan.now cap (first_cap caps.now)) tasks.old tasks.new links.now (length links.now)) }
+{
+    let own = CapsByName::new(alloc, caps)?;
+    put_each(alloc, plan, tasks, links, cap, &own)
+}
+
+// The same, with the capacities by name.
+fn put_each(
+    alloc: Global,
+    plan: &Plan,
+    tasks: &mut Listed<Task>,
+    links: &Listed<Link>,
+    cap: u32,
+    own: &CapsByName,
+) -> Result<(), NoMemory>
+    requires cap { IsCap cap }
+    requires own { (queue : Name) → IsOwnCap (own_of own.now queue) }
+    requires links { AreLinks plan.now links.now }
+    requires there { AreThere tasks.old links.now }
+    ensures { OnOk result (AreRung (room_of plan.now cap (own_of own.now)) tasks.old tasks.new links.now (length links.now)) }
 {
     for place in 0..links.len() {
         let link = *links.at(place);
-        put_ring(alloc, tasks, link, cap)?;
+        let room = room_of(plan, link, cap, own);
+        put_ring(alloc, tasks, link, room)?;
     }
     Ok(())
+}
+
+// How many items the queue of a link holds at most.
+fn room_of(plan: &Plan, link: Link, cap: u32, own: &CapsByName) -> u32
+    requires cap { IsCap cap }
+    requires own { (queue : Name) → IsOwnCap (own_of own.now queue) }
+    requires link { IsLinkOf plan.now link }
+    ensures fits { IsCap result }
+    ensures room { result ≡ room_of plan.now cap (own_of own.now) link }
+{
+    let queue = *plan.raw().ops.at(link.writer).writes.at(link.out);
+    own.capacity(queue, cap)
 }

@@ -3,7 +3,11 @@ use Rattle.std.proofs.Common.{◌≡◌, ℕ, zero, suc, ◌<◌, Some, List, []
 use Rattle.std.specs.Prelude.{slice_get, false, All}
 use Rattle.std.proofs.lemmas.Option.{slice_get-get_or, slice_get_within}
 use Rattle.river_base.specs.declared.item.Item as item
+use Rattle.river_plan.specs.Caps.{IsCap, AreCaps, capacity, first_cap}
 use Rattle.river_plan.specs.Forms.{Name, OpForm, PlanForm}
+use Rattle.river_plan.specs.declared.caps.Cap.{Cap}
+use Rattle.river_plan.proofs.CapLemmas.{capacity_fits, first_fits}
+use Rattle.fire_laws.specs.Layout.{IsLink}
 use Rattle.river_plan.specs.Uses.{total, reads_it, writes_it}
 use Rattle.river_plan.specs.Valid.{IsPlan}
 use Rattle.brooklet_model.specs.Typed.{AreInputs}
@@ -11,13 +15,14 @@ use Rattle.brooklet_model.proofs.Traces.{some_is, got_count, at_most}
 use Rattle.fire_open.specs.declared.settling.Link.{Link}
 use Rattle.fire_tasks.specs.declared.task.Task.{Task}
 use Rattle.fire_open.specs.Fresh.{AreFresh}
-use Rattle.fire_open.specs.Links.{AreLinks}
+use Rattle.fire_open.specs.Links.{AreLinks, room_of}
 use Rattle.fire_open.specs.Rings.{Body, body, NoReader, NoWriter, AreRung}
 use Rattle.fire_open.proofs.Lists.{same_got, map_long}
 use Rattle.std.proofs.lemmas.List.Elements.{All-nil, All-head, All-tail}
 use Rattle.class_locks.specs.Logs.{Holding}
 use Rattle.fire_tasks.specs.Adds.{IsEntryOf, added, logs_of, rows_by, table_at, table_class}
 use Rattle.fire_open.specs.Homes.{AreClassCells}
+use Rattle.fire_open.proofs.RoomLemmas.{queue_here}
 use Rattle.fire_open.proofs.OpenLemmas.{body_task}
 use Rattle.fire_run.specs.NetOf.{IsNetOf}
 use Rattle.fire_run.proofs.MoveLemmas.{with_adds}
@@ -32,19 +37,20 @@ none_added_yet : (p : PlanForm) (cells : List Holding) → All (λ (x : Holding)
 none_added_yet p cells h o j = ap (rows_by o (table_at p o j)) (blank_log cells h (table_class p (table_at p o j)))
 
 -- fresh tasks with rings and empty cells are a net
-pub opened : (p : PlanForm) (inputs : List (List item.Item)) (cap : ℕ) (ts0 ts : List Task) (ls : List Link) (cells : List Holding) → IsPlan p
-    → AreInputs p.inputs inputs → 0 < cap
-    → AreFresh p inputs ts0 → AreLinks p ls → AreRung cap ts0 ts ls (length ls) → AreClassCells p cells → All (λ (x : Holding). x.log ≡ []) cells
-    → IsNetOf p inputs (λ q. cap) (record { tasks = ts; links = ls; cells = cells; refused = false })
-opened p inputs cap ts0 ts ls cells v typed room h k r cs blank = record {
+pub opened : (p : PlanForm) (inputs : List (List item.Item)) (cap : ℕ) (caps : List Cap) (ts0 ts : List Task) (ls : List Link) (cells : List Holding) → IsPlan p
+    → AreInputs p.inputs inputs → IsCap cap → AreCaps caps
+    → AreFresh p inputs ts0 → AreLinks p ls → AreRung (room_of p cap (first_cap caps)) ts0 ts ls (length ls) → AreClassCells p cells → All (λ (x : Holding). x.log ≡ []) cells
+    → IsNetOf p inputs (capacity cap (first_cap caps)) (record { tasks = ts; links = ls; cells = cells; refused = false })
+opened p inputs cap caps ts0 ts ls cells v typed one all h k r cs blank = record {
   typed = typed;
-  room = λ q. room;
+  room = λ q. let h = (capacity_fits (first_cap caps) cap q one (first_fits caps q all)).0 in omega (arith, h);
   laid = record {
     many = map_long body ts ts0 r.bodies ∙ h.many;
     numbers = λ o t g. let x = same_got body ts ts0 r.bodies o t g in ap (λ (b : Body). b.op) x.2 ∙ (h.each o x.0 x.1).number;
     rings = λ o o' port j q f i x.
         let l : Link = record { writer = o'; out = j; reader = o; port = port } in
         let a = k.all l (record { queue = q; read = x.op; write = x.op'; read_is = x.op_is; reads = x.reads; write_is = x.op_is'; writes = x.writes }) in
+        subst (λ n. IsLink (capacity cap (first_cap caps) n) f i) (queue_here p l x.op' q x.op_is' x.writes)
         (r.rung a.0 l f i (slice_get_within ls a.0 l a.1) a.1 (record { t = x.t; t' = x.t'; t_is = x.t_is; t_is' = x.t_is'; in_is = x.in_is; out_is = x.out_is })).0;
     inputs_are = λ o port op q t i g w z gt gi.
         let x = same_got body ts ts0 r.bodies o t gt in

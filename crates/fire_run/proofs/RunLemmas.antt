@@ -6,6 +6,7 @@ use Rattle.river_base.specs.declared.item.Item as item
 use Rattle.river_plan.specs.Forms.{PlanForm, plan_form, queue_names}
 use Rattle.river_plan.specs.declared.plan.RawPlan.{RawPlan}
 use Rattle.river_plan.specs.Valid.{IsPlan}
+use Rattle.brooklet_model.specs.Bounded.{Capacities}
 use Rattle.brooklet_model.specs.Histories.{hist, lengths}
 use Rattle.fire_tasks.specs.declared.bundle.Bundle.{Bundle}
 use Rattle.fire_tasks.specs.Adds.{added, logs_of}
@@ -36,8 +37,8 @@ pub stays_has : (p : PlanForm) (a b : Net) → HasNet p a → Stays p a b → Ha
 stays_has p a b h s = record { fine = s.fine; inputs = h.inputs; caps = h.caps; is = s.is h.inputs h.caps h.is }
 
 -- a net that was just opened is one
-pub opened_has : (p : PlanForm) (inputs : List (List item.Item)) (cap : ℕ) (net : Net) → HasNetAt p inputs cap net → HasNet p net
-opened_has p inputs cap net h = record { fine = h.fine; inputs = inputs; caps = λ q. cap; is = h.is }
+pub opened_has : (p : PlanForm) (inputs : List (List item.Item)) (caps : Capacities) (net : Net) → HasNetAt p inputs caps net → HasNet p net
+opened_has p inputs caps net h = record { fine = h.fine; inputs = inputs; caps = caps; is = h.is }
 
 -- A ROUND
 
@@ -133,10 +134,10 @@ pub record RanFor (p : PlanForm) (inputs : List (List item.Item)) (rounds : ℕ)
   pub few : rounds ≤ 1 + all_moves net.tasks
 
 -- after the rounds
-pub ran_first : (p : PlanForm) (inputs : List (List item.Item)) (cap rounds : ℕ) (net net' : Net) → IsPlan p → HasNetAt p inputs cap net → Stays p net net'
-    → rounds ≤ 1 + all_moves net'.tasks → RanFor p inputs rounds net'
-ran_first p inputs cap rounds net net' v h s few =
-    record { has = record { valid = v; fine = s.fine; caps = λ q. cap; is = s.is inputs (λ q. cap) h.is }; few = few }
+pub ran_first : (p : PlanForm) (inputs : List (List item.Item)) (caps : Capacities) (rounds : ℕ) (net net' : Net) → IsPlan p → HasNetAt p inputs caps net
+    → Stays p net net' → rounds ≤ 1 + all_moves net'.tasks → RanFor p inputs rounds net'
+ran_first p inputs caps rounds net net' v h s few =
+    record { has = record { valid = v; fine = s.fine; caps = caps; is = s.is inputs caps h.is }; few = few }
 
 -- it is a net
 pub ran_has : (p : PlanForm) (inputs : List (List item.Item)) (rounds : ℕ) (net : Net) → RanFor p inputs rounds net → HasNet p net

@@ -54,7 +54,7 @@ pub record OneMore (old new : ℕ) (moved : Bool) : Type 0 where
   pub one : IsTrue moved → new ≡ old + 1
   pub none : IsFalse moved → new ≡ old
 
--- a net of this plan, these inputs and this capacity of every queue
-pub record HasNetAt (p : PlanForm) (inputs : List (List item.Item)) (cap : ℕ) (net : Net) : Type 0 where
+-- a net of this plan, these inputs and these capacities, which was not refused
+pub record HasNetAt (p : PlanForm) (inputs : List (List item.Item)) (caps : Capacities) (net : Net) : Type 0 where
   pub fine : net.refused ≡ false
-  pub is : IsNetOf p inputs (λ q. cap) net
+  pub is : IsNetOf p inputs caps net

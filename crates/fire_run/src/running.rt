@@ -1,5 +1,6 @@
 // Runs of a plan by workers.
 ghost use Rattle.std.specs.Prelude.{◌≡◌, ◌+◌, ◌<◌, ◌≤◌, ◌↔◌, All, false, IfOk, IsTrue, IsFalse};
+ghost use Rattle.river_plan.specs.Caps.{IsCap, AreCaps};
 ghost use Rattle.river_plan.specs.Valid.{IsPlan};
 ghost use Rattle.brooklet_model.specs.Fit.{Fit};
 ghost use Rattle.fire_tasks.specs.Bundles.{IsReady};
@@ -13,7 +14,7 @@ use crate::{Bundles, Frame, Net, Ran, SplitFault};
 use brooklet_step::Lines;
 use fire_tasks::round_of;
 use river_base::{Gate, NoMemory};
-use river_plan::{Plan, RawPlan};
+use river_plan::{Caps, Plan, RawPlan};
 use std::alloc::Global;
 use std::thread::Threads;
 
@@ -28,9 +29,11 @@ pub enum Round {
     Late,
 }
 
-/// Runs a plan on these inputs to the end in a net, by so many workers, 1 to 64; a queue between two operators holds at most `cap`
-/// items, 1 to 65,536. The answer is what the plan means, with the logs of the lock classes and the number of rounds, 2^64 - 1
-/// standing for all that are greater. There is no error but that there is no memory. With one worker no thread is started.
+/// Runs a plan on these inputs to the end in a net, by so many workers, 1 to 64; a queue between two
+/// operators holds at most as many items as the first entry with its name says, and `cap` items where
+/// there is none, 1 to 65,536. The answer is what the plan means, with the logs of the lock classes and
+/// the number of rounds, 2^64 - 1 standing for all that are greater. There is no error but that there
+/// is no memory. With one worker no thread is started.
 pub fn run_plan<R: Threads + Sync, G: Gate + Sync>(
     rt: &R,
     alloc: Global,
@@ -38,14 +41,16 @@ pub fn run_plan<R: Threads + Sync, G: Gate + Sync>(
     inputs: Lines,
     workers: u32,
     cap: u32,
+    caps: &Caps,
     gate: &G,
 ) -> Result<Ran, NoMemory>
     requires fits { Fit plan.now inputs }
     requires workers { (1 ≤ workers) × (workers ≤ 64) }
-    requires cap { (1 ≤ cap) × (cap ≤ 65536) }
+    requires cap { IsCap cap }
+    requires caps { AreCaps caps.now }
     ensures { IfOk result (IsRanOf plan.now inputs) }
 {
-    let net = Net::open(alloc, plan, inputs, cap)?;
+    let net = Net::open(alloc, plan, inputs, cap, caps)?;
     let (mut net, rounds) = make_rounds(rt, alloc, plan, net, workers, gate)?;
     loop {
         if !net.one(alloc, plan, gate)? {

@@ -7,7 +7,7 @@ use csv_streams::print_outcome;
 use fire_run::{Ran, run_plan};
 use kern_rows::Line;
 use river_base::{Bytes, Flat, Item, Items, NoGate, NoMemory, Row};
-use river_plan::Plan;
+use river_plan::{Caps, Plan};
 use river_text::compile_river;
 use std::alloc::Global;
 use std::thread::Threads;
@@ -45,7 +45,7 @@ fn plan_of(alloc: Global, text: &[u8]) -> Result<Plan, Broken> {
         return Err(Broken::Text);
     }
     match compile_river(alloc, &text) {
-        Ok(plan) => Ok(plan),
+        Ok(read) => Ok(read.plan),
         Err(_) => Err(Broken::Text),
     }
 }
@@ -144,7 +144,10 @@ fn ran_by<R: Threads + Sync>(
         return Err(Broken::Inputs);
     }
     let inputs = made_lines(alloc, plan, count)?;
-    Ok(run_plan(rt, alloc, plan, inputs, workers, cap, &NoGate)?)
+    let caps = Caps::new(alloc);
+    Ok(run_plan(
+        rt, alloc, plan, inputs, workers, cap, &caps, &NoGate,
+    )?)
 }
 
 // Whether just this text is printed of what workers gave, in one round at least, with a log for each class.

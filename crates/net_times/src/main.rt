@@ -16,7 +16,7 @@ use fault::Fault;
 use fire_run::run_plan;
 use made::made_lines;
 use river_base::{Bytes, NoGate};
-use river_plan::Plan;
+use river_plan::{Caps, Plan};
 use river_text::compile_river;
 use std::alloc::Global;
 use std::process::ExitCode;
@@ -60,7 +60,7 @@ fn plan_of(alloc: Global, text: &str) -> Result<Plan, Fault> {
         return Err(Fault::Text);
     }
     match compile_river(alloc, &text) {
-        Ok(plan) => Ok(plan),
+        Ok(read) => Ok(read.plan),
         Err(_) => Err(Fault::Text),
     }
 }
@@ -79,7 +79,17 @@ fn run<R: Threads + Sync>(
     if asked.workers == 0 {
         return told_without_net(alloc, plan, inputs);
     }
-    let ran = run_plan(rt, alloc, plan, inputs, asked.workers, asked.cap, &NoGate)?;
+    let caps = Caps::new(alloc);
+    let ran = run_plan(
+        rt,
+        alloc,
+        plan,
+        inputs,
+        asked.workers,
+        asked.cap,
+        &caps,
+        &NoGate,
+    )?;
     Ok(told_of(alloc, ran.outcome())?)
 }
 

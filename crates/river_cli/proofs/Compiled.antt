@@ -1,13 +1,16 @@
 -- What was compiled stands for what its text means.
 use Rattle.std.proofs.Common.{◌≡◌, ℕ, ℤ, List, [], ◌∷◌, length, refl, sym, ap, ◌∙◌, subst, arith}
 use Rattle.std.specs.Prelude.{map, take, Result, Ok, Err}
-use Rattle.std.proofs.lemmas.List.Elements.{All-head, All-tail}
+use Rattle.std.proofs.lemmas.List.Elements.{All-nil, All-head, All-tail}
 use Rattle.river_base.specs.declared.item.Flat.TheVariants.{One}
 use Rattle.river_base.specs.declared.item.Item.TheVariants.{Flat}
 use Rattle.river_base.specs.Held.{HaveWidth}
 use Rattle.river_order.specs.Passes.{StandsFor}
+use Rattle.river_plan.specs.Caps.{IsCap, AreCaps}
 use Rattle.river_plan.specs.Forms.{PlanForm}
+use Rattle.river_plan.specs.declared.caps.Cap.{Cap}
 use Rattle.river_text.specs.Meaning as river
+use Rattle.river_text.specs.Plans.{TextForm}
 use Rattle.river_text.specs.Words.{river_words}
 use Rattle.river_text.specs.declared.river_fault.RiverFault.{RiverFault}
 use Rattle.river_text.specs.declared.river_fault.RiverFault.TheVariants as river_fault
@@ -41,12 +44,13 @@ use Rattle.river_cli.specs.declared.content.Content.TheVariants.{Rows as Plain, 
 
 -- ---- A RIVER TEXT
 
--- the plan that was read of a River text stands for what the text means
-pub river-compiled : (meant : Result PlanForm RiverFault) (p : PlanForm) → meant ≡ Ok p
-    → StandsFor IsCompiled (told river_source river_words meant) (record { plan = p; program = program.River })
-river-compiled meant p is = rw is (record { plan = record { plan = refl; inputs = refl; outputs = refl; tables = refl; means = λ rows t. refl }; program = tt })
+-- the plan that was read of a River text, and its capacities, stand for what the text means
+pub river-compiled : (meant : Result TextForm RiverFault) (p : PlanForm) (caps : List Cap) → meant ≡ Ok (record { plan = p; caps = caps }) → AreCaps caps
+    → StandsFor IsCompiled (told river_source river_words meant) (record { plan = p; program = program.River caps })
+river-compiled meant p caps is fit =
+    rw is (record { plan = record { plan = refl; inputs = refl; outputs = refl; tables = refl; means = λ rows t. refl }; program = tt; caps = refl; fit = fit })
 
-pub river-refused : (meant : Result PlanForm RiverFault) (f : RiverFault) (text : List _) → (f ≡ river_fault.NoMemory → ⊥) → river.Refused meant f
+pub river-refused : (meant : Result TextForm RiverFault) (f : RiverFault) (text : List _) → (f ≡ river_fault.NoMemory → ⊥) → river.Refused meant f
     → text ≡ program_refused (river_words f) → told river_source river_words meant ≡ Err text
 river-refused meant (river_fault.Text refusal) text not is says = rw (is, says) refl
 river-refused meant (river_fault.Plan fault) text not is says = rw (is, says) refl
@@ -87,6 +91,8 @@ streamit-compiled text t plan (s, is, made) =
     (record {
       plan = subst (IsPlanOf (streamit_source a)) (sym made) (program_plan text a is);
       program = record { readable = compiled-readable text a is; means = λ files. refl };
+      caps = refl;
+      fit = All-nil (λ (c : Cap). IsCap c.most);
     })
 
 pub streamit-refused : (meant : Result Accepted StreamitFault) (f : StreamitFault) (text : List _) → (f ≡ streamit_fault.NoMemory → ⊥) → Refused meant f
@@ -131,6 +137,8 @@ saw-compiled text t plan (read, is, made) =
     (record {
       plan = subst (IsPlanOf (saw_source a)) (sym made) (record { plan = refl; inputs = refl; outputs = refl; tables = refl; means = plan_means text a is });
       program = record { accepted = (read, compiled-judged text a is); valued = compiled-valued text a is; means = λ files. refl };
+      caps = refl;
+      fit = All-nil (λ (c : Cap). IsCap c.most);
     })
 
 pub saw-refused : (meant : Result saw.Accepted SawFault) (f : SawFault) (text : List _) → (f ≡ saw_fault.NoMemory → ⊥) → saw.Refused meant f

@@ -6,6 +6,8 @@ use Rattle.river_base.specs.Instants as base
 use Rattle.river_base.specs.Held.{HaveWidth}
 use Rattle.river_order.specs.Passes.{StandsFor}
 use Rattle.csv_streams.specs.Timed.{Entry}
+use Rattle.river_plan.specs.Caps.{IsCap}
+use Rattle.river_plan.specs.declared.caps.Cap.{Cap}
 use Rattle.river_plan.specs.Forms.{PlanForm, decl_names}
 use Rattle.brooklet_model.specs.Meaning.{meaning}
 use Rattle.cql_model.specs.Instants.{inputs_for}
@@ -79,6 +81,8 @@ cql-compiled text t plan h =
     (record {
       plan = subst (IsPlanOf (cql_source (program_of t))) (sym h.planned) (program_plan text (program_of t) h.accepted);
       program = record { columns = accepted_columns text (program_of t) h.accepted; inputs = refl; means = λ files. refl };
+      caps = refl;
+      fit = All-nil (λ (c : Cap). IsCap c.most);
     })
 
 -- a text that is refused is told its fault

@@ -13,6 +13,8 @@ use Rattle.river_order.specs.declared.stop.Stop.TheVariants as stop
 use Rattle.river_order.proofs.Comes.{Comes-same, Comes-on}
 use Rattle.river_order.proofs.Turns.{Stops-later}
 use Rattle.river_order.proofs.Passes.{past-refused, then-passes, passed-decides}
+use Rattle.river_plan.specs.Caps.{first_cap}
+use Rattle.river_plan.specs.declared.caps.Cap.{Cap}
 use Rattle.river_plan.specs.Forms.{PlanForm, table_names, labels}
 use Rattle.river_print.specs.Printed.{plan_text}
 use Rattle.brooklet_model.specs.Histories.{firings}
@@ -21,15 +23,16 @@ use Rattle.river_cli.specs.Contents.{AreContents}
 use Rattle.river_cli.specs.Layouts.{layout_of}
 use Rattle.river_cli.specs.Inputs.{of_inputs, all_items}
 use Rattle.plan_classes.specs.Lines.{classes_text}
-use Rattle.river_cli.specs.Points.{of_program, of_script, of_inputs_run, of_run, of_show, of_mean, of_command, ended, shown}
-use Rattle.river_cli.specs.Source.{Source, source_of, IsPlanOf, IsOf, IsCompiled, printed}
+use Rattle.river_cli.specs.Points.{of_program, of_script, of_inputs_run, of_run, of_show, of_mean, of_upgrade, of_command, ended, shown}
+use Rattle.river_cli.specs.Source.{Source, source_of, program_caps, IsPlanOf, IsOf, IsCompiled, printed}
 use Rattle.river_cli.specs.Text.{large_program}
 use Rattle.river_cli.specs.declared.compile.Compiled.{Compiled}
 use Rattle.river_cli.specs.declared.content.Content.{Content}
 use Rattle.river_cli.specs.declared.command.Command.{Command}
-use Rattle.river_cli.specs.declared.command.Command.TheVariants.{Run, Plan, Mean}
+use Rattle.river_cli.specs.declared.command.Command.TheVariants.{Run, Plan, Mean, Upgrade}
 use Rattle.river_cli.specs.declared.command.InWord.{InWord}
 use Rattle.river_cli.specs.declared.command.Lang.{Lang}
+use Rattle.river_cli.specs.declared.command.Lang.TheVariants.{River}
 use Rattle.river_cli.specs.declared.command.Layout.{Layout}
 use Rattle.river_cli.proofs.Scripts.{as_passed}
 
@@ -93,7 +96,7 @@ module _ (lang : Lang) (file : List ℕ) (held : Option Held) where
 
   module _ (script : Option (List ℕ)) where
     abbrev show_after : Source → (List ℕ → Order) → Order
-    show_after source next = of_script script source (λ later. next (shown later.plan))
+    show_after source next = of_script script source (λ later. next (shown later.caps later.plan))
 
     -- `plan` that stops before its program is there
     pub show-first : (rose : Type 0) (s : Stop) → ((next : Source → Order) → Stops (Some (of_program lang file next)) held rose s)
@@ -107,19 +110,19 @@ module _ (lang : Lang) (file : List ℕ) (held : Option Held) where
         → (next : List ℕ → Order) → Stops (Some (of_show lang file script next)) held early s
     unfolding of_show
     show-script mid early late sooner c s here stops =
-        as-then IsCompiled (of_program lang file) show_after held mid early late sooner c (Err s) here (λ source is next. stops source is (λ later. next (shown later.plan)))
+        as-then IsCompiled (of_program lang file) show_after held mid early late sooner c (Err s) here (λ source is next. stops source is (λ later. next (shown later.caps later.plan)))
 
     -- one that comes to its plan
     pub show-last : (mid half rose : Type 0) (c : Compiled) (plan : PlanForm) (text : List ℕ)
         → PassesAs IsCompiled (of_program lang file) held mid (Ok c)
         → ((source : Source) → IsOf c.program source c.plan → PassesAs (IsOf c.program) (of_script script source) held half (Ok plan))
-        → text ≡ shown plan → (next : List ℕ → Order) → Comes (of_show lang file script next) held (next text)
+        → text ≡ shown (program_caps c.program) plan → (next : List ℕ → Order) → Comes (of_show lang file script next) held (next text)
     unfolding of_show
     show-last mid half rose c plan text here scripted says =
         as-then IsCompiled (of_program lang file) show_after held mid rose rose (λ r. r) c (Ok text) here (λ source is.
-        as-then (IsOf c.program) (of_script script source) (λ (later : Source) (next : List ℕ → Order). next (shown later.plan)) held half rose rose (λ r. r) plan (Ok text) (scripted source is) (λ later of next.
-        let same : text ≡ shown later.plan = says ∙ ap shown of.plan.plan in
-        subst (λ t. Comes (next (shown later.plan)) held (next t)) (sym same) (Comes-same (next (shown later.plan)) held)))
+        as-then (IsOf c.program) (of_script script source) (λ (later : Source) (next : List ℕ → Order). next (shown later.caps later.plan)) held half rose rose (λ r. r) plan (Ok text) (scripted source is) (λ later of next.
+        let same : text ≡ shown later.caps later.plan = says ∙ (λ i. shown (of.caps i) (of.plan.plan i)) in
+        subst (λ t. Comes (next (shown later.caps later.plan)) held (next t)) (sym same) (Comes-same (next (shown later.caps later.plan)) held)))
 
   module _ (ins : List InWord) (header : Bool) where
     -- `mean` that stops before its program is there
@@ -136,6 +139,22 @@ module _ (lang : Lang) (file : List ℕ) (held : Option Held) where
     unfolding of_mean
     mean-last mid early late sooner c result here over =
         as-then IsCompiled (of_program lang file) (of_inputs_run ins (layout_of lang header) false) held mid early late sooner c result here over
+
+-- `upgrade` that stops before its text is read
+module _ (file : List ℕ) (held : Option Held) where
+  pub upgrade-first : (rose : Type 0) (s : Stop) → ((next : Source → Order) → Stops (Some (of_program River file next)) held rose s)
+      → (next : List ℕ → Order) → Stops (Some (of_upgrade file next)) held rose s
+  unfolding of_upgrade
+  upgrade-first rose s stops next = stops (λ source. next (plan_text (first_cap source.caps) source.plan))
+
+  -- one that comes to its plan
+  pub upgrade-last : (mid rose : Type 0) (c : Compiled) (text : List ℕ) → PassesAs IsCompiled (of_program River file) held mid (Ok c)
+      → text ≡ plan_text (first_cap (program_caps c.program)) c.plan → (next : List ℕ → Order) → Comes (of_upgrade file next) held (next text)
+  unfolding of_upgrade
+  upgrade-last mid rose c text here says =
+      as-then IsCompiled (of_program River file) (λ (source : Source) (next : List ℕ → Order). next (plan_text (first_cap source.caps) source.plan)) held mid rose rose (λ r. r) c (Ok text) here (λ source of next.
+      let same : text ≡ plan_text (first_cap source.caps) source.plan = says ∙ (λ i. plan_text (first_cap (of.caps i)) (of.plan.plan i)) in
+      subst (λ t. Comes (next (plan_text (first_cap source.caps) source.plan)) held (next t)) (sym same) (Comes-same (next (plan_text (first_cap source.caps) source.plan)) held))
 
 -- what a command answers decides
 pub command-decides : (command : Command) (held : Option Held) (rose : Type 0) (result : Result (List ℕ) Stop) → Passes (of_command command) held rose result
@@ -178,9 +197,16 @@ module _ (held : Option Held) (rose : Type 0) where
   mean-answers lang file ins header (Ok text) passed = passed
   mean-answers lang file ins header (Err s) passed = passed
 
+  -- what `upgrade` gives is what its command asks for
+  pub upgrade-answers : (file : List ℕ) (result : Result (List ℕ) Stop) → Passes (of_upgrade file) held rose result
+      → Passes (of_command (Upgrade file)) held rose result
+  unfolding of_command
+  upgrade-answers file (Ok text) passed = passed
+  upgrade-answers file (Err s) passed = passed
+
 -- a text with a line for each class
-pub shown_is : (p : PlanForm) (a b : List ℕ) → a ≡ plan_text p → b ≡ a ++ classes_text p → b ≡ shown p
-shown_is p a b e f = f ∙ ap (λ (l : List ℕ). l ++ classes_text p) e
+pub shown_is : (caps : List Cap) (p : PlanForm) (a b : List ℕ) → a ≡ plan_text (first_cap caps) p → b ≡ a ++ classes_text p → b ≡ shown caps p
+shown_is caps p a b e f = f ∙ ap (λ (l : List ℕ). l ++ classes_text p) e
 
 module _ (ins : List InWord) (layout : Layout) (counted : Bool) (source : Source) (plan : PlanForm) (held : Option Held) (is : IsPlanOf source plan) where
   abbrev from_inputs : (List ℕ → Order) → Order

@@ -40,11 +40,13 @@ made-stands program source p made text v of e =
             λ files a. let b = subst (λ ds. AreContents ds files) k.1.inputs a in k.2 (all_items files) (contents-typed p.inputs files b) ∙ is.means files b;
       };
       program = still program source made of.program;
+      caps = of.caps;
+      fit = of.fit;
     })
   where
     -- the program does not ask which plan its source has
     still : (program : Program) (source : Source) (made : PlanForm) → IsProgramOf source program → IsProgramOf (record source { plan = made }) program
-    still variant.River source made is = tt
+    still (variant.River caps) source made is = tt
     still (variant.Streamit t) source made is = record { readable = is.readable; means = is.means }
     still (variant.Sawzall t) source made is = record { accepted = is.accepted; valued = is.valued; means = is.means }
     still (variant.Cql t) source made is = record { columns = is.columns; inputs = is.inputs; means = is.means }

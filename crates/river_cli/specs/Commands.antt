@@ -1,7 +1,7 @@
 -- What options and inputs make of a command; None where the command takes no such thing.
 use Rattle.std.specs.Prelude.{◌≡◌, ◌≤◌, List, ℕ, [], ◌∷◌, ◌++◌, Bool, true, false, Option, None, Some}
 use Rattle.river_cli.specs.declared.command.Command.{Command}
-use Rattle.river_cli.specs.declared.command.Command.TheVariants.{Run, Plan, Mean, Load}
+use Rattle.river_cli.specs.declared.command.Command.TheVariants.{Run, Plan, Mean, Upgrade, Load}
 use Rattle.river_cli.specs.declared.command.InWord.{InWord}
 
 -- `-H`: each input begins with a header
@@ -9,6 +9,7 @@ abbrev pub with_header : Command → Option Command
 with_header (Run lang file ins script workers cap header counts) = Some (Run lang file ins script workers cap true counts)
 with_header (Plan lang file script) = None
 with_header (Mean lang file ins header) = Some (Mean lang file ins true)
+with_header (Upgrade file) = None
 with_header (Load number) = None
 
 -- `-c`: firings are counted
@@ -16,6 +17,7 @@ abbrev pub with_counts : Command → Option Command
 with_counts (Run lang file ins script workers cap header counts) = Some (Run lang file ins script workers cap header true)
 with_counts (Plan lang file script) = None
 with_counts (Mean lang file ins header) = None
+with_counts (Upgrade file) = None
 with_counts (Load number) = None
 
 -- `-r`: the plan is rewritten by the script of this file
@@ -23,6 +25,7 @@ abbrev pub with_script : List ℕ → Command → Option Command
 with_script name (Run lang file ins script workers cap header counts) = Some (Run lang file ins (Some name) workers cap header counts)
 with_script name (Plan lang file script) = Some (Plan lang file (Some name))
 with_script name (Mean lang file ins header) = None
+with_script name (Upgrade file) = None
 with_script name (Load number) = None
 
 -- `-w`: how many workers run the plan
@@ -30,6 +33,7 @@ abbrev pub with_workers : ℕ → Command → Option Command
 with_workers n (Run lang file ins script workers cap header counts) = Some (Run lang file ins script n cap header counts)
 with_workers n (Plan lang file script) = None
 with_workers n (Mean lang file ins header) = None
+with_workers n (Upgrade file) = None
 with_workers n (Load number) = None
 
 -- `-q`: how many items a queue between two operators holds at most
@@ -37,6 +41,7 @@ abbrev pub with_cap : ℕ → Command → Option Command
 with_cap n (Run lang file ins script workers cap header counts) = Some (Run lang file ins script workers n header counts)
 with_cap n (Plan lang file script) = None
 with_cap n (Mean lang file ins header) = None
+with_cap n (Upgrade file) = None
 with_cap n (Load number) = None
 
 -- one input more
@@ -44,6 +49,7 @@ abbrev pub with_input : InWord → Command → Option Command
 with_input input (Run lang file ins script workers cap header counts) = Some (Run lang file (ins ++ input ∷ []) script workers cap header counts)
 with_input input (Plan lang file script) = None
 with_input input (Mean lang file ins header) = Some (Mean lang file (ins ++ input ∷ []) header)
+with_input input (Upgrade file) = None
 with_input input (Load number) = None
 
 -- a command was made, and it is this one; or none was
@@ -56,4 +62,5 @@ abbrev pub IsManned : Command → Type 0
 IsManned (Run lang file ins script workers cap header counts) = (1 ≤ workers) × (workers ≤ 64) × (1 ≤ cap) × (cap ≤ 65536)
 IsManned (Plan lang file script) = Unit {0}
 IsManned (Mean lang file ins header) = Unit {0}
+IsManned (Upgrade file) = Unit {0}
 IsManned (Load number) = Unit {0}

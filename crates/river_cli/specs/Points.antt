@@ -3,7 +3,9 @@ use Rattle.std.specs.Prelude.{ℕ, List, ◌++◌, Bool, false, Option, Some, No
 use Rattle.river_order.specs.Order.{Order, Ends, Fetch, Done}
 use Rattle.river_order.specs.Passes.{past}
 use Rattle.plan_classes.specs.Lines.{classes_text}
+use Rattle.river_plan.specs.Caps.{first_cap}
 use Rattle.river_plan.specs.Forms.{PlanForm}
+use Rattle.river_plan.specs.declared.caps.Cap.{Cap}
 use Rattle.river_print.specs.Printed.{plan_text}
 use Rattle.river_cli.specs.Inputs.{of_inputs}
 use Rattle.river_cli.specs.Layouts.{layout_of}
@@ -15,10 +17,10 @@ use Rattle.river_script.specs.Meaning.{rewritten}
 use Rattle.river_script.specs.Words.{script_words}
 use Rattle.river_script.specs.declared.fault.ScriptFault.{ScriptFault}
 use Rattle.river_cli.specs.declared.command.Command.{Command}
-use Rattle.river_cli.specs.declared.command.Command.TheVariants.{Run, Plan, Mean, Load}
+use Rattle.river_cli.specs.declared.command.Command.TheVariants.{Run, Plan, Mean, Upgrade, Load}
 use Rattle.river_cli.specs.declared.command.InWord.{InWord}
 use Rattle.river_cli.specs.declared.command.Lang.{Lang}
-use Rattle.river_cli.specs.declared.command.Lang.TheVariants.{Sawzall}
+use Rattle.river_cli.specs.declared.command.Lang.TheVariants.{River, Sawzall}
 use Rattle.river_cli.specs.declared.command.Layout.{Layout}
 
 -- the program is fetched and compiled
@@ -39,9 +41,9 @@ of_script (Some file) source next = Fetch file 65536 large_script (λ text. past
 unfoldable pub of_inputs_run : List InWord → Layout → Bool → Source → (List ℕ → Order) → Order
 of_inputs_run ins layout counted source next = of_inputs source.inputs ins layout (λ files. next (printed source counted files))
 
--- a plan as it is shown: its text, and a line for each lock class of its tables
-abbrev pub shown : PlanForm → List ℕ
-shown p = plan_text p ++ classes_text p
+-- a plan as it is shown: its text with the capacities of its queues, and a line for each lock class of its tables
+abbrev pub shown : List Cap → PlanForm → List ℕ
+shown caps p = plan_text (first_cap caps) p ++ classes_text p
 
 -- `run`: the program is compiled, its plan is rewritten, and it is run over its inputs
 unfoldable pub of_run : Lang → List ℕ → List InWord → Option (List ℕ) → Bool → Bool → (List ℕ → Order) → Order
@@ -50,11 +52,15 @@ of_run lang file ins script header counts next =
 
 -- `plan`: it is compiled, its plan is rewritten and shown
 unfoldable pub of_show : Lang → List ℕ → Option (List ℕ) → (List ℕ → Order) → Order
-of_show lang file script next = of_program lang file (λ source. of_script script source (λ later. next (shown later.plan)))
+of_show lang file script next = of_program lang file (λ source. of_script script source (λ later. next (shown later.caps later.plan)))
 
 -- `mean`: it is compiled, and what it means over its inputs is printed
 unfoldable pub of_mean : Lang → List ℕ → List InWord → Bool → (List ℕ → Order) → Order
 of_mean lang file ins header next = of_program lang file (λ source. of_inputs_run ins (layout_of lang header) false source next)
+
+-- `upgrade`: a River text is compiled and printed with its capacities
+unfoldable pub of_upgrade : List ℕ → (List ℕ → Order) → Order
+of_upgrade file next = of_program River file (λ source. next (plan_text (first_cap source.caps) source.plan))
 
 -- what is made of what was found; the first refusal stands
 abbrev pub then_made : {A B : Type 0} → Result A (List ℕ) → (A → Result B (List ℕ)) → Result B (List ℕ)
@@ -74,6 +80,7 @@ unfoldable pub of_command : Command → (List ℕ → Order) → Order
 of_command (Run lang file ins script workers cap header counts) next = of_run lang file ins script header counts next
 of_command (Plan lang file script) next = of_show lang file script next
 of_command (Mean lang file ins header) next = of_mean lang file ins header next
+of_command (Upgrade file) next = of_upgrade file next
 of_command (Load number) next = past (loaded number) next
 
 -- at last the text is the output

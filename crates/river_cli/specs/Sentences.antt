@@ -1,10 +1,10 @@
 -- Which words are a sentence, and the command that they ask for.
-use Rattle.std.specs.Prelude.{ℕ, List, [], ◌∷◌, false, Option, None, Some, option_map, codes, if◌then◌else◌}
+use Rattle.std.specs.Prelude.{ℕ, List, [], ◌∷◌, false, Option, None, Some, option_map, codes, ◌&&◌, if◌then◌else◌}
 use Rattle.std.specs.Str.{bytes_eq}
 use Rattle.river_cli.specs.Phrases.{phrases, with_phrases}
 use Rattle.river_cli.specs.Words.{lang_named, is_file, number_to}
 use Rattle.river_cli.specs.declared.command.Command.{Command}
-use Rattle.river_cli.specs.declared.command.Command.TheVariants.{Run, Plan, Mean, Load}
+use Rattle.river_cli.specs.declared.command.Command.TheVariants.{Run, Plan, Mean, Upgrade, Load}
 use Rattle.river_cli.specs.declared.command.Lang.{Lang}
 
 -- the command that a word names, with a program and nothing else
@@ -28,8 +28,16 @@ asked word (Some lang) file words = if is_file file then with_words words (plain
 abbrev pub asked_load : List ℕ → List ℕ → Option Command
 asked_load word number = if bytes_eq word (codes "load") then option_map (λ n. Load n) (number_to 100000 number) else None
 
+-- `upgrade FILE`
+abbrev pub asked_upgrade : List ℕ → List ℕ → Option Command
+asked_upgrade word file = if bytes_eq word (codes "upgrade") && is_file file then Some (Upgrade file) else None
+
+-- two words
+abbrev pub asked_two : List ℕ → List ℕ → Option Command
+asked_two word behind = if bytes_eq word (codes "load") then asked_load word behind else asked_upgrade word behind
+
 -- the command that the words ask for, if they are a sentence
 abbrev pub command_of : List (List ℕ) → Option Command
-command_of (word ∷ number ∷ []) = asked_load word number
+command_of (word ∷ behind ∷ []) = asked_two word behind
 command_of (word ∷ lang ∷ file ∷ words) = asked word (lang_named lang) file words
 command_of words = None

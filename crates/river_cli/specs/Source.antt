@@ -3,9 +3,12 @@ use Rattle.std.specs.Prelude.{◌≡◌, ℕ, ℤ, pos, List, [], ◌∷◌, ◌
 use Rattle.kern_tables.specs.Kept.{rows_of as table_rows}
 use Rattle.brooklet_step.specs.declared.run.Outcome.{Outcome}
 use Rattle.csv_streams.specs.Outcome.{outputs_text, tables_text, firings_text, asked_counts}
+use Rattle.river_plan.specs.Caps.{AreCaps}
+use Rattle.river_plan.specs.declared.caps.Cap.{Cap}
 use Rattle.river_plan.specs.declared.plan.Decl.{Decl}
 use Rattle.river_plan.specs.Forms.{Name, PlanForm, decl_names, table_names, labels}
 use Rattle.river_text.specs.Meaning.{plan_in}
+use Rattle.river_text.specs.Plans.{TextForm}
 use Rattle.river_text.specs.Words.{river_words}
 use Rattle.brooklet_model.specs.Histories.{firings}
 use Rattle.brooklet_model.specs.Meaning.{Results, meaning}
@@ -44,22 +47,25 @@ use Rattle.river_cli.specs.declared.content.Content.TheVariants.{Rows as Plain, 
 use Rattle.river_cli.specs.declared.command.Lang.{Lang}
 use Rattle.river_cli.specs.declared.command.Lang.TheVariants.{River, Streamit, Sawzall, Cql}
 
--- a program: its inputs, the names of its outputs and of its tables, what these have for the files of its inputs, and its plan
+-- a program: its inputs, the names of its outputs and of its tables, what these have for the files of its inputs, its plan, and the
+-- capacities that it gives to queues of its plan
 pub record Source : Type 0 where
   pub inputs : List Decl
   pub outputs : List Name
   pub tables : List Name
   pub means : List Content → Results
   pub plan : PlanForm
+  pub caps : List Cap
 
 -- the program of a River text is its plan
-abbrev pub river_source : PlanForm → Source
-river_source p = record {
-  inputs = p.inputs;
-  outputs = decl_names p.outputs;
-  tables = table_names p.tables;
-  means = λ files. meaning p (all_items files);
-  plan = p;
+abbrev pub river_source : TextForm → Source
+river_source t = record {
+  inputs = t.plan.inputs;
+  outputs = decl_names t.plan.outputs;
+  tables = table_names t.plan.tables;
+  means = λ files. meaning t.plan (all_items files);
+  plan = t.plan;
+  caps = t.caps;
 }
 
 -- the first value of each row
@@ -83,6 +89,7 @@ streamit_source a = record {
   tables = [];
   means = streamit_means a.program;
   plan = plan_of a.stream;
+  caps = [];
 }
 
 -- the rows of the first input, which are the first fields of its records
@@ -102,6 +109,7 @@ saw_source a = record {
   tables = table_names (tables_in (saw.program_in a));
   means = saw_means (saw.program_in a);
   plan = saw.plan_in a;
+  caps = [];
 }
 
 -- the queries of a program, by their names
@@ -121,6 +129,7 @@ cql_source p = record {
   tables = [];
   means = cql_means p;
   plan = cql.plan_of p;
+  caps = [];
 }
 
 -- the program of what was read, or the text that refuses it
@@ -163,15 +172,24 @@ pub record IsCql (s : Source) (p : cql_text.Program) : Type 0 where
 
 -- a River text is its plan
 abbrev pub IsProgramOf : Source → Program → Type 0
-IsProgramOf s program.River = Unit {0}
+IsProgramOf s (program.River caps) = Unit {0}
 IsProgramOf s (program.Streamit p) = IsStreamit s (streamit.program_of p.units.items)
 IsProgramOf s (program.Sawzall p) = IsSawzall s (unit_forms p.units.items)
 IsProgramOf s (program.Cql p) = IsCql s (program_of p)
 
--- a plan that may be run in place of the program, and the program as it was read
+-- the capacities that a program gives: a River text alone has some
+abbrev pub program_caps : Program → List Cap
+program_caps (program.River caps) = caps
+program_caps (program.Streamit p) = []
+program_caps (program.Sawzall p) = []
+program_caps (program.Cql p) = []
+
+-- a plan that may be run in place of the program, and the program as it was read, with its capacities
 pub record IsOf (tree : Program) (s : Source) (p : PlanForm) : Type 0 where
   pub plan : IsPlanOf s p
   pub program : IsProgramOf s tree
+  pub caps : program_caps tree ≡ s.caps
+  pub fit : AreCaps (program_caps tree)
 
 -- there is such a program
 abbrev pub IsKnown : Program → PlanForm → Type 0

@@ -2,7 +2,7 @@
 use Rattle.std.specs.Prelude.{ℕ, List, ◌++◌, codes}
 
 abbrev pub usage_text : List ℕ
-usage_text = codes "usage: river run|plan|mean|load\n"
+usage_text = codes "usage: river run|plan|mean|load|upgrade\n"
 
 -- a program is refused, and why
 abbrev pub program_refused : List ℕ → List ℕ

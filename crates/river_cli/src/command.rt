@@ -93,6 +93,11 @@ pub enum Command {
         /// `-H`: each input begins with a header.
         header: bool,
     },
+    /// `upgrade`: a River text is read, checked and printed as text of version 2.
+    Upgrade {
+        /// The name of the text's file.
+        file: Text,
+    },
     /// `load`: a program of its own is run over so many records that are made, and its tables are printed.
     Load {
         /// How many records.
@@ -114,7 +119,7 @@ impl Command {
                 *header = true;
                 true
             }
-            Command::Plan { .. } | Command::Load { .. } => false,
+            Command::Plan { .. } | Command::Upgrade { .. } | Command::Load { .. } => false,
         }
     }
 
@@ -127,7 +132,10 @@ impl Command {
                 *counts = true;
                 true
             }
-            Command::Mean { .. } | Command::Plan { .. } | Command::Load { .. } => false,
+            Command::Mean { .. }
+            | Command::Plan { .. }
+            | Command::Upgrade { .. }
+            | Command::Load { .. } => false,
         }
     }
 
@@ -144,7 +152,7 @@ impl Command {
                 *script = Some(name);
                 true
             }
-            Command::Mean { .. } | Command::Load { .. } => false,
+            Command::Mean { .. } | Command::Upgrade { .. } | Command::Load { .. } => false,
         }
     }
 
@@ -157,7 +165,10 @@ impl Command {
                 *workers = number;
                 true
             }
-            Command::Mean { .. } | Command::Plan { .. } | Command::Load { .. } => false,
+            Command::Mean { .. }
+            | Command::Plan { .. }
+            | Command::Upgrade { .. }
+            | Command::Load { .. } => false,
         }
     }
 
@@ -170,7 +181,10 @@ impl Command {
                 *cap = number;
                 true
             }
-            Command::Mean { .. } | Command::Plan { .. } | Command::Load { .. } => false,
+            Command::Mean { .. }
+            | Command::Plan { .. }
+            | Command::Upgrade { .. }
+            | Command::Load { .. } => false,
         }
     }
 
@@ -187,7 +201,7 @@ impl Command {
                 ins.push(input)?;
                 Ok(true)
             }
-            Command::Plan { .. } | Command::Load { .. } => Ok(false),
+            Command::Plan { .. } | Command::Upgrade { .. } | Command::Load { .. } => Ok(false),
         }
     }
 }

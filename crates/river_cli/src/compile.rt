@@ -7,7 +7,7 @@ ghost use Rattle.streamit_front.specs.Meaning.{compiled};
 ghost use Rattle.streamit_front.specs.Words.{streamit_words};
 ghost use Rattle.cql_front.specs.Meaning.{compiled as cql_compiled};
 ghost use Rattle.cql_front.specs.Words.{cql_words};
-ghost use Rattle.river_cli.specs.Source.{river_source, streamit_source, saw_source, cql_source, told, source_of, IsCompiled};
+ghost use Rattle.river_cli.specs.Source.{river_source, streamit_source, saw_source, cql_source, told, source_of, program_caps, IsCompiled};
 ghost use Rattle.saw_front.specs.Meaning.{compiled as saw_compiled};
 ghost use Rattle.saw_front.specs.Words.{saw_words};
 ghost use Rattle.river_cli.specs.Text.{program_refused};
@@ -18,8 +18,8 @@ use cql_front::{CqlFault, compile_cql};
 use cql_text::CqlProgram;
 use river_base::{Bytes, NoMemory};
 use river_order::Stop;
-use river_plan::Plan;
-use river_text::{RiverFault, compile_river};
+use river_plan::{Caps, Plan};
+use river_text::{RiverFault, RiverPlan, compile_river};
 use saw_front::{SawFault, SawProgram, compile_sawzall};
 use std::alloc::Global;
 use streamit_front::{StreamitFault, StreamitProgram, compile_streamit};
@@ -27,8 +27,8 @@ use streamit_front::{StreamitFault, StreamitProgram, compile_streamit};
 /// A program as it is written.
 #[derive(Drop)]
 pub enum Program {
-    /// A River text, which is its plan.
-    River,
+    /// A River text, which is its plan; these are the capacities that it gives to its queues.
+    River(Caps),
     /// A StreamIt program.
     Streamit(StreamitProgram),
     /// A Sawzall program.
@@ -44,6 +44,16 @@ pub struct Compiled {
     pub plan: Plan,
     /// The program as it is written.
     pub program: Program,
+}
+
+/// The capacities that a program gives to the queues of its plan.
+pub fn caps_of(alloc: Global, program: Program) -> Caps
+    ensures { result ≡ program_caps program }
+{
+    match program {
+        Program::River(caps) => caps,
+        Program::Streamit(_) | Program::Sawzall(_) | Program::Cql(_) => Caps::new(alloc),
+    }
 }
 
 /// The program of a text, or its refusal.
@@ -64,9 +74,9 @@ fn river(alloc: Global, text: &Bytes) -> Result<Compiled, Stop>
     ensures { AnswersAs IsCompiled (told river_source river_words (plan_in text.now)) result }
 {
     match compile_river(alloc, text) {
-        Ok(plan) => Ok(Compiled {
+        Ok(RiverPlan { plan, caps }) => Ok(Compiled {
             plan,
-            program: Program::River,
+            program: Program::River(caps),
         }),
         Err(RiverFault::NoMemory) => Err(Stop::NoMemory),
         Err(fault) => Err(Stop::Refused(river_refused(alloc, fault)?)),

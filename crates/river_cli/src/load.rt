@@ -17,7 +17,7 @@ use crate::text;
 use kern_rows::EvenRows;
 use river_base::{Bytes, FlatType, Gate, Listed, NoMemory, QueueType};
 use river_order::Stop;
-use river_plan::{Decl, Plan};
+use river_plan::{Caps, Decl, Plan};
 use std::alloc::Global;
 use std::thread::Threads;
 
@@ -37,7 +37,8 @@ pub fn load<R: Threads + Sync, G: Gate + Sync>(
     let plan = load_plan(alloc)?;
     let decls = plan.raw().inputs.as_slice();
     let files = files_for(alloc, decls, number)?;
-    Ok(output(alloc, crew, &plan, files, false)?)
+    let caps = Caps::new(alloc);
+    Ok(output(alloc, crew, &plan, &caps, files, false)?)
 }
 
 // The plan that the script makes of the program.

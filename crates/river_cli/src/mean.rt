@@ -45,7 +45,7 @@ fn mean(
     ensures { IfOk result (λ outcome. (source : Source) → IsOf program.now source plan.now → Gives outcome (source.means files)) }
 {
     match program {
-        Program::River => run_lines(alloc, plan, inputs_of(alloc, files)?),
+        Program::River(_) => run_lines(alloc, plan, inputs_of(alloc, files)?),
         Program::Streamit(program) => {
             mean_streamit(alloc, program, &values_of(alloc, rows_of(alloc, files))?)
         }

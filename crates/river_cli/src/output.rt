@@ -1,6 +1,7 @@
 // What a plan prints.
 ghost use Rattle.std.specs.Prelude.{◌≡◌, [], ◌∷◌, ◌++◌, map, IfOk, OnOk};
 ghost use Rattle.river_base.specs.Instants.{stamps};
+ghost use Rattle.river_plan.specs.Caps.{AreCaps};
 ghost use Rattle.river_plan.specs.Valid.{IsPlan};
 ghost use Rattle.river_cli.specs.Contents.{AreContents};
 ghost use Rattle.river_cli.specs.Inputs as inputs;
@@ -13,19 +14,21 @@ use csv_streams::{add_stamps, print_outcome, spread};
 use fire_run::run_plan;
 use kern_rows::Line;
 use river_base::{Bytes, Gate, Listed, NoMemory, Numbers};
-use river_plan::Plan;
+use river_plan::{Caps, Plan};
 use std::alloc::Global;
 use std::thread::Threads;
 
-/// What a program prints for what the files of its inputs have, by a run of its plan.
+/// What a program prints for what the files of its inputs have, by a run of its plan with these capacities.
 pub fn output<R: Threads + Sync, G: Gate + Sync>(
     alloc: Global,
     crew: &Crew<'_, R, G>,
     plan: &Plan,
+    caps: &Caps,
     files: Listed<Content>,
     counted: bool,
 ) -> Result<Bytes, NoMemory>
     requires valid { IsPlan plan.now }
+    requires caps { AreCaps caps.now }
     requires contents { AreContents plan.now.inputs files }
     ensures { IfOk result (λ text. (source : Source) → IsPlanOf source plan.now → text ≡ printed source counted files) }
 {
@@ -37,6 +40,7 @@ pub fn output<R: Threads + Sync, G: Gate + Sync>(
         inputs,
         crew.workers,
         crew.cap,
+        caps,
         crew.gate,
     )?;
     print_outcome(alloc, plan, ran.outcome(), counted)

@@ -3,15 +3,16 @@ ghost use Rattle.std.specs.Prelude.{◌≡◌, ◌≤◌, false, Some, IfOk, IsE
 ghost use Rattle.river_outside.specs.Causes.{Rose};
 ghost use Rattle.river_order.specs.Decides.{Decides};
 ghost use Rattle.river_order.specs.Passes.{Passes, PassesAs};
+ghost use Rattle.river_plan.specs.Caps.{AreCaps};
 ghost use Rattle.river_plan.specs.Valid.{IsPlan};
-ghost use Rattle.river_cli.specs.Points.{points_of, of_command, of_run, of_show, of_mean, of_program, of_script, of_inputs_run, shown as shown_text};
+ghost use Rattle.river_cli.specs.Points.{points_of, of_command, of_run, of_show, of_mean, of_upgrade, of_program, of_script, of_inputs_run, shown as shown_text};
 ghost use Rattle.river_cli.specs.Commands.{IsManned};
 ghost use Rattle.river_cli.specs.Layouts.{layout_of};
 ghost use Rattle.river_cli.specs.Source.{Source, IsPlanOf, IsOf, IsKnown, IsCompiled, printed};
 ghost use Rattle.river_cli.specs.declared.compile.Program.{Program};
 
 use crate::command::{Command, InWords, Lang, Layout, WordFault};
-use crate::compile::{Compiled, Program, compile};
+use crate::compile::{Compiled, Program, caps_of, compile};
 use crate::crew::Crew;
 use crate::gather::gather;
 use crate::load::load;
@@ -24,7 +25,7 @@ use plan_classes::print_classes;
 use river_base::{Bytes, Gate, NoMemory, Text};
 use river_order::{Stop, fetch_turn};
 use river_outside::Shelf;
-use river_plan::Plan;
+use river_plan::{Caps, Plan};
 use river_print::print_river;
 use std::alloc::Global;
 use std::thread::Threads;
@@ -91,6 +92,7 @@ fn answered<R: Threads + Sync, S: Shelf, G: Gate + Sync>(
             ins,
             header,
         } => mean(alloc, *lang, file, ins, *header, shelf),
+        Command::Upgrade { file } => upgrade(alloc, file, shelf),
         Command::Load { number } => load(
             alloc,
             &Crew::new(rt, gate, LOAD_WORKERS, LOAD_CAP),
@@ -116,7 +118,9 @@ fn run<R: Threads + Sync, S: Shelf, G: Gate + Sync>(
 {
     let compiled = compiled(alloc, lang, file, shelf)?;
     let plan = script(alloc, name, compiled.plan, shelf)?;
-    run_over(alloc, crew, ins, layout(lang, header), counts, &plan, shelf)
+    let caps = caps_of(alloc, compiled.program);
+    let layout = layout(lang, header);
+    run_over(alloc, crew, ins, layout, counts, &plan, &caps, shelf)
 }
 
 // It is compiled, and its plan is rewritten and shown.
@@ -132,7 +136,18 @@ fn show<S: Shelf>(
 {
     let compiled = compiled(alloc, lang, file, shelf)?;
     let plan = script(alloc, name, compiled.plan, shelf)?;
-    Ok(shown(alloc, &plan)?)
+    let caps = caps_of(alloc, compiled.program);
+    Ok(shown(alloc, &plan, &caps)?)
+}
+
+// A River text is compiled, and its plan and its capacities are printed.
+fn upgrade<S: Shelf>(alloc: Global, file: &Text, shelf: &mut S) -> Result<Bytes, Stop>
+    ensures later { S.faults shelf.old ≤ S.faults shelf.new }
+    ensures passes { Passes (of_upgrade file.now) (S.held shelf.old) (Rose S.stays_at_last (S.faults shelf.old) (S.faults shelf.new)) result }
+{
+    let compiled = compiled(alloc, Lang::River, file, shelf)?;
+    let caps = caps_of(alloc, compiled.program);
+    Ok(print_river(alloc, &compiled.plan, &caps)?)
 }
 
 // It is compiled, and what it means over its inputs is printed.
@@ -213,12 +228,13 @@ fn rewritten<S: Shelf>(alloc: Global, file: &[u8], plan: &Plan, shelf: &mut S) -
     applied(alloc, plan, &text)
 }
 
-// The text of a plan, and its lock classes.
+// The text of a plan with these capacities, and its lock classes.
 #[tactic(auto, using(crate::proofs::Points::shown_is))]
-fn shown(alloc: Global, plan: &Plan) -> Result<Bytes, NoMemory>
-    ensures { IfOk result (λ text. text ≡ shown_text plan.now) }
+fn shown(alloc: Global, plan: &Plan, caps: &Caps) -> Result<Bytes, NoMemory>
+    requires { AreCaps caps.now }
+    ensures { IfOk result (λ text. text ≡ shown_text caps.now plan.now) }
 {
-    let mut text = print_river(alloc, plan)?;
+    let mut text = print_river(alloc, plan, caps)?;
     print_classes(alloc, plan, &mut text)?;
     Ok(text)
 }
@@ -231,15 +247,17 @@ fn run_over<R: Threads + Sync, S: Shelf, G: Gate + Sync>(
     layout: Layout,
     counts: bool,
     plan: &Plan,
+    caps: &Caps,
     shelf: &mut S,
 ) -> Result<Bytes, Stop>
+    requires { AreCaps caps.now }
     ensures later { S.faults shelf.old ≤ S.faults shelf.new }
     ensures passes { (source : Source) → IsPlanOf source plan.now
         → Passes (of_inputs_run ins.now layout counts source) (S.held shelf.old) (Rose S.stays_at_last (S.faults shelf.old) (S.faults shelf.new)) result }
 {
     let decls = plan.raw().inputs.as_slice();
     let files = gather(alloc, decls, ins.as_slice(), layout, shelf)?;
-    Ok(output(alloc, crew, plan, files, counts)?)
+    Ok(output(alloc, crew, plan, caps, files, counts)?)
 }
 
 // What a program means over its inputs is printed, without a run of its plan.

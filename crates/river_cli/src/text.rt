@@ -8,7 +8,7 @@ use river_base::{Bytes, NoMemory};
 use std::alloc::Global;
 
 /// What is written where the words are no sentence.
-pub const USAGE: &[u8] = b"usage: river run|plan|mean|load\n";
+pub const USAGE: &[u8] = b"usage: river run|plan|mean|load|upgrade\n";
 
 /// What refuses a program of too many bytes.
 pub const LARGE_PROGRAM: &[u8] = b"refused: program: Large\n";

@@ -1,7 +1,7 @@
 // The words of the command line.
 ghost use Rattle.std.specs.Prelude.{◌≡◌, Some, None, IfOk, IsErrOf};
 ghost use Rattle.river_cli.specs.Words.{lang_named, is_file};
-ghost use Rattle.river_cli.specs.Sentences.{plain, with_words, asked, asked_load, command_of};
+ghost use Rattle.river_cli.specs.Sentences.{plain, with_words, asked, asked_load, asked_two, asked_upgrade, command_of};
 
 use crate::command::{Command, InWords, Lang, WordFault};
 use crate::number::read_number;
@@ -9,16 +9,16 @@ use crate::phrases::read_phrases;
 use river_base::{NoMemory, Text};
 use std::alloc::Global;
 
-/// The command that the words ask for. A sentence is `load N`, with N from 1 to 100,000; or `run LANG FILE`, `mean LANG FILE` or
-/// `plan LANG FILE`, and behind it, in any order, what the command takes: `run` and `mean` take words NAME=FILE and `-H`, `run`
-/// also `-c`, `-w N` with N from 1 to 64 and `-q N` with N from 1 to 65,536, and `run` and `plan` take `-r SCRIPT`. FILE behind the
-/// language is not empty and does not begin with `-`; no option and no NAME stands twice. A number has 1 to 9 decimal digits.
+/// The command that the words ask for. A sentence is `load N`, with N from 1 to 100,000; or `upgrade FILE`; or `run LANG FILE`,
+/// `mean LANG FILE` or `plan LANG FILE`, and behind it, in any order, what the command takes: `run` and `mean` take words NAME=FILE and `-H`, `run`
+/// also `-c`, `-w N` with N from 1 to 64 and `-q N` with N from 1 to 65,536, and `run` and `plan` take `-r SCRIPT`. FILE behind
+/// `upgrade` or the language is not empty and does not begin with `-`; no option and no NAME stands twice. A number has 1 to 9 decimal digits.
 pub fn read_words(alloc: Global, words: &[Text]) -> Result<Command, WordFault>
     ensures ok { IfOk result (λ command. command_of words.now ≡ Some command) }
     ensures usage { IsErrOf result WordFault.Usage → command_of words.now ≡ None }
 {
-    if let [word, number] = words {
-        return read_load(word.as_slice(), number.as_slice());
+    if let [word, behind] = words {
+        return read_two(alloc, word.as_slice(), behind.as_slice());
     }
     let [word, lang, file, behind @ ..] = words else {
         return Err(WordFault::Usage);
@@ -30,6 +30,31 @@ pub fn read_words(alloc: Global, words: &[Text]) -> Result<Command, WordFault>
         return Err(WordFault::Usage);
     }
     read_command(alloc, word.as_slice(), lang, file.as_slice(), behind)
+}
+
+// `load N` or `upgrade FILE`.
+fn read_two(alloc: Global, word: &[u8], behind: &[u8]) -> Result<Command, WordFault>
+    ensures ok { IfOk result (λ command. asked_two word.now behind.now ≡ Some command) }
+    ensures usage { IsErrOf result WordFault.Usage → asked_two word.now behind.now ≡ None }
+{
+    if word == LOAD {
+        read_load(word, behind)
+    } else {
+        read_upgrade(alloc, word, behind)
+    }
+}
+
+// `upgrade FILE`.
+fn read_upgrade(alloc: Global, word: &[u8], file: &[u8]) -> Result<Command, WordFault>
+    ensures ok { IfOk result (λ command. asked_upgrade word.now file.now ≡ Some command) }
+    ensures usage { IsErrOf result WordFault.Usage → asked_upgrade word.now file.now ≡ None }
+{
+    if word == UPGRADE && is_file(file) {
+        let file = Text::from_slice(alloc, file)?;
+        Ok(Command::Upgrade { file })
+    } else {
+        Err(WordFault::Usage)
+    }
 }
 
 // `load N`.
@@ -71,6 +96,8 @@ const MEAN: &[u8] = b"mean";
 const PLAN: &[u8] = b"plan";
 
 const LOAD: &[u8] = b"load";
+
+const UPGRADE: &[u8] = b"upgrade";
 
 const MOST_RECORDS: u32 = 100_000;
 

@@ -4,6 +4,7 @@ pub mod Listings
 pub mod Pieces
 pub mod PrintedExpr
 pub mod Promise
+pub mod Queues
 pub mod Read
 pub mod Round
 pub mod Spoken

@@ -29,6 +29,8 @@ use Rattle.river_text.specs.Bodies as bodies
 use Rattle.river_text.specs.Expressions as rule
 use Rattle.river_text.specs.Kernels as g
 use Rattle.river_text.specs.Plans as t
+use Rattle.river_text.specs.declared.decl.QueueDecl.{QueueDecl}
+use Rattle.river_text.specs.declared.entry.Place.{Place}
 use Rattle.river_print.specs.Writable as w
 use Rattle.river_print.specs.Printable as r
 use Rattle.river_print.specs.Ranged as ranges
@@ -349,28 +351,42 @@ operator = gives-seen t.made_op IsOp
 
 -- PLANS
 
+-- a declaration with a capacity
+queue : Gives t.IsQueue (λ q. w.IsDecl q.decl)
+queue = record {
+  give = λ q ts h.
+      let b = h.formed.second.formed.formed in
+      subst (λ (x : QueueDecl). w.IsDecl x.decl) (sym h.is) (named.give h.formed.value.0 h.formed.front h.formed.first, type.give h.formed.value.1.0 b.front b.first);
+}
+
 abbrev IsEntry : t.Entry → Type 0
+IsEntry t.header = Unit {0}
 IsEntry (t.output d) = w.IsDecl d
 IsEntry (t.input d) = w.IsDecl d
-IsEntry (t.inner d) = w.IsDecl d
+IsEntry (t.inner q) = w.IsDecl q.decl
 IsEntry (t.table x) = w.IsTable x
 IsEntry (t.private v) = w.IsNamed v
 IsEntry (t.operator o) = IsOp o
+
+-- a header says nothing of a plan
+heading : Gives t.IsHeader (λ n. Unit {0})
+heading = record { give = λ n ts h. tt }
 
 unit : Gives t.IsUnit IsEntry
 unit = gives-headed (λ word.
     gives-choose (bytes_eq word (codes "output")) (gives-seen t.output IsEntry decl (λ v h. h))
     (gives-choose (bytes_eq word (codes "input")) (gives-seen t.input IsEntry decl (λ v h. h))
-    (gives-choose (bytes_eq word (codes "queue")) (gives-seen t.inner IsEntry decl (λ v h. h))
+    (gives-choose (bytes_eq word (codes "queue")) (gives-seen t.inner IsEntry queue (λ v h. h))
     (gives-choose (bytes_eq word (codes "table")) (gives-seen t.table IsEntry table (λ v h. h))
     (gives-choose (bytes_eq word (codes "var")) (gives-seen t.private IsEntry (gives-before _ named-var) (λ v h. h))
     (gives-choose (bytes_eq word (codes "op")) (gives-seen t.operator IsEntry operator (λ v h. h))
-    (gives-never IsEntry)))))))
+    (gives-choose (bytes_eq word (codes "river")) (gives-seen t.as_header IsEntry heading (λ v h. tt))
+    (gives-never IsEntry))))))))
 
-entries : (stage : ℕ) (es : List t.Entry) (us : List (List Tok)) → AllFormed t.IsUnitAt t.next_stage stage es us → w.Every IsEntry es
-entries stage [] us h = tt
-entries stage (e ∷ es) [] h = absurd h
-entries stage (e ∷ es) (u ∷ us) h = (unit.give e u h.0.formed, entries (t.next_stage stage e) es us h.1)
+entries : (at : Place) (es : List t.Entry) (us : List (List Tok)) → AllFormed t.IsUnitAt t.next_place at es us → w.Every IsEntry es
+entries at [] us h = tt
+entries at (e ∷ es) [] h = absurd h
+entries at (e ∷ es) (u ∷ us) h = (unit.give e u h.0.formed, entries (t.next_place at e) es us h.1)
 
 every-append : {A : Type 0} (P : A → Type 0) (xs : List A) (y : A) → w.Every P xs → P y → w.Every P (xs ++ y ∷ [])
 every-append P [] y h k = (k, tt)
@@ -385,31 +401,32 @@ record IsSaid (p : PlanForm) : Type 0 where
 said-empty : IsSaid empty_form
 said-empty = record { ranged = record { outputs = tt; inputs = tt; queues = tt; tables = tt; vars = tt; ops = tt }; shallow = tt; forward = tt }
 
-said-add : (p : PlanForm) (e : t.Entry) → IsSaid p → IsEntry e → IsSaid (t.add p e)
-said-add p (t.output d) s h = let k = s.ranged in
-    record { ranged = record { outputs = every-append w.IsDecl p.outputs d k.outputs h; inputs = k.inputs; queues = k.queues; tables = k.tables; vars = k.vars; ops = k.ops }; shallow = s.shallow; forward = s.forward }
-said-add p (t.input d) s h = let k = s.ranged in
-    record { ranged = record { outputs = k.outputs; inputs = every-append w.IsDecl p.inputs d k.inputs h; queues = k.queues; tables = k.tables; vars = k.vars; ops = k.ops }; shallow = s.shallow; forward = s.forward }
-said-add p (t.inner d) s h = let k = s.ranged in
-    record { ranged = record { outputs = k.outputs; inputs = k.inputs; queues = every-append w.IsDecl p.queues d k.queues h; tables = k.tables; vars = k.vars; ops = k.ops }; shallow = s.shallow; forward = s.forward }
-said-add p (t.table x) s h = let k = s.ranged in
-    record { ranged = record { outputs = k.outputs; inputs = k.inputs; queues = k.queues; tables = every-append w.IsTable p.tables x k.tables h; vars = k.vars; ops = k.ops }; shallow = s.shallow; forward = s.forward }
-said-add p (t.private v) s h = let k = s.ranged in
-    record { ranged = record { outputs = k.outputs; inputs = k.inputs; queues = k.queues; tables = k.tables; vars = every-append w.IsNamed p.vars v k.vars h; ops = k.ops }; shallow = s.shallow; forward = s.forward }
-said-add p (t.operator o) s h = let k = s.ranged in
+said-add : (x : t.TextForm) (e : t.Entry) → IsSaid x.plan → IsEntry e → IsSaid (t.add x e).plan
+said-add x t.header s h = s
+said-add x (t.output d) s h = let k = s.ranged in
+    record { ranged = record { outputs = every-append w.IsDecl x.plan.outputs d k.outputs h; inputs = k.inputs; queues = k.queues; tables = k.tables; vars = k.vars; ops = k.ops }; shallow = s.shallow; forward = s.forward }
+said-add x (t.input d) s h = let k = s.ranged in
+    record { ranged = record { outputs = k.outputs; inputs = every-append w.IsDecl x.plan.inputs d k.inputs h; queues = k.queues; tables = k.tables; vars = k.vars; ops = k.ops }; shallow = s.shallow; forward = s.forward }
+said-add x (t.inner q) s h = let k = s.ranged in
+    record { ranged = record { outputs = k.outputs; inputs = k.inputs; queues = every-append w.IsDecl x.plan.queues q.decl k.queues h; tables = k.tables; vars = k.vars; ops = k.ops }; shallow = s.shallow; forward = s.forward }
+said-add x (t.table y) s h = let k = s.ranged in
+    record { ranged = record { outputs = k.outputs; inputs = k.inputs; queues = k.queues; tables = every-append w.IsTable x.plan.tables y k.tables h; vars = k.vars; ops = k.ops }; shallow = s.shallow; forward = s.forward }
+said-add x (t.private v) s h = let k = s.ranged in
+    record { ranged = record { outputs = k.outputs; inputs = k.inputs; queues = k.queues; tables = k.tables; vars = every-append w.IsNamed x.plan.vars v k.vars h; ops = k.ops }; shallow = s.shallow; forward = s.forward }
+said-add x (t.operator o) s h = let k = s.ranged in
     record {
       ranged =
-          record { outputs = k.outputs; inputs = k.inputs; queues = k.queues; tables = k.tables; vars = k.vars; ops = every-append ranges.IsRangedOp p.ops o k.ops h.0 };
-      shallow = every-append (λ op. r.IsShallow op.kernel) p.ops o s.shallow h.1;
-      forward = every-append (λ op. r.HasForward op.kernel) p.ops o s.forward h.2;
+          record { outputs = k.outputs; inputs = k.inputs; queues = k.queues; tables = k.tables; vars = k.vars; ops = every-append ranges.IsRangedOp x.plan.ops o k.ops h.0 };
+      shallow = every-append (λ op. r.IsShallow op.kernel) x.plan.ops o s.shallow h.1;
+      forward = every-append (λ op. r.HasForward op.kernel) x.plan.ops o s.forward h.2;
     }
 
-said-all : (p : PlanForm) (es : List t.Entry) → IsSaid p → w.Every IsEntry es → IsSaid (t.add_all p es)
-said-all p [] s h = s
-said-all p (e ∷ es) s h = said-all (t.add p e) es (said-add p e s h.0) h.1
+said-all : (x : t.TextForm) (es : List t.Entry) → IsSaid x.plan → w.Every IsEntry es → IsSaid (t.add_all x es).plan
+said-all x [] s h = s
+said-all x (e ∷ es) s h = said-all (t.add x e) es (said-add x e s h.0) h.1
 
 -- lists that a text stands for have the ranges of their types and keep the grammar's bounds
-pub read-printable : (text : List ℕ) (p : PlanForm) → t.IsText text p → ranges.IsRanged p × r.IsPrintable p
-read-printable text p h =
-    let s = subst IsSaid (sym h.is) (said-all empty_form h.entries said-empty (entries 0 h.entries _ h.formed)) in
+pub read-printable : (text : List ℕ) (x : t.TextForm) → t.IsText text x → ranges.IsRanged x.plan × r.IsPrintable x.plan
+read-printable text x h =
+    let s = subst (λ (y : t.TextForm). IsSaid y.plan) (sym h.is) (said-all t.empty_text h.entries said-empty (entries (t.first_place h.marks) h.entries _ h.formed)) in
     (s.ranged, record { shallow = s.shallow; forward = s.forward })

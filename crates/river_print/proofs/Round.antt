@@ -1,22 +1,26 @@
 -- Printed plans are read back as themselves.
-use Rattle.std.proofs.Common.{◌≡◌, ℕ, ◌≤◌, true, false, List, [], ◌∷◌, ◌++◌, refl, sym, ap, ◌∙◌, subst, arith, append_assoc, append-nil}
-use Rattle.std.specs.Prelude.{codes, map}
+use Rattle.std.proofs.Common.{◌≡◌, ℕ, suc, ◌≤◌, Bool, true, false, List, [], ◌∷◌, ◌++◌, Option, Some, None, refl, sym, ap, ◌∙◌, subst, arith, append_assoc, append-nil}
+use Rattle.std.specs.Prelude.{codes, map, nat_le, ◌&&◌, ◌==◌, if◌then◌else◌}
 use Rattle.std.proofs.lemmas.Bool.Decides.{nat_tests}
 use Rattle.work_code.specs.Laws.{joined}
 use Rattle.work_code.specs.Cut.{cut, units_of, is_else}
 use Rattle.work_code.specs.Lexis.{is_letter, is_word, is_digit}
-use Rattle.work_code.specs.Tok.{Tok}
+use Rattle.work_code.specs.Tok.{Tok, toks}
 use Rattle.work_code.proofs.Spelled.{Spells, Anything, is_name_text, spells-nothing, spells-then, spells-whole}
+use Rattle.river_plan.specs.Caps.{OwnCaps, IsOwnCap, cap_of, caps_of}
 use Rattle.river_plan.specs.Forms.{Name, OpForm, PlanForm, empty_form}
+use Rattle.river_plan.specs.declared.caps.Cap.{Cap}
 use Rattle.river_plan.specs.declared.plan.Decl.{Decl}
 use Rattle.river_plan.specs.declared.plan.TableDecl.{TableDecl}
 use Rattle.text_forms.specs.Texts.{AllFormed}
-use Rattle.river_print.specs.Printed.{decl_line, table_line, var_line, op_line, lines, plan_text}
-use Rattle.river_text.specs.Plans.{Entry, output, input, inner, table, private, operator, stage_of, is_late, IsUnit, IsUnitAt, next_stage, add, add_all}
-use Rattle.river_text.specs.Plans.{AreUnits, IsText}
+use Rattle.river_print.specs.Printed.{header_line, decl_line, queue_line, table_line, var_line, op_line, lines, plan_text}
+use Rattle.river_text.specs.Plans.{Entry, header, output, input, inner, table, private, operator, stage_of, most_of, cap_stands, may_stand, IsUnit, IsUnitAt}
+use Rattle.river_text.specs.Plans.{TextForm, empty_text, add, add_all, first_place, next_place, AreUnits, IsText}
+use Rattle.river_text.specs.declared.entry.Place.{Place}
 use Rattle.river_text.proofs.Texts.{one_plan}
-use Rattle.river_print.specs.Laws.{PrintedIsRead}
+use Rattle.river_print.specs.Laws.{HaveOwnCaps, stood, PrintedIsRead}
 use Rattle.river_print.specs.Writable as w
+use Rattle.river_print.proofs.Queues.{header_toks, header-unit, header-formed, header-short, queue_toks, queue-unit, queue-formed}
 use Rattle.river_print.proofs.Units.{UnitPiece, decl_toks, decl-unit, decl-formed, table_toks, table-unit, table-formed, var_toks, var-unit, var-formed}
 use Rattle.river_print.proofs.Units.{op_toks, op-unit, op-formed}
 
@@ -65,28 +69,42 @@ chunk-lines line tokens P unit (x ∷ xs) h =
 
 -- ---- the units stand for the entries
 
--- entries of one stage
+-- entries of one stage, whose capacities may stand behind a header
 abbrev OfStage : ℕ → List Entry → List (List Tok) → Type 0
 OfStage k [] [] = Unit {0}
 OfStage k [] (u ∷ us) = ⊥
 OfStage k (e ∷ es) [] = ⊥
-OfStage k (e ∷ es) (u ∷ us) = (stage_of e ≡ k) × IsUnit e u × OfStage k es us
+OfStage k (e ∷ es) (u ∷ us) = (stage_of e ≡ suc k) × (cap_stands true (most_of e) ≡ true) × IsUnit e u × OfStage k es us
 
-stage_lines : {A : Type 0} (k : ℕ) (make : A → Entry) (tokens : A → List Tok) (P : A → Type 0) → ((x : A) → stage_of (make x) ≡ k)
-    → ((x : A) → P x → IsUnit (make x) (tokens x)) → (xs : List A) → w.Every P xs → OfStage k (map make xs) (map tokens xs)
-stage_lines k make tokens P same formed [] h = tt
-stage_lines k make tokens P same formed (x ∷ xs) h = (same x, formed x h.0, stage_lines k make tokens P same formed xs h.1)
+stage_lines : {A : Type 0} (k : ℕ) (make : A → Entry) (tokens : A → List Tok) (P : A → Type 0) → ((x : A) → stage_of (make x) ≡ suc k)
+    → ((x : A) → P x → cap_stands true (most_of (make x)) ≡ true) → ((x : A) → P x → IsUnit (make x) (tokens x)) → (xs : List A) → w.Every P xs
+    → OfStage k (map make xs) (map tokens xs)
+stage_lines k make tokens P same stands formed [] h = tt
+stage_lines k make tokens P same stands formed (x ∷ xs) h = (same x, stands x h.0, formed x h.0, stage_lines k make tokens P same stands formed xs h.1)
 
-late : (start : ℕ) (e : Entry) → start ≤ stage_of e → is_late start e ≡ true
+-- behind a header, at this stage
+abbrev behind : ℕ → Place
+behind stage = record { stage = stage; headed = true }
+
+late : (start : ℕ) (e : Entry) → start ≤ stage_of e → nat_le start (stage_of e) ≡ true
 late start e h = grind (arith, nat_tests)
 
-stage-then : (k start : ℕ) (es fs : List Entry) (us vs : List (List Tok)) → start ≤ k → OfStage k es us
-    → ((b : ℕ) → b ≤ k → AllFormed IsUnitAt next_stage b fs vs) → AllFormed IsUnitAt next_stage start (es ++ fs) (us ++ vs)
+may : (start : ℕ) (e : Entry) → start ≤ stage_of e → cap_stands true (most_of e) ≡ true → may_stand (behind start) e ≡ true
+may start e h k = ap (λ b. b && cap_stands true (most_of e)) (late start e h) ∙ k
+
+next : (start k : ℕ) (e : Entry) → stage_of e ≡ suc k → next_place (behind start) e ≡ behind (suc k)
+next start k e h = ap (λ n. record { stage = if n == 0 then 1 else n; headed = true }) h
+
+stage-then : (k start : ℕ) (es fs : List Entry) (us vs : List (List Tok)) → start ≤ suc k → OfStage k es us
+    → ((b : ℕ) → b ≤ suc k → AllFormed IsUnitAt next_place (behind b) fs vs) → AllFormed IsUnitAt next_place (behind start) (es ++ fs) (us ++ vs)
 stage-then k start [] fs [] vs le h more = more start le
 stage-then k start [] fs (u ∷ us) vs le h more = absurd h
 stage-then k start (e ∷ es) fs [] vs le h more = absurd h
-stage-then k start (e ∷ es) fs (u ∷ us) vs le h more =
-    (record { passes = late start e (omega (arith, h.0)); formed = h.1 }, stage-then k (stage_of e) es fs us vs (omega (arith, h.0)) h.2 more)
+stage-then k start (e ∷ es) fs (u ∷ us) vs le h more = (
+  record { passes = may start e (let same = h.0 in omega (arith, same, le)) h.1; formed = h.2 },
+  subst (λ (at : Place). AllFormed IsUnitAt next_place at (es ++ fs) (us ++ vs)) (sym (next start k e h.0))
+  (stage-then k (suc k) es fs us vs (omega arith) h.3 more),
+)
 
 output-formed : (d : Decl) → w.IsDecl d → IsUnit (output d) (decl_toks (codes "output") d)
 unfolding decl_toks
@@ -96,9 +114,15 @@ input-formed : (d : Decl) → w.IsDecl d → IsUnit (input d) (decl_toks (codes 
 unfolding decl_toks
 input-formed d h = record { word = codes "input"; back = _; is = refl; formed = record { value = d; is = refl; formed = decl-formed d h } }
 
-inner-formed : (d : Decl) → w.IsDecl d → IsUnit (inner d) (decl_toks (codes "queue") d)
-unfolding decl_toks
-inner-formed d h = record { word = codes "queue"; back = _; is = refl; formed = record { value = d; is = refl; formed = decl-formed d h } }
+-- a queue that has a capacity of its own, if it has one
+abbrev capped : OwnCaps → Decl → Entry
+capped own d = inner (record { decl = d; most = own d.name })
+
+stands_behind : (most : Option ℕ) → IsOwnCap most → cap_stands true most ≡ true
+stands_behind None k = refl
+stands_behind (Some n) k = let a = k.0 in let b = k.1 in rw (within 1 n a, within n 65536 b) refl where
+  within : (x y : ℕ) → x ≤ y → nat_le x y ≡ true
+  within x y le = grind (arith, nat_tests)
 
 table_formed : (t : TableDecl) → w.IsTable t → IsUnit (table t) (table_toks t)
 unfolding table_toks
@@ -114,45 +138,57 @@ op_formed o h = record { word = codes "op"; back = _; is = refl; formed = record
 
 -- ---- the entries make the plan
 
-add-then : (p : PlanForm) (es fs : List Entry) → add_all p (es ++ fs) ≡ add_all (add_all p es) fs
-add-then p [] fs = refl
-add-then p (e ∷ es) fs = add-then (add p e) es fs
+add-then : (t : TextForm) (es fs : List Entry) → add_all t (es ++ fs) ≡ add_all (add_all t es) fs
+add-then t [] fs = refl
+add-then t (e ∷ es) fs = add-then (add t e) es fs
 
-adds-outputs : (p : PlanForm) (ds : List Decl) → add_all p (map output ds) ≡ record p { outputs = p.outputs ++ ds }
-adds-outputs p [] = ap (λ (l : List Decl). record p { outputs = l }) (sym (append-nil p.outputs))
-adds-outputs p (d ∷ ds) = adds-outputs (add p (output d)) ds ∙ ap (λ (l : List Decl). record p { outputs = l }) (append_assoc p.outputs (d ∷ []) ds)
+abbrev text_with : PlanForm → List Cap → TextForm
+text_with p caps = record { plan = p; caps = caps }
 
-adds-inputs : (p : PlanForm) (ds : List Decl) → add_all p (map input ds) ≡ record p { inputs = p.inputs ++ ds }
-adds-inputs p [] = ap (λ (l : List Decl). record p { inputs = l }) (sym (append-nil p.inputs))
-adds-inputs p (d ∷ ds) = adds-inputs (add p (input d)) ds ∙ ap (λ (l : List Decl). record p { inputs = l }) (append_assoc p.inputs (d ∷ []) ds)
+adds-outputs : (p : PlanForm) (caps : List Cap) (ds : List Decl) → add_all (text_with p caps) (map output ds) ≡ text_with (record p { outputs = p.outputs ++ ds }) caps
+adds-outputs p caps [] = ap (λ (l : List Decl). text_with (record p { outputs = l }) caps) (sym (append-nil p.outputs))
+adds-outputs p caps (d ∷ ds) =
+    adds-outputs (record p { outputs = p.outputs ++ d ∷ [] }) caps ds ∙ ap (λ (l : List Decl). text_with (record p { outputs = l }) caps) (append_assoc p.outputs (d ∷ []) ds)
 
-adds-queues : (p : PlanForm) (ds : List Decl) → add_all p (map inner ds) ≡ record p { queues = p.queues ++ ds }
-adds-queues p [] = ap (λ (l : List Decl). record p { queues = l }) (sym (append-nil p.queues))
-adds-queues p (d ∷ ds) = adds-queues (add p (inner d)) ds ∙ ap (λ (l : List Decl). record p { queues = l }) (append_assoc p.queues (d ∷ []) ds)
+adds-inputs : (p : PlanForm) (caps : List Cap) (ds : List Decl) → add_all (text_with p caps) (map input ds) ≡ text_with (record p { inputs = p.inputs ++ ds }) caps
+adds-inputs p caps [] = ap (λ (l : List Decl). text_with (record p { inputs = l }) caps) (sym (append-nil p.inputs))
+adds-inputs p caps (d ∷ ds) =
+    adds-inputs (record p { inputs = p.inputs ++ d ∷ [] }) caps ds ∙ ap (λ (l : List Decl). text_with (record p { inputs = l }) caps) (append_assoc p.inputs (d ∷ []) ds)
 
-adds-tables : (p : PlanForm) (ds : List TableDecl) → add_all p (map table ds) ≡ record p { tables = p.tables ++ ds }
-adds-tables p [] = ap (λ (l : List TableDecl). record p { tables = l }) (sym (append-nil p.tables))
-adds-tables p (d ∷ ds) = adds-tables (add p (table d)) ds ∙ ap (λ (l : List TableDecl). record p { tables = l }) (append_assoc p.tables (d ∷ []) ds)
+adds-queues : (own : OwnCaps) (p : PlanForm) (caps : List Cap) (ds : List Decl)
+    → add_all (text_with p caps) (map (capped own) ds) ≡ text_with (record p { queues = p.queues ++ ds }) (caps ++ caps_of own ds)
+adds-queues own p caps [] = λ i. text_with (record p { queues = sym (append-nil p.queues) i }) (sym (append-nil caps) i)
+adds-queues own p caps (d ∷ ds) =
+    adds-queues own (record p { queues = p.queues ++ d ∷ [] }) (caps ++ cap_of d.name (own d.name)) ds
+    ∙ (λ i. text_with (record p { queues = append_assoc p.queues (d ∷ []) ds i }) (append_assoc caps (cap_of d.name (own d.name)) (caps_of own ds) i))
 
-adds-vars : (p : PlanForm) (ds : List Name) → add_all p (map private ds) ≡ record p { vars = p.vars ++ ds }
-adds-vars p [] = ap (λ (l : List Name). record p { vars = l }) (sym (append-nil p.vars))
-adds-vars p (d ∷ ds) = adds-vars (add p (private d)) ds ∙ ap (λ (l : List Name). record p { vars = l }) (append_assoc p.vars (d ∷ []) ds)
+adds-tables : (p : PlanForm) (caps : List Cap) (ds : List TableDecl) → add_all (text_with p caps) (map table ds) ≡ text_with (record p { tables = p.tables ++ ds }) caps
+adds-tables p caps [] = ap (λ (l : List TableDecl). text_with (record p { tables = l }) caps) (sym (append-nil p.tables))
+adds-tables p caps (d ∷ ds) =
+    adds-tables (record p { tables = p.tables ++ d ∷ [] }) caps ds ∙ ap (λ (l : List TableDecl). text_with (record p { tables = l }) caps) (append_assoc p.tables (d ∷ []) ds)
 
-adds-ops : (p : PlanForm) (ds : List OpForm) → add_all p (map operator ds) ≡ record p { ops = p.ops ++ ds }
-adds-ops p [] = ap (λ (l : List OpForm). record p { ops = l }) (sym (append-nil p.ops))
-adds-ops p (d ∷ ds) = adds-ops (add p (operator d)) ds ∙ ap (λ (l : List OpForm). record p { ops = l }) (append_assoc p.ops (d ∷ []) ds)
+adds-vars : (p : PlanForm) (caps : List Cap) (ds : List Name) → add_all (text_with p caps) (map private ds) ≡ text_with (record p { vars = p.vars ++ ds }) caps
+adds-vars p caps [] = ap (λ (l : List Name). text_with (record p { vars = l }) caps) (sym (append-nil p.vars))
+adds-vars p caps (d ∷ ds) =
+    adds-vars (record p { vars = p.vars ++ d ∷ [] }) caps ds ∙ ap (λ (l : List Name). text_with (record p { vars = l }) caps) (append_assoc p.vars (d ∷ []) ds)
 
-abbrev entries_of : PlanForm → List Entry
-entries_of p = map output p.outputs ++ (map input p.inputs ++ (map inner p.queues ++ (map table p.tables ++ (map private p.vars ++ map operator p.ops))))
+adds-ops : (p : PlanForm) (caps : List Cap) (ds : List OpForm) → add_all (text_with p caps) (map operator ds) ≡ text_with (record p { ops = p.ops ++ ds }) caps
+adds-ops p caps [] = ap (λ (l : List OpForm). text_with (record p { ops = l }) caps) (sym (append-nil p.ops))
+adds-ops p caps (d ∷ ds) =
+    adds-ops (record p { ops = p.ops ++ d ∷ [] }) caps ds ∙ ap (λ (l : List OpForm). text_with (record p { ops = l }) caps) (append_assoc p.ops (d ∷ []) ds)
 
-made : (p : PlanForm) → add_all empty_form (entries_of p) ≡ p
-made p =
-    add-then empty_form (map output p.outputs) _ ∙ ap (λ (q : PlanForm). add_all q (map input p.inputs ++ (map inner p.queues ++ (map table p.tables ++ (map private p.vars ++ map operator p.ops))))) (adds-outputs empty_form p.outputs)
-    ∙ add-then _ (map input p.inputs) _ ∙ ap (λ (q : PlanForm). add_all q (map inner p.queues ++ (map table p.tables ++ (map private p.vars ++ map operator p.ops)))) (adds-inputs (record empty_form { outputs = p.outputs }) p.inputs)
-    ∙ add-then _ (map inner p.queues) _ ∙ ap (λ (q : PlanForm). add_all q (map table p.tables ++ (map private p.vars ++ map operator p.ops))) (adds-queues (record empty_form { outputs = p.outputs; inputs = p.inputs }) p.queues)
-    ∙ add-then _ (map table p.tables) _ ∙ ap (λ (q : PlanForm). add_all q (map private p.vars ++ map operator p.ops)) (adds-tables (record empty_form { outputs = p.outputs; inputs = p.inputs; queues = p.queues }) p.tables)
-    ∙ add-then _ (map private p.vars) _ ∙ ap (λ (q : PlanForm). add_all q (map operator p.ops)) (adds-vars (record empty_form { outputs = p.outputs; inputs = p.inputs; queues = p.queues; tables = p.tables }) p.vars)
-    ∙ adds-ops (record empty_form { outputs = p.outputs; inputs = p.inputs; queues = p.queues; tables = p.tables; vars = p.vars }) p.ops
+abbrev entries_of : OwnCaps → PlanForm → List Entry
+entries_of own p =
+    map output p.outputs ++ (map input p.inputs ++ (map (capped own) p.queues ++ (map table p.tables ++ (map private p.vars ++ map operator p.ops))))
+
+made : (own : OwnCaps) (p : PlanForm) → add_all empty_text (header ∷ entries_of own p) ≡ stood own p
+made own p =
+    add-then empty_text (map output p.outputs) _ ∙ ap (λ (q : TextForm). add_all q (map input p.inputs ++ (map (capped own) p.queues ++ (map table p.tables ++ (map private p.vars ++ map operator p.ops))))) (adds-outputs empty_form [] p.outputs)
+    ∙ add-then _ (map input p.inputs) _ ∙ ap (λ (q : TextForm). add_all q (map (capped own) p.queues ++ (map table p.tables ++ (map private p.vars ++ map operator p.ops)))) (adds-inputs (record empty_form { outputs = p.outputs }) [] p.inputs)
+    ∙ add-then _ (map (capped own) p.queues) _ ∙ ap (λ (q : TextForm). add_all q (map table p.tables ++ (map private p.vars ++ map operator p.ops))) (adds-queues own (record empty_form { outputs = p.outputs; inputs = p.inputs }) [] p.queues)
+    ∙ add-then _ (map table p.tables) _ ∙ ap (λ (q : TextForm). add_all q (map private p.vars ++ map operator p.ops)) (adds-tables (record empty_form { outputs = p.outputs; inputs = p.inputs; queues = p.queues }) (caps_of own p.queues) p.tables)
+    ∙ add-then _ (map private p.vars) _ ∙ ap (λ (q : TextForm). add_all q (map operator p.ops)) (adds-vars (record empty_form { outputs = p.outputs; inputs = p.inputs; queues = p.queues; tables = p.tables }) (caps_of own p.queues) p.vars)
+    ∙ adds-ops (record empty_form { outputs = p.outputs; inputs = p.inputs; queues = p.queues; tables = p.tables; vars = p.vars }) (caps_of own p.queues) p.ops
 
 -- ---- the text
 
@@ -164,57 +200,73 @@ is_input : is_name_text (codes "input") ≡ true
 unfolding is_letter is_word is_digit
 is_input = refl
 
-is_queue : is_name_text (codes "queue") ≡ true
-unfolding is_letter is_word is_digit
-is_queue = refl
-
-abbrev units : PlanForm → List (List Tok)
-units p =
-    map (decl_toks (codes "output")) p.outputs ++ (map (decl_toks (codes "input")) p.inputs ++ (map (decl_toks (codes "queue")) p.queues
+abbrev units : OwnCaps → PlanForm → List (List Tok)
+units own p =
+    map (decl_toks (codes "output")) p.outputs ++ (map (decl_toks (codes "input")) p.inputs ++ (map (λ d. queue_toks d (own d.name)) p.queues
     ++ (map table_toks p.tables ++ (map var_toks p.vars ++ map op_toks p.ops))))
 
-plan-chunk : (p : PlanForm) → w.IsWritable p → Chunk (plan_text p) (units p)
-plan-chunk p h =
+-- the text behind the header
+abbrev unit_lines : OwnCaps → PlanForm → List ℕ
+unit_lines own p =
+    lines (decl_line (codes "output")) p.outputs ++ (lines (decl_line (codes "input")) p.inputs ++ (lines (queue_line own) p.queues
+    ++ (lines table_line p.tables ++ (lines var_line p.vars ++ lines op_line p.ops))))
+
+plan-chunk : (own : OwnCaps) (p : PlanForm) → HaveOwnCaps own → w.IsWritable p → Chunk (unit_lines own p) (units own p)
+plan-chunk own p fit h =
     chunk-then (lines (decl_line (codes "output")) p.outputs) (map (decl_toks (codes "output")) p.outputs) _ _ (chunk-lines (decl_line (codes "output")) (decl_toks (codes "output")) w.IsDecl (λ d k. decl-unit (codes "output") d is_output refl k) p.outputs h.outputs)
     (chunk-then (lines (decl_line (codes "input")) p.inputs) (map (decl_toks (codes "input")) p.inputs) _ _ (chunk-lines (decl_line (codes "input")) (decl_toks (codes "input")) w.IsDecl (λ d k. decl-unit (codes "input") d is_input refl k) p.inputs h.inputs)
-    (chunk-then (lines (decl_line (codes "queue")) p.queues) (map (decl_toks (codes "queue")) p.queues) _ _ (chunk-lines (decl_line (codes "queue")) (decl_toks (codes "queue")) w.IsDecl (λ d k. decl-unit (codes "queue") d is_queue refl k) p.queues h.queues)
+    (chunk-then (lines (queue_line own) p.queues) (map (λ d. queue_toks d (own d.name)) p.queues) _ _ (chunk-lines (queue_line own) (λ d. queue_toks d (own d.name)) w.IsDecl (λ d k. queue-unit d (own d.name) k (fit d.name)) p.queues h.queues)
     (chunk-then (lines table_line p.tables) (map table_toks p.tables) _ _ (chunk-lines table_line table_toks w.IsTable table-unit p.tables h.tables)
     (chunk-then (lines var_line p.vars) (map var_toks p.vars) _ _ (chunk-lines var_line var_toks w.IsNamed var-unit p.vars h.vars)
     (chunk-lines op_line op_toks w.IsOp op-unit p.ops h.ops)))))
 
-last_stage : (p : PlanForm) → w.IsWritable p → (b : ℕ) → b ≤ 5 → AllFormed IsUnitAt next_stage b (map operator p.ops) (map op_toks p.ops)
-last_stage p h b le =
-    subst (λ (es : List Entry). AllFormed IsUnitAt next_stage b es (map op_toks p.ops)) (append-nil (map operator p.ops))
-    (subst (λ (us : List (List Tok)). AllFormed IsUnitAt next_stage b (map operator p.ops ++ []) us) (append-nil (map op_toks p.ops))
-    (stage-then 5 b (map operator p.ops) [] (map op_toks p.ops) [] le (stage_lines 5 operator op_toks w.IsOp (λ x. refl) op_formed p.ops h.ops) (λ c k. tt)))
+text-chunk : (own : OwnCaps) (p : PlanForm) → HaveOwnCaps own → w.IsWritable p → Chunk (plan_text own p) (header_toks ∷ units own p)
+text-chunk own p fit h =
+    chunk-then header_line (header_toks ∷ []) (unit_lines own p) (units own p) (chunk-unit header_line header_toks header-unit) (plan-chunk own p fit h)
 
-plan-formed : (p : PlanForm) → w.IsWritable p → AreUnits (entries_of p) (units p)
-plan-formed p h =
-    stage-then 0 0 (map output p.outputs) _ (map (decl_toks (codes "output")) p.outputs) _ (omega arith) (stage_lines 0 output (decl_toks (codes "output")) w.IsDecl (λ x. refl) output-formed p.outputs h.outputs) (λ a la.
-    stage-then 1 a (map input p.inputs) _ (map (decl_toks (codes "input")) p.inputs) _ (omega arith) (stage_lines 1 input (decl_toks (codes "input")) w.IsDecl (λ x. refl) input-formed p.inputs h.inputs) (λ b lb.
-    stage-then 2 b (map inner p.queues) _ (map (decl_toks (codes "queue")) p.queues) _ (omega arith) (stage_lines 2 inner (decl_toks (codes "queue")) w.IsDecl (λ x. refl) inner-formed p.queues h.queues) (λ c lc.
-    stage-then 3 c (map table p.tables) _ (map table_toks p.tables) _ (omega arith) (stage_lines 3 table table_toks w.IsTable (λ x. refl) table_formed p.tables h.tables) (λ d ld.
-    stage-then 4 d (map private p.vars) _ (map var_toks p.vars) _ (omega arith) (stage_lines 4 private var_toks w.IsNamed (λ x. refl) var_formed p.vars h.vars) (λ e le.
+last_stage : (p : PlanForm) → w.IsWritable p → (b : ℕ) → b ≤ 6 → AllFormed IsUnitAt next_place (behind b) (map operator p.ops) (map op_toks p.ops)
+last_stage p h b le =
+    subst (λ (es : List Entry). AllFormed IsUnitAt next_place (behind b) es (map op_toks p.ops)) (append-nil (map operator p.ops))
+    (subst (λ (us : List (List Tok)). AllFormed IsUnitAt next_place (behind b) (map operator p.ops ++ []) us) (append-nil (map op_toks p.ops))
+    (stage-then 5 b (map operator p.ops) [] (map op_toks p.ops) [] le (stage_lines 5 operator op_toks w.IsOp (λ x. refl) (λ x k. refl) op_formed p.ops h.ops) (λ c k. tt)))
+
+plan-formed : (own : OwnCaps) (p : PlanForm) → HaveOwnCaps own → w.IsWritable p → AreUnits (behind 1) (entries_of own p) (units own p)
+plan-formed own p fit h =
+    stage-then 0 1 (map output p.outputs) _ (map (decl_toks (codes "output")) p.outputs) _ (omega arith) (stage_lines 0 output (decl_toks (codes "output")) w.IsDecl (λ x. refl) (λ x k. refl) output-formed p.outputs h.outputs) (λ a la.
+    stage-then 1 a (map input p.inputs) _ (map (decl_toks (codes "input")) p.inputs) _ (omega arith) (stage_lines 1 input (decl_toks (codes "input")) w.IsDecl (λ x. refl) (λ x k. refl) input-formed p.inputs h.inputs) (λ b lb.
+    stage-then 2 b (map (capped own) p.queues) _ (map (λ d. queue_toks d (own d.name)) p.queues) _ (omega arith) (stage_lines 2 (capped own) (λ d. queue_toks d (own d.name)) w.IsDecl (λ x. refl) (λ d k. stands_behind (own d.name) (fit d.name)) (λ d k. queue-formed d (own d.name) k (fit d.name)) p.queues h.queues) (λ c lc.
+    stage-then 3 c (map table p.tables) _ (map table_toks p.tables) _ (omega arith) (stage_lines 3 table table_toks w.IsTable (λ x. refl) (λ x k. refl) table_formed p.tables h.tables) (λ d ld.
+    stage-then 4 d (map private p.vars) _ (map var_toks p.vars) _ (omega arith) (stage_lines 4 private var_toks w.IsNamed (λ x. refl) (λ x k. refl) var_formed p.vars h.vars) (λ e le.
     last_stage p h e (omega arith))))))
 
 cut-nothing : cut 0 [] ≡ []
 unfolding cut
 cut-nothing = refl
 
-stands : (p : PlanForm) → w.IsWritable p → IsText (plan_text p) p
-stands p h =
-    let chunk = plan-chunk p h in
-    let (ms, lexed, same) = spells-whole (plan_text p) (joined (units p)) chunk.spells tt in
-    let whole : units_of (joined (units p)) ≡ units p =
-    ap (cut 0) (sym (append-nil (joined (units p)))) ∙ chunk.whole [] refl ∙ ap (λ (l : List (List Tok)). units p ++ l) cut-nothing ∙ append-nil (units p) in
+-- a header first, and then the units
+text-formed : (own : OwnCaps) (p : PlanForm) → HaveOwnCaps own → w.IsWritable p
+    → AreUnits (record { stage = 0; headed = false }) (header ∷ entries_of own p) (header_toks ∷ units own p)
+text-formed own p fit h = (record { passes = refl; formed = header-formed }, plan-formed own p fit h)
+
+stands : (own : OwnCaps) (p : PlanForm) → HaveOwnCaps own → w.IsWritable p → IsText (plan_text own p) (stood own p)
+stands own p fit h =
+    let all : List (List Tok) = header_toks ∷ units own p in
+    let chunk = text-chunk own p fit h in
+    let (ms, lexed, same) = spells-whole (plan_text own p) (joined all) chunk.spells tt in
+    let whole : units_of (joined all) ≡ all =
+    ap (cut 0) (sym (append-nil (joined all))) ∙ chunk.whole [] refl ∙ ap (λ (l : List (List Tok)). all ++ l) cut-nothing ∙ append-nil all in
+    let first : first_place ms ≡ record { stage = 0; headed = false } =
+    ap (λ b. record { stage = if b then 0 else 1; headed = false }) (header-short (unit_lines own p) ms lexed) in
     record {
       marks = ms;
       lexed = lexed;
-      entries = entries_of p;
-      formed = subst (λ (us : List (List Tok)). AreUnits (entries_of p) us) (sym (ap units_of same ∙ whole)) (plan-formed p h);
-      is = sym (made p);
+      entries = header ∷ entries_of own p;
+      formed =
+          subst (λ (at : Place). AreUnits at (header ∷ entries_of own p) (units_of (toks ms))) (sym first)
+          (subst (λ (us : List (List Tok)). AreUnits (record { stage = 0; headed = false }) (header ∷ entries_of own p) us) (sym (ap units_of same ∙ whole)) (text-formed own p fit h));
+      is = sym (made own p);
     }
 
--- the law: a plan that has what the grammar has is read back, and no other
+-- the law: a plan that has what the grammar has is read back with its capacities, and no other
 pub printed_is_read : PrintedIsRead
-printed_is_read p h = (stands p h, λ q t. one_plan (plan_text p) q p t (stands p h))
+printed_is_read own p fit h = (stands own p fit h, λ u t. one_plan (plan_text own p) u (stood own p) t (stands own p fit h))

@@ -56,22 +56,22 @@ pub record UnitPiece (bytes : List ℕ) (ts : List Tok) : Type 0 where
 
 -- ---- lines
 
-abbrev Line : List ℕ → List Tok → Type 0
+abbrev pub Line : List ℕ → List Tok → Type 0
 Line bytes ts = Spells bytes ts Anything
 
 -- no word goes on at these bytes, whatever comes behind
 pub record EndsNow (bytes : List ℕ) : Type 0 where
   pub now : (rest : List ℕ) → NoWord (bytes ++ rest)
 
-now-blank : (u : List ℕ) → EndsNow (codes " " ++ u)
+pub now-blank : (u : List ℕ) → EndsNow (codes " " ++ u)
 unfolding first_is is_word is_letter is_digit
 now-blank u = record { now = λ rest. refl }
 
-now-colon : (u : List ℕ) → EndsNow (codes ":" ++ u)
+pub now-colon : (u : List ℕ) → EndsNow (codes ":" ++ u)
 unfolding first_is is_word is_letter is_digit
 now-colon u = record { now = λ rest. refl }
 
-now-semicolon : (u : List ℕ) → EndsNow (codes ";" ++ u)
+pub now-semicolon : (u : List ℕ) → EndsNow (codes ";" ++ u)
 unfolding first_is is_word is_letter is_digit
 now-semicolon u = record { now = λ rest. refl }
 
@@ -79,10 +79,10 @@ now-line : (u : List ℕ) → EndsNow (codes "\n" ++ u)
 unfolding first_is is_word is_letter is_digit
 now-line u = record { now = λ rest. refl }
 
-line-then : (a : List ℕ) (ts : List Tok) (u : List ℕ) (us : List Tok) → Piece a ts → Line u us → EndsNow u → Line (a ++ u) (ts ++ us)
+pub line-then : (a : List ℕ) (ts : List Tok) (u : List ℕ) (us : List Tok) → Piece a ts → Line u us → EndsNow u → Line (a ++ u) (ts ++ us)
 line-then a ts u us x y e = spells-then a ts u us x.spells y (λ rest any. e.now rest)
 
-line-blank : (u : List ℕ) (us : List Tok) → Line u us → Line (codes " " ++ u) us
+pub line-blank : (u : List ℕ) (us : List Tok) → Line u us → Line (codes " " ++ u) us
 line-blank u us y = blank-then u us y
 
 line-symbol : (x : Symbol) (u : List ℕ) (us : List Tok) → Line u us → ((rest : List ℕ) → MayFollow x (u ++ rest)) → Line (symbol_bytes x ++ u) (symbol x ∷ us)
@@ -91,22 +91,22 @@ line-symbol x u us y follows = spells-then (symbol_bytes x) (symbol x ∷ []) u 
 line-end : Line (codes "\n") []
 line-end = spells-blank 10 line_is
 
-semicolon-end : Line (codes ";\n") (symbol s.Semicolon ∷ [])
+pub semicolon-end : Line (codes ";\n") (symbol s.Semicolon ∷ [])
 semicolon-end = line-symbol s.Semicolon (codes "\n") [] line-end (λ rest. tt)
 
-name-piece : (v : List ℕ) → is_name_text v ≡ true → Piece v (name v ∷ [])
+pub name-piece : (v : List ℕ) → is_name_text v ≡ true → Piece v (name v ∷ [])
 name-piece v is = record { spells = spells-name v is; inside = inside-name v }
 
 var-piece : (v : List ℕ) → is_name_text v ≡ true → Piece (var_text v) (var v ∷ [])
 var-piece v is = record { spells = spells-var v is; inside = inside-var v }
 
 -- `: ` before a line
-colon-line : (u : List ℕ) (us : List Tok) → Line u us → Line (codes ": " ++ u) (symbol s.Colon ∷ us)
+pub colon-line : (u : List ℕ) (us : List Tok) → Line u us → Line (codes ": " ++ u) (symbol s.Colon ∷ us)
 colon-line u us y = line-symbol s.Colon (codes " " ++ u) us (line-blank u us y) (λ rest. tt)
 
 -- ---- types
 
-one_count : (n : ℕ) → w.IsCount n → AllPieces (decimal n ∷ []) (count_tok n ∷ [])
+pub one_count : (n : ℕ) → w.IsCount n → AllPieces (decimal n ∷ []) (count_tok n ∷ [])
 one_count n h = pieces form.Count decimal count_tok w.IsCount count-item (n ∷ []) (h, tt)
 
 unfoldable pub flat_toks : FlatType → List Tok
@@ -140,12 +140,12 @@ flat-piece (Rows n) h = worded (codes "rows") (decimal n ∷ []) (count_tok n �
 flat-piece (Stream n) h = worded (codes "stream") (decimal n ∷ []) (count_tok n ∷ []) is_stream (one_count n h)
 flat-piece (Relation n) h = worded (codes "relation") (decimal n ∷ []) (count_tok n ∷ []) is_relation (one_count n h)
 
-type-piece : (t : QueueType) → w.IsType t → Piece (type_text t) (type_toks t)
+pub type-piece : (t : QueueType) → w.IsType t → Piece (type_text t) (type_toks t)
 unfolding type_toks
 type-piece (Flat t) h = flat-piece t h
 type-piece (Pack t) h = worded (codes "pack") (flat_text t ∷ []) (flat_toks t ∷ []) is_pack (flat-piece t h, tt)
 
-count-round : (n : ℕ) → w.IsCount n → Round (λ m. form.Count) 128 n (listed (count_tok n ∷ []) [])
+pub count-round : (n : ℕ) → w.IsCount n → Round (λ m. form.Count) 128 n (listed (count_tok n ∷ []) [])
 count-round n h = round-formed (λ k. form.Count) 127 n (count_tok n) (count-formed n h)
 
 inner_count : (n : ℕ) → w.IsCount n → Round (λ m. form.Count) 127 n (listed (count_tok n ∷ []) [])
@@ -160,7 +160,7 @@ flat-formed (Stream n) h =
 flat-formed (Relation n) h =
     record { word = codes "relation"; back = listed (count_tok n ∷ []) []; is = refl; formed = record { value = n; is = refl; formed = inner_count n h } }
 
-type-formed : (t : QueueType) → w.IsType t → p.IsType t (type_toks t)
+pub type-formed : (t : QueueType) → w.IsType t → p.IsType t (type_toks t)
 unfolding type_toks flat_toks
 type-formed (Flat (Rows n)) h =
     record { word = codes "rows"; back = listed (count_tok n ∷ []) []; is = refl; formed = record { value = Rows n; is = refl; formed = record { value = n; is = refl; formed = count-round n h } } }
@@ -203,7 +203,7 @@ decl-whole word n (Pack (Rows k)) rest = refl
 decl-whole word n (Pack (Stream k)) rest = refl
 decl-whole word n (Pack (Relation k)) rest = refl
 
-named-formed : (v : List ℕ) → is_name v ≡ true → p.IsName v (name v ∷ [])
+pub named-formed : (v : List ℕ) → is_name v ≡ true → p.IsName v (name v ∷ [])
 named-formed v h = record { passes = h; formed = refl }
 
 variable-formed : (v : List ℕ) → is_name v ≡ true → p.IsVar v (var v ∷ [])

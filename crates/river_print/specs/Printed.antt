@@ -16,6 +16,7 @@ use Rattle.river_base.specs.declared.kind.FlatType.TheVariants.{Rows, Stream, Re
 use Rattle.river_base.specs.declared.kind.QueueType.{QueueType}
 use Rattle.river_base.specs.declared.kind.QueueType.TheVariants.{Flat, Pack}
 use Rattle.river_kernels.specs.Kern as kern
+use Rattle.river_plan.specs.Caps.{OwnCaps}
 use Rattle.river_plan.specs.Forms.{Name, OpForm, PlanForm}
 use Rattle.river_plan.specs.declared.plan.Decl.{Decl}
 use Rattle.river_plan.specs.declared.plan.TableDecl.{TableDecl}
@@ -104,9 +105,21 @@ table_text (Maximum best k) = codes "maximum" ++ list_text (decimal best ∷ dec
 abbrev pub var_text : Name → List ℕ
 var_text v = codes "$" ++ v
 
+-- a capacity behind a space, or nothing
+abbrev pub cap_text : Option ℕ → List ℕ
+cap_text None = []
+cap_text (Some n) = codes " cap" ++ list_text (decimal n ∷ [])
+
 -- the units, each a line
 abbrev pub decl_line : List ℕ → Decl → List ℕ
 decl_line word d = word ++ (codes " " ++ (d.name ++ (codes ": " ++ (type_text d.kind ++ codes ";\n"))))
+
+-- a queue with a capacity of its own, if it has one
+abbrev pub capped_line : Decl → Option ℕ → List ℕ
+capped_line d most = codes "queue " ++ (d.name ++ (codes ": " ++ (type_text d.kind ++ (cap_text most ++ codes ";\n"))))
+
+abbrev pub queue_line : OwnCaps → Decl → List ℕ
+queue_line own d = capped_line d (own d.name)
 
 abbrev pub table_line : TableDecl → List ℕ
 table_line t = codes "table " ++ (var_text t.name ++ (codes ": " ++ (table_text t.kind ++ codes ";\n")))
@@ -129,7 +142,17 @@ abbrev pub lines : {A : Type 0} → (A → List ℕ) → List A → List ℕ
 lines line [] = []
 lines line (x ∷ xs) = line x ++ lines line xs
 
-abbrev pub plan_text : PlanForm → List ℕ
-plan_text p =
-    lines (decl_line (codes "output")) p.outputs ++ (lines (decl_line (codes "input")) p.inputs ++ (lines (decl_line (codes "queue")) p.queues
-    ++ (lines table_line p.tables ++ (lines var_line p.vars ++ lines op_line p.ops))))
+-- the header of version 2
+abbrev pub header_line : List ℕ
+header_line = codes "river 2;\n"
+
+-- the plan, with these capacities of its internal queues
+abbrev pub plan_text : OwnCaps → PlanForm → List ℕ
+plan_text own p =
+    header_line ++ (lines (decl_line (codes "output")) p.outputs ++ (lines (decl_line (codes "input")) p.inputs ++ (lines (queue_line own) p.queues
+    ++ (lines table_line p.tables ++ (lines var_line p.vars ++ lines op_line p.ops)))))
+
+-- its header and its queues
+abbrev pub queues_text : OwnCaps → PlanForm → List ℕ
+queues_text own p =
+    header_line ++ (lines (decl_line (codes "output")) p.outputs ++ (lines (decl_line (codes "input")) p.inputs ++ lines (queue_line own) p.queues))

@@ -1,50 +1,116 @@
 // Prints plans.
 ghost use Rattle.std.specs.Prelude.{◌≡◌, ◌++◌, ◌↔◌, map, IfOk, OnOk};
 ghost use Rattle.kern_tables.specs.declared.kind.TableKind.TheVariants as table_kind;
+ghost use Rattle.river_plan.specs.Caps.{AreCaps, first_cap, own_of};
 ghost use Rattle.river_plan.specs.Forms.{plan_form, op_form};
-ghost use Rattle.river_print.specs.Laws.{StandsForAlone};
+ghost use Rattle.river_print.specs.Laws.{StandsForAlone, stood};
 ghost use Rattle.river_print.specs.Printable.{IsPrintable};
-ghost use Rattle.river_print.specs.Printed.{flat_text, type_text, table_text, decl_line, table_line, var_line, op_line, head_text, lines, plan_text};
+ghost use Rattle.river_print.specs.Printed.{flat_text, type_text, table_text, cap_text, decl_line, capped_line, queue_line, table_line, var_line, op_line, head_text, lines, queues_text, plan_text};
 
 use crate::items::{counted, ports, two_in_brackets, var};
 use crate::kernel::print_kernel;
 use crate::ranges::read_plan;
 use kern_tables::TableKind;
 use river_base::{Bytes, FlatType, Name, NoMemory, QueueType};
-use river_plan::{Decl, Op, Plan, RawPlan, TableDecl};
+use river_plan::{Caps, CapsByName, Decl, Op, Plan, RawPlan, TableDecl};
 use std::alloc::Global;
 
-/// The River text of a valid plan, one unit a line. It is in the grammar and stands for the plan and for no other, exactly
-/// where `if` nests at most 16 deep and no window's range is below 0.
+/// The River text of a valid plan, of version 2, one unit a line; an internal queue has the capacity that
+/// the first entry with its name says. It is in the grammar and stands for the plan and these capacities
+/// and for nothing else, exactly where `if` nests at most 16 deep and no window's range is below 0.
 #[tactic(auto, using(crate::proofs::Promise::promises))]
-pub fn print_river(alloc: Global, plan: &Plan) -> Result<Bytes, NoMemory>
-    ensures text { IfOk result (λ text. text ≡ plan_text plan.now) }
-    ensures read { IfOk result (λ text. StandsForAlone text plan.now ↔ IsPrintable plan.now) }
+pub fn print_river(alloc: Global, plan: &Plan, caps: &Caps) -> Result<Bytes, NoMemory>
+    requires { AreCaps caps.now }
+    ensures text { IfOk result (λ text. text ≡ plan_text (first_cap caps.now) plan.now) }
+    ensures read { IfOk result (λ text. StandsForAlone text (stood (first_cap caps.now) plan.now) ↔ IsPrintable plan.now) }
 {
     read_plan(plan.raw());
-    print_raw(alloc, plan.raw())
+    print_raw(alloc, plan.raw(), caps)
 }
 
-/// The River text of these lists, one unit a line. Two plans with the same lists have the same text.
+/// The River text of these lists with these capacities, one unit a line. Two plans with the same lists and
+/// the same first capacity of each internal queue have the same text.
 #[tactic(auto, using(crate::proofs::Joined::joins))]
-pub fn print_raw(alloc: Global, plan: &RawPlan) -> Result<Bytes, NoMemory>
-    ensures { IfOk result (λ text. text ≡ plan_text (plan_form plan.now)) }
+pub fn print_raw(alloc: Global, plan: &RawPlan, caps: &Caps) -> Result<Bytes, NoMemory>
+    ensures { IfOk result (λ text. text ≡ plan_text (first_cap caps.now) (plan_form plan.now)) }
 {
+    let own = CapsByName::new(alloc, caps)?;
     let mut text = Bytes::new(alloc);
-    plan_lines(alloc, plan, &mut text)?;
+    plan_lines(alloc, plan, &own, &mut text)?;
     Ok(text)
 }
 
 #[tactic(auto, using(crate::proofs::Joined::joins))]
-fn plan_lines(alloc: Global, plan: &RawPlan, to: &mut Bytes) -> Result<(), NoMemory>
-    ensures { OnOk result (to.new ≡ to.old ++ plan_text (plan_form plan.now)) }
+fn plan_lines(
+    alloc: Global,
+    plan: &RawPlan,
+    own: &CapsByName,
+    to: &mut Bytes,
+) -> Result<(), NoMemory>
+    ensures { OnOk result (to.new ≡ to.old ++ plan_text (own_of own.now) (plan_form plan.now)) }
 {
-    decl_lines(alloc, b"output", plan.outputs.as_slice(), to)?;
-    decl_lines(alloc, b"input", plan.inputs.as_slice(), to)?;
-    decl_lines(alloc, b"queue", plan.queues.as_slice(), to)?;
+    queue_lines(alloc, plan, own, to)?;
     table_lines(alloc, plan.tables.as_slice(), to)?;
     var_lines(plan.vars.as_slice(), to)?;
     op_lines(alloc, plan.ops.as_slice(), to)
+}
+
+// The header, and the queues.
+#[tactic(auto, using(crate::proofs::Joined::joins))]
+fn queue_lines(
+    alloc: Global,
+    plan: &RawPlan,
+    own: &CapsByName,
+    to: &mut Bytes,
+) -> Result<(), NoMemory>
+    ensures { OnOk result (to.new ≡ to.old ++ queues_text (own_of own.now) (plan_form plan.now)) }
+{
+    to.extend(b"river 2;\n")?;
+    decl_lines(alloc, b"output", plan.outputs.as_slice(), to)?;
+    decl_lines(alloc, b"input", plan.inputs.as_slice(), to)?;
+    inner_lines(alloc, plan.queues.as_slice(), own, to)
+}
+
+#[tactic(auto, using(crate::proofs::Joined::joins))]
+fn inner_lines(
+    alloc: Global,
+    decls: &[Decl],
+    own: &CapsByName,
+    to: &mut Bytes,
+) -> Result<(), NoMemory>
+    ensures { OnOk result (to.new ≡ to.old ++ lines (queue_line (own_of own.now)) decls.now) }
+{
+    for decl in decls {
+        print_queue(alloc, decl, own.own(decl.name), to)?;
+    }
+    Ok(())
+}
+
+#[tactic(auto, using(crate::proofs::Joined::joins))]
+fn print_queue(
+    alloc: Global,
+    decl: &Decl,
+    most: Option<u32>,
+    to: &mut Bytes,
+) -> Result<(), NoMemory>
+    ensures { OnOk result (to.new ≡ to.old ++ capped_line decl.now most) }
+{
+    to.extend(b"queue ")?;
+    to.extend(decl.name.as_slice())?;
+    to.extend(b": ")?;
+    print_type(alloc, decl.kind, to)?;
+    print_cap(alloc, most, to)?;
+    to.extend(b";\n")
+}
+
+// A capacity behind a space, if there is one.
+fn print_cap(alloc: Global, most: Option<u32>, to: &mut Bytes) -> Result<(), NoMemory>
+    ensures { OnOk result (to.new ≡ to.old ++ cap_text most) }
+{
+    match most {
+        Some(most) => counted(alloc, b" cap", most, to),
+        None => Ok(()),
+    }
 }
 
 #[tactic(auto, using(crate::proofs::Joined::joins))]

@@ -6,7 +6,7 @@ use Rattle.work_code.specs.Tok.{Mark, toks}
 use Rattle.work_code.specs.declared.fault.LexFault.{LexFault}
 use Rattle.work_code.specs.declared.fault.LexFault.TheVariants as lex
 use Rattle.work_code.proofs.Slices.{no_want}
-use Rattle.river_plan.specs.Forms.{PlanForm, empty_form}
+use Rattle.river_plan.specs.Forms.{PlanForm}
 use Rattle.river_plan.specs.Told.{fault_of, first_fault_found, IsTold}
 use Rattle.river_plan.specs.Valid.{FirstFault, IsPlan}
 use Rattle.river_plan.specs.declared.fault.PlanFault.{PlanFault}
@@ -18,7 +18,7 @@ use Rattle.text_forms.specs.declared.refusal.Refusal.TheVariants.{BadByte, BigNu
 use Rattle.river_text.specs.Faults.{Refuses}
 use Rattle.river_text.specs.Laws.{IsBadAt, Has, MeansWhatItHas}
 use Rattle.river_text.specs.Meaning.{plan_in, checked, or_fault, then_checked, then_read, from_lexer, from_text, from_plan, Refused}
-use Rattle.river_text.specs.Plans.{IsText, next_stage}
+use Rattle.river_text.specs.Plans.{IsText, TextForm, empty_text, first_place, next_place}
 use Rattle.river_text.specs.ReadPlans.{read_plan}
 use Rattle.river_text.specs.declared.fault.TextFault.{TextFault}
 use Rattle.river_text.specs.declared.fault.TextFault.TheVariants as text_fault
@@ -28,13 +28,13 @@ use Rattle.river_text.proofs.Plans.{exact-unit_from}
 use Rattle.river_text.proofs.Texts.{text-read, text-bad, text-reads, plan-read, added}
 
 -- the lists that are read of these tokens
-abbrev lists : List Mark → Result PlanForm ℕ
-lists marks = read_plan 0 1 empty_form (units_of (toks marks))
+abbrev lists : List Mark → Result TextForm ℕ
+lists marks = read_plan (first_place marks) 1 empty_text (units_of (toks marks))
 
 -- ---- FROM THE GRAMMAR
 
 -- a text that stands for lists means what their check says
-pub stands-means : (text : List ℕ) (p : PlanForm) → IsText text p → plan_in text ≡ checked p
+pub stands-means : (text : List ℕ) (p : TextForm) → IsText text p → plan_in text ≡ checked p
 unfolding plan_in
 stands-means text p t = ap then_read t.lexed ∙ ap then_checked (text-reads text p t)
 
@@ -43,7 +43,7 @@ pub bad-means : (text : List ℕ) (unit : ℕ) → IsBadAt text unit → plan_in
 unfolding plan_in
 bad-means text unit b =
     let units = units_of (toks b.marks) in
-    let read : lists b.marks ≡ Err unit = plan-read 0 1 empty_form units ∙ ap (added empty_form) (bad-read tt next_stage exact-unit_from 0 units unit b.first) in
+    let read : lists b.marks ≡ Err unit = plan-read (first_place b.marks) 1 empty_text units ∙ ap (added empty_text) (bad-read tt next_place exact-unit_from (first_place b.marks) units unit b.first) in
     ap then_read b.lexed ∙ ap then_checked read
 
 -- one with a fault of its bytes means this fault
@@ -51,15 +51,15 @@ pub lexed-means : (text : List ℕ) (fault : LexFault) → tokens_in text ≡ Er
 unfolding plan_in
 lexed-means text fault e = ap then_read e
 
-valid-checked : (p : PlanForm) → IsPlan p → checked p ≡ Ok p
+valid-checked : (p : TextForm) → IsPlan p.plan → checked p ≡ Ok p
 unfolding checked
-valid-checked p valid = ap (or_fault p) (fault_of-is p None (valid-no_fault p valid))
+valid-checked p valid = ap (or_fault p) (fault_of-is p.plan None (valid-no_fault p.plan valid))
 
-fault-checked : (p : PlanForm) (fault : PlanFault) → FirstFault p (Some fault) → checked p ≡ Err (Plan fault)
+fault-checked : (p : TextForm) (fault : PlanFault) → FirstFault p.plan (Some fault) → checked p ≡ Err (Plan fault)
 unfolding checked
-fault-checked p fault first = ap (or_fault p) (fault_of-is p (Some fault) first)
+fault-checked p fault first = ap (or_fault p) (fault_of-is p.plan (Some fault) first)
 
-has-means : (text : List ℕ) (meant : Result PlanForm RiverFault) → Has text meant → plan_in text ≡ meant
+has-means : (text : List ℕ) (meant : Result TextForm RiverFault) → Has text meant → plan_in text ≡ meant
 has-means text (Ok p) h = stands-means text p h.0 ∙ valid-checked p h.1
 has-means text (Err (Text (BadByte at))) h = lexed-means text (lex.BadByte at) h
 has-means text (Err (Text (BigNumber at))) h = lexed-means text (lex.BigNumber at) h
@@ -69,17 +69,17 @@ has-means text (Err NoMemory) h = absurd h
 
 -- ---- TO THE GRAMMAR
 
-checked-has : (text : List ℕ) (p : PlanForm) → IsText text p → Has text (checked p)
+checked-has : (text : List ℕ) (p : TextForm) → IsText text p → Has text (checked p)
 unfolding checked
-checked-has text p t = by (fault_of p) (first_fault_found p).1 where
-  by : (o : Option PlanFault) → FirstFault p o → Has text (or_fault p o)
-  by None none = (t, no_fault-valid p none)
+checked-has text p t = by (fault_of p.plan) (first_fault_found p.plan).1 where
+  by : (o : Option PlanFault) → FirstFault p.plan o → Has text (or_fault p o)
+  by None none = (t, no_fault-valid p.plan none)
   by (Some fault) first = (p, t, first)
 
 means-has : (text : List ℕ) → Has text (plan_in text)
 unfolding plan_in
 means-has text = by (tokens_in text) refl where
-  read : (marks : List Mark) → tokens_in text ≡ Ok marks → (r : Result PlanForm ℕ) → lists marks ≡ r → Has text (then_checked r)
+  read : (marks : List Mark) → tokens_in text ≡ Ok marks → (r : Result TextForm ℕ) → lists marks ≡ r → Has text (then_checked r)
   read marks lexed (Ok p) e = checked-has text p (text-read text marks p lexed e)
   read marks lexed (Err unit) e = text-bad text marks unit lexed e
 
@@ -104,24 +104,25 @@ unread-means text (text_fault.Syntax unit) h = bad-means text unit h.0
 unread-means text text_fault.NoMemory h = tt
 
 -- the lists of a text are checked
-pub valid-means : (text : List ℕ) (p q : PlanForm) → IsText text p → IsTold p (Ok q) → plan_in text ≡ Ok q
+pub valid-means : (text : List ℕ) (t : TextForm) (q : PlanForm) → IsText text t → IsTold t.plan (Ok q) → plan_in text ≡ Ok (record { plan = q; caps = t.caps })
 unfolding checked
-valid-means text p q t told = stands-means text p t ∙ ap (or_fault p) told.1 ∙ ap (λ (r : PlanForm). Ok r) (sym told.0)
+valid-means text t q is told =
+    stands-means text t is ∙ ap (or_fault t) told.1 ∙ ap (λ (p : PlanForm). Ok (record { plan = p; caps = t.caps })) (sym told.0)
 
-told-means : (text : List ℕ) (p : PlanForm) (fault : PlanFault) → IsText text p → fault_of p ≡ Some fault → plan_in text ≡ Err (Plan fault)
+told-means : (text : List ℕ) (t : TextForm) (fault : PlanFault) → IsText text t → fault_of t.plan ≡ Some fault → plan_in text ≡ Err (Plan fault)
 unfolding checked
-told-means text p fault t told = stands-means text p t ∙ ap (or_fault p) told
+told-means text t fault is told = stands-means text t is ∙ ap (or_fault t) told
 
-pub unfit-means : (text : List ℕ) (p : PlanForm) (fault : PlanFault) → IsText text p → IsTold p (Err fault) → Refused (plan_in text) (from_plan fault)
-unfit-means text p (plan.P1 n) t told = told-means text p (plan.P1 n) t told
-unfit-means text p (plan.P2 n) t told = told-means text p (plan.P2 n) t told
-unfit-means text p (plan.P3 n) t told = told-means text p (plan.P3 n) t told
-unfit-means text p (plan.P4 n) t told = told-means text p (plan.P4 n) t told
-unfit-means text p (plan.P5 n) t told = told-means text p (plan.P5 n) t told
-unfit-means text p (plan.P6 n) t told = told-means text p (plan.P6 n) t told
-unfit-means text p (plan.P7 n) t told = told-means text p (plan.P7 n) t told
-unfit-means text p (plan.P8 l n) t told = told-means text p (plan.P8 l n) t told
-unfit-means text p (plan.P9 n) t told = told-means text p (plan.P9 n) t told
-unfit-means text p plan.NoMemory t told = tt
+pub unfit-means : (text : List ℕ) (t : TextForm) (fault : PlanFault) → IsText text t → IsTold t.plan (Err fault) → Refused (plan_in text) (from_plan fault)
+unfit-means text t (plan.P1 n) is told = told-means text t (plan.P1 n) is told
+unfit-means text t (plan.P2 n) is told = told-means text t (plan.P2 n) is told
+unfit-means text t (plan.P3 n) is told = told-means text t (plan.P3 n) is told
+unfit-means text t (plan.P4 n) is told = told-means text t (plan.P4 n) is told
+unfit-means text t (plan.P5 n) is told = told-means text t (plan.P5 n) is told
+unfit-means text t (plan.P6 n) is told = told-means text t (plan.P6 n) is told
+unfit-means text t (plan.P7 n) is told = told-means text t (plan.P7 n) is told
+unfit-means text t (plan.P8 l n) is told = told-means text t (plan.P8 l n) is told
+unfit-means text t (plan.P9 n) is told = told-means text t (plan.P9 n) is told
+unfit-means text t plan.NoMemory is told = tt
 
 pub ruleset fronts = (unread-means, valid-means, unfit-means)

@@ -1,4 +1,5 @@
 pub mod Braces
+pub mod Capped
 pub mod Fronts
 pub mod Kernels
 pub mod Loops

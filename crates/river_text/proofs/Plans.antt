@@ -12,14 +12,17 @@ use Rattle.text_forms.specs.Parse as parse
 use Rattle.text_forms.specs.Parse.{Parse}
 use Rattle.text_forms.specs.Forms as form
 use Rattle.text_forms.proofs.Exact.{Exact, Any, exact-as, exact-less, exact-both, exact-after, exact-before, exact-tested, exact-seen, exact-merged, exact-name}
-use Rattle.text_forms.proofs.Exact.{exact-var}
+use Rattle.text_forms.proofs.Exact.{exact-var, exact-number, exact-maybe, exact-after_word}
 use Rattle.text_forms.proofs.Pairs.{some_inj}
 use Rattle.std.proofs.lemmas.List.{map-append}
 use Rattle.text_forms.proofs.Choices.{exact-never, exact-choose, exact-headed, exact-known, exact-listing}
 use Rattle.river_text.specs.Plans.{IsName, IsVar, brackets, FlatAfter, IsFlat, IsType, made_decl, IsDecl, made_maximum, made_table, IsTable, Port, queue}
-use Rattle.river_text.specs.Plans.{variable, IsPort, IsPorts, Ports, same_vars, made_op, IsOp, output, input, inner, table, private, operator, IsUnit, is_late}
+use Rattle.river_text.specs.Plans.{variable, IsPort, IsPorts, Ports, same_vars, made_op, IsOp, output, input, inner, table, private, operator, IsUnit, may_stand, as_header}
+use Rattle.river_text.specs.Plans.{made_queue, IsCapped, IsQueue, is_two, IsHeader}
+use Rattle.text_blocks.specs.Parts.{Round}
+use Rattle.river_text.specs.declared.entry.Place.{Place}
 use Rattle.river_text.specs.Plans.{IsUnitAt}
-use Rattle.river_text.specs.ReadPlans.{river_name_at, river_var_at, flat_after, flat_at, packed_at, type_after, type_at, decl_at, kind_after, kind_at, table_at}
+use Rattle.river_text.specs.ReadPlans.{river_name_at, river_var_at, flat_after, flat_at, packed_at, type_after, type_at, decl_at, cap_at, queue_at, header_at, kind_after, kind_at, table_at}
 use Rattle.river_text.specs.ReadPlans.{is_var_at, port_at, split_from, port_list_at, ports_at, op_at, private_at, unit_after, unit_at, unit_from}
 use Rattle.river_text.proofs.Kernels.{exact-counted, exact-pair, exact-round, exact-braced}
 use Rattle.river_text.proofs.Regroup.{op-same}
@@ -52,6 +55,27 @@ exact-decl : Exact IsDecl decl_at Any
 unfolding decl_at
 exact-decl =
     exact-seen made_decl (exact-both exact-river_name (exact-after (s.Colon ∷ []) (exact-before (s.Semicolon ∷ []) exact-type (λ rest. tt))) (λ y ts rest g d. tt))
+
+-- a capacity does not come next
+abbrev NoCap : List Tok → Type 0
+NoCap rest = parse.is_word_at (codes "cap") rest ≡ false
+
+exact-cap : Exact IsCapped cap_at NoCap
+unfolding cap_at
+exact-cap =
+    exact-less (exact-maybe (parse.is_word_at (codes "cap")) (exact-after_word (codes "cap") (exact-counted brackets)) comes) (λ rest d. (tt, d))
+  where
+    comes : (v : ℕ) (ts rest : List Tok) → form.AfterWord (codes "cap") (Round (λ m. form.Count) brackets) v ts → parse.is_word_at (codes "cap") (ts ++ rest) ≡ true
+    comes v ts rest h = rw h.is refl
+
+exact-queue : Exact IsQueue queue_at Any
+unfolding queue_at
+exact-queue =
+    exact-seen made_queue (exact-both exact-river_name (exact-after (s.Colon ∷ []) (exact-before (s.Semicolon ∷ []) (exact-both exact-type exact-cap (λ y ts rest g d. tt)) (λ rest. refl))) (λ y ts rest g d. tt))
+
+exact-header : Exact IsHeader header_at Any
+unfolding header_at
+exact-header = exact-before (s.Semicolon ∷ []) (exact-tested is_two exact-number) (λ rest. tt)
 
 exact-table : Exact IsTable table_at Any
 unfolding table_at kind_at kind_after
@@ -136,11 +160,12 @@ unfolding unit_at unit_after
 exact-unit =
     exact-headed (λ w. exact-choose (bytes_eq w (codes "output")) (exact-seen output exact-decl)
     (exact-choose (bytes_eq w (codes "input")) (exact-seen input exact-decl)
-    (exact-choose (bytes_eq w (codes "queue")) (exact-seen inner exact-decl)
+    (exact-choose (bytes_eq w (codes "queue")) (exact-seen inner exact-queue)
     (exact-choose (bytes_eq w (codes "table")) (exact-seen table exact-table)
     (exact-choose (bytes_eq w (codes "var")) (exact-seen private exact-private)
-    (exact-choose (bytes_eq w (codes "op")) (exact-seen operator exact-op) exact-never))))))
+    (exact-choose (bytes_eq w (codes "op")) (exact-seen operator exact-op)
+    (exact-choose (bytes_eq w (codes "river")) (exact-seen as_header exact-header) exact-never)))))))
 
--- a unit that stands late enough
-pub exact-unit_from : (stage : ℕ) → Exact (IsUnitAt stage) (unit_from stage) Any
-exact-unit_from stage = exact-tested (is_late stage) exact-unit
+-- a unit that may stand there
+pub exact-unit_from : (at : Place) → Exact (IsUnitAt at) (unit_from at) Any
+exact-unit_from at = exact-tested (may_stand at) exact-unit

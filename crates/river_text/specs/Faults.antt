@@ -3,12 +3,12 @@ use Rattle.std.specs.Prelude.{◌≡◌, ℕ, List, Result, Ok, Err}
 use Rattle.work_code.specs.Lexis.{tokens_in}
 use Rattle.work_code.specs.declared.fault.LexFault.{LexFault}
 use Rattle.work_code.specs.declared.fault.LexFault.TheVariants as lexical
-use Rattle.river_plan.specs.Forms.{PlanForm, plan_form}
-use Rattle.river_plan.specs.declared.plan.RawPlan.{RawPlan}
+use Rattle.river_text.specs.Entries.{text_form}
+use Rattle.river_text.specs.declared.entry.RiverText.{RiverText}
 use Rattle.river_text.specs.declared.fault.TextFault.{TextFault}
 use Rattle.river_text.specs.declared.fault.TextFault.TheVariants.{Lex, Syntax, NoMemory}
 use Rattle.river_text.specs.Laws.{IsBadAt}
-use Rattle.river_text.specs.Plans.{IsText}
+use Rattle.river_text.specs.Plans.{IsText, TextForm}
 
 abbrev pub from_lexer : LexFault → TextFault
 from_lexer (lexical.BadByte at) = Lex (lexical.BadByte at)
@@ -17,7 +17,7 @@ from_lexer lexical.NoMemory = NoMemory
 
 -- no plan
 abbrev pub StandsForNone : List ℕ → Type 0
-StandsForNone text = (p : PlanForm) → IsText text p → ⊥
+StandsForNone text = (t : TextForm) → IsText text t → ⊥
 
 -- the fault of the bytes is there, or the unit is the first that is not in the grammar; and the text stands for no plan
 abbrev pub Refuses : List ℕ → TextFault → Type 0
@@ -28,15 +28,15 @@ Refuses text (Syntax unit) = IsBadAt text unit × StandsForNone text
 Refuses text NoMemory = Unit {0}
 
 -- the plan that was read, or the unit that is none
-abbrev pub GivesPlan : Result RawPlan TextFault → Result PlanForm ℕ → Type 0
-GivesPlan (Ok plan) read = read ≡ Ok (plan_form plan)
+abbrev pub GivesPlan : Result RiverText TextFault → Result TextForm ℕ → Type 0
+GivesPlan (Ok text) read = read ≡ Ok (text_form text)
 GivesPlan (Err (Lex f)) read = ⊥
 GivesPlan (Err (Syntax unit)) read = read ≡ Err unit
 GivesPlan (Err NoMemory) read = Unit {0}
 
--- the units were added to the plan, or this unit is none
-abbrev pub AddsUnits : Result (Unit {0}) TextFault → RawPlan → Result PlanForm ℕ → Type 0
-AddsUnits (Ok u) plan read = read ≡ Ok (plan_form plan)
-AddsUnits (Err (Lex f)) plan read = ⊥
-AddsUnits (Err (Syntax unit)) plan read = read ≡ Err unit
-AddsUnits (Err NoMemory) plan read = Unit {0}
+-- the units were added to what was read, or this unit is none
+abbrev pub AddsUnits : Result (Unit {0}) TextFault → RiverText → Result TextForm ℕ → Type 0
+AddsUnits (Ok u) text read = read ≡ Ok (text_form text)
+AddsUnits (Err (Lex f)) text read = ⊥
+AddsUnits (Err (Syntax unit)) text read = read ≡ Err unit
+AddsUnits (Err NoMemory) text read = Unit {0}

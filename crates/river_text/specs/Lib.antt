@@ -1,4 +1,5 @@
 pub mod Bodies
+pub mod Checked
 pub mod Entries
 pub mod ExactBodies
 pub mod ExactExpressions

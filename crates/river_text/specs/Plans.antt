@@ -1,16 +1,19 @@
 -- The grammar of River text.
 --
---     text   = { output } { input } { queue } { table } { var } { op }
+--     text   = [ "river" "2" ";" ] { output } { input } { queue } { table } { var } { op }
 --     output = "output" NAME ":" type ";"
 --     input  = "input" NAME ":" type ";"
---     queue  = "queue" NAME ":" type ";"
+--     queue  = "queue" NAME ":" type [ "cap" "(" N ")" ] ";"
 --     table  = "table" VAR ":" ( "sum" "(" N ")" | "collection" "(" N ")" | "maximum" "(" N "," N ")" ) ";"
 --     var    = "var" VAR ";"
 --     op     = "op" NAME ":" "(" list ")" "<-" "(" list ")" "{" kernel "}"
 --     type   = flat | "pack" "(" flat ")"
 --     flat   = ( "rows" | "stream" | "relation" ) "(" N ")"
 --     list   = NAMEs and then VARs, separated by commas, or nothing
-use Rattle.std.specs.Prelude.{◌≡◌, ℕ, ◌++◌, Bool, List, [], ◌∷◌, map, Ok, codes, nat_le}
+--
+-- The first line is the header of version 2; the number in it is the one byte `2`. A text without it is of version 1. `cap` stands only
+-- behind a header, and its number is 1 to 65,536.
+use Rattle.std.specs.Prelude.{◌≡◌, ℕ, ◌+◌, ◌++◌, Bool, true, false, ◌&&◌, ◌||◌, ◌==◌, List, [], ◌∷◌, Option, None, Some, map, Ok, codes, nat_le, if◌then◌else◌}
 use Rattle.std.specs.Str.{bytes_eq}
 use Rattle.std.specs.Cmp.Lexicographic.{pointwise}
 use Rattle.work_code.specs.Cut.{units_of}
@@ -25,13 +28,17 @@ use Rattle.river_base.specs.declared.kind.QueueType.TheVariants.{Flat, Pack}
 use Rattle.kern_tables.specs.declared.kind.TableKind.{TableKind}
 use Rattle.kern_tables.specs.declared.kind.TableKind.TheVariants.{Sum, Collection, Maximum}
 use Rattle.river_kernels.specs.Kern.{Kern}
+use Rattle.river_plan.specs.Caps.{cap_of}
 use Rattle.river_plan.specs.Forms.{OpForm, PlanForm, empty_form}
+use Rattle.river_plan.specs.declared.caps.Cap.{Cap}
 use Rattle.river_plan.specs.declared.plan.Decl.{Decl}
 use Rattle.river_plan.specs.declared.plan.TableDecl.{TableDecl}
-use Rattle.text_forms.specs.Forms.{Count, Name, Var, Never, Both, After, Before, Tested, Seen, Merged, Listing, Choose, Headed}
+use Rattle.text_forms.specs.Forms.{Count, Name, Number, Var, Never, Both, After, AfterWord, Before, Tested, Seen, Maybe, Merged, Listing, Choose, Headed}
 use Rattle.text_forms.specs.Texts.{AllFormed}
 use Rattle.text_blocks.specs.Parts.{Round}
 use Rattle.river_text.specs.Kernels.{IsBraced}
+use Rattle.river_text.specs.declared.decl.QueueDecl.{QueueDecl}
+use Rattle.river_text.specs.declared.entry.Place.{Place}
 
 -- NAME and VAR, of at most 64 bytes
 abbrev pub IsName : List ℕ → List Tok → Type 0
@@ -65,6 +72,23 @@ made_decl v = record { name = v.0; kind = v.1 }
 
 abbrev pub IsDecl : Decl → List Tok → Type 0
 IsDecl = Seen made_decl (Both IsName (After (s.Colon ∷ []) (Before IsType (s.Semicolon ∷ []))))
+
+-- NAME ":" type [ "cap" "(" N ")" ] ";"
+abbrev pub made_queue : List ℕ × (QueueType × Option ℕ) → QueueDecl
+made_queue v = record { decl = record { name = v.0; kind = v.1.0 }; most = v.1.1 }
+
+abbrev pub IsCapped : Option ℕ → List Tok → Type 0
+IsCapped = Maybe (AfterWord (codes "cap") (Round (λ m. Count) brackets))
+
+abbrev pub IsQueue : QueueDecl → List Tok → Type 0
+IsQueue = Seen made_queue (Both IsName (After (s.Colon ∷ []) (Before (Both IsType IsCapped) (s.Semicolon ∷ []))))
+
+-- "2" ";"
+abbrev pub is_two : ℕ → Bool
+is_two n = n == 2
+
+abbrev pub IsHeader : ℕ → List Tok → Type 0
+IsHeader = Before (Tested is_two Number) (s.Semicolon ∷ [])
 
 -- the kind of a table
 abbrev pub made_maximum : ℕ × ℕ → TableKind
@@ -110,68 +134,113 @@ IsOp =
     Seen made_op (Tested same_vars (Both IsName (After (s.Colon ∷ []) (Both (Round (λ m. IsPorts) brackets)
     (After (s.Less ∷ s.Minus ∷ []) (Both (Round (λ m. IsPorts) brackets) (IsBraced brackets)))))))
 
--- what a unit adds to a plan
+-- what a unit says: that the text is of version 2, or what is added to a plan
 pub data Entry : Type 0 where
+  header : Entry
   output : Decl → Entry
   input : Decl → Entry
-  inner : Decl → Entry
+  inner : QueueDecl → Entry
   table : TableDecl → Entry
   private : List ℕ → Entry
   operator : OpForm → Entry
 
 -- the units come in this order
 abbrev pub stage_of : Entry → ℕ
-stage_of (output d) = 0
-stage_of (input d) = 1
-stage_of (inner d) = 2
-stage_of (table t) = 3
-stage_of (private v) = 4
-stage_of (operator o) = 5
+stage_of header = 0
+stage_of (output d) = 1
+stage_of (input d) = 2
+stage_of (inner q) = 3
+stage_of (table t) = 4
+stage_of (private v) = 5
+stage_of (operator o) = 6
+
+abbrev pub as_header : ℕ → Entry
+as_header version = header
 
 abbrev pub UnitAfter : List ℕ → Entry → List Tok → Type 0
 UnitAfter w =
     Choose (bytes_eq w (codes "output")) (Seen output IsDecl)
     (Choose (bytes_eq w (codes "input")) (Seen input IsDecl)
-    (Choose (bytes_eq w (codes "queue")) (Seen inner IsDecl)
+    (Choose (bytes_eq w (codes "queue")) (Seen inner IsQueue)
     (Choose (bytes_eq w (codes "table")) (Seen table IsTable)
     (Choose (bytes_eq w (codes "var")) (Seen private (Before IsVar (s.Semicolon ∷ [])))
     (Choose (bytes_eq w (codes "op")) (Seen operator IsOp)
-    Never)))))
+    (Choose (bytes_eq w (codes "river")) (Seen as_header IsHeader)
+    Never))))))
 
 abbrev pub IsUnit : Entry → List Tok → Type 0
 IsUnit = Headed UnitAfter
 
--- a unit that stands late enough
-abbrev pub is_late : ℕ → Entry → Bool
-is_late stage e = nat_le stage (stage_of e)
+-- a capacity stands only behind a header, and it is 1 to 65,536
+abbrev pub is_cap : ℕ → Bool
+is_cap n = nat_le 1 n && nat_le n 65536
 
-abbrev pub IsUnitAt : ℕ → Entry → List Tok → Type 0
-IsUnitAt stage = Tested (is_late stage) IsUnit
+abbrev pub cap_stands : Bool → Option ℕ → Bool
+cap_stands headed None = true
+cap_stands headed (Some n) = headed && is_cap n
 
-abbrev pub next_stage : ℕ → Entry → ℕ
-next_stage stage e = stage_of e
+abbrev pub most_of : Entry → Option ℕ
+most_of header = None
+most_of (output d) = None
+most_of (input d) = None
+most_of (inner q) = q.most
+most_of (table t) = None
+most_of (private v) = None
+most_of (operator o) = None
 
--- the plan with one entry more, at the end of its list
-abbrev pub add : PlanForm → Entry → PlanForm
-add p (output d) = record p { outputs = p.outputs ++ d ∷ [] }
-add p (input d) = record p { inputs = p.inputs ++ d ∷ [] }
-add p (inner d) = record p { queues = p.queues ++ d ∷ [] }
-add p (table t) = record p { tables = p.tables ++ t ∷ [] }
-add p (private v) = record p { vars = p.vars ++ v ∷ [] }
-add p (operator o) = record p { ops = p.ops ++ o ∷ [] }
+-- a unit that may stand there: late enough, and with a capacity only where it may have one
+abbrev pub may_stand : Place → Entry → Bool
+may_stand at e = nat_le at.stage (stage_of e) && cap_stands at.headed (most_of e)
 
-abbrev pub add_all : PlanForm → List Entry → PlanForm
-add_all p [] = p
-add_all p (e ∷ es) = add_all (add p e) es
+abbrev pub IsUnitAt : Place → Entry → List Tok → Type 0
+IsUnitAt at = Tested (may_stand at) IsUnit
+
+-- behind any unit there is no header
+abbrev pub is_header : Entry → Bool
+is_header e = stage_of e == 0
+
+abbrev pub next_place : Place → Entry → Place
+next_place at e = record { stage = if is_header e then 1 else stage_of e; headed = at.headed || is_header e }
+
+-- where a text begins: a header may come where the second token is one byte long, as `2` is
+abbrev pub is_second_short : List Mark → Bool
+is_second_short [] = false
+is_second_short (m ∷ []) = false
+is_second_short (m ∷ k ∷ ms) = k.end == k.start + 1
+
+abbrev pub first_place : List Mark → Place
+first_place marks = record { stage = if is_second_short marks then 0 else 1; headed = false }
+
+-- what a text stands for: the lists of a plan, and the capacities that it gives to queues, in order
+pub record TextForm : Type 0 where
+  pub plan : PlanForm
+  pub caps : List Cap
+
+abbrev pub empty_text : TextForm
+empty_text = record { plan = empty_form; caps = [] }
+
+-- with one entry more, at the end of its list
+abbrev pub add : TextForm → Entry → TextForm
+add t header = t
+add t (output d) = record { plan = record t.plan { outputs = t.plan.outputs ++ d ∷ [] }; caps = t.caps }
+add t (input d) = record { plan = record t.plan { inputs = t.plan.inputs ++ d ∷ [] }; caps = t.caps }
+add t (inner q) = record { plan = record t.plan { queues = t.plan.queues ++ q.decl ∷ [] }; caps = t.caps ++ cap_of q.decl.name q.most }
+add t (table d) = record { plan = record t.plan { tables = t.plan.tables ++ d ∷ [] }; caps = t.caps }
+add t (private v) = record { plan = record t.plan { vars = t.plan.vars ++ v ∷ [] }; caps = t.caps }
+add t (operator o) = record { plan = record t.plan { ops = t.plan.ops ++ o ∷ [] }; caps = t.caps }
+
+abbrev pub add_all : TextForm → List Entry → TextForm
+add_all t [] = t
+add_all t (e ∷ es) = add_all (add t e) es
 
 -- the units stand for the entries
-abbrev pub AreUnits : List Entry → List (List Tok) → Type 0
-AreUnits entries units = AllFormed IsUnitAt next_stage 0 entries units
+abbrev pub AreUnits : Place → List Entry → List (List Tok) → Type 0
+AreUnits at entries units = AllFormed IsUnitAt next_place at entries units
 
--- the text stands for the plan: it has tokens, and their units stand for entries, one after another
-pub record IsText (text : List ℕ) (p : PlanForm) : Type 0 where
+-- what the text stands for: it has tokens, and their units stand for entries, one after another
+pub record IsText (text : List ℕ) (t : TextForm) : Type 0 where
   pub marks : List Mark
   pub lexed : tokens_in text ≡ Ok marks
   pub entries : List Entry
-  pub formed : AreUnits entries (units_of (toks marks))
-  pub is : p ≡ add_all empty_form entries
+  pub formed : AreUnits (first_place marks) entries (units_of (toks marks))
+  pub is : t ≡ add_all empty_text entries

@@ -10,15 +10,18 @@ use Rattle.river_base.specs.declared.kind.QueueType.{QueueType}
 use Rattle.river_base.specs.declared.kind.QueueType.TheVariants.{Flat, Pack}
 use Rattle.kern_tables.specs.declared.kind.TableKind.{TableKind}
 use Rattle.kern_tables.specs.declared.kind.TableKind.TheVariants.{Sum, Collection}
-use Rattle.river_plan.specs.Forms.{OpForm, PlanForm}
+use Rattle.river_plan.specs.Forms.{OpForm}
 use Rattle.river_plan.specs.declared.plan.Decl.{Decl}
 use Rattle.river_plan.specs.declared.plan.TableDecl.{TableDecl}
 use Rattle.river_kernels.specs.Kern.{Kern}
-use Rattle.text_forms.specs.Parse.{Parse, name_at, var_at, run_at, then_read, then_rest, given, both, after, before, tested, seen, known, merged, listing}
+use Rattle.text_forms.specs.Parse.{Parse, is_word_at, name_at, var_at, run_at, then_read, then_rest, given, both, after, after_word, before, maybe, tested, seen, known, merged, listing}
+use Rattle.text_forms.specs.Parse as parse
 use Rattle.text_forms.specs.Parse.{headed}
 use Rattle.text_forms.specs.Texts.{whole}
 use Rattle.river_text.specs.Plans.{brackets, made_decl, made_maximum, made_table, Port, queue, variable, Ports, same_vars, made_op, Entry, output, input, inner}
-use Rattle.river_text.specs.Plans.{table, private, operator, stage_of, is_late, add}
+use Rattle.river_text.specs.Plans.{table, private, operator, made_queue, is_two, as_header, may_stand, next_place, TextForm, add}
+use Rattle.river_text.specs.declared.decl.QueueDecl.{QueueDecl}
+use Rattle.river_text.specs.declared.entry.Place.{Place}
 use Rattle.river_text.specs.ReadKernels.{round, number_at, pair_at, braced_at}
 
 unfoldable pub river_name_at : Parse (List ℕ)
@@ -48,6 +51,16 @@ type_at ts = headed type_after ts
 
 unfoldable pub decl_at : Parse Decl
 decl_at ts = seen made_decl (both river_name_at (after (s.Colon ∷ []) (before type_at (s.Semicolon ∷ [])))) ts
+
+-- a capacity, or nothing
+unfoldable pub cap_at : Parse (Option ℕ)
+cap_at ts = maybe (is_word_at (codes "cap")) (after_word (codes "cap") (number_at brackets)) ts
+
+unfoldable pub queue_at : Parse QueueDecl
+queue_at ts = seen made_queue (both river_name_at (after (s.Colon ∷ []) (before (both type_at cap_at) (s.Semicolon ∷ [])))) ts
+
+unfoldable pub header_at : Parse ℕ
+header_at ts = before (tested is_two parse.number_at) (s.Semicolon ∷ []) ts
 
 unfoldable pub kind_after : List ℕ → Parse TableKind
 kind_after w ts =
@@ -106,23 +119,24 @@ unfoldable pub unit_after : List ℕ → Parse Entry
 unit_after w ts =
     if bytes_eq w (codes "output") then seen output decl_at ts
     else if bytes_eq w (codes "input") then seen input decl_at ts
-    else if bytes_eq w (codes "queue") then seen inner decl_at ts
+    else if bytes_eq w (codes "queue") then seen inner queue_at ts
     else if bytes_eq w (codes "table") then seen table table_at ts
     else if bytes_eq w (codes "var") then seen private private_at ts
     else if bytes_eq w (codes "op") then seen operator op_at ts
+    else if bytes_eq w (codes "river") then seen as_header header_at ts
     else None
 
 unfoldable pub unit_at : Parse Entry
 unit_at ts = headed unit_after ts
 
-abbrev pub unit_from : ℕ → Parse Entry
-unit_from stage ts = tested (is_late stage) unit_at ts
+abbrev pub unit_from : Place → Parse Entry
+unit_from at ts = tested (may_stand at) unit_at ts
 
--- the plan of the units, of which the first has number n, behind what stands in p; or the first unit that is none
-abbrev pub with_entry : ℕ → (Entry → Result PlanForm ℕ) → Option Entry → Result PlanForm ℕ
+-- what the units say, of which the first has number n, behind what stands in t; or the first unit that is none
+abbrev pub with_entry : ℕ → (Entry → Result TextForm ℕ) → Option Entry → Result TextForm ℕ
 with_entry n more None = Err n
 with_entry n more (Some e) = more e
 
-unfoldable pub read_plan : (stage n : ℕ) → PlanForm → List (List Tok) → Result PlanForm ℕ
-read_plan stage n p [] = Ok p
-read_plan stage n p (u ∷ us) = with_entry n (λ e. read_plan (stage_of e) (n + 1) (add p e) us) (whole (unit_from stage) u)
+unfoldable pub read_plan : Place → (n : ℕ) → TextForm → List (List Tok) → Result TextForm ℕ
+read_plan at n t [] = Ok t
+read_plan at n t (u ∷ us) = with_entry n (λ e. read_plan (next_place at e) (n + 1) (add t e) us) (whole (unit_from at) u)

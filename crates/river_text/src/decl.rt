@@ -1,13 +1,13 @@
 // Declarations read.
 ghost use Rattle.std.specs.Prelude.{◌≡◌};
 ghost use Rattle.text_forms.specs.Gives.{Gives};
-ghost use Rattle.river_text.specs.ReadPlans.{river_name_at, river_var_at, flat_after, flat_at, packed_at, type_at, decl_at, kind_at, table_at, private_at};
+ghost use Rattle.river_text.specs.ReadPlans.{river_name_at, river_var_at, flat_after, flat_at, packed_at, type_at, decl_at, cap_at, queue_at, header_at, kind_at, table_at, private_at};
 
 use crate::number::{number, pair};
 use kern_tables::TableKind;
 use river_base::{FlatType, Name, QueueType};
 use river_plan::{Decl, TableDecl};
-use text_forms::{Fault, Reader, closed, is};
+use text_forms::{Fault, Reader, closed, is, kept};
 use work_code::Symbol;
 
 /// How many brackets may be open in a unit.
@@ -94,6 +94,50 @@ pub fn decl(reader: &mut Reader<'_>) -> Result<Decl, Fault>
     reader.expect(&[Symbol::Colon])?;
     let kind = queue_type(reader)?;
     closed(reader, Decl { name, kind }, Symbol::Semicolon)
+}
+
+/// The declaration of a queue that is neither an output nor an input.
+#[derive(Clone, Copy)]
+pub struct QueueDecl {
+    /// Its name and what it carries.
+    pub decl: Decl,
+    /// How many items it holds at most, where the text says so.
+    pub most: Option<u32>,
+}
+
+// `cap(N)`, or nothing.
+#[tactic(auto, unfolding(crate::specs::ReadPlans::cap_at))]
+fn cap(reader: &mut Reader<'_>) -> Result<Option<u32>, Fault>
+    ensures { Gives (λ most. most) result reader.new (cap_at reader.old) }
+{
+    if !reader.is_at_word(b"cap") {
+        return Ok(None);
+    }
+    reader.skip();
+    Ok(Some(number(reader, BRACKETS)?))
+}
+
+/// The declaration of a queue that may have a capacity, behind its first word.
+#[tactic(auto, unfolding(crate::specs::ReadPlans::queue_at))]
+pub fn queue(reader: &mut Reader<'_>) -> Result<QueueDecl, Fault>
+    ensures { Gives (λ queue. queue) result reader.new (queue_at reader.old) }
+{
+    let name = river_name(reader)?;
+    reader.expect(&[Symbol::Colon])?;
+    let kind = queue_type(reader)?;
+    let most = cap(reader)?;
+    let decl = Decl { name, kind };
+    closed(reader, QueueDecl { decl, most }, Symbol::Semicolon)
+}
+
+/// The header of version 2, behind its first word.
+#[tactic(auto, unfolding(crate::specs::ReadPlans::header_at))]
+pub fn header(reader: &mut Reader<'_>) -> Result<u64, Fault>
+    ensures { Gives (λ version. version) result reader.new (header_at reader.old) }
+{
+    let number = reader.number()?;
+    let version = kept(number, number == 2)?;
+    closed(reader, version, Symbol::Semicolon)
 }
 
 // The kind of a table.

@@ -1,60 +1,132 @@
 // Units read.
-ghost use Rattle.std.specs.Prelude.{◌≡◌, ◌≤◌, ◌↔◌, [], IsTrue, OnOk};
+ghost use Rattle.std.specs.Prelude.{◌≡◌, ◌↔◌, [], true, IsTrue, OnOk};
 ghost use Rattle.text_forms.specs.Gives.{Gives};
 ghost use Rattle.text_forms.specs.Texts.{whole};
 ghost use Rattle.work_code.specs.Tok.{tokens_of};
-ghost use Rattle.river_plan.specs.Forms.{plan_form};
-ghost use Rattle.river_text.specs.Plans.{add, stage_of};
+ghost use Rattle.river_text.specs.Plans.{add, cap_stands, inner, may_stand, most_of, next_place, stage_of};
 ghost use Rattle.river_text.specs.ReadPlans.{unit_at, unit_from};
-ghost use Rattle.river_text.specs.Entries.{entry_of};
+ghost use Rattle.river_text.specs.Entries.{entry_of, text_form};
 ghost use Rattle.text_forms.specs.Gives.{Makes};
 
-use crate::decl::{decl, private, table};
+use crate::decl::{QueueDecl, decl, header, private, queue, table};
 use crate::op::operator;
 use river_base::{Name, NoMemory};
-use river_plan::{Decl, Op, RawPlan, TableDecl};
+use river_plan::{Cap, Caps, Decl, Op, RawPlan, TableDecl};
 use std::alloc::Global;
 use text_forms::{Fault, Reader, is, kept};
 use work_code::Lexeme;
 
-/// What a unit adds to a plan.
+/// What a unit says: that the text is of version 2, or what is added to a plan.
 #[derive(Drop)]
 pub enum Entry {
+    Header,
     Output(Decl),
     Input(Decl),
-    Queue(Decl),
+    Queue(QueueDecl),
     Table(TableDecl),
     Var(Name),
     Op(Op),
 }
 
+/// A place in a text, between its units.
+#[derive(Clone, Copy)]
+pub struct Place {
+    /// The least place of units that may come.
+    pub stage: u32,
+    /// Whether there is a header before it.
+    pub headed: bool,
+}
+
+/// What a text stands for: the lists of a plan, and the capacities that it gives to queues, in order.
+#[derive(Drop)]
+pub struct RiverText {
+    pub raw: RawPlan,
+    pub caps: Caps,
+}
+
 impl Entry {
-    /// The place of such units in a text: 0 for outputs up to 5 for operators.
+    /// The place of such units in a text: 0 for a header, 1 for outputs up to 6 for operators.
     pub fn stage(&self) -> u32
         ensures { result ≡ stage_of (entry_of self.now) }
     {
         match self {
-            Entry::Output(_) => 0,
-            Entry::Input(_) => 1,
-            Entry::Queue(_) => 2,
-            Entry::Table(_) => 3,
-            Entry::Var(_) => 4,
-            Entry::Op(_) => 5,
+            Entry::Header => 0,
+            Entry::Output(_) => 1,
+            Entry::Input(_) => 2,
+            Entry::Queue(_) => 3,
+            Entry::Table(_) => 4,
+            Entry::Var(_) => 5,
+            Entry::Op(_) => 6,
+        }
+    }
+
+    // The capacity that it gives to a queue.
+    fn most(&self) -> Option<u32>
+        ensures { result ≡ most_of (entry_of self.now) }
+    {
+        match self {
+            Entry::Queue(queue) => queue.most,
+            _ => None,
+        }
+    }
+
+    // Whether it may stand there: late enough, and with a capacity only where it may have one.
+    fn may_stand(&self, at: Place) -> bool
+        ensures { result ≡ may_stand at (entry_of self.now) }
+    {
+        at.stage <= self.stage() && cap_stands(at.headed, self.most())
+    }
+
+    /// What may come behind it.
+    pub fn next_place(&self, at: Place) -> Place
+        ensures { result ≡ next_place at (entry_of self.now) }
+    {
+        let stage = self.stage();
+        let is_header = stage == 0;
+        Place {
+            stage: if is_header { 1 } else { stage },
+            headed: at.headed || is_header,
         }
     }
 
     /// Puts this at the end of its list.
-    pub fn add_to(self, plan: &mut RawPlan) -> Result<(), NoMemory>
-        ensures { OnOk result (plan_form plan.new ≡ add (plan_form plan.old) (entry_of self)) }
+    pub fn add_to(self, text: &mut RiverText) -> Result<(), NoMemory>
+        ensures { OnOk result (text_form text.new ≡ add (text_form text.old) (entry_of self)) }
     {
+        let plan = &mut text.raw;
         match self {
+            Entry::Header => Ok(()),
             Entry::Output(decl) => plan.outputs.push(decl),
             Entry::Input(decl) => plan.inputs.push(decl),
-            Entry::Queue(decl) => plan.queues.push(decl),
+            Entry::Queue(queue) => add_queue(queue, text),
             Entry::Table(table) => plan.tables.push(table),
             Entry::Var(name) => plan.vars.push(name),
             Entry::Op(op) => plan.ops.push(op),
         }
+    }
+}
+
+// Puts a queue at the end of its list, and its capacity, if it has one, at the end of the capacities.
+fn add_queue(queue: QueueDecl, text: &mut RiverText) -> Result<(), NoMemory>
+    ensures { OnOk result (text_form text.new ≡ add (text_form text.old) (inner queue)) }
+{
+    text.raw.queues.push(queue.decl)?;
+    if let Some(most) = queue.most {
+        text.caps.push(Cap {
+            queue: queue.decl.name,
+            most,
+        })?;
+    }
+    Ok(())
+}
+
+// Whether a queue may have this capacity: behind a header, and from 1 to 65,536.
+fn cap_stands(headed: bool, most: Option<u32>) -> bool
+    ensures { result ≡ cap_stands headed most }
+{
+    match most {
+        None => true,
+        Some(most) => headed && 1 <= most && most <= 65_536,
     }
 }
 
@@ -71,7 +143,7 @@ fn unit(reader: &mut Reader<'_>, alloc: Global) -> Result<Entry, Fault>
         return Ok(Entry::Input(decl(reader)?));
     }
     if is(word, b"queue") {
-        return Ok(Entry::Queue(decl(reader)?));
+        return Ok(Entry::Queue(queue(reader)?));
     }
     if is(word, b"table") {
         return Ok(Entry::Table(table(reader)?));
@@ -82,23 +154,27 @@ fn unit(reader: &mut Reader<'_>, alloc: Global) -> Result<Entry, Fault>
     if is(word, b"op") {
         return Ok(Entry::Op(operator(reader, alloc)?));
     }
+    if is(word, b"river") {
+        let _version = header(reader)?;
+        return Ok(Entry::Header);
+    }
     Err(Fault::Syntax)
 }
 
-// Whether an entry is of this stage or of a later one, and no token is left behind it.
-fn fits(entry: &Entry, reader: &Reader<'_>, stage: u32) -> bool
-    ensures { IsTrue result ↔ ((reader.now ≡ []) × (stage ≤ stage_of (entry_of entry.now))) }
+// Whether an entry may stand there, and no token is left behind it.
+fn fits(entry: &Entry, reader: &Reader<'_>, at: Place) -> bool
+    ensures { IsTrue result ↔ ((reader.now ≡ []) × (may_stand at (entry_of entry.now) ≡ true)) }
 {
-    reader.is_at_end() && stage <= entry.stage()
+    reader.is_at_end() && entry.may_stand(at)
 }
 
-/// The entry of a whole unit that stands behind units of this stage.
+/// The entry of a whole unit that stands there.
 #[tactic(auto, using(crate::proofs::Wholes::whole_none))]
-pub fn whole_entry(alloc: Global, tokens: &[Lexeme<'_>], stage: u32) -> Result<Entry, Fault>
-    ensures { Makes entry_of result (whole (unit_from stage) (tokens_of tokens.now)) }
+pub fn whole_entry(alloc: Global, tokens: &[Lexeme<'_>], at: Place) -> Result<Entry, Fault>
+    ensures { Makes entry_of result (whole (unit_from at) (tokens_of tokens.now)) }
 {
     let mut reader = Reader::new(tokens);
     let entry = unit(&mut reader, alloc)?;
-    let fits = fits(&entry, &reader, stage);
+    let fits = fits(&entry, &reader, at);
     kept(entry, fits)
 }

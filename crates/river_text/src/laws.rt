@@ -1,10 +1,11 @@
 //! Laws over the definitions alone.
-ghost use Rattle.river_text.specs.Laws.{OnePlan, MeansWhatItHas, ExpressionsAreExact};
+ghost use Rattle.river_text.specs.Laws.{OnePlan, CapsFit, MeansWhatItHas, ExpressionsAreExact};
 
-/// A text stands for one plan at most.
-#[tactic(auto, using(crate::proofs::Texts::one_plan))]
+/// A text stands for one plan at most, with one list of capacities, and these are 1 to 65,536.
+#[tactic(auto, using(crate::proofs::Texts::one_plan, crate::proofs::Capped::caps_fit))]
 pub fn one_plan()
-    ensures { OnePlan }
+    ensures one { OnePlan }
+    ensures caps { CapsFit }
 {}
 
 /// What is read is the grammar: `plan_in` gives a plan exactly where the text stands for these lists and they are

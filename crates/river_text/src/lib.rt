@@ -15,7 +15,8 @@ mod read;
 mod river_fault;
 mod term;
 
+pub use entry::RiverText;
 pub use fault::TextFault;
-pub use front::compile_river;
+pub use front::{RiverPlan, compile_river};
 pub use read::read_river;
 pub use river_fault::RiverFault;

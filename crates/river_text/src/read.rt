@@ -1,67 +1,101 @@
 // From a text to the lists of a plan.
 ghost use Rattle.std.specs.Prelude.{◌≡◌, ◌<◌, ◌^◌, length, map, IfOk, IfErr};
 ghost use Rattle.work_code.specs.Cut.{units_of, unit_tokens};
-ghost use Rattle.work_code.specs.Tok.{toks};
-ghost use Rattle.river_plan.specs.Forms.{plan_form, empty_form};
-ghost use Rattle.river_text.specs.Plans.{IsText};
+ghost use Rattle.work_code.specs.Tok.{toks, mark_of};
+ghost use Rattle.river_text.specs.Entries.{text_form};
+ghost use Rattle.river_text.specs.Plans.{IsText, empty_text, first_place, is_second_short};
 ghost use Rattle.river_text.specs.ReadPlans.{read_plan};
 ghost use Rattle.river_text.specs.Faults.{Refuses, GivesPlan, AddsUnits};
 
 use crate::TextFault;
-use crate::entry::whole_entry;
+use crate::entry::{Place, RiverText, whole_entry};
 use river_base::Bytes;
-use river_plan::RawPlan;
+use river_plan::{Caps, RawPlan};
 use std::alloc::Global;
 use text_forms::Fault;
 use work_code::{Lexeme, Tokens, Units, lex, units};
 
-/// The lists of the plan that a text stands for (the River language of Soulé and others, DEBS 2012).
+/// The lists of the plan that a text stands for (the River language of Soulé and others, DEBS 2012), and
+/// the capacities of its queues, an entry for each `cap`, in order.
 ///
 /// # Errors
 ///
 /// `Lex` where the text has a fault in its bytes; otherwise `Syntax` with the first unit, from 1, that is not in the
 /// grammar; `NoMemory` where there is no memory.
 #[tactic(auto, using(crate::proofs::Texts::texts, work_code::proofs::Counts::counts))]
-pub fn read_river(alloc: Global, text: &Bytes) -> Result<RawPlan, TextFault>
+pub fn read_river(alloc: Global, text: &Bytes) -> Result<RiverText, TextFault>
     requires { length text.now < 2 ^ 32 }
-    ensures read { IfOk result (λ plan. IsText text.now (plan_form plan)) }
+    ensures read { IfOk result (λ read. IsText text.now (text_form read)) }
     ensures refused { IfErr result (Refuses text.now) }
 {
     let tokens = lex(alloc, text)?;
     read_tokens(alloc, &tokens)
 }
 
-// The plan of the tokens of a text.
+// What the tokens of a text stand for.
 #[tactic(auto, using(work_code::proofs::Counts::counts))]
-fn read_tokens(alloc: Global, tokens: &Tokens<'_>) -> Result<RawPlan, TextFault>
+fn read_tokens(alloc: Global, tokens: &Tokens<'_>) -> Result<RiverText, TextFault>
     requires { length tokens.now < 2 ^ 32 }
-    ensures { GivesPlan result (read_plan 0 1 empty_form (units_of (toks tokens.now))) }
+    ensures { GivesPlan result (read_plan (first_place tokens.now) 1 empty_text (units_of (toks tokens.now))) }
 {
+    let first = first_place(tokens);
     let units = units(alloc, tokens)?;
-    read_units(alloc, &units)
+    read_units(alloc, &units, first)
 }
 
-// The plan of the units of a text.
-fn read_units(alloc: Global, units: &Units<'_>) -> Result<RawPlan, TextFault>
+// Where a text begins: a header may come where the second token is one byte long.
+fn first_place(tokens: &Tokens<'_>) -> Place
+    ensures { result ≡ first_place tokens.now }
+{
+    Place {
+        stage: if is_second_short(tokens.as_slice()) {
+            0
+        } else {
+            1
+        },
+        headed: false,
+    }
+}
+
+// Whether the second token is one byte long.
+fn is_second_short(lexemes: &[Lexeme<'_>]) -> bool
+    ensures { result ≡ is_second_short (map mark_of lexemes.now) }
+{
+    match lexemes {
+        [_, second, ..] => second.end as u64 == second.start as u64 + 1,
+        _ => false,
+    }
+}
+
+// What the units of a text stand for.
+fn read_units(alloc: Global, units: &Units<'_>, first: Place) -> Result<RiverText, TextFault>
     requires { length units.now < 2 ^ 32 }
-    ensures { GivesPlan result (read_plan 0 1 empty_form units.now) }
+    ensures { GivesPlan result (read_plan first 1 empty_text units.now) }
 {
-    let mut plan = RawPlan::new(alloc);
-    add_units(alloc, units.as_slice(), &mut plan)?;
-    Ok(plan)
+    let mut text = RiverText {
+        raw: RawPlan::new(alloc),
+        caps: Caps::new(alloc),
+    };
+    add_units(alloc, units.as_slice(), first, &mut text)?;
+    Ok(text)
 }
 
-// Puts the units of a text into a plan.
-fn add_units(alloc: Global, parts: &[&[Lexeme<'_>]], plan: &mut RawPlan) -> Result<(), TextFault>
+// Puts what the units of a text say into what it stands for.
+fn add_units(
+    alloc: Global,
+    parts: &[&[Lexeme<'_>]],
+    first: Place,
+    text: &mut RiverText,
+) -> Result<(), TextFault>
     requires { length parts.now < 2 ^ 32 }
-    ensures { AddsUnits result plan.new (read_plan 0 1 (plan_form plan.old) (map unit_tokens parts.now)) }
+    ensures { AddsUnits result text.new (read_plan first 1 (text_form text.old) (map unit_tokens parts.now)) }
 {
-    let mut stage = 0;
+    let mut place = first;
     'items: for i in 0..parts.len() {
-        match whole_entry(alloc, parts[i], stage) {
+        match whole_entry(alloc, parts[i], place) {
             Ok(entry) => {
-                stage = entry.stage();
-                entry.add_to(plan)?;
+                place = entry.next_place(place);
+                entry.add_to(text)?;
             }
             Err(Fault::Syntax) => return Err(TextFault::Syntax { unit: i as u32 + 1 }),
             Err(Fault::NoMemory) => return Err(TextFault::NoMemory),

@@ -1,33 +1,16 @@
-use Rattle.std.proofs.Common.{length, arith, refl}
-use Rattle.std.proofs.lemmas.Option.{slice_get_read}
-use Rattle.fire_open.proofs.RingLemmas.{rung_first, rung_next, asks_there}
+use Rattle.std.proofs.Common.{subst, sym, ap, length}
+use Rattle.std.specs.Prelude.{OnOk}
+use Rattle.river_plan.specs.Caps.{IsOwnCap, OwnCaps}
+use Rattle.river_plan.proofs.CapLemmas.{first_fits}
+use Rattle.fire_open.specs.Links.{room_of}
+use Rattle.fire_open.specs.Rings.{AreRung}
 use Rattle.fire_open.proofs.rings.put_rings.Goals as goal
 
-pub put_ring-requires-clause-order : goal.put_ring-requires-clause-order
-put_ring-requires-clause-order c =
-    let l = c.at-link.result.now in
-    (asks_there c.args.cap c.args.tasks.now c.loop-place.tasks c.args.links.now c.loop-place.place l c.requires.there c.loop-place.invariant (slice_get_read c.args.links.now (length c.args.links.now) c.loop-place.place l refl (omega arith) (c.at-link.ensures l))).order
+pub put_each-requires-clause-own : goal.put_each-requires-clause-own
+put_each-requires-clause-own c = λ q.
+    subst IsOwnCap (sym (ap (λ (o : OwnCaps). o q) c.in_ok-own.ensures)) (first_fits c.args.caps.now q c.requires.caps)
 
-pub put_ring-requires-clause-reader : goal.put_ring-requires-clause-reader
-put_ring-requires-clause-reader c =
-    let l = c.at-link.result.now in
-    (asks_there c.args.cap c.args.tasks.now c.loop-place.tasks c.args.links.now c.loop-place.place l c.requires.there c.loop-place.invariant (slice_get_read c.args.links.now (length c.args.links.now) c.loop-place.place l refl (omega arith) (c.at-link.ensures l))).reader
-
-pub put_ring-requires-clause-out : goal.put_ring-requires-clause-out
-put_ring-requires-clause-out c =
-    let l = c.at-link.result.now in
-    (asks_there c.args.cap c.args.tasks.now c.loop-place.tasks c.args.links.now c.loop-place.place l c.requires.there c.loop-place.invariant (slice_get_read c.args.links.now (length c.args.links.now) c.loop-place.place l refl (omega arith) (c.at-link.ensures l))).out
-
-pub put_ring-requires-clause-port : goal.put_ring-requires-clause-port
-put_ring-requires-clause-port c =
-    let l = c.at-link.result.now in
-    (asks_there c.args.cap c.args.tasks.now c.loop-place.tasks c.args.links.now c.loop-place.place l c.requires.there c.loop-place.invariant (slice_get_read c.args.links.now (length c.args.links.now) c.loop-place.place l refl (omega arith) (c.at-link.ensures l))).port
-
-pub loop-place-init : goal.loop-place-init
-loop-place-init c = rung_first c.args.cap c.args.tasks.now c.args.links.now
-
-pub loop-place-preserved : goal.loop-place-preserved
-loop-place-preserved c =
-    let l = c.at-link.result.now in
-    rung_next c.args.cap c.args.tasks.now c.loop-place.tasks c.put_ring.new.tasks c.args.links.now c.loop-place.place l c.requires.there
-    (slice_get_read c.args.links.now (length c.args.links.now) c.loop-place.place l refl (omega arith) (c.at-link.ensures l)) c.loop-place.invariant c.in_ok-put_ring.ensures
+pub returns : goal.returns
+returns c =
+    subst (λ (o : OwnCaps). OnOk c.put_each.result (AreRung (room_of c.args.plan.now c.args.cap o) c.args.tasks.now c.put_each.new.tasks c.args.links.now (length c.args.links.now)))
+    c.in_ok-own.ensures c.put_each.ensures

@@ -1,6 +1,6 @@
 use Rattle.river_outside.specs.Causes.{Rose}
 use Rattle.river_cli.proofs.Loaded.{load-answers}
-use Rattle.river_cli.proofs.Points.{run-answers, show-answers, mean-answers}
+use Rattle.river_cli.proofs.Points.{run-answers, show-answers, mean-answers, upgrade-answers}
 use Rattle.river_cli.proofs.road.answered.Goals as goal
 
 pub returns-in-Run-clause-passes : goal.returns-in-Run-clause-passes
@@ -18,6 +18,11 @@ pub returns-in-Mean-clause-passes : goal.returns-in-Mean-clause-passes
 returns-in-Mean-clause-passes g c =
     let rose = Rose g.S.Shelf.stays_at_last (g.S.Shelf.faults c.args.shelf.now) (g.S.Shelf.faults c.mean.new.shelf) in
     rw c.in-Mean.is (mean-answers (g.S.Shelf.held c.args.shelf.now) rose c.in-Mean.lang c.in-Mean.file c.in-Mean.ins c.in-Mean.header c.mean.result c.mean.ensures.passes)
+
+pub returns-in-Upgrade-clause-passes : goal.returns-in-Upgrade-clause-passes
+returns-in-Upgrade-clause-passes g c =
+    let rose = Rose g.S.Shelf.stays_at_last (g.S.Shelf.faults c.args.shelf.now) (g.S.Shelf.faults c.upgrade.new.shelf) in
+    rw c.in-Upgrade.is (upgrade-answers (g.S.Shelf.held c.args.shelf.now) rose c.in-Upgrade.file c.upgrade.result c.upgrade.ensures.passes)
 
 pub returns-in-Load-clause-passes : goal.returns-in-Load-clause-passes
 returns-in-Load-clause-passes g c =

@@ -1,4 +1,5 @@
-use Rattle.std.proofs.Common.{arith, ◌≤◌}
+use Rattle.std.proofs.Common.{arith, ◌≤◌, sym, subst}
+use Rattle.river_plan.specs.Caps.{AreCaps}
 use Rattle.std.proofs.lemmas.Result.{err_from_is_err_and}
 use Rattle.river_outside.proofs.Counts.{rose_before}
 use Rattle.river_outside.specs.Causes.{Rose}
@@ -21,6 +22,9 @@ returns-in_err-plan-clause-passes g c =
     rw (p.1, p.2) (run-script c.args.lang c.args.file.now (g.S.Shelf.held c.args.shelf.now) c.args.ins.now c.args.name.now c.args.header c.args.counts mid early late (rose_before g.S.Shelf.stays_at_last _ _ _ c.compiled.ensures.later) c.in_ok-compiled.compiled c.in_err-plan.field-0.0 c.in_ok-compiled.ensures.passes
     (λ source is. stops c.in_ok-compiled.compiled.program source is))
 
+pub run_over-requires : goal.run_over-requires
+run_over-requires g c = subst AreCaps (sym c.caps_of-caps.ensures) c.in_ok-compiled.ensures.passes.1.fit
+
 pub returns-clause-passes : goal.returns-clause-passes
 returns-clause-passes g c =
     let mid = Rose g.S.Shelf.stays_at_last (g.S.Shelf.faults c.args.shelf.now) (g.S.Shelf.faults c.compiled.new.shelf) in
@@ -28,7 +32,7 @@ returns-clause-passes g c =
     let early = Rose g.S.Shelf.stays_at_last (g.S.Shelf.faults c.args.shelf.now) (g.S.Shelf.faults c.run_over.new.shelf) in
     let late = Rose g.S.Shelf.stays_at_last (g.S.Shelf.faults c.script.new.shelf) (g.S.Shelf.faults c.run_over.new.shelf) in
     let scripted = rw c.compiled.ensures.stays at c.in_ok-plan.ensures.passes in
-    let over = rw (c.script.ensures.stays, c.compiled.ensures.stays, c.layout.ensures) at c.run_over.ensures.passes in
+    let over = rw (c.script.ensures.stays, c.compiled.ensures.stays, c.layout-layout.ensures) at c.run_over.ensures.passes in
     let later : g.S.Shelf.faults c.args.shelf.now ≤ g.S.Shelf.faults c.script.new.shelf = omega (arith, c.compiled.ensures.later, c.script.ensures.later) in
     run-last c.args.lang c.args.file.now (g.S.Shelf.held c.args.shelf.now) c.args.ins.now c.args.name.now c.args.header c.args.counts mid half early late (rose_before g.S.Shelf.stays_at_last _ _ _ later) c.in_ok-compiled.compiled c.in_ok-plan.plan c.run_over.result c.in_ok-compiled.ensures.passes
     (λ source is. scripted c.in_ok-compiled.compiled.program source is) over

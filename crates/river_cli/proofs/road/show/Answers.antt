@@ -1,3 +1,6 @@
+use Rattle.std.proofs.Common.{sym, ap, ◌∙◌, subst}
+use Rattle.river_plan.specs.Caps.{AreCaps}
+use Rattle.river_cli.specs.Points.{shown as shown_text}
 use Rattle.std.proofs.lemmas.Result.{err_from_is_err_and}
 use Rattle.river_outside.proofs.Counts.{rose_before}
 use Rattle.river_outside.specs.Causes.{Rose}
@@ -26,4 +29,8 @@ returns-clause-passes g c =
     let half = Rose g.S.Shelf.stays_at_last (g.S.Shelf.faults c.compiled.new.shelf) (g.S.Shelf.faults c.script.new.shelf) in
     let scripted = rw c.compiled.ensures.stays at c.in_ok-plan.ensures.passes in
     show-last c.args.lang c.args.file.now (g.S.Shelf.held c.args.shelf.now) c.args.name.now mid half half c.in_ok-compiled.compiled c.in_ok-plan.plan c.in_ok-shown.field-0 c.in_ok-compiled.ensures.passes
-    (λ source is. scripted c.in_ok-compiled.compiled.program source is) c.in_ok-shown.ensures
+    (λ source is. scripted c.in_ok-compiled.compiled.program source is)
+    (c.in_ok-shown.ensures ∙ ap (λ caps. shown_text caps c.in_ok-plan.plan) c.caps_of-caps.ensures)
+
+pub shown-requires : goal.shown-requires
+shown-requires g c = subst AreCaps (sym c.caps_of-caps.ensures) c.in_ok-compiled.ensures.passes.1.fit
