@@ -1,7 +1,7 @@
-use Rattle.std.proofs.Common.{◌≡◌, ◌+◌, map, drop, sym, ap, ◌∙◌, arith, rules, subst}
-use Rattle.streamit_text.specs.Tree.{statement, in_turn}
+use Rattle.std.proofs.Common.{sym, ◌∙◌, arith, subst}
+use Rattle.streamit_text.specs.Tree.{statement}
 use Rattle.streamit_text.proofs.Trees.{block-is}
-use Rattle.params_model.specs.Judged.{Judgement, and_then, statement_judged, block_judged}
+use Rattle.params_model.specs.Judged.{Judgement, statement_judged}
 use Rattle.params_build.specs.Told.{Told}
 use Rattle.params_build.proofs.Judging.{told-first, passed-over, from-place, at-end}
 use Rattle.params_build.proofs.filter.+judged.Goals as goal

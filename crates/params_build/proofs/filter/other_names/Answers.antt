@@ -1,4 +1,4 @@
-use Rattle.std.proofs.Common.{◌≡◌, ◌+◌, not, drop, sym, ap, ◌∙◌, arith, rules, true, drop-cons, suc, ◌∷◌}
+use Rattle.std.proofs.Common.{◌≡◌, not, drop, sym, ap, ◌∙◌, arith, rules, true, drop-cons, suc, ◌∷◌}
 use Rattle.params_text.specs.Params.{is_one_of}
 use Rattle.params_model.specs.Judged.{and_then, other_names}
 use Rattle.params_model.specs.Making.{NameTwice, demand}
