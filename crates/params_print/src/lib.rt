@@ -4,6 +4,15 @@
 
 mod bindings;
 mod constant;
+mod expression;
+mod filter;
+mod instance;
+mod round;
+mod statement;
+mod token;
+mod unit;
 
 pub use bindings::Bindings;
 pub use constant::{count, value};
+pub use instance::Instance;
+pub use unit::{print_filter, print_pipeline, print_split_join};
