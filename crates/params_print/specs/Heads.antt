@@ -11,17 +11,17 @@ use Rattle.params_print.specs.declared.instance.Instance.{Instance}
 
 -- NAMES OF INSTANCES
 
-abbrev pub name_of : Instance → Name
-name_of i = instance_name i.stream i.number
+abbrev pub name_written : Instance → Name
+name_written i = instance_name i.stream i.number
 
-abbrev pub names_of : List Instance → List Name
-names_of all = map name_of all
+abbrev pub names_written : List Instance → List Name
+names_written all = map name_written all
 
 -- HEADS
 
 -- before the body of a stream of this kind
-abbrev pub head_toks : List ℕ → Name → List Tok
-head_toks kind n = name (codes "int") ∷ symbol s.Arrow ∷ name (codes "int") ∷ name kind ∷ name n ∷ symbol s.OpenBrace ∷ []
+abbrev pub opening_toks : List ℕ → Name → List Tok
+opening_toks kind n = name (codes "int") ∷ symbol s.Arrow ∷ name (codes "int") ∷ name kind ∷ name n ∷ symbol s.OpenBrace ∷ []
 
 -- before the arms of an `if`
 abbrev pub if_toks : Expression → List Tok

@@ -3,7 +3,7 @@ ghost use Rattle.std.specs.Prelude.{◌≡◌, ◌++◌, map, OnOk};
 ghost use Rattle.river_base.specs.Number.{least_value};
 ghost use Rattle.work_code.specs.Tok.{token_of};
 ghost use Rattle.text_blocks.specs.Seven.{sign_of};
-ghost use Rattle.streamit_text.specs.Tree.{expression};
+ghost use Rattle.streamit_text.specs.Tree.{Bin, expression};
 ghost use Rattle.streamit_model.specs.Meaning.{look};
 ghost use Rattle.params_text.specs.Toks.{expr_toks, spaced};
 ghost use Rattle.params_model.specs.Plain.{literal, literal_or, put};
@@ -91,12 +91,7 @@ fn named(alloc: Global, known: &Bindings, name: &Name, to: &mut Bytes) -> Result
 // Appends an expression.
 #[cycle(expression)]
 #[tactic(auto, using(crate::proofs::Texts::texts))]
-pub fn expression(
-    alloc: Global,
-    known: &Bindings,
-    e: &Expr,
-    to: &mut Bytes,
-) -> Result<(), NoMemory>
+pub fn expression(alloc: Global, known: &Bindings, e: &Expr, to: &mut Bytes) -> Result<(), NoMemory>
     ensures { OnOk result (to.new ≡ to.old ++ spaced (expr_toks (put known.now (expression e.now)))) }
 {
     let open = Token::Sign(Symbol::Open);
@@ -105,7 +100,14 @@ pub fn expression(
         Expr::Number(number) => tokens(alloc, &[Token::Number(*number)], to),
         Expr::Name(name) => named(alloc, known, name, to),
         Expr::Peek(inner) => {
-            between(alloc, known, &[Token::Name(b"peek"), open], inner, &[close], to)
+            between(
+                alloc,
+                known,
+                &[Token::Name(b"peek"), open],
+                inner,
+                &[close],
+                to,
+            )
         }
         Expr::Pop => tokens(alloc, &[Token::Name(b"pop"), open, close], to),
         Expr::Neg(inner) => {
@@ -116,12 +118,26 @@ pub fn expression(
             let not = Token::Sign(Symbol::Not);
             between(alloc, known, &[open, not], inner, &[close], to)
         }
-        Expr::Bin { op, left, right } => {
-            let sign = Token::Sign(sign_of(*op));
-            between(alloc, known, &[open], left, &[sign], to)?;
-            between(alloc, known, &[], right, &[close], to)
-        }
+        Expr::Bin { op, left, right } => operation(alloc, known, *op, left, right, to),
     }
+}
+
+// Appends an operation in brackets of its own.
+#[cycle(expression)]
+#[tactic(auto, using(crate::proofs::Texts::texts))]
+fn operation(
+    alloc: Global,
+    known: &Bindings,
+    op: BinOp,
+    left: &Expr,
+    right: &Expr,
+    to: &mut Bytes,
+) -> Result<(), NoMemory>
+    ensures { OnOk result (to.new ≡ to.old ++ spaced (expr_toks (Bin op (put known.now (expression left.now)) (put known.now (expression right.now))))) }
+{
+    let sign = [Token::Sign(sign_of(op))];
+    between(alloc, known, &[Token::Sign(Symbol::Open)], left, &sign, to)?;
+    between(alloc, known, &[], right, &[Token::Sign(Symbol::Close)], to)
 }
 
 /// Appends an expression between tokens.

@@ -75,12 +75,7 @@ fn rate(
 
 // Appends the values of the rates.
 #[tactic(auto, using(crate::proofs::Texts::texts))]
-fn rates(
-    alloc: Global,
-    known: &Bindings,
-    all: &ParamRates,
-    to: &mut Bytes,
-) -> Result<(), NoMemory>
+fn rates(alloc: Global, known: &Bindings, all: &ParamRates, to: &mut Bytes) -> Result<(), NoMemory>
     requires push { IsFitOption (optional expression all.now.push) }
     requires pop { IsFitOption (optional expression all.now.pop) }
     requires peek { IsFitOption (optional expression all.now.peek) }
@@ -93,12 +88,7 @@ fn rates(
 
 // Appends the rates and the block of `work` or `prework`.
 #[tactic(auto, using(crate::proofs::Texts::texts))]
-fn work(
-    alloc: Global,
-    known: &Bindings,
-    work: &ParamWork,
-    to: &mut Bytes,
-) -> Result<(), NoMemory>
+fn work(alloc: Global, known: &Bindings, work: &ParamWork, to: &mut Bytes) -> Result<(), NoMemory>
     requires { IsFitWork (work_of work.now) }
     ensures { OnOk result (to.new ≡ to.old ++ spaced (work_toks (put_work known.now (rated_work known.now (work_of work.now))))) }
 {

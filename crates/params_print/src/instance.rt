@@ -4,7 +4,7 @@ ghost use Rattle.std.specs.Prelude.{codes};
 ghost use Rattle.work_code.specs.Tok as tok;
 ghost use Rattle.work_code.specs.declared.sign.Symbol.TheVariants as s;
 ghost use Rattle.params_text.specs.Toks.{other_toks, spaced};
-ghost use Rattle.params_print.specs.Heads.{head_toks, name_of, names_of};
+ghost use Rattle.params_print.specs.Heads.{opening_toks, name_written, names_written};
 
 use crate::token::{digits, tokens};
 use river_base::{Bytes, Name, NoMemory};
@@ -21,7 +21,7 @@ pub struct Instance {
 // Appends the name of an instance.
 #[tactic(auto, using(crate::proofs::Texts::joins))]
 fn named(alloc: Global, instance: &Instance, to: &mut Bytes) -> Result<(), NoMemory>
-    ensures { OnOk result (to.new ≡ to.old ++ spaced (tok.name (name_of instance.now) ∷ [])) }
+    ensures { OnOk result (to.new ≡ to.old ++ spaced (tok.name (name_written instance.now) ∷ [])) }
 {
     to.extend(instance.stream.as_slice())?;
     to.extend(b"_")?;
@@ -31,13 +31,8 @@ fn named(alloc: Global, instance: &Instance, to: &mut Bytes) -> Result<(), NoMem
 
 // Appends the head of a unit.
 #[tactic(auto, using(crate::proofs::Texts::texts))]
-pub fn head(
-    alloc: Global,
-    kind: &[u8],
-    instance: &Instance,
-    to: &mut Bytes,
-) -> Result<(), NoMemory>
-    ensures { OnOk result (to.new ≡ to.old ++ spaced (head_toks kind.now (name_of instance.now))) }
+pub fn head(alloc: Global, kind: &[u8], instance: &Instance, to: &mut Bytes) -> Result<(), NoMemory>
+    ensures { OnOk result (to.new ≡ to.old ++ spaced (opening_toks kind.now (name_written instance.now))) }
 {
     let before = [
         Token::Name(b"int"),
@@ -60,7 +55,7 @@ pub fn end(alloc: Global, to: &mut Bytes) -> Result<(), NoMemory>
 // Appends an `add` for each instance.
 #[tactic(auto, using(crate::proofs::Texts::texts))]
 pub fn adds(alloc: Global, children: &[Instance], to: &mut Bytes) -> Result<(), NoMemory>
-    ensures { OnOk result (to.new ≡ to.old ++ spaced (other_toks (names_of children.now))) }
+    ensures { OnOk result (to.new ≡ to.old ++ spaced (other_toks (names_written children.now))) }
 {
     'children: for each in children {
         tokens(alloc, &[Token::Name(b"add")], to)?;

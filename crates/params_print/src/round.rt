@@ -35,12 +35,7 @@ fn more_numbers(
 
 // Appends the values of weights with commas between them.
 #[tactic(auto, using(crate::proofs::Texts::texts))]
-fn numbers(
-    alloc: Global,
-    known: &Bindings,
-    cs: &[Expr],
-    to: &mut Bytes,
-) -> Result<(), NoMemory>
+fn numbers(alloc: Global, known: &Bindings, cs: &[Expr], to: &mut Bytes) -> Result<(), NoMemory>
     requires { AreFit (map expression cs.now) }
     ensures { OnOk result (to.new ≡ to.old ++ spaced (numbers_toks (counts known.now (map expression cs.now)))) }
 {
@@ -53,12 +48,7 @@ fn numbers(
 
 // Appends the values of the weights in brackets, where there are brackets.
 #[tactic(auto, using(crate::proofs::Texts::texts))]
-fn weights(
-    alloc: Global,
-    known: &Bindings,
-    rounds: &Rounds,
-    to: &mut Bytes,
-) -> Result<(), NoMemory>
+fn weights(alloc: Global, known: &Bindings, rounds: &Rounds, to: &mut Bytes) -> Result<(), NoMemory>
     requires { AreFitOption (rounds_of rounds.now) }
     ensures { OnOk result (to.new ≡ to.old ++ spaced (weights_toks (option_counts known.now (rounds_of rounds.now)))) }
 {
@@ -74,12 +64,7 @@ fn weights(
 
 // Appends how a splitter deals.
 #[tactic(auto, using(crate::proofs::Texts::texts))]
-fn deal(
-    alloc: Global,
-    known: &Bindings,
-    split: &ParamSplit,
-    to: &mut Bytes,
-) -> Result<(), NoMemory>
+fn deal(alloc: Global, known: &Bindings, split: &ParamSplit, to: &mut Bytes) -> Result<(), NoMemory>
     requires { IsFitDealing (dealing_of split.now) }
     ensures { OnOk result (to.new ≡ to.old ++ spaced (dealing_toks (dealing known.now (dealing_of split.now)))) }
 {
@@ -119,7 +104,11 @@ pub fn join(
     requires { AreFitOption (rounds_of rounds.now) }
     ensures { OnOk result (to.new ≡ to.old ++ spaced (join_toks (option_counts known.now (rounds_of rounds.now)))) }
 {
-    tokens(alloc, &[Token::Name(b"join"), Token::Name(b"roundrobin")], to)?;
+    tokens(
+        alloc,
+        &[Token::Name(b"join"), Token::Name(b"roundrobin")],
+        to,
+    )?;
     weights(alloc, known, rounds, to)?;
     tokens(alloc, &[Token::Sign(Symbol::Semicolon)], to)
 }

@@ -34,14 +34,29 @@ fn declare(
 ) -> Result<(), NoMemory>
     ensures { OnOk result (to.new ≡ to.old ++ spaced (statement_toks (Declare name.now (put_first known.now (option_expression value.now))))) }
 {
-    let int = Token::Name(b"int");
-    let name = Token::Name(name.as_slice());
-    let semicolon = Token::Sign(Symbol::Semicolon);
     match value {
-        None => tokens(alloc, &[int, name, semicolon], to),
+        None => {
+            let all = [
+                Token::Name(b"int"),
+                Token::Name(name.as_slice()),
+                Token::Sign(Symbol::Semicolon),
+            ];
+            tokens(alloc, &all, to)
+        }
         Some(e) => {
-            let assign = Token::Sign(Symbol::Assign);
-            between(alloc, known, &[int, name, assign], e, &[semicolon], to)
+            let before = [
+                Token::Name(b"int"),
+                Token::Name(name.as_slice()),
+                Token::Sign(Symbol::Assign),
+            ];
+            between(
+                alloc,
+                known,
+                &before,
+                e,
+                &[Token::Sign(Symbol::Semicolon)],
+                to,
+            )
         }
     }
 }
@@ -59,23 +74,29 @@ fn head(
 ) -> Result<(), NoMemory>
     ensures { OnOk result (to.new ≡ to.old ++ spaced (for_toks name.now (put known.now (expression low.now)) (is_turn until) (put known.now (expression high.now)))) }
 {
-    let name = Token::Name(name.as_slice());
-    let open = [
+    let before = [
         Token::Name(b"for"),
         Token::Sign(Symbol::Open),
         Token::Name(b"int"),
-        name,
+        Token::Name(name.as_slice()),
         Token::Sign(Symbol::Assign),
     ];
-    let semicolon = Token::Sign(Symbol::Semicolon);
+    let test = [Token::Name(name.as_slice()), Token::Sign(below(until))];
     let next = [
-        semicolon,
-        name,
+        Token::Sign(Symbol::Semicolon),
+        Token::Name(name.as_slice()),
         Token::Sign(Symbol::Increment),
         Token::Sign(Symbol::Close),
     ];
-    between(alloc, known, &open, low, &[semicolon], to)?;
-    between(alloc, known, &[name, Token::Sign(below(until))], high, &next, to)
+    between(
+        alloc,
+        known,
+        &before,
+        low,
+        &[Token::Sign(Symbol::Semicolon)],
+        to,
+    )?;
+    between(alloc, known, &test, high, &next, to)
 }
 
 // Appends an assignment.
@@ -89,28 +110,24 @@ fn assign(
 ) -> Result<(), NoMemory>
     ensures { OnOk result (to.new ≡ to.old ++ spaced (statement_toks (Assign name.now (put known.now (expression value.now))))) }
 {
-    let before = [
-        Token::Name(name.as_slice()),
-        Token::Sign(Symbol::Assign),
-    ];
-    between(alloc, known, &before, value, &[Token::Sign(Symbol::Semicolon)], to)
+    let before = [Token::Name(name.as_slice()), Token::Sign(Symbol::Assign)];
+    between(
+        alloc,
+        known,
+        &before,
+        value,
+        &[Token::Sign(Symbol::Semicolon)],
+        to,
+    )
 }
 
 // Appends a push.
 #[tactic(auto, using(crate::proofs::Texts::texts))]
-fn push(
-    alloc: Global,
-    known: &Bindings,
-    value: &Expr,
-    to: &mut Bytes,
-) -> Result<(), NoMemory>
+fn push(alloc: Global, known: &Bindings, value: &Expr, to: &mut Bytes) -> Result<(), NoMemory>
     ensures { OnOk result (to.new ≡ to.old ++ spaced (statement_toks (Push (put known.now (expression value.now))))) }
 {
     let before = [Token::Name(b"push"), Token::Sign(Symbol::Open)];
-    let behind = [
-        Token::Sign(Symbol::Close),
-        Token::Sign(Symbol::Semicolon),
-    ];
+    let behind = [Token::Sign(Symbol::Close), Token::Sign(Symbol::Semicolon)];
     between(alloc, known, &before, value, &behind, to)
 }
 
@@ -129,12 +146,7 @@ fn discard(alloc: Global, to: &mut Bytes) -> Result<(), NoMemory>
 
 // Appends the condition of an `if`.
 #[tactic(auto, using(crate::proofs::Texts::texts))]
-fn condition(
-    alloc: Global,
-    known: &Bindings,
-    e: &Expr,
-    to: &mut Bytes,
-) -> Result<(), NoMemory>
+fn condition(alloc: Global, known: &Bindings, e: &Expr, to: &mut Bytes) -> Result<(), NoMemory>
     ensures { OnOk result (to.new ≡ to.old ++ spaced (if_toks (put known.now (expression e.now)))) }
 {
     let before = [Token::Name(b"if"), Token::Sign(Symbol::Open)];
@@ -198,12 +210,7 @@ fn otherwise(
 /// Appends a block.
 #[cycle(statement)]
 #[tactic(auto, using(crate::proofs::Texts::blocks))]
-pub fn block(
-    alloc: Global,
-    known: &Bindings,
-    all: &Block,
-    to: &mut Bytes,
-) -> Result<(), NoMemory>
+pub fn block(alloc: Global, known: &Bindings, all: &Block, to: &mut Bytes) -> Result<(), NoMemory>
     ensures { OnOk result (to.new ≡ to.old ++ spaced (block_toks (put_all known.now (block all.now)))) }
 {
     tokens(alloc, &[Token::Sign(Symbol::OpenBrace)], to)?;

@@ -55,10 +55,10 @@ pub fn digits(alloc: Global, number: u64, to: &mut Bytes) -> Result<(), NoMemory
 
 // Appends a token.
 #[tactic(auto, using(crate::proofs::Texts::joins))]
-fn token(alloc: Global, token: Token<'_>, to: &mut Bytes) -> Result<(), NoMemory>
-    ensures { OnOk result (to.new ≡ to.old ++ token_bytes (token_of token)) }
+fn token(alloc: Global, token: &Token<'_>, to: &mut Bytes) -> Result<(), NoMemory>
+    ensures { OnOk result (to.new ≡ to.old ++ token_bytes (token_of token.now)) }
 {
-    match token {
+    match *token {
         Token::Name(text) => to.extend(text),
         Token::Var(text) => {
             to.extend(b"$")?;
@@ -75,7 +75,7 @@ pub fn tokens(alloc: Global, all: &[Token<'_>], to: &mut Bytes) -> Result<(), No
     ensures { OnOk result (to.new ≡ to.old ++ spaced (map token_of all.now)) }
 {
     'all: for each in all {
-        token(alloc, *each, to)?;
+        token(alloc, each, to)?;
         to.extend(b" ")?;
     }
     Ok(())

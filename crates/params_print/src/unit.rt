@@ -6,7 +6,7 @@ ghost use Rattle.params_text.specs.Toks.{unit_toks, spaced};
 ghost use Rattle.params_model.specs.Constants.{AreFitOption, IsFitDealing, IsFitFilter};
 ghost use Rattle.params_model.specs.Environment.{option_counts, dealing};
 ghost use Rattle.params_model.specs.Plain.{plain_filter};
-ghost use Rattle.params_print.specs.Heads.{name_of, names_of};
+ghost use Rattle.params_print.specs.Heads.{name_written, names_written};
 
 use crate::filter::filter;
 use crate::instance::{adds, end, head};
@@ -26,7 +26,7 @@ pub fn print_filter(
     to: &mut Bytes,
 ) -> Result<(), NoMemory>
     requires { IsFitFilter (filter_of tree.now) }
-    ensures { OnOk result (to.new ≡ to.old ++ spaced (unit_toks (record { name = name_of instance.now; body = AFilter (plain_filter known.now (filter_of tree.now)) }))) }
+    ensures { OnOk result (to.new ≡ to.old ++ spaced (unit_toks (record { name = name_written instance.now; body = AFilter (plain_filter known.now (filter_of tree.now)) }))) }
 {
     head(alloc, b"filter", instance, to)?;
     filter(alloc, known, tree, to)?;
@@ -41,7 +41,7 @@ pub fn print_pipeline(
     children: &[Instance],
     to: &mut Bytes,
 ) -> Result<(), NoMemory>
-    ensures { (a : Adds) → names_of children.now ≡ a.first ∷ a.others → OnOk result (to.new ≡ to.old ++ spaced (unit_toks (record { name = name_of instance.now; body = APipeline a }))) }
+    ensures { (a : Adds) → names_written children.now ≡ a.first ∷ a.others → OnOk result (to.new ≡ to.old ++ spaced (unit_toks (record { name = name_written instance.now; body = APipeline a }))) }
 {
     head(alloc, b"pipeline", instance, to)?;
     adds(alloc, children, to)?;
@@ -60,7 +60,7 @@ pub fn print_split_join(
 ) -> Result<(), NoMemory>
     requires split { IsFitDealing (dealing_of tree.now.split) }
     requires join { AreFitOption (rounds_of tree.now.join) }
-    ensures { (a : Adds) → names_of children.now ≡ a.first ∷ a.others → OnOk result (to.new ≡ to.old ++ spaced (unit_toks (record { name = name_of instance.now; body = ASplitJoin (dealing known.now (dealing_of tree.now.split)) a (option_counts known.now (rounds_of tree.now.join)) }))) }
+    ensures { (a : Adds) → names_written children.now ≡ a.first ∷ a.others → OnOk result (to.new ≡ to.old ++ spaced (unit_toks (record { name = name_written instance.now; body = ASplitJoin (dealing known.now (dealing_of tree.now.split)) a (option_counts known.now (rounds_of tree.now.join)) }))) }
 {
     head(alloc, b"splitjoin", instance, to)?;
     split(alloc, known, &tree.split, to)?;
