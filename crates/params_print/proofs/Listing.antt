@@ -1,11 +1,11 @@
 -- Names and their values, as a list in memory.
-use Rattle.std.proofs.Common.{◌≡◌, ℕ, ℤ, ◌+◌, ◌<◌, ◌≤◌, List, [], ◌∷◌, ◌++◌, length, take, drop, get_or, Some, refl, sym, ap, ◌∙◌, suc, drop-cons, add-one}
+use Rattle.std.proofs.Common.{◌≡◌, ℕ, ℤ, ◌+◌, ◌<◌, ◌≤◌, List, [], ◌∷◌, ◌++◌, length, take, drop, get_or, Some, refl, sym, ap, ◌∙◌, drop-cons, add-one}
 use Rattle.std.specs.Prelude.{reverse, if◌then◌else◌}
 use Rattle.std.proofs.lemmas.List.{take_more, reverse-append, drop_all}
 use Rattle.river_base.specs.Name.{name_eq}
 use Rattle.river_plan.specs.Forms.{Name}
 use Rattle.streamit_model.specs.Meaning.{look}
-use Rattle.params_model.specs.Environment.{Environment, bound}
+use Rattle.params_model.specs.Environment.{bound}
 
 -- the last one in memory is the newest
 pub newest-push : (es : List (Name × ℤ)) (e : Name × ℤ) → reverse (es ++ e ∷ []) ≡ e ∷ reverse es

@@ -1,9 +1,9 @@
 -- The values of constants: no items are looked at, so pops count for nothing.
-use Rattle.std.proofs.Common.{◌≡◌, ℕ, ℤ, pos, ◌+◌, List, [], ◌∷◌, Option, Some, None, refl, sym, ap, ◌∙◌, Global, Box}
-use Rattle.std.specs.Prelude.{if◌then◌else◌, Bool, true, false, slice_index_or}
+use Rattle.std.proofs.Common.{◌≡◌, ℕ, ℤ, pos, ◌+◌, [], ◌∷◌, Option, Some, None, refl, sym, ap, ◌∙◌, Global, Box}
+use Rattle.std.specs.Prelude.{if◌then◌else◌, Bool, true, false}
 use Rattle.std.specs.Ordering.{int_eq}
 use Rattle.river_base.specs.Name.{name_eq}
-use Rattle.river_base.specs.Number.{negate, count_of}
+use Rattle.river_base.specs.Number.{negate}
 use Rattle.work_code.specs.Value.{applied, truth}
 use Rattle.work_code.specs.declared.expr.BinOp.{BinOp}
 use Rattle.river_plan.specs.Forms.{Name}
