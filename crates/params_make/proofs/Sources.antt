@@ -1,5 +1,5 @@
 -- The streams of units, the newest first, and what the grammar sees to in each of them.
-use Rattle.std.proofs.Common.{◌≡◌, ℕ, zero, suc, ℤ, ◌+◌, ◌*◌, ◌<◌, ◌≤◌, List, [], ◌∷◌, ◌++◌, length, map, take, get_or, refl, sym, ap, ◌∙◌, subst, arith}
+use Rattle.std.proofs.Common.{◌≡◌, ℕ, zero, suc, ℤ, ◌+◌, ◌*◌, ◌<◌, ◌≤◌, List, [], ◌∷◌, ◌++◌, length, map, take, get_or, Bool, true, false, refl, sym, ap, ◌∙◌, subst, arith}
 use Rattle.std.specs.Prelude.{reverse, if◌then◌else◌}
 use Rattle.std.proofs.lemmas.List.{take_more, map-append, reverse-append, length-map, length-take-le}
 use Rattle.river_base.specs.Name.{name_eq}
@@ -13,7 +13,7 @@ use Rattle.params_model.specs.Environment.{bound}
 use Rattle.params_model.specs.Judged.{head_or, tail_of, numbered_from, sources_of}
 use Rattle.params_model.specs.Making.{Made, make, instance}
 use Rattle.params_make.specs.Standing.{sources, source_at, adding}
-use Rattle.params_make.specs.Values.{BodyHasValues, HasValues}
+use Rattle.params_model.specs.Constants.{IsFitUnit, AreFitUnits}
 
 -- NUMBERS AND BYTES
 
@@ -46,7 +46,8 @@ sources-more us i u sizes lt e =
     ap (λ l. sources l sizes) (take_more us i u lt ∙ ap (λ x. take i us ++ x ∷ []) (sym e))
     ∙ ap (λ q. sources_of q sizes) (map-append declared_of (take i us) (u ∷ []))
     ∙ ap reverse (numbered-more 1 p d sizes)
-    ∙ reverse-append (numbered_from 1 p sizes) (source_at (length p) sizes d ∷ [])
+    ∙ reverse-append (numbered_from 1 p sizes) (record { unit = 1 + length p; bytes = get_or sizes (length p) 0; stream = d } ∷ [])
+    ∙ ap (λ n. record { unit = n; bytes = get_or sizes (length p) 0; stream = d } ∷ sources (take i us) sizes) (let e : 1 + length p ≡ suc (length p) = omega arith in e)
     ∙ ap (λ n. source_at n sizes d ∷ sources (take i us) sizes) len
 
 -- an instance of a stream of these is one of the last unit, or of a unit above it
@@ -55,20 +56,43 @@ pub adding-more : (us : List ParamUnit) (i : ℕ) (u : ParamUnit) (sizes : List 
     ≡ (if name_eq u.name n then make (adding (take i us) sizes (suc depth)) (source_at i sizes (declared_of u)) depth (bound u.params.items zs) m else adding (take i us) sizes depth n zs m)
 adding-more us i u sizes depth n zs m lt e = ap (λ l. instance l depth n zs m) (sources-more us i u sizes lt e)
 
+same-default : (us : List ParamUnit) (i : ℕ) (u v : ParamUnit) → i < length us → get_or us i u ≡ get_or us i v
+same-default [] i u v lt = absurd (omega (arith, lt))
+same-default (x ∷ us) zero u v lt = refl
+same-default (x ∷ us) (suc i) u v lt = same-default us i u v (omega (arith, lt))
+
+-- where the last unit has the name
+pub found-at : (us : List ParamUnit) (i : ℕ) (u v : ParamUnit) (sizes : List ℕ) (depth : ℕ) (n : Name) (zs : List ℤ) (m : Made) → i < length us → v ≡ get_or us i v
+    → name_eq v.name n ≡ true → u ≡ get_or us i u
+    → adding (take (i + 1) us) sizes depth n zs m
+    ≡ make (adding (take i us) sizes (suc depth)) (source_at i sizes (declared_of u)) depth (bound u.params.items zs) m
+found-at us i u v sizes depth n zs m lt vis yes uis =
+    let same : v ≡ u = vis ∙ same-default us i v u lt ∙ sym uis in
+    let named : name_eq u.name n ≡ true = sym (ap (λ (w : ParamUnit). name_eq w.name n) same) ∙ yes in
+    adding-more us i u sizes depth n zs m lt uis
+    ∙ ap (λ b. if b then make (adding (take i us) sizes (suc depth)) (source_at i sizes (declared_of u)) depth (bound u.params.items zs) m else adding (take i us) sizes depth n zs m) named
+
+-- where it has another
+pub passed-at : (us : List ParamUnit) (i : ℕ) (v : ParamUnit) (sizes : List ℕ) (depth : ℕ) (n : Name) (zs : List ℤ) (m : Made) → i < length us → v ≡ get_or us i v
+    → name_eq v.name n ≡ false → adding (take (i + 1) us) sizes depth n zs m ≡ adding (take i us) sizes depth n zs m
+passed-at us i v sizes depth n zs m lt vis no =
+    adding-more us i v sizes depth n zs m lt vis
+    ∙ ap (λ b. if b then make (adding (take i us) sizes (suc depth)) (source_at i sizes (declared_of v)) depth (bound v.params.items zs) m else adding (take i us) sizes depth n zs m) no
+
 -- VALUES
 
-pub values-above : (us : List ParamUnit) (i : ℕ) → HasValues (program_of us) → HasValues (program_of (take i us))
+pub values-above : (us : List ParamUnit) (i : ℕ) → AreFitUnits (program_of us) → AreFitUnits (program_of (take i us))
 values-above us zero h = tt
 values-above [] (suc i) h = tt
 values-above (u ∷ us) (suc i) h = (h.0, values-above us i h.1)
 
-values-there : (us : List ParamUnit) (i : ℕ) (d : ParamUnit) → i < length us → HasValues (program_of us) → BodyHasValues (body_of (get_or us i d).body)
+values-there : (us : List ParamUnit) (i : ℕ) (d : ParamUnit) → i < length us → AreFitUnits (program_of us) → IsFitUnit (body_of (get_or us i d).body)
 values-there [] i d lt h = absurd (omega (arith, lt))
 values-there (u ∷ us) zero d lt h = h.0
 values-there (u ∷ us) (suc i) d lt h = values-there us i d (omega (arith, lt)) h.1
 
-pub values-at : (us : List ParamUnit) (i : ℕ) (u : ParamUnit) → i < length us → u ≡ get_or us i u → HasValues (program_of us) → BodyHasValues (body_of u.body)
-values-at us i u lt e h = subst (λ v. BodyHasValues (body_of v.body)) (sym e) (values-there us i u lt h)
+pub values-at : (us : List ParamUnit) (i : ℕ) (u : ParamUnit) → i < length us → u ≡ get_or us i u → AreFitUnits (program_of us) → IsFitUnit (body_of u.body)
+values-at us i u lt e h = subst (λ v. IsFitUnit (body_of v.body)) (sym e) (values-there us i u lt h)
 
 -- HOW FAR THE MAKING CAN GO
 

@@ -2,7 +2,7 @@
 ghost use Rattle.params_text.specs.Program.{program_of};
 ghost use Rattle.params_model.specs.Making.{last_made};
 ghost use Rattle.params_make.specs.Standing.{sources};
-ghost use Rattle.params_make.specs.Values.{HasValues};
+ghost use Rattle.params_model.specs.Constants.{AreFitUnits};
 ghost use Rattle.params_make.specs.Written.{Makes};
 
 use crate::Making;
@@ -22,15 +22,17 @@ pub struct Written {
 
 /// The plain program of these units, of which each has so many bytes; or the first fault.
 pub fn made(alloc: Global, units: &[ParamUnit], sizes: &[usize]) -> Result<Written, Refusal>
-    requires { HasValues (program_of units.now) }
+    requires { AreFitUnits (program_of units.now) }
     ensures { Makes result (last_made (sources units.now sizes.now)) }
 {
-    let Some(last) = units.len().checked_sub(1) else {
+    let count = units.len();
+    if count == 0 {
         return Err(Refusal {
             unit: 0,
             fault: Fault::UnknownName,
         });
-    };
+    }
+    let last = count - 1;
     let mut making = Making::new(alloc);
     let top = Seen {
         units: &units[..last],
