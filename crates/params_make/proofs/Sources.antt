@@ -66,18 +66,18 @@ pub found-at : (us : List ParamUnit) (i : ℕ) (u v : ParamUnit) (sizes : List �
     → name_eq v.name n ≡ true → u ≡ get_or us i u
     → adding (take (i + 1) us) sizes depth n zs m
     ≡ make (adding (take i us) sizes (suc depth)) (source_at i sizes (declared_of u)) depth (bound u.params.items zs) m
-found-at us i u v sizes depth n zs m lt vis yes uis =
+found-at us i u v sizes depth n zs m lt vis same_name uis =
     let same : v ≡ u = vis ∙ same-default us i v u lt ∙ sym uis in
-    let named : name_eq u.name n ≡ true = sym (ap (λ (w : ParamUnit). name_eq w.name n) same) ∙ yes in
+    let named : name_eq u.name n ≡ true = sym (ap (λ (w : ParamUnit). name_eq w.name n) same) ∙ same_name in
     adding-more us i u sizes depth n zs m lt uis
     ∙ ap (λ b. if b then make (adding (take i us) sizes (suc depth)) (source_at i sizes (declared_of u)) depth (bound u.params.items zs) m else adding (take i us) sizes depth n zs m) named
 
 -- where it has another
 pub passed-at : (us : List ParamUnit) (i : ℕ) (v : ParamUnit) (sizes : List ℕ) (depth : ℕ) (n : Name) (zs : List ℤ) (m : Made) → i < length us → v ≡ get_or us i v
     → name_eq v.name n ≡ false → adding (take (i + 1) us) sizes depth n zs m ≡ adding (take i us) sizes depth n zs m
-passed-at us i v sizes depth n zs m lt vis no =
+passed-at us i v sizes depth n zs m lt vis other =
     adding-more us i v sizes depth n zs m lt vis
-    ∙ ap (λ b. if b then make (adding (take i us) sizes (suc depth)) (source_at i sizes (declared_of v)) depth (bound v.params.items zs) m else adding (take i us) sizes depth n zs m) no
+    ∙ ap (λ b. if b then make (adding (take i us) sizes (suc depth)) (source_at i sizes (declared_of v)) depth (bound v.params.items zs) m else adding (take i us) sizes depth n zs m) other
 
 -- VALUES
 

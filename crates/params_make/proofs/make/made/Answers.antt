@@ -8,19 +8,19 @@ use Rattle.params_make.proofs.Sources.{values-above, values-at}
 use Rattle.params_make.proofs.make.made.Goals as goal
 
 pub make-requires-clause-above : goal.make-requires-clause-above
-make-requires-clause-above c = values-above c.args.units.now (c.len-count.result - 1) c.requires
+make-requires-clause-above c = values-above c.args.units.now (length c.args.units.now - 1) c.requires
 
 pub make-requires-clause-unit : goal.make-requires-clause-unit
 make-requires-clause-unit c =
-    let lt : c.len-count.result - 1 < length c.args.units.now = omega arith in
-    values-at c.args.units.now (c.len-count.result - 1) c.index-units-last.result lt c.index-units-last.is c.requires
+    let lt : (length c.args.units.now - 1) < length c.args.units.now = omega arith in
+    values-at c.args.units.now (length c.args.units.now - 1) c.index-units-last.result lt c.index-units-last.is c.requires
 
 pub returns-in_err-make : goal.returns-in_err-make
 returns-in_err-make c =
     let us = c.args.units.now in
-    let i = c.len-count.result - 1 in
-    let len : c.len-count.result - 1 + 1 ≡ length us = omega arith in
-    let there : length (take (c.len-count.result - 1) us) ≡ c.len-count.result - 1 = search rules in
+    let i = (length c.args.units.now - 1) in
+    let len : (length c.args.units.now - 1) + 1 ≡ length us = omega arith in
+    let there : length (take (length c.args.units.now - 1) us) ≡ (length c.args.units.now - 1) = search rules in
     let none : c.new.result ≡ [] = search rules in
     let is : c.from_residual.result ≡ Err c.in_err-make.field-0.0 = search rules in
     subst (λ r. Makes r (last_made (sources us c.args.sizes.now))) (sym is)
@@ -30,9 +30,9 @@ returns-in_err-make c =
 pub returns : goal.returns
 returns c =
     let us = c.args.units.now in
-    let i = c.len-count.result - 1 in
-    let len : c.len-count.result - 1 + 1 ≡ length us = omega arith in
-    let there : length (take (c.len-count.result - 1) us) ≡ c.len-count.result - 1 = search rules in
+    let i = (length c.args.units.now - 1) in
+    let len : (length c.args.units.now - 1) + 1 ≡ length us = omega arith in
+    let there : length (take (length c.args.units.now - 1) us) ≡ (length c.args.units.now - 1) = search rules in
     let none : c.new.result ≡ [] = search rules in
     let r = c.in_ok-make.ensures nothing_made c.new-making.ensures in (
       r.0,

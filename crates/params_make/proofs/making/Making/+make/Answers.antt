@@ -1,4 +1,4 @@
-use Rattle.std.proofs.Common.{◌≡◌, ◌+◌, ◌-◌, ◌*◌, ◌<◌, ◌≤◌, suc, length, map, take, drop, [], ◌∷◌, Ok, Err, refl, sym, ap, get_or, ◌∙◌, subst, arith, rules}
+use Rattle.std.proofs.Common.{◌≡◌, ◌+◌, ◌-◌, ◌*◌, ◌<◌, ◌≤◌, suc, false, true, List, length, map, take, drop, [], ◌∷◌, Ok, Err, refl, sym, ap, get_or, ◌∙◌, subst, arith, rules}
 use Rattle.streamit_text.specs.Tree.{expression, is_turn}
 use Rattle.streamit_text.specs.Program as plain
 use Rattle.streamit_text.proofs.Places.{at_place, none_left}
@@ -150,14 +150,14 @@ step-returns-in-Some t c = λ m h.
 
 pub children-returns : goal.children-returns
 children-returns t c = λ m h.
-    let none : c.steps.new.scope.children ≡ [] → ⊥ = λ e. subst IsTrue c.if-is_empty.false (c.is_empty.ensures.1 e) in
+    let none : c.steps.new.scope.children ≡ [] → ⊥ = λ e. let f : false ≡ true = subst IsTrue c.if-is_empty.false (c.is_empty.ensures.1 e) in cc f in
     all-made (adding c.args.seen.units.now c.args.seen.sizes.now c.args.seen.depth) (suc (length c.args.seen.units.now)) c.args.scope.now.known (steps_of c.args.steps.now) m c.args.scope.now c.steps.new.scope c.steps.new.self
     c.requires.none (c.in_ok-steps.ensures {u = tt} m h) none
 
 pub pipeline-returns : goal.pipeline-returns
 pipeline-returns t c = λ m h.
     let r = c.in_ok-children.ensures {u = tt} m h in
-    pipeline-made (adding c.args.seen.units.now c.args.seen.sizes.now c.args.seen.depth) (suc (length c.args.seen.units.now)) c.args.name c.args.scope.now.known (steps_of c.args.steps.now) m r.1 r.0 c.in_ok-instance.instance c.write_pipeline-instance.new.self
+    pipeline-made (adding c.args.seen.units.now c.args.seen.sizes.now c.args.seen.depth) (suc (length c.args.seen.units.now)) c.args.name c.args.scope.now.known (steps_of c.args.steps.now) m r.1 r.0 c.in_ok-instance.instance c.write_pipeline.new.self
     r.2 (c.in_ok-instance.ensures r.1 r.0 r.3 (ap names_written c.as_slice.ensures ∙ r.4))
 
 pub split_join-returns : goal.split_join-returns
@@ -169,7 +169,7 @@ split_join-returns t c = λ m h.
     let d = dealing_of all.split in
     let ws = rounds_of all.join in
     let i = c.in_ok-instance.instance in
-    let new = c.write_split_join-instance.new.self in
+    let new = c.write_split_join.new.self in
     let r = c.in_ok-children.ensures {u = tt} m h in
     let one = subst (λ b. demand b k Range ≡ Ok tt) c.is_ranged_split.ensures c.in_ok-demand.ensures in
     let two = subst (λ b. demand b k Range ≡ Ok tt) (c.is_ranged_round.ensures ∙ ap (λ e. are_ranged_option e ws) r.5) c.in_ok-demand-2.ensures in

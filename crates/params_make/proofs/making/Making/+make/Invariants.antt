@@ -55,6 +55,6 @@ invariant-steps-items l = record {
 abbrev pub invariant-turns-range : goal.invariant-turns-range
 invariant-turns-range l =
     (m : Made) → Stands l.initial.self m
-    → SoFar (turns_made (suc (length l.seen.units.now)) (in_turn (adding l.seen.units.now l.seen.sizes.now l.seen.depth) (suc (length l.seen.units.now)) l.initial.scope.known l.turns.name (steps_of l.steps)) (numbers l.turns.span.low (l.turns.span.end - l.turns.span.low)) m)
-    (turns_made (suc (length l.seen.units.now)) (in_turn (adding l.seen.units.now l.seen.sizes.now l.seen.depth) (suc (length l.seen.units.now)) l.initial.scope.known l.turns.name (steps_of l.steps)) (numbers l.each (l.turns.span.end - l.each)))
+    → SoFar (turns_made (suc (length l.seen.units.now)) (in_turn (adding l.seen.units.now l.seen.sizes.now l.seen.depth) (suc (length l.seen.units.now)) l.initial.scope.known l.fn.turns.name (steps_of l.steps)) (numbers l.fn.turns.span.low (l.fn.turns.span.end - l.fn.turns.span.low)) m)
+    (turns_made (suc (length l.seen.units.now)) (in_turn (adding l.seen.units.now l.seen.sizes.now l.seen.depth) (suc (length l.seen.units.now)) l.initial.scope.known l.fn.turns.name (steps_of l.steps)) (numbers l.each (l.fn.turns.span.end - l.each)))
     l.initial.scope l.scope l.self
