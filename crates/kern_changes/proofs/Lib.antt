@@ -2,6 +2,7 @@ pub mod Counted
 pub mod Crossed
 pub mod Fronts
 pub mod JoinLaws
+pub mod LawProofs
 pub mod Leading
 pub mod Leaving
 pub mod OwedLaws

@@ -279,10 +279,12 @@ module _ (place : ℕ) (c : Change) (old : List Debt) (given : Change) (lt : pla
     few = λ h. dealt_little given.minus given.plus place port_paid paid_lt (paid_little h);
   }
 
--- nothing is owed at the start
+-- at the start no list owes anything
+pub nothing_owed : (n p : ℕ) → debt_at (owed_start n) p ≡ no_debt
+nothing_owed zero p = refl
+nothing_owed (suc n) zero = refl
+nothing_owed (suc n) (suc p) = nothing_owed n p
+
+-- and that is not much
 pub start_little : (n : ℕ) → OweLittle (owed_start n)
-start_little n = record { each = λ p l. subst OwesLittle (sym (none n p)) nothing_little } where
-  none : (k p : ℕ) → debt_at (owed_start k) p ≡ no_debt
-  none zero p = refl
-  none (suc k) zero = refl
-  none (suc k) (suc p) = none k p
+start_little n = record { each = λ p l. subst OwesLittle (sym (nothing_owed n p)) nothing_little }

@@ -7,6 +7,7 @@ mod change;
 mod content;
 mod cross;
 mod joined;
+pub mod laws;
 mod line;
 mod owed;
 mod rowwise;

@@ -1,0 +1,57 @@
+-- The laws of changes.
+use Rattle.std.proofs.Common.{◌≡◌, ◌<◌, ℕ, zero, suc, ℤ, List, [], ◌∷◌, length, replicate, refl, sym, ap, ◌∙◌, subst}
+use Rattle.std.proofs.lemmas.List.{length-replicate}
+use Rattle.river_base.specs.declared.item.Batch.{Batch}
+use Rattle.river_base.specs.Places.{list_at}
+use Rattle.kern_rows.proofs.Passed.{first_turn}
+use Rattle.kern_changes.specs.declared.change.Change.{Change}
+use Rattle.kern_changes.specs.Changes.{StandForContents, ChangesInto, LeadsTo}
+use Rattle.kern_changes.specs.declared.owed.Debt.{Debt}
+use Rattle.kern_changes.specs.Owed.{no_debt, debt_at, owed_start}
+use Rattle.kern_changes.specs.Joined.{packs}
+use Rattle.kern_changes.specs.Laws.{ChangesAre, StandForOne, StartsAre}
+use Rattle.kern_changes.proofs.Leading.{changes_stand, changes_are, leads_none}
+use Rattle.kern_changes.proofs.OwedLaws.{start_little, nothing_owed}
+
+-- there is just one list of changes
+pub changes_hold : ChangesAre
+changes_hold before bs a = let s = changes_stand before bs a in record { stand = s.0; normal = s.1; only = λ cs h n. changes_are before cs bs h n }
+
+same_content : (before : List (List ℤ)) (c : Change) (b b' : Batch) → ChangesInto before c b → ChangesInto before c b' → b ≡ b'
+same_content before c b b' h g = λ i. record { at = (sym h.at ∙ g.at) i; rows = (h.rows ∙ sym g.rows) i }
+
+-- and one list of contents
+pub stand_holds : StandForOne
+stand_holds before [] [] [] h g = refl
+stand_holds before [] [] (b' ∷ bs') h g = absurd g
+stand_holds before [] (b ∷ bs) bs' h g = absurd h
+stand_holds before (c ∷ cs) [] bs' h g = absurd h
+stand_holds before (c ∷ cs) (b ∷ bs) [] h g = absurd g
+stand_holds before (c ∷ cs) (b ∷ bs) (b' ∷ bs') h g =
+    let e : b ≡ b' = same_content before c b b' h.0 g.0 in
+    let t : bs ≡ bs' = stand_holds b.rows cs bs bs' h.1 (subst (λ (x : Batch). StandForContents x.rows cs bs') (sym e) g.1) in
+    λ i. e i ∷ t i
+
+no_list : {A : Type 0} (n p : ℕ) → list_at {A = A} (replicate n []) p ≡ []
+no_list zero p = refl
+no_list (suc n) zero = refl
+no_list (suc n) (suc p) = no_list n p
+
+-- what is kept at the start stands for empty contents
+pub starts_hold : StartsAre
+starts_hold = record {
+  cross = record { lefts = record { each = λ row. refl }; rights = record { each = λ row. refl }; left = refl; right = refl };
+  owed = owed;
+  little = start_little;
+  joined = λ give n. record {
+    port = refl;
+    had = refl;
+    lists = length-replicate n [] ∙ sym (length-replicate n []);
+    lines = λ p lt. no_list n p ∙ ap (λ l. packs give [] l) (sym (no_list n p));
+    owed = owed n;
+  };
+  shape = λ ws all. record { turn = first_turn ws all; lists = length-replicate (length ws) []; owed = length-replicate (length ws) no_debt };
+}
+  where
+    owed : (n p : ℕ) → p < length (owed_start n) → LeadsTo [] [] (debt_at (owed_start n) p).plus (debt_at (owed_start n) p).minus
+    owed n p lt = subst (λ (d : Debt). LeadsTo [] [] d.plus d.minus) (sym (nothing_owed n p)) (leads_none [])
