@@ -11,7 +11,8 @@ use kern_tables::Table;
 use river_base::{NoMemory, Rows};
 
 /// What a firing adds to the tables among its operator's variables, which are given by their places.
-pub fn add_all(tables: &mut Tables, vars: &[usize], adds: &RowLists) -> Result<(), NoMemory>
+/// Where there is no memory some of the rows were added; the machine is stopped then.
+pub(crate) fn add_all(tables: &mut Tables, vars: &[usize], adds: &RowLists) -> Result<(), NoMemory>
     requires many { length (table_places (length tables.old) vars.now) ≤ length adds.now }
     requires wide { AreFor tables.old (table_places (length tables.old) vars.now) adds.now }
     ensures { OnOk result (tables.new ≡ each_added tables.old (joined_at (table_places (length tables.old) vars.now) (list_at adds.now))) }
@@ -26,8 +27,8 @@ pub fn add_all(tables: &mut Tables, vars: &[usize], adds: &RowLists) -> Result<(
     Ok(())
 }
 
-/// Rows for a table, one after another.
-pub fn add_rows(table: &mut Table, rows: &Rows) -> Result<(), NoMemory>
+// Rows for a table, one after another.
+fn add_rows(table: &mut Table, rows: &Rows) -> Result<(), NoMemory>
     requires { All (λ row. length row ≡ width_of table.old) rows.now }
     ensures { OnOk result (table.new ≡ fold added table.old rows.now) }
 {

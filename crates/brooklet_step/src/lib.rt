@@ -18,7 +18,6 @@ mod start;
 mod state;
 mod step;
 
-pub use add::{add_all, add_rows};
 pub use emit::{Emit, ItemLists, RowLists, Spare, clear_all};
 pub use firing::fire;
 pub use initial::{first_queues, first_tables};

@@ -1,5 +1,5 @@
 // The ends of an operator's queues.
-ghost use Rattle.std.specs.Prelude.{◌≡◌, ◌+◌, ◌<◌, ◌≤◌, ℕ, [], ◌∷◌, ◌++◌, length, take, IsTrue, IsFalse, IfOk, IsNone, slice_index_or, MatchOption};
+ghost use Rattle.std.specs.Prelude.{◌≡◌, ◌+◌, ◌<◌, ◌≤◌, ℕ, [], ◌∷◌, ◌++◌, length, take, IsTrue, IsFalse, IfOk, OnErr, IsNone, slice_index_or, MatchOption};
 ghost use Rattle.river_base.specs.Places.{append_at, list_at};
 ghost use Rattle.fire_tasks.specs.Ports.{received_of, known_of, in_end, in_ends, sent_of, sent_count, IsFull, HasRoom, out_end, out_ends, received_in, SentAt};
 
@@ -84,11 +84,12 @@ fn next_kept(alloc: Global, kept: &mut Kept) -> Result<Item, NoMemory>
 }
 
 impl Outlet {
-    /// Sends an item; where a ring refuses it, it is handed back.
+    /// Sends an item; where a ring refuses it, it is handed back. Where there is no memory nothing is sent.
     pub fn push(&mut self, item: Item) -> Result<Option<Item>, NoMemory>
         ensures same { out_end self.new ≡ out_end self.old }
         ensures room { HasRoom self.old → IfOk result IsNone }
         ensures sent { IfOk result (λ r. MatchOption r (sent_of self.new ≡ sent_of self.old ++ item ∷ []) (λ back. (back ≡ item) × (sent_of self.new ≡ sent_of self.old) × IsFull self.new)) }
+        ensures err { OnErr result (sent_of self.new ≡ sent_of self.old) }
     {
         match self {
             Outlet::Ring(feed) => match feed.push(item) {

@@ -13,7 +13,9 @@ mod streamer;
 mod window;
 
 pub use cross::CrossState;
+pub use difference::without;
 pub use kernel::{Cross, Streamer, Window};
-pub use rowwise::{project, select};
+pub use product::join_each;
+pub use rowwise::{keep_rows, project, project_rows, select};
 pub use streamer::StreamerState;
 pub use window::WindowState;

@@ -54,8 +54,9 @@ fn join_all(alloc: Global, lefts: &[Row], rights: &[Row]) -> Result<Rows, NoMemo
     Ok(all)
 }
 
-// One row, joined with each of the others.
-fn join_each(left: &Row, rights: &[Row], all: &mut Rows) -> Result<(), NoMemory>
+/// Appends one row joined with each of the others. Where there is no memory, a part of them may have
+/// been appended.
+pub fn join_each(left: &Row, rights: &[Row], all: &mut Rows) -> Result<(), NoMemory>
     requires { All (λ y. length left.now + length y ≤ 16) rights.now }
     ensures { OnOk result (all.new ≡ all.old ++ map (λ y. left.now ++ y) rights.now) }
 {

@@ -37,8 +37,8 @@ fn select_batch(cond: &Expr, batch: Batch, out: &mut Items) -> Result<(), NoMemo
     Ok(())
 }
 
-// Keeps the rows for which the condition is not 0, in their places as far as they can.
-fn keep_rows(cond: &Expr, rows: &mut Rows)
+/// Keeps the rows for which the condition is not 0, in their order, in place.
+pub fn keep_rows(cond: &Expr, rows: &mut Rows)
     requires { CanRead (term cond.now) rows.old }
     ensures { rows.new ≡ selected (term cond.now) rows.old }
 {
@@ -86,8 +86,8 @@ fn project_batch(list: &Exprs, batch: Batch, out: &mut Items) -> Result<(), NoMe
     Ok(())
 }
 
-// Each row's values of the expressions come in its place.
-fn project_rows(list: &Exprs, rows: &mut Rows)
+/// In the place of each row come its values of the expressions, of which there are 1 to 16.
+pub fn project_rows(list: &Exprs, rows: &mut Rows)
     requires { CanProject (terms list.now) rows.old }
     ensures { rows.new ≡ map (λ row. map (λ t. val t row []) (terms list.now)) rows.old }
 {

@@ -2,7 +2,7 @@
 use Rattle.std.proofs.Common.{◌≡◌, ℕ, zero, suc, ℤ, ◌+◌, ◌-◌, ◌*◌, ◌<◌, ◌≤◌, List, [], ◌∷◌, ◌++◌, length, take, drop, refl, sym, ap, ◌∙◌, subst, arith}
 use Rattle.std.proofs.Common.{length-append, length-drop}
 use Rattle.std.specs.Prelude.{All, slice_index_or}
-use Rattle.std.proofs.lemmas.List.{take-append-le, drop-append-le, length-take-le, drop-drop, take_all}
+use Rattle.std.proofs.lemmas.List.{take-append-le, drop-append-le, length-take-le, drop-drop, drop-take, take-take, take_all}
 use Rattle.std.proofs.lemmas.List.Elements.{All-nil, All-cons, All-head}
 use Rattle.std.proofs.Math.Nat.{mul-le-mul_left, mul-le-mul_right}
 use Rattle.std.proofs.Math.Numerals.{add-one}
@@ -123,3 +123,34 @@ even-rest w (suc n) vs some h =
       at_most = h.at_most;
       whole = let k = h.whole in omega (arith, k, length-drop w vs);
     })
+
+-- the first i rows of n
+pub cut-front : (w n i : ℕ) (vs : List ℤ) → i ≤ n → cut w i (take (i * w) vs) ≡ take i (cut w n vs)
+cut-front w n zero vs le = refl
+cut-front w zero (suc i) vs le = absurd (omega arith)
+cut-front w (suc n) (suc i) vs le =
+    let e : suc i * w ≡ w + i * w = omega arith in
+    ap (λ k. cut w (suc i) (take k vs)) e
+    ∙ ap (λ t. t ∷ cut w i (drop w (take (w + i * w) vs))) (take-take w (w + i * w) vs (omega arith))
+    ∙ ap (λ t. take w vs ∷ cut w i t) (drop-take w (i * w) vs)
+    ∙ ap (λ t. take w vs ∷ t) (cut-front w n i (drop w vs) (omega arith))
+
+-- the first i rows of n begin, and all rows end, where the others do
+pub parted : (w n i : ℕ) (vs : List ℤ) → i < n → AreEven w n vs → ((n - i) * w ≤ length vs) × (length vs - (n - i) * w ≡ i * w)
+parted w n i vs lt h =
+    let some : 1 ≤ n - i = omega arith in
+    let e : n - i + i ≡ n = omega arith in
+    let b = behind w (n - i) i vs some (h.whole ∙ ap (λ m. m * w) (sym e)) in
+    (b.1, b.2)
+
+-- the values of the first i rows are rows of the width
+pub even-front : (w n i : ℕ) (vs : List ℤ) → i < n → AreEven w n vs → AreEven w i (take (i * w) vs)
+even-front w n i vs lt h =
+    let p = parted w n i vs lt h in
+    let le = p.0 in
+    let at = p.1 in
+    record {
+      some = h.some;
+      at_most = h.at_most;
+      whole = length-take-le (i * w) vs (omega (arith, le, at));
+    }

@@ -1,5 +1,5 @@
 // Rows of one width.
-ghost use Rattle.std.specs.Prelude.{◌≡◌, ℤ, List, ◌≤◌, ◌<◌, ◌↔◌, [], ◌∷◌, ◌++◌, length, slice_index_or, IsTrue, OnOk, OnErr, MatchOption};
+ghost use Rattle.std.specs.Prelude.{◌≡◌, ℤ, List, ◌≤◌, ◌<◌, ◌↔◌, [], ◌∷◌, ◌++◌, length, take, slice_index_or, IsTrue, OnOk, OnErr, MatchOption};
 ghost use Rattle.kern_rows.specs.Even.{AreAsWide};
 
 use crate::queue::Queue;
@@ -78,6 +78,18 @@ impl EvenRows {
         self.width = row.len();
         self.count += 1;
         Ok(())
+    }
+
+    /// Keeps the first rows, at most `count`.
+    pub fn truncate(&mut self, count: usize)
+        ensures { self.new ≡ take count self.old }
+    {
+        if count < self.count {
+            let all = self.values.len();
+            let behind = (self.count - count) * self.width;
+            self.values.truncate(all - behind);
+            self.count = count;
+        }
     }
 
     /// The first row leaves; None where there is none.

@@ -1,5 +1,5 @@
 // Items in a line.
-ghost use Rattle.std.specs.Prelude.{◌≡◌, ◌↔◌, ◌<◌, [], ◌∷◌, ◌++◌, length, slice_index_or, IsTrue, IfOk, OnOk, MatchOption};
+ghost use Rattle.std.specs.Prelude.{◌≡◌, ◌↔◌, ◌<◌, [], ◌∷◌, ◌++◌, length, take, slice_index_or, IsTrue, IfOk, OnOk, OnErr, MatchOption};
 ghost use Rattle.river_base.specs.declared.item.Flat.TheVariants.{One};
 ghost use Rattle.river_base.specs.declared.item.Item.TheVariants.{Flat as FlatItem};
 ghost use Rattle.kern_rows.specs.Even.{row_items};
@@ -99,9 +99,10 @@ impl Line {
         (&self.rows, &self.others)
     }
 
-    /// An item comes to the end.
+    /// An item comes to the end; changes nothing where there is no memory.
     pub fn push(&mut self, item: Item) -> Result<(), NoMemory>
-        ensures { OnOk result (self.new ≡ self.old ++ item ∷ []) }
+        ensures ok { OnOk result (self.new ≡ self.old ++ item ∷ []) }
+        ensures err { OnErr result (self.new ≡ self.old) }
     {
         if let Item::Flat(Flat::One(row)) = &item {
             if self.others.is_empty() && self.rows.takes(row.values()) {
@@ -114,20 +115,47 @@ impl Line {
 
     // An item comes to the end, whatever is there.
     fn push_other(&mut self, item: Item) -> Result<(), NoMemory>
-        ensures { OnOk result (self.new ≡ self.old ++ item ∷ []) }
+        ensures ok { OnOk result (self.new ≡ self.old ++ item ∷ []) }
+        ensures err { OnErr result (self.new ≡ self.old) }
     {
         self.others.push_back(item)?;
         Ok(())
     }
 
-    /// These items come to the end, in order.
+    /// These items come to the end, in order; changes nothing where there is no memory.
     pub fn append(&mut self, items: Items) -> Result<(), NoMemory>
-        ensures { OnOk result (self.new ≡ self.old ++ items) }
+        ensures ok { OnOk result (self.new ≡ self.old ++ items) }
+        ensures err { OnErr result (self.new ≡ self.old) }
+    {
+        // no memory holds so many items that the count would not do
+        let Some(before) = self.rows.len().checked_add(self.others.len()) else {
+            return Err(NoMemory);
+        };
+        let all = self.push_all(items);
+        if all.is_err() {
+            self.truncate(before);
+        }
+        all
+    }
+
+    // These items come to the end, in order; where there is no memory, maybe some of them did.
+    fn push_all(&mut self, items: Items) -> Result<(), NoMemory>
+        ensures ok { OnOk result (self.new ≡ self.old ++ items) }
+        ensures err { OnErr result (take (length self.old) self.new ≡ self.old) }
     {
         for item in items.into_vec() {
             self.push(item)?;
         }
         Ok(())
+    }
+
+    // Keeps the first items, at most `count`.
+    fn truncate(&mut self, count: usize)
+        ensures { self.new ≡ take count self.old }
+    {
+        let rows = self.rows.len();
+        self.others.truncate(count.saturating_sub(rows));
+        self.rows.truncate(count);
     }
 
     /// The item at the front leaves; None where there is none. A line that is empty gives back its memory, but for a few items.

@@ -62,6 +62,14 @@ impl Queue {
         Ok(())
     }
 
+    /// Keeps the first values, of which there are at least so many.
+    pub fn truncate(&mut self, count: usize)
+        requires { count ≤ length self.old }
+        ensures { self.new ≡ take count self.old }
+    {
+        self.items.truncate(self.taken + count);
+    }
+
     /// So many values from a place on, from 0.
     pub fn slice(&self, from: usize, count: usize) -> &[i64]
         requires { from + count ≤ length self.now }

@@ -11,4 +11,4 @@ loop-item-smaller c = one_less c.loop-item.items c.pop.new.self c.in-Some.item c
 
 pub loop-item-preserved : goal.loop-item-preserved
 loop-item-preserved c =
-    line_next c.loop-item.line c.push.new.self c.loop-item.items c.pop.new.self _ c.in-Some.item c.in-Some.ensures c.in_ok-push.ensures c.loop-item.invariant
+    line_next c.loop-item.line c.push.new.self c.loop-item.items c.pop.new.self _ c.in-Some.item c.in-Some.ensures c.in_ok-push.ensures.ok c.loop-item.invariant

@@ -1,0 +1,11 @@
+pub mod Counted
+pub mod Crossed
+pub mod Fronts
+pub mod JoinLaws
+pub mod Leading
+pub mod Leaving
+pub mod OwedLaws
+pub mod Sliding
+pub mod Stepping
+pub mod Streaming
+pub mod Widths

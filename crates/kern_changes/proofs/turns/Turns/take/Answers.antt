@@ -1,0 +1,17 @@
+use Rattle.std.proofs.Common.{◌∙◌, ap}
+use Rattle.kern_changes.specs.Joined.{PackTurns}
+use Rattle.kern_changes.proofs.Fronts.{no_pack_is, takes_pack_is}
+use Rattle.kern_changes.proofs.turns.Turns.take.Goals as goal
+
+pub returns-in_default : goal.returns-in_default
+returns-in_default c =
+    let j = c.self.inside in
+    no_pack_is c.args.self.now j.port j.had j.lines.items c.index_mut-line.result.now c.pop.new.self c.self.view_is c.requires.port c.index_mut-line.ensures.value c.in_default.ensures.0 c.in_default.ensures.1
+
+pub returns : goal.returns
+returns c =
+    let j = c.self.inside in (
+      ap (λ (s : PackTurns). s.port) c.self.view_is,
+      takes_pack_is c.args.self.now c.args.share j.port j.had c.len.result c.next_turn-port.result.0 c.next_turn-port.result.1 j.lines.items c.index_mut-line.result.now c.pop.new.self c.in-Some.pack c.self.view_is c.requires.port c.index_mut-line.ensures.value c.in-Some.ensures
+          (c.len.ensures ∙ j.lines.ok.0) c.next_turn-port.ensures.port c.next_turn-port.ensures.had,
+    )

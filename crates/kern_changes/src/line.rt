@@ -1,0 +1,57 @@
+// Changes in a line.
+ghost use Rattle.std.specs.Prelude.{◌≡◌, ◌↔◌, [], ◌∷◌, ◌++◌, IsTrue, OnOk, MatchOption};
+
+use crate::Change;
+use river_base::NoMemory;
+use std::alloc::Global;
+use std::collections::VecDeque;
+use std::marker::Model;
+
+/// Changes in a line: new ones come to its end, and each leaves at its front. Contracts see the
+/// list of those that are there.
+#[derive(Drop)]
+pub struct Line {
+    changes: VecDeque<Change>,
+}
+
+impl Model for Line {
+    ghost use Rattle.std.specs.Prelude.{List};
+    ghost use Rattle.kern_changes.specs.declared.change.Change.{Change};
+
+    ghost Value = { List Change };
+
+    ghost view = { λ l. l.changes.items };
+}
+
+impl Line {
+    /// The empty line.
+    pub fn new(alloc: Global) -> Line
+        ensures { result ≡ [] }
+    {
+        Line {
+            changes: VecDeque::new(alloc),
+        }
+    }
+
+    /// Whether there is no change.
+    pub fn is_empty(&self) -> bool
+        ensures { IsTrue result ↔ (self.now ≡ []) }
+    {
+        self.changes.is_empty()
+    }
+
+    /// A change comes to the end.
+    pub fn push(&mut self, change: Change) -> Result<(), NoMemory>
+        ensures { OnOk result (self.new ≡ self.old ++ change ∷ []) }
+    {
+        self.changes.push_back(change)?;
+        Ok(())
+    }
+
+    /// The change at the front leaves; None where there is none.
+    pub fn pop(&mut self) -> Option<Change>
+        ensures { MatchOption result ((self.old ≡ []) × (self.new ≡ [])) (λ x. self.old ≡ x ∷ self.new) }
+    {
+        self.changes.pop_front()
+    }
+}
