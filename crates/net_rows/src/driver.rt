@@ -145,9 +145,7 @@ fn ran_by<R: Threads + Sync>(
     }
     let inputs = made_lines(alloc, plan, count)?;
     let caps = Caps::new(alloc);
-    Ok(run_plan(
-        rt, alloc, plan, inputs, workers, cap, &caps, &NoGate,
-    )?)
+    Ok(run_plan(rt, alloc, plan, inputs, workers, cap, &caps, &NoGate)?)
 }
 
 // Whether just this text is printed of what workers gave, in one round at least, with a log for each class.

@@ -1,6 +1,7 @@
 -- The promise of the printer.
 use Rattle.std.proofs.Common.{◌≡◌, ℕ, List, sym, subst}
-use Rattle.std.specs.Prelude.{◌↔◌, Ok}
+use Rattle.std.specs.Prelude.{◌↔◌, Result, Ok, Err, IfOk}
+use Rattle.river_base.specs.declared.memory.NoMemory.{NoMemory}
 use Rattle.river_text.proofs.Capped.{caps_fit}
 use Rattle.river_text.proofs.Fronts.{means_what_it_has}
 use Rattle.river_plan.specs.Caps.{AreCaps, OwnCaps, first_cap}
@@ -45,4 +46,8 @@ promised text caps p is fit valid ranged =
     subst (λ (l : List ℕ). StandsForAlone l (stood (first_cap caps) p) ↔ IsPrintable p) (sym is)
     (valid_is_read (first_cap caps) p (λ q. first_fits caps q fit) valid ranged)
 
-pub ruleset promises = (promised)
+-- of a text that was printed
+pub promised-ok : (r : Result (List ℕ) NoMemory) (caps : List Cap) (p : PlanForm) → IfOk r (λ text. text ≡ plan_text (first_cap caps) p) → AreCaps caps
+    → IsPlan p → IsRanged p → IfOk r (λ text. StandsForAlone text (stood (first_cap caps) p) ↔ IsPrintable p)
+promised-ok (Ok text) caps p is fit valid ranged = promised text caps p is fit valid ranged
+promised-ok (Err e) caps p is fit valid ranged = tt

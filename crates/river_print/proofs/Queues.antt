@@ -2,8 +2,10 @@
 use Rattle.std.proofs.Common.{◌≡◌, ℕ, ◌+◌, ◌≤◌, ◌<◌, true, false, List, [], ◌∷◌, ◌++◌, Option, Some, None, Result, Ok, Err, refl, sym, ap, ◌∙◌, subst, arith, append_assoc}
 use Rattle.std.specs.Prelude.{codes}
 use Rattle.std.specs.Fmt.{decimal}
+use Rattle.std.proofs.lemmas.Fmt.{decimal-digits_of}
 use Rattle.work_code.specs.Cut.{cut, ends_unit, braces_after, is_else}
-use Rattle.work_code.specs.Lexis.{is_letter, is_word, is_digit, is_blank, first_is, begins_with, piece_at, number_piece, decimal_from, marks, tokens_in, with_mark}
+use Rattle.work_code.specs.Lexis.{is_letter, is_word, is_digit, is_blank, first_is, begins_with, piece_at, number_piece, decimal_from, symbol_piece, marks, tokens_in, with_mark}
+use Rattle.work_code.specs.Symbols.{long_symbol, short_symbol}
 use Rattle.work_code.specs.Tok.{Tok, Mark, name, number, symbol}
 use Rattle.work_code.specs.declared.fault.LexFault.{LexFault}
 use Rattle.work_code.specs.declared.sign.Symbol.TheVariants as s
@@ -36,8 +38,12 @@ is_river : is_name_text (codes "river") ≡ true
 unfolding is_letter is_word is_digit
 is_river = refl
 
+-- how it is written
+two_is : decimal 2 ≡ codes "2"
+two_is = decimal-digits_of 2 (omega arith) (omega arith)
+
 two : Piece (codes "2") (number 2 ∷ [])
-two = let small : 2 < 4294967296 = omega arith in (count-item 2 small).piece
+two = let small : 2 < 4294967296 = omega arith in subst (λ (l : List ℕ). Piece l (number 2 ∷ [])) two_is (count-item 2 small).piece
 
 header-spells : Line header_line header_toks
 unfolding header_toks
@@ -73,7 +79,7 @@ headed r =
     (with_mark (record { tok = number 2; start = 6; end = 7 }) (with_mark (record { tok = symbol s.Semicolon; start = 7; end = 8 }) r))
 
 header-marks : (rest : List ℕ) → tokens_in (header_line ++ rest) ≡ headed (marks 0 8 (codes "\n" ++ rest))
-unfolding marks piece_at first_is is_blank is_letter is_word is_digit begins_with number_piece decimal_from
+unfolding marks piece_at first_is is_blank is_letter is_word is_digit begins_with number_piece decimal_from symbol_piece long_symbol short_symbol
 header-marks rest = refl
 
 -- the number of a header is one byte long

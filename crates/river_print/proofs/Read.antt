@@ -356,7 +356,7 @@ queue : Gives t.IsQueue (λ q. w.IsDecl q.decl)
 queue = record {
   give = λ q ts h.
       let b = h.formed.second.formed.formed in
-      subst (λ (x : QueueDecl). w.IsDecl x.decl) (sym h.is) (named.give h.formed.value.0 h.formed.front h.formed.first, type.give h.formed.value.1.0 b.front b.first);
+      subst (λ (x : QueueDecl). w.IsDecl x.decl) (sym h.is) (named.give h.value.0 h.formed.front h.formed.first, type.give h.value.1.0 b.front b.first);
 }
 
 abbrev IsEntry : t.Entry → Type 0

@@ -92,8 +92,12 @@ late start e h = grind (arith, nat_tests)
 may : (start : ℕ) (e : Entry) → start ≤ stage_of e → cap_stands true (most_of e) ≡ true → may_stand (behind start) e ≡ true
 may start e h k = ap (λ b. b && cap_stands true (most_of e)) (late start e h) ∙ k
 
+not_first : (k : ℕ) → (suc k == 0) ≡ false
+not_first k = grind (arith, nat_tests)
+
 next : (start k : ℕ) (e : Entry) → stage_of e ≡ suc k → next_place (behind start) e ≡ behind (suc k)
-next start k e h = ap (λ n. record { stage = if n == 0 then 1 else n; headed = true }) h
+next start k e h =
+    ap (λ (n : ℕ). behind (if n == 0 then 1 else n)) h ∙ ap (λ (b : Bool). behind (if b then 1 else suc k)) (not_first k)
 
 stage-then : (k start : ℕ) (es fs : List Entry) (us vs : List (List Tok)) → start ≤ suc k → OfStage k es us
     → ((b : ℕ) → b ≤ suc k → AllFormed IsUnitAt next_place (behind b) fs vs) → AllFormed IsUnitAt next_place (behind start) (es ++ fs) (us ++ vs)
@@ -103,7 +107,7 @@ stage-then k start (e ∷ es) fs [] vs le h more = absurd h
 stage-then k start (e ∷ es) fs (u ∷ us) vs le h more = (
   record { passes = may start e (let same = h.0 in omega (arith, same, le)) h.1; formed = h.2 },
   subst (λ (at : Place). AllFormed IsUnitAt next_place at (es ++ fs) (us ++ vs)) (sym (next start k e h.0))
-  (stage-then k (suc k) es fs us vs (omega arith) h.3 more),
+      (stage-then k (suc k) es fs us vs (omega arith) h.3 more),
 )
 
 output-formed : (d : Decl) → w.IsDecl d → IsUnit (output d) (decl_toks (codes "output") d)

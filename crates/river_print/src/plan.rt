@@ -18,7 +18,6 @@ use std::alloc::Global;
 /// The River text of a valid plan, of version 2, one unit a line; an internal queue has the capacity that
 /// the first entry with its name says. It is in the grammar and stands for the plan and these capacities
 /// and for nothing else, exactly where `if` nests at most 16 deep and no window's range is below 0.
-#[tactic(auto, using(crate::proofs::Promise::promises))]
 pub fn print_river(alloc: Global, plan: &Plan, caps: &Caps) -> Result<Bytes, NoMemory>
     requires { AreCaps caps.now }
     ensures text { IfOk result (λ text. text ≡ plan_text (first_cap caps.now) plan.now) }
