@@ -16,7 +16,7 @@ pub struct Bindings {
 }
 
 impl Model for Bindings {
-    ghost use Rattle.std.specs.Prelude.{List, reverse};
+    ghost use Rattle.std.specs.Prelude.{reverse};
     ghost use Rattle.params_model.specs.Environment.{Environment};
 
     ghost Value = { Environment };

@@ -1,5 +1,5 @@
 // Values of constants.
-ghost use Rattle.std.specs.Prelude.{◌≡◌, ℤ, pos, [], ◌≤◌};
+ghost use Rattle.std.specs.Prelude.{◌≡◌};
 ghost use Rattle.streamit_text.specs.Tree.{expression};
 ghost use Rattle.streamit_model.specs.Meaning.{nought};
 ghost use Rattle.params_model.specs.Environment.{under, value, count};

@@ -1,6 +1,5 @@
 // Instances of streams, and lists of those that are added.
-ghost use Rattle.std.specs.Prelude.{◌≡◌, ◌++◌, [], ◌∷◌, map, OnOk};
-ghost use Rattle.std.specs.Prelude.{codes};
+ghost use Rattle.std.specs.Prelude.{◌≡◌, ◌++◌, [], ◌∷◌, OnOk};
 ghost use Rattle.work_code.specs.Tok as tok;
 ghost use Rattle.work_code.specs.declared.sign.Symbol.TheVariants as s;
 ghost use Rattle.params_text.specs.Toks.{other_toks, spaced};

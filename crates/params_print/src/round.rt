@@ -1,7 +1,7 @@
 // Splitters and joiners under values.
 ghost use Rattle.std.specs.Prelude.{◌≡◌, ◌++◌, map, OnOk};
 ghost use Rattle.streamit_text.specs.Tree.{expression};
-ghost use Rattle.params_text.specs.Program.{expressions, dealing_of, rounds_of};
+ghost use Rattle.params_text.specs.Program.{dealing_of, rounds_of};
 ghost use Rattle.params_text.specs.Toks.{more_numbers, numbers_toks, weights_toks, dealing_toks, split_toks, join_toks, spaced};
 ghost use Rattle.params_model.specs.Constants.{AreFitOption, IsFitDealing};
 ghost use Rattle.params_model.specs.Environment.{counts, option_counts, dealing};
