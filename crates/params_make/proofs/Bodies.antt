@@ -1,24 +1,23 @@
 -- The bodies of instances: their steps, their children, and the instance as a whole.
-use Rattle.std.proofs.Common.{◌≡◌, ℕ, suc, ℤ, pos, ◌+◌, ◌-◌, ◌<◌, ◌≤◌, Bool, List, [], ◌∷◌, ◌++◌, length, map, take, drop, get_or, Option, Some, None, Result, Ok, Err, refl, sym, ap, ◌∙◌, subst, arith}
-use Rattle.std.specs.Prelude.{◌&&◌}
+use Rattle.std.proofs.Common.{◌≡◌, ℕ, ℤ, pos, ◌+◌, ◌-◌, Bool, List, [], ◌∷◌, ◌++◌, length, map, take, drop, get_or, Some, None, Result, Ok, refl, sym, ap, ◌∙◌, subst, arith}
 use Rattle.std.proofs.lemmas.List.{map-append, take_all}
 use Rattle.river_plan.specs.Forms.{Name}
 use Rattle.streamit_text.specs.Program as plain
 use Rattle.streamit_text.specs.Tree.{Expression}
 use Rattle.streamit_model.specs.Meaning.{numbers, turns_between}
-use Rattle.params_text.specs.Program.{Add, Loop, Steps, Declared, declared_of}
+use Rattle.params_text.specs.Program.{Add, Loop, Steps, declared_of}
 use Rattle.params_text.specs.declared.program.ParamUnit.{ParamUnit}
 use Rattle.params_model.specs.Environment.{Environment, value}
 use Rattle.params_model.specs.Making.{Source, Made, nothing_made, Adding, Range, Empty, on_fine, demand, begin, turn, is_ranged, made_once, steps_made, turns_made, adds_of, children_made, make, last_made}
 use Rattle.params_model.specs.Making as model
 use Rattle.params_build.specs.declared.fault.Refusal.{Refusal}
-use Rattle.params_build.specs.Told.{refused, Told}
+use Rattle.params_build.specs.Told.{Told}
 use Rattle.params_print.specs.Heads.{name_written, names_written}
 use Rattle.params_print.specs.declared.instance.Instance.{Instance}
 use Rattle.params_make.specs.declared.body.Scope.{Scope}
 use Rattle.params_make.specs.declared.making.Making.{Making}
 use Rattle.params_make.specs.declared.span.Span.{Span}
-use Rattle.params_make.specs.Standing.{Stands, Begins, Blames, MakesOne, MakesMore, MakesAll, adding, bodied, in_turn, source_at, sources, turn_made}
+use Rattle.params_make.specs.Standing.{Stands, Blames, MakesOne, MakesMore, MakesAll, adding, bodied, in_turn, source_at, sources, turn_made}
 use Rattle.params_make.specs.Turning.{Spans}
 use Rattle.params_make.proofs.Faults.{fine, told-on, told-behind, told-blamed}
 use Rattle.params_make.proofs.Sources.{sources-more}

@@ -1,5 +1,5 @@
 -- Faults that are told.
-use Rattle.std.proofs.Common.{◌≡◌, ℕ, Result, Ok, Err, refl, sym, ap, ◌∙◌, subst}
+use Rattle.std.proofs.Common.{◌≡◌, ℕ, Result, Ok, Err, sym, ap, ◌∙◌, subst}
 use Rattle.params_model.specs.Making.{on_fine}
 use Rattle.params_model.specs.Making as model
 use Rattle.params_build.specs.declared.fault.Fault.{Fault}

@@ -1,5 +1,5 @@
 -- The parts of the making of one instance.
-use Rattle.std.proofs.Common.{◌≡◌, ℕ, suc, pos, ◌+◌, ◌<◌, ◌≤◌, Bool, true, false, Option, List, [], ◌∷◌, ◌++◌, length, map, Result, Ok, Err, refl, sym, ap, ◌∙◌, subst, arith, append_assoc, append-nil}
+use Rattle.std.proofs.Common.{◌≡◌, ℕ, suc, pos, ◌+◌, Option, List, [], ◌∷◌, ◌++◌, length, Result, Ok, Err, refl, sym, ap, ◌∙◌, subst, arith, append_assoc, append-nil}
 use Rattle.std.specs.Prelude.{nat_lt, nat_le, ◌&&◌, IfOk, OnOk}
 use Rattle.std.proofs.lemmas.List.{map-append, length-append}
 use Rattle.river_plan.specs.Forms.{Name}
@@ -18,7 +18,7 @@ use Rattle.params_print.specs.Heads.{name_written}
 use Rattle.params_print.specs.declared.instance.Instance.{Instance}
 use Rattle.params_make.specs.declared.making.Making.{Making}
 use Rattle.params_make.specs.Standing.{Stands, Begins, MakesOne, Writes, Wrote, finished, bodied}
-use Rattle.params_make.proofs.Faults.{fine, told-more, told-on, told-behind}
+use Rattle.params_make.proofs.Faults.{fine, told-on, told-behind}
 
 -- COUNTS
 

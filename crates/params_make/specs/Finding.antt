@@ -1,5 +1,5 @@
 -- The stream that an `add` names.
-use Rattle.std.specs.Prelude.{◌≡◌, ◌<◌, ℕ, suc, ℤ, true, List, length, take, Option, Some, None, Err}
+use Rattle.std.specs.Prelude.{◌≡◌, ◌<◌, ℕ, suc, ℤ, List, length, take, Option, Some, None, Err}
 use Rattle.std.proofs.Common.{get_or}
 use Rattle.river_plan.specs.Forms.{Name}
 use Rattle.params_text.specs.Program.{declared_of}

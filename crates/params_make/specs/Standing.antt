@@ -1,9 +1,9 @@
 -- What was made so far: its text and its counts, and what each part of the making adds to them.
-use Rattle.std.specs.Prelude.{◌≡◌, ℕ, suc, ℤ, pos, List, [], ◌∷◌, ◌++◌, length, map, Result, Ok, Err}
+use Rattle.std.specs.Prelude.{◌≡◌, ℕ, suc, pos, List, [], ◌∷◌, ◌++◌, length, map, Result, Ok, Err}
 use Rattle.std.proofs.Common.{get_or}
 use Rattle.river_plan.specs.Forms.{Name}
 use Rattle.streamit_text.specs.Program as plain
-use Rattle.params_text.specs.Program.{Steps, Body, Declared, program_of, declared_of}
+use Rattle.params_text.specs.Program.{Steps, Body, Declared, program_of}
 use Rattle.params_text.specs.Toks.{plain_text}
 use Rattle.params_text.specs.declared.program.ParamUnit.{ParamUnit}
 use Rattle.params_model.specs.Environment.{Environment}
@@ -65,7 +65,7 @@ turn_made k f v s = on_fine (turn k s) (f v)
 
 -- ANSWERS
 
--- a fault that a test tells
+-- a fault that a test tells; no test tells want of memory
 abbrev pub fault_of : Fault → model.Fault
 fault_of fault.UnknownName = model.UnknownName
 fault_of fault.NameTwice = model.NameTwice

@@ -1,6 +1,5 @@
 // The bodies of instances: their children, and then their own text.
 ghost use Rattle.std.specs.Prelude.{◌≡◌, ◌-◌, [], suc, length};
-ghost use Rattle.streamit_text.specs.Tree.{expression};
 ghost use Rattle.params_text.specs.Program.{program_of, body_of, declared_of, filter_of, steps_of, step_of, expressions, Add, AFilter, APipeline};
 ghost use Rattle.params_text.specs.View.{split_join_of};
 ghost use Rattle.streamit_model.specs.Meaning.{numbers};
@@ -9,11 +8,11 @@ ghost use Rattle.params_model.specs.Making.{Made, Adding, made_once, steps_made,
 ghost use Rattle.params_make.specs.Standing.{Stands, MakesOne, MakesMore, MakesAll, adding, source_at, bodied, in_turn, turn_made};
 ghost use Rattle.params_model.specs.Constants.{AreFitUnits, IsFitUnit, IsFitFilter, HasFitConstants, HaveFitConstants};
 
+use crate::Making;
 use crate::find::{find, size_at};
 use crate::making::{demand, refuse};
 use crate::ranges::{is_ranged_filter, is_ranged_round, is_ranged_split};
 use crate::span::{Span, span_between, values};
-use crate::Making;
 use params_build::{Fault, Refusal};
 use params_print::{Bindings, Instance};
 use params_text::{ParamBody, ParamFilter, ParamSplitJoin, ParamUnit, Step, Steps};
@@ -21,8 +20,8 @@ use river_base::{Listed, Name};
 use std::alloc::Global;
 use streamit_text::Expr;
 
-/// What an instance sees: the units above its own, the bytes of all, and how deep it lies; or, of its
-/// children, how deep they lie.
+/// What an instance sees: the units above its own and the bytes of all units; and how deep it lies,
+/// or, in its body, how deep its children lie.
 #[derive(Clone, Copy)]
 pub struct Seen<'a> {
     pub units: &'a [ParamUnit],

@@ -10,6 +10,5 @@ mod ranges;
 mod span;
 mod write;
 
-use body::{Scope, Seen};
 pub use make::{Written, made};
 use making::Making;

@@ -13,14 +13,22 @@ use params_text::ParamUnit;
 use river_base::{Bytes, Numbers};
 use std::alloc::Global;
 
-/// The plain program of a program with parameters, and the source unit of each of its units, from 1.
+/// The plain program of a program with parameters, and the number of the source unit, from 1, of
+/// each of its units.
 #[derive(Drop)]
 pub struct Written {
     pub plain: Bytes,
     pub from: Numbers,
 }
 
-/// The plain program of these units, of which each has so many bytes; or the first fault.
+/// The plain program of these units, of which each has so many bytes: an instance for the last
+/// stream and for each `add` that is met, children before their parent.
+///
+/// # Errors
+///
+/// The first fault in the order in which instances are made, with the unit that is being made:
+/// `Range`, `Empty` or `Budget`; `UnknownName` where an `add` names no stream above, which a program
+/// that was judged has not; `NoMemory` where there is no memory.
 pub fn made(alloc: Global, units: &[ParamUnit], sizes: &[usize]) -> Result<Written, Refusal>
     requires { AreFitUnits (program_of units.now) }
     ensures { Makes result (last_made (sources units.now sizes.now)) }

@@ -11,8 +11,8 @@ use params_text::ParamUnit;
 use river_base::{Bytes, Name, NoMemory, Numbers};
 use std::alloc::Global;
 
-/// What was made so far, and how many instances were begun, the bytes of their source units, and how
-/// many turns were begun.
+/// What was made so far: the text, the source unit of each instance, and the number of the last one;
+/// and how many instances were begun, the bytes of their units, and how many turns were begun.
 #[derive(Drop)]
 pub struct Making {
     pub text: Bytes,

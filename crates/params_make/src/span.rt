@@ -1,5 +1,5 @@
 // The turns of a loop of steps, and the values of arguments.
-ghost use Rattle.std.specs.Prelude.{◌≡◌, map, IfOk, MatchOption, pos, false};
+ghost use Rattle.std.specs.Prelude.{◌≡◌, map, IfOk};
 ghost use Rattle.streamit_text.specs.Tree.{expression, is_turn};
 ghost use Rattle.params_text.specs.Program.{expressions};
 ghost use Rattle.params_model.specs.Environment.{value};

@@ -9,8 +9,8 @@ ghost use Rattle.params_make.specs.Standing.{Stands, Writes};
 ghost use Rattle.params_print.specs.Heads.{names_written};
 ghost use Rattle.params_model.specs.Constants.{IsFitFilter, IsFitDealing, AreFitOption};
 
-use crate::body::Scope;
 use crate::Making;
+use crate::body::Scope;
 use params_print::{Bindings, Instance, print_filter, print_pipeline, print_split_join};
 use params_text::{ParamFilter, ParamSplitJoin, ParamUnit};
 use river_base::{Name, NoMemory};

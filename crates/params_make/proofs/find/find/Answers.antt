@@ -12,9 +12,11 @@ returns-then-eq c =
     let within = c.units.invariant.within in
     let lt : c.units.i - 1 < length us = omega (arith, within) in
     let one : c.units.i ≡ c.units.i - 1 + 1 = omega arith in
-    let yes : name_eq c.index-units-i.result.name n ≡ true = search rules in
-    (lt, λ sizes depth zs m u is. sym (c.units.invariant.same sizes depth zs m) ∙ ap (λ j. adding (take j us) sizes depth n zs m) one
-    ∙ found-at us i u c.index-units-i.result sizes depth n zs m lt c.index-units-i.is yes is)
+    let yes : name_eq c.index-units-i.result.name n ≡ true = search rules in (
+      lt,
+      λ sizes depth zs m u is. sym (c.units.invariant.same sizes depth zs m) ∙ ap (λ j. adding (take j us) sizes depth n zs m) one
+          ∙ found-at us i u c.index-units-i.result sizes depth n zs m lt c.index-units-i.is yes is,
+    )
 
 pub units-preserved : goal.units-preserved
 units-preserved c =

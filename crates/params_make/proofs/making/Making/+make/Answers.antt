@@ -1,13 +1,13 @@
-use Rattle.std.proofs.Common.{◌≡◌, ◌+◌, ◌-◌, ◌*◌, ◌<◌, ◌≤◌, suc, false, true, List, length, map, take, drop, [], ◌∷◌, Ok, Err, refl, sym, ap, get_or, ◌∙◌, subst, arith, rules}
+use Rattle.std.proofs.Common.{◌≡◌, ◌+◌, ◌-◌, ◌<◌, ◌≤◌, suc, false, true, List, length, map, drop, [], Ok, refl, sym, ap, get_or, ◌∙◌, subst, arith, rules}
 use Rattle.streamit_text.specs.Tree.{expression, is_turn}
 use Rattle.streamit_text.specs.Program as plain
 use Rattle.streamit_text.proofs.Places.{at_place, none_left}
 use Rattle.streamit_model.specs.Meaning.{numbers}
 use Rattle.params_text.specs.Program.{in_order, step_of, steps_of, expressions, declared_of, body_of, dealing_of, rounds_of, Step}
-use Rattle.params_text.proofs.StepTrees.{steps-are, step-add, step-loop}
-use Rattle.params_model.specs.Constants.{HasFitConstants, HaveFitConstants}
+use Rattle.params_text.proofs.StepTrees.{steps-are, step-loop}
+use Rattle.params_model.specs.Constants.{HaveFitConstants}
 use Rattle.params_model.specs.Environment.{dealing, option_counts}
-use Rattle.params_model.specs.Making.{Range, begin, demand, is_ranged_dealing, are_ranged_option, made_once, steps_made, turns_made}
+use Rattle.params_model.specs.Making.{Range, begin, demand, are_ranged_option, made_once, steps_made, turns_made}
 use Rattle.params_build.specs.Told.{Told}
 use Rattle.std.specs.Prelude.{IsTrue}
 use Rattle.river_base.specs.declared.memory.NoMemory.{NoMemory}

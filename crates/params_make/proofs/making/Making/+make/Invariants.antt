@@ -1,4 +1,4 @@
-use Rattle.std.proofs.Common.{◌≡◌, ◌+◌, ◌*◌, ◌-◌, suc, drop, map, length}
+use Rattle.std.proofs.Common.{◌+◌, ◌*◌, ◌-◌, suc, drop, map, length}
 use Rattle.streamit_model.specs.Meaning.{numbers}
 use Rattle.params_text.specs.Program.{in_order, step_of, steps_of}
 use Rattle.params_text.specs.declared.program.Steps.{size-Steps}

@@ -1,9 +1,6 @@
 use Rattle.std.proofs.Common.{◌≡◌, suc, length, Ok, subst}
-use Rattle.std.specs.Prelude.{nat_lt, nat_le, ◌&&◌}
 use Rattle.params_model.specs.Making.{Budget, demand}
-use Rattle.params_build.specs.Told.{Told, JudgesAll}
-use Rattle.params_make.specs.Standing.{Begins}
-use Rattle.params_make.proofs.Parts.{begun-stands, begun-told}
+use Rattle.params_make.proofs.Parts.{begun-stands}
 use Rattle.params_make.proofs.making.Making.begin.Goals as goal
 
 pub returns-clause-begun : goal.returns-clause-begun

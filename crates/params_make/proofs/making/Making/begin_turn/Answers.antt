@@ -1,4 +1,4 @@
-use Rattle.std.proofs.Common.{◌≡◌, suc, length, rules}
+use Rattle.std.proofs.Common.{suc, length}
 use Rattle.params_make.proofs.Parts.{turn-stands}
 use Rattle.params_make.proofs.making.Making.begin_turn.Goals as goal
 

@@ -1,4 +1,4 @@
-use Rattle.std.proofs.Common.{◌≡◌, suc, length, ap}
+use Rattle.std.proofs.Common.{suc, length, ap}
 use Rattle.streamit_text.specs.Program as plain
 use Rattle.params_text.specs.Program.{filter_of}
 use Rattle.params_model.specs.Plain.{plain_filter}

@@ -1,4 +1,4 @@
-use Rattle.std.proofs.Common.{◌≡◌, suc, length, ap}
+use Rattle.std.proofs.Common.{suc, length, ap}
 use Rattle.streamit_text.specs.Program as plain
 use Rattle.params_make.proofs.Parts.{written-by}
 use Rattle.params_make.proofs.making.Making.write_pipeline.Goals as goal

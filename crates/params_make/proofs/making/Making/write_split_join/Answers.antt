@@ -1,4 +1,4 @@
-use Rattle.std.proofs.Common.{◌≡◌, suc, length, ap, ◌∙◌}
+use Rattle.std.proofs.Common.{suc, length, ap, ◌∙◌}
 use Rattle.streamit_text.specs.Program as plain
 use Rattle.params_text.specs.Program.{dealing_of, rounds_of}
 use Rattle.params_model.specs.Environment.{dealing, option_counts}
