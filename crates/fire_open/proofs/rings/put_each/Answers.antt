@@ -35,7 +35,7 @@ loop-place-preserved c =
     (slice_get_read c.args.links.now (length c.args.links.now) c.loop-place.place l refl (omega arith) (c.at-link.ensures l)) c.loop-place.invariant
     (subst (λ n. Put n c.loop-place.tasks c.put_ring.new.tasks l) c.room_of-room.ensures.room c.in_ok-put_ring.ensures)
 
-pub room_of-requires-clause-link : goal.room_of-requires-clause-link
-room_of-requires-clause-link c =
+pub room_of-room-requires-clause-link : goal.room_of-room-requires-clause-link
+room_of-room-requires-clause-link c =
     let l = c.at-link.result.now in
     c.requires.links.right c.loop-place.place l (slice_get_read c.args.links.now (length c.args.links.now) c.loop-place.place l refl (omega arith) (c.at-link.ensures l))

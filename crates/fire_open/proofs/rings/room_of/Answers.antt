@@ -10,8 +10,8 @@ at-requires c =
     let k = c.requires.link in
     op_there c.raw.result.now c.args.plan.now c.args.link.writer k.write c.raw.ensures.raw k.write_is
 
-pub at-requires-2 : goal.at-requires-2
-at-requires-2 c =
+pub at-queue-requires : goal.at-queue-requires
+at-queue-requires c =
     let d = c.at.result.now in
     port_there c.raw.result.now c.args.plan.now c.args.link d c.raw.ensures.raw c.requires.link (c.at.ensures d)
 
