@@ -1,12 +1,12 @@
--- The streams that are declared above.
-use Rattle.std.specs.Prelude.{List, [], ◌∷◌, length}
+-- The streams that are declared above, as the code knows them.
+use Rattle.std.specs.Prelude.{◌≡◌}
+use Rattle.indexmap.specs.IndexMap.{get}
+use Rattle.river_base.specs.Name.{name_eq}
+use Rattle.river_plan.specs.Forms.{Name}
+use Rattle.streamit_model.specs.Meaning.{look}
 use Rattle.params_model.specs.Judged.{Above}
-use Rattle.params_text.specs.Program.{Declared, ParamProgram}
+use Rattle.params_build.specs.declared.above.StreamsAbove.{StreamsAbove}
 
--- these streams, behind those
-abbrev pub above_behind : Above → ParamProgram → Above
-above_behind above [] = above
-above_behind above (u ∷ us) = above_behind ((u.name, length u.params) ∷ above) us
-
-abbrev pub above_of : ParamProgram → Above
-above_of us = above_behind [] us
+-- each name has the number of parameters of the nearest stream of this name
+pub record Knows (streams : StreamsAbove) (above : Above) : Type 0 where
+  pub arities : (n : Name) → get name_eq streams.arities n ≡ look above n

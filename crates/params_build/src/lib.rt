@@ -1,9 +1,13 @@
-//! Programs with parameters judged: their constants and their filters.
+//! Programs with parameters judged: their constants, their filters, their steps and their units.
 #![tactic(auto)]
 
+mod above;
 mod constant;
 mod fault;
 mod filter;
+mod judge;
+mod step;
+mod unit;
 
 pub use fault::{Fault, Refusal};
-pub use filter::filter as judged_filter;
+pub use judge::{judged, top};

@@ -38,7 +38,7 @@ use Rattle.params_model.specs.Written.{IsWrittenExpr, IsWrittenPrework, IsWritte
 
 -- EXPRESSIONS
 
-a_value : (v : ℕ) → is_value v ≡ true → v ≤ 9223372036854775807
+pub a_value : (v : ℕ) → is_value v ≡ true → v ≤ 9223372036854775807
 a_value v h = grind (arith, nat_tests)
 
 marked-told : (p : Sign) (t : Expression) → IsTold t → IsTold (marked p t)
@@ -57,15 +57,15 @@ module _ (Leaf : ℕ → Expression → List Tok → Type 0) (leaves : (n : ℕ)
   spells-told n rank t ts (spelled.once m k x o a b us vs e f g h) = (spells-told m k a us g, spells-told m k b vs h)
   spells-told n rank t ts (spelled.prefix m k x p u us e h) = marked-told p u (spells-told m (suc k) u us h)
 
-  term-told : (n : ℕ) (t : Expression) (ts : List Tok) → IsExpression Leaf n t ts → IsTold t
+  pub term-told : (n : ℕ) (t : Expression) (ts : List Tok) → IsExpression Leaf n t ts → IsTold t
   term-told n t ts h = spells-told n 7 t ts h.0
 
-leaf-told : (n : ℕ) (t : Expression) (ts : List Tok) → IsLeaf n t ts → IsTold t
+pub leaf-told : (n : ℕ) (t : Expression) (ts : List Tok) → IsLeaf n t ts → IsTold t
 leaf-told n t ts (leaf.number m v h) = a_value v h
 leaf-told n t ts (leaf.name m text h) = h
 leaf-told n t ts (leaf.pop m) = tt
 
-told-fit : (t : Expression) → IsTold t → IsFit t
+pub told-fit : (t : Expression) → IsTold t → IsFit t
 told-fit (tree.Number v) h = h
 told-fit (tree.Name n) h = tt
 told-fit (tree.Peek t) h = tt
@@ -74,7 +74,7 @@ told-fit (tree.Neg t) h = told-fit t h
 told-fit (tree.Not t) h = told-fit t h
 told-fit (tree.Bin o a b) h = (told-fit a h.0, told-fit b h.1)
 
-constant-fit : (n : ℕ) (t : Expression) (ts : List Tok) → Constant n t ts → IsFit t
+pub constant-fit : (n : ℕ) (t : Expression) (ts : List Tok) → Constant n t ts → IsFit t
 constant-fit n t ts h = told-fit t (term-told IsLeaf leaf-told n t ts h.formed)
 
 -- STEPS
@@ -83,13 +83,13 @@ commas-fit : (n : ℕ) (cs : List Expression) (ts : List Tok) → form.Each (for
 commas-fit n [] ts h = tt
 commas-fit n (c ∷ cs) ts h = (constant-fit n c h.3.back h.3.formed, commas-fit n cs h.1 h.4)
 
-listing-fit : (n : ℕ) (cs : List Expression) (ts : List Tok) → form.Listing (Constant n) cs ts → AreFit cs
+pub listing-fit : (n : ℕ) (cs : List Expression) (ts : List Tok) → form.Listing (Constant n) cs ts → AreFit cs
 listing-fit n cs ts h = ⊎_elim
     (λ e. subst AreFit (sym e.0) tt)
     (λ f. subst AreFit (sym f.is) (constant-fit n f.value.0 f.formed.front f.formed.first, commas-fit n f.value.1 f.formed.back f.formed.second))
     h
 
-constants-fit : (n : ℕ) (o : Option (List Expression)) (ts : List Tok) → Constants n o ts → AreFit (or_none o)
+pub constants-fit : (n : ℕ) (o : Option (List Expression)) (ts : List Tok) → Constants n o ts → AreFit (or_none o)
 constants-fit n None ts h = tt
 constants-fit n (Some cs) ts h = enclosed AreFit _ _ _ n cs ts h (λ m us f. listing-fit m cs us f)
 

@@ -1,0 +1,74 @@
+// Programs judged: their units, one after another, and the last of them.
+ghost use Rattle.std.specs.Prelude.{◌≡◌, ◌<◌, ◌^◌, ℕ, List, [], ◌∷◌, length, OnOk};
+ghost use Rattle.params_text.specs.Program.{declared_of, program_of};
+ghost use Rattle.params_model.specs.Judged.{Above, sources_of, top_judged, unit_judged, units_judged};
+ghost use Rattle.params_build.specs.Above.{Knows};
+ghost use Rattle.params_build.specs.Told.{Judges, JudgesAll};
+
+use crate::above::StreamsAbove;
+use crate::unit::unit;
+use crate::{Fault, Refusal};
+use params_text::ParamUnit;
+use std::alloc::Global;
+
+/// All units of a program, one after another.
+///
+/// # Errors
+///
+/// The first fault in reading order, where the block of a loop of steps is read once, with its unit;
+/// `NoMemory` where there is no memory.
+pub fn judged(alloc: Global, units: &[ParamUnit]) -> Result<(), Refusal>
+    requires { length units.now < 2 ^ 32 }
+    ensures { JudgesAll result (units_judged 1 [] (program_of units.now)) }
+{
+    let mut above = StreamsAbove::new(alloc);
+    each_unit(alloc, &mut above, units)
+}
+
+// The units, below these streams.
+fn each_unit(alloc: Global, above: &mut StreamsAbove, units: &[ParamUnit]) -> Result<(), Refusal>
+    requires { length units.now < 2 ^ 32 }
+    ensures { (us : Above) → Knows above.old us → JudgesAll result (units_judged 1 us (program_of units.now)) }
+{
+    'units: for i in 0..units.len() {
+        match unit_and_name(alloc, above, &units[i]) {
+            Ok(()) => {}
+            Err(fault) => {
+                return Err(Refusal {
+                    unit: i as u32 + 1,
+                    fault,
+                });
+            }
+        }
+    }
+    Ok(())
+}
+
+// A unit, which is declared then.
+fn unit_and_name(alloc: Global, above: &mut StreamsAbove, one: &ParamUnit) -> Result<(), Fault>
+    ensures judged { (k : ℕ) (us : Above) → Knows above.old us → Judges k result (unit_judged k us (declared_of one.now)) }
+    ensures known { (us : Above) → Knows above.old us → OnOk result (Knows above.new ((one.now.name, length one.now.params.items) ∷ us)) }
+{
+    unit(alloc, above, one)?;
+    above.declare(one.name, one.params.len())?;
+    Ok(())
+}
+
+/// The last unit, which has no parameters.
+///
+/// # Errors
+///
+/// `Top` with its number, where it has.
+pub fn top(units: &[ParamUnit]) -> Result<(), Refusal>
+    requires { length units.now < 2 ^ 32 }
+    ensures { (sizes : List ℕ) → JudgesAll result (top_judged (sources_of (program_of units.now) sizes)) }
+{
+    let count = units.len();
+    if count == 0 || units[count - 1].params.is_empty() {
+        return Ok(());
+    }
+    Err(Refusal {
+        unit: count as u32,
+        fault: Fault::Top,
+    })
+}

@@ -1,0 +1,117 @@
+// Steps judged: no variable of a loop has a name that is known, the names of constants are known, and each stream that is added is
+// declared above, with as many parameters as there are arguments.
+ghost use Rattle.std.specs.Prelude.{◌≡◌, ℕ, not, ◌&&◌, [], ◌∷◌, ◌++◌, length, OnOk};
+ghost use Rattle.streamit_text.specs.Tree.{expression};
+ghost use Rattle.params_text.specs.Params.{is_one_of};
+ghost use Rattle.params_text.specs.Program.{expressions, step_of, steps_of};
+ghost use Rattle.params_model.specs.Judged.{Above, and_then, are_known, all_known, has_arity, is_there, step_judged, steps_judged};
+ghost use Rattle.params_model.specs.Making.{UnknownName, NameTwice, Arity, demand};
+ghost use Rattle.streamit_model.specs.Meaning.{look};
+ghost use Rattle.params_build.specs.Above.{Knows};
+ghost use Rattle.params_build.specs.Told.{Judges};
+
+use crate::Fault;
+use crate::above::StreamsAbove;
+use crate::constant::{all_known, are_known};
+use params_text::{Step, Steps, is_one_of};
+use river_base::{Name, NoMemory};
+use streamit_text::Expr;
+
+// The arguments of an `add`, and how many there are.
+fn given(
+    above: &StreamsAbove,
+    known: &[Name],
+    name: &Name,
+    args: &Vec<Expr>,
+) -> Result<(), Fault>
+    ensures { (k : ℕ) (us : Above) → Knows above.now us → Judges k result (and_then (demand (all_known known.now (expressions args.now)) k UnknownName) (demand (has_arity (look us name.now) (length args.now.items)) k Arity)) }
+{
+    if !all_known(known, args) {
+        return Err(Fault::UnknownName);
+    }
+    above.takes(name, args.len())
+}
+
+// An `add`.
+fn add(above: &StreamsAbove, known: &[Name], name: &Name, args: &Vec<Expr>) -> Result<(), Fault>
+    ensures { (k : ℕ) (us : Above) → Knows above.now us → Judges k result (and_then (demand (is_there (look us name.now)) k UnknownName) (and_then (demand (all_known known.now (expressions args.now)) k UnknownName) (demand (has_arity (look us name.now) (length args.now.items)) k Arity))) }
+{
+    above.has(name)?;
+    given(above, known, name, args)
+}
+
+// The head of a loop.
+fn head(known: &[Name], name: &Name, low: &Expr, high: &Expr) -> Result<(), Fault>
+    ensures { (k : ℕ) → Judges k result (and_then (demand (not (is_one_of known.now name.now)) k NameTwice) (demand (are_known known.now (expression low.now) && are_known known.now (expression high.now)) k UnknownName)) }
+{
+    if is_one_of(known, name) {
+        return Err(Fault::NameTwice);
+    }
+    if are_known(known, low) && are_known(known, high) {
+        Ok(())
+    } else {
+        Err(Fault::UnknownName)
+    }
+}
+
+// One name more is known.
+fn more(known: &mut Vec<Name>, name: Name) -> Result<(), NoMemory>
+    ensures { OnOk result (known.new.items ≡ known.old.items ++ name ∷ []) }
+{
+    known.push(name)?;
+    Ok(())
+}
+
+// A step, with the names that are known there, which it leaves as they are.
+#[cycle(judged)]
+#[tactic(auto, using(params_text::proofs::StepTrees::steps))]
+fn step(above: &StreamsAbove, known: &mut Vec<Name>, one: &Step) -> Result<(), Fault>
+    ensures judged { (k : ℕ) (us : Above) → Knows above.now us → Judges k result (step_judged k us known.old.items (step_of one.now)) }
+    ensures kept { OnOk result (known.new.items ≡ known.old.items) }
+{
+    match one {
+        Step::Add { name, args } => add(above, known.as_slice(), name, args),
+        Step::Loop {
+            name,
+            low,
+            high,
+            steps: body,
+            ..
+        } => {
+            head(known.as_slice(), name, low, high)?;
+            turn(above, known, name, body)
+        }
+    }
+}
+
+// The steps of a loop with this variable.
+#[cycle(judged)]
+fn turn(
+    above: &StreamsAbove,
+    known: &mut Vec<Name>,
+    name: &Name,
+    body: &Steps,
+) -> Result<(), Fault>
+    ensures judged { (k : ℕ) (us : Above) → Knows above.now us → Judges k result (steps_judged k us (known.old.items ++ name.now ∷ []) (steps_of body.now)) }
+    ensures kept { OnOk result (known.new.items ≡ known.old.items) }
+{
+    more(known, *name)?;
+    steps(above, known, body)?;
+    known.pop();
+    Ok(())
+}
+
+/// Steps, one after another, with the names that are known there, which they leave as they are.
+#[cycle(judged)]
+pub fn steps(above: &StreamsAbove, known: &mut Vec<Name>, all: &Steps) -> Result<(), Fault>
+    ensures judged { (k : ℕ) (us : Above) → Knows above.now us → Judges k result (steps_judged k us known.old.items (steps_of all.now)) }
+    ensures kept { OnOk result (known.new.items ≡ known.old.items) }
+{
+    'items: for each in all.items.as_slice() {
+        match step(above, known, each) {
+            Ok(()) => {}
+            Err(fault) => return Err(fault),
+        }
+    }
+    Ok(())
+}
