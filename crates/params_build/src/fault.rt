@@ -42,3 +42,17 @@ pub struct Refusal {
     pub unit: u32,
     pub fault: Fault,
 }
+
+impl From<NoMemory> for Refusal {
+    ghost use Rattle.std.specs.Prelude.{◌≡◌};
+    ghost use Rattle.params_build.specs.declared.fault.Fault.TheVariants as fault;
+
+    ghost from_gives = { λ _ e. e.fault ≡ fault.NoMemory };
+
+    fn from(_: NoMemory) -> Self {
+        Refusal {
+            unit: 0,
+            fault: Fault::NoMemory,
+        }
+    }
+}

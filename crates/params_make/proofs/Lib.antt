@@ -1,0 +1,4 @@
+pub mod Faults
+pub mod Growing
+pub mod Parts
+pub mod Sources

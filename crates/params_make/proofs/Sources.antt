@@ -1,0 +1,93 @@
+-- The streams of units, the newest first, and what the grammar sees to in each of them.
+use Rattle.std.proofs.Common.{◌≡◌, ℕ, zero, suc, ℤ, ◌+◌, ◌*◌, ◌<◌, ◌≤◌, List, [], ◌∷◌, ◌++◌, length, map, take, get_or, refl, sym, ap, ◌∙◌, subst, arith}
+use Rattle.std.specs.Prelude.{reverse, if◌then◌else◌}
+use Rattle.std.proofs.lemmas.List.{take_more, map-append, reverse-append, length-map, length-take-le}
+use Rattle.river_base.specs.Name.{name_eq}
+use Rattle.river_plan.specs.Forms.{Name}
+use Rattle.params_text.specs.Program.{Declared, ParamProgram, body_of, declared_of, program_of}
+use Rattle.params_text.specs.declared.program.ParamUnit.{ParamUnit}
+use Rattle.params_text.specs.declared.program.ParamBody.{ParamBody}
+use Rattle.params_text.specs.declared.program.ParamBody.TheVariants as body
+use Rattle.params_text.specs.declared.program.Steps.{size-Steps}
+use Rattle.params_model.specs.Environment.{bound}
+use Rattle.params_model.specs.Judged.{head_or, tail_of, numbered_from, sources_of}
+use Rattle.params_model.specs.Making.{Made, make, instance}
+use Rattle.params_make.specs.Standing.{sources, source_at, adding}
+use Rattle.params_make.specs.Values.{BodyHasValues, HasValues}
+
+-- NUMBERS AND BYTES
+
+first-size : (sizes : List ℕ) → head_or sizes ≡ get_or sizes 0 0
+first-size [] = refl
+first-size (n ∷ ns) = refl
+
+later-size : (sizes : List ℕ) (i : ℕ) → get_or (tail_of sizes) i 0 ≡ get_or sizes (suc i) 0
+later-size [] i = refl
+later-size (n ∷ ns) i = refl
+
+numbered-more : (k : ℕ) (p : ParamProgram) (d : Declared) (sizes : List ℕ)
+    → numbered_from k (p ++ d ∷ []) sizes ≡ numbered_from k p sizes ++ record { unit = k + length p; bytes = get_or sizes (length p) 0; stream = d } ∷ []
+numbered-more k [] d sizes =
+    ap (λ n. record { unit = k; bytes = n; stream = d } ∷ []) (first-size sizes)
+    ∙ ap (λ n. record { unit = n; bytes = get_or sizes 0 0; stream = d } ∷ []) (let e : k ≡ k + 0 = omega arith in e)
+numbered-more k (u ∷ p) d sizes =
+    ap (λ l. record { unit = k; bytes = head_or sizes; stream = u } ∷ l)
+    (numbered-more (suc k) p d (tail_of sizes)
+    ∙ ap (λ n. numbered_from (suc k) p (tail_of sizes) ++ record { unit = suc k + length p; bytes = n; stream = d } ∷ []) (later-size sizes (length p))
+    ∙ ap (λ n. numbered_from (suc k) p (tail_of sizes) ++ record { unit = n; bytes = get_or sizes (suc (length p)) 0; stream = d } ∷ []) (let e : suc k + length p ≡ k + suc (length p) = omega arith in e))
+
+-- the streams of one unit more
+pub sources-more : (us : List ParamUnit) (i : ℕ) (u : ParamUnit) (sizes : List ℕ) → i < length us → u ≡ get_or us i u
+    → sources (take (i + 1) us) sizes ≡ source_at i sizes (declared_of u) ∷ sources (take i us) sizes
+sources-more us i u sizes lt e =
+    let p = map declared_of (take i us) in
+    let d = declared_of u in
+    let len : length p ≡ i = length-map (take i us) declared_of ∙ length-take-le i us (omega (arith, lt)) in
+    ap (λ l. sources l sizes) (take_more us i u lt ∙ ap (λ x. take i us ++ x ∷ []) (sym e))
+    ∙ ap (λ q. sources_of q sizes) (map-append declared_of (take i us) (u ∷ []))
+    ∙ ap reverse (numbered-more 1 p d sizes)
+    ∙ reverse-append (numbered_from 1 p sizes) (source_at (length p) sizes d ∷ [])
+    ∙ ap (λ n. source_at n sizes d ∷ sources (take i us) sizes) len
+
+-- an instance of a stream of these is one of the last unit, or of a unit above it
+pub adding-more : (us : List ParamUnit) (i : ℕ) (u : ParamUnit) (sizes : List ℕ) (depth : ℕ) (n : Name) (zs : List ℤ) (m : Made) → i < length us → u ≡ get_or us i u
+    → adding (take (i + 1) us) sizes depth n zs m
+    ≡ (if name_eq u.name n then make (adding (take i us) sizes (suc depth)) (source_at i sizes (declared_of u)) depth (bound u.params.items zs) m else adding (take i us) sizes depth n zs m)
+adding-more us i u sizes depth n zs m lt e = ap (λ l. instance l depth n zs m) (sources-more us i u sizes lt e)
+
+-- VALUES
+
+pub values-above : (us : List ParamUnit) (i : ℕ) → HasValues (program_of us) → HasValues (program_of (take i us))
+values-above us zero h = tt
+values-above [] (suc i) h = tt
+values-above (u ∷ us) (suc i) h = (h.0, values-above us i h.1)
+
+values-there : (us : List ParamUnit) (i : ℕ) (d : ParamUnit) → i < length us → HasValues (program_of us) → BodyHasValues (body_of (get_or us i d).body)
+values-there [] i d lt h = absurd (omega (arith, lt))
+values-there (u ∷ us) zero d lt h = h.0
+values-there (u ∷ us) (suc i) d lt h = values-there us i d (omega (arith, lt)) h.1
+
+pub values-at : (us : List ParamUnit) (i : ℕ) (u : ParamUnit) → i < length us → u ≡ get_or us i u → HasValues (program_of us) → BodyHasValues (body_of u.body)
+values-at us i u lt e h = subst (λ v. BodyHasValues (body_of v.body)) (sym e) (values-there us i u lt h)
+
+-- HOW FAR THE MAKING CAN GO
+
+abbrev pub body_size : ParamBody → ℕ
+body_size (body.Filter t) = 0
+body_size (body.Pipeline ss) = size-Steps ss
+body_size (body.SplitJoin b) = size-Steps b.steps
+
+abbrev pub room_of : ParamUnit → ℕ
+room_of u = body_size u.body * 8 + 16
+
+abbrev pub room : List ParamUnit → ℕ
+room [] = 0
+room (u ∷ us) = room_of u + room us
+
+room-there : (us : List ParamUnit) (i : ℕ) (d : ParamUnit) → i < length us → room (take i us) + room_of (get_or us i d) ≤ room us
+room-there [] i d lt = absurd (omega (arith, lt))
+room-there (u ∷ us) zero d lt = omega arith
+room-there (u ∷ us) (suc i) d lt = let r = room-there us i d (omega (arith, lt)) in omega (arith, r)
+
+pub room-at : (us : List ParamUnit) (i : ℕ) (u : ParamUnit) → i < length us → u ≡ get_or us i u → room (take i us) + (body_size u.body * 8 + 16) ≤ room us
+room-at us i u lt e = subst (λ v. room (take i us) + room_of v ≤ room us) (sym e) (room-there us i u lt)

@@ -1,0 +1,5 @@
+pub mod Finding
+pub mod Standing
+pub mod Turning
+pub mod Values
+pub mod Written

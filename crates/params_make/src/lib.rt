@@ -1,0 +1,16 @@
+//! The plain program of a program with parameters: an instance for its last stream and for each
+//! `add` that is met, children before their parent, written out as text.
+#![tactic(auto)]
+
+mod body;
+mod find;
+mod make;
+mod making;
+mod print;
+mod ranges;
+mod span;
+mod write;
+
+use body::{Scope, Seen};
+pub use make::{Written, made};
+use making::{Instance, Making};
