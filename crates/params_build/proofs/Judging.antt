@@ -1,9 +1,18 @@
 -- Parts judged one after another.
-use Rattle.std.proofs.Common.{◌≡◌, ℕ, List, map, drop, length, ◌+◌, ◌<◌, ◌≤◌, get_or, refl, sym, ap, ◌∙◌}
+use Rattle.std.proofs.Common.{◌≡◌, ℕ, suc, List, [], ◌∷◌, ◌++◌, not, map, take, drop, length, ◌+◌, ◌<◌, ◌≤◌, get_or, refl, sym, ap, ◌∙◌, drop-cons, add-one}
+use Rattle.std.proofs.Math.Seq.{take-suc}
 use Rattle.streamit_text.specs.Tree.{statement, in_turn}
 use Rattle.streamit_text.specs.declared.tree.Statement as written
 use Rattle.streamit_text.proofs.Places.{at_place, none_left}
-use Rattle.params_model.specs.Judged.{Judgement, and_then, no_fault, statement_judged, block_judged}
+use Rattle.params_text.specs.Params.{is_one_of}
+use Rattle.params_text.specs.Program.{in_order, step_of, declared_of, program_of, ParamProgram}
+use Rattle.params_text.specs.declared.program.ParamUnit.{ParamUnit}
+use Rattle.params_text.specs.declared.program.Step.{Step}
+use Rattle.params_model.specs.Judged.{Above, Judgement, and_then, no_fault, statement_judged, block_judged, step_judged, steps_judged, new_names, unit_judged}
+use Rattle.params_model.specs.Judged.{units_judged}
+use Rattle.params_model.specs.Making.{NameTwice, demand}
+use Rattle.params_build.specs.Above.{Knows}
+use Rattle.params_build.specs.declared.above.StreamsAbove.{StreamsAbove}
 use Rattle.params_build.specs.declared.fault.Fault.{Fault}
 use Rattle.params_build.specs.declared.fault.Fault.TheVariants as fault
 use Rattle.params_build.specs.Told.{refused, Told}
@@ -32,3 +41,35 @@ from-place k ps items i c lt is = ap (λ l. block_judged k ps (in_turn l)) (at_p
 
 pub at-end : (k : ℕ) (ps : List (List ℕ)) (items : List written.Statement) (i : ℕ) → length items ≤ i → block_judged k ps (in_turn (map statement (drop i items))) ≡ no_fault
 at-end k ps items i h = ap (λ l. block_judged k ps (in_turn l)) (none_left statement items i h)
+
+-- the steps from a place on
+pub steps-place : (k : ℕ) (us : Above) (ks : List (List ℕ)) (items : List Step) (i : ℕ) (s : Step) → i < length items → s ≡ get_or items i s
+    → steps_judged k us ks (in_order (map step_of (drop i items)))
+    ≡ and_then (step_judged k us ks (step_of s)) (steps_judged k us ks (in_order (map step_of (drop (i + 1) items))))
+steps-place k us ks items i s lt is = ap (λ l. steps_judged k us ks (in_order l)) (at_place step_of items i s lt is)
+
+pub steps-end : (k : ℕ) (us : Above) (ks : List (List ℕ)) (items : List Step) (i : ℕ) → length items ≤ i
+    → steps_judged k us ks (in_order (map step_of (drop i items))) ≡ no_fault
+steps-end k us ks items i h = ap (λ l. steps_judged k us ks (in_order l)) (none_left step_of items i h)
+
+-- the parameters from a place on, none of which has the name of one before it
+pub names-place : (k : ℕ) (names : List (List ℕ)) (i : ℕ) (n : List ℕ) → i < length names → n ≡ get_or names i n
+    → new_names k (take i names) (drop i names)
+    ≡ and_then (demand (not (is_one_of (take i names) n)) k NameTwice) (new_names k (take (i + 1) names) (drop (i + 1) names))
+names-place k names i n lt is =
+    ap (new_names k (take i names)) (drop-cons names i n lt ∙ ap (λ x. x ∷ drop (suc i) names) (sym is))
+    ∙ ap (λ l. and_then (demand (not (is_one_of (take i names) n)) k NameTwice) (new_names k l (drop (suc i) names)))
+    (ap (λ x. take i names ++ x ∷ []) is ∙ sym (take-suc names i n lt))
+    ∙ ap (λ j. and_then (demand (not (is_one_of (take i names) n)) k NameTwice) (new_names k (take j names) (drop j names))) (sym (add-one i))
+
+-- the units from a place on, below these streams
+pub units-place : (k : ℕ) (us : Above) (units : List ParamUnit) (i : ℕ) (u : ParamUnit) → i < length units → u ≡ get_or units i u
+    → units_judged k us (program_of (drop i units))
+    ≡ and_then (unit_judged k us (declared_of u)) (units_judged (suc k) ((u.name, length u.params.items) ∷ us) (program_of (drop (i + 1) units)))
+units-place k us units i u lt is = ap (units_judged k us) (at_place declared_of units i u lt is)
+
+-- what is known behind some units, and what is left to judge then
+pub record Judging (whole : Judgement) (i : ℕ) (rest : ParamProgram) (streams : StreamsAbove) : Type 0 where
+  pub above : Above
+  pub knows : Knows streams above
+  pub judged : units_judged (suc i) above rest ≡ whole

@@ -64,7 +64,10 @@ pub fn top(units: &[ParamUnit]) -> Result<(), Refusal>
     ensures { (sizes : List ℕ) → JudgesAll result (top_judged (sources_of (program_of units.now) sizes)) }
 {
     let count = units.len();
-    if count == 0 || units[count - 1].params.is_empty() {
+    if count == 0 {
+        return Ok(());
+    }
+    if units[count - 1].params.is_empty() {
         return Ok(());
     }
     Err(Refusal {

@@ -1,0 +1,75 @@
+-- The last unit of a program.
+use Rattle.std.proofs.Common.{◌≡◌, ℕ, zero, suc, ◌+◌, ◌-◌, ◌<◌, Bool, true, false, List, [], ◌∷◌, ◌++◌, length, get_or, reverse, refl, sym, ap, ◌∙◌, arith, reverse-append}
+use Rattle.std.specs.Prelude.{map}
+use Rattle.params_text.specs.Program.{Declared, ParamProgram, declared_of, program_of}
+use Rattle.params_text.specs.declared.program.ParamUnit.{ParamUnit}
+use Rattle.params_model.specs.Judged.{Judgement, no_fault, has_none, top_judged, head_or, tail_of, numbered_from, sources_of}
+use Rattle.params_model.specs.Making.{Source, Top, demand}
+
+abbrev last_unit : Declared → ParamProgram → Declared
+last_unit u [] = u
+last_unit u (v ∷ us) = last_unit v us
+
+-- the newest source is the last unit, with its number
+record Newest (k : ℕ) (u : Declared) (us : ParamProgram) (sizes : List ℕ) : Type 0 where
+  source : Source
+  others : List Source
+  unit : source.unit ≡ k + length us
+  stream : source.stream ≡ last_unit u us
+  is : reverse (numbered_from k (u ∷ us) sizes) ≡ source ∷ others
+
+reverse-cons : (u : Source) (us : List Source) → reverse (u ∷ us) ≡ reverse us ++ u ∷ []
+reverse-cons u us = reverse-append (u ∷ []) us
+
+newest : (k : ℕ) (u : Declared) (us : ParamProgram) (sizes : List ℕ) → Newest k u us sizes
+newest k u [] sizes =
+    let s : Source = record { unit = k; bytes = head_or sizes; stream = u } in
+    record { source = s; others = []; unit = omega arith; stream = refl; is = reverse-cons s [] }
+newest k u (v ∷ us) sizes =
+    let s : Source = record { unit = k; bytes = head_or sizes; stream = u } in
+    let n = newest (suc k) v us (tail_of sizes) in
+    let same = n.unit in
+    record {
+      source = n.source;
+      others = n.others ++ s ∷ [];
+      unit = omega (arith, same);
+      stream = n.stream;
+      is = reverse-cons s (numbered_from (suc k) (v ∷ us) (tail_of sizes)) ∙ ap (λ l. l ++ s ∷ []) n.is;
+    }
+
+-- it stands at the last place
+last_at : (u : ParamUnit) (us : List ParamUnit) (d : ParamUnit) → declared_of (get_or (u ∷ us) (length us) d) ≡ last_unit (declared_of u) (program_of us)
+last_at u [] d = refl
+last_at u (v ∷ us) d = last_at v us d
+
+-- where there is no unit, nothing is asked
+pub top-none : (us : List ParamUnit) (sizes : List ℕ) → length us ≡ 0 → top_judged (sources_of (program_of us) sizes) ≡ no_fault
+top-none [] sizes h = refl
+top-none (u ∷ us) sizes h = absurd (omega (arith, h))
+
+-- the last unit decides
+pub top-at : (us : List ParamUnit) (sizes : List ℕ) (d : ParamUnit) → 0 < length us → d ≡ get_or us (length us - 1) d
+    → top_judged (sources_of (program_of us) sizes) ≡ demand (has_none d.params.items) (length us) Top
+top-at [] sizes d lt is = absurd (omega (arith, lt))
+top-at (u ∷ us) sizes d lt is =
+    let n = newest 1 (declared_of u) (program_of us) sizes in
+    let e : length (u ∷ us) - 1 ≡ length us = omega arith in
+    let here : declared_of d ≡ last_unit (declared_of u) (program_of us) = ap declared_of (is ∙ ap (λ i. get_or (u ∷ us) i d) e) ∙ last_at u us d in
+    let count : n.source.unit ≡ length (u ∷ us) = number us n.source.unit n.unit in
+    ap top_judged n.is ∙ ap (λ (x : Declared). demand (has_none x.params) n.source.unit Top) (n.stream ∙ sym here)
+    ∙ ap (λ k. demand (has_none d.params.items) k Top) count
+  where
+    same : (vs : List ParamUnit) → length (program_of vs) ≡ length vs
+    same [] = refl
+    same (v ∷ vs) = ap suc (same vs)
+
+    number : (vs : List ParamUnit) (m : ℕ) → m ≡ 1 + length (program_of vs) → m ≡ suc (length vs)
+    number vs m h = h ∙ ap suc (same vs)
+
+pub has-none : (ps : List (List ℕ)) → length ps ≡ 0 → has_none ps ≡ true
+has-none [] h = refl
+has-none (p ∷ ps) h = absurd (omega (arith, h))
+
+pub has-some : (ps : List (List ℕ)) → (length ps ≡ 0 → ⊥) → has_none ps ≡ false
+has-some [] h = absurd (h refl)
+has-some (p ∷ ps) h = refl

@@ -1,0 +1,38 @@
+use Rattle.std.proofs.Common.{◌≡◌, ◌+◌, map, drop, sym, ap, ◌∙◌, arith, rules, subst}
+use Rattle.params_text.specs.Program.{in_order, step_of}
+use Rattle.params_text.proofs.StepTrees.{steps-are}
+use Rattle.params_model.specs.Judged.{Judgement, and_then, no_fault, step_judged, steps_judged}
+use Rattle.params_build.specs.Told.{Told}
+use Rattle.params_build.proofs.Judging.{told-first, passed-over, steps-place, steps-end}
+use Rattle.params_build.proofs.step.+judged.Goals as goal
+
+pub steps-items-preserved : goal.steps-items-preserved
+steps-items-preserved t c =
+    let items = c.as_slice-each-items.result.now in
+    let i = c.items.each-index in
+    let ks = c.args.known.now.items in
+    record {
+      kept = c.in-Ok.ensures.kept {u = tt} ∙ c.items.invariant.kept;
+      judged = λ k us h.
+          let passed : step_judged k us ks (step_of c.each-item.result) ≡ no_fault =
+          subst (λ ns. step_judged k us ns (step_of c.each-item.result) ≡ no_fault) c.items.invariant.kept (c.in-Ok.ensures.judged k us h) in
+          sym (passed-over (step_judged k us ks (step_of c.each-item.result)) _ passed)
+          ∙ sym (steps-place k us ks items i c.each-item.result (omega arith) c.each-item.is) ∙ c.items.invariant.judged k us h;
+    }
+
+pub steps-returns-clause-judged : goal.steps-returns-clause-judged
+steps-returns-clause-judged t c =
+    let items = c.as_slice-each-items.result.now in
+    λ k us h. rw (steps-are c.args.all.now, ← c.as_slice-each-items.ensures.value)
+    (sym (c.items.invariant.judged k us h) ∙ steps-end k us c.args.known.now.items items c.items.each-index (omega arith))
+
+pub steps-returns-in-Err-clause-judged : goal.steps-returns-in-Err-clause-judged
+steps-returns-in-Err-clause-judged t c =
+    let items = c.as_slice-each-items.result.now in
+    let i = c.items.each-index in
+    let ks = c.args.known.now.items in
+    let f = c.in-Err.fault in
+    λ k us h. rw (steps-are c.args.all.now, ← c.as_slice-each-items.ensures.value)
+    (subst (λ (j : Judgement). Told k f j) (sym (steps-place k us ks items i c.each-item.result (omega arith) c.each-item.is) ∙ c.items.invariant.judged k us h)
+    (told-first k f (step_judged k us ks (step_of c.each-item.result)) _
+    (subst (λ ns. Told k f (step_judged k us ns (step_of c.each-item.result))) c.items.invariant.kept (c.in-Err.ensures.judged k us h))))
