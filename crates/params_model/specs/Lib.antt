@@ -1,3 +1,4 @@
+pub mod Constants
 pub mod Environment
 pub mod Faulty
 pub mod Judged

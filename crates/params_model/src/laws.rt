@@ -1,4 +1,5 @@
 //! Laws over the definitions alone.
+ghost use Rattle.params_model.specs.Constants.{ConstantsAreFit};
 ghost use Rattle.params_model.specs.Faulty.{RefusalsAre, AcceptedAre};
 ghost use Rattle.params_model.specs.Laws.{ElaborationMeans, ElaboratedMeans, MadeStands, ElaboratedStands, TextsAreWritten};
 
@@ -21,6 +22,12 @@ pub fn elaborated_stands()
 #[tactic(auto, using(crate::proofs::Readable::texts_are_written))]
 pub fn texts_are_written()
     ensures { TextsAreWritten }
+{}
+
+/// So is each number of a rate, a weight, a bound or an argument.
+#[tactic(auto, using(crate::proofs::FitConstants::constants_are_fit))]
+pub fn constants_are_fit()
+    ensures { ConstantsAreFit }
 {}
 
 /// A program is refused for its text exactly where its first faulty place says, and is not where no

@@ -1,0 +1,45 @@
+-- The values of constants: no items are looked at, so pops count for nothing.
+use Rattle.std.proofs.Common.{◌≡◌, ℕ, ℤ, pos, ◌+◌, List, [], ◌∷◌, Option, Some, None, refl, sym, ap, ◌∙◌}
+use Rattle.std.specs.Prelude.{if◌then◌else◌, Bool, true, false, slice_index_or}
+use Rattle.std.specs.Ordering.{int_eq}
+use Rattle.river_base.specs.Name.{name_eq}
+use Rattle.river_base.specs.Number.{negate, count_of}
+use Rattle.work_code.specs.Value.{applied, truth}
+use Rattle.work_code.specs.declared.expr.BinOp.{BinOp}
+use Rattle.river_plan.specs.Forms.{Name}
+use Rattle.streamit_text.specs.Tree.{Expression}
+use Rattle.streamit_text.specs.Tree as tree
+use Rattle.streamit_text.specs.declared.tree.Expr as written
+use Rattle.streamit_model.specs.Meaning.{Values, eval, pops, nought, look}
+use Rattle.params_model.specs.Environment.{Environment, under, value}
+
+-- the value of a name that is known, or of one that is not
+abbrev pub or_nought : Option ℤ → ℤ
+or_nought None = pos 0
+or_nought (Some z) = z
+
+pub under-look : (env : Environment) (n : Name) → under env nought n ≡ or_nought (look env n)
+under-look [] n = refl
+under-look (e ∷ env) n = by (name_eq e.0 n) refl where
+  by : (b : Bool) → name_eq e.0 n ≡ b → under (e ∷ env) nought n ≡ or_nought (look (e ∷ env) n)
+  by true h = rw h refl
+  by false h = rw h (under-look env n)
+
+-- where there are no items, it does not matter how many were popped
+pub eval-none : (c : Expression) (f : Values) (k : ℕ) → eval c [] f k ≡ eval c [] f 0
+eval-none (tree.Number v) f k = refl
+eval-none (tree.Name n) f k = refl
+eval-none (tree.Peek t) f k = refl
+eval-none tree.Pop f k = refl
+eval-none (tree.Neg t) f k = ap negate (eval-none t f k)
+eval-none (tree.Not t) f k = ap (λ z. truth (int_eq z (pos 0))) (eval-none t f k)
+eval-none (tree.Bin o a b) f k =
+    ap (λ z. applied o z (eval b [] f (k + pops a))) (eval-none a f k)
+    ∙ ap (λ z. applied o (eval a [] f 0) z) (eval-none b f (k + pops a) ∙ sym (eval-none b f (0 + pops a)))
+
+pub value-bin : (env : Environment) (o : BinOp) (a b : Expression) → value env (tree.Bin o a b) ≡ applied o (value env a) (value env b)
+value-bin env o a b = ap (λ z. applied o (value env a) z) (eval-none b (under env nought) (0 + pops a))
+
+pub ruleset named = (under-look)
+
+pub ruleset values = (value-bin)

@@ -1,0 +1,66 @@
+// Instances of streams, and lists of those that are added.
+ghost use Rattle.std.specs.Prelude.{◌≡◌, ◌++◌, [], ◌∷◌, map, OnOk};
+ghost use Rattle.std.specs.Prelude.{codes};
+ghost use Rattle.work_code.specs.Tok as tok;
+ghost use Rattle.work_code.specs.declared.sign.Symbol.TheVariants as s;
+ghost use Rattle.params_text.specs.Toks.{other_toks, spaced};
+ghost use Rattle.params_print.specs.Heads.{opening_toks, name_written, names_written};
+
+use crate::token::{digits, tokens};
+use river_base::{Bytes, Name, NoMemory};
+use std::alloc::Global;
+use work_code::{Symbol, Token};
+
+/// An instance of a stream: the stream's name, and the number of the instance.
+#[derive(Clone, Copy)]
+pub struct Instance {
+    pub stream: Name,
+    pub number: u32,
+}
+
+// Appends the name of an instance.
+#[tactic(auto, using(crate::proofs::Texts::joins))]
+fn named(alloc: Global, instance: &Instance, to: &mut Bytes) -> Result<(), NoMemory>
+    ensures { OnOk result (to.new ≡ to.old ++ spaced (tok.name (name_written instance.now) ∷ [])) }
+{
+    to.extend(instance.stream.as_slice())?;
+    to.extend(b"_")?;
+    digits(alloc, instance.number as u64, to)?;
+    to.extend(b" ")
+}
+
+// Appends the head of a unit.
+#[tactic(auto, using(crate::proofs::Texts::texts))]
+pub fn head(alloc: Global, kind: &[u8], instance: &Instance, to: &mut Bytes) -> Result<(), NoMemory>
+    ensures { OnOk result (to.new ≡ to.old ++ spaced (opening_toks kind.now (name_written instance.now))) }
+{
+    let before = [
+        Token::Name(b"int"),
+        Token::Sign(Symbol::Arrow),
+        Token::Name(b"int"),
+        Token::Name(kind),
+    ];
+    tokens(alloc, &before, to)?;
+    named(alloc, instance, to)?;
+    tokens(alloc, &[Token::Sign(Symbol::OpenBrace)], to)
+}
+
+// Appends the last token of a unit.
+pub fn end(alloc: Global, to: &mut Bytes) -> Result<(), NoMemory>
+    ensures { OnOk result (to.new ≡ to.old ++ spaced (tok.symbol s.CloseBrace ∷ [])) }
+{
+    tokens(alloc, &[Token::Sign(Symbol::CloseBrace)], to)
+}
+
+// Appends an `add` for each instance.
+#[tactic(auto, using(crate::proofs::Texts::texts))]
+pub fn adds(alloc: Global, children: &[Instance], to: &mut Bytes) -> Result<(), NoMemory>
+    ensures { OnOk result (to.new ≡ to.old ++ spaced (other_toks (names_written children.now))) }
+{
+    'children: for each in children {
+        tokens(alloc, &[Token::Name(b"add")], to)?;
+        named(alloc, each, to)?;
+        tokens(alloc, &[Token::Sign(Symbol::Semicolon)], to)?;
+    }
+    Ok(())
+}

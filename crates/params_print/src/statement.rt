@@ -1,0 +1,221 @@
+// Statements and blocks under values.
+ghost use Rattle.std.specs.Prelude.{◌≡◌, ◌++◌, OnOk};
+ghost use Rattle.streamit_text.specs.Tree.{Declare, Assign, Push, Discard, expression, option_expression, is_turn, statement, block, optional_block};
+ghost use Rattle.params_text.specs.Toks.{below, statement_toks, block_toks, else_toks, spaced};
+ghost use Rattle.params_model.specs.Plain.{put, put_first, put_once, put_all, put_optional};
+ghost use Rattle.params_print.specs.Heads.{if_toks, for_toks};
+
+use crate::Bindings;
+use crate::expression::between;
+use crate::token::tokens;
+use river_base::{Bytes, Name, NoMemory};
+use std::alloc::Global;
+use streamit_text::{Block, Expr, Statement, Until};
+use work_code::{Symbol, Token};
+
+// The symbol between a loop's variable and its upper bound.
+fn below(until: Until) -> Symbol
+    ensures { result ≡ below (is_turn until) }
+{
+    match until {
+        Until::Below => Symbol::Less,
+        Until::UpTo => Symbol::LessEqual,
+    }
+}
+
+// Appends a declaration.
+#[tactic(auto, using(crate::proofs::Texts::texts))]
+fn declare(
+    alloc: Global,
+    known: &Bindings,
+    name: &Name,
+    value: &Option<Expr>,
+    to: &mut Bytes,
+) -> Result<(), NoMemory>
+    ensures { OnOk result (to.new ≡ to.old ++ spaced (statement_toks (Declare name.now (put_first known.now (option_expression value.now))))) }
+{
+    match value {
+        None => {
+            let all = [
+                Token::Name(b"int"),
+                Token::Name(name.as_slice()),
+                Token::Sign(Symbol::Semicolon),
+            ];
+            tokens(alloc, &all, to)
+        }
+        Some(e) => {
+            let before = [
+                Token::Name(b"int"),
+                Token::Name(name.as_slice()),
+                Token::Sign(Symbol::Assign),
+            ];
+            between(
+                alloc,
+                known,
+                &before,
+                e,
+                &[Token::Sign(Symbol::Semicolon)],
+                to,
+            )
+        }
+    }
+}
+
+// Appends the head of a loop.
+#[tactic(auto, using(crate::proofs::Texts::texts))]
+fn head(
+    alloc: Global,
+    known: &Bindings,
+    name: &Name,
+    low: &Expr,
+    until: Until,
+    high: &Expr,
+    to: &mut Bytes,
+) -> Result<(), NoMemory>
+    ensures { OnOk result (to.new ≡ to.old ++ spaced (for_toks name.now (put known.now (expression low.now)) (is_turn until) (put known.now (expression high.now)))) }
+{
+    let before = [
+        Token::Name(b"for"),
+        Token::Sign(Symbol::Open),
+        Token::Name(b"int"),
+        Token::Name(name.as_slice()),
+        Token::Sign(Symbol::Assign),
+    ];
+    let test = [Token::Name(name.as_slice()), Token::Sign(below(until))];
+    let next = [
+        Token::Sign(Symbol::Semicolon),
+        Token::Name(name.as_slice()),
+        Token::Sign(Symbol::Increment),
+        Token::Sign(Symbol::Close),
+    ];
+    between(
+        alloc,
+        known,
+        &before,
+        low,
+        &[Token::Sign(Symbol::Semicolon)],
+        to,
+    )?;
+    between(alloc, known, &test, high, &next, to)
+}
+
+// Appends an assignment.
+#[tactic(auto, using(crate::proofs::Texts::texts))]
+fn assign(
+    alloc: Global,
+    known: &Bindings,
+    name: &Name,
+    value: &Expr,
+    to: &mut Bytes,
+) -> Result<(), NoMemory>
+    ensures { OnOk result (to.new ≡ to.old ++ spaced (statement_toks (Assign name.now (put known.now (expression value.now))))) }
+{
+    let before = [Token::Name(name.as_slice()), Token::Sign(Symbol::Assign)];
+    between(
+        alloc,
+        known,
+        &before,
+        value,
+        &[Token::Sign(Symbol::Semicolon)],
+        to,
+    )
+}
+
+// Appends a push.
+#[tactic(auto, using(crate::proofs::Texts::texts))]
+fn push(alloc: Global, known: &Bindings, value: &Expr, to: &mut Bytes) -> Result<(), NoMemory>
+    ensures { OnOk result (to.new ≡ to.old ++ spaced (statement_toks (Push (put known.now (expression value.now))))) }
+{
+    let before = [Token::Name(b"push"), Token::Sign(Symbol::Open)];
+    let behind = [Token::Sign(Symbol::Close), Token::Sign(Symbol::Semicolon)];
+    between(alloc, known, &before, value, &behind, to)
+}
+
+// Appends a pop.
+fn discard(alloc: Global, to: &mut Bytes) -> Result<(), NoMemory>
+    ensures { OnOk result (to.new ≡ to.old ++ spaced (statement_toks Discard)) }
+{
+    let all = [
+        Token::Name(b"pop"),
+        Token::Sign(Symbol::Open),
+        Token::Sign(Symbol::Close),
+        Token::Sign(Symbol::Semicolon),
+    ];
+    tokens(alloc, &all, to)
+}
+
+// Appends the condition of an `if`.
+#[tactic(auto, using(crate::proofs::Texts::texts))]
+fn condition(alloc: Global, known: &Bindings, e: &Expr, to: &mut Bytes) -> Result<(), NoMemory>
+    ensures { OnOk result (to.new ≡ to.old ++ spaced (if_toks (put known.now (expression e.now)))) }
+{
+    let before = [Token::Name(b"if"), Token::Sign(Symbol::Open)];
+    between(alloc, known, &before, e, &[Token::Sign(Symbol::Close)], to)
+}
+
+// Appends a statement.
+#[cycle(statement)]
+#[tactic(auto, using(crate::proofs::Texts::statements))]
+fn statement(
+    alloc: Global,
+    known: &Bindings,
+    one: &Statement,
+    to: &mut Bytes,
+) -> Result<(), NoMemory>
+    ensures { OnOk result (to.new ≡ to.old ++ spaced (statement_toks (put_once known.now (statement one.now)))) }
+{
+    match one {
+        Statement::Declare { name, value } => declare(alloc, known, name, value, to),
+        Statement::Assign { name, value } => assign(alloc, known, name, value, to),
+        Statement::Push(value) => push(alloc, known, value, to),
+        Statement::Pop => discard(alloc, to),
+        Statement::If { cond, yes, no } => {
+            condition(alloc, known, cond, to)?;
+            block(alloc, known, yes, to)?;
+            otherwise(alloc, known, no, to)
+        }
+        Statement::For {
+            name,
+            low,
+            until,
+            high,
+            body,
+        } => {
+            head(alloc, known, name, low, *until, high, to)?;
+            block(alloc, known, body, to)
+        }
+    }
+}
+
+// Appends the second arm, where there is one.
+#[cycle(statement)]
+#[tactic(auto, using(crate::proofs::Texts::blocks))]
+fn otherwise(
+    alloc: Global,
+    known: &Bindings,
+    no: &Option<Block>,
+    to: &mut Bytes,
+) -> Result<(), NoMemory>
+    ensures { OnOk result (to.new ≡ to.old ++ spaced (else_toks (put_optional known.now (optional_block no.now)))) }
+{
+    match no {
+        None => Ok(()),
+        Some(all) => {
+            tokens(alloc, &[Token::Name(b"else")], to)?;
+            block(alloc, known, all, to)
+        }
+    }
+}
+
+/// Appends a block.
+#[cycle(statement)]
+#[tactic(auto, using(crate::proofs::Texts::blocks))]
+pub fn block(alloc: Global, known: &Bindings, all: &Block, to: &mut Bytes) -> Result<(), NoMemory>
+    ensures { OnOk result (to.new ≡ to.old ++ spaced (block_toks (put_all known.now (block all.now)))) }
+{
+    tokens(alloc, &[Token::Sign(Symbol::OpenBrace)], to)?;
+    'items: for each in all.items.as_slice() {
+        statement(alloc, known, each, to)?;
+    }
+    tokens(alloc, &[Token::Sign(Symbol::CloseBrace)], to)
+}
