@@ -1,5 +1,5 @@
 -- Parts judged one after another.
-use Rattle.std.proofs.Common.{◌≡◌, ℕ, suc, List, [], ◌∷◌, ◌++◌, not, map, take, drop, length, ◌+◌, ◌<◌, ◌≤◌, get_or, refl, sym, ap, ◌∙◌, drop-cons, add-one}
+use Rattle.std.proofs.Common.{◌≡◌, ℕ, suc, List, [], ◌∷◌, ◌++◌, not, map, take, drop, length, ◌+◌, ◌<◌, ◌≤◌, get_or, refl, sym, ap, ◌∙◌, subst, drop-cons, add-one}
 use Rattle.std.proofs.Math.Seq.{take-suc}
 use Rattle.streamit_text.specs.Tree.{statement, in_turn}
 use Rattle.streamit_text.specs.declared.tree.Statement as written
@@ -73,3 +73,30 @@ pub record Judging (whole : Judgement) (i : ℕ) (rest : ParamProgram) (streams 
   pub above : Above
   pub knows : Knows streams above
   pub judged : units_judged (suc i) above rest ≡ whole
+
+-- one unit more is judged
+pub judging-next : (whole : Judgement) (i : ℕ) (units : List ParamUnit) (u : ParamUnit) (old new : StreamsAbove) → i < length units → u ≡ get_or units i u
+    → Judging whole i (program_of (drop i units)) old → ((us : Above) → Knows old us → unit_judged (suc i) us (declared_of u) ≡ no_fault)
+    → ((us : Above) → Knows old us → Knows new ((u.name, length u.params.items) ∷ us)) → Judging whole (i + 1) (program_of (drop (i + 1) units)) new
+judging-next whole i units u old new lt is j passed known =
+    let above : Above = (u.name, length u.params.items) ∷ j.above in
+    let rest = program_of (drop (i + 1) units) in
+    record {
+      above = above;
+      knows = known j.above j.knows;
+      judged = ap (λ k. units_judged (suc k) above rest) (add-one i)
+          ∙ sym (passed-over (unit_judged (suc i) j.above (declared_of u)) _ (passed j.above j.knows))
+          ∙ sym (units-place (suc i) j.above units i u lt is) ∙ j.judged;
+    }
+
+-- a fault of the next unit is told
+pub judging-fault : (whole : Judgement) (i : ℕ) (units : List ParamUnit) (u : ParamUnit) (old : StreamsAbove) (f : Fault) → i < length units → u ≡ get_or units i u
+    → Judging whole i (program_of (drop i units)) old → ((us : Above) → Knows old us → Told (suc i) f (unit_judged (suc i) us (declared_of u))) → Told (suc i) f whole
+judging-fault whole i units u old f lt is j told =
+    subst (λ (r : Judgement). Told (suc i) f r) (sym (units-place (suc i) j.above units i u lt is) ∙ j.judged)
+    (told-first (suc i) f (unit_judged (suc i) j.above (declared_of u)) _ (told j.above j.knows))
+
+-- behind the last unit there is no fault
+pub judging-end : (whole : Judgement) (i : ℕ) (units : List ParamUnit) (old : StreamsAbove) → length units ≤ i → Judging whole i (program_of (drop i units)) old
+    → whole ≡ no_fault
+judging-end whole i units old h j = sym j.judged ∙ ap (units_judged (suc i) j.above) (none_left declared_of units i h)

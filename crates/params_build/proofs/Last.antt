@@ -1,5 +1,6 @@
 -- The last unit of a program.
-use Rattle.std.proofs.Common.{◌≡◌, ℕ, zero, suc, ◌+◌, ◌-◌, ◌<◌, Bool, true, false, List, [], ◌∷◌, ◌++◌, length, get_or, reverse, refl, sym, ap, ◌∙◌, arith, reverse-append}
+use Rattle.std.proofs.Common.{◌≡◌, ℕ, zero, suc, ◌+◌, ◌-◌, ◌<◌, Bool, true, false, List, [], ◌∷◌, ◌++◌, length, get_or, reverse, refl, sym, ap, ◌∙◌, arith}
+use Rattle.std.proofs.lemmas.List.{reverse-append}
 use Rattle.std.specs.Prelude.{map}
 use Rattle.params_text.specs.Program.{Declared, ParamProgram, declared_of, program_of}
 use Rattle.params_text.specs.declared.program.ParamUnit.{ParamUnit}
@@ -64,7 +65,9 @@ top-at (u ∷ us) sizes d lt is =
     same (v ∷ vs) = ap suc (same vs)
 
     number : (vs : List ParamUnit) (m : ℕ) → m ≡ 1 + length (program_of vs) → m ≡ suc (length vs)
-    number vs m h = h ∙ ap suc (same vs)
+    number vs m h =
+        let s = same vs in
+        omega (arith, h, s)
 
 pub has-none : (ps : List (List ℕ)) → length ps ≡ 0 → has_none ps ≡ true
 has-none [] h = refl

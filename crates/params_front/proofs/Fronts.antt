@@ -26,11 +26,13 @@ use Rattle.params_text.specs.Toks.{plain_text}
 use Rattle.params_text.specs.declared.program.ParamUnit.{ParamUnit}
 use Rattle.params_text.proofs.ParamTexts.{text-read, text-reads, units-bad, units-reads}
 use Rattle.params_text.proofs.UnitReads.{exact-unit_from}
+use Rattle.params_model.specs.Constants.{AreFitUnits}
 use Rattle.params_model.specs.Faulty.{IsRight, IsFaultOf}
 use Rattle.params_model.specs.Judged.{Judgement, no_fault, units_judged, sources_of, top_judged, elaborated}
 use Rattle.params_model.specs.Making.{Made, Refusal, on_fine, last_made}
 use Rattle.params_model.specs.Making as model
 use Rattle.params_model.specs.Places.{places_of}
+use Rattle.params_model.proofs.FitConstants.{units-fit}
 use Rattle.params_model.proofs.MadeStands.{elaborated_stands}
 use Rattle.params_model.proofs.Readable.{texts_are_written}
 use Rattle.params_model.proofs.Refused.{refusals_are, accepted_are}
@@ -38,7 +40,6 @@ use Rattle.params_build.specs.declared.fault.Fault.{Fault}
 use Rattle.params_build.specs.declared.fault.Fault.TheVariants as told
 use Rattle.params_build.specs.declared.fault.Refusal as code
 use Rattle.params_build.specs.Told.{Told, JudgesAll}
-use Rattle.params_make.specs.Values.{HasValues}
 use Rattle.params_make.specs.Written.{Makes}
 use Rattle.params_make.specs.declared.make.Written.{Written}
 use Rattle.params_front.specs.Laws.{IsFirstFault, HasFault, HasMade, ElaborationHas}
@@ -47,7 +48,6 @@ use Rattle.params_front.specs.Sizes.{sizes_of}
 use Rattle.params_front.specs.declared.fault.ParamFault.{ParamFault}
 use Rattle.params_front.specs.declared.fault.ParamFault.TheVariants.{Text, UnknownName, NameTwice, Arity, NotConstant, Top, Range, Empty, Budget, Inner}
 use Rattle.params_front.specs.declared.fault.ParamFault.TheVariants.{NoMemory}
-use Rattle.params_front.proofs.Numbers.{units-valued}
 
 abbrev read_of : List Mark → Result ParamProgram ℕ
 read_of marks = some_units (cut_units (toks marks))
@@ -190,8 +190,8 @@ read-bad marks unit h = ap (then_made (sizes_of marks)) (bad-units (cut_units (t
 pub ruleset readings = (read-bad)
 
 -- the units have values for numbers, and there are no more of them than tokens
-pub read-valued : (marks : List Mark) (ds : List ParamUnit) → StandFor marks (program_of ds) → HasValues (program_of ds)
-read-valued marks ds h = units-valued (program_of ds) (cut_units (toks marks)) h.0
+pub read-fit : (marks : List Mark) (ds : List ParamUnit) → StandFor marks (program_of ds) → AreFitUnits (program_of ds)
+read-fit marks ds h = units-fit (program_of ds) (cut_units (toks marks)) h.0
 
 formed-few : (p : ParamProgram) (units : List (List Tok)) → AreUnits p units → length p ≡ length units
 formed-few [] [] h = refl
@@ -218,7 +218,7 @@ read-refused marks ds sizes fault h are is =
     subst (λ (r : Result Elaboration ParamFault). Refused r fault)
     (sym (tokens-made marks (program_of ds) h ∙ ap (λ l. or_fault (program_of ds) (elaborated (program_of ds) l)) (sym are))) is
 
-pub ruleset writings = (read-valued, read-few, read-written, read-refused)
+pub ruleset writings = (read-fit, read-few, read-written, read-refused)
 
 -- a fault of the first part is told
 told-fine : {A B : Type 0} (k : ℕ) (f : Fault) (r : Result A Refusal) (g : A → Result B Refusal) → Told k f r → Told k f (on_fine r g)

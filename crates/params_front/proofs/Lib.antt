@@ -1,3 +1,2 @@
 pub mod Compiling
 pub mod Fronts
-pub mod Numbers

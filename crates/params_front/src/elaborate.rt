@@ -2,11 +2,11 @@
 ghost use Rattle.std.specs.Prelude.{◌≡◌, ◌<◌, ◌^◌, length, IfOk, IfErr, Result, Ok};
 ghost use Rattle.params_text.specs.Faults.{StandFor};
 ghost use Rattle.params_text.specs.Program.{ParamProgram, program_of};
+ghost use Rattle.params_model.specs.Constants.{AreFitUnits};
 ghost use Rattle.params_model.specs.Judged.{elaborated};
 ghost use Rattle.params_model.specs.Making.{Made};
 ghost use Rattle.params_model.specs.Making as model;
 ghost use Rattle.params_build.specs.Told.{Told};
-ghost use Rattle.params_make.specs.Values.{HasValues};
 ghost use Rattle.params_make.specs.Written.{Makes};
 ghost use Rattle.params_front.specs.Meaning.{or_fault, of_tokens, elaboration, Writes, Elaborates, StandsForMade, Refused};
 
@@ -98,7 +98,7 @@ fn written(
 // What is made of units that have so many bytes.
 #[tactic(auto, using(crate::proofs::Fronts::makings))]
 fn made_of(alloc: Global, units: &[ParamUnit], sizes: &[usize]) -> Result<Written, Refusal>
-    requires values { HasValues (program_of units.now) }
+    requires fit { AreFitUnits (program_of units.now) }
     requires few { length units.now < 2 ^ 32 }
     ensures { Makes result (elaborated (program_of units.now) sizes.now) }
 {

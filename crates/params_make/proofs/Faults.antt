@@ -8,6 +8,9 @@ use Rattle.params_build.specs.declared.fault.Refusal.{Refusal}
 use Rattle.params_build.specs.Told.{refused, Told}
 use Rattle.params_make.specs.Standing.{Blames}
 
+abbrev pub fine : {A : Type 0} → A → Result A model.Refusal
+fine x = Ok x
+
 -- a fault of one making is one of another
 pub told-more : {A B : Type 0} (k : ℕ) (f : Fault) (r : Result A model.Refusal) (r' : Result B model.Refusal)
     → ((g : model.Refusal) → r ≡ Err g → r' ≡ Err g) → Told k f r → Told k f r'
@@ -36,5 +39,5 @@ told-memory e r h = subst (λ f. Told e.unit f r) (sym h) tt
 -- a fault that is blamed on a unit
 pub told-blamed : {B : Type 0} (e : Refusal) (k : ℕ) (f : model.Fault) (r : Result B model.Refusal) → Blames e k f → r ≡ refused k f → Told e.unit e.fault r
 told-blamed e k f r h is = told-more e.unit e.fault (refused k f) r (λ g q. is ∙ same g q) h where
-  same : (g : model.Refusal) → refused {A = Unit {0}} k f ≡ Err g → refused k f ≡ Err g
+  same : (g : model.Refusal) → refused {A = Unit {0}} k f ≡ Err g → refused {A = B} k f ≡ Err g
   same g q = cc q

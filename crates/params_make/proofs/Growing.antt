@@ -5,13 +5,13 @@ use Rattle.streamit_model.specs.Meaning.{numbers}
 use Rattle.params_model.specs.Environment.{Environment}
 use Rattle.params_model.specs.Making.{Made, Added, on_fine, also, turn, turns_made}
 use Rattle.params_model.specs.Making as model
-use Rattle.params_model.proofs.Instances.{fine}
 use Rattle.params_build.specs.declared.fault.Refusal.{Refusal}
 use Rattle.params_build.specs.Told.{Told}
+use Rattle.params_print.specs.Heads.{names_written}
 use Rattle.params_make.specs.declared.body.Scope.{Scope}
 use Rattle.params_make.specs.declared.making.Making.{Making}
-use Rattle.params_make.specs.Standing.{Stands, MakesMore, names_of, turn_made}
-use Rattle.params_make.proofs.Faults.{told-more}
+use Rattle.params_make.specs.Standing.{Stands, MakesMore, turn_made}
+use Rattle.params_make.proofs.Faults.{fine, told-more}
 
 -- behind these names
 abbrev pub after : List Name → Added → Added
@@ -34,7 +34,7 @@ pub record SoFar (whole : Added) (rest : Made → Added) (first now : Scope) (ne
   pub made : Made
   pub is : whole ≡ after names (rest made)
   pub stands : Stands new made
-  pub grew : names_of now.children ≡ names_of first.children ++ names
+  pub grew : names_written now.children ≡ names_written first.children ++ names
   pub known : now.known ≡ first.known
 
 pub so-start : (rest : Made → Added) (scope : Scope) (s : Making) (m : Made) → Stands s m → SoFar (rest m) rest scope scope s
@@ -43,7 +43,7 @@ so-start rest scope s m h = record {
   made = m;
   is = sym (after-none (rest m));
   stands = h;
-  grew = sym (append-nil (names_of scope.children));
+  grew = sym (append-nil (names_written scope.children));
   known = refl;
 }
 
@@ -59,7 +59,7 @@ so-next whole one rest rest' first now next s s' h f r = record {
       ∙ ap (after f.names) (h f.made ∙ ap (λ a. also a rest') (ap (λ e. one e f.made) (sym f.known) ∙ r.2))
       ∙ after-both f.names r.0 (rest' r.1);
   stands = r.3;
-  grew = r.4 ∙ ap (λ l. l ++ r.0) f.grew ∙ append_assoc (names_of first.children) f.names r.0;
+  grew = r.4 ∙ ap (λ l. l ++ r.0) f.grew ∙ append_assoc (names_written first.children) f.names r.0;
   known = r.5 ∙ f.known;
 }
 

@@ -1,6 +1,6 @@
 -- The parts of the making of one instance.
 use Rattle.std.proofs.Common.{◌≡◌, ℕ, suc, pos, ◌+◌, ◌<◌, ◌≤◌, Bool, true, false, Option, List, [], ◌∷◌, ◌++◌, length, map, Result, Ok, Err, refl, sym, ap, ◌∙◌, subst, arith, append_assoc, append-nil}
-use Rattle.std.specs.Prelude.{nat_lt, nat_le, ◌&&◌}
+use Rattle.std.specs.Prelude.{nat_lt, nat_le, ◌&&◌, IfOk, OnOk}
 use Rattle.std.proofs.lemmas.List.{map-append, length-append}
 use Rattle.river_plan.specs.Forms.{Name}
 use Rattle.streamit_text.specs.Program as plain
@@ -12,21 +12,21 @@ use Rattle.params_model.specs.Environment.{Environment, dealing, option_counts}
 use Rattle.params_model.specs.Plain.{instance_name, plain_filter}
 use Rattle.params_model.specs.Making.{Made, Adding, Range, Budget, Empty, on_fine, demand, begin, turn, steps_made, adds_of, children_made, is_ranged_filter, is_ranged_dealing, are_ranged_option}
 use Rattle.params_model.specs.Making as model
-use Rattle.params_model.proofs.Instances.{fine}
 use Rattle.params_build.specs.declared.fault.Refusal.{Refusal}
 use Rattle.params_build.specs.Told.{Told}
-use Rattle.params_make.specs.declared.making.Instance.{Instance}
+use Rattle.params_print.specs.Heads.{name_written}
+use Rattle.params_print.specs.declared.instance.Instance.{Instance}
 use Rattle.params_make.specs.declared.making.Making.{Making}
-use Rattle.params_make.specs.Standing.{Stands, Begins, MakesOne, Writes, Wrote, name_of, finished, bodied}
-use Rattle.params_make.proofs.Faults.{told-more, told-on, told-behind}
+use Rattle.params_make.specs.Standing.{Stands, Begins, MakesOne, Writes, Wrote, finished, bodied}
+use Rattle.params_make.proofs.Faults.{fine, told-more, told-on, told-behind}
 
 -- COUNTS
 
 -- an instance that may be begun
-pub begun-stands : (s : Making) (m : Made) (k size depth : ℕ) (d : Declared) (f : model.Fault) → Stands s m
+pub begun-stands : (s : Making) (m : Made) (k size depth : ℕ) (d : Declared) → Stands s m
     → demand (nat_lt s.begun 1024 && (nat_le depth 64 && nat_le (s.bytes + size) 1048576)) k Budget ≡ Ok tt
     → Begins (Ok tt) (record s { begun = s.begun + 1; bytes = s.bytes + size }) (begin (record { unit = k; bytes = size; stream = d }) depth m)
-begun-stands s m k size depth d f h is =
+begun-stands s m k size depth d h is =
     let test = λ (b y : ℕ). demand (nat_lt b 1024 && (nat_le depth 64 && nat_le (y + size) 1048576)) k Budget in
     let next = record m { begun = suc m.begun; bytes = m.bytes + size } in
     let ok : test m.begun m.bytes ≡ Ok tt = ap (λ b. test b m.bytes) (sym h.begun) ∙ ap (test s.begun) (sym h.bytes) ∙ is in (
@@ -92,16 +92,16 @@ text-more us u =
 
 -- an instance whose unit was written
 pub written-stands : (s mid new : Making) (m : Made) (k : ℕ) (stream : Name) (b : plain.Body) (i : Instance) → Stands s m → i.stream ≡ stream → i.number ≡ suc s.number
-    → mid ≡ record s { text = s.text ++ spaced (unit_toks (record { name = name_of i; body = b })) } → Wrote mid new k i.number
-    → (name_of i ≡ (finished k stream (b, m)).0) × Stands new (finished k stream (b, m)).1
+    → mid ≡ record s { text = s.text ++ spaced (unit_toks (record { name = name_written i; body = b })) } → Wrote mid new k i.number
+    → (name_written i ≡ (finished k stream (b, m)).0) × Stands new (finished k stream (b, m)).1
 written-stands s mid new m k stream b i h one two is w =
     let number : i.number ≡ suc (length m.units) = two ∙ ap suc h.number in
-    let name : name_of i ≡ instance_name stream (suc (length m.units)) = ap (λ n. instance_name n i.number) one ∙ ap (instance_name stream) number in (
+    let name : name_written i ≡ instance_name stream (suc (length m.units)) = ap (λ n. instance_name n i.number) one ∙ ap (instance_name stream) number in (
       name,
       record {
         text =
             w.text ∙ ap (λ (q : Making). q.text) is
-            ∙ ap (λ l. l ++ spaced (unit_toks (record { name = name_of i; body = b }))) h.text
+            ∙ ap (λ l. l ++ spaced (unit_toks (record { name = name_written i; body = b }))) h.text
             ∙ ap (λ n. plain_text m.units ++ spaced (unit_toks (record { name = n; body = b }))) name
             ∙ sym (text-more m.units (record { name = instance_name stream (suc (length m.units)); body = b }));
         from = w.from ∙ ap (λ (q : Making). q.from ++ pos k ∷ []) is ∙ ap (λ l. l ++ pos k ∷ []) h.from ∙ sym (map-append pos m.from (k ∷ []));
@@ -196,3 +196,12 @@ module _ (add : Adding) (k : ℕ) (name : Name) (env : Environment) (d : Dealing
             ∙ ap (λ n. fine (n, (finished k name (b, m1)).1)) (sym w.0),
         w.1,
       )
+
+-- an instance that may have been written
+pub written-by : {E : Type 0} (r : Result Instance E) (s mid new : Making) (m : Made) (k : ℕ) (stream : Name) (b : plain.Body) (i : Instance) → Stands s m
+    → i.stream ≡ stream → i.number ≡ suc s.number → mid ≡ record s { text = s.text ++ spaced (unit_toks (record { name = name_written i; body = b })) }
+    → IfOk r (λ j. j ≡ i) → OnOk r (Wrote mid new k i.number) → Writes r new k stream b m
+written-by (Ok j) s mid new m k stream b i h one two is same w =
+    subst (λ (x : Instance). (name_written x ≡ (finished k stream (b, m)).0) × Stands new (finished k stream (b, m)).1) (sym same)
+    (written-stands s mid new m k stream b i h one two is w)
+written-by (Err e) s mid new m k stream b i h one two is same w = tt

@@ -13,7 +13,7 @@ use Rattle.params_model.specs.Environment.{bound}
 use Rattle.params_model.specs.Judged.{head_or, tail_of, numbered_from, sources_of}
 use Rattle.params_model.specs.Making.{Made, make, instance}
 use Rattle.params_make.specs.Standing.{sources, source_at, adding}
-use Rattle.params_make.specs.Values.{BodyHasValues, HasValues}
+use Rattle.params_model.specs.Constants.{IsFitUnit, AreFitUnits}
 
 -- NUMBERS AND BYTES
 
@@ -46,7 +46,8 @@ sources-more us i u sizes lt e =
     ap (λ l. sources l sizes) (take_more us i u lt ∙ ap (λ x. take i us ++ x ∷ []) (sym e))
     ∙ ap (λ q. sources_of q sizes) (map-append declared_of (take i us) (u ∷ []))
     ∙ ap reverse (numbered-more 1 p d sizes)
-    ∙ reverse-append (numbered_from 1 p sizes) (source_at (length p) sizes d ∷ [])
+    ∙ reverse-append (numbered_from 1 p sizes) (record { unit = 1 + length p; bytes = get_or sizes (length p) 0; stream = d } ∷ [])
+    ∙ ap (λ n. record { unit = n; bytes = get_or sizes (length p) 0; stream = d } ∷ sources (take i us) sizes) (let e : 1 + length p ≡ suc (length p) = omega arith in e)
     ∙ ap (λ n. source_at n sizes d ∷ sources (take i us) sizes) len
 
 -- an instance of a stream of these is one of the last unit, or of a unit above it
@@ -57,18 +58,18 @@ adding-more us i u sizes depth n zs m lt e = ap (λ l. instance l depth n zs m) 
 
 -- VALUES
 
-pub values-above : (us : List ParamUnit) (i : ℕ) → HasValues (program_of us) → HasValues (program_of (take i us))
+pub values-above : (us : List ParamUnit) (i : ℕ) → AreFitUnits (program_of us) → AreFitUnits (program_of (take i us))
 values-above us zero h = tt
 values-above [] (suc i) h = tt
 values-above (u ∷ us) (suc i) h = (h.0, values-above us i h.1)
 
-values-there : (us : List ParamUnit) (i : ℕ) (d : ParamUnit) → i < length us → HasValues (program_of us) → BodyHasValues (body_of (get_or us i d).body)
+values-there : (us : List ParamUnit) (i : ℕ) (d : ParamUnit) → i < length us → AreFitUnits (program_of us) → IsFitUnit (body_of (get_or us i d).body)
 values-there [] i d lt h = absurd (omega (arith, lt))
 values-there (u ∷ us) zero d lt h = h.0
 values-there (u ∷ us) (suc i) d lt h = values-there us i d (omega (arith, lt)) h.1
 
-pub values-at : (us : List ParamUnit) (i : ℕ) (u : ParamUnit) → i < length us → u ≡ get_or us i u → HasValues (program_of us) → BodyHasValues (body_of u.body)
-values-at us i u lt e h = subst (λ v. BodyHasValues (body_of v.body)) (sym e) (values-there us i u lt h)
+pub values-at : (us : List ParamUnit) (i : ℕ) (u : ParamUnit) → i < length us → u ≡ get_or us i u → AreFitUnits (program_of us) → IsFitUnit (body_of u.body)
+values-at us i u lt e h = subst (λ v. IsFitUnit (body_of v.body)) (sym e) (values-there us i u lt h)
 
 -- HOW FAR THE MAKING CAN GO
 

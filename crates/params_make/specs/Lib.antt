@@ -1,5 +1,4 @@
 pub mod Finding
 pub mod Standing
 pub mod Turning
-pub mod Values
 pub mod Written

@@ -15,7 +15,8 @@ use Rattle.params_build.specs.declared.fault.Fault.{Fault}
 use Rattle.params_build.specs.declared.fault.Fault.TheVariants as fault
 use Rattle.params_build.specs.declared.fault.Refusal.{Refusal}
 use Rattle.params_build.specs.Told.{refused, Told}
-use Rattle.params_make.specs.declared.making.Instance.{Instance}
+use Rattle.params_print.specs.Heads.{name_written, names_written}
+use Rattle.params_print.specs.declared.instance.Instance.{Instance}
 use Rattle.params_make.specs.declared.making.Making.{Making}
 use Rattle.params_make.specs.declared.body.Scope.{Scope}
 
@@ -34,12 +35,6 @@ abbrev pub adding : List ParamUnit → List ℕ → ℕ → Adding
 adding us sizes depth = instance (sources us sizes) depth
 
 -- INSTANCES
-
-abbrev pub name_of : Instance → Name
-name_of i = instance_name i.stream i.number
-
-abbrev pub names_of : List Instance → List Name
-names_of is = map name_of is
 
 -- the text and the counts are those of what was made
 pub record Stands (code : Making) (m : Made) : Type 0 where
@@ -89,34 +84,34 @@ Begins (Err e) new r = Told e.unit e.fault r
 
 -- an instance was made
 abbrev pub MakesOne : Result Instance Refusal → Making → Result (Name × Made) model.Refusal → Type 0
-MakesOne (Ok i) new r = (m : Made) × (r ≡ Ok (name_of i, m)) × Stands new m
+MakesOne (Ok i) new r = (m : Made) × (r ≡ Ok (name_written i, m)) × Stands new m
 MakesOne (Err e) new r = Told e.unit e.fault r
 
 -- children were made, and stand behind those that were there; the same names are known
 abbrev pub MakesMore : Result (Unit {0}) Refusal → Scope → Scope → Making → Added → Type 0
 MakesMore (Ok u) old scope new r =
-    (names : List Name) × (m : Made) × (r ≡ Ok (names, m)) × Stands new m × (names_of scope.children ≡ names_of old.children ++ names)
+    (names : List Name) × (m : Made) × (r ≡ Ok (names, m)) × Stands new m × (names_written scope.children ≡ names_written old.children ++ names)
     × (scope.known ≡ old.known)
 MakesMore (Err e) old scope new r = Told e.unit e.fault r
 
 -- the children of a body were made, where there were none before
 abbrev pub MakesAll : Result (Unit {0}) Refusal → Scope → Scope → Making → Result (plain.Adds × Made) model.Refusal → Type 0
 MakesAll (Ok u) old scope new r =
-    (a : plain.Adds) × (m : Made) × (r ≡ Ok (a, m)) × Stands new m × (names_of scope.children ≡ a.first ∷ a.others) × (scope.known ≡ old.known)
+    (a : plain.Adds) × (m : Made) × (r ≡ Ok (a, m)) × Stands new m × (names_written scope.children ≡ a.first ∷ a.others) × (scope.known ≡ old.known)
 MakesAll (Err e) old scope new r = Told e.unit e.fault r
 
 -- the number is counted, and the unit is noted
-pub record Wrote (old new : Making) (k number : ℕ) : Type 0 where
+pub record Wrote (old new : Making) (k n : ℕ) : Type 0 where
   pub text : new.text ≡ old.text
   pub from : new.from ≡ old.from ++ pos k ∷ []
-  pub number : new.number ≡ number
+  pub number : new.number ≡ n
   pub begun : new.begun ≡ old.begun
   pub bytes : new.bytes ≡ old.bytes
   pub turns : new.turns ≡ old.turns
 
 -- an instance of this stream with this body was written
 abbrev pub Writes : {E : Type 0} → Result Instance E → Making → ℕ → Name → plain.Body → Made → Type 0
-Writes (Ok i) new k stream b m = (name_of i ≡ (finished k stream (b, m)).0) × Stands new (finished k stream (b, m)).1
+Writes (Ok i) new k stream b m = (name_written i ≡ (finished k stream (b, m)).0) × Stands new (finished k stream (b, m)).1
 Writes (Err e) new k stream b m = Unit {0}
 
 -- the refusal tells this fault of unit k, or want of memory

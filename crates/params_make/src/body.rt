@@ -7,15 +7,15 @@ ghost use Rattle.streamit_model.specs.Meaning.{numbers};
 ghost use Rattle.params_model.specs.Laws.{AreFit};
 ghost use Rattle.params_model.specs.Making.{Made, Adding, made_once, steps_made, children_made, turns_made, make};
 ghost use Rattle.params_make.specs.Standing.{Stands, MakesOne, MakesMore, MakesAll, adding, source_at, bodied, in_turn, turn_made};
-ghost use Rattle.params_make.specs.Values.{HasValues, BodyHasValues, FilterHasValues, StepHasValues, StepsHaveValues};
+ghost use Rattle.params_model.specs.Constants.{AreFitUnits, IsFitUnit, IsFitFilter, HasFitConstants, HaveFitConstants};
 
 use crate::find::{find, size_at};
 use crate::making::{demand, refuse};
 use crate::ranges::{is_ranged_filter, is_ranged_round, is_ranged_split};
 use crate::span::{Span, span_between, values};
-use crate::{Instance, Making};
+use crate::Making;
 use params_build::{Fault, Refusal};
-use params_print::Bindings;
+use params_print::{Bindings, Instance};
 use params_text::{ParamBody, ParamFilter, ParamSplitJoin, ParamUnit, Step, Steps};
 use river_base::{Listed, Name};
 use std::alloc::Global;
@@ -54,7 +54,7 @@ impl Making {
         stream: Name,
         values: &[i64],
     ) -> Result<Instance, Refusal>
-        requires { HasValues (program_of seen.units.now) }
+        requires { AreFitUnits (program_of seen.units.now) }
         ensures { (m : Made) → Stands self.old m → MakesOne result self.new (adding seen.entry.units.now seen.entry.sizes.now seen.entry.depth stream values.now m) }
     {
         let units = seen.units;
@@ -82,8 +82,8 @@ impl Making {
         unit: &ParamUnit,
         known: Bindings,
     ) -> Result<Instance, Refusal>
-        requires above { HasValues (program_of seen.units.now) }
-        requires unit { BodyHasValues (body_of unit.now.body) }
+        requires above { AreFitUnits (program_of seen.units.now) }
+        requires unit { IsFitUnit (body_of unit.now.body) }
         ensures { (m : Made) → Stands self.old m → MakesOne result self.new (make (adding seen.entry.units.now seen.entry.sizes.now (suc seen.entry.depth)) (source_at (length seen.entry.units.now) seen.entry.sizes.now (declared_of unit.now)) seen.entry.depth known m) }
     {
         let size = size_at(seen.sizes, seen.units.len());
@@ -109,13 +109,13 @@ impl Making {
         name: Name,
         body: &ParamBody,
     ) -> Result<Instance, Refusal>
-        requires above { HasValues (program_of seen.units.now) }
-        requires body { BodyHasValues (body_of body.now) }
+        requires above { AreFitUnits (program_of seen.units.now) }
+        requires body { IsFitUnit (body_of body.now) }
         requires none { scope.old.children ≡ [] }
         ensures { (m : Made) → Stands self.old m → MakesOne result self.new (bodied (adding seen.entry.units.now seen.entry.sizes.now seen.entry.depth) (suc (length seen.entry.units.now)) name scope.old.known (body_of body.now) m) }
     {
         match body {
-            ParamBody::Filter(tree) => self.filter(seen.units, &scope.known, name, tree),
+            ParamBody::Filter(tree) => self.filter(alloc, seen.units, &scope.known, name, tree),
             ParamBody::Pipeline(steps) => self.pipeline(alloc, seen, scope, name, steps),
             ParamBody::SplitJoin(all) => self.split_join(alloc, seen, scope, name, all),
         }
@@ -124,16 +124,17 @@ impl Making {
     // A filter.
     fn filter(
         &mut self,
+        alloc: Global,
         above: &[ParamUnit],
         known: &Bindings,
         name: Name,
         tree: &ParamFilter,
     ) -> Result<Instance, Refusal>
-        requires { FilterHasValues (filter_of tree.now) }
+        requires { IsFitFilter (filter_of tree.now) }
         ensures { (m : Made) (add : Adding) → Stands self.old m → MakesOne result self.new (bodied add (suc (length above.now)) name known.now (AFilter (filter_of tree.now)) m) }
     {
         demand(above, is_ranged_filter(known, tree), Fault::Range)?;
-        let instance = self.write_filter(above, name, known, tree)?;
+        let instance = self.write_filter(alloc, above, name, known, tree)?;
         Ok(instance)
     }
 
@@ -147,13 +148,13 @@ impl Making {
         name: Name,
         steps: &Steps,
     ) -> Result<Instance, Refusal>
-        requires above { HasValues (program_of seen.units.now) }
-        requires steps { StepsHaveValues (steps_of steps.now) }
+        requires above { AreFitUnits (program_of seen.units.now) }
+        requires steps { HaveFitConstants (steps_of steps.now) }
         requires none { scope.old.children ≡ [] }
         ensures { (m : Made) → Stands self.old m → MakesOne result self.new (bodied (adding seen.entry.units.now seen.entry.sizes.now seen.entry.depth) (suc (length seen.entry.units.now)) name scope.old.known (APipeline (steps_of steps.now)) m) }
     {
         self.children(alloc, seen, scope, steps)?;
-        let instance = self.write_pipeline(seen.units, name, scope.children.as_slice())?;
+        let instance = self.write_pipeline(alloc, seen.units, name, scope.children.as_slice())?;
         Ok(instance)
     }
 
@@ -167,8 +168,8 @@ impl Making {
         name: Name,
         all: &ParamSplitJoin,
     ) -> Result<Instance, Refusal>
-        requires above { HasValues (program_of seen.units.now) }
-        requires body { BodyHasValues (split_join_of all.now) }
+        requires above { AreFitUnits (program_of seen.units.now) }
+        requires body { IsFitUnit (split_join_of all.now) }
         requires none { scope.old.children ≡ [] }
         ensures { (m : Made) → Stands self.old m → MakesOne result self.new (bodied (adding seen.entry.units.now seen.entry.sizes.now seen.entry.depth) (suc (length seen.entry.units.now)) name scope.old.known (split_join_of all.now) m) }
     {
@@ -184,7 +185,7 @@ impl Making {
             is_ranged_round(&scope.known, &all.join),
             Fault::Range,
         )?;
-        let instance = self.write_split_join(above, name, scope, all)?;
+        let instance = self.write_split_join(alloc, above, name, scope, all)?;
         Ok(instance)
     }
 
@@ -197,8 +198,8 @@ impl Making {
         scope: &mut Scope,
         steps: &Steps,
     ) -> Result<(), Refusal>
-        requires above { HasValues (program_of seen.units.now) }
-        requires steps { StepsHaveValues (steps_of steps.now) }
+        requires above { AreFitUnits (program_of seen.units.now) }
+        requires steps { HaveFitConstants (steps_of steps.now) }
         requires none { scope.old.children ≡ [] }
         ensures { (m : Made) → Stands self.old m → MakesAll result scope.old scope.new self.new (children_made (adding seen.entry.units.now seen.entry.sizes.now seen.entry.depth) (suc (length seen.entry.units.now)) scope.old.known (steps_of steps.now) m) }
     {
@@ -218,8 +219,8 @@ impl Making {
         scope: &mut Scope,
         steps: &Steps,
     ) -> Result<(), Refusal>
-        requires above { HasValues (program_of seen.units.now) }
-        requires steps { StepsHaveValues (steps_of steps.now) }
+        requires above { AreFitUnits (program_of seen.units.now) }
+        requires steps { HaveFitConstants (steps_of steps.now) }
         ensures { (m : Made) → Stands self.old m → MakesMore result scope.old scope.new self.new (steps_made (adding seen.entry.units.now seen.entry.sizes.now seen.entry.depth) (suc (length seen.entry.units.now)) scope.old.known (steps_of steps.now) m) }
     {
         'items: for each in steps.items.as_slice() {
@@ -240,8 +241,8 @@ impl Making {
         scope: &mut Scope,
         step: &Step,
     ) -> Result<(), Refusal>
-        requires above { HasValues (program_of seen.units.now) }
-        requires step { StepHasValues (step_of step.now) }
+        requires above { AreFitUnits (program_of seen.units.now) }
+        requires step { HasFitConstants (step_of step.now) }
         ensures { (m : Made) → Stands self.old m → MakesMore result scope.old scope.new self.new (made_once (adding seen.entry.units.now seen.entry.sizes.now seen.entry.depth) (suc (length seen.entry.units.now)) scope.old.known (step_of step.now) m) }
     {
         match step {
@@ -272,7 +273,7 @@ impl Making {
         stream: Name,
         args: &Vec<Expr>,
     ) -> Result<(), Refusal>
-        requires above { HasValues (program_of seen.units.now) }
+        requires above { AreFitUnits (program_of seen.units.now) }
         requires args { AreFit (expressions args.now) }
         ensures { (m : Made) → Stands self.old m → MakesMore result scope.old scope.new self.new (made_once (adding seen.entry.units.now seen.entry.sizes.now seen.entry.depth) (suc (length seen.entry.units.now)) scope.old.known (Add stream (expressions args.now)) m) }
     {
@@ -292,8 +293,8 @@ impl Making {
         turns: Turns,
         steps: &Steps,
     ) -> Result<(), Refusal>
-        requires above { HasValues (program_of seen.units.now) }
-        requires steps { StepsHaveValues (steps_of steps.now) }
+        requires above { AreFitUnits (program_of seen.units.now) }
+        requires steps { HaveFitConstants (steps_of steps.now) }
         ensures { (m : Made) → Stands self.old m → MakesMore result scope.old scope.new self.new (turns_made (suc (length seen.entry.units.now)) (in_turn (adding seen.entry.units.now seen.entry.sizes.now seen.entry.depth) (suc (length seen.entry.units.now)) scope.old.known turns.name (steps_of steps.now)) (numbers turns.span.low (turns.span.end - turns.span.low)) m) }
     {
         'turns: for each in turns.span.low..turns.span.end {
@@ -316,8 +317,8 @@ impl Making {
         value: u32,
         steps: &Steps,
     ) -> Result<(), Refusal>
-        requires above { HasValues (program_of seen.units.now) }
-        requires steps { StepsHaveValues (steps_of steps.now) }
+        requires above { AreFitUnits (program_of seen.units.now) }
+        requires steps { HaveFitConstants (steps_of steps.now) }
         ensures { (m : Made) → Stands self.old m → MakesMore result scope.old scope.new self.new (turn_made (suc (length seen.entry.units.now)) (in_turn (adding seen.entry.units.now seen.entry.sizes.now seen.entry.depth) (suc (length seen.entry.units.now)) scope.old.known name (steps_of steps.now)) value m) }
     {
         self.begin_turn(seen.units)?;

@@ -6,11 +6,10 @@ mod body;
 mod find;
 mod make;
 mod making;
-mod print;
 mod ranges;
 mod span;
 mod write;
 
 use body::{Scope, Seen};
 pub use make::{Written, made};
-use making::{Instance, Making};
+use making::Making;

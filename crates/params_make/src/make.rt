@@ -2,7 +2,7 @@
 ghost use Rattle.params_text.specs.Program.{program_of};
 ghost use Rattle.params_model.specs.Making.{last_made};
 ghost use Rattle.params_make.specs.Standing.{sources};
-ghost use Rattle.params_make.specs.Values.{HasValues};
+ghost use Rattle.params_model.specs.Constants.{AreFitUnits};
 ghost use Rattle.params_make.specs.Written.{Makes};
 
 use crate::Making;
@@ -22,7 +22,7 @@ pub struct Written {
 
 /// The plain program of these units, of which each has so many bytes; or the first fault.
 pub fn made(alloc: Global, units: &[ParamUnit], sizes: &[usize]) -> Result<Written, Refusal>
-    requires { HasValues (program_of units.now) }
+    requires { AreFitUnits (program_of units.now) }
     ensures { Makes result (last_made (sources units.now sizes.now)) }
 {
     let Some(last) = units.len().checked_sub(1) else {

@@ -6,16 +6,10 @@ ghost use Rattle.params_build.specs.Told.{JudgesAll};
 ghost use Rattle.params_make.specs.Standing.{Stands, Begins, Wrote, Blames, fault_of};
 
 use params_build::{Fault, Refusal};
+use params_print::Instance;
 use params_text::ParamUnit;
 use river_base::{Bytes, Name, NoMemory, Numbers};
 use std::alloc::Global;
-
-/// An instance of a stream: its name is the stream's name, `_` and this number.
-#[derive(Clone, Copy)]
-pub struct Instance {
-    pub stream: Name,
-    pub number: u32,
-}
 
 /// What was made so far, and how many instances were begun, the bytes of their source units, and how
 /// many turns were begun.
@@ -82,14 +76,15 @@ impl Making {
         Ok(Instance { stream, number })
     }
 
-    /// The instance with this number was written, of the unit behind these.
-    pub fn wrote(&mut self, above: &[ParamUnit], number: u32) -> Result<(), NoMemory>
-        ensures { OnOk result (Wrote self.old self.new (suc (length above.now)) number) }
+    /// The instance was written, of the unit behind these.
+    pub fn wrote(&mut self, above: &[ParamUnit], instance: Instance) -> Result<Instance, NoMemory>
+        ensures same { IfOk result (λ i. i ≡ instance) }
+        ensures noted { OnOk result (Wrote self.old self.new (suc (length above.now)) instance.number) }
     {
         let unit = unit_behind(above)?;
         self.from.push(i64::from(unit))?;
-        self.number = number;
-        Ok(())
+        self.number = instance.number;
+        Ok(instance)
     }
 }
 

@@ -6,7 +6,7 @@ ghost use Rattle.params_text.specs.Program.{expressions, rounds_of, dealing_of, 
 ghost use Rattle.params_model.specs.Environment.{value};
 ghost use Rattle.params_model.specs.Laws.{IsFit, AreFit};
 ghost use Rattle.params_model.specs.Making.{is_ranged, are_ranged, is_ranged_option, are_ranged_option, is_ranged_dealing, is_ranged_work, is_ranged_prework, is_ranged_filter};
-ghost use Rattle.params_make.specs.Values.{OptionHasValues, RoundsHaveValues, DealingHasValues, WorkHasValues, PreworkHasValues, FilterHasValues};
+ghost use Rattle.params_model.specs.Constants.{IsFitOption, AreFitOption, IsFitDealing, IsFitWork, IsFitPrework, IsFitFilter};
 
 use params_print::{Bindings, value};
 use params_text::{ParamFilter, ParamSplit, ParamWork, Rounds};
@@ -36,7 +36,7 @@ fn are_ranged(known: &Bindings, cs: &Vec<Expr>) -> bool
 
 // A rate, where it is written.
 fn is_ranged_option(known: &Bindings, c: &Option<Expr>) -> bool
-    requires { OptionHasValues (optional expression c.now) }
+    requires { IsFitOption (optional expression c.now) }
     ensures { result ≡ is_ranged_option known.now (optional expression c.now) }
 {
     match c {
@@ -47,7 +47,7 @@ fn is_ranged_option(known: &Bindings, c: &Option<Expr>) -> bool
 
 /// Weights, where there are brackets.
 pub fn is_ranged_round(known: &Bindings, rounds: &Rounds) -> bool
-    requires { RoundsHaveValues (rounds_of rounds.now) }
+    requires { AreFitOption (rounds_of rounds.now) }
     ensures { result ≡ are_ranged_option known.now (rounds_of rounds.now) }
 {
     match &rounds.weights {
@@ -58,7 +58,7 @@ pub fn is_ranged_round(known: &Bindings, rounds: &Rounds) -> bool
 
 /// The weights of a splitter.
 pub fn is_ranged_split(known: &Bindings, split: &ParamSplit) -> bool
-    requires { DealingHasValues (dealing_of split.now) }
+    requires { IsFitDealing (dealing_of split.now) }
     ensures { result ≡ is_ranged_dealing known.now (dealing_of split.now) }
 {
     match split {
@@ -69,7 +69,7 @@ pub fn is_ranged_split(known: &Bindings, split: &ParamSplit) -> bool
 
 // The rates of `work` or `prework`.
 fn is_ranged_work(known: &Bindings, work: &ParamWork) -> bool
-    requires { WorkHasValues (work_of work.now) }
+    requires { IsFitWork (work_of work.now) }
     ensures { result ≡ is_ranged_work known.now (work_of work.now) }
 {
     is_ranged_option(known, &work.rates.push)
@@ -79,7 +79,7 @@ fn is_ranged_work(known: &Bindings, work: &ParamWork) -> bool
 
 // The rates of `prework`, where it is written.
 fn is_ranged_prework(known: &Bindings, prework: &Option<ParamWork>) -> bool
-    requires { PreworkHasValues (optional work_of prework.now) }
+    requires { IsFitPrework (optional work_of prework.now) }
     ensures { result ≡ is_ranged_prework known.now (optional work_of prework.now) }
 {
     match prework {
@@ -90,7 +90,7 @@ fn is_ranged_prework(known: &Bindings, prework: &Option<ParamWork>) -> bool
 
 /// The rates of a filter.
 pub fn is_ranged_filter(known: &Bindings, tree: &ParamFilter) -> bool
-    requires { FilterHasValues (filter_of tree.now) }
+    requires { IsFitFilter (filter_of tree.now) }
     ensures { result ≡ is_ranged_filter known.now (filter_of tree.now) }
 {
     is_ranged_prework(known, &tree.prework) && is_ranged_work(known, &tree.work)

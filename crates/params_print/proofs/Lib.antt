@@ -1,3 +1,4 @@
+pub mod Blocks
 pub mod Listing
 pub mod Texts
 pub mod Values

@@ -23,10 +23,12 @@ bound-nil (p ∷ ps) = refl
 
 -- where either list ends nothing is bound
 pub bound-end : (ps : List Name) (zs : List ℤ) (i : ℕ) → length ps ≤ i → bound (drop i ps) (drop i zs) ≡ []
-bound-end ps zs i h = ap (λ l. bound l (drop i zs)) (drop_all ps i h)
+bound-end ps zs i h = ap (λ l. bound l (drop i zs)) (drop_all i ps h)
 
 pub bound-short : (ps : List Name) (zs : List ℤ) (i : ℕ) → length zs ≤ i → bound (drop i ps) (drop i zs) ≡ []
-bound-short ps zs i h = ap (λ l. bound (drop i ps) l) (drop_all zs i h) ∙ bound-nil (drop i ps)
+bound-short ps zs i h = ap (λ l. bound (drop i ps) l) (drop_all i zs h) ∙ bound-nil (drop i ps)
+
+pub ruleset ends = (bound-end, bound-short)
 
 -- what is bound from a place on
 pub bound-at : (ps : List Name) (zs : List ℤ) (i : ℕ) (p : Name) (z : ℤ) → i < length ps → i < length zs

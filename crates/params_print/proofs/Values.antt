@@ -1,5 +1,5 @@
 -- The values of constants: no items are looked at, so pops count for nothing.
-use Rattle.std.proofs.Common.{◌≡◌, ℕ, ℤ, pos, ◌+◌, List, [], ◌∷◌, Option, Some, None, refl, sym, ap, ◌∙◌}
+use Rattle.std.proofs.Common.{◌≡◌, ℕ, ℤ, pos, ◌+◌, List, [], ◌∷◌, Option, Some, None, refl, sym, ap, ◌∙◌, Global, Box}
 use Rattle.std.specs.Prelude.{if◌then◌else◌, Bool, true, false, slice_index_or}
 use Rattle.std.specs.Ordering.{int_eq}
 use Rattle.river_base.specs.Name.{name_eq}
@@ -7,9 +7,12 @@ use Rattle.river_base.specs.Number.{negate, count_of}
 use Rattle.work_code.specs.Value.{applied, truth}
 use Rattle.work_code.specs.declared.expr.BinOp.{BinOp}
 use Rattle.river_plan.specs.Forms.{Name}
-use Rattle.streamit_text.specs.Tree.{Expression}
+use Rattle.streamit_text.specs.Tree.{Expression, expression, expression_layer}
 use Rattle.streamit_text.specs.Tree as tree
+use Rattle.streamit_text.specs.declared.tree.Expr.{Expr, fold-roll-Expr}
 use Rattle.streamit_text.specs.declared.tree.Expr as written
+use Rattle.streamit_text.specs.declared.tree.Expr.TheVariants.{rolls-Bin}
+use Rattle.streamit_text.specs.declared.tree.Expr.TheOpen as layer
 use Rattle.streamit_model.specs.Meaning.{Values, eval, pops, nought, look}
 use Rattle.params_model.specs.Environment.{Environment, under, value}
 
@@ -20,10 +23,10 @@ or_nought (Some z) = z
 
 pub under-look : (env : Environment) (n : Name) → under env nought n ≡ or_nought (look env n)
 under-look [] n = refl
-under-look (e ∷ env) n = by (name_eq e.0 n) refl where
-  by : (b : Bool) → name_eq e.0 n ≡ b → under (e ∷ env) nought n ≡ or_nought (look (e ∷ env) n)
-  by true h = rw h refl
-  by false h = rw h (under-look env n)
+under-look (e ∷ env) n = either (name_eq e.0 n) e.1 (under env nought n) (look env n) (under-look env n) where
+  either : (b : Bool) (z w : ℤ) (o : Option ℤ) → w ≡ or_nought o → (if b then z else w) ≡ or_nought (if b then Some z else o)
+  either true z w o h = refl
+  either false z w o h = h
 
 -- where there are no items, it does not matter how many were popped
 pub eval-none : (c : Expression) (f : Values) (k : ℕ) → eval c [] f k ≡ eval c [] f 0
@@ -39,6 +42,10 @@ eval-none (tree.Bin o a b) f k =
 
 pub value-bin : (env : Environment) (o : BinOp) (a b : Expression) → value env (tree.Bin o a b) ≡ applied o (value env a) (value env b)
 value-bin env o a b = ap (λ z. applied o (value env a) z) (eval-none b (under env nought) (0 + pops a))
+
+-- the tree of an operation
+pub expression-bin : (o : BinOp) (l r : Box Expr Global) → expression (written.Bin o l r) ≡ tree.Bin o (expression l.value) (expression r.value)
+expression-bin o l r = ap expression (sym (rolls-Bin o l r)) ∙ fold-roll-Expr Expression expression_layer (layer.Bin o l r)
 
 pub ruleset named = (under-look)
 

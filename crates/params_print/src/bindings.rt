@@ -1,11 +1,10 @@
 // Values of names.
-ghost use Rattle.std.specs.Prelude.{◌≡◌, [], ◌∷◌, drop, reverse, IfOk, OnOk, OnErr};
+ghost use Rattle.std.specs.Prelude.{◌≡◌, ◌≤◌, [], ◌∷◌, length, drop, reverse, IfOk, OnOk, OnErr};
 ghost use Rattle.streamit_model.specs.Meaning.{look};
 ghost use Rattle.params_model.specs.Environment.{bound};
 
 use river_base::{Name, NoMemory};
 use std::alloc::Global;
-use std::cmp::min;
 use std::marker::Model;
 
 /// The values of names that are known, of parameters and of the variables of loops. Contracts see
@@ -40,7 +39,7 @@ impl Bindings {
         ensures { IfOk result (λ all. all ≡ bound params.now values.now) }
     {
         let mut all = Bindings::new(alloc);
-        let mut i = min(params.len(), values.len());
+        let mut i = bound_count(params, values);
         while i > 0 {
             i -= 1;
             all.push(params[i], values[i])?;
@@ -69,6 +68,20 @@ impl Bindings {
         ensures { result ≡ look self.now name.now }
     {
         newest(self.items.as_slice(), name)
+    }
+}
+
+// How many parameters have a value.
+#[tactic(auto, using(crate::proofs::Listing::ends))]
+fn bound_count(params: &[Name], values: &[i64]) -> usize
+    ensures named { result ≤ length params.now }
+    ensures valued { result ≤ length values.now }
+    ensures all { bound (drop result params.now) (drop result values.now) ≡ [] }
+{
+    if params.len() < values.len() {
+        params.len()
+    } else {
+        values.len()
     }
 }
 

@@ -12,7 +12,7 @@ steps-items-preserved t c =
     let i = c.items.each-index in
     let ks = c.args.known.now.items in
     record {
-      kept = c.in-Ok.ensures.kept {u = tt} ∙ c.items.invariant.kept;
+      kept = c.in-Ok.ensures.kept ∙ c.items.invariant.kept;
       judged = λ k us h.
           let passed : step_judged k us ks (step_of c.each-item.result) ≡ no_fault =
           subst (λ ns. step_judged k us ns (step_of c.each-item.result) ≡ no_fault) c.items.invariant.kept (c.in-Ok.ensures.judged k us h) in

@@ -1,0 +1,12 @@
+use Rattle.std.proofs.Common.{suc, arith, rules}
+use Rattle.params_text.specs.Program.{program_of}
+use Rattle.params_model.specs.Judged.{units_judged}
+use Rattle.params_build.proofs.Judging.{judging-next, judging-fault, judging-end}
+use Rattle.params_build.proofs.judge.each_unit.Goals as goal
+
+pub units-preserved : goal.units-preserved
+units-preserved c = λ us h.
+    let units = c.args.units.now in
+    let i = c.units.i in
+    judging-next (units_judged 1 us (program_of units)) i units c.index-units-i.result c.units.above c.unit_and_name.new.above c.units-test.true c.index-units-i.is (c.units.invariant us h)
+    (λ above k. c.in-Ok.ensures.judged (suc i) above k) (λ above k. c.in-Ok.ensures.known above k)

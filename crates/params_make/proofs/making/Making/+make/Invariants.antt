@@ -1,0 +1,60 @@
+use Rattle.std.proofs.Common.{◌≡◌, ◌+◌, ◌*◌, ◌-◌, suc, drop, map, length}
+use Rattle.streamit_model.specs.Meaning.{numbers}
+use Rattle.params_text.specs.Program.{in_order, step_of, steps_of}
+use Rattle.params_text.specs.declared.program.Steps.{size-Steps}
+use Rattle.params_model.specs.Constants.{HaveFitConstants}
+use Rattle.params_model.specs.Making.{Made, steps_made, turns_made}
+use Rattle.params_make.specs.Standing.{Stands, adding, in_turn}
+use Rattle.params_make.proofs.Growing.{SoFar}
+use Rattle.params_make.proofs.Sources.{room, body_size}
+use Rattle.params_make.proofs.making.Making.+make.Given as goal
+
+abbrev pub decreases-instance : goal.decreases-instance
+decreases-instance l = room l.seen.units.now
+
+abbrev pub decreases-make : goal.decreases-make
+decreases-make l = room l.seen.units.now + (body_size l.unit.now.body * 8 + 15)
+
+abbrev pub decreases-body : goal.decreases-body
+decreases-body l = room l.seen.units.now + (body_size l.body.now * 8 + 14)
+
+abbrev pub decreases-pipeline : goal.decreases-pipeline
+decreases-pipeline l = room l.seen.units.now + (size-Steps l.steps.now * 8 + 13)
+
+abbrev pub decreases-split_join : goal.decreases-split_join
+decreases-split_join l = room l.seen.units.now + (size-Steps l.all.now.steps * 8 + 13)
+
+abbrev pub decreases-children : goal.decreases-children
+decreases-children l = room l.seen.units.now + (size-Steps l.steps.now * 8 + 12)
+
+abbrev pub decreases-steps : goal.decreases-steps
+decreases-steps l = room l.seen.units.now + (goal.size-steps l * 8 + 4)
+
+abbrev pub decreases-step : goal.decreases-step
+decreases-step l = room l.seen.units.now + (goal.size-step l * 8 + 3)
+
+abbrev pub decreases-add : goal.decreases-add
+decreases-add l = room l.seen.units.now + 1
+
+abbrev pub decreases-turns : goal.decreases-turns
+decreases-turns l = room l.seen.units.now + (goal.size-turns l * 8 + 6)
+
+abbrev pub decreases-turn : goal.decreases-turn
+decreases-turn l = room l.seen.units.now + (goal.size-turn l * 8 + 5)
+
+abbrev pub invariant-steps-items : goal.invariant-steps-items
+invariant-steps-items l = record {
+  far :
+      (m : Made) → Stands l.initial.self m
+      → SoFar (steps_made (adding l.seen.units.now l.seen.sizes.now l.seen.depth) (suc (length l.seen.units.now)) l.initial.scope.known (in_order (map step_of l.each-items)) m)
+      (steps_made (adding l.seen.units.now l.seen.sizes.now l.seen.depth) (suc (length l.seen.units.now)) l.initial.scope.known (in_order (map step_of (drop l.each-index l.each-items))))
+      l.initial.scope l.scope l.self;
+  fit : HaveFitConstants (in_order (map step_of (drop l.each-index l.each-items)));
+}
+
+abbrev pub invariant-turns-turns : goal.invariant-turns-turns
+invariant-turns-turns l =
+    (m : Made) → Stands l.initial.self m
+    → SoFar (turns_made (suc (length l.seen.units.now)) (in_turn (adding l.seen.units.now l.seen.sizes.now l.seen.depth) (suc (length l.seen.units.now)) l.initial.scope.known l.turns.name (steps_of l.steps)) (numbers l.turns.span.low (l.turns.span.end - l.turns.span.low)) m)
+    (turns_made (suc (length l.seen.units.now)) (in_turn (adding l.seen.units.now l.seen.sizes.now l.seen.depth) (suc (length l.seen.units.now)) l.initial.scope.known l.turns.name (steps_of l.steps)) (numbers l.each (l.turns.span.end - l.each)))
+    l.initial.scope l.scope l.self
