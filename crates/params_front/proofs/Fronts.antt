@@ -106,16 +106,17 @@ has-made text (Err NoMemory) h = absurd h
 
 -- ---- TO THE GRAMMAR
 
+-- what is made of units that are judged
+abbrev behind : ParamProgram → List ℕ → Result Made Refusal
+behind p sizes = on_fine (top_judged (sources_of p sizes)) (λ y. last_made (sources_of p sizes))
+
 -- what elaboration tells is what is told first
 told-first : (p : ParamProgram) (sizes : List ℕ) (e : Refusal) → elaborated p sizes ≡ Err e → IsFirstFault p sizes e.unit e.fault
 told-first p sizes e is = by (units_judged 1 [] p) refl is where
-  abbrev rest : Result Made Refusal
-  rest = on_fine (top_judged (sources_of p sizes)) (λ y. last_made (sources_of p sizes))
-
   same : (a b : Refusal) → ◌≡◌ {A = Result Made Refusal} (Err a) (Err b) → ◌≡◌ {A = Judgement} (Err a) (Err b)
   same a b h = cc
 
-  by : (r : Judgement) → units_judged 1 [] p ≡ r → on_fine r (λ x. rest) ≡ Err e → IsFirstFault p sizes e.unit e.fault
+  by : (r : Judgement) → units_judged 1 [] p ≡ r → on_fine r (λ x. behind p sizes) ≡ Err e → IsFirstFault p sizes e.unit e.fault
   by (Ok u) j h = inr ((accepted_are p).0 j, h)
   by (Err a) j h = inl ((refusals_are p e.unit e.fault).0 (j ∙ same a e h))
 
@@ -231,9 +232,6 @@ told-fine k told.Range r g h = ap (λ x. on_fine x g) h
 told-fine k told.Empty r g h = ap (λ x. on_fine x g) h
 told-fine k told.Budget r g h = ap (λ x. on_fine x g) h
 told-fine k told.NoMemory r g h = tt
-
-abbrev behind : ParamProgram → List ℕ → Result Made Refusal
-behind p sizes = on_fine (top_judged (sources_of p sizes)) (λ y. last_made (sources_of p sizes))
 
 pub judged-refused : (p : ParamProgram) (sizes : List ℕ) (e : code.Refusal) → JudgesAll (Err e) (units_judged 1 [] p) → Makes (Err e) (elaborated p sizes)
 judged-refused p sizes e h = told-fine e.unit e.fault (units_judged 1 [] p) (λ x. behind p sizes) h

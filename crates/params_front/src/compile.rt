@@ -7,7 +7,7 @@ ghost use Rattle.params_text.specs.Program.{program_of};
 ghost use Rattle.params_model.specs.Meaning.{params_outputs};
 ghost use Rattle.params_front.specs.Meaning.{Elaboration, or_inner, source_unit, unit_in, compiled, Plans, Refused};
 
-use crate::elaborate::elaborate;
+use crate::elaboration::elaborate;
 use crate::fault::ParamFault;
 use crate::{Elaborated, ParamProgram};
 use river_base::{Bytes, NoMemory, Numbers};

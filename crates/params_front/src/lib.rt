@@ -2,13 +2,13 @@
 #![tactic(auto)]
 
 mod compile;
-mod elaborate;
+mod elaboration;
 mod fault;
 pub mod laws;
 mod program;
 mod sizes;
 
 pub use compile::compile_params;
-pub use elaborate::elaborate;
+pub use elaboration::elaborate;
 pub use fault::ParamFault;
 pub use program::{Elaborated, ParamProgram};

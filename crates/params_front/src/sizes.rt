@@ -26,11 +26,13 @@ fn each_size(
     ensures { IfOk result (λ sizes. sizes.items ≡ bytes_of_each (map unit_tokens units.now) (map mark_of tokens.now)) }
 {
     let mut sizes = Vec::new(alloc);
-    let mut rest = tokens;
-    'units: for i in 0..units.len() {
-        let (unit, behind) = rest.split_at(units[i].len().min(rest.len()));
+    let mut at = 0;
+    'units: for each in units {
+        let (_, rest) = tokens.split_at(at);
+        let len = each.len().min(rest.len());
+        let (unit, _) = rest.split_at(len);
         sizes.push(size(unit))?;
-        rest = behind;
+        at += len;
     }
     Ok(sizes)
 }

@@ -8,12 +8,12 @@ use Rattle.text_forms.specs.Forms as form
 use Rattle.text_blocks.proofs.Every.{chosen, enclosed, IfThere, every-block, every-rest}
 use Rattle.streamit_text.specs.Blocks.{Head, HeadAfter, IsHead}
 use Rattle.streamit_text.specs.Expressions.{IsExpression}
-use Rattle.streamit_text.specs.Grammar.{on_some, Parens}
+use Rattle.streamit_text.specs.Grammar.{on_some}
 use Rattle.streamit_text.specs.Leaves.{IsLeaf}
 use Rattle.streamit_text.specs.Tree.{Expression}
 use Rattle.streamit_text.specs.Words.{is_own}
-use Rattle.params_text.specs.Grammar.{Rate, push, pop, peek, RateAfter, IsRate, Rates, unwritten, fresh, with_rate, rates_in, AreRates, IsWork, IsPrework, InFilter, IsStep, IsPipe, IsSplit, SplitAfter, IsJoin, InBoth, BodyAfter, IsUnit, AreUnits}
-use Rattle.params_text.specs.Program.{ParamWork, ParamFilter, Step, Steps, in_order, Dealing, Turns, Body, Declared, ParamProgram}
+use Rattle.params_text.specs.Grammar.{Rate, push, pop, peek, IsRate, Rates, unwritten, fresh, with_rate, rates_in, AreRates, IsWork, IsPrework, InFilter, IsStep, IsPipe, SplitAfter, InBoth, BodyAfter, IsUnit, AreUnits}
+use Rattle.params_text.specs.Program.{ParamWork, ParamFilter, Step, Steps, in_order, Dealing, Body, Declared, ParamProgram}
 use Rattle.params_text.specs.Steps.{or_none, Constants, StepHead, StepAfter, style, holes}
 use Rattle.params_text.specs.Steps as step
 use Rattle.params_model.specs.Laws.{IsFit, AreFit}
@@ -98,12 +98,15 @@ with-fit r q (push c) h g e = fresh-fit r.push (record r { push = Some c }) q (g
 with-fit r q (pop c) h g e = fresh-fit r.pop (record r { pop = Some c }) q (h.0, g, h.2) e
 with-fit r q (peek c) h g e = fresh-fit r.peek (record r { peek = Some c }) q (h.0, h.1, g) e
 
+some-of : (P : Type 0) (o : Option Rates) (f : Rates → Option Rates) (q : Rates) → on_some o f ≡ Some q → ((m : Rates) → o ≡ Some m → f m ≡ Some q → P) → P
+some-of P None f q e k = absurd (cc e)
+some-of P (Some m) f q e k = k m refl e
+
 in-fit : (n : ℕ) (xs : List Rate) (r q : Rates) (ts : List Tok) → RatesFit r → form.Each (IsRate n) xs ts → rates_in r xs ≡ Some q → RatesFit q
 in-fit n [] r q ts h g e = let same : r ≡ q = cc in subst RatesFit same h
-in-fit n (x ∷ xs) r q ts h g e = by (with_rate r x) refl e where
-  by : (o : Option Rates) → with_rate r x ≡ o → on_some o (λ m. rates_in m xs) ≡ Some q → RatesFit q
-  by None is e1 = absurd (cc e1)
-  by (Some m) is e1 = in-fit n xs m q g.1 (with-fit r m x h (rate-fit n x g.0 g.3) is) g.4 e1
+in-fit n (x ∷ xs) r q ts h g e =
+    some-of (RatesFit q) (with_rate r x) (λ m. rates_in m xs) q e
+    (λ m is f. in-fit n xs m q g.1 (with-fit r m x h (rate-fit n x g.0 g.3) is) g.4 f)
 
 rates-fit : (n : ℕ) (r : Rates) (ts : List Tok) → AreRates n r ts → RatesFit r
 rates-fit n r ts h = in-fit n h.value unwritten r ts (tt, tt, tt) h.formed h.is

@@ -38,7 +38,7 @@ use Rattle.params_model.specs.Written.{IsWrittenExpr, IsWrittenPrework, IsWritte
 
 -- EXPRESSIONS
 
-pub a_value : (v : ℕ) → is_value v ≡ true → v ≤ 9223372036854775807
+a_value : (v : ℕ) → is_value v ≡ true → v ≤ 9223372036854775807
 a_value v h = grind (arith, nat_tests)
 
 marked-told : (p : Sign) (t : Expression) → IsTold t → IsTold (marked p t)
@@ -83,7 +83,7 @@ commas-fit : (n : ℕ) (cs : List Expression) (ts : List Tok) → form.Each (for
 commas-fit n [] ts h = tt
 commas-fit n (c ∷ cs) ts h = (constant-fit n c h.3.back h.3.formed, commas-fit n cs h.1 h.4)
 
-pub listing-fit : (n : ℕ) (cs : List Expression) (ts : List Tok) → form.Listing (Constant n) cs ts → AreFit cs
+listing-fit : (n : ℕ) (cs : List Expression) (ts : List Tok) → form.Listing (Constant n) cs ts → AreFit cs
 listing-fit n cs ts h = ⊎_elim
     (λ e. subst AreFit (sym e.0) tt)
     (λ f. subst AreFit (sym f.is) (constant-fit n f.value.0 f.formed.front f.formed.first, commas-fit n f.value.1 f.formed.back f.formed.second))

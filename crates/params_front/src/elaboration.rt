@@ -1,7 +1,8 @@
 // From the text of a program to the text of its plain program.
 ghost use Rattle.std.specs.Prelude.{◌≡◌, ◌<◌, ◌^◌, length, IfOk, IfErr, Result, Ok};
 ghost use Rattle.params_text.specs.Faults.{StandFor};
-ghost use Rattle.params_text.specs.Program.{ParamProgram, program_of};
+ghost use Rattle.params_text.specs.Program.{program_of};
+ghost use Rattle.params_text.specs.Program as text;
 ghost use Rattle.params_model.specs.Constants.{AreFitUnits};
 ghost use Rattle.params_model.specs.Judged.{elaborated};
 ghost use Rattle.params_model.specs.Making.{Made};
@@ -109,7 +110,7 @@ fn made_of(alloc: Global, units: &[ParamUnit], sizes: &[usize]) -> Result<Writte
 
 // The fault of a unit.
 fn refused(refusal: Refusal) -> ParamFault
-    ensures { (p : ParamProgram) (r : Result Made model.Refusal) → Told refusal.unit refusal.fault r → Refused (or_fault p r) result }
+    ensures { (p : text.ParamProgram) (r : Result Made model.Refusal) → Told refusal.unit refusal.fault r → Refused (or_fault p r) result }
 {
     let unit = refusal.unit;
     match refusal.fault {
