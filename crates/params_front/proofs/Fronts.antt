@@ -24,7 +24,7 @@ use Rattle.params_text.specs.Program.{ParamProgram, declared_of, program_of}
 use Rattle.params_text.specs.Reading.{some_units, unit_from}
 use Rattle.params_text.specs.Toks.{plain_text}
 use Rattle.params_text.specs.declared.program.ParamUnit.{ParamUnit}
-use Rattle.params_text.proofs.ParamTexts.{text-read, text-reads, units-bad, units-reads}
+use Rattle.params_text.proofs.ParamTexts.{text-reads, units-read, units-bad, units-reads}
 use Rattle.params_text.proofs.UnitReads.{exact-unit_from}
 use Rattle.params_model.specs.Constants.{AreFitUnits}
 use Rattle.params_model.specs.Faulty.{IsRight, IsFaultOf}
@@ -146,7 +146,9 @@ made-has : (text : List ℕ) → HasMade text (elaboration text)
 unfolding elaboration
 made-has text = by (tokens_in text) refl where
   read : (marks : List Mark) → tokens_in text ≡ Ok marks → (r : Result ParamProgram ℕ) → read_of marks ≡ r → HasMade text (then_made (sizes_of marks) r)
-  read marks lexed (Ok p) e = accepted-has text p (text-read text marks p lexed e)
+  read marks lexed (Ok p) e =
+      let f = units-read (cut_units (toks marks)) p e in
+      accepted-has text p (record { marks = marks; lexed = lexed; formed = f.0; some = f.1 })
   read marks lexed (Err unit) e = record { marks = marks; lexed = lexed; first = units-bad (cut_units (toks marks)) unit e }
 
   by : (r : Result (List Mark) LexFault) → tokens_in text ≡ r → HasMade text (then_read r)
