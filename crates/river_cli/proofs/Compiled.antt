@@ -24,9 +24,16 @@ use Rattle.streamit_front.specs.declared.fault.StreamitFault.TheVariants as stre
 use Rattle.streamit_text.specs.Program as streamit_tree
 use Rattle.streamit_front.specs.declared.program.StreamitProgram.{StreamitProgram}
 use Rattle.streamit_front.proofs.Fronts.{compiled-readable, plans_mean}
+use Rattle.params_text.specs.Program as params_tree
+use Rattle.params_model.specs.Meaning.{params_outputs}
+use Rattle.params_front.specs.Meaning as params
+use Rattle.params_front.specs.Words.{params_words}
+use Rattle.params_front.specs.declared.fault.ParamFault.{ParamFault}
+use Rattle.params_front.specs.declared.fault.ParamFault.TheVariants as params_fault
+use Rattle.params_front.proofs.Compiling.{compiled-readable as params-readable, plain_means, plans_mean as params_plans_mean}
 use Rattle.river_cli.specs.Contents.{AreContents}
 use Rattle.river_cli.specs.Inputs.{row_items, all_items}
-use Rattle.river_cli.specs.Source.{river_source, streamit_source, saw_source, values, told, IsPlanOf, IsCompiled}
+use Rattle.river_cli.specs.Source.{river_source, streamit_source, params_source, saw_source, values, told, IsPlanOf, IsCompiled}
 use Rattle.std.proofs.lemmas.List.{take_all}
 use Rattle.saw_model.specs.Plan.{as_items as saw_items}
 use Rattle.saw_model.specs.Meaning.{width}
@@ -107,6 +114,45 @@ streamit-refused meant (streamit_fault.BranchRates unit) text not is says = rw (
 streamit-refused meant (streamit_fault.Limit unit) text not is says = rw (is, says) refl
 streamit-refused meant (streamit_fault.Weights unit) text not is says = rw (is, says) refl
 streamit-refused meant streamit_fault.NoMemory text not is says = absurd (not refl)
+
+-- ---- A STREAMIT PROGRAM WITH PARAMETERS
+
+params_mean : (text : List ℕ) (a : params.Accepted) → params.compiled text ≡ Ok a → (files : List Content) → AreContents (plan_of a.stream).inputs files
+    → meaning (plan_of a.stream) (all_items files) ≡ (params_source a).means files
+params_mean text a e [] t = absurd t
+params_mean text a e (f ∷ g ∷ more) t = absurd t.1
+params_mean text a e (Timed es ∷ []) t = absurd t.0
+params_mean text a e (Plain r ∷ []) t =
+    ap (λ l. meaning (plan_of a.stream) (l ∷ [])) (values-are r t.0) ∙ (params_plans_mean text a (values (Plain r ∷ [])) e).1
+
+-- the plan that was compiled is the program's, and the plain program means what the program means
+pub params-compiled : (text : List ℕ) (tree : params_tree.ParamProgram) (t : StreamitProgram) (plan : PlanForm)
+    → params.Plans (params.compiled text) tree (streamit_tree.program_of t.units.items) plan
+    → StandsFor IsCompiled (told params_source params_words (params.compiled text)) (record { plan = plan; program = program.Streamit t })
+params-compiled text tree t plan (s, is, made) =
+    let a : params.Accepted = record { tree = tree; program = streamit_tree.program_of t.units.items; stream = s } in
+    subst (λ (r : Result params.Accepted ParamFault). StandsFor IsCompiled (told params_source params_words r) (record { plan = plan; program = program.Streamit t })) (sym is)
+    (record {
+      plan = subst (IsPlanOf (params_source a)) (sym made) (record { plan = refl; inputs = refl; outputs = refl; tables = refl; means = params_mean text a is });
+      program = record {
+        readable = params-readable text a is;
+        means = λ files. ap (λ (ys : List ℤ). record { outs = as_items ys ∷ []; tables = [] }) (sym (plain_means text a (values files) is));
+      };
+    })
+
+pub params-refused : (meant : Result params.Accepted ParamFault) (f : ParamFault) (text : List _) → (f ≡ params_fault.NoMemory → ⊥) → params.Refused meant f
+    → text ≡ program_refused (params_words f) → told params_source params_words meant ≡ Err text
+params-refused meant (params_fault.Text refusal) text not is says = rw (is, says) refl
+params-refused meant (params_fault.UnknownName unit) text not is says = rw (is, says) refl
+params-refused meant (params_fault.NameTwice unit) text not is says = rw (is, says) refl
+params-refused meant (params_fault.Arity unit) text not is says = rw (is, says) refl
+params-refused meant (params_fault.NotConstant unit) text not is says = rw (is, says) refl
+params-refused meant (params_fault.Top unit) text not is says = rw (is, says) refl
+params-refused meant (params_fault.Range unit) text not is says = rw (is, says) refl
+params-refused meant (params_fault.Empty unit) text not is says = rw (is, says) refl
+params-refused meant (params_fault.Budget unit) text not is says = rw (is, says) refl
+params-refused meant (params_fault.Inner unit fault) text not is says = rw (is, says) refl
+params-refused meant params_fault.NoMemory text not is says = absurd (not refl)
 
 -- ---- A SAWZALL PROGRAM
 

@@ -19,6 +19,10 @@ use Rattle.streamit_text.specs.Program as streamit
 use Rattle.streamit_build.specs.Readable.{AreReadable}
 use Rattle.streamit_front.specs.Meaning.{Accepted, compiled}
 use Rattle.streamit_front.specs.Words.{streamit_words}
+use Rattle.params_text.specs.Program as params
+use Rattle.params_model.specs.Meaning.{params_outputs}
+use Rattle.params_front.specs.Meaning as params_front
+use Rattle.params_front.specs.Words.{params_words}
 use Rattle.cql_model.specs.Instants.{program_means}
 use Rattle.cql_text.specs.Tree.{Register, AQuery}
 use Rattle.cql_text.specs.Tree as cql_text
@@ -45,7 +49,7 @@ use Rattle.river_cli.specs.declared.compile.Program.TheVariants as program
 use Rattle.river_cli.specs.declared.content.Content.{Content}
 use Rattle.river_cli.specs.declared.content.Content.TheVariants.{Rows as Plain, Timed}
 use Rattle.river_cli.specs.declared.command.Lang.{Lang}
-use Rattle.river_cli.specs.declared.command.Lang.TheVariants.{River, Streamit, Sawzall, Cql}
+use Rattle.river_cli.specs.declared.command.Lang.TheVariants.{River, Streamit, Params, Sawzall, Cql}
 
 -- a program: its inputs, the names of its outputs and of its tables, what these have for the files of its inputs, its plan, and the
 -- capacities that it gives to queues of its plan
@@ -90,6 +94,19 @@ streamit_source a = record {
   means = streamit_means a.program;
   plan = plan_of a.stream;
   caps = [];
+}
+
+abbrev pub params_means : params.ParamProgram → List Content → Results
+params_means p files = record { outs = as_items (params_outputs p (values files)) ∷ []; tables = [] }
+
+-- a StreamIt program with parameters, by its own definition
+abbrev pub params_source : params_front.Accepted → Source
+params_source a = record {
+  inputs = values_in (codes "in") ∷ [];
+  outputs = codes "out" ∷ [];
+  tables = [];
+  means = params_means a.tree;
+  plan = plan_of a.stream;
 }
 
 -- the rows of the first input, which are the first fields of its records
@@ -141,6 +158,7 @@ told source words (Err fault) = Err (program_refused (words fault))
 unfoldable pub source_of : Lang → List ℕ → Result Source (List ℕ)
 source_of River text = told river_source river_words (plan_in text)
 source_of Streamit text = told streamit_source streamit_words (compiled text)
+source_of Params text = told params_source params_words (params_front.compiled text)
 source_of Sawzall text = told saw_source saw_words (saw.compiled text)
 source_of Cql text = told cql_source cql_words (cql_front.compiled text)
 

@@ -6,13 +6,14 @@ use Rattle.river_base.specs.Name.{is_digit}
 use Rattle.csv_streams.specs.Number.{value_after}
 use Rattle.river_cli.specs.declared.command.InWord.{InWord}
 use Rattle.river_cli.specs.declared.command.Lang.{Lang}
-use Rattle.river_cli.specs.declared.command.Lang.TheVariants.{River, Streamit, Sawzall, Cql}
+use Rattle.river_cli.specs.declared.command.Lang.TheVariants.{River, Streamit, Params, Sawzall, Cql}
 
 -- the language that a word names
 abbrev pub lang_named : List ℕ → Option Lang
 lang_named word =
     if bytes_eq word (codes "river") then Some River
     else if bytes_eq word (codes "streamit") then Some Streamit
+    else if bytes_eq word (codes "params") then Some Params
     else if bytes_eq word (codes "sawzall") then Some Sawzall
     else if bytes_eq word (codes "cql") then Some Cql
     else None

@@ -12,6 +12,8 @@ pub enum Lang {
     River,
     /// StreamIt.
     Streamit,
+    /// StreamIt with parameters.
+    Params,
     /// Sawzall.
     Sawzall,
     /// CQL.
@@ -24,7 +26,7 @@ impl Lang {
         ensures { result ≡ takes_more self }
     {
         match self {
-            Lang::River | Lang::Streamit | Lang::Cql => false,
+            Lang::River | Lang::Streamit | Lang::Params | Lang::Cql => false,
             Lang::Sawzall => true,
         }
     }

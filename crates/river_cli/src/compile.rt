@@ -5,9 +5,11 @@ ghost use Rattle.river_text.specs.Meaning.{plan_in};
 ghost use Rattle.river_text.specs.Words.{river_words};
 ghost use Rattle.streamit_front.specs.Meaning.{compiled};
 ghost use Rattle.streamit_front.specs.Words.{streamit_words};
+ghost use Rattle.params_front.specs.Meaning.{compiled as params_compiled};
+ghost use Rattle.params_front.specs.Words.{params_words};
 ghost use Rattle.cql_front.specs.Meaning.{compiled as cql_compiled};
 ghost use Rattle.cql_front.specs.Words.{cql_words};
-ghost use Rattle.river_cli.specs.Source.{river_source, streamit_source, saw_source, cql_source, told, source_of, program_caps, IsCompiled};
+ghost use Rattle.river_cli.specs.Source.{river_source, streamit_source, params_source, saw_source, cql_source, told, source_of, program_caps, IsCompiled};
 ghost use Rattle.saw_front.specs.Meaning.{compiled as saw_compiled};
 ghost use Rattle.saw_front.specs.Words.{saw_words};
 ghost use Rattle.river_cli.specs.Text.{program_refused};
@@ -16,6 +18,7 @@ use crate::command::Lang;
 use crate::text;
 use cql_front::{CqlFault, compile_cql};
 use cql_text::CqlProgram;
+use params_front::{ParamFault, compile_params};
 use river_base::{Bytes, NoMemory};
 use river_order::Stop;
 use river_plan::{Caps, Plan};
@@ -29,7 +32,7 @@ use streamit_front::{StreamitFault, StreamitProgram, compile_streamit};
 pub enum Program {
     /// A River text, which is its plan; these are the capacities that it gives to its queues.
     River(Caps),
-    /// A StreamIt program.
+    /// A StreamIt program; of one with parameters, the plain program that is made of it.
     Streamit(StreamitProgram),
     /// A Sawzall program.
     Sawzall(SawProgram),
@@ -64,6 +67,7 @@ pub fn compile(alloc: Global, lang: Lang, text: &Bytes) -> Result<Compiled, Stop
     match lang {
         Lang::River => river(alloc, text),
         Lang::Streamit => streamit(alloc, text),
+        Lang::Params => params(alloc, text),
         Lang::Sawzall => sawzall(alloc, text),
         Lang::Cql => cql(alloc, text),
     }
@@ -107,6 +111,28 @@ fn streamit(alloc: Global, text: &Bytes) -> Result<Compiled, Stop>
 
 fn streamit_refused(alloc: Global, fault: StreamitFault) -> Result<Bytes, NoMemory>
     ensures { IfOk result (λ text. text ≡ program_refused (streamit_words fault)) }
+{
+    let mut words = Bytes::new(alloc);
+    fault.put(alloc, &mut words)?;
+    text::program(alloc, words.as_slice())
+}
+
+fn params(alloc: Global, text: &Bytes) -> Result<Compiled, Stop>
+    requires { length text.now ≤ 1048576 }
+    ensures { AnswersAs IsCompiled (told params_source params_words (params_compiled text.now)) result }
+{
+    match compile_params(alloc, text) {
+        Ok((_, program, plan)) => Ok(Compiled {
+            plan,
+            program: Program::Streamit(program),
+        }),
+        Err(ParamFault::NoMemory) => Err(Stop::NoMemory),
+        Err(fault) => Err(Stop::Refused(params_refused(alloc, fault)?)),
+    }
+}
+
+fn params_refused(alloc: Global, fault: ParamFault) -> Result<Bytes, NoMemory>
+    ensures { IfOk result (λ text. text ≡ program_refused (params_words fault)) }
 {
     let mut words = Bytes::new(alloc);
     fault.put(alloc, &mut words)?;

@@ -105,6 +105,8 @@ const RIVER: &[u8] = b"river";
 
 const STREAMIT: &[u8] = b"streamit";
 
+const PARAMS: &[u8] = b"params";
+
 const SAWZALL: &[u8] = b"sawzall";
 
 const CQL: &[u8] = b"cql";
@@ -150,6 +152,8 @@ fn lang_named(word: &[u8]) -> Option<Lang>
         Some(Lang::River)
     } else if word == STREAMIT {
         Some(Lang::Streamit)
+    } else if word == PARAMS {
+        Some(Lang::Params)
     } else if word == SAWZALL {
         Some(Lang::Sawzall)
     } else if word == CQL {

@@ -9,6 +9,10 @@ pub returns-in-Streamit : goal.returns-in-Streamit
 unfolding source_of
 returns-in-Streamit c = rw c.in-Streamit.is c.streamit.ensures
 
+pub returns-in-Params : goal.returns-in-Params
+unfolding source_of
+returns-in-Params c = rw c.in-Params.is c.params.ensures
+
 pub returns-in-Sawzall : goal.returns-in-Sawzall
 unfolding source_of
 returns-in-Sawzall c = rw c.in-Sawzall.is c.sawzall.ensures

@@ -1,0 +1,127 @@
+// From the text of a program to the text of its plain program.
+ghost use Rattle.std.specs.Prelude.{◌≡◌, ◌<◌, ◌^◌, length, IfOk, IfErr, Result, Ok};
+ghost use Rattle.params_text.specs.Faults.{StandFor};
+ghost use Rattle.params_text.specs.Program.{program_of};
+ghost use Rattle.params_text.specs.Program as text;
+ghost use Rattle.params_model.specs.Constants.{AreFitUnits};
+ghost use Rattle.params_model.specs.Judged.{elaborated};
+ghost use Rattle.params_model.specs.Making.{Made};
+ghost use Rattle.params_model.specs.Making as model;
+ghost use Rattle.params_build.specs.Told.{Told};
+ghost use Rattle.params_make.specs.Written.{Makes};
+ghost use Rattle.params_front.specs.Meaning.{or_fault, of_tokens, elaboration, Writes, Elaborates, StandsForMade, Refused};
+
+use crate::fault::ParamFault;
+use crate::sizes::sizes;
+use crate::{Elaborated, ParamProgram};
+use params_build::{Fault, Refusal, judged, top};
+use params_make::{Written, made};
+use params_text::{ParamUnit, read_params};
+use river_base::Bytes;
+use std::alloc::Global;
+use text_forms::{Refusal as TextRefusal, UnitFault};
+use work_code::{LexFault, Tokens, lex};
+
+/// The program of a text, and the text of the plain program that is made of it: an instance of its last
+/// stream, and one for each `add` that is met, children before their parent. It means what the program
+/// means.
+///
+/// # Errors
+///
+/// `Text` with the first fault of the bytes where they have no tokens; otherwise with `Syntax` and the first
+/// unit, from 1, that is not in the grammar; otherwise the first fault of the program in the order in which
+/// it is read, with its unit; otherwise `Top`; otherwise the first fault in the order in which instances are
+/// made, with the unit of which one was to be made; `NoMemory` where there is no memory.
+#[tactic(auto, unfolding(crate::specs::Meaning::elaboration), using(work_code::proofs::Counts::counts))]
+pub fn elaborate(alloc: Global, text: &Bytes) -> Result<Elaborated, ParamFault>
+    requires { length text.now < 2 ^ 32 }
+    ensures made { IfOk result (Elaborates (elaboration text.now)) }
+    ensures plain { IfOk result (λ e. StandsForMade (elaboration text.now) e.plain) }
+    ensures refused { IfErr result (Refused (elaboration text.now)) }
+{
+    match lex(alloc, text) {
+        Ok(tokens) => elaborate_tokens(alloc, &tokens),
+        Err(LexFault::BadByte { at }) => Err(ParamFault::Text(TextRefusal::BadByte { at })),
+        Err(LexFault::BigNumber { at }) => Err(ParamFault::Text(TextRefusal::BigNumber { at })),
+        Err(LexFault::NoMemory) => Err(ParamFault::NoMemory),
+    }
+}
+
+// The program of the tokens of a text, and what is made of it; or why there is none.
+#[tactic(auto, using(crate::proofs::Fronts::fronts))]
+fn elaborate_tokens(alloc: Global, tokens: &Tokens<'_>) -> Result<Elaborated, ParamFault>
+    requires { length tokens.now < 2 ^ 32 }
+    ensures made { IfOk result (Elaborates (of_tokens tokens.now)) }
+    ensures refused { IfErr result (Refused (of_tokens tokens.now)) }
+{
+    let units = read(alloc, tokens)?;
+    let Written { plain, from } = written(alloc, tokens, units.as_slice())?;
+    Ok(Elaborated {
+        tree: ParamProgram { units },
+        plain,
+        from,
+    })
+}
+
+// The units of the tokens of a text.
+#[tactic(auto, using(crate::proofs::Fronts::readings))]
+fn read(alloc: Global, tokens: &Tokens<'_>) -> Result<Vec<ParamUnit>, ParamFault>
+    requires { length tokens.now < 2 ^ 32 }
+    ensures read { IfOk result (λ units. StandFor tokens.now (program_of units.items)) }
+    ensures refused { IfErr result (Refused (of_tokens tokens.now)) }
+{
+    match read_params(alloc, tokens) {
+        Ok(units) => Ok(units),
+        Err(UnitFault::Syntax { unit }) => Err(ParamFault::Text(TextRefusal::Syntax { unit })),
+        Err(UnitFault::NoMemory) => Err(ParamFault::NoMemory),
+    }
+}
+
+// What is made of the units that were read of these tokens.
+#[tactic(auto, using(crate::proofs::Fronts::writings))]
+fn written(
+    alloc: Global,
+    tokens: &Tokens<'_>,
+    units: &[ParamUnit],
+) -> Result<Written, ParamFault>
+    requires few { length tokens.now < 2 ^ 32 }
+    requires read { StandFor tokens.now (program_of units.now) }
+    ensures made { IfOk result (λ w. Writes (of_tokens tokens.now) (program_of units.now) w.plain w.from) }
+    ensures refused { IfErr result (Refused (of_tokens tokens.now)) }
+{
+    let sizes = sizes(alloc, tokens)?;
+    match made_of(alloc, units, sizes.as_slice()) {
+        Ok(written) => Ok(written),
+        Err(refusal) => Err(refused(refusal)),
+    }
+}
+
+// What is made of units that have so many bytes.
+#[tactic(auto, using(crate::proofs::Fronts::makings))]
+fn made_of(alloc: Global, units: &[ParamUnit], sizes: &[usize]) -> Result<Written, Refusal>
+    requires fit { AreFitUnits (program_of units.now) }
+    requires few { length units.now < 2 ^ 32 }
+    ensures { Makes result (elaborated (program_of units.now) sizes.now) }
+{
+    judged(alloc, units)?;
+    top(units)?;
+    made(alloc, units, sizes)
+}
+
+// The fault of a unit.
+fn refused(refusal: Refusal) -> ParamFault
+    ensures { (p : text.ParamProgram) (r : Result Made model.Refusal) → Told refusal.unit refusal.fault r → Refused (or_fault p r) result }
+{
+    let unit = refusal.unit;
+    match refusal.fault {
+        Fault::UnknownName => ParamFault::UnknownName { unit },
+        Fault::NameTwice => ParamFault::NameTwice { unit },
+        Fault::Arity => ParamFault::Arity { unit },
+        Fault::NotConstant => ParamFault::NotConstant { unit },
+        Fault::Top => ParamFault::Top { unit },
+        Fault::Range => ParamFault::Range { unit },
+        Fault::Empty => ParamFault::Empty { unit },
+        Fault::Budget => ParamFault::Budget { unit },
+        Fault::NoMemory => ParamFault::NoMemory,
+    }
+}
