@@ -79,11 +79,7 @@ fn read(alloc: Global, tokens: &Tokens<'_>) -> Result<Vec<ParamUnit>, ParamFault
 
 // What is made of the units that were read of these tokens.
 #[tactic(auto, using(crate::proofs::Fronts::writings))]
-fn written(
-    alloc: Global,
-    tokens: &Tokens<'_>,
-    units: &[ParamUnit],
-) -> Result<Written, ParamFault>
+fn written(alloc: Global, tokens: &Tokens<'_>, units: &[ParamUnit]) -> Result<Written, ParamFault>
     requires few { length tokens.now < 2 ^ 32 }
     requires read { StandFor tokens.now (program_of units.now) }
     ensures made { IfOk result (λ w. Writes (of_tokens tokens.now) (program_of units.now) w.plain w.from) }

@@ -16,42 +16,23 @@ pub enum ParamFault {
     /// The text is not read.
     Text(Refusal),
     /// `add` names no stream declared above, or a constant has a name that is not known there.
-    UnknownName {
-        unit: u32,
-    },
+    UnknownName { unit: u32 },
     /// A name that is known is declared again.
-    NameTwice {
-        unit: u32,
-    },
+    NameTwice { unit: u32 },
     /// An `add` has another number of arguments than the stream has parameters.
-    Arity {
-        unit: u32,
-    },
+    Arity { unit: u32 },
     /// A parameter is assigned.
-    NotConstant {
-        unit: u32,
-    },
+    NotConstant { unit: u32 },
     /// The last stream has parameters.
-    Top {
-        unit: u32,
-    },
+    Top { unit: u32 },
     /// A rate, a weight or a bound that is below 0 or above 65,536.
-    Range {
-        unit: u32,
-    },
+    Range { unit: u32 },
     /// A pipeline or a split-join without children.
-    Empty {
-        unit: u32,
-    },
+    Empty { unit: u32 },
     /// Too many instances, too deep or with too long texts, or too many turns.
-    Budget {
-        unit: u32,
-    },
+    Budget { unit: u32 },
     /// The plain program is refused, in an instance of this unit.
-    Inner {
-        unit: u32,
-        fault: StreamitFault,
-    },
+    Inner { unit: u32, fault: StreamitFault },
     /// There was no memory.
     NoMemory,
 }
@@ -117,12 +98,7 @@ fn at_unit(alloc: Global, word: &[u8], number: u32, to: &mut Bytes) -> Result<()
 
 // Appends the unit, and what is told of the plain program.
 #[tactic(auto, using(work_code::proofs::Joined::joins))]
-fn inner(
-    alloc: Global,
-    unit: u32,
-    fault: StreamitFault,
-    to: &mut Bytes,
-) -> Result<(), NoMemory>
+fn inner(alloc: Global, unit: u32, fault: StreamitFault, to: &mut Bytes) -> Result<(), NoMemory>
     ensures { OnOk result (to.new ≡ to.old ++ ((codes "Inner " ++ decimal unit) ++ (codes " " ++ streamit_words fault))) }
 {
     at_unit(alloc, b"Inner ", unit, to)?;

@@ -107,6 +107,7 @@ params_source a = record {
   tables = [];
   means = params_means a.tree;
   plan = plan_of a.stream;
+  caps = [];
 }
 
 -- the rows of the first input, which are the first fields of its records
