@@ -3,7 +3,6 @@ use Rattle.std.proofs.Common.{◌≡◌, ℕ, ℤ, List, [], ◌∷◌, Result, 
 use Rattle.std.specs.Prelude.{map}
 use Rattle.river_plan.specs.Forms.{PlanForm}
 use Rattle.streamit_text.specs.Program as plain
-use Rattle.streamit_model.specs.Build.{plan_of}
 use Rattle.streamit_model.specs.Laws.{as_items}
 use Rattle.streamit_model.specs.Meaning.{program_outputs}
 use Rattle.streamit_front.specs.Laws.{Has as HasPlain}

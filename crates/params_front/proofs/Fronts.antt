@@ -1,6 +1,5 @@
 -- What is made of a text is made of the program that it has in the grammar, and is what the front answers.
-use Rattle.std.proofs.Common.{◌≡◌, ◌⊎◌, ℕ, ℤ, suc, ◌<◌, ◌≤◌, List, [], ◌∷◌, length, Result, Ok, Err, refl, sym, ap, ◌∙◌, subst, inl, inr, ⊎_elim, arith}
-use Rattle.std.specs.List.{AllByRecursion}
+use Rattle.std.proofs.Common.{◌≡◌, ◌⊎◌, ℕ, ℤ, suc, ◌≤◌, List, [], ◌∷◌, length, Result, Ok, Err, refl, sym, ap, ◌∙◌, subst, inl, inr, arith}
 use Rattle.std.proofs.lemmas.List.{length-map}
 use Rattle.work_code.specs.Cut.{units_of as cut_units}
 use Rattle.work_code.specs.Lexis.{tokens_in}
@@ -18,7 +17,7 @@ use Rattle.streamit_text.specs.Grammar as plain_text_of
 use Rattle.streamit_text.specs.Program as plain
 use Rattle.streamit_text.proofs.Texts.{one_program}
 use Rattle.params_text.specs.Faults.{StandFor, Refuses}
-use Rattle.params_text.specs.Grammar.{AreUnits, IsText, IsSome, IsUnitAt, next_unit}
+use Rattle.params_text.specs.Grammar.{AreUnits, IsText, IsUnitAt, next_unit}
 use Rattle.params_text.specs.Laws.{IsBadAt, IsEmpty}
 use Rattle.params_text.specs.Program.{ParamProgram, declared_of, program_of}
 use Rattle.params_text.specs.Reading.{some_units, unit_from}
@@ -27,11 +26,9 @@ use Rattle.params_text.specs.declared.program.ParamUnit.{ParamUnit}
 use Rattle.params_text.proofs.ParamTexts.{text-reads, units-read, units-bad, units-reads}
 use Rattle.params_text.proofs.UnitReads.{exact-unit_from}
 use Rattle.params_model.specs.Constants.{AreFitUnits}
-use Rattle.params_model.specs.Faulty.{IsRight, IsFaultOf}
 use Rattle.params_model.specs.Judged.{Judgement, no_fault, units_judged, sources_of, top_judged, elaborated}
 use Rattle.params_model.specs.Making.{Made, Refusal, on_fine, last_made}
 use Rattle.params_model.specs.Making as model
-use Rattle.params_model.specs.Places.{places_of}
 use Rattle.params_model.proofs.FitConstants.{units-fit}
 use Rattle.params_model.proofs.MadeStands.{elaborated_stands}
 use Rattle.params_model.proofs.Readable.{texts_are_written}

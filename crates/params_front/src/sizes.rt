@@ -38,7 +38,6 @@ fn each_size(
 }
 
 // Of a unit that has these tokens.
-#[tactic(auto, using(crate::proofs::Bytes::bytes))]
 fn size(unit: &[Lexeme<'_>]) -> usize
     ensures { result ≡ bytes_of (map mark_of unit.now) }
 {
