@@ -138,6 +138,8 @@ params-compiled text tree t plan (s, is, made) =
         readable = params-readable text a is;
         means = λ files. ap (λ (ys : List ℤ). record { outs = as_items ys ∷ []; tables = [] }) (sym (plain_means text a (values files) is));
       };
+      caps = refl;
+      fit = All-nil (λ (c : Cap). IsCap c.most);
     })
 
 pub params-refused : (meant : Result params.Accepted ParamFault) (f : ParamFault) (text : List _) → (f ≡ params_fault.NoMemory → ⊥) → params.Refused meant f

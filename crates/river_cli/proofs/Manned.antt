@@ -6,10 +6,10 @@ use Rattle.std.proofs.lemmas.Bool.Decides.{nat_tests}
 use Rattle.csv_streams.specs.Number.{value_after}
 use Rattle.river_cli.specs.Commands.{with_header, with_counts, with_script, with_workers, with_cap, with_input, IsManned}
 use Rattle.river_cli.specs.Phrases.{Phrase, option, script, input, number_ahead, numbered, phrase_of, one_more, phrases, made, are_apart, with_phrases}
-use Rattle.river_cli.specs.Sentences.{plain, with_words, asked, asked_load, command_of}
+use Rattle.river_cli.specs.Sentences.{plain, with_words, asked, asked_load, asked_upgrade, asked_two, command_of}
 use Rattle.river_cli.specs.Words.{lang_named, is_file, is_number, within, number_to, in_word_of}
 use Rattle.river_cli.specs.declared.command.Command.{Command}
-use Rattle.river_cli.specs.declared.command.Command.TheVariants.{Run, Plan, Mean, Load}
+use Rattle.river_cli.specs.declared.command.Command.TheVariants.{Run, Plan, Mean, Upgrade, Load}
 use Rattle.river_cli.specs.declared.command.InWord.{InWord}
 use Rattle.river_cli.specs.declared.command.Lang.{Lang}
 
@@ -34,12 +34,14 @@ header_keeps : (command : Command) → IsManned command → MayBeManned (with_he
 header_keeps (Run lang file ins script workers cap header counts) h = h
 header_keeps (Plan lang file script) h = tt
 header_keeps (Mean lang file ins header) h = tt
+header_keeps (Upgrade file) h = tt
 header_keeps (Load number) h = tt
 
 counts_keep : (command : Command) → IsManned command → MayBeManned (with_counts command)
 counts_keep (Run lang file ins script workers cap header counts) h = h
 counts_keep (Plan lang file script) h = tt
 counts_keep (Mean lang file ins header) h = tt
+counts_keep (Upgrade file) h = tt
 counts_keep (Load number) h = tt
 
 script_keeps : (words : List (List ℕ)) → MayKeep (script words)
@@ -51,6 +53,7 @@ script_keeps ((c ∷ cs) ∷ words) = by
     by (Run lang file ins script workers cap header counts) h = h
     by (Plan lang file script) h = tt
     by (Mean lang file ins header) h = tt
+    by (Upgrade file) h = tt
     by (Load number) h = tt
 
 input_keeps : (w : Option InWord) → MayKeep (input w)
@@ -61,6 +64,7 @@ input_keeps (Some w) = by
     by (Run lang file ins script workers cap header counts) h = h
     by (Plan lang file script) h = tt
     by (Mean lang file ins header) h = tt
+    by (Upgrade file) h = tt
     by (Load number) h = tt
 
 -- the numbers behind options are within their bounds
@@ -91,6 +95,7 @@ workers_keep key words = by (number_ahead 64 words) refl
     some n w (Run lang file ins script workers cap header counts) h = (w.0, w.1, h.2, h.3)
     some n w (Plan lang file script) h = tt
     some n w (Mean lang file ins header) h = tt
+    some n w (Upgrade file) h = tt
     some n w (Load number) h = tt
 
     by : (o : Option ℕ) → number_ahead 64 words ≡ o → MayKeep (numbered key with_workers o)
@@ -104,6 +109,7 @@ cap_keeps key words = by (number_ahead 65536 words) refl
     some n w (Run lang file ins script workers cap header counts) h = (h.0, h.1, w.0, w.1)
     some n w (Plan lang file script) h = tt
     some n w (Mean lang file ins header) h = tt
+    some n w (Upgrade file) h = tt
     some n w (Load number) h = tt
 
     by : (o : Option ℕ) → number_ahead 65536 words ≡ o → MayKeep (numbered key with_cap o)
@@ -189,10 +195,24 @@ load_is word number = by (bytes_eq word (codes "load")) (number_to 100000 number
     by true (Some n) = tt
     by false o = tt
 
+upgrade_is : (word file : List ℕ) → MayBeManned (asked_upgrade word file)
+upgrade_is word file = by (bytes_eq word (codes "upgrade") && is_file file)
+  where
+    by : (b : Bool) → MayBeManned (if b then Some (Upgrade file) else None)
+    by true = tt
+    by false = tt
+
+two_are : (word behind : List ℕ) → MayBeManned (asked_two word behind)
+two_are word behind = by (bytes_eq word (codes "load"))
+  where
+    by : (b : Bool) → MayBeManned (if b then asked_load word behind else asked_upgrade word behind)
+    by true = load_is word behind
+    by false = upgrade_is word behind
+
 all_are : (words : List (List ℕ)) → MayBeManned (command_of words)
 all_are [] = tt
 all_are (word ∷ []) = tt
-all_are (word ∷ number ∷ []) = load_is word number
+all_are (word ∷ behind ∷ []) = two_are word behind
 all_are (word ∷ lang ∷ file ∷ words) = asked_is word (lang_named lang) file words
 
 -- the command of words that are a sentence is manned

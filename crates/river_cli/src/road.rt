@@ -250,7 +250,7 @@ fn run_over<R: Threads + Sync, S: Shelf, G: Gate + Sync>(
     caps: &Caps,
     shelf: &mut S,
 ) -> Result<Bytes, Stop>
-    requires { AreCaps caps.now }
+    requires caps { AreCaps caps.now }
     ensures later { S.faults shelf.old ≤ S.faults shelf.new }
     ensures passes { (source : Source) → IsPlanOf source plan.now
         → Passes (of_inputs_run ins.now layout counts source) (S.held shelf.old) (Rose S.stays_at_last (S.faults shelf.old) (S.faults shelf.new)) result }

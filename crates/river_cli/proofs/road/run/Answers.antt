@@ -22,8 +22,8 @@ returns-in_err-plan-clause-passes g c =
     rw (p.1, p.2) (run-script c.args.lang c.args.file.now (g.S.Shelf.held c.args.shelf.now) c.args.ins.now c.args.name.now c.args.header c.args.counts mid early late (rose_before g.S.Shelf.stays_at_last _ _ _ c.compiled.ensures.later) c.in_ok-compiled.compiled c.in_err-plan.field-0.0 c.in_ok-compiled.ensures.passes
     (λ source is. stops c.in_ok-compiled.compiled.program source is))
 
-pub run_over-requires : goal.run_over-requires
-run_over-requires g c = subst AreCaps (sym c.caps_of-caps.ensures) c.in_ok-compiled.ensures.passes.1.fit
+pub run_over-requires-clause-caps : goal.run_over-requires-clause-caps
+run_over-requires-clause-caps g c = subst AreCaps (sym c.caps_of-caps.ensures) c.in_ok-compiled.ensures.passes.1.fit
 
 pub returns-clause-passes : goal.returns-clause-passes
 returns-clause-passes g c =
