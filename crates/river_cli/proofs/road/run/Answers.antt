@@ -23,7 +23,7 @@ returns-in_err-plan-clause-passes g c =
     (λ source is. stops c.in_ok-compiled.compiled.program source is))
 
 pub run_over-requires-clause-caps : goal.run_over-requires-clause-caps
-run_over-requires-clause-caps g c = subst AreCaps (sym c.caps_of-caps.ensures) c.in_ok-compiled.ensures.passes.1.fit
+run_over-requires-clause-caps g c = λ lives. λ within. subst AreCaps (sym c.caps_of-caps.ensures) c.in_ok-compiled.ensures.passes.1.fit
 
 pub returns-clause-passes : goal.returns-clause-passes
 returns-clause-passes g c =
