@@ -15,9 +15,9 @@ use Rattle.kern_rows.specs.Needs.{HaveShares, IsJoiner}
 use Rattle.kern_rows.specs.Passing.{Passes, IsStuck, SoFar, passed_by, port_after, had_after}
 use Rattle.kern_rows.specs.Turns.{Turns, IsTurn, next_port, next_had, rest_at, rest_in, settled, ones}
 use Rattle.kern_rows.proofs.Passed.{front_is, front_none, length-rest_at, next_turn, so_far_start, so_far_step, so_far_end}
-use Rattle.kern_changes.specs.declared.change.Change.{Change}
+use Rattle.river_base.specs.declared.item.Change.{Change}
 use Rattle.kern_changes.specs.declared.owed.Debt.{Debt}
-use Rattle.kern_changes.specs.Changes.{change_to, changes, last_content, IsWideChange}
+use Rattle.river_base.specs.Changes.{change_to, changes, last_content, IsWideChange}
 use Rattle.kern_changes.specs.Owed.{AreOwed, but_at, JoinsOwed, KeepsOwed}
 use Rattle.kern_changes.specs.Joined.{PackTurns, JoinKept, put_pack, HasJoinShape, TakesPack, HasNoPack, packs, content_behind, Joining, StandsForJoining}
 use Rattle.kern_changes.specs.Joined.{PackJoined, JoinsPack, JoinedAll, JoinsAll, KeepsPack, KeepsJoin}
