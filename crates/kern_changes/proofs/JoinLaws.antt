@@ -7,7 +7,7 @@ use Rattle.std.proofs.lemmas.List.Elements.{All-head, All-tail, All-get_or}
 use Rattle.river_base.specs.declared.item.Batch.{Batch}
 use Rattle.river_base.specs.declared.item.Item as item
 use Rattle.river_base.specs.declared.item.Item.TheVariants.{Flat, Pack}
-use Rattle.river_base.specs.declared.item.Flat.TheVariants.{One, Batch as Batched}
+use Rattle.river_base.specs.declared.item.Flat.TheVariants.{One, Batch as Batched, Change as Changed}
 use Rattle.river_base.specs.Held.{batches}
 use Rattle.river_base.specs.Places.{list_at}
 use Rattle.river_base.proofs.PlaceLemmas.{length-append_at}
@@ -173,6 +173,7 @@ batches-append : (xs ys : List item.Item) → batches (xs ++ ys) ≡ batches xs 
 batches-append [] ys = refl
 batches-append (Flat (Batched b) ∷ xs) ys = ap (λ l. b ∷ l) (batches-append xs ys)
 batches-append (Flat (One row) ∷ xs) ys = batches-append xs ys
+batches-append (Flat (Changed c) ∷ xs) ys = batches-append xs ys
 batches-append (Pack fs ∷ xs) ys = batches-append xs ys
 
 -- THE PACKS OF A PORT
