@@ -1,4 +1,5 @@
 pub mod Bags
+pub mod Changes
 pub mod Drain
 pub mod Grew
 pub mod Held

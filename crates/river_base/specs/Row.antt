@@ -1,5 +1,5 @@
 -- Rows: lists of 1 to 16 values, and their order.
-use Rattle.std.specs.Prelude.{◌≡◌, ℕ, ℤ, pos, ◌≤◌, Bool, List, All, count_by}
+use Rattle.std.specs.Prelude.{◌≡◌, ℕ, ℤ, pos, ◌≤◌, Bool, List, All, length, count_by, IsSorted}
 use Rattle.std.specs.declared.cmp.Ordering.{Ordering}
 use Rattle.std.specs.Ordering.{int_eq, int_cmp, is_lt, eq_by_cmp}
 use Rattle.std.specs.Cmp.{IsEquivalence, IsTotalOrder}
@@ -25,6 +25,14 @@ row_cmp a b = slice_cmp int_cmp a b
 
 abbrev pub row_lt : List ℤ → List ℤ → Bool
 row_lt a b = is_lt (row_cmp a b)
+
+-- each row has this many values
+abbrev pub HaveWidth : ℕ → List (List ℤ) → Type 0
+HaveWidth w rows = All (λ row. length row ≡ w) rows
+
+-- the rows of a relation stand in ascending order
+abbrev pub IsAscending : List (List ℤ) → Type 0
+IsAscending rows = IsSorted row_cmp rows
 
 -- how often the row is in the bag
 abbrev pub copies : List ℤ → List (List ℤ) → ℕ

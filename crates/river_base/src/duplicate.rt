@@ -1,7 +1,7 @@
 // Copies.
 ghost use Rattle.std.specs.Prelude.{◌≡◌, IfOk};
 
-use crate::{Batch, Flat, Item, Listed, Name, NoMemory, Row};
+use crate::{Batch, Change, Flat, Item, Listed, Name, NoMemory, Row};
 use std::alloc::Global;
 
 /// A value that has equal copies, which may take memory.
@@ -60,11 +60,22 @@ impl Duplicate for Batch {
     }
 }
 
+impl Duplicate for Change {
+    fn copy(&self, alloc: Global) -> Result<Change, NoMemory> {
+        Ok(Change {
+            at: self.at,
+            plus: self.plus.copy(alloc)?,
+            minus: self.minus.copy(alloc)?,
+        })
+    }
+}
+
 impl Duplicate for Flat {
     fn copy(&self, alloc: Global) -> Result<Flat, NoMemory> {
         match self {
             Flat::One(row) => Ok(Flat::One(*row)),
             Flat::Batch(batch) => Ok(Flat::Batch(batch.copy(alloc)?)),
+            Flat::Change(change) => Ok(Flat::Change(change.copy(alloc)?)),
         }
     }
 }

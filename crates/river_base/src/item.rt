@@ -1,4 +1,5 @@
 // What queues carry.
+ghost use Rattle.std.specs.Prelude.{◌≡◌, ◌↔◌, [], IsTrue};
 
 use crate::{Listed, Row};
 
@@ -12,17 +13,36 @@ pub struct Batch {
     pub rows: Rows,
 }
 
-/// An item that is no pack: a row, or the rows of one instant.
+/// What comes to a relation and what goes, at an instant. Between two contents there is one
+/// change whose parts ascend and have no row in common.
+#[derive(Debug, PartialEq, Eq, Drop)]
+pub struct Change {
+    pub at: i64,
+    pub plus: Rows,
+    pub minus: Rows,
+}
+
+impl Change {
+    /// Whether nothing comes and nothing goes.
+    pub fn is_nothing(&self) -> bool
+        ensures { IsTrue result ↔ ((self.now.plus ≡ []) × (self.now.minus ≡ [])) }
+    {
+        self.plus.is_empty() && self.minus.is_empty()
+    }
+}
+
+/// An item that is no pack: a row, the rows of one instant, or the change of a relation.
 #[derive(Debug, PartialEq, Eq, Drop)]
 pub enum Flat {
     One(Row),
     Batch(Batch),
+    Change(Change),
 }
 
 /// A list of items that are no packs.
 pub type Flats = Listed<Flat>;
 
-/// What a queue carries: a row, a batch, or a pack of such.
+/// What a queue carries: a row, a batch, a change, or a pack of such.
 #[derive(Debug, PartialEq, Eq, Drop)]
 pub enum Item {
     Flat(Flat),

@@ -14,7 +14,7 @@ mod row;
 
 pub use duplicate::Duplicate;
 pub use gate::{Gate, NoGate};
-pub use item::{Batch, Flat, Flats, Item, Items, Rows, TimedFiles, TimedRows};
+pub use item::{Batch, Change, Flat, Flats, Item, Items, Rows, TimedFiles, TimedRows};
 pub use kind::{FlatType, QueueType};
 pub use listed::{Bytes, Listed, Numbers, Text};
 pub use memory::NoMemory;

@@ -1,10 +1,20 @@
--- Changes of a relation, and the contents that they stand for.
-use Rattle.std.specs.Prelude.{◌≡◌, ◌≤◌, ◌+◌, ℕ, ℤ, List, [], ◌∷◌, ◌++◌, ◌⊎◌, sum_by, map, flat_map, All}
-use Rattle.river_base.specs.Held.{HaveWidth, IsAscending}
-use Rattle.river_base.specs.Row.{copies, in_order}
+-- Bag differences, changes of a relation, and the contents that they stand for.
+use Rattle.std.specs.Prelude.{◌≡◌, ◌≤◌, ◌+◌, ℕ, ℤ, List, [], ◌∷◌, ◌++◌, ◌⊎◌, sum_by, map, flat_map, All, if◌then◌else◌}
+use Rattle.river_base.specs.Row.{row_eq, copies, in_order, HaveWidth, IsAscending}
 use Rattle.river_base.specs.declared.item.Batch.{Batch}
-use Rattle.kern_bags.specs.Contents.{without, difference}
-use Rattle.kern_changes.specs.declared.change.Change.{Change}
+use Rattle.river_base.specs.declared.item.Change.{Change}
+
+-- the bag difference: each row of the second bag takes one such row away, where there is one
+abbrev pub take_out : List ℤ → List (List ℤ) → List (List ℤ)
+take_out y [] = []
+take_out y (x ∷ xs) = if row_eq x y then xs else x ∷ take_out y xs
+
+abbrev pub without : List (List ℤ) → List (List ℤ) → List (List ℤ)
+without xs [] = xs
+without xs (y ∷ ys) = without (take_out y xs) ys
+
+abbrev pub difference : List (List ℤ) → List (List ℤ) → List (List ℤ)
+difference xs ys = in_order (without xs ys)
 
 -- WHAT A CHANGE MAKES OF A CONTENT
 
