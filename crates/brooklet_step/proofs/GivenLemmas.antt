@@ -50,7 +50,7 @@ by-length None past xs = refl
 by-length (Some t) past xs = length-held t past xs
 
 by-plain : (o : Option QueueType) (past xs : List item.Item) → IsPlainBy o → held_by o past xs ≡ xs
-by-plain None past xs h = absurd h
+by-plain None past xs h = refl
 by-plain (Some t) past xs h = held-plain t past xs h
 
 -- for no items a queue holds none
@@ -72,7 +72,7 @@ at-plain ts p past xs h = by-plain (slice_get ts p) past xs h
 
 -- a queue of a relation is not one of items as they are
 pub not_both : (o : Option QueueType) → IsPlainBy o → IsRelationBy o → ⊥
-not_both None p r = p
+not_both None p r = r
 not_both (Some (FlatOf (Rows w))) p r = r
 not_both (Some (FlatOf (Stream w))) p r = r
 not_both (Some (FlatOf (Relation w))) p r = p
@@ -108,11 +108,11 @@ typed_plain (PackOf (Stream w)) (Pack fs) p h = h
 typed_plain (PackOf (Relation w)) x p h = absurd p
 
 of_by : (o : Option QueueType) (x : item.Item) → IsPlainBy o → IsHeldBy o x → IsTyped o x
-of_by None x p h = absurd p
+of_by None x p h = h
 of_by (Some t) x p h = plain_typed t x p h
 
 by_of : (o : Option QueueType) (x : item.Item) → IsPlainBy o → IsTyped o x → IsHeldBy o x
-by_of None x p h = absurd p
+by_of None x p h = h
 by_of (Some t) x p h = typed_plain t x p h
 
 -- an item that a queue of no relation may hold has the queue's type
