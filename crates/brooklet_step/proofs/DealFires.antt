@@ -15,7 +15,7 @@ use Rattle.river_base.specs.declared.kind.FlatType.TheVariants.{Rows, Stream, Re
 use Rattle.river_base.specs.declared.kind.QueueType.{QueueType}
 use Rattle.river_base.specs.declared.kind.QueueType.TheVariants.{Flat as FlatOf}
 use Rattle.river_base.specs.Changes.{change_to, IsChangeOf, LeadsTo}
-use Rattle.river_base.specs.Held.{held, content_from, IsHeld, IsPlain, HasType}
+use Rattle.river_base.specs.Held.{held, content_from, HaveWidth, IsHeld, IsPlain, HasType}
 use Rattle.river_base.specs.Number.{count_of}
 use Rattle.river_base.specs.Places.{each_grew, only, none}
 use Rattle.river_base.proofs.HeldLemmas.{held-nil, held-relation, held-plain, content-append}
@@ -23,7 +23,8 @@ use Rattle.river_base.proofs.PlaceLemmas.{each_grew_cong, each_grew-none, only_s
 use Rattle.kern_rows.specs.Needs.{HaveShares}
 use Rattle.kern_rows.specs.Turns.{IsTurn, shares, next_port, next_had}
 use Rattle.kern_changes.specs.declared.owed.Debt.{Debt}
-use Rattle.kern_changes.specs.Owed.{AreOwed, OweLittle, AreDebtsOf, debt_at, but_at, owed_start}
+use Rattle.kern_changes.specs.Owed.{AreOwed, OweLittle, AreDebtsOf, no_debt, debt_at, but_at, owed_start}
+use Rattle.kern_changes.proofs.LawProofs.{starts_hold}
 use Rattle.river_kernels.specs.declared.types.VarKind.{VarKind}
 use Rattle.river_kernels.specs.Fits.{Fits, relation}
 use Rattle.river_kernels.specs.Kern.{deal}
@@ -38,7 +39,7 @@ use Rattle.brooklet_step.specs.declared.emit.Emit.{Emit}
 use Rattle.brooklet_step.specs.declared.state.Dealt.{Dealt}
 use Rattle.brooklet_step.specs.declared.state.State.{State}
 use Rattle.brooklet_step.specs.declared.state.State.TheVariants as state
-use Rattle.brooklet_step.specs.Dealing.{IsDealt}
+use Rattle.brooklet_step.specs.Dealing.{IsDealt, dealt_start}
 use Rattle.brooklet_step.specs.Stands.{IsChange, StandsForTurn}
 use Rattle.brooklet_step.specs.Took.{Took, HasRoom}
 use Rattle.brooklet_step.specs.Given.{held_by, held_at, IsHeldBy, IsHeldOf, IsRelationBy, columns_by, ran, FitState, FitTurn, DealAfter, StandsAfter, TookHeld, Does, FiresAt, CanTake}
@@ -325,3 +326,42 @@ module _ (ws : List ℤ) (i g : item.Item) (s s' : State) (old new : Dealt) (out
       by (Rows n) vars f hi = plain (Rows n) vars tt some f hi
       by (Stream n) vars f hi = plain (Stream n) vars tt some f hi
       by (Relation n) vars f hi = relates n vars some f hi
+
+-- BEFORE THE FIRST FIRING
+
+start_debt : (n p : ℕ) → debt_at (owed_start n) p ≡ no_debt
+start_debt zero p = refl
+start_debt (suc n) zero = refl
+start_debt (suc n) (suc p) = start_debt n p
+
+-- rows of whatever width are those of nothing
+pub start_wide : (n m : ℕ) → AreDebtsOf n (owed_start m)
+start_wide n m = record {
+  plus = λ p lt. subst (λ (d : Debt). HaveWidth n d.plus) (sym (start_debt m p)) (All-nil (λ (row : List ℤ). length row ≡ n));
+  minus = λ p lt. subst (λ (d : Debt). HaveWidth n d.minus) (sym (start_debt m p)) (All-nil (λ (row : List ℤ). length row ≡ n));
+}
+
+-- the first state stands for the definition's
+pub deal_first_after : (ws : List ℤ) (reads : List QueueType) → HaveShares (shares ws)
+    → StandsAfter (deal ws) reads (first_kept (deal ws)) (state.Deal (dealt_start (length ws)) ∷ []) []
+deal_first_after ws reads some = record {
+  stands = record {
+    now = dealt_start (length ws);
+    code = refl;
+    defined = refl;
+    turn = first_turn (shares ws) some;
+    lists = length-replicate (length ws) no_debt ∙ sym (length-map ws count_of);
+  };
+  owed = λ rel. starts_hold.owed (length ws);
+}
+
+-- and fits
+pub deal_first_fits : (ws : List ℤ) (reads : List QueueType) → HaveShares (shares ws) → FitState (deal ws) reads (state.Deal (dealt_start (length ws)) ∷ [])
+deal_first_fits ws reads some = record {
+  now = dealt_start (length ws);
+  code = refl;
+  turn = first_turn (shares ws) some;
+  lists = length-replicate (length ws) no_debt ∙ sym (length-map ws count_of);
+  few = starts_hold.little (length ws);
+  wide = λ n e. start_wide n (length ws);
+}
