@@ -3,7 +3,7 @@ use Rattle.std.proofs.Common.{◌≡◌, ℕ, zero, suc, ◌<◌, List, [], ◌�
 use Rattle.std.proofs.lemmas.List.{get_or_default}
 use Rattle.river_base.specs.Places.{list_at}
 use Rattle.kern_rows.specs.Passing.{port_after, had_after}
-use Rattle.kern_changes.specs.declared.change.Change.{Change}
+use Rattle.river_base.specs.declared.item.Change.{Change}
 use Rattle.kern_changes.specs.Joined.{PackTurns, TakesPack, HasNoPack}
 
 -- the lines that wait, with their turn

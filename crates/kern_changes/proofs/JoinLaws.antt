@@ -7,7 +7,7 @@ use Rattle.std.proofs.lemmas.List.Elements.{All-head, All-tail, All-get_or}
 use Rattle.river_base.specs.declared.item.Batch.{Batch}
 use Rattle.river_base.specs.declared.item.Item as item
 use Rattle.river_base.specs.declared.item.Item.TheVariants.{Flat, Pack}
-use Rattle.river_base.specs.declared.item.Flat.TheVariants.{One, Batch as Batched}
+use Rattle.river_base.specs.declared.item.Flat.TheVariants.{One, Batch as Batched, Change as Changed}
 use Rattle.river_base.specs.Held.{batches}
 use Rattle.river_base.specs.Places.{list_at}
 use Rattle.river_base.proofs.PlaceLemmas.{length-append_at}
@@ -15,9 +15,9 @@ use Rattle.kern_rows.specs.Needs.{HaveShares, IsJoiner}
 use Rattle.kern_rows.specs.Passing.{Passes, IsStuck, SoFar, passed_by, port_after, had_after}
 use Rattle.kern_rows.specs.Turns.{Turns, IsTurn, next_port, next_had, rest_at, rest_in, settled, ones}
 use Rattle.kern_rows.proofs.Passed.{front_is, front_none, length-rest_at, next_turn, so_far_start, so_far_step, so_far_end}
-use Rattle.kern_changes.specs.declared.change.Change.{Change}
+use Rattle.river_base.specs.declared.item.Change.{Change}
 use Rattle.kern_changes.specs.declared.owed.Debt.{Debt}
-use Rattle.kern_changes.specs.Changes.{change_to, changes, last_content, IsWideChange}
+use Rattle.river_base.specs.Changes.{change_to, changes, last_content, IsWideChange}
 use Rattle.kern_changes.specs.Owed.{AreOwed, but_at, JoinsOwed, KeepsOwed}
 use Rattle.kern_changes.specs.Joined.{PackTurns, JoinKept, put_pack, HasJoinShape, TakesPack, HasNoPack, packs, content_behind, Joining, StandsForJoining}
 use Rattle.kern_changes.specs.Joined.{PackJoined, JoinsPack, JoinedAll, JoinsAll, KeepsPack, KeepsJoin}
@@ -173,6 +173,7 @@ batches-append : (xs ys : List item.Item) → batches (xs ++ ys) ≡ batches xs 
 batches-append [] ys = refl
 batches-append (Flat (Batched b) ∷ xs) ys = ap (λ l. b ∷ l) (batches-append xs ys)
 batches-append (Flat (One row) ∷ xs) ys = batches-append xs ys
+batches-append (Flat (Changed c) ∷ xs) ys = batches-append xs ys
 batches-append (Pack fs ∷ xs) ys = batches-append xs ys
 
 -- THE PACKS OF A PORT

@@ -4,8 +4,8 @@ use Rattle.std.proofs.lemmas.List.{length-replicate}
 use Rattle.river_base.specs.declared.item.Batch.{Batch}
 use Rattle.river_base.specs.Places.{list_at}
 use Rattle.kern_rows.proofs.Passed.{first_turn}
-use Rattle.kern_changes.specs.declared.change.Change.{Change}
-use Rattle.kern_changes.specs.Changes.{StandForContents, ChangesInto, LeadsTo}
+use Rattle.river_base.specs.declared.item.Change.{Change}
+use Rattle.river_base.specs.Changes.{StandForContents, ChangesInto, LeadsTo}
 use Rattle.kern_changes.specs.declared.owed.Debt.{Debt}
 use Rattle.kern_changes.specs.Owed.{no_debt, debt_at, owed_start}
 use Rattle.kern_changes.specs.Joined.{packs}

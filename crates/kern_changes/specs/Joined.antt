@@ -6,9 +6,9 @@ use Rattle.river_base.specs.Held.{batches}
 use Rattle.river_base.specs.Places.{list_at, append_at}
 use Rattle.kern_rows.specs.Passing.{port_after, had_after}
 use Rattle.kern_rows.specs.Turns.{Turns, IsTurn, settled}
-use Rattle.kern_changes.specs.declared.change.Change.{Change}
+use Rattle.river_base.specs.declared.item.Change.{Change}
 use Rattle.kern_changes.specs.declared.owed.Debt.{Debt}
-use Rattle.kern_changes.specs.Changes.{changes, last_content, IsWideChange, GaveChanges}
+use Rattle.river_base.specs.Changes.{changes, last_content, IsWideChange, GaveChanges}
 use Rattle.kern_changes.specs.Owed.{AreOwed, AreDebtsOf, OweLittle, owed_start}
 
 -- WHAT IS KEPT

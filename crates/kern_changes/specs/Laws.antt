@@ -4,8 +4,8 @@ use Rattle.river_base.specs.declared.item.Batch.{Batch}
 use Rattle.river_base.specs.declared.item.Item as item
 use Rattle.kern_rows.specs.Needs.{HaveShares}
 use Rattle.kern_rows.specs.Turns.{turns_start}
-use Rattle.kern_changes.specs.declared.change.Change.{Change}
-use Rattle.kern_changes.specs.Changes.{StandForContents, AllNormal, AllAscending, changes}
+use Rattle.river_base.specs.declared.item.Change.{Change}
+use Rattle.river_base.specs.Changes.{StandForContents, AllNormal, AllAscending, changes}
 use Rattle.kern_changes.specs.Joined.{join_start, StandsForJoining, HasJoinShape}
 use Rattle.kern_changes.specs.Kept.{cross_start, crossing, StandsForCrossing}
 use Rattle.kern_changes.specs.Owed.{owed_start, AreOwed, OweLittle}

@@ -19,7 +19,7 @@ pub struct PackLine {
 
 impl Model for PackLine {
     ghost use Rattle.std.specs.Prelude.{List};
-    ghost use Rattle.kern_changes.specs.declared.change.Change.{Change};
+    ghost use Rattle.river_base.specs.declared.item.Change.{Change};
 
     ghost Value = { List (List Change) };
 

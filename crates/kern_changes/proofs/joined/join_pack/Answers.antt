@@ -1,5 +1,5 @@
 use Rattle.std.proofs.Common.{◌<◌, ◌+◌, List, length, drop, sym, subst, arith}
-use Rattle.kern_changes.specs.declared.change.Change.{Change}
+use Rattle.river_base.specs.declared.item.Change.{Change}
 use Rattle.kern_changes.specs.Joined.{JoinsPack, KeepsPack}
 use Rattle.kern_changes.proofs.JoinLaws.{PackSoFar, pack_start, pack_step, pack_end, keeps_start, keeps_step, next_rest, drop_past}
 use Rattle.kern_changes.proofs.joined.join_pack.Goals as goal
