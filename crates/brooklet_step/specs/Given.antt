@@ -1,29 +1,43 @@
 -- Firings from any states of the definition and after any word: what a firing gives where what was received and given before it is known.
-use Rattle.std.specs.Prelude.{◌≡◌, ℕ, ℤ, ◌+◌, ◌<◌, Bool, false, Option, Some, None, List, [], ◌∷◌, ◌++◌, All, length, take, drop, slice_get}
+use Rattle.std.specs.Prelude.{◌≡◌, ℕ, ℤ, ◌+◌, ◌<◌, Bool, false, Option, Some, None, List, [], ◌∷◌, ◌++◌, All, length, map, take, drop, slice_get}
+use Rattle.river_base.specs.declared.item.Batch.{Batch}
 use Rattle.river_base.specs.declared.item.Item as item
+use Rattle.river_base.specs.declared.item.Flat.TheVariants.{Batch as Batched}
+use Rattle.river_base.specs.declared.item.Item.TheVariants.{Flat}
+use Rattle.river_base.specs.declared.kind.FlatType.TheVariants.{Rows, Stream, Relation}
 use Rattle.river_base.specs.declared.kind.QueueType.{QueueType}
-use Rattle.river_base.specs.Held.{held, IsHeld, IsAscending}
+use Rattle.river_base.specs.declared.kind.QueueType.TheVariants.{Flat as FlatOf, Pack as PackOf}
+use Rattle.river_base.specs.Held.{held, content_from, IsHeld, IsPlain, IsRelation, HaveWidth, batches}
 use Rattle.river_base.specs.Places.{each_grew, list_at}
 use Rattle.kern_rows.specs.Forms.{FilterForm, RunForm}
-use Rattle.kern_rows.specs.Needs.{IsJoiner}
-use Rattle.kern_rows.specs.Stands.{Waiting, Dealing, needs_now}
-use Rattle.kern_rows.specs.Turns.{Turns, IsTurn, shares, ones}
-use Rattle.kern_bags.specs.Kept.{WindowKept, StandsForWindow, StandsForStreamer}
-use Rattle.kern_bags.specs.Steps.{Pairing}
+use Rattle.kern_rows.specs.Stands.{Waiting, needs_now}
+use Rattle.kern_rows.specs.Turns.{IsTurn, shares, ones, itself}
+use Rattle.kern_bags.specs.Contents.{content_of, product}
+use Rattle.kern_bags.specs.Kept.{Stamped, WindowKept, IsWindowKept, StandsForWindow}
+use Rattle.kern_bags.specs.Steps.{Pairing, last_rows}
 use Rattle.kern_bags.specs.declared.kernel.Streamer.{Streamer}
+use Rattle.kern_bags.specs.declared.kernel.Streamer.TheVariants.{Istream, Dstream, Rstream}
 use Rattle.kern_bags.specs.declared.kernel.Window.{Window}
+use Rattle.kern_changes.specs.Counted.{AreSame}
+use Rattle.river_base.specs.Changes.{last_content}
+use Rattle.kern_changes.specs.Joined.{JoinKept, HasJoinShape, StandsForJoining}
+use Rattle.kern_changes.specs.Joined as joined
+use Rattle.kern_changes.specs.Kept.{CrossKept, StandsForCrossing, IsCrossOf}
+use Rattle.kern_changes.specs.Kept as kept
+use Rattle.kern_changes.specs.Owed.{AreOwed, OweLittle, AreDebtsOf}
 use Rattle.river_kernels.specs.declared.types.VarKind.{VarKind}
-use Rattle.river_kernels.specs.Fits.{Fits}
+use Rattle.river_kernels.specs.Fits.{Fits, stream, relation}
 use Rattle.river_kernels.specs.Types.{types_of}
 use Rattle.river_kernels.specs.Kern.{Kern, code, filter, duplicate, deal, collect, packed, unpack, window, select, project, cross, streamer, tally, fused}
-use Rattle.brooklet_model.specs.Firings.{Kept, Fired, feed, splice, beside}
+use Rattle.brooklet_model.specs.Firings.{Kept, Turn, Joining, Received, Crossing, Fired, feed, splice, beside}
 use Rattle.brooklet_model.specs.Fire.{fire, privates, outs, tabs}
 use Rattle.brooklet_model.specs.Typed.{IsOf, IsWordOf, IsStart, between, widths_in, AreWide}
 use Rattle.brooklet_model.specs.Words.{Word, run, at_port, word_of}
 use Rattle.brooklet_step.specs.declared.emit.Emit.{Emit}
+use Rattle.brooklet_step.specs.declared.state.Dealt.{Dealt}
 use Rattle.brooklet_step.specs.declared.state.State.{State}
 use Rattle.brooklet_step.specs.declared.state.State.TheVariants as state
-use Rattle.brooklet_step.specs.Stands.{StandsFor}
+use Rattle.brooklet_step.specs.Stands.{StandsFor, StandsForTurn}
 use Rattle.brooklet_step.specs.Took.{HasRoom, IsBlank}
 
 -- QUEUES AT PORTS
@@ -46,6 +60,22 @@ IsHeldOf types p i = IsHeldBy (slice_get types p) i
 
 abbrev pub AreHeldOf : List QueueType → (ℕ → List item.Item) → Type 0
 AreHeldOf types f = (p : ℕ) → All (IsHeldOf types p) (f p)
+
+-- a queue at a port holds items as they are, and beyond the ports there is none that does not; or it holds changes, alone or in packs
+abbrev pub IsPlainBy : Option QueueType → Type 0
+IsPlainBy None = Unit {0}
+IsPlainBy (Some t) = IsPlain t
+
+abbrev pub IsRelationBy : Option QueueType → Type 0
+IsRelationBy None = ⊥
+IsRelationBy (Some t) = IsRelation t
+
+-- of a relation, how many columns it has
+abbrev pub columns_by : Option QueueType → Option ℕ
+columns_by None = None
+columns_by (Some (FlatOf (Relation n))) = Some n
+columns_by (Some (PackOf (Relation n))) = Some n
+columns_by (Some t) = None
 
 -- WHAT STATES ARE
 
@@ -71,40 +101,42 @@ pub record FitFilter (f : FilterForm) (st : List State) : Type 0 where
   pub few : length now.buffer < needs_now f now.fresh
   pub fresh : MayBeFresh f.first now.fresh
 
-pub record FitTurn (ws : List ℕ) (st : List State) : Type 0 where
-  pub now : Dealing
+-- the turn of a splitter. What its lists owe is as wide as what it reads, and not much
+pub record FitTurn (ws : List ℕ) (reads : List QueueType) (st : List State) : Type 0 where
+  pub now : Dealt
   pub code : st ≡ state.Deal now ∷ []
-  pub turn : IsTurn ws now.port now.had
+  pub turn : IsTurn ws now.turn.port now.turn.had
+  pub lists : length now.owed ≡ length ws
+  pub few : OweLittle now.owed
+  pub wide : (n : ℕ) → columns_by (slice_get reads 0) ≡ Some n → AreDebtsOf n now.owed
 
-pub record FitJoiner (wrap : Turns → State) (ws : List ℕ) (reads : List QueueType) (st : List State) : Type 0 where
-  pub now : Turns
-  pub code : st ≡ wrap now ∷ []
-  pub joined : IsJoiner ws now
-  pub items : AreHeldOf reads (list_at now.lists)
+-- what waits in a joiner is what its queues may hold, and so is what its ports owe
+pub record FitJoiner (ws : List ℕ) (reads : List QueueType) (st : List State) : Type 0 where
+  pub now : JoinKept
+  pub code : st ≡ state.Join now ∷ []
+  pub joined : HasJoinShape ws now
+  pub items : AreHeldOf reads (list_at now.turns.lists)
+  pub few : OweLittle now.owed
+  pub wide : (n : ℕ) → columns_by (slice_get reads 0) ≡ Some n → AreDebtsOf n now.owed
 
--- what a window keeps of some items of its port's type
+-- what a window keeps of some batches, in rows of its port's width
 pub record FitWindow (w : Window) (reads : List QueueType) (st : List State) : Type 0 where
   pub now : WindowKept
   pub code : st ≡ state.Window now ∷ []
-  pub past : List item.Item
-  pub received : All (IsHeldOf reads 0) past
-  pub stands : StandsForWindow w now past
+  pub kept : IsWindowKept w now
+  pub wide : (n : ℕ) → slice_get reads 0 ≡ Some (stream n) → HaveWidth n (map (λ (e : Stamped). e.1) now.rows)
 
--- what a streamer keeps of some
-pub record FitStreamer (s : Streamer) (reads : List QueueType) (st : List State) : Type 0 where
+-- the content that a streamer keeps has rows of its port's width
+pub record FitStreamer (reads : List QueueType) (st : List State) : Type 0 where
   pub now : List (List ℤ)
   pub code : st ≡ state.Streamer now ∷ []
-  pub past : List item.Item
-  pub received : All (IsHeldOf reads 0) past
-  pub stands : StandsForStreamer s now past
-  pub ascends : IsAscending now
+  pub wide : (n : ℕ) → slice_get reads 0 ≡ Some (relation n) → HaveWidth n now
 
--- what waits at the ports of a product is of their types
+-- what waits at the ports of a product, and what passed there, is of their widths
 pub record FitCross (reads : List QueueType) (st : List State) : Type 0 where
-  pub now : Pairing
+  pub now : CrossKept
   pub code : st ≡ state.Cross now ∷ []
-  pub left : All (IsHeldOf reads 0) now.left
-  pub right : All (IsHeldOf reads 1) now.right
+  pub wide : (a b : ℕ) → reads ≡ relation a ∷ relation b ∷ [] → IsCrossOf a b now
 
 -- the states are the kernel's own, and what they keep is what queues of these types may hold. It speaks of the states alone: of
 -- no state of the definition and of no word, since a task also fires on items of which it does not yet know what they stand for
@@ -112,15 +144,15 @@ abbrev pub FitState : Kern → List QueueType → List State → Type 0
 FitState (code k) reads st = FitSlots k.starts st
 FitState (filter f) reads st = FitFilter f st
 FitState (duplicate n) reads st = st ≡ []
-FitState (deal ws) reads st = FitTurn (shares ws) st
-FitState (collect ws) reads st = FitJoiner (λ s. state.Collect s) (shares ws) reads st
+FitState (deal ws) reads st = FitTurn (shares ws) reads st
+FitState (collect ws) reads st = FitJoiner (shares ws) reads st
 FitState (packed k) reads st = FitState k reads st
-FitState (unpack n) reads st = FitJoiner (λ s. state.Unpack s) (ones n) reads st
+FitState (unpack n) reads st = FitJoiner (ones n) reads st
 FitState (window w) reads st = FitWindow w reads st
 FitState (select e) reads st = st ≡ []
 FitState (project es) reads st = st ≡ []
 FitState cross reads st = FitCross reads st
-FitState (streamer s) reads st = FitStreamer s reads st
+FitState (streamer s) reads st = FitStreamer reads st
 FitState tally reads st = st ≡ []
 FitState (fused a b at) reads st = FitState a reads (take (privates a) st) × FitState b (between at (types_of a reads)) (drop (privates a) st)
 
@@ -136,11 +168,79 @@ IsLeaf kernel = Unit {0}
 abbrev pub ran : Kern → List Kept → Word → Fired
 ran k start w = run (fire k) w start
 
+-- a splitter: its turn; and where it deals a relation, what each list owes leads from the content last given there to the content last
+-- received
+pub record DealAfter (ws : List ℤ) (reads : List QueueType) (start : List Kept) (st : List State) (w : Word) : Type 0 where
+  pub stands : StandsForTurn (shares ws) st (ran (deal ws) start w).states
+  pub owed : IsRelationBy (slice_get reads 0)
+      → AreOwed stands.now.owed (λ p. content_from [] ((ran (deal ws) start w).outs p)) (λ p. content_from [] (at_port 0 w))
+
+-- a joiner of relations: what waits stands for the items that wait there by the definition, after contents that passed
+pub record JoinsAfter (k : Kern) (start : List Kept) (now : JoinKept) (w : Word) : Type 0 where
+  pub contents : joined.Joining
+  pub defined : (ran k start w).states ≡ Joining contents.turns ∷ []
+  pub stands : StandsForJoining now contents
+  pub given : contents.last ≡ content_from [] ((ran k start w).outs 0)
+  pub received : (p : ℕ) → p < length contents.turns.lists → content_from (contents.now p) (list_at contents.turns.lists p) ≡ content_from [] (at_port p w)
+
+-- a joiner: the items themselves wait, or changes that stand for them
+pub record JoinAfter (k : Kern) (ws : List ℕ) (reads : List QueueType) (start : List Kept) (st : List State) (w : Word) : Type 0 where
+  pub now : JoinKept
+  pub code : st ≡ state.Join now ∷ []
+  pub shape : HasJoinShape ws now
+  pub plain : IsPlainBy (slice_get reads 0) → (ran k start w).states ≡ Joining now.turns ∷ []
+  pub relation : IsRelationBy (slice_get reads 0) → JoinsAfter k start now w
+
+-- a window: the batches that it has received, of which it keeps what it keeps; what was given is its content
+pub record WindowAfter (v : Window) (start : List Kept) (st : List State) (w : Word) : Type 0 where
+  pub now : WindowKept
+  pub past : List item.Item
+  pub code : st ≡ state.Window now ∷ []
+  pub defined : (ran (window v) start w).states ≡ Received past ∷ []
+  pub stands : StandsForWindow v now past
+  pub given : content_of v (batches past) ≡ content_from [] ((ran (window v) start w).outs 0)
+
+-- batches as items
+abbrev pub as_batches : List Batch → List item.Item
+as_batches bs = map (λ b. Flat (Batched b)) bs
+
+-- a product: the contents that passed last and those that wait, for which the kept changes stand
+pub record CrossAfter (start : List Kept) (st : List State) (w : Word) : Type 0 where
+  pub now : CrossKept
+  pub contents : kept.Crossing
+  pub code : st ≡ state.Cross now ∷ []
+  pub defined : (ran cross start w).states ≡ Crossing (record { left = as_batches contents.left; right = as_batches contents.right }) ∷ []
+  pub stands : StandsForCrossing now contents
+  pub given : content_from [] ((ran cross start w).outs 0) ≡ product contents.lefts contents.rights
+  pub left : content_from [] (at_port 0 w) ≡ last_content contents.lefts contents.left
+  pub right : content_from [] (at_port 1 w) ≡ last_content contents.rights contents.right
+
+-- what a streamer keeps of the content: all of it as a bag, where it gives all of it
+abbrev pub KeepsContent : Streamer → List (List ℤ) → List (List ℤ) → Type 0
+KeepsContent Istream now content = Unit {0}
+KeepsContent Dstream now content = Unit {0}
+KeepsContent Rstream now content = AreSame now content
+
+-- a streamer: the last of the contents that it has received is that of its queue
+pub record StreamerAfter (s : Streamer) (start : List Kept) (st : List State) (w : Word) : Type 0 where
+  pub now : List (List ℤ)
+  pub past : List item.Item
+  pub code : st ≡ state.Streamer now ∷ []
+  pub defined : (ran (streamer s) start w).states ≡ Received past ∷ []
+  pub last : last_rows (batches past) ≡ content_from [] (at_port 0 w)
+  pub kept : KeepsContent s now (content_from [] (at_port 0 w))
+
 -- the states stand for the definition's states after this word of firings, which began at its states `start`; so where the word is empty,
 -- they stand for `start`. The queues at the ports begin there too: what a queue has is what it holds for the items of the word, as though
--- none had come before the start, whatever `start` keeps
+-- none had come before the start. So where a relation passes, the states stand for such a start alone whose last contents are empty
 abbrev pub StandsAfter : Kern → List QueueType → List Kept → List State → Word → Type 0
+StandsAfter (deal ws) reads start st w = DealAfter ws reads start st w
+StandsAfter (collect ws) reads start st w = JoinAfter (collect ws) (shares ws) reads start st w
 StandsAfter (packed k) reads start st w = StandsAfter k reads start st w
+StandsAfter (unpack n) reads start st w = JoinAfter (unpack n) (ones n) reads start st w
+StandsAfter (window v) reads start st w = WindowAfter v start st w
+StandsAfter cross reads start st w = CrossAfter start st w
+StandsAfter (streamer s) reads start st w = StreamerAfter s start st w
 StandsAfter (fused a b at) reads start st w =
     StandsAfter a reads (take (privates a) start) (take (privates a) st) w
     × StandsAfter b (between at (types_of a reads)) (drop (privates a) start) (drop (privates a) st) (word_of 0 ((ran a (take (privates a) start) w).outs at))

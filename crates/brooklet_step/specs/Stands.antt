@@ -3,30 +3,24 @@ use Rattle.std.specs.Prelude.{◌≡◌, ℕ, ℤ, List, [], ◌∷◌, length}
 use Rattle.river_base.specs.declared.item.Item as item
 use Rattle.river_base.specs.declared.item.Item.TheVariants.{Flat, Pack}
 use Rattle.river_base.specs.declared.item.Flat as flat
-use Rattle.river_base.specs.declared.item.Flat.TheVariants.{One, Batch as Batched}
+use Rattle.river_base.specs.declared.item.Flat.TheVariants.{One, Batch as Batched, Change as Changed}
 use Rattle.river_base.specs.declared.item.Batch.{Batch}
+use Rattle.river_base.specs.declared.item.Change.{Change}
 use Rattle.river_base.specs.declared.kind.QueueType.{QueueType}
-use Rattle.river_base.specs.Held.{IsAscending}
 use Rattle.river_base.specs.Places.{none}
 use Rattle.work_code.specs.Steps.{Body}
-use Rattle.kern_bags.specs.Kept.{WindowKept, IsWindowKept, Steps}
-use Rattle.kern_bags.specs.Kept as bags
-use Rattle.kern_bags.specs.Needs.{CanCross}
-use Rattle.kern_bags.specs.Steps.{Pairing, put_pair, crosses}
-use Rattle.kern_bags.specs.declared.kernel.Streamer.{Streamer}
-use Rattle.kern_bags.specs.declared.kernel.Window.{Window}
 use Rattle.kern_rows.specs.Forms.{CodeForm, FilterForm}
-use Rattle.kern_rows.specs.Needs.{IsJoiner}
 use Rattle.kern_rows.specs.Runs.{Filtering, run_kept, pushed_to}
-use Rattle.kern_rows.specs.Stands.{Waiting, StandsForFiltering, Dealing}
-use Rattle.kern_rows.specs.Turns.{Turns, IsTurn, shares, ones}
+use Rattle.kern_rows.specs.Stands.{Waiting, StandsForFiltering}
+use Rattle.kern_rows.specs.Turns.{IsTurn}
 use Rattle.river_kernels.specs.declared.types.VarKind.{VarKind}
 use Rattle.river_kernels.specs.Fits.{Fits}
 use Rattle.river_kernels.specs.Kern.{Kern, code, filter, duplicate, deal, collect, packed, unpack, window, select, project, cross, streamer, tally, fused}
-use Rattle.brooklet_model.specs.Firings.{Kept, Slots, Buffered, Turn, Joining, Received, Crossing, Fired, gives}
+use Rattle.brooklet_model.specs.Firings.{Kept, Slots, Buffered, Turn, Fired}
 use Rattle.brooklet_model.specs.Fire.{code_one}
 use Rattle.brooklet_model.specs.Typed.{IsOf, Holds}
 use Rattle.brooklet_step.specs.declared.emit.Emit.{Emit}
+use Rattle.brooklet_step.specs.declared.state.Dealt.{Dealt}
 use Rattle.brooklet_step.specs.declared.state.State.{State}
 use Rattle.brooklet_step.specs.declared.state.State.TheVariants as state
 use Rattle.brooklet_step.specs.Took.{Took, HasRoom}
@@ -57,58 +51,29 @@ pub record StandsForFilter (f : FilterForm) (st : List State) (ks : List Kept) :
   pub stands : StandsForFiltering f now seen
   pub count : length now.kept ≡ length f.starts
 
--- the turn of a splitter
+-- the turn of a splitter, and what its lists owe
 pub record StandsForTurn (ws : List ℕ) (st : List State) (ks : List Kept) : Type 0 where
-  pub now : Dealing
+  pub now : Dealt
   pub code : st ≡ state.Deal now ∷ []
-  pub defined : ks ≡ Turn now.port now.had ∷ []
-  pub turn : IsTurn ws now.port now.had
+  pub defined : ks ≡ Turn now.turn.port now.turn.had ∷ []
+  pub turn : IsTurn ws now.turn.port now.turn.had
+  pub lists : length now.owed ≡ length ws
 
--- what waits in a joiner, and its turn; `wrap` says of which kind the kept state is
-pub record StandsForJoiner (wrap : Turns → State) (ws : List ℕ) (st : List State) (ks : List Kept) : Type 0 where
-  pub now : Turns
-  pub code : st ≡ wrap now ∷ []
-  pub defined : ks ≡ Joining now ∷ []
-  pub joined : IsJoiner ws now
-
--- what a window keeps of all that it has received
-pub record StandsForWindow (w : Window) (st : List State) (ks : List Kept) : Type 0 where
-  pub now : WindowKept
-  pub past : List item.Item
-  pub code : st ≡ state.Window now ∷ []
-  pub defined : ks ≡ Received past ∷ []
-  pub stands : bags.StandsForWindow w now past
-
--- what a streamer keeps of all that it has received, in ascending order
-pub record StandsForStreamer (s : Streamer) (st : List State) (ks : List Kept) : Type 0 where
-  pub now : List (List ℤ)
-  pub past : List item.Item
-  pub code : st ≡ state.Streamer now ∷ []
-  pub defined : ks ≡ Received past ∷ []
-  pub stands : bags.StandsForStreamer s now past
-  pub ascends : IsAscending now
-
--- what waits at the ports of a product
-pub record StandsForCross (st : List State) (ks : List Kept) : Type 0 where
-  pub now : Pairing
-  pub code : st ≡ state.Cross now ∷ []
-  pub defined : ks ≡ Crossing now ∷ []
-
--- the states that the code keeps stand for these, of a kernel without a kernel inside. Those of other kernels stand for what they
--- are after a word of firings, and not for states alone
+-- the states that the code keeps stand for these, of a kernel that keeps no items and no contents. Those of other kernels stand for
+-- what they are after a word of firings, and not for states alone
 abbrev pub StandsFor : Kern → List State → List Kept → Type 0
 StandsFor (code k) st ks = StandsForSlots k.starts st ks
 StandsFor (filter f) st ks = StandsForFilter f st ks
 StandsFor (duplicate n) st ks = AreNone st ks
-StandsFor (deal ws) st ks = StandsForTurn (shares ws) st ks
-StandsFor (collect ws) st ks = StandsForJoiner (λ s. state.Collect s) (shares ws) st ks
+StandsFor (deal ws) st ks = ⊥
+StandsFor (collect ws) st ks = ⊥
 StandsFor (packed k) st ks = ⊥
-StandsFor (unpack n) st ks = StandsForJoiner (λ s. state.Unpack s) (ones n) st ks
-StandsFor (window w) st ks = StandsForWindow w st ks
+StandsFor (unpack n) st ks = ⊥
+StandsFor (window w) st ks = ⊥
 StandsFor (select e) st ks = AreNone st ks
 StandsFor (project es) st ks = AreNone st ks
-StandsFor cross st ks = StandsForCross st ks
-StandsFor (streamer s) st ks = StandsForStreamer s st ks
+StandsFor cross st ks = ⊥
+StandsFor (streamer s) st ks = ⊥
 StandsFor tally st ks = AreNone st ks
 StandsFor (fused a b at) st ks = ⊥
 
@@ -127,6 +92,11 @@ pub record IsBatch (x : item.Item) : Type 0 where
   pub batch : Batch
   pub is : x ≡ Flat (Batched batch)
 
+-- the item is a change
+pub record IsChange (x : item.Item) : Type 0 where
+  pub change : Change
+  pub is : x ≡ Flat (Changed change)
+
 -- the item is no pack, and this holds of it
 pub record IsFlatWith (P : flat.Flat → Type 0) (x : item.Item) : Type 0 where
   pub content : flat.Flat
@@ -135,41 +105,6 @@ pub record IsFlatWith (P : flat.Flat → Type 0) (x : item.Item) : Type 0 where
 
 abbrev pub IsFlat : item.Item → Type 0
 IsFlat x = IsFlatWith (λ f. Unit {0}) x
-
--- the state is what a window keeps
-pub record IsWindowState (w : Window) (s : State) : Type 0 where
-  pub now : WindowKept
-  pub is : s ≡ state.Window now
-  pub kept : IsWindowKept w now
-
--- the state is what a streamer keeps
-pub record IsStreamerState (s : State) : Type 0 where
-  pub now : List (List ℤ)
-  pub is : s ≡ state.Streamer now
-  pub ascends : IsAscending now
-
--- the state is what a product keeps, and its rows can be joined once the item has come to this port
-pub record IsCrossState (port : ℕ) (x : item.Item) (s : State) : Type 0 where
-  pub now : Pairing
-  pub is : s ≡ state.Cross now
-  pub can : CanCross (put_pair port x now)
-
--- a window or a streamer received the item: what its step gave came to the first list
-pub record Stepped {S : Type 0} (wrap : S → State) (stands_for : S → List item.Item → Type 0) (one : List item.Item → item.Item → List item.Item) (x : item.Item) (s s' : State) (out out' : Emit) : Type 0 where
-  pub old : S
-  pub new : S
-  pub given : List item.Item
-  pub was : s ≡ wrap old
-  pub is : s' ≡ wrap new
-  pub steps : Steps stands_for one x old new [] given
-  pub took : Took out out' (gives 0 given [])
-
--- the item came to a port of a product: the pairs that passed came to the first list
-pub record Paired (port : ℕ) (x : item.Item) (s s' : State) (out out' : Emit) : Type 0 where
-  pub old : Pairing
-  pub was : s ≡ state.Cross old
-  pub is : s' ≡ state.Cross (crosses port x old).1
-  pub took : Took out out' (gives 0 (crosses port x old).0 [])
 
 -- the state is so many slots
 pub record IsSlots (n : ℕ) (s : State) : Type 0 where

@@ -1,8 +1,15 @@
 // What kernels keep between firings.
 
-use kern_bags::{CrossState, StreamerState, WindowState};
-use kern_rows::{CollectState, DealState, FilterState, UnpackState};
+use kern_changes::{Content, CrossRows, JoinItems, Owed, WindowRows};
+use kern_rows::{DealState, FilterState};
 use river_base::{Listed, Numbers};
+
+/// What a splitter keeps: its turn, and where it deals a relation what each list owes.
+#[derive(Drop)]
+pub struct Dealt {
+    pub turn: DealState,
+    pub owed: Owed,
+}
 
 /// What one private variable of a kernel keeps between firings.
 #[derive(Drop)]
@@ -11,18 +18,16 @@ pub enum State {
     Slots(Numbers),
     /// What a filter keeps.
     Filter(FilterState),
-    /// The turn of a splitter.
-    Deal(DealState),
-    /// What a joiner keeps.
-    Collect(CollectState),
-    /// What a joiner of packs keeps.
-    Unpack(UnpackState),
+    /// The turn of a splitter, and what its lists owe.
+    Deal(Dealt),
+    /// What waits in a joiner, of packs or not, and what its ports owe.
+    Join(JoinItems),
     /// What a window keeps.
-    Window(WindowState),
+    Window(WindowRows),
     /// What a product keeps.
-    Cross(CrossState),
-    /// What a streamer keeps.
-    Streamer(StreamerState),
+    Cross(CrossRows),
+    /// The content that a streamer keeps.
+    Streamer(Content),
 }
 
 /// A state for each private variable of a kernel; of two kernels, those of the first and then those of the second.

@@ -16,6 +16,7 @@ mod unpack;
 pub use collect::CollectState;
 pub use even::EvenRows;
 pub use filter::FilterState;
+pub use joined::Joined;
 pub use kernel::{CodeKernel, Collect, Deal, Filter, First, Unpack};
 pub use line::Line;
 pub use turn::DealState;
