@@ -45,17 +45,14 @@ module _ (F : List (List ℤ) → List (List ℤ)) where
       → content_from (F c) ((run image w ss).outs 0) ≡ F (content_from c (at_port 0 w))
   image_from n [] ss c a = refl
   image_from n (e ∷ es) ss c a =
-      go e.1 (typed_first (relation n) e.0 e.1 a.0) ∙ ap (λ l. F (content_from c l)) (sym (at_port_here 0 e es (typed_port (relation n) e.0 e.1 a.0)))
+      go (λ d. image_from n es ss d a.1) e.1 (typed_first (relation n) e.0 e.1 a.0) ∙ ap (λ l. F (content_from c l)) (sym (at_port_here 0 e es (typed_port (relation n) e.0 e.1 a.0)))
     where
-      rest : (d : List (List ℤ)) → content_from (F d) ((run image es ss).outs 0) ≡ F (content_from d (at_port 0 es))
-      rest d = image_from n es ss d a.1
-
-      go : (x : item.Item) → HasType (relation n) x
+      go : ((d : List (List ℤ)) → content_from (F d) ((run image es ss).outs 0) ≡ F (content_from d (at_port 0 es))) → (x : item.Item) → HasType (relation n) x
           → content_from (F c) (with_rows (λ b. F b.rows) x ++ (run image es ss).outs 0) ≡ F (content_from c (x ∷ at_port 0 es))
-      go (Flat (Batched b)) h = rest b.rows
-      go (Flat (One row)) h = absurd h
-      go (Flat (Changed c)) h = absurd h
-      go (Pack fs) h = absurd h
+      go rest (Flat (Batched b)) h = rest b.rows
+      go rest (Flat (One row)) h = absurd h
+      go rest (Flat (Changed d)) h = absurd h
+      go rest (Pack fs) h = absurd h
 
   -- what a step gives that follows the function is what the queue holds
   image_held : (n m : ℕ) (c d : Change) → [] ≡ F [] → FollowsContent F c d → (w : Word) (ss : List Kept) (x : item.Item) → IsWordOf (relation n ∷ []) w

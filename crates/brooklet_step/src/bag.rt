@@ -81,9 +81,9 @@ fn select_rows(cond: &Expr, batch: Batch, out: &mut Emit) -> Result<(), NoMemory
     requires { CanTake (select_kern (term cond.now)) 0 (variant.Flat (flat.Batch batch)) [] out.old }
     ensures { OnOk result (FiresAt (select_kern (term cond.now)) 0 (variant.Flat (flat.Batch batch)) out.old out.new [] []) }
 {
-    let mut rows = batch.rows;
-    keep_rows(cond, &mut rows);
-    give_batch(Batch { at: batch.at, rows }, out)
+    let mut kept = batch;
+    keep_rows(cond, &mut kept.rows);
+    give_batch(kept, out)
 }
 
 // A change comes to a selection.
@@ -102,7 +102,8 @@ pub fn fire_select(cond: &Expr, item: Item, out: &mut Emit) -> Result<(), NoMemo
     match item {
         Item::Flat(Flat::Batch(batch)) => select_rows(cond, batch, out),
         Item::Flat(Flat::Change(change)) => select_change(cond, change, out),
-        Item::Flat(Flat::One(_)) | Item::Pack(_) => unreachable!(),
+        Item::Flat(Flat::One(_)) => unreachable!(),
+        Item::Pack(_) => unreachable!(),
     }
 }
 
