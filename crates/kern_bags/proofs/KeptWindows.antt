@@ -12,7 +12,7 @@ use Rattle.river_base.specs.Row.{copies, in_order}
 use Rattle.river_base.specs.declared.item.Batch.{Batch}
 use Rattle.river_base.specs.declared.item.Item as item
 use Rattle.river_base.specs.declared.item.Item.TheVariants.{Flat, Pack}
-use Rattle.river_base.specs.declared.item.Flat.TheVariants.{One, Batch as Batched}
+use Rattle.river_base.specs.declared.item.Flat.TheVariants.{One, Batch as Batched, Change as Changed}
 use Rattle.river_base.specs.Held.{batches}
 use Rattle.river_base.proofs.Counts.{permutation_from_copies}
 use Rattle.river_base.proofs.Rows.{in_order-IsPermutation}
@@ -344,6 +344,7 @@ pub batches_more : (past : List item.Item) (b : Batch) → batches (past ++ Flat
 batches_more [] b = refl
 batches_more (Flat (Batched c) ∷ xs) b = ap (λ l. c ∷ l) (batches_more xs b)
 batches_more (Flat (One row) ∷ xs) b = batches_more xs b
+batches_more (Flat (Changed c) ∷ xs) b = batches_more xs b
 batches_more (Pack fs ∷ xs) b = batches_more xs b
 
 -- a batch comes: its rows are inserted, those that have left are let go, and the others are given

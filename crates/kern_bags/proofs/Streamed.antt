@@ -3,9 +3,10 @@ use Rattle.std.proofs.Common.{◌≡◌, ℤ, List, [], ◌∷◌, ◌++◌, ref
 use Rattle.std.specs.Prelude.{Result, Ok, Err, OnOk}
 use Rattle.std.proofs.lemmas.List.{append-nil}
 use Rattle.river_base.specs.declared.item.Batch.{Batch}
+use Rattle.river_base.specs.declared.item.Change.{Change}
 use Rattle.river_base.specs.declared.item.Item as item
 use Rattle.river_base.specs.declared.item.Item.TheVariants.{Flat, Pack}
-use Rattle.river_base.specs.declared.item.Flat.TheVariants.{One, Batch as Batched}
+use Rattle.river_base.specs.declared.item.Flat.TheVariants.{One, Batch as Batched, Change as Changed}
 use Rattle.river_base.specs.Held.{batches}
 use Rattle.kern_bags.specs.Contents.{difference}
 use Rattle.kern_bags.specs.Kept.{StandsForStreamer, Steps}
@@ -45,7 +46,21 @@ batches_same : (past : List item.Item) (row : List ℤ) → batches (past ++ Fla
 batches_same [] row = refl
 batches_same (Flat (Batched c) ∷ xs) row = ap (λ l. c ∷ l) (batches_same xs row)
 batches_same (Flat (One r) ∷ xs) row = batches_same xs row
+batches_same (Flat (Changed c) ∷ xs) row = batches_same xs row
 batches_same (Pack fs ∷ xs) row = batches_same xs row
+
+batches_as : (past : List item.Item) (d : Change) → batches (past ++ Flat (Changed d) ∷ []) ≡ batches past
+batches_as [] d = refl
+batches_as (Flat (Batched c) ∷ xs) d = ap (λ l. c ∷ l) (batches_as xs d)
+batches_as (Flat (One r) ∷ xs) d = batches_as xs d
+batches_as (Flat (Changed c) ∷ xs) d = batches_as xs d
+batches_as (Pack fs ∷ xs) d = batches_as xs d
+
+pub change_steps : (s : Streamer) (d : Change) (kept : List (List ℤ)) (out : List item.Item)
+    → Steps (StandsForStreamer s) (streamer_one s) (Flat (Changed d)) kept kept out out
+change_steps Istream d kept out = record { each = λ past h. (sym (append-nil out), h ∙ ap last_rows (sym (batches_as past d))) }
+change_steps Dstream d kept out = record { each = λ past h. (sym (append-nil out), h ∙ ap last_rows (sym (batches_as past d))) }
+change_steps Rstream d kept out = record { each = λ past h. (sym (append-nil out), tt) }
 
 -- an item that is no batch
 pub row_steps : (s : Streamer) (row : List ℤ) (kept : List (List ℤ)) (out : List item.Item)

@@ -1,24 +1,13 @@
 -- Bags of rows, and the operators of CQL on whole contents (Arasu, Babu, Widom, 2006).
 use Rattle.std.specs.Prelude.{ℕ, ℤ, pos, ◌-◌, ◌-ℤ◌, Bool, List, [], ◌∷◌, ◌++◌, length, drop, map, filter, flat_map, fold, ◌&&◌, int_le, int_lt, if◌then◌else◌}
 use Rattle.std.specs.Ordering.{int_eq}
-use Rattle.river_base.specs.Row.{row_eq, in_order}
+pub use Rattle.river_base.specs.Changes.{take_out, without, difference}
+use Rattle.river_base.specs.Row.{in_order}
 use Rattle.river_base.specs.declared.item.Batch.{Batch}
 use Rattle.work_code.specs.Term.{Term}
 use Rattle.work_code.specs.Value.{val, is_true}
 use Rattle.kern_bags.specs.declared.kernel.Window.{Window}
 use Rattle.kern_bags.specs.declared.kernel.Window.TheVariants.{Now, Range, Unbounded, Latest}
-
--- the bag difference: each row of the second bag takes one such row away, where there is one
-abbrev pub take_out : List ℤ → List (List ℤ) → List (List ℤ)
-take_out y [] = []
-take_out y (x ∷ xs) = if row_eq x y then xs else x ∷ take_out y xs
-
-abbrev pub without : List (List ℤ) → List (List ℤ) → List (List ℤ)
-without xs [] = xs
-without xs (y ∷ ys) = without (take_out y xs) ys
-
-abbrev pub difference : List (List ℤ) → List (List ℤ) → List (List ℤ)
-difference xs ys = in_order (without xs ys)
 
 -- the rows for which the expression is not 0, in their order
 abbrev pub selected : Term → List (List ℤ) → List (List ℤ)

@@ -3,7 +3,7 @@ use Rattle.std.specs.Prelude.{◌≡◌, ℕ, ℤ, ◌+◌, ◌≤◌, None, Lis
 use Rattle.std.specs.List.{AllByRecursion}
 use Rattle.river_base.specs.declared.item.Item as item
 use Rattle.river_base.specs.declared.item.Flat as flat
-use Rattle.river_base.specs.declared.item.Flat.TheVariants.{One, Batch as Batched}
+use Rattle.river_base.specs.declared.item.Flat.TheVariants.{One, Batch as Batched, Change as Changed}
 use Rattle.river_base.specs.Held.{HaveWidth}
 use Rattle.river_base.specs.Row.{row_lt}
 use Rattle.work_code.specs.Term.{Term}
@@ -13,6 +13,7 @@ use Rattle.kern_bags.specs.Steps.{Pairing, rows_of, front_of_pair}
 -- the rows of an item that is no pack
 abbrev pub flat_rows : flat.Flat → List (List ℤ)
 flat_rows (One row) = []
+flat_rows (Changed c) = []
 flat_rows (Batched b) = b.rows
 
 -- the expression reads only fields that each row has, and no slot

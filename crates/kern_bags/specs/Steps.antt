@@ -2,7 +2,7 @@
 use Rattle.std.specs.Prelude.{ℕ, zero, suc, ℤ, ◌+◌, List, [], ◌∷◌, ◌++◌, length, Option, Some, None}
 use Rattle.river_base.specs.declared.item.Batch.{Batch}
 use Rattle.river_base.specs.declared.item.Item as item
-use Rattle.river_base.specs.declared.item.Flat.TheVariants.{One, Batch as Batched}
+use Rattle.river_base.specs.declared.item.Flat.TheVariants.{One, Batch as Batched, Change as Changed}
 use Rattle.river_base.specs.declared.item.Item.TheVariants.{Flat, Pack}
 use Rattle.river_base.specs.Held.{with_rows, batches}
 use Rattle.river_base.specs.Drain.{drain}
@@ -50,6 +50,7 @@ pairing_start = record { left = []; right = [] }
 abbrev pub rows_of : item.Item → List (List ℤ)
 rows_of (Flat (Batched b)) = b.rows
 rows_of (Flat (One row)) = []
+rows_of (Flat (Changed c)) = []
 rows_of (Pack fs) = []
 
 -- two contents joined, at the instant of the first

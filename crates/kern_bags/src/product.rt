@@ -17,7 +17,7 @@ pub fn join_pair(alloc: Global, left: &Item, right: &Item, out: &mut Items) -> R
 {
     match left {
         Item::Flat(Flat::Batch(batch)) => join_batch(alloc, batch, right, out),
-        Item::Flat(Flat::One(_)) | Item::Pack(_) => Ok(()),
+        Item::Flat(Flat::One(_) | Flat::Change(_)) | Item::Pack(_) => Ok(()),
     }
 }
 
@@ -38,7 +38,7 @@ fn rows_of(item: &Item) -> &[Row]
 {
     match item {
         Item::Flat(Flat::Batch(batch)) => batch.rows.as_slice(),
-        Item::Flat(Flat::One(_)) | Item::Pack(_) => &[],
+        Item::Flat(Flat::One(_) | Flat::Change(_)) | Item::Pack(_) => &[],
     }
 }
 

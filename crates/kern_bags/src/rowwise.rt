@@ -21,7 +21,7 @@ pub fn select(cond: &Expr, item: Flat, out: &mut Items) -> Result<(), NoMemory>
     ensures err { OnErr result (out.new ≡ out.old) }
 {
     match item {
-        Flat::One(_) => Ok(()),
+        Flat::One(_) | Flat::Change(_) => Ok(()),
         Flat::Batch(batch) => select_batch(cond, batch, out),
     }
 }
@@ -69,7 +69,7 @@ pub fn project(list: &Exprs, item: Flat, out: &mut Items) -> Result<(), NoMemory
     ensures err { OnErr result (out.new ≡ out.old) }
 {
     match item {
-        Flat::One(_) => Ok(()),
+        Flat::One(_) | Flat::Change(_) => Ok(()),
         Flat::Batch(batch) => project_batch(list, batch, out),
     }
 }

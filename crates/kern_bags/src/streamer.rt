@@ -105,6 +105,7 @@ impl Streamer {
     {
         match item {
             Flat::One(_) => Ok(()),
+            Flat::Change(_) => Ok(()),
             Flat::Batch(batch) => self.step_batch(alloc, state, batch, out),
         }
     }

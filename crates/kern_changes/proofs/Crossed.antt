@@ -10,8 +10,8 @@ use Rattle.river_base.specs.declared.item.Batch.{Batch}
 use Rattle.river_base.proofs.Counts.{permutation_from_copies}
 use Rattle.kern_bags.specs.Contents.{difference, product}
 use Rattle.kern_bags.proofs.Copies.{sum-cong}
-use Rattle.kern_changes.specs.declared.change.Change.{Change}
-use Rattle.kern_changes.specs.Changes.{change_to, changes, last_content, cancelled, LeadsTo, all_pairs, IsWideChange, GaveChanges}
+use Rattle.river_base.specs.declared.item.Change.{Change}
+use Rattle.river_base.specs.Changes.{change_to, changes, last_content, cancelled, LeadsTo, all_pairs, IsWideChange, GaveChanges}
 use Rattle.kern_changes.specs.Counted.{AreSame}
 use Rattle.kern_changes.specs.Kept.{stamped_as, CrossKept, Crossing, crossing, passing, passed_pairs, StandsForCrossing, Crosses, IsCrossOf, CrossFits}
 use Rattle.kern_changes.specs.Needs.{CanCrossChanges, CanMake, TakesChanges, HasNoChanges, JoinsChanges}

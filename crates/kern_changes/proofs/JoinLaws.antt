@@ -71,6 +71,10 @@ record HeldLast (fs : List flat.Flat) (f : flat.Flat) (before : List (List ℤ))
   rest : fs ≡ held_flats before front
   end : f ≡ held_flat (after_flats before front) g
 
+held_last_on : (fs : List flat.Flat) (f x : flat.Flat) (before : List (List ℤ)) (g : flat.Flat) (gs : List flat.Flat) → x ≡ held_flat before g
+    → HeldLast fs f (after_flat before g) gs → HeldLast (x ∷ fs) f before (g ∷ gs)
+held_last_on fs f x before g gs first l = record { front = g ∷ l.front; g = l.g; is = λ i. g ∷ l.is i; rest = λ i. first i ∷ l.rest i; end = l.end }
+
 held_last : (fs : List flat.Flat) (f : flat.Flat) (before : List (List ℤ)) (gs : List flat.Flat) → fs ++ f ∷ [] ≡ held_flats before gs → HeldLast fs f before gs
 held_last [] f before [] e = absurd (cc e)
 held_last [] f before (g ∷ []) e = record { front = []; g = g; is = refl; rest = refl; end = cc e }
@@ -78,8 +82,7 @@ held_last [] f before (g ∷ h ∷ gs) e = absurd (cc e)
 held_last (x ∷ fs) f before [] e = absurd (cc e)
 held_last (x ∷ fs) f before (g ∷ gs) e =
     let first : x ≡ held_flat before g = cc e in
-    let l = held_last fs f (after_flat before g) gs (cc e) in
-    record { front = g ∷ l.front; g = l.g; is = ap (λ r. g ∷ r) l.is; rest = λ i. first i ∷ l.rest i; end = l.end }
+    held_last_on fs f x before g gs first (held_last fs f (after_flat before g) gs (cc e))
 
 -- PARTS OF LISTS
 

@@ -15,9 +15,9 @@ use Rattle.work_code.specs.Term.{Term}
 use Rattle.work_code.specs.Value.{val, is_true}
 use Rattle.kern_bags.specs.Contents.{without, difference, selected, projected, product}
 use Rattle.kern_bags.proofs.Copies.{count-append, copies-in_order, copies-without, differences_are, sum-cong}
-use Rattle.kern_changes.specs.declared.change.Change.{Change}
-use Rattle.kern_changes.specs.Changes.{content_after, ChangesInto, StandForContents, IsNormal, AllNormal, AllAscending, change_to, changes, last_content, cancelled, LeadsTo}
-use Rattle.kern_changes.specs.Changes.{all_pairs}
+use Rattle.river_base.specs.declared.item.Change.{Change}
+use Rattle.river_base.specs.Changes.{content_after, ChangesInto, StandForContents, IsNormal, AllNormal, AllAscending, change_to, changes, last_content, cancelled, LeadsTo}
+use Rattle.river_base.specs.Changes.{all_pairs}
 
 -- SUMS OVER LISTS
 

@@ -7,9 +7,9 @@ use Rattle.std.proofs.lemmas.List.Sums.{sum_by-append}
 use Rattle.std.proofs.lemmas.Bool.{cases_eq}
 use Rattle.river_base.specs.Held.{HaveWidth}
 use Rattle.kern_bags.specs.Contents.{difference}
-use Rattle.kern_changes.specs.declared.change.Change.{Change}
+use Rattle.river_base.specs.declared.item.Change.{Change}
 use Rattle.kern_changes.specs.declared.owed.Debt.{Debt}
-use Rattle.kern_changes.specs.Changes.{change_to, cancelled, LeadsTo, IsNormal, IsWideChange}
+use Rattle.river_base.specs.Changes.{change_to, cancelled, LeadsTo, IsNormal, IsWideChange}
 use Rattle.kern_changes.specs.Owed.{no_debt, debt_at, owed_start, owing_more, netted, tidied, owing, BeginsNetted, OwesLittle, OweLittle, AreDebtsOf, but_at, DealsOwed, JoinsOwed, KeepsOwed}
 use Rattle.kern_changes.proofs.Leading.{cancelled_is, cancelled_normal, change_leads, leads_back, leads_none}
 use Rattle.kern_changes.proofs.Widths.{wide_append, wide_difference}

@@ -8,8 +8,8 @@ use Rattle.river_base.specs.Row.{row_eq}
 use Rattle.work_code.specs.Term.{Term}
 use Rattle.work_code.specs.Value.{val, is_true}
 use Rattle.kern_bags.specs.Contents.{selected, projected}
-use Rattle.kern_changes.specs.declared.change.Change.{Change}
-use Rattle.kern_changes.specs.Changes.{cancelled, all_pairs, IsChangeOf}
+use Rattle.river_base.specs.declared.item.Change.{Change}
+use Rattle.river_base.specs.Changes.{cancelled, all_pairs, IsChangeOf}
 use Rattle.kern_changes.specs.Counted.{CameOne, WentOne, CameAll, WentAll, Changed}
 use Rattle.kern_changes.specs.Kept.{FollowsContent}
 use Rattle.kern_changes.proofs.Leading.{change_selected, change_projected, selected_normal}

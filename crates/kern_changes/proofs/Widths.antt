@@ -14,8 +14,8 @@ use Rattle.work_code.specs.Value.{val}
 use Rattle.kern_bags.specs.Contents.{take_out, without, difference}
 use Rattle.kern_bags.specs.Needs.{CanJoin}
 use Rattle.kern_bags.proofs.Copies.{count-append, copies-without}
-use Rattle.kern_changes.specs.declared.change.Change.{Change}
-use Rattle.kern_changes.specs.Changes.{cancelled, all_pairs, IsChangeOf, GaveChanges}
+use Rattle.river_base.specs.declared.item.Change.{Change}
+use Rattle.river_base.specs.Changes.{cancelled, all_pairs, IsChangeOf, GaveChanges}
 use Rattle.kern_changes.specs.Counted.{Changed}
 use Rattle.kern_changes.proofs.Leading.{cancelled_normal}
 

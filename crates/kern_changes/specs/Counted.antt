@@ -1,7 +1,7 @@
 -- A bag of rows by the number of copies of each.
 use Rattle.std.specs.Prelude.{◌≡◌, ◌+◌, ◌-◌, ℕ, ℤ, List, [], ◌∷◌, ◌++◌, replicate, if◌then◌else◌}
 use Rattle.river_base.specs.Row.{row_eq, copies}
-use Rattle.kern_changes.specs.declared.change.Change.{Change}
+use Rattle.river_base.specs.declared.item.Change.{Change}
 
 -- each row so often
 abbrev pub rows_counted : List (List ℤ × ℕ) → List (List ℤ)

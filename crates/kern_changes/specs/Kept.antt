@@ -12,8 +12,8 @@ use Rattle.kern_bags.specs.declared.kernel.Window.{Window}
 use Rattle.kern_bags.specs.declared.kernel.Streamer.{Streamer}
 use Rattle.kern_bags.specs.declared.kernel.Streamer.TheVariants.{Rstream}
 use Rattle.kern_changes.specs.Counted.{AreSame}
-use Rattle.kern_changes.specs.declared.change.Change.{Change}
-use Rattle.kern_changes.specs.Changes.{change_to, changes, IsWideChange, IsChangeOf, GaveChanges}
+use Rattle.river_base.specs.declared.item.Change.{Change}
+use Rattle.river_base.specs.Changes.{change_to, changes, IsWideChange, IsChangeOf, GaveChanges}
 
 -- a batch with these rows at the instant of another
 abbrev pub stamped_as : Batch → List (List ℤ) → Batch

@@ -3,8 +3,8 @@ use Rattle.std.specs.Prelude.{◌≡◌, ℕ, ℤ, List, [], length}
 use Rattle.river_base.specs.declared.item.Batch.{Batch}
 use Rattle.kern_rows.specs.Needs.{HaveShares}
 use Rattle.kern_rows.specs.Turns.{turns_start}
-use Rattle.kern_changes.specs.declared.change.Change.{Change}
-use Rattle.kern_changes.specs.Changes.{StandForContents, AllNormal, AllAscending, changes}
+use Rattle.river_base.specs.declared.item.Change.{Change}
+use Rattle.river_base.specs.Changes.{StandForContents, AllNormal, AllAscending, changes}
 use Rattle.kern_changes.specs.Joined.{join_start, StandsForJoining, HasJoinShape}
 use Rattle.kern_changes.specs.Kept.{cross_start, crossing, StandsForCrossing}
 use Rattle.kern_changes.specs.Owed.{owed_start, AreOwed, OweLittle}

@@ -1,4 +1,3 @@
-pub mod Changes
 pub mod Counted
 pub mod Joined
 pub mod Kept

@@ -3,8 +3,8 @@ use Rattle.std.specs.Prelude.{◌≡◌, ◌≤◌, ◌+◌, ◌⊎◌, ℕ, Lis
 use Rattle.river_base.specs.Held.{HaveWidth}
 use Rattle.work_code.specs.Term.{Term}
 use Rattle.kern_bags.specs.Needs.{CanRead, CanProject}
-use Rattle.kern_changes.specs.declared.change.Change.{Change}
-use Rattle.kern_changes.specs.Changes.{cancelled, all_pairs, IsWideChange}
+use Rattle.river_base.specs.declared.item.Change.{Change}
+use Rattle.river_base.specs.Changes.{cancelled, all_pairs, IsWideChange}
 use Rattle.kern_changes.specs.Counted.{Changed}
 use Rattle.kern_changes.specs.Kept.{CrossKept, IsCrossOf}
 

@@ -4,9 +4,9 @@ use Rattle.river_base.specs.Held.{HaveWidth}
 use Rattle.river_base.specs.Row.{copies}
 use Rattle.river_base.specs.declared.item.Batch.{Batch}
 use Rattle.kern_bags.specs.Contents.{difference}
-use Rattle.kern_changes.specs.declared.change.Change.{Change}
+use Rattle.river_base.specs.declared.item.Change.{Change}
 use Rattle.kern_changes.specs.declared.owed.Debt.{Debt}
-use Rattle.kern_changes.specs.Changes.{change_to, LeadsTo, IsNormal, IsWideChange}
+use Rattle.river_base.specs.Changes.{change_to, LeadsTo, IsNormal, IsWideChange}
 
 -- WHAT A LIST OWES
 

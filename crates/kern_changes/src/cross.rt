@@ -1,7 +1,7 @@
 // A product of two relations that come as changes.
 ghost use Rattle.std.specs.Prelude.{◌≡◌, ◌++◌, OnOk, MatchOption};
 ghost use Rattle.kern_bags.specs.Needs.{CanJoin};
-ghost use Rattle.kern_changes.specs.Changes.{all_pairs};
+ghost use Rattle.river_base.specs.Changes.{all_pairs};
 ghost use Rattle.kern_changes.specs.Kept.{cross_start, put_change, Crosses, CrossFits};
 ghost use Rattle.kern_changes.specs.Needs.{CanCrossChanges, CanMake, TakesChanges, HasNoChanges, JoinsChanges};
 

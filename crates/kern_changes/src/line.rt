@@ -16,7 +16,7 @@ pub struct Line {
 
 impl Model for Line {
     ghost use Rattle.std.specs.Prelude.{List};
-    ghost use Rattle.kern_changes.specs.declared.change.Change.{Change};
+    ghost use Rattle.river_base.specs.declared.item.Change.{Change};
 
     ghost Value = { List Change };
 

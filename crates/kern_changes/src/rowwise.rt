@@ -2,7 +2,7 @@
 ghost use Rattle.std.specs.Prelude.{ℕ, length, IfOk};
 ghost use Rattle.work_code.specs.Term.{term, terms};
 ghost use Rattle.kern_bags.specs.Contents.{selected, projected};
-ghost use Rattle.kern_changes.specs.Changes.{IsChangeOf};
+ghost use Rattle.river_base.specs.Changes.{IsChangeOf};
 ghost use Rattle.kern_changes.specs.Kept.{FollowsContent};
 ghost use Rattle.kern_changes.specs.Needs.{CanReadBoth, CanProjectBoth};
 

@@ -1,6 +1,6 @@
 // Rows that come and go, as a change.
 ghost use Rattle.std.specs.Prelude.{◌≡◌, IfOk};
-ghost use Rattle.kern_changes.specs.Changes.{cancelled};
+ghost use Rattle.river_base.specs.Changes.{cancelled};
 
 use crate::Change;
 use kern_bags::without;

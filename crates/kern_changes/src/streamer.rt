@@ -2,7 +2,7 @@
 ghost use Rattle.std.specs.Prelude.{ℕ, IfOk};
 ghost use Rattle.river_base.specs.Held.{HaveWidth};
 ghost use Rattle.kern_bags.specs.declared.kernel.Streamer.TheVariants.{Istream, Dstream};
-ghost use Rattle.kern_changes.specs.Changes.{IsWideChange};
+ghost use Rattle.river_base.specs.Changes.{IsWideChange};
 ghost use Rattle.kern_changes.specs.Kept.{StreamsFree, StreamsAll};
 
 use crate::{Change, Content};

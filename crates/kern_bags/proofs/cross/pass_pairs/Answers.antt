@@ -20,3 +20,7 @@ loop-left-preserved-in_ok-join_pair-2 c =
 pub loop-left-preserved : goal.loop-left-preserved
 loop-left-preserved c =
     so_far_step c.args.state.now c.loop-left.state c.take_pair.new.self c.args.out.now c.loop-left.out c.join_pair.new.out c.in-Some.left c.in-Some.right c.loop-left.invariant c.in-Some.ensures c.in_ok-join_pair.ensures.ok
+
+pub loop-left-preserved-in_ok-join_pair-3 : goal.loop-left-preserved-in_ok-join_pair-3
+loop-left-preserved-in_ok-join_pair-3 c =
+    so_far_step c.args.state.now c.loop-left.state c.take_pair.new.self c.args.out.now c.loop-left.out c.join_pair.new.out c.in-Some.left c.in-Some.right c.loop-left.invariant c.in-Some.ensures c.in_ok-join_pair.ensures.ok

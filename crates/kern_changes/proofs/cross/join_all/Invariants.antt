@@ -1,5 +1,5 @@
 use Rattle.std.proofs.Common.{◌≡◌, ◌++◌, take}
-use Rattle.kern_changes.specs.Changes.{all_pairs}
+use Rattle.river_base.specs.Changes.{all_pairs}
 use Rattle.kern_changes.proofs.cross.join_all.Given as goal
 
 abbrev pub invariant-loop-left : goal.invariant-loop-left

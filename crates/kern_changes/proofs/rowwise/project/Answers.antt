@@ -2,7 +2,7 @@ use Rattle.std.proofs.Common.{◌≡◌, length, w64, to_z, of_z, ◌∙◌, rul
 use Rattle.std.proofs.lemmas.Result.{IfOk-weaker}
 use Rattle.work_code.specs.Term.{terms}
 use Rattle.kern_bags.specs.Contents.{projected}
-use Rattle.kern_changes.specs.Changes.{cancelled, IsChangeOf}
+use Rattle.river_base.specs.Changes.{cancelled, IsChangeOf}
 use Rattle.kern_changes.specs.Kept.{FollowsContent}
 use Rattle.kern_changes.proofs.Stepping.{projects, project_fits}
 use Rattle.kern_changes.proofs.rowwise.project.Goals as goal

@@ -1,6 +1,6 @@
 use Rattle.std.proofs.Common.{◌≡◌, w64, to_z, of_z, rules}
 use Rattle.work_code.specs.Term.{term}
-use Rattle.kern_changes.specs.declared.change.Change.{Change}
+use Rattle.river_base.specs.declared.item.Change.{Change}
 use Rattle.kern_changes.proofs.Stepping.{selects, select_fits}
 use Rattle.kern_changes.proofs.rowwise.select.Goals as goal
 

@@ -1,6 +1,6 @@
 use Rattle.std.proofs.Common.{◌≡◌, List, map, set, w64, to_z, of_z, ap, ◌∙◌, sym, subst, rules}
 use Rattle.kern_changes.specs.declared.owed.Debt.{Debt}
-use Rattle.kern_changes.specs.Changes.{cancelled}
+use Rattle.river_base.specs.Changes.{cancelled}
 use Rattle.kern_changes.specs.Owed.{no_debt, debt_at, owing, JoinsOwed, KeepsOwed}
 use Rattle.kern_changes.proofs.OwedLaws.{joins, joins_keep, owes_here}
 use Rattle.kern_changes.proofs.owed.Owed.join.Goals as goal

@@ -1,7 +1,7 @@
 use Rattle.std.proofs.Common.{◌≡◌, Some, w64, to_z, of_z, ap, ◌∙◌, subst, rules}
 use Rattle.std.proofs.lemmas.Result.{IfOk-weaker}
 use Rattle.kern_bags.specs.Kept.{inserted, still_in, now_after}
-use Rattle.kern_changes.specs.Changes.{cancelled}
+use Rattle.river_base.specs.Changes.{cancelled}
 use Rattle.kern_changes.specs.Kept.{LetGo, Windows, WindowFits}
 use Rattle.kern_changes.proofs.Sliding.{slides, slide_fits}
 use Rattle.kern_changes.proofs.window.WindowRows.step.Goals as goal
