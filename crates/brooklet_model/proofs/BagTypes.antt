@@ -10,7 +10,7 @@ use Rattle.std.proofs.lemmas.List.Kept.{IsSortedBy-filter}
 use Rattle.river_base.specs.declared.item.Batch.{Batch}
 use Rattle.river_base.specs.declared.item.Item as item
 use Rattle.river_base.specs.declared.item.Item.TheVariants.{Flat, Pack}
-use Rattle.river_base.specs.declared.item.Flat.TheVariants.{One, Batch as Batched}
+use Rattle.river_base.specs.declared.item.Flat.TheVariants.{One, Batch as Batched, Change as Changed}
 use Rattle.river_base.specs.declared.kind.FlatType.{FlatType}
 use Rattle.river_base.specs.declared.kind.FlatType.TheVariants.{Rows, Stream, Relation}
 use Rattle.river_base.specs.declared.kind.QueueType.{QueueType}
@@ -81,6 +81,7 @@ stream_batches n [] h = All-nil (WideBatch n)
 stream_batches n (Flat (Batched b) ∷ xs) h =
     All-cons (WideBatch n) b (batches xs) (All-head (HasType (stream n)) (Flat (Batched b)) xs h) (stream_batches n xs (All-tail (HasType (stream n)) (Flat (Batched b)) xs h))
 stream_batches n (Flat (One row) ∷ xs) h = stream_batches n xs (All-tail (HasType (stream n)) (Flat (One row)) xs h)
+stream_batches n (Flat (Changed c) ∷ xs) h = stream_batches n xs (All-tail (HasType (stream n)) (Flat (Changed c)) xs h)
 stream_batches n (Pack fs ∷ xs) h = stream_batches n xs (All-tail (HasType (stream n)) (Pack fs) xs h)
 
 pub relation_batches : (n : ℕ) (xs : List item.Item) → All (HasType (relation n)) xs → All (WideBatch n) (batches xs)
@@ -88,6 +89,7 @@ relation_batches n [] h = All-nil (WideBatch n)
 relation_batches n (Flat (Batched b) ∷ xs) h =
     All-cons (WideBatch n) b (batches xs) (All-head (HasType (relation n)) (Flat (Batched b)) xs h).0 (relation_batches n xs (All-tail (HasType (relation n)) (Flat (Batched b)) xs h))
 relation_batches n (Flat (One row) ∷ xs) h = relation_batches n xs (All-tail (HasType (relation n)) (Flat (One row)) xs h)
+relation_batches n (Flat (Changed c) ∷ xs) h = relation_batches n xs (All-tail (HasType (relation n)) (Flat (Changed c)) xs h)
 relation_batches n (Pack fs ∷ xs) h = relation_batches n xs (All-tail (HasType (relation n)) (Pack fs) xs h)
 
 -- WINDOWS
@@ -138,6 +140,7 @@ window_typed n w past (Flat (Batched b)) h i =
     let wide = stream_batches n (past ++ Flat (Batched b) ∷ []) (All-append (HasType (stream n)) past (Flat (Batched b) ∷ []) h (one_of (stream n) (Flat (Batched b)) i)) in
     one_of (relation n) (Flat (Batched (record { at = b.at; rows = content_of w bs }))) (content n (in_window w (greatest bs) bs) (in_window_wide n w (greatest bs) bs wide))
 window_typed n w past (Flat (One row)) h i = absurd i
+window_typed n w past (Flat (Changed c)) h i = absurd i
 window_typed n w past (Pack fs) h i = absurd i
 
 -- SELECT AND PROJECT
@@ -154,10 +157,12 @@ select_typed (Rows n) e x b i = absurd (cc b)
 select_typed (Stream n) e (Flat (Batched b)) g i =
     one_of (stream n) (Flat (Batched (record { at = b.at; rows = selected e b.rows }))) (selected_wide n e b.rows i)
 select_typed (Stream n) e (Flat (One row)) g i = absurd i
+select_typed (Stream n) e (Flat (Changed c)) g i = absurd i
 select_typed (Stream n) e (Pack fs) g i = absurd i
 select_typed (Relation n) e (Flat (Batched b)) g i =
     one_of (relation n) (Flat (Batched (record { at = b.at; rows = selected e b.rows }))) (selected_wide n e b.rows i.0, selected_up e b.rows i.1)
 select_typed (Relation n) e (Flat (One row)) g i = absurd i
+select_typed (Relation n) e (Flat (Changed c)) g i = absurd i
 select_typed (Relation n) e (Pack fs) g i = absurd i
 
 images_wide : (es : List Term) (rows : List (List ℤ)) → HaveWidth (length es) (map (λ row. map (λ t. val t row []) es) rows)
@@ -170,6 +175,7 @@ pub project_typed : (n : ℕ) (es : List Term) (x : item.Item) → HasType (rela
 project_typed n es (Flat (Batched b)) i =
     one_of (relation (length es)) (Flat (Batched (record { at = b.at; rows = projected es b.rows }))) (content (length es) (map (λ row. map (λ t. val t row []) es) b.rows) (images_wide es b.rows))
 project_typed n es (Flat (One row)) i = absurd i
+project_typed n es (Flat (Changed c)) i = absurd i
 project_typed n es (Pack fs) i = absurd i
 
 -- STREAMERS
@@ -194,6 +200,7 @@ streamer_typed n k past (Flat (Batched b)) h i =
     one_of (stream n) (Flat (Batched (record { at = b.at; rows = streamed k (last_rows (batches past)) b.rows })))
     (streamed_wide n k (last_rows (batches past)) b.rows (last_wide n (batches past) (relation_batches n past h)) i.0)
 streamer_typed n k past (Flat (One row)) h i = absurd i
+streamer_typed n k past (Flat (Changed c)) h i = absurd i
 streamer_typed n k past (Pack fs) h i = absurd i
 
 -- PRODUCTS
@@ -201,6 +208,7 @@ streamer_typed n k past (Pack fs) h i = absurd i
 rows_wide : (n : ℕ) (x : item.Item) → HasType (relation n) x → HaveWidth n (rows_of x)
 rows_wide n (Flat (Batched b)) i = i.0
 rows_wide n (Flat (One row)) i = absurd i
+rows_wide n (Flat (Changed c)) i = absurd i
 rows_wide n (Pack fs) i = absurd i
 
 joined_rows : (a b : ℕ) (x : List ℤ) (ys : List (List ℤ)) → length x ≡ a → HaveWidth b ys → HaveWidth (a + b) (map (λ y. x ++ y) ys)
@@ -217,6 +225,7 @@ batch_typed : (a b : ℕ) (x y : item.Item) → HasType (relation a) x → HasTy
 batch_typed a b (Flat (Batched c)) y i j =
     one_of (relation (a + b)) (Flat (Batched (record { at = c.at; rows = product c.rows (rows_of y) }))) (content (a + b) (flat_map (λ x. map (λ z. x ++ z) (rows_of y)) c.rows) (pairs_wide a b c.rows (rows_of y) i.0 (rows_wide b y j)))
 batch_typed a b (Flat (One row)) y i j = absurd i
+batch_typed a b (Flat (Changed c)) y i j = absurd i
 batch_typed a b (Pack fs) y i j = absurd i
 
 -- what waits is of the types of the ports

@@ -5,7 +5,7 @@ use Rattle.std.proofs.lemmas.Bool.{cases_lt}
 use Rattle.std.proofs.lemmas.List.Elements.{All-head, All-tail, All-cons, All-nil, All-append}
 use Rattle.river_base.specs.declared.item.Item as item
 use Rattle.river_base.specs.declared.item.Item.TheVariants.{Flat, Pack}
-use Rattle.river_base.specs.declared.item.Flat.TheVariants.{One, Batch as Batched}
+use Rattle.river_base.specs.declared.item.Flat.TheVariants.{One, Batch as Batched, Change as Changed}
 use Rattle.river_base.specs.declared.kind.QueueType.{QueueType}
 use Rattle.river_base.specs.Held.{HasType}
 use Rattle.river_base.specs.Places.{only, none}
@@ -103,6 +103,7 @@ first_type t (suc p) x h = absurd h
 row_width : (n : ℕ) (x : item.Item) → HasType (rows n) x → length (values_of x) ≡ n
 row_width n (Flat (One row)) h = h
 row_width n (Flat (Batched b)) h = absurd h
+row_width n (Flat (Changed c)) h = absurd h
 row_width n (Pack fs) h = absurd h
 
 one_wide : (n : ℕ) (row : List ℤ) → length row ≡ n → AreWide (n ∷ []) (only 0 (row ∷ []))

@@ -3,7 +3,7 @@
 use Rattle.std.specs.Prelude.{ℕ, ℤ, pos, List, [], ◌∷◌, ◌++◌, length, take, drop, nat_lt, if◌then◌else◌, slice_index_or}
 use Rattle.river_base.specs.declared.item.Item as item
 use Rattle.river_base.specs.declared.item.Item.TheVariants.{Flat, Pack}
-use Rattle.river_base.specs.declared.item.Flat.TheVariants.{One, Batch as Batched}
+use Rattle.river_base.specs.declared.item.Flat.TheVariants.{One, Batch as Batched, Change as Changed}
 use Rattle.river_base.specs.Held.{flats, items_of}
 use Rattle.river_base.specs.Places.{only, none}
 use Rattle.work_code.specs.Ran.{Ran}
@@ -54,6 +54,7 @@ first_kept (fused a b at) = first_kept a ++ first_kept b
 abbrev pub values_of : item.Item → List ℤ
 values_of (Flat (One row)) = row
 values_of (Flat (Batched b)) = []
+values_of (Flat (Changed c)) = []
 values_of (Pack fs) = []
 
 abbrev pub value_of : item.Item → ℤ

@@ -1,7 +1,7 @@
 -- Which inputs fit a plan.
 use Rattle.std.specs.Prelude.{◌≡◌, ℤ, pos, ◌<ℤ◌, List, [], ◌∷◌, map}
 use Rattle.river_base.specs.declared.item.Item as item
-use Rattle.river_base.specs.declared.item.Flat.TheVariants.{One, Batch as Batched}
+use Rattle.river_base.specs.declared.item.Flat.TheVariants.{One, Batch as Batched, Change as Changed}
 use Rattle.river_base.specs.declared.item.Item.TheVariants.{Flat, Pack}
 use Rattle.river_base.specs.declared.kind.FlatType.TheVariants.{Rows, Stream, Relation}
 use Rattle.river_base.specs.declared.kind.QueueType.{QueueType}
@@ -14,6 +14,7 @@ use Rattle.brooklet_model.specs.Typed.{AreInputs}
 abbrev pub instant_of : item.Item → ℤ
 instant_of (Flat (One row)) = pos 0
 instant_of (Flat (Batched b)) = b.at
+instant_of (Flat (Changed c)) = pos 0
 instant_of (Pack fs) = pos 0
 
 abbrev pub instants : List item.Item → List ℤ

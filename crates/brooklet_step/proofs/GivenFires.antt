@@ -1,12 +1,15 @@
 -- Firings after others: kernels without a kernel inside, packs, and firings one after another.
-use Rattle.std.proofs.Common.{◌≡◌, ℕ, ◌+◌, ◌-◌, List, [], ◌∷◌, ◌++◌, length, refl, sym, ap, ◌∙◌, subst, arith, append_assoc, length-append}
+use Rattle.std.proofs.Common.{◌≡◌, ℕ, zero, suc, ◌+◌, ◌-◌, List, [], ◌∷◌, ◌++◌, length, refl, sym, ap, ◌∙◌, subst, arith, append_assoc, length-append}
 use Rattle.std.specs.Prelude.{All, slice_get}
 use Rattle.std.proofs.lemmas.List.{append-nil}
 use Rattle.std.proofs.lemmas.List.Elements.{All-head, All-tail, All-cons, All-nil, All-append}
 use Rattle.river_base.specs.declared.item.Item as item
 use Rattle.river_base.specs.declared.kind.QueueType.{QueueType}
+use Rattle.river_base.specs.Held.{IsPlain}
 use Rattle.river_base.specs.Places.{each_grew, none}
 use Rattle.river_base.proofs.PlaceLemmas.{each_grew_cong, each_grew-none, each_grew-each_grew}
+use Rattle.river_kernels.specs.declared.types.VarKind.{VarKind}
+use Rattle.river_kernels.specs.Fits.{Fits}
 use Rattle.river_kernels.specs.Kern.{Kern}
 use Rattle.brooklet_model.specs.Firings.{Kept, Fired, Same, feed, and_then}
 use Rattle.brooklet_model.specs.Fire.{fire}
@@ -22,67 +25,77 @@ use Rattle.brooklet_step.specs.declared.emit.Emit.{Emit}
 use Rattle.brooklet_step.specs.declared.state.State.{State}
 use Rattle.brooklet_step.specs.Stands.{StandsFor, Fires, Applies}
 use Rattle.brooklet_step.specs.Took.{Took}
-use Rattle.brooklet_step.specs.Given.{held_at, IsHeldOf, IsLeaf, ran, StandsAfter, TookHeld, Gives, FiresAt, GivesAll, FiresEach, CanTake}
+use Rattle.brooklet_step.specs.Given.{held_at, IsHeldOf, IsPlainBy, FitState, ran, StandsAfter, TookHeld, Gives, Does, FiresAt, GivesAll, FiresEach, CanTake}
 use Rattle.brooklet_step.proofs.Standing.{stands_shape}
-use Rattle.brooklet_step.proofs.GivenLemmas.{at-nil, at-append, at-length, at-same, of_held, all_held, at_word, word_append, ran_more}
-use Rattle.brooklet_step.proofs.GivenLemmas.{fit_of, leaf_kept, leaf_to, leaf_from}
+use Rattle.brooklet_step.proofs.GivenLemmas.{at-nil, at-append, at-length, at-plain, of_plain, all_plain, at_word, word_append, ran_more}
+use Rattle.brooklet_step.proofs.GivenLemmas.{IsSimple, fit_of, simple_kept, simple_to, simple_from}
 
--- KERNELS WITHOUT A KERNEL INSIDE
+-- KERNELS THAT KEEP NO ITEMS, ON QUEUES OF NO RELATION
 
 head_item : (x i : item.Item) → x ∷ [] ≡ i ∷ [] → x ≡ i
 head_item x i e = cc
 
--- the condition of a kernel without a kernel inside, in the terms of the definition's states
-pub leaf_applies : (k : Kern) (port : ℕ) (i : item.Item) (st : List State) (out : Emit) → IsLeaf k → CanTake k port i st out → Applies k port i st out
-leaf_applies k port i st out l t =
-    let s = leaf_kept k t.reads st l t.fitting.state in
+-- no queue of these types holds changes
+abbrev pub ArePlain : List QueueType → Type 0
+ArePlain ts = (p : ℕ) → IsPlainBy (slice_get ts p)
+
+-- one type that is no relation's
+pub one_plain : (t : QueueType) → IsPlain t → ArePlain (t ∷ [])
+one_plain t h zero = h
+one_plain t h (suc p) = tt
+
+-- the condition of such a kernel, in the terms of the definition's states
+pub simple_applies : (k : Kern) (port : ℕ) (i : item.Item) (st : List State) (out : Emit) → IsSimple k → (t : CanTake k port i st out)
+    → IsPlainBy (slice_get t.reads port) → Applies k port i st out
+simple_applies k port i st out l t p =
+    let s = simple_kept k t.reads st l t.fitting.state in
     record {
       takes = record {
         reads = t.reads;
         fitted = record { writes = t.fitting.writes; vars = t.fitting.vars; fits = t.fitting.fits; keeps = record { kept = s.0; stands = s.1; holds = s.2 } };
-        item = of_held t.reads port i t.item;
+        item = of_plain t.reads port i p t.item;
       };
       room = t.room;
     }
 
--- and what it does. Here alone queues hold items as they are
-pub leaf_does : (k : Kern) (port : ℕ) (i : item.Item) (out out' : Emit) (st st' : List State) → IsLeaf k → Fires k out out' st st' (fire k port i)
-    → FiresAt k port i out out' st st'
-leaf_does k port i out out' st st' l f = record {
-  each = λ reads writes vars fits fs hi.
-      let s = leaf_kept k reads st l fs in
-      let g = f.given s.0 s.1 in
-      let shape = stands_shape k st s.0 s.1 in
-      let t = fire_typed k reads writes vars port i s.0 fits shape s.2 (of_held reads port i hi) in
-      record {
-        gives = record {
-          given = λ start w x is_start tw tx sa h.
-              let e : x ≡ i = head_item x i (sym (at-same reads port (at_port port w) (x ∷ [])) ∙ h) in
-              let before = ran k start w in
-              let ss = before.states in
-              let one : Took out out' (fire k port x ss) × StandsFor k st' (fire k port x ss).states =
-              subst (λ y. Took out out' (fire k port y ss) × StandsFor k st' (fire k port y ss).states) (sym e) (f.given ss (leaf_to k reads start st w l sa)) in
-              let r = fire k port x ss in (
-                record {
-                  outs =
-                      one.0.outs
-                      ∙ each_grew_cong out.outs r.outs (λ p. held_at writes p (before.outs p) (r.outs p)) (λ p lt. sym (at-same writes p (before.outs p) (r.outs p)));
-                  adds = one.0.adds;
-                },
-                leaf_from k reads start st' (w ++ (port, x) ∷ []) l (subst (StandsFor k st') (sym (ran_more k start w port x).states) one.1),
-              );
-        };
-        came = record {
-          outs = (fire k port i s.0).outs;
-          adds = (fire k port i s.0).adds;
-          outs_are = g.0.outs;
-          adds_are = g.0.adds;
-          held = λ p. all_held writes p ((fire k port i s.0).outs p) (t.0 p);
-          wide = fire_wide k reads writes vars port i s.0 fits shape s.2 (of_held reads port i hi);
-          again = fit_of k reads st' (fire k port i s.0).states g.1 t.1;
-        };
+-- and what it does, where queues hold items as they are
+pub plain_does : (k : Kern) (port : ℕ) (i : item.Item) (out out' : Emit) (st st' : List State) → IsSimple k → Fires k out out' st st' (fire k port i)
+    → (reads writes : List QueueType) (vars : List VarKind) → Fits k reads writes vars → FitState k reads st → IsHeldOf reads port i → ArePlain reads
+    → ArePlain writes → Does k reads writes vars port i out out' st st'
+plain_does k port i out out' st st' l f reads writes vars fits fs hi pr pw =
+    let s = simple_kept k reads st l fs in
+    let g = f.given s.0 s.1 in
+    let shape = stands_shape k st s.0 s.1 in
+    let ti : IsOf reads port i = of_plain reads port i (pr port) hi in
+    let t = fire_typed k reads writes vars port i s.0 fits shape s.2 ti in
+    record {
+      gives = record {
+        given = λ start w x is_start tw tx sa h.
+            let e : x ≡ i = head_item x i (sym (at-plain reads port (at_port port w) (x ∷ []) (pr port)) ∙ h) in
+            let before = ran k start w in
+            let ss = before.states in
+            let one : Took out out' (fire k port x ss) × StandsFor k st' (fire k port x ss).states =
+            subst (λ y. Took out out' (fire k port y ss) × StandsFor k st' (fire k port y ss).states) (sym e) (f.given ss (simple_to k reads start st w l sa)) in
+            let r = fire k port x ss in (
+              record {
+                outs =
+                    one.0.outs
+                    ∙ each_grew_cong out.outs r.outs (λ p. held_at writes p (before.outs p) (r.outs p)) (λ p lt. sym (at-plain writes p (before.outs p) (r.outs p) (pw p)));
+                adds = one.0.adds;
+              },
+              simple_from k reads start st' (w ++ (port, x) ∷ []) l (subst (StandsFor k st') (sym (ran_more k start w port x).states) one.1),
+            );
       };
-}
+      came = record {
+        outs = (fire k port i s.0).outs;
+        adds = (fire k port i s.0).adds;
+        outs_are = g.0.outs;
+        adds_are = g.0.adds;
+        held = λ p. all_plain writes p ((fire k port i s.0).outs p) (pw p) (t.0 p);
+        wide = fire_wide k reads writes vars port i s.0 fits shape s.2 ti;
+        again = fit_of k reads st' (fire k port i s.0).states g.1;
+      };
+    }
 
 -- ONE AFTER ANOTHER
 

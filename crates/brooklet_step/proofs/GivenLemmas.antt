@@ -5,10 +5,13 @@ use Rattle.std.proofs.lemmas.List.{length-take, length-replicate}
 use Rattle.std.proofs.Math.Seq.{drop-append_seam}
 use Rattle.std.proofs.lemmas.List.Elements.{All-head, All-tail, All-cons, All-nil}
 use Rattle.river_base.specs.declared.item.Item as item
+use Rattle.river_base.specs.declared.item.Flat as flat
+use Rattle.river_base.specs.declared.item.Item.TheVariants.{Flat, Pack}
+use Rattle.river_base.specs.declared.kind.FlatType.TheVariants.{Rows, Stream, Relation}
 use Rattle.river_base.specs.declared.kind.QueueType.{QueueType}
-use Rattle.river_base.specs.Places.{list_at}
-use Rattle.river_base.proofs.HeldLemmas.{held-nil, held-append, length-held, held-same, held-typed, typed-held}
-use Rattle.kern_rows.specs.Turns.{Turns}
+use Rattle.river_base.specs.declared.kind.QueueType.TheVariants.{Flat as FlatOf, Pack as PackOf}
+use Rattle.river_base.specs.Held.{IsHeld, HasType, IsPlain, IsRelation}
+use Rattle.river_base.proofs.HeldLemmas.{held-nil, held-append, length-held, held-plain}
 use Rattle.kern_rows.specs.Forms.{FilterForm, RunForm}
 use Rattle.kern_rows.specs.Runs.{Filtering, begins}
 use Rattle.kern_rows.specs.Stands.{Waiting, KeepsFor, is_fresh}
@@ -16,10 +19,10 @@ use Rattle.river_kernels.specs.declared.types.VarKind.{VarKind}
 use Rattle.river_kernels.specs.Fits.{Fits}
 use Rattle.river_kernels.specs.Types.{types_of}
 use Rattle.river_kernels.specs.Kern.{Kern, code, filter, duplicate, deal, collect, packed, unpack, window, select, project, cross, streamer, tally, fused}
-use Rattle.brooklet_model.specs.Firings.{Kept, Slots, Buffered, Turn, Joining, Received, Crossing, Same, and_then}
+use Rattle.brooklet_model.specs.Firings.{Kept, Slots, Buffered, Same, and_then}
 use Rattle.brooklet_model.specs.Fire.{fire, first_kept, privates, kept_vars}
 use Rattle.brooklet_model.specs.Shapes.{IsShaped, HasShape}
-use Rattle.brooklet_model.specs.Typed.{IsTyped, IsOf, AreOf, AreWaiting, AreReceived, ArePaired, Holds, IsWordOf, IsStart, between}
+use Rattle.brooklet_model.specs.Typed.{IsTyped, IsOf, AreOf, Holds, IsWordOf, IsStart, between}
 use Rattle.brooklet_model.specs.Words.{Word, run, at_port, word_of}
 use Rattle.brooklet_model.proofs.Lists.{take_front, drop_front}
 use Rattle.brooklet_model.proofs.Shapes.{first_shape, fire_shape, shape_length}
@@ -30,7 +33,7 @@ use Rattle.brooklet_model.proofs.Typing.{first_holds}
 use Rattle.brooklet_model.proofs.TypedPlan.{at_append, run_typed}
 use Rattle.brooklet_step.specs.declared.state.State.{State}
 use Rattle.brooklet_step.specs.Stands.{StandsFor, StandsForSlots}
-use Rattle.brooklet_step.specs.Given.{held_by, held_at, IsHeldBy, IsHeldOf, AreHeldOf, FitSlots, FitState, IsLeaf, ran, StandsAfter, MayBeFresh}
+use Rattle.brooklet_step.specs.Given.{held_by, held_at, IsHeldBy, IsHeldOf, IsPlainBy, IsRelationBy, FitSlots, FitState, ran, StandsAfter, MayBeFresh}
 
 -- QUEUES AT PORTS
 
@@ -46,9 +49,9 @@ by-length : (o : Option QueueType) (past xs : List item.Item) → length (held_b
 by-length None past xs = refl
 by-length (Some t) past xs = length-held t past xs
 
-by-same : (o : Option QueueType) (past xs : List item.Item) → held_by o past xs ≡ xs
-by-same None past xs = refl
-by-same (Some t) past xs = held-same t past xs
+by-plain : (o : Option QueueType) (past xs : List item.Item) → IsPlainBy o → held_by o past xs ≡ xs
+by-plain None past xs h = refl
+by-plain (Some t) past xs h = held-plain t past xs h
 
 -- for no items a queue holds none
 pub at-nil : (ts : List QueueType) (p : ℕ) (past : List item.Item) → held_at ts p past [] ≡ []
@@ -63,33 +66,73 @@ at-append ts p past xs ys = by-append (slice_get ts p) past xs ys
 pub at-length : (ts : List QueueType) (p : ℕ) (past xs : List item.Item) → length (held_at ts p past xs) ≡ length xs
 at-length ts p past xs = by-length (slice_get ts p) past xs
 
--- until relation queues carry changes
-pub at-same : (ts : List QueueType) (p : ℕ) (past xs : List item.Item) → held_at ts p past xs ≡ xs
-at-same ts p past xs = by-same (slice_get ts p) past xs
+-- a queue of no relation holds items as they are
+pub at-plain : (ts : List QueueType) (p : ℕ) (past xs : List item.Item) → IsPlainBy (slice_get ts p) → held_at ts p past xs ≡ xs
+at-plain ts p past xs h = by-plain (slice_get ts p) past xs h
 
-held_typed : (o : Option QueueType) (x : item.Item) → IsTyped o x → IsHeldBy o x
-held_typed None x h = h
-held_typed (Some t) x h = held-typed t x h
+-- a queue of a relation is not one of items as they are
+pub not_both : (o : Option QueueType) → IsPlainBy o → IsRelationBy o → ⊥
+not_both None p r = r
+not_both (Some (FlatOf (Rows w))) p r = r
+not_both (Some (FlatOf (Stream w))) p r = r
+not_both (Some (FlatOf (Relation w))) p r = p
+not_both (Some (PackOf (Rows w))) p r = r
+not_both (Some (PackOf (Stream w))) p r = r
+not_both (Some (PackOf (Relation w))) p r = p
 
-typed_held : (o : Option QueueType) (x : item.Item) → IsHeldBy o x → IsTyped o x
-typed_held None x h = h
-typed_held (Some t) x h = typed-held t x h
+-- what such a queue may hold has its type
+plain_typed : (t : QueueType) (x : item.Item) → IsPlain t → IsHeld t x → HasType t x
+unfolding IsHeld
+plain_typed (FlatOf (Rows w)) (Flat f) p h = h
+plain_typed (FlatOf (Rows w)) (Pack fs) p h = absurd h
+plain_typed (FlatOf (Stream w)) (Flat f) p h = h
+plain_typed (FlatOf (Stream w)) (Pack fs) p h = absurd h
+plain_typed (FlatOf (Relation w)) x p h = absurd p
+plain_typed (PackOf (Rows w)) (Flat f) p h = absurd h
+plain_typed (PackOf (Rows w)) (Pack fs) p h = h
+plain_typed (PackOf (Stream w)) (Flat f) p h = absurd h
+plain_typed (PackOf (Stream w)) (Pack fs) p h = h
+plain_typed (PackOf (Relation w)) x p h = absurd p
 
--- an item that a queue may hold has the queue's type
-pub of_held : (ts : List QueueType) (p : ℕ) (x : item.Item) → IsHeldOf ts p x → IsOf ts p x
-of_held ts p x h = typed_held (slice_get ts p) x h
+typed_plain : (t : QueueType) (x : item.Item) → IsPlain t → HasType t x → IsHeld t x
+unfolding IsHeld
+typed_plain (FlatOf (Rows w)) (Flat f) p h = h
+typed_plain (FlatOf (Rows w)) (Pack fs) p h = absurd h
+typed_plain (FlatOf (Stream w)) (Flat f) p h = h
+typed_plain (FlatOf (Stream w)) (Pack fs) p h = absurd h
+typed_plain (FlatOf (Relation w)) x p h = absurd p
+typed_plain (PackOf (Rows w)) (Flat f) p h = absurd h
+typed_plain (PackOf (Rows w)) (Pack fs) p h = h
+typed_plain (PackOf (Stream w)) (Flat f) p h = absurd h
+typed_plain (PackOf (Stream w)) (Pack fs) p h = h
+typed_plain (PackOf (Relation w)) x p h = absurd p
 
-pub held_of : (ts : List QueueType) (p : ℕ) (x : item.Item) → IsOf ts p x → IsHeldOf ts p x
-held_of ts p x h = held_typed (slice_get ts p) x h
+of_by : (o : Option QueueType) (x : item.Item) → IsPlainBy o → IsHeldBy o x → IsTyped o x
+of_by None x p h = h
+of_by (Some t) x p h = plain_typed t x p h
 
--- typed items are items that a queue may hold
-pub all_held : (ts : List QueueType) (p : ℕ) (xs : List item.Item) → All (IsOf ts p) xs → All (IsHeldOf ts p) xs
-all_held ts p [] h = All-nil (IsHeldOf ts p)
-all_held ts p (x ∷ xs) h = All-cons (IsHeldOf ts p) x xs (held_of ts p x (All-head (IsOf ts p) x xs h)) (all_held ts p xs (All-tail (IsOf ts p) x xs h))
+by_of : (o : Option QueueType) (x : item.Item) → IsPlainBy o → IsTyped o x → IsHeldBy o x
+by_of None x p h = h
+by_of (Some t) x p h = typed_plain t x p h
 
-pub all_typed : (ts : List QueueType) (p : ℕ) (xs : List item.Item) → All (IsHeldOf ts p) xs → All (IsOf ts p) xs
-all_typed ts p [] h = All-nil (IsOf ts p)
-all_typed ts p (x ∷ xs) h = All-cons (IsOf ts p) x xs (of_held ts p x (All-head (IsHeldOf ts p) x xs h)) (all_typed ts p xs (All-tail (IsHeldOf ts p) x xs h))
+-- an item that a queue of no relation may hold has the queue's type
+pub of_plain : (ts : List QueueType) (p : ℕ) (x : item.Item) → IsPlainBy (slice_get ts p) → IsHeldOf ts p x → IsOf ts p x
+of_plain ts p x a h = of_by (slice_get ts p) x a h
+
+-- and such a queue may hold what has its type
+pub plain_of : (ts : List QueueType) (p : ℕ) (x : item.Item) → IsPlainBy (slice_get ts p) → IsOf ts p x → IsHeldOf ts p x
+plain_of ts p x a h = by_of (slice_get ts p) x a h
+
+-- the same of lists
+pub all_plain : (ts : List QueueType) (p : ℕ) (xs : List item.Item) → IsPlainBy (slice_get ts p) → All (IsOf ts p) xs → All (IsHeldOf ts p) xs
+all_plain ts p [] a h = All-nil (IsHeldOf ts p)
+all_plain ts p (x ∷ xs) a h =
+    All-cons (IsHeldOf ts p) x xs (plain_of ts p x a (All-head (IsOf ts p) x xs h)) (all_plain ts p xs a (All-tail (IsOf ts p) x xs h))
+
+pub all_of : (ts : List QueueType) (p : ℕ) (xs : List item.Item) → IsPlainBy (slice_get ts p) → All (IsHeldOf ts p) xs → All (IsOf ts p) xs
+all_of ts p [] a h = All-nil (IsOf ts p)
+all_of ts p (x ∷ xs) a h =
+    All-cons (IsOf ts p) x xs (of_plain ts p x a (All-head (IsHeldOf ts p) x xs h)) (all_of ts p xs a (All-tail (IsHeldOf ts p) x xs h))
 
 -- WORDS
 
@@ -138,9 +181,6 @@ fit_slots : (zs : List ℤ) (st : List State) (ks : List Kept) → StandsForSlot
 fit_slots [] st ks h = h.code
 fit_slots (z ∷ zs) st ks h = record { slots = h.slots; code = h.code; count = h.count }
 
-fit_joined : (is : List QueueType) (s : Turns) (ks : List Kept) → ks ≡ Joining s ∷ [] → AreWaiting is ks → AreHeldOf is (list_at s.lists)
-fit_joined is s ks e h = let w : AreWaiting is (Joining s ∷ []) = subst (AreWaiting is) e h in λ p. all_held is p (list_at s.lists p) (w p)
-
 -- where a first run of its own is to come after some runs, there is one
 may_be_fresh : (o : Option RunForm) (b : Bool) (k : ℕ) → b ≡ is_fresh o k → MayBeFresh o b
 may_be_fresh None b k h = h
@@ -174,38 +214,42 @@ past_keeps f w h =
       taken = omega (arith, l, length-append zeros w.buffer);
     }
 
+-- kernels that keep no items and no contents
+abbrev pub IsSimple : Kern → Type 0
+IsSimple (code k) = Unit {0}
+IsSimple (filter f) = Unit {0}
+IsSimple (duplicate n) = Unit {0}
+IsSimple (select e) = Unit {0}
+IsSimple (project es) = Unit {0}
+IsSimple tally = Unit {0}
+IsSimple kernel = ⊥
+
 -- states that stand for some fit
-pub fit_of : (k : Kern) (is : List QueueType) (st : List State) (ks : List Kept) → StandsFor k st ks → Holds k is ks → FitState k is st
-fit_of (code k) is st ks h t = fit_slots k.starts st ks h
-fit_of (filter f) is st ks h t =
+pub fit_of : (k : Kern) (is : List QueueType) (st : List State) (ks : List Kept) → StandsFor k st ks → FitState k is st
+fit_of (code k) is st ks h = fit_slots k.starts st ks h
+fit_of (filter f) is st ks h =
     record { now = h.now; code = h.code; count = h.count; few = h.stands.few; fresh = may_be_fresh f.first h.now.fresh h.seen.fired h.stands.keeps.fresh }
-fit_of (duplicate n) is st ks h t = h.code
-fit_of (deal ws) is st ks h t = record { now = h.now; code = h.code; turn = h.turn }
-fit_of (collect ws) is st ks h t = record { now = h.now; code = h.code; joined = h.joined; items = fit_joined is h.now ks h.defined t }
-fit_of (packed k) is st ks h t = absurd h
-fit_of (unpack n) is st ks h t = record { now = h.now; code = h.code; joined = h.joined; items = fit_joined is h.now ks h.defined t }
-fit_of (window w) is st ks h t =
-    let r : AreReceived is (Received h.past ∷ []) = subst (AreReceived is) h.defined t in
-    record { now = h.now; code = h.code; past = h.past; received = all_held is 0 h.past r; stands = h.stands }
-fit_of (select e) is st ks h t = h.code
-fit_of (project es) is st ks h t = h.code
-fit_of cross is st ks h t =
-    let r : ArePaired is (Crossing h.now ∷ []) = subst (ArePaired is) h.defined t in
-    record { now = h.now; code = h.code; left = all_held is 0 h.now.left r.0; right = all_held is 1 h.now.right r.1 }
-fit_of (streamer s) is st ks h t =
-    let r : AreReceived is (Received h.past ∷ []) = subst (AreReceived is) h.defined t in
-    record { now = h.now; code = h.code; past = h.past; received = all_held is 0 h.past r; stands = h.stands; ascends = h.ascends }
-fit_of tally is st ks h t = h.code
-fit_of (fused a b at) is st ks h t = absurd h
+fit_of (duplicate n) is st ks h = h.code
+fit_of (deal ws) is st ks h = absurd h
+fit_of (collect ws) is st ks h = absurd h
+fit_of (packed k) is st ks h = absurd h
+fit_of (unpack n) is st ks h = absurd h
+fit_of (window w) is st ks h = absurd h
+fit_of (select e) is st ks h = h.code
+fit_of (project es) is st ks h = h.code
+fit_of cross is st ks h = absurd h
+fit_of (streamer s) is st ks h = absurd h
+fit_of tally is st ks h = h.code
+fit_of (fused a b at) is st ks h = absurd h
 
 kept_slots : (zs : List ℤ) (st : List State) → FitSlots zs st → (ks : List Kept) × StandsForSlots zs st ks
 kept_slots [] st h = ([], record { code = h; defined = refl })
 kept_slots (z ∷ zs) st h = (Slots h.slots ∷ [], record { slots = h.slots; code = h.code; defined = refl; count = h.count })
 
--- and states that fit stand for some, where no kernel is inside
-pub leaf_kept : (k : Kern) (is : List QueueType) (st : List State) → IsLeaf k → FitState k is st → (ks : List Kept) × StandsFor k st ks × Holds k is ks
-leaf_kept (code k) is st l h = let s = kept_slots k.starts st h in (s.0, s.1, tt)
-leaf_kept (filter f) is st l h = (
+-- and states of such a kernel that fit stand for some
+pub simple_kept : (k : Kern) (is : List QueueType) (st : List State) → IsSimple k → FitState k is st → (ks : List Kept) × StandsFor k st ks × Holds k is ks
+simple_kept (code k) is st l h = let s = kept_slots k.starts st h in (s.0, s.1, tt)
+simple_kept (filter f) is st l h = (
   Buffered (past_of f h.now) ∷ [],
   record {
     now = h.now;
@@ -217,23 +261,18 @@ leaf_kept (filter f) is st l h = (
   },
   tt,
 )
-leaf_kept (duplicate n) is st l h = ([], record { code = h; defined = refl }, tt)
-leaf_kept (deal ws) is st l h = (Turn h.now.port h.now.had ∷ [], record { now = h.now; code = h.code; defined = refl; turn = h.turn }, tt)
-leaf_kept (collect ws) is st l h =
-    (Joining h.now ∷ [], record { now = h.now; code = h.code; defined = refl; joined = h.joined }, (λ p. all_typed is p (list_at h.now.lists p) (h.items p)))
-leaf_kept (packed k) is st l h = absurd l
-leaf_kept (unpack n) is st l h =
-    (Joining h.now ∷ [], record { now = h.now; code = h.code; defined = refl; joined = h.joined }, (λ p. all_typed is p (list_at h.now.lists p) (h.items p)))
-leaf_kept (window w) is st l h =
-    (Received h.past ∷ [], record { now = h.now; past = h.past; code = h.code; defined = refl; stands = h.stands }, all_typed is 0 h.past h.received)
-leaf_kept (select e) is st l h = ([], record { code = h; defined = refl }, tt)
-leaf_kept (project es) is st l h = ([], record { code = h; defined = refl }, tt)
-leaf_kept cross is st l h =
-    (Crossing h.now ∷ [], record { now = h.now; code = h.code; defined = refl }, (all_typed is 0 h.now.left h.left, all_typed is 1 h.now.right h.right))
-leaf_kept (streamer s) is st l h =
-    (Received h.past ∷ [], record { now = h.now; past = h.past; code = h.code; defined = refl; stands = h.stands; ascends = h.ascends }, all_typed is 0 h.past h.received)
-leaf_kept tally is st l h = ([], record { code = h; defined = refl }, tt)
-leaf_kept (fused a b at) is st l h = absurd l
+simple_kept (duplicate n) is st l h = ([], record { code = h; defined = refl }, tt)
+simple_kept (deal ws) is st l h = absurd l
+simple_kept (collect ws) is st l h = absurd l
+simple_kept (packed k) is st l h = absurd l
+simple_kept (unpack n) is st l h = absurd l
+simple_kept (window w) is st l h = absurd l
+simple_kept (select e) is st l h = ([], record { code = h; defined = refl }, tt)
+simple_kept (project es) is st l h = ([], record { code = h; defined = refl }, tt)
+simple_kept cross is st l h = absurd l
+simple_kept (streamer s) is st l h = absurd l
+simple_kept tally is st l h = ([], record { code = h; defined = refl }, tt)
+simple_kept (fused a b at) is st l h = absurd l
 
 fit_slots_length : (zs : List ℤ) (st : List State) → FitSlots zs st → length st ≡ kept_vars zs
 fit_slots_length [] st h = ap length h
@@ -271,21 +310,43 @@ parts_after a b at is ss st st' w l h h' =
       subst (λ (u : List State). StandsAfter b (between at (types_of a is)) (drop n ss) u (word_of 0 ((ran a (take n ss) w).outs at))) (sym (drop_front st st' n l)) h',
     )
 
--- LEAVES
+-- KERNELS THAT KEEP NO ITEMS
 
--- of a kernel without kernels inside: states that stand after a word stand for the definition's
-pub leaf_to : (k : Kern) (is : List QueueType) (ss : List Kept) (st : List State) (w : Word) → IsLeaf k → StandsAfter k is ss st w
+-- states that stand after a word stand for the definition's
+pub simple_to : (k : Kern) (is : List QueueType) (ss : List Kept) (st : List State) (w : Word) → IsSimple k → StandsAfter k is ss st w
     → StandsFor k st (ran k ss w).states
-leaf_to (packed k) is ss st w l h = absurd l
-leaf_to (fused a b at) is ss st w l h = absurd l
-leaf_to kernel is ss st w l h = h
+simple_to (code k) is ss st w l h = h
+simple_to (filter f) is ss st w l h = h
+simple_to (duplicate n) is ss st w l h = h
+simple_to (select e) is ss st w l h = h
+simple_to (project es) is ss st w l h = h
+simple_to tally is ss st w l h = h
+simple_to (deal ws) is ss st w l h = absurd l
+simple_to (collect ws) is ss st w l h = absurd l
+simple_to (packed k) is ss st w l h = absurd l
+simple_to (unpack n) is ss st w l h = absurd l
+simple_to (window v) is ss st w l h = absurd l
+simple_to cross is ss st w l h = absurd l
+simple_to (streamer s) is ss st w l h = absurd l
+simple_to (fused a b at) is ss st w l h = absurd l
 
 -- and back
-pub leaf_from : (k : Kern) (is : List QueueType) (ss : List Kept) (st : List State) (w : Word) → IsLeaf k → StandsFor k st (ran k ss w).states
+pub simple_from : (k : Kern) (is : List QueueType) (ss : List Kept) (st : List State) (w : Word) → IsSimple k → StandsFor k st (ran k ss w).states
     → StandsAfter k is ss st w
-leaf_from (packed k) is ss st w l h = absurd l
-leaf_from (fused a b at) is ss st w l h = absurd l
-leaf_from kernel is ss st w l h = h
+simple_from (code k) is ss st w l h = h
+simple_from (filter f) is ss st w l h = h
+simple_from (duplicate n) is ss st w l h = h
+simple_from (select e) is ss st w l h = h
+simple_from (project es) is ss st w l h = h
+simple_from tally is ss st w l h = h
+simple_from (deal ws) is ss st w l h = absurd l
+simple_from (collect ws) is ss st w l h = absurd l
+simple_from (packed k) is ss st w l h = absurd l
+simple_from (unpack n) is ss st w l h = absurd l
+simple_from (window v) is ss st w l h = absurd l
+simple_from cross is ss st w l h = absurd l
+simple_from (streamer s) is ss st w l h = absurd l
+simple_from (fused a b at) is ss st w l h = absurd l
 
 shape_ran : (k : Kern) (w : Word) (ss : List Kept) → IsShaped k → HasShape k ss → HasShape k (run (fire k) w ss).states
 shape_ran k [] ss s h = h

@@ -1,6 +1,7 @@
 pub mod Adding
 pub mod BagLeaves
 pub mod Counted
+pub mod DealFires
 pub mod Fires
 pub mod FitLemmas
 pub mod FitsLemmas
@@ -14,9 +15,11 @@ pub mod Leaves
 pub mod Moved
 pub mod Moving
 pub mod NextLemmas
+pub mod Ones
 pub mod OpTables
 pub mod QueuePlaces
 pub mod ReadLemmas
+pub mod RowFires
 pub mod RunLemmas
 pub mod Size
 pub mod Standing

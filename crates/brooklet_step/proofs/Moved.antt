@@ -1,32 +1,80 @@
--- States that stand for some of the definition: that all that fit do, and that a word of firings can be cut anywhere.
-use Rattle.std.proofs.Common.{◌≡◌, ℕ, List, [], ◌∷◌, ◌++◌, length, take, drop, sym, ap, ◌∙◌, subst}
+-- States that stand for some of the definition: all that fit do, where no relation passes.
+use Rattle.std.proofs.Common.{◌≡◌, ℕ, ℤ, zero, suc, List, [], ◌∷◌, ◌++◌, length, take, drop, replicate, refl, sym, ap, ◌∙◌, subst}
+use Rattle.std.specs.Prelude.{slice_get}
+use Rattle.river_base.specs.Places.{list_at}
 use Rattle.river_base.specs.declared.kind.QueueType.{QueueType}
-use Rattle.river_base.specs.declared.kind.QueueType.TheVariants.{Flat as FlatOf}
+use Rattle.river_base.specs.declared.kind.QueueType.TheVariants.{Flat as FlatOf, Pack as PackOf}
 use Rattle.river_kernels.specs.Fits.{Fits}
 use Rattle.river_kernels.specs.Types.{types_of}
-use Rattle.river_kernels.specs.Kern.{Kern, packed, fused}
-use Rattle.brooklet_model.specs.Firings.{Kept}
+use Rattle.river_kernels.specs.Kern.{Kern, code, filter, duplicate, deal, collect, packed, unpack, window, select, project, cross, streamer, tally, fused}
+use Rattle.brooklet_model.specs.Firings.{Kept, Turn, Joining}
 use Rattle.brooklet_model.specs.Fire.{privates}
-use Rattle.brooklet_model.specs.Shapes.{IsShaped, HasShape}
+use Rattle.brooklet_model.specs.Shapes.{HasShape}
 use Rattle.brooklet_model.specs.Typed.{Holds, between}
-use Rattle.brooklet_model.specs.Words.{Word, word_of}
 use Rattle.brooklet_model.proofs.Lists.{take_front, drop_front}
-use Rattle.brooklet_model.proofs.Ports.{shaped}
 use Rattle.brooklet_model.proofs.Shapes.{shape_length}
 use Rattle.brooklet_model.proofs.Typing.{between_is}
 use Rattle.brooklet_step.specs.declared.state.State.{State}
-use Rattle.brooklet_step.specs.Given.{FitState, IsLeaf, ran, StandsAfter}
-use Rattle.brooklet_step.specs.Laws.{StandForSome, FitStatesStand, FiringsStep}
-use Rattle.brooklet_step.proofs.GivenLemmas.{leaf_kept, leaf_to, leaf_from, ran_length}
-use Rattle.brooklet_step.proofs.GivenParts.{packed_states, fused_ran}
+use Rattle.brooklet_step.specs.Given.{IsPlainBy, FitState, StandsAfter}
+use Rattle.brooklet_step.specs.Laws.{StandForSome, PassesNone, FitStatesStand, FiringsStep}
+use Rattle.brooklet_step.proofs.GivenLemmas.{IsSimple, simple_kept, simple_from, not_both, all_of}
 use Rattle.brooklet_step.proofs.Standing.{stands_shape}
 
 -- STATES THAT FIT STAND FOR SOME
 
-leaf_stand : (k : Kern) (is : List QueueType) (st : List State) → IsLeaf k → FitState k is st → StandForSome k is st
-leaf_stand k is st l h =
-    let s = leaf_kept k is st l h in
-    record { start = s.0; is_start = record { shape = stands_shape k st s.0 s.1; holds = s.2 }; stands = leaf_from k is s.0 st [] l s.1 }
+simple_stand : (k : Kern) (is : List QueueType) (st : List State) → IsSimple k → FitState k is st → StandForSome k is st
+simple_stand k is st l h =
+    let s = simple_kept k is st l h in
+    record { start = s.0; is_start = record { shape = stands_shape k st s.0 s.1; holds = s.2 }; stands = simple_from k is s.0 st [] l s.1 }
+
+deal_stand : (ws : List ℤ) (is : List QueueType) (st : List State) → IsPlainBy (slice_get is 0) → FitState (deal ws) is st → StandForSome (deal ws) is st
+deal_stand ws is st p h = record {
+  start = Turn h.now.turn.port h.now.turn.had ∷ [];
+  is_start = record { shape = h.turn; holds = tt };
+  stands = record {
+    stands = record { now = h.now; code = h.code; defined = refl; turn = h.turn; lists = h.lists };
+    owed = λ rel. absurd (not_both (slice_get is 0) p rel);
+  };
+}
+
+-- a joiner whose ports are of one type
+collect_stand : (ws : List ℤ) (is : List QueueType) (st : List State) → IsPlainBy (slice_get is 0) → ((p : ℕ) → IsPlainBy (slice_get is p))
+    → FitState (collect ws) is st → StandForSome (collect ws) is st
+collect_stand ws is st p all h = record {
+  start = Joining h.now.turns ∷ [];
+  is_start = record { shape = h.joined.joined; holds = λ q. all_of is q (list_at h.now.turns.lists q) (all q) (h.items q) };
+  stands = record {
+    now = h.now;
+    code = h.code;
+    shape = h.joined;
+    plain = λ same. refl;
+    relation = λ rel. absurd (not_both (slice_get is 0) p rel);
+  };
+}
+
+unpack_stand : (n : ℕ) (is : List QueueType) (st : List State) → IsPlainBy (slice_get is 0) → ((p : ℕ) → IsPlainBy (slice_get is p))
+    → FitState (unpack n) is st → StandForSome (unpack n) is st
+unpack_stand n is st p all h = record {
+  start = Joining h.now.turns ∷ [];
+  is_start = record { shape = h.joined.joined; holds = λ q. all_of is q (list_at h.now.turns.lists q) (all q) (h.items q) };
+  stands = record {
+    now = h.now;
+    code = h.code;
+    shape = h.joined;
+    plain = λ same. refl;
+    relation = λ rel. absurd (not_both (slice_get is 0) p rel);
+  };
+}
+
+-- ports of one type are all as the first is
+ports_alike : (t : QueueType) (n : ℕ) → IsPlainBy (slice_get (replicate n t) 0) → (p : ℕ) → IsPlainBy (slice_get (replicate n t) p)
+ports_alike t zero h p = tt
+ports_alike t (suc n) h zero = h
+ports_alike t (suc zero) h (suc p) = tt
+ports_alike t (suc (suc n)) h (suc p) = ports_alike t (suc n) h p
+
+alike : (is : List QueueType) (t : QueueType) (n : ℕ) → is ≡ replicate n t → IsPlainBy (slice_get is 0) → (p : ℕ) → IsPlainBy (slice_get is p)
+alike is t n e h = subst (λ (l : List QueueType). (p : ℕ) → IsPlainBy (slice_get l p)) (sym e) (ports_alike t n (subst (λ (l : List QueueType). IsPlainBy (slice_get l 0)) e h))
 
 packed_stand : (k : Kern) (is : List QueueType) (st : List State) → StandForSome k is st → StandForSome (packed k) is st
 packed_stand k is st r = record { start = r.start; is_start = record { shape = r.is_start.shape; holds = r.is_start.holds }; stands = r.stands }
@@ -54,47 +102,33 @@ fused_stand a b at is inner st e ra rb =
       );
     }
 
--- all states that fit a kernel stand for some of the definition
+-- all states that fit a kernel stand for some of the definition, where no relation passes
 pub fit_law : FitStatesStand
-fit_law (packed k) is os vs st f h =
-    packed_stand k is st (fit_law k is (FlatOf f.1 ∷ []) [] st (subst (λ (l : List QueueType). Fits k l (FlatOf f.1 ∷ []) []) (sym f.2) f.5) h)
-fit_law (fused a b at) is os vs st f h =
+fit_law (code k) is os vs st f n h = simple_stand (code k) is st tt h
+fit_law (filter g) is os vs st f n h = simple_stand (filter g) is st tt h
+fit_law (duplicate m) is os vs st f n h = simple_stand (duplicate m) is st tt h
+fit_law (deal ws) is os vs st f n h = deal_stand ws is st n h
+fit_law (collect ws) is os vs st f n h = collect_stand ws is st n (alike is (FlatOf f.0) (length ws) f.1 n) h
+fit_law (packed k) is os vs st f n h =
+    packed_stand k is st (fit_law k is (FlatOf f.1 ∷ []) [] st (subst (λ (l : List QueueType). Fits k l (FlatOf f.1 ∷ []) []) (sym f.2) f.5) n h)
+fit_law (unpack m) is os vs st f n h = unpack_stand m is st n (alike is (PackOf f.0) m f.1 n) h
+fit_law (window v) is os vs st f n h = absurd n
+fit_law (select e) is os vs st f n h = simple_stand (select e) is st tt h
+fit_law (project es) is os vs st f n h = absurd n
+fit_law cross is os vs st f n h = absurd n
+fit_law (streamer s) is os vs st f n h = absurd n
+fit_law tally is os vs st f n h = simple_stand tally is st tt h
+fit_law (fused a b at) is os vs st f n h =
     let mid = between_is a is f.0 f.1 f.3 at f.5 f.6 in
     fused_stand a b at is (f.1 ∷ []) st (sym mid)
-    (fit_law a is f.0 f.3 (take (privates a) st) f.5 h.0)
-    (fit_law b (f.1 ∷ []) f.2 f.4 (drop (privates a) st) f.7 (subst (λ (l : List QueueType). FitState b l (drop (privates a) st)) mid h.1))
-fit_law kernel is os vs st f h = leaf_stand kernel is st tt h
+    (fit_law a is f.0 f.3 (take (privates a) st) f.5 n.0 h.0)
+    (fit_law b (f.1 ∷ []) f.2 f.4 (drop (privates a) st) f.7 (subst (PassesNone b) mid n.1) (subst (λ (l : List QueueType). FitState b l (drop (privates a) st)) mid h.1))
 
--- THE STATES AFTER A WORD AS A START
-
-leaf_moved : (k : Kern) (is : List QueueType) (ss : List Kept) (st : List State) (w : Word) → IsLeaf k → StandsAfter k is ss st w
-    → StandsAfter k is (ran k ss w).states st []
-leaf_moved k is ss st w l h = leaf_from k is (ran k ss w).states st [] l (leaf_to k is ss st w l h)
-
--- what stands for the states after a word stands for them as a start, where queues hold items as they are: until relation queues carry
--- changes
-pub moved : (k : Kern) (is : List QueueType) (ss : List Kept) (st : List State) (w : Word) → IsShaped k → HasShape k ss → StandsAfter k is ss st w
-    → StandsAfter k is (ran k ss w).states st []
-moved (packed k) is ss st w s c h =
-    subst (λ (us : List Kept). StandsAfter k is us st []) (sym (packed_states k w ss)) (moved k is ss st w s.0 c h)
-moved (fused a b at) is ss st w s c h =
-    let n = privates a in
-    let inner = between at (types_of a is) in
-    let wa = ran a (take n ss) w in
-    let wb = word_of 0 (wa.outs at) in
-    let rb = ran b (drop n ss) wb in
-    let parts = fused_ran a b at ss w s c in
-    let own : length wa.states ≡ n = ran_length a (take n ss) w s.0 c.0 in
-    let ta : take n (ran (fused a b at) ss w).states ≡ wa.states = ap (take n) parts.states ∙ take_front wa.states rb.states n own in
-    let tb : drop n (ran (fused a b at) ss w).states ≡ rb.states = ap (drop n) parts.states ∙ drop_front wa.states rb.states n own in (
-      subst (λ (us : List Kept). StandsAfter a is us (take n st) []) (sym ta) (moved a is (take n ss) (take n st) w s.0 c.0 h.0),
-      subst (λ (us : List Kept). StandsAfter b inner us (drop n st) []) (sym tb) (moved b inner (drop n ss) (drop n st) wb s.1 c.1 h.1),
-    )
-moved kernel is ss st w s c h = leaf_moved kernel is ss st w tt h
+-- A FIRING AS THE FIRST
 
 -- from whatever states they stand for, a firing is the definition's
 pub step_law : FiringsStep
 step_law k is os vs port i x st st' out out' now f fs hi fires start stands tx held =
     let d = fires.each is os vs f fs hi in
     let g = d.gives.given now [] x start tt tx stands held in
-    record { outs = g.0.outs; adds = g.0.adds; next = moved k is now st' ((port, x) ∷ []) (shaped k is os vs f) start.shape g.1 }
+    record { outs = g.0.outs; adds = g.0.adds; next = g.1 }

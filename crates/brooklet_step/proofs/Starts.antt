@@ -30,27 +30,23 @@ use Rattle.brooklet_model.proofs.Ports.{formed_shaped}
 use Rattle.brooklet_model.proofs.Lists.{take_front, drop_front}
 use Rattle.brooklet_model.proofs.Shapes.{first_turn, shape_length}
 use Rattle.brooklet_model.proofs.Typing.{between_is, first_holds}
+use Rattle.river_kernels.specs.declared.types.VarKind.{VarKind}
 use Rattle.river_kernels.specs.Fits.{Fits}
 use Rattle.river_kernels.specs.Types.{types_of}
 use Rattle.brooklet_step.specs.declared.state.State.{State}
 use Rattle.brooklet_step.specs.declared.state.State.TheVariants as state
-use Rattle.brooklet_step.specs.Given.{FitState, IsLeaf, StandsAfter}
+use Rattle.brooklet_step.specs.Dealing.{dealt_start}
+use Rattle.brooklet_step.specs.Given.{FitState, StandsAfter}
 use Rattle.brooklet_step.specs.Initial.{IsFirst}
 use Rattle.brooklet_step.specs.Stands.{StandsForSlots, StandsFor}
 use Rattle.river_kernels.proofs.WellFormed.{can_filter}
-use Rattle.brooklet_step.proofs.GivenLemmas.{first_is_start, fit_of, fit_length, leaf_from, parts_fit, parts_after}
+use Rattle.brooklet_step.proofs.DealFires.{deal_first_after, deal_first_fits}
+use Rattle.brooklet_step.proofs.GivenLemmas.{IsSimple, first_is_start, fit_of, fit_length, simple_from, parts_fit, parts_after}
 
 -- what is said of each value is said of an answer
 pub if_ok : {A : Type 0} (P Q : A → Type 0) (r : Result A NoMemory) → ((x : A) → P x → Q x) → IfOk r P → IfOk r Q
 if_ok P Q (Err e) f h = h
 if_ok P Q (Ok x) f h = f x h
-
--- what first states are
-abbrev pub LeafFirst : Kern → List State → Type 0
-LeafFirst k st = StandsFor k st (first_kept k)
-
-pub first_at : (k j : Kern) (st : List State) → k ≡ j → LeafFirst j st → LeafFirst k st
-first_at k j st e h = subst (λ (i : Kern). LeafFirst i st) (sym e) h
 
 -- without starts no state is kept
 pub no_slots : (zs : List ℤ) → zs ≡ [] → StandsForSlots zs [] (first_slots zs)
@@ -69,51 +65,6 @@ filter_first f h = can_filter f h.fits.3
 pub deal_first : (ws : List ℤ) → IsFormed (deal ws) → HaveShares (shares ws)
 deal_first ws h = formed_shaped (deal ws) h
 
--- the first state of a joiner
-pub collect_first : (ws : List ℤ) (st : List State) → IsFormed (collect ws) → st ≡ state.Collect (turns_start (length ws)) ∷ [] → LeafFirst (collect ws) st
-collect_first ws st h e = record {
-  now = turns_start (length ws);
-  code = e;
-  defined = refl;
-  joined = record { turn = first_turn (shares ws) (formed_shaped (collect ws) h); lists = length-replicate (length ws) [] ∙ sym (length-map ws count_of) };
-}
-
--- the first state of a joiner of packs
-pub unpack_first : (n : ℕ) (st : List State) → IsFormed (unpack n) → st ≡ state.Unpack (turns_start n) ∷ [] → LeafFirst (unpack n) st
-unpack_first n st h e = record {
-  now = turns_start n;
-  code = e;
-  defined = refl;
-  joined = record { turn = first_turn (ones n) (formed_shaped (unpack n) h); lists = length-replicate n [] ∙ sym (length-replicate n 1) };
-}
-
-drop_none : {A : Type 0} (n : ℕ) → drop {A = A} n [] ≡ []
-drop_none zero = refl
-drop_none (suc n) = refl
-
-still_none : (w : Window) (t : ℤ) → still_in w t [] ≡ []
-still_none Now t = refl
-still_none (Range span) t = refl
-still_none Unbounded t = refl
-still_none (Latest n) t = drop_none (0 - n)
-
--- a window of which no batch has come
-pub window_first : (w : Window) (st : List State) → st ≡ state.Window window_start ∷ [] → LeafFirst (window w) st
-window_first w st e = record { now = window_start; past = []; code = e; defined = refl; stands = record { now = refl; rows = sym (still_none w (pos 0)) } }
-
--- the first state of a product
-pub cross_first : (st : List State) → st ≡ state.Cross pairing_start ∷ [] → LeafFirst cross st
-cross_first st e = record { now = pairing_start; code = e; defined = refl }
-
--- the first state of a streamer
-pub streamer_first : (s : Streamer) (st : List State) → st ≡ state.Streamer [] ∷ [] → LeafFirst (streamer s) st
-streamer_first s st e = record { now = []; past = []; code = e; defined = refl; stands = nothing_kept s; ascends = λ k d from to. absurd (omega arith) }
-  where
-    nothing_kept : (s : Streamer) → StandsForStreamer s [] []
-    nothing_kept Istream = refl
-    nothing_kept Dstream = refl
-    nothing_kept Rstream = tt
-
 pub inner_formed : (k : Kern) → IsFormed (packed k) → IsFormed k
 inner_formed k h = record { reads = FlatOf h.fits.0 ∷ []; writes = FlatOf h.fits.1 ∷ []; vars = []; fits = h.fits.5 }
 
@@ -125,13 +76,27 @@ second_formed a b at h = record { reads = h.fits.1 ∷ []; writes = h.fits.2; va
 
 -- THE FIRST STATES OF KERNELS, AFTER NO FIRING
 
--- a kernel without a kernel inside
-pub leaf_first : (k : Kern) (st : List State) → IsLeaf k → IsFormed k → LeafFirst k st → IsFirst k st
-leaf_first k st l f h = record {
-  start = λ reads. first_is_start k reads (formed_shaped k f);
-  after = λ reads. leaf_from k reads (first_kept k) st [] l h;
-  again = λ reads writes vars fits. fit_of k reads st (first_kept k) h (first_holds k reads (formed_shaped k f));
-}
+-- states that stand for the first ones, and fit
+pub first_of : (k : Kern) (st : List State) → IsFormed k → ((reads : List QueueType) → StandsAfter k reads (first_kept k) st [])
+    → ((reads writes : List QueueType) (vars : List VarKind) → Fits k reads writes vars → FitState k reads st) → IsFirst k st
+first_of k st f after again = record { start = λ reads. first_is_start k reads (formed_shaped k f); after = after; again = again }
+
+-- a kernel that keeps no items
+pub simple_first : (k : Kern) (st : List State) → IsSimple k → IsFormed k → StandsFor k st (first_kept k) → IsFirst k st
+simple_first k st l f h =
+    first_of k st f (λ reads. simple_from k reads (first_kept k) st [] l h) (λ reads writes vars fits. fit_of k reads st (first_kept k) h)
+
+-- a splitter
+pub splitter_first : (ws : List ℤ) (st : List State) → IsFormed (deal ws) → st ≡ state.Deal (dealt_start (length ws)) ∷ [] → IsFirst (deal ws) st
+splitter_first ws st f e =
+    let some = formed_shaped (deal ws) f in
+    first_of (deal ws) st f
+    (λ reads. subst (λ (l : List State). StandsAfter (deal ws) reads (first_kept (deal ws)) l []) (sym e) (deal_first_after ws reads some))
+    (λ reads writes vars fits. subst (FitState (deal ws) reads) (sym e) (deal_first_fits ws reads some))
+
+-- the first states of a kernel are those of another form of it
+pub first_at : (k j : Kern) (st : List State) → k ≡ j → IsFirst j st → IsFirst k st
+first_at k j st e h = subst (λ (i : Kern). IsFirst i st) (sym e) h
 
 -- a kernel whose items go into packs keeps what the kernel inside keeps
 pub packed_first : (k : Kern) (st : List State) → IsFirst k st → IsFirst (packed k) st

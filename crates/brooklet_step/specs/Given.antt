@@ -61,9 +61,9 @@ IsHeldOf types p i = IsHeldBy (slice_get types p) i
 abbrev pub AreHeldOf : List QueueType → (ℕ → List item.Item) → Type 0
 AreHeldOf types f = (p : ℕ) → All (IsHeldOf types p) (f p)
 
--- a queue at a port holds items as they are; or it holds changes, alone or in packs. Beyond the ports it is neither
+-- a queue at a port holds items as they are, and beyond the ports there is none that does not; or it holds changes, alone or in packs
 abbrev pub IsPlainBy : Option QueueType → Type 0
-IsPlainBy None = ⊥
+IsPlainBy None = Unit {0}
 IsPlainBy (Some t) = IsPlain t
 
 abbrev pub IsRelationBy : Option QueueType → Type 0

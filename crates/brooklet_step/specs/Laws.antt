@@ -1,21 +1,22 @@
 -- Laws of firings, of what waits and of what queues hold: statements over the contracts and the definitions alone.
-use Rattle.std.specs.Prelude.{◌≡◌, ◌↔◌, ℕ, false, List, [], ◌∷◌}
+use Rattle.std.specs.Prelude.{◌≡◌, ◌↔◌, ℕ, false, List, [], ◌∷◌, slice_get}
 use Rattle.river_base.specs.declared.item.Item as item
 use Rattle.river_base.specs.declared.kind.QueueType.{QueueType}
 use Rattle.river_base.specs.Held.{HasType, IsHeld}
 use Rattle.river_base.specs.Places.{each_grew}
 use Rattle.river_kernels.specs.declared.types.VarKind.{VarKind}
 use Rattle.river_kernels.specs.Fits.{Fits}
-use Rattle.river_kernels.specs.Kern.{Kern}
+use Rattle.river_kernels.specs.Kern.{Kern, packed, window, project, cross, streamer, fused}
+use Rattle.river_kernels.specs.Types.{types_of}
 use Rattle.river_plan.specs.Valid.{IsPlan}
 use Rattle.brooklet_model.specs.Firings.{Kept}
 use Rattle.brooklet_model.specs.Fire.{fire}
 use Rattle.brooklet_model.specs.Machine.{Machine, HasItem}
-use Rattle.brooklet_model.specs.Typed.{IsOf, IsStart}
+use Rattle.brooklet_model.specs.Typed.{IsOf, IsStart, between}
 use Rattle.brooklet_step.specs.declared.emit.Emit.{Emit}
 use Rattle.brooklet_step.specs.declared.machine.Parts.{Parts}
 use Rattle.brooklet_step.specs.declared.state.State.{State}
-use Rattle.brooklet_step.specs.Given.{held_at, IsHeldOf, FitState, StandsAfter, FiresAt, CanTake}
+use Rattle.brooklet_step.specs.Given.{held_at, IsHeldOf, IsPlainBy, FitState, StandsAfter, FiresAt, CanTake}
 use Rattle.brooklet_step.specs.Works.{Stands, IsEnabled}
 
 -- where a kernel could take an item and fired on it, it can take any other item, at any port, that a queue of the port's type may
@@ -31,19 +32,29 @@ pub record StandForSome (k : Kern) (reads : List QueueType) (st : List State) : 
   pub is_start : IsStart k reads start
   pub stands : StandsAfter k reads start st []
 
--- all states that fit stand for some of the definition: so what is said of these says something of all states on which a kernel can
--- fire
+-- no relation passes: neither at the ports, nor between kernels inside
+abbrev pub PassesNone : Kern → List QueueType → Type 0
+PassesNone (packed k) reads = PassesNone k reads
+PassesNone (window v) reads = ⊥
+PassesNone (project es) reads = ⊥
+PassesNone cross reads = ⊥
+PassesNone (streamer s) reads = ⊥
+PassesNone (fused a b at) reads = PassesNone a reads × PassesNone b (between at (types_of a reads))
+PassesNone kernel reads = IsPlainBy (slice_get reads 0)
+
+-- where no relation passes, all states that fit stand for some of the definition: so what is said of these says something of all states
+-- on which a kernel can fire. Where one does, changes that stand for no contents may have come
 abbrev pub FitStatesStand : Type 0
 FitStatesStand =
-    (k : Kern) (reads writes : List QueueType) (vars : List VarKind) (st : List State) → Fits k reads writes vars → FitState k reads st
+    (k : Kern) (reads writes : List QueueType) (vars : List VarKind) (st : List State) → Fits k reads writes vars → PassesNone k reads → FitState k reads st
     → StandForSome k reads st
 
--- what a firing gave is what the definition gives from the states `now`, and the new states stand for its next ones
+-- what a firing gave is what queues hold for what the definition gives from the states `now`, and the new states stand for its next ones
 pub record FiredFrom (k : Kern) (reads writes : List QueueType) (port : ℕ) (x : item.Item) (now : List Kept) (out out' : Emit)
     (st' : List State) : Type 0 where
   pub outs : out'.outs ≡ each_grew out.outs (λ p. held_at writes p [] ((fire k port x now).outs p))
   pub adds : out'.adds ≡ each_grew out.adds (fire k port x now).adds
-  pub next : StandsAfter k reads (fire k port x now).states st' []
+  pub next : StandsAfter k reads now st' ((port, x) ∷ [])
 
 -- let the code's states stand for states of the definition before a firing. Then what is given is what the definition gives from these, and
 -- afterwards the code's states stand for the definition's next states. This is so for all such states, and not only for those to

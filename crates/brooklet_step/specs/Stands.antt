@@ -12,12 +12,11 @@ use Rattle.work_code.specs.Steps.{Body}
 use Rattle.kern_rows.specs.Forms.{CodeForm, FilterForm}
 use Rattle.kern_rows.specs.Runs.{Filtering, run_kept, pushed_to}
 use Rattle.kern_rows.specs.Stands.{Waiting, StandsForFiltering}
-use Rattle.kern_rows.specs.Turns.{IsTurn, shares, ones}
-use Rattle.kern_changes.specs.Joined.{JoinKept, HasJoinShape}
+use Rattle.kern_rows.specs.Turns.{IsTurn}
 use Rattle.river_kernels.specs.declared.types.VarKind.{VarKind}
 use Rattle.river_kernels.specs.Fits.{Fits}
 use Rattle.river_kernels.specs.Kern.{Kern, code, filter, duplicate, deal, collect, packed, unpack, window, select, project, cross, streamer, tally, fused}
-use Rattle.brooklet_model.specs.Firings.{Kept, Slots, Buffered, Turn, Joining, Fired}
+use Rattle.brooklet_model.specs.Firings.{Kept, Slots, Buffered, Turn, Fired}
 use Rattle.brooklet_model.specs.Fire.{code_one}
 use Rattle.brooklet_model.specs.Typed.{IsOf, Holds}
 use Rattle.brooklet_step.specs.declared.emit.Emit.{Emit}
@@ -60,23 +59,16 @@ pub record StandsForTurn (ws : List ℕ) (st : List State) (ks : List Kept) : Ty
   pub turn : IsTurn ws now.turn.port now.turn.had
   pub lists : length now.owed ≡ length ws
 
--- what waits in a joiner, where its queues hold items as they are
-pub record StandsForJoiner (ws : List ℕ) (st : List State) (ks : List Kept) : Type 0 where
-  pub now : JoinKept
-  pub code : st ≡ state.Join now ∷ []
-  pub defined : ks ≡ Joining now.turns ∷ []
-  pub joined : HasJoinShape ws now
-
--- the states that the code keeps stand for these, of a kernel without a kernel inside whose queues hold items as they are. Those of
--- other kernels stand for what they are after a word of firings, and not for states alone
+-- the states that the code keeps stand for these, of a kernel that keeps no items and no contents. Those of other kernels stand for
+-- what they are after a word of firings, and not for states alone
 abbrev pub StandsFor : Kern → List State → List Kept → Type 0
 StandsFor (code k) st ks = StandsForSlots k.starts st ks
 StandsFor (filter f) st ks = StandsForFilter f st ks
 StandsFor (duplicate n) st ks = AreNone st ks
-StandsFor (deal ws) st ks = StandsForTurn (shares ws) st ks
-StandsFor (collect ws) st ks = StandsForJoiner (shares ws) st ks
+StandsFor (deal ws) st ks = ⊥
+StandsFor (collect ws) st ks = ⊥
 StandsFor (packed k) st ks = ⊥
-StandsFor (unpack n) st ks = StandsForJoiner (ones n) st ks
+StandsFor (unpack n) st ks = ⊥
 StandsFor (window w) st ks = ⊥
 StandsFor (select e) st ks = AreNone st ks
 StandsFor (project es) st ks = AreNone st ks

@@ -42,7 +42,7 @@ pub fn firings_chain()
     ensures { FiringsChain }
 {}
 
-/// All states that fit a kernel stand for some of the definition.
+/// Where no relation passes, all states that fit a kernel stand for some of the definition.
 pub fn fit_states_stand()
     ensures { FitStatesStand }
 {}

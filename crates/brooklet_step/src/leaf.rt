@@ -1,21 +1,24 @@
 // One firing of a kernel that has no kernel inside.
-ghost use Rattle.std.specs.Prelude.{◌≡◌, ◌<◌, ◌∷◌, [], length, map, OnOk};
+ghost use Rattle.std.specs.Prelude.{◌≡◌, ◌<◌, ◌∷◌, [], length, map, IfOk, OnOk};
 ghost use Rattle.river_base.specs.declared.item.Item.TheVariants as variant;
 ghost use Rattle.river_base.specs.declared.item.Flat.TheVariants as flat;
 ghost use Rattle.river_base.specs.Places.{each_grew, only};
 ghost use Rattle.kern_rows.specs.Forms.{code_form, filter_form};
 ghost use Rattle.kern_rows.specs.Needs.{CanCode};
 ghost use Rattle.kern_rows.specs.Runs.{run_kept};
-ghost use Rattle.river_kernels.specs.Kern.{code as code_kern, filter as filter_kern, deal as deal_kern, collect as collect_kern, unpack as unpack_kern};
+ghost use Rattle.river_kernels.specs.Kern.{code as code_kern, filter as filter_kern, deal as deal_kern};
 ghost use Rattle.brooklet_model.specs.Fire.{fire as fire_lem, values_of};
 ghost use Rattle.brooklet_model.specs.Firings.{gives};
 ghost use Rattle.brooklet_step.specs.Took.{Took};
-ghost use Rattle.brooklet_step.specs.Stands.{Takes, Applies, Fires, IsRow, IsPack, IsSlots, Pushed, RanKept};
+ghost use Rattle.brooklet_step.specs.Dealing.{IsDealt};
+ghost use Rattle.brooklet_step.specs.Given.{CanTake, FiresAt};
+ghost use Rattle.brooklet_step.specs.Stands.{Takes, Applies, Fires, IsRow, IsSlots, Pushed, RanKept};
 
 use crate::emit::{Emit, Spare};
 use crate::state::State;
-use kern_rows::{CodeKernel, Collect, Deal, Filter, Unpack};
-use river_base::{Flat, Flats, Item, Items, NoMemory, Numbers, Row};
+use kern_changes::Owed;
+use kern_rows::{CodeKernel, Deal, Filter};
+use river_base::{Flat, Item, Items, NoMemory, Numbers, Row};
 use std::alloc::Global;
 use work_code::Emitted;
 
@@ -154,80 +157,44 @@ pub fn fire_filter(
     }
 }
 
+// What the list at a place is given for an item: the item itself; or for a change the change of this list, by what each list owes.
+fn deal_item(
+    alloc: Global,
+    place: usize,
+    item: Item,
+    owed: &mut Owed,
+) -> Result<Item, NoMemory>
+    requires { place < length owed.old }
+    ensures { IfOk result (λ given. IsDealt place item given owed.old owed.new) }
+{
+    match item {
+        Item::Flat(Flat::Change(change)) => {
+            let given = owed.deal(alloc, place, &change)?;
+            Ok(Item::Flat(Flat::Change(given)))
+        }
+        item => Ok(item),
+    }
+}
+
 /// A splitter passes an item; a number of ports that is no u32 is want of memory.
 pub fn fire_deal(
+    alloc: Global,
     weights: &Numbers,
     item: Item,
     state: &mut State,
     out: &mut Emit,
 ) -> Result<(), NoMemory>
-    requires { Applies (deal_kern weights.now) 0 item (state.old ∷ []) out.old }
-    ensures { OnOk result (Fires (deal_kern weights.now) out.old out.new (state.old ∷ []) (state.new ∷ []) (fire_lem (deal_kern weights.now) 0 item)) }
+    requires { CanTake (deal_kern weights.now) 0 item (state.old ∷ []) out.old }
+    ensures { OnOk result (FiresAt (deal_kern weights.now) 0 item out.old out.new (state.old ∷ []) (state.new ∷ [])) }
 {
     if weights.len() > u32::MAX as usize {
         return Err(NoMemory);
     }
     match state {
-        State::Deal(state) => {
-            let port = Deal::step(weights, state);
-            out.give(port as usize, item)
-        }
-        _ => unreachable!(),
-    }
-}
-
-/// An item comes to a joiner.
-pub fn fire_collect(
-    alloc: Global,
-    weights: &Numbers,
-    port: u32,
-    item: Item,
-    state: &mut State,
-    out: &mut Emit,
-    spare: &mut Spare,
-) -> Result<(), NoMemory>
-    requires { Applies (collect_kern weights.now) port item (state.old ∷ []) out.old }
-    ensures { OnOk result (Fires (collect_kern weights.now) out.old out.new (state.old ∷ []) (state.new ∷ []) (fire_lem (collect_kern weights.now) port item)) }
-{
-    match state {
-        State::Collect(state) => {
-            let mut items = spare.take_items(alloc);
-            Collect::step(weights, state, port, item, &mut items)?;
-            out.give_all(0, items, spare)
-        }
-        _ => unreachable!(),
-    }
-}
-
-// The items of a pack.
-fn pack_of(item: Item) -> Flats
-    requires { IsPack item }
-    ensures { variant.Pack result ≡ item }
-{
-    match item {
-        Item::Pack(flats) => flats,
-        _ => unreachable!(),
-    }
-}
-
-/// A pack comes to a joiner of packs.
-pub fn fire_unpack(
-    alloc: Global,
-    ports: u32,
-    port: u32,
-    item: Item,
-    state: &mut State,
-    out: &mut Emit,
-    spare: &mut Spare,
-) -> Result<(), NoMemory>
-    requires { Applies (unpack_kern ports) port item (state.old ∷ []) out.old }
-    ensures { OnOk result (Fires (unpack_kern ports) out.old out.new (state.old ∷ []) (state.new ∷ []) (fire_lem (unpack_kern ports) port item)) }
-{
-    match state {
-        State::Unpack(state) => {
-            let mut items = spare.take_items(alloc);
-            Unpack::step(ports, state, port, pack_of(item), &mut items)?;
-            out.give_all(0, items, spare)
+        State::Deal(dealt) => {
+            let port = Deal::step(weights, &mut dealt.turn) as usize;
+            let given = deal_item(alloc, port, item, &mut dealt.owed)?;
+            out.give(port, given)
         }
         _ => unreachable!(),
     }

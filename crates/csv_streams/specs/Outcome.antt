@@ -2,7 +2,7 @@
 use Rattle.std.specs.Prelude.{ℕ, ℤ, List, [], ◌∷◌, ◌++◌, map, codes, Option, None, Some, Bool, true, false}
 use Rattle.std.specs.Fmt.{signed_decimal}
 use Rattle.river_base.specs.declared.item.Item as item
-use Rattle.river_base.specs.declared.item.Flat.TheVariants.{One, Batch as Batched}
+use Rattle.river_base.specs.declared.item.Flat.TheVariants.{One, Batch as Batched, Change as Changed}
 use Rattle.river_base.specs.declared.item.Item.TheVariants.{Flat, Pack}
 use Rattle.river_base.specs.Row.{in_order}
 use Rattle.river_plan.specs.Forms.{Name, PlanForm, decl_names, table_names, labels}
@@ -25,10 +25,11 @@ abbrev pub texts_of : {A : Type 0} → (A → List ℕ) → List A → List ℕ
 texts_of line [] = []
 texts_of line (x ∷ xs) = line x ++ texts_of line xs
 
--- the rows that an item prints: a row, or a batch's rows in ascending order, each behind the batch's instant. No output carries packs
+-- the rows that an item prints: a row, or a batch's rows in ascending order, each behind the batch's instant. No output carries packs or changes
 abbrev pub item_rows : item.Item → List (List ℤ)
 item_rows (Flat (One row)) = row ∷ []
 item_rows (Flat (Batched b)) = map (λ row. b.at ∷ row) (in_order b.rows)
+item_rows (Flat (Changed c)) = []
 item_rows (Pack fs) = []
 
 abbrev pub item_text : item.Item → List ℕ

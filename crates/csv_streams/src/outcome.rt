@@ -159,7 +159,7 @@ fn print_item(alloc: Global, item: &Item, to: &mut Bytes) -> Result<(), NoMemory
     match item {
         Item::Flat(Flat::One(row)) => print_values(row.values(), to),
         Item::Flat(Flat::Batch(batch)) => print_batch(alloc, batch, to),
-        Item::Pack(_) => Ok(()),
+        Item::Flat(Flat::Change(_)) | Item::Pack(_) => Ok(()),
     }
 }
 

@@ -5,7 +5,7 @@ use Rattle.std.specs.List.Sorted.{IsSortedByKey}
 use Rattle.std.specs.Ordering.{int_cmp}
 use Rattle.river_base.specs.Name.{name_eq}
 use Rattle.river_base.specs.declared.item.Item as item
-use Rattle.river_base.specs.declared.item.Flat.TheVariants.{One, Batch as Batched}
+use Rattle.river_base.specs.declared.item.Flat.TheVariants.{One, Batch as Batched, Change as Changed}
 use Rattle.river_base.specs.declared.item.Item.TheVariants.{Flat, Pack}
 use Rattle.river_plan.specs.Forms.{Name}
 pub use Rattle.csv_streams.specs.Timed.{Entry}
@@ -39,6 +39,7 @@ entries_or (Some k) = k.entries
 abbrev pub entries_at : item.Item → List Entry
 entries_at (Flat (Batched b)) = map (λ row. (b.at, row)) b.rows
 entries_at (Flat (One row)) = []
+entries_at (Flat (Changed c)) = []
 entries_at (Pack fs) = []
 
 abbrev pub entries_in : List item.Item → List Entry

@@ -64,7 +64,7 @@ fn add_entries(item: &Item, all: &mut TimedRows) -> Result<(), NoMemory>
 {
     match item {
         Item::Flat(Flat::Batch(batch)) => add_rows(batch.at, batch.rows.as_slice(), all),
-        Item::Flat(Flat::One(_)) => Ok(()),
+        Item::Flat(Flat::One(_) | Flat::Change(_)) => Ok(()),
         Item::Pack(_) => Ok(()),
     }
 }
