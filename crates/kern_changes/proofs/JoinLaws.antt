@@ -1,5 +1,5 @@
 -- Items pass a joiner, one after another.
-use Rattle.std.proofs.Common.{◌≡◌, ◌≢◌, ◌<◌, ℕ, zero, suc, ℤ, Some, None, List, [], ◌∷◌, ◌++◌, length, refl, sym, ap, ◌∙◌, arith, subst, append_assoc, ⊎_elim}
+use Rattle.std.proofs.Common.{◌≡◌, ◌≢◌, ◌<◌, ℕ, zero, suc, ℤ, Some, None, List, [], ◌∷◌, ◌++◌, length, refl, sym, ap, ◌∙◌, subst, append_assoc, ⊎_elim}
 use Rattle.std.specs.Prelude.{All, slice_index_or}
 use Rattle.std.proofs.lemmas.Bool.{cases_eq}
 use Rattle.std.proofs.lemmas.List.{append-nil}
@@ -22,10 +22,9 @@ use Rattle.kern_rows.specs.Passing.{Passes, IsStuck, SoFar, passed_by, port_afte
 use Rattle.kern_rows.specs.Turns.{Turns, front_at, rest_at, rest_in, waiting, settled, itself}
 use Rattle.kern_rows.proofs.Passed.{front_is, front_none, length-rest_at, joined_put, so_far_start, so_far_step, so_far_less, so_far_end}
 use Rattle.kern_changes.specs.declared.owed.Debt.{Debt}
-use Rattle.river_base.specs.Changes.{change_to}
 use Rattle.kern_changes.specs.Owed.{AreOwed, but_at, JoinsOwed, KeepsOwed}
 use Rattle.kern_changes.specs.Joined.{JoinKept, put_item, HasJoinShape, IsUnchanged, HasNoChange, PassesOpened, AreOpened, Joining, StandsForJoining, JoinedItems, JoinsItems}
-use Rattle.kern_changes.specs.Joined.{JoinedPlainly, JoinsPlainly, flat_in, MayOwe, IsJoinOf, GaveHeld, KeepsJoin, FlatJoined, FlatsJoined, ItemJoined, JoinsFlat, JoinsFlats, JoinsItem}
+use Rattle.kern_changes.specs.Joined.{JoinsPlainly, flat_in, MayOwe, GaveHeld, KeepsJoin, FlatJoined, FlatsJoined, ItemJoined, JoinsFlat, JoinsFlats, JoinsItem}
 use Rattle.kern_changes.proofs.OwedLaws.{but_same, but_other}
 
 -- CONTENTS

@@ -1,5 +1,5 @@
 -- Joiners of rows, streams and relations: items that wait at ports which take turns, and what each port owes, by contents.
-use Rattle.std.specs.Prelude.{◌≡◌, ◌<◌, ◌≢◌, ℕ, ℤ, List, [], ◌∷◌, ◌++◌, length, All}
+use Rattle.std.specs.Prelude.{◌≡◌, ◌<◌, ◌≢◌, ℕ, ℤ, List, ◌++◌, length, All}
 use Rattle.river_base.specs.declared.item.Flat as flat
 use Rattle.river_base.specs.declared.item.Flat.TheVariants.{One, Batch as Batched, Change as Changed}
 use Rattle.river_base.specs.declared.item.Item as item
@@ -11,7 +11,7 @@ use Rattle.river_base.specs.declared.kind.QueueType.TheVariants.{Flat as FlatOf,
 use Rattle.river_base.specs.Held.{MayHold, IsHeld, after_flat, after_flats, after_item, content_from, held_flat, held_flats, held_item, held_from, as_items, items_of}
 use Rattle.river_base.specs.Places.{list_at}
 use Rattle.kern_rows.specs.Needs.{IsJoiner}
-use Rattle.kern_rows.specs.Passing.{Passes, IsStuck}
+use Rattle.kern_rows.specs.Passing.{Passes}
 use Rattle.kern_rows.specs.Turns.{Turns, turns_start, put, settled}
 use Rattle.kern_changes.specs.declared.owed.Debt.{Debt}
 use Rattle.kern_changes.specs.Owed.{AreOwed, AreDebtsOf, OweLittle, owed_start}

@@ -1,5 +1,5 @@
-use Rattle.std.proofs.Common.{◌≡◌, sym, ap, ◌∙◌, subst}
-use Rattle.kern_rows.specs.Turns.{shares, put}
+use Rattle.std.proofs.Common.{sym, ap, ◌∙◌, subst}
+use Rattle.kern_rows.specs.Turns.{shares}
 use Rattle.kern_changes.specs.Joined.{JoinKept, put_item, HasJoinShape, JoinsItems, JoinsPlainly, KeepsJoin}
 use Rattle.kern_changes.proofs.JoinLaws.{join_kept, put_shape}
 use Rattle.kern_changes.proofs.joined.JoinItems.collect.Goals as goal

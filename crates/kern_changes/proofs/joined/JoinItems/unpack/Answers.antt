@@ -1,5 +1,5 @@
-use Rattle.std.proofs.Common.{◌≡◌, sym, ap, ◌∙◌, subst}
-use Rattle.kern_rows.specs.Turns.{ones, put}
+use Rattle.std.proofs.Common.{sym, ap, ◌∙◌, subst}
+use Rattle.kern_rows.specs.Turns.{ones}
 use Rattle.kern_changes.specs.Joined.{JoinKept, put_item, HasJoinShape, JoinsItems, JoinsPlainly, KeepsJoin}
 use Rattle.kern_changes.proofs.JoinLaws.{join_kept, put_shape}
 use Rattle.kern_changes.proofs.joined.JoinItems.unpack.Goals as goal
