@@ -2,6 +2,7 @@ pub mod Adding
 pub mod BagLeaves
 pub mod Counted
 pub mod DealFires
+pub mod Edges
 pub mod Fires
 pub mod FitLemmas
 pub mod FitsLemmas
