@@ -115,14 +115,16 @@ got_all P (y ∷ ys) (suc n) x a g = got_all P ys n x (All-tail P y ys a) g
 
 -- INPUTS
 
-kind_front : (xs ys : List Decl) (q : Name) → 0 < count q (decl_names xs) → kind_in (xs ++ ys) q ≡ kind_in xs q
+-- the type of what the first lists declare is told there
+pub kind_front : (xs ys : List Decl) (q : Name) → 0 < count q (decl_names xs) → kind_in (xs ++ ys) q ≡ kind_in xs q
 kind_front [] ys q lt = absurd (omega (arith, lt))
 kind_front (x ∷ xs) ys q lt = ⊎_elim
     (λ c. if_true (name_eq x.name q) (Some x.kind) (kind_in (xs ++ ys) q) c.1 ∙ sym (if_true (name_eq x.name q) (Some x.kind) (kind_in xs q) c.1))
     (λ c. if_false (name_eq x.name q) (Some x.kind) (kind_in (xs ++ ys) q) c.1 ∙ kind_front xs ys q (let e = ap one_if c.1 in omega (arith, e, lt)) ∙ sym (if_false (name_eq x.name q) (Some x.kind) (kind_in xs q) c.1))
     (cases_name x.name q)
 
-kind_back : (xs ys : List Decl) (q : Name) → count q (decl_names xs) ≡ 0 → kind_in (xs ++ ys) q ≡ kind_in ys q
+-- and of what they do not declare behind them
+pub kind_back : (xs ys : List Decl) (q : Name) → count q (decl_names xs) ≡ 0 → kind_in (xs ++ ys) q ≡ kind_in ys q
 kind_back [] ys q z = refl
 kind_back (x ∷ xs) ys q z = ⊎_elim
     (λ c. absurd (let e = ap one_if c.1 in omega (arith, e, z)))

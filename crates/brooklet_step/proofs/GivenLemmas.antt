@@ -94,7 +94,8 @@ plain_typed (PackOf (Stream w)) (Flat f) p h = absurd h
 plain_typed (PackOf (Stream w)) (Pack fs) p h = h
 plain_typed (PackOf (Relation w)) x p h = absurd p
 
-typed_plain : (t : QueueType) (x : item.Item) → IsPlain t → HasType t x → IsHeld t x
+-- and such a queue may hold what has its type
+pub typed_plain : (t : QueueType) (x : item.Item) → IsPlain t → HasType t x → IsHeld t x
 unfolding IsHeld
 typed_plain (FlatOf (Rows w)) (Flat f) p h = h
 typed_plain (FlatOf (Rows w)) (Pack fs) p h = absurd h

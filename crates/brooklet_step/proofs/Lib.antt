@@ -3,6 +3,7 @@ pub mod BagLeaves
 pub mod Counted
 pub mod CrossFires
 pub mod DealFires
+pub mod Edges
 pub mod Fires
 pub mod FitLemmas
 pub mod FitsLemmas
@@ -11,6 +12,7 @@ pub mod GivenCode
 pub mod GivenFires
 pub mod GivenLemmas
 pub mod GivenParts
+pub mod HeldTyped
 pub mod KeptTables
 pub mod Leaves
 pub mod Moved

@@ -9,7 +9,7 @@ use Rattle.std.proofs.lemmas.Option.{slice_get_within, slice_get-get_or, get_or_
 use Rattle.river_base.specs.declared.item.Item as item
 use Rattle.river_base.specs.Name.{name_eq}
 use Rattle.river_base.specs.Held.{held}
-use Rattle.river_base.proofs.HeldLemmas.{length-held, held-same}
+use Rattle.river_base.proofs.HeldLemmas.{length-held}
 use Rattle.river_plan.specs.declared.plan.Decl.{Decl}
 use Rattle.river_kernels.specs.declared.limit.Limit.TheVariants.{Operators, Ports}
 use Rattle.river_plan.specs.declared.op.Op.{Op}
@@ -35,6 +35,7 @@ use Rattle.brooklet_step.specs.declared.machine.Parts.{Parts}
 use Rattle.brooklet_step.specs.Drained.{IsDrained, read_in, left_at, Follows, RunsOn, DrainedBefore, HasPorts, HasRun}
 use Rattle.brooklet_step.specs.Works.{queue_of, kinds_of, Stands, ReadsAt, IsEnabled, Ran, GoesOn, Starts, Steps, AreCounts}
 use Rattle.brooklet_step.specs.Tables.{defined_tables}
+use Rattle.brooklet_step.proofs.Edges.{output_held}
 use Rattle.brooklet_step.proofs.KeptTables.{kept_of_bags, defined_rows}
 use Rattle.brooklet_step.proofs.QueuePlaces.{place_is, lists_in_order}
 use Rattle.brooklet_step.proofs.ReadLemmas.{op_at, got_map}
@@ -352,7 +353,7 @@ module _ (p : PlanForm) (inputs : List (List item.Item)) (m0 m : Parts) (v : IsP
   pub run_outs : (outs : List (List item.Item)) → outs ≡ map (queue_of m) (decl_names m.plan.outputs) → outs ≡ (meaning p inputs).outs
   run_outs outs e =
       e ∙ map_on (queue_of m) ran.state.hist (decl_names m.plan.outputs)
-      (λ i q g. ran.stands.left q (output_there m.plan i q g) ∙ ap (λ n. drop n (held (kinds_of m q) [] (ran.state.hist q))) (ran.stands.unread q (output_unread m.plan valid i q g)) ∙ held-same (kinds_of m q) [] (ran.state.hist q))
+      (λ i q g. ran.stands.left q (output_there m.plan i q g) ∙ ap (λ n. drop n (held (kinds_of m q) [] (ran.state.hist q))) (ran.stands.unread q (output_unread m.plan valid i q g)) ∙ output_held m.plan valid q (got_count (decl_names m.plan.outputs) i q g) [] (ran.state.hist q))
       ∙ outs_are m.plan inputs ran.events ran.state defined ∙ ap (λ (x : PlanForm). (meaning x inputs).outs) plan_is
 
   -- the counts are the plan's firings

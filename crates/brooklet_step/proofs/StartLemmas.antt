@@ -8,10 +8,8 @@ use Rattle.std.proofs.lemmas.List.{length-replicate, length-map, get_or-append-a
 use Rattle.std.proofs.lemmas.Option.{slice_get_within, slice_get-get_or}
 use Rattle.river_base.specs.declared.item.Item as item
 use Rattle.river_base.specs.declared.kind.QueueType.{QueueType}
-use Rattle.std.proofs.lemmas.List.Elements.{All-head, All-tail, All-cons, All-nil}
-use Rattle.river_base.specs.Held.{HasType, IsHeld}
+use Rattle.river_base.specs.Held.{IsHeld}
 use Rattle.river_base.specs.Places.{list_at}
-use Rattle.river_base.proofs.HeldLemmas.{held-same, held-typed}
 use Rattle.kern_tables.specs.declared.kept.Kept.{Kept}
 use Rattle.river_kernels.specs.Kern.{kern_of}
 use Rattle.river_plan.specs.declared.op.Op.{Op}
@@ -39,6 +37,7 @@ use Rattle.brooklet_model.specs.Fit.{Fit}
 use Rattle.brooklet_step.specs.Initial.{IsFirst, CanStart, AreFirst}
 use Rattle.brooklet_step.specs.Tables.{kept_tables}
 use Rattle.brooklet_step.specs.Works.{Stands, Counts, GoesOn, Starts}
+use Rattle.brooklet_step.proofs.Edges.{inputs_held, inputs_may}
 use Rattle.brooklet_step.proofs.QueuePlaces.{written_found}
 use Rattle.brooklet_step.proofs.ReadLemmas.{got_map}
 
@@ -193,10 +192,6 @@ module _ (p : PlanForm) (v : IsPlan p) (inputs : List (List item.Item)) (fit : F
 
 -- ALL OF IT
 
-all_are_held : (t : QueueType) (xs : List item.Item) → All (HasType t) xs → All (IsHeld t) xs
-all_are_held t [] h = All-nil (IsHeld t)
-all_are_held t (x ∷ xs) h = All-cons (IsHeld t) x xs (held-typed t x (All-head (HasType t) x xs h)) (all_are_held t xs (All-tail (HasType t) x xs h))
-
 pub record First (p : PlanForm) (inputs : List (List item.Item)) (m : Parts) : Type 0 where
   pub starts : Starts p inputs m
   pub goes_on : GoesOn m
@@ -214,7 +209,7 @@ first p pl inputs queues cs states tables v fit pe qe f ce te =
     let hist_is : (q : Name) → 0 < count q (queue_names p) → list_at queues (place (queue_names p) q) ≡ inputs_of (decl_names p.inputs) (list_at inputs) q =
     λ q lt. sym (first_hist p v inputs fit q lt ∙ ap (λ (l : List (List item.Item)). list_at l (place (queue_names p) q)) (sym qe)) in
     let stands : Stands m (start p inputs) = record {
-      left = λ q lt. hist_is q lt ∙ sym (held-same (kinds q) [] (inputs_of (decl_names p.inputs) (list_at inputs) q));
+      left = λ q lt. hist_is q lt ∙ sym (inputs_held p v inputs q);
       within = λ q. omega arith;
       unread = λ q z. refl;
       typed = all_typed;
@@ -237,7 +232,7 @@ first p pl inputs queues cs states tables v fit pe qe f ce te =
         };
         fit = λ o op g. (f.stand o op g).again (map kinds op.reads) (map kinds op.writes) (map (var_kind p.tables p.vars) op.vars) (op_fits p v o op g);
         items =
-            λ q lt. subst (λ (l : List item.Item). All (IsHeld (kinds q)) l) (sym (hist_is q lt)) (all_are_held (kinds q) (inputs_of (decl_names p.inputs) (list_at inputs) q) (all_typed q));
+            λ q lt. subst (λ (l : List item.Item). All (IsHeld (kinds q)) l) (sym (hist_is q lt)) (inputs_may p v inputs fit.typed q);
         inputs = inputs;
         typed = fit.typed;
         ran = record { events = []; state = start p inputs; run = refl; stands = stands; counts = cs_are };

@@ -9,12 +9,11 @@ use Rattle.river_base.specs.declared.kind.QueueType.TheVariants.{Flat as FlatOf}
 use Rattle.work_code.specs.Term.{term, terms}
 use Rattle.work_code.specs.declared.expr.Expr.{Expr}
 use Rattle.work_code.specs.declared.expr.Exprs.{Exprs}
-use Rattle.kern_bags.specs.Kept.{window_start, still_in, StandsForStreamer}
-use Rattle.kern_bags.specs.Steps.{pairing_start}
+use Rattle.kern_bags.specs.Kept.{window_start}
+use Rattle.kern_changes.specs.Joined.{join_start}
+use Rattle.kern_changes.specs.Kept.{cross_start}
 use Rattle.kern_bags.specs.declared.kernel.Window.{Window}
 use Rattle.kern_bags.specs.declared.kernel.Streamer.{Streamer}
-use Rattle.kern_bags.specs.declared.kernel.Streamer.TheVariants.{Istream, Dstream, Rstream}
-use Rattle.kern_bags.specs.declared.kernel.Window.TheVariants.{Now, Range, Unbounded, Latest}
 use Rattle.kern_rows.specs.declared.kernel.CodeKernel.{CodeKernel}
 use Rattle.kern_rows.specs.Forms.{FilterForm, code_form}
 use Rattle.kern_rows.specs.Needs.{CanFilter, HaveShares}
@@ -41,6 +40,10 @@ use Rattle.brooklet_step.specs.Initial.{IsFirst}
 use Rattle.brooklet_step.specs.Stands.{StandsForSlots, StandsFor}
 use Rattle.river_kernels.proofs.WellFormed.{can_filter}
 use Rattle.brooklet_step.proofs.DealFires.{deal_first_after, deal_first_fits}
+use Rattle.brooklet_step.proofs.JoinFires.{collect_first_after, collect_first_fits, unpack_first_after, unpack_first_fits}
+use Rattle.brooklet_step.proofs.WindowFires.{window_first_after, window_first_fits}
+use Rattle.brooklet_step.proofs.CrossFires.{cross_first_after, cross_first_fits}
+use Rattle.brooklet_step.proofs.StreamFires.{streamer_first_after, streamer_first_fits}
 use Rattle.brooklet_step.proofs.GivenLemmas.{IsSimple, first_is_start, fit_of, fit_length, simple_from, parts_fit, parts_after}
 
 -- what is said of each value is said of an answer
@@ -93,6 +96,41 @@ splitter_first ws st f e =
     first_of (deal ws) st f
     (λ reads. subst (λ (l : List State). StandsAfter (deal ws) reads (first_kept (deal ws)) l []) (sym e) (deal_first_after ws reads some))
     (λ reads writes vars fits. subst (FitState (deal ws) reads) (sym e) (deal_first_fits ws reads some))
+
+-- a joiner
+pub joiner_first : (ws : List ℤ) (st : List State) → IsFormed (collect ws) → st ≡ state.Join (join_start (length ws)) ∷ [] → IsFirst (collect ws) st
+joiner_first ws st f e =
+    first_of (collect ws) st f
+    (λ reads. subst (λ (l : List State). StandsAfter (collect ws) reads (first_kept (collect ws)) l []) (sym e) (collect_first_after ws reads (formed_shaped (collect ws) f)))
+    (λ reads writes vars fits. subst (FitState (collect ws) reads) (sym e) (collect_first_fits ws reads (formed_shaped (collect ws) f)))
+
+-- a joiner of packs
+pub unpacker_first : (n : ℕ) (st : List State) → IsFormed (unpack n) → st ≡ state.Join (join_start n) ∷ [] → IsFirst (unpack n) st
+unpacker_first n st f e =
+    first_of (unpack n) st f
+    (λ reads. subst (λ (l : List State). StandsAfter (unpack n) reads (first_kept (unpack n)) l []) (sym e) (unpack_first_after n reads (formed_shaped (unpack n) f)))
+    (λ reads writes vars fits. subst (FitState (unpack n) reads) (sym e) (unpack_first_fits n reads (formed_shaped (unpack n) f)))
+
+-- a window
+pub window_first : (w : Window) (st : List State) → IsFormed (window w) → st ≡ state.Window window_start ∷ [] → IsFirst (window w) st
+window_first w st f e =
+    first_of (window w) st f
+    (λ reads. subst (λ (l : List State). StandsAfter (window w) reads (first_kept (window w)) l []) (sym e) (window_first_after w reads))
+    (λ reads writes vars fits. subst (FitState (window w) reads) (sym e) (window_first_fits w reads writes vars fits))
+
+-- a product
+pub cross_first : (st : List State) → IsFormed cross → st ≡ state.Cross cross_start ∷ [] → IsFirst cross st
+cross_first st f e =
+    first_of cross st f
+    (λ reads. subst (λ (l : List State). StandsAfter cross reads (first_kept cross) l []) (sym e) (cross_first_after reads))
+    (λ reads writes vars fits. subst (FitState cross reads) (sym e) (cross_first_fits reads writes vars fits))
+
+-- a streamer
+pub streamer_first : (s : Streamer) (st : List State) → IsFormed (streamer s) → st ≡ state.Streamer [] ∷ [] → IsFirst (streamer s) st
+streamer_first s st f e =
+    first_of (streamer s) st f
+    (λ reads. subst (λ (l : List State). StandsAfter (streamer s) reads (first_kept (streamer s)) l []) (sym e) (streamer_first_after s reads))
+    (λ reads writes vars fits. subst (FitState (streamer s) reads) (sym e) (streamer_first_fits s reads writes vars fits))
 
 -- the first states of a kernel are those of another form of it
 pub first_at : (k j : Kern) (st : List State) → k ≡ j → IsFirst j st → IsFirst k st

@@ -7,9 +7,9 @@ use Rattle.std.proofs.Math.Seq.{take-nil}
 use Rattle.std.proofs.lemmas.List.Elements.{All-head, All-tail, All-cons, All-nil}
 use Rattle.river_base.specs.declared.item.Item as item
 use Rattle.river_base.specs.declared.kind.QueueType.{QueueType}
-use Rattle.river_base.specs.Held.{held, HasType, IsHeld}
+use Rattle.river_base.specs.Held.{held, IsHeld}
 use Rattle.river_base.specs.Places.{list_at}
-use Rattle.river_base.proofs.HeldLemmas.{held-same, held-typed, length-held}
+use Rattle.river_base.proofs.HeldLemmas.{length-held}
 use Rattle.river_plan.specs.Forms.{Name, OpForm, PlanForm, all_decls, decl_names}
 use Rattle.river_plan.specs.Kinds.{kind_of, var_kind}
 use Rattle.river_plan.specs.Names.{one_if, count}
@@ -35,6 +35,7 @@ use Rattle.brooklet_model.proofs.TypedPlan.{op_fits, inputs_typed}
 use Rattle.brooklet_step.specs.Given.{held_at, held_by, IsHeldBy, IsHeldOf}
 use Rattle.brooklet_step.proofs.GivenLemmas.{at-nil, at-length, ran_typed, first_is_start}
 use Rattle.fire_tasks.specs.Fired.{Seen, bad_at, IsBad, IsHeldAs, kinds_in, kinds_out, HasFired}
+use Rattle.brooklet_step.proofs.Edges.{inputs_held, inputs_may}
 use Rattle.fire_laws.specs.Joins.{TasksJoin, Joins, AreBeside, spread, kept_by, taken_by, bounded}
 use Rattle.fire_laws.proofs.HeldWords.{held_front, held_fewer, all_left, all_mid, relabel, relabel_ports, relabel_at, typed_ports, below_same, nothing_beyond, no_list, found}
 
@@ -97,10 +98,6 @@ none_behind (suc n) [] le = refl
 none_behind zero (x ∷ xs) le = absurd (omega (arith, le))
 none_behind (suc n) (x ∷ xs) le = none_behind n xs (omega (arith, le))
 
-all_held : (t : QueueType) (xs : List item.Item) → All (HasType t) xs → All (IsHeld t) xs
-all_held t [] h = All-nil (IsHeld t)
-all_held t (x ∷ xs) h = All-cons (IsHeld t) x xs (held-typed t x (All-head (HasType t) x xs h)) (all_held t xs (All-tail (HasType t) x xs h))
-
 module _ (p : PlanForm) (inputs : List (List item.Item)) (caps : Capacities) (adds : ℕ → ℕ → List (List ℤ)) (ts : ℕ → Seen) (left : History) (is : ℕ → Word) (v : IsPlan p) (typed : AreInputs p.inputs inputs)
     (fired : (o : ℕ) (op : OpForm) → slice_get p.ops o ≡ Some op → HasFired p op (adds o) (ts o) (is o)) (beside : AreBeside p inputs caps ts left) where
   abbrev kind : Name → QueueType
@@ -124,7 +121,7 @@ module _ (p : PlanForm) (inputs : List (List item.Item)) (caps : Capacities) (ad
       let w = writer_of p.ops q lt in
       let j = place_of w.1.writes q w.3 in
       subst (All (IsHeld (kind q))) (sym (beside.inner o w.0 op w.1 port j.0 q g at w.2 j.1)) (sent_held w.0 w.1 w.2 j.0 q j.1))
-      (λ z. subst (All (IsHeld (kind q))) (sym (beside.input o op port q g at z)) (all_held (kind q) (given_to p inputs q) (inputs_typed p v inputs typed q)))
+      (λ z. subst (All (IsHeld (kind q))) (sym (beside.input o op port q g at z)) (inputs_may p v inputs typed q))
       (more_or_zero (total (writes_it q) p.ops))
 
   none_bad : (o : ℕ) (op : OpForm) → slice_get p.ops o ≡ Some op → (ts o).bad ≡ None
@@ -180,7 +177,7 @@ module _ (p : PlanForm) (inputs : List (List item.Item)) (caps : Capacities) (ad
       (λ k.
       let z : total (writes_it q) p.ops ≡ 0 = (let w = v.written_once q in omega (arith, k, w)) in
       record {
-        front = (left q, ap (λ x. x ++ left q) (sym (received_is n op g port)) ∙ beside.input n op port q g at z ∙ sym (held-same (kind q) [] (given_to p inputs q)) ∙ ap (held (kind q) []) (sym (unwritten_by p inputs ws q z)));
+        front = (left q, ap (λ x. x ++ left q) (sym (received_is n op g port)) ∙ beside.input n op port q g at z ∙ sym (inputs_held p v inputs q) ∙ ap (held (kind q) []) (sym (unwritten_by p inputs ws q z)));
         kinds = subst (All (HasType (kind q))) (sym (unwritten_by p inputs ws q z)) (inputs_typed p v inputs typed q);
       })
       (λ w.

@@ -7,7 +7,7 @@ use Rattle.std.proofs.lemmas.Option.{slice_get_within}
 use Rattle.river_base.specs.declared.item.Item as item
 use Rattle.river_base.specs.declared.kind.QueueType.{QueueType}
 use Rattle.river_base.specs.Places.{list_at}
-use Rattle.river_base.proofs.HeldLemmas.{held-same}
+use Rattle.river_base.proofs.HeldLemmas.{held-nil}
 use Rattle.river_plan.specs.declared.plan.Decl.{Decl}
 use Rattle.river_plan.specs.ByPlace.{decl_kinds, queue_kinds, kind_at}
 use Rattle.river_plan.specs.Forms.{Name, OpForm, PlanForm, all_decls, queue_names, decl_names}
@@ -110,7 +110,7 @@ none_held types j = by (slice_get types j)
   where
     by : (o : Option QueueType) → held_by o [] [] ≡ []
     by None = refl
-    by (Some t) = held-same t [] []
+    by (Some t) = held-nil t []
 
 no_word : (w : Word) → ports_of w ≡ [] → w ≡ []
 no_word [] e = refl

@@ -22,6 +22,7 @@ use Rattle.fire_tasks.specs.declared.task.Task.{Task}
 use Rattle.fire_tasks.specs.Adds.{AreEntries, added, logs_of, table_class}
 use Rattle.fire_tasks.specs.Tasks.{all_moves}
 use Rattle.fire_laws.proofs.NetLemmas.{there_is}
+use Rattle.fire_run.specs.Whole.{sent_hist}
 use Rattle.fire_run.specs.declared.closing.Ran.{Ran}
 use Rattle.fire_run.specs.declared.net.Net.{Net}
 use Rattle.fire_run.specs.Closed.{AreLogsOf, AreOuts, ArePlaced, AreReplayed, IsRanOf, log_at}
@@ -80,7 +81,7 @@ module _ (p : PlanForm) (inputs : List (List item.Item)) (caps : Capacities) (ne
         ∙ sym (got_kept p.tables (all_adds p inputs) k t.0 t.1) ∙ gx))
 
     -- the outcome, the logs and the rounds are those of a run
-    pub ran_end : AreOuts p (hist p inputs) (length p.ops) 0 ran.outcome.outs → ran.outcome.counts ≡ map (λ (t : Task). pos t.count) net.tasks
+    pub ran_end : AreOuts p (sent_hist p inputs) (length p.ops) 0 ran.outcome.outs → ran.outcome.counts ≡ map (λ (t : Task). pos t.count) net.tasks
         → ran.rounds ≤ 1 + all_moves net.tasks → IsRanOf p inputs ran
     ran_end outs counts rounds = record {
       outs = outs_end p inputs ran.outcome.outs v outs;

@@ -23,6 +23,7 @@ use Rattle.brooklet_model.proofs.Ports.{got_below}
 use Rattle.brooklet_model.proofs.Received.{writer_of}
 use Rattle.brooklet_model.proofs.Solutions.{stays}
 use Rattle.brooklet_model.proofs.Traces.{some_is, got_count, at_most}
+use Rattle.brooklet_step.proofs.Edges.{output_held}
 use Rattle.brooklet_step.proofs.QueuePlaces.{place_is}
 use Rattle.brooklet_step.proofs.ReadLemmas.{got_map, op_at, places_at}
 use Rattle.fire_tasks.specs.declared.ports.Outlet as outlet
@@ -37,6 +38,7 @@ use Rattle.fire_open.proofs.SourceLemmas.{PortAt}
 use Rattle.fire_run.specs.declared.net.Net.{Net}
 use Rattle.fire_run.specs.Closed.{AreOuts, HasOuts, HaveOuts}
 use Rattle.fire_run.specs.NetOf.{IsNetOf, AreIdle}
+use Rattle.fire_run.specs.Whole.{sent_hist}
 use Rattle.fire_run.proofs.Standing.{more_or_none}
 use Rattle.fire_run.proofs.WholeLemmas.{whole_net}
 
@@ -149,7 +151,7 @@ same_lists (x ∷ xs) (y ∷ ys) e h =
     ap (λ z. z ∷ xs) (sym a) ∙ ap (λ zs. y ∷ zs) r
 
 -- once all operators were seen the lines are those of the outputs
-pub outs_end : (p : PlanForm) (inputs : List (List item.Item)) (lines : List (List item.Item)) → IsPlan p → AreOuts p (hist p inputs) (length p.ops) 0 lines
+pub outs_end : (p : PlanForm) (inputs : List (List item.Item)) (lines : List (List item.Item)) → IsPlan p → AreOuts p (sent_hist p inputs) (length p.ops) 0 lines
     → lines ≡ (meaning p inputs).outs
 outs_end p inputs lines v k =
     let ws = decl_names p.outputs in
@@ -167,7 +169,8 @@ outs_end p inputs lines v k =
     (λ more.
     let wr = writer_of p.ops w.0 more in
     let j = place_of wr.1.writes w.0 wr.3 in
-    ap (list_at lines) (sym at) ∙ k.each wr.0 j.0 wr.1 w.0 (inl (slice_get_within p.ops wr.0 wr.1 wr.2)) wr.2 j.1 (omega (arith, at, lt)))
+    ap (list_at lines) (sym at) ∙ k.each wr.0 j.0 wr.1 w.0 (inl (slice_get_within p.ops wr.0 wr.1 wr.2)) wr.2 j.1 (omega (arith, at, lt))
+    ∙ output_held p v w.0 (got_count ws n w.0 w.1) [] (hist p inputs w.0))
     (λ none.
     k.rest n (λ o' j' op q b g2 wq e.
     let same : q ≡ w.0 = place_apart names q w.0 (declared p v o' j' op q g2 wq) cn (e ∙ sym at) in
@@ -229,8 +232,8 @@ module _ (p : PlanForm) (inputs : List (List item.Item)) (caps : Capacities) (ne
       let m = min-le_left most_firings (length k.word) in
       omega (arith, c, m)
 
-  -- the tasks of an idle net sent the histories, and kept those of outputs
-  pub have_outs : AreIdle net.tasks → HaveOuts p (hist p inputs) 0 net.tasks
+  -- the tasks of an idle net sent what queues hold for the histories, and kept that of outputs
+  pub have_outs : AreIdle net.tasks → HaveOuts p (sent_hist p inputs) 0 net.tasks
   have_outs idle =
       let whole = whole_net p inputs caps net v n idle in
       record {

@@ -6,8 +6,8 @@ use Rattle.std.proofs.lemmas.List.{append-nil}
 use Rattle.std.proofs.lemmas.Option.{get_or_from_slice_get, slice_get_within}
 use Rattle.river_base.specs.declared.item.Item as item
 use Rattle.river_base.specs.Bags.{SameBag}
+use Rattle.river_base.specs.Held.{held}
 use Rattle.river_base.specs.Places.{list_at}
-use Rattle.river_base.proofs.HeldLemmas.{held-same}
 use Rattle.river_plan.specs.Forms.{Name, OpForm, PlanForm, all_decls}
 use Rattle.river_plan.specs.Kinds.{kind_of}
 use Rattle.river_plan.specs.Uses.{total, writes_it}
@@ -132,7 +132,7 @@ module _ (p : PlanForm) (inputs : List (List item.Item)) (caps : Capacities) (ne
         let is = lists_at op.writes (ran op (ws o)).outs (hist_by p inputs ws) (by_words p inputs ws v o op g) j q w in
         sym (append-nil (list_at (sent_in t.outs) j)) ∙ ap (λ y. list_at (sent_in t.outs) j ++ y) (sym none) ∙ outs
         ∙ ap (λ k. held_by k [] ((ran op (ws o)).outs j)) (kind_got (kind_of (all_decls p)) op.writes j q w)
-        ∙ held-same (kind_of (all_decls p) q) [] ((ran op (ws o)).outs j) ∙ sym is ∙ whole.queues q;
+        ∙ ap (held (kind_of (all_decls p) q) []) (sym is ∙ whole.queues q);
     bags = λ o k op g lt.
         let t = task_here o op g in
         subst (λ l. SameBag l ((given op (hist p inputs)).adds k)) (sym ((make.gave o op t.0 g t.1).adds_are k lt)) (whole.bags o op g k);

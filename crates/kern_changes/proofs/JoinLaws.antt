@@ -1,149 +1,114 @@
--- Packs of changes pass a joiner, one after another.
-use Rattle.std.proofs.Common.{◌≡◌, ◌≢◌, ◌≤◌, ◌<◌, ◌+◌, ℕ, zero, suc, ℤ, List, [], ◌∷◌, ◌++◌, length, get_or, set, drop, refl, sym, ap, ◌∙◌, arith, subst, append_assoc, ⊎_elim}
-use Rattle.std.specs.Prelude.{All, flat_map, slice_index_or}
+-- Items pass a joiner, one after another.
+use Rattle.std.proofs.Common.{◌≡◌, ◌≢◌, ◌<◌, ℕ, zero, suc, ℤ, Some, None, List, [], ◌∷◌, ◌++◌, length, refl, sym, ap, ◌∙◌, subst, append_assoc, ⊎_elim}
+use Rattle.std.specs.Prelude.{All, slice_index_or}
 use Rattle.std.proofs.lemmas.Bool.{cases_eq}
-use Rattle.std.proofs.lemmas.List.{append-nil, drop_more, length-set, get_or-set_same, get_or-set_other}
-use Rattle.std.proofs.lemmas.List.Elements.{All-head, All-tail, All-get_or}
+use Rattle.std.proofs.lemmas.List.{append-nil}
+use Rattle.std.proofs.lemmas.List.Elements.{All-head, All-tail, All-cons, All-nil, All-append}
 use Rattle.river_base.specs.declared.item.Batch.{Batch}
+use Rattle.river_base.specs.declared.item.Change.{Change}
+use Rattle.river_base.specs.declared.item.Flat as flat
+use Rattle.river_base.specs.declared.item.Flat.TheVariants.{One, Batch as Batched, Change as Changed}
 use Rattle.river_base.specs.declared.item.Item as item
 use Rattle.river_base.specs.declared.item.Item.TheVariants.{Flat, Pack}
-use Rattle.river_base.specs.declared.item.Flat.TheVariants.{One, Batch as Batched, Change as Changed}
-use Rattle.river_base.specs.Held.{batches}
+use Rattle.river_base.specs.declared.kind.FlatType as flat_type
+use Rattle.river_base.specs.declared.kind.FlatType.TheVariants.{Rows, Stream, Relation}
+use Rattle.river_base.specs.declared.kind.QueueType as queue_type
+use Rattle.river_base.specs.declared.kind.QueueType.TheVariants.{Flat as FlatOf, Pack as PackOf}
+use Rattle.river_base.specs.Held.{MayHold, IsHeld, after_flat, after_flats, after_item, content_from, held_flat, held_flats, held_item, held_from, as_items, items_of}
 use Rattle.river_base.specs.Places.{list_at}
-use Rattle.river_base.proofs.PlaceLemmas.{length-append_at}
+use Rattle.river_base.proofs.HeldLemmas.{content-append}
 use Rattle.kern_rows.specs.Needs.{HaveShares, IsJoiner}
 use Rattle.kern_rows.specs.Passing.{Passes, IsStuck, SoFar, passed_by, port_after, had_after}
-use Rattle.kern_rows.specs.Turns.{Turns, IsTurn, next_port, next_had, rest_at, rest_in, settled, ones}
-use Rattle.kern_rows.proofs.Passed.{front_is, front_none, length-rest_at, next_turn, so_far_start, so_far_step, so_far_end}
-use Rattle.river_base.specs.declared.item.Change.{Change}
+use Rattle.kern_rows.specs.Turns.{Turns, front_at, rest_at, rest_in, waiting, settled, itself}
+use Rattle.kern_rows.proofs.Passed.{front_is, front_none, length-rest_at, joined_put, so_far_start, so_far_step, so_far_less, so_far_end}
 use Rattle.kern_changes.specs.declared.owed.Debt.{Debt}
-use Rattle.river_base.specs.Changes.{change_to, changes, last_content, IsWideChange}
 use Rattle.kern_changes.specs.Owed.{AreOwed, but_at, JoinsOwed, KeepsOwed}
-use Rattle.kern_changes.specs.Joined.{PackTurns, JoinKept, put_pack, HasJoinShape, TakesPack, HasNoPack, packs, content_behind, Joining, StandsForJoining}
-use Rattle.kern_changes.specs.Joined.{PackJoined, JoinsPack, JoinedAll, JoinsAll, KeepsPack, KeepsJoin}
-use Rattle.kern_changes.proofs.Leading.{changes-append, last_content-append}
+use Rattle.kern_changes.specs.Joined.{JoinKept, put_item, HasJoinShape, IsUnchanged, HasNoChange, PassesOpened, AreOpened, Joining, StandsForJoining, JoinedItems, JoinsItems}
+use Rattle.kern_changes.specs.Joined.{JoinsPlainly, flat_in, MayOwe, GaveHeld, KeepsJoin, FlatJoined, FlatsJoined, ItemJoined, JoinsFlat, JoinsFlats, JoinsItem}
 use Rattle.kern_changes.proofs.OwedLaws.{but_same, but_other}
-use Rattle.kern_changes.proofs.Widths.{gave_none, gave_more, gave_on}
 
--- ONE PACK
+-- CONTENTS
 
--- some contents have passed, and the rest of the pack is of the changes to the others
-pub record PackBetween (place : ℕ) (rest : List Change) (last : List (List ℤ)) (now : ℕ → List (List ℤ)) (bs : List Batch) (s : List Debt) (out out' : List Change) : Type 0 where
-  pub done : List Batch
-  pub left : List Batch
-  pub parts : bs ≡ done ++ left
-  pub rest_is : rest ≡ changes (last_content (now place) done) left
-  pub joined : PackJoined place last now done s out out'
+-- a list is held part by part
+pub held_from-append : (before : List (List ℤ)) (xs ys : List item.Item) → held_from before (xs ++ ys) ≡ held_from before xs ++ held_from (content_from before xs) ys
+held_from-append before [] ys = refl
+held_from-append before (x ∷ xs) ys = ap (λ l. held_item before x ∷ l) (held_from-append (after_item before x) xs ys)
 
--- the same for whatever contents there were
-pub record PackSoFar (place : ℕ) (pack rest : List Change) (start s : List Debt) (out out' : List Change) : Type 0 where
-  pub each : (last : List (List ℤ)) (now : ℕ → List (List ℤ)) (bs : List Batch) → AreOwed start (λ p. last) now → pack ≡ changes (now place) bs
-      → PackBetween place rest last now bs s out out'
+-- the items of a pack are held as the pack is
+pub held-as_items : (before : List (List ℤ)) (fs : List flat.Flat) → held_from before (as_items fs) ≡ as_items (held_flats before fs)
+held-as_items before [] = refl
+held-as_items before (f ∷ fs) = ap (λ l. Flat (held_flat before f) ∷ l) (held-as_items (after_flat before f) fs)
 
--- nothing has passed
-pub pack_start : (place : ℕ) (pack : List Change) (s : List Debt) (out : List Change) → PackSoFar place pack pack s s out out
-pack_start place pack s out = record {
-  each = λ last now bs owed is. record {
-    done = [];
-    left = bs;
-    parts = refl;
-    rest_is = is;
-    joined = record { next = now; here = refl; others = λ q ne. refl; owed = owed; gave = sym (append-nil out) };
-  };
-}
+-- and have its content
+pub content-as_items : (before : List (List ℤ)) (fs : List flat.Flat) → content_from before (as_items fs) ≡ after_flats before fs
+content-as_items before [] = refl
+content-as_items before (f ∷ fs) = content-as_items (after_flat before f) fs
 
-record FirstOf (c : Change) (rest : List Change) (before : List (List ℤ)) (bs : List Batch) : Type 0 where
-  b : Batch
-  more : List Batch
-  is : bs ≡ b ∷ more
-  change : c ≡ change_to before b
-  rest_is : rest ≡ changes b.rows more
+-- so it is with any item
+pub content-items_of : (before : List (List ℤ)) (x : item.Item) → content_from before (items_of x) ≡ after_item before x
+content-items_of before (Flat f) = refl
+content-items_of before (Pack fs) = content-as_items before fs
 
-first_of : (c : Change) (rest : List Change) (before : List (List ℤ)) (bs : List Batch) → c ∷ rest ≡ changes before bs → FirstOf c rest before bs
-first_of c rest before [] e = absurd (cc e)
-first_of c rest before (b ∷ bs) e = record { b = b; more = bs; is = refl; change = cc e; rest_is = cc e }
+after-more : (before : List (List ℤ)) (fs : List flat.Flat) (f : flat.Flat) → after_flats before (fs ++ f ∷ []) ≡ after_flat (after_flats before fs) f
+after-more before [] f = refl
+after-more before (g ∷ fs) f = after-more (after_flat before g) fs f
 
--- one change more has passed
-pub pack_step : (place : ℕ) (pack rest : List Change) (c given : Change) (start s s' : List Debt) (out out' out'' : List Change)
-    → PackSoFar place pack (c ∷ rest) start s out out' → JoinsOwed place c s s' given → out'' ≡ out' ++ given ∷ [] → PackSoFar place pack rest start s' out out''
-pack_step place pack rest c given start s s' out out' out'' f j e = record { each = λ last now bs owed is. step last now bs (f.each last now bs owed is) } where
-  step : (last : List (List ℤ)) (now : ℕ → List (List ℤ)) (bs : List Batch) → PackBetween place (c ∷ rest) last now bs s out out' → PackBetween place rest last now bs s' out out''
-  step last now bs g =
-      let p = g.joined in
-      let h = first_of c rest (last_content (now place) g.done) g.left g.rest_is in
-      let b : Batch = h.b in
-      let r = j.each (last_content last g.done) p.next b p.owed (h.change ∙ ap (λ l. change_to l b) (sym p.here)) in
-      let ends : (before : List (List ℤ)) → last_content before (g.done ++ b ∷ []) ≡ b.rows = λ before. last_content-append before g.done (b ∷ []) in
-      record {
-        done = g.done ++ b ∷ [];
-        left = h.more;
-        parts = g.parts ∙ ap (λ l. g.done ++ l) h.is ∙ sym (append_assoc g.done (b ∷ []) h.more);
-        rest_is = h.rest_is ∙ ap (λ l. changes l h.more) (sym (ends (now place)));
-        joined = record {
-          next = but_at place b.rows p.next;
-          here = but_same place b.rows p.next ∙ sym (ends (now place));
-          others = λ q ne. but_other place q b.rows p.next ne ∙ p.others q ne;
-          owed = subst (λ l. AreOwed s' (λ q. l) (but_at place b.rows p.next)) (sym (ends last)) r.1;
-          gave =
-              e ∙ (λ i. p.gave i ++ r.0 i ∷ []) ∙ append_assoc out (changes last g.done) (change_to (last_content last g.done) b ∷ [])
-              ∙ ap (λ l. out ++ l) (sym (changes-append last g.done (b ∷ [])));
-        };
-      }
+held-more : (before : List (List ℤ)) (fs : List flat.Flat) (f : flat.Flat)
+    → as_items (held_flats before (fs ++ f ∷ [])) ≡ as_items (held_flats before fs) ++ Flat (held_flat (after_flats before fs) f) ∷ []
+held-more before [] f = refl
+held-more before (g ∷ fs) f = ap (λ l. Flat (held_flat before g) ∷ l) (held-more (after_flat before g) fs f)
 
-none_left : (before : List (List ℤ)) (bs : List Batch) → [] ≡ changes before bs → bs ≡ []
-none_left before [] e = refl
-none_left before (b ∷ bs) e = absurd (cc e)
+items-more : (fs : List flat.Flat) (f : flat.Flat) → as_items (fs ++ f ∷ []) ≡ as_items fs ++ Flat f ∷ []
+items-more [] f = refl
+items-more (g ∷ fs) f = ap (λ l. Flat g ∷ l) (items-more fs f)
 
--- all have passed
-pub pack_end : (place : ℕ) (pack rest : List Change) (start s : List Debt) (out out' : List Change) → PackSoFar place pack rest start s out out' → rest ≡ []
-    → JoinsPack place pack start s out out'
-pack_end place pack rest start s out out' f none = record {
-  each = λ last now bs owed is.
-      let g = f.each last now bs owed is in
-      let nothing : g.left ≡ [] = none_left (last_content (now place) g.done) g.left (sym none ∙ g.rest_is) in
-      let all : g.done ≡ bs = sym (append-nil g.done) ∙ ap (λ l. g.done ++ l) (sym nothing) ∙ sym g.parts in
-      subst (λ l. PackJoined place last now l s out out') all g.joined;
-}
+-- a list of items that are held, but for the last of them
+record HeldLast (fs : List flat.Flat) (f : flat.Flat) (before : List (List ℤ)) (gs : List flat.Flat) : Type 0 where
+  front : List flat.Flat
+  g : flat.Flat
+  is : gs ≡ front ++ g ∷ []
+  rest : fs ≡ held_flats before front
+  end : f ≡ held_flat (after_flats before front) g
 
--- whatever the changes stand for
-pub keeps_start : (pack : List Change) (s : List Debt) (out : List Change) → KeepsPack pack s s out out
-keeps_start pack s out = record { lists = refl; few = λ h. h; wide = λ w h k. (gave_none w out, h) }
+held_last_on : (fs : List flat.Flat) (f x : flat.Flat) (before : List (List ℤ)) (g : flat.Flat) (gs : List flat.Flat) → x ≡ held_flat before g
+    → HeldLast fs f (after_flat before g) gs → HeldLast (x ∷ fs) f before (g ∷ gs)
+held_last_on fs f x before g gs first l = record { front = g ∷ l.front; g = l.g; is = λ i. g ∷ l.is i; rest = λ i. first i ∷ l.rest i; end = l.end }
 
--- and once one more has passed
-pub keeps_step : (pack : List Change) (i : ℕ) (c given : Change) (start s s' : List Debt) (out out' out'' : List Change) → i < length pack → c ≡ get_or pack i c
-    → KeepsPack pack start s out out' → KeepsOwed c s s' given → out'' ≡ out' ++ given ∷ [] → KeepsPack pack start s' out out''
-keeps_step pack i c given start s s' out out' out'' lt is f k e = record {
-  lists = k.lists ∙ f.lists;
-  few = λ h. k.few (f.few h);
-  wide = λ w h p.
-      let g = f.wide w h p in
-      let r = k.wide w g.1 (subst (IsWideChange w) (sym is) (All-get_or (IsWideChange w) pack i c lt p)) in
-      (gave_more w out out' out'' given g.0 e (record { normal = k.normal; wide = r.0 }), r.1);
-}
+held_last : (fs : List flat.Flat) (f : flat.Flat) (before : List (List ℤ)) (gs : List flat.Flat) → fs ++ f ∷ [] ≡ held_flats before gs → HeldLast fs f before gs
+held_last [] f before [] e = absurd (cc e)
+held_last [] f before (g ∷ []) e = record { front = []; g = g; is = refl; rest = refl; end = cc e }
+held_last [] f before (g ∷ h ∷ gs) e = absurd (cc e)
+held_last (x ∷ fs) f before [] e = absurd (cc e)
+held_last (x ∷ fs) f before (g ∷ gs) e =
+    let first : x ≡ held_flat before g = cc e in
+    held_last_on fs f x before g gs first (held_last fs f (after_flat before g) gs (cc e))
 
--- the rest of a pack begins with the change at its place
-pub next_rest : {A : Type 0} (xs : List A) (i : ℕ) (x : A) → i < length xs → x ≡ get_or xs i x → drop i xs ≡ x ∷ drop (i + 1) xs
-next_rest xs i x lt is = drop_more xs i x lt ∙ ap (λ y. y ∷ drop (i + 1) xs) (sym is)
+-- PARTS OF LISTS
 
--- and at its end there is none
-pub drop_past : {A : Type 0} (xs : List A) (i : ℕ) → length xs ≤ i → drop i xs ≡ []
-drop_past [] zero le = refl
-drop_past [] (suc i) le = refl
-drop_past (x ∷ xs) zero le = absurd (omega (arith, le))
-drop_past (x ∷ xs) (suc i) le = drop_past xs i (omega (arith, le))
+all_front : {A : Type 0} (P : A → Type 0) (xs : List A) (x : A) → All P (xs ++ x ∷ []) → All P xs
+all_front P [] x h = All-nil P
+all_front P (y ∷ xs) x h = All-cons P y xs (All-head P y (xs ++ x ∷ []) h) (all_front P xs x (All-tail P y (xs ++ x ∷ []) h))
 
--- LISTS AT PLACES
+all_last : {A : Type 0} (P : A → Type 0) (xs : List A) (x : A) → All P (xs ++ x ∷ []) → P x
+all_last P [] x h = All-head P x [] h
+all_last P (y ∷ xs) x h = all_last P xs x (All-tail P y (xs ++ x ∷ []) h)
 
-set_here : {A : Type 0} (ls : List (List A)) (p : ℕ) (l : List A) → p < length ls → list_at (set ls p l) p ≡ l
-set_here ls p l lt = get_or-set_same ls p l [] lt
+all_rest_in : (P : item.Item → Type 0) (xs : List item.Item) → All P xs → All P (rest_in xs)
+all_rest_in P [] h = h
+all_rest_in P (x ∷ xs) h = All-tail P x xs h
 
-set_else : {A : Type 0} (ls : List (List A)) (p q : ℕ) (l : List A) → p ≢ q → list_at (set ls p l) q ≡ list_at ls q
-set_else ls p q l ne = get_or-set_other ls p q l [] (λ e. ne (sym e))
+-- what holds of all that waits holds of what is left
+pub all_rest : (P : item.Item → Type 0) (ls : List (List item.Item)) (n : ℕ) → ((p : ℕ) → All P (list_at ls p)) → (p : ℕ) → All P (list_at (rest_at ls n) p)
+all_rest P [] n h p = h p
+all_rest P (l ∷ ls) zero h zero = all_rest_in P l (h 0)
+all_rest P (l ∷ ls) zero h (suc p) = h (suc p)
+all_rest P (l ∷ ls) (suc n) h zero = h 0
+all_rest P (l ∷ ls) (suc n) h (suc p) = all_rest P ls n (λ q. h (suc q)) p
 
-rest_here : (ls : List (List item.Item)) (p : ℕ) (x : item.Item) (xs : List item.Item) → p < length ls → list_at ls p ≡ x ∷ xs → list_at (rest_at ls p) p ≡ xs
-rest_here [] p x xs lt e = absurd (omega (arith, lt))
-rest_here (l ∷ ls) zero x xs lt e = ap rest_in e
-rest_here (l ∷ ls) (suc p) x xs lt e = rest_here ls p x xs (omega (arith, lt)) e
+rest_here : (ls : List (List item.Item)) (p : ℕ) (x : item.Item) (xs : List item.Item) → list_at ls p ≡ x ∷ xs → list_at (rest_at ls p) p ≡ xs
+rest_here [] p x xs e = absurd (cc e)
+rest_here (l ∷ ls) zero x xs e = ap rest_in e
+rest_here (l ∷ ls) (suc p) x xs e = rest_here ls p x xs e
 
 rest_else : (ls : List (List item.Item)) (p q : ℕ) → p ≢ q → list_at (rest_at ls p) q ≡ list_at ls q
 rest_else [] p q ne = refl
@@ -152,256 +117,454 @@ rest_else (l ∷ ls) zero (suc q) ne = refl
 rest_else (l ∷ ls) (suc p) zero ne = refl
 rest_else (l ∷ ls) (suc p) (suc q) ne = rest_else ls p q (λ e. ne (ap suc e))
 
--- how many packs wait
-abbrev pub packs_waiting : {A : Type 0} → List (List A) → ℕ
-packs_waiting [] = 0
-packs_waiting (l ∷ ls) = length l + packs_waiting ls
+-- the item in front of a line
+record InFront (ls : List (List item.Item)) (p : ℕ) (x : item.Item) : Type 0 where
+  rest : List item.Item
+  is : list_at ls p ≡ x ∷ rest
 
-fewer_wait : {A : Type 0} (ls : List (List A)) (p : ℕ) (x : A) (rest : List A) → p < length ls → list_at ls p ≡ x ∷ rest → packs_waiting (set ls p rest) < packs_waiting ls
-fewer_wait [] p x rest lt e = absurd (omega (arith, lt))
-fewer_wait (l ∷ ls) zero x rest lt e = let n = ap length e in omega (arith, n)
-fewer_wait (l ∷ ls) (suc p) x rest lt e = let n = fewer_wait ls p x rest (omega (arith, lt)) e in omega (arith, n)
+in_front : (ls : List (List item.Item)) (p : ℕ) (x : item.Item) → front_at itself ls p ≡ Some (x ∷ []) → InFront ls p x
+in_front [] p x e = absurd (cc e)
+in_front ([] ∷ ls) zero x e = absurd (cc e)
+in_front ((y ∷ ys) ∷ ls) zero x e = let same : y ≡ x = cc e in record { rest = ys; is = ap (λ z. z ∷ ys) same }
+in_front (l ∷ ls) (suc p) x e = let f = in_front ls p x e in record { rest = f.rest; is = f.is }
 
--- one that passes does not wait any more
-pub fewer_packs : (ws : List ℕ) (share : ℕ) (s : JoinKept) (t : PackTurns) (pack : List Change) → HasJoinShape ws s → TakesPack share s.turns t pack
-    → packs_waiting t.lists < packs_waiting s.turns.lists
-fewer_packs ws share s t pack j k =
-    subst (λ ls. packs_waiting ls < packs_waiting s.turns.lists) (sym k.lists)
-    (fewer_wait s.turns.lists s.turns.port pack k.rest (subst (λ n. s.turns.port < n) (sym j.lists) j.turn.0) k.front)
+no_front : (ls : List (List item.Item)) (p : ℕ) → front_at itself ls p ≡ None → list_at ls p ≡ []
+no_front [] p e = refl
+no_front ([] ∷ ls) zero e = refl
+no_front ((y ∷ ys) ∷ ls) zero e = absurd (cc e)
+no_front (l ∷ ls) (suc p) e = no_front ls p e
 
-batches-append : (xs ys : List item.Item) → batches (xs ++ ys) ≡ batches xs ++ batches ys
-batches-append [] ys = refl
-batches-append (Flat (Batched b) ∷ xs) ys = ap (λ l. b ∷ l) (batches-append xs ys)
-batches-append (Flat (One row) ∷ xs) ys = batches-append xs ys
-batches-append (Flat (Changed c) ∷ xs) ys = batches-append xs ys
-batches-append (Pack fs ∷ xs) ys = batches-append xs ys
+-- what was given may be held: nothing was
+pub held_none : (t : flat_type.FlatType) (out : List item.Item) → GaveHeld t out out
+held_none t out = record { given = []; grew = sym (append-nil out); each = All-nil (IsHeld (FlatOf t)) }
 
--- THE PACKS OF A PORT
+-- more was
+pub held_on : (t : flat_type.FlatType) (out out' out'' : List item.Item) → GaveHeld t out out' → GaveHeld t out' out'' → GaveHeld t out out''
+held_on t out out' out'' g h = record {
+  given = g.given ++ h.given;
+  grew = h.grew ∙ ap (λ l. l ++ h.given) g.grew ∙ append_assoc out g.given h.given;
+  each = All-append (IsHeld (FlatOf t)) g.given h.given g.each h.each;
+}
 
-record FrontItem (give : item.Item → List item.Item) (before : List (List ℤ)) (pack : List Change) (rest : List (List Change)) (items : List item.Item) : Type 0 where
-  x : item.Item
-  xs : List item.Item
-  is : items ≡ x ∷ xs
-  pack_is : pack ≡ changes before (batches (give x))
-  rest_is : rest ≡ packs give (last_content before (batches (give x))) xs
+-- one item was
+held_one : (t : flat_type.FlatType) (out out' : List item.Item) (f : flat.Flat) → out' ≡ out ++ Flat f ∷ [] → MayHold t f → GaveHeld t out out'
+unfolding IsHeld
+held_one t out out' f e h = record {
+  given = Flat f ∷ [];
+  grew = e;
+  each = All-cons (IsHeld (FlatOf t)) (Flat f) [] h (All-nil (IsHeld (FlatOf t)));
+}
 
-front_item : (give : item.Item → List item.Item) (before : List (List ℤ)) (pack : List Change) (rest : List (List Change)) (items : List item.Item)
-    → pack ∷ rest ≡ packs give before items → FrontItem give before pack rest items
-front_item give before pack rest [] e = absurd (cc e)
-front_item give before pack rest (x ∷ xs) e = record { x = x; xs = xs; is = refl; pack_is = cc e; rest_is = cc e }
+-- ONE ITEM THAT IS NO PACK
 
-no_item : (give : item.Item → List item.Item) (before : List (List ℤ)) (items : List item.Item) → [] ≡ packs give before items → items ≡ []
-no_item give before [] e = refl
-no_item give before (x ∷ xs) e = absurd (cc e)
+row_joined : (place : ℕ) (row : List ℤ) (s : List Debt) (last : List (List ℤ)) (now : ℕ → List (List ℤ)) (g : flat.Flat) → IsUnchanged g → AreOwed s (λ p. last) now
+    → One row ≡ held_flat (now place) g → FlatJoined place last now g s (One row)
+row_joined place row s last now (One r) same owed is = record { next = now; here = refl; others = λ q ne. refl; owed = owed; gave = is }
+row_joined place row s last now (Batched b) same owed is = absurd (cc is)
+row_joined place row s last now (Changed c) same owed is = absurd same
 
--- the content that comes last is the same once the first item has passed
-behind_first : (give : item.Item → List item.Item) (before : List (List ℤ)) (x : item.Item) (xs : List item.Item)
-    → content_behind give (last_content before (batches (give x))) xs ≡ content_behind give before (x ∷ xs)
-behind_first give before x xs =
-    sym (ap (last_content before) (batches-append (give x) (flat_map give xs)) ∙ last_content-append before (batches (give x)) (batches (flat_map give xs)))
+-- a row passes as it is
+pub row_passes : (place : ℕ) (row : List ℤ) (s : List Debt) → JoinsFlat place (One row) s s (One row)
+row_passes place row s = record {
+  each = λ last now g same owed is. row_joined place row s last now g same owed is;
+  plain = λ h. (refl, refl);
+  lists = refl;
+  few = λ h. h;
+  wide = λ t h o. (h, o);
+}
 
--- ALL PACKS
+batch_joined : (place : ℕ) (b : Batch) (s : List Debt) (last : List (List ℤ)) (now : ℕ → List (List ℤ)) (g : flat.Flat) → IsUnchanged g
+    → Batched b ≡ held_flat (now place) g → FlatJoined place last now g s (Batched b)
+batch_joined place b s last now (One r) same is = absurd (cc is)
+batch_joined place b s last now (Batched c) same is = absurd (cc is)
+batch_joined place b s last now (Changed c) same is = absurd same
+
+-- so does a batch
+pub batch_passes : (place : ℕ) (b : Batch) (s : List Debt) → JoinsFlat place (Batched b) s s (Batched b)
+batch_passes place b s = record {
+  each = λ last now g same owed is. batch_joined place b s last now g same is;
+  plain = λ h. (refl, refl);
+  lists = refl;
+  few = λ h. h;
+  wide = λ t h o. (h, o);
+}
+
+change_joined : (place : ℕ) (c given : Change) (s s' : List Debt) → JoinsOwed place c s s' given → (last : List (List ℤ)) (now : ℕ → List (List ℤ)) (g : flat.Flat)
+    → IsUnchanged g → AreOwed s (λ p. last) now → Changed c ≡ held_flat (now place) g → FlatJoined place last now g s' (Changed given)
+change_joined place c given s s' j last now (One r) same owed is = absurd (cc is)
+change_joined place c given s s' j last now (Changed d) same owed is = absurd same
+change_joined place c given s s' j last now (Batched b) same owed is =
+    let r = j.each last now b owed (cc is) in
+    record {
+      next = but_at place b.rows now;
+      here = but_same place b.rows now;
+      others = λ q ne. but_other place q b.rows now ne;
+      owed = r.1;
+      gave = ap (λ d. Changed d) r.0;
+    }
+
+change_wide : (c given : Change) (s s' : List Debt) → KeepsOwed c s s' given → (t : flat_type.FlatType) → MayHold t (Changed c) → MayOwe t s
+    → MayHold t (Changed given) × MayOwe t s'
+change_wide c given s s' k (Rows n) h o = absurd h
+change_wide c given s s' k (Stream n) h o = absurd h
+change_wide c given s s' k (Relation n) h o = let r = k.wide n o h.wide in (record { normal = k.normal; wide = r.0 }, r.1)
+
+-- a change passes with what its port owes
+pub change_passes : (place : ℕ) (c given : Change) (s s' : List Debt) → JoinsOwed place c s s' given → KeepsOwed c s s' given
+    → JoinsFlat place (Changed c) s s' (Changed given)
+change_passes place c given s s' j k = record {
+  each = λ last now g same owed is. change_joined place c given s s' j last now g same owed is;
+  plain = λ h. absurd h;
+  lists = k.lists;
+  few = k.few;
+  wide = λ t h o. change_wide c given s s' k t h o;
+}
+
+-- THE ITEMS OF A PACK
+
+none_joined : (place : ℕ) (s : List Debt) (out : List item.Item) (last : List (List ℤ)) (now : ℕ → List (List ℤ)) (gs : List flat.Flat) → AreOwed s (λ p. last) now
+    → [] ≡ held_flats (now place) gs → FlatsJoined place last now gs s out out
+none_joined place s out last now [] owed is = record { next = now; here = refl; others = λ q ne. refl; owed = owed; gave = sym (append-nil out) }
+none_joined place s out last now (g ∷ gs) owed is = absurd (cc is)
+
+-- none has passed
+pub flats_start : (place : ℕ) (s : List Debt) (out : List item.Item) → JoinsFlats place [] s s out out
+flats_start place s out = record {
+  each = λ last now gs same owed is. none_joined place s out last now gs owed is;
+  plain = λ h. (sym (append-nil out), refl);
+  lists = refl;
+  few = λ h. h;
+  wide = λ t h o. (held_none t out, o);
+}
+
+-- one more has
+pub flats_step : (place : ℕ) (fs : List flat.Flat) (f given : flat.Flat) (start s s' : List Debt) (out out' out'' : List item.Item) → JoinsFlats place fs start s out out'
+    → JoinsFlat place f s s' given → out'' ≡ out' ++ Flat given ∷ [] → JoinsFlats place (fs ++ f ∷ []) start s' out out''
+flats_step place fs f given start s s' out out' out'' j k e = record {
+  each = λ last now gs same owed is. step last now gs same owed (held_last fs f (now place) gs is);
+  plain = λ h.
+      let a = j.plain (all_front IsUnchanged fs f h) in
+      let b = k.plain (all_last IsUnchanged fs f h) in
+      (e ∙ (λ i. a.0 i ++ Flat (b.0 i) ∷ []) ∙ append_assoc out (as_items fs) (Flat f ∷ []) ∙ ap (λ l. out ++ l) (sym (items-more fs f)), b.1 ∙ a.1);
+  lists = k.lists ∙ j.lists;
+  few = λ h. k.few (j.few h);
+  wide = λ t h o.
+      let a = j.wide t (all_front (MayHold t) fs f h) o in
+      let b = k.wide t (all_last (MayHold t) fs f h) a.1 in
+      (held_on t out out' out'' a.0 (held_one t out' out'' given e b.0), b.1);
+}
+  where
+    step : (last : List (List ℤ)) (now : ℕ → List (List ℤ)) (gs : List flat.Flat) → All IsUnchanged gs → AreOwed start (λ p. last) now → HeldLast fs f (now place) gs
+        → FlatsJoined place last now gs s' out out''
+    step last now gs same owed l =
+        let all : All IsUnchanged (l.front ++ l.g ∷ []) = subst (All IsUnchanged) l.is same in
+        let p = j.each last now l.front (all_front IsUnchanged l.front l.g all) owed l.rest in
+        let q = k.each (after_flats last l.front) p.next l.g (all_last IsUnchanged l.front l.g all) p.owed (l.end ∙ ap (λ b. held_flat b l.g) (sym p.here)) in
+        subst (λ xs. FlatsJoined place last now xs s' out out'') (sym l.is) (record {
+          next = q.next;
+          here = q.here ∙ ap (λ b. after_flat b l.g) p.here ∙ sym (after-more (now place) l.front l.g);
+          others = λ r ne. q.others r ne ∙ p.others r ne;
+          owed = subst (λ b. AreOwed s' (λ r. b) q.next) (sym (after-more last l.front l.g)) q.owed;
+          gave =
+              e ∙ (λ i. p.gave i ++ Flat (q.gave i) ∷ []) ∙ append_assoc out (as_items (held_flats last l.front)) (Flat (held_flat (after_flats last l.front) l.g) ∷ [])
+              ∙ ap (λ r. out ++ r) (sym (held-more last l.front l.g));
+        })
+
+-- ONE ITEM
+
+flat_joined : (place : ℕ) (f given : flat.Flat) (s s' : List Debt) (out out' : List item.Item) → JoinsFlat place f s s' given → out' ≡ out ++ Flat given ∷ []
+    → (last : List (List ℤ)) (now : ℕ → List (List ℤ)) (y : item.Item) → HasNoChange y → AreOwed s (λ p. last) now → Flat f ≡ held_item (now place) y
+    → ItemJoined place last now y s' out out'
+flat_joined place f given s s' out out' j e last now (Pack gs) same owed is = absurd (cc is)
+flat_joined place f given s s' out out' j e last now (Flat g) same owed is =
+    let p = j.each last now g same owed (cc is) in
+    record { next = p.next; here = p.here; others = p.others; owed = p.owed; gave = e ∙ ap (λ h. out ++ Flat h ∷ []) p.gave }
+
+flat_wide : (place : ℕ) (f given : flat.Flat) (s s' : List Debt) (out out' : List item.Item) → JoinsFlat place f s s' given → out' ≡ out ++ Flat given ∷ []
+    → (t : queue_type.QueueType) → IsHeld t (Flat f) → MayOwe (flat_in t) s → GaveHeld (flat_in t) out out' × MayOwe (flat_in t) s'
+unfolding IsHeld
+flat_wide place f given s s' out out' j e (FlatOf t) h o = let r = j.wide t h o in (held_one t out out' given e r.0, r.1)
+flat_wide place f given s s' out out' j e (PackOf t) h o = absurd h
+
+-- an item that is no pack has passed
+pub item_alone : (place : ℕ) (f given : flat.Flat) (s s' : List Debt) (out out' : List item.Item) → JoinsFlat place f s s' given → out' ≡ out ++ Flat given ∷ []
+    → JoinsItem place (Flat f) s s' out out'
+item_alone place f given s s' out out' j e = record {
+  each = λ last now y same owed is. flat_joined place f given s s' out out' j e last now y same owed is;
+  plain = λ h. let a = j.plain h in (e ∙ ap (λ g. out ++ Flat g ∷ []) a.0, a.1);
+  lists = j.lists;
+  few = j.few;
+  wide = λ t h o. flat_wide place f given s s' out out' j e t h o;
+}
+
+pack_joined : (place : ℕ) (fs : List flat.Flat) (s s' : List Debt) (out out' : List item.Item) → JoinsFlats place fs s s' out out'
+    → (last : List (List ℤ)) (now : ℕ → List (List ℤ)) (y : item.Item) → HasNoChange y → AreOwed s (λ p. last) now → Pack fs ≡ held_item (now place) y
+    → ItemJoined place last now y s' out out'
+pack_joined place fs s s' out out' j last now (Flat g) same owed is = absurd (cc is)
+pack_joined place fs s s' out out' j last now (Pack gs) same owed is =
+    let p = j.each last now gs same owed (cc is) in
+    record { next = p.next; here = p.here; others = p.others; owed = p.owed; gave = p.gave ∙ ap (λ l. out ++ l) (sym (held-as_items last gs)) }
+
+pack_wide : (place : ℕ) (fs : List flat.Flat) (s s' : List Debt) (out out' : List item.Item) → JoinsFlats place fs s s' out out' → (t : queue_type.QueueType)
+    → IsHeld t (Pack fs) → MayOwe (flat_in t) s → GaveHeld (flat_in t) out out' × MayOwe (flat_in t) s'
+unfolding IsHeld
+pack_wide place fs s s' out out' j (FlatOf t) h o = absurd h
+pack_wide place fs s s' out out' j (PackOf t) h o = j.wide t h o
+
+-- a pack has
+pub item_pack : (place : ℕ) (fs : List flat.Flat) (s s' : List Debt) (out out' : List item.Item) → JoinsFlats place fs s s' out out' → JoinsItem place (Pack fs) s s' out out'
+item_pack place fs s s' out out' j = record {
+  each = λ last now y same owed is. pack_joined place fs s s' out out' j last now y same owed is;
+  plain = j.plain;
+  lists = j.lists;
+  few = j.few;
+  wide = λ t h o. pack_wide place fs s s' out out' j t h o;
+}
+
+-- THE ITEMS OF A PORT
+
+record HeldFront (before : List (List ℤ)) (x : item.Item) (xs items : List item.Item) : Type 0 where
+  y : item.Item
+  ys : List item.Item
+  is : items ≡ y ∷ ys
+  front : x ≡ held_item before y
+  rest : xs ≡ held_from (after_item before y) ys
+
+held_front : (before : List (List ℤ)) (x : item.Item) (xs items : List item.Item) → x ∷ xs ≡ held_from before items → HeldFront before x xs items
+held_front before x xs [] e = absurd (cc e)
+held_front before x xs (y ∷ ys) e = record { y = y; ys = ys; is = refl; front = cc e; rest = cc e }
+
+no_item : (before : List (List ℤ)) (items : List item.Item) → [] ≡ held_from before items → items ≡ []
+no_item before [] e = refl
+no_item before (x ∷ xs) e = absurd (cc e)
+
+-- ALL ITEMS
 
 -- what waits and what is owed
-abbrev pub join_kept : PackTurns → List Debt → JoinKept
+abbrev pub join_kept : Turns → List Debt → JoinKept
 join_kept turns owed = record { turns = turns; owed = owed }
 
--- some items have passed: the changes between their contents were given, and what is kept stands for the others
-pub record JoinedIn (give : item.Item → List item.Item) (ws : List ℕ) (m : Joining) (s : JoinKept) (out out' : List Change) : Type 0 where
+-- some items have passed: they were given, with changes in place of contents, and what is kept stands for the others
+pub record JoinedIn (give : item.Item → List item.Item) (ws : List ℕ) (m : Joining) (s : JoinKept) (out out' : List item.Item) : Type 0 where
   pub next : Joining
-  pub stands : StandsForJoining give s next
+  pub stands : StandsForJoining s next
+  pub left : AreOpened give next.turns
   pub items : List item.Item
   pub passed : SoFar give ws m.turns next.turns [] items
-  pub gave : out' ≡ out ++ changes m.last (batches items)
-  pub last : last_content m.last (batches items) ≡ next.last
-  pub ends : (p : ℕ) → p < length m.turns.lists → content_behind give (next.now p) (list_at next.turns.lists p) ≡ content_behind give (m.now p) (list_at m.turns.lists p)
+  pub gave : out' ≡ out ++ held_from m.last items
+  pub last : content_from m.last items ≡ next.last
+  pub ends : (p : ℕ) → p < length m.turns.lists → content_from (next.now p) (list_at next.turns.lists p) ≡ content_from (m.now p) (list_at m.turns.lists p)
 
--- the same for whatever contents there were, and what was given fits
-pub record JoinedSoFar (ws : List ℕ) (start now : JoinKept) (out out' : List Change) : Type 0 where
-  pub each : (give : item.Item → List item.Item) (m : Joining) → StandsForJoining give start m → JoinedIn give ws m now out out'
+-- they were given as they are
+pub record PlainIn (give : item.Item → List item.Item) (ws : List ℕ) (start s : JoinKept) (out out' : List item.Item) : Type 0 where
+  pub left : AreOpened give s.turns
+  pub passed : SoFar give ws start.turns s.turns out out'
+  pub owed : s.owed ≡ start.owed
+
+-- the same for whatever contents there were, and where there are none, and what was given fits
+pub record JoinedSoFar (ws : List ℕ) (start now : JoinKept) (out out' : List item.Item) : Type 0 where
+  pub each : (give : item.Item → List item.Item) (m : Joining) → AreOpened give m.turns → StandsForJoining start m → JoinedIn give ws m now out out'
+  pub plain : (give : item.Item → List item.Item) → AreOpened give start.turns → PlainIn give ws start now out out'
   pub keeps : KeepsJoin ws start now out out'
 
+joiner_of : (ws : List ℕ) (s : JoinKept) (m : Joining) → StandsForJoining s m → IsJoiner ws s.turns → IsJoiner ws m.turns
+joiner_of ws s m h j = record {
+  turn = (subst (λ p. p < length ws) h.port j.turn.0, subst (λ n. n < slice_index_or ws m.turns.port 0) h.had (subst (λ p. s.turns.had < slice_index_or ws p 0) h.port j.turn.1));
+  lists = sym h.lists ∙ j.lists;
+}
+
 -- no item has
-pub joined_start : (ws : List ℕ) (s : JoinKept) (out : List Change) → HasJoinShape ws s → JoinedSoFar ws s s out out
+pub joined_start : (ws : List ℕ) (s : JoinKept) (out : List item.Item) → HasJoinShape ws s → JoinedSoFar ws s s out out
 joined_start ws s out j = record {
-  each = λ give m h. record {
+  each = λ give m opened h. record {
     next = m;
     stands = h;
+    left = opened;
     items = [];
-    passed = so_far_start give ws m.turns [] (record {
-      turn = subst (λ p. IsTurn ws p m.turns.had) h.port (subst (IsTurn ws s.turns.port) h.had j.turn);
-      lists = sym h.lists ∙ j.lists;
-    });
+    passed = so_far_start give ws m.turns [] (joiner_of ws s m h j.joined);
     gave = sym (append-nil out);
     last = refl;
     ends = λ p lt. refl;
   };
-  keeps = record { shape = j; few = λ h. h; wide = λ w h. (gave_none w out, h) };
+  plain = λ give opened. record { left = opened; passed = so_far_start give ws s.turns out j.joined; owed = refl };
+  keeps = record { shape = j; few = λ h. h; wide = λ t h. (held_none (flat_in t) out, h) };
 }
 
-module _ (ws : List ℕ) (start s s' : JoinKept) (pack : List Change) (out out' out'' : List Change) (shares : HaveShares ws)
-    (t : TakesPack (slice_index_or ws s.turns.port 0) s.turns s'.turns pack) (j : JoinsPack s.turns.port pack s.owed s'.owed out' out'')
-    (k : KeepsPack pack s.owed s'.owed out' out'') where
+-- one that passes does not wait any more
+pub fewer_wait : (ws : List ℕ) (s t : Turns) (x : item.Item) → IsJoiner ws s → Passes (slice_index_or ws s.port 0) s t x → waiting t.lists < waiting s.lists
+fewer_wait ws s t x j p = so_far_less itself ws s s t [] [] x (so_far_start itself ws s [] j) p
+
+module _ (ws : List ℕ) (start s s' : JoinKept) (x : item.Item) (out out' out'' : List item.Item) (shares : HaveShares ws)
+    (t : Passes (slice_index_or ws s.turns.port 0) s.turns s'.turns x) (j : JoinsItem s.turns.port x s.owed s'.owed out' out'') where
   abbrev port : ℕ
   port = s.turns.port
 
-  lists_keep : length s'.turns.lists ≡ length s.turns.lists
-  lists_keep = ap length t.lists ∙ length-set s.turns.lists port t.rest
+  front : InFront s.turns.lists port x
+  front = in_front s.turns.lists port x (t.front itself)
 
-  line_here : port < length s.turns.lists → list_at s'.turns.lists port ≡ t.rest
-  line_here lt = ap (λ ls. list_at ls port) t.lists ∙ set_here s.turns.lists port t.rest lt
+  lists_are : s'.turns.lists ≡ rest_at s.turns.lists port
+  lists_are = ap (λ (u : Turns). u.lists) t.after
+
+  line_here : list_at s'.turns.lists port ≡ front.rest
+  line_here = ap (λ ls. list_at ls port) lists_are ∙ rest_here s.turns.lists port x front.rest front.is
 
   line_else : (q : ℕ) → port ≢ q → list_at s'.turns.lists q ≡ list_at s.turns.lists q
-  line_else q ne = ap (λ ls. list_at ls q) t.lists ∙ set_else s.turns.lists port q t.rest ne
+  line_else q ne = ap (λ ls. list_at ls q) lists_are ∙ rest_else s.turns.lists port q ne
+
+  all_left : (P : item.Item → Type 0) → ((p : ℕ) → All P (list_at s.turns.lists p)) → (p : ℕ) → All P (list_at s'.turns.lists p)
+  all_left P h p = subst (λ ls. All P (list_at ls p)) (sym lists_are) (all_rest P s.turns.lists port h p)
+
+  of_front : (P : item.Item → Type 0) → ((p : ℕ) → All P (list_at s.turns.lists p)) → P x
+  of_front P h = All-head P x front.rest (subst (All P) front.is (h port))
 
   next_shape : HasJoinShape ws s → HasJoinShape ws s'
-  next_shape h =
-      let n : IsTurn ws (next_port ws port s.turns.had) (next_had ws port s.turns.had) = next_turn ws port s.turns.had shares h.turn in
-      let e : s'.turns.port ≡ next_port ws port s.turns.had = t.port ∙ ap (λ n. port_after (slice_index_or ws port 0) n port s.turns.had) h.lists in
-      record {
-        turn = subst (λ q. IsTurn ws q s'.turns.had) (sym e) (subst (IsTurn ws (next_port ws port s.turns.had)) (sym t.had) n);
-        lists = lists_keep ∙ h.lists;
-        owed = k.lists ∙ h.owed;
-      }
+  next_shape h = record {
+    joined = (so_far_step itself ws s.turns s.turns s'.turns [] [] (x ∷ []) x shares (so_far_start itself ws s.turns [] h.joined) t refl).joined;
+    owed = j.lists ∙ h.owed;
+  }
 
   next_keeps : KeepsJoin ws start s out out' → KeepsJoin ws start s' out out''
   next_keeps f = record {
     shape = next_shape f.shape;
-    few = λ h. k.few (f.few h);
-    wide = λ w h.
-        let g = f.wide w h in
-        let lt : port < length s.turns.lists = subst (λ n. port < n) (sym f.shape.lists) f.shape.turn.0 in
-        let front : All (All (IsWideChange w)) (pack ∷ t.rest) = subst (All (All (IsWideChange w))) t.front ((g.1).lines port lt) in
-        let r = k.wide w (g.1).owed (All-head (All (IsWideChange w)) pack t.rest front) in (
-          gave_on w out out' out'' g.0 r.0,
-          record {
-            lines = λ q l.
-                ⊎_elim
-                (λ e. subst (λ p. All (All (IsWideChange w)) (list_at s'.turns.lists p)) e
-                (subst (All (All (IsWideChange w))) (sym (line_here lt)) (All-tail (All (IsWideChange w)) pack t.rest front)))
-                (λ ne. subst (All (All (IsWideChange w))) (sym (line_else q ne)) ((g.1).lines q (subst (λ n. q < n) lists_keep l)))
-                (cases_eq port q);
-            owed = r.1;
-          },
-        );
+    few = λ h. j.few (f.few h);
+    wide = λ q h.
+        let g = f.wide q h in
+        let r = j.wide q (of_front (IsHeld q) (g.1).lines) (g.1).owed in
+        (held_on (flat_in q) out out' out'' g.0 r.0, record { lines = all_left (IsHeld q) (g.1).lines; owed = r.1 });
   }
 
-  module _ (give : item.Item → List item.Item) (n : Joining) (h : StandsForJoining give s n) (joiner : IsJoiner ws n.turns) where
+  next_plain : (give : item.Item → List item.Item) → PlainIn give ws start s out out' → PlainIn give ws start s' out out''
+  next_plain give f =
+      let o : PassesOpened give x = of_front (PassesOpened give) f.left in
+      let b = j.plain o.same in
+      record {
+        left = all_left (PassesOpened give) f.left;
+        passed = so_far_step give ws start.turns s.turns s'.turns out out' out'' x shares f.passed t (b.0 ∙ ap (λ l. out' ++ l) (sym o.opened));
+        owed = b.1 ∙ f.owed;
+      }
+
+  module _ (give : item.Item → List item.Item) (n : Joining) (h : StandsForJoining s n) (left : AreOpened give n.turns) (joiner : IsJoiner ws n.turns) where
     abbrev q : ℕ
     q = n.turns.port
 
     lt : q < length n.turns.lists
     lt = subst (λ i. q < i) (sym joiner.lists) joiner.turn.0
 
-    here : pack ∷ t.rest ≡ packs give (n.now q) (list_at n.turns.lists q)
-    here = sym t.front ∙ ap (λ p. list_at s.turns.lists p) h.port ∙ h.lines q lt
+    held : HeldFront (n.now q) x front.rest (list_at n.turns.lists q)
+    held = held_front (n.now q) x front.rest (list_at n.turns.lists q) (sym front.is ∙ ap (λ p. list_at s.turns.lists p) h.port ∙ h.lines q lt)
 
-    front : FrontItem give (n.now q) pack t.rest (list_at n.turns.lists q)
-    front = front_item give (n.now q) pack t.rest (list_at n.turns.lists q) here
+    opens : PassesOpened give held.y
+    opens = All-head (PassesOpened give) held.y held.ys (subst (All (PassesOpened give)) held.is (left q))
 
-    passes : Passes (slice_index_or ws q 0) n.turns (passed_by (slice_index_or ws q 0) n.turns) front.x
-    passes = record { front = λ g. front_is g n.turns.lists q front.x front.xs lt front.is; after = refl }
+    passes : Passes (slice_index_or ws q 0) n.turns (passed_by (slice_index_or ws q 0) n.turns) held.y
+    passes = record { front = λ g. front_is g n.turns.lists q held.y held.ys lt held.is; after = refl }
 
-    abbrev contents : List Batch
-    contents = batches (give front.x)
-
-    joined : PackJoined q n.last n.now contents s'.owed out' out''
-    joined = (subst (λ p. JoinsPack p pack s.owed s'.owed out' out'') h.port j).each n.last n.now contents h.owed front.pack_is
+    joined : ItemJoined q n.last n.now held.y s'.owed out' out''
+    joined = (subst (λ p. JoinsItem p x s.owed s'.owed out' out'') h.port j).each n.last n.now held.y opens.same h.owed held.front
 
     abbrev after : Joining
-    after = record { turns = passed_by (slice_index_or ws q 0) n.turns; last = last_content n.last contents; now = joined.next }
+    after = record { turns = passed_by (slice_index_or ws q 0) n.turns; last = after_item n.last held.y; now = joined.next }
 
-    rest_front : list_at (rest_at n.turns.lists q) q ≡ front.xs
-    rest_front = rest_here n.turns.lists q front.x front.xs lt front.is
+    rest_front : list_at (rest_at n.turns.lists q) q ≡ held.ys
+    rest_front = rest_here n.turns.lists q held.y held.ys held.is
 
-    stands_after : StandsForJoining give s' after
+    stands_after : StandsForJoining s' after
     stands_after = record {
-      port = t.port ∙ (λ i. port_after (slice_index_or ws (h.port i) 0) (h.lists i) (h.port i) (h.had i));
-      had = t.had ∙ (λ i. had_after (slice_index_or ws (h.port i) 0) (h.had i));
-      lists = lists_keep ∙ h.lists ∙ sym (length-rest_at n.turns.lists q);
+      port = ap (λ (u : Turns). u.port) t.after ∙ (λ i. port_after (slice_index_or ws (h.port i) 0) (h.lists i) (h.port i) (h.had i));
+      had = ap (λ (u : Turns). u.had) t.after ∙ (λ i. had_after (slice_index_or ws (h.port i) 0) (h.had i));
+      lists = ap length lists_are ∙ length-rest_at s.turns.lists port ∙ h.lists ∙ sym (length-rest_at n.turns.lists q);
       lines = λ p l.
           let l' : p < length n.turns.lists = subst (λ i. p < i) (length-rest_at n.turns.lists q) l in
           ⊎_elim
-          (λ e. subst (λ r. list_at s'.turns.lists r ≡ packs give (joined.next r) (list_at (rest_at n.turns.lists q) r)) e
-          (ap (λ r. list_at s'.turns.lists r) (sym h.port) ∙ line_here (subst (λ i. port < i) (sym h.lists) (subst (λ r. r < length n.turns.lists) (sym h.port) lt)) ∙ front.rest_is
-          ∙ (λ i. packs give (sym joined.here i) (sym rest_front i))))
-          (λ ne. line_else p (λ e. ne (sym h.port ∙ e)) ∙ h.lines p l' ∙ (λ i. packs give (sym (joined.others p ne) i) (sym (rest_else n.turns.lists q p ne) i)))
+          (λ e. subst (λ r. list_at s'.turns.lists r ≡ held_from (joined.next r) (list_at (rest_at n.turns.lists q) r)) e
+          (ap (λ r. list_at s'.turns.lists r) (sym h.port) ∙ line_here ∙ held.rest ∙ (λ i. held_from (sym joined.here i) (sym rest_front i))))
+          (λ ne. line_else p (λ e. ne (sym h.port ∙ e)) ∙ h.lines p l' ∙ (λ i. held_from (sym (joined.others p ne) i) (sym (rest_else n.turns.lists q p ne) i)))
           (cases_eq q p);
       owed = joined.owed;
     }
 
-    ends_after : (p : ℕ) → content_behind give (joined.next p) (list_at (rest_at n.turns.lists q) p) ≡ content_behind give (n.now p) (list_at n.turns.lists p)
+    ends_after : (p : ℕ) → content_from (joined.next p) (list_at (rest_at n.turns.lists q) p) ≡ content_from (n.now p) (list_at n.turns.lists p)
     ends_after p =
         ⊎_elim
-        (λ e. subst (λ r. content_behind give (joined.next r) (list_at (rest_at n.turns.lists q) r) ≡ content_behind give (n.now r) (list_at n.turns.lists r)) e
-        ((λ i. content_behind give (joined.here i) (rest_front i)) ∙ behind_first give (n.now q) front.x front.xs ∙ ap (content_behind give (n.now q)) (sym front.is)))
-        (λ ne. (λ i. content_behind give (joined.others p ne i) (rest_else n.turns.lists q p ne i)))
+        (λ e. subst (λ r. content_from (joined.next r) (list_at (rest_at n.turns.lists q) r) ≡ content_from (n.now r) (list_at n.turns.lists r)) e
+        ((λ i. content_from (joined.here i) (rest_front i)) ∙ ap (content_from (n.now q)) (sym held.is)))
+        (λ ne. (λ i. content_from (joined.others p ne i) (rest_else n.turns.lists q p ne i)))
         (cases_eq q p)
 
   next_in : (give : item.Item → List item.Item) (m : Joining) → JoinedIn give ws m s out out' → JoinedIn give ws m s' out out''
   next_in give m g =
       let n = g.next in
       let jn : IsJoiner ws n.turns = g.passed.joined in
-      let x = (front give n g.stands jn).x in
-      let bs : List Batch = batches (give x) in
-      let p = joined give n g.stands jn in
+      let y = (held give n g.stands g.left jn).y in
+      let o : PassesOpened give y = opens give n g.stands g.left jn in
+      let p = joined give n g.stands g.left jn in
       record {
-        next = after give n g.stands jn;
-        stands = stands_after give n g.stands jn;
-        items = g.items ++ give x;
-        passed = so_far_step give ws m.turns n.turns (passed_by (slice_index_or ws n.turns.port 0) n.turns) [] g.items (g.items ++ give x) x shares g.passed
-            (passes give n g.stands jn) refl;
+        next = after give n g.stands g.left jn;
+        stands = stands_after give n g.stands g.left jn;
+        left = λ r. all_rest (PassesOpened give) n.turns.lists n.turns.port g.left r;
+        items = g.items ++ give y;
+        passed = so_far_step give ws m.turns n.turns (passed_by (slice_index_or ws n.turns.port 0) n.turns) [] g.items (g.items ++ give y) y shares g.passed
+            (passes give n g.stands g.left jn) refl;
         gave =
-            p.gave ∙ ap (λ o. o ++ changes n.last bs) g.gave ∙ append_assoc out (changes m.last (batches g.items)) (changes n.last bs)
-            ∙ ap (λ l. out ++ (changes m.last (batches g.items) ++ changes l bs)) (sym g.last)
-            ∙ ap (λ l. out ++ l) (sym (changes-append m.last (batches g.items) bs) ∙ ap (changes m.last) (sym (batches-append g.items (give x))));
-        last = ap (last_content m.last) (batches-append g.items (give x)) ∙ last_content-append m.last (batches g.items) bs ∙ ap (λ l. last_content l bs) g.last;
-        ends = λ r l. ends_after give n g.stands jn r ∙ g.ends r l;
+            p.gave ∙ ap (λ l. l ++ held_from n.last (items_of y)) g.gave ∙ append_assoc out (held_from m.last g.items) (held_from n.last (items_of y))
+            ∙ ap (λ l. out ++ (held_from m.last g.items ++ held_from l (items_of y))) (sym g.last)
+            ∙ ap (λ l. out ++ l) (sym (held_from-append m.last g.items (items_of y)) ∙ ap (λ l. held_from m.last (g.items ++ l)) (sym o.opened));
+        last =
+            ap (λ l. content_from m.last (g.items ++ l)) o.opened ∙ content-append m.last g.items (items_of y) ∙ ap (λ l. content_from l (items_of y)) g.last
+            ∙ content-items_of n.last y;
+        ends = λ r l. ends_after give n g.stands g.left jn r ∙ g.ends r l;
       }
 
   -- one more has
   pub joined_step : JoinedSoFar ws start s out out' → JoinedSoFar ws start s' out out''
-  joined_step f = record { each = λ give m h. next_in give m (f.each give m h); keeps = next_keeps f.keeps }
+  joined_step f = record {
+    each = λ give m opened h. next_in give m (f.each give m opened h);
+    plain = λ give opened. next_plain give (f.plain give opened);
+    keeps = next_keeps f.keeps;
+  }
+
+same_kept : (s s' : JoinKept) → s'.turns ≡ s.turns → s'.owed ≡ s.owed → s ≡ s'
+same_kept s s' e f i = record { turns = sym e i; owed = sym f i }
 
 -- no more can pass
-pub joined_end : (ws : List ℕ) (start s s' : JoinKept) (out out' : List Change) → JoinedSoFar ws start s out out' → HasNoPack s.turns s'.turns → s'.owed ≡ s.owed
-    → JoinsAll ws start s' out out'
-joined_end ws start s s' out out' f gone same = record { each = λ give m h. step give m (f.each give m h) } where
-  is_same : s ≡ s'
-  is_same i = record { turns = sym gone.same i; owed = sym same i }
-
-  step : (give : item.Item → List item.Item) (m : Joining) → JoinedIn give ws m s out out' → JoinedAll give ws m s' out out'
+pub joined_end : (ws : List ℕ) (start s s' : JoinKept) (out out' : List item.Item) → JoinedSoFar ws start s out out' → IsStuck s.turns s'.turns → s'.owed ≡ s.owed
+    → JoinsItems ws start s' out out'
+joined_end ws start s s' out out' f gone same = record { each = λ give m opened h. step give m (f.each give m opened h) } where
+  step : (give : item.Item → List item.Item) (m : Joining) → JoinedIn give ws m s out out' → JoinedItems give ws m s' out out'
   step give m g =
       let n = g.next in
       let jn : IsJoiner ws n.turns = g.passed.joined in
       let lt : n.turns.port < length n.turns.lists = subst (λ i. n.turns.port < i) (sym jn.lists) jn.turn.0 in
       let none : list_at n.turns.lists n.turns.port ≡ [] =
-      no_item give (n.now n.turns.port) (list_at n.turns.lists n.turns.port) (sym gone.none ∙ ap (λ p. list_at s.turns.lists p) g.stands.port ∙ g.stands.lines n.turns.port lt) in
+      no_item (n.now n.turns.port) (list_at n.turns.lists n.turns.port) (sym (no_front s.turns.lists s.turns.port (gone.front itself))
+      ∙ ap (λ p. list_at s.turns.lists p) g.stands.port ∙ g.stands.lines n.turns.port lt) in
       let stop : IsStuck n.turns n.turns = record { front = λ gv. front_none gv n.turns.lists n.turns.port none; same = refl } in
       let e = so_far_end give ws m.turns n.turns n.turns [] g.items g.passed stop in
-      let last : n.last ≡ last_content m.last (batches (settled give ws m.turns).0) = sym g.last ∙ ap (λ l. last_content m.last (batches l)) e.0 in
+      let last : n.last ≡ content_from m.last (settled give ws m.turns).0 = sym g.last ∙ ap (content_from m.last) e.0 in
       record {
         now = n.now;
-        gave = g.gave ∙ ap (λ l. out ++ changes m.last (batches l)) e.0;
-        stands = subst (λ k. StandsForJoining give k
-            (record { turns = (settled give ws m.turns).1; last = last_content m.last (batches (settled give ws m.turns).0); now = n.now })) is_same
-            (subst (StandsForJoining give s) (λ i. record { turns = e.1 i; last = last i; now = n.now }) g.stands);
-        ends = λ p l. ap (λ (u : Turns). content_behind give (n.now p) (list_at u.lists p)) (sym e.1) ∙ g.ends p l;
+        gave = g.gave ∙ ap (λ l. out ++ held_from m.last l) e.0;
+        stands = subst (λ k. StandsForJoining k
+            (record { turns = (settled give ws m.turns).1; last = content_from m.last (settled give ws m.turns).0; now = n.now })) (same_kept s s' gone.same same)
+            (subst (StandsForJoining s) (λ i. record { turns = e.1 i; last = last i; now = n.now }) g.stands);
+        ends = λ p l. ap (λ (u : Turns). content_from (n.now p) (list_at u.lists p)) (sym e.1) ∙ g.ends p l;
       }
 
+-- where no change waited, all passed as it is
+pub plain_end : (ws : List ℕ) (start s s' : JoinKept) (out out' : List item.Item) → JoinedSoFar ws start s out out' → IsStuck s.turns s'.turns → s'.owed ≡ s.owed
+    → JoinsPlainly ws start s' out out'
+plain_end ws start s s' out out' f gone same = record {
+  each = λ give opened.
+      let g = f.plain give opened in
+      let e = so_far_end give ws start.turns s.turns s'.turns out out' g.passed gone in
+      record { gave = e.0; turns = e.1; owed = same ∙ g.owed };
+}
+
 -- and what was given fits
-pub keeps_end : (ws : List ℕ) (start s s' : JoinKept) (out out' : List Change) → JoinedSoFar ws start s out out' → HasNoPack s.turns s'.turns → s'.owed ≡ s.owed
+pub keeps_end : (ws : List ℕ) (start s s' : JoinKept) (out out' : List item.Item) → JoinedSoFar ws start s out out' → IsStuck s.turns s'.turns → s'.owed ≡ s.owed
     → KeepsJoin ws start s' out out'
-keeps_end ws start s s' out out' f gone same = subst (λ k. KeepsJoin ws start k out out') is_same f.keeps where
-  is_same : s ≡ s'
-  is_same i = record { turns = sym gone.same i; owed = sym same i }
+keeps_end ws start s s' out out' f gone same = subst (λ k. KeepsJoin ws start k out out') (same_kept s s' gone.same same) f.keeps
 
--- a joiner that a pack comes to keeps its shape
-pub put_shape : (ws : List ℕ) (p : ℕ) (pack : List Change) (s : JoinKept) → HasJoinShape ws s → HasJoinShape ws (put_pack p pack s)
-put_shape ws p pack s j = record { turn = j.turn; lists = length-append_at s.turns.lists p (pack ∷ []) ∙ j.lists; owed = j.owed }
-
--- each of n ports has one pack in its turn
-pub one_at : (n p : ℕ) → p < length (ones n) → slice_index_or (ones n) p 0 ≡ 1
-one_at zero p h = absurd (omega (arith, h))
-one_at (suc n) zero h = refl
-one_at (suc n) (suc p) h = one_at n p (omega (arith, h))
+-- a joiner that an item comes to keeps its shape
+pub put_shape : (ws : List ℕ) (p : ℕ) (x : item.Item) (s : JoinKept) → HasJoinShape ws s → HasJoinShape ws (put_item p x s)
+put_shape ws p x s j = record { joined = joined_put ws p x s.turns j.joined; owed = j.owed }

@@ -2,13 +2,13 @@
 use Rattle.std.proofs.Common.{◌≡◌, ◌<◌, ℕ, zero, suc, ℤ, List, [], ◌∷◌, length, replicate, refl, sym, ap, ◌∙◌, subst}
 use Rattle.std.proofs.lemmas.List.{length-replicate}
 use Rattle.river_base.specs.declared.item.Batch.{Batch}
+use Rattle.river_base.specs.Held.{held_from}
 use Rattle.river_base.specs.Places.{list_at}
-use Rattle.kern_rows.proofs.Passed.{first_turn}
+use Rattle.kern_rows.proofs.Passed.{start_joined}
 use Rattle.river_base.specs.declared.item.Change.{Change}
 use Rattle.river_base.specs.Changes.{StandForContents, ChangesInto, LeadsTo}
 use Rattle.kern_changes.specs.declared.owed.Debt.{Debt}
 use Rattle.kern_changes.specs.Owed.{no_debt, debt_at, owed_start}
-use Rattle.kern_changes.specs.Joined.{packs}
 use Rattle.kern_changes.specs.Laws.{ChangesAre, StandForOne, StartsAre}
 use Rattle.kern_changes.proofs.Leading.{changes_stand, changes_are, leads_none}
 use Rattle.kern_changes.proofs.OwedLaws.{start_little, nothing_owed}
@@ -43,14 +43,14 @@ starts_hold = record {
   cross = record { lefts = record { each = λ row. refl }; rights = record { each = λ row. refl }; left = refl; right = refl };
   owed = owed;
   little = start_little;
-  joined = λ give n. record {
+  joined = λ n. record {
     port = refl;
     had = refl;
     lists = length-replicate n [] ∙ sym (length-replicate n []);
-    lines = λ p lt. no_list n p ∙ ap (λ l. packs give [] l) (sym (no_list n p));
+    lines = λ p lt. no_list n p ∙ ap (held_from []) (sym (no_list n p));
     owed = owed n;
   };
-  shape = λ ws all. record { turn = first_turn ws all; lists = length-replicate (length ws) []; owed = length-replicate (length ws) no_debt };
+  shape = λ ws all. record { joined = start_joined ws all; owed = length-replicate (length ws) no_debt };
 }
   where
     owed : (n p : ℕ) → p < length (owed_start n) → LeadsTo [] [] (debt_at (owed_start n) p).plus (debt_at (owed_start n) p).minus

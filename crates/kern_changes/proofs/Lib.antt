@@ -1,6 +1,5 @@
 pub mod Counted
 pub mod Crossed
-pub mod Fronts
 pub mod JoinLaws
 pub mod LawProofs
 pub mod Leading

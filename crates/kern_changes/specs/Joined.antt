@@ -1,74 +1,63 @@
--- Joiners of relations: packs of changes that wait at ports which take turns, by contents.
-use Rattle.std.specs.Prelude.{◌≡◌, ◌<◌, ◌≢◌, ℕ, ℤ, List, [], ◌∷◌, ◌++◌, length, flat_map, replicate, set, All}
-use Rattle.river_base.specs.declared.item.Batch.{Batch}
+-- Joiners of rows, streams and relations: items that wait at ports which take turns, and what each port owes, by contents.
+use Rattle.std.specs.Prelude.{◌≡◌, ◌<◌, ◌≢◌, ℕ, ℤ, List, ◌++◌, length, All}
+use Rattle.river_base.specs.declared.item.Flat as flat
+use Rattle.river_base.specs.declared.item.Flat.TheVariants.{One, Batch as Batched, Change as Changed}
 use Rattle.river_base.specs.declared.item.Item as item
-use Rattle.river_base.specs.Held.{batches}
-use Rattle.river_base.specs.Places.{list_at, append_at}
-use Rattle.kern_rows.specs.Passing.{port_after, had_after}
-use Rattle.kern_rows.specs.Turns.{Turns, IsTurn, settled}
-use Rattle.river_base.specs.declared.item.Change.{Change}
+use Rattle.river_base.specs.declared.item.Item.TheVariants.{Flat, Pack}
+use Rattle.river_base.specs.declared.kind.FlatType as flat_type
+use Rattle.river_base.specs.declared.kind.FlatType.TheVariants.{Rows, Stream, Relation}
+use Rattle.river_base.specs.declared.kind.QueueType as queue_type
+use Rattle.river_base.specs.declared.kind.QueueType.TheVariants.{Flat as FlatOf, Pack as PackOf}
+use Rattle.river_base.specs.Held.{MayHold, IsHeld, after_flat, after_flats, after_item, content_from, held_flat, held_flats, held_item, held_from, as_items, items_of}
+use Rattle.river_base.specs.Places.{list_at}
+use Rattle.kern_rows.specs.Needs.{IsJoiner}
+use Rattle.kern_rows.specs.Passing.{Passes}
+use Rattle.kern_rows.specs.Turns.{Turns, turns_start, put, settled}
 use Rattle.kern_changes.specs.declared.owed.Debt.{Debt}
-use Rattle.river_base.specs.Changes.{changes, last_content, IsWideChange, GaveChanges}
 use Rattle.kern_changes.specs.Owed.{AreOwed, AreDebtsOf, OweLittle, owed_start}
 
 -- WHAT IS KEPT
 
--- the port in turn, how many packs it had, and the packs that wait at each port
-pub record PackTurns : Type 0 where
-  pub port : ℕ
-  pub had : ℕ
-  pub lists : List (List (List Change))
-
--- and what each port owes
+-- the port in turn, how many items it had, the items that wait at each port, and what each port owes
 pub record JoinKept : Type 0 where
-  pub turns : PackTurns
+  pub turns : Turns
   pub owed : List Debt
 
--- nothing waits
-abbrev pub packs_start : ℕ → PackTurns
-packs_start ports = record { port = 0; had = 0; lists = replicate ports [] }
-
--- and nothing is owed
+-- nothing waits, and nothing is owed
 abbrev pub join_start : ℕ → JoinKept
-join_start ports = record { turns = packs_start ports; owed = owed_start ports }
+join_start ports = record { turns = turns_start ports; owed = owed_start ports }
 
--- a pack comes to a port
-abbrev pub put_in_line : ℕ → List Change → PackTurns → PackTurns
-put_in_line port pack s = record { port = s.port; had = s.had; lists = append_at s.lists port (pack ∷ []) }
-
--- the same where debts are kept
-abbrev pub put_pack : ℕ → List Change → JoinKept → JoinKept
-put_pack port pack s = record { turns = put_in_line port pack s.turns; owed = s.owed }
+-- an item comes to a port
+abbrev pub put_item : ℕ → item.Item → JoinKept → JoinKept
+put_item port x s = record { turns = put port x s.turns; owed = s.owed }
 
 -- the port in turn is one of the ports, and there are a line and a debt for each
 pub record HasJoinShape (ws : List ℕ) (s : JoinKept) : Type 0 where
-  pub turn : IsTurn ws s.turns.port s.turns.had
-  pub lists : length s.turns.lists ≡ length ws
+  pub joined : IsJoiner ws s.turns
   pub owed : length s.owed ≡ length ws
 
--- the port in turn had a pack, which left
-pub record TakesPack (share : ℕ) (old new : PackTurns) (pack : List Change) : Type 0 where
-  pub rest : List (List Change)
-  pub front : list_at old.lists old.port ≡ pack ∷ rest
-  pub lists : new.lists ≡ set old.lists old.port rest
-  pub port : new.port ≡ port_after share (length old.lists) old.port old.had
-  pub had : new.had ≡ had_after share old.had
+-- ITEMS OF THE DEFINITION
 
--- it had none
-pub record HasNoPack (old new : PackTurns) : Type 0 where
-  pub none : list_at old.lists old.port ≡ []
-  pub same : new ≡ old
+-- it is no change, and no pack of changes
+abbrev pub IsUnchanged : flat.Flat → Type 0
+IsUnchanged (One row) = Unit {0}
+IsUnchanged (Batched b) = Unit {0}
+IsUnchanged (Changed c) = ⊥
+
+abbrev pub HasNoChange : item.Item → Type 0
+HasNoChange (Flat f) = IsUnchanged f
+HasNoChange (Pack fs) = All IsUnchanged fs
+
+-- no change is in it, and where it passes, it is given as it is, or opened where it is a pack
+pub record PassesOpened (give : item.Item → List item.Item) (x : item.Item) : Type 0 where
+  pub opened : give x ≡ items_of x
+  pub same : HasNoChange x
+
+-- so it is with all items that wait
+abbrev pub AreOpened : (item.Item → List item.Item) → Turns → Type 0
+AreOpened give s = (p : ℕ) → All (PassesOpened give) (list_at s.lists p)
 
 -- WHAT IT STANDS FOR
-
--- the packs of changes between the contents that a joiner gives for these items, of which the first comes after `before`
-abbrev pub packs : (item.Item → List item.Item) → List (List ℤ) → List item.Item → List (List Change)
-packs give before [] = []
-packs give before (x ∷ xs) = changes before (batches (give x)) ∷ packs give (last_content before (batches (give x))) xs
-
--- the content that comes last, once these items have passed
-abbrev pub content_behind : (item.Item → List item.Item) → List (List ℤ) → List item.Item → List (List ℤ)
-content_behind give before xs = last_content before (batches (flat_map give xs))
 
 -- a joiner of contents: the items that wait and whose turn it is, the content given last, and for each port its content that passed last
 pub record Joining : Type 0 where
@@ -76,56 +65,123 @@ pub record Joining : Type 0 where
   pub last : List (List ℤ)
   pub now : ℕ → List (List ℤ)
 
--- the packs of changes that wait stand for the items that wait, and what a port owes leads from the content given last to its own
-pub record StandsForJoining (give : item.Item → List item.Item) (s : JoinKept) (m : Joining) : Type 0 where
+-- what waits stands for the items that wait: in place of contents their changes. What a port owes leads from the content given last
+-- to its own
+pub record StandsForJoining (s : JoinKept) (m : Joining) : Type 0 where
   pub port : s.turns.port ≡ m.turns.port
   pub had : s.turns.had ≡ m.turns.had
   pub lists : length s.turns.lists ≡ length m.turns.lists
-  pub lines : (p : ℕ) → p < length m.turns.lists → list_at s.turns.lists p ≡ packs give (m.now p) (list_at m.turns.lists p)
+  pub lines : (p : ℕ) → p < length m.turns.lists → list_at s.turns.lists p ≡ held_from (m.now p) (list_at m.turns.lists p)
   pub owed : AreOwed s.owed (λ p. m.last) m.now
 
--- one content after another of a port passes: whatever contents were there, where the pack is of the changes to its next ones, the
--- changes to these from the content given last were given
-pub record PackJoined (port : ℕ) (last : List (List ℤ)) (now : ℕ → List (List ℤ)) (bs : List Batch) (s : List Debt) (out out' : List Change) : Type 0 where
-  pub next : ℕ → List (List ℤ)
-  pub here : next port ≡ last_content (now port) bs
-  pub others : (q : ℕ) → port ≢ q → next q ≡ now q
-  pub owed : AreOwed s (λ p. last_content last bs) next
-  pub gave : out' ≡ out ++ changes last bs
+-- what passes of the items that wait, as long as the port in turn has one: it was given, with the changes from what was given last in
+-- place of contents, and what is kept stands for what is left. The content that comes last at a port is as it was
+pub record JoinedItems (give : item.Item → List item.Item) (ws : List ℕ) (m : Joining) (s : JoinKept) (out out' : List item.Item) : Type 0 where
+  pub now : ℕ → List (List ℤ)
+  pub gave : out' ≡ out ++ held_from m.last (settled give ws m.turns).0
+  pub stands : StandsForJoining s (record { turns = (settled give ws m.turns).1; last = content_from m.last (settled give ws m.turns).0; now = now })
+  pub ends : (p : ℕ) → p < length m.turns.lists
+      → content_from (now p) (list_at (settled give ws m.turns).1.lists p) ≡ content_from (m.now p) (list_at m.turns.lists p)
 
 -- the same for whatever contents there were
-pub record JoinsPack (port : ℕ) (pack : List Change) (old new : List Debt) (out out' : List Change) : Type 0 where
-  pub each : (last : List (List ℤ)) (now : ℕ → List (List ℤ)) (bs : List Batch) → AreOwed old (λ p. last) now → pack ≡ changes (now port) bs
-      → PackJoined port last now bs new out out'
+pub record JoinsItems (ws : List ℕ) (old new : JoinKept) (out out' : List item.Item) : Type 0 where
+  pub each : (give : item.Item → List item.Item) (m : Joining) → AreOpened give m.turns → StandsForJoining old m → JoinedItems give ws m new out out'
 
--- what passes of the items that wait, as long as the port in turn has one: the changes between these contents were given, and what is
--- kept stands for what is left. The content that comes last at a port is as it was
-pub record JoinedAll (give : item.Item → List item.Item) (ws : List ℕ) (m : Joining) (s : JoinKept) (out out' : List Change) : Type 0 where
-  pub now : ℕ → List (List ℤ)
-  pub gave : out' ≡ out ++ changes m.last (batches (settled give ws m.turns).0)
-  pub stands : StandsForJoining give s (record { turns = (settled give ws m.turns).1; last = last_content m.last (batches (settled give ws m.turns).0); now = now })
-  pub ends : (p : ℕ) → p < length m.turns.lists
-      → content_behind give (now p) (list_at (settled give ws m.turns).1.lists p) ≡ content_behind give (m.now p) (list_at m.turns.lists p)
+-- items that wait pass as they are, and nothing else is kept
+pub record JoinedPlainly (give : item.Item → List item.Item) (ws : List ℕ) (old new : JoinKept) (out out' : List item.Item) : Type 0 where
+  pub gave : out' ≡ out ++ (settled give ws old.turns).0
+  pub turns : new.turns ≡ (settled give ws old.turns).1
+  pub owed : new.owed ≡ old.owed
 
--- the same for whatever contents there were, and whatever a joiner gives for an item
-pub record JoinsAll (ws : List ℕ) (old new : JoinKept) (out out' : List Change) : Type 0 where
-  pub each : (give : item.Item → List item.Item) (m : Joining) → StandsForJoining give old m → JoinedAll give ws m new out out'
+-- so they do where no change is in what waits
+pub record JoinsPlainly (ws : List ℕ) (old new : JoinKept) (out out' : List item.Item) : Type 0 where
+  pub each : (give : item.Item → List item.Item) → AreOpened give old.turns → JoinedPlainly give ws old new out out'
 
 -- WHATEVER IT STANDS FOR
 
--- a pack has passed
-pub record KeepsPack (pack : List Change) (old new : List Debt) (out out' : List Change) : Type 0 where
-  pub lists : length new ≡ length old
-  pub few : OweLittle old → OweLittle new
-  pub wide : (w : ℕ) → AreDebtsOf w old → All (IsWideChange w) pack → GaveChanges w out out' × AreDebtsOf w new
+-- the items in a queue's packs, or those of the queue where it has none
+abbrev pub flat_in : queue_type.QueueType → flat_type.FlatType
+flat_in (FlatOf t) = t
+flat_in (PackOf t) = t
 
--- all rows that wait or are owed are so wide
-pub record IsJoinOf (width : ℕ) (s : JoinKept) : Type 0 where
-  pub lines : (p : ℕ) → p < length s.turns.lists → All (All (IsWideChange width)) (list_at s.turns.lists p)
-  pub owed : AreDebtsOf width s.owed
+-- where these are changes, all rows that are owed are as wide
+abbrev pub MayOwe : flat_type.FlatType → List Debt → Type 0
+MayOwe (Rows n) s = Unit {0}
+MayOwe (Stream n) s = Unit {0}
+MayOwe (Relation n) s = AreDebtsOf n s
 
--- the changes given are normalised and as wide as those that came, and no port owes much
-pub record KeepsJoin (ws : List ℕ) (old new : JoinKept) (out out' : List Change) : Type 0 where
+-- what waits is what a queue of this type may hold, and so is what is owed
+pub record IsJoinOf (t : queue_type.QueueType) (s : JoinKept) : Type 0 where
+  pub lines : (p : ℕ) → All (IsHeld t) (list_at s.turns.lists p)
+  pub owed : MayOwe (flat_in t) s.owed
+
+-- what a queue of this type may hold was given
+pub record GaveHeld (t : flat_type.FlatType) (out out' : List item.Item) : Type 0 where
+  pub given : List item.Item
+  pub grew : out' ≡ out ++ given
+  pub each : All (IsHeld (FlatOf t)) given
+
+-- what is given is what a queue may hold, where what waits is, and no port owes much
+pub record KeepsJoin (ws : List ℕ) (old new : JoinKept) (out out' : List item.Item) : Type 0 where
   pub shape : HasJoinShape ws new
   pub few : OweLittle old.owed → OweLittle new.owed
-  pub wide : (w : ℕ) → IsJoinOf w old → GaveChanges w out out' × IsJoinOf w new
+  pub wide : (t : queue_type.QueueType) → IsJoinOf t old → GaveHeld (flat_in t) out out' × IsJoinOf t new
+
+-- ONE ITEM
+
+-- the port in turn had an item, which left; or it had none
+pub record TakesItem (share : ℕ) (old new : Turns) (taken : ℕ × item.Item) : Type 0 where
+  pub port : taken.0 ≡ old.port
+  pub passes : Passes share old new taken.1
+
+-- an item that is no pack has passed from a port: whatever contents were there, it is given with the change from what was given last in
+-- place of its content
+pub record FlatJoined (port : ℕ) (last : List (List ℤ)) (now : ℕ → List (List ℤ)) (f : flat.Flat) (s : List Debt) (given : flat.Flat) : Type 0 where
+  pub next : ℕ → List (List ℤ)
+  pub here : next port ≡ after_flat (now port) f
+  pub others : (q : ℕ) → port ≢ q → next q ≡ now q
+  pub owed : AreOwed s (λ p. after_flat last f) next
+  pub gave : given ≡ held_flat last f
+
+-- the same of the items of a pack
+pub record FlatsJoined (port : ℕ) (last : List (List ℤ)) (now : ℕ → List (List ℤ)) (fs : List flat.Flat) (s : List Debt) (out out' : List item.Item) : Type 0 where
+  pub next : ℕ → List (List ℤ)
+  pub here : next port ≡ after_flats (now port) fs
+  pub others : (q : ℕ) → port ≢ q → next q ≡ now q
+  pub owed : AreOwed s (λ p. after_flats last fs) next
+  pub gave : out' ≡ out ++ as_items (held_flats last fs)
+
+-- the same of an item, and its items where it is a pack
+pub record ItemJoined (port : ℕ) (last : List (List ℤ)) (now : ℕ → List (List ℤ)) (x : item.Item) (s : List Debt) (out out' : List item.Item) : Type 0 where
+  pub next : ℕ → List (List ℤ)
+  pub here : next port ≡ after_item (now port) x
+  pub others : (q : ℕ) → port ≢ q → next q ≡ now q
+  pub owed : AreOwed s (λ p. after_item last x) next
+  pub gave : out' ≡ out ++ held_from last (items_of x)
+
+-- one item that is no pack passes, whatever it stands for
+pub record JoinsFlat (port : ℕ) (f : flat.Flat) (old new : List Debt) (given : flat.Flat) : Type 0 where
+  pub each : (last : List (List ℤ)) (now : ℕ → List (List ℤ)) (g : flat.Flat) → IsUnchanged g → AreOwed old (λ p. last) now → f ≡ held_flat (now port) g
+      → FlatJoined port last now g new given
+  pub plain : IsUnchanged f → (given ≡ f) × (new ≡ old)
+  pub lists : length new ≡ length old
+  pub few : OweLittle old → OweLittle new
+  pub wide : (t : flat_type.FlatType) → MayHold t f → MayOwe t old → MayHold t given × MayOwe t new
+
+-- the items of a pack do
+pub record JoinsFlats (port : ℕ) (fs : List flat.Flat) (old new : List Debt) (out out' : List item.Item) : Type 0 where
+  pub each : (last : List (List ℤ)) (now : ℕ → List (List ℤ)) (gs : List flat.Flat) → All IsUnchanged gs → AreOwed old (λ p. last) now
+      → fs ≡ held_flats (now port) gs → FlatsJoined port last now gs new out out'
+  pub plain : All IsUnchanged fs → (out' ≡ out ++ as_items fs) × (new ≡ old)
+  pub lists : length new ≡ length old
+  pub few : OweLittle old → OweLittle new
+  pub wide : (t : flat_type.FlatType) → All (MayHold t) fs → MayOwe t old → GaveHeld t out out' × MayOwe t new
+
+-- an item does
+pub record JoinsItem (port : ℕ) (x : item.Item) (old new : List Debt) (out out' : List item.Item) : Type 0 where
+  pub each : (last : List (List ℤ)) (now : ℕ → List (List ℤ)) (y : item.Item) → HasNoChange y → AreOwed old (λ p. last) now → x ≡ held_item (now port) y
+      → ItemJoined port last now y new out out'
+  pub plain : HasNoChange x → (out' ≡ out ++ items_of x) × (new ≡ old)
+  pub lists : length new ≡ length old
+  pub few : OweLittle old → OweLittle new
+  pub wide : (t : queue_type.QueueType) → IsHeld t x → MayOwe (flat_in t) old → GaveHeld (flat_in t) out out' × MayOwe (flat_in t) new

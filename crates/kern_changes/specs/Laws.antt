@@ -1,7 +1,6 @@
 -- Laws of changes: statements over the definitions alone.
 use Rattle.std.specs.Prelude.{◌≡◌, ℕ, ℤ, List, [], length}
 use Rattle.river_base.specs.declared.item.Batch.{Batch}
-use Rattle.river_base.specs.declared.item.Item as item
 use Rattle.kern_rows.specs.Needs.{HaveShares}
 use Rattle.kern_rows.specs.Turns.{turns_start}
 use Rattle.river_base.specs.declared.item.Change.{Change}
@@ -29,5 +28,5 @@ pub record StartsAre : Type 0 where
   pub cross : StandsForCrossing cross_start (crossing [] [] [] [])
   pub owed : (n : ℕ) → AreOwed (owed_start n) (λ p. []) (λ p. [])
   pub little : (n : ℕ) → OweLittle (owed_start n)
-  pub joined : (give : item.Item → List item.Item) (n : ℕ) → StandsForJoining give (join_start n) (record { turns = turns_start n; last = []; now = λ p. [] })
+  pub joined : (n : ℕ) → StandsForJoining (join_start n) (record { turns = turns_start n; last = []; now = λ p. [] })
   pub shape : (ws : List ℕ) → HaveShares ws → HasJoinShape ws (join_start (length ws))

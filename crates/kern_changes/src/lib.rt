@@ -14,13 +14,12 @@ mod rowwise;
 mod settling;
 mod stamped;
 mod streamer;
-mod turns;
 mod window;
 
 pub use change::Changes;
 pub use content::Content;
 pub use cross::CrossRows;
-pub use joined::JoinRows;
+pub use joined::JoinItems;
 pub use owed::Owed;
 pub use river_base::Change;
 pub use rowwise::{project, select};

@@ -11,7 +11,6 @@ use Rattle.brooklet_step.specs.Given.{CanTake, CanTakeAll, FiresAt, FiresEach}
 use Rattle.brooklet_step.proofs.Fires.{kern_of-packed}
 use Rattle.brooklet_step.proofs.Size.{size}
 use Rattle.brooklet_step.proofs.Fused.{Parts, spliced_taken, result_both}
-use Rattle.brooklet_step.proofs.GivenFires.{leaf_applies, leaf_does}
 use Rattle.brooklet_step.proofs.GivenCode.{so_far_start, so_far_takes, so_far_step, packed_taken, packed_port, packed_whole, count_fits, first_taken, takes_on}
 use Rattle.brooklet_step.proofs.GivenCode.{second_room, both_fire}
 use Rattle.brooklet_step.proofs.firing.+fire_on.Goals as goal
@@ -29,14 +28,6 @@ fire_each-loop-item-smaller t c = let e = ap length c.in-Some.ensures in omega (
 pub fire_each-loop-item-preserved : goal.fire_each-loop-item-preserved
 fire_each-loop-item-preserved t c =
     so_far_step (kern_of c.args.kernel.now) c.args.items.now c.loop-item.items c.pop.new.self c.in-Some.item c.args.out.now c.loop-item.out c.fire_on.new.out c.args.states.now c.loop-item.states c.fire_on.new.states c.in-Some.ensures c.loop-item.invariant c.in_ok-fire_on.ensures
-
-pub fire_on-fire_leaf-requires-clause-applies : goal.fire_on-fire_leaf-requires-clause-applies
-fire_on-fire_leaf-requires-clause-applies t c =
-    leaf_applies (kern_of c.args.kernel.now) c.args.port c.args.item c.args.states.now c.args.out.now (c.if-is_leaf.ensures.0 refl) c.requires
-
-pub fire_on-returns-then-is_leaf : goal.fire_on-returns-then-is_leaf
-fire_on-returns-then-is_leaf t c =
-    leaf_does (kern_of c.args.kernel.now) c.args.port c.args.item c.args.out.now c.fire_leaf.new.out c.args.states.now c.fire_leaf.new.states (c.if-is_leaf.ensures.0 refl) c.in_ok-fire_leaf.ensures
 
 pub fire_on-fire_packed-requires : goal.fire_on-fire_packed-requires
 fire_on-fire_packed-requires t c =

@@ -4,11 +4,11 @@ use Rattle.river_kernels.proofs.KernLemmas.{kern_of-fused}
 use Rattle.brooklet_model.specs.Shapes.{IsFormed}
 use Rattle.brooklet_step.specs.Initial.{IsFirst}
 use Rattle.brooklet_step.proofs.Fires.{kern_of-packed}
-use Rattle.brooklet_step.proofs.Starts.{leaf_first, packed_first, fused_first}
+use Rattle.brooklet_step.proofs.Starts.{packed_first, fused_first}
 use Rattle.brooklet_step.proofs.start.+states_of.Goals as goal
 
 pub returns-then-is_leaf : goal.returns-then-is_leaf
-returns-then-is_leaf t c = leaf_first (kern_of c.args.kernel.now) c.in_ok-states.states (c.if-is_leaf.ensures.0 refl) c.requires c.in_ok-states.ensures
+returns-then-is_leaf t c = c.in_ok-states.ensures
 
 pub returns-in_ok-states-in-Packed : goal.returns-in_ok-states-in-Packed
 returns-in_ok-states-in-Packed t c =

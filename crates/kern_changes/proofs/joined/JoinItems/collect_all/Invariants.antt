@@ -1,0 +1,10 @@
+use Rattle.kern_rows.specs.Turns.{shares, waiting}
+use Rattle.kern_changes.proofs.JoinLaws.{JoinedSoFar, join_kept}
+use Rattle.kern_changes.proofs.joined.JoinItems.collect_all.Given as goal
+
+abbrev pub invariant-loop-port : goal.invariant-loop-port
+invariant-loop-port l =
+    JoinedSoFar (shares l.weights) (join_kept l.initial.self-inside.joined l.initial.self-inside.owed) (join_kept l.self-inside.joined l.self-inside.owed) l.initial.out l.out
+
+abbrev pub decreases-loop-port : goal.decreases-loop-port
+decreases-loop-port l = waiting l.self-inside.joined.lists
