@@ -6,8 +6,9 @@ ghost use Rattle.river_base.specs.Changes.{IsNormal, IsWideChange, IsChangeOf};
 
 use river_base::{Change, Flat, FlatType, Item, QueueType, Row, Rows};
 
-/// Whether a queue of this type may hold the item: a row or a batch of the type, or, where the
-/// queue is of a relation, a change of rows so wide whose parts ascend and have no row in common.
+/// Whether a queue of this type may hold the item: in a relation's queue a change of rows so wide,
+/// whose parts ascend and have no row in common, and else a row or a batch of the type. A queue of
+/// packs may hold packs of such.
 #[tactic(auto, unfolding(river_base::specs::Held::IsHeld))]
 pub fn item_fits(kind: &QueueType, item: &Item) -> bool
     ensures { IsTrue result ↔ IsHeld kind.now item.now }
@@ -73,6 +74,7 @@ fn are_apart(plus: &Rows, minus: &Rows) -> bool
     true
 }
 
+// Whether the row is not among these, by a search: they ascend.
 fn is_missing(row: &Row, rows: &Rows) -> bool
     requires { IsAscending rows.now }
     ensures { IsTrue result ↔ (copies row.now rows.now ≡ 0) }
