@@ -14,6 +14,7 @@ pub mod GivenLemmas
 pub mod GivenParts
 pub mod HeldTyped
 pub mod KeptTables
+pub mod KindLemmas
 pub mod Leaves
 pub mod Moved
 pub mod Moving
