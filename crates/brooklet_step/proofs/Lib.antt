@@ -11,6 +11,7 @@ pub mod GivenCode
 pub mod GivenFires
 pub mod GivenLemmas
 pub mod GivenParts
+pub mod JoinFires
 pub mod KeptTables
 pub mod Leaves
 pub mod Moved

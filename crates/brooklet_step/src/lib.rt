@@ -8,6 +8,7 @@ mod ending;
 mod firing;
 mod initial;
 mod inputs;
+mod joining;
 mod kinds;
 pub mod laws;
 mod leaf;
