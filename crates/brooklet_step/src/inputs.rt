@@ -147,7 +147,7 @@ fn instant_of(item: &Item) -> i64
     match item {
         Item::Flat(flat) => match flat {
             Flat::Batch(batch) => batch.at,
-            Flat::One(_) => 0,
+            Flat::One(_) | Flat::Change(_) => 0,
         },
         Item::Pack(_) => 0,
     }

@@ -7,6 +7,7 @@ mod emit;
 mod ending;
 mod firing;
 mod initial;
+mod joining;
 mod inputs;
 mod joining;
 mod kinds;
