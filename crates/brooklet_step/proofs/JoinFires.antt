@@ -202,8 +202,8 @@ module _ (k : Kern) (wl : List ℕ) (give : item.Item → List item.Item) (m : �
     (i : item.Item) (port : ℕ) (s s' : State) (old new : JoinKept) (items : List item.Item) (out out' : Emit) (es : s ≡ state.Join old) (es' : s' ≡ state.Join new)
     (took : Took out out' (gives 0 items [])) (contents : JoinsItems wl (put_item port i old) new [] items)
     (plain : JoinsPlainly wl (put_item port i old) new [] items) (keeps : KeepsJoin wl (put_item port i old) new [] items) where
-  abbrev reads : List QueueType
-  reads = replicate m t
+  abbrev types : List QueueType
+  types = replicate m t
 
   abbrev given : QueueType
   given = FlatOf (flat_in t)
@@ -211,23 +211,23 @@ module _ (k : Kern) (wl : List ℕ) (give : item.Item → List item.Item) (m : �
   some_port : 0 < m
   some_port = subst (λ n. 0 < n) (sym many) some.0
 
-  first_read : slice_get reads 0 ≡ Some t
+  first_read : slice_get types 0 ≡ Some t
   first_read = got_many t m 0 some_port
 
-  of_type : (p : ℕ) (x : item.Item) → IsOf reads p x → (p < m) × HasType t x
+  of_type : (p : ℕ) (x : item.Item) → IsOf types p x → (p < m) × HasType t x
   of_type p x h = at_alike t (λ o. IsTyped o x) m p (λ z. z) h
 
-  of_held : (p : ℕ) (x : item.Item) → IsHeldOf reads p x → (p < m) × IsHeld t x
+  of_held : (p : ℕ) (x : item.Item) → IsHeldOf types p x → (p < m) × IsHeld t x
   of_held p x h = at_alike t (λ o. IsHeldBy o x) m p (λ z. z) h
 
   -- what waits by the definition, with one more item
-  put_opens : (turns : Turns) (x : item.Item) → AreOf reads (list_at turns.lists) → IsOf reads port x → AreOpened give (put port x turns)
+  put_opens : (turns : Turns) (x : item.Item) → AreOf types (list_at turns.lists) → IsOf types port x → AreOpened give (put port x turns)
   put_opens turns x h tx =
-      all_put (PassesOpened give) turns.lists port x (λ p. All-weaker (IsOf reads p) (PassesOpened give) (λ y g. opens y (of_type p y g).1) (list_at turns.lists p) (h p))
+      all_put (PassesOpened give) turns.lists port x (λ p. All-weaker (IsOf types p) (PassesOpened give) (λ y g. opens y (of_type p y g).1) (list_at turns.lists p) (h p))
       (opens x (of_type port x tx).1)
 
-  module _ (vars : List VarKind) (fits : Fits k reads (given ∷ []) vars) (start : List Kept) (w : Word) (x : item.Item) (is_start : IsStart k reads start)
-      (tw : IsWordOf reads w) (tx : IsOf reads port x) (sa : JoinAfter k wl reads start (s ∷ []) w) (h : held_at reads port (at_port port w) (x ∷ []) ≡ i ∷ []) where
+  module _ (vars : List VarKind) (fits : Fits k types (given ∷ []) vars) (start : List Kept) (w : Word) (x : item.Item) (is_start : IsStart k types start)
+      (tw : IsWordOf types w) (tx : IsOf types port x) (sa : JoinAfter k wl types start (s ∷ []) w) (h : held_at types port (at_port port w) (x ∷ []) ≡ i ∷ []) where
     abbrev before : Fired
     before = ran k start w
 
@@ -237,9 +237,9 @@ module _ (k : Kern) (wl : List ℕ) (give : item.Item → List item.Item) (m : �
     shape_is : HasJoinShape wl old
     shape_is = subst (HasJoinShape wl) (sym same) sa.shape
 
-    waiting_are : (turns : Turns) → before.states ≡ Joining turns ∷ [] → AreOf reads (list_at turns.lists)
+    waiting_are : (turns : Turns) → before.states ≡ Joining turns ∷ [] → AreOf types (list_at turns.lists)
     waiting_are turns e =
-        subst (AreWaiting reads) e (waits before.states (run_holds k reads (given ∷ []) vars w start fits is_start.shape is_start.holds tw))
+        subst (AreWaiting types) e (waits before.states (run_holds k types (given ∷ []) vars w start fits is_start.shape is_start.holds tw))
 
     fired_is : (turns : Turns) → before.states ≡ Joining turns ∷ []
         → fire k port x before.states ≡ gives 0 (settled give wl (put port x turns)).0 (Joining (settled give wl (put port x turns)).1 ∷ [])
@@ -249,16 +249,16 @@ module _ (k : Kern) (wl : List ℕ) (give : item.Item → List item.Item) (m : �
     port_below = (of_type port x tx).0
 
     -- items as they are
-    plain_given : IsPlain t → TookHeld (given ∷ []) before out out' (fire k port x before.states) × JoinAfter k wl reads start (s' ∷ []) (w ++ (port, x) ∷ [])
+    plain_given : IsPlain t → TookHeld (given ∷ []) before out out' (fire k port x before.states) × JoinAfter k wl types start (s' ∷ []) (w ++ (port, x) ∷ [])
     plain_given p =
-        let pr : IsPlainBy (slice_get reads 0) = plain_alike t m 0 p in
+        let pr : IsPlainBy (slice_get types 0) = plain_alike t m 0 p in
         let states_are : before.states ≡ Joining old.turns ∷ [] = sa.plain pr ∙ ap (λ (n : JoinKept). Joining n.turns ∷ []) (sym same) in
-        let e : x ≡ i = head_item x i (sym (at-plain reads port (at_port port w) (x ∷ []) (plain_alike t m port p)) ∙ h) in
+        let e : x ≡ i = head_item x i (sym (at-plain types port (at_port port w) (x ∷ []) (plain_alike t m port p)) ∙ h) in
         let fired : fire k port x before.states ≡ gives 0 (settled give wl (put port i old.turns)).0 (Joining (settled give wl (put port i old.turns)).1 ∷ []) =
         fired_is old.turns states_are
         ∙ ap (λ (y : item.Item). gives 0 (settled give wl (put port y old.turns)).0 (Joining (settled give wl (put port y old.turns)).1 ∷ [])) e in
         let r : JoinedPlainly give wl (put_item port i old) new [] items =
-        plain.each give (put_opens old.turns i (waiting_are old.turns states_are) (subst (IsOf reads port) e tx)) in
+        plain.each give (put_opens old.turns i (waiting_are old.turns states_are) (subst (IsOf types port) e tx)) in
         let gave : items ≡ (settled give wl (put port i old.turns)).0 = r.gave in (
           record {
             outs = took.outs
@@ -272,7 +272,7 @@ module _ (k : Kern) (wl : List ℕ) (give : item.Item → List item.Item) (m : �
             code = ap (λ (u : State). u ∷ []) es';
             shape = keeps.shape;
             plain = λ z. (ran_more k start w port x).states ∙ ap (λ (u : Fired). u.states) fired ∙ ap (λ (u : Turns). Joining u ∷ []) (sym r.turns);
-            relation = λ rel. absurd (not_both (slice_get reads 0) pr rel);
+            relation = λ rel. absurd (not_both (slice_get types 0) pr rel);
           },
         )
 
@@ -366,32 +366,32 @@ module _ (k : Kern) (wl : List ℕ) (give : item.Item → List item.Item) (m : �
         adds = took.adds ∙ ap (λ (u : Fired). each_grew out.adds u.adds) (sym fired);
       }
 
-    related : IsRelation t → IsRelationBy (slice_get reads 0)
+    related : IsRelation t → IsRelationBy (slice_get types 0)
     related rel = subst IsRelationBy (sym first_read) rel
 
     joins_after : IsRelation t → JoinsAfter k start old w
     joins_after rel = subst (λ (n : JoinKept). JoinsAfter k start n w) (sym same) (sa.relation (related rel))
 
-    joined_after : IsRelation t → JoinAfter k wl reads start (s' ∷ []) (w ++ (port, x) ∷ [])
+    joined_after : IsRelation t → JoinAfter k wl types start (s' ∷ []) (w ++ (port, x) ∷ [])
     joined_after rel = record {
       now = new;
       code = ap (λ (u : State). u ∷ []) es';
       shape = keeps.shape;
-      plain = λ p. absurd (not_both (slice_get reads 0) p (related rel));
+      plain = λ p. absurd (not_both (slice_get types 0) p (related rel));
       relation = λ z. next_joins rel (joins_after rel);
     }
 
     -- either
-    join_given : TookHeld (given ∷ []) before out out' (fire k port x before.states) × JoinAfter k wl reads start (s' ∷ []) (w ++ (port, x) ∷ [])
+    join_given : TookHeld (given ∷ []) before out out' (fire k port x before.states) × JoinAfter k wl types start (s' ∷ []) (w ++ (port, x) ∷ [])
     join_given = ⊎_elim (λ p. plain_given p) (λ rel. (changes_given rel (joins_after rel), joined_after rel)) (plain_or t)
 
   -- whatever was received: what came may be held, and the state fits again
-  module _ (f : FitJoiner wl reads (s ∷ [])) (hi : IsHeldOf reads port i) where
+  module _ (f : FitJoiner wl types (s ∷ [])) (hi : IsHeldOf types port i) where
     fit_same : f.now ≡ old
     fit_same = sym (same_join old f.now (sym es ∙ head_is s (state.Join f.now) f.code))
 
-    fit_items : AreHeldOf reads (list_at old.turns.lists)
-    fit_items = subst (λ (n : JoinKept). AreHeldOf reads (list_at n.turns.lists)) fit_same f.items
+    fit_items : AreHeldOf types (list_at old.turns.lists)
+    fit_items = subst (λ (n : JoinKept). AreHeldOf types (list_at n.turns.lists)) fit_same f.items
 
     fit_few : OweLittle old.owed
     fit_few = subst (λ (n : JoinKept). OweLittle n.owed) fit_same f.few
@@ -402,7 +402,7 @@ module _ (k : Kern) (wl : List ℕ) (give : item.Item → List item.Item) (m : �
     join_of : IsJoinOf t (put_item port i old)
     join_of = record {
       lines =
-          all_put (IsHeld t) old.turns.lists port i (λ p. All-weaker (IsHeldOf reads p) (IsHeld t) (λ y g. (of_held p y g).1) (list_at old.turns.lists p) (fit_items p))
+          all_put (IsHeld t) old.turns.lists port i (λ p. All-weaker (IsHeldOf types p) (IsHeld t) (λ y g. (of_held p y g).1) (list_at old.turns.lists p) (fit_items p))
           (of_held port i hi).1;
       owed = may_owe t old.owed fit_wide;
     }
@@ -413,14 +413,14 @@ module _ (k : Kern) (wl : List ℕ) (give : item.Item → List item.Item) (m : �
     items_held : All (IsHeld given) items
     items_held = let g = (keeps.wide t join_of).0 in subst (All (IsHeld given)) (sym g.grew) g.each
 
-    lines_held : (p : ℕ) → All (IsHeldOf reads p) (list_at new.turns.lists p)
+    lines_held : (p : ℕ) → All (IsHeldOf types p) (list_at new.turns.lists p)
     lines_held p =
         ⊎_elim
-        (λ lt. All-weaker (IsHeld t) (IsHeldOf reads p) (λ y g. subst (λ o. IsHeldBy o y) (sym (got_many t m p lt)) g) (list_at new.turns.lists p) (next_of.lines p))
-        (λ ge. subst (All (IsHeldOf reads p)) (sym (list_past new.turns.lists p (subst (λ n. n ≤ p) (many ∙ sym keeps.shape.joined.lists) ge))) (All-nil (IsHeldOf reads p)))
+        (λ lt. All-weaker (IsHeld t) (IsHeldOf types p) (λ y g. subst (λ o. IsHeldBy o y) (sym (got_many t m p lt)) g) (list_at new.turns.lists p) (next_of.lines p))
+        (λ ge. subst (All (IsHeldOf types p)) (sym (list_past new.turns.lists p (subst (λ n. n ≤ p) (many ∙ sym keeps.shape.joined.lists) ge))) (All-nil (IsHeldOf types p)))
         (cases_lt p m)
 
-    fit_again : FitJoiner wl reads (s' ∷ [])
+    fit_again : FitJoiner wl types (s' ∷ [])
     fit_again = record {
       now = new;
       code = ap (λ (u : State). u ∷ []) es';
