@@ -13,6 +13,7 @@ pub mod GivenFires
 pub mod GivenLemmas
 pub mod GivenParts
 pub mod HeldTyped
+pub mod JoinFires
 pub mod KeptTables
 pub mod KindLemmas
 pub mod Leaves

@@ -1,0 +1,55 @@
+// Firings of joiners.
+ghost use Rattle.std.specs.Prelude.{◌∷◌, [], OnOk};
+ghost use Rattle.river_kernels.specs.Kern.{collect as collect_kern, unpack as unpack_kern};
+ghost use Rattle.brooklet_step.specs.Given.{CanTake, FiresAt};
+
+use crate::emit::{Emit, Spare};
+use crate::state::State;
+use river_base::{Item, NoMemory, Numbers};
+use std::alloc::Global;
+
+/// An item comes to a joiner, a change as the others.
+pub fn fire_collect(
+    alloc: Global,
+    weights: &Numbers,
+    port: u32,
+    item: Item,
+    state: &mut State,
+    out: &mut Emit,
+    spare: &mut Spare,
+) -> Result<(), NoMemory>
+    requires { CanTake (collect_kern weights.now) port item (state.old ∷ []) out.old }
+    ensures { OnOk result (FiresAt (collect_kern weights.now) port item out.old out.new (state.old ∷ []) (state.new ∷ [])) }
+{
+    match state {
+        State::Join(state) => {
+            let mut items = spare.take_items(alloc);
+            state.collect(alloc, weights, port, item, &mut items)?;
+            out.give_all(0, items, spare)
+        }
+        _ => unreachable!(),
+    }
+}
+
+/// A pack comes to a joiner of packs, of changes or not.
+pub fn fire_unpack(
+    alloc: Global,
+    ports: u32,
+    port: u32,
+    item: Item,
+    state: &mut State,
+    out: &mut Emit,
+    spare: &mut Spare,
+) -> Result<(), NoMemory>
+    requires { CanTake (unpack_kern ports) port item (state.old ∷ []) out.old }
+    ensures { OnOk result (FiresAt (unpack_kern ports) port item out.old out.new (state.old ∷ []) (state.new ∷ [])) }
+{
+    match state {
+        State::Join(state) => {
+            let mut items = spare.take_items(alloc);
+            state.unpack(alloc, ports, port, item, &mut items)?;
+            out.give_all(0, items, spare)
+        }
+        _ => unreachable!(),
+    }
+}
