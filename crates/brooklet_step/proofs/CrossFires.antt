@@ -168,7 +168,7 @@ module _ (n k : ℕ) (out out' : Emit) (ds : List Change) (now now' : CrossKept)
       held-relation (n + k) prev (as_batches gs) ∙ ap (λ l. held_from l (as_batches gs)) content ∙ held_batches (product m.lefts m.rights) gs ∙ ap as_changes (sym c.0) in
       let more = ran_more cross start w p x in (
         subst (λ (q : Fired). TookHeld (relation (n + k) ∷ []) before out out' q) (sym fired)
-        (took_first (relation (n + k)) before [] (Paired left_over ∷ []) out out' (as_changes ds) (as_batches gs) took holds),
+            (took_first (relation (n + k)) before [] (Paired left_over ∷ []) out out' (as_changes ds) (as_batches gs) took holds),
         record {
           now = now';
           contents = rest;
@@ -284,10 +284,10 @@ cross_does port c ds now now' out out' f fits took = record {
       let all : All (IsChangeOf (n + k)) ds = subst (All (IsChangeOf (n + k))) (sym r.0.grew) r.0.each in
       let again : FitCross (relation n ∷ relation k ∷ []) (state.Cross now' ∷ []) = record { now = now'; code = refl; wide = λ a b e. of_types n k a b now' e r.1 } in
       does_at cross port (Flat (Changed c)) out out' (state.Cross now ∷ []) (state.Cross now' ∷ []) reads (relation n ∷ relation k ∷ []) writes (relation (n + k) ∷ []) vars (Private ∷ []) t.2 t.3 t.4 (
-        record {
-          gives = pair_gives n k port out out' ds now now' c item f took;
-          came = came_first cross (relation n ∷ relation k ∷ []) (relation (n + k)) (Private ∷ []) [] out out' (state.Cross now' ∷ []) (as_changes ds) took
-              (changes_held (n + k) ds all) again;
-        }
+      record {
+        gives = pair_gives n k port out out' ds now now' c item f took;
+        came = came_first cross (relation n ∷ relation k ∷ []) (relation (n + k)) (Private ∷ []) [] out out' (state.Cross now' ∷ []) (as_changes ds) took
+            (changes_held (n + k) ds all) again;
+      }
       );
 }

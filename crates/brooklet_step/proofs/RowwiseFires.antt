@@ -99,11 +99,11 @@ select_rows_does e b out out' took = record {
       let typed = select_typed (Stream n) e (Flat (Batched b)) refl k.2 in
       let wide : HaveWidth n (selected e b.rows) = All-head (HasType (stream n)) (Flat (Batched (stamped_as b (selected e b.rows)))) [] typed in
       does_at (select e) 0 (Flat (Batched b)) out out' [] [] reads (stream n ∷ []) writes (stream n ∷ []) vars [] (t.1 ∙ same) (t.2 ∙ same) t.3 (
-        record {
-          gives = select_gives_rows e n b out out' took;
-          came = came_first (select e) (stream n ∷ []) (stream n) [] [] out out' [] (select_one e (Flat (Batched b))) took
-              (one_held (stream n) (Flat (Batched (stamped_as b (selected e b.rows)))) (batch_held n (stamped_as b (selected e b.rows)) wide)) refl;
-        }
+      record {
+        gives = select_gives_rows e n b out out' took;
+        came = came_first (select e) (stream n ∷ []) (stream n) [] [] out out' [] (select_one e (Flat (Batched b))) took
+            (one_held (stream n) (Flat (Batched (stamped_as b (selected e b.rows)))) (batch_held n (stamped_as b (selected e b.rows)) wide)) refl;
+      }
       );
 }
 
@@ -127,11 +127,11 @@ select_does e c d out out' f fits took = record {
       let n = k.0 in
       let same : FlatOf t.0 ∷ [] ≡ relation n ∷ [] = ap (λ u. FlatOf u ∷ []) k.1 in
       does_at (select e) 0 (Flat (Changed c)) out out' [] [] reads (relation n ∷ []) writes (relation n ∷ []) vars [] (t.1 ∙ same) (t.2 ∙ same) t.3 (
-        record {
-          gives = select_gives e n c d out out' f took;
-          came = came_first (select e) (relation n ∷ []) (relation n) [] [] out out' [] (Flat (Changed d) ∷ []) took
-              (one_held (relation n) (Flat (Changed d)) (change_held n d (fits n k.2))) refl;
-        }
+      record {
+        gives = select_gives e n c d out out' f took;
+        came = came_first (select e) (relation n ∷ []) (relation n) [] [] out out' [] (Flat (Changed d) ∷ []) took
+            (one_held (relation n) (Flat (Changed d)) (change_held n d (fits n k.2))) refl;
+      }
       );
 }
 
@@ -143,7 +143,7 @@ project_gives es n c d out out' f took = record {
   given = λ start w x is_start tw tx a h.
       let before = ran (project es) start w in (
         took_first (relation (length es)) before [] before.states out out' (Flat (Changed d) ∷ []) (project_one es x) took
-        (image_held (projected es) n (length es) c d refl f w start x tw tx h),
+            (image_held (projected es) n (length es) c d refl f w start x tw tx h),
         record { code = refl; defined = (ran_more (project es) start w 0 x).states ∙ a.defined },
       );
 }
@@ -155,10 +155,10 @@ project_does es c d out out' f fits took = record {
   each = λ reads writes vars t fs h.
       let n = t.0 in
       does_at (project es) 0 (Flat (Changed c)) out out' [] [] reads (relation n ∷ []) writes (relation (length es) ∷ []) vars [] t.1 t.2 t.3 (
-        record {
-          gives = project_gives es n c d out out' f took;
-          came = came_first (project es) (relation n ∷ []) (relation (length es)) [] [] out out' [] (Flat (Changed d) ∷ []) took
-              (one_held (relation (length es)) (Flat (Changed d)) (change_held (length es) d fits)) refl;
-        }
+      record {
+        gives = project_gives es n c d out out' f took;
+        came = came_first (project es) (relation n ∷ []) (relation (length es)) [] [] out out' [] (Flat (Changed d) ∷ []) took
+            (one_held (relation (length es)) (Flat (Changed d)) (change_held (length es) d fits)) refl;
+      }
       );
 }

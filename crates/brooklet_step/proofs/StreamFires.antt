@@ -96,7 +96,7 @@ module _ (s : Streamer) (n : ℕ) (c : Change) (g : Batch) (now now' : List (Lis
       let more = ran_more (streamer s) start w 0 x in
       let last : content_from [] (at_port 0 (w ++ (0, x) ∷ [])) ≡ b.rows = ap (content_from []) (at_next 0 w x) ∙ content-append [] (at_port 0 w) (x ∷ []) in (
         subst (λ (q : Fired). TookHeld (stream n ∷ []) before out out' q) (sym fired)
-        (took_first (stream n) before [] (Received next ∷ []) out out' (Flat (Batched g) ∷ []) one took holds),
+            (took_first (stream n) before [] (Received next ∷ []) out out' (Flat (Batched g) ∷ []) one took holds),
         record {
           now = now';
           past = next;
@@ -132,10 +132,10 @@ streamer_does s c g now now' out out' f fits took = record {
       let again : FitStreamer (relation n ∷ []) (state.Streamer now' ∷ []) =
       record { now = now'; code = refl; wide = λ m e. subst (λ k. HaveWidth k now') (same_relation n m e) r.0 } in
       does_at (streamer s) 0 (Flat (Changed c)) out out' (state.Streamer now ∷ []) (state.Streamer now' ∷ []) reads (relation n ∷ []) writes (stream n ∷ []) vars (Private ∷ []) t.1 t.2 t.3 (
-        record {
-          gives = streamer_gives s n c g now now' out out' f took;
-          came = came_first (streamer s) (relation n ∷ []) (stream n) (Private ∷ []) [] out out' (state.Streamer now' ∷ []) (Flat (Batched g) ∷ []) took
-              (one_held (stream n) (Flat (Batched g)) (batch_held n g r.1)) again;
-        }
+      record {
+        gives = streamer_gives s n c g now now' out out' f took;
+        came = came_first (streamer s) (relation n ∷ []) (stream n) (Private ∷ []) [] out out' (state.Streamer now' ∷ []) (Flat (Batched g) ∷ []) took
+            (one_held (stream n) (Flat (Batched g)) (batch_held n g r.1)) again;
+      }
       );
 }

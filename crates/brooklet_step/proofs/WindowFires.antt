@@ -94,7 +94,7 @@ module _ (v : Window) (n : ℕ) (b : Batch) (c : Change) (now now' : WindowKept)
       let holds : held (relation n) prev g ≡ Flat (Changed c) ∷ [] = held-relation n prev g ∙ ap (λ (d : Change). Flat (Changed d) ∷ []) change in
       let more = ran_more (window v) start w 0 x in (
         subst (λ (q : Fired). TookHeld (relation n ∷ []) before out out' q) (sym fired)
-        (took_first (relation n) before [] (Received next ∷ []) out out' (Flat (Changed c) ∷ []) g took holds),
+            (took_first (relation n) before [] (Received next ∷ []) out out' (Flat (Changed c) ∷ []) g took holds),
         record {
           now = now';
           past = next;
@@ -134,10 +134,10 @@ window_does v b c now now' out out' f fits took = record {
         wide = λ m e. subst (λ k. HaveWidth k (map (λ (s : Stamped). s.1) now'.rows)) (same_stream n m e) r.1;
       } in
       does_at (window v) 0 (Flat (Batched b)) out out' (state.Window now ∷ []) (state.Window now' ∷ []) reads (stream n ∷ []) writes (relation n ∷ []) vars (Private ∷ []) t.1 t.2 t.3 (
-        record {
-          gives = window_gives v n b c now now' out out' f took;
-          came = came_first (window v) (stream n ∷ []) (relation n) (Private ∷ []) [] out out' (state.Window now' ∷ []) (Flat (Changed c) ∷ []) took
-              (one_held (relation n) (Flat (Changed c)) (change_held n c r.0)) again;
-        }
+      record {
+        gives = window_gives v n b c now now' out out' f took;
+        came = came_first (window v) (stream n ∷ []) (relation n) (Private ∷ []) [] out out' (state.Window now' ∷ []) (Flat (Changed c) ∷ []) took
+            (one_held (relation n) (Flat (Changed c)) (change_held n c r.0)) again;
+      }
       );
 }

@@ -108,12 +108,7 @@ pub fn fire_select(cond: &Expr, item: Item, out: &mut Emit) -> Result<(), NoMemo
 }
 
 /// A change comes to a projection.
-pub fn fire_project(
-    alloc: Global,
-    list: &Exprs,
-    item: Item,
-    out: &mut Emit,
-) -> Result<(), NoMemory>
+pub fn fire_project(alloc: Global, list: &Exprs, item: Item, out: &mut Emit) -> Result<(), NoMemory>
     requires { CanTake (project_kern (terms list.now)) 0 item [] out.old }
     ensures { OnOk result (FiresAt (project_kern (terms list.now)) 0 item out.old out.new [] []) }
 {

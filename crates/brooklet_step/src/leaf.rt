@@ -158,12 +158,7 @@ pub fn fire_filter(
 }
 
 // What the list at a place is given for an item: the item itself; or for a change the change of this list, by what each list owes.
-fn deal_item(
-    alloc: Global,
-    place: usize,
-    item: Item,
-    owed: &mut Owed,
-) -> Result<Item, NoMemory>
+fn deal_item(alloc: Global, place: usize, item: Item, owed: &mut Owed) -> Result<Item, NoMemory>
     requires { place < length owed.old }
     ensures { IfOk result (λ given. IsDealt place item given owed.old owed.new) }
 {

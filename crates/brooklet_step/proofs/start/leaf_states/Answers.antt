@@ -1,8 +1,10 @@
-use Rattle.std.proofs.Common.{sym, ap, ◌∙◌, subst}
+use Rattle.std.proofs.Common.{◌∷◌, [], ap, ◌∙◌, subst}
+use Rattle.kern_changes.specs.Joined.{join_start}
 use Rattle.kern_rows.specs.Forms.{code_form, filter_form}
 use Rattle.river_kernels.specs.Kern.{kern_of, code, filter, duplicate, deal, collect, unpack, window, select, project, cross, streamer, tally}
 use Rattle.work_code.specs.Term.{term, terms}
 use Rattle.brooklet_model.specs.Shapes.{IsFormed}
+use Rattle.brooklet_step.specs.declared.state.State.TheVariants as state
 use Rattle.brooklet_step.specs.Initial.{IsFirst}
 use Rattle.brooklet_step.proofs.Fires.{kern_of-filter, kern_of-duplicate}
 use Rattle.brooklet_step.proofs.Starts.{if_ok, filter_first, first_at, simple_first, splitter_first, joiner_first, unpacker_first, window_first, cross_first, streamer_first}
@@ -32,7 +34,7 @@ returns-in-Deal c =
 pub returns-in-Collect : goal.returns-in-Collect
 returns-in-Collect c =
     let e = ap kern_of c.in-Collect.is ∙ kern_of-collect c.in-Collect.weights in
-    if_ok _ (IsFirst (kern_of c.args.kernel.now)) c.join_states.result (λ st h. first_at (kern_of c.args.kernel.now) (collect c.in-Collect.weights) st e (joiner_first c.in-Collect.weights st (subst IsFormed e c.requires.formed) h)) c.join_states.ensures
+    if_ok _ (IsFirst (kern_of c.args.kernel.now)) c.join_states.result (λ st h. first_at (kern_of c.args.kernel.now) (collect c.in-Collect.weights) st e (joiner_first c.in-Collect.weights st (subst IsFormed e c.requires.formed) (h ∙ ap (λ n. state.Join (join_start n) ∷ []) c.len.ensures))) c.join_states.ensures
 
 pub returns-in-Unpack : goal.returns-in-Unpack
 returns-in-Unpack c =
